@@ -1,0 +1,59 @@
+ghost use Rattle.std.specs.Prelude.{◌≡◌, List, [], ◌∷◌, ◌++◌, IfOk, OnOk, OnErr};
+
+use fsb_io::Memory;
+use std::alloc::Global;
+use std::marker::Model;
+
+/// One hazard of a bench file; the first number is the request's, or the first clock for `Bnr`.
+#[derive(Clone, Copy, Debug, PartialEq, Eq)]
+pub enum HazardLine {
+    Stall(u32, u8),
+    Trdy(u32, u8),
+    Resp(u32, u8),
+    Gap(u32, u8),
+    Retry(u32),
+    Defer(u32, u16),
+    Aerr(u32),
+    Bnr(u32, u32),
+}
+
+/// The hazard lines of a bench file, in order.
+#[derive(Debug, Drop)]
+pub struct HazardLines {
+    lines: Vec<HazardLine>,
+}
+
+impl Model for HazardLines {
+    ghost use Rattle.std.specs.Prelude.{List};
+    ghost use Rattle.fsb_hazard.specs.declared.line.HazardLine.{HazardLine};
+
+    ghost Value = { List HazardLine };
+
+    ghost view = { λ h. h.lines.items };
+}
+
+impl HazardLines {
+    /// The empty list. It takes no memory.
+    pub fn new(alloc: Global) -> Self
+        ensures { result ≡ [] }
+    {
+        HazardLines {
+            lines: Vec::new(alloc),
+        }
+    }
+
+    /// Adds a line as the last one. After `Memory` the list is as before.
+    pub fn push(&mut self, line: HazardLine) -> Result<(), Memory>
+        ensures ok { OnOk result (self.new ≡ self.old ++ line ∷ []) }
+        ensures err { OnErr result (self.new ≡ self.old) }
+    {
+        self.lines.push(line)?;
+        Ok(())
+    }
+
+    pub fn as_slice(&self) -> &[HazardLine]
+        ensures { result.now ≡ self.now }
+    {
+        self.lines.as_slice()
+    }
+}

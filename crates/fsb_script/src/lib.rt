@@ -1,0 +1,8 @@
+//! The bench file: its text, its plan, and the first fault of a text that is no bench file.
+#![tactic(auto)]
+
+pub use fault::{Cause, ScriptFault, ScriptStop};
+pub use plan::{Plan, Scripts, Settings, Window};
+
+mod fault;
+mod plan;

@@ -1,0 +1,58 @@
+ghost use Rattle.std.specs.Prelude.{⊤, [], ◌∷◌, codes};
+
+use bitflags::{Flag, Flags, bitflag_items};
+
+/// A set of the 18 control lines, which are asserted low on the bus; a line is in the set where it is asserted.
+#[derive(Clone, Copy, Debug, PartialEq, Eq)]
+pub struct Lines(pub u32);
+
+bitflag_items! {
+    impl Lines: u32 {
+        const BREQ0 = 1;
+        const BREQ1 = 2;
+        const BREQ2 = 4;
+        const BREQ3 = 8;
+        const BPRI = 16;
+        const LOCK = 32;
+        const BNR = 64;
+        const ADS = 128;
+        const AERR = 256;
+        const HIT = 512;
+        const HITM = 1024;
+        const DEFER = 2048;
+        const RS0 = 4096;
+        const RS1 = 8192;
+        const RS2 = 16384;
+        const TRDY = 32768;
+        const DBSY = 65536;
+        const DRDY = 131072;
+    }
+}
+
+impl Flags for Lines {
+    type Bits = u32;
+
+    ghost exact = { ⊤ };
+
+    ghost table = {
+        (codes "BREQ0", 1) ∷ (codes "BREQ1", 2) ∷ (codes "BREQ2", 4) ∷ (codes "BREQ3", 8)
+            ∷ (codes "BPRI", 16) ∷ (codes "LOCK", 32) ∷ (codes "BNR", 64) ∷ (codes "ADS", 128)
+            ∷ (codes "AERR", 256) ∷ (codes "HIT", 512) ∷ (codes "HITM", 1024) ∷ (codes "DEFER", 2048)
+            ∷ (codes "RS0", 4096) ∷ (codes "RS1", 8192) ∷ (codes "RS2", 16384) ∷ (codes "TRDY", 32768)
+            ∷ (codes "DBSY", 65536) ∷ (codes "DRDY", 131072) ∷ []
+    };
+
+    ghost set_of = { λ lines. lines.0 };
+
+    fn flags<'a>() -> &'a [Flag<Lines>] {
+        Lines::FLAGS
+    }
+
+    fn bits(&self) -> u32 {
+        self.0
+    }
+
+    fn from_bits_retain(bits: u32) -> Lines {
+        Lines(bits)
+    }
+}

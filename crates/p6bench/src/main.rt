@@ -1,0 +1,4 @@
+//! The program `p6bench`.
+#![tactic(auto)]
+
+fn main(_rt: HostRuntime) {}
