@@ -1,0 +1,48 @@
+ghost use Rattle.std.specs.Prelude.{◌≡◌, ◌==◌, Option, None, Some, MatchOption, option_map};
+ghost use Rattle.fsb_top.specs.Form.{form_of, is_name};
+ghost use Rattle.fsb_top.specs.Command.{IsCommand};
+
+use crate::words::Words;
+
+/// The longest name of a file, in bytes.
+const NAME_LIMIT: usize = 4096;
+
+/// What the words of a command line ask for.
+#[derive(Clone, Copy, Debug, PartialEq, Eq)]
+pub enum Command<'a> {
+    /// To run a bench file, and to write the dump under the other name where there is one.
+    Run {
+        bench: &'a str,
+        dump: Option<&'a str>,
+    },
+}
+
+// Whether the word may name a file.
+fn is_name(word: &str) -> bool
+    ensures { result ≡ is_name word.now }
+{
+    let bytes = word.as_bytes();
+    match bytes.first() {
+        Some(first) => *first != b'-' && bytes.len() <= NAME_LIMIT,
+        None => false,
+    }
+}
+
+/// The form that the words have.
+pub fn read_words(words: &Words) -> Option<Command<'_>>
+    ensures { IsCommand (form_of words.now) result }
+{
+    let verb = words.word(0)?;
+    let bench = words.word(1)?;
+    if verb != "run" || !is_name(bench) {
+        return None;
+    }
+    match words.word(2) {
+        None => Some(Command::Run { bench, dump: None }),
+        Some(dump) if words.len() == 3 && is_name(dump) => Some(Command::Run {
+            bench,
+            dump: Some(dump),
+        }),
+        Some(_) => None,
+    }
+}
