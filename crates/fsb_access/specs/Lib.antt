@@ -1,0 +1,5 @@
+pub mod Access
+pub mod ByteMemory
+pub mod LogView
+pub mod Replay
+pub mod ScriptOrder
