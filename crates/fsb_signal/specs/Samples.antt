@@ -1,0 +1,45 @@
+-- What a sample has on its lines, and what a list of samples has at a clock.
+use Rattle.std.specs.Prelude.{ℕ, Bool, false, ◌==◌, ◌&&◌, ◌+◌, ◌*◌, if◌then◌else◌, List, Option, slice_get}
+use Rattle.std.specs.Int.RustNames.{bit_and}
+use Rattle.std.specs.List.{list_all}
+use Rattle.std.specs.Option.{option_map_or}
+use Rattle.fsb_signal.specs.declared.lines.Lines.{Lines}
+use Rattle.fsb_signal.specs.declared.lines.TheConstants.Lines.{RS0, RS1, RS2}
+use Rattle.fsb_signal.specs.declared.sample.Word.{Word}
+use Rattle.fsb_signal.specs.declared.sample.Sample.{Sample}
+
+-- the line is asserted in the sample (of several lines: each of them is)
+abbrev pub has_line : Sample → Lines → Bool
+has_line s line = bit_and s.lines.0 line.0 == line.0
+
+-- the line is unknown in the sample (of several lines: each of them is)
+abbrev pub has_unknown : Sample → Lines → Bool
+has_unknown s line = bit_and s.unknown.0 line.0 == line.0
+
+-- no control line of the sample is unknown
+abbrev pub has_known_lines : Sample → Bool
+has_known_lines s = s.unknown.0 == 0
+
+-- no bit of the word is unknown
+abbrev pub is_known_word : Word → Bool
+is_known_word word = word.unknown == 0
+
+-- no bit of the sample is unknown, neither a control line nor a bit of a word
+abbrev pub is_known : Sample → Bool
+is_known s = has_known_lines s && is_known_word s.req && is_known_word s.addr && is_known_word s.dbus
+
+-- no bit of any of the samples is unknown
+abbrev pub is_known_trace : List Sample → Bool
+is_known_trace w = list_all is_known w
+
+-- 1 where the line is asserted in the sample, and 0 where it is not
+abbrev pub bit_of : Sample → Lines → ℕ
+bit_of s line = if has_line s line then 1 else 0
+
+-- the response code of the sample: the three bits RS2, RS1 and RS0, with 1 for asserted
+abbrev pub response_of : Sample → ℕ
+response_of s = 4 * bit_of s RS2 + 2 * bit_of s RS1 + bit_of s RS0
+
+-- the line is asserted at clock c; past the end nothing is
+unfoldable pub line_at : Lines → List Sample → ℕ → Bool
+line_at line w c = option_map_or (λ s. has_line s line) (slice_get w c) false
