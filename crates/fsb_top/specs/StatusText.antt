@@ -1,0 +1,44 @@
+-- The exit status of each way in which a call may end, and what is printed of it.
+use Rattle.std.specs.Prelude.{ℕ, List, [], ◌++◌, codes}
+use Rattle.std.specs.Fmt.{decimal}
+use Rattle.fsb_script.specs.declared.fault.Cause.{Cause}
+use Rattle.fsb_script.specs.declared.fault.Cause.TheVariants.{FirstLine, Word, Number, Range, Align, Outside, LockConflict, LockSize, Missing, After, Unbuilt}
+use Rattle.fsb_script.specs.declared.fault.ScriptFault.{ScriptFault}
+use Rattle.fsb_top.specs.declared.status.Status.{Status}
+use Rattle.fsb_top.specs.declared.status.Status.TheVariants.{Done, BadWords, BadBench, ReadFault, WriteFault, DumpFault, OutOfMemory, TooLong}
+
+-- the exit status
+abbrev pub code_of : Status → ℕ
+code_of Done = 0
+code_of BadWords = 2
+code_of (BadBench fault) = 3
+code_of ReadFault = 5
+code_of WriteFault = 6
+code_of DumpFault = 7
+code_of OutOfMemory = 8
+code_of TooLong = 9
+
+-- the printed name of a cause
+abbrev pub cause_name : Cause → List ℕ
+cause_name FirstLine = codes "FirstLine"
+cause_name Word = codes "Word"
+cause_name Number = codes "Number"
+cause_name Range = codes "Range"
+cause_name Align = codes "Align"
+cause_name Outside = codes "Outside"
+cause_name LockConflict = codes "LockConflict"
+cause_name LockSize = codes "LockSize"
+cause_name Missing = codes "Missing"
+cause_name After = codes "After"
+cause_name Unbuilt = codes "Unbuilt"
+
+-- the line on standard error, without its line feed; after Done there is none
+abbrev pub status_text : Status → List ℕ
+status_text Done = []
+status_text BadWords = codes "bad words"
+status_text (BadBench fault) = codes "bench line " ++ decimal fault.line ++ codes ": " ++ cause_name fault.cause
+status_text ReadFault = codes "read fault"
+status_text WriteFault = codes "write fault"
+status_text DumpFault = codes "dump fault"
+status_text OutOfMemory = codes "out of memory"
+status_text TooLong = codes "too long"
