@@ -9,6 +9,7 @@ use fsb_io::{Line, put_decimal, put_hex, put_text};
 
 /// The line of a completed access, with its line feed: `<clock> <agent> <item> ld|st <size> <addr> = <value>`.
 /// Address and value are hexadecimal, all other numbers decimal. It takes no memory.
+#[tactic(auto, unfolding(crate::specs::LogText::log_line_text))]
 pub fn log_line(done: &Done) -> Line
     ensures { result.items ≡ log_line_text done.now }
 {
@@ -26,6 +27,7 @@ pub fn log_line(done: &Done) -> Line
 }
 
 // Appends what the access does: the word, its size and its address.
+#[tactic(auto, unfolding(crate::specs::LogText::access_text))]
 fn put_access(line: &mut Line, access: &Access)
     requires { array_vec_len line.old + 50 ≤ 256 }
     ensures items { line.new.items ≡ line.old.items ++ access_text access.now }
@@ -42,6 +44,7 @@ fn put_access(line: &mut Line, access: &Access)
 }
 
 /// The last line, with its line feed: `end clocks=<clocks> done=<done> of=<of>`. It takes no memory.
+#[tactic(auto, unfolding(crate::specs::LogText::end_line_text))]
 pub fn end_line(clocks: u32, done: u32, of: u32) -> Line
     ensures { result.items ≡ end_line_text clocks done of }
 {

@@ -5,5 +5,6 @@ pub use status::{Status, code, status_line};
 pub use words::Words;
 
 mod command;
+mod output;
 mod status;
 mod words;
