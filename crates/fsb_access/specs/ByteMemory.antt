@@ -1,4 +1,4 @@
-use Rattle.std.specs.Prelude.{ℕ, zero, suc, ◌+◌, ◌-◌, ◌*◌, ◌/◌, ◌%◌, ◌^◌, ◌&&◌, ◌==◌, nat_lt, nat_le, if◌then◌else◌, List, [], ◌∷◌, fold}
+use Rattle.std.specs.Prelude.{ℕ, zero, suc, ◌+◌, ◌-◌, ◌*◌, ◌/◌, ◌%◌, ◌^◌, ◌&&◌, ◌==◌, nat_lt, nat_le, if◌then◌else◌, List, [], ◌∷◌, fold, length, slice_index}
 use Rattle.fsb_access.specs.declared.access.Setting.{Setting}
 
 -- a byte memory: the byte at each address
@@ -26,6 +26,11 @@ value_of_bytes (byte ∷ bytes) = byte + 256 * value_of_bytes bytes
 -- the number that so many bytes from an address on spell
 abbrev pub value_at : ByteMemory → ℕ → ℕ → ℕ
 value_at memory addr size = value_of_bytes (bytes_at memory addr size)
+
+-- the memory with bytes put from an address on
+unfoldable pub put_bytes : ByteMemory → ℕ → List ℕ → ByteMemory
+put_bytes memory addr bytes place =
+    if nat_le addr place && nat_lt place (addr + length bytes) then slice_index bytes (place - addr) else memory place
 
 -- one byte of a number, counted from the lowest
 abbrev pub byte_of : ℕ → ℕ → ℕ

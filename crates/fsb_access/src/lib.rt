@@ -14,9 +14,11 @@
 #![tactic(auto)]
 
 pub use access::{Access, Operand, Setting};
+pub use flat::Flat;
 pub use item::{Group, Item, Script};
 pub use log::{Done, Log};
 
 mod access;
+mod flat;
 mod item;
 mod log;
