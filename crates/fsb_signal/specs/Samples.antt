@@ -3,6 +3,8 @@ use Rattle.std.specs.Prelude.{ℕ, Bool, false, ◌==◌, ◌&&◌, ◌+◌, ◌
 use Rattle.std.specs.Int.RustNames.{bit_and}
 use Rattle.std.specs.List.{list_all}
 use Rattle.std.specs.Option.{option_map_or}
+use Rattle.std.proofs.Common.{refl, lit<, sym}
+use Rattle.std.specs.Int.Bits.{and_zero_r}
 use Rattle.fsb_signal.specs.declared.lines.Lines.{Lines}
 use Rattle.fsb_signal.specs.declared.lines.TheConstants.Lines.{RS0, RS1, RS2}
 use Rattle.fsb_signal.specs.declared.sample.Word.{Word}
@@ -43,3 +45,24 @@ response_of s = 4 * bit_of s RS2 + 2 * bit_of s RS1 + bit_of s RS0
 -- the line is asserted at clock c; past the end nothing is
 unfoldable pub line_at : Lines → List Sample → ℕ → Bool
 line_at line w c = option_map_or (λ s. has_line s line) (slice_get w c) false
+
+-- the word in which exactly these bits are asserted and none is unknown
+abbrev pub known_word : ℕ → Word
+known_word bits = record { bits = bits; unknown = 0; disjoint = and_zero_r bits }
+
+-- the sample in which nothing is asserted and nothing is unknown
+abbrev pub idle : Sample
+idle = record {
+    lines = record { 0 = 0 };
+    unknown = record { 0 = 0 };
+    req = known_word 0;
+    addr = known_word 0;
+    dbus = known_word 0;
+    disjoint = refl;
+    line_bits = lit< tt;
+    line_unknown = lit< tt;
+    req_bits = lit< tt;
+    req_unknown = lit< tt;
+    addr_bits = lit< tt;
+    addr_unknown = lit< tt;
+}

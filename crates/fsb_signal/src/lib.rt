@@ -5,7 +5,7 @@ pub use lines::Lines;
 pub use query::idle_sample;
 pub use sample::{Sample, Word};
 pub use signal::Signal;
-pub use table::{SIGNALS, signal_at};
+pub use table::{SIGNALS, signal_at, signal_named};
 
 mod lines;
 mod query;
