@@ -55,18 +55,18 @@ known_word bits = record { bits = bits; unknown = 0; disjoint = and_zero_r bits 
 -- words; a bit that a sample cannot have is left out
 abbrev pub known_sample : ℕ → ℕ → ℕ → ℕ → Sample
 known_sample lines req addr dbus = record {
-    lines = record { 0 = lines % 2 ^ 18 };
-    unknown = record { 0 = 0 };
-    req = known_word (req % 2 ^ 5);
-    addr = known_word (addr % 2 ^ 33);
-    dbus = known_word dbus;
-    disjoint = and_zero_r (lines % 2 ^ 18);
-    line_bits = mod-lt lines (lit< tt);
-    line_unknown = lit< tt;
-    req_bits = mod-lt req (lit< tt);
-    req_unknown = lit< tt;
-    addr_bits = mod-lt addr (lit< tt);
-    addr_unknown = lit< tt;
+  lines = record { 0 = lines % 2 ^ 18 };
+  unknown = record { 0 = 0 };
+  req = known_word (req % 2 ^ 5);
+  addr = known_word (addr % 2 ^ 33);
+  dbus = known_word dbus;
+  disjoint = and_zero_r (lines % 2 ^ 18);
+  line_bits = mod-lt lines (lit< tt);
+  line_unknown = lit< tt;
+  req_bits = mod-lt req (lit< tt);
+  req_unknown = lit< tt;
+  addr_bits = mod-lt addr (lit< tt);
+  addr_unknown = lit< tt;
 }
 
 -- the sample in which nothing is asserted and nothing is unknown
