@@ -1,6 +1,6 @@
 -- The signal table: the lines and words of the bus as a dump names them.
-use Rattle.std.specs.Prelude.{ℕ, Bool, true, false, ◌==◌, List, [], ◌∷◌, Option, codes}
-use Rattle.std.specs.List.{position_from}
+use Rattle.std.specs.Prelude.{ℕ, Bool, true, false, ◌==◌, nat_eq, List, [], ◌∷◌, Option, codes}
+use Rattle.std.specs.List.{position}
 use Rattle.std.specs.Cmp.Lexicographic.{pointwise}
 use Rattle.fsb_signal.specs.declared.signal.Signal.{Signal}
 
@@ -46,3 +46,7 @@ table =
 -- what the table says of a signal
 abbrev pub entry_of : Signal → Entry
 entry_of s = record { name = s.name.now; width = s.width; needed = s.needed }
+
+-- the number of the first entry of this name, if there is one; no two entries have one name
+unfoldable pub signal_number : List ℕ → Option ℕ
+signal_number name = position (λ e. pointwise nat_eq e.name name) table

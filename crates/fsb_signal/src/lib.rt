@@ -2,10 +2,10 @@
 #![tactic(auto)]
 
 pub use lines::Lines;
-pub use query::idle_sample;
+pub use query::{idle_sample, is_asserted_at};
 pub use sample::{Sample, Word};
 pub use signal::Signal;
-pub use table::{SIGNALS, signal_at};
+pub use table::{SIGNALS, signal_at, signal_named};
 
 mod lines;
 mod query;

@@ -1,5 +1,6 @@
-ghost use Rattle.std.specs.Prelude.{◌≡◌, ◌≢◌, ◌↔◌, ◌<◌, Some, option_map, slice_get, IfSome, IsNone, All};
-ghost use Rattle.fsb_signal.specs.Table.{table, entry_of};
+ghost use Rattle.std.specs.Prelude.{◌≡◌, ◌≢◌, ◌↔◌, ◌<◌, Some, option_map, slice_get, IfSome, IsNone, All, nat_eq, position};
+ghost use Rattle.std.specs.Cmp.Lexicographic.{pointwise};
+ghost use Rattle.fsb_signal.specs.Table.{table, entry_of, signal_number};
 
 use crate::signal::Signal;
 
@@ -113,4 +114,21 @@ pub fn signal_at(number: u8) -> &'static Signal
     ensures { slice_get table number ≡ Some (entry_of result.now) }
 {
     &SIGNALS[number as usize]
+}
+
+/// The number of the signal of this name, or `None` where no entry of the table has the name.
+pub fn signal_named(name: &str) -> Option<u8>
+    ensures number { result ≡ signal_number name.now }
+    ensures found { IfSome result (λ n. option_map (λ e. e.name) (slice_get table n) ≡ Some name.now) }
+    ensures none { IsNone result ↔ All (λ e. e.name ≢ name.now) table }
+{
+    let number = place_of(&SIGNALS, name)?;
+    Some(number as u8)
+}
+
+// The place of the first of the signals with this name.
+fn place_of(signals: &[Signal], name: &str) -> Option<usize>
+    ensures { result ≡ position (λ s. pointwise nat_eq s.name.now name.now) signals.now }
+{
+    signals.iter().position(|signal| signal.name == name)
 }

@@ -1,0 +1,5 @@
+pub mod Numbers
+pub mod SameSample
+pub mod LineFacts
+pub mod AtClock
+pub mod DumpExamples
