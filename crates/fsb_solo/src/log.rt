@@ -1,13 +1,11 @@
 //! The log.
 ghost use Rattle.std.specs.Prelude.{◌≡◌, ◌≤◌, ◌+◌, ◌==◌, if◌then◌else◌, List, length, IfOk, OnOk, OnErr};
-ghost use Rattle.std.specs.Ordering.{nat_cmp};
-ghost use Rattle.std.specs.BTreeSet.{contains};
 ghost use Rattle.fsb_solo.specs.SoloLog.{AreLawful, solo_log};
 
 use fsb_access::{Done, Flat, Item, Log, Setting};
 use fsb_io::Memory;
 use std::alloc::Global;
-use std::collections::BTreeSet;
+use std::collections::HashSet;
 
 /// The log of a script of single accesses over so many clocks, in a memory that begins with the settings. It ends before
 /// the first item that is no single access.
@@ -19,12 +17,12 @@ pub fn log_of(alloc: Global, clocks: u32, settings: &[Setting], items: &[Item]) 
 {
     let mut log = Log::with_room(alloc, items.len())?;
     let mut flat = Flat::new(alloc, settings)?;
-    let mut named = BTreeSet::new(alloc);
+    let mut named = HashSet::new(alloc);
     let mut first = 0;
     for (number, item) in items.iter().enumerate() {
         let Item::One(access) = item else { break };
         let is_new = named.insert(access.line())?;
-        let clock = if is_new { first + 11 } else { first };
+        let clock = last_clock(is_new, first);
         if clock >= clocks {
             break;
         }
@@ -40,4 +38,12 @@ pub fn log_of(alloc: Global, clocks: u32, settings: &[Setting], items: &[Item]) 
         first = clock + 1;
     }
     Ok(log)
+}
+
+// The clock in which an access is completed: on a new line the twelfth from the first one that is free for it.
+fn last_clock(is_new: bool, first: u32) -> u32
+    requires { first ≤ 200000 }
+    ensures { result ≡ (if is_new then first + 11 else first) }
+{
+    if is_new { first + 11 } else { first }
 }
