@@ -22,3 +22,5 @@ mod access;
 mod flat;
 mod item;
 mod log;
+#[cfg(test)]
+mod tests;

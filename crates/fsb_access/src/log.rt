@@ -45,6 +45,13 @@ impl Log {
         Ok(Log { entries })
     }
 
+    /// How many more entries there is room for.
+    pub fn spare(&self) -> usize
+        ensures { result ≡ self.now.spare }
+    {
+        self.entries.capacity() - self.entries.len()
+    }
+
     /// Adds an entry as the last one, in the room that is there. It takes no memory.
     pub fn add(&mut self, done: Done)
         requires { 1 ≤ self.old.spare }
