@@ -139,6 +139,7 @@ impl Source for MemSource {
         ensures bytes { IfOk result (λ n. self.old.left ≡ take n buf.new ++ self.new.left) }
         ensures end { 0 < length buf.old → IfOk result (λ n. n ≡ 0 → self.new.left ≡ []) }
         ensures left_stays { OnErr result (self.new.left ≡ self.old.left) }
+        ensures buffer_stays { OnErr result (buf.new ≡ buf.old) }
         ensures name_stays { self.new.begun_as ≡ self.old.begun_as }
         ensures holds_stays { self.new.holds ≡ self.old.holds }
         ensures cause { HasCause self.old.tally.faults self.new.tally.faults result }
