@@ -1,2 +1,9 @@
-//! To come.
+//! Dumps as they are written: the header, and then the text of each clock, without memory.
 #![tactic(auto)]
+
+pub use clock::put_clock;
+pub use header::put_header;
+
+mod clock;
+mod header;
+mod value;

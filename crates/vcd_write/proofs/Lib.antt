@@ -1,0 +1,4 @@
+pub mod ValueText
+pub mod RoomFacts
+pub mod HeaderText
+pub mod ClockText
