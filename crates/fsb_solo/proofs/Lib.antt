@@ -1,1 +1,3 @@
 pub mod LogSteps
+pub mod RequestBits
+pub mod TakeSteps

@@ -1,1 +1,2 @@
 pub mod SoloLog
+pub mod SoloTrace

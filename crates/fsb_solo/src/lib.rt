@@ -6,5 +6,8 @@
 #![tactic(auto)]
 
 pub use log::log_of;
+pub use trace::trace_of;
 
+mod burst;
 mod log;
+mod trace;
