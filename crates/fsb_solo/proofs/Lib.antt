@@ -1,3 +1,5 @@
 pub mod LogSteps
 pub mod RequestBits
 pub mod TakeSteps
+pub mod TraceSteps
+pub mod KnownSamples

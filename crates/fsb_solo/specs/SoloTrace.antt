@@ -1,5 +1,5 @@
 -- The waveform of one agent on lines of its own.
-use Rattle.std.specs.Prelude.{ℕ, ◌+◌, ◌*◌, ◌/◌, ◌%◌, true, if◌then◌else◌, List, [], ◌∷◌, ◌++◌, take, replicate, slice_index, slice_index_or}
+use Rattle.std.specs.Prelude.{ℕ, Bool, not, ◌+◌, ◌*◌, ◌/◌, ◌%◌, true, if◌then◌else◌, List, [], ◌∷◌, ◌++◌, take, replicate, slice_index, slice_index_or}
 use Rattle.std.specs.Int.RustNames.{bit_or}
 use Rattle.fsb_access.specs.Access.{line_of, chunk_of}
 use Rattle.fsb_access.specs.ByteMemory.{ByteMemory, memory_of, value_at}
@@ -78,15 +78,15 @@ transaction memory access =
     ∷ idle ∷ idle ∷ idle ∷ idle
     ∷ data_samples (burst_of memory access)
 
--- the clocks of an access: one idle clock where its line was named before, else those of its transaction
-abbrev pub samples_for : ByteMemory → List Item → Access → List Sample
-samples_for memory earlier access = if was_named earlier access then idle ∷ [] else transaction memory access
+-- the clocks of an access: those of its transaction where its line is new, else one idle clock
+abbrev pub clocks_of : Bool → ByteMemory → Access → List Sample
+clocks_of is_new memory access = if is_new then transaction memory access else idle ∷ []
 
 -- the clocks of the items that are left, one access after the other, up to the first item that is no single access
 abbrev pub samples_from : ByteMemory → List Item → List Item → List Sample
 samples_from memory earlier [] = []
 samples_from memory earlier (One access ∷ items) =
-    samples_for memory earlier access ++ samples_from memory (earlier ++ One access ∷ []) items
+    clocks_of (not (was_named earlier access)) memory access ++ samples_from memory (earlier ++ One access ∷ []) items
 samples_from memory earlier (Locked group ∷ items) = []
 samples_from memory earlier (Idle count ∷ items) = []
 

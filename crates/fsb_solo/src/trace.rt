@@ -6,7 +6,7 @@ ghost use Rattle.fsb_encode.specs.Request.{pairs_of};
 ghost use Rattle.fsb_signal.specs.Samples.{is_known_trace, known_sample};
 ghost use Rattle.fsb_signal.specs.declared.lines.TheConstants.Lines.{BREQ0, ADS};
 ghost use Rattle.fsb_solo.specs.SoloLog.{AreLawful};
-ghost use Rattle.fsb_solo.specs.SoloTrace.{transaction, request_for, request_sample, data_samples, and_line, solo_trace};
+ghost use Rattle.fsb_solo.specs.SoloTrace.{transaction, request_for, request_sample, data_samples, clocks_of, and_line, solo_trace};
 
 use crate::burst::burst;
 use bitflags::Flags;
@@ -30,14 +30,30 @@ pub fn trace_of(alloc: Global, clocks: u32, settings: &[Setting], items: &[Item]
     let mut named = HashSet::new(alloc);
     for item in items {
         let Item::One(access) = item else { break };
-        if named.insert(access.line())? {
-            record(&mut trace, room, &transaction(&mut flat, access)?);
-        } else {
-            record(&mut trace, room, &[idle_sample()]);
-        }
+        let is_new = named.insert(access.line())?;
+        record_access(&mut trace, room, &mut flat, is_new, access)?;
     }
     trace.resize(room, idle_sample())?;
     Ok(trace)
+}
+
+// Appends the clocks of an access, to a new line or to one that was named before. The memory stays as it is.
+fn record_access(trace: &mut Vec<Sample>, room: usize, flat: &mut Flat, is_new: bool, access: &Access) -> Result<(), Memory>
+    requires lawful { IsLawfulAccess access.now }
+    requires within { vec_len trace.old ≤ room }
+    requires room { room ≤ vec_capacity trace.old }
+    ensures items { OnOk result (trace.new.items ≡ take room (trace.old.items ++ clocks_of is_new (state_of flat.old).memory access.now)) }
+    ensures within { OnOk result (vec_len trace.new ≤ room) }
+    ensures room { OnOk result (room ≤ vec_capacity trace.new) }
+    ensures stays { (state_of flat.new).memory ≡ (state_of flat.old).memory }
+{
+    if is_new {
+        let samples = transaction(flat, access)?;
+        record(trace, room, &samples);
+    } else {
+        record(trace, room, &[idle_sample()]);
+    }
+    Ok(())
 }
 
 // Appends the samples as long as there are fewer than so many, for which there is room.
