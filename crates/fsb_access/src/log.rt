@@ -33,7 +33,10 @@ impl Model for Log {
 
     ghost Value = { LogView };
 
-    ghost view = { λ log. record { entries = log.entries.items; spare = vec_capacity log.entries - vec_len log.entries } };
+    ghost view = { λ log. record {
+      entries = log.entries.items;
+      spare = vec_capacity log.entries - vec_len log.entries;
+    } };
 }
 
 impl Log {
