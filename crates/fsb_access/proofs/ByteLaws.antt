@@ -1,8 +1,9 @@
-use Rattle.std.proofs.Common.{◌≡◌, ℕ, zero, suc, ◌+◌, ◌-◌, ◌*◌, ◌/◌, ◌%◌, ◌^◌, ◌<◌, ◌≤◌, true, false, ◌&&◌, ◌⊎◌, length, get_or, refl, ◌∙◌, ap, ⊎_elim, inl, inr, arith, add-zero}
+use Rattle.std.proofs.Common.{◌≡◌, ℕ, zero, suc, ◌+◌, ◌-◌, ◌*◌, ◌/◌, ◌%◌, ◌^◌, ◌<◌, ◌≤◌, true, false, ◌&&◌, ◌⊎◌, List, [], ◌∷◌, sym, length, get_or, take, drop, drop-cons, refl, ◌∙◌, ap, ⊎_elim, inl, inr, arith, add-zero}
 use Rattle.std.proofs.lemmas.Bool.Decides.{nat_tests}
 use Rattle.std.proofs.Math.Nat.{pow-suc, div-div-eq-div-mul}
 use Rattle.std.specs.Prelude.{nat_le, nat_lt}
-use Rattle.fsb_access.specs.ByteMemory.{ByteMemory, bytes_at, put_value, byte_of, value_at}
+use Rattle.fsb_access.specs.Access.{is_place}
+use Rattle.fsb_access.specs.ByteMemory.{ByteMemory, bytes_at, put_value, byte_of, value_of_bytes, value_at}
 
 -- as many bytes as said
 pub length-bytes_at : (memory : ByteMemory) (addr count : ℕ) → length (bytes_at memory addr count) ≡ count
@@ -31,6 +32,40 @@ bytes_at-same memory other addr (suc count) same =
   where
     moved : (k : ℕ) → memory (addr + suc k) ≡ other (addr + suc k) → memory (addr + 1 + k) ≡ other (addr + 1 + k)
     moved k h = let next : addr + 1 + k ≡ addr + suc k = omega arith in rw next h
+
+-- bytes of a memory are those of a list that it has at these addresses
+pub bytes_at-is :
+    (memory : ByteMemory) (bytes : List ℕ) (addr start count : ℕ) → start + count ≤ length bytes →
+    ((k : ℕ) → k < count → memory (addr + k) ≡ get_or bytes (start + k) 0) →
+    bytes_at memory addr count ≡ take count (drop start bytes)
+unfolding bytes_at
+bytes_at-is memory bytes addr start zero within same = refl
+bytes_at-is memory bytes addr start (suc count) within same =
+    let first : memory addr ≡ get_or bytes start 0 = simp add-zero at (same 0 (omega arith)) in
+    let split : drop start bytes ≡ get_or bytes start 0 ∷ drop (suc start) bytes = drop-cons bytes start 0 (omega arith) in
+    let rest : bytes_at memory (addr + 1) count ≡ take count (drop (suc start) bytes) = bytes_at-is memory bytes (addr + 1) (suc start) count (omega arith) (λ k h. moved k (same (k + 1) (omega arith))) in
+    rw (split, first, rest) refl
+  where
+    moved : (k : ℕ) → memory (addr + (k + 1)) ≡ get_or bytes (start + (k + 1)) 0 → memory (addr + 1 + k) ≡ get_or bytes (suc start + k) 0
+    moved k h = let to : addr + 1 + k ≡ addr + (k + 1) = omega arith in let from : suc start + k ≡ start + (k + 1) = omega arith in rw (to, from) h
+
+-- bytes from within others are a part of them
+pub bytes_at-part :
+    (memory : ByteMemory) (addr count start size : ℕ) → start + size ≤ count →
+    bytes_at memory (addr + start) size ≡ take size (drop start (bytes_at memory addr count))
+bytes_at-part memory addr count start size within =
+    bytes_at-is memory (bytes_at memory addr count) (addr + start) start size (omega (arith, length-bytes_at memory addr count)) same
+  where
+    same : (k : ℕ) → k < size → memory (addr + start + k) ≡ get_or (bytes_at memory addr count) (start + k) 0
+    same k h =
+        let place : addr + start + k ≡ addr + (start + k) = omega arith in
+        ap memory place ∙ sym (get_or-bytes_at memory addr count (start + k) (omega arith))
+
+-- the number of some bytes has no more bytes
+pub value_of_bytes-below : (bytes : List ℕ) → ((i : ℕ) → get_or bytes i 0 < 256) → value_of_bytes bytes < 256 ^ length bytes
+value_of_bytes-below [] small = omega arith
+value_of_bytes-below (byte ∷ bytes) small =
+    omega (arith, small 0, value_of_bytes-below bytes (λ i. small (suc i)), pow-suc 256 (length bytes))
 
 -- a byte of a number that was put, and a byte beside it
 pub put_value-inside :
@@ -76,3 +111,7 @@ value_at-put_value memory addr size value below =
   where
     inside : (k : ℕ) → k < size → put_value memory addr size value (addr + k) ≡ byte_of value k
     inside k h = let place : addr + k - addr ≡ k = omega arith in put_value-inside memory addr size value (addr + k) (omega arith) (omega arith) ∙ rw place refl
+
+-- the bytes of a lawful place lie within one line
+pub place-within_line : (size addr : ℕ) → is_place size addr ≡ true → addr % 32 + size ≤ 32
+place-within_line size addr lawful = grind (arith, nat_tests)
