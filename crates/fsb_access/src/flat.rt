@@ -1,4 +1,4 @@
-ghost use Rattle.std.specs.Prelude.{◌≡◌, ℕ, ◌+◌, ◌-◌, ◌*◌, ◌%◌, ◌^◌, ◌<◌, ◌≤◌, ◌&&◌, nat_le, nat_lt, if◌then◌else◌, IsTrue, IfOk, OnOk, OnErr, length, slice_index};
+ghost use Rattle.std.specs.Prelude.{◌≡◌, ◌+◌, ◌*◌, ◌%◌, ◌^◌, ◌<◌, ◌≤◌, IsTrue, IfOk, OnOk, OnErr, length};
 ghost use Rattle.fsb_access.specs.Access.{is_size, is_place, IsLawfulAccess};
 ghost use Rattle.fsb_access.specs.ByteMemory.{value_of_bytes, put_bytes};
 ghost use Rattle.fsb_access.specs.FlatView.{chunk_bytes, memory_of_chunks, state_of};
