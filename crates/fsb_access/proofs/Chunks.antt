@@ -1,15 +1,16 @@
-use Rattle.std.proofs.Common.{◌≡◌, ◌≢◌, ℕ, zero, suc, ◌+◌, ◌-◌, ◌/◌, ◌%◌, ◌^◌, ◌<◌, ◌≤◌, true, false, cond, ◌&&◌, List, [], ◌∷◌, Some, lit<, length, get_or, set, get_or-set_same, get_or-set_other, take, drop, nat_cmp, refl, ◌∙◌, ap, ⊎_elim, arith, add-zero, drop-cons}
+use Rattle.std.proofs.Common.{◌≡◌, ◌≢◌, ℕ, zero, suc, ◌+◌, ◌-◌, ◌/◌, ◌%◌, ◌^◌, ◌<◌, ◌≤◌, true, false, cond, ◌&&◌, List, [], ◌∷◌, Some, lit<, length, get_or, set, get_or-set_same, get_or-set_other, take, drop, nat_cmp, refl, ◌∙◌, ap, ⊎_elim, arith}
 use Rattle.std.proofs.lemmas.Bool.{cases_Bool, cases_eq}
 use Rattle.std.proofs.lemmas.Bool.Decides.{nat_tests}
 use Rattle.std.proofs.lemmas.List.{places, get_or-take, get_or-replicate, length-take-le}
 use Rattle.std.proofs.lemmas.List.Sums.{fold_more}
-use Rattle.std.proofs.Math.Nat.{pow-suc, pow-le-pow_right}
+use Rattle.std.proofs.Math.Nat.{pow-le-pow_right}
 use Rattle.std.proofs.Math.Path.{fun_ext}
 use Rattle.std.specs.Prelude.{nat_le, nat_lt, ◌==◌, slice_index}
 use Rattle.std.specs.BTreeMap.{is_at}
 use Rattle.std.specs.Int.{to_le_bytes, w64}
 use Rattle.std.specs.Map.{lookup}
 use borrow.Rule.Slice.PartMut.{put_mid}
+use Rattle.fsb_access.proofs.ByteLaws.{bytes_at-is}
 use Rattle.fsb_access.specs.Access.{is_place}
 use Rattle.fsb_access.specs.ByteMemory.{ByteMemory, memory_of, bytes_at, put_byte, put_bytes, put_value, byte_of, value_of_bytes, value_at}
 use Rattle.fsb_access.specs.FlatView.{FlatView, chunk_bytes, memory_of_chunks, state_of}
@@ -69,31 +70,9 @@ memory_of_chunks-put old new addr size bytes puts sized within long =
         let there = chunk_bytes-other old new (addr / 8) (put_mid (addr % 8) size (chunk_bytes old (addr / 8)) bytes) puts (place / 8) apart in
         rw (there, is_within-other addr place (length bytes) apart within) refl
 
--- bytes of a memory are those of a list that it has at these addresses
-pub bytes_at-is :
-    (memory : ByteMemory) (bytes : List ℕ) (addr start count : ℕ) → start + count ≤ length bytes →
-    ((k : ℕ) → k < count → memory (addr + k) ≡ get_or bytes (start + k) 0) →
-    bytes_at memory addr count ≡ take count (drop start bytes)
-unfolding bytes_at
-bytes_at-is memory bytes addr start zero within same = refl
-bytes_at-is memory bytes addr start (suc count) within same =
-    let first : memory addr ≡ get_or bytes start 0 = simp add-zero at (same 0 (omega arith)) in
-    let split : drop start bytes ≡ get_or bytes start 0 ∷ drop (suc start) bytes = drop-cons bytes start 0 (omega arith) in
-    let rest : bytes_at memory (addr + 1) count ≡ take count (drop (suc start) bytes) = bytes_at-is memory bytes (addr + 1) (suc start) count (omega arith) (λ k h. moved k (same (k + 1) (omega arith))) in
-    rw (split, first, rest) refl
-  where
-    moved : (k : ℕ) → memory (addr + (k + 1)) ≡ get_or bytes (start + (k + 1)) 0 → memory (addr + 1 + k) ≡ get_or bytes (suc start + k) 0
-    moved k h = let to : addr + 1 + k ≡ addr + (k + 1) = omega arith in let from : suc start + k ≡ start + (k + 1) = omega arith in rw (to, from) h
-
 -- the bytes of a lawful place lie within one chunk
 pub place-within : (size addr : ℕ) → is_place size addr ≡ true → addr % 8 + size ≤ 8
 place-within size addr h = grind (arith, nat_tests)
-
--- the number of some bytes has no more bytes
-pub value_of_bytes-below : (bytes : List ℕ) → ((i : ℕ) → get_or bytes i 0 < 256) → value_of_bytes bytes < 256 ^ length bytes
-value_of_bytes-below [] small = omega arith
-value_of_bytes-below (byte ∷ bytes) small =
-    omega (arith, small 0, value_of_bytes-below bytes (λ i. small (suc i)), pow-suc 256 (length bytes))
 
 -- a number of at most seven bytes
 pub below_seven_bytes : (number count : ℕ) → number < 256 ^ count → count ≤ 7 → number < 2 ^ 56

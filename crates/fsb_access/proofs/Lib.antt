@@ -1,3 +1,4 @@
+pub mod ByteLaws
 pub mod Chunks
 pub mod OrderLaws
 pub mod ReplayLaws

@@ -1,4 +1,4 @@
-ghost use Rattle.std.specs.Prelude.{◌≡◌, ℕ, ◌+◌, ◌-◌, ◌*◌, ◌%◌, ◌^◌, ◌<◌, ◌≤◌, ◌&&◌, nat_le, nat_lt, if◌then◌else◌, IsTrue, IfOk, OnOk, OnErr, length, slice_index};
+ghost use Rattle.std.specs.Prelude.{◌≡◌, ◌+◌, ◌*◌, ◌%◌, ◌^◌, ◌<◌, ◌≤◌, IsTrue, IfOk, OnOk, OnErr, length};
 ghost use Rattle.fsb_access.specs.Access.{is_size, is_place, IsLawfulAccess};
 ghost use Rattle.fsb_access.specs.ByteMemory.{value_of_bytes, put_bytes};
 ghost use Rattle.fsb_access.specs.FlatView.{chunk_bytes, memory_of_chunks, state_of};
@@ -46,8 +46,10 @@ impl Flat {
     pub fn serve(&mut self, agent: u8, access: &Access) -> Result<u64, Memory>
         requires symmetric { agent < 4 }
         requires lawful { IsLawfulAccess access.now }
-        ensures value { IfOk result (λ value. value ≡ served_value (state_of self.old) agent access.now) }
-        ensures moves { OnOk result (state_of self.new ≡ state_after (state_of self.old) agent access.now) }
+        ensures value { IfOk result (λ value.
+            value ≡ served_value (state_of self.old) agent access.now) }
+        ensures moves { OnOk result (
+            state_of self.new ≡ state_after (state_of self.old) agent access.now) }
         ensures stays { OnErr result (self.new ≡ self.old) }
     {
         match access {
@@ -74,8 +76,10 @@ impl Flat {
     fn store(&mut self, agent: u8, size: u8, addr: u64, value: &Operand) -> Result<u64, Memory>
         requires symmetric { agent < 4 }
         requires place { IsTrue (is_place size addr) }
-        ensures value { IfOk result (λ number. number ≡ served_value (state_of self.old) agent (Access.Store size addr value.now)) }
-        ensures moves { OnOk result (state_of self.new ≡ state_after (state_of self.old) agent (Access.Store size addr value.now)) }
+        ensures value { IfOk result (λ number.
+            number ≡ served_value (state_of self.old) agent (Access.Store size addr value.now)) }
+        ensures moves { OnOk result (
+            state_of self.new ≡ state_after (state_of self.old) agent (Access.Store size addr value.now)) }
         ensures stays { OnErr result (self.new ≡ self.old) }
     {
         let number = number_put(size, self.last[usize::from(agent)], value);
@@ -94,7 +98,9 @@ impl Flat {
     /// Puts bytes that lie within one chunk. After `Memory` nothing changed.
     fn put(&mut self, addr: u64, bytes: &[u8]) -> Result<(), Memory>
         requires { addr % 8 + length bytes.now ≤ 8 }
-        ensures put { OnOk result (memory_of_chunks self.new.chunks ≡ put_bytes (memory_of_chunks self.old.chunks) addr bytes.now) }
+        ensures put { OnOk result (
+            memory_of_chunks self.new.chunks
+            ≡ put_bytes (memory_of_chunks self.old.chunks) addr bytes.now) }
         ensures last { self.new.last ≡ self.old.last }
         ensures stays { OnErr result (self.new ≡ self.old) }
     {

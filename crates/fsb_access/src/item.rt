@@ -1,4 +1,4 @@
-ghost use Rattle.std.specs.Prelude.{◌≡◌, List, [], ◌∷◌, ◌++◌, IfOk, OnOk, OnErr};
+ghost use Rattle.std.specs.Prelude.{◌≡◌, [], ◌∷◌, ◌++◌, IfOk, OnOk, OnErr};
 
 use crate::access::Access;
 use fsb_io::Memory;
@@ -30,7 +30,7 @@ impl Group {
         }
     }
 
-    /// Adds an access as the last one.
+    /// Adds an access as the last one. After `Memory` the group is as before.
     pub fn push(&mut self, access: Access) -> Result<(), Memory>
         ensures ok { OnOk result (self.new ≡ self.old ++ access ∷ []) }
         ensures err { OnErr result (self.new ≡ self.old) }
@@ -39,6 +39,7 @@ impl Group {
         Ok(())
     }
 
+    /// The accesses, the first one first.
     pub fn as_slice(&self) -> &[Access]
         ensures { result.now ≡ self.now }
     {
@@ -54,11 +55,14 @@ impl Group {
     }
 }
 
-/// One step of a script: an access by itself, accesses under the bus lock, or clocks spent idle.
+/// One step of a script.
 #[derive(Debug, Drop)]
 pub enum Item {
+    /// An access by itself.
     One(Access),
+    /// Accesses that are performed in one step, under the bus lock.
     Locked(Group),
+    /// So many clocks spent idle.
     Idle(u32),
 }
 
@@ -112,6 +116,7 @@ impl Script {
         Ok(())
     }
 
+    /// The items, the first one first.
     pub fn as_slice(&self) -> &[Item]
         ensures { result.now ≡ self.now }
     {

@@ -13,7 +13,7 @@
 //! [`Flat`] is that byte memory as a program: its `serve` is one step of the replay.
 #![tactic(auto)]
 
-pub use access::{Access, Operand, Setting};
+pub use access::{ADDRESS_LIMIT, Access, CHUNK_BYTES, LINE_BYTES, LINE_CHUNKS, Operand, Setting};
 pub use flat::Flat;
 pub use item::{Group, Item, Script};
 pub use log::{Done, Log};

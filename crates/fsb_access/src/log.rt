@@ -1,4 +1,4 @@
-ghost use Rattle.std.specs.Prelude.{◌≡◌, ◌+◌, ◌≤◌, ◌<◌, List, [], ◌∷◌, ◌++◌, IfOk};
+ghost use Rattle.std.specs.Prelude.{◌≡◌, ◌+◌, ◌≤◌, [], ◌∷◌, ◌++◌, IfOk};
 
 use crate::access::Access;
 use fsb_io::Memory;
@@ -33,7 +33,10 @@ impl Model for Log {
 
     ghost Value = { LogView };
 
-    ghost view = { λ log. record { entries = log.entries.items; spare = vec_capacity log.entries - vec_len log.entries } };
+    ghost view = { λ log. record {
+      entries = log.entries.items;
+      spare = vec_capacity log.entries - vec_len log.entries;
+    } };
 }
 
 impl Log {
