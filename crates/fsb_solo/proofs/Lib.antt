@@ -3,3 +3,4 @@ pub mod RequestBits
 pub mod TakeSteps
 pub mod TraceSteps
 pub mod KnownSamples
+pub mod SoloLaws

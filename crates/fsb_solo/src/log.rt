@@ -1,5 +1,8 @@
 //! The log.
-ghost use Rattle.std.specs.Prelude.{◌≡◌, ◌≤◌, ◌+◌, ◌==◌, if◌then◌else◌, List, length, IfOk, OnOk, OnErr};
+ghost use Rattle.std.specs.Prelude.{◌≡◌, ◌≤◌, ◌+◌, ◌==◌, if◌then◌else◌, List, length, IfOk};
+ghost use Rattle.fsb_access.specs.Replay.{Served};
+ghost use Rattle.fsb_access.specs.ScriptOrder.{InOrder, script_of};
+ghost use Rattle.fsb_access.specs.declared.item.Item.{Item};
 ghost use Rattle.fsb_solo.specs.SoloLog.{AreLawful, solo_log};
 
 use fsb_access::{Done, Flat, Item, Log, Setting};
@@ -13,7 +16,11 @@ pub fn log_of(alloc: Global, clocks: u32, settings: &[Setting], items: &[Item]) 
     requires few { length items.now ≤ 4096 }
     requires short { clocks ≤ 200000 }
     requires lawful { AreLawful items.now }
-    ensures { IfOk result (λ log. log.entries ≡ solo_log clocks settings.now items.now) }
+    ensures log { IfOk result (λ log. log.entries ≡ solo_log clocks settings.now items.now) }
+
+    // One byte memory that serves the entries singly gives their values; they keep to the script in order.
+    ensures served { IfOk result (λ log. Served settings.now log.entries) }
+    ensures in_order { (scripts : List (List Item)) → script_of scripts 0 ≡ items.now → IfOk result (λ log. InOrder scripts log.entries) }
 {
     let mut log = Log::with_room(alloc, items.len())?;
     let mut flat = Flat::new(alloc, settings)?;

@@ -5,7 +5,10 @@ use Rattle.fsb_access.specs.Access.{line_of}
 use Rattle.fsb_access.specs.FlatView.{state_of}
 use Rattle.fsb_access.specs.declared.access.Access.{Access}
 use Rattle.fsb_access.specs.declared.item.Item.{Item}
-use Rattle.fsb_solo.specs.SoloLog.{last_clock}
+use Rattle.fsb_access.specs.Replay.{Served}
+use Rattle.fsb_access.specs.ScriptOrder.{InOrder}
+use Rattle.fsb_solo.specs.SoloLog.{last_clock, solo_log}
+use Rattle.fsb_solo.proofs.SoloLaws.{served_solo, in_order_solo}
 use Rattle.fsb_solo.proofs.LogSteps.{Stands, HasNamed, drop_at, take_at, has_named_more, last_clock_of, stands_more, stands_same, entry_is, too_late, no_access, is_whole}
 use Rattle.fsb_solo.proofs.log.log_of.Goals as goal
 use Rattle.fsb_solo.proofs.log.log_of.Goals.{else-loop-number-test, then-loop-number-test+in_default, then-loop-number-test+in-One+in_ok-is_new+then-clock-clocks}
@@ -34,8 +37,8 @@ loop-number-preserved c =
     omega arith,
     omega arith)
 
-pub returns : goal.returns
-returns c =
+pub returns-clause-log : goal.returns-clause-log
+returns-clause-log c =
     elim c.loop-number-test.branch [
       else-loop-number-test w ↦ is_whole _ _ _ _ _ _ _ [] (drop_all _ _ w.loop-number-test.false) refl c.loop-number.invariant.0
     | then-loop-number-test+in_default w ↦ is_whole _ _ _ _ _ _ _ _
@@ -46,3 +49,11 @@ returns c =
         (too_late _ (take c.loop-number.number c.args.items.now) (drop (c.loop-number.number + 1) c.args.items.now) w.in-One.access (state_of c.loop-number.flat) c.loop-number.first (subst (λ n. c.args.clocks ≤ n)
             (lines_of _ (take c.loop-number.number c.args.items.now) w.in-One.access c.loop-number.first _ _ _ c.loop-number.invariant.1 w.in_ok-is_new.ensures.added w.line.ensures w.last_clock-clock.ensures) w.if-clock-clocks.true)) c.loop-number.invariant.0
     ]
+
+pub returns-clause-served : goal.returns-clause-served
+returns-clause-served c = subst (Served c.args.settings.now) (sym (returns-clause-log c)) (served_solo c.args.clocks c.args.settings.now c.args.items.now)
+
+pub returns-clause-in_order : goal.returns-clause-in_order
+returns-clause-in_order c scripts e =
+    subst (InOrder scripts) (sym (returns-clause-log c ∙ ap (solo_log c.args.clocks c.args.settings.now) (sym e)))
+    (in_order_solo c.args.clocks c.args.settings.now scripts)
