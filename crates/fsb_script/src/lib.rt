@@ -6,3 +6,4 @@ pub use plan::{Plan, Scripts, Settings, Window};
 
 mod fault;
 mod plan;
+mod word;
