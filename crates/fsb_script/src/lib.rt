@@ -5,5 +5,8 @@ pub use fault::{Cause, ScriptFault, ScriptStop};
 pub use plan::{Plan, Scripts, Settings, Window};
 
 mod fault;
+mod form;
+mod named;
 mod plan;
+mod statement;
 mod word;
