@@ -4,3 +4,7 @@ pub mod Statements
 pub mod Forms
 pub mod Named
 pub mod NamedTable
+pub mod Plans
+pub mod Bounds
+pub mod Drafts
+pub mod View

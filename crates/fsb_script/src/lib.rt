@@ -4,9 +4,12 @@
 pub use fault::{Cause, ScriptFault, ScriptStop};
 pub use plan::{Plan, Scripts, Settings, Window};
 
+mod bounds;
+mod draft;
 mod fault;
 mod form;
 mod named;
+mod place;
 mod plan;
 mod statement;
 mod word;

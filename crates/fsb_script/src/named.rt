@@ -1,4 +1,5 @@
-ghost use Rattle.std.specs.Prelude.{◌≡◌, ◌<◌, ◌≤◌, List, [], ◌∷◌, ◌++◌, IfOk, OnOk, OnErr};
+ghost use Rattle.std.specs.Prelude.{◌≡◌, ◌<◌, ◌==◌, List, [], ◌∷◌, ◌++◌, IfOk, OnOk};
+ghost use Rattle.std.specs.List.{list_any};
 ghost use Rattle.fsb_script.specs.Named.{has_other};
 
 use std::alloc::{AllocError, Global};
@@ -65,5 +66,44 @@ impl Named {
         ensures { result.now ≡ self.now.lines }
     {
         self.lines.as_slice()
+    }
+}
+
+/// The lines that the scripts of earlier agents name.
+#[derive(Debug, Drop)]
+pub(crate) struct Earlier {
+    lines: Vec<u64>,
+}
+
+impl Model for Earlier {
+    ghost use Rattle.std.specs.Prelude.{List, ℕ};
+
+    ghost Value = { List ℕ };
+
+    ghost view = { λ e. e.lines.items };
+}
+
+impl Earlier {
+    /// No line. It takes no memory.
+    pub(crate) fn new(alloc: Global) -> Self
+        ensures { result ≡ [] }
+    {
+        Earlier {
+            lines: Vec::new(alloc),
+        }
+    }
+
+    pub(crate) fn contains(&self, line: u64) -> bool
+        ensures { result ≡ list_any (λ other. other == line) self.now }
+    {
+        self.lines.contains(&line)
+    }
+
+    /// Adds the lines of a script that has ended.
+    pub(crate) fn extend(&mut self, lines: &[u64]) -> Result<(), AllocError>
+        ensures ok { OnOk result (self.new ≡ self.old ++ lines.now) }
+    {
+        self.lines.extend_from_slice(lines)?;
+        Ok(())
     }
 }
