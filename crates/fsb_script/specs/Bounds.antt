@@ -28,6 +28,9 @@ is_lock_size accesses = (nat_le 1 (length accesses) && nat_le (length accesses) 
 abbrev pub is_apart : ℕ → ℕ → ℕ → Bool
 is_apart cache line other = (line == other) || not (line % cache == other % cache)
 
+abbrev pub is_apart_from_all : ℕ → ℕ → List Access → Bool
+is_apart_from_all cache line accesses = list_all (λ other. is_apart cache line (line_of other)) accesses
+
 -- no two different lines of a locked item have one cache set
 unfoldable pub is_lock_apart : ℕ → List Access → Bool
-is_lock_apart cache accesses = list_all (λ access. list_all (λ other. is_apart cache (line_of access) (line_of other)) accesses) accesses
+is_lock_apart cache accesses = list_all (λ access. is_apart_from_all cache (line_of access) accesses) accesses

@@ -268,10 +268,18 @@ unfoldable pub next_agent_line : Progress → List ℕ → List ℕ → Result P
 next_agent_line d word line = if bytes_eq word (codes "agent") then agent_line d line else Err Word
 
 -- a line by its first word, where more than one may stand
-unfoldable pub choice_line : Progress → (Progress → List ℕ → List ℕ → Result Progress Cause) → List ℕ → Result Progress Cause
-choice_line d choice line = do
+abbrev pub choice_at : Place → Progress → List ℕ → List ℕ → Result Progress Cause
+choice_at places.Bridge d word line = body_line d word line
+choice_at places.Memory d word line = memory_line d word line
+choice_at places.Agent d word line = next_agent_line d word line
+choice_at places.Items d word line = item_line d word line
+choice_at places.Locked d word line = locked_line d word line
+choice_at _ d word line = hazard_line d word line
+
+unfoldable pub choice_line : Progress → List ℕ → Result Progress Cause
+choice_line d line = do
   w ← next_word line
-  choice d w.0 w.1
+  choice_at d.place d w.0 w.1
 
 -- a line that has words and is no comment
 abbrev pub line_at : Place → Progress → List ℕ → Result Progress Cause
@@ -280,12 +288,7 @@ line_at places.Agents d line = agents_line d line
 line_at places.Clocks d line = clocks_line d line
 line_at places.Cache d line = cache_line d line
 line_at places.Ahead d line = ahead_line d line
-line_at places.Bridge d line = choice_line d body_line line
-line_at places.Memory d line = choice_line d memory_line line
-line_at places.Agent d line = choice_line d next_agent_line line
-line_at places.Items d line = choice_line d item_line line
-line_at places.Locked d line = choice_line d locked_line line
-line_at places.Hazards d line = choice_line d hazard_line line
+line_at _ d line = choice_line d line
 
 -- whether a line is read past there: none is before the second line
 abbrev pub is_past : Place → List ℕ → Bool

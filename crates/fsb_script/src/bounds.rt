@@ -1,5 +1,5 @@
 ghost use Rattle.std.specs.Prelude.{◌≡◌, ◌<◌, ◌≤◌, length};
-ghost use Rattle.fsb_script.specs.Bounds.{is_cache, line_of, line_count, is_apart, is_lock_size, is_lock_apart};
+ghost use Rattle.fsb_script.specs.Bounds.{is_cache, line_of, line_count, is_apart, is_apart_from_all, is_lock_size, is_lock_apart};
 
 use fsb_access::Access;
 
@@ -55,11 +55,18 @@ pub(crate) fn is_lock_apart(cache: u32, accesses: &[Access]) -> bool
     requires { 0 < cache }
     ensures { result ≡ is_lock_apart cache accesses.now }
 {
-    accesses.iter().all(|access| {
-        accesses
-            .iter()
-            .all(|other| is_apart(cache, line_of(access), line_of(other)))
-    })
+    accesses
+        .iter()
+        .all(|access| is_apart_from_all(cache, line_of(access), accesses))
+}
+
+fn is_apart_from_all(cache: u32, line: u64, accesses: &[Access]) -> bool
+    requires { 0 < cache }
+    ensures { result ≡ is_apart_from_all cache line accesses.now }
+{
+    accesses
+        .iter()
+        .all(|other| is_apart(cache, line, line_of(other)))
 }
 
 fn is_apart(cache: u32, line: u64, other: u64) -> bool

@@ -1,4 +1,4 @@
-ghost use Rattle.std.specs.Prelude.{◌≡◌, ◌<◌, ◌+◌, ◌^◌, ◌++◌, length, IfOk, OnOk};
+ghost use Rattle.std.specs.Prelude.{◌≡◌, ◌<◌, ◌+◌, ◌^◌, ◌++◌, length, nat_lt, IfOk, OnOk};
 ghost use Rattle.fsb_script.specs.Reading.{Reads, LineGives};
 ghost use Rattle.fsb_script.specs.Statements.{settings_at};
 ghost use Rattle.fsb_script.specs.Drafts.{heading_of, ends_heading};
@@ -58,7 +58,7 @@ fn is_heading(line: &[u8]) -> bool
 
 impl Draft {
     ghost use Rattle.fsb_script.specs.View.{progress};
-    ghost use Rattle.fsb_script.specs.Drafts.{beginning, first_line, agents_line, clocks_line, cache_line, ahead_line, bridge_line, mem_line, agent_line};
+    ghost use Rattle.fsb_script.specs.Drafts.{beginning, first_line, agents_line, clocks_line, cache_line, ahead_line, bridge_line, mem_line, agent_line, named_line, one_item, load_item, store_item, idle_item, lock_item, end_line, item_line, locked_access, unlock_line, locked_line, add_hazard, transaction_line, block_line, hazard_line, memory_line, body_line, next_agent_line, choice_line, line_at, is_past, after_line};
 
     /// Before the first line.
     pub(crate) fn new(alloc: Global) -> Result<Self, AllocError>
@@ -190,6 +190,319 @@ impl Draft {
         self.named = Named::new(alloc, self.cache)?;
         self.place = Place::Items;
         Ok(())
+    }
+
+    /// Names the line of an access.
+    #[tactic(auto, unfolding(crate::specs::Drafts::named_line, crate::specs::Forms::built_if, crate::specs::Forms::built))]
+    fn named_line(&mut self, line: u64) -> Result<(), LineStop>
+        ensures { LineGives (λ _. progress self.new) result (named_line (progress self.old) line) }
+    {
+        if self.earlier.contains(line) && !Form::Foreign.is_built() {
+            return Err(LineStop::Bad(Cause::Unbuilt));
+        }
+        if self.named.has_other(line) && !Form::Evicting.is_built() {
+            return Err(LineStop::Bad(Cause::Unbuilt));
+        }
+        self.named.push(line)?;
+        Ok(())
+    }
+
+    #[tactic(auto, unfolding(crate::specs::Drafts::one_item))]
+    fn one_item(&mut self, access: Access) -> Result<(), LineStop>
+        ensures { LineGives (λ _. progress self.new) result (one_item (progress self.old) access) }
+    {
+        self.named_line(line_of(&access))?;
+        self.script.push(Item::One(access))?;
+        Ok(())
+    }
+
+    /// Whether the script has room for one item more.
+    fn has_room(&self) -> bool
+        ensures { result ≡ nat_lt (length self.now.script) 4096 }
+    {
+        self.script.as_slice().len() < ITEMS
+    }
+
+    #[tactic(auto, unfolding(crate::specs::Drafts::load_item))]
+    fn load_item(&mut self, line: &[u8]) -> Result<(), LineStop>
+        ensures { LineGives (λ _. progress self.new) result (load_item (progress self.old) line.now) }
+    {
+        if !self.has_room() {
+            return Err(LineStop::Bad(Cause::Range));
+        }
+        let access = load_of(line)?;
+        self.one_item(access)
+    }
+
+    #[tactic(auto, unfolding(crate::specs::Drafts::store_item))]
+    fn store_item(&mut self, line: &[u8]) -> Result<(), LineStop>
+        ensures { LineGives (λ _. progress self.new) result (store_item (progress self.old) line.now) }
+    {
+        if !self.has_room() {
+            return Err(LineStop::Bad(Cause::Range));
+        }
+        let access = store_of(line)?;
+        self.one_item(access)
+    }
+
+    #[tactic(auto, unfolding(crate::specs::Drafts::idle_item, crate::specs::Forms::built))]
+    fn idle_item(&mut self, line: &[u8]) -> Result<(), LineStop>
+        ensures { LineGives (λ _. progress self.new) result (idle_item (progress self.old) line.now) }
+    {
+        if !self.has_room() {
+            return Err(LineStop::Bad(Cause::Range));
+        }
+        let clocks = idle_of(line)?;
+        if !Form::Idle.is_built() {
+            return Err(LineStop::Bad(Cause::Unbuilt));
+        }
+        self.script.push(Item::Idle(clocks))?;
+        Ok(())
+    }
+
+    #[tactic(auto, unfolding(crate::specs::Drafts::lock_item, crate::specs::Words::ended, crate::specs::Forms::built))]
+    fn lock_item(&mut self, alloc: Global, line: &[u8]) -> Result<(), Cause>
+        ensures { Reads (λ _. progress self.new) result (lock_item (progress self.old) line.now) }
+    {
+        if !self.has_room() {
+            return Err(Cause::Range);
+        }
+        if !is_ended(line) {
+            return Err(Cause::After);
+        }
+        if !Form::Lock.is_built() {
+            return Err(Cause::Unbuilt);
+        }
+        self.group = Group::new(alloc);
+        self.place = Place::Locked;
+        Ok(())
+    }
+
+    #[tactic(auto, unfolding(crate::specs::Drafts::end_line, crate::specs::Words::ended))]
+    fn end_line(&mut self, alloc: Global, line: &[u8]) -> Result<(), LineStop>
+        ensures { LineGives (λ _. progress self.new) result (end_line (progress self.old) line.now) }
+    {
+        if !is_ended(line) {
+            return Err(LineStop::Bad(Cause::After));
+        }
+        let script = mem::replace(&mut self.script, Script::new(alloc));
+        self.scripts.push(script)?;
+        self.earlier.extend(self.named.lines())?;
+        self.place = if self.scripts.as_slice().len() == self.agents as usize {
+            Place::Hazards
+        } else {
+            Place::Agent
+        };
+        Ok(())
+    }
+
+    /// A line between `agent` and `end`.
+    #[tactic(auto, unfolding(crate::specs::Drafts::item_line))]
+    fn item_line(&mut self, alloc: Global, word: &[u8], line: &[u8]) -> Result<(), LineStop>
+        ensures { LineGives (λ _. progress self.new) result (item_line (progress self.old) word.now line.now) }
+    {
+        if word == b"ld".as_slice() {
+            self.load_item(line)
+        } else if word == b"st".as_slice() {
+            self.store_item(line)
+        } else if word == b"idle".as_slice() {
+            self.idle_item(line)
+        } else if word == b"lock".as_slice() {
+            self.lock_item(alloc, line)?;
+            Ok(())
+        } else if word == b"end".as_slice() {
+            self.end_line(alloc, line)
+        } else {
+            Err(LineStop::Bad(Cause::Word))
+        }
+    }
+
+    #[tactic(auto, unfolding(crate::specs::Drafts::locked_access))]
+    fn locked_access(&mut self, access: Access) -> Result<(), LineStop>
+        ensures { LineGives (λ _. progress self.new) result (locked_access (progress self.old) access) }
+    {
+        self.named_line(line_of(&access))?;
+        self.group.push(access)?;
+        Ok(())
+    }
+
+    #[tactic(auto, unfolding(crate::specs::Drafts::unlock_line, crate::specs::Words::ended))]
+    fn unlock_line(&mut self, alloc: Global, line: &[u8]) -> Result<(), LineStop>
+        ensures { LineGives (λ _. progress self.new) result (unlock_line (progress self.old) line.now) }
+    {
+        if !is_ended(line) {
+            return Err(LineStop::Bad(Cause::After));
+        }
+        if !is_lock_size(self.group.as_slice()) {
+            return Err(LineStop::Bad(Cause::LockSize));
+        }
+        if !is_lock_apart(self.cache, self.group.as_slice()) {
+            return Err(LineStop::Bad(Cause::LockConflict));
+        }
+        let group = mem::replace(&mut self.group, Group::new(alloc));
+        self.script.push(Item::Locked(group))?;
+        self.place = Place::Items;
+        Ok(())
+    }
+
+    /// A line between `lock` and `unlock`.
+    #[tactic(auto, unfolding(crate::specs::Drafts::locked_line))]
+    fn locked_line(&mut self, alloc: Global, word: &[u8], line: &[u8]) -> Result<(), LineStop>
+        ensures { LineGives (λ _. progress self.new) result (locked_line (progress self.old) word.now line.now) }
+    {
+        if word == b"ld".as_slice() {
+            let access = load_of(line)?;
+            self.locked_access(access)
+        } else if word == b"st".as_slice() {
+            let access = store_of(line)?;
+            self.locked_access(access)
+        } else if word == b"unlock".as_slice() {
+            self.unlock_line(alloc, line)
+        } else {
+            Err(LineStop::Bad(Cause::Word))
+        }
+    }
+
+    #[tactic(auto, unfolding(crate::specs::Drafts::add_hazard, crate::specs::Forms::built))]
+    fn add_hazard(&mut self, hazard: HazardLine) -> Result<(), LineStop>
+        ensures { LineGives (λ _. progress self.new) result (add_hazard (progress self.old) hazard) }
+    {
+        if !Form::Hazard(hazard).is_built() {
+            return Err(LineStop::Bad(Cause::Unbuilt));
+        }
+        self.hazards.push(hazard)?;
+        Ok(())
+    }
+
+    /// Whether there is room for one hazard line more.
+    fn has_hazard_room(&self) -> bool
+        ensures { result ≡ nat_lt (length self.now.hazards) 4096 }
+    {
+        self.hazards.as_slice().len() < ITEMS
+    }
+
+    #[tactic(auto, unfolding(crate::specs::Drafts::transaction_line))]
+    fn transaction_line(&mut self, line: &[u8]) -> Result<(), LineStop>
+        ensures { LineGives (λ _. progress self.new) result (transaction_line (progress self.old) line.now) }
+    {
+        if !self.has_hazard_room() {
+            return Err(LineStop::Bad(Cause::Range));
+        }
+        let hazard = transaction_of(line)?;
+        self.add_hazard(hazard)
+    }
+
+    #[tactic(auto, unfolding(crate::specs::Drafts::block_line))]
+    fn block_line(&mut self, line: &[u8]) -> Result<(), LineStop>
+        ensures { LineGives (λ _. progress self.new) result (block_line (progress self.old) line.now) }
+    {
+        if !self.has_hazard_room() {
+            return Err(LineStop::Bad(Cause::Range));
+        }
+        let hazard = block_of(line)?;
+        self.add_hazard(hazard)
+    }
+
+    /// A line behind the last script.
+    #[tactic(auto, unfolding(crate::specs::Drafts::hazard_line))]
+    fn hazard_line(&mut self, word: &[u8], line: &[u8]) -> Result<(), LineStop>
+        ensures { LineGives (λ _. progress self.new) result (hazard_line (progress self.old) word.now line.now) }
+    {
+        if word == b"tx".as_slice() {
+            self.transaction_line(line)
+        } else if word == b"bnr".as_slice() {
+            self.block_line(line)
+        } else {
+            Err(LineStop::Bad(Cause::Word))
+        }
+    }
+
+    #[tactic(auto, unfolding(crate::specs::Drafts::memory_line))]
+    fn memory_line(&mut self, alloc: Global, word: &[u8], line: &[u8]) -> Result<(), LineStop>
+        ensures { LineGives (λ _. progress self.new) result (memory_line (progress self.old) word.now line.now) }
+    {
+        if word == b"mem".as_slice() {
+            self.mem_line(line)
+        } else if word == b"agent".as_slice() {
+            self.agent_line(alloc, line)
+        } else {
+            Err(LineStop::Bad(Cause::Word))
+        }
+    }
+
+    #[tactic(auto, unfolding(crate::specs::Drafts::body_line))]
+    fn body_line(&mut self, alloc: Global, word: &[u8], line: &[u8]) -> Result<(), LineStop>
+        ensures { LineGives (λ _. progress self.new) result (body_line (progress self.old) word.now line.now) }
+    {
+        if word == b"bridge".as_slice() {
+            self.bridge_line(line)?;
+            Ok(())
+        } else {
+            self.memory_line(alloc, word, line)
+        }
+    }
+
+    #[tactic(auto, unfolding(crate::specs::Drafts::next_agent_line))]
+    fn next_agent_line(&mut self, alloc: Global, word: &[u8], line: &[u8]) -> Result<(), LineStop>
+        ensures { LineGives (λ _. progress self.new) result (next_agent_line (progress self.old) word.now line.now) }
+    {
+        if word == b"agent".as_slice() {
+            self.agent_line(alloc, line)
+        } else {
+            Err(LineStop::Bad(Cause::Word))
+        }
+    }
+
+    /// A line where more than one first word may stand.
+    #[tactic(auto, unfolding(crate::specs::Drafts::choice_line))]
+    fn choice_line(&mut self, alloc: Global, line: &[u8]) -> Result<(), LineStop>
+        ensures { LineGives (λ _. progress self.new) result (choice_line (progress self.old) line.now) }
+    {
+        let (word, rest) = next_word(line)?;
+        match self.place {
+            Place::Bridge => self.body_line(alloc, word, rest),
+            Place::Memory => self.memory_line(alloc, word, rest),
+            Place::Agent => self.next_agent_line(alloc, word, rest),
+            Place::Items => self.item_line(alloc, word, rest),
+            Place::Locked => self.locked_line(alloc, word, rest),
+            _ => self.hazard_line(word, rest),
+        }
+    }
+
+    /// A line that may stand first, or where one first word may stand alone.
+    fn fixed_line(&mut self, alloc: Global, line: &[u8]) -> Result<(), LineStop>
+        ensures { LineGives (λ _. progress self.new) result (line_at self.old.place (progress self.old) line.now) }
+    {
+        match self.place {
+            Place::First => self.first_line(line)?,
+            Place::Agents => self.agents_line(line)?,
+            Place::Clocks => self.clocks_line(line)?,
+            Place::Cache => self.cache_line(line)?,
+            Place::Ahead => self.ahead_line(line)?,
+            _ => self.choice_line(alloc, line)?,
+        }
+        Ok(())
+    }
+
+    /// Whether a line is read past.
+    fn is_past(&self, line: &[u8]) -> bool
+        ensures { result ≡ is_past self.now.place line.now }
+    {
+        match self.place {
+            Place::First => false,
+            _ => is_read_past(line),
+        }
+    }
+
+    /// Takes the next line.
+    #[tactic(auto, unfolding(crate::specs::Drafts::after_line))]
+    pub(crate) fn take(&mut self, alloc: Global, line: &[u8]) -> Result<(), LineStop>
+        ensures { LineGives (λ _. progress self.new) result (after_line (progress self.old) line.now) }
+    {
+        if self.is_past(line) {
+            return Ok(());
+        }
+        self.fixed_line(alloc, line)
     }
 }
 
