@@ -15,10 +15,14 @@ abbrev pub line_of : Access → ℕ
 line_of (Load size addr) = addr / 32
 line_of (Store size addr value) = addr / 32
 
+-- whether an access of the list is to the line
+unfoldable pub names_line : ℕ → List Access → Bool
+names_line line accesses = list_any (λ other. line_of other == line) accesses
+
 -- how many different lines the accesses have
 abbrev pub line_count : List Access → ℕ
 line_count [] = 0
-line_count (access ∷ accesses) = (if list_any (λ other. line_of other == line_of access) accesses then 0 else 1) + line_count accesses
+line_count (access ∷ accesses) = (if names_line (line_of access) accesses then 0 else 1) + line_count accesses
 
 -- a locked item has 1 to 8 accesses and at most 4 different lines
 unfoldable pub is_lock_size : List Access → Bool

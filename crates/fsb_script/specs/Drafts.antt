@@ -145,7 +145,7 @@ room d = require (nat_lt (length d.script) 4096) Range d
 unfoldable pub one_item : Progress → Access → Result Progress Cause
 one_item d access = do
   e ← named_line d (line_of access)
-  Ok (record e { script = d.script ++ One access ∷ [] })
+  Ok (record e { script = e.script ++ One access ∷ [] })
 
 unfoldable pub load_item : Progress → List ℕ → Result Progress Cause
 load_item d line = do
@@ -203,7 +203,7 @@ item_line d word line =
 unfoldable pub locked_access : Progress → Access → Result Progress Cause
 locked_access d access = do
   e ← named_line d (line_of access)
-  Ok (record e { group = d.group ++ access ∷ [] })
+  Ok (record e { group = e.group ++ access ∷ [] })
 
 -- a locked item ends
 unfoldable pub unlock_line : Progress → List ℕ → Result Progress Cause

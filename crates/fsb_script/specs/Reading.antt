@@ -1,5 +1,5 @@
 -- Reading from left to right, where the first cause is the answer.
-use Rattle.std.specs.Prelude.{◌≡◌, Result, Ok, Err, Bool, if◌then◌else◌}
+use Rattle.std.specs.Prelude.{◌≡◌, ℕ, Result, Ok, Err, Bool, if◌then◌else◌}
 use Rattle.fsb_script.specs.declared.fault.Cause.{Cause}
 use Rattle.fsb_script.specs.declared.fault.LineStop.{LineStop}
 use Rattle.fsb_script.specs.declared.fault.LineStop.TheVariants as stops
@@ -30,6 +30,11 @@ LineFails (stops.Bad cause) read = read ≡ Err cause
 abbrev pub LineGives : {X Y : Type 0} → (X → Y) → Result X LineStop → Result Y Cause → Type 0
 LineGives view (Ok x) read = read ≡ Ok (view x)
 LineGives view (Err e) read = LineFails e read
+
+-- why a text is not read, where the line of this number was not taken
+abbrev pub stop_at : ℕ → LineStop → ScriptStop
+stop_at number stops.Memory = ends.Memory
+stop_at number (stops.Bad cause) = ends.Bad (record { line = number; cause = cause })
 
 -- the same, for a whole text
 abbrev pub Fails : {Y : Type 0} → ScriptStop → Result Y ScriptFault → Type 0

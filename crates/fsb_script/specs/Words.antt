@@ -17,6 +17,11 @@ abbrev pub lines_of : List ℕ → List (List ℕ)
 lines_of [] = []
 lines_of (b ∷ bs) = before_lines b (lines_of bs)
 
+-- how many bytes stand before the first line feed
+abbrev pub line_len : List ℕ → ℕ
+line_len [] = 0
+line_len (b ∷ bs) = if b == 10 then 0 else 1 + line_len bs
+
 -- what divides words: spaces, tabs and carriage returns
 abbrev pub is_blank : ℕ → Bool
 is_blank b = ((b == 32) || (b == 9)) || (b == 13)

@@ -1,5 +1,5 @@
 ghost use Rattle.std.specs.Prelude.{◌≡◌, ◌<◌, ◌≤◌, length};
-ghost use Rattle.fsb_script.specs.Bounds.{is_cache, line_of, line_count, is_apart, is_apart_from_all, is_lock_size, is_lock_apart};
+ghost use Rattle.fsb_script.specs.Bounds.{is_cache, line_of, names_line, line_count, is_apart, is_apart_from_all, is_lock_size, is_lock_apart};
 
 use fsb_access::Access;
 
@@ -23,6 +23,13 @@ pub(crate) fn line_of(access: &Access) -> u64
     }
 }
 
+#[tactic(auto, unfolding(crate::specs::Bounds::names_line))]
+fn names_line(line: u64, accesses: &[Access]) -> bool
+    ensures { result ≡ names_line line accesses.now }
+{
+    accesses.iter().any(|other| line_of(other) == line)
+}
+
 /// How many different lines the accesses have, of which there are few.
 fn line_count(accesses: &[Access]) -> usize
     requires { length accesses.now ≤ 8 }
@@ -32,11 +39,12 @@ fn line_count(accesses: &[Access]) -> usize
     match accesses {
         [] => 0,
         [access, others @ ..] => {
-            let again = others
-                .iter()
-                .any(|other| line_of(other) == line_of(access));
             let count = line_count(others);
-            if again { count } else { 1 + count }
+            if names_line(line_of(access), others) {
+                count
+            } else {
+                1 + count
+            }
         }
     }
 }

@@ -3,6 +3,7 @@
 
 pub use fault::{Cause, ScriptFault, ScriptStop};
 pub use plan::{Plan, Scripts, Settings, Window};
+pub use read::read_bench;
 
 mod bounds;
 mod draft;
@@ -11,5 +12,6 @@ mod form;
 mod named;
 mod place;
 mod plan;
+mod read;
 mod statement;
 mod word;
