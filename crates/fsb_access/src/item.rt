@@ -117,4 +117,15 @@ impl Script {
     {
         self.items.as_slice()
     }
+
+    /// A script of equal items.
+    pub fn copy(&self, alloc: Global) -> Result<Self, Memory>
+        ensures { IfOk result (λ script. script ≡ self.now) }
+    {
+        let mut items = Vec::with_capacity(alloc, self.items.len())?;
+        for item in &self.items {
+            items.push(item.copy(alloc)?)?;
+        }
+        Ok(Script { items })
+    }
 }

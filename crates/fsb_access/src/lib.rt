@@ -1,8 +1,26 @@
-//! What an agent is asked to do: accesses, items and scripts; what it did: the log.
+//! What the agents are asked to do, and what they did.
+//!
+//! An agent has a [`Script`]: a list of [`Item`]s, each a single [`Access`], a locked [`Group`] of accesses, or clocks
+//! spent idle. Each completed access becomes one [`Done`] entry of the [`Log`].
+//!
+//! Two definitions say what a log is worth, and they stand in `specs/`, for every crate to cite:
+//!
+//! - `Served settings log` (`specs/Replay.antt`): the entries, served one after the other on one byte memory that
+//!   begins with the settings, give exactly the values that the log has.
+//! - `InOrder scripts log` (`specs/ScriptOrder.antt`): each agent's entries are its script's accesses in order, up to
+//!   the end of an item, and the entries of one item are neighbours.
+//!
+//! [`Flat`] is that byte memory as a program: its `serve` is one step of the replay.
 #![tactic(auto)]
 
 pub use access::{Access, Operand, Setting};
+pub use flat::Flat;
 pub use item::{Group, Item, Script};
+pub use log::{Done, Log};
 
 mod access;
+mod flat;
 mod item;
+mod log;
+#[cfg(test)]
+mod tests;

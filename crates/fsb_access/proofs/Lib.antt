@@ -1,0 +1,4 @@
+pub mod Chunks
+pub mod OrderLaws
+pub mod ReplayLaws
+pub mod WorkedLogs

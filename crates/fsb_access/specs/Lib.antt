@@ -1,0 +1,6 @@
+pub mod Access
+pub mod ByteMemory
+pub mod FlatView
+pub mod LogView
+pub mod Replay
+pub mod ScriptOrder

@@ -1,0 +1,144 @@
+ghost use Rattle.std.specs.Prelude.{◌≡◌, ℕ, ◌+◌, ◌-◌, ◌*◌, ◌%◌, ◌^◌, ◌<◌, ◌≤◌, ◌&&◌, nat_le, nat_lt, if◌then◌else◌, IsTrue, IfOk, OnOk, OnErr, length, slice_index};
+ghost use Rattle.fsb_access.specs.Access.{is_size, is_place, IsLawfulAccess};
+ghost use Rattle.fsb_access.specs.ByteMemory.{value_of_bytes, put_bytes};
+ghost use Rattle.fsb_access.specs.FlatView.{chunk_bytes, memory_of_chunks, state_of};
+ghost use Rattle.fsb_access.specs.Replay.{start_of, served_value, state_after, put_of};
+
+use crate::access::{Access, CHUNK_BYTES, Operand, Setting};
+use fsb_io::Memory;
+use std::alloc::Global;
+use std::collections::BTreeMap;
+use std::marker::Model;
+
+/// One byte memory that all agents share, and the value that each of them loaded last: a replay as a program.
+#[derive(Debug, Drop)]
+pub struct Flat {
+    /// The bytes of each chunk that was put to, by the chunk's number: its address divided by eight.
+    chunks: BTreeMap<u64, [u8; 8]>,
+    /// The value that each agent loaded last, 0 before any load.
+    last: [u64; 4],
+}
+
+impl Model for Flat {
+    ghost use Rattle.fsb_access.specs.FlatView.{FlatView};
+
+    ghost Value = { FlatView };
+
+    ghost view = { λ flat. record { chunks = flat.chunks.entries; last = flat.last } };
+}
+
+impl Flat {
+    /// The memory that the settings make, before any access: later settings win, and all other bytes are 0.
+    pub fn new(alloc: Global, sets: &[Setting]) -> Result<Flat, Memory>
+        ensures { IfOk result (λ flat. state_of flat ≡ start_of sets.now) }
+    {
+        let mut flat = Flat {
+            chunks: BTreeMap::new(alloc),
+            last: [0; 4],
+        };
+        for setting in sets {
+            flat.put(setting.addr, &[setting.byte])?;
+        }
+        Ok(flat)
+    }
+
+    /// Serves one access: the value that is loaded or stored. After `Memory` nothing changed.
+    pub fn serve(&mut self, agent: u8, access: &Access) -> Result<u64, Memory>
+        requires symmetric { agent < 4 }
+        requires lawful { IsLawfulAccess access.now }
+        ensures value { IfOk result (λ value. value ≡ served_value (state_of self.old) agent access.now) }
+        ensures moves { OnOk result (state_of self.new ≡ state_after (state_of self.old) agent access.now) }
+        ensures stays { OnErr result (self.new ≡ self.old) }
+    {
+        match access {
+            Access::Load { size, addr } => Ok(self.load(agent, *size, *addr)),
+            Access::Store { size, addr, value } => self.store(agent, *size, *addr, value),
+        }
+    }
+
+    /// A load of so many bytes at this address.
+    fn load(&mut self, agent: u8, size: u8, addr: u64) -> u64
+        requires symmetric { agent < 4 }
+        requires place { IsTrue (is_place size addr) }
+        ensures value { result ≡ served_value (state_of self.old) agent (Access.Load size addr) }
+        ensures moves { state_of self.new ≡ state_after (state_of self.old) agent (Access.Load size addr) }
+    {
+        let chunk = self.chunk(addr / CHUNK_BYTES);
+        let start = (addr % CHUNK_BYTES) as usize;
+        let value = value_of(&chunk[start..start + usize::from(size)]);
+        self.last[usize::from(agent)] = value;
+        value
+    }
+
+    /// A store of so many bytes at this address.
+    fn store(&mut self, agent: u8, size: u8, addr: u64, value: &Operand) -> Result<u64, Memory>
+        requires symmetric { agent < 4 }
+        requires place { IsTrue (is_place size addr) }
+        ensures value { IfOk result (λ number. number ≡ served_value (state_of self.old) agent (Access.Store size addr value.now)) }
+        ensures moves { OnOk result (state_of self.new ≡ state_after (state_of self.old) agent (Access.Store size addr value.now)) }
+        ensures stays { OnErr result (self.new ≡ self.old) }
+    {
+        let number = number_put(size, self.last[usize::from(agent)], value);
+        self.put(addr, &number.to_le_bytes()[..usize::from(size)])?;
+        Ok(number)
+    }
+
+    /// The bytes of a chunk.
+    fn chunk(&self, number: u64) -> [u8; 8]
+        ensures bytes { result ≡ chunk_bytes self.now.chunks number }
+        ensures eight { length result ≡ 8 }
+    {
+        self.chunks.get(&number).copied().unwrap_or([0; 8])
+    }
+
+    /// Puts bytes that lie within one chunk. After `Memory` nothing changed.
+    fn put(&mut self, addr: u64, bytes: &[u8]) -> Result<(), Memory>
+        requires { addr % 8 + length bytes.now ≤ 8 }
+        ensures put { OnOk result (memory_of_chunks self.new.chunks ≡ put_bytes (memory_of_chunks self.old.chunks) addr bytes.now) }
+        ensures last { self.new.last ≡ self.old.last }
+        ensures stays { OnErr result (self.new ≡ self.old) }
+    {
+        let number = addr / CHUNK_BYTES;
+        let start = (addr % CHUNK_BYTES) as usize;
+        let mut chunk = self.chunk(number);
+        chunk[start..start + bytes.len()].copy_from_slice(bytes);
+        self.chunks.insert(number, chunk)?;
+        Ok(())
+    }
+}
+
+/// The number that a store puts, given its agent's last loaded value.
+fn number_put(size: u8, last: u64, value: &Operand) -> u64
+    requires { IsTrue (is_size size) }
+    ensures { result ≡ put_of size last value.now }
+{
+    match value {
+        Operand::Literal(number) => *number,
+        Operand::LastPlus(number) => cut(size, last.wrapping_add(*number)),
+    }
+}
+
+/// A number cut to so many bytes.
+fn cut(size: u8, number: u64) -> u64
+    requires { IsTrue (is_size size) }
+    ensures { result ≡ number % 2 ^ (8 * size) }
+{
+    match size {
+        1 => number % 0x100,
+        2 => number % 0x1_0000,
+        4 => number % 0x1_0000_0000,
+        _ => number,
+    }
+}
+
+/// The number that at most eight bytes spell, the lowest first.
+fn value_of(bytes: &[u8]) -> u64
+    requires { length bytes.now ≤ 8 }
+    ensures value { result ≡ value_of_bytes bytes.now }
+    ensures bound { result < 256 ^ length bytes.now }
+{
+    match bytes {
+        [] => 0,
+        [first, rest @ ..] => u64::from(*first) + 0x100 * value_of(rest),
+    }
+}
