@@ -20,7 +20,8 @@ use Rattle.fsb_script.specs.Words.{lines_of, skip_blanks, is_empty, is_read_past
 use Rattle.fsb_script.specs.Statements.{keyword, load_of, store_of, idle_of, window_of, memory_of, settings_at, agent_of, transaction_of, block_of}
 use Rattle.fsb_script.specs.Forms.{built, built_if}
 use Rattle.fsb_script.specs.Named.{Lines, has_other}
-use Rattle.fsb_script.specs.Bounds.{is_cache, line_of, is_lock_size, is_lock_apart}
+use Rattle.fsb_script.specs.Bounds.{is_cache, is_lock_size, is_lock_apart}
+use Rattle.fsb_access.specs.Access.{line_of}
 use Rattle.fsb_script.specs.Plans.{PlanView}
 
 -- what the lines so far have said, and which lines may stand next

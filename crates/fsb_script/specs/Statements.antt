@@ -6,6 +6,7 @@ use Rattle.fsb_access.specs.declared.access.Access.TheVariants.{Load, Store}
 use Rattle.fsb_access.specs.declared.access.Operand.{Operand}
 use Rattle.fsb_access.specs.declared.access.Operand.TheVariants.{Literal, LastPlus}
 use Rattle.fsb_access.specs.declared.access.Setting.{Setting}
+use Rattle.fsb_access.specs.Access.{is_size, fits}
 use Rattle.fsb_hazard.specs.declared.line.HazardLine.{HazardLine}
 use Rattle.fsb_hazard.specs.declared.line.HazardLine.TheVariants.{Stall, Trdy, Resp, Gap, Retry, Defer, Aerr, Bnr}
 use Rattle.fsb_script.specs.declared.fault.Cause.{Cause}
@@ -19,10 +20,6 @@ unfoldable pub keyword : List ℕ → List ℕ → Result (List ℕ) Cause
 keyword name line = do
   w ← next_word line
   require (bytes_eq w.0 name) Word w.1
-
--- an access has 1, 2, 4 or 8 bytes
-abbrev pub is_size : ℕ → Bool
-is_size n = ((n == 1) || (n == 2)) || ((n == 4) || (n == 8))
 
 unfoldable pub size_at : List ℕ → Result (ℕ × List ℕ) Cause
 size_at line = do
@@ -46,14 +43,11 @@ load_of line = do
 abbrev pub is_added : List ℕ → Bool
 is_added word = nat_le 2 (length word) && ((slice_index word 0 == 114) && (slice_index word 1 == 43))
 
-abbrev pub value_fits : ℕ → ℕ → Bool
-value_fits size n = nat_lt n (2 ^ (8 * size))
-
 -- a literal or an added number, below what the size holds
 unfoldable pub literal_of : ℕ → List ℕ → Result ℕ Cause
 literal_of size word = do
   n ← hex_of word
-  require (value_fits size n) Range n
+  require (fits size n) Range n
 
 unfoldable pub operand_of : ℕ → List ℕ → Result Operand Cause
 operand_of size word =

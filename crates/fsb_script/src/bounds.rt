@@ -1,5 +1,5 @@
 ghost use Rattle.std.specs.Prelude.{◌≡◌, ◌<◌, ◌≤◌, length};
-ghost use Rattle.fsb_script.specs.Bounds.{is_cache, line_of, names_line, line_count, is_apart, is_apart_from_all, is_lock_size, is_lock_apart};
+ghost use Rattle.fsb_script.specs.Bounds.{is_cache, names_line, line_count, is_apart, is_apart_from_all, is_lock_size, is_lock_apart};
 
 use fsb_access::Access;
 
@@ -13,21 +13,11 @@ pub(crate) fn is_cache(lines: u64) -> bool
     matches!(lines, 1 | 2 | 4 | 8 | 16 | 32 | 64 | 128 | 256 | 512 | 1024)
 }
 
-/// The line of an access: its address divided by 32.
-pub(crate) fn line_of(access: &Access) -> u64
-    ensures { result ≡ line_of access.now }
-{
-    match access {
-        Access::Load { addr, .. } => *addr / 32,
-        Access::Store { addr, .. } => *addr / 32,
-    }
-}
-
 #[tactic(auto, unfolding(crate::specs::Bounds::names_line))]
 fn names_line(line: u64, accesses: &[Access]) -> bool
     ensures { result ≡ names_line line accesses.now }
 {
-    accesses.iter().any(|other| line_of(other) == line)
+    accesses.iter().any(|other| other.line() == line)
 }
 
 /// How many different lines the accesses have, of which there are few.
@@ -40,7 +30,7 @@ fn line_count(accesses: &[Access]) -> usize
         [] => 0,
         [access, others @ ..] => {
             let count = line_count(others);
-            if names_line(line_of(access), others) {
+            if names_line(access.line(), others) {
                 count
             } else {
                 1 + count
@@ -65,7 +55,7 @@ pub(crate) fn is_lock_apart(cache: u32, accesses: &[Access]) -> bool
 {
     accesses
         .iter()
-        .all(|access| is_apart_from_all(cache, line_of(access), accesses))
+        .all(|access| is_apart_from_all(cache, access.line(), accesses))
 }
 
 fn is_apart_from_all(cache: u32, line: u64, accesses: &[Access]) -> bool
@@ -74,7 +64,7 @@ fn is_apart_from_all(cache: u32, line: u64, accesses: &[Access]) -> bool
 {
     accesses
         .iter()
-        .all(|other| is_apart(cache, line, line_of(other)))
+        .all(|other| is_apart(cache, line, other.line()))
 }
 
 fn is_apart(cache: u32, line: u64, other: u64) -> bool

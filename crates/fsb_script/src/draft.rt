@@ -3,7 +3,7 @@ ghost use Rattle.fsb_script.specs.Reading.{Reads, LineGives};
 ghost use Rattle.fsb_script.specs.Statements.{settings_at};
 ghost use Rattle.fsb_script.specs.Drafts.{heading_of, ends_heading};
 
-use crate::bounds::{ITEMS, is_cache, is_lock_apart, is_lock_size, line_of};
+use crate::bounds::{ITEMS, is_cache, is_lock_apart, is_lock_size};
 use crate::fault::{Cause, LineStop};
 use crate::form::Form;
 use crate::named::{Earlier, Named};
@@ -211,7 +211,7 @@ impl Draft {
     fn one_item(&mut self, access: Access) -> Result<(), LineStop>
         ensures { LineGives (λ _. progress self.new) result (one_item (progress self.old) access) }
     {
-        self.named_line(line_of(&access))?;
+        self.named_line(access.line())?;
         self.script.push(Item::One(access))?;
         Ok(())
     }
@@ -321,7 +321,7 @@ impl Draft {
     fn locked_access(&mut self, access: Access) -> Result<(), LineStop>
         ensures { LineGives (λ _. progress self.new) result (locked_access (progress self.old) access) }
     {
-        self.named_line(line_of(&access))?;
+        self.named_line(access.line())?;
         self.group.push(access)?;
         Ok(())
     }

@@ -1,6 +1,8 @@
 ghost use Rattle.std.specs.Prelude.{◌≡◌, ◌+◌, ◌<◌, ◌≤◌, ◌^◌, ◌*◌, ◌%◌, length, List, [], ◌∷◌, ◌++◌, IfOk, OnOk, IsTrue, codes};
+ghost use Rattle.fsb_access.specs.Access.{is_size, is_place, fits, number_of, is_lawful_access};
 ghost use Rattle.fsb_script.specs.Reading.{Reads};
-ghost use Rattle.fsb_script.specs.Statements.{keyword, is_size, size_at, aligned_at, load_of, is_added, value_fits, literal_of, operand_of, store_of, idle_of, window_of, bytes_from, bytes_of, memory_of, agent_of, count_of, later_of, turn_of, transaction_of, block_of};
+ghost use Rattle.fsb_script.specs.Bounds.{is_lawful_window, is_lawful_hazard};
+ghost use Rattle.fsb_script.specs.Statements.{keyword, size_at, aligned_at, load_of, is_added, literal_of, operand_of, store_of, idle_of, window_of, bytes_from, bytes_of, memory_of, agent_of, count_of, later_of, turn_of, transaction_of, block_of};
 
 use crate::fault::Cause;
 use crate::plan::Window;
@@ -48,8 +50,9 @@ fn size_at(line: &[u8]) -> Result<(u8, &[u8]), Cause>
 
 #[tactic(auto, unfolding(crate::specs::Statements::aligned_at))]
 fn aligned_at(size: u8, line: &[u8]) -> Result<(u64, &[u8]), Cause>
-    requires { 0 < size }
-    ensures { Reads (λ x. (x.0, x.1.now)) result (aligned_at size line.now) }
+    requires { IsTrue (is_size size) }
+    ensures value { Reads (λ x. (x.0, x.1.now)) result (aligned_at size line.now) }
+    ensures place { IfOk result (λ x. IsTrue (is_place size x.0)) }
 {
     let (addr, rest) = address(line)?;
     if addr % size as u64 == 0 {
@@ -62,7 +65,8 @@ fn aligned_at(size: u8, line: &[u8]) -> Result<(u64, &[u8]), Cause>
 /// The load behind `ld`.
 #[tactic(auto, unfolding(crate::specs::Statements::load_of, crate::specs::Words::ended))]
 pub(crate) fn load_of(line: &[u8]) -> Result<Access, Cause>
-    ensures { Reads (λ x. x) result (load_of line.now) }
+    ensures value { Reads (λ x. x) result (load_of line.now) }
+    ensures lawful { IfOk result (λ access. IsTrue (is_lawful_access access)) }
 {
     let (size, rest) = size_at(line)?;
     let (addr, rest) = aligned_at(size, rest)?;
@@ -78,9 +82,9 @@ fn is_added(word: &[u8]) -> bool
     word.len() >= 2 && word[0] == b'r' && word[1] == b'+'
 }
 
-fn value_fits(size: u8, number: u64) -> bool
+fn fits(size: u8, number: u64) -> bool
     requires { IsTrue (is_size size) }
-    ensures { result ≡ value_fits size number }
+    ensures { result ≡ fits size number }
 {
     match size {
         1 => number < 0x100,
@@ -93,10 +97,11 @@ fn value_fits(size: u8, number: u64) -> bool
 #[tactic(auto, unfolding(crate::specs::Statements::literal_of))]
 fn literal_of(size: u8, word: &[u8]) -> Result<u64, Cause>
     requires { IsTrue (is_size size) }
-    ensures { Reads (λ n. n) result (literal_of size word.now) }
+    ensures value { Reads (λ n. n) result (literal_of size word.now) }
+    ensures fits { IfOk result (λ n. IsTrue (fits size n)) }
 {
     let number = hex_of(word)?;
-    if value_fits(size, number) {
+    if fits(size, number) {
         Ok(number)
     } else {
         Err(Cause::Range)
@@ -106,7 +111,8 @@ fn literal_of(size: u8, word: &[u8]) -> Result<u64, Cause>
 #[tactic(auto, unfolding(crate::specs::Statements::operand_of))]
 fn operand_of(size: u8, word: &[u8]) -> Result<Operand, Cause>
     requires { IsTrue (is_size size) }
-    ensures { Reads (λ x. x) result (operand_of size word.now) }
+    ensures value { Reads (λ x. x) result (operand_of size word.now) }
+    ensures fits { IfOk result (λ x. IsTrue (fits size (number_of x))) }
 {
     if is_added(word) {
         Ok(Operand::LastPlus(literal_of(size, &word[2..])?))
@@ -118,7 +124,8 @@ fn operand_of(size: u8, word: &[u8]) -> Result<Operand, Cause>
 /// The store behind `st`.
 #[tactic(auto, unfolding(crate::specs::Statements::store_of, crate::specs::Words::ended))]
 pub(crate) fn store_of(line: &[u8]) -> Result<Access, Cause>
-    ensures { Reads (λ x. x) result (store_of line.now) }
+    ensures value { Reads (λ x. x) result (store_of line.now) }
+    ensures lawful { IfOk result (λ access. IsTrue (is_lawful_access access)) }
 {
     let (size, rest) = size_at(line)?;
     let (addr, rest) = aligned_at(size, rest)?;
@@ -133,7 +140,9 @@ pub(crate) fn store_of(line: &[u8]) -> Result<Access, Cause>
 /// The clocks behind `idle`.
 #[tactic(auto, unfolding(crate::specs::Statements::idle_of, crate::specs::Words::ended))]
 pub(crate) fn idle_of(line: &[u8]) -> Result<u32, Cause>
-    ensures { Reads (λ x. x) result (idle_of line.now) }
+    ensures value { Reads (λ x. x) result (idle_of line.now) }
+    ensures least { IfOk result (λ x. 1 ≤ x) }
+    ensures most { IfOk result (λ x. x ≤ 200000) }
 {
     let (clocks, rest) = decimal_within(1, 200_000, line)?;
     if !is_ended(rest) {
@@ -145,7 +154,8 @@ pub(crate) fn idle_of(line: &[u8]) -> Result<u32, Cause>
 /// The window behind `bridge`.
 #[tactic(auto, unfolding(crate::specs::Statements::window_of, crate::specs::Words::ended))]
 pub(crate) fn window_of(line: &[u8]) -> Result<Window, Cause>
-    ensures { Reads (λ x. x) result (window_of line.now) }
+    ensures value { Reads (λ x. x) result (window_of line.now) }
+    ensures lawful { IfOk result (λ x. IsTrue (is_lawful_window x)) }
 {
     let (base, rest) = address(line)?;
     if base % LINE != 0 {
@@ -229,7 +239,8 @@ pub(crate) fn agent_of(next: u64, line: &[u8]) -> Result<u64, Cause>
 
 #[tactic(auto, unfolding(crate::specs::Statements::count_of, crate::specs::Words::ended))]
 fn count_of(line: &[u8]) -> Result<u8, Cause>
-    ensures { Reads (λ x. x) result (count_of line.now) }
+    ensures value { Reads (λ x. x) result (count_of line.now) }
+    ensures some { IfOk result (λ x. 1 ≤ x) }
 {
     let (count, rest) = decimal_within(1, 255, line)?;
     if !is_ended(rest) {
@@ -251,7 +262,9 @@ fn later_of(line: &[u8]) -> Result<u16, Cause>
 
 #[tactic(auto, unfolding(crate::specs::Statements::turn_of, crate::specs::Words::ended))]
 fn turn_of(k: u32, word: &[u8], line: &[u8]) -> Result<HazardLine, Cause>
-    ensures { Reads (λ x. x) result (turn_of k word.now line.now) }
+    requires { k ≤ 199999 }
+    ensures value { Reads (λ x. x) result (turn_of k word.now line.now) }
+    ensures lawful { IfOk result (λ x. IsTrue (is_lawful_hazard x)) }
 {
     if word == b"stall".as_slice() {
         Ok(HazardLine::Stall(k, count_of(line)?))
@@ -275,7 +288,8 @@ fn turn_of(k: u32, word: &[u8], line: &[u8]) -> Result<HazardLine, Cause>
 /// The hazard behind `tx`.
 #[tactic(auto, unfolding(crate::specs::Statements::transaction_of))]
 pub(crate) fn transaction_of(line: &[u8]) -> Result<HazardLine, Cause>
-    ensures { Reads (λ x. x) result (transaction_of line.now) }
+    ensures value { Reads (λ x. x) result (transaction_of line.now) }
+    ensures lawful { IfOk result (λ x. IsTrue (is_lawful_hazard x)) }
 {
     let (k, rest) = decimal_within(0, LAST, line)?;
     let (word, rest) = next_word(rest)?;
@@ -285,7 +299,8 @@ pub(crate) fn transaction_of(line: &[u8]) -> Result<HazardLine, Cause>
 /// The clocks behind `bnr`.
 #[tactic(auto, unfolding(crate::specs::Statements::block_of, crate::specs::Words::ended))]
 pub(crate) fn block_of(line: &[u8]) -> Result<HazardLine, Cause>
-    ensures { Reads (λ x. x) result (block_of line.now) }
+    ensures value { Reads (λ x. x) result (block_of line.now) }
+    ensures lawful { IfOk result (λ x. IsTrue (is_lawful_hazard x)) }
 {
     let (from, rest) = decimal_within(0, LAST, line)?;
     let (to, rest) = decimal_within(0, LAST, rest)?;
