@@ -3,6 +3,15 @@
 
 pub use fault::{Cause, ScriptFault, ScriptStop};
 pub use plan::{Plan, Scripts, Settings, Window};
+pub use read::read_bench;
 
+mod bounds;
+mod draft;
 mod fault;
+mod form;
+mod named;
+mod place;
 mod plan;
+mod read;
+mod statement;
+mod word;

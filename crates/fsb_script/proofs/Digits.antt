@@ -1,0 +1,17 @@
+-- What a few digits can reach.
+use Rattle.std.proofs.Common.{ℕ, ◌<◌, ◌≤◌, ◌^◌, arith, lit<}
+use Rattle.std.proofs.Math.Nat.{pow-le-pow_right}
+
+-- a number of fewer than 18 decimal digits
+pub decimal_room : (n i : ℕ) → n < 10 ^ i → i < 18 → n < 10 ^ 17
+decimal_room n i below few =
+    let small : i ≤ 17 = omega arith in
+    let most : 10 ^ i ≤ 10 ^ 17 = pow-le-pow_right {n = 10} (lit< tt) small in
+    omega (arith, most)
+
+-- a number of fewer than 16 hexadecimal digits
+pub hex_room : (n i : ℕ) → n < 16 ^ i → i < 16 → n < 16 ^ 15
+hex_room n i below few =
+    let small : i ≤ 15 = omega arith in
+    let most : 16 ^ i ≤ 16 ^ 15 = pow-le-pow_right {n = 16} (lit< tt) small in
+    omega (arith, most)

@@ -1,0 +1,10 @@
+pub mod Reading
+pub mod Words
+pub mod Statements
+pub mod Forms
+pub mod Named
+pub mod NamedTable
+pub mod Plans
+pub mod Bounds
+pub mod Drafts
+pub mod View

@@ -1,0 +1,27 @@
+-- What the reader's own state stands for.
+use Rattle.fsb_script.specs.declared.draft.Draft.{Draft}
+use Rattle.fsb_script.specs.declared.plan.Plan.{Plan}
+use Rattle.fsb_script.specs.Drafts.{Progress}
+use Rattle.fsb_script.specs.Plans.{PlanView}
+
+-- what a draft has read
+abbrev pub progress : Draft → Progress
+progress d = record {
+  place = d.place;
+  agents = d.agents;
+  clocks = d.clocks;
+  cache = d.cache;
+  ahead = d.ahead;
+  bridge = d.bridge;
+  mem = d.mem;
+  scripts = d.scripts;
+  script = d.script;
+  group = d.group;
+  named = d.named;
+  earlier = d.earlier;
+  hazards = d.hazards;
+}
+
+-- a plan without the facts that it keeps
+abbrev pub plan_view : Plan → PlanView
+plan_view p = record { scripts = p.scripts; clocks = p.clocks; cache = p.cache; ahead = p.ahead; bridge = p.bridge; mem = p.mem; hazards = p.hazards }

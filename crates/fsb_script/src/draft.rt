@@ -1,0 +1,521 @@
+ghost use Rattle.std.specs.Prelude.{◌≡◌, ◌<◌, ◌+◌, ◌^◌, ◌++◌, length, nat_lt, IfOk, OnOk};
+ghost use Rattle.fsb_script.specs.Reading.{Reads, LineGives};
+ghost use Rattle.fsb_script.specs.Statements.{settings_at};
+ghost use Rattle.fsb_script.specs.Drafts.{heading_of, ends_heading};
+
+use crate::bounds::{ITEMS, is_cache, is_lock_apart, is_lock_size};
+use crate::fault::{Cause, LineStop};
+use crate::form::Form;
+use crate::named::{Earlier, Named};
+use crate::place::Place;
+use crate::plan::{Scripts, Settings, Window};
+use crate::statement::{
+    agent_of, block_of, idle_of, keyword, load_of, memory_of, store_of, transaction_of, window_of,
+};
+use crate::word::{decimal, decimal_within, is_ended, is_read_past, next_word};
+use fsb_access::{Access, Group, Item, Script, Setting};
+use fsb_hazard::{HazardLine, HazardLines};
+use fsb_io::Memory;
+use std::alloc::{AllocError, Global};
+use std::mem;
+
+/// What the lines so far have said, and which lines may stand next.
+#[derive(Debug, Drop)]
+pub(crate) struct Draft {
+    pub(crate) place: Place,
+    pub(crate) agents: u8,
+    pub(crate) clocks: u32,
+    pub(crate) cache: u32,
+    pub(crate) ahead: u8,
+    pub(crate) bridge: Option<Window>,
+    pub(crate) mem: Settings,
+    pub(crate) scripts: Scripts,
+    pub(crate) script: Script,
+    pub(crate) group: Group,
+    pub(crate) named: Named,
+    pub(crate) earlier: Earlier,
+    pub(crate) hazards: HazardLines,
+    ghost some_cache: { 0 < cache },
+}
+
+/// What follows `p6bench 1`.
+#[tactic(auto, unfolding(crate::specs::Drafts::heading_of))]
+fn heading_of(line: &[u8]) -> Result<&[u8], Cause>
+    ensures { Reads (λ x. x.now) result (heading_of line.now) }
+{
+    let rest = keyword(b"p6bench", line)?;
+    keyword(b"1", rest)
+}
+
+fn is_heading(line: &[u8]) -> bool
+    ensures { result ≡ ends_heading (heading_of line.now) }
+{
+    match heading_of(line) {
+        Ok(rest) => is_ended(rest),
+        Err(_) => false,
+    }
+}
+
+impl Draft {
+    ghost use Rattle.fsb_script.specs.View.{progress};
+    ghost use Rattle.fsb_script.specs.Drafts.{beginning, first_line, agents_line, clocks_line, cache_line, ahead_line, bridge_line, mem_line, agent_line, named_line, one_item, load_item, store_item, idle_item, lock_item, end_line, item_line, locked_access, unlock_line, locked_line, add_hazard, transaction_line, block_line, hazard_line, memory_line, body_line, next_agent_line, choice_line, line_at, is_past, after_line};
+
+    /// Before the first line.
+    pub(crate) fn new(alloc: Global) -> Result<Self, AllocError>
+        ensures { IfOk result (λ d. progress d ≡ beginning) }
+    {
+        Ok(Draft {
+            place: Place::First,
+            agents: 1,
+            clocks: 0,
+            cache: 1,
+            ahead: 1,
+            bridge: None,
+            mem: Settings::new(alloc),
+            scripts: Scripts::new(alloc),
+            script: Script::new(alloc),
+            group: Group::new(alloc),
+            named: Named::new(alloc, 1)?,
+            earlier: Earlier::new(alloc),
+            hazards: HazardLines::new(alloc),
+        })
+    }
+
+    #[tactic(auto, unfolding(crate::specs::Drafts::first_line))]
+    fn first_line(&mut self, line: &[u8]) -> Result<(), Cause>
+        ensures { Reads (λ _. progress self.new) result (first_line (progress self.old) line.now) }
+    {
+        if !is_heading(line) {
+            return Err(Cause::FirstLine);
+        }
+        self.place = Place::Agents;
+        Ok(())
+    }
+
+    #[tactic(auto, unfolding(crate::specs::Drafts::agents_line, crate::specs::Words::ended, crate::specs::Forms::built))]
+    fn agents_line(&mut self, line: &[u8]) -> Result<(), Cause>
+        ensures { Reads (λ _. progress self.new) result (agents_line (progress self.old) line.now) }
+    {
+        let rest = keyword(b"agents", line)?;
+        let (count, rest) = decimal_within(1, 4, rest)?;
+        if !is_ended(rest) {
+            return Err(Cause::After);
+        }
+        let agents = count as u8;
+        if !Form::Agents(agents).is_built() {
+            return Err(Cause::Unbuilt);
+        }
+        self.agents = agents;
+        self.place = Place::Clocks;
+        Ok(())
+    }
+
+    #[tactic(auto, unfolding(crate::specs::Drafts::clocks_line, crate::specs::Words::ended))]
+    fn clocks_line(&mut self, line: &[u8]) -> Result<(), Cause>
+        ensures { Reads (λ _. progress self.new) result (clocks_line (progress self.old) line.now) }
+    {
+        let rest = keyword(b"clocks", line)?;
+        let (clocks, rest) = decimal_within(0, 200_000, rest)?;
+        if !is_ended(rest) {
+            return Err(Cause::After);
+        }
+        self.clocks = clocks as u32;
+        self.place = Place::Cache;
+        Ok(())
+    }
+
+    #[tactic(auto, unfolding(crate::specs::Drafts::cache_line, crate::specs::Words::ended))]
+    fn cache_line(&mut self, line: &[u8]) -> Result<(), Cause>
+        ensures { Reads (λ _. progress self.new) result (cache_line (progress self.old) line.now) }
+    {
+        let rest = keyword(b"cache", line)?;
+        let (lines, rest) = decimal(rest)?;
+        if !is_cache(lines) {
+            return Err(Cause::Range);
+        }
+        if !is_ended(rest) {
+            return Err(Cause::After);
+        }
+        self.cache = lines as u32;
+        self.place = Place::Ahead;
+        Ok(())
+    }
+
+    #[tactic(auto, unfolding(crate::specs::Drafts::ahead_line, crate::specs::Words::ended, crate::specs::Forms::built))]
+    fn ahead_line(&mut self, line: &[u8]) -> Result<(), Cause>
+        ensures { Reads (λ _. progress self.new) result (ahead_line (progress self.old) line.now) }
+    {
+        let rest = keyword(b"ahead", line)?;
+        let (count, rest) = decimal_within(1, 4, rest)?;
+        if !is_ended(rest) {
+            return Err(Cause::After);
+        }
+        let ahead = count as u8;
+        if !Form::Ahead(ahead).is_built() {
+            return Err(Cause::Unbuilt);
+        }
+        self.ahead = ahead;
+        self.place = Place::Bridge;
+        Ok(())
+    }
+
+    #[tactic(auto, unfolding(crate::specs::Drafts::bridge_line, crate::specs::Forms::built))]
+    fn bridge_line(&mut self, line: &[u8]) -> Result<(), Cause>
+        ensures { Reads (λ _. progress self.new) result (bridge_line (progress self.old) line.now) }
+    {
+        let window = window_of(line)?;
+        if !Form::Bridge.is_built() {
+            return Err(Cause::Unbuilt);
+        }
+        self.bridge = Some(window);
+        self.place = Place::Memory;
+        Ok(())
+    }
+
+    #[tactic(auto, unfolding(crate::specs::Drafts::mem_line))]
+    fn mem_line(&mut self, line: &[u8]) -> Result<(), LineStop>
+        ensures { LineGives (λ _. progress self.new) result (mem_line (progress self.old) line.now) }
+    {
+        let (addr, bytes) = memory_of(line)?;
+        add_settings(&mut self.mem, addr, bytes.as_slice())?;
+        self.place = Place::Memory;
+        Ok(())
+    }
+
+    #[tactic(auto, unfolding(crate::specs::Drafts::agent_line))]
+    fn agent_line(&mut self, alloc: Global, line: &[u8]) -> Result<(), LineStop>
+        ensures { LineGives (λ _. progress self.new) result (agent_line (progress self.old) line.now) }
+    {
+        let _number = agent_of(self.scripts.as_slice().len() as u64, line)?;
+        self.named = Named::new(alloc, self.cache)?;
+        self.place = Place::Items;
+        Ok(())
+    }
+
+    /// Names the line of an access.
+    #[tactic(auto, unfolding(crate::specs::Drafts::named_line, crate::specs::Forms::built_if, crate::specs::Forms::built))]
+    fn named_line(&mut self, line: u64) -> Result<(), LineStop>
+        ensures { LineGives (λ _. progress self.new) result (named_line (progress self.old) line) }
+    {
+        if self.earlier.contains(line) && !Form::Foreign.is_built() {
+            return Err(LineStop::Bad(Cause::Unbuilt));
+        }
+        if self.named.has_other(line) && !Form::Evicting.is_built() {
+            return Err(LineStop::Bad(Cause::Unbuilt));
+        }
+        self.named.push(line)?;
+        Ok(())
+    }
+
+    #[tactic(auto, unfolding(crate::specs::Drafts::one_item))]
+    fn one_item(&mut self, access: Access) -> Result<(), LineStop>
+        ensures { LineGives (λ _. progress self.new) result (one_item (progress self.old) access) }
+    {
+        self.named_line(access.line())?;
+        self.script.push(Item::One(access))?;
+        Ok(())
+    }
+
+    /// Whether the script has room for one item more.
+    fn has_room(&self) -> bool
+        ensures { result ≡ nat_lt (length self.now.script) 4096 }
+    {
+        self.script.as_slice().len() < ITEMS
+    }
+
+    #[tactic(auto, unfolding(crate::specs::Drafts::load_item))]
+    fn load_item(&mut self, line: &[u8]) -> Result<(), LineStop>
+        ensures { LineGives (λ _. progress self.new) result (load_item (progress self.old) line.now) }
+    {
+        if !self.has_room() {
+            return Err(LineStop::Bad(Cause::Range));
+        }
+        let access = load_of(line)?;
+        self.one_item(access)
+    }
+
+    #[tactic(auto, unfolding(crate::specs::Drafts::store_item))]
+    fn store_item(&mut self, line: &[u8]) -> Result<(), LineStop>
+        ensures { LineGives (λ _. progress self.new) result (store_item (progress self.old) line.now) }
+    {
+        if !self.has_room() {
+            return Err(LineStop::Bad(Cause::Range));
+        }
+        let access = store_of(line)?;
+        self.one_item(access)
+    }
+
+    #[tactic(auto, unfolding(crate::specs::Drafts::idle_item, crate::specs::Forms::built))]
+    fn idle_item(&mut self, line: &[u8]) -> Result<(), LineStop>
+        ensures { LineGives (λ _. progress self.new) result (idle_item (progress self.old) line.now) }
+    {
+        if !self.has_room() {
+            return Err(LineStop::Bad(Cause::Range));
+        }
+        let clocks = idle_of(line)?;
+        if !Form::Idle.is_built() {
+            return Err(LineStop::Bad(Cause::Unbuilt));
+        }
+        self.script.push(Item::Idle(clocks))?;
+        Ok(())
+    }
+
+    #[tactic(auto, unfolding(crate::specs::Drafts::lock_item, crate::specs::Words::ended, crate::specs::Forms::built))]
+    fn lock_item(&mut self, alloc: Global, line: &[u8]) -> Result<(), Cause>
+        ensures { Reads (λ _. progress self.new) result (lock_item (progress self.old) line.now) }
+    {
+        if !self.has_room() {
+            return Err(Cause::Range);
+        }
+        if !is_ended(line) {
+            return Err(Cause::After);
+        }
+        if !Form::Lock.is_built() {
+            return Err(Cause::Unbuilt);
+        }
+        self.group = Group::new(alloc);
+        self.place = Place::Locked;
+        Ok(())
+    }
+
+    #[tactic(auto, unfolding(crate::specs::Drafts::end_line, crate::specs::Words::ended))]
+    fn end_line(&mut self, alloc: Global, line: &[u8]) -> Result<(), LineStop>
+        ensures { LineGives (λ _. progress self.new) result (end_line (progress self.old) line.now) }
+    {
+        if !is_ended(line) {
+            return Err(LineStop::Bad(Cause::After));
+        }
+        let script = mem::replace(&mut self.script, Script::new(alloc));
+        self.scripts.push(script)?;
+        self.earlier.extend(self.named.lines())?;
+        self.place = if self.scripts.as_slice().len() == self.agents as usize {
+            Place::Hazards
+        } else {
+            Place::Agent
+        };
+        Ok(())
+    }
+
+    /// A line between `agent` and `end`.
+    #[tactic(auto, unfolding(crate::specs::Drafts::item_line))]
+    fn item_line(&mut self, alloc: Global, word: &[u8], line: &[u8]) -> Result<(), LineStop>
+        ensures { LineGives (λ _. progress self.new) result (item_line (progress self.old) word.now line.now) }
+    {
+        if word == b"ld".as_slice() {
+            self.load_item(line)
+        } else if word == b"st".as_slice() {
+            self.store_item(line)
+        } else if word == b"idle".as_slice() {
+            self.idle_item(line)
+        } else if word == b"lock".as_slice() {
+            self.lock_item(alloc, line)?;
+            Ok(())
+        } else if word == b"end".as_slice() {
+            self.end_line(alloc, line)
+        } else {
+            Err(LineStop::Bad(Cause::Word))
+        }
+    }
+
+    #[tactic(auto, unfolding(crate::specs::Drafts::locked_access))]
+    fn locked_access(&mut self, access: Access) -> Result<(), LineStop>
+        ensures { LineGives (λ _. progress self.new) result (locked_access (progress self.old) access) }
+    {
+        self.named_line(access.line())?;
+        self.group.push(access)?;
+        Ok(())
+    }
+
+    #[tactic(auto, unfolding(crate::specs::Drafts::unlock_line, crate::specs::Words::ended))]
+    fn unlock_line(&mut self, alloc: Global, line: &[u8]) -> Result<(), LineStop>
+        ensures { LineGives (λ _. progress self.new) result (unlock_line (progress self.old) line.now) }
+    {
+        if !is_ended(line) {
+            return Err(LineStop::Bad(Cause::After));
+        }
+        if !is_lock_size(self.group.as_slice()) {
+            return Err(LineStop::Bad(Cause::LockSize));
+        }
+        if !is_lock_apart(self.cache, self.group.as_slice()) {
+            return Err(LineStop::Bad(Cause::LockConflict));
+        }
+        let group = mem::replace(&mut self.group, Group::new(alloc));
+        self.script.push(Item::Locked(group))?;
+        self.place = Place::Items;
+        Ok(())
+    }
+
+    /// A line between `lock` and `unlock`.
+    #[tactic(auto, unfolding(crate::specs::Drafts::locked_line))]
+    fn locked_line(&mut self, alloc: Global, word: &[u8], line: &[u8]) -> Result<(), LineStop>
+        ensures { LineGives (λ _. progress self.new) result (locked_line (progress self.old) word.now line.now) }
+    {
+        if word == b"ld".as_slice() {
+            let access = load_of(line)?;
+            self.locked_access(access)
+        } else if word == b"st".as_slice() {
+            let access = store_of(line)?;
+            self.locked_access(access)
+        } else if word == b"unlock".as_slice() {
+            self.unlock_line(alloc, line)
+        } else {
+            Err(LineStop::Bad(Cause::Word))
+        }
+    }
+
+    #[tactic(auto, unfolding(crate::specs::Drafts::add_hazard, crate::specs::Forms::built))]
+    fn add_hazard(&mut self, hazard: HazardLine) -> Result<(), LineStop>
+        ensures { LineGives (λ _. progress self.new) result (add_hazard (progress self.old) hazard) }
+    {
+        if !Form::Hazard(hazard).is_built() {
+            return Err(LineStop::Bad(Cause::Unbuilt));
+        }
+        self.hazards.push(hazard)?;
+        Ok(())
+    }
+
+    /// Whether there is room for one hazard line more.
+    fn has_hazard_room(&self) -> bool
+        ensures { result ≡ nat_lt (length self.now.hazards) 4096 }
+    {
+        self.hazards.as_slice().len() < ITEMS
+    }
+
+    #[tactic(auto, unfolding(crate::specs::Drafts::transaction_line))]
+    fn transaction_line(&mut self, line: &[u8]) -> Result<(), LineStop>
+        ensures { LineGives (λ _. progress self.new) result (transaction_line (progress self.old) line.now) }
+    {
+        if !self.has_hazard_room() {
+            return Err(LineStop::Bad(Cause::Range));
+        }
+        let hazard = transaction_of(line)?;
+        self.add_hazard(hazard)
+    }
+
+    #[tactic(auto, unfolding(crate::specs::Drafts::block_line))]
+    fn block_line(&mut self, line: &[u8]) -> Result<(), LineStop>
+        ensures { LineGives (λ _. progress self.new) result (block_line (progress self.old) line.now) }
+    {
+        if !self.has_hazard_room() {
+            return Err(LineStop::Bad(Cause::Range));
+        }
+        let hazard = block_of(line)?;
+        self.add_hazard(hazard)
+    }
+
+    /// A line behind the last script.
+    #[tactic(auto, unfolding(crate::specs::Drafts::hazard_line))]
+    fn hazard_line(&mut self, word: &[u8], line: &[u8]) -> Result<(), LineStop>
+        ensures { LineGives (λ _. progress self.new) result (hazard_line (progress self.old) word.now line.now) }
+    {
+        if word == b"tx".as_slice() {
+            self.transaction_line(line)
+        } else if word == b"bnr".as_slice() {
+            self.block_line(line)
+        } else {
+            Err(LineStop::Bad(Cause::Word))
+        }
+    }
+
+    #[tactic(auto, unfolding(crate::specs::Drafts::memory_line))]
+    fn memory_line(&mut self, alloc: Global, word: &[u8], line: &[u8]) -> Result<(), LineStop>
+        ensures { LineGives (λ _. progress self.new) result (memory_line (progress self.old) word.now line.now) }
+    {
+        if word == b"mem".as_slice() {
+            self.mem_line(line)
+        } else if word == b"agent".as_slice() {
+            self.agent_line(alloc, line)
+        } else {
+            Err(LineStop::Bad(Cause::Word))
+        }
+    }
+
+    #[tactic(auto, unfolding(crate::specs::Drafts::body_line))]
+    fn body_line(&mut self, alloc: Global, word: &[u8], line: &[u8]) -> Result<(), LineStop>
+        ensures { LineGives (λ _. progress self.new) result (body_line (progress self.old) word.now line.now) }
+    {
+        if word == b"bridge".as_slice() {
+            self.bridge_line(line)?;
+            Ok(())
+        } else {
+            self.memory_line(alloc, word, line)
+        }
+    }
+
+    #[tactic(auto, unfolding(crate::specs::Drafts::next_agent_line))]
+    fn next_agent_line(&mut self, alloc: Global, word: &[u8], line: &[u8]) -> Result<(), LineStop>
+        ensures { LineGives (λ _. progress self.new) result (next_agent_line (progress self.old) word.now line.now) }
+    {
+        if word == b"agent".as_slice() {
+            self.agent_line(alloc, line)
+        } else {
+            Err(LineStop::Bad(Cause::Word))
+        }
+    }
+
+    /// A line where more than one first word may stand.
+    #[tactic(auto, unfolding(crate::specs::Drafts::choice_line))]
+    fn choice_line(&mut self, alloc: Global, line: &[u8]) -> Result<(), LineStop>
+        ensures { LineGives (λ _. progress self.new) result (choice_line (progress self.old) line.now) }
+    {
+        let (word, rest) = next_word(line)?;
+        match self.place {
+            Place::Bridge => self.body_line(alloc, word, rest),
+            Place::Memory => self.memory_line(alloc, word, rest),
+            Place::Agent => self.next_agent_line(alloc, word, rest),
+            Place::Items => self.item_line(alloc, word, rest),
+            Place::Locked => self.locked_line(alloc, word, rest),
+            _ => self.hazard_line(word, rest),
+        }
+    }
+
+    /// A line that may stand first, or where one first word may stand alone.
+    fn fixed_line(&mut self, alloc: Global, line: &[u8]) -> Result<(), LineStop>
+        ensures { LineGives (λ _. progress self.new) result (line_at self.old.place (progress self.old) line.now) }
+    {
+        match self.place {
+            Place::First => self.first_line(line)?,
+            Place::Agents => self.agents_line(line)?,
+            Place::Clocks => self.clocks_line(line)?,
+            Place::Cache => self.cache_line(line)?,
+            Place::Ahead => self.ahead_line(line)?,
+            _ => self.choice_line(alloc, line)?,
+        }
+        Ok(())
+    }
+
+    /// Whether a line is read past.
+    fn is_past(&self, line: &[u8]) -> bool
+        ensures { result ≡ is_past self.now.place line.now }
+    {
+        match self.place {
+            Place::First => false,
+            _ => is_read_past(line),
+        }
+    }
+
+    /// Takes the next line.
+    #[tactic(auto, unfolding(crate::specs::Drafts::after_line))]
+    pub(crate) fn take(&mut self, alloc: Global, line: &[u8]) -> Result<(), LineStop>
+        ensures { LineGives (λ _. progress self.new) result (after_line (progress self.old) line.now) }
+    {
+        if self.is_past(line) {
+            return Ok(());
+        }
+        self.fixed_line(alloc, line)
+    }
+}
+
+/// Adds a setting for each byte, from an address on.
+fn add_settings(mem: &mut Settings, addr: u64, bytes: &[u8]) -> Result<(), Memory>
+    requires { addr + length bytes.now < 2 ^ 64 }
+    ensures ok { OnOk result (mem.new ≡ mem.old ++ settings_at addr bytes.now) }
+{
+    for (i, byte) in bytes.iter().enumerate() {
+        mem.push(Setting {
+            addr: addr + i as u64,
+            byte: *byte,
+        })?;
+    }
+    Ok(())
+}

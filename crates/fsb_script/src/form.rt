@@ -1,0 +1,46 @@
+ghost use Rattle.std.specs.Prelude.{◌≡◌};
+ghost use Rattle.fsb_script.specs.Reading.{Reads};
+
+use fsb_hazard::HazardLine;
+
+/// The forms of lines that not every stage of the simulator serves.
+#[derive(Clone, Copy, Debug)]
+pub(crate) enum Form {
+    /// This number of agents.
+    Agents(u8),
+    /// This number of requests an agent.
+    Ahead(u8),
+    /// A window of deferred addresses.
+    Bridge,
+    /// An idle item.
+    Idle,
+    /// A locked item.
+    Lock,
+    /// An access to a line that an earlier agent names.
+    Foreign,
+    /// An access to a line whose cache set another line of the same agent has.
+    Evicting,
+    /// A hazard.
+    Hazard(HazardLine),
+}
+
+impl Form {
+    ghost use Rattle.fsb_script.specs.Forms.{is_built};
+
+    /// Whether the simulator serves it.
+    #[tactic(auto, unfolding(crate::specs::Forms::is_built))]
+    pub(crate) fn is_built(&self) -> bool
+        ensures { result ≡ is_built self.now }
+    {
+        match self {
+            Form::Agents(count) => *count == 1,
+            Form::Ahead(count) => *count == 1,
+            Form::Bridge => false,
+            Form::Idle => false,
+            Form::Lock => false,
+            Form::Foreign => false,
+            Form::Evicting => false,
+            Form::Hazard(_) => false,
+        }
+    }
+}

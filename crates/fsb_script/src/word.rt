@@ -1,0 +1,176 @@
+ghost use Rattle.std.specs.Prelude.{◌≡◌, ◌+◌, ◌<◌, ◌≤◌, ◌^◌, length, take, drop, IfOk};
+ghost use Rattle.fsb_script.specs.Reading.{Reads};
+ghost use Rattle.fsb_script.specs.Words.{is_blank, skip_blanks, word_len, is_read_past, next_word, is_empty, decimal_from, decimal_of, hex_digit, hex_from, hex_of, decimal, hexadecimal, decimal_within, address};
+
+use crate::fault::Cause;
+
+/// Addresses are below this number of bytes.
+pub(crate) const ADDRESSES: u64 = 1 << 36;
+
+fn is_blank(byte: u8) -> bool
+    ensures { result ≡ is_blank byte }
+{
+    byte == b' ' || byte == b'\t' || byte == b'\r'
+}
+
+fn skip_blanks(line: &[u8]) -> &[u8]
+    ensures { result.now ≡ skip_blanks line.now }
+{
+    for (i, byte) in line.iter().enumerate() {
+        if !is_blank(*byte) {
+            return &line[i..];
+        }
+    }
+    &[]
+}
+
+fn word_len(line: &[u8]) -> usize
+    ensures value { result ≡ word_len line.now }
+    ensures within { result ≤ length line.now }
+{
+    for (i, byte) in line.iter().enumerate() {
+        if is_blank(*byte) {
+            return i;
+        }
+    }
+    line.len()
+}
+
+/// Whether a line has no words or is a comment.
+#[tactic(auto, unfolding(crate::specs::Words::is_read_past))]
+pub(crate) fn is_read_past(line: &[u8]) -> bool
+    ensures { result ≡ is_read_past line.now }
+{
+    match skip_blanks(line) {
+        [] => true,
+        [first, ..] => *first == b'#',
+    }
+}
+
+/// The next word and what follows it.
+#[tactic(auto, unfolding(crate::specs::Words::next_word))]
+pub(crate) fn next_word(line: &[u8]) -> Result<(&[u8], &[u8]), Cause>
+    ensures { Reads (λ x. (x.0.now, x.1.now)) result (next_word line.now) }
+{
+    let line = skip_blanks(line);
+    if line.is_empty() {
+        return Err(Cause::Missing);
+    }
+    Ok(line.split_at(word_len(line)))
+}
+
+/// Whether no further word follows.
+pub(crate) fn is_ended(line: &[u8]) -> bool
+    ensures { result ≡ is_empty (skip_blanks line.now) }
+{
+    skip_blanks(line).is_empty()
+}
+
+fn decimal_digits(word: &[u8]) -> Result<u64, Cause>
+    requires { length word.now ≤ 18 }
+    ensures { Reads (λ n. n) result (decimal_from 0 word.now) }
+{
+    let mut number: u64 = 0;
+    for byte in word {
+        if *byte < b'0' || *byte > b'9' {
+            return Err(Cause::Number);
+        }
+        number = number * 10 + (*byte - b'0') as u64;
+    }
+    Ok(number)
+}
+
+#[tactic(auto, unfolding(crate::specs::Words::decimal_of))]
+fn decimal_of(word: &[u8]) -> Result<u64, Cause>
+    ensures { Reads (λ n. n) result (decimal_of word.now) }
+{
+    if 1 <= word.len() && word.len() <= 18 {
+        decimal_digits(word)
+    } else {
+        Err(Cause::Number)
+    }
+}
+
+/// What a hexadecimal digit stands for.
+#[tactic(auto, unfolding(crate::specs::Words::hex_digit))]
+pub(crate) fn hex_digit(byte: u8) -> Result<u8, Cause>
+    ensures value { Reads (λ digit. digit) result (hex_digit byte) }
+    ensures below { IfOk result (λ digit. digit < 16) }
+{
+    match byte {
+        b'0'..=b'9' => Ok(byte - b'0'),
+        b'a'..=b'f' => Ok(byte - b'a' + 10),
+        b'A'..=b'F' => Ok(byte - b'A' + 10),
+        _ => Err(Cause::Number),
+    }
+}
+
+fn hex_digits(word: &[u8]) -> Result<u64, Cause>
+    requires { length word.now ≤ 16 }
+    ensures { Reads (λ n. n) result (hex_from 0 word.now) }
+{
+    let mut number: u64 = 0;
+    for byte in word {
+        number = number * 16 + hex_digit(*byte)? as u64;
+    }
+    Ok(number)
+}
+
+/// A word as a hexadecimal number.
+#[tactic(auto, unfolding(crate::specs::Words::hex_of))]
+pub(crate) fn hex_of(word: &[u8]) -> Result<u64, Cause>
+    ensures { Reads (λ n. n) result (hex_of word.now) }
+{
+    if 1 <= word.len() && word.len() <= 16 {
+        hex_digits(word)
+    } else {
+        Err(Cause::Number)
+    }
+}
+
+/// The next word as a decimal number.
+#[tactic(auto, unfolding(crate::specs::Words::decimal))]
+pub(crate) fn decimal(line: &[u8]) -> Result<(u64, &[u8]), Cause>
+    ensures { Reads (λ x. (x.0, x.1.now)) result (decimal line.now) }
+{
+    let (word, rest) = next_word(line)?;
+    Ok((decimal_of(word)?, rest))
+}
+
+/// The next word as a hexadecimal number.
+#[tactic(auto, unfolding(crate::specs::Words::hexadecimal))]
+pub(crate) fn hexadecimal(line: &[u8]) -> Result<(u64, &[u8]), Cause>
+    ensures { Reads (λ x. (x.0, x.1.now)) result (hexadecimal line.now) }
+{
+    let (word, rest) = next_word(line)?;
+    Ok((hex_of(word)?, rest))
+}
+
+/// The next word as a decimal number from `low` to `high`.
+#[tactic(auto, unfolding(crate::specs::Words::decimal_within))]
+pub(crate) fn decimal_within(low: u64, high: u64, line: &[u8]) -> Result<(u64, &[u8]), Cause>
+    ensures value { Reads (λ x. (x.0, x.1.now)) result (decimal_within low high line.now) }
+    ensures least { IfOk result (λ x. low ≤ x.0) }
+    ensures most { IfOk result (λ x. x.0 ≤ high) }
+{
+    let (number, rest) = decimal(line)?;
+    if low <= number && number <= high {
+        Ok((number, rest))
+    } else {
+        Err(Cause::Range)
+    }
+}
+
+/// The next word as a byte address.
+#[tactic(auto, unfolding(crate::specs::Words::address))]
+pub(crate) fn address(line: &[u8]) -> Result<(u64, &[u8]), Cause>
+    ensures value { Reads (λ x. (x.0, x.1.now)) result (address line.now) }
+    ensures below { IfOk result (λ x. x.0 < 2 ^ 36) }
+{
+    let (number, rest) = hexadecimal(line)?;
+    if number < ADDRESSES {
+        Ok((number, rest))
+    } else {
+        Err(Cause::Outside)
+    }
+}
