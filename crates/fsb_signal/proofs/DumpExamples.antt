@@ -1,11 +1,10 @@
 -- Texts of dumps, written out, and that the definition of the text gives them.
-use Rattle.std.specs.Prelude.{◌≡◌, ◌++◌, [], ◌∷◌, List, ℕ, codes}
+use Rattle.std.specs.Prelude.{◌≡◌, ◌++◌, [], List, ℕ, codes}
 use Rattle.std.specs.Fmt.{digits}
 use Rattle.std.proofs.Common.{refl}
 use Rattle.fsb_signal.specs.declared.sample.Sample.{Sample}
 use Rattle.fsb_signal.specs.Samples.{known_sample}
-use Rattle.fsb_signal.specs.Table.{table}
-use Rattle.fsb_signal.specs.DumpText.{header_text, clock_text, clocks_text, dump_text, texts_from, range_text, declaration_text, change_text, value_text, value_of}
+use Rattle.fsb_signal.specs.DumpText.{header_text, clock_text, dump_text, texts_from, range_text, declaration_text, change_text, value_text, value_of}
 
 -- the dump of no samples
 pub no_samples : List ℕ

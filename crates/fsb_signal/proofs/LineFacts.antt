@@ -1,5 +1,5 @@
 -- Lines that join a set of lines: what the set then has. Two of the named lines share no bit, by computation.
-use Rattle.std.proofs.Common.{◌≡◌, ◌==◌, ℕ, ◌<◌, ◌^◌, true, refl, eq-eqb, ap}
+use Rattle.std.proofs.Common.{◌≡◌, ◌==◌, ℕ, ◌<◌, ◌^◌, true, eq-eqb, ap}
 use Rattle.std.specs.Int.RustNames.{bit_and, bit_or}
 use Rattle.std.proofs.lemmas.Nat.{and_or_self, and_or_apart, or_lt}
 

@@ -1,10 +1,9 @@
 -- Two samples are equal where their lines and words are, whatever proves their facts.
-use Rattle.std.proofs.Common.{◌≡◌, ℕ, ◌<◌, ◌^◌}
+use Rattle.std.proofs.Common.{◌≡◌, ◌<◌, ◌^◌}
 use Rattle.std.proofs.Math.Nat.{ℕ_set}
 use Rattle.std.proofs.Math.Bridge.{le_prop}
 use Rattle.std.specs.Int.Bits.{bit_and}
 use mathlib.Core.HLevel.{is_prop→PathP}
-use Rattle.fsb_signal.specs.declared.lines.Lines.{Lines}
 use Rattle.fsb_signal.specs.declared.sample.Word.{Word}
 use Rattle.fsb_signal.specs.declared.sample.Sample.{Sample}
 

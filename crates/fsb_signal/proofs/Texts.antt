@@ -1,5 +1,5 @@
 -- Texts one after another, as one more is put behind them.
-use Rattle.std.proofs.Common.{◌≡◌, ℕ, ◌+◌, ◌-◌, ◌≤◌, List, ◌++◌, refl, append_assoc, ◌∙◌, ap, sym, arith, zero, suc}
+use Rattle.std.proofs.Common.{◌≡◌, ℕ, ◌+◌, ◌-◌, ◌≤◌, List, ◌++◌, refl, append_assoc, arith, suc}
 use Rattle.fsb_signal.specs.DumpText.{texts_from}
 
 -- one more text

@@ -5,7 +5,7 @@ use Rattle.std.specs.Option.{option_map_or}
 use Rattle.fsb_signal.specs.declared.lines.TheConstants.Lines.{BREQ0, BREQ1, BREQ2, BREQ3, BPRI, LOCK, BNR, ADS, AERR, HIT, HITM, DEFER, TRDY, DBSY, DRDY}
 use Rattle.fsb_signal.specs.declared.sample.Sample.{Sample}
 use Rattle.fsb_signal.specs.Samples.{bit_of, response_of, idle}
-use Rattle.fsb_signal.specs.Table.{Entry, table}
+use Rattle.fsb_signal.specs.Table.{table}
 
 -- the texts f from, f (from + 1) and so on, n of them, one after another
 unfoldable pub texts_from : (ℕ → List ℕ) → ℕ → ℕ → List ℕ
@@ -59,8 +59,8 @@ unfoldable pub range_text : ℕ → List ℕ
 range_text number =
     if width_of number == 1 then []
     else
-        codes "[" ++ decimal (lowest_of number + width_of number - 1) ++ codes ":" ++ decimal (lowest_of number)
-        ++ codes "] "
+    codes "[" ++ decimal (lowest_of number + width_of number - 1) ++ codes ":" ++ decimal (lowest_of number)
+    ++ codes "] "
 
 -- the line that declares an entry
 unfoldable pub declaration_text : ℕ → List ℕ

@@ -12,3 +12,5 @@ mod query;
 mod sample;
 mod signal;
 mod table;
+#[cfg(test)]
+mod tests;

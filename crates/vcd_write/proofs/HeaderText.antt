@@ -31,7 +31,8 @@ declaration_text-entry number e h = rw h refl
 abbrev is_short : Entry → Bool
 is_short e = nat_lt (length e.name) 8
 
-true_unless : (b : Bool) → (b ≡ false → ⊥) → b ≡ true
+-- a test that cannot fail passes
+pub true_unless : (b : Bool) → (b ≡ false → ⊥) → b ≡ true
 true_unless true h = refl
 true_unless false h = absurd (h refl)
 

@@ -2,8 +2,10 @@
 #![tactic(auto)]
 
 pub use clock::put_clock;
+pub use dump::put_dump;
 pub use header::put_header;
 
 mod clock;
+mod dump;
 mod header;
 mod value;

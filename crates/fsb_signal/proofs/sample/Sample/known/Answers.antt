@@ -1,6 +1,5 @@
-use Rattle.std.proofs.Common.{sym, ◌∙◌, ◌≡◌, refl, ap}
+use Rattle.std.proofs.Common.{sym, ◌∙◌, refl, ap}
 use Rattle.std.proofs.Math.Nat.{mod-eq_of_lt}
-use Rattle.fsb_signal.specs.declared.lines.Lines.{Lines}
 use Rattle.fsb_signal.specs.Samples.{known_word}
 use Rattle.fsb_signal.proofs.SameSample.{same_sample}
 use Rattle.fsb_signal.proofs.sample.Sample.known.Goals as goal
