@@ -1,3 +1,5 @@
+pub mod AccessCount
 pub mod Command
 pub mod Form
+pub mod Reading
 pub mod StatusText

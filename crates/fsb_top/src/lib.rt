@@ -5,6 +5,8 @@ pub use status::{Status, code, status_line};
 pub use words::Words;
 
 mod command;
+mod count;
 mod output;
+mod read;
 mod status;
 mod words;
