@@ -9,3 +9,6 @@ mod clock;
 mod dump;
 mod header;
 mod value;
+
+#[cfg(test)]
+mod tests;
