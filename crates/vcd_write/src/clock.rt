@@ -18,7 +18,12 @@ use fsb_signal::Sample;
 /// since the header has its values. One piece of at most 192 bytes, no memory.
 ///
 /// After `Failed` a first part of the text was appended, maybe none of it.
-pub fn put_clock<D: Sink>(sink: &mut D, clock: u32, before: &Sample, now: &Sample) -> Result<(), Failed>
+pub fn put_clock<D: Sink>(
+    sink: &mut D,
+    clock: u32,
+    before: &Sample,
+    now: &Sample,
+) -> Result<(), Failed>
     requires clock { clock ≤ 200000 }
     requires before { IsTrue (is_known before.now) }
     requires now { IsTrue (is_known now.now) }

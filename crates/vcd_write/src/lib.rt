@@ -8,7 +8,6 @@ pub use header::put_header;
 mod clock;
 mod dump;
 mod header;
-mod value;
-
 #[cfg(test)]
 mod tests;
+mod value;

@@ -105,12 +105,18 @@ fn dump_fault(rt: HostRuntime) -> Result<(), Fail> {
     let samples = read_of_a_line();
     let mut whole = MemSink::new(rt.alloc(), 2_000, &[])?;
     assert_eq!(rt; put_header(&mut whole, &samples[0]), Ok(()));
-    assert_eq!(rt; put_clock(&mut whole, 0, &idle_sample(), &samples[0]), Ok(()));
+    assert_eq!(rt;
+        put_clock(&mut whole, 0, &idle_sample(), &samples[0]),
+        Ok(())
+    );
     let mut sink = MemSink::new(rt.alloc(), 2_000, &[2])?;
     assert_eq!(rt; put_dump(&mut sink, &samples), Err(Failed));
     assert_eq!(rt; sink.holds(), whole.holds(), "the header and clock 0");
     let clock_zero = b"#5\n1!\n";
-    assert_eq!(rt; &whole.holds()[whole.holds().len() - 6..], clock_zero.as_slice());
+    assert_eq!(rt;
+        &whole.holds()[whole.holds().len() - 6..],
+        clock_zero.as_slice()
+    );
     assert_eq!(rt; sink.faults(), 1);
     Ok(())
 }
