@@ -43,7 +43,7 @@ entry_name-short number e h =
     let at : get_or table number e ≡ e = get_or_from_slice_get table number e e h in
     let all : list_all is_short table ≡ true = refl in
     let short : is_short e ≡ true =
-        true_unless (is_short e) (λ long. cc (sym all ∙ list_all_at is_short table number e within (ap is_short at ∙ long)))
+    true_unless (is_short e) (λ long. cc (sym all ∙ list_all_at is_short table number e within (ap is_short at ∙ long)))
     in
     omega (arith, ltb-true (length e.name) 8 short)
 

@@ -33,9 +33,15 @@ fn text_of_header(first: &Sample) -> ArrayVec<u8, 4096>
     ensures { result.items ≡ header_text first.now }
 {
     let mut text = ArrayVec::new();
-    put_text(&mut text, "$version p6bench 1 $end\n$timescale 1 ns $end\n$scope module fsb $end\n");
+    put_text(
+        &mut text,
+        "$version p6bench 1 $end\n$timescale 1 ns $end\n$scope module fsb $end\n",
+    );
     put_declarations(&mut text);
-    put_text(&mut text, "$upscope $end\n$enddefinitions $end\n#0\n$dumpvars\n0!\n");
+    put_text(
+        &mut text,
+        "$upscope $end\n$enddefinitions $end\n#0\n$dumpvars\n0!\n",
+    );
     put_values(&mut text, first);
     put_text(&mut text, "$end\n");
     text
@@ -95,9 +101,5 @@ fn lowest_line(number: u8) -> u8
     ensures value { result ≡ lowest_of number }
     ensures small { result ≤ 3 }
 {
-    if number == 10 {
-        3
-    } else {
-        0
-    }
+    if number == 10 { 3 } else { 0 }
 }

@@ -8,4 +8,6 @@ pub use header::put_header;
 mod clock;
 mod dump;
 mod header;
+#[cfg(test)]
+mod tests;
 mod value;

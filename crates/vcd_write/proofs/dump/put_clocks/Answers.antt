@@ -16,16 +16,16 @@ returns-in_err-put_clock-clause-part g c tells =
 
 pub loop-clock-preserved : goal.loop-clock-preserved
 loop-clock-preserved g c = record {
-    known = is_known-at c.args.samples.now c.loop-clock.clock c.index-samples-clock.result c.requires.known c.loop-clock-test.true c.index-samples-clock.is;
-    later = omega (arith, c.loop-clock.invariant.later, c.put_clock.ensures.cause.later);
-    name = λ tells. c.put_clock.ensures.name_stays tells ∙ c.loop-clock.invariant.name tells;
-    wrote = λ tells.
-        let w = c.args.samples.now in
-        let clock = c.loop-clock.clock in
-        let now = c.index-samples-clock.result in
-        let ahead = clocks_text-at w clock c.loop-clock.before now c.loop-clock-test.true c.index-samples-clock.is in
-        let wrote = subst (λ (x : List ℕ). Wrote (clocks_text 0 c.args.first.now w) x (g.D.Sink.holds c.args.sink.now) (g.D.Sink.holds c.loop-clock.sink)) ahead (c.loop-clock.invariant.wrote tells) in
-        wrote-more _ (clock_text clock c.loop-clock.before now) (clocks_text (clock + 1) now (drop (clock + 1) w)) _ _ _ wrote (c.in_ok-put_clock.ensures.whole tells);
+  known = is_known-at c.args.samples.now c.loop-clock.clock c.index-samples-clock.result c.requires.known c.loop-clock-test.true c.index-samples-clock.is;
+  later = omega (arith, c.loop-clock.invariant.later, c.put_clock.ensures.cause.later);
+  name = λ tells. c.put_clock.ensures.name_stays tells ∙ c.loop-clock.invariant.name tells;
+  wrote = λ tells.
+      let w = c.args.samples.now in
+      let clock = c.loop-clock.clock in
+      let now = c.index-samples-clock.result in
+      let ahead = clocks_text-at w clock c.loop-clock.before now c.loop-clock-test.true c.index-samples-clock.is in
+      let wrote = subst (λ (x : List ℕ). Wrote (clocks_text 0 c.args.first.now w) x (g.D.Sink.holds c.args.sink.now) (g.D.Sink.holds c.loop-clock.sink)) ahead (c.loop-clock.invariant.wrote tells) in
+      wrote-more _ (clock_text clock c.loop-clock.before now) (clocks_text (clock + 1) now (drop (clock + 1) w)) _ _ _ wrote (c.in_ok-put_clock.ensures.whole tells);
 }
 
 pub returns-clause-whole : goal.returns-clause-whole

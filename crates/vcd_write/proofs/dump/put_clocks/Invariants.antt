@@ -6,8 +6,8 @@ use Rattle.vcd_write.proofs.dump.put_clocks.Given as goal
 
 abbrev pub invariant-loop-clock : goal.invariant-loop-clock
 invariant-loop-clock g l = record {
-    known : IsTrue (is_known l.before);
-    later : g.D.Sink.faults l.initial.sink ≤ g.D.Sink.faults l.sink;
-    name : IsTrue g.D.Sink.tells → g.D.Sink.begun_as l.sink ≡ g.D.Sink.begun_as l.initial.sink;
-    wrote : IsTrue g.D.Sink.tells → Wrote (clocks_text 0 l.first l.samples) (clocks_text l.clock l.before (drop l.clock l.samples)) (g.D.Sink.holds l.initial.sink) (g.D.Sink.holds l.sink)
+  known : IsTrue (is_known l.before);
+  later : g.D.Sink.faults l.initial.sink ≤ g.D.Sink.faults l.sink;
+  name : IsTrue g.D.Sink.tells → g.D.Sink.begun_as l.sink ≡ g.D.Sink.begun_as l.initial.sink;
+  wrote : IsTrue g.D.Sink.tells → Wrote (clocks_text 0 l.first l.samples) (clocks_text l.clock l.before (drop l.clock l.samples)) (g.D.Sink.holds l.initial.sink) (g.D.Sink.holds l.sink);
 }

@@ -25,8 +25,8 @@ returns-in_ok-put_header-in-Some-clause-whole g c tells =
     let texts = clocks_text 0 first c.args.samples.now in
     rw (dump_text-some c.args.samples.now first c.in-Some.ensures.value)
     (on_ok_weaker c.put_clocks.result
-      (λ e. e ∙ ap (λ x. x ++ texts) (c.in_ok-put_header-in-Some.ensures.whole tells) ∙ append_assoc _ (header_text first) texts)
-      (c.put_clocks.ensures.whole tells))
+    (λ e. e ∙ ap (λ x. x ++ texts) (c.in_ok-put_header-in-Some.ensures.whole tells) ∙ append_assoc _ (header_text first) texts)
+    (c.put_clocks.ensures.whole tells))
 
 pub returns-in_ok-put_header-in-Some-clause-part : goal.returns-in_ok-put_header-in-Some-clause-part
 returns-in_ok-put_header-in-Some-clause-part g c tells =

@@ -9,6 +9,6 @@ loop-number-init g c = record { len = omega arith; items = sym (append-nil _) }
 
 pub loop-number-preserved : goal.loop-number-preserved
 loop-number-preserved g c = record {
-    len = omega (arith, c.loop-number.invariant.len, c.put_declaration.ensures.len);
-    items = texts_from-step _ 0 _ _ _ _ (omega arith) c.loop-number.invariant.items c.put_declaration.ensures.items;
+  len = omega (arith, c.loop-number.invariant.len, c.put_declaration.ensures.len);
+  items = texts_from-step _ 0 _ _ _ _ (omega arith) c.loop-number.invariant.items c.put_declaration.ensures.items;
 }
