@@ -4,23 +4,31 @@ ghost use Rattle.fsb_hazard.specs.Choice.{quiet_choice, join_turns, join, effect
 
 use fsb_encode::{Kind, Request};
 
-/// Whether a request is let through at its snoop end, has to be retried, or is answered later.
+/// What becomes of a request at its snoop end.
 #[derive(Clone, Copy, Debug, PartialEq, Eq)]
 pub enum Turn {
+    /// It is let through.
     Keep,
+    /// It has to be retried.
     Retry,
+    /// It is answered by a reply, which is due this many clocks after the clock that follows its response.
     Defer(u16),
 }
 
-/// What a hazard object chooses for a clock (`bnr`) or for a request (all else); numbers are clocks, but for
-/// `stall`, which counts snoop stalls of two clocks each.
+/// What a hazard object chooses for a clock (`bnr`) or for a request (all else).
 #[derive(Clone, Copy, Debug, PartialEq, Eq)]
 pub struct Choice {
+    /// Whether BNR# holds new requests back.
     pub bnr: bool,
+    /// Whether AERR# cancels the request.
     pub aerr: bool,
+    /// The snoop stalls of the request, of two clocks each.
     pub stall: u8,
+    /// The clocks that TRDY# waits.
     pub trdy: u8,
+    /// The clocks that the response waits.
     pub resp: u8,
+    /// The clocks between one chunk of data and the next.
     pub gap: u8,
     pub turn: Turn,
 }
