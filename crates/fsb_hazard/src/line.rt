@@ -7,13 +7,21 @@ use std::marker::Model;
 /// One hazard of a bench file; the first number is the request's, or the first clock for `Bnr`.
 #[derive(Clone, Copy, Debug, PartialEq, Eq)]
 pub enum HazardLine {
+    /// The request has this many snoop stalls.
     Stall(u32, u8),
+    /// TRDY# for the request waits this many clocks.
     Trdy(u32, u8),
+    /// The response to the request waits this many clocks.
     Resp(u32, u8),
+    /// This many clocks lie between one chunk of the request's data and the next.
     Gap(u32, u8),
+    /// The request has to be retried.
     Retry(u32),
+    /// The request is deferred, with this wait.
     Defer(u32, u16),
+    /// AERR# cancels the request.
     Aerr(u32),
+    /// BNR# is asserted in each clock from the first to the second.
     Bnr(u32, u32),
 }
 
