@@ -1,2 +1,16 @@
-//! To come.
+//! One line of memory on a snooping bus, by itself: its copies at the agents, the requests on it,
+//! the data on their way, and what may happen to it.
+//!
+//! The line is a record of specs/, its events are a type, and coherence is a theorem over every
+//! functions of `Mesi`, `Kind` and `Link`, whose contracts are the words that the events use. No
+//! clock, queue, cache set or address stands here. docs/coherence.md tells the argument.
 #![tactic(auto)]
+
+pub use kind::{Kind, Settled};
+pub use link::Link;
+pub use state::Mesi;
+
+
+mod kind;
+mod link;
+mod state;

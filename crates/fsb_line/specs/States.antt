@@ -1,0 +1,73 @@
+use Rattle.std.specs.Prelude.{Bool, true, false, cond}
+use Rattle.fsb_line.specs.declared.kind.Kind.{Kind}
+use Rattle.fsb_line.specs.declared.kind.Kind.TheVariants.{Own, Read, Upgrade, WriteBack}
+use Rattle.fsb_line.specs.declared.state.Mesi.{Mesi}
+use Rattle.fsb_line.specs.declared.state.Mesi.TheVariants.{Exclusive, Invalid, Modified, Shared}
+use Rattle.fsb_line.specs.declared.kind.Settled.{Settled}
+use Rattle.fsb_line.specs.declared.kind.Settled.TheVariants.{Deferred, Granted, Handed, Replied, Retried, Upgraded, Written}
+
+-- the agent has the line in any state but Invalid
+abbrev pub is_held : Mesi → Bool
+is_held Invalid = false
+is_held Shared = true
+is_held Exclusive = true
+is_held Modified = true
+
+-- the agent has the line Exclusive or Modified
+abbrev pub is_sole : Mesi → Bool
+is_sole Invalid = false
+is_sole Shared = false
+is_sole Exclusive = true
+is_sole Modified = true
+
+-- the agent has the line Modified
+abbrev pub is_modified : Mesi → Bool
+is_modified Invalid = false
+is_modified Shared = false
+is_modified Exclusive = false
+is_modified Modified = true
+
+-- a request of this kind makes its agent the owner of the line
+abbrev pub kind_owns : Kind → Bool
+kind_owns Read = false
+kind_owns Own = true
+kind_owns Upgrade = true
+kind_owns WriteBack = false
+
+-- the state in which a request of this kind gets its line, where another agent was seen to hold it or not
+abbrev pub granted : Kind → Bool → Mesi
+granted Read shared = cond shared Shared Exclusive
+granted Own shared = Modified
+granted Upgrade shared = Modified
+granted WriteBack shared = Invalid
+
+-- the state after the snoop end of another agent's request of this kind
+abbrev pub after_snoop : Mesi → Kind → Mesi
+after_snoop state Read = cond (is_held state) Shared Invalid
+after_snoop state Own = Invalid
+after_snoop state Upgrade = Invalid
+after_snoop state WriteBack = state
+
+-- the state of an agent after the snoop end of its own request
+abbrev pub after_own : Mesi → Kind → Settled → Bool → Mesi
+after_own state kind Granted shared = granted kind shared
+after_own state kind Handed shared = granted kind true
+after_own state kind Upgraded shared = cond (is_held state) Modified Invalid
+after_own state kind Retried shared = state
+after_own state kind Deferred shared = state
+after_own state kind Written shared = Invalid
+after_own state kind Replied shared = granted kind shared
+
+-- the state of an agent after the snoop end of another agent's request; a reply snoops nobody
+abbrev pub after_other : Mesi → Kind → Settled → Mesi
+after_other state kind Granted = after_snoop state kind
+after_other state kind Handed = after_snoop state kind
+after_other state kind Upgraded = after_snoop state kind
+after_other state kind Retried = after_snoop state kind
+after_other state kind Deferred = after_snoop state kind
+after_other state kind Written = after_snoop state kind
+after_other state kind Replied = state
+
+-- the state of an agent after a snoop end: of its own request where `mine`, else of another's
+abbrev pub next_state : Mesi → Bool → Kind → Settled → Bool → Mesi
+next_state state mine kind settled shared = cond mine (after_own state kind settled shared) (after_other state kind settled)
