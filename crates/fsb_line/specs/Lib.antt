@@ -1,2 +1,5 @@
 pub mod States
 pub mod Links
+pub mod Line
+pub mod Events
+pub mod Coherence

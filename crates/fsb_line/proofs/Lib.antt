@@ -1,0 +1,4 @@
+pub mod LinkFacts
+pub mod StateFacts
+pub mod Order
+pub mod OrderHits
