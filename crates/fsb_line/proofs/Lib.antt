@@ -4,3 +4,6 @@ pub mod Order
 pub mod OrderHits
 pub mod OrderSnoops
 pub mod OrderEnds
+pub mod Values
+pub mod ValueSnoops
+pub mod ValueEnds

@@ -108,3 +108,30 @@ IsChained-end (k ∷ m ∷ ls) l h f = (h.0, IsChained-end (m ∷ ls) l h.1 f)
 pub IsChained-tail : (l : Link) (ls : List Link) → IsChained (l ∷ ls) → IsChained ls
 IsChained-tail l [] h = h
 IsChained-tail l (m ∷ ls) h = h.1
+
+-- whoever awaits the end of a won upgrade awaits a link
+pub won_is_linked : (a : ℕ) (ls : List Link) → has_won a ls ≡ true → is_linked a ls ≡ true
+won_is_linked a [] h = absurd (cc)
+won_is_linked a (k ∷ ks) h = one (k.agent == a) (is_won k) (has_won a ks) (is_linked a ks) h (won_is_linked a ks)
+  where
+    one : (e w s t : Bool) → ((e && w) || s) ≡ true → (s ≡ true → t ≡ true) → (e || t) ≡ true
+    one true w s t h f = refl
+    one false w s t h f = f h
+
+pub won_is_any : (a : ℕ) (ls : List Link) → has_won a ls ≡ true → any_won ls ≡ true
+won_is_any a [] h = absurd (cc)
+won_is_any a (k ∷ ks) h = one (k.agent == a) (is_won k) (has_won a ks) (any_won ks) h (won_is_any a ks)
+  where
+    one : (e w s t : Bool) → ((e && w) || s) ≡ true → (s ≡ true → t ≡ true) → (w || t) ≡ true
+    one e true s t h f = refl
+    one true false s t h f = f h
+    one false false s t h f = f h
+
+-- a chain with a newest link isn't empty, and its oldest link is as before, or is the newest one
+pub end_not_empty : (ls : List Link) (l : Link) → ls ++ l ∷ [] ≡ [] → ⊥
+end_not_empty [] l h = cc
+end_not_empty (k ∷ ks) l h = cc
+
+pub end_oldest : (ls : List Link) (l k : Link) (ks : List Link) → ls ++ l ∷ [] ≡ k ∷ ks → ((ls ≡ []) × (l ≡ k)) ⊎ ((ms : List Link) × (ls ≡ k ∷ ms))
+end_oldest [] l k ks h = inl (refl, cc)
+end_oldest (m ∷ ms) l k ks h = inr (ms, let e : m ≡ k = cc in ap (λ m. m ∷ ms) e)

@@ -11,15 +11,7 @@ use Rattle.fsb_line.specs.declared.kind.Kind.TheVariants.{Own, Read, Upgrade, Wr
 use Rattle.fsb_line.specs.declared.link.Link.{Link}
 use Rattle.fsb_line.proofs.LinkFacts.{IsChained-end, any_owns-unlinked, has_late_upgrade-end, is_linked-end, is_overtaken-end, newest-end, newest_is_linked}
 use Rattle.fsb_line.proofs.OrderHits.{sole_unlinked}
-use Rattle.fsb_line.proofs.StateFacts.{asker_not_sole, dropped_suits, gets_asks, gets_no_upgrade, gets_owns, granted_alone, granted_owns, granted_sole, modified_is_sole, modified_suits, same_agent, snoop_held, snoop_not_sole, snoop_owned, snoop_suits, snoop_unheld, snoop_unowned, sole_is_held, sole_suits}
-
-not_true : (b : Bool) → (b ≡ true → ⊥) → b ≡ false
-not_true true f = absurd (f refl)
-not_true false f = refl
-
-and_false : (b c : Bool) → c ≡ false → (b && c) ≡ false
-and_false true c h = h
-and_false false c h = refl
+use Rattle.fsb_line.proofs.StateFacts.{and_false, asker_not_sole, not_true, unheld_unmodified, dropped_suits, gets_asks, gets_no_upgrade, gets_owns, granted_alone, granted_owns, granted_sole, modified_is_sole, modified_suits, same_agent, snoop_held, snoop_not_sole, snoop_owned, snoop_suits, snoop_unheld, snoop_unowned, sole_is_held, sole_suits}
 
 -- where nobody else has the line Modified, the newest link owns nothing, for an agent that awaits no link
 pub newest_reads : (x : Line) (a : ℕ) (k : Link) → Ordered x → NobodyElseModified x a → is_linked a x.chain ≡ false → newest x.chain ≡ Some k → owns k ≡ false
@@ -87,9 +79,6 @@ owner_asks_nothing x a kind owner o m k e =
     let older = o.first owner a k _ e m.oldest.asked m.other back in
     let younger = m.oldest.oldest owner k e in
     absurd (omega arith)
-
-unheld_unmodified : (s : _) → is_held s ≡ false → is_modified s ≡ false
-unheld_unmodified s h = not_true (is_modified s) (λ g. let f = sole_is_held s (modified_is_sole s g) in cc)
 
 pub Ordered-IsHanded : (x : Line) (a : ℕ) (kind : Kind) (owner : ℕ) → Ordered x → MayHand x a kind owner → Ordered (effect x (IsHanded a kind owner))
 unfolding effect settled linked given put

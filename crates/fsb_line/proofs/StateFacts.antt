@@ -9,6 +9,14 @@ use Rattle.fsb_line.specs.Line.{put}
 use Rattle.fsb_line.specs.Links.{is_upgrade}
 use Rattle.fsb_line.specs.States.{after_snoop, granted, is_held, is_modified, is_sole, kind_owns}
 
+pub not_true : (b : Bool) → (b ≡ true → ⊥) → b ≡ false
+not_true true f = absurd (f refl)
+not_true false f = refl
+
+pub and_false : (b c : Bool) → c ≡ false → (b && c) ≡ false
+and_false true c h = h
+and_false false c h = refl
+
 -- two agents are the same or they aren't
 pub same_agent : (b a : ℕ) → (b ≡ a) ⊎ (b ≢ a)
 same_agent b a = grind (arith, nat_tests)
@@ -39,6 +47,9 @@ sole_is_held Modified h = refl
 sole_is_held Exclusive h = refl
 sole_is_held Shared h = refl
 sole_is_held Invalid h = absurd (cc)
+
+pub unheld_unmodified : (s : Mesi) → is_held s ≡ false → is_modified s ≡ false
+unheld_unmodified s h = not_true (is_modified s) (λ g. let f = sole_is_held s (modified_is_sole s g) in cc)
 
 -- a snoop gives nobody the line
 pub snoop_unheld : (s : Mesi) (k : Kind) → is_held s ≡ false → is_held (after_snoop s k) ≡ false
