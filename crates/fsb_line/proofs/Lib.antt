@@ -7,3 +7,4 @@ pub mod OrderEnds
 pub mod Values
 pub mod ValueSnoops
 pub mod ValueEnds
+pub mod Theorem

@@ -49,13 +49,22 @@ has_copy-rest x l ls a e n =
     let awaits : is_linked a x.chain ≡ is_linked a ls = ap (is_linked a) e ∙ rw other in
     rw (won, awaits)
 
-others_copies : (x : Line) (l : Link) (ls : List Link) (a : ℕ) (change : Bytes → Bytes) → x.chain ≡ l ∷ ls → Ordered x → Valued x → a ≢ l.agent → (has_won a ls || (is_held (x.state a) && not (is_linked a ls))) ≡ true → x.copy a ≡ changed l change x.now
-others_copies x l ls a change e o v n h =
+no_copies_behind : (x : Line) (l : Link) (ls : List Link) (a : ℕ) → x.chain ≡ l ∷ ls → Ordered x → a ≢ l.agent → (has_won a ls || (is_held (x.state a) && not (is_linked a ls))) ≡ true → owns l ≡ false
+no_copies_behind x l ls a e o n h =
     let other : (l.agent == a) ≡ false = grind (arith, nat_tests) in
     let no_late : has_late_upgrade (l ∷ ls) ≡ false = sym (ap has_late_upgrade e) ∙ o.no_late_upgrade in
     let over : is_held (x.state a) ≡ true → ((owns l && not (is_linked a ls)) || is_overtaken a ls) ≡ false = λ held. rw other at (sym (ap (is_overtaken a) e) ∙ o.holds_on a held) in
-    let reads : owns l ≡ false = no_owner_before (has_won a ls) (is_held (x.state a)) (is_linked a ls) (owns l) (any_won ls) (has_late_upgrade ls) (is_overtaken a ls) h (won_is_any a ls) no_late over in
+    no_owner_before (has_won a ls) (is_held (x.state a)) (is_linked a ls) (owns l) (any_won ls) (has_late_upgrade ls) (is_overtaken a ls) h (won_is_any a ls) no_late over
+
+-- its bytes are the line's after that end too
+others_copies : (x : Line) (l : Link) (ls : List Link) (a : ℕ) (change : Bytes → Bytes) → x.chain ≡ l ∷ ls → Ordered x → Valued x → a ≢ l.agent → (has_won a ls || (is_held (x.state a) && not (is_linked a ls))) ≡ true → x.copy a ≡ changed l change x.now
+others_copies x l ls a change e o v n h =
+    let reads : owns l ≡ false = no_copies_behind x l ls a e o n h in
     rw reads (v.copies a (has_copy-rest x l ls a e n ∙ h))
+
+-- where the oldest link owns, no other agent has bytes
+pub no_copies : (x : Line) (l : Link) (ls : List Link) (a : ℕ) → x.chain ≡ l ∷ ls → Ordered x → owns l ≡ true → a ≢ l.agent → has_copy x a ≡ false
+no_copies x l ls a e o w n = not_true (has_copy x a) (λ h. let reads = no_copies_behind x l ls a e o n (sym (has_copy-rest x l ls a e n) ∙ h) in cc)
 
 -- the memory has the line's bytes after the end of a link that owns nothing
 memory_after : (x : Line) (l : Link) (ls : List Link) (bytes : Bytes) → x.chain ≡ l ∷ ls → bytes ≡ x.now → Valued x → cond (takes l) bytes x.memory ≡ x.now

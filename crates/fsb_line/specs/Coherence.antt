@@ -4,7 +4,8 @@ use Rattle.fsb_line.specs.declared.kind.Kind.TheVariants.{Own, Read, Upgrade, Wr
 use Rattle.fsb_line.specs.declared.link.Link.{Link}
 use Rattle.fsb_line.specs.declared.state.Mesi.{Mesi}
 use Rattle.fsb_line.specs.declared.state.Mesi.TheVariants.{Exclusive, Invalid, Modified, Shared}
-use Rattle.fsb_line.specs.Events.{Event, May, NobodyElseHolds, after, gets_line, suits}
+use Rattle.fsb_line.specs.Events.{Event, IsReady, NobodyElseHolds, gets_line, suits}
+use Rattle.fsb_line.specs.Events.Event.{Begins, Drops, Ends, IsCancelled, IsDeferred, IsGranted, IsHanded, IsLost, IsReplied, IsRetried, IsUpgraded, IsWritten, Loads, Responds, Stores}
 use Rattle.fsb_line.specs.Line.{Ask, Bytes, Deferral, Line, brought, has_copy, source}
 use Rattle.fsb_line.specs.Links.{IsChained, has_late_upgrade, is_linked, is_overtaken, newest, owns}
 use Rattle.fsb_line.specs.States.{is_held, is_modified, is_sole}
@@ -55,3 +56,62 @@ pub record Valued (x : Line) : Type 0 where
   pub carried : (bytes : Bytes) → x.moved ≡ Some bytes → bytes ≡ x.now
   -- nothing is on the bus where no link is left
   pub quiet : x.chain ≡ [] → x.moved ≡ None
+
+-- what an access to a copy owes: the copy has the line's bytes
+pub record ReadsNow (x : Line) (a : ℕ) : Type 0 where
+  pub value : x.copy a ≡ x.now
+
+-- what a store owes besides: its agent has the line alone
+pub record WritesAlone (x : Line) (a : ℕ) : Type 0 where
+  pub value : x.copy a ≡ x.now
+  pub alone : NobodyElseHolds x a
+
+-- what a snoop end owes at which an agent gives the line: the agent has it Modified, and alone
+pub record GivesAlone (x : Line) (owner : ℕ) : Type 0 where
+  pub modified : IsTrue (is_modified (x.state owner))
+  pub alone : NobodyElseHolds x owner
+
+-- what a response owes: the line's bytes are put on the bus
+abbrev pub MovesNow : Line → List Link → Type 0
+MovesNow x [] = ⊥
+MovesNow x (l ∷ ls) = source x l ≡ Some x.now
+
+-- what an end owes: it brings the line's bytes; and where it may store, no other copy is there
+pub record EndsNow (x : Line) (l : Link) : Type 0 where
+  pub value : brought x l ≡ Some x.now
+  pub alone : IsTrue (owns l) → (a : ℕ) → a ≢ l.agent → IsFalse (has_copy x a)
+
+abbrev pub EndsOldest : Line → List Link → Type 0
+EndsOldest x [] = ⊥
+EndsOldest x (l ∷ ls) = EndsNow x l
+
+-- what an event owes where it happens
+unfoldable pub Owes : Line → Event → Type 0
+Owes x (Loads a) = ReadsNow x a
+Owes x (Stores a change) = WritesAlone x a
+Owes x (Drops a) = ⊤
+Owes x (Begins a kind number) = ⊤
+Owes x (IsCancelled a) = ⊤
+Owes x (IsWritten a) = GivesAlone x a
+Owes x (IsHanded a kind owner) = GivesAlone x owner
+Owes x (IsGranted a kind shared) = ⊤
+Owes x (IsUpgraded a) = ReadsNow x a
+Owes x (IsLost a) = ⊤
+Owes x (IsRetried a kind) = ⊤
+Owes x (IsDeferred a kind shared) = ⊤
+Owes x IsReplied = ⊤
+Owes x Responds = MovesNow x x.chain
+Owes x (Ends change) = EndsOldest x x.chain
+
+-- a line that is coherent
+pub record IsCoherent (x : Line) : Type 0 where
+  -- who may write has the line alone
+  pub one_writer : (a : ℕ) → IsTrue (is_sole (x.state a)) → NobodyElseHolds x a
+  -- every ready copy has the line's bytes
+  pub ready_copies : (a : ℕ) → IsReady x a → x.copy a ≡ x.now
+  -- so has the memory, where nothing is on its way and nobody has the line Modified
+  pub memory : x.chain ≡ [] → ((a : ℕ) → IsFalse (is_modified (x.state a))) → x.memory ≡ x.now
+  -- and what is on the bus
+  pub bus : (bytes : Bytes) → x.moved ≡ Some bytes → bytes ≡ x.now
+  -- nobody is sole on a pending line
+  pub pending : (d : Deferral) → x.deferral ≡ Some d → (a : ℕ) → IsFalse (is_sole (x.state a))

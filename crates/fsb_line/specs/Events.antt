@@ -7,7 +7,7 @@ use Rattle.fsb_line.specs.declared.link.Link.{Link}
 use Rattle.fsb_line.specs.declared.state.Mesi.{Mesi}
 use Rattle.fsb_line.specs.declared.state.Mesi.TheVariants.{Exclusive, Invalid, Modified, Shared}
 use Rattle.fsb_line.specs.Line.{Ask, Bytes, Deferral, Line, brought, put, source, trimmed}
-use Rattle.fsb_line.specs.Links.{is_linked, owns, takes}
+use Rattle.fsb_line.specs.Links.{carries, is_linked, owns, takes}
 use Rattle.fsb_line.specs.States.{is_held, is_modified, is_sole, next_state}
 
 -- what can happen to a line. A `change` is what the stores of one access, or of one locked item, make of the bytes
@@ -122,10 +122,10 @@ pub record MayLose (x : Line) (a : ℕ) : Type 0 where
   pub settles : MaySettle x a Upgrade
   pub lost : IsFalse (is_held (x.state a))
 
--- the oldest link awaits its response
+-- the oldest link awaits the response that moves its data
 abbrev pub AwaitsResponse : Line → List Link → Type 0
 AwaitsResponse x [] = ⊥
-AwaitsResponse x (l ∷ ls) = x.moved ≡ None
+AwaitsResponse x (l ∷ ls) = IsTrue (carries l) × (x.moved ≡ None)
 
 -- the oldest link has its bytes
 abbrev pub HasArrived : Line → List Link → Type 0

@@ -3,3 +3,4 @@ pub mod Links
 pub mod Line
 pub mod Events
 pub mod Coherence
+pub mod Runs
