@@ -8,3 +8,4 @@ pub mod Values
 pub mod ValueSnoops
 pub mod ValueEnds
 pub mod Theorem
+pub mod Since

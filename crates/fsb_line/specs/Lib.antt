@@ -4,3 +4,4 @@ pub mod Line
 pub mod Events
 pub mod Coherence
 pub mod Runs
+pub mod History
