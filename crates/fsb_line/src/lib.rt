@@ -2,6 +2,7 @@
 //! the data on their way, and what may happen to it.
 //!
 //! The line is a record of specs/, its events are a type, and coherence is a theorem over every
+//! list of events that may happen (`laws`). The agents and the bus take their decisions by the
 //! functions of `Mesi`, `Kind` and `Link`, whose contracts are the words that the events use. No
 //! clock, queue, cache set or address stands here. docs/coherence.md tells the argument.
 #![tactic(auto)]
@@ -10,6 +11,7 @@ pub use kind::{Kind, Settled};
 pub use link::Link;
 pub use state::Mesi;
 
+pub mod laws;
 
 mod kind;
 mod link;
