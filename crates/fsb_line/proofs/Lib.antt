@@ -9,3 +9,4 @@ pub mod ValueSnoops
 pub mod ValueEnds
 pub mod Theorem
 pub mod Since
+pub mod WitnessRuns

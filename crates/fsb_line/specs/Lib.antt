@@ -5,3 +5,4 @@ pub mod Events
 pub mod Coherence
 pub mod Runs
 pub mod History
+pub mod Witness
