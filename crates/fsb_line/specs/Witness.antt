@@ -1,7 +1,7 @@
 use Rattle.std.specs.Prelude.{ℕ, true, false, List, [], ◌∷◌}
-use Rattle.fsb_line.specs.declared.kind.Kind.TheVariants.{Own, Read, Upgrade}
+use Rattle.fsb_line.specs.declared.kind.Kind.TheVariants.{Own, Read, Upgrade, WriteBack}
 use Rattle.fsb_line.specs.Events.{Event}
-use Rattle.fsb_line.specs.Events.Event.{Begins, Ends, IsDeferred, IsGranted, IsHanded, IsLost, IsReplied, IsRetried, IsUpgraded, Loads, Responds, Stores}
+use Rattle.fsb_line.specs.Events.Event.{Begins, Drops, Ends, IsCancelled, IsDeferred, IsGranted, IsHanded, IsLost, IsReplied, IsRetried, IsUpgraded, IsWritten, Loads, Responds, Stores}
 use Rattle.fsb_line.specs.Line.{Bytes}
 
 -- a line of one byte is enough to tell stores apart
@@ -23,3 +23,34 @@ promises = Begins 0 Own 0 ∷ Begins 1 Own 1 ∷ Begins 2 Read 2 ∷ IsGranted 0
 -- then the bytes come: both owners store, and the reader reads what the second one stored
 abbrev pub deliveries : List Event
 deliveries = Responds ∷ Ends (stores 5) ∷ Responds ∷ Ends (stores 7) ∷ Responds ∷ Ends as_it_is ∷ Loads 2 ∷ []
+
+-- agent 0 asks to own the line and is deferred; agent 1 asks to read the pending line and is retried; the reply gives the line to agent 0, and agent 1 asks again and is promised it before agent 0 has it
+abbrev pub deferral : List Event
+deferral =
+    Begins 0 Own 0 ∷ IsDeferred 0 Own false ∷ Begins 1 Read 1 ∷ IsRetried 1 Read ∷ IsReplied ∷ Begins 1 Read 2 ∷ IsHanded 1 Read 0
+    ∷ Responds ∷ Ends (stores 5) ∷ Responds ∷ Ends as_it_is ∷ Loads 1 ∷ []
+
+-- agents 0 and 1 read the line, one after the other, and share it
+abbrev pub sharing : List Event
+sharing =
+    Begins 0 Read 0 ∷ IsGranted 0 Read false ∷ Responds ∷ Ends as_it_is
+    ∷ Begins 1 Read 1 ∷ IsGranted 1 Read true ∷ Responds ∷ Ends as_it_is ∷ []
+
+-- both ask to upgrade. Agent 0 wins, and promises the line to agent 1 before its own upgrade has ended; agent 1 gets it with its bytes
+abbrev pub upgrade_race : List Event
+upgrade_race =
+    Begins 0 Upgrade 2 ∷ Begins 1 Upgrade 3 ∷ IsUpgraded 0 ∷ IsHanded 1 Upgrade 0
+    ∷ Ends (stores 5) ∷ Responds ∷ Ends (stores 7) ∷ Loads 1 ∷ []
+
+-- agent 0 asks to own the line and is to try again, but its request took the line from agent 1, whose upgrade is lost; agent 1 asks to own the line instead
+abbrev pub lost_upgrade : List Event
+lost_upgrade =
+    Begins 0 Own 2 ∷ Begins 1 Upgrade 3 ∷ IsRetried 0 Own ∷ IsLost 1
+    ∷ Begins 1 Own 4 ∷ IsGranted 1 Own true ∷ Responds ∷ Ends (stores 7) ∷ Loads 1 ∷ []
+
+-- agent 0 stores and writes the line back, while agent 1 asks to read it; a request of agent 2 is cancelled; and agent 1 drops the line in the end
+abbrev pub write_back : List Event
+write_back =
+    Begins 0 Own 0 ∷ IsGranted 0 Own false ∷ Responds ∷ Ends (stores 5) ∷ Stores 0 (stores 7)
+    ∷ Begins 0 WriteBack 1 ∷ Begins 1 Read 2 ∷ Begins 2 Own 3 ∷ IsCancelled 2 ∷ IsWritten 0 ∷ IsGranted 1 Read false
+    ∷ Responds ∷ Ends as_it_is ∷ Responds ∷ Ends as_it_is ∷ Loads 1 ∷ Drops 1 ∷ []
