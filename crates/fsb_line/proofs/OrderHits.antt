@@ -66,7 +66,7 @@ Ordered-Begins x a kind number o m = record {
   alone = o.alone;
   suited = λ b k e. grind (arith, nat_tests, o.suited b k, m.suited);
   apart = λ b k e. grind (arith, nat_tests, o.apart b k, m.no_link);
-  first = λ b c j k e f n h. grind (arith, nat_tests, o.first b c j k, m.newest b j, m.newest c k, m.held_off, m.no_ask);
+  first = λ b c j k e f n h. grind (arith, nat_tests, o.first b c j k, m.newest b j, m.newest c k, m.not_held_off c, m.no_ask);
   pending = λ d e. let p = o.pending d e in record {
     gets = p.gets;
     no_ask = grind (arith, nat_tests, p.no_ask, m.no_deferral d e);

@@ -10,9 +10,9 @@ use Rattle.fsb_line.specs.declared.kind.Kind.TheVariants.{Own, Read, Upgrade, Wr
 pub promises_may_happen : MayRun (unheld (byte 0)) promises
 unfolding May after effect trimmed settled linked given put replied responded ended arrived
 promises_may_happen =
-    (record { no_ask = refl; no_link = refl; no_deferral = λ d e. absurd (cc); suited = refl; newest = λ b k e. absurd (cc); held_off = λ e. absurd (cc) },
-    (record { no_ask = refl; no_link = refl; no_deferral = λ d e. absurd (cc); suited = refl; newest = λ b k e. grind (arith, nat_tests); held_off = λ e. absurd (cc) },
-    (record { no_ask = refl; no_link = refl; no_deferral = λ d e. absurd (cc); suited = refl; newest = λ b k e. grind (arith, nat_tests); held_off = λ e. absurd (cc) },
+    (record { no_ask = refl; no_link = refl; no_deferral = λ d e. absurd (cc); suited = refl; newest = λ b k e. absurd (cc); not_held_off = λ b n. refl },
+    (record { no_ask = refl; no_link = refl; no_deferral = λ d e. absurd (cc); suited = refl; newest = λ b k e. grind (arith, nat_tests); not_held_off = λ b n. refl },
+    (record { no_ask = refl; no_link = refl; no_deferral = λ d e. absurd (cc); suited = refl; newest = λ b k e. grind (arith, nat_tests); not_held_off = λ b n. refl },
     (record { settles = record { oldest = record { number = 0; asked = refl; oldest = λ b k e. grind (arith, nat_tests) }; clean = λ b n. grind (arith, nat_tests) }; gets = refl; unseen = λ e b n. grind (arith, nat_tests); not_pending = refl },
     (record { oldest = record { number = 1; asked = refl; oldest = λ b k e. grind (arith, nat_tests) }; asks = refl; other = omega arith; modified = refl },
     (record { oldest = record { number = 2; asked = refl; oldest = λ b k e. grind (arith, nat_tests) }; asks = refl; other = omega arith; modified = refl },
@@ -33,12 +33,12 @@ deliveries_may_happen =
 pub deferral_may_happen : MayRun (unheld (byte 0)) deferral
 unfolding May after effect trimmed settled linked given put replied responded ended arrived
 deferral_may_happen =
-    (record { no_ask = refl; no_link = refl; no_deferral = λ d e. absurd (cc); suited = refl; newest = λ b k e. grind (arith, nat_tests); held_off = λ e. absurd (cc) },
+    (record { no_ask = refl; no_link = refl; no_deferral = λ d e. absurd (cc); suited = refl; newest = λ b k e. grind (arith, nat_tests); not_held_off = λ b n. refl },
     (record { settles = record { oldest = record { number = 0; asked = refl; oldest = λ b k e. grind (arith, nat_tests) }; clean = λ b n. grind (arith, nat_tests) }; gets = refl; unseen = λ e b n. grind (arith, nat_tests); not_pending = refl },
-    (record { no_ask = refl; no_link = refl; no_deferral = λ d e. grind (arith, nat_tests); suited = refl; newest = λ b k e. grind (arith, nat_tests); held_off = λ e. absurd (cc) },
+    (record { no_ask = refl; no_link = refl; no_deferral = λ d e. grind (arith, nat_tests); suited = refl; newest = λ b k e. grind (arith, nat_tests); not_held_off = λ b n. refl },
     ((record { oldest = record { number = 1; asked = refl; oldest = λ b k e. grind (arith, nat_tests) }; clean = λ b n. grind (arith, nat_tests) }, refl),
     (refl,
-    (record { no_ask = refl; no_link = refl; no_deferral = λ d e. absurd (cc); suited = refl; newest = λ b k e. grind (arith, nat_tests); held_off = λ e. absurd (cc) },
+    (record { no_ask = refl; no_link = refl; no_deferral = λ d e. absurd (cc); suited = refl; newest = λ b k e. grind (arith, nat_tests); not_held_off = λ b n. refl },
     (record { oldest = record { number = 2; asked = refl; oldest = λ b k e. grind (arith, nat_tests) }; asks = refl; other = omega arith; modified = refl },
     ((refl, refl),
     (refl,
@@ -50,11 +50,11 @@ deferral_may_happen =
 pub sharing_may_happen : MayRun (unheld (byte 0)) sharing
 unfolding May after effect trimmed settled linked given put replied responded ended arrived
 sharing_may_happen =
-    (record { no_ask = refl; no_link = refl; no_deferral = λ d e. absurd (cc); suited = refl; newest = λ b k e. grind (arith, nat_tests); held_off = λ e. absurd (cc) },
+    (record { no_ask = refl; no_link = refl; no_deferral = λ d e. absurd (cc); suited = refl; newest = λ b k e. grind (arith, nat_tests); not_held_off = λ b n. refl },
     (record { settles = record { oldest = record { number = 0; asked = refl; oldest = λ b k e. grind (arith, nat_tests) }; clean = λ b n. grind (arith, nat_tests) }; gets = refl; unseen = λ e b n. grind (arith, nat_tests); not_pending = refl },
     ((refl, refl),
     (refl,
-    (record { no_ask = refl; no_link = refl; no_deferral = λ d e. absurd (cc); suited = refl; newest = λ b k e. grind (arith, nat_tests); held_off = λ e. absurd (cc) },
+    (record { no_ask = refl; no_link = refl; no_deferral = λ d e. absurd (cc); suited = refl; newest = λ b k e. grind (arith, nat_tests); not_held_off = λ b n. refl },
     (record { settles = record { oldest = record { number = 1; asked = refl; oldest = λ b k e. grind (arith, nat_tests) }; clean = λ b n. grind (arith, nat_tests) }; gets = refl; unseen = λ e b n. absurd (cc); not_pending = refl },
     ((refl, refl),
     (refl,
@@ -63,8 +63,8 @@ sharing_may_happen =
 pub upgrade_race_may_happen : MayRun (run (unheld (byte 0)) sharing) upgrade_race
 unfolding May after effect trimmed settled linked given put replied responded ended arrived
 upgrade_race_may_happen =
-    (record { no_ask = refl; no_link = refl; no_deferral = λ d e. absurd (cc); suited = refl; newest = λ b k e. grind (arith, nat_tests); held_off = λ e. absurd (cc) },
-    (record { no_ask = refl; no_link = refl; no_deferral = λ d e. absurd (cc); suited = refl; newest = λ b k e. grind (arith, nat_tests); held_off = λ e. absurd (cc) },
+    (record { no_ask = refl; no_link = refl; no_deferral = λ d e. absurd (cc); suited = refl; newest = λ b k e. grind (arith, nat_tests); not_held_off = λ b n. refl },
+    (record { no_ask = refl; no_link = refl; no_deferral = λ d e. absurd (cc); suited = refl; newest = λ b k e. grind (arith, nat_tests); not_held_off = λ b n. refl },
     (record { settles = record { oldest = record { number = 2; asked = refl; oldest = λ b k e. grind (arith, nat_tests) }; clean = λ b n. grind (arith, nat_tests) }; held = refl; not_pending = refl },
     (record { oldest = record { number = 3; asked = refl; oldest = λ b k e. grind (arith, nat_tests) }; asks = refl; other = omega arith; modified = refl },
     (refl,
@@ -76,11 +76,11 @@ upgrade_race_may_happen =
 pub lost_upgrade_may_happen : MayRun (run (unheld (byte 0)) sharing) lost_upgrade
 unfolding May after effect trimmed settled linked given put replied responded ended arrived
 lost_upgrade_may_happen =
-    (record { no_ask = refl; no_link = refl; no_deferral = λ d e. absurd (cc); suited = refl; newest = λ b k e. grind (arith, nat_tests); held_off = λ e. absurd (cc) },
-    (record { no_ask = refl; no_link = refl; no_deferral = λ d e. absurd (cc); suited = refl; newest = λ b k e. grind (arith, nat_tests); held_off = λ e. absurd (cc) },
+    (record { no_ask = refl; no_link = refl; no_deferral = λ d e. absurd (cc); suited = refl; newest = λ b k e. grind (arith, nat_tests); not_held_off = λ b n. refl },
+    (record { no_ask = refl; no_link = refl; no_deferral = λ d e. absurd (cc); suited = refl; newest = λ b k e. grind (arith, nat_tests); not_held_off = λ b n. refl },
     ((record { oldest = record { number = 2; asked = refl; oldest = λ b k e. grind (arith, nat_tests) }; clean = λ b n. grind (arith, nat_tests) }, refl),
-    (record { settles = record { oldest = record { number = 3; asked = refl; oldest = λ b k e. grind (arith, nat_tests) }; clean = λ b n. grind (arith, nat_tests) }; lost = refl },
-    (record { no_ask = refl; no_link = refl; no_deferral = λ d e. absurd (cc); suited = refl; newest = λ b k e. grind (arith, nat_tests); held_off = λ e. absurd (cc) },
+    (record { settles = record { oldest = record { number = 3; asked = refl; oldest = λ b k e. grind (arith, nat_tests) }; clean = λ b n. grind (arith, nat_tests) }; lost = refl; not_pending = refl },
+    (record { no_ask = refl; no_link = refl; no_deferral = λ d e. absurd (cc); suited = refl; newest = λ b k e. grind (arith, nat_tests); not_held_off = λ b n. refl },
     (record { settles = record { oldest = record { number = 4; asked = refl; oldest = λ b k e. grind (arith, nat_tests) }; clean = λ b n. grind (arith, nat_tests) }; gets = refl; unseen = λ e b n. absurd (cc); not_pending = refl },
     ((refl, refl),
     (refl,
@@ -90,14 +90,14 @@ lost_upgrade_may_happen =
 pub write_back_may_happen : MayRun (unheld (byte 0)) write_back
 unfolding May after effect trimmed settled linked given put replied responded ended arrived
 write_back_may_happen =
-    (record { no_ask = refl; no_link = refl; no_deferral = λ d e. absurd (cc); suited = refl; newest = λ b k e. grind (arith, nat_tests); held_off = λ e. absurd (cc) },
+    (record { no_ask = refl; no_link = refl; no_deferral = λ d e. absurd (cc); suited = refl; newest = λ b k e. grind (arith, nat_tests); not_held_off = λ b n. refl },
     (record { settles = record { oldest = record { number = 0; asked = refl; oldest = λ b k e. grind (arith, nat_tests) }; clean = λ b n. grind (arith, nat_tests) }; gets = refl; unseen = λ e b n. grind (arith, nat_tests); not_pending = refl },
     ((refl, refl),
     (refl,
     ((record { held = refl; no_link = refl }, refl),
-    (record { no_ask = refl; no_link = refl; no_deferral = λ d e. absurd (cc); suited = refl; newest = λ b k e. grind (arith, nat_tests); held_off = λ e. λ b n. grind (arith, nat_tests) },
-    (record { no_ask = refl; no_link = refl; no_deferral = λ d e. absurd (cc); suited = refl; newest = λ b k e. grind (arith, nat_tests); held_off = λ e. absurd (cc) },
-    (record { no_ask = refl; no_link = refl; no_deferral = λ d e. absurd (cc); suited = refl; newest = λ b k e. grind (arith, nat_tests); held_off = λ e. absurd (cc) },
+    (record { no_ask = refl; no_link = refl; no_deferral = λ d e. absurd (cc); suited = refl; newest = λ b k e. grind (arith, nat_tests); not_held_off = λ b n. grind (arith, nat_tests) },
+    (record { no_ask = refl; no_link = refl; no_deferral = λ d e. absurd (cc); suited = refl; newest = λ b k e. grind (arith, nat_tests); not_held_off = λ b n. refl },
+    (record { no_ask = refl; no_link = refl; no_deferral = λ d e. absurd (cc); suited = refl; newest = λ b k e. grind (arith, nat_tests); not_held_off = λ b n. refl },
     (tt,
     (record { number = 1; asked = refl; oldest = λ b k e. grind (arith, nat_tests) },
     (record { settles = record { oldest = record { number = 2; asked = refl; oldest = λ b k e. grind (arith, nat_tests) }; clean = λ b n. grind (arith, nat_tests) }; gets = refl; unseen = λ e b n. grind (arith, nat_tests); not_pending = refl },

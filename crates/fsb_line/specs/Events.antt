@@ -7,8 +7,8 @@ use Rattle.fsb_line.specs.declared.link.Link.{Link}
 use Rattle.fsb_line.specs.declared.state.Mesi.{Mesi}
 use Rattle.fsb_line.specs.declared.state.Mesi.TheVariants.{Exclusive, Invalid, Modified, Shared}
 use Rattle.fsb_line.specs.Line.{Ask, Bytes, Deferral, Line, brought, put, source, trimmed}
-use Rattle.fsb_line.specs.Links.{carries, is_linked, owns, takes}
-use Rattle.fsb_line.specs.States.{is_held, is_modified, is_sole, next_state}
+use Rattle.fsb_line.specs.Links.{carries, gives, is_linked, owns, takes}
+use Rattle.fsb_line.specs.States.{is_held, is_held_off, is_modified, is_sole, next_state}
 
 -- what can happen to a line. A `change` is what the stores of one access, or of one locked item, make of the bytes
 pub data Event : Type 0 where
@@ -85,7 +85,7 @@ pub record MayBegin (x : Line) (a : ℕ) (kind : Kind) (number : ℕ) : Type 0 w
   pub no_deferral : (d : Deferral) → x.deferral ≡ Some d → d.agent ≢ a
   pub suited : IsTrue (suits kind (x.state a))
   pub newest : (b : ℕ) (k : Ask) → x.ask b ≡ Some k → k.number < number
-  pub held_off : kind ≡ WriteBack → (b : ℕ) → b ≢ a → x.ask b ≡ None
+  pub not_held_off : (b : ℕ) → b ≢ a → IsFalse (is_held_off kind (is_some (x.ask b)))
 
 -- a copy is ready where its agent holds the line and awaits no link
 pub record IsReady (x : Line) (a : ℕ) : Type 0 where
@@ -117,10 +117,11 @@ pub record MayUpgrade (x : Line) (a : ℕ) : Type 0 where
   pub held : IsTrue (is_held (x.state a))
   pub not_pending : x.deferral ≡ None
 
--- an upgrade is lost where its agent no longer holds the line
+-- an upgrade is lost where its agent no longer holds the line, which isn't pending
 pub record MayLose (x : Line) (a : ℕ) : Type 0 where
   pub settles : MaySettle x a Upgrade
   pub lost : IsFalse (is_held (x.state a))
+  pub not_pending : x.deferral ≡ None
 
 -- the oldest link awaits the response that moves its data
 abbrev pub AwaitsResponse : Line → List Link → Type 0
@@ -174,11 +175,6 @@ replied x (Some d) = linked (record (settled x d.agent d.kind Replied d.shared) 
 unfoldable pub responded : Line → List Link → Line
 responded x [] = x
 responded x (l ∷ ls) = record x { moved = source x l }
-
--- the agent is the giver
-abbrev pub gives : Option ℕ → ℕ → Bool
-gives None a = false
-gives (Some giver) a = giver == a
 
 -- what the agent gives to the next link: the bytes, if it promised them
 abbrev pub passed_on : ℕ → Bytes → List Link → Option Bytes

@@ -72,3 +72,8 @@ abbrev pub IsChained : List Link → Type 0
 IsChained [] = ⊤
 IsChained (l ∷ []) = ⊤
 IsChained (l ∷ m ∷ ls) = (m.giver ≡ giver_after l) × IsChained (m ∷ ls)
+
+-- the agent is the giver
+abbrev pub gives : Option ℕ → ℕ → Bool
+gives None a = false
+gives (Some giver) a = giver == a

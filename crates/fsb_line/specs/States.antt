@@ -1,6 +1,10 @@
-use Rattle.std.specs.Prelude.{Bool, true, false, cond}
+use Rattle.std.specs.Prelude.{Bool, true, false, cond, Option, Some, None}
 use Rattle.fsb_line.specs.declared.kind.Kind.{Kind}
 use Rattle.fsb_line.specs.declared.kind.Kind.TheVariants.{Own, Read, Upgrade, WriteBack}
+use Rattle.fsb_line.specs.declared.kind.Turn.{Turn}
+use Rattle.fsb_line.specs.declared.kind.Turn.TheVariants.{Defer, Keep, Retry}
+use Rattle.fsb_line.specs.declared.state.Answer.{Answer}
+use Rattle.fsb_line.specs.declared.state.Answer.TheVariants as answers
 use Rattle.fsb_line.specs.declared.state.Mesi.{Mesi}
 use Rattle.fsb_line.specs.declared.state.Mesi.TheVariants.{Exclusive, Invalid, Modified, Shared}
 use Rattle.fsb_line.specs.declared.kind.Settled.{Settled}
@@ -71,3 +75,55 @@ after_other state kind Replied = state
 -- the state of an agent after a snoop end: of its own request where `mine`, else of another's
 abbrev pub next_state : Mesi → Bool → Kind → Settled → Bool → Mesi
 next_state state mine kind settled shared = cond mine (after_own state kind settled shared) (after_other state kind settled)
+
+-- what an agent answers at the snoop end of another's request: that it has the line Modified, that it holds it, or neither
+abbrev pub answer_of : Mesi → Answer
+answer_of Invalid = answers.Clean
+answer_of Shared = answers.Hit
+answer_of Exclusive = answers.Hit
+answer_of Modified = answers.Modified
+
+-- the request that an access needs first, which wants the line alone or not; none where the state serves it
+abbrev pub wanted : Mesi → Bool → Bool → Option Kind
+wanted Invalid alone upgrades = Some (cond alone Own Read)
+wanted Shared alone upgrades = cond alone (Some (cond upgrades Upgrade Own)) None
+wanted Exclusive alone upgrades = None
+wanted Modified alone upgrades = None
+
+-- a request is held off while another agent's is open: a write-back
+abbrev pub is_held_off : Kind → Bool → Bool
+is_held_off Read other_is_open = false
+is_held_off Own other_is_open = false
+is_held_off Upgrade other_is_open = false
+is_held_off WriteBack other_is_open = other_is_open
+
+-- how a request is settled that nothing keeps from being served
+abbrev pub served : Kind → Settled
+served Read = Granted
+served Own = Granted
+served Upgrade = Upgraded
+served WriteBack = Written
+
+-- how one is settled that is to be answered later
+abbrev pub put_off : Kind → Settled
+put_off Read = Deferred
+put_off Own = Deferred
+put_off Upgrade = Upgraded
+put_off WriteBack = Written
+
+-- how one is settled that is to be made again
+abbrev pub sent_back : Kind → Settled
+sent_back Read = Retried
+sent_back Own = Retried
+sent_back Upgrade = Retried
+sent_back WriteBack = Written
+
+-- how one is settled by its turn
+abbrev pub settled_by_turn : Kind → Turn → Settled
+settled_by_turn kind Keep = served kind
+settled_by_turn kind Retry = sent_back kind
+settled_by_turn kind Defer = put_off kind
+
+-- how a request is settled: its line is handed over where another agent has it Modified; a pending line is given to nobody; else its turn decides
+abbrev pub settled_as : Kind → Bool → Bool → Turn → Settled
+settled_as kind owned pending turn = cond owned Handed (cond pending (sent_back kind) (settled_by_turn kind turn))

@@ -14,7 +14,7 @@ pub enum Kind {
 
 impl Kind {
     ghost use Rattle.std.specs.Prelude.{◌≡◌};
-    ghost use Rattle.fsb_line.specs.States.{kind_owns};
+    ghost use Rattle.fsb_line.specs.States.{is_held_off, kind_owns, settled_as};
 
     /// Whether a request of this kind makes its agent the owner of the line.
     pub fn owns(self) -> bool
@@ -22,6 +22,42 @@ impl Kind {
     {
         matches!(self, Kind::Own | Kind::Upgrade)
     }
+
+    /// Whether a request of this kind is held off, where another agent's request on the line has no
+    /// snoop end yet or none has. Only a write-back is: the other agent may still take the line.
+    pub fn is_held_off(self, other_is_open: bool) -> bool
+        ensures { result ≡ is_held_off self other_is_open }
+    {
+        self == Kind::WriteBack && other_is_open
+    }
+
+    /// How a request of this kind is settled at its snoop end: by another agent that has the line
+    /// Modified (`owned`), by a deferral of the line that awaits its reply (`pending`), and by what
+    /// the bus was told (`turn`), in this order.
+    pub fn settled(self, owned: bool, pending: bool, turn: Turn) -> Settled
+        ensures { result ≡ settled_as self owned pending turn }
+    {
+        match (self, turn) {
+            _ if owned => Settled::Handed,
+            (Kind::WriteBack, _) => Settled::Written,
+            _ if pending => Settled::Retried,
+            (_, Turn::Retry) => Settled::Retried,
+            (Kind::Read | Kind::Own, Turn::Defer) => Settled::Deferred,
+            (Kind::Read | Kind::Own, Turn::Keep) => Settled::Granted,
+            (Kind::Upgrade, Turn::Keep | Turn::Defer) => Settled::Upgraded,
+        }
+    }
+}
+
+/// What the bus was told to do with a request.
+#[derive(Clone, Copy, Debug, PartialEq, Eq)]
+pub enum Turn {
+    /// To serve it.
+    Keep,
+    /// To have it made again.
+    Retry,
+    /// To answer it later. An upgrade and a write-back are never answered later.
+    Defer,
 }
 
 /// How a request is settled at its snoop end.

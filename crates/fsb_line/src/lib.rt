@@ -7,9 +7,9 @@
 //! clock, queue, cache set or address stands here. docs/coherence.md tells the argument.
 #![tactic(auto)]
 
-pub use kind::{Kind, Settled};
+pub use kind::{Kind, Settled, Turn};
 pub use link::Link;
-pub use state::Mesi;
+pub use state::{Answer, Mesi};
 
 pub mod laws;
 

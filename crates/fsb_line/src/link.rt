@@ -13,7 +13,7 @@ pub struct Link {
 
 impl Link {
     ghost use Rattle.std.specs.Prelude.{◌≡◌};
-    ghost use Rattle.fsb_line.specs.Links.{carries, giver_after, owns, takes};
+    ghost use Rattle.fsb_line.specs.Links.{carries, giver_after, gives, owns, takes};
 
     /// Whether the link makes its agent the owner of the line.
     pub fn owns(&self) -> bool
@@ -34,6 +34,13 @@ impl Link {
         ensures { result ≡ takes self.now }
     {
         self.giver.is_some()
+    }
+
+    /// Whether this agent gives the link's bytes: when its own have come, it passes them on.
+    pub fn is_given_by(&self, agent: u8) -> bool
+        ensures { result ≡ gives self.now.giver agent }
+    {
+        self.giver == Some(agent)
     }
 
     /// Who gives the bytes of a link that comes right after this one: its agent, where it owns the

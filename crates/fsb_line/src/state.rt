@@ -15,7 +15,7 @@ pub enum Mesi {
 
 impl Mesi {
     ghost use Rattle.std.specs.Prelude.{◌≡◌};
-    ghost use Rattle.fsb_line.specs.States.{after_snoop, granted, is_held, is_sole, next_state};
+    ghost use Rattle.fsb_line.specs.States.{after_snoop, answer_of, granted, is_held, is_sole, next_state, wanted};
 
     /// Whether the agent holds the line.
     pub fn is_held(self) -> bool
@@ -29,6 +29,32 @@ impl Mesi {
         ensures { result ≡ is_sole self }
     {
         matches!(self, Mesi::Exclusive | Mesi::Modified)
+    }
+
+    /// What the agent answers at the snoop end of another's request, whether its bytes have come or
+    /// not.
+    pub fn answer(self) -> Answer
+        ensures { result ≡ answer_of self }
+    {
+        match self {
+            Mesi::Invalid => Answer::Clean,
+            Mesi::Shared | Mesi::Exclusive => Answer::Hit,
+            Mesi::Modified => Answer::Modified,
+        }
+    }
+
+    /// The request that an access needs first: none where the state serves it. An access that isn't
+    /// a plain load wants the line `alone`. `upgrades` says that the bus knows upgrades.
+    pub fn wanted(self, alone: bool, upgrades: bool) -> Option<Kind>
+        ensures { result ≡ wanted self alone upgrades }
+    {
+        match self {
+            Mesi::Exclusive | Mesi::Modified => None,
+            Mesi::Shared if !alone => None,
+            Mesi::Shared if upgrades => Some(Kind::Upgrade),
+            Mesi::Invalid if !alone => Some(Kind::Read),
+            Mesi::Shared | Mesi::Invalid => Some(Kind::Own),
+        }
     }
 
     /// The state in which a request of this kind gets its line. `shared` says that another agent
@@ -70,4 +96,15 @@ impl Mesi {
             Settled::Retried | Settled::Deferred => self,
         }
     }
+}
+
+/// What an agent answers at the snoop end of another agent's request.
+#[derive(Clone, Copy, Debug, PartialEq, Eq)]
+pub enum Answer {
+    /// It doesn't hold the line.
+    Clean,
+    /// It holds the line, and the memory may give it.
+    Hit,
+    /// It has the line Modified, and gives it itself.
+    Modified,
 }
