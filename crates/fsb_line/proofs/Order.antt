@@ -1,9 +1,10 @@
 use Rattle.std.proofs.Common.{◌≡◌, ◌≢◌, ◌==◌, ℕ, Bool, true, false, cond, not, ◌&&◌, ◌||◌, ◌⊎◌, inl, inr, Option, Some, None, List, [], ◌∷◌, ◌++◌, refl, sym, ◌∙◌, ap, subst, arith}
 use Rattle.std.proofs.lemmas.Bool.Decides.{nat_tests}
 use Rattle.fsb_line.specs.Coherence.{IsPending, Ordered}
-use Rattle.fsb_line.specs.Events.{Event, IsOldest, May, MayBegin, MayGrant, MayHand, MayLose, MaySettle, MayUpgrade, asks_line, effect, gets_line, settled, suits}
+use Rattle.fsb_line.specs.Events.{Event, IsOldest, May, MayBegin, MayGrant, MayHand, MayLose, MaySettle, MayUpgrade, effect, settled}
 use Rattle.fsb_line.specs.Events.Event.{IsRetried}
 use Rattle.fsb_line.specs.Line.{Ask, Deferral, Line, has_copy, put, trimmed}
+use Rattle.fsb_line.specs.States.{asks_line, gets_line, suits}
 use Rattle.fsb_line.specs.declared.kind.Kind.{Kind}
 use Rattle.fsb_line.proofs.LinkFacts.{}
 use Rattle.fsb_line.proofs.StateFacts.{cond-other, cond-same, modified_is_sole, put-other, put-same, same_agent, snoop_held, snoop_not_sole, snoop_suits, snoop_unheld}

@@ -1,11 +1,11 @@
 use Rattle.std.proofs.Common.{◌≡◌, ◌≢◌, ◌==◌, ℕ, Bool, true, false, cond, not, ◌&&◌, ◌||◌, ◌⊎◌, inl, inr, Option, Some, None, List, [], ◌∷◌, ◌++◌, refl, sym, ◌∙◌, ap, subst, arith}
 use Rattle.std.proofs.lemmas.Bool.Decides.{nat_tests}
 use Rattle.fsb_line.specs.Coherence.{IsPending, Ordered}
-use Rattle.fsb_line.specs.Events.{Event, IsOldest, IsReady, May, MayBegin, MayGrant, MayHand, MayLose, MaySettle, MayUpgrade, asks_line, effect, gets_line, settled, suits}
+use Rattle.fsb_line.specs.Events.{Event, IsOldest, IsReady, May, MayBegin, MayGrant, MayHand, MayLose, MaySettle, MayUpgrade, effect, settled}
 use Rattle.fsb_line.specs.Events.Event.{Begins, Drops, IsCancelled, Stores}
 use Rattle.fsb_line.specs.Line.{Ask, Bytes, Deferral, Line, has_copy, put, trimmed}
 use Rattle.fsb_line.specs.Links.{is_linked, newest}
-use Rattle.fsb_line.specs.States.{is_modified, is_sole}
+use Rattle.fsb_line.specs.States.{asks_line, gets_line, is_modified, is_sole, suits}
 use Rattle.fsb_line.specs.declared.kind.Kind.{Kind}
 use Rattle.fsb_line.specs.declared.link.Link.{Link}
 use Rattle.fsb_line.proofs.LinkFacts.{newest_cases, newest_is_linked}

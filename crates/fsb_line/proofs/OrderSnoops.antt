@@ -1,11 +1,11 @@
 use Rattle.std.proofs.Common.{◌≡◌, ◌≢◌, ◌==◌, ◌<◌, ◌≤◌, ℕ, Bool, true, false, cond, not, ◌&&◌, ◌||◌, ◌⊎◌, inl, inr, Option, Some, None, is_some, List, [], ◌∷◌, ◌++◌, refl, sym, ◌∙◌, ap, subst, arith}
 use Rattle.std.proofs.lemmas.Bool.Decides.{nat_tests}
 use Rattle.fsb_line.specs.Coherence.{IsPending, Ordered}
-use Rattle.fsb_line.specs.Events.{Event, IsOldest, IsReady, May, MayBegin, MayGrant, MayHand, MayLose, MaySettle, MayUpgrade, NobodyElseModified, asks_line, effect, gets_line, given, linked, replied, settled, suits}
+use Rattle.fsb_line.specs.Events.{Event, IsOldest, IsReady, May, MayBegin, MayGrant, MayHand, MayLose, MaySettle, MayUpgrade, NobodyElseModified, effect, given, linked, replied, settled}
 use Rattle.fsb_line.specs.Events.Event.{IsDeferred, IsGranted, IsHanded, IsLost, IsReplied, IsUpgraded, IsWritten}
 use Rattle.fsb_line.specs.Line.{Ask, Bytes, Deferral, Line, has_copy, put, trimmed}
 use Rattle.fsb_line.specs.Links.{any_owns, giver_after, is_linked, newest, owns}
-use Rattle.fsb_line.specs.States.{is_held, is_modified, is_sole}
+use Rattle.fsb_line.specs.States.{asks_line, gets_line, is_held, is_modified, is_sole, suits}
 use Rattle.fsb_line.specs.declared.kind.Kind.{Kind}
 use Rattle.fsb_line.specs.declared.kind.Kind.TheVariants.{Own, Read, Upgrade, WriteBack}
 use Rattle.fsb_line.specs.declared.link.Link.{Link}

@@ -4,10 +4,9 @@ use Rattle.fsb_line.specs.declared.kind.Kind.{Kind}
 use Rattle.fsb_line.specs.declared.kind.Kind.TheVariants.{Own, Read, Upgrade, WriteBack}
 use Rattle.fsb_line.specs.declared.state.Mesi.{Mesi}
 use Rattle.fsb_line.specs.declared.state.Mesi.TheVariants.{Exclusive, Invalid, Modified, Shared}
-use Rattle.fsb_line.specs.Events.{asks_line, gets_line, suits}
 use Rattle.fsb_line.specs.Line.{put}
 use Rattle.fsb_line.specs.Links.{is_upgrade}
-use Rattle.fsb_line.specs.States.{after_snoop, granted, is_held, is_modified, is_sole, kind_owns}
+use Rattle.fsb_line.specs.States.{after_snoop, asks_line, gets_line, granted, is_held, is_modified, is_sole, kind_owns, suits}
 
 pub not_true : (b : Bool) → (b ≡ true → ⊥) → b ≡ false
 not_true true f = absurd (f refl)

@@ -1,12 +1,17 @@
 use Rattle.std.proofs.Common.{◌≡◌, ◌≢◌, ◌==◌, ℕ, Bool, true, false, cond, not, ◌&&◌, ◌||◌, ◌⊎◌, inl, inr, Option, Some, None, is_some, List, [], ◌∷◌, ◌++◌, refl, sym, ◌∙◌, ap, subst, arith, unwrap_or}
 use Rattle.std.proofs.lemmas.Bool.Decides.{nat_tests}
 use Rattle.fsb_line.specs.Coherence.{EndsNow, EndsOldest, GivesAlone, IsCoherent, IsPending, MovesNow, Ordered, Owes, ReadsNow, Valued, WritesAlone}
-use Rattle.fsb_line.specs.Events.{AwaitsResponse, Event, HasArrived, May, after, effect, ended, responded}
+use Rattle.fsb_line.specs.Events.{AwaitsResponse, Event, HasArrived, IsDecidedEnd, May, after, arrived, effect, ended, given, linked, replied, responded, settled, stored, stored_at_end}
 use Rattle.fsb_line.specs.Events.Event.{Begins, Drops, Ends, IsCancelled, IsDeferred, IsGranted, IsHanded, IsLost, IsReplied, IsRetried, IsUpgraded, IsWritten, Loads, Responds, Stores}
-use Rattle.fsb_line.specs.Line.{Bytes, Line, brought, has_copy, unheld}
+use Rattle.fsb_line.specs.Line.{Bytes, Deferral, Line, brought, has_copy, trimmed, unheld}
 use Rattle.fsb_line.specs.Links.{is_linked, owns}
-use Rattle.fsb_line.specs.Runs.{MayRun, OwesAll, run}
-use Rattle.fsb_line.specs.States.{is_held}
+use Rattle.fsb_line.specs.Runs.{MayRun, OwesAll, replay, run}
+use Rattle.fsb_line.specs.States.{asks_line, gets_line, is_held, put_off, sent_back, served}
+use Rattle.fsb_line.specs.declared.kind.Kind.{Kind}
+use Rattle.fsb_line.specs.declared.kind.Kind.TheVariants.{Own, Read, Upgrade, WriteBack}
+use Rattle.fsb_line.specs.declared.kind.Settled.{Settled}
+use Rattle.fsb_line.specs.declared.kind.Settled.TheVariants.{Deferred, Granted, Handed, Retried, Upgraded, Written}
+use Rattle.fsb_line.specs.declared.kind.Turn.TheVariants.{Defer, Keep, Retry}
 use Rattle.fsb_line.specs.declared.link.Link.{Link}
 use Rattle.fsb_line.proofs.Order.{Ordered-IsRetried, Ordered-trimmed}
 use Rattle.fsb_line.proofs.OrderEnds.{Ordered-Ends, Ordered-Responds}
@@ -167,3 +172,87 @@ coherent_from_unheld bytes es m =
     coherent (run (unheld bytes) es)
     (ordered_run (unheld bytes) es (ordered_unheld bytes) m)
     (valued_run (unheld bytes) es (ordered_unheld bytes) (valued_unheld bytes) m)
+
+responded-now : (x : Line) (ls : List Link) → (responded x ls).now ≡ x.now
+unfolding responded
+responded-now x [] = refl
+responded-now x (l ∷ ls) = refl
+
+ended-now : (x : Line) (ls : List Link) (change : Bytes → Bytes) → (ended x ls change).now ≡ stored_at_end ls change x.now
+unfolding ended arrived
+ended-now x [] change = refl
+ended-now x (l ∷ ls) change = refl
+
+replied-now : (x : Line) (od : Option Deferral) → (replied x od).now ≡ x.now
+unfolding replied settled linked
+replied-now x None = refl
+replied-now x (Some d) = refl
+
+after-now : (x : Line) (e : Event) → (after x e).now ≡ stored x e x.now
+unfolding after trimmed effect stored settled linked given
+after-now x (Loads a) = refl
+after-now x (Stores a change) = refl
+after-now x (Drops a) = refl
+after-now x (Begins a kind number) = refl
+after-now x (IsCancelled a) = refl
+after-now x (IsWritten a) = refl
+after-now x (IsHanded a kind owner) = refl
+after-now x (IsGranted a kind shared) = refl
+after-now x (IsUpgraded a) = refl
+after-now x (IsLost a) = refl
+after-now x (IsRetried a kind) = refl
+after-now x (IsDeferred a kind shared) = refl
+after-now x IsReplied = replied-now x x.deferral
+after-now x Responds = responded-now x x.chain
+after-now x (Ends change) = ended-now x x.chain change
+
+-- the line in the one flat memory is what the stores make of it
+pub run-now : (x : Line) (es : List Event) → (run x es).now ≡ replay x es x.now
+run-now x [] = refl
+run-now x (e ∷ es) = run-now (after x e) es ∙ ap (replay (after x e) es) (after-now x e)
+
+-- an agent that has no bytes has none
+pub after-copy : (x : Line) (e : Event) (a : ℕ) → has_copy (after x e) a ≡ false → (after x e).copy a ≡ []
+unfolding after trimmed
+after-copy x e a h = rw h
+
+sent_back_asker : (k : Kind) → asks_line k ≡ true → sent_back k ≡ Retried
+sent_back_asker Read h = refl
+sent_back_asker Own h = refl
+sent_back_asker Upgrade h = refl
+sent_back_asker WriteBack h = absurd (cc)
+
+put_off_getter : (k : Kind) → gets_line k ≡ true → put_off k ≡ Deferred
+put_off_getter Read h = refl
+put_off_getter Own h = refl
+put_off_getter Upgrade h = absurd (cc)
+put_off_getter WriteBack h = absurd (cc)
+
+served_getter : (k : Kind) → gets_line k ≡ true → served k ≡ Granted
+served_getter Read h = refl
+served_getter Own h = refl
+served_getter Upgrade h = absurd (cc)
+served_getter WriteBack h = absurd (cc)
+
+cond_alike : (b : Bool) (s t : Settled) → s ≡ t → cond b t s ≡ t
+cond_alike true s t h = refl
+cond_alike false s t h = h
+
+-- each snoop end comes out as the bus decides
+pub snoop_end_decided : (x : Line) (e : Event) → May x e → IsDecidedEnd x e
+unfolding May IsDecidedEnd
+snoop_end_decided x (Loads a) m = tt
+snoop_end_decided x (Stores a change) m = tt
+snoop_end_decided x (Drops a) m = tt
+snoop_end_decided x (Begins a kind number) m = tt
+snoop_end_decided x (IsCancelled a) m = tt
+snoop_end_decided x (IsWritten a) m = (Keep, cond_alike (is_some x.deferral) Written Written refl)
+snoop_end_decided x (IsHanded a kind owner) m = (Keep, refl)
+snoop_end_decided x (IsGranted a kind shared) m = (Keep, rw m.not_pending (served_getter kind m.gets))
+snoop_end_decided x (IsUpgraded a) m = (Keep, rw m.not_pending)
+snoop_end_decided x (IsLost a) m = (Keep, rw m.not_pending)
+snoop_end_decided x (IsRetried a kind) m = (Retry, rw (sent_back_asker kind m.1) (cond_alike (is_some x.deferral) Retried Retried refl))
+snoop_end_decided x (IsDeferred a kind shared) m = (Defer, rw m.not_pending (put_off_getter kind m.gets))
+snoop_end_decided x IsReplied m = tt
+snoop_end_decided x Responds m = tt
+snoop_end_decided x (Ends change) m = tt

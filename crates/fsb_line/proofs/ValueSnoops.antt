@@ -1,11 +1,11 @@
 use Rattle.std.proofs.Common.{◌≡◌, ◌≢◌, ◌==◌, ℕ, Bool, true, false, cond, not, ◌&&◌, ◌||◌, ◌⊎◌, inl, inr, Option, Some, None, is_some, List, [], ◌∷◌, ◌++◌, refl, sym, ◌∙◌, ap, subst, arith}
 use Rattle.std.proofs.lemmas.Bool.Decides.{nat_tests}
 use Rattle.fsb_line.specs.Coherence.{IsPending, Ordered, Valued}
-use Rattle.fsb_line.specs.Events.{Event, IsOldest, MayGrant, MayHand, MayUpgrade, asks_line, effect, given, linked, replied, settled}
+use Rattle.fsb_line.specs.Events.{Event, IsOldest, MayGrant, MayHand, MayUpgrade, effect, given, linked, replied, settled}
 use Rattle.fsb_line.specs.Events.Event.{IsGranted, IsHanded, IsReplied, IsUpgraded, IsWritten}
 use Rattle.fsb_line.specs.Line.{Bytes, Deferral, Line, has_copy, source}
 use Rattle.fsb_line.specs.Links.{has_won, is_linked}
-use Rattle.fsb_line.specs.States.{is_held, is_modified, is_sole}
+use Rattle.fsb_line.specs.States.{asks_line, is_held, is_modified, is_sole}
 use Rattle.fsb_line.specs.declared.kind.Kind.{Kind}
 use Rattle.fsb_line.specs.declared.kind.Kind.TheVariants.{Upgrade, WriteBack}
 use Rattle.fsb_line.specs.declared.link.Link.{Link}

@@ -1,11 +1,11 @@
 use Rattle.std.proofs.Common.{◌≡◌, ◌≢◌, ◌==◌, ℕ, Bool, true, false, cond, not, ◌&&◌, ◌||◌, ◌⊎◌, inl, inr, Option, Some, None, List, [], ◌∷◌, ◌++◌, refl, sym, ◌∙◌, ap, subst, arith}
 use Rattle.std.proofs.lemmas.Bool.Decides.{nat_tests}
 use Rattle.fsb_line.specs.Coherence.{Ordered, Valued}
-use Rattle.fsb_line.specs.Events.{Event, IsReady, MayBegin, MayLose, MaySettle, MayGrant, asks_line, effect, settled}
+use Rattle.fsb_line.specs.Events.{Event, IsReady, MayBegin, MayLose, MaySettle, MayGrant, effect, settled}
 use Rattle.fsb_line.specs.Events.Event.{Begins, Drops, IsCancelled, IsDeferred, IsLost, IsRetried, Stores}
 use Rattle.fsb_line.specs.Line.{Bytes, Line, has_copy, put, trimmed}
 use Rattle.fsb_line.specs.Links.{has_won, is_linked}
-use Rattle.fsb_line.specs.States.{is_held, is_modified, is_sole}
+use Rattle.fsb_line.specs.States.{asks_line, is_held, is_modified, is_sole}
 use Rattle.fsb_line.specs.declared.kind.Kind.{Kind}
 use Rattle.fsb_line.specs.declared.link.Link.{Link}
 use Rattle.fsb_line.proofs.LinkFacts.{won_is_linked}

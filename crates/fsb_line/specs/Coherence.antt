@@ -4,11 +4,11 @@ use Rattle.fsb_line.specs.declared.kind.Kind.TheVariants.{Own, Read, Upgrade, Wr
 use Rattle.fsb_line.specs.declared.link.Link.{Link}
 use Rattle.fsb_line.specs.declared.state.Mesi.{Mesi}
 use Rattle.fsb_line.specs.declared.state.Mesi.TheVariants.{Exclusive, Invalid, Modified, Shared}
-use Rattle.fsb_line.specs.Events.{Event, IsReady, NobodyElseHolds, gets_line, suits}
+use Rattle.fsb_line.specs.Events.{Event, IsReady, NobodyElseHolds}
 use Rattle.fsb_line.specs.Events.Event.{Begins, Drops, Ends, IsCancelled, IsDeferred, IsGranted, IsHanded, IsLost, IsReplied, IsRetried, IsUpgraded, IsWritten, Loads, Responds, Stores}
 use Rattle.fsb_line.specs.Line.{Ask, Bytes, Deferral, Line, brought, has_copy, source}
 use Rattle.fsb_line.specs.Links.{IsChained, has_late_upgrade, is_linked, is_overtaken, newest, owns}
-use Rattle.fsb_line.specs.States.{is_held, is_modified, is_sole}
+use Rattle.fsb_line.specs.States.{gets_line, is_held, is_modified, is_sole, suits}
 
 -- what holds of a deferral: it is of a kind that gets the line; its agent awaits nothing else; nobody is sole; and nobody else holds the line where it is to be owned, or was seen to be held by nobody
 pub record IsPending (x : Line) (d : Deferral) : Type 0 where

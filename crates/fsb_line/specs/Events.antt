@@ -3,12 +3,13 @@ use Rattle.fsb_line.specs.declared.kind.Kind.{Kind}
 use Rattle.fsb_line.specs.declared.kind.Kind.TheVariants.{Own, Read, Upgrade, WriteBack}
 use Rattle.fsb_line.specs.declared.kind.Settled.{Settled}
 use Rattle.fsb_line.specs.declared.kind.Settled.TheVariants.{Deferred, Granted, Handed, Replied, Retried, Upgraded, Written}
+use Rattle.fsb_line.specs.declared.kind.Turn.{Turn}
 use Rattle.fsb_line.specs.declared.link.Link.{Link}
 use Rattle.fsb_line.specs.declared.state.Mesi.{Mesi}
 use Rattle.fsb_line.specs.declared.state.Mesi.TheVariants.{Exclusive, Invalid, Modified, Shared}
 use Rattle.fsb_line.specs.Line.{Ask, Bytes, Deferral, Line, brought, put, source, trimmed}
 use Rattle.fsb_line.specs.Links.{carries, gives, is_linked, owns, takes}
-use Rattle.fsb_line.specs.States.{is_held, is_held_off, is_modified, is_sole, next_state}
+use Rattle.fsb_line.specs.States.{asks_line, gets_line, is_held, is_held_off, is_modified, is_sole, next_state, settled_as, suits}
 
 -- what can happen to a line. A `change` is what the stores of one access, or of one locked item, make of the bytes
 pub data Event : Type 0 where
@@ -56,27 +57,6 @@ NobodyElseModified x a = (b : ℕ) → b ≢ a → IsFalse (is_modified (x.state
 -- no other agent holds the line
 abbrev pub NobodyElseHolds : Line → ℕ → Type 0
 NobodyElseHolds x a = (b : ℕ) → b ≢ a → IsFalse (is_held (x.state b))
-
--- the state suits a request: a read asks for a line that isn't held, an upgrade or an own for one that isn't sole, and what is written back is Modified
-abbrev pub suits : Kind → Mesi → Bool
-suits Read state = not (is_held state)
-suits Own state = not (is_sole state)
-suits Upgrade state = not (is_sole state)
-suits WriteBack state = is_modified state
-
--- a request that gets the line with its bytes
-abbrev pub gets_line : Kind → Bool
-gets_line Read = true
-gets_line Own = true
-gets_line Upgrade = false
-gets_line WriteBack = false
-
--- a request other than a write-back
-abbrev pub asks_line : Kind → Bool
-asks_line Read = true
-asks_line Own = true
-asks_line Upgrade = true
-asks_line WriteBack = false
 
 -- an agent may begin a request: it has none on the line, open, deferred or linked, and its state suits it; the number is new; and a write-back is held off while another agent's request is open
 pub record MayBegin (x : Line) (a : ℕ) (kind : Kind) (number : ℕ) : Type 0 where
@@ -185,6 +165,11 @@ passed_on a bytes (l ∷ ls) = cond (gives l.giver a) (Some bytes) None
 abbrev pub changed : Link → (Bytes → Bytes) → Bytes → Bytes
 changed l change bytes = cond (owns l) (change bytes) bytes
 
+-- the bytes after the stores that awaited the end of the oldest link
+abbrev pub stored_at_end : List Link → (Bytes → Bytes) → Bytes → Bytes
+stored_at_end [] change bytes = bytes
+stored_at_end (l ∷ ls) change bytes = changed l change bytes
+
 -- the line after the end of its oldest link, which brings these bytes
 unfoldable pub arrived : Line → Link → List Link → (Bytes → Bytes) → Bytes → Line
 arrived x l ls change bytes = record x {
@@ -222,3 +207,43 @@ effect x (Ends change) = ended x x.chain change
 -- the line after the event
 unfoldable pub after : Line → Event → Line
 after x e = trimmed (effect x e)
+
+-- the bytes after the stores that the event makes
+unfoldable pub stored : Line → Event → Bytes → Bytes
+stored x (Loads a) bytes = bytes
+stored x (Stores a change) bytes = change bytes
+stored x (Drops a) bytes = bytes
+stored x (Begins a kind number) bytes = bytes
+stored x (IsCancelled a) bytes = bytes
+stored x (IsWritten a) bytes = bytes
+stored x (IsHanded a kind owner) bytes = bytes
+stored x (IsGranted a kind shared) bytes = bytes
+stored x (IsUpgraded a) bytes = bytes
+stored x (IsLost a) bytes = bytes
+stored x (IsRetried a kind) bytes = bytes
+stored x (IsDeferred a kind shared) bytes = bytes
+stored x IsReplied bytes = bytes
+stored x Responds bytes = bytes
+stored x (Ends change) bytes = stored_at_end x.chain change bytes
+
+-- the outcome of a snoop end is the one that the bus decides on, by whether another agent has the line Modified, by whether the line is pending, and by some turn
+abbrev pub IsDecided : Line → Kind → Bool → Settled → Type 0
+IsDecided x kind owned outcome = (turn : Turn) × (settled_as kind owned (is_some x.deferral) turn ≡ outcome)
+
+-- where the event is a snoop end, its outcome is decided so
+unfoldable pub IsDecidedEnd : Line → Event → Type 0
+IsDecidedEnd x (Loads a) = ⊤
+IsDecidedEnd x (Stores a change) = ⊤
+IsDecidedEnd x (Drops a) = ⊤
+IsDecidedEnd x (Begins a kind number) = ⊤
+IsDecidedEnd x (IsCancelled a) = ⊤
+IsDecidedEnd x (IsWritten a) = IsDecided x WriteBack false Written
+IsDecidedEnd x (IsHanded a kind owner) = IsDecided x kind true Handed
+IsDecidedEnd x (IsGranted a kind shared) = IsDecided x kind false Granted
+IsDecidedEnd x (IsUpgraded a) = IsDecided x Upgrade false Upgraded
+IsDecidedEnd x (IsLost a) = IsDecided x Upgrade false Upgraded
+IsDecidedEnd x (IsRetried a kind) = IsDecided x kind false Retried
+IsDecidedEnd x (IsDeferred a kind shared) = IsDecided x kind false Deferred
+IsDecidedEnd x IsReplied = ⊤
+IsDecidedEnd x Responds = ⊤
+IsDecidedEnd x (Ends change) = ⊤

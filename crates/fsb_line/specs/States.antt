@@ -1,4 +1,4 @@
-use Rattle.std.specs.Prelude.{Bool, true, false, cond, Option, Some, None}
+use Rattle.std.specs.Prelude.{not, Bool, true, false, cond, Option, Some, None}
 use Rattle.fsb_line.specs.declared.kind.Kind.{Kind}
 use Rattle.fsb_line.specs.declared.kind.Kind.TheVariants.{Own, Read, Upgrade, WriteBack}
 use Rattle.fsb_line.specs.declared.kind.Turn.{Turn}
@@ -37,6 +37,27 @@ kind_owns Read = false
 kind_owns Own = true
 kind_owns Upgrade = true
 kind_owns WriteBack = false
+
+-- the state suits a request: a read asks for a line that isn't held, an upgrade or an own for one that isn't sole, and what is written back is Modified
+abbrev pub suits : Kind → Mesi → Bool
+suits Read state = not (is_held state)
+suits Own state = not (is_sole state)
+suits Upgrade state = not (is_sole state)
+suits WriteBack state = is_modified state
+
+-- a request that gets the line with its bytes
+abbrev pub gets_line : Kind → Bool
+gets_line Read = true
+gets_line Own = true
+gets_line Upgrade = false
+gets_line WriteBack = false
+
+-- a request other than a write-back
+abbrev pub asks_line : Kind → Bool
+asks_line Read = true
+asks_line Own = true
+asks_line Upgrade = true
+asks_line WriteBack = false
 
 -- the state in which a request of this kind gets its line, where another agent was seen to hold it or not
 abbrev pub granted : Kind → Bool → Mesi
