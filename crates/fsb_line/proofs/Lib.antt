@@ -10,3 +10,4 @@ pub mod ValueEnds
 pub mod Theorem
 pub mod Since
 pub mod WitnessRuns
+pub mod Flat

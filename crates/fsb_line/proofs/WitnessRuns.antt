@@ -1,4 +1,4 @@
-use Rattle.std.proofs.Common.{◌≡◌, ◌≢◌, ◌==◌, ◌≤◌, ℕ, Bool, true, false, cond, not, ◌&&◌, ◌||◌, ◌⊎◌, inl, inr, Option, Some, None, is_some, List, [], ◌∷◌, ◌++◌, refl, sym, ◌∙◌, ap, subst, arith}
+use Rattle.std.proofs.Common.{◌≡◌, ◌≢◌, ◌==◌, ◌≤◌, ℕ, Bool, true, false, cond, not, ◌&&◌, ◌||◌, ◌⊎◌, inl, inr, Option, Some, None, is_some, List, [], ◌∷◌, ◌++◌, refl, length, sym, ◌∙◌, ap, subst, arith}
 use Rattle.std.proofs.lemmas.Bool.Decides.{nat_tests}
 use Rattle.fsb_line.specs.Events.{Event, May, after, arrived, effect, ended, given, linked, replied, responded, settled}
 use Rattle.fsb_line.specs.Line.{Bytes, Line, put, trimmed, unheld}
@@ -108,3 +108,34 @@ write_back_may_happen =
     (record { held = refl; no_link = refl },
     (refl,
     tt)))))))))))))))))
+
+pub race_awaits : length (run (unheld (byte 0)) promises).chain ≡ 3
+unfolding after effect trimmed settled linked given put replied responded ended arrived
+race_awaits = refl
+
+pub race_ends : (run (run (unheld (byte 0)) promises) deliveries).chain ≡ []
+unfolding after effect trimmed settled linked given put replied responded ended arrived
+race_ends = refl
+
+pub race_is_read : (run (run (unheld (byte 0)) promises) deliveries).copy 2 ≡ byte 7
+unfolding after effect trimmed settled linked given put replied responded ended arrived
+race_is_read = refl
+
+pub deferral_is_read : (run (unheld (byte 0)) deferral).copy 1 ≡ byte 5
+unfolding after effect trimmed settled linked given put replied responded ended arrived
+deferral_is_read = refl
+
+pub upgrade_race_is_stored : (run (run (unheld (byte 0)) sharing) upgrade_race).copy 1 ≡ byte 7
+unfolding after effect trimmed settled linked given put replied responded ended arrived
+upgrade_race_is_stored = refl
+
+pub lost_upgrade_is_stored : (run (run (unheld (byte 0)) sharing) lost_upgrade).copy 1 ≡ byte 7
+unfolding after effect trimmed settled linked given put replied responded ended arrived
+lost_upgrade_is_stored = refl
+
+pub write_back_is_kept : (run (unheld (byte 0)) write_back).memory ≡ byte 7
+unfolding after effect trimmed settled linked given put replied responded ended arrived
+write_back_is_kept = refl
+
+-- what the laws cite
+pub ruleset races = (promises_may_happen, deliveries_may_happen, deferral_may_happen, sharing_may_happen, upgrade_race_may_happen, lost_upgrade_may_happen, write_back_may_happen, race_awaits, race_ends, race_is_read, deferral_is_read, upgrade_race_is_stored, lost_upgrade_is_stored, write_back_is_kept)

@@ -1,13 +1,13 @@
 //! The laws of a line. Each is the contract of a function that does nothing.
 
-ghost use Rattle.std.specs.Prelude.{◌≡◌, ℕ, IsTrue, List};
+ghost use Rattle.std.specs.Prelude.{◌≡◌, ℕ, IsFalse, List, []};
 ghost use Rattle.fsb_line.specs.Coherence.{IsCoherent, Ordered, Owes, Valued};
-ghost use Rattle.fsb_line.specs.Events.{Event, May, after};
+ghost use Rattle.fsb_line.specs.Events.{Event, IsDecidedEnd, May, after};
 ghost use Rattle.fsb_line.specs.History.{
     is_alone_since, is_dirty_since, is_held_since, state_by
 };
-ghost use Rattle.fsb_line.specs.Line.{Bytes, Line, unheld};
-ghost use Rattle.fsb_line.specs.Runs.{MayRun, OwesAll, run};
+ghost use Rattle.fsb_line.specs.Line.{Bytes, Line, has_copy, unheld};
+ghost use Rattle.fsb_line.specs.Runs.{MayRun, OwesAll, replay, run};
 
 /// A line that nobody holds or asks for is in order, and its bytes are where they belong.
 pub fn starts_in_order()
@@ -59,6 +59,28 @@ pub fn run_meets_what_it_owes()
 #[tactic(auto, using(crate::proofs::Theorem::coherent_from_unheld))]
 pub fn run_is_coherent()
     ensures { (bytes : Bytes) (es : List Event) → MayRun (unheld bytes) es → IsCoherent (run (unheld bytes) es) }
+{
+}
+
+/// The line in the one flat memory is the first bytes with the stores of every event made in turn.
+#[tactic(auto, using(crate::proofs::Flat::flat))]
+pub fn flat_memory_replays_the_stores()
+    ensures { (x : Line) (es : List Event) → (run x es).now ≡ replay x es x.now }
+{
+}
+
+/// Every snoop end that may happen comes out as `Kind::settled` decides.
+#[tactic(auto, using(crate::proofs::Theorem::snoop_end_decided))]
+pub fn snoop_ends_come_out_as_decided()
+    ensures { (x : Line) (e : Event) → May x e → IsDecidedEnd x e }
+{
+}
+
+/// After an event an agent that has no bytes of the line has none in the record either, so the
+/// record can be read off a cache and its fills.
+#[tactic(auto, using(crate::proofs::Flat::without))]
+pub fn copies_stand_only_where_agents_have_them()
+    ensures { (x : Line) (e : Event) (a : ℕ) → IsFalse (has_copy (after x e) a) → (after x e).copy a ≡ [] }
 {
 }
 

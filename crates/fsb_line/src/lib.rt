@@ -12,6 +12,7 @@ pub use link::Link;
 pub use state::{Answer, Mesi};
 
 pub mod laws;
+pub mod witness;
 
 mod kind;
 mod link;
