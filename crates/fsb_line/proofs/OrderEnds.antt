@@ -1,9 +1,8 @@
-use Rattle.std.proofs.Common.{◌≡◌, ◌≢◌, ◌==◌, ℕ, Bool, true, false, cond, not, ◌&&◌, ◌||◌, ◌⊎◌, inl, inr, Option, Some, None, is_some, List, [], ◌∷◌, ◌++◌, refl, sym, ◌∙◌, ap, subst, arith}
-use Rattle.std.proofs.lemmas.Bool.Decides.{nat_tests}
-use Rattle.fsb_line.specs.Coherence.{IsPending, Ordered}
+use Rattle.std.proofs.Common.{◌≡◌, ◌==◌, ℕ, Bool, true, false, ◌||◌, Some, List, [], ◌∷◌, sym, ◌∙◌, ap, subst}
+use Rattle.fsb_line.specs.Coherence.{Ordered}
 use Rattle.fsb_line.specs.Events.{arrived, responded}
-use Rattle.fsb_line.specs.Line.{Ask, Bytes, Deferral, Line}
-use Rattle.fsb_line.specs.Links.{IsChained, has_late_upgrade, is_linked, is_overtaken, newest, owns}
+use Rattle.fsb_line.specs.Line.{Bytes, Line}
+use Rattle.fsb_line.specs.Links.{IsChained, has_late_upgrade, is_linked, is_overtaken, newest}
 use Rattle.fsb_line.specs.declared.link.Link.{Link}
 use Rattle.fsb_line.proofs.LinkFacts.{IsChained-tail, newest-tail}
 
@@ -21,14 +20,14 @@ Ordered-Responds x (l ∷ ls) o = record {
     no_link = p.no_link;
     nobody_sole = p.nobody_sole;
     unshared = p.unshared;
-    unseen = p.unseen
+    unseen = p.unseen;
   };
   sole_is_newest = o.sole_is_newest;
   modified_owns = o.modified_owns;
   newest_owner = o.newest_owner;
   chained = o.chained;
   holds_on = o.holds_on;
-  no_late_upgrade = o.no_late_upgrade
+  no_late_upgrade = o.no_late_upgrade;
 }
 
 or_false_right : (p q : Bool) → (p || q) ≡ false → q ≡ false
@@ -51,12 +50,12 @@ Ordered-Ends x l ls change bytes e o =
         no_link = no_link d.agent p.no_link;
         nobody_sole = p.nobody_sole;
         unshared = p.unshared;
-        unseen = p.unseen
+        unseen = p.unseen;
       };
       sole_is_newest = λ a k h f. o.sole_is_newest a k h (newest_before k f);
       modified_owns = λ a k h f. o.modified_owns a k h (newest_before k f);
       newest_owner = λ k f h. o.newest_owner k (newest_before k f) h;
       chained = IsChained-tail l ls (subst IsChained e o.chained);
       holds_on = λ a h. or_false_right _ (is_overtaken a ls) (sym (ap (is_overtaken a) e) ∙ o.holds_on a h);
-      no_late_upgrade = or_false_right _ (has_late_upgrade ls) (sym (ap has_late_upgrade e) ∙ o.no_late_upgrade)
+      no_late_upgrade = or_false_right _ (has_late_upgrade ls) (sym (ap has_late_upgrade e) ∙ o.no_late_upgrade);
     }

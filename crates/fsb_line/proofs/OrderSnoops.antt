@@ -1,28 +1,28 @@
-use Rattle.std.proofs.Common.{◌≡◌, ◌≢◌, ◌==◌, ◌<◌, ◌≤◌, ℕ, Bool, true, false, cond, not, ◌&&◌, ◌||◌, ◌⊎◌, inl, inr, Option, Some, None, is_some, List, [], ◌∷◌, ◌++◌, refl, sym, ◌∙◌, ap, subst, arith}
+use Rattle.std.proofs.Common.{◌≡◌, ℕ, Bool, true, false, inl, inr, Option, Some, None, is_some, [], ◌∷◌, ◌++◌, sym, ap, subst, arith}
 use Rattle.std.proofs.lemmas.Bool.Decides.{nat_tests}
 use Rattle.fsb_line.specs.Coherence.{IsPending, Ordered}
-use Rattle.fsb_line.specs.Events.{Event, IsOldest, IsReady, May, MayBegin, MayGrant, MayHand, MayLose, MaySettle, MayUpgrade, NobodyElseModified, effect, given, linked, replied, settled}
-use Rattle.fsb_line.specs.Events.Event.{IsDeferred, IsGranted, IsHanded, IsLost, IsReplied, IsUpgraded, IsWritten}
-use Rattle.fsb_line.specs.Line.{Ask, Bytes, Deferral, Line, has_copy, put, trimmed}
+use Rattle.fsb_line.specs.Events.{IsOldest, MayGrant, MayHand, MayLose, MayUpgrade, NobodyElseModified, effect, given, linked, replied, settled}
+use Rattle.fsb_line.specs.Events.Event.{IsDeferred, IsGranted, IsHanded, IsLost, IsUpgraded, IsWritten}
+use Rattle.fsb_line.specs.Line.{Ask, Deferral, Line, put}
 use Rattle.fsb_line.specs.Links.{any_owns, giver_after, is_linked, newest, owns}
-use Rattle.fsb_line.specs.States.{asks_line, gets_line, is_held, is_modified, is_sole, suits}
+use Rattle.fsb_line.specs.States.{asks_line, gets_line, is_held, is_modified, is_sole}
 use Rattle.fsb_line.specs.declared.kind.Kind.{Kind}
-use Rattle.fsb_line.specs.declared.kind.Kind.TheVariants.{Own, Read, Upgrade, WriteBack}
+use Rattle.fsb_line.specs.declared.kind.Kind.TheVariants.{Upgrade, WriteBack}
 use Rattle.fsb_line.specs.declared.link.Link.{Link}
 use Rattle.fsb_line.proofs.LinkFacts.{IsChained-end, any_owns-unlinked, has_late_upgrade-end, is_linked-end, is_overtaken-end, newest-end, newest_is_linked}
 use Rattle.fsb_line.proofs.OrderHits.{sole_unlinked}
-use Rattle.fsb_line.proofs.StateFacts.{and_false, asker_not_sole, not_true, unheld_unmodified, dropped_suits, gets_asks, gets_no_upgrade, gets_owns, granted_alone, granted_owns, granted_sole, modified_is_sole, modified_suits, same_agent, snoop_held, snoop_not_sole, snoop_owned, snoop_suits, snoop_unheld, snoop_unowned, sole_is_held, sole_suits}
+use Rattle.fsb_line.proofs.StateFacts.{and_false, asker_not_sole, not_true, unheld_unmodified, gets_asks, gets_no_upgrade, gets_owns, granted_alone, granted_owns, granted_sole, modified_is_sole, modified_suits, same_agent, snoop_held, snoop_not_sole, snoop_suits, snoop_unheld, snoop_unowned, sole_is_held}
 
 -- where nobody else has the line Modified, the newest link owns nothing, for an agent that awaits no link
 pub newest_reads : (x : Line) (a : ℕ) (k : Link) → Ordered x → NobodyElseModified x a → is_linked a x.chain ≡ false → newest x.chain ≡ Some k → owns k ≡ false
 newest_reads x a k o clean u e =
     not_true (owns k) (λ h.
-        let held = o.newest_owner k e h in
-        let linked = newest_is_linked x.chain k e in
-        elim (same_agent k.agent a) [
-          inl same ↦ let g : is_linked a x.chain ≡ true = subst (λ b. is_linked b x.chain ≡ true) same linked in cc
-        | inr other ↦ let g = clean k.agent other in cc
-        ])
+    let held = o.newest_owner k e h in
+    let linked = newest_is_linked x.chain k e in
+    elim (same_agent k.agent a) [
+      | inl same ↦ let g : is_linked a x.chain ≡ true = subst (λ b. is_linked b x.chain ≡ true) same linked in cc
+      | inr other ↦ let g = clean k.agent other in cc
+    ])
 
 pub giver_after-reader : (k : Link) → owns k ≡ false → giver_after k ≡ None
 giver_after-reader k h = rw h
@@ -46,7 +46,7 @@ Ordered-IsGranted x a kind shared o m =
       newest_owner = λ k e h. grind (arith, nat_tests, granted_owns);
       chained = IsChained-end x.chain l o.chained (λ k e. sym (giver_after-reader k (newest_reads x a k o m.settles.clean u e)));
       holds_on = λ b h. rw is_overtaken-end (grind (arith, nat_tests, o.holds_on b, snoop_held, snoop_unowned));
-      no_late_upgrade = rw has_late_upgrade-end (grind (arith, o.no_late_upgrade, gets_no_upgrade, and_false))
+      no_late_upgrade = rw has_late_upgrade-end (grind (arith, o.no_late_upgrade, gets_no_upgrade, and_false));
     }
 
 pub Ordered-IsUpgraded : (x : Line) (a : ℕ) → Ordered x → MayUpgrade x a → Ordered (effect x (IsUpgraded a))
@@ -69,7 +69,7 @@ Ordered-IsUpgraded x a o m =
       newest_owner = λ k e h. grind (arith, nat_tests);
       chained = IsChained-end x.chain l o.chained (λ k e. sym (giver_after-reader k (newest_reads x a k o m.settles.clean u e)));
       holds_on = λ b h. rw is_overtaken-end (grind (arith, nat_tests));
-      no_late_upgrade = rw has_late_upgrade-end (grind (arith, o.no_late_upgrade))
+      no_late_upgrade = rw has_late_upgrade-end (grind (arith, o.no_late_upgrade));
     }
 
 -- whoever has the line Modified has no open request that is younger than another's: a write-back is older than every other
@@ -98,7 +98,7 @@ Ordered-IsHanded x a kind owner o m =
       newest_owner = λ k e h. grind (arith, nat_tests, granted_owns);
       chained = IsChained-end x.chain l o.chained (λ k e. giver_after-owner k owner (o.modified_owns owner k m.modified e) (o.sole_is_newest owner k sole e));
       holds_on = λ b h. rw is_overtaken-end (grind (arith, nat_tests, m.asks, o.holds_on b, snoop_held, snoop_unowned));
-      no_late_upgrade = rw has_late_upgrade-end (grind (arith, o.no_late_upgrade, and_false))
+      no_late_upgrade = rw has_late_upgrade-end (grind (arith, o.no_late_upgrade, and_false));
     }
   where
     giver_after-owner : (k : Link) (owner : ℕ) → owns k ≡ true → k.agent ≡ owner → Some owner ≡ giver_after k
@@ -125,7 +125,7 @@ Ordered-IsWritten x a o m =
       newest_owner = λ k e h. grind (arith, nat_tests);
       chained = IsChained-end x.chain l o.chained (λ k e. absurd (cc));
       holds_on = λ b h. grind (arith, nat_tests, o.alone a sole b);
-      no_late_upgrade = rw has_late_upgrade-end (grind (arith, o.no_late_upgrade, and_false))
+      no_late_upgrade = rw has_late_upgrade-end (grind (arith, o.no_late_upgrade, and_false));
     }
 
 pub Ordered-IsLost : (x : Line) (a : ℕ) → Ordered x → MayLose x a → Ordered (effect x (IsLost a))
@@ -143,14 +143,14 @@ Ordered-IsLost x a o m =
         no_link = p.no_link;
         nobody_sole = λ b. grind (arith, nat_tests);
         unshared = λ h b n. grind (arith, nat_tests);
-        unseen = λ h b n. grind (arith, nat_tests)
+        unseen = λ h b n. grind (arith, nat_tests);
       };
       sole_is_newest = λ b l h e. grind (arith, nat_tests);
       modified_owns = λ b l h e. grind (arith, nat_tests);
       newest_owner = λ l e h. grind (arith, nat_tests, o.newest_owner l e h, m.settles.clean l.agent, unheld_unmodified);
       chained = o.chained;
       holds_on = λ b h. grind (arith, nat_tests);
-      no_late_upgrade = o.no_late_upgrade
+      no_late_upgrade = o.no_late_upgrade;
     }
 
 pub Ordered-IsDeferred : (x : Line) (a : ℕ) (kind : Kind) (shared : Bool) → Ordered x → MayGrant x a kind shared → Ordered (effect x (IsDeferred a kind shared))
@@ -168,7 +168,7 @@ Ordered-IsDeferred x a kind shared o m =
       no_link = u;
       nobody_sole = λ b. grind (arith, nat_tests, snoop_not_sole);
       unshared = λ h b n. grind (arith, nat_tests);
-      unseen = λ h b n. grind (arith, nat_tests, m.unseen, snoop_unheld)
+      unseen = λ h b n. grind (arith, nat_tests, m.unseen, snoop_unheld);
     } in
     record {
       alone = λ b h c n. grind (arith, nat_tests, snoop_not_sole);
@@ -181,7 +181,7 @@ Ordered-IsDeferred x a kind shared o m =
       newest_owner = λ l e h. grind (arith, nat_tests, o.newest_owner l e h, m.settles.clean l.agent);
       chained = o.chained;
       holds_on = λ b h. grind (arith, nat_tests, o.holds_on b, snoop_held);
-      no_late_upgrade = o.no_late_upgrade
+      no_late_upgrade = o.no_late_upgrade;
     }
 
 pub Ordered-IsReplied : (x : Line) (od : Option Deferral) → x.deferral ≡ od → is_some od ≡ true → Ordered x → Ordered (replied x od)
@@ -204,5 +204,5 @@ Ordered-IsReplied x (Some d) e h o =
       newest_owner = λ k e h. grind (arith, nat_tests, granted_owns);
       chained = IsChained-end x.chain l o.chained (λ k e. sym (giver_after-reader k (newest_reads x d.agent k o clean p.no_link e)));
       holds_on = λ b h. rw is_overtaken-end (grind (arith, nat_tests, o.holds_on b, p.unshared, gets_owns, not_true));
-      no_late_upgrade = rw has_late_upgrade-end (grind (arith, o.no_late_upgrade, gets_no_upgrade, and_false))
+      no_late_upgrade = rw has_late_upgrade-end (grind (arith, o.no_late_upgrade, gets_no_upgrade, and_false));
     }

@@ -1,12 +1,12 @@
-use Rattle.std.proofs.Common.{◌≡◌, ◌≢◌, ◌==◌, ℕ, Bool, true, false, cond, not, ◌&&◌, ◌||◌, ◌⊎◌, inl, inr, Option, Some, None, is_some, List, [], ◌∷◌, ◌++◌, refl, sym, ◌∙◌, ap, subst, arith}
+use Rattle.std.proofs.Common.{◌≡◌, ℕ, Bool, true, false, not, ◌&&◌, ◌||◌, Option, Some, None, List, [], ◌∷◌, refl, ◌∙◌, arith}
 use Rattle.std.proofs.lemmas.Bool.Decides.{nat_tests}
 use Rattle.fsb_line.specs.Coherence.{IsPending, Ordered}
 use Rattle.fsb_line.specs.Events.{Event, May, after, arrived, effect, ended, given, linked, replied, responded, settled}
 use Rattle.fsb_line.specs.Events.Event.{Begins, Drops, Ends, IsCancelled, IsDeferred, IsGranted, IsHanded, IsLost, IsReplied, IsRetried, IsUpgraded, IsWritten, Loads, Responds, Stores}
 use Rattle.fsb_line.specs.History.{any_event, gained_and_kept, is_alone_since, is_company, is_dirtied, is_dirty_since, is_grant, is_grant_alone, is_held_since, is_loss, replies_alone_to, replies_owned_to, replies_to, state_by}
-use Rattle.fsb_line.specs.Line.{Ask, Bytes, Deferral, Line, put, trimmed, unheld}
+use Rattle.fsb_line.specs.Line.{Bytes, Deferral, Line, put, trimmed, unheld}
 use Rattle.fsb_line.specs.Runs.{MayRun, run}
-use Rattle.fsb_line.specs.States.{after_snoop, asks_line, gets_line, granted, is_held, is_modified, is_sole, kind_owns, suits}
+use Rattle.fsb_line.specs.States.{after_snoop, asks_line, granted, is_held, is_modified, is_sole, kind_owns}
 use Rattle.fsb_line.specs.declared.kind.Kind.{Kind}
 use Rattle.fsb_line.specs.declared.kind.Kind.TheVariants.{Own, Read, Upgrade, WriteBack}
 use Rattle.fsb_line.specs.declared.link.Link.{Link}

@@ -1,23 +1,21 @@
-use Rattle.std.proofs.Common.{◌≡◌, ◌≢◌, ◌==◌, ℕ, Bool, true, false, cond, not, ◌&&◌, ◌||◌, ◌⊎◌, inl, inr, Option, Some, None, is_some, List, [], ◌∷◌, ◌++◌, refl, sym, ◌∙◌, ap, subst, arith, unwrap_or}
-use Rattle.std.proofs.lemmas.Bool.Decides.{nat_tests}
-use Rattle.fsb_line.specs.Coherence.{EndsNow, EndsOldest, GivesAlone, IsCoherent, IsPending, MovesNow, Ordered, Owes, ReadsNow, Valued, WritesAlone}
+use Rattle.std.proofs.Common.{◌≡◌, ℕ, Bool, true, false, cond, Option, Some, None, is_some, List, [], ◌∷◌, refl, ◌∙◌, ap, unwrap_or}
+use Rattle.fsb_line.specs.Coherence.{EndsOldest, IsCoherent, MovesNow, Ordered, Owes, Valued}
 use Rattle.fsb_line.specs.Events.{AwaitsResponse, Event, HasArrived, IsDecidedEnd, May, after, arrived, effect, ended, given, linked, replied, responded, settled, stored, stored_at_end}
 use Rattle.fsb_line.specs.Events.Event.{Begins, Drops, Ends, IsCancelled, IsDeferred, IsGranted, IsHanded, IsLost, IsReplied, IsRetried, IsUpgraded, IsWritten, Loads, Responds, Stores}
 use Rattle.fsb_line.specs.Line.{Bytes, Deferral, Line, brought, has_copy, trimmed, unheld}
-use Rattle.fsb_line.specs.Links.{is_linked, owns}
 use Rattle.fsb_line.specs.Runs.{MayRun, OwesAll, replay, run}
-use Rattle.fsb_line.specs.States.{asks_line, gets_line, is_held, put_off, sent_back, served}
+use Rattle.fsb_line.specs.States.{asks_line, gets_line, put_off, sent_back, served}
 use Rattle.fsb_line.specs.declared.kind.Kind.{Kind}
 use Rattle.fsb_line.specs.declared.kind.Kind.TheVariants.{Own, Read, Upgrade, WriteBack}
 use Rattle.fsb_line.specs.declared.kind.Settled.{Settled}
-use Rattle.fsb_line.specs.declared.kind.Settled.TheVariants.{Deferred, Granted, Handed, Retried, Upgraded, Written}
+use Rattle.fsb_line.specs.declared.kind.Settled.TheVariants.{Deferred, Granted, Retried, Written}
 use Rattle.fsb_line.specs.declared.kind.Turn.TheVariants.{Defer, Keep, Retry}
 use Rattle.fsb_line.specs.declared.link.Link.{Link}
 use Rattle.fsb_line.proofs.Order.{Ordered-IsRetried, Ordered-trimmed}
 use Rattle.fsb_line.proofs.OrderEnds.{Ordered-Ends, Ordered-Responds}
 use Rattle.fsb_line.proofs.OrderHits.{Ordered-Begins, Ordered-Drops, Ordered-IsCancelled, Ordered-Stores}
 use Rattle.fsb_line.proofs.OrderSnoops.{Ordered-IsDeferred, Ordered-IsGranted, Ordered-IsHanded, Ordered-IsLost, Ordered-IsReplied, Ordered-IsUpgraded, Ordered-IsWritten}
-use Rattle.fsb_line.proofs.StateFacts.{modified_is_sole, not_true}
+use Rattle.fsb_line.proofs.StateFacts.{modified_is_sole}
 use Rattle.fsb_line.proofs.ValueEnds.{Valued-Ends, Valued-Responds, brought_now, no_copies}
 use Rattle.fsb_line.proofs.ValueSnoops.{Valued-IsGranted, Valued-IsHanded, Valued-IsReplied, Valued-IsUpgraded, Valued-IsWritten}
 use Rattle.fsb_line.proofs.Values.{Valued-Begins, Valued-Drops, Valued-IsCancelled, Valued-IsDeferred, Valued-IsLost, Valued-IsRetried, Valued-Stores, Valued-trimmed, ready_has_copy}
@@ -94,7 +92,7 @@ ends_now : (x : Line) (ls : List Link) → x.chain ≡ ls → HasArrived x ls �
 ends_now x [] e h o v = h
 ends_now x (l ∷ ls) e h o v = record {
   value = brought_some x l ls e v h;
-  alone = λ w a n. no_copies x l ls a e o w n
+  alone = λ w a n. no_copies x l ls a e o w n;
 }
 
 -- every event meets what it owes
@@ -129,7 +127,7 @@ ordered_unheld bytes = record {
   newest_owner = λ l e h. absurd (cc);
   chained = tt;
   holds_on = λ a h. refl;
-  no_late_upgrade = refl
+  no_late_upgrade = refl;
 }
 
 pub valued_unheld : (bytes : Bytes) → Valued (unheld bytes)
@@ -138,7 +136,7 @@ valued_unheld bytes = record {
   rests = λ e f. refl;
   oldest = λ l ls e. absurd (cc);
   carried = λ b e. absurd (cc);
-  quiet = λ e. refl
+  quiet = λ e. refl;
 }
 
 pub ordered_run : (x : Line) (es : List Event) → Ordered x → MayRun x es → Ordered (run x es)
@@ -159,7 +157,7 @@ coherent x o v = record {
   ready_copies = λ a r. v.copies a (ready_has_copy x a r.held r.no_link);
   memory = v.rests;
   bus = v.carried;
-  pending = λ d e. (o.pending d e).nobody_sole
+  pending = λ d e. (o.pending d e).nobody_sole;
 }
 
 -- over every list of events that may happen, from a line that nobody holds, each event meets what it owes

@@ -1,9 +1,9 @@
-use Rattle.std.proofs.Common.{◌≡◌, ◌≢◌, ◌==◌, ℕ, Bool, true, false, cond, not, ◌&&◌, ◌||◌, ◌⊎◌, inl, inr, Option, Some, None, is_some, List, [], ◌∷◌, ◌++◌, refl, sym, ◌∙◌, ap, subst, arith}
+use Rattle.std.proofs.Common.{◌≡◌, ◌≢◌, ◌==◌, ℕ, Bool, true, false, cond, not, ◌&&◌, ◌||◌, inl, inr, Some, None, List, [], ◌∷◌, refl, sym, ◌∙◌, ap, subst, arith}
 use Rattle.std.proofs.lemmas.Bool.Decides.{nat_tests}
 use Rattle.fsb_line.specs.Coherence.{Ordered, Valued}
 use Rattle.fsb_line.specs.Events.{arrived, changed, responded}
 use Rattle.fsb_line.specs.Line.{Bytes, Line, brought, has_copy, put, source}
-use Rattle.fsb_line.specs.Links.{IsChained, carries, giver_after, has_late_upgrade, any_won, has_won, is_linked, is_overtaken, is_won, newest, owns, takes}
+use Rattle.fsb_line.specs.Links.{IsChained, giver_after, has_late_upgrade, any_won, has_won, is_linked, is_overtaken, is_won, newest, owns, takes}
 use Rattle.fsb_line.specs.States.{is_held, is_modified}
 use Rattle.fsb_line.specs.declared.link.Link.{Link}
 use Rattle.fsb_line.proofs.LinkFacts.{won_is_any}
@@ -17,7 +17,7 @@ Valued-Responds x (l ∷ ls) e v = record {
   rests = v.rests;
   oldest = v.oldest;
   carried = λ bytes h. let g = v.oldest l ls e in cc;
-  quiet = λ f. absurd (cc)
+  quiet = λ f. absurd (cc);
 }
 
 -- what the end of the oldest link brings are the line's bytes
@@ -94,11 +94,11 @@ pub Valued-Ends : (x : Line) (l : Link) (ls : List Link) (change : Bytes → Byt
 unfolding arrived put
 Valued-Ends x l ls change bytes e b o v = record {
   copies = λ a h. elim (same_agent a l.agent) [
-      inl same ↦ rw same (cond-same l.agent (changed l change bytes) (x.copy l.agent) ∙ ap (changed l change) b)
+    | inl same ↦ rw same (cond-same l.agent (changed l change bytes) (x.copy l.agent) ∙ ap (changed l change) b)
     | inr other ↦ cond-other a l.agent (changed l change bytes) (x.copy a) other ∙ others_copies x l ls a change e o v other h
-    ];
+  ];
   rests = λ f g. let reads = last_reads x l (e ∙ ap (λ m. l ∷ m) f) o g in rw reads (memory_after x l ls bytes e b v);
   oldest = λ k ks f. let e = e ∙ ap (λ m. l ∷ m) f in rw f (next_source x l k ks change bytes e b o v);
   carried = λ bytes f. absurd (cc);
-  quiet = λ f. refl
+  quiet = λ f. refl;
 }

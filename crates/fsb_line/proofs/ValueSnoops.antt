@@ -1,11 +1,11 @@
-use Rattle.std.proofs.Common.{◌≡◌, ◌≢◌, ◌==◌, ℕ, Bool, true, false, cond, not, ◌&&◌, ◌||◌, ◌⊎◌, inl, inr, Option, Some, None, is_some, List, [], ◌∷◌, ◌++◌, refl, sym, ◌∙◌, ap, subst, arith}
+use Rattle.std.proofs.Common.{◌≡◌, ℕ, Bool, true, false, inl, inr, Option, Some, None, is_some, List, [], ◌∷◌, ◌++◌, refl, ap, subst, arith}
 use Rattle.std.proofs.lemmas.Bool.Decides.{nat_tests}
 use Rattle.fsb_line.specs.Coherence.{IsPending, Ordered, Valued}
-use Rattle.fsb_line.specs.Events.{Event, IsOldest, MayGrant, MayHand, MayUpgrade, effect, given, linked, replied, settled}
-use Rattle.fsb_line.specs.Events.Event.{IsGranted, IsHanded, IsReplied, IsUpgraded, IsWritten}
-use Rattle.fsb_line.specs.Line.{Bytes, Deferral, Line, has_copy, source}
-use Rattle.fsb_line.specs.Links.{has_won, is_linked}
-use Rattle.fsb_line.specs.States.{asks_line, is_held, is_modified, is_sole}
+use Rattle.fsb_line.specs.Events.{IsOldest, MayGrant, MayHand, MayUpgrade, effect, given, linked, replied, settled}
+use Rattle.fsb_line.specs.Events.Event.{IsGranted, IsHanded, IsUpgraded, IsWritten}
+use Rattle.fsb_line.specs.Line.{Deferral, Line, has_copy, source}
+use Rattle.fsb_line.specs.Links.{is_linked}
+use Rattle.fsb_line.specs.States.{asks_line, is_modified, is_sole}
 use Rattle.fsb_line.specs.declared.kind.Kind.{Kind}
 use Rattle.fsb_line.specs.declared.kind.Kind.TheVariants.{Upgrade, WriteBack}
 use Rattle.fsb_line.specs.declared.link.Link.{Link}
@@ -29,11 +29,11 @@ Valued-IsGranted x a kind shared o v m =
       copies = λ b h. v.copies b (let h = rw (has_won-end, is_linked-end) at h in grind (arith, nat_tests, snoop_held, gets_no_upgrade, won_is_linked));
       rests = λ f g. absurd (end_not_empty x.chain l f);
       oldest = λ k ks f. elim (end_oldest x.chain l k ks f) [
-          inl p ↦ let e = v.rests p.0 (λ b. grind (arith, nat_tests, m.settles.clean b)) in rw (← p.1) (ap Some e)
+        | inl p ↦ let e = v.rests p.0 (λ b. grind (arith, nat_tests, m.settles.clean b)) in rw (← p.1) (ap Some e)
         | inr p ↦ v.oldest k p.0 p.1
-        ];
+      ];
       carried = v.carried;
-      quiet = λ f. absurd (end_not_empty x.chain l f)
+      quiet = λ f. absurd (end_not_empty x.chain l f);
     }
 
 pub Valued-IsUpgraded : (x : Line) (a : ℕ) → Ordered x → Valued x → MayUpgrade x a → Valued (effect x (IsUpgraded a))
@@ -48,11 +48,11 @@ Valued-IsUpgraded x a o v m =
       copies = λ b h. v.copies b (let h = rw (has_won-end, is_linked-end) at h in grind (arith, nat_tests, own));
       rests = λ f g. absurd (end_not_empty x.chain l f);
       oldest = λ k ks f. elim (end_oldest x.chain l k ks f) [
-          inl p ↦ let e = v.rests p.0 (λ b. grind (arith, nat_tests, m.settles.clean b)) in rw (← p.1) (ap Some e)
+        | inl p ↦ let e = v.rests p.0 (λ b. grind (arith, nat_tests, m.settles.clean b)) in rw (← p.1) (ap Some e)
         | inr p ↦ v.oldest k p.0 p.1
-        ];
+      ];
       carried = v.carried;
-      quiet = λ f. absurd (end_not_empty x.chain l f)
+      quiet = λ f. absurd (end_not_empty x.chain l f);
     }
 
 -- the source of the oldest link after a new one is handed over: the owner has given, or what was given before stays
@@ -60,14 +60,14 @@ oldest_given : (x : Line) (owner : ℕ) (l k : Link) (ks : List Link) → Ordere
 unfolding given
 oldest_given x owner l k ks o v sole giver f =
     elim (end_oldest x.chain l k ks f) [
-      inl p ↦
-        let unlinked : is_linked owner x.chain ≡ false = ap (is_linked owner) p.0 in
-        let e = v.copies owner (ready_has_copy x owner (sole_is_held (x.state owner) sole) unlinked) in
-        let g : k.giver ≡ Some owner = subst (λ m. m.giver ≡ Some owner) p.1 giver in
-        rw (g, unlinked) (ap Some e)
-    | inr p ↦
-        let awaits : is_linked owner x.chain ≡ true = not_false (is_linked owner x.chain) (λ u. let empty = sole_unlinked x owner o sole u in let q = p.1 in cc) in
-        rw awaits (v.oldest k p.0 p.1)
+      | inl p ↦
+          let unlinked : is_linked owner x.chain ≡ false = ap (is_linked owner) p.0 in
+          let e = v.copies owner (ready_has_copy x owner (sole_is_held (x.state owner) sole) unlinked) in
+          let g : k.giver ≡ Some owner = subst (λ m. m.giver ≡ Some owner) p.1 giver in
+          rw (g, unlinked) (ap Some e)
+      | inr p ↦
+          let awaits : is_linked owner x.chain ≡ true = not_false (is_linked owner x.chain) (λ u. let empty = sole_unlinked x owner o sole u in let q = p.1 in cc) in
+          rw awaits (v.oldest k p.0 p.1)
     ]
   where
     not_false : (b : Bool) → (b ≡ false → ⊥) → b ≡ true
@@ -85,7 +85,7 @@ Valued-IsHanded x a kind owner o v m =
       rests = λ f g. absurd (end_not_empty x.chain l f);
       oldest = λ k ks f. unfold given in oldest_given x owner l k ks o v sole refl f;
       carried = v.carried;
-      quiet = λ f. absurd (end_not_empty x.chain l f)
+      quiet = λ f. absurd (end_not_empty x.chain l f);
     }
 
 pub Valued-IsWritten : (x : Line) (a : ℕ) → Ordered x → Valued x → IsOldest x a WriteBack → Valued (effect x (IsWritten a))
@@ -99,7 +99,7 @@ Valued-IsWritten x a o v m =
       rests = λ f g. absurd (end_not_empty x.chain l f);
       oldest = λ k ks f. unfold given in oldest_given x a l k ks o v sole refl f;
       carried = v.carried;
-      quiet = λ f. absurd (end_not_empty x.chain l f)
+      quiet = λ f. absurd (end_not_empty x.chain l f);
     }
 
 pub Valued-IsReplied : (x : Line) (od : Option Deferral) → x.deferral ≡ od → is_some od ≡ true → Ordered x → Valued x → Valued (replied x od)
@@ -112,9 +112,9 @@ Valued-IsReplied x (Some d) e h o v =
       copies = λ b h. v.copies b (let h = rw (has_won-end, is_linked-end) at h in let u = p.no_link in let q = gets_no_upgrade d.kind p.gets in grind (arith, nat_tests, won_is_linked));
       rests = λ f g. absurd (end_not_empty x.chain l f);
       oldest = λ k ks f. elim (end_oldest x.chain l k ks f) [
-          inl q ↦ let e = v.rests q.0 (λ b. not_sole_unmodified x b (p.nobody_sole b)) in rw (← q.1) (ap Some e)
+        | inl q ↦ let e = v.rests q.0 (λ b. not_sole_unmodified x b (p.nobody_sole b)) in rw (← q.1) (ap Some e)
         | inr q ↦ v.oldest k q.0 q.1
-        ];
+      ];
       carried = v.carried;
-      quiet = λ f. absurd (end_not_empty x.chain l f)
+      quiet = λ f. absurd (end_not_empty x.chain l f);
     }

@@ -1,16 +1,14 @@
-use Rattle.std.proofs.Common.{◌≡◌, ◌≢◌, ◌==◌, ℕ, Bool, true, false, cond, not, ◌&&◌, ◌||◌, ◌⊎◌, inl, inr, Option, Some, None, List, [], ◌∷◌, ◌++◌, refl, sym, ◌∙◌, ap, subst, arith}
+use Rattle.std.proofs.Common.{◌≡◌, ℕ, Bool, true, false, ◌||◌, [], refl, ap, arith}
 use Rattle.std.proofs.lemmas.Bool.Decides.{nat_tests}
 use Rattle.fsb_line.specs.Coherence.{Ordered, Valued}
-use Rattle.fsb_line.specs.Events.{Event, IsReady, MayBegin, MayLose, MaySettle, MayGrant, effect, settled}
+use Rattle.fsb_line.specs.Events.{IsReady, MayLose, MaySettle, MayGrant, effect, settled}
 use Rattle.fsb_line.specs.Events.Event.{Begins, Drops, IsCancelled, IsDeferred, IsLost, IsRetried, Stores}
 use Rattle.fsb_line.specs.Line.{Bytes, Line, has_copy, put, trimmed}
 use Rattle.fsb_line.specs.Links.{has_won, is_linked}
 use Rattle.fsb_line.specs.States.{asks_line, is_held, is_modified, is_sole}
 use Rattle.fsb_line.specs.declared.kind.Kind.{Kind}
-use Rattle.fsb_line.specs.declared.link.Link.{Link}
-use Rattle.fsb_line.proofs.LinkFacts.{won_is_linked}
 use Rattle.fsb_line.proofs.OrderHits.{sole_unlinked}
-use Rattle.fsb_line.proofs.StateFacts.{cond-same, put-same, snoop_held, unheld_unmodified}
+use Rattle.fsb_line.proofs.StateFacts.{cond-same, snoop_held, unheld_unmodified}
 
 -- to lose the bytes of an agent that has none changes nothing that counts
 pub Valued-trimmed : (x : Line) → Valued x → Valued (trimmed x)
@@ -20,7 +18,7 @@ Valued-trimmed x v = record {
   rests = v.rests;
   oldest = v.oldest;
   carried = v.carried;
-  quiet = v.quiet
+  quiet = v.quiet;
 }
 
 -- a ready copy is a copy
@@ -42,7 +40,7 @@ Valued-Stores x a change o v m =
       rests = λ f g. absurd (let h = g a in let k = cond-same a true (is_modified (x.state a)) in grind (arith, nat_tests));
       oldest = λ l ls f. absurd (cc);
       carried = λ bytes f. absurd (let q = v.quiet empty in cc);
-      quiet = v.quiet
+      quiet = v.quiet;
     }
 
 pub Valued-Drops : (x : Line) (a : ℕ) → Valued x → is_modified (x.state a) ≡ false → Valued (effect x (Drops a))
@@ -52,7 +50,7 @@ Valued-Drops x a v m = record {
   rests = λ f g. v.rests f (λ b. grind (arith, nat_tests, g b, m));
   oldest = v.oldest;
   carried = v.carried;
-  quiet = v.quiet
+  quiet = v.quiet;
 }
 
 pub Valued-Begins : (x : Line) (a : ℕ) (kind : Kind) (number : ℕ) → Valued x → Valued (effect x (Begins a kind number))
@@ -70,7 +68,7 @@ Valued-IsRetried x a kind v m = record {
   rests = λ f g. v.rests f (λ b. grind (arith, nat_tests, g b, m.0.clean b));
   oldest = v.oldest;
   carried = v.carried;
-  quiet = v.quiet
+  quiet = v.quiet;
 }
 
 pub Valued-IsLost : (x : Line) (a : ℕ) → Valued x → MayLose x a → Valued (effect x (IsLost a))
@@ -82,7 +80,7 @@ Valued-IsLost x a v m =
       rests = λ f g. v.rests f (λ b. grind (arith, nat_tests, m.settles.clean b, unheld_unmodified));
       oldest = v.oldest;
       carried = v.carried;
-      quiet = v.quiet
+      quiet = v.quiet;
     }
 
 pub Valued-IsDeferred : (x : Line) (a : ℕ) (kind : Kind) (shared : Bool) → Valued x → MayGrant x a kind shared → Valued (effect x (IsDeferred a kind shared))
@@ -92,5 +90,5 @@ Valued-IsDeferred x a kind shared v m = record {
   rests = λ f g. v.rests f (λ b. grind (arith, nat_tests, g b, m.settles.clean b));
   oldest = v.oldest;
   carried = v.carried;
-  quiet = v.quiet
+  quiet = v.quiet;
 }

@@ -1,12 +1,11 @@
-use Rattle.std.specs.Prelude.{◌≡◌, ◌≢◌, ◌==◌, ◌<◌, ◌≤◌, ℕ, Bool, true, false, cond, not, ◌&&◌, ◌||◌, Option, Some, None, is_some, IsTrue, IsFalse, List, [], ◌∷◌, ◌++◌, unwrap_or, ⊤}
+use Rattle.std.specs.Prelude.{◌≡◌, ◌≢◌, ◌==◌, ◌<◌, ◌≤◌, ℕ, Bool, true, false, cond, Option, Some, None, is_some, IsTrue, IsFalse, List, [], ◌∷◌, ◌++◌, unwrap_or, ⊤}
 use Rattle.fsb_line.specs.declared.kind.Kind.{Kind}
-use Rattle.fsb_line.specs.declared.kind.Kind.TheVariants.{Own, Read, Upgrade, WriteBack}
+use Rattle.fsb_line.specs.declared.kind.Kind.TheVariants.{Upgrade, WriteBack}
 use Rattle.fsb_line.specs.declared.kind.Settled.{Settled}
 use Rattle.fsb_line.specs.declared.kind.Settled.TheVariants.{Deferred, Granted, Handed, Replied, Retried, Upgraded, Written}
 use Rattle.fsb_line.specs.declared.kind.Turn.{Turn}
 use Rattle.fsb_line.specs.declared.link.Link.{Link}
-use Rattle.fsb_line.specs.declared.state.Mesi.{Mesi}
-use Rattle.fsb_line.specs.declared.state.Mesi.TheVariants.{Exclusive, Invalid, Modified, Shared}
+use Rattle.fsb_line.specs.declared.state.Mesi.TheVariants.{Invalid, Modified}
 use Rattle.fsb_line.specs.Line.{Ask, Bytes, Deferral, Line, brought, put, source, trimmed}
 use Rattle.fsb_line.specs.Links.{carries, gives, is_linked, owns, takes}
 use Rattle.fsb_line.specs.States.{asks_line, gets_line, is_held, is_held_off, is_modified, is_sole, next_state, settled_as, suits}
@@ -135,7 +134,7 @@ May x (Ends change) = HasArrived x x.chain
 unfoldable pub settled : Line → ℕ → Kind → Settled → Bool → Line
 settled x a kind outcome shared = record x {
   state = λ b. next_state (x.state b) (b == a) kind outcome shared;
-  ask = put x.ask a None
+  ask = put x.ask a None;
 }
 
 -- the line with a newest link
@@ -178,7 +177,7 @@ arrived x l ls change bytes = record x {
   memory = cond (takes l) bytes x.memory;
   pushed = passed_on l.agent (changed l change bytes) ls;
   moved = None;
-  now = changed l change x.now
+  now = changed l change x.now;
 }
 
 -- the line after the end of its oldest link

@@ -1,5 +1,4 @@
 use Rattle.std.specs.Prelude.{◌==◌, ℕ, Bool, true, false, cond, not, ◌&&◌, ◌||◌, Option, Some, None, List, [], ◌∷◌}
-use Rattle.fsb_line.specs.declared.kind.Kind.{Kind}
 use Rattle.fsb_line.specs.declared.state.Mesi.{Mesi}
 use Rattle.fsb_line.specs.declared.state.Mesi.TheVariants.{Exclusive, Invalid, Modified, Shared}
 use Rattle.fsb_line.specs.Events.{Event, after}

@@ -1,4 +1,4 @@
-use Rattle.std.specs.Prelude.{◌==◌, ℕ, Bool, true, false, cond, not, ◌&&◌, ◌||◌, Option, Some, None, is_some, List, [], ◌∷◌, unwrap_or}
+use Rattle.std.specs.Prelude.{◌==◌, ℕ, Bool, cond, not, ◌&&◌, ◌||◌, Option, Some, None, List, []}
 use Rattle.fsb_line.specs.declared.kind.Kind.{Kind}
 use Rattle.fsb_line.specs.declared.link.Link.{Link}
 use Rattle.fsb_line.specs.declared.state.Mesi.{Mesi}
@@ -52,7 +52,7 @@ unheld bytes = record {
   memory = bytes;
   pushed = None;
   moved = None;
-  now = bytes
+  now = bytes;
 }
 
 -- the function with another value at one place

@@ -1,4 +1,4 @@
-use Rattle.std.specs.Prelude.{Bool, true, false, not, ◌&&◌, ◌||◌, List, [], ◌∷◌, ⊤}
+use Rattle.std.specs.Prelude.{List, [], ◌∷◌, ⊤}
 use Rattle.fsb_line.specs.Coherence.{Owes}
 use Rattle.fsb_line.specs.Events.{Event, May, after, stored}
 use Rattle.fsb_line.specs.Line.{Bytes, Line}

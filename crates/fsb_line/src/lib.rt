@@ -11,9 +11,10 @@ pub use kind::{Kind, Settled, Turn};
 pub use link::Link;
 pub use state::{Answer, Mesi};
 
-pub mod laws;
-pub mod witness;
-
 mod kind;
+pub mod laws;
 mod link;
 mod state;
+#[cfg(test)]
+mod tests;
+pub mod witness;

@@ -14,8 +14,17 @@ pub enum Mesi {
 }
 
 impl Mesi {
-    ghost use Rattle.std.specs.Prelude.{◌≡◌};
-    ghost use Rattle.fsb_line.specs.States.{after_snoop, answer_of, granted, is_held, is_sole, next_state, wanted};
+    ghost use Rattle.std.specs.Prelude.{◌≡◌, IfSome, IsTrue};
+    ghost use Rattle.fsb_line.specs.States.{
+      after_snoop,
+      answer_of,
+      granted,
+      is_held,
+      is_sole,
+      next_state,
+      suits,
+      wanted,
+    };
 
     /// Whether the agent holds the line.
     pub fn is_held(self) -> bool
@@ -46,7 +55,8 @@ impl Mesi {
     /// The request that an access needs first: none where the state serves it. An access that isn't
     /// a plain load wants the line `alone`. `upgrades` says that the bus knows upgrades.
     pub fn wanted(self, alone: bool, upgrades: bool) -> Option<Kind>
-        ensures { result ≡ wanted self alone upgrades }
+        ensures value { result ≡ wanted self alone upgrades }
+        ensures suited { IfSome result (λ kind. IsTrue (suits kind self)) }
     {
         match self {
             Mesi::Exclusive | Mesi::Modified => None,
