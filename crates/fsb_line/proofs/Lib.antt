@@ -11,3 +11,4 @@ pub mod Theorem
 pub mod Since
 pub mod WitnessRuns
 pub mod Flat
+pub mod NeededRuns

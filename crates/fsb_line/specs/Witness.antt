@@ -1,8 +1,10 @@
-use Rattle.std.specs.Prelude.{ℕ, true, false, List, [], ◌∷◌}
+use Rattle.std.specs.Prelude.{ℕ, true, false, List, [], ◌∷◌, ◌++◌}
 use Rattle.fsb_line.specs.declared.kind.Kind.TheVariants.{Own, Read, Upgrade, WriteBack}
-use Rattle.fsb_line.specs.Events.{Event}
+use Rattle.fsb_line.specs.Coherence.{IsCoherent}
+use Rattle.fsb_line.specs.Events.{Event, May, after}
 use Rattle.fsb_line.specs.Events.Event.{Begins, Drops, Ends, IsCancelled, IsDeferred, IsGranted, IsHanded, IsLost, IsReplied, IsRetried, IsUpgraded, IsWritten, Loads, Responds, Stores}
-use Rattle.fsb_line.specs.Line.{Bytes}
+use Rattle.fsb_line.specs.Line.{Bytes, unheld}
+use Rattle.fsb_line.specs.Runs.{MayRun, run}
 
 -- a line of one byte is enough to tell stores apart
 abbrev pub byte : ℕ → Bytes
@@ -54,3 +56,37 @@ write_back =
     Begins 0 Own 0 ∷ IsGranted 0 Own false ∷ Responds ∷ Ends (stores 5) ∷ Stores 0 (stores 7)
     ∷ Begins 0 WriteBack 1 ∷ Begins 1 Read 2 ∷ Begins 2 Own 3 ∷ IsCancelled 2 ∷ IsWritten 0 ∷ IsGranted 1 Read false
     ∷ Responds ∷ Ends as_it_is ∷ Responds ∷ Ends as_it_is ∷ Loads 1 ∷ Drops 1 ∷ []
+
+-- agent 0 owns the line and has stored into it
+abbrev pub owned : List Event
+owned = Begins 0 Own 0 ∷ IsGranted 0 Own false ∷ Responds ∷ Ends (stores 5) ∷ []
+
+-- agent 0 is to own the line, and its bytes haven't come
+abbrev pub awaited : List Event
+awaited = Begins 0 Own 0 ∷ IsGranted 0 Own false ∷ []
+
+-- agent 1 asks to read the line, or to own it
+abbrev pub reader : List Event
+reader = Begins 1 Read 1 ∷ []
+
+abbrev pub rival : List Event
+rival = Begins 1 Own 1 ∷ []
+
+-- agent 0 has lost the line to agent 1, whose bytes haven't come
+abbrev pub taken : List Event
+taken = owned ++ (Begins 1 Own 1 ∷ IsHanded 1 Own 0 ∷ [])
+
+-- agent 0 is to own the line, by a reply that hasn't come, and agent 1 asks to own it too
+abbrev pub deferred : List Event
+deferred = Begins 0 Own 0 ∷ IsDeferred 0 Own false ∷ Begins 1 Own 1 ∷ []
+
+-- agents 0 and 1 share the line, and the upgrade of agent 1 finds it taken by a request of agent 0 that is to be made again
+abbrev pub contest : List Event
+contest = sharing ++ (Begins 0 Own 2 ∷ Begins 1 Upgrade 3 ∷ IsRetried 0 Own ∷ [])
+
+-- a condition is needed: after events that may happen it refuses an event, and if that one happened all the same, the line would be incoherent after events that may happen then
+pub record IsNeeded (before : List Event) (refused : Event) (later : List Event) : Type 0 where
+  pub happens : MayRun (unheld (byte 0)) before
+  pub refuses : ¬ May (run (unheld (byte 0)) before) refused
+  pub goes_on : MayRun (after (run (unheld (byte 0)) before) refused) later
+  pub breaks : ¬ IsCoherent (run (after (run (unheld (byte 0)) before) refused) later)

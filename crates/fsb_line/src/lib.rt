@@ -13,6 +13,7 @@ pub use state::{Answer, Mesi};
 
 mod kind;
 pub mod laws;
+pub mod needed;
 mod link;
 mod state;
 #[cfg(test)]
