@@ -3,7 +3,7 @@ use Rattle.std.proofs.lemmas.Bool.Decides.{nat_tests}
 use Rattle.fsb_line.specs.Coherence.{IsPending, Ordered}
 use Rattle.fsb_line.specs.Events.{Event, May, after, arrived, effect, ended, given, linked, replied, responded, settled}
 use Rattle.fsb_line.specs.Events.Event.{Begins, Drops, Ends, IsCancelled, IsDeferred, IsGranted, IsHanded, IsLost, IsReplied, IsRetried, IsUpgraded, IsWritten, Loads, Responds, Stores}
-use Rattle.fsb_line.specs.History.{any_event, gained_and_kept, is_alone_since, is_company, is_dirtied, is_dirty_since, is_grant, is_grant_alone, is_held_since, is_loss, replies_alone_to, replies_owned_to, replies_to, state_by}
+use Rattle.fsb_line.specs.History.{any_event, gained_and_kept, is_alone_since, ends_alone, is_dirtied, is_dirty_since, is_grant, is_grant_alone, is_held_since, is_loss, replies_alone_to, replies_owned_to, replies_to, state_by}
 use Rattle.fsb_line.specs.Line.{Bytes, Deferral, Line, put, trimmed, unheld}
 use Rattle.fsb_line.specs.Runs.{MayRun, run}
 use Rattle.fsb_line.specs.States.{after_snoop, asks_line, granted, is_held, is_modified, is_sole, kind_owns}
@@ -134,8 +134,8 @@ held_step a x IsReplied o m = replied_held a x x.deferral refl o
 held_step a x Responds o m = rw (responded-state x x.chain) (and_true (is_held (x.state a)))
 held_step a x (Ends change) o m = rw (ended-state x x.chain change) (and_true (is_held (x.state a)))
 
-sole_step : (a : ℕ) (x : Line) (e : Event) → Ordered x → May x e → is_sole ((effect x e).state a) ≡ (is_grant_alone a x e || (is_sole (x.state a) && not (is_company a x e)))
-unfolding May effect is_grant_alone is_company settled linked given put
+sole_step : (a : ℕ) (x : Line) (e : Event) → Ordered x → May x e → is_sole ((effect x e).state a) ≡ (is_grant_alone a x e || (is_sole (x.state a) && not (ends_alone a x e)))
+unfolding May effect is_grant_alone ends_alone settled linked given put
 sole_step a x (Loads b) o m = and_true (is_sole (x.state a))
 sole_step a x (Stores b change) o m = grind (arith, nat_tests, m.1)
 sole_step a x (Drops b) o m = grind (arith, nat_tests)
@@ -159,8 +159,8 @@ sole_step a x IsReplied o m = replied_sole a x x.deferral refl o
 sole_step a x Responds o m = rw (responded-state x x.chain) (and_true (is_sole (x.state a)))
 sole_step a x (Ends change) o m = rw (ended-state x x.chain change) (and_true (is_sole (x.state a)))
 
-modified_step : (a : ℕ) (x : Line) (e : Event) → Ordered x → May x e → is_modified ((effect x e).state a) ≡ (is_dirtied a x e || (is_modified (x.state a) && not (is_company a x e)))
-unfolding May effect is_dirtied is_company settled linked given put
+modified_step : (a : ℕ) (x : Line) (e : Event) → Ordered x → May x e → is_modified ((effect x e).state a) ≡ (is_dirtied a x e || (is_modified (x.state a) && not (ends_alone a x e)))
+unfolding May effect is_dirtied ends_alone settled linked given put
 modified_step a x (Loads b) o m = and_true (is_modified (x.state a))
 modified_step a x (Stores b change) o m = grind (arith, nat_tests, m.1)
 modified_step a x (Drops b) o m = grind (arith, nat_tests)
@@ -218,10 +218,10 @@ pub held_since : (bytes : Bytes) (es : List Event) (a : ℕ) → MayRun (unheld 
 held_since bytes es a m = since_run is_held is_grant is_loss a bytes es refl (held_step a) m
 
 pub alone_since : (bytes : Bytes) (es : List Event) (a : ℕ) → MayRun (unheld bytes) es → is_sole ((run (unheld bytes) es).state a) ≡ is_alone_since a (unheld bytes) es
-alone_since bytes es a m = since_run is_sole is_grant_alone is_company a bytes es refl (sole_step a) m
+alone_since bytes es a m = since_run is_sole is_grant_alone ends_alone a bytes es refl (sole_step a) m
 
 pub dirty_since : (bytes : Bytes) (es : List Event) (a : ℕ) → MayRun (unheld bytes) es → is_modified ((run (unheld bytes) es).state a) ≡ is_dirty_since a (unheld bytes) es
-dirty_since bytes es a m = since_run is_modified is_dirtied is_company a bytes es refl (modified_step a) m
+dirty_since bytes es a m = since_run is_modified is_dirtied ends_alone a bytes es refl (modified_step a) m
 
 pub state_since : (bytes : Bytes) (es : List Event) (a : ℕ) → MayRun (unheld bytes) es
     → (run (unheld bytes) es).state a ≡ state_by (is_held_since a (unheld bytes) es) (is_alone_since a (unheld bytes) es) (is_dirty_since a (unheld bytes) es)

@@ -2,7 +2,7 @@ use Rattle.std.specs.Prelude.{◌≡◌, ◌≢◌, ◌<◌, ℕ, false, Some, N
 use Rattle.fsb_line.specs.declared.kind.Kind.TheVariants.{Own, WriteBack}
 use Rattle.fsb_line.specs.declared.link.Link.{Link}
 use Rattle.fsb_line.specs.Events.{Event, IsReady, NobodyElseHolds}
-use Rattle.fsb_line.specs.Events.Event.{Begins, Drops, Ends, IsCancelled, IsDeferred, IsGranted, IsHanded, IsLost, IsReplied, IsRetried, IsUpgraded, IsWritten, Loads, Responds, Stores}
+use Rattle.fsb_line.specs.Events.Event.{Ends, IsHanded, IsUpgraded, IsWritten, Loads, Responds, Stores}
 use Rattle.fsb_line.specs.Line.{Ask, Bytes, Deferral, Line, brought, has_copy, source}
 use Rattle.fsb_line.specs.Links.{IsChained, has_late_upgrade, is_linked, is_overtaken, newest, owns}
 use Rattle.fsb_line.specs.States.{gets_line, is_held, is_modified, is_sole, suits}
@@ -86,19 +86,12 @@ EndsOldest x (l ∷ ls) = EndsNow x l
 unfoldable pub Owes : Line → Event → Type 0
 Owes x (Loads a) = ReadsNow x a
 Owes x (Stores a change) = WritesAlone x a
-Owes x (Drops a) = ⊤
-Owes x (Begins a kind number) = ⊤
-Owes x (IsCancelled a) = ⊤
 Owes x (IsWritten a) = GivesAlone x a
 Owes x (IsHanded a kind owner) = GivesAlone x owner
-Owes x (IsGranted a kind shared) = ⊤
 Owes x (IsUpgraded a) = ReadsNow x a
-Owes x (IsLost a) = ⊤
-Owes x (IsRetried a kind) = ⊤
-Owes x (IsDeferred a kind shared) = ⊤
-Owes x IsReplied = ⊤
 Owes x Responds = MovesNow x x.chain
 Owes x (Ends change) = EndsOldest x x.chain
+Owes x _ = ⊤
 
 -- a line that is coherent
 pub record IsCoherent (x : Line) : Type 0 where

@@ -209,21 +209,9 @@ after x e = trimmed (effect x e)
 
 -- the bytes after the stores that the event makes
 unfoldable pub stored : Line → Event → Bytes → Bytes
-stored x (Loads a) bytes = bytes
 stored x (Stores a change) bytes = change bytes
-stored x (Drops a) bytes = bytes
-stored x (Begins a kind number) bytes = bytes
-stored x (IsCancelled a) bytes = bytes
-stored x (IsWritten a) bytes = bytes
-stored x (IsHanded a kind owner) bytes = bytes
-stored x (IsGranted a kind shared) bytes = bytes
-stored x (IsUpgraded a) bytes = bytes
-stored x (IsLost a) bytes = bytes
-stored x (IsRetried a kind) bytes = bytes
-stored x (IsDeferred a kind shared) bytes = bytes
-stored x IsReplied bytes = bytes
-stored x Responds bytes = bytes
 stored x (Ends change) bytes = stored_at_end x.chain change bytes
+stored x _ bytes = bytes
 
 -- the outcome of a snoop end is the one that the bus decides on, by whether another agent has the line Modified, by whether the line is pending, and by some turn
 abbrev pub IsDecided : Line → Kind → Bool → Settled → Type 0
@@ -231,11 +219,6 @@ IsDecided x kind owned outcome = (turn : Turn) × (settled_as kind owned (is_som
 
 -- where the event is a snoop end, its outcome is decided so
 unfoldable pub IsDecidedEnd : Line → Event → Type 0
-IsDecidedEnd x (Loads a) = ⊤
-IsDecidedEnd x (Stores a change) = ⊤
-IsDecidedEnd x (Drops a) = ⊤
-IsDecidedEnd x (Begins a kind number) = ⊤
-IsDecidedEnd x (IsCancelled a) = ⊤
 IsDecidedEnd x (IsWritten a) = IsDecided x WriteBack false Written
 IsDecidedEnd x (IsHanded a kind owner) = IsDecided x kind true Handed
 IsDecidedEnd x (IsGranted a kind shared) = IsDecided x kind false Granted
@@ -243,6 +226,4 @@ IsDecidedEnd x (IsUpgraded a) = IsDecided x Upgrade false Upgraded
 IsDecidedEnd x (IsLost a) = IsDecided x Upgrade false Upgraded
 IsDecidedEnd x (IsRetried a kind) = IsDecided x kind false Retried
 IsDecidedEnd x (IsDeferred a kind shared) = IsDecided x kind false Deferred
-IsDecidedEnd x IsReplied = ⊤
-IsDecidedEnd x Responds = ⊤
-IsDecidedEnd x (Ends change) = ⊤
+IsDecidedEnd x _ = ⊤

@@ -2,7 +2,7 @@ use Rattle.std.specs.Prelude.{◌==◌, ℕ, Bool, true, false, cond, not, ◌&&
 use Rattle.fsb_line.specs.declared.state.Mesi.{Mesi}
 use Rattle.fsb_line.specs.declared.state.Mesi.TheVariants.{Exclusive, Invalid, Modified, Shared}
 use Rattle.fsb_line.specs.Events.{Event, after}
-use Rattle.fsb_line.specs.Events.Event.{Begins, Drops, Ends, IsCancelled, IsDeferred, IsGranted, IsHanded, IsLost, IsReplied, IsRetried, IsUpgraded, IsWritten, Loads, Responds, Stores}
+use Rattle.fsb_line.specs.Events.Event.{Drops, IsDeferred, IsGranted, IsHanded, IsLost, IsReplied, IsRetried, IsUpgraded, IsWritten, Stores}
 use Rattle.fsb_line.specs.Line.{Deferral, Line}
 use Rattle.fsb_line.specs.States.{kind_owns}
 
@@ -23,29 +23,15 @@ replies_owned_to (Some d) a = (d.agent == a) && kind_owns d.kind
 
 -- the event grants the line to the agent
 unfoldable pub is_grant : ℕ → Line → Event → Bool
-is_grant a x (Loads b) = false
-is_grant a x (Stores b change) = false
-is_grant a x (Drops b) = false
-is_grant a x (Begins b kind number) = false
-is_grant a x (IsCancelled b) = false
-is_grant a x (IsWritten b) = false
 is_grant a x (IsHanded b kind owner) = b == a
 is_grant a x (IsGranted b kind shared) = b == a
 is_grant a x (IsUpgraded b) = b == a
-is_grant a x (IsLost b) = false
-is_grant a x (IsRetried b kind) = false
-is_grant a x (IsDeferred b kind shared) = false
 is_grant a x IsReplied = replies_to x.deferral a
-is_grant a x Responds = false
-is_grant a x (Ends change) = false
+is_grant a x _ = false
 
 -- the agent loses the line: it drops it or writes it back, or the event is the snoop end of another agent's request to own it, whatever comes of that
 unfoldable pub is_loss : ℕ → Line → Event → Bool
-is_loss a x (Loads b) = false
-is_loss a x (Stores b change) = false
 is_loss a x (Drops b) = b == a
-is_loss a x (Begins b kind number) = false
-is_loss a x (IsCancelled b) = false
 is_loss a x (IsWritten b) = b == a
 is_loss a x (IsHanded b kind owner) = not (b == a) && kind_owns kind
 is_loss a x (IsGranted b kind shared) = not (b == a) && kind_owns kind
@@ -53,63 +39,36 @@ is_loss a x (IsUpgraded b) = not (b == a)
 is_loss a x (IsLost b) = not (b == a)
 is_loss a x (IsRetried b kind) = not (b == a) && kind_owns kind
 is_loss a x (IsDeferred b kind shared) = not (b == a) && kind_owns kind
-is_loss a x IsReplied = false
-is_loss a x Responds = false
-is_loss a x (Ends change) = false
+is_loss a x _ = false
 
 -- the event grants the line to the agent for itself: by a request to own it, or where nobody else was seen to hold it
 unfoldable pub is_grant_alone : ℕ → Line → Event → Bool
-is_grant_alone a x (Loads b) = false
-is_grant_alone a x (Stores b change) = false
-is_grant_alone a x (Drops b) = false
-is_grant_alone a x (Begins b kind number) = false
-is_grant_alone a x (IsCancelled b) = false
-is_grant_alone a x (IsWritten b) = false
 is_grant_alone a x (IsHanded b kind owner) = (b == a) && kind_owns kind
 is_grant_alone a x (IsGranted b kind shared) = (b == a) && (kind_owns kind || not shared)
 is_grant_alone a x (IsUpgraded b) = b == a
-is_grant_alone a x (IsLost b) = false
-is_grant_alone a x (IsRetried b kind) = false
-is_grant_alone a x (IsDeferred b kind shared) = false
 is_grant_alone a x IsReplied = replies_alone_to x.deferral a
-is_grant_alone a x Responds = false
-is_grant_alone a x (Ends change) = false
+is_grant_alone a x _ = false
 
 -- the agent is no longer alone with the line: it drops it or writes it back, or the event is the snoop end of any request of another agent
-unfoldable pub is_company : ℕ → Line → Event → Bool
-is_company a x (Loads b) = false
-is_company a x (Stores b change) = false
-is_company a x (Drops b) = b == a
-is_company a x (Begins b kind number) = false
-is_company a x (IsCancelled b) = false
-is_company a x (IsWritten b) = true
-is_company a x (IsHanded b kind owner) = not (b == a)
-is_company a x (IsGranted b kind shared) = not (b == a)
-is_company a x (IsUpgraded b) = not (b == a)
-is_company a x (IsLost b) = not (b == a)
-is_company a x (IsRetried b kind) = not (b == a)
-is_company a x (IsDeferred b kind shared) = not (b == a)
-is_company a x IsReplied = false
-is_company a x Responds = false
-is_company a x (Ends change) = false
+unfoldable pub ends_alone : ℕ → Line → Event → Bool
+ends_alone a x (Drops b) = b == a
+ends_alone a x (IsWritten b) = true
+ends_alone a x (IsHanded b kind owner) = not (b == a)
+ends_alone a x (IsGranted b kind shared) = not (b == a)
+ends_alone a x (IsUpgraded b) = not (b == a)
+ends_alone a x (IsLost b) = not (b == a)
+ends_alone a x (IsRetried b kind) = not (b == a)
+ends_alone a x (IsDeferred b kind shared) = not (b == a)
+ends_alone a x _ = false
 
 -- the line becomes dirty at the agent: by a grant to own it, or by a store
 unfoldable pub is_dirtied : ℕ → Line → Event → Bool
-is_dirtied a x (Loads b) = false
 is_dirtied a x (Stores b change) = b == a
-is_dirtied a x (Drops b) = false
-is_dirtied a x (Begins b kind number) = false
-is_dirtied a x (IsCancelled b) = false
-is_dirtied a x (IsWritten b) = false
 is_dirtied a x (IsHanded b kind owner) = (b == a) && kind_owns kind
 is_dirtied a x (IsGranted b kind shared) = (b == a) && kind_owns kind
 is_dirtied a x (IsUpgraded b) = b == a
-is_dirtied a x (IsLost b) = false
-is_dirtied a x (IsRetried b kind) = false
-is_dirtied a x (IsDeferred b kind shared) = false
 is_dirtied a x IsReplied = replies_owned_to x.deferral a
-is_dirtied a x Responds = false
-is_dirtied a x (Ends change) = false
+is_dirtied a x _ = false
 
 -- one of the events passes the test in its turn
 abbrev pub any_event : (Line → Event → Bool) → Line → List Event → Bool
@@ -125,13 +84,13 @@ gained_and_kept gain loss x (e ∷ es) = (gain x e && not (any_event loss (after
 abbrev pub is_held_since : ℕ → Line → List Event → Bool
 is_held_since a x es = gained_and_kept (is_grant a) (is_loss a) x es
 
--- alone: since a grant for itself, with no company after it
+-- alone: since a grant for itself, with nothing after it that ends that
 abbrev pub is_alone_since : ℕ → Line → List Event → Bool
-is_alone_since a x es = gained_and_kept (is_grant_alone a) (is_company a) x es
+is_alone_since a x es = gained_and_kept (is_grant_alone a) (ends_alone a) x es
 
--- dirty: since a grant to own it or a store, with no company after it
+-- dirty: since a grant to own it or a store, with nothing after it that ends that
 abbrev pub is_dirty_since : ℕ → Line → List Event → Bool
-is_dirty_since a x es = gained_and_kept (is_dirtied a) (is_company a) x es
+is_dirty_since a x es = gained_and_kept (is_dirtied a) (ends_alone a) x es
 
 -- the state that these three make
 abbrev pub state_by : Bool → Bool → Bool → Mesi

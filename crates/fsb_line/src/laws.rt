@@ -55,7 +55,8 @@ pub fn run_meets_what_it_owes()
 /// have the line's bytes; and nobody is alone with a pending line.
 #[tactic(auto, using(crate::proofs::Theorem::coherent_from_unheld))]
 pub fn run_is_coherent()
-    ensures { (bytes : Bytes) (es : List Event) → MayRun (unheld bytes) es → IsCoherent (run (unheld bytes) es) }
+    ensures { (bytes : Bytes) (es : List Event) →
+        MayRun (unheld bytes) es → IsCoherent (run (unheld bytes) es) }
 {}
 
 /// The line in the one flat memory is the first bytes with the stores of every event made in turn.
@@ -74,12 +75,14 @@ pub fn snoop_ends_come_out_as_decided()
 /// record can be read off a cache and its fills.
 #[tactic(auto, using(crate::proofs::Flat::without))]
 pub fn copies_stand_only_where_agents_have_them()
-    ensures { (x : Line) (e : Event) (a : ℕ) → IsFalse (has_copy (after x e) a) → (after x e).copy a ≡ [] }
+    ensures { (x : Line) (e : Event) (a : ℕ) →
+        IsFalse (has_copy (after x e) a) → (after x e).copy a ≡ [] }
 {}
 
 /// The state of an agent is told by what happened: it holds the line since a grant with no loss
-/// after it, has it alone since a grant for itself with no company after it, and has it dirty since
-/// a store or a grant to own it with no company after it.
+/// after it; has it alone since a grant for itself, with no loss and no snoop end of another's
+/// request after it; and has it dirty since a store or a grant to own it, with none of these after
+/// it.
 #[tactic(auto, using(crate::proofs::Since::state_since))]
 pub fn state_is_told_by_events()
     ensures { (bytes : Bytes) (es : List Event) (a : ℕ) → MayRun (unheld bytes) es →

@@ -5,11 +5,12 @@ use crate::kind::{Kind, Settled};
 pub enum Mesi {
     /// The agent doesn't hold the line.
     Invalid,
-    /// The agent may read; others may hold the line too.
+    /// The agent may load; others may hold the line too.
     Shared,
-    /// The agent may read and write; nobody else holds the line, and it has not written.
+    /// The agent may load and store; nobody else holds the line, and the memory has its bytes.
     Exclusive,
-    /// The agent may read and write; nobody else holds the line, and the memory's bytes are old.
+    /// The agent may load and store; nobody else holds the line, and the memory need not have its
+    /// bytes.
     Modified,
 }
 
