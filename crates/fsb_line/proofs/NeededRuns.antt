@@ -1,7 +1,7 @@
 use Rattle.std.proofs.Common.{true, false, [], ◌∷◌, ◌++◌, refl, arith}
 use Rattle.std.proofs.lemmas.Bool.Decides.{nat_tests}
 use Rattle.fsb_line.specs.Events.{May, after, arrived, effect, ended, given, linked, replied, responded, settled}
-use Rattle.fsb_line.specs.Events.Event.{Begins, Ends, IsGranted, IsHanded, IsUpgraded, IsWritten, Responds, Stores}
+use Rattle.fsb_line.specs.Events.Event.{Begins, Ends, IsGranted, IsHanded, IsReplied, IsUpgraded, IsWritten, Responds, Stores}
 use Rattle.fsb_line.specs.Line.{put, trimmed}
 use Rattle.fsb_line.specs.Witness.{IsNeeded, as_it_is, awaited, byte, contest, deferred, owned, reader, rival, stores, taken}
 use Rattle.fsb_line.specs.declared.kind.Kind.TheVariants.{Own, Read, WriteBack}
@@ -124,7 +124,7 @@ write_back_held_off = record {
   breaks = λ h. let e = h.bus [] refl in absurd (cc);
 }
 
-pub pending_line_ungranted : IsNeeded deferred (IsGranted 1 Own false) []
+pub pending_line_ungranted : IsNeeded deferred (IsGranted 1 Own false) (IsReplied ∷ [])
 unfolding May after effect trimmed settled linked given put replied responded ended arrived
 pending_line_ungranted = record {
   happens = (
@@ -138,9 +138,11 @@ pending_line_ungranted = record {
     ),
   );
   refuses = λ m. let f = m.not_pending in absurd (cc);
-  goes_on =
-      tt;
-  breaks = λ h. let e = h.pending (record { agent = 0; kind = Own; shared = false }) refl 1 in absurd (cc);
+  goes_on = (
+    refl,
+    tt,
+  );
+  breaks = λ h. let e = h.one_writer 0 refl 1 (omega arith) in absurd (cc);
 }
 
 pub lost_upgrade_unwon : IsNeeded contest (IsUpgraded 1) (Ends (stores 7) ∷ [])

@@ -1,4 +1,4 @@
-use Rattle.std.specs.Prelude.{◌==◌, ℕ, Bool, cond, not, ◌&&◌, ◌||◌, Option, Some, None, List, []}
+use Rattle.std.specs.Prelude.{◌≡◌, ◌==◌, ℕ, Bool, cond, not, ◌&&◌, ◌||◌, Option, Some, None, List, []}
 use Rattle.fsb_line.specs.declared.kind.Kind.{Kind}
 use Rattle.fsb_line.specs.declared.link.Link.{Link}
 use Rattle.fsb_line.specs.declared.state.Mesi.{Mesi}
@@ -54,6 +54,18 @@ unheld bytes = record {
   moved = None;
   now = bytes;
 }
+
+-- two lines are the same in each field, at each agent
+pub record SameFields (x y : Line) : Type 0 where
+  pub state : (a : ℕ) → x.state a ≡ y.state a
+  pub copy : (a : ℕ) → x.copy a ≡ y.copy a
+  pub ask : (a : ℕ) → x.ask a ≡ y.ask a
+  pub chain : x.chain ≡ y.chain
+  pub deferral : x.deferral ≡ y.deferral
+  pub memory : x.memory ≡ y.memory
+  pub pushed : x.pushed ≡ y.pushed
+  pub moved : x.moved ≡ y.moved
+  pub now : x.now ≡ y.now
 
 -- the function with another value at one place
 unfoldable pub put : {A : Type 0} → (ℕ → A) → ℕ → A → ℕ → A

@@ -9,7 +9,7 @@ ghost use Rattle.fsb_line.specs.History.{
   is_held_since,
   state_by,
 };
-ghost use Rattle.fsb_line.specs.Line.{Bytes, Line, has_copy, unheld};
+ghost use Rattle.fsb_line.specs.Line.{Bytes, Line, SameFields, has_copy, unheld};
 ghost use Rattle.fsb_line.specs.Runs.{MayRun, OwesAll, replay, run};
 
 /// A line that nobody holds or asks for is in order, and its bytes are where they belong.
@@ -77,6 +77,13 @@ pub fn snoop_ends_come_out_as_decided()
 pub fn copies_stand_only_where_agents_have_them()
     ensures { (x : Line) (e : Event) (a : ℕ) →
         IsFalse (has_copy (after x e) a) → (after x e).copy a ≡ [] }
+{}
+
+/// A line is what its fields are: whoever reads a record off caches and queues shows it field by
+/// field, and agent by agent.
+#[tactic(auto, using(crate::proofs::Flat::same_line))]
+pub fn lines_are_their_fields()
+    ensures { (x y : Line) → SameFields x y → x ≡ y }
 {}
 
 /// The state of an agent is told by what happened: it holds the line since a grant with no loss

@@ -8,6 +8,7 @@ ghost use Rattle.fsb_line.specs.Events.Event.{
   Ends,
   IsGranted,
   IsHanded,
+  IsReplied,
   IsUpgraded,
   IsWritten,
   Responds,
@@ -53,10 +54,11 @@ pub fn a_write_back_is_held_off()
         (IsHanded 1 Own 0 ∷ IsWritten 0 ∷ Responds ∷ []) }
 {}
 
-/// A pending line is given to nobody but the deferred request.
+/// A pending line is given to nobody but the deferred request: with its reply there would be two
+/// writers.
 #[tactic(auto, using(crate::proofs::NeededRuns::needs))]
 pub fn a_pending_line_is_not_granted()
-    ensures { IsNeeded deferred (IsGranted 1 Own false) [] }
+    ensures { IsNeeded deferred (IsGranted 1 Own false) (IsReplied ∷ []) }
 {}
 
 /// An upgrade is won only by an agent that still holds the line: it would store into bytes that it
