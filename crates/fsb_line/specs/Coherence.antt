@@ -7,7 +7,7 @@ use Rattle.fsb_line.specs.Line.{Ask, Bytes, Deferral, Line, brought, has_copy, s
 use Rattle.fsb_line.specs.Links.{IsChained, has_late_upgrade, is_linked, is_overtaken, newest, owns}
 use Rattle.fsb_line.specs.States.{gets_line, is_held, is_modified, is_sole, suits}
 
--- what holds of a deferral: it is of a kind that gets the line; its agent awaits nothing else; nobody is sole; and nobody else holds the line where it is to be owned, or was seen to be held by nobody
+-- a line is pending for a deferral of a kind that gets it: the agent awaits nothing else on it; nobody is sole; and nobody else holds the line where it is to be owned, or where nobody was seen to hold it
 pub record IsPending (x : Line) (d : Deferral) : Type 0 where
   pub gets : IsTrue (gets_line d.kind)
   pub no_ask : x.ask d.agent ≡ None
@@ -26,7 +26,7 @@ pub record Ordered (x : Line) : Type 0 where
   pub apart : (a : ℕ) (k : Ask) → x.ask a ≡ Some k → IsFalse (is_linked a x.chain)
   -- an open write-back is older than every other open request
   pub first : (a b : ℕ) (j k : Ask) → x.ask a ≡ Some j → x.ask b ≡ Some k → a ≢ b → j.kind ≡ WriteBack → j.number < k.number
-  -- a deferred request is alone with its line
+  -- what a deferral leaves behind stands until its reply
   pub pending : (d : Deferral) → x.deferral ≡ Some d → IsPending x d
   -- the newest link is that of the agent that has the line alone
   pub sole_is_newest : (a : ℕ) (l : Link) → IsTrue (is_sole (x.state a)) → newest x.chain ≡ Some l → l.agent ≡ a
@@ -58,7 +58,7 @@ pub record Valued (x : Line) : Type 0 where
 pub record ReadsNow (x : Line) (a : ℕ) : Type 0 where
   pub value : x.copy a ≡ x.now
 
--- what a store owes besides: its agent has the line alone
+-- what a store owes: the same, and that its agent has the line alone
 pub record WritesAlone (x : Line) (a : ℕ) : Type 0 where
   pub value : x.copy a ≡ x.now
   pub alone : NobodyElseHolds x a
@@ -78,6 +78,7 @@ pub record EndsNow (x : Line) (l : Link) : Type 0 where
   pub value : brought x l ≡ Some x.now
   pub alone : IsTrue (owns l) → (a : ℕ) → a ≢ l.agent → IsFalse (has_copy x a)
 
+-- and so for the oldest link of a chain
 abbrev pub EndsOldest : Line → List Link → Type 0
 EndsOldest x [] = ⊥
 EndsOldest x (l ∷ ls) = EndsNow x l

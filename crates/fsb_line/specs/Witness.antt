@@ -65,10 +65,11 @@ owned = Begins 0 Own 0 ∷ IsGranted 0 Own false ∷ Responds ∷ Ends (stores 5
 abbrev pub awaited : List Event
 awaited = Begins 0 Own 0 ∷ IsGranted 0 Own false ∷ []
 
--- agent 1 asks to read the line, or to own it
+-- agent 1 asks to read the line
 abbrev pub reader : List Event
 reader = Begins 1 Read 1 ∷ []
 
+-- agent 1 asks to own it
 abbrev pub rival : List Event
 rival = Begins 1 Own 1 ∷ []
 

@@ -58,6 +58,8 @@ impl Mesi {
     pub fn wanted(self, alone: bool, upgrades: bool) -> Option<Kind>
         ensures value { result ≡ wanted self alone upgrades }
         ensures suited { IfSome result (λ kind. IsTrue (suits kind self)) }
+        ensures serves { result ≡ None → IsTrue (is_held self) }
+        ensures serves_alone { result ≡ None → IsTrue alone → IsTrue (is_sole self) }
     {
         match self {
             Mesi::Exclusive | Mesi::Modified => None,
