@@ -1,2 +1,23 @@
-//! To come.
+//! One line of memory on a snooping bus, by itself: its copies at the agents, the requests on it,
+//! the data on their way, and what may happen to it.
+//!
+//! The line is a record of specs/, its events are a type, and coherence is a theorem over every
+//! list of events that may happen (`laws`). `witness` has runs that meet the conditions of the
+//! events, `needed` runs that go wrong where a condition is left out. The agents and the bus take
+//! their decisions by the functions of `Mesi`, `Kind` and `Link`, whose contracts are the words
+//! that the events use. No clock, queue, cache set or address stands here. docs/coherence.md tells
+//! the argument.
 #![tactic(auto)]
+
+pub use kind::{Kind, Settled, Turn};
+pub use link::Link;
+pub use state::{Answer, Mesi};
+
+mod kind;
+pub mod laws;
+mod link;
+pub mod needed;
+mod state;
+#[cfg(test)]
+mod tests;
+pub mod witness;

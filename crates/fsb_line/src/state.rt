@@ -1,0 +1,123 @@
+use crate::kind::{Kind, Settled};
+
+/// The state of a line at one agent.
+#[derive(Clone, Copy, Debug, PartialEq, Eq)]
+pub enum Mesi {
+    /// The agent doesn't hold the line.
+    Invalid,
+    /// The agent may load; others may hold the line too.
+    Shared,
+    /// The agent may load and store; nobody else holds the line, and the memory has its bytes.
+    Exclusive,
+    /// The agent may load and store; nobody else holds the line, and the memory need not have its
+    /// bytes.
+    Modified,
+}
+
+impl Mesi {
+    ghost use Rattle.std.specs.Prelude.{◌≡◌, IfSome, IsTrue};
+    ghost use Rattle.fsb_line.specs.States.{
+      after_snoop,
+      answer_of,
+      granted,
+      is_held,
+      is_sole,
+      next_state,
+      suits,
+      wanted,
+    };
+
+    /// Whether the agent holds the line.
+    pub fn is_held(self) -> bool
+        ensures { result ≡ is_held self }
+    {
+        self != Mesi::Invalid
+    }
+
+    /// Whether nobody else may hold the line, so that the agent may write.
+    pub fn is_sole(self) -> bool
+        ensures { result ≡ is_sole self }
+    {
+        matches!(self, Mesi::Exclusive | Mesi::Modified)
+    }
+
+    /// What the agent answers at the snoop end of another's request, whether its bytes have come or
+    /// not.
+    pub fn answer(self) -> Answer
+        ensures { result ≡ answer_of self }
+    {
+        match self {
+            Mesi::Invalid => Answer::Clean,
+            Mesi::Shared | Mesi::Exclusive => Answer::Hit,
+            Mesi::Modified => Answer::Modified,
+        }
+    }
+
+    /// The request that an access needs first: none where the state serves it. An access that isn't
+    /// a plain load wants the line `alone`. `upgrades` says that the bus knows upgrades.
+    pub fn wanted(self, alone: bool, upgrades: bool) -> Option<Kind>
+        ensures value { result ≡ wanted self alone upgrades }
+        ensures suited { IfSome result (λ kind. IsTrue (suits kind self)) }
+        ensures serves { result ≡ None → IsTrue (is_held self) }
+        ensures serves_alone { result ≡ None → IsTrue alone → IsTrue (is_sole self) }
+    {
+        match self {
+            Mesi::Exclusive | Mesi::Modified => None,
+            Mesi::Shared if !alone => None,
+            Mesi::Shared if upgrades => Some(Kind::Upgrade),
+            Mesi::Invalid if !alone => Some(Kind::Read),
+            Mesi::Shared | Mesi::Invalid => Some(Kind::Own),
+        }
+    }
+
+    /// The state in which a request of this kind gets its line. `shared` says that another agent
+    /// was seen to hold the line.
+    pub fn granted(kind: Kind, shared: bool) -> Mesi
+        ensures { result ≡ granted kind shared }
+    {
+        match kind {
+            Kind::Read if shared => Mesi::Shared,
+            Kind::Read => Mesi::Exclusive,
+            Kind::Own | Kind::Upgrade => Mesi::Modified,
+            Kind::WriteBack => Mesi::Invalid,
+        }
+    }
+
+    /// The state after the snoop end of another agent's request of this kind.
+    pub fn after_snoop(self, kind: Kind) -> Mesi
+        ensures { result ≡ after_snoop self kind }
+    {
+        match kind {
+            Kind::Read if self.is_held() => Mesi::Shared,
+            Kind::Own | Kind::Upgrade => Mesi::Invalid,
+            Kind::Read | Kind::WriteBack => self,
+        }
+    }
+
+    /// The state after a snoop end: of the agent's own request where `mine`, else of another's.
+    /// A reply has the kind of the request that it answers, and `shared` is what that one saw.
+    pub fn next_state(self, mine: bool, kind: Kind, settled: Settled, shared: bool) -> Mesi
+        ensures { result ≡ next_state self mine kind settled shared }
+    {
+        match settled {
+            Settled::Replied if !mine => self,
+            _ if !mine => self.after_snoop(kind),
+            Settled::Granted | Settled::Replied => Mesi::granted(kind, shared),
+            Settled::Handed => Mesi::granted(kind, true),
+            Settled::Upgraded if self.is_held() => Mesi::Modified,
+            Settled::Upgraded | Settled::Written => Mesi::Invalid,
+            Settled::Retried | Settled::Deferred => self,
+        }
+    }
+}
+
+/// What an agent answers at the snoop end of another agent's request.
+#[derive(Clone, Copy, Debug, PartialEq, Eq)]
+pub enum Answer {
+    /// It doesn't hold the line.
+    Clean,
+    /// It holds the line, and the memory may give it.
+    Hit,
+    /// It has the line Modified, and gives it itself.
+    Modified,
+}
