@@ -1,2 +1,14 @@
-//! To come.
+//! What a trace says: requests and their winners, snoop ends, responses, data and outcomes, what is in flight,
+//! outstanding, due and pending, and the eighteen phase rules with their verdict.
+//!
+//! A trace is judged as a whole, and numbers are picked out of it by position. The definitions are in `specs/`; the
+//! calls here are their plain, slow form, for tests and for comparison with machines that look at each sample once.
 #![tactic(auto)]
+
+pub use outcome::Outcome;
+pub use seen::Seen;
+pub use who::Who;
+
+mod outcome;
+mod seen;
+mod who;
