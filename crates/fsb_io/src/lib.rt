@@ -1,6 +1,14 @@
 //! The outside of the bench: where bytes come from, where they go, and numbers as text.
 #![tactic(auto)]
 
+pub use number::{Line, put_bytes, put_decimal, put_hex, put_text};
+pub use read::{ReadStop, read_all};
 pub use refusal::{Failed, Memory};
+pub use sink::{Sink, put_all};
+pub use source::Source;
 
+mod number;
+mod read;
 mod refusal;
+mod sink;
+mod source;

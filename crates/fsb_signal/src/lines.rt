@@ -34,13 +34,11 @@ impl Flags for Lines {
 
     ghost exact = { ⊤ };
 
-    ghost table = {
-        (codes "BREQ0", 1) ∷ (codes "BREQ1", 2) ∷ (codes "BREQ2", 4) ∷ (codes "BREQ3", 8)
-            ∷ (codes "BPRI", 16) ∷ (codes "LOCK", 32) ∷ (codes "BNR", 64) ∷ (codes "ADS", 128)
-            ∷ (codes "AERR", 256) ∷ (codes "HIT", 512) ∷ (codes "HITM", 1024) ∷ (codes "DEFER", 2048)
-            ∷ (codes "RS0", 4096) ∷ (codes "RS1", 8192) ∷ (codes "RS2", 16384) ∷ (codes "TRDY", 32768)
-            ∷ (codes "DBSY", 65536) ∷ (codes "DRDY", 131072) ∷ []
-    };
+    ghost table = { (codes "BREQ0", 1) ∷ (codes "BREQ1", 2) ∷ (codes "BREQ2", 4) ∷ (codes "BREQ3", 8)
+        ∷ (codes "BPRI", 16) ∷ (codes "LOCK", 32) ∷ (codes "BNR", 64) ∷ (codes "ADS", 128)
+        ∷ (codes "AERR", 256) ∷ (codes "HIT", 512) ∷ (codes "HITM", 1024) ∷ (codes "DEFER", 2048)
+        ∷ (codes "RS0", 4096) ∷ (codes "RS1", 8192) ∷ (codes "RS2", 16384) ∷ (codes "TRDY", 32768)
+        ∷ (codes "DBSY", 65536) ∷ (codes "DRDY", 131072) ∷ [] };
 
     ghost set_of = { λ lines. lines.0 };
 
