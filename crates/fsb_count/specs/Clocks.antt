@@ -1,5 +1,5 @@
 -- Words over a test of a clock, which look at the clocks below n. Clocks are counted from 0.
-use Rattle.std.specs.Prelude.{ℕ, zero, suc, ◌+◌, Bool, true, false, not, ◌&&◌, ◌||◌, nat_le, if◌then◌else◌, List, [], ◌∷◌, ◌++◌, Option, Some, None, slice_get}
+use Rattle.std.specs.Prelude.{◌≡◌, ◌<◌, ℕ, zero, suc, ◌+◌, Bool, true, false, not, ◌&&◌, ◌||◌, nat_le, if◌then◌else◌, List, [], ◌∷◌, ◌++◌, Option, Some, None, slice_get}
 
 -- the first clock below n that passes
 unfoldable pub first_where : (ℕ → Bool) → ℕ → Option ℕ
@@ -38,3 +38,7 @@ from_clock first test c = nat_le first c && test c
 unfoldable pub holds_since : (ℕ → Bool) → (ℕ → Bool) → ℕ → Bool
 holds_since gain loss n =
     elim (last_where gain n) [ None ↦ false | Some c ↦ not (any_where (from_clock (c + 1) loss) n) ]
+
+-- two tests give the same at each clock below n
+pub record AgreeBelow (n : ℕ) (p q : ℕ → Bool) : Type 0 where
+  pub same : (c : ℕ) → c < n → p c ≡ q c
