@@ -8,6 +8,7 @@ use Rattle.fsb_signal.specs.declared.lines.TheConstants.Lines.{BREQ0, BREQ1, BRE
 use Rattle.fsb_signal.specs.Samples.{line_at}
 use Rattle.fsb_trace.specs.declared.who.Who.{Who}
 use Rattle.fsb_trace.specs.declared.who.Who.TheVariants.{Symmetric, Priority}
+use Rattle.fsb_trace.specs.declared.turns.Turns.{Turns}
 use Rattle.fsb_trace.specs.At.{Trace}
 
 -- the BREQ# line of a symmetric agent, 0 to 3
@@ -33,11 +34,6 @@ is_same_agent Priority Priority = true
 unfoldable pub is_agent : Option Who → Who → Bool
 is_agent winner who = is_some_and winner (is_same_agent who)
 
--- which agents began the requests so far: the agent of the last one, and that of the last symmetric one
-pub record Turns : Type 0 where
-  pub last : Option Who
-  pub symmetric : Option ℕ
-
 -- no request yet
 unfoldable pub no_turns : Turns
 no_turns = record { last = None; symmetric = None }
@@ -53,10 +49,17 @@ unfoldable pub first_in_order : Option ℕ → ℕ
 first_in_order None = 0
 first_in_order (Some a) = (a + 1) % 4
 
--- the first symmetric agent with BREQ# at d, in the order that begins with this one and goes on modulo 4
+-- the n-th agent, from 0, in the order that begins with this one and goes on modulo 4
+unfoldable pub agent_in_order : ℕ → ℕ → ℕ
+agent_in_order first n = (first + n) % 4
+
+-- the n-th agent in that order has its BREQ# asserted at d
+unfoldable pub asks_in_order : Trace → ℕ → ℕ → ℕ → Bool
+asks_in_order w d first n = line_at (bus_request_of (agent_in_order first n)) w d
+
+-- the first symmetric agent in that order with BREQ# at d
 unfoldable pub first_asking : Trace → ℕ → ℕ → Option ℕ
-first_asking w d first =
-    option_map (λ n. (first + n) % 4) (first_where (λ n. line_at (bus_request_of ((first + n) % 4)) w d) 4)
+first_asking w d first = option_map (agent_in_order first) (first_where (asks_in_order w d first) 4)
 
 -- the winner by the lines of clock d: with LOCK# the last requester while it asks; without LOCK# the priority agent
 -- if it asks, else the first symmetric agent that asks, in rotating order

@@ -7,8 +7,13 @@
 
 pub use outcome::Outcome;
 pub use seen::Seen;
+pub use turns::Turns;
 pub use who::Who;
 
+mod at;
+mod clocks;
 mod outcome;
 mod seen;
+mod snoop;
+mod turns;
 mod who;
