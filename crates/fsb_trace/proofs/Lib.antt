@@ -1,2 +1,5 @@
 pub mod LaidOut
-
+pub mod TurnSteps
+pub mod RequestSteps
+pub mod SnoopSteps
+pub mod EndSteps

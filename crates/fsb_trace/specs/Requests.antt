@@ -1,25 +1,34 @@
 -- The requests of a trace. A request is known by its first clock, a clock with ADS#.
-use Rattle.std.specs.Prelude.{ℕ, ◌+◌, ◌/◌, Bool, true, false, ◌&&◌, not, nat_eq, Option, Some, None, length, slice_get}
+use Rattle.std.specs.Prelude.{ℕ, ◌+◌, ◌/◌, Bool, true, false, ◌&&◌, not, nat_eq, List, map, Option, Some, None, length, slice_get}
 use Rattle.std.specs.Option.{option_map, option_and_then}
 use Rattle.fsb_count.specs.Options.{is_some_and}
-use Rattle.fsb_count.specs.Clocks.{count_where, nth_where}
+use Rattle.fsb_count.specs.Clocks.{count_where, all_where, nth_where}
 use Rattle.fsb_signal.specs.declared.lines.TheConstants.Lines.{ADS, AERR}
 use Rattle.fsb_signal.specs.Samples.{line_at}
 use Rattle.fsb_encode.specs.declared.request.Kind.{Kind}
 use Rattle.fsb_encode.specs.declared.request.Kind.TheVariants.{Reply, Invalidate, Read, WriteBack}
 use Rattle.fsb_encode.specs.declared.request.Request.{Request}
+use Rattle.fsb_trace.specs.declared.seen.Seen.{Seen}
 use Rattle.fsb_trace.specs.declared.who.Who.{Who}
 use Rattle.fsb_trace.specs.declared.who.Who.TheVariants.{Symmetric, Priority}
 use Rattle.fsb_trace.specs.At.{Trace, request_at}
 use Rattle.fsb_trace.specs.Winner.{winner_at}
 
--- the first clock of request k, from 0
-unfoldable pub first_clock_of : Trace → ℕ → Option ℕ
-first_clock_of w k = nth_where (line_at ADS w) k (length w)
-
 -- the request that begins at q is cancelled: AERR# stands three clocks after q
 unfoldable pub is_cancelled : Trace → ℕ → Bool
 is_cancelled w q = line_at AERR w (q + 3)
+
+-- the request that begins at q, as a trace shows it
+unfoldable pub seen_at : Trace → ℕ → Seen
+seen_at w q = record { clock = q; who = winner_at w q; request = request_at w q; cancelled = is_cancelled w q }
+
+-- the requests of the trace, in order
+unfoldable pub requests_of : Trace → List Seen
+requests_of w = map (seen_at w) (all_where (line_at ADS w) (length w))
+
+-- the first clock of request k, from 0
+unfoldable pub first_clock_of : Trace → ℕ → Option ℕ
+first_clock_of w k = nth_where (line_at ADS w) k (length w)
 
 -- a live request begins at q
 unfoldable pub is_live : Trace → ℕ → Bool

@@ -30,10 +30,15 @@ unfoldable pub is_clear_before : Trace → ℕ → ℕ → Bool
 is_clear_before w zero c = true
 is_clear_before w (suc i) c = is_before (end_of w i) c
 
--- the clock above which the target of live request i may be ready: one after its snoop end, or the end before it
+-- one clock after the snoop end of live request i
+unfoldable pub clock_after_snoop : Trace → ℕ → Option ℕ
+clock_after_snoop w i = option_map (λ s. s + 1) (snoop_end_of w i)
+
+-- the clock above which the target of live request i may be ready: one after its snoop end, or, if that is later,
+-- the end of the request before it
 unfoldable pub ready_after : Trace → ℕ → Option ℕ
-ready_after w zero = option_map (λ s. s + 1) (snoop_end_of w 0)
-ready_after w (suc i) = greater_of (option_map (λ s. s + 1) (snoop_end_of w (suc i))) (end_of w i)
+ready_after w zero = clock_after_snoop w 0
+ready_after w (suc i) = greater_of (clock_after_snoop w (suc i)) (end_of w i)
 
 -- the ready clock of live request i: the first TRDY# clock above that
 unfoldable pub ready_clock_of : Trace → ℕ → Option ℕ

@@ -20,21 +20,28 @@ ends_snoop w start c = is_every_second_from start c && not (stalls_at w c)
 unfoldable pub snoop_end_from : Trace → ℕ → Option ℕ
 snoop_end_from w start = first_where (ends_snoop w start) (length w)
 
--- the least start of the first live request's snoop, and of one that follows a snoop end
+-- the end of a snoop, if it starts
+unfoldable pub snoop_end_if : Trace → Option ℕ → Option ℕ
+snoop_end_if w start = option_and_then (snoop_end_from w) start
+
+-- four clocks after the first clock of live request i: no snoop of it starts before
 unfoldable pub start_after_clock : Trace → ℕ → Option ℕ
 start_after_clock w i = option_map (λ q. q + 4) (live_clock_of w i)
 
--- the snoop end of live request i. The snoop of the first starts four clocks after its first clock; that of each
--- other one at the later of that and three clocks after the snoop end before it
+-- the later of that and three clocks after a snoop end
+unfoldable pub start_after_end : Trace → ℕ → Option ℕ → Option ℕ
+start_after_end w i before = greater_of (start_after_clock w i) (option_map (λ s. s + 3) before)
+
+-- the snoop end of live request i. The snoop of the first starts four clocks after its first clock, and that of each
+-- other one no sooner, and no sooner than three clocks after the snoop end before it
 unfoldable pub snoop_end_of : Trace → ℕ → Option ℕ
-snoop_end_of w zero = option_and_then (snoop_end_from w) (start_after_clock w 0)
-snoop_end_of w (suc i) =
-    option_and_then (snoop_end_from w) (greater_of (start_after_clock w (suc i)) (option_map (λ s. s + 3) (snoop_end_of w i)))
+snoop_end_of w zero = snoop_end_if w (start_after_clock w 0)
+snoop_end_of w (suc i) = snoop_end_if w (start_after_end w (suc i) (snoop_end_of w i))
 
 -- the first snoop clock of live request i
 unfoldable pub snoop_start_of : Trace → ℕ → Option ℕ
 snoop_start_of w zero = start_after_clock w 0
-snoop_start_of w (suc i) = greater_of (start_after_clock w (suc i)) (option_map (λ s. s + 3) (snoop_end_of w i))
+snoop_start_of w (suc i) = start_after_end w (suc i) (snoop_end_of w i)
 
 -- c is a snoop clock of live request i: one of every second clock from its first snoop clock up to its snoop end
 unfoldable pub is_snoop_clock_of : Trace → ℕ → ℕ → Bool

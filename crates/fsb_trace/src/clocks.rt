@@ -1,12 +1,13 @@
 //! The general words over a test of a clock, as loops.
 
-ghost use Rattle.std.specs.Prelude.{◌≡◌, ℕ, ◌<◌, Bool};
+ghost use Rattle.std.specs.Prelude.{◌≡◌, ℕ, ◌<◌, Bool, IfSome};
 ghost use Rattle.fsb_count.specs.Clocks.{first_where, any_where, count_where, nth_where};
 
 /// The first clock below `n` that passes.
 pub fn first_where<F: Fn(usize) -> bool>(n: usize, test: F) -> Option<usize>
     requires { (c : ℕ) → c < n → F.pre test c }
-    ensures { (p : ℕ → Bool) → ((c : ℕ) (b : Bool) → c < n → F.post test c b → b ≡ p c) → result ≡ first_where p n }
+    ensures value { (p : ℕ → Bool) → ((c : ℕ) (b : Bool) → c < n → F.post test c b → b ≡ p c) → result ≡ first_where p n }
+    ensures below { IfSome result (λ c. c < n) }
 {
     for c in 0..n {
         if test(c) {
@@ -46,7 +47,8 @@ pub fn count_where<F: Fn(usize) -> bool>(n: usize, test: F) -> usize
 /// The clock below `n` that passes and before which `k` pass.
 pub fn nth_where<F: Fn(usize) -> bool>(k: usize, n: usize, test: F) -> Option<usize>
     requires { (c : ℕ) → c < n → F.pre test c }
-    ensures { (p : ℕ → Bool) → ((c : ℕ) (b : Bool) → c < n → F.post test c b → b ≡ p c) → result ≡ nth_where p k n }
+    ensures value { (p : ℕ → Bool) → ((c : ℕ) (b : Bool) → c < n → F.post test c b → b ≡ p c) → result ≡ nth_where p k n }
+    ensures below { IfSome result (λ c. c < n) }
 {
     let mut passed = 0;
     for c in 0..n {

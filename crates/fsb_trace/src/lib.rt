@@ -5,15 +5,20 @@
 //! calls here are their plain, slow form, for tests and for comparison with machines that look at each sample once.
 #![tactic(auto)]
 
-pub use outcome::Outcome;
+pub use outcome::{Outcome, code_of, moves};
+pub use request::requests;
 pub use seen::Seen;
 pub use turns::Turns;
 pub use who::Who;
 
 mod at;
 mod clocks;
+mod ending;
 mod outcome;
+mod request;
 mod seen;
 mod snoop;
+mod told;
 mod turns;
 mod who;
+mod winner;

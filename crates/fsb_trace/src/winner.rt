@@ -145,6 +145,7 @@ fn winner_after(w: &[Sample], c: usize, turns: Turns) -> Option<Who>
 }
 
 /// Which agents began the requests before `c`.
+#[tactic(auto, using(crate::proofs::TurnSteps::turn_steps))]
 fn turns_before(w: &[Sample], c: usize) -> Turns
     ensures { result ≡ turns_before w.now c }
 {

@@ -9,8 +9,8 @@ pub loop-c-init : goal.loop-c-init
 unfolding count_where
 loop-c-init g c = record { most = omega arith; before = omega arith; count = λ p h. refl }
 
-pub returns-then-passed-k : goal.returns-then-passed-k
-returns-then-passed-k g c = λ p h.
+pub returns-then-passed-k-clause-value : goal.returns-then-passed-k-clause-value
+returns-then-passed-k-clause-value g c = λ p h.
     let place : count_where p c.loop-c.c ≡ c.args.k = sym (c.loop-c.invariant.count p h) ∙ c.if-passed-k.true in
     sym (subst (λ m. nth_where p m c.args.n ≡ Some c.loop-c.c) place
         (nth_where-at p c.args.n c.loop-c.c c.loop-c-test.true (sym (h c.loop-c.c true c.loop-c-test.true c.if-test.ensures))))
@@ -31,8 +31,8 @@ loop-c-preserved g c =
             w.passed-is ∙ c.loop-c.invariant.count p h
             ∙ sym (count_where-failed p c.loop-c.c (sym (h c.loop-c.c false c.loop-c-test.true w.if-test.ensures))) } ]
 
-pub returns : goal.returns
-returns g c = λ p h.
+pub returns-clause-value : goal.returns-clause-value
+returns-clause-value g c = λ p h.
     sym (nth_where-past p c.args.k c.args.n
         (let e : c.loop-c.c ≡ c.args.n = omega arith in
          let count = c.loop-c.invariant.count p h ∙ ap (count_where p) e in omega arith))
