@@ -3,3 +3,4 @@ pub mod TurnSteps
 pub mod RequestSteps
 pub mod SnoopSteps
 pub mod EndSteps
+pub mod FlightSteps

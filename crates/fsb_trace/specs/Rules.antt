@@ -107,6 +107,10 @@ may_answer v c i = is_some_and (snoop_end_of v i) (λ s. nat_le (s + 2) c) && is
 unfoldable pub is_response_early : Trace → ℕ → Bool
 is_response_early v c = responds_at v c && not (may_answer v c (next_response v c))
 
+-- the request is decoded, and DEN# was asserted with it: it may be deferred
+unfoldable pub has_den : Option Request → Bool
+has_den request = is_some_and request (λ r. r.den)
+
 -- the code is the one for live request i: implicit writeback with HITM#, no data for a write-back, retry with DEFER#
 -- or, if DEN# was asserted, deferred, and else normal data
 unfoldable pub is_code_for : Trace → ℕ → ℕ → Bool
@@ -115,7 +119,7 @@ is_code_for v i code =
     else (if is_write_back (live_request_of v i) then nat_eq code (response_code_of Written)
     else (if line_at_snoop_end DEFER v i
     then nat_eq code (response_code_of Retried)
-        || is_some_and (live_request_of v i) (λ r. r.den) && nat_eq code (response_code_of Deferred)
+        || has_den (live_request_of v i) && nat_eq code (response_code_of Deferred)
     else nat_eq code (response_code_of Granted)))
 
 -- RS# is neither idle nor a hard failure at c
