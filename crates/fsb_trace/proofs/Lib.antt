@@ -4,3 +4,4 @@ pub mod RequestSteps
 pub mod SnoopSteps
 pub mod EndSteps
 pub mod FlightSteps
+pub mod RuleSteps

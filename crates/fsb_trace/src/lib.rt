@@ -5,6 +5,8 @@
 //! calls here are their plain, slow form, for tests and for comparison with machines that look at each sample once.
 #![tactic(auto)]
 
+pub use judge::verdict;
+pub use numbers::{end_of, outcome_of, response, snoop_end};
 pub use outcome::{Outcome, code_of, moves};
 pub use request::requests;
 pub use seen::Seen;
@@ -15,6 +17,8 @@ mod at;
 mod clocks;
 mod ending;
 mod flight;
+mod judge;
+mod numbers;
 mod outcome;
 mod request;
 mod rules;
