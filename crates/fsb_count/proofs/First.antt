@@ -69,3 +69,8 @@ first_same-cases p q n None a e =
 -- tests that agree below n have the same first clock
 pub first_where-same : (p q : ℕ → Bool) (n : ℕ) → AgreeBelow n p q → first_where p n ≡ first_where q n
 first_where-same p q n a = first_same-cases p q n (first_where p n) a refl
+
+-- a clock that is found is found wherever the tests agree up to it
+pub first_where-carried : (p q : ℕ → Bool) (n m c : ℕ) → AgreeBelow (c + 1) p q → c < m → first_where p n ≡ Some c → first_where q m ≡ Some c
+first_where-carried p q n m c a l e =
+    first_where-stays p q (c + 1) m c a (omega arith) (first_where-cut p (c + 1) n c (omega arith) e)

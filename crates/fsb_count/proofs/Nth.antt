@@ -107,3 +107,17 @@ nth_where-past p k n l = slice_get_past (all_where p n) k (rw length-all_where l
 pub nth_where-there : (p : ℕ → Bool) (k n : ℕ) → k < count_where p n → (c : ℕ) × (nth_where p k n ≡ Some c)
 unfolding nth_where
 nth_where-there p k n l = (get_or (all_where p n) k 0, slice_get-get_or (all_where p n) k 0 (rw length-all_where l))
+
+-- one more clock, which passes, or does not
+pub all_where-passed : (p : ℕ → Bool) (n : ℕ) → p n ≡ true → all_where p (n + 1) ≡ all_where p n ++ n ∷ []
+unfolding all_where
+all_where-passed p n t = rw (add-one, all_where) (ap (λ b. all_where p n ++ cond b (n ∷ []) []) t)
+
+pub all_where-failed : (p : ℕ → Bool) (n : ℕ) → p n ≡ false → all_where p (n + 1) ≡ all_where p n
+unfolding all_where
+all_where-failed p n f = rw (add-one, all_where) (ap (λ b. all_where p n ++ cond b (n ∷ []) []) f ∙ append-nil (all_where p n))
+
+-- a clock that is found is found wherever the tests agree up to it
+pub nth_where-carried : (p q : ℕ → Bool) (k n m c : ℕ) → AgreeBelow (c + 1) p q → c < m → nth_where p k n ≡ Some c → nth_where q k m ≡ Some c
+nth_where-carried p q k n m c a l e =
+    nth_where-stays p q k (c + 1) m c a (omega arith) (nth_where-cut p k (c + 1) n c (omega arith) e)

@@ -5,3 +5,5 @@ pub mod SnoopSteps
 pub mod EndSteps
 pub mod FlightSteps
 pub mod RuleSteps
+pub mod AgreeAt
+pub mod Stay

@@ -8,3 +8,4 @@ pub mod Flight
 pub mod Deferral
 pub mod Rules
 pub mod Verdict
+pub mod Agree

@@ -61,12 +61,17 @@ asks_in_order w d first n = line_at (bus_request_of (agent_in_order first n)) w 
 unfoldable pub first_asking : Trace → ℕ → ℕ → Option ℕ
 first_asking w d first = option_map (agent_in_order first) (first_where (asks_in_order w d first) 4)
 
+-- the last requester, if there is one and its request line is asserted at d
+unfoldable pub last_if_asking : Trace → ℕ → Option Who → Option Who
+last_if_asking w d None = None
+last_if_asking w d (Some who) = if line_at (request_line_of who) w d then Some who else None
+
 -- the winner by the lines of clock d: with LOCK# the last requester while it asks; without LOCK# the priority agent
 -- if it asks, else the first symmetric agent that asks, in rotating order
 unfoldable pub winner_by : Trace → ℕ → Turns → Option Who
 winner_by w d turns =
     elim (line_at LOCK w d) [
-      true ↦ elim turns.last [ None ↦ None | Some who ↦ if line_at (request_line_of who) w d then Some who else None ]
+      true ↦ last_if_asking w d turns.last
     | false ↦ elim (line_at BPRI w d) [
         true ↦ Some Priority
       | false ↦ option_map Symmetric (first_asking w d (first_in_order turns.symmetric)) ] ]

@@ -1,7 +1,7 @@
 //! Arbitration: which agent may begin a request at a clock.
 
 ghost use Rattle.std.specs.Prelude.{◌≡◌, ◌<◌, ◌≤◌};
-ghost use Rattle.fsb_trace.specs.Winner.{bus_request_of, request_line_of, is_same_agent, is_agent, no_turns, then_begun, first_in_order, agent_in_order, asks_in_order, first_asking, winner_by, winner_after, turns_before, winner_at, begins_at};
+ghost use Rattle.fsb_trace.specs.Winner.{bus_request_of, request_line_of, is_same_agent, is_agent, no_turns, then_begun, first_in_order, agent_in_order, asks_in_order, first_asking, last_if_asking, winner_by, winner_after, turns_before, winner_at, begins_at};
 
 use crate::at::line_at;
 use crate::clocks::first_where;
@@ -116,16 +116,24 @@ fn first_asking(w: &[Sample], d: usize, first: usize) -> Option<u8>
     }
 }
 
+/// The last requester, if its request line is asserted at `d`.
+#[tactic(auto, unfolding(crate::specs::Winner::last_if_asking))]
+fn last_if_asking(w: &[Sample], d: usize, last: Option<Who>) -> Option<Who>
+    ensures { result ≡ last_if_asking w.now d last }
+{
+    match last {
+        Some(who) if line_at(request_line_of(who), w, d) => Some(who),
+        _ => None,
+    }
+}
+
 /// The winner by the lines of clock `d`.
 #[tactic(auto, unfolding(crate::specs::Winner::winner_by))]
 fn winner_by(w: &[Sample], d: usize, turns: Turns) -> Option<Who>
     ensures { result ≡ winner_by w.now d turns }
 {
     if line_at(Lines::LOCK, w, d) {
-        match turns.last {
-            Some(who) if line_at(request_line_of(who), w, d) => Some(who),
-            _ => None,
-        }
+        last_if_asking(w, d, turns.last)
     } else if line_at(Lines::BPRI, w, d) {
         Some(Who::Priority)
     } else {
