@@ -7,3 +7,6 @@ pub mod FlightSteps
 pub mod RuleSteps
 pub mod AgreeAt
 pub mod Stay
+pub mod StayEnds
+pub mod Order
+pub mod VerdictLaws

@@ -6,6 +6,7 @@
 #![tactic(auto)]
 
 pub use judge::verdict;
+pub use laws::{numbers_stay, one_snoop_at_a_clock, requests_rise, rules_rest_on_the_past, snoop_ends_rise, verdict_is_least};
 pub use numbers::{end_of, outcome_of, response, snoop_end};
 pub use outcome::{Outcome, code_of, moves};
 pub use request::requests;
@@ -18,6 +19,7 @@ mod clocks;
 mod ending;
 mod flight;
 mod judge;
+mod laws;
 mod numbers;
 mod outcome;
 mod request;
