@@ -1,0 +1,5 @@
+pub mod First
+pub mod Any
+pub mod Count
+pub mod Nth
+pub mod Since

@@ -1,0 +1,12 @@
+pub mod LaidOut
+pub mod TurnSteps
+pub mod RequestSteps
+pub mod SnoopSteps
+pub mod EndSteps
+pub mod FlightSteps
+pub mod RuleSteps
+pub mod AgreeAt
+pub mod Stay
+pub mod StayEnds
+pub mod Order
+pub mod VerdictLaws

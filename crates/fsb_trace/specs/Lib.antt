@@ -1,0 +1,11 @@
+pub mod At
+pub mod Winner
+pub mod Requests
+pub mod Snoop
+pub mod Outcome
+pub mod Response
+pub mod Flight
+pub mod Deferral
+pub mod Rules
+pub mod Verdict
+pub mod Agree

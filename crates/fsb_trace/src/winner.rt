@@ -1,0 +1,186 @@
+//! Arbitration: which agent may begin a request at a clock.
+
+ghost use Rattle.std.specs.Prelude.{◌≡◌, ◌<◌, ◌≤◌};
+ghost use Rattle.fsb_trace.specs.Winner.{bus_request_of, request_line_of, is_same_agent, is_agent, no_turns, then_begun, first_in_order, agent_in_order, asks_in_order, first_asking, last_if_asking, winner_by, winner_after, turns_before, winner_at, begins_at};
+
+use crate::at::line_at;
+use crate::clocks::first_where;
+use crate::turns::Turns;
+use crate::who::Who;
+use fsb_signal::{Lines, Sample};
+
+/// The BREQ# line of a symmetric agent.
+#[tactic(auto, unfolding(crate::specs::Winner::bus_request_of))]
+pub fn bus_request_of(agent: u8) -> Lines
+    ensures { result ≡ bus_request_of agent }
+{
+    match agent {
+        0 => Lines::BREQ0,
+        1 => Lines::BREQ1,
+        2 => Lines::BREQ2,
+        _ => Lines::BREQ3,
+    }
+}
+
+/// The agent's own request line.
+#[tactic(auto, unfolding(crate::specs::Winner::request_line_of))]
+pub fn request_line_of(who: Who) -> Lines
+    ensures { result ≡ request_line_of who }
+{
+    match who {
+        Who::Symmetric(agent) => bus_request_of(agent),
+        Who::Priority => Lines::BPRI,
+    }
+}
+
+/// Whether the two are the same agent.
+#[tactic(auto, unfolding(crate::specs::Winner::is_same_agent))]
+pub fn is_same_agent(a: Who, b: Who) -> bool
+    ensures { result ≡ is_same_agent a b }
+{
+    match (a, b) {
+        (Who::Symmetric(n), Who::Symmetric(m)) => n == m,
+        (Who::Priority, Who::Priority) => true,
+        _ => false,
+    }
+}
+
+/// Whether there is a winner, and it is this agent.
+#[tactic(auto, unfolding(crate::specs::Winner::is_agent, fsb_count::specs::Options::is_some_and))]
+pub fn is_agent(winner: Option<Who>, who: Who) -> bool
+    ensures { result ≡ is_agent winner who }
+{
+    match winner {
+        Some(agent) => is_same_agent(who, agent),
+        None => false,
+    }
+}
+
+/// One more request, begun by this agent, if there is one.
+#[tactic(auto, unfolding(crate::specs::Winner::then_begun))]
+fn then_begun(turns: Turns, winner: Option<Who>) -> Turns
+    ensures { result ≡ then_begun turns winner }
+{
+    match winner {
+        Some(Who::Symmetric(agent)) => Turns {
+            last: winner,
+            symmetric: Some(agent),
+        },
+        _ => Turns {
+            last: winner,
+            symmetric: turns.symmetric,
+        },
+    }
+}
+
+/// The agent with which the rotating order begins.
+#[tactic(auto, unfolding(crate::specs::Winner::first_in_order))]
+fn first_in_order(symmetric: Option<u8>) -> usize
+    ensures value { result ≡ first_in_order symmetric }
+    ensures below { result < 4 }
+{
+    match symmetric {
+        Some(agent) => (usize::from(agent) + 1) % 4,
+        None => 0,
+    }
+}
+
+/// The `n`-th agent, from 0, in the order that begins with `first`.
+#[tactic(auto, unfolding(crate::specs::Winner::agent_in_order))]
+fn agent_in_order(first: usize, n: usize) -> u8
+    requires first { first < 4 }
+    requires place { n < 4 }
+    ensures { result ≡ agent_in_order first n }
+{
+    ((first + n) % 4) as u8
+}
+
+#[tactic(auto, unfolding(crate::specs::Winner::asks_in_order))]
+fn asks_in_order(w: &[Sample], d: usize, first: usize, n: usize) -> bool
+    requires first { first < 4 }
+    requires place { n < 4 }
+    ensures { result ≡ asks_in_order w.now d first n }
+{
+    line_at(bus_request_of(agent_in_order(first, n)), w, d)
+}
+
+/// The first symmetric agent with BREQ# at `d`, in the order that begins with `first`.
+#[tactic(auto, unfolding(crate::specs::Winner::first_asking))]
+fn first_asking(w: &[Sample], d: usize, first: usize) -> Option<u8>
+    requires { first < 4 }
+    ensures { result ≡ first_asking w.now d first }
+{
+    match first_where(4, |n| asks_in_order(w, d, first, n)) {
+        Some(n) => Some(agent_in_order(first, n)),
+        None => None,
+    }
+}
+
+/// The last requester, if its request line is asserted at `d`.
+#[tactic(auto, unfolding(crate::specs::Winner::last_if_asking))]
+fn last_if_asking(w: &[Sample], d: usize, last: Option<Who>) -> Option<Who>
+    ensures { result ≡ last_if_asking w.now d last }
+{
+    match last {
+        Some(who) if line_at(request_line_of(who), w, d) => Some(who),
+        _ => None,
+    }
+}
+
+/// The winner by the lines of clock `d`.
+#[tactic(auto, unfolding(crate::specs::Winner::winner_by))]
+fn winner_by(w: &[Sample], d: usize, turns: Turns) -> Option<Who>
+    ensures { result ≡ winner_by w.now d turns }
+{
+    if line_at(Lines::LOCK, w, d) {
+        last_if_asking(w, d, turns.last)
+    } else if line_at(Lines::BPRI, w, d) {
+        Some(Who::Priority)
+    } else {
+        match first_asking(w, d, first_in_order(turns.symmetric)) {
+            Some(agent) => Some(Who::Symmetric(agent)),
+            None => None,
+        }
+    }
+}
+
+/// The winner at `c`, after these requests.
+#[tactic(auto, unfolding(crate::specs::Winner::winner_after))]
+fn winner_after(w: &[Sample], c: usize, turns: Turns) -> Option<Who>
+    ensures { result ≡ winner_after w.now c turns }
+{
+    if c < 2 { None } else { winner_by(w, c - 2, turns) }
+}
+
+/// Which agents began the requests before `c`.
+#[tactic(auto, using(crate::proofs::TurnSteps::turn_steps))]
+fn turns_before(w: &[Sample], c: usize) -> Turns
+    ensures { result ≡ turns_before w.now c }
+{
+    let mut turns = Turns {
+        last: None,
+        symmetric: None,
+    };
+    for d in 0..c {
+        if line_at(Lines::ADS, w, d) {
+            turns = then_begun(turns, winner_after(w, d, turns));
+        }
+    }
+    turns
+}
+
+/// The winner at `c`.
+#[tactic(auto, unfolding(crate::specs::Winner::winner_at))]
+pub fn winner_at(w: &[Sample], c: usize) -> Option<Who>
+    ensures { result ≡ winner_at w.now c }
+{
+    winner_after(w, c, turns_before(w, c))
+}
+
+/// Whether the agent begins a request at `c`.
+#[tactic(auto, unfolding(crate::specs::Winner::begins_at))]
+pub fn begins_at(w: &[Sample], c: usize, who: Who) -> bool
+    ensures { result ≡ begins_at w.now c who }
+{
+    line_at(Lines::ADS, w, c) && is_agent(winner_at(w, c), who)
+}
