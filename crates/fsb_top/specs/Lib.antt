@@ -1,5 +1,8 @@
 pub mod AccessCount
 pub mod Command
 pub mod Form
+pub mod Outcome
 pub mod Reading
+pub mod Refused
 pub mod StatusText
+pub mod Writing

@@ -1,0 +1,119 @@
+//! The top call.
+ghost use Rattle.std.specs.Prelude.{◌≡◌, ◌<◌, ◌≤◌, ◌↔◌, IsTrue, Option, None, Some, List, ℕ, Ok, length};
+ghost use Rattle.std.specs.Option.{option_map, ForSome};
+ghost use Rattle.fsb_access.specs.Replay.{Served};
+ghost use Rattle.fsb_access.specs.ScriptOrder.{InOrder};
+ghost use Rattle.fsb_io.specs.Faults.{Rose};
+ghost use Rattle.fsb_script.specs.Drafts.{plan_of};
+ghost use Rattle.fsb_script.specs.Plans.{PlanView};
+ghost use Rattle.fsb_script.specs.View.{plan_view};
+ghost use Rattle.fsb_script.specs.declared.fault.ScriptFault.{ScriptFault};
+ghost use Rattle.fsb_top.specs.Form.{form_of, run};
+ghost use Rattle.fsb_top.specs.Outcome.{plan_log, HasRun, HasEnded, IsSilent, IsLogged, IsDumped, HasPlan, IsBadBench};
+ghost use Rattle.fsb_top.specs.Refused.{refusal_status};
+
+use crate::command::{Command, read_words};
+use crate::count::access_count;
+use crate::play::{Played, Run, play};
+use crate::read::{Refusal, read_plan};
+use crate::simulate::{simulate_log, simulate_trace};
+use crate::status::Status;
+use crate::words::Words;
+use fsb_io::{Memory, Sink, Source};
+use fsb_script::Plan;
+use std::alloc::Global;
+
+/// Does what the words ask for: reads the bench file from `source`, simulates it, and writes the log to `out` and the
+/// dump, where one is named, to `dump`.
+///
+/// Every status but `OutOfMemory` has its cause: the words, a count of faults that rose in this call, the length of the
+/// file, or its first fault. What is said of bytes and names holds for a source and sinks that tell them.
+pub fn bench<S: Source, O: Sink, D: Sink>(
+    alloc: Global,
+    words: &Words,
+    source: &mut S,
+    out: &mut O,
+    dump: &mut D,
+) -> Status
+    ensures bad_words { (result ≡ Status.BadWords) ↔ (form_of words.now ≡ None) }
+    ensures not_called { form_of words.now ≡ None → source.new ≡ source.old }
+    ensures read_fault { result ≡ Status.ReadFault → Rose (S.faults source.old) (S.faults source.new) }
+    ensures too_long { IsTrue S.tells → result ≡ Status.TooLong → 4194304 < length (S.holds source.old) }
+    ensures bad_bench { IsTrue S.tells → (fault : ScriptFault) → result ≡ Status.BadBench fault
+        → IsBadBench words.now (S.holds source.old) (S.left source.new) (S.begun_as source.new) fault }
+    ensures write_fault { result ≡ Status.WriteFault → Rose (O.faults out.old) (O.faults out.new) }
+    ensures dump_fault { result ≡ Status.DumpFault → Rose (D.faults dump.old) (D.faults dump.new) }
+
+    // What was read, where a run was made: a bench file's plan, whose log one byte memory serves and its scripts order.
+    ensures holds_stays { IsTrue S.tells → S.holds source.new ≡ S.holds source.old }
+    ensures plan { IsTrue S.tells → HasRun result
+        → HasPlan words.now (S.holds source.old) (S.left source.new) (S.begun_as source.new) }
+
+    // What was written.
+    ensures silent { IsSilent result → out.new ≡ out.old }
+    ensures log { IsTrue S.tells → IsTrue O.tells → (plan : PlanView) → plan_of (S.holds source.old) ≡ Ok plan
+        → IsLogged result plan (O.holds out.old) (O.holds out.new) }
+    ensures log_name { IsTrue O.tells → O.begun_as out.new ≡ O.begun_as out.old }
+    ensures no_dump { IsSilent result → dump.new ≡ dump.old }
+    ensures not_begun { result ≡ Status.WriteFault → dump.new ≡ dump.old }
+    ensures not_named { (bench : List ℕ) → form_of words.now ≡ Some (run bench None) → dump.new ≡ dump.old }
+    ensures dumped { IsTrue S.tells → IsTrue D.tells → (plan : PlanView) → plan_of (S.holds source.old) ≡ Ok plan
+        → (bench : List ℕ) (name : Option (List ℕ)) → form_of words.now ≡ Some (run bench name)
+        → IsDumped result plan name (D.holds dump.old) (D.begun_as dump.old) (D.holds dump.new) (D.begun_as dump.new) }
+{
+    let Some(Command::Run { bench, dump: name }) = read_words(words) else {
+        return Status::BadWords;
+    };
+    match read_plan(alloc, bench, source) {
+        Ok(plan) => run_plan(alloc, &plan, name, out, dump),
+        Err(refusal) => status_of(refusal),
+    }
+}
+
+// The status of a refusal.
+fn status_of(refusal: Refusal) -> Status
+    ensures { result ≡ refusal_status refusal }
+{
+    match refusal {
+        Refusal::Bad(fault) => Status::BadBench(fault),
+        Refusal::ReadFault => Status::ReadFault,
+        Refusal::TooLong => Status::TooLong,
+        Refusal::Memory => Status::OutOfMemory,
+    }
+}
+
+// Simulates a plan and writes what the run gave.
+fn run_plan<O: Sink, D: Sink>(alloc: Global, plan: &Plan, name: Option<&str>, out: &mut O, dump: &mut D) -> Status
+    requires named { ForSome name (λ n. length n.now ≤ 4096) }
+    ensures ended { HasEnded result }
+    ensures write_fault { result ≡ Status.WriteFault → Rose (O.faults out.old) (O.faults out.new) }
+    ensures dump_fault { result ≡ Status.DumpFault → Rose (D.faults dump.old) (D.faults dump.new) }
+    ensures served { Served plan.now.mem (plan_log (plan_view plan.now)) }
+    ensures in_order { InOrder plan.now.scripts (plan_log (plan_view plan.now)) }
+    ensures silent { IsSilent result → out.new ≡ out.old }
+    ensures log { IsTrue O.tells → IsLogged result (plan_view plan.now) (O.holds out.old) (O.holds out.new) }
+    ensures log_name { IsTrue O.tells → O.begun_as out.new ≡ O.begun_as out.old }
+    ensures no_dump { IsSilent result → dump.new ≡ dump.old }
+    ensures not_begun { result ≡ Status.WriteFault → dump.new ≡ dump.old }
+    ensures not_named { name ≡ None → dump.new ≡ dump.old }
+    ensures dumped { IsTrue D.tells → IsDumped result (plan_view plan.now) (option_map (λ n. n.now) name)
+        (D.holds dump.old) (D.begun_as dump.old) (D.holds dump.new) (D.begun_as dump.new) }
+{
+    let Ok(log) = simulate_log(alloc, plan) else {
+        return Status::OutOfMemory;
+    };
+    let Ok(trace) = simulate_trace(alloc, plan) else {
+        return Status::OutOfMemory;
+    };
+    let run = Run {
+        clocks: plan.clocks,
+        accesses: access_count(plan),
+        log: log.as_slice(),
+        trace: trace.as_slice(),
+    };
+    match play(&run, name, out, dump) {
+        Played::Done => Status::Done,
+        Played::WriteFault => Status::WriteFault,
+        Played::DumpFault => Status::DumpFault,
+    }
+}
