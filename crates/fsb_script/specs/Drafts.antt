@@ -187,7 +187,7 @@ end_line d line = do
     scripts = d.scripts ++ d.script ∷ [];
     script = [];
     earlier = d.earlier ++ d.named.lines;
-    place = place_behind (length d.scripts + 1) d.agents
+    place = place_behind (length (d.scripts ++ d.script ∷ [])) d.agents;
   })
 
 -- a line between `agent` and `end`

@@ -8,3 +8,4 @@ pub mod Plans
 pub mod Bounds
 pub mod Drafts
 pub mod View
+pub mod Kept

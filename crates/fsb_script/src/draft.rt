@@ -1,7 +1,11 @@
-ghost use Rattle.std.specs.Prelude.{◌≡◌, ◌<◌, ◌+◌, ◌^◌, ◌++◌, length, nat_lt, IfOk, OnOk};
+ghost use Rattle.std.specs.Prelude.{◌≡◌, ◌<◌, ◌≤◌, ◌+◌, ◌^◌, ◌++◌, length, nat_lt, IsTrue, IfOk, OnOk};
+ghost use Rattle.std.specs.List.{list_all};
+ghost use Rattle.fsb_access.specs.Access.{is_lawful_access};
+ghost use Rattle.fsb_script.specs.Bounds.{is_cache, is_lawful_script, is_lawful_bridge, is_lawful_setting, is_lawful_hazard, are_lawful_hazards};
+ghost use Rattle.fsb_script.specs.Kept.{are_counts, is_fresh, has_all, has_lock_room};
 ghost use Rattle.fsb_script.specs.Reading.{Reads, LineGives};
 ghost use Rattle.fsb_script.specs.Statements.{settings_at};
-ghost use Rattle.fsb_script.specs.Drafts.{heading_of, ends_heading};
+ghost use Rattle.fsb_script.specs.Drafts.{heading_of, ends_heading, place_behind};
 
 use crate::bounds::{ITEMS, is_cache, is_lock_apart, is_lock_size};
 use crate::fault::{Cause, LineStop};
@@ -36,6 +40,17 @@ pub(crate) struct Draft {
     pub(crate) earlier: Earlier,
     pub(crate) hazards: HazardLines,
     ghost some_cache: { 0 < cache },
+    ghost lawful_cache: { IsTrue (is_cache cache) },
+    ghost counts: { IsTrue (are_counts agents clocks ahead) },
+    ghost lawful_bridge: { IsTrue (is_lawful_bridge bridge) },
+    ghost lawful_mem: { IsTrue (list_all is_lawful_setting mem) },
+    ghost lawful_hazards: { IsTrue (are_lawful_hazards hazards) },
+    ghost lawful_scripts: { IsTrue (list_all (is_lawful_script cache) scripts) },
+    ghost lawful_script: { IsTrue (is_lawful_script cache script) },
+    ghost lawful_group: { IsTrue (list_all is_lawful_access group) },
+    ghost fresh: { IsTrue (is_fresh place scripts script) },
+    ghost all_scripts: { IsTrue (has_all place agents scripts) },
+    ghost lock_room: { IsTrue (has_lock_room place script) },
 }
 
 /// What follows `p6bench 1`.
@@ -53,6 +68,17 @@ fn is_heading(line: &[u8]) -> bool
     match heading_of(line) {
         Ok(rest) => is_ended(rest),
         Err(_) => false,
+    }
+}
+
+/// Where the lines go on behind so many scripts.
+fn place_behind(scripts: usize, agents: u8) -> Place
+    ensures { result ≡ place_behind scripts agents }
+{
+    if scripts == agents as usize {
+        Place::Hazards
+    } else {
+        Place::Agent
     }
 }
 
@@ -81,8 +107,9 @@ impl Draft {
         })
     }
 
-    #[tactic(auto, unfolding(crate::specs::Drafts::first_line))]
+    #[tactic(auto, unfolding(crate::specs::Drafts::first_line, crate::specs::Kept::is_fresh, crate::specs::Kept::has_all, crate::specs::Kept::has_lock_room))]
     fn first_line(&mut self, line: &[u8]) -> Result<(), Cause>
+        requires { self.old.place ≡ Place.First }
         ensures { Reads (λ _. progress self.new) result (first_line (progress self.old) line.now) }
     {
         if !is_heading(line) {
@@ -92,8 +119,9 @@ impl Draft {
         Ok(())
     }
 
-    #[tactic(auto, unfolding(crate::specs::Drafts::agents_line, crate::specs::Words::ended, crate::specs::Forms::built))]
+    #[tactic(auto, unfolding(crate::specs::Drafts::agents_line, crate::specs::Words::ended, crate::specs::Forms::built, crate::specs::Kept::is_fresh, crate::specs::Kept::has_all, crate::specs::Kept::has_lock_room))]
     fn agents_line(&mut self, line: &[u8]) -> Result<(), Cause>
+        requires { self.old.place ≡ Place.Agents }
         ensures { Reads (λ _. progress self.new) result (agents_line (progress self.old) line.now) }
     {
         let rest = keyword(b"agents", line)?;
@@ -110,8 +138,9 @@ impl Draft {
         Ok(())
     }
 
-    #[tactic(auto, unfolding(crate::specs::Drafts::clocks_line, crate::specs::Words::ended))]
+    #[tactic(auto, unfolding(crate::specs::Drafts::clocks_line, crate::specs::Words::ended, crate::specs::Kept::is_fresh, crate::specs::Kept::has_all, crate::specs::Kept::has_lock_room))]
     fn clocks_line(&mut self, line: &[u8]) -> Result<(), Cause>
+        requires { self.old.place ≡ Place.Clocks }
         ensures { Reads (λ _. progress self.new) result (clocks_line (progress self.old) line.now) }
     {
         let rest = keyword(b"clocks", line)?;
@@ -124,8 +153,9 @@ impl Draft {
         Ok(())
     }
 
-    #[tactic(auto, unfolding(crate::specs::Drafts::cache_line, crate::specs::Words::ended))]
+    #[tactic(auto, using(crate::proofs::KeptLemmas::script_none, crate::proofs::KeptLemmas::scripts_none), unfolding(crate::specs::Drafts::cache_line, crate::specs::Words::ended, crate::specs::Kept::is_fresh, crate::specs::Kept::has_all, crate::specs::Kept::has_lock_room))]
     fn cache_line(&mut self, line: &[u8]) -> Result<(), Cause>
+        requires { self.old.place ≡ Place.Cache }
         ensures { Reads (λ _. progress self.new) result (cache_line (progress self.old) line.now) }
     {
         let rest = keyword(b"cache", line)?;
@@ -141,7 +171,7 @@ impl Draft {
         Ok(())
     }
 
-    #[tactic(auto, unfolding(crate::specs::Drafts::ahead_line, crate::specs::Words::ended, crate::specs::Forms::built))]
+    #[tactic(auto, unfolding(crate::specs::Drafts::ahead_line, crate::specs::Words::ended, crate::specs::Forms::built, crate::specs::Kept::is_fresh, crate::specs::Kept::has_all, crate::specs::Kept::has_lock_room))]
     fn ahead_line(&mut self, line: &[u8]) -> Result<(), Cause>
         ensures { Reads (λ _. progress self.new) result (ahead_line (progress self.old) line.now) }
     {
@@ -159,7 +189,7 @@ impl Draft {
         Ok(())
     }
 
-    #[tactic(auto, unfolding(crate::specs::Drafts::bridge_line, crate::specs::Forms::built))]
+    #[tactic(auto, unfolding(crate::specs::Drafts::bridge_line, crate::specs::Forms::built, crate::specs::Kept::is_fresh, crate::specs::Kept::has_all, crate::specs::Kept::has_lock_room))]
     fn bridge_line(&mut self, line: &[u8]) -> Result<(), Cause>
         ensures { Reads (λ _. progress self.new) result (bridge_line (progress self.old) line.now) }
     {
@@ -172,7 +202,7 @@ impl Draft {
         Ok(())
     }
 
-    #[tactic(auto, unfolding(crate::specs::Drafts::mem_line))]
+    #[tactic(auto, unfolding(crate::specs::Drafts::mem_line, crate::specs::Kept::is_fresh, crate::specs::Kept::has_all, crate::specs::Kept::has_lock_room))]
     fn mem_line(&mut self, line: &[u8]) -> Result<(), LineStop>
         ensures { LineGives (λ _. progress self.new) result (mem_line (progress self.old) line.now) }
     {
@@ -182,7 +212,7 @@ impl Draft {
         Ok(())
     }
 
-    #[tactic(auto, unfolding(crate::specs::Drafts::agent_line))]
+    #[tactic(auto, unfolding(crate::specs::Drafts::agent_line, crate::specs::Kept::is_fresh, crate::specs::Kept::has_all, crate::specs::Kept::has_lock_room))]
     fn agent_line(&mut self, alloc: Global, line: &[u8]) -> Result<(), LineStop>
         ensures { LineGives (λ _. progress self.new) result (agent_line (progress self.old) line.now) }
     {
@@ -195,7 +225,9 @@ impl Draft {
     /// Names the line of an access.
     #[tactic(auto, unfolding(crate::specs::Drafts::named_line, crate::specs::Forms::built_if, crate::specs::Forms::built))]
     fn named_line(&mut self, line: u64) -> Result<(), LineStop>
-        ensures { LineGives (λ _. progress self.new) result (named_line (progress self.old) line) }
+        ensures value { LineGives (λ _. progress self.new) result (named_line (progress self.old) line) }
+        ensures kept { self.new.script ≡ self.old.script }
+        ensures same { self.new.place ≡ self.old.place }
     {
         if self.earlier.contains(line) && !Form::Foreign.is_built() {
             return Err(LineStop::Bad(Cause::Unbuilt));
@@ -207,8 +239,11 @@ impl Draft {
         Ok(())
     }
 
-    #[tactic(auto, unfolding(crate::specs::Drafts::one_item))]
+    #[tactic(auto, using(crate::proofs::KeptLemmas::script_push), unfolding(crate::specs::Drafts::one_item, crate::specs::Kept::is_fresh, crate::specs::Kept::has_all, crate::specs::Kept::has_lock_room))]
     fn one_item(&mut self, access: Access) -> Result<(), LineStop>
+        requires lawful { IsTrue (is_lawful_access access) }
+        requires room { length self.old.script < 4096 }
+        requires place { self.old.place ≡ Place.Items }
         ensures { LineGives (λ _. progress self.new) result (one_item (progress self.old) access) }
     {
         self.named_line(access.line())?;
@@ -225,6 +260,7 @@ impl Draft {
 
     #[tactic(auto, unfolding(crate::specs::Drafts::load_item))]
     fn load_item(&mut self, line: &[u8]) -> Result<(), LineStop>
+        requires { self.old.place ≡ Place.Items }
         ensures { LineGives (λ _. progress self.new) result (load_item (progress self.old) line.now) }
     {
         if !self.has_room() {
@@ -236,6 +272,7 @@ impl Draft {
 
     #[tactic(auto, unfolding(crate::specs::Drafts::store_item))]
     fn store_item(&mut self, line: &[u8]) -> Result<(), LineStop>
+        requires { self.old.place ≡ Place.Items }
         ensures { LineGives (λ _. progress self.new) result (store_item (progress self.old) line.now) }
     {
         if !self.has_room() {
@@ -245,8 +282,9 @@ impl Draft {
         self.one_item(access)
     }
 
-    #[tactic(auto, unfolding(crate::specs::Drafts::idle_item, crate::specs::Forms::built))]
+    #[tactic(auto, using(crate::proofs::KeptLemmas::script_push), unfolding(crate::specs::Drafts::idle_item, crate::specs::Forms::built, crate::specs::Kept::is_fresh, crate::specs::Kept::has_all, crate::specs::Kept::has_lock_room))]
     fn idle_item(&mut self, line: &[u8]) -> Result<(), LineStop>
+        requires { self.old.place ≡ Place.Items }
         ensures { LineGives (λ _. progress self.new) result (idle_item (progress self.old) line.now) }
     {
         if !self.has_room() {
@@ -260,7 +298,7 @@ impl Draft {
         Ok(())
     }
 
-    #[tactic(auto, unfolding(crate::specs::Drafts::lock_item, crate::specs::Words::ended, crate::specs::Forms::built))]
+    #[tactic(auto, unfolding(crate::specs::Drafts::lock_item, crate::specs::Words::ended, crate::specs::Forms::built, crate::specs::Kept::is_fresh, crate::specs::Kept::has_all, crate::specs::Kept::has_lock_room))]
     fn lock_item(&mut self, alloc: Global, line: &[u8]) -> Result<(), Cause>
         ensures { Reads (λ _. progress self.new) result (lock_item (progress self.old) line.now) }
     {
@@ -278,27 +316,25 @@ impl Draft {
         Ok(())
     }
 
-    #[tactic(auto, unfolding(crate::specs::Drafts::end_line, crate::specs::Words::ended))]
+    #[tactic(auto, using(crate::proofs::KeptLemmas::all_push), unfolding(crate::specs::Drafts::end_line, crate::specs::Words::ended, crate::specs::Kept::is_fresh, crate::specs::Kept::has_all, crate::specs::Kept::has_lock_room))]
     fn end_line(&mut self, alloc: Global, line: &[u8]) -> Result<(), LineStop>
+        requires { self.old.place ≡ Place.Items }
         ensures { LineGives (λ _. progress self.new) result (end_line (progress self.old) line.now) }
     {
         if !is_ended(line) {
             return Err(LineStop::Bad(Cause::After));
         }
+        self.earlier.extend(self.named.lines())?;
         let script = mem::replace(&mut self.script, Script::new(alloc));
         self.scripts.push(script)?;
-        self.earlier.extend(self.named.lines())?;
-        self.place = if self.scripts.as_slice().len() == self.agents as usize {
-            Place::Hazards
-        } else {
-            Place::Agent
-        };
+        self.place = place_behind(self.scripts.as_slice().len(), self.agents);
         Ok(())
     }
 
     /// A line between `agent` and `end`.
     #[tactic(auto, unfolding(crate::specs::Drafts::item_line))]
     fn item_line(&mut self, alloc: Global, word: &[u8], line: &[u8]) -> Result<(), LineStop>
+        requires { self.old.place ≡ Place.Items }
         ensures { LineGives (λ _. progress self.new) result (item_line (progress self.old) word.now line.now) }
     {
         if word == b"ld".as_slice() {
@@ -317,8 +353,9 @@ impl Draft {
         }
     }
 
-    #[tactic(auto, unfolding(crate::specs::Drafts::locked_access))]
+    #[tactic(auto, using(crate::proofs::KeptLemmas::all_push), unfolding(crate::specs::Drafts::locked_access))]
     fn locked_access(&mut self, access: Access) -> Result<(), LineStop>
+        requires lawful { IsTrue (is_lawful_access access) }
         ensures { LineGives (λ _. progress self.new) result (locked_access (progress self.old) access) }
     {
         self.named_line(access.line())?;
@@ -326,8 +363,9 @@ impl Draft {
         Ok(())
     }
 
-    #[tactic(auto, unfolding(crate::specs::Drafts::unlock_line, crate::specs::Words::ended))]
+    #[tactic(auto, using(crate::proofs::KeptLemmas::script_push, crate::proofs::KeptLemmas::both), unfolding(crate::specs::Drafts::unlock_line, crate::specs::Words::ended, crate::specs::Kept::is_fresh, crate::specs::Kept::has_all, crate::specs::Kept::has_lock_room))]
     fn unlock_line(&mut self, alloc: Global, line: &[u8]) -> Result<(), LineStop>
+        requires { self.old.place ≡ Place.Locked }
         ensures { LineGives (λ _. progress self.new) result (unlock_line (progress self.old) line.now) }
     {
         if !is_ended(line) {
@@ -348,6 +386,7 @@ impl Draft {
     /// A line between `lock` and `unlock`.
     #[tactic(auto, unfolding(crate::specs::Drafts::locked_line))]
     fn locked_line(&mut self, alloc: Global, word: &[u8], line: &[u8]) -> Result<(), LineStop>
+        requires { self.old.place ≡ Place.Locked }
         ensures { LineGives (λ _. progress self.new) result (locked_line (progress self.old) word.now line.now) }
     {
         if word == b"ld".as_slice() {
@@ -363,8 +402,10 @@ impl Draft {
         }
     }
 
-    #[tactic(auto, unfolding(crate::specs::Drafts::add_hazard, crate::specs::Forms::built))]
+    #[tactic(auto, using(crate::proofs::KeptLemmas::hazard_push), unfolding(crate::specs::Drafts::add_hazard, crate::specs::Forms::built))]
     fn add_hazard(&mut self, hazard: HazardLine) -> Result<(), LineStop>
+        requires lawful { IsTrue (is_lawful_hazard hazard) }
+        requires room { length self.old.hazards < 4096 }
         ensures { LineGives (λ _. progress self.new) result (add_hazard (progress self.old) hazard) }
     {
         if !Form::Hazard(hazard).is_built() {
@@ -508,7 +549,8 @@ impl Draft {
 
 /// Adds a setting for each byte, from an address on.
 fn add_settings(mem: &mut Settings, addr: u64, bytes: &[u8]) -> Result<(), Memory>
-    requires { addr + length bytes.now < 2 ^ 64 }
+    requires { addr + length bytes.now ≤ 2 ^ 36 }
+    ensures lawful { IsTrue (list_all is_lawful_setting mem.old) → IsTrue (list_all is_lawful_setting mem.new) }
     ensures ok { OnOk result (mem.new ≡ mem.old ++ settings_at addr bytes.now) }
 {
     for (i, byte) in bytes.iter().enumerate() {

@@ -14,4 +14,6 @@ mod place;
 mod plan;
 mod read;
 mod statement;
+#[cfg(test)]
+mod tests;
 mod word;

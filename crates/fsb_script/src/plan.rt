@@ -1,4 +1,6 @@
-ghost use Rattle.std.specs.Prelude.{◌≡◌, List, [], ◌∷◌, ◌++◌, IfOk, OnOk, OnErr};
+ghost use Rattle.std.specs.Prelude.{◌≡◌, ◌≤◌, List, [], ◌∷◌, ◌++◌, length, IsTrue, OnOk, OnErr};
+ghost use Rattle.std.specs.List.{list_all};
+ghost use Rattle.fsb_script.specs.Bounds.{is_cache, is_lawful_script, is_lawful_bridge, is_lawful_setting, are_lawful_hazards};
 
 use fsb_access::{Script, Setting};
 use fsb_hazard::HazardLines;
@@ -95,14 +97,32 @@ pub struct Window {
     pub size: u64,
 }
 
-/// What a bench file says.
+/// What a bench file says. It keeps the bounds of the file's numbers, accesses, locked items, window, settings and
+/// hazard lines.
 #[derive(Debug, Drop)]
 pub struct Plan {
+    /// One script for each of 1 to 4 agents, each of at most 4,096 items.
     pub scripts: Scripts,
+    /// How many clocks are run, 0 to 200,000.
     pub clocks: u32,
+    /// The lines of each agent's cache: a power of two from 1 to 1,024.
     pub cache: u32,
+    /// How many requests an agent may have outstanding, 1 to 4.
     pub ahead: u8,
+    /// The addresses whose requests may be deferred.
     pub bridge: Option<Window>,
+    /// The bytes of memory that are not 0 as the run begins; a later one of the same byte wins.
     pub mem: Settings,
+    /// At most 4,096 lines.
     pub hazards: HazardLines,
+    pub ghost some_agents: { 1 ≤ length scripts },
+    pub ghost few_agents: { length scripts ≤ 4 },
+    pub ghost lawful_scripts: { IsTrue (list_all (is_lawful_script cache) scripts) },
+    pub ghost few_clocks: { clocks ≤ 200000 },
+    pub ghost lawful_cache: { IsTrue (is_cache cache) },
+    pub ghost some_ahead: { 1 ≤ ahead },
+    pub ghost few_ahead: { ahead ≤ 4 },
+    pub ghost lawful_bridge: { IsTrue (is_lawful_bridge bridge) },
+    pub ghost lawful_mem: { IsTrue (list_all is_lawful_setting mem) },
+    pub ghost lawful_hazards: { IsTrue (are_lawful_hazards hazards) },
 }

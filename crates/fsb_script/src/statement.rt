@@ -7,7 +7,8 @@ ghost use Rattle.fsb_script.specs.Statements.{keyword, size_at, aligned_at, load
 use crate::fault::Cause;
 use crate::plan::Window;
 use crate::word::{
-    ADDRESSES, address, decimal, decimal_within, hex_digit, hex_of, hexadecimal, is_ended, next_word,
+    ADDRESSES, address, decimal, decimal_within, hex_digit, hex_of, hexadecimal, is_ended,
+    next_word,
 };
 use arrayvec::ArrayVec;
 use fsb_access::{Access, Operand};
@@ -275,11 +276,19 @@ fn turn_of(k: u32, word: &[u8], line: &[u8]) -> Result<HazardLine, Cause>
     } else if word == b"data".as_slice() {
         Ok(HazardLine::Gap(k, count_of(line)?))
     } else if word == b"retry".as_slice() {
-        if is_ended(line) { Ok(HazardLine::Retry(k)) } else { Err(Cause::After) }
+        if is_ended(line) {
+            Ok(HazardLine::Retry(k))
+        } else {
+            Err(Cause::After)
+        }
     } else if word == b"defer".as_slice() {
         Ok(HazardLine::Defer(k, later_of(line)?))
     } else if word == b"aerr".as_slice() {
-        if is_ended(line) { Ok(HazardLine::Aerr(k)) } else { Err(Cause::After) }
+        if is_ended(line) {
+            Ok(HazardLine::Aerr(k))
+        } else {
+            Err(Cause::After)
+        }
     } else {
         Err(Cause::Word)
     }

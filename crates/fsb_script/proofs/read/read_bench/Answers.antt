@@ -3,6 +3,7 @@ use Rattle.fsb_script.specs.Reading.{LineFails, Fails, stop_at}
 use Rattle.fsb_script.specs.Words.{line_len, lines_of}
 use Rattle.fsb_script.specs.Drafts.{after_line, plan_from}
 use Rattle.fsb_script.specs.View.{progress}
+use Rattle.fsb_script.proofs.KeptLemmas.{not_empty}
 use Rattle.fsb_script.proofs.LinesLemmas.{plan_begins, plan_more, plan_stops}
 use Rattle.fsb_script.proofs.read.read_bench.Goals as goal
 
@@ -11,14 +12,14 @@ loop-rest-init c = record { ahead = plan_begins c.args.text.now _ c.in-Ok.ensure
 
 pub returns-in-Err-take : goal.returns-in-Err-take
 returns-in-Err-take c =
-    let some : 0 < length c.loop-rest.rest.now = grind arith in
+    let some : 0 < length c.loop-rest.rest.now = not_empty _ c.is_empty.result c.is_empty.ensures c.loop-rest-test.true in
     let fails = rw c.split_line.ensures.line at c.in-Err-take.ensures in
     let stops : Fails (stop_at c.loop-rest.number c.in-Err-take.stop) (plan_from c.loop-rest.number (progress c.loop-rest.draft) (lines_of c.loop-rest.rest.now)) = plan_stops c.loop-rest.number (progress c.loop-rest.draft) c.loop-rest.rest.now c.in-Err-take.stop some fails in
     rw c.stop_at.ensures (rw (← c.loop-rest.invariant.ahead) stops)
 
 pub loop-rest-preserved : goal.loop-rest-preserved
 loop-rest-preserved c =
-    let some : 0 < length c.loop-rest.rest.now = grind arith in
+    let some : 0 < length c.loop-rest.rest.now = not_empty _ c.is_empty.result c.is_empty.ensures c.loop-rest-test.true in
     let taken = rw c.split_line.ensures.line at c.in-Ok-take.ensures in
     let more = plan_more c.loop-rest.number (progress c.loop-rest.draft) (progress c.take.new.self) c.loop-rest.rest.now some taken in
     record {
