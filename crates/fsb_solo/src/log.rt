@@ -18,6 +18,8 @@ pub fn log_of(alloc: Global, clocks: u32, settings: &[Setting], items: &[Item]) 
     requires lawful { AreLawful items.now }
     ensures log { IfOk result (λ log. log.entries ≡ solo_log clocks settings.now items.now) }
 
+    ensures few { IfOk result (λ log. length log.entries ≤ length items.now) }
+
     // One byte memory that serves the entries singly gives their values; they keep to the script in order.
     ensures served { IfOk result (λ log. Served settings.now log.entries) }
     ensures in_order { (scripts : List (List Item)) → script_of scripts 0 ≡ items.now → IfOk result (λ log. InOrder scripts log.entries) }

@@ -1,5 +1,5 @@
 -- What a call of `bench` leaves behind, by its status.
-use Rattle.std.specs.Prelude.{◌≡◌, ℕ, ◌++◌, List, Option, Some, Result, Ok, Err, ⊥}
+use Rattle.std.specs.Prelude.{◌≡◌, ℕ, ◌++◌, List, Option, Some, Result, Ok, Err}
 use Rattle.fsb_access.specs.Replay.{Served}
 use Rattle.fsb_access.specs.ScriptOrder.{InOrder, script_of}
 use Rattle.fsb_access.specs.declared.log.Done.{Done as Entry}

@@ -4,7 +4,7 @@ use Rattle.fsb_io.specs.Appends.{AppendsPart}
 
 -- the sink was begun under the name and holds the whole text
 pub record HasText (text name held : List ℕ) (begun_as : Option (List ℕ)) : Type 0 where
-  pub text : held ≡ text
+  pub whole : held ≡ text
   pub named : begun_as ≡ Some name
 
 -- the same, where a dump has a name; without one nothing is said

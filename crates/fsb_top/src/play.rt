@@ -26,6 +26,7 @@ pub enum Played {
 }
 
 /// What a run gave: the log, and the waveform.
+#[derive(Clone, Copy)]
 pub struct Run<'a> {
     /// How many clocks were run.
     pub clocks: u32,
@@ -44,7 +45,7 @@ pub fn play<O: Sink, D: Sink>(run: &Run<'_>, name: Option<&str>, out: &mut O, du
 
     ensures write_fault { result ≡ Played.WriteFault → Rose (O.faults out.old) (O.faults out.new) }
     ensures dump_fault { result ≡ Played.DumpFault → Rose (D.faults dump.old) (D.faults dump.new) }
-    ensures dump_named { result ≡ Played.DumpFault → IsTrue (is_some name) }
+    ensures dump_named { result ≡ Played.DumpFault → IsTrue (is_some name.entry) }
 
     // The log was written unless its sink failed, and then a prefix of it.
     ensures log { IsTrue O.tells → result ≢ Played.WriteFault
@@ -55,11 +56,11 @@ pub fn play<O: Sink, D: Sink>(run: &Run<'_>, name: Option<&str>, out: &mut O, du
 
     // The dump is begun only after the log was written, and only where it has a name.
     ensures not_begun { result ≡ Played.WriteFault → dump.new ≡ dump.old }
-    ensures no_dump { name ≡ None → dump.new ≡ dump.old }
+    ensures no_dump { name.entry ≡ None → dump.new ≡ dump.old }
     ensures whole_dump { IsTrue D.tells → result ≡ Played.Done
-        → HasDump (dump_text run.now.trace.now) (option_map (λ n. n.now) name) (D.holds dump.new) (D.begun_as dump.new) }
+        → HasDump (dump_text run.now.trace.now) (option_map (λ n. n.now) name.entry) (D.holds dump.new) (D.begun_as dump.new) }
     ensures dump_part { IsTrue D.tells → result ≡ Played.DumpFault
-        → HasDumpPart (dump_text run.now.trace.now) (option_map (λ n. n.now) name) (D.holds dump.old) (D.begun_as dump.old) (D.holds dump.new) (D.begun_as dump.new) }
+        → HasDumpPart (dump_text run.now.trace.now) (option_map (λ n. n.now) name.entry) (D.holds dump.old) (D.begun_as dump.old) (D.holds dump.new) (D.begun_as dump.new) }
 {
     if write_log(out, run.clocks, run.accesses, run.log).is_err() {
         return Played::WriteFault;

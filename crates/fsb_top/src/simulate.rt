@@ -16,6 +16,7 @@ use std::alloc::Global;
 /// The log of a plan: that of its first agent, on lines of its own.
 pub fn simulate_log(alloc: Global, plan: &Plan) -> Result<Log, Memory>
     ensures log { IfOk result (λ log. log.entries ≡ solo_log plan.now.clocks plan.now.mem (script_of plan.now.scripts 0)) }
+    ensures few { IfOk result (λ log. length log.entries ≤ 4096) }
     ensures served { IfOk result (λ log. Served plan.now.mem log.entries) }
     ensures in_order { IfOk result (λ log. InOrder plan.now.scripts log.entries) }
 {

@@ -88,15 +88,15 @@ fn run_plan<O: Sink, D: Sink>(alloc: Global, plan: &Plan, name: Option<&str>, ou
     ensures ended { HasEnded result }
     ensures write_fault { result ≡ Status.WriteFault → Rose (O.faults out.old) (O.faults out.new) }
     ensures dump_fault { result ≡ Status.DumpFault → Rose (D.faults dump.old) (D.faults dump.new) }
-    ensures served { Served plan.now.mem (plan_log (plan_view plan.now)) }
-    ensures in_order { InOrder plan.now.scripts (plan_log (plan_view plan.now)) }
+    ensures served { HasRun result → Served plan.now.mem (plan_log (plan_view plan.now)) }
+    ensures in_order { HasRun result → InOrder plan.now.scripts (plan_log (plan_view plan.now)) }
     ensures silent { IsSilent result → out.new ≡ out.old }
     ensures log { IsTrue O.tells → IsLogged result (plan_view plan.now) (O.holds out.old) (O.holds out.new) }
     ensures log_name { IsTrue O.tells → O.begun_as out.new ≡ O.begun_as out.old }
     ensures no_dump { IsSilent result → dump.new ≡ dump.old }
     ensures not_begun { result ≡ Status.WriteFault → dump.new ≡ dump.old }
-    ensures not_named { name ≡ None → dump.new ≡ dump.old }
-    ensures dumped { IsTrue D.tells → IsDumped result (plan_view plan.now) (option_map (λ n. n.now) name)
+    ensures not_named { name.entry ≡ None → dump.new ≡ dump.old }
+    ensures dumped { IsTrue D.tells → IsDumped result (plan_view plan.now) (option_map (λ n. n.now) name.entry)
         (D.holds dump.old) (D.begun_as dump.old) (D.holds dump.new) (D.begun_as dump.new) }
 {
     let Ok(log) = simulate_log(alloc, plan) else {

@@ -1,10 +1,11 @@
 use Rattle.std.proofs.Common.{arith, ◌≡◌, ◌≤◌, ◌+◌, List, length, ℕ, ◌<◌, [], ◌∷◌, ◌++◌, Bool, true, not, nat_eq, if◌then◌else◌, refl, sym, ap, ◌∙◌, subst, take, drop, BuildHasherDefault, FoldHasher}
-use Rattle.std.proofs.lemmas.List.{drop_all, length-take-le}
+use Rattle.std.proofs.lemmas.List.{drop_all, length-take-le, length-append}
 use Rattle.std.specs.HashSet.{HashSet, contains, Updates}
 use Rattle.fsb_access.specs.Access.{line_of}
 use Rattle.fsb_access.specs.FlatView.{state_of}
 use Rattle.fsb_access.specs.declared.access.Access.{Access}
 use Rattle.fsb_access.specs.declared.item.Item.{Item}
+use Rattle.fsb_access.specs.declared.log.Done.{Done}
 use Rattle.fsb_access.specs.Replay.{Served}
 use Rattle.fsb_access.specs.ScriptOrder.{InOrder}
 use Rattle.fsb_solo.specs.SoloLog.{last_clock, solo_log}
@@ -35,7 +36,9 @@ loop-number-preserved c =
         (has_named_more _ _ (take c.loop-number.number c.args.items.now) c.in-One.access c.loop-number.invariant.1
             (subst (λ l. Updates nat_eq c.loop-number.named c.insert.new.self l true) c.line.ensures c.in_ok-is_new.ensures.updates)),
     omega arith,
-    omega arith)
+    omega arith,
+    subst (λ entries. length entries ≤ c.loop-number.number + 1) (sym c.add.ensures.entries)
+        (omega (arith, length-append {A = Done}, c.loop-number.invariant.4)))
 
 pub returns-clause-log : goal.returns-clause-log
 returns-clause-log c =

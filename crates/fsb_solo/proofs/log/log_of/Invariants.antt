@@ -11,3 +11,4 @@ invariant-loop-number l =
     × HasNamed l.named (take l.number l.items)
     × (length l.items ≤ l.log.spare + l.number)
     × (l.first ≤ 200000)
+    × (length l.log.entries ≤ l.number)
