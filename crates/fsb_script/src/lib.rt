@@ -4,11 +4,13 @@
 pub use fault::{Cause, ScriptFault, ScriptStop};
 pub use plan::{Plan, Scripts, Settings, Window};
 pub use read::read_bench;
+pub use write::write_bench;
 
 mod bounds;
 mod draft;
 mod fault;
 mod form;
+mod line;
 mod named;
 mod place;
 mod plan;
@@ -17,3 +19,4 @@ mod statement;
 #[cfg(test)]
 mod tests;
 mod word;
+mod write;
