@@ -2,6 +2,7 @@
 #![tactic(auto)]
 
 pub use fault::{Cause, ScriptFault, ScriptStop};
+pub use laws::one_answer;
 pub use plan::{Plan, Scripts, Settings, Window};
 pub use read::read_bench;
 pub use write::write_bench;
@@ -10,6 +11,7 @@ mod bounds;
 mod draft;
 mod fault;
 mod form;
+mod laws;
 mod line;
 mod named;
 mod place;

@@ -51,7 +51,11 @@ fn digit_text(digit: u8) -> u8
     requires { digit < 16 }
     ensures { result ≡ digit_text digit }
 {
-    if digit < 10 { b'0' + digit } else { b'a' - 10 + digit }
+    if digit < 10 {
+        b'0' + digit
+    } else {
+        b'a' - 10 + digit
+    }
 }
 
 /// The line of a byte of memory.
