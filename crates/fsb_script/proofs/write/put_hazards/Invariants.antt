@@ -1,5 +1,5 @@
 -- The text so far and that of what is left are the whole.
-use Rattle.std.proofs.Common.{◌≡◌, ◌+◌, ◌++◌, drop}
+use Rattle.std.proofs.Common.{◌≡◌, ◌++◌, drop}
 use Rattle.fsb_script.specs.Text.{hazards_text}
 use Rattle.fsb_script.proofs.write.put_hazards.Given as goal
 
