@@ -2,7 +2,15 @@
 #![tactic(auto)]
 
 pub use lines::Lines;
-pub use sample::{Sample, Word, idle_sample};
+pub use query::{idle_sample, is_asserted_at};
+pub use sample::{Sample, Word};
+pub use signal::Signal;
+pub use table::{SIGNALS, signal_at, signal_named};
 
 mod lines;
+mod query;
 mod sample;
+mod signal;
+mod table;
+#[cfg(test)]
+mod tests;

@@ -3,6 +3,9 @@ ghost use Rattle.std.specs.Prelude.{⊤, [], ◌∷◌, codes};
 use bitflags::{Flag, Flags, bitflag_items};
 
 /// A set of the 18 control lines, which are asserted low on the bus; a line is in the set where it is asserted.
+///
+/// The lines are the bits 0 to 17. A bit above them is no line: no question about a line looks at it, and a `Sample`
+/// has none.
 #[derive(Clone, Copy, Debug, PartialEq, Eq)]
 pub struct Lines(pub u32);
 
@@ -34,13 +37,11 @@ impl Flags for Lines {
 
     ghost exact = { ⊤ };
 
-    ghost table = {
-        (codes "BREQ0", 1) ∷ (codes "BREQ1", 2) ∷ (codes "BREQ2", 4) ∷ (codes "BREQ3", 8)
-            ∷ (codes "BPRI", 16) ∷ (codes "LOCK", 32) ∷ (codes "BNR", 64) ∷ (codes "ADS", 128)
-            ∷ (codes "AERR", 256) ∷ (codes "HIT", 512) ∷ (codes "HITM", 1024) ∷ (codes "DEFER", 2048)
-            ∷ (codes "RS0", 4096) ∷ (codes "RS1", 8192) ∷ (codes "RS2", 16384) ∷ (codes "TRDY", 32768)
-            ∷ (codes "DBSY", 65536) ∷ (codes "DRDY", 131072) ∷ []
-    };
+    ghost table = { (codes "BREQ0", 1) ∷ (codes "BREQ1", 2) ∷ (codes "BREQ2", 4) ∷ (codes "BREQ3", 8)
+        ∷ (codes "BPRI", 16) ∷ (codes "LOCK", 32) ∷ (codes "BNR", 64) ∷ (codes "ADS", 128)
+        ∷ (codes "AERR", 256) ∷ (codes "HIT", 512) ∷ (codes "HITM", 1024) ∷ (codes "DEFER", 2048)
+        ∷ (codes "RS0", 4096) ∷ (codes "RS1", 8192) ∷ (codes "RS2", 16384) ∷ (codes "TRDY", 32768)
+        ∷ (codes "DBSY", 65536) ∷ (codes "DRDY", 131072) ∷ [] };
 
     ghost set_of = { λ lines. lines.0 };
 
