@@ -1,6 +1,8 @@
 //! Request codes: the two clocks in which a request stands on the bus.
 #![tactic(auto)]
 
-pub use request::{Kind, Pair, Request};
+pub use decoding::{DecodeFault, clocks_hold_request, decode};
+pub use request::{Kind, Pair, Request, codes_differ, encode};
 
+mod decoding;
 mod request;

@@ -1,0 +1,4 @@
+pub mod CodedRequests
+pub mod DecodedLaws
+pub mod DecodedSteps
+pub mod Samples
