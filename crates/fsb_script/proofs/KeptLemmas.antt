@@ -1,16 +1,14 @@
 -- What a draft keeps, through one more item, setting, script or hazard.
-use Rattle.std.proofs.Common.{◌≡◌, ℕ, zero, suc, ◌+◌, ◌<◌, ◌≤◌, ◌^◌, Bool, true, false, cond, List, [], ◌∷◌, ◌++◌, length, IsTrue, refl, ap, ◌∙◌, sym, arith, length-append}
-use Rattle.std.specs.Prelude.{◌&&◌, ◌||◌, not, nat_le, nat_lt, ◌==◌}
+use Rattle.std.proofs.Common.{◌≡◌, ℕ, zero, suc, ◌<◌, ◌≤◌, Bool, true, false, cond, List, [], ◌∷◌, ◌++◌, length, IsTrue, refl, ap, ◌∙◌, sym, arith, length-append}
+use Rattle.std.specs.Prelude.{◌&&◌, ◌||◌, nat_le, ◌==◌}
 use Rattle.std.specs.List.{list_all}
 use Rattle.std.proofs.lemmas.List.Folds.{list_all-append}
-use Rattle.std.proofs.lemmas.Bool.{le-leb, lt-ltb, leb-true, ltb-true, eqb-true}
+use Rattle.std.proofs.lemmas.Bool.{le-leb, leb-true, ltb-true, eqb-true}
 use Rattle.fsb_access.specs.declared.access.Access.{Access}
 use Rattle.fsb_access.specs.Access.{is_lawful_access}
-use Rattle.fsb_access.specs.declared.access.Setting.{Setting}
 use Rattle.fsb_access.specs.declared.item.Item.{Item}
 use Rattle.fsb_hazard.specs.declared.line.HazardLine.{HazardLine}
-use Rattle.fsb_script.specs.Bounds.{is_cache, is_lock_size, is_lock_apart, is_lawful_item, is_lawful_script, is_lawful_setting, is_lawful_hazard, are_lawful_hazards}
-use Rattle.fsb_script.specs.Statements.{settings_at}
+use Rattle.fsb_script.specs.Bounds.{is_cache, is_lock_size, is_lock_apart, is_lawful_item, is_lawful_script, is_lawful_hazard, are_lawful_hazards}
 use Rattle.fsb_access.specs.declared.item.Item.TheVariants.{Locked}
 use Rattle.fsb_script.specs.declared.place.Place.{Place}
 use Rattle.fsb_script.specs.declared.place.Place.TheVariants as places

@@ -1,11 +1,11 @@
 -- A text's first line and the lines behind it.
-use Rattle.std.proofs.Common.{◌≡◌, ℕ, zero, suc, ◌+◌, ◌<◌, Bool, true, false, cond, eqb, List, [], ◌∷◌, length, take, drop, Result, Ok, Err, refl, ap, ◌∙◌, sym, arith}
+use Rattle.std.proofs.Common.{◌≡◌, ℕ, suc, ◌+◌, ◌<◌, Bool, true, false, cond, eqb, List, [], ◌∷◌, length, take, drop, Result, Ok, refl, ap, arith}
 use Rattle.fsb_script.specs.declared.fault.Cause.{Cause}
 use Rattle.fsb_script.specs.declared.fault.ScriptFault.{ScriptFault}
 use Rattle.fsb_script.specs.declared.fault.LineStop.{LineStop}
 use Rattle.fsb_script.specs.declared.fault.LineStop.TheVariants as stops
 use Rattle.fsb_script.specs.Reading.{◌>>=◌, LineFails, Fails, stop_at}
-use Rattle.fsb_script.specs.Words.{in_front, before_lines, lines_of, line_len}
+use Rattle.fsb_script.specs.Words.{in_front, lines_of, line_len}
 use Rattle.fsb_script.specs.Drafts.{Progress, after_line, on_line, plan_from, plan_of, beginning}
 use Rattle.fsb_script.specs.Plans.{PlanView}
 

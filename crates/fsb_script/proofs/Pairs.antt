@@ -1,6 +1,5 @@
 -- Two digits of a word are one byte more.
-use Rattle.std.proofs.Common.{◌≡◌, ℕ, ◌+◌, ◌*◌, ◌<◌, suc, List, [], ◌∷◌, ◌++◌, length, drop, get_or, Ok, refl, ap, ◌∙◌, sym, arith, drop-cons}
-use Rattle.fsb_script.specs.Reading.{◌>>=◌}
+use Rattle.std.proofs.Common.{◌≡◌, ℕ, ◌+◌, ◌*◌, ◌<◌, suc, List, [], ◌∷◌, ◌++◌, length, drop, get_or, Ok, refl, ap, ◌∙◌, arith, drop-cons}
 use Rattle.fsb_script.specs.Words.{hex_digit}
 use Rattle.fsb_script.specs.Statements.{bytes_from}
 

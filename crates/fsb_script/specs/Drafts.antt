@@ -1,5 +1,5 @@
 -- A bench file line by line: where the reading stands, and what each line adds.
-use Rattle.std.specs.Prelude.{ℕ, ◌+◌, ◌/◌, List, [], ◌∷◌, ◌++◌, length, Option, Some, None, Result, Ok, Err, Bool, true, false, nat_lt, ◌==◌, if◌then◌else◌, codes}
+use Rattle.std.specs.Prelude.{◌≡◌, ℕ, ◌+◌, List, [], ◌∷◌, ◌++◌, length, Option, Some, None, Result, Ok, Err, Bool, false, nat_lt, ◌==◌, if◌then◌else◌, codes}
 use Rattle.std.specs.List.{list_any}
 use Rattle.std.specs.Str.{bytes_eq}
 use Rattle.fsb_access.specs.declared.access.Access.{Access}
@@ -10,7 +10,6 @@ use Rattle.fsb_hazard.specs.declared.line.HazardLine.{HazardLine}
 use Rattle.fsb_script.specs.declared.fault.Cause.{Cause}
 use Rattle.fsb_script.specs.declared.fault.Cause.TheVariants.{FirstLine, Word, Range, Missing, LockSize, LockConflict}
 use Rattle.fsb_script.specs.declared.fault.ScriptFault.{ScriptFault}
-use Rattle.fsb_script.specs.declared.form.Form.{Form}
 use Rattle.fsb_script.specs.declared.form.Form.TheVariants as forms
 use Rattle.fsb_script.specs.declared.place.Place.{Place}
 use Rattle.fsb_script.specs.declared.place.Place.TheVariants as places
@@ -327,3 +326,11 @@ plan_from number d (line ∷ lines) = on_line number (after_line d line) >>= (λ
 -- the plan of a bench file, or its first bad line and that line's first cause from left to right
 unfoldable pub plan_of : List ℕ → Result PlanView ScriptFault
 plan_of text = plan_from 1 beginning (lines_of text)
+
+-- the text is a bench file that says this plan
+abbrev pub BenchText : List ℕ → PlanView → Type 0
+BenchText text plan = plan_of text ≡ Ok plan
+
+-- the text is no bench file, and this is its first bad line with that line's first cause
+abbrev pub FirstBad : List ℕ → ScriptFault → Type 0
+FirstBad text fault = plan_of text ≡ Err fault

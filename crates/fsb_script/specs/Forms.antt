@@ -1,5 +1,5 @@
 -- Which forms of a bench file are built: a form is built by one more true here.
-use Rattle.std.specs.Prelude.{ℕ, Bool, true, false, Result, Ok, Err, ◌==◌, if◌then◌else◌}
+use Rattle.std.specs.Prelude.{Bool, false, Result, Ok, ◌==◌, if◌then◌else◌}
 use Rattle.fsb_script.specs.declared.fault.Cause.{Cause}
 use Rattle.fsb_script.specs.declared.fault.Cause.TheVariants.{Unbuilt}
 use Rattle.fsb_script.specs.declared.form.Form.{Form}

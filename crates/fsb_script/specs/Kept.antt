@@ -1,5 +1,5 @@
 -- What a draft keeps while it is read.
-use Rattle.std.specs.Prelude.{ℕ, List, [], ◌∷◌, length, Option, Some, None, Bool, true, false, ◌&&◌, ◌||◌, not, nat_lt, nat_le, ◌==◌, is_none}
+use Rattle.std.specs.Prelude.{ℕ, List, length, Option, Bool, true, false, ◌&&◌, ◌||◌, not, nat_lt, nat_le, ◌==◌, is_none}
 use Rattle.std.specs.List.{list_all}
 use Rattle.fsb_access.specs.declared.item.Item.{Item}
 use Rattle.fsb_access.specs.declared.item.Item.TheVariants.{One, Locked, Idle}

@@ -9,3 +9,4 @@ pub mod Bounds
 pub mod Drafts
 pub mod View
 pub mod Kept
+pub mod Text

@@ -1,5 +1,5 @@
 -- The lines that an agent has named, and which of them the cache sets have.
-use Rattle.std.specs.Prelude.{ℕ, ◌%◌, List, [], ◌∷◌, Option, Some, None, Bool, true, false, not, ◌==◌, if◌then◌else◌}
+use Rattle.std.specs.Prelude.{ℕ, ◌%◌, List, [], ◌∷◌, Option, Some, None, Bool, false, not, ◌==◌, if◌then◌else◌}
 
 -- the lines that an agent's script has named so far, in order, and the number of its cache's lines
 pub record Lines : Type 0 where

@@ -2,13 +2,17 @@
 #![tactic(auto)]
 
 pub use fault::{Cause, ScriptFault, ScriptStop};
+pub use laws::one_answer;
 pub use plan::{Plan, Scripts, Settings, Window};
 pub use read::read_bench;
+pub use write::write_bench;
 
 mod bounds;
 mod draft;
 mod fault;
 mod form;
+mod laws;
+mod line;
 mod named;
 mod place;
 mod plan;
@@ -17,3 +21,4 @@ mod statement;
 #[cfg(test)]
 mod tests;
 mod word;
+mod write;

@@ -1,5 +1,5 @@
-use crate::{Cause, ScriptFault, ScriptStop, read_bench};
-use std::alloc::Global;
+use crate::{Cause, ScriptFault, ScriptStop, read_bench, write_bench};
+use std::alloc::{AllocError, Global};
 use std::test::Fail;
 use table::{BAD, GOOD};
 
@@ -45,25 +45,27 @@ fn bad(line: u32, cause: Cause) -> Option<ScriptStop> {
     Some(ScriptStop::Bad(ScriptFault { line, cause }))
 }
 
+/// The answer to the text of a row.
+fn answer(alloc: Global, start: Start, text: &str) -> Result<Option<ScriptStop>, AllocError> {
+    let mut whole = Vec::from_slice(alloc, start.text().as_bytes())?;
+    whole.extend_from_slice(text.as_bytes())?;
+    Ok(fault(alloc, whole.as_slice()))
+}
+
 #[test]
 fn each_line_and_cause(rt: HostRuntime) -> Result<(), Fail> {
-    for (start, text, line, cause) in BAD {
-        let mut whole = Vec::from_slice(rt.alloc(), start.text().as_bytes())?;
-        whole.extend_from_slice(text.as_bytes())?;
-        assert_eq!(rt;
-            fault(rt.alloc(), whole.as_slice()),
-            bad(line, cause),
-            "{start:?} {text:?}"
-        );
+    for (start, text, line, cause) in BAD.iter() {
+        let found = answer(rt.alloc(), *start, text)?;
+        assert_eq!(rt; found, bad(*line, *cause), "{start:?} {text:?}");
     }
-    for (start, text) in GOOD {
-        let mut whole = Vec::from_slice(rt.alloc(), start.text().as_bytes())?;
-        whole.extend_from_slice(text.as_bytes())?;
-        assert_eq!(rt;
-            fault(rt.alloc(), whole.as_slice()),
-            None,
-            "{start:?} {text:?}"
-        );
+    Ok(())
+}
+
+#[test]
+fn each_line_that_is_read(rt: HostRuntime) -> Result<(), Fail> {
+    for (start, text) in GOOD.iter() {
+        let found = answer(rt.alloc(), *start, text)?;
+        assert_eq!(rt; found, None, "{start:?} {text:?}");
     }
     Ok(())
 }
@@ -116,20 +118,37 @@ fn item_4097(rt: HostRuntime) -> Result<(), Fail> {
     Ok(())
 }
 
-/// What the first run's file says.
+/// The canonical text of the first run's plan, in whatever spelling its file has.
 #[test]
-fn load_then_store_hit(rt: HostRuntime) -> Result<(), Fail> {
-    match read_bench(
-        rt.alloc(),
-        b"p6bench 1\nagents 1\nclocks 60\ncache 64\nahead 1\nmem 40 07\nagent 0\nld 1 40\nst 1 41 5\nend\n",
-    ) {
-        Ok(plan) => {
-            assert_eq!(rt; plan.clocks, 60);
-            assert_eq!(rt; plan.cache, 64);
-            assert_eq!(rt; plan.scripts.as_slice().len(), 1);
-            assert_eq!(rt; plan.mem.as_slice().len(), 1);
-        }
-        Err(_) => assert!(rt; false),
+fn canonical_text(rt: HostRuntime) -> Result<(), Fail> {
+    let canonical =
+        b"p6bench 1\nagents 1\nclocks 60\ncache 64\nahead 1\nmem 40 07\nagent 0\nld 1 40\nst 1 41 5\nend\n".as_slice();
+    let spelled =
+        b"p6bench 1\n\nagents 01\nclocks\t060\r\ncache 64\nahead 1\n# m\nmem 0040 07\nagent 0\nld 1 040\nst 1 41 05\nend";
+    for text in [canonical, spelled.as_slice()] {
+        let written = match read_bench(rt.alloc(), text) {
+            Ok(plan) => write_bench(rt.alloc(), &plan)?,
+            Err(_) => Vec::new(rt.alloc()),
+        };
+        assert_eq!(rt; written.as_slice(), canonical);
     }
+    Ok(())
+}
+
+/// Every operand, and a line of several bytes as one setting each.
+#[test]
+fn canonical_items(rt: HostRuntime) -> Result<(), Fail> {
+    let text =
+        b"p6bench 1\nagents 1\nclocks 0\ncache 1\nahead 1\nmem fE 0aB0\nagent 0\nst 8 40 R\nend\n";
+    assert_eq!(rt; fault(rt.alloc(), text), bad(8, Cause::Number));
+    let text =
+        b"p6bench 1\nagents 1\nclocks 0\ncache 1\nahead 1\nmem fE 0aB0\nagent 0\nst 8 40 r+0FF\nst 2 5e 00\nend\n";
+    let canonical =
+        b"p6bench 1\nagents 1\nclocks 0\ncache 1\nahead 1\nmem fe 0a\nmem ff b0\nagent 0\nst 8 40 r+ff\nst 2 5e 0\nend\n";
+    let written = match read_bench(rt.alloc(), text) {
+        Ok(plan) => write_bench(rt.alloc(), &plan)?,
+        Err(_) => Vec::new(rt.alloc()),
+    };
+    assert_eq!(rt; written.as_slice(), canonical.as_slice());
     Ok(())
 }

@@ -1,5 +1,5 @@
 -- The texts of the clocks from one on.
-use Rattle.std.proofs.Common.{◌≡◌, ℕ, ◌+◌, ◌<◌, ◌≤◌, List, [], ◌∷◌, ◌++◌, refl, length, get_or, drop, sym, drop-cons, slice_get, Some, None, true, false, suc, ap, ◌∙◌, arith}
+use Rattle.std.proofs.Common.{◌≡◌, ℕ, ◌+◌, ◌<◌, ◌≤◌, List, [], ◌∷◌, ◌++◌, refl, length, get_or, drop, sym, drop-cons, slice_get, Some, None, true, suc, ap, ◌∙◌, arith}
 use Rattle.std.proofs.Math.Path.{ap₂}
 use Rattle.std.proofs.lemmas.List.{drop_all}
 use Rattle.fsb_signal.specs.declared.sample.Sample.{Sample}

@@ -5,7 +5,7 @@ use Rattle.std.proofs.lemmas.Option.{slice_get_within, get_or_from_slice_get}
 use Rattle.std.proofs.lemmas.List.Folds.{list_all_at}
 use Rattle.std.proofs.lemmas.Bool.{ne_eqb, ltb-true}
 use Rattle.fsb_signal.specs.Table.{Entry, table}
-use Rattle.fsb_signal.specs.DumpText.{width_of, name_of, lowest_of, range_text, declaration_text}
+use Rattle.fsb_signal.specs.DumpText.{width_of, lowest_of, range_text, declaration_text}
 
 -- a word's lines, from the highest to the lowest
 pub range_text-word : (number width : ℕ) → width ≡ width_of number → 1 < width →

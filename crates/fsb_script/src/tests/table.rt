@@ -2,7 +2,7 @@ use super::Start;
 use crate::fault::Cause;
 
 /// Texts with a first bad line: what stands before, the text, the line, and the cause.
-pub(crate) const BAD: [(Start, &str, u32, Cause); 191] = [
+pub(crate) static BAD: [(Start, &'static str, u32, Cause); 191] = [
     (Start::Whole, "", 1, Cause::FirstLine),
     (Start::Whole, "\n", 1, Cause::FirstLine),
     (Start::Whole, "p6bench 2", 1, Cause::FirstLine),
@@ -352,7 +352,7 @@ pub(crate) const BAD: [(Start, &str, u32, Cause); 191] = [
 ];
 
 /// Texts that are plans: what stands before, and the text.
-pub(crate) const GOOD: [(Start, &str); 18] = [
+pub(crate) static GOOD: [(Start, &'static str); 18] = [
     (Start::Items, "end\n"),
     (Start::Items, "end"),
     (Start::Items, "ld 1 40\nend\n"),

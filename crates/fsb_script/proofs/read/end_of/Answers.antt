@@ -1,4 +1,4 @@
-use Rattle.std.proofs.Common.{◌≡◌, length, sym}
+use Rattle.std.proofs.Common.{◌≡◌, length}
 use Rattle.fsb_script.proofs.KeptLemmas.{counts_are, last_scripts}
 use Rattle.fsb_script.proofs.read.end_of.Goals as goal
 

@@ -1,7 +1,7 @@
-use Rattle.std.proofs.Common.{◌≡◌, ◌+◌, ◌<◌, length, take, drop, Ok, arith, ◌∙◌, sym, ap, length-drop}
-use Rattle.fsb_script.specs.Reading.{LineFails, Fails, stop_at}
+use Rattle.std.proofs.Common.{◌+◌, ◌<◌, length, arith, ◌∙◌, sym, ap, length-drop}
+use Rattle.fsb_script.specs.Reading.{Fails, stop_at}
 use Rattle.fsb_script.specs.Words.{line_len, lines_of}
-use Rattle.fsb_script.specs.Drafts.{after_line, plan_from}
+use Rattle.fsb_script.specs.Drafts.{plan_from}
 use Rattle.fsb_script.specs.View.{progress}
 use Rattle.fsb_script.proofs.KeptLemmas.{not_empty}
 use Rattle.fsb_script.proofs.LinesLemmas.{plan_begins, plan_more, plan_stops}

@@ -1,4 +1,4 @@
-use Rattle.std.proofs.Common.{◌≡◌, ◌+◌, ◌*◌, ◌<◌, length, arith}
+use Rattle.std.proofs.Common.{◌+◌, ◌*◌, ◌<◌, length, arith}
 use Rattle.fsb_script.proofs.Pairs.{byte_more}
 use Rattle.fsb_script.proofs.statement.byte_pairs.Goals as goal
 

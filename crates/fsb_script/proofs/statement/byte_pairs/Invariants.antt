@@ -1,5 +1,5 @@
 -- The digits that are left go on from the bytes so far.
-use Rattle.std.proofs.Common.{◌≡◌, ◌*◌, List, [], drop, ℕ}
+use Rattle.std.proofs.Common.{◌≡◌, ◌*◌, [], drop}
 use Rattle.arrayvec.specs.ArrayVec.{array_vec_len}
 use Rattle.fsb_script.specs.Statements.{bytes_from}
 use Rattle.fsb_script.proofs.statement.byte_pairs.Given as goal

@@ -1,4 +1,4 @@
-use Rattle.std.proofs.Common.{arith, lit<, ◌<◌, ◌^◌}
+use Rattle.std.proofs.Common.{arith, lit<}
 use Rattle.std.proofs.lemmas.Fmt.{length-decimal-le}
 use Rattle.vcd_write.proofs.clock.put_edge.Goals as goal
 

@@ -1,4 +1,3 @@
-use Rattle.std.proofs.Common.{◌≡◌, sym}
 use Rattle.vcd_write.proofs.ClockText.{clock_text-zero, clock_text-later}
 use Rattle.vcd_write.proofs.clock.text_of_clock.Goals as goal
 

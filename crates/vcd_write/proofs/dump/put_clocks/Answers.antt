@@ -1,5 +1,4 @@
-use Rattle.std.proofs.Common.{rules, ◌∙◌, ◌≡◌, ◌≤◌, ◌+◌, ◌++◌, IsTrue, subst, drop, arith, List, ℕ}
-use Rattle.fsb_io.specs.Appends.{AppendsPart}
+use Rattle.std.proofs.Common.{◌∙◌, ◌+◌, subst, drop, arith, List, ℕ}
 use Rattle.fsb_signal.specs.DumpText.{clock_text, clocks_text}
 use Rattle.vcd_write.proofs.Ahead.{Wrote, wrote-more, wrote-part, wrote-all}
 use Rattle.vcd_write.proofs.Clocks.{clocks_text-at, clocks_text-past, is_known-at}

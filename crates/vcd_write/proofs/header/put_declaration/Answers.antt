@@ -1,4 +1,4 @@
-use Rattle.std.proofs.Common.{rules, ◌≡◌, ◌≤◌, ◌+◌, ◌∷◌, [], length, codes, decimal, arith}
+use Rattle.std.proofs.Common.{rules, ◌≤◌, ◌+◌, ◌∷◌, [], length, codes, decimal, arith}
 use Rattle.fsb_signal.specs.Table.{entry_of}
 use Rattle.fsb_signal.specs.DumpText.{range_text}
 use Rattle.vcd_write.proofs.HeaderText.{declaration_text-entry, entry_name-short, append_nine}

@@ -1,5 +1,5 @@
-use Rattle.std.proofs.Common.{append-nil, ◌≡◌, ◌+◌, ◌*◌, ◌-◌, ◌≤◌, arith, refl, ap, sym, ◌∙◌, ℕ}
-use Rattle.fsb_signal.specs.DumpText.{texts_from, declaration_text}
+use Rattle.std.proofs.Common.{append-nil, arith, sym}
+use Rattle.fsb_signal.specs.DumpText.{texts_from}
 use Rattle.fsb_signal.proofs.Texts.{texts_from-step}
 use Rattle.vcd_write.proofs.header.put_declarations.Goals as goal
 

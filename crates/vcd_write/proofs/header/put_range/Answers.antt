@@ -1,4 +1,4 @@
-use Rattle.std.proofs.Common.{◌≡◌, ◌+◌, ◌-◌, refl, sym, arith, append-nil, codes, decimal}
+use Rattle.std.proofs.Common.{◌≡◌, ◌+◌, ◌-◌, sym, arith, append-nil, codes, decimal}
 use Rattle.fsb_signal.specs.DumpText.{lowest_of}
 use Rattle.vcd_write.proofs.HeaderText.{range_text-word, range_text-single, append_five}
 use Rattle.vcd_write.proofs.header.put_range.Goals as goal

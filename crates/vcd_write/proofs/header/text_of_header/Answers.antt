@@ -1,4 +1,4 @@
-use Rattle.std.proofs.Common.{◌≡◌, refl}
+use Rattle.std.proofs.Common.{refl}
 use Rattle.fsb_signal.specs.DumpText.{header_text}
 use Rattle.vcd_write.proofs.header.text_of_header.Goals as goal
 

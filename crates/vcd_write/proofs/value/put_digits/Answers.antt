@@ -1,4 +1,4 @@
-use Rattle.std.proofs.Common.{◌≡◌, arith}
+use Rattle.std.proofs.Common.{arith}
 use Rattle.vcd_write.proofs.ValueText.{digits_of-step}
 use Rattle.vcd_write.proofs.value.put_digits.Goals as goal
 

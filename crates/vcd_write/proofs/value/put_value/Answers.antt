@@ -1,5 +1,4 @@
-use Rattle.std.proofs.Common.{◌≡◌, refl, append_assoc, ap, sym, ◌∙◌}
-use Rattle.std.proofs.lemmas.Option.{slice_get-map}
+use Rattle.std.proofs.Common.{◌≡◌, refl, append_assoc, ◌∙◌}
 use Rattle.fsb_signal.specs.DumpText.{width_of}
 use Rattle.vcd_write.proofs.ValueText.{value_text-single, value_text-word}
 use Rattle.vcd_write.proofs.value.put_value.Goals as goal

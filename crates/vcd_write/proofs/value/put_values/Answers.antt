@@ -1,6 +1,6 @@
-use Rattle.std.proofs.Common.{append-nil, ◌≡◌, ◌+◌, ◌-◌, ◌≤◌, arith, refl, ap, sym, ◌∙◌, ℕ, ◌++◌, subst}
+use Rattle.std.proofs.Common.{append-nil, ◌≡◌, ◌+◌, ◌-◌, ◌≤◌, arith, sym, ◌++◌, subst}
 use Rattle.arrayvec.specs.ArrayVec.{array_vec_len}
-use Rattle.fsb_signal.specs.DumpText.{texts_from, change_text, sample_value_text}
+use Rattle.fsb_signal.specs.DumpText.{texts_from, sample_value_text}
 use Rattle.fsb_signal.proofs.Texts.{texts_from-step}
 use Rattle.vcd_write.specs.Room.{values_room}
 use Rattle.vcd_write.proofs.RoomFacts.{values_room-next}

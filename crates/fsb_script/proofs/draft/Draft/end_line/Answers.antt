@@ -1,5 +1,4 @@
-use Rattle.std.proofs.Common.{◌≡◌, ◌∙◌, List, [], IsTrue}
-use Rattle.std.specs.List.{list_all}
+use Rattle.std.proofs.Common.{◌∙◌}
 use Rattle.fsb_script.specs.Bounds.{is_lawful_script}
 use Rattle.fsb_script.proofs.KeptLemmas.{all_push, script_empty, items_fresh, items_all, items_room, behind_fresh, behind_all, behind_room}
 use Rattle.fsb_script.proofs.draft.Draft.end_line.Goals as goal

@@ -1,0 +1,35 @@
+#!/bin/sh
+# Measures how fast a bench file is read: a file of 4,095 loads and 3.9 MB of memory settings and comments, through
+# the built program (crates/p6bench/out/p6bench, made by `rt run` or `rt ci`) with no clock to run.
+# Usage: bench/read_bench.sh [PROGRAM]
+set -eu
+program=${1:-crates/p6bench/out/p6bench}
+folder=$(mktemp -d)
+trap 'rm -rf "$folder"' EXIT
+python3 - "$folder/large.bench" "$folder/small.bench" <<'PY'
+import sys
+head = "p6bench 1\nagents 1\nclocks 0\ncache 64\nahead 1\n"
+loads = "".join("ld 8 %x\n" % (64 * (n % 16)) for n in range(4095))
+line = "mem %x " + "0123456789abcdef" * 8 + "\n"
+mem, n = [], 0
+while 140 * n + len(loads) < 3_950_000:
+    mem.append(line % (64 * n))
+    n += 1
+open(sys.argv[1], "w").write(head + "".join(mem) + "agent 0\n" + loads + "end\n")
+open(sys.argv[2], "w").write(head + "agent 0\nend\n")
+PY
+python3 - "$program" "$folder/large.bench" "$folder/small.bench" <<'PY'
+import os, resource, subprocess, sys, time
+program, large, small = sys.argv[1:]
+def best(path):
+    times = []
+    for _ in range(7):
+        begin = time.perf_counter()
+        subprocess.run([program, "run", path], stdout=subprocess.DEVNULL)
+        times.append(time.perf_counter() - begin)
+    return min(times)
+size = os.path.getsize(large)
+took = best(large) - best(small)
+print(f"{size} bytes in {took * 1000:.1f} ms: {size / took / 1e6:.0f} MB/s")
+print(f"most memory: {resource.getrusage(resource.RUSAGE_CHILDREN).ru_maxrss / 1024:.0f} MiB")
+PY
