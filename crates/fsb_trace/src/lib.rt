@@ -23,9 +23,13 @@ mod laws;
 mod numbers;
 mod outcome;
 mod request;
+#[cfg(test)]
+mod runs;
 mod rules;
 mod seen;
 mod snoop;
+#[cfg(test)]
+mod tests;
 mod told;
 mod turns;
 mod who;
