@@ -4,19 +4,33 @@
 pub type Clock = (u32, u64, u64);
 
 const BREQ0: u32 = 1;
+
 const BREQ1: u32 = 2;
+
 const BPRI: u32 = 16;
+
 const LOCK: u32 = 32;
+
 const ADS: u32 = 128;
+
 const AERR: u32 = 256;
+
 const HIT: u32 = 512;
+
 const HITM: u32 = 1024;
+
 const DEFER: u32 = 2048;
+
 const RS0: u32 = 4096;
+
 const RS1: u32 = 8192;
+
 const RS2: u32 = 16384;
+
 const TRDY: u32 = 32768;
+
 const DBSY: u32 = 65536;
+
 const DRDY: u32 = 131072;
 
 /// A load of one agent, and a store that hits.
@@ -305,10 +319,7 @@ pub const REQUEST_SPACING_BROKEN: [Clock; 5] = [
 ];
 
 /// ADS# and AERR# at clock 1: three rules are broken there.
-pub const LEAST_RULE_NAMED: [Clock; 2] = [
-    (0, 0, 0),
-    (ADS | AERR, 0, 0),
-];
+pub const LEAST_RULE_NAMED: [Clock; 2] = [(0, 0, 0), (ADS | AERR, 0, 0)];
 
 /// Nine requests of two agents and no response.
 pub const QUEUE_DEPTH_BROKEN: [Clock; 27] = [
@@ -342,8 +353,4 @@ pub const QUEUE_DEPTH_BROKEN: [Clock; 27] = [
 ];
 
 /// A request of nobody.
-pub const REQUEST_WITHOUT_WINNER: [Clock; 3] = [
-    (0, 0, 0),
-    (0, 0, 0),
-    (ADS, 0x6, 0x8),
-];
+pub const REQUEST_WITHOUT_WINNER: [Clock; 3] = [(0, 0, 0), (0, 0, 0), (ADS, 0x6, 0x8)];

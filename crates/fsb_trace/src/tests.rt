@@ -1,13 +1,15 @@
 ghost use Rattle.std.specs.Prelude.{◌≡◌, ◌^◌, ◌<◌, ◌≤◌, length, IfOk};
 
 use crate::runs::{
-    CANCELLED_BY_ADDRESS_ERROR, Clock, DEFERRED_AND_REPLIED, DIRTY_VICTIM_WRITTEN_BACK, LEAST_RULE_NAMED, LOAD_THEN_STORE_HIT,
-    LOCKED_INCREMENTS, LOOK_AHEAD_TWO, QUEUE_DEPTH_BROKEN, REQUEST_SPACING_BROKEN, REQUEST_WITHOUT_WINNER, STALLED_SNOOP,
+    CANCELLED_BY_ADDRESS_ERROR, Clock, DEFERRED_AND_REPLIED, DIRTY_VICTIM_WRITTEN_BACK,
+    LEAST_RULE_NAMED, LOAD_THEN_STORE_HIT, LOCKED_INCREMENTS, LOOK_AHEAD_TWO, QUEUE_DEPTH_BROKEN,
+    REQUEST_SPACING_BROKEN, REQUEST_WITHOUT_WINNER, STALLED_SNOOP,
     STORE_HANDED_OVER_BEFORE_ARRIVAL, TWO_AGENTS_OVERLAP, WRITE_BACK_HELD_OFF,
 };
 use crate::{
-    Outcome, Who, code_of, end_of, moves, numbers_stay, one_snoop_at_a_clock, outcome_of, requests, requests_rise, response,
-    rules_rest_on_the_past, snoop_end, snoop_ends_rise, verdict, verdict_is_least,
+    Outcome, Who, code_of, end_of, moves, numbers_stay, one_snoop_at_a_clock, outcome_of, requests,
+    requests_rise, response, rules_rest_on_the_past, snoop_end, snoop_ends_rise, verdict,
+    verdict_is_least,
 };
 use fsb_encode::Kind;
 use fsb_signal::{Lines, Sample, Word};
@@ -18,7 +20,11 @@ use std::process::Abort;
 fn sample(asserted: u32, unknown: u32, req: u64, addr: u64, unknown_data: u64) -> Sample {
     let unknown = unknown % (1 << 18);
     Sample {
-        lines: Lines(if unknown == 0 { asserted % (1 << 18) } else { 0 }),
+        lines: Lines(if unknown == 0 {
+            asserted % (1 << 18)
+        } else {
+            0
+        }),
         unknown: Lines(unknown),
         req: Word::known(req % (1 << 5)),
         addr: Word::known(addr % (1 << 33)),
@@ -41,7 +47,12 @@ fn laid_out(alloc: Global, clocks: &[Clock]) -> Result<Vec<Sample>, AllocError>
 }
 
 /// The trace of these clocks, with this sample at `at`.
-fn with_sample(alloc: Global, clocks: &[Clock], at: usize, sample: Sample) -> Result<Vec<Sample>, AllocError>
+fn with_sample(
+    alloc: Global,
+    clocks: &[Clock],
+    at: usize,
+    sample: Sample,
+) -> Result<Vec<Sample>, AllocError>
     ensures { IfOk result (λ w. length w.items ≡ length clocks.now) }
 {
     let mut w = laid_out(alloc, clocks)?;
@@ -79,7 +90,12 @@ fn canonical_text_and_trace_numbers(rt: HostRuntime) {
     assert_eq!(rt; seen[0].who, Some(Who::Symmetric(0)));
     assert_eq!(rt; seen[0].cancelled, false);
     assert_eq!(rt; seen[0].request.is_some(), true);
-    expect_numbers(&rt, rt.alloc(), &LOAD_THEN_STORE_HIT, &[(6, 8, 11, Outcome::Granted)]);
+    expect_numbers(
+        &rt,
+        rt.alloc(),
+        &LOAD_THEN_STORE_HIT,
+        &[(6, 8, 11, Outcome::Granted)],
+    );
 }
 
 #[test]
@@ -88,8 +104,18 @@ fn numbers_of_overlapping_requests(rt: HostRuntime) {
     expect_numbers(&rt, rt.alloc(), &TWO_AGENTS_OVERLAP, &overlap);
     let handed = [(6, 8, 11, Outcome::Granted), (9, 14, 17, Outcome::Handed)];
     expect_numbers(&rt, rt.alloc(), &STORE_HANDED_OVER_BEFORE_ARRIVAL, &handed);
-    expect_numbers(&rt, rt.alloc(), &STALLED_SNOOP, &[(10, 12, 15, Outcome::Granted)]);
-    expect_numbers(&rt, rt.alloc(), &CANCELLED_BY_ADDRESS_ERROR, &[(12, 14, 17, Outcome::Granted)]);
+    expect_numbers(
+        &rt,
+        rt.alloc(),
+        &STALLED_SNOOP,
+        &[(10, 12, 15, Outcome::Granted)],
+    );
+    expect_numbers(
+        &rt,
+        rt.alloc(),
+        &CANCELLED_BY_ADDRESS_ERROR,
+        &[(12, 14, 17, Outcome::Granted)],
+    );
     let locked = [(6, 8, 11, Outcome::Granted), (18, 22, 25, Outcome::Handed)];
     expect_numbers(&rt, rt.alloc(), &LOCKED_INCREMENTS, &locked);
 }
@@ -124,8 +150,20 @@ fn winners_and_requests_of_a_reply(rt: HostRuntime) {
     let w = laid_out(rt.alloc(), &DEFERRED_AND_REPLIED).expect(&rt, "out of memory");
     let seen = requests(rt.alloc(), &w).expect(&rt, "out of memory");
     let clocks = [2, 5, 14, 21, 24];
-    let agents = [Who::Symmetric(0), Who::Symmetric(1), Who::Symmetric(1), Who::Priority, Who::Symmetric(1)];
-    let kinds = [Kind::Read, Kind::Invalidate, Kind::Invalidate, Kind::Reply, Kind::Invalidate];
+    let agents = [
+        Who::Symmetric(0),
+        Who::Symmetric(1),
+        Who::Symmetric(1),
+        Who::Priority,
+        Who::Symmetric(1),
+    ];
+    let kinds = [
+        Kind::Read,
+        Kind::Invalidate,
+        Kind::Invalidate,
+        Kind::Reply,
+        Kind::Invalidate,
+    ];
     assert_eq!(rt; seen.len(), 5);
     for (i, request) in seen.iter().enumerate() {
         assert_eq!(rt; Some(request.clock), clocks.get(i).copied());
@@ -142,7 +180,14 @@ fn winners_and_requests_of_a_reply(rt: HostRuntime) {
 }
 
 /// Asserts that the clocks are accepted, and that this sample at `at` breaks the rule there.
-fn expect_broken(rt: &impl Abort, alloc: Global, clocks: &[Clock], at: u32, sample: Sample, rule: u8)
+fn expect_broken(
+    rt: &impl Abort,
+    alloc: Global,
+    clocks: &[Clock],
+    at: u32,
+    sample: Sample,
+    rule: u8,
+)
     requires { length clocks.now < 2 ^ 32 }
 {
     let fair = laid_out(alloc, clocks).expect(rt, "out of memory");
@@ -187,10 +232,23 @@ fn each_rule_broken_by_one_sample(rt: HostRuntime) {
         expect_broken(&rt, rt.alloc(), &TWO_AGENTS_OVERLAP, at, edit, rule);
     }
     let hit_of_a_write_back = sample(512, 0, 0, 0, 0);
-    expect_broken(&rt, rt.alloc(), &DIRTY_VICTIM_WRITTEN_BACK, 18, hit_of_a_write_back, 12);
+    expect_broken(
+        &rt,
+        rt.alloc(),
+        &DIRTY_VICTIM_WRITTEN_BACK,
+        18,
+        hit_of_a_write_back,
+        12,
+    );
     let id_in_use = sample(0, 0, 2, 2, 0);
     expect_broken(&rt, rt.alloc(), &LOOK_AHEAD_TWO, 7, id_in_use, 18);
-    let blocked = with_sample(rt.alloc(), &TWO_AGENTS_OVERLAP, 3, sample(2 + 64, 0, 2, 2, 0)).expect(&rt, "out of memory");
+    let blocked = with_sample(
+        rt.alloc(),
+        &TWO_AGENTS_OVERLAP,
+        3,
+        sample(2 + 64, 0, 2, 2, 0),
+    )
+    .expect(&rt, "out of memory");
     assert_eq!(rt; verdict(&blocked), Some((5, 5)));
 }
 
