@@ -1,6 +1,6 @@
 -- Bytes that are read in behind others.
-use Rattle.std.proofs.Common.{◌≡◌, ℕ, ◌+◌, ◌≤◌, List, ◌++◌, length, take, append_assoc, take-take, ◌∙◌, ap, arith}
-use Rattle.std.proofs.lemmas.List.{take-append-le, take_all}
+use Rattle.std.proofs.Common.{◌≡◌, ℕ, ◌+◌, ◌≤◌, List, ◌++◌, length, take, drop, append_assoc, take-take, arith}
+use Rattle.std.proofs.lemmas.List.{take-append-le, take-append-drop, take_all, take_at, drop-drop}
 use Rattle.std.proofs.Math.Seq.{take-append-add, take-append_seam}
 
 -- of a buffer that was read into behind old bytes, the old bytes and the first of those that came
@@ -18,3 +18,8 @@ take-read_grown old grown came after past fill start n count m at is wide fits w
     let long : length old ≤ n = omega arith in
     let reach : length old + count ≤ m = omega arith in
     rw (at, is, take-grown old fill n long) (take-read old came after past count m fits reach)
+
+-- the bytes from a place on are those that were copied to the front of a buffer, and the rest
+pub front-copied : (held copied after : List ℕ) (place n : ℕ) → copied ≡ take n (drop place held) → length copied ≡ n → drop place held ≡ take n (copied ++ after) ++ drop (place + n) held
+front-copied held copied after place n is long =
+    rw (take_at copied after n long, is, ← drop-drop n place held, take-append-drop)

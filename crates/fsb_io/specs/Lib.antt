@@ -1,7 +1,8 @@
-pub mod Faults
 pub mod Appends
 pub mod Begun
-pub mod Tally
-pub mod SourceView
-pub mod SinkView
+pub mod Faults
 pub mod NumberText
+pub mod SinkView
+pub mod SourceView
+pub mod Takes
+pub mod Tally

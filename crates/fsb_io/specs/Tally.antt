@@ -9,6 +9,10 @@ pub record Tally : Type 0 where
   pub calls : ℕ
   pub faults : ℕ
 
+-- no call was made
+abbrev pub tally_of : List ℕ → Tally
+tally_of fails = record { fails = fails; calls = 0; faults = 0 }
+
 -- the next call is listed as one that fails
 abbrev pub IsListed : Tally → Type 0
 IsListed t = Contains t.fails t.calls
@@ -18,5 +22,5 @@ abbrev pub after_call : Bool → Tally → Tally
 after_call failed t = record {
   fails = t.fails;
   calls = one_more t.calls;
-  faults = if failed then one_more t.faults else t.faults;
+  faults = (if failed then one_more t.faults else t.faults);
 }

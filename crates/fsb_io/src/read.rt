@@ -1,7 +1,8 @@
 //! Reads a source to its end.
-ghost use Rattle.std.specs.Prelude.{◌≡◌, ◌≤◌, ◌<◌, ◌+◌, ◌++◌, [], Err, IsTrue, IfOk, OnOk, length, take, drop, vec_len};
+ghost use Rattle.std.specs.Prelude.{◌≡◌, ◌≢◌, ◌≤◌, ◌<◌, ◌+◌, ◌++◌, [], Err, IsTrue, IfOk, OnOk, length, take, drop, vec_len};
 ghost use Rattle.fsb_io.specs.declared.read.ReadStop.{ReadStop};
-ghost use Rattle.fsb_io.specs.Faults.{Rose, HasCause};
+ghost use Rattle.fsb_io.specs.Faults.{Rose};
+ghost use Rattle.fsb_io.specs.Takes.{TakesAtMost};
 
 use crate::{Failed, Source};
 use std::alloc::{AllocError, Global};
@@ -56,8 +57,9 @@ const PIECE: usize = 65_536;
 
 /// Takes all that is left of `src`, in pieces, and at most one byte past `limit`.
 ///
-/// `TooLong` means that more than `limit` bytes came; one byte past the limit was taken. After
-/// `ReadFault` and `Memory` it is not said what is left.
+/// Each turn takes a byte at least. `TooLong` means that more than `limit` bytes came; one byte past
+/// the limit was taken. After `Memory` the bytes that were taken are lost; after `ReadFault` it is
+/// not said what is left.
 pub fn read_all<S: Source>(alloc: Global, src: &mut S, limit: usize) -> Result<Vec<u8>, ReadStop>
     ensures whole { IsTrue S.tells → IfOk result (λ bytes. bytes.items ≡ S.left src.old) }
     ensures end { IsTrue S.tells → OnOk result (S.left src.new ≡ []) }
@@ -65,6 +67,7 @@ pub fn read_all<S: Source>(alloc: Global, src: &mut S, limit: usize) -> Result<V
 
     ensures too_long { IsTrue S.tells → result ≡ Err ReadStop.TooLong → limit < length (S.left src.old) }
     ensures one_past { IsTrue S.tells → result ≡ Err ReadStop.TooLong → S.left src.new ≡ drop (limit + 1) (S.left src.old) }
+    ensures memory { IsTrue S.tells → result ≡ Err ReadStop.Memory → TakesAtMost limit (S.left src.old) (S.left src.new) }
     ensures read_fault { result ≡ Err ReadStop.ReadFault → Rose (S.faults src.old) (S.faults src.new) }
     ensures later { S.faults src.old ≤ S.faults src.new }
 
@@ -90,7 +93,8 @@ fn read_some<S: Source>(src: &mut S, bytes: &mut Vec<u8>, room: usize) -> Result
     ensures taken { IsTrue S.tells → OnOk result (bytes.new.items ++ S.left src.new ≡ bytes.old.items ++ S.left src.old) }
     ensures end { IsTrue S.tells → IfOk result (λ n. n ≡ 0 → S.left src.new ≡ []) }
 
-    ensures stop { result ≡ Err ReadStop.TooLong → ⊥ }
+    ensures stop { result ≢ Err ReadStop.TooLong }
+    ensures memory { IsTrue S.tells → result ≡ Err ReadStop.Memory → S.left src.new ≡ S.left src.old }
     ensures read_fault { result ≡ Err ReadStop.ReadFault → Rose (S.faults src.old) (S.faults src.new) }
     ensures later { S.faults src.old ≤ S.faults src.new }
     ensures name_stays { IsTrue S.tells → S.begun_as src.new ≡ S.begun_as src.old }

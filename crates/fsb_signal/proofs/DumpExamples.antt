@@ -1,11 +1,10 @@
 -- Texts of dumps, written out, and that the definition of the text gives them.
-use Rattle.std.specs.Prelude.{◌≡◌, ◌++◌, [], ◌∷◌, List, ℕ, codes}
+use Rattle.std.specs.Prelude.{◌≡◌, ◌++◌, [], List, ℕ, codes}
 use Rattle.std.specs.Fmt.{digits}
 use Rattle.std.proofs.Common.{refl}
 use Rattle.fsb_signal.specs.declared.sample.Sample.{Sample}
 use Rattle.fsb_signal.specs.Samples.{known_sample}
-use Rattle.fsb_signal.specs.Table.{table}
-use Rattle.fsb_signal.specs.DumpText.{header_text, clock_text, clocks_text, dump_text, declaration_text, change_text, value_text, value_of}
+use Rattle.fsb_signal.specs.DumpText.{header_text, clock_text, dump_text, texts_from, range_text, declaration_text, change_text, value_text, value_of}
 
 -- the dump of no samples
 pub no_samples : List ℕ
@@ -60,7 +59,7 @@ no_samples =
     ++ codes "$end\n"
 
 pub dump_text-none : dump_text [] ≡ no_samples
-unfolding digits dump_text header_text declaration_text value_text value_of no_samples
+unfolding digits texts_from dump_text header_text declaration_text range_text value_text value_of no_samples
 dump_text-none = refl
 
 -- an agent asks for the bus; it reads a line; its second request clock
@@ -81,7 +80,7 @@ pub clock_text-first : clock_text 2 asks first_clock ≡
     ++ codes "b111111111111111111111111111110111 +\n"
     ++ codes "#25\n"
     ++ codes "1!\n")
-unfolding digits clock_text change_text value_text value_of
+unfolding digits texts_from clock_text change_text value_text value_of
 clock_text-first = refl
 
 pub clock_text-second : clock_text 3 first_clock second_clock ≡
@@ -93,5 +92,5 @@ pub clock_text-second : clock_text 3 first_clock second_clock ≡
     ++ codes "b111111111111111111111111111111101 +\n"
     ++ codes "#35\n"
     ++ codes "1!\n")
-unfolding digits clock_text change_text value_text value_of
+unfolding digits texts_from clock_text change_text value_text value_of
 clock_text-second = refl

@@ -1,5 +1,5 @@
 -- Which number a name of the signal table has.
-use Rattle.std.proofs.Common.{◌≡◌, ◌≢◌, ◌<◌, ◌≤◌, ℕ, Bool, true, false, Some, None, Option, option_map, slice_get, All, nat_eq, nat_lt, position, get_or, length, sym, ◌∙◌, ap, refl, arith, subst, cond, List}
+use Rattle.std.proofs.Common.{◌≡◌, ◌≢◌, ◌≤◌, ℕ, Bool, true, false, Some, None, option_map, slice_get, All, nat_eq, get_or, length, sym, ap, refl, arith, cond, List}
 use Rattle.std.specs.Cmp.Lexicographic.{pointwise, same_text, other_text}
 use Rattle.std.specs.List.{position_or_len}
 use Rattle.std.proofs.lemmas.Bool.{ltb-false}

@@ -5,10 +5,10 @@ use Rattle.std.specs.Option.{option_map_or}
 use Rattle.fsb_signal.specs.declared.lines.TheConstants.Lines.{BREQ0, BREQ1, BREQ2, BREQ3, BPRI, LOCK, BNR, ADS, AERR, HIT, HITM, DEFER, TRDY, DBSY, DRDY}
 use Rattle.fsb_signal.specs.declared.sample.Sample.{Sample}
 use Rattle.fsb_signal.specs.Samples.{bit_of, response_of, idle}
-use Rattle.fsb_signal.specs.Table.{Entry, table}
+use Rattle.fsb_signal.specs.Table.{table}
 
 -- the texts f from, f (from + 1) and so on, n of them, one after another
-abbrev pub texts_from : (ℕ → List ℕ) → ℕ → ℕ → List ℕ
+unfoldable pub texts_from : (ℕ → List ℕ) → ℕ → ℕ → List ℕ
 texts_from f from zero = []
 texts_from f from (suc n) = texts_from f from n ++ f (from + n)
 
@@ -50,12 +50,17 @@ value_text number value =
     if width_of number == 1 then digits_of 1 value ++ code_of number ∷ 10 ∷ []
     else codes "b" ++ digits_of (width_of number) value ++ codes " " ++ code_of number ∷ 10 ∷ []
 
--- the lines that a word of a dump stands for, as its declaration names them; the address has A35 to A3
-abbrev pub range_text : ℕ → List ℕ
+-- the number of the lowest line of an entry; the address begins with A3
+abbrev pub lowest_of : ℕ → ℕ
+lowest_of number = if number == 10 then 3 else 0
+
+-- the lines of a word as its declaration names them, from the highest to the lowest
+unfoldable pub range_text : ℕ → List ℕ
 range_text number =
-    let lowest = if number == 10 then 3 else 0 in
     if width_of number == 1 then []
-    else codes "[" ++ decimal (lowest + width_of number - 1) ++ codes ":" ++ decimal lowest ++ codes "] "
+    else
+    codes "[" ++ decimal (lowest_of number + width_of number - 1) ++ codes ":" ++ decimal (lowest_of number)
+    ++ codes "] "
 
 -- the line that declares an entry
 unfoldable pub declaration_text : ℕ → List ℕ

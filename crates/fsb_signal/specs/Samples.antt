@@ -1,5 +1,5 @@
 -- What a sample has on its lines, and what a list of samples has at a clock.
-use Rattle.std.specs.Prelude.{ℕ, Bool, false, ◌==◌, ◌&&◌, ◌+◌, ◌*◌, ◌%◌, ◌^◌, if◌then◌else◌, List, Option, slice_get}
+use Rattle.std.specs.Prelude.{ℕ, Bool, false, ◌==◌, ◌&&◌, ◌+◌, ◌*◌, ◌%◌, ◌^◌, if◌then◌else◌, List, slice_get}
 use Rattle.std.specs.Int.RustNames.{bit_and}
 use Rattle.std.specs.List.{list_all}
 use Rattle.std.specs.Option.{option_map_or}
@@ -51,22 +51,32 @@ line_at line w c = option_map_or (λ s. has_line s line) (slice_get w c) false
 abbrev pub known_word : ℕ → Word
 known_word bits = record { bits = bits; unknown = 0; disjoint = and_zero_r bits }
 
+-- the request, address and data words at clock c; past the end nothing is asserted
+abbrev pub req_at : List Sample → ℕ → Word
+req_at w c = option_map_or (λ s. s.req) (slice_get w c) (known_word 0)
+
+abbrev pub addr_at : List Sample → ℕ → Word
+addr_at w c = option_map_or (λ s. s.addr) (slice_get w c) (known_word 0)
+
+abbrev pub data_at : List Sample → ℕ → Word
+data_at w c = option_map_or (λ s. s.dbus) (slice_get w c) (known_word 0)
+
 -- the sample without unknown bits that asserts these control lines and these bits of the request, address and data
 -- words; a bit that a sample cannot have is left out
 abbrev pub known_sample : ℕ → ℕ → ℕ → ℕ → Sample
 known_sample lines req addr dbus = record {
-    lines = record { 0 = lines % 2 ^ 18 };
-    unknown = record { 0 = 0 };
-    req = known_word (req % 2 ^ 5);
-    addr = known_word (addr % 2 ^ 33);
-    dbus = known_word dbus;
-    disjoint = and_zero_r (lines % 2 ^ 18);
-    line_bits = mod-lt lines (lit< tt);
-    line_unknown = lit< tt;
-    req_bits = mod-lt req (lit< tt);
-    req_unknown = lit< tt;
-    addr_bits = mod-lt addr (lit< tt);
-    addr_unknown = lit< tt;
+  lines = record { 0 = lines % 2 ^ 18 };
+  unknown = record { 0 = 0 };
+  req = known_word (req % 2 ^ 5);
+  addr = known_word (addr % 2 ^ 33);
+  dbus = known_word dbus;
+  disjoint = and_zero_r (lines % 2 ^ 18);
+  line_bits = mod-lt lines (lit< tt);
+  line_unknown = lit< tt;
+  req_bits = mod-lt req (lit< tt);
+  req_unknown = lit< tt;
+  addr_bits = mod-lt addr (lit< tt);
+  addr_unknown = lit< tt;
 }
 
 -- the sample in which nothing is asserted and nothing is unknown

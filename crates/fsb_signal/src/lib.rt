@@ -2,7 +2,7 @@
 #![tactic(auto)]
 
 pub use lines::Lines;
-pub use query::idle_sample;
+pub use query::{idle_sample, is_asserted_at};
 pub use sample::{Sample, Word};
 pub use signal::Signal;
 pub use table::{SIGNALS, signal_at, signal_named};
@@ -12,3 +12,5 @@ mod query;
 mod sample;
 mod signal;
 mod table;
+#[cfg(test)]
+mod tests;

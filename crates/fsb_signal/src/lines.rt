@@ -3,6 +3,9 @@ ghost use Rattle.std.specs.Prelude.{⊤, [], ◌∷◌, codes};
 use bitflags::{Flag, Flags, bitflag_items};
 
 /// A set of the 18 control lines, which are asserted low on the bus; a line is in the set where it is asserted.
+///
+/// The lines are the bits 0 to 17. A bit above them is no line: no question about a line looks at it, and a `Sample`
+/// has none.
 #[derive(Clone, Copy, Debug, PartialEq, Eq)]
 pub struct Lines(pub u32);
 

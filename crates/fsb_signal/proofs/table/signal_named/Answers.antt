@@ -1,4 +1,4 @@
-use Rattle.std.proofs.Common.{sym, ◌∙◌, ◌≡◌, Some, None, refl}
+use Rattle.std.proofs.Common.{◌∙◌, refl}
 use Rattle.fsb_signal.specs.Table.{signal_number}
 use Rattle.fsb_signal.proofs.Numbers.{signal_number-found, signal_number-none, signal_number-some}
 use Rattle.fsb_signal.proofs.table.signal_named.Goals as goal

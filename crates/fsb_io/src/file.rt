@@ -1,0 +1,365 @@
+//! Real files and standard output. They tell no content and no name: what a system call does is not
+//! known to a proof. This is the trusted edge.
+ghost use Rattle.std.specs.Prelude.{◌≡◌, ◌≤◌, ◌<◌, ℕ, [], None, false, length, IfOk};
+ghost use Rattle.fsb_io.specs.Faults.{HasCause};
+
+use crate::{Failed, Sink, Source};
+use std::fs::Files;
+use std::io::{ErrorKind, Print, Read, Write};
+use std::marker::Model;
+use std::{fs, io};
+
+/// How often an interrupted call is tried again.
+const TRIES: u32 = 1_000;
+
+/// Reads the file that it was begun under. Contracts see its count of faults.
+#[derive(Drop)]
+pub struct FileSource<'a, R: Files> {
+    files: &'a R,
+    file: Option<R::File>,
+    faults: u64,
+}
+
+impl<'a, R: Files> Model for FileSource<'a, R> {
+    ghost use Rattle.std.specs.Prelude.{ℕ};
+
+    ghost Value = { ℕ };
+
+    ghost view = { λ s. s.faults };
+}
+
+impl<'a, R: Files> FileSource<'a, R> {
+    /// Not begun: a `read` is a fault until `begin` answers Ok.
+    pub fn new(files: &'a R) -> FileSource<'a, R>
+        ensures { result ≡ 0 }
+    {
+        FileSource {
+            files,
+            file: None,
+            faults: 0,
+        }
+    }
+
+    /// How many of its calls failed.
+    pub fn faults(&self) -> u64
+        ensures { result ≡ self.now }
+    {
+        self.faults
+    }
+}
+
+impl<R: Files> Source for FileSource<'_, R> {
+    ghost tells = { false };
+
+    ghost holds = { λ _. [] };
+
+    ghost left = { λ _. [] };
+
+    ghost begun_as = { λ _. None };
+
+    ghost faults = { λ faults. faults };
+
+    fn begin(&mut self, name: &str) -> Result<(), Failed> {
+        match open_tried(self.files, name) {
+            Ok(file) => {
+                self.file = Some(file);
+                Ok(())
+            }
+            Err(failed) => {
+                self.faults = self.faults.saturating_add(1);
+                Err(failed)
+            }
+        }
+    }
+
+    fn read(&mut self, buf: &mut [u8]) -> Result<usize, Failed> {
+        let answer = match &mut self.file {
+            Some(file) => read_tried(file, buf),
+            None => Err(Failed),
+        };
+        if answer.is_err() {
+            self.faults = self.faults.saturating_add(1);
+        }
+        answer
+    }
+}
+
+/// Makes the file that it is begun under, or empties it, and writes it. Contracts see its count of
+/// faults.
+#[derive(Drop)]
+pub struct FileSink<'a, R: Files> {
+    files: &'a R,
+    file: Option<R::File>,
+    faults: u64,
+}
+
+impl<'a, R: Files> Model for FileSink<'a, R> {
+    ghost use Rattle.std.specs.Prelude.{ℕ};
+
+    ghost Value = { ℕ };
+
+    ghost view = { λ s. s.faults };
+}
+
+impl<'a, R: Files> FileSink<'a, R> {
+    /// Not begun: a `write` is a fault until `begin` answers Ok.
+    pub fn new(files: &'a R) -> FileSink<'a, R>
+        ensures { result ≡ 0 }
+    {
+        FileSink {
+            files,
+            file: None,
+            faults: 0,
+        }
+    }
+
+    /// How many of its calls failed.
+    pub fn faults(&self) -> u64
+        ensures { result ≡ self.now }
+    {
+        self.faults
+    }
+}
+
+impl<R: Files> Sink for FileSink<'_, R> {
+    ghost tells = { false };
+
+    ghost holds = { λ _. [] };
+
+    ghost begun_as = { λ _. None };
+
+    ghost faults = { λ faults. faults };
+
+    fn begin(&mut self, name: &str) -> Result<(), Failed> {
+        match create_tried(self.files, name) {
+            Ok(file) => {
+                self.file = Some(file);
+                Ok(())
+            }
+            Err(failed) => {
+                self.faults = self.faults.saturating_add(1);
+                Err(failed)
+            }
+        }
+    }
+
+    fn write(&mut self, piece: &[u8]) -> Result<usize, Failed> {
+        let answer = match &mut self.file {
+            Some(file) => write_tried(file, piece),
+            None => Err(Failed),
+        };
+        if answer.is_err() {
+            self.faults = self.faults.saturating_add(1);
+        }
+        answer
+    }
+}
+
+/// Writes to standard output, which has no name: every `begin` is a fault. Contracts see its count of
+/// faults.
+#[derive(Drop)]
+pub struct StdoutSink<'a, P: Print> {
+    to: &'a P,
+    faults: u64,
+}
+
+impl<'a, P: Print> Model for StdoutSink<'a, P> {
+    ghost use Rattle.std.specs.Prelude.{ℕ};
+
+    ghost Value = { ℕ };
+
+    ghost view = { λ s. s.faults };
+}
+
+impl<'a, P: Print> StdoutSink<'a, P> {
+    /// Ready to write.
+    pub fn new(to: &'a P) -> StdoutSink<'a, P>
+        ensures { result ≡ 0 }
+    {
+        StdoutSink { to, faults: 0 }
+    }
+
+    /// How many of its calls failed.
+    pub fn faults(&self) -> u64
+        ensures { result ≡ self.now }
+    {
+        self.faults
+    }
+}
+
+impl<P: Print> Sink for StdoutSink<'_, P> {
+    ghost tells = { false };
+
+    ghost holds = { λ _. [] };
+
+    ghost begun_as = { λ _. None };
+
+    ghost faults = { λ faults. faults };
+
+    fn begin(&mut self, _name: &str) -> Result<(), Failed> {
+        self.faults = self.faults.saturating_add(1);
+        Err(Failed)
+    }
+
+    fn write(&mut self, piece: &[u8]) -> Result<usize, Failed> {
+        let answer = write_tried(&mut io::writer(self.to), piece);
+        if answer.is_err() {
+            self.faults = self.faults.saturating_add(1);
+        }
+        answer
+    }
+}
+
+/// Opens a file to read. An interrupted call is tried again.
+fn open_tried<R: Files>(files: &R, name: &str) -> Result<R::File, Failed> {
+    for _ in 0..=TRIES {
+        match fs::open(files, name) {
+            Ok(file) => return Ok(file),
+            Err(error) => {
+                if error.kind() != ErrorKind::Interrupted {
+                    return Err(Failed);
+                }
+            }
+        }
+    }
+    Err(Failed)
+}
+
+/// Makes a file, or empties it, to write. An interrupted call is tried again.
+fn create_tried<R: Files>(files: &R, name: &str) -> Result<R::File, Failed> {
+    for _ in 0..=TRIES {
+        match fs::create(files, name) {
+            Ok(file) => return Ok(file),
+            Err(error) => {
+                if error.kind() != ErrorKind::Interrupted {
+                    return Err(Failed);
+                }
+            }
+        }
+    }
+    Err(Failed)
+}
+
+/// One read. An interrupted call is tried again.
+fn read_tried<F: Read>(file: &mut F, buf: &mut [u8]) -> Result<usize, Failed>
+    ensures { IfOk result (λ n. n ≤ length buf.new) }
+{
+    for _ in 0..=TRIES {
+        match file.read(buf) {
+            Ok(count) => return Ok(count),
+            Err(error) => {
+                if error.kind() != ErrorKind::Interrupted {
+                    return Err(Failed);
+                }
+            }
+        }
+    }
+    Err(Failed)
+}
+
+/// One write. An interrupted call is tried again, and a write of none of a piece that is not empty
+/// fails.
+fn write_tried<F: Write>(file: &mut F, piece: &[u8]) -> Result<usize, Failed>
+    ensures within { IfOk result (λ n. n ≤ length piece.now) }
+    ensures some { 0 < length piece.now → IfOk result (λ n. 0 < n) }
+{
+    if piece.is_empty() {
+        return Ok(0);
+    }
+    for _ in 0..=TRIES {
+        match file.write(piece) {
+            Ok(0) => return Err(Failed),
+            Ok(count) => return Ok(count),
+            Err(error) => {
+                if error.kind() != ErrorKind::Interrupted {
+                    return Err(Failed);
+                }
+            }
+        }
+    }
+    Err(Failed)
+}
+
+#[cfg(test)]
+mod tests {
+    use super::*;
+    use crate::{put_all, read_all};
+    use std::env;
+    use std::test::Fail;
+
+    /// Is interrupted so often, and then reads and writes one byte.
+    #[derive(Drop)]
+    struct Busy {
+        interrupts: u32,
+    }
+
+    impl Busy {
+        fn turn(&mut self) -> io::Result<usize> {
+            if self.interrupts == 0 {
+                return Ok(1);
+            }
+            self.interrupts -= 1;
+            Err(io::Error::from(ErrorKind::Interrupted))
+        }
+    }
+
+    impl Read for Busy {
+        fn read(&mut self, buf: &mut [u8]) -> io::Result<usize> {
+            Ok(self.turn()?.min(buf.len()))
+        }
+    }
+
+    impl Write for Busy {
+        fn write(&mut self, buf: &[u8]) -> io::Result<usize> {
+            Ok(self.turn()?.min(buf.len()))
+        }
+
+        fn flush(&mut self) -> io::Result<()> {
+            Ok(())
+        }
+    }
+
+    #[test]
+    fn interrupted_calls_are_tried_again_a_thousand_times(rt: HostRuntime) {
+        for (interrupts, answer) in [(1_000, Ok(1)), (1_001, Err(Failed))] {
+            let mut buf = [0; 4];
+            assert_eq!(rt; read_tried(&mut Busy { interrupts }, &mut buf), answer);
+            assert_eq!(rt; write_tried(&mut Busy { interrupts }, b"text"), answer);
+        }
+    }
+
+    #[test]
+    fn file_is_written_and_read_back(rt: HostRuntime) -> Result<(), Fail> {
+        let path = env::temp_dir(&rt)?.join(rt.alloc(), "fsb_io_written_and_read_back")?;
+        let name = path.as_str();
+        assert!(rt; name.len() <= 4_096);
+
+        let mut sink = FileSink::new(&rt);
+        assert_eq!(rt; put_all(&mut sink, b"lost"), Err(Failed), "not begun");
+        assert_eq!(rt; sink.begin(name), Ok(()));
+        assert_eq!(rt; put_all(&mut sink, b"old text"), Ok(()));
+        assert_eq!(rt; sink.begin(name), Ok(()));
+        assert_eq!(rt; put_all(&mut sink, b"11 0 0"), Ok(()));
+        assert_eq!(rt; put_all(&mut sink, b" ld\n"), Ok(()));
+        assert_eq!(rt; sink.faults(), 1);
+
+        let mut source = FileSource::new(&rt);
+        assert_eq!(rt; source.begin(name), Ok(()));
+        let text = read_all(rt.alloc(), &mut source, 100)?;
+        assert_eq!(rt; text.as_slice(), b"11 0 0 ld\n".as_slice());
+        assert_eq!(rt; source.faults(), 0);
+
+        fs::remove_file(&rt, name)?;
+        assert_eq!(rt; source.begin(name), Err(Failed), "the file is gone");
+        assert_eq!(rt; source.faults(), 1);
+        Ok(())
+    }
+
+    #[test]
+    fn standard_output_is_written_and_never_begun(rt: HostRuntime) {
+        let mut sink = StdoutSink::new(&rt);
+        assert_eq!(rt; sink.begin("out"), Err(Failed));
+        assert_eq!(rt; put_all(&mut sink, b"a line\n"), Ok(()));
+        assert_eq!(rt; sink.faults(), 1);
+    }
+}

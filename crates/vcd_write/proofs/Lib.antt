@@ -1,0 +1,6 @@
+pub mod ValueText
+pub mod RoomFacts
+pub mod HeaderText
+pub mod ClockText
+pub mod Ahead
+pub mod Clocks

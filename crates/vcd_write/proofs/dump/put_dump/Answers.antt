@@ -1,0 +1,35 @@
+use Rattle.std.proofs.Common.{◌++◌, sym, ◌∙◌, ap, append_assoc}
+use Rattle.std.proofs.lemmas.Result.{on_ok_weaker}
+use Rattle.fsb_signal.specs.DumpText.{header_text, clocks_text}
+use Rattle.vcd_write.proofs.Ahead.{part-longer, part-after}
+use Rattle.vcd_write.proofs.Clocks.{dump_text-some, dump_text-none}
+use Rattle.vcd_write.proofs.dump.put_dump.Goals as goal
+
+pub returns-in_err-put_header-in-Some-clause-part : goal.returns-in_err-put_header-in-Some-clause-part
+returns-in_err-put_header-in-Some-clause-part g c tells =
+    let first = c.in-Some.first.now in
+    rw (dump_text-some c.args.samples.now first c.in-Some.ensures.value)
+    (part-longer (header_text first) (clocks_text 0 first c.args.samples.now) _ _ (c.in_err-put_header-in-Some.ensures.part tells))
+
+pub returns-in-None-clause-whole : goal.returns-in-None-clause-whole
+returns-in-None-clause-whole g c tells =
+    rw (dump_text-none c.args.samples.now c.in-None.ensures.value, sym c.idle_sample.ensures) (c.put_header.ensures.whole tells)
+
+pub returns-in-None-clause-part : goal.returns-in-None-clause-part
+returns-in-None-clause-part g c tells =
+    rw (dump_text-none c.args.samples.now c.in-None.ensures.value, sym c.idle_sample.ensures) (c.put_header.ensures.part tells)
+
+pub returns-in_ok-put_header-in-Some-clause-whole : goal.returns-in_ok-put_header-in-Some-clause-whole
+returns-in_ok-put_header-in-Some-clause-whole g c tells =
+    let first = c.in-Some.first.now in
+    let texts = clocks_text 0 first c.args.samples.now in
+    rw (dump_text-some c.args.samples.now first c.in-Some.ensures.value)
+    (on_ok_weaker c.put_clocks.result
+    (λ e. e ∙ ap (λ x. x ++ texts) (c.in_ok-put_header-in-Some.ensures.whole tells) ∙ append_assoc _ (header_text first) texts)
+    (c.put_clocks.ensures.whole tells))
+
+pub returns-in_ok-put_header-in-Some-clause-part : goal.returns-in_ok-put_header-in-Some-clause-part
+returns-in_ok-put_header-in-Some-clause-part g c tells =
+    let first = c.in-Some.first.now in
+    rw (dump_text-some c.args.samples.now first c.in-Some.ensures.value)
+    (part-after (header_text first) (clocks_text 0 first c.args.samples.now) _ _ _ (c.in_ok-put_header-in-Some.ensures.whole tells) (c.put_clocks.ensures.part tells))

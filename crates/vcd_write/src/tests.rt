@@ -1,0 +1,122 @@
+use crate::{put_clock, put_dump, put_header};
+use fsb_io::{Failed, MemSink};
+use fsb_signal::{Lines, Sample, idle_sample};
+use std::test::Fail;
+
+const NO_SAMPLES: &str = "\
+$version p6bench 1 $end
+$timescale 1 ns $end
+$scope module fsb $end
+$var wire 1 ! BCLK $end
+$var wire 1 \" BREQ0_n $end
+$var wire 1 # BREQ1_n $end
+$var wire 1 $ BREQ2_n $end
+$var wire 1 % BREQ3_n $end
+$var wire 1 & BPRI_n $end
+$var wire 1 ' LOCK_n $end
+$var wire 1 ( BNR_n $end
+$var wire 1 ) ADS_n $end
+$var wire 5 * REQ_n [4:0] $end
+$var wire 33 + A_n [35:3] $end
+$var wire 1 , AERR_n $end
+$var wire 1 - HIT_n $end
+$var wire 1 . HITM_n $end
+$var wire 1 / DEFER_n $end
+$var wire 3 0 RS_n [2:0] $end
+$var wire 1 1 TRDY_n $end
+$var wire 1 2 DBSY_n $end
+$var wire 1 3 DRDY_n $end
+$var wire 64 4 D_n [63:0] $end
+$upscope $end
+$enddefinitions $end
+#0
+$dumpvars
+0!
+1\"
+1#
+1$
+1%
+1&
+1'
+1(
+1)
+b11111 *
+b111111111111111111111111111111111 +
+1,
+1-
+1.
+1/
+b111 0
+11
+12
+13
+b1111111111111111111111111111111111111111111111111111111111111111 4
+$end
+";
+
+const TWO_CLOCKS: &str = "\
+#20
+0!
+0)
+b11001 *
+b111111111111111111111111111110111 +
+#25
+1!
+#30
+0!
+1\"
+1)
+b11101 *
+b111111111111111111111111111111101 +
+#35
+1!
+";
+
+/// Clocks 1 to 3 of a run: an agent asks for the bus, and reads a line.
+fn read_of_a_line() -> [Sample; 3] {
+    let asks = Sample::known(Lines::BREQ0, 0, 0, 0);
+    let begins = Sample::known(Lines(Lines::BREQ0.0 + Lines::ADS.0), 6, 8, 0);
+    let goes_on = Sample::known(Lines(0), 2, 2, 0);
+    [asks, begins, goes_on]
+}
+
+#[test]
+fn empty_run(rt: HostRuntime) -> Result<(), Fail> {
+    let mut sink = MemSink::new(rt.alloc(), 2_000, &[])?;
+    assert_eq!(rt; put_dump(&mut sink, &[]), Ok(()));
+    assert_eq!(rt; sink.holds(), NO_SAMPLES.as_bytes());
+    assert_eq!(rt; sink.calls(), 1, "one piece");
+    Ok(())
+}
+
+#[test]
+fn two_request_clocks(rt: HostRuntime) -> Result<(), Fail> {
+    let [asks, begins, goes_on] = read_of_a_line();
+    let mut sink = MemSink::new(rt.alloc(), 2_000, &[])?;
+    assert_eq!(rt; put_clock(&mut sink, 2, &asks, &begins), Ok(()));
+    assert_eq!(rt; put_clock(&mut sink, 3, &begins, &goes_on), Ok(()));
+    assert_eq!(rt; sink.holds(), TWO_CLOCKS.as_bytes());
+    assert_eq!(rt; sink.calls(), 2, "one piece a clock");
+    Ok(())
+}
+
+#[test]
+fn dump_fault(rt: HostRuntime) -> Result<(), Fail> {
+    let samples = read_of_a_line();
+    let mut whole = MemSink::new(rt.alloc(), 2_000, &[])?;
+    assert_eq!(rt; put_header(&mut whole, &samples[0]), Ok(()));
+    assert_eq!(rt;
+        put_clock(&mut whole, 0, &idle_sample(), &samples[0]),
+        Ok(())
+    );
+    let mut sink = MemSink::new(rt.alloc(), 2_000, &[2])?;
+    assert_eq!(rt; put_dump(&mut sink, &samples), Err(Failed));
+    assert_eq!(rt; sink.holds(), whole.holds(), "the header and clock 0");
+    let clock_zero = b"#5\n1!\n";
+    assert_eq!(rt;
+        &whole.holds()[whole.holds().len() - 6..],
+        clock_zero.as_slice()
+    );
+    assert_eq!(rt; sink.faults(), 1);
+    Ok(())
+}

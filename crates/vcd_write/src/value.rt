@@ -1,0 +1,91 @@
+//! The lines of values.
+
+ghost use Rattle.std.specs.Prelude.{◌≡◌, ◌+◌, ◌<◌, ◌≤◌, ◌++◌, ◌==◌, [], if◌then◌else◌};
+ghost use Rattle.std.specs.Int.{bit_at};
+ghost use Rattle.arrayvec.specs.ArrayVec.{array_vec_len};
+ghost use Rattle.fsb_signal.specs.DumpText.{digit_of, digits_of, value_text, texts_from, sample_value_text, change_text};
+ghost use Rattle.vcd_write.specs.Room.{value_room, values_room};
+
+use arrayvec::ArrayVec;
+use fsb_signal::{Sample, signal_at};
+
+// Appends the digits of the lowest `width` bits of `value`, from the highest to the lowest: 0 where it is asserted.
+fn put_digits<const N: usize>(text: &mut ArrayVec<u8, N>, width: u8, value: u64)
+    requires width { width ≤ 64 }
+    requires room { array_vec_len text.old + width ≤ N }
+    ensures items { text.new.items ≡ text.old.items ++ digits_of width value }
+    ensures len { array_vec_len text.new ≡ array_vec_len text.old + width }
+{
+    let mut place = width;
+    while place > 0 {
+        place -= 1;
+        text.push(digit_at(value, place));
+    }
+}
+
+// The digit of the bit at this place: 0 where it is asserted.
+fn digit_at(value: u64, place: u8) -> u8
+    requires { place < 64 }
+    ensures { result ≡ digit_of (bit_at value place) }
+{
+    if (value >> place) % 2 == 1 {
+        b'0'
+    } else {
+        b'1'
+    }
+}
+
+// Appends the line of the value of the signal of this number.
+pub(crate) fn put_value<const N: usize>(text: &mut ArrayVec<u8, N>, number: u8, value: u64)
+    requires number { number < 20 }
+    requires room { array_vec_len text.old + value_room number ≤ N }
+    ensures items { text.new.items ≡ text.old.items ++ value_text number value }
+    ensures len { array_vec_len text.new ≡ array_vec_len text.old + value_room number }
+{
+    let width = signal_at(number).width;
+    if width == 1 {
+        put_digits(text, 1, value);
+        text.push(33 + number);
+        text.push(b'\n');
+    } else {
+        text.push(b'b');
+        put_digits(text, width, value);
+        text.push(b' ');
+        text.push(33 + number);
+        text.push(b'\n');
+    }
+}
+
+// Appends the values of a sample, but for the clock's, in the order of the table.
+pub(crate) fn put_values<const N: usize>(text: &mut ArrayVec<u8, N>, sample: &Sample)
+    requires { array_vec_len text.old + values_room 20 ≤ N }
+    ensures items { text.new.items ≡ text.old.items ++ texts_from (sample_value_text sample.now) 1 19 }
+    ensures len { array_vec_len text.new ≤ array_vec_len text.old + values_room 20 }
+{
+    for number in 1..20 {
+        put_value(text, number, sample.value(number));
+    }
+}
+
+// Appends the values of `now` that differ from those of `before`, in the order of the table.
+pub(crate) fn put_changes<const N: usize>(text: &mut ArrayVec<u8, N>, before: &Sample, now: &Sample)
+    requires { array_vec_len text.old + values_room 20 ≤ N }
+    ensures items { text.new.items ≡ text.old.items ++ texts_from (change_text before.now now.now) 1 19 }
+    ensures len { array_vec_len text.new ≤ array_vec_len text.old + values_room 20 }
+{
+    for number in 1..20 {
+        put_change(text, number, before.value(number), now.value(number));
+    }
+}
+
+// Appends the value of a signal where it differs from the one before.
+fn put_change<const N: usize>(text: &mut ArrayVec<u8, N>, number: u8, before: u64, now: u64)
+    requires number { number < 20 }
+    requires room { array_vec_len text.old + value_room number ≤ N }
+    ensures items { text.new.items ≡ text.old.items ++ (if before == now then [] else value_text number now) }
+    ensures len { array_vec_len text.new ≤ array_vec_len text.old + value_room number }
+{
+    if before != now {
+        put_value(text, number, now);
+    }
+}
