@@ -1,5 +1,5 @@
 -- A lawful request is read off its two clocks, so no other lawful request has them.
-use Rattle.std.proofs.Common.{◌≡◌, ◌↔◌, ℕ, ◌+◌, ◌*◌, ◌/◌, ◌%◌, ◌^◌, ◌<◌, Bool, true, false, cond, ◌&&◌, nat_eq, nat_lt, nat_le, Option, Some, None, refl, sym, ap, ◌∙◌, subst, inl, inr, arith, rules}
+use Rattle.std.proofs.Common.{◌≡◌, ◌↔◌, ℕ, ◌+◌, ◌*◌, ◌/◌, ◌%◌, ◌^◌, ◌<◌, Bool, true, false, not, cond, ◌&&◌, nat_eq, nat_lt, nat_le, Option, Some, None, refl, sym, ap, ◌∙◌, subst, inl, inr, arith, rules}
 use Rattle.std.specs.Prelude.{IsTrue}
 use Rattle.std.specs.Option.{option_and_then}
 use Rattle.std.proofs.lemmas.Bool.{and_parts, and_from, cases_Bool, eqb-true, eq-eqb, ltb-true, not-true}
@@ -41,18 +41,18 @@ did_read did false h = omega arith
 read_off-row_of : (kind : Kind) (line chunk did : ℕ) (den : Bool) → are_lawful_fields kind line chunk den ≡ true → did < 2 ^ 8 → (let r : Request = record { kind = kind; line = line; chunk = chunk; did = did; den = den } in read_off kind (row_of kind line chunk did den).0 (row_of kind line chunk did den).1 ≡ r)
 unfolding read_off row_of clocks are_lawful_fields
 read_off-row_of Reply line chunk did den lawful small =
-    let outer = and_parts _ _ lawful in
-    let inner = and_parts _ _ outer.0 in
+    let outer = and_parts (nat_eq line 0 && nat_eq chunk 0) (not den) lawful in
+    let inner = and_parts (nat_eq line 0) (nat_eq chunk 0) outer.0 in
     same_request Reply _ _ _ _ _ _ _ _ (sym (eqb-true _ _ inner.0)) (sym (eqb-true _ _ inner.1)) (omega arith) (sym (not-true _ outer.1))
 read_off-row_of Invalidate line chunk did den lawful small =
-    let chunk_small : chunk < 4 = ltb-true _ _ ((and_parts _ _ lawful).1) in
+    let chunk_small : chunk < 4 = ltb-true chunk 4 (and_parts (nat_lt line (2 ^ 31)) (nat_lt chunk 4) lawful).1 in
     same_request Invalidate _ _ _ _ _ _ _ _ (omega arith) (omega arith) (did_read did den small) (den_read did den)
 read_off-row_of Read line chunk did den lawful small =
-    let chunk_small : chunk < 4 = ltb-true _ _ ((and_parts _ _ lawful).1) in
+    let chunk_small : chunk < 4 = ltb-true chunk 4 (and_parts (nat_lt line (2 ^ 31)) (nat_lt chunk 4) lawful).1 in
     same_request Read _ _ _ _ _ _ _ _ (omega arith) (omega arith) (did_read did den small) (den_read did den)
 read_off-row_of WriteBack line chunk did den lawful small =
-    let outer = and_parts _ _ lawful in
-    let inner = and_parts _ _ outer.0 in
+    let outer = and_parts (nat_lt line (2 ^ 31) && nat_eq chunk 0) (not den) lawful in
+    let inner = and_parts (nat_lt line (2 ^ 31)) (nat_eq chunk 0) outer.0 in
     same_request WriteBack _ _ _ _ _ _ _ _ (omega arith) (sym (eqb-true _ _ inner.1)) (omega arith) (sym (not-true _ outer.1))
 
 -- the two clocks of a request have its kind's REQ words
@@ -93,10 +93,10 @@ both_pairs (x, y) a b e f = cc
 pub coded_from_test : (r : Request) (a b : Pair) → is_coded_as r a b ≡ true → IsCodedAs r a b
 unfolding is_coded_as
 coded_from_test r a b h =
-    let outer = and_parts _ _ h in
-    let inner = and_parts _ _ outer.0 in
-    let first : (pairs_of r).0 ≡ a = same_pair _ _ inner.1 in
-    let second : (pairs_of r).1 ≡ b = same_pair _ _ outer.1 in
+    let outer = and_parts (is_lawful_request r && is_pair (pairs_of r).0 a) (is_pair (pairs_of r).1 b) h in
+    let inner = and_parts (is_lawful_request r) (is_pair (pairs_of r).0 a) outer.0 in
+    let first : (pairs_of r).0 ≡ a = same_pair (pairs_of r).0 a inner.1 in
+    let second : (pairs_of r).1 ≡ b = same_pair (pairs_of r).1 b outer.1 in
     record { lawful = search (rules, inner.0); clocks = both_pairs (pairs_of r) a b first second }
 
 pub test_from_coded : (r : Request) (a b : Pair) → IsCodedAs r a b → is_coded_as r a b ≡ true

@@ -17,18 +17,21 @@ pub enum DecodeFault {
     BadField,
 }
 
-/// The lawful request whose two clocks these are.
+/// The lawful request whose two clocks these are. The words are looked at in this order: the first REQ, the second
+/// REQ, the addresses, and the fault names the first of them that no lawful request has after those before it.
 pub fn decode(a: Pair, b: Pair) -> Result<Request, DecodeFault>
     ensures value { result ≡ decoded a b }
     ensures request { result_ok result ≡ request_of a b }
 
-    // A request exactly where it is lawful and these are its clocks.
+    // Ok exactly where the request is lawful and these are its clocks.
     ensures ok { (r : Request) → (result ≡ Ok r) ↔ IsCodedAs r a b }
 
-    // A fault exactly where the words before it are as some lawful request has them and this one is not.
+    // Each fault exactly where some lawful request has the words before, and none has this one with them.
     ensures bad_code { (v : ℕ) → (result ≡ Err (DecodeFault.BadCode v)) ↔ ((v ≡ a.req) × ¬ IsCode a.req) }
-    ensures bad_len { (v : ℕ) → (result ≡ Err (DecodeFault.BadLen v)) ↔ ((v ≡ b.req) × IsCode a.req × ¬ IsKind a.req b.req) }
-    ensures bad_field { (result ≡ Err DecodeFault.BadField) ↔ (IsKind a.req b.req × ((r : Request) → ¬ IsCodedAs r a b)) }
+    ensures bad_len { (v : ℕ) → (result ≡ Err (DecodeFault.BadLen v))
+        ↔ ((v ≡ b.req) × IsCode a.req × ¬ IsKind a.req b.req) }
+    ensures bad_field { (result ≡ Err DecodeFault.BadField)
+        ↔ (IsKind a.req b.req × ((r : Request) → ¬ IsCodedAs r a b)) }
 {
     let Some(kind) = kind_of(a.req, b.req) else {
         return Err(word_fault(a.req, b.req));
@@ -138,4 +141,169 @@ fn id_on(addr: u64) -> u8
     ensures { result ≡ addr / A16 % 2 ^ 8 }
 {
     (addr / A16 % 256) as u8
+}
+
+#[cfg(test)]
+mod tests {
+    use super::*;
+    use crate::request::codes_differ;
+
+    fn pair(addr: u64, req: u8) -> Pair {
+        Pair { addr, req }
+    }
+
+    fn request(kind: Kind, line: u64, den: bool) -> Request {
+        Request {
+            kind,
+            line,
+            chunk: 0,
+            did: 0,
+            den,
+        }
+    }
+
+    #[test]
+    fn code_of_high_address(rt: HostRuntime) {
+        let read = request(Kind::Read, 0x1_0000_0040 / 32, true);
+        assert!(rt; read.is_lawful());
+        let clocks = (pair(0x2000_0008, 0b01110), pair(2, 0b00010));
+        assert_eq!(rt; encode(&read), clocks);
+        let (a, b) = clocks;
+        assert_eq!(rt; decode(a, b), Ok(read));
+        assert_eq!(rt;
+            decode(pair(a.addr, 0b11111), b),
+            Err(DecodeFault::BadCode(31))
+        );
+        assert_eq!(rt;
+            decode(a, pair(b.addr, 0b00001)),
+            Err(DecodeFault::BadLen(1))
+        );
+        let undeferred = request(Kind::Read, read.line, false);
+        assert_eq!(rt; decode(a, pair(0, b.req)), Ok(undeferred));
+        assert_eq!(rt; decode(a, pair(1, b.req)), Err(DecodeFault::BadField));
+    }
+
+    // The kind of each REQ word of the first clock, from 00000 on.
+    const KINDS: [Option<Kind>; 32] = [
+        Some(Kind::Reply),
+        None,
+        Some(Kind::Invalidate),
+        None,
+        None,
+        Some(Kind::WriteBack),
+        Some(Kind::Read),
+        None,
+        None,
+        None,
+        Some(Kind::Invalidate),
+        None,
+        None,
+        Some(Kind::WriteBack),
+        Some(Kind::Read),
+        None,
+        None,
+        None,
+        None,
+        None,
+        None,
+        None,
+        None,
+        None,
+        None,
+        None,
+        None,
+        None,
+        None,
+        None,
+        None,
+        None,
+    ];
+
+    #[test]
+    fn every_pair_of_req_words(rt: HostRuntime) {
+        for first in 0..32 {
+            // A line at or above 4 GiB asserts REQ3#.
+            let line = if first / 8 % 2 == 1 { 1 << 27 } else { 0 };
+            for second in 0..32 {
+                let expected = match KINDS[usize::from(first)] {
+                    None => Err(DecodeFault::BadCode(first)),
+                    Some(Kind::Reply) if second == 0 => Ok(request(Kind::Reply, 0, false)),
+                    Some(Kind::Reply) => Err(DecodeFault::BadLen(second)),
+                    Some(kind) if second == 2 => Ok(request(kind, line, false)),
+                    Some(_) => Err(DecodeFault::BadLen(second)),
+                };
+                assert_eq!(rt;
+                    decode(pair(line * 4, first), pair(0, second)),
+                    expected,
+                    "{first:05b} {second:05b}"
+                );
+            }
+        }
+    }
+
+    #[test]
+    fn a_row_of_each_kind(rt: HostRuntime) {
+        // Line 5 has the byte address A0h, and its chunk 3 has B8h; a word's bit 0 is A3#.
+        let rows = [
+            (
+                Kind::Reply,
+                0,
+                0,
+                0x21,
+                false,
+                pair(0x4_2000, 0b00000),
+                pair(0, 0b00000),
+            ),
+            (
+                Kind::Invalidate,
+                5,
+                3,
+                0x31,
+                true,
+                pair(0x17, 0b00010),
+                pair(0x6_2002, 0b00010),
+            ),
+            (
+                Kind::Read,
+                5,
+                1,
+                0x10,
+                false,
+                pair(0x15, 0b00110),
+                pair(0x2_0000, 0b00010),
+            ),
+            (
+                Kind::WriteBack,
+                0x7fff_ffff,
+                0,
+                0x0f,
+                false,
+                pair(0x1_ffff_fffc, 0b01101),
+                pair(0x1_e000, 0b00010),
+            ),
+        ];
+        for (kind, line, chunk, did, den, a, b) in rows {
+            let given = Request {
+                kind,
+                line,
+                chunk,
+                did,
+                den,
+            };
+            assert!(rt; given.is_lawful());
+            assert_eq!(rt; encode(&given), (a, b));
+            assert_eq!(rt; decode(a, b), Ok(given));
+            assert_eq!(rt; decode(pair(a.addr, a.req ^ 0b01000), b).is_ok(), false);
+            assert!(rt;
+                !Request {
+                    line: 1 << 31,
+                    ..given
+                }
+                .is_lawful()
+            );
+            assert!(rt; !Request { chunk: 4, ..given }.is_lawful());
+        }
+        codes_differ();
+        clocks_hold_request();
+    }
 }

@@ -69,33 +69,25 @@ pub fn encode(request: &Request) -> (Pair, Pair)
     requires { IsTrue (is_lawful_request request.now) }
     ensures { result ≡ pairs_of request.now }
 {
-    let id = u64::from(request.did) * A16;
-    match request.kind {
+    let Request {
+        kind,
+        line,
+        chunk,
+        did,
+        den,
+    } = *request;
+    let id = u64::from(did) * A16;
+    match kind {
         Kind::Reply => clocks(0b00000, id, 0b00000, 0),
         Kind::Invalidate => {
-            let addr = request.line * A5 + u64::from(request.chunk);
-            clocks(
-                0b00010 + high_bit(request.line),
-                addr,
-                0b00010,
-                id + den_bit(request.den),
-            )
+            let addr = line * A5 + u64::from(chunk);
+            clocks(0b00010 + high_bit(line), addr, 0b00010, id + den_bit(den))
         }
         Kind::Read => {
-            let addr = request.line * A5 + u64::from(request.chunk);
-            clocks(
-                0b00110 + high_bit(request.line),
-                addr,
-                0b00010,
-                id + den_bit(request.den),
-            )
+            let addr = line * A5 + u64::from(chunk);
+            clocks(0b00110 + high_bit(line), addr, 0b00010, id + den_bit(den))
         }
-        Kind::WriteBack => clocks(
-            0b00101 + high_bit(request.line),
-            request.line * A5,
-            0b00010,
-            id,
-        ),
+        Kind::WriteBack => clocks(0b00101 + high_bit(line), line * A5, 0b00010, id),
     }
 }
 

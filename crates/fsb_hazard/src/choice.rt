@@ -1,22 +1,34 @@
-use fsb_encode::Request;
+ghost use Rattle.std.specs.Prelude.{◌≡◌};
+ghost use Rattle.fsb_hazard.specs.declared.choice.Choice.{Choice};
+ghost use Rattle.fsb_hazard.specs.Choice.{quiet_choice, join_turns, join, effective_turn, effective};
 
-/// Whether a request is let through at its snoop end, has to be retried, or is answered later.
+use fsb_encode::{Kind, Request};
+
+/// What becomes of a request at its snoop end.
 #[derive(Clone, Copy, Debug, PartialEq, Eq)]
 pub enum Turn {
+    /// It is let through.
     Keep,
+    /// It has to be retried.
     Retry,
+    /// It is answered by a reply, which is due this many clocks after the clock that follows its response.
     Defer(u16),
 }
 
-/// What a hazard object chooses for a clock (`bnr`) or for a request (all else); numbers are clocks, but for
-/// `stall`, which counts snoop stalls of two clocks each.
+/// What a hazard object chooses for a clock (`bnr`) or for a request (all else).
 #[derive(Clone, Copy, Debug, PartialEq, Eq)]
 pub struct Choice {
+    /// Whether BNR# holds new requests back.
     pub bnr: bool,
+    /// Whether AERR# cancels the request.
     pub aerr: bool,
+    /// The snoop stalls of the request, of two clocks each.
     pub stall: u8,
+    /// The clocks that TRDY# waits.
     pub trdy: u8,
+    /// The clocks that the response waits.
     pub resp: u8,
+    /// The clocks between one chunk of data and the next.
     pub gap: u8,
     pub turn: Turn,
 }
@@ -26,4 +38,210 @@ pub struct Choice {
 pub enum Ask {
     Clock(u32),
     Begun { number: u32, request: Request },
+}
+
+/// The choice in which nothing goes wrong or takes longer.
+pub fn quiet_choice() -> Choice
+    ensures { result ≡ quiet_choice }
+{
+    Choice {
+        bnr: false,
+        aerr: false,
+        stall: 0,
+        trdy: 0,
+        resp: 0,
+        gap: 0,
+        turn: Turn::Keep,
+    }
+}
+
+/// Two choices together: truth values are or-ed and of two numbers the greater counts. Retry beats Defer and Defer
+/// beats Keep, and of two Defers the later one stays.
+pub fn join(a: &Choice, b: &Choice) -> Choice
+    ensures { result ≡ join a.now b.now }
+{
+    Choice {
+        bnr: a.bnr || b.bnr,
+        aerr: a.aerr || b.aerr,
+        stall: a.stall.max(b.stall),
+        trdy: a.trdy.max(b.trdy),
+        resp: a.resp.max(b.resp),
+        gap: a.gap.max(b.gap),
+        turn: join_turns(a.turn, b.turn),
+    }
+}
+
+/// Choices join in any order and any number of times, and the quiet one changes nothing: a law, and no code.
+pub fn join_laws()
+    ensures commutes { (a b : Choice) → join a b ≡ join b a }
+    ensures regroups { (a b c : Choice) → join (join a b) c ≡ join a (join b c) }
+    ensures once { (a : Choice) → join a a ≡ a }
+    ensures nothing { (a : Choice) → join a quiet_choice ≡ a }
+{}
+
+fn join_turns(a: Turn, b: Turn) -> Turn
+    ensures { result ≡ join_turns a b }
+{
+    match (a, b) {
+        (Turn::Retry, _) | (_, Turn::Retry) => Turn::Retry,
+        (Turn::Defer(later), Turn::Defer(other)) => Turn::Defer(later.max(other)),
+        (Turn::Keep, turn) | (turn, Turn::Keep) => turn,
+    }
+}
+
+/// The choice that counts for a request at its snoop end, given whether its line is in the bridge's window and
+/// whether it is pending. A write-back or a reply keeps its turn. Any other request for a pending line is retried.
+/// A request without DEN#, or for a line outside the window, is not deferred. All else stays as it was chosen.
+pub fn effective(choice: &Choice, request: &Request, in_window: bool, pending: bool) -> Choice
+    ensures { result ≡ effective choice.now request.now in_window pending }
+{
+    Choice {
+        turn: effective_turn(choice.turn, request, in_window, pending),
+        ..*choice
+    }
+}
+
+fn effective_turn(turn: Turn, request: &Request, in_window: bool, pending: bool) -> Turn
+    ensures { result ≡ effective_turn turn request.now in_window pending }
+{
+    match (request.kind, turn) {
+        (Kind::Reply | Kind::WriteBack, _) => Turn::Keep,
+        _ if pending => Turn::Retry,
+        (_, Turn::Defer(_)) if !request.den || !in_window => Turn::Keep,
+        _ => turn,
+    }
+}
+
+#[cfg(test)]
+mod tests {
+    use super::*;
+
+    const QUIET: Choice = Choice {
+        bnr: false,
+        aerr: false,
+        stall: 0,
+        trdy: 0,
+        resp: 0,
+        gap: 0,
+        turn: Turn::Keep,
+    };
+
+    #[test]
+    fn turns_of_two_choices(rt: HostRuntime) {
+        let rows = [
+            (Turn::Keep, Turn::Keep, Turn::Keep),
+            (Turn::Keep, Turn::Defer(4), Turn::Defer(4)),
+            (Turn::Keep, Turn::Retry, Turn::Retry),
+            (Turn::Defer(4), Turn::Defer(9), Turn::Defer(9)),
+            (Turn::Defer(0), Turn::Defer(0), Turn::Defer(0)),
+            (Turn::Defer(65_535), Turn::Retry, Turn::Retry),
+            (Turn::Retry, Turn::Retry, Turn::Retry),
+        ];
+        for (one, other, both) in rows {
+            let a = Choice { turn: one, ..QUIET };
+            let b = Choice {
+                turn: other,
+                ..QUIET
+            };
+            assert_eq!(rt;
+                join(&a, &b),
+                Choice {
+                    turn: both,
+                    ..QUIET
+                }
+            );
+            assert_eq!(rt;
+                join(&b, &a),
+                Choice {
+                    turn: both,
+                    ..QUIET
+                }
+            );
+        }
+    }
+
+    #[test]
+    fn truth_values_and_numbers_of_two_choices(rt: HostRuntime) {
+        let a = Choice {
+            bnr: true,
+            aerr: false,
+            stall: 2,
+            trdy: 0,
+            resp: 255,
+            gap: 1,
+            turn: Turn::Keep,
+        };
+        let b = Choice {
+            bnr: false,
+            aerr: true,
+            stall: 1,
+            trdy: 7,
+            resp: 254,
+            gap: 1,
+            turn: Turn::Keep,
+        };
+        let both = Choice {
+            bnr: true,
+            aerr: true,
+            stall: 2,
+            trdy: 7,
+            resp: 255,
+            gap: 1,
+            turn: Turn::Keep,
+        };
+        assert_eq!(rt; join(&a, &b), both);
+        assert_eq!(rt; join(&a, &quiet_choice()), a);
+        assert_eq!(rt; quiet_choice(), QUIET);
+        join_laws();
+    }
+
+    #[test]
+    fn turns_in_effect(rt: HostRuntime) {
+        let later = Turn::Defer(3);
+        // The kind, DEN#, whether the line is in the window, whether it is pending, what was chosen, what counts.
+        let rows = [
+            (Kind::WriteBack, false, true, true, Turn::Retry, Turn::Keep),
+            (Kind::WriteBack, false, true, false, later, Turn::Keep),
+            (Kind::Reply, false, true, true, Turn::Retry, Turn::Keep),
+            (Kind::Reply, false, false, false, Turn::Keep, Turn::Keep),
+            (Kind::Read, true, true, true, later, Turn::Retry),
+            (
+                Kind::Invalidate,
+                false,
+                false,
+                true,
+                Turn::Keep,
+                Turn::Retry,
+            ),
+            (Kind::Read, true, true, false, later, later),
+            (Kind::Read, false, true, false, later, Turn::Keep),
+            (Kind::Invalidate, true, false, false, later, Turn::Keep),
+            (Kind::Invalidate, true, true, false, later, later),
+            (Kind::Read, false, false, false, Turn::Retry, Turn::Retry),
+            (Kind::Read, true, true, false, Turn::Keep, Turn::Keep),
+        ];
+        for (kind, den, in_window, pending, chosen, counts) in rows {
+            let request = Request {
+                kind,
+                line: 0,
+                chunk: 0,
+                did: 0,
+                den,
+            };
+            let choice = Choice {
+                stall: 5,
+                aerr: true,
+                turn: chosen,
+                ..QUIET
+            };
+            let effect = effective(&choice, &request, in_window, pending);
+            assert_eq!(rt;
+                effect,
+                Choice {
+                    turn: counts,
+                    ..choice
+                }
+            );
+        }
+    }
 }

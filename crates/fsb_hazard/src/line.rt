@@ -7,13 +7,21 @@ use std::marker::Model;
 /// One hazard of a bench file; the first number is the request's, or the first clock for `Bnr`.
 #[derive(Clone, Copy, Debug, PartialEq, Eq)]
 pub enum HazardLine {
+    /// The request has this many snoop stalls.
     Stall(u32, u8),
+    /// TRDY# for the request waits this many clocks.
     Trdy(u32, u8),
+    /// The response to the request waits this many clocks.
     Resp(u32, u8),
+    /// This many clocks lie between one chunk of the request's data and the next.
     Gap(u32, u8),
+    /// The request has to be retried.
     Retry(u32),
+    /// The request is deferred, with this wait.
     Defer(u32, u16),
+    /// AERR# cancels the request.
     Aerr(u32),
+    /// BNR# is asserted in each clock from the first to the second.
     Bnr(u32, u32),
 }
 
@@ -55,5 +63,21 @@ impl HazardLines {
         ensures { result.now ≡ self.now }
     {
         self.lines.as_slice()
+    }
+}
+
+#[cfg(test)]
+mod tests {
+    use super::*;
+    use std::test::Fail;
+
+    #[test]
+    fn lines_are_kept_in_order(rt: HostRuntime) -> Result<(), Fail> {
+        let mut lines = HazardLines::new(rt.alloc());
+        lines.push(HazardLine::Stall(0, 2))?;
+        lines.push(HazardLine::Bnr(5, 8))?;
+        let expected = [HazardLine::Stall(0, 2), HazardLine::Bnr(5, 8)];
+        assert_eq!(rt; lines.as_slice(), expected.as_slice());
+        Ok(())
     }
 }
