@@ -1,5 +1,5 @@
 -- Whether some clock passes.
-use Rattle.std.proofs.Common.{ℕ, zero, suc, ◌+◌, ◌<◌, ◌≤◌, ◌≡◌, Bool, true, false, sym, refl, ap, ◌∙◌, ◌⊎◌, inl, inr, arith, below_more}
+use Rattle.std.proofs.Common.{ℕ, zero, suc, ◌<◌, ◌≡◌, Bool, true, false, sym, refl, ◌∙◌, inl, inr, arith, below_more}
 use Rattle.std.proofs.lemmas.Bool.{cases_Bool, both_ways}
 use Rattle.fsb_count.specs.Clocks.{any_where, AgreeBelow}
 
@@ -13,8 +13,9 @@ unfolding any_where
 says_any-step p n true e h = rw e (h.0, omega arith, h.2)
 says_any-step p n false e h =
     elim (cases_Bool (p n)) [
-      inl t ↦ rw (e, t) (n, omega arith, t)
-    | inr f ↦ rw (e, f) (λ k l. below_more (λ m. p m ≡ false) n h f k (omega arith)) ]
+      | inl t ↦ rw (e, t) (n, omega arith, t)
+      | inr f ↦ rw (e, f) (λ k l. below_more (λ m. p m ≡ false) n h f k (omega arith))
+    ]
 
 pub any_where-says : (p : ℕ → Bool) (n : ℕ) → SaysAny p n (any_where p n)
 unfolding any_where

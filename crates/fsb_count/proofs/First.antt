@@ -1,5 +1,5 @@
 -- The first clock that passes.
-use Rattle.std.proofs.Common.{ℕ, zero, suc, ◌+◌, ◌<◌, ◌≤◌, ◌≡◌, Bool, true, false, Option, Some, None, sym, refl, ap, ◌∙◌, ◌⊎◌, inl, inr, arith, below_more}
+use Rattle.std.proofs.Common.{ℕ, zero, suc, ◌+◌, ◌<◌, ◌≤◌, ◌≡◌, Bool, true, false, Option, Some, None, sym, refl, ap, ◌∙◌, inl, inr, arith, below_more}
 use Rattle.std.proofs.lemmas.Bool.{cases_Bool, both_ways, cases_order}
 use Rattle.fsb_count.specs.Clocks.{first_where, AgreeBelow}
 
@@ -13,8 +13,9 @@ unfolding first_where
 says_first-step p n (Some c) e h = rw e (omega arith, h.1, h.2)
 says_first-step p n None e h =
     elim (cases_Bool (p n)) [
-      inl t ↦ rw (e, t) (omega arith, t, h)
-    | inr f ↦ rw (e, f) (λ k l. below_more (λ m. p m ≡ false) n h f k (omega arith)) ]
+      | inl t ↦ rw (e, t) (omega arith, t, h)
+      | inr f ↦ rw (e, f) (λ k l. below_more (λ m. p m ≡ false) n h f k (omega arith))
+    ]
 
 pub first_where-says : (p : ℕ → Bool) (n : ℕ) → SaysFirst p n (first_where p n)
 unfolding first_where
@@ -33,10 +34,12 @@ first_at-cases : (p : ℕ → Bool) (n c : ℕ) (o : Option ℕ) → first_where
 first_at-cases p n c None e h l t f = absurd (both_ways (p c) (h c l) t)
 first_at-cases p n c (Some d) e h l t f =
     elim (cases_order c d) [
-      inl same ↦ e ∙ ap (λ x. Some x) (sym same)
-    | inr other ↦ elim other [
-        inl less ↦ absurd (both_ways (p c) (h.2 c less) t)
-      | inr more ↦ absurd (both_ways (p d) (f d more) h.1) ] ]
+      | inl same ↦ e ∙ ap (λ x. Some x) (sym same)
+      | inr other ↦ elim other [
+        | inl less ↦ absurd (both_ways (p c) (h.2 c less) t)
+        | inr more ↦ absurd (both_ways (p d) (f d more) h.1)
+      ]
+    ]
 
 -- a clock below n that passes, and before which none does, is the one that is found
 pub first_where-at : (p : ℕ → Bool) (n c : ℕ) → c < n → p c ≡ true → ((k : ℕ) → k < c → p k ≡ false) → first_where p n ≡ Some c

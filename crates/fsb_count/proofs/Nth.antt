@@ -1,11 +1,11 @@
 -- The k-th clock that passes.
-use Rattle.std.proofs.Common.{ℕ, zero, suc, ◌+◌, ◌<◌, ◌≤◌, ◌≡◌, Bool, true, false, cond, Option, Some, None, List, [], ◌∷◌, ◌++◌, length, get_or, sym, refl, ap, ◌∙◌, ◌⊎◌, inl, inr, arith, add-one, subst}
+use Rattle.std.proofs.Common.{ℕ, zero, suc, ◌+◌, ◌<◌, ◌≤◌, ◌≡◌, Bool, true, false, cond, Some, None, List, [], ◌∷◌, ◌++◌, length, get_or, sym, refl, ap, ◌∙◌, ◌⊎◌, inl, inr, arith, add-one, subst}
 use Rattle.std.specs.List.{slice_get}
 use Rattle.std.proofs.lemmas.Bool.{cases_Bool, cases_order}
 use Rattle.std.proofs.lemmas.List.{length-append, append-nil}
 use Rattle.std.proofs.lemmas.Option.{slice_get_past, slice_get-get_or}
 use Rattle.fsb_count.specs.Clocks.{count_where, all_where, nth_where, AgreeBelow}
-use Rattle.fsb_count.proofs.Count.{count_where-same, count_where-mono, count_where-above}
+use Rattle.fsb_count.proofs.Count.{count_where-same, count_where-mono}
 
 -- an element stays where it is when the list grows
 pub slice_get-grown : {X : Type 0} (xs ys : List X) (k : ℕ) (x : X) → slice_get xs k ≡ Some x → slice_get (xs ++ ys) k ≡ Some x
@@ -32,8 +32,9 @@ length-all_where p zero = refl
 length-all_where p (suc n) =
     let ih : length (all_where p n) ≡ count_where p n = length-all_where p n in
     elim (cases_Bool (p n)) [
-      inl t ↦ rw t (length-append (all_where p n) (n ∷ []) ∙ ap (λ m. m + 1) ih)
-    | inr f ↦ rw f (length-append (all_where p n) [] ∙ ap (λ m. m + 0) ih) ]
+      | inl t ↦ rw t (length-append (all_where p n) (n ∷ []) ∙ ap (λ m. m + 1) ih)
+      | inr f ↦ rw f (length-append (all_where p n) [] ∙ ap (λ m. m + 0) ih)
+    ]
 
 -- the k-th clock that passes is below n, passes, and k pass before it
 pub nth_where-found : (p : ℕ → Bool) (k n c : ℕ) → nth_where p k n ≡ Some c → (c < n) × (p c ≡ true) × (count_where p c ≡ k)
@@ -41,16 +42,20 @@ unfolding nth_where all_where
 nth_where-found p k zero c e = absurd (let h : ⊥ = cc in h)
 nth_where-found p k (suc n) c e =
     elim (cases_Bool (p n)) [
-      inl t ↦
-        let e' = rw t at e in
-        elim (slice_get-push (all_where p n) n k c e') [
-          inl old ↦ let h = nth_where-found p k n c old in (omega (arith, h.0), h.1, h.2)
-        | inr new ↦
-            (omega (arith, new.1), subst (λ m. p m ≡ true) new.1 t,
-             sym (ap (count_where p) new.1) ∙ sym (length-all_where p n) ∙ sym new.0) ]
-    | inr f ↦
-        let e' = rw (f, append-nil) at e in
-        let h = nth_where-found p k n c e' in (omega (arith, h.0), h.1, h.2) ]
+      | inl t ↦
+          let e' = rw t at e in
+          elim (slice_get-push (all_where p n) n k c e') [
+            | inl old ↦ let h = nth_where-found p k n c old in (omega (arith, h.0), h.1, h.2)
+            | inr new ↦ (
+              omega (arith, new.1),
+              subst (λ m. p m ≡ true) new.1 t,
+              sym (ap (count_where p) new.1) ∙ sym (length-all_where p n) ∙ sym new.0,
+            )
+          ]
+      | inr f ↦
+          let e' = rw (f, append-nil) at e in
+          let h = nth_where-found p k n c e' in (omega (arith, h.0), h.1, h.2)
+    ]
 
 -- a clock below n that passes is the one of its count
 pub nth_where-at : (p : ℕ → Bool) (n c : ℕ) → c < n → p c ≡ true → nth_where p (count_where p c) n ≡ Some c
@@ -58,13 +63,14 @@ unfolding nth_where all_where
 nth_where-at p zero c l t = absurd (omega arith)
 nth_where-at p (suc n) c l t =
     elim (cases_order c n) [
-      inl same ↦
-        let here : p n ≡ true = subst (λ m. p m ≡ true) same t in
-        rw here (ap (λ m. slice_get (all_where p n ++ n ∷ []) m) (ap (count_where p) same ∙ sym (length-all_where p n))
-            ∙ slice_get-end (all_where p n) n ∙ ap (λ m. Some m) (sym same))
-    | inr other ↦
-        let below : c < n = elim other [ inl less ↦ less | inr more ↦ absurd (omega arith) ] in
-        slice_get-grown (all_where p n) _ (count_where p c) c (nth_where-at p n c below t) ]
+      | inl same ↦
+          let here : p n ≡ true = subst (λ m. p m ≡ true) same t in
+          rw here (ap (λ m. slice_get (all_where p n ++ n ∷ []) m) (ap (count_where p) same ∙ sym (length-all_where p n))
+          ∙ slice_get-end (all_where p n) n ∙ ap (λ m. Some m) (sym same))
+      | inr other ↦
+          let below : c < n = elim other [ inl less ↦ less | inr more ↦ absurd (omega arith) ] in
+          slice_get-grown (all_where p n) _ (count_where p c) c (nth_where-at p n c below t)
+    ]
 
 -- a clock that is found stays, for a test that agrees so far, and among more clocks
 pub nth_where-stays : (p q : ℕ → Bool) (k n m c : ℕ) → AgreeBelow n p q → n ≤ m → nth_where p k n ≡ Some c → nth_where q k m ≡ Some c
@@ -89,10 +95,12 @@ nth_where-rises p j k n c d l e f =
     let jc : count_where p c ≡ j = g.2 in
     let kd : count_where p d ≡ k = h.2 in
     elim (cases_order c d) [
-      inl same ↦ absurd (let u : count_where p c ≡ count_where p d = ap (count_where p) same in omega arith)
-    | inr other ↦ elim other [
-        inl less ↦ less
-      | inr more ↦ absurd (let u = count_where-mono p d c (omega arith) in omega arith) ] ]
+      | inl same ↦ absurd (let u : count_where p c ≡ count_where p d = ap (count_where p) same in omega arith)
+      | inr other ↦ elim other [
+        | inl less ↦ less
+        | inr more ↦ absurd (let u = count_where-mono p d c (omega arith) in omega arith)
+      ]
+    ]
 
 -- one clock has one place
 pub nth_where-one : (p : ℕ → Bool) (j k n c : ℕ) → nth_where p j n ≡ Some c → nth_where p k n ≡ Some c → j ≡ k

@@ -1,6 +1,6 @@
 -- What has held since the last gain.
-use Rattle.std.proofs.Common.{ℕ, zero, suc, ◌+◌, ◌<◌, ◌≤◌, ◌≡◌, Bool, true, false, cond, not, ◌&&◌, ◌||◌, Option, Some, None, sym, refl, ap, ◌∙◌, ◌⊎◌, inl, inr, arith, add-one, leb}
-use Rattle.std.proofs.lemmas.Bool.{cases_Bool, lt-leb, le-leb, both_ways}
+use Rattle.std.proofs.Common.{ℕ, zero, suc, ◌+◌, ◌<◌, ◌≡◌, Bool, true, false, not, ◌&&◌, ◌||◌, Option, Some, None, sym, refl, ap, ◌∙◌, inl, inr, arith, add-one}
+use Rattle.std.proofs.lemmas.Bool.{cases_Bool, lt-leb, le-leb}
 use Rattle.fsb_count.specs.Clocks.{last_where, any_where, from_clock, holds_since}
 use Rattle.fsb_count.proofs.Any.{any_where-off}
 
@@ -17,8 +17,9 @@ unfolding last_where
 last_below p zero c e = absurd (let h : ⊥ = cc in h)
 last_below p (suc n) c e =
     elim (cases_Bool (p n)) [
-      inl t ↦ let same : n ≡ c = (let e' = sym (last_where-passed p n t) ∙ e in cc) in omega arith
-    | inr f ↦ let l : c < n = last_below p n c (sym (last_where-failed p n f) ∙ e) in omega arith ]
+      | inl t ↦ let same : n ≡ c = (let e' = sym (last_where-passed p n t) ∙ e in cc) in omega arith
+      | inr f ↦ let l : c < n = last_below p n c (sym (last_where-failed p n f) ∙ e) in omega arith
+    ]
 
 -- nothing has been lost since a gain at n
 none_from_next : (loss : ℕ → Bool) (n : ℕ) → any_where (from_clock (n + 1) loss) (suc n) ≡ false
@@ -45,5 +46,6 @@ since-gained gain loss n t = rw (last_where-passed gain n t, holds_since) (ap no
 pub holds_since-more : (gain loss : ℕ → Bool) (n : ℕ) → holds_since gain loss (n + 1) ≡ (gain n || (holds_since gain loss n && not (loss n)))
 holds_since-more gain loss n =
     rw add-one (elim (cases_Bool (gain n)) [
-      inl t ↦ since-gained gain loss n t ∙ sym (ap (λ b. b || (holds_since gain loss n && not (loss n))) t)
-    | inr f ↦ since-kept gain loss n f (last_where gain n) refl ∙ sym (ap (λ b. b || (holds_since gain loss n && not (loss n))) f) ])
+      | inl t ↦ since-gained gain loss n t ∙ sym (ap (λ b. b || (holds_since gain loss n && not (loss n))) t)
+      | inr f ↦ since-kept gain loss n f (last_where gain n) refl ∙ sym (ap (λ b. b || (holds_since gain loss n && not (loss n))) f)
+    ])

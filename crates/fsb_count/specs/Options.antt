@@ -1,5 +1,5 @@
 -- Words on a number that may not be reached: a condition that needs it is false where it is not.
-use Rattle.std.specs.Prelude.{ℕ, Bool, false, Option, Some, None, nat_lt, nat_le, nat_eq, max}
+use Rattle.std.specs.Prelude.{ℕ, Bool, false, Option, Some, None, nat_lt, nat_eq, max}
 
 -- the value is reached and passes the test
 unfoldable pub is_some_and : {A : Type 0} → Option A → (A → Bool) → Bool

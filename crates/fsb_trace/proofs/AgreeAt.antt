@@ -111,21 +111,24 @@ winner_by-agree n w v d turns a l =
     let lock : line_at LOCK w d ≡ line_at LOCK v d = line_at-agree LOCK n w v d a l in
     let bpri : line_at BPRI w d ≡ line_at BPRI v d = line_at-agree BPRI n w v d a l in
     elim (cases_Bool (line_at LOCK v d)) [
-      inl t ↦ winner_by-locked w d turns (lock ∙ t) ∙ last_if_asking-agree n w v d turns.last a l ∙ sym (winner_by-locked v d turns t)
-    | inr f ↦
-        elim (cases_Bool (line_at BPRI v d)) [
-          inl u ↦ winner_by-priority w d turns (lock ∙ f) (bpri ∙ u) ∙ sym (winner_by-priority v d turns f u)
-        | inr g ↦
-            winner_by-symmetric w d turns (lock ∙ f) (bpri ∙ g)
-            ∙ ap (option_map Symmetric) (first_asking-agree n w v d _ a l) ∙ sym (winner_by-symmetric v d turns f g) ] ]
+      | inl t ↦ winner_by-locked w d turns (lock ∙ t) ∙ last_if_asking-agree n w v d turns.last a l ∙ sym (winner_by-locked v d turns t)
+      | inr f ↦
+          elim (cases_Bool (line_at BPRI v d)) [
+            | inl u ↦ winner_by-priority w d turns (lock ∙ f) (bpri ∙ u) ∙ sym (winner_by-priority v d turns f u)
+            | inr g ↦
+                winner_by-symmetric w d turns (lock ∙ f) (bpri ∙ g)
+                ∙ ap (option_map Symmetric) (first_asking-agree n w v d _ a l) ∙ sym (winner_by-symmetric v d turns f g)
+          ]
+    ]
 
 pub winner_after-agree : (n : ℕ) (w v : Trace) (c : ℕ) (turns : Turns) → AgreeTo n w v → c ≤ n → winner_after w c turns ≡ winner_after v c turns
 winner_after-agree n w v c turns a l =
     elim (cases_Bool (nat_lt c 2)) [
-      inl low ↦ winner_after-low w c turns low ∙ sym (winner_after-low v c turns low)
-    | inr high ↦
-        let below : c - 2 < n = (let h = ltb-false c 2 high in omega arith) in
-        winner_after-high w c turns high ∙ winner_by-agree n w v (c - 2) turns a below ∙ sym (winner_after-high v c turns high) ]
+      | inl low ↦ winner_after-low w c turns low ∙ sym (winner_after-low v c turns low)
+      | inr high ↦
+          let below : c - 2 < n = (let h = ltb-false c 2 high in omega arith) in
+          winner_after-high w c turns high ∙ winner_by-agree n w v (c - 2) turns a below ∙ sym (winner_after-high v c turns high)
+    ]
 
 pub turns_before-agree : (n : ℕ) (w v : Trace) (c : ℕ) → AgreeTo n w v → c ≤ n → turns_before w c ≡ turns_before v c
 unfolding turns_before
@@ -134,12 +137,13 @@ turns_before-agree n w v (suc c) a l =
     let before : turns_before w c ≡ turns_before v c = turns_before-agree n w v c a (omega arith) in
     let ads : line_at ADS w c ≡ line_at ADS v c = line_at-agree ADS n w v c a (omega arith) in
     elim (cases_Bool (line_at ADS v c)) [
-      inl t ↦
-        begun w c (ads ∙ t)
-        ∙ ap (λ turns. then_begun turns (winner_after w c turns)) before
-        ∙ ap (then_begun (turns_before v c)) (winner_after-agree n w v c (turns_before v c) a (omega arith))
-        ∙ sym (begun v c t)
-    | inr f ↦ kept w c (ads ∙ f) ∙ before ∙ sym (kept v c f) ]
+      | inl t ↦
+          begun w c (ads ∙ t)
+          ∙ ap (λ turns. then_begun turns (winner_after w c turns)) before
+          ∙ ap (then_begun (turns_before v c)) (winner_after-agree n w v c (turns_before v c) a (omega arith))
+          ∙ sym (begun v c t)
+      | inr f ↦ kept w c (ads ∙ f) ∙ before ∙ sym (kept v c f)
+    ]
 
 pub winner_at-agree : (n : ℕ) (w v : Trace) (c : ℕ) → AgreeTo n w v → c ≤ n → winner_at w c ≡ winner_at v c
 unfolding winner_at

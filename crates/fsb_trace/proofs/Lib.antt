@@ -10,3 +10,4 @@ pub mod Stay
 pub mod StayEnds
 pub mod Order
 pub mod VerdictLaws
+pub mod Rows

@@ -75,21 +75,25 @@ no_later w c i (suc j) l e f =
     let t : ℕ = before.0 in
     let apart : t + 3 ≤ n = before.2 in
     elim (cases_order i j) [
-      inl same ↦
-        let low : c ≤ t = snoop_clock-end w c i t e (rw same before.1) in omega arith
-    | inr other ↦ elim other [
-        inl less ↦
-          let early = snoop_end_of-rises w i j t less before.1 in
-          let s : ℕ = early.0 in
-          let gap : s + 3 ≤ t = early.2 in
-          let low : c ≤ s = snoop_clock-end w c i s e early.1 in omega arith
-      | inr more ↦ omega arith ] ]
+      | inl same ↦
+          let low : c ≤ t = snoop_clock-end w c i t e (rw same before.1) in omega arith
+      | inr other ↦ elim other [
+        | inl less ↦
+            let early = snoop_end_of-rises w i j t less before.1 in
+            let s : ℕ = early.0 in
+            let gap : s + 3 ≤ t = early.2 in
+            let low : c ≤ s = snoop_clock-end w c i s e early.1 in omega arith
+        | inr more ↦ omega arith
+      ]
+    ]
 
 -- at most one request has a snoop clock at a clock
 pub one_snoop : (w : Trace) (c i j : ℕ) → is_snoop_clock_of w c i ≡ true → is_snoop_clock_of w c j ≡ true → i ≡ j
 one_snoop w c i j e f =
     elim (cases_order i j) [
-      inl same ↦ same
-    | inr other ↦ elim other [
-        inl less ↦ absurd (no_later w c i j less e f)
-      | inr more ↦ absurd (no_later w c j i more f e) ] ]
+      | inl same ↦ same
+      | inr other ↦ elim other [
+        | inl less ↦ absurd (no_later w c i j less e f)
+        | inr more ↦ absurd (no_later w c j i more f e)
+      ]
+    ]

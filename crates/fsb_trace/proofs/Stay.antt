@@ -23,20 +23,20 @@ pub first_clock_of-stays : (n : ℕ) (w v : Trace) (k q : ℕ) → AgreeTo n w v
 unfolding first_clock_of
 first_clock_of-stays n w v k q a l e =
     nth_where-carried (line_at ADS w) (line_at ADS v) k (length w) (length v) q
-        (record { same = λ c k. line_at-agree ADS n w v c a (omega arith) }) (omega (arith, a.right)) e
+    (record { same = λ c k. line_at-agree ADS n w v c a (omega arith) }) (omega (arith, a.right)) e
 
 -- a request is known to be live once the clock of its address error is there
 pub live_clock_of-stays : (n : ℕ) (w v : Trace) (i q : ℕ) → AgreeTo n w v → q + 3 < n → live_clock_of w i ≡ Some q → live_clock_of v i ≡ Some q
 unfolding live_clock_of
 live_clock_of-stays n w v i q a l e =
     nth_where-carried (is_live w) (is_live v) i (length w) (length v) q
-        (record { same = λ c k. is_live-agree n w v c a (omega arith) }) (omega (arith, a.right)) e
+    (record { same = λ c k. is_live-agree n w v c a (omega arith) }) (omega (arith, a.right)) e
 
 pub response_clock_of-stays : (n : ℕ) (w v : Trace) (i r : ℕ) → AgreeTo n w v → r < n → response_clock_of w i ≡ Some r → response_clock_of v i ≡ Some r
 unfolding response_clock_of
 response_clock_of-stays n w v i r a l e =
     nth_where-carried (responds_at w) (responds_at v) i (length w) (length v) r
-        (record { same = λ c k. responds_at-agree n w v c a (omega arith) }) (omega (arith, a.right)) e
+    (record { same = λ c k. responds_at-agree n w v c a (omega arith) }) (omega (arith, a.right)) e
 
 -- where a snoop ends
 pub snoop_end_from-found : (w : Trace) (start s : ℕ) → snoop_end_from w start ≡ Some s → (s < length w) × (start ≤ s)
@@ -49,8 +49,8 @@ pub snoop_end_from-stays : (n : ℕ) (w v : Trace) (start s : ℕ) → AgreeTo n
 unfolding snoop_end_from ends_snoop
 snoop_end_from-stays n w v start s a l e =
     first_where-carried (ends_snoop w start) (ends_snoop v start) (length w) (length v) s
-        (record { same = λ c k. ap (λ b. is_every_second_from start c && not b) (stalls_at-agree n w v c a (omega arith)) })
-        (omega (arith, a.right)) e
+    (record { same = λ c k. ap (λ b. is_every_second_from start c && not b) (stalls_at-agree n w v c a (omega arith)) })
+    (omega (arith, a.right)) e
 
 -- the parts of a snoop end of the first live request
 first_parts : (w : Trace) (s : ℕ) (o : Option ℕ) → live_clock_of w 0 ≡ o → option_and_then (snoop_end_from w) (option_map (λ q. q + 4) o) ≡ Some s → (q : ℕ) × (live_clock_of w 0 ≡ Some q) × (snoop_end_from w (q + 4) ≡ Some s)
@@ -112,12 +112,12 @@ snoop_end_of-stays n w v zero s a l e =
     let q : ℕ = h.0 in
     let k : q + 4 ≤ s = (snoop_end_from-found w _ s h.2).1 in
     first_from_clocks v q s (live_clock_of-stays n w v 0 q a (omega arith) h.1)
-        (snoop_end_from-stays n w v (q + 4) s a l h.2)
+    (snoop_end_from-stays n w v (q + 4) s a l h.2)
 snoop_end_of-stays n w v (suc i) s a l e =
     let h = clocks_of_next w i s e in
     let q : ℕ = h.0 in
     let t : ℕ = h.1 in
     let k : max (q + 4) (t + 3) ≤ s = (snoop_end_from-found w _ s h.4).1 in
     next_from_clocks v i q t s (live_clock_of-stays n w v (suc i) q a (omega arith) h.2)
-        (snoop_end_of-stays n w v i t a (omega arith) h.3)
-        (snoop_end_from-stays n w v (max (q + 4) (t + 3)) s a l h.4)
+    (snoop_end_of-stays n w v i t a (omega arith) h.3)
+    (snoop_end_from-stays n w v (max (q + 4) (t + 3)) s a l h.4)

@@ -74,8 +74,9 @@ moved w i e (Some r) f t h =
 pub end_of-response : (w : Trace) (i e : ℕ) → end_of w i ≡ Some e → (r : ℕ) × (response_clock_of w i ≡ Some r) × (r ≤ e)
 end_of-response w i e h =
     elim (cases_Bool (moves_data w i)) [
-      inl t ↦ moved w i e (response_clock_of w i) refl t h
-    | inr f ↦ (e, sym (end_of-still w i f) ∙ h, omega arith) ]
+      | inl t ↦ moved w i e (response_clock_of w i) refl t h
+      | inr f ↦ (e, sym (end_of-still w i f) ∙ h, omega arith)
+    ]
 
 drdy_below : (n : ℕ) (w v : Trace) (r e : ℕ) → AgreeTo n w v → e < n → AgreeBelow (e + 1) (from_clock r (line_at DRDY w)) (from_clock r (line_at DRDY v))
 unfolding from_clock
@@ -91,11 +92,12 @@ end_of-stays n w v i s e a l h m k =
     let g : response_clock_of v i ≡ Some r = response_clock_of-stays n w v i r a below f in
     let same : moves_data w i ≡ moves_data v i = moves_data-stays n w v i s r a l h below f in
     elim (cases_Bool (moves_data w i)) [
-      inl t ↦
-        end_of-moving v i r (sym same ∙ t) g
-        ∙ nth_where-carried (from_clock r (line_at DRDY w)) (from_clock r (line_at DRDY v)) 3 (length w) (length v) e
-            (drdy_below n w v r e a m) (omega (arith, a.right)) (sym (end_of-moving w i r t f) ∙ k)
-    | inr u ↦ end_of-still v i (sym same ∙ u) ∙ g ∙ sym f ∙ sym (end_of-still w i u) ∙ k ]
+      | inl t ↦
+          end_of-moving v i r (sym same ∙ t) g
+          ∙ nth_where-carried (from_clock r (line_at DRDY w)) (from_clock r (line_at DRDY v)) 3 (length w) (length v) e
+          (drdy_below n w v r e a m) (omega (arith, a.right)) (sym (end_of-moving w i r t f) ∙ k)
+      | inr u ↦ end_of-still v i (sym same ∙ u) ∙ g ∙ sym f ∙ sym (end_of-still w i u) ∙ k
+    ]
 
 trdy_below : (n : ℕ) (w v : Trace) (b y : ℕ) → AgreeTo n w v → y < n → AgreeBelow (y + 1) (from_clock b (line_at TRDY w)) (from_clock b (line_at TRDY v))
 unfolding from_clock
@@ -136,9 +138,11 @@ ready_after-stays n w v (suc i) b a l h =
     let before = snoop_end_of-before w i s (rw add-one p.2) in
     let t : ℕ = before.0 in
     let apart : t + 3 ≤ s = before.2 in
-    rw (snoop_end_of-stays n w v (suc i) s a (omega arith) p.2,
-        end_of-stays n w v i t e a (omega arith) before.1 (omega arith) p.3)
-        (ap (λ m. Some m) top)
+    rw (
+      snoop_end_of-stays n w v (suc i) s a (omega arith) p.2,
+      end_of-stays n w v i t e a (omega arith) before.1 (omega arith) p.3,
+    )
+    (ap (λ m. Some m) top)
 
 -- the ready clock of a request
 pub ready_clock_of-stays : (n : ℕ) (w v : Trace) (i y : ℕ) → AgreeTo n w v → y < n → ready_clock_of w i ≡ Some y → ready_clock_of v i ≡ Some y
@@ -148,5 +152,5 @@ ready_clock_of-stays n w v i y a l h =
     let b : ℕ = p.0 in
     let low : b < y = p.3 in
     ready_from_parts v i b y (ready_after-stays n w v i b a (omega arith) p.1)
-        (first_where-carried (from_clock (b + 1) (line_at TRDY w)) (from_clock (b + 1) (line_at TRDY v)) (length w) (length v) y
-            (trdy_below n w v (b + 1) y a l) (omega (arith, a.right)) p.2)
+    (first_where-carried (from_clock (b + 1) (line_at TRDY w)) (from_clock (b + 1) (line_at TRDY v)) (length w) (length v) y
+    (trdy_below n w v (b + 1) y a l) (omega (arith, a.right)) p.2)

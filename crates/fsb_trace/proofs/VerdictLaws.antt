@@ -47,9 +47,9 @@ pub verdict-stays : (n : ℕ) (w v : Trace) (c j : ℕ) → AgreeTo n w v → c 
 verdict-stays n w v c j a l e =
     let p = verdict-parts w c j e in
     verdict-from_parts v c j
-        (first_where-carried (is_foul w) (is_foul v) (length w) (length v) c
-            (record { same = λ d k. is_foul-agree w v d (AgreeTo-less n (d + 1) w v (omega arith) a) }) (omega (arith, a.right)) p.0)
-        (sym (least_rule-agree w v c (AgreeTo-less n (c + 1) w v (omega arith) a)) ∙ p.1)
+    (first_where-carried (is_foul w) (is_foul v) (length w) (length v) c
+    (record { same = λ d k. is_foul-agree w v d (AgreeTo-less n (d + 1) w v (omega arith) a) }) (omega (arith, a.right)) p.0)
+    (sym (least_rule-agree w v c (AgreeTo-less n (c + 1) w v (omega arith) a)) ∙ p.1)
 
 not_foul : (w : Trace) (c : ℕ) (o : Option ℕ) → least_rule w c ≡ o → is_some o ≡ false → least_rule w c ≡ None
 not_foul w c None e f = e

@@ -80,5 +80,6 @@ have_same_id a b = is_some_and a (λ r. is_some_and b (λ s. nat_eq r.did s.did)
 unfoldable pub line_of : Trace → ℕ → Option ℕ
 line_of w q =
     elim (winner_at w q) [
-      Some who ↦ elim who [ Symmetric a ↦ option_map (λ s. s.addr.bits / 4) (slice_get w q) | Priority ↦ None ]
-    | None ↦ None ]
+      | Some who ↦ elim who [ Symmetric a ↦ option_map (λ s. s.addr.bits / 4) (slice_get w q) | Priority ↦ None ]
+      | None ↦ None
+    ]

@@ -88,7 +88,7 @@ unfoldable pub is_result_unfit_for : Trace → ℕ → ℕ → Bool
 is_result_unfit_for v c i =
     is_at (snoop_end_of v i) c
     && ((is_write_back (live_request_of v i) || is_reply (live_request_of v i)) && (line_at HITM v c || line_at DEFER v c)
-        || is_write_back (live_request_of v i) && line_at HIT v c)
+    || is_write_back (live_request_of v i) && line_at HIT v c)
 
 -- 12 snoop results of write-backs and replies: such a request has its snoop end at c
 unfoldable pub is_snoop_result_unfit : Trace → ℕ → Bool
@@ -119,7 +119,7 @@ is_code_for v i code =
     else (if is_write_back (live_request_of v i) then nat_eq code (response_code_of Written)
     else (if line_at_snoop_end DEFER v i
     then nat_eq code (response_code_of Retried)
-        || has_den (live_request_of v i) && nat_eq code (response_code_of Deferred)
+    || has_den (live_request_of v i) && nat_eq code (response_code_of Deferred)
     else nat_eq code (response_code_of Granted)))
 
 -- RS# is neither idle nor a hard failure at c

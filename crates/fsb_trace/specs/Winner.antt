@@ -71,10 +71,12 @@ last_if_asking w d (Some who) = if line_at (request_line_of who) w d then Some w
 unfoldable pub winner_by : Trace → ℕ → Turns → Option Who
 winner_by w d turns =
     elim (line_at LOCK w d) [
-      true ↦ last_if_asking w d turns.last
-    | false ↦ elim (line_at BPRI w d) [
-        true ↦ Some Priority
-      | false ↦ option_map Symmetric (first_asking w d (first_in_order turns.symmetric)) ] ]
+      | true ↦ last_if_asking w d turns.last
+      | false ↦ elim (line_at BPRI w d) [
+        | true ↦ Some Priority
+        | false ↦ option_map Symmetric (first_asking w d (first_in_order turns.symmetric))
+      ]
+    ]
 
 -- the winner at c after these requests, by the lines two clocks before; below clock 2 there is none
 unfoldable pub winner_after : Trace → ℕ → Turns → Option Who
@@ -85,8 +87,9 @@ unfoldable pub turns_before : Trace → ℕ → Turns
 turns_before w zero = no_turns
 turns_before w (suc c) =
     elim (line_at ADS w c) [
-      true ↦ let turns = turns_before w c in then_begun turns (winner_after w c turns)
-    | false ↦ turns_before w c ]
+      | true ↦ let turns = turns_before w c in then_begun turns (winner_after w c turns)
+      | false ↦ turns_before w c
+    ]
 
 -- the winner at c
 unfoldable pub winner_at : Trace → ℕ → Option Who

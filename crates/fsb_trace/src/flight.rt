@@ -7,7 +7,9 @@ ghost use Rattle.fsb_trace.specs.Deferral.{answers, is_answered};
 use crate::at::{line_at, request_at};
 use crate::clocks::{any_where, count_where, first_where};
 use crate::ending::end_clock_of;
-use crate::request::{have_same_id, is_cancelled, is_live, is_reply, live_number_of, live_request_of};
+use crate::request::{
+    have_same_id, is_cancelled, is_live, is_reply, live_number_of, live_request_of,
+};
 use crate::snoop::is_before;
 use crate::told::{is_deferred, response_clock_of};
 use fsb_signal::{Lines, Sample};
@@ -102,7 +104,11 @@ fn last_clock_of(w: &[Sample], i: usize) -> Option<usize>
     requires { length w.now < 2 ^ 32 }
     ensures { result ≡ last_clock_of w.now i }
 {
-    if is_deferred(w, i) { reply_end_of(w, i) } else { end_clock_of(w, i) }
+    if is_deferred(w, i) {
+        reply_end_of(w, i)
+    } else {
+        end_clock_of(w, i)
+    }
 }
 
 /// Whether the request that begins at `q` is live, and was outstanding for the last time below `c`.

@@ -6,9 +6,10 @@ ghost use Rattle.fsb_trace.specs.Verdict.{is_broken, least_rule, is_foul, verdic
 
 use crate::clocks::first_where;
 use crate::rules::{
-    has_no_winner, has_unknown_data, has_unknown_line, is_code_unlawful, is_code_wrong, is_data_wrong, is_error_alone,
-    is_identity_wrong, is_lock_alone, is_outstanding_wrong, is_queue_full, is_request_blocked, is_request_too_soon,
-    is_response_early, is_snoop_line_alone, is_snoop_result_unfit, is_some_asked_wrongly, is_target_ready_wrong,
+    has_no_winner, has_unknown_data, has_unknown_line, is_code_unlawful, is_code_wrong,
+    is_data_wrong, is_error_alone, is_identity_wrong, is_lock_alone, is_outstanding_wrong,
+    is_queue_full, is_request_blocked, is_request_too_soon, is_response_early, is_snoop_line_alone,
+    is_snoop_result_unfit, is_some_asked_wrongly, is_target_ready_wrong,
 };
 use fsb_signal::Sample;
 

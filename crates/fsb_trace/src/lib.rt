@@ -6,7 +6,10 @@
 #![tactic(auto)]
 
 pub use judge::verdict;
-pub use laws::{numbers_stay, one_snoop_at_a_clock, requests_rise, rules_rest_on_the_past, snoop_ends_rise, verdict_is_least};
+pub use laws::{
+    numbers_stay, one_snoop_at_a_clock, requests_rise, rules_rest_on_the_past, snoop_ends_rise,
+    verdict_is_least,
+};
 pub use numbers::{end_of, outcome_of, response, snoop_end};
 pub use outcome::{Outcome, code_of, moves};
 pub use request::requests;
@@ -24,8 +27,12 @@ mod numbers;
 mod outcome;
 mod request;
 mod rules;
+#[cfg(test)]
+mod runs;
 mod seen;
 mod snoop;
+#[cfg(test)]
+mod tests;
 mod told;
 mod turns;
 mod who;

@@ -53,6 +53,11 @@ pub(crate) fn is_deferral(outcome: Outcome) -> bool
 {
     match outcome {
         Outcome::Deferred => true,
-        Outcome::Granted | Outcome::Handed | Outcome::Retried | Outcome::Written | Outcome::Replied | Outcome::Failed => false,
+        Outcome::Granted
+        | Outcome::Handed
+        | Outcome::Retried
+        | Outcome::Written
+        | Outcome::Replied
+        | Outcome::Failed => false,
     }
 }

@@ -32,7 +32,8 @@ pub fn has_unknown_line(v: &[Sample], c: usize) -> bool
 pub fn is_request_too_soon(v: &[Sample], c: usize) -> bool
     ensures { result ≡ is_request_too_soon v.now c }
 {
-    line_at(Lines::ADS, v, c) && (c < 2 || line_back(Lines::ADS, v, c, 1) || line_back(Lines::ADS, v, c, 2))
+    line_at(Lines::ADS, v, c)
+        && (c < 2 || line_back(Lines::ADS, v, c, 1) || line_back(Lines::ADS, v, c, 2))
 }
 
 /// Rule 3, lawful codes.
@@ -124,7 +125,8 @@ fn is_asked_wrongly(v: &[Sample], c: usize, who: Who) -> bool
 pub fn is_some_asked_wrongly(v: &[Sample], c: usize) -> bool
     ensures { result ≡ is_some_asked_wrongly v.now c }
 {
-    any_where(4, |a| is_asked_wrongly(v, c, Who::Symmetric(a as u8))) || is_asked_wrongly(v, c, Who::Priority)
+    any_where(4, |a| is_asked_wrongly(v, c, Who::Symmetric(a as u8)))
+        || is_asked_wrongly(v, c, Who::Priority)
 }
 
 /// Rule 9, lock begins with a request.
@@ -149,7 +151,8 @@ pub fn is_snoop_line_alone(v: &[Sample], c: usize) -> bool
     requires { length v.now < 2 ^ 32 }
     ensures { result ≡ is_snoop_line_alone v.now c }
 {
-    (line_at(Lines::HIT, v, c) || line_at(Lines::HITM, v, c) || line_at(Lines::DEFER, v, c)) && !is_snoop_clock(v, c)
+    (line_at(Lines::HIT, v, c) || line_at(Lines::HITM, v, c) || line_at(Lines::DEFER, v, c))
+        && !is_snoop_clock(v, c)
 }
 
 /// Whether live request `i` has its snoop end at `c` with a result that does not fit it.
@@ -160,7 +163,8 @@ fn is_result_unfit_for(v: &[Sample], c: usize, i: usize) -> bool
 {
     let request = live_request_of(v, i);
     let writes_back = is_write_back(request);
-    let is_unfit = (writes_back || is_reply(request)) && (line_at(Lines::HITM, v, c) || line_at(Lines::DEFER, v, c))
+    let is_unfit = (writes_back || is_reply(request))
+        && (line_at(Lines::HITM, v, c) || line_at(Lines::DEFER, v, c))
         || writes_back && line_at(Lines::HIT, v, c);
     is_at(snoop_end_of(v, i), c) && is_unfit
 }
@@ -381,7 +385,8 @@ fn is_begun_wrongly(v: &[Sample], q: usize) -> bool
     if is_reply(request_at(v, q)) {
         !any_where(live_count(v), |i| awaits_reply(v, q, i))
     } else {
-        any_where(q, |p| is_id_taken_by(v, q, p)) || count_where(q, |p| is_outstanding_of_winner(v, q, p)) >= 4
+        any_where(q, |p| is_id_taken_by(v, q, p))
+            || count_where(q, |p| is_outstanding_of_winner(v, q, p)) >= 4
     }
 }
 

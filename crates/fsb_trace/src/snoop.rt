@@ -138,7 +138,9 @@ fn is_snoop_clock_of(w: &[Sample], c: usize, i: usize) -> bool
     ensures { result ≡ is_snoop_clock_of w.now c i }
 {
     match snoop_start_of(w, i) {
-        Some(start) => c < w.len() && is_every_second_from(start, c) && !is_before(snoop_end_of(w, i), c),
+        Some(start) => c < w.len()
+            && is_every_second_from(start, c)
+            && !is_before(snoop_end_of(w, i), c),
         None => false,
     }
 }

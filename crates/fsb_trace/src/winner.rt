@@ -149,7 +149,11 @@ fn winner_by(w: &[Sample], d: usize, turns: Turns) -> Option<Who>
 fn winner_after(w: &[Sample], c: usize, turns: Turns) -> Option<Who>
     ensures { result ≡ winner_after w.now c turns }
 {
-    if c < 2 { None } else { winner_by(w, c - 2, turns) }
+    if c < 2 {
+        None
+    } else {
+        winner_by(w, c - 2, turns)
+    }
 }
 
 /// Which agents began the requests before `c`.

@@ -11,16 +11,19 @@ loop-c-init g c = record { most = omega arith; count = λ p h. refl }
 pub loop-c-preserved : goal.loop-c-preserved
 loop-c-preserved g c =
     elim c.if-test.branch [
-      then-test w ↦ record {
+      | then-test w ↦ record {
         most = omega arith;
         count = λ p h.
             w.passed-is ∙ ap (λ m. m + 1) (c.loop-c.invariant.count p h)
-            ∙ sym (count_where-passed p c.loop-c.c (sym (h c.loop-c.c true c.loop-c-test.true w.if-test.ensures))) }
-    | else-test w ↦ record {
+            ∙ sym (count_where-passed p c.loop-c.c (sym (h c.loop-c.c true c.loop-c-test.true w.if-test.ensures)));
+      }
+      | else-test w ↦ record {
         most = omega arith;
         count = λ p h.
             w.passed-is ∙ c.loop-c.invariant.count p h
-            ∙ sym (count_where-failed p c.loop-c.c (sym (h c.loop-c.c false c.loop-c-test.true w.if-test.ensures))) } ]
+            ∙ sym (count_where-failed p c.loop-c.c (sym (h c.loop-c.c false c.loop-c-test.true w.if-test.ensures)));
+      }
+    ]
 
 pub returns : goal.returns
 returns g c = λ p h. c.loop-c.invariant.count p h ∙ ap (count_where p) (let e : c.loop-c.c ≡ c.args.n = omega arith in e)

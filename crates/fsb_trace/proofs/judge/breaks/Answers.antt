@@ -7,7 +7,8 @@ use Rattle.fsb_trace.proofs.judge.breaks.Goals as goal
 pub returns-in_default : goal.returns-in_default
 returns-in_default c =
     elim (cases_lt 18 c.args.j) [
-      inl past ↦ sym (breaks-past c.args.v.now c.args.c c.args.j past)
-    | inr within ↦
-        let none : c.args.j ≡ 0 = omega arith in
-        sym (ap (breaks c.args.v.now c.args.c) none ∙ breaks-none c.args.v.now c.args.c) ]
+      | inl past ↦ sym (breaks-past c.args.v.now c.args.c c.args.j past)
+      | inr within ↦
+          let none : c.args.j ≡ 0 = omega arith in
+          sym (ap (breaks c.args.v.now c.args.c) none ∙ breaks-none c.args.v.now c.args.c)
+    ]
