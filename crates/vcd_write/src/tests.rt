@@ -1,3 +1,6 @@
+ghost use Rattle.std.specs.Prelude.{◌≡◌, [], ◌∷◌};
+ghost use Rattle.fsb_signal.specs.Samples.{known_sample};
+
 use crate::{put_clock, put_dump, put_header};
 use fsb_io::{Failed, MemSink};
 use fsb_signal::{Lines, Sample, idle_sample};
@@ -73,7 +76,9 @@ b111111111111111111111111111111101 +
 ";
 
 /// Clocks 1 to 3 of a run: an agent asks for the bus, and reads a line.
-fn read_of_a_line() -> [Sample; 3] {
+fn read_of_a_line() -> [Sample; 3]
+    ensures { result ≡ known_sample 1 0 0 0 ∷ known_sample 129 6 8 0 ∷ known_sample 0 2 2 0 ∷ [] }
+{
     let asks = Sample::known(Lines::BREQ0, 0, 0, 0);
     let begins = Sample::known(Lines(Lines::BREQ0.0 + Lines::ADS.0), 6, 8, 0);
     let goes_on = Sample::known(Lines(0), 2, 2, 0);
@@ -112,11 +117,12 @@ fn dump_fault(rt: HostRuntime) -> Result<(), Fail> {
     let mut sink = MemSink::new(rt.alloc(), 2_000, &[2])?;
     assert_eq!(rt; put_dump(&mut sink, &samples), Err(Failed));
     assert_eq!(rt; sink.holds(), whole.holds(), "the header and clock 0");
-    let clock_zero = b"#5\n1!\n";
+    let mut clock_zero = MemSink::new(rt.alloc(), 10, &[])?;
     assert_eq!(rt;
-        &whole.holds()[whole.holds().len() - 6..],
-        clock_zero.as_slice()
+        put_clock(&mut clock_zero, 0, &idle_sample(), &samples[0]),
+        Ok(())
     );
+    assert_eq!(rt; clock_zero.holds(), b"#5\n1!\n".as_slice());
     assert_eq!(rt; sink.faults(), 1);
     Ok(())
 }
