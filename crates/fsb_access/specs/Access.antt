@@ -35,7 +35,7 @@ is_size size = (size == 1) || (size == 2) || (size == 4) || (size == 8)
 abbrev pub is_place : ℕ → ℕ → Bool
 is_place size addr = is_size size && nat_lt addr (2 ^ 36) && (addr % size == 0)
 
--- the number is one of so many bytes
+-- the number is below 2^(8 * size)
 abbrev pub fits : ℕ → ℕ → Bool
 fits size number = nat_lt number (2 ^ (8 * size))
 

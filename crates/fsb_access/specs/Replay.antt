@@ -16,7 +16,8 @@ pub record ReplayState : Type 0 where
 abbrev pub start_of : List Setting → ReplayState
 start_of settings = record { memory = memory_of settings; last = λ _. 0 }
 
--- what a store of so many bytes puts: the literal, or the last loaded value plus a number, cut to those bytes
+-- what a store of so many bytes puts: the literal, or the sum of the last loaded value and a number, that sum cut to those
+-- bytes
 abbrev pub put_of : ℕ → ℕ → Operand → ℕ
 put_of size last (Literal number) = number
 put_of size last (LastPlus number) = (last + number) % 2 ^ (8 * size)

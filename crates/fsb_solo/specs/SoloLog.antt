@@ -39,7 +39,7 @@ entry_of earlier access state clock = record {
   value = served_value state 0 access;
 }
 
--- the entries of the items that are left, one access after the other, as long as they are completed before the last clock
+-- the entries of the items that are left, one access after the other, as long as their clocks are below the number of clocks
 abbrev pub log_from : ℕ → List Item → ReplayState → ℕ → List Item → List Done
 log_from clocks earlier state first [] = []
 log_from clocks earlier state first (One access ∷ items) =

@@ -1,11 +1,11 @@
 -- What a call of `bench` leaves behind, by its status.
-use Rattle.std.specs.Prelude.{◌≡◌, ℕ, ◌++◌, List, Option, Some, Result, Ok, Err}
+use Rattle.std.specs.Prelude.{◌≡◌, ℕ, ◌++◌, List, Option, Some}
 use Rattle.fsb_access.specs.Replay.{Served}
 use Rattle.fsb_access.specs.ScriptOrder.{InOrder, script_of}
 use Rattle.fsb_access.specs.declared.log.Done.{Done as Entry}
 use Rattle.fsb_io.specs.Appends.{AppendsPart}
 use Rattle.fsb_report.specs.LogText.{log_text}
-use Rattle.fsb_script.specs.Drafts.{plan_of}
+use Rattle.fsb_script.specs.Drafts.{BenchText, FirstBad}
 use Rattle.fsb_script.specs.Plans.{PlanView}
 use Rattle.fsb_script.specs.declared.fault.ScriptFault.{ScriptFault}
 use Rattle.fsb_signal.specs.DumpText.{dump_text}
@@ -102,7 +102,7 @@ pub record HasPlan (words : List (List ℕ)) (held left : List ℕ) (begun_as : 
   pub form : form_of words ≡ Some (run bench dump)
   pub read : HasRead held bench left begun_as
   pub plan : PlanView
-  pub is_bench : plan_of held ≡ Ok plan
+  pub is_bench : BenchText held plan
   pub served : Served plan.mem (plan_log plan)
   pub in_order : InOrder plan.scripts (plan_log plan)
 
@@ -112,4 +112,4 @@ pub record IsBadBench (words : List (List ℕ)) (held left : List ℕ) (begun_as
   pub dump : Option (List ℕ)
   pub form : form_of words ≡ Some (run bench dump)
   pub read : HasRead held bench left begun_as
-  pub is_bad : plan_of held ≡ Err fault
+  pub is_bad : FirstBad held fault

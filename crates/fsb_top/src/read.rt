@@ -1,7 +1,7 @@
 //! The reading of a bench file.
-ghost use Rattle.std.specs.Prelude.{◌≡◌, ◌≤◌, ◌<◌, IsTrue, IfOk, Err, Ok, length};
+ghost use Rattle.std.specs.Prelude.{◌≡◌, ◌≤◌, ◌<◌, IsTrue, IfOk, Err, length};
 ghost use Rattle.fsb_io.specs.Faults.{Rose};
-ghost use Rattle.fsb_script.specs.Drafts.{plan_of};
+ghost use Rattle.fsb_script.specs.Drafts.{BenchText, FirstBad};
 ghost use Rattle.fsb_script.specs.View.{plan_view};
 ghost use Rattle.fsb_script.specs.declared.fault.ScriptFault.{ScriptFault};
 ghost use Rattle.fsb_top.specs.Reading.{HasRead};
@@ -30,8 +30,8 @@ pub enum Refusal {
 pub fn read_plan<S: Source>(alloc: Global, name: &str, source: &mut S) -> Result<Plan, Refusal>
     requires { length name.now ≤ 4096 }
     ensures whole { IsTrue S.tells → IfOk result (λ plan. HasRead (S.holds source.old) name.now (S.left source.new) (S.begun_as source.new)) }
-    ensures plan { IsTrue S.tells → IfOk result (λ plan. plan_of (S.holds source.old) ≡ Ok (plan_view plan)) }
-    ensures bad { IsTrue S.tells → (f : ScriptFault) → result ≡ Err (Refusal.Bad f) → plan_of (S.holds source.old) ≡ Err f }
+    ensures plan { IsTrue S.tells → IfOk result (λ plan. BenchText (S.holds source.old) (plan_view plan)) }
+    ensures bad { IsTrue S.tells → (f : ScriptFault) → result ≡ Err (Refusal.Bad f) → FirstBad (S.holds source.old) f }
     ensures bad_whole { IsTrue S.tells → (f : ScriptFault) → result ≡ Err (Refusal.Bad f)
         → HasRead (S.holds source.old) name.now (S.left source.new) (S.begun_as source.new) }
     ensures too_long { IsTrue S.tells → result ≡ Err Refusal.TooLong → 4194304 < length (S.holds source.old) }

@@ -1,10 +1,10 @@
 //! The top call.
-ghost use Rattle.std.specs.Prelude.{◌≡◌, ◌<◌, ◌≤◌, ◌↔◌, IsTrue, Option, None, Some, List, ℕ, Ok, length};
+ghost use Rattle.std.specs.Prelude.{◌≡◌, ◌<◌, ◌≤◌, ◌↔◌, IsTrue, Option, None, Some, List, ℕ, length};
 ghost use Rattle.std.specs.Option.{option_map, ForSome};
 ghost use Rattle.fsb_access.specs.Replay.{Served};
 ghost use Rattle.fsb_access.specs.ScriptOrder.{InOrder};
 ghost use Rattle.fsb_io.specs.Faults.{Rose};
-ghost use Rattle.fsb_script.specs.Drafts.{plan_of};
+ghost use Rattle.fsb_script.specs.Drafts.{BenchText};
 ghost use Rattle.fsb_script.specs.Plans.{PlanView};
 ghost use Rattle.fsb_script.specs.View.{plan_view};
 ghost use Rattle.fsb_script.specs.declared.fault.ScriptFault.{ScriptFault};
@@ -51,13 +51,13 @@ pub fn bench<S: Source, O: Sink, D: Sink>(
 
     // What was written.
     ensures silent { IsSilent result → out.new ≡ out.old }
-    ensures log { IsTrue S.tells → IsTrue O.tells → (plan : PlanView) → plan_of (S.holds source.old) ≡ Ok plan
+    ensures log { IsTrue S.tells → IsTrue O.tells → (plan : PlanView) → BenchText (S.holds source.old) plan
         → IsLogged result plan (O.holds out.old) (O.holds out.new) }
     ensures log_name { IsTrue O.tells → O.begun_as out.new ≡ O.begun_as out.old }
     ensures no_dump { IsSilent result → dump.new ≡ dump.old }
     ensures not_begun { result ≡ Status.WriteFault → dump.new ≡ dump.old }
     ensures not_named { (bench : List ℕ) → form_of words.now ≡ Some (run bench None) → dump.new ≡ dump.old }
-    ensures dumped { IsTrue S.tells → IsTrue D.tells → (plan : PlanView) → plan_of (S.holds source.old) ≡ Ok plan
+    ensures dumped { IsTrue S.tells → IsTrue D.tells → (plan : PlanView) → BenchText (S.holds source.old) plan
         → (bench : List ℕ) (name : Option (List ℕ)) → form_of words.now ≡ Some (run bench name)
         → IsDumped result plan name (D.holds dump.old) (D.begun_as dump.old) (D.holds dump.new) (D.begun_as dump.new) }
 {
