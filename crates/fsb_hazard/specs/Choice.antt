@@ -31,12 +31,12 @@ join a b = record {
   turn = join_turns a.turn b.turn;
 }
 
--- whether requests of this kind always keep their turn
-abbrev pub always_keeps : Kind → Bool
-always_keeps Reply = true
-always_keeps Invalidate = false
-always_keeps Read = false
-always_keeps WriteBack = true
+-- whether requests of this kind are neither retried nor put off
+abbrev pub is_never_held_up : Kind → Bool
+is_never_held_up Reply = true
+is_never_held_up Invalidate = false
+is_never_held_up Read = false
+is_never_held_up WriteBack = true
 
 -- whether a request is put off for later
 abbrev pub is_defer : Turn → Bool
@@ -44,11 +44,11 @@ is_defer Keep = false
 is_defer Retry = false
 is_defer (Defer later) = true
 
--- the turn that counts, by the first rule that applies: a write-back or a reply keeps its turn; a request for a
+-- the turn that counts, by the first rule that applies: a write-back or a reply has Keep; a request for a
 -- pending line is retried; one that may not be deferred, or whose line is outside the window, is not; else as chosen
 abbrev pub effective_turn : Turn → Request → Bool → Bool → Turn
 effective_turn turn request in_window pending =
-    if always_keeps request.kind then Keep
+    if is_never_held_up request.kind then Keep
     else if pending then Retry
     else if is_defer turn && (not request.den || not in_window) then Keep
     else turn

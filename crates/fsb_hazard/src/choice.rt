@@ -90,7 +90,7 @@ fn join_turns(a: Turn, b: Turn) -> Turn
 }
 
 /// The choice that counts for a request at its snoop end, given whether its line is in the bridge's window and
-/// whether it is pending. A write-back or a reply keeps its turn. Any other request for a pending line is retried.
+/// whether it is pending. The turn of a write-back or a reply is `Keep`. Any other request for a pending line is retried.
 /// A request without DEN#, or for a line outside the window, is not deferred. All else stays as it was chosen.
 pub fn effective(choice: &Choice, request: &Request, in_window: bool, pending: bool) -> Choice
     ensures { result ≡ effective choice.now request.now in_window pending }

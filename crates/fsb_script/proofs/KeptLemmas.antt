@@ -13,7 +13,7 @@ use Rattle.fsb_access.specs.declared.item.Item.TheVariants.{Locked}
 use Rattle.fsb_script.specs.declared.place.Place.{Place}
 use Rattle.fsb_script.specs.declared.place.Place.TheVariants as places
 use Rattle.fsb_script.specs.Drafts.{place_behind}
-use Rattle.fsb_script.specs.Kept.{are_counts, is_fresh, has_all, has_lock_room, has_ones, is_one}
+use Rattle.fsb_script.specs.Kept.{are_counts, is_fresh, has_all, has_lock_room}
 
 pub both : (a b : Bool) → a ≡ true → b ≡ true → (a && b) ≡ true
 both true true p q = refl
@@ -52,10 +52,6 @@ scripts_none cache (items ∷ scripts) none = absurd (omega arith)
 pub hazard_push : (lines : List HazardLine) (line : HazardLine) → IsTrue (are_lawful_hazards lines) → length lines < 4096 → IsTrue (is_lawful_hazard line) → IsTrue (are_lawful_hazards (lines ++ line ∷ []))
 unfolding are_lawful_hazards
 hazard_push lines line old room new = both _ _ (short_push lines line room) (all_push is_lawful_hazard lines line (second_of_both _ _ old) new)
-
-pub ones_push : (items : List Item) (item : Item) → IsTrue (has_ones items) → IsTrue (is_one item) → IsTrue (has_ones (items ++ item ∷ []))
-unfolding has_ones
-ones_push items item old new = all_push is_one items item old new
 
 -- ---- empty lists
 

@@ -33,6 +33,7 @@ is_lock_size accesses = (nat_le 1 (length accesses) && nat_le (length accesses) 
 abbrev pub is_apart : ℕ → ℕ → ℕ → Bool
 is_apart cache line other = (line == other) || not (line % cache == other % cache)
 
+-- whether a line may be held beside each of these accesses' lines
 abbrev pub is_apart_from_all : ℕ → ℕ → List Access → Bool
 is_apart_from_all cache line accesses = list_all (λ other. is_apart cache line (line_of other)) accesses
 
@@ -56,6 +57,7 @@ is_lawful_window window =
     (nat_lt window.base (2 ^ 36) && (window.base % 32 == 0))
     && ((nat_lt 0 window.size && (window.size % 32 == 0)) && nat_le (window.base + window.size) (2 ^ 36))
 
+-- no bridge, or one with a lawful window
 abbrev pub is_lawful_bridge : Option Window → Bool
 is_lawful_bridge None = true
 is_lawful_bridge (Some window) = is_lawful_window window

@@ -59,11 +59,13 @@ beginning = record {
 
 -- ---- the lines with a fixed place
 
+-- the words of the first line, and what follows them
 unfoldable pub heading_of : List ℕ → Result (List ℕ) Cause
 heading_of line = do
   rest ← keyword (codes "p6bench") line
   keyword (codes "1") rest
 
+-- the heading was read, and no word follows it
 abbrev pub ends_heading : Result (List ℕ) Cause → Bool
 ends_heading (Ok rest) = is_empty (skip_blanks rest)
 ends_heading (Err cause) = false
@@ -147,18 +149,21 @@ one_item d access = do
   e ← named_line d (line_of access)
   Ok (record e { script = e.script ++ One access ∷ [] })
 
+-- `ld SIZE ADDRESS`, an item by itself
 unfoldable pub load_item : Progress → List ℕ → Result Progress Cause
 load_item d line = do
   e ← room d
   access ← load_of line
   one_item d access
 
+-- `st SIZE ADDRESS VALUE`, an item by itself
 unfoldable pub store_item : Progress → List ℕ → Result Progress Cause
 store_item d line = do
   e ← room d
   access ← store_of line
   one_item d access
 
+-- `idle CLOCKS`
 unfoldable pub idle_item : Progress → List ℕ → Result Progress Cause
 idle_item d line = do
   e ← room d
@@ -227,17 +232,20 @@ locked_line d word line =
 abbrev pub hazard_room : Progress → Result Progress Cause
 hazard_room d = require (nat_lt (length d.hazards) 4096) Range d
 
+-- one more hazard line, where its form is built
 unfoldable pub add_hazard : Progress → HazardLine → Result Progress Cause
 add_hazard d line = do
   hazard ← built (forms.Hazard line) line
   Ok (record d { hazards = d.hazards ++ hazard ∷ [] })
 
+-- `tx REQUEST HAZARD ..`
 unfoldable pub transaction_line : Progress → List ℕ → Result Progress Cause
 transaction_line d line = do
   e ← hazard_room d
   hazard ← transaction_of line
   add_hazard d hazard
 
+-- `bnr FROM TO`
 unfoldable pub block_line : Progress → List ℕ → Result Progress Cause
 block_line d line = do
   e ← hazard_room d
@@ -253,17 +261,20 @@ hazard_line d word line =
 
 -- ---- every line
 
+-- a line behind `bridge`: a setting, or the first agent
 unfoldable pub memory_line : Progress → List ℕ → List ℕ → Result Progress Cause
 memory_line d word line =
     if bytes_eq word (codes "mem") then mem_line d line
     else (if bytes_eq word (codes "agent") then agent_line d line
     else Err Word)
 
+-- a line behind `ahead`: the bridge, a setting, or the first agent
 unfoldable pub body_line : Progress → List ℕ → List ℕ → Result Progress Cause
 body_line d word line =
     if bytes_eq word (codes "bridge") then bridge_line d line
     else memory_line d word line
 
+-- a line between two scripts: the next agent
 unfoldable pub next_agent_line : Progress → List ℕ → List ℕ → Result Progress Cause
 next_agent_line d word line = if bytes_eq word (codes "agent") then agent_line d line else Err Word
 
@@ -276,6 +287,7 @@ choice_at places.Items d word line = item_line d word line
 choice_at places.Locked d word line = locked_line d word line
 choice_at _ d word line = hazard_line d word line
 
+-- a line whose first word says which of those that may stand there it is
 unfoldable pub choice_line : Progress → List ℕ → Result Progress Cause
 choice_line d line = do
   w ← next_word line
@@ -305,6 +317,8 @@ after_line d line = if is_past d.place line then Ok d else line_at d.place d lin
 abbrev pub plan_so_far : Progress → PlanView
 plan_so_far d = record { scripts = d.scripts; clocks = d.clocks; cache = d.cache; ahead = d.ahead; bridge = d.bridge; mem = d.mem; hazards = d.hazards }
 
+-- the answer at the end of the file: the plan where the last script has ended, FirstLine where there was no line, else
+-- Missing
 abbrev pub end_at : ℕ → Progress → Place → Result PlanView ScriptFault
 end_at number d places.First = Err (record { line = number; cause = FirstLine })
 end_at number d places.Hazards = Ok (plan_so_far d)
@@ -314,6 +328,7 @@ end_at number d _ = Err (record { line = number; cause = Missing })
 unfoldable pub end_of : ℕ → Progress → Result PlanView ScriptFault
 end_of number d = end_at number d d.place
 
+-- the same answer, with the number of its line where it is a fault
 abbrev pub on_line : ℕ → Result Progress Cause → Result Progress ScriptFault
 on_line number (Ok d) = Ok d
 on_line number (Err cause) = Err (record { line = number; cause = cause })

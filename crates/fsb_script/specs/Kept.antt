@@ -1,12 +1,8 @@
 -- What a draft keeps while it is read.
-use Rattle.std.specs.Prelude.{ℕ, List, length, Option, Bool, true, false, ◌&&◌, ◌||◌, not, nat_lt, nat_le, ◌==◌, is_none}
-use Rattle.std.specs.List.{list_all}
+use Rattle.std.specs.Prelude.{ℕ, List, length, Bool, true, false, ◌&&◌, ◌||◌, not, nat_lt, nat_le, ◌==◌}
 use Rattle.fsb_access.specs.declared.item.Item.{Item}
-use Rattle.fsb_access.specs.declared.item.Item.TheVariants.{One, Locked, Idle}
-use Rattle.fsb_hazard.specs.declared.line.HazardLine.{HazardLine}
 use Rattle.fsb_script.specs.declared.place.Place.{Place}
 use Rattle.fsb_script.specs.declared.place.Place.TheVariants as places
-use Rattle.fsb_script.specs.declared.plan.Window.{Window}
 
 -- the numbers of the head are within their bounds
 abbrev pub are_counts : ℕ → ℕ → ℕ → Bool
@@ -24,6 +20,7 @@ is_early _ = false
 unfoldable pub is_fresh : Place → List (List Item) → List Item → Bool
 is_fresh place scripts script = not (is_early place) || ((length scripts == 0) && (length script == 0))
 
+-- whether no script is read any more
 abbrev pub is_last : Place → Bool
 is_last places.Hazards = true
 is_last _ = false
@@ -32,6 +29,7 @@ is_last _ = false
 unfoldable pub has_all : Place → ℕ → List (List Item) → Bool
 has_all place agents scripts = not (is_last place) || (length scripts == agents)
 
+-- whether a locked item is open
 abbrev pub is_locked : Place → Bool
 is_locked places.Locked = true
 is_locked _ = false
@@ -39,16 +37,3 @@ is_locked _ = false
 -- a locked item that is open has its place in the script
 unfoldable pub has_lock_room : Place → List Item → Bool
 has_lock_room place script = not (is_locked place) || nat_lt (length script) 4096
-
--- an access by itself
-abbrev pub is_one : Item → Bool
-is_one (One access) = true
-is_one (Locked accesses) = false
-is_one (Idle clocks) = false
-
-unfoldable pub has_ones : List Item → Bool
-has_ones items = list_all is_one items
-
--- one agent that looks ahead by 1, no bridge and no hazard lines
-unfoldable pub is_plain : ℕ → ℕ → Option Window → List HazardLine → Bool
-is_plain agents ahead bridge hazards = ((agents == 1) && (ahead == 1)) && (is_none bridge && (length hazards == 0))

@@ -11,6 +11,7 @@ abbrev pub first_in : ℕ → ℕ → List ℕ → Option ℕ
 first_in cache set [] = None
 first_in cache set (line ∷ lines) = if line % cache == set then Some line else first_in cache set lines
 
+-- whether there is a line, and another one than this
 abbrev pub is_other : ℕ → Option ℕ → Bool
 is_other line None = false
 is_other line (Some other) = not (line == other)

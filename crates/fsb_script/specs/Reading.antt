@@ -27,6 +27,7 @@ abbrev pub LineFails : {Y : Type 0} → LineStop → Result Y Cause → Type 0
 LineFails stops.Memory read = Unit {0}
 LineFails (stops.Bad cause) read = read ≡ Err cause
 
+-- what a line's reading answered, seen by view, is what is defined; want of memory may come at any time
 abbrev pub LineGives : {X Y : Type 0} → (X → Y) → Result X LineStop → Result Y Cause → Type 0
 LineGives view (Ok x) read = read ≡ Ok (view x)
 LineGives view (Err e) read = LineFails e read
@@ -41,6 +42,7 @@ abbrev pub Fails : {Y : Type 0} → ScriptStop → Result Y ScriptFault → Type
 Fails ends.Memory read = Unit {0}
 Fails (ends.Bad fault) read = read ≡ Err fault
 
+-- what a text's reading answered, seen by view, is what is defined; want of memory may come at any time
 abbrev pub Gives : {X Y : Type 0} → (X → Y) → Result X ScriptStop → Result Y ScriptFault → Type 0
 Gives view (Ok x) read = read ≡ Ok (view x)
 Gives view (Err e) read = Fails e read

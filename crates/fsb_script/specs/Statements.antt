@@ -21,6 +21,7 @@ keyword name line = do
   w ← next_word line
   require (bytes_eq w.0 name) Word w.1
 
+-- the next word as the size of an access
 unfoldable pub size_at : List ℕ → Result (ℕ × List ℕ) Cause
 size_at line = do
   n ← decimal line
@@ -49,6 +50,7 @@ literal_of size word = do
   n ← hex_of word
   require (fits size n) Range n
 
+-- a word as the value of a store: a literal, or `r+` and what is added
 unfoldable pub operand_of : ℕ → List ℕ → Result Operand Cause
 operand_of size word =
     if is_added word then literal_of size (drop 2 word) >>= (λ n. Ok (LastPlus n))

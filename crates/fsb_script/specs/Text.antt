@@ -18,6 +18,7 @@ use Rattle.fsb_script.specs.Plans.{PlanView}
 abbrev pub feed : List ℕ
 feed = 10 ∷ []
 
+-- one space
 abbrev pub space : List ℕ
 space = 32 ∷ []
 
@@ -34,6 +35,7 @@ head_text agents clocks cache ahead =
 unfoldable pub window_text : Window → List ℕ
 window_text window = codes "bridge " ++ hexadecimal window.base ++ space ++ hexadecimal window.size ++ feed
 
+-- the line of the bridge, where there is one
 abbrev pub bridge_text : Option Window → List ℕ
 bridge_text None = []
 bridge_text (Some window) = window_text window
@@ -46,10 +48,12 @@ digit_text digit = if nat_lt digit 10 then 48 + digit else 87 + digit
 unfoldable pub setting_text : Setting → List ℕ
 setting_text setting = codes "mem " ++ hexadecimal setting.addr ++ space ++ digit_text (setting.byte / 16) ∷ [] ++ digit_text (setting.byte % 16) ∷ [] ++ feed
 
+-- the lines of the settings, one each
 abbrev pub settings_text : List Setting → List ℕ
 settings_text [] = []
 settings_text (setting ∷ settings) = setting_text setting ++ settings_text settings
 
+-- the value of a store, with `r+` before what is added
 abbrev pub operand_text : Operand → List ℕ
 operand_text (Literal number) = hexadecimal number
 operand_text (LastPlus number) = codes "r+" ++ hexadecimal number
@@ -59,10 +63,12 @@ unfoldable pub access_text : Access → List ℕ
 access_text (Load size addr) = codes "ld " ++ decimal size ++ space ++ hexadecimal addr ++ feed
 access_text (Store size addr value) = codes "st " ++ decimal size ++ space ++ hexadecimal addr ++ space ++ operand_text value ++ feed
 
+-- the lines of the accesses of a locked item
 abbrev pub accesses_text : List Access → List ℕ
 accesses_text [] = []
 accesses_text (access ∷ accesses) = access_text access ++ accesses_text accesses
 
+-- the line of an idle item
 unfoldable pub idle_text : ℕ → List ℕ
 idle_text clocks = codes "idle " ++ decimal clocks ++ feed
 
@@ -72,10 +78,12 @@ item_text (One access) = access_text access
 item_text (Locked accesses) = (codes "lock" ++ feed) ++ accesses_text accesses ++ (codes "unlock" ++ feed)
 item_text (Idle clocks) = idle_text clocks
 
+-- the lines of items, in order
 abbrev pub items_text : List Item → List ℕ
 items_text [] = []
 items_text (item ∷ items) = item_text item ++ items_text items
 
+-- the line that begins an agent's script
 unfoldable pub agent_text : ℕ → List ℕ
 agent_text number = codes "agent " ++ decimal number ++ feed
 
@@ -88,10 +96,11 @@ abbrev pub scripts_text : ℕ → List (List Item) → List ℕ
 scripts_text number [] = []
 scripts_text number (items ∷ scripts) = script_text number items ++ scripts_text (number + 1) scripts
 
--- a hazard with a count behind its word
+-- a hazard of a request, with a count behind its word
 abbrev pub turn_text : ℕ → List ℕ → List ℕ
 turn_text k word = codes "tx " ++ decimal k ++ word
 
+-- the line of a hazard, with its number where it has one
 unfoldable pub hazard_text : HazardLine → List ℕ
 hazard_text (Stall k n) = turn_text k (codes " stall ") ++ decimal n ++ feed
 hazard_text (Trdy k n) = turn_text k (codes " trdy ") ++ decimal n ++ feed
@@ -102,6 +111,7 @@ hazard_text (Defer k later) = turn_text k (codes " defer ") ++ decimal later ++ 
 hazard_text (Aerr k) = turn_text k (codes " aerr") ++ feed
 hazard_text (Bnr from to) = codes "bnr " ++ decimal from ++ space ++ decimal to ++ feed
 
+-- the lines of the hazards, in order
 abbrev pub hazards_text : List HazardLine → List ℕ
 hazards_text [] = []
 hazards_text (line ∷ lines) = hazard_text line ++ hazards_text lines

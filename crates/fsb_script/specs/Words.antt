@@ -9,6 +9,7 @@ abbrev pub in_front : ℕ → List (List ℕ) → List (List ℕ)
 in_front b [] = (b ∷ []) ∷ []
 in_front b (line ∷ lines) = (b ∷ line) ∷ lines
 
+-- a byte before lines: a line feed ends a line of its own, any other byte stands at the front of the first one
 abbrev pub before_lines : ℕ → List (List ℕ) → List (List ℕ)
 before_lines b lines = if b == 10 then [] ∷ lines else in_front b lines
 
@@ -41,6 +42,7 @@ abbrev pub begins_as_comment : List ℕ → Bool
 begins_as_comment [] = true
 begins_as_comment (b ∷ bs) = b == 35
 
+-- whether a line from the second on is read past
 unfoldable pub is_read_past : List ℕ → Bool
 is_read_past line = begins_as_comment (skip_blanks line)
 
@@ -53,6 +55,7 @@ word_at (b ∷ bs) = Ok (take (word_len (b ∷ bs)) (b ∷ bs), drop (word_len (
 unfoldable pub next_word : List ℕ → Result (List ℕ × List ℕ) Cause
 next_word line = word_at (skip_blanks line)
 
+-- whether nothing is left
 abbrev pub is_empty : List ℕ → Bool
 is_empty [] = true
 is_empty (b ∷ bs) = false

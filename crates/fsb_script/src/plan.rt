@@ -111,7 +111,7 @@ pub struct Plan {
     pub ahead: u8,
     /// The addresses whose requests may be deferred.
     pub bridge: Option<Window>,
-    /// The bytes of memory that are not 0 as the run begins; a later one of the same byte wins.
+    /// The bytes of memory that are set as the run begins, all others being 0; a later setting of a byte wins.
     pub mem: Settings,
     /// At most 4,096 lines.
     pub hazards: HazardLines,
