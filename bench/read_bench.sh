@@ -1,6 +1,7 @@
 #!/bin/sh
-# Measures how fast a bench file is read: a file of 4,095 loads and 3.9 MB of memory settings and comments, through
-# the built program (crates/p6bench/out/p6bench, made by `rt run` or `rt ci`) with no clock to run.
+# Measures how fast a bench file is read: 3.9 MB of memory settings and 4,095 loads, through the built program
+# (crates/p6bench/out/p6bench, made by `rt run` or `rt ci`). The last line is a fault, so the file is read whole and
+# nothing is run.
 # Usage: bench/read_bench.sh [PROGRAM]
 set -eu
 program=${1:-crates/p6bench/out/p6bench}
@@ -15,8 +16,8 @@ mem, n = [], 0
 while 140 * n + len(loads) < 3_950_000:
     mem.append(line % (64 * n))
     n += 1
-open(sys.argv[1], "w").write(head + "".join(mem) + "agent 0\n" + loads + "end\n")
-open(sys.argv[2], "w").write(head + "agent 0\nend\n")
+open(sys.argv[1], "w").write(head + "".join(mem) + "agent 0\n" + loads + "end\nbad\n")
+open(sys.argv[2], "w").write(head + "agent 0\nend\nbad\n")
 PY
 python3 - "$program" "$folder/large.bench" "$folder/small.bench" <<'PY'
 import os, resource, subprocess, sys, time
@@ -25,7 +26,8 @@ def best(path):
     times = []
     for _ in range(7):
         begin = time.perf_counter()
-        subprocess.run([program, "run", path], stdout=subprocess.DEVNULL)
+        status = subprocess.run([program, "run", path], stdout=subprocess.DEVNULL, stderr=subprocess.DEVNULL).returncode
+        assert status == 3, status
         times.append(time.perf_counter() - begin)
     return min(times)
 size = os.path.getsize(large)

@@ -1,0 +1,33 @@
+#!/bin/sh
+# Measures a run of 4,096 accesses over 200,000 clocks, without and with a dump, through the built program
+# (crates/p6bench/out/p6bench, made by `rt run` or `rt ci`).
+# Usage: bench/run_bench.sh [PROGRAM]
+set -eu
+program=${1:-crates/p6bench/out/p6bench}
+folder=$(mktemp -d)
+trap 'rm -rf "$folder"' EXIT
+python3 - "$program" "$folder" <<'PY'
+import os, resource, subprocess, sys, time
+program, folder = sys.argv[1:]
+bench = os.path.join(folder, "long.bench")
+dump = os.path.join(folder, "long.vcd")
+# 1,024 lines of sets of their own, each loaded first and then stored to and loaded again
+items = []
+for n in range(4096):
+    line, turn = n % 1024, n // 1024
+    items.append("ld 8 %x\n" % (32 * line) if turn % 2 == 0 else "st 8 %x %x\n" % (32 * line + 8, n))
+open(bench, "w").write("p6bench 1\nagents 1\nclocks 200000\ncache 1024\nahead 1\nagent 0\n" + "".join(items) + "end\n")
+def best(*words):
+    times = []
+    for _ in range(5):
+        begin = time.perf_counter()
+        subprocess.run([program, "run", bench, *words], stdout=subprocess.DEVNULL, check=True)
+        times.append(time.perf_counter() - begin)
+    return min(times)
+log = best()
+both = best(dump)
+size = os.path.getsize(dump)
+print(f"run, 4,096 accesses over 200,000 clocks: {log * 1000:.0f} ms")
+print(f"the same with a dump of {size} bytes ({size / 200000:.1f} a clock): {both * 1000:.0f} ms")
+print(f"most memory: {resource.getrusage(resource.RUSAGE_CHILDREN).ru_maxrss / 1024:.0f} MiB")
+PY
