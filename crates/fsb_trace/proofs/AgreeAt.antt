@@ -1,10 +1,8 @@
 -- Traces that agree have the same at a clock.
-use Rattle.std.proofs.Common.{ℕ, zero, suc, ◌+◌, ◌-◌, ◌<◌, ◌≤◌, ◌≡◌, Bool, true, false, Option, Some, None, List, [], ◌∷◌, length, take, refl, sym, ap, ◌∙◌, arith, leb, ◌&&◌, not, nat_eq, nat_lt, ◌⊎◌, inl, inr, add-one}
-use Rattle.std.specs.List.{slice_get}
-use Rattle.std.specs.Option.{option_and_then, option_map}
-use Rattle.std.proofs.lemmas.Bool.{cases_Bool, ltb-true, ltb-false}
-use Rattle.fsb_count.specs.Clocks.{AgreeBelow, count_where}
-use Rattle.fsb_count.proofs.Count.{count_where-same}
+use Rattle.std.proofs.Common.{ℕ, zero, suc, ◌+◌, ◌-◌, ◌<◌, ◌≤◌, ◌≡◌, true, false, Option, Some, None, [], ◌∷◌, take, refl, sym, ap, ◌∙◌, arith, nat_lt, inl, inr}
+use Rattle.std.specs.Option.{option_map}
+use Rattle.std.proofs.lemmas.Bool.{cases_Bool, ltb-false}
+use Rattle.fsb_count.specs.Clocks.{AgreeBelow}
 use Rattle.fsb_count.proofs.First.{first_where-same}
 use Rattle.fsb_signal.specs.declared.lines.Lines.{Lines}
 use Rattle.fsb_signal.specs.declared.lines.TheConstants.Lines.{ADS, AERR, LOCK, BPRI}
@@ -12,9 +10,9 @@ use Rattle.fsb_signal.specs.Samples.{line_at}
 use Rattle.fsb_trace.specs.declared.turns.Turns.{Turns}
 use Rattle.fsb_trace.specs.declared.who.Who.{Who}
 use Rattle.fsb_trace.specs.declared.who.Who.TheVariants.{Symmetric, Priority}
-use Rattle.fsb_trace.specs.At.{Trace, line_back, responds_at, response_code_at, stalls_at, known_pair_at, request_at}
+use Rattle.fsb_trace.specs.At.{Trace, responds_at, response_code_at, stalls_at, known_pair_at, request_at}
 use Rattle.fsb_trace.specs.Winner.{asks_in_order, first_asking, last_if_asking, request_line_of, first_in_order, winner_by, winner_after, turns_before, winner_at, then_begun}
-use Rattle.fsb_trace.specs.Requests.{is_cancelled, is_live, live_number_of}
+use Rattle.fsb_trace.specs.Requests.{is_cancelled, is_live}
 use Rattle.fsb_trace.specs.Agree.{AgreeTo}
 
 pub AgreeTo-sym : (n : ℕ) (w v : Trace) → AgreeTo n w v → AgreeTo n v w

@@ -1,5 +1,5 @@
 -- What live request i has to wait for, by whether it is the first.
-use Rattle.std.proofs.Common.{ℕ, zero, suc, ◌-◌, ◌+◌, ◌<◌, ◌≡◌, true, refl, arith, add-one}
+use Rattle.std.proofs.Common.{ℕ, ◌-◌, ◌+◌, ◌<◌, ◌≡◌, true, refl, arith, add-one}
 use Rattle.fsb_count.specs.Options.{is_before, greater_of}
 use Rattle.fsb_trace.specs.At.{Trace}
 use Rattle.fsb_trace.specs.Response.{end_of, is_clear_before, clock_after_snoop, ready_after}

@@ -1,7 +1,7 @@
 -- Samples written out, for traces laid out clock by clock.
-use Rattle.std.proofs.Common.{ℕ, ◌+◌, ◌%◌, ◌^◌, ◌<◌, ◌≡◌, refl, lit<, arith, List, [], ◌∷◌}
+use Rattle.std.proofs.Common.{ℕ, ◌+◌, ◌%◌, ◌^◌, lit<, List, [], ◌∷◌}
 use Rattle.std.proofs.Math.Nat.{mod-lt}
-use Rattle.std.specs.Int.Bits.{bit_and, and_zero_r}
+use Rattle.std.specs.Int.Bits.{and_zero_r}
 use Rattle.fsb_signal.specs.declared.lines.Lines.{Lines}
 use Rattle.fsb_signal.specs.declared.sample.Word.{Word}
 use Rattle.fsb_signal.specs.declared.sample.Sample.{Sample}

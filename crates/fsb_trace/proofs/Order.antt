@@ -1,9 +1,8 @@
 -- How the numbers of a trace lie to one another.
-use Rattle.std.proofs.Common.{ℕ, zero, suc, ◌+◌, ◌-◌, ◌<◌, ◌≤◌, ◌≡◌, Bool, true, false, Option, Some, None, length, max, refl, sym, ap, subst, ◌∙◌, arith, not, ◌⊎◌, inl, inr, add-one}
+use Rattle.std.proofs.Common.{ℕ, zero, suc, ◌+◌, ◌-◌, ◌<◌, ◌≤◌, ◌≡◌, true, Option, Some, None, length, max, refl, sym, subst, arith, not, inl, inr}
 use Rattle.std.specs.Option.{option_map}
 use Rattle.std.proofs.lemmas.Bool.{cases_order, and_parts, leb-true, ltb-false, not-true}
 use Rattle.fsb_count.specs.Options.{is_some_and, is_before, greater_of}
-use Rattle.fsb_count.specs.Clocks.{nth_where}
 use Rattle.fsb_count.proofs.Nth.{nth_where-rises}
 use Rattle.fsb_signal.specs.declared.lines.TheConstants.Lines.{ADS}
 use Rattle.fsb_signal.specs.Samples.{line_at}

@@ -1,5 +1,5 @@
 -- The requests of a trace, one clock on.
-use Rattle.std.proofs.Common.{ℕ, ◌+◌, ◌≡◌, List, [], ◌∷◌, ◌++◌, map, length, true, false, refl, sym, ap, ◌∙◌}
+use Rattle.std.proofs.Common.{ℕ, ◌+◌, ◌≡◌, List, [], ◌∷◌, ◌++◌, map, length, true, false, refl, ap, ◌∙◌}
 use Rattle.std.proofs.lemmas.List.{map-append}
 use Rattle.fsb_count.specs.Clocks.{all_where}
 use Rattle.fsb_count.proofs.Nth.{all_where-passed, all_where-failed}

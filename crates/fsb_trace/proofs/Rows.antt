@@ -1,6 +1,6 @@
 -- Traces of runs, laid out clock by clock, and what the definitions say of them: all of it is computed.
-use Rattle.std.proofs.Common.{ℕ, ◌≡◌, refl, List, [], ◌∷◌, ◌++◌, Some, None, Option, true, false, replicate, length}
-use Rattle.fsb_signal.specs.declared.lines.TheConstants.Lines.{BREQ0, BREQ1, BPRI, LOCK, BNR, ADS, AERR, HIT, HITM, DEFER, RS0, RS1, RS2, TRDY, DBSY, DRDY}
+use Rattle.std.proofs.Common.{◌≡◌, refl, [], ◌∷◌, Some, None, true, false, replicate, length}
+use Rattle.fsb_signal.specs.declared.lines.TheConstants.Lines.{BREQ0, BREQ1, BPRI, LOCK, ADS, AERR, HIT, HITM, DEFER, RS0, RS1, RS2, TRDY, DBSY, DRDY}
 use Rattle.fsb_trace.specs.declared.who.Who.TheVariants.{Symmetric, Priority}
 use Rattle.fsb_trace.specs.declared.outcome.Outcome.TheVariants.{Granted, Handed, Retried, Deferred, Replied}
 use Rattle.fsb_count.specs.Options.{is_some_and, is_before, is_at, greater_of}
@@ -14,7 +14,7 @@ use Rattle.fsb_trace.specs.Requests.{is_cancelled, seen_at, requests_of, first_c
 use Rattle.fsb_trace.specs.Snoop.{is_every_second_from, ends_snoop, snoop_end_from, snoop_end_if, start_after_clock, start_after_end, snoop_end_of, snoop_start_of, is_snoop_clock_of, is_snoop_clock, line_at_snoop_end}
 use Rattle.fsb_trace.specs.Outcome.{does_move, response_code_of, is_deferral, outcome_by_kind, response_clock_of, told_by, outcome_of, moves_data, is_deferred, settled_by, settled_outcome_of, is_settled_deferred}
 use Rattle.fsb_trace.specs.Response.{takes, data_clock_of, end_of, is_clear_before, clock_after_snoop, ready_after, ready_clock_of}
-use Rattle.fsb_trace.specs.Flight.{is_dropped, has_ended, is_in_flight, in_flight, is_reply_to, is_live_reply_to, reply_clock_of, reply_number_of, reply_end_of, last_clock_of, is_settled, is_outstanding, outstanding}
+use Rattle.fsb_trace.specs.Flight.{is_dropped, has_ended, is_in_flight, in_flight, is_reply_to, is_live_reply_to, reply_clock_of, reply_number_of, reply_end_of, last_clock_of, is_finished, is_outstanding, outstanding}
 use Rattle.fsb_trace.specs.Deferral.{answers, is_answered, later_of, is_due, due_at, keeps_pending, is_pending}
 use Rattle.fsb_trace.specs.Rules.{has_unknown_line, is_request_too_soon, is_code_unlawful, is_queue_full, is_request_blocked, has_no_winner, is_own_id, is_identified, is_identity_wrong, is_asked_wrongly, is_some_asked_wrongly, is_lock_alone, is_error_alone, is_snoop_line_alone, is_result_unfit_for, is_snoop_result_unfit, next_response, may_answer, is_response_early, has_den, is_code_for, responds_soundly, has_code_at, is_code_wrong, is_ready_in_time, is_ready_wrongly, is_target_ready_wrong, is_transferring_of, is_transferring, is_data_wrong, has_unknown_data, awaits_reply, is_id_taken_by, is_outstanding_of_winner, is_begun_wrongly, is_outstanding_wrong, phase_rules, breaks}
 use Rattle.fsb_trace.specs.Verdict.{is_broken, least_rule, is_foul, verdict}
@@ -479,7 +479,7 @@ unfolding is_some_and is_before is_at greater_of first_where last_where any_wher
     is_deferral outcome_by_kind response_clock_of told_by outcome_of moves_data is_deferred settled_by
     settled_outcome_of is_settled_deferred takes data_clock_of end_of is_clear_before clock_after_snoop ready_after
     ready_clock_of is_dropped has_ended is_in_flight in_flight is_reply_to is_live_reply_to reply_clock_of
-    reply_number_of reply_end_of last_clock_of is_settled is_outstanding outstanding answers is_answered later_of
+    reply_number_of reply_end_of last_clock_of is_finished is_outstanding outstanding answers is_answered later_of
     is_due due_at keeps_pending is_pending has_unknown_line is_request_too_soon is_code_unlawful is_queue_full
     is_request_blocked has_no_winner is_own_id is_identified is_identity_wrong is_asked_wrongly is_some_asked_wrongly
     is_lock_alone is_error_alone is_snoop_line_alone is_result_unfit_for is_snoop_result_unfit next_response

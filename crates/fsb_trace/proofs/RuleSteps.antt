@@ -1,6 +1,5 @@
 -- The phase rules by their numbers.
-use Rattle.std.proofs.Common.{ℕ, zero, suc, ◌<◌, ◌≤◌, ◌≡◌, Option, Some, None, false, refl, arith}
-use Rattle.std.specs.List.{slice_get}
+use Rattle.std.proofs.Common.{ℕ, zero, suc, ◌<◌, ◌≡◌, false, refl, arith}
 use Rattle.std.proofs.lemmas.Option.{slice_get_past}
 use Rattle.fsb_trace.specs.At.{Trace}
 use Rattle.fsb_trace.specs.Rules.{phase_rules, breaks, has_unknown_line, is_request_too_soon, is_code_unlawful, is_queue_full, is_request_blocked, has_no_winner, is_identity_wrong, is_some_asked_wrongly, is_lock_alone, is_error_alone, is_snoop_line_alone, is_snoop_result_unfit, is_response_early, is_code_wrong, is_target_ready_wrong, is_data_wrong, has_unknown_data, is_outstanding_wrong}

@@ -1,5 +1,5 @@
 -- Snoop ends, one request on.
-use Rattle.std.proofs.Common.{ℕ, ◌+◌, ◌-◌, ◌<◌, ◌≡◌, refl, add-one, arith, ap, ◌∙◌, sym, suc}
+use Rattle.std.proofs.Common.{ℕ, ◌+◌, ◌-◌, ◌<◌, ◌≡◌, refl, add-one, arith}
 use Rattle.fsb_trace.specs.At.{Trace}
 use Rattle.fsb_trace.specs.Snoop.{snoop_end_if, start_after_clock, start_after_end, snoop_end_of, snoop_start_of}
 

@@ -1,23 +1,18 @@
 -- A number that is reached stays as it is in every trace that agrees up to it.
-use Rattle.std.proofs.Common.{ℕ, zero, suc, ◌+◌, ◌-◌, ◌<◌, ◌≤◌, ◌≡◌, Bool, true, false, Option, Some, None, List, length, max, refl, sym, ap, subst, ◌∙◌, arith, not, ◌&&◌, ◌⊎◌, inl, inr, add-one}
+use Rattle.std.proofs.Common.{ℕ, zero, suc, ◌+◌, ◌<◌, ◌≤◌, ◌≡◌, Option, Some, None, length, max, refl, ap, arith, not, ◌&&◌, add-one}
 use Rattle.std.specs.Option.{option_and_then, option_map}
-use Rattle.std.proofs.lemmas.Option.{option_and_then_some}
 use Rattle.std.proofs.lemmas.Bool.{and_parts, leb-true}
 use Rattle.fsb_count.specs.Options.{greater_of}
-use Rattle.fsb_count.specs.Clocks.{AgreeBelow, first_where, nth_where, from_clock}
 use Rattle.fsb_count.proofs.First.{first_where-carried, first_where-found}
-use Rattle.fsb_count.proofs.Nth.{nth_where-carried, nth_where-found}
-use Rattle.fsb_signal.specs.declared.lines.Lines.{Lines}
-use Rattle.fsb_signal.specs.declared.lines.TheConstants.Lines.{ADS, HITM, DRDY, TRDY}
+use Rattle.fsb_count.proofs.Nth.{nth_where-carried}
+use Rattle.fsb_signal.specs.declared.lines.TheConstants.Lines.{ADS}
 use Rattle.fsb_signal.specs.Samples.{line_at}
-use Rattle.fsb_encode.specs.declared.request.Request.{Request}
-use Rattle.fsb_trace.specs.declared.outcome.Outcome.{Outcome}
-use Rattle.fsb_trace.specs.At.{Trace, responds_at, response_code_at, request_at, stalls_at}
-use Rattle.fsb_trace.specs.Requests.{first_clock_of, is_live, live_clock_of, live_request_of}
-use Rattle.fsb_trace.specs.Snoop.{is_every_second_from, ends_snoop, snoop_end_from, snoop_end_if, start_after_clock, start_after_end, snoop_end_of, line_at_snoop_end}
-use Rattle.fsb_trace.specs.Outcome.{response_clock_of, told_by, outcome_of}
+use Rattle.fsb_trace.specs.At.{Trace, responds_at}
+use Rattle.fsb_trace.specs.Requests.{first_clock_of, is_live, live_clock_of}
+use Rattle.fsb_trace.specs.Snoop.{is_every_second_from, ends_snoop, snoop_end_from, snoop_end_if, start_after_clock, start_after_end, snoop_end_of}
+use Rattle.fsb_trace.specs.Outcome.{response_clock_of}
 use Rattle.fsb_trace.specs.Agree.{AgreeTo}
-use Rattle.fsb_trace.proofs.AgreeAt.{line_at-agree, responds_at-agree, response_code_at-agree, stalls_at-agree, request_at-agree, is_live-agree}
+use Rattle.fsb_trace.proofs.AgreeAt.{line_at-agree, responds_at-agree, stalls_at-agree, is_live-agree}
 
 pub first_clock_of-stays : (n : ℕ) (w v : Trace) (k q : ℕ) → AgreeTo n w v → q < n → first_clock_of w k ≡ Some q → first_clock_of v k ≡ Some q
 unfolding first_clock_of

@@ -1,7 +1,7 @@
 -- Outcomes and ends stay, where the snoop end is there.
-use Rattle.std.proofs.Common.{ℕ, zero, suc, ◌+◌, ◌<◌, ◌≤◌, ◌≡◌, Bool, true, false, cond, Option, Some, None, length, max, refl, sym, ap, ◌∙◌, arith, ◌⊎◌, inl, inr, add-one}
+use Rattle.std.proofs.Common.{ℕ, zero, suc, ◌+◌, ◌<◌, ◌≤◌, ◌≡◌, true, false, Option, Some, None, length, max, refl, sym, ap, ◌∙◌, arith, inl, inr, add-one}
 use Rattle.std.specs.Option.{option_and_then, option_map}
-use Rattle.std.proofs.lemmas.Bool.{cases_Bool, and_parts, leb-true}
+use Rattle.std.proofs.lemmas.Bool.{cases_Bool, and_parts, leb-true, lt-ltb}
 use Rattle.fsb_count.specs.Options.{is_some_and, greater_of}
 use Rattle.fsb_count.specs.Clocks.{AgreeBelow, first_where, nth_where, from_clock}
 use Rattle.fsb_count.proofs.First.{first_where-carried, first_where-found}
@@ -9,9 +9,8 @@ use Rattle.fsb_count.proofs.Nth.{nth_where-carried, nth_where-found}
 use Rattle.fsb_signal.specs.declared.lines.Lines.{Lines}
 use Rattle.fsb_signal.specs.declared.lines.TheConstants.Lines.{HITM, DRDY, TRDY}
 use Rattle.fsb_signal.specs.Samples.{line_at}
-use Rattle.fsb_trace.specs.declared.outcome.Outcome.{Outcome}
-use Rattle.fsb_trace.specs.At.{Trace, response_code_at, request_at}
-use Rattle.fsb_trace.specs.Requests.{live_clock_of, live_request_of}
+use Rattle.fsb_trace.specs.At.{Trace, response_code_at}
+use Rattle.fsb_trace.specs.Requests.{live_request_of}
 use Rattle.fsb_trace.specs.Snoop.{snoop_end_of, line_at_snoop_end}
 use Rattle.fsb_trace.specs.Outcome.{does_move, is_deferral, response_clock_of, told_by, outcome_of, moves_data, is_deferred}
 use Rattle.fsb_trace.specs.Response.{data_clock_of, end_of, clock_after_snoop, ready_after, ready_clock_of}
@@ -51,13 +50,13 @@ pub is_deferred-stays : (n : ℕ) (w v : Trace) (i s r : ℕ) → AgreeTo n w v 
 unfolding is_deferred
 is_deferred-stays n w v i s r a l e m f = ap (λ o. is_some_and o is_deferral) (outcome_of-stays n w v i s r a l e m f)
 
-pub data_clock_of-moving : (w : Trace) (i k r : ℕ) → moves_data w i ≡ true → response_clock_of w i ≡ Some r → data_clock_of w i k ≡ nth_where (from_clock r (line_at DRDY w)) k (length w)
+pub data_clock_of-moving : (w : Trace) (i k r : ℕ) → k < 4 → moves_data w i ≡ true → response_clock_of w i ≡ Some r → data_clock_of w i k ≡ nth_where (from_clock r (line_at DRDY w)) k (length w)
 unfolding data_clock_of
-data_clock_of-moving w i k r t f = rw (t, f) refl
+data_clock_of-moving w i k r l t f = rw (lt-ltb k 4 l, t, f) refl
 
 pub end_of-moving : (w : Trace) (i r : ℕ) → moves_data w i ≡ true → response_clock_of w i ≡ Some r → end_of w i ≡ nth_where (from_clock r (line_at DRDY w)) 3 (length w)
 unfolding end_of
-end_of-moving w i r t f = rw t (data_clock_of-moving w i 3 r t f)
+end_of-moving w i r t f = rw t (data_clock_of-moving w i 3 r (omega arith) t f)
 
 pub end_of-still : (w : Trace) (i : ℕ) → moves_data w i ≡ false → end_of w i ≡ response_clock_of w i
 unfolding end_of

@@ -1,19 +1,22 @@
 -- What a verdict says, and that it rests on the samples up to its clock.
-use Rattle.std.proofs.Common.{ℕ, zero, suc, ◌+◌, ◌<◌, ◌≤◌, ◌≡◌, Bool, true, false, Option, Some, None, is_some, length, take, refl, sym, ap, ◌∙◌, arith, ◌⊎◌, inl, inr}
+use Rattle.std.proofs.Common.{ℕ, ◌+◌, ◌<◌, ◌≡◌, true, false, Option, Some, None, is_some, length, nat_lt, refl, sym, ap, ◌∙◌, arith, inl, inr}
 use Rattle.std.specs.Option.{option_and_then, option_map}
-use Rattle.std.proofs.lemmas.Bool.{cases_Bool, both_ways}
+use Rattle.std.proofs.lemmas.Bool.{cases_Bool, lt-ltb, ltb-true}
 use Rattle.std.proofs.lemmas.Option.{some_pair_parts}
-use Rattle.fsb_count.specs.Clocks.{AgreeBelow, first_where}
+use Rattle.fsb_count.specs.Clocks.{first_where}
 use Rattle.fsb_count.proofs.First.{first_where-same, first_where-carried, first_where-found, first_where-none}
 use Rattle.fsb_trace.specs.At.{Trace}
-use Rattle.fsb_trace.specs.Rules.{breaks}
 use Rattle.fsb_trace.specs.Verdict.{is_broken, least_rule, is_foul, verdict}
 use Rattle.fsb_trace.specs.Agree.{AgreeTo}
 use Rattle.fsb_trace.proofs.AgreeAt.{take-agree, AgreeTo-less}
 
+-- a clock of both traces
+pub is_clock-agree : (w v : Trace) (c : ℕ) → AgreeTo (c + 1) w v → nat_lt c (length w) ≡ nat_lt c (length v)
+is_clock-agree w v c a = lt-ltb c (length w) (omega (arith, a.left)) ∙ sym (lt-ltb c (length v) (omega (arith, a.right)))
+
 pub is_broken-agree : (w v : Trace) (c j : ℕ) → AgreeTo (c + 1) w v → is_broken w c j ≡ is_broken v c j
 unfolding is_broken
-is_broken-agree w v c j a = ap (λ u. breaks u c j) (take-agree (c + 1) w v a)
+is_broken-agree w v c j a = rw (is_clock-agree w v c a, take-agree (c + 1) w v a) refl
 
 pub least_rule-agree : (w v : Trace) (c : ℕ) → AgreeTo (c + 1) w v → least_rule w c ≡ least_rule v c
 unfolding least_rule
@@ -79,7 +82,17 @@ no_foul w None e h = e
 no_foul w (Some c) e h =
     absurd (fouled w c (least_rule w c) e (first_where-found (is_foul w) (length w) c e).1 refl h)
 
+-- past the end no rule is broken
+pub broken-past : (w : Trace) (c j : ℕ) → nat_lt c (length w) ≡ false → is_broken w c j ≡ false
+unfolding is_broken
+broken-past w c j f = rw f refl
+
 -- where there is no verdict no rule is broken
-pub verdict-none : (w : Trace) → verdict w ≡ None → (c j : ℕ) → c < length w → j < 19 → is_broken w c j ≡ false
-verdict-none w h c j l m =
-    unbroken w c j (first_where-none (is_foul w) (length w) (no_foul w (first_where (is_foul w) (length w)) refl h) c l) m
+pub verdict-none : (w : Trace) → verdict w ≡ None → (c j : ℕ) → j < 19 → is_broken w c j ≡ false
+verdict-none w h c j m =
+    elim (cases_Bool (nat_lt c (length w))) [
+      | inl below ↦
+          let none = no_foul w (first_where (is_foul w) (length w)) refl h in
+          unbroken w c j (first_where-none (is_foul w) (length w) none c (ltb-true c (length w) below)) m
+      | inr past ↦ broken-past w c j past
+    ]

@@ -1,5 +1,5 @@
 -- Deferrals: which is answered, which is due, and which line is pending.
-use Rattle.std.specs.Prelude.{ℕ, ◌+◌, ◌-◌, Bool, ◌&&◌, ◌||◌, not, nat_le, nat_eq, List, Option, slice_index}
+use Rattle.std.specs.Prelude.{ℕ, ◌+◌, ◌-◌, Bool, ◌&&◌, ◌||◌, not, nat_le, List, Option, slice_index}
 use Rattle.std.specs.Option.{option_and_then}
 use Rattle.fsb_count.specs.Options.{is_some_and, is_before, is_at}
 use Rattle.fsb_count.specs.Clocks.{first_where, any_where}
@@ -21,8 +21,8 @@ is_answered w c i = any_where (answers w c i) c
 unfoldable pub later_of : ℕ → ℕ
 later_of turn = turn - 2
 
--- live request i is due at c: it is Deferred, its response and one more clock than it is put off for lie behind, and
--- it is not answered
+-- live request i is due at c: it is Deferred, c is its response clock plus 1 plus the clocks it is put off for, or
+-- later, and it is not answered
 unfoldable pub is_due : Trace → List ℕ → ℕ → ℕ → Bool
 is_due w turns c i =
     is_settled_deferred w turns i

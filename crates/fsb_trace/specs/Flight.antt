@@ -53,15 +53,15 @@ reply_end_of w i = option_and_then (end_of w) (reply_number_of w i)
 unfoldable pub last_clock_of : Trace → ℕ → Option ℕ
 last_clock_of w i = if is_deferred w i then reply_end_of w i else end_of w i
 
--- the request that begins at q is live, and was outstanding for the last time below c
-unfoldable pub is_settled : Trace → ℕ → ℕ → Bool
-is_settled w c q = is_live w q && is_before (last_clock_of w (live_number_of w q)) c
+-- the request that begins at q is live, and its last clock as outstanding lies below c
+unfoldable pub is_finished : Trace → ℕ → ℕ → Bool
+is_finished w c q = is_live w q && is_before (last_clock_of w (live_number_of w q)) c
 
 -- the request that begins at q is outstanding at c: it is no reply, began before, was not dropped, and neither it
 -- nor, if it is Deferred, its reply has ended
 unfoldable pub is_outstanding : Trace → ℕ → ℕ → Bool
 is_outstanding w c q =
-    line_at ADS w q && nat_lt q c && not (is_reply (request_at w q)) && not (is_dropped w c q) && not (is_settled w c q)
+    line_at ADS w q && nat_lt q c && not (is_reply (request_at w q)) && not (is_dropped w c q) && not (is_finished w c q)
 
 -- the first clocks of the requests outstanding at c, in order
 unfoldable pub outstanding : Trace → ℕ → List ℕ

@@ -1,5 +1,5 @@
 -- When a live request takes data into memory, when its target is ready, when its data move, and when it ends.
-use Rattle.std.specs.Prelude.{ℕ, zero, suc, ◌+◌, Bool, true, ◌||◌, if◌then◌else◌, Option, None, length}
+use Rattle.std.specs.Prelude.{ℕ, zero, suc, ◌+◌, Bool, true, ◌&&◌, ◌||◌, nat_lt, if◌then◌else◌, Option, None, length}
 use Rattle.std.specs.Option.{option_map, option_and_then}
 use Rattle.fsb_count.specs.Options.{is_before, greater_of}
 use Rattle.fsb_count.specs.Clocks.{first_where, nth_where, from_clock}
@@ -14,10 +14,11 @@ use Rattle.fsb_trace.specs.Outcome.{response_clock_of, moves_data}
 unfoldable pub takes : Trace → ℕ → Bool
 takes w i = is_write_back (live_request_of w i) || line_at_snoop_end HITM w i
 
--- the n-th data clock of live request i, from 0: where its data move, the n-th DRDY# clock from its response on
+-- the n-th data clock of live request i, from 0 to 3: where its data move, the n-th DRDY# clock from its response on;
+-- there are four, and none where n is 4 or more
 unfoldable pub data_clock_of : Trace → ℕ → ℕ → Option ℕ
 data_clock_of w i n =
-    if moves_data w i
+    if nat_lt n 4 && moves_data w i
     then option_and_then (λ r. nth_where (from_clock r (line_at DRDY w)) n (length w)) (response_clock_of w i)
     else None
 

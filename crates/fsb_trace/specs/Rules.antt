@@ -1,10 +1,9 @@
 -- The eighteen phase rules. Each test says that the rule is broken at clock c of v, and v is to end with clock c: a
 -- rule is judged over the samples up to its clock alone, and all numbers are taken in them.
-use Rattle.std.specs.Prelude.{ℕ, zero, suc, ◌+◌, ◌-◌, ◌*◌, ◌/◌, Bool, true, false, ◌&&◌, ◌||◌, not, nat_lt, nat_le, nat_eq, if◌then◌else◌, List, [], ◌∷◌, Option, Some, None, length, slice_get, is_none}
+use Rattle.std.specs.Prelude.{ℕ, zero, suc, ◌+◌, ◌-◌, ◌/◌, Bool, false, ◌&&◌, ◌||◌, not, nat_lt, nat_le, nat_eq, if◌then◌else◌, List, [], ◌∷◌, Option, Some, None, length, slice_get, is_none}
 use Rattle.std.specs.Option.{option_map_or}
 use Rattle.fsb_count.specs.Options.{is_some_and, is_before, is_at}
 use Rattle.fsb_count.specs.Clocks.{any_where, count_where, from_clock}
-use Rattle.fsb_signal.specs.declared.lines.Lines.{Lines}
 use Rattle.fsb_signal.specs.declared.lines.TheConstants.Lines.{BNR, ADS, AERR, HIT, HITM, DEFER, LOCK, TRDY, DBSY, DRDY}
 use Rattle.fsb_signal.specs.Samples.{line_at, has_known_lines, is_known_word}
 use Rattle.fsb_encode.specs.declared.request.Request.{Request}
@@ -102,8 +101,8 @@ next_response v c = count_where (responds_at v) c
 unfoldable pub may_answer : Trace → ℕ → ℕ → Bool
 may_answer v c i = is_some_and (snoop_end_of v i) (λ s. nat_le (s + 2) c) && is_clear_before v i c
 
--- 13 response timing: RS# is not idle at c, and there is no next response, or its snoop end is not two clocks before c,
--- or the request before it has not ended
+-- 13 response timing: RS# is not idle at c, and there is no next response, or its snoop end does not lie at least two
+-- clocks before, or the request before it has not ended
 unfoldable pub is_response_early : Trace → ℕ → Bool
 is_response_early v c = responds_at v c && not (may_answer v c (next_response v c))
 
@@ -126,7 +125,7 @@ is_code_for v i code =
 unfoldable pub responds_soundly : Trace → ℕ → Bool
 responds_soundly v c = responds_at v c && not (nat_eq (response_code_at v c) (response_code_of Failed))
 
--- there is a live request i with the code at c
+-- live request i is there, and the code at c is its code
 unfoldable pub has_code_at : Trace → ℕ → ℕ → Bool
 has_code_at v c i = nat_lt i (live_count v) && is_code_for v i (response_code_at v c)
 
@@ -142,8 +141,8 @@ is_ready_in_time v c i = is_some_and (ready_clock_of v i) (λ y. nat_le (y + 2) 
 unfoldable pub is_ready_wrongly : Trace → ℕ → ℕ → Bool
 is_ready_wrongly v c i = not (takes v i && may_answer v c i) || is_before (ready_clock_of v i) c
 
--- 15 target ready: TRDY# is at c wrongly for the next response; or the next response takes, and is given at c though
--- its target was not ready two clocks before
+-- 15 target ready: TRDY# is at c wrongly for the next response; or the next response takes, and is given at c, not as
+-- a hard failure, without having been ready at least two clocks before
 unfoldable pub is_target_ready_wrong : Trace → ℕ → Bool
 is_target_ready_wrong v c =
     line_at TRDY v c && is_ready_wrongly v c (next_response v c)

@@ -1,7 +1,7 @@
 -- Snoop clocks and snoop ends of the live requests.
-use Rattle.std.specs.Prelude.{ℕ, zero, suc, ◌+◌, ◌-◌, ◌%◌, Bool, ◌&&◌, not, nat_le, nat_lt, nat_eq, Option, Some, None, length}
+use Rattle.std.specs.Prelude.{ℕ, zero, suc, ◌+◌, ◌-◌, ◌%◌, Bool, ◌&&◌, not, nat_le, nat_lt, nat_eq, Option, length}
 use Rattle.std.specs.Option.{option_map, option_and_then}
-use Rattle.fsb_count.specs.Options.{is_some_and, is_before, is_at, greater_of}
+use Rattle.fsb_count.specs.Options.{is_some_and, is_before, greater_of}
 use Rattle.fsb_count.specs.Clocks.{first_where, any_where}
 use Rattle.fsb_signal.specs.declared.lines.Lines.{Lines}
 use Rattle.fsb_signal.specs.Samples.{line_at}

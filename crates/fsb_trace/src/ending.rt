@@ -29,14 +29,14 @@ pub fn line_at_from(line: Lines, w: &[Sample], first: usize, c: usize) -> bool
     first <= c && line_at(line, w, c)
 }
 
-/// The `n`-th data clock of live request `i`, from 0.
+/// The `n`-th data clock of live request `i`, from 0 to 3; none where `n` is 4 or more.
 #[tactic(auto, unfolding(crate::specs::Response::data_clock_of))]
 fn data_clock_of(w: &[Sample], i: usize, n: usize) -> Option<usize>
     requires { length w.now < 2 ^ 32 }
     ensures value { result ≡ data_clock_of w.now i n }
     ensures below { IfSome result (λ d. d < length w.now) }
 {
-    if moves_data(w, i) {
+    if n < 4 && moves_data(w, i) {
         match response_clock_of(w, i) {
             Some(r) => nth_where(n, w.len(), |c| line_at_from(Lines::DRDY, w, r, c)),
             None => None,

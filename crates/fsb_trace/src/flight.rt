@@ -1,7 +1,7 @@
 //! Requests in flight, requests that are outstanding, and replies to deferred ones.
 
 ghost use Rattle.std.specs.Prelude.{◌≡◌, ◌+◌, ◌^◌, ◌<◌, length, IfSome};
-ghost use Rattle.fsb_trace.specs.Flight.{is_dropped, has_ended, is_in_flight, in_flight, is_reply_to, is_live_reply_to, reply_clock_of, reply_number_of, reply_end_of, last_clock_of, is_settled, is_outstanding};
+ghost use Rattle.fsb_trace.specs.Flight.{is_dropped, has_ended, is_in_flight, in_flight, is_reply_to, is_live_reply_to, reply_clock_of, reply_number_of, reply_end_of, last_clock_of, is_finished, is_outstanding};
 ghost use Rattle.fsb_trace.specs.Deferral.{answers, is_answered};
 
 use crate::at::{line_at, request_at};
@@ -111,12 +111,12 @@ fn last_clock_of(w: &[Sample], i: usize) -> Option<usize>
     }
 }
 
-/// Whether the request that begins at `q` is live, and was outstanding for the last time below `c`.
-#[tactic(auto, unfolding(crate::specs::Flight::is_settled))]
-fn is_settled(w: &[Sample], c: usize, q: usize) -> bool
+/// Whether the request that begins at `q` is live, and its last clock as outstanding lies below `c`.
+#[tactic(auto, unfolding(crate::specs::Flight::is_finished))]
+fn is_finished(w: &[Sample], c: usize, q: usize) -> bool
     requires length { length w.now < 2 ^ 32 }
     requires clock { q < 2 ^ 32 }
-    ensures { result ≡ is_settled w.now c q }
+    ensures { result ≡ is_finished w.now c q }
 {
     is_live(w, q) && is_before(last_clock_of(w, live_number_of(w, q)), c)
 }
@@ -132,7 +132,7 @@ pub fn is_outstanding(w: &[Sample], c: usize, q: usize) -> bool
         && q < c
         && !is_reply(request_at(w, q))
         && !is_dropped(w, c, q)
-        && !is_settled(w, c, q)
+        && !is_finished(w, c, q)
 }
 
 /// Whether the request that begins at `q` is a reply to live request `i` that is in flight at `c`, or live.

@@ -43,7 +43,7 @@ fn breaks(v: &[Sample], c: usize, j: usize) -> bool
     }
 }
 
-/// Whether rule `j` is broken at `c`, judged over the first `c + 1` samples.
+/// Whether rule `j` is broken at clock `c` of the trace, judged over the first `c + 1` samples.
 #[tactic(auto, unfolding(crate::specs::Verdict::is_broken))]
 fn is_broken(w: &[Sample], c: usize, j: usize) -> bool
     requires length { length w.now < 2 ^ 32 }

@@ -55,5 +55,5 @@ pub fn verdict_is_least()
     ensures broken { (w : Trace) (c j : ℕ) → verdict w ≡ Some (c, j) → (c < length w) × (is_broken w c j ≡ true) }
     ensures rule { (w : Trace) (c j k : ℕ) → verdict w ≡ Some (c, j) → k < j → is_broken w c k ≡ false }
     ensures clock { (w : Trace) (c j d k : ℕ) → verdict w ≡ Some (c, j) → d < c → k < 19 → is_broken w d k ≡ false }
-    ensures accepted { (w : Trace) (c j : ℕ) → verdict w ≡ None → c < length w → j < 19 → is_broken w c j ≡ false }
+    ensures accepted { (w : Trace) (c j : ℕ) → verdict w ≡ None → j < 19 → is_broken w c j ≡ false }
 {}

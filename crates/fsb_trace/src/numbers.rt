@@ -22,7 +22,8 @@ pub fn snoop_end(w: &[Sample], i: u32) -> Option<u32>
     }
 }
 
-/// The response clock of live request `i`; none where it is not reached.
+/// The response clock of live request `i`: the `i`-th clock, from 0, at which RS# is not idle; none where it is not
+/// reached. It is counted by itself: where it is reached and there is no live request `i`, it is answered all the same.
 pub fn response(w: &[Sample], i: u32) -> Option<u32>
     requires { length w.now < 2 ^ 32 }
     ensures { result ≡ response_clock_of w.now i }
@@ -34,7 +35,8 @@ pub fn response(w: &[Sample], i: u32) -> Option<u32>
 }
 
 /// The end of live request `i`: its fourth data clock where data move, and else its response clock; none where it is
-/// not reached.
+/// not reached. Where there is no live request `i` but the `i`-th response clock is reached, this is the end that the
+/// outcome told there gives: the fourth DRDY# clock from the response on for Granted, else the response clock.
 pub fn end_of(w: &[Sample], i: u32) -> Option<u32>
     requires { length w.now < 2 ^ 32 }
     ensures { result ≡ end_of w.now i }
@@ -45,7 +47,9 @@ pub fn end_of(w: &[Sample], i: u32) -> Option<u32>
     }
 }
 
-/// The outcome of live request `i`, as its response tells it; none where the response is not reached.
+/// The outcome of live request `i`, as its response tells it; none where the response is not reached. Where there is no
+/// live request `i` but the `i`-th response clock is reached, the outcome is what the code there tells: Failed for 100,
+/// Retried for 001, Deferred for 010, and Granted for any other.
 pub fn outcome_of(w: &[Sample], i: u32) -> Option<Outcome>
     requires { length w.now < 2 ^ 32 }
     ensures { result ≡ outcome_of w.now i }

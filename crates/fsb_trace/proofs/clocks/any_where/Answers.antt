@@ -1,4 +1,4 @@
-use Rattle.std.proofs.Common.{◌<◌, true, false, sym, arith, below_more}
+use Rattle.std.proofs.Common.{◌<◌, true, false, sym, arith}
 use Rattle.fsb_count.proofs.Any.{any_where-at, any_where-off}
 use Rattle.fsb_trace.proofs.clocks.any_where.Goals as goal
 

@@ -1,4 +1,4 @@
-use Rattle.std.proofs.Common.{◌<◌, ◌≡◌, true, false, refl, sym, ap, ◌∙◌, ◌+◌, arith}
+use Rattle.std.proofs.Common.{◌≡◌, true, false, refl, sym, ap, ◌∙◌, ◌+◌, arith}
 use Rattle.fsb_count.specs.Clocks.{count_where}
 use Rattle.fsb_count.proofs.Count.{count_where-passed, count_where-failed}
 use Rattle.fsb_trace.proofs.clocks.count_where.Goals as goal

@@ -1,4 +1,4 @@
-use Rattle.std.proofs.Common.{◌<◌, ◌≤◌, ◌≡◌, Some, true, false, refl, sym, ap, subst, ◌∙◌, ◌+◌, arith}
+use Rattle.std.proofs.Common.{◌≡◌, Some, true, false, refl, sym, ap, subst, ◌∙◌, ◌+◌, arith}
 use Rattle.fsb_count.specs.Clocks.{count_where, nth_where}
 use Rattle.fsb_count.proofs.Count.{count_where-passed, count_where-failed}
 use Rattle.fsb_count.proofs.Nth.{nth_where-at, nth_where-past}
