@@ -4,3 +4,5 @@
 pub use log::{end_line, log_line};
 
 mod log;
+#[cfg(test)]
+mod tests;

@@ -11,3 +11,5 @@ pub use trace::trace_of;
 mod burst;
 mod log;
 mod trace;
+#[cfg(test)]
+mod tests;

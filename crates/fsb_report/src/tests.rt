@@ -1,0 +1,50 @@
+use crate::{end_line, log_line};
+use fsb_access::{Access, Done, Operand};
+
+/// An entry of agent 0.
+fn entry(clock: u32, item: u16, access: Access, value: u64) -> Done {
+    Done {
+        clock,
+        agent: 0,
+        item,
+        part: 0,
+        access,
+        value,
+    }
+}
+
+#[test]
+fn log_lines_and_the_end_line(rt: HostRuntime) {
+    let load = Access::Load {
+        size: 1,
+        addr: 0x40,
+    };
+    let store = Access::Store {
+        size: 1,
+        addr: 0x41,
+        value: Operand::Literal(5),
+    };
+    let chunk = Access::Load {
+        size: 8,
+        addr: 0x58,
+    };
+    let lines = [
+        (entry(11, 0, load, 7), "11 0 0 ld 1 40 = 7\n"),
+        (entry(12, 1, store, 5), "12 0 1 st 1 41 = 5\n"),
+        (
+            entry(11, 0, chunk, 0x0807_0605_0403_0201),
+            "11 0 0 ld 8 58 = 807060504030201\n",
+        ),
+    ];
+    for (done, text) in lines {
+        assert_eq!(rt; log_line(&done).as_slice(), text.as_bytes());
+    }
+    assert_eq!(rt;
+        end_line(60, 2, 2).as_slice(),
+        b"end clocks=60 done=2 of=2\n".as_slice()
+    );
+    assert_eq!(rt;
+        end_line(10, 0, 2).as_slice(),
+        b"end clocks=10 done=0 of=2\n".as_slice()
+    );
+}
