@@ -1,10 +1,8 @@
 -- One step of the log.
-use Rattle.std.proofs.Common.{◌≡◌, ℕ, suc, ◌+◌, ◌<◌, ◌≤◌, arith, Bool, true, false, nat_eq, not, ◌||◌, List, [], ◌∷◌, ◌++◌, length, take, drop, get_or, refl, sym, ap, ◌∙◌, add-one, append_assoc, append-nil, IsTrue, nat_lt, if◌then◌else◌}
+use Rattle.std.proofs.Common.{◌≡◌, ℕ, suc, ◌+◌, ◌<◌, ◌≤◌, Bool, true, false, nat_eq, not, ◌||◌, List, [], ◌∷◌, ◌++◌, length, take, drop, get_or, refl, sym, ap, ◌∙◌, add-one, append_assoc, append-nil, if◌then◌else◌}
 use Rattle.std.proofs.Math.Seq.{drop-cons, take-suc}
-use Rattle.std.proofs.lemmas.List.{drop_all}
 use Rattle.std.specs.HashSet.{HashSet, contains, Updates}
 use Rattle.std.proofs.lemmas.List.Folds.{list_any-append}
-use Rattle.std.proofs.lemmas.List.{length-take-le}
 use Rattle.std.proofs.lemmas.Bool.{lt-ltb, le-ltb}
 use Rattle.std.specs.List.{list_any}
 use Rattle.fsb_access.specs.Access.{line_of}
@@ -48,8 +46,8 @@ pub has_named_more : {S : Type 0} (set next : HashSet ℕ S) (earlier : List Ite
     → HasNamed next (earlier ++ One access ∷ [])
 has_named_more set next earlier access has updates = record {
   each = λ line. updates.0 line ∙ gained (line_of access) line (contains nat_eq set line)
-    ∙ ap (λ b. b || (nat_eq (line_of access) line || false)) (has.each line)
-    ∙ sym (list_any-append (names line) earlier (One access ∷ []));
+      ∙ ap (λ b. b || (nat_eq (line_of access) line || false)) (has.each line)
+      ∙ sym (list_any-append (names line) earlier (One access ∷ []));
 }
 
 -- whether the line is new says which clock is the access's last one
@@ -58,16 +56,16 @@ pub last_clock_of : {S : Type 0} (set : HashSet ℕ S) (earlier : List Item) (ac
     → (if is_new then first + 11 else first) ≡ last_clock earlier access first
 last_clock_of set earlier access first is_new has e =
     rw (e, has.each (line_of access)) (go (list_any (names (line_of access)) earlier) first) where
-  go : (b : Bool) (n : ℕ) → (if not b then n + 11 else n) ≡ (if b then n else n + 11)
-  go true n = refl
-  go false n = refl
+      go : (b : Bool) (n : ℕ) → (if not b then n + 11 else n) ≡ (if b then n else n + 11)
+      go true n = refl
+      go false n = refl
 
 -- an access that is completed in time is the next entry
 pub next_entry : (clocks : ℕ) (earlier items : List Item) (access : Access) (state : ReplayState) (first : ℕ)
     → last_clock earlier access first < clocks
     → log_from clocks earlier state first (One access ∷ items)
-      ≡ entry_of earlier access state (last_clock earlier access first)
-          ∷ log_from clocks (earlier ++ One access ∷ []) (state_after state 0 access) (last_clock earlier access first + 1) items
+    ≡ entry_of earlier access state (last_clock earlier access first)
+    ∷ log_from clocks (earlier ++ One access ∷ []) (state_after state 0 access) (last_clock earlier access first + 1) items
 next_entry clocks earlier items access state first h = rw (lt-ltb (last_clock earlier access first) clocks h) refl
 
 -- the loop's next stand
@@ -76,20 +74,22 @@ pub stands_more : (clocks : ℕ) (items : List Item) (log whole : List Done) (st
     → last_clock (take i items) access first < clocks
     → Stands clocks items log whole state first i
     → Stands clocks items (log ++ entry_of (take i items) access state (last_clock (take i items) access first) ∷ []) whole
-        (state_after state 0 access) (last_clock (take i items) access first + 1) (i + 1)
+    (state_after state 0 access) (last_clock (take i items) access first + 1) (i + 1)
 stands_more clocks items log whole state first i x access h at is short s = record {
   ahead = ap (λ earlier. log ++ entry ∷ [] ++ log_from clocks earlier next (clock + 1) (drop (i + 1) items))
       (take_at items i x h at ∙ ap (λ y. take i items ++ y ∷ []) is)
-    ∙ append_assoc log (entry ∷ []) (log_from clocks (take i items ++ One access ∷ []) next (clock + 1) (drop (i + 1) items))
-    ∙ ap (λ rest. log ++ rest) (sym (next_entry clocks (take i items) (drop (i + 1) items) access state first short))
-    ∙ ap (λ left. log ++ log_from clocks (take i items) state first left)
+      ∙ append_assoc log (entry ∷ []) (log_from clocks (take i items ++ One access ∷ []) next (clock + 1) (drop (i + 1) items))
+      ∙ ap (λ rest. log ++ rest) (sym (next_entry clocks (take i items) (drop (i + 1) items) access state first short))
+      ∙ ap (λ left. log ++ log_from clocks (take i items) state first left)
       (ap (λ y. y ∷ drop (i + 1) items) (sym is) ∙ sym (drop_at items i x h at))
-    ∙ s.ahead;
+      ∙ s.ahead;
 } where
   clock : ℕ
   clock = last_clock (take i items) access first
+
   next : ReplayState
   next = state_after state 0 access
+
   entry : Done
   entry = entry_of (take i items) access state clock
 
@@ -125,6 +125,6 @@ stands_same {clocks} {items} {log} {other} {whole} {state} {next} {first} {later
 pub entry_is : (earlier : List Item) (access : Access) (state : ReplayState) (clock last item value : ℕ)
     → clock ≡ last → item ≡ length earlier → value ≡ served_value state 0 access
     → ◌≡◌ {A = Done} (record { clock = clock; agent = 0; item = item; part = 0; access = access; value = value })
-        (entry_of earlier access state last)
+    (entry_of earlier access state last)
 entry_is earlier access state clock last item value e f g =
     λ j. record { clock = e j; agent = 0; item = f j; part = 0; access = access; value = g j }

@@ -1,5 +1,5 @@
 -- The request of a lawful access is lawful, and its words have few enough bits.
-use Rattle.std.proofs.Common.{◌≡◌, ◌<◌, ◌^◌, arith, IsTrue}
+use Rattle.std.proofs.Common.{◌<◌, ◌^◌, arith, IsTrue}
 use Rattle.std.proofs.lemmas.Grind.{common_steps}
 use Rattle.fsb_access.specs.Access.{IsLawfulAccess}
 use Rattle.fsb_access.specs.declared.access.Access.{Access}

@@ -1,11 +1,10 @@
 -- The log is that of one byte memory, and keeps to the script.
-use Rattle.std.proofs.Common.{◌≡◌, ℕ, zero, suc, ◌+◌, ◌<◌, ◌≤◌, arith, Bool, true, false, not, ◌&&◌, ◌||◌, nat_eq, nat_lt, List, [], ◌∷◌, ◌++◌, length, map, take, refl, sym, ap, ◌∙◌, subst, IsTrue, Option, Some, unwrap_or, if◌then◌else◌, ◌≢◌}
+use Rattle.std.proofs.Common.{◌≡◌, ℕ, zero, suc, ◌+◌, ◌<◌, arith, Bool, true, false, ◌&&◌, nat_eq, nat_lt, List, [], ◌∷◌, ◌++◌, length, map, take, refl, ap, ◌∙◌, if◌then◌else◌}
 use Rattle.std.proofs.lemmas.Grind.{common_steps}
-use Rattle.std.specs.List.{list_any, list_all, filter, slice_get}
+use Rattle.std.specs.List.{list_any, list_all}
 use Rattle.std.proofs.lemmas.List.{length-append}
 use Rattle.fsb_access.specs.Replay.{ReplayState, start_of, state_after, replayed_values, Served}
-use Rattle.fsb_access.specs.ScriptOrder.{InOrder, AreOfItems, Step, accesses_from, accesses_of, steps_of, script_of, is_same_item, comes_again, are_items_together}
-use Rattle.fsb_access.specs.declared.access.Access.{Access}
+use Rattle.fsb_access.specs.ScriptOrder.{InOrder, AreOfItems, Step, accesses_from, steps_of, script_of, is_same_item, comes_again, are_items_together}
 use Rattle.fsb_access.specs.declared.access.Setting.{Setting}
 use Rattle.fsb_access.specs.declared.item.Item.{Item}
 use Rattle.fsb_access.specs.declared.item.Item.TheVariants.{One, Locked, Idle}
@@ -22,14 +21,16 @@ served_from clocks earlier state first (One access ∷ items) =
     go (nat_lt (last_clock earlier access first) clocks)
     (served_from clocks (earlier ++ One access ∷ []) (state_after state 0 access) (last_clock earlier access first + 1) items)
   where
-  entry : Done
-  entry = entry_of earlier access state (last_clock earlier access first)
-  rest : List Done
-  rest = log_from clocks (earlier ++ One access ∷ []) (state_after state 0 access) (last_clock earlier access first + 1) items
-  go : (b : Bool) → map (λ done. done.value) rest ≡ replayed_values (state_after state 0 access) rest
-      → map (λ done. done.value) (if b then entry ∷ rest else []) ≡ replayed_values state (if b then entry ∷ rest else [])
-  go true e = ap (λ values. entry.value ∷ values) e
-  go false e = refl
+    entry : Done
+    entry = entry_of earlier access state (last_clock earlier access first)
+
+    rest : List Done
+    rest = log_from clocks (earlier ++ One access ∷ []) (state_after state 0 access) (last_clock earlier access first + 1) items
+
+    go : (b : Bool) → map (λ done. done.value) rest ≡ replayed_values (state_after state 0 access) rest
+        → map (λ done. done.value) (if b then entry ∷ rest else []) ≡ replayed_values state (if b then entry ∷ rest else [])
+    go true e = ap (λ values. entry.value ∷ values) e
+    go false e = refl
 served_from clocks earlier state first (Locked group ∷ items) = refl
 served_from clocks earlier state first (Idle count ∷ items) = refl
 
@@ -44,23 +45,26 @@ one_more earlier x = length-append earlier (x ∷ [])
 
 steps_from_front : (clocks : ℕ) (earlier : List Item) (state : ReplayState) (first : ℕ) (items : List Item)
     → steps_of 0 (log_from clocks earlier state first items)
-      ≡ accesses_from (length earlier) (take (length (log_from clocks earlier state first items)) items)
+    ≡ accesses_from (length earlier) (take (length (log_from clocks earlier state first items)) items)
 steps_from_front clocks earlier state first [] = refl
 steps_from_front clocks earlier state first (One access ∷ items) =
     go (nat_lt (last_clock earlier access first) clocks)
     (steps_from_front clocks (earlier ++ One access ∷ []) (state_after state 0 access) (last_clock earlier access first + 1) items
-        ∙ ap (λ n. accesses_from n (take (length rest) items)) (one_more earlier (One access)))
+    ∙ ap (λ n. accesses_from n (take (length rest) items)) (one_more earlier (One access)))
   where
-  entry : Done
-  entry = entry_of earlier access state (last_clock earlier access first)
-  rest : List Done
-  rest = log_from clocks (earlier ++ One access ∷ []) (state_after state 0 access) (last_clock earlier access first + 1) items
-  step : Step
-  step = record { item = length earlier; part = 0; access = access }
-  go : (b : Bool) → steps_of 0 rest ≡ accesses_from (length earlier + 1) (take (length rest) items)
-      → steps_of 0 (if b then entry ∷ rest else []) ≡ accesses_from (length earlier) (take (length (if b then entry ∷ rest else [])) (One access ∷ items))
-  go true e = ap (λ steps. step ∷ steps) e
-  go false e = refl
+    entry : Done
+    entry = entry_of earlier access state (last_clock earlier access first)
+
+    rest : List Done
+    rest = log_from clocks (earlier ++ One access ∷ []) (state_after state 0 access) (last_clock earlier access first + 1) items
+
+    step : Step
+    step = record { item = length earlier; part = 0; access = access }
+
+    go : (b : Bool) → steps_of 0 rest ≡ accesses_from (length earlier + 1) (take (length rest) items)
+        → steps_of 0 (if b then entry ∷ rest else []) ≡ accesses_from (length earlier) (take (length (if b then entry ∷ rest else [])) (One access ∷ items))
+    go true e = ap (λ steps. step ∷ steps) e
+    go false e = refl
 steps_from_front clocks earlier state first (Locked group ∷ items) = refl
 steps_from_front clocks earlier state first (Idle count ∷ items) = refl
 
@@ -72,14 +76,16 @@ own_from clocks earlier state first (One access ∷ items) =
     go (nat_lt (last_clock earlier access first) clocks)
     (own_from clocks (earlier ++ One access ∷ []) (state_after state 0 access) (last_clock earlier access first + 1) items)
   where
-  entry : Done
-  entry = entry_of earlier access state (last_clock earlier access first)
-  rest : List Done
-  rest = log_from clocks (earlier ++ One access ∷ []) (state_after state 0 access) (last_clock earlier access first + 1) items
-  go : (b : Bool) → list_all (λ (done : Done). nat_eq done.agent 0) rest ≡ true
-      → list_all (λ (done : Done). nat_eq done.agent 0) (if b then entry ∷ rest else []) ≡ true
-  go true e = e
-  go false e = refl
+    entry : Done
+    entry = entry_of earlier access state (last_clock earlier access first)
+
+    rest : List Done
+    rest = log_from clocks (earlier ++ One access ∷ []) (state_after state 0 access) (last_clock earlier access first + 1) items
+
+    go : (b : Bool) → list_all (λ (done : Done). nat_eq done.agent 0) rest ≡ true
+        → list_all (λ (done : Done). nat_eq done.agent 0) (if b then entry ∷ rest else []) ≡ true
+    go true e = e
+    go false e = refl
 own_from clocks earlier state first (Locked group ∷ items) = refl
 own_from clocks earlier state first (Idle count ∷ items) = refl
 
@@ -97,17 +103,20 @@ absent_from done clocks earlier state first [] h = refl
 absent_from done clocks earlier state first (One access ∷ items) h =
     go (nat_lt (last_clock earlier access first) clocks)
     (absent_from done clocks (earlier ++ One access ∷ []) (state_after state 0 access) (last_clock earlier access first + 1) items
-        (omega (arith, one_more earlier (One access))))
+    (omega (arith, one_more earlier (One access))))
   where
-  entry : Done
-  entry = entry_of earlier access state (last_clock earlier access first)
-  rest : List Done
-  rest = log_from clocks (earlier ++ One access ∷ []) (state_after state 0 access) (last_clock earlier access first + 1) items
-  apart : is_same_item done entry ≡ false
-  apart = and_right (nat_eq done.agent 0) (nat_eq done.item (length earlier)) (differs done.item (length earlier) h)
-  go : (b : Bool) → list_any (is_same_item done) rest ≡ false → list_any (is_same_item done) (if b then entry ∷ rest else []) ≡ false
-  go true e = rw (apart, e) refl
-  go false e = refl
+    entry : Done
+    entry = entry_of earlier access state (last_clock earlier access first)
+
+    rest : List Done
+    rest = log_from clocks (earlier ++ One access ∷ []) (state_after state 0 access) (last_clock earlier access first + 1) items
+
+    apart : is_same_item done entry ≡ false
+    apart = and_right (nat_eq done.agent 0) (nat_eq done.item (length earlier)) (differs done.item (length earlier) h)
+
+    go : (b : Bool) → list_any (is_same_item done) rest ≡ false → list_any (is_same_item done) (if b then entry ∷ rest else []) ≡ false
+    go true e = rw (apart, e) refl
+    go false e = refl
 absent_from done clocks earlier state first (Locked group ∷ items) h = refl
 absent_from done clocks earlier state first (Idle count ∷ items) h = refl
 
@@ -118,17 +127,20 @@ together_from clocks earlier state first (One access ∷ items) =
     go (nat_lt (last_clock earlier access first) clocks)
     (together_from clocks (earlier ++ One access ∷ []) (state_after state 0 access) (last_clock earlier access first + 1) items)
   where
-  entry : Done
-  entry = entry_of earlier access state (last_clock earlier access first)
-  rest : List Done
-  rest = log_from clocks (earlier ++ One access ∷ []) (state_after state 0 access) (last_clock earlier access first + 1) items
-  alone : comes_again entry rest ≡ false
-  alone = comes_again-absent entry rest
-      (absent_from entry clocks (earlier ++ One access ∷ []) (state_after state 0 access) (last_clock earlier access first + 1) items
-          (omega (arith, one_more earlier (One access))))
-  go : (b : Bool) → are_items_together rest ≡ true → are_items_together (if b then entry ∷ rest else []) ≡ true
-  go true e = rw (alone, e) refl
-  go false e = refl
+    entry : Done
+    entry = entry_of earlier access state (last_clock earlier access first)
+
+    rest : List Done
+    rest = log_from clocks (earlier ++ One access ∷ []) (state_after state 0 access) (last_clock earlier access first + 1) items
+
+    alone : comes_again entry rest ≡ false
+    alone = comes_again-absent entry rest
+        (absent_from entry clocks (earlier ++ One access ∷ []) (state_after state 0 access) (last_clock earlier access first + 1) items
+        (omega (arith, one_more earlier (One access))))
+
+    go : (b : Bool) → are_items_together rest ≡ true → are_items_together (if b then entry ∷ rest else []) ≡ true
+    go true e = rw (alone, e) refl
+    go false e = refl
 together_from clocks earlier state first (Locked group ∷ items) = refl
 together_from clocks earlier state first (Idle count ∷ items) = refl
 
@@ -141,6 +153,7 @@ in_order_solo clocks settings scripts = record {
 } where
   log : List Done
   log = solo_log clocks settings (script_of scripts 0)
+
   follows : (agent : ℕ) → AreOfItems (script_of scripts agent) (steps_of agent log)
   follows zero = record { items = length log; same = steps_from_front clocks [] (start_of settings) 0 (script_of scripts 0) }
   follows (suc agent) = record {

@@ -1,5 +1,5 @@
 -- A list that is cut at a length.
-use Rattle.std.proofs.Common.{◌≡◌, ℕ, ◌<◌, ◌≤◌, arith, List, [], ◌++◌, length, take, drop, refl, sym, ap, ◌∙◌, append-nil, ◌⊎◌, inl, inr}
+use Rattle.std.proofs.Common.{◌≡◌, ℕ, ◌<◌, ◌≤◌, arith, List, ◌++◌, length, take, sym, ap, ◌∙◌, append-nil}
 use Rattle.std.proofs.Math.Logic.{⊎_elim}
 use Rattle.std.proofs.lemmas.Bool.{cases_lt}
 use Rattle.std.proofs.lemmas.List.{take-append-le, take-take, take-append-drop, drop_all, length-take-le}
@@ -14,5 +14,6 @@ take_again n xs ys = ⊎_elim long short (cases_lt n (length xs)) where
   long : n < length xs → take n (take n xs ++ ys) ≡ take n (xs ++ ys)
   long h =
       take-append-le n (take n xs) ys (let h : n ≤ length xs = omega arith in rw length-take-le (omega arith)) ∙ take-take n n xs (omega arith) ∙ sym (take-append-le n xs ys (omega arith))
+
   short : length xs ≤ n → take n (take n xs ++ ys) ≡ take n (xs ++ ys)
   short h = ap (λ l. take n (l ++ ys)) (take_short n xs h)

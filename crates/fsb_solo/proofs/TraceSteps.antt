@@ -1,5 +1,5 @@
 -- One step of the waveform.
-use Rattle.std.proofs.Common.{◌≡◌, ℕ, ◌+◌, ◌-◌, ◌<◌, ◌≤◌, arith, Bool, true, false, not, nat_eq, List, [], ◌∷◌, ◌++◌, length, take, drop, get_or, replicate, refl, sym, ap, ◌∙◌, subst, append_assoc, append-nil, if◌then◌else◌}
+use Rattle.std.proofs.Common.{◌≡◌, ℕ, ◌+◌, ◌-◌, ◌<◌, ◌≤◌, arith, Bool, not, nat_eq, List, [], ◌∷◌, ◌++◌, length, take, drop, get_or, replicate, refl, sym, ap, ◌∙◌, append_assoc}
 use Rattle.std.specs.HashSet.{HashSet, contains}
 use Rattle.fsb_access.specs.Access.{line_of}
 use Rattle.fsb_access.specs.ByteMemory.{ByteMemory}
@@ -26,19 +26,23 @@ pub runs_more : (room : ℕ) (memory : ByteMemory) (items : List Item) (trace wh
     → Runs room memory items (take room (trace ++ clocks_of is_new memory access)) whole (i + 1)
 runs_more room memory items trace whole i x access is_new h at is new s = record {
   ahead = take_again room (trace ++ clocks_of is_new memory access) (rest ++ pad)
-    ∙ ap (λ l. take room l) (append_assoc trace (clocks_of is_new memory access) (rest ++ pad)
-        ∙ ap (λ l. trace ++ l) (sym (append_assoc (clocks_of is_new memory access) rest pad)
-            ∙ ap (λ l. l ++ pad) (ap (λ l. clocks_of is_new memory access ++ l) earlier ∙ ap (λ b. clocks_of b memory access ++ later) new ∙ front)))
-    ∙ s.ahead;
+      ∙ ap (λ l. take room l) (append_assoc trace (clocks_of is_new memory access) (rest ++ pad)
+      ∙ ap (λ l. trace ++ l) (sym (append_assoc (clocks_of is_new memory access) rest pad)
+      ∙ ap (λ l. l ++ pad) (ap (λ l. clocks_of is_new memory access ++ l) earlier ∙ ap (λ b. clocks_of b memory access ++ later) new ∙ front)))
+      ∙ s.ahead;
 } where
   pad : List Sample
   pad = replicate room idle
+
   rest : List Sample
   rest = samples_from memory (take (i + 1) items) (drop (i + 1) items)
+
   later : List Sample
   later = samples_from memory (take i items ++ One access ∷ []) (drop (i + 1) items)
+
   earlier : rest ≡ later
   earlier = ap (λ l. samples_from memory l (drop (i + 1) items)) (take_at items i x h at ∙ ap (λ y. take i items ++ y ∷ []) is)
+
   front : clocks_of (not (was_named (take i items) access)) memory access ++ later ≡ samples_from memory (take i items) (drop i items)
   front = ap (λ l. samples_from memory (take i items) l) (ap (λ y. y ∷ drop (i + 1) items) (sym is) ∙ sym (drop_at items i x h at))
 
@@ -71,5 +75,5 @@ filled room count trace e h =
     ap (λ n. take room trace ++ replicate (room - n) idle) e
     ∙ ap (λ l. l ++ replicate (room - length trace) idle) (take_short room trace h)
     ∙ sym (ap (λ n. take n (trace ++ replicate room idle)) (let whole : room ≡ length trace + (room - length trace) = omega arith in whole)
-        ∙ take-append-add trace (replicate room idle) (room - length trace)
-        ∙ ap (λ l. trace ++ l) (take-replicate (room - length trace) room idle (omega arith)))
+    ∙ take-append-add trace (replicate room idle) (room - length trace)
+    ∙ ap (λ l. trace ++ l) (take-replicate (room - length trace) room idle (omega arith)))

@@ -1,5 +1,5 @@
 -- The log of one agent on lines of its own.
-use Rattle.std.specs.Prelude.{◌≡◌, ℕ, ◌+◌, Bool, false, ◌==◌, if◌then◌else◌, nat_lt, List, [], ◌∷◌, ◌++◌, Option, Some, length, slice_get}
+use Rattle.std.specs.Prelude.{◌≡◌, ℕ, ◌+◌, Bool, false, ◌==◌, if◌then◌else◌, nat_lt, List, [], ◌∷◌, ◌++◌, Some, length, slice_get}
 use Rattle.std.specs.List.{list_any}
 use Rattle.fsb_access.specs.Access.{line_of, IsLawfulAccess}
 use Rattle.fsb_access.specs.Replay.{ReplayState, start_of, served_value, state_after}
@@ -45,7 +45,7 @@ log_from clocks earlier state first [] = []
 log_from clocks earlier state first (One access ∷ items) =
     if nat_lt (last_clock earlier access first) clocks
     then entry_of earlier access state (last_clock earlier access first)
-        ∷ log_from clocks (earlier ++ One access ∷ []) (state_after state 0 access) (last_clock earlier access first + 1) items
+    ∷ log_from clocks (earlier ++ One access ∷ []) (state_after state 0 access) (last_clock earlier access first + 1) items
     else []
 log_from clocks earlier state first (Locked group ∷ items) = []
 log_from clocks earlier state first (Idle count ∷ items) = []

@@ -1,5 +1,5 @@
 -- The waveform of one agent on lines of its own.
-use Rattle.std.specs.Prelude.{ℕ, Bool, not, ◌+◌, ◌*◌, ◌/◌, ◌%◌, true, if◌then◌else◌, List, [], ◌∷◌, ◌++◌, take, replicate, slice_index, slice_index_or}
+use Rattle.std.specs.Prelude.{ℕ, Bool, not, ◌+◌, ◌*◌, true, if◌then◌else◌, List, [], ◌∷◌, ◌++◌, take, replicate, slice_index, slice_index_or}
 use Rattle.std.specs.Int.RustNames.{bit_or}
 use Rattle.fsb_access.specs.Access.{line_of, chunk_of}
 use Rattle.fsb_access.specs.ByteMemory.{ByteMemory, memory_of, value_at}

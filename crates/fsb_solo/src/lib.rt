@@ -10,6 +10,6 @@ pub use trace::trace_of;
 
 mod burst;
 mod log;
-mod trace;
 #[cfg(test)]
 mod tests;
+mod trace;

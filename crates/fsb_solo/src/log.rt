@@ -12,7 +12,12 @@ use std::collections::HashSet;
 
 /// The log of a script of single accesses over so many clocks, in a memory that begins with the settings. It ends before
 /// the first item that is no single access.
-pub fn log_of(alloc: Global, clocks: u32, settings: &[Setting], items: &[Item]) -> Result<Log, Memory>
+pub fn log_of(
+    alloc: Global,
+    clocks: u32,
+    settings: &[Setting],
+    items: &[Item],
+) -> Result<Log, Memory>
     requires few { length items.now ≤ 4096 }
     requires short { clocks ≤ 200000 }
     requires lawful { AreLawful items.now }

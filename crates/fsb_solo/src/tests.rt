@@ -58,8 +58,9 @@ fn load_then_store_hit(rt: HostRuntime) -> Result<(), Fail> {
 const MOVES: Lines = Lines(Lines::DRDY.0 + Lines::DBSY.0);
 
 /// The same, with the response normal data, 111.
-const RESPONDS: Lines =
-    Lines(Lines::DRDY.0 + Lines::DBSY.0 + Lines::RS0.0 + Lines::RS1.0 + Lines::RS2.0);
+const RESPONDS: Lines = Lines(
+    Lines::DRDY.0 + Lines::DBSY.0 + Lines::RS0.0 + Lines::RS1.0 + Lines::RS2.0,
+);
 
 /// The bytes of chunk 3 of the line of address 40, and the first byte of each other chunk of it.
 const BYTES: [(u64, u8); 11] = [
@@ -91,8 +92,17 @@ fn burst_order_of_chunk_three(rt: HostRuntime) -> Result<(), Fail> {
         [entry(11, 0, load, 0x0807_0605_0403_0201)].as_slice()
     );
     let trace = trace_of(rt.alloc(), 60, &settings, &items)?;
-    for (clock, data) in [(8, 0x0807_0605_0403_0201), (9, 0xc2), (10, 0xc1), (11, 0xc0)] {
-        assert_eq!(rt; trace.get(clock).map(|s| s.dbus.bits), Some(data), "at clock {clock}");
+    for (clock, data) in [
+        (8, 0x0807_0605_0403_0201),
+        (9, 0xc2),
+        (10, 0xc1),
+        (11, 0xc0),
+    ] {
+        assert_eq!(rt;
+            trace.get(clock).map(|s| s.dbus.bits),
+            Some(data),
+            "at clock {clock}"
+        );
     }
     Ok(())
 }

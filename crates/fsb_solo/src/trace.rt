@@ -19,7 +19,12 @@ use std::collections::HashSet;
 
 /// The waveform of a script of single accesses over so many clocks, one sample a clock, in a memory that begins with the
 /// settings. From the first item on that is no single access the bus is idle.
-pub fn trace_of(alloc: Global, clocks: u32, settings: &[Setting], items: &[Item]) -> Result<Vec<Sample>, Memory>
+pub fn trace_of(
+    alloc: Global,
+    clocks: u32,
+    settings: &[Setting],
+    items: &[Item],
+) -> Result<Vec<Sample>, Memory>
     requires lawful { AreLawful items.now }
     ensures trace { IfOk result (λ trace. trace.items ≡ solo_trace clocks settings.now items.now) }
     ensures known { IfOk result (λ trace. IsTrue (is_known_trace trace.items)) }
@@ -38,7 +43,13 @@ pub fn trace_of(alloc: Global, clocks: u32, settings: &[Setting], items: &[Item]
 }
 
 // Appends the clocks of an access, to a new line or to one that was named before. The memory stays as it is.
-fn record_access(trace: &mut Vec<Sample>, room: usize, flat: &mut Flat, is_new: bool, access: &Access) -> Result<(), Memory>
+fn record_access(
+    trace: &mut Vec<Sample>,
+    room: usize,
+    flat: &mut Flat,
+    is_new: bool,
+    access: &Access,
+) -> Result<(), Memory>
     requires lawful { IsLawfulAccess access.now }
     requires within { vec_len trace.old ≤ room }
     requires room { room ≤ vec_capacity trace.old }

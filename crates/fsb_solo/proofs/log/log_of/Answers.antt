@@ -10,7 +10,7 @@ use Rattle.fsb_access.specs.Replay.{Served}
 use Rattle.fsb_access.specs.ScriptOrder.{InOrder}
 use Rattle.fsb_solo.specs.SoloLog.{last_clock, solo_log}
 use Rattle.fsb_solo.proofs.SoloLaws.{served_solo, in_order_solo}
-use Rattle.fsb_solo.proofs.LogSteps.{Stands, HasNamed, drop_at, take_at, has_named_more, last_clock_of, stands_more, stands_same, entry_is, too_late, no_access, is_whole}
+use Rattle.fsb_solo.proofs.LogSteps.{HasNamed, drop_at, take_at, has_named_more, last_clock_of, stands_more, stands_same, entry_is, too_late, no_access, is_whole}
 use Rattle.fsb_solo.proofs.log.log_of.Goals as goal
 use Rattle.fsb_solo.proofs.log.log_of.Goals.{else-loop-number-test, then-loop-number-test+in_default, then-loop-number-test+in-One+in_ok-is_new+then-clock-clocks}
 
@@ -24,33 +24,34 @@ lines_of named earlier access first line clock is_new has added at is =
 pub loop-number-preserved : goal.loop-number-preserved
 loop-number-preserved c =
     let clock : c.last_clock-clock.result ≡ last_clock (take c.loop-number.number c.args.items.now) c.in-One.access c.loop-number.first =
-        lines_of _ (take c.loop-number.number c.args.items.now) c.in-One.access c.loop-number.first _ _ _ c.loop-number.invariant.1 c.in_ok-is_new.ensures.added c.line.ensures c.last_clock-clock.ensures in
-    let item : c.loop-number.number ≡ length (take c.loop-number.number c.args.items.now) = sym (length-take-le _ _ (omega arith)) in
-    (stands_same
-        (c.add.ensures.entries ∙ ap (λ done. c.loop-number.log.entries ++ done ∷ []) (entry_is (take c.loop-number.number c.args.items.now) c.in-One.access (state_of c.loop-number.flat) _ _ _ _ clock item c.in_ok-value.ensures.value))
-        c.in_ok-value.ensures.moves
-        (ap (λ n. n + 1) clock)
-        (stands_more _ c.args.items.now _ _ (state_of c.loop-number.flat) c.loop-number.first _ _ c.in-One.access c.loop-number-test.true c.index-items-number.is c.in-One.is
-            (subst (λ n. n < c.args.clocks) clock c.if-clock-clocks.false) c.loop-number.invariant.0),
-    subst (HasNamed c.insert.new.self) (sym (take_at _ _ _ c.loop-number-test.true c.index-items-number.is ∙ ap (λ y. take c.loop-number.number c.args.items.now ++ y ∷ []) c.in-One.is))
-        (has_named_more _ _ (take c.loop-number.number c.args.items.now) c.in-One.access c.loop-number.invariant.1
-            (subst (λ l. Updates nat_eq c.loop-number.named c.insert.new.self l true) c.line.ensures c.in_ok-is_new.ensures.updates)),
-    omega arith,
-    omega arith,
-    subst (λ entries. length entries ≤ c.loop-number.number + 1) (sym c.add.ensures.entries)
-        (omega (arith, length-append {A = Done}, c.loop-number.invariant.4)))
+    lines_of _ (take c.loop-number.number c.args.items.now) c.in-One.access c.loop-number.first _ _ _ c.loop-number.invariant.1 c.in_ok-is_new.ensures.added c.line.ensures c.last_clock-clock.ensures in
+    let item : c.loop-number.number ≡ length (take c.loop-number.number c.args.items.now) = sym (length-take-le _ _ (omega arith)) in (
+      stands_same
+          (c.add.ensures.entries ∙ ap (λ done. c.loop-number.log.entries ++ done ∷ []) (entry_is (take c.loop-number.number c.args.items.now) c.in-One.access (state_of c.loop-number.flat) _ _ _ _ clock item c.in_ok-value.ensures.value))
+          c.in_ok-value.ensures.moves
+          (ap (λ n. n + 1) clock)
+          (stands_more _ c.args.items.now _ _ (state_of c.loop-number.flat) c.loop-number.first _ _ c.in-One.access c.loop-number-test.true c.index-items-number.is c.in-One.is
+          (subst (λ n. n < c.args.clocks) clock c.if-clock-clocks.false) c.loop-number.invariant.0),
+      subst (HasNamed c.insert.new.self) (sym (take_at _ _ _ c.loop-number-test.true c.index-items-number.is ∙ ap (λ y. take c.loop-number.number c.args.items.now ++ y ∷ []) c.in-One.is))
+          (has_named_more _ _ (take c.loop-number.number c.args.items.now) c.in-One.access c.loop-number.invariant.1
+          (subst (λ l. Updates nat_eq c.loop-number.named c.insert.new.self l true) c.line.ensures c.in_ok-is_new.ensures.updates)),
+      omega arith,
+      omega arith,
+      subst (λ entries. length entries ≤ c.loop-number.number + 1) (sym c.add.ensures.entries)
+          (omega (arith, length-append {A = Done}, c.loop-number.invariant.4)),
+    )
 
 pub returns-clause-log : goal.returns-clause-log
 returns-clause-log c =
     elim c.loop-number-test.branch [
-      else-loop-number-test w ↦ is_whole _ _ _ _ _ _ _ [] (drop_all _ _ w.loop-number-test.false) refl c.loop-number.invariant.0
-    | then-loop-number-test+in_default w ↦ is_whole _ _ _ _ _ _ _ _
-        (drop_at _ _ _ w.loop-number-test.true w.index-items-number.is)
-        (no_access _ _ _ _ _ _ w.in_default.not-One) c.loop-number.invariant.0
-    | then-loop-number-test+in-One+in_ok-is_new+then-clock-clocks w ↦ is_whole _ _ _ _ _ _ _ _
-        (drop_at _ _ _ w.loop-number-test.true w.index-items-number.is ∙ ap (λ y. y ∷ drop (c.loop-number.number + 1) c.args.items.now) w.in-One.is)
-        (too_late _ (take c.loop-number.number c.args.items.now) (drop (c.loop-number.number + 1) c.args.items.now) w.in-One.access (state_of c.loop-number.flat) c.loop-number.first (subst (λ n. c.args.clocks ≤ n)
-            (lines_of _ (take c.loop-number.number c.args.items.now) w.in-One.access c.loop-number.first _ _ _ c.loop-number.invariant.1 w.in_ok-is_new.ensures.added w.line.ensures w.last_clock-clock.ensures) w.if-clock-clocks.true)) c.loop-number.invariant.0
+      | else-loop-number-test w ↦ is_whole _ _ _ _ _ _ _ [] (drop_all _ _ w.loop-number-test.false) refl c.loop-number.invariant.0
+      | then-loop-number-test+in_default w ↦ is_whole _ _ _ _ _ _ _ _
+          (drop_at _ _ _ w.loop-number-test.true w.index-items-number.is)
+          (no_access _ _ _ _ _ _ w.in_default.not-One) c.loop-number.invariant.0
+      | then-loop-number-test+in-One+in_ok-is_new+then-clock-clocks w ↦ is_whole _ _ _ _ _ _ _ _
+          (drop_at _ _ _ w.loop-number-test.true w.index-items-number.is ∙ ap (λ y. y ∷ drop (c.loop-number.number + 1) c.args.items.now) w.in-One.is)
+          (too_late _ (take c.loop-number.number c.args.items.now) (drop (c.loop-number.number + 1) c.args.items.now) w.in-One.access (state_of c.loop-number.flat) c.loop-number.first (subst (λ n. c.args.clocks ≤ n)
+          (lines_of _ (take c.loop-number.number c.args.items.now) w.in-One.access c.loop-number.first _ _ _ c.loop-number.invariant.1 w.in_ok-is_new.ensures.added w.line.ensures w.last_clock-clock.ensures) w.if-clock-clocks.true)) c.loop-number.invariant.0
     ]
 
 pub returns-clause-served : goal.returns-clause-served

@@ -1,4 +1,4 @@
-use Rattle.std.proofs.Common.{◌≡◌, ◌≤◌, ◌+◌, length, take}
+use Rattle.std.proofs.Common.{◌≤◌, ◌+◌, length, take}
 use Rattle.fsb_access.specs.FlatView.{state_of}
 use Rattle.fsb_solo.specs.SoloLog.{solo_log}
 use Rattle.fsb_solo.proofs.LogSteps.{HasNamed, Stands}
