@@ -204,8 +204,12 @@ fn rejected_rows(rt: HostRuntime) {
     assert_eq!(rt; verdict(&least), Some((1, 2)));
     let depth = laid_out(rt.alloc(), &QUEUE_DEPTH_BROKEN).expect(&rt, "out of memory");
     assert_eq!(rt; verdict(&depth), Some((26, 4)));
+    let eight = laid_out(rt.alloc(), &QUEUE_DEPTH_BROKEN[..26]).expect(&rt, "out of memory");
+    assert_eq!(rt; verdict(&eight), None);
     let nobody = laid_out(rt.alloc(), &REQUEST_WITHOUT_WINNER).expect(&rt, "out of memory");
     assert_eq!(rt; verdict(&nobody), Some((2, 6)));
+    let quiet = laid_out(rt.alloc(), &REQUEST_WITHOUT_WINNER[..2]).expect(&rt, "out of memory");
+    assert_eq!(rt; verdict(&quiet), None);
     assert_eq!(rt; verdict(&[]), None);
 }
 
