@@ -1,3 +1,7 @@
 pub mod Numbers
 pub mod Split
 pub mod HeadLines
+pub mod MemoryLines
+pub mod AccessLines
+pub mod Scripts
+pub mod Whole

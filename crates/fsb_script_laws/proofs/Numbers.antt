@@ -124,7 +124,7 @@ hex_onto (suc k) d n ds few below = by (λ e small less. hex_onto k e (n / 16) (
 abbrev pub is_figure : ℕ → Bool
 is_figure b = nat_le 48 b && nat_le b 102
 
-figure : (d : ℕ) → d < 16 → is_figure (digit_glyph false d) ≡ true
+pub figure : (d : ℕ) → d < 16 → is_figure (digit_glyph false d) ≡ true
 figure d small = by (nat_lt d 10) refl
   where
     within : (b : ℕ) → 48 ≤ b → b ≤ 102 → is_figure b ≡ true

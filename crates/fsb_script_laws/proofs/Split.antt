@@ -11,9 +11,10 @@ use Rattle.fsb_io.specs.NumberText.{hexadecimal}
 use Rattle.fsb_script.specs.Words.{lines_of, is_blank, word_len, next_word}
 use Rattle.fsb_script.specs.Words.{decimal as decimal_word, hexadecimal as hex_word}
 use Rattle.fsb_script.specs.declared.fault.Cause.{Cause}
+use Rattle.fsb_script.specs.Text.{digit_text}
 use Rattle.fsb_script.specs.Plans.{PlanView}
 use Rattle.fsb_script.specs.Drafts.{Progress, after_line, plan_from}
-use Rattle.fsb_script_laws.proofs.Numbers.{is_figure, Figures, decimal_figures, hex_figures, decimal_back, hex_back}
+use Rattle.fsb_script_laws.proofs.Numbers.{is_figure, figure, Figures, decimal_figures, hex_figures, decimal_back, hex_back}
 
 pub both : (a b : Bool) → a ≡ true → b ≡ true → (a && b) ≡ true
 both true true p q = refl
@@ -135,3 +136,7 @@ GoesOn d text p = (number : ℕ) → plan_from number d (lines_of text) ≡ Ok p
 
 pub goes_on : (d e : Progress) (line rest : List ℕ) (p : PlanView) → list_all is_inner line ≡ true → after_line d line ≡ Ok e → GoesOn e rest p → GoesOn d (line ++ (10 ∷ rest)) p
 goes_on d e line rest p inner taken then_ number = rw (first_line_is line rest inner) (rw taken (then_ (number + 1)))
+
+-- the two digits of a byte
+pub byte_word : (high low : ℕ) → high < 16 → low < 16 → Word (digit_text high ∷ digit_text low ∷ [])
+byte_word high low h l = record { some = omega arith; plain = figures_plain (digit_text high ∷ digit_text low ∷ []) (both (is_figure (digit_text high)) _ (figure high h) (both (is_figure (digit_text low)) true (figure low l) refl)) }
