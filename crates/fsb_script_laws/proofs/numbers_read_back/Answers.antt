@@ -1,5 +1,3 @@
-use Rattle.fsb_script_laws.proofs.HeadLines.{head_goes_on}
-use Rattle.fsb_script_laws.proofs.MemoryLines.{settings_go_on}
 use Rattle.fsb_script_laws.proofs.Numbers.{decimal_back, hex_back, byte_back}
 use Rattle.fsb_script_laws.proofs.numbers_read_back.Goals as goal
 
