@@ -5,3 +5,4 @@ pub mod MemoryLines
 pub mod AccessLines
 pub mod Scripts
 pub mod Whole
+pub mod EachLine

@@ -35,7 +35,7 @@ item_state clocks cache mem script lines = record beginning { place = at_items.p
 abbrev pub before_script : Bool → Progress
 before_script set = cond set at_memory at_bridge
 
-abbrev setting_words : ℕ → ℕ → List ℕ
+abbrev pub setting_words : ℕ → ℕ → List ℕ
 setting_words addr byte = hexadecimal addr ++ (32 ∷ (digit_text (byte / 16) ∷ digit_text (byte % 16) ∷ []))
 
 pub memory_back : (addr byte : ℕ) → addr < 2 ^ 36 → byte < 256 → memory_of (32 ∷ setting_words addr byte) ≡ Ok (addr, byte ∷ [])
@@ -54,11 +54,11 @@ unfolding after_line is_read_past heading_of first_line agents_line clocks_line 
 setting_taken true clocks cache mem addr byte below small = rw (memory_back addr byte below small) refl
 setting_taken false clocks cache mem addr byte below small = rw (memory_back addr byte below small) refl
 
-setting_line : (addr byte : ℕ) (rest : List ℕ) → setting_text (record { addr = addr; byte = byte }) ++ rest ≡ (codes "mem " ++ setting_words addr byte) ++ (10 ∷ rest)
+pub setting_line : (addr byte : ℕ) (rest : List ℕ) → setting_text (record { addr = addr; byte = byte }) ++ rest ≡ (codes "mem " ++ setting_words addr byte) ++ (10 ∷ rest)
 unfolding setting_text
 setting_line addr byte rest = simp append_assoc
 
-setting_inner : (addr byte : ℕ) → addr < 2 ^ 36 → byte < 256 → list_all is_inner (codes "mem " ++ setting_words addr byte) ≡ true
+pub setting_inner : (addr byte : ℕ) → addr < 2 ^ 36 → byte < 256 → list_all is_inner (codes "mem " ++ setting_words addr byte) ≡ true
 setting_inner addr byte below small =
     let wide : addr < 16 ^ 16 = omega arith in
     inner_append (codes "mem ") (setting_words addr byte) refl

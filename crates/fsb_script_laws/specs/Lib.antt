@@ -1,1 +1,2 @@
 pub mod BuiltPlans
+pub mod LineTexts
