@@ -1,6 +1,6 @@
 -- The lines of loads and stores read back.
-use Rattle.std.proofs.Common.{◌≡◌, ℕ, suc, ◌+◌, ◌*◌, ◌/◌, ◌%◌, ◌^◌, ◌<◌, ◌≤◌, Bool, true, false, cond, eqb, List, [], ◌∷◌, ◌++◌, length, Ok, refl, sym, ap, subst, ◌∙◌, arith, lit<}
-use Rattle.std.specs.Prelude.{◌&&◌, ◌||◌, codes, nat_lt, nat_le, slice_index}
+use Rattle.std.proofs.Common.{◌≡◌, ℕ, ◌*◌, ◌%◌, ◌^◌, ◌<◌, ◌≤◌, Bool, true, false, eqb, List, [], ◌∷◌, ◌++◌, length, Ok, refl, arith, lit<}
+use Rattle.std.specs.Prelude.{◌&&◌, codes, nat_lt, nat_le, slice_index}
 use Rattle.std.specs.List.{list_all}
 use Rattle.std.specs.Fmt.{decimal}
 use Rattle.std.proofs.lemmas.Bool.{le-leb, leb-true, leb-false, lt-ltb, ltb-true, ne_eqb}
@@ -16,7 +16,7 @@ use Rattle.fsb_script.specs.Words.{ended, address}
 use Rattle.fsb_script.specs.Statements.{size_at, aligned_at, load_of, store_of, operand_of, literal_of, is_added}
 use Rattle.fsb_script.specs.Text.{access_text, operand_text}
 use Rattle.fsb_script_laws.proofs.Numbers.{is_figure, Figures, hex_figures, hex_back}
-use Rattle.fsb_script_laws.proofs.Split.{first_of_both, second_of_both, both, is_plain, is_inner, Word, plain_inner, figures_word, decimal_next, hex_next, hex_last, hex_inner, next_behind, decimal_inner, inner_append}
+use Rattle.fsb_script_laws.proofs.Split.{first_of_both, second_of_both, is_inner, Word, plain_inner, figures_word, decimal_next, hex_next, hex_last, hex_inner, next_behind, decimal_inner, inner_append}
 
 above : (n : ℕ) → 8 < n → is_size n ≡ false
 above n h = rw (ne_eqb n 1 (λ e. omega arith), ne_eqb n 2 (λ e. omega arith), ne_eqb n 4 (λ e. omega arith), ne_eqb n 8 (λ e. omega arith)) refl
@@ -57,7 +57,7 @@ load_back size addr at =
     let small : size < 10 ^ 18 = omega (arith, at.small) in
     let wide : addr < 16 ^ 16 = omega (arith, at.below) in
     rw (decimal_next size (32 ∷ hexadecimal addr) small refl)
-      (rw (at.size_is) (rw (hex_last addr wide) (rw (lt-ltb addr (2 ^ 36) at.below) (rw (at.aligned) refl))))
+    (rw (at.size_is) (rw (hex_last addr wide) (rw (lt-ltb addr (2 ^ 36) at.below) (rw (at.aligned) refl))))
 
 -- ---- operands
 
@@ -109,8 +109,8 @@ store_back size addr value at fit =
     let small : size < 10 ^ 18 = omega (arith, at.small) in
     let wide : addr < 16 ^ 16 = omega (arith, at.below) in
     rw (decimal_next size (32 ∷ (hexadecimal addr ++ (32 ∷ operand_text value))) small refl)
-      (rw (at.size_is) (rw (hex_next addr (32 ∷ operand_text value) wide refl) (rw (lt-ltb addr (2 ^ 36) at.below) (rw (at.aligned)
-        (rw (rw append-nil at (next_behind (operand_text value) [] (operand_word size value at.small fit) refl)) (rw (operand_back size value at.small fit) refl))))))
+    (rw (at.size_is) (rw (hex_next addr (32 ∷ operand_text value) wide refl) (rw (lt-ltb addr (2 ^ 36) at.below) (rw (at.aligned)
+    (rw (rw append-nil at (next_behind (operand_text value) [] (operand_word size value at.small fit) refl)) (rw (operand_back size value at.small fit) refl))))))
 
 -- ---- the lines
 

@@ -1,5 +1,5 @@
 -- Each kind of line reads back, whether its form is built or not.
-use Rattle.std.proofs.Common.{◌≡◌, ℕ, suc, ◌+◌, ◌*◌, ◌%◌, ◌^◌, ◌<◌, ◌≤◌, Bool, true, false, cond, eqb, List, [], ◌∷◌, ◌++◌, length, Result, Ok, refl, sym, ap, subst, ◌∙◌, arith, lit<}
+use Rattle.std.proofs.Common.{◌≡◌, ℕ, ◌+◌, ◌%◌, ◌^◌, ◌<◌, ◌≤◌, true, eqb, List, [], ◌∷◌, ◌++◌, Result, Ok, refl, sym, ap, ◌∙◌, arith}
 use Rattle.std.specs.Prelude.{◌&&◌, codes, nat_lt, nat_le, IsTrue}
 use Rattle.std.specs.List.{list_all}
 use Rattle.std.specs.Fmt.{decimal}
@@ -24,7 +24,7 @@ use Rattle.fsb_script_laws.specs.BuiltPlans.{is_byte_setting}
 use Rattle.fsb_script_laws.specs.LineTexts.{IsLineOf, is_of_request}
 use Rattle.fsb_script_laws.proofs.Split.{first_of_both, second_of_both, both, is_inner, decimal_next, decimal_last, decimal_inner, hex_next, hex_last, hex_inner, inner_append, first_line_is}
 use Rattle.fsb_script_laws.proofs.MemoryLines.{setting_words, memory_back, setting_line, setting_inner}
-use Rattle.fsb_script_laws.proofs.AccessLines.{load_words, store_words, place_is, load_back, store_back, access_line, access_line_is, access_inner}
+use Rattle.fsb_script_laws.proofs.AccessLines.{place_is, load_back, store_back, access_line, access_line_is, access_inner}
 
 -- a line with its line feed is one line
 one_line : (line text : List ℕ) → text ≡ line ++ (10 ∷ []) → list_all is_inner line ≡ true → lines_of text ≡ line ∷ []
@@ -48,10 +48,13 @@ pub memory_line_back : (s : Setting) → IsTrue (is_lawful_setting s) → IsTrue
 unfolding keyword next_word
 memory_line_back s lawful bytes =
     let below : s.addr < 2 ^ 36 = ltb-true s.addr (2 ^ 36) lawful in
-    let small : s.byte < 256 = ltb-true s.byte 256 bytes in
-    (codes "mem " ++ setting_words s.addr s.byte, (
-      one_line (codes "mem " ++ setting_words s.addr s.byte) (setting_text s) (sym (append-nil (setting_text s)) ∙ setting_line s.addr s.byte []) (setting_inner s.addr s.byte below small),
-      memory_back s.addr s.byte below small))
+    let small : s.byte < 256 = ltb-true s.byte 256 bytes in (
+      codes "mem " ++ setting_words s.addr s.byte,
+      (
+        one_line (codes "mem " ++ setting_words s.addr s.byte) (setting_text s) (sym (append-nil (setting_text s)) ∙ setting_line s.addr s.byte []) (setting_inner s.addr s.byte below small),
+        memory_back s.addr s.byte below small,
+      ),
+    )
 
 abbrev window_words : ℕ → ℕ → List ℕ
 window_words base size = hexadecimal base ++ (32 ∷ hexadecimal size)
@@ -67,7 +70,7 @@ window_back base size below base_whole some size_whole last =
     let wide_size : size < 16 ^ 16 = omega arith in
     let size_small : size ≤ 2 ^ 36 = omega arith in
     rw (hex_next base (32 ∷ hexadecimal size) wide refl) (rw (lt-ltb base (2 ^ 36) below) (rw base_whole
-      (rw (hex_last size wide_size) (rw (le-leb size (2 ^ 36) size_small) (rw (lt-ltb 0 size some) (rw size_whole (rw (le-leb (base + size) (2 ^ 36) last) refl)))))))
+    (rw (hex_last size wide_size) (rw (le-leb size (2 ^ 36) size_small) (rw (lt-ltb 0 size some) (rw size_whole (rw (le-leb (base + size) (2 ^ 36) last) refl)))))))
 
 pub window_line_back : (w : Window) → IsTrue (is_lawful_window w) → IsLineOf (codes "bridge") window_of (window_text w) w
 unfolding keyword next_word
@@ -79,11 +82,14 @@ window_line_back w lawful =
     let some : 0 < w.size = ltb-true 0 w.size (first_of_both (nat_lt 0 w.size) (eqb (w.size % 32) 0) size_is) in
     let last : w.base + w.size ≤ 2 ^ 36 = leb-true (w.base + w.size) (2 ^ 36) (second_of_both (nat_lt 0 w.size && eqb (w.size % 32) 0) (nat_le (w.base + w.size) (2 ^ 36)) there) in
     let wide : w.base < 16 ^ 16 = omega arith in
-    let wide_size : w.size < 16 ^ 16 = omega arith in
-    (codes "bridge " ++ window_words w.base w.size, (
-      one_line (codes "bridge " ++ window_words w.base w.size) (window_text w) (window_line w.base w.size)
-        (inner_append (codes "bridge ") (window_words w.base w.size) refl (inner_append (hexadecimal w.base) (32 ∷ hexadecimal w.size) (hex_inner w.base wide) (hex_inner w.size wide_size))),
-      window_back w.base w.size below (second_of_both (nat_lt w.base (2 ^ 36)) (eqb (w.base % 32) 0) here) some (second_of_both (nat_lt 0 w.size) (eqb (w.size % 32) 0) size_is) last))
+    let wide_size : w.size < 16 ^ 16 = omega arith in (
+      codes "bridge " ++ window_words w.base w.size,
+      (
+        one_line (codes "bridge " ++ window_words w.base w.size) (window_text w) (window_line w.base w.size)
+            (inner_append (codes "bridge ") (window_words w.base w.size) refl (inner_append (hexadecimal w.base) (32 ∷ hexadecimal w.size) (hex_inner w.base wide) (hex_inner w.size wide_size))),
+        window_back w.base w.size below (second_of_both (nat_lt w.base (2 ^ 36)) (eqb (w.base % 32) 0) here) some (second_of_both (nat_lt 0 w.size) (eqb (w.size % 32) 0) size_is) last,
+      ),
+    )
 
 -- ---- the items of a script
 
@@ -96,8 +102,13 @@ load_line_back size addr lawful = (access_line (Load size addr), (access_one_lin
 
 pub store_line_back : (size addr : ℕ) (value : Operand) → IsTrue (is_lawful_access (Store size addr value)) → IsLineOf (codes "st") store_of (access_text (Store size addr value)) (Store size addr value)
 unfolding keyword next_word
-store_line_back size addr value lawful = (access_line (Store size addr value), (access_one_line (Store size addr value) lawful,
-    store_back size addr value (place_is size addr (first_of_both (is_place size addr) (fits size (number_of value)) lawful)) (second_of_both (is_place size addr) (fits size (number_of value)) lawful)))
+store_line_back size addr value lawful = (
+  access_line (Store size addr value),
+  (
+    access_one_line (Store size addr value) lawful,
+    store_back size addr value (place_is size addr (first_of_both (is_place size addr) (fits size (number_of value)) lawful)) (second_of_both (is_place size addr) (fits size (number_of value)) lawful),
+  ),
+)
 
 idle_line : (n : ℕ) → idle_text n ≡ (codes "idle " ++ decimal n) ++ (10 ∷ [])
 unfolding idle_text
@@ -224,10 +235,13 @@ pub transaction_line_back : (h : HazardLine) → IsTrue (is_of_request h) → Is
 unfolding keyword next_word
 transaction_line_back h is lawful =
     let most : request_of h ≤ 199999 = request_small h lawful is in
-    let small : request_of h < 10 ^ 18 = omega arith in
-    (codes "tx " ++ hazard_words h, (
-      one_line (codes "tx " ++ hazard_words h) (hazard_text h) (hazard_line_is h is) (inner_append (codes "tx ") (hazard_words h) refl (inner_append (decimal (request_of h)) (32 ∷ turn_words h) (decimal_inner (request_of h) small) (turn_inner h lawful is))),
-      transaction_back h lawful is))
+    let small : request_of h < 10 ^ 18 = omega arith in (
+      codes "tx " ++ hazard_words h,
+      (
+        one_line (codes "tx " ++ hazard_words h) (hazard_text h) (hazard_line_is h is) (inner_append (codes "tx ") (hazard_words h) refl (inner_append (decimal (request_of h)) (32 ∷ turn_words h) (decimal_inner (request_of h) small) (turn_inner h lawful is))),
+        transaction_back h lawful is,
+      ),
+    )
 
 block_line_is : (from to : ℕ) → hazard_text (Bnr from to) ≡ (codes "bnr " ++ (decimal from ++ (32 ∷ decimal to))) ++ (10 ∷ [])
 unfolding hazard_text
@@ -247,7 +261,10 @@ block_line_back from to lawful =
     let order : from ≤ to = leb-true from to (first_of_both (nat_le from to) (nat_le to 199999) lawful) in
     let most : to ≤ 199999 = leb-true to 199999 (second_of_both (nat_le from to) (nat_le to 199999) lawful) in
     let small : from < 10 ^ 18 = omega arith in
-    let small_to : to < 10 ^ 18 = omega arith in
-    (codes "bnr " ++ (decimal from ++ (32 ∷ decimal to)), (
-      one_line (codes "bnr " ++ (decimal from ++ (32 ∷ decimal to))) (hazard_text (Bnr from to)) (block_line_is from to) (inner_append (codes "bnr ") (decimal from ++ (32 ∷ decimal to)) refl (inner_append (decimal from) (32 ∷ decimal to) (decimal_inner from small) (decimal_inner to small_to))),
-      block_back from to order most))
+    let small_to : to < 10 ^ 18 = omega arith in (
+      codes "bnr " ++ (decimal from ++ (32 ∷ decimal to)),
+      (
+        one_line (codes "bnr " ++ (decimal from ++ (32 ∷ decimal to))) (hazard_text (Bnr from to)) (block_line_is from to) (inner_append (codes "bnr ") (decimal from ++ (32 ∷ decimal to)) refl (inner_append (decimal from) (32 ∷ decimal to) (decimal_inner from small) (decimal_inner to small_to))),
+        block_back from to order most,
+      ),
+    )

@@ -1,6 +1,6 @@
 -- The five lines of a head read back.
-use Rattle.std.proofs.Common.{◌≡◌, ℕ, ◌+◌, ◌^◌, ◌<◌, ◌≤◌, Bool, true, List, [], ◌∷◌, ◌++◌, None, Result, Ok, Err, refl, sym, ap, subst, ◌∙◌, arith, lit<}
-use Rattle.std.specs.Prelude.{codes, nat_le, IsTrue}
+use Rattle.std.proofs.Common.{◌≡◌, ℕ, ◌^◌, ◌<◌, ◌≤◌, true, List, [], ◌∷◌, ◌++◌, Result, Ok, Err, refl, sym, subst, arith, lit<}
+use Rattle.std.specs.Prelude.{codes}
 use Rattle.std.specs.List.{list_all}
 use Rattle.std.specs.Fmt.{decimal}
 use Rattle.std.proofs.lemmas.Bool.{le-leb}
@@ -78,8 +78,8 @@ head_goes_on clocks cache rest p few small lawful then_ =
     let below_clocks : clocks < 10 ^ 18 = omega arith in
     let below_cache : cache < 10 ^ 18 = omega arith in
     subst (λ text. GoesOn beginning text p) (sym (head_lines clocks cache rest)) (
-      goes_on beginning (head_state at_agents 0 1 []) (codes "p6bench 1") ((codes "agents " ++ decimal 1) ++ (10 ∷ ((codes "clocks " ++ decimal clocks) ++ (10 ∷ ((codes "cache " ++ decimal cache) ++ (10 ∷ ((codes "ahead " ++ decimal 1) ++ (10 ∷ rest)))))))) p refl first_taken (
-      goes_on (head_state at_agents 0 1 []) (head_state at_clocks 0 1 []) (codes "agents " ++ decimal 1) ((codes "clocks " ++ decimal clocks) ++ (10 ∷ ((codes "cache " ++ decimal cache) ++ (10 ∷ ((codes "ahead " ++ decimal 1) ++ (10 ∷ rest)))))) p (word_inner (codes "agents ") 1 (lit< tt) refl) agents_taken (
-      goes_on (head_state at_clocks 0 1 []) (head_state at_cache clocks 1 []) (codes "clocks " ++ decimal clocks) ((codes "cache " ++ decimal cache) ++ (10 ∷ ((codes "ahead " ++ decimal 1) ++ (10 ∷ rest)))) p (word_inner (codes "clocks ") clocks below_clocks refl) (clocks_taken clocks few) (
-      goes_on (head_state at_cache clocks 1 []) (head_state at_ahead clocks cache []) (codes "cache " ++ decimal cache) ((codes "ahead " ++ decimal 1) ++ (10 ∷ rest)) p (word_inner (codes "cache ") cache below_cache refl) (cache_taken clocks cache small lawful) (
-      goes_on (head_state at_ahead clocks cache []) (head_state at_bridge clocks cache []) (codes "ahead " ++ decimal 1) rest p (word_inner (codes "ahead ") 1 (lit< tt) refl) (ahead_taken clocks cache) then_)))))
+    goes_on beginning (head_state at_agents 0 1 []) (codes "p6bench 1") ((codes "agents " ++ decimal 1) ++ (10 ∷ ((codes "clocks " ++ decimal clocks) ++ (10 ∷ ((codes "cache " ++ decimal cache) ++ (10 ∷ ((codes "ahead " ++ decimal 1) ++ (10 ∷ rest)))))))) p refl first_taken (
+    goes_on (head_state at_agents 0 1 []) (head_state at_clocks 0 1 []) (codes "agents " ++ decimal 1) ((codes "clocks " ++ decimal clocks) ++ (10 ∷ ((codes "cache " ++ decimal cache) ++ (10 ∷ ((codes "ahead " ++ decimal 1) ++ (10 ∷ rest)))))) p (word_inner (codes "agents ") 1 (lit< tt) refl) agents_taken (
+    goes_on (head_state at_clocks 0 1 []) (head_state at_cache clocks 1 []) (codes "clocks " ++ decimal clocks) ((codes "cache " ++ decimal cache) ++ (10 ∷ ((codes "ahead " ++ decimal 1) ++ (10 ∷ rest)))) p (word_inner (codes "clocks ") clocks below_clocks refl) (clocks_taken clocks few) (
+    goes_on (head_state at_cache clocks 1 []) (head_state at_ahead clocks cache []) (codes "cache " ++ decimal cache) ((codes "ahead " ++ decimal 1) ++ (10 ∷ rest)) p (word_inner (codes "cache ") cache below_cache refl) (cache_taken clocks cache small lawful) (
+    goes_on (head_state at_ahead clocks cache []) (head_state at_bridge clocks cache []) (codes "ahead " ++ decimal 1) rest p (word_inner (codes "ahead ") 1 (lit< tt) refl) (ahead_taken clocks cache) then_)))))

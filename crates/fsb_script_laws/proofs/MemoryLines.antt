@@ -1,6 +1,6 @@
 -- The lines of memory, and the line that begins a script, read back.
-use Rattle.std.proofs.Common.{◌≡◌, ℕ, suc, ◌+◌, ◌*◌, ◌/◌, ◌%◌, ◌^◌, ◌<◌, ◌≤◌, Bool, true, false, cond, List, [], ◌∷◌, ◌++◌, Ok, refl, sym, ap, subst, ◌∙◌, arith, lit<}
-use Rattle.std.specs.Prelude.{◌&&◌, codes, nat_lt, nat_le, IsTrue}
+use Rattle.std.proofs.Common.{◌≡◌, ℕ, ◌+◌, ◌/◌, ◌%◌, ◌^◌, ◌<◌, ◌≤◌, Bool, true, false, cond, List, [], ◌∷◌, ◌++◌, Ok, refl, sym, subst, ◌∙◌, arith, lit<}
+use Rattle.std.specs.Prelude.{codes}
 use Rattle.std.specs.List.{list_all}
 use Rattle.std.specs.Fmt.{decimal}
 use Rattle.std.proofs.lemmas.Bool.{le-leb, lt-ltb, ltb-true}
@@ -18,7 +18,7 @@ use Rattle.fsb_script.specs.Drafts.{Progress, beginning, after_line, heading_of,
 use Rattle.fsb_script.specs.Text.{setting_text, settings_text, agent_text, digit_text}
 use Rattle.fsb_script_laws.specs.BuiltPlans.{is_byte_setting}
 use Rattle.fsb_script_laws.proofs.Numbers.{byte_back}
-use Rattle.fsb_script_laws.proofs.Split.{first_of_both, second_of_both, both, is_inner, plain_inner, hex_next, hex_inner, byte_word, next_behind, decimal_last, decimal_inner, inner_append, GoesOn, goes_on}
+use Rattle.fsb_script_laws.proofs.Split.{first_of_both, second_of_both, is_inner, plain_inner, hex_next, hex_inner, byte_word, next_behind, decimal_last, decimal_inner, inner_append, GoesOn, goes_on}
 use Rattle.fsb_script_laws.proofs.HeadLines.{behind, at_bridge, head_state}
 
 abbrev pub at_memory : Progress
@@ -44,9 +44,9 @@ memory_back addr byte below small =
     let wide : addr < 16 ^ 16 = omega arith in
     let inside : addr + 1 ≤ 2 ^ 36 = omega arith in
     rw (hex_next addr (32 ∷ (digit_text (byte / 16) ∷ digit_text (byte % 16) ∷ [])) wide refl)
-      (rw (lt-ltb addr (2 ^ 36) below)
-        (rw (next_behind (digit_text (byte / 16) ∷ digit_text (byte % 16) ∷ []) [] (byte_word (byte / 16) (byte % 16) (omega arith) (omega arith)) refl)
-          (rw (byte_back byte small) (rw (le-leb (addr + 1) (2 ^ 36) inside) refl))))
+    (rw (lt-ltb addr (2 ^ 36) below)
+    (rw (next_behind (digit_text (byte / 16) ∷ digit_text (byte % 16) ∷ []) [] (byte_word (byte / 16) (byte % 16) (omega arith) (omega arith)) refl)
+    (rw (byte_back byte small) (rw (le-leb (addr + 1) (2 ^ 36) inside) refl))))
 
 setting_taken : (set : Bool) (clocks cache : ℕ) (mem : List Setting) (addr byte : ℕ) → addr < 2 ^ 36 → byte < 256
     → after_line (head_state (before_script set) clocks cache mem) (codes "mem " ++ setting_words addr byte) ≡ Ok (head_state at_memory clocks cache (mem ++ record { addr = addr; byte = byte } ∷ []))
@@ -62,8 +62,8 @@ pub setting_inner : (addr byte : ℕ) → addr < 2 ^ 36 → byte < 256 → list_
 setting_inner addr byte below small =
     let wide : addr < 16 ^ 16 = omega arith in
     inner_append (codes "mem ") (setting_words addr byte) refl
-      (inner_append (hexadecimal addr) (32 ∷ (digit_text (byte / 16) ∷ digit_text (byte % 16) ∷ [])) (hex_inner addr wide)
-        (plain_inner (digit_text (byte / 16) ∷ digit_text (byte % 16) ∷ []) (byte_word (byte / 16) (byte % 16) (omega arith) (omega arith)).plain))
+    (inner_append (hexadecimal addr) (32 ∷ (digit_text (byte / 16) ∷ digit_text (byte % 16) ∷ [])) (hex_inner addr wide)
+    (plain_inner (digit_text (byte / 16) ∷ digit_text (byte % 16) ∷ []) (byte_word (byte / 16) (byte % 16) (omega arith) (omega arith)).plain))
 
 pub settings_go_on : (settings : List Setting) (set : Bool) (clocks cache : ℕ) (mem : List Setting) (rest : List ℕ) (p : PlanView)
     → list_all is_lawful_setting settings ≡ true → list_all is_byte_setting settings ≡ true
@@ -74,7 +74,7 @@ settings_go_on (s ∷ ss) set clocks cache mem rest p lawful bytes then_ =
     let below : s.addr < 2 ^ 36 = ltb-true s.addr (2 ^ 36) (first_of_both (is_lawful_setting s) (list_all is_lawful_setting ss) lawful) in
     let small : s.byte < 256 = ltb-true s.byte 256 (first_of_both (is_byte_setting s) (list_all is_byte_setting ss) bytes) in
     let others = settings_go_on ss true clocks cache (mem ++ s ∷ []) rest p (second_of_both (is_lawful_setting s) (list_all is_lawful_setting ss) lawful) (second_of_both (is_byte_setting s) (list_all is_byte_setting ss) bytes)
-      (λ b. subst (λ (m : List Setting). GoesOn (head_state (before_script b) clocks cache m) rest p) (sym (append_assoc mem (s ∷ []) ss)) (then_ b)) in
+    (λ b. subst (λ (m : List Setting). GoesOn (head_state (before_script b) clocks cache m) rest p) (sym (append_assoc mem (s ∷ []) ss)) (then_ b)) in
     let here = goes_on (head_state (before_script set) clocks cache mem) (head_state at_memory clocks cache (mem ++ s ∷ [])) (codes "mem " ++ setting_words s.addr s.byte) (settings_text ss ++ rest) p (setting_inner s.addr s.byte below small) (setting_taken set clocks cache mem s.addr s.byte below small) others in
     subst (λ text. GoesOn (head_state (before_script set) clocks cache mem) text p) (sym (append_assoc (setting_text s) (settings_text ss) rest ∙ setting_line s.addr s.byte (settings_text ss ++ rest))) here
 
@@ -90,4 +90,4 @@ agent_line_is rest = simp append_assoc
 pub agent_goes_on : (set : Bool) (clocks cache : ℕ) (mem : List Setting) (rest : List ℕ) (p : PlanView) → GoesOn (item_state clocks cache mem [] []) rest p → GoesOn (head_state (before_script set) clocks cache mem) (agent_text 0 ++ rest) p
 agent_goes_on set clocks cache mem rest p then_ =
     subst (λ text. GoesOn (head_state (before_script set) clocks cache mem) text p) (sym (agent_line_is rest))
-      (goes_on (head_state (before_script set) clocks cache mem) (item_state clocks cache mem [] []) (codes "agent " ++ decimal 0) rest p (inner_append (codes "agent ") (decimal 0) refl (decimal_inner 0 (lit< tt))) (agent_taken set clocks cache mem) then_)
+    (goes_on (head_state (before_script set) clocks cache mem) (item_state clocks cache mem [] []) (codes "agent " ++ decimal 0) rest p (inner_append (codes "agent ") (decimal 0) refl (decimal_inner 0 (lit< tt))) (agent_taken set clocks cache mem) then_)

@@ -1,5 +1,5 @@
 -- Numbers read back: the reader's sum over the digits that the writer puts.
-use Rattle.std.proofs.Common.{◌≡◌, ℕ, zero, suc, ◌+◌, ◌-◌, ◌*◌, ◌/◌, ◌%◌, ◌^◌, ◌<◌, ◌≤◌, Bool, true, false, cond, eqb, List, [], ◌∷◌, ◌++◌, length, Result, Ok, refl, sym, ap, ◌∙◌, arith}
+use Rattle.std.proofs.Common.{◌≡◌, ℕ, zero, suc, ◌+◌, ◌-◌, ◌*◌, ◌/◌, ◌%◌, ◌^◌, ◌<◌, ◌≤◌, Bool, true, false, cond, eqb, List, [], ◌∷◌, length, Ok, refl, ap, ◌∙◌, arith}
 use Rattle.std.specs.Prelude.{◌&&◌, nat_lt, nat_le}
 use Rattle.std.specs.List.{list_all}
 use Rattle.std.specs.Fmt.{decimal, digits, digits_onto, digit_glyph}
@@ -88,6 +88,7 @@ dec_onto (suc k) d n ds few below = by (λ e small less. dec_onto k e (n / 10) (
   where
     digit : n % 10 < 10
     digit = mod-lt n (omega arith)
+
     by : ((e : ℕ) → e < k → n / 10 < 10 ^ suc e → decimal_from 0 (digits_onto k 10 false (n / 10) (digit_glyph false (n % 10) ∷ ds)) ≡ decimal_from (n / 10) (digit_glyph false (n % 10) ∷ ds))
         → (d : ℕ) → d < suc k → n < 10 ^ suc d → (t : Bool) → eqb (n / 10) 0 ≡ t → decimal_from 0 (digits_onto (suc k) 10 false n ds) ≡ decimal_from n ds
     by again d few below true e =
@@ -106,6 +107,7 @@ hex_onto (suc k) d n ds few below = by (λ e small less. hex_onto k e (n / 16) (
   where
     digit : n % 16 < 16
     digit = mod-lt n (omega arith)
+
     by : ((e : ℕ) → e < k → n / 16 < 16 ^ suc e → hex_from 0 (digits_onto k 16 false (n / 16) (digit_glyph false (n % 16) ∷ ds)) ≡ hex_from (n / 16) (digit_glyph false (n % 16) ∷ ds))
         → (d : ℕ) → d < suc k → n < 16 ^ suc d → (t : Bool) → eqb (n / 16) 0 ≡ t → hex_from 0 (digits_onto (suc k) 16 false n ds) ≡ hex_from n ds
     by again d few below true e =
@@ -129,6 +131,7 @@ figure d small = by (nat_lt d 10) refl
   where
     within : (b : ℕ) → 48 ≤ b → b ≤ 102 → is_figure b ≡ true
     within b low high = rw (le-leb 48 b low, le-leb b 102 high) refl
+
     by : (t : Bool) → nat_lt d 10 ≡ t → is_figure (digit_glyph false d) ≡ true
     by true e = let low : d < 10 = ltb-true d 10 e in within (digit_glyph false d) (omega (arith, glyph_low d low)) (omega (arith, glyph_low d low))
     by false e = let high : 10 ≤ d = ltb-false d 10 e in within (digit_glyph false d) (omega (arith, glyph_high d high)) (omega (arith, glyph_high d high))
@@ -145,8 +148,10 @@ onto_figures base (suc k) d n ds some high few below all = by (λ e small less. 
   where
     digit : n % base < base
     digit = mod-lt n some
+
     more : list_all is_figure (digit_glyph false (n % base) ∷ ds) ≡ true
     more = rw (figure (n % base) (omega (arith, digit)), all) refl
+
     by : ((e : ℕ) → e < k → n / base < base ^ suc e → Figures (suc e + length (digit_glyph false (n % base) ∷ ds)) (digits_onto k base false (n / base) (digit_glyph false (n % base) ∷ ds)))
         → (d : ℕ) → d < suc k → n < base ^ suc d → (t : Bool) → eqb (n / base) 0 ≡ t → Figures (suc d + length ds) (digits_onto (suc k) base false n ds)
     by again d few below true e = rw (onto_step base k n ds true e) (record { some = omega arith; few = omega arith; all = more })

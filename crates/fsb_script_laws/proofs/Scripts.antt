@@ -1,6 +1,6 @@
 -- The lines of a script read back.
-use Rattle.std.proofs.Common.{◌≡◌, ℕ, suc, ◌+◌, ◌%◌, ◌<◌, ◌≤◌, Bool, true, false, cond, eqb, List, [], ◌∷◌, ◌++◌, length, Option, Some, None, Ok, refl, sym, ap, subst, ◌∙◌, arith, length-append}
-use Rattle.std.specs.Prelude.{◌&&◌, ◌||◌, not, codes, nat_lt, nat_le}
+use Rattle.std.proofs.Common.{◌≡◌, ℕ, ◌+◌, ◌%◌, ◌<◌, ◌≤◌, Bool, true, false, cond, eqb, List, [], ◌∷◌, ◌++◌, length, Option, Some, None, Ok, refl, sym, ap, subst, ◌∙◌, arith, length-append}
+use Rattle.std.specs.Prelude.{◌&&◌, ◌||◌, not, codes}
 use Rattle.std.specs.List.{list_all}
 use Rattle.std.proofs.lemmas.Bool.{lt-ltb, eqb-true, eq-eqb}
 use Rattle.std.proofs.lemmas.List.{append-nil, append_assoc}
@@ -12,14 +12,14 @@ use Rattle.fsb_access.specs.declared.item.Item.{Item}
 use Rattle.fsb_access.specs.declared.item.Item.TheVariants.{One, Locked, Idle}
 use Rattle.fsb_access.specs.Access.{line_of, is_place, fits, number_of, is_lawful_access}
 use Rattle.fsb_script.specs.Bounds.{is_apart, is_lawful_item}
-use Rattle.fsb_script.specs.Kept.{is_one, has_ones}
+use Rattle.fsb_script.specs.Kept.{is_one}
 use Rattle.fsb_script.specs.Named.{first_in, is_other, has_other}
 use Rattle.fsb_script.specs.Words.{is_read_past, next_word, ended, decimal_of, decimal_within}
 use Rattle.fsb_script.specs.Words.{decimal as decimal_word}
-use Rattle.fsb_script.specs.Statements.{keyword, agent_of, load_of, store_of}
+use Rattle.fsb_script.specs.Statements.{keyword, agent_of}
 use Rattle.fsb_script.specs.Forms.{is_built, built, built_if}
 use Rattle.fsb_script.specs.Plans.{PlanView}
-use Rattle.fsb_script.specs.Drafts.{Progress, beginning, after_line, heading_of, first_line, agents_line, clocks_line, cache_line, ahead_line, choice_line, body_line, memory_line, agent_line, item_line, load_item, store_item, one_item, named_line, end_line, end_of}
+use Rattle.fsb_script.specs.Drafts.{after_line, heading_of, first_line, agents_line, clocks_line, cache_line, ahead_line, choice_line, body_line, memory_line, agent_line, item_line, load_item, store_item, one_item, named_line, end_line, end_of}
 use Rattle.fsb_script.specs.Text.{access_text, item_text, items_text}
 use Rattle.fsb_script_laws.specs.BuiltPlans.{lines_named, are_apart}
 use Rattle.fsb_script_laws.proofs.Split.{first_of_both, second_of_both, both, GoesOn, goes_on}
@@ -50,8 +50,8 @@ clear_less cache line later [] clear = refl
 clear_less cache line later (other ∷ others) clear =
     let here : list_all (is_apart cache other) (line ∷ later) ≡ true = first_of_both (list_all (is_apart cache other) (line ∷ later)) (are_clear cache others (line ∷ later)) clear in
     both (list_all (is_apart cache other) later) (are_clear cache others later)
-      (second_of_both (is_apart cache other line) (list_all (is_apart cache other) later) here)
-      (clear_less cache line later others (second_of_both (list_all (is_apart cache other) (line ∷ later)) (are_clear cache others (line ∷ later)) clear))
+    (second_of_both (is_apart cache other line) (list_all (is_apart cache other) later) here)
+    (clear_less cache line later others (second_of_both (list_all (is_apart cache other) (line ∷ later)) (are_clear cache others (line ∷ later)) clear))
 
 clear_more : (cache line : ℕ) (later earlier : List ℕ) → are_clear cache earlier later ≡ true → list_all (is_apart cache line) later ≡ true → are_clear cache (earlier ++ line ∷ []) later ≡ true
 clear_more cache line later earlier clear apart =
@@ -74,7 +74,7 @@ access_goes_on : (access : Access) (clocks cache : ℕ) (mem : List Setting) (sc
     → GoesOn (item_state clocks cache mem script lines) (access_text access ++ rest) p
 access_goes_on access clocks cache mem script lines rest p lawful room alone then_ =
     subst (λ text. GoesOn (item_state clocks cache mem script lines) text p) (sym (access_line_is access rest))
-      (goes_on (item_state clocks cache mem script lines) (item_state clocks cache mem (script ++ One access ∷ []) (lines ++ line_of access ∷ [])) (access_line access) rest p (access_inner access lawful) (access_taken access clocks cache mem script lines lawful room alone) then_)
+    (goes_on (item_state clocks cache mem script lines) (item_state clocks cache mem (script ++ One access ∷ []) (lines ++ line_of access ∷ [])) (access_line access) rest p (access_inner access lawful) (access_taken access clocks cache mem script lines lawful room alone) then_)
 
 -- ---- the script
 
@@ -98,9 +98,9 @@ items_go_on (One access ∷ items) clocks cache mem script lines rest p ones law
     let few_more : length (script ++ One access ∷ []) + length items ≤ 4096 = omega (arith, length-append script (One access ∷ [])) in
     let clear_later : are_clear cache (lines ++ line_of access ∷ []) (lines_named items) ≡ true = clear_more cache (line_of access) (lines_named items) lines (clear_less cache (line_of access) (lines_named items) lines clear) apart_here in
     let others = items_go_on items clocks cache mem (script ++ One access ∷ []) (lines ++ line_of access ∷ []) rest p ones lawful_items few_more apart_later clear_later
-      (λ all. subst (λ (s : List Item). GoesOn (item_state clocks cache mem s all) rest p) (sym (append_assoc script (One access ∷ []) items)) (then_ all)) in
+    (λ all. subst (λ (s : List Item). GoesOn (item_state clocks cache mem s all) rest p) (sym (append_assoc script (One access ∷ []) items)) (then_ all)) in
     subst (λ text. GoesOn (item_state clocks cache mem script lines) text p) (sym (text_is access items rest))
-      (access_goes_on access clocks cache mem script lines (items_text items ++ rest) p lawful_access room (none_other cache (line_of access) (lines_named items) lines clear) others)
+    (access_goes_on access clocks cache mem script lines (items_text items ++ rest) p lawful_access room (none_other cache (line_of access) (lines_named items) lines clear) others)
 items_go_on (Locked accesses ∷ items) clocks cache mem script lines rest p ones lawful few apart clear then_ = absurd cc
 items_go_on (Idle n ∷ items) clocks cache mem script lines rest p ones lawful few apart clear then_ = absurd cc
 

@@ -1,6 +1,6 @@
 -- The canonical text of a built plan reads back to that plan.
-use Rattle.std.proofs.Common.{◌≡◌, ℕ, zero, suc, ◌+◌, ◌<◌, ◌≤◌, Bool, true, false, List, [], ◌∷◌, ◌++◌, length, Option, None, Result, Ok, refl, sym, ap, subst, ◌∙◌, arith}
-use Rattle.std.specs.Prelude.{◌&&◌, ◌||◌, codes, nat_le, ◌==◌}
+use Rattle.std.proofs.Common.{◌≡◌, ℕ, ◌+◌, ◌<◌, ◌≤◌, Bool, true, false, List, [], ◌∷◌, ◌++◌, length, Option, None, Result, Ok, refl, sym, ap, subst, ◌∙◌, arith}
+use Rattle.std.specs.Prelude.{codes, nat_le}
 use Rattle.std.specs.List.{list_all}
 use Rattle.std.proofs.lemmas.Bool.{leb-true, leb-false, ne_eqb}
 use Rattle.std.proofs.lemmas.List.{append-nil, append_assoc}
@@ -10,14 +10,14 @@ use Rattle.fsb_hazard.specs.declared.line.HazardLine.{HazardLine}
 use Rattle.fsb_script.specs.declared.fault.ScriptFault.{ScriptFault}
 use Rattle.fsb_script.specs.declared.plan.Window.{Window}
 use Rattle.fsb_script.specs.Bounds.{is_cache, is_lawful_setting, is_lawful_item, is_lawful_script}
-use Rattle.fsb_script.specs.Kept.{is_one, has_ones}
+use Rattle.fsb_script.specs.Kept.{has_ones}
 use Rattle.fsb_script.specs.Plans.{PlanView}
 use Rattle.fsb_script.specs.Drafts.{beginning, plan_of, BenchText}
 use Rattle.fsb_script.specs.Text.{head_text, settings_text, agent_text, items_text, script_text, bench_text}
-use Rattle.fsb_script_laws.specs.BuiltPlans.{lines_named, are_apart, has_lines_apart, is_byte_setting, IsBuiltPlan}
+use Rattle.fsb_script_laws.specs.BuiltPlans.{has_lines_apart, is_byte_setting, IsBuiltPlan}
 use Rattle.fsb_script_laws.proofs.Split.{first_of_both, second_of_both, GoesOn}
-use Rattle.fsb_script_laws.proofs.HeadLines.{at_bridge, head_state, head_goes_on}
-use Rattle.fsb_script_laws.proofs.MemoryLines.{before_script, item_state, settings_go_on, agent_goes_on}
+use Rattle.fsb_script_laws.proofs.HeadLines.{head_goes_on}
+use Rattle.fsb_script_laws.proofs.MemoryLines.{settings_go_on, agent_goes_on}
 use Rattle.fsb_script_laws.proofs.Scripts.{items_go_on, plan_with, script_ends}
 
 above : (n : ℕ) → 1024 < n → is_cache n ≡ false
@@ -45,11 +45,11 @@ script_reads clocks cache mem script few lawful_cache lawful_mem bytes lawful on
     let short_all : 0 + length script ≤ 4096 = omega arith in
     let lawful_items : list_all (is_lawful_item cache) script ≡ true = second_of_both (nat_le (length script) 4096) (list_all (is_lawful_item cache) script) lawful in
     subst (λ text. GoesOn beginning text (plan_with clocks cache mem script)) (sym (text_is clocks cache mem script))
-      (head_goes_on clocks cache (settings_text mem ++ (agent_text 0 ++ (items_text script ++ (codes "end" ++ (10 ∷ []))))) (plan_with clocks cache mem script) few (cache_small cache lawful_cache) lawful_cache
-        (settings_go_on mem false clocks cache [] (agent_text 0 ++ (items_text script ++ (codes "end" ++ (10 ∷ [])))) (plan_with clocks cache mem script) lawful_mem bytes
-          (λ set. agent_goes_on set clocks cache mem (items_text script ++ (codes "end" ++ (10 ∷ []))) (plan_with clocks cache mem script)
-            (items_go_on script clocks cache mem [] [] (codes "end" ++ (10 ∷ [])) (plan_with clocks cache mem script) ones lawful_items short_all apart refl
-              (λ all. script_ends clocks cache mem script all)))))
+    (head_goes_on clocks cache (settings_text mem ++ (agent_text 0 ++ (items_text script ++ (codes "end" ++ (10 ∷ []))))) (plan_with clocks cache mem script) few (cache_small cache lawful_cache) lawful_cache
+    (settings_go_on mem false clocks cache [] (agent_text 0 ++ (items_text script ++ (codes "end" ++ (10 ∷ [])))) (plan_with clocks cache mem script) lawful_mem bytes
+    (λ set. agent_goes_on set clocks cache mem (items_text script ++ (codes "end" ++ (10 ∷ []))) (plan_with clocks cache mem script)
+    (items_go_on script clocks cache mem [] [] (codes "end" ++ (10 ∷ [])) (plan_with clocks cache mem script) ones lawful_items short_all apart refl
+    (λ all. script_ends clocks cache mem script all)))))
 
 one_script : (scripts : List (List Item)) (clocks cache : ℕ) (mem : List Setting)
     → IsBuiltPlan (record { scripts = scripts; clocks = clocks; cache = cache; ahead = 1; bridge = None; mem = mem; hazards = [] })

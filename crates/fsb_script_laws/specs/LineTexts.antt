@@ -1,7 +1,7 @@
 -- What it means that a text is one line of a kind.
 use Rattle.std.specs.Prelude.{◌≡◌, ℕ, List, [], ◌∷◌, Result, Ok, Bool, true, false}
 use Rattle.fsb_hazard.specs.declared.line.HazardLine.{HazardLine}
-use Rattle.fsb_hazard.specs.declared.line.HazardLine.TheVariants.{Stall, Trdy, Resp, Gap, Retry, Defer, Aerr, Bnr}
+use Rattle.fsb_hazard.specs.declared.line.HazardLine.TheVariants.{Bnr}
 use Rattle.fsb_script.specs.declared.fault.Cause.{Cause}
 use Rattle.fsb_script.specs.Reading.{◌>>=◌}
 use Rattle.fsb_script.specs.Words.{lines_of}
