@@ -6,3 +6,5 @@ pub mod AccessLines
 pub mod Scripts
 pub mod Whole
 pub mod EachLine
+pub mod Inverted
+pub mod ReadPlans
