@@ -8,3 +8,4 @@ pub mod Whole
 pub mod EachLine
 pub mod Inverted
 pub mod ReadPlans
+pub mod ReadBenches
