@@ -9,3 +9,4 @@ pub mod EachLine
 pub mod Inverted
 pub mod ReadPlans
 pub mod ReadBenches
+pub mod ReadHeads

@@ -57,10 +57,10 @@ items_inv clocks cache mem script lines line e h = by (past_or (is_read_past lin
 
 -- the plan has one script, of which this is known
 pub record Ends (clocks cache : ℕ) (mem : List Setting) (p : PlanView) : Type 0 where
-  script : List Item
-  lines : List ℕ
-  known : Script cache script lines
-  same : plan_with clocks cache mem script ≡ p
+  pub script : List Item
+  pub lines : List ℕ
+  pub known : Script cache script lines
+  pub same : plan_with clocks cache mem script ≡ p
 
 from_items : (texts : List (List ℕ)) (n clocks cache : ℕ) (mem : List Setting) (script : List Item) (lines : List ℕ) (p : PlanView) → Script cache script lines → plan_from n (item_state clocks cache mem script lines) texts ≡ Ok p → Ends clocks cache mem p
 unfolding after_line is_read_past heading_of first_line agents_line clocks_line cache_line ahead_line keyword next_word decimal_word decimal_of decimal_within ended built is_built choice_line body_line memory_line agent_line agent_of end_of
@@ -83,10 +83,10 @@ from_items (line ∷ texts) n clocks cache mem script lines p s h =
 
 -- a line of memory
 pub record Set (clocks cache : ℕ) (mem : List Setting) (e : Progress) : Type 0 where
-  addr : ℕ
-  bytes : List ℕ
-  known : Memory addr bytes
-  state : head_state at_memory clocks cache (mem ++ settings_at addr bytes) ≡ e
+  pub addr : ℕ
+  pub bytes : List ℕ
+  pub known : Memory addr bytes
+  pub state : head_state at_memory clocks cache (mem ++ settings_at addr bytes) ≡ e
 
 abbrev MemoryGave : ℕ → ℕ → List Setting → Progress → Type 0
 MemoryGave clocks cache mem e = Set clocks cache mem e ⊎ (item_state clocks cache mem [] [] ≡ e)
@@ -140,8 +140,8 @@ before_inv false clocks cache mem line e h = by (past_or (is_read_past line) (he
 
 -- what is known of memory
 pub record Lawful (mem : List Setting) : Type 0 where
-  below : list_all is_lawful_setting mem ≡ true
-  bytes : list_all is_byte_setting mem ≡ true
+  pub below : list_all is_lawful_setting mem ≡ true
+  pub bytes : list_all is_byte_setting mem ≡ true
 
 memory_push : (mem : List Setting) (addr : ℕ) (bytes : List ℕ) → Lawful mem → Memory addr bytes → Lawful (mem ++ settings_at addr bytes)
 memory_push mem addr bytes l m =
@@ -153,9 +153,9 @@ memory_push mem addr bytes l m =
 
 -- the plan has that memory, too
 pub record Follows (clocks cache : ℕ) (p : PlanView) : Type 0 where
-  mem : List Setting
-  lawful : Lawful mem
-  ends : Ends clocks cache mem p
+  pub mem : List Setting
+  pub lawful : Lawful mem
+  pub ends : Ends clocks cache mem p
 
 pub from_before : (texts : List (List ℕ)) (n : ℕ) (set : Bool) (clocks cache : ℕ) (mem : List Setting) (p : PlanView) → Lawful mem → plan_from n (head_state (before_script set) clocks cache mem) texts ≡ Ok p → Follows clocks cache p
 unfolding after_line is_read_past heading_of first_line agents_line clocks_line cache_line ahead_line keyword next_word decimal_word decimal_of decimal_within ended built is_built choice_line body_line memory_line mem_line memory_of address hex_word hex_of hex_digit bytes_of end_of

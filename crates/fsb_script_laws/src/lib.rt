@@ -4,7 +4,7 @@
 //! that an edit could turn.
 #![tactic(auto)]
 
-ghost use Rattle.std.specs.Prelude.{◌≡◌, ℕ, ◌<◌, ◌≤◌, ◌/◌, ◌%◌, ◌^◌, [], ◌∷◌, Ok, IsTrue, codes};
+ghost use Rattle.std.specs.Prelude.{◌≡◌, ℕ, ◌<◌, ◌≤◌, ◌/◌, ◌%◌, ◌^◌, List, [], ◌∷◌, Ok, IsTrue, codes};
 ghost use Rattle.std.specs.Fmt.{decimal};
 ghost use Rattle.fsb_io.specs.NumberText.{hexadecimal};
 ghost use Rattle.fsb_script.specs.Words.{decimal_of, hex_of};
@@ -46,4 +46,12 @@ pub fn lines_read_back()
 pub fn canonical_text_reads_back()
     ensures same_plan { (p : PlanView) → IsBuiltPlan p → BenchText (bench_text p) p }
     ensures own_text { (p q : PlanView) → IsBuiltPlan p → IsBuiltPlan q → bench_text p ≡ bench_text q → p ≡ q }
+{}
+
+/// Each plan that a bench file says is one of built forms within the bounds: one script, looking ahead by 1, no bridge,
+/// no hazard lines, single accesses alone, and no two of a script's lines in one cache set. So reading and writing any
+/// bench file gives a text of the same plan.
+pub fn plans_that_were_read_are_built()
+    ensures built { (text : List ℕ) (p : PlanView) → BenchText text p → IsBuiltPlan p }
+    ensures written_again { (text : List ℕ) (p : PlanView) → BenchText text p → BenchText (bench_text p) p }
 {}
