@@ -1,14 +1,13 @@
 -- What a line that was read says of its numbers.
-use Rattle.std.proofs.Common.{◌≡◌, ℕ, zero, suc, ◌+◌, ◌-◌, ◌*◌, ◌%◌, ◌^◌, ◌<◌, ◌≤◌, Bool, true, false, cond, eqb, List, [], ◌∷◌, ◌++◌, length, Result, Ok, Err, ◌⊎◌, inl, inr, refl, sym, ap, subst, ◌∙◌, arith, drop}
-use Rattle.std.specs.Prelude.{◌&&◌, codes, nat_lt, nat_le}
+use Rattle.std.proofs.Common.{◌≡◌, ℕ, ◌+◌, ◌-◌, ◌*◌, ◌%◌, ◌^◌, ◌<◌, ◌≤◌, Bool, true, false, cond, eqb, List, [], ◌∷◌, ◌++◌, length, Result, Ok, Err, ◌⊎◌, inl, inr, refl, sym, subst, ◌∙◌, arith, drop}
+use Rattle.std.specs.Prelude.{◌&&◌, nat_lt, nat_le}
 use Rattle.std.specs.List.{list_all}
-use Rattle.std.proofs.lemmas.Bool.{le-leb, leb-true, lt-ltb, ltb-true}
+use Rattle.std.proofs.lemmas.Bool.{leb-true, lt-ltb}
 use Rattle.std.proofs.lemmas.List.Folds.{list_all-append}
 use Rattle.fsb_access.specs.declared.access.Access.{Access}
 use Rattle.fsb_access.specs.declared.access.Access.TheVariants.{Load, Store}
 use Rattle.fsb_access.specs.declared.access.Operand.{Operand}
 use Rattle.fsb_access.specs.declared.access.Operand.TheVariants.{Literal, LastPlus}
-use Rattle.fsb_access.specs.declared.access.Setting.{Setting}
 use Rattle.fsb_access.specs.Access.{is_size, is_place, fits, number_of, is_lawful_access}
 use Rattle.fsb_script.specs.declared.fault.Cause.{Cause}
 use Rattle.fsb_script.specs.declared.fault.Cause.TheVariants.{Number, Outside}
@@ -17,6 +16,7 @@ use Rattle.fsb_script.specs.Bounds.{is_lawful_setting}
 use Rattle.fsb_script.specs.Words.{next_word, ended, decimal_within, address, hex_of, hex_digit}
 use Rattle.fsb_script.specs.Words.{decimal as decimal_word, hexadecimal as hex_word}
 use Rattle.fsb_script.specs.Statements.{size_at, aligned_at, load_of, store_of, literal_of, operand_of, is_added, bytes_from, bytes_of, memory_of, settings_at}
+use Rattle.fsb_script.specs.Drafts.{Progress}
 use Rattle.fsb_script_laws.specs.BuiltPlans.{is_byte_setting}
 use Rattle.fsb_script_laws.proofs.Split.{both, first_of_both, second_of_both}
 
@@ -34,6 +34,13 @@ if_ok false a b y h = inr h
 
 pub ok_same : {A E : Type 0} (x y : A) (r : Result A E) → r ≡ Ok x → r ≡ Ok y → x ≡ y
 ok_same x y r a b = cc
+
+-- a line gave that state
+abbrev pub Gave : Result Progress Cause → Progress → Type 0
+Gave r e = r ≡ Ok e
+
+pub state_is : (d e : Progress) → Gave (Ok d) e → d ≡ e
+state_is d e h = cc
 
 pub ended_is : {A : Type 0} (x y : A) (line : List ℕ) → ended x line ≡ Ok y → x ≡ y
 unfolding ended
@@ -72,8 +79,8 @@ aligned_is size line n h =
 place_from : (size addr : ℕ) → is_size size ≡ true → (nat_lt addr (2 ^ 36) && eqb (addr % size) 0) ≡ true → is_place size addr ≡ true
 place_from size addr a b =
     both (is_size size && nat_lt addr (2 ^ 36)) (eqb (addr % size) 0)
-      (both (is_size size) (nat_lt addr (2 ^ 36)) a (first_of_both (nat_lt addr (2 ^ 36)) (eqb (addr % size) 0) b))
-      (second_of_both (nat_lt addr (2 ^ 36)) (eqb (addr % size) 0) b)
+    (both (is_size size) (nat_lt addr (2 ^ 36)) a (first_of_both (nat_lt addr (2 ^ 36)) (eqb (addr % size) 0) b))
+    (second_of_both (nat_lt addr (2 ^ 36)) (eqb (addr % size) 0) b)
 
 pub load_is : (line : List ℕ) (access : Access) → load_of line ≡ Ok access → is_lawful_access access ≡ true
 unfolding load_of
@@ -81,7 +88,7 @@ load_is line access h =
     let a = bind_ok (size_at line) _ access h in
     let b = bind_ok (aligned_at a.0.0 a.0.1) _ access a.1.1 in
     subst (λ (x : Access). is_lawful_access x ≡ true) (ended_is (Load a.0.0 b.0.0) access b.0.1 b.1.1)
-      (place_from a.0.0 b.0.0 (size_is line a.0 a.1.0) (aligned_is a.0.0 a.0.1 b.0 b.1.0))
+    (place_from a.0.0 b.0.0 (size_is line a.0 a.1.0) (aligned_is a.0.0 a.0.1 b.0 b.1.0))
 
 literal_is : (size : ℕ) (word : List ℕ) (n : ℕ) → literal_of size word ≡ Ok n → fits size n ≡ true
 unfolding literal_of
@@ -98,7 +105,8 @@ operand_is size word value h = by (if_ok (is_added word) _ _ value h)
     value_is f same w g =
         let a = bind_ok (literal_of size w) (λ n. Ok (f n)) value g in
         subst (λ (o : Operand). fits size (number_of o) ≡ true) (ok_same (f a.0) value (Ok (f a.0)) refl a.1.1)
-          (subst (λ (m : ℕ). fits size m ≡ true) (sym (same a.0)) (literal_is size w a.0 a.1.0))
+        (subst (λ (m : ℕ). fits size m ≡ true) (sym (same a.0)) (literal_is size w a.0 a.1.0))
+
     by : ((literal_of size (drop 2 word) >>= (λ n. Ok (LastPlus n))) ≡ Ok value) ⊎ ((literal_of size word >>= (λ n. Ok (Literal n))) ≡ Ok value) → fits size (number_of value) ≡ true
     by (inl g) = value_is LastPlus (λ n. refl) (drop 2 word) g
     by (inr g) = value_is Literal (λ n. refl) word g
@@ -111,9 +119,9 @@ store_is line access h =
     let c = bind_ok (next_word b.0.1) _ access b.1.1 in
     let d = bind_ok (operand_of a.0.0 c.0.0) _ access c.1.1 in
     subst (λ (x : Access). is_lawful_access x ≡ true) (ended_is (Store a.0.0 b.0.0 d.0) access c.0.1 d.1.1)
-      (both (is_place a.0.0 b.0.0) (fits a.0.0 (number_of d.0))
-        (place_from a.0.0 b.0.0 (size_is line a.0 a.1.0) (aligned_is a.0.0 a.0.1 b.0 b.1.0))
-        (operand_is a.0.0 c.0.0 d.0 d.1.0))
+    (both (is_place a.0.0 b.0.0) (fits a.0.0 (number_of d.0))
+    (place_from a.0.0 b.0.0 (size_is line a.0 a.1.0) (aligned_is a.0.0 a.0.1 b.0 b.1.0))
+    (operand_is a.0.0 c.0.0 d.0 d.1.0))
 
 -- ---- memory
 
@@ -179,6 +187,7 @@ memory_is line m h =
 pub settings_lawful : (addr : ℕ) (bytes : List ℕ) → addr + length bytes ≤ 2 ^ 36 → list_all is_byte bytes ≡ true → (list_all is_lawful_setting (settings_at addr bytes) ≡ true) × (list_all is_byte_setting (settings_at addr bytes) ≡ true)
 settings_lawful addr [] inside small = (refl, refl)
 settings_lawful addr (b ∷ bs) inside small =
-    let again = settings_lawful (addr + 1) bs (omega arith) (second_of_both (is_byte b) (list_all is_byte bs) small) in
-    (both (nat_lt addr (2 ^ 36)) (list_all is_lawful_setting (settings_at (addr + 1) bs)) (lt-ltb addr (2 ^ 36) (omega arith)) again.0,
-      both (is_byte b) (list_all is_byte_setting (settings_at (addr + 1) bs)) (first_of_both (is_byte b) (list_all is_byte bs) small) again.1)
+    let again = settings_lawful (addr + 1) bs (omega arith) (second_of_both (is_byte b) (list_all is_byte bs) small) in (
+      both (nat_lt addr (2 ^ 36)) (list_all is_lawful_setting (settings_at (addr + 1) bs)) (lt-ltb addr (2 ^ 36) (omega arith)) again.0,
+      both (is_byte b) (list_all is_byte_setting (settings_at (addr + 1) bs)) (first_of_both (is_byte b) (list_all is_byte bs) small) again.1,
+    )

@@ -1,32 +1,27 @@
 -- A plan that was read is built: from the script back to the first line.
-use Rattle.std.proofs.Common.{◌≡◌, ℕ, suc, ◌+◌, ◌^◌, ◌<◌, ◌≤◌, Bool, true, false, cond, eqb, List, [], ◌∷◌, ◌++◌, length, Option, Some, None, Result, Ok, Err, ◌⊎◌, inl, inr, refl, sym, ap, subst, ◌∙◌, arith}
-use Rattle.std.specs.Prelude.{◌&&◌, codes, nat_lt, nat_le}
+use Rattle.std.proofs.Common.{◌≡◌, ℕ, ◌+◌, Bool, true, false, cond, List, [], ◌∷◌, ◌++◌, Ok, Err, ◌⊎◌, inl, inr, refl, sym, subst, ◌∙◌, arith}
+use Rattle.std.specs.Prelude.{codes}
 use Rattle.std.specs.List.{list_all}
 use Rattle.std.specs.Str.{bytes_eq}
-use Rattle.std.proofs.lemmas.Bool.{le-leb, leb-true, eqb-true}
 use Rattle.std.proofs.lemmas.List.Folds.{list_all-append}
 use Rattle.fsb_access.specs.declared.access.Setting.{Setting}
 use Rattle.fsb_access.specs.declared.item.Item.{Item}
 use Rattle.fsb_access.specs.declared.item.Item.TheVariants.{One}
 use Rattle.fsb_access.specs.Access.{line_of}
-use Rattle.fsb_script.specs.declared.fault.Cause.{Cause}
-use Rattle.fsb_script.specs.declared.fault.Cause.TheVariants.{FirstLine, Range, Unbuilt, Word}
-use Rattle.fsb_script.specs.declared.plan.Window.{Window}
-use Rattle.fsb_script.specs.Bounds.{is_cache, is_lawful_item, is_lawful_script, is_lawful_setting}
-use Rattle.fsb_script.specs.Kept.{is_one, has_ones}
-use Rattle.fsb_script.specs.Reading.{◌>>=◌, require}
-use Rattle.fsb_script.specs.Words.{lines_of, is_read_past, next_word, ended, decimal_of, decimal_within, hex_digit, hex_of, address}
+use Rattle.fsb_script.specs.declared.fault.Cause.TheVariants.{Word}
+use Rattle.fsb_script.specs.Bounds.{is_lawful_setting}
+use Rattle.fsb_script.specs.Words.{is_read_past, next_word, ended, decimal_of, decimal_within, hex_digit, hex_of, address}
 use Rattle.fsb_script.specs.Words.{decimal as decimal_word, hexadecimal as hex_word}
-use Rattle.fsb_script.specs.Statements.{keyword, memory_of, bytes_of, settings_at, agent_of, window_of}
+use Rattle.fsb_script.specs.Statements.{keyword, memory_of, bytes_of, settings_at, agent_of}
 use Rattle.fsb_script.specs.Forms.{is_built, built}
 use Rattle.fsb_script.specs.Plans.{PlanView}
-use Rattle.fsb_script.specs.Drafts.{Progress, beginning, after_line, heading_of, ends_heading, first_line, agents_line, clocks_line, cache_line, ahead_line, choice_line, body_line, bridge_line, memory_line, mem_line, agent_line, item_line, load_item, store_item, idle_item, lock_item, end_line, end_of, plan_from, plan_of, BenchText}
-use Rattle.fsb_script_laws.specs.BuiltPlans.{are_apart, has_lines_apart, is_byte_setting, IsBuiltPlan}
-use Rattle.fsb_script_laws.proofs.Split.{both, first_of_both, second_of_both}
-use Rattle.fsb_script_laws.proofs.HeadLines.{at_agents, at_clocks, at_cache, at_ahead, at_bridge, head_state}
-use Rattle.fsb_script_laws.proofs.MemoryLines.{at_memory, at_items, item_state, before_script}
+use Rattle.fsb_script.specs.Drafts.{Progress, after_line, heading_of, first_line, agents_line, clocks_line, cache_line, ahead_line, choice_line, body_line, bridge_line, memory_line, mem_line, agent_line, item_line, load_item, store_item, idle_item, lock_item, end_line, end_of, plan_from}
+use Rattle.fsb_script_laws.specs.BuiltPlans.{is_byte_setting}
+use Rattle.fsb_script_laws.proofs.Split.{both}
+use Rattle.fsb_script_laws.proofs.HeadLines.{at_bridge, head_state}
+use Rattle.fsb_script_laws.proofs.MemoryLines.{at_memory, item_state, before_script}
 use Rattle.fsb_script_laws.proofs.Scripts.{plan_with}
-use Rattle.fsb_script_laws.proofs.Inverted.{bind_ok, require_ok, if_ok, ok_same, ended_is, within_is, Memory, memory_is, settings_lawful}
+use Rattle.fsb_script_laws.proofs.Inverted.{bind_ok, if_ok, state_is, Memory, memory_is, settings_lawful}
 use Rattle.fsb_script_laws.proofs.ReadPlans.{next_line, past_or, final_state, from_final, Script, script_push, Added, load_inv, store_inv, no_idle, no_lock, end_inv}
 
 -- ---- the script
@@ -75,7 +70,7 @@ from_items (line ∷ texts) n clocks cache mem script lines p s h =
     by e g again (inl same) = again script lines s (subst (λ (d : Progress). plan_from (n + 1) d texts ≡ Ok p) (sym same) g)
     by e g again (inr (inl added)) =
         again (script ++ One added.access ∷ []) (lines ++ line_of added.access ∷ []) (script_push cache script lines added.access s added.lawful added.room added.free)
-          (subst (λ (d : Progress). plan_from (n + 1) d texts ≡ Ok p) (sym added.state) g)
+        (subst (λ (d : Progress). plan_from (n + 1) d texts ≡ Ok p) (sym added.state) g)
     by e g again (inr (inr ended_there)) =
         record { script = script; lines = lines; known = s; same = from_final texts (n + 1) clocks cache mem script lines p (subst (λ (d : Progress). plan_from (n + 1) d texts ≡ Ok p) (sym ended_there) g) }
 
@@ -96,13 +91,13 @@ mem_inv : (set : Bool) (clocks cache : ℕ) (mem : List Setting) (rest : List �
 unfolding after_line is_read_past heading_of first_line agents_line clocks_line cache_line ahead_line keyword next_word decimal_word decimal_of decimal_within ended built is_built choice_line body_line memory_line mem_line memory_of address hex_word hex_of hex_digit bytes_of
 mem_inv set clocks cache mem rest e h =
     let a = bind_ok (memory_of rest) _ e h in
-    record { addr = a.0.0; bytes = a.0.1; known = memory_is rest a.0 a.1.0; state = ok_same (head_state at_memory clocks cache (mem ++ settings_at a.0.0 a.0.1)) e (Ok (head_state at_memory clocks cache (mem ++ settings_at a.0.0 a.0.1))) refl a.1.1 }
+    record { addr = a.0.0; bytes = a.0.1; known = memory_is rest a.0 a.1.0; state = state_is (head_state at_memory clocks cache (mem ++ settings_at a.0.0 a.0.1)) e a.1.1 }
 
 agent_inv : (set : Bool) (clocks cache : ℕ) (mem : List Setting) (rest : List ℕ) (e : Progress) → agent_line (head_state (before_script set) clocks cache mem) rest ≡ Ok e → item_state clocks cache mem [] [] ≡ e
 unfolding after_line is_read_past heading_of first_line agents_line clocks_line cache_line ahead_line keyword next_word decimal_word decimal_of decimal_within ended built is_built choice_line body_line memory_line agent_line agent_of
 agent_inv set clocks cache mem rest e h =
     let a = bind_ok (agent_of 0 rest) _ e h in
-    ok_same (item_state clocks cache mem [] []) e (Ok (item_state clocks cache mem [] [])) refl a.1.1
+    state_is (item_state clocks cache mem [] []) e a.1.1
 
 no_bridge : (d : Progress) (rest : List ℕ) (e : Progress) → bridge_line d rest ≡ Ok e → ⊥
 unfolding bridge_line built is_built

@@ -1,11 +1,10 @@
 -- A plan that was read is built: the head, and the whole.
-use Rattle.std.proofs.Common.{◌≡◌, ℕ, suc, ◌+◌, ◌^◌, ◌<◌, ◌≤◌, Bool, true, false, cond, eqb, List, [], ◌∷◌, ◌++◌, length, Option, None, Result, Ok, Err, ◌⊎◌, inl, inr, refl, sym, ap, subst, ◌∙◌, arith}
+use Rattle.std.proofs.Common.{◌≡◌, ℕ, ◌+◌, ◌≤◌, true, false, eqb, List, [], ◌∷◌, length, Ok, ◌⊎◌, inl, inr, refl, sym, ap, subst, ◌∙◌}
 use Rattle.std.specs.Prelude.{◌&&◌, codes, nat_le}
 use Rattle.std.specs.List.{list_all}
 use Rattle.std.proofs.lemmas.Bool.{le-leb, leb-true, eqb-true}
 use Rattle.fsb_access.specs.declared.access.Setting.{Setting}
 use Rattle.fsb_access.specs.declared.item.Item.{Item}
-use Rattle.fsb_script.specs.declared.fault.Cause.{Cause}
 use Rattle.fsb_script.specs.declared.fault.Cause.TheVariants.{FirstLine, Range, Unbuilt}
 use Rattle.fsb_script.specs.Bounds.{is_cache, is_lawful_item, is_lawful_script}
 use Rattle.fsb_script.specs.Kept.{is_one, has_ones}
@@ -17,10 +16,10 @@ use Rattle.fsb_script.specs.Forms.{is_built, built}
 use Rattle.fsb_script.specs.Plans.{PlanView}
 use Rattle.fsb_script.specs.Drafts.{Progress, beginning, after_line, heading_of, ends_heading, first_line, agents_line, clocks_line, cache_line, ahead_line, end_of, plan_from, plan_of, BenchText}
 use Rattle.fsb_script_laws.specs.BuiltPlans.{are_apart, has_lines_apart, IsBuiltPlan}
-use Rattle.fsb_script_laws.proofs.Split.{both, first_of_both, second_of_both}
+use Rattle.fsb_script_laws.proofs.Split.{both, second_of_both}
 use Rattle.fsb_script_laws.proofs.HeadLines.{at_agents, at_clocks, at_cache, at_ahead, at_bridge, head_state}
 use Rattle.fsb_script_laws.proofs.Scripts.{plan_with}
-use Rattle.fsb_script_laws.proofs.Inverted.{bind_ok, require_ok, ok_same, ended_is, within_is}
+use Rattle.fsb_script_laws.proofs.Inverted.{bind_ok, require_ok, state_is, ended_is, within_is}
 use Rattle.fsb_script_laws.proofs.ReadPlans.{next_line, past_or, Script}
 use Rattle.fsb_script_laws.proofs.ReadBenches.{Ends, Lawful, Follows, from_before}
 
@@ -43,7 +42,7 @@ one_is f n e h =
     let d = bind_ok (require (eqb n 1) Unbuilt n) (λ k. Ok (f k)) e h in
     let r = require_ok (eqb n 1) Unbuilt n d.0 d.1.0 in
     let one : 1 ≡ d.0 = sym (eqb-true n 1 r.0) ∙ r.1 in
-    ap f one ∙ ok_same (f d.0) e (Ok (f d.0)) refl d.1.1
+    ap f one ∙ state_is (f d.0) e d.1.1
 
 ahead_inv : (clocks cache : ℕ) (line : List ℕ) (e : Progress) → ahead_line (head_state at_ahead clocks cache []) line ≡ Ok e → head_state at_bridge clocks cache [] ≡ e
 unfolding after_line is_read_past heading_of first_line agents_line clocks_line cache_line ahead_line keyword next_word decimal_word decimal_of decimal_within ended built is_built
@@ -59,6 +58,9 @@ record Counted (clocks : ℕ) (e : Progress) : Type 0 where
   lawful : is_cache cache ≡ true
   state : head_state at_ahead clocks cache [] ≡ e
 
+counted : (clocks : ℕ) (b m : ℕ × List ℕ) (n : ℕ) (e : Progress) → is_cache b.0 ≡ true → b ≡ m → m.0 ≡ n → head_state at_ahead clocks n [] ≡ e → Counted clocks e
+counted clocks b m n e lawful same there state = record { cache = n; lawful = subst (λ (k : ℕ). is_cache k ≡ true) (ap (λ (x : ℕ × List ℕ). x.0) same ∙ there) lawful; state = state }
+
 cache_inv : (clocks : ℕ) (line : List ℕ) (e : Progress) → cache_line (head_state at_cache clocks 1 []) line ≡ Ok e → Counted clocks e
 unfolding after_line is_read_past heading_of first_line agents_line clocks_line cache_line keyword next_word decimal_word decimal_of decimal_within ended built is_built
 cache_inv clocks line e h =
@@ -67,8 +69,7 @@ cache_inv clocks line e h =
     let m = bind_ok (require (is_cache b.0.0) Range b.0) _ e b.1.1 in
     let r = require_ok (is_cache b.0.0) Range b.0 m.0 m.1.0 in
     let c = bind_ok (ended m.0.0 m.0.1) _ e m.1.1 in
-    let same : b.0.0 ≡ c.0 = ap (λ (x : ℕ × List ℕ). x.0) r.1 ∙ ended_is m.0.0 c.0 m.0.1 c.1.0 in
-    record { cache = c.0; lawful = subst (λ (k : ℕ). is_cache k ≡ true) same r.0; state = ok_same (head_state at_ahead clocks c.0 []) e (Ok (head_state at_ahead clocks c.0 [])) refl c.1.1 }
+    counted clocks b.0 m.0 c.0 e r.0 r.1 (ended_is m.0.0 c.0 m.0.1 c.1.0) (state_is (head_state at_ahead clocks c.0 []) e c.1.1)
 
 -- the number of clocks that a line says
 record Timed (e : Progress) : Type 0 where
@@ -85,7 +86,7 @@ clocks_inv line e h =
     let same : b.0.0 ≡ c.0 = ended_is b.0.0 c.0 b.0.1 c.1.0 in
     let within : (nat_le 0 b.0.0 && nat_le b.0.0 200000) ≡ true = within_is 0 200000 a.0 b.0 b.1.0 in
     let most : b.0.0 ≤ 200000 = leb-true b.0.0 200000 (second_of_both (nat_le 0 b.0.0) (nat_le b.0.0 200000) within) in
-    record { clocks = c.0; few = subst (λ (k : ℕ). k ≤ 200000) same most; state = ok_same (head_state at_cache c.0 1 []) e (Ok (head_state at_cache c.0 1 [])) refl c.1.1 }
+    record { clocks = c.0; few = subst (λ (k : ℕ). k ≤ 200000) same most; state = state_is (head_state at_cache c.0 1 []) e c.1.1 }
 
 agents_inv : (line : List ℕ) (e : Progress) → agents_line (head_state at_agents 0 1 []) line ≡ Ok e → head_state at_clocks 0 1 [] ≡ e
 unfolding after_line is_read_past heading_of first_line agents_line keyword next_word decimal_word decimal_of decimal_within ended built is_built

@@ -1,9 +1,9 @@
 -- A plan that was read is built: the states of the reading, from the first line on.
-use Rattle.std.proofs.Common.{◌≡◌, ℕ, suc, ◌+◌, ◌%◌, ◌^◌, ◌<◌, ◌≤◌, Bool, true, false, cond, eqb, List, [], ◌∷◌, ◌++◌, length, Option, Some, None, Result, Ok, Err, ◌⊎◌, inl, inr, refl, sym, ap, subst, ◌∙◌, arith, length-append}
-use Rattle.std.specs.Prelude.{◌&&◌, ◌||◌, not, codes, nat_lt, nat_le}
-use Rattle.std.specs.List.{list_all, list_any}
-use Rattle.std.proofs.lemmas.Bool.{le-leb, leb-true, lt-ltb, ltb-true, eqb-true, eq-eqb, ne_eqb, eqb-false}
-use Rattle.std.proofs.lemmas.List.{append-nil, append_assoc}
+use Rattle.std.proofs.Common.{◌≡◌, ℕ, ◌+◌, ◌%◌, ◌<◌, ◌≤◌, Bool, true, false, cond, eqb, List, [], ◌∷◌, ◌++◌, length, Some, Result, Ok, Err, ◌⊎◌, inl, inr, refl, sym, ap, subst, ◌∙◌, arith, length-append}
+use Rattle.std.specs.Prelude.{◌&&◌, ◌||◌, not, nat_lt}
+use Rattle.std.specs.List.{list_all}
+use Rattle.std.proofs.lemmas.Bool.{ltb-true, eqb-true, eq-eqb, ne_eqb, eqb-false}
+use Rattle.std.proofs.lemmas.List.{append_assoc}
 use Rattle.std.proofs.lemmas.List.Folds.{list_all-append}
 use Rattle.fsb_access.specs.declared.access.Access.{Access}
 use Rattle.fsb_access.specs.declared.access.Setting.{Setting}
@@ -12,24 +12,21 @@ use Rattle.fsb_access.specs.declared.item.Item.TheVariants.{One, Locked, Idle}
 use Rattle.fsb_access.specs.Access.{line_of, is_lawful_access}
 use Rattle.fsb_hazard.specs.declared.line.HazardLine.{HazardLine}
 use Rattle.fsb_script.specs.declared.fault.Cause.{Cause}
-use Rattle.fsb_script.specs.declared.fault.Cause.TheVariants.{Range, Unbuilt, Missing}
-use Rattle.fsb_script.specs.declared.fault.ScriptFault.{ScriptFault}
-use Rattle.fsb_script.specs.Bounds.{is_cache, is_apart, is_lawful_item, is_lawful_script, is_lawful_setting}
-use Rattle.fsb_script.specs.Kept.{is_one, has_ones}
+use Rattle.fsb_script.specs.declared.fault.Cause.TheVariants.{Range}
+use Rattle.fsb_script.specs.Bounds.{is_apart, is_lawful_item}
+use Rattle.fsb_script.specs.Kept.{is_one}
 use Rattle.fsb_script.specs.Named.{first_in, is_other, has_other}
-use Rattle.fsb_script.specs.Reading.{◌>>=◌, require}
-use Rattle.fsb_script.specs.Words.{lines_of, is_read_past, next_word, ended, decimal_of, decimal_within, hex_digit, hex_of, address}
-use Rattle.fsb_script.specs.Words.{decimal as decimal_word, hexadecimal as hex_word}
-use Rattle.fsb_script.specs.Statements.{keyword, memory_of, bytes_of, settings_at, agent_of, load_of, store_of, window_of, transaction_of, block_of, idle_of}
+use Rattle.fsb_script.specs.Reading.{◌>>=◌}
+use Rattle.fsb_script.specs.Words.{is_read_past, next_word, ended}
+use Rattle.fsb_script.specs.Statements.{load_of, store_of}
 use Rattle.fsb_script.specs.Forms.{is_built, built, built_if}
 use Rattle.fsb_script.specs.Plans.{PlanView}
-use Rattle.fsb_script.specs.Drafts.{Progress, beginning, after_line, heading_of, ends_heading, first_line, agents_line, clocks_line, cache_line, ahead_line, choice_line, choice_at, body_line, bridge_line, memory_line, mem_line, agent_line, item_line, room, load_item, store_item, idle_item, lock_item, one_item, named_line, end_line, place_behind, hazard_line, transaction_line, block_line, add_hazard, end_of, on_line, plan_from, plan_of, BenchText}
-use Rattle.fsb_script_laws.specs.BuiltPlans.{lines_of_item, lines_named, are_apart, has_lines_apart, is_byte_setting, IsBuiltPlan}
+use Rattle.fsb_script.specs.Drafts.{Progress, after_line, choice_line, room, load_item, store_item, idle_item, lock_item, one_item, named_line, end_line, place_behind, hazard_line, transaction_line, block_line, add_hazard, end_of, on_line, plan_from}
+use Rattle.fsb_script_laws.specs.BuiltPlans.{lines_of_item, lines_named, are_apart}
 use Rattle.fsb_script_laws.proofs.Split.{both, first_of_both, second_of_both}
-use Rattle.fsb_script_laws.proofs.HeadLines.{at_agents, at_clocks, at_cache, at_ahead, at_bridge, head_state}
-use Rattle.fsb_script_laws.proofs.MemoryLines.{at_memory, at_items, item_state, before_script}
+use Rattle.fsb_script_laws.proofs.MemoryLines.{item_state}
 use Rattle.fsb_script_laws.proofs.Scripts.{plan_with}
-use Rattle.fsb_script_laws.proofs.Inverted.{bind_ok, require_ok, if_ok, ok_same, ended_is, within_is, load_is, store_is, Memory, memory_is, settings_lawful}
+use Rattle.fsb_script_laws.proofs.Inverted.{bind_ok, require_ok, ok_same, state_is, load_is, store_is}
 
 -- ---- one line
 
@@ -108,6 +105,7 @@ all_apart cache line (x ∷ xs) apart free = by (λ f. all_apart cache line xs (
   where
     here : list_all (is_apart cache x) xs ≡ true
     here = first_of_both (list_all (is_apart cache x) xs) (are_apart cache xs) apart
+
     by : (is_other line (first_in cache (line % cache) xs) ≡ false → list_all (λ other. is_apart cache other line) xs ≡ true)
         → (t : Bool) → eqb (x % cache) (line % cache) ≡ t → is_other line (cond t (Some x) (first_in cache (line % cache) xs)) ≡ false → list_all (λ other. is_apart cache other line) (x ∷ xs) ≡ true
     by again true e f =
@@ -124,8 +122,8 @@ apart_push cache line (x ∷ xs) apart all =
     let here : is_apart cache x line ≡ true = first_of_both (is_apart cache x line) (list_all (λ other. is_apart cache other line) xs) all in
     let known : list_all (is_apart cache x) xs ≡ true = first_of_both (list_all (is_apart cache x) xs) (are_apart cache xs) apart in
     both (list_all (is_apart cache x) (xs ++ line ∷ [])) (are_apart cache (xs ++ line ∷ []))
-      (list_all-append (is_apart cache x) xs (line ∷ []) ∙ both (list_all (is_apart cache x) xs) (is_apart cache x line && true) known (both (is_apart cache x line) true here refl))
-      (apart_push cache line xs (second_of_both (list_all (is_apart cache x) xs) (are_apart cache xs) apart) (second_of_both (is_apart cache x line) (list_all (λ other. is_apart cache other line) xs) all))
+    (list_all-append (is_apart cache x) xs (line ∷ []) ∙ both (list_all (is_apart cache x) xs) (is_apart cache x line && true) known (both (is_apart cache x line) true here refl))
+    (apart_push cache line xs (second_of_both (list_all (is_apart cache x) xs) (are_apart cache xs) apart) (second_of_both (is_apart cache x line) (list_all (λ other. is_apart cache other line) xs) all))
 
 named_push : (script : List Item) (access : Access) → lines_named (script ++ One access ∷ []) ≡ lines_named script ++ line_of access ∷ []
 named_push [] access = refl
@@ -171,7 +169,7 @@ one_inv clocks cache mem script lines access e lawful room h =
       lawful = lawful;
       room = room;
       free = named_free clocks cache mem script lines (line_of access) a.0 a.1.0;
-      state = ap (λ (x : Progress). record x { script = x.script ++ One access ∷ [] }) same ∙ ok_same (record a.0 { script = a.0.script ++ One access ∷ [] }) e (Ok (record a.0 { script = a.0.script ++ One access ∷ [] })) refl a.1.1;
+      state = ap (λ (x : Progress). record x { script = x.script ++ One access ∷ [] }) same ∙ state_is (record a.0 { script = a.0.script ++ One access ∷ [] }) e a.1.1;
     }
 
 pub load_inv : (clocks cache : ℕ) (mem : List Setting) (script : List Item) (lines rest : List ℕ) (e : Progress) → load_item (item_state clocks cache mem script lines) rest ≡ Ok e → Added clocks cache mem script lines e
@@ -202,4 +200,4 @@ pub end_inv : (clocks cache : ℕ) (mem : List Setting) (script : List Item) (li
 unfolding end_line
 end_inv clocks cache mem script lines rest e h =
     let a = bind_ok (ended (item_state clocks cache mem script lines) rest) _ e h in
-    ok_same (final_state clocks cache mem script lines) e (Ok (final_state clocks cache mem script lines)) refl a.1.1
+    state_is (final_state clocks cache mem script lines) e a.1.1
