@@ -1,0 +1,270 @@
+-- Each kind of line reads back, whether its form is built or not.
+use Rattle.std.proofs.Common.{◌≡◌, ℕ, ◌+◌, ◌%◌, ◌^◌, ◌<◌, ◌≤◌, true, eqb, List, [], ◌∷◌, ◌++◌, Result, Ok, refl, sym, ap, ◌∙◌, arith}
+use Rattle.std.specs.Prelude.{◌&&◌, codes, nat_lt, nat_le, IsTrue}
+use Rattle.std.specs.List.{list_all}
+use Rattle.std.specs.Fmt.{decimal}
+use Rattle.std.proofs.lemmas.Bool.{le-leb, leb-true, lt-ltb, ltb-true}
+use Rattle.std.proofs.lemmas.List.{append-nil, append_assoc}
+use Rattle.fsb_io.specs.NumberText.{hexadecimal}
+use Rattle.fsb_access.specs.declared.access.Access.{Access}
+use Rattle.fsb_access.specs.declared.access.Access.TheVariants.{Load, Store}
+use Rattle.fsb_access.specs.declared.access.Operand.{Operand}
+use Rattle.fsb_access.specs.declared.access.Setting.{Setting}
+use Rattle.fsb_access.specs.Access.{is_place, fits, number_of, is_lawful_access}
+use Rattle.fsb_hazard.specs.declared.line.HazardLine.{HazardLine}
+use Rattle.fsb_hazard.specs.declared.line.HazardLine.TheVariants.{Stall, Trdy, Resp, Gap, Retry, Defer, Aerr, Bnr}
+use Rattle.fsb_script.specs.declared.fault.Cause.{Cause}
+use Rattle.fsb_script.specs.declared.plan.Window.{Window}
+use Rattle.fsb_script.specs.Reading.{◌>>=◌}
+use Rattle.fsb_script.specs.Bounds.{is_lawful_window, is_lawful_setting, is_lawful_hazard}
+use Rattle.fsb_script.specs.Words.{lines_of, next_word, ended, decimal_within, address}
+use Rattle.fsb_script.specs.Statements.{keyword, memory_of, window_of, load_of, store_of, idle_of, transaction_of, turn_of, count_of, later_of, block_of}
+use Rattle.fsb_script.specs.Text.{setting_text, window_text, access_text, idle_text, hazard_text}
+use Rattle.fsb_script_laws.specs.BuiltPlans.{is_byte_setting}
+use Rattle.fsb_script_laws.specs.LineTexts.{IsLineOf, is_of_request}
+use Rattle.fsb_script_laws.proofs.Split.{first_of_both, second_of_both, both, is_inner, decimal_next, decimal_last, decimal_inner, hex_next, hex_last, hex_inner, inner_append, first_line_is}
+use Rattle.fsb_script_laws.proofs.MemoryLines.{setting_words, memory_back, setting_line, setting_inner}
+use Rattle.fsb_script_laws.proofs.AccessLines.{place_is, load_back, store_back, access_line, access_line_is, access_inner}
+
+-- a line with its line feed is one line
+one_line : (line text : List ℕ) → text ≡ line ++ (10 ∷ []) → list_all is_inner line ≡ true → lines_of text ≡ line ∷ []
+one_line line text is inner = ap lines_of is ∙ first_line_is line [] inner
+
+within_both : (low high n : ℕ) → low ≤ n → n ≤ high → (nat_le low n && nat_le n high) ≡ true
+within_both low high n a b = both _ _ (le-leb low n a) (le-leb n high b)
+
+-- a number in its bounds, before more words or at the line's end
+within_next : (low high n : ℕ) (rest : List ℕ) → n < 10 ^ 18 → low ≤ n → n ≤ high → decimal_within low high (32 ∷ (decimal n ++ (32 ∷ rest))) ≡ Ok (n, 32 ∷ rest)
+unfolding decimal_within
+within_next low high n rest small a b = rw (decimal_next n (32 ∷ rest) small refl) (rw (within_both low high n a b) refl)
+
+within_last : (low high n : ℕ) → n < 10 ^ 18 → low ≤ n → n ≤ high → decimal_within low high (32 ∷ decimal n) ≡ Ok (n, [])
+unfolding decimal_within
+within_last low high n small a b = rw (decimal_last n small) (rw (within_both low high n a b) refl)
+
+-- ---- memory and the bridge
+
+pub memory_line_back : (s : Setting) → IsTrue (is_lawful_setting s) → IsTrue (is_byte_setting s) → IsLineOf (codes "mem") memory_of (setting_text s) (s.addr, s.byte ∷ [])
+unfolding keyword next_word
+memory_line_back s lawful bytes =
+    let below : s.addr < 2 ^ 36 = ltb-true s.addr (2 ^ 36) lawful in
+    let small : s.byte < 256 = ltb-true s.byte 256 bytes in (
+      codes "mem " ++ setting_words s.addr s.byte,
+      (
+        one_line (codes "mem " ++ setting_words s.addr s.byte) (setting_text s) (sym (append-nil (setting_text s)) ∙ setting_line s.addr s.byte []) (setting_inner s.addr s.byte below small),
+        memory_back s.addr s.byte below small,
+      ),
+    )
+
+abbrev window_words : ℕ → ℕ → List ℕ
+window_words base size = hexadecimal base ++ (32 ∷ hexadecimal size)
+
+window_line : (base size : ℕ) → window_text (record { base = base; size = size }) ≡ (codes "bridge " ++ window_words base size) ++ (10 ∷ [])
+unfolding window_text
+window_line base size = simp append_assoc
+
+window_back : (base size : ℕ) → base < 2 ^ 36 → eqb (base % 32) 0 ≡ true → 0 < size → eqb (size % 32) 0 ≡ true → base + size ≤ 2 ^ 36 → window_of (32 ∷ window_words base size) ≡ Ok (record { base = base; size = size })
+unfolding window_of address ended
+window_back base size below base_whole some size_whole last =
+    let wide : base < 16 ^ 16 = omega arith in
+    let wide_size : size < 16 ^ 16 = omega arith in
+    let size_small : size ≤ 2 ^ 36 = omega arith in
+    rw (hex_next base (32 ∷ hexadecimal size) wide refl) (rw (lt-ltb base (2 ^ 36) below) (rw base_whole
+    (rw (hex_last size wide_size) (rw (le-leb size (2 ^ 36) size_small) (rw (lt-ltb 0 size some) (rw size_whole (rw (le-leb (base + size) (2 ^ 36) last) refl)))))))
+
+pub window_line_back : (w : Window) → IsTrue (is_lawful_window w) → IsLineOf (codes "bridge") window_of (window_text w) w
+unfolding keyword next_word
+window_line_back w lawful =
+    let here : (nat_lt w.base (2 ^ 36) && eqb (w.base % 32) 0) ≡ true = first_of_both (nat_lt w.base (2 ^ 36) && eqb (w.base % 32) 0) ((nat_lt 0 w.size && eqb (w.size % 32) 0) && nat_le (w.base + w.size) (2 ^ 36)) lawful in
+    let there : ((nat_lt 0 w.size && eqb (w.size % 32) 0) && nat_le (w.base + w.size) (2 ^ 36)) ≡ true = second_of_both (nat_lt w.base (2 ^ 36) && eqb (w.base % 32) 0) ((nat_lt 0 w.size && eqb (w.size % 32) 0) && nat_le (w.base + w.size) (2 ^ 36)) lawful in
+    let size_is : (nat_lt 0 w.size && eqb (w.size % 32) 0) ≡ true = first_of_both (nat_lt 0 w.size && eqb (w.size % 32) 0) (nat_le (w.base + w.size) (2 ^ 36)) there in
+    let below : w.base < 2 ^ 36 = ltb-true w.base (2 ^ 36) (first_of_both (nat_lt w.base (2 ^ 36)) (eqb (w.base % 32) 0) here) in
+    let some : 0 < w.size = ltb-true 0 w.size (first_of_both (nat_lt 0 w.size) (eqb (w.size % 32) 0) size_is) in
+    let last : w.base + w.size ≤ 2 ^ 36 = leb-true (w.base + w.size) (2 ^ 36) (second_of_both (nat_lt 0 w.size && eqb (w.size % 32) 0) (nat_le (w.base + w.size) (2 ^ 36)) there) in
+    let wide : w.base < 16 ^ 16 = omega arith in
+    let wide_size : w.size < 16 ^ 16 = omega arith in (
+      codes "bridge " ++ window_words w.base w.size,
+      (
+        one_line (codes "bridge " ++ window_words w.base w.size) (window_text w) (window_line w.base w.size)
+            (inner_append (codes "bridge ") (window_words w.base w.size) refl (inner_append (hexadecimal w.base) (32 ∷ hexadecimal w.size) (hex_inner w.base wide) (hex_inner w.size wide_size))),
+        window_back w.base w.size below (second_of_both (nat_lt w.base (2 ^ 36)) (eqb (w.base % 32) 0) here) some (second_of_both (nat_lt 0 w.size) (eqb (w.size % 32) 0) size_is) last,
+      ),
+    )
+
+-- ---- the items of a script
+
+access_one_line : (access : Access) → is_lawful_access access ≡ true → lines_of (access_text access) ≡ access_line access ∷ []
+access_one_line access lawful = one_line (access_line access) (access_text access) (sym (append-nil (access_text access)) ∙ access_line_is access []) (access_inner access lawful)
+
+pub load_line_back : (size addr : ℕ) → IsTrue (is_lawful_access (Load size addr)) → IsLineOf (codes "ld") load_of (access_text (Load size addr)) (Load size addr)
+unfolding keyword next_word
+load_line_back size addr lawful = (access_line (Load size addr), (access_one_line (Load size addr) lawful, load_back size addr (place_is size addr lawful)))
+
+pub store_line_back : (size addr : ℕ) (value : Operand) → IsTrue (is_lawful_access (Store size addr value)) → IsLineOf (codes "st") store_of (access_text (Store size addr value)) (Store size addr value)
+unfolding keyword next_word
+store_line_back size addr value lawful = (
+  access_line (Store size addr value),
+  (
+    access_one_line (Store size addr value) lawful,
+    store_back size addr value (place_is size addr (first_of_both (is_place size addr) (fits size (number_of value)) lawful)) (second_of_both (is_place size addr) (fits size (number_of value)) lawful),
+  ),
+)
+
+idle_line : (n : ℕ) → idle_text n ≡ (codes "idle " ++ decimal n) ++ (10 ∷ [])
+unfolding idle_text
+idle_line n = simp append_assoc
+
+idle_back : (n : ℕ) → 1 ≤ n → n ≤ 200000 → idle_of (32 ∷ decimal n) ≡ Ok n
+unfolding idle_of ended
+idle_back n some few =
+    let small : n < 10 ^ 18 = omega arith in
+    rw (within_last 1 200000 n small some few) refl
+
+pub idle_line_back : (n : ℕ) → 1 ≤ n → n ≤ 200000 → IsLineOf (codes "idle") idle_of (idle_text n) n
+unfolding keyword next_word
+idle_line_back n some few =
+    let small : n < 10 ^ 18 = omega arith in
+    (codes "idle " ++ decimal n, (one_line (codes "idle " ++ decimal n) (idle_text n) (idle_line n) (inner_append (codes "idle ") (decimal n) refl (decimal_inner n small)), idle_back n some few))
+
+-- ---- hazards
+
+-- what stands behind the number of a request
+abbrev turn_words : HazardLine → List ℕ
+turn_words (Stall k n) = codes "stall " ++ decimal n
+turn_words (Trdy k n) = codes "trdy " ++ decimal n
+turn_words (Resp k n) = codes "resp " ++ decimal n
+turn_words (Gap k n) = codes "data " ++ decimal n
+turn_words (Retry k) = codes "retry"
+turn_words (Defer k later) = codes "defer " ++ decimal later
+turn_words (Aerr k) = codes "aerr"
+turn_words (Bnr from to) = []
+
+abbrev request_of : HazardLine → ℕ
+request_of (Stall k n) = k
+request_of (Trdy k n) = k
+request_of (Resp k n) = k
+request_of (Gap k n) = k
+request_of (Retry k) = k
+request_of (Defer k later) = k
+request_of (Aerr k) = k
+request_of (Bnr from to) = 0
+
+abbrev hazard_words : HazardLine → List ℕ
+hazard_words h = decimal (request_of h) ++ (32 ∷ turn_words h)
+
+hazard_line_is : (h : HazardLine) → is_of_request h ≡ true → hazard_text h ≡ (codes "tx " ++ hazard_words h) ++ (10 ∷ [])
+unfolding hazard_text
+hazard_line_is (Stall k n) is = simp append_assoc
+hazard_line_is (Trdy k n) is = simp append_assoc
+hazard_line_is (Resp k n) is = simp append_assoc
+hazard_line_is (Gap k n) is = simp append_assoc
+hazard_line_is (Retry k) is = simp append_assoc
+hazard_line_is (Defer k later) is = simp append_assoc
+hazard_line_is (Aerr k) is = simp append_assoc
+hazard_line_is (Bnr from to) is = absurd cc
+
+request_small : (h : HazardLine) → is_lawful_hazard h ≡ true → is_of_request h ≡ true → request_of h ≤ 199999
+request_small (Stall k n) lawful is = leb-true k 199999 (first_of_both (nat_le k 199999) (nat_le 1 n && nat_le n 255) lawful)
+request_small (Trdy k n) lawful is = leb-true k 199999 (first_of_both (nat_le k 199999) (nat_le 1 n && nat_le n 255) lawful)
+request_small (Resp k n) lawful is = leb-true k 199999 (first_of_both (nat_le k 199999) (nat_le 1 n && nat_le n 255) lawful)
+request_small (Gap k n) lawful is = leb-true k 199999 (first_of_both (nat_le k 199999) (nat_le 1 n && nat_le n 255) lawful)
+request_small (Retry k) lawful is = leb-true k 199999 lawful
+request_small (Defer k later) lawful is = leb-true k 199999 (first_of_both (nat_le k 199999) (nat_le later 65535) lawful)
+request_small (Aerr k) lawful is = leb-true k 199999 lawful
+request_small (Bnr from to) lawful is = absurd cc
+
+count_back : (k n : ℕ) → (nat_le k 199999 && (nat_le 1 n && nat_le n 255)) ≡ true → count_of (32 ∷ decimal n) ≡ Ok n
+unfolding count_of ended
+count_back k n lawful =
+    let two : (nat_le 1 n && nat_le n 255) ≡ true = second_of_both (nat_le k 199999) (nat_le 1 n && nat_le n 255) lawful in
+    let some : 1 ≤ n = leb-true 1 n (first_of_both (nat_le 1 n) (nat_le n 255) two) in
+    let few : n ≤ 255 = leb-true n 255 (second_of_both (nat_le 1 n) (nat_le n 255) two) in
+    let small : n < 10 ^ 18 = omega arith in
+    rw (within_last 1 255 n small some few) refl
+
+later_back : (k n : ℕ) → (nat_le k 199999 && nat_le n 65535) ≡ true → later_of (32 ∷ decimal n) ≡ Ok n
+unfolding later_of ended
+later_back k n lawful =
+    let few : n ≤ 65535 = leb-true n 65535 (second_of_both (nat_le k 199999) (nat_le n 65535) lawful) in
+    let small : n < 10 ^ 18 = omega arith in
+    rw (within_last 0 65535 n small (omega arith) few) refl
+
+-- what a transaction's line says behind the number of its request
+abbrev turn_behind : ℕ → List ℕ → Result HazardLine Cause
+turn_behind k line = next_word line >>= (λ w. turn_of k w.0 w.1)
+
+turn_back : (h : HazardLine) → is_lawful_hazard h ≡ true → is_of_request h ≡ true → turn_behind (request_of h) (32 ∷ turn_words h) ≡ Ok h
+unfolding next_word turn_of ended
+turn_back (Stall k n) lawful is = rw (count_back k n lawful) refl
+turn_back (Trdy k n) lawful is = rw (count_back k n lawful) refl
+turn_back (Resp k n) lawful is = rw (count_back k n lawful) refl
+turn_back (Gap k n) lawful is = rw (count_back k n lawful) refl
+turn_back (Retry k) lawful is = refl
+turn_back (Defer k later) lawful is = rw (later_back k later lawful) refl
+turn_back (Aerr k) lawful is = refl
+turn_back (Bnr from to) lawful is = absurd cc
+
+transaction_back : (h : HazardLine) → is_lawful_hazard h ≡ true → is_of_request h ≡ true → transaction_of (32 ∷ hazard_words h) ≡ Ok h
+unfolding transaction_of
+transaction_back h lawful is =
+    let most : request_of h ≤ 199999 = request_small h lawful is in
+    let small : request_of h < 10 ^ 18 = omega arith in
+    rw (within_next 0 199999 (request_of h) (turn_words h) small (omega arith) most) (turn_back h lawful is)
+
+counted : (word : List ℕ) (k n : ℕ) → (nat_le k 199999 && (nat_le 1 n && nat_le n 255)) ≡ true → list_all is_inner word ≡ true → list_all is_inner (word ++ decimal n) ≡ true
+counted word k n lawful inner =
+    let two : (nat_le 1 n && nat_le n 255) ≡ true = second_of_both (nat_le k 199999) (nat_le 1 n && nat_le n 255) lawful in
+    let few : n ≤ 255 = leb-true n 255 (second_of_both (nat_le 1 n) (nat_le n 255) two) in
+    let small : n < 10 ^ 18 = omega arith in
+    inner_append word (decimal n) inner (decimal_inner n small)
+
+turn_inner : (h : HazardLine) → is_lawful_hazard h ≡ true → is_of_request h ≡ true → list_all is_inner (turn_words h) ≡ true
+turn_inner (Stall k n) lawful is = counted (codes "stall ") k n lawful refl
+turn_inner (Trdy k n) lawful is = counted (codes "trdy ") k n lawful refl
+turn_inner (Resp k n) lawful is = counted (codes "resp ") k n lawful refl
+turn_inner (Gap k n) lawful is = counted (codes "data ") k n lawful refl
+turn_inner (Retry k) lawful is = refl
+turn_inner (Defer k later) lawful is =
+    let few : later ≤ 65535 = leb-true later 65535 (second_of_both (nat_le k 199999) (nat_le later 65535) lawful) in
+    let small : later < 10 ^ 18 = omega arith in
+    inner_append (codes "defer ") (decimal later) refl (decimal_inner later small)
+turn_inner (Aerr k) lawful is = refl
+turn_inner (Bnr from to) lawful is = absurd cc
+
+pub transaction_line_back : (h : HazardLine) → IsTrue (is_of_request h) → IsTrue (is_lawful_hazard h) → IsLineOf (codes "tx") transaction_of (hazard_text h) h
+unfolding keyword next_word
+transaction_line_back h is lawful =
+    let most : request_of h ≤ 199999 = request_small h lawful is in
+    let small : request_of h < 10 ^ 18 = omega arith in (
+      codes "tx " ++ hazard_words h,
+      (
+        one_line (codes "tx " ++ hazard_words h) (hazard_text h) (hazard_line_is h is) (inner_append (codes "tx ") (hazard_words h) refl (inner_append (decimal (request_of h)) (32 ∷ turn_words h) (decimal_inner (request_of h) small) (turn_inner h lawful is))),
+        transaction_back h lawful is,
+      ),
+    )
+
+block_line_is : (from to : ℕ) → hazard_text (Bnr from to) ≡ (codes "bnr " ++ (decimal from ++ (32 ∷ decimal to))) ++ (10 ∷ [])
+unfolding hazard_text
+block_line_is from to = simp append_assoc
+
+block_back : (from to : ℕ) → from ≤ to → to ≤ 199999 → block_of (32 ∷ (decimal from ++ (32 ∷ decimal to))) ≡ Ok (Bnr from to)
+unfolding block_of ended
+block_back from to order most =
+    let small : from < 10 ^ 18 = omega arith in
+    let small_to : to < 10 ^ 18 = omega arith in
+    let from_most : from ≤ 199999 = omega arith in
+    rw (within_next 0 199999 from (decimal to) small (omega arith) from_most) (rw (within_last 0 199999 to small_to (omega arith) most) (rw (le-leb from to order) refl))
+
+pub block_line_back : (from to : ℕ) → IsTrue (is_lawful_hazard (Bnr from to)) → IsLineOf (codes "bnr") block_of (hazard_text (Bnr from to)) (Bnr from to)
+unfolding keyword next_word
+block_line_back from to lawful =
+    let order : from ≤ to = leb-true from to (first_of_both (nat_le from to) (nat_le to 199999) lawful) in
+    let most : to ≤ 199999 = leb-true to 199999 (second_of_both (nat_le from to) (nat_le to 199999) lawful) in
+    let small : from < 10 ^ 18 = omega arith in
+    let small_to : to < 10 ^ 18 = omega arith in (
+      codes "bnr " ++ (decimal from ++ (32 ∷ decimal to)),
+      (
+        one_line (codes "bnr " ++ (decimal from ++ (32 ∷ decimal to))) (hazard_text (Bnr from to)) (block_line_is from to) (inner_append (codes "bnr ") (decimal from ++ (32 ∷ decimal to)) refl (inner_append (decimal from) (32 ∷ decimal to) (decimal_inner from small) (decimal_inner to small_to))),
+        block_back from to order most,
+      ),
+    )

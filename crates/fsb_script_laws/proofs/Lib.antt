@@ -1,0 +1,12 @@
+pub mod Numbers
+pub mod Split
+pub mod HeadLines
+pub mod MemoryLines
+pub mod AccessLines
+pub mod Scripts
+pub mod Whole
+pub mod EachLine
+pub mod Inverted
+pub mod ReadPlans
+pub mod ReadBenches
+pub mod ReadHeads

@@ -1,0 +1,2 @@
+pub mod BuiltPlans
+pub mod LineTexts

@@ -1,0 +1,57 @@
+//! What ties the reader of bench files to their writer: what is written reads back as what it was written from.
+//! The functions have no code: each one's contract is a law on the words of `fsb_script` in which the contracts of
+//! `read_bench` and `write_bench` are stated. So the crate has no must-fail edits: no line of code here has a meaning
+//! that an edit could turn.
+#![tactic(auto)]
+
+ghost use Rattle.std.specs.Prelude.{◌≡◌, ℕ, ◌<◌, ◌≤◌, ◌/◌, ◌%◌, ◌^◌, List, [], ◌∷◌, Ok, IsTrue, codes};
+ghost use Rattle.std.specs.Fmt.{decimal};
+ghost use Rattle.fsb_io.specs.NumberText.{hexadecimal};
+ghost use Rattle.fsb_script.specs.Words.{decimal_of, hex_of};
+ghost use Rattle.fsb_script.specs.Statements.{bytes_of, memory_of, window_of, load_of, store_of, idle_of, transaction_of, block_of};
+ghost use Rattle.fsb_script.specs.Bounds.{is_lawful_setting, is_lawful_window, is_lawful_hazard};
+ghost use Rattle.fsb_script.specs.declared.plan.Window.{Window};
+ghost use Rattle.fsb_access.specs.declared.access.Access.TheVariants.{Load, Store};
+ghost use Rattle.fsb_access.specs.declared.access.Operand.{Operand};
+ghost use Rattle.fsb_access.specs.declared.access.Setting.{Setting};
+ghost use Rattle.fsb_access.specs.Access.{is_lawful_access};
+ghost use Rattle.fsb_hazard.specs.declared.line.HazardLine.{HazardLine};
+ghost use Rattle.fsb_hazard.specs.declared.line.HazardLine.TheVariants.{Bnr};
+ghost use Rattle.fsb_script.specs.Text.{digit_text, setting_text, window_text, access_text, idle_text, hazard_text, bench_text};
+ghost use Rattle.fsb_script.specs.Plans.{PlanView};
+ghost use Rattle.fsb_script.specs.Drafts.{BenchText};
+ghost use Rattle.fsb_script_laws.specs.BuiltPlans.{IsBuiltPlan, is_byte_setting};
+ghost use Rattle.fsb_script_laws.specs.LineTexts.{IsLineOf, is_of_request};
+
+/// Numbers read back: decimals below 10^18, hexadecimals below 2^64, and the two digits of a byte of memory.
+pub fn numbers_read_back()
+    ensures decimals { (n : ℕ) → n < 10 ^ 18 → decimal_of (decimal n) ≡ Ok n }
+    ensures hexadecimals { (n : ℕ) → n < 2 ^ 64 → hex_of (hexadecimal n) ≡ Ok n }
+    ensures bytes { (n : ℕ) → n < 256 → bytes_of (digit_text (n / 16) ∷ digit_text (n % 16) ∷ []) ≡ Ok (n ∷ []) }
+{}
+
+/// Each line reads back, within the bounds of its numbers, whether or not its form is built: memory, the bridge, loads,
+/// stores, idle clocks, and hazards of a request and of a span of clocks.
+pub fn lines_read_back()
+    ensures memory { (s : Setting) → IsTrue (is_lawful_setting s) → IsTrue (is_byte_setting s) → IsLineOf (codes "mem") memory_of (setting_text s) (s.addr, s.byte ∷ []) }
+    ensures bridge { (w : Window) → IsTrue (is_lawful_window w) → IsLineOf (codes "bridge") window_of (window_text w) w }
+    ensures loads { (size addr : ℕ) → IsTrue (is_lawful_access (Load size addr)) → IsLineOf (codes "ld") load_of (access_text (Load size addr)) (Load size addr) }
+    ensures stores { (size addr : ℕ) (value : Operand) → IsTrue (is_lawful_access (Store size addr value)) → IsLineOf (codes "st") store_of (access_text (Store size addr value)) (Store size addr value) }
+    ensures idle_clocks { (n : ℕ) → 1 ≤ n → n ≤ 200000 → IsLineOf (codes "idle") idle_of (idle_text n) n }
+    ensures transactions { (h : HazardLine) → IsTrue (is_of_request h) → IsTrue (is_lawful_hazard h) → IsLineOf (codes "tx") transaction_of (hazard_text h) h }
+    ensures blocks { (from to : ℕ) → IsTrue (is_lawful_hazard (Bnr from to)) → IsLineOf (codes "bnr") block_of (hazard_text (Bnr from to)) (Bnr from to) }
+{}
+
+/// The canonical text of a plan of built forms is a bench file that says this plan. So no two such plans have one text.
+pub fn canonical_text_reads_back()
+    ensures same_plan { (p : PlanView) → IsBuiltPlan p → BenchText (bench_text p) p }
+    ensures own_text { (p q : PlanView) → IsBuiltPlan p → IsBuiltPlan q → bench_text p ≡ bench_text q → p ≡ q }
+{}
+
+/// Each plan that a bench file says is one of built forms within the bounds: one script, looking ahead by 1, no bridge,
+/// no hazard lines, single accesses alone, and no two of a script's lines in one cache set. So reading and writing any
+/// bench file gives a text of the same plan.
+pub fn plans_that_were_read_are_built()
+    ensures built { (text : List ℕ) (p : PlanView) → BenchText text p → IsBuiltPlan p }
+    ensures written_again { (text : List ℕ) (p : PlanView) → BenchText text p → BenchText (bench_text p) p }
+{}
