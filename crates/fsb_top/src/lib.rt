@@ -13,4 +13,6 @@ mod read;
 mod simulate;
 mod status;
 mod top;
+#[cfg(test)]
+mod tests;
 mod words;
