@@ -1,5 +1,5 @@
 -- What a plan's own facts say of its scripts.
-use Rattle.std.proofs.Common.{◌≡◌, ℕ, ◌+◌, ◌*◌, ◌<◌, ◌≤◌, arith, Bool, true, false, nat_le, ◌&&◌, List, [], ◌∷◌, length, take, get_or, sum_by, refl, sym, ap, ◌∙◌, subst, IsTrue, Option, Some, None, unwrap_or, ◌++◌, add-one, add-zero}
+use Rattle.std.proofs.Common.{◌≡◌, ℕ, ◌+◌, ◌<◌, ◌≤◌, arith, Bool, true, nat_le, ◌&&◌, List, [], ◌∷◌, length, take, get_or, sum_by, refl, sym, ap, ◌∙◌, subst, Some, ◌++◌, add-one}
 use Rattle.std.proofs.Math.Seq.{take-suc}
 use Rattle.std.proofs.lemmas.List.Sums.{sum_by-append}
 use Rattle.std.proofs.Math.Logic.{⊎_elim}
@@ -8,14 +8,12 @@ use Rattle.std.proofs.lemmas.Grind.{common_steps}
 use Rattle.std.proofs.lemmas.List.Folds.{list_all_at}
 use Rattle.std.proofs.lemmas.Option.{slice_get_within, get_or_from_slice_get}
 use Rattle.std.specs.List.{list_all, slice_get}
-use Rattle.fsb_access.specs.Access.{IsLawfulAccess, is_lawful_access}
-use Rattle.fsb_access.specs.ScriptOrder.{script_of}
-use Rattle.fsb_access.specs.declared.access.Access.{Access}
+use Rattle.fsb_access.specs.Access.{is_lawful_access}
 use Rattle.fsb_access.specs.declared.item.Item.{Item}
 use Rattle.fsb_access.specs.declared.item.Item.TheVariants.{One, Locked, Idle}
 use Rattle.fsb_script.specs.Bounds.{is_lawful_script, is_lawful_item, is_lock_size, is_lock_apart, line_count}
 use Rattle.fsb_solo.specs.SoloLog.{AreLawful}
-use Rattle.fsb_top.specs.AccessCount.{item_accesses, has_few_accesses, script_accesses, access_count}
+use Rattle.fsb_top.specs.AccessCount.{has_few_accesses, script_accesses, access_count}
 
 -- what all elements pass, the one at an index passes
 pub all_at : {X : Type 0} (p : X → Bool) (xs : List X) (i : ℕ) (d : X) → i < length xs → list_all p xs ≡ true → p (get_or xs i d) ≡ true
@@ -71,8 +69,8 @@ count_next scripts i script items h e at =
     ∙ sum_by-append script_accesses (take i scripts) (items ∷ [])
     ∙ ap (λ n. access_count (take i scripts) + n) (single items)
   where
-  single : (xs : List Item) → sum_by script_accesses (xs ∷ []) ≡ script_accesses xs
-  single xs = grind (arith, common_steps)
+    single : (xs : List Item) → sum_by script_accesses (xs ∷ []) ≡ script_accesses xs
+    single xs = grind (arith, common_steps)
 
 -- the script at the front is lawful
 pub first_lawful : (cache : ℕ) (scripts : List (List Item)) (script items : List Item)

@@ -1,6 +1,5 @@
 -- How many accesses scripts have.
 use Rattle.std.specs.Prelude.{ℕ, Bool, nat_le, List, length, sum_by}
-use Rattle.fsb_access.specs.declared.access.Access.{Access}
 use Rattle.fsb_access.specs.declared.item.Item.{Item}
 use Rattle.fsb_access.specs.declared.item.Item.TheVariants.{One, Locked, Idle}
 

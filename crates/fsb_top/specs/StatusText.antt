@@ -3,7 +3,6 @@ use Rattle.std.specs.Prelude.{ℕ, List, [], ◌++◌, codes}
 use Rattle.std.specs.Fmt.{decimal}
 use Rattle.fsb_script.specs.declared.fault.Cause.{Cause}
 use Rattle.fsb_script.specs.declared.fault.Cause.TheVariants.{FirstLine, Word, Number, Range, Align, Outside, LockConflict, LockSize, Missing, After, Unbuilt}
-use Rattle.fsb_script.specs.declared.fault.ScriptFault.{ScriptFault}
 use Rattle.fsb_top.specs.declared.status.Status.{Status}
 use Rattle.fsb_top.specs.declared.status.Status.TheVariants.{Done, BadWords, BadBench, ReadFault, WriteFault, DumpFault, OutOfMemory, TooLong}
 

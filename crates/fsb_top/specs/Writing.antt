@@ -1,5 +1,5 @@
 -- What stands in the sink of a dump.
-use Rattle.std.specs.Prelude.{◌≡◌, ◌≤◌, ◌⊎◌, ℕ, List, [], Option, Some, None, length}
+use Rattle.std.specs.Prelude.{◌≡◌, ◌⊎◌, ℕ, List, [], Option, Some, None}
 use Rattle.fsb_io.specs.Appends.{AppendsPart}
 
 -- the sink was begun under the name and holds the whole text

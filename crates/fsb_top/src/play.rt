@@ -37,7 +37,12 @@ pub struct Run<'a> {
 }
 
 /// Writes the log to `out`, one piece a line, and then the dump under its name, where there is one.
-pub fn play<O: Sink, D: Sink>(run: &Run<'_>, name: Option<&str>, out: &mut O, dump: &mut D) -> Played
+pub fn play<O: Sink, D: Sink>(
+    run: &Run<'_>,
+    name: Option<&str>,
+    out: &mut O,
+    dump: &mut D,
+) -> Played
     requires named { ForSome name (λ n. length n.now ≤ 4096) }
     requires log { length run.now.log.now < 2 ^ 32 }
     requires trace { length run.now.trace.now ≤ 200000 }

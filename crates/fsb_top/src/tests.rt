@@ -91,7 +91,11 @@ fn load_then_store_hit(rt: HostRuntime) -> Result<(), Fail> {
     assert!(rt; is_begun_as(ended.dump.begun_as(), b"first.vcd"));
     let start = joined(rt.alloc(), &[HEAD, "0\"\n", TAIL, CLOCKS_ZERO_TO_THREE])?;
     assert!(rt; ended.dump.holds().starts_with(&start));
-    assert_eq!(rt; ended.dump.calls(), 62, "begun, the header, and one piece a clock");
+    assert_eq!(rt;
+        ended.dump.calls(),
+        62,
+        "begun, the header, and one piece a clock"
+    );
     Ok(())
 }
 

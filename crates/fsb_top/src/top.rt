@@ -83,7 +83,13 @@ fn status_of(refusal: Refusal) -> Status
 }
 
 // Simulates a plan and writes what the run gave.
-fn run_plan<O: Sink, D: Sink>(alloc: Global, plan: &Plan, name: Option<&str>, out: &mut O, dump: &mut D) -> Status
+fn run_plan<O: Sink, D: Sink>(
+    alloc: Global,
+    plan: &Plan,
+    name: Option<&str>,
+    out: &mut O,
+    dump: &mut D,
+) -> Status
     requires named { ForSome name (λ n. length n.now ≤ 4096) }
     ensures ended { HasEnded result }
     ensures write_fault { result ≡ Status.WriteFault → Rose (O.faults out.old) (O.faults out.new) }

@@ -1,7 +1,7 @@
-use Rattle.std.proofs.Common.{arith, ◌≡◌, ◌≤◌, ◌*◌, IsTrue, length, ℕ, ◌+◌, ◌<◌, List, get_or, take, Bool, true, subst, sym, ap, ◌∙◌}
+use Rattle.std.proofs.Common.{arith, ◌≡◌, ◌≤◌, length, ◌+◌, take, true, subst, sym, ap, ◌∙◌}
 use Rattle.std.specs.List.{list_all}
 use Rattle.fsb_script.specs.Bounds.{is_lawful_script}
-use Rattle.fsb_top.specs.AccessCount.{has_few_accesses, script_accesses, access_count}
+use Rattle.fsb_top.specs.AccessCount.{access_count}
 use Rattle.fsb_top.proofs.PlanFacts.{script_at, few_items, lawful_items, all_few, count_next}
 use Rattle.fsb_top.proofs.count.access_count.Goals as goal
 
@@ -23,8 +23,9 @@ overflow_add-count c =
 
 pub loop-script-preserved : goal.loop-script-preserved
 loop-script-preserved c =
-    let few : length c.as_slice.result.now ≤ 4096 = few_items _ _ (lawful c.before) in
-    (ap (λ n. n + c.script_accesses-count.result) c.loop-script.invariant.0
-        ∙ ap (λ n. access_count (take c.loop-script.script-index c.as_slice-script-items.result.now) + n) c.script_accesses-count.ensures.value
-        ∙ sym (count_next c.as_slice-script-items.result.now _ c.script-item.result c.as_slice.result.now c.loop-script-test.true c.as_slice.ensures c.script-item.is),
-    omega (arith, c.loop-script.invariant.1, c.script_accesses-count.ensures.few))
+    let few : length c.as_slice.result.now ≤ 4096 = few_items _ _ (lawful c.before) in (
+      ap (λ n. n + c.script_accesses-count.result) c.loop-script.invariant.0
+          ∙ ap (λ n. access_count (take c.loop-script.script-index c.as_slice-script-items.result.now) + n) c.script_accesses-count.ensures.value
+          ∙ sym (count_next c.as_slice-script-items.result.now _ c.script-item.result c.as_slice.result.now c.loop-script-test.true c.as_slice.ensures c.script-item.is),
+      omega (arith, c.loop-script.invariant.1, c.script_accesses-count.ensures.few),
+    )

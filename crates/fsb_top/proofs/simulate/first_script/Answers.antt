@@ -1,5 +1,5 @@
-use Rattle.std.proofs.Common.{◌≡◌, List, sym, ap, ◌∙◌, subst, Bool, true, length, lit<, lit≤}
-use Rattle.std.specs.List.{list_all, slice_get}
+use Rattle.std.proofs.Common.{◌≡◌, sym, subst, true}
+use Rattle.std.specs.List.{list_all}
 use Rattle.fsb_script.specs.Bounds.{is_lawful_script}
 use Rattle.fsb_top.proofs.PlanFacts.{first_lawful, few_items, lawful_items, are_lawful}
 use Rattle.fsb_top.proofs.simulate.first_script.Goals as goal
