@@ -7,7 +7,7 @@ use Rattle.fsb_access.specs.declared.access.Setting.{Setting}
 use Rattle.fsb_access.specs.declared.item.Item.{Item}
 use Rattle.fsb_script.specs.declared.fault.Cause.TheVariants.{FirstLine, Range, Unbuilt}
 use Rattle.fsb_script.specs.Bounds.{is_cache, is_lawful_item, is_lawful_script}
-use Rattle.fsb_script.specs.Kept.{is_one, has_ones}
+use Rattle.fsb_script_laws.specs.BuiltPlans.{is_one, has_ones}
 use Rattle.fsb_script.specs.Reading.{◌>>=◌, require}
 use Rattle.fsb_script.specs.Words.{lines_of, is_read_past, next_word, ended, decimal_of, decimal_within}
 use Rattle.fsb_script.specs.Words.{decimal as decimal_word}

@@ -14,7 +14,7 @@ use Rattle.fsb_hazard.specs.declared.line.HazardLine.{HazardLine}
 use Rattle.fsb_script.specs.declared.fault.Cause.{Cause}
 use Rattle.fsb_script.specs.declared.fault.Cause.TheVariants.{Range}
 use Rattle.fsb_script.specs.Bounds.{is_apart, is_lawful_item}
-use Rattle.fsb_script.specs.Kept.{is_one}
+use Rattle.fsb_script_laws.specs.BuiltPlans.{is_one}
 use Rattle.fsb_script.specs.Named.{first_in, is_other, has_other}
 use Rattle.fsb_script.specs.Reading.{◌>>=◌}
 use Rattle.fsb_script.specs.Words.{is_read_past, next_word, ended}

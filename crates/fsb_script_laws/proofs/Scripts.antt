@@ -12,7 +12,7 @@ use Rattle.fsb_access.specs.declared.item.Item.{Item}
 use Rattle.fsb_access.specs.declared.item.Item.TheVariants.{One, Locked, Idle}
 use Rattle.fsb_access.specs.Access.{line_of, is_place, fits, number_of, is_lawful_access}
 use Rattle.fsb_script.specs.Bounds.{is_apart, is_lawful_item}
-use Rattle.fsb_script.specs.Kept.{is_one}
+use Rattle.fsb_script_laws.specs.BuiltPlans.{is_one}
 use Rattle.fsb_script.specs.Named.{first_in, is_other, has_other}
 use Rattle.fsb_script.specs.Words.{is_read_past, next_word, ended, decimal_of, decimal_within}
 use Rattle.fsb_script.specs.Words.{decimal as decimal_word}

@@ -10,7 +10,7 @@ use Rattle.fsb_hazard.specs.declared.line.HazardLine.{HazardLine}
 use Rattle.fsb_script.specs.declared.fault.ScriptFault.{ScriptFault}
 use Rattle.fsb_script.specs.declared.plan.Window.{Window}
 use Rattle.fsb_script.specs.Bounds.{is_cache, is_lawful_setting, is_lawful_item, is_lawful_script}
-use Rattle.fsb_script.specs.Kept.{has_ones}
+use Rattle.fsb_script_laws.specs.BuiltPlans.{has_ones}
 use Rattle.fsb_script.specs.Plans.{PlanView}
 use Rattle.fsb_script.specs.Drafts.{beginning, plan_of, BenchText}
 use Rattle.fsb_script.specs.Text.{head_text, settings_text, agent_text, items_text, script_text, bench_text}

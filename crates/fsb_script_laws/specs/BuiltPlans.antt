@@ -1,13 +1,22 @@
 -- Which plans are built: those that the simulator serves today.
-use Rattle.std.specs.Prelude.{◌≡◌, ℕ, ◌≤◌, List, [], ◌∷◌, ◌++◌, length, map, None, Bool, true, ◌&&◌, nat_lt, IsTrue}
+use Rattle.std.specs.Prelude.{◌≡◌, ℕ, ◌≤◌, List, [], ◌∷◌, ◌++◌, length, map, None, Bool, true, false, ◌&&◌, nat_lt, IsTrue}
 use Rattle.std.specs.List.{list_all}
 use Rattle.fsb_access.specs.declared.access.Setting.{Setting}
 use Rattle.fsb_access.specs.declared.item.Item.{Item}
 use Rattle.fsb_access.specs.declared.item.Item.TheVariants.{One, Locked, Idle}
 use Rattle.fsb_access.specs.Access.{line_of}
 use Rattle.fsb_script.specs.Bounds.{is_cache, is_apart, is_lawful_script, is_lawful_setting}
-use Rattle.fsb_script.specs.Kept.{has_ones}
 use Rattle.fsb_script.specs.Plans.{PlanView}
+
+-- an access by itself
+abbrev pub is_one : Item → Bool
+is_one (One access) = true
+is_one (Locked accesses) = false
+is_one (Idle clocks) = false
+
+-- whether every item is a single access
+unfoldable pub has_ones : List Item → Bool
+has_ones items = list_all is_one items
 
 -- the lines that the accesses of an item are to
 abbrev pub lines_of_item : Item → List ℕ
