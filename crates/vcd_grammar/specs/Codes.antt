@@ -1,5 +1,5 @@
 -- The codes that a header declares, and the lines that have them.
-use Rattle.std.specs.Prelude.{ℕ, List, [], ◌∷◌, ◌++◌, Option, Some, None, option_map, if◌then◌else◌}
+use Rattle.std.specs.Prelude.{ℕ, List, [], ◌∷◌, ◌++◌, Option, option_map, if◌then◌else◌}
 use Rattle.std.specs.List.{find}
 use Rattle.vcd_grammar.specs.Words.{same}
 

@@ -1,5 +1,5 @@
 -- Each token, judged in the place where it stands: it is read past, is a fault, declares, changes lines, or ends a block.
-use Rattle.std.specs.Prelude.{ℕ, ◌+◌, Bool, true, false, not, ◌&&◌, ◌||◌, ◌==◌, nat_lt, nat_le, if◌then◌else◌, List, [], ◌∷◌, ◌++◌, length, Option, Some, None, is_some, codes}
+use Rattle.std.specs.Prelude.{ℕ, ◌+◌, Bool, false, not, ◌&&◌, ◌||◌, ◌==◌, nat_lt, if◌then◌else◌, List, [], ◌∷◌, ◌++◌, length, Option, Some, None, is_some}
 use Rattle.std.specs.List.{list_any}
 use Rattle.fsb_signal.specs.Table.{Entry, table, signal_number}
 use Rattle.fsb_signal.specs.DumpText.{width_of}

@@ -1,5 +1,5 @@
 -- The numbers that a sample takes have no bit too many, and none that is asserted and unknown.
-use Rattle.std.proofs.Common.{◌≡◌, ℕ, ◌+◌, ◌%◌, ◌^◌, ◌<◌, ◌≤◌, min, arith, ◌∙◌, ap, sym, refl}
+use Rattle.std.proofs.Common.{◌≡◌, ℕ, ◌+◌, ◌%◌, ◌^◌, ◌<◌, min, arith, ◌∙◌, ap, sym}
 use Rattle.std.specs.Int.{bit_at}
 use Rattle.std.specs.Int.RustNames.{bit_and, bit_xor}
 use Rattle.std.proofs.lemmas.Nat.{xor_lt, and_le_l}

@@ -6,7 +6,7 @@ use Rattle.vcd_grammar.specs.declared.fault.VcdCause.TheVariants as causes
 use Rattle.vcd_grammar.specs.Tokens.{tokens_of, tokens_so_far}
 use Rattle.vcd_grammar.specs.Blocks.{blocks_of, ended}
 use Rattle.vcd_grammar.specs.Values.{at_first, samples_in}
-use Rattle.vcd_grammar.specs.Judging.{Mode, Values, Known, nothing, behind, events_in}
+use Rattle.vcd_grammar.specs.Judging.{Mode, Values, nothing, behind, events_in}
 
 -- the fault of a text that ends where this is known
 abbrev pub cut_in : Mode → ℕ → Option VcdFault

@@ -3,14 +3,13 @@ use Rattle.std.specs.Prelude.{ℕ, ◌%◌, ◌^◌, Bool, ◌&&◌, ◌==◌, i
 use Rattle.std.specs.Option.{option_map_or}
 use Rattle.std.proofs.Math.Nat.{mod-lt}
 use Rattle.std.proofs.Common.{lit<}
-use Rattle.fsb_signal.specs.declared.lines.Lines.{Lines}
 use Rattle.fsb_signal.specs.declared.sample.Word.{Word}
 use Rattle.fsb_signal.specs.declared.sample.Sample.{Sample}
 use Rattle.fsb_signal.specs.Table.{table}
 use Rattle.fsb_signal.specs.DumpText.{width_of}
 use Rattle.vcd_grammar.specs.Digits.{extended}
 use Rattle.vcd_grammar.specs.Levels.{Level, level_of, asserted_at, unknown_at, control_of, without}
-use Rattle.vcd_grammar.specs.Blocks.{Change, Block}
+use Rattle.vcd_grammar.specs.Blocks.{Block}
 use Rattle.vcd_grammar.specs.LevelFacts.{without-apart, without-lt, control_of-lt}
 
 -- the digits of each signal, in the order of the table

@@ -1,6 +1,6 @@
 -- What a token says by itself, in the header and behind it.
 use Rattle.std.specs.Prelude.{ℕ, Bool, false, ◌&&◌, ◌||◌, not, ◌==◌, nat_le, nat_eq, if◌then◌else◌, List, [], ◌∷◌, length, take, codes, Option, Some, None}
-use Rattle.std.specs.List.{list_all, list_any, take_while}
+use Rattle.std.specs.List.{list_all, take_while}
 use Rattle.std.specs.Cmp.Lexicographic.{pointwise}
 use Rattle.vcd_grammar.specs.Digits.{is_value_digit, time_in}
 
