@@ -1,5 +1,6 @@
-use crate::{end_line, log_line};
+use crate::{end_line, log_line, verdict_line};
 use fsb_access::{Access, Done, Operand};
+use fsb_rules::Broken;
 
 /// An entry of agent 0.
 fn entry(clock: u32, item: u16, access: Access, value: u64) -> Done {
@@ -46,5 +47,18 @@ fn log_lines_and_the_end_line(rt: HostRuntime) {
     assert_eq!(rt;
         end_line(10, 0, 2).as_slice(),
         b"end clocks=10 done=0 of=2\n".as_slice()
+    );
+}
+
+#[test]
+fn verdict_lines(rt: HostRuntime) {
+    assert_eq!(rt;
+        verdict_line(60, None).as_slice(),
+        b"accepted clocks=60\n".as_slice()
+    );
+    let broken = Broken { clock: 26, rule: 4 };
+    assert_eq!(rt;
+        verdict_line(60, Some(broken)).as_slice(),
+        b"rejected clock=26 rule=4\n".as_slice()
     );
 }

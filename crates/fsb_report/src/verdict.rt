@@ -1,0 +1,43 @@
+//! The line of a verdict.
+ghost use Rattle.std.specs.Prelude.{◌≡◌, ◌≤◌, ◌+◌, ◌++◌, [], Option, None, Some, length};
+ghost use Rattle.arrayvec.specs.ArrayVec.{array_vec_len};
+ghost use Rattle.fsb_report.specs.VerdictText.{verdict_text};
+
+use arrayvec::ArrayVec;
+use fsb_io::{Line, put_decimal, put_text};
+use fsb_rules::Broken;
+
+/// The line of the verdict on a trace, with its line feed: `accepted clocks=<clocks>`, or
+/// `rejected clock=<clock> rule=<rule>` where a rule is broken. It takes no memory.
+pub fn verdict_line(clocks: u32, broken: Option<Broken>) -> Line
+    ensures { result.items ≡ verdict_text clocks broken }
+{
+    match broken {
+        None => accepted_line(clocks),
+        Some(broken) => rejected_line(broken),
+    }
+}
+
+// The line of a trace that breaks no rule.
+fn accepted_line(clocks: u32) -> Line
+    ensures { result.items ≡ verdict_text clocks None }
+{
+    let mut line = ArrayVec::new();
+    put_text(&mut line, "accepted clocks=");
+    put_decimal(&mut line, u64::from(clocks));
+    put_text(&mut line, "\n");
+    line
+}
+
+// The line of a broken rule.
+fn rejected_line(broken: Broken) -> Line
+    ensures { result.items ≡ verdict_text 0 (Some broken) }
+{
+    let mut line = ArrayVec::new();
+    put_text(&mut line, "rejected clock=");
+    put_decimal(&mut line, u64::from(broken.clock));
+    put_text(&mut line, " rule=");
+    put_decimal(&mut line, u64::from(broken.rule));
+    put_text(&mut line, "\n");
+    line
+}

@@ -1,0 +1,6 @@
+//! The judge of the phase rules, which looks at each sample once.
+#![tactic(auto)]
+
+pub use broken::Broken;
+
+mod broken;
