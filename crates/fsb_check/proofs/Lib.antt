@@ -1,0 +1,4 @@
+mod MoreTokens
+mod Refusals
+mod JudgeSteps
+mod Checked
