@@ -5,4 +5,5 @@ pub mod Outcome
 pub mod Reading
 pub mod Refused
 pub mod StatusText
+pub mod Told
 pub mod Writing

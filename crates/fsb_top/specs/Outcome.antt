@@ -1,10 +1,13 @@
 -- What a call of `bench` leaves behind, by its status.
-use Rattle.std.specs.Prelude.{◌≡◌, ℕ, ◌++◌, List, Option, Some}
+use Rattle.std.specs.Prelude.{◌≡◌, ◌<◌, ◌^◌, ◌⊎◌, ℕ, ◌++◌, List, Option, None, Some, length}
 use Rattle.fsb_access.specs.Replay.{Served}
 use Rattle.fsb_access.specs.ScriptOrder.{InOrder, script_of}
 use Rattle.fsb_access.specs.declared.log.Done.{Done as Entry}
 use Rattle.fsb_io.specs.Appends.{AppendsPart}
+use Rattle.fsb_check.specs.Found.{IsReadWhole, IsBad, HasManySamples}
 use Rattle.fsb_report.specs.LogText.{log_text}
+use Rattle.fsb_report.specs.VerdictText.{verdict_text}
+use Rattle.fsb_rules.specs.Checker.{as_broken}
 use Rattle.fsb_script.specs.Drafts.{BenchText, FirstBad}
 use Rattle.fsb_script.specs.Plans.{PlanView}
 use Rattle.fsb_script.specs.declared.fault.ScriptFault.{ScriptFault}
@@ -12,12 +15,15 @@ use Rattle.fsb_signal.specs.DumpText.{dump_text}
 use Rattle.fsb_signal.specs.declared.sample.Sample.{Sample}
 use Rattle.fsb_solo.specs.SoloLog.{solo_log}
 use Rattle.fsb_solo.specs.SoloTrace.{solo_trace}
+use Rattle.fsb_trace.specs.Verdict.{verdict}
+use Rattle.vcd_grammar.specs.declared.fault.VcdFault.{VcdFault}
+use Rattle.vcd_grammar.specs.Reading.{Reads}
 use Rattle.fsb_top.specs.AccessCount.{access_count}
-use Rattle.fsb_top.specs.Form.{form_of, run}
+use Rattle.fsb_top.specs.Form.{Form, run, check}
 use Rattle.fsb_top.specs.Reading.{HasRead}
 use Rattle.fsb_top.specs.Writing.{HasDump, HasDumpPart}
 use Rattle.fsb_top.specs.declared.status.Status.{Status}
-use Rattle.fsb_top.specs.declared.status.Status.TheVariants.{Done, BadWords, BadBench, ReadFault, WriteFault, DumpFault, OutOfMemory, TooLong}
+use Rattle.fsb_top.specs.declared.status.Status.TheVariants.{Done, Rejected, BadWords, BadBench, BadDump, ReadFault, WriteFault, DumpFault, OutOfMemory, TooLong}
 
 -- ---- a run
 
@@ -35,13 +41,15 @@ plan_text plan = log_text plan.clocks (access_count plan.scripts) (plan_log plan
 
 -- ---- by status
 
--- a call that was not stopped before its run ended
+-- a call that was not stopped before its run or its check ended
 abbrev pub HasRun : Status → Type 0
 HasRun Done = Unit {0}
 HasRun WriteFault = Unit {0}
 HasRun DumpFault = Unit {0}
+HasRun (Rejected broken) = Unit {0}
 HasRun BadWords = ⊥
 HasRun (BadBench fault) = ⊥
+HasRun (BadDump fault) = ⊥
 HasRun ReadFault = ⊥
 HasRun OutOfMemory = ⊥
 HasRun TooLong = ⊥
@@ -52,8 +60,10 @@ HasEnded Done = Unit {0}
 HasEnded WriteFault = Unit {0}
 HasEnded DumpFault = Unit {0}
 HasEnded OutOfMemory = Unit {0}
+HasEnded (Rejected broken) = ⊥
 HasEnded BadWords = ⊥
 HasEnded (BadBench fault) = ⊥
+HasEnded (BadDump fault) = ⊥
 HasEnded ReadFault = ⊥
 HasEnded TooLong = ⊥
 
@@ -62,8 +72,10 @@ abbrev pub IsSilent : Status → Type 0
 IsSilent Done = ⊥
 IsSilent WriteFault = ⊥
 IsSilent DumpFault = ⊥
+IsSilent (Rejected broken) = ⊥
 IsSilent BadWords = Unit {0}
 IsSilent (BadBench fault) = Unit {0}
+IsSilent (BadDump fault) = Unit {0}
 IsSilent ReadFault = Unit {0}
 IsSilent OutOfMemory = Unit {0}
 IsSilent TooLong = Unit {0}
@@ -73,8 +85,10 @@ abbrev pub IsLogged : Status → PlanView → List ℕ → List ℕ → Type 0
 IsLogged Done plan before held = held ≡ before ++ plan_text plan
 IsLogged DumpFault plan before held = held ≡ before ++ plan_text plan
 IsLogged WriteFault plan before held = AppendsPart (plan_text plan) before held
+IsLogged (Rejected broken) plan before held = Unit {0}
 IsLogged BadWords plan before held = Unit {0}
 IsLogged (BadBench fault) plan before held = Unit {0}
+IsLogged (BadDump fault) plan before held = Unit {0}
 IsLogged ReadFault plan before held = Unit {0}
 IsLogged OutOfMemory plan before held = Unit {0}
 IsLogged TooLong plan before held = Unit {0}
@@ -86,30 +100,117 @@ IsDumped Done plan name before was_begun_as held begun_as = HasDump (dump_text (
 IsDumped DumpFault plan name before was_begun_as held begun_as =
     HasDumpPart (dump_text (plan_trace plan)) name before was_begun_as held begun_as
 IsDumped WriteFault plan name before was_begun_as held begun_as = Unit {0}
+IsDumped (Rejected broken) plan name before was_begun_as held begun_as = Unit {0}
 IsDumped BadWords plan name before was_begun_as held begun_as = Unit {0}
 IsDumped (BadBench fault) plan name before was_begun_as held begun_as = Unit {0}
+IsDumped (BadDump fault) plan name before was_begun_as held begun_as = Unit {0}
 IsDumped ReadFault plan name before was_begun_as held begun_as = Unit {0}
 IsDumped OutOfMemory plan name before was_begun_as held begun_as = Unit {0}
 IsDumped TooLong plan name before was_begun_as held begun_as = Unit {0}
 
+-- ---- a check
+
+-- the verdict on a trace, as it is printed
+abbrev pub trace_text : List Sample → List ℕ
+trace_text w = verdict_text (length w) (as_broken (verdict w))
+
+-- the status is that of the verdict on the trace; where the sink failed, of any
+abbrev pub TellsVerdict : Status → List Sample → Type 0
+TellsVerdict Done w = verdict w ≡ None
+TellsVerdict (Rejected broken) w = as_broken (verdict w) ≡ Some broken
+TellsVerdict WriteFault w = Unit {0}
+TellsVerdict DumpFault w = ⊥
+TellsVerdict BadWords w = ⊥
+TellsVerdict (BadBench fault) w = ⊥
+TellsVerdict (BadDump fault) w = ⊥
+TellsVerdict ReadFault w = ⊥
+TellsVerdict OutOfMemory w = ⊥
+TellsVerdict TooLong w = ⊥
+
+-- the log's sink has the line of the verdict behind what it held, or a first part of it where it failed
+abbrev pub IsTold : Status → List Sample → List ℕ → List ℕ → Type 0
+IsTold Done w before held = held ≡ before ++ trace_text w
+IsTold (Rejected broken) w before held = held ≡ before ++ trace_text w
+IsTold WriteFault w before held = AppendsPart (trace_text w) before held
+IsTold DumpFault w before held = Unit {0}
+IsTold BadWords w before held = Unit {0}
+IsTold (BadBench fault) w before held = Unit {0}
+IsTold (BadDump fault) w before held = Unit {0}
+IsTold ReadFault w before held = Unit {0}
+IsTold OutOfMemory w before held = Unit {0}
+IsTold TooLong w before held = Unit {0}
+
+-- a check ends in one of these
+abbrev pub IsOfCheck : Status → Type 0
+IsOfCheck Done = Unit {0}
+IsOfCheck (Rejected broken) = Unit {0}
+IsOfCheck (BadDump fault) = Unit {0}
+IsOfCheck ReadFault = Unit {0}
+IsOfCheck WriteFault = Unit {0}
+IsOfCheck OutOfMemory = Unit {0}
+IsOfCheck TooLong = Unit {0}
+IsOfCheck DumpFault = ⊥
+IsOfCheck BadWords = ⊥
+IsOfCheck (BadBench fault) = ⊥
+
+-- a run ends in one of these
+abbrev pub IsOfRun : Status → Type 0
+IsOfRun Done = Unit {0}
+IsOfRun (BadBench fault) = Unit {0}
+IsOfRun ReadFault = Unit {0}
+IsOfRun WriteFault = Unit {0}
+IsOfRun DumpFault = Unit {0}
+IsOfRun OutOfMemory = Unit {0}
+IsOfRun TooLong = Unit {0}
+IsOfRun (Rejected broken) = ⊥
+IsOfRun (BadDump fault) = ⊥
+IsOfRun BadWords = ⊥
+
 -- ---- the whole call
 
--- the words ask for a run of the file under this name, all of it was read, and it is the bench file of this plan, whose
--- log is that of one byte memory and keeps to the scripts in order
-pub record HasPlan (words : List (List ℕ)) (held left : List ℕ) (begun_as : Option (List ℕ)) : Type 0 where
-  pub bench : List ℕ
-  pub dump : Option (List ℕ)
-  pub form : form_of words ≡ Some (run bench dump)
-  pub read : HasRead held bench left begun_as
+-- all of the file under this name was read, and it is the bench file of this plan, whose log is that of one byte memory
+-- and keeps to the scripts in order, and the dump of whose waveform reads back to the waveform
+pub record HasPlan (name held left : List ℕ) (begun_as : Option (List ℕ)) : Type 0 where
+  pub read : HasRead held name left begun_as
   pub plan : PlanView
   pub is_bench : BenchText held plan
   pub served : Served plan.mem (plan_log plan)
   pub in_order : InOrder plan.scripts (plan_log plan)
+  pub reads_back : Reads (dump_text (plan_trace plan)) (plan_trace plan)
 
--- the words ask for a run of the file under this name, all of it was read, and it is no bench file, with this first fault
-pub record IsBadBench (words : List (List ℕ)) (held left : List ℕ) (begun_as : Option (List ℕ)) (fault : ScriptFault) : Type 0 where
-  pub bench : List ℕ
-  pub dump : Option (List ℕ)
-  pub form : form_of words ≡ Some (run bench dump)
-  pub read : HasRead held bench left begun_as
+-- all of the file under this name was read, and it is no bench file, with this first fault
+pub record IsBadBench (name held left : List ℕ) (begun_as : Option (List ℕ)) (fault : ScriptFault) : Type 0 where
+  pub read : HasRead held name left begun_as
   pub is_bad : FirstBad held fault
+
+-- all of the file under this name was read, it is the dump of this trace, and the status is that of its verdict
+pub record HasVerdict (status : Status) (name held left : List ℕ) (begun_as : Option (List ℕ)) : Type 0 where
+  pub read : IsReadWhole held left
+  pub named : begun_as ≡ Some name
+  pub trace : List Sample
+  pub reads : Reads held trace
+  pub told : TellsVerdict status trace
+
+-- all of the file under this name was read, and it is no dump, with this first fault, before which at most 2^32 - 1
+-- samples are decided
+pub record IsBadDump (name held left : List ℕ) (begun_as : Option (List ℕ)) (fault : VcdFault) : Type 0 where
+  pub read : IsReadWhole held left
+  pub named : begun_as ≡ Some name
+  pub is_bad : IsBad held fault
+
+-- the file is too long: a bench file has more than 4,194,304 bytes; a dump more than 2^40, or too many samples
+abbrev pub IsTooLong : Form → List ℕ → Type 0
+IsTooLong (run bench dump) held = 4194304 < length held
+IsTooLong (check dump) held = (2 ^ 40 < length held) ⊎ HasManySamples held
+
+-- what an answer about the file says, by the form of the words; nothing where they have none
+abbrev pub FromRun : Option Form → (List ℕ → Type 0) → Type 0
+FromRun None P = ⊥
+FromRun (Some (run bench dump)) P = P bench
+FromRun (Some (check dump)) P = ⊥
+
+-- the same of the words of a check
+abbrev pub FromCheck : Option Form → (List ℕ → Type 0) → Type 0
+FromCheck None P = ⊥
+FromCheck (Some (run bench dump)) P = ⊥
+FromCheck (Some (check dump)) P = P dump

@@ -1,16 +1,22 @@
 -- The exit status of each way in which a call may end, and what is printed of it.
-use Rattle.std.specs.Prelude.{ℕ, List, [], ◌++◌, codes}
+use Rattle.std.specs.Prelude.{ℕ, List, [], ◌++◌, codes, slice_get}
+use Rattle.std.specs.Option.{option_map_or}
 use Rattle.std.specs.Fmt.{decimal}
 use Rattle.fsb_script.specs.declared.fault.Cause.{Cause}
 use Rattle.fsb_script.specs.declared.fault.Cause.TheVariants.{FirstLine, Word, Number, Range, Align, Outside, LockConflict, LockSize, Missing, After, Unbuilt}
+use Rattle.fsb_signal.specs.Table.{table}
+use Rattle.vcd_grammar.specs.declared.fault.VcdCause.{VcdCause}
+use Rattle.vcd_grammar.specs.declared.fault.VcdCause.TheVariants as causes
 use Rattle.fsb_top.specs.declared.status.Status.{Status}
-use Rattle.fsb_top.specs.declared.status.Status.TheVariants.{Done, BadWords, BadBench, ReadFault, WriteFault, DumpFault, OutOfMemory, TooLong}
+use Rattle.fsb_top.specs.declared.status.Status.TheVariants.{Done, Rejected, BadWords, BadBench, BadDump, ReadFault, WriteFault, DumpFault, OutOfMemory, TooLong}
 
 -- the exit status
 abbrev pub code_of : Status → ℕ
 code_of Done = 0
+code_of (Rejected broken) = 1
 code_of BadWords = 2
 code_of (BadBench fault) = 3
+code_of (BadDump fault) = 4
 code_of ReadFault = 5
 code_of WriteFault = 6
 code_of DumpFault = 7
@@ -31,11 +37,29 @@ cause_name Missing = codes "Missing"
 cause_name After = codes "After"
 cause_name Unbuilt = codes "Unbuilt"
 
+-- the name of the line of this number in the signal table; of a number that has no line, the number
+abbrev pub line_name : ℕ → List ℕ
+line_name number = option_map_or (λ e. e.name) (slice_get table number) (decimal number)
+
+-- the printed cause of the first fault of a dump
+abbrev pub dump_cause_text : VcdCause → List ℕ
+dump_cause_text causes.Token = codes "Token"
+dump_cause_text causes.Header = codes "Header"
+dump_cause_text causes.Code = codes "Code"
+dump_cause_text causes.Width = codes "Width"
+dump_cause_text causes.TimeBack = codes "TimeBack"
+dump_cause_text (causes.Missing number) = codes "Missing " ++ line_name number
+dump_cause_text causes.Cut = codes "Cut"
+
 -- the line on standard error, without its line feed; after Done there is none
 abbrev pub status_text : Status → List ℕ
 status_text Done = []
+status_text (Rejected broken) =
+    codes "rejected clock=" ++ decimal broken.clock ++ codes " rule=" ++ decimal broken.rule
 status_text BadWords = codes "bad words"
 status_text (BadBench fault) = codes "bench line " ++ decimal fault.line ++ codes ": " ++ cause_name fault.cause
+status_text (BadDump fault) =
+    codes "dump byte " ++ decimal fault.place ++ codes ": " ++ dump_cause_text fault.cause
 status_text ReadFault = codes "read fault"
 status_text WriteFault = codes "write fault"
 status_text DumpFault = codes "dump fault"

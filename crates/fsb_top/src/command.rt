@@ -1,5 +1,5 @@
 ghost use Rattle.std.specs.Prelude.{◌≡◌, ◌==◌, Option, None, Some, MatchOption, option_map};
-ghost use Rattle.fsb_top.specs.Form.{form_of, is_name};
+ghost use Rattle.fsb_top.specs.Form.{form_of, form_of_two, is_name};
 ghost use Rattle.fsb_top.specs.Command.{IsCommand};
 
 use crate::words::Words;
@@ -14,6 +14,10 @@ pub enum Command<'a> {
     Run {
         bench: &'a str,
         dump: Option<&'a str>,
+    },
+    /// To judge a dump.
+    Check {
+        dump: &'a str,
     },
 }
 
@@ -33,16 +37,30 @@ pub fn read_words(words: &Words) -> Option<Command<'_>>
     ensures { IsCommand (form_of words.now) result }
 {
     let verb = words.word(0)?;
-    let bench = words.word(1)?;
-    if verb != "run" || !is_name(bench) {
+    let name = words.word(1)?;
+    if !is_name(name) {
         return None;
     }
     match words.word(2) {
-        None => Some(Command::Run { bench, dump: None }),
-        Some(dump) if words.len() == 3 && is_name(dump) => Some(Command::Run {
-            bench,
+        None => command_on(verb, name),
+        Some(dump) if verb == "run" && words.len() == 3 && is_name(dump) => Some(Command::Run {
+            bench: name,
             dump: Some(dump),
         }),
         Some(_) => None,
+    }
+}
+
+// The command of a verb and the name of a file.
+fn command_on<'a>(verb: &str, name: &'a str) -> Option<Command<'a>>
+    ensures { IsCommand (form_of_two verb.now name.now) result }
+{
+    match verb {
+        "run" => Some(Command::Run {
+            bench: name,
+            dump: None,
+        }),
+        "check" => Some(Command::Check { dump: name }),
+        _ => None,
     }
 }

@@ -5,6 +5,7 @@ pub use status::{Status, code, status_line};
 pub use top::bench;
 pub use words::Words;
 
+mod check;
 mod command;
 mod count;
 mod output;

@@ -1,31 +1,39 @@
 //! How a call ended.
 ghost use Rattle.std.specs.Prelude.{◌≡◌, ◌≤◌, ◌+◌, ◌++◌, [], length};
 ghost use Rattle.arrayvec.specs.ArrayVec.{array_vec_len};
-ghost use Rattle.fsb_top.specs.StatusText.{code_of, status_text, cause_name};
+ghost use Rattle.fsb_top.specs.StatusText.{code_of, status_text, cause_name, dump_cause_text, line_name};
 
 use arrayvec::ArrayVec;
 use fsb_io::{Line, put_decimal, put_text};
+use fsb_rules::Broken;
 use fsb_script::{Cause, ScriptFault};
+use fsb_signal::signal_at;
+use vcd_read::{VcdCause, VcdFault};
 
 /// How a call of `bench` ended.
 #[derive(Clone, Copy, Debug, PartialEq, Eq)]
 pub enum Status {
-    /// Everything was read and written.
+    /// Everything was read and written; of a check, that the dump breaks no phase rule.
     Done,
+    /// The dump breaks a phase rule; this is the first clock with a broken rule and, there, the least rule.
+    Rejected(Broken),
     /// The words have no form of a command.
     BadWords,
     /// The file is no bench file; this is its first fault.
     BadBench(ScriptFault),
+    /// The file is no dump; this is its first fault.
+    BadDump(VcdFault),
     /// The source failed in this call.
     ReadFault,
-    /// The sink of the log failed in this call; it holds a prefix of its text.
+    /// The sink of the log or of the verdict failed in this call; it holds a prefix of its text.
     WriteFault,
     /// The sink of the dump failed in this call; it holds a prefix of its text, or what it held before where it could not
     /// be begun.
     DumpFault,
     /// Memory was lacking; nothing was written.
     OutOfMemory,
-    /// The bench file is longer than 4,194,304 bytes.
+    /// The bench file is longer than 4,194,304 bytes; the dump is longer than 2^40 bytes, or has more than 2^32 - 1 samples
+    /// before its first fault.
     TooLong,
 }
 
@@ -35,8 +43,10 @@ pub fn code(status: &Status) -> u8
 {
     match status {
         Status::Done => 0,
+        Status::Rejected(_) => 1,
         Status::BadWords => 2,
         Status::BadBench(_) => 3,
+        Status::BadDump(_) => 4,
         Status::ReadFault => 5,
         Status::WriteFault => 6,
         Status::DumpFault => 7,
@@ -51,8 +61,10 @@ pub fn status_line(status: &Status) -> Line
 {
     match status {
         Status::Done => ArrayVec::new(),
+        Status::Rejected(broken) => rejected_line(broken),
         Status::BadWords => text_line("bad words"),
         Status::BadBench(fault) => bad_bench_line(fault),
+        Status::BadDump(fault) => bad_dump_line(fault),
         Status::ReadFault => text_line("read fault"),
         Status::WriteFault => text_line("write fault"),
         Status::DumpFault => text_line("dump fault"),
@@ -100,5 +112,60 @@ fn name_of(cause: Cause) -> &'static str
         Cause::Missing => "Missing",
         Cause::After => "After",
         Cause::Unbuilt => "Unbuilt",
+    }
+}
+
+// The line of a broken rule.
+fn rejected_line(broken: &Broken) -> Line
+    ensures { result.items ≡ status_text (Status.Rejected broken.now) }
+{
+    let mut line = ArrayVec::new();
+    put_text(&mut line, "rejected clock=");
+    put_decimal(&mut line, u64::from(broken.clock));
+    put_text(&mut line, " rule=");
+    put_decimal(&mut line, u64::from(broken.rule));
+    line
+}
+
+// The line of the first fault of a dump.
+fn bad_dump_line(fault: &VcdFault) -> Line
+    ensures { result.items ≡ status_text (Status.BadDump fault.now) }
+{
+    let mut line = ArrayVec::new();
+    put_text(&mut line, "dump byte ");
+    put_decimal(&mut line, fault.place);
+    put_text(&mut line, ": ");
+    put_dump_cause(&mut line, fault.cause);
+    line
+}
+
+// Appends the printed cause of a dump's fault.
+fn put_dump_cause(line: &mut Line, cause: VcdCause)
+    requires { array_vec_len line.old + 60 ≤ 256 }
+    ensures { line.new.items ≡ line.old.items ++ dump_cause_text cause }
+{
+    match cause {
+        VcdCause::Token => put_text(line, "Token"),
+        VcdCause::Header => put_text(line, "Header"),
+        VcdCause::Code => put_text(line, "Code"),
+        VcdCause::Width => put_text(line, "Width"),
+        VcdCause::TimeBack => put_text(line, "TimeBack"),
+        VcdCause::Missing(number) => {
+            put_text(line, "Missing ");
+            put_line_name(line, number);
+        }
+        VcdCause::Cut => put_text(line, "Cut"),
+    }
+}
+
+// Appends the name of the line of this number.
+fn put_line_name(line: &mut Line, number: u8)
+    requires { array_vec_len line.old + 30 ≤ 256 }
+    ensures { line.new.items ≡ line.old.items ++ line_name number }
+{
+    if number < 20 {
+        put_text(line, signal_at(number).name);
+    } else {
+        put_decimal(line, u64::from(number));
     }
 }

@@ -1,17 +1,21 @@
 use crate::{Status, Words, bench, code, status_line};
 use fsb_io::{MemSink, MemSource, Memory};
+use fsb_rules::Broken;
 use fsb_script::{Cause, ScriptFault};
 use std::alloc::{AllocError, Global};
 use std::test::Fail;
 use texts::{CLOCKS_ZERO_TO_THREE, HEAD, TAIL};
+use vcd_read::{VcdCause, VcdFault};
 
+mod dumps;
+mod judged;
 mod texts;
 
 /// A command line that names a bench file and a dump.
-const NAMED: [&str; 3] = ["run", "first.bench", "first.vcd"];
+pub(crate) const NAMED: [&str; 3] = ["run", "first.bench", "first.vcd"];
 
 /// A load of a byte that memory has, and a store into its line.
-const FIRST: &str =
+pub(crate) const FIRST: &str =
     "p6bench 1\nagents 1\nclocks 60\ncache 64\nahead 1\nmem 40 07\nagent 0\nld 1 40\nst 1 41 5\nend\n";
 
 const FIRST_LOG: &str = "11 0 0 ld 1 40 = 7\n12 0 1 st 1 41 = 5\nend clocks=60 done=2 of=2\n";
@@ -26,7 +30,7 @@ fn words_of(alloc: Global, list: &[&str]) -> Result<Words, Memory> {
 }
 
 /// The texts one behind the other.
-fn joined(alloc: Global, texts: &[&str]) -> Result<Vec<u8>, AllocError> {
+pub(crate) fn joined(alloc: Global, texts: &[&str]) -> Result<Vec<u8>, AllocError> {
     let mut whole = Vec::new(alloc);
     for text in texts {
         whole.extend_from_slice(text.as_bytes())?;
@@ -36,13 +40,13 @@ fn joined(alloc: Global, texts: &[&str]) -> Result<Vec<u8>, AllocError> {
 
 /// The calls of each object that fail.
 #[derive(Clone, Copy)]
-struct Fails {
-    source: &'static [u32],
-    out: &'static [u32],
-    dump: &'static [u32],
+pub(crate) struct Fails {
+    pub(crate) source: &'static [u32],
+    pub(crate) out: &'static [u32],
+    pub(crate) dump: &'static [u32],
 }
 
-const NO_FAILS: Fails = Fails {
+pub(crate) const NO_FAILS: Fails = Fails {
     source: &[],
     out: &[],
     dump: &[],
@@ -50,15 +54,20 @@ const NO_FAILS: Fails = Fails {
 
 /// How a call of `bench` ended, and the objects that it was given.
 #[derive(Drop)]
-struct Ended {
-    status: Status,
-    source: MemSource,
-    out: MemSink,
-    dump: MemSink,
+pub(crate) struct Ended {
+    pub(crate) status: Status,
+    pub(crate) source: MemSource,
+    pub(crate) out: MemSink,
+    pub(crate) dump: MemSink,
 }
 
 /// Calls `bench` on the words and the text of a bench file, with room for all that is written.
-fn call_bench(alloc: Global, list: &[&str], text: &[u8], fails: Fails) -> Result<Ended, Memory> {
+pub(crate) fn call_bench(
+    alloc: Global,
+    list: &[&str],
+    text: &[u8],
+    fails: Fails,
+) -> Result<Ended, Memory> {
     let words = words_of(alloc, list)?;
     let mut source = MemSource::new(alloc, text, fails.source)?;
     let mut out = MemSink::new(alloc, 1_000, fails.out)?;
@@ -125,12 +134,15 @@ fn empty_run(rt: HostRuntime) -> Result<(), Fail> {
 }
 
 /// Words that ask for nothing.
-const BAD_WORDS: [&[&str]; 6] = [
+const BAD_WORDS: [&[&str]; 9] = [
     &[],
     &["run"],
     &["run", "-x"],
     &["run", ""],
-    &["check", "first.vcd"],
+    &["check"],
+    &["check", "-x"],
+    &["check", "first.vcd", "second.vcd"],
+    &["judge", "first.vcd"],
     &["run", "first.bench", "first.vcd", "more"],
 ];
 
@@ -219,16 +231,29 @@ fn dump_fault(rt: HostRuntime) -> Result<(), Fail> {
     Ok(())
 }
 
+/// The status of a dump with this first fault.
+fn bad_dump(place: u64, cause: VcdCause) -> Status {
+    Status::BadDump(VcdFault { place, cause })
+}
+
 #[test]
 fn exit_codes_and_printed_lines(rt: HostRuntime) {
     let bad = Status::BadBench(ScriptFault {
         line: 7,
         cause: Cause::Align,
     });
+    let rejected = Status::Rejected(Broken { clock: 4, rule: 2 });
+    let cut = bad_dump(11, VcdCause::Cut);
+    let missing = bad_dump(0, VcdCause::Missing(0));
+    let no_line = bad_dump(0, VcdCause::Missing(20));
     let table = [
         (Status::Done, 0, ""),
+        (rejected, 1, "rejected clock=4 rule=2"),
         (Status::BadWords, 2, "bad words"),
         (bad, 3, "bench line 7: Align"),
+        (cut, 4, "dump byte 11: Cut"),
+        (missing, 4, "dump byte 0: Missing BCLK"),
+        (no_line, 4, "dump byte 0: Missing 20"),
         (Status::ReadFault, 5, "read fault"),
         (Status::WriteFault, 6, "write fault"),
         (Status::DumpFault, 7, "dump fault"),

@@ -1,0 +1,217 @@
+//! Dumps that are checked.
+use super::dumps::{
+    FALLING, FALLING_VERILATOR, SAME_TIME, SCOPES, SIMULATOR_HEAD, SIMULATOR_RISES,
+    UNKNOWN_AFTER_FALL, UNKNOWN_AFTER_RISE,
+};
+use super::{Ended, FIRST, Fails, NAMED, NO_FAILS, call_bench, joined};
+use crate::Status;
+use fsb_io::{MemSink, Memory};
+use fsb_rules::Broken;
+use fsb_signal::{Lines, Sample, Word};
+use std::alloc::{AllocError, Global};
+use std::test::Fail;
+use vcd_read::{VcdCause, VcdFault};
+use vcd_write::put_dump;
+
+/// A command line that names a dump.
+const CHECK: [&str; 2] = ["check", "first.vcd"];
+
+/// The control lines, the REQ word and the address word of a clock.
+type Clock = (u32, u64, u64);
+
+const BREQ0: u32 = 1;
+
+const BREQ1: u32 = 2;
+
+const ADS: u32 = 128;
+
+const AERR: u32 = 256;
+
+/// A read of the line of address 40, and ADS# again two clocks later.
+const TOO_SOON: [Clock; 5] = [
+    (BREQ0, 0, 0),
+    (BREQ0, 0, 0),
+    (BREQ0 | ADS, 0x6, 0x8),
+    (0, 0x2, 0x2),
+    (BREQ0 | ADS, 0, 0),
+];
+
+/// A clock at which the rules 2, 6 and 10 are broken.
+const THREE_RULES: [Clock; 2] = [(0, 0, 0), (ADS | AERR, 0, 0)];
+
+/// The first clocks of nine reads of two agents in turn, to which nobody responds.
+const NINE_READS: [Clock; 27] = [
+    (BREQ0 | BREQ1, 0, 0),
+    (BREQ0 | BREQ1, 0, 0),
+    (BREQ0 | BREQ1 | ADS, 0x6, 0x8),
+    (BREQ1, 0x2, 0x2),
+    (BREQ0 | BREQ1, 0, 0),
+    (BREQ0 | BREQ1 | ADS, 0x6, 0xc),
+    (BREQ0, 0x2, 0x20002),
+    (BREQ0 | BREQ1, 0, 0),
+    (BREQ0 | BREQ1 | ADS, 0x6, 0x10),
+    (BREQ1, 0x2, 0x2002),
+    (BREQ0 | BREQ1, 0, 0),
+    (BREQ0 | BREQ1 | ADS, 0x6, 0x14),
+    (BREQ0, 0x2, 0x22002),
+    (BREQ0 | BREQ1, 0, 0),
+    (BREQ0 | BREQ1 | ADS, 0x6, 0x18),
+    (BREQ1, 0x2, 0x4002),
+    (BREQ0 | BREQ1, 0, 0),
+    (BREQ0 | BREQ1 | ADS, 0x6, 0x1c),
+    (BREQ0, 0x2, 0x24002),
+    (BREQ0 | BREQ1, 0, 0),
+    (BREQ0 | BREQ1 | ADS, 0x6, 0x20),
+    (BREQ1, 0x2, 0x6002),
+    (BREQ0 | BREQ1, 0, 0),
+    (BREQ0 | BREQ1 | ADS, 0x6, 0x24),
+    (BREQ0, 0x2, 0x26002),
+    (BREQ0, 0, 0),
+    (BREQ0 | ADS, 0x6, 0x28),
+];
+
+/// The sample of a clock.
+fn sample((lines, req, addr): Clock) -> Sample {
+    Sample {
+        lines: Lines(lines % (1 << 18)),
+        unknown: Lines(0),
+        req: Word::known(req % (1 << 5)),
+        addr: Word::known(addr % (1 << 33)),
+        dbus: Word::known(0),
+    }
+}
+
+/// The dump that is written of these clocks.
+fn written(alloc: Global, clocks: &[Clock]) -> Result<MemSink, Memory> {
+    let mut samples = Vec::new(alloc);
+    for &clock in clocks {
+        samples.push(sample(clock))?;
+    }
+    let mut sink = MemSink::new(alloc, 10_000, &[])?;
+    let _ = put_dump(&mut sink, &samples);
+    Ok(sink)
+}
+
+/// Calls `bench` with the words of a check.
+fn check(alloc: Global, text: &[u8]) -> Result<Ended, Memory> {
+    call_bench(alloc, &CHECK, text, NO_FAILS)
+}
+
+/// The text, with a part of it replaced.
+fn replaced(alloc: Global, text: &str, part: &str, by: &str) -> Result<Vec<u8>, AllocError> {
+    match text.split_once(part) {
+        Some((before, after)) => joined(alloc, &[before, by, after]),
+        None => joined(alloc, &[text]),
+    }
+}
+
+#[test]
+fn own_dump_accepted(rt: HostRuntime) -> Result<(), Fail> {
+    let run = call_bench(rt.alloc(), &NAMED, FIRST.as_bytes(), NO_FAILS)?;
+    let ended = check(rt.alloc(), run.dump.holds())?;
+    assert_eq!(rt; ended.status, Status::Done);
+    assert_eq!(rt; ended.out.holds(), b"accepted clocks=60\n".as_slice());
+    assert_eq!(rt; ended.out.calls(), 1, "one piece");
+    assert_eq!(rt; ended.dump.calls(), 0);
+    Ok(())
+}
+
+#[test]
+fn broken_rules_are_named(rt: HostRuntime) -> Result<(), Fail> {
+    let table: [(&[Clock], u32, u8, &str); 3] = [
+        (&TOO_SOON, 4, 2, "rejected clock=4 rule=2\n"),
+        (&THREE_RULES, 1, 2, "rejected clock=1 rule=2\n"),
+        (&NINE_READS, 26, 4, "rejected clock=26 rule=4\n"),
+    ];
+    for (clocks, clock, rule, text) in table {
+        let dump = written(rt.alloc(), clocks)?;
+        let ended = check(rt.alloc(), dump.holds())?;
+        assert_eq!(rt; ended.status, Status::Rejected(Broken { clock, rule }));
+        assert_eq!(rt; ended.out.holds(), text.as_bytes());
+    }
+    Ok(())
+}
+
+#[test]
+fn simulator_dump(rt: HostRuntime) -> Result<(), Fail> {
+    let unknown = Status::Rejected(Broken { clock: 1, rule: 1 });
+    let table = [
+        (SIMULATOR_RISES, Status::Done, "accepted clocks=2\n"),
+        (UNKNOWN_AFTER_FALL, unknown, "rejected clock=1 rule=1\n"),
+        (UNKNOWN_AFTER_RISE, unknown, "rejected clock=1 rule=1\n"),
+    ];
+    for (rises, status, text) in table {
+        let dump = joined(rt.alloc(), &[SIMULATOR_HEAD, rises])?;
+        let ended = check(rt.alloc(), &dump)?;
+        assert_eq!(rt; ended.status, status);
+        assert_eq!(rt; ended.out.holds(), text.as_bytes());
+    }
+    Ok(())
+}
+
+#[test]
+fn dumps_of_simulators(rt: HostRuntime) -> Result<(), Fail> {
+    // Each is accepted. Without the line that ends DBSY# at clock 11, or BREQ0# at clock 4, the next sample breaks a rule.
+    let table = [
+        (FALLING, "#110\n1*\n", "#110\n", 15, 11, 16),
+        (FALLING_VERILATOR, "#110\n1%\n", "#110\n", 15, 11, 16),
+        (
+            SCOPES,
+            "#11000\nb1100 3\n1)\n",
+            "#11000\nb1100 3\n",
+            15,
+            11,
+            16,
+        ),
+        (SAME_TIME, "1#\n1\"\n#40", "1#\n#40", 5, 4, 8),
+    ];
+    for (text, part, by, clocks, clock, rule) in table {
+        let accepted = check(rt.alloc(), text.as_bytes())?;
+        assert_eq!(rt; accepted.status, Status::Done);
+        let line: &[u8] = if clocks == 15 {
+            b"accepted clocks=15\n"
+        } else {
+            b"accepted clocks=5\n"
+        };
+        assert_eq!(rt; accepted.out.holds(), line);
+        let changed = replaced(rt.alloc(), text, part, by)?;
+        let rejected = check(rt.alloc(), &changed)?;
+        assert_eq!(rt; rejected.status, Status::Rejected(Broken { clock, rule }));
+    }
+    Ok(())
+}
+
+#[test]
+fn cut_and_missing(rt: HostRuntime) -> Result<(), Fail> {
+    let table = [
+        ("$var wire 1", 11, VcdCause::Cut),
+        ("$enddefinitions $end", 0, VcdCause::Missing(0)),
+        ("", 0, VcdCause::Cut),
+    ];
+    for (text, place, cause) in table {
+        let ended = check(rt.alloc(), text.as_bytes())?;
+        assert_eq!(rt; ended.status, Status::BadDump(VcdFault { place, cause }));
+        assert_eq!(rt; ended.out.calls(), 0);
+    }
+    Ok(())
+}
+
+#[test]
+fn faults_of_a_check(rt: HostRuntime) -> Result<(), Fail> {
+    // The dump has a fault at its first byte; the source fails when the end is looked for, and that is told.
+    let source = Fails {
+        source: &[2],
+        ..NO_FAILS
+    };
+    let faulty = call_bench(rt.alloc(), &CHECK, b"0a", source)?;
+    assert_eq!(rt; faulty.status, Status::ReadFault);
+    let out = Fails {
+        out: &[0],
+        ..NO_FAILS
+    };
+    let dump = joined(rt.alloc(), &[SIMULATOR_HEAD, UNKNOWN_AFTER_FALL])?;
+    let unwritten = call_bench(rt.alloc(), &CHECK, &dump, out)?;
+    assert_eq!(rt; unwritten.status, Status::WriteFault);
+    assert_eq!(rt; unwritten.out.holds(), b"".as_slice());
+    Ok(())
+}
