@@ -1,4 +1,5 @@
 use crate::{VcdCause, VcdFault, VcdStop, read_dump};
+use foreign::{FALLING, FALLING_VERILATOR, SAME_TIME, SCOPES};
 use fsb_signal::{Lines, Sample};
 use std::alloc::{AllocError, Global};
 use std::test::Fail;
@@ -8,6 +9,7 @@ use texts::{
     UNKNOWN_AFTER_RISE, VALUES,
 };
 
+mod foreign;
 mod table;
 mod texts;
 
@@ -264,6 +266,128 @@ fn simulator_dump(rt: HostRuntime) -> Result<(), Fail> {
         assert!(rt; reads(rt.alloc(), &bytes, expected), "{rises:?}");
     }
     Ok(())
+}
+
+/// A load: the request in clocks 2 and 3, the response in clock 8, the data in clocks 8 to 11.
+const LOAD: [Sees; 15] = [
+    (Rest::Idle, &[Mark::Asserts(Lines::BREQ0)]),
+    (Rest::Idle, &[Mark::Asserts(Lines::BREQ0)]),
+    (
+        Rest::Idle,
+        &[
+            Mark::Asserts(Lines::BREQ0),
+            Mark::Asserts(Lines::ADS),
+            Mark::Req(0x6, 0),
+            Mark::Addr(0x8, 0),
+        ],
+    ),
+    (Rest::Idle, &[Mark::Req(0x2, 0), Mark::Addr(0x2, 0)]),
+    (Rest::Idle, &[]),
+    (Rest::Idle, &[]),
+    (Rest::Idle, &[]),
+    (Rest::Idle, &[]),
+    (
+        Rest::Idle,
+        &[
+            Mark::Asserts(Lines::RS0),
+            Mark::Asserts(Lines::RS1),
+            Mark::Asserts(Lines::RS2),
+            Mark::Asserts(Lines::DBSY),
+            Mark::Asserts(Lines::DRDY),
+            Mark::Data(0x7, 0),
+        ],
+    ),
+    (
+        Rest::Idle,
+        &[Mark::Asserts(Lines::DBSY), Mark::Asserts(Lines::DRDY)],
+    ),
+    (
+        Rest::Idle,
+        &[Mark::Asserts(Lines::DBSY), Mark::Asserts(Lines::DRDY)],
+    ),
+    (Rest::Idle, &[Mark::Asserts(Lines::DRDY)]),
+    (Rest::Idle, &[]),
+    (Rest::Idle, &[]),
+    (Rest::Idle, &[]),
+];
+
+/// The same, with data that is known in clocks 8 to 11 alone.
+const LOAD_OF_KNOWN_DATA: [Sees; 15] = [
+    (Rest::Idle, &[Mark::Asserts(Lines::BREQ0), NO_DATA]),
+    (Rest::Idle, &[Mark::Asserts(Lines::BREQ0), NO_DATA]),
+    (
+        Rest::Idle,
+        &[
+            Mark::Asserts(Lines::BREQ0),
+            Mark::Asserts(Lines::ADS),
+            Mark::Req(0x6, 0),
+            Mark::Addr(0x8, 0),
+            NO_DATA,
+        ],
+    ),
+    (
+        Rest::Idle,
+        &[Mark::Req(0x2, 0), Mark::Addr(0x2, 0), NO_DATA],
+    ),
+    (Rest::Idle, &[NO_DATA]),
+    (Rest::Idle, &[NO_DATA]),
+    (Rest::Idle, &[NO_DATA]),
+    (Rest::Idle, &[NO_DATA]),
+    (
+        Rest::Idle,
+        &[
+            Mark::Asserts(Lines::RS0),
+            Mark::Asserts(Lines::RS1),
+            Mark::Asserts(Lines::RS2),
+            Mark::Asserts(Lines::DBSY),
+            Mark::Asserts(Lines::DRDY),
+            Mark::Data(0x7, 0),
+        ],
+    ),
+    (
+        Rest::Idle,
+        &[Mark::Asserts(Lines::DBSY), Mark::Asserts(Lines::DRDY)],
+    ),
+    (
+        Rest::Idle,
+        &[Mark::Asserts(Lines::DBSY), Mark::Asserts(Lines::DRDY)],
+    ),
+    (Rest::Idle, &[Mark::Asserts(Lines::DRDY)]),
+    (Rest::Idle, &[NO_DATA]),
+    (Rest::Idle, &[NO_DATA]),
+    (Rest::Idle, &[NO_DATA]),
+];
+
+#[test]
+fn load_driven_on_falling_edges(rt: HostRuntime) {
+    assert!(rt; reads(rt.alloc(), FALLING.as_bytes(), &LOAD));
+    assert!(rt; reads(rt.alloc(), FALLING_VERILATOR.as_bytes(), &LOAD));
+}
+
+#[test]
+fn load_among_scopes_and_other_variables(rt: HostRuntime) {
+    assert!(rt; reads(rt.alloc(), SCOPES.as_bytes(), &LOAD_OF_KNOWN_DATA));
+}
+
+/// What the bench meant for clock 0 is seen at clock 1, and so on.
+#[test]
+fn lines_that_change_at_the_edge_come_one_clock_late(rt: HostRuntime) {
+    let late: [Sees; 5] = [
+        (Rest::Idle, &[]),
+        (Rest::Idle, &[Mark::Asserts(Lines::BREQ0)]),
+        (Rest::Idle, &[Mark::Asserts(Lines::BREQ0)]),
+        (
+            Rest::Idle,
+            &[
+                Mark::Asserts(Lines::BREQ0),
+                Mark::Asserts(Lines::ADS),
+                Mark::Req(0x6, 0),
+                Mark::Addr(0x8, 0),
+            ],
+        ),
+        (Rest::Idle, &[Mark::Req(0x2, 0), Mark::Addr(0x2, 0)]),
+    ];
+    assert!(rt; reads(rt.alloc(), SAME_TIME.as_bytes(), &late));
 }
 
 /// As long as the declarations have not ended, what is missing is the rest of them.
