@@ -87,5 +87,9 @@ pub(crate) fn is_value_digit(byte: u8) -> bool
 pub(crate) fn pad_of(first: u8) -> u8
     ensures { result ≡ pad_of first }
 {
-    if is_unknown(first) || is_open(first) { first } else { b'0' }
+    if is_unknown(first) || is_open(first) {
+        first
+    } else {
+        b'0'
+    }
 }

@@ -13,7 +13,7 @@ use fsb_signal::SIGNALS;
 pub(crate) fn is_end(word: &[u8]) -> bool
     ensures { result ≡ is_end word.now }
 {
-    *b"$end" == *word
+    b"$end".as_slice() == word
 }
 
 /// Whether the token begins with `$`.
@@ -31,8 +31,8 @@ pub(crate) fn is_dollar(word: &[u8]) -> bool
 pub(crate) fn is_read_past(word: &[u8]) -> bool
     ensures { result ≡ is_read_past word.now }
 {
-    (*b"$dumpvars" == *word || *b"$dumpall" == *word)
-        || ((*b"$dumpon" == *word || *b"$dumpoff" == *word) || is_end(word))
+    (b"$dumpvars".as_slice() == word || b"$dumpall".as_slice() == word)
+        || ((b"$dumpon".as_slice() == word || b"$dumpoff".as_slice() == word) || is_end(word))
 }
 
 /// Whether a variable of this type is no line, whatever its name.
@@ -40,7 +40,7 @@ pub(crate) fn is_read_past(word: &[u8]) -> bool
 pub(crate) fn is_foreign_type(word: &[u8]) -> bool
     ensures { result ≡ is_foreign_type word.now }
 {
-    *b"real" == *word || (*b"realtime" == *word || *b"string" == *word)
+    b"real".as_slice() == word || (b"realtime".as_slice() == word || b"string".as_slice() == word)
 }
 
 /// The name in a reference: what stands before a `[`.
@@ -60,7 +60,9 @@ pub(crate) fn line_in(reference: &[u8]) -> Option<u8>
     ensures { result ≡ signal_number (name_in reference.now) }
 {
     let name = name_in(reference);
-    let number = SIGNALS.iter().position(|signal| signal.name.as_bytes() == name)?;
+    let number = SIGNALS
+        .iter()
+        .position(|signal| signal.name.as_bytes() == name)?;
     Some(number as u8)
 }
 
