@@ -2,6 +2,7 @@
 use Rattle.std.specs.Prelude.{ℕ, ◌+◌, ◌*◌, ◌%◌, Bool, ◌==◌, if◌then◌else◌, List, [], ◌∷◌, slice_get}
 use Rattle.std.specs.Int.RustNames.{bit_and, bit_xor}
 use Rattle.std.specs.Option.{option_map_or}
+use Rattle.vcd_grammar.specs.declared.level.Level.{Level}
 use Rattle.vcd_grammar.specs.Digits.{is_unknown}
 
 -- the digit 0, which is asserted
@@ -13,12 +14,7 @@ abbrev pub bits_from : (ℕ → Bool) → ℕ → List ℕ → ℕ
 bits_from test n [] = n
 bits_from test n (b ∷ bs) = bits_from test (2 * n + (if test b then 1 else 0)) bs
 
--- which bits of a value are asserted and which are unknown; 1 and z are neither
-pub record Level : Type 0 where
-  pub asserted : ℕ
-  pub unknown : ℕ
-
--- what the digits of a value say
+-- what the digits of a value say: 0 is asserted, x unknown, 1 and z neither
 unfoldable pub level_of : List ℕ → Level
 level_of digits = record { asserted = bits_from is_low 0 digits; unknown = bits_from is_unknown 0 digits }
 

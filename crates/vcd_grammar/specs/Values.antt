@@ -7,8 +7,9 @@ use Rattle.fsb_signal.specs.declared.sample.Word.{Word}
 use Rattle.fsb_signal.specs.declared.sample.Sample.{Sample}
 use Rattle.fsb_signal.specs.Table.{table}
 use Rattle.fsb_signal.specs.DumpText.{width_of}
+use Rattle.vcd_grammar.specs.declared.level.Level.{Level}
 use Rattle.vcd_grammar.specs.Digits.{extended}
-use Rattle.vcd_grammar.specs.Levels.{Level, level_of, asserted_at, unknown_at, control_of, without}
+use Rattle.vcd_grammar.specs.Levels.{level_of, asserted_at, unknown_at, control_of, without}
 use Rattle.vcd_grammar.specs.Blocks.{Block}
 use Rattle.vcd_grammar.specs.LevelFacts.{without-apart, without-lt, control_of-lt}
 

@@ -7,6 +7,8 @@
 
 pub use fault::{VcdCause, VcdFault};
 pub use laws::one_answer;
+pub use level::Level;
 
 mod fault;
 mod laws;
+mod level;

@@ -1,478 +1,99 @@
-use crate::{VcdCause, VcdFault, VcdStop, read_dump};
-use foreign::{FALLING, FALLING_VERILATOR, SAME_TIME, SCOPES};
-use fsb_signal::{Lines, Sample};
-use std::alloc::{AllocError, Global};
-use std::test::Fail;
-use table::{BAD, GOOD};
-use texts::{
-    LINES, NO_SAMPLES, QUIET, SIMULATOR_HEAD, SIMULATOR_RISES, SIMULATOR_START, UNKNOWN_AFTER_FALL,
-    UNKNOWN_AFTER_RISE, VALUES,
-};
+use crate::{Reader, VcdCause, VcdFault, VcdStop, read_dump};
+use fsb_signal::Sample;
+use std::alloc::Global;
 
-mod foreign;
-mod table;
-mod texts;
+const SIMULATOR: &[u8] = b"$date today $end
+$version some simulator $end
+$timescale 1ps $end
+$scope module tb $end
+$scope module bus $end
+$var reg 1 a BCLK $end
+$var wire 1 b BREQ0_n $end
+$var wire 1 c ADS_n $end
+$var wire 5 d REQ_n[4:0] $end
+$var wire 33 e A_n [35:3] $end
+$var wire 1 f HIT_n $end
+$var wire 1 g HITM_n $end
+$var wire 3 h RS_n [2:0] $end
+$var wire 1 i TRDY_n $end
+$var wire 1 j DBSY_n $end
+$var wire 1 k DRDY_n $end
+$var wire 64 l D_n [63:0] $end
+$var real 64 m volts $end
+$upscope $end
+$upscope $end
+$enddefinitions $end
+#0
+$dumpvars
+0a
+1b
+1c
+bz d
+bz e
+1f
+zg
+b111 h
+1i
+1j
+1k
+bx l
+r1.2 m
+$end
+#500
+1a
+0b
+#1000
+0a
+#1500
+1a
+";
 
-/// What stands before the text of a row.
-#[derive(Clone, Copy, Debug)]
-pub(crate) enum Start {
-    /// Nothing.
-    Whole,
-    /// The declarations of the needed lines.
-    Lines,
-    /// The same, and their end.
-    Values,
-    /// The same, and values at time 0: BCLK is 0, and no other line is asserted or unknown.
-    Quiet,
-}
-
-impl Start {
-    /// The texts that stand before, one behind the other.
-    fn texts(self) -> &'static [&'static str] {
-        match self {
-            Start::Whole => &[],
-            Start::Lines => &[LINES],
-            Start::Values => &[LINES, VALUES],
-            Start::Quiet => &[LINES, VALUES, QUIET],
+// How many samples the text has, 1,000 if it is too long, 2,000 for want of memory, and 3,000 and the place of its fault.
+fn answer(alloc: Global, text: &[u8]) -> u64 {
+    match read_dump(alloc, text) {
+        Ok(samples) => samples.len() as u64,
+        Err(VcdStop::TooLong) => 1000,
+        Err(VcdStop::Memory) => 2000,
+        Err(VcdStop::Bad(fault)) => {
+            if fault.place < 1000000 {
+                3000 + fault.place
+            } else {
+                4000
+            }
         }
-    }
-}
-
-/// What the needed lines have that the marks of a row do not name; a line that is not needed is known and not asserted.
-#[derive(Clone, Copy, Debug)]
-pub(crate) enum Rest {
-    /// They are not asserted.
-    Idle,
-    /// They are unknown, as before the first value.
-    Unknown,
-}
-
-/// What a row says of some lines.
-#[derive(Clone, Copy, Debug)]
-pub(crate) enum Mark {
-    /// The control line is asserted.
-    Asserts(Lines),
-    /// The control line is unknown.
-    Unknown(Lines),
-    /// The bits of the request word that are asserted, and those that are unknown.
-    Req(u64, u64),
-    /// The bits of the address word, likewise.
-    Addr(u64, u64),
-    /// The bits of the data word, likewise.
-    Data(u64, u64),
-}
-
-/// A sample as a row says it.
-pub(crate) type Sees = (Rest, &'static [Mark]);
-
-/// The asserted and the unknown control lines of a sample, and of each word its asserted and its unknown bits.
-#[derive(Clone, Copy, Debug, PartialEq, Eq)]
-struct Seen {
-    lines: Lines,
-    unknown: Lines,
-    req: (u64, u64),
-    addr: (u64, u64),
-    data: (u64, u64),
-}
-
-impl Seen {
-    fn of_rest(rest: Rest) -> Seen {
-        match rest {
-            Rest::Idle => Seen {
-                lines: Lines(0),
-                unknown: Lines(0),
-                req: (0, 0),
-                addr: (0, 0),
-                data: (0, 0),
-            },
-            Rest::Unknown => Seen {
-                lines: Lines(0),
-                unknown: Lines(0b11_1111_0110_1000_0001),
-                req: (0, 0x1f),
-                addr: (0, 0x1_ffff_ffff),
-                data: (0, 0xffff_ffff_ffff_ffff),
-            },
-        }
-    }
-
-    fn mark(&mut self, mark: Mark) {
-        match mark {
-            Mark::Asserts(line) => self.lines = Lines(self.lines.0 | line.0),
-            Mark::Unknown(line) => self.unknown = Lines(self.unknown.0 | line.0),
-            Mark::Req(bits, unknown) => self.req = (bits, unknown),
-            Mark::Addr(bits, unknown) => self.addr = (bits, unknown),
-            Mark::Data(bits, unknown) => self.data = (bits, unknown),
-        }
-    }
-
-    /// The sample that a row says.
-    fn of_row(sees: Sees) -> Seen {
-        let (rest, marks) = sees;
-        let mut seen = Seen::of_rest(rest);
-        for mark in marks {
-            seen.mark(*mark);
-        }
-        seen
-    }
-
-    fn of_sample(sample: &Sample) -> Seen {
-        Seen {
-            lines: sample.lines,
-            unknown: sample.unknown,
-            req: (sample.req.bits, sample.req.unknown),
-            addr: (sample.addr.bits, sample.addr.unknown),
-            data: (sample.dbus.bits, sample.dbus.unknown),
-        }
-    }
-}
-
-/// Whether the samples are those of a row.
-fn are_as_said(samples: &[Sample], expected: &[Sees]) -> bool {
-    samples.len() == expected.len()
-        && samples.iter().zip(expected.iter()).all(|(sample, sees)| Seen::of_sample(sample)
-            == Seen::of_row(*sees))
-}
-
-/// The texts one behind the other.
-fn joined(alloc: Global, texts: &[&str]) -> Result<Vec<u8>, AllocError> {
-    let mut whole = Vec::new(alloc);
-    for text in texts {
-        whole.extend_from_slice(text.as_bytes())?;
-    }
-    Ok(whole)
-}
-
-/// The text of a row behind what stands before it.
-fn text_of(alloc: Global, start: Start, text: &str) -> Result<Vec<u8>, AllocError> {
-    let mut whole = joined(alloc, start.texts())?;
-    whole.extend_from_slice(text.as_bytes())?;
-    Ok(whole)
-}
-
-/// How many bytes stand before the text of a row.
-fn start_len(alloc: Global, start: Start) -> Result<u64, AllocError> {
-    Ok(joined(alloc, start.texts())?.len() as u64)
-}
-
-/// The refusal of a text, if it is refused.
-fn stop_of(alloc: Global, bytes: &[u8]) -> Option<VcdStop> {
-    match read_dump(alloc, bytes) {
-        Ok(_) => None,
-        Err(stop) => Some(stop),
-    }
-}
-
-/// The refusal that names this fault.
-fn bad(place: u64, cause: VcdCause) -> Option<VcdStop> {
-    Some(VcdStop::Bad(VcdFault { place, cause }))
-}
-
-/// Whether a text is read, and gives these samples.
-fn reads(alloc: Global, bytes: &[u8], expected: &[Sees]) -> bool {
-    match read_dump(alloc, bytes) {
-        Ok(samples) => are_as_said(&samples, expected),
-        Err(_) => false,
     }
 }
 
 #[test]
-fn each_fault(rt: HostRuntime) -> Result<(), Fail> {
-    for (start, text, place, cause) in BAD.iter() {
-        let bytes = text_of(rt.alloc(), *start, text)?;
-        let expected = bad(start_len(rt.alloc(), *start)?.wrapping_add(*place), *cause);
-        assert_eq!(rt; stop_of(rt.alloc(), &bytes), expected, "{start:?} {text:?}");
-    }
-    Ok(())
-}
-
-#[test]
-fn each_text_that_is_read(rt: HostRuntime) -> Result<(), Fail> {
-    for (start, text, expected) in GOOD.iter() {
-        let bytes = text_of(rt.alloc(), *start, text)?;
-        assert!(rt; reads(rt.alloc(), &bytes, expected), "{start:?} {text:?}");
-    }
-    Ok(())
-}
-
-/// Texts behind a whole written dump, and how far into them the fault is.
-const FIRST_FAULTS: [(&str, u64, VcdCause); 7] = [
-    ("2!\n", 0, VcdCause::Token),
-    ("0~\n", 0, VcdCause::Code),
-    ("b01 !\n", 0, VcdCause::Width),
-    ("b1z2 0\n", 0, VcdCause::Token),
-    ("#5\n#4\n", 3, VcdCause::TimeBack),
-    ("#99999999999999999999\n", 0, VcdCause::Token),
-    ("b1", 2, VcdCause::Cut),
-];
-
-#[test]
-fn first_faults(rt: HostRuntime) -> Result<(), Fail> {
-    for (text, place, cause) in FIRST_FAULTS.iter() {
-        let bytes = joined(rt.alloc(), &[NO_SAMPLES, text])?;
-        let place = (NO_SAMPLES.len() as u64).wrapping_add(*place);
-        assert_eq!(rt; stop_of(rt.alloc(), &bytes), bad(place, *cause), "{text:?}");
-    }
+fn simulator_dump(rt: HostRuntime) -> Result<(), VcdStop> {
+    let samples = read_dump(rt.alloc(), SIMULATOR)?;
+    assert_eq!(rt; samples.len(), 2);
+    assert_eq!(rt; samples[0].lines.0, 0);
+    assert_eq!(rt; samples[0].unknown.0, 0);
+    assert_eq!(rt; samples[0].dbus.unknown, u64::MAX);
+    assert_eq!(rt; samples[1].lines.0, 1);
+    assert_eq!(rt; samples[1].req.bits, 0);
     Ok(())
 }
 
 #[test]
 fn cut_and_missing(rt: HostRuntime) {
-    assert_eq!(rt; stop_of(rt.alloc(), b"$var wire 1"), bad(11, VcdCause::Cut));
-    assert_eq!(rt;
-        stop_of(rt.alloc(), b"$enddefinitions $end"),
-        bad(0, VcdCause::Missing(0))
-    );
-}
-
-/// No bit of the data is known.
-const NO_DATA: Mark = Mark::Data(0, 0xffff_ffff_ffff_ffff);
-
-/// The ends of the simulator's dump, and the samples that it then has.
-const SIMULATOR_ENDS: [(&str, [Sees; 2]); 3] = [
-    (
-        SIMULATOR_RISES,
-        [
-            (Rest::Idle, &[NO_DATA]),
-            (Rest::Idle, &[Mark::Asserts(Lines::BREQ0), NO_DATA]),
-        ],
-    ),
-    (
-        UNKNOWN_AFTER_FALL,
-        [
-            (Rest::Idle, &[NO_DATA]),
-            (
-                Rest::Idle,
-                &[
-                    Mark::Asserts(Lines::BREQ0),
-                    Mark::Unknown(Lines::ADS),
-                    NO_DATA,
-                ],
-            ),
-        ],
-    ),
-    (
-        UNKNOWN_AFTER_RISE,
-        [
-            (Rest::Idle, &[NO_DATA]),
-            (Rest::Idle, &[Mark::Unknown(Lines::BREQ0), NO_DATA]),
-        ],
-    ),
-];
-
-#[test]
-fn simulator_dump(rt: HostRuntime) -> Result<(), Fail> {
-    for (rises, expected) in SIMULATOR_ENDS.iter() {
-        let bytes = joined(rt.alloc(), &[SIMULATOR_HEAD, SIMULATOR_START, rises])?;
-        assert!(rt; reads(rt.alloc(), &bytes, expected), "{rises:?}");
-    }
-    Ok(())
-}
-
-/// A load: the request in clocks 2 and 3, the response in clock 8, the data in clocks 8 to 11.
-const LOAD: [Sees; 15] = [
-    (Rest::Idle, &[Mark::Asserts(Lines::BREQ0)]),
-    (Rest::Idle, &[Mark::Asserts(Lines::BREQ0)]),
-    (
-        Rest::Idle,
-        &[
-            Mark::Asserts(Lines::BREQ0),
-            Mark::Asserts(Lines::ADS),
-            Mark::Req(0x6, 0),
-            Mark::Addr(0x8, 0),
-        ],
-    ),
-    (Rest::Idle, &[Mark::Req(0x2, 0), Mark::Addr(0x2, 0)]),
-    (Rest::Idle, &[]),
-    (Rest::Idle, &[]),
-    (Rest::Idle, &[]),
-    (Rest::Idle, &[]),
-    (
-        Rest::Idle,
-        &[
-            Mark::Asserts(Lines::RS0),
-            Mark::Asserts(Lines::RS1),
-            Mark::Asserts(Lines::RS2),
-            Mark::Asserts(Lines::DBSY),
-            Mark::Asserts(Lines::DRDY),
-            Mark::Data(0x7, 0),
-        ],
-    ),
-    (
-        Rest::Idle,
-        &[Mark::Asserts(Lines::DBSY), Mark::Asserts(Lines::DRDY)],
-    ),
-    (
-        Rest::Idle,
-        &[Mark::Asserts(Lines::DBSY), Mark::Asserts(Lines::DRDY)],
-    ),
-    (Rest::Idle, &[Mark::Asserts(Lines::DRDY)]),
-    (Rest::Idle, &[]),
-    (Rest::Idle, &[]),
-    (Rest::Idle, &[]),
-];
-
-/// The same, with data that is known in clocks 8 to 11 alone.
-const LOAD_OF_KNOWN_DATA: [Sees; 15] = [
-    (Rest::Idle, &[Mark::Asserts(Lines::BREQ0), NO_DATA]),
-    (Rest::Idle, &[Mark::Asserts(Lines::BREQ0), NO_DATA]),
-    (
-        Rest::Idle,
-        &[
-            Mark::Asserts(Lines::BREQ0),
-            Mark::Asserts(Lines::ADS),
-            Mark::Req(0x6, 0),
-            Mark::Addr(0x8, 0),
-            NO_DATA,
-        ],
-    ),
-    (
-        Rest::Idle,
-        &[Mark::Req(0x2, 0), Mark::Addr(0x2, 0), NO_DATA],
-    ),
-    (Rest::Idle, &[NO_DATA]),
-    (Rest::Idle, &[NO_DATA]),
-    (Rest::Idle, &[NO_DATA]),
-    (Rest::Idle, &[NO_DATA]),
-    (
-        Rest::Idle,
-        &[
-            Mark::Asserts(Lines::RS0),
-            Mark::Asserts(Lines::RS1),
-            Mark::Asserts(Lines::RS2),
-            Mark::Asserts(Lines::DBSY),
-            Mark::Asserts(Lines::DRDY),
-            Mark::Data(0x7, 0),
-        ],
-    ),
-    (
-        Rest::Idle,
-        &[Mark::Asserts(Lines::DBSY), Mark::Asserts(Lines::DRDY)],
-    ),
-    (
-        Rest::Idle,
-        &[Mark::Asserts(Lines::DBSY), Mark::Asserts(Lines::DRDY)],
-    ),
-    (Rest::Idle, &[Mark::Asserts(Lines::DRDY)]),
-    (Rest::Idle, &[NO_DATA]),
-    (Rest::Idle, &[NO_DATA]),
-    (Rest::Idle, &[NO_DATA]),
-];
-
-#[test]
-fn load_driven_on_falling_edges(rt: HostRuntime) {
-    assert!(rt; reads(rt.alloc(), FALLING.as_bytes(), &LOAD));
-    assert!(rt; reads(rt.alloc(), FALLING_VERILATOR.as_bytes(), &LOAD));
+    assert_eq!(rt; answer(rt.alloc(), b"$var wire 1"), 3011);
+    assert_eq!(rt; answer(rt.alloc(), b"$enddefinitions $end"), 3000);
+    assert_eq!(rt; answer(rt.alloc(), b""), 3000);
 }
 
 #[test]
-fn load_among_scopes_and_other_variables(rt: HostRuntime) {
-    assert!(rt; reads(rt.alloc(), SCOPES.as_bytes(), &LOAD_OF_KNOWN_DATA));
-}
-
-/// What the bench meant for clock 0 is seen at clock 1, and so on.
-#[test]
-fn lines_that_change_at_the_edge_come_one_clock_late(rt: HostRuntime) {
-    let late: [Sees; 5] = [
-        (Rest::Idle, &[]),
-        (Rest::Idle, &[Mark::Asserts(Lines::BREQ0)]),
-        (Rest::Idle, &[Mark::Asserts(Lines::BREQ0)]),
-        (
-            Rest::Idle,
-            &[
-                Mark::Asserts(Lines::BREQ0),
-                Mark::Asserts(Lines::ADS),
-                Mark::Req(0x6, 0),
-                Mark::Addr(0x8, 0),
-            ],
-        ),
-        (Rest::Idle, &[Mark::Req(0x2, 0), Mark::Addr(0x2, 0)]),
-    ];
-    assert!(rt; reads(rt.alloc(), SAME_TIME.as_bytes(), &late));
-}
-
-/// As long as the declarations have not ended, what is missing is the rest of them.
-#[test]
-fn declarations_cut_at_every_byte(rt: HostRuntime) {
-    let head = SIMULATOR_HEAD.as_bytes();
-    for len in 0..head.len().saturating_sub(1) {
-        let part = &head[..len];
-        assert_eq!(rt; stop_of(rt.alloc(), part), bad(len as u64, VcdCause::Cut));
-    }
-    assert!(rt; reads(rt.alloc(), head, &[]));
-}
-
-/// A token of `len` bytes between two texts.
-fn with_token(
-    alloc: Global,
-    before: &[&str],
-    first: &str,
-    len: usize,
-    after: &str,
-) -> Result<Vec<u8>, AllocError> {
-    let mut whole = joined(alloc, before)?;
-    whole.extend_from_slice(first.as_bytes())?;
-    for _ in first.len()..len {
-        whole.push(b'0')?;
-    }
-    whole.extend_from_slice(after.as_bytes())?;
-    Ok(whole)
-}
-
-/// What stands before a token and how it begins, what stands behind it, and how far behind the declarations its place is;
-/// of 70,000 bytes it is read, and of one more it is a fault.
-const LONG_TOKENS: [(&str, &str, &str, u64); 5] = [
-    ("$var wire 1 q ", "a", " $end $enddefinitions $end\n", 14),
-    ("$var wire 1 ", "q", " a $end $enddefinitions $end\n", 12),
-    ("$var wire 1 q a ", "[", " $end $enddefinitions $end\n", 16),
-    ("", "$c", " $end $enddefinitions $end\n", 0),
-    ("$var wire 9 q q $end $enddefinitions $end\n", "b", " q", 42),
-];
-
-#[test]
-fn long_tokens(rt: HostRuntime) -> Result<(), Fail> {
-    let head = LINES.len() as u64;
-    for (before, first, after, place) in LONG_TOKENS.iter() {
-        let longest = with_token(rt.alloc(), &[LINES, before], first, 70_000, after)?;
-        assert!(rt; reads(rt.alloc(), &longest, &[]), "{before:?} {first:?}");
-        let too_long = with_token(rt.alloc(), &[LINES, before], first, 70_001, after)?;
-        let expected = bad(head.wrapping_add(*place), VcdCause::Token);
-        assert_eq!(rt;
-            stop_of(rt.alloc(), &too_long),
-            expected,
-            "{before:?} {first:?}"
-        );
-    }
-    Ok(())
-}
-
-/// A token of any length is read past in a section that is read past.
-#[test]
-fn long_tokens_in_sections(rt: HostRuntime) -> Result<(), Fail> {
-    let sections = ["$comment ", "$enddefinitions "];
-    for section in sections.iter() {
-        let after = " $end $enddefinitions $end\n";
-        let bytes = with_token(rt.alloc(), &[LINES, section], "x", 70_001, after)?;
-        assert!(rt; reads(rt.alloc(), &bytes, &[]), "{section:?}");
-    }
-    Ok(())
-}
-
-/// A token that is too long is that before it is anything else, and where it ends does not matter.
-#[test]
-fn long_tokens_come_first(rt: HostRuntime) -> Result<(), Fail> {
-    let outside = with_token(rt.alloc(), &[], "x", 70_001, "")?;
-    assert_eq!(rt; stop_of(rt.alloc(), &outside), bad(0, VcdCause::Token));
-    let declared = with_token(rt.alloc(), &["$var "], "x", 70_001, "")?;
-    assert_eq!(rt; stop_of(rt.alloc(), &declared), bad(5, VcdCause::Token));
-    let few = with_token(rt.alloc(), &["$var "], "x", 70_001, " $end")?;
-    assert_eq!(rt; stop_of(rt.alloc(), &few), bad(5, VcdCause::Token));
-    let values = (LINES.len() as u64).wrapping_add(VALUES.len() as u64);
-    let opens = with_token(rt.alloc(), &[LINES, VALUES], "$", 70_001, "")?;
-    assert_eq!(rt; stop_of(rt.alloc(), &opens), bad(values, VcdCause::Token));
-    let code = with_token(rt.alloc(), &[LINES, VALUES, "b1 "], "!", 70_001, "")?;
-    assert_eq!(rt;
-        stop_of(rt.alloc(), &code),
-        bad(values.wrapping_add(3), VcdCause::Token)
-    );
+fn streamed_in_pieces(rt: HostRuntime) -> Result<(), VcdStop> {
+    let mut samples: Vec<Sample> = Vec::new(rt.alloc());
+    let mut reader = match Reader::up_to(rt.alloc(), 1) {
+        Ok(reader) => reader,
+        Err(_) => return Err(VcdStop::Memory),
+    };
+    reader.feed(SIMULATOR, &mut samples)?;
+    assert_eq!(rt; samples.len(), 1);
+    assert_eq!(rt; reader.finish(&mut samples), Err(VcdStop::TooLong));
+    assert_eq!(rt; reader.feed(b"", &mut samples), Err(VcdStop::TooLong));
+    assert_eq!(rt; samples.len(), 1);
     Ok(())
 }

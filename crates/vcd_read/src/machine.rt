@@ -1,0 +1,395 @@
+ghost use Rattle.std.specs.Prelude.{◌≡◌, ◌<◌, ◌+◌, ◌-◌, ◌^◌, ◌++◌, [], ◌∷◌, take, length, Some, OnOk, OnErr};
+
+use crate::codes::Codes;
+use crate::digits::{is_long, is_value_digit, time_in, width_in};
+use crate::levels::{Values, is_too_wide, is_wider};
+use crate::mode::{Draft, Mode};
+use crate::words::{
+    are_value_digits, is_code, is_dollar, is_end, is_foreign_type, is_read_past, line_in,
+};
+use arrayvec::ArrayVec;
+use fsb_signal::{SIGNALS, Sample, signal_at};
+use std::alloc::{AllocError, Global};
+use vcd_grammar::{VcdCause, VcdFault};
+
+/// What is known behind the tokens so far.
+#[derive(Drop)]
+pub(crate) struct Machine {
+    pub(crate) fault: Option<VcdFault>,
+    pub(crate) mode: Mode,
+    /// The code of the variable that is being declared.
+    pub(crate) code: Vec<u8>,
+    /// The first digits of the vector whose code is next.
+    pub(crate) digits: ArrayVec<u8, 65>,
+    /// The lines that were declared.
+    pub(crate) lines: Vec<u8>,
+    pub(crate) codes: Codes,
+    pub(crate) time: Option<u64>,
+    /// The values before the block that stands open.
+    pub(crate) before: Values,
+    /// The values in the block that stands open.
+    pub(crate) now: Values,
+    /// How many samples were decided, whether they were kept or not.
+    pub(crate) decided: u64,
+}
+
+impl Machine {
+    /// Before the first token.
+    pub(crate) fn new(alloc: Global) -> Self {
+        Machine {
+            fault: None,
+            mode: Mode::Header,
+            code: Vec::new(alloc),
+            digits: ArrayVec::new(),
+            lines: Vec::new(alloc),
+            codes: Codes::new(alloc),
+            time: None,
+            before: Values::new(),
+            now: Values::new(),
+            decided: 0,
+        }
+    }
+
+    fn fail(&mut self, place: u64, cause: VcdCause) {
+        self.fault = Some(VcdFault { place, cause });
+    }
+
+    /// A token between the sections of the header.
+    fn header(&mut self, place: u64, word: &[u8]) {
+        if is_long(word) {
+            self.fail(place, VcdCause::Token);
+        } else if b"$var".as_slice() == word {
+            self.code.clear();
+            self.mode = Mode::Variable(Draft {
+                place,
+                count: 0,
+                is_line: false,
+                width: None,
+                line: None,
+            });
+        } else if b"$enddefinitions".as_slice() == word {
+            self.mode = Mode::Closing(place);
+        } else if is_end(word) {} else if is_dollar(word) {
+            self.mode = Mode::Skipped;
+        } else {
+            self.fail(place, VcdCause::Header);
+        }
+    }
+
+    /// A token of the declaration of a variable.
+    fn variable(&mut self, draft: Draft, place: u64, word: &[u8]) -> Result<(), AllocError> {
+        if is_long(word) {
+            self.fail(place, VcdCause::Token);
+            Ok(())
+        } else if is_end(word) {
+            self.declare(draft)
+        } else {
+            self.drafted(draft, word)
+        }
+    }
+
+    /// A further token of a declaration, which is not its `$end`.
+    fn drafted(&mut self, draft: Draft, word: &[u8]) -> Result<(), AllocError> {
+        let mut draft = draft;
+        if draft.count == 0 {
+            draft.count = 1;
+            draft.is_line = !is_foreign_type(word);
+        } else if draft.count == 1 {
+            draft.count = 2;
+            draft.width = width_in(word);
+        } else if draft.count == 2 {
+            self.code.clear();
+            self.code.extend_from_slice(word)?;
+            draft.count = 3;
+        } else if draft.count == 3 {
+            draft.count = 4;
+            draft.line = line_in(word);
+        }
+        self.mode = Mode::Variable(draft);
+        Ok(())
+    }
+
+    /// The `$end` of a declaration.
+    fn declare(&mut self, draft: Draft) -> Result<(), AllocError> {
+        let Some(width) = draft.width else {
+            self.fail(draft.place, VcdCause::Header);
+            return Ok(());
+        };
+        if draft.count != 4 || !is_code(self.code.as_slice()) {
+            self.fail(draft.place, VcdCause::Header);
+            return Ok(());
+        }
+        match draft.line {
+            None => self.declare_other(),
+            Some(number) => self.declare_named(draft, width, number),
+        }
+    }
+
+    /// A variable that is no line.
+    fn declare_other(&mut self) -> Result<(), AllocError> {
+        self.codes.declare(self.code.as_slice(), &[])?;
+        self.mode = Mode::Header;
+        Ok(())
+    }
+
+    /// A variable of a line's name.
+    fn declare_named(&mut self, draft: Draft, width: u64, number: u8) -> Result<(), AllocError> {
+        if !draft.is_line || self.lines.contains(&number) {
+            self.declare_other()
+        } else if width == width_of(number) {
+            self.declare_line(number)
+        } else {
+            self.fail(draft.place, VcdCause::Width);
+            Ok(())
+        }
+    }
+
+    /// A line, which is unknown until it gets a value.
+    fn declare_line(&mut self, number: u8) -> Result<(), AllocError> {
+        self.lines.push(number)?;
+        self.codes.declare(self.code.as_slice(), &[number])?;
+        self.now.set_line(number, b"x");
+        self.mode = Mode::Header;
+        Ok(())
+    }
+
+    /// A token behind the `$enddefinitions` at `place`.
+    fn closing(&mut self, place: u64, word: &[u8]) {
+        if !is_end(word) {
+            return;
+        }
+        match missing(self.lines.as_slice()) {
+            None => self.mode = Mode::Values,
+            Some(number) => self.fail(place, VcdCause::Missing(number)),
+        }
+    }
+
+    /// A token between values.
+    fn value(
+        &mut self,
+        place: u64,
+        word: &[u8],
+        limit: u32,
+        to: &mut Vec<Sample>,
+    ) -> Result<(), AllocError> {
+        if is_long(word) {
+            self.fail(place, VcdCause::Token);
+            return Ok(());
+        }
+        match word {
+            [] => self.fail(place, VcdCause::Token),
+            [first, rest @ ..] => {
+                if *first == b'#' {
+                    return self.stamp(place, rest, limit, to);
+                }
+                if is_value_digit(*first) {
+                    self.scalar(place, *first, rest);
+                } else if *first == b'b' || *first == b'B' {
+                    self.vector(place, rest);
+                } else if (*first == b'r' || *first == b'R') || (*first == b's' || *first == b'S') {
+                    self.mode = Mode::Beside;
+                } else if *first == b'$' {
+                    if !is_read_past(word) {
+                        self.mode = Mode::Passed;
+                    }
+                } else {
+                    self.fail(place, VcdCause::Token);
+                }
+            }
+        }
+        Ok(())
+    }
+
+    /// A time stamp, of which `digits` stand behind the number sign.
+    fn stamp(
+        &mut self,
+        place: u64,
+        digits: &[u8],
+        limit: u32,
+        to: &mut Vec<Sample>,
+    ) -> Result<(), AllocError> {
+        match time_in(digits) {
+            None => {
+                self.fail(place, VcdCause::Token);
+                Ok(())
+            }
+            Some(time) => self.stamped(place, time, limit, to),
+        }
+    }
+
+    /// A time stamp of this time.
+    fn stamped(
+        &mut self,
+        place: u64,
+        time: u64,
+        limit: u32,
+        to: &mut Vec<Sample>,
+    ) -> Result<(), AllocError> {
+        match self.time {
+            None => self.later(time, limit, to),
+            Some(last) => {
+                if time < last {
+                    self.fail(place, VcdCause::TimeBack);
+                    Ok(())
+                } else if last < time {
+                    self.later(time, limit, to)
+                } else {
+                    Ok(())
+                }
+            }
+        }
+    }
+
+    /// A greater time, which ends the block.
+    fn later(&mut self, time: u64, limit: u32, to: &mut Vec<Sample>) -> Result<(), AllocError> {
+        if self.rises() {
+            if self.decided < u64::from(limit) {
+                to.push(self.before.sample())?;
+            }
+            self.decided += 1;
+        }
+        self.before = self.now;
+        self.time = Some(time);
+        Ok(())
+    }
+
+    /// The end of the text, at a place where a text may end or not.
+    pub(crate) fn end(&mut self, place: u64) {
+        if self.fault.is_none() {
+            match self.mode {
+                Mode::Values => {}
+                _ => self.fail(place, VcdCause::Cut),
+            }
+        }
+    }
+
+    /// Whether the clock rises in the block that stands open.
+    pub(crate) fn rises(&self) -> bool {
+        self.before.clock == b'0' && self.now.clock == b'1'
+    }
+
+    /// A scalar change.
+    fn scalar(&mut self, place: u64, digit: u8, code: &[u8]) {
+        if code.is_empty() {
+            self.fail(place, VcdCause::Token);
+            return;
+        }
+        if let Some(number) = self.codes.single(code) {
+            self.now.set_line(number, &[digit]);
+            return;
+        }
+        match self.codes.lines(code) {
+            None => self.fail(place, VcdCause::Code),
+            Some(lines) => self.now.set_lines(lines, &[digit]),
+        }
+    }
+
+    /// A vector, of which `digits` stand behind the `b`.
+    fn vector(&mut self, place: u64, digits: &[u8]) {
+        if digits.is_empty() || !are_value_digits(digits) {
+            self.fail(place, VcdCause::Token);
+            return;
+        }
+        let first = if digits.len() <= 65 {
+            digits
+        } else {
+            &digits[..65]
+        };
+        self.digits.clear();
+        for digit in first {
+            self.digits.push(*digit);
+        }
+        self.mode = Mode::Pending(place);
+    }
+
+    /// The code at `place` of the vector at `from`.
+    fn vector_code(&mut self, from: u64, place: u64, code: &[u8]) {
+        if is_long(code) {
+            self.fail(place, VcdCause::Token);
+            return;
+        }
+        if let Some(number) = self.codes.single(code) {
+            if is_wider(self.digits.as_slice(), number) {
+                self.fail(from, VcdCause::Width);
+            } else {
+                self.now.set_line(number, self.digits.as_slice());
+                self.mode = Mode::Values;
+            }
+            return;
+        }
+        match self.codes.lines(code) {
+            None => self.fail(place, VcdCause::Code),
+            Some(lines) => {
+                if is_too_wide(self.digits.as_slice(), lines) {
+                    self.fail(from, VcdCause::Width);
+                } else {
+                    self.now.set_lines(lines, self.digits.as_slice());
+                    self.mode = Mode::Values;
+                }
+            }
+        }
+    }
+
+    /// The code of a real number or a string.
+    fn beside(&mut self, place: u64, code: &[u8]) {
+        if is_long(code) {
+            self.fail(place, VcdCause::Token);
+            return;
+        }
+        match self.codes.lines(code) {
+            None => self.fail(place, VcdCause::Code),
+            Some(_) => self.mode = Mode::Values,
+        }
+    }
+
+    /// A token at a place. A sample that it decides is appended while there are fewer than the limit.
+    pub(crate) fn take(
+        &mut self,
+        place: u64,
+        word: &[u8],
+        limit: u32,
+        to: &mut Vec<Sample>,
+    ) -> Result<(), AllocError> {
+        if self.fault.is_some() {
+            return Ok(());
+        }
+        match self.mode {
+            Mode::Values => return self.value(place, word, limit, to),
+            Mode::Pending(from) => self.vector_code(from, place, word),
+            Mode::Header => self.header(place, word),
+            Mode::Variable(draft) => return self.variable(draft, place, word),
+            Mode::Skipped => {
+                if is_end(word) {
+                    self.mode = Mode::Header;
+                }
+            }
+            Mode::Closing(from) => self.closing(from, word),
+            Mode::Beside => self.beside(place, word),
+            Mode::Passed => {
+                if is_end(word) {
+                    self.mode = Mode::Values;
+                }
+            }
+        }
+        Ok(())
+    }
+}
+
+/// The width of the line of this number.
+fn width_of(number: u8) -> u64 {
+    if number < 20 {
+        u64::from(signal_at(number).width)
+    } else {
+        0
+    }
+}
+
+/// The first line of the table that must be declared and is not.
+fn missing(lines: &[u8]) -> Option<u8> {
+    for (number, signal) in SIGNALS.iter().enumerate() {
+        if signal.needed && !lines.contains(&(number as u8)) {
+            return Some(number as u8);
+        }
+    }
+    None
+}
