@@ -1,6 +1,6 @@
-use crate::{VcdCause, VcdFault, VcdStop, read_dump};
 use foreign::{FALLING, FALLING_VERILATOR, SAME_TIME, SCOPES};
 use fsb_signal::{Lines, Sample};
+use loads::{LATE_LOAD, LOAD, LOAD_OF_KNOWN_DATA, NO_DATA};
 use std::alloc::{AllocError, Global};
 use std::test::Fail;
 use table::{BAD, GOOD};
@@ -8,8 +8,10 @@ use texts::{
     LINES, NO_SAMPLES, QUIET, SIMULATOR_HEAD, SIMULATOR_RISES, SIMULATOR_START, UNKNOWN_AFTER_FALL,
     UNKNOWN_AFTER_RISE, VALUES,
 };
+use vcd_read::{Reader, VcdCause, VcdFault, VcdStop, read_dump};
 
 mod foreign;
+mod loads;
 mod table;
 mod texts;
 
@@ -154,9 +156,52 @@ fn start_len(alloc: Global, start: Start) -> Result<u64, AllocError> {
     Ok(joined(alloc, start.texts())?.len() as u64)
 }
 
+/// How a text is handed to the reader.
+#[derive(Clone, Copy, Debug)]
+enum Way {
+    /// At once.
+    Whole,
+    /// In pieces of so many bytes.
+    Pieces(usize),
+}
+
+const WAYS: [Way; 6] = [
+    Way::Whole,
+    Way::Pieces(1),
+    Way::Pieces(2),
+    Way::Pieces(3),
+    Way::Pieces(7),
+    Way::Pieces(64),
+];
+
+/// The samples of a text that is fed in pieces of so many bytes, but at least one.
+fn in_pieces(alloc: Global, bytes: &[u8], size: usize) -> Result<Vec<Sample>, VcdStop> {
+    let mut reader = match Reader::new(alloc) {
+        Ok(reader) => reader,
+        Err(_) => return Err(VcdStop::Memory),
+    };
+    let mut samples = Vec::new(alloc);
+    let mut at = 0;
+    while at < bytes.len() {
+        let end = bytes.len().min(at.saturating_add(size.max(1)));
+        reader.feed(&bytes[at..end], &mut samples)?;
+        at = end;
+    }
+    reader.finish(&mut samples)?;
+    Ok(samples)
+}
+
+/// The samples of a text.
+fn read(alloc: Global, bytes: &[u8], way: Way) -> Result<Vec<Sample>, VcdStop> {
+    match way {
+        Way::Whole => read_dump(alloc, bytes),
+        Way::Pieces(size) => in_pieces(alloc, bytes, size),
+    }
+}
+
 /// The refusal of a text, if it is refused.
-fn stop_of(alloc: Global, bytes: &[u8]) -> Option<VcdStop> {
-    match read_dump(alloc, bytes) {
+fn stop_of(alloc: Global, bytes: &[u8], way: Way) -> Option<VcdStop> {
+    match read(alloc, bytes, way) {
         Ok(_) => None,
         Err(stop) => Some(stop),
     }
@@ -167,20 +212,29 @@ fn bad(place: u64, cause: VcdCause) -> Option<VcdStop> {
     Some(VcdStop::Bad(VcdFault { place, cause }))
 }
 
-/// Whether a text is read, and gives these samples.
+/// Whether a text has this first fault, in whatever pieces it comes.
+fn fails(alloc: Global, bytes: &[u8], place: u64, cause: VcdCause) -> bool {
+    WAYS.iter()
+        .all(|way| stop_of(alloc, bytes, *way) == bad(place, cause))
+}
+
+/// Whether a text is read, and gives these samples, in whatever pieces it comes.
 fn reads(alloc: Global, bytes: &[u8], expected: &[Sees]) -> bool {
-    match read_dump(alloc, bytes) {
+    WAYS.iter().all(|way| match read(alloc, bytes, *way) {
         Ok(samples) => are_as_said(&samples, expected),
         Err(_) => false,
-    }
+    })
 }
 
 #[test]
 fn each_fault(rt: HostRuntime) -> Result<(), Fail> {
     for (start, text, place, cause) in BAD.iter() {
         let bytes = text_of(rt.alloc(), *start, text)?;
-        let expected = bad(start_len(rt.alloc(), *start)?.wrapping_add(*place), *cause);
-        assert_eq!(rt; stop_of(rt.alloc(), &bytes), expected, "{start:?} {text:?}");
+        let place = start_len(rt.alloc(), *start)?.wrapping_add(*place);
+        assert!(rt;
+            fails(rt.alloc(), &bytes, place, *cause),
+            "{start:?} {text:?}"
+        );
     }
     Ok(())
 }
@@ -210,22 +264,16 @@ fn first_faults(rt: HostRuntime) -> Result<(), Fail> {
     for (text, place, cause) in FIRST_FAULTS.iter() {
         let bytes = joined(rt.alloc(), &[NO_SAMPLES, text])?;
         let place = (NO_SAMPLES.len() as u64).wrapping_add(*place);
-        assert_eq!(rt; stop_of(rt.alloc(), &bytes), bad(place, *cause), "{text:?}");
+        assert!(rt; fails(rt.alloc(), &bytes, place, *cause), "{text:?}");
     }
     Ok(())
 }
 
 #[test]
 fn cut_and_missing(rt: HostRuntime) {
-    assert_eq!(rt; stop_of(rt.alloc(), b"$var wire 1"), bad(11, VcdCause::Cut));
-    assert_eq!(rt;
-        stop_of(rt.alloc(), b"$enddefinitions $end"),
-        bad(0, VcdCause::Missing(0))
-    );
+    assert!(rt; fails(rt.alloc(), b"$var wire 1", 11, VcdCause::Cut));
+    assert!(rt; fails(rt.alloc(), b"$enddefinitions $end", 0, VcdCause::Missing(0)));
 }
-
-/// No bit of the data is known.
-const NO_DATA: Mark = Mark::Data(0, 0xffff_ffff_ffff_ffff);
 
 /// The ends of the simulator's dump, and the samples that it then has.
 const SIMULATOR_ENDS: [(&str, [Sees; 2]); 3] = [
@@ -268,96 +316,6 @@ fn simulator_dump(rt: HostRuntime) -> Result<(), Fail> {
     Ok(())
 }
 
-/// A load: the request in clocks 2 and 3, the response in clock 8, the data in clocks 8 to 11.
-const LOAD: [Sees; 15] = [
-    (Rest::Idle, &[Mark::Asserts(Lines::BREQ0)]),
-    (Rest::Idle, &[Mark::Asserts(Lines::BREQ0)]),
-    (
-        Rest::Idle,
-        &[
-            Mark::Asserts(Lines::BREQ0),
-            Mark::Asserts(Lines::ADS),
-            Mark::Req(0x6, 0),
-            Mark::Addr(0x8, 0),
-        ],
-    ),
-    (Rest::Idle, &[Mark::Req(0x2, 0), Mark::Addr(0x2, 0)]),
-    (Rest::Idle, &[]),
-    (Rest::Idle, &[]),
-    (Rest::Idle, &[]),
-    (Rest::Idle, &[]),
-    (
-        Rest::Idle,
-        &[
-            Mark::Asserts(Lines::RS0),
-            Mark::Asserts(Lines::RS1),
-            Mark::Asserts(Lines::RS2),
-            Mark::Asserts(Lines::DBSY),
-            Mark::Asserts(Lines::DRDY),
-            Mark::Data(0x7, 0),
-        ],
-    ),
-    (
-        Rest::Idle,
-        &[Mark::Asserts(Lines::DBSY), Mark::Asserts(Lines::DRDY)],
-    ),
-    (
-        Rest::Idle,
-        &[Mark::Asserts(Lines::DBSY), Mark::Asserts(Lines::DRDY)],
-    ),
-    (Rest::Idle, &[Mark::Asserts(Lines::DRDY)]),
-    (Rest::Idle, &[]),
-    (Rest::Idle, &[]),
-    (Rest::Idle, &[]),
-];
-
-/// The same, with data that is known in clocks 8 to 11 alone.
-const LOAD_OF_KNOWN_DATA: [Sees; 15] = [
-    (Rest::Idle, &[Mark::Asserts(Lines::BREQ0), NO_DATA]),
-    (Rest::Idle, &[Mark::Asserts(Lines::BREQ0), NO_DATA]),
-    (
-        Rest::Idle,
-        &[
-            Mark::Asserts(Lines::BREQ0),
-            Mark::Asserts(Lines::ADS),
-            Mark::Req(0x6, 0),
-            Mark::Addr(0x8, 0),
-            NO_DATA,
-        ],
-    ),
-    (
-        Rest::Idle,
-        &[Mark::Req(0x2, 0), Mark::Addr(0x2, 0), NO_DATA],
-    ),
-    (Rest::Idle, &[NO_DATA]),
-    (Rest::Idle, &[NO_DATA]),
-    (Rest::Idle, &[NO_DATA]),
-    (Rest::Idle, &[NO_DATA]),
-    (
-        Rest::Idle,
-        &[
-            Mark::Asserts(Lines::RS0),
-            Mark::Asserts(Lines::RS1),
-            Mark::Asserts(Lines::RS2),
-            Mark::Asserts(Lines::DBSY),
-            Mark::Asserts(Lines::DRDY),
-            Mark::Data(0x7, 0),
-        ],
-    ),
-    (
-        Rest::Idle,
-        &[Mark::Asserts(Lines::DBSY), Mark::Asserts(Lines::DRDY)],
-    ),
-    (
-        Rest::Idle,
-        &[Mark::Asserts(Lines::DBSY), Mark::Asserts(Lines::DRDY)],
-    ),
-    (Rest::Idle, &[Mark::Asserts(Lines::DRDY)]),
-    (Rest::Idle, &[NO_DATA]),
-    (Rest::Idle, &[NO_DATA]),
-    (Rest::Idle, &[NO_DATA]),
-];
-
 #[test]
 fn load_driven_on_falling_edges(rt: HostRuntime) {
     assert!(rt; reads(rt.alloc(), FALLING.as_bytes(), &LOAD));
@@ -372,22 +330,48 @@ fn load_among_scopes_and_other_variables(rt: HostRuntime) {
 /// What the bench meant for clock 0 is seen at clock 1, and so on.
 #[test]
 fn lines_that_change_at_the_edge_come_one_clock_late(rt: HostRuntime) {
-    let late: [Sees; 5] = [
-        (Rest::Idle, &[]),
-        (Rest::Idle, &[Mark::Asserts(Lines::BREQ0)]),
-        (Rest::Idle, &[Mark::Asserts(Lines::BREQ0)]),
-        (
-            Rest::Idle,
-            &[
-                Mark::Asserts(Lines::BREQ0),
-                Mark::Asserts(Lines::ADS),
-                Mark::Req(0x6, 0),
-                Mark::Addr(0x8, 0),
-            ],
-        ),
-        (Rest::Idle, &[Mark::Req(0x2, 0), Mark::Addr(0x2, 0)]),
-    ];
-    assert!(rt; reads(rt.alloc(), SAME_TIME.as_bytes(), &late));
+    assert!(rt; reads(rt.alloc(), SAME_TIME.as_bytes(), &LATE_LOAD));
+}
+
+/// Of two samples a reader of at most one gives the first, and then refuses for good.
+#[test]
+fn streamed_in_pieces(rt: HostRuntime) -> Result<(), Fail> {
+    let bytes = joined(
+        rt.alloc(),
+        &[SIMULATOR_HEAD, SIMULATOR_START, SIMULATOR_RISES],
+    )?;
+    let mut reader = Reader::up_to(rt.alloc(), 1)?;
+    let mut samples = Vec::new(rt.alloc());
+    assert_eq!(rt; reader.feed(&bytes, &mut samples), Ok(()));
+    assert_eq!(rt; samples.len(), 1);
+    assert_eq!(rt; reader.finish(&mut samples), Err(VcdStop::TooLong));
+    assert_eq!(rt; reader.feed(b"0~ ", &mut samples), Err(VcdStop::TooLong));
+    assert_eq!(rt; samples.len(), 1);
+    Ok(())
+}
+
+/// A sample comes once a greater time stamp counts, and that is with the white space behind it.
+#[test]
+fn samples_come_with_the_next_time(rt: HostRuntime) -> Result<(), Fail> {
+    let head = joined(rt.alloc(), &[SIMULATOR_HEAD, SIMULATOR_START])?;
+    let mut reader = Reader::new(rt.alloc())?;
+    let mut samples = Vec::new(rt.alloc());
+    assert_eq!(rt; reader.feed(&head, &mut samples), Ok(()));
+    assert_eq!(rt; reader.feed(b"#500 1a 0b #500 #1000", &mut samples), Ok(()));
+    assert_eq!(rt; samples.len(), 0);
+    assert_eq!(rt; reader.feed(b" ", &mut samples), Ok(()));
+    assert_eq!(rt; samples.len(), 1);
+    assert_eq!(rt; reader.feed(b"0a #1500 1a 0~", &mut samples), Ok(()));
+    assert_eq!(rt; samples.len(), 1);
+    let place = (head.len() as u64).wrapping_add(34);
+    let stop = VcdStop::Bad(VcdFault {
+        place,
+        cause: VcdCause::Code,
+    });
+    assert_eq!(rt; reader.finish(&mut samples), Err(stop));
+    assert_eq!(rt; reader.feed(b"", &mut samples), Err(stop));
+    assert_eq!(rt; samples.len(), 1);
+    Ok(())
 }
 
 /// As long as the declarations have not ended, what is missing is the rest of them.
@@ -395,8 +379,7 @@ fn lines_that_change_at_the_edge_come_one_clock_late(rt: HostRuntime) {
 fn declarations_cut_at_every_byte(rt: HostRuntime) {
     let head = SIMULATOR_HEAD.as_bytes();
     for len in 0..head.len().saturating_sub(1) {
-        let part = &head[..len];
-        assert_eq!(rt; stop_of(rt.alloc(), part), bad(len as u64, VcdCause::Cut));
+        assert!(rt; fails(rt.alloc(), &head[..len], len as u64, VcdCause::Cut));
     }
     assert!(rt; reads(rt.alloc(), head, &[]));
 }
@@ -435,12 +418,9 @@ fn long_tokens(rt: HostRuntime) -> Result<(), Fail> {
         let longest = with_token(rt.alloc(), &[LINES, before], first, 70_000, after)?;
         assert!(rt; reads(rt.alloc(), &longest, &[]), "{before:?} {first:?}");
         let too_long = with_token(rt.alloc(), &[LINES, before], first, 70_001, after)?;
-        let expected = bad(head.wrapping_add(*place), VcdCause::Token);
-        assert_eq!(rt;
-            stop_of(rt.alloc(), &too_long),
-            expected,
-            "{before:?} {first:?}"
-        );
+        let place = head.wrapping_add(*place);
+        let is_refused = fails(rt.alloc(), &too_long, place, VcdCause::Token);
+        assert!(rt; is_refused, "{before:?} {first:?}");
     }
     Ok(())
 }
@@ -457,22 +437,26 @@ fn long_tokens_in_sections(rt: HostRuntime) -> Result<(), Fail> {
     Ok(())
 }
 
+/// Tokens of 70,001 bytes: what stands before the token and how it begins, what stands behind, and the token's place.
+const FIRST_OF_ALL: [(&str, &str, &str, u64); 5] = [
+    ("", "x", "", 0),
+    ("$var ", "x", "", 5),
+    ("$var ", "x", " $end", 5),
+    ("$date $end ", "$", "", 11),
+    ("$var wire 2 ! BCLK ", "x", " $end", 19),
+];
+
 /// A token that is too long is that before it is anything else, and where it ends does not matter.
 #[test]
 fn long_tokens_come_first(rt: HostRuntime) -> Result<(), Fail> {
-    let outside = with_token(rt.alloc(), &[], "x", 70_001, "")?;
-    assert_eq!(rt; stop_of(rt.alloc(), &outside), bad(0, VcdCause::Token));
-    let declared = with_token(rt.alloc(), &["$var "], "x", 70_001, "")?;
-    assert_eq!(rt; stop_of(rt.alloc(), &declared), bad(5, VcdCause::Token));
-    let few = with_token(rt.alloc(), &["$var "], "x", 70_001, " $end")?;
-    assert_eq!(rt; stop_of(rt.alloc(), &few), bad(5, VcdCause::Token));
-    let values = (LINES.len() as u64).wrapping_add(VALUES.len() as u64);
-    let opens = with_token(rt.alloc(), &[LINES, VALUES], "$", 70_001, "")?;
-    assert_eq!(rt; stop_of(rt.alloc(), &opens), bad(values, VcdCause::Token));
-    let code = with_token(rt.alloc(), &[LINES, VALUES, "b1 "], "!", 70_001, "")?;
-    assert_eq!(rt;
-        stop_of(rt.alloc(), &code),
-        bad(values.wrapping_add(3), VcdCause::Token)
-    );
+    for (before, first, after, place) in FIRST_OF_ALL.iter() {
+        let bytes = with_token(rt.alloc(), &[before], first, 70_001, after)?;
+        let is_refused = fails(rt.alloc(), &bytes, *place, VcdCause::Token);
+        assert!(rt; is_refused, "{before:?} {after:?}");
+    }
+    let values = [LINES, VALUES, "b1 "];
+    let place = joined(rt.alloc(), &values)?.len() as u64;
+    let code = with_token(rt.alloc(), &values, "!", 70_001, "")?;
+    assert!(rt; fails(rt.alloc(), &code, place, VcdCause::Token));
     Ok(())
 }

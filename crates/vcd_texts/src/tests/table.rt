@@ -1,6 +1,6 @@
 use super::{Mark, Rest, Sees, Start};
-use crate::VcdCause;
 use fsb_signal::Lines;
+use vcd_read::VcdCause;
 
 /// Texts with a first fault: what stands before, the text, how far into the text the fault's place is, and its cause.
 pub(crate) static BAD: [(Start, &'static str, u64, VcdCause); 143] = [
