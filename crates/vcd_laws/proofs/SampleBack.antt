@@ -14,7 +14,8 @@ use Rattle.fsb_signal.specs.Samples.{is_known}
 use Rattle.fsb_signal.specs.DumpText.{width_of, value_of}
 use Rattle.fsb_signal.proofs.SameSample.{same_word, same_sample}
 use Rattle.vcd_grammar.specs.Digits.{is_unknown}
-use Rattle.vcd_grammar.specs.Levels.{Level, level_of, asserted_at, unknown_at, control_of, without, bits_from, is_low}
+use Rattle.vcd_grammar.specs.declared.level.Level.{Level}
+use Rattle.vcd_grammar.specs.Levels.{level_of, asserted_at, unknown_at, control_of, without, bits_from, is_low}
 use Rattle.vcd_grammar.specs.Values.{sample_at, sample_of}
 use Rattle.vcd_laws.proofs.Digits.{low-digits_of, unknown-digits_of}
 use Rattle.vcd_laws.proofs.Known.{next, none, left, right}
