@@ -72,6 +72,17 @@ pub(crate) fn width_at(number: u8) -> u8
     signal_at(number).width
 }
 
+/// The width of the line of this number, and 0 past the table.
+pub(crate) fn width_of(number: u8) -> u64
+    ensures { result ≡ width_of number }
+{
+    if number < 20 {
+        u64::from(width_at(number))
+    } else {
+        0
+    }
+}
+
 /// The digit of the clock that a value of one digit at most gives.
 fn clock_digit(digits: &[u8]) -> u8
     requires { length digits.now ≤ 1 }
@@ -234,6 +245,15 @@ impl Values {
     {
         for number in lines {
             self.set_line(*number, digits);
+        }
+    }
+
+    /// Gives some lines one digit.
+    pub(crate) fn set_lines_to(&mut self, lines: &[u8], digit: u8)
+        ensures { self.new ≡ with_lines self.old lines.now (digit ∷ []) }
+    {
+        for number in lines {
+            self.set_line(*number, &[digit]);
         }
     }
 

@@ -1,11 +1,11 @@
-ghost use Rattle.std.specs.Prelude.{◌≡◌, ◌<◌, ◌+◌, ◌-◌, ◌^◌, ◌++◌, ◌&&◌, [], ◌∷◌, take, length, None, Some, not, OnOk, OnErr, is_some, if◌then◌else◌};
+ghost use Rattle.std.specs.Prelude.{◌≡◌, ℕ, ◌==◌, ◌&&◌, not, slice_get, ◌<◌, ◌+◌, ◌^◌, List, take, Some, OnOk, OnErr, if◌then◌else◌};
 ghost use Rattle.fsb_signal.specs.DumpText.{width_of};
-ghost use Rattle.fsb_signal.specs.Table.{table, signal_number};
+ghost use Rattle.fsb_signal.specs.Table.{Entry, table};
 ghost use Rattle.vcd_grammar.specs.Digits.{time_in};
 ghost use Rattle.vcd_grammar.specs.Words.{header_word, value_word, stamp_word, scalar_word, vector_word, is_end};
 ghost use Rattle.vcd_grammar.specs.Codes.{lines_of};
 ghost use Rattle.vcd_grammar.specs.Values.{is_rise};
-ghost use Rattle.vcd_grammar.specs.Judging.{Known, Turn, turn, turn_in, stays, goes_to, fails, later, unless_long, drafted, declared, other_declared, line_declared, named, closed, missing_from, header_turn, value_turn, stamped, scalar_turn, vector_turn, beside_turn, Header as in_header, Variable as in_variable, Pending as in_pending, Beside as in_beside};
+ghost use Rattle.vcd_grammar.specs.Judging.{Known, Turn, turn, turn_in, stays, goes_to, fails, later, unless_long, drafted, declared, other_declared, line_declared, named, closed, is_declared, missing_from, header_turn, value_turn, stamped, scalar_turn, vector_turn, beside_turn, Header as in_header, Variable as in_variable, Pending as in_pending, Beside as in_beside};
 ghost use Rattle.vcd_grammar.specs.Reading.{or_cut};
 ghost use Rattle.vcd_read.specs.View.{known_of, lines_of as lines_view, draft_of};
 ghost use Rattle.vcd_read.specs.Lines.{rises};
@@ -13,7 +13,7 @@ ghost use Rattle.vcd_read.specs.Taking.{taken, untaken, turned, decided_of, push
 
 use crate::codes::Codes;
 use crate::digits::{is_long, is_value_digit, time_in, width_in};
-use crate::levels::{Values, is_too_wide, is_wider, width_at};
+use crate::levels::{Values, is_too_wide, is_wider, width_of};
 use crate::mode::{Draft, Mode};
 use crate::words::{
     are_value_digits, is_code, is_dollar, is_end, is_foreign_type, is_read_past, line_in,
@@ -70,6 +70,7 @@ impl Machine {
     }
 
     /// A token between the sections of the header.
+    #[tactic(auto, unfolding(vcd_grammar::specs::Words::header_word))]
     fn header(&mut self, place: u64, word: &[u8])
         ensures { taken self.new ≡ turned (taken self.old) (unless_long (known_of self.old) (record { place = place; word = word.now }) (header_turn (known_of self.old) place (header_word word.now))) }
     {
@@ -112,26 +113,16 @@ impl Machine {
     fn drafted(&mut self, draft: Draft, word: &[u8]) -> Result<(), AllocError>
         ensures { OnOk result (taken self.new ≡ turned (taken self.old) (goes_to (known_of self.old) (in_variable (drafted (draft_of draft self.old.code.items) word.now)))) }
     {
-        let mut draft = draft;
-        if draft.count == 0 {
-            draft.count = 1;
-            draft.is_line = !is_foreign_type(word);
-        } else if draft.count == 1 {
-            draft.count = 2;
-            draft.width = width_in(word);
-        } else if draft.count == 2 {
+        if draft.count == 2 {
             self.code.clear();
             self.code.extend_from_slice(word)?;
-            draft.count = 3;
-        } else if draft.count == 3 {
-            draft.count = 4;
-            draft.line = line_in(word);
         }
-        self.mode = Mode::Variable(draft);
+        self.mode = Mode::Variable(next_draft(draft, word));
         Ok(())
     }
 
     /// The `$end` of a declaration.
+    #[tactic(auto, unfolding(vcd_grammar::specs::Judging::declared))]
     fn declare(&mut self, draft: Draft) -> Result<(), AllocError>
         ensures { OnOk result (taken self.new ≡ turned (taken self.old) (declared (known_of self.old) (draft_of draft self.old.code.items))) }
     {
@@ -164,7 +155,7 @@ impl Machine {
     {
         if !draft.is_line || self.lines.contains(&number) {
             self.declare_other()
-        } else if number < 20 && width == u64::from(width_at(number)) {
+        } else if width == width_of(number) {
             self.declare_line(number)
         } else {
             self.fail(draft.place, VcdCause::Width);
@@ -174,7 +165,6 @@ impl Machine {
 
     /// A line, which is unknown until it gets a value.
     fn declare_line(&mut self, number: u8) -> Result<(), AllocError>
-        requires { number < 20 }
         ensures { OnOk result (taken self.new ≡ turned (taken self.old) (line_declared (known_of self.old) self.old.code.items number)) }
     {
         self.lines.push(number)?;
@@ -185,6 +175,7 @@ impl Machine {
     }
 
     /// A token behind the `$enddefinitions` at `place`.
+    #[tactic(auto, unfolding(vcd_grammar::specs::Judging::closed))]
     fn closing(&mut self, place: u64, word: &[u8])
         ensures { taken self.new ≡ turned (taken self.old) (if is_end word.now then closed (known_of self.old) place else stays (known_of self.old)) }
     {
@@ -198,6 +189,7 @@ impl Machine {
     }
 
     /// A token between values.
+    #[tactic(auto, unfolding(vcd_grammar::specs::Words::value_word))]
     fn value(
         &mut self,
         place: u64,
@@ -340,7 +332,7 @@ impl Machine {
         }
         match self.codes.lines(code) {
             None => self.fail(place, VcdCause::Code),
-            Some(lines) => self.current.set_lines(lines, &[digit]),
+            Some(lines) => self.current.set_lines_to(lines, digit),
         }
     }
 
@@ -352,15 +344,7 @@ impl Machine {
             self.fail(place, VcdCause::Token);
             return;
         }
-        let first = if digits.len() <= 65 {
-            digits
-        } else {
-            &digits[..65]
-        };
-        self.digits.clear();
-        for digit in first {
-            self.digits.push(*digit);
-        }
+        copy_first(&mut self.digits, digits);
         self.mode = Mode::Pending(place);
     }
 
@@ -410,6 +394,7 @@ impl Machine {
     }
 
     /// A token at a place. A sample that it decides is appended while there are fewer than the limit.
+    #[tactic(auto, unfolding(vcd_grammar::specs::Judging::turn))]
     pub(crate) fn take(
         &mut self,
         place: u64,
@@ -447,12 +432,76 @@ impl Machine {
     }
 }
 
+/// A declaration with a further token; a code is kept beside it.
+#[tactic(auto, unfolding(vcd_grammar::specs::Judging::drafted))]
+fn next_draft(draft: Draft, word: &[u8]) -> Draft
+    ensures { (code : List ℕ) → draft_of result (if draft.count == 2 then word.now else code) ≡ drafted (draft_of draft code) word.now }
+{
+    if draft.count == 0 {
+        Draft {
+            place: draft.place,
+            count: 1,
+            is_line: !is_foreign_type(word),
+            width: draft.width,
+            line: draft.line,
+        }
+    } else if draft.count == 1 {
+        Draft {
+            place: draft.place,
+            count: 2,
+            is_line: draft.is_line,
+            width: width_in(word),
+            line: draft.line,
+        }
+    } else if draft.count == 2 {
+        Draft {
+            place: draft.place,
+            count: 3,
+            is_line: draft.is_line,
+            width: draft.width,
+            line: draft.line,
+        }
+    } else if draft.count == 3 {
+        Draft {
+            place: draft.place,
+            count: 4,
+            is_line: draft.is_line,
+            width: draft.width,
+            line: line_in(word),
+        }
+    } else {
+        draft
+    }
+}
+
+/// The first 65 digits.
+#[tactic(auto, using(crate::proofs::Entries::take_up_to))]
+fn copy_first(to: &mut ArrayVec<u8, 65>, digits: &[u8])
+    ensures { to.new.items ≡ take 65 digits.now }
+{
+    to.clear();
+    for digit in digits {
+        if to.is_full() {
+            return;
+        }
+        to.push(*digit);
+    }
+}
+
+/// Whether the line of this number must be declared and is not.
+fn is_missing(lines: &[u8], number: u8) -> bool
+    requires { number < 20 }
+    ensures { (e : Entry) → slice_get table number ≡ Some e → result ≡ (e.needed && not (is_declared lines.now number)) }
+{
+    signal_at(number).needed && !lines.contains(&number)
+}
+
 /// The first line of the table that must be declared and is not.
 fn missing(lines: &[u8]) -> Option<u8>
     ensures { result ≡ missing_from lines.now 0 table }
 {
     for number in 0..20 {
-        if signal_at(number).needed && !lines.contains(&number) {
+        if is_missing(lines, number) {
             return Some(number);
         }
     }
