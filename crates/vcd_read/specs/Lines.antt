@@ -1,5 +1,5 @@
 -- What the reader keeps of the values, and what happens to it.
-use Rattle.std.specs.Prelude.{ℕ, ◌==◌, if◌then◌else◌, List, [], ◌∷◌, ◌++◌, slice_index, slice_set, replicate}
+use Rattle.std.specs.Prelude.{ℕ, ◌+◌, Bool, ◌==◌, if◌then◌else◌, List, [], ◌∷◌, ◌++◌, slice_index, slice_set, replicate}
 use Rattle.fsb_signal.specs.declared.sample.Sample.{Sample}
 use Rattle.fsb_signal.specs.DumpText.{width_of}
 use Rattle.vcd_grammar.specs.Digits.{extended}
@@ -24,19 +24,28 @@ abbrev pub with_lines : Values → List ℕ → List ℕ → Values
 with_lines v [] digits = v
 with_lines v (number ∷ numbers) digits = with_lines (with_line v number digits) numbers digits
 
--- the values before the block that stands open, and in it
+-- the values before the block that stands open, and in it, and how many samples were decided
 pub record Lines : Type 0 where
   pub before : Values
   pub now : Values
+  pub decided : ℕ
+
+-- before the first token
+abbrev pub at_start : Lines
+at_start = record { before = nothing_set; now = nothing_set; decided = 0 }
+
+-- the clock rises in the block that stands open
+abbrev pub rises : Lines → Bool
+rises l = is_rise l.before.clock l.now.clock
 
 -- what an event makes of them
 abbrev pub after_event : Lines → Event → Lines
-after_event l Later = record { before = l.now; now = l.now }
-after_event l (Changed change) = record { before = l.before; now = with_lines l.now change.lines change.digits }
+after_event l Later = record { before = l.now; now = l.now; decided = if rises l then l.decided + 1 else l.decided }
+after_event l (Changed change) = record l { now = with_lines l.now change.lines change.digits }
 
 -- the sample that a block gives which ends there
 abbrev pub sample_of_end : Lines → List Sample
-sample_of_end l = if is_rise l.before.clock l.now.clock then sample_at l.before.levels ∷ [] else []
+sample_of_end l = if rises l then sample_at l.before.levels ∷ [] else []
 
 -- the samples that an event decides
 abbrev pub decided_by : Lines → Event → List Sample

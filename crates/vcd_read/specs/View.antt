@@ -41,4 +41,4 @@ known_of m = record {
 
 -- the values before the block that stands open, and in it
 abbrev pub lines_of : Machine → Lines
-lines_of m = record { before = m.before; now = m.now }
+lines_of m = record { before = m.before; now = m.current; decided = m.decided }

@@ -1,5 +1,6 @@
-ghost use Rattle.std.specs.Prelude.{◌≡◌, [], ◌∷◌, Some, None, option_map, IfSome, OnOk};
+ghost use Rattle.std.specs.Prelude.{◌≡◌, [], ◌∷◌, ◌++◌, Some, None, option_map, IfSome, IfOk, OnOk};
 ghost use Rattle.vcd_grammar.specs.Codes.{lines_of, with_code};
+ghost use Rattle.vcd_read.specs.CodesView.{lines_or_none, only_of, with_single};
 
 use indexmap::IndexMap;
 use std::alloc::{AllocError, Global};
@@ -61,27 +62,58 @@ impl Codes {
         }
     }
 
+    /// The lines of the code, if it was declared, and one more variable's.
+    fn joined(&self, code: &[u8], line: &[u8]) -> Result<Vec<u8>, AllocError>
+        ensures { IfOk result (λ lines. lines.items ≡ lines_or_none (lines_of self.now code.now) ++ line.now) }
+    {
+        let mut lines = match self.lines(code) {
+            Some(lines) => copy_of(self.alloc, lines)?,
+            None => Vec::new(self.alloc),
+        };
+        lines.extend_from_slice(line)?;
+        Ok(lines)
+    }
+
     /// Adds a variable's code, and its line if it is one.
     pub(crate) fn declare(&mut self, code: &[u8], line: &[u8]) -> Result<(), AllocError>
         ensures { OnOk result (self.new ≡ with_code self.old code.now line.now) }
     {
-        let mut key = Vec::new(self.alloc);
-        key.extend_from_slice(code)?;
-        let mut lines = Vec::new(self.alloc);
-        if let Some(before) = self.all.get(code) {
-            lines.extend_from_slice(before.as_slice())?;
-        }
-        lines.extend_from_slice(line)?;
-        let only = match lines.as_slice() {
-            [number] => Some(*number),
-            _ => None,
-        };
+        let lines = self.joined(code, line)?;
+        let only = only_of(lines.as_slice());
+        let key = copy_of(self.alloc, code)?;
         self.all.insert(key, lines)?;
-        if let [byte] = code {
-            if *byte < 128 {
-                self.single[*byte as usize] = only;
-            }
-        }
+        set_single(&mut self.single, code, only);
         Ok(())
+    }
+}
+
+/// The same bytes.
+fn copy_of(alloc: Global, bytes: &[u8]) -> Result<Vec<u8>, AllocError>
+    ensures { IfOk result (λ copy. copy.items ≡ bytes.now) }
+{
+    let mut copy = Vec::new(alloc);
+    copy.extend_from_slice(bytes)?;
+    Ok(copy)
+}
+
+/// The line, where there is exactly one.
+fn only_of(lines: &[u8]) -> Option<u8>
+    ensures { result ≡ only_of lines.now }
+{
+    match lines {
+        [number] => Some(*number),
+        _ => None,
+    }
+}
+
+/// Tells the line of a code of one byte, and of no other code.
+fn set_single(single: &mut [Option<u8>; 128], code: &[u8], only: Option<u8>)
+    ensures { single.new ≡ with_single single.old code.now only }
+{
+    if code.len() == 1 {
+        let byte = code[0] as usize;
+        if byte < 128 {
+            single[byte] = only;
+        }
     }
 }

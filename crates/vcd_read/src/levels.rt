@@ -1,8 +1,9 @@
-ghost use Rattle.std.specs.Prelude.{◌≡◌, ◌<◌, ◌≤◌, ◌^◌, [], ◌∷◌, length, false};
-ghost use Rattle.vcd_grammar.specs.Digits.{extended};
+ghost use Rattle.std.specs.Prelude.{◌≡◌, ◌<◌, ◌≤◌, ◌-◌, ◌^◌, [], ◌∷◌, length, slice_index, false, if◌then◌else◌};
+ghost use Rattle.vcd_grammar.specs.Digits.{extended, pad_of};
 ghost use Rattle.vcd_grammar.specs.Levels.{level_of, control_of, asserted_at, unknown_at};
 ghost use Rattle.vcd_grammar.specs.Values.{sample_at, word_of};
 ghost use Rattle.vcd_grammar.specs.Judging.{is_too_wide};
+ghost use Rattle.fsb_signal.specs.DumpText.{width_of};
 ghost use Rattle.vcd_read.specs.Lines.{with_line, with_lines, nothing_set};
 
 use crate::digits::{is_unknown, pad_of};
@@ -16,29 +17,81 @@ pub(crate) struct Values {
     pub(crate) clock: u8,
 }
 
+/// The digit that is put before a value that is too short.
+fn pad_before(digits: &[u8]) -> u8
+    ensures { result ≡ pad_of (slice_index digits.now 0) }
+{
+    match digits {
+        [] => b'0',
+        [first, ..] => pad_of(*first),
+    }
+}
+
+/// So many ones.
+fn ones(count: usize) -> u64
+    requires { count ≤ 64 }
+    ensures { result ≡ 2 ^ count - 1 }
+{
+    if count < 64 {
+        (1u64 << count) - 1
+    } else {
+        u64::MAX
+    }
+}
+
+/// The bits, where the test holds, and none where it does not.
+fn bits_if(test: bool, bits: u64) -> u64
+    ensures { result ≡ (if test then bits else 0) }
+{
+    if test { bits } else { 0 }
+}
+
 /// What the digits of a value say, once they are extended to a width.
 fn level_of(width: u8, digits: &[u8]) -> Level
     requires within { width ≤ 64 }
     requires fits { length digits.now ≤ width }
     ensures { result ≡ level_of (extended width digits.now) }
 {
-    let pad = match digits {
-        [] => b'0',
-        [first, ..] => pad_of(*first),
-    };
+    let pad = pad_before(digits);
     let missing = width as usize - digits.len();
-    let ones = if missing < 64 {
-        (1u64 << missing) - 1
-    } else {
-        u64::MAX
-    };
-    let mut asserted = if pad == b'0' { ones } else { 0 };
-    let mut unknown = if is_unknown(pad) { ones } else { 0 };
+    let mut asserted = bits_if(pad == b'0', ones(missing));
+    let mut unknown = bits_if(is_unknown(pad), ones(missing));
     for digit in digits {
-        asserted = 2 * asserted + u64::from(*digit == b'0');
-        unknown = 2 * unknown + u64::from(is_unknown(*digit));
+        asserted = 2 * asserted + bits_if(*digit == b'0', 1);
+        unknown = 2 * unknown + bits_if(is_unknown(*digit), 1);
     }
     Level { asserted, unknown }
+}
+
+/// The width of the line of this number.
+pub(crate) fn width_at(number: u8) -> u8
+    requires { number < 20 }
+    ensures width { result ≡ width_of number }
+    ensures most { result ≤ 64 }
+{
+    signal_at(number).width
+}
+
+/// The width of the line of this number, and 0 past the table.
+pub(crate) fn width_of(number: u8) -> u64
+    ensures { result ≡ width_of number }
+{
+    if number < 20 {
+        u64::from(width_at(number))
+    } else {
+        0
+    }
+}
+
+/// The digit of the clock that a value of one digit at most gives.
+fn clock_digit(digits: &[u8]) -> u8
+    requires { length digits.now ≤ 1 }
+    ensures { result ≡ slice_index (extended 1 digits.now) 0 }
+{
+    match digits {
+        [] => b'0',
+        [first, ..] => *first,
+    }
 }
 
 /// Whether a value has more digits than the line of this number.
@@ -46,7 +99,7 @@ pub(crate) fn is_wider(digits: &[u8], number: u8) -> bool
     ensures { result ≡ is_too_wide digits.now (number ∷ []) }
 {
     if number < 20 {
-        (signal_at(number).width as usize) < digits.len()
+        (width_at(number) as usize) < digits.len()
     } else {
         0 < digits.len()
     }
@@ -178,12 +231,9 @@ impl Values {
         ensures { self.new ≡ with_line self.old number digits.now }
     {
         if number < 20 {
-            self.levels[number as usize] = level_of(signal_at(number).width, digits);
+            self.levels[number as usize] = level_of(width_at(number), digits);
             if number == 0 {
-                self.clock = match digits {
-                    [] => b'0',
-                    [first, ..] => *first,
-                };
+                self.clock = clock_digit(digits);
             }
         }
     }
@@ -195,6 +245,15 @@ impl Values {
     {
         for number in lines {
             self.set_line(*number, digits);
+        }
+    }
+
+    /// Gives some lines one digit.
+    pub(crate) fn set_lines_to(&mut self, lines: &[u8], digit: u8)
+        ensures { self.new ≡ with_lines self.old lines.now (digit ∷ []) }
+    {
+        for number in lines {
+            self.set_line(*number, &[digit]);
         }
     }
 

@@ -1,14 +1,25 @@
-ghost use Rattle.std.specs.Prelude.{◌≡◌, ◌<◌, ◌+◌, ◌-◌, ◌^◌, ◌++◌, [], ◌∷◌, take, length, Some, OnOk, OnErr};
+ghost use Rattle.std.specs.Prelude.{◌≡◌, ℕ, ◌==◌, ◌&&◌, not, slice_get, ◌<◌, ◌+◌, ◌^◌, List, take, Some, OnOk, OnErr, if◌then◌else◌};
+ghost use Rattle.fsb_signal.specs.DumpText.{width_of};
+ghost use Rattle.fsb_signal.specs.Table.{Entry, table};
+ghost use Rattle.vcd_grammar.specs.Digits.{time_in};
+ghost use Rattle.vcd_grammar.specs.Words.{header_word, value_word, stamp_word, scalar_word, vector_word, is_end};
+ghost use Rattle.vcd_grammar.specs.Codes.{lines_of};
+ghost use Rattle.vcd_grammar.specs.Values.{is_rise};
+ghost use Rattle.vcd_grammar.specs.Judging.{Known, Turn, turn, turn_in, stays, goes_to, fails, later, unless_long, drafted, declared, other_declared, line_declared, named, closed, is_declared, missing_from, header_turn, value_turn, stamped, scalar_turn, vector_turn, beside_turn, Header as in_header, Variable as in_variable, Pending as in_pending, Beside as in_beside};
+ghost use Rattle.vcd_grammar.specs.Reading.{or_cut};
+ghost use Rattle.vcd_read.specs.View.{known_of, lines_of as lines_view, draft_of};
+ghost use Rattle.vcd_read.specs.Lines.{rises};
+ghost use Rattle.vcd_read.specs.Taking.{taken, untaken, turned, decided_of, pushed};
 
 use crate::codes::Codes;
 use crate::digits::{is_long, is_value_digit, time_in, width_in};
-use crate::levels::{Values, is_too_wide, is_wider};
+use crate::levels::{Values, is_too_wide, is_wider, width_of};
 use crate::mode::{Draft, Mode};
 use crate::words::{
     are_value_digits, is_code, is_dollar, is_end, is_foreign_type, is_read_past, line_in,
 };
 use arrayvec::ArrayVec;
-use fsb_signal::{SIGNALS, Sample, signal_at};
+use fsb_signal::{Sample, signal_at};
 use std::alloc::{AllocError, Global};
 use vcd_grammar::{VcdCause, VcdFault};
 
@@ -28,14 +39,16 @@ pub(crate) struct Machine {
     /// The values before the block that stands open.
     pub(crate) before: Values,
     /// The values in the block that stands open.
-    pub(crate) now: Values,
+    pub(crate) current: Values,
     /// How many samples were decided, whether they were kept or not.
     pub(crate) decided: u64,
 }
 
 impl Machine {
     /// Before the first token.
-    pub(crate) fn new(alloc: Global) -> Self {
+    pub(crate) fn new(alloc: Global) -> Self
+        ensures { taken result ≡ untaken }
+    {
         Machine {
             fault: None,
             mode: Mode::Header,
@@ -45,17 +58,22 @@ impl Machine {
             codes: Codes::new(alloc),
             time: None,
             before: Values::new(),
-            now: Values::new(),
+            current: Values::new(),
             decided: 0,
         }
     }
 
-    fn fail(&mut self, place: u64, cause: VcdCause) {
+    fn fail(&mut self, place: u64, cause: VcdCause)
+        ensures { taken self.new ≡ turned (taken self.old) (fails (known_of self.old) place cause) }
+    {
         self.fault = Some(VcdFault { place, cause });
     }
 
     /// A token between the sections of the header.
-    fn header(&mut self, place: u64, word: &[u8]) {
+    #[tactic(auto, unfolding(vcd_grammar::specs::Words::header_word))]
+    fn header(&mut self, place: u64, word: &[u8])
+        ensures { taken self.new ≡ turned (taken self.old) (unless_long (known_of self.old) (record { place = place; word = word.now }) (header_turn (known_of self.old) place (header_word word.now))) }
+    {
         if is_long(word) {
             self.fail(place, VcdCause::Token);
         } else if b"$var".as_slice() == word {
@@ -77,7 +95,10 @@ impl Machine {
     }
 
     /// A token of the declaration of a variable.
-    fn variable(&mut self, draft: Draft, place: u64, word: &[u8]) -> Result<(), AllocError> {
+    fn variable(&mut self, draft: Draft, place: u64, word: &[u8]) -> Result<(), AllocError>
+        requires { self.old.mode ≡ Mode.Variable draft }
+        ensures { OnOk result (taken self.new ≡ turned (taken self.old) (turn_in (in_variable (draft_of draft self.old.code.items)) (known_of self.old) (record { place = place; word = word.now }))) }
+    {
         if is_long(word) {
             self.fail(place, VcdCause::Token);
             Ok(())
@@ -89,28 +110,22 @@ impl Machine {
     }
 
     /// A further token of a declaration, which is not its `$end`.
-    fn drafted(&mut self, draft: Draft, word: &[u8]) -> Result<(), AllocError> {
-        let mut draft = draft;
-        if draft.count == 0 {
-            draft.count = 1;
-            draft.is_line = !is_foreign_type(word);
-        } else if draft.count == 1 {
-            draft.count = 2;
-            draft.width = width_in(word);
-        } else if draft.count == 2 {
+    fn drafted(&mut self, draft: Draft, word: &[u8]) -> Result<(), AllocError>
+        ensures { OnOk result (taken self.new ≡ turned (taken self.old) (goes_to (known_of self.old) (in_variable (drafted (draft_of draft self.old.code.items) word.now)))) }
+    {
+        if draft.count == 2 {
             self.code.clear();
             self.code.extend_from_slice(word)?;
-            draft.count = 3;
-        } else if draft.count == 3 {
-            draft.count = 4;
-            draft.line = line_in(word);
         }
-        self.mode = Mode::Variable(draft);
+        self.mode = Mode::Variable(next_draft(draft, word));
         Ok(())
     }
 
     /// The `$end` of a declaration.
-    fn declare(&mut self, draft: Draft) -> Result<(), AllocError> {
+    #[tactic(auto, unfolding(vcd_grammar::specs::Judging::declared))]
+    fn declare(&mut self, draft: Draft) -> Result<(), AllocError>
+        ensures { OnOk result (taken self.new ≡ turned (taken self.old) (declared (known_of self.old) (draft_of draft self.old.code.items))) }
+    {
         let Some(width) = draft.width else {
             self.fail(draft.place, VcdCause::Header);
             return Ok(());
@@ -126,14 +141,18 @@ impl Machine {
     }
 
     /// A variable that is no line.
-    fn declare_other(&mut self) -> Result<(), AllocError> {
+    fn declare_other(&mut self) -> Result<(), AllocError>
+        ensures { OnOk result (taken self.new ≡ turned (taken self.old) (other_declared (known_of self.old) self.old.code.items)) }
+    {
         self.codes.declare(self.code.as_slice(), &[])?;
         self.mode = Mode::Header;
         Ok(())
     }
 
     /// A variable of a line's name.
-    fn declare_named(&mut self, draft: Draft, width: u64, number: u8) -> Result<(), AllocError> {
+    fn declare_named(&mut self, draft: Draft, width: u64, number: u8) -> Result<(), AllocError>
+        ensures { OnOk result (taken self.new ≡ turned (taken self.old) (named (known_of self.old) (draft_of draft self.old.code.items) width (Some number))) }
+    {
         if !draft.is_line || self.lines.contains(&number) {
             self.declare_other()
         } else if width == width_of(number) {
@@ -145,16 +164,21 @@ impl Machine {
     }
 
     /// A line, which is unknown until it gets a value.
-    fn declare_line(&mut self, number: u8) -> Result<(), AllocError> {
+    fn declare_line(&mut self, number: u8) -> Result<(), AllocError>
+        ensures { OnOk result (taken self.new ≡ turned (taken self.old) (line_declared (known_of self.old) self.old.code.items number)) }
+    {
         self.lines.push(number)?;
         self.codes.declare(self.code.as_slice(), &[number])?;
-        self.now.set_line(number, b"x");
+        self.current.set_line(number, b"x");
         self.mode = Mode::Header;
         Ok(())
     }
 
     /// A token behind the `$enddefinitions` at `place`.
-    fn closing(&mut self, place: u64, word: &[u8]) {
+    #[tactic(auto, unfolding(vcd_grammar::specs::Judging::closed))]
+    fn closing(&mut self, place: u64, word: &[u8])
+        ensures { taken self.new ≡ turned (taken self.old) (if is_end word.now then closed (known_of self.old) place else stays (known_of self.old)) }
+    {
         if !is_end(word) {
             return;
         }
@@ -165,13 +189,19 @@ impl Machine {
     }
 
     /// A token between values.
+    #[tactic(auto, unfolding(vcd_grammar::specs::Words::value_word))]
     fn value(
         &mut self,
         place: u64,
         word: &[u8],
         limit: u32,
         to: &mut Vec<Sample>,
-    ) -> Result<(), AllocError> {
+    ) -> Result<(), AllocError>
+        requires { self.old.decided + 1 < 2 ^ 64 }
+        ensures taken { OnOk result (taken self.new ≡ turned (taken self.old) (unless_long (known_of self.old) (record { place = place; word = word.now }) (value_turn (known_of self.old) place (value_word word.now)))) }
+        ensures samples { OnOk result (to.new.items ≡ pushed limit self.old.decided to.old.items (decided_of (taken self.old) (unless_long (known_of self.old) (record { place = place; word = word.now }) (value_turn (known_of self.old) place (value_word word.now))))) }
+        ensures silent { OnErr result (to.new.items ≡ to.old.items) }
+    {
         if is_long(word) {
             self.fail(place, VcdCause::Token);
             return Ok(());
@@ -207,7 +237,12 @@ impl Machine {
         digits: &[u8],
         limit: u32,
         to: &mut Vec<Sample>,
-    ) -> Result<(), AllocError> {
+    ) -> Result<(), AllocError>
+        requires { self.old.decided + 1 < 2 ^ 64 }
+        ensures taken { OnOk result (taken self.new ≡ turned (taken self.old) (value_turn (known_of self.old) place (stamp_word (time_in digits.now)))) }
+        ensures samples { OnOk result (to.new.items ≡ pushed limit self.old.decided to.old.items (decided_of (taken self.old) (value_turn (known_of self.old) place (stamp_word (time_in digits.now))))) }
+        ensures silent { OnErr result (to.new.items ≡ to.old.items) }
+    {
         match time_in(digits) {
             None => {
                 self.fail(place, VcdCause::Token);
@@ -224,7 +259,12 @@ impl Machine {
         time: u64,
         limit: u32,
         to: &mut Vec<Sample>,
-    ) -> Result<(), AllocError> {
+    ) -> Result<(), AllocError>
+        requires { self.old.decided + 1 < 2 ^ 64 }
+        ensures taken { OnOk result (taken self.new ≡ turned (taken self.old) (stamped (known_of self.old) place time self.old.time)) }
+        ensures samples { OnOk result (to.new.items ≡ pushed limit self.old.decided to.old.items (decided_of (taken self.old) (stamped (known_of self.old) place time self.old.time))) }
+        ensures silent { OnErr result (to.new.items ≡ to.old.items) }
+    {
         match self.time {
             None => self.later(time, limit, to),
             Some(last) => {
@@ -241,20 +281,28 @@ impl Machine {
     }
 
     /// A greater time, which ends the block.
-    fn later(&mut self, time: u64, limit: u32, to: &mut Vec<Sample>) -> Result<(), AllocError> {
+    fn later(&mut self, time: u64, limit: u32, to: &mut Vec<Sample>) -> Result<(), AllocError>
+        requires { self.old.decided + 1 < 2 ^ 64 }
+        ensures taken { OnOk result (taken self.new ≡ turned (taken self.old) (later (known_of self.old) time)) }
+        ensures samples { OnOk result (to.new.items ≡ pushed limit self.old.decided to.old.items (decided_of (taken self.old) (later (known_of self.old) time))) }
+        ensures silent { OnErr result (to.new.items ≡ to.old.items) }
+    {
         if self.rises() {
             if self.decided < u64::from(limit) {
                 to.push(self.before.sample())?;
             }
             self.decided += 1;
         }
-        self.before = self.now;
+        self.before = self.current;
         self.time = Some(time);
         Ok(())
     }
 
     /// The end of the text, at a place where a text may end or not.
-    pub(crate) fn end(&mut self, place: u64) {
+    pub(crate) fn end(&mut self, place: u64)
+        ensures known { known_of self.new ≡ record (known_of self.old) { fault = or_cut self.old.fault (known_of self.old).mode place } }
+        ensures lines { lines_view self.new ≡ lines_view self.old }
+    {
         if self.fault.is_none() {
             match self.mode {
                 Mode::Values => {}
@@ -264,46 +312,47 @@ impl Machine {
     }
 
     /// Whether the clock rises in the block that stands open.
-    pub(crate) fn rises(&self) -> bool {
-        self.before.clock == b'0' && self.now.clock == b'1'
+    pub(crate) fn rises(&self) -> bool
+        ensures { result ≡ rises (lines_view self.now) }
+    {
+        self.before.clock == b'0' && self.current.clock == b'1'
     }
 
     /// A scalar change.
-    fn scalar(&mut self, place: u64, digit: u8, code: &[u8]) {
+    fn scalar(&mut self, place: u64, digit: u8, code: &[u8])
+        ensures { taken self.new ≡ turned (taken self.old) (value_turn (known_of self.old) place (scalar_word digit code.now)) }
+    {
         if code.is_empty() {
             self.fail(place, VcdCause::Token);
             return;
         }
         if let Some(number) = self.codes.single(code) {
-            self.now.set_line(number, &[digit]);
+            self.current.set_line(number, &[digit]);
             return;
         }
         match self.codes.lines(code) {
             None => self.fail(place, VcdCause::Code),
-            Some(lines) => self.now.set_lines(lines, &[digit]),
+            Some(lines) => self.current.set_lines_to(lines, digit),
         }
     }
 
     /// A vector, of which `digits` stand behind the `b`.
-    fn vector(&mut self, place: u64, digits: &[u8]) {
+    fn vector(&mut self, place: u64, digits: &[u8])
+        ensures { taken self.new ≡ turned (taken self.old) (value_turn (known_of self.old) place (vector_word digits.now)) }
+    {
         if digits.is_empty() || !are_value_digits(digits) {
             self.fail(place, VcdCause::Token);
             return;
         }
-        let first = if digits.len() <= 65 {
-            digits
-        } else {
-            &digits[..65]
-        };
-        self.digits.clear();
-        for digit in first {
-            self.digits.push(*digit);
-        }
+        copy_first(&mut self.digits, digits);
         self.mode = Mode::Pending(place);
     }
 
     /// The code at `place` of the vector at `from`.
-    fn vector_code(&mut self, from: u64, place: u64, code: &[u8]) {
+    fn vector_code(&mut self, from: u64, place: u64, code: &[u8])
+        requires { self.old.mode ≡ Mode.Pending from }
+        ensures { taken self.new ≡ turned (taken self.old) (turn_in (in_pending from self.old.digits.items) (known_of self.old) (record { place = place; word = code.now })) }
+    {
         if is_long(code) {
             self.fail(place, VcdCause::Token);
             return;
@@ -312,7 +361,7 @@ impl Machine {
             if is_wider(self.digits.as_slice(), number) {
                 self.fail(from, VcdCause::Width);
             } else {
-                self.now.set_line(number, self.digits.as_slice());
+                self.current.set_line(number, self.digits.as_slice());
                 self.mode = Mode::Values;
             }
             return;
@@ -323,7 +372,7 @@ impl Machine {
                 if is_too_wide(self.digits.as_slice(), lines) {
                     self.fail(from, VcdCause::Width);
                 } else {
-                    self.now.set_lines(lines, self.digits.as_slice());
+                    self.current.set_lines(lines, self.digits.as_slice());
                     self.mode = Mode::Values;
                 }
             }
@@ -331,7 +380,9 @@ impl Machine {
     }
 
     /// The code of a real number or a string.
-    fn beside(&mut self, place: u64, code: &[u8]) {
+    fn beside(&mut self, place: u64, code: &[u8])
+        ensures { taken self.new ≡ turned (taken self.old) (turn_in in_beside (known_of self.old) (record { place = place; word = code.now })) }
+    {
         if is_long(code) {
             self.fail(place, VcdCause::Token);
             return;
@@ -343,13 +394,19 @@ impl Machine {
     }
 
     /// A token at a place. A sample that it decides is appended while there are fewer than the limit.
+    #[tactic(auto, unfolding(vcd_grammar::specs::Judging::turn))]
     pub(crate) fn take(
         &mut self,
         place: u64,
         word: &[u8],
         limit: u32,
         to: &mut Vec<Sample>,
-    ) -> Result<(), AllocError> {
+    ) -> Result<(), AllocError>
+        requires { self.old.decided + 1 < 2 ^ 64 }
+        ensures taken { OnOk result (taken self.new ≡ turned (taken self.old) (turn (known_of self.old) (record { place = place; word = word.now }))) }
+        ensures samples { OnOk result (to.new.items ≡ pushed limit self.old.decided to.old.items (decided_of (taken self.old) (turn (known_of self.old) (record { place = place; word = word.now })))) }
+        ensures silent { OnErr result (to.new.items ≡ to.old.items) }
+    {
         if self.fault.is_some() {
             return Ok(());
         }
@@ -375,20 +432,77 @@ impl Machine {
     }
 }
 
-/// The width of the line of this number.
-fn width_of(number: u8) -> u64 {
-    if number < 20 {
-        u64::from(signal_at(number).width)
+/// A declaration with a further token; a code is kept beside it.
+#[tactic(auto, unfolding(vcd_grammar::specs::Judging::drafted))]
+fn next_draft(draft: Draft, word: &[u8]) -> Draft
+    ensures { (code : List ℕ) → draft_of result (if draft.count == 2 then word.now else code) ≡ drafted (draft_of draft code) word.now }
+{
+    if draft.count == 0 {
+        Draft {
+            place: draft.place,
+            count: 1,
+            is_line: !is_foreign_type(word),
+            width: draft.width,
+            line: draft.line,
+        }
+    } else if draft.count == 1 {
+        Draft {
+            place: draft.place,
+            count: 2,
+            is_line: draft.is_line,
+            width: width_in(word),
+            line: draft.line,
+        }
+    } else if draft.count == 2 {
+        Draft {
+            place: draft.place,
+            count: 3,
+            is_line: draft.is_line,
+            width: draft.width,
+            line: draft.line,
+        }
+    } else if draft.count == 3 {
+        Draft {
+            place: draft.place,
+            count: 4,
+            is_line: draft.is_line,
+            width: draft.width,
+            line: line_in(word),
+        }
     } else {
-        0
+        draft
     }
 }
 
+/// The first 65 digits.
+#[tactic(auto, using(crate::proofs::Entries::take_up_to))]
+fn copy_first(to: &mut ArrayVec<u8, 65>, digits: &[u8])
+    ensures { to.new.items ≡ take 65 digits.now }
+{
+    to.clear();
+    for digit in digits {
+        if to.is_full() {
+            return;
+        }
+        to.push(*digit);
+    }
+}
+
+/// Whether the line of this number must be declared and is not.
+fn is_missing(lines: &[u8], number: u8) -> bool
+    requires { number < 20 }
+    ensures { (e : Entry) → slice_get table number ≡ Some e → result ≡ (e.needed && not (is_declared lines.now number)) }
+{
+    signal_at(number).needed && !lines.contains(&number)
+}
+
 /// The first line of the table that must be declared and is not.
-fn missing(lines: &[u8]) -> Option<u8> {
-    for (number, signal) in SIGNALS.iter().enumerate() {
-        if signal.needed && !lines.contains(&(number as u8)) {
-            return Some(number as u8);
+fn missing(lines: &[u8]) -> Option<u8>
+    ensures { result ≡ missing_from lines.now 0 table }
+{
+    for number in 0..20 {
+        if is_missing(lines, number) {
+            return Some(number);
         }
     }
     None
