@@ -369,7 +369,6 @@ fn samples_come_with_the_next_time(rt: HostRuntime) -> Result<(), Fail> {
         cause: VcdCause::Code,
     });
     assert_eq!(rt; reader.finish(&mut samples), Err(stop));
-    assert_eq!(rt; reader.feed(b"", &mut samples), Err(stop));
     assert_eq!(rt; samples.len(), 1);
     Ok(())
 }
