@@ -1,0 +1,62 @@
+-- Runs written out clock by clock.
+use Rattle.std.proofs.Common.{ℕ, zero, suc, ◌+◌, Bool, false, List, [], ◌∷◌, ◌++◌, length}
+use Rattle.fsb_access.specs.declared.access.Access.{Access}
+use Rattle.fsb_access.specs.declared.access.Setting.{Setting}
+use Rattle.fsb_access.specs.declared.log.Done.{Done}
+use Rattle.fsb_encode.specs.declared.request.Kind.TheVariants.{Read}
+use Rattle.fsb_hazard.specs.declared.choice.Choice.{Choice}
+use Rattle.fsb_hazard.specs.declared.choice.Ask.TheVariants.{Clock, Begun}
+use Rattle.fsb_hazard.specs.declared.line.HazardLine.{HazardLine}
+use Rattle.fsb_hazard.specs.Entry.{entry as entry_of_lines}
+use Rattle.fsb_script.specs.Plans.{PlanView}
+use Rattle.fsb_signal.specs.declared.lines.Lines.{Lines}
+use Rattle.fsb_signal.specs.declared.sample.Sample.{Sample}
+use Rattle.fsb_signal.specs.Samples.{known_sample}
+use Rattle.fsb_trace.specs.At.{Trace}
+use Rattle.fsb_timely.specs.Runs.{Run}
+
+-- the bits of some different lines together
+abbrev pub bits_of : List Lines → ℕ
+bits_of [] = 0
+bits_of (line ∷ lines) = line.0 + bits_of lines
+
+-- a sample in which these lines and these bits of REQ, A and D are asserted, and nothing is unknown
+abbrev pub clock : List Lines → ℕ → ℕ → ℕ → Sample
+clock lines req addr dbus = known_sample (bits_of lines) req addr dbus
+
+-- a sample in which nothing is asserted
+abbrev pub idle : Sample
+idle = clock [] 0 0 0
+
+-- an entry of a log: clock, agent, item, part, access, value
+abbrev pub entry : ℕ → ℕ → ℕ → ℕ → Access → ℕ → Done
+entry clock agent item part access value =
+    record { clock = clock; agent = agent; item = item; part = part; access = access; value = value }
+
+abbrev pub setting : ℕ → ℕ → Setting
+setting addr byte = record { addr = addr; byte = byte }
+
+-- what an object that tells these lines answers for request k, BNR# left out
+abbrev pub choice_for : List HazardLine → ℕ → Choice
+choice_for lines k =
+    record (entry_of_lines lines (Begun k (record { kind = Read; line = 0; chunk = 0; did = 0; den = false }))) { bnr = false }
+
+-- its answers for the first n requests
+abbrev pub choices_for : List HazardLine → ℕ → List Choice
+choices_for lines zero = []
+choices_for lines (suc n) = choices_for lines n ++ choice_for lines n ∷ []
+
+-- whether it asks for BNR# at the first n clocks
+abbrev pub holds_for : List HazardLine → ℕ → List Bool
+holds_for lines zero = []
+holds_for lines (suc n) = holds_for lines n ++ (entry_of_lines lines (Clock n)).bnr ∷ []
+
+-- the run of a plan with so many requests, whose one hazard object tells the plan's lines
+abbrev pub run_of : PlanView → ℕ → Trace → List Done → Run
+run_of plan requests trace log = record {
+  plan = plan;
+  choices = choices_for plan.hazards requests;
+  holds = holds_for plan.hazards (length trace);
+  trace = trace;
+  log = log;
+}
