@@ -1,1 +1,1 @@
-pub mod LaidOut
+pub mod EachClock

@@ -2,7 +2,7 @@
 use Rattle.std.specs.Prelude.{◌≡◌, ◌<◌, ℕ, Bool, IsTrue, length}
 use Rattle.fsb_signal.specs.Samples.{is_known_trace}
 use Rattle.fsb_timely.specs.Runs.{Run, Past, run_to, past_of, past_to, requests_below}
-use Rattle.fsb_timely.specs.Starts.{starts_requests, drives_request_lines}
+use Rattle.fsb_timely.specs.Starts.{each_where, starts_requests, drives_request_lines}
 use Rattle.fsb_timely.specs.Snoops.{drives_hazards, has_snoop_result}
 use Rattle.fsb_timely.specs.Transfers.{drives_responses}
 use Rattle.fsb_timely.specs.Completions.{logs_completions}
@@ -23,6 +23,10 @@ holds_at part r c = holds_in part r (past_of r) c
 -- the part holds at each clock of the run
 pub record AtEachClock (part : Part) (r : Run) : Type 0 where
   pub at : (c : ℕ) → c < length r.trace → IsTrue (holds_at part r c)
+
+-- the part holds at each clock of the run, as a test: the run's past is found once, and shared
+unfoldable pub keeps : Part → Run → Bool
+keeps part r = let p = past_of r in each_where (holds_in part r p) (length r.trace)
 
 -- nothing is unknown, there is one hold for each clock and one choice for each request, and at each clock the requests
 -- start, the request lines, the hazard lines and the snoop results are, the responses and data move, the accesses are

@@ -1,5 +1,5 @@
 -- Runs written out clock by clock.
-use Rattle.std.proofs.Common.{ℕ, zero, suc, ◌+◌, Bool, false, List, [], ◌∷◌, ◌++◌, length}
+use Rattle.std.proofs.Common.{ℕ, zero, suc, ◌+◌, ◌&&◌, Bool, false, List, [], ◌∷◌, ◌++◌, length, take, set}
 use Rattle.fsb_access.specs.declared.access.Access.{Access}
 use Rattle.fsb_access.specs.declared.access.Setting.{Setting}
 use Rattle.fsb_access.specs.declared.log.Done.{Done}
@@ -14,6 +14,12 @@ use Rattle.fsb_signal.specs.declared.sample.Sample.{Sample}
 use Rattle.fsb_signal.specs.Samples.{known_sample}
 use Rattle.fsb_trace.specs.At.{Trace}
 use Rattle.fsb_timely.specs.Runs.{Run}
+use Rattle.fsb_timely.specs.Starts.{starts_requests, drives_request_lines}
+use Rattle.fsb_timely.specs.Snoops.{drives_hazards, has_snoop_result}
+use Rattle.fsb_timely.specs.Transfers.{drives_responses, carries_data}
+use Rattle.fsb_timely.specs.Completions.{logs_completions}
+use Rattle.fsb_timely.specs.BusLock.{drives_lock}
+use Rattle.fsb_timely.specs.Timely.{Part}
 
 -- the bits of some different lines together
 abbrev pub bits_of : List Lines → ℕ
@@ -27,6 +33,10 @@ clock lines req addr dbus = known_sample (bits_of lines) req addr dbus
 -- a sample in which nothing is asserted
 abbrev pub idle : Sample
 idle = clock [] 0 0 0
+
+-- the first c + 1 samples of a trace, of which the last is another one
+abbrev pub changed : Trace → ℕ → Sample → Trace
+changed trace c sample = set (take (c + 1) trace) c sample
 
 -- an entry of a log: clock, agent, item, part, access, value
 abbrev pub entry : ℕ → ℕ → ℕ → ℕ → Access → ℕ → Done
@@ -50,6 +60,11 @@ choices_for lines (suc n) = choices_for lines n ++ choice_for lines n ∷ []
 abbrev pub holds_for : List HazardLine → ℕ → List Bool
 holds_for lines zero = []
 holds_for lines (suc n) = holds_for lines n ++ (entry_of_lines lines (Clock n)).bnr ∷ []
+
+-- the seven parts together, and the data
+abbrev pub every_part : Part
+every_part r p c =
+    starts_requests r p c && (drives_request_lines r p c && (drives_hazards r p c && (has_snoop_result r p c && (drives_responses r p c && (logs_completions r p c && (drives_lock r p c && carries_data r p c))))))
 
 -- the run of a plan with so many requests, whose one hazard object tells the plan's lines
 abbrev pub run_of : PlanView → ℕ → Trace → List Done → Run
