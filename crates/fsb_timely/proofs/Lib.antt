@@ -1,1 +1,7 @@
 pub mod EachClock
+pub mod Next
+pub mod Holding
+pub mod Wanted
+pub mod Items
+pub mod OneEnd
+pub mod Outstanding

@@ -10,4 +10,5 @@ pub mod Transfers
 pub mod Completions
 pub mod BusLock
 pub mod Timely
+pub mod Growth
 pub mod Simulated

@@ -44,9 +44,21 @@ items_of p a = script_of p.plan.scripts a
 unfoldable pub is_done_by : ℕ → ℕ → Done → Bool
 is_done_by a c done = nat_eq done.agent a && nat_lt done.clock c
 
+-- the entry is agent a's, and its clock is c
+unfoldable pub is_done_at : ℕ → ℕ → Done → Bool
+is_done_at a c done = nat_eq done.agent a && nat_eq done.clock c
+
+-- agent a has an entry at c
+unfoldable pub completes_at : Past → ℕ → ℕ → Bool
+completes_at p a c = list_any (is_done_at a c) p.log
+
 -- item n of agent a is logged at a clock below c
 unfoldable pub is_logged : Past → ℕ → ℕ → ℕ → Bool
 is_logged p a c n = list_any (λ done. is_done_by a c done && nat_eq done.item n) p.log
+
+-- item n of agent a is logged at c
+unfoldable pub is_logged_at : Past → ℕ → ℕ → ℕ → Bool
+is_logged_at p a c n = list_any (λ done. is_done_at a c done && nat_eq done.item n) p.log
 
 -- item n of agent a is not idle and not logged below c
 unfoldable pub is_to_do : Past → ℕ → ℕ → ℕ → Bool
@@ -98,10 +110,14 @@ plain_items (suc n) (Idle clocks ∷ items) = []
 unfoldable pub window_from : ℕ → Item → List Item → List Item
 window_from ahead item items = item ∷ (if is_locked item then [] else plain_items (ahead - 1) items)
 
+-- agent a's window where it begins with item n
+unfoldable pub window_at : Past → ℕ → ℕ → List Item
+window_at p a n =
+    option_map_or (λ item. window_from p.plan.ahead item (drop (n + 1) (items_of p a))) (slice_get (items_of p a) n) []
+
 -- agent a's window at c
 unfoldable pub window : Past → ℕ → ℕ → List Item
-window p a c =
-    option_map_or (λ n. option_map_or (λ item. window_from p.plan.ahead item (drop (n + 1) (items_of p a))) (slice_get (items_of p a) n) []) (next_number p a c) []
+window p a c = option_map_or (window_at p a) (next_number p a c) []
 
 -- what an item needs: a line; whether for itself (each access but a load outside a locked item); the chunk of the item's
 -- first access to the line; whether the item is a locked one; and the lines of the items before it in the window

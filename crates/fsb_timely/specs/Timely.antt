@@ -42,3 +42,13 @@ pub record Timely (r : Run) : Type 0 where
   pub responses_and_data : AtEachClock drives_responses r
   pub completions : AtEachClock logs_completions r
   pub bus_lock : AtEachClock drives_lock r
+
+-- the seven parts at one clock of the run
+pub record IsTimelyAt (r : Run) (c : ℕ) : Type 0 where
+  pub request_starts : IsTrue (holds_at starts_requests r c)
+  pub request_lines : IsTrue (holds_at drives_request_lines r c)
+  pub hazard_lines : IsTrue (holds_at drives_hazards r c)
+  pub snoop_results : IsTrue (holds_at has_snoop_result r c)
+  pub responses_and_data : IsTrue (holds_at drives_responses r c)
+  pub completions : IsTrue (holds_at logs_completions r c)
+  pub bus_lock : IsTrue (holds_at drives_lock r c)
