@@ -1,7 +1,7 @@
 -- A clock that a run has passed stays as it is.
-use Rattle.std.proofs.Common.{ℕ, zero, suc, ◌+◌, ◌<◌, ◌≤◌, ◌≡◌, true, nat_le, List, [], ◌∷◌, ◌++◌, length, take, IsTrue, sym, ap, refl, ◌∙◌, arith, add-one, append-nil, below_more}
+use Rattle.std.proofs.Common.{ℕ, zero, suc, ◌+◌, ◌<◌, ◌≤◌, ◌≡◌, true, nat_le, nat_lt, nat_eq, ◌&&◌, List, [], ◌∷◌, ◌++◌, length, take, IsTrue, sym, ap, refl, ◌∙◌, arith, add-one, append-nil, below_more}
 use Rattle.std.specs.List.{list_all}
-use Rattle.std.proofs.lemmas.Bool.{and_parts, lt-leb, leb-true}
+use Rattle.std.proofs.lemmas.Bool.{and_parts, eqb-true, le-leb, lt-leb, lt-ltb, ltb-true}
 use Rattle.std.proofs.lemmas.List.{take-append-le, length-append}
 use Rattle.fsb_signal.proofs.AtClock.{slice_get-before}
 use Rattle.std.proofs.lemmas.List.Elements.{filter-append}
@@ -20,7 +20,7 @@ use Rattle.fsb_signal.specs.Samples.{is_known_trace}
 use Rattle.fsb_timely.specs.Starts.{starts_requests, drives_request_lines}
 use Rattle.fsb_timely.specs.Snoops.{drives_hazards, has_snoop_result}
 use Rattle.fsb_timely.specs.Transfers.{drives_responses}
-use Rattle.fsb_timely.specs.Completions.{logs_completions}
+use Rattle.fsb_timely.specs.Completions.{logs_completions, is_in_time}
 use Rattle.fsb_timely.specs.BusLock.{drives_lock}
 use Rattle.fsb_timely.specs.Timely.{Part, holds_in, holds_at, AtEachClock, IsTimelyAt, Timely}
 
@@ -38,16 +38,16 @@ unfolding requests_below
 requests-same w s n l =
     count_where-same (line_at ADS (w ++ s ∷ [])) (line_at ADS w) n (record { same = λ c m. line_at-agree ADS (length w) (w ++ s ∷ []) w c (agree_next w s) (omega arith) })
 
--- entries at or above n are none up to c
-entries-none : (c n : ℕ) (entries : List Done) → c < n → list_all (λ done. nat_le n done.clock) entries ≡ true → entries_to c entries ≡ []
+-- entries at n are none up to an earlier clock
+entries-none : (c n : ℕ) (entries : List Done) → c < n → list_all (λ done. nat_eq done.clock n) entries ≡ true → entries_to c entries ≡ []
 unfolding entries_to
 entries-none c n [] l e = refl
 entries-none c n (done ∷ entries) l e =
-    let parts = and_parts (nat_le n done.clock) (list_all (λ d. nat_le n d.clock) entries) e in
-    let later : n ≤ done.clock = leb-true n done.clock parts.0 in
+    let parts = and_parts (nat_eq done.clock n) (list_all (λ d. nat_eq d.clock n) entries) e in
+    let later : done.clock ≡ n = eqb-true done.clock n parts.0 in
     rw (lt-leb done.clock c (omega arith)) (entries-none c n entries l parts.1)
 
-entries-same : (c n : ℕ) (log entries : List Done) → c < n → list_all (λ done. nat_le n done.clock) entries ≡ true → entries_to c (log ++ entries) ≡ entries_to c log
+entries-same : (c n : ℕ) (log entries : List Done) → c < n → list_all (λ done. nat_eq done.clock n) entries ≡ true → entries_to c (log ++ entries) ≡ entries_to c log
 unfolding entries_to
 entries-same c n log entries l e =
     filter-append (λ done. nat_le done.clock c) log entries ∙ ap (λ xs. entries_to c log ++ xs) (entries-none c n entries l e) ∙ append-nil (entries_to c log)
@@ -136,6 +136,30 @@ each_clock-more part r s next whole old new = record { at = λ c l.
     let longer : length s.trace ≡ suc (length r.trace) = ap length next.more_trace ∙ length-append r.trace (next.sample ∷ []) ∙ add-one (length r.trace) in
     below_more (λ k. holds_at part s k ≡ true) (length r.trace) (λ k m. holds_at-same part r s k next whole m ∙ old.at k m) new c (let m : c < suc (length r.trace) = rw (sym longer) l in omega arith) }
 
+-- entries of one clock that the log may end at
+in_time-same : (first n : ℕ) (entries : List Done) → first ≤ n → list_all (λ done. nat_eq done.clock n) entries ≡ true → is_in_time first (n + 1) entries ≡ true
+unfolding is_in_time
+in_time-same first n [] l e = refl
+in_time-same first n (done ∷ entries) l e =
+    let parts = and_parts (nat_eq done.clock n) (list_all (λ d. nat_eq d.clock n) entries) e in
+    let at : done.clock ≡ n = eqb-true done.clock n parts.0 in
+    rw (le-leb first done.clock (omega arith), lt-ltb done.clock (n + 1) (omega arith)) (in_time-same done.clock n entries (omega arith) parts.1)
+
+-- a log in time, and entries of the next clock
+in_time-more : (first n : ℕ) (log entries : List Done) → first ≤ n → is_in_time first n log ≡ true → list_all (λ done. nat_eq done.clock n) entries ≡ true → is_in_time first (n + 1) (log ++ entries) ≡ true
+unfolding is_in_time
+in_time-more first n [] entries l e f = in_time-same first n entries l f
+in_time-more first n (done ∷ log) entries l e f =
+    let parts = and_parts (nat_le first done.clock) (nat_lt done.clock n && is_in_time done.clock n log) e in
+    let rest = and_parts (nat_lt done.clock n) (is_in_time done.clock n log) parts.1 in
+    let below : done.clock < n = ltb-true done.clock n rest.0 in
+    rw (parts.0, lt-ltb done.clock (n + 1) (omega arith)) (in_time-more done.clock n log entries (omega arith) rest.1 f)
+
+in_time-next : (r s : Run) → IsNext r s → is_in_time 0 (length r.trace) r.log ≡ true → is_in_time 0 (length s.trace) s.log ≡ true
+in_time-next r s next e =
+    let longer : length s.trace ≡ length r.trace + 1 = ap length next.more_trace ∙ length-append r.trace (next.sample ∷ []) in
+    (λ i. is_in_time 0 (longer i) (next.more_log i)) ∙ in_time-more 0 (length r.trace) r.log next.entries (omega arith) e next.at_end
+
 -- a timely run with one more clock at which the parts hold
 pub timely-more : (r s : Run) → Timely r → IsNext r s → IsWhole s → IsTrue (is_known_trace s.trace) → IsTimelyAt s (length r.trace) → Timely s
 timely-more r s old next whole known new =
@@ -144,6 +168,7 @@ timely-more r s old next whole known new =
       known = known;
       one_hold = whole.one_hold;
       one_choice = whole.one_choice;
+      in_time = in_time-next r s next old.in_time;
       request_starts = each_clock-more starts_requests r s next before old.request_starts new.request_starts;
       request_lines = each_clock-more drives_request_lines r s next before old.request_lines new.request_lines;
       hazard_lines = each_clock-more drives_hazards r s next before old.hazard_lines new.hazard_lines;

@@ -1,5 +1,6 @@
 -- Completions: which entries the log has at a clock.
-use Rattle.std.specs.Prelude.{ℕ, ◌+◌, ◌&&◌, ◌||◌, Bool, true, false, not, nat_eq, List, [], ◌∷◌, ◌++◌, map}
+use Rattle.std.specs.Prelude.{ℕ, ◌+◌, ◌&&◌, ◌||◌, Bool, true, false, not, nat_eq, nat_le, nat_lt, List, [], ◌∷◌, ◌++◌, map}
+use Rattle.fsb_access.specs.declared.log.Done.{Done}
 use Rattle.std.specs.List.{list_any, list_all, filter}
 use Rattle.std.specs.Option.{option_map_or}
 use Rattle.fsb_count.specs.Options.{is_some_and, is_at}
@@ -100,3 +101,9 @@ are_completed (x ∷ xs) (y ∷ ys) = is_completed x y && are_completed xs ys
 -- Completions: the entries at c are the accesses that are completed there.
 unfoldable pub logs_completions : Run → Past → ℕ → Bool
 logs_completions r p c = are_completed (entries_at p c) (completed_at p c)
+
+-- the clocks of the entries never fall, begin at `first` or above, and are all below `end`
+unfoldable pub is_in_time : ℕ → ℕ → List Done → Bool
+is_in_time first end [] = true
+is_in_time first end (done ∷ log) =
+    nat_le first done.clock && (nat_lt done.clock end && is_in_time done.clock end log)

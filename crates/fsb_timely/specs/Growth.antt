@@ -10,8 +10,8 @@ use Rattle.fsb_hazard.specs.declared.choice.Choice.{Choice}
 use Rattle.fsb_signal.specs.declared.sample.Sample.{Sample}
 use Rattle.fsb_timely.specs.Runs.{Run, requests_below}
 
--- the second run is the first with one more clock: one more sample and one more hold, maybe more choices, and entries none
--- of which lies before that clock
+-- the second run is the first with one more clock: one more sample and one more hold, maybe more choices, and entries of
+-- that clock alone
 pub record IsNext (r s : Run) : Type 0 where
   pub sample : Sample
   pub hold : Bool
@@ -22,7 +22,7 @@ pub record IsNext (r s : Run) : Type 0 where
   pub more_holds : s.holds ≡ r.holds ++ hold ∷ []
   pub more_choices : s.choices ≡ r.choices ++ choices
   pub more_log : s.log ≡ r.log ++ entries
-  pub at_end : IsTrue (list_all (λ done. nat_le (length r.trace) done.clock) entries)
+  pub at_end : IsTrue (list_all (λ done. nat_eq done.clock (length r.trace)) entries)
 
 -- the run has one hold for each clock, and one choice for each request
 pub record IsWhole (r : Run) : Type 0 where

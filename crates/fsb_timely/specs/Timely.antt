@@ -5,7 +5,7 @@ use Rattle.fsb_timely.specs.Runs.{Run, Past, run_to, past_of, past_to, requests_
 use Rattle.fsb_timely.specs.Starts.{each_where, starts_requests, drives_request_lines}
 use Rattle.fsb_timely.specs.Snoops.{drives_hazards, has_snoop_result}
 use Rattle.fsb_timely.specs.Transfers.{drives_responses}
-use Rattle.fsb_timely.specs.Completions.{logs_completions}
+use Rattle.fsb_timely.specs.Completions.{logs_completions, is_in_time}
 use Rattle.fsb_timely.specs.BusLock.{drives_lock}
 
 -- what is said of a clock c: a test of the run up to c, and of its past
@@ -28,13 +28,14 @@ pub record AtEachClock (part : Part) (r : Run) : Type 0 where
 unfoldable pub keeps : Part → Run → Bool
 keeps part r = let p = past_of r in each_where (holds_in part r p) (length r.trace)
 
--- nothing is unknown, there is one hold for each clock and one choice for each request, and at each clock the requests
--- start, the request lines, the hazard lines and the snoop results are, the responses and data move, the accesses are
--- completed, and the bus is locked as they must
+-- nothing is unknown, there is one hold for each clock and one choice for each request, the log goes on in time and ends
+-- with the trace, and at each clock the requests start, the request lines, the hazard lines and the snoop results are, the
+-- responses and data move, the accesses are completed, and the bus is locked as they must
 pub record Timely (r : Run) : Type 0 where
   pub known : IsTrue (is_known_trace r.trace)
   pub one_hold : length r.holds ≡ length r.trace
   pub one_choice : length r.choices ≡ requests_below r.trace (length r.trace)
+  pub in_time : IsTrue (is_in_time 0 (length r.trace) r.log)
   pub request_starts : AtEachClock starts_requests r
   pub request_lines : AtEachClock drives_request_lines r
   pub hazard_lines : AtEachClock drives_hazards r

@@ -8,7 +8,7 @@ use Rattle.fsb_timely.specs.Runs.{Run, requests_below}
 use Rattle.fsb_timely.specs.Starts.{starts_requests, drives_request_lines}
 use Rattle.fsb_timely.specs.Snoops.{drives_hazards, has_snoop_result}
 use Rattle.fsb_timely.specs.Transfers.{drives_responses, carries_data}
-use Rattle.fsb_timely.specs.Completions.{logs_completions}
+use Rattle.fsb_timely.specs.Completions.{logs_completions, is_in_time}
 use Rattle.fsb_timely.specs.BusLock.{drives_lock}
 use Rattle.fsb_timely.specs.Timely.{Part, holds_in, holds_at, keeps, AtEachClock}
 use Rattle.fsb_timely.specs.Simulated.{Simulated}
@@ -45,9 +45,9 @@ rest6 r p c = drives_lock r p c && carries_data r p c
 
 pub simulated_if :
     (r : Run) → keeps every_part r ≡ true → IsTrue (is_known_trace r.trace) → length r.holds ≡ length r.trace
-    → length r.choices ≡ requests_below r.trace (length r.trace) → InOrder r.plan.scripts r.log → Served r.plan.mem r.log
+    → length r.choices ≡ requests_below r.trace (length r.trace) → IsTrue (is_in_time 0 (length r.trace) r.log) → InOrder r.plan.scripts r.log → Served r.plan.mem r.log
     → Simulated r
-simulated_if r e known one_hold one_choice in_order served =
+simulated_if r e known one_hold one_choice in_time in_order served =
     let h0 = keeps-at every_part r e in
     let h1 = second_of_two starts_requests rest1 r h0 in
     let h2 = second_of_two drives_request_lines rest2 r h1 in
@@ -60,6 +60,7 @@ simulated_if r e known one_hold one_choice in_order served =
         known = known;
         one_hold = one_hold;
         one_choice = one_choice;
+        in_time = in_time;
         request_starts = first_of_two starts_requests rest1 r h0;
         request_lines = first_of_two drives_request_lines rest2 r h1;
         hazard_lines = first_of_two drives_hazards rest3 r h2;
