@@ -1,15 +1,13 @@
 -- Where an agent is in its script, one clock further.
-use Rattle.std.proofs.Common.{ℕ, suc, ◌+◌, ◌≡◌, ◌≤◌, ◌<◌, Bool, true, false, not, ◌&&◌, ◌||◌, List, [], ◌∷◌, Option, Some, None, refl, ap, sym, subst, ◌∙◌, inl, inr, nat_eq, nat_lt, length, arith, slice_get}
-use Rattle.std.proofs.lemmas.Bool.{cases_Bool, cases_lt, lt-ltb, le-ltb}
+use Rattle.std.proofs.Common.{ℕ, ◌+◌, ◌≡◌, Bool, true, false, not, ◌&&◌, ◌||◌, List, [], ◌∷◌, refl, ap, ◌∙◌, nat_eq, nat_lt, length, arith, slice_get}
 use Rattle.std.proofs.lemmas.Bool.Decides.{nat_tests}
 use Rattle.std.specs.List.{list_any}
 use Rattle.std.specs.Option.{option_and_then, option_map_or}
 use Rattle.fsb_count.specs.Options.{is_some_and}
-use Rattle.fsb_count.specs.Clocks.{AgreeBelow, first_where, last_where}
 use Rattle.fsb_count.proofs.First.{first_where-same}
 use Rattle.fsb_access.specs.declared.log.Done.{Done}
 use Rattle.fsb_timely.specs.Runs.{Past}
-use Rattle.fsb_timely.specs.Scripts.{is_idle, items_of, is_done_by, is_done_at, completes_at, is_logged_at, is_logged, is_to_do, next_number, next_item, last_done, window_at, window}
+use Rattle.fsb_timely.specs.Scripts.{is_idle, items_of, is_done_by, is_done_at, completes_at, is_logged_at, is_logged, is_to_do, next_number, next_item, window_at, window}
 
 lt-more : (n c : ℕ) → nat_lt n (c + 1) ≡ (nat_lt n c || nat_eq n c)
 lt-more n c = grind (arith, nat_tests)

@@ -132,9 +132,11 @@ holds_at-same part r s c next whole l =
 
 -- a part that holds at each clock of a run and at the next one
 pub each_clock-more : (part : Part) (r s : Run) → IsNext r s → IsWhole r → AtEachClock part r → IsTrue (holds_at part s (length r.trace)) → AtEachClock part s
-each_clock-more part r s next whole old new = record { at = λ c l.
-    let longer : length s.trace ≡ suc (length r.trace) = ap length next.more_trace ∙ length-append r.trace (next.sample ∷ []) ∙ add-one (length r.trace) in
-    below_more (λ k. holds_at part s k ≡ true) (length r.trace) (λ k m. holds_at-same part r s k next whole m ∙ old.at k m) new c (let m : c < suc (length r.trace) = rw (sym longer) l in omega arith) }
+each_clock-more part r s next whole old new = record {
+  at = λ c l.
+      let longer : length s.trace ≡ suc (length r.trace) = ap length next.more_trace ∙ length-append r.trace (next.sample ∷ []) ∙ add-one (length r.trace) in
+      below_more (λ k. holds_at part s k ≡ true) (length r.trace) (λ k m. holds_at-same part r s k next whole m ∙ old.at k m) new c (let m : c < suc (length r.trace) = rw (sym longer) l in omega arith);
+}
 
 -- entries of one clock that the log may end at
 in_time-same : (first n : ℕ) (entries : List Done) → first ≤ n → list_all (λ done. nat_eq done.clock n) entries ≡ true → is_in_time first (n + 1) entries ≡ true

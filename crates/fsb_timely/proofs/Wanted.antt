@@ -1,15 +1,15 @@
 -- What an agent wants is a line that none of its outstanding requests is for.
-use Rattle.std.proofs.Common.{ℕ, suc, ◌+◌, ◌≡◌, ◌≤◌, ◌<◌, min, Bool, true, false, not, ◌&&◌, ◌||◌, List, [], ◌∷◌, Option, Some, None, refl, ap, sym, subst, ◌∙◌, inl, inr, nat_eq, nat_le, length, arith}
+use Rattle.std.proofs.Common.{ℕ, ◌≡◌, min, Bool, true, false, not, ◌&&◌, ◌||◌, List, [], ◌∷◌, Option, Some, None, refl, sym, subst, inl, inr, nat_eq, nat_le, length, arith}
 use Rattle.std.proofs.lemmas.Bool.{cases_Bool, and_parts, cases_lt, both_ways, eqb-true, eq-eqb, not-true}
 use Rattle.std.specs.List.{find, filter, list_any}
 use Rattle.std.specs.Option.{option_map}
 use Rattle.fsb_encode.specs.declared.request.Request.{Request}
-use Rattle.fsb_timely.specs.Moments.{Claim, Owing}
+use Rattle.fsb_timely.specs.Moments.{Owing}
 use Rattle.fsb_timely.specs.Runs.{Past}
 use Rattle.fsb_timely.specs.Grants.{set_of, is_rival, lines_granted}
 use Rattle.fsb_timely.specs.Scripts.{Need, is_idling, window, needs_from}
 use Rattle.fsb_timely.specs.Hits.{is_met, is_dirty}
-use Rattle.fsb_timely.specs.Wants.{owed, is_asked_for, is_same_set, is_set_taken, is_missing, least_of, victim_of, free_id, request_for, write_back_of, want_for, want_of}
+use Rattle.fsb_timely.specs.Wants.{owed, is_asked_for, is_same_set, is_set_taken, is_missing, least_of, victim_of, request_for, write_back_of, want_for, want_of}
 
 -- what is found passes the test
 find-passes : {X : Type 0} (test : X → Bool) (xs : List X) (x : X) → find test xs ≡ Some x → test x ≡ true

@@ -1,4 +1,6 @@
 -- What happens at a clock, as the samples up to that clock show it. A request is known by its first clock.
+-- A later kind of request that gives a line without data is one more row of `makes_grant` and `is_owning` here, by its
+-- outcome of `is_got`, and of `request_for` in Wants, which says when it is asked for.
 use Rattle.std.specs.Prelude.{ℕ, ◌+◌, ◌*◌, ◌-◌, ◌&&◌, ◌||◌, Bool, true, false, not, nat_eq, nat_le, nat_lt, List, [], ◌∷◌, Option, Some, None, slice_get}
 use Rattle.std.specs.List.{filter, filter_map, list_any}
 use Rattle.std.specs.Option.{option_map, option_map_or, option_and_then}

@@ -4,6 +4,7 @@ use Rattle.fsb_access.specs.declared.access.Access.{Access}
 use Rattle.fsb_access.specs.declared.access.Setting.{Setting}
 use Rattle.fsb_access.specs.declared.log.Done.{Done}
 use Rattle.fsb_encode.specs.declared.request.Kind.TheVariants.{Read}
+use Rattle.fsb_encode.specs.declared.request.Request.{Request}
 use Rattle.fsb_hazard.specs.declared.choice.Choice.{Choice}
 use Rattle.fsb_hazard.specs.declared.choice.Ask.TheVariants.{Clock, Begun}
 use Rattle.fsb_hazard.specs.declared.line.HazardLine.{HazardLine}
@@ -46,20 +47,27 @@ entry clock agent item part access value =
 abbrev pub setting : ℕ → ℕ → Setting
 setting addr byte = record { addr = addr; byte = byte }
 
+-- a request: what an object that tells lines answers for it depends on its number alone
+abbrev pub some_request : Request
+some_request = record { kind = Read; line = 0; chunk = 0; did = 0; den = false }
+
 -- what an object that tells these lines answers for request k, BNR# left out
 abbrev pub choice_for : List HazardLine → ℕ → Choice
-choice_for lines k =
-    record (entry_of_lines lines (Begun k (record { kind = Read; line = 0; chunk = 0; did = 0; den = false }))) { bnr = false }
+choice_for lines k = record (entry_of_lines lines (Begun k some_request)) { bnr = false }
 
 -- its answers for the first n requests
 abbrev pub choices_for : List HazardLine → ℕ → List Choice
 choices_for lines zero = []
 choices_for lines (suc n) = choices_for lines n ++ choice_for lines n ∷ []
 
+-- whether it asks for BNR# at clock c
+abbrev pub hold_for : List HazardLine → ℕ → Bool
+hold_for lines c = (entry_of_lines lines (Clock c)).bnr
+
 -- whether it asks for BNR# at the first n clocks
 abbrev pub holds_for : List HazardLine → ℕ → List Bool
 holds_for lines zero = []
-holds_for lines (suc n) = holds_for lines n ++ (entry_of_lines lines (Clock n)).bnr ∷ []
+holds_for lines (suc n) = holds_for lines n ++ hold_for lines n ∷ []
 
 -- the seven parts together, and the data
 abbrev pub every_part : Part

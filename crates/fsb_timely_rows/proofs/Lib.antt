@@ -1,5 +1,6 @@
 pub mod LaidOut
 pub mod Tests
+pub mod AskedLines
 mod LoadThenStoreHit
 mod TwoAgentsOverlap
 mod StoreHandedOverBeforeArrival
@@ -18,3 +19,7 @@ mod LockedIncrements
 mod LockedItemRetried
 mod WriteBackHeldOff
 mod LookAheadTwo
+mod IdleFirst
+mod FourOutstanding
+mod SecondStoreWaits
+mod BurstOrderOfChunkThree

@@ -1,19 +1,22 @@
 -- The second request is to be retried, and the line that is handed over overrides it.
-use Rattle.std.proofs.Common.{◌≡◌, ◌≤◌, ℕ, zero, suc, refl, List, [], ◌∷◌, ◌++◌, Some, None, true, false, replicate, arith}
+use Rattle.std.proofs.Common.{◌≡◌, ℕ, zero, suc, refl, List, [], ◌∷◌, Some, None, true, false, replicate, arith}
 use Rattle.fsb_access.proofs.OrderLaws.{steps_of-nobody}
-use Rattle.fsb_access.specs.ScriptOrder.{InOrder, AreOfItems, script_of, steps_of}
-use Rattle.fsb_access.specs.declared.access.Access.TheVariants.{Load, Store}
-use Rattle.fsb_access.specs.declared.access.Operand.TheVariants.{Literal, LastPlus}
-use Rattle.fsb_access.specs.declared.item.Item.TheVariants.{One, Locked, Idle}
+use Rattle.fsb_access.specs.ScriptOrder.{AreOfItems, script_of, steps_of}
+use Rattle.fsb_access.specs.declared.access.Access.TheVariants.{Store}
+use Rattle.fsb_access.specs.declared.access.Operand.TheVariants.{Literal}
+use Rattle.fsb_access.specs.declared.item.Item.TheVariants.{One}
 use Rattle.fsb_access.specs.declared.log.Done.{Done}
-use Rattle.fsb_hazard.specs.declared.line.HazardLine.TheVariants.{Stall as StallLine, Retry as RetryLine, Defer as DeferLine, Aerr as AerrLine, Bnr as BnrLine}
+use Rattle.fsb_hazard.specs.declared.line.HazardLine.TheVariants.{Retry as RetryLine}
 use Rattle.fsb_script.specs.Plans.{PlanView}
-use Rattle.fsb_signal.specs.declared.lines.TheConstants.Lines.{BREQ0, BREQ1, BREQ2, BPRI, LOCK, BNR, ADS, AERR, HIT, HITM, DEFER, RS0, RS1, RS2, TRDY, DBSY, DRDY}
+use Rattle.fsb_signal.specs.declared.lines.TheConstants.Lines.{BREQ0, BREQ1, ADS, HITM, DEFER, RS0, RS1, RS2, TRDY, DBSY, DRDY}
 use Rattle.fsb_trace.specs.At.{Trace}
 use Rattle.fsb_timely.specs.Runs.{Run}
 use Rattle.fsb_timely.specs.Simulated.{Simulated}
-use Rattle.fsb_timely_rows.proofs.LaidOut.{clock, idle, changed, entry, setting, run_of, every_part}
+use Rattle.fsb_timely_rows.proofs.LaidOut.{clock, idle, changed, entry, run_of, every_part}
 use Rattle.fsb_timely_rows.proofs.Tests.{simulated_if}
+use Rattle.fsb_timely_rows.proofs.AskedLines.{asked_for_lines}
+use Rattle.fsb_timely.specs.Simulated.{Asked}
+use Rattle.fsb_hazard.specs.Entry.{entry as entry_of_lines}
 use Rattle.fsb_count.specs.Clocks.{first_where, last_where, any_where, count_where, all_where, nth_where, from_clock, holds_since}
 use Rattle.fsb_count.specs.Options.{is_some_and, is_before, is_at, greater_of}
 use Rattle.fsb_signal.specs.Samples.{line_at}
@@ -149,3 +152,6 @@ follows (suc (suc agent)) = record { items = 0; same = steps_of-nobody 2 (suc (s
 pub is_simulated : Simulated run
 unfolding bytes_at put_value requests_below count_where line_at is_in_time
 is_simulated = simulated_if run computes.0 refl refl refl refl (record { follows = follows; together = refl }) refl
+
+pub is_asked : Asked (Some (entry_of_lines plan.hazards) ∷ []) run.choices run.holds
+is_asked = asked_for_lines plan.hazards 2 60
