@@ -1,5 +1,6 @@
 pub mod EachClock
 pub mod Next
+pub mod Since
 pub mod Holding
 pub mod Wanted
 pub mod Items

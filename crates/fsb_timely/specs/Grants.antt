@@ -1,5 +1,5 @@
 -- Which agent has which line, said by the snoop ends and the requests that came before.
-use Rattle.std.specs.Prelude.{ℕ, ◌%◌, ◌&&◌, ◌||◌, Bool, true, false, not, nat_eq, List, Option, Some, None, slice_get}
+use Rattle.std.specs.Prelude.{◌≡◌, ◌<◌, IsTrue, ℕ, ◌%◌, ◌&&◌, ◌||◌, Bool, true, false, not, nat_eq, List, Option, Some, None, slice_get}
 use Rattle.std.specs.List.{filter_map, range_with_len}
 use Rattle.std.specs.Option.{option_and_then}
 use Rattle.fsb_count.specs.Options.{is_some_and, is_at}
@@ -68,6 +68,13 @@ is_lost p a line t = is_evicted p a line t || is_written_back p a line t || is_t
 -- agent a holds the line at c: it was granted to a below c, and not lost since
 unfoldable pub is_held : Past → ℕ → ℕ → ℕ → Bool
 is_held p a line c = holds_since (is_granted p a line) (is_lost p a line) c
+
+-- the line was granted to agent a below c, and a did not lose it between that clock and c
+pub record IsHeldSince (p : Past) (a line c : ℕ) : Type 0 where
+  pub at : ℕ
+  pub before : at < c
+  pub granted : IsTrue (is_granted p a line at)
+  pub kept : (t : ℕ) → at < t → t < c → is_lost p a line t ≡ false
 
 -- the latest grant of the line to agent a below c
 unfoldable pub latest_grant : Past → ℕ → ℕ → ℕ → Option Grant

@@ -1,10 +1,10 @@
 -- How a run grows, clock by clock.
+use Rattle.std.specs.Prelude.{ℕ, ◌+◌, ◌&&◌, ◌||◌, nat_eq, ◌≡◌, Bool, List, [], ◌∷◌, ◌++◌, length, IsTrue}
+use Rattle.std.specs.List.{list_all}
 use Rattle.fsb_count.specs.Options.{is_at}
 use Rattle.fsb_trace.specs.At.{Trace}
 use Rattle.fsb_trace.specs.Requests.{is_cancelled, is_live, live_number_of}
 use Rattle.fsb_trace.specs.Flight.{last_clock_of}
-use Rattle.std.specs.Prelude.{ℕ, ◌+◌, ◌&&◌, ◌||◌, nat_eq, ◌≡◌, Bool, List, [], ◌∷◌, ◌++◌, length, IsTrue}
-use Rattle.std.specs.List.{list_all}
 use Rattle.fsb_access.specs.declared.log.Done.{Done}
 use Rattle.fsb_hazard.specs.declared.choice.Choice.{Choice}
 use Rattle.fsb_signal.specs.declared.sample.Sample.{Sample}

@@ -8,7 +8,7 @@ ghost use Rattle.fsb_trace.specs.At.{Trace};
 ghost use Rattle.fsb_trace.specs.Snoop.{snoop_end_of};
 ghost use Rattle.fsb_trace.specs.Flight.{is_outstanding};
 ghost use Rattle.fsb_timely.specs.Runs.{Run, Past, run_to, past_of, past_to};
-ghost use Rattle.fsb_timely.specs.Grants.{grant_at, is_granted, is_lost, is_held, latest_grant, is_named_by_other, is_sole, is_exclusive};
+ghost use Rattle.fsb_timely.specs.Grants.{grant_at, is_granted, is_lost, is_held, IsHeldSince, latest_grant, is_named_by_other, is_sole, is_exclusive};
 ghost use Rattle.fsb_timely.specs.Scripts.{completes_at, is_logged_at, is_logged, next_number, next_item, window};
 ghost use Rattle.fsb_timely.specs.Wants.{owed, is_asked_for, want_of};
 ghost use Rattle.fsb_timely.specs.Timely.{Part, holds_at, keeps, AtEachClock, IsTimelyAt, Timely};
@@ -31,6 +31,11 @@ pub fn runs_grow()
 /// A part holds at each clock exactly where its test of the whole run passes.
 pub fn parts_are_tested()
     ensures { (part : Part) (r : Run) → IsTrue (keeps part r) ↔ AtEachClock part r }
+{}
+
+/// An agent holds a line exactly where the line was granted to it and it did not lose it since.
+pub fn held_lines_were_granted()
+    ensures { (p : Past) (a line c : ℕ) → IsTrue (is_held p a line c) ↔ IsHeldSince p a line c }
 {}
 
 /// What an agent holds, one clock further: a grant at the clock, or what it held and does not lose there. The latest grant
