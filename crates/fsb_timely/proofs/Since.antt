@@ -1,5 +1,5 @@
 -- What it says that something has held since a gain.
-use Rattle.std.proofs.Common.{ℕ, zero, suc, ◌+◌, ◌<◌, ◌≤◌, ◌≡◌, Bool, true, false, not, ◌&&◌, nat_le, Option, Some, None, IsTrue, refl, ap, sym, subst, ◌∙◌, inl, inr, arith}
+use Rattle.std.proofs.Common.{ℕ, zero, suc, ◌+◌, ◌<◌, ◌≤◌, ◌≡◌, Bool, true, false, not, ◌&&◌, Option, Some, None, refl, ap, sym, subst, ◌∙◌, inl, inr, arith}
 use Rattle.std.proofs.lemmas.Bool.{cases_Bool, cases_lt, le-leb, lt-leb, not-true, both_ways}
 use Rattle.fsb_count.specs.Clocks.{last_where, any_where, from_clock, holds_since}
 use Rattle.fsb_count.proofs.Any.{any_where-none, any_where-off}

@@ -11,4 +11,5 @@ pub mod Completions
 pub mod BusLock
 pub mod Timely
 pub mod Growth
+pub mod Tied
 pub mod Simulated

@@ -43,17 +43,17 @@ pub record Grant : Type 0 where
   pub owns : Bool
   pub shared : Bool
 
--- the snoop end of a live request: its first clock, its claim (a reply has none), its kind, its effective turn (0 to keep
--- it, 1 to retry it, two more than the clocks for which it is put off), its settled outcome, and the grant that it makes
+-- the snoop end of a live request: its first clock, its claim (a reply has none), its kind, its effective turn, its settled
+-- outcome, and the grant that it makes
 pub record SnoopEnd : Type 0 where
   pub first : ℕ
   pub claim : Option Claim
   pub kind : Option Kind
-  pub turn : ℕ
+  pub turn : Turn
   pub outcome : Outcome
   pub grant : Option Grant
 
--- an outstanding request: its claim, and its ID once it is decoded
+-- an outstanding request of a symmetric agent: its claim, and its ID once it is decoded
 pub record Owing : Type 0 where
   pub claim : Claim
   pub did : Option ℕ
@@ -70,7 +70,7 @@ pub record Moment : Type 0 where
   pub retried : Option ℕ
   -- the first clock of the live request whose end this is
   pub ended : Option ℕ
-  -- the outstanding requests
+  -- the outstanding requests of symmetric agents
   pub outstanding : List Owing
   -- the requests of symmetric agents that are in flight and have no snoop end below this clock
   pub unsnooped : List Claim
@@ -174,9 +174,9 @@ grant_of w turns i q s outcome =
     ]
 
 -- the snoop end s of live request i, whose first clock is q and whose effective turn is known
-unfoldable pub snoop_end_with : Trace → List ℕ → ℕ → ℕ → ℕ → ℕ → SnoopEnd
+unfoldable pub snoop_end_with : Trace → List ℕ → ℕ → ℕ → ℕ → Turn → SnoopEnd
 snoop_end_with w turns i q s turn =
-    let outcome = settled_by w turn i s in
+    let outcome = settled_by w (number_of_turn turn) i s in
     record {
       first = q;
       claim = claim_at w q;
@@ -186,17 +186,17 @@ snoop_end_with w turns i q s turn =
       grant = grant_of w turns i q s outcome;
     }
 
--- the effective turns of the snoop ends at the clocks of these moments, in order: snoop ends come in the order of the
--- live requests, so these are the turns of the live requests, from the first on
+-- the effective turns of the snoop ends at the clocks of these moments, as numbers and in order: snoop ends come in the
+-- order of the live requests, so these are the turns of the live requests, from the first on
 unfoldable pub turns_in : List Moment → List ℕ
 turns_in [] = []
-turns_in (moment ∷ moments) = elim moment.snooped [ None ↦ turns_in moments | Some s ↦ s.turn ∷ turns_in moments ]
+turns_in (moment ∷ moments) = elim moment.snooped [ None ↦ turns_in moments | Some s ↦ number_of_turn s.turn ∷ turns_in moments ]
 
 -- the snoop end at s, if there is one, after these moments
 unfoldable pub snoop_at : Option Window → List Choice → Trace → List Moment → ℕ → Option SnoopEnd
 snoop_at bridge choices w moments s =
     let turns = turns_in moments in
-    option_and_then (λ i. option_map (λ q. snoop_end_with w turns i q s (number_of_turn (effective_choice bridge choices w turns q s).turn)) (live_clock_of w i)) (number_snooped_at w s)
+    option_and_then (λ i. option_map (λ q. snoop_end_with w turns i q s (effective_choice bridge choices w turns q s).turn) (live_clock_of w i)) (number_snooped_at w s)
 
 -- the first clock of the request that AERR# at c cancels
 unfoldable pub cancelled_at : Trace → ℕ → Option ℕ

@@ -6,6 +6,8 @@ use Rattle.fsb_count.specs.Clocks.{any_where}
 use Rattle.fsb_signal.specs.declared.lines.TheConstants.Lines.{ADS, BNR, AERR, HIT, HITM, DEFER}
 use Rattle.fsb_signal.specs.Samples.{line_at}
 use Rattle.fsb_hazard.specs.declared.choice.Choice.{Choice}
+use Rattle.fsb_hazard.specs.declared.choice.Turn.{Turn}
+use Rattle.fsb_hazard.specs.declared.choice.Turn.TheVariants.{Keep, Retry, Defer}
 use Rattle.fsb_hazard.specs.Choice.{quiet_choice}
 use Rattle.fsb_trace.specs.At.{stalls_at}
 use Rattle.fsb_trace.specs.Requests.{live_clock_of, live_count, is_reply_kind}
@@ -34,9 +36,15 @@ unfoldable pub is_stall_chosen : Run → ℕ → ℕ → Bool
 is_stall_chosen r c i =
     is_some_and (snoop_start_of r.trace i) (λ start. any_where (λ m. nat_eq c (start + 2 * m)) (live_choice r i).stall)
 
+-- the turn is Keep
+unfoldable pub is_keep : Turn → Bool
+is_keep Keep = true
+is_keep Retry = false
+is_keep (Defer later) = false
+
 -- the snoop end at c has an effective turn that is not Keep
 unfoldable pub is_put_off : Past → ℕ → Bool
-is_put_off p c = is_some_and (snooped_at p c) (λ s. not (nat_eq s.turn 0))
+is_put_off p c = is_some_and (snooped_at p c) (λ s. not (is_keep s.turn))
 
 -- Hazard lines: BNR# is at c exactly where it is asked for; AERR# exactly where the request that began three clocks before
 -- is to be cancelled; HIT# and HITM# together exactly where a live request stalls; DEFER# exactly at a snoop end whose

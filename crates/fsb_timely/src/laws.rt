@@ -7,8 +7,10 @@ ghost use Rattle.fsb_signal.specs.Samples.{is_known_trace};
 ghost use Rattle.fsb_trace.specs.At.{Trace};
 ghost use Rattle.fsb_trace.specs.Snoop.{snoop_end_of};
 ghost use Rattle.fsb_trace.specs.Flight.{is_outstanding};
+ghost use Rattle.fsb_timely.specs.Moments.{SnoopEnd};
+ghost use Rattle.fsb_timely.specs.Tied.{IsSnoopOf};
 ghost use Rattle.fsb_timely.specs.Runs.{Run, Past, run_to, past_of, past_to};
-ghost use Rattle.fsb_timely.specs.Grants.{grant_at, is_granted, is_lost, is_held, IsHeldSince, latest_grant, is_named_by_other, is_sole, is_exclusive};
+ghost use Rattle.fsb_timely.specs.Grants.{snooped_at, grant_at, is_granted, is_lost, is_held, IsHeldSince, latest_grant, is_named_by_other, is_sole, is_exclusive};
 ghost use Rattle.fsb_timely.specs.Scripts.{completes_at, is_logged_at, is_logged, next_number, next_item, window};
 ghost use Rattle.fsb_timely.specs.Wants.{owed, is_asked_for, want_of};
 ghost use Rattle.fsb_timely.specs.Timely.{Part, holds_at, keeps, AtEachClock, IsTimelyAt, Timely};
@@ -31,6 +33,13 @@ pub fn runs_grow()
 /// A part holds at each clock exactly where its test of the whole run passes.
 pub fn parts_are_tested()
     ensures { (part : Part) (r : Run) → IsTrue (keeps part r) ↔ AtEachClock part r }
+{}
+
+/// The moments of a run have the snoop ends of its whole trace, and no others: each live request whose snoop end is reached
+/// has it in the moment of that clock, with its first clock, claim, kind, turn and settled outcome.
+pub fn moments_have_the_snoop_ends()
+    ensures reached { (r : Run) (i t : ℕ) → snoop_end_of r.trace i ≡ Some t → (s : SnoopEnd) × IsSnoopOf r i t s }
+    ensures told { (r : Run) (t : ℕ) (s : SnoopEnd) → snooped_at (past_of r) t ≡ Some s → (i : ℕ) × IsSnoopOf r i t s }
 {}
 
 /// An agent holds a line exactly where the line was granted to it and it did not lose it since.

@@ -19,6 +19,7 @@ mod LockedIncrements
 mod LockedItemRetried
 mod WriteBackHeldOff
 mod LookAheadTwo
+mod EmptyRun
 mod IdleFirst
 mod FourOutstanding
 mod SecondStoreWaits
