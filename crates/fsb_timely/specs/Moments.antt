@@ -68,7 +68,8 @@ pub record Moment : Type 0 where
   pub snooped : Option SnoopEnd
   -- the first clock of the live request whose response this is, where the response is Retry
   pub retried : Option ℕ
-  -- the first clock of the live request whose end this is
+  -- the first clock of the live request whose end this is; where responses come as they must there is one at most, since
+  -- each comes after the end before it
   pub ended : Option ℕ
   -- the outstanding requests of symmetric agents
   pub outstanding : List Owing
