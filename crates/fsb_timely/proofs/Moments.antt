@@ -14,7 +14,7 @@ use Rattle.fsb_trace.specs.Requests.{is_live, live_count, live_clock_of}
 use Rattle.fsb_trace.specs.Snoop.{snoop_end_of}
 use Rattle.fsb_trace.proofs.AgreeAt.{AgreeTo-sym}
 use Rattle.fsb_trace.proofs.Stay.{snoop_end_of-clock, snoop_end_of-stays, live_clock_of-stays}
-use Rattle.fsb_timely.specs.Moments.{SnoopEnd, Moment, moment_at, snoop_at, snoop_end_with, number_snooped_at, turns_in, effective_choice}
+use Rattle.fsb_timely.specs.Moments.{SnoopEnd, Moment, moment_at, snoop_at, snoop_end_if_begun, snoop_end_for, snoop_end_with, number_snooped_at, turns_in, effective_choice}
 use Rattle.fsb_timely.specs.Runs.{Run, run_to, moments_below, past_of}
 use Rattle.fsb_timely.specs.Grants.{snooped_at}
 use Rattle.fsb_timely.proofs.Next.{length-moments}
@@ -87,8 +87,8 @@ snoop_of r t i q =
 
 -- the moment of t has the snoop end of the live request that has it there in the run up to t
 snooped-as : (r : Run) (t i q : ℕ) → number_snooped_at (run_to r t).trace t ≡ Some i → live_clock_of (run_to r t).trace i ≡ Some q → (moment_of r t).snooped ≡ Some (snoop_of r t i q)
-unfolding snoop_at moment_at
-snooped-as r t i q e f = rw (e, snoop_at, f) refl
+unfolding snoop_at snoop_end_if_begun snoop_end_for moment_at
+snooped-as r t i q e f = rw (e, snoop_at, snoop_end_if_begun, f) refl
 
 -- the run up to t and the run agree up to t
 pub run_to-agrees : (r : Run) (t : ℕ) → t < length r.trace → AgreeTo (t + 1) r.trace (run_to r t).trace

@@ -1,5 +1,6 @@
 -- Completions: which entries the log has at a clock.
 use Rattle.std.specs.Prelude.{ℕ, ◌+◌, ◌&&◌, ◌||◌, Bool, true, false, not, nat_eq, nat_le, nat_lt, List, [], ◌∷◌, ◌++◌, map}
+use Rattle.fsb_access.specs.declared.item.Item.{Item}
 use Rattle.fsb_access.specs.declared.log.Done.{Done}
 use Rattle.std.specs.List.{list_any, list_all, filter}
 use Rattle.std.specs.Option.{option_map_or}
@@ -47,10 +48,14 @@ pub record Completed : Type 0 where
   pub agent : ℕ
   pub step : Step
 
+-- the accesses of item n of agent a, in order
+unfoldable pub completed_of_item : ℕ → ℕ → Item → List Completed
+completed_of_item a n item = map (λ step. record { agent = a; step = step }) (steps_of_item n item)
+
 -- the accesses of agent a's next item at c, in order
 unfoldable pub next_accesses : Past → ℕ → ℕ → List Completed
 next_accesses p a c =
-    option_map_or (λ n. option_map_or (λ item. map (λ step. record { agent = a; step = step }) (steps_of_item n item)) (next_item p a c) []) (next_number p a c) []
+    option_map_or (λ n. option_map_or (completed_of_item a n) (next_item p a c) []) (next_number p a c) []
 
 -- agent a's accesses, where the test says that it completes its next item
 unfoldable pub completed_if : Past → ℕ → Bool → ℕ → List Completed

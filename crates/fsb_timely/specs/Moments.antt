@@ -160,11 +160,16 @@ is_owner_request request = is_some_and request (λ r. is_owning r.kind)
 unfoldable pub is_shared_at : Trace → ℕ → Bool
 is_shared_at w s = line_at HIT w s || line_at HITM w s
 
+-- the request that begins at q gives the claim's line to the claim's agent
+unfoldable pub grant_to : ℕ → Bool → Bool → Claim → Grant
+grant_to q owns shared claim =
+    record { first = q; agent = claim.agent; line = claim.line; owns = owns; shared = shared }
+
 -- the grant by the request that begins at q and has its snoop end at s, where it serves live request j: the agent and
 -- the line are those of j's claim, and j's kind says whether the agent owns the line
 unfoldable pub grant_for : Trace → ℕ → ℕ → ℕ → Option Grant
 grant_for w q s j =
-    option_map (λ claim. record { first = q; agent = claim.agent; line = claim.line; owns = is_owner_request (live_request_of w j); shared = is_shared_at w s }) (live_claim_of w j)
+    option_map (grant_to q (is_owner_request (live_request_of w j)) (is_shared_at w s)) (live_claim_of w j)
 
 -- the grant that live request i makes at its snoop end s, if it makes one; q is its first clock
 unfoldable pub grant_of : Trace → List ℕ → ℕ → ℕ → ℕ → Outcome → Option Grant
@@ -191,13 +196,24 @@ snoop_end_with w turns i q s turn =
 -- order of the live requests, so these are the turns of the live requests, from the first on
 unfoldable pub turns_in : List Moment → List ℕ
 turns_in [] = []
-turns_in (moment ∷ moments) = elim moment.snooped [ None ↦ turns_in moments | Some s ↦ number_of_turn s.turn ∷ turns_in moments ]
+turns_in (moment ∷ moments) =
+    elim moment.snooped [ None ↦ turns_in moments | Some s ↦ number_of_turn s.turn ∷ turns_in moments ]
+
+-- the snoop end s of live request i, whose first clock is q, after these turns
+unfoldable pub snoop_end_for : Option Window → List Choice → Trace → List ℕ → ℕ → ℕ → ℕ → SnoopEnd
+snoop_end_for bridge choices w turns s i q =
+    snoop_end_with w turns i q s (effective_choice bridge choices w turns q s).turn
+
+-- the snoop end s of live request i, if its first clock is there, after these turns
+unfoldable pub snoop_end_if_begun : Option Window → List Choice → Trace → List ℕ → ℕ → ℕ → Option SnoopEnd
+snoop_end_if_begun bridge choices w turns s i =
+    option_map (snoop_end_for bridge choices w turns s i) (live_clock_of w i)
 
 -- the snoop end at s, if there is one, after these moments
 unfoldable pub snoop_at : Option Window → List Choice → Trace → List Moment → ℕ → Option SnoopEnd
 snoop_at bridge choices w moments s =
     let turns = turns_in moments in
-    option_and_then (λ i. option_map (λ q. snoop_end_with w turns i q s (effective_choice bridge choices w turns q s).turn) (live_clock_of w i)) (number_snooped_at w s)
+    option_and_then (snoop_end_if_begun bridge choices w turns s) (number_snooped_at w s)
 
 -- the first clock of the request that AERR# at c cancels
 unfoldable pub cancelled_at : Trace → ℕ → Option ℕ
@@ -219,7 +235,8 @@ ended_at w c = option_and_then (live_clock_of w) (first_where (λ i. is_at (end_
 -- the request that begins at q, as an outstanding one
 unfoldable pub owing_at : Trace → ℕ → Option Owing
 owing_at w q =
-    option_map (λ claim. record { claim = claim; did = option_map (λ request. request.did) (request_at w q) }) (claim_at w q)
+    let did = option_map (λ request. request.did) (request_at w q) in
+    option_map (λ claim. record { claim = claim; did = did }) (claim_at w q)
 
 -- the request that begins at q has its snoop end at the clock of this moment
 unfoldable pub is_snoop_of : ℕ → Moment → Bool

@@ -142,10 +142,19 @@ locked_need earlier group access = record {
   earlier = earlier;
 }
 
+-- the need of an access by itself
+unfoldable pub plain_need : List ℕ → Access → Need
+plain_need earlier access = record {
+  line = line_of access;
+  alone = not (is_load access);
+  chunk = chunk_of access;
+  locked = false;
+  earlier = earlier;
+}
+
 -- the needs of an item, in access order, after items with these lines
 unfoldable pub needs_after : List ℕ → Item → List Need
-needs_after earlier (One access) =
-    record { line = line_of access; alone = not (is_load access); chunk = chunk_of access; locked = false; earlier = earlier } ∷ []
+needs_after earlier (One access) = plain_need earlier access ∷ []
 needs_after earlier (Locked group) = map (locked_need earlier group) group
 needs_after earlier (Idle clocks) = []
 

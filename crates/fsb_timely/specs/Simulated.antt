@@ -8,6 +8,7 @@ use Rattle.fsb_count.specs.Clocks.{last_where}
 use Rattle.fsb_access.specs.ByteMemory.{ByteMemory, bytes_at, memory_of}
 use Rattle.fsb_access.specs.Replay.{Served, start_of, replay}
 use Rattle.fsb_access.specs.ScriptOrder.{InOrder}
+use Rattle.fsb_access.specs.declared.item.Item.{Item}
 use Rattle.fsb_encode.specs.declared.request.Request.{Request}
 use Rattle.fsb_hazard.specs.declared.choice.Choice.{Choice}
 use Rattle.fsb_hazard.specs.declared.choice.Ask.{Ask}
@@ -18,14 +19,14 @@ use Rattle.fsb_line.specs.declared.state.Mesi.TheVariants.{Invalid}
 use Rattle.fsb_trace.specs.declared.outcome.Outcome.{Outcome}
 use Rattle.fsb_trace.specs.declared.outcome.Outcome.TheVariants.{Granted, Handed, Retried, Deferred, Written, Replied, Failed}
 use Rattle.fsb_trace.specs.Requests.{live_count}
-use Rattle.fsb_trace.specs.Outcome.{response_clock_of, settled_outcome_of}
+use Rattle.fsb_trace.specs.Outcome.{response_clock_of}
 use Rattle.fsb_trace.specs.Response.{end_of}
-use Rattle.fsb_timely.specs.Moments.{turns_in, live_claim_of}
+use Rattle.fsb_timely.specs.Moments.{live_claim_of}
 use Rattle.fsb_timely.specs.Runs.{Run, Past, past_of}
 use Rattle.fsb_timely.specs.Grants.{is_held, is_ready}
 use Rattle.fsb_timely.specs.Scripts.{needs_of}
 use Rattle.fsb_timely.specs.Hits.{state_of}
-use Rattle.fsb_timely.specs.Transfers.{memory_below, carries_data}
+use Rattle.fsb_timely.specs.Transfers.{memory_below, settled_of, carries_data}
 use Rattle.fsb_timely.specs.Timely.{AtEachClock, Timely}
 
 -- Carried: at each data clock D# has the chunk that is due, as it stands in the replay of the log below the response
@@ -73,9 +74,13 @@ pub record Asked (objects : List Told) (choices : List Choice) (holds : List Boo
   pub chosen : (k : ℕ) (choice : Choice) → slice_get choices k ≡ Some choice → IsChosen objects k choice
   pub held : (c : ℕ) (hold : Bool) → slice_get holds c ≡ Some hold → IsHold objects c hold
 
+-- the item names the line
+unfoldable pub is_named_in : ℕ → Item → Bool
+is_named_in line item = list_any (λ need. nat_eq need.line line) (needs_of item)
+
 -- the line is one that the scripts name
 unfoldable pub is_named : Run → ℕ → Bool
-is_named r line = list_any (λ items. list_any (λ item. list_any (λ need. nat_eq need.line line) (needs_of item)) items) r.plan.scripts
+is_named r line = list_any (λ items. list_any (is_named_in line) items) r.plan.scripts
 
 -- the 32 bytes of a line
 unfoldable pub line_bytes : ByteMemory → ℕ → List ℕ
@@ -99,18 +104,25 @@ is_taken Failed = false
 unfoldable pub is_put : Run → Past → ℕ → ℕ → Bool
 is_put r p line i =
     is_some_and (live_claim_of r.trace i) (λ claim. nat_eq claim.line line)
-    && is_some_and (settled_outcome_of r.trace (turns_in p.moments) i) is_taken
+    && is_some_and (settled_of r p i) is_taken
     && is_before (end_of r.trace i) (length r.trace)
+
+-- the last live request that put the line into memory
+unfoldable pub number_put : Run → ℕ → Option ℕ
+number_put r line = last_where (is_put r (past_of r) line) (live_count r.trace)
 
 -- the response clock of the last live request that put the line into memory
 unfoldable pub put_clock : Run → ℕ → Option ℕ
-put_clock r line = option_and_then (response_clock_of r.trace) (last_where (is_put r (past_of r) line) (live_count r.trace))
+put_clock r line = option_and_then (response_clock_of r.trace) (number_put r line)
 
 -- the bytes that memory has of the line: those of the replay below the response of the last request that put it there,
 -- or those of the plan
 unfoldable pub bytes_put : Run → ℕ → List ℕ
 bytes_put r line =
-    elim (put_clock r line) [ Some response ↦ line_bytes (memory_below r response) line | None ↦ line_bytes (memory_of r.plan.mem) line ]
+    elim (put_clock r line) [
+      | Some response ↦ line_bytes (memory_below r response) line
+      | None ↦ line_bytes (memory_of r.plan.mem) line
+    ]
 
 -- the caches (of an agent and a line: its state and its bytes) and the memory (of a line: its bytes) are those of the run,
 -- for each agent and each line that the scripts name: a line that is not held is Invalid; one that is held and ready has

@@ -1,5 +1,5 @@
 -- Hazards and snoop results: what is on BNR#, AERR#, HIT#, HITM# and DEFER#.
-use Rattle.std.specs.Prelude.{ℕ, ◌+◌, ◌-◌, ◌*◌, ◌&&◌, ◌||◌, Bool, true, false, not, nat_eq, nat_le, Some, None, slice_get}
+use Rattle.std.specs.Prelude.{ℕ, ◌+◌, ◌-◌, ◌*◌, ◌&&◌, ◌||◌, Bool, true, false, not, nat_eq, nat_le, Option, Some, None, slice_get}
 use Rattle.std.specs.Option.{option_map_or, option_and_then}
 use Rattle.fsb_count.specs.Options.{is_some_and}
 use Rattle.fsb_count.specs.Clocks.{any_where}
@@ -73,10 +73,14 @@ is_dirty_for p c s = is_some_and s.claim (λ claim. is_dirty_elsewhere p claim.a
 unfoldable pub is_held_for : Past → ℕ → SnoopEnd → Bool
 is_held_for p c s = is_some_and s.claim (λ claim. is_held_elsewhere p claim.agent claim.line c)
 
--- the live request whose snoop end is c is a reply, and HIT# was at the snoop end of the request that it answers
+-- the live request that is served by the one whose snoop end is c
+unfoldable pub number_served_at : Run → Past → ℕ → Option ℕ
+number_served_at r p c =
+    option_and_then (served_number r.trace (turns_in p.moments)) (number_snooped_at r.trace c)
+
+-- HIT# was at the snoop end of the live request that is served at c
 unfoldable pub was_hit_before : Run → Past → ℕ → Bool
-was_hit_before r p c =
-    is_some_and (option_and_then (served_number r.trace (turns_in p.moments)) (number_snooped_at r.trace c)) (line_at_snoop_end HIT r.trace)
+was_hit_before r p c = is_some_and (number_served_at r p c) (line_at_snoop_end HIT r.trace)
 
 -- the snoop end at c is that of a reply
 unfoldable pub is_reply_end : SnoopEnd → Bool

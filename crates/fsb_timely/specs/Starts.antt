@@ -63,6 +63,10 @@ request_begun r p c = option_and_then (start_of r p c) (winner_at r.trace c)
 unfoldable pub no_pair : Pair
 no_pair = record { addr = 0; req = 0 }
 
+-- the request that the winner at the clock before c would begin there
+unfoldable pub request_begun_before : Run → Past → ℕ → Option Request
+request_begun_before r p c = request_begun (run_to r (c - 1)) (past_to p (c - 1)) (c - 1)
+
 -- the address and REQ words that c is to have: the first pair of the request that begins at c, the second pair of the one
 -- that began at the clock before, and otherwise no bits
 unfoldable pub pair_due : Run → Past → ℕ → Option Pair
@@ -70,7 +74,7 @@ pair_due r p c =
     elim (line_at ADS r.trace c) [
       | true ↦ option_map (λ request. (pairs_of request).0) (request_begun r p c)
       | false ↦ elim (line_back ADS r.trace c 1) [
-        | true ↦ option_map (λ request. (pairs_of request).1) (request_begun (run_to r (c - 1)) (past_to p (c - 1)) (c - 1))
+        | true ↦ option_map (λ request. (pairs_of request).1) (request_begun_before r p c)
         | false ↦ Some no_pair
       ]
     ]

@@ -11,6 +11,8 @@ use Rattle.fsb_signal.specs.Samples.{line_at, data_at}
 use Rattle.fsb_trace.specs.At.{Trace, response_code_at}
 use Rattle.fsb_trace.specs.Requests.{live_count, live_request_of}
 use Rattle.fsb_trace.specs.Snoop.{snoop_end_of}
+use Rattle.fsb_encode.specs.declared.request.Request.{Request}
+use Rattle.fsb_trace.specs.declared.outcome.Outcome.{Outcome}
 use Rattle.fsb_trace.specs.Outcome.{does_move, response_code_of, response_clock_of, settled_outcome_of}
 use Rattle.fsb_trace.specs.Response.{takes, data_clock_of, end_of, ready_clock_of}
 use Rattle.fsb_timely.specs.Moments.{turns_in, served_number}
@@ -42,14 +44,21 @@ is_response_clock r c i =
       | false ↦ is_at (option_map (λ f. f + (live_choice r i).resp) (answer_from r.trace i)) c
     ]
 
--- the response code that c is to have: that of the settled outcome of the live request that responds at c, or 0
+-- the settled outcome of live request i
+unfoldable pub settled_of : Run → Past → ℕ → Option Outcome
+settled_of r p i = settled_outcome_of r.trace (turns_in p.moments) i
+
+-- the live request that is to respond at c
+unfoldable pub number_responding : Run → ℕ → Option ℕ
+number_responding r c = first_where (is_response_clock r c) (live_count r.trace)
+
+-- the response code that c is to have: that of the settled outcome of the live request that is to respond there, or 0
 unfoldable pub code_due : Run → Past → ℕ → ℕ
-code_due r p c =
-    option_map_or response_code_of (option_and_then (settled_outcome_of r.trace (turns_in p.moments)) (first_where (is_response_clock r c) (live_count r.trace))) 0
+code_due r p c = option_map_or response_code_of (option_and_then (settled_of r p) (number_responding r c)) 0
 
 -- the settled outcome of live request i is one with which data move
 unfoldable pub settles_to_move : Run → Past → ℕ → Bool
-settles_to_move r p i = is_some_and (settled_outcome_of r.trace (turns_in p.moments) i) does_move
+settles_to_move r p i = is_some_and (settled_of r p i) does_move
 
 -- the clocks from one chunk of live request i to the next
 unfoldable pub chunk_step : Run → ℕ → ℕ
@@ -97,15 +106,24 @@ memory_below r n = (replay (start_of r.plan.mem) (filter (λ done. nat_lt done.c
 unfoldable pub chunk_value : ByteMemory → ℕ → ℕ → ℕ
 chunk_value memory line chunk = value_at memory (line * 32 + chunk * 8) 8
 
--- the n-th chunk, from 0, of the data of a request for this line with this first chunk, as it stands in the replay of the
--- entries below the response
-unfoldable pub carried_value : Run → ℕ → ℕ → ℕ → ℕ → ℕ
-carried_value r line chunk n response = chunk_value (memory_below r response) line (slice_index (burst_of chunk) n)
+-- the n-th chunk, from 0, of the data of this request with this response clock: a chunk of its line, in burst order from
+-- its own one, as it stands in the replay of the entries below the response
+unfoldable pub carried_value : Run → ℕ → ℕ → Request → ℕ
+carried_value r n response request =
+    chunk_value (memory_below r response) request.line (slice_index (burst_of request.chunk) n)
 
--- D# at c is the n-th chunk of live request i: a reply has line and chunk of the request that it answers
+-- the request whose line and chunk live request i has: its own ones, and for a reply those of the request that it answers
+unfoldable pub served_request : Run → Past → ℕ → Option Request
+served_request r p i = option_and_then (live_request_of r.trace) (served_number r.trace (turns_in p.moments) i)
+
+-- D# at c is the n-th chunk of live request i, whose response clock is known
+unfoldable pub carries_from : Run → Past → ℕ → ℕ → ℕ → ℕ → Bool
+carries_from r p c i n response =
+    is_some_and (served_request r p i) (λ request. nat_eq (data_at r.trace c).bits (carried_value r n response request))
+
+-- D# at c is the n-th chunk of live request i
 unfoldable pub carries : Run → Past → ℕ → ℕ → ℕ → Bool
-carries r p c i n =
-    is_some_and (option_and_then (live_request_of r.trace) (served_number r.trace (turns_in p.moments) i)) (λ request. is_some_and (response_clock_of r.trace i) (λ response. nat_eq (data_at r.trace c).bits (carried_value r request.line request.chunk n response)))
+carries r p c i n = is_some_and (response_clock_of r.trace i) (carries_from r p c i n)
 
 -- where c is the n-th data clock of live request i, D# carries its n-th chunk
 unfoldable pub carries_if_due : Run → Past → ℕ → ℕ → ℕ → Bool

@@ -20,14 +20,18 @@ ghost use Rattle.fsb_timely.specs.Growth.{IsNext, IsWhole, is_last_clock};
 /// clock are the same, and so is each test of them.
 pub fn each_part_stays()
     ensures run { (r s : Run) (c : ℕ) → IsNext r s → IsWhole r → c < length r.trace → run_to s c ≡ run_to r c }
-    ensures past { (r s : Run) (c : ℕ) → IsNext r s → IsWhole r → c < length r.trace → past_to (past_of s) c ≡ past_to (past_of r) c }
-    ensures part { (part : Part) (r s : Run) (c : ℕ) → IsNext r s → IsWhole r → c < length r.trace → holds_at part s c ≡ holds_at part r c }
+    ensures past { (r s : Run) (c : ℕ) → IsNext r s → IsWhole r → c < length r.trace
+        → past_to (past_of s) c ≡ past_to (past_of r) c }
+    ensures part { (part : Part) (r s : Run) (c : ℕ) → IsNext r s → IsWhole r → c < length r.trace
+        → holds_at part s c ≡ holds_at part r c }
 {}
 
 /// A run that is timely stays so with one more clock at which the parts hold, and so does a part by itself.
 pub fn runs_grow()
-    ensures part { (part : Part) (r s : Run) → IsNext r s → IsWhole r → AtEachClock part r → IsTrue (holds_at part s (length r.trace)) → AtEachClock part s }
-    ensures timely { (r s : Run) → Timely r → IsNext r s → IsWhole s → IsTrue (is_known_trace s.trace) → IsTimelyAt s (length r.trace) → Timely s }
+    ensures part { (part : Part) (r s : Run) → IsNext r s → IsWhole r → AtEachClock part r
+        → IsTrue (holds_at part s (length r.trace)) → AtEachClock part s }
+    ensures timely { (r s : Run) → Timely r → IsNext r s → IsWhole s → IsTrue (is_known_trace s.trace)
+        → IsTimelyAt s (length r.trace) → Timely s }
 {}
 
 /// A part holds at each clock exactly where its test of the whole run passes.
@@ -51,9 +55,12 @@ pub fn held_lines_were_granted()
 /// is then the one at the clock, or stays. The line is the agent's own by a sole grant, or stays its own where it is not
 /// lost and no other agent names it.
 pub fn held_lines_step()
-    ensures held { (p : Past) (a line c : ℕ) → is_held p a line (c + 1) ≡ (is_granted p a line c || (is_held p a line c && not (is_lost p a line c))) }
-    ensures latest { (p : Past) (a line c : ℕ) → latest_grant p a line (c + 1) ≡ (if is_granted p a line c then grant_at p c else latest_grant p a line c) }
-    ensures exclusive { (p : Past) (a line c : ℕ) → is_exclusive p a line (c + 1) ≡ (if is_granted p a line c then is_some_and (grant_at p c) is_sole else (is_exclusive p a line c && (not (is_lost p a line c) && not (is_named_by_other p a line c)))) }
+    ensures held { (p : Past) (a line c : ℕ)
+        → is_held p a line (c + 1) ≡ (is_granted p a line c || (is_held p a line c && not (is_lost p a line c))) }
+    ensures latest { (p : Past) (a line c : ℕ)
+        → latest_grant p a line (c + 1) ≡ (if is_granted p a line c then grant_at p c else latest_grant p a line c) }
+    ensures exclusive { (p : Past) (a line c : ℕ)
+        → is_exclusive p a line (c + 1) ≡ (if is_granted p a line c then is_some_and (grant_at p c) is_sole else (is_exclusive p a line c && (not (is_lost p a line c) && not (is_named_by_other p a line c)))) }
 {}
 
 /// An agent without an entry at a clock stays where it is in its script; an item is done from the clock after its entry on.
@@ -66,7 +73,8 @@ pub fn scripts_step()
 
 /// A request that began before a clock stays outstanding after it, unless that is its last clock as such.
 pub fn outstanding_requests_step()
-    ensures { (w : Trace) (c q : ℕ) → q < c → is_outstanding w (c + 1) q ≡ (is_outstanding w c q && not (is_last_clock w c q)) }
+    ensures { (w : Trace) (c q : ℕ) → q < c
+        → is_outstanding w (c + 1) q ≡ (is_outstanding w c q && not (is_last_clock w c q)) }
 {}
 
 /// A clock is the snoop end of one live request at most.
@@ -76,5 +84,6 @@ pub fn one_snoop_end_at_a_clock()
 
 /// What an agent wants is a line that none of its outstanding requests is for.
 pub fn wants_are_new()
-    ensures { (p : Past) (a c : ℕ) (request : Request) → want_of p a c ≡ Some request → is_asked_for (owed p a c) request.line ≡ false }
+    ensures { (p : Past) (a c : ℕ) (request : Request) → want_of p a c ≡ Some request
+        → is_asked_for (owed p a c) request.line ≡ false }
 {}
