@@ -1,3 +1,4 @@
+pub mod Opened
 pub mod LaidOut
 pub mod Tests
 pub mod AskedLines
