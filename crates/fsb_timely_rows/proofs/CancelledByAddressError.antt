@@ -22,13 +22,13 @@ use Rattle.fsb_hazard.specs.Entry.{entry as entry_of_lines}
 
 abbrev pub plan : PlanView
 plan = record {
-  scripts = ((One (Load 1 0x40) ∷ []) ∷ []);
+  scripts = (One (Load 1 0x40) ∷ []) ∷ [];
   clocks = 60;
   cache = 64;
   ahead = 1;
   bridge = None;
-  mem = ([]);
-  hazards = (AerrLine 0 ∷ []);
+  mem = [];
+  hazards = AerrLine 0 ∷ [];
 }
 
 abbrev pub trace : Trace
@@ -36,13 +36,13 @@ trace =
     clock (BREQ0 ∷ []) 0x0 0x0 0x0
     ∷ clock (BREQ0 ∷ []) 0x0 0x0 0x0
     ∷ clock (BREQ0 ∷ ADS ∷ []) 0x6 0x8 0x0
-    ∷ clock ([]) 0x2 0x2 0x0
+    ∷ clock [] 0x2 0x2 0x0
     ∷ idle
     ∷ clock (AERR ∷ []) 0x0 0x0 0x0
     ∷ clock (BREQ0 ∷ []) 0x0 0x0 0x0
     ∷ clock (BREQ0 ∷ []) 0x0 0x0 0x0
     ∷ clock (BREQ0 ∷ ADS ∷ []) 0x6 0x8 0x0
-    ∷ clock ([]) 0x2 0x2 0x0
+    ∷ clock [] 0x2 0x2 0x0
     ∷ idle
     ∷ idle
     ∷ idle

@@ -24,13 +24,13 @@ use Rattle.fsb_hazard.specs.Entry.{entry as entry_of_lines}
 
 abbrev pub plan : PlanView
 plan = record {
-  scripts = ((One (Load 1 0x1000) ∷ []) ∷ (One (Store 1 0x1000 (Literal 0x3)) ∷ []) ∷ []);
+  scripts = (One (Load 1 0x1000) ∷ []) ∷ (One (Store 1 0x1000 (Literal 0x3)) ∷ []) ∷ [];
   clocks = 60;
   cache = 64;
   ahead = 1;
   bridge = Some (record { base = 0x1000; size = 0x20 });
-  mem = ([]);
-  hazards = (DeferLine 0 10 ∷ []);
+  mem = [];
+  hazards = DeferLine 0 10 ∷ [];
 }
 
 abbrev pub trace : Trace
@@ -50,7 +50,7 @@ trace =
     ∷ clock (BREQ1 ∷ []) 0x0 0x0 0x0
     ∷ clock (BREQ1 ∷ []) 0x0 0x0 0x0
     ∷ clock (BREQ1 ∷ ADS ∷ []) 0x2 0x200 0x0
-    ∷ clock ([]) 0x2 0x20002 0x0
+    ∷ clock [] 0x2 0x20002 0x0
     ∷ idle
     ∷ idle
     ∷ clock (DEFER ∷ []) 0x0 0x0 0x0
@@ -60,7 +60,7 @@ trace =
     ∷ clock (BREQ1 ∷ []) 0x0 0x0 0x0
     ∷ clock (BREQ1 ∷ []) 0x0 0x0 0x0
     ∷ clock (BREQ1 ∷ ADS ∷ []) 0x2 0x200 0x0
-    ∷ clock ([]) 0x2 0x20002 0x0
+    ∷ clock [] 0x2 0x20002 0x0
     ∷ idle
     ∷ clock (RS0 ∷ RS1 ∷ RS2 ∷ DBSY ∷ DRDY ∷ []) 0x0 0x0 0x0
     ∷ clock (HIT ∷ DBSY ∷ DRDY ∷ []) 0x0 0x0 0x0

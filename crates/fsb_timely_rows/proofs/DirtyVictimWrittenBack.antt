@@ -22,13 +22,13 @@ use Rattle.fsb_hazard.specs.Entry.{entry as entry_of_lines}
 
 abbrev pub plan : PlanView
 plan = record {
-  scripts = ((One (Store 1 0x40 (Literal 0x1)) ∷ One (Load 1 0x80) ∷ One (Load 1 0x40) ∷ []) ∷ []);
+  scripts = (One (Store 1 0x40 (Literal 0x1)) ∷ One (Load 1 0x80) ∷ One (Load 1 0x40) ∷ []) ∷ [];
   clocks = 60;
   cache = 1;
   ahead = 1;
   bridge = None;
-  mem = ([]);
-  hazards = ([]);
+  mem = [];
+  hazards = [];
 }
 
 abbrev pub trace : Trace
@@ -36,7 +36,7 @@ trace =
     clock (BREQ0 ∷ []) 0x0 0x0 0x0
     ∷ clock (BREQ0 ∷ []) 0x0 0x0 0x0
     ∷ clock (BREQ0 ∷ ADS ∷ []) 0x2 0x8 0x0
-    ∷ clock ([]) 0x2 0x2 0x0
+    ∷ clock [] 0x2 0x2 0x0
     ∷ idle
     ∷ idle
     ∷ idle
@@ -48,7 +48,7 @@ trace =
     ∷ clock (BREQ0 ∷ []) 0x0 0x0 0x0
     ∷ clock (BREQ0 ∷ []) 0x0 0x0 0x0
     ∷ clock (BREQ0 ∷ ADS ∷ []) 0x5 0x8 0x0
-    ∷ clock ([]) 0x2 0x0 0x0
+    ∷ clock [] 0x2 0x0 0x0
     ∷ idle
     ∷ idle
     ∷ idle
@@ -62,7 +62,7 @@ trace =
     ∷ clock (BREQ0 ∷ []) 0x0 0x0 0x0
     ∷ clock (BREQ0 ∷ []) 0x0 0x0 0x0
     ∷ clock (BREQ0 ∷ ADS ∷ []) 0x6 0x10 0x0
-    ∷ clock ([]) 0x2 0x2 0x0
+    ∷ clock [] 0x2 0x2 0x0
     ∷ idle
     ∷ idle
     ∷ idle
@@ -74,7 +74,7 @@ trace =
     ∷ clock (BREQ0 ∷ []) 0x0 0x0 0x0
     ∷ clock (BREQ0 ∷ []) 0x0 0x0 0x0
     ∷ clock (BREQ0 ∷ ADS ∷ []) 0x6 0x8 0x0
-    ∷ clock ([]) 0x2 0x2 0x0
+    ∷ clock [] 0x2 0x2 0x0
     ∷ idle
     ∷ idle
     ∷ idle

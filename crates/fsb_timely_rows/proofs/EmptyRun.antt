@@ -20,13 +20,13 @@ use Rattle.fsb_hazard.specs.Entry.{entry as entry_of_lines}
 
 abbrev pub plan : PlanView
 plan = record {
-  scripts = ((One (Load 1 0x40) ∷ One (Store 1 0x41 (Literal 0x5)) ∷ []) ∷ []);
+  scripts = (One (Load 1 0x40) ∷ One (Store 1 0x41 (Literal 0x5)) ∷ []) ∷ [];
   clocks = 0;
   cache = 64;
   ahead = 1;
   bridge = None;
-  mem = (setting 0x40 0x07 ∷ []);
-  hazards = ([]);
+  mem = setting 0x40 0x07 ∷ [];
+  hazards = [];
 }
 
 abbrev pub trace : Trace

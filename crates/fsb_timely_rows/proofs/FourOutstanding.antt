@@ -22,13 +22,13 @@ use Rattle.fsb_hazard.specs.Entry.{entry as entry_of_lines}
 
 abbrev pub plan : PlanView
 plan = record {
-  scripts = ((One (Load 1 0x40) ∷ One (Load 1 0x80) ∷ One (Load 1 0xc0) ∷ One (Load 1 0x100) ∷ []) ∷ []);
+  scripts = (One (Load 1 0x40) ∷ One (Load 1 0x80) ∷ One (Load 1 0xc0) ∷ One (Load 1 0x100) ∷ []) ∷ [];
   clocks = 60;
   cache = 64;
   ahead = 4;
   bridge = None;
-  mem = ([]);
-  hazards = ([]);
+  mem = [];
+  hazards = [];
 }
 
 abbrev pub trace : Trace
@@ -36,11 +36,11 @@ trace =
     clock (BREQ0 ∷ []) 0x0 0x0 0x0
     ∷ clock (BREQ0 ∷ []) 0x0 0x0 0x0
     ∷ clock (BREQ0 ∷ ADS ∷ []) 0x6 0x8 0x0
-    ∷ clock ([]) 0x2 0x2 0x0
+    ∷ clock [] 0x2 0x2 0x0
     ∷ clock (BREQ0 ∷ []) 0x0 0x0 0x0
     ∷ clock (BREQ0 ∷ []) 0x0 0x0 0x0
     ∷ clock (BREQ0 ∷ ADS ∷ []) 0x6 0x10 0x0
-    ∷ clock ([]) 0x2 0x2002 0x0
+    ∷ clock [] 0x2 0x2002 0x0
     ∷ clock (BREQ0 ∷ RS0 ∷ RS1 ∷ RS2 ∷ DBSY ∷ DRDY ∷ []) 0x0 0x0 0x0
     ∷ clock (BREQ0 ∷ DBSY ∷ DRDY ∷ []) 0x0 0x0 0x0
     ∷ clock (BREQ0 ∷ ADS ∷ DBSY ∷ DRDY ∷ []) 0x6 0x18 0x0

@@ -25,3 +25,4 @@ mod IdleFirst
 mod FourOutstanding
 mod SecondStoreWaits
 mod BurstOrderOfChunkThree
+mod CachesAndMemory

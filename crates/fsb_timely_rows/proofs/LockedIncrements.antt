@@ -23,13 +23,13 @@ use Rattle.fsb_hazard.specs.Entry.{entry as entry_of_lines}
 
 abbrev pub plan : PlanView
 plan = record {
-  scripts = ((Locked (Load 1 0x40 ∷ Store 1 0x40 (LastPlus 0x1) ∷ []) ∷ []) ∷ (Locked (Load 1 0x40 ∷ Store 1 0x40 (LastPlus 0x1) ∷ []) ∷ []) ∷ []);
+  scripts = (Locked (Load 1 0x40 ∷ Store 1 0x40 (LastPlus 0x1) ∷ []) ∷ []) ∷ (Locked (Load 1 0x40 ∷ Store 1 0x40 (LastPlus 0x1) ∷ []) ∷ []) ∷ [];
   clocks = 60;
   cache = 64;
   ahead = 1;
   bridge = None;
-  mem = ([]);
-  hazards = ([]);
+  mem = [];
+  hazards = [];
 }
 
 abbrev pub trace : Trace

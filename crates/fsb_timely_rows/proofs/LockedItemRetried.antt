@@ -24,13 +24,13 @@ use Rattle.fsb_hazard.specs.Entry.{entry as entry_of_lines}
 
 abbrev pub plan : PlanView
 plan = record {
-  scripts = ((Locked (Store 1 0x40 (Literal 0x1) ∷ Store 1 0x80 (Literal 0x2) ∷ []) ∷ []) ∷ []);
+  scripts = (Locked (Store 1 0x40 (Literal 0x1) ∷ Store 1 0x80 (Literal 0x2) ∷ []) ∷ []) ∷ [];
   clocks = 60;
   cache = 64;
   ahead = 1;
   bridge = None;
-  mem = ([]);
-  hazards = (RetryLine 1 ∷ []);
+  mem = [];
+  hazards = RetryLine 1 ∷ [];
 }
 
 abbrev pub trace : Trace

@@ -21,13 +21,13 @@ use Rattle.fsb_hazard.specs.Entry.{entry as entry_of_lines}
 
 abbrev pub plan : PlanView
 plan = record {
-  scripts = ((One (Load 1 0x40) ∷ One (Load 1 0x80) ∷ []) ∷ []);
+  scripts = (One (Load 1 0x40) ∷ One (Load 1 0x80) ∷ []) ∷ [];
   clocks = 60;
   cache = 64;
   ahead = 2;
   bridge = None;
-  mem = ([]);
-  hazards = ([]);
+  mem = [];
+  hazards = [];
 }
 
 abbrev pub trace : Trace
@@ -35,11 +35,11 @@ trace =
     clock (BREQ0 ∷ []) 0x0 0x0 0x0
     ∷ clock (BREQ0 ∷ []) 0x0 0x0 0x0
     ∷ clock (BREQ0 ∷ ADS ∷ []) 0x6 0x8 0x0
-    ∷ clock ([]) 0x2 0x2 0x0
+    ∷ clock [] 0x2 0x2 0x0
     ∷ clock (BREQ0 ∷ []) 0x0 0x0 0x0
     ∷ clock (BREQ0 ∷ []) 0x0 0x0 0x0
     ∷ clock (BREQ0 ∷ ADS ∷ []) 0x6 0x10 0x0
-    ∷ clock ([]) 0x2 0x2002 0x0
+    ∷ clock [] 0x2 0x2002 0x0
     ∷ clock (RS0 ∷ RS1 ∷ RS2 ∷ DBSY ∷ DRDY ∷ []) 0x0 0x0 0x0
     ∷ clock (DBSY ∷ DRDY ∷ []) 0x0 0x0 0x0
     ∷ clock (DBSY ∷ DRDY ∷ []) 0x0 0x0 0x0
@@ -65,7 +65,7 @@ run0 = run_of plan 1 (changed trace 3 (clock (BREQ0 ∷ []) 0x2 0x2 0x0)) log
 
 -- both requests have one ID
 abbrev pub run1 : Run
-run1 = run_of plan 2 (changed trace 7 (clock ([]) 0x2 0x2 0x0)) log
+run1 = run_of plan 2 (changed trace 7 (clock [] 0x2 0x2 0x0)) log
 
 -- the second load is not asked for ahead
 abbrev pub run2 : Run

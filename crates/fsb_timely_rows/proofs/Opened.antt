@@ -21,6 +21,7 @@ use Rattle.fsb_timely.specs.Hits.{is_met, is_served, is_hit, is_store_on, is_cou
 use Rattle.fsb_timely.specs.Moments.{agent_at, claim_at, choice_at, number_of_turn, is_in_window, effective_choice, number_snooped_at, is_answered_by, served_number, live_claim_of, is_got, makes_grant, is_owning, is_owner_request, is_shared_at, grant_to, grant_for, grant_of, snoop_end_with, turns_in, snoop_end_for, snoop_end_if_begun, snoop_at, cancelled_at, retried_at, ended_at, owing_at, is_snoop_of, is_snooped_in, moment_at}
 use Rattle.fsb_timely.specs.Runs.{requests_below, entries_to, run_to, moments_below, past_of, past_to}
 use Rattle.fsb_timely.specs.Scripts.{is_idle, is_locked, idle_count, is_load, items_of, is_done_by, is_done_at, completes_at, is_logged, is_logged_at, is_to_do, next_number, next_item, last_done, idle_clocks, idle_start, number_after, is_idling, plain_items, window_from, window_at, window, first_chunk, locked_need, plain_need, needs_after, needs_of, needs_from}
+use Rattle.fsb_timely.specs.Simulated.{is_named_in, is_named, line_bytes, bytes_now, is_taken, is_put, number_put, put_clock, bytes_put}
 use Rattle.fsb_timely.specs.Snoops.{is_bnr_chosen, is_error_chosen, live_choice, is_stall_chosen, is_keep, is_put_off, drives_hazards, is_dirty_elsewhere, is_held_elsewhere, is_dirty_for, is_held_for, number_served_at, was_hit_before, is_reply_end, has_right_result, has_snoop_result}
 use Rattle.fsb_timely.specs.Starts.{is_exactly, each_where, reply_to, due_number, start_of, is_kept_back, may_begin, request_begun, no_pair, request_begun_before, pair_due, starts_requests, began_before, reply_before, asks_for_bus, drives_request_lines}
 use Rattle.fsb_timely.specs.Timely.{holds_in, holds_at, keeps}
@@ -55,14 +56,15 @@ unfolding
     ended_at owing_at is_snoop_of is_snooped_in moment_at requests_below entries_to run_to moments_below past_of
     past_to is_idle is_locked idle_count is_load items_of is_done_by is_done_at completes_at is_logged is_logged_at
     is_to_do next_number next_item last_done idle_clocks idle_start number_after is_idling plain_items window_from
-    window_at window first_chunk locked_need plain_need needs_after needs_of needs_from is_bnr_chosen is_error_chosen
-    live_choice is_stall_chosen is_keep is_put_off drives_hazards is_dirty_elsewhere is_held_elsewhere is_dirty_for
-    is_held_for number_served_at was_hit_before is_reply_end has_right_result has_snoop_result is_exactly each_where
-    reply_to due_number start_of is_kept_back may_begin request_begun no_pair request_begun_before pair_due
-    starts_requests began_before reply_before asks_for_bus drives_request_lines holds_in holds_at keeps
-    two_after_snoop answer_from is_ready_clock is_response_clock settled_of number_responding code_due
-    settles_to_move chunk_step is_data_clock_from has_data_at is_busy_from is_busy_at drives_responses burst_of
-    memory_below chunk_value carried_value served_request carries_from carries carries_if_due carries_data owed
-    is_asked_for is_same_set is_set_taken is_missing least_of victim_of id_of has_id free_id request_for
-    write_back_of want_for want_of is_open_to_other is_held_back
+    window_at window first_chunk locked_need plain_need needs_after needs_of needs_from is_named_in is_named
+    line_bytes bytes_now is_taken is_put number_put put_clock bytes_put is_bnr_chosen is_error_chosen live_choice
+    is_stall_chosen is_keep is_put_off drives_hazards is_dirty_elsewhere is_held_elsewhere is_dirty_for is_held_for
+    number_served_at was_hit_before is_reply_end has_right_result has_snoop_result is_exactly each_where reply_to
+    due_number start_of is_kept_back may_begin request_begun no_pair request_begun_before pair_due starts_requests
+    began_before reply_before asks_for_bus drives_request_lines holds_in holds_at keeps two_after_snoop answer_from
+    is_ready_clock is_response_clock settled_of number_responding code_due settles_to_move chunk_step
+    is_data_clock_from has_data_at is_busy_from is_busy_at drives_responses burst_of memory_below chunk_value
+    carried_value served_request carries_from carries carries_if_due carries_data owed is_asked_for is_same_set
+    is_set_taken is_missing least_of victim_of id_of has_id free_id request_for write_back_of want_for want_of
+    is_open_to_other is_held_back
 opened = true

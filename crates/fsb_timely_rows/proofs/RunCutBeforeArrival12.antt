@@ -22,13 +22,13 @@ use Rattle.fsb_hazard.specs.Entry.{entry as entry_of_lines}
 
 abbrev pub plan : PlanView
 plan = record {
-  scripts = ((One (Store 1 0x40 (Literal 0x1)) ∷ []) ∷ (One (Store 1 0x40 (Literal 0x2)) ∷ []) ∷ []);
+  scripts = (One (Store 1 0x40 (Literal 0x1)) ∷ []) ∷ (One (Store 1 0x40 (Literal 0x2)) ∷ []) ∷ [];
   clocks = 12;
   cache = 64;
   ahead = 1;
   bridge = None;
-  mem = ([]);
-  hazards = ([]);
+  mem = [];
+  hazards = [];
 }
 
 abbrev pub trace : Trace
@@ -39,7 +39,7 @@ trace =
     ∷ clock (BREQ1 ∷ []) 0x2 0x2 0x0
     ∷ clock (BREQ1 ∷ []) 0x0 0x0 0x0
     ∷ clock (BREQ1 ∷ ADS ∷ []) 0x2 0x8 0x0
-    ∷ clock ([]) 0x2 0x20002 0x0
+    ∷ clock [] 0x2 0x20002 0x0
     ∷ idle
     ∷ clock (RS0 ∷ RS1 ∷ RS2 ∷ DBSY ∷ DRDY ∷ []) 0x0 0x0 0x0
     ∷ clock (HITM ∷ DBSY ∷ DRDY ∷ []) 0x0 0x0 0x0

@@ -23,13 +23,13 @@ use Rattle.fsb_hazard.specs.Entry.{entry as entry_of_lines}
 
 abbrev pub plan : PlanView
 plan = record {
-  scripts = ((One (Load 1 0x40) ∷ One (Store 1 0x40 (Literal 0x1)) ∷ []) ∷ (One (Load 1 0x40) ∷ []) ∷ []);
+  scripts = (One (Load 1 0x40) ∷ One (Store 1 0x40 (Literal 0x1)) ∷ []) ∷ (One (Load 1 0x40) ∷ []) ∷ [];
   clocks = 60;
   cache = 64;
   ahead = 1;
   bridge = None;
-  mem = ([]);
-  hazards = ([]);
+  mem = [];
+  hazards = [];
 }
 
 abbrev pub trace : Trace
@@ -40,7 +40,7 @@ trace =
     ∷ clock (BREQ1 ∷ []) 0x2 0x2 0x0
     ∷ clock (BREQ1 ∷ []) 0x0 0x0 0x0
     ∷ clock (BREQ1 ∷ ADS ∷ []) 0x6 0x8 0x0
-    ∷ clock ([]) 0x2 0x20002 0x0
+    ∷ clock [] 0x2 0x20002 0x0
     ∷ idle
     ∷ clock (RS0 ∷ RS1 ∷ RS2 ∷ DBSY ∷ DRDY ∷ []) 0x0 0x0 0x0
     ∷ clock (HIT ∷ DBSY ∷ DRDY ∷ []) 0x0 0x0 0x0
