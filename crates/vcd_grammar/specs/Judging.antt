@@ -91,23 +91,23 @@ drafted d word =
 abbrev pub is_declared : List ℕ → ℕ → Bool
 is_declared lines number = list_any (λ n. n == number) lines
 
--- a variable that is no line
-abbrev pub other_declared : Known → Draft → Turn
-other_declared k d = goes_to (record k { codes = with_code k.codes d.code [] }) Header
+-- a variable of this code that is no line
+abbrev pub other_declared : Known → List ℕ → Turn
+other_declared k code = goes_to (record k { codes = with_code k.codes code [] }) Header
 
--- a line, which is unknown until it gets a value
-abbrev pub line_declared : Known → Draft → ℕ → Turn
-line_declared k d number = record {
-  known = record k { mode = Header; lines = k.lines ++ number ∷ []; codes = with_code k.codes d.code (number ∷ []) };
+-- a line of this code, which is unknown until it gets a value
+abbrev pub line_declared : Known → List ℕ → ℕ → Turn
+line_declared k code number = record {
+  known = record k { mode = Header; lines = k.lines ++ number ∷ []; codes = with_code k.codes code (number ∷ []) };
   events = Changed (record { lines = number ∷ []; digits = 120 ∷ [] }) ∷ [];
 }
 
 -- a variable of a line's name is that line, where its type allows it and no earlier variable is; it must have the line's width
 abbrev pub named : Known → Draft → ℕ → Option ℕ → Turn
-named k d width None = other_declared k d
+named k d width None = other_declared k d.code
 named k d width (Some number) =
-    if not d.is_line || is_declared k.lines number then other_declared k d
-    else (if width == width_of number then line_declared k d number else fails k d.place causes.Width)
+    if not d.is_line || is_declared k.lines number then other_declared k d.code
+    else (if width == width_of number then line_declared k d.code number else fails k d.place causes.Width)
 
 -- a declaration at its `$end`: it has four tokens at least, its width is a number, and its code is one
 abbrev pub with_width : Known → Draft → Option ℕ → Turn
@@ -142,12 +142,15 @@ header_turn k place Ends = stays k
 header_turn k place Opens = goes_to k Skipped
 header_turn k place Bare = fails k place causes.Header
 
--- a time stamp, behind the last one: a greater time ends the block, an equal one goes on with it
+-- a greater time, which ends the block
+abbrev pub later : Known → ℕ → Turn
+later k time = record { known = record k { time = Some time }; events = Later ∷ [] }
+
+-- a time stamp, behind the last one: the first and each greater one ends the block, an equal one goes on with it
 abbrev pub stamped : Known → ℕ → ℕ → Option ℕ → Turn
-stamped k place time None = record { known = record k { time = Some time }; events = Later ∷ [] }
+stamped k place time None = later k time
 stamped k place time (Some last) =
-    if nat_lt time last then fails k place causes.TimeBack
-    else (if nat_lt last time then record { known = record k { time = Some time }; events = Later ∷ [] } else stays k)
+    if nat_lt time last then fails k place causes.TimeBack else (if nat_lt last time then later k time else stays k)
 
 -- a scalar change, whose code has these lines
 abbrev pub scalar_turn : Known → ℕ → ℕ → Option (List ℕ) → Turn

@@ -29,9 +29,10 @@ unknown_at levels number = option_map_or (λ (l : Level). l.unknown) (slice_get 
 -- the control lines as one number, from what each signal has
 unfoldable pub control_of : (ℕ → ℕ) → ℕ
 control_of bit =
-    bit 1 % 2 + 2 * (bit 2 % 2) + 4 * (bit 3 % 2) + 8 * (bit 4 % 2) + 16 * (bit 5 % 2) + 32 * (bit 6 % 2)
-    + 64 * (bit 7 % 2) + 128 * (bit 8 % 2) + 256 * (bit 11 % 2) + 512 * (bit 12 % 2) + 1024 * (bit 13 % 2)
-    + 2048 * (bit 14 % 2) + 4096 * (bit 15 % 8) + 32768 * (bit 16 % 2) + 65536 * (bit 17 % 2) + 131072 * (bit 18 % 2)
+    (bit 1 % 2 + 2 * (bit 2 % 2) + 4 * (bit 3 % 2) + 8 * (bit 4 % 2) + 16 * (bit 5 % 2) + 32 * (bit 6 % 2)
+    + 64 * (bit 7 % 2) + 128 * (bit 8 % 2))
+    + (256 * (bit 11 % 2) + 512 * (bit 12 % 2) + 1024 * (bit 13 % 2) + 2048 * (bit 14 % 2) + 4096 * (bit 15 % 8)
+    + 32768 * (bit 16 % 2) + 65536 * (bit 17 % 2) + 131072 * (bit 18 % 2))
 
 -- the bits of a number that are not among others
 unfoldable pub without : ℕ → ℕ → ℕ

@@ -1,6 +1,6 @@
 //! Numbers, and the digits of a value.
 
-ghost use Rattle.std.specs.Prelude.{◌≡◌, ◌≤◌, ◌<◌, ◌^◌, length, slice_index};
+ghost use Rattle.std.specs.Prelude.{◌≡◌, ◌≤◌, ◌<◌, ◌+◌, ◌-◌, ◌*◌, ◌^◌, length, slice_index, IfSome, IfNone};
 ghost use Rattle.vcd_grammar.specs.Tokens.{is_white, is_long};
 ghost use Rattle.vcd_grammar.specs.Digits.{is_digit, number_up_to, width_in, time_in, is_unknown, is_open, is_value_digit, pad_of};
 
@@ -27,9 +27,19 @@ fn is_digit(byte: u8) -> bool
     48 <= byte && byte <= 57
 }
 
+/// The number with one more digit, where it fits.
+fn next_number(number: u64, byte: u8) -> Option<u64>
+    requires { 48 ≤ byte }
+    ensures fits { IfSome result (λ n. n ≡ number * 10 + (byte - 48)) }
+    ensures past { IfNone result (2 ^ 64 ≤ number * 10 + (byte - 48)) }
+{
+    let tens = number.checked_mul(10)?;
+    tens.checked_add(u64::from(byte - 48))
+}
+
 /// The decimal number that a word is, where it is one and not above the limit.
 fn number_up_to(limit: u64, word: &[u8]) -> Option<u64>
-    ensures value { result ≡ number_up_to limit word.now }
+    ensures { result ≡ number_up_to limit word.now }
 {
     if word.is_empty() {
         return None;
@@ -39,7 +49,10 @@ fn number_up_to(limit: u64, word: &[u8]) -> Option<u64>
         if !is_digit(*byte) {
             return None;
         }
-        number = number.checked_mul(10)?.checked_add(u64::from(*byte - 48))?;
+        match next_number(number, *byte) {
+            Some(more) => number = more,
+            None => return None,
+        }
     }
     if number <= limit { Some(number) } else { None }
 }
@@ -87,5 +100,9 @@ pub(crate) fn is_value_digit(byte: u8) -> bool
 pub(crate) fn pad_of(first: u8) -> u8
     ensures { result ≡ pad_of first }
 {
-    if is_unknown(first) || is_open(first) { first } else { b'0' }
+    if is_unknown(first) || is_open(first) {
+        first
+    } else {
+        b'0'
+    }
 }

@@ -19,4 +19,6 @@ mod mode;
 mod reader;
 mod scan;
 mod stop;
+#[cfg(test)]
+mod tests;
 mod words;

@@ -1,19 +1,20 @@
 //! What a token says by itself.
 
-ghost use Rattle.std.specs.Prelude.{◌≡◌, not, take, nat_le, ◌==◌, ◌&&◌, length};
-ghost use Rattle.std.specs.List.{list_all};
+ghost use Rattle.std.specs.Prelude.{◌≡◌, ◌≤◌, not, ◌==◌, nat_eq, length, position};
+ghost use Rattle.std.specs.List.{list_all, prefix_len};
+ghost use Rattle.std.specs.Cmp.Lexicographic.{pointwise};
 ghost use Rattle.vcd_grammar.specs.Digits.{is_value_digit};
 ghost use Rattle.vcd_grammar.specs.Words.{is_end, is_dollar, is_read_past, is_foreign_type, name_in, is_code};
 ghost use Rattle.fsb_signal.specs.Table.{signal_number};
 
 use crate::digits::is_value_digit;
-use fsb_signal::SIGNALS;
+use fsb_signal::{SIGNALS, Signal};
 
 /// Whether the token ends a section.
 pub(crate) fn is_end(word: &[u8]) -> bool
     ensures { result ≡ is_end word.now }
 {
-    *b"$end" == *word
+    b"$end".as_slice() == word
 }
 
 /// Whether the token begins with `$`.
@@ -31,8 +32,8 @@ pub(crate) fn is_dollar(word: &[u8]) -> bool
 pub(crate) fn is_read_past(word: &[u8]) -> bool
     ensures { result ≡ is_read_past word.now }
 {
-    (*b"$dumpvars" == *word || *b"$dumpall" == *word)
-        || ((*b"$dumpon" == *word || *b"$dumpoff" == *word) || is_end(word))
+    (b"$dumpvars".as_slice() == word || b"$dumpall".as_slice() == word)
+        || ((b"$dumpon".as_slice() == word || b"$dumpoff".as_slice() == word) || is_end(word))
 }
 
 /// Whether a variable of this type is no line, whatever its name.
@@ -40,19 +41,36 @@ pub(crate) fn is_read_past(word: &[u8]) -> bool
 pub(crate) fn is_foreign_type(word: &[u8]) -> bool
     ensures { result ≡ is_foreign_type word.now }
 {
-    *b"real" == *word || (*b"realtime" == *word || *b"string" == *word)
+    b"real".as_slice() == word || (b"realtime".as_slice() == word || b"string".as_slice() == word)
+}
+
+/// How many bytes stand before a `[`.
+fn name_len(reference: &[u8]) -> usize
+    ensures value { result ≡ prefix_len (λ b. not (b == 91)) reference.now }
+    ensures within { result ≤ length reference.now }
+{
+    for (i, byte) in reference.iter().enumerate() {
+        if *byte == b'[' {
+            return i;
+        }
+    }
+    reference.len()
 }
 
 /// The name in a reference: what stands before a `[`.
 fn name_in(reference: &[u8]) -> &[u8]
     ensures { result.now ≡ name_in reference.now }
 {
-    for (i, byte) in reference.iter().enumerate() {
-        if *byte == b'[' {
-            return &reference[..i];
-        }
-    }
-    reference
+    &reference[..name_len(reference)]
+}
+
+// The place of the first of the signals with this name.
+fn place_of(signals: &[Signal], name: &[u8]) -> Option<usize>
+    ensures { result ≡ position (λ s. pointwise nat_eq s.name.now name.now) signals.now }
+{
+    signals
+        .iter()
+        .position(|signal| signal.name.as_bytes() == name)
 }
 
 /// The number of the line that a reference names, if it is one.
@@ -60,7 +78,7 @@ pub(crate) fn line_in(reference: &[u8]) -> Option<u8>
     ensures { result ≡ signal_number (name_in reference.now) }
 {
     let name = name_in(reference);
-    let number = SIGNALS.iter().position(|signal| signal.name.as_bytes() == name)?;
+    let number = place_of(&SIGNALS, name)?;
     Some(number as u8)
 }
 

@@ -1,0 +1,70 @@
+-- What an agent holds, one clock further.
+use Rattle.std.proofs.Common.{ℕ, ◌+◌, ◌≡◌, Bool, true, false, not, ◌&&◌, ◌||◌, Some, refl, ap, ◌∙◌, inl, inr, add-one, if◌then◌else◌}
+use Rattle.std.proofs.lemmas.Bool.{cases_Bool}
+use Rattle.std.specs.Option.{option_and_then}
+use Rattle.fsb_count.specs.Options.{is_some_and}
+use Rattle.fsb_count.specs.Clocks.{last_where, holds_since}
+use Rattle.fsb_count.proofs.Since.{holds_since-more}
+use Rattle.fsb_timely.specs.Runs.{Past}
+use Rattle.fsb_timely.specs.Grants.{grant_at, is_granted, is_lost, is_held, latest_grant, is_named_by_other, is_sole, is_exclusive}
+
+-- a grant, and otherwise what was held and is not lost
+pub is_held-more : (p : Past) (a line c : ℕ) → is_held p a line (c + 1) ≡ (is_granted p a line c || (is_held p a line c && not (is_lost p a line c)))
+unfolding is_held
+is_held-more p a line c = holds_since-more (is_granted p a line) (is_lost p a line) c
+
+last-passed : (test : ℕ → Bool) (n : ℕ) → test n ≡ true → last_where test (n + 1) ≡ Some n
+unfolding last_where
+last-passed test n t = ap (last_where test) (add-one n) ∙ rw (t, last_where) refl
+
+last-failed : (test : ℕ → Bool) (n : ℕ) → test n ≡ false → last_where test (n + 1) ≡ last_where test n
+unfolding last_where
+last-failed test n f = ap (last_where test) (add-one n) ∙ rw (f, last_where) refl
+
+latest-granted : (p : Past) (a line c : ℕ) → is_granted p a line c ≡ true → latest_grant p a line (c + 1) ≡ grant_at p c
+unfolding latest_grant
+latest-granted p a line c t = ap (option_and_then (grant_at p)) (last-passed (is_granted p a line) c t)
+
+latest-kept : (p : Past) (a line c : ℕ) → is_granted p a line c ≡ false → latest_grant p a line (c + 1) ≡ latest_grant p a line c
+unfolding latest_grant
+latest-kept p a line c f = ap (option_and_then (grant_at p)) (last-failed (is_granted p a line) c f)
+
+-- the grant at c is the latest one from then on, and otherwise the latest one stays
+pub latest_grant-more : (p : Past) (a line c : ℕ) → latest_grant p a line (c + 1) ≡ (if is_granted p a line c then grant_at p c else latest_grant p a line c)
+latest_grant-more p a line c =
+    elim (cases_Bool (is_granted p a line c)) [
+      | inl t ↦ rw t (latest-granted p a line c t)
+      | inr f ↦ rw f (latest-kept p a line c f)
+    ]
+
+regrouped : (h d s n l : Bool) → ((h && d) && s && (n && l)) ≡ ((h && s && n) && (d && l))
+regrouped false d s n l = refl
+regrouped true true true n l = refl
+regrouped true true false n l = refl
+regrouped true false true true l = refl
+regrouped true false true false l = refl
+regrouped true false false n l = refl
+
+and-true : (b : Bool) → (b && true) ≡ b
+and-true true = refl
+and-true false = refl
+
+is_exclusive-granted : (p : Past) (a line c : ℕ) → is_granted p a line c ≡ true → is_exclusive p a line (c + 1) ≡ is_some_and (grant_at p c) is_sole
+unfolding is_exclusive
+is_exclusive-granted p a line c t =
+    rw (is_held-more p a line c, holds_since-more (is_granted p a line) (is_named_by_other p a line) c, latest-granted p a line c t, t) (and-true (is_some_and (grant_at p c) is_sole))
+
+is_exclusive-kept : (p : Past) (a line c : ℕ) → is_granted p a line c ≡ false → is_exclusive p a line (c + 1) ≡ (is_exclusive p a line c && (not (is_lost p a line c) && not (is_named_by_other p a line c)))
+unfolding is_exclusive
+is_exclusive-kept p a line c f =
+    rw (is_held-more p a line c, holds_since-more (is_granted p a line) (is_named_by_other p a line) c, latest-kept p a line c f, f) (regrouped (is_held p a line c) (not (is_lost p a line c)) (is_some_and (latest_grant p a line c) is_sole) (holds_since (is_granted p a line) (is_named_by_other p a line) c) (not (is_named_by_other p a line c)))
+
+-- a sole grant, and otherwise a line that was the agent's for itself, is not lost, and is named by no other agent
+pub is_exclusive-more : (p : Past) (a line c : ℕ) → is_exclusive p a line (c + 1)
+    ≡ (if is_granted p a line c then is_some_and (grant_at p c) is_sole else (is_exclusive p a line c && (not (is_lost p a line c) && not (is_named_by_other p a line c))))
+unfolding is_exclusive
+is_exclusive-more p a line c =
+    elim (cases_Bool (is_granted p a line c)) [
+      | inl t ↦ rw t (is_exclusive-granted p a line c t)
+      | inr f ↦ rw f (is_exclusive-kept p a line c f)
+    ]

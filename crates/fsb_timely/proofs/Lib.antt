@@ -1,0 +1,12 @@
+pub mod EachClock
+pub mod Next
+pub mod Since
+pub mod Holding
+pub mod TurnOrder
+pub mod Moments
+pub mod EndCount
+pub mod TiedMoments
+pub mod Wanted
+pub mod Items
+pub mod OneEnd
+pub mod Outstanding

@@ -1,0 +1,157 @@
+-- What the moments of a run say of a snoop end is what the whole trace says.
+use Rattle.std.proofs.Common.{ℕ, zero, suc, ◌+◌, ◌<◌, ◌≤◌, ◌≡◌, ◌/◌, [], ◌∷◌, ◌++◌, Option, Some, None, length, slice_index, is_some, refl, sym, ap, subst, ◌∙◌, inl, inr, arith, add-one}
+use Rattle.std.proofs.lemmas.Bool.{cases_lt}
+use Rattle.std.proofs.lemmas.List.{length-append, get_or_append_left}
+use Rattle.std.proofs.Math.Seq.{get_or-append_seam}
+use Rattle.std.specs.Option.{option_map, option_and_then}
+use Rattle.fsb_count.specs.Clocks.{count_where}
+use Rattle.fsb_count.proofs.Count.{count_where-passed, count_where-failed, count_where-mono}
+use Rattle.fsb_trace.specs.declared.who.Who.TheVariants.{Symmetric, Priority}
+use Rattle.fsb_trace.specs.At.{Trace}
+use Rattle.fsb_trace.specs.Agree.{AgreeTo}
+use Rattle.fsb_trace.specs.Requests.{live_clock_of, line_of}
+use Rattle.fsb_trace.specs.Snoop.{snoop_end_of}
+use Rattle.fsb_trace.specs.Outcome.{settled_by, settled_outcome_of}
+use Rattle.fsb_signal.specs.declared.lines.TheConstants.Lines.{HITM}
+use Rattle.fsb_trace.proofs.AgreeAt.{line_at-agree, winner_at-agree, request_at-agree}
+use Rattle.fsb_trace.proofs.Stay.{snoop_end_of-clock}
+use Rattle.fsb_trace.proofs.StayEnds.{live_request_of-stays}
+use Rattle.fsb_timely.specs.Moments.{SnoopEnd, claim_at, agent_at, number_of_turn, turns_in, number_snooped_at, snoop_end_with}
+use Rattle.fsb_timely.specs.Runs.{Run, run_to, moments_below, past_of}
+use Rattle.fsb_timely.specs.Grants.{snooped_at}
+use Rattle.fsb_timely.specs.Tied.{IsSnoopOf}
+use Rattle.fsb_timely.proofs.TurnOrder.{turns_in-append, turns-snooped, turns-quiet}
+use Rattle.std.proofs.lemmas.Option.{slice_get_past}
+use Rattle.fsb_timely.proofs.Next.{length-moments}
+use Rattle.fsb_timely.proofs.EndCount.{ends_at, ends-below, is_end}
+use Rattle.fsb_timely.proofs.Moments.{moment_of, snoop_of, moment-snooped, moment-quiet, number-says, snooped-there, run_to-agrees}
+
+-- the turns so far are as many as the snoop ends so far
+length-turns-more : (r : Run) (n : ℕ) → n < length r.trace → (o : Option ℕ) → number_snooped_at r.trace n ≡ o
+    → length (turns_in (moments_below r n)) ≡ count_where (ends_at r.trace) n
+    → length (turns_in (moments_below r n ++ moment_of r n ∷ [])) ≡ count_where (ends_at r.trace) (n + 1)
+unfolding ends_at
+length-turns-more r n l None e h =
+    ap length (turns-quiet (moments_below r n) (moment_of r n) (moment-quiet r n l e)) ∙ h ∙ sym (count_where-failed (ends_at r.trace) n (ap is_some e))
+length-turns-more r n l (Some i) e h =
+    let end = number-says r.trace i n e in
+    let c = snoop_end_of-clock r.trace i n end in
+    let s = snoop_of r n i c.clock in
+    ap length (turns-snooped (moments_below r n) (moment_of r n) s (moment-snooped r i n c.clock end c.is_clock))
+    ∙ length-append (turns_in (moments_below r n)) (number_of_turn s.turn ∷ []) ∙ ap (λ k. k + 1) h ∙ sym (count_where-passed (ends_at r.trace) n (ap is_some e))
+
+length-turns : (r : Run) (n : ℕ) → n ≤ length r.trace → length (turns_in (moments_below r n)) ≡ count_where (ends_at r.trace) n
+unfolding moments_below turns_in count_where
+length-turns r zero l = refl
+length-turns r (suc n) l =
+    length-turns-more r n (omega arith) (number_snooped_at r.trace n) refl (length-turns r n (omega arith)) ∙ ap (count_where (ends_at r.trace)) (add-one n)
+
+-- the turn of a live request comes after those of the live requests before it
+turn-new : (r : Run) (i t q : ℕ) → snoop_end_of r.trace i ≡ Some t → live_clock_of r.trace i ≡ Some q
+    → slice_index (turns_in (moments_below r t ++ moment_of r t ∷ [])) i ≡ number_of_turn (snoop_of r t i q).turn
+turn-new r i t q e f =
+    let c = snoop_end_of-clock r.trace i t e in
+    let within = c.within in
+    let here : length (turns_in (moments_below r t)) ≡ i = length-turns r t (omega arith) ∙ ends-below r.trace i t e in
+    ap (λ ts. slice_index ts i) (turns-snooped (moments_below r t) (moment_of r t) (snoop_of r t i q) (moment-snooped r i t q e f))
+    ∙ ap (slice_index (turns_in (moments_below r t) ++ number_of_turn (snoop_of r t i q).turn ∷ [])) (sym here)
+    ∙ get_or-append_seam (turns_in (moments_below r t)) (number_of_turn (snoop_of r t i q).turn) [] 0
+
+-- and stays there
+turn-old : (r : Run) (n i t : ℕ) → snoop_end_of r.trace i ≡ Some t → t < n → n ≤ length r.trace
+    → slice_index (turns_in (moments_below r n ++ moment_of r n ∷ [])) i ≡ slice_index (turns_in (moments_below r n)) i
+turn-old r n i t e l m =
+    let count = length-turns r n m in
+    let passed = count_where-passed (ends_at r.trace) t (is_end r.trace i t e) in
+    let at = ends-below r.trace i t e in
+    let more = count_where-mono (ends_at r.trace) (t + 1) n (omega arith) in
+    let within : i < length (turns_in (moments_below r n)) = omega arith in
+    ap (λ ts. slice_index ts i) (turns_in-append (moments_below r n) (moment_of r n ∷ []))
+    ∙ get_or_append_left (turns_in (moments_below r n)) (turns_in (moment_of r n ∷ [])) 0 i within
+
+-- the turn of a live request is at its number
+turn-there : (r : Run) (n i t q : ℕ) → snoop_end_of r.trace i ≡ Some t → live_clock_of r.trace i ≡ Some q → t < n → n ≤ length r.trace
+    → slice_index (turns_in (moments_below r n)) i ≡ number_of_turn (snoop_of r t i q).turn
+unfolding moments_below
+turn-there r zero i t q e f l m = absurd (omega arith)
+turn-there r (suc n) i t q e f l m =
+    elim (cases_lt t n) [
+      | inl k ↦ turn-old r n i t e k (omega arith) ∙ turn-there r n i t q e f k (omega arith)
+      | inr k ↦
+          let same : t ≡ n = omega arith in
+          subst (λ u. slice_index (turns_in (moments_below r u ++ moment_of r u ∷ [])) i ≡ number_of_turn (snoop_of r t i q).turn) same (turn-new r i t q e f)
+    ]
+
+-- what is settled rests on the samples up to the snoop end
+settled_by-agree : (n : ℕ) (w v : Trace) (turn i t : ℕ) → AgreeTo n w v → t < n → snoop_end_of w i ≡ Some t → settled_by w turn i t ≡ settled_by v turn i t
+unfolding settled_by
+settled_by-agree n w v turn i t a l e =
+    let handed = line_at-agree HITM n w v t a l in
+    let request = live_request_of-stays n w v i t a l e in
+    rw (handed, request) refl
+
+agent_at-agree : (n : ℕ) (w v : Trace) (q : ℕ) → AgreeTo n w v → q ≤ n → agent_at w q ≡ agent_at v q
+unfolding agent_at
+agent_at-agree n w v q a l =
+    ap (λ o. elim o [ Some who ↦ elim who [ Symmetric a ↦ Some a | Priority ↦ None ] | None ↦ None ]) (winner_at-agree n w v q a l)
+
+line_of-agree : (n : ℕ) (w v : Trace) (q : ℕ) → AgreeTo n w v → q < n → line_of w q ≡ line_of v q
+unfolding line_of
+line_of-agree n w v q a l =
+    let winner = winner_at-agree n w v q a (omega arith) in
+    let sample = a.same q l in
+    λ i. elim (winner i) [ Some who ↦ elim who [ Symmetric a ↦ option_map (λ s. s.addr.bits / 4) (sample i) | Priority ↦ None ] | None ↦ None ]
+
+claim_at-agree : (n : ℕ) (w v : Trace) (q : ℕ) → AgreeTo n w v → q < n → claim_at w q ≡ claim_at v q
+unfolding claim_at
+claim_at-agree n w v q a l =
+    let agent = agent_at-agree n w v q a (omega arith) in
+    let line = line_of-agree n w v q a l in
+    λ i. option_and_then (λ x. option_map (λ y. record { first = q; agent = x; line = y }) (line i)) (agent i)
+
+-- the snoop end of a live request of the whole trace is in the moment of its clock
+pub snoop-tied : (r : Run) (i t : ℕ) → snoop_end_of r.trace i ≡ Some t → (s : SnoopEnd) × IsSnoopOf r i t s
+unfolding snoop_end_with past_of settled_outcome_of
+snoop-tied r i t e =
+    let c = snoop_end_of-clock r.trace i t e in
+    let above = c.above in
+    let q : ℕ = c.clock in
+    let v = (run_to r t).trace in
+    let agree = run_to-agrees r t c.within in
+    let s : SnoopEnd = snoop_of r t i q in
+    let turn = turn-there r (length r.trace) i t q e c.is_clock c.within (omega arith) in
+    let request = request_at-agree (t + 1) r.trace v q agree (omega arith) in (
+      s,
+      record {
+        there = snooped-there r t c.within ∙ moment-snooped r i t q e c.is_clock;
+        reached = e;
+        first = c.is_clock;
+        claim = sym (claim_at-agree (t + 1) r.trace v q agree (omega arith));
+        kind = ap (option_map (λ x. x.kind)) (sym request);
+        turn = turn;
+        outcome = ap (option_map (settled_by r.trace (slice_index (turns_in (moments_below r (length r.trace))) i) i)) e
+            ∙ ap (λ k. Some (settled_by r.trace k i t)) turn
+            ∙ ap Some (settled_by-agree (t + 1) r.trace v (number_of_turn s.turn) i t agree (omega arith) e);
+      },
+    )
+
+told-by : (r : Run) (t : ℕ) (s : SnoopEnd) → t < length r.trace → (o : Option ℕ) → number_snooped_at r.trace t ≡ o → snooped_at (past_of r) t ≡ Some s → (i : ℕ) × IsSnoopOf r i t s
+told-by r t s l None e h =
+    absurd (let x : ⊥ = (let e' = sym h ∙ snooped-there r t l ∙ moment-quiet r t l e in cc) in x)
+told-by r t s l (Some i) e h =
+    let tied = snoop-tied r i t (number-says r.trace i t e) in
+    let same : tied.0 ≡ s = (let e' = sym tied.1.there ∙ h in cc) in
+    (i, subst (IsSnoopOf r i t) same tied.1)
+
+none-past : (r : Run) (t : ℕ) → length r.trace ≤ t → snooped_at (past_of r) t ≡ None
+unfolding snooped_at past_of
+none-past r t l =
+    ap (option_and_then (λ moment. moment.snooped)) (slice_get_past (moments_below r (length r.trace)) t (let e = length-moments r (length r.trace) in omega arith))
+
+-- and each snoop end of a moment is that of a live request of the whole trace
+pub tied-snoop : (r : Run) (t : ℕ) (s : SnoopEnd) → snooped_at (past_of r) t ≡ Some s → (i : ℕ) × IsSnoopOf r i t s
+tied-snoop r t s h =
+    elim (cases_lt t (length r.trace)) [
+      | inl l ↦ told-by r t s l (number_snooped_at r.trace t) refl h
+      | inr l ↦ absurd (let x : ⊥ = (let e' = sym h ∙ none-past r t l in cc) in x)
+    ]

@@ -1,0 +1,11 @@
+use Rattle.fsb_timely.proofs.Holding.{is_held-more, latest_grant-more, is_exclusive-more}
+use Rattle.fsb_timely.proofs.laws.held_lines_step.Goals as goal
+
+pub returns-clause-held : goal.returns-clause-held
+returns-clause-held c = is_held-more
+
+pub returns-clause-latest : goal.returns-clause-latest
+returns-clause-latest c = latest_grant-more
+
+pub returns-clause-exclusive : goal.returns-clause-exclusive
+returns-clause-exclusive c = is_exclusive-more

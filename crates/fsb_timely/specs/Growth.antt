@@ -1,0 +1,36 @@
+-- How a run grows, clock by clock.
+use Rattle.std.specs.Prelude.{ℕ, ◌+◌, ◌&&◌, ◌||◌, nat_eq, ◌≡◌, Bool, List, [], ◌∷◌, ◌++◌, length, IsTrue}
+use Rattle.std.specs.List.{list_all}
+use Rattle.fsb_count.specs.Options.{is_at}
+use Rattle.fsb_trace.specs.At.{Trace}
+use Rattle.fsb_trace.specs.Requests.{is_cancelled, is_live, live_number_of}
+use Rattle.fsb_trace.specs.Flight.{last_clock_of}
+use Rattle.fsb_access.specs.declared.log.Done.{Done}
+use Rattle.fsb_hazard.specs.declared.choice.Choice.{Choice}
+use Rattle.fsb_signal.specs.declared.sample.Sample.{Sample}
+use Rattle.fsb_timely.specs.Runs.{Run, requests_below}
+
+-- the second run is the first with one more clock: one more sample and one more hold, maybe more choices, and entries of
+-- that clock alone
+pub record IsNext (r s : Run) : Type 0 where
+  pub sample : Sample
+  pub hold : Bool
+  pub choices : List Choice
+  pub entries : List Done
+  pub same_plan : s.plan ≡ r.plan
+  pub more_trace : s.trace ≡ r.trace ++ sample ∷ []
+  pub more_holds : s.holds ≡ r.holds ++ hold ∷ []
+  pub more_choices : s.choices ≡ r.choices ++ choices
+  pub more_log : s.log ≡ r.log ++ entries
+  pub at_end : IsTrue (list_all (λ done. nat_eq done.clock (length r.trace)) entries)
+
+-- the run has one hold for each clock, and one choice for each request
+pub record IsWhole (r : Run) : Type 0 where
+  pub one_hold : length r.holds ≡ length r.trace
+  pub one_choice : length r.choices ≡ requests_below r.trace (length r.trace)
+
+-- c is the last clock at which the request that begins at q is outstanding: its address error is at c, or its end, or, if it
+-- is Deferred, that of its reply
+unfoldable pub is_last_clock : Trace → ℕ → ℕ → Bool
+is_last_clock w c q =
+    is_cancelled w q && nat_eq (q + 3) c || is_live w q && is_at (last_clock_of w (live_number_of w q)) c

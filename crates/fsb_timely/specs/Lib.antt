@@ -1,0 +1,15 @@
+pub mod Moments
+pub mod Runs
+pub mod Grants
+pub mod Scripts
+pub mod Hits
+pub mod Wants
+pub mod Starts
+pub mod Snoops
+pub mod Transfers
+pub mod Completions
+pub mod BusLock
+pub mod Timely
+pub mod Growth
+pub mod Tied
+pub mod Simulated

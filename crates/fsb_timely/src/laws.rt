@@ -1,0 +1,89 @@
+//! Laws over the definitions: no code.
+
+ghost use Rattle.std.specs.Prelude.{◌≡◌, ◌↔◌, ◌<◌, ◌+◌, ◌&&◌, ◌||◌, ℕ, Bool, true, false, not, Some, length, if◌then◌else◌, IsTrue};
+ghost use Rattle.fsb_count.specs.Options.{is_some_and};
+ghost use Rattle.fsb_encode.specs.declared.request.Request.{Request};
+ghost use Rattle.fsb_signal.specs.Samples.{is_known_trace};
+ghost use Rattle.fsb_trace.specs.At.{Trace};
+ghost use Rattle.fsb_trace.specs.Snoop.{snoop_end_of};
+ghost use Rattle.fsb_trace.specs.Flight.{is_outstanding};
+ghost use Rattle.fsb_timely.specs.Moments.{SnoopEnd};
+ghost use Rattle.fsb_timely.specs.Tied.{IsSnoopOf};
+ghost use Rattle.fsb_timely.specs.Runs.{Run, Past, run_to, past_of, past_to};
+ghost use Rattle.fsb_timely.specs.Grants.{snooped_at, grant_at, is_granted, is_lost, is_held, IsHeldSince, latest_grant, is_named_by_other, is_sole, is_exclusive};
+ghost use Rattle.fsb_timely.specs.Scripts.{completes_at, is_logged_at, is_logged, next_number, next_item, window};
+ghost use Rattle.fsb_timely.specs.Wants.{owed, is_asked_for, want_of};
+ghost use Rattle.fsb_timely.specs.Timely.{Part, holds_at, keeps, AtEachClock, IsTimelyAt, Timely};
+ghost use Rattle.fsb_timely.specs.Growth.{IsNext, IsWhole, is_last_clock};
+
+/// What is said of a clock that a run has passed stays as it is when the run goes on: the run and its past up to that
+/// clock are the same, and so is each test of them.
+pub fn each_part_stays()
+    ensures run { (r s : Run) (c : ℕ) → IsNext r s → IsWhole r → c < length r.trace → run_to s c ≡ run_to r c }
+    ensures past { (r s : Run) (c : ℕ) → IsNext r s → IsWhole r → c < length r.trace
+        → past_to (past_of s) c ≡ past_to (past_of r) c }
+    ensures part { (part : Part) (r s : Run) (c : ℕ) → IsNext r s → IsWhole r → c < length r.trace
+        → holds_at part s c ≡ holds_at part r c }
+{}
+
+/// A run that is timely stays so with one more clock at which the parts hold, and so does a part by itself.
+pub fn runs_grow()
+    ensures part { (part : Part) (r s : Run) → IsNext r s → IsWhole r → AtEachClock part r
+        → IsTrue (holds_at part s (length r.trace)) → AtEachClock part s }
+    ensures timely { (r s : Run) → Timely r → IsNext r s → IsWhole s → IsTrue (is_known_trace s.trace)
+        → IsTimelyAt s (length r.trace) → Timely s }
+{}
+
+/// A part holds at each clock exactly where its test of the whole run passes.
+pub fn parts_are_tested()
+    ensures { (part : Part) (r : Run) → IsTrue (keeps part r) ↔ AtEachClock part r }
+{}
+
+/// The moments of a run have the snoop ends of its whole trace, and no others: each live request whose snoop end is reached
+/// has it in the moment of that clock, with its first clock, claim, kind, turn and settled outcome.
+pub fn moments_have_the_snoop_ends()
+    ensures reached { (r : Run) (i t : ℕ) → snoop_end_of r.trace i ≡ Some t → (s : SnoopEnd) × IsSnoopOf r i t s }
+    ensures told { (r : Run) (t : ℕ) (s : SnoopEnd) → snooped_at (past_of r) t ≡ Some s → (i : ℕ) × IsSnoopOf r i t s }
+{}
+
+/// An agent holds a line exactly where the line was granted to it and it did not lose it since.
+pub fn held_lines_were_granted()
+    ensures { (p : Past) (a line c : ℕ) → IsTrue (is_held p a line c) ↔ IsHeldSince p a line c }
+{}
+
+/// What an agent holds, one clock further: a grant at the clock, or what it held and does not lose there. The latest grant
+/// is then the one at the clock, or stays. The line is the agent's own by a sole grant, or stays its own where it is not
+/// lost and no other agent names it.
+pub fn held_lines_step()
+    ensures held { (p : Past) (a line c : ℕ)
+        → is_held p a line (c + 1) ≡ (is_granted p a line c || (is_held p a line c && not (is_lost p a line c))) }
+    ensures latest { (p : Past) (a line c : ℕ)
+        → latest_grant p a line (c + 1) ≡ (if is_granted p a line c then grant_at p c else latest_grant p a line c) }
+    ensures exclusive { (p : Past) (a line c : ℕ)
+        → is_exclusive p a line (c + 1) ≡ (if is_granted p a line c then is_some_and (grant_at p c) is_sole else (is_exclusive p a line c && (not (is_lost p a line c) && not (is_named_by_other p a line c)))) }
+{}
+
+/// An agent without an entry at a clock stays where it is in its script; an item is done from the clock after its entry on.
+pub fn scripts_step()
+    ensures number { (p : Past) (a c : ℕ) → completes_at p a c ≡ false → next_number p a (c + 1) ≡ next_number p a c }
+    ensures item { (p : Past) (a c : ℕ) → completes_at p a c ≡ false → next_item p a (c + 1) ≡ next_item p a c }
+    ensures window { (p : Past) (a c : ℕ) → completes_at p a c ≡ false → window p a (c + 1) ≡ window p a c }
+    ensures logged { (p : Past) (a c n : ℕ) → is_logged p a (c + 1) n ≡ (is_logged p a c n || is_logged_at p a c n) }
+{}
+
+/// A request that began before a clock stays outstanding after it, unless that is its last clock as such.
+pub fn outstanding_requests_step()
+    ensures { (w : Trace) (c q : ℕ) → q < c
+        → is_outstanding w (c + 1) q ≡ (is_outstanding w c q && not (is_last_clock w c q)) }
+{}
+
+/// A clock is the snoop end of one live request at most.
+pub fn one_snoop_end_at_a_clock()
+    ensures { (w : Trace) (s i j : ℕ) → snoop_end_of w i ≡ Some s → snoop_end_of w j ≡ Some s → i ≡ j }
+{}
+
+/// What an agent wants is a line that none of its outstanding requests is for.
+pub fn wants_are_new()
+    ensures { (p : Past) (a c : ℕ) (request : Request) → want_of p a c ≡ Some request
+        → is_asked_for (owed p a c) request.line ≡ false }
+{}

@@ -1,0 +1,15 @@
+//! What a simulated run is: which agent has which line, what an agent wants and completes, and what the bus does in each
+//! clock, as definitions over a whole run.
+//!
+//! A run is a plan with the choices, the holds, the trace and the log that came of it. What is said of a clock is said of
+//! the run up to that clock, so it stays as it is however the run goes on. The definitions are in `specs/`;
+//! docs/agents.md tells what the agents do, and docs/bus.md how the bus moves. There is no code but laws over them.
+#![tactic(auto)]
+
+pub use laws::{
+    each_part_stays, held_lines_step, held_lines_were_granted, moments_have_the_snoop_ends,
+    one_snoop_end_at_a_clock, outstanding_requests_step, parts_are_tested, runs_grow, scripts_step,
+    wants_are_new,
+};
+
+mod laws;

@@ -1,0 +1,80 @@
+-- No clock at all: nothing is logged.
+use Rattle.std.proofs.Common.{◌≡◌, ℕ, zero, suc, refl, List, [], ◌∷◌, Some, None, true, false, arith}
+use Rattle.fsb_access.proofs.OrderLaws.{steps_of-nobody}
+use Rattle.fsb_access.specs.ScriptOrder.{AreOfItems, script_of, steps_of}
+use Rattle.fsb_access.specs.declared.access.Access.TheVariants.{Load, Store}
+use Rattle.fsb_access.specs.declared.access.Operand.TheVariants.{Literal}
+use Rattle.fsb_access.specs.declared.item.Item.TheVariants.{One}
+use Rattle.fsb_access.specs.declared.log.Done.{Done}
+use Rattle.fsb_script.specs.Plans.{PlanView}
+use Rattle.fsb_trace.specs.At.{Trace}
+use Rattle.fsb_timely.specs.Runs.{Run}
+use Rattle.fsb_timely.specs.Completions.{is_in_time}
+use Rattle.fsb_timely.specs.Timely.{keeps}
+use Rattle.fsb_timely.specs.Simulated.{Simulated, Asked}
+use Rattle.fsb_timely_rows.proofs.LaidOut.{entry, setting, run_of, every_part}
+use Rattle.fsb_timely_rows.proofs.Opened.{opened}
+use Rattle.fsb_timely_rows.proofs.Tests.{simulated_if}
+use Rattle.fsb_timely_rows.proofs.AskedLines.{asked_for_lines}
+use Rattle.fsb_hazard.specs.Entry.{entry as entry_of_lines}
+
+abbrev pub plan : PlanView
+plan = record {
+  scripts = (One (Load 1 0x40) ∷ One (Store 1 0x41 (Literal 0x5)) ∷ []) ∷ [];
+  clocks = 0;
+  cache = 64;
+  ahead = 1;
+  bridge = None;
+  mem = setting 0x40 0x07 ∷ [];
+  hazards = [];
+}
+
+abbrev pub trace : Trace
+trace =
+    []
+
+abbrev pub log : List Done
+log =
+    []
+
+abbrev pub run : Run
+run = run_of plan 0 trace log
+
+-- the first load is logged past the end
+abbrev pub log0 : List Done
+log0 =
+    entry 11 0 0 0 (Load 1 0x40) 0x7
+    ∷ []
+
+-- both accesses are logged past the end
+abbrev pub log1 : List Done
+log1 =
+    entry 11 0 0 0 (Load 1 0x40) 0x7
+    ∷ entry 12 0 1 0 (Store 1 0x41 (Literal 0x5)) 0x5
+    ∷ []
+
+-- the first load is logged at clock 0
+abbrev pub log2 : List Done
+log2 =
+    entry 0 0 0 0 (Load 1 0x40) 0x7
+    ∷ []
+
+-- what is computed: the run keeps every part at each clock, and each changed run breaks one at the changed clock
+pub computes :
+    (keeps every_part run ≡ true)
+    × (is_in_time 0 0 log0 ≡ false)
+    × (is_in_time 0 0 log1 ≡ false)
+    × (is_in_time 0 0 log2 ≡ false)
+unfolding opened
+computes = (refl, refl, refl, refl)
+
+follows : (agent : ℕ) → AreOfItems (script_of plan.scripts agent) (steps_of agent log)
+follows zero = record { items = 0; same = refl }
+follows (suc agent) = record { items = 0; same = steps_of-nobody 1 (suc agent) log refl (omega arith) }
+
+pub is_simulated : Simulated run
+unfolding opened
+is_simulated = simulated_if run computes.0 refl refl refl refl (record { follows = follows; together = refl }) refl
+
+pub is_asked : Asked (Some (entry_of_lines plan.hazards) ∷ []) run.choices run.holds
+is_asked = asked_for_lines plan.hazards 0 0

@@ -1,0 +1,75 @@
+-- A run that passes every part's test at each of its clocks is a simulation.
+use Rattle.std.proofs.Common.{◌≡◌, ◌&&◌, true, length, IsTrue}
+use Rattle.std.proofs.lemmas.Bool.{and_parts}
+use Rattle.fsb_access.specs.Replay.{Served}
+use Rattle.fsb_access.specs.ScriptOrder.{InOrder}
+use Rattle.fsb_signal.specs.Samples.{is_known_trace}
+use Rattle.fsb_timely.specs.Runs.{Run, requests_below}
+use Rattle.fsb_timely.specs.Starts.{starts_requests, drives_request_lines}
+use Rattle.fsb_timely.specs.Snoops.{drives_hazards, has_snoop_result}
+use Rattle.fsb_timely.specs.Transfers.{drives_responses, carries_data}
+use Rattle.fsb_timely.specs.Completions.{logs_completions, is_in_time}
+use Rattle.fsb_timely.specs.BusLock.{drives_lock}
+use Rattle.fsb_timely.specs.Timely.{Part, holds_in, holds_at, keeps, AtEachClock}
+use Rattle.fsb_timely.specs.Simulated.{Simulated}
+use Rattle.fsb_timely.proofs.EachClock.{keeps-at}
+use Rattle.fsb_timely_rows.proofs.LaidOut.{every_part}
+
+-- two parts together, clock by clock
+first_of_two : (one two : Part) (r : Run) → AtEachClock (λ r p c. one r p c && two r p c) r → AtEachClock one r
+unfolding holds_at holds_in
+first_of_two one two r h = record { at = λ c l. (and_parts _ _ (h.at c l)).0 }
+
+second_of_two : (one two : Part) (r : Run) → AtEachClock (λ r p c. one r p c && two r p c) r → AtEachClock two r
+unfolding holds_at holds_in
+second_of_two one two r h = record { at = λ c l. (and_parts _ _ (h.at c l)).1 }
+
+-- what is left of every part after the first n
+abbrev rest1 : Part
+rest1 r p c = drives_request_lines r p c && (drives_hazards r p c && (has_snoop_result r p c && (drives_responses r p c && (logs_completions r p c && (drives_lock r p c && carries_data r p c)))))
+
+abbrev rest2 : Part
+rest2 r p c = drives_hazards r p c && (has_snoop_result r p c && (drives_responses r p c && (logs_completions r p c && (drives_lock r p c && carries_data r p c))))
+
+abbrev rest3 : Part
+rest3 r p c = has_snoop_result r p c && (drives_responses r p c && (logs_completions r p c && (drives_lock r p c && carries_data r p c)))
+
+abbrev rest4 : Part
+rest4 r p c = drives_responses r p c && (logs_completions r p c && (drives_lock r p c && carries_data r p c))
+
+abbrev rest5 : Part
+rest5 r p c = logs_completions r p c && (drives_lock r p c && carries_data r p c)
+
+abbrev rest6 : Part
+rest6 r p c = drives_lock r p c && carries_data r p c
+
+pub simulated_if :
+    (r : Run) → keeps every_part r ≡ true → IsTrue (is_known_trace r.trace) → length r.holds ≡ length r.trace
+    → length r.choices ≡ requests_below r.trace (length r.trace) → IsTrue (is_in_time 0 (length r.trace) r.log) → InOrder r.plan.scripts r.log → Served r.plan.mem r.log
+    → Simulated r
+simulated_if r e known one_hold one_choice in_time in_order served =
+    let h0 = keeps-at every_part r e in
+    let h1 = second_of_two starts_requests rest1 r h0 in
+    let h2 = second_of_two drives_request_lines rest2 r h1 in
+    let h3 = second_of_two drives_hazards rest3 r h2 in
+    let h4 = second_of_two has_snoop_result rest4 r h3 in
+    let h5 = second_of_two drives_responses rest5 r h4 in
+    let h6 = second_of_two logs_completions rest6 r h5 in
+    record {
+      timely = record {
+        known = known;
+        one_hold = one_hold;
+        one_choice = one_choice;
+        in_time = in_time;
+        request_starts = first_of_two starts_requests rest1 r h0;
+        request_lines = first_of_two drives_request_lines rest2 r h1;
+        hazard_lines = first_of_two drives_hazards rest3 r h2;
+        snoop_results = first_of_two has_snoop_result rest4 r h3;
+        responses_and_data = first_of_two drives_responses rest5 r h4;
+        completions = first_of_two logs_completions rest6 r h5;
+        bus_lock = first_of_two drives_lock carries_data r h6;
+      };
+      carried = second_of_two drives_lock carries_data r h6;
+      in_order = in_order;
+      served = served;
+    }
