@@ -4,3 +4,6 @@ pub mod Widths
 pub mod CodeTables
 pub mod Quiet
 pub mod Entries
+pub mod TokenRuns
+pub mod Counts
+pub mod Readings
