@@ -153,3 +153,142 @@ part_behind limit decided xs ys old mid new h p = record {
   split = append_assoc xs p.first p.rest ∙ ap (λ w. xs ++ w) p.split;
   appended = p.appended ∙ ap (λ w. pushed limit (decided + length xs) w p.first) h ∙ sym (pushed-append limit decided old xs p.first);
 }
+
+-- a run that ends in no token
+pub none_taken : (r : Reading) → ended_at r.at r.run ≡ [] → r ≡ record r { taken = take_tokens r.taken (ended_at r.at r.run) }
+none_taken r h = λ i. record { taken = take_tokens r.taken (sym h i); at = r.at; run = r.run }
+
+pub none_sampled : (r : Reading) (limit : ℕ) (to : List Sample) → ended_at r.at r.run ≡ [] → to ≡ pushed limit (decided_in_reading r) to (samples_in_tokens r.taken (ended_at r.at r.run))
+none_sampled r limit to h = ap (λ ts. pushed limit (decided_in_reading r) to (samples_in_tokens r.taken ts)) (sym h)
+
+-- a run that ends in a token
+pub one_taken : (r : Reading) (now : Taken) (place : ℕ) (word : List ℕ) → place ≡ r.at - length r.run → word ≡ r.run → ended_at r.at r.run ≡ token_of (r.at - length r.run) r.run ∷ []
+    → now ≡ take_token r.taken (token_of place word) → record r { taken = now } ≡ record r { taken = take_tokens r.taken (ended_at r.at r.run) }
+one_taken r now place word at is ended h =
+    let one : now ≡ take_tokens r.taken (ended_at r.at r.run) = h ∙ (λ i. take_token r.taken (token_of (at i) (is i))) ∙ ap (take_tokens r.taken) (sym ended) in
+    λ i. record { taken = one i; at = r.at; run = r.run }
+
+pub one_sampled : (r : Reading) (new : List Sample) (place : ℕ) (word : List ℕ) (limit : ℕ) (to : List Sample) → place ≡ r.at - length r.run → word ≡ r.run → ended_at r.at r.run ≡ token_of (r.at - length r.run) r.run ∷ []
+    → new ≡ pushed limit (decided_in_reading r) to (decided_of r.taken (turn r.taken.known (token_of place word)))
+    → new ≡ pushed limit (decided_in_reading r) to (samples_in_tokens r.taken (ended_at r.at r.run))
+one_sampled r new place word limit to at is ended h =
+    let one : samples_in_tokens r.taken (ended_at r.at r.run) ≡ decided_of r.taken (turn r.taken.known (token_of (r.at - length r.run) r.run)) = ap (samples_in_tokens r.taken) ended ∙ append-nil _ in
+    h ∙ (λ i. pushed limit (decided_in_reading r) to (decided_of r.taken (turn r.taken.known (token_of (at i) (is i))))) ∙ ap (pushed limit (decided_in_reading r) to) (sym one)
+
+-- bytes that made a run too long, once its token was taken
+pub over_taken : (r : Reading) (bs : List ℕ) (now : Taken) (place : ℕ) (word run : List ℕ) → list_all is_dark bs ≡ true → length r.run ≤ longest → longest < length r.run + length bs → length r.run ≤ r.at
+    → place ≡ r.at - length r.run → word ≡ run → run ≡ taken_by r.run bs → now ≡ take_token r.taken (token_of place word)
+    → record { taken = now; at = r.at + length bs; run = run } ≡ after_bytes r bs
+over_taken r bs now place word run dark short over within at kept is h =
+    let one : now ≡ take_token r.taken (token_of (r.at - length r.run) (taken_by r.run bs)) = h ∙ (λ i. take_token r.taken (token_of (at i) ((kept ∙ is) i))) in
+    (λ i. record { taken = one i; at = r.at + length bs; run = is i }) ∙ sym (over_bytes r bs dark short over within)
+
+pub over_sampled : (r : Reading) (bs : List ℕ) (new : List Sample) (place : ℕ) (word : List ℕ) (limit : ℕ) (to : List Sample) → list_all is_dark bs ≡ true → length r.run ≤ longest → longest < length r.run + length bs → length r.run ≤ r.at
+    → place ≡ r.at - length r.run → word ≡ taken_by r.run bs → new ≡ pushed limit (decided_in_reading r) to (decided_of r.taken (turn r.taken.known (token_of place word)))
+    → new ≡ pushed limit (decided_in_reading r) to (samples_in_bytes r bs)
+over_sampled r bs new place word limit to dark short over within at is h =
+    h ∙ (λ i. pushed limit (decided_in_reading r) to (decided_of r.taken (turn r.taken.known (token_of (at i) (is i))))) ∙ ap (pushed limit (decided_in_reading r) to) (sym (over_samples r bs dark short over within))
+
+-- a byte of white space, once the run was ended
+pub white_taken : (r now : Reading) (w : ℕ) (run : List ℕ) → is_white w ≡ true → run ≡ [] → now ≡ record r { taken = take_tokens r.taken (ended_at r.at r.run) } → record { taken = now.taken; at = now.at + 1; run = run } ≡ after_bytes r (w ∷ [])
+white_taken r now w run white none h = (λ i. record { taken = (h i).taken; at = (h i).at + 1; run = none i }) ∙ sym (white_bytes r w white)
+
+pub white_sampled : (r : Reading) (w : ℕ) (limit : ℕ) (to new : List Sample) → is_white w ≡ true → new ≡ pushed limit (decided_in_reading r) to (samples_in_tokens r.taken (ended_at r.at r.run)) → new ≡ pushed limit (decided_in_reading r) to (samples_in_bytes r (w ∷ []))
+white_sampled r w limit to new white h = h ∙ ap (pushed limit (decided_in_reading r) to) (sym (white_samples r w white))
+
+-- a reading that has no run
+abbrev pub runless : Taken → ℕ → Reading
+runless taken at = record { taken = taken; at = at; run = [] }
+
+no_run : (run : List ℕ) → length run ≡ 0 → [] ≡ run
+no_run [] h = refl
+no_run (b ∷ run) h = absurd (omega (arith, h))
+
+-- white space behind no run
+empty_taken : (taken : Taken) (at w : ℕ) (bs : List ℕ) → length bs ≡ 0 → is_white w ≡ true → record { taken = taken; at = at + length bs + 1; run = [] } ≡ after_bytes (runless taken at) (bs ++ w ∷ [])
+empty_taken taken at w [] h white =
+    (λ i. record { taken = taken; at = at + 0 + 1; run = [] }) ∙ (let n : at + 0 + 1 ≡ at + 1 = omega arith in λ i. record { taken = taken; at = n i; run = [] })
+    ∙ (λ i. record { taken = take_tokens taken (sym (ended_empty at [] refl) i); at = at + 1; run = [] })
+    ∙ sym (white_bytes (runless taken at) w white)
+empty_taken taken at w (b ∷ bs) h white = absurd (omega (arith, h))
+
+empty_sampled : (taken : Taken) (at w : ℕ) (bs : List ℕ) → length bs ≡ 0 → is_white w ≡ true → samples_in_bytes (runless taken at) (bs ++ w ∷ []) ≡ []
+empty_sampled taken at w [] h white = white_samples (runless taken at) w white ∙ ap (samples_in_tokens taken) (ended_empty at [] refl)
+empty_sampled taken at w (b ∷ bs) h white = absurd (omega (arith, h))
+
+-- a token that stands whole, and white space behind it
+whole_token : (at : ℕ) (bs : List ℕ) → 0 < length bs → length bs ≤ longest → ended_at (at + length bs) bs ≡ token_of at bs ∷ []
+whole_token at bs some short = let n : at + length bs - length bs ≡ at = omega arith in ended_some (at + length bs) bs some short ∙ ap (λ m. token_of m bs ∷ []) n
+
+within : (n m : ℕ) → n ≤ m → 0 + n ≤ m
+within n m h = omega (arith, h)
+
+whole_bytes : (taken : Taken) (at w : ℕ) (bs : List ℕ) → list_all is_dark bs ≡ true → 0 < length bs → length bs ≤ longest → is_white w ≡ true
+    → after_bytes (runless taken at) (bs ++ w ∷ []) ≡ record { taken = take_token taken (token_of at bs); at = at + length bs + 1; run = [] }
+whole_bytes taken at w bs dark some short white =
+    after-append (runless taken at) bs (w ∷ [])
+    ∙ ap (λ r. after_bytes r (w ∷ [])) (short_bytes (runless taken at) bs dark (within (length bs) longest short))
+    ∙ white_bytes (record { taken = taken; at = at + length bs; run = bs }) w white
+    ∙ (λ i. record { taken = take_tokens taken (whole_token at bs some short i); at = at + length bs + 1; run = [] })
+
+whole_samples : (taken : Taken) (at w : ℕ) (bs : List ℕ) → list_all is_dark bs ≡ true → 0 < length bs → length bs ≤ longest → is_white w ≡ true
+    → samples_in_bytes (runless taken at) (bs ++ w ∷ []) ≡ decided_of taken (turn taken.known (token_of at bs))
+whole_samples taken at w bs dark some short white =
+    samples-append (runless taken at) bs (w ∷ [])
+    ∙ (λ i. short_samples (runless taken at) bs dark (within (length bs) longest short) i ++ samples_in_bytes (short_bytes (runless taken at) bs dark (within (length bs) longest short) i) (w ∷ []))
+    ∙ white_samples (record { taken = taken; at = at + length bs; run = bs }) w white
+    ∙ ap (samples_in_tokens taken) (whole_token at bs some short)
+    ∙ append-nil _
+
+-- the same, for a reading whose run is empty
+pub blank_taken : (r : Reading) (w : ℕ) (bs : List ℕ) → length r.run ≡ 0 → length bs ≡ 0 → is_white w ≡ true → record { taken = r.taken; at = r.at + length bs + 1; run = r.run } ≡ after_bytes r (bs ++ w ∷ [])
+blank_taken r w bs none h white =
+    subst (λ run. record { taken = r.taken; at = r.at + length bs + 1; run = run } ≡ after_bytes (record { taken = r.taken; at = r.at; run = run }) (bs ++ w ∷ [])) (no_run r.run none) (empty_taken r.taken r.at w bs h white)
+
+pub blank_sampled : (r : Reading) (w limit : ℕ) (bs : List ℕ) (to : List Sample) → length r.run ≡ 0 → length bs ≡ 0 → is_white w ≡ true → to ≡ pushed limit (decided_in_reading r) to (samples_in_bytes r (bs ++ w ∷ []))
+blank_sampled r w limit bs to none h white =
+    subst (λ run. to ≡ pushed limit (decided_in_reading r) to (samples_in_bytes (record { taken = r.taken; at = r.at; run = run }) (bs ++ w ∷ []))) (no_run r.run none)
+    (ap (pushed limit (decided_in_reading r) to) (sym (empty_sampled r.taken r.at w bs h white)))
+
+pub whole_taken : (r : Reading) (now : Taken) (w : ℕ) (bs : List ℕ) → length r.run ≡ 0 → list_all is_dark bs ≡ true → 0 < length bs → length bs ≤ longest → is_white w ≡ true
+    → now ≡ take_token r.taken (token_of r.at bs) → record { taken = now; at = r.at + length bs + 1; run = r.run } ≡ after_bytes r (bs ++ w ∷ [])
+whole_taken r now w bs none dark some short white h =
+    subst (λ run. record { taken = now; at = r.at + length bs + 1; run = run } ≡ after_bytes (record { taken = r.taken; at = r.at; run = run }) (bs ++ w ∷ [])) (no_run r.run none)
+    ((λ i. record { taken = h i; at = r.at + length bs + 1; run = [] }) ∙ sym (whole_bytes r.taken r.at w bs dark some short white))
+
+pub whole_sampled : (r : Reading) (w limit : ℕ) (bs : List ℕ) (to new : List Sample) → length r.run ≡ 0 → list_all is_dark bs ≡ true → 0 < length bs → length bs ≤ longest → is_white w ≡ true
+    → new ≡ pushed limit (decided_in_reading r) to (decided_of r.taken (turn r.taken.known (token_of r.at bs))) → new ≡ pushed limit (decided_in_reading r) to (samples_in_bytes r (bs ++ w ∷ []))
+whole_sampled r w limit bs to new none dark some short white h =
+    subst (λ run. new ≡ pushed limit (decided_in_reading r) to (samples_in_bytes (record { taken = r.taken; at = r.at; run = run }) (bs ++ w ∷ []))) (no_run r.run none)
+    (h ∙ ap (pushed limit (decided_in_reading r) to) (sym (whole_samples r.taken r.at w bs dark some short white)))
+
+-- what was read behind bytes that were read
+pub behind_taken : (r mid new : Reading) (xs ys : List ℕ) → mid ≡ after_bytes r xs → new ≡ after_bytes mid ys → new ≡ after_bytes r (xs ++ ys)
+behind_taken r mid new xs ys h k = k ∙ ap (λ m. after_bytes m ys) h ∙ sym (after-append r xs ys)
+
+behind_decided : (r mid : Reading) (xs : List ℕ) → mid ≡ after_bytes r xs → decided_in_reading mid ≡ decided_in_reading r + length (samples_in_bytes r xs)
+behind_decided r mid xs h = ap decided_in_reading h ∙ tokens_count r.taken (tokens_from r.at r.run xs)
+
+behind_samples : (r mid : Reading) (xs ys : List ℕ) → mid ≡ after_bytes r xs → samples_in_bytes r (xs ++ ys) ≡ samples_in_bytes r xs ++ samples_in_bytes mid ys
+behind_samples r mid xs ys h = samples-append r xs ys ∙ ap (λ m. samples_in_bytes r xs ++ samples_in_bytes m ys) (sym h)
+
+pub behind_sampled : (r mid : Reading) (xs ys : List ℕ) (limit : ℕ) (old to new : List Sample) → mid ≡ after_bytes r xs
+    → to ≡ pushed limit (decided_in_reading r) old (samples_in_bytes r xs)
+    → new ≡ pushed limit (decided_in_reading mid) to (samples_in_bytes mid ys)
+    → new ≡ pushed limit (decided_in_reading r) old (samples_in_bytes r (xs ++ ys))
+behind_sampled r mid xs ys limit old to new h k l =
+    l ∙ (λ i. pushed limit (behind_decided r mid xs h i) (k i) (samples_in_bytes mid ys))
+    ∙ sym (pushed-append limit (decided_in_reading r) old (samples_in_bytes r xs) (samples_in_bytes mid ys))
+    ∙ ap (pushed limit (decided_in_reading r) old) (sym (behind_samples r mid xs ys h))
+
+pub behind_part : (r mid : Reading) (xs ys : List ℕ) (limit : ℕ) (old to new : List Sample) → mid ≡ after_bytes r xs
+    → to ≡ pushed limit (decided_in_reading r) old (samples_in_bytes r xs)
+    → Part limit (decided_in_reading mid) (samples_in_bytes mid ys) to new
+    → Part limit (decided_in_reading r) (samples_in_bytes r (xs ++ ys)) old new
+behind_part r mid xs ys limit old to new h k p =
+    subst (λ w. Part limit (decided_in_reading r) w old new) (sym (behind_samples r mid xs ys h))
+    (part_behind limit (decided_in_reading r) (samples_in_bytes r xs) (samples_in_bytes mid ys) old to new k
+    (subst (λ n. Part limit n (samples_in_bytes mid ys) to new) (behind_decided r mid xs h) p))
+
+pub behind_fits : (r mid : Reading) (xs : List ℕ) → mid ≡ after_bytes r xs → Fits r → Fits mid
+behind_fits r mid xs h f = subst Fits (sym h) (fits_after r xs f)

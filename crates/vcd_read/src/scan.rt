@@ -85,11 +85,18 @@ impl Scan {
         ensures samples { (w : ℕ) → is_white w ≡ true → OnOk result (to.new.items ≡ pushed limit self.old.machine.decided to.old.items (samples_in_bytes (reading self.old) (bytes.now ++ w ∷ []))) }
         ensures part { (w : ℕ) → is_white w ≡ true → OnErr result (Part limit self.old.machine.decided (samples_in_bytes (reading self.old) (bytes.now ++ w ∷ [])) to.old.items to.new.items) }
     {
-        if self.run.is_empty() && bytes.len() <= LONGEST {
+        if self.run_len() == 0 && bytes.len() <= LONGEST {
             return self.whole(bytes, limit, to);
         }
         self.grown(bytes, limit, to)?;
         self.white(limit, to)
+    }
+
+    /// How many bytes of the run there are.
+    fn run_len(&self) -> usize
+        ensures { result ≡ length self.now.run.items }
+    {
+        self.run.as_slice().len()
     }
 
     /// A token that stands whole, and a byte of white space behind it.
@@ -132,13 +139,13 @@ impl Scan {
         ensures samples { OnOk result (to.new.items ≡ pushed limit self.old.machine.decided to.old.items (samples_in_tokens (taken self.old.machine) (ended_at self.old.at self.old.run.items))) }
         ensures silent { OnErr result (to.new.items ≡ to.old.items) }
     {
-        if self.run.is_empty() {
+        if self.run_len() == 0 {
             return Ok(());
         }
-        if LONGEST < self.run.len() {
+        if LONGEST < self.run_len() {
             return Ok(());
         }
-        let place = self.at - self.run.len() as u64;
+        let place = self.at - self.run_len() as u64;
         self.machine.take(place, self.run.as_slice(), limit, to)
     }
 
@@ -169,11 +176,11 @@ impl Scan {
         ensures samples { OnOk result (to.new.items ≡ pushed limit self.old.machine.decided to.old.items (samples_in_bytes (reading self.old) bytes.now)) }
         ensures silent { OnErr result (to.new.items ≡ to.old.items) }
     {
-        if LONGEST < self.run.len() {
+        if LONGEST < self.run_len() {
             self.at += bytes.len() as u64;
             return Ok(());
         }
-        if bytes.len() <= LONGEST - self.run.len() {
+        if bytes.len() <= LONGEST - self.run_len() {
             self.run.extend_from_slice(bytes)?;
             self.at += bytes.len() as u64;
             return Ok(());
@@ -192,8 +199,8 @@ impl Scan {
         ensures samples { OnOk result (to.new.items ≡ pushed limit self.old.machine.decided to.old.items (samples_in_bytes (reading self.old) bytes.now)) }
         ensures silent { OnErr result (to.new.items ≡ to.old.items) }
     {
-        let place = self.at - self.run.len() as u64;
-        let more = LONGEST + 1 - self.run.len();
+        let place = self.at - self.run_len() as u64;
+        let more = LONGEST + 1 - self.run_len();
         self.run.extend_from_slice(&bytes[..more])?;
         self.at += bytes.len() as u64;
         self.machine.take(place, self.run.as_slice(), limit, to)
