@@ -7,3 +7,4 @@ pub mod Entries
 pub mod TokenRuns
 pub mod Counts
 pub mod Readings
+pub mod Absorbing
