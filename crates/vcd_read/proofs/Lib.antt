@@ -8,3 +8,4 @@ pub mod TokenRuns
 pub mod Counts
 pub mod Readings
 pub mod Absorbing
+pub mod Law
