@@ -9,3 +9,4 @@ pub mod Counts
 pub mod Readings
 pub mod Absorbing
 pub mod Law
+pub mod Standings

@@ -1,13 +1,15 @@
 -- Readings of bytes one after another, and the samples that were appended.
-use Rattle.std.proofs.Common.{◌≡◌, ℕ, ◌+◌, ◌-◌, ◌<◌, ◌≤◌, Bool, true, false, not, ◌&&◌, ◌||◌, ◌==◌, List, [], ◌∷◌, ◌++◌, length, min, take, nat_lt, cond, if◌then◌else◌, refl, sym, ap, ◌∙◌, subst, arith, append_assoc, length-append, suc, zero}
+use Rattle.std.proofs.Common.{◌≡◌, ℕ, ◌+◌, ◌-◌, ◌<◌, ◌≤◌, Bool, true, false, not, ◌&&◌, ◌||◌, ◌==◌, List, [], ◌∷◌, ◌++◌, length, min, take, nat_lt, cond, if◌then◌else◌, refl, sym, ap, ◌∙◌, subst, arith, append_assoc, length-append, suc, zero, Option}
 use Rattle.std.specs.List.{list_all}
 use Rattle.std.proofs.lemmas.Bool.{ltb-true, ltb-false, lt-ltb, le-ltb, ne_eqb, eq-eqb, eqb-true, eqb-false}
 use Rattle.std.proofs.lemmas.List.{append-nil}
 use Rattle.fsb_signal.specs.declared.sample.Sample.{Sample}
 use Rattle.vcd_grammar.specs.Tokens.{Token, is_white, longest, is_long, ended_at, counted, tokens_from, open_from}
 use Rattle.vcd_grammar.specs.Judging.{turn}
+use Rattle.vcd_grammar.specs.declared.fault.VcdFault.{VcdFault}
+use Rattle.vcd_read.specs.Lines.{Lines}
 use Rattle.vcd_read.specs.Taking.{Taken, turned, decided_of, take_token, take_tokens, samples_in_tokens, pushed}
-use Rattle.vcd_read.specs.Scanning.{Reading, after_bytes, samples_in_bytes, decided_in_reading, is_dark, Fits, Part}
+use Rattle.vcd_read.specs.Scanning.{Reading, after_bytes, samples_in_bytes, decided_in_reading, is_dark, ended_taken, ended_samples, end_fault, open_samples, Fits, Part}
 use Rattle.vcd_read.proofs.TokenRuns.{tokens-append, open-append, long_tokens, long_open, short_tokens, short_open, over_tokens, over_open, taken_by}
 use Rattle.vcd_read.proofs.Counts.{tokens_count, fits_after}
 
@@ -266,10 +268,10 @@ whole_sampled r w limit bs to new none dark some short white h =
 pub behind_taken : (r mid new : Reading) (xs ys : List ℕ) → mid ≡ after_bytes r xs → new ≡ after_bytes mid ys → new ≡ after_bytes r (xs ++ ys)
 behind_taken r mid new xs ys h k = k ∙ ap (λ m. after_bytes m ys) h ∙ sym (after-append r xs ys)
 
-behind_decided : (r mid : Reading) (xs : List ℕ) → mid ≡ after_bytes r xs → decided_in_reading mid ≡ decided_in_reading r + length (samples_in_bytes r xs)
+pub behind_decided : (r mid : Reading) (xs : List ℕ) → mid ≡ after_bytes r xs → decided_in_reading mid ≡ decided_in_reading r + length (samples_in_bytes r xs)
 behind_decided r mid xs h = ap decided_in_reading h ∙ tokens_count r.taken (tokens_from r.at r.run xs)
 
-behind_samples : (r mid : Reading) (xs ys : List ℕ) → mid ≡ after_bytes r xs → samples_in_bytes r (xs ++ ys) ≡ samples_in_bytes r xs ++ samples_in_bytes mid ys
+pub behind_samples : (r mid : Reading) (xs ys : List ℕ) → mid ≡ after_bytes r xs → samples_in_bytes r (xs ++ ys) ≡ samples_in_bytes r xs ++ samples_in_bytes mid ys
 behind_samples r mid xs ys h = samples-append r xs ys ∙ ap (λ m. samples_in_bytes r xs ++ samples_in_bytes m ys) (sym h)
 
 pub behind_sampled : (r mid : Reading) (xs ys : List ℕ) (limit : ℕ) (old to new : List Sample) → mid ≡ after_bytes r xs
@@ -292,3 +294,19 @@ behind_part r mid xs ys limit old to new h k p =
 
 pub behind_fits : (r mid : Reading) (xs : List ℕ) → mid ≡ after_bytes r xs → Fits r → Fits mid
 behind_fits r mid xs h f = subst Fits (sym h) (fits_after r xs f)
+
+-- the end of the text: the last token, and the block that stands open
+pub ended_decided : (r : Reading) → (ended_taken r).lines.decided ≡ decided_in_reading r + length (ended_samples r)
+ended_decided r = tokens_count r.taken (ended_at r.at r.run)
+
+pub end_sampled : (r : Reading) (limit : ℕ) (fault : Option VcdFault) (lines : Lines) (old to new : List Sample) → fault ≡ end_fault r → lines ≡ (ended_taken r).lines
+    → to ≡ pushed limit (decided_in_reading r) old (ended_samples r)
+    → new ≡ pushed limit lines.decided to (open_samples fault lines)
+    → new ≡ pushed limit (decided_in_reading r) old (ended_samples r ++ open_samples (end_fault r) (ended_taken r).lines)
+end_sampled r limit fault lines old to new f l h k =
+    let decided : lines.decided ≡ decided_in_reading r + length (ended_samples r) = ap (λ (m : Lines). m.decided) l ∙ ended_decided r in
+    k ∙ (λ i. pushed limit (decided i) (h i) (open_samples (f i) (l i)))
+    ∙ sym (pushed-append limit (decided_in_reading r) old (ended_samples r) (open_samples (end_fault r) (ended_taken r).lines))
+
+pub end_part : (r : Reading) (limit : ℕ) (more : List Sample) (old to : List Sample) → to ≡ pushed limit (decided_in_reading r) old (ended_samples r) → Part limit (decided_in_reading r) (ended_samples r ++ more) old to
+end_part r limit more old to h = record { first = ended_samples r; rest = more; split = refl; appended = h }

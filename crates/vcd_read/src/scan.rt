@@ -2,7 +2,7 @@ ghost use Rattle.std.specs.Prelude.{◌≡◌, ℕ, ◌<◌, ◌≤◌, ◌+◌,
 ghost use Rattle.std.specs.List.{list_all};
 ghost use Rattle.vcd_grammar.specs.Tokens.{is_white, ended_at};
 ghost use Rattle.vcd_read.specs.Taking.{taken, take_tokens, samples_in_tokens, pushed};
-ghost use Rattle.vcd_read.specs.Scanning.{reading, after_bytes, samples_in_bytes, is_dark, Fits, Part};
+ghost use Rattle.vcd_read.specs.Scanning.{reading, unread, after_bytes, samples_in_bytes, is_dark, ended_taken, ended_samples, end_fault, open_samples, open_rises, Fits, Part};
 
 use crate::digits::{LONGEST, is_white};
 use crate::machine::Machine;
@@ -21,7 +21,9 @@ pub(crate) struct Scan {
 
 impl Scan {
     /// Before the first byte.
-    pub(crate) fn new(alloc: Global) -> Result<Self, AllocError> {
+    pub(crate) fn new(alloc: Global) -> Result<Self, AllocError>
+        ensures { IfOk result (λ s. reading s ≡ unread) }
+    {
         Ok(Scan {
             machine: Machine::new(alloc),
             at: 0,
@@ -152,19 +154,16 @@ impl Scan {
     /// The end of the text: the last token, whether the text may end there, and the block that stands open. Tells
     /// whether that block decides a sample.
     pub(crate) fn finish(&mut self, limit: u32, to: &mut Vec<Sample>) -> Result<bool, AllocError>
+        requires { Fits (reading self.old) }
+        ensures fault { OnOk result (self.new.machine.fault ≡ end_fault (reading self.old)) }
+        ensures decided { OnOk result (self.new.machine.decided ≡ (ended_taken (reading self.old)).lines.decided) }
+        ensures rises { IfOk result (λ more. more ≡ open_rises (end_fault (reading self.old)) (ended_taken (reading self.old)).lines) }
+        ensures samples { OnOk result (to.new.items ≡ pushed limit self.old.machine.decided to.old.items (ended_samples (reading self.old) ++ open_samples (end_fault (reading self.old)) (ended_taken (reading self.old)).lines)) }
+        ensures part { OnErr result (Part limit self.old.machine.decided (ended_samples (reading self.old) ++ open_samples (end_fault (reading self.old)) (ended_taken (reading self.old)).lines) to.old.items to.new.items) }
     {
         self.last(limit, to)?;
         self.machine.end(self.at);
-        if self.machine.fault.is_some() {
-            return Ok(false);
-        }
-        if !self.machine.rises() {
-            return Ok(false);
-        }
-        if self.machine.decided < u64::from(limit) {
-            to.push(self.machine.before.sample())?;
-        }
-        Ok(true)
+        self.machine.close(limit, to)
     }
 
     /// Bytes without white space.
