@@ -10,3 +10,4 @@ pub mod Readings
 pub mod Absorbing
 pub mod Law
 pub mod Standings
+pub mod Endings

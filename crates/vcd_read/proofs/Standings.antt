@@ -57,7 +57,7 @@ fed_samples s fed piece h =
     ∙ ap (λ xs. xs ++ samples_in_bytes (reading s) piece) (sym (samples_so_far_law fed))
 
 -- the first of two lists
-take_both : {X : Type 0} (n : ℕ) (xs ys : List X) → take n (xs ++ ys) ≡ take n xs ++ take (n - length xs) ys
+pub take_both : {X : Type 0} (n : ℕ) (xs ys : List X) → take n (xs ++ ys) ≡ take n xs ++ take (n - length xs) ys
 take_both {X} n [] ys = let e : n - 0 ≡ n = omega arith in sym (rw e (no_take n))
   where
     no_take : (m : ℕ) → take {A = X} m [] ++ take n ys ≡ take n ys
@@ -67,7 +67,7 @@ take_both zero (x ∷ xs) ys = let e : 0 - suc (length xs) ≡ 0 = omega arith i
 take_both (suc n) (x ∷ xs) ys = let e : suc n - suc (length xs) ≡ n - length xs = omega arith in rw e (ap (λ w. x ∷ w) (take_both n xs ys))
 
 -- the samples that were few enough, and what follows of them up to the limit
-take_behind : (limit : ℕ) (xs ys : List Sample) → length xs ≤ limit → take limit (xs ++ ys) ≡ xs ++ take (limit - length xs) ys
+pub take_behind : (limit : ℕ) (xs ys : List Sample) → length xs ≤ limit → take limit (xs ++ ys) ≡ xs ++ take (limit - length xs) ys
 take_behind limit xs ys few = take_both limit xs ys ∙ ap (λ w. w ++ take (limit - length xs) ys) (take_all limit xs few)
 
 -- what was appended goes up to the limit
