@@ -1,0 +1,3 @@
+pub mod OneMoreFacts
+pub mod LiveSteps
+pub mod SnoopSteps

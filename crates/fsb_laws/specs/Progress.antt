@@ -1,0 +1,45 @@
+-- How far a trace has come: which live requests have their snoop ends, responses and ends.
+use Rattle.std.specs.Prelude.{◌≡◌, ◌<◌, ℕ, zero, suc, ◌+◌, Bool, ◌&&◌, not, if◌then◌else◌, Option, Some, None, length}
+use Rattle.std.specs.Option.{option_and_then}
+use Rattle.fsb_count.specs.Options.{is_some_and}
+use Rattle.fsb_count.specs.Clocks.{count_where, from_clock}
+use Rattle.fsb_signal.specs.declared.sample.Sample.{Sample}
+use Rattle.fsb_signal.specs.declared.lines.TheConstants.Lines.{DRDY}
+use Rattle.fsb_signal.specs.Samples.{line_at}
+use Rattle.fsb_trace.specs.At.{Trace, responds_at}
+use Rattle.fsb_trace.specs.Snoop.{snoop_end_of, snoop_start_of, is_every_second_from}
+use Rattle.fsb_trace.specs.Outcome.{response_clock_of}
+use Rattle.fsb_trace.specs.Response.{end_of}
+use Rattle.fsb_trace.specs.Rules.{is_transferring_of}
+use Rattle.fsb_laws.specs.OneMore.{stalls}
+
+-- exactly the live requests below s have their snoop end
+pub record SnoopsTo (h : Trace) (s : ℕ) : Type 0 where
+  pub reached : (i : ℕ) → i < s → (t : ℕ) × (snoop_end_of h i ≡ Some t) × (t < length h)
+  pub next : snoop_end_of h s ≡ None
+
+-- live request s, the first without its snoop end, has a snoop clock at c
+unfoldable pub is_snoop_due : Trace → ℕ → ℕ → Bool
+is_snoop_due h s c = is_some_and (snoop_start_of h s) (λ start. is_every_second_from start c)
+
+-- the sample, as the next one of h, is the snoop end of live request s
+unfoldable pub ends_snoop_of : Trace → ℕ → Sample → Bool
+ends_snoop_of h s x = is_snoop_due h s (length h) && not (stalls x)
+
+-- how many responses there are
+unfoldable pub response_count : Trace → ℕ
+response_count h = count_where (responds_at h) (length h)
+
+-- how many chunks of live request i came from its response on
+unfoldable pub chunks_of : Trace → ℕ → Option ℕ
+chunks_of h i = option_and_then (λ r. Some (count_where (from_clock r (line_at DRDY h)) (length h))) (response_clock_of h i)
+
+-- how many chunks of the live request that responded last came, while its data are still on the way; none where no
+-- data are
+unfoldable pub transfer_after : Trace → ℕ → Option ℕ
+transfer_after h zero = None
+transfer_after h (suc i) = if is_transferring_of h (length h) i then chunks_of h i else None
+
+-- how many chunks came of the transfer that is on the way at the end of the trace
+unfoldable pub transfer_of : Trace → Option ℕ
+transfer_of h = transfer_after h (response_count h)
