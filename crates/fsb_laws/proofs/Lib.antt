@@ -1,3 +1,5 @@
 pub mod OneMoreFacts
 pub mod LiveSteps
 pub mod SnoopSteps
+pub mod SnoopClockSteps
+pub mod ResponseSteps

@@ -40,7 +40,7 @@ snoop_end_of-old h x v s i m to l =
     let p = to.reached i l in
     snoop_end_of-stays (length h) h v i p.0 m.agree p.2 p.1 ∙ sym p.1
 
--- what a snoop start rests on
+-- the clock of the request whose snoop starts
 first_clock : (w : Trace) (start : ℕ) (o : Option ℕ) → live_clock_of w 0 ≡ o → option_map (λ q. q + 4) o ≡ Some start → (q : ℕ) × (live_clock_of w 0 ≡ Some q) × (q + 4 ≤ start)
 first_clock w start None f e = absurd (let no : ⊥ = cc in no)
 first_clock w start (Some q) f e = (q, f, (let same : q + 4 ≡ start = cc in omega arith))
@@ -51,7 +51,7 @@ next_clock w i start None p f e = absurd (let no : ⊥ = cc in no)
 next_clock w i start (Some q) None f e = absurd (let no : ⊥ = cc in no)
 next_clock w i start (Some q) (Some t) f e = (q, f, (let top : max (q + 4) (t + 3) ≡ start = cc in omega arith))
 
-start_clock : (w : Trace) (s start : ℕ) → snoop_start_of w s ≡ Some start → (q : ℕ) × (live_clock_of w s ≡ Some q) × (q + 4 ≤ start)
+pub start_clock : (w : Trace) (s start : ℕ) → snoop_start_of w s ≡ Some start → (q : ℕ) × (live_clock_of w s ≡ Some q) × (q + 4 ≤ start)
 unfolding snoop_start_of start_after_clock start_after_end greater_of
 start_clock w zero start e = first_clock w start (live_clock_of w 0) refl e
 start_clock w (suc i) start e = next_clock w i start (live_clock_of w (suc i)) (snoop_end_of w i) refl e

@@ -1,0 +1,1 @@
+-- Responses, one sample on.
