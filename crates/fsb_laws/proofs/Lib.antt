@@ -3,3 +3,5 @@ pub mod LiveSteps
 pub mod SnoopSteps
 pub mod SnoopClockSteps
 pub mod ResponseSteps
+pub mod EndFacts
+pub mod TransferSteps

@@ -1,8 +1,8 @@
 -- A trace with one sample more than another.
-use Rattle.std.specs.Prelude.{◌≡◌, ℕ, ◌+◌, Bool, ◌&&◌, nat_eq, length, Some, slice_get}
+use Rattle.std.specs.Prelude.{◌≡◌, ℕ, ◌+◌, Bool, ◌&&◌, not, nat_eq, length, Some, slice_get}
 use Rattle.fsb_signal.specs.declared.lines.TheConstants.Lines.{ADS, AERR, HIT, HITM}
 use Rattle.fsb_signal.specs.declared.sample.Sample.{Sample}
-use Rattle.fsb_signal.specs.Samples.{has_line}
+use Rattle.fsb_signal.specs.Samples.{has_line, response_of}
 use Rattle.fsb_trace.specs.At.{Trace, line_back}
 use Rattle.fsb_trace.specs.Agree.{AgreeTo}
 
@@ -23,3 +23,7 @@ cancels_one h x = has_line x AERR && line_back ADS h (length h) 3
 -- HIT# and HITM# are asserted together in the sample
 unfoldable pub stalls : Sample → Bool
 stalls x = has_line x HIT && has_line x HITM
+
+-- RS# is not idle in the sample
+unfoldable pub responds : Sample → Bool
+responds x = not (nat_eq (response_of x) 0)

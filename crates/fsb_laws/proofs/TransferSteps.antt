@@ -1,0 +1,1 @@
+-- The transfer that is on the way, one sample on.
