@@ -5,3 +5,4 @@ pub mod SnoopClockSteps
 pub mod ResponseSteps
 pub mod EndFacts
 pub mod TransferSteps
+pub mod AnswerSteps

@@ -67,8 +67,8 @@ clock_has_start : (w : Trace) (c i : ℕ) → is_snoop_clock_of w c i ≡ true �
 unfolding is_snoop_clock_of
 clock_has_start w c i t = snoop_clock_starts w c i (snoop_start_of w i) refl (and_parts _ _ (and_parts _ _ t).0).1
 
--- a snoop end of the new trace is an old one, or the new clock's
-ended_where : (h : Trace) (x : Sample) (v : Trace) (s i t : ℕ) → OneMore h x v → Spaced h → SnoopsTo h s → s ≤ i → snoop_end_of v i ≡ Some t → t ≡ length h
+-- a snoop end that is new in the new trace is the new clock
+pub ended_where : (h : Trace) (x : Sample) (v : Trace) (s i t : ℕ) → OneMore h x v → Spaced h → SnoopsTo h s → s ≤ i → snoop_end_of v i ≡ Some t → t ≡ length h
 ended_where h x v s i t m sp to l e =
     elim (cases_Bool (ends_snoop_of h s x)) [
       | inl now ↦

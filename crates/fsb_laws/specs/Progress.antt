@@ -1,5 +1,5 @@
 -- How far a trace has come: which live requests have their snoop ends, responses and ends.
-use Rattle.std.specs.Prelude.{◌≡◌, ◌<◌, ◌≤◌, ℕ, zero, suc, ◌+◌, Bool, ◌&&◌, not, nat_lt, if◌then◌else◌, Option, Some, None, length}
+use Rattle.std.specs.Prelude.{◌≡◌, ◌<◌, ◌≤◌, ℕ, zero, suc, ◌+◌, Bool, ◌&&◌, not, nat_lt, nat_le, is_none, if◌then◌else◌, Option, Some, None, length}
 use Rattle.std.specs.Option.{option_and_then}
 use Rattle.fsb_count.specs.Options.{is_some_and}
 use Rattle.fsb_count.specs.Clocks.{count_where, from_clock}
@@ -58,3 +58,9 @@ chunk_step comes (Some k) = let now = k + (if comes then 1 else 0) in if nat_lt 
 unfoldable pub transfer_with : Trace → ℕ → Sample → Option ℕ
 transfer_with h i x =
     if responds x then (if does_move (told_by h i (response_of x)) then Some 0 else None) else transfer_of h
+
+-- the next response may come at the clock after the trace: its request's snoop end lies two clocks before at least,
+-- and no transfer is on the way
+unfoldable pub may_answer_next : Trace → Bool
+may_answer_next h =
+    is_some_and (snoop_end_of h (response_count h)) (λ t. nat_le (t + 2) (length h)) && is_none (transfer_of h)
