@@ -6,3 +6,5 @@ pub mod ResponseSteps
 pub mod EndFacts
 pub mod TransferSteps
 pub mod AnswerSteps
+pub mod ReadySteps
+pub mod OrderlySteps

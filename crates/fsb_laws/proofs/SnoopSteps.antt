@@ -116,10 +116,10 @@ is_snoop_due-more h x v s m sp to =
       | inr late ↦ starts_after-not_due v s (length h) late.1 ∙ sym (starts_after-not_due h s (length h) late.0)
     ]
 
--- the snoop ends at the new clock, or not yet
-first_step : (p : ℕ → Bool) (n : ℕ) → first_where p n ≡ None → first_where p (n + 1) ≡ cond (p n) (Some n) None
+-- where no clock below n passes, the first below the next is n, if it passes
+pub first_where-next : (p : ℕ → Bool) (n : ℕ) → first_where p n ≡ None → first_where p (n + 1) ≡ cond (p n) (Some n) None
 unfolding first_where
-first_step p n e = rw (add-one, first_where, e) refl
+first_where-next p n e = rw (add-one, first_where, e) refl
 
 same_from : (h : Trace) (x : Sample) (v : Trace) (start : ℕ) → OneMore h x v → snoop_end_from h start ≡ None → snoop_end_from v start ≡ cond (is_every_second_from start (length h) && not (stalls x)) (Some (length h)) None
 unfolding snoop_end_from ends_snoop
@@ -127,7 +127,7 @@ same_from h x v start m e =
     let below : AgreeBelow (length h) (ends_snoop h start) (ends_snoop v start) =
         record { same = λ c l. ap (λ b. is_every_second_from start c && not b) (stalls_at-agree (length h) h v c m.agree l) } in
     let none : first_where (ends_snoop v start) (length h) ≡ None = sym (first_where-same _ _ (length h) below) ∙ e in
-    rw m.size (first_step (ends_snoop v start) (length h) none
+    rw m.size (first_where-next (ends_snoop v start) (length h) none
     ∙ ap (λ b. cond (is_every_second_from start (length h) && not b) (Some (length h)) None) (stalls_at-new h x v m))
 
 end_with : (h : Trace) (x : Sample) (v : Trace) (o : Option ℕ) → OneMore h x v → snoop_end_if h o ≡ None → snoop_end_if v o ≡ cond (is_some_and o (λ start. is_every_second_from start (length h)) && not (stalls x)) (Some (length h)) None
