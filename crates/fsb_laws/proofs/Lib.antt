@@ -8,3 +8,5 @@ pub mod TransferSteps
 pub mod AnswerSteps
 pub mod ReadySteps
 pub mod OrderlySteps
+pub mod Clocks
+pub mod FlightSteps

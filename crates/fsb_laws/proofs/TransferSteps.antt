@@ -14,16 +14,10 @@ use Rattle.fsb_trace.specs.Rules.{is_transferring_of}
 use Rattle.fsb_laws.specs.OneMore.{OneMore, responds}
 use Rattle.fsb_laws.specs.Orderly.{Orderly}
 use Rattle.fsb_laws.specs.Progress.{SnoopsTo, response_count, chunks_of, transfer_after, transfer_of, transfer_with, chunk_step}
+use Rattle.fsb_laws.proofs.Clocks.{count_where-none}
 use Rattle.fsb_laws.proofs.OneMoreFacts.{line_at-old, line_at-new}
 use Rattle.fsb_laws.proofs.ResponseSteps.{response_there, response_count-more, response_clock_of-old, response_clock_of-new, moves_data-old, outcome_of-new}
 use Rattle.fsb_laws.proofs.EndFacts.{transferring_form}
-
-count_where-none : (p : ℕ → Bool) (n : ℕ) → ((k : ℕ) → k < n → p k ≡ false) → count_where p n ≡ 0
-unfolding count_where
-count_where-none p zero f = refl
-count_where-none p (suc n) f =
-    let before : count_where p n ≡ 0 = count_where-none p n (λ k l. f k (omega arith)) in
-    rw (f n (omega arith), before) refl
 
 -- the chunks of the old trace, and the new one
 chunks_more : (h : Trace) (x : Sample) (v : Trace) (r : ℕ) → OneMore h x v → r ≤ length h → count_where (from_clock r (line_at DRDY v)) (length v) ≡ count_where (from_clock r (line_at DRDY h)) (length h) + cond (has_line x DRDY) 1 0
