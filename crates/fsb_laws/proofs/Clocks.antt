@@ -14,6 +14,11 @@ all_where-same p q (suc n) a =
     let less : AgreeBelow n p q = record { same = λ c l. a.same c (omega arith) } in
     rw (all_where-same p q n less, a.same n (omega arith)) refl
 
+-- one more clock
+pub all_where-more : (p : ℕ → Bool) (n : ℕ) → all_where p (n + 1) ≡ all_where p n ++ cond (p n) (n ∷ []) []
+unfolding all_where
+all_where-more p n = rw add-one refl
+
 one : (p r : ℕ → Bool) (n : ℕ) (b : Bool) (c : Bool) → r n ≡ c → cond (b && c) (n ∷ []) [] ≡ filter r (cond b (n ∷ []) [])
 one p r n false c e = refl
 one p r n true true e = rw e refl
