@@ -19,7 +19,9 @@ fn sample(lines: u32) -> Sample {
 }
 
 /// The winner at the next clock after these, by the definition: that of a request that begins there.
-fn next_winner(alloc: Global, clocks: &[u32]) -> Result<Option<Who>, Memory> {
+fn next_winner(alloc: Global, clocks: &[u32]) -> Result<Option<Who>, Memory>
+    requires { length clocks.now < 2 ^ 31 }
+{
     let mut w = Vec::new(alloc);
     for lines in clocks {
         w.push(sample(*lines))?;
@@ -35,7 +37,7 @@ fn next_winner(alloc: Global, clocks: &[u32]) -> Result<Option<Who>, Memory> {
 /// Asserts that the arbiter's winner is the definition's at each clock of the run and at the one after it, and that
 /// these are the requests and their winners.
 fn expect_winners(rt: &impl Abort, alloc: Global, clocks: &[u32], begun: &[(usize, Who)])
-    requires { length clocks.now < 2 ^ 32 }
+    requires { length clocks.now < 2 ^ 31 }
 {
     let mut arbiter = Arbiter::new();
     let mut next = 0;
