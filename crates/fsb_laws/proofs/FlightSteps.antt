@@ -52,7 +52,7 @@ pub end_before-same : (h : Trace) (x : Sample) (v : Trace) (i : ℕ) → OneMore
 end_before-same h x v i m o = end_before_cases h x v i (end_of h i) (end_of v i) m o refl refl
 
 -- a request of which it is not known whether it is live has not ended
-ended_known : (h : Trace) (q : ℕ) (o : Option ℕ) → Orderly h → q < length h → is_live h q ≡ true → length h ≤ q + 3 → end_of h (live_number_of h q) ≡ o → is_before o (length h) ≡ false
+pub ended_known : (h : Trace) (q : ℕ) (o : Option ℕ) → Orderly h → q < length h → is_live h q ≡ true → length h ≤ q + 3 → end_of h (live_number_of h q) ≡ o → is_before o (length h) ≡ false
 unfolding is_before is_some_and live_number_of live_clock_of
 ended_known h q None o l t late e = refl
 ended_known h q (Some u) o l t late e =
@@ -163,8 +163,8 @@ unfolding live_count
 in_flight-count h e to =
     ap length (in_flight-live h e to) ∙ length-drop e (all_where (is_live h) (length h)) ∙ ap (λ k. k - e) (length-all_where (is_live h) (length h))
 
--- with the sample, those leave that it cancels or ends, and the request that it begins comes
-at_or_before : (n : ℕ) (o : Option ℕ) → is_before o (n + 1) ≡ (is_before o n || is_at o n)
+-- a number that is below the next clock is below n, or is n
+pub at_or_before : (n : ℕ) (o : Option ℕ) → is_before o (n + 1) ≡ (is_before o n || is_at o n)
 unfolding is_before is_at is_some_and
 at_or_before n None = refl
 at_or_before n (Some t) =
@@ -224,6 +224,7 @@ old_ones h x v m o =
 new_one : (h : Trace) (x : Sample) (v : Trace) → OneMore h x v → Orderly v → is_in_flight v (length h + 1) (length h) ≡ has_line x ADS
 new_one h x v m o = ap (λ n. is_in_flight v n (length h)) (sym m.size) ∙ is_in_flight-new h x v m o
 
+-- with the sample, those leave that it cancels or ends, and the request that it begins comes
 pub in_flight-more : (h : Trace) (x : Sample) (v : Trace) → OneMore h x v → Orderly h → Orderly v → in_flight v (length v) ≡ filter (λ q. not (leaves h x v q)) (in_flight h (length h)) ++ cond (has_line x ADS) (length h ∷ []) []
 unfolding in_flight
 in_flight-more h x v m o ov =

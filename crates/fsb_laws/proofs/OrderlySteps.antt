@@ -94,7 +94,8 @@ may_answer-stays n w v c i a l t =
       clear = clear-stays n w v i p.snoop c a p.before l p.is_snoop p.clear;
     })
 
-response_now : (h : Trace) (x : Sample) (v : Trace) (i r : ℕ) → OneMore h x v → response_clock_of v i ≡ Some r → length h ≤ r → (i ≡ response_count h) × (r ≡ length h) × (responds x ≡ true)
+-- a response of the new trace that is no old one is the sample
+pub response_now : (h : Trace) (x : Sample) (v : Trace) (i r : ℕ) → OneMore h x v → response_clock_of v i ≡ Some r → length h ≤ r → (i ≡ response_count h) × (r ≡ length h) × (responds x ≡ true)
 response_now h x v i r m e l =
     let counted = response_counted v i r e in
     let more = response_count-more h x v m in
