@@ -12,3 +12,4 @@ pub mod Clocks
 pub mod FlightSteps
 pub mod ReplySteps
 pub mod OutstandingSteps
+pub mod BeginSteps
