@@ -26,5 +26,5 @@ open_of h = filter_map (open_at h) (outstanding h (length h))
 
 -- the outstanding requests now, and those when the request of the last clock began
 pub record OutstandingStands (kept : Outstanding) (h : Trace) : Type 0 where
-  pub now : kept.«open».items ≡ open_of h
+  pub current : kept.current.items ≡ open_of h
   pub before : line_back ADS h (length h) 1 ≡ true → kept.before.items ≡ open_of (take (length h - 1) h)
