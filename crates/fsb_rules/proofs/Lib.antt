@@ -1,1 +1,5 @@
 pub mod Room
+pub mod Windows
+pub mod Lines
+pub mod QueueFacts
+pub mod QueueLength

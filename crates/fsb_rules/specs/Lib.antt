@@ -2,6 +2,7 @@ pub mod Asked
 pub mod Tests
 pub mod OpenTests
 pub mod Steps
+pub mod Window
 pub mod Recent
 pub mod Queue
 pub mod Outstanding

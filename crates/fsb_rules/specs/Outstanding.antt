@@ -1,5 +1,5 @@
 -- What is kept of the outstanding requests.
-use Rattle.std.specs.Prelude.{◌≡◌, ℕ, ◌-◌, true, if◌then◌else◌, List, Option, None, length, take}
+use Rattle.std.specs.Prelude.{◌≡◌, ◌<◌, ◌≤◌, ℕ, ◌-◌, true, All, count_by, if◌then◌else◌, List, Option, None, length, take}
 use Rattle.std.specs.Option.{option_map}
 use Rattle.std.specs.List.{filter_map}
 use Rattle.fsb_signal.specs.declared.lines.TheConstants.Lines.{ADS}
@@ -9,6 +9,7 @@ use Rattle.fsb_trace.specs.Requests.{live_number_of}
 use Rattle.fsb_trace.specs.Outcome.{is_deferred}
 use Rattle.fsb_trace.specs.Flight.{outstanding, reply_clock_of}
 use Rattle.fsb_rules.specs.declared.outstanding.Open.{Open}
+use Rattle.fsb_rules.specs.OpenTests.{is_of_agent}
 use Rattle.fsb_rules.specs.declared.outstanding.Outstanding.{Outstanding}
 
 -- live request i, which begins at p, as it is kept
@@ -24,7 +25,10 @@ open_at h p = option_map (open_from h (live_number_of h p) p) (request_at h p)
 unfoldable pub open_of : Trace → List Open
 open_of h = filter_map (open_at h) (outstanding h (length h))
 
--- the outstanding requests now, and those when the request of the last clock began
+-- the outstanding requests now, at most four of each symmetric agent, and those when the request of the last clock began
 pub record OutstandingStands (kept : Outstanding) (h : Trace) : Type 0 where
   pub current : kept.current.items ≡ open_of h
+  pub few : (a : ℕ) → count_by (is_of_agent a) kept.current.items ≤ 4
+  pub own : All (λ o. o.did < 64) kept.current.items
+  pub fewer : line_back ADS h (length h) 1 ≡ true → (a : ℕ) → count_by (is_of_agent a) kept.current.items ≤ count_by (is_of_agent a) kept.before.items
   pub before : line_back ADS h (length h) 1 ≡ true → kept.before.items ≡ open_of (take (length h - 1) h)
