@@ -3,3 +3,6 @@ pub mod Windows
 pub mod Lines
 pub mod QueueFacts
 pub mod QueueLength
+pub mod StartRules
+pub mod SnoopRules
+pub mod AnswerRules

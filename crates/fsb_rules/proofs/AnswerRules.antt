@@ -1,0 +1,1 @@
+-- The rules of responses, targets and data, with a new sample.
