@@ -61,7 +61,8 @@ goes_on h x v (suc i) m o e =
     ∙ transfer_by-step (moves_data h i) (has_line x DRDY) _
     ∙ ap (chunk_step (has_line x DRDY)) (sym (transfer_after-form h i p.0 p.1))
 
-moves_new : (h : Trace) (x : Sample) (v : Trace) (s : ℕ) → OneMore h x v → SnoopsTo h s → response_count h < s → responds x ≡ true → moves_data v (response_count h) ≡ does_move (told_by h (response_count h) (response_of x))
+-- whether data move with the response that the sample is
+pub moves_new : (h : Trace) (x : Sample) (v : Trace) (s : ℕ) → OneMore h x v → SnoopsTo h s → response_count h < s → responds x ≡ true → moves_data v (response_count h) ≡ does_move (told_by h (response_count h) (response_of x))
 unfolding moves_data is_some_and
 moves_new h x v s m to l t = rw (outcome_of-new h x v s m to l t) refl
 

@@ -6,3 +6,6 @@ pub mod QueueLength
 pub mod StartRules
 pub mod SnoopRules
 pub mod AnswerRules
+pub mod Transfers
+pub mod DataRules
+pub mod QueueSteps

@@ -46,7 +46,7 @@ pub record IsKnown (h : Trace) (i : ℕ) : Type 0 where
   pub early : clock + 1 < length h
   pub is_request : request_at h clock ≡ Some request
 
-asked_of-form : (h : Trace) (i q : ℕ) (r : Request) → live_clock_of h i ≡ Some q → request_at h q ≡ Some r → asked_of h i ≡ Some (asked_from q r)
+pub asked_of-form : (h : Trace) (i q : ℕ) (r : Request) → live_clock_of h i ≡ Some q → request_at h q ≡ Some r → asked_of h i ≡ Some (asked_from q r)
 unfolding asked_of asked_at
 asked_of-form h i q r e f = rw (e, f) refl
 
@@ -67,7 +67,7 @@ unfolding live_clock_of
 live_ads h i q e = is_live-ads h q (nth_where-found (is_live h) i (length h) q e).1
 
 -- those below the count of known ones are known
-known_clock : (h : Trace) (i : ℕ) → i < known_count h → (q : ℕ) × (live_clock_of h i ≡ Some q) × (q + 1 < length h)
+pub known_clock : (h : Trace) (i : ℕ) → i < known_count h → (q : ℕ) × (live_clock_of h i ≡ Some q) × (q + 1 < length h)
 unfolding known_count live_clock_of
 known_clock h i l =
     let p = nth_where-there (is_live h) i (length h - 1) l in
