@@ -9,3 +9,7 @@ pub mod AnswerRules
 pub mod Transfers
 pub mod DataRules
 pub mod QueueSteps
+pub mod Goes
+pub mod QueueGoes
+pub mod WaitingGoes
+pub mod QueueFollows

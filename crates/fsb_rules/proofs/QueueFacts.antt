@@ -153,7 +153,7 @@ pub record IsSnooped (h : Trace) (i : ℕ) (w : Snooped) : Type 0 where
   pub is_clock : snoop_end_of h i ≡ Some clock
   pub same : w ≡ snooped_with h clock (asked_from known.clock known.request)
 
-snooped_of-form : (h : Trace) (i t : ℕ) (a : Asked) → snoop_end_of h i ≡ Some t → asked_of h i ≡ Some a → snooped_of h i ≡ Some (snooped_with h t a)
+pub snooped_of-form : (h : Trace) (i t : ℕ) (a : Asked) → snoop_end_of h i ≡ Some t → asked_of h i ≡ Some a → snooped_of h i ≡ Some (snooped_with h t a)
 unfolding snooped_of
 snooped_of-form h i t a e f = rw (e, f) refl
 

@@ -98,7 +98,7 @@ cancels_it : (x : Sample) (n q : ℕ) → has_line x AERR ≡ true → q + 3 ≡
 unfolding cancels
 cancels_it x n q t e = and_from _ _ t (eq-eqb (q + 3) n e)
 
-none_behind : (h : Trace) (q c : ℕ) → Spaced h → q + 3 ≡ length h → line_at ADS h q ≡ true → q < c → c < length h → is_live h c ≡ false
+pub none_behind : (h : Trace) (q c : ℕ) → Spaced h → q + 3 ≡ length h → line_at ADS h q ≡ true → q < c → c < length h → is_live h c ≡ false
 none_behind h q c s e t l k = false_from_ne_true _ (λ u. let far = s.apart q c l t (is_live-ads h c u) in omega arith)
 
 new_none : (h : Trace) (x : Sample) (v : Trace) (q c : ℕ) → OneMore h x v → Spaced h → q + 3 ≡ length h → line_at ADS h q ≡ true → q < c → c < length h → is_live v c ≡ false
@@ -151,7 +151,7 @@ begun_clock h x v m t f =
     (nth_where-at (is_live v) (length v) (length h - 1) (omega (arith, m.size)) live)
 
 -- the known requests of both traces are the same
-asked_kept : (h : Trace) (x : Sample) (v : Trace) (i : ℕ) → OneMore h x v → Spaced h → Decoded h → i < known_count h → i < known_count v → asked_of h i ≡ asked_of v i
+pub asked_kept : (h : Trace) (x : Sample) (v : Trace) (i : ℕ) → OneMore h x v → Spaced h → Decoded h → i < known_count h → i < known_count v → asked_of h i ≡ asked_of v i
 asked_kept h x v i m s d l k =
     let a = is_known h i d l in
     let clock : live_clock_of v i ≡ Some a.clock = kept_clock h x v i a.clock m s a.is_clock a.early k in

@@ -45,7 +45,7 @@ unfolding ends_snoop_by ends_snoop_of
 ends_by-ends k h x f = rw (is_due_by-due k.queue h f.queue f.decoded) refl
 
 -- the first request of a list, where the request is known
-first_of : (h : Trace) (s : ℕ) (xs : List Asked) → Window xs (asked_of h) s (known_count h) → s < known_count h → slice_get xs 0 ≡ asked_of h s
+pub first_of : (h : Trace) (s : ℕ) (xs : List Asked) → Window xs (asked_of h) s (known_count h) → s < known_count h → slice_get xs 0 ≡ asked_of h s
 first_of h s [] w l = absurd (omega (arith, w.size))
 first_of h s (a ∷ xs) w l = w.at 0 (omega arith) ∙ ap (asked_of h) (add-zero s)
 
