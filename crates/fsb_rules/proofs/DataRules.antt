@@ -77,7 +77,7 @@ chunks_begun k h x f may t =
     ap chunks_in (moving_begun k h x f may t)
     ∙ one_chunk (does_move (told_by h (response_count h) (response_of x))) (has_next k.queue h f.queue f.orderly f.decoded may).next.asked 0
 
-chunks_going : (k : Checker) (h : Trace) (x : Sample) → Follows k h → responds x ≡ false → chunks_in (moving_by k.queue (length h) x) ≡ transfer_of h
+pub chunks_going : (k : Checker) (h : Trace) (x : Sample) → Follows k h → responds x ≡ false → chunks_in (moving_by k.queue (length h) x) ≡ transfer_of h
 chunks_going k h x f e =
     ap chunks_in (moving_kept k h x e ∙ f.queue.moving) ∙ chunks_kept h f.orderly f.decoded
 

@@ -13,3 +13,6 @@ pub mod Goes
 pub mod QueueGoes
 pub mod WaitingGoes
 pub mod QueueFollows
+pub mod Endings
+pub mod Agents
+pub mod OpenLists

@@ -37,7 +37,7 @@ use Rattle.fsb_rules.proofs.DataRules.{chunks_in, chunks_now, moving_begun, movi
 use Rattle.fsb_rules.proofs.Goes.{Goes}
 
 -- what is kept of a request with its snoop end stays
-asked_same : (k : Checker) (h : Trace) (x : Sample) (v : Trace) (b : Option Asked) (g : Goes k h x v b) (i t : ℕ) → i < g.follows.queue.snooped → snoop_end_of h i ≡ Some t → asked_of h i ≡ asked_of v i
+pub asked_same : (k : Checker) (h : Trace) (x : Sample) (v : Trace) (b : Option Asked) (g : Goes k h x v b) (i t : ℕ) → i < g.follows.queue.snooped → snoop_end_of h i ≡ Some t → asked_of h i ≡ asked_of v i
 asked_same k h x v b g i t l e =
     let now = snoop_end_of-old h x v g.follows.queue.snooped i g.more g.follows.queue.to l ∙ e in
     asked_kept h x v i g.more g.follows.orderly.spaced g.follows.decoded (snooped_known h i t e) (snooped_known v i t now)
@@ -125,7 +125,7 @@ asked_with h t a = refl
 asked_in : (h : Trace) (i : ℕ) (w : Snooped) (s : IsSnooped h i w) → w.asked ≡ asked_from s.known.clock s.known.request
 asked_in h i w s = ap (λ a. a.asked) s.same ∙ asked_with h s.clock (asked_from s.known.clock s.known.request)
 
-next_asked : (k : Checker) (h : Trace) (x : Sample) (v : Trace) (b : Option Asked) (g : Goes k h x v b) (may : may_answer_next h ≡ true) → asked_of v (response_count h) ≡ Some (has_next k.queue h g.follows.queue g.follows.orderly g.follows.decoded may).next.asked
+pub next_asked : (k : Checker) (h : Trace) (x : Sample) (v : Trace) (b : Option Asked) (g : Goes k h x v b) (may : may_answer_next h ≡ true) → asked_of v (response_count h) ≡ Some (has_next k.queue h g.follows.queue g.follows.orderly g.follows.decoded may).next.asked
 next_asked k h x v b g may =
     let n = has_next k.queue h g.follows.queue g.follows.orderly g.follows.decoded may in
     let l = answered_below h g.follows.queue.snooped g.follows.queue.to may in
@@ -144,11 +144,11 @@ unfolding moving_after moving_with
 kept_asked h zero m e = absurd (let no : ⊥ = cc in no)
 kept_asked h (suc i) m e = (i, refl, kept_parts h i m (transfer_of h) (asked_of h i) refl e)
 
-moving_parts : (h : Trace) (m : Moving) → moving_of h ≡ Some m → (i : ℕ) × (response_count h ≡ suc i) × (asked_of h i ≡ Some m.asked)
+pub moving_parts : (h : Trace) (m : Moving) → moving_of h ≡ Some m → (i : ℕ) × (response_count h ≡ suc i) × (asked_of h i ≡ Some m.asked)
 unfolding moving_of
 moving_parts h m e = kept_asked h (response_count h) m e
 
-snoop_below : (h : Trace) (s i t : ℕ) → SnoopsTo h s → snoop_end_of h i ≡ Some t → i < s
+pub snoop_below : (h : Trace) (s i t : ℕ) → SnoopsTo h s → snoop_end_of h i ≡ Some t → i < s
 snoop_below h s i t to e =
     elim (cases_lt i s) [
       | inl l ↦ l

@@ -6,7 +6,7 @@ use Rattle.fsb_signal.specs.declared.lines.TheConstants.Lines.{ADS}
 use Rattle.fsb_encode.specs.declared.request.Request.{Request}
 use Rattle.fsb_trace.specs.At.{Trace, line_back, request_at}
 use Rattle.fsb_trace.specs.Requests.{live_number_of}
-use Rattle.fsb_trace.specs.Outcome.{is_deferred}
+use Rattle.fsb_trace.specs.Outcome.{response_clock_of, is_deferred}
 use Rattle.fsb_trace.specs.Flight.{outstanding, reply_clock_of}
 use Rattle.fsb_rules.specs.declared.outstanding.Open.{Open}
 use Rattle.fsb_rules.specs.OpenTests.{is_of_agent}
@@ -15,7 +15,12 @@ use Rattle.fsb_rules.specs.declared.outstanding.Outstanding.{Outstanding}
 -- live request i, which begins at p, as it is kept
 unfoldable pub open_from : Trace → ℕ → ℕ → Request → Open
 open_from h i p r =
-    record { clock = p; did = r.did; is_deferred = is_deferred h i; reply = if is_deferred h i then reply_clock_of h i else None }
+    record {
+      clock = p;
+      did = r.did;
+      deferred = if is_deferred h i then response_clock_of h i else None;
+      reply = if is_deferred h i then reply_clock_of h i else None;
+    }
 
 -- the request that begins at p, where it is decoded
 unfoldable pub open_at : Trace → ℕ → Option Open

@@ -112,4 +112,4 @@ first_broken k n x begun winner =
 -- what happens with the sample
 unfoldable pub happened_by : Checker → ℕ → Sample → Option Asked → Happened
 happened_by k n x begun =
-    record { cancelled = if has_line x AERR then Some (n - 3) else None; ended = ended_by k.queue n x; begun = begun }
+    record { clock = n; cancelled = if has_line x AERR then Some (n - 3) else None; ended = ended_by k.queue n x; begun = begun }

@@ -267,6 +267,7 @@ impl Checker {
         ensures { result ≡ happened_by self.now clock sample.now begun }
     {
         Happened {
+            clock,
             cancelled: if sample.has(Lines::AERR) {
                 Some(clock.saturating_sub(3))
             } else {

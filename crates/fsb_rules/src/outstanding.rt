@@ -3,8 +3,8 @@
 ghost use Rattle.std.specs.Prelude.{◌≡◌, ◌<◌, ◌≤◌, ◌/◌, true, [], ◌++◌, length, count_by, if◌then◌else◌, Option, None};
 ghost use Rattle.std.specs.List.{list_any, filter_map};
 ghost use Rattle.std.specs.Option.{option_and_then, option_to_list, is_some};
-ghost use Rattle.fsb_count.specs.Options.{is_at};
-ghost use Rattle.fsb_rules.specs.OpenTests.{reply_by, reply_after, open_after_end, open_after, open_begun, awaits, has_id, is_of_agent, is_wrong_among};
+ghost use Rattle.fsb_count.specs.Options.{is_at, is_before};
+ghost use Rattle.fsb_rules.specs.OpenTests.{reply_by, reply_after, open_with, open_after_end, open_after, open_begun, awaits, has_id, is_of_agent, is_wrong_among};
 
 use crate::asked::{Asked, Ended};
 use arrayvec::ArrayVec;
@@ -16,8 +16,8 @@ pub struct Open {
     clock: u32,
     /// Its deferred ID.
     did: u8,
-    /// Whether it is Deferred.
-    is_deferred: bool,
+    /// The clock of its response, where it is Deferred.
+    deferred: Option<u32>,
     /// The first clock of the live reply to it.
     reply: Option<u32>,
 }
@@ -34,6 +34,8 @@ pub struct Outstanding {
 /// What happens to requests with a sample.
 #[derive(Clone, Copy, Debug, PartialEq, Eq)]
 pub struct Happened {
+    /// The clock.
+    pub clock: u32,
     /// The first clock of the request that is cancelled.
     pub cancelled: Option<u32>,
     /// The request that ends.
@@ -53,6 +55,17 @@ fn is_at(clock: Option<u32>, other: u32) -> bool
     }
 }
 
+/// Whether there is such a clock, and it lies before this one.
+#[tactic(auto, unfolding(fsb_count::specs::Options::is_before, fsb_count::specs::Options::is_some_and))]
+fn is_before(clock: Option<u32>, other: u32) -> bool
+    ensures { result ≡ is_before clock other }
+{
+    match clock {
+        Some(clock) => clock < other,
+        None => false,
+    }
+}
+
 /// The outstanding request that is begun, if it is no reply.
 #[tactic(auto, unfolding(crate::specs::OpenTests::open_begun))]
 fn open_begun(asked: &Asked) -> Option<Open>
@@ -64,7 +77,7 @@ fn open_begun(asked: &Asked) -> Option<Open>
         Some(Open {
             clock: asked.clock,
             did: asked.did,
-            is_deferred: false,
+            deferred: None,
             reply: None,
         })
     }
@@ -76,7 +89,7 @@ impl Open {
     fn reply_by(&self, asked: &Asked) -> Option<u32>
         ensures { result ≡ reply_by self.now asked.now }
     {
-        if asked.is_reply && self.is_deferred && self.did == asked.did {
+        if asked.is_reply && is_before(self.deferred, asked.clock) && self.did == asked.did {
             Some(asked.clock)
         } else {
             None
@@ -103,21 +116,34 @@ impl Open {
         }
     }
 
-    /// What is left of it with this reply, where this request ends.
-    #[tactic(auto, unfolding(crate::specs::OpenTests::open_after_end))]
-    fn after_end(&self, reply: Option<u32>, ended: &Ended) -> Option<Open>
-        ensures { result ≡ open_after_end self.now reply ended.now }
+    /// It with this reply, and with this clock of its response, if it is Deferred.
+    #[tactic(auto, unfolding(crate::specs::OpenTests::open_with))]
+    fn with(&self, deferred: Option<u32>, reply: Option<u32>) -> Open
+        ensures { result ≡ open_with self.now deferred reply }
     {
-        let clock = ended.asked.clock;
-        if is_at(reply, clock) || clock == self.clock && !ended.is_deferred {
+        Open {
+            clock: self.clock,
+            did: self.did,
+            deferred,
+            reply,
+        }
+    }
+
+    /// What is left of it with this reply, where this request ends at the clock.
+    #[tactic(auto, unfolding(crate::specs::OpenTests::open_after_end))]
+    fn after_end(&self, clock: u32, reply: Option<u32>, ended: &Ended) -> Option<Open>
+        ensures { result ≡ open_after_end clock self.now reply ended.now }
+    {
+        if is_at(reply, ended.asked.clock) {
             None
+        } else if ended.asked.clock == self.clock {
+            if ended.is_deferred {
+                Some(self.with(Some(clock), reply))
+            } else {
+                None
+            }
         } else {
-            Some(Open {
-                clock: self.clock,
-                did: self.did,
-                is_deferred: self.is_deferred || clock == self.clock,
-                reply,
-            })
+            Some(self.with(self.deferred, reply))
         }
     }
 
@@ -131,13 +157,8 @@ impl Open {
         }
         let reply = self.reply_after(happened);
         match happened.ended {
-            Some(ended) => self.after_end(reply, &ended),
-            None => Some(Open {
-                clock: self.clock,
-                did: self.did,
-                is_deferred: self.is_deferred,
-                reply,
-            }),
+            Some(ended) => self.after_end(happened.clock, reply, &ended),
+            None => Some(self.with(self.deferred, reply)),
         }
     }
 
@@ -146,7 +167,7 @@ impl Open {
     fn awaits(&self, did: u8) -> bool
         ensures { result ≡ awaits did self.now }
     {
-        self.did == did && self.is_deferred && self.reply.is_none()
+        self.did == did && self.deferred.is_some() && self.reply.is_none()
     }
 
     /// Whether it has this ID.
