@@ -1,19 +1,16 @@
 -- What is outstanding where a request begins: it shows in the samples before.
-use Rattle.std.proofs.Common.{ℕ, zero, suc, ◌+◌, ◌-◌, ◌<◌, ◌≤◌, ◌≡◌, Bool, true, false, cond, not, ◌&&◌, ◌||◌, nat_le, nat_lt, nat_eq, Option, Some, None, is_some, length, refl, sym, ap, ◌∙◌, arith, inl, inr, subst, add-one}
-use Rattle.std.specs.Option.{option_map, option_and_then}
-use Rattle.std.proofs.lemmas.Bool.{cases_Bool, cases_lt, cases_eq, cases_order, and_parts, and_left, and_right, and_from, or_left, or_right, both_ways, ltb-true, lt-ltb, le-ltb, false_from_ne_true, not-false, not_from_false}
+use Rattle.std.proofs.Common.{ℕ, ◌+◌, ◌<◌, ◌≤◌, ◌≡◌, Bool, true, false, not, ◌&&◌, ◌||◌, nat_lt, Option, Some, None, is_some, length, refl, sym, ap, ◌∙◌, arith, inl, inr}
+use Rattle.std.proofs.lemmas.Bool.{cases_Bool, cases_lt, cases_eq, and_parts, and_left, and_right, and_from, or_left, or_right, both_ways, ltb-true, lt-ltb, le-ltb, false_from_ne_true, not-false, not_from_false}
 use Rattle.fsb_count.specs.Options.{is_some_and, is_before}
-use Rattle.fsb_count.specs.Clocks.{first_where, any_where, count_where}
 use Rattle.fsb_count.proofs.First.{first_where-found, first_where-none, first_where-at}
 use Rattle.fsb_count.proofs.Any.{any_where-at, any_where-off}
 use Rattle.fsb_count.proofs.Count.{count_where-same}
 use Rattle.fsb_count.proofs.Nth.{nth_where-at}
 use Rattle.fsb_signal.specs.declared.lines.TheConstants.Lines.{ADS}
-use Rattle.fsb_signal.specs.declared.sample.Sample.{Sample}
-use Rattle.fsb_signal.specs.Samples.{has_line, line_at}
+use Rattle.fsb_signal.specs.Samples.{line_at}
 use Rattle.fsb_trace.specs.At.{Trace, request_at}
-use Rattle.fsb_trace.specs.Requests.{is_cancelled, is_live, live_clock_of, live_number_of, live_request_of, is_reply}
-use Rattle.fsb_trace.specs.Outcome.{response_clock_of, outcome_of, is_deferred, is_deferral}
+use Rattle.fsb_trace.specs.Requests.{is_cancelled, is_live, live_clock_of, live_number_of, live_request_of}
+use Rattle.fsb_trace.specs.Outcome.{response_clock_of, is_deferred}
 use Rattle.fsb_trace.specs.Response.{end_of}
 use Rattle.fsb_trace.specs.Flight.{is_dropped, has_ended, is_in_flight, is_reply_to, is_live_reply_to, reply_clock_of, reply_end_of, last_clock_of, is_finished, is_outstanding}
 use Rattle.fsb_trace.specs.Deferral.{answers, is_answered}
@@ -21,12 +18,11 @@ use Rattle.fsb_trace.specs.Agree.{AgreeTo}
 use Rattle.fsb_trace.proofs.AgreeAt.{AgreeTo-sym, line_at-agree, request_at-agree, is_cancelled-agree, is_live-agree}
 use Rattle.fsb_trace.proofs.Stay.{response_clock_of-stays}
 use Rattle.fsb_trace.proofs.StayEnds.{end_of-response, live_request_of-stays, is_deferred-stays}
-use Rattle.fsb_laws.specs.Orderly.{Spaced, Orderly}
+use Rattle.fsb_laws.specs.Orderly.{Orderly}
 use Rattle.fsb_laws.specs.Progress.{response_count}
 use Rattle.fsb_laws.proofs.LiveSteps.{is_live-ads, is_cancelled-late}
-use Rattle.fsb_laws.proofs.ResponseSteps.{has_answer, response_there, response_past, response_counted}
-use Rattle.fsb_laws.proofs.EndFacts.{end_of-back, end_of-forth, end_past}
-use Rattle.fsb_laws.proofs.ReplySteps.{reply_late}
+use Rattle.fsb_laws.proofs.ResponseSteps.{has_answer, response_there, response_counted}
+use Rattle.fsb_laws.proofs.EndFacts.{end_of-back, end_of-forth}
 use Rattle.fsb_laws.proofs.OutstandingSteps.{deferred_response, end_after_clock, last_clock_of-plain, last_clock_of-deferred, reply_end_of-none, reply_end_of-some}
 
 -- v goes on from u with a request, and both are orderly
@@ -103,11 +99,11 @@ not_before n (Some e) f = le-ltb e n (f e refl)
 late_end : (w : Trace) (p n : ℕ) → Orderly w → p < length w → is_live w p ≡ true → n ≤ p + 6 → is_before (end_of w (live_number_of w p)) n ≡ false
 late_end w p n o l t late =
     not_before n (end_of w (live_number_of w p)) (λ e f.
-      let q = end_after_clock w (live_number_of w p) e o f in
-      let c = clock_of_number w p l t in
-      let a = q.1 in
-      let same : q.0 ≡ p = cc in
-      omega (arith, q.2))
+    let q = end_after_clock w (live_number_of w p) e o f in
+    let c = clock_of_number w p l t in
+    let a = q.1 in
+    let same : q.0 ≡ p = cc in
+    omega (arith, q.2))
 
 live_reply : (w : Trace) (i q : ℕ) → reply_clock_of w i ≡ Some q → (is_live w q ≡ true) × (is_live_reply_to w i q ≡ true) × (q < length w) × ((k : ℕ) → k < q → is_live_reply_to w i k ≡ false)
 unfolding reply_clock_of is_live_reply_to
@@ -260,11 +256,11 @@ last_after_plain w i e true d o f =
 late_finish : (w : Trace) (p n : ℕ) → Orderly w → p < length w → is_live w p ≡ true → n ≤ p + 6 → is_before (last_clock_of w (live_number_of w p)) n ≡ false
 late_finish w p n o l t late =
     not_before n (last_clock_of w (live_number_of w p)) (λ e f.
-      let q = last_after_plain w (live_number_of w p) e (is_deferred w (live_number_of w p)) refl o f in
-      let c = clock_of_number w p l t in
-      let a = q.1 in
-      let same : q.0 ≡ p = cc in
-      omega (arith, q.2))
+    let q = last_after_plain w (live_number_of w p) e (is_deferred w (live_number_of w p)) refl o f in
+    let c = clock_of_number w p l t in
+    let a = q.1 in
+    let same : q.0 ≡ p = cc in
+    omega (arith, q.2))
 
 late_not_finished : (w : Trace) (p n : ℕ) (t : Bool) → Orderly w → p < length w → is_live w p ≡ t → n ≤ p + 6 → is_finished w n p ≡ false
 unfolding is_finished
@@ -377,7 +373,7 @@ answered_none : (u v : Trace) (i : ℕ) → BeginsAfter u v → i < response_cou
 unfolding is_answered
 answered_none u v i b l e =
     any_where-off (answers v (length u) i) (length u) (λ q k.
-      false_from_ne_true _ (not_answering u v i q b l (none_at_all u i e q k) k))
+    false_from_ne_true _ (not_answering u v i q b l (none_at_all u i e q k) k))
 
 answered_cases : (u v : Trace) (i : ℕ) (o : Option ℕ) → BeginsAfter u v → i < response_count u → reply_clock_of u i ≡ o → is_answered v (length u) i ≡ is_some o
 answered_cases u v i None b l e = answered_none u v i b l e

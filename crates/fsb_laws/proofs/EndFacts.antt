@@ -1,8 +1,8 @@
 -- Which live requests have their ends in an orderly trace.
-use Rattle.std.proofs.Common.{ℕ, zero, suc, ◌+◌, ◌-◌, ◌<◌, ◌≤◌, ◌≡◌, Bool, true, false, cond, not, ◌&&◌, nat_le, nat_lt, Option, Some, None, length, refl, sym, ap, ◌∙◌, arith, inl, inr, subst}
-use Rattle.std.proofs.lemmas.Bool.{cases_Bool, cases_lt, cases_eq, and_parts, and_left, and_from, ltb-true, ltb-false, lt-ltb}
+use Rattle.std.proofs.Common.{ℕ, zero, suc, ◌<◌, ◌≤◌, ◌≡◌, true, false, ◌&&◌, nat_lt, Option, Some, None, length, refl, sym, ◌∙◌, arith, inl, inr, subst}
+use Rattle.std.proofs.lemmas.Bool.{cases_Bool, cases_eq, and_parts, ltb-true, ltb-false}
 use Rattle.fsb_count.specs.Options.{is_some_and, is_before}
-use Rattle.fsb_count.specs.Clocks.{count_where, nth_where, from_clock}
+use Rattle.fsb_count.specs.Clocks.{count_where, from_clock}
 use Rattle.fsb_count.proofs.Nth.{nth_where-found, nth_where-there, nth_where-past}
 use Rattle.fsb_signal.specs.declared.lines.TheConstants.Lines.{DRDY}
 use Rattle.fsb_signal.specs.declared.sample.Sample.{Sample}
@@ -18,7 +18,7 @@ use Rattle.fsb_trace.proofs.StayEnds.{end_of-moving, end_of-still, end_of-respon
 use Rattle.fsb_laws.specs.OneMore.{OneMore}
 use Rattle.fsb_laws.specs.Orderly.{Orderly}
 use Rattle.fsb_laws.specs.Progress.{EndsTo, response_count, chunks_of, transfer_after, transfer_of}
-use Rattle.fsb_laws.proofs.ResponseSteps.{HasAnswer, has_answer, response_there, response_past, response_counted}
+use Rattle.fsb_laws.proofs.ResponseSteps.{has_answer, response_there, response_past}
 
 -- how many chunks of a request came from its response r on
 abbrev pub chunks_from : Trace → ℕ → ℕ

@@ -1,25 +1,24 @@
 -- Requests in flight, one sample on.
-use Rattle.std.proofs.Common.{ℕ, zero, suc, ◌+◌, ◌-◌, ◌<◌, ◌≤◌, ◌≡◌, Bool, true, false, cond, not, ◌&&◌, ◌||◌, nat_le, nat_lt, nat_eq, Option, Some, None, List, [], ◌∷◌, ◌++◌, drop, filter, length, refl, sym, ap, ◌∙◌, arith, inl, inr, subst, add-one, length-drop}
-use Rattle.std.proofs.lemmas.Bool.{cases_Bool, cases_lt, cases_eq, and_parts, and_left, and_right, and_from, both_ways, eqb-true, eq-eqb, ne_eqb, ltb-true, ltb-false, lt-ltb, le-ltb, le-leb, lt-leb}
+use Rattle.std.proofs.Common.{ℕ, ◌+◌, ◌-◌, ◌<◌, ◌≤◌, ◌≡◌, Bool, true, false, cond, not, ◌&&◌, ◌||◌, nat_le, Option, Some, None, [], ◌∷◌, ◌++◌, drop, filter, length, refl, sym, ap, ◌∙◌, arith, inl, inr, length-drop}
+use Rattle.std.proofs.lemmas.Bool.{cases_Bool, cases_lt, cases_eq, and_left, and_right, and_from, eq-eqb, ne_eqb, lt-ltb, le-ltb, le-leb, lt-leb}
 use Rattle.fsb_count.specs.Options.{is_some_and, is_before, is_at}
-use Rattle.fsb_count.specs.Clocks.{AgreeBelow, count_where, all_where}
-use Rattle.fsb_count.proofs.Nth.{nth_where-at, length-all_where, all_where-passed, all_where-failed}
+use Rattle.fsb_count.specs.Clocks.{count_where, all_where}
+use Rattle.fsb_count.proofs.Nth.{nth_where-at, length-all_where}
 use Rattle.fsb_signal.specs.declared.lines.TheConstants.Lines.{ADS}
 use Rattle.fsb_signal.specs.declared.sample.Sample.{Sample}
 use Rattle.fsb_signal.specs.Samples.{has_line, line_at}
 use Rattle.fsb_trace.specs.At.{Trace}
 use Rattle.fsb_trace.specs.Requests.{is_cancelled, is_live, live_clock_of, live_count, live_number_of}
-use Rattle.fsb_trace.specs.Snoop.{snoop_end_of}
 use Rattle.fsb_trace.specs.Response.{end_of}
 use Rattle.fsb_trace.specs.Flight.{is_dropped, has_ended, is_in_flight, in_flight}
 use Rattle.fsb_trace.proofs.Stay.{snoop_end_of-clock}
 use Rattle.fsb_trace.proofs.StayEnds.{end_of-response}
 use Rattle.fsb_laws.specs.OneMore.{OneMore, cancels}
-use Rattle.fsb_laws.specs.Orderly.{Spaced, Orderly}
+use Rattle.fsb_laws.specs.Orderly.{Orderly}
 use Rattle.fsb_laws.specs.Progress.{EndsTo}
 use Rattle.fsb_laws.specs.Flight.{leaves}
 use Rattle.fsb_laws.proofs.Clocks.{all_where-same, all_where-filter, all_where-drop, all_where-more}
-use Rattle.fsb_laws.proofs.OneMoreFacts.{line_at-old, line_at-new}
+use Rattle.fsb_laws.proofs.OneMoreFacts.{line_at-old}
 use Rattle.fsb_laws.proofs.LiveSteps.{is_live-ads, is_cancelled-more, is_cancelled-late, is_live-more, is_live-new, live_number_of-more}
 use Rattle.fsb_laws.proofs.ResponseSteps.{has_answer}
 use Rattle.fsb_laws.proofs.EndFacts.{end_of-old, end_of-kept}
@@ -83,7 +82,7 @@ dropped_form w q =
     elim (cases_lt (q + 3) (length w)) [
       | inl l ↦ rw (lt-ltb (q + 3) (length w) l) (and_true (is_cancelled w q))
       | inr l ↦ rw (is_cancelled-late w q l) refl
-    ] 
+    ]
 
 pub is_in_flight-end : (w : Trace) (q : ℕ) → q < length w → is_in_flight w (length w) q ≡ (is_live w q && not (is_before (end_of w (live_number_of w q)) (length w)))
 unfolding is_in_flight has_ended is_live

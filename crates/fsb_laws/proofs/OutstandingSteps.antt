@@ -1,18 +1,14 @@
 -- Outstanding requests, one sample on.
-use Rattle.std.proofs.Common.{ℕ, zero, suc, ◌+◌, ◌-◌, ◌<◌, ◌≤◌, ◌≡◌, Bool, true, false, cond, not, ◌&&◌, ◌||◌, nat_le, nat_lt, nat_eq, Option, Some, None, length, refl, sym, ap, ◌∙◌, arith, inl, inr, subst, add-one}
-use Rattle.std.specs.Option.{option_map, option_and_then}
+use Rattle.std.proofs.Common.{ℕ, ◌+◌, ◌-◌, ◌<◌, ◌≤◌, ◌≡◌, Bool, true, false, cond, not, ◌&&◌, ◌||◌, Option, Some, None, length, refl, sym, ap, ◌∙◌, arith, inl, inr, subst}
 use Rattle.std.proofs.lemmas.Option.{cond_some}
-use Rattle.std.proofs.lemmas.Bool.{cases_Bool, cases_lt, cases_eq, and_parts, and_left, and_right, and_from, both_ways, eqb-true, eq-eqb, ne_eqb, ltb-true, lt-ltb, le-ltb, false_from_ne_true}
+use Rattle.std.proofs.lemmas.Bool.{cases_Bool, cases_lt, and_parts, and_right, both_ways, lt-ltb}
 use Rattle.fsb_count.specs.Options.{is_some_and, is_before, is_at}
-use Rattle.fsb_count.specs.Clocks.{first_where, count_where}
 use Rattle.fsb_count.proofs.First.{first_where-found}
-use Rattle.fsb_count.proofs.Nth.{nth_where-found, nth_where-at, nth_where-one}
 use Rattle.fsb_signal.specs.declared.lines.TheConstants.Lines.{ADS}
 use Rattle.fsb_signal.specs.declared.sample.Sample.{Sample}
-use Rattle.fsb_signal.specs.Samples.{has_line, line_at}
+use Rattle.fsb_signal.specs.Samples.{line_at}
 use Rattle.fsb_trace.specs.At.{Trace, request_at}
-use Rattle.fsb_trace.specs.Requests.{is_cancelled, is_live, live_clock_of, live_number_of, live_request_of, is_reply}
-use Rattle.fsb_trace.specs.Snoop.{snoop_end_of}
+use Rattle.fsb_trace.specs.Requests.{is_cancelled, is_live, live_clock_of, live_number_of, is_reply}
 use Rattle.fsb_trace.specs.declared.outcome.Outcome.{Outcome}
 use Rattle.fsb_trace.specs.declared.outcome.Outcome.TheVariants.{Granted, Handed, Retried, Deferred, Written, Replied, Failed}
 use Rattle.fsb_trace.specs.Outcome.{response_clock_of, outcome_of, moves_data, is_deferred, does_move, is_deferral}
@@ -21,16 +17,15 @@ use Rattle.fsb_trace.specs.Flight.{is_dropped, is_live_reply_to, reply_clock_of,
 use Rattle.fsb_trace.proofs.AgreeAt.{AgreeTo-sym}
 use Rattle.fsb_trace.proofs.Stay.{snoop_end_of-clock, response_clock_of-stays}
 use Rattle.fsb_trace.proofs.StayEnds.{end_of-response, end_of-still}
-use Rattle.fsb_laws.specs.OneMore.{OneMore, cancels, responds}
-use Rattle.fsb_laws.specs.Orderly.{Spaced, Orderly}
+use Rattle.fsb_laws.specs.OneMore.{OneMore, cancels}
+use Rattle.fsb_laws.specs.Orderly.{Orderly}
 use Rattle.fsb_laws.specs.Progress.{response_count}
 use Rattle.fsb_laws.specs.Flight.{ends_at}
-use Rattle.fsb_laws.proofs.OneMoreFacts.{line_at-old}
 use Rattle.fsb_laws.proofs.LiveSteps.{is_live-ads, is_cancelled-late, is_live-more, live_number_of-more}
-use Rattle.fsb_laws.proofs.ResponseSteps.{has_answer, response_there, response_counted, response_count-more, response_clock_of-new, is_deferred-old}
+use Rattle.fsb_laws.proofs.ResponseSteps.{has_answer, response_there, response_counted, is_deferred-old}
 use Rattle.fsb_laws.proofs.FlightSteps.{end_before-same, ended_known, at_or_before}
 use Rattle.fsb_laws.proofs.OrderlySteps.{response_now}
-use Rattle.fsb_laws.proofs.ReplySteps.{cancelled_clock, reply_clock_of-more, reply_clock_of-fresh, reply_late}
+use Rattle.fsb_laws.proofs.ReplySteps.{cancelled_clock, reply_clock_of-more, reply_clock_of-fresh}
 
 -- at the end of a trace, a request is outstanding where it is live, no reply, and not finished
 outstanding_form : (a r c b : Bool) → ((((a && true) && not r) && not c) && not ((a && not c) && b)) ≡ (((a && not c) && not r) && not b)
@@ -123,16 +118,16 @@ pub newly_deferred : (h : Trace) (x : Sample) (v : Trace) (i : ℕ) → OneMore 
 newly_deferred h x v i m o f t =
     let p = deferred_response v i t in
     let new : length h ≤ p.0 =
-        elim (cases_lt i (response_count h)) [
-          | inl old ↦ absurd (both_ways _ f (sym (is_deferred-old h x v i m o old) ∙ t))
-          | inr none ↦
-              elim (cases_lt p.0 (length h)) [
-                | inr l ↦ l
-                | inl early ↦
-                    let back = response_clock_of-stays (length h) v h i p.0 (AgreeTo-sym (length h) h v m.agree) early p.1 in
-                    absurd (let l = response_counted h i p.0 back in omega arith)
-              ]
-        ] in
+    elim (cases_lt i (response_count h)) [
+      | inl old ↦ absurd (both_ways _ f (sym (is_deferred-old h x v i m o old) ∙ t))
+      | inr none ↦
+          elim (cases_lt p.0 (length h)) [
+            | inr l ↦ l
+            | inl early ↦
+                let back = response_clock_of-stays (length h) v h i p.0 (AgreeTo-sym (length h) h v m.agree) early p.1 in
+                absurd (let l = response_counted h i p.0 back in omega arith)
+          ]
+    ] in
     let now = response_now h x v i p.0 m p.1 new in
     let here : response_clock_of v i ≡ Some (length h) = subst (λ r. response_clock_of v i ≡ Some r) now.1 p.1 in
     let none = reply_clock_of-fresh h x v i m here in
@@ -148,7 +143,8 @@ newly_deferred h x v i m o f t =
 later_end : (w : Trace) (q : ℕ) → Orderly w → q < length w → is_live w q ≡ true → length w ≤ q + 3 → is_before (end_of w (live_number_of w q)) (length w) ≡ false
 later_end w q o l t late = ended_known w q (end_of w (live_number_of w q)) o l t late refl
 
-live_of_reply : (w : Trace) (i q : ℕ) → reply_clock_of w i ≡ Some q → (is_live w q ≡ true) × (q < length w)
+-- the reply of a request is live
+pub live_of_reply : (w : Trace) (i q : ℕ) → reply_clock_of w i ≡ Some q → (is_live w q ≡ true) × (q < length w)
 unfolding reply_clock_of is_live_reply_to
 live_of_reply w i q e =
     let p = first_where-found (is_live_reply_to w i) (length w) q e in ((and_parts _ _ p.1).0, p.0)

@@ -1,31 +1,28 @@
 -- Replies to deferred requests, one sample on.
-use Rattle.std.proofs.Common.{ℕ, zero, suc, ◌+◌, ◌-◌, ◌<◌, ◌≤◌, ◌≡◌, Bool, true, false, cond, not, ◌&&◌, ◌||◌, nat_le, nat_lt, nat_eq, Option, Some, None, length, refl, sym, ap, ◌∙◌, arith, inl, inr, subst, add-one}
-use Rattle.std.specs.Option.{option_map, option_and_then}
-use Rattle.std.proofs.lemmas.Bool.{cases_Bool, cases_lt, cases_eq, cases_order, eqb-true, and_parts, and_left, and_right, and_from, both_ways, ltb-true, lt-ltb, le-ltb, false_from_ne_true}
+use Rattle.std.proofs.Common.{ℕ, ◌+◌, ◌-◌, ◌<◌, ◌≤◌, ◌≡◌, true, false, cond, not, ◌&&◌, Option, Some, None, length, refl, sym, ◌∙◌, arith, inl, inr, subst}
+use Rattle.std.specs.Option.{option_and_then}
+use Rattle.std.proofs.lemmas.Bool.{cases_Bool, cases_lt, cases_eq, cases_order, eqb-true, and_parts, and_left, both_ways, le-ltb, false_from_ne_true}
 use Rattle.std.proofs.lemmas.Option.{slice_get_past}
-use Rattle.fsb_count.specs.Options.{is_some_and, is_before, is_at}
-use Rattle.fsb_count.specs.Clocks.{first_where}
+use Rattle.fsb_count.specs.Options.{is_some_and, is_before}
 use Rattle.fsb_count.proofs.First.{first_where-at, first_where-off, first_where-found, first_where-none}
 use Rattle.fsb_signal.specs.declared.lines.TheConstants.Lines.{ADS}
 use Rattle.fsb_signal.specs.declared.sample.Sample.{Sample}
-use Rattle.fsb_signal.specs.Samples.{has_line, line_at}
+use Rattle.fsb_signal.specs.Samples.{line_at}
 use Rattle.fsb_encode.specs.declared.request.Request.{Request}
 use Rattle.fsb_encode.specs.declared.request.Pair.{Pair}
 use Rattle.fsb_encode.specs.Decoded.{request_of}
 use Rattle.fsb_trace.specs.At.{Trace, known_pair_at, request_at}
-use Rattle.fsb_trace.specs.Requests.{is_live, live_clock_of, live_number_of, live_request_of, is_reply, have_same_id}
-use Rattle.fsb_trace.specs.Snoop.{snoop_end_of}
-use Rattle.fsb_trace.specs.Outcome.{response_clock_of, outcome_of, is_deferred}
-use Rattle.fsb_trace.specs.Response.{end_of}
+use Rattle.fsb_trace.specs.Requests.{is_live, live_request_of, is_reply}
+use Rattle.fsb_trace.specs.Outcome.{response_clock_of}
 use Rattle.fsb_trace.specs.Flight.{is_reply_to, is_live_reply_to, reply_clock_of}
 use Rattle.fsb_trace.proofs.AgreeAt.{request_at-agree}
 use Rattle.fsb_trace.proofs.StayEnds.{live_request_of-stays}
 use Rattle.fsb_laws.specs.OneMore.{OneMore, cancels}
-use Rattle.fsb_laws.specs.Orderly.{Spaced, Orderly}
+use Rattle.fsb_laws.specs.Orderly.{Orderly}
 use Rattle.fsb_laws.specs.Progress.{response_count}
-use Rattle.fsb_laws.proofs.OneMoreFacts.{line_at-old, line_at-new}
+use Rattle.fsb_laws.proofs.OneMoreFacts.{line_at-old}
 use Rattle.fsb_laws.proofs.LiveSteps.{is_live-ads, is_live-more}
-use Rattle.fsb_laws.proofs.ResponseSteps.{has_answer, response_there, response_clock_of-old, is_deferred-old}
+use Rattle.fsb_laws.proofs.ResponseSteps.{has_answer, response_there, response_clock_of-old}
 
 -- the last clock of a trace holds no request yet
 no_pair : (w : Trace) (c : ℕ) → length w ≤ c → known_pair_at w c ≡ None
@@ -118,13 +115,13 @@ reply_goes h x v i q m o l e t =
     let here : q + 3 ≡ length h = cancelled_clock x (length h) q t in
     let asks : line_at ADS h q ≡ true = is_live-ads h q (live_part h i q p.1) in
     first_where-off (is_live_reply_to v i) (length v) (λ c less.
-      elim (cases_order c q) [
-        | inl same ↦ subst (λ d. is_live_reply_to v i d ≡ false) (sym same) (is_live_reply_to-old h x v i q m o l (omega arith) ∙ (rw (p.1, t) refl))
-        | inr other ↦ elim other [
-          | inl before ↦ not_before_it h x v i c m o l (omega arith) (p.2 c before)
-          | inr behind ↦ far_behind h x v i q c m o asks here behind less
-        ]
-      ])
+    elim (cases_order c q) [
+      | inl same ↦ subst (λ d. is_live_reply_to v i d ≡ false) (sym same) (is_live_reply_to-old h x v i q m o l (omega arith) ∙ (rw (p.1, t) refl))
+      | inr other ↦ elim other [
+        | inl before ↦ not_before_it h x v i c m o l (omega arith) (p.2 c before)
+        | inr behind ↦ far_behind h x v i q c m o asks here behind less
+      ]
+    ])
 
 reply_comes : (h : Trace) (x : Sample) (v : Trace) (i : ℕ) → OneMore h x v → Orderly h → i < response_count h → reply_clock_of h i ≡ None → 0 < length h → is_live_reply_to v i (length h - 1) ≡ true → reply_clock_of v i ≡ Some (length h - 1)
 unfolding reply_clock_of
@@ -140,14 +137,14 @@ reply_waits h x v i m o l e f =
     let none = first_where-none (is_live_reply_to h i) (length h) e in
     let size : length v ≡ length h + 1 = m.size in
     first_where-off (is_live_reply_to v i) (length v) (λ c less.
-      elim (cases_lt (c + 1) (length h)) [
-        | inl old ↦ not_before_it h x v i c m o l old (none c (omega arith))
-        | inr late ↦
-            elim (cases_eq (c + 1) (length h)) [
-              | inl last ↦ subst (λ d. is_live_reply_to v i d ≡ false) (let same : length h - 1 ≡ c = omega arith in same) f
-              | inr past ↦ reply_late v i c (omega (arith, late, past))
-            ]
-      ])
+    elim (cases_lt (c + 1) (length h)) [
+      | inl old ↦ not_before_it h x v i c m o l old (none c (omega arith))
+      | inr late ↦
+          elim (cases_eq (c + 1) (length h)) [
+            | inl last ↦ subst (λ d. is_live_reply_to v i d ≡ false) (let same : length h - 1 ≡ c = omega arith in same) f
+            | inr past ↦ reply_late v i c (omega (arith, late, past))
+          ]
+    ])
 
 reply_cases : (h : Trace) (x : Sample) (v : Trace) (i : ℕ) (old : Option ℕ) → OneMore h x v → Orderly h → i < response_count h → 0 < length h → reply_clock_of h i ≡ old → reply_clock_of v i ≡ elim old [ Some q ↦ cond (cancels x (length h) q) None (Some q) | None ↦ cond (is_live_reply_to v i (length h - 1)) (Some (length h - 1)) None ]
 reply_cases h x v i (Some q) m o l some e =

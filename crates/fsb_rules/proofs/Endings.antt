@@ -237,7 +237,7 @@ pub says_ended : (k : Checker) (h : Trace) (x : Sample) (v : Trace) (b : Option 
 says_ended k h x v b g = says_cases k h x v b g (responds x) refl
 
 -- whether a live request ends at the clock
-number_of : (w : Trace) (p : ℕ) → p < length w → is_live w p ≡ true → live_clock_of w (live_number_of w p) ≡ Some p
+pub number_of : (w : Trace) (p : ℕ) → p < length w → is_live w p ≡ true → live_clock_of w (live_number_of w p) ≡ Some p
 unfolding live_clock_of live_number_of
 number_of w p l t = nth_where-at (is_live w) (length w) p l t
 
@@ -246,7 +246,7 @@ unfolding is_at is_some_and
 at_from None n t = absurd (let no : ⊥ = cc in no)
 at_from (Some m) n t = ap (λ c. Some c) (eqb-true m n t)
 
-at_some : (o : Option ℕ) (n : ℕ) → o ≡ Some n → is_at o n ≡ true
+pub at_some : (o : Option ℕ) (n : ℕ) → o ≡ Some n → is_at o n ≡ true
 unfolding is_at is_some_and
 at_some o n e = rw e (eq-eqb n n refl)
 

@@ -16,3 +16,6 @@ pub mod QueueFollows
 pub mod Endings
 pub mod Agents
 pub mod OpenLists
+pub mod OpenGoes
+pub mod DeferredGoes
+pub mod OpenFollows

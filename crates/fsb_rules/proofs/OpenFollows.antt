@@ -1,0 +1,1 @@
+-- The outstanding requests follow the history with a sample that breaks no rule.
