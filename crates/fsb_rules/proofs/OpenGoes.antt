@@ -68,7 +68,7 @@ outstanding_is w p r l t e f =
 abbrev pub plain_open : ℕ → ℕ → Open
 plain_open p did = record { clock = p; did = did; deferred = None; reply = None }
 
-open_plain : (w : Trace) (i p : ℕ) (r : Request) → is_deferred w i ≡ false → open_from w i p r ≡ plain_open p r.did
+pub open_plain : (w : Trace) (i p : ℕ) (r : Request) → is_deferred w i ≡ false → open_from w i p r ≡ plain_open p r.did
 unfolding open_from
 open_plain w i p r f = rw f refl
 

@@ -1,7 +1,7 @@
 -- What is kept of the outstanding requests.
-use Rattle.std.specs.Prelude.{◌≡◌, ◌<◌, ◌≤◌, ℕ, ◌-◌, true, All, count_by, if◌then◌else◌, List, Option, None, length, take}
+use Rattle.std.specs.Prelude.{◌≡◌, ◌≤◌, ℕ, ◌-◌, nat_lt, true, count_by, if◌then◌else◌, List, Option, None, length, take}
 use Rattle.std.specs.Option.{option_map}
-use Rattle.std.specs.List.{filter_map}
+use Rattle.std.specs.List.{filter_map, list_all}
 use Rattle.fsb_signal.specs.declared.lines.TheConstants.Lines.{ADS}
 use Rattle.fsb_encode.specs.declared.request.Request.{Request}
 use Rattle.fsb_trace.specs.At.{Trace, line_back, request_at}
@@ -34,6 +34,6 @@ open_of h = filter_map (open_at h) (outstanding h (length h))
 pub record OutstandingStands (kept : Outstanding) (h : Trace) : Type 0 where
   pub current : kept.current.items ≡ open_of h
   pub few : (a : ℕ) → count_by (is_of_agent a) kept.current.items ≤ 4
-  pub own : All (λ o. o.did < 64) kept.current.items
+  pub own : list_all (λ o. nat_lt o.did 64) kept.current.items ≡ true
   pub fewer : line_back ADS h (length h) 1 ≡ true → (a : ℕ) → count_by (is_of_agent a) kept.current.items ≤ count_by (is_of_agent a) kept.before.items
   pub before : line_back ADS h (length h) 1 ≡ true → kept.before.items ≡ open_of (take (length h - 1) h)
