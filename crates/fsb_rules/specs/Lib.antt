@@ -1,0 +1,5 @@
+pub mod Asked
+pub mod Recent
+pub mod Queue
+pub mod Outstanding
+pub mod Checker
