@@ -14,5 +14,7 @@ mod drive;
 mod phases;
 mod places;
 #[cfg(test)]
+mod runs;
+#[cfg(test)]
 mod tests;
 mod timing;

@@ -63,6 +63,7 @@ impl Phases {
         phased
     }
 
+    #[tactic(auto, unfolding(crate::specs::Registers::drive_by, crate::specs::Registers::if_passes, fsb_count::specs::Options::is_some_and))]
     fn drive_by(&self, now: u32, queue: &Queue) -> Drive
         ensures { result ≡ drive_by self.now now queue.now }
     {
@@ -94,6 +95,7 @@ impl Phases {
     }
 
     // The first snoop clock of a request that began at `q`, after the last snoop end.
+    #[tactic(auto, unfolding(crate::specs::Registers::start_after))]
     fn start_after(&self, q: u32) -> u64
         ensures { result ≡ start_after self.now.snooped q }
     {
@@ -104,6 +106,7 @@ impl Phases {
         }
     }
 
+    #[tactic(auto, unfolding(crate::specs::Registers::snooping, crate::specs::Registers::is_snooping, crate::specs::Registers::if_passes))]
     fn snooping(&self, now: u32, queue: &Queue) -> Option<Entry>
         ensures { result ≡ snooping self.now now queue.now }
     {
@@ -113,12 +116,14 @@ impl Phases {
         }
     }
 
+    #[tactic(auto, unfolding(crate::specs::Registers::stalls_at))]
     fn stalls_at(&self, now: u32, e: &Entry) -> bool
         ensures { result ≡ stalls_at self.now now e.now }
     {
         is_stall_from(e.choice.stall, u64::from(now), self.start_after(e.clock))
     }
 
+    #[tactic(auto, unfolding(crate::specs::Registers::gets_ready))]
     fn gets_ready(&self, now: u32, e: &Entry) -> bool
         ensures { result ≡ gets_ready self.now now e.now }
     {
@@ -127,6 +132,7 @@ impl Phases {
             && is_ready_from(self.from, e.choice.trdy, u64::from(now))
     }
 
+    #[tactic(auto, unfolding(crate::specs::Registers::answers))]
     fn answers(&self, now: u32, e: &Entry) -> bool
         ensures { result ≡ answers self.now now e.now }
     {
@@ -134,6 +140,7 @@ impl Phases {
             && is_response_from(is_taking(e), self.from, self.ready, e.choice.resp, now)
     }
 
+    #[tactic(auto, unfolding(crate::specs::Registers::answered))]
     fn answered(&self, now: u32, e: &Entry) -> Option<u32>
         ensures { result ≡ answered self.now now e.now }
     {
@@ -144,6 +151,7 @@ impl Phases {
         }
     }
 
+    #[tactic(auto, unfolding(crate::specs::Registers::chunk_at))]
     fn chunk_at(&self, now: u32, e: &Entry) -> Option<u8>
         ensures { result ≡ chunk_at self.now now e.now }
     {
@@ -153,6 +161,7 @@ impl Phases {
         }
     }
 
+    #[tactic(auto, unfolding(crate::specs::Registers::is_busy, fsb_count::specs::Options::is_some_and))]
     fn is_busy(&self, now: u32, e: &Entry) -> bool
         ensures { result ≡ is_busy self.now now e.now }
     {
@@ -162,6 +171,7 @@ impl Phases {
         }
     }
 
+    #[tactic(auto, unfolding(crate::specs::Registers::numbered_at))]
     fn numbered_at(&self, now: u32, e: &Entry) -> Option<(u32, u8)>
         ensures { result ≡ numbered_at self.now now e.now }
     {
@@ -171,6 +181,7 @@ impl Phases {
         }
     }
 
+    #[tactic(auto, unfolding(crate::specs::Registers::snooped_by, fsb_laws::specs::OneMore::stalls))]
     fn snooped_by(&self, now: u32, sample: &Sample, queue: &Queue) -> Option<Entry>
         ensures { result ≡ snooped_by self.now now sample.now queue.now }
     {
@@ -181,6 +192,7 @@ impl Phases {
         }
     }
 
+    #[tactic(auto, unfolding(crate::specs::Registers::transfer_to, fsb_laws::specs::OneMore::responds, fsb_laws::specs::Progress::chunk_step, fsb_count::specs::Options::is_some_and))]
     fn transfer_to(&self, sample: &Sample, queue: &Queue) -> Option<u8>
         ensures { result ≡ transfer_to self.now sample.now queue.now }
     {
@@ -201,18 +213,21 @@ impl Phases {
         }
     }
 
+    #[tactic(auto, unfolding(crate::specs::Registers::has_answered, fsb_laws::specs::OneMore::responds))]
     fn has_answered(&self, sample: &Sample) -> bool
         ensures { result ≡ has_answered self.now sample.now }
     {
         sample.response() != 0 || self.transfer.is_some()
     }
 
+    #[tactic(auto, unfolding(crate::specs::Registers::ends_by))]
     fn ends_by(&self, sample: &Sample, queue: &Queue) -> bool
         ensures { result ≡ ends_by self.now sample.now queue.now }
     {
         self.has_answered(sample) && self.transfer_to(sample, queue).is_none()
     }
 
+    #[tactic(auto, unfolding(crate::specs::Registers::phased_by, crate::specs::Registers::ended_by))]
     fn phased_by(&self, now: u32, sample: &Sample, queue: &Queue) -> Phased
         ensures { result ≡ phased_by self.now now sample.now queue.now }
     {
@@ -227,6 +242,7 @@ impl Phases {
         }
     }
 
+    #[tactic(auto, unfolding(crate::specs::Registers::from_to))]
     fn from_to(&self, now: u32, sample: &Sample, queue: &Queue) -> Option<u64>
         ensures { result ≡ from_to self.now now sample.now queue.now }
     {
@@ -240,6 +256,7 @@ impl Phases {
         }
     }
 
+    #[tactic(auto, unfolding(crate::specs::Registers::ready_to, fsb_laws::specs::OneMore::responds))]
     fn ready_to(&self, now: u32, sample: &Sample) -> Option<u32>
         ensures { result ≡ ready_to self.now now sample.now }
     {
@@ -254,6 +271,7 @@ impl Phases {
         }
     }
 
+    #[tactic(auto, unfolding(crate::specs::Registers::may_answer_at, fsb_count::specs::Options::is_some_and))]
     fn may_answer_at(&self, now: u32) -> bool
         ensures { result ≡ may_answer_at self.now now }
     {
@@ -263,6 +281,7 @@ impl Phases {
         }
     }
 
+    #[tactic(auto, unfolding(crate::specs::Registers::phases_to, crate::specs::Registers::snooped_to, crate::specs::Registers::response_to, fsb_laws::specs::OneMore::responds))]
     fn phases_to(&self, now: u32, sample: &Sample, queue: &Queue) -> Phases
         ensures { result ≡ phases_to self.now now sample.now queue.now }
     {
@@ -288,6 +307,7 @@ impl Phases {
 
 // The clock from which an entry is answered, after the sample of `now`: `settled` where it has its outcome, and two clocks
 // later where its snoop ends now.
+#[tactic(auto, unfolding(crate::specs::Registers::answer_to))]
 fn answer_to(settled: Option<u64>, now: u32, ends: bool, entry: Option<Entry>) -> Option<u64>
     ensures { result ≡ option_and_then (answer_to settled now ends) entry }
 {

@@ -16,10 +16,15 @@ pub fn is_every_second_from(start: u64, c: u64) -> bool
 pub fn is_stall_from(stall: u8, c: u64, start: u64) -> bool
     ensures { result ≡ is_stall_from stall c start }
 {
-    start <= c && (c - start) % 2 == 0 && (c - start) / 2 < u64::from(stall)
+    if c < start {
+        return false;
+    }
+    let after = c - start;
+    after % 2 == 0 && after / 2 < u64::from(stall)
 }
 
 /// Whether `c` is the ready clock of a request that takes, is answered from this clock on and waits so long.
+#[tactic(auto, unfolding(crate::specs::Timing::is_ready_from, fsb_count::specs::Options::is_at, fsb_count::specs::Options::is_some_and))]
 pub fn is_ready_from(from: Option<u64>, wait: u8, c: u64) -> bool
     ensures { result ≡ is_ready_from from wait c }
 {
@@ -31,6 +36,7 @@ pub fn is_ready_from(from: Option<u64>, wait: u8, c: u64) -> bool
 
 /// Whether `c` is the response clock of a request that is answered from this clock on or, where it takes, has this ready
 /// clock, and waits so long.
+#[tactic(auto, unfolding(crate::specs::Timing::is_response_from, crate::specs::Timing::is_ready_from, fsb_count::specs::Options::is_at, fsb_count::specs::Options::is_some_and))]
 pub fn is_response_from(
     takes: bool,
     from: Option<u64>,
@@ -57,7 +63,7 @@ pub fn chunk_from(gap: u8, c: u32, r: u32) -> Option<u8>
 {
     let step = 1 + u32::from(gap);
     for n in 0..4 {
-        if r <= c && c - r == u32::from(n) * step {
+        if c >= r && c - r == u32::from(n) * step {
             return Some(n);
         }
     }
@@ -65,6 +71,7 @@ pub fn chunk_from(gap: u8, c: u32, r: u32) -> Option<u8>
 }
 
 /// Whether `c` lies from the response clock `r` to the clock before the last chunk.
+#[tactic(auto, unfolding(crate::specs::Timing::is_busy_from))]
 pub fn is_busy_from(gap: u8, c: u32, r: u32) -> bool
     ensures { result ≡ is_busy_from gap c r }
 {
