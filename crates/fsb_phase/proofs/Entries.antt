@@ -14,7 +14,7 @@ use Rattle.fsb_queue.specs.declared.entry.Entry.{Entry}
 use Rattle.fsb_phase.specs.Due.{live_of}
 use Rattle.fsb_phase.specs.Flight.{InFlight}
 
-dropped : {X : Type 0} (e k : ℕ) (xs : List X) → slice_get (drop e xs) k ≡ slice_get xs (e + k)
+pub dropped : {X : Type 0} (e k : ℕ) (xs : List X) → slice_get (drop e xs) k ≡ slice_get xs (e + k)
 dropped zero k xs = ap (slice_get xs) (let same : k ≡ 0 + k = omega arith in same)
 dropped (suc e) k [] = refl
 dropped (suc e) k (x ∷ xs) =

@@ -66,7 +66,7 @@ not_response false wait c = refl
 abbrev ready_at : Trace → Entry → ℕ → Bool
 ready_at h e i = is_none (response_clock_of h i) && takes h i && is_ready_from (answer_from h i) e.choice.trdy (length h)
 
-abbrev response_at : Trace → Entry → ℕ → Bool
+abbrev pub response_at : Trace → Entry → ℕ → Bool
 response_at h e i =
     is_none (response_clock_of h i)
     && is_response_from (takes h i) (answer_from h i) (ready_clock_of h i) e.choice.resp (length h)
@@ -75,7 +75,7 @@ has_ready-at : (h : Trace) (e : Entry) (i : ℕ) → live_of h e ≡ i → has_r
 unfolding has_ready awaits_response
 has_ready-at h e i f = ap (ready_at h e) f
 
-has_response-at : (h : Trace) (e : Entry) (i : ℕ) → live_of h e ≡ i → has_response h e ≡ response_at h e i
+pub has_response-at : (h : Trace) (e : Entry) (i : ℕ) → live_of h e ≡ i → has_response h e ≡ response_at h e i
 unfolding has_response awaits_response
 has_response-at h e i f = ap (response_at h e) f
 

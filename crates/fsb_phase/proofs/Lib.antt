@@ -6,3 +6,8 @@ pub mod SnoopDrive
 pub mod Settled
 pub mod HeadDrive
 pub mod Driven
+pub mod SnoopStep
+pub mod Answering
+pub mod ResponseStep
+pub mod Course
+pub mod Absorbed

@@ -74,3 +74,53 @@ unfolding is_taking is_some_and takes line_at_snoop_end
 taking-is h e turn i s k f g =
     let kept : is_write_back (live_request_of h i) ≡ true → turn ≡ 0 = subst (λ j. is_write_back (live_request_of h j) ≡ true → turn ≡ 0) f k.kept in
     rw (outcome_at h e turn i s k f g, g) (ap does_take (settled_form h turn i s) ∙ cases_take (line_at HITM h s) turn (live_request_of h i) kept)
+
+-- the response with a settled outcome's code tells that outcome
+told_cases : Bool → ℕ → Option Request → Outcome
+told_cases hitm code request =
+    cond (nat_eq code 4) Failed (cond hitm Handed (cond (nat_eq code 1) Retried (cond (nat_eq code 2) Deferred (outcome_by_kind request))))
+
+told_form : (h : Trace) (i s code : ℕ) → snoop_end_of h i ≡ Some s → told_by h i code ≡ told_cases (line_at HITM h s) code (live_request_of h i)
+unfolding told_by told_cases line_at_snoop_end is_some_and response_code_of
+told_form h i s code e = rw e refl
+
+by_kind_told : (request : Option Request) → told_cases false (response_code_of (outcome_by_kind request)) request ≡ outcome_by_kind request
+unfolding told_cases outcome_by_kind response_code_of
+by_kind_told None = refl
+by_kind_told (Some request) = kind_told request.kind where
+  kind_told : (k : Kind) → (let o : Outcome = elim k as (λ z. Outcome) [ WriteBack ↦ Written | Reply ↦ Replied | Read ↦ Granted | Invalidate ↦ Granted ] in cond (nat_eq (response_code_of o) 4) Failed (cond false Handed (cond (nat_eq (response_code_of o) 1) Retried (cond (nat_eq (response_code_of o) 2) Deferred o))) ≡ o)
+  kind_told Reply = refl
+  kind_told Invalidate = refl
+  kind_told Read = refl
+  kind_told WriteBack = refl
+
+cases_told : (hitm : Bool) (turn : ℕ) (request : Option Request) → told_cases hitm (response_code_of (settled_cases hitm turn request)) request ≡ settled_cases hitm turn request
+unfolding settled_cases response_code_of told_cases
+cases_told true turn request = refl
+cases_told false turn request =
+    elim (cases_Bool (nat_eq turn 1)) [
+      | inl one ↦ rw one refl
+      | inr other ↦ elim (cases_Bool (nat_le 2 turn)) [
+        | inl late ↦ rw (other, late) refl
+        | inr kept ↦ rw (other, kept) (by_kind_told request)
+      ]
+    ]
+
+code_is : (e : Entry) (o : Outcome) → e.outcome ≡ Some o → code_of e ≡ response_code_of o
+unfolding code_of
+code_is e o f = rw f refl
+
+moves_is : (e : Entry) (o : Outcome) → e.outcome ≡ Some o → moves e ≡ does_move o
+unfolding moves is_some_and
+moves_is e o f = rw f refl
+
+pub told-is : (h : Trace) (e : Entry) (turn i s code : ℕ) → IsSettled h e turn → live_of h e ≡ i → snoop_end_of h i ≡ Some s → code ≡ code_of e → does_move (told_by h i code) ≡ moves e
+told-is h e turn i s code k f g c =
+    let o : Outcome = settled_by h turn i s in
+    let form : o ≡ settled_cases (line_at HITM h s) turn (live_request_of h i) = settled_form h turn i s in
+    let told : told_by h i (response_code_of o) ≡ o =
+      told_form h i s (response_code_of o) g
+      ∙ ap (λ x. told_cases (line_at HITM h s) (response_code_of x) (live_request_of h i)) form
+      ∙ cases_told (line_at HITM h s) turn (live_request_of h i) ∙ sym form in
+    ap (λ n. does_move (told_by h i n)) (c ∙ code_is e o (outcome_at h e turn i s k f g))
+    ∙ ap does_move told ∙ sym (moves_is e o (outcome_at h e turn i s k f g))

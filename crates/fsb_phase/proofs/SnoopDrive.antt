@@ -38,10 +38,10 @@ pub outcome_reached : (h : Trace) (e : Entry) (turn i : ℕ) → IsSettled h e t
 outcome_reached h e turn i s f =
     ap is_none s.outcome ∙ settled_none _ (snoop_end_of h (live_of h e)) ∙ ap (λ k. is_none (snoop_end_of h k)) f
 
-reached_before : (h : Trace) (s i : ℕ) → SnoopsTo h s → i < s → is_none (snoop_end_of h i) ≡ false
+pub reached_before : (h : Trace) (s i : ℕ) → SnoopsTo h s → i < s → is_none (snoop_end_of h i) ≡ false
 reached_before h s i to l = let v = to.reached i l in rw v.1 refl
 
-not_reached_from : (h : Trace) (s i : ℕ) → SnoopsTo h s → s ≤ i → is_none (snoop_end_of h i) ≡ true
+pub not_reached_from : (h : Trace) (s i : ℕ) → SnoopsTo h s → s ≤ i → is_none (snoop_end_of h i) ≡ true
 not_reached_from h s i to l = rw (snoop_end_of-above h s i to l) refl
 
 -- the first snoop clock of the first live request without its snoop end
@@ -76,10 +76,10 @@ later_start h s zero to l = absurd (omega arith)
 later_start h s (suc i) to l = no_start h i (snoop_end_of-above h s i to (omega arith))
 
 -- whether live request i has a snoop clock at the next clock
-abbrev snoop_at : Trace → ℕ → Bool
+abbrev pub snoop_at : Trace → ℕ → Bool
 snoop_at h i = is_none (snoop_end_of h i) && is_some_and (snoop_start_of h i) (λ start. is_every_second_from start (length h))
 
-has_snoop-at : (h : Trace) (e : Entry) (i : ℕ) → live_of h e ≡ i → has_snoop h e ≡ snoop_at h i
+pub has_snoop-at : (h : Trace) (e : Entry) (i : ℕ) → live_of h e ≡ i → has_snoop h e ≡ snoop_at h i
 unfolding has_snoop
 has_snoop-at h e i f = ap (snoop_at h) f
 
@@ -87,7 +87,7 @@ no_clock : (h : Trace) (i : ℕ) → snoop_start_of h i ≡ None → is_some_and
 unfolding is_some_and
 no_clock h i e = rw e refl
 
-snoop_elsewhere : (h : Trace) (s i : ℕ) → SnoopsTo h s → (i ≡ s → ⊥) → snoop_at h i ≡ false
+pub snoop_elsewhere : (h : Trace) (s i : ℕ) → SnoopsTo h s → (i ≡ s → ⊥) → snoop_at h i ≡ false
 unfolding is_some_and
 snoop_elsewhere h s i to f =
     elim (cases_order i s) [
