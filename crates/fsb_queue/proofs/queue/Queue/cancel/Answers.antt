@@ -1,9 +1,9 @@
-use Rattle.std.proofs.Common.{[], ◌∷◌, ◌++◌, ◌≡◌, ◌<◌, ◌≤◌, length, take, drop, slice_get, Option, Some, None, refl, sym, ap, ◌∙◌, true, false, is_some, ◌⊎◌, inl, inr, arith}
+use Rattle.std.proofs.Common.{[], ◌∷◌, ◌++◌, ◌≡◌, ◌<◌, ◌≤◌, length, take, drop, None, refl, sym, ap, ◌∙◌, true, is_some, ◌⊎◌, inl, inr, arith}
 use Rattle.std.proofs.lemmas.Bool.{eq-eqb}
 use Rattle.std.proofs.lemmas.List.{append-nil}
 use Rattle.circular_buffer.specs.Buffer.{keep_last}
 use Rattle.fsb_queue.specs.Entries.{entry_of, without}
-use Rattle.fsb_queue.proofs.EntryLists.{passed, passed_found, passed_kept, passed_there, passed_all, none_where}
+use Rattle.fsb_queue.proofs.EntryLists.{passed_found, passed_kept, passed_there, none_where}
 use Rattle.fsb_queue.proofs.queue.Queue.cancel.Goals as goal
 use Rattle.fsb_queue.proofs.queue.Queue.cancel.Goals.{in-Some+then-is_none+then-entry-number, in-Some+else-is_none, else-is_none-via-then-is_none+else-entry-number, else-is_none-via-else-is_none, in_default}
 
