@@ -1,9 +1,8 @@
 -- The winner by a set of lines is the definition's winner by the lines of a clock.
-use Rattle.std.proofs.Common.{ℕ, zero, suc, ◌+◌, ◌-◌, ◌%◌, ◌<◌, ◌≤◌, ◌≡◌, Bool, true, false, Option, Some, None, List, [], ◌∷◌, ◌++◌, length, nat_le, nat_lt, refl, sym, ap, ◌∙◌, inl, inr, arith}
+use Rattle.std.proofs.Common.{ℕ, ◌+◌, ◌%◌, ◌<◌, ◌≡◌, true, false, Option, Some, None, refl, sym, ap, ◌∙◌, inl, inr}
 use Rattle.std.specs.List.{slice_get}
 use Rattle.std.specs.Option.{option_map}
 use Rattle.std.proofs.lemmas.Bool.{cases_Bool}
-use Rattle.fsb_count.specs.Clocks.{first_where, AgreeBelow}
 use Rattle.fsb_count.proofs.First.{first_where-at, first_where-off, first_where-same}
 use Rattle.fsb_signal.specs.declared.lines.Lines.{Lines}
 use Rattle.fsb_signal.specs.declared.lines.TheConstants.Lines.{BPRI, LOCK}

@@ -1,4 +1,4 @@
-use Rattle.std.proofs.Common.{◌≡◌, ◌<◌, ℕ, true, false, ap, sym, ◌∙◌, arith, below_more}
+use Rattle.std.proofs.Common.{◌≡◌, ◌<◌, true, false, ap, sym, ◌∙◌, arith, below_more}
 use Rattle.fsb_arbiter.specs.Order.{is_in, asks_among}
 use Rattle.fsb_arbiter.proofs.Winners.{asks_among-is, first_among-found, first_among-none}
 use Rattle.fsb_arbiter.proofs.order.first_among.Goals as goal

@@ -1,5 +1,4 @@
 use Rattle.std.proofs.Common.{refl, sym, ap, ◌∙◌}
-use Rattle.fsb_arbiter.specs.declared.arbiter.Arbiter.{Arbiter}
 use Rattle.fsb_arbiter.proofs.History.{stands-begun, stands-kept}
 use Rattle.fsb_arbiter.proofs.arbiter.Arbiter.absorb.Goals as goal
 use Rattle.fsb_arbiter.proofs.arbiter.Arbiter.absorb.Goals.{then-has, else-has}
