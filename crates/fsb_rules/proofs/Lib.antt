@@ -19,3 +19,5 @@ pub mod OpenLists
 pub mod OpenGoes
 pub mod DeferredGoes
 pub mod OpenFollows
+pub mod Prefixes
+pub mod BeginRules

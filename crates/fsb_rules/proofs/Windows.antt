@@ -37,7 +37,7 @@ window-tail x xs f m n w =
       at = λ k l. w.at (suc k) (omega arith) ∙ ap f (let e : m + suc k ≡ m + 1 + k = omega arith in e);
     }
 
-taken : {X : Type 0} (xs : List X) (n c : ℕ) → c < n → n ≤ length xs → slice_get (take n xs) c ≡ slice_get xs c
+pub taken : {X : Type 0} (xs : List X) (n c : ℕ) → c < n → n ≤ length xs → slice_get (take n xs) c ≡ slice_get xs c
 taken [] n c l k = absurd (omega arith)
 taken (x ∷ xs) zero c l k = absurd (omega arith)
 taken (x ∷ xs) (suc n) zero l k = refl
