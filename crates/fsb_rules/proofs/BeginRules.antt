@@ -59,25 +59,25 @@ pub record Begun (u h v : Trace) (r : Request) : Type 0 where
 abbrev pub is_open : Trace → ℕ → Bool
 is_open u p = is_outstanding u (length u) p
 
-open_ads : (u : Trace) (p : ℕ) → p < length u → is_open u p ≡ true → (is_live u p ≡ true) × (is_reply (request_at u p) ≡ false) × (is_before (last_clock_of u (live_number_of u p)) (length u) ≡ false)
+pub open_ads : (u : Trace) (p : ℕ) → p < length u → is_open u p ≡ true → (is_live u p ≡ true) × (is_reply (request_at u p) ≡ false) × (is_before (last_clock_of u (live_number_of u p)) (length u) ≡ false)
 open_ads u p l t =
     let q = and_parts _ _ (sym (is_outstanding-end u p l) ∙ t) in
     let r = and_parts _ _ q.0 in
     (r.0, not-true _ r.1, not-true _ q.1)
 
-far : (u h v : Trace) (r : Request) (p : ℕ) → Begun u h v r → p < length u → is_open u p ≡ true → p + 3 ≤ length u
+pub far : (u h v : Trace) (r : Request) (p : ℕ) → Begun u h v r → p < length u → is_open u p ≡ true → p + 3 ≤ length u
 far u h v r p b l t =
     let a = open_ads u p l t in
     b.begins.after.spaced.apart p (length u) l (sym (line_at-agree ADS (length u) u v p b.begins.agree l) ∙ is_live-ads u p a.0) b.begins.asks
 
-same_request : (u h v : Trace) (r : Request) (p : ℕ) → Begun u h v r → p + 3 ≤ length u → request_at v p ≡ request_at u p
+pub same_request : (u h v : Trace) (r : Request) (p : ℕ) → Begun u h v r → p + 3 ≤ length u → request_at v p ≡ request_at u p
 same_request u h v r p b l = sym (request_at-agree (length u) u v p b.begins.agree (omega arith))
 
 old_request : (u h v : Trace) (r : Request) (p : ℕ) → Begun u h v r → p + 3 ≤ length u → request_at u p ≡ request_at h p
 old_request u h v r p b l = request_at-agree (length u) u h p b.before.agree (omega arith)
 
 -- its request
-open_request : (u h v : Trace) (r : Request) (p : ℕ) → Begun u h v r → p < length u → is_open u p ≡ true → (s : Request) × (request_at u p ≡ Some s) × (request_at h p ≡ Some s) × (is_reply_kind s.kind ≡ false)
+pub open_request : (u h v : Trace) (r : Request) (p : ℕ) → Begun u h v r → p < length u → is_open u p ≡ true → (s : Request) × (request_at u p ≡ Some s) × (request_at h p ≡ Some s) × (is_reply_kind s.kind ≡ false)
 unfolding is_reply is_some_and
 open_request u h v r p b l t =
     let a = open_ads u p l t in
@@ -103,12 +103,12 @@ taken_cases u h v r p true b l t =
     rw (same_outstanding u v p b.begins l, same_request u h v r p b (far u h v r p b l t), b.request)
     (ap (λ c. is_open u p && c) (id_form u (live_number_of u p) p r.did (request_at u p) r refl))
 
-open_list : (u : Trace) → open_of u ≡ filter_map (open_at u) (all_where (is_open u) (length u))
+pub open_list : (u : Trace) → open_of u ≡ filter_map (open_at u) (all_where (is_open u) (length u))
 unfolding open_of outstanding
 open_list u = refl
 
-taken : (u h v : Trace) (r : Request) → Begun u h v r → any_where (is_id_taken_by v (length u)) (length u) ≡ list_any (has_id r.did) (open_of u)
-taken u h v r b =
+pub taken_id : (u h v : Trace) (r : Request) → Begun u h v r → any_where (is_id_taken_by v (length u)) (length u) ≡ list_any (has_id r.did) (open_of u)
+taken_id u h v r b =
     any_where-same _ (λ p. is_open u p && is_some_and (open_at u p) (has_id r.did)) (length u)
     (record { same = λ p l. taken_cases u h v r p (is_open u p) b l refl })
     ∙ sym (ap (list_any (has_id r.did)) (open_list u) ∙ list_any-all (has_id r.did) (is_open u) (open_at u) (length u))
@@ -145,7 +145,7 @@ agent_cases u h v r p true b f l t =
     rw (same_outstanding u v p b.begins l, winner, mine, q.1)
     (ap (λ c. is_open u p && c) (agent_form u (live_number_of u p) p (r.did / 16) q.0))
 
-of_agent : (u h v : Trace) (r : Request) → Begun u h v r → is_reply_kind r.kind ≡ false → count_where (is_outstanding_of_winner v (length u)) (length u) ≡ count_by (is_of_agent (r.did / 16)) (open_of u)
+pub of_agent : (u h v : Trace) (r : Request) → Begun u h v r → is_reply_kind r.kind ≡ false → count_where (is_outstanding_of_winner v (length u)) (length u) ≡ count_by (is_of_agent (r.did / 16)) (open_of u)
 of_agent u h v r b f =
     count_where-same _ (λ p. is_open u p && is_some_and (open_at u p) (is_of_agent (r.did / 16))) (length u)
     (record { same = λ p l. agent_cases u h v r p (is_open u p) b f l refl })

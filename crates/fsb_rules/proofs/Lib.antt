@@ -21,3 +21,4 @@ pub mod DeferredGoes
 pub mod OpenFollows
 pub mod Prefixes
 pub mod BeginRules
+pub mod AwaitRules
