@@ -1,6 +1,8 @@
-/// A broken phase rule: the first clock at which a rule is broken and, there, the least broken rule, 1 to 18.
+/// The first clock with a broken phase rule, and the least rule that is broken there.
 #[derive(Clone, Copy, Debug, PartialEq, Eq)]
 pub struct Broken {
+    /// The clock, from 0.
     pub clock: u32,
+    /// The number of the rule, from 1 to 18.
     pub rule: u8,
 }

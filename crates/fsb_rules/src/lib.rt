@@ -1,6 +1,19 @@
-//! The judge of the phase rules, which looks at each sample once.
+//! The judge of a waveform: it looks at each sample once, keeps no history and takes no memory, and tells after each
+//! sample whether a phase rule is broken so far: the first clock with a broken rule and, there, the least rule.
+//!
+//! `Stands` says which samples a checker was fed; its answer is the verdict on them.
 #![tactic(auto)]
 
 pub use broken::Broken;
+pub use checker::Checker;
 
+mod asked;
 mod broken;
+mod checker;
+mod outstanding;
+mod queue;
+mod recent;
+#[cfg(test)]
+mod runs;
+#[cfg(test)]
+mod tests;

@@ -1,0 +1,195 @@
+//! Runs, laid out clock by clock by their control lines.
+
+const BREQ0: u32 = 1;
+
+const BREQ1: u32 = 2;
+
+const BPRI: u32 = 16;
+
+const LOCK: u32 = 32;
+
+const ADS: u32 = 128;
+
+const AERR: u32 = 256;
+
+const HIT: u32 = 512;
+
+const HITM: u32 = 1024;
+
+const DEFER: u32 = 2048;
+
+const RS0: u32 = 4096;
+
+const RS1: u32 = 8192;
+
+const RS2: u32 = 16384;
+
+const TRDY: u32 = 32768;
+
+const DBSY: u32 = 65536;
+
+const DRDY: u32 = 131072;
+
+/// Two agents load different lines.
+pub const TWO_AGENTS_OVERLAP: [u32; 16] = [
+    BREQ0 | BREQ1,
+    BREQ0 | BREQ1,
+    BREQ0 | BREQ1 | ADS,
+    BREQ1,
+    BREQ1,
+    BREQ1 | ADS,
+    0,
+    0,
+    RS0 | RS1 | RS2 | DBSY | DRDY,
+    DBSY | DRDY,
+    DBSY | DRDY,
+    DRDY,
+    RS0 | RS1 | RS2 | DBSY | DRDY,
+    DBSY | DRDY,
+    DBSY | DRDY,
+    DRDY,
+];
+
+/// A snoop that is stalled twice.
+pub const STALLED_SNOOP: [u32; 16] = [
+    BREQ0,
+    BREQ0,
+    BREQ0 | ADS,
+    0,
+    0,
+    0,
+    HIT | HITM,
+    0,
+    HIT | HITM,
+    0,
+    0,
+    0,
+    RS0 | RS1 | RS2 | DBSY | DRDY,
+    DBSY | DRDY,
+    DBSY | DRDY,
+    DRDY,
+];
+
+/// A request that is cancelled, and comes again.
+pub const CANCELLED_BY_ADDRESS_ERROR: [u32; 18] = [
+    BREQ0,
+    BREQ0,
+    BREQ0 | ADS,
+    0,
+    0,
+    AERR,
+    BREQ0,
+    BREQ0,
+    BREQ0 | ADS,
+    0,
+    0,
+    0,
+    0,
+    0,
+    RS0 | RS1 | RS2 | DBSY | DRDY,
+    DBSY | DRDY,
+    DBSY | DRDY,
+    DRDY,
+];
+
+/// A load that is deferred and replied to, and a store that waits for it.
+pub const DEFERRED_AND_REPLIED: [u32; 35] = [
+    BREQ0 | BREQ1,
+    BREQ0 | BREQ1,
+    BREQ0 | BREQ1 | ADS,
+    BREQ1,
+    BREQ1,
+    BREQ1 | ADS,
+    DEFER,
+    0,
+    RS1,
+    DEFER,
+    0,
+    RS0,
+    BREQ1,
+    BREQ1,
+    BREQ1 | ADS,
+    0,
+    0,
+    0,
+    DEFER,
+    BPRI,
+    BPRI | RS0,
+    BREQ1 | BPRI | ADS,
+    BREQ1,
+    BREQ1,
+    BREQ1 | ADS,
+    0,
+    0,
+    RS0 | RS1 | RS2 | DBSY | DRDY,
+    HIT | DBSY | DRDY,
+    DBSY | DRDY,
+    DRDY,
+    RS0 | RS1 | RS2 | DBSY | DRDY,
+    DBSY | DRDY,
+    DBSY | DRDY,
+    DRDY,
+];
+
+/// Two agents increment a byte under LOCK#.
+pub const LOCKED_INCREMENTS: [u32; 26] = [
+    BREQ0 | BREQ1,
+    BREQ0 | BREQ1,
+    BREQ0 | BREQ1 | LOCK | ADS,
+    BREQ1 | LOCK,
+    BREQ1 | LOCK,
+    BREQ1 | LOCK,
+    BREQ1 | LOCK,
+    BREQ1 | LOCK,
+    BREQ1 | LOCK | RS0 | RS1 | RS2 | DBSY | DRDY,
+    BREQ1 | LOCK | DBSY | DRDY,
+    BREQ1 | LOCK | DBSY | DRDY,
+    BREQ1 | LOCK | DRDY,
+    BREQ1,
+    BREQ1,
+    BREQ1 | LOCK | ADS,
+    LOCK,
+    LOCK,
+    LOCK,
+    LOCK | HITM,
+    LOCK,
+    LOCK | TRDY,
+    LOCK,
+    LOCK | RS1 | RS2 | DBSY | DRDY,
+    LOCK | DBSY | DRDY,
+    LOCK | DBSY | DRDY,
+    LOCK | DRDY,
+];
+
+/// A stored line is read by another agent, and a read waits for it.
+pub const WRITE_BACK_HELD_OFF: [u32; 29] = [
+    BREQ0,
+    BREQ0,
+    BREQ0 | ADS,
+    0,
+    0,
+    0,
+    0,
+    0,
+    RS0 | RS1 | RS2 | DBSY | DRDY,
+    DBSY | DRDY,
+    DBSY | DRDY,
+    BREQ1 | DRDY,
+    BREQ0 | BREQ1,
+    BREQ0 | BREQ1 | ADS,
+    BREQ0,
+    BREQ0,
+    BREQ0,
+    BREQ0 | HITM,
+    BREQ0 | ADS,
+    TRDY,
+    0,
+    RS1 | RS2 | DBSY | DRDY,
+    DBSY | DRDY,
+    DBSY | DRDY,
+    DRDY,
+    RS0 | RS1 | RS2 | DBSY | DRDY,
+    DBSY | DRDY,
+    DBSY | DRDY,
+    DRDY,
+];

@@ -1,0 +1,15 @@
+pub mod OneMoreFacts
+pub mod LiveSteps
+pub mod SnoopSteps
+pub mod SnoopClockSteps
+pub mod ResponseSteps
+pub mod EndFacts
+pub mod TransferSteps
+pub mod AnswerSteps
+pub mod ReadySteps
+pub mod OrderlySteps
+pub mod Clocks
+pub mod FlightSteps
+pub mod ReplySteps
+pub mod OutstandingSteps
+pub mod BeginSteps

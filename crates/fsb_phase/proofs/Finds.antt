@@ -1,0 +1,97 @@
+-- The first element of a list that passes, by its place.
+use Rattle.std.proofs.Common.{ℕ, zero, suc, ◌<◌, ◌≡◌, Bool, true, false, Option, Some, None, List, [], ◌∷◌, length, refl, sym, ap, ◌∙◌, inl, inr, arith, subst, is_none, is_some, ◌⊎◌}
+use Rattle.std.specs.List.{slice_get, find}
+use Rattle.std.proofs.lemmas.Bool.{cases_Bool, cases_eq}
+use Rattle.fsb_queue.specs.declared.entry.Entry.{Entry}
+use Rattle.fsb_phase.specs.Registers.{open_entry, if_passes}
+
+pub find-place : {X : Type 0} (p : X → Bool) (xs : List X) (k : ℕ) (x : X) → slice_get xs k ≡ Some x → p x ≡ true → ((j : ℕ) (y : X) → j < k → slice_get xs j ≡ Some y → p y ≡ false) → find p xs ≡ Some x
+find-place p [] k x e t f = absurd (let no : ⊥ = cc in no)
+find-place p (z ∷ xs) zero x e t f =
+    let same : z ≡ x = cc in
+    rw (let here : p z ≡ true = ap p same ∙ t in here) e
+find-place p (z ∷ xs) (suc k) x e t f =
+    rw (f 0 z (omega arith) refl) (find-place p xs k x e t (λ j y l g. f (suc j) y (omega arith) g))
+
+pub find-off : {X : Type 0} (p : X → Bool) (xs : List X) → ((j : ℕ) (y : X) → slice_get xs j ≡ Some y → p y ≡ false) → find p xs ≡ None
+find-off p [] f = refl
+find-off p (z ∷ xs) f = rw (f 0 z refl) (find-off p xs (λ j y g. f (suc j) y g))
+
+pub open_entry-place : (queue : List Entry) (k : ℕ) (e : Entry) → slice_get queue k ≡ Some e → is_none e.outcome ≡ true → ((j : ℕ) (y : Entry) → j < k → slice_get queue j ≡ Some y → is_none y.outcome ≡ false) → open_entry queue ≡ Some e
+unfolding open_entry
+open_entry-place queue k e = find-place (λ y. is_none y.outcome) queue k e
+
+pub open_entry-off : (queue : List Entry) → ((j : ℕ) (y : Entry) → slice_get queue j ≡ Some y → is_none y.outcome ≡ false) → open_entry queue ≡ None
+unfolding open_entry
+open_entry-off queue = find-off (λ y. is_none y.outcome) queue
+
+pub none_is : {X : Type 0} (o : Option X) → is_some o ≡ false → is_none o ≡ true
+none_is None e = refl
+none_is (Some x) e = absurd (let no : ⊥ = cc in no)
+
+-- what a search says: an element is found at a place, and none before it passes; or none passes
+pub record Found {X : Type 0} (p : X → Bool) (xs : List X) : Type 0 where
+  pub place : ℕ
+  pub item : X
+  pub at : slice_get xs place ≡ Some item
+  pub passes : p item ≡ true
+  pub before : (j : ℕ) (y : X) → j < place → slice_get xs j ≡ Some y → p y ≡ false
+
+later-before : {X : Type 0} (p : X → Bool) (z : X) (xs : List X) (k : Found p xs) → p z ≡ false → (j : ℕ) (y : X) → j < suc k.place → slice_get (z ∷ xs) j ≡ Some y → p y ≡ false
+later-before p z xs k f zero y l e = let same : z ≡ y = cc in sym (ap p same) ∙ f
+later-before p z xs k f (suc j) y l e = k.before j y (omega arith) e
+
+later : {X : Type 0} (p : X → Bool) (z : X) (xs : List X) → p z ≡ false → Found p xs → Found p (z ∷ xs)
+later p z xs f k = record {
+  place = suc k.place;
+  item = k.item;
+  at = k.at;
+  passes = k.passes;
+  before = later-before p z xs k f;
+}
+
+none-later : {X : Type 0} (p : X → Bool) (z : X) (xs : List X) → p z ≡ false → ((j : ℕ) (y : X) → slice_get xs j ≡ Some y → p y ≡ false) → (j : ℕ) (y : X) → slice_get (z ∷ xs) j ≡ Some y → p y ≡ false
+none-later p z xs f g zero y e = let same : z ≡ y = cc in sym (ap p same) ∙ f
+none-later p z xs f g (suc j) y e = g j y e
+
+pub find-cases : {X : Type 0} (p : X → Bool) (xs : List X) → Found p xs ⊎ ((j : ℕ) (y : X) → slice_get xs j ≡ Some y → p y ≡ false)
+find-cases p [] = inr (λ j y e. absurd (let no : ⊥ = cc in no))
+find-cases p (z ∷ xs) =
+    elim (cases_Bool (p z)) [
+      | inl t ↦ inl (record { place = 0; item = z; at = refl; passes = t; before = λ j y l e. absurd (omega arith) })
+      | inr f ↦ elim (find-cases p xs) [
+        | inl k ↦ inl (later p z xs f k)
+        | inr g ↦ inr (none-later p z xs f g)
+      ]
+    ]
+
+at_all : (p : Entry → Bool) (xs : List Entry) (k : ℕ) (x : Entry) → slice_get xs k ≡ Some x → p x ≡ false → ((j : ℕ) (y : Entry) → (j ≡ k → ⊥) → slice_get xs j ≡ Some y → p y ≡ false) → (j : ℕ) (y : Entry) → slice_get xs j ≡ Some y → p y ≡ false
+at_all p xs k x e off f j y g =
+    elim (cases_eq j k) [
+      | inl same ↦
+          let here : slice_get xs k ≡ Some y = subst (λ m. slice_get xs m ≡ Some y) same g in
+          let one : x ≡ y = cc in
+          subst (λ z. p z ≡ false) one off
+      | inr other ↦ f j y other g
+    ]
+
+-- where one place alone may pass
+pub find-only : (p : Entry → Bool) (xs : List Entry) (k : ℕ) (x : Entry) → slice_get xs k ≡ Some x → ((j : ℕ) (y : Entry) → (j ≡ k → ⊥) → slice_get xs j ≡ Some y → p y ≡ false) → find p xs ≡ if_passes p (Some x)
+unfolding if_passes
+find-only p xs k x e f =
+    elim (cases_Bool (p x)) [
+      | inl t ↦ rw t (find-place p xs k x e t (λ j y l g. f j y (λ same. omega arith) g))
+      | inr off ↦ rw off (find-off p xs (at_all p xs k x e off f))
+    ]
+
+none_passes : (p : Entry → Bool) → None ≡ if_passes p None
+unfolding if_passes
+none_passes p = refl
+
+-- where the first alone may pass
+first_only : (p : Entry → Bool) (xs : List Entry) (o : Option Entry) → slice_get xs 0 ≡ o → ((j : ℕ) (y : Entry) → 0 < j → slice_get xs j ≡ Some y → p y ≡ false) → find p xs ≡ if_passes p (slice_get xs 0)
+first_only p [] o e f = none_passes p
+first_only p (z ∷ xs) o e f = find-only p (z ∷ xs) 0 z refl (λ j y other g. f j y (omega (arith, other)) g)
+
+pub find-first : (p : Entry → Bool) (xs : List Entry) → ((j : ℕ) (y : Entry) → 0 < j → slice_get xs j ≡ Some y → p y ≡ false) → find p xs ≡ if_passes p (slice_get xs 0)
+find-first p xs f = first_only p xs (slice_get xs 0) refl f

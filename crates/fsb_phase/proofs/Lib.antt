@@ -1,0 +1,13 @@
+pub mod TimingFacts
+pub mod Finds
+pub mod Counts
+pub mod Entries
+pub mod SnoopDrive
+pub mod Settled
+pub mod HeadDrive
+pub mod Driven
+pub mod SnoopStep
+pub mod Answering
+pub mod ResponseStep
+pub mod Course
+pub mod Absorbed

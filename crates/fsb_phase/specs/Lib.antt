@@ -1,0 +1,7 @@
+pub mod ChunkOrder
+pub mod Timing
+pub mod Due
+pub mod Flight
+pub mod Drive
+pub mod Phases
+pub mod Registers

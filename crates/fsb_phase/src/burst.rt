@@ -1,0 +1,16 @@
+ghost use Rattle.std.specs.Prelude.{◌≡◌, ◌<◌};
+ghost use Rattle.fsb_phase.specs.ChunkOrder.{chunk_order};
+
+/// The chunks of a line in the order in which they come, where this one comes first.
+#[tactic(auto, unfolding(crate::specs::ChunkOrder::chunk_order))]
+pub fn chunk_order(first: u8) -> [u8; 4]
+    requires { first < 4 }
+    ensures { result ≡ chunk_order first }
+{
+    match first {
+        0 => [0, 1, 2, 3],
+        1 => [1, 0, 3, 2],
+        2 => [2, 3, 0, 1],
+        _ => [3, 2, 1, 0],
+    }
+}
