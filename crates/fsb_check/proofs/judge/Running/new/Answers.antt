@@ -4,9 +4,6 @@ use Rattle.fsb_count.specs.Clocks.{first_where}
 use Rattle.fsb_trace.specs.Verdict.{verdict}
 use Rattle.fsb_check.proofs.judge.Running.new.Goals as goal
 
-pub new-requires : goal.new-requires
-new-requires c = ?
-
 pub returns : goal.returns
 unfolding as_broken verdict first_where
 returns c = record { checker = c.new.ensures; clocks = refl; broken = refl }
