@@ -51,6 +51,10 @@ taken_more text fed bytes left now e f = e ∙ ap (λ xs. fed ++ xs) f ∙ sym (
 pub checked_end : (judge : Judge) (result : Result Finding CheckStop) (text fed left now : List ℕ) (count : ℕ) (tells : Bool) → IsTrue tells → HasTaken judge fed left now count tells → count ≡ 0 → now ≡ [] → text ≡ fed ++ left → length fed ≤ 2 ^ 40 → Ends result fed → IsChecked result text now
 checked_end judge result text fed left now count tells t h zero none e few found =
     let same : text ≡ fed =
-        e ∙ ap (λ xs. fed ++ xs) (h.read t ∙ ap (λ xs. xs ++ now) (none_taken h.bytes (h.size ∙ zero)) ∙ none) ∙ append-nil fed in
+    e ∙ ap (λ xs. fed ++ xs) (h.read t ∙ ap (λ xs. xs ++ now) (none_taken h.bytes (h.size ∙ zero)) ∙ none) ∙ append-nil fed in
     checked_whole result text now (record { short = (let size = ap (λ xs. length xs) same in omega arith); all = none })
     (subst (λ (xs : List ℕ). Ends result xs) (sym same) found)
+
+-- the end of a text is no fault of the source
+pub no_read_fault : (result : Result Finding CheckStop) (text : List ℕ) → result ≡ Err stops.ReadFault → Ends result text → ⊥
+no_read_fault result text e h = let no : Ends (Err stops.ReadFault) text = subst (λ (r : Result Finding CheckStop). Ends r text) e h in no

@@ -34,7 +34,7 @@ piece-few : (limit : ℕ) (fed piece : List ℕ) (items : List Sample) → stop_
 piece-few limit fed piece items e h =
     let whole = piece-samples limit fed piece items e h in
     let size : length (samples_so_far fed) + length items ≡ length (samples_so_far (fed ++ piece)) =
-        sym (length-append (samples_so_far fed) items) ∙ ap (λ xs. length xs) whole in
+    sym (length-append (samples_so_far fed) items) ∙ ap (λ xs. length xs) whole in
     omega (arith, few_so_far limit (fed ++ piece) e)
 
 -- a piece that refused nothing: what it appended is what it decides
@@ -85,7 +85,7 @@ finished_now : (fed : List ℕ) (items : List Sample) → stop_at_end (2 ^ 32 - 
 finished_now fed items e h =
     let whole : samples_so_far fed ++ items ≡ samples_of fed = ap (λ xs. samples_so_far fed ++ xs) h.appended ∙ h.complete in
     let size : length (samples_so_far fed) + length items ≡ length (samples_of fed) =
-        sym (length-append (samples_so_far fed) items) ∙ ap (λ xs. length xs) whole in
+    sym (length-append (samples_so_far fed) items) ∙ ap (λ xs. length xs) whole in
     record {
       clear = at_end-accepts (2 ^ 32 - 1) fed e;
       whole = whole;

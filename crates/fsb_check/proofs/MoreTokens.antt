@@ -28,10 +28,11 @@ tokens_so_far-grown fed more =
 
 -- the tokens of a text are those that count in its first bytes, and then others
 pub tokens_of-append : (fed more : List ℕ) → (ts : List Token) × (tokens_of (fed ++ more) ≡ tokens_so_far fed ++ ts)
-tokens_of-append fed more =
-    (tokens_from (length fed) (open_run fed) more ++ ended_at (length (fed ++ more)) (open_run (fed ++ more)),
-    ap (λ ts. ts ++ ended_at (length (fed ++ more)) (open_run (fed ++ more))) (tokens_so_far-grown fed more)
-    ∙ append_assoc (tokens_so_far fed) (tokens_from (length fed) (open_run fed) more) (ended_at (length (fed ++ more)) (open_run (fed ++ more))))
+tokens_of-append fed more = (
+  tokens_from (length fed) (open_run fed) more ++ ended_at (length (fed ++ more)) (open_run (fed ++ more)),
+  ap (λ ts. ts ++ ended_at (length (fed ++ more)) (open_run (fed ++ more))) (tokens_so_far-grown fed more)
+      ∙ append_assoc (tokens_so_far fed) (tokens_from (length fed) (open_run fed) more) (ended_at (length (fed ++ more)) (open_run (fed ++ more))),
+)
 
 pub tokens_so_far-append : (fed more : List ℕ) → (ts : List Token) × (tokens_so_far (fed ++ more) ≡ tokens_so_far fed ++ ts)
 tokens_so_far-append fed more = (tokens_from (length fed) (open_run fed) more, tokens_so_far-grown fed more)
@@ -109,9 +110,11 @@ samples_in-append before (b ∷ bs) cs =
 -- the samples that are decided stay the first ones
 decided-append : (es fs : List Event) → (ss : List Sample) × (samples_in at_first (ended (blocks_of (es ++ fs))) ≡ samples_in at_first (ended (blocks_of es)) ++ ss)
 decided-append es fs =
-    let h = samples_in-append at_first (ended_from [] es) (ended_from (open_block [] es) fs) in
-    (h.0, ap (λ bs. samples_in at_first bs) (ended-from [] (es ++ fs) ∙ ended_from-append [] es fs) ∙ h.1
-    ∙ ap (λ bs. samples_in at_first bs ++ h.0) (sym (ended-from [] es)))
+    let h = samples_in-append at_first (ended_from [] es) (ended_from (open_block [] es) fs) in (
+      h.0,
+      ap (λ bs. samples_in at_first bs) (ended-from [] (es ++ fs) ∙ ended_from-append [] es fs) ∙ h.1
+          ∙ ap (λ bs. samples_in at_first bs ++ h.0) (sym (ended-from [] es)),
+    )
 
 abbrev pub decided : List Token → List Sample
 decided ts = samples_in at_first (ended (blocks_of (events_in nothing ts)))
@@ -126,7 +129,7 @@ pub no_fewer : (ts us : List Token) → length (decided ts) ≤ length (decided 
 no_fewer ts us =
     let h = tokens-decided ts us in
     let e : length (decided (ts ++ us)) ≡ length (decided ts) + length h.0 =
-        ap (λ ss. length ss) h.1 ∙ length-append (decided ts) h.0 in
+    ap (λ ss. length ss) h.1 ∙ length-append (decided ts) h.0 in
     omega arith
 
 -- behind a fault no more are decided

@@ -1,7 +1,7 @@
 use Rattle.std.proofs.Common.{◌≡◌, ◌≤◌, ◌∙◌, ◌^◌, ◌++◌, ◌+◌, ℕ, List, IsTrue, length, sym, subst, ap, refl, arith}
 use Rattle.fsb_check.specs.Judging.{Stood, HasTaken, Ends}
 use Rattle.fsb_check.specs.Found.{IsChecked}
-use Rattle.fsb_check.proofs.Checked.{checked_whole, checked_not, checked_past, taken_all, taken_more, checked_end}
+use Rattle.fsb_check.proofs.Checked.{checked_whole, checked_not, checked_past, taken_all, taken_more, checked_end, no_read_fault}
 use Rattle.std.proofs.lemmas.List.{length-append, length-take}
 use Rattle.fsb_check.proofs.check.check_left.Goals as goal
 
@@ -31,6 +31,13 @@ returns-then-count-eq0-clause-checked g c tells =
     (let room = length-take (c.min.result + 1) c.deref_mut.result.now in
     omega (arith, room, c.deref_mut.ensures.len, c.loop-taken.invariant.size, c.min.ensures)) zero) (at.3 tells) (omega (arith, at.2, c.loop-taken-test.true)) (c.end.ensures at.0 stood)
 
+pub returns-then-count-eq0-clause-read_fault : goal.returns-then-count-eq0-clause-read_fault
+returns-then-count-eq0-clause-read_fault g c fault =
+    let at = c.loop-taken.invariant.taken in
+    let zero : c.in-Ok.count ≡ 0 = omega (arith, c.if-count-eq0.true) in
+    let stood : Stood c.take_piece.new.judge at.0 = taken_all _ at.0 _ _ _ _ (c.in-Ok.ensures.taken at.0 at.1) zero in
+    absurd (no_read_fault _ _ fault (c.end.ensures at.0 stood))
+
 pub returns-then-count-eq0-clause-name_stays : goal.returns-then-count-eq0-clause-name_stays
 returns-then-count-eq0-clause-name_stays g c tells =
     c.take_piece.ensures.name_stays tells ∙ c.loop-taken.invariant.name_stays tells
@@ -43,11 +50,11 @@ pub loop-taken-preserved : goal.loop-taken-preserved
 loop-taken-preserved g c =
     let at = c.loop-taken.invariant.taken in
     let now : HasTaken c.take_piece.new.judge at.0 (g.S.Source.left c.loop-taken.source) (g.S.Source.left c.take_piece.new.source) c.in-Ok.count g.S.Source.tells =
-        c.in-Ok.ensures.taken at.0 at.1 in
+    c.in-Ok.ensures.taken at.0 at.1 in
     record {
       taken = (at.0 ++ now.bytes, now.stood, (let size = length-append at.0 now.bytes in omega (arith, size, at.2, now.size)), λ tells. taken_more _ at.0 now.bytes _ _ (at.3 tells) (now.read tells));
       within = (let room = length-take (c.min.result + 1) c.deref_mut.result.now in
-      omega (arith, room, c.in-Ok.ensures.within, c.min.ensures, c.loop-taken-test.true));
+          omega (arith, room, c.in-Ok.ensures.within, c.min.ensures, c.loop-taken-test.true));
       size = c.loop-taken.invariant.size;
       later = omega (arith, c.take_piece.ensures.later, c.loop-taken.invariant.later);
       name_stays = λ tells. c.take_piece.ensures.name_stays tells ∙ c.loop-taken.invariant.name_stays tells;

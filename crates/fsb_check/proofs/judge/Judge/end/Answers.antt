@@ -12,20 +12,20 @@ judge-requires c =
     let stood : Stood c.args.self.now fed = c.requires.1 in
     let none : refusal_of c.args.self.now.reader ≡ None = not_refused _ _ refl c.in-Ok.ensures.again in
     let now : Finished fed c.finish.new.to.items =
-        finished _ fed _ _ stood.limit c.clear.ensures.items (c.in-Ok.ensures.answer fed stood.reader none)
-        (c.in-Ok.ensures.samples fed stood.reader none) in
+    finished _ fed _ _ stood.limit c.clear.ensures.items (c.in-Ok.ensures.answer fed stood.reader none)
+    (c.in-Ok.ensures.samples fed stood.reader none) in
     (samples_so_far fed, stood.judged none, (let e = c.as_slice.ensures.value in rw e (omega (arith, now.few))))
 
 pub returns-in-Ok : goal.returns-in-Ok
 returns-in-Ok c fed stood =
     let none : refusal_of c.args.self.now.reader ≡ None = not_refused _ _ refl c.in-Ok.ensures.again in
     let now : Finished fed c.finish.new.to.items =
-        finished _ fed _ _ stood.limit c.clear.ensures.items (c.in-Ok.ensures.answer fed stood.reader none)
-        (c.in-Ok.ensures.samples fed stood.reader none) in
+    finished _ fed _ _ stood.limit c.clear.ensures.items (c.in-Ok.ensures.answer fed stood.reader none)
+    (c.in-Ok.ensures.samples fed stood.reader none) in
     let judged : HasJudged c.judge.new.self (samples_of fed) =
-        subst (λ (w : List Sample). HasJudged c.judge.new.self w)
-        (ap (λ items. samples_so_far fed ++ items) c.as_slice.ensures.value ∙ now.whole)
-        (c.judge.ensures (samples_so_far fed) (stood.judged none)) in
+    subst (λ (w : List Sample). HasJudged c.judge.new.self w)
+    (ap (λ items. samples_so_far fed ++ items) c.as_slice.ensures.value ∙ now.whole)
+    (c.judge.ensures (samples_so_far fed) (stood.judged none)) in
     record {
       trace = samples_of fed;
       reads = (now.clear, refl);

@@ -13,16 +13,16 @@ judge-requires c =
     let stood : Stood c.args.self.now fed = c.requires.1 in
     let none : refusal_of c.args.self.now.reader ≡ None = not_refused _ _ refl c.in-Ok.ensures.again in
     let now : Took fed c.args.piece.now c.feed.new.to.items =
-        took _ fed _ _ _ stood.limit c.clear.ensures.items (c.in-Ok.ensures.answer fed stood.reader none)
-        (c.in-Ok.ensures.samples fed stood.reader none) in
+    took _ fed _ _ _ stood.limit c.clear.ensures.items (c.in-Ok.ensures.answer fed stood.reader none)
+    (c.in-Ok.ensures.samples fed stood.reader none) in
     (samples_so_far fed, stood.judged none, (let e = c.as_slice.ensures.value in rw e (omega (arith, now.few))))
 
 pub returns-in-Ok : goal.returns-in-Ok
 returns-in-Ok c fed stood =
     let none : refusal_of c.args.self.now.reader ≡ None = not_refused _ _ refl c.in-Ok.ensures.again in
     let now : Took fed c.args.piece.now c.feed.new.to.items =
-        took _ fed _ _ _ stood.limit c.clear.ensures.items (c.in-Ok.ensures.answer fed stood.reader none)
-        (c.in-Ok.ensures.samples fed stood.reader none) in
+    took _ fed _ _ _ stood.limit c.clear.ensures.items (c.in-Ok.ensures.answer fed stood.reader none)
+    (c.in-Ok.ensures.samples fed stood.reader none) in
     record {
       reader = c.in-Ok.ensures.stands fed stood.reader;
       limit = c.in-Ok.ensures.limit ∙ stood.limit;
