@@ -5,6 +5,8 @@ pub mod Holding
 pub mod TurnOrder
 pub mod Moments
 pub mod EndCount
+pub mod Settled
+pub mod TiedGrants
 pub mod TiedMoments
 pub mod Wanted
 pub mod Items
