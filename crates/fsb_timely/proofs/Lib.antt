@@ -11,4 +11,5 @@ pub mod TiedMoments
 pub mod Wanted
 pub mod Items
 pub mod OneEnd
+pub mod ToldLines
 pub mod Outstanding

@@ -1,8 +1,11 @@
 //! Laws over the definitions: no code.
 
-ghost use Rattle.std.specs.Prelude.{◌≡◌, ◌↔◌, ◌<◌, ◌+◌, ◌&&◌, ◌||◌, ℕ, Bool, true, false, not, Some, length, if◌then◌else◌, IsTrue};
+ghost use Rattle.std.specs.Prelude.{◌≡◌, ◌↔◌, ◌<◌, ◌+◌, ◌&&◌, ◌||◌, ℕ, List, Bool, true, false, not, Some, length, if◌then◌else◌, IsTrue};
 ghost use Rattle.fsb_count.specs.Options.{is_some_and};
 ghost use Rattle.fsb_encode.specs.declared.request.Request.{Request};
+ghost use Rattle.fsb_hazard.specs.declared.choice.Ask.TheVariants.{Begun};
+ghost use Rattle.fsb_hazard.specs.declared.line.HazardLine.{HazardLine};
+ghost use Rattle.fsb_hazard.specs.Entry.{entry};
 ghost use Rattle.fsb_signal.specs.Samples.{is_known_trace};
 ghost use Rattle.fsb_trace.specs.At.{Trace};
 ghost use Rattle.fsb_trace.specs.Snoop.{snoop_end_of};
@@ -86,4 +89,10 @@ pub fn one_snoop_end_at_a_clock()
 pub fn wants_are_new()
     ensures { (p : Past) (a c : ℕ) (request : Request) → want_of p a c ≡ Some request
         → is_asked_for (owed p a c) request.line ≡ false }
+{}
+
+/// What hazard lines choose for a request depends on its number alone, so an object that tells lines has an entry for each
+/// number.
+pub fn hazard_lines_go_by_number()
+    ensures { (lines : List HazardLine) (k : ℕ) (a b : Request) → entry lines (Begun k a) ≡ entry lines (Begun k b) }
 {}
