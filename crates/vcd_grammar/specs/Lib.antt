@@ -1,0 +1,10 @@
+pub mod Tokens
+pub mod Digits
+pub mod Words
+pub mod Codes
+pub mod Blocks
+pub mod Levels
+pub mod LevelFacts
+pub mod Values
+pub mod Judging
+pub mod Reading

@@ -1,0 +1,121 @@
+-- What is known behind the header of a written dump.
+use Rattle.std.proofs.Common.{◌≡◌, ℕ, zero, suc, ◌<◌, ◌≤◌, Bool, true, false, not, List, [], ◌∷◌, ◌++◌, map, Option, Some, None, refl, ap, arith, codes}
+use Rattle.std.specs.Prelude.{◌==◌, ◌&&◌, nat_le}
+use Rattle.std.specs.Fmt.{digits}
+use Rattle.std.proofs.lemmas.Bool.{eqb-true, leb-true}
+use Rattle.fsb_signal.specs.Table.{signal_number}
+use Rattle.fsb_signal.specs.DumpText.{code_of, width_of, texts_from, declaration_text, range_text}
+use Rattle.vcd_grammar.specs.Tokens.{is_white, tokens_from, open_from, ended_at, grown_at}
+use Rattle.vcd_grammar.specs.Digits.{number_up_to, time_in}
+use Rattle.vcd_grammar.specs.Words.{header_word, value_word, is_read_past, is_foreign_type}
+use Rattle.vcd_grammar.specs.Codes.{Code, lines_of}
+use Rattle.vcd_grammar.specs.Blocks.{Change, Event, Later, Changed}
+use Rattle.vcd_grammar.specs.Judging.{Known, Values, nothing, turn, drafted, declared, closed, behind, events_in}
+use Rattle.vcd_laws.proofs.Pieces.{Word}
+
+-- the numbers of the table
+abbrev pub numbers : List ℕ
+numbers = 0 ∷ 1 ∷ 2 ∷ 3 ∷ 4 ∷ 5 ∷ 6 ∷ 7 ∷ 8 ∷ 9 ∷ 10 ∷ 11 ∷ 12 ∷ 13 ∷ 14 ∷ 15 ∷ 16 ∷ 17 ∷ 18 ∷ 19 ∷ []
+
+-- each has a code of its own
+abbrev pub written_codes : List Code
+written_codes = map (λ number. record { code = code_of number ∷ []; lines = number ∷ [] }) numbers
+
+-- what is known among the values of a written dump, at a time
+abbrev pub written : ℕ → Known
+written time = record { fault = None; mode = Values; lines = numbers; codes = written_codes; time = Some time }
+
+-- one line gets these digits
+abbrev pub sets : ℕ → List ℕ → Change
+sets number digits = record { lines = number ∷ []; digits = digits }
+
+-- changes as events
+abbrev pub changed : List Change → List Event
+changed changes = map Changed changes
+
+-- ---- the fixed part of the header: the declarations, the first time, and the clock's first value
+
+abbrev pub fixed_text : List ℕ
+fixed_text =
+    codes "$version p6bench 1 $end\n$timescale 1 ns $end\n$scope module fsb $end\n"
+    ++ texts_from declaration_text 0 20
+    ++ codes "$upscope $end\n$enddefinitions $end\n#0\n$dumpvars\n0!\n"
+
+-- each line is unknown once it was declared
+abbrev pub unknown_lines : List Change
+unknown_lines = map (λ number. sets number (120 ∷ [])) numbers
+
+pub fixed-closes : open_from [] fixed_text ≡ []
+unfolding digits texts_from declaration_text range_text
+fixed-closes = refl
+
+pub fixed-known : behind nothing (tokens_from 0 [] fixed_text) ≡ written 0
+unfolding digits texts_from declaration_text range_text ended_at grown_at number_up_to time_in header_word value_word is_read_past is_foreign_type signal_number turn drafted declared closed
+fixed-known = refl
+
+pub fixed-happens : events_in nothing (tokens_from 0 [] fixed_text) ≡ changed unknown_lines ++ Later ∷ changed (sets 0 (48 ∷ []) ∷ [])
+unfolding digits texts_from declaration_text range_text ended_at grown_at number_up_to time_in header_word value_word is_read_past is_foreign_type signal_number turn drafted declared closed
+fixed-happens = refl
+
+-- ---- each number of the table
+
+-- what holds of 0 and of the next ones
+pub next : (P : ℕ → Type 0) (k : ℕ) → P zero → ((n : ℕ) → n < k → P (suc n)) → (n : ℕ) → n < suc k → P n
+next P k here more zero h = here
+next P k here more (suc n) h = more n (omega (arith, h))
+
+pub none : (P : ℕ → Type 0) (n : ℕ) → n < 0 → P n
+none P n h = absurd (omega (arith, h))
+
+-- these are the lines of a code that has this one
+is_alone : Option (List ℕ) → ℕ → Bool
+is_alone None number = false
+is_alone (Some []) number = false
+is_alone (Some (n ∷ [])) number = n == number
+is_alone (Some (n ∷ m ∷ ns)) number = false
+
+alone : (o : Option (List ℕ)) (number : ℕ) → is_alone o number ≡ true → o ≡ Some (number ∷ [])
+unfolding is_alone
+alone None number h = cc
+alone (Some []) number h = cc
+alone (Some (n ∷ [])) number h = ap (λ x. Some (x ∷ [])) (eqb-true n number h)
+alone (Some (n ∷ m ∷ ns)) number h = cc
+
+is_listed : ℕ → Bool
+is_listed number =
+    is_alone (lines_of written_codes (code_of number ∷ [])) number
+    && ((nat_le 1 (width_of number) && nat_le (width_of number) 64) && not (is_white (code_of number)))
+
+listed_test : (n : ℕ) → n < 20 → is_listed n ≡ true
+unfolding is_listed is_alone
+listed_test =
+    next _ 19 refl (next _ 18 refl (next _ 17 refl (next _ 16 refl (next _ 15 refl (next _ 14 refl (next _ 13 refl (next _ 12 refl (next _ 11 refl (next _ 10 refl
+    (next _ 9 refl (next _ 8 refl (next _ 7 refl (next _ 6 refl (next _ 5 refl (next _ 4 refl (next _ 3 refl (next _ 2 refl (next _ 1 refl (next _ 0 refl (none _))))))))))))))))))))
+
+-- a number of the table: the lines of its code, its width, and its code as a token
+pub record Listed (number : ℕ) : Type 0 where
+  pub lines : lines_of written_codes (code_of number ∷ []) ≡ Some (number ∷ [])
+  pub some : 1 ≤ width_of number
+  pub few : width_of number ≤ 64
+  pub code : Word (code_of number ∷ [])
+
+pub left : (a b : Bool) → (a && b) ≡ true → a ≡ true
+left true b h = refl
+left false b h = h
+
+pub right : (a b : Bool) → (a && b) ≡ true → b ≡ true
+right true b h = h
+right false b h = absurd cc
+
+pub listed : (number : ℕ) → number < 20 → Listed number
+unfolding is_listed
+listed number h =
+    let test = listed_test number h in
+    let rest = right _ _ test in
+    let widths = left _ _ rest in
+    record {
+      lines = alone _ number (left _ _ test);
+      some = leb-true 1 (width_of number) (left _ _ widths);
+      few = leb-true (width_of number) 64 (right _ _ widths);
+      code = record { some = omega arith; few = omega arith; plain = ap (λ t. t && true) (right _ _ rest) };
+    }

@@ -1,0 +1,9 @@
+pub mod Pieces
+pub mod Digits
+pub mod Known
+pub mod Times
+pub mod Changes
+pub mod Lines
+pub mod SampleBack
+pub mod Clocks
+pub mod Whole

@@ -1,0 +1,57 @@
+-- A time stamp that is written is read as that time.
+use Rattle.std.proofs.Common.{◌≡◌, ℕ, ◌-◌, ◌^◌, ◌<◌, ◌≤◌, true, false, List, [], ◌∷◌, ◌++◌, length, Some, refl, arith, rules}
+use Rattle.std.specs.Fmt.{decimal}
+use Rattle.std.specs.List.{list_all}
+use Rattle.std.proofs.lemmas.Bool.{ne_eqb, le-ltb, le-leb, lt-ltb, leb-true, lt-leb}
+use Rattle.std.proofs.lemmas.Fmt.{digits_decimal, digits_value-decimal, length-decimal-le, decimal_nonempty}
+use Rattle.std.proofs.lemmas.Str.Parse.{IsNumeralModel, numerals_by_fold}
+use Rattle.vcd_grammar.specs.Tokens.{is_white}
+use Rattle.vcd_grammar.specs.Digits.{is_digit, number_from, number_up_to, time_in}
+use Rattle.vcd_grammar.specs.Words.{value_word}
+use Rattle.vcd_grammar.specs.Blocks.{Later}
+use Rattle.vcd_grammar.specs.Judging.{turn}
+use Rattle.vcd_laws.proofs.Pieces.{Word, Does, does-token, is_plain}
+use Rattle.vcd_laws.proofs.Known.{written, left, right}
+
+-- the grammar's numbers are those of decimal digits
+own : IsNumeralModel (λ ds. list_all is_digit ds ≡ true) (number_from 0)
+own = numerals_by_fold _ (search rules) number_from (search rules)
+
+all_digits : (time : ℕ) → time < 2 ^ 64 → list_all is_digit (decimal time) ≡ true
+all_digits time h = digits_decimal own time h
+
+value : (time : ℕ) → time < 2 ^ 64 → number_from 0 (decimal time) ≡ time
+value time h = digits_value-decimal own time h
+
+few : (time : ℕ) → time < 2 ^ 64 → length (decimal time) ≤ 20
+few time h = length-decimal-le 20 time (omega arith) (omega arith) h
+
+digit_plain : (b : ℕ) → is_digit b ≡ true → is_white b ≡ false
+digit_plain b h =
+    let low : 48 ≤ b = leb-true 48 b (left _ _ h) in
+    rw (le-leb 9 b (omega arith), lt-leb b 13 (omega arith), ne_eqb b 32 (λ e. omega arith)) refl
+
+digits_plain : (ds : List ℕ) → list_all is_digit ds ≡ true → is_plain ds ≡ true
+digits_plain [] h = refl
+digits_plain (b ∷ bs) h = rw (digit_plain b (left _ _ h)) (digits_plain bs (right _ _ h))
+
+stamp_is_word : (time : ℕ) → time < 2 ^ 64 → Word (35 ∷ decimal time)
+stamp_is_word time h = record { some = omega arith; few = omega (arith, few time h); plain = digits_plain (decimal time) (all_digits time h) }
+
+time_read : (time : ℕ) → time < 2 ^ 64 → time_in (decimal time) ≡ Some time
+unfolding time_in number_up_to
+time_read time h =
+    rw (le-leb (length (decimal time)) 20 (few time h))
+    (rw (ne_eqb (length (decimal time)) 0 (λ e. omega (arith, decimal_nonempty time h)))
+    (rw (all_digits time h)
+    (rw (value time h)
+    (rw (le-leb time (2 ^ 64 - 1) (omega (arith, h))) refl))))
+
+-- a later time
+pub does-stamp : (last time : ℕ) → last < time → time < 2 ^ 64 → Does ((35 ∷ decimal time) ++ 10 ∷ []) (written last) (written time) (Later ∷ [])
+unfolding turn value_word
+does-stamp last time later h = does-token (35 ∷ decimal time) 10 (written last) (written time) (Later ∷ []) (stamp_is_word time h) refl (λ at.
+    rw (le-ltb 70000 (length (35 ∷ decimal time)) (omega (arith, few time h)))
+    (rw (time_read time h)
+    (rw (le-ltb time last (omega (arith, later)))
+    (rw (lt-ltb last time later) refl))))

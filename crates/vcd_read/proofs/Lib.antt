@@ -1,0 +1,6 @@
+pub mod Numbers
+pub mod Bits
+pub mod Widths
+pub mod CodeTables
+pub mod Quiet
+pub mod Entries

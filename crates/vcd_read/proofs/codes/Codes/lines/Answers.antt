@@ -1,0 +1,20 @@
+use Rattle.std.proofs.Common.{◌≡◌, List, ℕ, Option, Some, None, option_map, ap, sym, ◌∙◌}
+use Rattle.std.specs.Option.{option_copied}
+use Rattle.vcd_grammar.specs.Codes.{lines_of}
+use Rattle.vcd_read.proofs.CodeTables.{found}
+use Rattle.vcd_read.proofs.codes.Codes.lines.Goals as goal
+
+pub returns-in-Some : goal.returns-in-Some
+returns-in-Some c =
+    ap Some c.as_slice.ensures.value
+    ∙ ap (λ o. option_map (λ v. v.items) (option_copied o)) (sym c.in-Some.is)
+    ∙ ap (option_map (λ v. v.items)) c.get.ensures.value
+    ∙ found c.args.code.now c.self.inside.all.entries
+    ∙ ap (λ cs. lines_of cs c.args.code.now) c.self.view_is
+
+pub returns-in-None : goal.returns-in-None
+returns-in-None c =
+    ap (λ o. option_map (λ v. v.items) (option_copied o)) (sym c.in-None.is)
+    ∙ ap (option_map (λ v. v.items)) c.get.ensures.value
+    ∙ found c.args.code.now c.self.inside.all.entries
+    ∙ ap (λ cs. lines_of cs c.args.code.now) c.self.view_is

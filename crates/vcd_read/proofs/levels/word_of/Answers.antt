@@ -1,0 +1,13 @@
+use Rattle.std.proofs.Common.{refl}
+use Rattle.fsb_signal.proofs.SameSample.{same_word}
+use Rattle.vcd_grammar.specs.Levels.{without}
+use Rattle.vcd_grammar.specs.LevelFacts.{without-apart}
+use Rattle.vcd_read.proofs.levels.word_of.Goals as goal
+
+pub invariant_of-result : goal.invariant_of-result
+unfolding without
+invariant_of-result c = record { disjoint = without-apart c.args.asserted c.args.unknown }
+
+pub returns : goal.returns
+unfolding without
+returns c = same_word _ _ refl refl

@@ -1,0 +1,31 @@
+-- What a reader stands for.
+use Rattle.std.specs.Prelude.{◌≡◌, ℕ, ◌≤◌, List, length, Option, None}
+use Rattle.vcd_grammar.specs.Tokens.{tokens_so_far, open_run}
+use Rattle.vcd_grammar.specs.Reading.{samples_so_far}
+use Rattle.vcd_read.specs.declared.reader.Reader.{Reader}
+use Rattle.vcd_read.specs.declared.scan.Scan.{Scan}
+use Rattle.vcd_read.specs.declared.stop.VcdStop.{VcdStop}
+use Rattle.vcd_read.specs.Taking.{taken, untaken, take_tokens}
+
+-- what the reader has refused with, if it has
+abbrev pub refusal_of : Reader → Option VcdStop
+refusal_of r = r.refused
+
+-- the most samples that the reader gives
+abbrev pub limit_of : Reader → ℕ
+limit_of r = r.limit
+
+-- the scan has taken the tokens that count in these bytes, and keeps the run behind them
+pub record Scanned (s : Scan) (fed : List ℕ) : Type 0 where
+  pub machine : taken s.machine ≡ take_tokens untaken (tokens_so_far fed)
+  pub at : s.at ≡ length fed
+  pub run : s.run.items ≡ open_run fed
+
+-- a reader that was fed these bytes and has refused nothing: its limit was not passed and the tokens that count show no fault
+pub record Works (r : Reader) (fed : List ℕ) : Type 0 where
+  pub scanned : Scanned r.scan fed
+  pub few : length (samples_so_far fed) ≤ r.limit
+
+-- the reader stands for the bytes that it was fed; once it has refused, for any
+pub record Stands (r : Reader) (fed : List ℕ) : Type 0 where
+  pub works : refusal_of r ≡ None → Works r fed

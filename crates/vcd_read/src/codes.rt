@@ -1,0 +1,119 @@
+ghost use Rattle.std.specs.Prelude.{◌≡◌, [], ◌∷◌, ◌++◌, Some, None, option_map, IfSome, IfOk, OnOk};
+ghost use Rattle.vcd_grammar.specs.Codes.{lines_of, with_code};
+ghost use Rattle.vcd_read.specs.CodesView.{lines_or_none, only_of, with_single};
+
+use indexmap::IndexMap;
+use std::alloc::{AllocError, Global};
+use std::marker::Model;
+
+/// The codes that were declared, each with the lines that have it.
+#[derive(Drop)]
+pub(crate) struct Codes {
+    alloc: Global,
+    /// The line of a code that is this one byte, where it has exactly one.
+    single: [Option<u8>; 128],
+    all: IndexMap<Vec<u8>, Vec<u8>>,
+}
+
+impl Model for Codes {
+    ghost use Rattle.std.specs.Prelude.{List};
+    ghost use Rattle.vcd_grammar.specs.Codes.{Code};
+    ghost use Rattle.vcd_read.specs.CodesView.{codes_of, Agree};
+
+    ghost Value = { List Code };
+
+    ghost view = { λ c. codes_of c.all.entries };
+
+    ghost invariant = { λ c. Agree c.single (codes_of c.all.entries) };
+}
+
+impl Codes {
+    /// No code.
+    pub(crate) fn new(alloc: Global) -> Self
+        ensures { result ≡ [] }
+    {
+        Codes {
+            alloc,
+            single: [None; 128],
+            all: IndexMap::new(alloc),
+        }
+    }
+
+    /// The line of the code, where it has exactly one and is found at once.
+    pub(crate) fn single(&self, code: &[u8]) -> Option<u8>
+        ensures { IfSome result (λ number. lines_of self.now code.now ≡ Some (number ∷ [])) }
+    {
+        match code {
+            [byte] => match self.single.get(*byte as usize) {
+                Some(line) => *line,
+                None => None,
+            },
+            _ => None,
+        }
+    }
+
+    /// The lines of the code, where it was declared.
+    pub(crate) fn lines(&self, code: &[u8]) -> Option<&[u8]>
+        ensures { option_map (λ lines. lines.now) result ≡ lines_of self.now code.now }
+    {
+        match self.all.get(code) {
+            Some(lines) => Some(lines.as_slice()),
+            None => None,
+        }
+    }
+
+    /// The lines of the code, if it was declared, and one more variable's.
+    fn joined(&self, code: &[u8], line: &[u8]) -> Result<Vec<u8>, AllocError>
+        ensures { IfOk result (λ lines. lines.items ≡ lines_or_none (lines_of self.now code.now) ++ line.now) }
+    {
+        let mut lines = match self.lines(code) {
+            Some(lines) => copy_of(self.alloc, lines)?,
+            None => Vec::new(self.alloc),
+        };
+        lines.extend_from_slice(line)?;
+        Ok(lines)
+    }
+
+    /// Adds a variable's code, and its line if it is one.
+    pub(crate) fn declare(&mut self, code: &[u8], line: &[u8]) -> Result<(), AllocError>
+        ensures { OnOk result (self.new ≡ with_code self.old code.now line.now) }
+    {
+        let lines = self.joined(code, line)?;
+        let only = only_of(lines.as_slice());
+        let key = copy_of(self.alloc, code)?;
+        self.all.insert(key, lines)?;
+        set_single(&mut self.single, code, only);
+        Ok(())
+    }
+}
+
+/// The same bytes.
+fn copy_of(alloc: Global, bytes: &[u8]) -> Result<Vec<u8>, AllocError>
+    ensures { IfOk result (λ copy. copy.items ≡ bytes.now) }
+{
+    let mut copy = Vec::new(alloc);
+    copy.extend_from_slice(bytes)?;
+    Ok(copy)
+}
+
+/// The line, where there is exactly one.
+fn only_of(lines: &[u8]) -> Option<u8>
+    ensures { result ≡ only_of lines.now }
+{
+    match lines {
+        [number] => Some(*number),
+        _ => None,
+    }
+}
+
+/// Tells the line of a code of one byte, and of no other code.
+fn set_single(single: &mut [Option<u8>; 128], code: &[u8], only: Option<u8>)
+    ensures { single.new ≡ with_single single.old code.now only }
+{
+    if code.len() == 1 {
+        let byte = code[0] as usize;
+        if byte < 128 {
+            single[byte] = only;
+        }
+    }
+}

@@ -1,0 +1,266 @@
+ghost use Rattle.std.specs.Prelude.{◌≡◌, ◌<◌, ◌≤◌, ◌-◌, ◌^◌, [], ◌∷◌, length, slice_index, false, if◌then◌else◌};
+ghost use Rattle.vcd_grammar.specs.Digits.{extended, pad_of};
+ghost use Rattle.vcd_grammar.specs.Levels.{level_of, control_of, asserted_at, unknown_at};
+ghost use Rattle.vcd_grammar.specs.Values.{sample_at, word_of};
+ghost use Rattle.vcd_grammar.specs.Judging.{is_too_wide};
+ghost use Rattle.fsb_signal.specs.DumpText.{width_of};
+ghost use Rattle.vcd_read.specs.Lines.{with_line, with_lines, nothing_set};
+
+use crate::digits::{is_unknown, pad_of};
+use fsb_signal::{Lines, Sample, Word, signal_at};
+use vcd_grammar::Level;
+
+/// What each signal of the table has, and the digit of the clock.
+#[derive(Clone, Copy, Debug)]
+pub(crate) struct Values {
+    pub(crate) levels: [Level; 20],
+    pub(crate) clock: u8,
+}
+
+/// The digit that is put before a value that is too short.
+fn pad_before(digits: &[u8]) -> u8
+    ensures { result ≡ pad_of (slice_index digits.now 0) }
+{
+    match digits {
+        [] => b'0',
+        [first, ..] => pad_of(*first),
+    }
+}
+
+/// So many ones.
+fn ones(count: usize) -> u64
+    requires { count ≤ 64 }
+    ensures { result ≡ 2 ^ count - 1 }
+{
+    if count < 64 {
+        (1u64 << count) - 1
+    } else {
+        u64::MAX
+    }
+}
+
+/// The bits, where the test holds, and none where it does not.
+fn bits_if(test: bool, bits: u64) -> u64
+    ensures { result ≡ (if test then bits else 0) }
+{
+    if test { bits } else { 0 }
+}
+
+/// What the digits of a value say, once they are extended to a width.
+fn level_of(width: u8, digits: &[u8]) -> Level
+    requires within { width ≤ 64 }
+    requires fits { length digits.now ≤ width }
+    ensures { result ≡ level_of (extended width digits.now) }
+{
+    let pad = pad_before(digits);
+    let missing = width as usize - digits.len();
+    let mut asserted = bits_if(pad == b'0', ones(missing));
+    let mut unknown = bits_if(is_unknown(pad), ones(missing));
+    for digit in digits {
+        asserted = 2 * asserted + bits_if(*digit == b'0', 1);
+        unknown = 2 * unknown + bits_if(is_unknown(*digit), 1);
+    }
+    Level { asserted, unknown }
+}
+
+/// The width of the line of this number.
+pub(crate) fn width_at(number: u8) -> u8
+    requires { number < 20 }
+    ensures width { result ≡ width_of number }
+    ensures most { result ≤ 64 }
+{
+    signal_at(number).width
+}
+
+/// The width of the line of this number, and 0 past the table.
+pub(crate) fn width_of(number: u8) -> u64
+    ensures { result ≡ width_of number }
+{
+    if number < 20 {
+        u64::from(width_at(number))
+    } else {
+        0
+    }
+}
+
+/// The digit of the clock that a value of one digit at most gives.
+fn clock_digit(digits: &[u8]) -> u8
+    requires { length digits.now ≤ 1 }
+    ensures { result ≡ slice_index (extended 1 digits.now) 0 }
+{
+    match digits {
+        [] => b'0',
+        [first, ..] => *first,
+    }
+}
+
+/// Whether a value has more digits than the line of this number.
+pub(crate) fn is_wider(digits: &[u8], number: u8) -> bool
+    ensures { result ≡ is_too_wide digits.now (number ∷ []) }
+{
+    if number < 20 {
+        (width_at(number) as usize) < digits.len()
+    } else {
+        0 < digits.len()
+    }
+}
+
+/// Whether a value has more digits than one of the lines.
+pub(crate) fn is_too_wide(digits: &[u8], lines: &[u8]) -> bool
+    ensures { result ≡ is_too_wide digits.now lines.now }
+{
+    for number in lines {
+        if is_wider(digits, *number) {
+            return true;
+        }
+    }
+    false
+}
+
+fn asserted_at(levels: &[Level; 20], number: usize) -> u64
+    requires { number < 20 }
+    ensures { result ≡ asserted_at levels.now number }
+{
+    levels[number].asserted
+}
+
+fn unknown_at(levels: &[Level; 20], number: usize) -> u64
+    requires { number < 20 }
+    ensures { result ≡ unknown_at levels.now number }
+{
+    levels[number].unknown
+}
+
+/// The control lines that are asserted.
+fn asserted_lines(levels: &[Level; 20]) -> u32
+    ensures { result ≡ control_of (asserted_at levels.now) }
+{
+    let requests = asserted_at(levels, 1) % 2
+        + 2 * (asserted_at(levels, 2) % 2)
+        + 4 * (asserted_at(levels, 3) % 2)
+        + 8 * (asserted_at(levels, 4) % 2)
+        + 16 * (asserted_at(levels, 5) % 2)
+        + 32 * (asserted_at(levels, 6) % 2)
+        + 64 * (asserted_at(levels, 7) % 2)
+        + 128 * (asserted_at(levels, 8) % 2);
+    let rest = 256 * (asserted_at(levels, 11) % 2)
+        + 512 * (asserted_at(levels, 12) % 2)
+        + 1024 * (asserted_at(levels, 13) % 2)
+        + 2048 * (asserted_at(levels, 14) % 2)
+        + 4096 * (asserted_at(levels, 15) % 8)
+        + 32768 * (asserted_at(levels, 16) % 2)
+        + 65536 * (asserted_at(levels, 17) % 2)
+        + 131072 * (asserted_at(levels, 18) % 2);
+    (requests + rest) as u32
+}
+
+/// The control lines that are unknown.
+fn unknown_lines(levels: &[Level; 20]) -> u32
+    ensures { result ≡ control_of (unknown_at levels.now) }
+{
+    let requests = unknown_at(levels, 1) % 2
+        + 2 * (unknown_at(levels, 2) % 2)
+        + 4 * (unknown_at(levels, 3) % 2)
+        + 8 * (unknown_at(levels, 4) % 2)
+        + 16 * (unknown_at(levels, 5) % 2)
+        + 32 * (unknown_at(levels, 6) % 2)
+        + 64 * (unknown_at(levels, 7) % 2)
+        + 128 * (unknown_at(levels, 8) % 2);
+    let rest = 256 * (unknown_at(levels, 11) % 2)
+        + 512 * (unknown_at(levels, 12) % 2)
+        + 1024 * (unknown_at(levels, 13) % 2)
+        + 2048 * (unknown_at(levels, 14) % 2)
+        + 4096 * (unknown_at(levels, 15) % 8)
+        + 32768 * (unknown_at(levels, 16) % 2)
+        + 65536 * (unknown_at(levels, 17) % 2)
+        + 131072 * (unknown_at(levels, 18) % 2);
+    (requests + rest) as u32
+}
+
+/// A word of the bus, from what is asserted and what is unknown.
+fn word_of(asserted: u64, unknown: u64) -> Word
+    ensures { result ≡ word_of asserted unknown }
+{
+    Word {
+        bits: asserted ^ (asserted & unknown),
+        unknown,
+    }
+}
+
+/// The sample of what the signals have.
+fn sample_at(levels: &[Level; 20]) -> Sample
+    ensures { result ≡ sample_at levels.now }
+{
+    let asserted = asserted_lines(levels);
+    let unknown = unknown_lines(levels);
+    let req = word_of(
+        asserted_at(levels, 9) % (1 << 5),
+        unknown_at(levels, 9) % (1 << 5),
+    );
+    let addr = word_of(
+        asserted_at(levels, 10) % (1 << 33),
+        unknown_at(levels, 10) % (1 << 33),
+    );
+    Sample {
+        lines: Lines(asserted ^ (asserted & unknown)),
+        unknown: Lines(unknown),
+        req,
+        addr,
+        dbus: word_of(asserted_at(levels, 19), unknown_at(levels, 19)),
+    }
+}
+
+impl Values {
+    /// The values before anything was declared: no line is asserted.
+    pub(crate) fn new() -> Self
+        ensures { result ≡ nothing_set }
+    {
+        let level = Level {
+            asserted: 0,
+            unknown: 0,
+        };
+        Values {
+            levels: [level; 20],
+            clock: b'1',
+        }
+    }
+
+    /// Gives a line some digits.
+    pub(crate) fn set_line(&mut self, number: u8, digits: &[u8])
+        requires { number < 20 → is_too_wide digits.now (number ∷ []) ≡ false }
+        ensures { self.new ≡ with_line self.old number digits.now }
+    {
+        if number < 20 {
+            self.levels[number as usize] = level_of(width_at(number), digits);
+            if number == 0 {
+                self.clock = clock_digit(digits);
+            }
+        }
+    }
+
+    /// Gives some lines some digits.
+    pub(crate) fn set_lines(&mut self, lines: &[u8], digits: &[u8])
+        requires { is_too_wide digits.now lines.now ≡ false }
+        ensures { self.new ≡ with_lines self.old lines.now digits.now }
+    {
+        for number in lines {
+            self.set_line(*number, digits);
+        }
+    }
+
+    /// Gives some lines one digit.
+    pub(crate) fn set_lines_to(&mut self, lines: &[u8], digit: u8)
+        ensures { self.new ≡ with_lines self.old lines.now (digit ∷ []) }
+    {
+        for number in lines {
+            self.set_line(*number, &[digit]);
+        }
+    }
+
+    /// The sample of the values.
+    pub(crate) fn sample(&self) -> Sample
+        ensures { result ≡ sample_at self.now.levels }
+    {
+        sample_at(&self.levels)
+    }
+}

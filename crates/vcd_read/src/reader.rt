@@ -1,0 +1,127 @@
+ghost use Rattle.std.specs.Prelude.{◌≡◌, ◌<◌, ◌+◌, ◌-◌, ◌^◌, ◌++◌, ℕ, List, [], length, take, None, Some, Err, IfOk, OnErr};
+ghost use Rattle.vcd_grammar.specs.Reading.{samples_of, samples_before_end, samples_so_far};
+ghost use Rattle.vcd_read.specs.Standing.{Stands, refusal_of, limit_of};
+ghost use Rattle.vcd_read.specs.Answers.{Answers, refusal_in, stop_so_far, stop_at_end, AppendsBy, AppendsAtEnd};
+
+use crate::scan::Scan;
+use crate::stop::VcdStop;
+use fsb_io::Memory;
+use fsb_signal::Sample;
+use std::alloc::Global;
+
+/// Reads a dump in pieces of any size.
+#[derive(Drop)]
+pub struct Reader {
+    scan: Scan,
+    limit: u32,
+    refused: Option<VcdStop>,
+}
+
+impl Reader {
+    /// A reader of dumps of at most 2^32 - 1 samples, before the first byte.
+    pub fn new(alloc: Global) -> Result<Self, Memory>
+        ensures stands { IfOk result (λ r. Stands r []) }
+        ensures fresh { IfOk result (λ r. refusal_of r ≡ None) }
+        ensures limit { IfOk result (λ r. limit_of r ≡ 2 ^ 32 - 1) }
+    {
+        Reader::up_to(alloc, u32::MAX)
+    }
+
+    /// A reader of dumps of at most so many samples, before the first byte.
+    pub fn up_to(alloc: Global, limit: u32) -> Result<Self, Memory>
+        ensures stands { IfOk result (λ r. Stands r []) }
+        ensures fresh { IfOk result (λ r. refusal_of r ≡ None) }
+        ensures limit { IfOk result (λ r. limit_of r ≡ limit) }
+    {
+        match Scan::new(alloc) {
+            Ok(scan) => Ok(Reader {
+                scan,
+                limit,
+                refused: None,
+            }),
+            Err(_) => Err(Memory),
+        }
+    }
+
+    /// The next piece of the text. Appends the samples that it decides; after a refusal it appends nothing and refuses
+    /// in the same way for good.
+    pub fn feed(&mut self, piece: &[u8], to: &mut Vec<Sample>) -> Result<(), VcdStop>
+        // No `finish` has answered Ok, and the bytes fed are few enough to be counted.
+        requires { (fed : List ℕ) × Stands self.old fed × (length fed + length piece.now < 2 ^ 64) }
+        ensures stands { (fed : List ℕ) → Stands self.old fed → Stands self.new (fed ++ piece.now) }
+        ensures refusal { refusal_of self.new ≡ refusal_in result }
+        ensures limit { limit_of self.new ≡ limit_of self.old }
+        ensures answer { (fed : List ℕ) → Stands self.old fed → refusal_of self.old ≡ None
+            → Answers result (stop_so_far (limit_of self.old) (fed ++ piece.now)) }
+        ensures samples { (fed : List ℕ) → Stands self.old fed → refusal_of self.old ≡ None
+            → AppendsBy result (samples_so_far fed) (take (limit_of self.old) (samples_so_far (fed ++ piece.now))) to.old.items to.new.items }
+        ensures again { (stop : VcdStop) → refusal_of self.old ≡ Some stop → result ≡ Err stop }
+        ensures silent { (stop : VcdStop) → refusal_of self.old ≡ Some stop → to.new.items ≡ to.old.items }
+    {
+        if let Some(stop) = self.refused {
+            return Err(stop);
+        }
+        let answer = self.absorb(piece, to);
+        self.refused = match answer {
+            Ok(()) => None,
+            Err(stop) => Some(stop),
+        };
+        answer
+    }
+
+    fn absorb(&mut self, piece: &[u8], to: &mut Vec<Sample>) -> Result<(), VcdStop> {
+        match self.scan.absorb(piece, self.limit, to) {
+            Ok(()) => self.answer(),
+            Err(_) => Err(VcdStop::Memory),
+        }
+    }
+
+    /// What the tokens so far answer.
+    fn answer(&self) -> Result<(), VcdStop> {
+        if u64::from(self.limit) < self.scan.machine.decided {
+            return Err(VcdStop::TooLong);
+        }
+        match self.scan.machine.fault {
+            None => Ok(()),
+            Some(fault) => Err(VcdStop::Bad(fault)),
+        }
+    }
+
+    /// The end of the text. Appends the samples that it decides; after a refusal it appends nothing and refuses in the
+    /// same way for good.
+    pub fn finish(&mut self, to: &mut Vec<Sample>) -> Result<(), VcdStop>
+        // No `finish` has answered Ok.
+        requires { (fed : List ℕ) × Stands self.old fed }
+        ensures stands { OnErr result ((fed : List ℕ) → Stands self.old fed → Stands self.new fed) }
+        ensures refusal { refusal_of self.new ≡ refusal_in result }
+        ensures limit { limit_of self.new ≡ limit_of self.old }
+        ensures answer { (fed : List ℕ) → Stands self.old fed → refusal_of self.old ≡ None
+            → Answers result (stop_at_end (limit_of self.old) fed) }
+        ensures samples { (fed : List ℕ) → Stands self.old fed → refusal_of self.old ≡ None
+            → AppendsAtEnd result (limit_of self.old) (samples_so_far fed) (samples_before_end fed) (samples_of fed) to.old.items to.new.items }
+        ensures again { (stop : VcdStop) → refusal_of self.old ≡ Some stop → result ≡ Err stop }
+        ensures silent { (stop : VcdStop) → refusal_of self.old ≡ Some stop → to.new.items ≡ to.old.items }
+    {
+        if let Some(stop) = self.refused {
+            return Err(stop);
+        }
+        let answer = self.end(to);
+        self.refused = match answer {
+            Ok(()) => None,
+            Err(stop) => Some(stop),
+        };
+        answer
+    }
+
+    fn end(&mut self, to: &mut Vec<Sample>) -> Result<(), VcdStop> {
+        let rises = match self.scan.finish(self.limit, to) {
+            Ok(rises) => rises,
+            Err(_) => return Err(VcdStop::Memory),
+        };
+        self.answer()?;
+        if rises && self.scan.machine.decided == u64::from(self.limit) {
+            return Err(VcdStop::TooLong);
+        }
+        Ok(())
+    }
+}
