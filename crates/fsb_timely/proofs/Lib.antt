@@ -1,6 +1,8 @@
 pub mod EachClock
 pub mod Next
 pub mod Since
+pub mod GoingOn
+pub mod GoingScripts
 pub mod Holding
 pub mod TurnOrder
 pub mod Moments
