@@ -17,7 +17,7 @@ last-passed : (test : ℕ → Bool) (n : ℕ) → test n ≡ true → last_where
 unfolding last_where
 last-passed test n t = ap (last_where test) (add-one n) ∙ rw (t, last_where) refl
 
-last-failed : (test : ℕ → Bool) (n : ℕ) → test n ≡ false → last_where test (n + 1) ≡ last_where test n
+pub last-failed : (test : ℕ → Bool) (n : ℕ) → test n ≡ false → last_where test (n + 1) ≡ last_where test n
 unfolding last_where
 last-failed test n f = ap (last_where test) (add-one n) ∙ rw (f, last_where) refl
 

@@ -1,12 +1,17 @@
 pub mod EachClock
 pub mod Next
 pub mod Since
+pub mod GoingOn
+pub mod GoingScripts
 pub mod Holding
 pub mod TurnOrder
 pub mod Moments
 pub mod EndCount
+pub mod Settled
+pub mod TiedGrants
 pub mod TiedMoments
 pub mod Wanted
 pub mod Items
 pub mod OneEnd
+pub mod ToldLines
 pub mod Outstanding

@@ -45,7 +45,7 @@ unfolding is_at is_some_and
 is_at-some None n e = absurd (let h : ⊥ = cc in h)
 is_at-some (Some m) n e = ap Some (eqb-true m n e)
 
-at-is_at : (number : Option ℕ) (n : ℕ) → number ≡ Some n → is_at number n ≡ true
+pub at-is_at : (number : Option ℕ) (n : ℕ) → number ≡ Some n → is_at number n ≡ true
 unfolding is_at is_some_and
 at-is_at number n e = subst (λ o. is_at o n ≡ true) (sym e) (eq-eqb n n refl)
 

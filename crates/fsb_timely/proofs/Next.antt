@@ -1,5 +1,5 @@
 -- A clock that a run has passed stays as it is.
-use Rattle.std.proofs.Common.{ℕ, zero, suc, ◌+◌, ◌<◌, ◌≤◌, ◌≡◌, true, nat_le, nat_lt, nat_eq, ◌&&◌, List, [], ◌∷◌, ◌++◌, length, take, IsTrue, sym, ap, refl, ◌∙◌, arith, add-one, append-nil, below_more}
+use Rattle.std.proofs.Common.{ℕ, zero, suc, ◌+◌, ◌<◌, ◌≤◌, ◌≡◌, true, nat_le, nat_lt, nat_eq, ◌&&◌, List, [], ◌∷◌, ◌++◌, length, take, IsTrue, slice_get, sym, ap, refl, ◌∙◌, arith, add-one, append-nil, below_more}
 use Rattle.std.specs.List.{list_all}
 use Rattle.std.proofs.lemmas.Bool.{and_parts, eqb-true, le-leb, lt-leb, lt-ltb, ltb-true}
 use Rattle.std.proofs.lemmas.List.{take-append-le, length-append}
@@ -15,7 +15,7 @@ use Rattle.fsb_trace.specs.Agree.{AgreeTo}
 use Rattle.fsb_trace.proofs.AgreeAt.{line_at-agree}
 use Rattle.fsb_timely.specs.Moments.{moment_at}
 use Rattle.fsb_timely.specs.Runs.{Run, requests_below, entries_to, run_to, moments_below, past_of, past_to}
-use Rattle.fsb_timely.specs.Growth.{IsNext, IsWhole}
+use Rattle.fsb_timely.specs.Growth.{IsNext, IsWhole, GoesOn}
 use Rattle.fsb_signal.specs.Samples.{is_known_trace}
 use Rattle.fsb_timely.specs.Starts.{starts_requests, drives_request_lines}
 use Rattle.fsb_timely.specs.Snoops.{drives_hazards, has_snoop_result}
@@ -179,3 +179,30 @@ timely-more r s old next whole known new =
       completions = each_clock-more logs_completions r s next before old.completions new.completions;
       bus_lock = each_clock-more drives_lock r s next before old.bus_lock new.bus_lock;
     }
+
+moments-there : (r s : Run) → IsNext r s → IsWhole r → (t : ℕ) → t < length r.trace → slice_get (past_of r).moments t ≡ slice_get (past_of s).moments t
+unfolding past_of moments_below
+moments-there r s next whole t l =
+    let n = length r.trace in
+    let longer : length s.trace ≡ suc n = ap length next.more_trace ∙ length-append r.trace (next.sample ∷ []) ∙ add-one n in
+    sym (ap (λ k. slice_get (moments_below s k) t) longer
+    ∙ slice_get-before (moments_below s n) _ t (let e = length-moments s n in omega arith)
+    ∙ ap (λ xs. slice_get xs t) (moments-same r s n next whole (omega arith)))
+
+entries-later : (n : ℕ) (entries : List Done) → list_all (λ done. nat_eq done.clock n) entries ≡ true → list_all (λ done. nat_le n done.clock) entries ≡ true
+entries-later n [] e = refl
+entries-later n (done ∷ entries) e =
+    let parts = and_parts (nat_eq done.clock n) (list_all (λ d. nat_eq d.clock n) entries) e in
+    let at : done.clock ≡ n = eqb-true done.clock n parts.0 in
+    rw (le-leb n done.clock (omega arith)) (entries-later n entries parts.1)
+
+-- the past of a run with one more clock goes on from the past of the run
+pub past-goes_on : (r s : Run) → IsNext r s → IsWhole r → GoesOn (length r.trace) (past_of r) (past_of s)
+unfolding past_of
+past-goes_on r s next whole = record {
+  same_plan = sym next.same_plan;
+  same_moments = moments-there r s next whole;
+  entries = next.entries;
+  more_log = next.more_log;
+  at_end = entries-later (length r.trace) next.entries next.at_end;
+}

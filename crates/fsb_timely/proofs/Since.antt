@@ -7,7 +7,7 @@ use Rattle.fsb_timely.specs.Runs.{Past}
 use Rattle.fsb_timely.specs.Grants.{is_granted, is_lost, is_held, IsHeldSince}
 
 -- the last clock that passes: it passes, and lies below n
-last_where-found : (test : ℕ → Bool) (n c : ℕ) → last_where test n ≡ Some c → (c < n) × (test c ≡ true)
+pub last_where-found : (test : ℕ → Bool) (n c : ℕ) → last_where test n ≡ Some c → (c < n) × (test c ≡ true)
 unfolding last_where
 last_where-found test zero c e = absurd (let h : ⊥ = cc in h)
 last_where-found test (suc n) c e =

@@ -1,28 +1,26 @@
 -- What the moments of a run say of a snoop end is what the whole trace says.
-use Rattle.std.proofs.Common.{ℕ, zero, suc, ◌+◌, ◌<◌, ◌≤◌, ◌≡◌, ◌/◌, [], ◌∷◌, ◌++◌, Option, Some, None, length, slice_index, is_some, refl, sym, ap, subst, ◌∙◌, inl, inr, arith, add-one}
+use Rattle.std.proofs.Common.{ℕ, zero, suc, ◌+◌, ◌<◌, ◌≤◌, ◌≡◌, [], ◌∷◌, ◌++◌, Option, Some, None, length, slice_index, is_some, refl, sym, ap, subst, ◌∙◌, inl, inr, arith, add-one}
 use Rattle.std.proofs.lemmas.Bool.{cases_lt}
 use Rattle.std.proofs.lemmas.List.{length-append, get_or_append_left}
 use Rattle.std.proofs.Math.Seq.{get_or-append_seam}
 use Rattle.std.specs.Option.{option_map, option_and_then}
 use Rattle.fsb_count.specs.Clocks.{count_where}
 use Rattle.fsb_count.proofs.Count.{count_where-passed, count_where-failed, count_where-mono}
-use Rattle.fsb_trace.specs.declared.who.Who.TheVariants.{Symmetric, Priority}
-use Rattle.fsb_trace.specs.At.{Trace}
-use Rattle.fsb_trace.specs.Agree.{AgreeTo}
-use Rattle.fsb_trace.specs.Requests.{live_clock_of, line_of}
+use Rattle.fsb_trace.specs.Requests.{live_clock_of}
 use Rattle.fsb_trace.specs.Snoop.{snoop_end_of}
 use Rattle.fsb_trace.specs.Outcome.{settled_by, settled_outcome_of}
-use Rattle.fsb_signal.specs.declared.lines.TheConstants.Lines.{HITM}
-use Rattle.fsb_trace.proofs.AgreeAt.{line_at-agree, winner_at-agree, request_at-agree}
-use Rattle.fsb_trace.proofs.Stay.{snoop_end_of-clock}
-use Rattle.fsb_trace.proofs.StayEnds.{live_request_of-stays}
-use Rattle.fsb_timely.specs.Moments.{SnoopEnd, claim_at, agent_at, number_of_turn, turns_in, number_snooped_at, snoop_end_with}
+use Rattle.fsb_trace.proofs.AgreeAt.{request_at-agree, AgreeTo-sym}
+use Rattle.fsb_trace.proofs.Stay.{snoop_end_of-clock, snoop_end_of-stays, live_clock_of-stays}
+use Rattle.fsb_timely.specs.Moments.{SnoopEnd, number_of_turn, turns_in, number_snooped_at, snoop_end_with}
 use Rattle.fsb_timely.specs.Runs.{Run, run_to, moments_below, past_of}
 use Rattle.fsb_timely.specs.Grants.{snooped_at}
 use Rattle.fsb_timely.specs.Tied.{IsSnoopOf}
 use Rattle.fsb_timely.proofs.TurnOrder.{turns_in-append, turns-snooped, turns-quiet}
 use Rattle.std.proofs.lemmas.Option.{slice_get_past}
 use Rattle.fsb_timely.proofs.Next.{length-moments}
+use Rattle.fsb_trace.proofs.Order.{snoop_end_of-rises}
+use Rattle.fsb_timely.proofs.TiedGrants.{grant_of-same}
+use Rattle.fsb_timely.proofs.Settled.{settled_by-agree, claim_at-agree}
 use Rattle.fsb_timely.proofs.EndCount.{ends_at, ends-below, is_end}
 use Rattle.fsb_timely.proofs.Moments.{moment_of, snoop_of, moment-snooped, moment-quiet, number-says, snooped-there, run_to-agrees}
 
@@ -82,32 +80,17 @@ turn-there r (suc n) i t q e f l m =
           subst (λ u. slice_index (turns_in (moments_below r u ++ moment_of r u ∷ [])) i ≡ number_of_turn (snoop_of r t i q).turn) same (turn-new r i t q e f)
     ]
 
--- what is settled rests on the samples up to the snoop end
-settled_by-agree : (n : ℕ) (w v : Trace) (turn i t : ℕ) → AgreeTo n w v → t < n → snoop_end_of w i ≡ Some t → settled_by w turn i t ≡ settled_by v turn i t
-unfolding settled_by
-settled_by-agree n w v turn i t a l e =
-    let handed = line_at-agree HITM n w v t a l in
-    let request = live_request_of-stays n w v i t a l e in
-    rw (handed, request) refl
-
-agent_at-agree : (n : ℕ) (w v : Trace) (q : ℕ) → AgreeTo n w v → q ≤ n → agent_at w q ≡ agent_at v q
-unfolding agent_at
-agent_at-agree n w v q a l =
-    ap (λ o. elim o [ Some who ↦ elim who [ Symmetric a ↦ Some a | Priority ↦ None ] | None ↦ None ]) (winner_at-agree n w v q a l)
-
-line_of-agree : (n : ℕ) (w v : Trace) (q : ℕ) → AgreeTo n w v → q < n → line_of w q ≡ line_of v q
-unfolding line_of
-line_of-agree n w v q a l =
-    let winner = winner_at-agree n w v q a (omega arith) in
-    let sample = a.same q l in
-    λ i. elim (winner i) [ Some who ↦ elim who [ Symmetric a ↦ option_map (λ s. s.addr.bits / 4) (sample i) | Priority ↦ None ] | None ↦ None ]
-
-claim_at-agree : (n : ℕ) (w v : Trace) (q : ℕ) → AgreeTo n w v → q < n → claim_at w q ≡ claim_at v q
-unfolding claim_at
-claim_at-agree n w v q a l =
-    let agent = agent_at-agree n w v q a (omega arith) in
-    let line = line_of-agree n w v q a l in
-    λ i. option_and_then (λ x. option_map (λ y. record { first = q; agent = x; line = y }) (line i)) (agent i)
+-- the turn of an earlier live request is the same in the list so far and in the whole list
+turns-alike : (r : Run) (i t : ℕ) → snoop_end_of r.trace i ≡ Some t → (j : ℕ) → j < i
+    → slice_index (turns_in (moments_below r t)) j ≡ slice_index (turns_in (moments_below r (length r.trace))) j
+turns-alike r i t e j l =
+    let within = (snoop_end_of-clock r.trace i t e).within in
+    let before = snoop_end_of-rises r.trace j i t l e in
+    let u : ℕ = before.0 in
+    let gap : u + 3 ≤ t = before.2 in
+    let c = snoop_end_of-clock r.trace j u before.1 in
+    turn-there r t j u c.clock before.1 c.is_clock (omega arith) (omega arith)
+    ∙ sym (turn-there r (length r.trace) j u c.clock before.1 c.is_clock (omega arith) (omega arith))
 
 -- the snoop end of a live request of the whole trace is in the moment of its clock
 pub snoop-tied : (r : Run) (i t : ℕ) → snoop_end_of r.trace i ≡ Some t → (s : SnoopEnd) × IsSnoopOf r i t s
@@ -120,7 +103,10 @@ snoop-tied r i t e =
     let agree = run_to-agrees r t c.within in
     let s : SnoopEnd = snoop_of r t i q in
     let turn = turn-there r (length r.trace) i t q e c.is_clock c.within (omega arith) in
-    let request = request_at-agree (t + 1) r.trace v q agree (omega arith) in (
+    let request = request_at-agree (t + 1) r.trace v q agree (omega arith) in
+    let back = AgreeTo-sym (t + 1) r.trace v agree in
+    let there = snoop_end_of-stays (t + 1) r.trace v i t agree (omega arith) e in
+    let clock = live_clock_of-stays (t + 1) r.trace v i q agree (omega arith) c.is_clock in (
       s,
       record {
         there = snooped-there r t c.within ∙ moment-snooped r i t q e c.is_clock;
@@ -132,6 +118,7 @@ snoop-tied r i t e =
         outcome = ap (option_map (settled_by r.trace (slice_index (turns_in (moments_below r (length r.trace))) i) i)) e
             ∙ ap (λ k. Some (settled_by r.trace k i t)) turn
             ∙ ap Some (settled_by-agree (t + 1) r.trace v (number_of_turn s.turn) i t agree (omega arith) e);
+        grant = grant_of-same (t + 1) v r.trace (turns_in (moments_below r t)) (turns_in (moments_below r (length r.trace))) i t q s.outcome (record { agree = back; below = omega arith; left = there; right = e }) clock c.is_clock (omega arith) (λ j less. turns-alike r i t e j less);
       },
     )
 

@@ -1,5 +1,5 @@
 -- How a run grows, clock by clock.
-use Rattle.std.specs.Prelude.{ℕ, ◌+◌, ◌&&◌, ◌||◌, nat_eq, ◌≡◌, Bool, List, [], ◌∷◌, ◌++◌, length, IsTrue}
+use Rattle.std.specs.Prelude.{ℕ, ◌+◌, ◌&&◌, ◌||◌, nat_eq, nat_le, slice_get, ◌≡◌, ◌<◌, Bool, List, [], ◌∷◌, ◌++◌, length, IsTrue}
 use Rattle.std.specs.List.{list_all}
 use Rattle.fsb_count.specs.Options.{is_at}
 use Rattle.fsb_trace.specs.At.{Trace}
@@ -8,7 +8,7 @@ use Rattle.fsb_trace.specs.Flight.{last_clock_of}
 use Rattle.fsb_access.specs.declared.log.Done.{Done}
 use Rattle.fsb_hazard.specs.declared.choice.Choice.{Choice}
 use Rattle.fsb_signal.specs.declared.sample.Sample.{Sample}
-use Rattle.fsb_timely.specs.Runs.{Run, requests_below}
+use Rattle.fsb_timely.specs.Runs.{Run, Past, requests_below}
 
 -- the second run is the first with one more clock: one more sample and one more hold, maybe more choices, and entries of
 -- that clock alone
@@ -28,6 +28,15 @@ pub record IsNext (r s : Run) : Type 0 where
 pub record IsWhole (r : Run) : Type 0 where
   pub one_hold : length r.holds ≡ length r.trace
   pub one_choice : length r.choices ≡ requests_below r.trace (length r.trace)
+
+-- the second past goes on from the first, of which clock n is the next: they have one plan and the same moments below n, and
+-- the log of the second is that of the first with entries of clock n or later
+pub record GoesOn (n : ℕ) (p q : Past) : Type 0 where
+  pub same_plan : p.plan ≡ q.plan
+  pub same_moments : (t : ℕ) → t < n → slice_get p.moments t ≡ slice_get q.moments t
+  pub entries : List Done
+  pub more_log : q.log ≡ p.log ++ entries
+  pub at_end : IsTrue (list_all (λ done. nat_le n done.clock) entries)
 
 -- c is the last clock at which the request that begins at q is outstanding: its address error is at c, or its end, or, if it
 -- is Deferred, that of its reply

@@ -9,10 +9,7 @@ use Rattle.fsb_access.specs.ByteMemory.{ByteMemory, bytes_at, memory_of}
 use Rattle.fsb_access.specs.Replay.{Served, start_of, replay}
 use Rattle.fsb_access.specs.ScriptOrder.{InOrder}
 use Rattle.fsb_access.specs.declared.item.Item.{Item}
-use Rattle.fsb_encode.specs.declared.request.Request.{Request}
 use Rattle.fsb_hazard.specs.declared.choice.Choice.{Choice}
-use Rattle.fsb_hazard.specs.declared.choice.Ask.{Ask}
-use Rattle.fsb_hazard.specs.declared.choice.Ask.TheVariants.{Clock, Begun}
 use Rattle.fsb_hazard.specs.Choice.{quiet_choice, join}
 use Rattle.fsb_line.specs.declared.state.Mesi.{Mesi}
 use Rattle.fsb_line.specs.declared.state.Mesi.TheVariants.{Invalid}
@@ -40,33 +37,38 @@ pub record Simulated (r : Run) : Type 0 where
   pub in_order : InOrder r.plan.scripts r.log
   pub served : Served r.plan.mem r.log
 
--- what a hazard object tells: where it tells, its entry for each question
+-- what an object that tells has to answer: for each clock, and for each request by its number
+pub record Entries : Type 0 where
+  pub for_clock : ℕ → Choice
+  pub for_request : ℕ → Choice
+
+-- what a hazard object tells, where it tells
 abbrev pub Told : Type 0
-Told = Option (Ask → Choice)
+Told = Option Entries
 
--- the object's answer to the question is its entry, where it tells; any answer will do where it does not
-abbrev pub IsAnswer : Ask → Told → Choice → Type 0
-IsAnswer ask None answer = ⊤
-IsAnswer ask (Some entry) answer = answer ≡ entry ask
+-- the object's answer is this entry of what it tells; any answer will do where it tells nothing
+abbrev pub IsAnswer : (Entries → Choice) → Told → Choice → Type 0
+IsAnswer entry None answer = ⊤
+IsAnswer entry (Some entries) answer = answer ≡ entry entries
 
--- the answers are those of the objects to the question, one for each, in order
-abbrev pub AreAnswers : Ask → List Told → List Choice → Type 0
-AreAnswers ask [] [] = ⊤
-AreAnswers ask [] (answer ∷ answers) = ⊥
-AreAnswers ask (object ∷ objects) [] = ⊥
-AreAnswers ask (object ∷ objects) (answer ∷ answers) = IsAnswer ask object answer × AreAnswers ask objects answers
+-- the answers are those of the objects, one for each, in order
+abbrev pub AreAnswers : (Entries → Choice) → List Told → List Choice → Type 0
+AreAnswers entry [] [] = ⊤
+AreAnswers entry [] (answer ∷ answers) = ⊥
+AreAnswers entry (object ∷ objects) [] = ⊥
+AreAnswers entry (object ∷ objects) (answer ∷ answers) =
+    IsAnswer entry object answer × AreAnswers entry objects answers
 
--- the choice for request k is what the objects' answers join to, BNR# left out
+-- the choice for request k is what the objects' answers to its beginning join to, BNR# left out
 pub record IsChosen (objects : List Told) (k : ℕ) (choice : Choice) : Type 0 where
-  pub request : Request
   pub answers : List Choice
-  pub answered : AreAnswers (Begun k request) objects answers
+  pub answered : AreAnswers (λ entries. entries.for_request k) objects answers
   pub joined : choice ≡ record (fold join quiet_choice answers) { bnr = false }
 
--- the hold of clock c is whether one of the objects' answers asks for BNR#
+-- the hold of clock c is whether one of the objects' answers to the clock asks for BNR#
 pub record IsHold (objects : List Told) (c : ℕ) (hold : Bool) : Type 0 where
   pub answers : List Choice
-  pub answered : AreAnswers (Clock c) objects answers
+  pub answered : AreAnswers (λ entries. entries.for_clock c) objects answers
   pub joined : hold ≡ list_any (λ answer. answer.bnr) answers
 
 -- the choices and holds are what the objects answered, one after the other

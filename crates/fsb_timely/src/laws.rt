@@ -1,8 +1,11 @@
 //! Laws over the definitions: no code.
 
-ghost use Rattle.std.specs.Prelude.{◌≡◌, ◌↔◌, ◌<◌, ◌+◌, ◌&&◌, ◌||◌, ℕ, Bool, true, false, not, Some, length, if◌then◌else◌, IsTrue};
+ghost use Rattle.std.specs.Prelude.{◌≡◌, ◌↔◌, ◌<◌, ◌≤◌, ◌+◌, ◌&&◌, ◌||◌, ℕ, List, Bool, true, false, not, Some, length, if◌then◌else◌, IsTrue};
 ghost use Rattle.fsb_count.specs.Options.{is_some_and};
 ghost use Rattle.fsb_encode.specs.declared.request.Request.{Request};
+ghost use Rattle.fsb_hazard.specs.declared.choice.Ask.TheVariants.{Begun};
+ghost use Rattle.fsb_hazard.specs.declared.line.HazardLine.{HazardLine};
+ghost use Rattle.fsb_hazard.specs.Entry.{entry};
 ghost use Rattle.fsb_signal.specs.Samples.{is_known_trace};
 ghost use Rattle.fsb_trace.specs.At.{Trace};
 ghost use Rattle.fsb_trace.specs.Snoop.{snoop_end_of};
@@ -10,11 +13,12 @@ ghost use Rattle.fsb_trace.specs.Flight.{is_outstanding};
 ghost use Rattle.fsb_timely.specs.Moments.{SnoopEnd};
 ghost use Rattle.fsb_timely.specs.Tied.{IsSnoopOf};
 ghost use Rattle.fsb_timely.specs.Runs.{Run, Past, run_to, past_of, past_to};
-ghost use Rattle.fsb_timely.specs.Grants.{snooped_at, grant_at, is_granted, is_lost, is_held, IsHeldSince, latest_grant, is_named_by_other, is_sole, is_exclusive};
-ghost use Rattle.fsb_timely.specs.Scripts.{completes_at, is_logged_at, is_logged, next_number, next_item, window};
+ghost use Rattle.fsb_timely.specs.Grants.{snooped_at, grant_at, is_granted, is_lost, is_held, IsHeldSince, latest_grant, is_ready, is_named_by_other, is_sole, is_exclusive};
+ghost use Rattle.fsb_timely.specs.Scripts.{completes_at, is_logged_at, is_logged, next_number, next_item, is_idling, window};
+ghost use Rattle.fsb_timely.specs.Hits.{is_hit};
 ghost use Rattle.fsb_timely.specs.Wants.{owed, is_asked_for, want_of};
 ghost use Rattle.fsb_timely.specs.Timely.{Part, holds_at, keeps, AtEachClock, IsTimelyAt, Timely};
-ghost use Rattle.fsb_timely.specs.Growth.{IsNext, IsWhole, is_last_clock};
+ghost use Rattle.fsb_timely.specs.Growth.{IsNext, IsWhole, GoesOn, is_last_clock};
 
 /// What is said of a clock that a run has passed stays as it is when the run goes on: the run and its past up to that
 /// clock are the same, and so is each test of them.
@@ -86,4 +90,27 @@ pub fn one_snoop_end_at_a_clock()
 pub fn wants_are_new()
     ensures { (p : Past) (a c : ℕ) (request : Request) → want_of p a c ≡ Some request
         → is_asked_for (owed p a c) request.line ≡ false }
+{}
+
+/// What hazard lines choose for a request depends on its number alone, so an object that tells lines has an entry for each
+/// number.
+pub fn hazard_lines_go_by_number()
+    ensures { (lines : List HazardLine) (k : ℕ) (a b : Request) → entry lines (Begun k a) ≡ entry lines (Begun k b) }
+{}
+
+/// What an agent has and does at a clock rests on the past below that clock: where a past goes on, the lines that the agent
+/// holds, has ready and has for itself, its place in its script and its hit are the same, up to the clock at which it goes
+/// on.
+pub fn pasts_go_on()
+    ensures held { (n : ℕ) (p q : Past) (a line c : ℕ) → GoesOn n p q → c ≤ n → is_held p a line c ≡ is_held q a line c }
+    ensures latest { (n : ℕ) (p q : Past) (a line c : ℕ) → GoesOn n p q → c ≤ n
+        → latest_grant p a line c ≡ latest_grant q a line c }
+    ensures ready { (n : ℕ) (p q : Past) (a line c : ℕ) → GoesOn n p q → c ≤ n → is_ready p a line c ≡ is_ready q a line c }
+    ensures exclusive { (n : ℕ) (p q : Past) (a line c : ℕ) → GoesOn n p q → c ≤ n
+        → is_exclusive p a line c ≡ is_exclusive q a line c }
+    ensures item { (n : ℕ) (p q : Past) (a c : ℕ) → GoesOn n p q → c ≤ n → next_item p a c ≡ next_item q a c }
+    ensures window { (n : ℕ) (p q : Past) (a c : ℕ) → GoesOn n p q → c ≤ n → window p a c ≡ window q a c }
+    ensures idling { (n : ℕ) (p q : Past) (a c : ℕ) → GoesOn n p q → c ≤ n → is_idling p a c ≡ is_idling q a c }
+    ensures hit { (n : ℕ) (p q : Past) (a c : ℕ) → GoesOn n p q → c ≤ n → is_hit p a c ≡ is_hit q a c }
+    ensures next { (r s : Run) → IsNext r s → IsWhole r → GoesOn (length r.trace) (past_of r) (past_of s) }
 {}

@@ -21,6 +21,7 @@ use Rattle.fsb_timely.specs.Transfers.{drives_responses, carries_data}
 use Rattle.fsb_timely.specs.Completions.{logs_completions}
 use Rattle.fsb_timely.specs.BusLock.{drives_lock}
 use Rattle.fsb_timely.specs.Timely.{Part}
+use Rattle.fsb_timely.specs.Simulated.{Entries}
 
 -- the bits of some different lines together
 abbrev pub bits_of : List Lines → ℕ
@@ -50,6 +51,11 @@ setting addr byte = record { addr = addr; byte = byte }
 -- a request: what an object that tells lines answers for it depends on its number alone
 abbrev pub some_request : Request
 some_request = record { kind = Read; line = 0; chunk = 0; did = 0; den = false }
+
+-- what an object tells that tells these lines
+abbrev pub entries_of : List HazardLine → Entries
+entries_of lines =
+    record { for_clock = λ c. entry_of_lines lines (Clock c); for_request = λ k. entry_of_lines lines (Begun k some_request) }
 
 -- what an object that tells these lines answers for request k, BNR# left out
 abbrev pub choice_for : List HazardLine → ℕ → Choice

@@ -1,0 +1,203 @@
+-- The grant that a moment has is the one that the whole trace gives.
+use Rattle.std.proofs.Common.{ℕ, ◌+◌, ◌<◌, ◌≤◌, ◌≡◌, Bool, true, false, ◌&&◌, ◌||◌, List, Option, Some, None, length, slice_index, refl, sym, ap, subst, ◌∙◌, inl, inr, arith}
+use Rattle.std.proofs.lemmas.Bool.{cases_lt, lt-ltb, ltb-true, and_parts}
+use Rattle.std.specs.Option.{option_map, option_and_then}
+use Rattle.fsb_count.specs.Options.{is_some_and, is_at, is_before}
+use Rattle.fsb_count.proofs.First.{first_where-carried, first_where-found, first_where-same}
+use Rattle.fsb_count.proofs.Count.{count_where-same}
+use Rattle.fsb_count.specs.Clocks.{nth_where}
+use Rattle.fsb_count.proofs.Nth.{nth_where-at}
+use Rattle.fsb_signal.specs.declared.lines.TheConstants.Lines.{ADS, HIT, HITM}
+use Rattle.fsb_trace.specs.declared.outcome.Outcome.{Outcome}
+use Rattle.fsb_trace.specs.At.{Trace}
+use Rattle.fsb_trace.specs.Agree.{AgreeTo}
+use Rattle.fsb_trace.specs.Requests.{is_live, live_clock_of, live_number_of, live_request_of, is_reply, have_same_id}
+use Rattle.fsb_trace.specs.Snoop.{snoop_end_of}
+use Rattle.fsb_trace.specs.Outcome.{response_clock_of, settled_by, settled_outcome_of, is_settled_deferred, is_deferral}
+use Rattle.fsb_trace.specs.Flight.{is_reply_to, is_live_reply_to, reply_clock_of, reply_number_of}
+use Rattle.fsb_trace.proofs.AgreeAt.{AgreeTo-sym, line_at-agree, request_at-agree, is_live-agree}
+use Rattle.fsb_trace.proofs.Stay.{snoop_end_of-clock, snoop_end_of-stays, live_clock_of-stays, response_clock_of-stays}
+use Rattle.fsb_trace.proofs.StayEnds.{live_request_of-stays}
+use Rattle.fsb_trace.proofs.Order.{snoop_end_of-rises}
+use Rattle.fsb_timely.specs.Moments.{is_answered_by, served_number, live_claim_of, is_owner_request, is_shared_at, grant_to, grant_for, grant_of, makes_grant, claim_at}
+use Rattle.fsb_timely.proofs.Moments.{is_at-some, at-is_at}
+use Rattle.fsb_timely.proofs.Settled.{settled_by-agree, claim_at-agree}
+
+before-some : (number : Option ℕ) (c : ℕ) → is_before number c ≡ true → (r : ℕ) × (number ≡ Some r) × (r < c)
+unfolding is_before is_some_and
+before-some None c e = absurd (let h : ⊥ = cc in h)
+before-some (Some r) c e = (r, refl, ltb-true r c e)
+
+some-before : (number : Option ℕ) (r c : ℕ) → number ≡ Some r → r < c → is_before number c ≡ true
+unfolding is_before is_some_and
+some-before number r c e l = subst (λ o. is_before o c ≡ true) (sym e) (lt-ltb r c l)
+
+-- two tests of which each gives the other are the same
+same-both : (x y : Bool) → (x ≡ true → y ≡ true) → (y ≡ true → x ≡ true) → x ≡ y
+same-both true y f g = sym (f refl)
+same-both false true f g = g refl
+same-both false false f g = refl
+
+-- whether a response lies below a clock shows in the samples below it
+response-kept : (n : ℕ) (w v : Trace) (j c : ℕ) → AgreeTo n w v → c ≤ n → is_before (response_clock_of w j) c ≡ true → is_before (response_clock_of v j) c ≡ true
+response-kept n w v j c a l e =
+    let h = before-some (response_clock_of w j) c e in
+    let r : ℕ = h.0 in
+    let below : r < c = h.2 in
+    some-before (response_clock_of v j) r c (response_clock_of-stays n w v j r a (omega arith) h.1) below
+
+response-same : (n : ℕ) (w v : Trace) (j c : ℕ) → AgreeTo n w v → c ≤ n → is_before (response_clock_of w j) c ≡ is_before (response_clock_of v j) c
+response-same n w v j c a l =
+    same-both (is_before (response_clock_of w j) c) (is_before (response_clock_of v j) c) (response-kept n w v j c a l) (response-kept n v w j c (AgreeTo-sym n w v a) l)
+
+-- a live request whose snoop end lies below n, in both traces
+pub record Reached (n : ℕ) (w v : Trace) (j s : ℕ) : Type 0 where
+  pub agree : AgreeTo n w v
+  pub below : s < n
+  pub left : snoop_end_of w j ≡ Some s
+  pub right : snoop_end_of v j ≡ Some s
+
+reached-sym : (n : ℕ) (w v : Trace) (j s : ℕ) → Reached n w v j s → Reached n v w j s
+reached-sym n w v j s h = record { agree = AgreeTo-sym n w v h.agree; below = h.below; left = h.right; right = h.left }
+
+request-same : (n : ℕ) (w v : Trace) (j s : ℕ) → Reached n w v j s → live_request_of w j ≡ live_request_of v j
+request-same n w v j s h = live_request_of-stays n w v j s h.agree h.below h.left
+
+-- what is a live reply shows three clocks after its first clock
+reply-same : (n : ℕ) (w v : Trace) (j s c : ℕ) → Reached n w v j s → c + 3 < n → is_live_reply_to w j c ≡ is_live_reply_to v j c
+unfolding is_live_reply_to is_reply_to
+reply-same n w v j s c h l =
+    let live = is_live-agree n w v c h.agree l in
+    let ads = line_at-agree ADS n w v c h.agree (omega arith) in
+    let request = request_at-agree n w v c h.agree (omega arith) in
+    let answered = request-same n w v j s h in
+    let response = response-same n w v j c h.agree (omega arith) in
+    λ i. live i && (ads i && is_reply (request i) && have_same_id (request i) (answered i) && response i)
+
+number-same : (n : ℕ) (w v : Trace) (c : ℕ) → AgreeTo n w v → c + 2 < n → live_number_of w c ≡ live_number_of v c
+unfolding live_number_of
+number-same n w v c a l = count_where-same (is_live w) (is_live v) c (record { same = λ k m. is_live-agree n w v k a (omega arith) })
+
+clock-by : (w : Trace) (j i q : ℕ) → live_clock_of w i ≡ Some q → reply_number_of w j ≡ Some i → (o : Option ℕ) → reply_clock_of w j ≡ o → reply_clock_of w j ≡ Some q
+unfolding reply_number_of live_number_of live_clock_of reply_clock_of is_live_reply_to
+clock-by w j i q f e None g = absurd (let h : ⊥ = (let e' = sym (ap (option_map (live_number_of w)) g) ∙ e in cc) in h)
+clock-by w j i q f e (Some p) g =
+    let number : live_number_of w p ≡ i = (let e' = sym (ap (option_map (live_number_of w)) g) ∙ e in cc) in
+    let found = first_where-found (is_live_reply_to w j) (length w) p g in
+    let parts = and_parts (is_live w p) (is_reply_to w j p) found.1 in
+    let there : live_clock_of w i ≡ Some p = ap (λ k. nth_where (is_live w) k (length w)) (sym number) ∙ nth_where-at (is_live w) (length w) p found.0 parts.0 in
+    let same : p ≡ q = (let e' = sym there ∙ f in cc) in
+    g ∙ ap Some same
+
+-- the first clock of a reply that is known by its number
+reply-clock : (w : Trace) (j i q : ℕ) → live_clock_of w i ≡ Some q → reply_number_of w j ≡ Some i → reply_clock_of w j ≡ Some q
+reply-clock w j i q f e = clock-by w j i q f e (reply_clock_of w j) refl
+
+reply-number : (w : Trace) (j i q : ℕ) → reply_clock_of w j ≡ Some q → reply_number_of w j ≡ Some (live_number_of w q)
+unfolding reply_number_of
+reply-number w j i q e = ap (option_map (live_number_of w)) e
+
+clock-carried : (n : ℕ) (w v : Trace) (j s q : ℕ) → Reached n w v j s → q + 3 < n → reply_clock_of w j ≡ Some q → reply_clock_of v j ≡ Some q
+unfolding reply_clock_of
+clock-carried n w v j s q h l e =
+    first_where-carried (is_live_reply_to w j) (is_live_reply_to v j) (length w) (length v) q
+    (record { same = λ c m. reply-same n w v j s c h (omega arith) }) (let r = h.agree.right in omega arith) e
+
+-- that a live request is the reply to another one stays
+reply-kept : (n : ℕ) (w v : Trace) (j s i q : ℕ) → Reached n w v j s → live_clock_of w i ≡ Some q → q + 3 < n → reply_number_of w j ≡ Some i → reply_number_of v j ≡ Some i
+reply-kept n w v j s i q h f l e =
+    let clock = reply-clock w j i q f e in
+    let number : live_number_of w q ≡ i = (let e' = sym (reply-number w j i q clock) ∙ e in cc) in
+    reply-number v j i q (clock-carried n w v j s q h l clock) ∙ ap Some (sym (number-same n w v q h.agree (omega arith)) ∙ number)
+
+answers-same : (n : ℕ) (w v : Trace) (j s i q : ℕ) → Reached n w v j s → live_clock_of w i ≡ Some q → live_clock_of v i ≡ Some q → q + 3 < n → is_at (reply_number_of w j) i ≡ is_at (reply_number_of v j) i
+answers-same n w v j s i q h f g l =
+    same-both (is_at (reply_number_of w j) i) (is_at (reply_number_of v j) i)
+    (λ e. at-is_at (reply_number_of v j) i (reply-kept n w v j s i q h f l (is_at-some (reply_number_of w j) i e)))
+    (λ e. at-is_at (reply_number_of w j) i (reply-kept n v w j s i q (reached-sym n w v j s h) g l (is_at-some (reply_number_of v j) i e)))
+
+settled-there : (w : Trace) (turns : List ℕ) (j s : ℕ) → snoop_end_of w j ≡ Some s → settled_outcome_of w turns j ≡ Some (settled_by w (slice_index turns j) j s)
+unfolding settled_outcome_of
+settled-there w turns j s e = ap (option_map (settled_by w (slice_index turns j) j)) e
+
+deferred-same : (n : ℕ) (w v : Trace) (us ts : List ℕ) (j s : ℕ) → Reached n w v j s → slice_index us j ≡ slice_index ts j → is_settled_deferred w us j ≡ is_settled_deferred v ts j
+unfolding is_settled_deferred
+deferred-same n w v us ts j s h turn =
+    ap (λ o. is_some_and o is_deferral) (settled-there w us j s h.left ∙ ap Some (ap (λ k. settled_by w k j s) turn ∙ settled_by-agree n w v (slice_index ts j) j s h.agree h.below h.left) ∙ sym (settled-there v ts j s h.right))
+
+-- what is reached at the snoop end of a live request, and at those before it
+reached-before : (n : ℕ) (w v : Trace) (i t j : ℕ) → Reached n w v i t → j < i → (s : ℕ) × Reached n w v j s
+reached-before n w v i t j h l =
+    let before = snoop_end_of-rises w j i t l h.left in
+    let s : ℕ = before.0 in
+    let gap : s + 3 ≤ t = before.2 in
+    let less = h.below in
+    (s, record { agree = h.agree; below = omega arith; left = before.1; right = snoop_end_of-stays n w v j s h.agree (omega arith) before.1 })
+
+answered-same : (n : ℕ) (w v : Trace) (us ts : List ℕ) (i t q j : ℕ) → Reached n w v i t → live_clock_of w i ≡ Some q → live_clock_of v i ≡ Some q → q + 3 < n → j < i → slice_index us j ≡ slice_index ts j → is_answered_by w us i j ≡ is_answered_by v ts i j
+unfolding is_answered_by
+answered-same n w v us ts i t q j h f g l m turn =
+    let before = reached-before n w v i t j h m in
+    let deferred = deferred-same n w v us ts j before.0 before.1 turn in
+    let answers = answers-same n w v j before.0 i q before.1 f g l in
+    λ k. deferred k && answers k
+
+served-same : (n : ℕ) (w v : Trace) (us ts : List ℕ) (i t q : ℕ) → Reached n w v i t → live_clock_of w i ≡ Some q → live_clock_of v i ≡ Some q → q + 3 < n → ((j : ℕ) → j < i → slice_index us j ≡ slice_index ts j) → served_number w us i ≡ served_number v ts i
+unfolding served_number
+served-same n w v us ts i t q h f g l turns =
+    let request = request-same n w v i t h in
+    let first = first_where-same (is_answered_by w us i) (is_answered_by v ts i) i (record { same = λ j m. answered-same n w v us ts i t q j h f g l m (turns j m) }) in
+    λ k. elim (is_reply (request k)) [ true ↦ first k | false ↦ Some i ]
+
+served-by : (w : Trace) (us : List ℕ) (i j : ℕ) (b : Bool) → is_reply (live_request_of w i) ≡ b → served_number w us i ≡ Some j → j ≤ i
+unfolding served_number
+served-by w us i j true e f =
+    let found = first_where-found (is_answered_by w us i) i j (let f' = rw (e, served_number) at f in f') in let less = found.0 in omega arith
+served-by w us i j false e f = let same : i ≡ j = (let f' = rw (e, served_number) at f in cc) in omega arith
+
+shared-same : (n : ℕ) (w v : Trace) (t : ℕ) → AgreeTo n w v → t < n → is_shared_at w t ≡ is_shared_at v t
+unfolding is_shared_at
+shared-same n w v t a l =
+    let hit = line_at-agree HIT n w v t a l in let hitm = line_at-agree HITM n w v t a l in λ k. hit k || hitm k
+
+live_claim-same : (n : ℕ) (w v : Trace) (j s : ℕ) → Reached n w v j s → live_claim_of w j ≡ live_claim_of v j
+unfolding live_claim_of
+live_claim-same n w v j s h =
+    let c = snoop_end_of-clock w j s h.left in
+    let q : ℕ = c.clock in
+    let above = c.above in
+    let less = h.below in
+    let there = live_clock_of-stays n w v j q h.agree (omega arith) c.is_clock in
+    ap (option_and_then (claim_at w)) c.is_clock ∙ claim_at-agree n w v q h.agree (omega arith) ∙ sym (ap (option_and_then (claim_at v)) there)
+
+grant_for-same : (n : ℕ) (w v : Trace) (q t j s : ℕ) → t < n → Reached n w v j s → grant_for w q t j ≡ grant_for v q t j
+unfolding grant_for
+grant_for-same n w v q t j s l h =
+    let request = request-same n w v j s h in
+    let shared = shared-same n w v t h.agree l in
+    let claim = live_claim-same n w v j s h in
+    λ k. option_map (grant_to q (is_owner_request (request k)) (shared k)) (claim k)
+
+reached-to : (n : ℕ) (w v : Trace) (i t j : ℕ) → Reached n w v i t → j ≤ i → (s : ℕ) × Reached n w v j s
+reached-to n w v i t j h l =
+    elim (cases_lt j i) [
+      | inl less ↦ reached-before n w v i t j h less
+      | inr more ↦ let same : i ≡ j = omega arith in (t, subst (λ k. Reached n w v k t) same h)
+    ]
+
+-- the grant for what is served
+grant_by-same : (n : ℕ) (w v : Trace) (us : List ℕ) (i t q : ℕ) → Reached n w v i t → (o : Option ℕ) → served_number w us i ≡ o → option_and_then (grant_for w q t) o ≡ option_and_then (grant_for v q t) o
+grant_by-same n w v us i t q h None e = refl
+grant_by-same n w v us i t q h (Some j) e =
+    let before = reached-to n w v i t j h (served-by w us i j (is_reply (live_request_of w i)) refl e) in
+    grant_for-same n w v q t j before.0 h.below before.1
+
+-- a grant rests on the samples up to its snoop end, and on the turns of the live requests before it
+pub grant_of-same : (n : ℕ) (w v : Trace) (us ts : List ℕ) (i t q : ℕ) (outcome : Outcome) → Reached n w v i t → live_clock_of w i ≡ Some q → live_clock_of v i ≡ Some q → q + 3 < n
+    → ((j : ℕ) → j < i → slice_index us j ≡ slice_index ts j) → grant_of w us i q t outcome ≡ grant_of v ts i q t outcome
+unfolding grant_of
+grant_of-same n w v us ts i t q outcome h f g l turns =
+    let request = request_at-agree n w v q h.agree (omega arith) in
+    let served = served-same n w v us ts i t q h f g l turns in
+    let granted = grant_by-same n w v us i t q h (served_number w us i) refl ∙ ap (option_and_then (grant_for v q t)) served in
+    λ k. elim (is_some_and (request k) (λ r. makes_grant r.kind outcome)) [ true ↦ granted k | false ↦ None ]
