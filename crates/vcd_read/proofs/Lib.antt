@@ -4,3 +4,10 @@ pub mod Widths
 pub mod CodeTables
 pub mod Quiet
 pub mod Entries
+pub mod TokenRuns
+pub mod Counts
+pub mod Readings
+pub mod Absorbing
+pub mod Law
+pub mod Standings
+pub mod Endings

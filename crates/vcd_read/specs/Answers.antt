@@ -1,5 +1,5 @@
 -- What reading answers, and what it appends.
-use Rattle.std.specs.Prelude.{◌≡◌, ℕ, nat_lt, List, ◌++◌, length, take, Option, Some, None, Result, Ok, Err, if◌then◌else◌}
+use Rattle.std.specs.Prelude.{◌≡◌, ℕ, nat_lt, Bool, ◌&&◌, ◌||◌, ◌==◌, List, ◌++◌, length, take, Option, Some, None, Result, Ok, Err, if◌then◌else◌}
 use Rattle.fsb_signal.specs.declared.sample.Sample.{Sample}
 use Rattle.vcd_grammar.specs.declared.fault.VcdFault.{VcdFault}
 use Rattle.vcd_grammar.specs.Reading.{first_fault, samples_of, samples_before_end, fault_so_far, samples_so_far}
@@ -65,3 +65,20 @@ abbrev pub AppendsAtEnd : Result Unit VcdStop → ℕ → List Sample → List S
 AppendsAtEnd (Ok x) limit before decided all old new = AppendsUpTo before all old new
 AppendsAtEnd (Err stops.Memory) limit before decided all old new = AppendsPart before (take limit all) old new
 AppendsAtEnd (Err e) limit before decided all old new = AppendsUpTo before (take limit decided) old new
+
+-- the answer that gives a refusal, or Ok where there is none
+abbrev pub result_of : Option VcdStop → Result Unit VcdStop
+result_of None = Ok tt
+result_of (Some stop) = Err stop
+
+-- what a whole text refuses with in a reader, by the count of samples that were decided, the first fault, and whether the end
+-- decides one more
+unfoldable pub end_stop : ℕ → ℕ → Option VcdFault → Bool → Option VcdStop
+end_stop limit decided fault more =
+    if nat_lt limit decided then Some stops.TooLong
+    else fault_or fault (if more && (decided == limit) then Some stops.TooLong else None)
+
+-- the same, where a fault comes before too many samples
+unfoldable pub dump_stop : ℕ → ℕ → Option VcdFault → Bool → Option VcdStop
+dump_stop limit decided fault more =
+    fault_or fault (if nat_lt limit decided || (more && (decided == limit)) then Some stops.TooLong else None)

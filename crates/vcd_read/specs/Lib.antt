@@ -4,3 +4,4 @@ pub mod View
 pub mod Taking
 pub mod Standing
 pub mod Answers
+pub mod Scanning

@@ -1,11 +1,12 @@
 ghost use Rattle.std.specs.Prelude.{◌≡◌, IfOk};
 ghost use Rattle.vcd_grammar.specs.Reading.{Reads};
-ghost use Rattle.vcd_read.specs.Answers.{Answers, stop_of_dump};
+ghost use Rattle.vcd_read.specs.Answers.{Answers, dump_stop, stop_of_dump};
 
 use crate::scan::Scan;
 use crate::stop::VcdStop;
 use fsb_signal::Sample;
 use std::alloc::Global;
+use vcd_grammar::VcdFault;
 
 /// The most samples of a dump that is read whole.
 const MOST: u32 = 200_000;
@@ -24,17 +25,27 @@ pub fn read_dump(alloc: Global, bytes: &[u8]) -> Result<Vec<Sample>, VcdStop>
         Ok(()) => {}
         Err(_) => return Err(VcdStop::Memory),
     }
-    let rises = match scan.finish(MOST, &mut samples) {
-        Ok(rises) => rises,
+    let more = match scan.finish(MOST, &mut samples) {
+        Ok(more) => more,
         Err(_) => return Err(VcdStop::Memory),
     };
-    if let Some(fault) = scan.machine.fault {
-        return Err(VcdStop::Bad(fault));
+    match refusal(scan.machine.decided, scan.machine.fault, more) {
+        None => Ok(samples),
+        Some(stop) => Err(stop),
     }
-    if u64::from(MOST) < scan.machine.decided
-        || (rises && scan.machine.decided == u64::from(MOST))
-    {
-        return Err(VcdStop::TooLong);
+}
+
+/// Why the text is not read, by the count of samples that were decided, the first fault, and whether the end decides one
+/// more.
+#[tactic(auto, unfolding(crate::specs::Answers::dump_stop))]
+fn refusal(decided: u64, fault: Option<VcdFault>, more: bool) -> Option<VcdStop>
+    ensures { result ≡ dump_stop 200000 decided fault more }
+{
+    if let Some(fault) = fault {
+        return Some(VcdStop::Bad(fault));
     }
-    Ok(samples)
+    if u64::from(MOST) < decided || (more && decided == u64::from(MOST)) {
+        return Some(VcdStop::TooLong);
+    }
+    None
 }

@@ -1,4 +1,4 @@
-ghost use Rattle.std.specs.Prelude.{◌≡◌, ℕ, ◌==◌, ◌&&◌, not, slice_get, ◌<◌, ◌+◌, ◌^◌, List, take, Some, OnOk, OnErr, if◌then◌else◌};
+ghost use Rattle.std.specs.Prelude.{◌≡◌, ℕ, ◌==◌, ◌&&◌, not, slice_get, ◌<◌, ◌+◌, ◌^◌, List, take, Some, IfOk, OnOk, OnErr, if◌then◌else◌};
 ghost use Rattle.fsb_signal.specs.DumpText.{width_of};
 ghost use Rattle.fsb_signal.specs.Table.{Entry, table};
 ghost use Rattle.vcd_grammar.specs.Digits.{time_in};
@@ -10,6 +10,7 @@ ghost use Rattle.vcd_grammar.specs.Reading.{or_cut};
 ghost use Rattle.vcd_read.specs.View.{known_of, lines_of as lines_view, draft_of};
 ghost use Rattle.vcd_read.specs.Lines.{rises};
 ghost use Rattle.vcd_read.specs.Taking.{taken, untaken, turned, decided_of, pushed};
+ghost use Rattle.vcd_read.specs.Scanning.{open_samples, open_rises};
 
 use crate::codes::Codes;
 use crate::digits::{is_long, is_value_digit, time_in, width_in};
@@ -309,6 +310,25 @@ impl Machine {
                 _ => self.fail(place, VcdCause::Cut),
             }
         }
+    }
+
+    /// The block that stands open, where the text ends: its sample is appended while there are fewer than the limit, if
+    /// there is no fault. Tells whether there is such a sample.
+    pub(crate) fn close(&self, limit: u32, to: &mut Vec<Sample>) -> Result<bool, AllocError>
+        ensures rises { IfOk result (λ more. more ≡ open_rises self.now.fault (lines_view self.now)) }
+        ensures samples { OnOk result (to.new.items ≡ pushed limit self.now.decided to.old.items (open_samples self.now.fault (lines_view self.now))) }
+        ensures silent { OnErr result (to.new.items ≡ to.old.items) }
+    {
+        if self.fault.is_some() {
+            return Ok(false);
+        }
+        if !self.rises() {
+            return Ok(false);
+        }
+        if self.decided < u64::from(limit) {
+            to.push(self.before.sample())?;
+        }
+        Ok(true)
     }
 
     /// Whether the clock rises in the block that stands open.

@@ -1,7 +1,7 @@
-ghost use Rattle.std.specs.Prelude.{◌≡◌, ◌<◌, ◌+◌, ◌-◌, ◌^◌, ◌++◌, ℕ, List, [], length, take, None, Some, Err, IfOk, OnErr};
+ghost use Rattle.std.specs.Prelude.{◌≡◌, ◌<◌, ◌+◌, ◌-◌, ◌^◌, ◌++◌, ℕ, List, [], length, take, nat_lt, None, Some, Err, IfOk, OnOk, OnErr, if◌then◌else◌};
 ghost use Rattle.vcd_grammar.specs.Reading.{samples_of, samples_before_end, samples_so_far};
-ghost use Rattle.vcd_read.specs.Standing.{Stands, refusal_of, limit_of};
-ghost use Rattle.vcd_read.specs.Answers.{Answers, refusal_in, stop_so_far, stop_at_end, AppendsBy, AppendsAtEnd};
+ghost use Rattle.vcd_read.specs.Standing.{Works, Stands, refusal_of, limit_of};
+ghost use Rattle.vcd_read.specs.Answers.{Answers, refusal_in, result_of, fault_or, end_stop, stop_so_far, stop_at_end, AppendsBy, AppendsAtEnd};
 
 use crate::scan::Scan;
 use crate::stop::VcdStop;
@@ -62,14 +62,19 @@ impl Reader {
             return Err(stop);
         }
         let answer = self.absorb(piece, to);
-        self.refused = match answer {
-            Ok(()) => None,
-            Err(stop) => Some(stop),
-        };
+        self.refused = refusal_in(answer);
         answer
     }
 
-    fn absorb(&mut self, piece: &[u8], to: &mut Vec<Sample>) -> Result<(), VcdStop> {
+    /// The next piece, where nothing was refused.
+    fn absorb(&mut self, piece: &[u8], to: &mut Vec<Sample>) -> Result<(), VcdStop>
+        requires { (fed : List ℕ) × Works self.old fed × (length fed + length piece.now < 2 ^ 64) }
+        ensures works { OnOk result ((fed : List ℕ) → Works self.old fed → Works self.new (fed ++ piece.now)) }
+        ensures limit { limit_of self.new ≡ limit_of self.old }
+        ensures answer { (fed : List ℕ) → Works self.old fed → Answers result (stop_so_far (limit_of self.old) (fed ++ piece.now)) }
+        ensures samples { (fed : List ℕ) → Works self.old fed
+            → AppendsBy result (samples_so_far fed) (take (limit_of self.old) (samples_so_far (fed ++ piece.now))) to.old.items to.new.items }
+    {
         match self.scan.absorb(piece, self.limit, to) {
             Ok(()) => self.answer(),
             Err(_) => Err(VcdStop::Memory),
@@ -77,7 +82,9 @@ impl Reader {
     }
 
     /// What the tokens so far answer.
-    fn answer(&self) -> Result<(), VcdStop> {
+    fn answer(&self) -> Result<(), VcdStop>
+        ensures { result ≡ result_of (if nat_lt self.now.limit self.now.scan.machine.decided then Some VcdStop.TooLong else fault_or self.now.scan.machine.fault None) }
+    {
         if u64::from(self.limit) < self.scan.machine.decided {
             return Err(VcdStop::TooLong);
         }
@@ -106,22 +113,48 @@ impl Reader {
             return Err(stop);
         }
         let answer = self.end(to);
-        self.refused = match answer {
-            Ok(()) => None,
-            Err(stop) => Some(stop),
-        };
+        self.refused = refusal_in(answer);
         answer
     }
 
-    fn end(&mut self, to: &mut Vec<Sample>) -> Result<(), VcdStop> {
-        let rises = match self.scan.finish(self.limit, to) {
-            Ok(rises) => rises,
-            Err(_) => return Err(VcdStop::Memory),
-        };
-        self.answer()?;
-        if rises && self.scan.machine.decided == u64::from(self.limit) {
+    /// The end of the text, where nothing was refused.
+    fn end(&mut self, to: &mut Vec<Sample>) -> Result<(), VcdStop>
+        requires { (fed : List ℕ) × Works self.old fed }
+        ensures limit { limit_of self.new ≡ limit_of self.old }
+        ensures answer { (fed : List ℕ) → Works self.old fed → Answers result (stop_at_end (limit_of self.old) fed) }
+        ensures samples { (fed : List ℕ) → Works self.old fed
+            → AppendsAtEnd result (limit_of self.old) (samples_so_far fed) (samples_before_end fed) (samples_of fed) to.old.items to.new.items }
+    {
+        match self.scan.finish(self.limit, to) {
+            Ok(more) => self.end_answer(more),
+            Err(_) => Err(VcdStop::Memory),
+        }
+    }
+
+    /// What the whole text answers, where its end decides one more sample or not.
+    #[tactic(auto, unfolding(crate::specs::Answers::end_stop))]
+    fn end_answer(&self, more: bool) -> Result<(), VcdStop>
+        ensures { result ≡ result_of (end_stop self.now.limit self.now.scan.machine.decided self.now.scan.machine.fault more) }
+    {
+        if u64::from(self.limit) < self.scan.machine.decided {
+            return Err(VcdStop::TooLong);
+        }
+        if let Some(fault) = self.scan.machine.fault {
+            return Err(VcdStop::Bad(fault));
+        }
+        if more && self.scan.machine.decided == u64::from(self.limit) {
             return Err(VcdStop::TooLong);
         }
         Ok(())
+    }
+}
+
+/// The refusal that was answered, if one was.
+fn refusal_in(answer: Result<(), VcdStop>) -> Option<VcdStop>
+    ensures { result ≡ refusal_in answer }
+{
+    match answer {
+        Ok(()) => None,
+        Err(stop) => Some(stop),
     }
 }

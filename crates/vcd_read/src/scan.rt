@@ -1,3 +1,9 @@
+ghost use Rattle.std.specs.Prelude.{◌≡◌, ℕ, ◌<◌, ◌≤◌, ◌+◌, ◌^◌, ◌++◌, [], ◌∷◌, take, length, true, slice_index, IfOk, OnOk, OnErr};
+ghost use Rattle.std.specs.List.{list_all};
+ghost use Rattle.vcd_grammar.specs.Tokens.{is_white, ended_at};
+ghost use Rattle.vcd_read.specs.Taking.{taken, take_tokens, samples_in_tokens, pushed};
+ghost use Rattle.vcd_read.specs.Scanning.{reading, unread, after_bytes, samples_in_bytes, is_dark, ended_taken, ended_samples, end_fault, open_samples, open_rises, Fits, Part};
+
 use crate::digits::{LONGEST, is_white};
 use crate::machine::Machine;
 use fsb_signal::Sample;
@@ -15,7 +21,9 @@ pub(crate) struct Scan {
 
 impl Scan {
     /// Before the first byte.
-    pub(crate) fn new(alloc: Global) -> Result<Self, AllocError> {
+    pub(crate) fn new(alloc: Global) -> Result<Self, AllocError>
+        ensures { IfOk result (λ s. reading s ≡ unread) }
+    {
         Ok(Scan {
             machine: Machine::new(alloc),
             at: 0,
@@ -29,37 +37,97 @@ impl Scan {
         piece: &[u8],
         limit: u32,
         to: &mut Vec<Sample>,
-    ) -> Result<(), AllocError> {
+    ) -> Result<(), AllocError>
+        requires room { self.old.at + length piece.now < 2 ^ 64 }
+        requires fits { Fits (reading self.old) }
+        ensures state { OnOk result (reading self.new ≡ after_bytes (reading self.old) piece.now) }
+        ensures samples { OnOk result (to.new.items ≡ pushed limit self.old.machine.decided to.old.items (samples_in_bytes (reading self.old) piece.now)) }
+        ensures part { OnErr result (Part limit self.old.machine.decided (samples_in_bytes (reading self.old) piece.now) to.old.items to.new.items) }
+    {
         let mut rest = piece;
         while !rest.is_empty() {
-            let len = span_len(rest);
-            if len < rest.len() {
-                self.closed(&rest[..len], limit, to)?;
-                rest = &rest[len + 1..];
-            } else {
-                self.grown(rest, limit, to)?;
-                rest = &[];
-            }
+            let len = self.span(rest, limit, to)?;
+            rest = &rest[len..];
         }
         Ok(())
     }
 
+    /// The bytes up to the first white space and that byte too, or all bytes where there is none. Tells how many.
+    fn span(
+        &mut self,
+        bytes: &[u8],
+        limit: u32,
+        to: &mut Vec<Sample>,
+    ) -> Result<usize, AllocError>
+        requires some { 0 < length bytes.now }
+        requires room { self.old.at + length bytes.now < 2 ^ 64 }
+        requires fits { Fits (reading self.old) }
+        ensures some { IfOk result (λ len. 0 < len) }
+        ensures within { IfOk result (λ len. len ≤ length bytes.now) }
+        ensures state { IfOk result (λ len. reading self.new ≡ after_bytes (reading self.old) (take len bytes.now)) }
+        ensures samples { IfOk result (λ len. to.new.items ≡ pushed limit self.old.machine.decided to.old.items (samples_in_bytes (reading self.old) (take len bytes.now))) }
+        ensures part { OnErr result (Part limit self.old.machine.decided (samples_in_bytes (reading self.old) bytes.now) to.old.items to.new.items) }
+    {
+        let len = span_len(bytes);
+        if len < bytes.len() {
+            self.closed(&bytes[..len], limit, to)?;
+            Ok(len + 1)
+        } else {
+            self.grown(bytes, limit, to)?;
+            Ok(len)
+        }
+    }
+
     /// Bytes without white space, and a byte of white space behind them.
-    fn closed(&mut self, bytes: &[u8], limit: u32, to: &mut Vec<Sample>) -> Result<(), AllocError> {
-        if self.run.is_empty() && bytes.len() <= LONGEST {
-            let place = self.at;
-            self.at += bytes.len() as u64 + 1;
-            if !bytes.is_empty() {
-                self.machine.take(place, bytes, limit, to)?;
-            }
-            return Ok(());
+    fn closed(&mut self, bytes: &[u8], limit: u32, to: &mut Vec<Sample>) -> Result<(), AllocError>
+        requires dark { list_all is_dark bytes.now ≡ true }
+        requires room { self.old.at + length bytes.now + 1 < 2 ^ 64 }
+        requires fits { Fits (reading self.old) }
+        ensures state { (w : ℕ) → is_white w ≡ true → OnOk result (reading self.new ≡ after_bytes (reading self.old) (bytes.now ++ w ∷ [])) }
+        ensures samples { (w : ℕ) → is_white w ≡ true → OnOk result (to.new.items ≡ pushed limit self.old.machine.decided to.old.items (samples_in_bytes (reading self.old) (bytes.now ++ w ∷ []))) }
+        ensures part { (w : ℕ) → is_white w ≡ true → OnErr result (Part limit self.old.machine.decided (samples_in_bytes (reading self.old) (bytes.now ++ w ∷ [])) to.old.items to.new.items) }
+    {
+        if self.run_len() == 0 && bytes.len() <= LONGEST {
+            return self.whole(bytes, limit, to);
         }
         self.grown(bytes, limit, to)?;
         self.white(limit, to)
     }
 
+    /// How many bytes of the run there are.
+    fn run_len(&self) -> usize
+        ensures { result ≡ length self.now.run.items }
+    {
+        self.run.as_slice().len()
+    }
+
+    /// A token that stands whole, and a byte of white space behind it.
+    fn whole(&mut self, bytes: &[u8], limit: u32, to: &mut Vec<Sample>) -> Result<(), AllocError>
+        requires empty { length self.old.run.items ≡ 0 }
+        requires short { length bytes.now ≤ 70000 }
+        requires dark { list_all is_dark bytes.now ≡ true }
+        requires room { self.old.at + length bytes.now + 1 < 2 ^ 64 }
+        requires fits { Fits (reading self.old) }
+        ensures state { (w : ℕ) → is_white w ≡ true → OnOk result (reading self.new ≡ after_bytes (reading self.old) (bytes.now ++ w ∷ [])) }
+        ensures samples { (w : ℕ) → is_white w ≡ true → OnOk result (to.new.items ≡ pushed limit self.old.machine.decided to.old.items (samples_in_bytes (reading self.old) (bytes.now ++ w ∷ []))) }
+        ensures silent { OnErr result (to.new.items ≡ to.old.items) }
+    {
+        let place = self.at;
+        self.at = place + bytes.len() as u64 + 1;
+        if bytes.is_empty() {
+            return Ok(());
+        }
+        self.machine.take(place, bytes, limit, to)
+    }
+
     /// A byte of white space.
-    fn white(&mut self, limit: u32, to: &mut Vec<Sample>) -> Result<(), AllocError> {
+    fn white(&mut self, limit: u32, to: &mut Vec<Sample>) -> Result<(), AllocError>
+        requires room { self.old.at + 1 < 2 ^ 64 }
+        requires fits { Fits (reading self.old) }
+        ensures state { (w : ℕ) → is_white w ≡ true → OnOk result (reading self.new ≡ after_bytes (reading self.old) (w ∷ [])) }
+        ensures samples { (w : ℕ) → is_white w ≡ true → OnOk result (to.new.items ≡ pushed limit self.old.machine.decided to.old.items (samples_in_bytes (reading self.old) (w ∷ []))) }
+        ensures silent { OnErr result (to.new.items ≡ to.old.items) }
+    {
         self.last(limit, to)?;
         self.run.clear();
         self.at += 1;
@@ -67,36 +135,51 @@ impl Scan {
     }
 
     /// The run that stands open, ended here.
-    pub(crate) fn last(&mut self, limit: u32, to: &mut Vec<Sample>) -> Result<(), AllocError> {
-        if !self.run.is_empty() && self.run.len() <= LONGEST {
-            let place = self.at - self.run.len() as u64;
-            self.machine.take(place, self.run.as_slice(), limit, to)?;
+    fn last(&mut self, limit: u32, to: &mut Vec<Sample>) -> Result<(), AllocError>
+        requires { Fits (reading self.old) }
+        ensures state { OnOk result (reading self.new ≡ record (reading self.old) { taken = take_tokens (taken self.old.machine) (ended_at self.old.at self.old.run.items) }) }
+        ensures samples { OnOk result (to.new.items ≡ pushed limit self.old.machine.decided to.old.items (samples_in_tokens (taken self.old.machine) (ended_at self.old.at self.old.run.items))) }
+        ensures silent { OnErr result (to.new.items ≡ to.old.items) }
+    {
+        if self.run_len() == 0 {
+            return Ok(());
         }
-        Ok(())
+        if LONGEST < self.run_len() {
+            return Ok(());
+        }
+        let place = self.at - self.run_len() as u64;
+        self.machine.take(place, self.run.as_slice(), limit, to)
     }
 
     /// The end of the text: the last token, whether the text may end there, and the block that stands open. Tells
     /// whether that block decides a sample.
-    pub(crate) fn finish(&mut self, limit: u32, to: &mut Vec<Sample>) -> Result<bool, AllocError> {
+    pub(crate) fn finish(&mut self, limit: u32, to: &mut Vec<Sample>) -> Result<bool, AllocError>
+        requires { Fits (reading self.old) }
+        ensures fault { OnOk result (self.new.machine.fault ≡ end_fault (reading self.old)) }
+        ensures decided { OnOk result (self.new.machine.decided ≡ (ended_taken (reading self.old)).lines.decided) }
+        ensures rises { IfOk result (λ more. more ≡ open_rises (end_fault (reading self.old)) (ended_taken (reading self.old)).lines) }
+        ensures samples { OnOk result (to.new.items ≡ pushed limit self.old.machine.decided to.old.items (ended_samples (reading self.old) ++ open_samples (end_fault (reading self.old)) (ended_taken (reading self.old)).lines)) }
+        ensures part { OnErr result (Part limit self.old.machine.decided (ended_samples (reading self.old) ++ open_samples (end_fault (reading self.old)) (ended_taken (reading self.old)).lines) to.old.items to.new.items) }
+    {
         self.last(limit, to)?;
         self.machine.end(self.at);
-        if self.machine.fault.is_some() || !self.machine.rises() {
-            return Ok(false);
-        }
-        if self.machine.decided < u64::from(limit) {
-            to.push(self.machine.before.sample())?;
-        }
-        Ok(true)
+        self.machine.close(limit, to)
     }
 
     /// Bytes without white space.
-    fn grown(&mut self, bytes: &[u8], limit: u32, to: &mut Vec<Sample>) -> Result<(), AllocError> {
-        if LONGEST < self.run.len() {
+    fn grown(&mut self, bytes: &[u8], limit: u32, to: &mut Vec<Sample>) -> Result<(), AllocError>
+        requires dark { list_all is_dark bytes.now ≡ true }
+        requires room { self.old.at + length bytes.now < 2 ^ 64 }
+        requires fits { Fits (reading self.old) }
+        ensures state { OnOk result (reading self.new ≡ after_bytes (reading self.old) bytes.now) }
+        ensures samples { OnOk result (to.new.items ≡ pushed limit self.old.machine.decided to.old.items (samples_in_bytes (reading self.old) bytes.now)) }
+        ensures silent { OnErr result (to.new.items ≡ to.old.items) }
+    {
+        if LONGEST < self.run_len() {
             self.at += bytes.len() as u64;
             return Ok(());
         }
-        let room = LONGEST - self.run.len();
-        if bytes.len() <= room {
+        if bytes.len() <= LONGEST - self.run_len() {
             self.run.extend_from_slice(bytes)?;
             self.at += bytes.len() as u64;
             return Ok(());
@@ -105,14 +188,18 @@ impl Scan {
     }
 
     /// Bytes without white space that make the run too long.
-    fn too_long(
-        &mut self,
-        bytes: &[u8],
-        limit: u32,
-        to: &mut Vec<Sample>,
-    ) -> Result<(), AllocError> {
-        let place = self.at - self.run.len() as u64;
-        let more = LONGEST + 1 - self.run.len();
+    fn too_long(&mut self, bytes: &[u8], limit: u32, to: &mut Vec<Sample>) -> Result<(), AllocError>
+        requires dark { list_all is_dark bytes.now ≡ true }
+        requires room { self.old.at + length bytes.now < 2 ^ 64 }
+        requires fits { Fits (reading self.old) }
+        requires short { length self.old.run.items ≤ 70000 }
+        requires over { 70000 < length self.old.run.items + length bytes.now }
+        ensures state { OnOk result (reading self.new ≡ after_bytes (reading self.old) bytes.now) }
+        ensures samples { OnOk result (to.new.items ≡ pushed limit self.old.machine.decided to.old.items (samples_in_bytes (reading self.old) bytes.now)) }
+        ensures silent { OnErr result (to.new.items ≡ to.old.items) }
+    {
+        let place = self.at - self.run_len() as u64;
+        let more = LONGEST + 1 - self.run_len();
         self.run.extend_from_slice(&bytes[..more])?;
         self.at += bytes.len() as u64;
         self.machine.take(place, self.run.as_slice(), limit, to)
@@ -120,7 +207,12 @@ impl Scan {
 }
 
 /// How many bytes stand before the first white space.
-fn span_len(bytes: &[u8]) -> usize {
+#[tactic(auto, using(std::proofs::lemmas::List::Folds::list_all_more))]
+fn span_len(bytes: &[u8]) -> usize
+    ensures within { result ≤ length bytes.now }
+    ensures dark { list_all is_dark (take result bytes.now) ≡ true }
+    ensures white { result < length bytes.now → is_white (slice_index bytes.now result) ≡ true }
+{
     for (i, byte) in bytes.iter().enumerate() {
         if is_white(*byte) {
             return i;

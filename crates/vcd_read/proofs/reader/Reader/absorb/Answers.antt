@@ -1,0 +1,40 @@
+use Rattle.std.proofs.Common.{◌≡◌, ◌++◌, List, ℕ, None, Some, Result, Option, refl, sym, ap, ◌∙◌, subst, take, nat_lt, if◌then◌else◌}
+use Rattle.fsb_signal.specs.declared.sample.Sample.{Sample}
+use Rattle.vcd_grammar.specs.Reading.{samples_so_far}
+use Rattle.vcd_read.specs.declared.stop.VcdStop.{VcdStop}
+use Rattle.vcd_read.specs.declared.stop.VcdStop.TheVariants as stops
+use Rattle.vcd_read.specs.Standing.{Scanned, Works}
+use Rattle.vcd_read.specs.Answers.{Answers, AppendsBy, fault_or, result_of, stop_so_far}
+use Rattle.vcd_read.proofs.Standings.{scanned_fits, scanned_more, works_more, answers_of, appends_of, stop_is, few_where_none, fed_appends, fed_part, ok_of}
+use Rattle.vcd_read.proofs.reader.Reader.absorb.Goals as goal
+
+pub absorb-requires-clause-fits : goal.absorb-requires-clause-fits
+absorb-requires-clause-fits c = scanned_fits c.args.self.now.scan c.requires.0 c.requires.1.scanned
+
+pub returns-in-Ok-clause-works : goal.returns-in-Ok-clause-works
+returns-in-Ok-clause-works c =
+    let r = c.args.self.now in
+    let s = c.absorb.new.self in
+    ok_of c.answer.result _ c.answer.ensures (λ none fed w.
+        let more : Scanned s (fed ++ c.args.piece.now) = scanned_more r.scan s fed c.args.piece.now w.scanned c.in-Ok.ensures.state in
+        record { scanned = more; few = few_where_none r.limit s (fed ++ c.args.piece.now) more none })
+
+pub returns-in-Ok-clause-answer : goal.returns-in-Ok-clause-answer
+returns-in-Ok-clause-answer c = λ fed w.
+    let r = c.args.self.now in
+    let s = c.absorb.new.self in
+    let more : Scanned s (fed ++ c.args.piece.now) = scanned_more r.scan s fed c.args.piece.now w.scanned c.in-Ok.ensures.state in
+    let is = stop_is r.limit s (fed ++ c.args.piece.now) more in
+    subst (λ a. Answers a (stop_so_far r.limit (fed ++ c.args.piece.now))) (sym (c.answer.ensures ∙ ap result_of is)) (answers_of (stop_so_far r.limit (fed ++ c.args.piece.now)))
+
+pub returns-in-Ok-clause-samples : goal.returns-in-Ok-clause-samples
+returns-in-Ok-clause-samples c = λ fed w.
+    let r = c.args.self.now in
+    subst (λ a. AppendsBy a (samples_so_far fed) (take r.limit (samples_so_far (fed ++ c.args.piece.now))) c.args.to.now.items c.absorb.new.to.items) (sym c.answer.ensures)
+    (appends_of _ (samples_so_far fed) (take r.limit (samples_so_far (fed ++ c.args.piece.now))) c.args.to.now.items c.absorb.new.to.items
+    (fed_appends r.limit r.scan fed c.args.piece.now c.args.to.now.items c.absorb.new.to.items w.scanned w.few c.in-Ok.ensures.samples))
+
+pub returns-in-Err-clause-samples : goal.returns-in-Err-clause-samples
+returns-in-Err-clause-samples c = λ fed w.
+    let r = c.args.self.now in
+    fed_part r.limit r.scan fed c.args.piece.now c.args.to.now.items c.absorb.new.to.items w.scanned w.few c.in-Err.ensures.part
