@@ -1,11 +1,10 @@
 -- The bits of a value, read from the left.
-use Rattle.std.proofs.Common.{◌≡◌, ℕ, ◌+◌, ◌-◌, ◌*◌, ◌^◌, ◌<◌, ◌≤◌, Bool, true, false, List, [], ◌∷◌, ◌++◌, length, get_or, drop, replicate, slice_index, cond, refl, sym, ap, ◌∙◌, arith, suc, zero}
+use Rattle.std.proofs.Common.{◌≡◌, ℕ, ◌+◌, ◌-◌, ◌*◌, ◌^◌, ◌<◌, ◌≤◌, Bool, true, false, List, ◌++◌, length, get_or, drop, replicate, slice_index, cond, refl, sym, ap, ◌∙◌, arith, suc, zero}
 use Rattle.std.proofs.Math.Nat.{pow-succ'}
 use Rattle.std.proofs.lemmas.Nat.{pow_pos}
 use Rattle.std.proofs.lemmas.List.{drop_more, drop_all}
-use Rattle.vcd_grammar.specs.declared.level.Level.{Level}
-use Rattle.vcd_grammar.specs.Digits.{extended, pad_of, is_unknown}
-use Rattle.vcd_grammar.specs.Levels.{bits_from, is_low, level_of}
+use Rattle.vcd_grammar.specs.Digits.{extended, pad_of}
+use Rattle.vcd_grammar.specs.Levels.{bits_from}
 
 -- one more digit that passes, and one that does not
 one_more : (n p : ℕ) → (2 * n + 1 + 1) * p - 1 ≡ (n + 1) * (2 * p) - 1

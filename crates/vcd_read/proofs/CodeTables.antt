@@ -1,5 +1,5 @@
 -- The map of the declared codes, and the table of those of one byte.
-use Rattle.std.proofs.Common.{◌≡◌, ◌≢◌, ℕ, ◌<◌, Bool, true, false, List, [], ◌∷◌, ◌++◌, length, ◌==◌, Option, Some, None, option_map, slice_get, slice_set, slice_index, replicate, nat_eq, cond, refl, sym, ap, subst, ◌∙◌, arith, true≢false, suc, zero, Vec, map}
+use Rattle.std.proofs.Common.{◌≡◌, ℕ, Bool, true, false, List, [], ◌∷◌, ◌++◌, length, ◌==◌, Option, Some, None, option_map, slice_get, slice_set, replicate, nat_eq, cond, refl, sym, ap, subst, ◌∙◌, arith, suc, zero, Vec}
 use Rattle.std.specs.Cmp.Lexicographic.{pointwise, same_text, other_text, nat_list_eq_equiv}
 use Rattle.std.specs.Map.{lookup}
 use Rattle.std.proofs.lemmas.Bool.{ne_eqb}

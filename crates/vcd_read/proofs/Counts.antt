@@ -1,9 +1,8 @@
 -- How many events, tokens and samples there are at most.
-use Rattle.std.proofs.Common.{◌≡◌, ℕ, ◌+◌, ◌-◌, ◌<◌, ◌≤◌, Bool, true, false, not, ◌&&◌, ◌||◌, ◌==◌, List, [], ◌∷◌, ◌++◌, length, min, nat_lt, cond, if◌then◌else◌, Option, Some, None, is_some, refl, sym, ap, ◌∙◌, subst, arith, length-append, suc}
-use Rattle.std.proofs.lemmas.Bool.{ltb-true, ltb-false, eqb-true, eqb-false}
+use Rattle.std.proofs.Common.{◌≡◌, ℕ, ◌+◌, ◌-◌, ◌≤◌, Bool, true, false, not, ◌&&◌, ◌||◌, ◌==◌, List, [], ◌∷◌, ◌++◌, length, min, nat_lt, cond, if◌then◌else◌, Option, Some, None, is_some, refl, ◌∙◌, arith, length-append}
+use Rattle.std.proofs.lemmas.Bool.{eqb-true, eqb-false}
 use Rattle.fsb_signal.specs.Table.{table}
 use Rattle.fsb_signal.specs.DumpText.{width_of}
-use Rattle.fsb_signal.specs.declared.sample.Sample.{Sample}
 use Rattle.vcd_grammar.specs.declared.fault.VcdCause.TheVariants as causes
 use Rattle.vcd_grammar.specs.Tokens.{Token, is_white, longest, is_long, ended_at, grown_at, counted, run_behind, tokens_from, open_from}
 use Rattle.vcd_grammar.specs.Words.{HeaderWord, Declares, Finishes, Ends, Opens, Bare, header_word, ValueWord, Stamp, Scalar, Vector, Foreign, Mark, Section, Wrong, value_word, is_end, is_code}
@@ -11,7 +10,7 @@ use Rattle.vcd_grammar.specs.Codes.{lines_of}
 use Rattle.vcd_grammar.specs.Blocks.{Event, Later, Changed}
 use Rattle.vcd_grammar.specs.Judging.{Known, Turn, Draft, Mode, Header, Variable, Skipped, Closing, Values, Pending, Beside, Passed, turn, turn_in, stays, goes_to, fails, later, unless_long, header_turn, declared, closed, closed_with, missing_from, other_declared, line_declared, named, with_width, is_declared, drafted, stamped, scalar_turn, value_turn, is_too_wide, vector_turn, beside_turn}
 use Rattle.vcd_read.specs.Lines.{Lines, rises, after_event, decided_by, after_events, decided_in}
-use Rattle.vcd_read.specs.Taking.{Taken, turned, decided_of, take_token, take_tokens, samples_in_tokens, pushed}
+use Rattle.vcd_read.specs.Taking.{Taken, decided_of, take_token, take_tokens, samples_in_tokens}
 use Rattle.vcd_read.specs.Scanning.{Reading, after_bytes, Fits}
 
 -- a turn has one event at most

@@ -1,23 +1,23 @@
 -- The end of a text: what is answered, and which samples are appended.
-use Rattle.std.proofs.Common.{◌≡◌, ℕ, ◌+◌, ◌-◌, ◌<◌, ◌≤◌, Bool, true, false, not, ◌&&◌, ◌||◌, ◌==◌, List, [], ◌∷◌, ◌++◌, length, take, nat_lt, cond, if◌then◌else◌, Option, Some, None, is_some, Result, Ok, Err, refl, sym, ap, ◌∙◌, subst, arith, append_assoc, length-append, suc, zero}
-use Rattle.std.proofs.lemmas.Bool.{ltb-true, ltb-false, lt-ltb, le-ltb, eqb-true, eqb-false, eq-eqb, ne_eqb}
+use Rattle.std.proofs.Common.{◌≡◌, ℕ, ◌+◌, ◌-◌, ◌≤◌, Bool, true, false, not, ◌&&◌, ◌||◌, ◌==◌, List, [], ◌∷◌, ◌++◌, length, take, nat_lt, if◌then◌else◌, Option, Some, None, is_some, refl, sym, ap, ◌∙◌, subst, arith, append_assoc, length-append}
+use Rattle.std.proofs.lemmas.Bool.{ltb-true, ltb-false, lt-ltb, le-ltb, eqb-true, eqb-false}
 use Rattle.std.proofs.lemmas.List.{append-nil, take_all, take-append-le}
 use Rattle.fsb_signal.specs.declared.sample.Sample.{Sample}
 use Rattle.vcd_grammar.specs.declared.fault.VcdFault.{VcdFault}
 use Rattle.vcd_grammar.specs.Tokens.{tokens_so_far, tokens_of, open_run, ended_at}
 use Rattle.vcd_grammar.specs.Values.{sample_at}
-use Rattle.vcd_grammar.specs.Reading.{samples_so_far, samples_of, samples_before_end, first_fault, or_cut, Reads}
+use Rattle.vcd_grammar.specs.Reading.{samples_so_far, samples_of, samples_before_end, first_fault, or_cut}
 use Rattle.vcd_read.specs.declared.scan.Scan.{Scan}
 use Rattle.vcd_read.specs.declared.stop.VcdStop.{VcdStop}
 use Rattle.vcd_read.specs.declared.stop.VcdStop.TheVariants as stops
-use Rattle.vcd_read.specs.Lines.{Lines, sample_of_end, rises}
-use Rattle.vcd_read.specs.Taking.{Taken, taken, untaken, take_tokens, samples_in_tokens, pushed}
-use Rattle.vcd_read.specs.Scanning.{Reading, reading, ended_taken, ended_samples, end_fault, open_samples, open_rises, decided_in_reading, Part}
+use Rattle.vcd_read.specs.Lines.{sample_of_end, rises}
+use Rattle.vcd_read.specs.Taking.{untaken, take_tokens, samples_in_tokens, pushed}
+use Rattle.vcd_read.specs.Scanning.{reading, unread, samples_in_bytes, ended_taken, ended_samples, end_fault, open_samples, open_rises, decided_in_reading, Part}
 use Rattle.vcd_read.specs.Standing.{Scanned}
-use Rattle.vcd_read.specs.Answers.{fault_or, long_or, stop_at_end, stop_of_dump, end_stop, dump_stop, Answers, AppendsUpTo, AppendsPart, AppendsAtEnd, result_of}
-use Rattle.vcd_read.proofs.Readings.{take_tokens-append, samples_in_tokens-append, ended_decided}
+use Rattle.vcd_read.specs.Answers.{fault_or, long_or, stop_at_end, stop_of_dump, end_stop, dump_stop, AppendsUpTo, AppendsPart, AppendsAtEnd, result_of}
+use Rattle.vcd_read.proofs.Readings.{take_tokens-append, samples_in_tokens-append, ended_decided, pushed-append, pushed-is}
 use Rattle.vcd_read.proofs.Law.{samples_so_far_law, samples_before_end_law, samples_of_law, first_fault_law}
-use Rattle.vcd_read.proofs.Standings.{scanned_decided, appends_all, appends_some, take_behind, take_both}
+use Rattle.vcd_read.proofs.Standings.{scanned_decided, appends_all, appends_some, take_both}
 
 -- the text's tokens are those that count before its end, and the last one
 ended_is : (s : Scan) (fed : List ℕ) → Scanned s fed → ended_taken (reading s) ≡ take_tokens untaken (tokens_of fed)
@@ -222,3 +222,39 @@ scan_part s text limit old new h few p =
     let all : (samples_so_far text ++ ended_samples (reading s)) ++ sample_of_end lines ≡ samples_of text = ap (λ w. w ++ sample_of_end lines) (sym (before_end_is s text h)) ∙ sym (all_is s text h) in
     subst (λ w. AppendsPart (samples_so_far text) (take limit w) old new) all
     (end_part limit s.machine.decided (samples_so_far text) (ended_samples (reading s)) (end_fault (reading s)) (rises lines) (sample_at lines.before.levels) old new (scanned_decided s text h) few p)
+
+-- where a dump is not refused, it has no fault, and no more samples than the limit
+none_of_dump : (fault : Option VcdFault) (limit : ℕ) (w : List Sample) → fault_or fault (long_or limit w None) ≡ None → (fault ≡ None) × (length w ≤ limit)
+none_of_dump (Some fault) limit w h = absurd cc
+none_of_dump None limit w h = (refl, by (nat_lt limit (length w)) refl)
+  where
+    by : (t : Bool) → nat_lt limit (length w) ≡ t → length w ≤ limit
+    by true t = absurd cc
+    by false t = ltb-false limit (length w) t
+
+-- a dump that is not refused was read, and its samples are all there
+pub dump_read : (start s : Scan) (text : List ℕ) (limit : ℕ) (none to new : List Sample) → reading start ≡ unread → none ≡ [] → Scanned s text
+    → to ≡ pushed limit start.machine.decided none (samples_in_bytes (reading start) text)
+    → new ≡ pushed limit s.machine.decided to (ended_samples (reading s) ++ open_samples (end_fault (reading s)) (ended_taken (reading s)).lines)
+    → stop_of_dump limit text ≡ None → (first_fault text ≡ None) × (new ≡ samples_of text)
+unfolding stop_of_dump
+dump_read start s text limit none to new begun empty h k l lawful =
+    let lines = (ended_taken (reading s)).lines in
+    let found = none_of_dump (first_fault text) limit (samples_of text) lawful in
+    let so_far = samples_so_far text in
+    let last = ended_samples (reading s) ++ open_samples (end_fault (reading s)) lines in
+    let to_is : to ≡ pushed limit 0 [] so_far = k ∙ (λ i. pushed limit (decided_in_reading (begun i)) (empty i) (samples_in_bytes (begun i) text)) ∙ ap (pushed limit 0 []) (sym (samples_so_far_law text)) in
+    let count : s.machine.decided ≡ 0 + length so_far = omega (arith, scanned_decided s text h) in
+    let room : limit - 0 ≡ limit = omega arith in
+    let fault : end_fault (reading s) ≡ None = end_fault_is s text h ∙ found.0 in
+    let all : so_far ++ last ≡ samples_of text =
+        ap (λ f. so_far ++ (ended_samples (reading s) ++ open_samples f lines)) fault
+        ∙ sym (append_assoc so_far (ended_samples (reading s)) (sample_of_end lines))
+        ∙ ap (λ w. w ++ sample_of_end lines) (sym (before_end_is s text h))
+        ∙ sym (all_is s text h) in
+    (found.0,
+    l ∙ (λ i. pushed limit (count i) (to_is i) last)
+    ∙ sym (pushed-append limit 0 [] so_far last)
+    ∙ pushed-is limit 0 [] (so_far ++ last)
+    ∙ (λ i. take (room i) (all i))
+    ∙ take_all limit (samples_of text) found.1)

@@ -1,5 +1,5 @@
 -- Entries of a list, found at their places.
-use Rattle.std.proofs.Common.{◌≡◌, ℕ, ◌+◌, ◌≤◌, List, [], ◌∷◌, length, drop, take, Option, Some, None, slice_get, refl, ap, sym, ◌∙◌, arith, add-one, suc, zero, not, ◌&&◌, true, false, Bool, get_or, ◌<◌}
+use Rattle.std.proofs.Common.{◌≡◌, ℕ, ◌+◌, ◌≤◌, List, [], ◌∷◌, length, drop, take, Option, Some, slice_get, ap, sym, ◌∙◌, arith, add-one, suc, zero, not, ◌&&◌, true, false, Bool, get_or, ◌<◌}
 use Rattle.std.proofs.lemmas.List.{take_all}
 use Rattle.std.proofs.lemmas.Option.{slice_get-get_or}
 use Rattle.fsb_signal.specs.Table.{Entry, table, needed}

@@ -1,19 +1,17 @@
 -- What tokens make of the reader's state is what the definitions of a text say, block by block.
-use Rattle.std.proofs.Common.{◌≡◌, ℕ, ◌+◌, ◌-◌, ◌<◌, ◌≤◌, Bool, true, false, ◌==◌, List, [], ◌∷◌, ◌++◌, length, map, take, slice_get, slice_set, slice_index, cond, if◌then◌else◌, refl, sym, ap, ◌∙◌, subst, arith, append_assoc, suc, zero}
-use Rattle.std.specs.Option.{option_map_or}
+use Rattle.std.proofs.Common.{◌≡◌, ℕ, ◌-◌, ◌<◌, ◌==◌, List, [], ◌∷◌, ◌++◌, length, map, take, slice_set, slice_index, if◌then◌else◌, refl, sym, ap, ◌∙◌, arith, append_assoc, suc, zero}
 use Rattle.std.proofs.lemmas.Bool.{ne_eqb}
 use Rattle.std.proofs.lemmas.List.{append-nil, length-set}
-use Rattle.fsb_signal.specs.declared.sample.Sample.{Sample}
 use Rattle.fsb_signal.specs.DumpText.{width_of}
 use Rattle.vcd_grammar.specs.Tokens.{Token, tokens_of, tokens_so_far}
 use Rattle.vcd_grammar.specs.Digits.{extended}
 use Rattle.vcd_grammar.specs.Levels.{level_of}
-use Rattle.vcd_grammar.specs.Blocks.{Change, Block, Event, Later, Changed, blocks_from, blocks_of, ended}
-use Rattle.vcd_grammar.specs.Values.{Values, at_first, set_line, set_lines, values_behind, clock_of, is_rise, sample_at, sample_of, sample_of_block, samples_in}
-use Rattle.vcd_grammar.specs.Judging.{Known, Turn, turn, nothing, behind, events_in}
+use Rattle.vcd_grammar.specs.Blocks.{Change, Block, Event, Later, Changed, blocks_from, ended}
+use Rattle.vcd_grammar.specs.Values.{Values, at_first, set_line, set_lines, values_behind, clock_of, is_rise, sample_at, sample_of_block, samples_in}
+use Rattle.vcd_grammar.specs.Judging.{Known, turn, nothing, behind, events_in}
 use Rattle.vcd_grammar.specs.Reading.{samples_of, samples_before_end, samples_so_far, first_fault, fault_so_far, or_cut}
-use Rattle.vcd_read.specs.Lines.{with_line, with_lines, Lines, at_start, rises, after_event, sample_of_end, decided_by, after_events, decided_in}
-use Rattle.vcd_read.specs.Taking.{Taken, untaken, turned, decided_of, take_token, take_tokens, samples_in_tokens}
+use Rattle.vcd_read.specs.Lines.{with_line, with_lines, Lines, at_start, after_event, sample_of_end, decided_by, after_events, decided_in}
+use Rattle.vcd_read.specs.Taking.{Taken, untaken, decided_of, take_token, take_tokens, samples_in_tokens}
 use Rattle.vcd_read.specs.declared.levels.Values.{Values as Kept}
 
 -- what the reader keeps of values

@@ -1,8 +1,8 @@
 -- Tokens of the header decide no sample.
-use Rattle.std.proofs.Common.{◌≡◌, ℕ, Bool, true, false, not, ◌||◌, ◌&&◌, ◌==◌, is_some, List, [], ◌∷◌, Option, Some, None, if◌then◌else◌, refl, sym, ap, ◌∙◌}
+use Rattle.std.proofs.Common.{◌≡◌, ℕ, Bool, true, false, not, ◌||◌, ◌&&◌, ◌==◌, is_some, List, [], Option, Some, None, if◌then◌else◌, refl, sym, ap, ◌∙◌}
 use Rattle.vcd_grammar.specs.Tokens.{Token, is_long}
 use Rattle.vcd_grammar.specs.Words.{is_end, is_code}
-use Rattle.vcd_grammar.specs.Judging.{Known, Turn, Draft, Mode, Variable, Closing, turn, turn_in, stays, goes_to, fails, unless_long, declared, closed, missing_from, other_declared, line_declared, named, with_width, is_declared, drafted, closed_with}
+use Rattle.vcd_grammar.specs.Judging.{Known, Turn, Draft, Mode, Variable, Closing, turn, turn_in, stays, goes_to, fails, declared, closed, missing_from, other_declared, line_declared, named, with_width, is_declared, drafted, closed_with}
 use Rattle.fsb_signal.specs.Table.{table}
 use Rattle.fsb_signal.specs.DumpText.{width_of}
 use Rattle.fsb_signal.specs.declared.sample.Sample.{Sample}

@@ -1,14 +1,14 @@
 -- Readings of bytes one after another, and the samples that were appended.
-use Rattle.std.proofs.Common.{◌≡◌, ℕ, ◌+◌, ◌-◌, ◌<◌, ◌≤◌, Bool, true, false, not, ◌&&◌, ◌||◌, ◌==◌, List, [], ◌∷◌, ◌++◌, length, min, take, nat_lt, cond, if◌then◌else◌, refl, sym, ap, ◌∙◌, subst, arith, append_assoc, length-append, suc, zero, Option}
+use Rattle.std.proofs.Common.{◌≡◌, ℕ, ◌+◌, ◌-◌, ◌<◌, ◌≤◌, Bool, true, false, ◌||◌, ◌==◌, List, [], ◌∷◌, ◌++◌, length, take, nat_lt, cond, if◌then◌else◌, refl, sym, ap, ◌∙◌, subst, arith, append_assoc, length-append, suc, zero, Option}
 use Rattle.std.specs.List.{list_all}
-use Rattle.std.proofs.lemmas.Bool.{ltb-true, ltb-false, lt-ltb, le-ltb, ne_eqb, eq-eqb, eqb-true, eqb-false}
+use Rattle.std.proofs.lemmas.Bool.{ltb-true, ltb-false, lt-ltb, le-ltb, ne_eqb, eq-eqb}
 use Rattle.std.proofs.lemmas.List.{append-nil}
 use Rattle.fsb_signal.specs.declared.sample.Sample.{Sample}
-use Rattle.vcd_grammar.specs.Tokens.{Token, is_white, longest, is_long, ended_at, counted, tokens_from, open_from}
+use Rattle.vcd_grammar.specs.Tokens.{Token, is_white, longest, ended_at, tokens_from, open_from}
 use Rattle.vcd_grammar.specs.Judging.{turn}
 use Rattle.vcd_grammar.specs.declared.fault.VcdFault.{VcdFault}
 use Rattle.vcd_read.specs.Lines.{Lines}
-use Rattle.vcd_read.specs.Taking.{Taken, turned, decided_of, take_token, take_tokens, samples_in_tokens, pushed}
+use Rattle.vcd_read.specs.Taking.{Taken, decided_of, take_token, take_tokens, samples_in_tokens, pushed}
 use Rattle.vcd_read.specs.Scanning.{Reading, after_bytes, samples_in_bytes, decided_in_reading, is_dark, ended_taken, ended_samples, end_fault, open_samples, Fits, Part}
 use Rattle.vcd_read.proofs.TokenRuns.{tokens-append, open-append, long_tokens, long_open, short_tokens, short_open, over_tokens, over_open, taken_by}
 use Rattle.vcd_read.proofs.Counts.{tokens_count, fits_after}

@@ -1,20 +1,18 @@
 -- What a reader stands for, as bytes come and as they end.
-use Rattle.std.proofs.Common.{◌≡◌, ℕ, ◌+◌, ◌-◌, ◌<◌, ◌≤◌, Bool, true, false, List, [], ◌∷◌, ◌++◌, length, min, take, nat_lt, cond, if◌then◌else◌, Option, Some, None, Result, Ok, Err, refl, sym, ap, ◌∙◌, subst, arith, append_assoc, length-append, suc, zero}
+use Rattle.std.proofs.Common.{◌≡◌, ℕ, ◌+◌, ◌-◌, ◌≤◌, Bool, true, false, List, [], ◌∷◌, ◌++◌, length, take, nat_lt, if◌then◌else◌, Option, Some, None, Result, Ok, Err, refl, sym, ap, ◌∙◌, subst, arith, append_assoc, suc, zero}
 use Rattle.std.specs.Result.{OnOk}
-use Rattle.std.proofs.lemmas.Bool.{ltb-false, lt-ltb, le-ltb}
+use Rattle.std.proofs.lemmas.Bool.{ltb-false}
 use Rattle.std.proofs.lemmas.List.{append-nil, take_all}
 use Rattle.fsb_signal.specs.declared.sample.Sample.{Sample}
-use Rattle.vcd_grammar.specs.declared.fault.VcdFault.{VcdFault}
-use Rattle.vcd_grammar.specs.Tokens.{tokens_so_far, tokens_of, open_run}
-use Rattle.vcd_grammar.specs.Reading.{samples_so_far, samples_of, samples_before_end, fault_so_far, first_fault}
+use Rattle.vcd_grammar.specs.Reading.{samples_so_far, fault_so_far}
 use Rattle.vcd_read.specs.declared.scan.Scan.{Scan}
 use Rattle.vcd_read.specs.declared.reader.Reader.{Reader}
 use Rattle.vcd_read.specs.declared.stop.VcdStop.{VcdStop}
 use Rattle.vcd_read.specs.declared.stop.VcdStop.TheVariants as stops
-use Rattle.vcd_read.specs.Taking.{taken, untaken, take_tokens, samples_in_tokens, pushed}
-use Rattle.vcd_read.specs.Scanning.{Reading, reading, unread, after_bytes, samples_in_bytes, decided_in_reading, Fits, Part}
-use Rattle.vcd_read.specs.Standing.{Scanned, Works, Stands, refusal_of}
-use Rattle.vcd_read.specs.Answers.{fault_or, long_or, stop_so_far, Answers, AppendsUpTo, AppendsPart, AppendsBy, result_of}
+use Rattle.vcd_read.specs.Taking.{pushed}
+use Rattle.vcd_read.specs.Scanning.{Reading, reading, unread, after_bytes, samples_in_bytes, Fits, Part}
+use Rattle.vcd_read.specs.Standing.{Scanned, Works}
+use Rattle.vcd_read.specs.Answers.{fault_or, stop_so_far, Answers, AppendsUpTo, AppendsPart, AppendsBy, result_of}
 use Rattle.vcd_read.proofs.Readings.{pushed-is, behind_taken, behind_samples, behind_decided, behind_fits}
 use Rattle.vcd_read.proofs.Law.{samples_so_far_law, fault_so_far_law}
 

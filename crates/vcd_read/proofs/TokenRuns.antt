@@ -1,9 +1,9 @@
 -- Tokens of bytes one after another, and of bytes without white space.
-use Rattle.std.proofs.Common.{◌≡◌, ℕ, ◌+◌, ◌-◌, ◌<◌, ◌≤◌, Bool, true, false, not, ◌&&◌, ◌||◌, ◌==◌, List, [], ◌∷◌, ◌++◌, length, min, take, nat_lt, cond, if◌then◌else◌, refl, sym, ap, ◌∙◌, subst, arith, append_assoc, length-append, suc}
+use Rattle.std.proofs.Common.{◌≡◌, ℕ, ◌+◌, ◌-◌, ◌<◌, ◌≤◌, Bool, true, false, not, ◌&&◌, ◌==◌, List, [], ◌∷◌, ◌++◌, length, take, refl, sym, ap, ◌∙◌, arith, append_assoc, length-append, suc}
 use Rattle.std.specs.List.{list_all}
 use Rattle.std.proofs.lemmas.Bool.{ne_eqb, eq-eqb, lt-ltb, le-ltb, eqb-true, eqb-false}
 use Rattle.std.proofs.lemmas.List.{append-nil}
-use Rattle.vcd_grammar.specs.Tokens.{Token, is_white, longest, is_long, ended_at, grown_at, counted, run_behind, tokens_from, open_from}
+use Rattle.vcd_grammar.specs.Tokens.{is_white, longest, is_long, grown_at, counted, run_behind, tokens_from, open_from}
 use Rattle.vcd_read.specs.Scanning.{is_dark}
 
 -- bytes behind bytes

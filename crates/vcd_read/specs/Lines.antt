@@ -5,7 +5,7 @@ use Rattle.fsb_signal.specs.DumpText.{width_of}
 use Rattle.vcd_grammar.specs.Digits.{extended}
 use Rattle.vcd_grammar.specs.Levels.{level_of}
 use Rattle.vcd_grammar.specs.Values.{is_rise, sample_at}
-use Rattle.vcd_grammar.specs.Blocks.{Change, Event, Later, Changed}
+use Rattle.vcd_grammar.specs.Blocks.{Event, Later, Changed}
 use Rattle.vcd_read.specs.declared.levels.Values.{Values}
 
 -- the values before anything was declared

@@ -1,4 +1,4 @@
-use Rattle.std.proofs.Common.{◌≡◌, ◌∙◌, sym, ap, not, arith, true, false}
+use Rattle.std.proofs.Common.{◌∙◌, sym, arith}
 use Rattle.vcd_read.proofs.Numbers.{number-empty, number-other, number-past, number-read, number-above}
 use Rattle.vcd_read.proofs.digits.number_up_to.Goals as goal
 

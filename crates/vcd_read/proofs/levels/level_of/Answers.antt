@@ -1,4 +1,4 @@
-use Rattle.std.proofs.Common.{◌≡◌, ◌+◌, ◌-◌, ◌*◌, ◌^◌, ◌<◌, get_or, length, refl, arith}
+use Rattle.std.proofs.Common.{◌≡◌, arith}
 use Rattle.vcd_grammar.specs.Digits.{extended, is_unknown}
 use Rattle.vcd_grammar.specs.Levels.{bits_from, is_low, level_of}
 use Rattle.vcd_read.proofs.Bits.{extended_bits, fill_fits, bits_more, bits_fit, bits_read}

@@ -1,7 +1,7 @@
-use Rattle.std.proofs.Common.{◌≡◌, ◌%◌, ◌^◌, ◌<◌, ◌∙◌, lit<}
+use Rattle.std.proofs.Common.{◌%◌, ◌^◌, ◌<◌, ◌∙◌, lit<}
 use Rattle.std.proofs.Math.Nat.{mod-lt}
 use Rattle.fsb_signal.proofs.SameSample.{same_sample}
-use Rattle.vcd_grammar.specs.Levels.{without, asserted_at, unknown_at, control_of}
+use Rattle.vcd_grammar.specs.Levels.{without, asserted_at, unknown_at}
 use Rattle.vcd_grammar.specs.LevelFacts.{without-apart, without-lt, control_of-lt}
 use Rattle.vcd_grammar.specs.Values.{sample_at, word_of}
 use Rattle.vcd_read.proofs.levels.sample_at.Goals as goal

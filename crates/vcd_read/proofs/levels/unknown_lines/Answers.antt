@@ -1,4 +1,3 @@
-use Rattle.std.proofs.Common.{◌≡◌}
 use Rattle.vcd_grammar.specs.Levels.{control_of}
 use Rattle.vcd_read.proofs.levels.unknown_lines.Goals as goal
 

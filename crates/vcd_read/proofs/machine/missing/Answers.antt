@@ -1,4 +1,4 @@
-use Rattle.std.proofs.Common.{arith, ◌<◌}
+use Rattle.std.proofs.Common.{arith}
 use Rattle.vcd_read.proofs.Entries.{missing_here, missing_later}
 use Rattle.vcd_read.proofs.machine.missing.Goals as goal
 

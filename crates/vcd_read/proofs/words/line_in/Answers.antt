@@ -1,4 +1,4 @@
-use Rattle.std.proofs.Common.{◌≡◌, ◌∙◌, ap, sym}
+use Rattle.std.proofs.Common.{◌∙◌, ap}
 use Rattle.fsb_signal.specs.Table.{signal_number}
 use Rattle.vcd_read.proofs.words.line_in.Goals as goal
 

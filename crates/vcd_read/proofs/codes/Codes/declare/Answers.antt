@@ -1,6 +1,6 @@
-use Rattle.std.proofs.Common.{◌≡◌, ◌++◌, List, ℕ, ap, sym, ◌∙◌, refl, subst}
-use Rattle.vcd_grammar.specs.Codes.{Code, lines_of, with_code}
-use Rattle.vcd_read.specs.CodesView.{codes_of, Agree, lines_or_none, only_of, with_single}
+use Rattle.std.proofs.Common.{◌≡◌, ◌++◌, ap, sym, ◌∙◌, refl, subst}
+use Rattle.vcd_grammar.specs.Codes.{lines_of, with_code}
+use Rattle.vcd_read.specs.CodesView.{codes_of, Agree, lines_or_none, only_of}
 use Rattle.vcd_read.proofs.CodeTables.{inserted, agree_more}
 use Rattle.vcd_read.proofs.codes.Codes.declare.Goals as goal
 

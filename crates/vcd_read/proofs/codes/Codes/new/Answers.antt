@@ -1,4 +1,3 @@
-use Rattle.std.proofs.Common.{replicate, None}
 use Rattle.vcd_read.proofs.CodeTables.{none_single}
 use Rattle.vcd_read.proofs.codes.Codes.new.Goals as goal
 

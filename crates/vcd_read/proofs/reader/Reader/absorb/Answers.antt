@@ -1,11 +1,8 @@
-use Rattle.std.proofs.Common.{◌≡◌, ◌++◌, List, ℕ, None, Some, Result, Option, refl, sym, ap, ◌∙◌, subst, take, nat_lt, if◌then◌else◌}
-use Rattle.fsb_signal.specs.declared.sample.Sample.{Sample}
+use Rattle.std.proofs.Common.{◌++◌, sym, ap, ◌∙◌, subst, take}
 use Rattle.vcd_grammar.specs.Reading.{samples_so_far}
-use Rattle.vcd_read.specs.declared.stop.VcdStop.{VcdStop}
-use Rattle.vcd_read.specs.declared.stop.VcdStop.TheVariants as stops
-use Rattle.vcd_read.specs.Standing.{Scanned, Works}
-use Rattle.vcd_read.specs.Answers.{Answers, AppendsBy, fault_or, result_of, stop_so_far}
-use Rattle.vcd_read.proofs.Standings.{scanned_fits, scanned_more, works_more, answers_of, appends_of, stop_is, few_where_none, fed_appends, fed_part, ok_of}
+use Rattle.vcd_read.specs.Standing.{Scanned}
+use Rattle.vcd_read.specs.Answers.{Answers, AppendsBy, result_of, stop_so_far}
+use Rattle.vcd_read.proofs.Standings.{scanned_fits, scanned_more, answers_of, appends_of, stop_is, few_where_none, fed_appends, fed_part, ok_of}
 use Rattle.vcd_read.proofs.reader.Reader.absorb.Goals as goal
 
 pub absorb-requires-clause-fits : goal.absorb-requires-clause-fits

@@ -1,4 +1,4 @@
-use Rattle.std.proofs.Common.{◌≡◌, sym, ap, ◌∙◌, subst}
+use Rattle.std.proofs.Common.{sym, ap, ◌∙◌, subst}
 use Rattle.vcd_grammar.specs.Reading.{samples_so_far, samples_before_end, samples_of}
 use Rattle.vcd_read.specs.Answers.{Answers, AppendsAtEnd, result_of, stop_at_end}
 use Rattle.vcd_read.proofs.Standings.{scanned_fits, answers_of}

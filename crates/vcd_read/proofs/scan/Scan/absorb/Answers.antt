@@ -1,4 +1,4 @@
-use Rattle.std.proofs.Common.{◌≡◌, ◌-◌, length, drop, take, sym, subst}
+use Rattle.std.proofs.Common.{sym, subst}
 use Rattle.std.proofs.lemmas.List.{take_rest}
 use Rattle.vcd_read.specs.Scanning.{reading}
 use Rattle.vcd_read.proofs.Absorbing.{Absorbed, err_anyway, absorbed-fits, absorbed-part, absorbed-more}

@@ -1,5 +1,4 @@
-use Rattle.std.proofs.Common.{◌≡◌, [], ◌∷◌, Result, Ok, Err}
-use Rattle.std.specs.Result.{OnErr}
+use Rattle.std.proofs.Common.{[], ◌∷◌}
 use Rattle.std.proofs.lemmas.Result.{on_ok_weaker, on_err_weaker}
 use Rattle.vcd_read.specs.Scanning.{reading}
 use Rattle.vcd_read.proofs.Readings.{behind_taken, behind_sampled, behind_part, behind_fits, part_none}

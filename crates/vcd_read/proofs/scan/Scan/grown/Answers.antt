@@ -1,4 +1,4 @@
-use Rattle.std.proofs.Common.{◌≡◌, ◌+◌, ◌≤◌, ◌<◌, length, sym, ap, ◌∙◌, arith}
+use Rattle.std.proofs.Common.{◌+◌, length, sym, ap, ◌∙◌, arith}
 use Rattle.vcd_read.specs.Taking.{pushed}
 use Rattle.vcd_read.specs.Scanning.{reading}
 use Rattle.vcd_read.proofs.Readings.{short_bytes, short_samples, long_bytes, long_samples}

@@ -1,8 +1,7 @@
-use Rattle.std.proofs.Common.{◌≡◌, ◌-◌, ◌<◌, ◌≤◌, length, [], ◌∷◌, refl, sym, ap, ◌∙◌, arith}
+use Rattle.std.proofs.Common.{◌-◌, ap, arith}
 use Rattle.std.proofs.lemmas.Result.{on_ok_weaker}
-use Rattle.vcd_read.specs.Taking.{taken, take_tokens, take_token, samples_in_tokens, pushed}
 use Rattle.vcd_read.specs.Scanning.{reading}
-use Rattle.vcd_read.proofs.Readings.{none_taken, none_sampled, one_taken, one_sampled, token_of, ended_some, ended_empty, ended_long}
+use Rattle.vcd_read.proofs.Readings.{none_taken, none_sampled, one_taken, one_sampled, ended_some, ended_empty, ended_long}
 use Rattle.vcd_read.proofs.scan.Scan.last.Goals as goal
 
 pub returns-then-run_len-eq0-clause-state : goal.returns-then-run_len-eq0-clause-state

@@ -1,4 +1,4 @@
-use Rattle.std.proofs.Common.{◌≡◌, ◌+◌, [], ◌∷◌, ◌++◌, take, drop, get_or, subst}
+use Rattle.std.proofs.Common.{◌+◌, [], ◌∷◌, ◌++◌, take, drop, get_or, subst}
 use Rattle.vcd_read.specs.Scanning.{reading, samples_in_bytes, Part}
 use Rattle.vcd_read.proofs.Absorbing.{err_anyway, part_first, span_split}
 use Rattle.vcd_read.proofs.scan.Scan.span.Goals as goal
