@@ -22,3 +22,5 @@ pub mod OpenFollows
 pub mod Prefixes
 pub mod BeginRules
 pub mod AwaitRules
+pub mod OpenCounts
+pub mod FirstBroken
