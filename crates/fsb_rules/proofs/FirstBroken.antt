@@ -90,7 +90,7 @@ orderly_after k h x v f m soon early =
     (timely k h x v f m early)
 
 -- 18 deferred IDs and outstanding requests, where the new trace is orderly and the request is identified
-identified_now : (v : Trace) (n : ℕ) (r : Request) → line_back ADS v n 1 ≡ true → request_at v (n - 1) ≡ Some r → is_identity_wrong v n ≡ false → is_identified (winner_at v (n - 1)) (Some r) ≡ true
+pub identified_now : (v : Trace) (n : ℕ) (r : Request) → line_back ADS v n 1 ≡ true → request_at v (n - 1) ≡ Some r → is_identity_wrong v n ≡ false → is_identified (winner_at v (n - 1)) (Some r) ≡ true
 unfolding is_identity_wrong
 identified_now v n r t e f =
     not-false _ (let g : (true && not (is_identified (winner_at v (n - 1)) (Some r))) ≡ false = rw (t, e) at f in g)

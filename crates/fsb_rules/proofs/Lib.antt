@@ -24,3 +24,6 @@ pub mod BeginRules
 pub mod AwaitRules
 pub mod OpenCounts
 pub mod FirstBroken
+pub mod Unbroken
+pub mod OpenStands
+pub mod CheckerFollows

@@ -141,7 +141,7 @@ not_finished w m o l late t =
       omega (arith, c.2)) in
     (plain, ap (λ c. is_before c (length w)) (last_clock_of-plain w i plain) ∙ ended_known w m (end_of w i) o l t late refl)
 
-begun_plain : (q : ℕ) (r : Request) (t : Bool) → is_reply_kind r.kind ≡ t → open_begun (asked_from q r) ≡ cond t None (Some (plain_open q r.did))
+pub begun_plain : (q : ℕ) (r : Request) (t : Bool) → is_reply_kind r.kind ≡ t → open_begun (asked_from q r) ≡ cond t None (Some (plain_open q r.did))
 unfolding open_begun asked_from
 begun_plain q r t e = rw e refl
 
