@@ -27,3 +27,5 @@ pub mod FirstBroken
 pub mod Unbroken
 pub mod OpenStands
 pub mod CheckerFollows
+pub mod StartFollows
+pub mod Feeds

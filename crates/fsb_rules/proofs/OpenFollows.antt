@@ -185,7 +185,7 @@ open_form w n e =
     ap (λ m. filter_map (open_at w) (all_where (is_outstanding w (length w)) m)) e
     ∙ filter_all-none (is_outstanding w (length w)) (open_at w) n (none_last w n (omega arith))
 
-open_empty : (w : Trace) → length w ≡ 0 → open_of w ≡ []
+pub open_empty : (w : Trace) → length w ≡ 0 → open_of w ≡ []
 unfolding open_of outstanding all_where
 open_empty w e = rw e refl
 
