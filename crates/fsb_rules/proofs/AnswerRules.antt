@@ -120,7 +120,7 @@ takes_next k h x v f m may =
     by_next (next_by k.queue (length h)) n.next takes_by n.is_next
     ∙ takes_by-takes h (response_count h) n.next n.snooped ∙ sym (takes_same h x v m may)
 
-takes_none : (k : Checker) (h : Trace) → Follows k h → may_answer_next h ≡ false → is_some_and (next_by k.queue (length h)) takes_by ≡ false
+pub takes_none : (k : Checker) (h : Trace) → Follows k h → may_answer_next h ≡ false → is_some_and (next_by k.queue (length h)) takes_by ≡ false
 unfolding is_some_and
 takes_none k h f e = rw (no_next k.queue h f.queue f.orderly f.decoded e) refl
 

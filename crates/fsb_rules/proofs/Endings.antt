@@ -112,7 +112,7 @@ asked_clock v i a None e f = absurd (let g : None ≡ Some a = rw e at f in let 
 asked_clock v i a (Some q) e f = e ∙ ap (λ c. Some c) (clock_parts v q a (request_at v q) refl (let g = rw e at f in g))
 
 -- a response that moves no data ends its request
-deferred_new : (h : Trace) (x : Sample) (v : Trace) (s : ℕ) → OneMore h x v → SnoopsTo h s → response_count h < s → responds x ≡ true → is_deferred v (response_count h) ≡ is_deferral (told_by h (response_count h) (response_of x))
+pub deferred_new : (h : Trace) (x : Sample) (v : Trace) (s : ℕ) → OneMore h x v → SnoopsTo h s → response_count h < s → responds x ≡ true → is_deferred v (response_count h) ≡ is_deferral (told_by h (response_count h) (response_of x))
 unfolding is_deferred is_some_and
 deferred_new h x v s m to l t = rw (outcome_of-new h x v s m to l t) refl
 

@@ -22,3 +22,10 @@ pub mod OpenFollows
 pub mod Prefixes
 pub mod BeginRules
 pub mod AwaitRules
+pub mod OpenCounts
+pub mod FirstBroken
+pub mod Unbroken
+pub mod OpenStands
+pub mod CheckerFollows
+pub mod StartFollows
+pub mod Feeds

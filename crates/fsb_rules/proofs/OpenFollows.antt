@@ -141,7 +141,7 @@ not_finished w m o l late t =
       omega (arith, c.2)) in
     (plain, ap (λ c. is_before c (length w)) (last_clock_of-plain w i plain) ∙ ended_known w m (end_of w i) o l t late refl)
 
-begun_plain : (q : ℕ) (r : Request) (t : Bool) → is_reply_kind r.kind ≡ t → open_begun (asked_from q r) ≡ cond t None (Some (plain_open q r.did))
+pub begun_plain : (q : ℕ) (r : Request) (t : Bool) → is_reply_kind r.kind ≡ t → open_begun (asked_from q r) ≡ cond t None (Some (plain_open q r.did))
 unfolding open_begun asked_from
 begun_plain q r t e = rw e refl
 
@@ -185,7 +185,7 @@ open_form w n e =
     ap (λ m. filter_map (open_at w) (all_where (is_outstanding w (length w)) m)) e
     ∙ filter_all-none (is_outstanding w (length w)) (open_at w) n (none_last w n (omega arith))
 
-open_empty : (w : Trace) → length w ≡ 0 → open_of w ≡ []
+pub open_empty : (w : Trace) → length w ≡ 0 → open_of w ≡ []
 unfolding open_of outstanding all_where
 open_empty w e = rw e refl
 

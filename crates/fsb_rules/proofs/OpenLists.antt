@@ -89,7 +89,7 @@ list_any-all test t f (suc n) =
 pub count_by-append : {A : Type 0} (p : A → Bool) (xs ys : List A) → count_by p (xs ++ ys) ≡ count_by p xs + count_by p ys
 count_by-append p xs ys = sum_by-append (λ x. cond (p x) 1 0) xs ys
 
-one_count : {A : Type 0} (test : A → Bool) (a : A) (b : Bool) → test a ≡ b → count_by test (a ∷ []) ≡ cond (test a) 1 0
+pub one_count : {A : Type 0} (test : A → Bool) (a : A) (b : Bool) → test a ≡ b → count_by test (a ∷ []) ≡ cond (test a) 1 0
 one_count test a true e = rw e refl
 one_count test a false e = rw e refl
 

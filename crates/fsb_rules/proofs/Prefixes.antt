@@ -56,7 +56,7 @@ has_before h l =
       agree = record { left = omega arith; right = omega arith; same = λ c k. taken h (length h - 1) c (omega arith) (omega arith) };
     }
 
-back_some : (h : Trace) → line_back ADS h (length h) 1 ≡ true → (0 < length h) × (line_at ADS h (length h - 1) ≡ true)
+pub back_some : (h : Trace) → line_back ADS h (length h) 1 ≡ true → (0 < length h) × (line_at ADS h (length h - 1) ≡ true)
 unfolding line_back
 back_some h t = let p = and_parts _ _ t in let l = leb-true 1 (length h) p.0 in (omega arith, p.1)
 

@@ -80,7 +80,7 @@ answers_most k h x v b g false e =
     let most = not_moving k h x v b g (transfer_of h) e refl in omega arith
 
 -- the room that is left
-new_back : (h : Trace) (x : Sample) (v : Trace) → OneMore h x v → line_back ADS v (length v) 1 ≡ has_line x ADS
+pub new_back : (h : Trace) (x : Sample) (v : Trace) → OneMore h x v → line_back ADS v (length v) 1 ≡ has_line x ADS
 unfolding line_back
 new_back h x v m =
     let e : length h + 1 - 1 ≡ length h = omega arith in

@@ -1,16 +1,83 @@
+use Rattle.std.proofs.Common.{◌≡◌, true, false, None, refl, sym, ap, ◌∙◌, subst, [], ◌∷◌, ◌++◌}
+use Rattle.fsb_trace.specs.At.{Trace}
+use Rattle.fsb_rules.specs.Checker.{Stands}
+use Rattle.fsb_rules.proofs.Feeds.{FeedStep, AbsorbedAt, queue_few, queue_room, outstanding_room, absorb_stands, broken_stands, not_found, was_found}
 use Rattle.fsb_rules.proofs.checker.Checker.feed.Goals as goal
+use Rattle.fsb_rules.proofs.checker.Checker.feed.Goals.{then-is_none+in-Some, then-is_none+in-None, else-is_none}
 
 pub absorb-requires-clause-few : goal.absorb-requires-clause-few
-absorb-requires-clause-few c = ?
+absorb-requires-clause-few c =
+    queue_few c.args.self.now c.requires.0 c.requires.1 (not_found c.args.self.now.found c.if-is_none.ensures)
 
 pub absorb-requires-clause-room : goal.absorb-requires-clause-room
-absorb-requires-clause-room c = ?
+absorb-requires-clause-room c =
+    let none = not_found c.args.self.now.found c.if-is_none.ensures in
+    queue_room c.args.self.now c.requires.0 c.args.sample.now c.begun-begun.result c.winner-winner.result c.first_broken.result (record {
+      stands = c.requires.1;
+      none = none;
+      begun = c.begun-begun.ensures;
+      winner_is = c.winner-winner.ensures c.requires.0 (c.requires.1.follows none).arbiter;
+      rule_is = c.first_broken.ensures;
+    })
 
 pub absorb-requires-clause-open_room : goal.absorb-requires-clause-open_room
-absorb-requires-clause-open_room c = ?
+absorb-requires-clause-open_room c =
+    let none = not_found c.args.self.now.found c.if-is_none.ensures in
+    outstanding_room c.args.self.now c.requires.0 c.args.sample.now c.begun-begun.result c.winner-winner.result (record {
+      stands = c.requires.1;
+      none = none;
+      begun = c.begun-begun.ensures;
+      winner_is = c.winner-winner.ensures c.requires.0 (c.requires.1.follows none).arbiter;
+      rule_is = sym c.in-None.is ∙ c.first_broken.ensures;
+    })
+
+stands : (c : goal.After-result-1) (h : Trace) → Stands c.args.self.now h → Stands c.if-is_none.self (h ++ c.args.sample.now ∷ [])
+stands c h s =
+    elim c.if-is_none.branch [
+      | then-is_none+in-Some w ↦
+          let none = not_found c.args.self.now.found w.if-is_none.ensures in
+          broken_stands c.args.self.now c.if-is_none.self h c.args.sample.now w.begun-begun.result w.winner-winner.result _ (record {
+            stands = s;
+            none = none;
+            begun = w.begun-begun.ensures;
+            winner_is = w.winner-winner.ensures h (s.follows none).arbiter;
+            rule_is = sym w.in-Some.is ∙ w.first_broken.ensures;
+          }) (ap (λ k. k.found) w.self-is)
+      | then-is_none+in-None w ↦
+          let none = not_found c.args.self.now.found w.if-is_none.ensures in
+          let step : FeedStep c.args.self.now h c.args.sample.now w.begun-begun.result w.winner-winner.result None = record {
+            stands = s;
+            none = none;
+            begun = w.begun-begun.ensures;
+            winner_is = w.winner-winner.ensures h (s.follows none).arbiter;
+            rule_is = sym w.in-None.is ∙ w.first_broken.ensures;
+          } in
+          subst (λ k. Stands k (h ++ c.args.sample.now ∷ [])) (sym w.self-is)
+          (absorb_stands c.args.self.now _ h c.args.sample.now w.begun-begun.result w.winner-winner.result step w.absorb.ensures.found (record {
+            clock = w.absorb.ensures.clock;
+            first = w.absorb.ensures.first;
+            second = w.absorb.ensures.second;
+            third = w.absorb.ensures.third;
+            words = w.absorb.ensures.words;
+            arbiter = w.absorb.ensures.arbiter h (s.follows none).arbiter;
+            beginner = w.absorb.ensures.beginner;
+            queue = record {
+              asking = w.absorb.ensures.asking;
+              waiting = w.absorb.ensures.waiting;
+              moving = w.absorb.ensures.moving;
+              last_snoop = w.absorb.ensures.last_snoop;
+              ready = w.absorb.ensures.ready;
+            };
+            current = w.absorb.ensures.current;
+            before = w.absorb.ensures.before;
+          }))
+      | else-is_none w ↦
+          subst (λ k. Stands k (h ++ c.args.sample.now ∷ [])) (sym w.self-is)
+          (was_found c.args.self.now h c.args.sample.now s w.if-is_none.ensures)
+    ]
 
 pub returns-clause-verdict : goal.returns-clause-verdict
-returns-clause-verdict c = ?
+returns-clause-verdict c = λ h s. (stands c h s).found
 
 pub returns-clause-stands : goal.returns-clause-stands
-returns-clause-stands c = ?
+returns-clause-stands c = stands c

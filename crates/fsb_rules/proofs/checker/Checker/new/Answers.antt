@@ -1,4 +1,22 @@
+use Rattle.std.proofs.Common.{refl}
+use Rattle.fsb_rules.proofs.StartFollows.{new_stands}
 use Rattle.fsb_rules.proofs.checker.Checker.new.Goals as goal
 
 pub returns : goal.returns
-returns c = ?
+returns c = new_stands _ (record {
+  found = refl;
+  clock = refl;
+  first = c.new.ensures.first;
+  second = c.new.ensures.second;
+  third = c.new.ensures.third;
+  words = c.new.ensures.words;
+  arbiter = c.new-2.ensures;
+  beginner = refl;
+  asking = c.new-3.ensures.asking;
+  waiting = c.new-3.ensures.waiting;
+  moving = c.new-3.ensures.moving;
+  last_snoop = c.new-3.ensures.last_snoop;
+  ready = c.new-3.ensures.ready;
+  current = c.new-4.ensures.current;
+  before = c.new-4.ensures.before;
+})
