@@ -350,25 +350,20 @@ fn streamed_in_pieces(rt: HostRuntime) -> Result<(), Fail> {
     Ok(())
 }
 
-/// A sample comes once a greater time stamp counts, and that is with the white space behind it.
+/// A sample comes once a greater time stamp counts, and that is with the white space behind it; so does a fault.
 #[test]
 fn samples_come_with_the_next_time(rt: HostRuntime) -> Result<(), Fail> {
-    let head = joined(rt.alloc(), &[SIMULATOR_HEAD, SIMULATOR_START])?;
+    let start = [SIMULATOR_HEAD, SIMULATOR_START, "#500 1a 0b #500 #1000"];
+    let bytes = joined(rt.alloc(), &start)?;
     let mut reader = Reader::new(rt.alloc())?;
     let mut samples = Vec::new(rt.alloc());
-    assert_eq!(rt; reader.feed(&head, &mut samples), Ok(()));
-    assert_eq!(rt; reader.feed(b"#500 1a 0b #500 #1000", &mut samples), Ok(()));
+    assert_eq!(rt; reader.feed(&bytes, &mut samples), Ok(()));
     assert_eq!(rt; samples.len(), 0);
-    assert_eq!(rt; reader.feed(b" ", &mut samples), Ok(()));
+    assert_eq!(rt; reader.feed(b" 0a #1500 1a 0~", &mut samples), Ok(()));
     assert_eq!(rt; samples.len(), 1);
-    assert_eq!(rt; reader.feed(b"0a #1500 1a 0~", &mut samples), Ok(()));
-    assert_eq!(rt; samples.len(), 1);
-    let place = (head.len() as u64).wrapping_add(34);
-    let stop = VcdStop::Bad(VcdFault {
-        place,
-        cause: VcdCause::Code,
-    });
-    assert_eq!(rt; reader.finish(&mut samples), Err(stop));
+    let stop = reader.finish(&mut samples);
+    let place = (bytes.len() as u64).wrapping_add(13);
+    assert_eq!(rt; stop.err(), bad(place, VcdCause::Code));
     assert_eq!(rt; samples.len(), 1);
     Ok(())
 }
