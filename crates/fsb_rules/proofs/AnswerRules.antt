@@ -1,15 +1,13 @@
 -- The rules of responses and targets, with a new sample.
-use Rattle.std.proofs.Common.{ℕ, zero, suc, ◌+◌, ◌-◌, ◌<◌, ◌≤◌, ◌≡◌, Bool, true, false, cond, not, ◌&&◌, ◌||◌, nat_eq, nat_lt, nat_le, Option, Some, None, is_some, is_none, length, refl, sym, ap, ◌∙◌, arith, inl, inr, subst}
-use Rattle.std.proofs.lemmas.Bool.{cases_Bool, and_parts, and_left, and_right, lt-ltb, le-ltb, lt-leb}
+use Rattle.std.proofs.Common.{ℕ, ◌+◌, ◌<◌, ◌≡◌, Bool, true, false, cond, not, ◌&&◌, nat_le, Option, Some, None, is_some, is_none, length, refl, sym, ap, ◌∙◌, arith}
+use Rattle.std.proofs.lemmas.Bool.{and_parts, and_right, lt-ltb, le-ltb, lt-leb}
 use Rattle.fsb_count.specs.Options.{is_some_and, is_before}
 use Rattle.fsb_signal.specs.declared.lines.TheConstants.Lines.{TRDY, HITM, DEFER}
 use Rattle.fsb_signal.specs.declared.sample.Sample.{Sample}
-use Rattle.fsb_signal.specs.Samples.{has_line, line_at, response_of}
-use Rattle.fsb_trace.specs.At.{Trace, responds_at, response_code_at}
-use Rattle.fsb_trace.specs.Requests.{live_count, live_request_of}
+use Rattle.fsb_signal.specs.Samples.{has_line, response_of}
+use Rattle.fsb_trace.specs.At.{Trace, response_code_at}
+use Rattle.fsb_trace.specs.Requests.{live_count}
 use Rattle.fsb_trace.specs.Snoop.{snoop_end_of}
-use Rattle.fsb_trace.specs.declared.outcome.Outcome.TheVariants.{Failed}
-use Rattle.fsb_trace.specs.Outcome.{response_code_of}
 use Rattle.fsb_trace.specs.Response.{takes, ready_clock_of}
 use Rattle.fsb_trace.specs.Rules.{may_answer, next_response, is_response_early, is_code_for, responds_soundly, has_code_at, is_code_wrong, is_ready_in_time, is_ready_wrongly, is_target_ready_wrong}
 use Rattle.fsb_trace.proofs.Stay.{snoop_end_of-stays, snoop_end_of-clock}
@@ -27,7 +25,7 @@ use Rattle.fsb_rules.specs.declared.checker.Checker.{Checker}
 use Rattle.fsb_rules.specs.Tests.{takes_by, is_code_by, next_by, is_sound, is_ready_wrongly_by, is_ready_late_by}
 use Rattle.fsb_rules.specs.Steps.{is_code_wrong_by, is_target_ready_wrong_by}
 use Rattle.fsb_rules.specs.Checker.{Follows}
-use Rattle.fsb_rules.proofs.QueueFacts.{HasNext, has_next, no_next, takes_by-takes, is_code_by-code}
+use Rattle.fsb_rules.proofs.QueueFacts.{has_next, no_next, takes_by-takes, is_code_by-code}
 
 -- whether a request may respond
 next_cases : (k : Checker) (h : Trace) (b : Bool) → Follows k h → may_answer_next h ≡ b → is_none (next_by k.queue (length h)) ≡ not b
@@ -167,8 +165,12 @@ time_cases h x v s None m o to e =
 ready_wrongly : (k : Checker) (h : Trace) (x : Sample) (v : Trace) → Follows k h → OneMore h x v → is_ready_wrongly_by k.queue (length h) ≡ is_ready_wrongly v (length h) (response_count h)
 unfolding is_ready_wrongly_by is_ready_wrongly
 ready_wrongly k h x v f m =
-    rw (takes_and_may k h x v (may_answer_next h) f m refl, may_answer-new h x v f.queue.snooped m f.orderly f.queue.to,
-      before_cases h x v f.queue.snooped (ready_clock_of h (response_count h)) m f.orderly f.queue.to refl, f.queue.ready) refl
+    rw (
+      takes_and_may k h x v (may_answer_next h) f m refl,
+      may_answer-new h x v f.queue.snooped m f.orderly f.queue.to,
+      before_cases h x v f.queue.snooped (ready_clock_of h (response_count h)) m f.orderly f.queue.to refl,
+      f.queue.ready,
+    ) refl
 
 ready_late : (k : Checker) (h : Trace) (x : Sample) (v : Trace) → Follows k h → OneMore h x v → is_ready_late_by k.queue (length h) ≡ not (is_ready_in_time v (length h) (response_count h))
 unfolding is_ready_late_by is_ready_in_time

@@ -1,34 +1,27 @@
 -- The rule of replies, and of the requests that begin, with a new sample.
-use Rattle.std.proofs.Common.{ℕ, zero, suc, ◌+◌, ◌-◌, ◌/◌, ◌<◌, ◌≤◌, ◌≡◌, Bool, true, false, cond, not, ◌&&◌, ◌||◌, nat_eq, nat_le, nat_lt, Option, Some, None, is_some, is_none, List, length, take, count_by, refl, sym, ap, ◌∙◌, arith, inl, inr, subst}
-use Rattle.std.specs.Option.{option_map, option_and_then}
-use Rattle.std.specs.List.{filter_map, list_any}
-use Rattle.std.proofs.lemmas.Bool.{cases_Bool, cases_lt, and_parts, and_left, and_right, and_from, both_ways, lt-ltb, ltb-true, not-true, not_from_false, false_from_ne_true, eqb-true, eq-eqb}
+use Rattle.std.proofs.Common.{ℕ, ◌/◌, ◌<◌, ◌≡◌, Bool, true, false, cond, not, ◌&&◌, ◌||◌, nat_eq, nat_le, Option, Some, None, is_some, is_none, List, length, count_by, refl, sym, ap, ◌∙◌, arith, subst}
+use Rattle.std.specs.Option.{option_map}
+use Rattle.std.specs.List.{list_any}
+use Rattle.std.proofs.lemmas.Bool.{and_parts, and_from, both_ways, lt-ltb, ltb-true, not-true, false_from_ne_true}
 use Rattle.fsb_count.specs.Options.{is_some_and, is_before}
-use Rattle.fsb_count.specs.Clocks.{any_where, count_where, all_where}
+use Rattle.fsb_count.specs.Clocks.{any_where, count_where}
 use Rattle.fsb_count.proofs.Any.{any_where-at, any_where-off, any_where-found}
 use Rattle.fsb_count.proofs.Nth.{nth_where-found}
-use Rattle.fsb_signal.specs.declared.lines.TheConstants.Lines.{ADS}
-use Rattle.fsb_signal.specs.declared.sample.Sample.{Sample}
-use Rattle.fsb_signal.specs.Samples.{line_at}
 use Rattle.fsb_encode.specs.declared.request.Request.{Request}
-use Rattle.fsb_trace.specs.At.{Trace, line_back, request_at}
+use Rattle.fsb_trace.specs.At.{Trace, request_at}
 use Rattle.fsb_trace.specs.Requests.{is_live, live_count, live_clock_of, live_number_of, live_request_of, is_reply, is_reply_kind, have_same_id}
-use Rattle.fsb_trace.specs.Snoop.{snoop_end_of}
 use Rattle.fsb_trace.specs.Outcome.{response_clock_of, is_deferred}
-use Rattle.fsb_trace.specs.Flight.{reply_clock_of, last_clock_of, is_outstanding}
+use Rattle.fsb_trace.specs.Flight.{reply_clock_of, last_clock_of}
 use Rattle.fsb_trace.specs.Deferral.{is_answered}
 use Rattle.fsb_trace.specs.Rules.{awaits_reply, is_id_taken_by, is_outstanding_of_winner, is_begun_wrongly}
-use Rattle.fsb_trace.specs.Agree.{AgreeTo}
-use Rattle.fsb_trace.proofs.AgreeAt.{AgreeTo-sym, request_at-agree}
+use Rattle.fsb_trace.proofs.AgreeAt.{AgreeTo-sym}
 use Rattle.fsb_trace.proofs.Stay.{snoop_end_of-clock, snoop_end_of-stays, response_clock_of-stays}
 use Rattle.fsb_trace.proofs.StayEnds.{is_deferred-stays, live_request_of-stays}
-use Rattle.fsb_laws.specs.Orderly.{Orderly}
 use Rattle.fsb_laws.specs.Progress.{response_count}
 use Rattle.fsb_laws.proofs.SnoopClockSteps.{live_below_count}
 use Rattle.fsb_laws.proofs.ResponseSteps.{has_answer, response_there, response_counted}
 use Rattle.fsb_laws.proofs.OutstandingSteps.{is_outstanding-end, deferred_response, last_clock_of-deferred, reply_end_of-none}
 use Rattle.fsb_laws.proofs.BeginSteps.{BeginsAfter, same_live_request, same_answered}
-use Rattle.fsb_rules.specs.declared.asked.Asked.{Asked}
 use Rattle.fsb_rules.specs.declared.outstanding.Open.{Open}
 use Rattle.fsb_rules.specs.Asked.{asked_from}
 use Rattle.fsb_rules.specs.OpenTests.{awaits, has_id, is_of_agent, is_wrong_among}
@@ -120,16 +113,19 @@ awaiting_open u h v r i b t =
     let p : ℕ = c.clock in
     let request : live_request_of u i ≡ request_at u p = request_with u i p (request_at u p) c.is_clock refl in
     let not_reply : is_reply (request_at u p) ≡ false =
-        ap is_reply (sym request ∙ old_request u h v r i b deferred) ∙ b.deferrable.no_reply i (still_deferred u h v r i b deferred) in
+    ap is_reply (sym request ∙ old_request u h v r i b deferred) ∙ b.deferrable.no_reply i (still_deferred u h v r i b deferred) in
     let unfinished : is_before (last_clock_of u (live_number_of u p)) (length u) ≡ false =
-        subst (λ j. is_before (last_clock_of u j) (length u) ≡ false) (sym n.2) (no_end_before (length u) u i deferred none) in
+    subst (λ j. is_before (last_clock_of u j) (length u) ≡ false) (sym n.2) (no_end_before (length u) u i deferred none) in
     let is_open_here : is_open u p ≡ true = is_outstanding-end u p n.0 ∙ (rw (n.1, not_reply, unfinished) refl) in
     let s = open_request u h v r p b n.0 is_open_here in
     let id : nat_eq s.0.did r.did ≡ true =
-        sym (same_id s.0 r (live_request_of v i) (request_at v (length u)) (same_live_request u v i b.begins counted ∙ request ∙ s.1) b.request) ∙ parts.1 in
-    (p, n.0, and_from _ _ is_open_here
-      (subst (λ j. is_some_and (option_map (open_from u j p) (request_at u p)) (awaits r.did) ≡ true) (sym n.2)
-      (open_awaits u i p before.0 (request_at u p) s.0 r s.1 deferred back none id)))
+    sym (same_id s.0 r (live_request_of v i) (request_at v (length u)) (same_live_request u v i b.begins counted ∙ request ∙ s.1) b.request) ∙ parts.1 in (
+      p,
+      n.0,
+      and_from _ _ is_open_here
+          (subst (λ j. is_some_and (option_map (open_from u j p) (request_at u p)) (awaits r.did) ≡ true) (sym n.2)
+          (open_awaits u i p before.0 (request_at u p) s.0 r s.1 deferred back none id)),
+    )
 
 -- and the other way round
 deferred_there : (d : Bool) (o : Option ℕ) → is_some (cond d o None) ≡ true → d ≡ true
@@ -168,12 +164,14 @@ open_awaiting u h v r p b l t =
     let snoop = snoop_end_of-stays (length u) u v i e.snoop b.begins.agree (omega (arith, e.before, there.2)) e.is_snoop in
     let clock = snoop_end_of-clock v i e.snoop snoop in
     let response = response_clock_of-stays (length u) u v i there.0 b.begins.agree there.2 there.1 in
-    let request : live_request_of v i ≡ Some s.0 = same_live_request u v i b.begins counted ∙ request_with u i p (Some s.0) (number_of u p l a.0) s.1 in
-    (i, live_below_count v i clock.clock clock.is_clock,
-    await_from v (length u) i (same_deferred u v i b.begins counted ∙ c.0)
-      (same_id s.0 r (live_request_of v i) (request_at v (length u)) request b.request ∙ c.1)
-      (before_from (length u) there.0 (response_clock_of v i) response there.2)
-      (same_answered u v i b.begins counted ∙ ap (λ o. is_some o) none))
+    let request : live_request_of v i ≡ Some s.0 = same_live_request u v i b.begins counted ∙ request_with u i p (Some s.0) (number_of u p l a.0) s.1 in (
+      i,
+      live_below_count v i clock.clock clock.is_clock,
+      await_from v (length u) i (same_deferred u v i b.begins counted ∙ c.0)
+          (same_id s.0 r (live_request_of v i) (request_at v (length u)) request b.request ∙ c.1)
+          (before_from (length u) there.0 (response_clock_of v i) response there.2)
+          (same_answered u v i b.begins counted ∙ ap (λ o. is_some o) none),
+    )
 
 any_iff : (a b : ℕ → Bool) (m n : ℕ) (t : Bool) → any_where b n ≡ t → ((i : ℕ) → i < m → a i ≡ true → (p : ℕ) × (p < n) × (b p ≡ true)) → ((p : ℕ) → p < n → b p ≡ true → (i : ℕ) × (i < m) × (a i ≡ true)) → any_where a m ≡ t
 any_iff a b m n true e f g =

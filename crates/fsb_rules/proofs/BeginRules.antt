@@ -1,46 +1,33 @@
 -- The rule of deferred IDs and outstanding requests, with a new sample.
-use Rattle.std.proofs.Common.{ℕ, zero, suc, ◌+◌, ◌-◌, ◌/◌, ◌<◌, ◌≤◌, ◌≡◌, Bool, true, false, cond, not, ◌&&◌, ◌||◌, nat_eq, nat_le, nat_lt, Option, Some, None, is_some, is_none, List, length, take, count_by, refl, sym, ap, ◌∙◌, arith, inl, inr, subst}
-use Rattle.std.specs.Option.{option_map, option_and_then}
+use Rattle.std.proofs.Common.{ℕ, ◌+◌, ◌/◌, ◌<◌, ◌≤◌, ◌≡◌, Bool, true, false, cond, ◌&&◌, nat_eq, Option, Some, None, length, count_by, refl, sym, ap, ◌∙◌, arith, inl, inr}
+use Rattle.std.specs.Option.{option_map}
 use Rattle.std.specs.List.{filter_map, list_any}
-use Rattle.std.proofs.lemmas.Bool.{cases_Bool, cases_lt, cases_eq, and_parts, and_left, and_right, and_from, both_ways, eq-eqb, ne_eqb, eqb-true, lt-ltb, ltb-true, not-true, false_from_ne_true, true_from_ne_false}
+use Rattle.std.proofs.lemmas.Bool.{cases_eq, and_parts, and_left, eq-eqb, ne_eqb, not-true}
 use Rattle.fsb_count.specs.Options.{is_some_and, is_before}
-use Rattle.fsb_count.specs.Clocks.{AgreeBelow, any_where, count_where, all_where}
-use Rattle.fsb_count.proofs.Any.{any_where-same, any_where-at, any_where-off, any_where-found}
+use Rattle.fsb_count.specs.Clocks.{any_where, count_where, all_where}
+use Rattle.fsb_count.proofs.Any.{any_where-same}
 use Rattle.fsb_count.proofs.Count.{count_where-same}
 use Rattle.fsb_signal.specs.declared.lines.TheConstants.Lines.{ADS}
-use Rattle.fsb_signal.specs.declared.sample.Sample.{Sample}
 use Rattle.fsb_signal.specs.Samples.{line_at}
 use Rattle.fsb_encode.specs.declared.request.Request.{Request}
 use Rattle.fsb_trace.specs.declared.who.Who.{Who}
 use Rattle.fsb_trace.specs.declared.who.Who.TheVariants.{Symmetric, Priority}
-use Rattle.fsb_trace.specs.At.{Trace, line_back, request_at}
+use Rattle.fsb_trace.specs.At.{Trace, request_at}
 use Rattle.fsb_trace.specs.Winner.{winner_at, is_agent, is_same_agent}
-use Rattle.fsb_trace.specs.Requests.{is_live, live_count, live_clock_of, live_number_of, live_request_of, is_reply, is_reply_kind, have_same_id}
-use Rattle.fsb_trace.specs.Outcome.{response_clock_of, is_deferred}
-use Rattle.fsb_trace.specs.Flight.{reply_clock_of, last_clock_of, is_outstanding, outstanding}
-use Rattle.fsb_trace.specs.Deferral.{is_answered}
-use Rattle.fsb_trace.specs.Rules.{is_own_id, is_identified, awaits_reply, is_id_taken_by, is_outstanding_of_winner, is_begun_wrongly, is_outstanding_wrong}
+use Rattle.fsb_trace.specs.Requests.{is_live, live_number_of, is_reply, is_reply_kind, have_same_id}
+use Rattle.fsb_trace.specs.Flight.{last_clock_of, is_outstanding, outstanding}
+use Rattle.fsb_trace.specs.Rules.{is_own_id, is_identified, is_id_taken_by, is_outstanding_of_winner}
 use Rattle.fsb_trace.specs.Agree.{AgreeTo}
-use Rattle.fsb_trace.proofs.AgreeAt.{AgreeTo-sym, winner_at-agree, request_at-agree, line_at-agree}
-use Rattle.fsb_trace.proofs.Stay.{snoop_end_of-clock, snoop_end_of-stays, response_clock_of-stays}
-use Rattle.fsb_trace.proofs.StayEnds.{is_deferred-stays, live_request_of-stays}
-use Rattle.fsb_laws.specs.OneMore.{OneMore}
+use Rattle.fsb_trace.proofs.AgreeAt.{winner_at-agree, request_at-agree, line_at-agree}
 use Rattle.fsb_laws.specs.Orderly.{Orderly}
-use Rattle.fsb_laws.specs.Progress.{response_count}
 use Rattle.fsb_laws.proofs.LiveSteps.{is_live-ads}
-use Rattle.fsb_laws.proofs.SnoopClockSteps.{live_below_count}
-use Rattle.fsb_laws.proofs.ResponseSteps.{has_answer, response_there, response_counted}
-use Rattle.fsb_laws.proofs.OutstandingSteps.{is_outstanding-end, deferred_response, last_clock_of-deferred, reply_end_of-none}
-use Rattle.fsb_laws.proofs.BeginSteps.{BeginsAfter, same_live_request, same_outstanding, same_answered}
-use Rattle.fsb_rules.specs.declared.asked.Asked.{Asked}
-use Rattle.fsb_rules.specs.declared.outstanding.Open.{Open}
-use Rattle.fsb_rules.specs.Asked.{asked_from}
-use Rattle.fsb_rules.specs.OpenTests.{awaits, has_id, is_of_agent, is_wrong_among}
+use Rattle.fsb_laws.proofs.OutstandingSteps.{is_outstanding-end}
+use Rattle.fsb_laws.proofs.BeginSteps.{BeginsAfter, same_outstanding}
+use Rattle.fsb_rules.specs.OpenTests.{has_id, is_of_agent}
 use Rattle.fsb_rules.specs.Outstanding.{open_from, open_at, open_of}
 use Rattle.fsb_rules.specs.Checker.{Decoded, Identified, Deferrable}
 use Rattle.fsb_rules.proofs.Agents.{own_agent}
 use Rattle.fsb_rules.proofs.OpenLists.{list_any-all, count_by-all}
-use Rattle.fsb_rules.proofs.Endings.{number_of}
 use Rattle.fsb_rules.proofs.Prefixes.{HasBefore}
 
 -- what is known where a request begins: u is the history before it, h the history with its first clock, v with both
@@ -140,7 +127,7 @@ agent_cases u h v r p true b f l t =
     let some = b.before.some in
     let ads : line_at ADS h p ≡ true = sym (line_at-agree ADS (length u) u h p b.before.agree l) ∙ is_live-ads u p a.0 in
     let winner : winner_at v p ≡ Some (Symmetric (q.0.did / 16)) =
-        sym (winner_at-agree (length h) h v p b.new (omega arith)) ∙ owned (winner_at h p) q.0 (b.identified.own p q.0 ads q.2) q.3 in
+    sym (winner_at-agree (length h) h v p b.new (omega arith)) ∙ owned (winner_at h p) q.0 (b.identified.own p q.0 ads q.2) q.3 in
     let mine : winner_at v (length u) ≡ Some (Symmetric (r.did / 16)) = owned (winner_at v (length u)) r b.own f in
     rw (same_outstanding u v p b.begins l, winner, mine, q.1)
     (ap (λ c. is_open u p && c) (agent_form u (live_number_of u p) p (r.did / 16) q.0))

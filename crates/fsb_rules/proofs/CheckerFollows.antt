@@ -1,12 +1,11 @@
 -- The checker follows the history with a sample that breaks no rule.
-use Rattle.std.proofs.Common.{ℕ, zero, suc, ◌+◌, ◌-◌, ◌/◌, ◌<◌, ◌≤◌, ◌≡◌, Bool, true, false, cond, not, ◌&&◌, ◌||◌, nat_eq, nat_le, nat_lt, Option, Some, None, is_some, List, [], ◌∷◌, ◌++◌, length, refl, sym, ap, ◌∙◌, arith, inl, inr, subst}
-use Rattle.std.proofs.lemmas.Bool.{cases_Bool, cases_lt, cases_eq, and_parts, both_ways, lt-ltb, le-leb, not-false, ne_eqb}
+use Rattle.std.proofs.Common.{ℕ, ◌+◌, ◌-◌, ◌<◌, ◌≡◌, true, false, cond, not, ◌&&◌, nat_eq, nat_lt, Option, Some, None, [], ◌∷◌, ◌++◌, length, refl, sym, ap, ◌∙◌, arith, inl, inr, subst}
+use Rattle.std.proofs.lemmas.Bool.{cases_Bool, cases_lt, cases_eq, and_parts, both_ways, le-leb, not-false, ne_eqb}
 use Rattle.fsb_count.specs.Options.{is_some_and}
 use Rattle.fsb_count.proofs.Nth.{nth_where-found}
 use Rattle.fsb_signal.specs.declared.lines.TheConstants.Lines.{ADS}
 use Rattle.fsb_signal.specs.declared.sample.Sample.{Sample}
-use Rattle.fsb_signal.specs.Samples.{has_line, line_at, response_of}
-use Rattle.fsb_encode.specs.declared.request.Request.{Request}
+use Rattle.fsb_signal.specs.Samples.{has_line, line_at}
 use Rattle.fsb_trace.specs.declared.who.Who.{Who}
 use Rattle.fsb_trace.specs.At.{Trace, line_back, known_pair, request_at, responds_at, response_code_at}
 use Rattle.fsb_trace.specs.Winner.{winner_at}
@@ -16,21 +15,18 @@ use Rattle.fsb_trace.specs.Rules.{is_identified, is_identity_wrong, is_code_wron
 use Rattle.fsb_trace.proofs.AgreeAt.{winner_at-agree}
 use Rattle.fsb_trace.proofs.RuleSteps.{breaks-14}
 use Rattle.fsb_arbiter.specs.Arbiter.{Stands as ArbiterStands}
-use Rattle.fsb_laws.specs.OneMore.{OneMore, responds}
-use Rattle.fsb_laws.specs.Orderly.{Orderly}
-use Rattle.fsb_laws.specs.Progress.{response_count}
+use Rattle.fsb_laws.specs.OneMore.{OneMore}
 use Rattle.fsb_laws.proofs.OneMoreFacts.{one_more, line_at-old, line_at-past}
-use Rattle.fsb_laws.proofs.ResponseSteps.{next_response-new, is_deferred-old, response_counted, responds_at-new}
+use Rattle.fsb_laws.proofs.ResponseSteps.{next_response-new, response_counted}
 use Rattle.fsb_laws.proofs.ReplySteps.{request_at-last, request_at-old, live_request_of-old}
 use Rattle.fsb_laws.proofs.OutstandingSteps.{deferred_response, newly_deferred}
 use Rattle.fsb_rules.specs.declared.asked.Asked.{Asked}
 use Rattle.fsb_rules.specs.declared.recent.Recent.{Recent}
 use Rattle.fsb_rules.specs.declared.checker.Checker.{Checker}
 use Rattle.fsb_rules.specs.Recent.{RecentStands}
-use Rattle.fsb_rules.specs.Steps.{begun_by, is_begun_wrongly_by}
+use Rattle.fsb_rules.specs.Steps.{begun_by}
 use Rattle.fsb_rules.specs.Checker.{Follows, Decoded, Identified, Deferrable, beginner_of}
 use Rattle.fsb_rules.proofs.Lines.{lines_back-first, lines_back-next, words_back-new, line_back-new}
-use Rattle.fsb_rules.proofs.Prefixes.{back_some}
 use Rattle.fsb_rules.proofs.FirstBroken.{identified_now}
 use Rattle.fsb_rules.proofs.QueueFollows.{QueueGoes, queue_follows, new_back}
 use Rattle.fsb_rules.proofs.OpenStands.{OpenLeft, open_stands}
@@ -68,17 +64,17 @@ decoded_goes k h x v b g =
     let size = g.more.size in
     record {
       there = λ q t l.
-        let old : line_at ADS h q ≡ true = sym (line_at-old ADS h x v q g.more (omega arith)) ∙ t in
-        elim (cases_eq (q + 1) (length h)) [
-          | inl last ↦
-              let d = g.decoded (sym (back_is h q last) ∙ old) in
-              let same : length h - 1 ≡ q = omega arith in
-              (d.0, subst (λ c. request_at v c ≡ Some d.0) same d.1)
-          | inr before ↦
-              let early : q + 1 < length h = omega (arith, before) in
-              let d = g.follows.decoded.there q old early in
-              (d.0, request_at-old h x v q g.more early ∙ d.1)
-        ];
+          let old : line_at ADS h q ≡ true = sym (line_at-old ADS h x v q g.more (omega arith)) ∙ t in
+          elim (cases_eq (q + 1) (length h)) [
+            | inl last ↦
+                let d = g.decoded (sym (back_is h q last) ∙ old) in
+                let same : length h - 1 ≡ q = omega arith in
+                (d.0, subst (λ c. request_at v c ≡ Some d.0) same d.1)
+            | inr before ↦
+                let early : q + 1 < length h = omega (arith, before) in
+                let d = g.follows.decoded.there q old early in
+                (d.0, request_at-old h x v q g.more early ∙ d.1)
+          ];
     }
 
 -- and of their agents
@@ -87,23 +83,23 @@ identified_goes k h x v b g own =
     let size = g.more.size in
     record {
       own = λ q r t e.
-        elim (cases_lt (q + 1) (length h)) [
-          | inl early ↦
-              let old : line_at ADS h q ≡ true = sym (line_at-old ADS h x v q g.more (omega arith)) ∙ t in
-              let before : request_at h q ≡ Some r = sym (request_at-old h x v q g.more early) ∙ e in
-              ap (λ w. is_identified w (Some r)) (sym (winner_at-agree (length h) h v q g.more.agree (omega arith))) ∙ g.follows.identified.own q r old before
-          | inr late ↦
-              elim (cases_eq (q + 1) (length h)) [
-                | inl last ↦
-                    let old : line_at ADS h q ≡ true = sym (line_at-old ADS h x v q g.more (omega arith)) ∙ t in
-                    let same : length h - 1 ≡ q = omega arith in
-                    let back : line_back ADS v (length h) 1 ≡ true = line_back-new ADS h x v 1 g.more (omega arith) ∙ sym (back_is h q last) ∙ old in
-                    subst (λ c. is_identified (winner_at v c) (Some r) ≡ true) same
-                    (identified_now v (length h) r back (subst (λ c. request_at v c ≡ Some r) (sym same) e) own)
-                | inr past ↦
-                    let none = request_at-last v q (omega (arith, late, past)) in absurd (let no : ⊥ = cc in no)
-              ]
-        ];
+          elim (cases_lt (q + 1) (length h)) [
+            | inl early ↦
+                let old : line_at ADS h q ≡ true = sym (line_at-old ADS h x v q g.more (omega arith)) ∙ t in
+                let before : request_at h q ≡ Some r = sym (request_at-old h x v q g.more early) ∙ e in
+                ap (λ w. is_identified w (Some r)) (sym (winner_at-agree (length h) h v q g.more.agree (omega arith))) ∙ g.follows.identified.own q r old before
+            | inr late ↦
+                elim (cases_eq (q + 1) (length h)) [
+                  | inl last ↦
+                      let old : line_at ADS h q ≡ true = sym (line_at-old ADS h x v q g.more (omega arith)) ∙ t in
+                      let same : length h - 1 ≡ q = omega arith in
+                      let back : line_back ADS v (length h) 1 ≡ true = line_back-new ADS h x v 1 g.more (omega arith) ∙ sym (back_is h q last) ∙ old in
+                      subst (λ c. is_identified (winner_at v c) (Some r) ≡ true) same
+                      (identified_now v (length h) r back (subst (λ c. request_at v c ≡ Some r) (sym same) e) own)
+                  | inr past ↦
+                      let none = request_at-last v q (omega (arith, late, past)) in absurd (let no : ⊥ = cc in no)
+                ]
+          ];
     }
 
 -- and no reply among them is Deferred
@@ -134,14 +130,14 @@ deferrable_goes : (k : Checker) (h : Trace) (x : Sample) (v : Trace) (b : Option
 deferrable_goes k h x v b g code =
     record {
       no_reply = λ i t.
-        elim (cases_Bool (is_deferred h i)) [
-          | inl old ↦
-              let d = deferred_response h i old in
-              ap is_reply (live_request_of-old h x v i g.more g.follows.orderly (response_counted h i d.0 d.1)) ∙ g.follows.deferrable.no_reply i old
-          | inr new ↦
-              let n = newly_deferred h x v i g.more g.follows.orderly new t in
-              newly_no_reply v (length h) i n.response t code (next_response-new h x v g.more ∙ sym n.number)
-        ];
+          elim (cases_Bool (is_deferred h i)) [
+            | inl old ↦
+                let d = deferred_response h i old in
+                ap is_reply (live_request_of-old h x v i g.more g.follows.orderly (response_counted h i d.0 d.1)) ∙ g.follows.deferrable.no_reply i old
+            | inr new ↦
+                let n = newly_deferred h x v i g.more g.follows.orderly new t in
+                newly_no_reply v (length h) i n.response t code (next_response-new h x v g.more ∙ sym n.number)
+          ];
     }
 
 -- the parts of the checker

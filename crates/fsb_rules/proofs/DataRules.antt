@@ -1,7 +1,6 @@
 -- The rule of data, with a new sample.
-use Rattle.std.proofs.Common.{ℕ, zero, suc, ◌+◌, ◌<◌, ◌≤◌, ◌≡◌, Bool, true, false, cond, not, ◌&&◌, ◌||◌, nat_lt, Option, Some, None, is_some, is_none, length, refl, sym, ap, ◌∙◌, arith, inl, inr}
-use Rattle.std.specs.Option.{option_map, option_and_then}
-use Rattle.std.proofs.lemmas.Bool.{cases_Bool}
+use Rattle.std.proofs.Common.{ℕ, zero, suc, ◌+◌, ◌≡◌, Bool, true, false, cond, not, nat_lt, Option, Some, None, is_some, is_none, length, refl, sym, ap, ◌∙◌, arith}
+use Rattle.std.specs.Option.{option_map}
 use Rattle.fsb_signal.specs.declared.lines.TheConstants.Lines.{DRDY, DBSY}
 use Rattle.fsb_signal.specs.declared.sample.Sample.{Sample}
 use Rattle.fsb_signal.specs.Samples.{has_line, response_of}
@@ -17,15 +16,13 @@ use Rattle.fsb_laws.proofs.EndFacts.{transfer_parts}
 use Rattle.fsb_laws.proofs.TransferSteps.{transfer_of-kept, transfer_of-begun}
 use Rattle.fsb_laws.proofs.AnswerSteps.{answered_below}
 use Rattle.fsb_rules.specs.declared.asked.Asked.{Asked}
-use Rattle.fsb_rules.specs.declared.asked.Snooped.{Snooped}
 use Rattle.fsb_rules.specs.declared.asked.Moving.{Moving}
 use Rattle.fsb_rules.specs.declared.checker.Checker.{Checker}
-use Rattle.fsb_rules.specs.Asked.{asked_from, asked_of, snooped_with}
 use Rattle.fsb_rules.specs.Queue.{moving_with, moving_after, moving_of}
-use Rattle.fsb_rules.specs.Tests.{next_by, told_of, moving_by, moved_by, after_chunk}
+use Rattle.fsb_rules.specs.Tests.{moving_by, moved_by, after_chunk}
 use Rattle.fsb_rules.specs.Steps.{is_data_wrong_by}
 use Rattle.fsb_rules.specs.Checker.{Follows, Decoded}
-use Rattle.fsb_rules.proofs.QueueFacts.{IsKnown, known_snooped, asked_of-known, HasNext, has_next, told_of-told}
+use Rattle.fsb_rules.proofs.QueueFacts.{known_snooped, asked_of-known, has_next, told_of-told}
 use Rattle.fsb_rules.proofs.Transfers.{is_transferring-end, is_transferring-begun, is_transferring-kept}
 
 -- the chunks of a transfer
@@ -119,5 +116,10 @@ none_some (Some a) = refl
 pub rule_16 : (k : Checker) (h : Trace) (x : Sample) (v : Trace) → Follows k h → OneMore h x v → Orderly v → (responds x ≡ true → may_answer_next h ≡ true) → is_data_wrong_by k (length h) x ≡ is_data_wrong v (length h)
 unfolding is_data_wrong_by is_data_wrong
 rule_16 k h x v f m o may =
-    rw (none_some (moving_by k.queue (length h) x), on_the_way k h x v (responds x) f m o may refl, after_it k h x v f m o may,
-      line_at-new DRDY h x v m, line_at-new DBSY h x v m) refl
+    rw (
+      none_some (moving_by k.queue (length h) x),
+      on_the_way k h x v (responds x) f m o may refl,
+      after_it k h x v f m o may,
+      line_at-new DRDY h x v m,
+      line_at-new DBSY h x v m,
+    ) refl

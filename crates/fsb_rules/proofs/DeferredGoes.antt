@@ -1,12 +1,12 @@
 -- What is left of a Deferred request with a sample that breaks no rule.
-use Rattle.std.proofs.Common.{ℕ, zero, suc, ◌+◌, ◌-◌, ◌<◌, ◌≤◌, ◌≡◌, Bool, true, false, cond, not, ◌&&◌, ◌||◌, nat_eq, nat_lt, Option, Some, None, is_some, length, refl, sym, ap, ◌∙◌, arith, inl, inr, subst}
-use Rattle.std.specs.Option.{option_map, option_and_then}
-use Rattle.std.proofs.lemmas.Bool.{cases_Bool, cases_lt, cases_eq, and_parts, and_left, and_right, and_from, both_ways, eq-eqb, ne_eqb, eqb-true, le-leb, false_from_ne_true}
+use Rattle.std.proofs.Common.{ℕ, ◌-◌, ◌<◌, ◌≡◌, Bool, true, false, cond, not, ◌&&◌, ◌||◌, nat_eq, Option, Some, None, length, refl, sym, ap, ◌∙◌, arith, inl, inr, subst}
+use Rattle.std.specs.Option.{option_and_then}
+use Rattle.std.proofs.lemmas.Bool.{cases_Bool, cases_eq, and_left, and_right, and_from, eq-eqb, ne_eqb, eqb-true, le-leb, false_from_ne_true}
 use Rattle.fsb_count.specs.Options.{is_some_and, is_before, is_at}
 use Rattle.fsb_count.proofs.Nth.{nth_where-one}
-use Rattle.fsb_signal.specs.declared.lines.TheConstants.Lines.{ADS, AERR}
+use Rattle.fsb_signal.specs.declared.lines.TheConstants.Lines.{ADS}
 use Rattle.fsb_signal.specs.declared.sample.Sample.{Sample}
-use Rattle.fsb_signal.specs.Samples.{has_line, line_at}
+use Rattle.fsb_signal.specs.Samples.{line_at}
 use Rattle.fsb_encode.specs.declared.request.Request.{Request}
 use Rattle.fsb_trace.specs.At.{Trace, line_back, request_at}
 use Rattle.fsb_trace.specs.Requests.{is_cancelled, is_live, live_clock_of, live_number_of, live_request_of, is_reply, is_reply_kind, have_same_id}
@@ -14,14 +14,13 @@ use Rattle.fsb_trace.specs.Outcome.{response_clock_of, is_deferred}
 use Rattle.fsb_trace.specs.Response.{end_of}
 use Rattle.fsb_trace.specs.Flight.{is_reply_to, is_live_reply_to, reply_clock_of, last_clock_of}
 use Rattle.fsb_laws.specs.OneMore.{OneMore, cancels}
-use Rattle.fsb_laws.specs.Orderly.{Orderly}
 use Rattle.fsb_laws.specs.Progress.{response_count}
 use Rattle.fsb_laws.specs.Flight.{ends_at}
 use Rattle.fsb_laws.proofs.OneMoreFacts.{line_at-old}
-use Rattle.fsb_laws.proofs.LiveSteps.{is_live-ads, is_cancelled-late, is_live-more}
+use Rattle.fsb_laws.proofs.LiveSteps.{is_cancelled-late, is_live-more}
 use Rattle.fsb_laws.proofs.ResponseSteps.{response_counted, response_there, response_clock_of-old, is_deferred-old}
 use Rattle.fsb_laws.proofs.EndFacts.{end_of-kept}
-use Rattle.fsb_laws.proofs.ReplySteps.{live_request_of-old, reply_clock_of-more, cancelled_clock}
+use Rattle.fsb_laws.proofs.ReplySteps.{live_request_of-old, reply_clock_of-more}
 use Rattle.fsb_laws.proofs.OutstandingSteps.{deferred_response, end_after_clock, finished-deferred, ends_by, live_of_reply}
 use Rattle.fsb_rules.specs.declared.asked.Asked.{Asked}
 use Rattle.fsb_rules.specs.declared.asked.Ended.{Ended}
@@ -114,7 +113,7 @@ reply_cases k h x v b p r o None e =
     reply_none (happens k h x b) (deferred_open h (live_number_of h p) p r) e
     ∙ ap (λ a. option_and_then (λ c. reply_by (deferred_open h (live_number_of h p) p r) c) a) (happens_begun k h x b)
     ∙ begun_reply k h x v b g (live_number_of h p) p r (line_back ADS h (length h) 1) (let l = o.is_open.early in omega arith) refl (own_request k h x v b p r o)
-      (response_clock_of-old h x v (live_number_of h p) g.more (answered k h x v b p r o))
+    (response_clock_of-old h x v (live_number_of h p) g.more (answered k h x v b p r o))
 
 pub reply_goes : (k : Checker) (h : Trace) (x : Sample) (v : Trace) (b : Option Asked) (p : ℕ) (r : Request) (o : IsOpenDeferred k h x v b p r) → reply_after (happens k h x b) (deferred_open h (live_number_of h p) p r) ≡ reply_clock_of v (live_number_of h p)
 reply_goes k h x v b p r o =
@@ -193,15 +192,15 @@ own_end k h x v b p r o a s =
     let early : d.0 < length h = omega (arith, there.2) in
     let kept = end_of-kept h x v i d.0 g.more g.follows.orderly d.2 early in
     false_from_ne_true _ (λ t.
-      let clock : a.asked.clock ≡ p = eqb-true a.asked.clock p t in
-      let below : p < length v = (let e = o.is_open.early in let size = g.more.size in omega arith) in
-      let number = number_of v p below (live_still k h x v b p r o.is_open) in
-      let here : live_clock_of v s.number ≡ Some p = s.clock ∙ ap (λ m. Some m) clock in
-      let one = same_number v s.number (live_number_of v p) p here number in
-      let two : s.number ≡ i = one ∙ sym (number_same k h x v b p r o.is_open) in
-      let end : end_of v i ≡ Some (length h) = subst (λ j. end_of v j ≡ Some (length h)) two s.end in
-      let clash : d.0 ≡ length h = cc in
-      omega arith)
+    let clock : a.asked.clock ≡ p = eqb-true a.asked.clock p t in
+    let below : p < length v = (let e = o.is_open.early in let size = g.more.size in omega arith) in
+    let number = number_of v p below (live_still k h x v b p r o.is_open) in
+    let here : live_clock_of v s.number ≡ Some p = s.clock ∙ ap (λ m. Some m) clock in
+    let one = same_number v s.number (live_number_of v p) p here number in
+    let two : s.number ≡ i = one ∙ sym (number_same k h x v b p r o.is_open) in
+    let end : end_of v i ≡ Some (length h) = subst (λ j. end_of v j ≡ Some (length h)) two s.end in
+    let clash : d.0 ≡ length h = cc in
+    omega arith)
 
 -- what is left of it
 left_none : (f : Bool) (w : Happened) (o n : Open) → is_at w.cancelled o.clock ≡ false → w.ended ≡ None → open_with o o.deferred (reply_after w o) ≡ n → kept_if (f || false) n ≡ option_and_then (open_after w) (kept_if f o)
@@ -233,7 +232,7 @@ deferred_cases k h x v b p r o None e s =
     let i : ℕ = live_number_of h p in
     ap (λ t. kept_if (is_before (last_clock_of h i) (length h) || t) (open_from v i p r)) (none_cases v (length h) (reply_clock_of h i) s)
     ∙ left_none (is_before (last_clock_of h i) (length h)) (happens k h x b) (deferred_open h i p r) (open_from v i p r)
-      (happens_cancelled k h x v b g p ∙ o.is_open.stays) (happens_ended k h x b ∙ e) (new_open k h x v b p r o)
+    (happens_cancelled k h x v b g p ∙ o.is_open.stays) (happens_ended k h x b ∙ e) (new_open k h x v b p r o)
 deferred_cases k h x v b p r o (Some a) e s =
     let g = o.is_open.goes in
     let i : ℕ = live_number_of h p in

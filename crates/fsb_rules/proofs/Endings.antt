@@ -1,8 +1,8 @@
 -- Which request ends with a sample that breaks no rule.
-use Rattle.std.proofs.Common.{ℕ, zero, suc, ◌+◌, ◌-◌, ◌<◌, ◌≤◌, ◌≡◌, Bool, true, false, cond, not, ◌&&◌, nat_eq, nat_lt, Option, Some, None, is_some, length, refl, sym, ap, ◌∙◌, arith, inl, inr, subst, add-zero, add-one}
+use Rattle.std.proofs.Common.{ℕ, ◌+◌, ◌<◌, ◌≤◌, ◌≡◌, Bool, true, false, cond, nat_eq, Option, Some, None, is_some, length, refl, sym, ap, ◌∙◌, arith, inl, inr, subst, add-zero, add-one}
 use Rattle.std.specs.Option.{option_map, option_and_then}
 use Rattle.std.proofs.lemmas.Option.{same_Some}
-use Rattle.std.proofs.lemmas.Bool.{cases_Bool, cases_lt, cases_eq, and_parts, and_from, both_ways, eq-eqb, ne_eqb, eqb-true, false_from_ne_true}
+use Rattle.std.proofs.lemmas.Bool.{cases_lt, cases_eq, and_parts, and_from, both_ways, eq-eqb, ne_eqb, eqb-true, false_from_ne_true}
 use Rattle.fsb_count.specs.Options.{is_some_and, is_at}
 use Rattle.fsb_count.proofs.Nth.{nth_where-at, nth_where-one}
 use Rattle.fsb_signal.specs.declared.lines.TheConstants.Lines.{DRDY}
@@ -11,7 +11,7 @@ use Rattle.fsb_signal.specs.Samples.{has_line, response_of}
 use Rattle.fsb_encode.specs.declared.request.Request.{Request}
 use Rattle.fsb_trace.specs.At.{Trace, request_at}
 use Rattle.fsb_trace.specs.Requests.{is_live, live_clock_of, live_number_of}
-use Rattle.fsb_trace.specs.Outcome.{told_by, outcome_of, does_move, is_deferral, is_deferred, moves_data}
+use Rattle.fsb_trace.specs.Outcome.{told_by, does_move, is_deferral, is_deferred, moves_data}
 use Rattle.fsb_trace.specs.declared.outcome.Outcome.{Outcome}
 use Rattle.fsb_trace.specs.Response.{end_of}
 use Rattle.fsb_trace.specs.Rules.{is_transferring_of}
@@ -21,7 +21,7 @@ use Rattle.fsb_laws.specs.Progress.{SnoopsTo, EndsTo, response_count, transfer_o
 use Rattle.fsb_laws.specs.Flight.{ends_at}
 use Rattle.fsb_laws.proofs.ResponseSteps.{response_count-more, response_there, has_answer, outcome_of-new, moves_data-old}
 use Rattle.fsb_laws.proofs.EndFacts.{ends_to-still, ends_to-moving, transfer_parts, end_of-old, end_of-kept}
-use Rattle.fsb_laws.proofs.TransferSteps.{transfer_of-kept, transfer_of-begun}
+use Rattle.fsb_laws.proofs.TransferSteps.{transfer_of-begun}
 use Rattle.fsb_laws.proofs.AnswerSteps.{may_answer_next-parts, answered_below}
 use Rattle.fsb_laws.proofs.OutstandingSteps.{deferred_still}
 use Rattle.fsb_rules.specs.declared.asked.Asked.{Asked}
@@ -30,10 +30,9 @@ use Rattle.fsb_rules.specs.declared.asked.Moving.{Moving}
 use Rattle.fsb_rules.specs.declared.asked.Snooped.{Snooped}
 use Rattle.fsb_rules.specs.declared.checker.Checker.{Checker}
 use Rattle.fsb_rules.specs.Asked.{asked_from, asked_at, asked_of}
-use Rattle.fsb_rules.specs.Queue.{moving_of, moving_after}
 use Rattle.fsb_rules.specs.Checker.{Follows}
-use Rattle.fsb_rules.specs.Tests.{next_by, told_of, moved_by, after_chunk, ended_at_once, ended_with_chunk, ended_by, moving_by}
-use Rattle.fsb_rules.proofs.QueueFacts.{HasNext, has_next, told_of-told, IsSnooped}
+use Rattle.fsb_rules.specs.Tests.{told_of, moved_by, after_chunk, ended_at_once, ended_with_chunk, ended_by}
+use Rattle.fsb_rules.proofs.QueueFacts.{has_next, told_of-told}
 use Rattle.fsb_rules.proofs.DataRules.{chunks_in, chunks_going, chunks_now, moving_kept}
 use Rattle.fsb_rules.proofs.WaitingGoes.{next_asked, moving_parts, asked_same, snoop_below}
 use Rattle.fsb_rules.proofs.Goes.{Goes}
@@ -208,7 +207,7 @@ chunk_some k h x v b g m None e mo s =
     let r = response_there h p.0 (omega (arith, p.1)) in
     let a = has_answer h r.0 p.0 (f.orderly.timely p.0 r.0 r.1) in
     let asked : asked_of v p.0 ≡ Some m.asked =
-        sym (asked_same k h x v b g p.0 a.snoop (snoop_below h f.queue.snooped p.0 a.snoop f.queue.to a.is_snoop) a.is_snoop) ∙ subst (λ i. asked_of h i ≡ Some m.asked) same q.2 in
+    sym (asked_same k h x v b g p.0 a.snoop (snoop_below h f.queue.snooped p.0 a.snoop f.queue.to a.is_snoop) a.is_snoop) ∙ subst (λ i. asked_of h i ≡ Some m.asked) same q.2 in
     let moves : moves_data v p.0 ≡ true = moves_data-old h x v p.0 g.more f.orderly (omega (arith, p.1)) ∙ moving_moves h p.0 p.2 in
     let count : response_count v ≡ p.0 + 1 = count_same h x v g.more e ∙ p.1 ∙ sym (add-one p.0) in
     ends_alone h x v p.0 _ g.more f.orderly (ends_to-moving h m.chunks p.0 f.orderly old p.1)
@@ -266,9 +265,9 @@ ends_at-some v n p e a l t =
           and_from _ _ t (at_some (end_of v (live_number_of v p)) n (subst (λ i. end_of v i ≡ Some n) number a.end)) ∙ sym (eq-eqb e.asked.clock p same)
       | inr other ↦
           false_from_ne_true _ (λ u.
-            let number = a.alone (live_number_of v p) (at_from _ n (and_parts _ _ u).1) in
-            let c : live_clock_of v a.number ≡ Some p = subst (λ i. live_clock_of v i ≡ Some p) number clock in
-            let d = a.clock in
-            other (let same : e.asked.clock ≡ p = cc in same))
+          let number = a.alone (live_number_of v p) (at_from _ n (and_parts _ _ u).1) in
+          let c : live_clock_of v a.number ≡ Some p = subst (λ i. live_clock_of v i ≡ Some p) number clock in
+          let d = a.clock in
+          other (let same : e.asked.clock ≡ p = cc in same))
           ∙ sym (ne_eqb e.asked.clock p other)
     ]

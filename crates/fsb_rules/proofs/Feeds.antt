@@ -1,10 +1,10 @@
 -- What the checker answers, and what it stands for, after one sample more.
-use Rattle.std.proofs.Common.{ℕ, zero, suc, ◌+◌, ◌-◌, ◌<◌, ◌≤◌, ◌≡◌, Bool, true, false, cond, not, ◌&&◌, Option, Some, None, is_some, is_none, List, [], ◌∷◌, ◌++◌, length, refl, sym, ap, ◌∙◌, arith, inl, inr, subst}
+use Rattle.std.proofs.Common.{ℕ, ◌+◌, ◌-◌, ◌<◌, ◌≤◌, ◌≡◌, Bool, true, false, cond, Option, Some, None, is_some, [], ◌∷◌, ◌++◌, length, refl, sym, ap, ◌∙◌, arith, subst}
 use Rattle.std.specs.Option.{option_map, option_and_then, option_to_list}
 use Rattle.std.specs.List.{filter_map}
 use Rattle.std.proofs.lemmas.Bool.{both_ways}
-use Rattle.fsb_count.specs.Clocks.{AgreeBelow, first_where}
-use Rattle.fsb_count.proofs.First.{first_where-off, first_where-same}
+use Rattle.fsb_count.specs.Clocks.{first_where}
+use Rattle.fsb_count.proofs.First.{first_where-off}
 use Rattle.fsb_signal.specs.declared.sample.Sample.{Sample}
 use Rattle.fsb_signal.specs.declared.lines.TheConstants.Lines.{ADS}
 use Rattle.fsb_signal.specs.Samples.{has_line}
@@ -47,7 +47,7 @@ not_foul h c e = ap (λ o. is_some o) (first_where-off (is_broken h c) 19 (λ j 
 foul_next : (h : Trace) (x : Sample) (v : Trace) → OneMore h x v → verdict h ≡ None → first_where (is_foul v) (length v) ≡ cond (is_foul v (length h)) (Some (length h)) None
 foul_next h x v m e =
     let none : first_where (is_foul v) (length h) ≡ None =
-        first_where-off (is_foul v) (length h) (λ c l. sym (is_foul-agree h v c (AgreeTo-less (length h) (c + 1) h v (omega arith) m.agree)) ∙ not_foul h c e) in
+    first_where-off (is_foul v) (length h) (λ c l. sym (is_foul-agree h v c (AgreeTo-less (length h) (c + 1) h v (omega arith) m.agree)) ∙ not_foul h c e) in
     ap (first_where (is_foul v)) m.size ∙ first_where-next (is_foul v) (length h) none
 
 next_cases : (v : Trace) (n : ℕ) (o : Option ℕ) → least_rule v n ≡ o → first_where (is_foul v) (length v) ≡ cond (is_some o) (Some n) None → verdict v ≡ option_map {U = ℕ × ℕ} (λ j. (n, j)) o
@@ -161,9 +161,9 @@ outstanding_room k h x b winner f t =
     let g = goes_on k h x (h ++ x ∷ []) follows m u in
     let begun = begun_of k h x b winner None f in
     let room = open_room k h x (h ++ x ∷ []) (begun_by k (length h) x) g (own_unbroken (h ++ x ∷ []) (length h) u) (calm k h x (h ++ x ∷ []) follows m u)
-      (sym (ap (λ o. is_some (option_and_then (λ a. open_begun a) o)) begun) ∙ t) in
+    (sym (ap (λ o. is_some (option_and_then (λ a. open_begun a) o)) begun) ∙ t) in
     let same : happened_by k (length h) x (begun_by k (length h) x) ≡ happened_by k k.clock x b =
-        sym (ap (λ n. happened_by k n x b) (clock_of k h x b winner None f) ∙ ap (happened_by k (length h) x) begun) in
+    sym (ap (λ n. happened_by k n x b) (clock_of k h x b winner None f) ∙ ap (happened_by k (length h) x) begun) in
     subst (λ w. length (filter_map (open_after w) k.outstanding.current.items) < 16) same room
 
 -- what the code leaves at its clock n

@@ -1,30 +1,26 @@
 -- The checker's least broken rule is the trace's.
-use Rattle.std.proofs.Common.{ℕ, zero, suc, ◌+◌, ◌-◌, ◌/◌, ◌<◌, ◌≤◌, ◌≡◌, Bool, true, false, cond, not, ◌&&◌, ◌||◌, nat_le, nat_lt, Option, Some, None, is_some, is_none, List, length, take, refl, sym, ap, ◌∙◌, arith, inl, inr, below_more, subst}
-use Rattle.std.proofs.lemmas.Bool.{cases_Bool, cases_eq, and_parts, and_left, or_parts, both_ways, lt-ltb, not-false}
+use Rattle.std.proofs.Common.{ℕ, ◌+◌, ◌-◌, ◌<◌, ◌≡◌, Bool, true, false, cond, not, ◌&&◌, ◌||◌, nat_lt, Option, Some, None, length, take, refl, sym, ap, ◌∙◌, arith, inl, inr, subst}
+use Rattle.std.proofs.lemmas.Bool.{cases_eq, or_parts, lt-ltb, not-false}
 use Rattle.std.proofs.lemmas.List.{take_all}
 use Rattle.fsb_count.specs.Options.{is_some_and}
-use Rattle.fsb_count.specs.Clocks.{first_where}
-use Rattle.fsb_count.proofs.First.{first_where-at, first_where-off, first_where-none}
-use Rattle.fsb_signal.specs.declared.lines.TheConstants.Lines.{ADS, AERR, BNR, DRDY}
+use Rattle.fsb_count.proofs.First.{first_where-at, first_where-off}
+use Rattle.fsb_signal.specs.declared.lines.TheConstants.Lines.{ADS}
 use Rattle.fsb_signal.specs.declared.sample.Sample.{Sample}
-use Rattle.fsb_signal.specs.Samples.{has_line, has_known_lines, is_known_word, line_at}
+use Rattle.fsb_signal.specs.Samples.{has_line, line_at}
 use Rattle.fsb_encode.specs.declared.request.Request.{Request}
-use Rattle.fsb_trace.specs.declared.who.Who.{Who}
 use Rattle.fsb_trace.specs.At.{Trace, line_back, request_at}
 use Rattle.fsb_trace.specs.Winner.{winner_at}
 use Rattle.fsb_trace.specs.Rules.{breaks, is_request_too_soon, is_code_unlawful, is_identified, is_identity_wrong, is_response_early, is_outstanding_wrong, is_begun_wrongly}
 use Rattle.fsb_trace.specs.Verdict.{is_broken, least_rule}
 use Rattle.fsb_trace.proofs.RuleSteps.{breaks-none, breaks-1, breaks-2, breaks-3, breaks-4, breaks-5, breaks-6, breaks-7, breaks-8, breaks-9, breaks-10, breaks-11, breaks-12, breaks-13, breaks-14, breaks-15, breaks-16, breaks-17, breaks-18}
-use Rattle.fsb_laws.specs.OneMore.{OneMore, responds}
-use Rattle.fsb_laws.specs.Orderly.{Spaced, Orderly}
-use Rattle.fsb_laws.specs.Progress.{may_answer_next}
+use Rattle.fsb_laws.specs.OneMore.{OneMore}
+use Rattle.fsb_laws.specs.Orderly.{Orderly}
 use Rattle.fsb_laws.proofs.OneMoreFacts.{line_at-new}
 use Rattle.fsb_laws.proofs.OrderlySteps.{spaced-more, orderly-more}
 use Rattle.fsb_rules.specs.declared.asked.Asked.{Asked}
 use Rattle.fsb_rules.specs.declared.checker.Checker.{Checker}
 use Rattle.fsb_rules.specs.Asked.{asked_from}
 use Rattle.fsb_rules.specs.OpenTests.{is_wrong_among}
-use Rattle.fsb_rules.specs.Outstanding.{open_of}
 use Rattle.fsb_rules.specs.Steps.{begun_by, is_begun_wrongly_by, later_broken, first_broken}
 use Rattle.fsb_rules.specs.Checker.{Follows}
 use Rattle.fsb_rules.proofs.Lines.{line_back-new}
@@ -32,7 +28,7 @@ use Rattle.fsb_rules.proofs.StartRules.{rule_1, rule_2, rule_3, rule_4, rule_5, 
 use Rattle.fsb_rules.proofs.SnoopRules.{rule_11, rule_12}
 use Rattle.fsb_rules.proofs.AnswerRules.{rule_13, rule_14, rule_15, timely}
 use Rattle.fsb_rules.proofs.DataRules.{rule_16}
-use Rattle.fsb_rules.proofs.Prefixes.{HasBefore, has_before, begins_after, back_some}
+use Rattle.fsb_rules.proofs.Prefixes.{has_before, begins_after, back_some}
 use Rattle.fsb_rules.proofs.BeginRules.{Begun}
 use Rattle.fsb_rules.proofs.AwaitRules.{wrong_begun}
 
@@ -109,7 +105,7 @@ begun_record k h x v r f m o t e own =
       deferrable = f.deferrable;
       request = subst (λ q. request_at v q ≡ Some r) (sym b.size) e;
       own = subst (λ q. is_identified (winner_at v q) (Some r) ≡ true) (sym b.size)
-        (identified_now v (length h) r (line_back-new ADS h x v 1 m (omega arith) ∙ t) e own);
+          (identified_now v (length h) r (line_back-new ADS h x v 1 m (omega arith) ∙ t) e own);
     }
 
 wrong_some : (k : Checker) (b : Option Asked) (a : Asked) → b ≡ Some a → is_begun_wrongly_by k b ≡ is_wrong_among k.outstanding.before.items a

@@ -1,5 +1,5 @@
 -- A sample that breaks no rule, with what this says of it.
-use Rattle.std.proofs.Common.{ℕ, ◌+◌, ◌-◌, ◌<◌, ◌≡◌, true, false, Option, Some, None, length}
+use Rattle.std.proofs.Common.{◌-◌, ◌<◌, ◌≡◌, true, false, Option, Some, None, length}
 use Rattle.fsb_signal.specs.declared.lines.TheConstants.Lines.{ADS, AERR, TRDY}
 use Rattle.fsb_signal.specs.declared.sample.Sample.{Sample}
 use Rattle.fsb_signal.specs.Samples.{has_line}

@@ -1,10 +1,9 @@
 -- The lines of the last clocks.
-use Rattle.std.proofs.Common.{ℕ, zero, suc, ◌+◌, ◌-◌, ◌<◌, ◌≤◌, ◌≡◌, Bool, true, false, cond, ◌&&◌, nat_le, Option, Some, None, List, [], ◌∷◌, ◌++◌, length, slice_get, refl, sym, ap, ◌∙◌, arith, inl, inr}
+use Rattle.std.proofs.Common.{ℕ, ◌+◌, ◌-◌, ◌<◌, ◌≡◌, Bool, true, false, nat_le, Option, Some, None, length, slice_get, refl, sym, arith}
 use Rattle.std.specs.Option.{option_map, option_and_then, option_map_or}
-use Rattle.std.proofs.lemmas.Bool.{cases_Bool, cases_lt, leb-true, leb-false, le-leb, lt-leb}
+use Rattle.std.proofs.lemmas.Bool.{leb-true, leb-false, le-leb, lt-leb}
 use Rattle.fsb_count.specs.Options.{is_some_and}
 use Rattle.fsb_signal.specs.declared.lines.Lines.{Lines}
-use Rattle.fsb_signal.specs.declared.lines.TheConstants.Lines.{ADS}
 use Rattle.fsb_signal.specs.declared.sample.Sample.{Sample}
 use Rattle.fsb_signal.specs.Samples.{has_line, line_at}
 use Rattle.fsb_encode.specs.declared.request.Pair.{Pair}
@@ -15,8 +14,7 @@ use Rattle.fsb_arbiter.specs.Order.{is_in}
 use Rattle.fsb_arbiter.specs.Arbiter.{lines_back}
 use Rattle.fsb_laws.specs.OneMore.{OneMore}
 use Rattle.fsb_laws.proofs.OneMoreFacts.{line_at-old}
-use Rattle.fsb_rules.specs.declared.recent.Recent.{Recent}
-use Rattle.fsb_rules.specs.Recent.{RecentStands, words_back}
+use Rattle.fsb_rules.specs.Recent.{words_back}
 use Rattle.fsb_rules.specs.Tests.{is_among, request_by}
 
 -- a line among those of a clock back is asserted there

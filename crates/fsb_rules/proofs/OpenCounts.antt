@@ -1,9 +1,8 @@
 -- How many outstanding requests there are.
-use Rattle.std.proofs.Common.{ℕ, zero, suc, ◌+◌, ◌-◌, ◌/◌, ◌*◌, ◌<◌, ◌≤◌, ◌≡◌, Bool, true, false, cond, not, ◌&&◌, ◌||◌, nat_eq, nat_lt, Option, Some, None, List, [], ◌∷◌, ◌++◌, length, count_by, refl, sym, ap, ◌∙◌, arith, inl, inr}
+use Rattle.std.proofs.Common.{ℕ, zero, suc, ◌+◌, ◌/◌, ◌<◌, ◌≤◌, ◌≡◌, Bool, true, false, cond, nat_eq, nat_lt, Option, Some, None, List, [], ◌∷◌, length, count_by, refl, sym, ap, ◌∙◌, arith}
 use Rattle.std.specs.List.{filter_map, list_all}
-use Rattle.std.specs.Option.{option_and_then, option_to_list}
-use Rattle.std.proofs.lemmas.Bool.{cases_Bool, and_parts, and_from, ltb-true}
-use Rattle.std.proofs.lemmas.Option.{same_Some, cond_some}
+use Rattle.std.proofs.lemmas.Bool.{and_parts, and_from, ltb-true}
+use Rattle.std.proofs.lemmas.Option.{same_Some}
 use Rattle.fsb_count.specs.Options.{is_at}
 use Rattle.fsb_rules.specs.declared.asked.Ended.{Ended}
 use Rattle.fsb_rules.specs.declared.outstanding.Open.{Open}
@@ -64,7 +63,7 @@ left_cases w a o xs (Some p) e ih =
     let more = count_cons (is_of_agent a) o xs in
     let same : cond (is_of_agent a p) 1 0 ≡ cond (is_of_agent a o) 1 0 = ap (λ b. cond {A = ℕ} b 1 0) (same_agent a o p (keeps_id w o p e)) in
     let left : count_by (is_of_agent a) (filter_map (open_after w) (o ∷ xs)) ≡ cond (is_of_agent a p) 1 0 + count_by (is_of_agent a) (filter_map (open_after w) xs) =
-        ap (count_by (is_of_agent a)) (filter_some w o p xs e) ∙ count_cons (is_of_agent a) p (filter_map (open_after w) xs) in
+    ap (count_by (is_of_agent a)) (filter_some w o p xs e) ∙ count_cons (is_of_agent a) p (filter_map (open_after w) xs) in
     omega (arith, more, left, same, ih)
 
 -- no more of an agent are left than there were

@@ -1,9 +1,8 @@
 -- The outstanding requests follow the history with a sample that breaks no rule.
-use Rattle.std.proofs.Common.{ℕ, zero, suc, ◌+◌, ◌-◌, ◌<◌, ◌≤◌, ◌≡◌, Bool, true, false, cond, not, ◌&&◌, ◌||◌, Option, Some, None, List, [], ◌∷◌, ◌++◌, length, refl, sym, ap, ◌∙◌, arith, inl, inr, subst}
-use Rattle.std.specs.Option.{option_map, option_and_then, option_to_list}
+use Rattle.std.proofs.Common.{ℕ, zero, suc, ◌+◌, ◌-◌, ◌<◌, ◌≤◌, ◌≡◌, Bool, true, false, cond, not, ◌&&◌, Option, Some, None, [], ◌++◌, length, refl, sym, ap, ◌∙◌, arith, inl, inr, subst}
+use Rattle.std.specs.Option.{option_and_then, option_to_list}
 use Rattle.std.specs.List.{filter_map}
-use Rattle.std.proofs.lemmas.Bool.{cases_Bool, cases_lt, and_parts, and_left, and_right, both_ways, le-leb, lt-leb, false_from_ne_true}
-use Rattle.std.proofs.lemmas.List.{append-nil}
+use Rattle.std.proofs.lemmas.Bool.{cases_Bool, and_left, and_right, le-leb, lt-leb, false_from_ne_true}
 use Rattle.fsb_count.specs.Options.{is_some_and, is_before}
 use Rattle.fsb_count.specs.Clocks.{all_where}
 use Rattle.fsb_signal.specs.declared.lines.TheConstants.Lines.{ADS}
@@ -11,14 +10,14 @@ use Rattle.fsb_signal.specs.declared.sample.Sample.{Sample}
 use Rattle.fsb_signal.specs.Samples.{line_at}
 use Rattle.fsb_encode.specs.declared.request.Request.{Request}
 use Rattle.fsb_trace.specs.At.{Trace, line_back, request_at}
-use Rattle.fsb_trace.specs.Requests.{is_cancelled, is_live, live_clock_of, live_number_of, is_reply, is_reply_kind}
+use Rattle.fsb_trace.specs.Requests.{is_live, live_number_of, is_reply, is_reply_kind}
 use Rattle.fsb_trace.specs.Outcome.{response_clock_of, is_deferred}
 use Rattle.fsb_trace.specs.Response.{end_of}
 use Rattle.fsb_trace.specs.Flight.{last_clock_of, is_outstanding, outstanding}
 use Rattle.fsb_laws.specs.OneMore.{OneMore, cancels}
 use Rattle.fsb_laws.specs.Orderly.{Orderly}
 use Rattle.fsb_laws.proofs.OneMoreFacts.{line_at-old}
-use Rattle.fsb_laws.proofs.LiveSteps.{is_live-ads, is_cancelled-late, is_live-more, live_number_of-more}
+use Rattle.fsb_laws.proofs.LiveSteps.{is_live-ads, is_cancelled-late, is_live-more}
 use Rattle.fsb_laws.proofs.ResponseSteps.{response_there, response_counted}
 use Rattle.fsb_laws.proofs.FlightSteps.{ended_known}
 use Rattle.fsb_laws.proofs.ReplySteps.{request_at-last, request_at-old}
@@ -33,7 +32,7 @@ use Rattle.fsb_rules.proofs.OpenLists.{filter_all-more, filter_all-none, filter_
 use Rattle.fsb_rules.proofs.Endings.{number_of}
 use Rattle.fsb_rules.proofs.Goes.{Goes}
 use Rattle.fsb_rules.proofs.OpenGoes.{IsOpen, kept_if, happens, happens_cancelled, cancelled_none, outstanding_is, open_plain, plain_open, plain_goes, number_same, live_still}
-use Rattle.fsb_rules.proofs.DeferredGoes.{IsOpenDeferred, deferred_goes}
+use Rattle.fsb_rules.proofs.DeferredGoes.{deferred_goes}
 
 -- a request that is not live, or is a reply, is not outstanding
 dead_off : (w : Trace) (p : ℕ) → p < length w → is_live w p ≡ false → is_outstanding w (length w) p ≡ false
@@ -81,7 +80,7 @@ is_cancelled_now k h x v b g p r l t c e n =
     let dead : is_live v p ≡ false = is_live-more h x v p g.more (omega arith) ∙ and_right _ _ (ap not c) in
     ap (λ u. cond u (open_at v p) None) (dead_off v p (omega arith) dead)
     ∙ none_left (is_before (last_clock_of h i) (length h)) (open_from h i p r) (open_after (happens k h x b))
-      (cancelled_none (happens k h x b) (open_from h i p r) (happens_cancelled k h x v b g (open_from h i p r).clock ∙ ap (cancels x (length h)) (clock_from h i p r) ∙ c))
+    (cancelled_none (happens k h x b) (open_from h i p r) (happens_cancelled k h x v b g (open_from h i p r).clock ∙ ap (cancels x (length h)) (clock_from h i p r) ∙ c))
     ∙ ap (option_and_then (open_after (happens k h x b))) (sym (outstanding_is h p r (omega arith) t e n))
 
 live_cases : (k : Checker) (h : Trace) (x : Sample) (v : Trace) (b : Option Asked) (g : Goes k h x v b) (p : ℕ) (r : Request) → p + 1 < length h → is_live h p ≡ true → request_at h p ≡ Some r → FoundGoes k h x v b p
@@ -133,12 +132,12 @@ not_finished w m o l late t =
     let i : ℕ = live_number_of w m in
     let number = number_of w m l t in
     let plain : is_deferred w i ≡ false = false_from_ne_true _ (λ d.
-      let r = deferred_response w i d in
-      let c = end_after_clock w i r.0 o r.2 in
-      let a = c.1 in
-      let same : c.0 ≡ m = cc in
-      let within = response_within w i r.0 r.1 in
-      omega (arith, c.2)) in
+    let r = deferred_response w i d in
+    let c = end_after_clock w i r.0 o r.2 in
+    let a = c.1 in
+    let same : c.0 ≡ m = cc in
+    let within = response_within w i r.0 r.1 in
+    omega (arith, c.2)) in
     (plain, ap (λ c. is_before c (length w)) (last_clock_of-plain w i plain) ∙ ended_known w m (end_of w i) o l t late refl)
 
 pub begun_plain : (q : ℕ) (r : Request) (t : Bool) → is_reply_kind r.kind ≡ t → open_begun (asked_from q r) ≡ cond t None (Some (plain_open q r.did))
@@ -209,9 +208,9 @@ goes_cases k h x v b g (suc m) e =
     open_form v (m + 1) (omega arith)
     ∙ filter_all-more (is_outstanding v (length v)) (open_at v) m
     ∙ ap (λ xs. xs ++ option_to_list (cond (is_outstanding v (length v) m) (open_at v m) None))
-      (filter_all-left (is_outstanding v (length v)) (is_outstanding h (length h)) (open_at v) (open_at h) (open_after (happens k h x b)) m
-      (λ p l. found_goes k h x v b g p (omega arith))
-      ∙ ap (filter_map (open_after (happens k h x b))) (sym (open_form h m n)))
+    (filter_all-left (is_outstanding v (length v)) (is_outstanding h (length h)) (open_at v) (open_at h) (open_after (happens k h x b)) m
+    (λ p l. found_goes k h x v b g p (omega arith))
+    ∙ ap (filter_map (open_after (happens k h x b))) (sym (open_form h m n)))
     ∙ ap (λ o. filter_map (open_after (happens k h x b)) (open_of h) ++ option_to_list o) (last_cases k h x v b g m (line_back ADS h (length h) 1) e refl)
 
 pub open_goes : (k : Checker) (h : Trace) (x : Sample) (v : Trace) (b : Option Asked) → Goes k h x v b → open_of v ≡ filter_map (open_after (happens k h x b)) (open_of h) ++ option_to_list (option_and_then (λ a. open_begun a) b)

@@ -1,34 +1,28 @@
 -- What is left of an outstanding request with a sample that breaks no rule.
-use Rattle.std.proofs.Common.{ℕ, zero, suc, ◌+◌, ◌-◌, ◌<◌, ◌≤◌, ◌≡◌, Bool, true, false, cond, not, ◌&&◌, ◌||◌, nat_eq, nat_lt, Option, Some, None, is_some, length, refl, sym, ap, ◌∙◌, arith, inl, inr, subst}
-use Rattle.std.specs.Option.{option_map, option_and_then}
-use Rattle.std.proofs.lemmas.Bool.{cases_Bool, cases_lt, cases_eq, and_parts, and_left, and_right, and_from, both_ways, eq-eqb, ne_eqb, eqb-true, le-ltb, leb-true, false_from_ne_true, le-leb}
+use Rattle.std.proofs.Common.{ℕ, ◌+◌, ◌-◌, ◌<◌, ◌≤◌, ◌≡◌, Bool, true, false, cond, not, ◌&&◌, ◌||◌, nat_eq, Option, Some, None, length, refl, sym, ap, ◌∙◌, arith, inl, inr, subst}
+use Rattle.std.specs.Option.{option_and_then}
+use Rattle.std.proofs.lemmas.Bool.{cases_Bool, cases_eq, and_parts, and_right, eq-eqb, ne_eqb, eqb-true, leb-true}
 use Rattle.fsb_count.specs.Options.{is_some_and, is_before, is_at}
 use Rattle.fsb_count.proofs.Nth.{nth_where-one}
 use Rattle.fsb_signal.specs.declared.lines.TheConstants.Lines.{ADS, AERR}
 use Rattle.fsb_signal.specs.declared.sample.Sample.{Sample}
-use Rattle.fsb_signal.specs.Samples.{has_line, line_at}
+use Rattle.fsb_signal.specs.Samples.{has_line}
 use Rattle.fsb_encode.specs.declared.request.Request.{Request}
 use Rattle.fsb_trace.specs.At.{Trace, line_back, request_at}
-use Rattle.fsb_trace.specs.Requests.{is_live, live_clock_of, live_number_of, live_request_of, is_reply, is_reply_kind, have_same_id}
+use Rattle.fsb_trace.specs.Requests.{is_live, live_clock_of, live_number_of, is_reply}
 use Rattle.fsb_trace.specs.Outcome.{response_clock_of, is_deferred}
 use Rattle.fsb_trace.specs.Response.{end_of}
-use Rattle.fsb_trace.specs.Flight.{is_reply_to, is_live_reply_to, reply_clock_of, last_clock_of, is_outstanding}
-use Rattle.fsb_laws.specs.OneMore.{OneMore, cancels}
-use Rattle.fsb_laws.specs.Orderly.{Orderly}
-use Rattle.fsb_laws.specs.Progress.{response_count}
+use Rattle.fsb_trace.specs.Flight.{reply_clock_of, last_clock_of, is_outstanding}
+use Rattle.fsb_laws.specs.OneMore.{cancels}
 use Rattle.fsb_laws.specs.Flight.{ends_at}
-use Rattle.fsb_laws.proofs.OneMoreFacts.{line_at-old}
-use Rattle.fsb_laws.proofs.LiveSteps.{is_live-ads, is_cancelled-late, is_live-more, live_number_of-more}
-use Rattle.fsb_laws.proofs.ResponseSteps.{response_counted, response_there, response_clock_of-old, is_deferred-old}
-use Rattle.fsb_laws.proofs.EndFacts.{end_past, end_of-kept}
-use Rattle.fsb_laws.proofs.ReplySteps.{live_request_of-old, reply_clock_of-more, reply_clock_of-fresh}
-use Rattle.fsb_laws.proofs.OutstandingSteps.{is_outstanding-end, deferred_response, end_after_clock, finished-plain, IsNewlyDeferred, newly_deferred, finished-deferred, last_clock_of-plain, ends_by}
+use Rattle.fsb_laws.proofs.LiveSteps.{is_live-ads, is_live-more, live_number_of-more}
+use Rattle.fsb_laws.proofs.EndFacts.{end_past}
+use Rattle.fsb_laws.proofs.OutstandingSteps.{is_outstanding-end, finished-plain, IsNewlyDeferred, newly_deferred, last_clock_of-plain}
 use Rattle.fsb_rules.specs.declared.asked.Asked.{Asked}
 use Rattle.fsb_rules.specs.declared.asked.Ended.{Ended}
 use Rattle.fsb_rules.specs.declared.checker.Checker.{Checker}
 use Rattle.fsb_rules.specs.declared.outstanding.Open.{Open}
 use Rattle.fsb_rules.specs.declared.outstanding.Happened.{Happened}
-use Rattle.fsb_rules.specs.Asked.{asked_from}
 use Rattle.fsb_rules.specs.Tests.{ended_by}
 use Rattle.fsb_rules.specs.OpenTests.{reply_by, reply_after, open_with, open_after_end, open_after}
 use Rattle.fsb_rules.specs.Outstanding.{open_from, open_at}
@@ -192,9 +186,9 @@ plain_one_ends k h x v b p r a o f d e s =
     let finished = finished-plain h x v i g.more g.follows.orderly f d ∙ ap (λ t. is_before (last_clock_of h i) (length h) || t) ends in
     ap (λ t. kept_if t (open_from v i p r)) finished
     ∙ plain_kept_some (is_before (last_clock_of h i) (length h)) (nat_eq a.asked.clock p) (happens k h x b) p r.did (open_from v i p r) a
-      (happens_cancelled k h x v b g p ∙ o.stays) (happens_ended k h x b ∙ e) refl
-      (λ t. sym (ended_deferral v (length h) p a s below live t) ∙ subst (λ j. is_deferred v j ≡ false) (number_same k h x v b p r o) d)
-      (open_plain v i p r d)
+    (happens_cancelled k h x v b g p ∙ o.stays) (happens_ended k h x b ∙ e) refl
+    (λ t. sym (ended_deferral v (length h) p a s below live t) ∙ subst (λ j. is_deferred v j ≡ false) (number_same k h x v b p r o) d)
+    (open_plain v i p r d)
     ∙ ap (λ c. option_and_then (open_after (happens k h x b)) (kept_if (is_before (last_clock_of h i) (length h)) c)) (sym (open_plain h i p r f))
 
 newly_form : (h : Trace) (v : Trace) (i p : ℕ) (r : Request) → is_deferred v i ≡ true → IsNewlyDeferred h v i → open_from v i p r ≡ record { clock = p; did = r.did; deferred = Some (length h); reply = None }

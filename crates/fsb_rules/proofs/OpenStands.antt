@@ -1,9 +1,9 @@
 -- The outstanding requests stand for the history with one sample more.
-use Rattle.std.proofs.Common.{ℕ, zero, suc, ◌+◌, ◌-◌, ◌/◌, ◌<◌, ◌≤◌, ◌≡◌, Bool, true, false, cond, not, ◌&&◌, ◌||◌, nat_eq, nat_le, nat_lt, Option, Some, None, is_some, List, [], ◌∷◌, ◌++◌, length, take, count_by, refl, sym, ap, ◌∙◌, arith, inl, inr, subst}
+use Rattle.std.proofs.Common.{ℕ, ◌+◌, ◌-◌, ◌/◌, ◌<◌, ◌≤◌, ◌≡◌, Bool, true, false, cond, ◌||◌, nat_le, nat_lt, Option, Some, None, is_some, List, [], ◌∷◌, ◌++◌, length, take, count_by, refl, sym, ap, ◌∙◌, arith, inl, inr, subst}
 use Rattle.std.specs.List.{filter_map, list_any, list_all}
-use Rattle.std.specs.Option.{option_map, option_and_then, option_to_list}
+use Rattle.std.specs.Option.{option_and_then, option_to_list}
 use Rattle.std.proofs.lemmas.Option.{same_Some}
-use Rattle.std.proofs.lemmas.Bool.{cases_Bool, cases_eq, and_from, or_parts, both_ways, eq-eqb, ne_eqb, lt-ltb, leb-false}
+use Rattle.std.proofs.lemmas.Bool.{cases_eq, and_from, or_parts, ne_eqb, lt-ltb, leb-false}
 use Rattle.std.proofs.lemmas.List.{append-nil, take_at, length-append}
 use Rattle.std.proofs.lemmas.List.Folds.{list_all-append}
 use Rattle.fsb_count.specs.Options.{is_some_and}
@@ -12,18 +12,17 @@ use Rattle.fsb_signal.specs.declared.sample.Sample.{Sample}
 use Rattle.fsb_signal.specs.Samples.{has_line}
 use Rattle.fsb_encode.specs.declared.request.Request.{Request}
 use Rattle.fsb_trace.specs.declared.who.Who.{Who}
-use Rattle.fsb_trace.specs.declared.who.Who.TheVariants.{Symmetric, Priority}
-use Rattle.fsb_trace.specs.At.{Trace, line_back, request_at}
+use Rattle.fsb_trace.specs.declared.who.Who.TheVariants.{Priority}
+use Rattle.fsb_trace.specs.At.{Trace, line_back}
 use Rattle.fsb_trace.specs.Winner.{winner_at, is_agent}
 use Rattle.fsb_trace.specs.Requests.{is_reply_kind, is_reply}
 use Rattle.fsb_trace.specs.Rules.{is_identified, is_identity_wrong, is_own_id}
-use Rattle.fsb_laws.specs.OneMore.{OneMore}
 use Rattle.fsb_rules.specs.declared.asked.Asked.{Asked}
 use Rattle.fsb_rules.specs.declared.checker.Checker.{Checker}
 use Rattle.fsb_rules.specs.declared.outstanding.Open.{Open}
 use Rattle.fsb_rules.specs.declared.outstanding.Outstanding.{Outstanding}
 use Rattle.fsb_rules.specs.Asked.{asked_from}
-use Rattle.fsb_rules.specs.OpenTests.{open_after, open_begun, is_of_agent, has_id, awaits, is_wrong_among}
+use Rattle.fsb_rules.specs.OpenTests.{open_after, open_begun, is_of_agent, has_id, is_wrong_among}
 use Rattle.fsb_rules.specs.Outstanding.{open_of, OutstandingStands}
 use Rattle.fsb_rules.specs.Steps.{is_begun_wrongly_by}
 use Rattle.fsb_rules.proofs.Agents.{winner_four, own_agent}
@@ -86,7 +85,7 @@ opens_cases k h x v b o true g own wrong t e =
       own = own_below o.did agent;
       back = t;
       fewer = subst (λ n. count_by (is_of_agent (n / 16)) k.outstanding.before.items < 4) did
-        (few_parts k.outstanding.before.items (length h - 1) r (wrong_of k b (asked_from (length h - 1) r) d.2 wrong) p.0);
+          (few_parts k.outstanding.before.items (length h - 1) r (wrong_of k b (asked_from (length h - 1) r) d.2 wrong) p.0);
     }
 
 pub opens_one : (k : Checker) (h : Trace) (x : Sample) (v : Trace) (b : Option Asked) (o : Open) → Goes k h x v b → is_identity_wrong v (length h) ≡ false → is_begun_wrongly_by k b ≡ false → option_and_then (λ a. open_begun a) b ≡ Some o → OpensOne k h b o
@@ -158,22 +157,22 @@ open_stands k h x b new g own wrong r =
     record {
       current = r.current ∙ ap (λ xs. filter_map (open_after (happens k h x b)) xs ++ option_to_list (option_and_then (λ a. open_begun a) b)) st.current ∙ sym (open_goes k h x v b g);
       few = λ a.
-        let parts = ap (count_by (is_of_agent a)) r.current ∙ count_by-append (is_of_agent a) left (option_to_list (option_and_then (λ c. open_begun c) b)) in
-        let most = few_cases k h x v b (option_and_then (λ c. open_begun c) b) a g own wrong refl in
-        omega (arith, parts, most);
+          let parts = ap (count_by (is_of_agent a)) r.current ∙ count_by-append (is_of_agent a) left (option_to_list (option_and_then (λ c. open_begun c) b)) in
+          let most = few_cases k h x v b (option_and_then (λ c. open_begun c) b) a g own wrong refl in
+          omega (arith, parts, most);
       own = ap (list_all is_own) r.current ∙ list_all-append is_own left (option_to_list (option_and_then (λ c. open_begun c) b))
-        ∙ and_from _ _ (own_left (happens k h x b) k.outstanding.current.items st.own) (own_cases k h x v b (option_and_then (λ c. open_begun c) b) g own wrong refl);
+          ∙ and_from _ _ (own_left (happens k h x b) k.outstanding.current.items st.own) (own_cases k h x v b (option_and_then (λ c. open_begun c) b) g own wrong refl);
       fewer = λ t a.
-        let asks : has_line x ADS ≡ true = sym (new_back h x v g.more) ∙ t in
-        let quiet = (g.room asks).1 in
-        let none : new.current.items ≡ left = r.current ∙ ap (λ o. left ++ option_to_list (option_and_then (λ c. open_begun c) o)) (g.unbegun quiet) ∙ append-nil left in
-        let now : count_by (is_of_agent a) new.current.items ≡ count_by (is_of_agent a) left = ap (count_by (is_of_agent a)) none in
-        let other : count_by (is_of_agent a) new.before.items ≡ count_by (is_of_agent a) k.outstanding.current.items =
-            ap (count_by (is_of_agent a)) (r.before ∙ ap (λ u. cond u k.outstanding.current.items k.outstanding.before.items) asks) in
-        let l = count_left (happens k h x b) a k.outstanding.current.items in
-        omega (arith, now, other, l);
+          let asks : has_line x ADS ≡ true = sym (new_back h x v g.more) ∙ t in
+          let quiet = (g.room asks).1 in
+          let none : new.current.items ≡ left = r.current ∙ ap (λ o. left ++ option_to_list (option_and_then (λ c. open_begun c) o)) (g.unbegun quiet) ∙ append-nil left in
+          let now : count_by (is_of_agent a) new.current.items ≡ count_by (is_of_agent a) left = ap (count_by (is_of_agent a)) none in
+          let other : count_by (is_of_agent a) new.before.items ≡ count_by (is_of_agent a) k.outstanding.current.items =
+          ap (count_by (is_of_agent a)) (r.before ∙ ap (λ u. cond u k.outstanding.current.items k.outstanding.before.items) asks) in
+          let l = count_left (happens k h x b) a k.outstanding.current.items in
+          omega (arith, now, other, l);
       before = λ t.
-        let asks : has_line x ADS ≡ true = sym (new_back h x v g.more) ∙ t in
-        r.before ∙ ap (λ u. cond u k.outstanding.current.items k.outstanding.before.items) asks
-        ∙ st.current ∙ ap open_of (sym (before_same h x));
+          let asks : has_line x ADS ≡ true = sym (new_back h x v g.more) ∙ t in
+          r.before ∙ ap (λ u. cond u k.outstanding.current.items k.outstanding.before.items) asks
+          ∙ st.current ∙ ap open_of (sym (before_same h x));
     }

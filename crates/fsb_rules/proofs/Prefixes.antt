@@ -1,5 +1,5 @@
 -- The history before a request began.
-use Rattle.std.proofs.Common.{ℕ, zero, suc, ◌+◌, ◌-◌, ◌<◌, ◌≤◌, ◌≡◌, Bool, true, false, Option, Some, None, length, take, slice_get, refl, sym, ap, ◌∙◌, arith, inl, inr}
+use Rattle.std.proofs.Common.{ℕ, ◌-◌, ◌<◌, ◌≡◌, true, length, take, sym, ap, ◌∙◌, arith, inl, inr}
 use Rattle.std.proofs.lemmas.Bool.{cases_lt, and_parts, leb-true, both_ways}
 use Rattle.std.proofs.lemmas.List.{length-take}
 use Rattle.fsb_signal.specs.declared.lines.TheConstants.Lines.{ADS}
@@ -10,7 +10,7 @@ use Rattle.fsb_trace.specs.Agree.{AgreeTo}
 use Rattle.fsb_trace.proofs.AgreeAt.{AgreeTo-sym, line_at-agree}
 use Rattle.fsb_trace.proofs.Stay.{response_clock_of-stays}
 use Rattle.fsb_laws.specs.OneMore.{OneMore}
-use Rattle.fsb_laws.specs.Orderly.{Spaced, Orderly}
+use Rattle.fsb_laws.specs.Orderly.{Orderly}
 use Rattle.fsb_laws.proofs.OneMoreFacts.{line_at-old, line_at-past}
 use Rattle.fsb_laws.proofs.ResponseSteps.{response_there, response_counted}
 use Rattle.fsb_laws.proofs.OrderlySteps.{may_answer-stays}
@@ -30,15 +30,15 @@ orderly-prefix u h a o =
     record {
       spaced = record {
         apart = λ p q l s t.
-          let below : q < length u = within u q t in
-          o.spaced.apart p q l (sym (line_at-agree ADS (length u) u h p a (omega arith)) ∙ s) (sym (line_at-agree ADS (length u) u h q a below) ∙ t);
+            let below : q < length u = within u q t in
+            o.spaced.apart p q l (sym (line_at-agree ADS (length u) u h p a (omega arith)) ∙ s) (sym (line_at-agree ADS (length u) u h q a below) ∙ t);
       };
       timely = λ i r e.
-        let there = response_there u i (response_counted u i r e) in
-        let f = there.1 in
-        let same : there.0 ≡ r = cc in
-        let below : r < length u = omega (arith, there.2) in
-        may_answer-stays (length u) h u r i (AgreeTo-sym (length u) u h a) (omega arith) (o.timely i r (response_clock_of-stays (length u) u h i r a below e));
+          let there = response_there u i (response_counted u i r e) in
+          let f = there.1 in
+          let same : there.0 ≡ r = cc in
+          let below : r < length u = omega (arith, there.2) in
+          may_answer-stays (length u) h u r i (AgreeTo-sym (length u) u h a) (omega arith) (o.timely i r (response_clock_of-stays (length u) u h i r a below e));
     }
 
 -- the history before the request of the last clock

@@ -1,21 +1,19 @@
 -- What a queue that follows a history tells of its requests.
-use Rattle.std.proofs.Common.{ℕ, zero, suc, ◌+◌, ◌-◌, ◌<◌, ◌≤◌, ◌≡◌, Bool, true, false, cond, not, ◌&&◌, ◌||◌, nat_le, nat_eq, Option, Some, None, is_some, is_none, List, [], ◌∷◌, length, slice_get, max, refl, sym, ap, ◌∙◌, arith, inl, inr, subst, add-zero}
-use Rattle.std.specs.Option.{option_map, option_and_then}
-use Rattle.std.proofs.lemmas.Bool.{cases_Bool, cases_lt, cases_eq, and_left, and_right, lt-leb, both_ways}
+use Rattle.std.proofs.Common.{ℕ, zero, suc, ◌+◌, ◌-◌, ◌<◌, ◌≤◌, ◌≡◌, Bool, true, false, cond, ◌&&◌, nat_le, Option, Some, None, is_none, List, [], ◌∷◌, length, slice_get, refl, sym, ap, ◌∙◌, arith, inl, inr, subst, add-zero}
+use Rattle.std.specs.Option.{option_and_then}
+use Rattle.std.proofs.lemmas.Bool.{cases_lt, and_left, lt-leb}
 use Rattle.fsb_count.specs.Options.{is_some_and, greater_of}
 use Rattle.fsb_count.specs.Clocks.{count_where, nth_where}
-use Rattle.fsb_count.proofs.Count.{count_where-mono, count_where-above}
-use Rattle.fsb_count.proofs.Nth.{nth_where-found, nth_where-there, nth_where-at, nth_where-one}
-use Rattle.fsb_signal.specs.declared.lines.TheConstants.Lines.{ADS, HITM, DEFER}
-use Rattle.fsb_signal.specs.declared.sample.Sample.{Sample}
+use Rattle.fsb_count.proofs.Count.{count_where-above}
+use Rattle.fsb_count.proofs.Nth.{nth_where-found, nth_where-there, nth_where-at}
+use Rattle.fsb_signal.specs.declared.lines.TheConstants.Lines.{ADS}
 use Rattle.fsb_signal.specs.Samples.{line_at}
 use Rattle.fsb_encode.specs.declared.request.Request.{Request}
 use Rattle.fsb_encode.specs.declared.request.Kind.{Kind}
 use Rattle.fsb_encode.specs.declared.request.Kind.TheVariants.{Reply, Invalidate, Read, WriteBack}
 use Rattle.fsb_trace.specs.At.{Trace, request_at}
-use Rattle.fsb_trace.specs.Requests.{is_live, live_clock_of, live_count, live_request_of, is_reply, is_write_back, is_reply_kind, is_write_back_kind}
+use Rattle.fsb_trace.specs.Requests.{is_live, live_clock_of, live_request_of, is_write_back, is_reply_kind, is_write_back_kind}
 use Rattle.fsb_trace.specs.Snoop.{is_every_second_from, snoop_end_of, snoop_start_of, start_after_clock, start_after_end, line_at_snoop_end}
-use Rattle.fsb_trace.specs.declared.outcome.Outcome.{Outcome}
 use Rattle.fsb_trace.specs.declared.outcome.Outcome.TheVariants.{Granted, Written, Replied}
 use Rattle.fsb_trace.specs.Outcome.{told_by, outcome_by_kind}
 use Rattle.fsb_trace.specs.Response.{takes}
@@ -35,7 +33,7 @@ use Rattle.fsb_rules.specs.declared.queue.Queue.{Queue}
 use Rattle.fsb_rules.specs.Asked.{asked_from, asked_at, asked_of, snooped_with, snooped_of}
 use Rattle.fsb_rules.specs.Tests.{takes_by, is_code_by, kind_outcome, told_of, start_by, is_due_by, next_by}
 use Rattle.fsb_rules.specs.Window.{Window}
-use Rattle.fsb_rules.specs.Queue.{QueueStands, snoop_before, moving_with, moving_after, moving_of, known_count}
+use Rattle.fsb_rules.specs.Queue.{QueueStands, snoop_before, moving_after, moving_of, known_count}
 use Rattle.fsb_rules.specs.Checker.{Decoded}
 
 -- a live request that is decoded
@@ -124,9 +122,9 @@ due_some h s n start e = rw e refl
 none_asks : (h : Trace) (s : ℕ) → known_count h ≤ s → is_snoop_due h s (length h) ≡ false
 none_asks h s l =
     not_due h s (length h) (snoop_start_of h s) refl (λ start e.
-      let p = start_clock h s start e in
-      let late = not_known h s p.0 l p.1 in
-      omega (arith, p.2))
+    let p = start_clock h s start e in
+    let late = not_known h s p.0 l p.1 in
+    omega (arith, p.2))
 
 -- by the first request of a list
 abbrev pub due_among : List Asked → Option ℕ → ℕ → Bool

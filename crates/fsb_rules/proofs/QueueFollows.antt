@@ -1,16 +1,15 @@
 -- The queue stands for the history with one sample more.
-use Rattle.std.proofs.Common.{ℕ, zero, suc, ◌+◌, ◌-◌, ◌<◌, ◌≤◌, ◌≡◌, Bool, true, false, cond, not, ◌&&◌, nat_lt, Option, Some, None, is_some, is_none, List, length, refl, sym, ap, ◌∙◌, arith, inl, inr, subst, add-zero}
-use Rattle.std.proofs.lemmas.Bool.{cases_Bool, cases_lt, and_parts, le-leb}
+use Rattle.std.proofs.Common.{ℕ, ◌+◌, ◌-◌, ◌≤◌, ◌≡◌, Bool, true, false, cond, Option, Some, None, is_some, is_none, length, refl, sym, ap, ◌∙◌, arith, subst, add-zero}
+use Rattle.std.proofs.lemmas.Bool.{le-leb}
 use Rattle.fsb_signal.specs.declared.lines.TheConstants.Lines.{ADS, AERR, DRDY}
 use Rattle.fsb_signal.specs.declared.sample.Sample.{Sample}
-use Rattle.fsb_signal.specs.Samples.{has_line, line_at}
+use Rattle.fsb_signal.specs.Samples.{has_line}
 use Rattle.fsb_trace.specs.At.{Trace, line_back}
 use Rattle.fsb_laws.specs.OneMore.{OneMore, responds}
 use Rattle.fsb_laws.specs.Progress.{SnoopsTo, ends_snoop_of, response_count, transfer_of, chunk_step}
 use Rattle.fsb_laws.proofs.OneMoreFacts.{line_at-new}
 use Rattle.fsb_laws.proofs.SnoopSteps.{snoops_to-ended, snoops_to-kept}
 use Rattle.fsb_laws.proofs.ResponseSteps.{response_count-more}
-use Rattle.fsb_laws.proofs.AnswerSteps.{may_answer_next-parts}
 use Rattle.fsb_laws.proofs.TransferSteps.{transfer_of-kept}
 use Rattle.fsb_rules.specs.declared.asked.Asked.{Asked}
 use Rattle.fsb_rules.specs.declared.asked.Moving.{Moving}
@@ -108,9 +107,9 @@ queue_follows k h x v b g q d r =
     let ends : Bool = ends_snoop_of h s x in
     let is = snooped_is_some k h x v b g ends refl in
     let asking : Window q.asking.items (asked_of v) (snooped_after s ends) (known_count v) =
-        subst (λ xs. Window xs (asked_of v) (snooped_after s ends) (known_count v)) (sym (r.asking ∙ ap (λ e. asking_after k.queue.asking.items (has_line x AERR) e b) is)) (asking_goes k h x v b g) in
+    subst (λ xs. Window xs (asked_of v) (snooped_after s ends) (known_count v)) (sym (r.asking ∙ ap (λ e. asking_after k.queue.asking.items (has_line x AERR) e b) is)) (asking_goes k h x v b g) in
     let waiting : Window q.waiting.items (snooped_of v) (response_count v) (snooped_after s ends) =
-        subst (λ xs. Window xs (snooped_of v) (response_count v) (snooped_after s ends)) (sym r.waiting) (waiting_goes k h x v b g) in
+    subst (λ xs. Window xs (snooped_of v) (response_count v) (snooped_after s ends)) (sym r.waiting) (waiting_goes k h x v b g) in
     let moving : q.moving ≡ moving_of v = r.moving ∙ moving_goes k h x v b g in
     record {
       snooped = snooped_after s ends;
@@ -121,10 +120,10 @@ queue_follows k h x v b g q d r =
       last_snoop = r.last_snoop ∙ ap (λ e. cond e (Some (length h)) k.queue.last_snoop) is ∙ last_goes k h x v b g ends refl;
       ready = r.ready ∙ ready_goes k h x v b g;
       few =
-        let old_len = len_of k.queue h s f.queue.asking f.queue.waiting in
-        let new_len = len_of q v (snooped_after s ends) asking waiting in
-        let old_moving : is_some k.queue.moving ≡ is_some (transfer_of h) = some_moving k.queue.moving (transfer_of h) (ap (λ m. is_none m) f.queue.moving ∙ moving-transfer h f.orderly f.decoded) in
-        let new_moving : is_some q.moving ≡ is_some (transfer_of v) = some_moving q.moving (transfer_of v) (ap (λ m. is_none m) moving ∙ moving-transfer v g.after d) in
-        few_left k h x v b g (queue_len q) (has_line x ADS) refl
+          let old_len = len_of k.queue h s f.queue.asking f.queue.waiting in
+          let new_len = len_of q v (snooped_after s ends) asking waiting in
+          let old_moving : is_some k.queue.moving ≡ is_some (transfer_of h) = some_moving k.queue.moving (transfer_of h) (ap (λ m. is_none m) f.queue.moving ∙ moving-transfer h f.orderly f.decoded) in
+          let new_moving : is_some q.moving ≡ is_some (transfer_of v) = some_moving q.moving (transfer_of v) (ap (λ m. is_none m) moving ∙ moving-transfer v g.after d) in
+          few_left k h x v b g (queue_len q) (has_line x ADS) refl
           (old_len ∙ ap (λ m. known_count h + cond m 1 0) old_moving) (new_len ∙ ap (λ m. known_count v + cond m 1 0) new_moving);
     }

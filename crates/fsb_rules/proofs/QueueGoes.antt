@@ -1,41 +1,33 @@
 -- The queue goes on with a sample that breaks no rule.
-use Rattle.std.proofs.Common.{ℕ, zero, suc, ◌+◌, ◌-◌, ◌<◌, ◌≤◌, ◌≡◌, Bool, true, false, cond, not, ◌&&◌, nat_le, nat_lt, Option, Some, None, is_some, is_none, List, [], ◌∷◌, ◌++◌, take, drop, length, slice_get, refl, sym, ap, ◌∙◌, arith, inl, inr, subst, add-zero, add-one}
-use Rattle.std.specs.Option.{option_map, option_and_then, option_to_list}
-use Rattle.std.proofs.lemmas.Bool.{cases_Bool, cases_lt, and_parts, and_left, both_ways, false_from_ne_true, ltb-true, leb-true}
+use Rattle.std.proofs.Common.{ℕ, zero, suc, ◌+◌, ◌-◌, ◌<◌, ◌≤◌, ◌≡◌, Bool, true, false, cond, Option, Some, None, is_some, List, [], ◌∷◌, ◌++◌, drop, length, slice_get, refl, sym, ap, ◌∙◌, arith, inl, inr, subst, add-zero}
+use Rattle.std.specs.Option.{option_and_then, option_to_list}
+use Rattle.std.proofs.lemmas.Bool.{cases_Bool, and_parts, both_ways, false_from_ne_true, leb-true}
 use Rattle.std.proofs.lemmas.List.{append-nil}
-use Rattle.fsb_count.specs.Options.{is_some_and}
-use Rattle.fsb_count.specs.Clocks.{count_where}
 use Rattle.fsb_count.proofs.Count.{count_where-above}
 use Rattle.fsb_count.proofs.Nth.{nth_where-found}
-use Rattle.fsb_signal.specs.declared.lines.TheConstants.Lines.{ADS, AERR, HITM, DEFER, TRDY}
+use Rattle.fsb_signal.specs.declared.lines.TheConstants.Lines.{ADS, AERR, HITM, DEFER}
 use Rattle.fsb_signal.specs.declared.sample.Sample.{Sample}
-use Rattle.fsb_signal.specs.Samples.{has_line, line_at}
+use Rattle.fsb_signal.specs.Samples.{has_line}
 use Rattle.fsb_trace.specs.At.{Trace, line_back}
 use Rattle.fsb_trace.specs.Requests.{is_live, live_clock_of}
 use Rattle.fsb_trace.specs.Snoop.{snoop_end_of}
-use Rattle.fsb_trace.specs.Response.{ready_clock_of}
 use Rattle.fsb_trace.proofs.Stay.{snoop_end_of-clock}
-use Rattle.fsb_laws.specs.OneMore.{OneMore, responds}
-use Rattle.fsb_laws.specs.Orderly.{Orderly}
-use Rattle.fsb_laws.specs.Progress.{SnoopsTo, ends_snoop_of, response_count, transfer_of, chunk_step, may_answer_next}
-use Rattle.fsb_laws.proofs.OneMoreFacts.{line_at-old, line_at-new}
-use Rattle.fsb_laws.proofs.SnoopSteps.{snoop_end_of-old, snoop_end_of-more, snoops_to-ended, snoops_to-kept}
-use Rattle.fsb_laws.proofs.ResponseSteps.{response_count-more}
-use Rattle.fsb_laws.proofs.AnswerSteps.{answered_below, may_answer_next-parts}
-use Rattle.fsb_laws.proofs.ReadySteps.{ready_clock_of-next, ready_clock_of-after}
+use Rattle.fsb_laws.specs.OneMore.{OneMore}
+use Rattle.fsb_laws.specs.Progress.{SnoopsTo, ends_snoop_of}
+use Rattle.fsb_laws.proofs.OneMoreFacts.{line_at-new}
+use Rattle.fsb_laws.proofs.SnoopSteps.{snoop_end_of-more, snoops_to-ended, snoops_to-kept}
 use Rattle.fsb_rules.specs.declared.asked.Asked.{Asked}
 use Rattle.fsb_rules.specs.declared.asked.Snooped.{Snooped}
-use Rattle.fsb_rules.specs.declared.asked.Moving.{Moving}
 use Rattle.fsb_rules.specs.declared.queue.Queue.{Queue}
 use Rattle.fsb_rules.specs.declared.checker.Checker.{Checker}
 use Rattle.fsb_rules.specs.Asked.{asked_from, asked_of, snooped_with, snooped_of}
 use Rattle.fsb_rules.specs.Window.{Window}
-use Rattle.fsb_rules.specs.Queue.{QueueStands, known_count, snoop_before, moving_after, moving_of, moving_with}
+use Rattle.fsb_rules.specs.Queue.{known_count}
 use Rattle.fsb_rules.specs.Checker.{Follows}
-use Rattle.fsb_rules.specs.Tests.{asking_after, without_last, waiting_after, snooped_by, ends_snoop_by, queue_len, ready_after_by}
+use Rattle.fsb_rules.specs.Tests.{asking_after, without_last, snooped_by, ends_snoop_by}
 use Rattle.fsb_rules.proofs.Windows.{window-push, window-tail, window-init, window-same}
-use Rattle.fsb_rules.proofs.QueueFacts.{IsKnown, is_known, known_snooped, asked_of-known, asked_of-form, snooped_of-known, snooped_of-form, IsSnooped}
-use Rattle.fsb_rules.proofs.QueueSteps.{known_count-more, known_count-less, asked_kept, asked_begun, none_behind}
+use Rattle.fsb_rules.proofs.QueueFacts.{is_known, asked_of-known, snooped_of-form}
+use Rattle.fsb_rules.proofs.QueueSteps.{known_count-more, known_count-less, asked_kept, asked_begun}
 use Rattle.fsb_rules.proofs.SnoopRules.{ends_by-ends, known_ending, first_of}
 use Rattle.fsb_rules.proofs.Goes.{Goes}
 
@@ -59,9 +51,9 @@ error_quiet k h x v b g t =
     let back = and_parts _ _ (g.timed t) in
     let three = leb-true 3 (length h) back.0 in
     false_from_ne_true _ (λ u.
-      let one = and_parts _ _ u in
-      let far = g.follows.orderly.spaced.apart (length h - 3) (length h - 1) (omega arith) back.1 one.1 in
-      omega arith)
+    let one = and_parts _ _ u in
+    let far = g.follows.orderly.spaced.apart (length h - 3) (length h - 1) (omega arith) back.1 one.1 in
+    omega arith)
 
 -- the requests without their snoop end: what is left of the old ones
 pub drop_first : {A : Type 0} (xs : List A) (f : ℕ → Option A) (m n : ℕ) → Window xs f m n → m < n → Window (drop 1 xs) f (m + 1) n
@@ -136,7 +128,7 @@ with_begun k h x v b g false e true et ee eb =
     let p = g.decoded eb in
     let count : known_count v ≡ known_count h + 1 = known_count-more h x v g.more et ∙ ap (λ c. known_count h + cond c 1 0) eb in
     let w = window-push _ (asked_of v) (snooped_after g.follows.queue.snooped e) (known_count h) (asked_from (length h - 1) p.0) (without_first k h x v b g false e et ee)
-      (asked_begun h x v p.0 g.more eb et p.1) in
+    (asked_begun h x v p.0 g.more eb et p.1) in
     one_more_thing _ b (asked_from (length h - 1) p.0) (asked_of v) (snooped_after g.follows.queue.snooped e) (known_count h + 1) (known_count v) p.2 count w
 
 pub asking_goes : (k : Checker) (h : Trace) (x : Sample) (v : Trace) (b : Option Asked) (g : Goes k h x v b) → Window (asking_after k.queue.asking.items (has_line x AERR) (ends_snoop_of h g.follows.queue.snooped x) b) (asked_of v) (snooped_after g.follows.queue.snooped (ends_snoop_of h g.follows.queue.snooped x)) (known_count v)
@@ -169,7 +161,7 @@ snooped_ends k h x v b g t =
     let first = first_of h s k.queue.asking.items f.queue.asking here ∙ asked_of-known h s known in
     let now : snoop_end_of v s ≡ Some (length h) = snoop_end_of-more h x v s g.more f.orderly.spaced f.queue.to ∙ (rw t refl) in
     let same : asked_of v s ≡ Some (asked_from known.clock known.request) =
-        sym (asked_kept h x v s g.more f.orderly.spaced f.decoded here (snooped_known v s (length h) now)) ∙ asked_of-known h s known in
+    sym (asked_kept h x v s g.more f.orderly.spaced f.decoded here (snooped_known v s (length h) now)) ∙ asked_of-known h s known in
     snooped_some k.queue (length h) x (asked_from known.clock known.request) first (ends_by-ends k h x f ∙ t)
     ∙ sym (snooped_of-form v s (length h) (asked_from known.clock known.request) now same
     ∙ ap (λ w. Some w) (with_sample h x v (asked_from known.clock known.request) g.more))
@@ -185,7 +177,7 @@ snooped_there k h x v b g t =
     let known = is_known h s f.decoded here in
     let now : snoop_end_of v s ≡ Some (length h) = snoop_end_of-more h x v s g.more f.orderly.spaced f.queue.to ∙ (rw t refl) in
     let same : asked_of v s ≡ Some (asked_from known.clock known.request) =
-        sym (asked_kept h x v s g.more f.orderly.spaced f.decoded here (snooped_known v s (length h) now)) ∙ asked_of-known h s known in
+    sym (asked_kept h x v s g.more f.orderly.spaced f.decoded here (snooped_known v s (length h) now)) ∙ asked_of-known h s known in
     (snooped_with v (length h) (asked_from known.clock known.request), snooped_of-form v s (length h) (asked_from known.clock known.request) now same)
 
 pub snooped_is_some : (k : Checker) (h : Trace) (x : Sample) (v : Trace) (b : Option Asked) (g : Goes k h x v b) (e : Bool) → ends_snoop_of h g.follows.queue.snooped x ≡ e → is_some (snooped_by k.queue (length h) x) ≡ e

@@ -1,5 +1,5 @@
 -- How many requests a queue has: those in flight, but one that begins at the last clock.
-use Rattle.std.proofs.Common.{ℕ, zero, suc, ◌+◌, ◌-◌, ◌<◌, ◌≤◌, ◌≡◌, Bool, true, false, cond, not, ◌&&◌, Option, Some, None, is_some, is_none, List, length, refl, sym, ap, ◌∙◌, arith, inl, inr, subst, add-zero}
+use Rattle.std.proofs.Common.{ℕ, zero, suc, ◌+◌, ◌-◌, ◌≡◌, true, false, cond, not, Option, Some, None, is_some, is_none, length, refl, sym, ap, ◌∙◌, arith, add-zero}
 use Rattle.std.proofs.lemmas.Bool.{both_ways, le-leb, false_from_ne_true}
 use Rattle.fsb_count.specs.Clocks.{count_where}
 use Rattle.fsb_count.proofs.Count.{count_where-more}
@@ -16,7 +16,7 @@ use Rattle.fsb_laws.proofs.FlightSteps.{in_flight-count}
 use Rattle.fsb_rules.specs.declared.asked.Moving.{Moving}
 use Rattle.fsb_rules.specs.declared.queue.Queue.{Queue}
 use Rattle.fsb_rules.specs.Tests.{queue_len}
-use Rattle.fsb_rules.specs.Queue.{QueueStands, moving_of, known_count}
+use Rattle.fsb_rules.specs.Queue.{QueueStands, known_count}
 use Rattle.fsb_rules.specs.Checker.{Decoded}
 use Rattle.fsb_rules.proofs.QueueFacts.{moving-transfer}
 
@@ -24,10 +24,10 @@ quiet_last : (h : Trace) (n : ℕ) → length h ≡ suc n → line_back ADS h (l
 unfolding line_back
 quiet_last h n e f =
     false_from_ne_true _ (λ t.
-      let asks : line_at ADS h n ≡ true = is_live-ads h n t in
-      let same : length h - 1 ≡ n = omega arith in
-      let g : line_at ADS h n ≡ false = rw (le-leb 1 (length h) (omega arith), same) at f in
-      both_ways _ g asks)
+    let asks : line_at ADS h n ≡ true = is_live-ads h n t in
+    let same : length h - 1 ≡ n = omega arith in
+    let g : line_at ADS h n ≡ false = rw (le-leb 1 (length h) (omega arith), same) at f in
+    both_ways _ g asks)
 
 -- where no request begins at the last clock all live requests are known
 count_of : (h : Trace) (n : ℕ) → length h ≡ n → line_back ADS h (length h) 1 ≡ false → known_count h ≡ live_count h

@@ -1,37 +1,23 @@
 -- The queue follows the history with a new sample that breaks no rule.
-use Rattle.std.proofs.Common.{ℕ, zero, suc, ◌+◌, ◌-◌, ◌<◌, ◌≤◌, ◌≡◌, Bool, true, false, cond, not, ◌&&◌, ◌||◌, nat_le, nat_lt, nat_eq, Option, Some, None, is_some, is_none, List, [], ◌∷◌, ◌++◌, take, drop, length, slice_get, refl, sym, ap, ◌∙◌, arith, inl, inr, subst, add-zero}
-use Rattle.std.specs.Option.{option_map, option_and_then, option_to_list}
-use Rattle.std.proofs.lemmas.Bool.{cases_Bool, cases_lt, cases_eq, and_parts, and_left, and_right, and_from, le-leb, leb-true, both_ways, false_from_ne_true, ne_eqb, eq-eqb, lt-leb}
-use Rattle.std.proofs.lemmas.List.{append-nil}
-use Rattle.fsb_count.specs.Options.{is_some_and}
+use Rattle.std.proofs.Common.{ℕ, zero, suc, ◌+◌, ◌-◌, ◌<◌, ◌≡◌, Bool, true, false, cond, not, ◌&&◌, Some, length, refl, sym, ap, ◌∙◌, arith, inl, inr}
+use Rattle.std.proofs.lemmas.Bool.{cases_Bool, and_parts, and_left, and_right, and_from, le-leb, leb-true, false_from_ne_true, eq-eqb, lt-leb}
 use Rattle.fsb_count.specs.Clocks.{AgreeBelow, count_where}
 use Rattle.fsb_count.proofs.Count.{count_where-more, count_where-same, count_where-passed, count_where-failed}
-use Rattle.fsb_count.proofs.Nth.{nth_where-found, nth_where-at}
-use Rattle.fsb_signal.specs.declared.lines.TheConstants.Lines.{ADS, AERR, HITM, DEFER}
+use Rattle.fsb_count.proofs.Nth.{nth_where-at}
+use Rattle.fsb_signal.specs.declared.lines.TheConstants.Lines.{ADS, AERR}
 use Rattle.fsb_signal.specs.declared.sample.Sample.{Sample}
 use Rattle.fsb_signal.specs.Samples.{has_line, line_at}
 use Rattle.fsb_encode.specs.declared.request.Request.{Request}
 use Rattle.fsb_trace.specs.At.{Trace, line_back, request_at}
 use Rattle.fsb_trace.specs.Requests.{is_live, live_clock_of, live_number_of}
-use Rattle.fsb_trace.specs.Snoop.{snoop_end_of}
-use Rattle.fsb_trace.proofs.Stay.{snoop_end_of-clock}
-use Rattle.fsb_laws.specs.OneMore.{OneMore, cancels, stalls}
-use Rattle.fsb_laws.specs.Orderly.{Spaced, Orderly}
-use Rattle.fsb_laws.specs.Progress.{SnoopsTo, ends_snoop_of}
-use Rattle.fsb_laws.proofs.OneMoreFacts.{line_at-old, line_at-new}
+use Rattle.fsb_laws.specs.OneMore.{OneMore, cancels}
+use Rattle.fsb_laws.specs.Orderly.{Spaced}
 use Rattle.fsb_laws.proofs.LiveSteps.{is_live-ads, is_cancelled-late, is_live-more, live_number_of-more, live_clock_of-more, live_clock_of-less}
-use Rattle.fsb_laws.proofs.SnoopSteps.{snoop_end_of-old, snoop_end_of-more}
-use Rattle.fsb_laws.proofs.ReplySteps.{request_at-old, request_at-last, cancelled_clock}
-use Rattle.fsb_rules.specs.declared.asked.Asked.{Asked}
-use Rattle.fsb_rules.specs.declared.asked.Snooped.{Snooped}
-use Rattle.fsb_rules.specs.declared.checker.Checker.{Checker}
-use Rattle.fsb_rules.specs.Asked.{asked_from, asked_at, asked_of, snooped_with, snooped_of}
-use Rattle.fsb_rules.specs.Window.{Window}
-use Rattle.fsb_rules.specs.Queue.{QueueStands, known_count}
+use Rattle.fsb_laws.proofs.ReplySteps.{request_at-old}
+use Rattle.fsb_rules.specs.Asked.{asked_from, asked_of}
+use Rattle.fsb_rules.specs.Queue.{known_count}
 use Rattle.fsb_rules.specs.Checker.{Decoded}
-use Rattle.fsb_rules.specs.Tests.{asking_after, without_last, waiting_after}
-use Rattle.fsb_rules.proofs.Windows.{window-push, window-tail, window-init, window-same}
-use Rattle.fsb_rules.proofs.QueueFacts.{IsKnown, known_clock, asked_of-form, is_known, not_known, known_snooped, asked_of-known}
+use Rattle.fsb_rules.proofs.QueueFacts.{known_clock, asked_of-form, is_known, asked_of-known}
 
 -- AERR# comes three clocks after a request, and no other
 pub record IsErrorTimed (h : Trace) (x : Sample) : Type 0 where

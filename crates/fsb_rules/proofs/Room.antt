@@ -1,5 +1,5 @@
 -- There is room for the requests that come.
-use Rattle.std.proofs.Common.{ℕ, ◌+◌, ◌<◌, ◌≤◌, ◌≡◌, Bool, true, false, cond, Option, Some, None, is_some, List, [], ◌∷◌, length, slice_get, arith}
+use Rattle.std.proofs.Common.{ℕ, ◌<◌, ◌≤◌, ◌≡◌, true, Option, is_some, List, [], ◌∷◌, length, slice_get, arith}
 use Rattle.std.specs.Option.{option_and_then}
 use Rattle.fsb_signal.specs.declared.sample.Sample.{Sample}
 use Rattle.fsb_rules.specs.declared.asked.Asked.{Asked}

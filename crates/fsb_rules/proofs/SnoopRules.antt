@@ -1,19 +1,18 @@
 -- The rules of snoops, with a new sample.
-use Rattle.std.proofs.Common.{ℕ, zero, suc, ◌+◌, ◌-◌, ◌<◌, ◌≤◌, ◌≡◌, Bool, true, false, cond, not, ◌&&◌, ◌||◌, nat_eq, Option, Some, None, List, [], ◌∷◌, length, slice_get, refl, sym, ap, ◌∙◌, arith, inl, inr, subst, add-zero}
-use Rattle.std.proofs.lemmas.Bool.{cases_Bool, cases_lt, cases_order, and_parts, and_left, and_right, and_from, eq-eqb, ne_eqb, eqb-true, both_ways, leb-true, cases_eq, false_from_ne_true}
+use Rattle.std.proofs.Common.{ℕ, ◌<◌, ◌≤◌, ◌≡◌, Bool, true, false, cond, ◌&&◌, ◌||◌, Option, Some, None, List, [], ◌∷◌, length, slice_get, refl, sym, ap, ◌∙◌, arith, inl, inr, subst, add-zero}
+use Rattle.std.proofs.lemmas.Bool.{cases_lt, and_parts, and_left, eq-eqb, eqb-true, leb-true, cases_eq, false_from_ne_true}
 use Rattle.fsb_count.specs.Options.{is_some_and, is_at}
-use Rattle.fsb_count.specs.Clocks.{any_where}
 use Rattle.fsb_count.proofs.Any.{any_where-at, any_where-off}
 use Rattle.fsb_signal.specs.declared.lines.TheConstants.Lines.{HIT, HITM, DEFER}
 use Rattle.fsb_signal.specs.declared.sample.Sample.{Sample}
-use Rattle.fsb_signal.specs.Samples.{has_line, line_at}
+use Rattle.fsb_signal.specs.Samples.{has_line}
 use Rattle.fsb_encode.specs.declared.request.Request.{Request}
 use Rattle.fsb_trace.specs.At.{Trace, request_at}
 use Rattle.fsb_trace.specs.Requests.{live_count, live_clock_of, live_request_of, is_reply, is_write_back}
-use Rattle.fsb_trace.specs.Snoop.{snoop_end_of, snoop_start_of, is_every_second_from, is_snoop_clock}
+use Rattle.fsb_trace.specs.Snoop.{snoop_end_of, snoop_start_of, is_every_second_from}
 use Rattle.fsb_trace.specs.Rules.{is_snoop_line_alone, is_result_unfit_for, is_snoop_result_unfit}
 use Rattle.fsb_trace.proofs.Stay.{snoop_end_of-clock}
-use Rattle.fsb_laws.specs.OneMore.{OneMore, stalls}
+use Rattle.fsb_laws.specs.OneMore.{OneMore}
 use Rattle.fsb_laws.specs.Orderly.{Orderly}
 use Rattle.fsb_laws.specs.Progress.{SnoopsTo, is_snoop_due, ends_snoop_of}
 use Rattle.fsb_laws.proofs.OneMoreFacts.{line_at-new}
@@ -25,19 +24,24 @@ use Rattle.fsb_laws.proofs.SnoopClockSteps.{is_snoop_clock-more, ended_where, li
 use Rattle.fsb_rules.specs.declared.asked.Asked.{Asked}
 use Rattle.fsb_rules.specs.declared.checker.Checker.{Checker}
 use Rattle.fsb_rules.specs.Asked.{asked_from, asked_of}
-use Rattle.fsb_rules.specs.Tests.{is_due_by, ends_snoop_by, is_unfit_by}
+use Rattle.fsb_rules.specs.Tests.{ends_snoop_by, is_unfit_by}
 use Rattle.fsb_rules.specs.Window.{Window}
-use Rattle.fsb_rules.specs.Queue.{QueueStands, known_count}
+use Rattle.fsb_rules.specs.Queue.{known_count}
 use Rattle.fsb_rules.specs.Steps.{is_snoop_line_alone_by, is_result_unfit_by}
 use Rattle.fsb_rules.specs.Checker.{Follows, Decoded}
-use Rattle.fsb_rules.proofs.QueueFacts.{IsKnown, is_known, not_known, asked_of-known, is_due_by-due, live_request_of-known}
+use Rattle.fsb_rules.proofs.QueueFacts.{IsKnown, is_known, not_known, asked_of-known, is_due_by-due}
 
 -- 11 snoop lines in snoop clocks
 pub rule_11 : (k : Checker) (h : Trace) (x : Sample) (v : Trace) → Follows k h → OneMore h x v → is_snoop_line_alone_by k (length h) x ≡ is_snoop_line_alone v (length h)
 unfolding is_snoop_line_alone_by is_snoop_line_alone
 rule_11 k h x v f m =
-    rw (is_due_by-due k.queue h f.queue f.decoded, line_at-new HIT h x v m, line_at-new HITM h x v m, line_at-new DEFER h x v m,
-      is_snoop_clock-more h x v f.queue.snooped m f.orderly.spaced f.queue.to) refl
+    rw (
+      is_due_by-due k.queue h f.queue f.decoded,
+      line_at-new HIT h x v m,
+      line_at-new HITM h x v m,
+      line_at-new DEFER h x v m,
+      is_snoop_clock-more h x v f.queue.snooped m f.orderly.spaced f.queue.to,
+    ) refl
 
 -- a snoop ends with the sample where it does in the trace
 pub ends_by-ends : (k : Checker) (h : Trace) (x : Sample) (f : Follows k h) → ends_snoop_by k.queue (length h) x ≡ ends_snoop_of h f.queue.snooped x
@@ -124,24 +128,24 @@ request_with v i q r e f = rw (e, f) refl
 other_not : (h : Trace) (x : Sample) (v : Trace) (s i : ℕ) → OneMore h x v → Orderly h → SnoopsTo h s → (i ≡ s → ⊥) → is_at (snoop_end_of v i) (length h) ≡ false
 other_not h x v s i m o to other =
     false_from_ne_true _ (λ t.
-      let e = ended_now (length h) (snoop_end_of v i) t in
-      elim (cases_lt i s) [
-        | inl old ↦
-            let p = to.reached i old in
-            let f = snoop_end_of-old h x v s i m to old ∙ p.1 in
-            let same : p.0 ≡ length h = cc in
-            omega (arith, p.2)
-        | inr new ↦ later_not h x v s i m o to (omega (arith, other)) e
-      ])
+    let e = ended_now (length h) (snoop_end_of v i) t in
+    elim (cases_lt i s) [
+      | inl old ↦
+          let p = to.reached i old in
+          let f = snoop_end_of-old h x v s i m to old ∙ p.1 in
+          let same : p.0 ≡ length h = cc in
+          omega (arith, p.2)
+      | inr new ↦ later_not h x v s i m o to (omega (arith, other)) e
+    ])
 
 unfit_none : (h : Trace) (x : Sample) (v : Trace) (s : ℕ) → OneMore h x v → Orderly h → SnoopsTo h s → is_result_unfit_for v (length h) s ≡ false → is_snoop_result_unfit v (length h) ≡ false
 unfolding is_snoop_result_unfit
 unfit_none h x v s m o to f =
     any_where-off (is_result_unfit_for v (length h)) (live_count v) (λ i l.
-      elim (cases_eq i s) [
-        | inl same ↦ subst (λ j. is_result_unfit_for v (length h) j ≡ false) (sym same) f
-        | inr other ↦ unfit_not v (length h) i (other_not h x v s i m o to other)
-      ])
+    elim (cases_eq i s) [
+      | inl same ↦ subst (λ j. is_result_unfit_for v (length h) j ≡ false) (sym same) f
+      | inr other ↦ unfit_not v (length h) i (other_not h x v s i m o to other)
+    ])
 
 unfit_some : (v : Trace) (n s : ℕ) → is_at (snoop_end_of v s) n ≡ true → is_result_unfit_for v n s ≡ true → is_snoop_result_unfit v n ≡ true
 unfolding is_snoop_result_unfit

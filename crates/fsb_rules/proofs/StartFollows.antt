@@ -1,14 +1,12 @@
 -- The checker before the first sample.
-use Rattle.std.proofs.Common.{ℕ, zero, suc, ◌+◌, ◌-◌, ◌<◌, ◌≤◌, ◌≡◌, Bool, true, false, cond, not, ◌&&◌, nat_le, Option, Some, None, is_some, List, [], ◌∷◌, length, nat_lt, count_by, refl, sym, ap, ◌∙◌, arith, inl, inr}
+use Rattle.std.proofs.Common.{ℕ, ◌≡◌, true, false, cond, Option, Some, None, [], length, nat_lt, count_by, refl, sym, ap, ◌∙◌, arith}
 use Rattle.std.specs.List.{list_all}
-use Rattle.std.proofs.lemmas.Bool.{both_ways, and_left}
-use Rattle.fsb_count.specs.Clocks.{first_where, count_where, all_where}
+use Rattle.std.proofs.lemmas.Bool.{both_ways}
+use Rattle.fsb_count.specs.Clocks.{first_where, count_where}
 use Rattle.fsb_signal.specs.declared.lines.TheConstants.Lines.{ADS}
 use Rattle.fsb_signal.specs.Samples.{line_at}
-use Rattle.fsb_trace.specs.At.{Trace, line_back}
-use Rattle.fsb_trace.specs.Requests.{is_live}
+use Rattle.fsb_trace.specs.At.{line_back}
 use Rattle.fsb_trace.specs.Snoop.{snoop_end_of}
-use Rattle.fsb_trace.specs.Outcome.{is_deferred}
 use Rattle.fsb_trace.specs.Response.{ready_clock_of}
 use Rattle.fsb_trace.specs.Verdict.{verdict}
 use Rattle.fsb_trace.proofs.Stay.{snoop_end_of-clock}
@@ -20,15 +18,12 @@ use Rattle.fsb_laws.proofs.ResponseSteps.{response_counted}
 use Rattle.fsb_laws.proofs.ReadySteps.{has_ready}
 use Rattle.fsb_laws.proofs.OutstandingSteps.{deferred_response}
 use Rattle.fsb_rules.specs.declared.checker.Checker.{Checker}
-use Rattle.fsb_rules.specs.Asked.{asked_of, snooped_of}
-use Rattle.fsb_rules.specs.Window.{Window}
-use Rattle.fsb_rules.specs.Recent.{RecentStands, words_back}
+use Rattle.fsb_rules.specs.Recent.{words_back}
 use Rattle.fsb_rules.specs.Queue.{QueueStands, known_count, snoop_before, moving_after, moving_of}
-use Rattle.fsb_rules.specs.Outstanding.{OutstandingStands, open_of}
+use Rattle.fsb_rules.specs.Outstanding.{OutstandingStands}
 use Rattle.fsb_rules.specs.OpenTests.{is_of_agent}
 use Rattle.fsb_rules.specs.Tests.{queue_len}
 use Rattle.fsb_rules.specs.Checker.{Follows, Stands, as_broken, beginner_of}
-use Rattle.fsb_rules.proofs.Windows.{window-empty}
 use Rattle.fsb_rules.proofs.OpenFollows.{open_empty}
 
 -- what the code makes

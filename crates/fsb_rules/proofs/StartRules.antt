@@ -1,7 +1,7 @@
 -- The rules of lines and of requests that begin, with a new sample.
-use Rattle.std.proofs.Common.{ℕ, zero, suc, ◌+◌, ◌-◌, ◌/◌, ◌<◌, ◌≤◌, ◌≡◌, Bool, true, false, cond, not, ◌&&◌, ◌||◌, nat_le, nat_lt, Option, Some, None, is_some, is_none, length, slice_get, refl, sym, ap, ◌∙◌, arith, inl, inr, add-one}
-use Rattle.std.specs.Option.{option_map, option_map_or}
-use Rattle.std.proofs.lemmas.Bool.{cases_Bool, cases_lt, and_parts, and_left, and_right, leb-true, le-leb, lt-leb}
+use Rattle.std.proofs.Common.{ℕ, ◌+◌, ◌-◌, ◌<◌, ◌≡◌, Bool, true, false, cond, not, ◌&&◌, ◌||◌, nat_le, Option, Some, None, is_none, length, refl, sym, ap, ◌∙◌, arith, inl, inr, add-one}
+use Rattle.std.specs.Option.{option_map}
+use Rattle.std.proofs.lemmas.Bool.{cases_lt, and_parts, and_left, and_right, leb-true, le-leb, lt-leb}
 use Rattle.fsb_count.specs.Options.{is_some_and}
 use Rattle.fsb_count.specs.Clocks.{any_where}
 use Rattle.fsb_signal.specs.declared.lines.Lines.{Lines}
@@ -12,7 +12,7 @@ use Rattle.fsb_encode.specs.declared.request.Request.{Request}
 use Rattle.fsb_trace.specs.declared.who.Who.{Who}
 use Rattle.fsb_trace.specs.declared.who.Who.TheVariants.{Symmetric, Priority}
 use Rattle.fsb_trace.specs.At.{Trace, line_back, request_at}
-use Rattle.fsb_trace.specs.Winner.{winner_at, winner_after, is_agent, is_same_agent, request_line_of, begins_at}
+use Rattle.fsb_trace.specs.Winner.{winner_at, winner_after, is_agent, request_line_of, begins_at}
 use Rattle.fsb_trace.specs.Requests.{is_reply}
 use Rattle.fsb_trace.specs.Rules.{has_unknown_line, is_request_too_soon, is_code_unlawful, is_queue_full, is_request_blocked, has_no_winner, is_own_id, is_identified, is_identity_wrong, is_asked_wrongly, is_some_asked_wrongly, is_lock_alone, is_error_alone, has_unknown_data}
 use Rattle.fsb_trace.specs.Flight.{in_flight}
@@ -24,7 +24,6 @@ use Rattle.fsb_rules.specs.declared.asked.Asked.{Asked}
 use Rattle.fsb_rules.specs.declared.checker.Checker.{Checker}
 use Rattle.fsb_rules.specs.Asked.{asked_from, asked_at}
 use Rattle.fsb_rules.specs.Tests.{is_among, request_by, queue_len}
-use Rattle.fsb_rules.specs.Recent.{words_back}
 use Rattle.fsb_rules.specs.Steps.{begun_by, is_too_soon_by, is_identified_by, is_identity_wrong_by, is_asked_wrongly_by, is_some_asked_wrongly_by, is_lock_alone_by}
 use Rattle.fsb_rules.specs.Checker.{Follows, beginner_of}
 use Rattle.fsb_rules.proofs.Lines.{is_among-back, line_back-new, request_by-new}
@@ -183,14 +182,27 @@ asked_first : (k : Checker) (h : Trace) (x : Sample) (v : Trace) (who : Who) →
 unfolding is_asked_wrongly_by is_asked_wrongly
 asked_first k h x v who f m e =
     let quiet : line_back ADS h (length h) 1 ≡ false = back_none ADS h e in
-    rw (beginner_none k h f quiet, no_agent who, first_back (request_line_of who) k h f, back_none (request_line_of who) h e,
-      line_back-new (request_line_of who) h x v 1 m (omega arith), back_none (request_line_of who) h e, e, begins_first v who) refl
+    rw (
+      beginner_none k h f quiet,
+      no_agent who,
+      first_back (request_line_of who) k h f,
+      back_none (request_line_of who) h e,
+      line_back-new (request_line_of who) h x v 1 m (omega arith),
+      back_none (request_line_of who) h e,
+      e,
+      begins_first v who,
+    ) refl
 
 asked_next : (k : Checker) (h : Trace) (x : Sample) (v : Trace) (who : Who) → Follows k h → OneMore h x v → 0 < length h → is_asked_wrongly_by k x who ≡ is_asked_wrongly v (length h) who
 unfolding is_asked_wrongly_by is_asked_wrongly
 asked_next k h x v who f m l =
-    rw (begins_by k h x v who (line_back ADS h (length h) 1) f m l refl, le-leb 1 (length h) (omega arith), first_back (request_line_of who) k h f,
-      line_at-new (request_line_of who) h x v m, line_back-new (request_line_of who) h x v 1 m (omega arith)) refl
+    rw (
+      begins_by k h x v who (line_back ADS h (length h) 1) f m l refl,
+      le-leb 1 (length h) (omega arith),
+      first_back (request_line_of who) k h f,
+      line_at-new (request_line_of who) h x v m,
+      line_back-new (request_line_of who) h x v 1 m (omega arith),
+    ) refl
 
 asked_wrongly : (k : Checker) (h : Trace) (x : Sample) (v : Trace) (who : Who) → Follows k h → OneMore h x v → is_asked_wrongly_by k x who ≡ is_asked_wrongly v (length h) who
 asked_wrongly k h x v who f m =
@@ -221,8 +233,14 @@ any_four p =
 pub rule_8 : (k : Checker) (h : Trace) (x : Sample) (v : Trace) → Follows k h → OneMore h x v → is_some_asked_wrongly_by k x ≡ is_some_asked_wrongly v (length h)
 unfolding is_some_asked_wrongly_by is_some_asked_wrongly
 rule_8 k h x v f m =
-    rw (any_four (λ a. is_asked_wrongly v (length h) (Symmetric a)), asked_wrongly k h x v (Symmetric 0) f m, asked_wrongly k h x v (Symmetric 1) f m,
-      asked_wrongly k h x v (Symmetric 2) f m, asked_wrongly k h x v (Symmetric 3) f m, asked_wrongly k h x v Priority f m) refl
+    rw (
+      any_four (λ a. is_asked_wrongly v (length h) (Symmetric a)),
+      asked_wrongly k h x v (Symmetric 0) f m,
+      asked_wrongly k h x v (Symmetric 1) f m,
+      asked_wrongly k h x v (Symmetric 2) f m,
+      asked_wrongly k h x v (Symmetric 3) f m,
+      asked_wrongly k h x v Priority f m,
+    ) refl
 
 -- 9 lock begins with a request
 pub rule_9 : (k : Checker) (h : Trace) (x : Sample) (v : Trace) → Follows k h → OneMore h x v → is_lock_alone_by k x ≡ is_lock_alone v (length h)

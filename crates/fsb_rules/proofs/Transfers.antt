@@ -1,8 +1,8 @@
 -- Which data are on the way in an orderly trace: those of the request that responded last, if any.
-use Rattle.std.proofs.Common.{ℕ, zero, suc, ◌+◌, ◌-◌, ◌<◌, ◌≤◌, ◌≡◌, Bool, true, false, cond, not, ◌&&◌, nat_lt, nat_le, Option, Some, None, is_some, length, refl, sym, ap, ◌∙◌, arith, inl, inr, subst}
-use Rattle.std.proofs.lemmas.Bool.{cases_Bool, cases_lt, cases_eq, cases_order, and_parts, and_left, and_right, le-leb, lt-leb, le-ltb, both_ways}
+use Rattle.std.proofs.Common.{ℕ, zero, suc, ◌+◌, ◌<◌, ◌≤◌, ◌≡◌, Bool, true, false, cond, ◌&&◌, nat_lt, nat_le, Some, None, is_some, length, refl, sym, ap, ◌∙◌, arith, inl, inr, subst}
+use Rattle.std.proofs.lemmas.Bool.{cases_lt, cases_eq, and_left, and_right, lt-leb, le-ltb}
 use Rattle.fsb_count.specs.Options.{is_some_and}
-use Rattle.fsb_count.specs.Clocks.{AgreeBelow, any_where, count_where, from_clock}
+use Rattle.fsb_count.specs.Clocks.{count_where, from_clock}
 use Rattle.fsb_count.proofs.Any.{any_where-at, any_where-off}
 use Rattle.fsb_count.proofs.Count.{count_where-mono, count_where-passed, count_where-same}
 use Rattle.fsb_count.proofs.Nth.{nth_where-found}
@@ -18,7 +18,7 @@ use Rattle.fsb_trace.proofs.Stay.{snoop_end_of-clock}
 use Rattle.fsb_trace.proofs.StayEnds.{end_of-moving}
 use Rattle.fsb_laws.specs.OneMore.{OneMore, responds}
 use Rattle.fsb_laws.specs.Orderly.{Orderly}
-use Rattle.fsb_laws.specs.Progress.{SnoopsTo, response_count, transfer_after, transfer_of, chunks_of}
+use Rattle.fsb_laws.specs.Progress.{SnoopsTo, response_count, transfer_after, transfer_of}
 use Rattle.fsb_laws.proofs.OneMoreFacts.{line_at-old}
 use Rattle.fsb_laws.proofs.Clocks.{count_where-none}
 use Rattle.fsb_laws.proofs.SnoopClockSteps.{live_below_count}
@@ -74,10 +74,10 @@ by_last w m last true o c k e =
     any_where-at (is_transferring_of w m) (live_count w) last (last_is_live w last o (omega arith)) e
 by_last w m last false o c k e =
     any_where-off (is_transferring_of w m) (live_count w) (λ i l.
-      elim (cases_eq i last) [
-        | inl same ↦ subst (λ j. is_transferring_of w m j ≡ false) (sym same) e
-        | inr other ↦ of_others w m i last o c other k
-      ])
+    elim (cases_eq i last) [
+      | inl same ↦ subst (λ j. is_transferring_of w m j ≡ false) (sym same) e
+      | inr other ↦ of_others w m i last o c other k
+    ])
 
 pub is_transferring-last : (w : Trace) (m last : ℕ) → Orderly w → response_count w ≡ suc last → length w ≤ m + 1 → is_transferring w m ≡ is_transferring_of w m last
 is_transferring-last w m last o c k = by_last w m last (is_transferring_of w m last) o c k refl

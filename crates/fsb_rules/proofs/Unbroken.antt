@@ -1,35 +1,31 @@
 -- What a sample that breaks no rule says.
-use Rattle.std.proofs.Common.{ℕ, zero, suc, ◌+◌, ◌-◌, ◌/◌, ◌<◌, ◌≤◌, ◌≡◌, Bool, true, false, cond, not, ◌&&◌, ◌||◌, nat_eq, nat_le, nat_lt, Option, Some, None, is_some, is_none, List, length, refl, sym, ap, ◌∙◌, arith, inl, inr, subst}
-use Rattle.std.specs.Option.{option_map, option_and_then}
-use Rattle.std.proofs.lemmas.Bool.{cases_Bool, cases_lt, and_parts, or_parts, both_ways, not-false, not-true, leb-false, eqb-true}
-use Rattle.std.proofs.lemmas.Option.{cond_some, same_Some}
+use Rattle.std.proofs.Common.{ℕ, ◌+◌, ◌<◌, ◌≡◌, Bool, true, false, cond, not, ◌&&◌, ◌||◌, nat_eq, nat_le, Option, Some, None, is_some, length, refl, sym, ◌∙◌, arith, inl, inr, subst}
+use Rattle.std.specs.Option.{option_and_then}
+use Rattle.std.proofs.lemmas.Bool.{cases_Bool, and_parts, or_parts, both_ways, not-false, not-true, leb-false, eqb-true}
+use Rattle.std.proofs.lemmas.Option.{cond_some}
 use Rattle.fsb_count.specs.Options.{is_some_and}
-use Rattle.fsb_signal.specs.declared.lines.TheConstants.Lines.{ADS, AERR, TRDY, HITM, DEFER}
+use Rattle.fsb_signal.specs.declared.lines.TheConstants.Lines.{ADS, AERR, TRDY, HITM}
 use Rattle.fsb_signal.specs.declared.sample.Sample.{Sample}
-use Rattle.fsb_signal.specs.Samples.{has_line, line_at, response_of}
+use Rattle.fsb_signal.specs.Samples.{has_line, line_at}
 use Rattle.fsb_encode.specs.declared.request.Request.{Request}
 use Rattle.fsb_encode.specs.declared.request.Pair.{Pair}
 use Rattle.fsb_encode.specs.declared.request.Kind.{Kind}
 use Rattle.fsb_encode.specs.declared.request.Kind.TheVariants.{Reply, Invalidate, Read, WriteBack}
 use Rattle.fsb_encode.specs.Request.{is_lawful_request, are_lawful_fields}
 use Rattle.fsb_encode.specs.Decoded.{kind_of, read_off, is_coded_as, if_coded_as, request_of}
-use Rattle.fsb_trace.specs.declared.outcome.Outcome.{Outcome}
 use Rattle.fsb_trace.specs.declared.outcome.Outcome.TheVariants.{Granted, Handed, Retried, Deferred, Written, Replied, Failed}
 use Rattle.fsb_trace.specs.At.{Trace, line_back, known_pair_at, request_at}
-use Rattle.fsb_trace.specs.Requests.{live_clock_of, live_request_of, is_reply, is_write_back, is_reply_kind}
+use Rattle.fsb_trace.specs.Requests.{live_clock_of, live_request_of, is_reply, is_reply_kind}
 use Rattle.fsb_trace.specs.Snoop.{line_at_snoop_end}
-use Rattle.fsb_trace.specs.Outcome.{told_by, is_deferral, response_code_of, outcome_by_kind, is_deferred}
-use Rattle.fsb_trace.specs.Rules.{breaks, is_request_too_soon, is_code_unlawful, is_identity_wrong, is_error_alone, is_response_early, is_code_wrong, is_code_for, has_den, is_target_ready_wrong}
+use Rattle.fsb_trace.specs.Outcome.{told_by, is_deferral, response_code_of, outcome_by_kind}
+use Rattle.fsb_trace.specs.Rules.{breaks, is_request_too_soon, is_code_unlawful, is_identity_wrong, is_error_alone, is_response_early, is_code_for, has_den}
 use Rattle.fsb_trace.specs.Verdict.{is_broken, least_rule}
-use Rattle.fsb_trace.proofs.RuleSteps.{breaks-2, breaks-3, breaks-4, breaks-7, breaks-10, breaks-13, breaks-14, breaks-15, breaks-18}
+use Rattle.fsb_trace.proofs.RuleSteps.{breaks-2, breaks-3, breaks-4, breaks-7, breaks-10, breaks-13, breaks-15, breaks-18}
 use Rattle.fsb_count.proofs.First.{first_where-none}
-use Rattle.fsb_laws.specs.OneMore.{OneMore, responds}
-use Rattle.fsb_laws.specs.Orderly.{Orderly}
-use Rattle.fsb_laws.specs.Progress.{response_count, may_answer_next}
+use Rattle.fsb_laws.specs.OneMore.{OneMore}
+use Rattle.fsb_laws.specs.Progress.{may_answer_next}
 use Rattle.fsb_laws.proofs.OneMoreFacts.{line_at-new}
-use Rattle.fsb_rules.specs.declared.asked.Asked.{Asked}
 use Rattle.fsb_rules.specs.declared.checker.Checker.{Checker}
-use Rattle.fsb_rules.specs.Asked.{asked_from}
 use Rattle.fsb_rules.specs.Tests.{queue_len, next_by, takes_by, is_ready_wrongly_by}
 use Rattle.fsb_rules.specs.Steps.{begun_by, is_begun_wrongly_by, is_target_ready_wrong_by}
 use Rattle.fsb_rules.specs.Checker.{Follows}
@@ -96,8 +92,8 @@ goes_on k h x v f m u =
       unbegun = λ t. begun-form k h x v f m ∙ (rw t refl);
       ready = λ t. ready_now k h x f (rule_15 k h x v f m may ∙ sym (breaks-15 v n) ∙ u.sound 15 (omega arith)) t;
       room = λ t.
-        let quiet = too_soon_not h x v m soon t in
-        (room_now k h x (rule_4 k h x v f m (λ s. (too_soon_not h x v m soon s).0) ∙ sym (breaks-4 v n) ∙ u.sound 4 (omega arith)) t, quiet.0);
+          let quiet = too_soon_not h x v m soon t in
+          (room_now k h x (rule_4 k h x v f m (λ s. (too_soon_not h x v m soon s).0) ∙ sym (breaks-4 v n) ∙ u.sound 4 (omega arith)) t, quiet.0);
     }
 
 pub own_unbroken : (v : Trace) (n : ℕ) → IsUnbroken v n → is_identity_wrong v n ≡ false

@@ -1,18 +1,17 @@
 -- The requests that have their snoop end go on with a sample that breaks no rule.
-use Rattle.std.proofs.Common.{ℕ, zero, suc, ◌+◌, ◌-◌, ◌<◌, ◌≤◌, ◌≡◌, Bool, true, false, cond, not, ◌&&◌, nat_lt, Option, Some, None, is_some, is_none, List, [], ◌∷◌, ◌++◌, drop, length, refl, sym, ap, ◌∙◌, arith, inl, inr, subst, add-zero, add-one}
+use Rattle.std.proofs.Common.{ℕ, zero, suc, ◌+◌, ◌<◌, ◌≤◌, ◌≡◌, Bool, true, false, cond, ◌&&◌, nat_lt, Option, Some, None, List, ◌++◌, drop, length, refl, sym, ap, ◌∙◌, arith, inl, inr, subst, add-zero, add-one}
 use Rattle.std.specs.Option.{option_map, option_and_then, option_to_list}
-use Rattle.std.proofs.lemmas.Bool.{cases_Bool, cases_lt, both_ways}
+use Rattle.std.proofs.lemmas.Bool.{cases_lt}
 use Rattle.std.proofs.lemmas.Option.{cond_some, same_Some}
 use Rattle.std.proofs.lemmas.List.{append-nil}
 use Rattle.fsb_signal.specs.declared.lines.TheConstants.Lines.{HITM, DEFER, TRDY, DRDY}
 use Rattle.fsb_signal.specs.declared.sample.Sample.{Sample}
-use Rattle.fsb_signal.specs.Samples.{has_line, line_at, response_of}
+use Rattle.fsb_signal.specs.Samples.{has_line, response_of}
 use Rattle.fsb_trace.specs.At.{Trace}
 use Rattle.fsb_trace.specs.Snoop.{snoop_end_of}
 use Rattle.fsb_trace.specs.Outcome.{told_by, does_move}
 use Rattle.fsb_trace.specs.Response.{ready_clock_of}
 use Rattle.fsb_laws.specs.OneMore.{OneMore, responds}
-use Rattle.fsb_laws.specs.Orderly.{Orderly}
 use Rattle.fsb_laws.specs.Progress.{SnoopsTo, ends_snoop_of, response_count, transfer_of, may_answer_next}
 use Rattle.fsb_laws.proofs.OneMoreFacts.{line_at-old}
 use Rattle.fsb_laws.proofs.SnoopSteps.{snoop_end_of-old, snoop_end_of-above, snoop_end_of-more}
@@ -22,15 +21,13 @@ use Rattle.fsb_laws.proofs.ReadySteps.{ready_clock_of-next, ready_clock_of-after
 use Rattle.fsb_rules.specs.declared.asked.Asked.{Asked}
 use Rattle.fsb_rules.specs.declared.asked.Snooped.{Snooped}
 use Rattle.fsb_rules.specs.declared.asked.Moving.{Moving}
-use Rattle.fsb_rules.specs.declared.queue.Queue.{Queue}
 use Rattle.fsb_rules.specs.declared.checker.Checker.{Checker}
 use Rattle.fsb_rules.specs.Asked.{asked_from, asked_of, snooped_with, snooped_of}
 use Rattle.fsb_rules.specs.Window.{Window}
-use Rattle.fsb_rules.specs.Queue.{QueueStands, snoop_before, moving_after, moving_of, moving_with}
-use Rattle.fsb_rules.specs.Checker.{Follows}
+use Rattle.fsb_rules.specs.Queue.{snoop_before, moving_after, moving_of, moving_with}
 use Rattle.fsb_rules.specs.Tests.{waiting_after, snooped_by, moving_by, moved_by, after_chunk, ready_after_by}
 use Rattle.fsb_rules.proofs.Windows.{window-push, window-same}
-use Rattle.fsb_rules.proofs.QueueFacts.{IsKnown, known_snooped, asked_of-known, snooped_of-form, IsSnooped, HasNext, has_next}
+use Rattle.fsb_rules.proofs.QueueFacts.{known_snooped, asked_of-known, snooped_of-form, IsSnooped, has_next}
 use Rattle.fsb_rules.proofs.QueueSteps.{asked_kept}
 use Rattle.fsb_rules.proofs.QueueGoes.{snooped_known, drop_first, snooped_after, snooped_ends, snooped_not, snooped_there}
 use Rattle.fsb_rules.proofs.DataRules.{chunks_in, chunks_now, moving_begun, moving_kept}
@@ -158,9 +155,11 @@ snoop_below h s i t to e =
 moving_asked : (k : Checker) (h : Trace) (x : Sample) (v : Trace) (b : Option Asked) (g : Goes k h x v b) (t : Bool) (m : Moving) → responds x ≡ t → moving_by k.queue (length h) x ≡ Some m → (i : ℕ) × (response_count v ≡ suc i) × (asked_of v i ≡ Some m.asked)
 moving_asked k h x v b g true m t e =
     let begun = moving_begun k h x g.follows (g.may t) t in
-    let p = cond_some (does_move (told_by h (response_count h) (response_of x))) (record { asked = (has_next k.queue h g.follows.queue g.follows.orderly g.follows.decoded (g.may t)).next.asked; chunks = 0 }) m (sym begun ∙ e) in
-    (response_count h, response_count-more h x v g.more ∙ ap (λ c. response_count h + cond c 1 0) t ∙ add-one (response_count h),
-    next_asked k h x v b g (g.may t) ∙ ap (λ a. Some a) (ap (λ a. a.asked) p.1))
+    let p = cond_some (does_move (told_by h (response_count h) (response_of x))) (record { asked = (has_next k.queue h g.follows.queue g.follows.orderly g.follows.decoded (g.may t)).next.asked; chunks = 0 }) m (sym begun ∙ e) in (
+      response_count h,
+      response_count-more h x v g.more ∙ ap (λ c. response_count h + cond c 1 0) t ∙ add-one (response_count h),
+      next_asked k h x v b g (g.may t) ∙ ap (λ a. Some a) (ap (λ a. a.asked) p.1),
+    )
 moving_asked k h x v b g false m f e =
     let old : moving_of h ≡ Some m = sym g.follows.queue.moving ∙ sym (moving_kept k h x f) ∙ e in
     let p = moving_parts h m old in
@@ -174,9 +173,9 @@ unfolding moving_of
 moving_goes k h x v b g =
     moving_is v (response_count v) (after_chunk (moving_by k.queue (length h) x) x) (chunks_now k h x v (responds x) g.follows g.more g.may refl)
     (λ m e.
-      let p = after_asked (moving_by k.queue (length h) x) m x e in
-      let q = moving_asked k h x v b g (responds x) p.0 refl p.1 in
-      (q.0, q.1, q.2 ∙ ap (λ a. Some a) (sym p.2)))
+    let p = after_asked (moving_by k.queue (length h) x) m x e in
+    let q = moving_asked k h x v b g (responds x) p.0 refl p.1 in
+    (q.0, q.1, q.2 ∙ ap (λ a. Some a) (sym p.2)))
 
 -- the last snoop end
 before_next : (v : Trace) (s : ℕ) → snoop_before v (s + 1) ≡ snoop_end_of v s

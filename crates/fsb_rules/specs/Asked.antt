@@ -1,5 +1,5 @@
 -- What is kept of a request.
-use Rattle.std.specs.Prelude.{ℕ, Bool, ◌&&◌, ◌||◌, nat_eq, if◌then◌else◌, Option, Some, None}
+use Rattle.std.specs.Prelude.{ℕ, Option}
 use Rattle.std.specs.Option.{option_map, option_and_then}
 use Rattle.fsb_signal.specs.declared.lines.TheConstants.Lines.{HITM, DEFER}
 use Rattle.fsb_signal.specs.Samples.{line_at}

@@ -1,5 +1,5 @@
 -- What is kept of the last three clocks.
-use Rattle.std.specs.Prelude.{◌≡◌, ℕ, ◌-◌, nat_le, if◌then◌else◌, Option, None, length}
+use Rattle.std.specs.Prelude.{◌≡◌, ◌-◌, nat_le, if◌then◌else◌, Option, None, length}
 use Rattle.fsb_encode.specs.declared.request.Pair.{Pair}
 use Rattle.fsb_trace.specs.At.{Trace, known_pair_at}
 use Rattle.fsb_arbiter.specs.Arbiter.{lines_back}

@@ -1,17 +1,14 @@
 -- The rules' tests of one clock, over what is kept and the sample.
-use Rattle.std.specs.Prelude.{ℕ, ◌+◌, ◌-◌, ◌/◌, ◌%◌, Bool, true, false, ◌&&◌, ◌||◌, not, nat_eq, nat_le, nat_lt, is_some, is_none, max, take, drop, List, [], ◌∷◌, ◌++◌, length, slice_get, if◌then◌else◌, Option, Some, None, cond}
-use Rattle.std.specs.List.{list_any, count_by, filter_map}
-use Rattle.std.specs.Option.{option_map, option_and_then, option_to_list}
+use Rattle.std.specs.Prelude.{ℕ, ◌+◌, ◌-◌, Bool, false, ◌&&◌, ◌||◌, not, nat_eq, nat_le, nat_lt, is_some, is_none, max, take, drop, List, ◌++◌, length, slice_get, if◌then◌else◌, Option, Some, None}
+use Rattle.std.specs.Option.{option_and_then, option_to_list}
 use Rattle.fsb_count.specs.Options.{is_some_and}
 use Rattle.fsb_signal.specs.declared.lines.Lines.{Lines}
-use Rattle.fsb_signal.specs.declared.lines.TheConstants.Lines.{ADS, AERR, HIT, HITM, DEFER, TRDY, DBSY, DRDY, BNR, LOCK, BREQ0, BREQ1, BREQ2, BREQ3, BPRI}
+use Rattle.fsb_signal.specs.declared.lines.TheConstants.Lines.{HIT, HITM, DEFER, TRDY, DRDY}
 use Rattle.fsb_signal.specs.declared.sample.Sample.{Sample}
-use Rattle.fsb_signal.specs.Samples.{has_line, has_known_lines, is_known_word, response_of}
+use Rattle.fsb_signal.specs.Samples.{has_line, response_of}
 use Rattle.fsb_encode.specs.declared.request.Pair.{Pair}
 use Rattle.fsb_encode.specs.declared.request.Request.{Request}
 use Rattle.fsb_encode.specs.Decoded.{request_of}
-use Rattle.fsb_trace.specs.declared.who.Who.{Who}
-use Rattle.fsb_trace.specs.declared.who.Who.TheVariants.{Symmetric, Priority}
 use Rattle.fsb_trace.specs.declared.outcome.Outcome.{Outcome}
 use Rattle.fsb_trace.specs.declared.outcome.Outcome.TheVariants.{Granted, Handed, Retried, Deferred, Written, Replied, Failed}
 use Rattle.fsb_trace.specs.At.{known_pair}

@@ -98,8 +98,7 @@ fn is_deferral(outcome: Outcome) -> bool
 fn is_unfit(asked: &Asked, sample: &Sample) -> bool
     ensures { result ≡ is_unfit_by asked.now sample.now }
 {
-    (asked.is_write_back || asked.is_reply)
-        && (sample.has(Lines::HITM) || sample.has(Lines::DEFER))
+    (asked.is_write_back || asked.is_reply) && (sample.has(Lines::HITM) || sample.has(Lines::DEFER))
         || asked.is_write_back && sample.has(Lines::HIT)
 }
 
@@ -376,7 +375,12 @@ impl Queue {
         let snooped = self.snooped(clock, sample);
         let moving = after_chunk(self.moving_with(clock, sample), sample);
         let ready = self.ready_after(clock, sample);
-        take_asked(&mut self.asking, sample.has(Lines::AERR), snooped.is_some(), begun);
+        take_asked(
+            &mut self.asking,
+            sample.has(Lines::AERR),
+            snooped.is_some(),
+            begun,
+        );
         take_snooped(&mut self.waiting, responds(sample), snooped);
         if snooped.is_some() {
             self.last_snoop = Some(clock);

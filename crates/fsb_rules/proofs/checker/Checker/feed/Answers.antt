@@ -1,7 +1,7 @@
-use Rattle.std.proofs.Common.{◌≡◌, true, false, None, refl, sym, ap, ◌∙◌, subst, [], ◌∷◌, ◌++◌}
+use Rattle.std.proofs.Common.{None, sym, ap, ◌∙◌, subst, [], ◌∷◌, ◌++◌}
 use Rattle.fsb_trace.specs.At.{Trace}
 use Rattle.fsb_rules.specs.Checker.{Stands}
-use Rattle.fsb_rules.proofs.Feeds.{FeedStep, AbsorbedAt, queue_few, queue_room, outstanding_room, absorb_stands, broken_stands, not_found, was_found}
+use Rattle.fsb_rules.proofs.Feeds.{FeedStep, queue_few, queue_room, outstanding_room, absorb_stands, broken_stands, not_found, was_found}
 use Rattle.fsb_rules.proofs.checker.Checker.feed.Goals as goal
 use Rattle.fsb_rules.proofs.checker.Checker.feed.Goals.{then-is_none+in-Some, then-is_none+in-None, else-is_none}
 
