@@ -36,22 +36,26 @@ responses_snooped h s o to =
     ]
 
 far_by : (h : Trace) (t : Option ℕ) → Orderly h → transfer_of h ≡ t → (e : ℕ) × Far h e
-far_by h None o f =
-    (response_count h, record {
-      ends = ends_to-still h o f;
-      answered = record { later = λ i l. response_past h i (omega arith); head = inl (f, refl) };
-      within = omega arith;
-    })
+far_by h None o f = (
+  response_count h,
+  record {
+    ends = ends_to-still h o f;
+    answered = record { later = λ i l. response_past h i (omega arith); head = inl (f, refl) };
+    within = omega arith;
+  },
+)
 far_by h (Some k) o f =
     let p = transfer_parts h k f in
     let i : ℕ = p.0 in
     let count : response_count h ≡ suc i = p.1 in
-    let r = response_there h i (omega arith) in
-    (i, record {
-      ends = ends_to-moving h k i o f count;
-      answered = record { later = λ j l. response_past h j (omega arith); head = inr (k, r.0, f, count, r.1) };
-      within = omega arith;
-    })
+    let r = response_there h i (omega arith) in (
+      i,
+      record {
+        ends = ends_to-moving h k i o f count;
+        answered = record { later = λ j l. response_past h j (omega arith); head = inr (k, r.0, f, count, r.1) };
+        within = omega arith;
+      },
+    )
 
 pub far : (h : Trace) → Orderly h → (e : ℕ) × Far h e
 far h o = far_by h (transfer_of h) o refl

@@ -31,7 +31,7 @@ pub placed : (h : Trace) (queue : List Entry) (e k : ℕ) (entry : Entry) → In
 unfolding live_clock_of live_of live_number_of nth_where
 placed h queue e k entry f to at =
     let clock : slice_get (all_where (is_live h) (length h)) (e + k) ≡ Some entry.clock =
-      sym (dropped e k (all_where (is_live h) (length h))) ∙ ap (λ qs. slice_get qs k) (sym (f.clocks ∙ in_flight-live h e to))
-      ∙ slice_get-map (λ x. x.clock) queue k ∙ ap (option_map (λ x. x.clock)) at in
+    sym (dropped e k (all_where (is_live h) (length h))) ∙ ap (λ qs. slice_get qs k) (sym (f.clocks ∙ in_flight-live h e to))
+    ∙ slice_get-map (λ x. x.clock) queue k ∙ ap (option_map (λ x. x.clock)) at in
     let found = nth_where-found (is_live h) (e + k) (length h) entry.clock clock in
     record { clock = clock; number = found.2; live = found.1; within = found.0 }

@@ -119,8 +119,8 @@ told-is h e turn i s code k f g c =
     let o : Outcome = settled_by h turn i s in
     let form : o ≡ settled_cases (line_at HITM h s) turn (live_request_of h i) = settled_form h turn i s in
     let told : told_by h i (response_code_of o) ≡ o =
-      told_form h i s (response_code_of o) g
-      ∙ ap (λ x. told_cases (line_at HITM h s) (response_code_of x) (live_request_of h i)) form
-      ∙ cases_told (line_at HITM h s) turn (live_request_of h i) ∙ sym form in
+    told_form h i s (response_code_of o) g
+    ∙ ap (λ x. told_cases (line_at HITM h s) (response_code_of x) (live_request_of h i)) form
+    ∙ cases_told (line_at HITM h s) turn (live_request_of h i) ∙ sym form in
     ap (λ n. does_move (told_by h i n)) (c ∙ code_is e o (outcome_at h e turn i s k f g))
     ∙ ap does_move told ∙ sym (moves_is e o (outcome_at h e turn i s k f g))

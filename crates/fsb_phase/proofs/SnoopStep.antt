@@ -122,8 +122,8 @@ end_here h x v s i m sp to =
     elim (cases_order i s) [
       | inl same ↦
           let here : is_at (snoop_end_of v s) (length h) ≡ (snoop_at h s && not (stalls x)) =
-            ap (λ o. is_at o (length h)) (snoop_end_of-more h x v s m sp to) ∙ at_clock (length h) (ends_snoop_of h s x)
-            ∙ ap (λ b. b && not (stalls x)) (sym (at_next h s to)) in
+          ap (λ o. is_at o (length h)) (snoop_end_of-more h x v s m sp to) ∙ at_clock (length h) (ends_snoop_of h s x)
+          ∙ ap (λ b. b && not (stalls x)) (sym (at_next h s to)) in
           subst (λ j. is_at (snoop_end_of v j) (length h) ≡ (snoop_at h j && not (stalls x))) (sym same) here
       | inr other ↦ elim other [
         | inl less ↦
