@@ -1,25 +1,18 @@
 -- Whether the next response may come at the new clock, and whether its target is ready.
-use Rattle.std.proofs.Common.{ℕ, zero, suc, ◌+◌, ◌-◌, ◌<◌, ◌≤◌, ◌≡◌, ◌⊎◌, Bool, true, false, cond, not, ◌&&◌, nat_le, nat_lt, Option, Some, None, is_none, length, max, refl, sym, ap, ◌∙◌, arith, inl, inr, subst, add-one}
-use Rattle.std.specs.Option.{option_map, option_and_then}
-use Rattle.std.proofs.lemmas.Bool.{cases_Bool, cases_lt, cases_eq, and_parts, and_left, and_right, and_from, leb-true, leb-false, le-leb, lt-leb, ltb-true, ltb-false, lt-ltb, le-ltb}
-use Rattle.fsb_count.specs.Options.{is_some_and, is_before, greater_of}
-use Rattle.fsb_count.specs.Clocks.{AgreeBelow, first_where, from_clock}
-use Rattle.fsb_signal.specs.declared.lines.TheConstants.Lines.{TRDY}
+use Rattle.std.proofs.Common.{ℕ, zero, suc, ◌+◌, ◌<◌, ◌≤◌, ◌≡◌, true, false, nat_le, Option, Some, None, is_none, length, refl, sym, ap, ◌∙◌, arith, inl, inr}
+use Rattle.std.proofs.lemmas.Bool.{cases_lt, and_parts, leb-true, lt-leb, lt-ltb, le-ltb}
+use Rattle.fsb_count.specs.Options.{is_some_and, is_before}
 use Rattle.fsb_signal.specs.declared.sample.Sample.{Sample}
-use Rattle.fsb_signal.specs.Samples.{has_line, line_at, response_of}
 use Rattle.fsb_trace.specs.At.{Trace}
 use Rattle.fsb_trace.specs.Snoop.{snoop_end_of}
-use Rattle.fsb_trace.specs.Outcome.{response_clock_of}
-use Rattle.fsb_trace.specs.Response.{end_of, is_clear_before, clock_after_snoop, ready_after, ready_clock_of}
+use Rattle.fsb_trace.specs.Response.{end_of, is_clear_before}
 use Rattle.fsb_trace.specs.Rules.{may_answer}
-use Rattle.fsb_laws.specs.OneMore.{OneMore, responds}
+use Rattle.fsb_laws.specs.OneMore.{OneMore}
 use Rattle.fsb_laws.specs.Orderly.{Spaced, Orderly}
-use Rattle.fsb_laws.specs.Progress.{SnoopsTo, EndsTo, ends_snoop_of, response_count, transfer_of, may_answer_next}
-use Rattle.fsb_laws.proofs.OneMoreFacts.{line_at-old, line_at-new}
-use Rattle.fsb_laws.proofs.SnoopSteps.{snoop_end_of-old, snoop_end_of-above, snoop_end_of-more, snoops_to-ended, snoops_to-kept}
+use Rattle.fsb_laws.specs.Progress.{SnoopsTo, response_count, transfer_of, may_answer_next}
+use Rattle.fsb_laws.proofs.SnoopSteps.{snoop_end_of-old, snoop_end_of-above}
 use Rattle.fsb_laws.proofs.SnoopClockSteps.{ended_where}
-use Rattle.fsb_laws.proofs.ResponseSteps.{HasAnswer, has_answer, may_answer-from, response_there, response_past}
-use Rattle.fsb_laws.proofs.EndFacts.{ends_to-still, ends_to-moving, transfer_parts, end_of-old, end_of-kept, clear_parts}
+use Rattle.fsb_laws.proofs.EndFacts.{ends_to-still, ends_to-moving, transfer_parts, end_of-old, end_of-kept}
 
 -- no transfer is on the way exactly where the request before the next one to respond has its end
 clear_still : (h : Trace) (x : Sample) (v : Trace) (n : ℕ) → OneMore h x v → Orderly h → transfer_of h ≡ None → response_count h ≡ n → is_clear_before v n (length h) ≡ true

@@ -1,7 +1,7 @@
 -- Words over a test of a clock: all clocks that pass, and how many.
-use Rattle.std.proofs.Common.{ℕ, zero, suc, ◌+◌, ◌<◌, ◌≤◌, ◌≡◌, Bool, true, false, cond, not, ◌&&◌, nat_le, List, [], ◌∷◌, ◌++◌, drop, filter, length, refl, sym, ap, ◌∙◌, arith, inl, inr, add-one, below_more}
+use Rattle.std.proofs.Common.{ℕ, zero, suc, ◌+◌, ◌<◌, ◌≡◌, Bool, true, false, cond, ◌&&◌, nat_le, [], ◌∷◌, ◌++◌, drop, filter, length, refl, sym, ap, ◌∙◌, arith, inl, inr, add-one}
 use Rattle.std.proofs.lemmas.Bool.{cases_Bool, cases_lt, and_left, and_right, and_from, le-leb, lt-leb}
-use Rattle.std.proofs.lemmas.List.{length-append, append-nil, drop-append-le, drop_all}
+use Rattle.std.proofs.lemmas.List.{length-append, drop-append-le, drop_all}
 use Rattle.std.proofs.lemmas.List.Elements.{filter-append}
 use Rattle.fsb_count.specs.Clocks.{AgreeBelow, count_where, all_where}
 use Rattle.fsb_count.proofs.Nth.{length-all_where, all_where-passed, all_where-failed}

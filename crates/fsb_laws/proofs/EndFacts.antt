@@ -1,8 +1,8 @@
 -- Which live requests have their ends in an orderly trace.
-use Rattle.std.proofs.Common.{ℕ, zero, suc, ◌+◌, ◌-◌, ◌<◌, ◌≤◌, ◌≡◌, Bool, true, false, cond, not, ◌&&◌, nat_le, nat_lt, Option, Some, None, length, refl, sym, ap, ◌∙◌, arith, inl, inr, subst}
-use Rattle.std.proofs.lemmas.Bool.{cases_Bool, cases_lt, cases_eq, and_parts, and_left, and_from, ltb-true, ltb-false, lt-ltb}
+use Rattle.std.proofs.Common.{ℕ, zero, suc, ◌<◌, ◌≤◌, ◌≡◌, true, false, ◌&&◌, nat_lt, Option, Some, None, length, refl, sym, ◌∙◌, arith, inl, inr, subst}
+use Rattle.std.proofs.lemmas.Bool.{cases_Bool, cases_eq, and_parts, ltb-true, ltb-false}
 use Rattle.fsb_count.specs.Options.{is_some_and, is_before}
-use Rattle.fsb_count.specs.Clocks.{count_where, nth_where, from_clock}
+use Rattle.fsb_count.specs.Clocks.{count_where, from_clock}
 use Rattle.fsb_count.proofs.Nth.{nth_where-found, nth_where-there, nth_where-past}
 use Rattle.fsb_signal.specs.declared.lines.TheConstants.Lines.{DRDY}
 use Rattle.fsb_signal.specs.declared.sample.Sample.{Sample}
@@ -11,13 +11,14 @@ use Rattle.fsb_trace.specs.At.{Trace}
 use Rattle.fsb_trace.specs.Outcome.{response_clock_of, moves_data}
 use Rattle.fsb_trace.specs.Response.{end_of, is_clear_before}
 use Rattle.fsb_trace.specs.Rules.{is_transferring_of}
+use Rattle.fsb_trace.specs.Agree.{AgreeTo}
 use Rattle.fsb_trace.proofs.AgreeAt.{AgreeTo-sym}
 use Rattle.fsb_trace.proofs.Stay.{response_clock_of-stays, snoop_end_of-stays}
 use Rattle.fsb_trace.proofs.StayEnds.{end_of-moving, end_of-still, end_of-response, end_of-stays}
 use Rattle.fsb_laws.specs.OneMore.{OneMore}
 use Rattle.fsb_laws.specs.Orderly.{Orderly}
 use Rattle.fsb_laws.specs.Progress.{EndsTo, response_count, chunks_of, transfer_after, transfer_of}
-use Rattle.fsb_laws.proofs.ResponseSteps.{HasAnswer, has_answer, response_there, response_past, response_counted}
+use Rattle.fsb_laws.proofs.ResponseSteps.{has_answer, response_there, response_past}
 
 -- how many chunks of a request came from its response r on
 abbrev pub chunks_from : Trace → ℕ → ℕ
@@ -132,19 +133,26 @@ ends_to-moving h k i o f e =
       ];
     }
 
+-- in traces that agree up to the end of the first, an end below it is the end in both
+pub end_of-back : (u v : Trace) (i e : ℕ) → AgreeTo (length u) u v → Orderly u → end_of v i ≡ Some e → e < length u → end_of u i ≡ Some e
+end_of-back u v i e agree o f l =
+    let p = end_of-response v i e f in
+    let back = AgreeTo-sym (length u) u v agree in
+    let r = response_clock_of-stays (length u) v u i p.0 back (omega (arith, p.2)) p.1 in
+    let a = has_answer u p.0 i (o.timely i p.0 r) in
+    let s = snoop_end_of-stays (length u) u v i a.snoop agree (omega (arith, a.before, p.2)) a.is_snoop in
+    end_of-stays (length u) v u i a.snoop e back (omega (arith, a.before, p.2)) s l f
+
+pub end_of-forth : (u v : Trace) (i e : ℕ) → AgreeTo (length u) u v → Orderly u → end_of u i ≡ Some e → e < length u → end_of v i ≡ Some e
+end_of-forth u v i e agree o f l =
+    let p = end_of-response u i e f in
+    let a = has_answer u p.0 i (o.timely i p.0 p.1) in
+    end_of-stays (length u) u v i a.snoop e agree (omega (arith, a.before, p.2)) a.is_snoop l f
+
 -- an end of the new trace below the new clock is one of the old trace
 pub end_of-old : (h : Trace) (x : Sample) (v : Trace) (i e : ℕ) → OneMore h x v → Orderly h → end_of v i ≡ Some e → e < length h → end_of h i ≡ Some e
-end_of-old h x v i e m o f l =
-    let p = end_of-response v i e f in
-    let back = AgreeTo-sym (length h) h v m.agree in
-    let r = response_clock_of-stays (length h) v h i p.0 back (omega (arith, p.2)) p.1 in
-    let a = has_answer h p.0 i (o.timely i p.0 r) in
-    let s = snoop_end_of-stays (length h) h v i a.snoop m.agree (omega (arith, a.before, p.2)) a.is_snoop in
-    end_of-stays (length h) v h i a.snoop e back (omega (arith, a.before, p.2)) s l f
+end_of-old h x v i e m o f l = end_of-back h v i e m.agree o f l
 
 -- an end of the old trace stays
 pub end_of-kept : (h : Trace) (x : Sample) (v : Trace) (i e : ℕ) → OneMore h x v → Orderly h → end_of h i ≡ Some e → e < length h → end_of v i ≡ Some e
-end_of-kept h x v i e m o f l =
-    let p = end_of-response h i e f in
-    let a = has_answer h p.0 i (o.timely i p.0 p.1) in
-    end_of-stays (length h) h v i a.snoop e m.agree (omega (arith, a.before, p.2)) a.is_snoop l f
+end_of-kept h x v i e m o f l = end_of-forth h v i e m.agree o f l

@@ -1,25 +1,24 @@
 -- Requests in flight, one sample on.
-use Rattle.std.proofs.Common.{ℕ, zero, suc, ◌+◌, ◌-◌, ◌<◌, ◌≤◌, ◌≡◌, Bool, true, false, cond, not, ◌&&◌, ◌||◌, nat_le, nat_lt, nat_eq, Option, Some, None, List, [], ◌∷◌, ◌++◌, drop, filter, length, refl, sym, ap, ◌∙◌, arith, inl, inr, subst, add-one, length-drop}
-use Rattle.std.proofs.lemmas.Bool.{cases_Bool, cases_lt, cases_eq, and_parts, and_left, and_right, and_from, both_ways, eqb-true, eq-eqb, ne_eqb, ltb-true, ltb-false, lt-ltb, le-ltb, le-leb, lt-leb}
+use Rattle.std.proofs.Common.{ℕ, ◌+◌, ◌-◌, ◌<◌, ◌≤◌, ◌≡◌, Bool, true, false, cond, not, ◌&&◌, ◌||◌, nat_le, Option, Some, None, [], ◌∷◌, ◌++◌, drop, filter, length, refl, sym, ap, ◌∙◌, arith, inl, inr, length-drop}
+use Rattle.std.proofs.lemmas.Bool.{cases_Bool, cases_lt, cases_eq, and_left, and_right, and_from, eq-eqb, ne_eqb, lt-ltb, le-ltb, le-leb, lt-leb}
 use Rattle.fsb_count.specs.Options.{is_some_and, is_before, is_at}
-use Rattle.fsb_count.specs.Clocks.{AgreeBelow, count_where, all_where}
-use Rattle.fsb_count.proofs.Nth.{nth_where-at, length-all_where, all_where-passed, all_where-failed}
+use Rattle.fsb_count.specs.Clocks.{count_where, all_where}
+use Rattle.fsb_count.proofs.Nth.{nth_where-at, length-all_where}
 use Rattle.fsb_signal.specs.declared.lines.TheConstants.Lines.{ADS}
 use Rattle.fsb_signal.specs.declared.sample.Sample.{Sample}
 use Rattle.fsb_signal.specs.Samples.{has_line, line_at}
 use Rattle.fsb_trace.specs.At.{Trace}
 use Rattle.fsb_trace.specs.Requests.{is_cancelled, is_live, live_clock_of, live_count, live_number_of}
-use Rattle.fsb_trace.specs.Snoop.{snoop_end_of}
 use Rattle.fsb_trace.specs.Response.{end_of}
 use Rattle.fsb_trace.specs.Flight.{is_dropped, has_ended, is_in_flight, in_flight}
 use Rattle.fsb_trace.proofs.Stay.{snoop_end_of-clock}
 use Rattle.fsb_trace.proofs.StayEnds.{end_of-response}
 use Rattle.fsb_laws.specs.OneMore.{OneMore, cancels}
-use Rattle.fsb_laws.specs.Orderly.{Spaced, Orderly}
+use Rattle.fsb_laws.specs.Orderly.{Orderly}
 use Rattle.fsb_laws.specs.Progress.{EndsTo}
 use Rattle.fsb_laws.specs.Flight.{leaves}
 use Rattle.fsb_laws.proofs.Clocks.{all_where-same, all_where-filter, all_where-drop, all_where-more}
-use Rattle.fsb_laws.proofs.OneMoreFacts.{line_at-old, line_at-new}
+use Rattle.fsb_laws.proofs.OneMoreFacts.{line_at-old}
 use Rattle.fsb_laws.proofs.LiveSteps.{is_live-ads, is_cancelled-more, is_cancelled-late, is_live-more, is_live-new, live_number_of-more}
 use Rattle.fsb_laws.proofs.ResponseSteps.{has_answer}
 use Rattle.fsb_laws.proofs.EndFacts.{end_of-old, end_of-kept}
@@ -52,7 +51,7 @@ pub end_before-same : (h : Trace) (x : Sample) (v : Trace) (i : ℕ) → OneMore
 end_before-same h x v i m o = end_before_cases h x v i (end_of h i) (end_of v i) m o refl refl
 
 -- a request of which it is not known whether it is live has not ended
-ended_known : (h : Trace) (q : ℕ) (o : Option ℕ) → Orderly h → q < length h → is_live h q ≡ true → length h ≤ q + 3 → end_of h (live_number_of h q) ≡ o → is_before o (length h) ≡ false
+pub ended_known : (h : Trace) (q : ℕ) (o : Option ℕ) → Orderly h → q < length h → is_live h q ≡ true → length h ≤ q + 3 → end_of h (live_number_of h q) ≡ o → is_before o (length h) ≡ false
 unfolding is_before is_some_and live_number_of live_clock_of
 ended_known h q None o l t late e = refl
 ended_known h q (Some u) o l t late e =
@@ -83,7 +82,7 @@ dropped_form w q =
     elim (cases_lt (q + 3) (length w)) [
       | inl l ↦ rw (lt-ltb (q + 3) (length w) l) (and_true (is_cancelled w q))
       | inr l ↦ rw (is_cancelled-late w q l) refl
-    ] 
+    ]
 
 pub is_in_flight-end : (w : Trace) (q : ℕ) → q < length w → is_in_flight w (length w) q ≡ (is_live w q && not (is_before (end_of w (live_number_of w q)) (length w)))
 unfolding is_in_flight has_ended is_live
@@ -163,8 +162,8 @@ unfolding live_count
 in_flight-count h e to =
     ap length (in_flight-live h e to) ∙ length-drop e (all_where (is_live h) (length h)) ∙ ap (λ k. k - e) (length-all_where (is_live h) (length h))
 
--- with the sample, those leave that it cancels or ends, and the request that it begins comes
-at_or_before : (n : ℕ) (o : Option ℕ) → is_before o (n + 1) ≡ (is_before o n || is_at o n)
+-- a number that is below the next clock is below n, or is n
+pub at_or_before : (n : ℕ) (o : Option ℕ) → is_before o (n + 1) ≡ (is_before o n || is_at o n)
 unfolding is_before is_at is_some_and
 at_or_before n None = refl
 at_or_before n (Some t) =
@@ -224,6 +223,7 @@ old_ones h x v m o =
 new_one : (h : Trace) (x : Sample) (v : Trace) → OneMore h x v → Orderly v → is_in_flight v (length h + 1) (length h) ≡ has_line x ADS
 new_one h x v m o = ap (λ n. is_in_flight v n (length h)) (sym m.size) ∙ is_in_flight-new h x v m o
 
+-- with the sample, those leave that it cancels or ends, and the request that it begins comes
 pub in_flight-more : (h : Trace) (x : Sample) (v : Trace) → OneMore h x v → Orderly h → Orderly v → in_flight v (length v) ≡ filter (λ q. not (leaves h x v q)) (in_flight h (length h)) ++ cond (has_line x ADS) (length h ∷ []) []
 unfolding in_flight
 in_flight-more h x v m o ov =

@@ -10,3 +10,6 @@ pub mod ReadySteps
 pub mod OrderlySteps
 pub mod Clocks
 pub mod FlightSteps
+pub mod ReplySteps
+pub mod OutstandingSteps
+pub mod BeginSteps

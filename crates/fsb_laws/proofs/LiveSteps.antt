@@ -1,14 +1,14 @@
 -- Live requests, one sample on. Whether a request is live shows three clocks after its first clock.
-use Rattle.std.proofs.Common.{ℕ, zero, suc, ◌+◌, ◌-◌, ◌<◌, ◌≤◌, ◌≡◌, ◌⊎◌, Bool, true, false, not, ◌&&◌, nat_eq, Option, Some, None, length, refl, sym, ap, ◌∙◌, arith, inl, inr}
-use Rattle.std.proofs.lemmas.Bool.{cases_Bool, cases_lt, cases_order, cases_eq, and_parts, and_left, and_right, and_from, eqb-true, eq-eqb, ne_eqb, both_ways}
-use Rattle.fsb_count.specs.Clocks.{AgreeBelow, count_where, nth_where}
-use Rattle.fsb_count.proofs.Count.{count_where-same, count_where-passed, count_where-failed}
+use Rattle.std.proofs.Common.{ℕ, ◌+◌, ◌<◌, ◌≤◌, ◌≡◌, Bool, true, false, not, ◌&&◌, Some, length, refl, sym, ◌∙◌, arith, inl, inr}
+use Rattle.std.proofs.lemmas.Bool.{cases_order, and_parts, and_left, and_right, eq-eqb, ne_eqb}
+use Rattle.fsb_count.specs.Clocks.{count_where}
+use Rattle.fsb_count.proofs.Count.{count_where-same}
 use Rattle.fsb_count.proofs.Nth.{nth_where-found, nth_where-at}
 use Rattle.fsb_signal.specs.declared.lines.TheConstants.Lines.{ADS, AERR}
 use Rattle.fsb_signal.specs.declared.sample.Sample.{Sample}
 use Rattle.fsb_signal.specs.Samples.{has_line, line_at}
 use Rattle.fsb_trace.specs.At.{Trace}
-use Rattle.fsb_trace.specs.Requests.{is_cancelled, is_live, live_clock_of, live_count, live_number_of}
+use Rattle.fsb_trace.specs.Requests.{is_cancelled, is_live, live_clock_of, live_number_of}
 use Rattle.fsb_laws.specs.OneMore.{OneMore, cancels}
 use Rattle.fsb_laws.specs.Orderly.{Spaced}
 use Rattle.fsb_laws.proofs.OneMoreFacts.{line_at-old, line_at-new, line_at-past}

@@ -1,13 +1,13 @@
 -- What a trace with one sample more has at its clocks.
-use Rattle.std.proofs.Common.{ℕ, zero, suc, ◌+◌, ◌<◌, ◌≤◌, ◌≡◌, true, false, Some, List, [], ◌∷◌, ◌++◌, length, refl, sym, ap, ◌∙◌, arith, slice_get}
+use Rattle.std.proofs.Common.{ℕ, zero, suc, ◌+◌, ◌<◌, ◌≤◌, ◌≡◌, false, List, [], ◌∷◌, ◌++◌, length, refl, sym, arith, slice_get}
 use Rattle.std.proofs.lemmas.List.{length-append}
 use Rattle.std.proofs.lemmas.Option.{slice_get_past}
 use Rattle.fsb_count.proofs.Nth.{slice_get-end}
 use Rattle.fsb_signal.specs.declared.lines.Lines.{Lines}
+use Rattle.fsb_signal.specs.declared.lines.TheConstants.Lines.{HIT, HITM}
 use Rattle.fsb_signal.specs.declared.sample.Sample.{Sample}
 use Rattle.fsb_signal.specs.Samples.{has_line, line_at, response_of}
 use Rattle.fsb_trace.specs.At.{Trace, response_code_at, stalls_at}
-use Rattle.fsb_trace.specs.Agree.{AgreeTo}
 use Rattle.fsb_trace.proofs.AgreeAt.{line_at-agree}
 use Rattle.fsb_laws.specs.OneMore.{OneMore, stalls}
 
@@ -41,7 +41,7 @@ response_code_at-new h x v m = rw m.last refl
 
 pub stalls_at-new : (h : Trace) (x : Sample) (v : Trace) → OneMore h x v → stalls_at v (length h) ≡ stalls x
 unfolding stalls_at stalls
-stalls_at-new h x v m = rw (line_at-new _ h x v m, line_at-new _ h x v m) refl
+stalls_at-new h x v m = rw (line_at-new HIT h x v m, line_at-new HITM h x v m) refl
 
 -- past the end nothing is asserted
 pub line_at-past : (line : Lines) (w : Trace) (c : ℕ) → length w ≤ c → line_at line w c ≡ false

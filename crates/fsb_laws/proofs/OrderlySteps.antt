@@ -1,6 +1,6 @@
 -- An orderly trace goes on orderly where its next sample keeps the distance and responds in time.
-use Rattle.std.proofs.Common.{ℕ, zero, suc, ◌+◌, ◌-◌, ◌<◌, ◌≤◌, ◌≡◌, Bool, true, false, ◌&&◌, nat_le, Option, Some, None, [], length, refl, sym, ap, ◌∙◌, arith, inl, inr, subst, add-one}
-use Rattle.std.proofs.lemmas.Bool.{cases_Bool, cases_lt, cases_eq, and_left, lt-ltb, le-leb, both_ways}
+use Rattle.std.proofs.Common.{ℕ, zero, suc, ◌+◌, ◌-◌, ◌<◌, ◌≤◌, ◌≡◌, true, false, Some, [], length, refl, sym, ◌∙◌, arith, inl, inr, subst, add-one}
+use Rattle.std.proofs.lemmas.Bool.{cases_Bool, cases_lt, cases_eq, lt-ltb, le-leb, both_ways}
 use Rattle.fsb_count.specs.Options.{is_some_and, is_before}
 use Rattle.fsb_count.specs.Clocks.{count_where}
 use Rattle.fsb_signal.specs.declared.lines.TheConstants.Lines.{ADS}
@@ -9,7 +9,7 @@ use Rattle.fsb_signal.specs.Samples.{has_line, line_at}
 use Rattle.fsb_trace.specs.At.{Trace, line_back}
 use Rattle.fsb_trace.specs.Snoop.{snoop_end_of}
 use Rattle.fsb_trace.specs.Outcome.{response_clock_of}
-use Rattle.fsb_trace.specs.Response.{end_of, is_clear_before}
+use Rattle.fsb_trace.specs.Response.{is_clear_before}
 use Rattle.fsb_trace.specs.Rules.{may_answer}
 use Rattle.fsb_trace.specs.Agree.{AgreeTo}
 use Rattle.fsb_trace.proofs.AgreeAt.{AgreeTo-sym}
@@ -19,7 +19,7 @@ use Rattle.fsb_laws.specs.OneMore.{OneMore, responds}
 use Rattle.fsb_laws.specs.Orderly.{Spaced, Orderly}
 use Rattle.fsb_laws.specs.Progress.{SnoopsTo, response_count, may_answer_next}
 use Rattle.fsb_laws.proofs.OneMoreFacts.{line_at-old, line_at-new, line_at-past}
-use Rattle.fsb_laws.proofs.ResponseSteps.{HasAnswer, has_answer, may_answer-from, response_there, response_counted, response_count-more, response_clock_of-old, response_clock_of-new}
+use Rattle.fsb_laws.proofs.ResponseSteps.{has_answer, may_answer-from, response_there, response_counted, response_count-more, response_clock_of-old, response_clock_of-new}
 use Rattle.fsb_laws.proofs.EndFacts.{clear_parts}
 use Rattle.fsb_laws.proofs.AnswerSteps.{may_answer-new}
 
@@ -61,18 +61,18 @@ pub spaced-more : (h : Trace) (x : Sample) (v : Trace) → OneMore h x v → Spa
 spaced-more h x v m s far =
     record {
       apart = λ p q l t u.
-        let within : q < length v = ads_before_end v q u in
-        let size : length v ≡ length h + 1 = m.size in
-        let old_p : line_at ADS h p ≡ true = sym (line_at-old ADS h x v p m (omega arith)) ∙ t in
-        elim (cases_lt q (length h)) [
-          | inl old ↦ s.apart p q l old_p (sym (line_at-old ADS h x v q m old) ∙ u)
-          | inr new ↦
-              let here : q ≡ length h = omega arith in
-              let asks : has_line x ADS ≡ true = sym (line_at-new ADS h x v m) ∙ subst (λ k. line_at ADS v k ≡ true) here u in
-              let f = far asks in
-              let apart = far_enough h p (omega arith) old_p f.0 f.1 in
-              omega arith
-        ];
+          let within : q < length v = ads_before_end v q u in
+          let size : length v ≡ length h + 1 = m.size in
+          let old_p : line_at ADS h p ≡ true = sym (line_at-old ADS h x v p m (omega arith)) ∙ t in
+          elim (cases_lt q (length h)) [
+            | inl old ↦ s.apart p q l old_p (sym (line_at-old ADS h x v q m old) ∙ u)
+            | inr new ↦
+                let here : q ≡ length h = omega arith in
+                let asks : has_line x ADS ≡ true = sym (line_at-new ADS h x v m) ∙ subst (λ k. line_at ADS v k ≡ true) here u in
+                let f = far asks in
+                let apart = far_enough h p (omega arith) old_p f.0 f.1 in
+                omega arith
+          ];
     }
 
 -- what may be answered at a clock may be answered in every trace that agrees up to it
@@ -94,7 +94,8 @@ may_answer-stays n w v c i a l t =
       clear = clear-stays n w v i p.snoop c a p.before l p.is_snoop p.clear;
     })
 
-response_now : (h : Trace) (x : Sample) (v : Trace) (i r : ℕ) → OneMore h x v → response_clock_of v i ≡ Some r → length h ≤ r → (i ≡ response_count h) × (r ≡ length h) × (responds x ≡ true)
+-- a response of the new trace that is no old one is the sample
+pub response_now : (h : Trace) (x : Sample) (v : Trace) (i r : ℕ) → OneMore h x v → response_clock_of v i ≡ Some r → length h ≤ r → (i ≡ response_count h) × (r ≡ length h) × (responds x ≡ true)
 response_now h x v i r m e l =
     let counted = response_counted v i r e in
     let more = response_count-more h x v m in
@@ -119,13 +120,13 @@ orderly-more h x v s m o to sp may =
     record {
       spaced = sp;
       timely = λ i r e.
-        elim (cases_lt r (length h)) [
-          | inl old ↦
-              let before = response_clock_of-stays (length h) v h i r (AgreeTo-sym (length h) h v m.agree) old e in
-              may_answer-stays (length h) h v r i m.agree (omega arith) (o.timely i r before)
-          | inr new ↦
-              let p = response_now h x v i r m e new in
-              let here : may_answer v (length h) (response_count h) ≡ true = may_answer-new h x v s m o to ∙ may p.2 in
-              subst (λ k. may_answer v k i ≡ true) (sym p.1) (subst (λ k. may_answer v (length h) k ≡ true) (sym p.0) here)
-        ];
+          elim (cases_lt r (length h)) [
+            | inl old ↦
+                let before = response_clock_of-stays (length h) v h i r (AgreeTo-sym (length h) h v m.agree) old e in
+                may_answer-stays (length h) h v r i m.agree (omega arith) (o.timely i r before)
+            | inr new ↦
+                let p = response_now h x v i r m e new in
+                let here : may_answer v (length h) (response_count h) ≡ true = may_answer-new h x v s m o to ∙ may p.2 in
+                subst (λ k. may_answer v k i ≡ true) (sym p.1) (subst (λ k. may_answer v (length h) k ≡ true) (sym p.0) here)
+          ];
     }

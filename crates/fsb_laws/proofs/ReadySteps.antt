@@ -1,7 +1,7 @@
 -- The ready clock of the next request to respond, one sample on.
-use Rattle.std.proofs.Common.{ℕ, zero, suc, ◌+◌, ◌-◌, ◌<◌, ◌≤◌, ◌≡◌, Bool, true, false, cond, not, ◌&&◌, nat_le, nat_lt, Option, Some, None, length, max, refl, sym, ap, ◌∙◌, arith, inl, inr, subst, add-one}
+use Rattle.std.proofs.Common.{ℕ, zero, suc, ◌+◌, ◌<◌, ◌≤◌, ◌≡◌, true, false, cond, ◌&&◌, nat_le, Option, Some, None, length, max, refl, sym, ap, ◌∙◌, arith, inl, inr, subst}
 use Rattle.std.specs.Option.{option_map, option_and_then}
-use Rattle.std.proofs.lemmas.Bool.{cases_Bool, cases_lt, cases_eq, and_parts, and_left, and_right, and_from, leb-true, le-leb, lt-leb, both_ways, lt-ltb}
+use Rattle.std.proofs.lemmas.Bool.{cases_Bool, cases_lt, and_parts, and_from, leb-true, le-leb, both_ways, lt-ltb}
 use Rattle.fsb_count.specs.Options.{is_some_and, is_before, greater_of}
 use Rattle.fsb_count.specs.Clocks.{AgreeBelow, first_where, from_clock}
 use Rattle.fsb_count.proofs.First.{first_where-found, first_where-same}
@@ -10,9 +10,7 @@ use Rattle.fsb_signal.specs.declared.sample.Sample.{Sample}
 use Rattle.fsb_signal.specs.Samples.{has_line, line_at}
 use Rattle.fsb_trace.specs.At.{Trace}
 use Rattle.fsb_trace.specs.Snoop.{snoop_end_of}
-use Rattle.fsb_trace.specs.Outcome.{response_clock_of}
 use Rattle.fsb_trace.specs.Response.{end_of, is_clear_before, clock_after_snoop, ready_after, ready_clock_of}
-use Rattle.fsb_trace.specs.Rules.{may_answer}
 use Rattle.fsb_trace.proofs.AgreeAt.{AgreeTo-sym}
 use Rattle.fsb_trace.proofs.StayEnds.{end_of-response, ready_clock_of-stays}
 use Rattle.fsb_laws.specs.OneMore.{OneMore, responds}
@@ -20,7 +18,7 @@ use Rattle.fsb_laws.specs.Orderly.{Orderly}
 use Rattle.fsb_laws.specs.Progress.{SnoopsTo, response_count, transfer_of, may_answer_next}
 use Rattle.fsb_laws.proofs.OneMoreFacts.{line_at-old, line_at-new}
 use Rattle.fsb_laws.proofs.SnoopSteps.{first_where-next, snoop_end_of-old}
-use Rattle.fsb_laws.proofs.ResponseSteps.{HasAnswer, has_answer, may_answer-from, response_clock_of-new}
+use Rattle.fsb_laws.proofs.ResponseSteps.{HasAnswer, may_answer-from, response_clock_of-new}
 use Rattle.fsb_laws.proofs.EndFacts.{ends_to-still, end_of-kept, clear_parts}
 use Rattle.fsb_laws.proofs.AnswerSteps.{may_answer-new, may_answer_next-parts, answered_below}
 
@@ -95,9 +93,11 @@ ready_now h x v s y m o to e f =
       | inr new ↦
           let r = has_ready v (response_count h) y f in
           let here : y ≡ length h = omega (arith, r.within, m.size) in
-          let a = answer_later v (r.after + 1) (length h) (response_count h) (omega (arith, r.above)) (after_answer v (response_count h) r.after r.is_after) in
-          (here, sym (line_at-new TRDY h x v m) ∙ subst (λ k. line_at TRDY v k ≡ true) here r.ready,
-          sym (may_answer-new h x v s m o to) ∙ may_answer-from v (length h) (response_count h) a)
+          let a = answer_later v (r.after + 1) (length h) (response_count h) (omega (arith, r.above)) (after_answer v (response_count h) r.after r.is_after) in (
+            here,
+            sym (line_at-new TRDY h x v m) ∙ subst (λ k. line_at TRDY v k ≡ true) here r.ready,
+            sym (may_answer-new h x v s m o to) ∙ may_answer-from v (length h) (response_count h) a,
+          )
     ]
 
 -- a target that may be ready at the new clock and has TRDY# there is ready there
@@ -105,7 +105,7 @@ step_ready : (h : Trace) (x : Sample) (v : Trace) (b : ℕ) → OneMore h x v �
 unfolding from_clock
 step_ready h x v b m l t e =
     let below : AgreeBelow (length h) (from_clock (b + 1) (line_at TRDY h)) (from_clock (b + 1) (line_at TRDY v)) =
-        record { same = λ c k. ap (λ u. nat_le (b + 1) c && u) (sym (line_at-old TRDY h x v c m k)) } in
+    record { same = λ c k. ap (λ u. nat_le (b + 1) c && u) (sym (line_at-old TRDY h x v c m k)) } in
     let none : first_where (from_clock (b + 1) (line_at TRDY v)) (length h) ≡ None = sym (first_where-same _ _ (length h) below) ∙ e in
     rw m.size (first_where-next (from_clock (b + 1) (line_at TRDY v)) (length h) none
     ∙ ap (λ u. cond u (Some (length h)) None) (and_from _ _ (le-leb (b + 1) (length h) (omega arith)) (line_at-new TRDY h x v m ∙ t)))

@@ -1,21 +1,20 @@
 -- Responses and outcomes, one sample on.
-use Rattle.std.proofs.Common.{ℕ, zero, suc, ◌+◌, ◌-◌, ◌<◌, ◌≤◌, ◌≡◌, Bool, true, false, cond, not, ◌&&◌, nat_le, nat_eq, Option, Some, None, length, refl, sym, ap, ◌∙◌, arith, inl, inr, subst}
-use Rattle.std.proofs.lemmas.Bool.{cases_lt, and_parts, and_from, leb-true, le-leb}
-use Rattle.fsb_count.specs.Options.{is_some_and, is_before}
-use Rattle.fsb_count.specs.Clocks.{AgreeBelow, count_where, nth_where}
+use Rattle.std.proofs.Common.{ℕ, ◌+◌, ◌<◌, ◌≤◌, ◌≡◌, true, cond, ◌&&◌, nat_le, Option, Some, None, length, refl, sym, ap, ◌∙◌, arith, inl, inr}
+use Rattle.std.proofs.lemmas.Bool.{cases_lt, and_parts, leb-true, le-leb}
+use Rattle.fsb_count.specs.Options.{is_some_and}
+use Rattle.fsb_count.specs.Clocks.{AgreeBelow, count_where}
 use Rattle.fsb_count.proofs.Count.{count_where-more, count_where-same}
 use Rattle.fsb_count.proofs.Nth.{nth_where-found, nth_where-at, nth_where-there, nth_where-past}
 use Rattle.fsb_signal.specs.declared.sample.Sample.{Sample}
 use Rattle.fsb_signal.specs.declared.lines.TheConstants.Lines.{HITM}
 use Rattle.fsb_signal.specs.Samples.{response_of}
-use Rattle.fsb_trace.specs.At.{Trace, responds_at, response_code_at}
+use Rattle.fsb_trace.specs.At.{Trace, responds_at}
 use Rattle.fsb_trace.specs.Snoop.{snoop_end_of}
 use Rattle.fsb_trace.specs.Outcome.{response_clock_of, outcome_of, told_by, moves_data, is_deferred, does_move, is_deferral}
-use Rattle.fsb_trace.specs.Response.{end_of, is_clear_before}
+use Rattle.fsb_trace.specs.Response.{is_clear_before}
 use Rattle.fsb_trace.specs.Rules.{may_answer, next_response}
-use Rattle.fsb_trace.specs.Agree.{AgreeTo}
 use Rattle.fsb_trace.proofs.AgreeAt.{responds_at-agree}
-use Rattle.fsb_trace.proofs.Stay.{response_clock_of-stays, snoop_end_of-stays}
+use Rattle.fsb_trace.proofs.Stay.{response_clock_of-stays}
 use Rattle.fsb_trace.proofs.StayEnds.{outcome_of-stays, line_at_snoop_end-stays, live_request_of-stays}
 use Rattle.fsb_laws.specs.OneMore.{OneMore, responds}
 use Rattle.fsb_laws.specs.Orderly.{Orderly}

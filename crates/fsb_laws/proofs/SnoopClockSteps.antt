@@ -1,8 +1,8 @@
 -- Whether the new clock is a snoop clock, and of which request.
-use Rattle.std.proofs.Common.{ℕ, zero, suc, ◌+◌, ◌-◌, ◌<◌, ◌≤◌, ◌≡◌, Bool, true, false, cond, not, ◌&&◌, nat_lt, Option, Some, None, length, refl, sym, ap, ◌∙◌, arith, inl, inr, add-one, subst}
-use Rattle.std.proofs.lemmas.Bool.{cases_Bool, cases_lt, cases_order, and_parts, and_left, and_right, lt-ltb, le-ltb, leb-true, not_from_true, not_from_false, false_from_ne_true}
-use Rattle.fsb_count.specs.Options.{is_some_and, is_before, is_at}
-use Rattle.fsb_count.specs.Clocks.{any_where, count_where}
+use Rattle.std.proofs.Common.{ℕ, zero, suc, ◌+◌, ◌<◌, ◌≤◌, ◌≡◌, Bool, true, false, cond, Option, Some, None, length, refl, sym, ap, ◌∙◌, arith, inl, inr, subst}
+use Rattle.std.proofs.lemmas.Bool.{cases_Bool, cases_lt, cases_order, and_parts, and_right, lt-ltb, le-ltb, leb-true, false_from_ne_true}
+use Rattle.fsb_count.specs.Options.{is_some_and, is_before}
+use Rattle.fsb_count.specs.Clocks.{count_where}
 use Rattle.fsb_count.proofs.Any.{any_where-at, any_where-off}
 use Rattle.fsb_count.proofs.Count.{count_where-above}
 use Rattle.fsb_count.proofs.Nth.{nth_where-found}
@@ -11,7 +11,7 @@ use Rattle.fsb_trace.specs.At.{Trace}
 use Rattle.fsb_trace.specs.Requests.{is_live, live_clock_of, live_count}
 use Rattle.fsb_trace.specs.Snoop.{is_every_second_from, snoop_end_of, snoop_start_of, is_snoop_clock_of, is_snoop_clock}
 use Rattle.fsb_trace.proofs.Order.{snoop_start_of-after}
-use Rattle.fsb_laws.specs.OneMore.{OneMore, stalls}
+use Rattle.fsb_laws.specs.OneMore.{OneMore}
 use Rattle.fsb_laws.specs.Orderly.{Spaced}
 use Rattle.fsb_laws.specs.Progress.{SnoopsTo, is_snoop_due, ends_snoop_of}
 use Rattle.fsb_laws.proofs.SnoopSteps.{start_clock, snoop_end_of-old, snoop_end_of-above, snoop_end_of-more, is_snoop_due-more, snoops_to-ended, snoops_to-kept}

@@ -1,20 +1,17 @@
 -- Snoop clocks and snoop ends, one sample on.
-use Rattle.std.proofs.Common.{ℕ, zero, suc, ◌+◌, ◌-◌, ◌<◌, ◌≤◌, ◌≡◌, ◌⊎◌, Bool, true, false, cond, not, ◌&&◌, nat_le, nat_lt, Option, Some, None, length, max, refl, sym, ap, ◌∙◌, arith, inl, inr, add-one, subst}
-use Rattle.std.specs.Option.{option_map, option_and_then}
-use Rattle.std.proofs.lemmas.Bool.{cases_Bool, cases_lt, cases_order, cases_eq, and_parts, and_left, and_right, and_from, eqb-true, eq-eqb, ne_eqb, both_ways, lt-leb, lt-ltb, le-ltb, false_from_ne_true}
-use Rattle.fsb_count.specs.Options.{is_some_and, is_before, greater_of}
-use Rattle.fsb_count.specs.Clocks.{AgreeBelow, first_where, any_where, count_where}
+use Rattle.std.proofs.Common.{ℕ, zero, suc, ◌+◌, ◌<◌, ◌≤◌, ◌≡◌, ◌⊎◌, Bool, true, false, cond, not, ◌&&◌, Option, Some, None, length, max, refl, sym, ap, ◌∙◌, arith, inl, inr, add-one, subst}
+use Rattle.std.specs.Option.{option_map}
+use Rattle.std.proofs.lemmas.Bool.{cases_lt, cases_eq, and_left, and_right, ne_eqb, lt-leb}
+use Rattle.fsb_count.specs.Options.{is_some_and, greater_of}
+use Rattle.fsb_count.specs.Clocks.{AgreeBelow, first_where}
 use Rattle.fsb_count.proofs.First.{first_where-same}
-use Rattle.fsb_count.proofs.Any.{any_where-at, any_where-off}
-use Rattle.fsb_count.proofs.Count.{count_where-above}
-use Rattle.fsb_count.proofs.Nth.{nth_where-found}
 use Rattle.fsb_signal.specs.declared.sample.Sample.{Sample}
-use Rattle.fsb_trace.specs.At.{Trace, stalls_at}
-use Rattle.fsb_trace.specs.Requests.{is_live, live_clock_of, live_count}
-use Rattle.fsb_trace.specs.Snoop.{is_every_second_from, ends_snoop, snoop_end_from, snoop_end_if, start_after_clock, start_after_end, snoop_end_of, snoop_start_of, is_snoop_clock_of, is_snoop_clock}
+use Rattle.fsb_trace.specs.At.{Trace}
+use Rattle.fsb_trace.specs.Requests.{live_clock_of}
+use Rattle.fsb_trace.specs.Snoop.{is_every_second_from, ends_snoop, snoop_end_from, snoop_end_if, start_after_clock, start_after_end, snoop_end_of, snoop_start_of}
 use Rattle.fsb_trace.proofs.AgreeAt.{stalls_at-agree}
 use Rattle.fsb_trace.proofs.Stay.{snoop_end_of-stays, snoop_end_of-before, snoop_end_of-clock, snoop_end_from-found}
-use Rattle.fsb_trace.proofs.Order.{snoop_end_of-rises, snoop_start_of-after}
+use Rattle.fsb_trace.proofs.Order.{snoop_end_of-rises}
 use Rattle.fsb_laws.specs.OneMore.{OneMore, stalls, cancels}
 use Rattle.fsb_laws.specs.Orderly.{Spaced}
 use Rattle.fsb_laws.specs.Progress.{SnoopsTo, is_snoop_due, ends_snoop_of}
@@ -68,14 +65,15 @@ StartsAfter w s n = (start : ℕ) → snoop_start_of w s ≡ Some start → n < 
 
 -- a request of which it is not known whether it is live starts its snoop after the new clock
 starts_late : (h : Trace) (x : Sample) (v : Trace) (s : ℕ) → OneMore h x v → Spaced h → ((q : ℕ) → live_clock_of h s ≡ Some q → length h ≤ q + 3) → StartsAfter h s (length h) × StartsAfter v s (length h)
-starts_late h x v s m sp late =
-    (λ start e. let p = start_clock h s start e in let l = late p.0 p.1 in omega (arith, p.2, l),
-    λ start e.
+starts_late h x v s m sp late = (
+  λ start e. let p = start_clock h s start e in let l = late p.0 p.1 in omega (arith, p.2, l),
+  λ start e.
       let p = start_clock v s start e in
       elim (cases_lt p.0 (length h)) [
         | inl old ↦ let l = late p.0 (live_clock_of-less h x v s p.0 m sp old p.1) in omega (arith, p.2, l)
         | inr new ↦ omega (arith, p.2, new)
-      ])
+      ],
+)
 
 same_start : (h : Trace) (x : Sample) (v : Trace) (s q : ℕ) → OneMore h x v → SnoopsTo h s → live_clock_of h s ≡ Some q → live_clock_of v s ≡ Some q → snoop_start_of v s ≡ snoop_start_of h s
 unfolding snoop_start_of start_after_clock start_after_end
@@ -125,7 +123,7 @@ same_from : (h : Trace) (x : Sample) (v : Trace) (start : ℕ) → OneMore h x v
 unfolding snoop_end_from ends_snoop
 same_from h x v start m e =
     let below : AgreeBelow (length h) (ends_snoop h start) (ends_snoop v start) =
-        record { same = λ c l. ap (λ b. is_every_second_from start c && not b) (stalls_at-agree (length h) h v c m.agree l) } in
+    record { same = λ c l. ap (λ b. is_every_second_from start c && not b) (stalls_at-agree (length h) h v c m.agree l) } in
     let none : first_where (ends_snoop v start) (length h) ≡ None = sym (first_where-same _ _ (length h) below) ∙ e in
     rw m.size (first_where-next (ends_snoop v start) (length h) none
     ∙ ap (λ b. cond (is_every_second_from start (length h) && not b) (Some (length h)) None) (stalls_at-new h x v m))
@@ -190,7 +188,7 @@ pub snoops_to-kept : (h : Trace) (x : Sample) (v : Trace) (s : ℕ) → OneMore 
 snoops_to-kept h x v s m sp to f =
     record {
       reached = λ i l.
-        let p = to.reached i l in
-        (p.0, snoop_end_of-old h x v s i m to l ∙ p.1, omega (arith, p.2, m.size));
+          let p = to.reached i l in
+          (p.0, snoop_end_of-old h x v s i m to l ∙ p.1, omega (arith, p.2, m.size));
       next = snoop_end_of-more h x v s m sp to ∙ (rw f refl);
     }

@@ -1,19 +1,17 @@
 -- The transfer that is on the way, one sample on.
-use Rattle.std.proofs.Common.{ℕ, zero, suc, ◌+◌, ◌-◌, ◌<◌, ◌≤◌, ◌≡◌, Bool, true, false, cond, not, ◌&&◌, nat_le, nat_lt, Option, Some, None, is_some, length, refl, sym, ap, ◌∙◌, arith, inl, inr, subst, add-one, below_more}
-use Rattle.std.proofs.lemmas.Bool.{cases_Bool, cases_lt, cases_eq, and_parts, and_left, and_right, and_from, leb-true, le-leb, lt-leb, ltb-true, ltb-false, lt-ltb, le-ltb}
+use Rattle.std.proofs.Common.{ℕ, zero, suc, ◌+◌, ◌<◌, ◌≤◌, ◌≡◌, Bool, true, false, cond, ◌&&◌, nat_le, nat_lt, Option, Some, None, length, refl, sym, ap, ◌∙◌, arith}
+use Rattle.std.proofs.lemmas.Bool.{and_left, le-leb, lt-leb, ltb-false, le-ltb}
 use Rattle.fsb_count.specs.Options.{is_some_and}
-use Rattle.fsb_count.specs.Clocks.{AgreeBelow, count_where, from_clock}
+use Rattle.fsb_count.specs.Clocks.{count_where, from_clock}
 use Rattle.fsb_count.proofs.Count.{count_where-more, count_where-same}
 use Rattle.fsb_signal.specs.declared.lines.TheConstants.Lines.{DRDY}
 use Rattle.fsb_signal.specs.declared.sample.Sample.{Sample}
 use Rattle.fsb_signal.specs.Samples.{has_line, line_at, response_of}
 use Rattle.fsb_trace.specs.At.{Trace}
-use Rattle.fsb_trace.specs.declared.outcome.Outcome.{Outcome}
-use Rattle.fsb_trace.specs.Outcome.{response_clock_of, outcome_of, told_by, moves_data, does_move}
-use Rattle.fsb_trace.specs.Rules.{is_transferring_of}
+use Rattle.fsb_trace.specs.Outcome.{response_clock_of, told_by, moves_data, does_move}
 use Rattle.fsb_laws.specs.OneMore.{OneMore, responds}
 use Rattle.fsb_laws.specs.Orderly.{Orderly}
-use Rattle.fsb_laws.specs.Progress.{SnoopsTo, response_count, chunks_of, transfer_after, transfer_of, transfer_with, chunk_step}
+use Rattle.fsb_laws.specs.Progress.{SnoopsTo, response_count, chunks_of, transfer_after, transfer_of, chunk_step}
 use Rattle.fsb_laws.proofs.Clocks.{count_where-none}
 use Rattle.fsb_laws.proofs.OneMoreFacts.{line_at-old, line_at-new}
 use Rattle.fsb_laws.proofs.ResponseSteps.{response_there, response_count-more, response_clock_of-old, response_clock_of-new, moves_data-old, outcome_of-new}
@@ -61,7 +59,8 @@ goes_on h x v (suc i) m o e =
     ∙ transfer_by-step (moves_data h i) (has_line x DRDY) _
     ∙ ap (chunk_step (has_line x DRDY)) (sym (transfer_after-form h i p.0 p.1))
 
-moves_new : (h : Trace) (x : Sample) (v : Trace) (s : ℕ) → OneMore h x v → SnoopsTo h s → response_count h < s → responds x ≡ true → moves_data v (response_count h) ≡ does_move (told_by h (response_count h) (response_of x))
+-- whether data move with the response that the sample is
+pub moves_new : (h : Trace) (x : Sample) (v : Trace) (s : ℕ) → OneMore h x v → SnoopsTo h s → response_count h < s → responds x ≡ true → moves_data v (response_count h) ≡ does_move (told_by h (response_count h) (response_of x))
 unfolding moves_data is_some_and
 moves_new h x v s m to l t = rw (outcome_of-new h x v s m to l t) refl
 

@@ -1,5 +1,5 @@
 -- The samples that a checker was fed.
-use Rattle.std.specs.Prelude.{◌≡◌, ◌<◌, ◌≤◌, ℕ, ◌+◌, ◌-◌, true, if◌then◌else◌, Option, Some, None, length}
+use Rattle.std.specs.Prelude.{◌≡◌, ◌<◌, ℕ, ◌+◌, ◌-◌, true, false, if◌then◌else◌, Option, Some, None, length}
 use Rattle.std.specs.Option.{option_map}
 use Rattle.fsb_signal.specs.declared.lines.TheConstants.Lines.{ADS}
 use Rattle.fsb_signal.specs.Samples.{line_at}
@@ -7,6 +7,9 @@ use Rattle.fsb_encode.specs.declared.request.Request.{Request}
 use Rattle.fsb_trace.specs.declared.who.Who.{Who}
 use Rattle.fsb_trace.specs.At.{Trace, line_back, request_at}
 use Rattle.fsb_trace.specs.Winner.{winner_at}
+use Rattle.fsb_trace.specs.Requests.{live_request_of, is_reply}
+use Rattle.fsb_trace.specs.Outcome.{is_deferred}
+use Rattle.fsb_trace.specs.Rules.{is_identified}
 use Rattle.fsb_trace.specs.Verdict.{verdict}
 use Rattle.fsb_arbiter.specs.Arbiter.{Stands as ArbiterStands}
 use Rattle.fsb_laws.specs.Orderly.{Orderly}
@@ -24,6 +27,14 @@ as_broken found = option_map {U = Broken} (λ p. record { clock = p.0; rule = p.
 pub record Decoded (h : Trace) : Type 0 where
   pub there : (q : ℕ) → line_at ADS h q ≡ true → q + 1 < length h → (r : Request) × (request_at h q ≡ Some r)
 
+-- each request is a reply of the priority agent, or has an ID of the symmetric agent that began it
+pub record Identified (h : Trace) : Type 0 where
+  pub own : (q : ℕ) (r : Request) → line_at ADS h q ≡ true → request_at h q ≡ Some r → is_identified (winner_at h q) (Some r) ≡ true
+
+-- no reply is Deferred
+pub record Deferrable (h : Trace) : Type 0 where
+  pub no_reply : (i : ℕ) → is_deferred h i ≡ true → is_reply (live_request_of h i) ≡ false
+
 -- the agent that began a request at the last clock
 unfoldable pub beginner_of : Trace → Option Who
 beginner_of h = if line_back ADS h (length h) 1 then winner_at h (length h - 1) else None
@@ -32,6 +43,8 @@ beginner_of h = if line_back ADS h (length h) 1 then winner_at h (length h - 1) 
 pub record Follows (checker : Checker) (h : Trace) : Type 0 where
   pub orderly : Orderly h
   pub decoded : Decoded h
+  pub identified : Identified h
+  pub deferrable : Deferrable h
   pub clock : checker.clock ≡ length h
   pub recent : RecentStands checker.recent h
   pub arbiter : ArbiterStands checker.arbiter h

@@ -1,4 +1,8 @@
 pub mod Asked
+pub mod Tests
+pub mod OpenTests
+pub mod Steps
+pub mod Window
 pub mod Recent
 pub mod Queue
 pub mod Outstanding

@@ -1,7 +1,10 @@
 -- What is kept of the live requests that have not ended.
-use Rattle.std.specs.Prelude.{◌≡◌, ℕ, zero, suc, ◌+◌, Option, None, slice_get}
+use Rattle.std.specs.Prelude.{◌≡◌, ◌≤◌, ℕ, zero, suc, ◌+◌, ◌-◌, length, if◌then◌else◌, Option, None}
 use Rattle.std.specs.Option.{option_map, option_and_then}
-use Rattle.fsb_trace.specs.At.{Trace}
+use Rattle.fsb_count.specs.Clocks.{count_where}
+use Rattle.fsb_signal.specs.declared.lines.TheConstants.Lines.{ADS}
+use Rattle.fsb_trace.specs.At.{Trace, line_back}
+use Rattle.fsb_trace.specs.Requests.{is_live}
 use Rattle.fsb_trace.specs.Snoop.{snoop_end_of}
 use Rattle.fsb_trace.specs.Response.{ready_clock_of}
 use Rattle.fsb_laws.specs.Progress.{SnoopsTo, response_count, transfer_of}
@@ -9,6 +12,8 @@ use Rattle.fsb_rules.specs.declared.asked.Asked.{Asked}
 use Rattle.fsb_rules.specs.declared.asked.Moving.{Moving}
 use Rattle.fsb_rules.specs.declared.queue.Queue.{Queue}
 use Rattle.fsb_rules.specs.Asked.{asked_of, snooped_of}
+use Rattle.fsb_rules.specs.Tests.{queue_len}
+use Rattle.fsb_rules.specs.Window.{Window}
 
 -- the snoop end before that of live request i
 unfoldable pub snoop_before : Trace → ℕ → Option ℕ
@@ -28,12 +33,18 @@ moving_after h (suc i) = option_and_then (λ k. option_map (moving_with k) (aske
 unfoldable pub moving_of : Trace → Option Moving
 moving_of h = moving_after h (response_count h)
 
--- the requests without their snoop end, those without their response, and the one whose data are on the way
+-- how many live requests began below the last clock, so that they are decoded
+unfoldable pub known_count : Trace → ℕ
+known_count h = count_where (is_live h) (length h - 1)
+
+-- the requests without their snoop end, those without their response, and the one whose data are on the way; at most
+-- eight with the one that begins at the last clock
 pub record QueueStands (queue : Queue) (h : Trace) : Type 0 where
   pub snooped : ℕ
   pub to : SnoopsTo h snooped
-  pub asking : (k : ℕ) → slice_get queue.asking.items k ≡ asked_of h (snooped + k)
-  pub waiting : (k : ℕ) → slice_get queue.waiting.items k ≡ snooped_of h (response_count h + k)
+  pub asking : Window queue.asking.items (asked_of h) snooped (known_count h)
+  pub waiting : Window queue.waiting.items (snooped_of h) (response_count h) snooped
   pub moving : queue.moving ≡ moving_of h
   pub last_snoop : queue.last_snoop ≡ snoop_before h snooped
   pub ready : queue.ready ≡ ready_clock_of h (response_count h)
+  pub few : queue_len queue + (if line_back ADS h (length h) 1 then 1 else 0) ≤ 8

@@ -1,13 +1,18 @@
 //! What the rules need to know of a request.
 
+ghost use Rattle.std.specs.Prelude.{◌≡◌, ◌<◌, ◌^◌};
+ghost use Rattle.fsb_rules.specs.Asked.{asked_from};
+ghost use Rattle.fsb_rules.specs.Tests.{takes_by, is_code_by, kind_outcome, told_of, moved_by, after_chunk};
+
 use fsb_encode::{Kind, Request};
-use fsb_trace::Outcome;
+use fsb_signal::{Lines, Sample};
+use fsb_trace::{Outcome, code_of};
 
 /// A live request, from its second clock on.
 #[derive(Clone, Copy, Default, Debug, PartialEq, Eq)]
 pub struct Asked {
     /// Its first clock.
-    pub clock: u64,
+    pub clock: u32,
     /// Its deferred ID.
     pub did: u8,
     /// Whether DEN# was asserted with it.
@@ -23,7 +28,7 @@ pub struct Asked {
 pub struct Snooped {
     pub asked: Asked,
     /// Its snoop end.
-    pub clock: u64,
+    pub clock: u32,
     /// Whether HITM# was asserted there.
     pub hitm: bool,
     /// Whether DEFER# was asserted there.
@@ -38,8 +43,19 @@ pub struct Moving {
     pub chunks: u8,
 }
 
+/// How a request ended.
+#[derive(Clone, Copy, Debug, PartialEq, Eq)]
+pub struct Ended {
+    pub asked: Asked,
+    /// Whether it was Deferred, so that it stays outstanding.
+    pub is_deferred: bool,
+}
+
 /// The request that begins at this clock.
-pub fn asked_of(clock: u64, request: &Request) -> Asked {
+#[tactic(auto, unfolding(crate::specs::Asked::asked_from, fsb_trace::specs::Requests::is_reply_kind, fsb_trace::specs::Requests::is_write_back_kind))]
+pub fn asked_of(clock: u32, request: &Request) -> Asked
+    ensures { result ≡ asked_from clock request.now }
+{
     let (is_reply, is_write_back) = match request.kind {
         Kind::Reply => (true, false),
         Kind::WriteBack => (false, true),
@@ -54,41 +70,92 @@ pub fn asked_of(clock: u64, request: &Request) -> Asked {
     }
 }
 
+impl Asked {
+    /// Its outcome, where nothing hands it on, retries, defers or fails it.
+    #[tactic(auto, unfolding(crate::specs::Tests::kind_outcome))]
+    fn outcome(&self) -> Outcome
+        ensures { result ≡ kind_outcome self.now }
+    {
+        if self.is_write_back {
+            Outcome::Written
+        } else if self.is_reply {
+            Outcome::Replied
+        } else {
+            Outcome::Granted
+        }
+    }
+}
+
+impl Moving {
+    /// With the sample's chunk, or without one; none after the fourth.
+    #[tactic(auto, unfolding(crate::specs::Tests::moved_by))]
+    pub fn after(&self, sample: &Sample) -> Option<Moving>
+        ensures { result ≡ moved_by self.now sample.now }
+    {
+        let chunks = u16::from(self.chunks) + u16::from(sample.has(Lines::DRDY));
+        if chunks < 4 {
+            Some(Moving {
+                asked: self.asked,
+                chunks: chunks as u8,
+            })
+        } else {
+            None
+        }
+    }
+}
+
+/// The request whose data are on the way after this sample.
+#[tactic(auto, unfolding(crate::specs::Tests::after_chunk))]
+pub fn after_chunk(moving: Option<Moving>, sample: &Sample) -> Option<Moving>
+    ensures { result ≡ after_chunk moving sample.now }
+{
+    match moving {
+        Some(moving) => moving.after(sample),
+        None => None,
+    }
+}
+
 impl Snooped {
     /// Whether memory is to take its data.
-    pub fn takes(&self) -> bool {
+    #[tactic(auto, unfolding(crate::specs::Tests::takes_by))]
+    pub fn takes(&self) -> bool
+        ensures { result ≡ takes_by self.now }
+    {
         self.asked.is_write_back || self.hitm
     }
 
     /// Whether the code, neither idle nor a hard failure, is the one for it.
-    pub fn is_code_for(&self, code: u8) -> bool {
+    #[tactic(auto, unfolding(crate::specs::Tests::is_code_by))]
+    pub fn is_code_for(&self, code: u8) -> bool
+        ensures { result ≡ is_code_by self.now code }
+    {
         if self.hitm {
-            code == 0b110
+            code == code_of(Outcome::Handed)
         } else if self.asked.is_write_back {
-            code == 0b101
+            code == code_of(Outcome::Written)
         } else if self.defer {
-            code == 0b001 || self.asked.den && code == 0b010
+            code == code_of(Outcome::Retried)
+                || self.asked.den && code == code_of(Outcome::Deferred)
         } else {
-            code == 0b111
+            code == code_of(Outcome::Granted)
         }
     }
 
     /// The outcome that a response with this code tells.
-    pub fn told_by(&self, code: u8) -> Outcome {
-        if code == 0b100 {
+    #[tactic(auto, unfolding(crate::specs::Tests::told_of))]
+    pub fn told_by(&self, code: u8) -> Outcome
+        ensures { result ≡ told_of self.now code }
+    {
+        if code == code_of(Outcome::Failed) {
             Outcome::Failed
         } else if self.hitm {
             Outcome::Handed
-        } else if code == 0b001 {
+        } else if code == code_of(Outcome::Retried) {
             Outcome::Retried
-        } else if code == 0b010 {
+        } else if code == code_of(Outcome::Deferred) {
             Outcome::Deferred
-        } else if self.asked.is_write_back {
-            Outcome::Written
-        } else if self.asked.is_reply {
-            Outcome::Replied
         } else {
-            Outcome::Granted
+            self.asked.outcome()
         }
     }
 }

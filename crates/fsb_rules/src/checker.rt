@@ -1,8 +1,19 @@
 //! The checker: every rule, clock by clock.
 
-ghost use Rattle.std.specs.Prelude.{◌≡◌, ◌+◌, ◌^◌, ◌<◌, List, [], ◌∷◌, ◌++◌, length};
-ghost use Rattle.fsb_trace.specs.At.{Trace};
+ghost use Rattle.std.specs.Prelude.{◌≡◌, ℕ, ◌+◌, ◌-◌, ◌^◌, ◌<◌, ◌≤◌, true, is_some, is_none, [], ◌∷◌, ◌++◌, length, if◌then◌else◌, Option, Some, None, ◌&&◌, not};
+ghost use Rattle.std.specs.List.{filter_map};
+ghost use Rattle.std.specs.Option.{option_and_then, option_to_list};
+ghost use Rattle.fsb_count.specs.Options.{is_some_and};
+ghost use Rattle.fsb_signal.specs.declared.lines.TheConstants.Lines.{ADS, AERR};
+ghost use Rattle.fsb_signal.specs.Samples.{has_line};
+ghost use Rattle.fsb_trace.specs.At.{Trace, known_pair};
 ghost use Rattle.fsb_trace.specs.Verdict.{verdict};
+ghost use Rattle.fsb_arbiter.specs.Arbiter.{Stands as ArbiterStands};
+ghost use Rattle.fsb_laws.specs.OneMore.{responds};
+ghost use Rattle.fsb_rules.specs.Tests.{is_among, request_by, queue_len, snooped_by, asking_after, waiting_after, after_chunk, moving_by, ready_after_by};
+ghost use Rattle.fsb_rules.specs.OpenTests.{open_after, open_begun};
+ghost use Rattle.fsb_rules.specs.Steps.{begun_by, is_too_soon_by, is_identified_by, is_identity_wrong_by, is_asked_wrongly_by, is_some_asked_wrongly_by, is_lock_alone_by, is_snoop_line_alone_by, is_begun_wrongly_by, later_broken, first_broken, happened_by};
+ghost use Rattle.fsb_trace.specs.Winner.{is_agent, is_same_agent, request_line_of};
 ghost use Rattle.fsb_rules.specs.Checker.{Stands, as_broken};
 
 use crate::asked::{Asked, asked_of};
@@ -11,7 +22,6 @@ use crate::outstanding::{Happened, Outstanding};
 use crate::queue::Queue;
 use crate::recent::Recent;
 use fsb_arbiter::Arbiter;
-use fsb_encode::Request;
 use fsb_signal::{Lines, Sample};
 use fsb_trace::Who;
 
@@ -28,6 +38,41 @@ pub struct Checker {
     beginner: Option<Who>,
     queue: Queue,
     outstanding: Outstanding,
+}
+
+/// Whether there is such an agent, and it is this one.
+#[tactic(auto, unfolding(fsb_trace::specs::Winner::is_agent, fsb_trace::specs::Winner::is_same_agent, fsb_count::specs::Options::is_some_and))]
+fn is_agent(agent: Option<Who>, who: Who) -> bool
+    ensures { result ≡ is_agent agent who }
+{
+    match (agent, who) {
+        (Some(Who::Symmetric(a)), Who::Symmetric(b)) => a == b,
+        (Some(Who::Priority), Who::Priority) => true,
+        _ => false,
+    }
+}
+
+/// Whether the request is a reply of the priority agent, or another one with an ID of its agent's.
+#[tactic(auto, unfolding(crate::specs::Steps::is_identified_by))]
+fn is_identified(beginner: Option<Who>, asked: &Asked) -> bool
+    ensures { result ≡ is_identified_by beginner asked.now }
+{
+    if asked.is_reply {
+        is_agent(beginner, Who::Priority)
+    } else {
+        is_own_agent(beginner, asked.did / 16)
+    }
+}
+
+/// Whether there is such an agent, and it is the symmetric agent of this number.
+#[tactic(auto, unfolding(fsb_trace::specs::Winner::is_same_agent, fsb_count::specs::Options::is_some_and))]
+fn is_own_agent(agent: Option<Who>, number: u8) -> bool
+    ensures { result ≡ is_some_and agent (is_same_agent (Who.Symmetric number)) }
+{
+    match agent {
+        Some(Who::Symmetric(a)) => number == a,
+        _ => false,
+    }
 }
 
 impl Checker {
@@ -54,35 +99,42 @@ impl Checker {
         ensures stands { (h : Trace) → Stands self.old h → Stands self.new (h ++ sample.now ∷ []) }
     {
         if self.found.is_none() {
-            let request = self.recent.request(sample);
-            match self.least_rule(sample, request) {
-                Some(rule) => {
-                    self.found = Some(Broken {
-                        clock: self.clock as u32,
-                        rule,
-                    });
-                }
-                None => self.absorb(sample, request),
+            let clock = self.clock as u32;
+            let begun = self.begun(clock, sample);
+            let winner = self.arbiter.winner();
+            match self.first_broken(clock, sample, begun, winner) {
+                Some(rule) => self.found = Some(Broken { clock, rule }),
+                None => self.absorb(clock, sample, begun, winner),
             }
         }
         self.found
     }
 
-    /// The least rule that is broken with this sample, whose second words make this request with those before.
-    fn least_rule(&self, sample: &Sample, request: Option<Request>) -> Option<u8> {
+    /// The least rule that is broken with this sample.
+    #[tactic(auto, unfolding(crate::specs::Steps::first_broken))]
+    fn first_broken(
+        &self,
+        clock: u32,
+        sample: &Sample,
+        begun: Option<Asked>,
+        winner: Option<Who>,
+    ) -> Option<u8>
+        ensures { result ≡ first_broken self.now clock sample.now begun winner }
+    {
+        let begins = sample.has(Lines::ADS);
         if !sample.has_known_lines() {
             Some(1)
-        } else if self.is_request_too_soon(sample) {
+        } else if self.is_too_soon(clock, sample) {
             Some(2)
-        } else if self.recent.one_back(Lines::ADS) && request.is_none() {
+        } else if self.recent.one_back(Lines::ADS) && begun.is_none() {
             Some(3)
-        } else if sample.has(Lines::ADS) && self.queue.len() >= 8 {
+        } else if begins && self.queue.len() >= 8 {
             Some(4)
-        } else if sample.has(Lines::ADS) && self.recent.two_back(Lines::BNR) {
+        } else if begins && self.recent.two_back(Lines::BNR) {
             Some(5)
-        } else if sample.has(Lines::ADS) && self.arbiter.winner().is_none() {
+        } else if begins && winner.is_none() {
             Some(6)
-        } else if self.is_identity_wrong(request) {
+        } else if self.is_identity_wrong(begun) {
             Some(7)
         } else if self.is_some_asked_wrongly(sample) {
             Some(8)
@@ -90,21 +142,31 @@ impl Checker {
             Some(9)
         } else if sample.has(Lines::AERR) && !self.recent.three_back(Lines::ADS) {
             Some(10)
-        } else if self.is_snoop_line_alone(sample) {
+        } else {
+            self.later_broken(clock, sample, begun)
+        }
+    }
+
+    /// The least of the rules from 11 on that is broken with this sample.
+    #[tactic(auto, unfolding(crate::specs::Steps::later_broken, crate::specs::Steps::is_result_unfit_by, crate::specs::Steps::is_code_wrong_by, crate::specs::Steps::is_target_ready_wrong_by, crate::specs::Steps::is_data_wrong_by))]
+    fn later_broken(&self, clock: u32, sample: &Sample, begun: Option<Asked>) -> Option<u8>
+        ensures { result ≡ later_broken self.now clock sample.now begun }
+    {
+        if self.is_snoop_line_alone(clock, sample) {
             Some(11)
-        } else if self.queue.is_snoop_result_unfit(self.clock, sample) {
+        } else if self.queue.is_snoop_result_unfit(clock, sample) {
             Some(12)
-        } else if self.queue.is_response_early(self.clock, sample) {
+        } else if self.queue.is_response_early(clock, sample) {
             Some(13)
-        } else if self.queue.is_code_wrong(self.clock, sample) {
+        } else if self.queue.is_code_wrong(clock, sample) {
             Some(14)
-        } else if self.queue.is_target_ready_wrong(self.clock, sample) {
+        } else if self.queue.is_target_ready_wrong(clock, sample) {
             Some(15)
-        } else if self.queue.is_data_wrong(self.clock, sample) {
+        } else if self.queue.is_data_wrong(clock, sample) {
             Some(16)
         } else if sample.has(Lines::DRDY) && !sample.dbus.is_known() {
             Some(17)
-        } else if self.is_outstanding_wrong(request) {
+        } else if self.is_begun_wrongly(begun) {
             Some(18)
         } else {
             None
@@ -112,26 +174,32 @@ impl Checker {
     }
 
     /// Rule 2, request spacing.
-    fn is_request_too_soon(&self, sample: &Sample) -> bool {
+    #[tactic(auto, unfolding(crate::specs::Steps::is_too_soon_by))]
+    fn is_too_soon(&self, clock: u32, sample: &Sample) -> bool
+        ensures { result ≡ is_too_soon_by self.now clock sample.now }
+    {
         sample.has(Lines::ADS)
-            && (self.clock < 2 || self.recent.one_back(Lines::ADS) || self.recent.two_back(Lines::ADS))
+            && (clock < 2 || self.recent.one_back(Lines::ADS) || self.recent.two_back(Lines::ADS))
     }
 
     /// Rule 7, request identity.
-    fn is_identity_wrong(&self, request: Option<Request>) -> bool {
-        match self.begun(request) {
-            Some(asked) => match self.beginner {
-                Some(Who::Symmetric(agent)) => asked.is_reply || asked.did / 16 != agent,
-                Some(Who::Priority) => !asked.is_reply,
-                None => true,
-            },
+    #[tactic(auto, unfolding(crate::specs::Steps::is_identity_wrong_by, fsb_count::specs::Options::is_some_and))]
+    fn is_identity_wrong(&self, begun: Option<Asked>) -> bool
+        ensures { result ≡ is_identity_wrong_by self.now begun }
+    {
+        match begun {
+            Some(asked) => !is_identified(self.beginner, &asked),
             None => false,
         }
     }
 
     /// Whether the agent's request line is not held until its request begins, or not released then.
-    fn is_asked_wrongly(&self, sample: &Sample, who: Who, line: Lines) -> bool {
-        if self.beginner == Some(who) {
+    #[tactic(auto, unfolding(crate::specs::Steps::is_asked_wrongly_by))]
+    fn is_asked_wrongly(&self, sample: &Sample, who: Who, line: Lines) -> bool
+        requires { line ≡ request_line_of who }
+        ensures { result ≡ is_asked_wrongly_by self.now sample.now who }
+    {
+        if is_agent(self.beginner, who) {
             sample.has(line)
         } else {
             self.recent.one_back(line) && !sample.has(line)
@@ -139,7 +207,10 @@ impl Checker {
     }
 
     /// Rule 8, request lines held and released.
-    fn is_some_asked_wrongly(&self, sample: &Sample) -> bool {
+    #[tactic(auto, unfolding(crate::specs::Steps::is_some_asked_wrongly_by, fsb_trace::specs::Winner::request_line_of, fsb_trace::specs::Winner::bus_request_of))]
+    fn is_some_asked_wrongly(&self, sample: &Sample) -> bool
+        ensures { result ≡ is_some_asked_wrongly_by self.now sample.now }
+    {
         self.is_asked_wrongly(sample, Who::Symmetric(0), Lines::BREQ0)
             || self.is_asked_wrongly(sample, Who::Symmetric(1), Lines::BREQ1)
             || self.is_asked_wrongly(sample, Who::Symmetric(2), Lines::BREQ2)
@@ -148,55 +219,96 @@ impl Checker {
     }
 
     /// Rule 9, lock begins with a request.
-    fn is_lock_alone(&self, sample: &Sample) -> bool {
+    #[tactic(auto, unfolding(crate::specs::Steps::is_lock_alone_by))]
+    fn is_lock_alone(&self, sample: &Sample) -> bool
+        ensures { result ≡ is_lock_alone_by self.now sample.now }
+    {
         sample.has(Lines::LOCK) && !self.recent.one_back(Lines::LOCK) && !sample.has(Lines::ADS)
     }
 
     /// Rule 11, snoop lines in snoop clocks.
-    fn is_snoop_line_alone(&self, sample: &Sample) -> bool {
+    #[tactic(auto, unfolding(crate::specs::Steps::is_snoop_line_alone_by))]
+    fn is_snoop_line_alone(&self, clock: u32, sample: &Sample) -> bool
+        ensures { result ≡ is_snoop_line_alone_by self.now clock sample.now }
+    {
         (sample.has(Lines::HIT) || sample.has(Lines::HITM) || sample.has(Lines::DEFER))
-            && !self.queue.is_snoop_clock(self.clock)
+            && !self.queue.is_snoop_clock(clock)
     }
 
     /// Rule 18, deferred IDs and outstanding requests.
-    fn is_outstanding_wrong(&self, request: Option<Request>) -> bool {
-        match self.begun(request) {
+    #[tactic(auto, unfolding(crate::specs::Steps::is_begun_wrongly_by, fsb_count::specs::Options::is_some_and))]
+    fn is_begun_wrongly(&self, begun: Option<Asked>) -> bool
+        ensures { result ≡ is_begun_wrongly_by self.now begun }
+    {
+        match begun {
             Some(asked) => self.outstanding.is_begun_wrongly(&asked),
             None => false,
         }
     }
 
-    /// The request that began one clock back.
-    fn begun(&self, request: Option<Request>) -> Option<Asked> {
-        match request {
-            Some(request) if self.recent.one_back(Lines::ADS) => {
-                Some(asked_of(self.clock.saturating_sub(1), &request))
+    /// The request that began at the last clock, whose second clock is this one.
+    #[tactic(auto, unfolding(crate::specs::Steps::begun_by))]
+    fn begun(&self, clock: u32, sample: &Sample) -> Option<Asked>
+        ensures { result ≡ begun_by self.now clock sample.now }
+    {
+        if self.recent.one_back(Lines::ADS) {
+            match self.recent.request(sample) {
+                Some(request) => Some(asked_of(clock.saturating_sub(1), &request)),
+                None => None,
             }
-            _ => None,
+        } else {
+            None
+        }
+    }
+
+    /// What happens with this sample.
+    #[tactic(auto, unfolding(crate::specs::Steps::happened_by))]
+    fn happened(&self, clock: u32, sample: &Sample, begun: Option<Asked>) -> Happened
+        ensures { result ≡ happened_by self.now clock sample.now begun }
+    {
+        Happened {
+            clock,
+            cancelled: if sample.has(Lines::AERR) {
+                Some(clock.saturating_sub(3))
+            } else {
+                None
+            },
+            ended: self.queue.ended(clock, sample),
+            begun,
         }
     }
 
     /// Takes the next sample, which breaks no rule.
-    fn absorb(&mut self, sample: &Sample, request: Option<Request>) {
-        let begun = self.begun(request);
-        let happened = Happened {
-            cancelled: if sample.has(Lines::AERR) {
-                Some(self.clock.saturating_sub(3))
-            } else {
-                None
-            },
-            ended: self.queue.ended(self.clock, sample),
-            begun,
-        };
-        self.beginner = if sample.has(Lines::ADS) {
-            self.arbiter.winner()
-        } else {
-            None
-        };
-        self.outstanding.absorb(&happened, sample.has(Lines::ADS));
-        self.queue.absorb(self.clock, sample, begun);
+    #[tactic(auto, unfolding(crate::specs::Steps::happened_by))]
+    fn absorb(&mut self, clock: u32, sample: &Sample, begun: Option<Asked>, winner: Option<Who>)
+        requires few { queue_len self.old.queue ≤ 8 }
+        requires room { is_some begun ≡ true → queue_len self.old.queue < 8 }
+        requires open_room { is_some (option_and_then (λ a. open_begun a) begun) ≡ true
+            → length (filter_map (open_after (happened_by self.old clock sample.now begun)) self.old.outstanding.current.items) < 16 }
+        ensures found { self.new.found ≡ self.old.found }
+        ensures clock { self.new.clock ≡ clock + 1 }
+        ensures first { self.new.recent.first ≡ Some sample.now.lines }
+        ensures second { self.new.recent.second ≡ self.old.recent.first }
+        ensures third { self.new.recent.third ≡ self.old.recent.second }
+        ensures words { self.new.recent.words ≡ known_pair sample.now }
+        ensures arbiter { (h : Trace) → ArbiterStands self.old.arbiter h → ArbiterStands self.new.arbiter (h ++ sample.now ∷ []) }
+        ensures beginner { self.new.beginner ≡ (if has_line sample.now ADS then winner else None) }
+        ensures asking { self.new.queue.asking.items ≡ asking_after self.old.queue.asking.items (has_line sample.now AERR) (is_some (snooped_by self.old.queue clock sample.now)) begun }
+        ensures waiting { self.new.queue.waiting.items ≡ waiting_after self.old.queue.waiting.items (responds sample.now) (snooped_by self.old.queue clock sample.now) }
+        ensures moving { self.new.queue.moving ≡ after_chunk (moving_by self.old.queue clock sample.now) sample.now }
+        ensures last_snoop { self.new.queue.last_snoop ≡ (if is_some (snooped_by self.old.queue clock sample.now) then Some clock else self.old.queue.last_snoop) }
+        ensures ready { self.new.queue.ready ≡ ready_after_by self.old.queue clock sample.now }
+        ensures current { self.new.outstanding.current.items ≡ filter_map (open_after (happened_by self.old clock sample.now begun)) self.old.outstanding.current.items
+            ++ option_to_list (option_and_then (λ a. open_begun a) begun) }
+        ensures before { self.new.outstanding.before.items ≡ (if has_line sample.now ADS then self.old.outstanding.current.items else self.old.outstanding.before.items) }
+    {
+        let happened = self.happened(clock, sample, begun);
+        let begins = sample.has(Lines::ADS);
+        self.beginner = if begins { winner } else { None };
+        self.outstanding.absorb(&happened, begins);
+        self.queue.absorb(clock, sample, begun);
         self.arbiter.absorb(sample);
         self.recent.absorb(sample);
-        self.clock += 1;
+        self.clock = u64::from(clock) + 1;
     }
 }

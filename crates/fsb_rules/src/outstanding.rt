@@ -1,26 +1,32 @@
 //! The requests that are outstanding.
 
-use crate::asked::Asked;
-use crate::queue::Ended;
+ghost use Rattle.std.specs.Prelude.{◌≡◌, ◌<◌, ◌≤◌, ◌/◌, true, [], ◌++◌, length, count_by, if◌then◌else◌, Option, None};
+ghost use Rattle.std.specs.List.{list_any, filter_map};
+ghost use Rattle.std.specs.Option.{option_and_then, option_to_list, is_some};
+ghost use Rattle.fsb_count.specs.Options.{is_at, is_before};
+ghost use Rattle.fsb_rules.specs.OpenTests.{reply_by, reply_after, open_with, open_after_end, open_after, open_begun, awaits, has_id, is_of_agent, is_wrong_among};
+
+use crate::asked::{Asked, Ended};
 use arrayvec::ArrayVec;
 
 /// An outstanding request, from its second clock on. It is no reply.
 #[derive(Clone, Copy, Default, Debug, PartialEq, Eq)]
-struct Open {
+pub struct Open {
     /// Its first clock.
-    clock: u64,
+    clock: u32,
     /// Its deferred ID.
     did: u8,
-    /// Whether it is Deferred.
-    is_deferred: bool,
+    /// The clock of its response, where it is Deferred.
+    deferred: Option<u32>,
     /// The first clock of the live reply to it.
-    reply: Option<u64>,
+    reply: Option<u32>,
 }
 
 /// The outstanding requests, in order: at most four of each symmetric agent.
 #[derive(Debug, Drop)]
 pub struct Outstanding {
-    open: ArrayVec<Open, 16>,
+    /// Those that are outstanding now.
+    current: ArrayVec<Open, 16>,
     /// Those that were outstanding when the last request began.
     before: ArrayVec<Open, 16>,
 }
@@ -28,103 +34,262 @@ pub struct Outstanding {
 /// What happens to requests with a sample.
 #[derive(Clone, Copy, Debug, PartialEq, Eq)]
 pub struct Happened {
+    /// The clock.
+    pub clock: u32,
     /// The first clock of the request that is cancelled.
-    pub cancelled: Option<u64>,
+    pub cancelled: Option<u32>,
     /// The request that ends.
     pub ended: Option<Ended>,
     /// The request whose second clock the sample is.
     pub begun: Option<Asked>,
 }
 
-impl Open {
-    /// What is left of it after that.
-    fn after(&self, happened: &Happened) -> Option<Open> {
-        let mut open = *self;
-        if let Some(clock) = happened.cancelled {
-            if clock == open.clock {
-                return None;
-            }
-            if open.reply == Some(clock) {
-                open.reply = None;
-            }
-        }
-        if let Some(begun) = happened.begun {
-            if begun.is_reply && open.is_deferred && open.did == begun.did && open.reply.is_none() {
-                open.reply = Some(begun.clock);
-            }
-        }
-        if let Some(ended) = happened.ended {
-            if open.reply == Some(ended.asked.clock) {
-                return None;
-            }
-            if ended.asked.clock == open.clock {
-                if !ended.is_deferred {
-                    return None;
-                }
-                open.is_deferred = true;
-            }
-        }
-        Some(open)
+/// Whether there is such a clock, and it is this one.
+#[tactic(auto, unfolding(fsb_count::specs::Options::is_at, fsb_count::specs::Options::is_some_and))]
+fn is_at(clock: Option<u32>, other: u32) -> bool
+    ensures { result ≡ is_at clock other }
+{
+    match clock {
+        Some(clock) => clock == other,
+        None => false,
     }
+}
+
+/// Whether there is such a clock, and it lies before this one.
+#[tactic(auto, unfolding(fsb_count::specs::Options::is_before, fsb_count::specs::Options::is_some_and))]
+fn is_before(clock: Option<u32>, other: u32) -> bool
+    ensures { result ≡ is_before clock other }
+{
+    match clock {
+        Some(clock) => clock < other,
+        None => false,
+    }
+}
+
+/// The outstanding request that is begun, if it is no reply.
+#[tactic(auto, unfolding(crate::specs::OpenTests::open_begun))]
+fn open_begun(asked: &Asked) -> Option<Open>
+    ensures { result ≡ open_begun asked.now }
+{
+    if asked.is_reply {
+        None
+    } else {
+        Some(Open {
+            clock: asked.clock,
+            did: asked.did,
+            deferred: None,
+            reply: None,
+        })
+    }
+}
+
+impl Open {
+    /// The reply that it gets, where this request begins.
+    #[tactic(auto, unfolding(crate::specs::OpenTests::reply_by))]
+    fn reply_by(&self, asked: &Asked) -> Option<u32>
+        ensures { result ≡ reply_by self.now asked.now }
+    {
+        if asked.is_reply && is_before(self.deferred, asked.clock) && self.did == asked.did {
+            Some(asked.clock)
+        } else {
+            None
+        }
+    }
+
+    /// The first clock of its reply after what happens.
+    #[tactic(auto, unfolding(crate::specs::OpenTests::reply_after))]
+    fn reply_after(&self, happened: &Happened) -> Option<u32>
+        ensures { result ≡ reply_after happened.now self.now }
+    {
+        match self.reply {
+            Some(clock) => {
+                if is_at(happened.cancelled, clock) {
+                    None
+                } else {
+                    Some(clock)
+                }
+            }
+            None => match happened.begun {
+                Some(asked) => self.reply_by(&asked),
+                None => None,
+            },
+        }
+    }
+
+    /// It with this reply, and with this clock of its response, if it is Deferred.
+    #[tactic(auto, unfolding(crate::specs::OpenTests::open_with))]
+    fn with(&self, deferred: Option<u32>, reply: Option<u32>) -> Open
+        ensures { result ≡ open_with self.now deferred reply }
+    {
+        Open {
+            clock: self.clock,
+            did: self.did,
+            deferred,
+            reply,
+        }
+    }
+
+    /// What is left of it with this reply, where this request ends at the clock.
+    #[tactic(auto, unfolding(crate::specs::OpenTests::open_after_end))]
+    fn after_end(&self, clock: u32, reply: Option<u32>, ended: &Ended) -> Option<Open>
+        ensures { result ≡ open_after_end clock self.now reply ended.now }
+    {
+        if is_at(reply, ended.asked.clock) {
+            None
+        } else if ended.asked.clock == self.clock {
+            if ended.is_deferred {
+                Some(self.with(Some(clock), reply))
+            } else {
+                None
+            }
+        } else {
+            Some(self.with(self.deferred, reply))
+        }
+    }
+
+    /// What is left of it after what happens.
+    #[tactic(auto, unfolding(crate::specs::OpenTests::open_after))]
+    fn after(&self, happened: &Happened) -> Option<Open>
+        ensures { result ≡ open_after happened.now self.now }
+    {
+        if is_at(happened.cancelled, self.clock) {
+            return None;
+        }
+        let reply = self.reply_after(happened);
+        match happened.ended {
+            Some(ended) => self.after_end(happened.clock, reply, &ended),
+            None => Some(self.with(self.deferred, reply)),
+        }
+    }
+
+    /// Whether it awaits a reply with this ID.
+    #[tactic(auto, unfolding(crate::specs::OpenTests::awaits))]
+    fn awaits(&self, did: u8) -> bool
+        ensures { result ≡ awaits did self.now }
+    {
+        self.did == did && self.deferred.is_some() && self.reply.is_none()
+    }
+
+    /// Whether it has this ID.
+    #[tactic(auto, unfolding(crate::specs::OpenTests::has_id))]
+    fn has_id(&self, did: u8) -> bool
+        ensures { result ≡ has_id did self.now }
+    {
+        self.did == did
+    }
+
+    /// Whether its ID is of this agent.
+    #[tactic(auto, unfolding(crate::specs::OpenTests::is_of_agent))]
+    fn is_of(&self, agent: u8) -> bool
+        ensures { result ≡ is_of_agent agent self.now }
+    {
+        self.did / 16 == agent
+    }
+}
+
+/// Whether one of them awaits a reply with this ID.
+fn is_awaited(opens: &[Open], did: u8) -> bool
+    ensures { result ≡ list_any (awaits did) opens.now }
+{
+    for open in opens {
+        if open.awaits(did) {
+            return true;
+        }
+    }
+    false
+}
+
+/// Whether one of them has this ID.
+fn is_taken(opens: &[Open], did: u8) -> bool
+    ensures { result ≡ list_any (has_id did) opens.now }
+{
+    for open in opens {
+        if open.has_id(did) {
+            return true;
+        }
+    }
+    false
+}
+
+/// How many of them are of this agent.
+fn count_of(opens: &[Open], agent: u8) -> usize
+    ensures { result ≡ count_by (is_of_agent agent) opens.now }
+{
+    let mut count = 0;
+    for open in opens {
+        if open.is_of(agent) {
+            count += 1;
+        }
+    }
+    count
+}
+
+/// What is left of them after what happens.
+fn left_of(opens: &[Open], happened: &Happened) -> ArrayVec<Open, 16>
+    requires { length opens.now ≤ 16 }
+    ensures { result.items ≡ filter_map (open_after happened.now) opens.now }
+{
+    let mut left = ArrayVec::new();
+    for open in opens {
+        if let Some(open) = open.after(happened) {
+            left.push(open);
+        }
+    }
+    left
+}
+
+/// A copy of them.
+fn copy_of(opens: &[Open]) -> ArrayVec<Open, 16>
+    requires { length opens.now ≤ 16 }
+    ensures { result.items ≡ opens.now }
+{
+    let mut copy = ArrayVec::new();
+    for open in opens {
+        copy.push(*open);
+    }
+    copy
 }
 
 impl Outstanding {
     /// No request yet.
-    pub fn new() -> Outstanding {
+    pub fn new() -> Outstanding
+        ensures current { result.current.items ≡ [] }
+        ensures before { result.before.items ≡ [] }
+    {
         Outstanding {
-            open: ArrayVec::new(),
+            current: ArrayVec::new(),
             before: ArrayVec::new(),
         }
     }
 
     /// Rule 18, deferred IDs and outstanding requests, for the request that began one clock back.
-    pub fn is_begun_wrongly(&self, asked: &Asked) -> bool {
-        let mut is_awaited = false;
-        let mut is_taken = false;
-        let mut own = 0;
-        for open in self.before.iter() {
-            let is_same = open.did == asked.did;
-            if is_same && open.is_deferred && open.reply.is_none() {
-                is_awaited = true;
-            }
-            if is_same {
-                is_taken = true;
-            }
-            if open.did / 16 == asked.did / 16 {
-                own += 1;
-            }
-        }
+    #[tactic(auto, unfolding(crate::specs::OpenTests::is_wrong_among))]
+    pub fn is_begun_wrongly(&self, asked: &Asked) -> bool
+        ensures { result ≡ is_wrong_among self.now.before.items asked.now }
+    {
+        let before = self.before.as_slice();
         if asked.is_reply {
-            !is_awaited
+            !is_awaited(before, asked.did)
         } else {
-            is_taken || own >= 4
+            is_taken(before, asked.did) || count_of(before, asked.did / 16) >= 4
         }
     }
 
     /// Takes what happens with a sample, with which a request begins or does not.
-    pub fn absorb(&mut self, happened: &Happened, begins: bool) {
+    pub fn absorb(&mut self, happened: &Happened, begins: bool)
+        requires { is_some (option_and_then (λ a. open_begun a) happened.now.begun) ≡ true → length (filter_map (open_after happened.now) self.old.current.items) < 16 }
+        ensures current { self.new.current.items ≡ filter_map (open_after happened.now) self.old.current.items
+            ++ option_to_list (option_and_then (λ a. open_begun a) happened.now.begun) }
+        ensures before { self.new.before.items ≡ (if begins then self.old.current.items else self.old.before.items) }
+    {
         if begins {
-            self.before.clear();
-            for open in self.open.iter() {
-                self.before.push(*open);
+            self.before = copy_of(self.current.as_slice());
+        }
+        self.current = left_of(self.current.as_slice(), happened);
+        if let Some(asked) = happened.begun {
+            if let Some(open) = open_begun(&asked) {
+                self.current.push(open);
             }
         }
-        let mut left = ArrayVec::new();
-        for open in self.open.iter() {
-            if let Some(open) = open.after(happened) {
-                left.push(open);
-            }
-        }
-        if let Some(begun) = happened.begun {
-            if !begun.is_reply {
-                left.push(Open {
-                    clock: begun.clock,
-                    did: begun.did,
-                    is_deferred: false,
-                    reply: None,
-                });
-            }
-        }
-        self.open = left;
     }
 }

@@ -1,9 +1,19 @@
 //! The live requests from their second clocks to their ends.
 
-use crate::asked::{Asked, Moving, Snooped};
+ghost use Rattle.std.specs.Prelude.{◌≡◌, ℕ, ◌+◌, ◌-◌, ◌^◌, ◌<◌, ◌≤◌, Bool, true, false, is_some, is_none, nat_le, [], ◌∷◌, ◌++◌, length, take, drop, slice_get, if◌then◌else◌, Some, None, ◌&&◌, not, ◌||◌};
+ghost use Rattle.std.specs.Option.{option_to_list};
+ghost use Rattle.fsb_count.specs.Options.{is_some_and};
+ghost use Rattle.fsb_signal.specs.declared.lines.TheConstants.Lines.{AERR, TRDY, DRDY, DBSY};
+ghost use Rattle.fsb_signal.specs.Samples.{has_line, response_of};
+ghost use Rattle.fsb_trace.specs.Outcome.{does_move, is_deferral};
+ghost use Rattle.fsb_trace.specs.Snoop.{is_every_second_from};
+ghost use Rattle.fsb_laws.specs.OneMore.{responds, stalls};
+ghost use Rattle.fsb_rules.specs.Tests.{start_by, is_due_by, ends_snoop_by, is_unfit_by, next_by, queue_len, snooped_by, ready_after_by, asking_after, waiting_after, told_of, is_sound, is_ready_wrongly_by, is_ready_late_by, moving_by, after_chunk, ended_at_once, ended_with_chunk, ended_by, takes_by, is_code_by};
+
+use crate::asked::{Asked, Ended, Moving, Snooped, after_chunk};
 use arrayvec::ArrayVec;
 use fsb_signal::{Lines, Sample};
-use fsb_trace::{Outcome, moves};
+use fsb_trace::{Outcome, code_of, moves};
 
 /// The live requests that have not ended, in order: at most eight.
 #[derive(Debug, Drop)]
@@ -15,22 +25,137 @@ pub struct Queue {
     /// The one whose data are on the way.
     moving: Option<Moving>,
     /// The last snoop end.
-    last_snoop: Option<u64>,
+    last_snoop: Option<u32>,
     /// The ready clock of the request that responds next.
-    ready: Option<u64>,
+    ready: Option<u32>,
 }
 
-/// How a request ended.
-#[derive(Clone, Copy, Debug, PartialEq, Eq)]
-pub struct Ended {
-    pub asked: Asked,
-    /// Whether it was Deferred, so that it stays outstanding.
-    pub is_deferred: bool,
+/// Whether RS# is not idle in the sample.
+#[tactic(auto, unfolding(fsb_laws::specs::OneMore::responds))]
+fn responds(sample: &Sample) -> bool
+    ensures { result ≡ responds sample.now }
+{
+    sample.response() != 0
+}
+
+/// Whether the sample has a response that is no hard failure.
+#[tactic(auto, unfolding(crate::specs::Tests::is_sound))]
+fn is_sound(sample: &Sample) -> bool
+    ensures { result ≡ is_sound sample.now }
+{
+    responds(sample) && sample.response() != code_of(Outcome::Failed)
+}
+
+/// Whether HIT# and HITM# are asserted together in the sample.
+#[tactic(auto, unfolding(fsb_laws::specs::OneMore::stalls))]
+fn stalls(sample: &Sample) -> bool
+    ensures { result ≡ stalls sample.now }
+{
+    sample.has(Lines::HIT) && sample.has(Lines::HITM)
+}
+
+/// The start of the snoop of a request that began at `clock`, after this snoop end.
+#[tactic(auto, unfolding(crate::specs::Tests::start_by))]
+fn start_by(before: Option<u32>, clock: u32) -> u64
+    ensures { result ≡ start_by before clock }
+{
+    let after_clock = u64::from(clock) + 4;
+    match before {
+        Some(end) => after_clock.max(u64::from(end) + 3),
+        None => after_clock,
+    }
+}
+
+/// Whether `clock` is the start or an even number of clocks after it.
+#[tactic(auto, unfolding(fsb_trace::specs::Snoop::is_every_second_from))]
+fn is_every_second_from(start: u64, clock: u32) -> bool
+    ensures { result ≡ is_every_second_from start clock }
+{
+    let clock = u64::from(clock);
+    start <= clock && (clock - start) % 2 == 0
+}
+
+/// Whether the earlier clock lies two clocks before this one at least.
+fn is_two_before(earlier: u32, clock: u32) -> bool
+    ensures { result ≡ nat_le (earlier + 2) clock }
+{
+    u64::from(earlier) + 2 <= u64::from(clock)
+}
+
+/// Whether the outcome is Deferred.
+#[tactic(auto, unfolding(fsb_trace::specs::Outcome::is_deferral))]
+fn is_deferral(outcome: Outcome) -> bool
+    ensures { result ≡ is_deferral outcome }
+{
+    match outcome {
+        Outcome::Deferred => true,
+        _ => false,
+    }
+}
+
+/// Whether the sample's snoop result does not fit the request.
+#[tactic(auto, unfolding(crate::specs::Tests::is_unfit_by))]
+fn is_unfit(asked: &Asked, sample: &Sample) -> bool
+    ensures { result ≡ is_unfit_by asked.now sample.now }
+{
+    (asked.is_write_back || asked.is_reply)
+        && (sample.has(Lines::HITM) || sample.has(Lines::DEFER))
+        || asked.is_write_back && sample.has(Lines::HIT)
+}
+
+/// How a request ends that responds with this code, if it ends at once.
+#[tactic(auto, unfolding(crate::specs::Tests::ended_at_once))]
+fn ended_at_once(next: &Snooped, code: u8) -> Option<Ended>
+    ensures { result ≡ ended_at_once next.now code }
+{
+    let outcome = next.told_by(code);
+    if moves(outcome) {
+        None
+    } else {
+        Some(Ended {
+            asked: next.asked,
+            is_deferred: is_deferral(outcome),
+        })
+    }
+}
+
+/// How a request ends whose data are on the way, if it ends with the sample.
+#[tactic(auto, unfolding(crate::specs::Tests::ended_with_chunk))]
+fn ended_with_chunk(moving: &Moving, sample: &Sample) -> Option<Ended>
+    ensures { result ≡ ended_with_chunk moving.now sample.now }
+{
+    match moving.after(sample) {
+        Some(_) => None,
+        None => Some(Ended {
+            asked: moving.asked,
+            is_deferred: false,
+        }),
+    }
+}
+
+/// The request whose data are on the way from a response with this code on.
+fn moving_at_once(next: &Snooped, code: u8) -> Option<Moving>
+    ensures { result ≡ (if does_move (told_of next.now code) then Some (record { asked = next.now.asked; chunks = 0 }) else None) }
+{
+    if moves(next.told_by(code)) {
+        Some(Moving {
+            asked: next.asked,
+            chunks: 0,
+        })
+    } else {
+        None
+    }
 }
 
 impl Queue {
     /// No request yet.
-    pub fn new() -> Queue {
+    pub fn new() -> Queue
+        ensures asking { result.asking.items ≡ [] }
+        ensures waiting { result.waiting.items ≡ [] }
+        ensures moving { result.moving ≡ None }
+        ensures last_snoop { result.last_snoop ≡ None }
+        ensures ready { result.ready ≡ None }
+    {
         Queue {
             asking: ArrayVec::new(),
             waiting: ArrayVec::new(),
@@ -41,186 +166,258 @@ impl Queue {
     }
 
     /// How many requests have not ended.
-    pub fn len(&self) -> usize {
+    #[tactic(auto, unfolding(crate::specs::Tests::queue_len))]
+    pub fn len(&self) -> usize
+        ensures { result ≡ queue_len self.now }
+    {
         self.asking.len() + self.waiting.len() + usize::from(self.moving.is_some())
     }
 
     /// Whether a request has a snoop clock at this clock.
-    pub fn is_snoop_clock(&self, clock: u64) -> bool {
-        match self.asking.first() {
-            Some(asked) => {
-                let after_clock = asked.clock + 4;
-                let start = match self.last_snoop {
-                    Some(end) => after_clock.max(end + 3),
-                    None => after_clock,
-                };
-                start <= clock && (clock - start) % 2 == 0
-            }
+    #[tactic(auto, unfolding(crate::specs::Tests::is_due_by, fsb_count::specs::Options::is_some_and))]
+    pub fn is_snoop_clock(&self, clock: u32) -> bool
+        ensures { result ≡ is_due_by self.now clock }
+    {
+        match self.asking.as_slice().first() {
+            Some(asked) => is_every_second_from(start_by(self.last_snoop, asked.clock), clock),
             None => false,
         }
     }
 
     /// Whether a snoop ends with this sample.
-    pub fn ends_snoop(&self, clock: u64, sample: &Sample) -> bool {
-        self.is_snoop_clock(clock) && !(sample.has(Lines::HIT) && sample.has(Lines::HITM))
+    #[tactic(auto, unfolding(crate::specs::Tests::ends_snoop_by))]
+    fn ends_snoop(&self, clock: u32, sample: &Sample) -> bool
+        ensures { result ≡ ends_snoop_by self.now clock sample.now }
+    {
+        self.is_snoop_clock(clock) && !stalls(sample)
     }
 
     /// Rule 12, snoop results of write-backs and replies.
-    pub fn is_snoop_result_unfit(&self, clock: u64, sample: &Sample) -> bool {
-        match self.asking.first() {
-            Some(asked) => {
-                self.ends_snoop(clock, sample)
-                    && ((asked.is_write_back || asked.is_reply)
-                        && (sample.has(Lines::HITM) || sample.has(Lines::DEFER))
-                        || asked.is_write_back && sample.has(Lines::HIT))
-            }
+    #[tactic(auto, unfolding(fsb_count::specs::Options::is_some_and))]
+    pub fn is_snoop_result_unfit(&self, clock: u32, sample: &Sample) -> bool
+        ensures { result ≡ is_some_and (slice_get self.now.asking.items 0) (λ a. ends_snoop_by self.now clock sample.now && is_unfit_by a sample.now) }
+    {
+        match self.asking.as_slice().first() {
+            Some(asked) => self.ends_snoop(clock, sample) && is_unfit(asked, sample),
             None => false,
         }
     }
 
     /// The request that may respond at this clock.
-    pub fn may_answer(&self, clock: u64) -> Option<Snooped> {
-        match self.waiting.first() {
-            Some(snooped) if snooped.clock + 2 <= clock && self.moving.is_none() => Some(*snooped),
-            _ => None,
+    #[tactic(auto, unfolding(crate::specs::Tests::next_by))]
+    fn next(&self, clock: u32) -> Option<Snooped>
+        ensures { result ≡ next_by self.now clock }
+    {
+        match self.waiting.as_slice().first() {
+            Some(snooped) => {
+                if is_two_before(snooped.clock, clock) && self.moving.is_none() {
+                    Some(*snooped)
+                } else {
+                    None
+                }
+            }
+            None => None,
         }
     }
 
     /// Rule 13, response timing.
-    pub fn is_response_early(&self, clock: u64, sample: &Sample) -> bool {
-        sample.response() != 0 && self.may_answer(clock).is_none()
+    pub fn is_response_early(&self, clock: u32, sample: &Sample) -> bool
+        ensures { result ≡ (responds sample.now && is_none (next_by self.now clock)) }
+    {
+        responds(sample) && self.next(clock).is_none()
     }
 
     /// Rule 14, response code, where the response is not early.
-    pub fn is_code_wrong(&self, clock: u64, sample: &Sample) -> bool {
-        let code = sample.response();
-        match self.may_answer(clock) {
-            Some(next) => code != 0 && code != 0b100 && !next.is_code_for(code),
+    #[tactic(auto, unfolding(fsb_count::specs::Options::is_some_and))]
+    pub fn is_code_wrong(&self, clock: u32, sample: &Sample) -> bool
+        ensures { result ≡ (is_sound sample.now && not (is_some_and (next_by self.now clock) (λ s. is_code_by s (response_of sample.now)))) }
+    {
+        let fits = match self.next(clock) {
+            Some(next) => next.is_code_for(sample.response()),
+            None => false,
+        };
+        is_sound(sample) && !fits
+    }
+
+    /// Whether memory is to take the data of the request that may respond at this clock.
+    #[tactic(auto, unfolding(fsb_count::specs::Options::is_some_and))]
+    fn takes(&self, clock: u32) -> bool
+        ensures { result ≡ is_some_and (next_by self.now clock) takes_by }
+    {
+        match self.next(clock) {
+            Some(next) => next.takes(),
             None => false,
         }
     }
 
     /// Whether TRDY# at this clock is not for the request that responds next.
-    fn is_ready_wrongly(&self, clock: u64) -> bool {
-        match self.may_answer(clock) {
-            Some(next) => !next.takes() || self.ready.is_some(),
-            None => true,
-        }
+    #[tactic(auto, unfolding(crate::specs::Tests::is_ready_wrongly_by))]
+    fn is_ready_wrongly(&self, clock: u32) -> bool
+        ensures { result ≡ is_ready_wrongly_by self.now clock }
+    {
+        !self.takes(clock) || self.ready.is_some()
     }
 
     /// Whether the target was not ready two clocks before this one.
-    fn is_ready_late(&self, clock: u64) -> bool {
+    #[tactic(auto, unfolding(crate::specs::Tests::is_ready_late_by, fsb_count::specs::Options::is_some_and))]
+    fn is_ready_late(&self, clock: u32) -> bool
+        ensures { result ≡ is_ready_late_by self.now clock }
+    {
         match self.ready {
-            Some(ready) => ready + 2 > clock,
+            Some(ready) => !is_two_before(ready, clock),
             None => true,
         }
     }
 
     /// Rule 15, target ready, where the response is not early.
-    pub fn is_target_ready_wrong(&self, clock: u64, sample: &Sample) -> bool {
-        let code = sample.response();
-        let takes = match self.may_answer(clock) {
-            Some(next) => next.takes(),
-            None => false,
-        };
-        sample.has(Lines::TRDY) && self.is_ready_wrongly(clock)
-            || code != 0 && code != 0b100 && takes && self.is_ready_late(clock)
+    pub fn is_target_ready_wrong(&self, clock: u32, sample: &Sample) -> bool
+        ensures { result ≡ (has_line sample.now TRDY && is_ready_wrongly_by self.now clock
+            || is_sound sample.now && is_some_and (next_by self.now clock) takes_by && is_ready_late_by self.now clock) }
+    {
+        let is_wrong = sample.has(Lines::TRDY) && self.is_ready_wrongly(clock);
+        let is_late = is_sound(sample) && self.takes(clock) && self.is_ready_late(clock);
+        is_wrong || is_late
     }
 
     /// The request whose data are on the way at this clock, also if its response is there.
-    fn moving_with(&self, clock: u64, sample: &Sample) -> Option<Moving> {
-        let code = sample.response();
-        if code == 0 {
-            return self.moving;
-        }
-        match self.may_answer(clock) {
-            Some(next) if moves(next.told_by(code)) => Some(Moving {
-                asked: next.asked,
-                chunks: 0,
-            }),
-            _ => None,
+    #[tactic(auto, unfolding(crate::specs::Tests::moving_by))]
+    fn moving_with(&self, clock: u32, sample: &Sample) -> Option<Moving>
+        ensures { result ≡ moving_by self.now clock sample.now }
+    {
+        if responds(sample) {
+            match self.next(clock) {
+                Some(next) => moving_at_once(&next, sample.response()),
+                None => None,
+            }
+        } else {
+            self.moving
         }
     }
 
     /// Rule 16, data transfer, where the response is not early.
-    pub fn is_data_wrong(&self, clock: u64, sample: &Sample) -> bool {
+    pub fn is_data_wrong(&self, clock: u32, sample: &Sample) -> bool
+        ensures { result ≡ (has_line sample.now DRDY && is_none (moving_by self.now clock sample.now)
+            || not (has_line sample.now DBSY) && is_some (after_chunk (moving_by self.now clock sample.now) sample.now)
+            || has_line sample.now DBSY && not (is_some (after_chunk (moving_by self.now clock sample.now) sample.now))) }
+    {
         let moving = self.moving_with(clock, sample);
         let goes_on = after_chunk(moving, sample).is_some();
-        let is_busy = sample.has(Lines::DBSY);
-        sample.has(Lines::DRDY) && moving.is_none() || is_busy && !goes_on || !is_busy && goes_on
+        let is_alone = sample.has(Lines::DRDY) && moving.is_none();
+        let is_idle = !sample.has(Lines::DBSY) && goes_on;
+        let is_busy = sample.has(Lines::DBSY) && !goes_on;
+        is_alone || is_idle || is_busy
     }
 
     /// The request that ends with this sample.
-    pub fn ended(&self, clock: u64, sample: &Sample) -> Option<Ended> {
-        let code = sample.response();
-        if code != 0 {
-            match self.may_answer(clock) {
-                Some(next) if !moves(next.told_by(code)) => Some(Ended {
-                    asked: next.asked,
-                    is_deferred: next.told_by(code) == Outcome::Deferred,
-                }),
-                _ => None,
+    #[tactic(auto, unfolding(crate::specs::Tests::ended_by))]
+    pub fn ended(&self, clock: u32, sample: &Sample) -> Option<Ended>
+        ensures { result ≡ ended_by self.now clock sample.now }
+    {
+        if responds(sample) {
+            match self.next(clock) {
+                Some(next) => ended_at_once(&next, sample.response()),
+                None => None,
             }
         } else {
             match self.moving {
-                Some(moving) if sample.has(Lines::DRDY) && moving.chunks >= 3 => Some(Ended {
-                    asked: moving.asked,
-                    is_deferred: false,
-                }),
-                _ => None,
+                Some(moving) => ended_with_chunk(&moving, sample),
+                None => None,
             }
+        }
+    }
+
+    /// The request that has its snoop end with this sample, and what came of it.
+    #[tactic(auto, unfolding(crate::specs::Tests::snooped_by))]
+    fn snooped(&self, clock: u32, sample: &Sample) -> Option<Snooped>
+        ensures { result ≡ snooped_by self.now clock sample.now }
+    {
+        match self.asking.as_slice().first() {
+            Some(asked) => {
+                if self.ends_snoop(clock, sample) {
+                    Some(Snooped {
+                        asked: *asked,
+                        clock,
+                        hitm: sample.has(Lines::HITM),
+                        defer: sample.has(Lines::DEFER),
+                    })
+                } else {
+                    None
+                }
+            }
+            None => None,
+        }
+    }
+
+    /// The ready clock of the request that responds next after this sample.
+    #[tactic(auto, unfolding(crate::specs::Tests::ready_after_by))]
+    fn ready_after(&self, clock: u32, sample: &Sample) -> Option<u32>
+        ensures { result ≡ ready_after_by self.now clock sample.now }
+    {
+        if responds(sample) {
+            None
+        } else if sample.has(Lines::TRDY) {
+            Some(clock)
+        } else {
+            self.ready
         }
     }
 
     /// Takes the sample of this clock, which breaks no rule, and the request whose second clock it is.
-    pub fn absorb(&mut self, clock: u64, sample: &Sample, begun: Option<Asked>) {
-        let ends_snoop = self.ends_snoop(clock, sample);
-        self.moving = after_chunk(self.moving_with(clock, sample), sample);
-        if sample.response() != 0 {
-            self.waiting.pop_at(0);
-            self.ready = None;
-        } else if sample.has(Lines::TRDY) {
-            self.ready = Some(clock);
-        }
-        if sample.has(Lines::AERR) {
-            self.asking.pop();
-        }
-        if ends_snoop {
-            self.snooped(clock, sample);
-        }
-        if let Some(asked) = begun {
-            self.asking.push(asked);
-        }
-    }
-
-    /// The first request without its snoop end has it with this sample.
-    fn snooped(&mut self, clock: u64, sample: &Sample) {
-        if let Some(asked) = self.asking.pop_at(0) {
-            self.waiting.push(Snooped {
-                asked,
-                clock,
-                hitm: sample.has(Lines::HITM),
-                defer: sample.has(Lines::DEFER),
-            });
+    #[tactic(auto, using(crate::proofs::Room::room))]
+    pub fn absorb(&mut self, clock: u32, sample: &Sample, begun: Option<Asked>)
+        requires few { queue_len self.old ≤ 8 }
+        requires room { is_some begun ≡ true → queue_len self.old < 8 }
+        ensures asking { self.new.asking.items ≡ asking_after self.old.asking.items (has_line sample.now AERR) (is_some (snooped_by self.old clock sample.now)) begun }
+        ensures waiting { self.new.waiting.items ≡ waiting_after self.old.waiting.items (responds sample.now) (snooped_by self.old clock sample.now) }
+        ensures moving { self.new.moving ≡ after_chunk (moving_by self.old clock sample.now) sample.now }
+        ensures last_snoop { self.new.last_snoop ≡ (if is_some (snooped_by self.old clock sample.now) then Some clock else self.old.last_snoop) }
+        ensures ready { self.new.ready ≡ ready_after_by self.old clock sample.now }
+    {
+        let snooped = self.snooped(clock, sample);
+        let moving = after_chunk(self.moving_with(clock, sample), sample);
+        let ready = self.ready_after(clock, sample);
+        take_asked(&mut self.asking, sample.has(Lines::AERR), snooped.is_some(), begun);
+        take_snooped(&mut self.waiting, responds(sample), snooped);
+        if snooped.is_some() {
             self.last_snoop = Some(clock);
         }
+        self.moving = moving;
+        self.ready = ready;
     }
 }
 
-/// The request whose data are on the way after this sample.
-fn after_chunk(moving: Option<Moving>, sample: &Sample) -> Option<Moving> {
-    match moving {
-        Some(moving) => {
-            let chunks = moving.chunks + u8::from(sample.has(Lines::DRDY));
-            if chunks < 4 {
-                Some(Moving {
-                    asked: moving.asked,
-                    chunks,
-                })
-            } else {
-                None
-            }
-        }
-        None => None,
+/// The requests without their snoop end: the last one is cancelled, the first has its snoop end, and one is begun.
+#[tactic(auto, unfolding(crate::specs::Tests::asking_after, crate::specs::Tests::without_last))]
+fn take_asked(
+    asking: &mut ArrayVec<Asked, 8>,
+    is_cancelled: bool,
+    is_snooped: bool,
+    begun: Option<Asked>,
+)
+    requires { is_some begun ≡ true → length asking.old.items < 8 }
+    ensures { asking.new.items ≡ asking_after asking.old.items is_cancelled is_snooped begun }
+{
+    if is_cancelled {
+        asking.pop();
+    }
+    if is_snooped {
+        asking.pop_at(0);
+    }
+    if let Some(asked) = begun {
+        asking.push(asked);
+    }
+}
+
+/// The requests that wait for their response: the first responds, and one has its snoop end.
+#[tactic(auto, unfolding(crate::specs::Tests::waiting_after))]
+fn take_snooped(waiting: &mut ArrayVec<Snooped, 8>, responds: bool, snooped: Option<Snooped>)
+    requires { is_some snooped ≡ true → length waiting.old.items < 8 }
+    ensures { waiting.new.items ≡ waiting_after waiting.old.items responds snooped }
+{
+    if responds {
+        waiting.pop_at(0);
+    }
+    if let Some(snooped) = snooped {
+        waiting.push(snooped);
     }
 }

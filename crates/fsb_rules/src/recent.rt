@@ -1,5 +1,9 @@
 //! The last three clocks.
 
+ghost use Rattle.std.specs.Prelude.{◌≡◌, Some, None};
+ghost use Rattle.fsb_trace.specs.At.{known_pair};
+ghost use Rattle.fsb_rules.specs.Tests.{is_among, request_by};
+
 use bitflags::Flags;
 use fsb_encode::{Pair, Request, decode};
 use fsb_signal::{Lines, Sample};
@@ -18,7 +22,10 @@ pub struct Recent {
 }
 
 /// Whether there is such a clock, and the line is asserted in it.
-fn is_among(lines: Option<Lines>, line: Lines) -> bool {
+#[tactic(auto, unfolding(crate::specs::Tests::is_among, fsb_count::specs::Options::is_some_and))]
+fn is_among(lines: Option<Lines>, line: Lines) -> bool
+    ensures { result ≡ is_among lines line }
+{
     match lines {
         Some(lines) => lines.contains(line),
         None => false,
@@ -26,7 +33,10 @@ fn is_among(lines: Option<Lines>, line: Lines) -> bool {
 }
 
 /// The address and REQ words of a sample, where no bit of them is unknown.
-fn known_pair(sample: &Sample) -> Option<Pair> {
+#[tactic(auto, unfolding(fsb_trace::specs::At::known_pair))]
+fn known_pair(sample: &Sample) -> Option<Pair>
+    ensures { result ≡ known_pair sample.now }
+{
     if sample.addr.is_known() && sample.req.is_known() {
         Some(Pair {
             addr: sample.addr.bits,
@@ -39,7 +49,12 @@ fn known_pair(sample: &Sample) -> Option<Pair> {
 
 impl Recent {
     /// No clock yet.
-    pub fn new() -> Recent {
+    pub fn new() -> Recent
+        ensures first { result.first ≡ None }
+        ensures second { result.second ≡ None }
+        ensures third { result.third ≡ None }
+        ensures words { result.words ≡ None }
+    {
         Recent {
             first: None,
             second: None,
@@ -49,28 +64,42 @@ impl Recent {
     }
 
     /// Whether the line is asserted one clock back.
-    pub fn one_back(&self, line: Lines) -> bool {
+    pub fn one_back(&self, line: Lines) -> bool
+        ensures { result ≡ is_among self.now.first line }
+    {
         is_among(self.first, line)
     }
 
     /// Whether the line is asserted two clocks back.
-    pub fn two_back(&self, line: Lines) -> bool {
+    pub fn two_back(&self, line: Lines) -> bool
+        ensures { result ≡ is_among self.now.second line }
+    {
         is_among(self.second, line)
     }
 
     /// Whether the line is asserted three clocks back.
-    pub fn three_back(&self, line: Lines) -> bool {
+    pub fn three_back(&self, line: Lines) -> bool
+        ensures { result ≡ is_among self.now.third line }
+    {
         is_among(self.third, line)
     }
 
     /// The request that begins one clock back, whose second clock is this sample.
-    pub fn request(&self, sample: &Sample) -> Option<Request> {
+    #[tactic(auto, unfolding(crate::specs::Tests::request_by))]
+    pub fn request(&self, sample: &Sample) -> Option<Request>
+        ensures { result ≡ request_by self.now.words sample.now }
+    {
         let second = known_pair(sample)?;
         decode(self.words?, second).ok()
     }
 
     /// Takes the sample of the next clock.
-    pub fn absorb(&mut self, sample: &Sample) {
+    pub fn absorb(&mut self, sample: &Sample)
+        ensures first { self.new.first ≡ Some sample.now.lines }
+        ensures second { self.new.second ≡ self.old.first }
+        ensures third { self.new.third ≡ self.old.second }
+        ensures words { self.new.words ≡ known_pair sample.now }
+    {
         self.third = self.second;
         self.second = self.first;
         self.first = Some(sample.lines);

@@ -1,0 +1,114 @@
+-- A symmetric winner is one of four agents, and a request of its own has one of its IDs.
+use Rattle.std.proofs.Common.{ℕ, zero, suc, ◌+◌, ◌-◌, ◌/◌, ◌%◌, ◌*◌, ◌<◌, ◌≤◌, ◌≡◌, Bool, true, false, cond, not, ◌&&◌, nat_eq, nat_lt, Option, Some, None, lit<, refl, sym, ap, ◌∙◌, arith, inl, inr}
+use Rattle.std.specs.Option.{option_map, option_and_then}
+use Rattle.std.proofs.Math.Nat.{mod-lt}
+use Rattle.std.proofs.lemmas.Bool.{cases_Bool, and_parts, eqb-true}
+use Rattle.std.proofs.lemmas.Option.{same_Some, cond_some}
+use Rattle.fsb_count.specs.Options.{is_some_and}
+use Rattle.fsb_count.specs.Clocks.{first_where}
+use Rattle.fsb_signal.specs.declared.lines.TheConstants.Lines.{ADS, LOCK, BPRI}
+use Rattle.fsb_signal.specs.Samples.{line_at}
+use Rattle.fsb_encode.specs.declared.request.Request.{Request}
+use Rattle.fsb_trace.specs.declared.who.Who.{Who}
+use Rattle.fsb_trace.specs.declared.who.Who.TheVariants.{Symmetric, Priority}
+use Rattle.fsb_trace.specs.declared.turns.Turns.{Turns}
+use Rattle.fsb_trace.specs.At.{Trace}
+use Rattle.fsb_trace.specs.Winner.{agent_in_order, asks_in_order, first_asking, last_if_asking, winner_by, winner_after, turns_before, winner_at, then_begun, no_turns, request_line_of, is_same_agent, first_in_order}
+use Rattle.fsb_trace.specs.Rules.{is_own_id}
+
+-- there is no such agent, or it is the priority agent, or one of the four
+abbrev pub IsOneOfFour : Option Who → Type 0
+IsOneOfFour who = (a : ℕ) → who ≡ Some (Symmetric a) → a < 4
+
+asking : (w : Trace) (d first : ℕ) (o : Option ℕ) → IsOneOfFour (option_map Symmetric (option_map (agent_in_order first) o))
+unfolding agent_in_order
+asking w d first None = λ a e. absurd (let no : ⊥ = cc in no)
+asking w d first (Some n) = λ a e.
+    let below : (first + n) % 4 < 4 = mod-lt (first + n) (lit< tt) in
+    let same : (first + n) % 4 ≡ a = cc in
+    omega arith
+
+by_order : (w : Trace) (d first : ℕ) → IsOneOfFour (option_map Symmetric (first_asking w d first))
+unfolding first_asking
+by_order w d first = asking w d first (first_where (asks_in_order w d first) 4)
+
+by_last : (w : Trace) (d : ℕ) (last : Option Who) → IsOneOfFour last → IsOneOfFour (last_if_asking w d last)
+unfolding last_if_asking
+by_last w d None f = λ a e. absurd (let no : ⊥ = cc in no)
+by_last w d (Some who) f = λ a e.
+    let p = cond_some (line_at (request_line_of who) w d) who (Symmetric a) e in f a (ap (λ x. Some x) p.1)
+
+same_four : (o p : Option Who) → o ≡ p → IsOneOfFour p → IsOneOfFour o
+same_four o p e f = λ a h. f a (sym e ∙ h)
+
+locked : (w : Trace) (d : ℕ) (turns : Turns) → line_at LOCK w d ≡ true → winner_by w d turns ≡ last_if_asking w d turns.last
+unfolding winner_by
+locked w d turns t = rw (t, winner_by) refl
+
+priority : (w : Trace) (d : ℕ) (turns : Turns) → line_at LOCK w d ≡ false → line_at BPRI w d ≡ true → winner_by w d turns ≡ Some Priority
+unfolding winner_by
+priority w d turns f t = rw (f, t, winner_by) refl
+
+symmetric : (w : Trace) (d : ℕ) (turns : Turns) → line_at LOCK w d ≡ false → line_at BPRI w d ≡ false → winner_by w d turns ≡ option_map Symmetric (first_asking w d (first_in_order turns.symmetric))
+unfolding winner_by
+symmetric w d turns f g = rw (f, g, winner_by) refl
+
+by_lines : (w : Trace) (d : ℕ) (turns : Turns) (lock bpri : Bool) → line_at LOCK w d ≡ lock → line_at BPRI w d ≡ bpri → IsOneOfFour turns.last → IsOneOfFour (winner_by w d turns)
+by_lines w d turns true bpri e g f = same_four _ _ (locked w d turns e) (by_last w d turns.last f)
+by_lines w d turns false true e g f = same_four _ _ (priority w d turns e g) (λ a h. absurd (let no : ⊥ = cc in no))
+by_lines w d turns false false e g f = same_four _ _ (symmetric w d turns e g) (by_order w d (first_in_order turns.symmetric))
+
+low : (w : Trace) (c : ℕ) (turns : Turns) → nat_lt c 2 ≡ true → winner_after w c turns ≡ None
+unfolding winner_after
+low w c turns t = rw (t, winner_after) refl
+
+high : (w : Trace) (c : ℕ) (turns : Turns) → nat_lt c 2 ≡ false → winner_after w c turns ≡ winner_by w (c - 2) turns
+unfolding winner_after
+high w c turns f = rw (f, winner_after) refl
+
+after_cases : (w : Trace) (c : ℕ) (turns : Turns) (b : Bool) → nat_lt c 2 ≡ b → IsOneOfFour turns.last → IsOneOfFour (winner_after w c turns)
+after_cases w c turns true e f = same_four _ _ (low w c turns e) (λ a h. absurd (let no : ⊥ = cc in no))
+after_cases w c turns false e f =
+    same_four _ _ (high w c turns e) (by_lines w (c - 2) turns (line_at LOCK w (c - 2)) (line_at BPRI w (c - 2)) refl refl f)
+
+then_last : (turns : Turns) (winner : Option Who) → (then_begun turns winner).last ≡ winner
+unfolding then_begun
+then_last turns None = refl
+then_last turns (Some (Symmetric a)) = refl
+then_last turns (Some Priority) = refl
+
+begun : (w : Trace) (c : ℕ) → line_at ADS w c ≡ true → turns_before w (suc c) ≡ then_begun (turns_before w c) (winner_after w c (turns_before w c))
+unfolding turns_before
+begun w c t = rw (t, turns_before) refl
+
+kept : (w : Trace) (c : ℕ) → line_at ADS w c ≡ false → turns_before w (suc c) ≡ turns_before w c
+unfolding turns_before
+kept w c f = rw (f, turns_before) refl
+
+first_turns : (w : Trace) → (turns_before w zero).last ≡ None
+unfolding turns_before no_turns
+first_turns w = refl
+
+turn_cases : (w : Trace) (c : ℕ) (ads : Bool) → line_at ADS w c ≡ ads → IsOneOfFour (turns_before w c).last → IsOneOfFour (turns_before w (suc c)).last
+turn_cases w c true e f =
+    same_four _ _ (ap (λ t. t.last) (begun w c e) ∙ then_last (turns_before w c) (winner_after w c (turns_before w c)))
+    (after_cases w c (turns_before w c) (nat_lt c 2) refl f)
+turn_cases w c false e f = same_four _ _ (ap (λ t. t.last) (kept w c e)) f
+
+turns_four : (w : Trace) (c : ℕ) → IsOneOfFour (turns_before w c).last
+turns_four w zero = same_four _ _ (first_turns w) (λ a e. absurd (let no : ⊥ = cc in no))
+turns_four w (suc c) = turn_cases w c (line_at ADS w c) refl (turns_four w c)
+
+pub winner_four : (w : Trace) (c a : ℕ) → winner_at w c ≡ Some (Symmetric a) → a < 4
+unfolding winner_at
+winner_four w c = after_cases w c (turns_before w c) (nat_lt c 2) refl (turns_four w c)
+
+-- the agent of a request with an ID of its own
+own_cases : (winner : Option Who) (r : Request) → is_own_id winner r ≡ true → winner ≡ Some (Symmetric (r.did / 16))
+unfolding is_own_id is_some_and is_same_agent
+own_cases None r t = absurd (let no : ⊥ = cc in no)
+own_cases (Some Priority) r t = absurd (let no : ⊥ = cc in no)
+own_cases (Some (Symmetric a)) r t = ap (λ n. Some (Symmetric n)) (sym (eqb-true (r.did / 16) a t))
+
+pub own_agent : (winner : Option Who) (r : Request) → is_own_id winner r ≡ true → winner ≡ Some (Symmetric (r.did / 16))
+own_agent = own_cases

@@ -1,0 +1,6 @@
+use Rattle.std.proofs.Common.{◌≡◌, take}
+use Rattle.fsb_rules.proofs.outstanding.copy_of.Given as goal
+
+-- those so far are copied
+abbrev pub invariant-loop-open : goal.invariant-loop-open
+invariant-loop-open l = l.copy.items ≡ take l.open-index l.opens
