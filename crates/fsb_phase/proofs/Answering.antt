@@ -1,8 +1,8 @@
 -- Where RS# is driven, the oldest request may respond.
-use Rattle.std.proofs.Common.{ℕ, zero, suc, ◌+◌, ◌-◌, ◌<◌, ◌≤◌, ◌≡◌, Bool, true, false, not, ◌&&◌, max, nat_eq, nat_le, Option, Some, None, List, [], ◌∷◌, length, is_some, is_none, refl, sym, ap, ◌∙◌, inl, inr, arith, subst}
+use Rattle.std.proofs.Common.{ℕ, zero, suc, ◌+◌, ◌≤◌, ◌≡◌, Bool, true, false, not, max, nat_eq, Option, Some, None, List, length, is_none, refl, sym, ap, ◌∙◌, inl, inr, arith, subst}
 use Rattle.std.specs.List.{slice_get, find}
 use Rattle.std.specs.Option.{option_map, option_map_or}
-use Rattle.std.proofs.lemmas.Bool.{cases_Bool, and_parts, and_from, eqb-true, le-leb, both_ways}
+use Rattle.std.proofs.lemmas.Bool.{and_parts, and_from, eqb-true, le-leb, both_ways}
 use Rattle.fsb_count.specs.Options.{is_some_and, is_at, greater_of}
 use Rattle.fsb_signal.specs.declared.sample.Sample.{Sample}
 use Rattle.fsb_signal.specs.Samples.{response_of}
@@ -12,15 +12,15 @@ use Rattle.fsb_trace.specs.Outcome.{response_clock_of}
 use Rattle.fsb_trace.specs.Response.{takes, end_of, ready_clock_of}
 use Rattle.fsb_laws.specs.OneMore.{responds}
 use Rattle.fsb_laws.specs.Progress.{EndsTo, response_count, transfer_of, may_answer_next}
-use Rattle.fsb_laws.proofs.ReadySteps.{HasReady, has_ready, after_answer}
+use Rattle.fsb_laws.proofs.ReadySteps.{has_ready, after_answer}
 use Rattle.fsb_queue.specs.declared.entry.Entry.{Entry}
 use Rattle.fsb_phase.specs.Timing.{is_response_from}
 use Rattle.fsb_phase.specs.Due.{live_of, two_after_snoop, answer_from, has_response}
 use Rattle.fsb_phase.specs.Flight.{InFlight}
 use Rattle.fsb_phase.specs.Drive.{code_of, drive_of}
 use Rattle.fsb_phase.proofs.Finds.{Found, find-cases, find-off, find-place}
-use Rattle.fsb_phase.proofs.Entries.{Placed, placed}
-use Rattle.fsb_phase.proofs.HeadDrive.{Answered, Idle, idle-later, has_response-at, response_at}
+use Rattle.fsb_phase.proofs.Entries.{placed}
+use Rattle.fsb_phase.proofs.HeadDrive.{Answered, idle-later, has_response-at, response_at}
 
 -- the clock from which a request is answered lies two clocks after its snoop end at least
 from_first : (h : Trace) (f : ℕ) (o : Option ℕ) → snoop_end_of h 0 ≡ o → option_map (λ s. s + 2) o ≡ Some f → (s : ℕ) × (snoop_end_of h 0 ≡ Some s) × (s + 2 ≤ f)

@@ -1,8 +1,8 @@
 -- The end that the next sample is, and the clock from which the request after it is answered.
-use Rattle.std.proofs.Common.{ℕ, zero, suc, ◌+◌, ◌-◌, ◌<◌, ◌≤◌, ◌≡◌, Bool, true, false, not, cond, ◌&&◌, ◌||◌, max, nat_eq, Option, Some, None, List, [], ◌∷◌, length, is_some, is_none, refl, sym, ap, ◌∙◌, ◌⊎◌, inl, inr, arith, subst}
+use Rattle.std.proofs.Common.{ℕ, zero, suc, ◌+◌, ◌<◌, ◌≤◌, ◌≡◌, Bool, true, false, cond, ◌&&◌, ◌||◌, max, Option, Some, None, List, length, is_some, is_none, refl, sym, ap, ◌∙◌, ◌⊎◌, inl, inr, arith, subst}
 use Rattle.std.specs.List.{slice_get, find}
-use Rattle.std.specs.Option.{option_map, option_and_then}
-use Rattle.std.proofs.lemmas.Bool.{cases_Bool, cases_lt, cases_eq, and_left, and_right, and_parts, eq-eqb, both_ways}
+use Rattle.std.specs.Option.{option_and_then}
+use Rattle.std.proofs.lemmas.Bool.{cases_Bool, cases_lt, and_left, and_right, and_parts, eq-eqb, both_ways}
 use Rattle.fsb_count.specs.Options.{is_some_and, is_at, greater_of}
 use Rattle.fsb_signal.specs.declared.lines.TheConstants.Lines.{DRDY}
 use Rattle.fsb_signal.specs.declared.sample.Sample.{Sample}
@@ -11,7 +11,7 @@ use Rattle.fsb_trace.specs.At.{Trace}
 use Rattle.fsb_trace.specs.Requests.{is_live, live_clock_of}
 use Rattle.fsb_trace.specs.Snoop.{snoop_end_of}
 use Rattle.fsb_trace.specs.Response.{end_of}
-use Rattle.fsb_trace.proofs.Stay.{HasClock, snoop_end_of-clock}
+use Rattle.fsb_trace.proofs.Stay.{snoop_end_of-clock}
 use Rattle.fsb_laws.specs.OneMore.{OneMore, responds}
 use Rattle.fsb_laws.specs.Orderly.{Spaced, Orderly}
 use Rattle.fsb_laws.specs.Progress.{SnoopsTo, EndsTo, response_count, transfer_of, ends_snoop_of, is_snoop_due, chunk_step}
@@ -27,10 +27,10 @@ use Rattle.fsb_phase.specs.Drive.{drive_of, ends_at}
 use Rattle.fsb_phase.specs.Phases.{Stands, snooped_count}
 use Rattle.fsb_phase.specs.Registers.{snooped_by, transfer_to, has_answered, ends_by, ended_by, answer_to, from_to}
 use Rattle.fsb_phase.proofs.Finds.{find-off, find-place}
-use Rattle.fsb_phase.proofs.Entries.{Placed, placed}
+use Rattle.fsb_phase.proofs.Entries.{placed}
 use Rattle.fsb_phase.proofs.SnoopDrive.{Meets, outcome_reached, reached_before, not_reached_from}
 use Rattle.fsb_phase.proofs.HeadDrive.{Answered, no_answer-before, no_answer-snoop}
-use Rattle.fsb_phase.proofs.Driven.{Far, far, meets}
+use Rattle.fsb_phase.proofs.Driven.{far, meets}
 use Rattle.fsb_phase.proofs.SnoopStep.{queue_has, ends_is, live_after, number_stays, due_clock}
 use Rattle.fsb_phase.proofs.Answering.{Answering, answering, may_answer}
 use Rattle.fsb_phase.proofs.ResponseStep.{count_answered, count_kept, transfer_to-is, spaced_on}

@@ -1,10 +1,8 @@
 -- What the phases drive is what is due.
-use Rattle.std.proofs.Common.{ℕ, suc, ◌+◌, ◌<◌, ◌≤◌, ◌≡◌, Option, Some, None, List, length, refl, sym, ap, ◌∙◌, inl, inr, arith, subst, is_some}
-use Rattle.std.specs.List.{slice_get, find}
-use Rattle.std.specs.Option.{option_map, option_map_or, option_and_then}
+use Rattle.std.proofs.Common.{ℕ, suc, ◌<◌, ◌≤◌, ◌≡◌, Option, Some, None, List, length, refl, inl, inr, arith}
+use Rattle.std.specs.List.{slice_get}
 use Rattle.std.proofs.lemmas.Bool.{cases_lt}
 use Rattle.fsb_trace.specs.At.{Trace}
-use Rattle.fsb_trace.specs.Snoop.{snoop_end_of}
 use Rattle.fsb_laws.specs.Orderly.{Orderly}
 use Rattle.fsb_laws.specs.Progress.{SnoopsTo, EndsTo, response_count, transfer_of}
 use Rattle.fsb_laws.proofs.ResponseSteps.{response_there, response_past, has_answer}
@@ -12,7 +10,7 @@ use Rattle.fsb_laws.proofs.EndFacts.{ends_to-still, ends_to-moving, transfer_par
 use Rattle.fsb_queue.specs.declared.entry.Entry.{Entry}
 use Rattle.fsb_phase.specs.declared.phases.Phases.{Phases}
 use Rattle.fsb_phase.specs.Flight.{InFlight}
-use Rattle.fsb_phase.specs.Drive.{code_of, drive_of}
+use Rattle.fsb_phase.specs.Drive.{drive_of}
 use Rattle.fsb_phase.specs.Phases.{Stands, snooped_count, last_snoop_end}
 use Rattle.fsb_phase.specs.Registers.{drive_by}
 use Rattle.fsb_phase.proofs.Counts.{snoops_to}

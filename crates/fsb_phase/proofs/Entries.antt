@@ -1,13 +1,12 @@
 -- The entries of a queue that holds the requests in flight: their places and their numbers.
-use Rattle.std.proofs.Common.{ℕ, zero, suc, ◌+◌, ◌-◌, ◌<◌, ◌≤◌, ◌≡◌, Bool, true, false, Option, Some, None, List, [], ◌∷◌, map, drop, length, is_some, is_none, refl, sym, ap, ◌∙◌, inl, inr, arith, subst}
+use Rattle.std.proofs.Common.{ℕ, zero, suc, ◌+◌, ◌<◌, ◌≡◌, true, Some, List, [], ◌∷◌, drop, length, refl, sym, ap, ◌∙◌, arith}
 use Rattle.std.specs.List.{slice_get}
 use Rattle.std.specs.Option.{option_map}
 use Rattle.std.proofs.lemmas.Option.{slice_get-map}
-use Rattle.fsb_count.specs.Clocks.{all_where, nth_where, count_where}
+use Rattle.fsb_count.specs.Clocks.{all_where, nth_where}
 use Rattle.fsb_count.proofs.Nth.{nth_where-found}
 use Rattle.fsb_trace.specs.At.{Trace}
 use Rattle.fsb_trace.specs.Requests.{is_live, live_clock_of, live_number_of}
-use Rattle.fsb_trace.specs.Flight.{in_flight}
 use Rattle.fsb_laws.specs.Progress.{EndsTo}
 use Rattle.fsb_laws.proofs.FlightSteps.{in_flight-live}
 use Rattle.fsb_queue.specs.declared.entry.Entry.{Entry}

@@ -1,26 +1,25 @@
 -- TRDY#, responses and data that are driven are those that are due: of the oldest request alone.
-use Rattle.std.proofs.Common.{ℕ, zero, suc, ◌+◌, ◌-◌, ◌<◌, ◌≤◌, ◌≡◌, Bool, true, false, ◌&&◌, cond, Option, Some, None, List, [], ◌∷◌, length, max, is_some, is_none, refl, sym, ap, ◌∙◌, ◌⊎◌, inl, inr, arith, subst}
+use Rattle.std.proofs.Common.{ℕ, zero, suc, ◌+◌, ◌-◌, ◌<◌, ◌≡◌, Bool, true, false, ◌&&◌, cond, Option, Some, None, List, length, is_some, is_none, refl, sym, ap, ◌∙◌, ◌⊎◌, inl, inr, arith}
 use Rattle.std.specs.List.{slice_get, find}
-use Rattle.std.specs.Option.{option_map, option_map_or, option_and_then}
-use Rattle.std.proofs.lemmas.Bool.{cases_Bool, and_left, and_right}
+use Rattle.std.specs.Option.{option_map, option_and_then}
+use Rattle.std.proofs.lemmas.Bool.{cases_Bool, and_right}
 use Rattle.fsb_count.specs.Options.{is_some_and, is_at, greater_of}
 use Rattle.fsb_trace.specs.At.{Trace}
 use Rattle.fsb_trace.specs.Snoop.{snoop_end_of}
 use Rattle.fsb_trace.specs.Outcome.{response_clock_of}
 use Rattle.fsb_trace.specs.Response.{takes, end_of, clock_after_snoop, ready_after, ready_clock_of}
-use Rattle.fsb_laws.specs.Progress.{SnoopsTo, EndsTo, response_count, transfer_of}
+use Rattle.fsb_laws.specs.Progress.{EndsTo, response_count, transfer_of}
 use Rattle.fsb_laws.proofs.ResponseSteps.{response_past}
-use Rattle.fsb_laws.proofs.SnoopSteps.{snoop_end_of-above}
 use Rattle.fsb_queue.specs.declared.entry.Entry.{Entry}
 use Rattle.fsb_phase.specs.declared.phases.Phases.{Phases}
 use Rattle.fsb_phase.specs.Timing.{is_ready_from, is_response_from, chunk_from, is_busy_from}
 use Rattle.fsb_phase.specs.Due.{live_of, two_after_snoop, answer_from, awaits_response, has_ready, has_response, response_to_now, moves, chunk_of, keeps_busy}
 use Rattle.fsb_phase.specs.Flight.{IsSettled, InFlight}
 use Rattle.fsb_phase.specs.Phases.{Stands, value_before, last_response}
-use Rattle.fsb_phase.specs.Drive.{code_of, numbered_chunk}
+use Rattle.fsb_phase.specs.Drive.{numbered_chunk}
 use Rattle.fsb_phase.specs.Registers.{if_passes, is_taking, gets_ready, answers, answered, chunk_at, is_busy, numbered_at}
 use Rattle.fsb_phase.proofs.Finds.{find-first}
-use Rattle.fsb_phase.proofs.Entries.{Placed, placed}
+use Rattle.fsb_phase.proofs.Entries.{placed}
 use Rattle.fsb_phase.proofs.Settled.{taking-is}
 
 -- where the request before has not ended, or there is no snoop end yet, a request is not answered and not ready

@@ -1,14 +1,14 @@
 -- The snoop end that the next sample is.
-use Rattle.std.proofs.Common.{ℕ, zero, suc, ◌+◌, ◌-◌, ◌<◌, ◌≤◌, ◌≡◌, Bool, true, false, not, cond, ◌&&◌, nat_eq, Option, Some, None, List, [], ◌∷◌, map, length, is_some, is_none, refl, sym, ap, ◌∙◌, inl, inr, arith, subst}
+use Rattle.std.proofs.Common.{ℕ, zero, suc, ◌+◌, ◌-◌, ◌<◌, ◌≤◌, ◌≡◌, Bool, true, false, not, cond, ◌&&◌, Option, Some, None, List, [], ◌∷◌, length, is_some, refl, sym, ap, ◌∙◌, inl, inr, arith, subst}
 use Rattle.std.specs.List.{slice_get, find}
 use Rattle.std.specs.Option.{option_map}
-use Rattle.std.proofs.lemmas.Bool.{cases_Bool, cases_lt, cases_eq, cases_order, and_left, and_right, and_parts, eq-eqb, ne_eqb, leb-true, both_ways}
+use Rattle.std.proofs.lemmas.Bool.{cases_Bool, cases_eq, cases_order, and_left, and_right, and_parts, eq-eqb, ne_eqb, leb-true, both_ways}
 use Rattle.std.proofs.lemmas.Option.{slice_get-map}
 use Rattle.fsb_count.specs.Options.{is_some_and, is_at}
 use Rattle.fsb_count.specs.Clocks.{all_where, nth_where}
 use Rattle.fsb_signal.specs.declared.sample.Sample.{Sample}
 use Rattle.fsb_trace.specs.At.{Trace}
-use Rattle.fsb_trace.specs.Requests.{is_live, live_clock_of, live_number_of}
+use Rattle.fsb_trace.specs.Requests.{is_live, live_clock_of}
 use Rattle.fsb_trace.specs.Snoop.{is_every_second_from, snoop_start_of, snoop_end_of}
 use Rattle.fsb_laws.specs.OneMore.{OneMore, cancels, stalls}
 use Rattle.fsb_laws.specs.Orderly.{Spaced}
@@ -21,7 +21,7 @@ use Rattle.fsb_phase.specs.declared.phases.Phases.{Phases}
 use Rattle.fsb_phase.specs.Due.{live_of, has_snoop}
 use Rattle.fsb_phase.specs.Flight.{InFlight}
 use Rattle.fsb_phase.specs.Drive.{ends_snoop_at}
-use Rattle.fsb_phase.specs.Phases.{value_before, snooped_count, last_snoop_end}
+use Rattle.fsb_phase.specs.Phases.{value_before, last_snoop_end}
 use Rattle.fsb_phase.specs.Registers.{snooping, snooped_by, snooped_to}
 use Rattle.fsb_phase.proofs.Finds.{Found, find-cases, find-place, find-off}
 use Rattle.fsb_phase.proofs.Counts.{snoops_count}

@@ -1,9 +1,9 @@
 -- What a queue has to hold, and what a sample has to show, for the phases to follow.
-use Rattle.std.specs.Prelude.{◌≡◌, ℕ, Bool, true, false, ◌||◌, List, map, Option, Some, length, slice_get}
+use Rattle.std.specs.Prelude.{◌≡◌, ℕ, Bool, true, false, ◌||◌, List, map, Some, length, slice_get}
 use Rattle.std.specs.Option.{option_map}
 use Rattle.fsb_signal.specs.declared.lines.TheConstants.Lines.{ADS}
 use Rattle.fsb_signal.specs.declared.sample.Sample.{Sample}
-use Rattle.fsb_signal.specs.Samples.{has_line, response_of}
+use Rattle.fsb_signal.specs.Samples.{has_line}
 use Rattle.fsb_trace.specs.At.{Trace, line_back}
 use Rattle.fsb_trace.specs.Requests.{live_request_of, is_write_back}
 use Rattle.fsb_trace.specs.Snoop.{snoop_end_of}

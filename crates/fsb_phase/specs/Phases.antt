@@ -1,5 +1,5 @@
 -- The history that the phases stand for.
-use Rattle.std.specs.Prelude.{◌≡◌, ℕ, zero, suc, Bool, false, Option, None, List, length, is_some}
+use Rattle.std.specs.Prelude.{◌≡◌, ℕ, zero, suc, false, Option, None, List, length, is_some}
 use Rattle.fsb_count.specs.Clocks.{count_where}
 use Rattle.fsb_signal.specs.declared.sample.Sample.{Sample}
 use Rattle.fsb_signal.specs.Samples.{response_of}

@@ -1,4 +1,4 @@
-use Rattle.std.proofs.Common.{ℕ, ◌+◌, ◌-◌, ◌*◌, ◌<◌, ◌≡◌, ap, ◌∙◌, arith}
+use Rattle.std.proofs.Common.{◌+◌, ◌-◌, ◌*◌, ◌<◌, ◌≡◌, ap, ◌∙◌, arith}
 use Rattle.fsb_phase.proofs.TimingFacts.{chunk-due, chunk-none}
 use Rattle.fsb_phase.proofs.timing.chunk_from.Goals as goal
 
