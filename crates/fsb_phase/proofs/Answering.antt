@@ -16,7 +16,7 @@ use Rattle.fsb_laws.proofs.ReadySteps.{has_ready, after_answer}
 use Rattle.fsb_queue.specs.declared.entry.Entry.{Entry}
 use Rattle.fsb_phase.specs.Timing.{is_response_from}
 use Rattle.fsb_phase.specs.Due.{live_of, two_after_snoop, answer_from, has_response}
-use Rattle.fsb_phase.specs.Flight.{InFlight}
+use Rattle.fsb_phase.proofs.Held.{Held}
 use Rattle.fsb_phase.specs.Drive.{code_of, drive_of}
 use Rattle.fsb_phase.proofs.Finds.{Found, find-cases, find-off, find-place}
 use Rattle.fsb_phase.proofs.Entries.{placed}
@@ -78,7 +78,7 @@ idle_code (Some y) n e f t = absurd (let none : ⊥ = cc in none)
 not_yet : (h : Trace) (e r : ℕ) → response_clock_of h e ≡ Some r → is_none (response_clock_of h e) ≡ true → ⊥
 not_yet h e r f t = both_ways (is_none (response_clock_of h e)) (rw f refl) t
 
-the_head : (h : Trace) (queue : List Entry) (e : ℕ) (x : Sample) → InFlight queue h → EndsTo h e → Answered h e → (k : Found (has_response h) queue) → (n : ℕ) → k.place ≡ n → response_of x ≡ code_of k.item → Answering h queue e x
+the_head : (h : Trace) (queue : List Entry) (e : ℕ) (x : Sample) → Held queue h → EndsTo h e → Answered h e → (k : Found (has_response h) queue) → (n : ℕ) → k.place ≡ n → response_of x ≡ code_of k.item → Answering h queue e x
 the_head h queue e x f to a k (suc n) p c =
     absurd (both_ways (has_response h k.item) (idle-later h queue e k.place k.item f to a (omega arith) k.at).response k.passes)
 the_head h queue e x f to a k zero p c =
@@ -93,7 +93,7 @@ the_head h queue e x f to a k zero p c =
       | inr moving ↦ absurd (not_yet h e moving.1 moving.4 parts.0)
     ]
 
-pub answering : (h : Trace) (queue : List Entry) (e : ℕ) (x : Sample) → InFlight queue h → EndsTo h e → Answered h e → response_of x ≡ (drive_of h queue).rs → responds x ≡ true → Answering h queue e x
+pub answering : (h : Trace) (queue : List Entry) (e : ℕ) (x : Sample) → Held queue h → EndsTo h e → Answered h e → response_of x ≡ (drive_of h queue).rs → responds x ≡ true → Answering h queue e x
 unfolding drive_of responds
 answering h queue e x f to a c t =
     elim (find-cases (has_response h) queue) [

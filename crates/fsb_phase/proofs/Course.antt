@@ -22,7 +22,8 @@ use Rattle.fsb_laws.proofs.SnoopSteps.{snoop_end_of-old, snoop_end_of-more}
 use Rattle.fsb_queue.specs.declared.entry.Entry.{Entry}
 use Rattle.fsb_phase.specs.declared.phases.Phases.{Phases}
 use Rattle.fsb_phase.specs.Due.{live_of, two_after_snoop, answer_from, moves}
-use Rattle.fsb_phase.specs.Flight.{InFlight, is_too_soon}
+use Rattle.fsb_phase.specs.Flight.{is_too_soon}
+use Rattle.fsb_phase.proofs.Held.{Held}
 use Rattle.fsb_phase.specs.Drive.{drive_of, ends_at}
 use Rattle.fsb_phase.specs.Phases.{Stands, snooped_count}
 use Rattle.fsb_phase.specs.Registers.{snooped_by, transfer_to, has_answered, ends_by, ended_by, answer_to, from_to}
@@ -45,7 +46,7 @@ pub record Step (p : Phases) (h : Trace) (x : Sample) (v : Trace) (queue : List 
   pub orderly : Orderly v
   pub transfer : transfer_to p x queue ≡ transfer_of v
 
-pub step : (p : Phases) (h : Trace) (x : Sample) (v : Trace) (queue : List Entry) → OneMore h x v → Stands p h → InFlight queue h → response_of x ≡ (drive_of h queue).rs → is_too_soon h x ≡ false → (e s : ℕ) × Step p h x v queue e s
+pub step : (p : Phases) (h : Trace) (x : Sample) (v : Trace) (queue : List Entry) → OneMore h x v → Stands p h → Held queue h → response_of x ≡ (drive_of h queue).rs → is_too_soon h x ≡ false → (e s : ℕ) × Step p h x v queue e s
 step p h x v queue m k f c soon =
     let w = far h k.orderly in
     let mt = meets p h queue w.0 k f w.1 in
@@ -178,7 +179,7 @@ none_ends p h x v queue e s k to =
     let number : live_of v y ≡ e + j = number_stays h x v e j y k.more k.stands.orderly.spaced here in
     no_end v (length h) y (ap (end_of v) number ∙ to.above (e + j) (omega arith)))
 
-head_is : (h : Trace) (queue : List Entry) (e s : ℕ) → InFlight queue h → EndsTo h e → SnoopsTo h s → suc e ≤ s → (y : Entry) × (slice_get queue 0 ≡ Some y) × (y.clock + 4 ≤ length h)
+head_is : (h : Trace) (queue : List Entry) (e s : ℕ) → Held queue h → EndsTo h e → SnoopsTo h s → suc e ≤ s → (y : Entry) × (slice_get queue 0 ≡ Some y) × (y.clock + 4 ≤ length h)
 head_is h queue e s f to sn l =
     let r = sn.reached e (omega arith) in
     let c = snoop_end_of-clock h e r.0 r.1 in

@@ -9,7 +9,7 @@ use Rattle.fsb_laws.proofs.ResponseSteps.{response_there, response_past, has_ans
 use Rattle.fsb_laws.proofs.EndFacts.{ends_to-still, ends_to-moving, transfer_parts}
 use Rattle.fsb_queue.specs.declared.entry.Entry.{Entry}
 use Rattle.fsb_phase.specs.declared.phases.Phases.{Phases}
-use Rattle.fsb_phase.specs.Flight.{InFlight}
+use Rattle.fsb_phase.proofs.Held.{Held}
 use Rattle.fsb_phase.specs.Drive.{drive_of}
 use Rattle.fsb_phase.specs.Phases.{Stands, snooped_count, last_snoop_end}
 use Rattle.fsb_phase.specs.Registers.{drive_by}
@@ -58,7 +58,7 @@ far_by h (Some k) o f =
 pub far : (h : Trace) → Orderly h → (e : ℕ) × Far h e
 far h o = far_by h (transfer_of h) o refl
 
-pub meets : (p : Phases) (h : Trace) (queue : List Entry) (e : ℕ) → Stands p h → InFlight queue h → Far h e → Meets p h queue e (snooped_count h)
+pub meets : (p : Phases) (h : Trace) (queue : List Entry) (e : ℕ) → Stands p h → Held queue h → Far h e → Meets p h queue e (snooped_count h)
 unfolding last_snoop_end
 meets p h queue e k f w =
     let to = snoops_to h in
@@ -67,7 +67,7 @@ meets p h queue e k f w =
     record { ends = w.ends; snoops = to; order = omega arith; flight = f; snooped = k.snooped }
 
 -- what the phases drive by what they keep is what is due after the history
-pub driven : (p : Phases) (h : Trace) (queue : List Entry) → Stands p h → InFlight queue h → drive_by p (length h) queue ≡ drive_of h queue
+pub driven : (p : Phases) (h : Trace) (queue : List Entry) → Stands p h → Held queue h → drive_by p (length h) queue ≡ drive_of h queue
 unfolding drive_by drive_of
 driven p h queue k f =
     let w = far h k.orderly in

@@ -11,7 +11,7 @@ use Rattle.fsb_laws.specs.Progress.{EndsTo}
 use Rattle.fsb_laws.proofs.FlightSteps.{in_flight-live}
 use Rattle.fsb_queue.specs.declared.entry.Entry.{Entry}
 use Rattle.fsb_phase.specs.Due.{live_of}
-use Rattle.fsb_phase.specs.Flight.{InFlight}
+use Rattle.fsb_phase.proofs.Held.{Held}
 
 pub dropped : {X : Type 0} (e k : ℕ) (xs : List X) → slice_get (drop e xs) k ≡ slice_get xs (e + k)
 dropped zero k xs = ap (slice_get xs) (let same : k ≡ 0 + k = omega arith in same)
@@ -26,7 +26,7 @@ pub record Placed (h : Trace) (e k : ℕ) (entry : Entry) : Type 0 where
   pub live : is_live h entry.clock ≡ true
   pub within : entry.clock < length h
 
-pub placed : (h : Trace) (queue : List Entry) (e k : ℕ) (entry : Entry) → InFlight queue h → EndsTo h e → slice_get queue k ≡ Some entry → Placed h e k entry
+pub placed : (h : Trace) (queue : List Entry) (e k : ℕ) (entry : Entry) → Held queue h → EndsTo h e → slice_get queue k ≡ Some entry → Placed h e k entry
 unfolding live_clock_of live_of live_number_of nth_where
 placed h queue e k entry f to at =
     let clock : slice_get (all_where (is_live h) (length h)) (e + k) ≡ Some entry.clock =

@@ -23,7 +23,8 @@ use Rattle.fsb_laws.proofs.EndFacts.{ends_to-still}
 use Rattle.fsb_queue.specs.declared.entry.Entry.{Entry}
 use Rattle.fsb_phase.specs.declared.phases.Phases.{Phases}
 use Rattle.fsb_phase.specs.Due.{live_of, two_after_snoop, answer_from, moves}
-use Rattle.fsb_phase.specs.Flight.{InFlight, is_too_soon}
+use Rattle.fsb_phase.specs.Flight.{is_too_soon}
+use Rattle.fsb_phase.proofs.Held.{Held}
 use Rattle.fsb_phase.specs.Phases.{Stands, value_before, last_response}
 use Rattle.fsb_phase.specs.Registers.{response_to, transfer_to, ready_to, may_answer_at}
 use Rattle.fsb_phase.proofs.Entries.{placed}
@@ -79,7 +80,7 @@ response_to-is p h x v m k =
     ]
 
 -- the transfer on the way
-begins : (h : Trace) (queue : List Entry) (e : ℕ) (x : Sample) → InFlight queue h → EndsTo h e → Answering h queue e x → does_move (told_by h (response_count h) (response_of x)) ≡ is_some_and (slice_get queue 0) moves
+begins : (h : Trace) (queue : List Entry) (e : ℕ) (x : Sample) → Held queue h → EndsTo h e → Answering h queue e x → does_move (told_by h (response_count h) (response_of x)) ≡ is_some_and (slice_get queue 0) moves
 unfolding is_some_and
 begins h queue e x f to a =
     let here = placed h queue e 0 a.head f to a.at in
@@ -92,7 +93,7 @@ begins h queue e x f to a =
 transfer_step : Bool → Bool → Bool → Option ℕ → Option ℕ
 transfer_step drdy answers move t = chunk_step drdy (cond answers (cond move (Some 0) None) t)
 
-pub transfer_to-is : (p : Phases) (h : Trace) (x : Sample) (v : Trace) (queue : List Entry) (e s : ℕ) → OneMore h x v → Stands p h → SnoopsTo h s → InFlight queue h → EndsTo h e → (responds x ≡ true → Answering h queue e x) → transfer_to p x queue ≡ transfer_of v
+pub transfer_to-is : (p : Phases) (h : Trace) (x : Sample) (v : Trace) (queue : List Entry) (e s : ℕ) → OneMore h x v → Stands p h → SnoopsTo h s → Held queue h → EndsTo h e → (responds x ≡ true → Answering h queue e x) → transfer_to p x queue ≡ transfer_of v
 unfolding transfer_to
 transfer_to-is p h x v queue e s m k to f ends ans =
     elim (cases_Bool (responds x)) [

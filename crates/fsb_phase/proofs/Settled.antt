@@ -18,7 +18,7 @@ use Rattle.fsb_trace.specs.Response.{takes}
 use Rattle.fsb_queue.specs.declared.entry.Entry.{Entry}
 use Rattle.fsb_phase.specs.Due.{live_of, moves}
 use Rattle.fsb_phase.specs.Drive.{code_of}
-use Rattle.fsb_phase.specs.Flight.{IsSettled}
+use Rattle.fsb_phase.proofs.Held.{IsSettled}
 use Rattle.fsb_phase.specs.Registers.{does_take, is_taking}
 
 -- the settled outcome, by what it is settled with

@@ -14,7 +14,7 @@ use Rattle.fsb_queue.specs.declared.entry.Entry.{Entry}
 use Rattle.fsb_phase.specs.declared.phases.Phases.{Phases}
 use Rattle.fsb_phase.specs.Timing.{is_stall_from}
 use Rattle.fsb_phase.specs.Due.{live_of, has_snoop, is_stalled}
-use Rattle.fsb_phase.specs.Flight.{IsSettled, InFlight}
+use Rattle.fsb_phase.proofs.Held.{IsSettled, Held}
 use Rattle.fsb_phase.specs.Phases.{value_before}
 use Rattle.fsb_phase.specs.Registers.{if_passes, open_entry, start_after, is_snooping, snooping, stalls_at}
 use Rattle.fsb_phase.proofs.Finds.{Found, find-cases, find-only, find-off, find-place}
@@ -26,7 +26,7 @@ pub record Meets (p : Phases) (h : Trace) (queue : List Entry) (e s : ℕ) : Typ
   pub ends : EndsTo h e
   pub snoops : SnoopsTo h s
   pub order : e ≤ s
-  pub flight : InFlight queue h
+  pub flight : Held queue h
   pub snooped : p.snooped ≡ value_before (snoop_end_of h) s
 
 -- an entry has its outcome exactly where its snoop end is reached

@@ -19,7 +19,7 @@ use Rattle.fsb_laws.proofs.SnoopSteps.{snoop_end_of-above, snoop_end_of-old, sno
 use Rattle.fsb_queue.specs.declared.entry.Entry.{Entry}
 use Rattle.fsb_phase.specs.declared.phases.Phases.{Phases}
 use Rattle.fsb_phase.specs.Due.{live_of, has_snoop}
-use Rattle.fsb_phase.specs.Flight.{InFlight}
+use Rattle.fsb_phase.proofs.Held.{Held}
 use Rattle.fsb_phase.specs.Drive.{ends_snoop_at}
 use Rattle.fsb_phase.specs.Phases.{value_before, last_snoop_end}
 use Rattle.fsb_phase.specs.Registers.{snooping, snooped_by, snooped_to}
@@ -33,7 +33,7 @@ mapped : (queue : List Entry) (k q : ℕ) (o : Option Entry) → slice_get queue
 mapped queue k q None e f = absurd (let none : ⊥ = cc in none)
 mapped queue k q (Some y) e f = (y, e)
 
-pub queue_has : (h : Trace) (queue : List Entry) (e k q : ℕ) → InFlight queue h → EndsTo h e → live_clock_of h (e + k) ≡ Some q → (y : Entry) × (slice_get queue k ≡ Some y)
+pub queue_has : (h : Trace) (queue : List Entry) (e k q : ℕ) → Held queue h → EndsTo h e → live_clock_of h (e + k) ≡ Some q → (y : Entry) × (slice_get queue k ≡ Some y)
 unfolding live_clock_of nth_where
 queue_has h queue e k q f to c =
     mapped queue k q (slice_get queue k) refl
