@@ -1,1 +1,3 @@
 pub mod QueueStep
+pub mod ListSteps
+pub mod Taken

@@ -53,7 +53,7 @@ filter_from t (z ∷ xs) k y e =
       | inr f ↦ let r = filter_from t xs k y (rw f at e) in (suc r.0, r.1)
     ]
 
-map_from : (f : Entry → Entry) (xs : List Entry) (k : ℕ) (y : Entry) (o : Option Entry) → slice_get xs k ≡ o → option_map f o ≡ Some y → (z : Entry) × (slice_get xs k ≡ Some z) × (f z ≡ y)
+pub map_from : (f : Entry → Entry) (xs : List Entry) (k : ℕ) (y : Entry) (o : Option Entry) → slice_get xs k ≡ o → option_map f o ≡ Some y → (z : Entry) × (slice_get xs k ≡ Some z) × (f z ≡ y)
 map_from f xs k y None e g = absurd (let none : ⊥ = cc in none)
 map_from f xs k y (Some z) e g = (z, e, cc)
 
@@ -63,7 +63,7 @@ append_from (x ∷ xs) ys zero y e = inl e
 append_from (x ∷ xs) ys (suc k) y e = append_from xs ys k y e
 
 -- an entry keeps its clock
-settles_clock : (h : Trace) (x : Sample) (o : Outcome) (e : Entry) → (settles h x o e).clock ≡ e.clock
+pub settles_clock : (h : Trace) (x : Sample) (o : Outcome) (e : Entry) → (settles h x o e).clock ≡ e.clock
 unfolding settles
 settles_clock h x o e =
     elim (cases_Bool (ends_snoop_at (h ++ x ∷ []) (length h) e)) [ inl t ↦ (rw t refl) | inr f ↦ (rw f refl) ]
@@ -116,20 +116,20 @@ later_none : (h : Trace) (x : Sample) (v : Trace) (s i : ℕ) (b : Bool) → One
 later_none h x v s i true m sp to t l = snoop_end_of-above v (s + 1) i (snoops_to-ended h x v s m sp to t) (omega arith)
 later_none h x v s i false m sp to f l = snoop_end_of-above v s i (snoops_to-kept h x v s m sp to f) (omega arith)
 
-settles_not : (h : Trace) (x : Sample) (o : Outcome) (e : Entry) → ends_snoop_at (h ++ x ∷ []) (length h) e ≡ false → settles h x o e ≡ e
+pub settles_not : (h : Trace) (x : Sample) (o : Outcome) (e : Entry) → ends_snoop_at (h ++ x ∷ []) (length h) e ≡ false → settles h x o e ≡ e
 unfolding settles
 settles_not h x o e f = rw f refl
 
-settles_now : (h : Trace) (x : Sample) (o : Outcome) (e : Entry) → ends_snoop_at (h ++ x ∷ []) (length h) e ≡ true → settles h x o e ≡ settled o e
+pub settles_now : (h : Trace) (x : Sample) (o : Outcome) (e : Entry) → ends_snoop_at (h ++ x ∷ []) (length h) e ≡ true → settles h x o e ≡ settled o e
 unfolding settles
 settles_now h x o e t = rw t refl
 
 -- an entry whose snoop ends is the first live request without its snoop end
-is_next : (p : Phases) (h : Trace) (x : Sample) (queue : List Entry) (e s j : ℕ) (y : Entry) → Step p h x (h ++ x ∷ []) queue e s → Placed h e j y → ends_snoop_at (h ++ x ∷ []) (length h) y ≡ true → e + j ≡ s
+pub is_next : (p : Phases) (h : Trace) (x : Sample) (queue : List Entry) (e s j : ℕ) (y : Entry) → Step p h x (h ++ x ∷ []) queue e s → Placed h e j y → ends_snoop_at (h ++ x ∷ []) (length h) y ≡ true → e + j ≡ s
 is_next p h x queue e s j y k here t =
     let due : snoop_at h (e + j) ≡ true =
-      sym (has_snoop-at h y (e + j) here.number)
-      ∙ (and_parts _ _ (sym (ends_entry h x (h ++ x ∷ []) e s j y k.more k.stands.orderly.spaced k.meets.snoops here) ∙ t)).0 in
+    sym (has_snoop-at h y (e + j) here.number)
+    ∙ (and_parts _ _ (sym (ends_entry h x (h ++ x ∷ []) e s j y k.more k.stands.orderly.spaced k.meets.snoops here) ∙ t)).0 in
     elim (cases_eq (e + j) s) [
       | inl same ↦ same
       | inr other ↦ absurd (both_ways _ (snoop_elsewhere h s (e + j) k.meets.snoops other) due)
@@ -234,7 +234,7 @@ each_entry p h x queue new turns later outcome e st f n k y g =
     ]
 
 -- the step, with the count of snoop ends by its name
-step_at : (p : Phases) (h : Trace) (x : Sample) (queue : List Entry) (turns : List ℕ) → Stands p h → InFlight queue turns h → response_of x ≡ (drive_of h queue).rs → is_too_soon h x ≡ false → (e : ℕ) × Step p h x (h ++ x ∷ []) queue e (snooped_count h)
+pub step_at : (p : Phases) (h : Trace) (x : Sample) (queue : List Entry) (turns : List ℕ) → Stands p h → InFlight queue turns h → response_of x ≡ (drive_of h queue).rs → is_too_soon h x ≡ false → (e : ℕ) × Step p h x (h ++ x ∷ []) queue e (snooped_count h)
 step_at p h x queue turns k f c soon =
     let st = step p h x (h ++ x ∷ []) queue (one_more h x) k (held queue turns h f) c soon in
     (st.0, subst (λ s. Step p h x (h ++ x ∷ []) queue st.0 s) (sym (snoops_count h st.1 st.2.meets.snoops)) st.2)
@@ -245,10 +245,10 @@ goes_on-holds p h clock x queue new turns later outcome k t n =
     let st = step_at p h x queue turns k t.flight t.answers t.spaced in
     record {
       clocks =
-        map-append (λ e. e.clock) (goes_on h x outcome queue) new
-        ∙ ap (λ qs. qs ++ map (λ e. e.clock) new) (clocks_on h x outcome queue ∙ ap (filter (λ q. not (leaves h x v q))) t.flight.clocks)
-        ∙ ap (λ qs. filter (λ q. not (leaves h x v q)) (in_flight h (length h)) ++ qs) n.begun
-        ∙ sym (in_flight-more h x v (one_more h x) k.orderly st.1.orderly);
+          map-append (λ e. e.clock) (goes_on h x outcome queue) new
+          ∙ ap (λ qs. qs ++ map (λ e. e.clock) new) (clocks_on h x outcome queue ∙ ap (filter (λ q. not (leaves h x v q))) t.flight.clocks)
+          ∙ ap (λ qs. filter (λ q. not (leaves h x v q)) (in_flight h (length h)) ++ qs) n.begun
+          ∙ sym (in_flight-more h x v (one_more h x) k.orderly st.1.orderly);
       settled = each_entry p h x queue new turns later outcome st.0 st.1 t.flight n;
       kept = n.kept;
     }

@@ -38,3 +38,7 @@ pub record TakesTurn (h : Trace) (x : Sample) (turns later : List ℕ) (outcome 
   -- an entry begins where the sample has ADS#, without an outcome
   pub begun : map (λ e. e.clock) new ≡ (if has_line x ADS then length h ∷ [] else [])
   pub unsettled : (k : ℕ) (e : Entry) → slice_get new k ≡ Some e → e.outcome ≡ None
+
+-- the numbers of the entries rise
+pub record Rising (queue : List Entry) : Type 0 where
+  pub rise : (j k : ℕ) (e f : Entry) → j < k → slice_get queue j ≡ Some e → slice_get queue k ≡ Some f → e.number < f.number
