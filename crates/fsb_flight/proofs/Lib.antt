@@ -1,3 +1,4 @@
 pub mod QueueStep
 pub mod ListSteps
 pub mod Taken
+pub mod Numbers

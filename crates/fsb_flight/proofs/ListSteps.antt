@@ -1,11 +1,11 @@
 -- The steps of a clock on a list of entries.
-use Rattle.std.proofs.Common.{ℕ, zero, suc, ◌+◌, ◌<◌, ◌≤◌, ◌≡◌, Bool, true, false, not, cond, nat_eq, is_none, Option, Some, None, List, [], ◌∷◌, filter, length, refl, sym, ap, ◌∙◌, inl, inr, arith}
+use Rattle.std.proofs.Common.{ℕ, zero, suc, ◌+◌, ◌<◌, ◌≤◌, ◌≡◌, true, false, nat_eq, is_none, Some, None, List, [], ◌∷◌, length, refl, ap, ◌∙◌, inl, inr, arith}
 use Rattle.std.specs.List.{slice_get}
-use Rattle.std.proofs.lemmas.Bool.{cases_Bool, ne_eqb, eqb-true}
+use Rattle.std.proofs.lemmas.Bool.{cases_Bool}
 use Rattle.fsb_trace.specs.declared.outcome.Outcome.{Outcome}
 use Rattle.fsb_queue.specs.declared.entry.Entry.{Entry}
-use Rattle.fsb_queue.specs.Entries.{settled, settled_at, without}
-use Rattle.fsb_flight.specs.Steps.{settle_first, number_before, without_if, cancel_before}
+use Rattle.fsb_queue.specs.Entries.{settled_at, without}
+use Rattle.fsb_flight.specs.Steps.{settle_first, number_before}
 
 -- the first entry without an outcome, by its place
 pub settle_first-at : (o : Outcome) (es : List Entry) (k : ℕ) (e : Entry) → slice_get es k ≡ Some e → is_none e.outcome ≡ true → ((j : ℕ) (y : Entry) → j < k → slice_get es j ≡ Some y → is_none y.outcome ≡ false) → settle_first o es ≡ settled_at k o es

@@ -1,8 +1,8 @@
 -- The queue after a clock holds the requests in flight of the longer history.
-use Rattle.std.proofs.Common.{ℕ, zero, suc, ◌+◌, ◌-◌, ◌<◌, ◌≤◌, ◌≡◌, Bool, true, false, not, cond, ◌&&◌, Option, Some, None, List, [], ◌∷◌, ◌++◌, map, filter, length, slice_index, is_none, refl, sym, ap, ◌∙◌, ◌⊎◌, inl, inr, arith, subst}
+use Rattle.std.proofs.Common.{ℕ, zero, suc, ◌+◌, ◌<◌, ◌≤◌, ◌≡◌, Bool, true, false, not, cond, ◌&&◌, Option, Some, None, List, [], ◌∷◌, ◌++◌, map, filter, length, slice_index, refl, sym, ap, ◌∙◌, ◌⊎◌, inl, inr, arith, subst}
 use Rattle.std.specs.List.{slice_get}
 use Rattle.std.specs.Option.{option_map}
-use Rattle.std.proofs.lemmas.Bool.{cases_Bool, cases_lt, cases_eq, cases_order, both_ways, and_parts, eqb-true}
+use Rattle.std.proofs.lemmas.Bool.{cases_Bool, cases_eq, cases_order, both_ways, and_parts, eqb-true}
 use Rattle.std.proofs.lemmas.List.{map-append}
 use Rattle.std.proofs.lemmas.Option.{slice_get-map}
 use Rattle.fsb_count.specs.Options.{is_some_and, is_at}
@@ -11,7 +11,7 @@ use Rattle.fsb_signal.specs.declared.sample.Sample.{Sample}
 use Rattle.fsb_signal.specs.Samples.{has_line, response_of}
 use Rattle.fsb_trace.specs.declared.outcome.Outcome.{Outcome}
 use Rattle.fsb_trace.specs.At.{Trace}
-use Rattle.fsb_trace.specs.Requests.{live_request_of, live_clock_of, live_number_of}
+use Rattle.fsb_trace.specs.Requests.{live_clock_of, live_number_of}
 use Rattle.fsb_trace.specs.Snoop.{snoop_end_of}
 use Rattle.fsb_trace.specs.Outcome.{settled_by, settled_outcome_of}
 use Rattle.fsb_trace.specs.Flight.{in_flight}
@@ -28,14 +28,14 @@ use Rattle.fsb_laws.proofs.SnoopSteps.{snoop_end_of-above, snoop_end_of-old, sno
 use Rattle.fsb_queue.specs.declared.entry.Entry.{Entry}
 use Rattle.fsb_queue.specs.Entries.{settled}
 use Rattle.fsb_phase.specs.declared.phases.Phases.{Phases}
-use Rattle.fsb_phase.specs.Due.{live_of, has_snoop}
+use Rattle.fsb_phase.specs.Due.{live_of}
 use Rattle.fsb_phase.specs.Drive.{ends_snoop_at, drive_of}
 use Rattle.fsb_phase.specs.Flight.{InFlight, is_too_soon}
 use Rattle.fsb_phase.specs.Phases.{Stands, MayTake, snooped_count}
 use Rattle.fsb_phase.proofs.Counts.{snoops_count}
 use Rattle.fsb_phase.proofs.Held.{held}
 use Rattle.fsb_phase.proofs.Entries.{Placed, placed}
-use Rattle.fsb_phase.proofs.SnoopDrive.{Meets, snoop_at, has_snoop-at, snoop_elsewhere, not_reached_from}
+use Rattle.fsb_phase.proofs.SnoopDrive.{snoop_at, has_snoop-at, snoop_elsewhere, not_reached_from}
 use Rattle.fsb_phase.proofs.SnoopStep.{ends_entry, number_stays}
 use Rattle.fsb_phase.proofs.Course.{Step, step}
 use Rattle.fsb_flight.specs.GoesOn.{settles, stays, goes_on, TakesTurn}
@@ -45,7 +45,7 @@ one_later : {X : Type 0} (z : X) (xs rest : List X) (k : ℕ) (y : X) → ((j : 
 one_later z xs rest zero y f e = (0, e)
 one_later z xs rest (suc k) y f e = let r = f k y e in (suc r.0, r.1)
 
-filter_from : {X : Type 0} (t : X → Bool) (xs : List X) (k : ℕ) (y : X) → slice_get (filter t xs) k ≡ Some y → (j : ℕ) × (slice_get xs j ≡ Some y)
+pub filter_from : {X : Type 0} (t : X → Bool) (xs : List X) (k : ℕ) (y : X) → slice_get (filter t xs) k ≡ Some y → (j : ℕ) × (slice_get xs j ≡ Some y)
 filter_from t [] k y e = absurd (let none : ⊥ = cc in none)
 filter_from t (z ∷ xs) k y e =
     elim (cases_Bool (t z)) [
@@ -57,7 +57,7 @@ pub map_from : (f : Entry → Entry) (xs : List Entry) (k : ℕ) (y : Entry) (o 
 map_from f xs k y None e g = absurd (let none : ⊥ = cc in none)
 map_from f xs k y (Some z) e g = (z, e, cc)
 
-append_from : {X : Type 0} (xs ys : List X) (k : ℕ) (y : X) → slice_get (xs ++ ys) k ≡ Some y → (slice_get xs k ≡ Some y) ⊎ ((j : ℕ) × (slice_get ys j ≡ Some y))
+pub append_from : {X : Type 0} (xs ys : List X) (k : ℕ) (y : X) → slice_get (xs ++ ys) k ≡ Some y → (slice_get xs k ≡ Some y) ⊎ ((j : ℕ) × (slice_get ys j ≡ Some y))
 append_from [] ys k y e = inr (k, e)
 append_from (x ∷ xs) ys zero y e = inl e
 append_from (x ∷ xs) ys (suc k) y e = append_from xs ys k y e

@@ -1,8 +1,8 @@
 -- The steps of a clock make of the queue what it has to hold.
-use Rattle.std.proofs.Common.{ℕ, zero, suc, ◌+◌, ◌-◌, ◌<◌, ◌≤◌, ◌≡◌, Bool, true, false, not, cond, ◌&&◌, ◌||◌, nat_eq, Option, Some, None, List, [], ◌∷◌, ◌++◌, map, filter, drop, length, is_none, is_some, refl, sym, ap, ◌∙◌, inl, inr, arith, subst}
+use Rattle.std.proofs.Common.{ℕ, zero, suc, ◌+◌, ◌<◌, ◌≡◌, Bool, true, false, not, cond, ◌&&◌, ◌||◌, nat_eq, Option, Some, None, List, [], ◌∷◌, ◌++◌, map, filter, drop, length, is_none, is_some, refl, sym, ap, ◌∙◌, inl, inr, arith}
 use Rattle.std.specs.List.{slice_get, find}
 use Rattle.std.specs.Option.{option_map}
-use Rattle.std.proofs.lemmas.Bool.{cases_Bool, both_ways, and_right, eqb-true, eq-eqb, ne_eqb}
+use Rattle.std.proofs.lemmas.Bool.{cases_Bool, and_right, eqb-true, eq-eqb, ne_eqb}
 use Rattle.std.proofs.lemmas.Option.{slice_get-map}
 use Rattle.fsb_count.specs.Options.{is_at, is_some_and}
 use Rattle.fsb_signal.specs.declared.lines.TheConstants.Lines.{AERR}
@@ -11,11 +11,9 @@ use Rattle.fsb_signal.specs.Samples.{has_line}
 use Rattle.fsb_trace.specs.declared.outcome.Outcome.{Outcome}
 use Rattle.fsb_trace.specs.At.{Trace}
 use Rattle.fsb_trace.specs.Requests.{is_live, live_number_of}
-use Rattle.fsb_trace.specs.Snoop.{snoop_end_of}
 use Rattle.fsb_trace.specs.Response.{end_of}
 use Rattle.fsb_trace.proofs.Order.{live_clock_of-rises}
 use Rattle.fsb_laws.specs.OneMore.{cancels}
-use Rattle.fsb_laws.specs.Progress.{EndsTo}
 use Rattle.fsb_laws.specs.Flight.{leaves}
 use Rattle.fsb_queue.specs.declared.entry.Entry.{Entry}
 use Rattle.fsb_queue.specs.Entries.{settled, settled_at, without}
@@ -26,7 +24,7 @@ use Rattle.fsb_phase.specs.Drive.{ends_snoop_at, ends_at, phased_at}
 use Rattle.fsb_phase.specs.Phases.{Stands, MayTake, snooped_count}
 use Rattle.fsb_phase.specs.Registers.{if_passes}
 use Rattle.fsb_phase.proofs.Finds.{Found, find-cases, find-place, find-off, find-first}
-use Rattle.fsb_phase.proofs.Entries.{Placed, placed}
+use Rattle.fsb_phase.proofs.Entries.{placed}
 use Rattle.fsb_phase.proofs.SnoopDrive.{outcome_reached, reached_before, not_reached_from}
 use Rattle.fsb_phase.proofs.SnoopStep.{number_stays}
 use Rattle.fsb_phase.proofs.Course.{Step, course}
@@ -64,16 +62,16 @@ settled_one p h x queue o e s st k =
     let same : e + k.place ≡ s = is_next p h x queue e s k.place k.item st here k.passes in
     let set = st.meets.flight.settled k.place k.item k.at in
     let none : is_none k.item.outcome ≡ true =
-      outcome_reached h k.item set.0 (e + k.place) set.1 here.number ∙ not_reached_from h s (e + k.place) st.meets.snoops (omega arith) in
+    outcome_reached h k.item set.0 (e + k.place) set.1 here.number ∙ not_reached_from h s (e + k.place) st.meets.snoops (omega arith) in
     settle_first-at o queue k.place k.item k.at none
     (λ j y l g.
-      let there = placed h queue e j y st.meets.flight st.meets.ends g in
-      let set' = st.meets.flight.settled j y g in
-      outcome_reached h y set'.0 (e + j) set'.1 there.number ∙ reached_before h s (e + j) st.meets.snoops (omega arith))
+    let there = placed h queue e j y st.meets.flight st.meets.ends g in
+    let set' = st.meets.flight.settled j y g in
+    outcome_reached h y set'.0 (e + j) set'.1 there.number ∙ reached_before h s (e + j) st.meets.snoops (omega arith))
     ∙ changed_at (settles h x o) o queue k.place k.item k.at (settles_now h x o k.item k.passes)
     (λ j y other g.
-      let there = placed h queue e j y st.meets.flight st.meets.ends g in
-      settles_not h x o y (not_both v (length h) y (λ t. other (let two : e + j ≡ s = is_next p h x queue e s j y st there t in omega arith))))
+    let there = placed h queue e j y st.meets.flight st.meets.ends g in
+    settles_not h x o y (not_both v (length h) y (λ t. other (let two : e + j ≡ s = is_next p h x queue e s j y st there t in omega arith))))
 
 some_number : (o : Option Entry) → is_some (option_map (λ e. e.number) o) ≡ is_some o
 some_number None = refl
@@ -267,13 +265,13 @@ both t u (z ∷ zs) =
 apart_queue : (p : Phases) (h : Trace) (x : Sample) (queue : List Entry) (e s : ℕ) → Step p h x (h ++ x ∷ []) queue e s → Rising queue → Apart queue
 apart_queue p h x queue e s st r = record {
   clock = λ j k y z l g a.
-    let one = placed h queue e j y st.meets.flight st.meets.ends g in
-    let two = placed h queue e k z st.meets.flight st.meets.ends a in
-    live_clock_of-rises h (e + j) (e + k) y.clock z.clock (omega arith) one.clock two.clock;
+      let one = placed h queue e j y st.meets.flight st.meets.ends g in
+      let two = placed h queue e k z st.meets.flight st.meets.ends a in
+      live_clock_of-rises h (e + j) (e + k) y.clock z.clock (omega arith) one.clock two.clock;
   number = r.rise;
 }
 
-settles_number : (h : Trace) (x : Sample) (o : Outcome) (e : Entry) → (settles h x o e).number ≡ e.number
+pub settles_number : (h : Trace) (x : Sample) (o : Outcome) (e : Entry) → (settles h x o e).number ≡ e.number
 unfolding settles
 settles_number h x o e =
     elim (cases_Bool (ends_snoop_at (h ++ x ∷ []) (length h) e)) [ inl t ↦ (rw t refl) | inr f ↦ (rw f refl) ]
@@ -284,13 +282,13 @@ less_along a b c d e f l = omega arith
 apart_settled : (h : Trace) (x : Sample) (o : Outcome) (es : List Entry) → Apart es → Apart (map (settles h x o) es)
 apart_settled h x o es a = record {
   clock = λ j k y z l g b.
-    let one = map_from (settles h x o) es j y (slice_get es j) refl (sym (slice_get-map (settles h x o) es j) ∙ g) in
-    let two = map_from (settles h x o) es k z (slice_get es k) refl (sym (slice_get-map (settles h x o) es k) ∙ b) in
-    less_along _ _ _ _ (ap (λ w. w.clock) (sym one.2) ∙ settles_clock h x o one.0) (ap (λ w. w.clock) (sym two.2) ∙ settles_clock h x o two.0) (a.clock j k one.0 two.0 l one.1 two.1);
+      let one = map_from (settles h x o) es j y (slice_get es j) refl (sym (slice_get-map (settles h x o) es j) ∙ g) in
+      let two = map_from (settles h x o) es k z (slice_get es k) refl (sym (slice_get-map (settles h x o) es k) ∙ b) in
+      less_along _ _ _ _ (ap (λ w. w.clock) (sym one.2) ∙ settles_clock h x o one.0) (ap (λ w. w.clock) (sym two.2) ∙ settles_clock h x o two.0) (a.clock j k one.0 two.0 l one.1 two.1);
   number = λ j k y z l g b.
-    let one = map_from (settles h x o) es j y (slice_get es j) refl (sym (slice_get-map (settles h x o) es j) ∙ g) in
-    let two = map_from (settles h x o) es k z (slice_get es k) refl (sym (slice_get-map (settles h x o) es k) ∙ b) in
-    less_along _ _ _ _ (ap (λ w. w.number) (sym one.2) ∙ settles_number h x o one.0) (ap (λ w. w.number) (sym two.2) ∙ settles_number h x o two.0) (a.number j k one.0 two.0 l one.1 two.1);
+      let one = map_from (settles h x o) es j y (slice_get es j) refl (sym (slice_get-map (settles h x o) es j) ∙ g) in
+      let two = map_from (settles h x o) es k z (slice_get es k) refl (sym (slice_get-map (settles h x o) es k) ∙ b) in
+      less_along _ _ _ _ (ap (λ w. w.number) (sym one.2) ∙ settles_number h x o one.0) (ap (λ w. w.number) (sym two.2) ∙ settles_number h x o two.0) (a.number j k one.0 two.0 l one.1 two.1);
 }
 
 apart_left : (b : Bool) (es : List Entry) → Apart es → Apart (cond b (drop 1 es) es)

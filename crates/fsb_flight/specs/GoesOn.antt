@@ -1,5 +1,5 @@
 -- What a clock makes of the entries of a queue.
-use Rattle.std.specs.Prelude.{◌≡◌, ◌<◌, ℕ, Bool, true, not, if◌then◌else◌, List, [], ◌∷◌, ◌++◌, map, Some, None, length, slice_get, slice_index}
+use Rattle.std.specs.Prelude.{◌≡◌, ◌<◌, ℕ, Bool, true, not, if◌then◌else◌, List, [], ◌∷◌, ◌++◌, map, Option, Some, None, length, slice_get, slice_index}
 use Rattle.std.specs.List.{filter}
 use Rattle.fsb_signal.specs.declared.lines.TheConstants.Lines.{ADS}
 use Rattle.fsb_signal.specs.declared.sample.Sample.{Sample}
@@ -42,3 +42,7 @@ pub record TakesTurn (h : Trace) (x : Sample) (turns later : List ℕ) (outcome 
 -- the numbers of the entries rise
 pub record Rising (queue : List Entry) : Type 0 where
   pub rise : (j k : ℕ) (e f : Entry) → j < k → slice_get queue j ≡ Some e → slice_get queue k ≡ Some f → e.number < f.number
+
+-- the entry that begins, if there is one, has a greater number than each of the queue
+pub record IsLater (begun : Option Entry) (queue : List Entry) : Type 0 where
+  pub later : (e f : Entry) (j : ℕ) → begun ≡ Some e → slice_get queue j ≡ Some f → f.number < e.number

@@ -5,7 +5,9 @@
 #![tactic(auto)]
 
 pub use clock::take_clock;
-pub use laws::queue_goes_on;
+pub use laws::{numbers_go_on, queue_goes_on};
 
 mod clock;
 mod laws;
+#[cfg(test)]
+mod tests;

@@ -1,4 +1,4 @@
-use Rattle.std.proofs.Common.{◌≡◌, ◌≤◌, length, sym, ap, ◌∙◌, arith}
+use Rattle.std.proofs.Common.{◌≡◌, length, sym, ap, ◌∙◌, arith}
 use Rattle.fsb_queue.specs.Entries.{without}
 use Rattle.fsb_flight.specs.Steps.{without_if, cancel_before}
 use Rattle.fsb_flight.proofs.ListSteps.{length-without}
