@@ -2,3 +2,4 @@ pub mod QueueStep
 pub mod ListSteps
 pub mod Taken
 pub mod Numbers
+pub mod DrivenRows
