@@ -1,8 +1,8 @@
 -- Where RS# is driven, the oldest request may respond.
-use Rattle.std.proofs.Common.{ℕ, zero, suc, ◌+◌, ◌-◌, ◌<◌, ◌≤◌, ◌≡◌, Bool, true, false, not, ◌&&◌, max, nat_eq, nat_le, Option, Some, None, List, [], ◌∷◌, length, is_some, is_none, refl, sym, ap, ◌∙◌, inl, inr, arith, subst}
+use Rattle.std.proofs.Common.{ℕ, zero, suc, ◌+◌, ◌≤◌, ◌≡◌, Bool, true, false, not, max, nat_eq, Option, Some, None, List, length, is_none, refl, sym, ap, ◌∙◌, inl, inr, arith, subst}
 use Rattle.std.specs.List.{slice_get, find}
 use Rattle.std.specs.Option.{option_map, option_map_or}
-use Rattle.std.proofs.lemmas.Bool.{cases_Bool, and_parts, and_from, eqb-true, le-leb, both_ways}
+use Rattle.std.proofs.lemmas.Bool.{and_parts, and_from, eqb-true, le-leb, both_ways}
 use Rattle.fsb_count.specs.Options.{is_some_and, is_at, greater_of}
 use Rattle.fsb_signal.specs.declared.sample.Sample.{Sample}
 use Rattle.fsb_signal.specs.Samples.{response_of}
@@ -12,15 +12,15 @@ use Rattle.fsb_trace.specs.Outcome.{response_clock_of}
 use Rattle.fsb_trace.specs.Response.{takes, end_of, ready_clock_of}
 use Rattle.fsb_laws.specs.OneMore.{responds}
 use Rattle.fsb_laws.specs.Progress.{EndsTo, response_count, transfer_of, may_answer_next}
-use Rattle.fsb_laws.proofs.ReadySteps.{HasReady, has_ready, after_answer}
+use Rattle.fsb_laws.proofs.ReadySteps.{has_ready, after_answer}
 use Rattle.fsb_queue.specs.declared.entry.Entry.{Entry}
 use Rattle.fsb_phase.specs.Timing.{is_response_from}
 use Rattle.fsb_phase.specs.Due.{live_of, two_after_snoop, answer_from, has_response}
-use Rattle.fsb_phase.specs.Flight.{InFlight}
+use Rattle.fsb_phase.proofs.Held.{Held}
 use Rattle.fsb_phase.specs.Drive.{code_of, drive_of}
 use Rattle.fsb_phase.proofs.Finds.{Found, find-cases, find-off, find-place}
-use Rattle.fsb_phase.proofs.Entries.{Placed, placed}
-use Rattle.fsb_phase.proofs.HeadDrive.{Answered, Idle, idle-later, has_response-at, response_at}
+use Rattle.fsb_phase.proofs.Entries.{placed}
+use Rattle.fsb_phase.proofs.HeadDrive.{Answered, idle-later, has_response-at, response_at}
 
 -- the clock from which a request is answered lies two clocks after its snoop end at least
 from_first : (h : Trace) (f : ℕ) (o : Option ℕ) → snoop_end_of h 0 ≡ o → option_map (λ s. s + 2) o ≡ Some f → (s : ℕ) × (snoop_end_of h 0 ≡ Some s) × (s + 2 ≤ f)
@@ -78,7 +78,7 @@ idle_code (Some y) n e f t = absurd (let none : ⊥ = cc in none)
 not_yet : (h : Trace) (e r : ℕ) → response_clock_of h e ≡ Some r → is_none (response_clock_of h e) ≡ true → ⊥
 not_yet h e r f t = both_ways (is_none (response_clock_of h e)) (rw f refl) t
 
-the_head : (h : Trace) (queue : List Entry) (e : ℕ) (x : Sample) → InFlight queue h → EndsTo h e → Answered h e → (k : Found (has_response h) queue) → (n : ℕ) → k.place ≡ n → response_of x ≡ code_of k.item → Answering h queue e x
+the_head : (h : Trace) (queue : List Entry) (e : ℕ) (x : Sample) → Held queue h → EndsTo h e → Answered h e → (k : Found (has_response h) queue) → (n : ℕ) → k.place ≡ n → response_of x ≡ code_of k.item → Answering h queue e x
 the_head h queue e x f to a k (suc n) p c =
     absurd (both_ways (has_response h k.item) (idle-later h queue e k.place k.item f to a (omega arith) k.at).response k.passes)
 the_head h queue e x f to a k zero p c =
@@ -93,7 +93,7 @@ the_head h queue e x f to a k zero p c =
       | inr moving ↦ absurd (not_yet h e moving.1 moving.4 parts.0)
     ]
 
-pub answering : (h : Trace) (queue : List Entry) (e : ℕ) (x : Sample) → InFlight queue h → EndsTo h e → Answered h e → response_of x ≡ (drive_of h queue).rs → responds x ≡ true → Answering h queue e x
+pub answering : (h : Trace) (queue : List Entry) (e : ℕ) (x : Sample) → Held queue h → EndsTo h e → Answered h e → response_of x ≡ (drive_of h queue).rs → responds x ≡ true → Answering h queue e x
 unfolding drive_of responds
 answering h queue e x f to a c t =
     elim (find-cases (has_response h) queue) [

@@ -1,15 +1,14 @@
 -- How many numbers pass a test that all lesser ones pass too; how many snoop ends and ends a history has.
-use Rattle.std.proofs.Common.{ℕ, zero, suc, ◌+◌, ◌-◌, ◌<◌, ◌≤◌, ◌≡◌, Bool, true, false, cond, Option, Some, None, length, is_some, refl, sym, ap, ◌∙◌, inl, inr, arith, subst, add-one, add-zero}
+use Rattle.std.proofs.Common.{ℕ, zero, suc, ◌+◌, ◌<◌, ◌≤◌, ◌≡◌, Bool, true, false, Option, Some, None, is_some, refl, sym, inl, inr, arith, subst, add-one}
 use Rattle.std.proofs.lemmas.Bool.{cases_Bool, cases_lt, cases_eq, cases_order}
 use Rattle.fsb_count.specs.Clocks.{count_where}
-use Rattle.fsb_count.proofs.Count.{count_where-passed, count_where-failed, count_where-most}
+use Rattle.fsb_count.proofs.Count.{count_where-failed}
 use Rattle.fsb_trace.specs.At.{Trace}
 use Rattle.fsb_trace.specs.Requests.{live_count}
 use Rattle.fsb_trace.specs.Snoop.{snoop_end_of}
 use Rattle.fsb_trace.proofs.Order.{snoop_end_of-rises}
 use Rattle.fsb_trace.proofs.Stay.{snoop_end_of-clock}
-use Rattle.fsb_laws.specs.Orderly.{Orderly}
-use Rattle.fsb_laws.specs.Progress.{SnoopsTo, EndsTo, response_count, transfer_of}
+use Rattle.fsb_laws.specs.Progress.{SnoopsTo}
 use Rattle.fsb_laws.proofs.SnoopClockSteps.{live_below_count}
 use Rattle.fsb_phase.specs.Phases.{snooped_count}
 

@@ -1,8 +1,8 @@
 -- The end that the next sample is, and the clock from which the request after it is answered.
-use Rattle.std.proofs.Common.{ℕ, zero, suc, ◌+◌, ◌-◌, ◌<◌, ◌≤◌, ◌≡◌, Bool, true, false, not, cond, ◌&&◌, ◌||◌, max, nat_eq, Option, Some, None, List, [], ◌∷◌, length, is_some, is_none, refl, sym, ap, ◌∙◌, ◌⊎◌, inl, inr, arith, subst}
+use Rattle.std.proofs.Common.{ℕ, zero, suc, ◌+◌, ◌<◌, ◌≤◌, ◌≡◌, Bool, true, false, cond, ◌&&◌, ◌||◌, max, Option, Some, None, List, length, is_some, is_none, refl, sym, ap, ◌∙◌, ◌⊎◌, inl, inr, arith, subst}
 use Rattle.std.specs.List.{slice_get, find}
-use Rattle.std.specs.Option.{option_map, option_and_then}
-use Rattle.std.proofs.lemmas.Bool.{cases_Bool, cases_lt, cases_eq, and_left, and_right, and_parts, eq-eqb, both_ways}
+use Rattle.std.specs.Option.{option_and_then}
+use Rattle.std.proofs.lemmas.Bool.{cases_Bool, cases_lt, and_left, and_right, and_parts, eq-eqb, both_ways}
 use Rattle.fsb_count.specs.Options.{is_some_and, is_at, greater_of}
 use Rattle.fsb_signal.specs.declared.lines.TheConstants.Lines.{DRDY}
 use Rattle.fsb_signal.specs.declared.sample.Sample.{Sample}
@@ -11,7 +11,7 @@ use Rattle.fsb_trace.specs.At.{Trace}
 use Rattle.fsb_trace.specs.Requests.{is_live, live_clock_of}
 use Rattle.fsb_trace.specs.Snoop.{snoop_end_of}
 use Rattle.fsb_trace.specs.Response.{end_of}
-use Rattle.fsb_trace.proofs.Stay.{HasClock, snoop_end_of-clock}
+use Rattle.fsb_trace.proofs.Stay.{snoop_end_of-clock}
 use Rattle.fsb_laws.specs.OneMore.{OneMore, responds}
 use Rattle.fsb_laws.specs.Orderly.{Spaced, Orderly}
 use Rattle.fsb_laws.specs.Progress.{SnoopsTo, EndsTo, response_count, transfer_of, ends_snoop_of, is_snoop_due, chunk_step}
@@ -22,15 +22,16 @@ use Rattle.fsb_laws.proofs.SnoopSteps.{snoop_end_of-old, snoop_end_of-more}
 use Rattle.fsb_queue.specs.declared.entry.Entry.{Entry}
 use Rattle.fsb_phase.specs.declared.phases.Phases.{Phases}
 use Rattle.fsb_phase.specs.Due.{live_of, two_after_snoop, answer_from, moves}
-use Rattle.fsb_phase.specs.Flight.{InFlight, is_too_soon}
+use Rattle.fsb_phase.specs.Flight.{is_too_soon}
+use Rattle.fsb_phase.proofs.Held.{Held}
 use Rattle.fsb_phase.specs.Drive.{drive_of, ends_at}
 use Rattle.fsb_phase.specs.Phases.{Stands, snooped_count}
 use Rattle.fsb_phase.specs.Registers.{snooped_by, transfer_to, has_answered, ends_by, ended_by, answer_to, from_to}
 use Rattle.fsb_phase.proofs.Finds.{find-off, find-place}
-use Rattle.fsb_phase.proofs.Entries.{Placed, placed}
+use Rattle.fsb_phase.proofs.Entries.{placed}
 use Rattle.fsb_phase.proofs.SnoopDrive.{Meets, outcome_reached, reached_before, not_reached_from}
 use Rattle.fsb_phase.proofs.HeadDrive.{Answered, no_answer-before, no_answer-snoop}
-use Rattle.fsb_phase.proofs.Driven.{Far, far, meets}
+use Rattle.fsb_phase.proofs.Driven.{far, meets}
 use Rattle.fsb_phase.proofs.SnoopStep.{queue_has, ends_is, live_after, number_stays, due_clock}
 use Rattle.fsb_phase.proofs.Answering.{Answering, answering, may_answer}
 use Rattle.fsb_phase.proofs.ResponseStep.{count_answered, count_kept, transfer_to-is, spaced_on}
@@ -45,21 +46,24 @@ pub record Step (p : Phases) (h : Trace) (x : Sample) (v : Trace) (queue : List 
   pub orderly : Orderly v
   pub transfer : transfer_to p x queue ≡ transfer_of v
 
-pub step : (p : Phases) (h : Trace) (x : Sample) (v : Trace) (queue : List Entry) → OneMore h x v → Stands p h → InFlight queue h → response_of x ≡ (drive_of h queue).rs → is_too_soon h x ≡ false → (e s : ℕ) × Step p h x v queue e s
+pub step : (p : Phases) (h : Trace) (x : Sample) (v : Trace) (queue : List Entry) → OneMore h x v → Stands p h → Held queue h → response_of x ≡ (drive_of h queue).rs → is_too_soon h x ≡ false → (e s : ℕ) × Step p h x v queue e s
 step p h x v queue m k f c soon =
     let w = far h k.orderly in
     let mt = meets p h queue w.0 k f w.1 in
-    let ans : responds x ≡ true → Answering h queue w.0 x = λ t. answering h queue w.0 x f w.1.ends w.1.answered c t in
-    (w.0, snooped_count h, record {
-      more = m;
-      stands = k;
-      meets = mt;
-      answered = w.1.answered;
-      answering = ans;
-      orderly = orderly-more h x v (snooped_count h) m k.orderly mt.snoops (spaced_on h x v m k.orderly.spaced soon)
-        (λ t. may_answer h queue w.0 x (ans t));
-      transfer = transfer_to-is p h x v queue w.0 (snooped_count h) m k mt.snoops f w.1.ends ans;
-    })
+    let ans : responds x ≡ true → Answering h queue w.0 x = λ t. answering h queue w.0 x f w.1.ends w.1.answered c t in (
+      w.0,
+      snooped_count h,
+      record {
+        more = m;
+        stands = k;
+        meets = mt;
+        answered = w.1.answered;
+        answering = ans;
+        orderly = orderly-more h x v (snooped_count h) m k.orderly mt.snoops (spaced_on h x v m k.orderly.spaced soon)
+            (λ t. may_answer h queue w.0 x (ans t));
+        transfer = transfer_to-is p h x v queue w.0 (snooped_count h) m k mt.snoops f w.1.ends ans;
+      },
+    )
 
 -- no response came and no transfer was on the way
 pub record Quiet (p : Phases) (h : Trace) (x : Sample) (v : Trace) (queue : List Entry) (e : ℕ) : Type 0 where
@@ -91,8 +95,8 @@ quiet p h x v queue e s k f t g c =
     let none : has_answered p x ≡ false = ap (λ b. b || is_some p.transfer) f ∙ ap is_some t in
     let count : response_count v ≡ e = count_kept h x v k.more f ∙ c in
     let still : transfer_of v ≡ None =
-      sym k.transfer ∙ ap (λ b. chunk_step (has_line x DRDY) (cond b (cond (is_some_and (slice_get queue 0) moves) (Some 0) None) p.transfer)) f
-      ∙ ap (chunk_step (has_line x DRDY)) t in
+    sym k.transfer ∙ ap (λ b. chunk_step (has_line x DRDY) (cond b (cond (is_some_and (slice_get queue 0) moves) (Some 0) None) p.transfer)) f
+    ∙ ap (chunk_step (has_line x DRDY)) t in
     record {
       not_answered = none;
       not_ended = and_left _ _ none;
@@ -171,11 +175,11 @@ no_end v n y e = and_right (is_live v y.clock) _ (rw e refl)
 none_ends : (p : Phases) (h : Trace) (x : Sample) (v : Trace) (queue : List Entry) (e s : ℕ) → Step p h x v queue e s → EndsTo v e → find (ends_at v (length h)) queue ≡ None
 none_ends p h x v queue e s k to =
     find-off (ends_at v (length h)) queue (λ j y g.
-      let here = placed h queue e j y k.meets.flight k.meets.ends g in
-      let number : live_of v y ≡ e + j = number_stays h x v e j y k.more k.stands.orderly.spaced here in
-      no_end v (length h) y (ap (end_of v) number ∙ to.above (e + j) (omega arith)))
+    let here = placed h queue e j y k.meets.flight k.meets.ends g in
+    let number : live_of v y ≡ e + j = number_stays h x v e j y k.more k.stands.orderly.spaced here in
+    no_end v (length h) y (ap (end_of v) number ∙ to.above (e + j) (omega arith)))
 
-head_is : (h : Trace) (queue : List Entry) (e s : ℕ) → InFlight queue h → EndsTo h e → SnoopsTo h s → suc e ≤ s → (y : Entry) × (slice_get queue 0 ≡ Some y) × (y.clock + 4 ≤ length h)
+head_is : (h : Trace) (queue : List Entry) (e s : ℕ) → Held queue h → EndsTo h e → SnoopsTo h s → suc e ≤ s → (y : Entry) × (slice_get queue 0 ≡ Some y) × (y.clock + 4 ≤ length h)
 head_is h queue e s f to sn l =
     let r = sn.reached e (omega arith) in
     let c = snoop_end_of-clock h e r.0 r.1 in
@@ -258,19 +262,19 @@ open_place p h x v queue e s k f true st same before t =
     let here = placed h queue e k y.0 st.meets.flight st.meets.ends y.1 in
     let set = st.meets.flight.settled k y.0 y.1 in
     let none : is_none y.0.outcome ≡ true =
-      outcome_reached h y.0 set.0 (e + k) set.1 here.number ∙ not_reached_from h s (e + k) st.meets.snoops (omega arith) in
+    outcome_reached h y.0 set.0 (e + k) set.1 here.number ∙ not_reached_from h s (e + k) st.meets.snoops (omega arith) in
     let end : snoop_end_of v (e + k) ≡ Some (length h) =
-      ap (snoop_end_of v) same ∙ open_ends h x v s true st.more st.stands.orderly.spaced st.meets.snoops t in
+    ap (snoop_end_of v) same ∙ open_ends h x v s true st.more st.stands.orderly.spaced st.meets.snoops t in
     ap (option_and_then (answer_to f (length h) true)) y.1 ∙ settled_none f (length h) true y.0 none
     ∙ sym (answer_now v (e + k) (length h) end before)
 open_place p h x v queue e s k f false st same before t =
     let end : snoop_end_of v (e + k) ≡ None =
-      ap (snoop_end_of v) same ∙ open_ends h x v s false st.more st.stands.orderly.spaced st.meets.snoops t in
+    ap (snoop_end_of v) same ∙ open_ends h x v s false st.more st.stands.orderly.spaced st.meets.snoops t in
     none_then (answer_to f (length h) false) (slice_get queue k) (λ y g.
-      let here = placed h queue e k y st.meets.flight st.meets.ends g in
-      let set = st.meets.flight.settled k y g in
-      settled_none f (length h) false y
-      (outcome_reached h y set.0 (e + k) set.1 here.number ∙ not_reached_from h s (e + k) st.meets.snoops (omega arith)))
+    let here = placed h queue e k y st.meets.flight st.meets.ends g in
+    let set = st.meets.flight.settled k y g in
+    settled_none f (length h) false y
+    (outcome_reached h y set.0 (e + k) set.1 here.number ∙ not_reached_from h s (e + k) st.meets.snoops (omega arith)))
     ∙ sym (no_answer-snoop v (e + k) end)
 
 -- of the entry at place k
@@ -297,10 +301,10 @@ from_quiet p h x v queue e s k q =
     let none : e + 0 ≡ e = omega arith in
     answer_place p h x v queue e s 0 p.from k (omega (arith, k.meets.order))
     (λ l. ap (answer_from v) none ∙ answer_same h x v e s k.more k.stands.orderly k.meets.ends k.meets.snoops (omega arith)
-      ∙ sym (k.stands.from ∙ ap (answer_from h) q.old))
+    ∙ sym (k.stands.from ∙ ap (answer_from h) q.old))
     (λ j same.
-      let r = k.meets.ends.reached j (omega arith) in
-      (r.0, end_of-kept h x v j r.0 k.more k.stands.orderly r.1 r.2, omega (arith, r.2)))
+    let r = k.meets.ends.reached j (omega arith) in
+    (r.0, end_of-kept h x v j r.0 k.more k.stands.orderly r.1 r.2, omega (arith, r.2)))
     ∙ ap (answer_from v) (none ∙ sym q.count)
 
 from_done : (p : Phases) (h : Trace) (x : Sample) (v : Trace) (queue : List Entry) (e s : ℕ) → Step p h x v queue e s → Done p h x v queue e s → option_and_then (answer_to (Some (length h + 1)) (length h) (is_some (snooped_by p (length h) x queue))) (slice_get queue 1) ≡ answer_from v (response_count v)
@@ -308,12 +312,12 @@ from_done p h x v queue e s k d =
     let one : e + 1 ≡ suc e = omega arith in
     answer_place p h x v queue e s 1 (Some (length h + 1)) k (omega (arith, d.snooped))
     (λ l.
-      let r = k.meets.snoops.reached (suc e) (omega arith) in
-      ap (answer_from v) one
-      ∙ answer_was v e r.0 (length h) (snoop_end_of-old h x v s (suc e) k.more k.meets.snoops (omega arith) ∙ r.1) r.2 d.end)
+    let r = k.meets.snoops.reached (suc e) (omega arith) in
+    ap (answer_from v) one
+    ∙ answer_was v e r.0 (length h) (snoop_end_of-old h x v s (suc e) k.more k.meets.snoops (omega arith) ∙ r.1) r.2 d.end)
     (λ j same.
-      let last : j ≡ e = omega arith in
-      (length h, ap (end_of v) last ∙ d.end, omega arith))
+    let last : j ≡ e = omega arith in
+    (length h, ap (end_of v) last ∙ d.end, omega arith))
     ∙ ap (answer_from v) (one ∙ sym d.count)
 
 pub from_to-is : (p : Phases) (h : Trace) (x : Sample) (v : Trace) (queue : List Entry) (e s : ℕ) → Step p h x v queue e s → from_to p (length h) x queue ≡ answer_from v (response_count v)

@@ -1,18 +1,16 @@
 -- What the phases drive is what is due.
-use Rattle.std.proofs.Common.{ℕ, suc, ◌+◌, ◌<◌, ◌≤◌, ◌≡◌, Option, Some, None, List, length, refl, sym, ap, ◌∙◌, inl, inr, arith, subst, is_some}
-use Rattle.std.specs.List.{slice_get, find}
-use Rattle.std.specs.Option.{option_map, option_map_or, option_and_then}
+use Rattle.std.proofs.Common.{ℕ, suc, ◌<◌, ◌≤◌, ◌≡◌, Option, Some, None, List, length, refl, inl, inr, arith}
+use Rattle.std.specs.List.{slice_get}
 use Rattle.std.proofs.lemmas.Bool.{cases_lt}
 use Rattle.fsb_trace.specs.At.{Trace}
-use Rattle.fsb_trace.specs.Snoop.{snoop_end_of}
 use Rattle.fsb_laws.specs.Orderly.{Orderly}
 use Rattle.fsb_laws.specs.Progress.{SnoopsTo, EndsTo, response_count, transfer_of}
 use Rattle.fsb_laws.proofs.ResponseSteps.{response_there, response_past, has_answer}
 use Rattle.fsb_laws.proofs.EndFacts.{ends_to-still, ends_to-moving, transfer_parts}
 use Rattle.fsb_queue.specs.declared.entry.Entry.{Entry}
 use Rattle.fsb_phase.specs.declared.phases.Phases.{Phases}
-use Rattle.fsb_phase.specs.Flight.{InFlight}
-use Rattle.fsb_phase.specs.Drive.{code_of, drive_of}
+use Rattle.fsb_phase.proofs.Held.{Held}
+use Rattle.fsb_phase.specs.Drive.{drive_of}
 use Rattle.fsb_phase.specs.Phases.{Stands, snooped_count, last_snoop_end}
 use Rattle.fsb_phase.specs.Registers.{drive_by}
 use Rattle.fsb_phase.proofs.Counts.{snoops_to}
@@ -36,27 +34,31 @@ responses_snooped h s o to =
     ]
 
 far_by : (h : Trace) (t : Option ℕ) → Orderly h → transfer_of h ≡ t → (e : ℕ) × Far h e
-far_by h None o f =
-    (response_count h, record {
-      ends = ends_to-still h o f;
-      answered = record { later = λ i l. response_past h i (omega arith); head = inl (f, refl) };
-      within = omega arith;
-    })
+far_by h None o f = (
+  response_count h,
+  record {
+    ends = ends_to-still h o f;
+    answered = record { later = λ i l. response_past h i (omega arith); head = inl (f, refl) };
+    within = omega arith;
+  },
+)
 far_by h (Some k) o f =
     let p = transfer_parts h k f in
     let i : ℕ = p.0 in
     let count : response_count h ≡ suc i = p.1 in
-    let r = response_there h i (omega arith) in
-    (i, record {
-      ends = ends_to-moving h k i o f count;
-      answered = record { later = λ j l. response_past h j (omega arith); head = inr (k, r.0, f, count, r.1) };
-      within = omega arith;
-    })
+    let r = response_there h i (omega arith) in (
+      i,
+      record {
+        ends = ends_to-moving h k i o f count;
+        answered = record { later = λ j l. response_past h j (omega arith); head = inr (k, r.0, f, count, r.1) };
+        within = omega arith;
+      },
+    )
 
 pub far : (h : Trace) → Orderly h → (e : ℕ) × Far h e
 far h o = far_by h (transfer_of h) o refl
 
-pub meets : (p : Phases) (h : Trace) (queue : List Entry) (e : ℕ) → Stands p h → InFlight queue h → Far h e → Meets p h queue e (snooped_count h)
+pub meets : (p : Phases) (h : Trace) (queue : List Entry) (e : ℕ) → Stands p h → Held queue h → Far h e → Meets p h queue e (snooped_count h)
 unfolding last_snoop_end
 meets p h queue e k f w =
     let to = snoops_to h in
@@ -65,7 +67,7 @@ meets p h queue e k f w =
     record { ends = w.ends; snoops = to; order = omega arith; flight = f; snooped = k.snooped }
 
 -- what the phases drive by what they keep is what is due after the history
-pub driven : (p : Phases) (h : Trace) (queue : List Entry) → Stands p h → InFlight queue h → drive_by p (length h) queue ≡ drive_of h queue
+pub driven : (p : Phases) (h : Trace) (queue : List Entry) → Stands p h → Held queue h → drive_by p (length h) queue ≡ drive_of h queue
 unfolding drive_by drive_of
 driven p h queue k f =
     let w = far h k.orderly in

@@ -1,18 +1,17 @@
 -- The entries of a queue that holds the requests in flight: their places and their numbers.
-use Rattle.std.proofs.Common.{ℕ, zero, suc, ◌+◌, ◌-◌, ◌<◌, ◌≤◌, ◌≡◌, Bool, true, false, Option, Some, None, List, [], ◌∷◌, map, drop, length, is_some, is_none, refl, sym, ap, ◌∙◌, inl, inr, arith, subst}
+use Rattle.std.proofs.Common.{ℕ, zero, suc, ◌+◌, ◌<◌, ◌≡◌, true, Some, List, [], ◌∷◌, drop, length, refl, sym, ap, ◌∙◌, arith}
 use Rattle.std.specs.List.{slice_get}
 use Rattle.std.specs.Option.{option_map}
 use Rattle.std.proofs.lemmas.Option.{slice_get-map}
-use Rattle.fsb_count.specs.Clocks.{all_where, nth_where, count_where}
+use Rattle.fsb_count.specs.Clocks.{all_where, nth_where}
 use Rattle.fsb_count.proofs.Nth.{nth_where-found}
 use Rattle.fsb_trace.specs.At.{Trace}
 use Rattle.fsb_trace.specs.Requests.{is_live, live_clock_of, live_number_of}
-use Rattle.fsb_trace.specs.Flight.{in_flight}
 use Rattle.fsb_laws.specs.Progress.{EndsTo}
 use Rattle.fsb_laws.proofs.FlightSteps.{in_flight-live}
 use Rattle.fsb_queue.specs.declared.entry.Entry.{Entry}
 use Rattle.fsb_phase.specs.Due.{live_of}
-use Rattle.fsb_phase.specs.Flight.{InFlight}
+use Rattle.fsb_phase.proofs.Held.{Held}
 
 pub dropped : {X : Type 0} (e k : ℕ) (xs : List X) → slice_get (drop e xs) k ≡ slice_get xs (e + k)
 dropped zero k xs = ap (slice_get xs) (let same : k ≡ 0 + k = omega arith in same)
@@ -27,11 +26,11 @@ pub record Placed (h : Trace) (e k : ℕ) (entry : Entry) : Type 0 where
   pub live : is_live h entry.clock ≡ true
   pub within : entry.clock < length h
 
-pub placed : (h : Trace) (queue : List Entry) (e k : ℕ) (entry : Entry) → InFlight queue h → EndsTo h e → slice_get queue k ≡ Some entry → Placed h e k entry
+pub placed : (h : Trace) (queue : List Entry) (e k : ℕ) (entry : Entry) → Held queue h → EndsTo h e → slice_get queue k ≡ Some entry → Placed h e k entry
 unfolding live_clock_of live_of live_number_of nth_where
 placed h queue e k entry f to at =
     let clock : slice_get (all_where (is_live h) (length h)) (e + k) ≡ Some entry.clock =
-      sym (dropped e k (all_where (is_live h) (length h))) ∙ ap (λ qs. slice_get qs k) (sym (f.clocks ∙ in_flight-live h e to))
-      ∙ slice_get-map (λ x. x.clock) queue k ∙ ap (option_map (λ x. x.clock)) at in
+    sym (dropped e k (all_where (is_live h) (length h))) ∙ ap (λ qs. slice_get qs k) (sym (f.clocks ∙ in_flight-live h e to))
+    ∙ slice_get-map (λ x. x.clock) queue k ∙ ap (option_map (λ x. x.clock)) at in
     let found = nth_where-found (is_live h) (e + k) (length h) entry.clock clock in
     record { clock = clock; number = found.2; live = found.1; within = found.0 }

@@ -1,26 +1,25 @@
 -- TRDY#, responses and data that are driven are those that are due: of the oldest request alone.
-use Rattle.std.proofs.Common.{ℕ, zero, suc, ◌+◌, ◌-◌, ◌<◌, ◌≤◌, ◌≡◌, Bool, true, false, ◌&&◌, cond, Option, Some, None, List, [], ◌∷◌, length, max, is_some, is_none, refl, sym, ap, ◌∙◌, ◌⊎◌, inl, inr, arith, subst}
+use Rattle.std.proofs.Common.{ℕ, zero, suc, ◌+◌, ◌-◌, ◌<◌, ◌≡◌, Bool, true, false, ◌&&◌, cond, Option, Some, None, List, length, is_some, is_none, refl, sym, ap, ◌∙◌, ◌⊎◌, inl, inr, arith}
 use Rattle.std.specs.List.{slice_get, find}
-use Rattle.std.specs.Option.{option_map, option_map_or, option_and_then}
-use Rattle.std.proofs.lemmas.Bool.{cases_Bool, and_left, and_right}
+use Rattle.std.specs.Option.{option_map, option_and_then}
+use Rattle.std.proofs.lemmas.Bool.{cases_Bool, and_right}
 use Rattle.fsb_count.specs.Options.{is_some_and, is_at, greater_of}
 use Rattle.fsb_trace.specs.At.{Trace}
 use Rattle.fsb_trace.specs.Snoop.{snoop_end_of}
 use Rattle.fsb_trace.specs.Outcome.{response_clock_of}
 use Rattle.fsb_trace.specs.Response.{takes, end_of, clock_after_snoop, ready_after, ready_clock_of}
-use Rattle.fsb_laws.specs.Progress.{SnoopsTo, EndsTo, response_count, transfer_of}
+use Rattle.fsb_laws.specs.Progress.{EndsTo, response_count, transfer_of}
 use Rattle.fsb_laws.proofs.ResponseSteps.{response_past}
-use Rattle.fsb_laws.proofs.SnoopSteps.{snoop_end_of-above}
 use Rattle.fsb_queue.specs.declared.entry.Entry.{Entry}
 use Rattle.fsb_phase.specs.declared.phases.Phases.{Phases}
 use Rattle.fsb_phase.specs.Timing.{is_ready_from, is_response_from, chunk_from, is_busy_from}
 use Rattle.fsb_phase.specs.Due.{live_of, two_after_snoop, answer_from, awaits_response, has_ready, has_response, response_to_now, moves, chunk_of, keeps_busy}
-use Rattle.fsb_phase.specs.Flight.{IsSettled, InFlight}
+use Rattle.fsb_phase.proofs.Held.{IsSettled, Held}
 use Rattle.fsb_phase.specs.Phases.{Stands, value_before, last_response}
-use Rattle.fsb_phase.specs.Drive.{code_of, numbered_chunk}
+use Rattle.fsb_phase.specs.Drive.{numbered_chunk}
 use Rattle.fsb_phase.specs.Registers.{if_passes, is_taking, gets_ready, answers, answered, chunk_at, is_busy, numbered_at}
 use Rattle.fsb_phase.proofs.Finds.{find-first}
-use Rattle.fsb_phase.proofs.Entries.{Placed, placed}
+use Rattle.fsb_phase.proofs.Entries.{placed}
 use Rattle.fsb_phase.proofs.Settled.{taking-is}
 
 -- where the request before has not ended, or there is no snoop end yet, a request is not answered and not ready
@@ -118,7 +117,7 @@ pub record Idle (h : Trace) (y : Entry) : Type 0 where
   pub busy : keeps_busy h y ≡ false
   pub chunk : is_some (chunk_of h y) ≡ false
 
-pub idle-later : (h : Trace) (queue : List Entry) (e j : ℕ) (y : Entry) → InFlight queue h → EndsTo h e → Answered h e → 0 < j → slice_get queue j ≡ Some y → Idle h y
+pub idle-later : (h : Trace) (queue : List Entry) (e j : ℕ) (y : Entry) → Held queue h → EndsTo h e → Answered h e → 0 < j → slice_get queue j ≡ Some y → Idle h y
 idle-later h queue e j y f to a l g =
     let here = placed h queue e j y f to g in
     let i : ℕ = e + (j - 1) in
@@ -202,7 +201,7 @@ last_is : (h : Trace) (n e r : ℕ) → n ≡ suc e → response_clock_of h e �
 unfolding value_before
 last_is h n e r f g = ap (value_before (response_clock_of h)) f ∙ g
 
-pub same_head : (p : Phases) (h : Trace) (queue : List Entry) (e : ℕ) (y : Entry) → Stands p h → InFlight queue h → EndsTo h e → Answered h e → slice_get queue 0 ≡ Some y → Same p h y
+pub same_head : (p : Phases) (h : Trace) (queue : List Entry) (e : ℕ) (y : Entry) → Stands p h → Held queue h → EndsTo h e → Answered h e → slice_get queue 0 ≡ Some y → Same p h y
 unfolding last_response
 same_head p h queue e y k f to a g =
     let here = placed h queue e 0 y f to g in

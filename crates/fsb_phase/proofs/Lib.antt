@@ -1,6 +1,7 @@
 pub mod TimingFacts
 pub mod Finds
 pub mod Counts
+pub mod Held
 pub mod Entries
 pub mod SnoopDrive
 pub mod Settled

@@ -1,8 +1,8 @@
 -- Responses, ready clocks and transfers, one sample on.
-use Rattle.std.proofs.Common.{ℕ, zero, suc, ◌+◌, ◌-◌, ◌<◌, ◌≤◌, ◌≡◌, Bool, true, false, not, cond, ◌&&◌, ◌||◌, max, nat_eq, nat_le, Option, Some, None, List, [], ◌∷◌, length, is_some, is_none, refl, sym, ap, ◌∙◌, inl, inr, arith, subst}
+use Rattle.std.proofs.Common.{ℕ, zero, suc, ◌+◌, ◌<◌, ◌≤◌, ◌≡◌, Bool, true, false, cond, ◌&&◌, ◌||◌, max, nat_le, Option, Some, None, List, length, is_none, refl, sym, ap, ◌∙◌, inl, inr, arith}
 use Rattle.std.specs.List.{slice_get}
 use Rattle.std.specs.Option.{option_map}
-use Rattle.std.proofs.lemmas.Bool.{cases_Bool, and_left, and_right, cases_lt, le-leb, lt-leb, both_ways}
+use Rattle.std.proofs.lemmas.Bool.{cases_Bool, and_right, cases_lt, le-leb, lt-leb}
 use Rattle.fsb_count.specs.Options.{is_some_and, greater_of}
 use Rattle.fsb_signal.specs.declared.lines.TheConstants.Lines.{ADS, TRDY, DRDY}
 use Rattle.fsb_signal.specs.declared.sample.Sample.{Sample}
@@ -10,11 +10,11 @@ use Rattle.fsb_signal.specs.Samples.{has_line, response_of}
 use Rattle.fsb_trace.specs.At.{Trace, line_back}
 use Rattle.fsb_trace.specs.Snoop.{snoop_end_of}
 use Rattle.fsb_trace.specs.Outcome.{response_clock_of, does_move, told_by}
-use Rattle.fsb_trace.specs.Response.{end_of, ready_clock_of}
+use Rattle.fsb_trace.specs.Response.{ready_clock_of}
 use Rattle.fsb_laws.specs.OneMore.{OneMore, responds}
 use Rattle.fsb_laws.specs.Orderly.{Spaced, Orderly}
 use Rattle.fsb_laws.specs.Progress.{SnoopsTo, EndsTo, response_count, transfer_of, chunk_step, may_answer_next}
-use Rattle.fsb_laws.proofs.OrderlySteps.{spaced-more, orderly-more}
+use Rattle.fsb_laws.proofs.OrderlySteps.{spaced-more}
 use Rattle.fsb_laws.proofs.ResponseSteps.{response_count-more, response_clock_of-new, response_clock_of-old}
 use Rattle.fsb_laws.proofs.TransferSteps.{transfer_of-kept, transfer_of-begun}
 use Rattle.fsb_laws.proofs.ReadySteps.{ready_clock_of-next, ready_clock_of-after}
@@ -23,11 +23,11 @@ use Rattle.fsb_laws.proofs.EndFacts.{ends_to-still}
 use Rattle.fsb_queue.specs.declared.entry.Entry.{Entry}
 use Rattle.fsb_phase.specs.declared.phases.Phases.{Phases}
 use Rattle.fsb_phase.specs.Due.{live_of, two_after_snoop, answer_from, moves}
-use Rattle.fsb_phase.specs.Flight.{InFlight, is_too_soon}
-use Rattle.fsb_phase.specs.Drive.{code_of, drive_of}
+use Rattle.fsb_phase.specs.Flight.{is_too_soon}
+use Rattle.fsb_phase.proofs.Held.{Held}
 use Rattle.fsb_phase.specs.Phases.{Stands, value_before, last_response}
 use Rattle.fsb_phase.specs.Registers.{response_to, transfer_to, ready_to, may_answer_at}
-use Rattle.fsb_phase.proofs.Entries.{Placed, placed}
+use Rattle.fsb_phase.proofs.Entries.{placed}
 use Rattle.fsb_phase.proofs.Settled.{told-is}
 use Rattle.fsb_phase.proofs.Answering.{Answering, may_answer}
 
@@ -80,7 +80,7 @@ response_to-is p h x v m k =
     ]
 
 -- the transfer on the way
-begins : (h : Trace) (queue : List Entry) (e : ℕ) (x : Sample) → InFlight queue h → EndsTo h e → Answering h queue e x → does_move (told_by h (response_count h) (response_of x)) ≡ is_some_and (slice_get queue 0) moves
+begins : (h : Trace) (queue : List Entry) (e : ℕ) (x : Sample) → Held queue h → EndsTo h e → Answering h queue e x → does_move (told_by h (response_count h) (response_of x)) ≡ is_some_and (slice_get queue 0) moves
 unfolding is_some_and
 begins h queue e x f to a =
     let here = placed h queue e 0 a.head f to a.at in
@@ -93,7 +93,7 @@ begins h queue e x f to a =
 transfer_step : Bool → Bool → Bool → Option ℕ → Option ℕ
 transfer_step drdy answers move t = chunk_step drdy (cond answers (cond move (Some 0) None) t)
 
-pub transfer_to-is : (p : Phases) (h : Trace) (x : Sample) (v : Trace) (queue : List Entry) (e s : ℕ) → OneMore h x v → Stands p h → SnoopsTo h s → InFlight queue h → EndsTo h e → (responds x ≡ true → Answering h queue e x) → transfer_to p x queue ≡ transfer_of v
+pub transfer_to-is : (p : Phases) (h : Trace) (x : Sample) (v : Trace) (queue : List Entry) (e s : ℕ) → OneMore h x v → Stands p h → SnoopsTo h s → Held queue h → EndsTo h e → (responds x ≡ true → Answering h queue e x) → transfer_to p x queue ≡ transfer_of v
 unfolding transfer_to
 transfer_to-is p h x v queue e s m k to f ends ans =
     elim (cases_Bool (responds x)) [

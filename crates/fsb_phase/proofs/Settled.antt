@@ -1,5 +1,5 @@
 -- What a settled outcome says of its request: whether it takes, and what its response tells.
-use Rattle.std.proofs.Common.{ℕ, ◌+◌, ◌<◌, ◌≤◌, ◌≡◌, Bool, true, false, ◌||◌, cond, nat_eq, nat_le, Option, Some, None, refl, sym, ap, ◌∙◌, inl, inr, arith, subst}
+use Rattle.std.proofs.Common.{ℕ, ◌≤◌, ◌≡◌, Bool, true, false, ◌||◌, cond, nat_eq, nat_le, Option, Some, None, refl, sym, ap, ◌∙◌, inl, inr, arith, subst}
 use Rattle.std.specs.Option.{option_map}
 use Rattle.std.proofs.lemmas.Bool.{cases_Bool, eqb-true, leb-true}
 use Rattle.fsb_count.specs.Options.{is_some_and}
@@ -18,7 +18,7 @@ use Rattle.fsb_trace.specs.Response.{takes}
 use Rattle.fsb_queue.specs.declared.entry.Entry.{Entry}
 use Rattle.fsb_phase.specs.Due.{live_of, moves}
 use Rattle.fsb_phase.specs.Drive.{code_of}
-use Rattle.fsb_phase.specs.Flight.{IsSettled}
+use Rattle.fsb_phase.proofs.Held.{IsSettled}
 use Rattle.fsb_phase.specs.Registers.{does_take, is_taking}
 
 -- the settled outcome, by what it is settled with
@@ -119,8 +119,8 @@ told-is h e turn i s code k f g c =
     let o : Outcome = settled_by h turn i s in
     let form : o ≡ settled_cases (line_at HITM h s) turn (live_request_of h i) = settled_form h turn i s in
     let told : told_by h i (response_code_of o) ≡ o =
-      told_form h i s (response_code_of o) g
-      ∙ ap (λ x. told_cases (line_at HITM h s) (response_code_of x) (live_request_of h i)) form
-      ∙ cases_told (line_at HITM h s) turn (live_request_of h i) ∙ sym form in
+    told_form h i s (response_code_of o) g
+    ∙ ap (λ x. told_cases (line_at HITM h s) (response_code_of x) (live_request_of h i)) form
+    ∙ cases_told (line_at HITM h s) turn (live_request_of h i) ∙ sym form in
     ap (λ n. does_move (told_by h i n)) (c ∙ code_is e o (outcome_at h e turn i s k f g))
     ∙ ap does_move told ∙ sym (moves_is e o (outcome_at h e turn i s k f g))

@@ -1,8 +1,8 @@
 -- Snoop clocks and stalls that are driven are those that are due.
-use Rattle.std.proofs.Common.{ℕ, zero, suc, ◌+◌, ◌-◌, ◌<◌, ◌≤◌, ◌≡◌, Bool, true, false, ◌&&◌, Option, Some, None, List, [], ◌∷◌, length, max, is_some, is_none, refl, sym, ap, ◌∙◌, ◌⊎◌, inl, inr, arith, subst}
+use Rattle.std.proofs.Common.{ℕ, zero, suc, ◌+◌, ◌<◌, ◌≤◌, ◌≡◌, Bool, true, false, ◌&&◌, Option, Some, None, List, length, is_some, is_none, refl, sym, ap, ◌∙◌, inl, inr, arith, subst}
 use Rattle.std.specs.List.{slice_get, find}
 use Rattle.std.specs.Option.{option_map}
-use Rattle.std.proofs.lemmas.Bool.{cases_Bool, cases_lt, cases_eq, cases_order, and_left, and_right}
+use Rattle.std.proofs.lemmas.Bool.{cases_Bool, cases_lt, cases_order, and_left, and_right}
 use Rattle.std.proofs.lemmas.Option.{slice_get_within, slice_get_cases}
 use Rattle.fsb_count.specs.Options.{is_some_and, greater_of}
 use Rattle.fsb_trace.specs.At.{Trace}
@@ -14,11 +14,11 @@ use Rattle.fsb_queue.specs.declared.entry.Entry.{Entry}
 use Rattle.fsb_phase.specs.declared.phases.Phases.{Phases}
 use Rattle.fsb_phase.specs.Timing.{is_stall_from}
 use Rattle.fsb_phase.specs.Due.{live_of, has_snoop, is_stalled}
-use Rattle.fsb_phase.specs.Flight.{IsSettled, InFlight}
+use Rattle.fsb_phase.proofs.Held.{IsSettled, Held}
 use Rattle.fsb_phase.specs.Phases.{value_before}
 use Rattle.fsb_phase.specs.Registers.{if_passes, open_entry, start_after, is_snooping, snooping, stalls_at}
 use Rattle.fsb_phase.proofs.Finds.{Found, find-cases, find-only, find-off, find-place}
-use Rattle.fsb_phase.proofs.Entries.{Placed, placed}
+use Rattle.fsb_phase.proofs.Entries.{placed}
 
 -- the numbers that the phases, a history and a queue have in common: the live requests below e have their end, those
 -- below s their snoop end
@@ -26,7 +26,7 @@ pub record Meets (p : Phases) (h : Trace) (queue : List Entry) (e s : ℕ) : Typ
   pub ends : EndsTo h e
   pub snoops : SnoopsTo h s
   pub order : e ≤ s
-  pub flight : InFlight queue h
+  pub flight : Held queue h
   pub snooped : p.snooped ≡ value_before (snoop_end_of h) s
 
 -- an entry has its outcome exactly where its snoop end is reached

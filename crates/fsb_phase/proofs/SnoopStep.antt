@@ -1,14 +1,14 @@
 -- The snoop end that the next sample is.
-use Rattle.std.proofs.Common.{ℕ, zero, suc, ◌+◌, ◌-◌, ◌<◌, ◌≤◌, ◌≡◌, Bool, true, false, not, cond, ◌&&◌, nat_eq, Option, Some, None, List, [], ◌∷◌, map, length, is_some, is_none, refl, sym, ap, ◌∙◌, inl, inr, arith, subst}
+use Rattle.std.proofs.Common.{ℕ, zero, suc, ◌+◌, ◌-◌, ◌<◌, ◌≤◌, ◌≡◌, Bool, true, false, not, cond, ◌&&◌, Option, Some, None, List, [], ◌∷◌, length, is_some, refl, sym, ap, ◌∙◌, inl, inr, arith, subst}
 use Rattle.std.specs.List.{slice_get, find}
 use Rattle.std.specs.Option.{option_map}
-use Rattle.std.proofs.lemmas.Bool.{cases_Bool, cases_lt, cases_eq, cases_order, and_left, and_right, and_parts, eq-eqb, ne_eqb, leb-true, both_ways}
+use Rattle.std.proofs.lemmas.Bool.{cases_Bool, cases_eq, cases_order, and_left, and_right, and_parts, eq-eqb, ne_eqb, leb-true, both_ways}
 use Rattle.std.proofs.lemmas.Option.{slice_get-map}
 use Rattle.fsb_count.specs.Options.{is_some_and, is_at}
 use Rattle.fsb_count.specs.Clocks.{all_where, nth_where}
 use Rattle.fsb_signal.specs.declared.sample.Sample.{Sample}
 use Rattle.fsb_trace.specs.At.{Trace}
-use Rattle.fsb_trace.specs.Requests.{is_live, live_clock_of, live_number_of}
+use Rattle.fsb_trace.specs.Requests.{is_live, live_clock_of}
 use Rattle.fsb_trace.specs.Snoop.{is_every_second_from, snoop_start_of, snoop_end_of}
 use Rattle.fsb_laws.specs.OneMore.{OneMore, cancels, stalls}
 use Rattle.fsb_laws.specs.Orderly.{Spaced}
@@ -19,9 +19,9 @@ use Rattle.fsb_laws.proofs.SnoopSteps.{snoop_end_of-above, snoop_end_of-old, sno
 use Rattle.fsb_queue.specs.declared.entry.Entry.{Entry}
 use Rattle.fsb_phase.specs.declared.phases.Phases.{Phases}
 use Rattle.fsb_phase.specs.Due.{live_of, has_snoop}
-use Rattle.fsb_phase.specs.Flight.{InFlight}
+use Rattle.fsb_phase.proofs.Held.{Held}
 use Rattle.fsb_phase.specs.Drive.{ends_snoop_at}
-use Rattle.fsb_phase.specs.Phases.{value_before, snooped_count, last_snoop_end}
+use Rattle.fsb_phase.specs.Phases.{value_before, last_snoop_end}
 use Rattle.fsb_phase.specs.Registers.{snooping, snooped_by, snooped_to}
 use Rattle.fsb_phase.proofs.Finds.{Found, find-cases, find-place, find-off}
 use Rattle.fsb_phase.proofs.Counts.{snoops_count}
@@ -33,7 +33,7 @@ mapped : (queue : List Entry) (k q : ℕ) (o : Option Entry) → slice_get queue
 mapped queue k q None e f = absurd (let none : ⊥ = cc in none)
 mapped queue k q (Some y) e f = (y, e)
 
-pub queue_has : (h : Trace) (queue : List Entry) (e k q : ℕ) → InFlight queue h → EndsTo h e → live_clock_of h (e + k) ≡ Some q → (y : Entry) × (slice_get queue k ≡ Some y)
+pub queue_has : (h : Trace) (queue : List Entry) (e k q : ℕ) → Held queue h → EndsTo h e → live_clock_of h (e + k) ≡ Some q → (y : Entry) × (slice_get queue k ≡ Some y)
 unfolding live_clock_of nth_where
 queue_has h queue e k q f to c =
     mapped queue k q (slice_get queue k) refl
@@ -122,8 +122,8 @@ end_here h x v s i m sp to =
     elim (cases_order i s) [
       | inl same ↦
           let here : is_at (snoop_end_of v s) (length h) ≡ (snoop_at h s && not (stalls x)) =
-            ap (λ o. is_at o (length h)) (snoop_end_of-more h x v s m sp to) ∙ at_clock (length h) (ends_snoop_of h s x)
-            ∙ ap (λ b. b && not (stalls x)) (sym (at_next h s to)) in
+          ap (λ o. is_at o (length h)) (snoop_end_of-more h x v s m sp to) ∙ at_clock (length h) (ends_snoop_of h s x)
+          ∙ ap (λ b. b && not (stalls x)) (sym (at_next h s to)) in
           subst (λ j. is_at (snoop_end_of v j) (length h) ≡ (snoop_at h j && not (stalls x))) (sym same) here
       | inr other ↦ elim other [
         | inl less ↦

@@ -1,7 +1,6 @@
 -- When stalls and chunks are due, as a machine finds it.
-use Rattle.std.proofs.Common.{ℕ, ◌+◌, ◌-◌, ◌*◌, ◌/◌, ◌%◌, ◌<◌, ◌≤◌, ◌≡◌, Bool, true, false, nat_eq, nat_lt, Option, Some, None, refl, sym, ap, ◌∙◌, inl, inr, arith}
+use Rattle.std.proofs.Common.{ℕ, ◌+◌, ◌-◌, ◌*◌, ◌/◌, ◌%◌, ◌<◌, ◌≤◌, ◌≡◌, false, nat_eq, nat_lt, Some, None, sym, ◌∙◌, inl, inr, arith}
 use Rattle.std.proofs.lemmas.Bool.{cases_lt, eq-eqb, ne_eqb, lt-ltb, le-ltb}
-use Rattle.fsb_count.specs.Clocks.{first_where, any_where}
 use Rattle.fsb_count.proofs.First.{first_where-at, first_where-off}
 use Rattle.fsb_count.proofs.Any.{any_where-at, any_where-off}
 use Rattle.fsb_phase.specs.Timing.{is_stall_from, chunk_from}

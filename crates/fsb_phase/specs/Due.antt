@@ -1,5 +1,5 @@
 -- What is due at the next clock after a history, of a request in flight.
-use Rattle.std.specs.Prelude.{ℕ, zero, suc, ◌+◌, Bool, true, false, ◌&&◌, is_none, if◌then◌else◌, Option, Some, None, length}
+use Rattle.std.specs.Prelude.{ℕ, zero, suc, ◌+◌, Bool, ◌&&◌, is_none, if◌then◌else◌, Option, Some, None, length}
 use Rattle.std.specs.Option.{option_map, option_and_then}
 use Rattle.fsb_count.specs.Options.{is_some_and, greater_of}
 use Rattle.fsb_trace.specs.At.{Trace}

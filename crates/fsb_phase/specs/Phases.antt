@@ -1,5 +1,5 @@
 -- The history that the phases stand for.
-use Rattle.std.specs.Prelude.{◌≡◌, ℕ, zero, suc, Bool, false, Option, None, List, length, is_some}
+use Rattle.std.specs.Prelude.{◌≡◌, ℕ, zero, suc, false, Option, None, List, length, is_some}
 use Rattle.fsb_count.specs.Clocks.{count_where}
 use Rattle.fsb_signal.specs.declared.sample.Sample.{Sample}
 use Rattle.fsb_signal.specs.Samples.{response_of}
@@ -46,8 +46,8 @@ pub record Stands (phases : Phases) (h : Trace) : Type 0 where
 
 -- the phases may take the sample as the next of the history: the clock is the number of samples taken, the queue holds the
 -- requests in flight, RS# is what is driven, and a request begins no sooner than three clocks after the one before it
-pub record MayTake (clock : ℕ) (x : Sample) (queue : List Entry) (h : Trace) : Type 0 where
+pub record MayTake (clock : ℕ) (x : Sample) (queue : List Entry) (turns : List ℕ) (h : Trace) : Type 0 where
   pub clock_is : clock ≡ length h
-  pub flight : InFlight queue h
+  pub flight : InFlight queue turns h
   pub answers : response_of x ≡ (drive_of h queue).rs
   pub spaced : is_too_soon h x ≡ false

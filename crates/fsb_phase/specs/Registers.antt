@@ -1,5 +1,5 @@
 -- What the phases answer by what they keep, before any history is looked at.
-use Rattle.std.specs.Prelude.{ℕ, ◌+◌, Bool, true, false, not, ◌&&◌, ◌||◌, nat_le, max, is_none, is_some, if◌then◌else◌, List, Option, Some, None, slice_get}
+use Rattle.std.specs.Prelude.{ℕ, ◌+◌, Bool, true, false, ◌&&◌, ◌||◌, nat_le, max, is_none, is_some, if◌then◌else◌, List, Option, Some, None, slice_get}
 use Rattle.std.specs.List.{find}
 use Rattle.std.specs.Option.{option_map, option_map_or, option_and_then}
 use Rattle.fsb_count.specs.Options.{is_some_and}

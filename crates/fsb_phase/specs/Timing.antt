@@ -1,9 +1,8 @@
 -- When the steps of a request are due, by the clocks that they rest on and the waits that were chosen for it.
-use Rattle.std.specs.Prelude.{ℕ, ◌+◌, ◌*◌, Bool, true, false, ◌&&◌, nat_eq, nat_le, nat_lt, if◌then◌else◌, Option, Some, None}
-use Rattle.std.specs.Option.{option_map, option_and_then}
-use Rattle.fsb_count.specs.Options.{is_some_and, is_at}
+use Rattle.std.specs.Prelude.{ℕ, ◌+◌, ◌*◌, Bool, true, false, ◌&&◌, nat_eq, nat_le, nat_lt, Option}
+use Rattle.std.specs.Option.{option_map}
+use Rattle.fsb_count.specs.Options.{is_at}
 use Rattle.fsb_count.specs.Clocks.{first_where, any_where}
-use Rattle.fsb_trace.specs.Snoop.{is_every_second_from}
 
 -- c is one of the first clocks of a snoop that starts there, as many as it is to be stalled
 unfoldable pub is_stall_from : ℕ → ℕ → ℕ → Bool

@@ -11,6 +11,8 @@ pub use phases::Phases;
 
 mod burst;
 mod drive;
+#[cfg(test)]
+mod lone;
 mod phases;
 mod places;
 #[cfg(test)]

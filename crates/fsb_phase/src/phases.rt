@@ -1,4 +1,4 @@
-ghost use Rattle.std.specs.Prelude.{◌≡◌, ◌<◌, ◌^◌, [], ◌∷◌, ◌++◌, length};
+ghost use Rattle.std.specs.Prelude.{◌≡◌, ℕ, List, ◌<◌, ◌^◌, [], ◌∷◌, ◌++◌, length};
 ghost use Rattle.std.specs.Option.{option_and_then};
 ghost use Rattle.fsb_trace.specs.At.{Trace};
 ghost use Rattle.fsb_phase.specs.Drive.{drive_of, phased_at};
@@ -47,7 +47,7 @@ impl Phases {
     /// What is driven at the next clock. The clock is the number of samples taken so far, and the queue holds the requests
     /// in flight.
     pub fn drive(&self, clock: u32, queue: &Queue) -> Drive
-        ensures { (h : Trace) → Stands self.now h → clock ≡ length h → InFlight queue.now h → result ≡ drive_of h queue.now }
+        ensures { (h : Trace) (turns : List ℕ) → Stands self.now h → clock ≡ length h → InFlight queue.now turns h → result ≡ drive_of h queue.now }
     {
         self.drive_by(clock, queue)
     }
@@ -55,8 +55,8 @@ impl Phases {
     /// Takes the sample of the next clock, and tells which snoop and which request end there. The clock is the number of
     /// samples taken before, the queue holds the requests in flight, and RS# is what is driven.
     pub fn absorb(&mut self, clock: u32, sample: &Sample, queue: &Queue) -> Phased
-        ensures result { (h : Trace) → Stands self.old h → MayTake clock sample.now queue.now h → result ≡ phased_at (h ++ sample.now ∷ []) clock queue.now }
-        ensures stands { (h : Trace) → Stands self.old h → MayTake clock sample.now queue.now h → Stands self.new (h ++ sample.now ∷ []) }
+        ensures result { (h : Trace) (turns : List ℕ) → Stands self.old h → MayTake clock sample.now queue.now turns h → result ≡ phased_at (h ++ sample.now ∷ []) clock queue.now }
+        ensures stands { (h : Trace) (turns : List ℕ) → Stands self.old h → MayTake clock sample.now queue.now turns h → Stands self.new (h ++ sample.now ∷ []) }
     {
         let phased = self.phased_by(clock, sample, queue);
         *self = self.phases_to(clock, sample, queue);

@@ -247,3 +247,33 @@ pub const DIRTY_VICTIM_WRITTEN_BACK: [u32; 50] = [
     DBSY | DRDY,
     DRDY,
 ];
+
+/// A line that is handed on with waits for its target, its response and its chunks, and a load behind it.
+pub const HANDED_ON_WITH_WAITS: [u32; 26] = [
+    BREQ0,
+    BREQ0,
+    BREQ0 | ADS,
+    0,
+    0,
+    ADS,
+    HITM,
+    0,
+    0,
+    0,
+    TRDY,
+    0,
+    0,
+    0,
+    0,
+    RS1 | RS2 | DBSY | DRDY,
+    DBSY,
+    DBSY | DRDY,
+    DBSY,
+    DBSY | DRDY,
+    DBSY,
+    DRDY,
+    RS0 | RS1 | RS2 | DBSY | DRDY,
+    DBSY | DRDY,
+    DBSY | DRDY,
+    DRDY,
+];

@@ -1,8 +1,9 @@
 //! Whole runs, in which the phases drive what the run has, clock by clock.
 
 use crate::runs::{
-    CANCELLED_BY_ADDRESS_ERROR, DEFERRED_AND_REPLIED, DIRTY_VICTIM_WRITTEN_BACK, LOCKED_INCREMENTS,
-    STALLED_SNOOP, TWO_AGENTS_OVERLAP, WRITE_BACK_HELD_OFF,
+    CANCELLED_BY_ADDRESS_ERROR, DEFERRED_AND_REPLIED, DIRTY_VICTIM_WRITTEN_BACK,
+    HANDED_ON_WITH_WAITS, LOCKED_INCREMENTS, STALLED_SNOOP, TWO_AGENTS_OVERLAP,
+    WRITE_BACK_HELD_OFF,
 };
 use crate::{Drive, Phased, Phases, chunk_order};
 use fsb_encode::{Kind, Request};
@@ -107,6 +108,7 @@ fn expect_run(rt: &impl Abort, alloc: Global, clocks: &[u32], told: &[Told]) {
         let drive = phases.drive(clock, &queue);
         expect_lines(rt, &drive, &taken);
         let phased = phases.absorb(clock, &taken, &queue);
+        assert!(rt; phased.snooped.is_none() || phased.snooped == drive.snoop);
         snooped += usize::from(phased.snooped.is_some());
         ended += usize::from(phased.ended.is_some());
         step(rt, &mut queue, clock, &phased, told);
@@ -114,7 +116,7 @@ fn expect_run(rt: &impl Abort, alloc: Global, clocks: &[u32], told: &[Told]) {
             let last = queue.len();
             if 0 < last {
                 if let Some(e) = queue.at(last - 1).copied() {
-                    assert_eq!(rt; e.clock + 3, clock);
+                    assert_eq!(rt; e.clock, clock.saturating_sub(3));
                     let gone = queue.cancel(e.number);
                     assert_eq!(rt; gone.is_some(), true);
                 }
@@ -216,4 +218,19 @@ fn dirty_victim_written_back(rt: HostRuntime) {
         (Kind::Read, QUIET, Outcome::Granted, 44, 49),
     ];
     expect_run(&rt, rt.alloc(), &DIRTY_VICTIM_WRITTEN_BACK, &told);
+}
+
+#[test]
+fn waits_are_kept(rt: HostRuntime) {
+    let waits = Choice {
+        trdy: 2,
+        resp: 3,
+        gap: 1,
+        ..QUIET
+    };
+    let told = [
+        (Kind::Invalidate, waits, Outcome::Handed, 6, 21),
+        (Kind::Read, QUIET, Outcome::Granted, 9, 25),
+    ];
+    expect_run(&rt, rt.alloc(), &HANDED_ON_WITH_WAITS, &told);
 }

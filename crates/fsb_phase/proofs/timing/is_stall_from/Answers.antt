@@ -1,4 +1,4 @@
-use Rattle.std.proofs.Common.{◌∙◌, sym, ap, nat_lt, arith}
+use Rattle.std.proofs.Common.{◌∙◌, ap, nat_lt, arith}
 use Rattle.std.proofs.lemmas.Bool.{ne_eqb}
 use Rattle.fsb_phase.proofs.TimingFacts.{stall-before, stall-even, stall-odd}
 use Rattle.fsb_phase.proofs.timing.is_stall_from.Goals as goal

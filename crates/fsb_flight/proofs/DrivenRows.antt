@@ -1,0 +1,88 @@
+-- Runs, laid out clock by clock: what is due at each clock, after the clocks before it, is what the run has there. All of
+-- it is computed.
+use Rattle.std.proofs.Common.{◌≡◌, refl, ℕ, Bool, true, false, not, cond, ◌&&◌, nat_eq, List, [], ◌∷◌, map, take, length, is_some, Option, Some, None, sym, ap, subst, ◌∙◌}
+use Rattle.std.specs.List.{slice_get}
+use Rattle.std.specs.Option.{option_map}
+use Rattle.std.proofs.lemmas.Option.{slice_get-map}
+use Rattle.fsb_count.specs.Options.{is_some_and, is_before, is_at, greater_of}
+use Rattle.fsb_count.specs.Clocks.{first_where, any_where, count_where, all_where, nth_where, from_clock}
+use Rattle.fsb_signal.specs.declared.lines.TheConstants.Lines.{ADS, TRDY, DBSY, DRDY}
+use Rattle.fsb_signal.specs.Samples.{line_at}
+use Rattle.fsb_encode.specs.declared.request.Kind.TheVariants.{Read}
+use Rattle.fsb_encode.specs.Request.{is_lawful_request, are_lawful_fields, high_bit, den_bit, clocks, row_of, pairs_of}
+use Rattle.fsb_encode.specs.Decoded.{req_words, kind_of, read_off, is_pair, is_coded_as, if_coded_as, request_of}
+use Rattle.fsb_hazard.specs.declared.choice.Choice.{Choice}
+use Rattle.fsb_hazard.specs.Choice.{quiet_choice}
+use Rattle.fsb_trace.specs.declared.who.Who.TheVariants.{Priority}
+use Rattle.fsb_trace.specs.At.{Trace, response_code_at, responds_at, stalls_at, known_pair, known_pair_at, request_at}
+use Rattle.fsb_trace.specs.Requests.{is_cancelled, is_live, live_count, live_clock_of, live_number_of, live_request_of, is_write_back_kind, is_write_back}
+use Rattle.fsb_trace.specs.Snoop.{is_every_second_from, ends_snoop, snoop_end_from, snoop_end_if, start_after_clock, start_after_end, snoop_end_of, snoop_start_of, line_at_snoop_end}
+use Rattle.fsb_trace.specs.Outcome.{does_move, response_code_of, outcome_by_kind, response_clock_of, told_by, outcome_of, moves_data, settled_by, settled_outcome_of}
+use Rattle.fsb_trace.specs.Response.{takes, data_clock_of, end_of, clock_after_snoop, ready_after, ready_clock_of}
+use Rattle.fsb_trace.specs.Flight.{is_dropped, has_ended, is_in_flight, in_flight}
+use Rattle.fsb_trace.proofs.Rows.{two_agents_overlap, store_handed_over_before_arrival, locked_increments, write_back_held_off, stalled_snoop, deferred_and_replied, cancelled_by_address_error}
+use Rattle.fsb_queue.specs.declared.entry.Entry.{Entry}
+use Rattle.fsb_phase.specs.Timing.{is_stall_from, is_ready_from, is_response_from, chunk_from, is_busy_from}
+use Rattle.fsb_phase.specs.Due.{live_of, has_snoop, is_stalled, two_after_snoop, answer_from, awaits_response, has_ready, has_response, response_to_now, moves, chunk_of, keeps_busy}
+use Rattle.fsb_phase.specs.Drive.{code_of, numbered_chunk, drive_of}
+use Rattle.fsb_phase.specs.Flight.{InFlight}
+
+-- the request that begins at q, as an entry with this choice, where these are the effective turns
+abbrev pub entry_at : Choice → List ℕ → Trace → ℕ → Entry
+entry_at choice turns h q = record {
+  number = count_where (line_at ADS h) q;
+  clock = q;
+  who = Priority;
+  request = record { kind = Read; line = 0; chunk = 0; did = 0; den = false };
+  choice = choice;
+  outcome = settled_outcome_of h turns (live_number_of h q);
+}
+
+abbrev pub same_bool : Bool → Bool → Bool
+same_bool a b = cond a b (not b)
+
+-- what is due after the first c clocks is not what clock c has
+abbrev pub misses_after : Choice → List ℕ → Trace → Trace → ℕ → Bool
+misses_after choice turns w h c =
+    let d = drive_of h (map (entry_at choice turns h) (in_flight h (length h))) in
+    not (same_bool d.stall (stalls_at w c) && same_bool d.trdy (line_at TRDY w c) && nat_eq d.rs (response_code_at w c)
+    && same_bool d.dbsy (line_at DBSY w c) && same_bool (is_some d.chunk) (line_at DRDY w c))
+
+abbrev pub misses : Choice → List ℕ → Trace → ℕ → Bool
+misses choice turns w c = misses_after choice turns w (take c w) c
+
+-- the snoop of a stalled request is to be stalled twice
+abbrev pub stalled_twice : Choice
+stalled_twice = record quiet_choice { stall = 2 }
+
+pub rows_driven :
+    (any_where (misses quiet_choice [] two_agents_overlap) 18 ≡ false)
+    × (any_where (misses quiet_choice [] store_handed_over_before_arrival) 20 ≡ false)
+    × (any_where (misses stalled_twice [] stalled_snoop) 18 ≡ false)
+    × (any_where (misses quiet_choice [] cancelled_by_address_error) 20 ≡ false)
+    × (any_where (misses quiet_choice (12 ∷ 1 ∷ 1 ∷ []) deferred_and_replied) 37 ≡ false)
+    × (any_where (misses quiet_choice [] locked_increments) 28 ≡ false)
+    × (any_where (misses quiet_choice [] write_back_held_off) 31 ≡ false)
+    × (misses stalled_twice [] two_agents_overlap 6 ≡ true)
+    × (misses quiet_choice [] deferred_and_replied 8 ≡ true)
+unfolding is_some_and is_before is_at greater_of first_where any_where count_where all_where nth_where from_clock line_at is_lawful_request are_lawful_fields high_bit den_bit clocks row_of pairs_of req_words kind_of read_off is_pair is_coded_as if_coded_as request_of response_code_at responds_at stalls_at known_pair known_pair_at request_at is_cancelled is_live live_count live_clock_of live_number_of live_request_of is_write_back_kind is_write_back is_every_second_from ends_snoop snoop_end_from snoop_end_if start_after_clock start_after_end snoop_end_of snoop_start_of line_at_snoop_end does_move response_code_of outcome_by_kind response_clock_of told_by outcome_of moves_data settled_by settled_outcome_of takes data_clock_of end_of clock_after_snoop ready_after ready_clock_of is_dropped has_ended is_in_flight in_flight is_stall_from is_ready_from is_response_from chunk_from is_busy_from live_of has_snoop is_stalled two_after_snoop answer_from awaits_response has_ready has_response response_to_now moves chunk_of keeps_busy code_of numbered_chunk drive_of
+rows_driven = (refl, refl, refl, refl, refl, refl, refl, refl, refl)
+
+-- for every history there is such a queue, and it holds the requests in flight
+clocks_again : (choice : Choice) (turns : List ℕ) (h : Trace) (qs : List ℕ) → map (λ e. e.clock) (map (entry_at choice turns h) qs) ≡ qs
+clocks_again choice turns h [] = refl
+clocks_again choice turns h (q ∷ qs) = ap (λ rest. q ∷ rest) (clocks_again choice turns h qs)
+
+settled_again : (choice : Choice) (turns : List ℕ) (h : Trace) (o : Option ℕ) (e : Entry) → option_map (entry_at choice turns h) o ≡ Some e → e.outcome ≡ settled_outcome_of h turns (live_of h e)
+unfolding live_of
+settled_again choice turns h None e g = absurd (let none : ⊥ = cc in none)
+settled_again choice turns h (Some q) e g =
+    let same : entry_at choice turns h q ≡ e = cc in
+    subst (λ y. y.outcome ≡ settled_outcome_of h turns (live_number_of h y.clock)) same refl
+
+pub held_by_history : (choice : Choice) (h : Trace) → InFlight (map (entry_at choice [] h) (in_flight h (length h))) [] h
+held_by_history choice h = record {
+  clocks = clocks_again choice [] h (in_flight h (length h));
+  settled = λ k e g. settled_again choice [] h (slice_get (in_flight h (length h)) k) e (sym (slice_get-map (entry_at choice [] h) (in_flight h (length h)) k) ∙ g);
+  kept = λ i t. refl;
+}

@@ -1,0 +1,5 @@
+pub mod QueueStep
+pub mod ListSteps
+pub mod Taken
+pub mod Numbers
+pub mod DrivenRows
