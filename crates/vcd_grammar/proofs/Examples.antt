@@ -11,7 +11,6 @@ use Rattle.vcd_grammar.specs.declared.fault.VcdCause.TheVariants as causes
 use Rattle.vcd_grammar.specs.Tokens.{ended_at, grown_at}
 use Rattle.vcd_grammar.specs.Digits.{number_up_to, time_in, extended}
 use Rattle.vcd_grammar.specs.Words.{header_word, value_word, is_read_past, is_foreign_type}
-
 use Rattle.vcd_grammar.specs.Levels.{level_of, control_of, without}
 use Rattle.vcd_grammar.specs.Values.{sample_at}
 use Rattle.vcd_grammar.specs.Judging.{turn, drafted, declared, closed}

@@ -151,9 +151,11 @@ ended_most at run = by ((length run == 0) || is_long run) refl
   where
     token : List Token
     token = record { place = at - length run; word = run } ∷ []
+
     some : (a b : Bool) → (a || b) ≡ false → a ≡ false
     some true b h = cc
     some false b h = refl
+
     by : (b : Bool) → ((length run == 0) || is_long run) ≡ b → length (cond b [] token) ≤ min (length run) longest
     by true h = omega arith
     by false h = let n = eqb-false (length run) 0 (some (length run == 0) (is_long run) h) in let one : 1 ≤ length run = omega (arith, n) in omega (arith, one)
@@ -165,6 +167,7 @@ byte_most at run b = by (is_white b) refl
   where
     grown : List Token
     grown = record { place = at - longest; word = run ++ b ∷ [] } ∷ []
+
     dark : (t u : Bool) → (length run == longest) ≡ t → is_long run ≡ u → length (cond t grown []) + min (length (cond u run (run ++ b ∷ []))) longest ≤ min (length run) longest + 1
     dark true u h k = let full = eqb-true (length run) longest h in by_long u k full
       where
@@ -173,6 +176,7 @@ byte_most at run b = by (is_white b) refl
         by_long false k full = omega (arith, full, length-append run (b ∷ []))
     dark false true h k = omega arith
     dark false false h k = omega (arith, length-append run (b ∷ []))
+
     by : (w : Bool) → is_white b ≡ w → length (counted at run b) + min (length (run_behind run b)) longest ≤ min (length run) longest + 1
     by true h = rw h (let m = ended_most at run in omega (arith, m))
     by false h = rw h (dark (length run == longest) (is_long run) refl refl)
@@ -187,8 +191,10 @@ bytes_most at run (b ∷ bs) =
 
 -- bytes leave room for what they decide
 pub fits_after : (r : Reading) (bs : List ℕ) → Fits r → Fits (after_bytes r bs)
-fits_after r bs f = record { few =
-    let h = tokens_most r.taken (tokens_from r.at r.run bs) in
-    let k = bytes_most r.at r.run bs in
-    let few = f.few in
-    omega (arith, h, k, few) }
+fits_after r bs f = record {
+  few =
+      let h = tokens_most r.taken (tokens_from r.at r.run bs) in
+      let k = bytes_most r.at r.run bs in
+      let few = f.few in
+      omega (arith, h, k, few);
+}

@@ -45,7 +45,7 @@ all_is s fed h =
 pub end_decided : (s : Scan) (fed : List ℕ) → Scanned s fed → (ended_taken (reading s)).lines.decided ≡ length (samples_before_end fed)
 end_decided s fed h =
     let n : s.machine.decided + length (ended_samples (reading s)) ≡ length (samples_so_far fed ++ ended_samples (reading s)) =
-        omega (arith, scanned_decided s fed h, length-append (samples_so_far fed) (ended_samples (reading s))) in
+    omega (arith, scanned_decided s fed h, length-append (samples_so_far fed) (ended_samples (reading s))) in
     ended_decided (reading s) ∙ n ∙ ap length (sym (before_end_is s fed h))
 
 -- one sample, if the clock rises
@@ -74,6 +74,7 @@ end_stop_is limit before None true x = by (nat_lt limit (length before)) refl
   where
     n : length (before ++ x ∷ []) ≡ length before + 1
     n = length-append before (x ∷ [])
+
     by : (t : Bool) → nat_lt limit (length before) ≡ t
         → (if t then Some stops.TooLong else (if length before == limit then Some stops.TooLong else None)) ≡ (if t then Some stops.TooLong else long_or limit (before ++ x ∷ []) None)
     by true t = refl
@@ -93,6 +94,7 @@ dump_stop_is limit before None true x = ap (λ c. if c then Some stops.TooLong e
   where
     n : length (before ++ x ∷ []) ≡ length before + 1
     n = length-append before (x ∷ [])
+
     by : (t : Bool) → nat_lt limit (length before) ≡ t → (t || (length before == limit)) ≡ nat_lt limit (length before + 1)
     by true t = sym (lt-ltb limit (length before + 1) (omega (arith, ltb-true limit (length before) t)))
     by false t = at_limit (length before) limit t
@@ -211,7 +213,7 @@ scan_appends s text limit decided fault more old new h few f d m k =
     let all : (samples_so_far text ++ ended_samples (reading s)) ++ sample_of_end lines ≡ samples_of text = ap (λ w. w ++ sample_of_end lines) (sym before) ∙ sym (all_is s text h) in
     let base = end_appends limit s.machine.decided (samples_so_far text) (ended_samples (reading s)) (end_fault (reading s)) (rises lines) (sample_at lines.before.levels) old new (scanned_decided s text h) few k in
     let stop : end_stop limit (length (samples_so_far text ++ ended_samples (reading s))) (end_fault (reading s)) (open_rises (end_fault (reading s)) lines) ≡ end_stop limit decided fault more =
-        λ i. end_stop limit (count i) (sym f i) (sym m i) in
+    λ i. end_stop limit (count i) (sym f i) (sym m i) in
     moved limit (samples_so_far text) _ _ _ _ _ _ old new stop (sym before) all base
 
 pub scan_part : (s : Scan) (text : List ℕ) (limit : ℕ) (old new : List Sample) → Scanned s text → length (samples_so_far text) ≤ limit
@@ -248,13 +250,14 @@ dump_read start s text limit none to new begun empty h k l lawful =
     let room : limit - 0 ≡ limit = omega arith in
     let fault : end_fault (reading s) ≡ None = end_fault_is s text h ∙ found.0 in
     let all : so_far ++ last ≡ samples_of text =
-        ap (λ f. so_far ++ (ended_samples (reading s) ++ open_samples f lines)) fault
-        ∙ sym (append_assoc so_far (ended_samples (reading s)) (sample_of_end lines))
-        ∙ ap (λ w. w ++ sample_of_end lines) (sym (before_end_is s text h))
-        ∙ sym (all_is s text h) in
-    (found.0,
-    l ∙ (λ i. pushed limit (count i) (to_is i) last)
-    ∙ sym (pushed-append limit 0 [] so_far last)
-    ∙ pushed-is limit 0 [] (so_far ++ last)
-    ∙ (λ i. take (room i) (all i))
-    ∙ take_all limit (samples_of text) found.1)
+    ap (λ f. so_far ++ (ended_samples (reading s) ++ open_samples f lines)) fault
+    ∙ sym (append_assoc so_far (ended_samples (reading s)) (sample_of_end lines))
+    ∙ ap (λ w. w ++ sample_of_end lines) (sym (before_end_is s text h))
+    ∙ sym (all_is s text h) in (
+      found.0,
+      l ∙ (λ i. pushed limit (count i) (to_is i) last)
+          ∙ sym (pushed-append limit 0 [] so_far last)
+          ∙ pushed-is limit 0 [] (so_far ++ last)
+          ∙ (λ i. take (room i) (all i))
+          ∙ take_all limit (samples_of text) found.1,
+    )

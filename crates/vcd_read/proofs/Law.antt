@@ -89,7 +89,7 @@ ended_law v block decided (Later ∷ es) some =
 ended_law v block decided (Changed change ∷ es) some =
     ended_law v (block ++ change ∷ []) decided es some
     ∙ decided_any (in_block v (block ++ change ∷ []) decided) (after_event (in_block v block decided) (Changed change)) es refl
-      (ap kept (behind-more v block change) ∙ sym (lines_kept (values_behind v block) change.lines change.digits (block_some v block some)))
+    (ap kept (behind-more v block change) ∙ sym (lines_kept (values_behind v block) change.lines change.digits (block_some v block some)))
 
 -- at the end of a block nothing but the values before it and in it counts
 end_any : (l m : Lines) → l.before ≡ m.before → l.now ≡ m.now → sample_of_end l ≡ sample_of_end m

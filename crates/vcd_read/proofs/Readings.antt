@@ -29,7 +29,7 @@ pub after-append : (r : Reading) (xs ys : List ℕ) → after_bytes r (xs ++ ys)
 after-append r xs ys =
     let at : r.at + length (xs ++ ys) ≡ r.at + length xs + length ys = omega (arith, length-append xs ys) in
     let tokens : take_tokens r.taken (tokens_from r.at r.run (xs ++ ys)) ≡ take_tokens (take_tokens r.taken (tokens_from r.at r.run xs)) (tokens_from (r.at + length xs) (open_from r.run xs) ys) =
-        ap (take_tokens r.taken) (tokens-append r.at r.run xs ys) ∙ take_tokens-append r.taken (tokens_from r.at r.run xs) (tokens_from (r.at + length xs) (open_from r.run xs) ys) in
+    ap (take_tokens r.taken) (tokens-append r.at r.run xs ys) ∙ take_tokens-append r.taken (tokens_from r.at r.run xs) (tokens_from (r.at + length xs) (open_from r.run xs) ys) in
     let open_run : open_from r.run (xs ++ ys) ≡ open_from (open_from r.run xs) ys = open-append r.run xs ys in
     λ i. record { taken = tokens i; at = at i; run = open_run i }
 

@@ -85,9 +85,9 @@ appends_some limit decided before more old new is few p =
       rest = take (room - length p.first) p.rest;
       appended = p.appended ∙ pushed-is limit decided old p.first ∙ ap (λ n. old ++ take (limit - n) p.first) is;
       partial =
-        append_assoc before (take room p.first) (take (room - length p.first) p.rest)
-        ∙ ap (λ w. before ++ w) (sym (take_both room p.first p.rest) ∙ ap (take room) p.split)
-        ∙ sym (take_behind limit before more few);
+          append_assoc before (take room p.first) (take (room - length p.first) p.rest)
+          ∙ ap (λ w. before ++ w) (sym (take_both room p.first p.rest) ∙ ap (take room) p.split)
+          ∙ sym (take_behind limit before more few);
     }
 
 -- further bytes that a reader took

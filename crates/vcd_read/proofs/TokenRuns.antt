@@ -103,8 +103,10 @@ over_open run (b ∷ bs) dark short over = by (length run == longest) refl (λ l
   where
     w : is_white b ≡ false
     w = dark_first b bs dark
+
     e : run_behind run b ≡ run ++ b ∷ []
     e = grows run b w (le-ltb longest (length run) short)
+
     by : (t : Bool) → (length run == longest) ≡ t → (length run < longest → open_from (run ++ b ∷ []) bs ≡ taken_by (run ++ b ∷ []) bs) → open_from run (b ∷ bs) ≡ taken_by run (b ∷ bs)
     by true t rest =
         let full = eqb-true (length run) longest t in
@@ -121,10 +123,13 @@ over_tokens at run (b ∷ bs) dark short over within =
   where
     w : is_white b ≡ false
     w = dark_first b bs dark
+
     e : run_behind run b ≡ run ++ b ∷ []
     e = grows run b w (le-ltb longest (length run) short)
+
     full_counted : length run ≡ longest → counted at run b ≡ record { place = at - length run; word = run ++ b ∷ [] } ∷ []
     full_counted = full_counts at run b w
+
     by : (t : Bool) → (length run == longest) ≡ t
         → (length run < longest → tokens_from (at + 1) (run ++ b ∷ []) bs ≡ record { place = at + 1 - length (run ++ b ∷ []); word = taken_by (run ++ b ∷ []) bs } ∷ [])
         → tokens_from at run (b ∷ bs) ≡ record { place = at - length run; word = taken_by run (b ∷ bs) } ∷ []

@@ -53,12 +53,7 @@ impl Scan {
     }
 
     /// The bytes up to the first white space and that byte too, or all bytes where there is none. Tells how many.
-    fn span(
-        &mut self,
-        bytes: &[u8],
-        limit: u32,
-        to: &mut Vec<Sample>,
-    ) -> Result<usize, AllocError>
+    fn span(&mut self, bytes: &[u8], limit: u32, to: &mut Vec<Sample>) -> Result<usize, AllocError>
         requires some { 0 < length bytes.now }
         requires room { self.old.at + length bytes.now < 2 ^ 64 }
         requires fits { Fits (reading self.old) }

@@ -25,7 +25,7 @@ pub returns-in-None-clause-trace : goal.returns-in-None-clause-trace
 returns-in-None-clause-trace c =
     let h : Scanned c.absorb.new.self c.args.bytes.now = scanned_more c.in-Ok.scan c.absorb.new.self [] c.args.bytes.now (reading_scanned c.in-Ok.scan [] c.in-Ok.ensures) c.in-Ok-absorb.ensures.state in
     let lawful : stop_of_dump 200000 c.args.bytes.now ≡ None =
-        sym (scan_dump_is c.absorb.new.self c.args.bytes.now 200000 _ _ c.in-Ok-finish.more h c.in-Ok-finish.ensures.fault c.in-Ok-finish.ensures.decided c.in-Ok-finish.ensures.rises) ∙ sym c.refusal.ensures ∙ c.in-None.is in
+    sym (scan_dump_is c.absorb.new.self c.args.bytes.now 200000 _ _ c.in-Ok-finish.more h c.in-Ok-finish.ensures.fault c.in-Ok-finish.ensures.decided c.in-Ok-finish.ensures.rises) ∙ sym c.refusal.ensures ∙ c.in-None.is in
     dump_read c.in-Ok.scan c.absorb.new.self c.args.bytes.now 200000 c.new-samples.result.items c.absorb.new.to.items c.finish.new.to.items c.in-Ok.ensures c.new-samples.ensures.items h c.in-Ok-absorb.ensures.samples c.in-Ok-finish.ensures.samples lawful
 
 pub returns-clause-answer : goal.returns-clause-answer

@@ -1,4 +1,4 @@
-use Rattle.std.proofs.Common.{List, [], ◌++◌}
+use Rattle.std.proofs.Common.{[]}
 use Rattle.vcd_texts.proofs.tests.samples_come_with_the_next_time.Goals as goal
 
 -- the reader stands for all that was fed

@@ -10,7 +10,7 @@ after c =
     let code = c.args.code.now in
     let key : c.in_ok-key.key.items ≡ code = c.in_ok-key.ensures in
     let lines : c.in_ok-lines.lines.items ≡ lines_or_none (lines_of (codes_of c.self.inside.all.entries) c.in_ok-key.key.items) ++ c.args.line.now =
-        c.in_ok-lines.ensures ∙ (λ i. lines_or_none (lines_of (sym c.self.view_is i) (sym key i)) ++ c.args.line.now) in
+    c.in_ok-lines.ensures ∙ (λ i. lines_or_none (lines_of (sym c.self.view_is i) (sym key i)) ++ c.args.line.now) in
     ap codes_of c.in_ok-insert.ensures.entries
     ∙ inserted _ c.in_ok-key.key c.in_ok-lines.lines c.args.line.now c.self.inside.all.entries (λ k. refl) lines
     ∙ (λ i. with_code (c.self.view_is i) (key i) c.args.line.now)

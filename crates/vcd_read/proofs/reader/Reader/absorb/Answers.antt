@@ -13,8 +13,8 @@ returns-in-Ok-clause-works c =
     let r = c.args.self.now in
     let s = c.absorb.new.self in
     ok_of c.answer.result _ c.answer.ensures (λ none fed w.
-        let more : Scanned s (fed ++ c.args.piece.now) = scanned_more r.scan s fed c.args.piece.now w.scanned c.in-Ok.ensures.state in
-        record { scanned = more; few = few_where_none r.limit s (fed ++ c.args.piece.now) more none })
+    let more : Scanned s (fed ++ c.args.piece.now) = scanned_more r.scan s fed c.args.piece.now w.scanned c.in-Ok.ensures.state in
+    record { scanned = more; few = few_where_none r.limit s (fed ++ c.args.piece.now) more none })
 
 pub returns-in-Ok-clause-answer : goal.returns-in-Ok-clause-answer
 returns-in-Ok-clause-answer c = λ fed w.
