@@ -1,13 +1,13 @@
 -- What a judge stands for behind a piece, and at the end.
-use Rattle.std.proofs.Common.{◌≡◌, ◌≤◌, ◌<◌, ◌+◌, ◌-◌, ◌++◌, [], ℕ, List, false, true, nat_lt, Option, Some, None, Result, Ok, Err, length, take, refl, sym, ap, subst, ◌∙◌, ◌^◌, inl, inr, arith}
+use Rattle.std.proofs.Common.{◌≡◌, ◌≤◌, ◌+◌, ◌-◌, ◌++◌, [], ℕ, List, nat_lt, Option, Some, None, Result, Ok, Err, length, take, refl, sym, ap, subst, ◌∙◌, ◌^◌, inl, inr, arith}
 use Rattle.std.proofs.lemmas.Bool.{cases_Bool, ltb-false}
 use Rattle.std.proofs.lemmas.List.{length-append, take_all}
 use Rattle.fsb_signal.specs.declared.sample.Sample.{Sample}
 use Rattle.vcd_grammar.specs.declared.fault.VcdFault.{VcdFault}
-use Rattle.vcd_grammar.specs.Reading.{first_fault, fault_so_far, samples_so_far, samples_before_end, samples_of}
+use Rattle.vcd_grammar.specs.Reading.{first_fault, samples_so_far, samples_of}
 use Rattle.vcd_read.specs.declared.stop.VcdStop.{VcdStop}
 use Rattle.vcd_read.specs.declared.stop.VcdStop.TheVariants as stops
-use Rattle.vcd_read.specs.Answers.{Answers, AppendsUpTo, stop_so_far, stop_at_end, fault_or}
+use Rattle.vcd_read.specs.Answers.{Answers, AppendsUpTo, stop_so_far, stop_at_end}
 use Rattle.fsb_check.specs.Found.{IsBad, HasManySamples}
 use Rattle.fsb_check.proofs.Refusals.{refusal-stays, refusal-at_end, at_end-few, at_end-accepts, at_end-refuses}
 

@@ -1,13 +1,11 @@
 -- More bytes of a text: its tokens, its first fault, and the samples that are decided.
-use Rattle.std.proofs.Common.{◌≡◌, ◌≤◌, ◌<◌, ◌+◌, ◌-◌, ◌++◌, ◌∷◌, [], ℕ, List, Bool, true, false, Option, Some, None, length, take, is_some, refl, sym, ap, ◌∙◌, arith, suc}
+use Rattle.std.proofs.Common.{◌≡◌, ◌≤◌, ◌+◌, ◌-◌, ◌++◌, ◌∷◌, [], ℕ, List, true, length, is_some, refl, sym, ap, ◌∙◌, arith, suc}
 use Rattle.std.proofs.lemmas.List.{append_assoc, append-nil, length-append}
 use Rattle.fsb_signal.specs.declared.sample.Sample.{Sample}
-use Rattle.vcd_grammar.specs.declared.fault.VcdFault.{VcdFault}
 use Rattle.vcd_grammar.specs.Tokens.{Token, tokens_from, open_from, run_behind, counted, tokens_so_far, tokens_of, ended_at, open_run}
 use Rattle.vcd_grammar.specs.Blocks.{Block, Event, Later, Changed, blocks_from, blocks_of, ended}
 use Rattle.vcd_grammar.specs.Judging.{Known, nothing, Turn, turn, behind, events_in}
 use Rattle.vcd_grammar.specs.Values.{at_first, samples_in, values_behind, sample_of_block, Values}
-use Rattle.vcd_grammar.specs.Reading.{first_fault, fault_so_far, samples_so_far, samples_before_end, or_cut}
 
 -- ---- tokens of appended bytes
 

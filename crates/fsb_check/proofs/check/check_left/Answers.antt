@@ -1,7 +1,6 @@
-use Rattle.std.proofs.Common.{◌≡◌, ◌≤◌, ◌∙◌, ◌^◌, ◌++◌, ◌+◌, ℕ, List, IsTrue, length, sym, subst, ap, refl, arith}
-use Rattle.fsb_check.specs.Judging.{Stood, HasTaken, Ends}
-use Rattle.fsb_check.specs.Found.{IsChecked}
-use Rattle.fsb_check.proofs.Checked.{checked_whole, checked_not, checked_past, taken_all, taken_more, checked_end, no_read_fault}
+use Rattle.std.proofs.Common.{◌≡◌, ◌∙◌, ◌++◌, ◌+◌, refl, arith}
+use Rattle.fsb_check.specs.Judging.{Stood, HasTaken}
+use Rattle.fsb_check.proofs.Checked.{checked_not, checked_past, taken_all, taken_more, checked_end, no_read_fault}
 use Rattle.std.proofs.lemmas.List.{length-append, length-take}
 use Rattle.fsb_check.proofs.check.check_left.Goals as goal
 

@@ -1,4 +1,3 @@
-use Rattle.std.proofs.Common.{refl, sym}
 use Rattle.vcd_grammar.specs.Reading.{samples_so_far, fault_so_far}
 use Rattle.vcd_read.specs.Answers.{stop_so_far}
 use Rattle.fsb_check.proofs.judge.Judge.new.Goals as goal

@@ -1,8 +1,7 @@
-use Rattle.std.proofs.Common.{◌≡◌, ◌∙◌, ◌++◌, ◌-◌, ◌^◌, Some, None, sym, ap, subst, refl, arith, ℕ, List}
+use Rattle.std.proofs.Common.{◌≡◌, ◌∙◌, ◌++◌, None, sym, ap, subst, refl, arith, ℕ, List}
 use Rattle.fsb_signal.specs.declared.sample.Sample.{Sample}
 use Rattle.vcd_grammar.specs.Reading.{samples_so_far}
 use Rattle.vcd_read.specs.Standing.{refusal_of}
-use Rattle.vcd_read.specs.Answers.{stop_so_far}
 use Rattle.fsb_check.specs.Judging.{HasJudged, Stood}
 use Rattle.fsb_check.proofs.JudgeSteps.{not_refused, Took, took, refused_now, refused_same, answers_bad, answers_long, not_both}
 use Rattle.fsb_check.proofs.judge.Judge.take.Goals as goal
