@@ -1,4 +1,7 @@
 //! Dumps that are checked.
+ghost use Rattle.std.specs.Prelude.{IsTrue};
+ghost use Rattle.fsb_signal.specs.Samples.{is_known};
+
 use super::dumps::{
     FALLING, FALLING_VERILATOR, SAME_TIME, SCOPES, SIMULATOR_HEAD, SIMULATOR_RISES,
     UNKNOWN_AFTER_FALL, UNKNOWN_AFTER_RISE,
@@ -71,7 +74,10 @@ const NINE_READS: [Clock; 27] = [
 ];
 
 /// The sample of a clock.
-fn sample((lines, req, addr): Clock) -> Sample {
+fn sample(clock: Clock) -> Sample
+    ensures { IsTrue (is_known result) }
+{
+    let (lines, req, addr) = clock;
     Sample {
         lines: Lines(lines % (1 << 18)),
         unknown: Lines(0),
@@ -88,7 +94,9 @@ fn written(alloc: Global, clocks: &[Clock]) -> Result<MemSink, Memory> {
         samples.push(sample(clock))?;
     }
     let mut sink = MemSink::new(alloc, 10_000, &[])?;
-    let _ = put_dump(&mut sink, &samples);
+    if samples.len() <= 200_000 {
+        let _ = put_dump(&mut sink, &samples);
+    }
     Ok(sink)
 }
 

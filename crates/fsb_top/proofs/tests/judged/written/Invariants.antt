@@ -1,0 +1,7 @@
+use Rattle.std.proofs.Common.{IsTrue}
+use Rattle.fsb_signal.specs.Samples.{is_known_trace}
+use Rattle.fsb_top.proofs.tests.judged.written.Given as goal
+
+-- no bit of the samples so far is unknown
+abbrev pub invariant-loop-clock : goal.invariant-loop-clock
+invariant-loop-clock l = IsTrue (is_known_trace l.samples.items)
