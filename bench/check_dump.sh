@@ -9,6 +9,8 @@ folder=$(mktemp -d)
 trap 'rm -rf "$folder"' EXIT
 python3 - "$program" "$folder" "$megabytes" <<'PY'
 import os, subprocess, sys, time
+sys.path.insert(0, "bench")
+from memory import most_memory
 program, folder, size = sys.argv[1], sys.argv[2], int(sys.argv[3]) * 1_000_000
 bench, run, large, small = (os.path.join(folder, name) for name in ("run.bench", "run.vcd", "large.vcd", "small.vcd"))
 
@@ -39,12 +41,11 @@ open(small, "w").write(header)
 
 def timed(path):
     begin = time.perf_counter()
-    child = subprocess.Popen([program, "check", path], stdout=subprocess.PIPE)
-    said = child.stdout.read().decode().strip()
-    _, status, used = os.wait4(child.pid, 0)
-    return time.perf_counter() - begin, os.waitstatus_to_exitcode(status), said, used.ru_maxrss / 1024
+    done = subprocess.run([program, "check", path], stdout=subprocess.PIPE)
+    return time.perf_counter() - begin, done.returncode, done.stdout.decode().strip()
 
-_, status, said, memory = timed(large)
+_, status, said = timed(large)
+memory = most_memory([program, "check", large])
 assert status in (0, 1), f"`check` ends with status {status}"
 best = min(timed(large)[0] for _ in range(5)) - min(timed(small)[0] for _ in range(5))
 bytes_read = os.path.getsize(large)

@@ -20,7 +20,9 @@ open(sys.argv[1], "w").write(head + "".join(mem) + "agent 0\n" + loads + "end\nb
 open(sys.argv[2], "w").write(head + "agent 0\nend\nbad\n")
 PY
 python3 - "$program" "$folder/large.bench" "$folder/small.bench" <<'PY'
-import os, resource, subprocess, sys, time
+import os, subprocess, sys, time
+sys.path.insert(0, "bench")
+from memory import most_memory
 program, large, small = sys.argv[1:]
 def best(path):
     times = []
@@ -33,5 +35,5 @@ def best(path):
 size = os.path.getsize(large)
 took = best(large) - best(small)
 print(f"{size} bytes in {took * 1000:.1f} ms: {size / took / 1e6:.0f} MB/s")
-print(f"most memory: {resource.getrusage(resource.RUSAGE_CHILDREN).ru_maxrss / 1024:.0f} MiB")
+print(f"most memory: {most_memory([program, 'run', large]):.1f} MiB")
 PY

@@ -7,7 +7,9 @@ program=${1:-crates/p6bench/out/p6bench}
 folder=$(mktemp -d)
 trap 'rm -rf "$folder"' EXIT
 python3 - "$program" "$folder" <<'PY'
-import os, resource, subprocess, sys, time
+import os, subprocess, sys, time
+sys.path.insert(0, "bench")
+from memory import most_memory
 program, folder = sys.argv[1:]
 bench = os.path.join(folder, "long.bench")
 dump = os.path.join(folder, "long.vcd")
@@ -29,5 +31,5 @@ both = best(dump)
 size = os.path.getsize(dump)
 print(f"run, 4,096 accesses over 200,000 clocks: {log * 1000:.0f} ms")
 print(f"the same with a dump of {size} bytes ({size / 200000:.1f} a clock): {both * 1000:.0f} ms")
-print(f"most memory: {resource.getrusage(resource.RUSAGE_CHILDREN).ru_maxrss / 1024:.0f} MiB")
+print(f"most memory: {most_memory([program, 'run', bench, dump]):.1f} MiB")
 PY

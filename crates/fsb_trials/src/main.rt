@@ -1,7 +1,7 @@
 //! Random waveforms, judged twice: by the checker, sample by sample, and by the plain judge of whole traces.
 //!
-//! `fsb_trials <seed> <count>` makes so many waveforms from the seed and prints how many were accepted, which rules the
-//! others broke, and how many were judged differently, which is to be none.
+//! `fsb_trials <seed> <count>` makes so many waveforms from the seed and prints how many were judged differently, which is
+//! to be none. With a further word it also prints how many were accepted and which rules the others broke first.
 #![tactic(auto)]
 
 ghost use Rattle.std.specs.Prelude.{◌<◌, ◌^◌, length};
@@ -12,15 +12,15 @@ use fsb_signal::Sample;
 use fsb_trace::verdict;
 use std::alloc::{AllocError, Global};
 use std::rt::Env;
-use waveform::waveform;
+use waveform::{spoil, waveform};
 
 mod draws;
 mod waveform;
 
 fn main(rt: HostRuntime) {
-    let (seed, count) = numbers(&rt);
-    match trials(rt.alloc(), seed, count) {
-        Ok(tally) => report(&rt, seed, count, &tally),
+    let asked = read_words(&rt);
+    match trials(rt.alloc(), asked.seed, asked.count) {
+        Ok(tally) => report(&rt, asked, &tally),
         Err(_) => {
             let _ = println!(rt; "out of memory");
         }
@@ -36,22 +36,33 @@ struct Tally {
     differ: u32,
 }
 
-/// The seed and the count that the words name: 1 and 100 where they name none.
-fn numbers(rt: &(impl Env + AllocGlobal)) -> (u64, u32) {
-    let Ok(args) = std::env::args(rt) else {
-        return (1, 100);
+/// What the words ask for.
+#[derive(Clone, Copy)]
+struct Asked {
+    seed: u64,
+    count: u32,
+    by_rule: bool,
+}
+
+/// What the words ask for: seed 1 and 100 waveforms where they name none.
+fn read_words(rt: &(impl Env + AllocGlobal)) -> Asked {
+    let mut asked = Asked {
+        seed: 1,
+        count: 100,
+        by_rule: false,
     };
-    let mut seed = 1;
-    let mut count = 100;
+    let Ok(args) = std::env::args(rt) else {
+        return asked;
+    };
     for (i, word) in args.enumerate() {
-        if i == 1 {
-            seed = word.as_str().parse().unwrap_or(1);
-        }
-        if i == 2 {
-            count = word.as_str().parse().unwrap_or(100);
+        match i {
+            1 => asked.seed = word.as_str().parse().unwrap_or(1),
+            2 => asked.count = word.as_str().parse().unwrap_or(100),
+            3 => asked.by_rule = true,
+            _ => {}
         }
     }
-    (seed, count)
+    asked
 }
 
 /// Judges so many waveforms.
@@ -63,7 +74,8 @@ fn trials(alloc: Global, seed: u64, count: u32) -> Result<Tally, AllocError> {
         differ: 0,
     };
     for _ in 0..count {
-        let w = waveform(alloc, &mut draws)?;
+        let mut w = waveform(alloc, &mut draws)?;
+        spoil(&mut draws, &mut w);
         tally.count(verdict(&w), checked(&w));
     }
     Ok(tally)
@@ -99,12 +111,15 @@ impl Tally {
 }
 
 /// Prints what became of the waveforms.
-fn report(rt: &HostRuntime, seed: u64, count: u32, tally: &Tally) {
+fn report(rt: &HostRuntime, asked: Asked, tally: &Tally) {
+    let Asked { seed, count, .. } = asked;
     let _ = println!(rt; "{count} waveforms from seed {seed}");
-    let _ = println!(rt; "accepted: {}", tally.accepted);
-    for (rule, count) in tally.broken.iter().enumerate() {
-        if *count > 0 {
-            let _ = println!(rt; "rule {rule}: {count}");
+    if asked.by_rule {
+        let _ = println!(rt; "accepted: {}", tally.accepted);
+        for (rule, count) in tally.broken.iter().enumerate() {
+            if *count > 0 {
+                let _ = println!(rt; "rule {rule}: {count}");
+            }
         }
     }
     let _ = println!(rt; "judged differently: {}", tally.differ);

@@ -1,5 +1,5 @@
 //! Waveforms that keep the rules for a while.
-ghost use Rattle.std.specs.Prelude.{◌+◌, ◌≤◌, ◌<◌, ◌^◌, IfOk, length, vec_len};
+ghost use Rattle.std.specs.Prelude.{◌≡◌, ◌+◌, ◌≤◌, ◌<◌, ◌^◌, IfOk, length, vec_len};
 
 use crate::draws::Draws;
 use fsb_rules::Checker;
@@ -75,6 +75,27 @@ pub fn waveform(alloc: Global, draws: &mut Draws) -> Result<Vec<Sample>, AllocEr
         }
     }
     Ok(w)
+}
+
+/// Three times out of four, turns one control line over at one clock, or draws that clock anew.
+pub fn spoil(draws: &mut Draws, w: &mut [Sample])
+    requires { length w.old ≤ 140 }
+    ensures { length w.new ≡ length w.old }
+{
+    let at = draws.below(w.len() as u32) as usize;
+    let line = 1 << (draws.below(18) % 18);
+    let drawn = sample(clock(draws, 0));
+    let kind = draws.below(4);
+    if let Some(spoiled) = w.get_mut(at) {
+        match kind {
+            0 => {}
+            1 => *spoiled = drawn,
+            _ => {
+                let before = (spoiled.lines.0, spoiled.req.bits, spoiled.addr.bits);
+                *spoiled = sample((before.0 ^ line, before.1, before.2));
+            }
+        }
+    }
 }
 
 /// The control lines, the REQ word and the address word of a clock.

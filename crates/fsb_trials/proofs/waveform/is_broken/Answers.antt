@@ -1,0 +1,12 @@
+use Rattle.std.proofs.Common.{◌++◌, ◌∷◌, [], take, arith}
+use Rattle.std.proofs.lemmas.List.{length-append, length-take}
+use Rattle.fsb_trials.proofs.waveform.is_broken.Goals as goal
+
+pub feed-requires-in-Some : goal.feed-requires-in-Some
+feed-requires-in-Some c = (
+  take c.loop-sample.sample-index c.args.w.now ++ c.sample.result ∷ [],
+  c.feed-found.ensures.stands (take c.loop-sample.sample-index c.args.w.now) c.loop-sample.invariant,
+  (let size = length-append (take c.loop-sample.sample-index c.args.w.now) (c.sample.result ∷ []) in
+      let some = length-take c.loop-sample.sample-index c.args.w.now in
+      omega (arith, c.requires)),
+)
