@@ -368,6 +368,35 @@ fn samples_come_with_the_next_time(rt: HostRuntime) -> Result<(), Fail> {
     Ok(())
 }
 
+/// The samples of a text that is fed in two pieces, of which the first has so many bytes at most.
+fn in_two(alloc: Global, bytes: &[u8], first: usize) -> Result<Vec<Sample>, VcdStop> {
+    let mut reader = match Reader::new(alloc) {
+        Ok(reader) => reader,
+        Err(_) => return Err(VcdStop::Memory),
+    };
+    let mut samples = Vec::new(alloc);
+    let first = bytes.len().min(first);
+    reader.feed(&bytes[..first], &mut samples)?;
+    reader.feed(&bytes[first..], &mut samples)?;
+    reader.finish(&mut samples)?;
+    Ok(samples)
+}
+
+/// Wherever a dump is cut in two, it is the same trace.
+#[test]
+fn cut_in_two_at_every_byte(rt: HostRuntime) -> Result<(), Fail> {
+    for (rises, expected) in SIMULATOR_ENDS.iter() {
+        let bytes = joined(rt.alloc(), &[SIMULATOR_HEAD, SIMULATOR_START, rises])?;
+        for first in 0..bytes.len() {
+            match in_two(rt.alloc(), &bytes, first) {
+                Ok(samples) => assert!(rt; are_as_said(&samples, expected), "{first}"),
+                Err(_) => assert!(rt; false, "{first}"),
+            }
+        }
+    }
+    Ok(())
+}
+
 /// As long as the declarations have not ended, what is missing is the rest of them.
 #[test]
 fn declarations_cut_at_every_byte(rt: HostRuntime) {
