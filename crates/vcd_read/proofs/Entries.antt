@@ -1,5 +1,5 @@
 -- Entries of a list, found at their places.
-use Rattle.std.proofs.Common.{◌≡◌, ℕ, ◌+◌, ◌≤◌, List, [], ◌∷◌, length, drop, take, Option, Some, slice_get, ap, sym, ◌∙◌, arith, add-one, suc, zero, not, ◌&&◌, true, false, Bool, get_or, ◌<◌}
+use Rattle.std.proofs.Common.{◌≡◌, ℕ, ◌+◌, ◌≤◌, List, [], ◌∷◌, length, drop, take, Option, Some, slice_get, ap, sym, ◌∙◌, add-one, suc, zero, not, ◌&&◌, true, false, Bool, get_or, ◌<◌}
 use Rattle.std.proofs.lemmas.List.{take_all}
 use Rattle.std.proofs.lemmas.Option.{slice_get-get_or}
 use Rattle.fsb_signal.specs.Table.{Entry, table, needed}
@@ -15,8 +15,8 @@ pub drop_found : {X : Type 0} (xs : List X) (n : ℕ) (x : X) → slice_get xs n
 drop_found xs n x h = drop-suc xs n x h ∙ ap (λ m. x ∷ drop m xs) (sym (add-one n))
 
 -- all of a list that is no longer than a limit
-pub take_up_to : {X : Type 0} (xs : List X) (n limit : ℕ) → length xs ≤ n → n ≤ limit → take n xs ≡ take limit xs
-take_up_to xs n limit h k = take_all n xs h ∙ sym (take_all limit xs (omega (arith, h, k)))
+pub take_short : {X : Type 0} (xs : List X) (limit : ℕ) → length xs ≤ limit → xs ≡ take limit xs
+take_short xs limit h = sym (take_all limit xs h)
 
 -- an entry of the table
 entry : ℕ → Entry

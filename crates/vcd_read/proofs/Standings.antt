@@ -5,13 +5,13 @@ use Rattle.std.proofs.lemmas.Bool.{ltb-false}
 use Rattle.std.proofs.lemmas.List.{append-nil, take_all}
 use Rattle.fsb_signal.specs.declared.sample.Sample.{Sample}
 use Rattle.vcd_grammar.specs.Reading.{samples_so_far, fault_so_far}
+use Rattle.vcd_grammar.specs.declared.fault.VcdFault.{VcdFault}
 use Rattle.vcd_read.specs.declared.scan.Scan.{Scan}
-use Rattle.vcd_read.specs.declared.reader.Reader.{Reader}
 use Rattle.vcd_read.specs.declared.stop.VcdStop.{VcdStop}
 use Rattle.vcd_read.specs.declared.stop.VcdStop.TheVariants as stops
 use Rattle.vcd_read.specs.Taking.{pushed}
 use Rattle.vcd_read.specs.Scanning.{Reading, reading, unread, after_bytes, samples_in_bytes, Fits, Part}
-use Rattle.vcd_read.specs.Standing.{Scanned, Works}
+use Rattle.vcd_read.specs.Standing.{Scanned}
 use Rattle.vcd_read.specs.Answers.{fault_or, stop_so_far, Answers, AppendsUpTo, AppendsPart, AppendsBy, result_of}
 use Rattle.vcd_read.proofs.Readings.{pushed-is, behind_taken, behind_samples, behind_decided, behind_fits}
 use Rattle.vcd_read.proofs.Law.{samples_so_far_law, fault_so_far_law}
@@ -90,10 +90,6 @@ appends_some limit decided before more old new is few p =
           ∙ sym (take_behind limit before more few);
     }
 
--- further bytes that a reader took
-pub works_more : (r q : Reader) (fed piece : List ℕ) → Works r fed → q.limit ≡ r.limit → reading q.scan ≡ after_bytes (reading r.scan) piece → length (samples_so_far (fed ++ piece)) ≤ q.limit → Works q (fed ++ piece)
-works_more r q fed piece w same h few = record { scanned = scanned_more r.scan q.scan fed piece w.scanned h; few = few }
-
 -- what a refusal or none gives is that refusal or none
 pub answers_of : (stop : Option VcdStop) → Answers (result_of stop) stop
 answers_of None = refl
@@ -123,6 +119,15 @@ few_where_none limit s fed h none = by (nat_lt limit s.machine.decided) refl
     by : (b : Bool) → nat_lt limit s.machine.decided ≡ b → length (samples_so_far fed) ≤ limit
     by true t = absurd cc
     by false t = omega (arith, ltb-false limit s.machine.decided t, scanned_decided s fed h)
+
+-- where nothing is refused, there is no fault
+pub faultless_where_none : (limit : ℕ) (s : Scan) (fed : List ℕ) → Scanned s fed → (if nat_lt limit s.machine.decided then Some stops.TooLong else fault_or s.machine.fault None) ≡ None → fault_so_far fed ≡ None
+faultless_where_none limit s fed h none = sym (scanned_fault s fed h) ∙ by (nat_lt limit s.machine.decided) s.machine.fault none
+  where
+    by : (b : Bool) (fault : Option VcdFault) → (if b then Some stops.TooLong else fault_or fault None) ≡ None → fault ≡ None
+    by true fault t = absurd cc
+    by false None t = refl
+    by false (Some fault) t = absurd cc
 
 -- the samples that further bytes decide were appended
 pub fed_appends : (limit : ℕ) (s : Scan) (fed piece : List ℕ) (old new : List Sample) → Scanned s fed → length (samples_so_far fed) ≤ limit

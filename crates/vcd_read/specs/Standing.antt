@@ -1,7 +1,7 @@
 -- What a reader stands for.
 use Rattle.std.specs.Prelude.{◌≡◌, ℕ, ◌≤◌, List, length, Option, None}
 use Rattle.vcd_grammar.specs.Tokens.{tokens_so_far, open_run}
-use Rattle.vcd_grammar.specs.Reading.{samples_so_far}
+use Rattle.vcd_grammar.specs.Reading.{samples_so_far, fault_so_far}
 use Rattle.vcd_read.specs.declared.reader.Reader.{Reader}
 use Rattle.vcd_read.specs.declared.scan.Scan.{Scan}
 use Rattle.vcd_read.specs.declared.stop.VcdStop.{VcdStop}
@@ -21,9 +21,11 @@ pub record Scanned (s : Scan) (fed : List ℕ) : Type 0 where
   pub at : s.at ≡ length fed
   pub run : s.run.items ≡ open_run fed
 
--- a reader that was fed these bytes and has refused nothing: its limit was not passed and the tokens that count show no fault
+-- a reader that was fed these bytes and has refused nothing: the tokens that count show no fault, and no more samples than
+-- its limit were decided
 pub record Works (r : Reader) (fed : List ℕ) : Type 0 where
   pub scanned : Scanned r.scan fed
+  pub faultless : fault_so_far fed ≡ None
   pub few : length (samples_so_far fed) ≤ r.limit
 
 -- the reader stands for the bytes that it was fed; once it has refused, for any

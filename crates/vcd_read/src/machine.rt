@@ -1,4 +1,4 @@
-ghost use Rattle.std.specs.Prelude.{◌≡◌, ℕ, ◌==◌, ◌&&◌, not, slice_get, ◌<◌, ◌+◌, ◌^◌, List, take, Some, IfOk, OnOk, OnErr, if◌then◌else◌};
+ghost use Rattle.std.specs.Prelude.{◌≡◌, ℕ, ◌==◌, ◌&&◌, not, slice_get, ◌<◌, ◌+◌, ◌^◌, List, take, length, ◌≤◌, Some, IfOk, OnOk, OnErr, if◌then◌else◌};
 ghost use Rattle.fsb_signal.specs.DumpText.{width_of};
 ghost use Rattle.fsb_signal.specs.Table.{Entry, table};
 ghost use Rattle.vcd_grammar.specs.Digits.{time_in};
@@ -495,16 +495,25 @@ fn next_draft(draft: Draft, word: &[u8]) -> Draft
 }
 
 /// The first 65 digits.
-#[tactic(auto, using(crate::proofs::Entries::take_up_to))]
+fn first_of(digits: &[u8]) -> &[u8]
+    ensures first { result.now ≡ take 65 digits.now }
+    ensures few { length result.now ≤ 65 }
+{
+    if digits.len() <= 65 {
+        digits
+    } else {
+        digits.split_at(65).0
+    }
+}
+
+/// Keeps the first 65 digits.
 fn copy_first(to: &mut ArrayVec<u8, 65>, digits: &[u8])
     ensures { to.new.items ≡ take 65 digits.now }
 {
     to.clear();
-    for digit in digits {
-        if to.is_full() {
-            return;
-        }
-        to.push(*digit);
+    match to.try_extend_from_slice(first_of(digits)) {
+        Ok(()) => {}
+        Err(_) => {}
     }
 }
 

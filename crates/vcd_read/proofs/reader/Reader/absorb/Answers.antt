@@ -2,7 +2,7 @@ use Rattle.std.proofs.Common.{◌++◌, sym, ap, ◌∙◌, subst, take}
 use Rattle.vcd_grammar.specs.Reading.{samples_so_far}
 use Rattle.vcd_read.specs.Standing.{Scanned}
 use Rattle.vcd_read.specs.Answers.{Answers, AppendsBy, result_of, stop_so_far}
-use Rattle.vcd_read.proofs.Standings.{scanned_fits, scanned_more, answers_of, appends_of, stop_is, few_where_none, fed_appends, fed_part, ok_of}
+use Rattle.vcd_read.proofs.Standings.{scanned_fits, scanned_more, answers_of, appends_of, stop_is, few_where_none, faultless_where_none, fed_appends, fed_part, ok_of}
 use Rattle.vcd_read.proofs.reader.Reader.absorb.Goals as goal
 
 pub absorb-requires-clause-fits : goal.absorb-requires-clause-fits
@@ -14,7 +14,11 @@ returns-in-Ok-clause-works c =
     let s = c.absorb.new.self in
     ok_of c.answer.result _ c.answer.ensures (λ none fed w.
     let more : Scanned s (fed ++ c.args.piece.now) = scanned_more r.scan s fed c.args.piece.now w.scanned c.in-Ok.ensures.state in
-    record { scanned = more; few = few_where_none r.limit s (fed ++ c.args.piece.now) more none })
+    record {
+      scanned = more;
+      faultless = faultless_where_none r.limit s (fed ++ c.args.piece.now) more none;
+      few = few_where_none r.limit s (fed ++ c.args.piece.now) more none;
+    })
 
 pub returns-in-Ok-clause-answer : goal.returns-in-Ok-clause-answer
 returns-in-Ok-clause-answer c = λ fed w.
