@@ -1,35 +1,51 @@
-//! Random waveforms, judged twice: by the checker, sample by sample, and by the plain judge of whole traces.
+//! Waveforms, judged twice: by the checker, sample by sample, and by the plain judge of whole traces.
 //!
-//! `fsb_trials <seed> <count>` makes so many waveforms from the seed and prints how many were judged differently, which is
-//! to be none. With a further word it also prints how many were accepted and which rules the others broke first.
+//! `fsb_trials <seed> <count> <dump>..` makes so many random waveforms from the seed, and reads the dumps; of each dump it
+//! also takes every waveform in which one control line is turned over at one clock. It prints how many waveforms were
+//! judged, and how many of them differently, which is to be none. With `by_rule` among the words it also prints how many
+//! were accepted and which rules the others broke first.
 #![tactic(auto)]
 
 ghost use Rattle.std.specs.Prelude.{◌<◌, ◌^◌, length};
 
 use draws::Draws;
+use fsb_io::{FileSource, Source, read_all};
 use fsb_rules::{Broken, Checker};
 use fsb_signal::Sample;
 use fsb_trace::verdict;
 use std::alloc::{AllocError, Global};
-use std::rt::Env;
-use waveform::{spoil, waveform};
+use std::rt::{Env, Files};
+use vcd_read::read_dump;
+use waveform::{spoil, turned_over, waveform};
 
 mod draws;
 mod waveform;
 
 fn main(rt: HostRuntime) {
     let asked = read_words(&rt);
-    match trials(rt.alloc(), asked.seed, asked.count) {
-        Ok(tally) => report(&rt, asked, &tally),
-        Err(_) => {
-            let _ = println!(rt; "out of memory");
+    let mut tally = Tally {
+        judged: 0,
+        accepted: 0,
+        broken: [0; 19],
+        differ: 0,
+    };
+    if random(rt.alloc(), asked, &mut tally).is_err() {
+        let _ = println!(rt; "out of memory");
+    }
+    if let Ok(args) = std::env::args(&rt) {
+        for word in args.skip(3) {
+            if word.as_str() != "by_rule" && dump(&rt, word.as_str(), &mut tally).is_none() {
+                let _ = println!(rt; "not read: {}", word.as_str());
+            }
         }
     }
+    report(&rt, asked, &tally);
 }
 
 /// What became of the waveforms.
 #[derive(Clone, Copy)]
 struct Tally {
+    judged: u32,
     accepted: u32,
     /// How many broke each rule first, at the rule's number.
     broken: [u32; 19],
@@ -58,27 +74,45 @@ fn read_words(rt: &(impl Env + AllocGlobal)) -> Asked {
         match i {
             1 => asked.seed = word.as_str().parse().unwrap_or(1),
             2 => asked.count = word.as_str().parse().unwrap_or(100),
-            3 => asked.by_rule = true,
-            _ => {}
+            _ => asked.by_rule = asked.by_rule || word.as_str() == "by_rule",
         }
     }
     asked
 }
 
-/// Judges so many waveforms.
-fn trials(alloc: Global, seed: u64, count: u32) -> Result<Tally, AllocError> {
-    let mut draws = Draws::new(seed);
-    let mut tally = Tally {
-        accepted: 0,
-        broken: [0; 19],
-        differ: 0,
-    };
-    for _ in 0..count {
+/// Judges random waveforms.
+fn random(alloc: Global, asked: Asked, tally: &mut Tally) -> Result<(), AllocError> {
+    let mut draws = Draws::new(asked.seed);
+    for _ in 0..asked.count {
         let mut w = waveform(alloc, &mut draws)?;
         spoil(&mut draws, &mut w);
-        tally.count(verdict(&w), checked(&w));
+        tally.judge(&w);
     }
-    Ok(tally)
+    Ok(())
+}
+
+/// Judges the waveform of a dump, and each in which one line is turned over at one clock; None where it is not read.
+fn dump(rt: &(impl Files + AllocGlobal), name: &str, tally: &mut Tally) -> Option<()> {
+    if name.len() > 4_096 {
+        return None;
+    }
+    let mut source = FileSource::new(rt);
+    source.begin(name).ok()?;
+    let text = read_all(rt.alloc(), &mut source, 1 << 20).ok()?;
+    let mut w = read_dump(rt.alloc(), &text).ok()?;
+    if w.len() > 200_000 {
+        return None;
+    }
+    tally.judge(&w);
+    for at in 0..w.len() {
+        let kept = w[at];
+        for line in 0..18 {
+            w[at] = turned_over(&kept, line);
+            tally.judge(&w);
+        }
+        w[at] = kept;
+    }
+    Some(())
 }
 
 /// What the checker says of the samples.
@@ -94,8 +128,16 @@ fn checked(w: &[Sample]) -> Option<(u32, u8)>
 }
 
 impl Tally {
+    /// Judges a waveform twice.
+    fn judge(&mut self, w: &[Sample])
+        requires { length w.now < 2 ^ 32 }
+    {
+        self.count(verdict(w), checked(w));
+    }
+
     /// Counts a waveform with these two verdicts.
     fn count(&mut self, plain: Option<(u32, u8)>, checked: Option<(u32, u8)>) {
+        self.judged = self.judged.wrapping_add(1);
         if plain != checked {
             self.differ = self.differ.wrapping_add(1);
         }
@@ -112,8 +154,7 @@ impl Tally {
 
 /// Prints what became of the waveforms.
 fn report(rt: &HostRuntime, asked: Asked, tally: &Tally) {
-    let Asked { seed, count, .. } = asked;
-    let _ = println!(rt; "{count} waveforms from seed {seed}");
+    let _ = println!(rt; "waveforms judged: {}", tally.judged);
     if asked.by_rule {
         let _ = println!(rt; "accepted: {}", tally.accepted);
         for (rule, count) in tally.broken.iter().enumerate() {

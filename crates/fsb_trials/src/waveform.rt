@@ -98,6 +98,18 @@ pub fn spoil(draws: &mut Draws, w: &mut [Sample])
     }
 }
 
+/// The sample with the control line of this number turned over; no bit of it is unknown.
+pub fn turned_over(sample: &Sample, line: u32) -> Sample
+    requires { line < 18 }
+{
+    Sample::known(
+        Lines((sample.lines.0 ^ (1 << line)) % (1 << 18)),
+        (sample.req.bits % (1 << 5)) as u8,
+        sample.addr.bits % (1 << 33),
+        sample.dbus.bits,
+    )
+}
+
 /// The control lines, the REQ word and the address word of a clock.
 type Clock = (u32, u64, u64);
 
