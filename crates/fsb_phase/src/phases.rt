@@ -53,7 +53,8 @@ impl Phases {
     }
 
     /// Takes the sample of the next clock, and tells which snoop and which request end there. The clock is the number of
-    /// samples taken before, the queue holds the requests in flight, and RS# is what is driven.
+    /// samples taken before, the queue holds the requests in flight, RS# is what is driven, and a request begins no sooner
+    /// than three clocks after the one before it. All other lines are free.
     pub fn absorb(&mut self, clock: u32, sample: &Sample, queue: &Queue) -> Phased
         ensures result { (h : Trace) (turns : List ℕ) → Stands self.old h → MayTake clock sample.now queue.now turns h → result ≡ phased_at (h ++ sample.now ∷ []) clock queue.now }
         ensures stands { (h : Trace) (turns : List ℕ) → Stands self.old h → MayTake clock sample.now queue.now turns h → Stands self.new (h ++ sample.now ∷ []) }
