@@ -70,6 +70,30 @@ pub const STALLED_SNOOP: [u32; 16] = [
     DRDY,
 ];
 
+/// Two loads that wait for their responses, the second of them with a snoop that is stalled once.
+pub const SECOND_STALLED: [u32; 20] = [
+    BREQ0 | BREQ1,
+    BREQ0 | BREQ1,
+    BREQ0 | BREQ1 | ADS,
+    BREQ1,
+    BREQ1,
+    BREQ1 | ADS,
+    0,
+    0,
+    0,
+    HIT | HITM | RS0 | RS1 | RS2 | DBSY | DRDY,
+    DBSY | DRDY,
+    DBSY | DRDY,
+    DRDY,
+    0,
+    0,
+    0,
+    RS0 | RS1 | RS2 | DBSY | DRDY,
+    DBSY | DRDY,
+    DBSY | DRDY,
+    DRDY,
+];
+
 /// A request that is cancelled, and comes again.
 pub const CANCELLED_BY_ADDRESS_ERROR: [u32; 18] = [
     BREQ0,

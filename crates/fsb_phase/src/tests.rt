@@ -2,7 +2,7 @@
 
 use crate::runs::{
     CANCELLED_BY_ADDRESS_ERROR, DEFERRED_AND_REPLIED, DIRTY_VICTIM_WRITTEN_BACK,
-    HANDED_ON_WITH_WAITS, LOCKED_INCREMENTS, STALLED_SNOOP, TWO_AGENTS_OVERLAP,
+    HANDED_ON_WITH_WAITS, LOCKED_INCREMENTS, SECOND_STALLED, STALLED_SNOOP, TWO_AGENTS_OVERLAP,
     WRITE_BACK_HELD_OFF,
 };
 use crate::{Drive, Phased, Phases, chunk_order};
@@ -51,7 +51,7 @@ fn entry(number: u32, clock: u32, told: &Told) -> Entry {
     }
 }
 
-/// Asserts that what is driven is on the lines, and that a chunk is driven of the request that ends next.
+/// Asserts that what is driven is on the lines.
 fn expect_lines(rt: &impl Abort, drive: &Drive, lines: &Sample) {
     assert_eq!(rt;
         drive.stall,
@@ -61,6 +61,14 @@ fn expect_lines(rt: &impl Abort, drive: &Drive, lines: &Sample) {
     assert_eq!(rt; drive.rs, lines.response());
     assert_eq!(rt; drive.dbsy, lines.has(Lines::DBSY));
     assert_eq!(rt; drive.chunk.is_some(), lines.has(Lines::DRDY));
+}
+
+/// Asserts that a chunk that is driven is the next one of the oldest entry, which is the only one whose data may move. `came` is how
+/// many chunks came since the last response.
+fn expect_chunk(rt: &impl Abort, drive: &Drive, queue: &Queue, came: u8) {
+    if drive.chunk.is_some() {
+        assert_eq!(rt; drive.chunk, queue.at(0).map(|e| (e.number, came)));
+    }
 }
 
 /// Gives the entry of the number its outcome.
@@ -101,12 +109,18 @@ fn expect_run(rt: &impl Abort, alloc: Global, clocks: &[u32], told: &[Told]) {
     let mut begun = 0;
     let mut snooped = 0;
     let mut ended = 0;
+    let mut came = 0_u8;
     for (c, lines) in clocks.iter().enumerate() {
         assert!(rt; c < 1000);
         let clock = c as u32;
         let taken = sample(*lines);
         let drive = phases.drive(clock, &queue);
         expect_lines(rt, &drive, &taken);
+        if taken.response() != 0 {
+            came = 0;
+        }
+        expect_chunk(rt, &drive, &queue, came);
+        came = came.wrapping_add(u8::from(taken.has(Lines::DRDY)));
         let phased = phases.absorb(clock, &taken, &queue);
         assert!(rt; phased.snooped.is_none() || phased.snooped == drive.snoop);
         snooped += usize::from(phased.snooped.is_some());
@@ -233,4 +247,29 @@ fn waits_are_kept(rt: HostRuntime) {
         (Kind::Read, QUIET, Outcome::Granted, 9, 25),
     ];
     expect_run(&rt, rt.alloc(), &HANDED_ON_WITH_WAITS, &told);
+}
+
+#[test]
+fn second_snoop_stalled(rt: HostRuntime) {
+    let told = [
+        (
+            Kind::Read,
+            Choice { resp: 1, ..QUIET },
+            Outcome::Granted,
+            6,
+            12,
+        ),
+        (
+            Kind::Read,
+            Choice {
+                stall: 1,
+                resp: 3,
+                ..QUIET
+            },
+            Outcome::Granted,
+            11,
+            19,
+        ),
+    ];
+    expect_run(&rt, rt.alloc(), &SECOND_STALLED, &told);
 }
