@@ -6,7 +6,7 @@ use Rattle.std.specs.Option.{option_map}
 use Rattle.std.proofs.lemmas.Option.{slice_get-map}
 use Rattle.fsb_count.specs.Options.{is_some_and, is_before, is_at, greater_of}
 use Rattle.fsb_count.specs.Clocks.{first_where, any_where, count_where, all_where, nth_where, from_clock}
-use Rattle.fsb_signal.specs.declared.lines.TheConstants.Lines.{ADS, TRDY, DBSY, DRDY}
+use Rattle.fsb_signal.specs.declared.lines.TheConstants.Lines.{BREQ0, ADS, HITM, RS0, RS1, RS2, TRDY, DBSY, DRDY}
 use Rattle.fsb_signal.specs.Samples.{line_at}
 use Rattle.fsb_encode.specs.declared.request.Kind.TheVariants.{Read}
 use Rattle.fsb_encode.specs.Request.{is_lawful_request, are_lawful_fields, high_bit, den_bit, clocks, row_of, pairs_of}
@@ -20,11 +20,14 @@ use Rattle.fsb_trace.specs.Snoop.{is_every_second_from, ends_snoop, snoop_end_fr
 use Rattle.fsb_trace.specs.Outcome.{does_move, response_code_of, outcome_by_kind, response_clock_of, told_by, outcome_of, moves_data, settled_by, settled_outcome_of}
 use Rattle.fsb_trace.specs.Response.{takes, data_clock_of, end_of, clock_after_snoop, ready_after, ready_clock_of}
 use Rattle.fsb_trace.specs.Flight.{is_dropped, has_ended, is_in_flight, in_flight}
+use Rattle.fsb_trace.proofs.LaidOut.{clock, idle}
 use Rattle.fsb_trace.proofs.Rows.{two_agents_overlap, store_handed_over_before_arrival, locked_increments, write_back_held_off, stalled_snoop, deferred_and_replied, cancelled_by_address_error}
 use Rattle.fsb_queue.specs.declared.entry.Entry.{Entry}
 use Rattle.fsb_phase.specs.Timing.{is_stall_from, is_ready_from, is_response_from, chunk_from, is_busy_from}
 use Rattle.fsb_phase.specs.Due.{live_of, has_snoop, is_stalled, two_after_snoop, answer_from, awaits_response, has_ready, has_response, response_to_now, moves, chunk_of, keeps_busy}
-use Rattle.fsb_phase.specs.Drive.{code_of, numbered_chunk, drive_of}
+use Rattle.fsb_phase.specs.declared.drive.Drive.{Drive}
+use Rattle.fsb_phase.specs.declared.drive.Phased.{Phased}
+use Rattle.fsb_phase.specs.Drive.{code_of, numbered_chunk, drive_of, ends_snoop_at, ends_at, phased_at}
 use Rattle.fsb_phase.specs.Flight.{InFlight}
 
 -- the request that begins at q, as an entry with this choice, where these are the effective turns
@@ -67,6 +70,86 @@ pub rows_driven :
     × (misses quiet_choice [] deferred_and_replied 8 ≡ true)
 unfolding is_some_and is_before is_at greater_of first_where any_where count_where all_where nth_where from_clock line_at is_lawful_request are_lawful_fields high_bit den_bit clocks row_of pairs_of req_words kind_of read_off is_pair is_coded_as if_coded_as request_of response_code_at responds_at stalls_at known_pair known_pair_at request_at is_cancelled is_live live_count live_clock_of live_number_of live_request_of is_write_back_kind is_write_back is_every_second_from ends_snoop snoop_end_from snoop_end_if start_after_clock start_after_end snoop_end_of snoop_start_of line_at_snoop_end does_move response_code_of outcome_by_kind response_clock_of told_by outcome_of moves_data settled_by settled_outcome_of takes data_clock_of end_of clock_after_snoop ready_after ready_clock_of is_dropped has_ended is_in_flight in_flight is_stall_from is_ready_from is_response_from chunk_from is_busy_from live_of has_snoop is_stalled two_after_snoop answer_from awaits_response has_ready has_response response_to_now moves chunk_of keeps_busy code_of numbered_chunk drive_of
 rows_driven = (refl, refl, refl, refl, refl, refl, refl, refl, refl)
+
+-- the requests in flight, as entries
+abbrev pub queue_at : Choice → List ℕ → Trace → List Entry
+queue_at choice turns h = map (entry_at choice turns h) (in_flight h (length h))
+
+-- what is driven at clock c of w, after the clocks before it
+abbrev pub driven : Choice → List ℕ → Trace → ℕ → Drive
+driven choice turns w c = drive_of (take c w) (queue_at choice turns (take c w))
+
+-- what happens at clock c of w
+abbrev pub happens : Choice → List ℕ → Trace → ℕ → Phased
+happens choice turns w c = phased_at (take (c + 1) w) c (queue_at choice turns (take c w))
+
+-- the numbers of the requests whose snoop clock it is, whose chunk is due, whose snoop end it is and whose end
+pub rows_numbered :
+    (map (λ c. (driven quiet_choice [] two_agents_overlap c).snoop) (5 ∷ 6 ∷ 8 ∷ 9 ∷ 10 ∷ []) ≡ None ∷ Some 0 ∷ None ∷ Some 1 ∷ None ∷ [])
+    × (map (λ c. (driven quiet_choice [] two_agents_overlap c).chunk) (7 ∷ 8 ∷ 9 ∷ 10 ∷ 11 ∷ []) ≡ None ∷ Some (0, 0) ∷ Some (0, 1) ∷ Some (0, 2) ∷ Some (0, 3) ∷ [])
+    × (map (λ c. (driven quiet_choice [] two_agents_overlap c).chunk) (12 ∷ 15 ∷ 16 ∷ []) ≡ Some (1, 0) ∷ Some (1, 3) ∷ None ∷ [])
+    × (map (λ c. (happens quiet_choice [] two_agents_overlap c).snooped) (5 ∷ 6 ∷ 8 ∷ 9 ∷ []) ≡ None ∷ Some 0 ∷ None ∷ Some 1 ∷ [])
+    × (map (λ c. (happens quiet_choice [] two_agents_overlap c).ended) (8 ∷ 11 ∷ 12 ∷ 15 ∷ []) ≡ None ∷ Some 0 ∷ None ∷ Some 1 ∷ [])
+    × (map (λ c. (driven stalled_twice [] stalled_snoop c).snoop) (6 ∷ 7 ∷ 8 ∷ 10 ∷ 12 ∷ []) ≡ Some 0 ∷ None ∷ Some 0 ∷ Some 0 ∷ None ∷ [])
+    × (map (λ c. (happens stalled_twice [] stalled_snoop c).snooped) (6 ∷ 8 ∷ 10 ∷ []) ≡ None ∷ None ∷ Some 0 ∷ [])
+    × (map (λ c. (driven quiet_choice [] cancelled_by_address_error c).snoop) (6 ∷ 12 ∷ []) ≡ None ∷ Some 1 ∷ [])
+    × (map (λ c. (happens quiet_choice (12 ∷ 1 ∷ 1 ∷ []) deferred_and_replied c).ended) (8 ∷ 11 ∷ 30 ∷ []) ≡ Some 0 ∷ Some 1 ∷ Some 3 ∷ [])
+unfolding is_some_and is_before is_at greater_of first_where any_where count_where all_where nth_where from_clock line_at is_lawful_request are_lawful_fields high_bit den_bit clocks row_of pairs_of req_words kind_of read_off is_pair is_coded_as if_coded_as request_of response_code_at responds_at stalls_at known_pair known_pair_at request_at is_cancelled is_live live_count live_clock_of live_number_of live_request_of is_write_back_kind is_write_back is_every_second_from ends_snoop snoop_end_from snoop_end_if start_after_clock start_after_end snoop_end_of snoop_start_of line_at_snoop_end does_move response_code_of outcome_by_kind response_clock_of told_by outcome_of moves_data settled_by settled_outcome_of takes data_clock_of end_of clock_after_snoop ready_after ready_clock_of is_dropped has_ended is_in_flight in_flight is_stall_from is_ready_from is_response_from chunk_from is_busy_from live_of has_snoop is_stalled two_after_snoop answer_from awaits_response has_ready has_response response_to_now moves chunk_of keeps_busy code_of numbered_chunk drive_of ends_snoop_at ends_at phased_at
+rows_numbered = (refl, refl, refl, refl, refl, refl, refl, refl, refl)
+
+-- a line that is handed on, with waits of two clocks for its target, of three for its response, and of one between its chunks
+abbrev pub handed_on_with_waits : Trace
+handed_on_with_waits =
+    clock (BREQ0 ∷ []) 0x0 0x0
+    ∷ clock (BREQ0 ∷ []) 0x0 0x0
+    ∷ clock (BREQ0 ∷ ADS ∷ []) 0x2 0x8
+    ∷ clock ([]) 0x2 0x2
+    ∷ idle
+    ∷ idle
+    ∷ clock (HITM ∷ []) 0x0 0x0
+    ∷ idle
+    ∷ idle
+    ∷ idle
+    ∷ clock (TRDY ∷ []) 0x0 0x0
+    ∷ idle
+    ∷ idle
+    ∷ idle
+    ∷ idle
+    ∷ clock (RS1 ∷ RS2 ∷ DBSY ∷ DRDY ∷ []) 0x0 0x0
+    ∷ clock (DBSY ∷ []) 0x0 0x0
+    ∷ clock (DBSY ∷ DRDY ∷ []) 0x0 0x0
+    ∷ clock (DBSY ∷ []) 0x0 0x0
+    ∷ clock (DBSY ∷ DRDY ∷ []) 0x0 0x0
+    ∷ clock (DBSY ∷ []) 0x0 0x0
+    ∷ clock (DRDY ∷ []) 0x0 0x0
+    ∷ idle
+    ∷ []
+
+-- a read whose response waits for two clocks
+abbrev pub read_with_a_wait : Trace
+read_with_a_wait =
+    clock (BREQ0 ∷ []) 0x0 0x0
+    ∷ clock (BREQ0 ∷ []) 0x0 0x0
+    ∷ clock (BREQ0 ∷ ADS ∷ []) 0x6 0x8
+    ∷ clock ([]) 0x2 0x2
+    ∷ idle
+    ∷ idle
+    ∷ idle
+    ∷ idle
+    ∷ idle
+    ∷ idle
+    ∷ clock (RS0 ∷ RS1 ∷ RS2 ∷ DBSY ∷ DRDY ∷ []) 0x0 0x0
+    ∷ clock (DBSY ∷ DRDY ∷ []) 0x0 0x0
+    ∷ clock (DBSY ∷ DRDY ∷ []) 0x0 0x0
+    ∷ clock (DRDY ∷ []) 0x0 0x0
+    ∷ idle
+    ∷ []
+
+pub rows_with_waits :
+    (any_where (misses (record quiet_choice { trdy = 2; resp = 3; gap = 1 }) [] handed_on_with_waits) 23 ≡ false)
+    × (any_where (misses (record quiet_choice { trdy = 9; resp = 2 }) [] read_with_a_wait) 15 ≡ false)
+unfolding is_some_and is_before is_at greater_of first_where any_where count_where all_where nth_where from_clock line_at is_lawful_request are_lawful_fields high_bit den_bit clocks row_of pairs_of req_words kind_of read_off is_pair is_coded_as if_coded_as request_of response_code_at responds_at stalls_at known_pair known_pair_at request_at is_cancelled is_live live_count live_clock_of live_number_of live_request_of is_write_back_kind is_write_back is_every_second_from ends_snoop snoop_end_from snoop_end_if start_after_clock start_after_end snoop_end_of snoop_start_of line_at_snoop_end does_move response_code_of outcome_by_kind response_clock_of told_by outcome_of moves_data settled_by settled_outcome_of takes data_clock_of end_of clock_after_snoop ready_after ready_clock_of is_dropped has_ended is_in_flight in_flight is_stall_from is_ready_from is_response_from chunk_from is_busy_from live_of has_snoop is_stalled two_after_snoop answer_from awaits_response has_ready has_response response_to_now moves chunk_of keeps_busy code_of numbered_chunk drive_of
+rows_with_waits = (refl, refl)
 
 -- for every history there is such a queue, and it holds the requests in flight
 clocks_again : (choice : Choice) (turns : List ℕ) (h : Trace) (qs : List ℕ) → map (λ e. e.clock) (map (entry_at choice turns h) qs) ≡ qs
