@@ -1,0 +1,249 @@
+//! Waveforms, laid out of pieces.
+
+ghost use Rattle.std.specs.Prelude.{◌≡◌, ◌^◌, ◌<◌, ◌≤◌, length, IfOk};
+
+use fsb_rules::Checker;
+use fsb_signal::{Lines, Sample, Word};
+use fsb_trace::verdict;
+use std::alloc::{AllocError, Global};
+use std::process::Abort;
+
+pub const BPRI: u32 = 16;
+
+pub const LOCK: u32 = 32;
+
+pub const BNR: u32 = 64;
+
+pub const ADS: u32 = 128;
+
+pub const AERR: u32 = 256;
+
+pub const HIT: u32 = 512;
+
+pub const HITM: u32 = 1024;
+
+pub const DEFER: u32 = 2048;
+
+pub const TRDY: u32 = 32768;
+
+pub const DBSY: u32 = 65536;
+
+pub const DRDY: u32 = 131_072;
+
+/// The BREQ# lines of the four agents.
+pub const BREQ: [u32; 4] = [1, 2, 4, 8];
+
+/// What stands on a waveform, at these clocks.
+#[derive(Clone, Copy)]
+pub enum Piece {
+    /// The lines, from a clock to another.
+    Lines(u32, usize, usize),
+    /// A request of agent 0 to 3, or 4 for the priority agent: its request line from a clock to the first clock, and the words.
+    Request(usize, usize, usize, Words),
+    /// A response with this code, without data.
+    Code(usize, u32),
+    /// A response with this code, and four chunks of data one after the other.
+    Data(usize, u32),
+    /// The line of this number is unknown, and no other is asserted.
+    UnknownLine(usize, u32),
+    /// A bit of REQ is unknown, and no other is asserted.
+    UnknownReq(usize),
+    /// A bit of the address word is unknown, and no other is asserted.
+    UnknownAddr(usize),
+    /// These data bits are unknown.
+    UnknownData(usize, u64),
+}
+
+/// The words of a request: REQ and address of its first clock, and of its second.
+pub type Words = (u64, u64, u64, u64);
+
+/// A read of line 0 with DEN#, and with this ID.
+pub fn read(id: u64) -> Words {
+    (6, 0, 2, (id % 256) * 8192 + 2)
+}
+
+/// A read of line 0 without DEN#, and with this ID.
+pub fn kept_read(id: u64) -> Words {
+    (6, 0, 2, (id % 256) * 8192)
+}
+
+/// A write-back of line 0 with this ID.
+pub fn write_back(id: u64) -> Words {
+    (5, 0, 2, (id % 256) * 8192)
+}
+
+/// A reply with this ID.
+pub fn reply(id: u64) -> Words {
+    (0, (id % 256) * 8192, 0, 0)
+}
+
+/// A request of agent 0 that asks in clock 0 already, and begins in clock 2.
+pub fn first(words: Words) -> Piece {
+    Piece::Request(0, 0, 2, words)
+}
+
+/// What the lines have at a clock.
+#[derive(Clone, Copy)]
+struct Cell {
+    lines: u32,
+    unknown: u32,
+    req: u64,
+    addr: u64,
+    unknown_req: bool,
+    unknown_addr: bool,
+    unknown_data: u64,
+}
+
+/// The clocks of a waveform, the last of them 39.
+type Cells = [Cell; 40];
+
+/// Nothing is asserted.
+const IDLE: Cell = Cell {
+    lines: 0,
+    unknown: 0,
+    req: 0,
+    addr: 0,
+    unknown_req: false,
+    unknown_addr: false,
+    unknown_data: 0,
+};
+
+/// Asserts the lines from a clock to another.
+fn assert_lines(cells: &mut Cells, lines: u32, from: usize, to: usize) {
+    for (c, cell) in cells.iter_mut().enumerate() {
+        if from <= c && c <= to {
+            cell.lines |= lines;
+        }
+    }
+}
+
+/// Puts words on a clock.
+fn put_words(cells: &mut Cells, c: usize, req: u64, addr: u64) {
+    if let Some(cell) = cells.get_mut(c) {
+        cell.req = req;
+        cell.addr = addr;
+    }
+}
+
+/// Makes something of a clock unknown.
+fn make_unknown(cells: &mut Cells, piece: &Piece) {
+    let c = match *piece {
+        Piece::UnknownLine(c, _) | Piece::UnknownReq(c) | Piece::UnknownAddr(c) => c,
+        Piece::UnknownData(c, _) => c,
+        _ => return,
+    };
+    if let Some(cell) = cells.get_mut(c) {
+        match *piece {
+            Piece::UnknownLine(_, line) => cell.unknown = 1 << (line % 18),
+            Piece::UnknownReq(_) => cell.unknown_req = true,
+            Piece::UnknownAddr(_) => cell.unknown_addr = true,
+            Piece::UnknownData(_, bits) => cell.unknown_data = bits,
+            _ => {}
+        }
+    }
+}
+
+/// Puts a piece on the clocks.
+fn put(cells: &mut Cells, piece: &Piece) {
+    match *piece {
+        Piece::Lines(lines, from, to) => assert_lines(cells, lines, from, to),
+        Piece::Request(agent, from, q, words) => {
+            let line = BREQ.get(agent).copied().unwrap_or(BPRI);
+            assert_lines(cells, line, from, q);
+            assert_lines(cells, ADS, q, q);
+            put_words(cells, q, words.0, words.1);
+            put_words(cells, q.saturating_add(1), words.2, words.3);
+        }
+        Piece::Code(c, code) => assert_lines(cells, (code % 8) * 4096, c, c),
+        Piece::Data(c, code) => {
+            assert_lines(cells, (code % 8) * 4096, c, c);
+            assert_lines(cells, DBSY, c, c.saturating_add(2));
+            assert_lines(cells, DRDY, c, c.saturating_add(3));
+        }
+        _ => make_unknown(cells, piece),
+    }
+}
+
+/// The word with these bits, or with one that is unknown.
+fn word(bits: u64, is_unknown: bool) -> Word
+    ensures bits { result.bits ≤ bits }
+    ensures unknown { result.unknown ≤ 1 }
+{
+    if is_unknown {
+        Word {
+            bits: 0,
+            unknown: 1,
+        }
+    } else {
+        Word::known(bits)
+    }
+}
+
+/// The sample of a clock.
+fn sample(cell: &Cell) -> Sample {
+    let unknown = cell.unknown % (1 << 18);
+    Sample {
+        lines: Lines(if unknown == 0 {
+            cell.lines % (1 << 18)
+        } else {
+            0
+        }),
+        unknown: Lines(unknown),
+        req: word(cell.req % (1 << 5), cell.unknown_req),
+        addr: word(cell.addr % (1 << 33), cell.unknown_addr),
+        dbus: Word {
+            bits: 0,
+            unknown: cell.unknown_data,
+        },
+    }
+}
+
+/// The waveform of these pieces, of so many clocks.
+fn laid_out(alloc: Global, pieces: &[Piece], clocks: usize) -> Result<Vec<Sample>, AllocError>
+    ensures { IfOk result (λ w. length w.items ≤ 40) }
+{
+    let mut cells = [IDLE; 40];
+    for piece in pieces {
+        put(&mut cells, piece);
+    }
+    let mut w = Vec::new(alloc);
+    for cell in cells.iter().take(clocks) {
+        w.push(sample(cell))?;
+    }
+    Ok(w)
+}
+
+/// What the checker says of a waveform.
+fn checked(w: &[Sample]) -> Option<(u32, u8)>
+    requires { length w.now < 2 ^ 32 }
+{
+    let mut checker = Checker::new();
+    let mut found = None;
+    for sample in w {
+        found = checker.feed(sample);
+    }
+    found.map(|broken| (broken.clock, broken.rule))
+}
+
+/// Asserts that both judges say this of the waveform of so many clocks with these pieces.
+fn expect(
+    rt: &impl Abort,
+    alloc: Global,
+    pieces: &[Piece],
+    clocks: usize,
+    found: Option<(u32, u8)>,
+) {
+    let w = laid_out(alloc, pieces, clocks).expect(rt, "out of memory");
+    assert_eq!(rt; verdict(&w), found);
+    assert_eq!(rt; checked(&w), found);
+}
+
+/// Asserts that both judges accept the waveform of so many clocks with these pieces.
+pub fn expect_fair(rt: &impl Abort, alloc: Global, clocks: usize, pieces: &[Piece]) {
+    expect(rt, alloc, pieces, clocks, None);
+}
+
+/// Asserts that both judges name this clock and this rule for the waveform with these pieces, which goes on to its fortieth clock.
+pub fn expect_foul(rt: &impl Abort, alloc: Global, clock: u32, rule: u8, pieces: &[Piece]) {
+    expect(rt, alloc, pieces, 40, Some((clock, rule)));
+}
