@@ -1,5 +1,5 @@
 use Rattle.std.proofs.Common.{ℕ, ◌<◌, false}
-use Rattle.fsb_trace.proofs.clocks.any_where.Given as goal
+use Rattle.fsb_count.proofs.clocks.any_where.Given as goal
 
 -- the test has answered false so far
 abbrev pub invariant-loop-c : goal.invariant-loop-c

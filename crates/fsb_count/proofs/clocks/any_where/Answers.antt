@@ -1,6 +1,6 @@
 use Rattle.std.proofs.Common.{◌<◌, true, false, sym, arith}
 use Rattle.fsb_count.proofs.Any.{any_where-at, any_where-off}
-use Rattle.fsb_trace.proofs.clocks.any_where.Goals as goal
+use Rattle.fsb_count.proofs.clocks.any_where.Goals as goal
 
 pub returns-then-test : goal.returns-then-test
 returns-then-test g c = λ p h.

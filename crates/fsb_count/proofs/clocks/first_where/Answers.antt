@@ -1,6 +1,6 @@
 use Rattle.std.proofs.Common.{◌<◌, true, false, sym, arith}
 use Rattle.fsb_count.proofs.First.{first_where-at, first_where-off}
-use Rattle.fsb_trace.proofs.clocks.first_where.Goals as goal
+use Rattle.fsb_count.proofs.clocks.first_where.Goals as goal
 
 pub returns-then-test-clause-value : goal.returns-then-test-clause-value
 returns-then-test-clause-value g c = λ p h.

@@ -1,6 +1,6 @@
 use Rattle.std.proofs.Common.{ℕ, ◌<◌, ◌≤◌, ◌≡◌, Bool}
 use Rattle.fsb_count.specs.Clocks.{count_where}
-use Rattle.fsb_trace.proofs.clocks.nth_where.Given as goal
+use Rattle.fsb_count.proofs.clocks.nth_where.Given as goal
 
 abbrev pub invariant-loop-c : goal.invariant-loop-c
 invariant-loop-c g l = record {

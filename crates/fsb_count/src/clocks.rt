@@ -1,4 +1,4 @@
-//! The general words over a test of a clock, as loops.
+//! The words over a test of a clock, as loops.
 
 ghost use Rattle.std.specs.Prelude.{◌≡◌, ℕ, ◌<◌, Bool, IfSome};
 ghost use Rattle.fsb_count.specs.Clocks.{first_where, any_where, count_where, nth_where};
@@ -35,13 +35,13 @@ pub fn count_where<F: Fn(usize) -> bool>(n: usize, test: F) -> usize
     requires { (c : ℕ) → c < n → F.pre test c }
     ensures { (p : ℕ → Bool) → ((c : ℕ) (b : Bool) → c < n → F.post test c b → b ≡ p c) → result ≡ count_where p n }
 {
-    let mut passed = 0;
+    let mut count = 0;
     for c in 0..n {
         if test(c) {
-            passed += 1;
+            count += 1;
         }
     }
-    passed
+    count
 }
 
 /// The clock below `n` that passes and before which `k` pass.

@@ -1,8 +1,8 @@
 use Rattle.std.proofs.Common.{◌≡◌, true, false, refl, sym, ap, ◌∙◌, ◌+◌, arith}
 use Rattle.fsb_count.specs.Clocks.{count_where}
 use Rattle.fsb_count.proofs.Count.{count_where-passed, count_where-failed}
-use Rattle.fsb_trace.proofs.clocks.count_where.Goals as goal
-use Rattle.fsb_trace.proofs.clocks.count_where.Goals.{then-test, else-test}
+use Rattle.fsb_count.proofs.clocks.count_where.Goals as goal
+use Rattle.fsb_count.proofs.clocks.count_where.Goals.{then-test, else-test}
 
 pub loop-c-init : goal.loop-c-init
 unfolding count_where
@@ -14,13 +14,13 @@ loop-c-preserved g c =
       | then-test w ↦ record {
         most = omega arith;
         count = λ p h.
-            w.passed-is ∙ ap (λ m. m + 1) (c.loop-c.invariant.count p h)
+            w.count-is ∙ ap (λ m. m + 1) (c.loop-c.invariant.count p h)
             ∙ sym (count_where-passed p c.loop-c.c (sym (h c.loop-c.c true c.loop-c-test.true w.if-test.ensures)));
       }
       | else-test w ↦ record {
         most = omega arith;
         count = λ p h.
-            w.passed-is ∙ c.loop-c.invariant.count p h
+            w.count-is ∙ c.loop-c.invariant.count p h
             ∙ sym (count_where-failed p c.loop-c.c (sym (h c.loop-c.c false c.loop-c-test.true w.if-test.ensures)));
       }
     ]

@@ -2,8 +2,8 @@ use Rattle.std.proofs.Common.{◌≡◌, Some, true, false, refl, sym, ap, subst
 use Rattle.fsb_count.specs.Clocks.{count_where, nth_where}
 use Rattle.fsb_count.proofs.Count.{count_where-passed, count_where-failed}
 use Rattle.fsb_count.proofs.Nth.{nth_where-at, nth_where-past}
-use Rattle.fsb_trace.proofs.clocks.nth_where.Goals as goal
-use Rattle.fsb_trace.proofs.clocks.nth_where.Goals.{then-test+else-passed-k, else-test}
+use Rattle.fsb_count.proofs.clocks.nth_where.Goals as goal
+use Rattle.fsb_count.proofs.clocks.nth_where.Goals.{then-test+else-passed-k, else-test}
 
 pub loop-c-init : goal.loop-c-init
 unfolding count_where
