@@ -25,8 +25,6 @@ mod numbers;
 mod outcome;
 mod request;
 mod rules;
-#[cfg(test)]
-mod runs;
 mod seen;
 mod snoop;
 #[cfg(test)]
