@@ -194,7 +194,7 @@ declares =
     ∷ good (codes "$enddefinitions $end 0a #5 1a") (unset 0 0 ∷ [])
     ∷ good (codes "$var wire 1 m LOCK_n $end $enddefinitions $end 0a #5 1a") (unset 0 32 ∷ [])
     ∷ good (codes "$var wire 1 m LOCK_n $end $enddefinitions $end 0a 0m #5 1a") (unset 32 0 ∷ [])
-    ∷ good (codes "$var" ++ 9 ∷ codes "wire" ++ 13 ∷ 10 ∷ codes "1" ++ 11 ∷ codes "m" ++ 12 ∷ codes "LOCK_n $end $enddefinitions $end 0a 0m #5 1a") (unset 32 0 ∷ [])
+    ∷ good (codes "$var" ++ 9 ∷ codes "wire" ++ 10 ∷ codes "1" ++ 13 ∷ codes "m" ++ 11 ∷ codes "LOCK_n" ++ 12 ∷ codes "$end $enddefinitions $end 0a 0m #5 1a") (unset 32 0 ∷ [])
     ∷ good (codes "$var reg 001 m LOCK_n [0:0] more $comment $end $enddefinitions $end 0a 0m #5 1a") (unset 32 0 ∷ [])
     ∷ good (codes "$var wire 1 m LOCK_n[0] $end $enddefinitions $end 0a 0m #5 1a") (unset 32 0 ∷ [])
     ∷ good (codes "$var real 64 m LOCK_n $end $enddefinitions $end 0a 0m #5 1a") (unset 0 0 ∷ [])
