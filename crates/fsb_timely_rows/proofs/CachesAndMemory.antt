@@ -74,6 +74,8 @@ unfolding opened
 four_owners-keeps = (refl, refl, refl, refl, refl, refl, refl, refl, refl, refl)
 
 -- a line that was loaded stays clean though the agent stores into others
-pub window_ends-keeps : (state_of (past_of window_run) 0 2 64 ≡ Exclusive) × (state_of (past_of window_run) 0 5 64 ≡ Modified)
+pub window_ends-keeps :
+    (state_of (past_of window_run) 0 2 64 ≡ Exclusive)
+    × (state_of (past_of window_run) 0 5 64 ≡ Modified)
 unfolding opened
 window_ends-keeps = (refl, refl)

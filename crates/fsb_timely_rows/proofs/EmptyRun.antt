@@ -14,7 +14,7 @@ use Rattle.fsb_timely.specs.Timely.{keeps}
 use Rattle.fsb_timely.specs.Simulated.{Simulated, Asked}
 use Rattle.fsb_timely_rows.proofs.LaidOut.{entry, setting, entries_of, run_of, every_part}
 use Rattle.fsb_timely_rows.proofs.Opened.{opened}
-use Rattle.fsb_timely_rows.proofs.Tests.{simulated_if}
+use Rattle.fsb_timely_rows.proofs.Tests.{simulated_if, breaks_time}
 use Rattle.fsb_timely_rows.proofs.AskedLines.{asked_for_lines}
 
 abbrev pub plan : PlanView
@@ -66,6 +66,18 @@ pub computes :
     × (is_in_time 0 0 log2 ≡ false)
 unfolding opened
 computes = (refl, refl, refl, refl)
+
+-- so the changed runs are no simulations
+pub none_is_simulated :
+    (¬ Simulated (run_of plan 0 trace log0))
+    × (¬ Simulated (run_of plan 0 trace log1))
+    × (¬ Simulated (run_of plan 0 trace log2))
+unfolding opened
+none_is_simulated = (
+  breaks_time (run_of plan 0 trace log0) computes.1,
+  breaks_time (run_of plan 0 trace log1) computes.2,
+  breaks_time (run_of plan 0 trace log2) computes.3,
+)
 
 follows : (agent : ℕ) → AreOfItems (script_of plan.scripts agent) (steps_of agent log)
 follows zero = record { items = 0; same = refl }

@@ -1,5 +1,5 @@
 -- A store hits in the very clock of another agent's snoop end.
-use Rattle.std.proofs.Common.{◌≡◌, ℕ, zero, suc, refl, List, [], ◌∷◌, Some, None, true, false, arith}
+use Rattle.std.proofs.Common.{◌≡◌, ℕ, zero, suc, refl, List, [], ◌∷◌, Some, None, true, false, arith, lit<}
 use Rattle.fsb_access.proofs.OrderLaws.{steps_of-nobody}
 use Rattle.fsb_access.specs.ScriptOrder.{AreOfItems, script_of, steps_of}
 use Rattle.fsb_access.specs.declared.access.Access.TheVariants.{Load, Store}
@@ -16,7 +16,7 @@ use Rattle.fsb_timely.specs.Timely.{holds_at, keeps}
 use Rattle.fsb_timely.specs.Simulated.{Simulated, Asked}
 use Rattle.fsb_timely_rows.proofs.LaidOut.{clock, idle, changed, entry, entries_of, run_of, every_part}
 use Rattle.fsb_timely_rows.proofs.Opened.{opened}
-use Rattle.fsb_timely_rows.proofs.Tests.{simulated_if}
+use Rattle.fsb_timely_rows.proofs.Tests.{simulated_if, breaks_hazards, breaks_snoop_results, breaks_completions}
 use Rattle.fsb_timely_rows.proofs.AskedLines.{asked_for_lines}
 
 abbrev pub plan : PlanView
@@ -166,6 +166,28 @@ pub computes :
     × (holds_at logs_completions run7 11 ≡ false)
 unfolding opened
 computes = (refl, refl, refl, refl, refl, refl, refl, refl, refl)
+
+-- so the changed runs are no simulations
+pub none_is_simulated :
+    (¬ Simulated run0)
+    × (¬ Simulated run1)
+    × (¬ Simulated run2)
+    × (¬ Simulated run3)
+    × (¬ Simulated run4)
+    × (¬ Simulated run5)
+    × (¬ Simulated run6)
+    × (¬ Simulated run7)
+unfolding opened
+none_is_simulated = (
+  breaks_snoop_results run0 16 (lit< tt) computes.1,
+  breaks_hazards run1 17 (lit< tt) computes.2,
+  breaks_hazards run2 17 (lit< tt) computes.3,
+  breaks_completions run3 16 (lit< tt) computes.4,
+  breaks_completions run4 16 (lit< tt) computes.5,
+  breaks_completions run5 16 (lit< tt) computes.6,
+  breaks_completions run6 16 (lit< tt) computes.7,
+  breaks_completions run7 11 (lit< tt) computes.8,
+)
 
 follows : (agent : ℕ) → AreOfItems (script_of plan.scripts agent) (steps_of agent log)
 follows zero = record { items = 3; same = refl }

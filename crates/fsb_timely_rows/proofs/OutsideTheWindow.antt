@@ -1,5 +1,5 @@
 -- Deferrals at the edges of the bridge's window; two replies are due at once.
-use Rattle.std.proofs.Common.{◌≡◌, ℕ, zero, suc, refl, List, [], ◌∷◌, Some, true, false, replicate, arith}
+use Rattle.std.proofs.Common.{◌≡◌, ℕ, zero, suc, refl, List, [], ◌∷◌, Some, true, false, replicate, arith, lit<}
 use Rattle.fsb_access.proofs.OrderLaws.{steps_of-nobody}
 use Rattle.fsb_access.specs.ScriptOrder.{AreOfItems, script_of, steps_of}
 use Rattle.fsb_access.specs.declared.access.Access.TheVariants.{Load, Store}
@@ -18,7 +18,7 @@ use Rattle.fsb_timely.specs.Timely.{holds_at, keeps}
 use Rattle.fsb_timely.specs.Simulated.{Simulated, Asked}
 use Rattle.fsb_timely_rows.proofs.LaidOut.{clock, idle, changed, entry, setting, entries_of, run_of, every_part}
 use Rattle.fsb_timely_rows.proofs.Opened.{opened}
-use Rattle.fsb_timely_rows.proofs.Tests.{simulated_if}
+use Rattle.fsb_timely_rows.proofs.Tests.{simulated_if, breaks_request_lines, breaks_hazards, breaks_snoop_results, breaks_data}
 use Rattle.fsb_timely_rows.proofs.AskedLines.{asked_for_lines}
 
 abbrev pub plan : PlanView
@@ -143,6 +143,26 @@ pub computes :
     × (holds_at carries_data run6 33 ≡ false)
 unfolding opened
 computes = (refl, refl, refl, refl, refl, refl, refl, refl)
+
+-- so the changed runs are no simulations
+pub none_is_simulated :
+    (¬ Simulated run0)
+    × (¬ Simulated run1)
+    × (¬ Simulated run2)
+    × (¬ Simulated run3)
+    × (¬ Simulated run4)
+    × (¬ Simulated run5)
+    × (¬ Simulated run6)
+unfolding opened
+none_is_simulated = (
+  breaks_hazards run0 6 (lit< tt) computes.1,
+  breaks_hazards run1 9 (lit< tt) computes.2,
+  breaks_hazards run2 18 (lit< tt) computes.3,
+  breaks_hazards run3 22 (lit< tt) computes.4,
+  breaks_request_lines run4 28 (lit< tt) computes.5,
+  breaks_snoop_results run5 31 (lit< tt) computes.6,
+  breaks_data run6 33 (lit< tt) computes.7,
+)
 
 follows : (agent : ℕ) → AreOfItems (script_of plan.scripts agent) (steps_of agent log)
 follows zero = record { items = 2; same = refl }
