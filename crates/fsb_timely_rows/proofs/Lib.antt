@@ -40,6 +40,7 @@ mod UpgradeRetried
 mod LoadAfterLoss
 mod SameClock
 mod CleanVictimSeen
+mod VictimOfErrors
 mod LockedTwice
 mod SharedLineOfLock
 mod ReplyPastHeldBack
