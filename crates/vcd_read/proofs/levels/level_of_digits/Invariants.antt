@@ -2,7 +2,7 @@
 use Rattle.std.proofs.Common.{◌≡◌, ◌+◌, ◌^◌, ◌<◌, drop}
 use Rattle.vcd_grammar.specs.Digits.{extended, is_unknown}
 use Rattle.vcd_grammar.specs.Levels.{bits_from, is_low}
-use Rattle.vcd_read.proofs.levels.level_of.Given as goal
+use Rattle.vcd_read.proofs.levels.level_of_digits.Given as goal
 
 abbrev pub invariant-loop-digit : goal.invariant-loop-digit
 invariant-loop-digit l = record {

@@ -2,7 +2,7 @@ use Rattle.std.proofs.Common.{◌≡◌, arith}
 use Rattle.vcd_grammar.specs.Digits.{extended, is_unknown}
 use Rattle.vcd_grammar.specs.Levels.{bits_from, is_low, level_of}
 use Rattle.vcd_read.proofs.Bits.{extended_bits, fill_fits, bits_more, bits_fit, bits_read}
-use Rattle.vcd_read.proofs.levels.level_of.Goals as goal
+use Rattle.vcd_read.proofs.levels.level_of_digits.Goals as goal
 
 pub loop-digit-init : goal.loop-digit-init
 loop-digit-init c = record {
