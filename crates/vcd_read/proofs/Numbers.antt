@@ -2,7 +2,7 @@
 use Rattle.std.proofs.Common.{◌≡◌, ℕ, ◌+◌, ◌-◌, ◌*◌, ◌^◌, ◌<◌, ◌≤◌, ◌&&◌, ◌==◌, not, Bool, true, false, List, [], ◌∷◌, length, get_or, drop, take, Some, None, nat_le, cond, refl, sym, ap, ◌∙◌, arith}
 use Rattle.std.specs.List.{list_all}
 use Rattle.std.proofs.lemmas.List.{drop_more, drop_all, take_all}
-use Rattle.std.proofs.lemmas.Bool.{le-leb, lt-leb, leb-true, and_parts, ne_eqb}
+use Rattle.std.proofs.lemmas.Bool.{le-leb, lt-leb, leb-true, and_parts, and_right, ne_eqb}
 use Rattle.std.proofs.lemmas.Nat.{pow-add}
 use Rattle.std.proofs.Math.Pow.{pow_mono}
 use Rattle.std.proofs.lemmas.List.Folds.{list_all_at}
@@ -29,10 +29,6 @@ whole false true true n h k l = refl
 whole false true false n h k l = absurd cc
 whole false false c n h k l = absurd cc
 
-and_false : (a b : Bool) → b ≡ false → (a && b) ≡ false
-and_false true b h = h
-and_false false b h = refl
-
 none_of : (a b c : Bool) (n : ℕ) → a ≡ true → None ≡ cond ((not a && b) && c) (Some n) None
 none_of true b c n h = refl
 none_of false b c n h = absurd cc
@@ -47,7 +43,7 @@ pub number-other : (limit : ℕ) (word : List ℕ) (i : ℕ) → i < length word
 unfolding number_up_to
 number-other limit word i within other =
     no_number _ (nat_le (number_from 0 word) limit) (number_from 0 word)
-    (and_false (not (length word == 0)) (list_all is_digit word) (list_all_at is_digit word i 0 within other))
+    (and_right (not (length word == 0)) (list_all is_digit word) (list_all_at is_digit word i 0 within other))
 
 -- one more digit
 pub number_from-more : (n : ℕ) (word : List ℕ) (i : ℕ) → i < length word → number_from n (drop i word) ≡ number_from (n * 10 + (get_or word i 0 - 48)) (drop (i + 1) word)
