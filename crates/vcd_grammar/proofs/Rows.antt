@@ -103,6 +103,7 @@ declaring =
     ∷ bad (codes "$var wire / ! other $end") 0 causes.Header
     ∷ bad (codes "$var wire 1000001 ! other $end") 0 causes.Header
     ∷ bad (codes "$var wire 1 " ++ 127 ∷ codes " other $end") 0 causes.Header
+    ∷ bad (codes "$var wire 1 m" ++ 1 ∷ codes " other $end") 0 causes.Header
     ∷ bad (codes "$var wire 2 " ++ 127 ∷ codes " LOCK_n $end") 0 causes.Header
     ∷ bad (codes "$var wire x ! LOCK_n $end") 0 causes.Header
     ∷ bad (codes "$var wire 2 ! LOCK_n $end") 0 causes.Width
@@ -158,6 +159,7 @@ changing =
     ∷ bad (codes "b000000 d") 0 causes.Width
     ∷ bad (98 ∷ replicate 65 48 ++ codes " l") 0 causes.Width
     ∷ bad (98 ∷ replicate 70 48 ++ codes " l") 0 causes.Width
+    ∷ bad (98 ∷ replicate 65 48 ++ codes "2 ~") 0 causes.Token
     ∷ bad (codes "#") 0 causes.Token
     ∷ bad (codes "#1a") 0 causes.Token
     ∷ bad (codes "#:") 0 causes.Token
@@ -202,6 +204,7 @@ declares =
     ∷ good (codes "$var wire 1 m LOCK_n $end $var wire 1 n LOCK_n $end $enddefinitions $end 0a 0m 1n #5 1a") (unset 32 0 ∷ [])
     ∷ good (codes "$var wire 1 m LOCK_n $end $var wire 7 n LOCK_n $end $enddefinitions $end 0a 0m b1111111 n #5 1a") (unset 32 0 ∷ [])
     ∷ good (codes "$var wire 1 m LOCK_n $end $var wire 1 m BNR_n $end $var wire 9 m other $end $enddefinitions $end 0a 0m #5 1a") (unset 96 0 ∷ [])
+    ∷ good (codes "$var wire 1 m LOCK_n $end $var wire 1 m BNR_n $end $enddefinitions $end 0a b0 m #5 1a") (unset 96 0 ∷ [])
     ∷ good (codes "$var wire 1 a LOCK_n $end $enddefinitions $end 0a #5 1a") (unset 32 0 ∷ [])
     ∷ good (codes "$var wire 1 #5 LOCK_n $end $enddefinitions $end 0a b0 #5 #5 1a") (unset 32 0 ∷ [])
     ∷ good (codes "$var real 64 m volts $end $enddefinitions $end 0a r1.2 m R-1e9 m r m s1 m S m #5 1a") (unset 0 0 ∷ [])
@@ -214,6 +217,19 @@ declares-none = refl
 pub declares-samples : map (λ (row : Good). map numbers_of (samples_of (lines ++ row.text))) declares ≡ map (λ (row : Good). row.samples) declares
 unfolding samples_of ended_at grown_at number_up_to time_in extended header_word value_word is_read_past is_foreign_type level_of control_of without sample_at signal_number turn drafted declared closed
 declares-samples = refl
+
+-- the lines that are not needed, each asserted at one clock
+abbrev pub others : List ℕ
+others =
+    codes "$var wire 1 m BREQ1_n $end $var wire 1 n BREQ2_n $end $var wire 1 o BREQ3_n $end $var wire 1 p BPRI_n $end "
+    ++ codes "$var wire 1 q LOCK_n $end $var wire 1 r BNR_n $end $var wire 1 s AERR_n $end $var wire 1 t DEFER_n $end "
+    ++ codes "$enddefinitions $end 1m 1n 1o 1p 1q 1r 1s 1t "
+    ++ codes "#0 0a 0m #5 1a #10 0a 0n 1m #15 1a #20 0a 0o 1n #25 1a #30 0a 0p 1o #35 1a "
+    ++ codes "#40 0a 0q 1p #45 1a #50 0a 0r 1q #55 1a #60 0a 0s 1r #65 1a #70 0a 0t 1s #75 1a"
+
+pub others-samples : map numbers_of (samples_of (lines ++ others)) ≡ map (λ n. unset n 0) (2 ∷ 4 ∷ 8 ∷ 16 ∷ 32 ∷ 64 ∷ 256 ∷ 2048 ∷ [])
+unfolding samples_of ended_at grown_at number_up_to time_in extended header_word value_word is_read_past is_foreign_type level_of control_of without sample_at signal_number turn drafted declared closed
+others-samples = refl
 
 -- ---- texts that are read: values before the first one, and at the first time
 
