@@ -2,7 +2,7 @@
 use Rattle.std.proofs.Common.{◌≡◌, true, false, Some, None, List, [], ◌∷◌, ◌++◌, refl}
 use Rattle.fsb_line.specs.declared.kind.Kind.TheVariants.{Own, Read}
 use Rattle.fsb_line.specs.Events.{Event, after, arrived, effect, ended, given, linked, replied, responded, settled}
-use Rattle.fsb_line.specs.Events.Event.{Begins, Ends, IsGranted, Responds, Stores}
+use Rattle.fsb_line.specs.Events.Event.{Begins, Ends, IsCancelled, IsGranted, Responds, Stores}
 use Rattle.fsb_line.specs.Line.{put, trimmed, unheld}
 use Rattle.fsb_line.specs.Runs.{run}
 use Rattle.fsb_line.specs.Witness.{as_it_is, byte, owned, promises, stores}
@@ -30,3 +30,8 @@ readers_give_nothing = refl
 stores_stay_in_the_copy : ((run (unheld (byte 0)) (owned ++ (Stores 0 (stores 7) ∷ []))).memory ≡ byte 0) × ((run (unheld (byte 0)) (owned ++ (Stores 0 (stores 7) ∷ []))).copy 0 ≡ byte 7)
 unfolding after effect trimmed settled linked given put replied responded ended arrived
 stores_stay_in_the_copy = (refl, refl)
+
+-- a request that was cancelled is open no more
+cancelled_is_not_open : (run (unheld (byte 0)) (Begins 2 Own 0 ∷ IsCancelled 2 ∷ [])).ask 2 ≡ None
+unfolding after effect trimmed put
+cancelled_is_not_open = refl

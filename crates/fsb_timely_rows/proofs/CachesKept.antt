@@ -1,8 +1,7 @@
 -- `Kept` by itself: caches and memory that are those of a run, and ones that differ in one thing.
-use Rattle.std.proofs.Common.{◌≡◌, ◌<◌, ℕ, true, false, refl, sym, ap, ◌∙◌, List, [], ◌∷◌, take, replicate, length, slice_index, IsTrue, arith}
+use Rattle.std.proofs.Common.{◌≡◌, ◌<◌, ℕ, true, false, refl, sym, ap, ◌∙◌, List, [], ◌∷◌, take, replicate, slice_index, IsTrue, arith}
 use Rattle.std.proofs.Common.{lit<}
 use Rattle.std.proofs.lemmas.Bool.Decides.{nat_tests}
-use Rattle.fsb_line.specs.declared.state.Mesi.{Mesi}
 use Rattle.fsb_line.specs.declared.state.Mesi.TheVariants.{Invalid, Shared, Exclusive, Modified}
 use Rattle.fsb_timely.specs.Runs.{Run, past_of}
 use Rattle.fsb_timely.specs.Grants.{is_held, is_ready}

@@ -14,7 +14,7 @@ use Rattle.fsb_timely.specs.Runs.{Run}
 use Rattle.fsb_timely.specs.Completions.{logs_completions}
 use Rattle.fsb_timely.specs.Timely.{holds_at, keeps}
 use Rattle.fsb_timely.specs.Simulated.{Simulated, Asked}
-use Rattle.fsb_timely_rows.proofs.LaidOut.{clock, idle, changed, entry, entries_of, run_of, every_part}
+use Rattle.fsb_timely_rows.proofs.LaidOut.{clock, idle, entry, entries_of, run_of, every_part}
 use Rattle.fsb_timely_rows.proofs.Opened.{opened}
 use Rattle.fsb_timely_rows.proofs.Tests.{simulated_if, breaks_completions}
 use Rattle.fsb_timely_rows.proofs.AskedLines.{asked_for_lines}
