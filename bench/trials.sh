@@ -4,9 +4,9 @@
 # crates/fsb_trials/out/fsb_trials (made by `rt run` there or by `rt ci`). Usage: bench/trials.sh [PROGRAM [SEEDS]]
 set -eu
 program=${1:-crates/fsb_trials/out/fsb_trials}
-"$program" 1 0 by_rule crates/fsb_trials/data/*.vcd | tr '\n' ' '
+"$program" 1 0 crates/fsb_trials/data/*.vcd | tr '\n' ' '
 echo
 for seed in $(seq 1 "${2:-10}"); do
-    "$program" "$seed" 20000 by_rule | tr '\n' ' '
+    "$program" "$seed" 20000 | tr '\n' ' '
     echo
 done

@@ -86,23 +86,42 @@ fn each_line_has_its_number(rt: HostRuntime) {
 #[test]
 fn unknown_bits_are_told(rt: HostRuntime) {
     let known = idle_sample();
+    let none = Word {
+        bits: 0,
+        unknown: 0,
+    };
     let word = Word {
         bits: 0,
         unknown: 1,
     };
     let unknown = [
         Sample {
+            lines: Lines(0),
             unknown: Lines::HIT,
-            ..known
+            req: none,
+            addr: none,
+            dbus: none,
         },
-        Sample { req: word, ..known },
         Sample {
+            lines: Lines(0),
+            unknown: Lines(0),
+            req: word,
+            addr: none,
+            dbus: none,
+        },
+        Sample {
+            lines: Lines(0),
+            unknown: Lines(0),
+            req: none,
             addr: word,
-            ..known
+            dbus: none,
         },
         Sample {
+            lines: Lines(0),
+            unknown: Lines(0),
+            req: none,
+            addr: none,
             dbus: word,
-            ..known
         },
     ];
     assert!(rt; known.is_known() && !word.is_known());

@@ -1,9 +1,9 @@
 //! Waveforms, judged twice: by the checker, sample by sample, and by the plain judge of whole traces.
 //!
 //! `fsb_trials <seed> <count> <dump>..` makes so many random waveforms from the seed, and reads the dumps; of each dump it
-//! also takes every waveform in which one control line is turned over at one clock. It prints how many waveforms were
-//! judged, and how many of them differently, which is to be none. With `by_rule` among the words it also prints how many
-//! were accepted and which rules the others broke first.
+//! also takes every waveform in which one control line is turned over at one clock. Of the random ones and then of those of
+//! the dumps it prints how many were judged, how many were accepted and how many broke each rule first, and how many were
+//! judged differently, which is to be none.
 #![tactic(auto)]
 
 ghost use Rattle.std.specs.Prelude.{◌<◌, ◌^◌, length};
@@ -16,30 +16,27 @@ use fsb_trace::verdict;
 use std::alloc::{AllocError, Global};
 use std::rt::{Env, Files};
 use vcd_read::read_dump;
-use waveform::{spoil, turned_over, waveform};
+use waveform::{turned_over, waveform};
 
 mod draws;
 mod waveform;
 
 fn main(rt: HostRuntime) {
     let asked = read_words(&rt);
-    let mut tally = Tally {
-        judged: 0,
-        accepted: 0,
-        broken: [0; 19],
-        differ: 0,
-    };
+    let mut tally = NONE_JUDGED;
     if random(rt.alloc(), asked, &mut tally).is_err() {
         let _ = println!(rt; "out of memory");
     }
+    report(&rt, "random", &tally);
+    let mut tally = NONE_JUDGED;
     if let Ok(args) = std::env::args(&rt) {
         for word in args.skip(3) {
-            if word.as_str() != "by_rule" && dump(&rt, word.as_str(), &mut tally).is_none() {
+            if dump(&rt, word.as_str(), &mut tally).is_none() {
                 let _ = println!(rt; "not read: {}", word.as_str());
             }
         }
     }
-    report(&rt, asked, &tally);
+    report(&rt, "dumps and their neighbours", &tally);
 }
 
 /// What became of the waveforms.
@@ -52,12 +49,18 @@ struct Tally {
     differ: u32,
 }
 
+const NONE_JUDGED: Tally = Tally {
+    judged: 0,
+    accepted: 0,
+    broken: [0; 19],
+    differ: 0,
+};
+
 /// What the words ask for.
 #[derive(Clone, Copy)]
 struct Asked {
     seed: u64,
     count: u32,
-    by_rule: bool,
 }
 
 /// What the words ask for: seed 1 and 100 waveforms where they name none.
@@ -65,7 +68,6 @@ fn read_words(rt: &(impl Env + AllocGlobal)) -> Asked {
     let mut asked = Asked {
         seed: 1,
         count: 100,
-        by_rule: false,
     };
     let Ok(args) = std::env::args(rt) else {
         return asked;
@@ -74,7 +76,7 @@ fn read_words(rt: &(impl Env + AllocGlobal)) -> Asked {
         match i {
             1 => asked.seed = word.as_str().parse().unwrap_or(1),
             2 => asked.count = word.as_str().parse().unwrap_or(100),
-            _ => asked.by_rule = asked.by_rule || word.as_str() == "by_rule",
+            _ => {}
         }
     }
     asked
@@ -84,8 +86,7 @@ fn read_words(rt: &(impl Env + AllocGlobal)) -> Asked {
 fn random(alloc: Global, asked: Asked, tally: &mut Tally) -> Result<(), AllocError> {
     let mut draws = Draws::new(asked.seed);
     for _ in 0..asked.count {
-        let mut w = waveform(alloc, &mut draws)?;
-        spoil(&mut draws, &mut w);
+        let w = waveform(alloc, &mut draws)?;
         tally.judge(&w);
     }
     Ok(())
@@ -152,16 +153,14 @@ impl Tally {
     }
 }
 
-/// Prints what became of the waveforms.
-fn report(rt: &HostRuntime, asked: Asked, tally: &Tally) {
-    let _ = println!(rt; "waveforms judged: {}", tally.judged);
-    if asked.by_rule {
-        let _ = println!(rt; "accepted: {}", tally.accepted);
-        for (rule, count) in tally.broken.iter().enumerate() {
-            if *count > 0 {
-                let _ = println!(rt; "rule {rule}: {count}");
-            }
-        }
+/// Prints what became of the waveforms of this kind.
+fn report(rt: &HostRuntime, kind: &str, tally: &Tally) {
+    let _ = println!(rt;
+        "{kind}: {} judged, {} of them differently",
+        tally.judged, tally.differ
+    );
+    let _ = println!(rt; "accepted: {}", tally.accepted);
+    for (rule, count) in tally.broken.iter().enumerate().skip(1) {
+        let _ = println!(rt; "rule {rule}: {count}");
     }
-    let _ = println!(rt; "judged differently: {}", tally.differ);
 }

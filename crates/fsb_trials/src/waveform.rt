@@ -1,16 +1,24 @@
 //! Waveforms that keep the rules for a while.
-ghost use Rattle.std.specs.Prelude.{◌≡◌, ◌+◌, ◌≤◌, ◌<◌, ◌^◌, IfOk, length, vec_len};
+ghost use Rattle.std.specs.Prelude.{◌≡◌, ◌+◌, ◌≤◌, ◌<◌, ◌^◌, IfOk, OnOk, length, vec_len};
 
 use crate::draws::Draws;
+use fsb_arbiter::Arbiter;
 use fsb_rules::Checker;
-use fsb_signal::{Lines, Sample};
+use fsb_signal::{Lines, Sample, Word};
+use fsb_trace::Who;
 use std::alloc::{AllocError, Global};
 
-/// The steps of a waveform: clocks, or both clocks of a request.
+/// The steps of a waveform, at most: clocks, or both clocks of a request.
 const STEPS: u32 = 70;
 
-/// How often a clock is drawn again that would break a rule.
-const TRIES: u32 = 600;
+/// How often a step is drawn again that breaks a rule.
+const TRIES: u32 = 200;
+
+/// How often a step is drawn that is to break a rule.
+const AIMS: u32 = 40;
+
+/// The number of the last rule.
+const RULES: u8 = 18;
 
 const BPRI: u32 = 16;
 
@@ -41,7 +49,7 @@ const REQUESTS: [u32; 5] = [1, 2, 4, 8, BPRI];
 
 /// The lines of a clock by themselves, each with how seldom it is drawn.
 const SELDOM: [(u32, u32); 6] = [
-    (BNR, 40),
+    (BNR, 4),
     (AERR, 12),
     (HIT, 6),
     (HITM, 6),
@@ -52,48 +60,200 @@ const SELDOM: [(u32, u32); 6] = [
 /// The response codes that are drawn: normal data most often.
 const CODES: [u32; 8] = [7, 7, 7, 6, 5, 1, 2, 4];
 
-/// A waveform from these draws: a clock, or both clocks of a request, are drawn until no rule is broken, so many times at
-/// most.
+/// By the number of a rule, the lines of which one is asserted in the first clock of a step that breaks it; 0 where none need be.
+const MARKS: [u32; 19] = [
+    0,
+    0,
+    ADS,
+    ADS,
+    ADS,
+    ADS,
+    ADS,
+    ADS,
+    0,
+    LOCK,
+    AERR,
+    HIT | HITM | DEFER,
+    HIT | HITM | DEFER,
+    7 * RS0,
+    7 * RS0,
+    7 * RS0 | TRDY,
+    0,
+    DRDY,
+    ADS,
+];
+
+/// What is drawn alike in all clocks of a waveform.
+#[derive(Clone, Copy)]
+struct Habits {
+    /// The agents that ask.
+    asking: u32,
+    /// How seldom an agent begins to ask.
+    seldom: u32,
+    /// How seldom a line or a bit is unknown.
+    blurred: u32,
+    /// Whether responses come.
+    responds: bool,
+    /// Whether half of the clocks are quiet ones with one line turned over.
+    turns: bool,
+}
+
+/// What is drawn to break a rule.
+const BREAKING: Habits = Habits {
+    asking: 31,
+    seldom: 4,
+    blurred: 2,
+    responds: true,
+    turns: true,
+};
+
+/// A waveform from these draws: steps that break no rule. Three times out of four it is to break a rule of a number that is
+/// drawn: then from a drawn step on, steps are tried that break it, and the first that does is the last. Else it is spoilt.
 pub fn waveform(alloc: Global, draws: &mut Draws) -> Result<Vec<Sample>, AllocError>
     ensures { IfOk result (λ w. vec_len w ≤ 140) }
 {
     let mut w = Vec::new(alloc);
-    let mut last = 0;
-    for _ in 0..STEPS {
-        let mut drawn = step(draws, last);
-        for _ in 0..TRIES {
-            if !is_broken(&w, drawn) {
-                break;
+    let mut now = Now {
+        last: 0,
+        quiet: 0,
+        arbiter: Arbiter::new(),
+    };
+    let habits = drawn_habits(draws);
+    let rule = (1 + draws.below(24) % 24) as u8;
+    let from = draws.below(STEPS);
+    for n in 0..STEPS {
+        if n >= from {
+            if let Some(step) = breaking(draws, &now, &w, rule) {
+                put(&mut w, step)?;
+                return Ok(w);
             }
-            drawn = step(draws, last);
         }
-        last = drawn.0.0;
-        w.push(sample(drawn.0))?;
-        if let Some(second) = drawn.1 {
-            last = second.0;
-            w.push(sample(second))?;
-        }
+        let step = lawful(draws, habits, &now, &w);
+        now.take(step);
+        put(&mut w, step)?;
+    }
+    if rule > RULES {
+        spoil(draws, &mut w);
     }
     Ok(w)
 }
 
+/// What the next step is drawn by.
+#[derive(Clone, Copy)]
+struct Now {
+    /// The control lines of the last clock.
+    last: u32,
+    /// The clocks since the last clock with ADS#.
+    quiet: u32,
+    arbiter: Arbiter,
+}
+
+impl Now {
+    /// Takes the clocks of a step.
+    fn take(&mut self, step: Step) {
+        self.take_clock(step.0);
+        if let Some(second) = step.1 {
+            self.take_clock(second);
+        }
+    }
+
+    fn take_clock(&mut self, clock: Clock) {
+        self.arbiter.absorb(&sample(clock));
+        self.last = clock.lines;
+        self.quiet = if has(clock.lines, ADS) {
+            0
+        } else {
+            self.quiet.saturating_add(1)
+        };
+    }
+
+    /// The number of the agent that may begin a request, if there is one: 4 is the priority agent.
+    fn winner(&self) -> Option<u32> {
+        match self.arbiter.winner() {
+            Some(Who::Symmetric(agent)) => Some(u32::from(agent)),
+            Some(Who::Priority) => Some(4),
+            None => None,
+        }
+    }
+}
+
+/// Adds the clocks of a step.
+fn put(w: &mut Vec<Sample>, step: Step) -> Result<(), AllocError>
+    ensures { OnOk result (length w.new.items ≤ length w.old.items + 2) }
+{
+    w.push(sample(step.0))?;
+    if let Some(second) = step.1 {
+        w.push(sample(second))?;
+    }
+    Ok(())
+}
+
+/// A step that breaks no rule, with a request half of the time where one may begin.
+fn lawful(draws: &mut Draws, habits: Habits, now: &Now, w: &[Sample]) -> Step
+    requires { length w.now + 2 < 2 ^ 32 }
+{
+    let winner = now.winner();
+    let begins = winner.is_some() && now.quiet > 1 && draws.once_in(2);
+    for n in 0..TRIES {
+        let drawn = step(draws, habits, now.last, winner, begins && n < 8);
+        if broken_by(w, drawn).is_none() {
+            return drawn;
+        }
+    }
+    step(draws, habits, now.last, winner, false)
+}
+
+/// A step that breaks this rule first, if one is found.
+fn breaking(draws: &mut Draws, now: &Now, w: &[Sample], rule: u8) -> Option<Step>
+    requires { length w.now + 2 < 2 ^ 32 }
+{
+    if rule > RULES {
+        return None;
+    }
+    let marks = MARKS.get(rule as usize).copied().unwrap_or(0);
+    let winner = now.winner();
+    for n in 0..AIMS {
+        let begins = draws.once_in(2);
+        let agent = if n % 4 == 0 { None } else { winner };
+        let drawn = step(draws, BREAKING, now.last, agent, begins);
+        let may_break = marks == 0 || has(drawn.0.lines, marks);
+        if may_break && broken_by(w, drawn) == Some(rule) {
+            return Some(drawn);
+        }
+    }
+    None
+}
+
+/// Who asks in a waveform, and whether it has responses: three times out of four.
+fn drawn_habits(draws: &mut Draws) -> Habits {
+    let agent = 1 << (draws.below(4) % 4);
+    let asking = if draws.once_in(3) { agent | BPRI } else { 31 };
+    let responds = !draws.once_in(4);
+    let seldom = if responds { 12 } else { 3 };
+    Habits {
+        asking,
+        seldom,
+        blurred: 8,
+        responds,
+        turns: false,
+    }
+}
+
 /// Three times out of four, turns one control line over at one clock, or draws that clock anew.
-pub fn spoil(draws: &mut Draws, w: &mut [Sample])
+fn spoil(draws: &mut Draws, w: &mut [Sample])
     requires { length w.old ≤ 140 }
     ensures { length w.new ≡ length w.old }
 {
     let at = draws.below(w.len() as u32) as usize;
-    let line = 1 << (draws.below(18) % 18);
-    let drawn = sample(clock(draws, 0));
+    let line = draws.below(18) % 18;
+    let habits = drawn_habits(draws);
+    let drawn = sample(drawn_clock(draws, habits, 0, 5, false));
     let kind = draws.below(4);
     if let Some(spoiled) = w.get_mut(at) {
         match kind {
             0 => {}
             1 => *spoiled = drawn,
-            _ => {
-                let before = (spoiled.lines.0, spoiled.req.bits, spoiled.addr.bits);
-                *spoiled = sample((before.0 ^ line, before.1, before.2));
-            }
+            _ => *spoiled = turned_over(spoiled, line),
         }
     }
 }
@@ -110,14 +270,34 @@ pub fn turned_over(sample: &Sample, line: u32) -> Sample
     )
 }
 
-/// The control lines, the REQ word and the address word of a clock.
-type Clock = (u32, u64, u64);
+/// The control lines, the REQ word and the address word of a clock, and what of it is unknown.
+#[derive(Clone, Copy)]
+struct Clock {
+    lines: u32,
+    req: u64,
+    addr: u64,
+    blur: Blur,
+}
+
+/// What of a clock is unknown.
+#[derive(Clone, Copy)]
+enum Blur {
+    Nothing,
+    /// A control line, of this number.
+    Line(u32),
+    /// A bit of REQ.
+    Req,
+    /// A bit of the address word.
+    Addr,
+    /// A bit of the data.
+    Data,
+}
 
 /// A clock, and the one behind it where a request begins.
 type Step = (Clock, Option<Clock>);
 
-/// Whether the samples and then these clocks break a rule.
-fn is_broken(w: &[Sample], drawn: Step) -> bool
+/// The rule that the samples and then these clocks break first.
+fn broken_by(w: &[Sample], drawn: Step) -> Option<u8>
     requires { length w.now + 2 < 2 ^ 32 }
 {
     let (first, second) = drawn;
@@ -125,35 +305,61 @@ fn is_broken(w: &[Sample], drawn: Step) -> bool
     for sample in w {
         let _ = checker.feed(sample);
     }
-    let found = checker.feed(&sample(first));
-    match second {
-        None => found.is_some(),
-        Some(second) => checker.feed(&sample(second)).is_some(),
+    let mut found = checker.feed(&sample(first));
+    if let Some(second) = second {
+        found = checker.feed(&sample(second));
     }
+    found.map(|broken| broken.rule)
 }
 
-/// A clock after one with these control lines, and the one behind it where a request begins.
-fn step(draws: &mut Draws, last: u32) -> Step {
-    let first = clock(draws, last);
-    if has(first.0, ADS) && !has(last, ADS) {
-        (first, Some(clock(draws, first.0)))
+/// A clock after one with these control lines, and the one behind it where a request begins, of this agent.
+fn step(draws: &mut Draws, habits: Habits, last: u32, winner: Option<u32>, begins: bool) -> Step {
+    let agent = match winner {
+        Some(agent) => agent,
+        None => draws.below(5),
+    };
+    let first = drawn_clock(draws, habits, last, 5, begins);
+    if begins {
+        (
+            first,
+            Some(drawn_clock(draws, habits, first.lines, agent, false)),
+        )
     } else {
         (first, None)
     }
 }
 
-/// A clock after one with these control lines.
-fn clock(draws: &mut Draws, last: u32) -> Clock {
-    // The agent whose request began in the clock before, if one did: 4 is the priority agent.
-    let agent = draws.below(5);
-    let lines = lines(draws, last, agent);
+/// A clock after one with these control lines, in which a request of this agent began, if one did.
+fn drawn_clock(draws: &mut Draws, habits: Habits, last: u32, agent: u32, begins: bool) -> Clock {
+    let lines = lines(draws, habits, last, agent, begins);
     let (req, addr) = words(draws, last, lines, agent);
-    (lines, req, addr)
+    let blur = drawn_blur(draws, habits.blurred);
+    Clock {
+        lines,
+        req,
+        addr,
+        blur,
+    }
+}
+
+/// What is unknown, once in so many times.
+fn drawn_blur(draws: &mut Draws, seldom: u32) -> Blur {
+    if draws.once_in(seldom) {
+        let line = draws.below(18) % 18;
+        match draws.below(6) {
+            0 => Blur::Line(line),
+            1 => Blur::Req,
+            2 => Blur::Addr,
+            _ => Blur::Data,
+        }
+    } else {
+        Blur::Nothing
+    }
 }
 
 /// The words of a clock with these lines, after one with those: of a request's second clock, of its first, or none.
 fn words(draws: &mut Draws, last: u32, lines: u32, agent: u32) -> (u64, u64) {
-    let number = u64::from(draws.below(3));
+    let number = u64::from(draws.below(5));
     if has(last, ADS) {
         let den = u64::from(draws.below(2));
         return if agent == 4 {
@@ -175,30 +381,32 @@ fn words(draws: &mut Draws, last: u32, lines: u32, agent: u32) -> (u64, u64) {
 }
 
 /// Control lines after these. Three times out of four nothing happens but to the request lines, ADS# and LOCK#.
-fn lines(draws: &mut Draws, last: u32, agent: u32) -> u32 {
-    let mut lines = request_lines(draws, last, agent);
-    if draws.once_in(3) {
+fn lines(draws: &mut Draws, habits: Habits, last: u32, agent: u32, begins: bool) -> u32 {
+    let mut lines = request_lines(draws, habits, last, agent);
+    if begins {
         lines |= ADS;
     }
     if has(last, LOCK) && !draws.once_in(10) || has(lines, ADS) && draws.once_in(8) {
         lines |= LOCK;
     }
-    if draws.once_in(4) {
-        lines | event_lines(draws, last)
+    if habits.turns && draws.once_in(2) {
+        (lines | last & DBSY) ^ (1 << (draws.below(18) % 18))
+    } else if draws.once_in(4) {
+        lines | event_lines(draws, habits, last)
     } else {
         lines | last & DBSY
     }
 }
 
 /// The lines of snoops, responses and data, of errors and of blocked requests.
-fn event_lines(draws: &mut Draws, last: u32) -> u32 {
+fn event_lines(draws: &mut Draws, habits: Habits, last: u32) -> u32 {
     let mut lines = 0;
     for (line, times) in SELDOM {
         if draws.once_in(times) {
             lines |= line;
         }
     }
-    if draws.once_in(3) {
+    if habits.responds && draws.once_in(3) {
         let code = draws.below(8) as usize;
         lines |= CODES[code % 8] * RS0;
     }
@@ -212,12 +420,13 @@ fn event_lines(draws: &mut Draws, last: u32) -> u32 {
 }
 
 /// The request lines after these: kept, and that of an agent whose request began is released.
-fn request_lines(draws: &mut Draws, last: u32, agent: u32) -> u32 {
+fn request_lines(draws: &mut Draws, habits: Habits, last: u32, agent: u32) -> u32 {
     let mut lines = 0;
     for (number, line) in REQUESTS.into_iter().enumerate() {
         let begun = has(last, ADS) && number == agent as usize;
-        let seldom = if line == BPRI { 100 } else { 12 };
-        if !begun && (has(last, line) || draws.once_in(seldom)) {
+        let seldom = if line == BPRI { 60 } else { habits.seldom };
+        let asks = has(habits.asking, line) && draws.once_in(seldom);
+        if !begun && (has(last, line) || asks) {
             lines |= line;
         }
     }
@@ -229,12 +438,41 @@ fn has(lines: u32, line: u32) -> bool {
     lines & line != 0
 }
 
-/// The sample of a clock.
-fn sample((lines, req, addr): Clock) -> Sample {
-    Sample::known(
-        Lines(lines % (1 << 18)),
-        (req % (1 << 5)) as u8,
-        addr % (1 << 33),
-        0,
-    )
+/// The line that is unknown, as a set of lines.
+fn unknown_line(blur: Blur) -> u32 {
+    match blur {
+        Blur::Line(line) => 1 << (line % 18),
+        _ => 0,
+    }
+}
+
+/// The word with these bits, or with one that is unknown and no other.
+fn word(bits: u64, is_unknown: bool) -> Word
+    ensures bits { result.bits ≤ bits }
+    ensures unknown { result.unknown ≤ 1 }
+{
+    if is_unknown {
+        Word {
+            bits: 0,
+            unknown: 1,
+        }
+    } else {
+        Word::known(bits)
+    }
+}
+
+/// The sample of a clock. Where a line is unknown, no line is asserted.
+fn sample(clock: Clock) -> Sample {
+    let unknown = unknown_line(clock.blur) % (1 << 18);
+    Sample {
+        lines: Lines(if unknown == 0 {
+            clock.lines % (1 << 18)
+        } else {
+            0
+        }),
+        unknown: Lines(unknown),
+        req: word(clock.req % (1 << 5), matches!(clock.blur, Blur::Req)),
+        addr: word(clock.addr % (1 << 33), matches!(clock.blur, Blur::Addr)),
+        dbus: word(0, matches!(clock.blur, Blur::Data)),
+    }
 }

@@ -1,9 +1,9 @@
 use Rattle.std.proofs.Common.{◌++◌, ◌∷◌, [], take, arith}
 use Rattle.std.proofs.lemmas.List.{length-append, length-take}
-use Rattle.fsb_trials.proofs.waveform.is_broken.Goals as goal
+use Rattle.fsb_trials.proofs.waveform.broken_by.Goals as goal
 
-pub feed-requires-in-Some : goal.feed-requires-in-Some
-feed-requires-in-Some c = (
+pub feed-found-requires-in-Some : goal.feed-found-requires-in-Some
+feed-found-requires-in-Some c = (
   take c.loop-sample.sample-index c.args.w.now ++ c.sample.result ∷ [],
   c.feed-found.ensures.stands (take c.loop-sample.sample-index c.args.w.now) c.loop-sample.invariant,
   (let size = length-append (take c.loop-sample.sample-index c.args.w.now) (c.sample.result ∷ []) in

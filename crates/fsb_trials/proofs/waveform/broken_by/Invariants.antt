@@ -1,6 +1,6 @@
 use Rattle.std.proofs.Common.{take}
 use Rattle.fsb_rules.specs.Checker.{Stands}
-use Rattle.fsb_trials.proofs.waveform.is_broken.Given as goal
+use Rattle.fsb_trials.proofs.waveform.broken_by.Given as goal
 
 -- the checker was fed the samples so far
 abbrev pub invariant-loop-sample : goal.invariant-loop-sample
