@@ -85,33 +85,48 @@ fn each_line_has_its_number(rt: HostRuntime) {
 
 #[test]
 fn unknown_bits_are_told(rt: HostRuntime) {
-    let known = idle_sample();
-    let word = Word {
+    let none = Word {
+        bits: 0,
+        unknown: 0,
+    };
+    let one = Word {
         bits: 0,
         unknown: 1,
     };
-    let unknown = [
-        Sample {
-            unknown: Lines::HIT,
-            ..known
-        },
-        Sample { req: word, ..known },
-        Sample {
-            addr: word,
-            ..known
-        },
-        Sample {
-            dbus: word,
-            ..known
-        },
-    ];
-    assert!(rt; known.is_known() && !word.is_known());
-    for sample in unknown {
-        assert!(rt; !sample.is_known());
-        assert_eq!(rt; sample.has_known_lines(), sample.unknown == Lines(0));
-    }
+    let hit = Sample {
+        lines: Lines(0),
+        unknown: Lines::HIT,
+        req: none,
+        addr: none,
+        dbus: none,
+    };
+    let req = Sample {
+        lines: Lines(0),
+        unknown: Lines(0),
+        req: one,
+        addr: none,
+        dbus: none,
+    };
+    let addr = Sample {
+        lines: Lines(0),
+        unknown: Lines(0),
+        req: none,
+        addr: one,
+        dbus: none,
+    };
+    let dbus = Sample {
+        lines: Lines(0),
+        unknown: Lines(0),
+        req: none,
+        addr: none,
+        dbus: one,
+    };
+    assert!(rt; none.is_known() && !one.is_known() && idle_sample().is_known());
+    assert!(rt; !hit.is_known() && !hit.has_known_lines());
+    assert!(rt; !req.is_known() && req.has_known_lines());
+    assert!(rt; !addr.is_known() && !dbus.is_known());
     let both = Lines(Lines::HIT.0 + Lines::HITM.0);
-    assert!(rt; unknown[0].has_unknown(Lines::HIT) && !unknown[0].has_unknown(both));
+    assert!(rt; hit.has_unknown(Lines::HIT) && !hit.has_unknown(both));
     assert!(rt;
         !Sample::known(Lines::HIT, 0, 0, 0).has(both),
         "each of the lines"
