@@ -6,7 +6,7 @@ use Rattle.fsb_signal.specs.declared.sample.Sample.{Sample}
 use Rattle.fsb_signal.specs.declared.sample.Word.{Word}
 use Rattle.fsb_signal.specs.declared.lines.TheConstants.Lines.{BREQ0, BREQ1, BREQ2, BREQ3, BPRI, LOCK, ADS, AERR, HIT, HITM, RS0, RS1, RS2, TRDY, DBSY, DRDY}
 use Rattle.fsb_trace.specs.declared.who.Who.TheVariants.{Symmetric, Priority}
-use Rattle.fsb_trace.specs.declared.outcome.Outcome.TheVariants.{Handed, Retried, Deferred, Failed}
+use Rattle.fsb_trace.specs.declared.outcome.Outcome.TheVariants.{Handed, Retried, Deferred, Written, Replied, Failed}
 use Rattle.fsb_count.specs.Options.{is_some_and, is_before, is_at, greater_of}
 use Rattle.fsb_count.specs.Clocks.{first_where, last_where, any_where, count_where, all_where, nth_where, from_clock, holds_since}
 use Rattle.fsb_signal.specs.Samples.{line_at}
@@ -58,6 +58,15 @@ four_in_turn-says =
     × (winner_at four_in_turn 14 ≡ Some (Symmetric 0))
     × (last_agent four_in_turn 8 ≡ Some (Symmetric 1))
     × (last_symmetric four_in_turn 8 ≡ Some 1)
+
+-- two agents of which one asks at a time
+abbrev one_asks : Trace
+one_asks = lines (BREQ2 ∷ []) ∷ lines (BREQ3 ∷ []) ∷ []
+
+abbrev one_asks-says : Type 0
+one_asks-says =
+    (winner_at one_asks 2 ≡ Some (Symmetric 2))
+    × (winner_at one_asks 3 ≡ Some (Symmetric 3))
 
 -- the priority agent wins over one that asks too, and the order goes on behind the last symmetric agent
 abbrev priority_between : Trace
@@ -196,9 +205,45 @@ owned_load-says =
     × (outcome_of (owned_load (RS0 ∷ [])) 0 ≡ Some Handed)
     × (verdict (owned_load (RS0 ∷ [])) ≡ Some (8, 14))
 
--- a word with an unknown bit
+-- a line that has been written is written back
+abbrev written_back : Trace
+written_back =
+    lines (BREQ0 ∷ [])
+    ∷ lines (BREQ0 ∷ [])
+    ∷ clock (BREQ0 ∷ ADS ∷ []) 0x5 0x8
+    ∷ clock [] 0x2 0x0
+    ∷ idle
+    ∷ idle
+    ∷ idle
+    ∷ idle
+    ∷ lines (TRDY ∷ [])
+    ∷ idle
+    ∷ lines (RS0 ∷ RS2 ∷ DBSY ∷ DRDY ∷ [])
+    ∷ lines (DBSY ∷ DRDY ∷ [])
+    ∷ lines (DBSY ∷ DRDY ∷ [])
+    ∷ lines (DRDY ∷ [])
+    ∷ []
+
+abbrev written_back-says : Type 0
+written_back-says =
+    (outcome_of written_back 0 ≡ Some Written)
+    × (takes written_back 0 ≡ true)
+    × (ready_clock_of written_back 0 ≡ Some 8)
+    × (end_of written_back 0 ≡ Some 13)
+    × (verdict written_back ≡ None)
+    × (response_code_of Replied ≡ 0b111)
+    × (ready_clock_of (take 7 written_back ++ lines (TRDY ∷ []) ∷ lines (TRDY ∷ []) ∷ []) 0 ≡ Some 8)
+
+-- a lock that begins with the trace and with no request
+abbrev lock_at_first-says : Type 0
+lock_at_first-says = verdict (lines (LOCK ∷ []) ∷ []) ≡ Some (0, 9)
+
+-- an address word, and a REQ word, with an unknown bit
 abbrev unclear : Word
-unclear = record { bits = 0; unknown = 1; disjoint = refl }
+unclear = record { bits = 0x8; unknown = 1; disjoint = refl }
+
+abbrev unclear_code : Word
+unclear_code = record { bits = 0x6; unknown = 8; disjoint = refl }
 
 -- the first clock of a load, with an unknown bit of the address or of REQ
 abbrev unclear_address : Sample
@@ -223,7 +268,7 @@ unclear_req =
     record {
       lines = record { 0 = bits_of (BREQ0 ∷ ADS ∷ []) };
       unknown = record { 0 = 0 };
-      req = unclear;
+      req = unclear_code;
       addr = word 0x8;
       dbus = word 0;
       disjoint = and_zero_r (bits_of (BREQ0 ∷ ADS ∷ []));
@@ -267,9 +312,11 @@ id_in_use-says = verdict id_in_use ≡ Some (7, 18)
 abbrev two_agents-say : Type 0
 two_agents-say =
     (is_snoop_clock two_agents_overlap 6 ≡ true)
+    × (is_snoop_clock (take 6 two_agents_overlap) 6 ≡ false)
     × (is_snoop_clock two_agents_overlap 8 ≡ false)
     × (is_clear_before two_agents_overlap 1 11 ≡ false)
     × (is_clear_before two_agents_overlap 1 12 ≡ true)
+    × (is_in_flight two_agents_overlap 2 2 ≡ false)
     × (in_flight two_agents_overlap 2 ≡ [])
     × (in_flight two_agents_overlap 11 ≡ 2 ∷ 5 ∷ [])
     × (in_flight two_agents_overlap 12 ≡ 5 ∷ [])
@@ -327,12 +374,15 @@ reply_cancelled-says =
 -- all of the above
 pub values_hold :
     four_in_turn-says
+    × one_asks-says
     × priority_between-says
     × bus_locked-says
     × begun_by_nobody-says
     × cancelled_in_turn-says
     × stall_moves_the_next-says
     × owned_load-says
+    × written_back-says
+    × lock_at_first-says
     × unclear_words-say
     × id_in_use-says
     × two_agents-say
@@ -358,4 +408,4 @@ unfolding is_some_and is_before is_at greater_of first_where last_where any_wher
     is_ready_wrongly is_target_ready_wrong is_transferring_of is_transferring is_data_wrong has_unknown_data
     awaits_reply is_id_taken_by is_outstanding_of_winner is_begun_wrongly is_outstanding_wrong phase_rules breaks
     is_broken least_rule is_foul verdict
-values_hold = ((refl, refl, refl, refl, refl, refl, refl, refl, refl), (refl, refl, refl, refl), (refl, refl, refl, refl), (refl, refl, refl, refl), (refl, refl), (refl, refl, refl, refl, refl, refl, refl, refl, refl, refl, refl, refl), (refl, refl, refl, refl, refl), (refl, refl, refl, refl, refl), refl, (refl, refl, refl, refl, refl, refl, refl, refl, refl, refl, refl, refl, refl, refl, refl, refl, refl, refl, refl, refl, refl), (refl, refl, refl, refl, refl, refl, refl, refl, refl, refl, refl, refl, refl, refl, refl, refl, refl), (refl, refl, refl, refl, refl, refl, refl, refl))
+values_hold = ((refl, refl, refl, refl, refl, refl, refl, refl, refl), (refl, refl), (refl, refl, refl, refl), (refl, refl, refl, refl), (refl, refl, refl, refl), (refl, refl), (refl, refl, refl, refl, refl, refl, refl, refl, refl, refl, refl, refl), (refl, refl, refl, refl, refl), (refl, refl, refl, refl, refl, refl, refl), refl, (refl, refl, refl, refl, refl), refl, (refl, refl, refl, refl, refl, refl, refl, refl, refl, refl, refl, refl, refl, refl, refl, refl, refl, refl, refl, refl, refl, refl, refl), (refl, refl, refl, refl, refl, refl, refl, refl, refl, refl, refl, refl, refl, refl, refl, refl, refl), (refl, refl, refl, refl, refl, refl, refl, refl))
