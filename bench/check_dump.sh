@@ -3,14 +3,16 @@
 # over with rising time stamps, through the built program (crates/p6bench/out/p6bench, made by `rt run` or `rt ci`).
 # Usage: bench/check_dump.sh [PROGRAM [MEGABYTES]]
 set -eu
-program=${1:-crates/p6bench/out/p6bench}
+program=$(realpath -- "${1:-$(dirname "$0")/../crates/p6bench/out/p6bench}")
+cd "$(dirname "$0")/.."
+[ -x "$program" ] || { echo "no program at $program: build it by 'rt run' in crates/p6bench" >&2; exit 2; }
 megabytes=${2:-200}
 folder=$(mktemp -d)
 trap 'rm -rf "$folder"' EXIT
 python3 - "$program" "$folder" "$megabytes" <<'PY'
 import os, subprocess, sys, time
 sys.path.insert(0, "bench")
-from memory import most_memory
+from memory import most_memory, row
 program, folder, size = sys.argv[1], sys.argv[2], int(sys.argv[3]) * 1_000_000
 bench, run, large, small = (os.path.join(folder, name) for name in ("run.bench", "run.vcd", "large.vcd", "small.vcd"))
 
@@ -49,6 +51,6 @@ memory = most_memory([program, "check", large])
 assert status in (0, 1), f"`check` ends with status {status}"
 best = min(timed(large)[0] for _ in range(5)) - min(timed(small)[0] for _ in range(5))
 bytes_read = os.path.getsize(large)
-print(f"check of a dump of {bytes_read} bytes, {clock} clocks: {said} (status {status})")
-print(f"{best * 1000:.0f} ms: {bytes_read / best / 1e6:.0f} MB/s; most memory: {memory:.1f} MiB")
+assert said == f"accepted clocks={clock}", said
+row(f"judging a dump of {bytes_read / 1e6:.0f} MB ({clock / 1e6:.1f} million clocks)", f"{bytes_read / best / 1e6:.0f} MB/s", memory, "100 MB/s or more, 8 MiB")
 PY

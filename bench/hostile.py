@@ -18,7 +18,7 @@ import sys
 import tempfile
 
 TOP = os.path.dirname(os.path.dirname(os.path.abspath(__file__)))
-DUMPS = ["crates/p6bench/data/first.vcd", "examples/dumps/falling.vcd", "examples/dumps/scopes.vcd"]
+DUMPS = ["crates/p6bench/data/first.vcd", "crates/vcd_texts/data/falling.vcd", "crates/vcd_texts/data/scopes.vcd"]
 BENCHES = ["examples/first.bench", "examples/counter.bench", "examples/two_agents.bench"]
 ALLOWED = {"check": {0, 1, 4}, "run": {0, 3}}
 WORDS = [b"$end", b"$var", b"$enddefinitions", b"#0", b"#99999999999999999999", b"0!", b"b1", b"x", b"z", b"r1.0 !", b" ", b"\n",

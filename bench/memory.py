@@ -8,7 +8,7 @@ import time
 
 
 def most_memory(words):
-    child = subprocess.Popen(words, stdout=subprocess.DEVNULL)
+    child = subprocess.Popen(words, stdout=subprocess.DEVNULL, stderr=subprocess.DEVNULL)
     most = 0
     while child.poll() is None:
         try:
@@ -22,3 +22,8 @@ def most_memory(words):
             pass
         time.sleep(0.001)
     return most / 1024
+
+
+def row(work, measured, memory, asked):
+    """Prints one line of the table."""
+    print("%-62s %-10s %8.1f MiB   %s" % (work, measured, memory, asked))

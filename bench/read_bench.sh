@@ -4,7 +4,9 @@
 # nothing is run.
 # Usage: bench/read_bench.sh [PROGRAM]
 set -eu
-program=${1:-crates/p6bench/out/p6bench}
+program=$(realpath -- "${1:-$(dirname "$0")/../crates/p6bench/out/p6bench}")
+cd "$(dirname "$0")/.."
+[ -x "$program" ] || { echo "no program at $program: build it by 'rt run' in crates/p6bench" >&2; exit 2; }
 folder=$(mktemp -d)
 trap 'rm -rf "$folder"' EXIT
 python3 - "$folder/large.bench" "$folder/small.bench" <<'PY'
@@ -22,7 +24,7 @@ PY
 python3 - "$program" "$folder/large.bench" "$folder/small.bench" <<'PY'
 import os, subprocess, sys, time
 sys.path.insert(0, "bench")
-from memory import most_memory
+from memory import most_memory, row
 program, large, small = sys.argv[1:]
 def best(path):
     times = []
@@ -34,6 +36,5 @@ def best(path):
     return min(times)
 size = os.path.getsize(large)
 took = best(large) - best(small)
-print(f"{size} bytes in {took * 1000:.1f} ms: {size / took / 1e6:.0f} MB/s")
-print(f"most memory: {most_memory([program, 'run', large]):.1f} MiB")
+row(f"reading a bench file of {size / 1e6:.1f} MB", f"{size / took / 1e6:.0f} MB/s", most_memory([program, "run", large]), "50 MB/s or more")
 PY

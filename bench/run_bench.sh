@@ -3,13 +3,15 @@
 # (crates/p6bench/out/p6bench, made by `rt run` or `rt ci`).
 # Usage: bench/run_bench.sh [PROGRAM]
 set -eu
-program=${1:-crates/p6bench/out/p6bench}
+program=$(realpath -- "${1:-$(dirname "$0")/../crates/p6bench/out/p6bench}")
+cd "$(dirname "$0")/.."
+[ -x "$program" ] || { echo "no program at $program: build it by 'rt run' in crates/p6bench" >&2; exit 2; }
 folder=$(mktemp -d)
 trap 'rm -rf "$folder"' EXIT
 python3 - "$program" "$folder" <<'PY'
 import os, subprocess, sys, time
 sys.path.insert(0, "bench")
-from memory import most_memory
+from memory import most_memory, row
 program, folder = sys.argv[1:]
 bench = os.path.join(folder, "long.bench")
 dump = os.path.join(folder, "long.vcd")
@@ -29,7 +31,6 @@ def best(*words):
 log = best()
 both = best(dump)
 size = os.path.getsize(dump)
-print(f"run, 4,096 accesses over 200,000 clocks: {log * 1000:.0f} ms")
-print(f"the same with a dump of {size} bytes ({size / 200000:.1f} a clock): {both * 1000:.0f} ms")
-print(f"most memory: {most_memory([program, 'run', bench, dump]):.1f} MiB")
+row("4,096 accesses over 200,000 clocks", f"{log * 1000:.0f} ms", most_memory([program, "run", bench]), "well under a second, 64 MiB")
+row(f"the same with a dump of {size / 1e6:.1f} MB ({size / 200000:.1f} bytes a clock)", f"{both * 1000:.0f} ms", most_memory([program, "run", bench, dump]), "well under a second, 64 MiB, 192 bytes a clock")
 PY

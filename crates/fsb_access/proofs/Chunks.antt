@@ -1,10 +1,11 @@
-use Rattle.std.proofs.Common.{◌≡◌, ◌≢◌, ℕ, zero, suc, ◌+◌, ◌-◌, ◌/◌, ◌%◌, ◌^◌, ◌<◌, ◌≤◌, true, false, cond, ◌&&◌, List, [], ◌∷◌, Some, lit<, length, get_or, set, get_or-set_same, get_or-set_other, take, drop, nat_cmp, refl, ◌∙◌, ap, ⊎_elim, arith}
+use Rattle.std.proofs.Common.{◌≡◌, ◌≢◌, ℕ, zero, suc, ◌+◌, ◌-◌, ◌*◌, ◌/◌, ◌%◌, ◌^◌, ◌<◌, ◌≤◌, true, false, cond, ◌&&◌, List, [], ◌∷◌, Some, lit<, length, length-set, get_or, set, get_or-set_same, get_or-set_other, take, drop, nat_cmp, refl, ◌∙◌, ap, ⊎_elim, arith}
 use Rattle.std.proofs.lemmas.Bool.{cases_Bool, cases_eq}
 use Rattle.std.proofs.lemmas.Bool.Decides.{nat_tests}
 use Rattle.std.proofs.lemmas.List.{places, get_or-take, get_or-replicate, length-take-le}
-use Rattle.std.proofs.lemmas.List.Sums.{fold_more}
+use Rattle.std.proofs.lemmas.List.Sums.{fold_more, fold-append}
 use Rattle.std.proofs.Math.Nat.{pow-le-pow_right}
 use Rattle.std.proofs.Math.Path.{fun_ext}
+use Rattle.std.proofs.Math.Seq.{take-add}
 use Rattle.std.specs.Prelude.{nat_le, nat_lt, ◌==◌, slice_index}
 use Rattle.std.specs.BTreeMap.{is_at}
 use Rattle.std.specs.Int.{to_le_bytes, w64}
@@ -12,7 +13,7 @@ use Rattle.std.specs.Map.{lookup}
 use borrow.Rule.Slice.PartMut.{put_mid}
 use Rattle.fsb_access.proofs.ByteLaws.{bytes_at-is}
 use Rattle.fsb_access.specs.Access.{is_place}
-use Rattle.fsb_access.specs.ByteMemory.{ByteMemory, memory_of, bytes_at, put_byte, put_bytes, put_value, byte_of, value_of_bytes, value_at}
+use Rattle.fsb_access.specs.ByteMemory.{ByteMemory, start_memory, bytes_at, put_byte, put_bytes, put_value, byte_of, value_of_bytes, value_at, set_memory}
 use Rattle.fsb_access.specs.FlatView.{FlatView, chunk_bytes, memory_of_chunks, state_of}
 use Rattle.fsb_access.specs.Replay.{ReplayState, start_of, with_last}
 use Rattle.fsb_access.specs.declared.access.Setting.{Setting}
@@ -115,17 +116,6 @@ state_of-loaded chunks last agent at value is within =
     there : (other : ℕ) → other ≢ agent → slice_index (set last at value) other ≡ cond (other == agent) value (slice_index last other)
     there other ne = let apart : other ≢ at = omega arith in grind (arith, nat_tests, places, get_or-set_other)
 
--- a byte by itself, put as bytes
-pub put_bytes-one : (memory : ByteMemory) (addr byte : ℕ) → put_bytes memory addr (byte ∷ []) ≡ put_byte memory addr byte
-unfolding put_bytes
-put_bytes-one memory addr byte = fun_ext (λ place. ⊎_elim (here place) (there place) (cases_eq place addr))
-  where
-    here : (place : ℕ) → place ≡ addr → put_bytes memory addr (byte ∷ []) place ≡ put_byte memory addr byte place
-    here place is = let first : place - addr ≡ 0 = omega arith in rw first (grind (arith, nat_tests))
-
-    there : (place : ℕ) → place ≢ addr → put_bytes memory addr (byte ∷ []) place ≡ put_byte memory addr byte place
-    there place apart = grind (arith, nat_tests)
-
 -- the bytes of a number, put as bytes
 pub put_bytes-value :
     (memory : ByteMemory) (addr size value : ℕ) (bytes : List ℕ) → length bytes ≡ size →
@@ -186,15 +176,76 @@ state_of-empty chunks empty =
     none (suc (suc (suc zero))) = refl
     none (suc (suc (suc (suc agent)))) = refl
 
--- one more setting
+-- a chunk of a memory, put where it stands
+pub put_bytes-held :
+    (chunks : List (ℕ × List ℕ)) (number : ℕ) → length (chunk_bytes chunks number) ≡ 8 →
+    put_bytes (memory_of_chunks chunks) (8 * number) (chunk_bytes chunks number) ≡ memory_of_chunks chunks
+unfolding memory_of_chunks put_bytes
+put_bytes-held chunks number long = fun_ext (λ place. ⊎_elim (inside place) (outside place) (cases_Bool (nat_le (8 * number) place && nat_lt place (8 * number + length (chunk_bytes chunks number)))))
+  where
+    inside : (place : ℕ) → (nat_le (8 * number) place && nat_lt place (8 * number + length (chunk_bytes chunks number))) ≡ true → put_bytes (memory_of_chunks chunks) (8 * number) (chunk_bytes chunks number) place ≡ memory_of_chunks chunks place
+    inside place within =
+        let here : place / 8 ≡ number = grind (arith, nat_tests) in
+        let at : place - 8 * number ≡ place % 8 = omega arith in
+        rw (within, here, at) refl
+
+    outside : (place : ℕ) → (nat_le (8 * number) place && nat_lt place (8 * number + length (chunk_bytes chunks number))) ≡ false → put_bytes (memory_of_chunks chunks) (8 * number) (chunk_bytes chunks number) place ≡ memory_of_chunks chunks place
+    outside place beyond = rw beyond refl
+
+-- a byte of a chunk, put before the chunk is
+pub put_bytes-set :
+    (memory : ByteMemory) (chunk : List ℕ) (number addr byte : ℕ) → length chunk ≡ 8 → addr / 8 ≡ number →
+    put_bytes memory (8 * number) (set chunk (addr % 8) byte) ≡ put_byte (put_bytes memory (8 * number) chunk) addr byte
+unfolding put_bytes
+put_bytes-set memory chunk number addr byte long of = fun_ext (λ place. ⊎_elim (here place) (there place) (cases_eq place addr))
+  where
+    here : (place : ℕ) → place ≡ addr → put_bytes memory (8 * number) (set chunk (addr % 8) byte) place ≡ put_byte (put_bytes memory (8 * number) chunk) addr byte place
+    here place is =
+        let at : place - 8 * number ≡ addr % 8 = omega arith in
+        let below : addr % 8 < length chunk = omega arith in
+        rw (at, length-set chunk (addr % 8) byte) (grind (arith, nat_tests, places, get_or-set_same))
+
+    there : (place : ℕ) → place ≢ addr → put_bytes memory (8 * number) (set chunk (addr % 8) byte) place ≡ put_byte (put_bytes memory (8 * number) chunk) addr byte place
+    there place apart = rw (length-set chunk (addr % 8) byte) (grind (arith, nat_tests, places, get_or-set_other))
+
+-- one more setting of a chunk that is not put yet
+pub chunk-set :
+    (memory : ByteMemory) (chunk : List ℕ) (number count : ℕ) (settings : List Setting) (setting : Setting) →
+    put_bytes memory (8 * number) chunk ≡ set_memory memory (take count settings) → length chunk ≡ 8 → count < length settings →
+    setting ≡ get_or settings count (record { addr = 0; byte = 0 }) → setting.addr / 8 ≡ number →
+    put_bytes memory (8 * number) (set chunk (setting.addr % 8) setting.byte) ≡ set_memory memory (take (count + 1) settings)
+chunk-set memory chunk number count settings setting stands long below is of =
+    let more : set_memory memory (take (count + 1) settings) ≡ put_byte (set_memory memory (take count settings)) setting.addr setting.byte =
+    rw is (fold_more (λ (m : ByteMemory) (s : Setting). put_byte m s.addr s.byte) memory settings count (record { addr = 0; byte = 0 }) below) in
+    put_bytes-set memory chunk number setting.addr setting.byte long of ∙ rw (stands, more) refl
+
+-- the memory after one of its chunks was put whole
+pub memory_of_chunks-chunk :
+    (old new : List (ℕ × List ℕ)) (number : ℕ) (chunk : List ℕ) →
+    ((other : ℕ) → lookup (is_at (nat_cmp other)) new ≡ cond (is_at (nat_cmp number) other) (Some chunk) (lookup (is_at (nat_cmp other)) old)) →
+    length chunk ≡ 8 → memory_of_chunks new ≡ put_bytes (memory_of_chunks old) (8 * number) chunk
+unfolding memory_of_chunks put_bytes
+memory_of_chunks-chunk old new number chunk puts long = fun_ext (λ place. ⊎_elim (same place) (other place) (cases_eq (place / 8) number))
+  where
+    same : (place : ℕ) → place / 8 ≡ number → memory_of_chunks new place ≡ put_bytes (memory_of_chunks old) (8 * number) chunk place
+    same place is =
+        let within : (nat_le (8 * number) place && nat_lt place (8 * number + length chunk)) ≡ true = grind (arith, nat_tests) in
+        let at : place % 8 ≡ place - 8 * number = omega arith in
+        rw (within, is, chunk_bytes-same old new number chunk puts, at) refl
+
+    other : (place : ℕ) → place / 8 ≢ number → memory_of_chunks new place ≡ put_bytes (memory_of_chunks old) (8 * number) chunk place
+    other place apart =
+        let beyond : (nat_le (8 * number) place && nat_lt place (8 * number + length chunk)) ≡ false = grind (arith, nat_tests) in
+        rw (beyond, chunk_bytes-other old new number chunk puts (place / 8) apart) refl
+
+-- the state after more settings
 pub state_of-set :
-    (old new : FlatView) (settings : List Setting) (index : ℕ) (setting : Setting) →
-    state_of old ≡ start_of (take index settings) → index < length settings → setting ≡ get_or settings index (record { addr = 0; byte = 0 }) →
-    memory_of_chunks new.chunks ≡ put_bytes (memory_of_chunks old.chunks) setting.addr (setting.byte ∷ []) → new.last ≡ old.last →
-    state_of new ≡ start_of (take (index + 1) settings)
-state_of-set old new settings index setting stands below is put kept =
-    let before : memory_of_chunks old.chunks ≡ memory_of (take index settings) = ap (λ (s : ReplayState). s.memory) stands in
+    (old new : FlatView) (settings : List Setting) (done count : ℕ) → state_of old ≡ start_of (take done settings) →
+    memory_of_chunks new.chunks ≡ set_memory (memory_of_chunks old.chunks) (take count (drop done settings)) → new.last ≡ old.last →
+    state_of new ≡ start_of (take (done + count) settings)
+state_of-set old new settings done count stands put kept =
+    let before : memory_of_chunks old.chunks ≡ start_memory (take done settings) = ap (λ (s : ReplayState). s.memory) stands in
     let last : (λ (agent : ℕ). slice_index old.last agent) ≡ (λ (_ : ℕ). 0) = ap (λ (s : ReplayState). s.last) stands in
-    let more : memory_of (take (index + 1) settings) ≡ put_byte (memory_of (take index settings)) setting.addr setting.byte =
-    rw is (fold_more (λ (memory : ByteMemory) (s : Setting). put_byte memory s.addr s.byte) (λ _. 0) settings index (record { addr = 0; byte = 0 }) below) in
-    state_of-put old new _ (put ∙ put_bytes-one (memory_of_chunks old.chunks) setting.addr setting.byte) kept ∙ rw (before, last, more) refl
+    let more : start_memory (take (done + count) settings) ≡ set_memory (start_memory (take done settings)) (take count (drop done settings)) =
+    rw (take-add done count settings) (fold-append (λ (m : ByteMemory) (s : Setting). put_byte m s.addr s.byte) (λ _. 0) (take done settings) (take count (drop done settings))) in
+    state_of-put old new _ put kept ∙ rw (before, last, more) refl

@@ -1,8 +1,8 @@
-use Rattle.std.proofs.Common.{ℕ, zero, suc, List, [], ◌∷◌, refl, arith}
+use Rattle.std.proofs.Common.{◌≡◌, ℕ, zero, suc, false, List, [], ◌∷◌, map, take, refl, ap, arith}
 use Rattle.fsb_access.proofs.OrderLaws.{steps_of-nobody}
 use Rattle.fsb_access.specs.ByteMemory.{bytes_at, put_value}
 use Rattle.fsb_access.specs.Replay.{Served}
-use Rattle.fsb_access.specs.ScriptOrder.{InOrder, AreOfItems, script_of, steps_of}
+use Rattle.fsb_access.specs.ScriptOrder.{InOrder, AreOfItems, Step, accesses_of, are_items_together, script_of, steps_of}
 use Rattle.fsb_access.specs.declared.access.Access.{Access}
 use Rattle.fsb_access.specs.declared.access.Access.TheVariants.{Load, Store}
 use Rattle.fsb_access.specs.declared.access.Operand.TheVariants.{Literal, LastPlus}
@@ -122,3 +122,64 @@ pub sum_is_cut-served :
     entry 4 1 1 0 (Store 2 0x44 (LastPlus 2)) 3 ∷ entry 5 1 2 0 (Load 4 0x44) 3 ∷ [])
 unfolding bytes_at put_value
 sum_is_cut-served = refl
+
+-- a load that gives what stood there before another agent's store is not served
+pub stale_load-not_served :
+    Served [] (entry 30 0 0 0 (Store 1 0x1000 (Literal 3)) 3 ∷ entry 34 1 0 0 (Load 1 0x1000) 0 ∷ []) → ⊥
+unfolding bytes_at put_value
+stale_load-not_served served = cc served
+
+-- a part of a script was done, and two agents' items with one number are two items
+abbrev pub part_scripts : List (List Item)
+part_scripts = (One (Load 1 0x40) ∷ One (Load 1 0x80) ∷ One (Load 1 0xc0) ∷ []) ∷ (One (Load 1 0x40) ∷ []) ∷ []
+
+abbrev pub part_log : List Done
+part_log = entry 11 0 0 0 (Load 1 0x40) 0 ∷ entry 23 0 1 0 (Load 1 0x80) 0 ∷ entry 35 1 0 0 (Load 1 0x40) 0 ∷ []
+
+pub part_of_a_script-in_order : InOrder part_scripts part_log
+part_of_a_script-in_order = record { follows = follows; together = refl }
+  where
+    follows : (agent : ℕ) → AreOfItems (script_of part_scripts agent) (steps_of agent part_log)
+    follows zero = record { items = 2; same = refl }
+    follows (suc zero) = record { items = 1; same = refl }
+    follows (suc (suc agent)) = record { items = 0; same = steps_of-nobody 2 (suc (suc agent)) part_log refl (omega arith) }
+
+-- items that were done in another order than the script's
+abbrev pub two_loads : List Item
+two_loads = One (Load 1 0x40) ∷ One (Load 1 0x80) ∷ []
+
+abbrev pub swapped_log : List Done
+swapped_log = entry 11 0 1 0 (Load 1 0x80) 0 ∷ entry 23 0 0 0 (Load 1 0x40) 0 ∷ []
+
+abbrev item_numbers : List Step → List ℕ
+item_numbers steps = map (λ (step : Step). step.item) steps
+
+pub swapped_items-not_in_order : InOrder (two_loads ∷ []) swapped_log → ⊥
+swapped_items-not_in_order o = none (o.follows 0).items (o.follows 0).same
+  where
+    none : (items : ℕ) → steps_of 0 swapped_log ≡ accesses_of (take items two_loads) → ⊥
+    none zero same = cc same
+    none (suc zero) same = let numbers : 1 ∷ 0 ∷ [] ≡ 0 ∷ [] = ap item_numbers same in cc numbers
+    none (suc (suc zero)) same = let numbers : 1 ∷ 0 ∷ [] ≡ 0 ∷ 1 ∷ [] = ap item_numbers same in cc numbers
+    none (suc (suc (suc items))) same = let numbers : 1 ∷ 0 ∷ [] ≡ 0 ∷ 1 ∷ [] = ap item_numbers same in cc numbers
+
+-- a log that ends within a locked item
+abbrev pub cut_script : List Item
+cut_script = Locked (Load 1 0x40 ∷ Store 1 0x40 (LastPlus 1) ∷ []) ∷ []
+
+abbrev pub cut_log : List Done
+cut_log = entry 11 0 0 0 (Load 1 0x40) 0 ∷ []
+
+pub cut_lock-not_in_order : InOrder (cut_script ∷ []) cut_log → ⊥
+cut_lock-not_in_order o = none (o.follows 0).items (o.follows 0).same
+  where
+    none : (items : ℕ) → steps_of 0 cut_log ≡ accesses_of (take items cut_script) → ⊥
+    none zero same = cc same
+    none (suc zero) same = cc same
+    none (suc (suc items)) same = cc same
+
+-- another agent's access stands between the two of a locked item
+pub parted_lock-not_together :
+    are_items_together
+    (entry 11 0 0 0 (Load 1 0x40) 0 ∷ entry 11 1 0 0 (Load 1 0x80) 0 ∷ entry 11 0 0 1 (Store 1 0x40 (LastPlus 1)) 1 ∷ []) ≡ false
+parted_lock-not_together = refl

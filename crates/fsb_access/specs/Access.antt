@@ -15,8 +15,8 @@ addr_of (Load size addr) = addr
 addr_of (Store size addr value) = addr
 
 -- the cache line that it lies in: lines have 32 bytes
-abbrev pub line_of : Access → ℕ
-line_of access = addr_of access / 32
+abbrev pub accessed_line : Access → ℕ
+accessed_line access = addr_of access / 32
 
 -- the chunk of eight bytes of that line, 0 to 3, that it lies in
 abbrev pub chunk_of : Access → ℕ

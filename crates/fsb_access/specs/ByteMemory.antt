@@ -9,9 +9,13 @@ ByteMemory = ℕ → ℕ
 abbrev pub put_byte : ByteMemory → ℕ → ℕ → ByteMemory
 put_byte memory addr byte place = if place == addr then byte else memory place
 
--- the memory that settings make: 0 everywhere, then one byte after the other, so that later settings win
-abbrev pub memory_of : List Setting → ByteMemory
-memory_of settings = fold (λ memory setting. put_byte memory setting.addr setting.byte) (λ _. 0) settings
+-- the memory after settings: one byte after the other, so that later settings win
+abbrev pub set_memory : ByteMemory → List Setting → ByteMemory
+set_memory memory settings = fold (λ memory setting. put_byte memory setting.addr setting.byte) memory settings
+
+-- the memory that settings make: 0 everywhere before them
+abbrev pub start_memory : List Setting → ByteMemory
+start_memory settings = set_memory (λ _. 0) settings
 
 -- the bytes of a memory from an address on, as many as said
 unfoldable pub bytes_at : ByteMemory → ℕ → ℕ → List ℕ

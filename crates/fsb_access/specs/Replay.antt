@@ -1,5 +1,5 @@
 use Rattle.std.specs.Prelude.{◌≡◌, ℕ, ◌+◌, ◌*◌, ◌%◌, ◌^◌, ◌==◌, if◌then◌else◌, List, [], ◌∷◌, map}
-use Rattle.fsb_access.specs.ByteMemory.{ByteMemory, memory_of, value_at, put_value}
+use Rattle.fsb_access.specs.ByteMemory.{ByteMemory, start_memory, value_at, put_value}
 use Rattle.fsb_access.specs.declared.access.Access.{Access}
 use Rattle.fsb_access.specs.declared.access.Access.TheVariants.{Load, Store}
 use Rattle.fsb_access.specs.declared.access.Operand.{Operand}
@@ -14,7 +14,7 @@ pub record ReplayState : Type 0 where
 
 -- before any access: the memory of the settings, and 0 for each agent
 abbrev pub start_of : List Setting → ReplayState
-start_of settings = record { memory = memory_of settings; last = λ _. 0 }
+start_of settings = record { memory = start_memory settings; last = λ _. 0 }
 
 -- what a store of so many bytes puts: the literal, or the sum of the last loaded value and a number, that sum cut to those
 -- bytes

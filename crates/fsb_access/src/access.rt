@@ -1,5 +1,5 @@
 ghost use Rattle.std.specs.Prelude.{◌≡◌, IsTrue};
-ghost use Rattle.fsb_access.specs.Access.{size_of, addr_of, line_of, chunk_of, number_of, is_size, is_place, fits, is_lawful_access};
+ghost use Rattle.fsb_access.specs.Access.{size_of, addr_of, accessed_line, chunk_of, number_of, is_size, is_place, fits, is_lawful_access};
 
 /// Addresses are below this number.
 pub const ADDRESS_LIMIT: u64 = 0x10_0000_0000;
@@ -67,7 +67,7 @@ impl Access {
 
     /// The number of the cache line that the first byte lies in.
     pub fn line(&self) -> u64
-        ensures { result ≡ line_of self.now }
+        ensures { result ≡ accessed_line self.now }
     {
         self.addr() / LINE_BYTES
     }

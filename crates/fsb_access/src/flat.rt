@@ -1,6 +1,6 @@
-ghost use Rattle.std.specs.Prelude.{◌≡◌, ◌+◌, ◌*◌, ◌%◌, ◌^◌, ◌<◌, ◌≤◌, IsTrue, IfOk, OnOk, OnErr, length};
+ghost use Rattle.std.specs.Prelude.{◌≡◌, ◌+◌, ◌*◌, ◌%◌, ◌^◌, ◌<◌, ◌≤◌, IsTrue, IfOk, OnOk, OnErr, length, take};
 ghost use Rattle.fsb_access.specs.Access.{is_size, is_place, IsLawfulAccess};
-ghost use Rattle.fsb_access.specs.ByteMemory.{value_of_bytes, put_bytes};
+ghost use Rattle.fsb_access.specs.ByteMemory.{value_of_bytes, put_bytes, set_memory};
 ghost use Rattle.fsb_access.specs.FlatView.{chunk_bytes, memory_of_chunks, state_of};
 ghost use Rattle.fsb_access.specs.Replay.{start_of, served_value, state_after, put_of};
 
@@ -36,8 +36,9 @@ impl Flat {
             chunks: BTreeMap::new(alloc),
             last: [0; 4],
         };
-        for setting in sets {
-            flat.put(setting.addr, &[setting.byte])?;
+        let mut done = 0;
+        while done < sets.len() {
+            done += flat.set(&sets[done..])?;
         }
         Ok(flat)
     }
@@ -85,6 +86,28 @@ impl Flat {
         let number = number_put(size, self.last[usize::from(agent)], value);
         self.put(addr, &number.to_le_bytes()[..usize::from(size)])?;
         Ok(number)
+    }
+
+    /// Puts the first settings, those up to the first one of another chunk, and answers how many they are. The chunk
+    /// is looked up once for all of them.
+    fn set(&mut self, sets: &[Setting]) -> Result<usize, Memory>
+        requires { 0 < length sets.now }
+        ensures some { IfOk result (λ count. 0 < count) }
+        ensures within { IfOk result (λ count. count ≤ length sets.now) }
+        ensures put { IfOk result (λ count.
+            memory_of_chunks self.new.chunks
+            ≡ set_memory (memory_of_chunks self.old.chunks) (take count sets.now)) }
+        ensures last { self.new.last ≡ self.old.last }
+    {
+        let number = sets[0].addr / CHUNK_BYTES;
+        let mut chunk = self.chunk(number);
+        let mut count = 0;
+        while count < sets.len() && sets[count].addr / CHUNK_BYTES == number {
+            chunk[(sets[count].addr % CHUNK_BYTES) as usize] = sets[count].byte;
+            count += 1;
+        }
+        self.chunks.insert(number, chunk)?;
+        Ok(count)
     }
 
     /// The bytes of a chunk.

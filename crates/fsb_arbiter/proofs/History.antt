@@ -12,10 +12,9 @@ use Rattle.fsb_signal.specs.declared.lines.TheConstants.Lines.{ADS}
 use Rattle.fsb_signal.specs.declared.sample.Sample.{Sample}
 use Rattle.fsb_signal.specs.Samples.{line_at}
 use Rattle.fsb_trace.specs.declared.who.Who.{Who}
-use Rattle.fsb_trace.specs.declared.turns.Turns.{Turns}
 use Rattle.fsb_trace.specs.At.{Trace}
 use Rattle.fsb_trace.specs.Agree.{AgreeTo}
-use Rattle.fsb_trace.specs.Winner.{winner_by, winner_after, winner_at, turns_before, then_begun}
+use Rattle.fsb_trace.specs.Winner.{Turns, winner_by, winner_after, winner_at, turns_before, then_begun, symmetric_after, last_agent, last_symmetric}
 use Rattle.fsb_trace.proofs.AgreeAt.{turns_before-agree, winner_after-agree}
 use Rattle.fsb_trace.proofs.TurnSteps.{turns_before-begun, turns_before-kept}
 use Rattle.fsb_arbiter.specs.declared.arbiter.Arbiter.{Arbiter}
@@ -67,19 +66,21 @@ unfolding winner_after
 winner_after-high w c turns f = rw (f, winner_after) refl
 
 -- the winner of the next clock
-winner_by_lines : (h : Trace) (lines : Lines) (turns : Turns) → 2 ≤ length h → lines_back h 2 ≡ Some lines → winner_after h (length h) turns ≡ winner_among lines turns
+winner_by_lines : (h : Trace) (lines : Lines) (turns : Turns) → 2 ≤ length h → lines_back h 2 ≡ Some lines → winner_after h (length h) turns ≡ winner_among lines turns.0 turns.1
 winner_by_lines h lines turns l e =
     let p = lines_parts lines (slice_get h (length h - 2)) (sym (lines_back-there h 2 l) ∙ e) in
     winner_after-high h (length h) turns (le-ltb (length h) 2 l) ∙ winner_by-is h (length h - 2) p.0 turns p.1
-    ∙ ap (λ x. winner_among x turns) p.2
+    ∙ ap (λ x. winner_among x turns.0 turns.1) p.2
 
-pub winner-some : (arbiter : Arbiter) (h : Trace) (lines : Lines) → Stands arbiter h → arbiter.older ≡ Some lines → winner_among lines arbiter.turns ≡ winner_at h (length h)
-unfolding winner_at
+pub winner-some : (arbiter : Arbiter) (h : Trace) (lines : Lines) → Stands arbiter h → arbiter.older ≡ Some lines → winner_among lines arbiter.last arbiter.symmetric ≡ winner_at h (length h)
+unfolding winner_at last_agent last_symmetric
 winner-some arbiter h lines s e =
     elim (cases_lt (length h) 2) [
       | inl low ↦ absurd (let no : None ≡ Some lines = sym (lines_back-before h 2 low) ∙ sym s.older ∙ e in cc)
       | inr high ↦
-          ap (winner_among lines) s.turns ∙ sym (winner_by_lines h lines (turns_before h (length h)) high (sym s.older ∙ e))
+          ap (λ x. winner_among lines x arbiter.symmetric) s.last
+          ∙ ap (winner_among lines (last_agent h (length h))) s.symmetric
+          ∙ sym (winner_by_lines h lines (turns_before h (length h)) high (sym s.older ∙ e))
     ]
 
 pub winner-none : (arbiter : Arbiter) (h : Trace) → Stands arbiter h → arbiter.older ≡ None → None ≡ winner_at h (length h)
@@ -133,16 +134,20 @@ turns-kept h s f =
     ∙ sym (turns_before-agree n h v n (agree_to h s) (omega arith))
 
 -- the arbiter after one more sample
-pub stands-begun : (old new : Arbiter) (h : Trace) (s : Sample) (w : Option Who) → Stands old h → w ≡ winner_at h (length h) → is_in s.lines ADS ≡ true → new.older ≡ old.newer → new.newer ≡ Some s.lines → new.turns ≡ then_begun old.turns w → Stands new (h ++ s ∷ [])
-stands-begun old new h s w k won t older newer turns = record {
+pub stands-begun : (old new : Arbiter) (h : Trace) (s : Sample) (w : Option Who) → Stands old h → w ≡ winner_at h (length h) → is_in s.lines ADS ≡ true → new.older ≡ old.newer → new.newer ≡ Some s.lines → new.last ≡ w → new.symmetric ≡ symmetric_after old.symmetric w → Stands new (h ++ s ∷ [])
+unfolding last_agent last_symmetric then_begun
+stands-begun old new h s w k won t older newer last symmetric = record {
   older = older ∙ k.newer ∙ sym (older_back h s);
   newer = newer ∙ sym (newest_back h s);
-  turns = turns ∙ ap (λ x. then_begun x w) k.turns ∙ ap (then_begun (turns_before h (length h))) won ∙ sym (turns-begun h s t);
+  last = last ∙ won ∙ sym (ap (λ x. x.0) (turns-begun h s t));
+  symmetric = symmetric ∙ ap (λ x. symmetric_after x w) k.symmetric ∙ ap (symmetric_after (last_symmetric h (length h))) won ∙ sym (ap (λ x. x.1) (turns-begun h s t));
 }
 
-pub stands-kept : (old new : Arbiter) (h : Trace) (s : Sample) → Stands old h → is_in s.lines ADS ≡ false → new.older ≡ old.newer → new.newer ≡ Some s.lines → new.turns ≡ old.turns → Stands new (h ++ s ∷ [])
-stands-kept old new h s k f older newer turns = record {
+pub stands-kept : (old new : Arbiter) (h : Trace) (s : Sample) → Stands old h → is_in s.lines ADS ≡ false → new.older ≡ old.newer → new.newer ≡ Some s.lines → new.last ≡ old.last → new.symmetric ≡ old.symmetric → Stands new (h ++ s ∷ [])
+unfolding last_agent last_symmetric
+stands-kept old new h s k f older newer last symmetric = record {
   older = older ∙ k.newer ∙ sym (older_back h s);
   newer = newer ∙ sym (newest_back h s);
-  turns = turns ∙ k.turns ∙ sym (turns-kept h s f);
+  last = last ∙ k.last ∙ sym (ap (λ x. x.0) (turns-kept h s f));
+  symmetric = symmetric ∙ k.symmetric ∙ sym (ap (λ x. x.1) (turns-kept h s f));
 }

@@ -3,29 +3,16 @@ use Rattle.std.proofs.Common.{ℕ, ◌+◌, ◌%◌, ◌<◌, ◌≡◌, true, f
 use Rattle.std.specs.List.{slice_get}
 use Rattle.std.specs.Option.{option_map}
 use Rattle.std.proofs.lemmas.Bool.{cases_Bool}
-use Rattle.fsb_count.proofs.First.{first_where-at, first_where-off, first_where-same}
+use Rattle.fsb_count.proofs.First.{first_where-same}
 use Rattle.fsb_signal.specs.declared.lines.Lines.{Lines}
 use Rattle.fsb_signal.specs.declared.lines.TheConstants.Lines.{BPRI, LOCK}
 use Rattle.fsb_signal.specs.declared.sample.Sample.{Sample}
 use Rattle.fsb_signal.specs.Samples.{line_at}
 use Rattle.fsb_trace.specs.declared.who.Who.{Who}
 use Rattle.fsb_trace.specs.declared.who.Who.TheVariants.{Symmetric, Priority}
-use Rattle.fsb_trace.specs.declared.turns.Turns.{Turns}
 use Rattle.fsb_trace.specs.At.{Trace}
-use Rattle.fsb_trace.specs.Winner.{bus_request_of, request_line_of, agent_in_order, first_in_order, asks_in_order, first_asking, last_if_asking, winner_by}
+use Rattle.fsb_trace.specs.Winner.{Turns, bus_request_of, request_line_of, agent_in_order, first_in_order, asks_in_order, first_asking, last_if_asking, winner_by}
 use Rattle.fsb_arbiter.specs.Order.{is_in, asks_among, first_among, last_if_among, winner_among}
-
-pub asks_among-is : (lines : Lines) (first n : ℕ) → asks_among lines first n ≡ is_in lines (bus_request_of ((first + n) % 4))
-unfolding asks_among agent_in_order
-asks_among-is lines first n = refl
-
-pub first_among-found : (lines : Lines) (first n : ℕ) → n < 4 → asks_among lines first n ≡ true → ((k : ℕ) → k < n → asks_among lines first k ≡ false) → first_among lines first ≡ Some ((first + n) % 4)
-unfolding first_among agent_in_order
-first_among-found lines first n l t f = ap (option_map (agent_in_order first)) (first_where-at (asks_among lines first) 4 n l t f)
-
-pub first_among-none : (lines : Lines) (first : ℕ) → ((k : ℕ) → k < 4 → asks_among lines first k ≡ false) → first_among lines first ≡ None
-unfolding first_among
-first_among-none lines first f = ap (option_map (agent_in_order first)) (first_where-off (asks_among lines first) 4 f)
 
 -- a line of a clock
 pub line_at-is : (w : Trace) (d : ℕ) (s : Sample) (line : Lines) → slice_get w d ≡ Some s → line_at line w d ≡ is_in s.lines line
@@ -44,7 +31,7 @@ last_if_asking-is w d s None e = refl
 last_if_asking-is w d s (Some who) e = rw (line_at-is w d s (request_line_of who) e) refl
 
 -- the winner, by which lines are asserted
-by_lock : (w : Trace) (d : ℕ) (turns : Turns) → line_at LOCK w d ≡ true → winner_by w d turns ≡ last_if_asking w d turns.last
+by_lock : (w : Trace) (d : ℕ) (turns : Turns) → line_at LOCK w d ≡ true → winner_by w d turns ≡ last_if_asking w d turns.0
 unfolding winner_by
 by_lock w d turns t = rw (t, winner_by) refl
 
@@ -52,36 +39,36 @@ by_priority : (w : Trace) (d : ℕ) (turns : Turns) → line_at LOCK w d ≡ fal
 unfolding winner_by
 by_priority w d turns f t = rw (f, t, winner_by) refl
 
-by_order : (w : Trace) (d : ℕ) (turns : Turns) → line_at LOCK w d ≡ false → line_at BPRI w d ≡ false → winner_by w d turns ≡ option_map Symmetric (first_asking w d (first_in_order turns.symmetric))
+by_order : (w : Trace) (d : ℕ) (turns : Turns) → line_at LOCK w d ≡ false → line_at BPRI w d ≡ false → winner_by w d turns ≡ option_map Symmetric (first_asking w d (first_in_order turns.1))
 unfolding winner_by
 by_order w d turns f g = rw (f, g, winner_by) refl
 
-among_lock : (lines : Lines) (turns : Turns) → is_in lines LOCK ≡ true → winner_among lines turns ≡ last_if_among lines turns.last
+among_lock : (lines : Lines) (last : Option Who) (symmetric : Option ℕ) → is_in lines LOCK ≡ true → winner_among lines last symmetric ≡ last_if_among lines last
 unfolding winner_among
-among_lock lines turns t = rw (t, winner_among) refl
+among_lock lines last symmetric t = rw (t, winner_among) refl
 
-among_priority : (lines : Lines) (turns : Turns) → is_in lines LOCK ≡ false → is_in lines BPRI ≡ true → winner_among lines turns ≡ Some Priority
+among_priority : (lines : Lines) (last : Option Who) (symmetric : Option ℕ) → is_in lines LOCK ≡ false → is_in lines BPRI ≡ true → winner_among lines last symmetric ≡ Some Priority
 unfolding winner_among
-among_priority lines turns f t = rw (f, t, winner_among) refl
+among_priority lines last symmetric f t = rw (f, t, winner_among) refl
 
-among_order : (lines : Lines) (turns : Turns) → is_in lines LOCK ≡ false → is_in lines BPRI ≡ false → winner_among lines turns ≡ option_map Symmetric (first_among lines (first_in_order turns.symmetric))
+among_order : (lines : Lines) (last : Option Who) (symmetric : Option ℕ) → is_in lines LOCK ≡ false → is_in lines BPRI ≡ false → winner_among lines last symmetric ≡ option_map Symmetric (first_among lines (first_in_order symmetric))
 unfolding winner_among
-among_order lines turns f g = rw (f, g, winner_among) refl
+among_order lines last symmetric f g = rw (f, g, winner_among) refl
 
 -- the winner by the lines of clock d
-pub winner_by-is : (w : Trace) (d : ℕ) (s : Sample) (turns : Turns) → slice_get w d ≡ Some s → winner_by w d turns ≡ winner_among s.lines turns
+pub winner_by-is : (w : Trace) (d : ℕ) (s : Sample) (turns : Turns) → slice_get w d ≡ Some s → winner_by w d turns ≡ winner_among s.lines turns.0 turns.1
 winner_by-is w d s turns e =
     let lock : line_at LOCK w d ≡ is_in s.lines LOCK = line_at-is w d s LOCK e in
     let bpri : line_at BPRI w d ≡ is_in s.lines BPRI = line_at-is w d s BPRI e in
     elim (cases_Bool (is_in s.lines LOCK)) [
       | inl t ↦
-          by_lock w d turns (lock ∙ t) ∙ last_if_asking-is w d s turns.last e ∙ sym (among_lock s.lines turns t)
+          by_lock w d turns (lock ∙ t) ∙ last_if_asking-is w d s turns.0 e ∙ sym (among_lock s.lines turns.0 turns.1 t)
       | inr f ↦
           elim (cases_Bool (is_in s.lines BPRI)) [
-            | inl u ↦ by_priority w d turns (lock ∙ f) (bpri ∙ u) ∙ sym (among_priority s.lines turns f u)
+            | inl u ↦ by_priority w d turns (lock ∙ f) (bpri ∙ u) ∙ sym (among_priority s.lines turns.0 turns.1 f u)
             | inr g ↦
                 by_order w d turns (lock ∙ f) (bpri ∙ g)
-                ∙ ap (option_map Symmetric) (first_asking-is w d (first_in_order turns.symmetric) s e)
-                ∙ sym (among_order s.lines turns f g)
+                ∙ ap (option_map Symmetric) (first_asking-is w d (first_in_order turns.1) s e)
+                ∙ sym (among_order s.lines turns.0 turns.1 f g)
           ]
     ]

@@ -3,7 +3,7 @@ use Rattle.std.specs.Prelude.{◌≡◌, ℕ, ◌-◌, nat_le, if◌then◌else�
 use Rattle.std.specs.Option.{option_map}
 use Rattle.fsb_signal.specs.declared.lines.Lines.{Lines}
 use Rattle.fsb_trace.specs.At.{Trace}
-use Rattle.fsb_trace.specs.Winner.{turns_before}
+use Rattle.fsb_trace.specs.Winner.{last_agent, last_symmetric}
 use Rattle.fsb_arbiter.specs.declared.arbiter.Arbiter.{Arbiter}
 
 -- the control lines of the clock that lies d clocks before the next one, if there is such a clock
@@ -14,4 +14,5 @@ lines_back h d = if nat_le d (length h) then option_map (λ s. s.lines) (slice_g
 pub record Stands (arbiter : Arbiter) (h : Trace) : Type 0 where
   pub older : arbiter.older ≡ lines_back h 2
   pub newer : arbiter.newer ≡ lines_back h 1
-  pub turns : arbiter.turns ≡ turns_before h (length h)
+  pub last : arbiter.last ≡ last_agent h (length h)
+  pub symmetric : arbiter.symmetric ≡ last_symmetric h (length h)

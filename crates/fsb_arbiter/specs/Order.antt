@@ -7,7 +7,6 @@ use Rattle.fsb_signal.specs.declared.lines.Lines.{Lines}
 use Rattle.fsb_signal.specs.declared.lines.TheConstants.Lines.{BPRI, LOCK}
 use Rattle.fsb_trace.specs.declared.who.Who.{Who}
 use Rattle.fsb_trace.specs.declared.who.Who.TheVariants.{Symmetric, Priority}
-use Rattle.fsb_trace.specs.declared.turns.Turns.{Turns}
 use Rattle.fsb_trace.specs.Winner.{bus_request_of, request_line_of, agent_in_order, first_in_order}
 
 -- the line is among the lines
@@ -27,13 +26,13 @@ unfoldable pub last_if_among : Lines → Option Who → Option Who
 last_if_among lines None = None
 last_if_among lines (Some who) = if is_in lines (request_line_of who) then Some who else None
 
--- the winner by these lines, after these requests
-unfoldable pub winner_among : Lines → Turns → Option Who
-winner_among lines turns =
+-- the winner by these lines, after requests the last of which this agent began, and this symmetric agent one last
+unfoldable pub winner_among : Lines → Option Who → Option ℕ → Option Who
+winner_among lines last symmetric =
     elim (is_in lines LOCK) [
-      | true ↦ last_if_among lines turns.last
+      | true ↦ last_if_among lines last
       | false ↦ elim (is_in lines BPRI) [
         | true ↦ Some Priority
-        | false ↦ option_map Symmetric (first_among lines (first_in_order turns.symmetric))
+        | false ↦ option_map Symmetric (first_among lines (first_in_order symmetric))
       ]
     ]

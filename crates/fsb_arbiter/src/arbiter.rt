@@ -3,9 +3,9 @@ ghost use Rattle.fsb_trace.specs.At.{Trace};
 ghost use Rattle.fsb_trace.specs.Winner.{winner_at};
 ghost use Rattle.fsb_arbiter.specs.Arbiter.{Stands};
 
-use crate::order::{then_begun, winner_among};
+use crate::order::{symmetric_after, winner_among};
 use fsb_signal::{Lines, Sample};
-use fsb_trace::{Turns, Who};
+use fsb_trace::Who;
 
 /// Tells the winner of the next clock, from the samples that it was given so far.
 ///
@@ -17,8 +17,10 @@ pub struct Arbiter {
     older: Option<Lines>,
     /// The control lines one clock before the next one, if there is such a clock.
     newer: Option<Lines>,
-    /// Which agents began requests last.
-    turns: Turns,
+    /// The agent of the last request, if there is one and it had a winner.
+    last: Option<Who>,
+    /// The symmetric agent that began a request last.
+    symmetric: Option<u8>,
 }
 
 impl Arbiter {
@@ -29,10 +31,8 @@ impl Arbiter {
         Arbiter {
             older: None,
             newer: None,
-            turns: Turns {
-                last: None,
-                symmetric: None,
-            },
+            last: None,
+            symmetric: None,
         }
     }
 
@@ -41,7 +41,7 @@ impl Arbiter {
         ensures { (h : Trace) → Stands self.now h → result ≡ winner_at h (length h) }
     {
         match self.older {
-            Some(lines) => winner_among(lines, self.turns),
+            Some(lines) => winner_among(lines, self.last, self.symmetric),
             None => None,
         }
     }
@@ -51,7 +51,9 @@ impl Arbiter {
         ensures { (h : Trace) → Stands self.old h → Stands self.new (h ++ sample.now ∷ []) }
     {
         if sample.has(Lines::ADS) {
-            self.turns = then_begun(self.turns, self.winner());
+            let winner = self.winner();
+            self.last = winner;
+            self.symmetric = symmetric_after(self.symmetric, winner);
         }
         self.older = self.newer;
         self.newer = Some(sample.lines);

@@ -9,6 +9,4 @@ pub use arbiter::Arbiter;
 mod arbiter;
 mod order;
 #[cfg(test)]
-mod runs;
-#[cfg(test)]
 mod tests;

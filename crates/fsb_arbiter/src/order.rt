@@ -1,12 +1,13 @@
 //! The winner by the control lines of one clock.
 
 ghost use Rattle.std.specs.Prelude.{◌≡◌, ◌<◌};
-ghost use Rattle.fsb_trace.specs.Winner.{bus_request_of, request_line_of, then_begun, first_in_order};
-ghost use Rattle.fsb_arbiter.specs.Order.{is_in, first_among, last_if_among, winner_among};
+ghost use Rattle.fsb_trace.specs.Winner.{bus_request_of, request_line_of, symmetric_after, first_in_order, agent_in_order};
+ghost use Rattle.fsb_arbiter.specs.Order.{asks_among, first_among, last_if_among, winner_among};
 
 use bitflags::Flags;
+use fsb_count::first_where;
 use fsb_signal::Lines;
-use fsb_trace::{Turns, Who};
+use fsb_trace::Who;
 
 /// The BREQ# line of a symmetric agent.
 #[tactic(auto, unfolding(fsb_trace::specs::Winner::bus_request_of))]
@@ -44,18 +45,36 @@ fn first_in_order(symmetric: Option<u8>) -> u8
     }
 }
 
+/// The `n`-th agent, from 0, in the order that begins with `first`.
+#[tactic(auto, unfolding(fsb_trace::specs::Winner::agent_in_order))]
+fn agent_in_order(first: u8, n: usize) -> u8
+    requires first { first < 4 }
+    requires place { n < 4 }
+    ensures { result ≡ agent_in_order first n }
+{
+    ((usize::from(first) + n) % 4) as u8
+}
+
+/// Whether the `n`-th agent in that order has its BREQ# among the lines.
+#[tactic(auto, unfolding(crate::specs::Order::asks_among))]
+fn asks_among(lines: Lines, first: u8, n: usize) -> bool
+    requires first { first < 4 }
+    requires place { n < 4 }
+    ensures { result ≡ asks_among lines first n }
+{
+    lines.contains(bus_request_of(agent_in_order(first, n)))
+}
+
 /// The first symmetric agent whose BREQ# is among the lines, in the order that begins with `first`.
+#[tactic(auto, unfolding(crate::specs::Order::first_among))]
 fn first_among(lines: Lines, first: u8) -> Option<u8>
     requires { first < 4 }
     ensures { result ≡ first_among lines first }
 {
-    for n in 0..4 {
-        let agent = (first + n) % 4;
-        if lines.contains(bus_request_of(agent)) {
-            return Some(agent);
-        }
+    match first_where(4, |n| asks_among(lines, first, n)) {
+        Some(n) => Some(agent_in_order(first, n)),
+        None => None,
     }
-    None
 }
 
 /// The last requester, if its request line is among the lines.
@@ -69,36 +88,31 @@ fn last_if_among(lines: Lines, last: Option<Who>) -> Option<Who>
     }
 }
 
-/// The winner by these lines, after these requests.
+/// The winner by these lines, after requests the last of which `last` began, and `symmetric` one as the last symmetric
+/// agent.
 #[tactic(auto, unfolding(crate::specs::Order::winner_among))]
-pub fn winner_among(lines: Lines, turns: Turns) -> Option<Who>
-    ensures { result ≡ winner_among lines turns }
+pub fn winner_among(lines: Lines, last: Option<Who>, symmetric: Option<u8>) -> Option<Who>
+    ensures { result ≡ winner_among lines last symmetric }
 {
     if lines.contains(Lines::LOCK) {
-        last_if_among(lines, turns.last)
+        last_if_among(lines, last)
     } else if lines.contains(Lines::BPRI) {
         Some(Who::Priority)
     } else {
-        match first_among(lines, first_in_order(turns.symmetric)) {
+        match first_among(lines, first_in_order(symmetric)) {
             Some(agent) => Some(Who::Symmetric(agent)),
             None => None,
         }
     }
 }
 
-/// One more request, begun by this agent, if there is one.
-#[tactic(auto, unfolding(fsb_trace::specs::Winner::then_begun))]
-pub fn then_begun(turns: Turns, winner: Option<Who>) -> Turns
-    ensures { result ≡ then_begun turns winner }
+/// The symmetric agent that began a request last, where it was this one so far, and `winner` begins one more.
+#[tactic(auto, unfolding(fsb_trace::specs::Winner::symmetric_after))]
+pub fn symmetric_after(symmetric: Option<u8>, winner: Option<Who>) -> Option<u8>
+    ensures { result ≡ symmetric_after symmetric winner }
 {
     match winner {
-        Some(Who::Symmetric(agent)) => Turns {
-            last: winner,
-            symmetric: Some(agent),
-        },
-        _ => Turns {
-            last: winner,
-            symmetric: turns.symmetric,
-        },
+        Some(Who::Symmetric(agent)) => Some(agent),
+        _ => symmetric,
     }
 }

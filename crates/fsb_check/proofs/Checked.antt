@@ -1,6 +1,6 @@
 -- What is found of the text that was left.
-use Rattle.std.proofs.Common.{◌≡◌, ◌≤◌, ◌+◌, ◌^◌, ◌++◌, [], ℕ, Bool, IsTrue, List, ◌∷◌, Result, Ok, Err, length, drop, inl, inr, refl, sym, ap, subst, ◌∙◌, arith}
-use Rattle.std.proofs.lemmas.List.{length-append, append-nil, append_assoc}
+use Rattle.std.proofs.Common.{◌≡◌, ◌≤◌, ◌+◌, ◌^◌, ◌++◌, [], ℕ, Bool, IsTrue, List, Result, Ok, Err, length, drop, inl, inr, sym, ap, subst, ◌∙◌, arith}
+use Rattle.std.proofs.lemmas.List.{length-append, append-nil, append_assoc, nil_from_length}
 use Rattle.std.proofs.Math.Seq.{drop-append_seam}
 use Rattle.fsb_check.specs.declared.finding.Finding.{Finding}
 use Rattle.fsb_check.specs.declared.finding.CheckStop.{CheckStop}
@@ -34,14 +34,10 @@ checked_past fed text left e size =
     })
 
 -- nothing came: all was taken before
-none_taken : (bytes : List ℕ) → length bytes ≡ 0 → bytes ≡ []
-none_taken [] e = refl
-none_taken (b ∷ bs) e = absurd (omega arith)
-
 pub taken_all : (judge : Judge) (fed left now : List ℕ) (count : ℕ) (tells : Bool) → HasTaken judge fed left now count tells → count ≡ 0 → Stood judge fed
 taken_all judge fed left now count tells h e =
     subst (λ (xs : List ℕ). Stood judge xs)
-    (ap (λ bytes. fed ++ bytes) (none_taken h.bytes (h.size ∙ e)) ∙ append-nil fed) h.stood
+    (ap (λ bytes. fed ++ bytes) (nil_from_length h.bytes (h.size ∙ e)) ∙ append-nil fed) h.stood
 
 -- the text that was left is what was taken, and then what is left now
 pub taken_more : (text fed bytes left now : List ℕ) → text ≡ fed ++ left → left ≡ bytes ++ now → text ≡ (fed ++ bytes) ++ now
@@ -51,7 +47,7 @@ taken_more text fed bytes left now e f = e ∙ ap (λ xs. fed ++ xs) f ∙ sym (
 pub checked_end : (judge : Judge) (result : Result Finding CheckStop) (text fed left now : List ℕ) (count : ℕ) (tells : Bool) → IsTrue tells → HasTaken judge fed left now count tells → count ≡ 0 → now ≡ [] → text ≡ fed ++ left → length fed ≤ 2 ^ 40 → Ends result fed → IsChecked result text now
 checked_end judge result text fed left now count tells t h zero none e few found =
     let same : text ≡ fed =
-    e ∙ ap (λ xs. fed ++ xs) (h.read t ∙ ap (λ xs. xs ++ now) (none_taken h.bytes (h.size ∙ zero)) ∙ none) ∙ append-nil fed in
+    e ∙ ap (λ xs. fed ++ xs) (h.read t ∙ ap (λ xs. xs ++ now) (nil_from_length h.bytes (h.size ∙ zero)) ∙ none) ∙ append-nil fed in
     checked_whole result text now (record { short = (let size = ap (λ xs. length xs) same in omega arith); all = none })
     (subst (λ (xs : List ℕ). Ends result xs) (sym same) found)
 

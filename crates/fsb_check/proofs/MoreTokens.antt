@@ -1,28 +1,19 @@
 -- More bytes of a text: its tokens, its first fault, and the samples that are decided.
-use Rattle.std.proofs.Common.{◌≡◌, ◌≤◌, ◌+◌, ◌-◌, ◌++◌, ◌∷◌, [], ℕ, List, true, length, is_some, refl, sym, ap, ◌∙◌, arith, suc}
+use Rattle.std.proofs.Common.{◌≡◌, ◌≤◌, ◌+◌, ◌++◌, ◌∷◌, [], ℕ, List, true, length, is_some, refl, sym, ap, ◌∙◌, arith}
 use Rattle.std.proofs.lemmas.List.{append_assoc, append-nil, length-append}
 use Rattle.fsb_signal.specs.declared.sample.Sample.{Sample}
-use Rattle.vcd_grammar.specs.Tokens.{Token, tokens_from, open_from, run_behind, counted, tokens_so_far, tokens_of, ended_at, open_run}
+use Rattle.vcd_grammar.proofs.Append.{tokens-append, blocks_some, ended-cons}
+use Rattle.vcd_grammar.specs.Tokens.{Token, tokens_from, tokens_so_far, tokens_of, ended_at, open_run}
 use Rattle.vcd_grammar.specs.Blocks.{Block, Event, Later, Changed, blocks_from, blocks_of, ended}
 use Rattle.vcd_grammar.specs.Judging.{Known, nothing, Turn, turn, behind, events_in}
 use Rattle.vcd_grammar.specs.Values.{at_first, samples_in, values_behind, sample_of_block, Values}
 
 -- ---- tokens of appended bytes
 
-tokens_from-append : (at : ℕ) (run a b : List ℕ) → tokens_from at run (a ++ b) ≡ tokens_from at run a ++ tokens_from (at + length a) (open_from run a) b
-tokens_from-append at run [] b = let e : at + 0 ≡ at = omega arith in rw e refl
-tokens_from-append at run (x ∷ a) b =
-    let e : at + 1 + length a ≡ at + length (x ∷ a) = omega arith in
-    let now : List Token = tokens_from (at + 1) (run_behind run x) a in
-    let later : ℕ → List Token = λ n. tokens_from n (open_from (run_behind run x) a) b in
-    ap (λ ts. counted at run x ++ ts) (tokens_from-append (at + 1) (run_behind run x) a b)
-    ∙ sym (append_assoc (counted at run x) now (later (at + 1 + length a)))
-    ∙ ap (λ n. (counted at run x ++ now) ++ later n) e
-
 tokens_so_far-grown : (fed more : List ℕ) → tokens_so_far (fed ++ more) ≡ tokens_so_far fed ++ tokens_from (length fed) (open_run fed) more
 tokens_so_far-grown fed more =
     let e : 0 + length fed ≡ length fed = omega arith in
-    rw e at (tokens_from-append 0 [] fed more)
+    rw e at (tokens-append 0 [] fed more)
 
 -- the tokens of a text are those that count in its first bytes, and then others
 pub tokens_of-append : (fed more : List ℕ) → (ts : List Token) × (tokens_of (fed ++ more) ≡ tokens_so_far fed ++ ts)
@@ -69,23 +60,10 @@ ended_from block [] = []
 ended_from block (Later ∷ events) = block ∷ ended_from [] events
 ended_from block (Changed change ∷ events) = ended_from (block ++ change ∷ []) events
 
-blocks_from-some : (block : Block) (es : List Event) → (n : ℕ) × (length (blocks_from block es) ≡ n + 1)
-blocks_from-some block [] = (0, refl)
-blocks_from-some block (Later ∷ es) = let h = blocks_from-some [] es in
-    (h.0 + 1, (let e : length (blocks_from [] es) ≡ h.0 + 1 = h.1 in omega arith))
-blocks_from-some block (Changed c ∷ es) = blocks_from-some (block ++ c ∷ []) es
-
-all_but_last-more : (b : Block) (bs : List Block) (n : ℕ) → length bs ≡ n + 1 → ended (b ∷ bs) ≡ b ∷ ended bs
-all_but_last-more b bs n e =
-    let up : length (b ∷ bs) - 1 ≡ suc n = omega arith in
-    let down : length bs - 1 ≡ n = omega arith in
-    rw (up, down) refl
-
 ended-from : (block : Block) (es : List Event) → ended (blocks_from block es) ≡ ended_from block es
 ended-from block [] = refl
 ended-from block (Later ∷ es) =
-    let h = blocks_from-some [] es in
-    all_but_last-more block (blocks_from [] es) h.0 h.1 ∙ ap (λ bs. block ∷ bs) (ended-from [] es)
+    ended-cons block (blocks_from [] es) (blocks_some [] es) ∙ ap (λ bs. block ∷ bs) (ended-from [] es)
 ended-from block (Changed c ∷ es) = ended-from (block ++ c ∷ []) es
 
 -- the block that stands open behind events

@@ -3,3 +3,4 @@ pub mod Any
 pub mod Count
 pub mod Nth
 pub mod Since
+pub mod Examples

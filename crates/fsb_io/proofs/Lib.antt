@@ -1,3 +1,4 @@
 pub mod HexDigits
 pub mod Taken
 pub mod Written
+pub mod WorkedWords

@@ -283,7 +283,7 @@ fn write_tried<F: Write>(file: &mut F, piece: &[u8]) -> Result<usize, Failed>
 #[cfg(test)]
 mod tests {
     use super::*;
-    use crate::{put_all, read_all};
+    use crate::{ReadStop, put_all, read_all};
     use std::env;
     use std::test::Fail;
 
@@ -352,6 +352,21 @@ mod tests {
         fs::remove_file(&rt, name)?;
         assert_eq!(rt; source.begin(name), Err(Failed), "the file is gone");
         assert_eq!(rt; source.faults(), 1);
+        Ok(())
+    }
+
+    #[test]
+    fn read_of_a_folder_and_write_to_a_full_device_are_faults(rt: HostRuntime) -> Result<(), Fail> {
+        let mut source = FileSource::new(&rt);
+        assert_eq!(rt; source.begin("/"), Ok(()), "a folder can be opened");
+        let answer = read_all(rt.alloc(), &mut source, 100);
+        assert!(rt; matches!(answer, Err(ReadStop::ReadFault)));
+        assert_eq!(rt; source.faults(), 1);
+
+        let mut sink = FileSink::new(&rt);
+        assert_eq!(rt; sink.begin("/dev/full"), Ok(()));
+        assert_eq!(rt; put_all(&mut sink, b"lost"), Err(Failed));
+        assert_eq!(rt; sink.faults(), 1);
         Ok(())
     }
 

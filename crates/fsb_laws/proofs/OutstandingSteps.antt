@@ -139,6 +139,9 @@ newly_deferred h x v i m o f t =
       unfinished = ap (λ k. is_before k (length v)) (last_clock_of-deferred v i t ∙ reply_end_of-none v i none) ∙ not_finished (length v);
     }
 
+pub not_finished-newly : (h : Trace) (x : Sample) (v : Trace) (i : ℕ) → OneMore h x v → Orderly h → is_deferred h i ≡ false → is_deferred v i ≡ true → is_before (last_clock_of v i) (length v) ≡ false
+not_finished-newly h x v i m o f t = (newly_deferred h x v i m o f t).unfinished
+
 -- one that was Deferred before is finished with the end of its reply
 later_end : (w : Trace) (q : ℕ) → Orderly w → q < length w → is_live w q ≡ true → length w ≤ q + 3 → is_before (end_of w (live_number_of w q)) (length w) ≡ false
 later_end w q o l t late = ended_known w q (end_of w (live_number_of w q)) o l t late refl

@@ -156,6 +156,9 @@ ready_cases h x v s None m o to e =
 pub ready_clock_of-next : (h : Trace) (x : Sample) (v : Trace) (s : ℕ) → OneMore h x v → Orderly h → SnoopsTo h s → ready_clock_of v (response_count h) ≡ elim (ready_clock_of h (response_count h)) [ Some y ↦ Some y | None ↦ cond (has_line x TRDY && may_answer_next h) (Some (length h)) None ]
 ready_clock_of-next h x v s m o to = ready_cases h x v s (ready_clock_of h (response_count h)) m o to refl
 
+pub ready_clock_of-begun : (h : Trace) (x : Sample) (v : Trace) (s : ℕ) → OneMore h x v → Orderly h → SnoopsTo h s → ready_clock_of h (response_count h) ≡ None → ready_clock_of v (response_count h) ≡ cond (has_line x TRDY && may_answer_next h) (Some (length h)) None
+ready_clock_of-begun h x v s m o to e = ready_cases h x v s None m o to e
+
 -- the one after it has none yet when it responds
 after_response : (h : Trace) (x : Sample) (v : Trace) (o : Option ℕ) → OneMore h x v → responds x ≡ true → ready_clock_of v (suc (response_count h)) ≡ o → ready_clock_of v (suc (response_count h)) ≡ None
 after_response h x v None m t e = e

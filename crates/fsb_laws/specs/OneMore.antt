@@ -1,9 +1,9 @@
 -- A trace with one sample more than another.
 use Rattle.std.specs.Prelude.{◌≡◌, ℕ, ◌+◌, Bool, ◌&&◌, not, nat_eq, length, Some, slice_get}
-use Rattle.fsb_signal.specs.declared.lines.TheConstants.Lines.{ADS, AERR, HIT, HITM}
+use Rattle.fsb_signal.specs.declared.lines.TheConstants.Lines.{AERR, HIT, HITM}
 use Rattle.fsb_signal.specs.declared.sample.Sample.{Sample}
 use Rattle.fsb_signal.specs.Samples.{has_line, response_of}
-use Rattle.fsb_trace.specs.At.{Trace, line_back}
+use Rattle.fsb_trace.specs.At.{Trace}
 use Rattle.fsb_trace.specs.Agree.{AgreeTo}
 
 -- v is h and then the sample x
@@ -15,10 +15,6 @@ pub record OneMore (h : Trace) (x : Sample) (v : Trace) : Type 0 where
 -- the sample, at clock n, cancels the request that begins at q
 unfoldable pub cancels : Sample → ℕ → ℕ → Bool
 cancels x n q = has_line x AERR && nat_eq (q + 3) n
-
--- the sample, as the next one of h, cancels a request of h
-unfoldable pub cancels_one : Trace → Sample → Bool
-cancels_one h x = has_line x AERR && line_back ADS h (length h) 3
 
 -- HIT# and HITM# are asserted together in the sample
 unfoldable pub stalls : Sample → Bool

@@ -5,13 +5,13 @@ use Rattle.fsb_count.specs.Options.{is_some_and}
 use Rattle.fsb_count.specs.Clocks.{count_where, from_clock}
 use Rattle.fsb_signal.specs.declared.sample.Sample.{Sample}
 use Rattle.fsb_signal.specs.declared.lines.TheConstants.Lines.{DRDY}
-use Rattle.fsb_signal.specs.Samples.{line_at, response_of}
+use Rattle.fsb_signal.specs.Samples.{line_at}
 use Rattle.fsb_trace.specs.At.{Trace, responds_at}
 use Rattle.fsb_trace.specs.Snoop.{snoop_end_of, snoop_start_of, is_every_second_from}
-use Rattle.fsb_trace.specs.Outcome.{response_clock_of, told_by, does_move}
+use Rattle.fsb_trace.specs.Outcome.{response_clock_of}
 use Rattle.fsb_trace.specs.Response.{end_of}
 use Rattle.fsb_trace.specs.Rules.{is_transferring_of}
-use Rattle.fsb_laws.specs.OneMore.{stalls, responds}
+use Rattle.fsb_laws.specs.OneMore.{stalls}
 
 -- exactly the live requests below s have their snoop end
 pub record SnoopsTo (h : Trace) (s : ℕ) : Type 0 where
@@ -53,11 +53,6 @@ transfer_of h = transfer_after h (response_count h)
 unfoldable pub chunk_step : Bool → Option ℕ → Option ℕ
 chunk_step comes None = None
 chunk_step comes (Some k) = let now = k + (if comes then 1 else 0) in if nat_lt now 4 then Some now else None
-
--- the transfer that the sample begins where it is the response of live request i, or that is on the way
-unfoldable pub transfer_with : Trace → ℕ → Sample → Option ℕ
-transfer_with h i x =
-    if responds x then (if does_move (told_by h i (response_of x)) then Some 0 else None) else transfer_of h
 
 -- the next response may come at the clock after the trace: its request's snoop end lies two clocks before at least,
 -- and no transfer is on the way

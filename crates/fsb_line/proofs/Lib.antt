@@ -12,3 +12,4 @@ pub mod Since
 pub mod WitnessRuns
 pub mod Flat
 pub mod NeededRuns
+mod WorkedSteps

@@ -141,10 +141,12 @@ fn requests_that_accesses_need(rt: HostRuntime) {
     for (state, alone, upgrades, want) in [
         (Mesi::Invalid, false, true, Some(Kind::Read)),
         (Mesi::Invalid, true, true, Some(Kind::Own)),
+        (Mesi::Invalid, true, false, Some(Kind::Own)),
         (Mesi::Shared, false, true, None),
         (Mesi::Shared, true, false, Some(Kind::Own)),
         (Mesi::Shared, true, true, Some(Kind::Upgrade)),
         (Mesi::Exclusive, true, true, None),
+        (Mesi::Modified, true, false, None),
     ] {
         assert_eq!(rt;
             state.wanted(alone, upgrades),
@@ -154,6 +156,7 @@ fn requests_that_accesses_need(rt: HostRuntime) {
     }
     assert_eq!(rt; Mesi::Modified.answer(), Answer::Modified);
     assert_eq!(rt; Mesi::Exclusive.answer(), Answer::Hit);
+    assert_eq!(rt; Mesi::Shared.answer(), Answer::Hit);
     assert_eq!(rt; Mesi::Invalid.answer(), Answer::Clean);
 }
 

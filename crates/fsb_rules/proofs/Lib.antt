@@ -1,3 +1,4 @@
+pub mod QuietClocks
 pub mod Room
 pub mod Windows
 pub mod Lines

@@ -13,7 +13,3 @@ mod checker;
 mod outstanding;
 mod queue;
 mod recent;
-#[cfg(test)]
-mod runs;
-#[cfg(test)]
-mod tests;

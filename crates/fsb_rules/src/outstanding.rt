@@ -4,7 +4,7 @@ ghost use Rattle.std.specs.Prelude.{◌≡◌, ◌<◌, ◌≤◌, ◌/◌, true
 ghost use Rattle.std.specs.List.{list_any, filter_map};
 ghost use Rattle.std.specs.Option.{option_and_then, option_to_list, is_some};
 ghost use Rattle.fsb_count.specs.Options.{is_at, is_before};
-ghost use Rattle.fsb_rules.specs.OpenTests.{reply_by, reply_after, open_with, open_after_end, open_after, open_begun, awaits, has_id, is_of_agent, is_wrong_among};
+ghost use Rattle.fsb_rules.specs.OpenTests.{reply_by, reply_after, open_with, open_after_end, open_after, open_begun, awaits, has_id, is_of_agent, is_wrong_among, is_quiet};
 
 use crate::asked::{Asked, Ended};
 use arrayvec::ArrayVec;
@@ -80,6 +80,16 @@ fn open_begun(asked: &Asked) -> Option<Open>
             deferred: None,
             reply: None,
         })
+    }
+}
+
+impl Happened {
+    /// Whether nothing happens to any request.
+    #[tactic(auto, unfolding(crate::specs::OpenTests::is_quiet))]
+    fn is_quiet(&self) -> bool
+        ensures { result ≡ is_quiet self.now }
+    {
+        self.cancelled.is_none() && self.ended.is_none() && self.begun.is_none()
     }
 }
 
@@ -275,6 +285,17 @@ impl Outstanding {
         }
     }
 
+    /// Lets what happens pass over those that are outstanding; at most clocks nothing happens to them.
+    #[tactic(auto, using(crate::proofs::QuietClocks::quiet_stays))]
+    fn pass(&mut self, happened: &Happened)
+        ensures current { self.new.current.items ≡ filter_map (open_after happened.now) self.old.current.items }
+        ensures before { self.new.before.items ≡ self.old.before.items }
+    {
+        if !happened.is_quiet() {
+            self.current = left_of(self.current.as_slice(), happened);
+        }
+    }
+
     /// Takes what happens with a sample, with which a request begins or does not.
     pub fn absorb(&mut self, happened: &Happened, begins: bool)
         requires { is_some (option_and_then (λ a. open_begun a) happened.now.begun) ≡ true → length (filter_map (open_after happened.now) self.old.current.items) < 16 }
@@ -285,7 +306,7 @@ impl Outstanding {
         if begins {
             self.before = copy_of(self.current.as_slice());
         }
-        self.current = left_of(self.current.as_slice(), happened);
+        self.pass(happened);
         if let Some(asked) = happened.begun {
             if let Some(open) = open_begun(&asked) {
                 self.current.push(open);

@@ -5,7 +5,7 @@ use Rattle.fsb_access.specs.declared.access.Access.{Access}
 use Rattle.fsb_access.specs.declared.access.Setting.{Setting}
 use Rattle.fsb_access.specs.declared.item.Item.{Item}
 use Rattle.fsb_access.specs.declared.item.Item.TheVariants.{One, Locked, Idle}
-use Rattle.fsb_access.specs.Access.{is_lawful_access, line_of}
+use Rattle.fsb_access.specs.Access.{is_lawful_access, accessed_line}
 use Rattle.fsb_hazard.specs.declared.line.HazardLine.{HazardLine}
 use Rattle.fsb_hazard.specs.declared.line.HazardLine.TheVariants.{Stall, Trdy, Resp, Gap, Retry, Defer, Aerr, Bnr}
 use Rattle.fsb_script.specs.declared.plan.Window.{Window}
@@ -18,12 +18,12 @@ is_cache n =
 
 -- whether an access of the list is to the line
 unfoldable pub names_line : ℕ → List Access → Bool
-names_line line accesses = list_any (λ other. line_of other == line) accesses
+names_line line accesses = list_any (λ other. accessed_line other == line) accesses
 
 -- how many different lines the accesses have
 abbrev pub line_count : List Access → ℕ
 line_count [] = 0
-line_count (access ∷ accesses) = (if names_line (line_of access) accesses then 0 else 1) + line_count accesses
+line_count (access ∷ accesses) = (if names_line (accessed_line access) accesses then 0 else 1) + line_count accesses
 
 -- a locked item has 1 to 8 accesses and at most 4 different lines
 unfoldable pub is_lock_size : List Access → Bool
@@ -35,11 +35,11 @@ is_apart cache line other = (line == other) || not (line % cache == other % cach
 
 -- whether a line may be held beside each of these accesses' lines
 abbrev pub is_apart_from_all : ℕ → ℕ → List Access → Bool
-is_apart_from_all cache line accesses = list_all (λ other. is_apart cache line (line_of other)) accesses
+is_apart_from_all cache line accesses = list_all (λ other. is_apart cache line (accessed_line other)) accesses
 
 -- no two different lines of a locked item have one cache set
 unfoldable pub is_lock_apart : ℕ → List Access → Bool
-is_lock_apart cache accesses = list_all (λ access. is_apart_from_all cache (line_of access) accesses) accesses
+is_lock_apart cache accesses = list_all (λ access. is_apart_from_all cache (accessed_line access) accesses) accesses
 
 -- one lawful access, one to eight of them under the lock, or 1 to 200,000 idle clocks
 abbrev pub is_lawful_item : ℕ → Item → Bool

@@ -20,7 +20,7 @@ use Rattle.fsb_script.specs.Statements.{keyword, load_of, store_of, idle_of, win
 use Rattle.fsb_script.specs.Forms.{built, built_if}
 use Rattle.fsb_script.specs.Named.{Lines, has_other}
 use Rattle.fsb_script.specs.Bounds.{is_cache, is_lock_size, is_lock_apart}
-use Rattle.fsb_access.specs.Access.{line_of}
+use Rattle.fsb_access.specs.Access.{accessed_line}
 use Rattle.fsb_script.specs.Plans.{PlanView}
 
 -- what the lines so far have said, and which lines may stand next
@@ -146,7 +146,7 @@ room d = require (nat_lt (length d.script) 4096) Range d
 -- an access by itself
 unfoldable pub one_item : Progress → Access → Result Progress Cause
 one_item d access = do
-  e ← named_line d (line_of access)
+  e ← named_line d (accessed_line access)
   Ok (record e { script = e.script ++ One access ∷ [] })
 
 -- `ld SIZE ADDRESS`, an item by itself
@@ -207,7 +207,7 @@ item_line d word line =
 -- an access of a locked item
 unfoldable pub locked_access : Progress → Access → Result Progress Cause
 locked_access d access = do
-  e ← named_line d (line_of access)
+  e ← named_line d (accessed_line access)
   Ok (record e { group = e.group ++ access ∷ [] })
 
 -- a locked item ends

@@ -3,7 +3,9 @@ use std::alloc::{AllocError, Global};
 use std::test::Fail;
 use table::{BAD, GOOD};
 
+mod hazard_room;
 mod table;
+mod unbuilt;
 
 /// What stands before the text of a row.
 #[derive(Clone, Copy, Debug)]

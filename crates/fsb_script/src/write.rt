@@ -106,3 +106,93 @@ fn put_hazards(text: &mut Vec<u8>, hazards: &[HazardLine]) -> Result<(), Memory>
     }
     Ok(())
 }
+
+#[cfg(test)]
+mod tests {
+    use super::*;
+    use crate::plan::Scripts;
+    use fsb_access::{Group, Operand};
+    use std::test::Fail;
+
+    /// The scripts of two agents, of which the second has no items.
+    fn two_scripts(alloc: Global) -> Result<Scripts, Memory> {
+        let mut group = Group::new(alloc);
+        group.push(Access::Load {
+            size: 1,
+            addr: 0x40,
+        })?;
+        group.push(Access::Store {
+            size: 1,
+            addr: 0x40,
+            value: Operand::LastPlus(1),
+        })?;
+        let mut script = Script::new(alloc);
+        script.push(Item::Idle(11))?;
+        script.push(Item::Locked(group))?;
+        script.push(Item::One(Access::Store {
+            size: 8,
+            addr: 0xf_ffff_fff8,
+            value: Operand::Literal(0xfedc_ba98_7654_3210),
+        }))?;
+        let mut scripts = Scripts::new(alloc);
+        scripts.push(script)?;
+        scripts.push(Script::new(alloc))?;
+        Ok(scripts)
+    }
+
+    const SCRIPTS: &str = "\
+agent 0
+idle 11
+lock
+ld 1 40
+st 1 40 r+1
+unlock
+st 8 ffffffff8 fedcba9876543210
+end
+agent 1
+end
+";
+
+    /// A hazard of each kind.
+    const HAZARDS: [HazardLine; 9] = [
+        HazardLine::Stall(0, 1),
+        HazardLine::Trdy(1, 255),
+        HazardLine::Resp(2, 3),
+        HazardLine::Gap(3, 4),
+        HazardLine::Retry(199_999),
+        HazardLine::Defer(5, 65_535),
+        HazardLine::Defer(6, 0),
+        HazardLine::Aerr(7),
+        HazardLine::Bnr(0, 199_999),
+    ];
+
+    const HAZARD_LINES: &str = "\
+tx 0 stall 1
+tx 1 trdy 255
+tx 2 resp 3
+tx 3 data 4
+tx 199999 retry
+tx 5 defer 65535
+tx 6 defer 0
+tx 7 aerr
+bnr 0 199999
+";
+
+    #[test]
+    fn lines_of_forms_that_are_not_built(rt: HostRuntime) -> Result<(), Fail> {
+        let mut text = Vec::new(rt.alloc());
+        put_scripts(&mut text, two_scripts(rt.alloc())?.as_slice())?;
+        assert_eq!(rt; text.as_slice(), SCRIPTS.as_bytes());
+        let mut text = Vec::new(rt.alloc());
+        put_hazards(&mut text, &HAZARDS)?;
+        assert_eq!(rt; text.as_slice(), HAZARD_LINES.as_bytes());
+        let mut text = Vec::new(rt.alloc());
+        let window = Window {
+            base: 0x1000,
+            size: 0x20,
+        };
+        put_bridge(&mut text, &Some(window))?;
+        assert_eq!(rt; text.as_slice(), b"bridge 1000 20\n".as_slice());
+        Ok(())
+    }
+}

@@ -7,7 +7,7 @@ use Rattle.std.proofs.lemmas.List.Folds.{list_all-append}
 use Rattle.fsb_access.specs.declared.access.Setting.{Setting}
 use Rattle.fsb_access.specs.declared.item.Item.{Item}
 use Rattle.fsb_access.specs.declared.item.Item.TheVariants.{One}
-use Rattle.fsb_access.specs.Access.{line_of}
+use Rattle.fsb_access.specs.Access.{accessed_line}
 use Rattle.fsb_script.specs.declared.fault.Cause.TheVariants.{Word}
 use Rattle.fsb_script.specs.Bounds.{is_lawful_setting}
 use Rattle.fsb_script.specs.Words.{is_read_past, next_word, ended, decimal_of, decimal_within, hex_digit, hex_of, address}
@@ -69,7 +69,7 @@ from_items (line ∷ texts) n clocks cache mem script lines p s h =
         → (item_state clocks cache mem script lines ≡ e) ⊎ ItemGave clocks cache mem script lines e → Ends clocks cache mem p
     by e g again (inl same) = again script lines s (subst (λ (d : Progress). plan_from (n + 1) d texts ≡ Ok p) (sym same) g)
     by e g again (inr (inl added)) =
-        again (script ++ One added.access ∷ []) (lines ++ line_of added.access ∷ []) (script_push cache script lines added.access s added.lawful added.room added.free)
+        again (script ++ One added.access ∷ []) (lines ++ accessed_line added.access ∷ []) (script_push cache script lines added.access s added.lawful added.room added.free)
         (subst (λ (d : Progress). plan_from (n + 1) d texts ≡ Ok p) (sym added.state) g)
     by e g again (inr (inr ended_there)) =
         record { script = script; lines = lines; known = s; same = from_final texts (n + 1) clocks cache mem script lines p (subst (λ (d : Progress). plan_from (n + 1) d texts ≡ Ok p) (sym ended_there) g) }

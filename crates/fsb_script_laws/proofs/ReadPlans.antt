@@ -9,7 +9,7 @@ use Rattle.fsb_access.specs.declared.access.Access.{Access}
 use Rattle.fsb_access.specs.declared.access.Setting.{Setting}
 use Rattle.fsb_access.specs.declared.item.Item.{Item}
 use Rattle.fsb_access.specs.declared.item.Item.TheVariants.{One, Locked, Idle}
-use Rattle.fsb_access.specs.Access.{line_of, is_lawful_access}
+use Rattle.fsb_access.specs.Access.{accessed_line, is_lawful_access}
 use Rattle.fsb_hazard.specs.declared.line.HazardLine.{HazardLine}
 use Rattle.fsb_script.specs.declared.fault.Cause.{Cause}
 use Rattle.fsb_script.specs.declared.fault.Cause.TheVariants.{Range}
@@ -125,10 +125,10 @@ apart_push cache line (x ∷ xs) apart all =
     (list_all-append (is_apart cache x) xs (line ∷ []) ∙ both (list_all (is_apart cache x) xs) (is_apart cache x line && true) known (both (is_apart cache x line) true here refl))
     (apart_push cache line xs (second_of_both (list_all (is_apart cache x) xs) (are_apart cache xs) apart) (second_of_both (is_apart cache x line) (list_all (λ other. is_apart cache other line) xs) all))
 
-named_push : (script : List Item) (access : Access) → lines_named (script ++ One access ∷ []) ≡ lines_named script ++ line_of access ∷ []
+named_push : (script : List Item) (access : Access) → lines_named (script ++ One access ∷ []) ≡ lines_named script ++ accessed_line access ∷ []
 named_push [] access = refl
-named_push (One a ∷ items) access = ap (λ (ls : List ℕ). line_of a ∷ ls) (named_push items access)
-named_push (Locked accesses ∷ items) access = ap (λ (ls : List ℕ). lines_of_item (Locked accesses) ++ ls) (named_push items access) ∙ sym (append_assoc (lines_of_item (Locked accesses)) (lines_named items) (line_of access ∷ []))
+named_push (One a ∷ items) access = ap (λ (ls : List ℕ). accessed_line a ∷ ls) (named_push items access)
+named_push (Locked accesses ∷ items) access = ap (λ (ls : List ℕ). lines_of_item (Locked accesses) ++ ls) (named_push items access) ∙ sym (append_assoc (lines_of_item (Locked accesses)) (lines_named items) (accessed_line access ∷ []))
 named_push (Idle n ∷ items) access = named_push items access
 
 -- ---- the script
@@ -141,14 +141,14 @@ pub record Script (cache : ℕ) (script : List Item) (lines : List ℕ) : Type 0
   pub named : lines_named script ≡ lines
   pub apart : are_apart cache lines ≡ true
 
-pub script_push : (cache : ℕ) (script : List Item) (lines : List ℕ) (access : Access) → Script cache script lines → is_lawful_access access ≡ true → length script < 4096 → has_other (record { cache = cache; lines = lines }) (line_of access) ≡ false → Script cache (script ++ One access ∷ []) (lines ++ line_of access ∷ [])
+pub script_push : (cache : ℕ) (script : List Item) (lines : List ℕ) (access : Access) → Script cache script lines → is_lawful_access access ≡ true → length script < 4096 → has_other (record { cache = cache; lines = lines }) (accessed_line access) ≡ false → Script cache (script ++ One access ∷ []) (lines ++ accessed_line access ∷ [])
 unfolding has_other
 script_push cache script lines access s lawful room free = record {
   ones = list_all-append is_one script (One access ∷ []) ∙ both (list_all is_one script) true s.ones refl;
   lawful = list_all-append (is_lawful_item cache) script (One access ∷ []) ∙ both (list_all (is_lawful_item cache) script) (is_lawful_access access && true) s.lawful (both (is_lawful_access access) true lawful refl);
   few = omega (arith, length-append script (One access ∷ []));
-  named = named_push script access ∙ ap (λ (ls : List ℕ). ls ++ line_of access ∷ []) s.named;
-  apart = apart_push cache (line_of access) lines s.apart (all_apart cache (line_of access) lines s.apart free);
+  named = named_push script access ∙ ap (λ (ls : List ℕ). ls ++ accessed_line access ∷ []) s.named;
+  apart = apart_push cache (accessed_line access) lines s.apart (all_apart cache (accessed_line access) lines s.apart free);
 }
 
 -- an item's line adds an access
@@ -156,19 +156,19 @@ pub record Added (clocks cache : ℕ) (mem : List Setting) (script : List Item) 
   pub access : Access
   pub lawful : is_lawful_access access ≡ true
   pub room : length script < 4096
-  pub free : has_other (record { cache = cache; lines = lines }) (line_of access) ≡ false
-  pub state : item_state clocks cache mem (script ++ One access ∷ []) (lines ++ line_of access ∷ []) ≡ e
+  pub free : has_other (record { cache = cache; lines = lines }) (accessed_line access) ≡ false
+  pub state : item_state clocks cache mem (script ++ One access ∷ []) (lines ++ accessed_line access ∷ []) ≡ e
 
 one_inv : (clocks cache : ℕ) (mem : List Setting) (script : List Item) (lines : List ℕ) (access : Access) (e : Progress) → is_lawful_access access ≡ true → length script < 4096 → one_item (item_state clocks cache mem script lines) access ≡ Ok e → Added clocks cache mem script lines e
 unfolding one_item
 one_inv clocks cache mem script lines access e lawful room h =
-    let a = bind_ok (named_line (item_state clocks cache mem script lines) (line_of access)) (λ e. Ok (record e { script = e.script ++ One access ∷ [] })) e h in
-    let same : item_state clocks cache mem script (lines ++ line_of access ∷ []) ≡ a.0 = named_same clocks cache mem script lines (line_of access) a.0 a.1.0 in
+    let a = bind_ok (named_line (item_state clocks cache mem script lines) (accessed_line access)) (λ e. Ok (record e { script = e.script ++ One access ∷ [] })) e h in
+    let same : item_state clocks cache mem script (lines ++ accessed_line access ∷ []) ≡ a.0 = named_same clocks cache mem script lines (accessed_line access) a.0 a.1.0 in
     record {
       access = access;
       lawful = lawful;
       room = room;
-      free = named_free clocks cache mem script lines (line_of access) a.0 a.1.0;
+      free = named_free clocks cache mem script lines (accessed_line access) a.0 a.1.0;
       state = ap (λ (x : Progress). record x { script = x.script ++ One access ∷ [] }) same ∙ state_is (record a.0 { script = a.0.script ++ One access ∷ [] }) e a.1.1;
     }
 

@@ -10,7 +10,7 @@ use Rattle.fsb_access.specs.declared.access.Access.TheVariants.{Load, Store}
 use Rattle.fsb_access.specs.declared.access.Setting.{Setting}
 use Rattle.fsb_access.specs.declared.item.Item.{Item}
 use Rattle.fsb_access.specs.declared.item.Item.TheVariants.{One, Locked, Idle}
-use Rattle.fsb_access.specs.Access.{line_of, is_place, fits, number_of, is_lawful_access}
+use Rattle.fsb_access.specs.Access.{accessed_line, is_place, fits, number_of, is_lawful_access}
 use Rattle.fsb_script.specs.Bounds.{is_apart, is_lawful_item}
 use Rattle.fsb_script_laws.specs.BuiltPlans.{is_one}
 use Rattle.fsb_script.specs.Named.{first_in, is_other, has_other}
@@ -60,8 +60,8 @@ clear_more cache line later earlier clear apart =
 -- ---- an access
 
 access_taken : (access : Access) (clocks cache : ℕ) (mem : List Setting) (script : List Item) (lines : List ℕ)
-    → is_lawful_access access ≡ true → length script < 4096 → is_other (line_of access) (first_in cache (line_of access % cache) lines) ≡ false
-    → after_line (item_state clocks cache mem script lines) (access_line access) ≡ Ok (item_state clocks cache mem (script ++ One access ∷ []) (lines ++ line_of access ∷ []))
+    → is_lawful_access access ≡ true → length script < 4096 → is_other (accessed_line access) (first_in cache (accessed_line access % cache) lines) ≡ false
+    → after_line (item_state clocks cache mem script lines) (access_line access) ≡ Ok (item_state clocks cache mem (script ++ One access ∷ []) (lines ++ accessed_line access ∷ []))
 unfolding after_line is_read_past heading_of first_line agents_line clocks_line cache_line ahead_line keyword next_word decimal_word decimal_of decimal_within ended built is_built built_if choice_line body_line memory_line agent_line agent_of item_line load_item store_item one_item named_line has_other
 access_taken (Load size addr) clocks cache mem script lines lawful room alone =
     rw (lt-ltb (length script) 4096 room) (rw (load_back size addr (place_is size addr lawful)) (rw alone refl))
@@ -69,12 +69,12 @@ access_taken (Store size addr value) clocks cache mem script lines lawful room a
     rw (lt-ltb (length script) 4096 room) (rw (store_back size addr value (place_is size addr (first_of_both (is_place size addr) (fits size (number_of value)) lawful)) (second_of_both (is_place size addr) (fits size (number_of value)) lawful)) (rw alone refl))
 
 access_goes_on : (access : Access) (clocks cache : ℕ) (mem : List Setting) (script : List Item) (lines : List ℕ) (rest : List ℕ) (p : PlanView)
-    → is_lawful_access access ≡ true → length script < 4096 → is_other (line_of access) (first_in cache (line_of access % cache) lines) ≡ false
-    → GoesOn (item_state clocks cache mem (script ++ One access ∷ []) (lines ++ line_of access ∷ [])) rest p
+    → is_lawful_access access ≡ true → length script < 4096 → is_other (accessed_line access) (first_in cache (accessed_line access % cache) lines) ≡ false
+    → GoesOn (item_state clocks cache mem (script ++ One access ∷ []) (lines ++ accessed_line access ∷ [])) rest p
     → GoesOn (item_state clocks cache mem script lines) (access_text access ++ rest) p
 access_goes_on access clocks cache mem script lines rest p lawful room alone then_ =
     subst (λ text. GoesOn (item_state clocks cache mem script lines) text p) (sym (access_line_is access rest))
-    (goes_on (item_state clocks cache mem script lines) (item_state clocks cache mem (script ++ One access ∷ []) (lines ++ line_of access ∷ [])) (access_line access) rest p (access_inner access lawful) (access_taken access clocks cache mem script lines lawful room alone) then_)
+    (goes_on (item_state clocks cache mem script lines) (item_state clocks cache mem (script ++ One access ∷ []) (lines ++ accessed_line access ∷ [])) (access_line access) rest p (access_inner access lawful) (access_taken access clocks cache mem script lines lawful room alone) then_)
 
 -- ---- the script
 
@@ -92,15 +92,15 @@ items_go_on [] clocks cache mem script lines rest p ones lawful few apart clear 
 items_go_on (One access ∷ items) clocks cache mem script lines rest p ones lawful few apart clear then_ =
     let lawful_access : is_lawful_access access ≡ true = first_of_both (is_lawful_access access) (list_all (is_lawful_item cache) items) lawful in
     let lawful_items : list_all (is_lawful_item cache) items ≡ true = second_of_both (is_lawful_access access) (list_all (is_lawful_item cache) items) lawful in
-    let apart_here : list_all (is_apart cache (line_of access)) (lines_named items) ≡ true = first_of_both (list_all (is_apart cache (line_of access)) (lines_named items)) (are_apart cache (lines_named items)) apart in
-    let apart_later : are_apart cache (lines_named items) ≡ true = second_of_both (list_all (is_apart cache (line_of access)) (lines_named items)) (are_apart cache (lines_named items)) apart in
+    let apart_here : list_all (is_apart cache (accessed_line access)) (lines_named items) ≡ true = first_of_both (list_all (is_apart cache (accessed_line access)) (lines_named items)) (are_apart cache (lines_named items)) apart in
+    let apart_later : are_apart cache (lines_named items) ≡ true = second_of_both (list_all (is_apart cache (accessed_line access)) (lines_named items)) (are_apart cache (lines_named items)) apart in
     let room : length script < 4096 = omega arith in
     let few_more : length (script ++ One access ∷ []) + length items ≤ 4096 = omega (arith, length-append script (One access ∷ [])) in
-    let clear_later : are_clear cache (lines ++ line_of access ∷ []) (lines_named items) ≡ true = clear_more cache (line_of access) (lines_named items) lines (clear_less cache (line_of access) (lines_named items) lines clear) apart_here in
-    let others = items_go_on items clocks cache mem (script ++ One access ∷ []) (lines ++ line_of access ∷ []) rest p ones lawful_items few_more apart_later clear_later
+    let clear_later : are_clear cache (lines ++ accessed_line access ∷ []) (lines_named items) ≡ true = clear_more cache (accessed_line access) (lines_named items) lines (clear_less cache (accessed_line access) (lines_named items) lines clear) apart_here in
+    let others = items_go_on items clocks cache mem (script ++ One access ∷ []) (lines ++ accessed_line access ∷ []) rest p ones lawful_items few_more apart_later clear_later
     (λ all. subst (λ (s : List Item). GoesOn (item_state clocks cache mem s all) rest p) (sym (append_assoc script (One access ∷ []) items)) (then_ all)) in
     subst (λ text. GoesOn (item_state clocks cache mem script lines) text p) (sym (text_is access items rest))
-    (access_goes_on access clocks cache mem script lines (items_text items ++ rest) p lawful_access room (none_other cache (line_of access) (lines_named items) lines clear) others)
+    (access_goes_on access clocks cache mem script lines (items_text items ++ rest) p lawful_access room (none_other cache (accessed_line access) (lines_named items) lines clear) others)
 items_go_on (Locked accesses ∷ items) clocks cache mem script lines rest p ones lawful few apart clear then_ = absurd cc
 items_go_on (Idle n ∷ items) clocks cache mem script lines rest p ones lawful few apart clear then_ = absurd cc
 

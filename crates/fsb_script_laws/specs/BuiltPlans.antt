@@ -4,7 +4,7 @@ use Rattle.std.specs.List.{list_all}
 use Rattle.fsb_access.specs.declared.access.Setting.{Setting}
 use Rattle.fsb_access.specs.declared.item.Item.{Item}
 use Rattle.fsb_access.specs.declared.item.Item.TheVariants.{One, Locked, Idle}
-use Rattle.fsb_access.specs.Access.{line_of}
+use Rattle.fsb_access.specs.Access.{accessed_line}
 use Rattle.fsb_script.specs.Bounds.{is_cache, is_apart, is_lawful_script, is_lawful_setting}
 use Rattle.fsb_script.specs.Plans.{PlanView}
 
@@ -20,8 +20,8 @@ has_ones items = list_all is_one items
 
 -- the lines that the accesses of an item are to
 abbrev pub lines_of_item : Item → List ℕ
-lines_of_item (One access) = line_of access ∷ []
-lines_of_item (Locked accesses) = map line_of accesses
+lines_of_item (One access) = accessed_line access ∷ []
+lines_of_item (Locked accesses) = map accessed_line accesses
 lines_of_item (Idle clocks) = []
 
 -- the lines that the accesses of a script are to, in order

@@ -34,3 +34,105 @@ fn samples_tell_what_is_asserted(rt: HostRuntime) {
         "past the end nothing is asserted"
     );
 }
+
+#[test]
+fn table_tells_what_must_be_declared(rt: HostRuntime) {
+    let needed = [
+        "BCLK", "BREQ0_n", "ADS_n", "REQ_n", "A_n", "HIT_n", "HITM_n", "RS_n", "TRDY_n", "DBSY_n",
+        "DRDY_n", "D_n",
+    ];
+    for signal in &SIGNALS {
+        assert_eq!(rt;
+            signal.needed,
+            needed.contains(&signal.name),
+            "{}",
+            signal.name
+        );
+    }
+}
+
+#[test]
+fn each_line_has_its_number(rt: HostRuntime) {
+    let rows = [
+        (Lines::BREQ0, 1, 1),
+        (Lines::BREQ1, 2, 1),
+        (Lines::BREQ2, 3, 1),
+        (Lines::BREQ3, 4, 1),
+        (Lines::BPRI, 5, 1),
+        (Lines::LOCK, 6, 1),
+        (Lines::BNR, 7, 1),
+        (Lines::ADS, 8, 1),
+        (Lines::AERR, 11, 1),
+        (Lines::HIT, 12, 1),
+        (Lines::HITM, 13, 1),
+        (Lines::DEFER, 14, 1),
+        (Lines::RS0, 15, 1),
+        (Lines::RS1, 15, 2),
+        (Lines::RS2, 15, 4),
+        (Lines::TRDY, 16, 1),
+        (Lines::DBSY, 17, 1),
+        (Lines::DRDY, 18, 1),
+    ];
+    for (line, number, value) in rows {
+        assert!(rt; line.0 < 1 << 18);
+        let sample = Sample::known(line, 0, 0, 0);
+        for other in 0..20 {
+            let expected = if other == number { value } else { 0 };
+            assert_eq!(rt; sample.value(other), expected, "{number} at {other}");
+        }
+    }
+}
+
+#[test]
+fn unknown_bits_are_told(rt: HostRuntime) {
+    let known = idle_sample();
+    let none = Word {
+        bits: 0,
+        unknown: 0,
+    };
+    let word = Word {
+        bits: 0,
+        unknown: 1,
+    };
+    let unknown = [
+        Sample {
+            lines: Lines(0),
+            unknown: Lines::HIT,
+            req: none,
+            addr: none,
+            dbus: none,
+        },
+        Sample {
+            lines: Lines(0),
+            unknown: Lines(0),
+            req: word,
+            addr: none,
+            dbus: none,
+        },
+        Sample {
+            lines: Lines(0),
+            unknown: Lines(0),
+            req: none,
+            addr: word,
+            dbus: none,
+        },
+        Sample {
+            lines: Lines(0),
+            unknown: Lines(0),
+            req: none,
+            addr: none,
+            dbus: word,
+        },
+    ];
+    assert!(rt; known.is_known() && !word.is_known());
+    for sample in unknown {
+        assert!(rt; !sample.is_known());
+        assert_eq!(rt; sample.has_known_lines(), sample.unknown == Lines(0));
+    }
+    let both = Lines(Lines::HIT.0 + Lines::HITM.0);
+    assert!(rt; unknown[0].has_unknown(Lines::HIT) && !unknown[0].has_unknown(both));
+    assert!(rt;
+        !Sample::known(Lines::HIT, 0, 0, 0).has(both),
+        "each of the lines"
+    );
+}

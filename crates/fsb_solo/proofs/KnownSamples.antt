@@ -3,7 +3,7 @@ use Rattle.std.proofs.Common.{◌≡◌, ℕ, zero, suc, Bool, true, false, not,
 use Rattle.std.proofs.lemmas.List.{take-append-drop}
 use Rattle.std.proofs.lemmas.List.Folds.{list_all-append}
 use Rattle.std.specs.List.{list_all}
-use Rattle.fsb_access.specs.ByteMemory.{ByteMemory, memory_of}
+use Rattle.fsb_access.specs.ByteMemory.{ByteMemory, start_memory}
 use Rattle.fsb_access.specs.declared.access.Access.{Access}
 use Rattle.fsb_access.specs.declared.access.Setting.{Setting}
 use Rattle.fsb_access.specs.declared.item.Item.{Item}
@@ -46,5 +46,5 @@ known_take n w e = first_part _ _
 
 pub known_solo : (clocks : ℕ) (settings : List Setting) (items : List Item) → IsTrue (is_known_trace (solo_trace clocks settings items))
 known_solo clocks settings items = known_take clocks _
-    (list_all-append is_known (samples_from (memory_of settings) [] items) (replicate clocks idle)
-    ∙ both _ _ (known_samples (memory_of settings) [] items) (known_pad clocks))
+    (list_all-append is_known (samples_from (start_memory settings) [] items) (replicate clocks idle)
+    ∙ both _ _ (known_samples (start_memory settings) [] items) (known_pad clocks))

@@ -5,7 +5,7 @@ use Rattle.std.specs.HashSet.{HashSet, contains, Updates}
 use Rattle.std.proofs.lemmas.List.Folds.{list_any-append}
 use Rattle.std.proofs.lemmas.Bool.{lt-ltb, le-ltb}
 use Rattle.std.specs.List.{list_any}
-use Rattle.fsb_access.specs.Access.{line_of}
+use Rattle.fsb_access.specs.Access.{accessed_line}
 use Rattle.fsb_access.specs.Replay.{ReplayState, served_value, state_after}
 use Rattle.fsb_access.specs.declared.access.Access.{Access}
 use Rattle.fsb_access.specs.declared.item.Item.{Item}
@@ -42,20 +42,20 @@ gained line other b = go (nat_eq line other) b where
 
 -- the set with one more line has the lines of one more item
 pub has_named_more : {S : Type 0} (set next : HashSet ℕ S) (earlier : List Item) (access : Access)
-    → HasNamed set earlier → Updates nat_eq set next (line_of access) true
+    → HasNamed set earlier → Updates nat_eq set next (accessed_line access) true
     → HasNamed next (earlier ++ One access ∷ [])
 has_named_more set next earlier access has updates = record {
-  each = λ line. updates.0 line ∙ gained (line_of access) line (contains nat_eq set line)
-      ∙ ap (λ b. b || (nat_eq (line_of access) line || false)) (has.each line)
+  each = λ line. updates.0 line ∙ gained (accessed_line access) line (contains nat_eq set line)
+      ∙ ap (λ b. b || (nat_eq (accessed_line access) line || false)) (has.each line)
       ∙ sym (list_any-append (names line) earlier (One access ∷ []));
 }
 
 -- whether the line is new says which clock is the access's last one
 pub last_clock_of : {S : Type 0} (set : HashSet ℕ S) (earlier : List Item) (access : Access) (first : ℕ) (is_new : Bool)
-    → HasNamed set earlier → is_new ≡ not (contains nat_eq set (line_of access))
+    → HasNamed set earlier → is_new ≡ not (contains nat_eq set (accessed_line access))
     → (if is_new then first + 11 else first) ≡ last_clock earlier access first
 last_clock_of set earlier access first is_new has e =
-    rw (e, has.each (line_of access)) (go (list_any (names (line_of access)) earlier) first) where
+    rw (e, has.each (accessed_line access)) (go (list_any (names (accessed_line access)) earlier) first) where
       go : (b : Bool) (n : ℕ) → (if not b then n + 11 else n) ≡ (if b then n else n + 11)
       go true n = refl
       go false n = refl

@@ -1,7 +1,7 @@
 -- One step of the waveform.
 use Rattle.std.proofs.Common.{◌≡◌, ℕ, ◌+◌, ◌-◌, ◌<◌, ◌≤◌, arith, Bool, not, nat_eq, List, [], ◌∷◌, ◌++◌, length, take, drop, get_or, replicate, refl, sym, ap, ◌∙◌, append_assoc}
 use Rattle.std.specs.HashSet.{HashSet, contains}
-use Rattle.fsb_access.specs.Access.{line_of}
+use Rattle.fsb_access.specs.Access.{accessed_line}
 use Rattle.fsb_access.specs.ByteMemory.{ByteMemory}
 use Rattle.fsb_access.specs.declared.access.Access.{Access}
 use Rattle.fsb_access.specs.declared.item.Item.{Item}
@@ -63,10 +63,10 @@ runs_end room memory items trace whole i left e none s =
 
 -- whether the line is new, by the set
 pub new_by_set : {S : Type 0} (set : HashSet ℕ S) (earlier : List Item) (access : Access) (line : ℕ) (is_new : Bool)
-    → HasNamed set earlier → is_new ≡ not (contains nat_eq set line) → line ≡ line_of access
+    → HasNamed set earlier → is_new ≡ not (contains nat_eq set line) → line ≡ accessed_line access
     → is_new ≡ not (was_named earlier access)
 new_by_set set earlier access line is_new has added at =
-    added ∙ ap (λ l. not (contains nat_eq set l)) at ∙ ap not (has.each (line_of access))
+    added ∙ ap (λ l. not (contains nat_eq set l)) at ∙ ap not (has.each (accessed_line access))
 
 -- idle clocks fill the room behind what is there
 pub filled : (room count : ℕ) (trace : List Sample) → count ≡ length trace → length trace ≤ room

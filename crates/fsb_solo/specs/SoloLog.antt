@@ -1,7 +1,7 @@
 -- The log of one agent on lines of its own.
 use Rattle.std.specs.Prelude.{◌≡◌, ℕ, ◌+◌, Bool, false, ◌==◌, if◌then◌else◌, nat_lt, List, [], ◌∷◌, ◌++◌, Some, length, slice_get}
 use Rattle.std.specs.List.{list_any}
-use Rattle.fsb_access.specs.Access.{line_of, IsLawfulAccess}
+use Rattle.fsb_access.specs.Access.{accessed_line, IsLawfulAccess}
 use Rattle.fsb_access.specs.Replay.{ReplayState, start_of, served_value, state_after}
 use Rattle.fsb_access.specs.declared.access.Access.{Access}
 use Rattle.fsb_access.specs.declared.access.Setting.{Setting}
@@ -15,13 +15,13 @@ AreLawful items = (i : ℕ) (access : Access) → slice_get items i ≡ Some (On
 
 -- the item is a single access to the line
 abbrev pub names : ℕ → Item → Bool
-names line (One access) = line_of access == line
+names line (One access) = accessed_line access == line
 names line (Locked group) = false
 names line (Idle clocks) = false
 
 -- one of the earlier items names the line of the access
 abbrev pub was_named : List Item → Access → Bool
-was_named earlier access = list_any (names (line_of access)) earlier
+was_named earlier access = list_any (names (accessed_line access)) earlier
 
 -- the clock in which an access is completed, given the first clock that is free for it: that one where its line was
 -- named before, else the twelfth from it on

@@ -1,8 +1,8 @@
 -- The waveform of one agent on lines of its own.
 use Rattle.std.specs.Prelude.{ℕ, Bool, not, ◌+◌, ◌*◌, true, if◌then◌else◌, List, [], ◌∷◌, ◌++◌, take, replicate, slice_index, slice_index_or}
 use Rattle.std.specs.Int.RustNames.{bit_or}
-use Rattle.fsb_access.specs.Access.{line_of, chunk_of}
-use Rattle.fsb_access.specs.ByteMemory.{ByteMemory, memory_of, value_at}
+use Rattle.fsb_access.specs.Access.{accessed_line, chunk_of}
+use Rattle.fsb_access.specs.ByteMemory.{ByteMemory, start_memory, value_at}
 use Rattle.fsb_access.specs.declared.access.Access.{Access}
 use Rattle.fsb_access.specs.declared.access.Access.TheVariants.{Load, Store}
 use Rattle.fsb_access.specs.declared.access.Setting.{Setting}
@@ -28,7 +28,7 @@ kind_for (Store size addr value) = Invalidate
 abbrev pub request_for : Access → Request
 request_for access = record {
   kind = kind_for access;
-  line = line_of access;
+  line = accessed_line access;
   chunk = chunk_of access;
   did = 0;
   den = true;
@@ -43,7 +43,7 @@ burst_order first = slice_index_or
 -- the n-th chunk of an access's line in its burst, as the memory has it
 abbrev pub burst_chunk : ByteMemory → Access → ℕ → ℕ
 burst_chunk memory access n =
-    value_at memory (32 * line_of access + 8 * slice_index (burst_order (chunk_of access)) n) 8
+    value_at memory (32 * accessed_line access + 8 * slice_index (burst_order (chunk_of access)) n) 8
 
 -- the four chunks of an access's line in the order of its burst
 abbrev pub burst_of : ByteMemory → Access → List ℕ
@@ -93,4 +93,4 @@ samples_from memory earlier (Idle count ∷ items) = []
 -- the waveform of a script of single accesses over so many clocks: its accesses' clocks, and then idle ones
 abbrev pub solo_trace : ℕ → List Setting → List Item → List Sample
 solo_trace clocks settings items =
-    take clocks (samples_from (memory_of settings) [] items ++ replicate clocks idle)
+    take clocks (samples_from (start_memory settings) [] items ++ replicate clocks idle)

@@ -1,14 +1,15 @@
 -- What an agent has and does at a clock rests on the past below that clock.
-use Rattle.std.proofs.Common.{ℕ, zero, suc, ◌+◌, ◌%◌, ◌<◌, ◌≤◌, ◌≡◌, Bool, true, false, not, ◌&&◌, ◌||◌, nat_eq, nat_le, Option, Some, None, refl, ap, ◌∙◌, arith}
-use Rattle.std.specs.Option.{option_and_then}
-use Rattle.fsb_count.specs.Options.{is_some_and, is_at}
+use Rattle.std.proofs.Common.{ℕ, zero, suc, ◌+◌, ◌%◌, ◌<◌, ◌≤◌, ◌≡◌, Bool, true, false, not, ◌&&◌, ◌||◌, nat_eq, nat_le, [], Option, Some, None, refl, ap, ◌∙◌, arith}
+use Rattle.std.specs.List.{list_any}
+use Rattle.std.specs.Option.{option_map_or, option_and_then}
+use Rattle.fsb_count.specs.Options.{is_some_and}
 use Rattle.fsb_count.specs.Clocks.{AgreeBelow, last_where, any_where, from_clock, holds_since}
 use Rattle.fsb_count.proofs.Any.{any_where-same}
 use Rattle.fsb_trace.specs.Requests.{is_write_back_kind}
 use Rattle.fsb_timely.specs.Moments.{is_owning}
 use Rattle.fsb_timely.specs.Runs.{Past}
 use Rattle.fsb_timely.specs.Growth.{GoesOn}
-use Rattle.fsb_timely.specs.Grants.{begun_at, snooped_at, end_at, grant_at, set_of, is_rival, is_claim_of, is_claim_of_other, is_snooped, is_granted, is_evicted, is_written_back, is_taken_away, is_lost, is_held, latest_grant, is_ended, has_arrived, is_ready, is_named_by_other, is_sole, is_exclusive}
+use Rattle.fsb_timely.specs.Grants.{begun_at, snooped_at, ends_at, is_end_at, grant_at, set_of, is_rival, is_claim_of, is_claim_of_other, is_snooped, is_granted, is_evicted, is_written_back, is_taken_away, is_lost, is_held, latest_grant, is_ended, has_arrived, is_ready, is_named_by_other, is_sole, is_exclusive}
 use Rattle.fsb_timely.proofs.Since.{last_where-found}
 
 -- tests that agree have the same last clock that passes
@@ -40,9 +41,9 @@ begun-same : (n : ℕ) (p q : Past) (t : ℕ) → GoesOn n p q → t < n → beg
 unfolding begun_at
 begun-same n p q t h l = ap (option_and_then (λ moment. moment.begun)) (h.same_moments t l)
 
-end-same : (n : ℕ) (p q : Past) (t : ℕ) → GoesOn n p q → t < n → end_at p t ≡ end_at q t
-unfolding end_at
-end-same n p q t h l = ap (option_and_then (λ moment. moment.ended)) (h.same_moments t l)
+ends-same : (n : ℕ) (p q : Past) (t : ℕ) → GoesOn n p q → t < n → ends_at p t ≡ ends_at q t
+unfolding ends_at
+ends-same n p q t h l = ap (λ o. option_map_or (λ moment. moment.ended) o []) (h.same_moments t l)
 
 grant-same : (n : ℕ) (p q : Past) (t : ℕ) → GoesOn n p q → t < n → grant_at p t ≡ grant_at q t
 unfolding grant_at
@@ -86,9 +87,9 @@ latest_grant-same n p q a line c h l =
     ∙ ap (option_and_then (grant_at q)) (last-same (is_granted p a line) (is_granted q a line) c (granted-same n p q a line c h l))
 
 ended-same : (n : ℕ) (p q : Past) (c first : ℕ) → GoesOn n p q → c ≤ n → is_ended p c first ≡ is_ended q c first
-unfolding is_ended
+unfolding is_ended is_end_at
 ended-same n p q c first h l =
-    any_where-same (λ t. is_at (end_at p t) first) (λ t. is_at (end_at q t) first) c (record { same = λ t m. ap (λ o. is_at o first) (end-same n p q t h (omega arith)) })
+    any_where-same (λ t. is_end_at p t first) (λ t. is_end_at q t first) c (record { same = λ t m. ap (list_any (nat_eq first)) (ends-same n p q t h (omega arith)) })
 
 pub is_ready-same : (n : ℕ) (p q : Past) (a line c : ℕ) → GoesOn n p q → c ≤ n → is_ready p a line c ≡ is_ready q a line c
 unfolding is_ready has_arrived

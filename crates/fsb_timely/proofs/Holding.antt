@@ -2,11 +2,11 @@
 use Rattle.std.proofs.Common.{ℕ, ◌+◌, ◌≡◌, Bool, true, false, not, ◌&&◌, ◌||◌, Some, refl, ap, ◌∙◌, inl, inr, add-one, if◌then◌else◌}
 use Rattle.std.proofs.lemmas.Bool.{cases_Bool}
 use Rattle.std.specs.Option.{option_and_then}
-use Rattle.fsb_count.specs.Options.{is_some_and, is_at}
+use Rattle.fsb_count.specs.Options.{is_some_and}
 use Rattle.fsb_count.specs.Clocks.{any_where, last_where, holds_since}
 use Rattle.fsb_count.proofs.Since.{holds_since-more}
 use Rattle.fsb_timely.specs.Runs.{Past}
-use Rattle.fsb_timely.specs.Grants.{end_at, is_ended, grant_at, is_granted, is_lost, is_held, latest_grant, is_named_by_other, is_sole, is_exclusive}
+use Rattle.fsb_timely.specs.Grants.{is_end_at, is_ended, grant_at, is_granted, is_lost, is_held, latest_grant, is_named_by_other, is_sole, is_exclusive}
 
 -- a grant, and otherwise what was held and is not lost
 pub is_held-more : (p : Past) (a line c : ℕ) → is_held p a line (c + 1) ≡ (is_granted p a line c || (is_held p a line c && not (is_lost p a line c)))
@@ -78,6 +78,6 @@ any-more test n =
     ]
 
 -- a request has ended below the next clock where it has ended below this one, or ends at it
-pub is_ended-more : (p : Past) (c q : ℕ) → is_ended p (c + 1) q ≡ (is_ended p c q || is_at (end_at p c) q)
+pub is_ended-more : (p : Past) (c q : ℕ) → is_ended p (c + 1) q ≡ (is_ended p c q || is_end_at p c q)
 unfolding is_ended
-is_ended-more p c q = any-more (λ t. is_at (end_at p t) q) c
+is_ended-more p c q = any-more (λ t. is_end_at p t q) c

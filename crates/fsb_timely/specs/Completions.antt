@@ -4,7 +4,7 @@ use Rattle.fsb_access.specs.declared.item.Item.{Item}
 use Rattle.fsb_access.specs.declared.log.Done.{Done}
 use Rattle.std.specs.List.{list_any, list_all, filter}
 use Rattle.std.specs.Option.{option_map_or}
-use Rattle.fsb_count.specs.Options.{is_some_and, is_at}
+use Rattle.fsb_count.specs.Options.{is_some_and}
 use Rattle.fsb_count.specs.Clocks.{any_where}
 use Rattle.fsb_access.specs.declared.access.Access.{Access}
 use Rattle.fsb_access.specs.declared.access.Access.TheVariants.{Load, Store}
@@ -12,7 +12,7 @@ use Rattle.fsb_access.specs.declared.access.Operand.{Operand}
 use Rattle.fsb_access.specs.declared.access.Operand.TheVariants.{Literal, LastPlus}
 use Rattle.fsb_access.specs.ScriptOrder.{Step, steps_of_item, step_of}
 use Rattle.fsb_timely.specs.Runs.{Run, Past}
-use Rattle.fsb_timely.specs.Grants.{end_at, grant_at, is_granted, has_arrived}
+use Rattle.fsb_timely.specs.Grants.{is_end_at, grant_at, is_granted, has_arrived}
 use Rattle.fsb_timely.specs.Scripts.{Need, is_idling, next_number, next_item, needs_of}
 use Rattle.fsb_timely.specs.Hits.{is_met, is_hit}
 
@@ -21,7 +21,7 @@ use Rattle.fsb_timely.specs.Hits.{is_met, is_hit}
 unfoldable pub brings_at : Past → ℕ → ℕ → Need → ℕ → Bool
 brings_at p a c need t =
     is_granted p a need.line t
-    && is_some_and (grant_at p t) (λ grant. is_at (end_at p c) grant.first && (grant.owns || not need.alone))
+    && is_some_and (grant_at p t) (λ grant. is_end_at p c grant.first && (grant.owns || not need.alone))
 
 -- a grant of the needed line to agent a has its end at c, and brings what is needed
 unfoldable pub is_brought : Past → ℕ → ℕ → Need → Bool

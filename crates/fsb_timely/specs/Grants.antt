@@ -1,8 +1,8 @@
 -- Which agent has which line, said by the snoop ends and the requests that came before.
-use Rattle.std.specs.Prelude.{◌≡◌, ◌<◌, IsTrue, ℕ, ◌%◌, ◌&&◌, ◌||◌, Bool, true, false, not, nat_eq, List, Option, Some, None, slice_get}
-use Rattle.std.specs.List.{filter_map, range_with_len}
-use Rattle.std.specs.Option.{option_and_then}
-use Rattle.fsb_count.specs.Options.{is_some_and, is_at}
+use Rattle.std.specs.Prelude.{◌≡◌, ◌<◌, IsTrue, ℕ, ◌%◌, ◌&&◌, ◌||◌, Bool, true, false, not, nat_eq, List, [], Option, Some, None, slice_get}
+use Rattle.std.specs.List.{filter_map, list_any, range_with_len}
+use Rattle.std.specs.Option.{option_map_or, option_and_then}
+use Rattle.fsb_count.specs.Options.{is_some_and}
 use Rattle.fsb_count.specs.Clocks.{any_where, last_where, holds_since}
 use Rattle.fsb_encode.specs.declared.request.Kind.{Kind}
 use Rattle.fsb_trace.specs.Requests.{is_write_back_kind}
@@ -17,9 +17,13 @@ begun_at p t = option_and_then (λ moment. moment.begun) (slice_get p.moments t)
 unfoldable pub snooped_at : Past → ℕ → Option SnoopEnd
 snooped_at p t = option_and_then (λ moment. moment.snooped) (slice_get p.moments t)
 
--- the first clock of the live request whose end is t
-unfoldable pub end_at : Past → ℕ → Option ℕ
-end_at p t = option_and_then (λ moment. moment.ended) (slice_get p.moments t)
+-- the first clocks of the live requests whose end is t
+unfoldable pub ends_at : Past → ℕ → List ℕ
+ends_at p t = option_map_or (λ moment. moment.ended) (slice_get p.moments t) []
+
+-- the live request that begins at q has its end at t
+unfoldable pub is_end_at : Past → ℕ → ℕ → Bool
+is_end_at p t q = list_any (nat_eq q) (ends_at p t)
 
 -- the grant whose snoop end is t
 unfoldable pub grant_at : Past → ℕ → Option Grant
@@ -80,9 +84,9 @@ pub record IsHeldSince (p : Past) (a line c : ℕ) : Type 0 where
 unfoldable pub latest_grant : Past → ℕ → ℕ → ℕ → Option Grant
 latest_grant p a line c = option_and_then (grant_at p) (last_where (is_granted p a line) c)
 
--- the request that begins at q has its end below c
+-- the live request that begins at q has its end below c
 unfoldable pub is_ended : Past → ℕ → ℕ → Bool
-is_ended p c q = any_where (λ t. is_at (end_at p t) q) c
+is_ended p c q = any_where (λ t. is_end_at p t q) c
 
 -- the end of the latest grant of the line to agent a below n is below c
 unfoldable pub has_arrived : Past → ℕ → ℕ → ℕ → ℕ → Bool

@@ -3,7 +3,7 @@ use Rattle.std.specs.Prelude.{ℕ, ◌&&◌, ◌||◌, Bool, true, false, not, n
 use Rattle.std.specs.List.{list_any, list_all}
 use Rattle.fsb_count.specs.Options.{is_some_and}
 use Rattle.fsb_access.specs.declared.log.Done.{Done}
-use Rattle.fsb_access.specs.Access.{line_of}
+use Rattle.fsb_access.specs.Access.{accessed_line}
 use Rattle.fsb_line.specs.declared.state.Mesi.{Mesi}
 use Rattle.fsb_line.specs.declared.state.Mesi.TheVariants.{Invalid, Shared, Exclusive, Modified}
 use Rattle.fsb_timely.specs.Runs.{Past}
@@ -24,7 +24,7 @@ is_hit p a c = not (is_idling p a c) && is_some_and (next_item p a c) (λ item. 
 
 -- the entry is a store of agent a on the line
 unfoldable pub is_store_on : ℕ → ℕ → Done → Bool
-is_store_on a line done = nat_eq done.agent a && not (is_load done.access) && nat_eq (line_of done.access) line
+is_store_on a line done = nat_eq done.agent a && not (is_load done.access) && nat_eq (accessed_line done.access) line
 
 -- the entry's clock is below c, or it is c and agent a's completion there is a hit
 unfoldable pub is_counted : Past → ℕ → ℕ → Done → Bool

@@ -5,7 +5,7 @@ use Rattle.std.specs.Prelude.{ℕ, ◌+◌, ◌*◌, ◌-◌, ◌&&◌, ◌||◌
 use Rattle.std.specs.List.{filter, filter_map, list_any}
 use Rattle.std.specs.Option.{option_map, option_map_or, option_and_then}
 use Rattle.fsb_count.specs.Options.{is_some_and, is_at}
-use Rattle.fsb_count.specs.Clocks.{first_where, count_where}
+use Rattle.fsb_count.specs.Clocks.{first_where, all_where, count_where}
 use Rattle.fsb_signal.specs.declared.lines.TheConstants.Lines.{ADS, AERR, HIT, HITM}
 use Rattle.fsb_signal.specs.Samples.{line_at}
 use Rattle.fsb_encode.specs.declared.request.Kind.{Kind}
@@ -68,9 +68,9 @@ pub record Moment : Type 0 where
   pub snooped : Option SnoopEnd
   -- the first clock of the live request whose response this is, where the response is Retry
   pub retried : Option ℕ
-  -- the first clock of the live request whose end this is; where responses come as they must there is one at most, since
-  -- each comes after the end before it
-  pub ended : Option ℕ
+  -- the first clocks of the live requests whose end this is; where responses and data come as they must there is one at
+  -- most, since each response comes after the end before it
+  pub ended : List ℕ
   -- the outstanding requests of symmetric agents
   pub outstanding : List Owing
   -- the requests of symmetric agents that are in flight and have no snoop end below this clock
@@ -228,9 +228,9 @@ retried_at w c =
       | false ↦ None
     ]
 
--- the first clock of the live request whose end is c
-unfoldable pub ended_at : Trace → ℕ → Option ℕ
-ended_at w c = option_and_then (live_clock_of w) (first_where (λ i. is_at (end_of w i) c) (live_count w))
+-- the first clocks of the live requests whose end is c, in order
+unfoldable pub ended_at : Trace → ℕ → List ℕ
+ended_at w c = filter_map (live_clock_of w) (all_where (λ i. is_at (end_of w i) c) (live_count w))
 
 -- the request that begins at q, as an outstanding one
 unfoldable pub owing_at : Trace → ℕ → Option Owing

@@ -9,7 +9,7 @@ use Rattle.fsb_access.specs.declared.access.Access.TheVariants.{Load, Store}
 use Rattle.fsb_access.specs.declared.item.Item.{Item}
 use Rattle.fsb_access.specs.declared.item.Item.TheVariants.{One, Locked, Idle}
 use Rattle.fsb_access.specs.declared.log.Done.{Done}
-use Rattle.fsb_access.specs.Access.{line_of, chunk_of}
+use Rattle.fsb_access.specs.Access.{accessed_line, chunk_of}
 use Rattle.fsb_access.specs.ScriptOrder.{script_of}
 use Rattle.fsb_timely.specs.Runs.{Past}
 
@@ -130,14 +130,14 @@ pub record Need : Type 0 where
 
 -- the chunk of the first of these accesses to the line
 unfoldable pub first_chunk : List Access → ℕ → ℕ
-first_chunk accesses line = option_map_or chunk_of (find (λ access. nat_eq (line_of access) line) accesses) 0
+first_chunk accesses line = option_map_or chunk_of (find (λ access. nat_eq (accessed_line access) line) accesses) 0
 
 -- the need of one access of a locked item with these accesses
 unfoldable pub locked_need : List ℕ → List Access → Access → Need
 locked_need earlier group access = record {
-  line = line_of access;
+  line = accessed_line access;
   alone = true;
-  chunk = first_chunk group (line_of access);
+  chunk = first_chunk group (accessed_line access);
   locked = true;
   earlier = earlier;
 }
@@ -145,7 +145,7 @@ locked_need earlier group access = record {
 -- the need of an access by itself
 unfoldable pub plain_need : List ℕ → Access → Need
 plain_need earlier access = record {
-  line = line_of access;
+  line = accessed_line access;
   alone = not (is_load access);
   chunk = chunk_of access;
   locked = false;

@@ -5,7 +5,7 @@ use Rattle.std.specs.List.{list_any, fold}
 use Rattle.std.specs.Option.{option_and_then}
 use Rattle.fsb_count.specs.Options.{is_some_and, is_before}
 use Rattle.fsb_count.specs.Clocks.{last_where}
-use Rattle.fsb_access.specs.ByteMemory.{ByteMemory, bytes_at, memory_of}
+use Rattle.fsb_access.specs.ByteMemory.{ByteMemory, bytes_at, start_memory}
 use Rattle.fsb_access.specs.Replay.{Served, start_of, replay}
 use Rattle.fsb_access.specs.ScriptOrder.{InOrder}
 use Rattle.fsb_access.specs.declared.item.Item.{Item}
@@ -123,7 +123,7 @@ unfoldable pub bytes_put : Run → ℕ → List ℕ
 bytes_put r line =
     elim (put_clock r line) [
       | Some response ↦ line_bytes (memory_below r response) line
-      | None ↦ line_bytes (memory_of r.plan.mem) line
+      | None ↦ line_bytes (start_memory r.plan.mem) line
     ]
 
 -- the caches (of an agent and a line: its state and its bytes) and the memory (of a line: its bytes) are those of the run,

@@ -1,7 +1,7 @@
 //! Laws over the definitions: no code.
 
 ghost use Rattle.std.specs.Prelude.{◌≡◌, ◌↔◌, ◌<◌, ◌≤◌, ◌+◌, ◌&&◌, ◌||◌, ℕ, List, Bool, true, false, not, Some, length, if◌then◌else◌, IsTrue};
-ghost use Rattle.fsb_count.specs.Options.{is_some_and, is_at};
+ghost use Rattle.fsb_count.specs.Options.{is_some_and};
 ghost use Rattle.fsb_encode.specs.declared.request.Request.{Request};
 ghost use Rattle.fsb_hazard.specs.declared.choice.Ask.TheVariants.{Begun};
 ghost use Rattle.fsb_hazard.specs.declared.line.HazardLine.{HazardLine};
@@ -13,7 +13,7 @@ ghost use Rattle.fsb_trace.specs.Flight.{is_outstanding};
 ghost use Rattle.fsb_timely.specs.Moments.{SnoopEnd};
 ghost use Rattle.fsb_timely.specs.Tied.{IsSnoopOf};
 ghost use Rattle.fsb_timely.specs.Runs.{Run, Past, run_to, past_of, past_to};
-ghost use Rattle.fsb_timely.specs.Grants.{snooped_at, end_at, is_ended, grant_at, is_granted, is_lost, is_held, IsHeldSince, latest_grant, is_ready, is_named_by_other, is_sole, is_exclusive};
+ghost use Rattle.fsb_timely.specs.Grants.{snooped_at, is_end_at, is_ended, grant_at, is_granted, is_lost, is_held, IsHeldSince, latest_grant, is_ready, is_named_by_other, is_sole, is_exclusive};
 ghost use Rattle.fsb_timely.specs.Scripts.{completes_at, is_logged_at, is_logged, next_number, next_item, is_idling, window};
 ghost use Rattle.fsb_timely.specs.Hits.{is_hit};
 ghost use Rattle.fsb_timely.specs.Wants.{owed, is_asked_for, want_of};
@@ -65,7 +65,7 @@ pub fn held_lines_step()
         → latest_grant p a line (c + 1) ≡ (if is_granted p a line c then grant_at p c else latest_grant p a line c) }
     ensures exclusive { (p : Past) (a line c : ℕ)
         → is_exclusive p a line (c + 1) ≡ (if is_granted p a line c then is_some_and (grant_at p c) is_sole else (is_exclusive p a line c && (not (is_lost p a line c) && not (is_named_by_other p a line c)))) }
-    ensures ended { (p : Past) (c q : ℕ) → is_ended p (c + 1) q ≡ (is_ended p c q || is_at (end_at p c) q) }
+    ensures ended { (p : Past) (c q : ℕ) → is_ended p (c + 1) q ≡ (is_ended p c q || is_end_at p c q) }
 {}
 
 /// An agent without an entry at a clock stays where it is in its script; an item is done from the clock after its entry on.

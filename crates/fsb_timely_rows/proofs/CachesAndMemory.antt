@@ -1,14 +1,17 @@
--- What caches and memory are to hold in the middle and at the end of two runs: the states, the bytes by the log, and the
+-- What caches and memory are to hold in the middle and at the end of five runs: the states, the bytes by the log, and the
 -- bytes that were put into memory.
-use Rattle.std.proofs.Common.{◌≡◌, refl, take, slice_index}
-use Rattle.fsb_line.specs.declared.state.Mesi.TheVariants.{Invalid, Exclusive, Modified}
+use Rattle.std.proofs.Common.{◌≡◌, true, false, refl, take, slice_index}
+use Rattle.fsb_line.specs.declared.state.Mesi.TheVariants.{Invalid, Shared, Exclusive, Modified}
 use Rattle.fsb_timely.specs.Runs.{Run, past_of}
 use Rattle.fsb_timely.specs.Hits.{state_of}
-use Rattle.fsb_timely.specs.Simulated.{bytes_now, bytes_put}
+use Rattle.fsb_timely.specs.Simulated.{is_named, bytes_now, bytes_put}
 use Rattle.fsb_timely_rows.proofs.Opened.{opened}
 use Rattle.fsb_timely_rows.proofs.LaidOut.{run_of}
 use Rattle.fsb_timely_rows.proofs.LoadThenStoreHit.{plan as hit_plan, trace as hit_trace, log as hit_log, run as hit_run}
 use Rattle.fsb_timely_rows.proofs.DirtyVictimWrittenBack.{plan as victim_plan, trace as victim_trace, log as victim_log, run as victim_run}
+use Rattle.fsb_timely_rows.proofs.ThreeStoresChained.{plan as chain_plan, trace as chain_trace, log as chain_log, run as chain_run}
+use Rattle.fsb_timely_rows.proofs.FourOwners.{run as owners_run}
+use Rattle.fsb_timely_rows.proofs.WindowEnds.{run as window_run}
 
 -- a load and a store that hits, after the load
 abbrev pub loaded : Run
@@ -17,6 +20,10 @@ loaded = run_of hit_plan 1 (take 12 hit_trace) (take 1 hit_log)
 -- a store, and the write-back of its line, before the write-back begins
 abbrev pub stored : Run
 stored = run_of victim_plan 1 (take 14 victim_trace) (take 1 victim_log)
+
+-- a line that is handed on twice, before its last bytes have come
+abbrev pub handing : Run
+handing = run_of chain_plan 3 (take 22 chain_trace) (take 2 chain_log)
 
 pub load_then_store_hit-keeps :
     (state_of (past_of loaded) 0 2 12 ≡ Exclusive)
@@ -41,3 +48,34 @@ pub dirty_victim_written_back-keeps :
     × (slice_index (bytes_put victim_run 2) 0 ≡ 1)
 unfolding opened
 dirty_victim_written_back-keeps = (refl, refl, refl, refl, refl, refl, refl)
+
+pub three_stores_chained-keeps :
+    (state_of (past_of handing) 1 2 22 ≡ Invalid)
+    × (state_of (past_of handing) 2 2 22 ≡ Modified)
+    × (slice_index (bytes_now handing 2) 0 ≡ 2)
+    × (slice_index (bytes_put handing 2) 0 ≡ 1)
+    × (slice_index (bytes_now chain_run 2) 0 ≡ 3)
+    × (slice_index (bytes_put chain_run 2) 0 ≡ 2)
+unfolding opened
+three_stores_chained-keeps = (refl, refl, refl, refl, refl, refl)
+
+pub four_owners-keeps :
+    (state_of (past_of owners_run) 0 2 44 ≡ Shared)
+    × (state_of (past_of owners_run) 1 2 44 ≡ Invalid)
+    × (state_of (past_of owners_run) 3 2 44 ≡ Shared)
+    × (state_of (past_of owners_run) 1 4 44 ≡ Modified)
+    × (state_of (past_of owners_run) 2 4 44 ≡ Invalid)
+    × (slice_index (bytes_put owners_run 2) 0 ≡ 2)
+    × (slice_index (bytes_now owners_run 4) 0 ≡ 3)
+    × (slice_index (bytes_put owners_run 4) 0 ≡ 1)
+    × (is_named owners_run 6 ≡ true)
+    × (is_named owners_run 5 ≡ false)
+unfolding opened
+four_owners-keeps = (refl, refl, refl, refl, refl, refl, refl, refl, refl, refl)
+
+-- a line that was loaded stays clean though the agent stores into others
+pub window_ends-keeps :
+    (state_of (past_of window_run) 0 2 64 ≡ Exclusive)
+    × (state_of (past_of window_run) 0 5 64 ≡ Modified)
+unfolding opened
+window_ends-keeps = (refl, refl)

@@ -1,5 +1,5 @@
 -- With a cache of one line a stored line is written back, and read again.
-use Rattle.std.proofs.Common.{◌≡◌, ℕ, zero, suc, refl, List, [], ◌∷◌, Some, None, true, false, replicate, arith}
+use Rattle.std.proofs.Common.{◌≡◌, ℕ, zero, suc, refl, List, [], ◌∷◌, Some, None, true, false, replicate, arith, lit<}
 use Rattle.fsb_access.proofs.OrderLaws.{steps_of-nobody}
 use Rattle.fsb_access.specs.ScriptOrder.{AreOfItems, script_of, steps_of}
 use Rattle.fsb_access.specs.declared.access.Access.TheVariants.{Load, Store}
@@ -16,7 +16,7 @@ use Rattle.fsb_timely.specs.Timely.{holds_at, keeps}
 use Rattle.fsb_timely.specs.Simulated.{Simulated, Asked}
 use Rattle.fsb_timely_rows.proofs.LaidOut.{clock, idle, changed, entry, entries_of, run_of, every_part}
 use Rattle.fsb_timely_rows.proofs.Opened.{opened}
-use Rattle.fsb_timely_rows.proofs.Tests.{simulated_if}
+use Rattle.fsb_timely_rows.proofs.Tests.{simulated_if, breaks_starts, breaks_responses, breaks_data}
 use Rattle.fsb_timely_rows.proofs.AskedLines.{asked_for_lines}
 
 abbrev pub plan : PlanView
@@ -119,6 +119,20 @@ pub computes :
     × (holds_at carries_data run3 46 ≡ false)
 unfolding opened
 computes = (refl, refl, refl, refl, refl)
+
+-- so the changed runs are no simulations
+pub none_is_simulated :
+    (¬ Simulated run0)
+    × (¬ Simulated run1)
+    × (¬ Simulated run2)
+    × (¬ Simulated run3)
+unfolding opened
+none_is_simulated = (
+  breaks_starts run0 14 (lit< tt) computes.1,
+  breaks_responses run1 19 (lit< tt) computes.2,
+  breaks_data run2 22 (lit< tt) computes.3,
+  breaks_data run3 46 (lit< tt) computes.4,
+)
 
 follows : (agent : ℕ) → AreOfItems (script_of plan.scripts agent) (steps_of agent log)
 follows zero = record { items = 3; same = refl }

@@ -1,5 +1,5 @@
 -- One agent loads a byte and stores into the next one: one request, and a hit.
-use Rattle.std.proofs.Common.{◌≡◌, ℕ, zero, suc, refl, List, [], ◌∷◌, Some, None, true, false, replicate, arith}
+use Rattle.std.proofs.Common.{◌≡◌, ℕ, zero, suc, refl, List, [], ◌∷◌, Some, None, true, false, replicate, arith, ap, slice_index, lit<}
 use Rattle.fsb_access.proofs.OrderLaws.{steps_of-nobody}
 use Rattle.fsb_access.specs.ScriptOrder.{AreOfItems, script_of, steps_of}
 use Rattle.fsb_access.specs.declared.access.Access.TheVariants.{Load, Store}
@@ -17,7 +17,7 @@ use Rattle.fsb_timely.specs.Timely.{holds_at, keeps}
 use Rattle.fsb_timely.specs.Simulated.{Simulated, Asked}
 use Rattle.fsb_timely_rows.proofs.LaidOut.{clock, idle, changed, entry, setting, entries_of, run_of, every_part}
 use Rattle.fsb_timely_rows.proofs.Opened.{opened}
-use Rattle.fsb_timely_rows.proofs.Tests.{simulated_if}
+use Rattle.fsb_timely_rows.proofs.Tests.{simulated_if, breaks_request_lines, breaks_completions, breaks_data}
 use Rattle.fsb_timely_rows.proofs.AskedLines.{asked_for_lines}
 
 abbrev pub plan : PlanView
@@ -93,6 +93,31 @@ pub computes :
     × (holds_at logs_completions run3 12 ≡ false)
 unfolding opened
 computes = (refl, refl, refl, refl, refl)
+
+-- so the changed runs are no simulations
+pub none_is_simulated :
+    (¬ Simulated run0)
+    × (¬ Simulated run1)
+    × (¬ Simulated run2)
+    × (¬ Simulated run3)
+unfolding opened
+none_is_simulated = (
+  breaks_request_lines run0 3 (lit< tt) computes.1,
+  breaks_data run1 8 (lit< tt) computes.2,
+  breaks_completions run2 12 (lit< tt) computes.3,
+  breaks_completions run3 12 (lit< tt) computes.4,
+)
+
+-- the load is logged with another value
+abbrev pub other_value : List Done
+other_value =
+    entry 11 0 0 0 (Load 1 0x40) 0x8
+    ∷ entry 12 0 1 0 (Store 1 0x41 (Literal 0x5)) 0x5
+    ∷ []
+
+pub other_value_is_not_served : ¬ Simulated (run_of plan 1 trace other_value)
+unfolding opened
+other_value_is_not_served s = absurd (let f : 8 ≡ 7 = ap (λ values. slice_index values 0) s.served in omega arith)
 
 follows : (agent : ℕ) → AreOfItems (script_of plan.scripts agent) (steps_of agent log)
 follows zero = record { items = 2; same = refl }

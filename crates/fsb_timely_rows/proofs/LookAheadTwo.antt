@@ -1,5 +1,5 @@
 -- One agent has two requests outstanding.
-use Rattle.std.proofs.Common.{◌≡◌, ℕ, zero, suc, refl, List, [], ◌∷◌, Some, None, true, false, replicate, arith}
+use Rattle.std.proofs.Common.{◌≡◌, ℕ, zero, suc, refl, List, [], ◌∷◌, Some, None, true, false, replicate, arith, lit<}
 use Rattle.fsb_access.proofs.OrderLaws.{steps_of-nobody}
 use Rattle.fsb_access.specs.ScriptOrder.{AreOfItems, script_of, steps_of}
 use Rattle.fsb_access.specs.declared.access.Access.TheVariants.{Load}
@@ -15,7 +15,7 @@ use Rattle.fsb_timely.specs.Timely.{holds_at, keeps}
 use Rattle.fsb_timely.specs.Simulated.{Simulated, Asked}
 use Rattle.fsb_timely_rows.proofs.LaidOut.{clock, idle, changed, entry, entries_of, run_of, every_part}
 use Rattle.fsb_timely_rows.proofs.Opened.{opened}
-use Rattle.fsb_timely_rows.proofs.Tests.{simulated_if}
+use Rattle.fsb_timely_rows.proofs.Tests.{simulated_if, breaks_starts, breaks_request_lines, breaks_completions}
 use Rattle.fsb_timely_rows.proofs.AskedLines.{asked_for_lines}
 
 abbrev pub plan : PlanView
@@ -89,6 +89,20 @@ pub computes :
     × (holds_at logs_completions run3 11 ≡ false)
 unfolding opened
 computes = (refl, refl, refl, refl, refl)
+
+-- so the changed runs are no simulations
+pub none_is_simulated :
+    (¬ Simulated run0)
+    × (¬ Simulated run1)
+    × (¬ Simulated run2)
+    × (¬ Simulated run3)
+unfolding opened
+none_is_simulated = (
+  breaks_request_lines run0 3 (lit< tt) computes.1,
+  breaks_starts run1 7 (lit< tt) computes.2,
+  breaks_request_lines run2 4 (lit< tt) computes.3,
+  breaks_completions run3 11 (lit< tt) computes.4,
+)
 
 follows : (agent : ℕ) → AreOfItems (script_of plan.scripts agent) (steps_of agent log)
 follows zero = record { items = 2; same = refl }

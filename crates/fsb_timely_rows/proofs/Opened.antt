@@ -13,10 +13,10 @@ use Rattle.fsb_trace.specs.Outcome.{does_move, response_code_of, is_deferral, ou
 use Rattle.fsb_trace.specs.Requests.{is_cancelled, seen_at, requests_of, first_clock_of, is_live, live_count, live_clock_of, live_number_of, live_request_of, is_reply_kind, is_write_back_kind, is_reply, is_write_back, have_same_id, line_of}
 use Rattle.fsb_trace.specs.Response.{takes, data_clock_of, end_of, is_clear_before, clock_after_snoop, ready_after, ready_clock_of}
 use Rattle.fsb_trace.specs.Snoop.{is_every_second_from, ends_snoop, snoop_end_from, snoop_end_if, start_after_clock, start_after_end, snoop_end_of, snoop_start_of, is_snoop_clock_of, is_snoop_clock, line_at_snoop_end}
-use Rattle.fsb_trace.specs.Winner.{bus_request_of, request_line_of, is_same_agent, is_agent, no_turns, then_begun, first_in_order, agent_in_order, asks_in_order, first_asking, last_if_asking, winner_by, winner_after, turns_before, winner_at, last_agent, last_symmetric, begins_at}
+use Rattle.fsb_trace.specs.Winner.{bus_request_of, request_line_of, is_same_agent, is_agent, no_turns, symmetric_after, then_begun, first_in_order, agent_in_order, asks_in_order, first_asking, last_if_asking, winner_by, winner_after, turns_before, winner_at, last_agent, last_symmetric, begins_at}
 use Rattle.fsb_timely.specs.BusLock.{is_begun_by, wants_lock, is_locked_request, ends_locked_item, is_lock_retried, is_lock_cancelled, is_release, is_released_before, keeps_lock, drives_lock}
 use Rattle.fsb_timely.specs.Completions.{brings_at, is_brought, is_there, completes_by, is_arrival, completed_of_item, next_accesses, completed_if, of_all_agents, completed_at, entries_at, is_operand, is_access, is_completed, are_completed, logs_completions, is_in_time}
-use Rattle.fsb_timely.specs.Grants.{begun_at, snooped_at, end_at, grant_at, set_of, is_rival, is_claim_of, is_claim_of_other, is_granted, is_evicted, is_snooped, is_written_back, is_taken_away, is_lost, is_held, latest_grant, is_ended, has_arrived, is_ready, is_named_by_other, is_sole, is_exclusive, line_granted_at, lines_granted}
+use Rattle.fsb_timely.specs.Grants.{begun_at, snooped_at, ends_at, is_end_at, grant_at, set_of, is_rival, is_claim_of, is_claim_of_other, is_granted, is_evicted, is_snooped, is_written_back, is_taken_away, is_lost, is_held, latest_grant, is_ended, has_arrived, is_ready, is_named_by_other, is_sole, is_exclusive, line_granted_at, lines_granted}
 use Rattle.fsb_timely.specs.Hits.{is_met, is_served, is_hit, is_store_on, is_counted, is_stored_since, is_dirty, state_of}
 use Rattle.fsb_timely.specs.Moments.{agent_at, claim_at, choice_at, number_of_turn, is_in_window, effective_choice, number_snooped_at, is_answered_by, served_number, live_claim_of, is_got, makes_grant, is_owning, is_owner_request, is_shared_at, grant_to, grant_for, grant_of, snoop_end_with, turns_in, snoop_end_for, snoop_end_if_begun, snoop_at, cancelled_at, retried_at, ended_at, owing_at, is_snoop_of, is_snooped_in, moment_at}
 use Rattle.fsb_timely.specs.Runs.{requests_below, entries_to, run_to, moments_below, past_of, past_to}
@@ -42,12 +42,12 @@ unfolding
     have_same_id line_of takes data_clock_of end_of is_clear_before clock_after_snoop ready_after ready_clock_of
     is_every_second_from ends_snoop snoop_end_from snoop_end_if start_after_clock start_after_end snoop_end_of
     snoop_start_of is_snoop_clock_of is_snoop_clock line_at_snoop_end bus_request_of request_line_of is_same_agent
-    is_agent no_turns then_begun first_in_order agent_in_order asks_in_order first_asking last_if_asking winner_by
+    is_agent no_turns symmetric_after then_begun first_in_order agent_in_order asks_in_order first_asking last_if_asking winner_by
     winner_after turns_before winner_at last_agent last_symmetric begins_at is_begun_by wants_lock is_locked_request
     ends_locked_item is_lock_retried is_lock_cancelled is_release is_released_before keeps_lock drives_lock brings_at
     is_brought is_there completes_by is_arrival completed_of_item next_accesses completed_if of_all_agents
     completed_at entries_at is_operand is_access is_completed are_completed logs_completions is_in_time begun_at
-    snooped_at end_at grant_at set_of is_rival is_claim_of is_claim_of_other is_granted is_evicted is_snooped
+    snooped_at ends_at is_end_at grant_at set_of is_rival is_claim_of is_claim_of_other is_granted is_evicted is_snooped
     is_written_back is_taken_away is_lost is_held latest_grant is_ended has_arrived is_ready is_named_by_other
     is_sole is_exclusive line_granted_at lines_granted is_met is_served is_hit is_store_on is_counted is_stored_since
     is_dirty state_of agent_at claim_at choice_at number_of_turn is_in_window effective_choice number_snooped_at

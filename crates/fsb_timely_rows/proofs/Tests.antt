@@ -1,5 +1,5 @@
--- A run that passes every part's test at each of its clocks is a simulation.
-use Rattle.std.proofs.Common.{◌≡◌, ◌&&◌, true, length, IsTrue}
+-- A run that passes every part's test at each of its clocks is a simulation; one that fails a part's test at a clock is none.
+use Rattle.std.proofs.Common.{◌≡◌, ◌<◌, ◌&&◌, ℕ, true, false, length, IsTrue, sym, ◌∙◌}
 use Rattle.std.proofs.lemmas.Bool.{and_parts}
 use Rattle.fsb_access.specs.Replay.{Served}
 use Rattle.fsb_access.specs.ScriptOrder.{InOrder}
@@ -73,3 +73,34 @@ simulated_if r e known one_hold one_choice in_time in_order served =
       in_order = in_order;
       served = served;
     }
+
+-- a run does not keep a part that does not hold at one of its clocks
+breaks : (part : Part) (r : Run) (c : ℕ) → c < length r.trace → holds_at part r c ≡ false → ¬ AtEachClock part r
+breaks part r c l e h = absurd (let f : true ≡ false = sym (h.at c l) ∙ e in cc)
+
+pub breaks_starts : (r : Run) (c : ℕ) → c < length r.trace → holds_at starts_requests r c ≡ false → ¬ Simulated r
+breaks_starts r c l e s = breaks starts_requests r c l e s.timely.request_starts
+
+pub breaks_request_lines : (r : Run) (c : ℕ) → c < length r.trace → holds_at drives_request_lines r c ≡ false → ¬ Simulated r
+breaks_request_lines r c l e s = breaks drives_request_lines r c l e s.timely.request_lines
+
+pub breaks_hazards : (r : Run) (c : ℕ) → c < length r.trace → holds_at drives_hazards r c ≡ false → ¬ Simulated r
+breaks_hazards r c l e s = breaks drives_hazards r c l e s.timely.hazard_lines
+
+pub breaks_snoop_results : (r : Run) (c : ℕ) → c < length r.trace → holds_at has_snoop_result r c ≡ false → ¬ Simulated r
+breaks_snoop_results r c l e s = breaks has_snoop_result r c l e s.timely.snoop_results
+
+pub breaks_responses : (r : Run) (c : ℕ) → c < length r.trace → holds_at drives_responses r c ≡ false → ¬ Simulated r
+breaks_responses r c l e s = breaks drives_responses r c l e s.timely.responses_and_data
+
+pub breaks_completions : (r : Run) (c : ℕ) → c < length r.trace → holds_at logs_completions r c ≡ false → ¬ Simulated r
+breaks_completions r c l e s = breaks logs_completions r c l e s.timely.completions
+
+pub breaks_lock : (r : Run) (c : ℕ) → c < length r.trace → holds_at drives_lock r c ≡ false → ¬ Simulated r
+breaks_lock r c l e s = breaks drives_lock r c l e s.timely.bus_lock
+
+pub breaks_data : (r : Run) (c : ℕ) → c < length r.trace → holds_at carries_data r c ≡ false → ¬ Simulated r
+breaks_data r c l e s = breaks carries_data r c l e s.carried
+
+pub breaks_time : (r : Run) → is_in_time 0 (length r.trace) r.log ≡ false → ¬ Simulated r
+breaks_time r e s = absurd (let f : true ≡ false = sym s.timely.in_time ∙ e in cc)

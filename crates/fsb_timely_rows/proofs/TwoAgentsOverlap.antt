@@ -1,5 +1,5 @@
 -- Two agents load different lines, and the requests overlap.
-use Rattle.std.proofs.Common.{◌≡◌, ℕ, zero, suc, refl, List, [], ◌∷◌, Some, None, true, false, replicate, arith}
+use Rattle.std.proofs.Common.{◌≡◌, ℕ, zero, suc, refl, List, [], ◌∷◌, Some, None, true, false, replicate, arith, lit<}
 use Rattle.fsb_access.proofs.OrderLaws.{steps_of-nobody}
 use Rattle.fsb_access.specs.ScriptOrder.{AreOfItems, script_of, steps_of}
 use Rattle.fsb_access.specs.declared.access.Access.TheVariants.{Load}
@@ -16,7 +16,7 @@ use Rattle.fsb_timely.specs.Timely.{holds_at, keeps}
 use Rattle.fsb_timely.specs.Simulated.{Simulated, Asked}
 use Rattle.fsb_timely_rows.proofs.LaidOut.{clock, idle, changed, entry, entries_of, run_of, every_part}
 use Rattle.fsb_timely_rows.proofs.Opened.{opened}
-use Rattle.fsb_timely_rows.proofs.Tests.{simulated_if}
+use Rattle.fsb_timely_rows.proofs.Tests.{simulated_if, breaks_starts, breaks_responses, breaks_completions, breaks_time}
 use Rattle.fsb_timely_rows.proofs.AskedLines.{asked_for_lines}
 
 abbrev pub plan : PlanView
@@ -98,6 +98,22 @@ pub computes :
     × (is_in_time 0 60 log4 ≡ false)
 unfolding opened
 computes = (refl, refl, refl, refl, refl, refl)
+
+-- so the changed runs are no simulations
+pub none_is_simulated :
+    (¬ Simulated run0)
+    × (¬ Simulated run1)
+    × (¬ Simulated run2)
+    × (¬ Simulated run3)
+    × (¬ Simulated (run_of plan 2 trace log4))
+unfolding opened
+none_is_simulated = (
+  breaks_starts run0 4 (lit< tt) computes.1,
+  breaks_responses run1 11 (lit< tt) computes.2,
+  breaks_completions run2 15 (lit< tt) computes.3,
+  breaks_responses run3 15 (lit< tt) computes.4,
+  breaks_time (run_of plan 2 trace log4) computes.5,
+)
 
 follows : (agent : ℕ) → AreOfItems (script_of plan.scripts agent) (steps_of agent log)
 follows zero = record { items = 1; same = refl }

@@ -1,5 +1,5 @@
 -- A write-back is held back while another agent asks for its line, and is then not needed.
-use Rattle.std.proofs.Common.{◌≡◌, ℕ, zero, suc, refl, List, [], ◌∷◌, Some, None, true, false, replicate, arith}
+use Rattle.std.proofs.Common.{◌≡◌, ℕ, zero, suc, refl, List, [], ◌∷◌, Some, None, true, false, replicate, arith, lit<}
 use Rattle.fsb_access.proofs.OrderLaws.{steps_of-nobody}
 use Rattle.fsb_access.specs.ScriptOrder.{AreOfItems, script_of, steps_of}
 use Rattle.fsb_access.specs.declared.access.Access.TheVariants.{Load, Store}
@@ -16,7 +16,7 @@ use Rattle.fsb_timely.specs.Timely.{holds_at, keeps}
 use Rattle.fsb_timely.specs.Simulated.{Simulated, Asked}
 use Rattle.fsb_timely_rows.proofs.LaidOut.{clock, idle, changed, entry, entries_of, run_of, every_part}
 use Rattle.fsb_timely_rows.proofs.Opened.{opened}
-use Rattle.fsb_timely_rows.proofs.Tests.{simulated_if}
+use Rattle.fsb_timely_rows.proofs.Tests.{simulated_if, breaks_starts, breaks_request_lines, breaks_snoop_results}
 use Rattle.fsb_timely_rows.proofs.AskedLines.{asked_for_lines}
 
 abbrev pub plan : PlanView
@@ -98,6 +98,20 @@ pub computes :
     × (holds_at has_snoop_result run3 17 ≡ false)
 unfolding opened
 computes = (refl, refl, refl, refl, refl)
+
+-- so the changed runs are no simulations
+pub none_is_simulated :
+    (¬ Simulated run0)
+    × (¬ Simulated run1)
+    × (¬ Simulated run2)
+    × (¬ Simulated run3)
+unfolding opened
+none_is_simulated = (
+  breaks_starts run0 16 (lit< tt) computes.1,
+  breaks_snoop_results run1 17 (lit< tt) computes.2,
+  breaks_request_lines run2 15 (lit< tt) computes.3,
+  breaks_snoop_results run3 17 (lit< tt) computes.4,
+)
 
 follows : (agent : ℕ) → AreOfItems (script_of plan.scripts agent) (steps_of agent log)
 follows zero = record { items = 2; same = refl }

@@ -1,3 +1,3 @@
-pub mod Written
+pub mod LinesAhead
 pub mod PlanFacts
 mod Verdicts

@@ -7,7 +7,6 @@ use std::test::Fail;
 use texts::{CLOCKS_ZERO_TO_THREE, HEAD, TAIL};
 use vcd_read::{VcdCause, VcdFault};
 
-mod dumps;
 mod judged;
 mod texts;
 

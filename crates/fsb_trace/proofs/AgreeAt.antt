@@ -7,11 +7,10 @@ use Rattle.fsb_count.proofs.First.{first_where-same}
 use Rattle.fsb_signal.specs.declared.lines.Lines.{Lines}
 use Rattle.fsb_signal.specs.declared.lines.TheConstants.Lines.{ADS, AERR, LOCK, BPRI}
 use Rattle.fsb_signal.specs.Samples.{line_at}
-use Rattle.fsb_trace.specs.declared.turns.Turns.{Turns}
 use Rattle.fsb_trace.specs.declared.who.Who.{Who}
 use Rattle.fsb_trace.specs.declared.who.Who.TheVariants.{Symmetric, Priority}
 use Rattle.fsb_trace.specs.At.{Trace, responds_at, response_code_at, stalls_at, known_pair_at, request_at}
-use Rattle.fsb_trace.specs.Winner.{asks_in_order, first_asking, last_if_asking, request_line_of, first_in_order, winner_by, winner_after, turns_before, winner_at, then_begun}
+use Rattle.fsb_trace.specs.Winner.{Turns, asks_in_order, first_asking, last_if_asking, request_line_of, first_in_order, winner_by, winner_after, turns_before, winner_at, then_begun}
 use Rattle.fsb_trace.specs.Requests.{is_cancelled, is_live}
 use Rattle.fsb_trace.specs.Agree.{AgreeTo}
 
@@ -76,7 +75,7 @@ last_if_asking-agree n w v d None a l = refl
 last_if_asking-agree n w v d (Some who) a l = rw (line_at-agree (request_line_of who) n w v d a l) refl
 
 -- the paths of the winner's definition
-winner_by-locked : (w : Trace) (d : ℕ) (turns : Turns) → line_at LOCK w d ≡ true → winner_by w d turns ≡ last_if_asking w d turns.last
+winner_by-locked : (w : Trace) (d : ℕ) (turns : Turns) → line_at LOCK w d ≡ true → winner_by w d turns ≡ last_if_asking w d turns.0
 unfolding winner_by
 winner_by-locked w d turns t = rw (t, winner_by) refl
 
@@ -84,7 +83,7 @@ winner_by-priority : (w : Trace) (d : ℕ) (turns : Turns) → line_at LOCK w d 
 unfolding winner_by
 winner_by-priority w d turns f t = rw (f, t, winner_by) refl
 
-winner_by-symmetric : (w : Trace) (d : ℕ) (turns : Turns) → line_at LOCK w d ≡ false → line_at BPRI w d ≡ false → winner_by w d turns ≡ option_map Symmetric (first_asking w d (first_in_order turns.symmetric))
+winner_by-symmetric : (w : Trace) (d : ℕ) (turns : Turns) → line_at LOCK w d ≡ false → line_at BPRI w d ≡ false → winner_by w d turns ≡ option_map Symmetric (first_asking w d (first_in_order turns.1))
 unfolding winner_by
 winner_by-symmetric w d turns f g = rw (f, g, winner_by) refl
 
@@ -109,7 +108,7 @@ winner_by-agree n w v d turns a l =
     let lock : line_at LOCK w d ≡ line_at LOCK v d = line_at-agree LOCK n w v d a l in
     let bpri : line_at BPRI w d ≡ line_at BPRI v d = line_at-agree BPRI n w v d a l in
     elim (cases_Bool (line_at LOCK v d)) [
-      | inl t ↦ winner_by-locked w d turns (lock ∙ t) ∙ last_if_asking-agree n w v d turns.last a l ∙ sym (winner_by-locked v d turns t)
+      | inl t ↦ winner_by-locked w d turns (lock ∙ t) ∙ last_if_asking-agree n w v d turns.0 a l ∙ sym (winner_by-locked v d turns t)
       | inr f ↦
           elim (cases_Bool (line_at BPRI v d)) [
             | inl u ↦ winner_by-priority w d turns (lock ∙ f) (bpri ∙ u) ∙ sym (winner_by-priority v d turns f u)

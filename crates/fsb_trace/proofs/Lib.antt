@@ -11,3 +11,4 @@ pub mod StayEnds
 pub mod Order
 pub mod VerdictLaws
 pub mod Rows
+pub mod Values

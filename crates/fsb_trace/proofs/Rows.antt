@@ -9,7 +9,7 @@ use Rattle.fsb_signal.specs.Samples.{line_at}
 use Rattle.fsb_encode.specs.Request.{is_lawful_request, are_lawful_fields, high_bit, den_bit, clocks, row_of, pairs_of}
 use Rattle.fsb_encode.specs.Decoded.{req_words, kind_of, read_off, is_pair, is_coded_as, if_coded_as, request_of}
 use Rattle.fsb_trace.specs.At.{Trace, line_back, response_code_at, responds_at, stalls_at, known_pair, known_pair_at, request_at}
-use Rattle.fsb_trace.specs.Winner.{bus_request_of, request_line_of, is_same_agent, is_agent, no_turns, then_begun, first_in_order, agent_in_order, asks_in_order, first_asking, last_if_asking, winner_by, winner_after, turns_before, winner_at, last_agent, last_symmetric, begins_at}
+use Rattle.fsb_trace.specs.Winner.{bus_request_of, request_line_of, is_same_agent, is_agent, no_turns, symmetric_after, then_begun, first_in_order, agent_in_order, asks_in_order, first_asking, last_if_asking, winner_by, winner_after, turns_before, winner_at, last_agent, last_symmetric, begins_at}
 use Rattle.fsb_trace.specs.Requests.{is_cancelled, seen_at, requests_of, first_clock_of, is_live, live_count, live_clock_of, live_number_of, live_request_of, is_reply_kind, is_write_back_kind, is_reply, is_write_back, have_same_id, line_of}
 use Rattle.fsb_trace.specs.Snoop.{is_every_second_from, ends_snoop, snoop_end_from, snoop_end_if, start_after_clock, start_after_end, snoop_end_of, snoop_start_of, is_snoop_clock_of, is_snoop_clock, line_at_snoop_end}
 use Rattle.fsb_trace.specs.Outcome.{does_move, response_code_of, is_deferral, outcome_by_kind, response_clock_of, told_by, outcome_of, moves_data, is_deferred, settled_by, settled_outcome_of, is_settled_deferred}
@@ -471,7 +471,7 @@ unfolding is_some_and is_before is_at greater_of first_where last_where any_wher
     from_clock holds_since line_at is_lawful_request are_lawful_fields high_bit den_bit clocks row_of pairs_of
     req_words kind_of read_off is_pair is_coded_as if_coded_as request_of line_back response_code_at responds_at
     stalls_at known_pair known_pair_at request_at bus_request_of request_line_of is_same_agent is_agent no_turns
-    then_begun first_in_order agent_in_order asks_in_order first_asking last_if_asking winner_by winner_after
+    symmetric_after then_begun first_in_order agent_in_order asks_in_order first_asking last_if_asking winner_by winner_after
     turns_before winner_at last_agent last_symmetric begins_at is_cancelled seen_at requests_of first_clock_of is_live
     live_count live_clock_of live_number_of live_request_of is_reply_kind is_write_back_kind is_reply is_write_back
     have_same_id line_of is_every_second_from ends_snoop snoop_end_from snoop_end_if start_after_clock start_after_end

@@ -5,7 +5,7 @@ use Rattle.fsb_signal.specs.Samples.{line_at}
 use Rattle.fsb_trace.specs.At.{Trace}
 use Rattle.fsb_trace.specs.Winner.{no_turns, then_begun, winner_after, turns_before}
 
-pub turns_before-start : (w : Trace) → turns_before w 0 ≡ record { last = None; symmetric = None }
+pub turns_before-start : (w : Trace) → turns_before w 0 ≡ (None, None)
 unfolding turns_before no_turns
 turns_before-start w = refl
 

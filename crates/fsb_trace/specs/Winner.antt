@@ -8,7 +8,6 @@ use Rattle.fsb_signal.specs.declared.lines.TheConstants.Lines.{BREQ0, BREQ1, BRE
 use Rattle.fsb_signal.specs.Samples.{line_at}
 use Rattle.fsb_trace.specs.declared.who.Who.{Who}
 use Rattle.fsb_trace.specs.declared.who.Who.TheVariants.{Symmetric, Priority}
-use Rattle.fsb_trace.specs.declared.turns.Turns.{Turns}
 use Rattle.fsb_trace.specs.At.{Trace}
 
 -- the BREQ# line of a symmetric agent, 0 to 3
@@ -34,15 +33,24 @@ is_same_agent Priority Priority = true
 unfoldable pub is_agent : Option Who → Who → Bool
 is_agent winner who = is_some_and winner (is_same_agent who)
 
+-- which agents began the requests so far: the agent of the last one, if there is one and it had a winner, and the
+-- symmetric agent that began one last
+abbrev pub Turns : Type 0
+Turns = Option Who × Option ℕ
+
 -- no request yet
 unfoldable pub no_turns : Turns
-no_turns = record { last = None; symmetric = None }
+no_turns = (None, None)
+
+-- the symmetric agent that began a request last, where it was this one so far, and this agent begins one more
+unfoldable pub symmetric_after : Option ℕ → Option Who → Option ℕ
+symmetric_after symmetric (Some (Symmetric a)) = Some a
+symmetric_after symmetric (Some Priority) = symmetric
+symmetric_after symmetric None = symmetric
 
 -- one more request, begun by this agent, if there is one
 unfoldable pub then_begun : Turns → Option Who → Turns
-then_begun turns (Some (Symmetric a)) = record { last = Some (Symmetric a); symmetric = Some a }
-then_begun turns (Some Priority) = record { last = Some Priority; symmetric = turns.symmetric }
-then_begun turns None = record { last = None; symmetric = turns.symmetric }
+then_begun turns winner = (winner, symmetric_after turns.1 winner)
 
 -- the agent with which the rotating order begins: the one after the last symmetric requester, or agent 0
 unfoldable pub first_in_order : Option ℕ → ℕ
@@ -71,10 +79,10 @@ last_if_asking w d (Some who) = if line_at (request_line_of who) w d then Some w
 unfoldable pub winner_by : Trace → ℕ → Turns → Option Who
 winner_by w d turns =
     elim (line_at LOCK w d) [
-      | true ↦ last_if_asking w d turns.last
+      | true ↦ last_if_asking w d turns.0
       | false ↦ elim (line_at BPRI w d) [
         | true ↦ Some Priority
-        | false ↦ option_map Symmetric (first_asking w d (first_in_order turns.symmetric))
+        | false ↦ option_map Symmetric (first_asking w d (first_in_order turns.1))
       ]
     ]
 
@@ -97,11 +105,11 @@ winner_at w c = winner_after w c (turns_before w c)
 
 -- the agent of the last request before c
 unfoldable pub last_agent : Trace → ℕ → Option Who
-last_agent w c = (turns_before w c).last
+last_agent w c = (turns_before w c).0
 
 -- the agent of the last request before c that a symmetric agent began
 unfoldable pub last_symmetric : Trace → ℕ → Option ℕ
-last_symmetric w c = (turns_before w c).symmetric
+last_symmetric w c = (turns_before w c).1
 
 -- the agent begins a request at c
 unfoldable pub begins_at : Trace → ℕ → Who → Bool

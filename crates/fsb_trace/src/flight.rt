@@ -5,13 +5,13 @@ ghost use Rattle.fsb_trace.specs.Flight.{is_dropped, has_ended, is_in_flight, in
 ghost use Rattle.fsb_trace.specs.Deferral.{answers, is_answered};
 
 use crate::at::{line_at, request_at};
-use crate::clocks::{any_where, count_where, first_where};
 use crate::ending::end_clock_of;
 use crate::request::{
     have_same_id, is_cancelled, is_live, is_reply, live_number_of, live_request_of,
 };
 use crate::snoop::is_before;
 use crate::told::{is_deferred, response_clock_of};
+use fsb_count::{any_where, count_where, first_where};
 use fsb_signal::{Lines, Sample};
 
 /// Whether the request that begins at `q` was cancelled, and its address error lies below `c`.

@@ -4,13 +4,13 @@ ghost use Rattle.std.specs.Prelude.{◌≡◌, ◌+◌, ◌^◌, ◌<◌, length
 ghost use Rattle.fsb_trace.specs.Rules.{breaks};
 ghost use Rattle.fsb_trace.specs.Verdict.{is_broken, least_rule, is_foul, verdict};
 
-use crate::clocks::first_where;
 use crate::rules::{
     has_no_winner, has_unknown_data, has_unknown_line, is_code_unlawful, is_code_wrong,
     is_data_wrong, is_error_alone, is_identity_wrong, is_lock_alone, is_outstanding_wrong,
     is_queue_full, is_request_blocked, is_request_too_soon, is_response_early, is_snoop_line_alone,
     is_snoop_result_unfit, is_some_asked_wrongly, is_target_ready_wrong,
 };
+use fsb_count::first_where;
 use fsb_signal::Sample;
 
 /// Whether rule `j` is broken at the last clock `c` of `v`.

@@ -14,11 +14,9 @@ pub use numbers::{end_of, outcome_of, response, snoop_end};
 pub use outcome::{Outcome, code_of, moves};
 pub use request::requests;
 pub use seen::Seen;
-pub use turns::Turns;
 pub use who::Who;
 
 mod at;
-mod clocks;
 mod ending;
 mod flight;
 mod judge;
@@ -27,13 +25,10 @@ mod numbers;
 mod outcome;
 mod request;
 mod rules;
-#[cfg(test)]
-mod runs;
 mod seen;
 mod snoop;
 #[cfg(test)]
 mod tests;
 mod told;
-mod turns;
 mod who;
 mod winner;

@@ -4,9 +4,9 @@ ghost use Rattle.std.specs.Prelude.{◌≡◌, ◌+◌, ◌^◌, ◌<◌, length
 ghost use Rattle.fsb_trace.specs.Requests.{is_cancelled, seen_at, requests_of, is_live, live_count, live_clock_of, live_number_of, live_request_of, is_reply, is_write_back, have_same_id};
 
 use crate::at::{line_at, request_at};
-use crate::clocks::{count_where, nth_where};
 use crate::seen::Seen;
 use crate::winner::winner_at;
+use fsb_count::{count_where, nth_where};
 use fsb_encode::{Kind, Request};
 use fsb_io::Memory;
 use fsb_signal::{Lines, Sample};

@@ -4,10 +4,10 @@ ghost use Rattle.std.specs.Prelude.{◌≡◌, ◌^◌, ◌<◌, length, IfSome}
 ghost use Rattle.fsb_trace.specs.Outcome.{outcome_by_kind, response_clock_of, told_by, outcome_of, moves_data, is_deferred};
 
 use crate::at::{responds_at, response_code_at};
-use crate::clocks::nth_where;
 use crate::outcome::{Outcome, code_of, is_deferral, moves};
 use crate::request::live_request_of;
 use crate::snoop::line_at_snoop_end;
+use fsb_count::nth_where;
 use fsb_encode::{Kind, Request};
 use fsb_signal::{Lines, Sample};
 

@@ -1,13 +1,16 @@
 //! Arbitration: which agent may begin a request at a clock.
 
 ghost use Rattle.std.specs.Prelude.{◌≡◌, ◌<◌, ◌≤◌};
-ghost use Rattle.fsb_trace.specs.Winner.{bus_request_of, request_line_of, is_same_agent, is_agent, no_turns, then_begun, first_in_order, agent_in_order, asks_in_order, first_asking, last_if_asking, winner_by, winner_after, turns_before, winner_at, begins_at};
+ghost use Rattle.fsb_trace.specs.Winner.{bus_request_of, request_line_of, is_same_agent, is_agent, symmetric_after, then_begun, first_in_order, agent_in_order, asks_in_order, first_asking, last_if_asking, winner_by, winner_after, turns_before, winner_at, begins_at};
 
 use crate::at::line_at;
-use crate::clocks::first_where;
-use crate::turns::Turns;
 use crate::who::Who;
+use fsb_count::first_where;
 use fsb_signal::{Lines, Sample};
+
+/// Which agents began the requests so far: the agent of the last one, if there is one and it had a winner, and the
+/// symmetric agent that began one last.
+type Turns = (Option<Who>, Option<u8>);
 
 /// The BREQ# line of a symmetric agent.
 #[tactic(auto, unfolding(crate::specs::Winner::bus_request_of))]
@@ -56,21 +59,24 @@ pub fn is_agent(winner: Option<Who>, who: Who) -> bool
     }
 }
 
+/// The symmetric agent that began a request last, where it was this one so far, and `winner` begins one more.
+#[tactic(auto, unfolding(crate::specs::Winner::symmetric_after))]
+fn symmetric_after(symmetric: Option<u8>, winner: Option<Who>) -> Option<u8>
+    ensures { result ≡ symmetric_after symmetric winner }
+{
+    match winner {
+        Some(Who::Symmetric(agent)) => Some(agent),
+        _ => symmetric,
+    }
+}
+
 /// One more request, begun by this agent, if there is one.
 #[tactic(auto, unfolding(crate::specs::Winner::then_begun))]
 fn then_begun(turns: Turns, winner: Option<Who>) -> Turns
     ensures { result ≡ then_begun turns winner }
 {
-    match winner {
-        Some(Who::Symmetric(agent)) => Turns {
-            last: winner,
-            symmetric: Some(agent),
-        },
-        _ => Turns {
-            last: winner,
-            symmetric: turns.symmetric,
-        },
-    }
+    let (_, symmetric) = turns;
+    (winner, symmetric_after(symmetric, winner))
 }
 
 /// The agent with which the rotating order begins.
@@ -132,12 +138,13 @@ fn last_if_asking(w: &[Sample], d: usize, last: Option<Who>) -> Option<Who>
 fn winner_by(w: &[Sample], d: usize, turns: Turns) -> Option<Who>
     ensures { result ≡ winner_by w.now d turns }
 {
+    let (last, symmetric) = turns;
     if line_at(Lines::LOCK, w, d) {
-        last_if_asking(w, d, turns.last)
+        last_if_asking(w, d, last)
     } else if line_at(Lines::BPRI, w, d) {
         Some(Who::Priority)
     } else {
-        match first_asking(w, d, first_in_order(turns.symmetric)) {
+        match first_asking(w, d, first_in_order(symmetric)) {
             Some(agent) => Some(Who::Symmetric(agent)),
             None => None,
         }
@@ -161,10 +168,7 @@ fn winner_after(w: &[Sample], c: usize, turns: Turns) -> Option<Who>
 fn turns_before(w: &[Sample], c: usize) -> Turns
     ensures { result ≡ turns_before w.now c }
 {
-    let mut turns = Turns {
-        last: None,
-        symmetric: None,
-    };
+    let mut turns = (None, None);
     for d in 0..c {
         if line_at(Lines::ADS, w, d) {
             turns = then_begun(turns, winner_after(w, d, turns));

@@ -65,7 +65,7 @@ simulator_values =
 abbrev simulator_blocks : List ℕ
 simulator_blocks = codes "#500\n1a\n0b\n#1000\n0a\n#1500\n1a\n"
 
--- the same with an unknown request word of the second agent line after the falling edge
+-- the same with an ADS# that is unknown from the falling edge on
 abbrev unknown_blocks : List ℕ
 unknown_blocks = codes "#500\n1a\n0b\n#1000\nxc\n0a\n#1500\n1a\n"
 

@@ -1,1 +1,3 @@
 pub mod Examples
+mod Rows
+pub mod Append

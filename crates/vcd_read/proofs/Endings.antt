@@ -99,10 +99,6 @@ dump_stop_is limit before None true x = ap (λ c. if c then Some stops.TooLong e
     by true t = sym (lt-ltb limit (length before + 1) (omega (arith, ltb-true limit (length before) t)))
     by false t = at_limit (length before) limit t
 
--- samples past the limit make no difference
-cut_off : (limit : ℕ) (xs ys : List Sample) → limit ≤ length xs → take limit (xs ++ ys) ≡ take limit xs
-cut_off limit xs ys h = take-append-le limit xs ys h
-
 -- what was appended of these samples and of those of the last block
 with_last : (limit decided : ℕ) (before more last : List Sample) (old new : List Sample) → decided ≡ length before → length before ≤ limit → new ≡ pushed limit decided old (more ++ last)
     → AppendsUpTo before (take limit ((before ++ more) ++ last)) old new
@@ -119,7 +115,7 @@ without_last limit decided before more old new is few h =
 past_last : (limit decided : ℕ) (before more last : List Sample) (old new : List Sample) → decided ≡ length before → length before ≤ limit → new ≡ pushed limit decided old (more ++ last)
     → limit ≤ length (before ++ more) → AppendsUpTo before (take limit (before ++ more)) old new
 past_last limit decided before more last old new is few h past =
-    subst (λ w. AppendsUpTo before w old new) (cut_off limit (before ++ more) last past) (with_last limit decided before more last old new is few h)
+    subst (λ w. AppendsUpTo before w old new) (take-append-le limit (before ++ more) last past) (with_last limit decided before more last old new is few h)
 
 -- where all are no more than the limit
 all_last : (limit decided : ℕ) (before more last : List Sample) (old new : List Sample) → decided ≡ length before → length before ≤ limit → new ≡ pushed limit decided old (more ++ last)

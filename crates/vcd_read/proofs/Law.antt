@@ -1,7 +1,7 @@
 -- What tokens make of the reader's state is what the definitions of a text say, block by block.
-use Rattle.std.proofs.Common.{◌≡◌, ℕ, ◌-◌, ◌<◌, ◌==◌, List, [], ◌∷◌, ◌++◌, length, map, take, slice_set, slice_index, if◌then◌else◌, refl, sym, ap, ◌∙◌, arith, append_assoc, suc, zero}
+use Rattle.std.proofs.Common.{◌≡◌, ℕ, ◌<◌, ◌==◌, List, [], ◌∷◌, ◌++◌, length, map, slice_set, slice_index, if◌then◌else◌, refl, sym, ap, ◌∙◌, arith, append_assoc, suc, zero}
 use Rattle.std.proofs.lemmas.Bool.{ne_eqb}
-use Rattle.std.proofs.lemmas.List.{append-nil, length-set}
+use Rattle.std.proofs.lemmas.List.{append-nil, length-set, map-set}
 use Rattle.fsb_signal.specs.DumpText.{width_of}
 use Rattle.vcd_grammar.specs.Tokens.{Token, tokens_of, tokens_so_far}
 use Rattle.vcd_grammar.specs.Digits.{extended}
@@ -10,6 +10,7 @@ use Rattle.vcd_grammar.specs.Blocks.{Change, Block, Event, Later, Changed, block
 use Rattle.vcd_grammar.specs.Values.{Values, at_first, set_line, set_lines, values_behind, clock_of, is_rise, sample_at, sample_of_block, samples_in}
 use Rattle.vcd_grammar.specs.Judging.{Known, turn, nothing, behind, events_in}
 use Rattle.vcd_grammar.specs.Reading.{samples_of, samples_before_end, samples_so_far, first_fault, fault_so_far, or_cut}
+use Rattle.vcd_grammar.proofs.Append.{blocks_some, ended-cons}
 use Rattle.vcd_read.specs.Lines.{with_line, with_lines, Lines, at_start, after_event, sample_of_end, decided_by, after_events, decided_in}
 use Rattle.vcd_read.specs.Taking.{Taken, untaken, decided_of, take_token, take_tokens, samples_in_tokens}
 use Rattle.vcd_read.specs.declared.levels.Values.{Values as Kept}
@@ -18,12 +19,6 @@ use Rattle.vcd_read.specs.declared.levels.Values.{Values as Kept}
 abbrev kept : Values → Kept
 kept v = record { levels = map level_of v; clock = clock_of v }
 
--- a level that is set is that of the value that is set
-map-set : (v : Values) (n : ℕ) (x : List ℕ) → slice_set (map level_of v) n (level_of x) ≡ map level_of (slice_set v n x)
-map-set [] n x = refl
-map-set (y ∷ v) zero x = refl
-map-set (y ∷ v) (suc n) x = ap (λ w. level_of y ∷ w) (map-set v n x)
-
 clock_set : (v : Values) (n : ℕ) (x : List ℕ) → 0 < length v → (if n == 0 then slice_index x 0 else clock_of v) ≡ clock_of (slice_set v n x)
 clock_set [] n x some = absurd (omega (arith, some))
 clock_set (y ∷ v) zero x some = refl
@@ -31,7 +26,7 @@ clock_set (y ∷ v) (suc n) x some = ap (λ t. if t then slice_index x 0 else sl
 
 line_kept : (v : Values) (n : ℕ) (digits : List ℕ) → 0 < length v → with_line (kept v) n digits ≡ kept (set_line v n digits)
 line_kept v n digits some = λ i. record {
-  levels = map-set v n (extended (width_of n) digits) i;
+  levels = sym (map-set level_of v n (extended (width_of n) digits)) i;
   clock = clock_set v n (extended (width_of n) digits) some i;
 }
 
@@ -60,17 +55,6 @@ block_some v (c ∷ block) some = block_some (set_lines v c.lines c.digits) bloc
 -- what the reader keeps in a block that stands open
 abbrev in_block : Values → Block → ℕ → Lines
 in_block v block decided = record { before = kept v; now = kept (values_behind v block); decided = decided }
-
--- there is a last block
-blocks_some : (block : Block) (es : List Event) → 0 < length (blocks_from block es)
-blocks_some block [] = omega arith
-blocks_some block (Later ∷ es) = omega (arith, blocks_some [] es)
-blocks_some block (Changed change ∷ es) = blocks_some (block ++ change ∷ []) es
-
--- a block before others is ended
-ended-cons : (block : Block) (blocks : List Block) → 0 < length blocks → ended (block ∷ blocks) ≡ block ∷ ended blocks
-ended-cons block blocks some =
-    let n : length (block ∷ blocks) - 1 ≡ suc (length blocks - 1) = omega (arith, some) in ap (λ k. take k (block ∷ blocks)) n
 
 -- the count of samples makes no difference to them
 decided_any : (l m : Lines) (es : List Event) → l.before ≡ m.before → l.now ≡ m.now → decided_in l es ≡ decided_in m es

@@ -1,8 +1,10 @@
 -- Decimal numbers, read from the left.
-use Rattle.std.proofs.Common.{◌≡◌, ℕ, ◌+◌, ◌-◌, ◌*◌, ◌<◌, ◌≤◌, ◌&&◌, ◌==◌, not, Bool, true, false, List, [], ◌∷◌, length, get_or, drop, take, Some, None, nat_le, cond, refl, sym, ap, ◌∙◌, arith}
+use Rattle.std.proofs.Common.{◌≡◌, ℕ, ◌+◌, ◌-◌, ◌*◌, ◌^◌, ◌<◌, ◌≤◌, ◌&&◌, ◌==◌, not, Bool, true, false, List, [], ◌∷◌, length, get_or, drop, take, Some, None, nat_le, cond, refl, sym, ap, ◌∙◌, arith}
 use Rattle.std.specs.List.{list_all}
 use Rattle.std.proofs.lemmas.List.{drop_more, drop_all, take_all}
-use Rattle.std.proofs.lemmas.Bool.{le-leb, lt-leb}
+use Rattle.std.proofs.lemmas.Bool.{le-leb, lt-leb, leb-true, and_parts, and_right, ne_eqb}
+use Rattle.std.proofs.lemmas.Nat.{pow-add}
+use Rattle.std.proofs.Math.Pow.{pow_mono}
 use Rattle.std.proofs.lemmas.List.Folds.{list_all_at}
 use Rattle.vcd_grammar.specs.Digits.{is_digit, number_from, number_up_to}
 
@@ -27,10 +29,6 @@ whole false true true n h k l = refl
 whole false true false n h k l = absurd cc
 whole false false c n h k l = absurd cc
 
-and_false : (a b : Bool) → b ≡ false → (a && b) ≡ false
-and_false true b h = h
-and_false false b h = refl
-
 none_of : (a b c : Bool) (n : ℕ) → a ≡ true → None ≡ cond ((not a && b) && c) (Some n) None
 none_of true b c n h = refl
 none_of false b c n h = absurd cc
@@ -45,7 +43,7 @@ pub number-other : (limit : ℕ) (word : List ℕ) (i : ℕ) → i < length word
 unfolding number_up_to
 number-other limit word i within other =
     no_number _ (nat_le (number_from 0 word) limit) (number_from 0 word)
-    (and_false (not (length word == 0)) (list_all is_digit word) (list_all_at is_digit word i 0 within other))
+    (and_right (not (length word == 0)) (list_all is_digit word) (list_all_at is_digit word i 0 within other))
 
 -- one more digit
 pub number_from-more : (n : ℕ) (word : List ℕ) (i : ℕ) → i < length word → number_from n (drop i word) ≡ number_from (n * 10 + (get_or word i 0 - 48)) (drop (i + 1) word)
@@ -72,3 +70,23 @@ unfolding number_up_to
 number-above limit word i n past value above =
     let is : number_from 0 word ≡ n = sym value ∙ ap (number_from n) (drop_all i word past) in
     too_much _ (nat_le (number_from 0 word) limit) (number_from 0 word) (lt-leb (number_from 0 word) limit (omega (arith, is, above)))
+
+-- fifteen digits at most, each of which four bits hold
+pub number-room : (n i : ℕ) → i < 15 → n < 2 ^ (4 * i) → n < 2 ^ 56
+number-room n i few small = omega (arith, small, pow_mono {i = 4 * i} {j = 56} (omega (arith, few)))
+
+pub number-grown : (n d i : ℕ) → n < 2 ^ (4 * i) → d ≤ 9 → n * 10 + d < 2 ^ (4 * (i + 1))
+number-grown n d i small digit =
+    let e : 2 ^ (4 * i + 4) ≡ 2 ^ (4 * i) * 2 ^ 4 = pow-add 2 (4 * i) 4 in
+    let s : 4 * (i + 1) ≡ 4 * i + 4 = omega arith in
+    rw s (rw e (omega (arith, small, digit)))
+
+pub digit-few : (b : ℕ) → is_digit b ≡ true → b - 48 ≤ 9
+digit-few b h = omega (arith, leb-true b 57 ((and_parts (nat_le 48 b) (nat_le b 57) h).1))
+
+pub not_empty : (word : List ℕ) → 0 < length word → (length word == 0) ≡ false
+not_empty word h = ne_eqb (length word) 0 (λ e. omega (arith, e, h))
+
+pub and_true : (a b : Bool) → a ≡ true → b ≡ true → (a && b) ≡ true
+and_true true b h k = k
+and_true false b h k = h

@@ -1,37 +1,17 @@
--- Tokens of bytes one after another, and of bytes without white space.
-use Rattle.std.proofs.Common.{◌≡◌, ℕ, ◌+◌, ◌-◌, ◌<◌, ◌≤◌, Bool, true, false, not, ◌&&◌, ◌==◌, List, [], ◌∷◌, ◌++◌, length, take, refl, sym, ap, ◌∙◌, arith, append_assoc, length-append, suc}
+-- Tokens of bytes without white space.
+use Rattle.std.proofs.Common.{◌≡◌, ℕ, ◌+◌, ◌-◌, ◌<◌, ◌≤◌, Bool, true, false, ◌==◌, List, [], ◌∷◌, ◌++◌, length, take, refl, sym, ap, ◌∙◌, arith, append_assoc, suc}
 use Rattle.std.specs.List.{list_all}
-use Rattle.std.proofs.lemmas.Bool.{ne_eqb, eq-eqb, lt-ltb, le-ltb, eqb-true, eqb-false}
-use Rattle.std.proofs.lemmas.List.{append-nil}
+use Rattle.std.proofs.lemmas.Bool.{and_parts, not-true, ne_eqb, eq-eqb, lt-ltb, le-ltb, eqb-true, eqb-false}
+use Rattle.std.proofs.lemmas.List.{append-nil, length_push}
 use Rattle.vcd_grammar.specs.Tokens.{is_white, longest, is_long, grown_at, counted, run_behind, tokens_from, open_from}
 use Rattle.vcd_read.specs.Scanning.{is_dark}
 
--- bytes behind bytes
-pub open-append : (run xs ys : List ℕ) → open_from run (xs ++ ys) ≡ open_from (open_from run xs) ys
-open-append run [] ys = refl
-open-append run (x ∷ xs) ys = open-append (run_behind run x) xs ys
-
-pub tokens-append : (at : ℕ) (run xs ys : List ℕ) → tokens_from at run (xs ++ ys) ≡ tokens_from at run xs ++ tokens_from (at + length xs) (open_from run xs) ys
-tokens-append at run [] ys = ap (λ n. tokens_from n run ys) (omega arith)
-tokens-append at run (x ∷ xs) ys =
-    let next : at + 1 + length xs ≡ at + length (x ∷ xs) = omega arith in
-    ap (λ ts. counted at run x ++ ts) (tokens-append (at + 1) (run_behind run x) xs ys ∙ ap (λ n. tokens_from (at + 1) (run_behind run x) xs ++ tokens_from n (open_from (run_behind run x) xs) ys) next)
-    ∙ sym (append_assoc (counted at run x) (tokens_from (at + 1) (run_behind run x) xs) (tokens_from (at + length (x ∷ xs)) (open_from (run_behind run x) xs) ys))
-
 -- the first of some bytes, and the others
 dark_first : (b : ℕ) (bs : List ℕ) → list_all is_dark (b ∷ bs) ≡ true → is_white b ≡ false
-dark_first b bs h = first (is_white b) (list_all is_dark bs) h
-  where
-    first : (w rest : Bool) → (not w && rest) ≡ true → w ≡ false
-    first true rest k = cc
-    first false rest k = refl
+dark_first b bs h = not-true (is_white b) (and_parts (is_dark b) (list_all is_dark bs) h).0
 
 dark_rest : (b : ℕ) (bs : List ℕ) → list_all is_dark (b ∷ bs) ≡ true → list_all is_dark bs ≡ true
-dark_rest b bs h = others (is_white b) (list_all is_dark bs) h
-  where
-    others : (w rest : Bool) → (not w && rest) ≡ true → rest ≡ true
-    others true rest k = absurd cc
-    others false rest k = k
+dark_rest b bs h = (and_parts (is_dark b) (list_all is_dark bs) h).1
 
 -- a byte that is not the one past the longest counts nothing
 none_counted : (at : ℕ) (run : List ℕ) (b : ℕ) → is_white b ≡ false → (length run == longest) ≡ false → counted at run b ≡ []
@@ -64,9 +44,6 @@ long_open run (b ∷ bs) dark long =
     rw (stays_long run b (dark_first b bs dark) (lt-ltb longest (length run) long)) (long_open run bs (dark_rest b bs dark) long)
 
 -- a byte more behind a run
-run_more : (run : List ℕ) (b : ℕ) → length (run ++ b ∷ []) ≡ length run + 1
-run_more run b = length-append run (b ∷ [])
-
 -- a run that does not become too long takes the bytes, and nothing counts
 pub short_tokens : (at : ℕ) (run bs : List ℕ) → list_all is_dark bs ≡ true → length run + length bs ≤ longest → tokens_from at run bs ≡ []
 short_tokens at run [] dark short = refl
@@ -74,13 +51,13 @@ short_tokens at run (b ∷ bs) dark short =
     let w = dark_first b bs dark in
     let e = grows run b w (le-ltb longest (length run) (omega (arith, short))) in
     rw (none_counted at run b w (ne_eqb (length run) longest (λ q. omega (arith, q, short))), e)
-    (short_tokens (at + 1) (run ++ b ∷ []) bs (dark_rest b bs dark) (omega (arith, short, run_more run b)))
+    (short_tokens (at + 1) (run ++ b ∷ []) bs (dark_rest b bs dark) (omega (arith, short, length_push run b)))
 
 pub short_open : (run bs : List ℕ) → list_all is_dark bs ≡ true → length run + length bs ≤ longest → open_from run bs ≡ run ++ bs
 short_open run [] dark short = sym (append-nil run)
 short_open run (b ∷ bs) dark short =
     rw (grows run b (dark_first b bs dark) (le-ltb longest (length run) (omega (arith, short))))
-    (short_open (run ++ b ∷ []) bs (dark_rest b bs dark) (omega (arith, short, run_more run b)) ∙ append_assoc run (b ∷ []) bs)
+    (short_open (run ++ b ∷ []) bs (dark_rest b bs dark) (omega (arith, short, length_push run b)) ∙ append_assoc run (b ∷ []) bs)
 
 -- the first bytes that a run takes
 abbrev pub taken_by : List ℕ → List ℕ → List ℕ
@@ -93,13 +70,13 @@ last_byte run b bs h = let one : longest + 1 - length run ≡ 1 = omega (arith, 
 -- the run takes one byte more
 next_byte : (run : List ℕ) (b : ℕ) (bs : List ℕ) → length run < longest → taken_by (run ++ b ∷ []) bs ≡ taken_by run (b ∷ bs)
 next_byte run b bs h =
-    let more : longest + 1 - length run ≡ suc (longest + 1 - length (run ++ b ∷ [])) = omega (arith, h, run_more run b) in
+    let more : longest + 1 - length run ≡ suc (longest + 1 - length (run ++ b ∷ [])) = omega (arith, h, length_push run b) in
     append_assoc run (b ∷ []) (take (longest + 1 - length (run ++ b ∷ [])) bs) ∙ sym (ap (λ n. run ++ take n (b ∷ bs)) more)
 
 -- a run that becomes too long counts once
 pub over_open : (run bs : List ℕ) → list_all is_dark bs ≡ true → length run ≤ longest → longest < length run + length bs → open_from run bs ≡ taken_by run bs
 over_open run [] dark short over = absurd (omega (arith, short, over))
-over_open run (b ∷ bs) dark short over = by (length run == longest) refl (λ less. over_open (run ++ b ∷ []) bs (dark_rest b bs dark) (omega (arith, less, run_more run b)) (omega (arith, over, run_more run b)))
+over_open run (b ∷ bs) dark short over = by (length run == longest) refl (λ less. over_open (run ++ b ∷ []) bs (dark_rest b bs dark) (omega (arith, less, length_push run b)) (omega (arith, over, length_push run b)))
   where
     w : is_white b ≡ false
     w = dark_first b bs dark
@@ -110,7 +87,7 @@ over_open run (b ∷ bs) dark short over = by (length run == longest) refl (λ l
     by : (t : Bool) → (length run == longest) ≡ t → (length run < longest → open_from (run ++ b ∷ []) bs ≡ taken_by (run ++ b ∷ []) bs) → open_from run (b ∷ bs) ≡ taken_by run (b ∷ bs)
     by true t rest =
         let full = eqb-true (length run) longest t in
-        rw e (long_open (run ++ b ∷ []) bs (dark_rest b bs dark) (omega (arith, full, run_more run b)) ∙ sym (last_byte run b bs full))
+        rw e (long_open (run ++ b ∷ []) bs (dark_rest b bs dark) (omega (arith, full, length_push run b)) ∙ sym (last_byte run b bs full))
     by false t rest =
         let less : length run < longest = omega (arith, short, eqb-false (length run) longest t) in
         rw e (rest less ∙ next_byte run b bs less)
@@ -119,7 +96,7 @@ pub over_tokens : (at : ℕ) (run bs : List ℕ) → list_all is_dark bs ≡ tru
     → tokens_from at run bs ≡ record { place = at - length run; word = taken_by run bs } ∷ []
 over_tokens at run [] dark short over within = absurd (omega (arith, short, over))
 over_tokens at run (b ∷ bs) dark short over within =
-    by (length run == longest) refl (λ less. over_tokens (at + 1) (run ++ b ∷ []) bs (dark_rest b bs dark) (omega (arith, less, run_more run b)) (omega (arith, over, run_more run b)) (omega (arith, within, run_more run b)))
+    by (length run == longest) refl (λ less. over_tokens (at + 1) (run ++ b ∷ []) bs (dark_rest b bs dark) (omega (arith, less, length_push run b)) (omega (arith, over, length_push run b)) (omega (arith, within, length_push run b)))
   where
     w : is_white b ≡ false
     w = dark_first b bs dark
@@ -135,8 +112,8 @@ over_tokens at run (b ∷ bs) dark short over within =
         → tokens_from at run (b ∷ bs) ≡ record { place = at - length run; word = taken_by run (b ∷ bs) } ∷ []
     by true t rest =
         let full = eqb-true (length run) longest t in
-        rw (e, full_counted full, long_tokens (at + 1) (run ++ b ∷ []) bs (dark_rest b bs dark) (omega (arith, full, run_more run b)), last_byte run b bs full) refl
+        rw (e, full_counted full, long_tokens (at + 1) (run ++ b ∷ []) bs (dark_rest b bs dark) (omega (arith, full, length_push run b)), last_byte run b bs full) refl
     by false t rest =
         let less : length run < longest = omega (arith, short, eqb-false (length run) longest t) in
-        let place : at + 1 - length (run ++ b ∷ []) ≡ at - length run = omega (arith, run_more run b, within) in
+        let place : at + 1 - length (run ++ b ∷ []) ≡ at - length run = omega (arith, length_push run b, within) in
         rw (e, none_counted at run b w t) (rest less ∙ (λ i. record { place = place i; word = next_byte run b bs less i } ∷ []))

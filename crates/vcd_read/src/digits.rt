@@ -11,7 +11,7 @@ pub(crate) const LONGEST: usize = 70_000;
 pub(crate) fn is_white(byte: u8) -> bool
     ensures { result ≡ is_white byte }
 {
-    (9 <= byte && byte <= 13) || byte == b' '
+    byte <= b' ' && (byte == b' ' || 9 <= byte && byte <= 13)
 }
 
 /// Whether a word is too long for a token.
@@ -37,12 +37,31 @@ fn next_number(number: u64, byte: u8) -> Option<u64>
     tens.checked_add(u64::from(byte - 48))
 }
 
+/// The decimal number that a short word is, where it is one and not above the limit: 15 digits make no number too large.
+fn short_number_up_to(limit: u64, word: &[u8]) -> Option<u64>
+    requires some { 0 < length word.now }
+    requires short { length word.now ≤ 15 }
+    ensures { result ≡ number_up_to limit word.now }
+{
+    let mut number: u64 = 0;
+    for byte in word {
+        if !is_digit(*byte) {
+            return None;
+        }
+        number = number * 10 + u64::from(*byte - 48);
+    }
+    if number <= limit { Some(number) } else { None }
+}
+
 /// The decimal number that a word is, where it is one and not above the limit.
 fn number_up_to(limit: u64, word: &[u8]) -> Option<u64>
     ensures { result ≡ number_up_to limit word.now }
 {
     if word.is_empty() {
         return None;
+    }
+    if word.len() <= 15 {
+        return short_number_up_to(limit, word);
     }
     let mut number: u64 = 0;
     for byte in word {

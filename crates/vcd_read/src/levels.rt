@@ -47,7 +47,7 @@ fn bits_if(test: bool, bits: u64) -> u64
 }
 
 /// What the digits of a value say, once they are extended to a width.
-fn level_of(width: u8, digits: &[u8]) -> Level
+fn level_of_digits(width: u8, digits: &[u8]) -> Level
     requires within { width ≤ 64 }
     requires fits { length digits.now ≤ width }
     ensures { result ≡ level_of (extended width digits.now) }
@@ -61,6 +61,35 @@ fn level_of(width: u8, digits: &[u8]) -> Level
         unknown = 2 * unknown + bits_if(is_unknown(*digit), 1);
     }
     Level { asserted, unknown }
+}
+
+/// What one digit says of a line of one bit.
+#[tactic(auto, unfolding(vcd_grammar::specs::Levels::level_of, vcd_grammar::specs::Digits::extended))]
+fn level_of_digit(digit: u8) -> Level
+    ensures { result ≡ level_of (extended 1 (digit ∷ [])) }
+{
+    Level {
+        asserted: bits_if(digit == b'0', 1),
+        unknown: bits_if(is_unknown(digit), 1),
+    }
+}
+
+/// What the digits of a value say, once they are extended to a width.
+fn level_of(width: u8, digits: &[u8]) -> Level
+    requires within { width ≤ 64 }
+    requires fits { length digits.now ≤ width }
+    ensures { result ≡ level_of (extended width digits.now) }
+{
+    match digits {
+        [digit] => {
+            if width == 1 {
+                level_of_digit(*digit)
+            } else {
+                level_of_digits(width, digits)
+            }
+        }
+        _ => level_of_digits(width, digits),
+    }
 }
 
 /// The width of the line of this number.

@@ -1,16 +1,15 @@
-use foreign::{FALLING, FALLING_VERILATOR, SAME_TIME, SCOPES};
 use fsb_signal::{Lines, Sample};
 use loads::{LATE_LOAD, LOAD, LOAD_OF_KNOWN_DATA, NO_DATA};
 use std::alloc::{AllocError, Global};
 use std::test::Fail;
 use table::{BAD, GOOD};
-use texts::{
-    LINES, NO_SAMPLES, QUIET, SIMULATOR_HEAD, SIMULATOR_RISES, SIMULATOR_START, UNKNOWN_AFTER_FALL,
-    UNKNOWN_AFTER_RISE, VALUES,
+use texts::{LINES, NO_SAMPLES, QUIET, VALUES};
+use vcd_dumps::{
+    FALLING, FALLING_VERILATOR, SAME_TIME, SCOPES, SIMULATOR_HEAD, SIMULATOR_RISES,
+    SIMULATOR_START, UNKNOWN_AFTER_FALL, UNKNOWN_AFTER_RISE,
 };
 use vcd_read::{Reader, VcdCause, VcdFault, VcdStop, read_dump};
 
-mod foreign;
 mod loads;
 mod table;
 mod texts;

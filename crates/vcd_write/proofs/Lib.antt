@@ -2,5 +2,4 @@ pub mod ValueText
 pub mod RoomFacts
 pub mod HeaderText
 pub mod ClockText
-pub mod Ahead
 pub mod Clocks

@@ -352,7 +352,7 @@ pub(crate) static BAD: [(Start, &'static str, u32, Cause); 191] = [
 ];
 
 /// Texts that are plans: what stands before, and the text.
-pub(crate) static GOOD: [(Start, &'static str); 18] = [
+pub(crate) static GOOD: [(Start, &'static str); 19] = [
     (Start::Items, "end\n"),
     (Start::Items, "end"),
     (Start::Items, "ld 1 40\nend\n"),
@@ -375,6 +375,7 @@ pub(crate) static GOOD: [(Start, &'static str); 18] = [
         Start::Whole,
         "p6bench 1\r\nagents 1\r\nclocks 0\r\ncache 1\r\nahead 1\r\nagent 0\r\nend",
     ),
+    (Start::Items, " \t# ld\n \t#\nend\n"),
     (Start::Tail, "# tx\n# y"),
     (Start::Tail, "\n\n"),
 ];

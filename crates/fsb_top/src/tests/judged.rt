@@ -2,10 +2,6 @@
 ghost use Rattle.std.specs.Prelude.{IsTrue};
 ghost use Rattle.fsb_signal.specs.Samples.{is_known};
 
-use super::dumps::{
-    FALLING, FALLING_VERILATOR, SAME_TIME, SCOPES, SIMULATOR_HEAD, SIMULATOR_RISES,
-    UNKNOWN_AFTER_FALL, UNKNOWN_AFTER_RISE,
-};
 use super::{Ended, FIRST, Fails, NAMED, NO_FAILS, call_bench, joined};
 use crate::Status;
 use fsb_io::{MemSink, Memory};
@@ -13,6 +9,10 @@ use fsb_rules::Broken;
 use fsb_signal::{Lines, Sample, Word};
 use std::alloc::{AllocError, Global};
 use std::test::Fail;
+use vcd_dumps::{
+    FALLING, FALLING_VERILATOR, SAME_TIME, SCOPES, SIMULATOR_HEAD, SIMULATOR_RISES,
+    SIMULATOR_START, UNKNOWN_AFTER_FALL, UNKNOWN_AFTER_RISE,
+};
 use vcd_read::{VcdCause, VcdFault};
 use vcd_write::put_dump;
 
@@ -149,7 +149,7 @@ fn simulator_dump(rt: HostRuntime) -> Result<(), Fail> {
         (UNKNOWN_AFTER_RISE, unknown, "rejected clock=1 rule=1\n"),
     ];
     for (rises, status, text) in table {
-        let dump = joined(rt.alloc(), &[SIMULATOR_HEAD, rises])?;
+        let dump = joined(rt.alloc(), &[SIMULATOR_HEAD, SIMULATOR_START, rises])?;
         let ended = check(rt.alloc(), &dump)?;
         assert_eq!(rt; ended.status, status);
         assert_eq!(rt; ended.out.holds(), text.as_bytes());
@@ -217,7 +217,10 @@ fn faults_of_a_check(rt: HostRuntime) -> Result<(), Fail> {
         out: &[0],
         ..NO_FAILS
     };
-    let dump = joined(rt.alloc(), &[SIMULATOR_HEAD, UNKNOWN_AFTER_FALL])?;
+    let dump = joined(
+        rt.alloc(),
+        &[SIMULATOR_HEAD, SIMULATOR_START, UNKNOWN_AFTER_FALL],
+    )?;
     let unwritten = call_bench(rt.alloc(), &CHECK, &dump, out)?;
     assert_eq!(rt; unwritten.status, Status::WriteFault);
     assert_eq!(rt; unwritten.out.holds(), b"".as_slice());

@@ -1,7 +1,7 @@
 use Rattle.std.proofs.Common.{arith, ◌≡◌, ◌≤◌, ◌+◌, List, length, ℕ, ◌<◌, [], ◌∷◌, ◌++◌, Bool, true, not, nat_eq, if◌then◌else◌, refl, sym, ap, ◌∙◌, subst, take, drop, BuildHasherDefault, FoldHasher}
 use Rattle.std.proofs.lemmas.List.{drop_all, length-take-le, length-append}
 use Rattle.std.specs.HashSet.{HashSet, contains, Updates}
-use Rattle.fsb_access.specs.Access.{line_of}
+use Rattle.fsb_access.specs.Access.{accessed_line}
 use Rattle.fsb_access.specs.FlatView.{state_of}
 use Rattle.fsb_access.specs.declared.access.Access.{Access}
 use Rattle.fsb_access.specs.declared.item.Item.{Item}
@@ -16,7 +16,7 @@ use Rattle.fsb_solo.proofs.log.log_of.Goals.{else-loop-number-test, then-loop-nu
 
 -- the clock is the one that the log has
 lines_of : (named : HashSet ℕ (BuildHasherDefault FoldHasher)) (earlier : List Item) (access : Access) (first line clock : ℕ) (is_new : Bool)
-    → HasNamed named earlier → is_new ≡ not (contains nat_eq named line) → line ≡ line_of access
+    → HasNamed named earlier → is_new ≡ not (contains nat_eq named line) → line ≡ accessed_line access
     → clock ≡ (if is_new then first + 11 else first) → clock ≡ last_clock earlier access first
 lines_of named earlier access first line clock is_new has added at is =
     is ∙ last_clock_of named earlier access first is_new has (added ∙ ap (λ l. not (contains nat_eq named l)) at)

@@ -1,7 +1,7 @@
-use Rattle.std.proofs.Common.{◌++◌, sym, ◌∙◌, ap, append_assoc}
+use Rattle.std.proofs.Common.{[], ◌++◌, refl, sym, ◌∙◌, ap, append_assoc, append-nil}
 use Rattle.std.proofs.lemmas.Result.{on_ok_weaker}
+use Rattle.fsb_io.proofs.Written.{written_none, written_more, written_part}
 use Rattle.fsb_signal.specs.DumpText.{header_text, clocks_text}
-use Rattle.vcd_write.proofs.Ahead.{part-longer, part-after}
 use Rattle.vcd_write.proofs.Clocks.{dump_text-some, dump_text-none}
 use Rattle.vcd_write.proofs.dump.put_dump.Goals as goal
 
@@ -9,7 +9,7 @@ pub returns-in_err-put_header-in-Some-clause-part : goal.returns-in_err-put_head
 returns-in_err-put_header-in-Some-clause-part g c tells =
     let first = c.in-Some.first.now in
     rw (dump_text-some c.args.samples.now first c.in-Some.ensures.value)
-    (part-longer (header_text first) (clocks_text 0 first c.args.samples.now) _ _ (c.in_err-put_header-in-Some.ensures.part tells))
+    (written_part _ _ (header_text first) (clocks_text 0 first c.args.samples.now) _ _ _ (written_none _ _) refl (c.in_err-put_header-in-Some.ensures.part tells))
 
 pub returns-in-None-clause-whole : goal.returns-in-None-clause-whole
 returns-in-None-clause-whole g c tells =
@@ -31,5 +31,8 @@ returns-in_ok-put_header-in-Some-clause-whole g c tells =
 pub returns-in_ok-put_header-in-Some-clause-part : goal.returns-in_ok-put_header-in-Some-clause-part
 returns-in_ok-put_header-in-Some-clause-part g c tells =
     let first = c.in-Some.first.now in
+    let texts = clocks_text 0 first c.args.samples.now in
     rw (dump_text-some c.args.samples.now first c.in-Some.ensures.value)
-    (part-after (header_text first) (clocks_text 0 first c.args.samples.now) _ _ _ (c.in_ok-put_header-in-Some.ensures.whole tells) (c.put_clocks.ensures.part tells))
+    (written_part _ _ texts [] _ _ _
+    (written_more _ _ (header_text first) texts _ _ _ (written_none _ _) refl (c.in_ok-put_header-in-Some.ensures.whole tells))
+    (sym (append-nil texts)) (c.put_clocks.ensures.part tells))

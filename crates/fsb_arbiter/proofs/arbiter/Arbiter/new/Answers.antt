@@ -1,8 +1,8 @@
 use Rattle.std.proofs.Common.{refl}
-use Rattle.fsb_trace.specs.Winner.{turns_before, no_turns}
+use Rattle.fsb_trace.specs.Winner.{turns_before, no_turns, last_agent, last_symmetric}
 use Rattle.fsb_arbiter.specs.Arbiter.{lines_back}
 use Rattle.fsb_arbiter.proofs.arbiter.Arbiter.new.Goals as goal
 
 pub returns : goal.returns
-unfolding lines_back turns_before no_turns
-returns c = record { older = refl; newer = refl; turns = refl }
+unfolding lines_back turns_before no_turns last_agent last_symmetric
+returns c = record { older = refl; newer = refl; last = refl; symmetric = refl }

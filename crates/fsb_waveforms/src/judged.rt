@@ -1,0 +1,165 @@
+//! Verdicts, by the plain judge of whole traces and by the checker, which looks at each sample once.
+
+ghost use Rattle.std.specs.Prelude.{◌^◌, ◌<◌, length};
+
+use crate::laid_out::{laid_out, sample, with_sample, with_turned};
+use crate::runs::{
+    CANCELLED_BY_ADDRESS_ERROR, Clock, DEFERRED_AND_REPLIED, DIRTY_VICTIM_WRITTEN_BACK,
+    LEAST_RULE_NAMED, LOAD_THEN_STORE_HIT, LOCKED_INCREMENTS, LOOK_AHEAD_TWO, QUEUE_DEPTH_BROKEN,
+    REQUEST_SPACING_BROKEN, REQUEST_WITHOUT_WINNER, STALLED_SNOOP,
+    STORE_HANDED_OVER_BEFORE_ARRIVAL, TWO_AGENTS_OVERLAP, WRITE_BACK_HELD_OFF,
+};
+use fsb_rules::{Broken, Checker};
+use fsb_signal::Sample;
+use fsb_trace::verdict;
+use std::alloc::Global;
+use std::process::Abort;
+
+/// What the checker says of a trace.
+fn checked(w: &[Sample]) -> Option<(u32, u8)>
+    requires { length w.now < 2 ^ 32 }
+{
+    let mut checker = Checker::new();
+    let mut found = None;
+    for sample in w {
+        found = checker.feed(sample);
+    }
+    found.map(|broken| (broken.clock, broken.rule))
+}
+
+/// Asserts that this is what both judges say of a trace.
+fn expect_verdict(rt: &impl Abort, w: &[Sample], found: Option<(u32, u8)>)
+    requires { length w.now < 2 ^ 32 }
+{
+    assert_eq!(rt; verdict(w), found);
+    assert_eq!(rt; checked(w), found);
+}
+
+/// Asserts that both judges accept the trace of these clocks.
+fn expect_accepted(rt: &impl Abort, alloc: Global, clocks: &[Clock])
+    requires { length clocks.now < 2 ^ 32 }
+{
+    let w = laid_out(alloc, clocks).expect(rt, "out of memory");
+    expect_verdict(rt, &w, None);
+}
+
+/// Asserts that this is what both judges say of the trace of these clocks.
+fn expect_rejected(rt: &impl Abort, alloc: Global, clocks: &[Clock], at: u32, rule: u8)
+    requires { length clocks.now < 2 ^ 32 }
+{
+    let w = laid_out(alloc, clocks).expect(rt, "out of memory");
+    expect_verdict(rt, &w, Some((at, rule)));
+}
+
+/// Asserts that both judges accept the clocks, and that this sample at `at` breaks the rule there.
+fn expect_broken(
+    rt: &impl Abort,
+    alloc: Global,
+    clocks: &[Clock],
+    at: u32,
+    sample: Sample,
+    rule: u8,
+)
+    requires { length clocks.now < 2 ^ 32 }
+{
+    expect_accepted(rt, alloc, clocks);
+    let foul = with_sample(alloc, clocks, at as usize, sample).expect(rt, "out of memory");
+    expect_verdict(rt, &foul, Some((at, rule)));
+}
+
+/// Asserts that the judges agree on the trace of these clocks and on each that differs from it in one line at one clock.
+fn expect_alike(rt: &impl Abort, alloc: Global, clocks: &[Clock])
+    requires { length clocks.now < 2 ^ 32 }
+{
+    for at in 0..clocks.len() {
+        for bit in 0..19_u32 {
+            let line = if bit < 18 { 1_u32 << bit } else { 0 };
+            let w = with_turned(alloc, clocks, at, line).expect(rt, "out of memory");
+            assert_eq!(rt; checked(&w), verdict(&w));
+        }
+    }
+}
+
+#[test]
+fn accepted_rows(rt: HostRuntime) {
+    expect_accepted(&rt, rt.alloc(), &LOAD_THEN_STORE_HIT);
+    expect_accepted(&rt, rt.alloc(), &TWO_AGENTS_OVERLAP);
+    expect_accepted(&rt, rt.alloc(), &STORE_HANDED_OVER_BEFORE_ARRIVAL);
+    expect_accepted(&rt, rt.alloc(), &STALLED_SNOOP);
+    expect_accepted(&rt, rt.alloc(), &CANCELLED_BY_ADDRESS_ERROR);
+    expect_accepted(&rt, rt.alloc(), &DEFERRED_AND_REPLIED);
+    expect_accepted(&rt, rt.alloc(), &DIRTY_VICTIM_WRITTEN_BACK);
+    expect_accepted(&rt, rt.alloc(), &LOCKED_INCREMENTS);
+    expect_accepted(&rt, rt.alloc(), &LOOK_AHEAD_TWO);
+    expect_accepted(&rt, rt.alloc(), &WRITE_BACK_HELD_OFF);
+    expect_accepted(&rt, rt.alloc(), &QUEUE_DEPTH_BROKEN[..26]);
+    expect_accepted(&rt, rt.alloc(), &REQUEST_WITHOUT_WINNER[..2]);
+    expect_verdict(&rt, &[], None);
+}
+
+#[test]
+fn rejected_rows(rt: HostRuntime) {
+    expect_rejected(&rt, rt.alloc(), &REQUEST_SPACING_BROKEN, 4, 2);
+    expect_rejected(&rt, rt.alloc(), &LEAST_RULE_NAMED, 1, 2);
+    expect_rejected(&rt, rt.alloc(), &QUEUE_DEPTH_BROKEN, 26, 4);
+    expect_rejected(&rt, rt.alloc(), &REQUEST_WITHOUT_WINNER, 2, 6);
+}
+
+#[test]
+fn each_rule_broken_by_one_sample(rt: HostRuntime) {
+    // The clock, the asserted lines, the unknown lines, REQ, the address, the unknown data bits, and the rule.
+    let edits = [
+        (7, 0, 512, 0, 0, 0, 1),
+        (4, 2 + 128, 0, 6, 0x10, 0, 2),
+        (3, 2, 0, 3, 2, 0, 3),
+        (3, 2, 0, 2, 0x2_0002, 0, 7),
+        (4, 0, 0, 0, 0, 0, 8),
+        (7, 32, 0, 0, 0, 0, 9),
+        (7, 256, 0, 0, 0, 0, 10),
+        (7, 512, 0, 0, 0, 0, 11),
+        (7, 0x7000, 0, 0, 0, 0, 13),
+        (8, 0x3_5000, 0, 0, 0, 0, 14),
+        (8, 0x3_f000, 0, 0, 0, 0, 15),
+        (11, 0x3_0000, 0, 0, 0, 0, 16),
+        (9, 0x3_0000, 0, 0, 0, 1, 17),
+    ];
+    for (at, lines, unknown, req, addr, data, rule) in edits {
+        let edit = sample(lines, unknown, req, addr, data);
+        expect_broken(&rt, rt.alloc(), &TWO_AGENTS_OVERLAP, at, edit, rule);
+    }
+    let hit_of_a_write_back = sample(512, 0, 0, 0, 0);
+    expect_broken(
+        &rt,
+        rt.alloc(),
+        &DIRTY_VICTIM_WRITTEN_BACK,
+        18,
+        hit_of_a_write_back,
+        12,
+    );
+    let id_in_use = sample(0, 0, 2, 2, 0);
+    expect_broken(&rt, rt.alloc(), &LOOK_AHEAD_TWO, 7, id_in_use, 18);
+    let blocked = with_sample(
+        rt.alloc(),
+        &TWO_AGENTS_OVERLAP,
+        3,
+        sample(2 + 64, 0, 2, 2, 0),
+    )
+    .expect(&rt, "out of memory");
+    expect_verdict(&rt, &blocked, Some((5, 5)));
+}
+
+#[test]
+fn one_line_turned_over(rt: HostRuntime) {
+    expect_alike(&rt, rt.alloc(), &STALLED_SNOOP);
+    expect_alike(&rt, rt.alloc(), &CANCELLED_BY_ADDRESS_ERROR);
+    expect_alike(&rt, rt.alloc(), &DEFERRED_AND_REPLIED);
+}
+
+#[test]
+fn found_once_stays(rt: HostRuntime) {
+    let found = Some(Broken { clock: 0, rule: 2 });
+    let mut checker = Checker::new();
+    assert_eq!(rt; checker.feed(&sample(1 << 7, 0, 0, 0, 0)), found);
+    assert_eq!(rt; checker.feed(&sample(0, 0, 0, 0, 0)), found);
+    assert_eq!(rt; checker.feed(&sample(1 << 8, 1 << 9, 0, 0, 0)), found);
+}

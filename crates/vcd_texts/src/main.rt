@@ -1,0 +1,46 @@
+//! Texts of dumps, small ones and those of other tools, with the samples or the first fault that each has, worked out by
+//! hand from docs/dump-format.md: tests of `vcd_read`, whole and in pieces.
+//!
+//! The program reads the files of the dumps of other tools, and says of each whether it is the text that the tests read.
+#![tactic(auto)]
+
+use fsb_io::{FileSource, Source, read_all};
+use std::rt::Files;
+use vcd_dumps::{FALLING, FALLING_VERILATOR, SAME_TIME, SCOPES};
+
+#[cfg(test)]
+mod tests;
+
+/// Each file, and the text that it is to be.
+const FILES: [(&str, &str); 4] = [
+    ("falling.vcd", FALLING),
+    ("falling_verilator.vcd", FALLING_VERILATOR),
+    ("scopes.vcd", SCOPES),
+    ("same_time.vcd", SAME_TIME),
+];
+
+fn main(rt: HostRuntime) {
+    for (name, text) in FILES.iter() {
+        match file(&rt, name) {
+            Some(bytes) if bytes.as_slice() == text.as_bytes() => {
+                let _ = println!(rt; "{name}: the same");
+            }
+            Some(_) => {
+                let _ = println!(rt; "{name}: another text");
+            }
+            None => {
+                let _ = println!(rt; "{name}: not read");
+            }
+        }
+    }
+}
+
+/// What a file holds, where it can be read.
+fn file(rt: &(impl Files + AllocGlobal), name: &str) -> Option<Vec<u8>> {
+    if name.len() > 4_096 {
+        return None;
+    }
+    let mut source = FileSource::new(rt);
+    source.begin(name).ok()?;
+    read_all(rt.alloc(), &mut source, 1 << 20).ok()
+}
