@@ -40,6 +40,23 @@ fn log_lines_and_the_end_line(rt: HostRuntime) {
     for (done, text) in lines {
         assert_eq!(rt; log_line(&done).as_slice(), text.as_bytes());
     }
+    // A line tells neither the place in a locked item nor what a store adds.
+    let locked = Done {
+        clock: 199_999,
+        agent: 3,
+        item: 4_095,
+        part: 7,
+        access: Access::Store {
+            size: 4,
+            addr: 0xf_ffff_fffc,
+            value: Operand::LastPlus(1),
+        },
+        value: 0xffff_ffff,
+    };
+    assert_eq!(rt;
+        log_line(&locked).as_slice(),
+        b"199999 3 4095 st 4 ffffffffc = ffffffff\n".as_slice()
+    );
     assert_eq!(rt;
         end_line(60, 2, 2).as_slice(),
         b"end clocks=60 done=2 of=2\n".as_slice()
@@ -47,6 +64,10 @@ fn log_lines_and_the_end_line(rt: HostRuntime) {
     assert_eq!(rt;
         end_line(10, 0, 2).as_slice(),
         b"end clocks=10 done=0 of=2\n".as_slice()
+    );
+    assert_eq!(rt;
+        end_line(200_000, 4_096, 131_072).as_slice(),
+        b"end clocks=200000 done=4096 of=131072\n".as_slice()
     );
 }
 

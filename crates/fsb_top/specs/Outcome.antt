@@ -1,5 +1,5 @@
 -- What a call of `bench` leaves behind, by its status.
-use Rattle.std.specs.Prelude.{◌≡◌, ◌<◌, ◌^◌, ◌⊎◌, ℕ, ◌++◌, List, Option, None, Some, length}
+use Rattle.std.specs.Prelude.{◌≡◌, ◌≤◌, ◌<◌, ◌-◌, ◌^◌, ◌⊎◌, ℕ, ◌++◌, List, Option, None, Some, length}
 use Rattle.fsb_access.specs.Replay.{Served}
 use Rattle.fsb_access.specs.ScriptOrder.{InOrder, script_of}
 use Rattle.fsb_access.specs.declared.log.Done.{Done as Entry}
@@ -183,12 +183,14 @@ pub record IsBadBench (name held left : List ℕ) (begun_as : Option (List ℕ))
   pub read : HasRead held name left begun_as
   pub is_bad : FirstBad held fault
 
--- all of the file under this name was read, it is the dump of this trace, and the status is that of its verdict
+-- all of the file under this name was read, it is the dump of this trace of at most 2^32 - 1 samples, and the status is
+-- that of its verdict
 pub record HasVerdict (status : Status) (name held left : List ℕ) (begun_as : Option (List ℕ)) : Type 0 where
   pub read : IsReadWhole held left
   pub named : begun_as ≡ Some name
   pub trace : List Sample
   pub reads : Reads held trace
+  pub few : length trace ≤ 2 ^ 32 - 1
   pub told : TellsVerdict status trace
 
 -- all of the file under this name was read, and it is no dump, with this first fault, before which at most 2^32 - 1

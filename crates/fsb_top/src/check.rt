@@ -49,6 +49,7 @@ pub fn check_file<S: Source, O: Sink>(
 // Writes the line of a verdict.
 fn tell<O: Sink>(out: &mut O, finding: Finding) -> Status
     ensures told { IsFindingTold result finding }
+    ensures few { finding.clocks < 2 ^ 32 }
     ensures text { IsTrue O.tells → IsFindingWritten result finding (O.holds out.old) (O.holds out.new) }
     ensures write_fault { result ≡ Status.WriteFault → Rose (O.faults out.old) (O.faults out.new) }
     ensures log_name { IsTrue O.tells → O.begun_as out.new ≡ O.begun_as out.old }

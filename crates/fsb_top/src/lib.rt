@@ -1,4 +1,4 @@
-//! The top call: from the words of a command line to the printed log and the dump.
+//! The top call: from the words of a command line to the printed log and the dump, or to the verdict on a dump.
 #![tactic(auto)]
 
 pub use status::{Status, code, status_line};

@@ -1,3 +1,4 @@
+use Rattle.std.proofs.Common.{arith}
 use Rattle.fsb_top.proofs.Verdicts.{tells_verdict}
 use Rattle.fsb_top.proofs.check.check_file.Goals as goal
 
@@ -9,5 +10,6 @@ returns-in-Ok-clause-judged g c tells run =
       named = c.in-Ok.ensures.named tells tt;
       trace = checked.1.trace;
       reads = checked.1.reads;
+      few = omega (arith, checked.1.clocks, c.tell.ensures.few);
       told = tells_verdict c.tell.result c.in-Ok.finding checked.1.trace c.tell.ensures.told checked.1.judged;
     }
