@@ -1,6 +1,6 @@
 -- Runs, laid out clock by clock: what is due at each clock, after the clocks before it, is what the run has there. All of
 -- it is computed.
-use Rattle.std.proofs.Common.{◌≡◌, refl, ℕ, Bool, true, false, not, cond, ◌&&◌, nat_eq, List, [], ◌∷◌, map, take, length, is_some, Option, Some, None, sym, ap, subst, ◌∙◌}
+use Rattle.std.proofs.Common.{◌+◌, ◌≡◌, refl, ℕ, Bool, true, false, not, cond, ◌&&◌, nat_eq, List, [], ◌∷◌, map, take, length, is_some, Option, Some, None, sym, ap, subst, ◌∙◌}
 use Rattle.std.specs.List.{slice_get}
 use Rattle.std.specs.Option.{option_map}
 use Rattle.std.proofs.lemmas.Option.{slice_get-map}

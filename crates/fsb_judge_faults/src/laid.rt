@@ -207,7 +207,7 @@ fn laid_out(alloc: Global, pieces: &[Piece], clocks: usize) -> Result<Vec<Sample
         put(&mut cells, piece);
     }
     let mut w = Vec::new(alloc);
-    for cell in cells.iter().take(clocks) {
+    for cell in &cells[..clocks.min(40)] {
         w.push(sample(cell))?;
     }
     Ok(w)

@@ -5,4 +5,6 @@
 #[cfg(test)]
 mod laid;
 #[cfg(test)]
-mod tests;
+mod replies;
+#[cfg(test)]
+mod requests;
