@@ -7,17 +7,23 @@ use std::test::Fail;
 use texts::{CLOCKS_ZERO_TO_THREE, HEAD, TAIL};
 use vcd_read::{VcdCause, VcdFault};
 
+mod counts;
+mod faults;
 mod judged;
 mod texts;
 
 /// A command line that names a bench file and a dump.
 pub(crate) const NAMED: [&str; 3] = ["run", "first.bench", "first.vcd"];
 
+/// A command line that names a dump to be judged.
+pub(crate) const CHECK: [&str; 2] = ["check", "first.vcd"];
+
 /// A load of a byte that memory has, and a store into its line.
 pub(crate) const FIRST: &str =
     "p6bench 1\nagents 1\nclocks 60\ncache 64\nahead 1\nmem 40 07\nagent 0\nld 1 40\nst 1 41 5\nend\n";
 
-const FIRST_LOG: &str = "11 0 0 ld 1 40 = 7\n12 0 1 st 1 41 = 5\nend clocks=60 done=2 of=2\n";
+pub(crate) const FIRST_LOG: &str =
+    "11 0 0 ld 1 40 = 7\n12 0 1 st 1 41 = 5\nend clocks=60 done=2 of=2\n";
 
 /// The words of a command line.
 fn words_of(alloc: Global, list: &[&str]) -> Result<Words, Memory> {
@@ -39,13 +45,13 @@ pub(crate) fn joined(alloc: Global, texts: &[&str]) -> Result<Vec<u8>, AllocErro
 
 /// The calls of each object that fail.
 #[derive(Clone, Copy)]
-pub(crate) struct Fails {
-    pub(crate) source: &'static [u32],
-    pub(crate) out: &'static [u32],
-    pub(crate) dump: &'static [u32],
+pub(crate) struct Fails<'a> {
+    pub(crate) source: &'a [u32],
+    pub(crate) out: &'a [u32],
+    pub(crate) dump: &'a [u32],
 }
 
-pub(crate) const NO_FAILS: Fails = Fails {
+pub(crate) const NO_FAILS: Fails<'static> = Fails {
     source: &[],
     out: &[],
     dump: &[],
@@ -65,7 +71,7 @@ pub(crate) fn call_bench(
     alloc: Global,
     list: &[&str],
     text: &[u8],
-    fails: Fails,
+    fails: Fails<'_>,
 ) -> Result<Ended, Memory> {
     let words = words_of(alloc, list)?;
     let mut source = MemSource::new(alloc, text, fails.source)?;
@@ -81,7 +87,7 @@ pub(crate) fn call_bench(
 }
 
 /// Whether an object was begun, and under this name.
-fn is_begun_as(begun: Option<&[u8]>, name: &[u8]) -> bool {
+pub(crate) fn is_begun_as(begun: Option<&[u8]>, name: &[u8]) -> bool {
     match begun {
         Some(begun) => begun == name,
         None => false,
@@ -133,15 +139,23 @@ fn empty_run(rt: HostRuntime) -> Result<(), Fail> {
 }
 
 /// Words that ask for nothing.
-const BAD_WORDS: [&[&str]; 9] = [
+const BAD_WORDS: [&[&str]; 17] = [
     &[],
     &["run"],
     &["run", "-x"],
     &["run", ""],
     &["check"],
     &["check", "-x"],
+    &["check", ""],
     &["check", "first.vcd", "second.vcd"],
     &["judge", "first.vcd"],
+    &["runs", "first.bench"],
+    &["ru", "first.bench"],
+    &["RUN", "first.bench"],
+    &["checks", "first.vcd"],
+    &["run", "first.bench", "-x"],
+    &["run", "first.bench", ""],
+    &["run", "-x", "first.vcd"],
     &["run", "first.bench", "first.vcd", "more"],
 ];
 
@@ -152,14 +166,29 @@ fn bad_words(rt: HostRuntime) -> Result<(), Fail> {
         assert_eq!(rt; ended.status, Status::BadWords, "{list:?}");
         assert_eq!(rt; ended.source.calls(), 0);
     }
-    let long = "x".repeat(rt.alloc(), 4_097)?;
-    let ended = call_bench(
-        rt.alloc(),
-        &["run", long.as_str()],
-        FIRST.as_bytes(),
-        NO_FAILS,
-    )?;
-    assert_eq!(rt; ended.status, Status::BadWords);
+    Ok(())
+}
+
+/// A name has at most 4,096 bytes, and a dash only behind its first.
+#[test]
+fn names_of_files(rt: HostRuntime) -> Result<(), Fail> {
+    let longest = "x".repeat(rt.alloc(), 4_096)?;
+    let longer = "x".repeat(rt.alloc(), 4_097)?;
+    let names = [
+        ("x-", Status::Done),
+        (longest.as_str(), Status::Done),
+        (longer.as_str(), Status::BadWords),
+    ];
+    for (name, status) in names {
+        let read = call_bench(rt.alloc(), &["run", name], FIRST.as_bytes(), NO_FAILS)?;
+        assert_eq!(rt; read.status, status);
+        let written = call_bench(rt.alloc(), &["run", "b", name], FIRST.as_bytes(), NO_FAILS)?;
+        assert_eq!(rt; written.status, status);
+        if status == Status::Done {
+            assert!(rt; is_begun_as(read.source.begun_as(), name.as_bytes()));
+            assert!(rt; is_begun_as(written.dump.begun_as(), name.as_bytes()));
+        }
+    }
     Ok(())
 }
 
@@ -174,15 +203,12 @@ fn words_keep_their_order(rt: HostRuntime) -> Result<(), Fail> {
 }
 
 #[test]
-fn read_fault_and_too_long(rt: HostRuntime) -> Result<(), Fail> {
-    let fails = Fails {
-        source: &[1],
-        ..NO_FAILS
-    };
-    let faulty = call_bench(rt.alloc(), &NAMED, FIRST.as_bytes(), fails)?;
-    assert_eq!(rt; faulty.status, Status::ReadFault);
-    let long = vec![in rt.alloc(); b'\n'; 4_194_305]?;
-    let longer = call_bench(rt.alloc(), &NAMED, &long, NO_FAILS)?;
+fn longest_bench_file(rt: HostRuntime) -> Result<(), Fail> {
+    let mut text = vec![in rt.alloc(); b'\n'; 4_194_304]?;
+    let longest = call_bench(rt.alloc(), &NAMED, &text, NO_FAILS)?;
+    assert_eq!(rt; longest.status, bad_bench(1, Cause::FirstLine));
+    text.push(b'\n')?;
+    let longer = call_bench(rt.alloc(), &NAMED, &text, NO_FAILS)?;
     assert_eq!(rt; longer.status, Status::TooLong);
     assert_eq!(rt; longer.out.calls(), 0);
     Ok(())
@@ -197,37 +223,15 @@ fn bad_first_line_and_what_is_not_built(rt: HostRuntime) -> Result<(), Fail> {
     ];
     for (text, line, cause) in cases {
         let ended = call_bench(rt.alloc(), &NAMED, text.as_bytes(), NO_FAILS)?;
-        assert_eq!(rt; ended.status, Status::BadBench(ScriptFault { line, cause }));
+        assert_eq!(rt; ended.status, bad_bench(line, cause));
         assert_eq!(rt; ended.out.calls(), 0);
     }
     Ok(())
 }
 
-#[test]
-fn write_fault(rt: HostRuntime) -> Result<(), Fail> {
-    let fails = Fails {
-        out: &[1],
-        ..NO_FAILS
-    };
-    let ended = call_bench(rt.alloc(), &NAMED, FIRST.as_bytes(), fails)?;
-    assert_eq!(rt; ended.status, Status::WriteFault);
-    assert_eq!(rt; ended.out.holds(), b"11 0 0 ld 1 40 = 7\n".as_slice());
-    assert_eq!(rt; ended.dump.calls(), 0);
-    Ok(())
-}
-
-#[test]
-fn dump_fault(rt: HostRuntime) -> Result<(), Fail> {
-    let fails = Fails {
-        dump: &[3],
-        ..NO_FAILS
-    };
-    let ended = call_bench(rt.alloc(), &NAMED, FIRST.as_bytes(), fails)?;
-    assert_eq!(rt; ended.status, Status::DumpFault);
-    assert_eq!(rt; ended.out.holds(), FIRST_LOG.as_bytes());
-    let start = joined(rt.alloc(), &[HEAD, "0\"\n", TAIL, "#5\n1!\n"])?;
-    assert_eq!(rt; ended.dump.holds(), start.as_slice());
-    Ok(())
+/// The status of a bench file with this first fault.
+fn bad_bench(line: u32, cause: Cause) -> Status {
+    Status::BadBench(ScriptFault { line, cause })
 }
 
 /// The status of a dump with this first fault.
@@ -237,22 +241,13 @@ fn bad_dump(place: u64, cause: VcdCause) -> Status {
 
 #[test]
 fn exit_codes_and_printed_lines(rt: HostRuntime) {
-    let bad = Status::BadBench(ScriptFault {
-        line: 7,
-        cause: Cause::Align,
-    });
     let rejected = Status::Rejected(Broken { clock: 4, rule: 2 });
-    let cut = bad_dump(11, VcdCause::Cut);
-    let missing = bad_dump(0, VcdCause::Missing(0));
-    let no_line = bad_dump(0, VcdCause::Missing(20));
     let table = [
         (Status::Done, 0, ""),
         (rejected, 1, "rejected clock=4 rule=2"),
         (Status::BadWords, 2, "bad words"),
-        (bad, 3, "bench line 7: Align"),
-        (cut, 4, "dump byte 11: Cut"),
-        (missing, 4, "dump byte 0: Missing BCLK"),
-        (no_line, 4, "dump byte 0: Missing 20"),
+        (bad_bench(7, Cause::Align), 3, "bench line 7: Align"),
+        (bad_dump(11, VcdCause::Cut), 4, "dump byte 11: Cut"),
         (Status::ReadFault, 5, "read fault"),
         (Status::WriteFault, 6, "write fault"),
         (Status::DumpFault, 7, "dump fault"),
@@ -261,6 +256,60 @@ fn exit_codes_and_printed_lines(rt: HostRuntime) {
     ];
     for (status, exit, text) in table {
         assert_eq!(rt; code(&status), exit);
+        assert_eq!(rt; status_line(&status).as_slice(), text.as_bytes());
+    }
+}
+
+#[test]
+fn printed_causes(rt: HostRuntime) {
+    let of_benches = [
+        (bad_bench(1, Cause::FirstLine), "bench line 1: FirstLine"),
+        (bad_bench(2, Cause::Word), "bench line 2: Word"),
+        (bad_bench(3, Cause::Number), "bench line 3: Number"),
+        (bad_bench(4, Cause::Range), "bench line 4: Range"),
+        (bad_bench(5, Cause::Outside), "bench line 5: Outside"),
+        (
+            bad_bench(6, Cause::LockConflict),
+            "bench line 6: LockConflict",
+        ),
+        (bad_bench(8, Cause::LockSize), "bench line 8: LockSize"),
+        (bad_bench(9, Cause::Missing), "bench line 9: Missing"),
+        (bad_bench(10, Cause::After), "bench line 10: After"),
+        (
+            bad_bench(4_194_305, Cause::Unbuilt),
+            "bench line 4194305: Unbuilt",
+        ),
+    ];
+    for (status, text) in of_benches {
+        assert_eq!(rt; status_line(&status).as_slice(), text.as_bytes());
+    }
+    let of_dumps = [
+        (bad_dump(0, VcdCause::Token), "dump byte 0: Token"),
+        (bad_dump(1, VcdCause::Header), "dump byte 1: Header"),
+        (bad_dump(2, VcdCause::Code), "dump byte 2: Code"),
+        (bad_dump(3, VcdCause::Width), "dump byte 3: Width"),
+        (
+            bad_dump(1_099_511_627_775, VcdCause::TimeBack),
+            "dump byte 1099511627775: TimeBack",
+        ),
+        (
+            bad_dump(0, VcdCause::Missing(0)),
+            "dump byte 0: Missing BCLK",
+        ),
+        (
+            bad_dump(5, VcdCause::Missing(8)),
+            "dump byte 5: Missing ADS_n",
+        ),
+        (
+            bad_dump(6, VcdCause::Missing(19)),
+            "dump byte 6: Missing D_n",
+        ),
+        (
+            bad_dump(0, VcdCause::Missing(20)),
+            "dump byte 0: Missing 20",
+        ),
+    ];
+    for (status, text) in of_dumps {
         assert_eq!(rt; status_line(&status).as_slice(), text.as_bytes());
     }
 }

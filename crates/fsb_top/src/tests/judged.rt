@@ -2,7 +2,7 @@
 ghost use Rattle.std.specs.Prelude.{IsTrue};
 ghost use Rattle.fsb_signal.specs.Samples.{is_known};
 
-use super::{Ended, FIRST, Fails, NAMED, NO_FAILS, call_bench, joined};
+use super::{CHECK, Ended, FIRST, NAMED, NO_FAILS, call_bench, joined};
 use crate::Status;
 use fsb_io::{MemSink, Memory};
 use fsb_rules::Broken;
@@ -15,9 +15,6 @@ use vcd_dumps::{
 };
 use vcd_read::{VcdCause, VcdFault};
 use vcd_write::put_dump;
-
-/// A command line that names a dump.
-const CHECK: [&str; 2] = ["check", "first.vcd"];
 
 /// The control lines, the REQ word and the address word of a clock.
 type Clock = (u32, u64, u64);
@@ -201,28 +198,5 @@ fn cut_and_missing(rt: HostRuntime) -> Result<(), Fail> {
         assert_eq!(rt; ended.status, Status::BadDump(VcdFault { place, cause }));
         assert_eq!(rt; ended.out.calls(), 0);
     }
-    Ok(())
-}
-
-#[test]
-fn faults_of_a_check(rt: HostRuntime) -> Result<(), Fail> {
-    // The dump has a fault at its first byte; the source fails when the end is looked for, and that is told.
-    let source = Fails {
-        source: &[2],
-        ..NO_FAILS
-    };
-    let faulty = call_bench(rt.alloc(), &CHECK, b"0a", source)?;
-    assert_eq!(rt; faulty.status, Status::ReadFault);
-    let out = Fails {
-        out: &[0],
-        ..NO_FAILS
-    };
-    let dump = joined(
-        rt.alloc(),
-        &[SIMULATOR_HEAD, SIMULATOR_START, UNKNOWN_AFTER_FALL],
-    )?;
-    let unwritten = call_bench(rt.alloc(), &CHECK, &dump, out)?;
-    assert_eq!(rt; unwritten.status, Status::WriteFault);
-    assert_eq!(rt; unwritten.out.holds(), b"".as_slice());
     Ok(())
 }
