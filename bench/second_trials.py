@@ -63,27 +63,35 @@ class Traffic:
         def some(*values):
             return chance.choice(values)
         self.chance, self.forgotten, self.forgets = chance, forgotten, some(0.03, 0.3, 0.9)
+        self.case = some(1, 2, 3)  # which case of a rule that has some
         self.agents = chance.sample(SYMMETRIC, some(1, 2, 2, 3, 4))
         self.asks, self.begins, self.ids = some(0.05, 0.3, 0.7), some(0.6, 1), some(4, 5, 16)
         self.blocks, self.locks, self.cancels = some(0, 0.15), some(0, 0.3), some(0, 0.3)
         self.stalls, self.hits, self.defers, self.fails = some(0, 0.4), some(0, 0.4), some(0, 0.5), some(0, 0.2)
         self.responds, self.chunks, self.noise = some(0.02, 0.5, 1), some(0.5, 1), some(0, 0.3)
+        self.replies = some(0.05, 0.5)
         self.kinds = some(('Read', 'Invalidate'), ('Read', 'Invalidate', 'WriteBack'))
         self.past, self.samples, self.requests, self.responses = [], [], [], []
         self.last, self.turn, self.snooped, self.second = None, 0, -9, None
         # A rule whose breach needs much to have come before is given the traffic for it.
         if forgotten == 4:
-            self.agents, self.asks, self.cancels, self.responds = SYMMETRIC, 0.7, some(0, 0.2), 0.02
+            self.agents, self.asks, self.cancels, self.responds = SYMMETRIC, 0.7, some(0, 0.4), 0.02
         if forgotten in (7, 12, 14, 18):
             self.asks, self.defers = 0.7, 0.7
+        if forgotten in (3, 15):
+            self.asks, self.kinds = 0.7, some(('WriteBack',), ('Read', 'Invalidate'))
+        if forgotten == 18 and self.case == 2:
+            self.cancels = some(0, 0.5)
+        if forgotten == 18 and self.case == 3:
+            self.ids, self.responds = some(5, 16), some(0.02, 0.2)
         for c in range(chance.randrange(5, 110)):
             self.drive(c)
 
     def happens(self, probability):
         return self.chance.random() < probability
 
-    def keeps(self, rule):
-        return rule != self.forgotten or not self.happens(self.forgets)
+    def keeps(self, rule, case=None):
+        return rule != self.forgotten or case not in (None, self.case) or not self.happens(self.forgets)
 
     def had(self, line, c):
         return c >= 0 and line in self.past[c]
@@ -110,8 +118,9 @@ class Traffic:
             elif self.had(line, c - 1):
                 is_asked = self.keeps(8)
             elif agent == PRIORITY:
-                awaiting = self.to_be_replied() if self.forgotten == 18 else [r for r in self.requests if r.awaits_reply(c)]
-                is_asked = self.happens(0.4 if awaiting else 0.003)
+                awaiting = [r for r in self.requests if r.awaits_reply(c)]
+                is_lax = (self.forgotten, self.case) == (18, 1)
+                is_asked = self.happens(self.replies if awaiting or is_lax and self.to_be_replied() else 0.003)
             else:
                 is_asked = agent in self.agents and self.happens(self.asks)
             if is_asked:
@@ -140,7 +149,7 @@ class Traffic:
             return
         is_own = self.keeps(7)
         is_reply = winner == PRIORITY if is_own else self.happens(0.3)
-        request = self.reply(c) if is_reply else self.request(c, winner, is_own and winner in SYMMETRIC)
+        request = self.reply(c, is_own) if is_reply else self.request(c, winner, is_own and winner in SYMMETRIC)
         if request is None:
             return
         self.lines.add('ADS')
@@ -148,10 +157,11 @@ class Traffic:
         self.last, self.turn = winner, self.turn if winner not in SYMMETRIC else winner + 1
         self.put_words(request)
 
-    def reply(self, c):
+    def reply(self, c, is_own):
         awaiting = [r for r in self.requests if r.awaits_reply(c)]
-        if not self.keeps(18):
-            awaiting = self.to_be_replied() or self.requests
+        if not is_own or not self.keeps(18, 1):
+            lax = self.to_be_replied() or self.requests
+            awaiting = self.happens(0.5) and [r for r in lax if r.reply is not None] or lax
         if not awaiting:
             return None
         deferred = self.chance.choice(awaiting)
@@ -164,13 +174,13 @@ class Traffic:
 
     def request(self, c, winner, is_own):
         outstanding = [r for r in self.requests if r.is_outstanding(c)]
-        if sum(r.agent == winner for r in outstanding) >= 4 and self.keeps(18):
+        if sum(r.agent == winner for r in outstanding) >= 4 and self.keeps(18, 3):
             return None
         kind = self.chance.choice(self.kinds)
         agent = winner if is_own else self.chance.choice([8 + number for number in self.agents] + list(range(8)))
         used = [r.id for r in self.requests if r.agent == agent][-5:]
         ids = used if used and self.happens(0.4) else [16 * agent + number for number in range(self.ids)]
-        free = [id for id in ids if all(r.id != id for r in outstanding)] if self.keeps(18) else ids
+        free = [id for id in ids if all(r.id != id for r in outstanding)] if self.keeps(18, 2) else used or ids
         return Request(c, winner, kind, self.chance.choice(free), kind != 'WriteBack' and self.happens(0.5)) if free else None
 
     def put_words(self, request):
@@ -183,9 +193,9 @@ class Traffic:
         words = [('REQ_n', first[0]), ('A_n', first[1]), ('REQ_n', second[0]), ('A_n', second[1])]
         words = [[name, inverted(name, value)] for name, value in words]
         if not self.keeps(3):
-            spoiled = self.chance.choice(words)
+            spoiled = self.chance.choice(words + words[1::2])
             low = self.chance.choice((2, len(spoiled[1])))
-            spoiled[1] = spoiled[1][:-low] + changed(self.chance, spoiled[1][-low:])
+            spoiled[1] = spoiled[1][:-low] + changed(self.chance, spoiled[1][-low:], '0011x')
         self.words.update(words[:2])
         self.second = dict(words[2:])
 
@@ -222,17 +232,18 @@ class Traffic:
         r = next(iter(self.live()[len(self.responses):]), None)
         may_come = r is not None and r.has_come(r.snoop_end, c, 2) and (
             not self.responses or r.has_come(self.responses[-1].end, c, 1))
-        if r is not None and may_come and r.takes() and r.ready is None and self.happens(0.5):
+        if may_come and r.takes() and r.ready is None and self.happens(0.5):
             self.lines.add('TRDY')
             r.ready = c
-        elif (r is not None and r.takes() and r.snoop_end is not None or self.happens(0.1)) and not self.keeps(15):
+        elif r is not None and r.takes() and (r.snoop_end or self.happens(0.1)) and not self.keeps(15, 2 if r.ready else 1):
             self.lines.add('TRDY')
         is_early = r is not None and not may_come and (r.snoop_end is not None or self.happens(0.1)) and not self.keeps(13)
         if not (may_come or is_early) or not self.happens(self.responds):
             return
         if self.happens(self.fails):
             r.code = HARD_FAILURE
-        elif r.takes() and not r.has_come(r.ready, c, 2) and (r.ready is None and self.happens(0.8) or self.keeps(15)):
+        elif r.takes() and not r.has_come(r.ready, c, 2) and (
+                r.ready in (None, c) and self.happens(0.9) or self.keeps(15, 3)):
             return
         else:
             r.code = self.code_of(r) if self.keeps(14) else self.chance.randrange(1, 8)
