@@ -1,5 +1,5 @@
 -- A symmetric winner is one of four agents, and a request of its own has one of its IDs.
-use Rattle.std.proofs.Common.{ℕ, zero, suc, ◌+◌, ◌-◌, ◌/◌, ◌%◌, ◌<◌, ◌≡◌, Bool, true, false, cond, nat_lt, Option, Some, None, lit<, refl, sym, ap, ◌∙◌, arith}
+use Rattle.std.proofs.Common.{ℕ, zero, suc, ◌+◌, ◌-◌, ◌/◌, ◌%◌, ◌<◌, ◌≡◌, Bool, true, false, nat_lt, Option, Some, None, lit<, refl, sym, ap, ◌∙◌, arith}
 use Rattle.std.specs.Option.{option_map}
 use Rattle.std.proofs.Math.Nat.{mod-lt}
 use Rattle.std.proofs.lemmas.Bool.{eqb-true}
@@ -12,9 +12,8 @@ use Rattle.fsb_encode.specs.declared.request.Request.{Request}
 use Rattle.fsb_trace.specs.declared.who.Who.{Who}
 use Rattle.fsb_trace.specs.declared.who.Who.TheVariants.{Symmetric, Priority}
 use Rattle.fsb_trace.specs.At.{Trace}
-use Rattle.fsb_trace.specs.Winner.{Turns, agent_in_order, asks_in_order, first_asking, last_if_asking, winner_by, winner_after, turns_before, winner_at, then_begun, no_turns, request_line_of, is_agent, is_same_agent, first_in_order}
-use Rattle.fsb_trace.specs.Requests.{is_reply, is_reply_kind}
-use Rattle.fsb_trace.specs.Rules.{is_own_id, is_identified}
+use Rattle.fsb_trace.specs.Winner.{Turns, agent_in_order, asks_in_order, first_asking, last_if_asking, winner_by, winner_after, turns_before, winner_at, then_begun, no_turns, request_line_of, is_same_agent, first_in_order}
+use Rattle.fsb_trace.specs.Rules.{is_own_id}
 
 -- there is no such agent, or it is the priority agent, or one of the four
 abbrev pub IsOneOfFour : Option Who → Type 0
@@ -102,17 +101,11 @@ unfolding winner_at
 winner_four w c = after_cases w c (turns_before w c) (nat_lt c 2) refl (turns_four w c)
 
 -- the agent of a request with an ID of its own
-pub own_agent : (winner : Option Who) (r : Request) → is_own_id winner r ≡ true → winner ≡ Some (Symmetric (r.did / 16))
+own_cases : (winner : Option Who) (r : Request) → is_own_id winner r ≡ true → winner ≡ Some (Symmetric (r.did / 16))
 unfolding is_own_id is_some_and is_same_agent
-own_agent None r t = absurd (let no : ⊥ = cc in no)
-own_agent (Some Priority) r t = absurd (let no : ⊥ = cc in no)
-own_agent (Some (Symmetric a)) r t = ap (λ n. Some (Symmetric n)) (sym (eqb-true (r.did / 16) a t))
+own_cases None r t = absurd (let no : ⊥ = cc in no)
+own_cases (Some Priority) r t = absurd (let no : ⊥ = cc in no)
+own_cases (Some (Symmetric a)) r t = ap (λ n. Some (Symmetric n)) (sym (eqb-true (r.did / 16) a t))
 
-own_part : (winner : Option Who) (s : Request) (b : Bool) → b ≡ false → cond b (is_agent winner Priority) (is_own_id winner s) ≡ true → is_own_id winner s ≡ true
-own_part winner s false e t = t
-own_part winner s true e t = absurd (let no : ⊥ = cc in no)
-
--- a request that is no reply has an ID of its own
-pub own_id : (winner : Option Who) (s : Request) → is_identified winner (Some s) ≡ true → is_reply_kind s.kind ≡ false → is_own_id winner s ≡ true
-unfolding is_identified is_reply is_some_and
-own_id winner s t f = own_part winner s (is_reply_kind s.kind) f t
+pub own_agent : (winner : Option Who) (r : Request) → is_own_id winner r ≡ true → winner ≡ Some (Symmetric (r.did / 16))
+own_agent = own_cases

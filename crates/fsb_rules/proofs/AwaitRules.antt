@@ -28,8 +28,6 @@ use Rattle.fsb_rules.specs.OpenTests.{awaits, has_id, is_of_agent, is_wrong_amon
 use Rattle.fsb_rules.specs.Outstanding.{open_from, open_at, open_of}
 use Rattle.fsb_rules.proofs.OpenLists.{list_any-all}
 use Rattle.fsb_rules.proofs.Endings.{number_of}
-use Rattle.fsb_rules.proofs.OpenFollows.{reply_is}
-use Rattle.fsb_rules.proofs.QueueFacts.{request_with}
 use Rattle.fsb_rules.proofs.BeginRules.{Begun, is_open, open_ads, open_request, open_list, taken_id, of_agent}
 
 same_deferred : (u v : Trace) (i : ℕ) → BeginsAfter u v → i < response_count u → is_deferred v i ≡ is_deferred u i
@@ -73,6 +71,10 @@ open_awaits u i p t o s r e d c n f = rw (e, d, c, n, f) refl
 same_id : (s r : Request) (a b : Option Request) → a ≡ Some s → b ≡ Some r → have_same_id a b ≡ nat_eq s.did r.did
 unfolding have_same_id is_some_and
 same_id s r a b e f = rw (e, f) refl
+
+request_with : (w : Trace) (i p : ℕ) (o : Option Request) → live_clock_of w i ≡ Some p → request_at w p ≡ o → live_request_of w i ≡ o
+unfolding live_request_of
+request_with w i p o e f = rw (e, f) refl
 
 no_end_before : (n : ℕ) (w : Trace) (i : ℕ) → is_deferred w i ≡ true → reply_clock_of w i ≡ None → is_before (last_clock_of w i) n ≡ false
 unfolding is_before is_some_and
@@ -186,6 +188,10 @@ awaited u h v r b =
     (λ i l t. awaiting_open u h v r i b t) (λ p l t. open_awaiting u h v r p b l t)
 
 -- 18 deferred IDs and outstanding requests
+reply_is : (r : Request) → is_reply (Some r) ≡ is_reply_kind r.kind
+unfolding is_reply is_some_and
+reply_is r = refl
+
 wrong_cases : (u h v : Trace) (r : Request) (t : Bool) → Begun u h v r → is_reply_kind r.kind ≡ t → cond t (not (list_any (awaits r.did) (open_of u))) (list_any (has_id r.did) (open_of u) || nat_le 4 (count_by (is_of_agent (r.did / 16)) (open_of u))) ≡ cond t (not (any_where (awaits_reply v (length u)) (live_count v))) (any_where (is_id_taken_by v (length u)) (length u) || nat_le 4 (count_where (is_outstanding_of_winner v (length u)) (length u)))
 wrong_cases u h v r true b e = ap not (sym (awaited u h v r b))
 wrong_cases u h v r false b e = rw (taken_id u h v r b, of_agent u h v r b e) refl

@@ -1,5 +1,6 @@
 -- The rule of data, with a new sample.
-use Rattle.std.proofs.Common.{ℕ, ◌+◌, ◌≡◌, Bool, true, false, cond, not, nat_lt, Option, Some, None, is_some, is_none, length, refl, sym, ap, ◌∙◌}
+use Rattle.std.proofs.Common.{ℕ, zero, suc, ◌+◌, ◌≡◌, Bool, true, false, cond, not, nat_lt, Option, Some, None, is_some, is_none, length, refl, sym, ap, ◌∙◌, arith}
+use Rattle.std.specs.Option.{option_map}
 use Rattle.fsb_signal.specs.declared.lines.TheConstants.Lines.{DRDY, DBSY}
 use Rattle.fsb_signal.specs.declared.sample.Sample.{Sample}
 use Rattle.fsb_signal.specs.Samples.{has_line, response_of}
@@ -10,16 +11,23 @@ use Rattle.fsb_laws.specs.OneMore.{OneMore, responds}
 use Rattle.fsb_laws.specs.Orderly.{Orderly}
 use Rattle.fsb_laws.specs.Progress.{response_count, transfer_of, may_answer_next, chunk_step}
 use Rattle.fsb_laws.proofs.OneMoreFacts.{line_at-new}
+use Rattle.fsb_laws.proofs.ResponseSteps.{response_there, has_answer}
+use Rattle.fsb_laws.proofs.EndFacts.{transfer_parts}
 use Rattle.fsb_laws.proofs.TransferSteps.{transfer_of-kept, transfer_of-begun}
 use Rattle.fsb_laws.proofs.AnswerSteps.{answered_below}
 use Rattle.fsb_rules.specs.declared.asked.Asked.{Asked}
 use Rattle.fsb_rules.specs.declared.asked.Moving.{Moving}
 use Rattle.fsb_rules.specs.declared.checker.Checker.{Checker}
+use Rattle.fsb_rules.specs.Queue.{moving_with, moving_after, moving_of}
 use Rattle.fsb_rules.specs.Tests.{moving_by, moved_by, after_chunk}
 use Rattle.fsb_rules.specs.Steps.{is_data_wrong_by}
-use Rattle.fsb_rules.specs.Checker.{Follows}
-use Rattle.fsb_rules.proofs.QueueFacts.{chunks_in, chunks_kept, has_next, told_of-told}
+use Rattle.fsb_rules.specs.Checker.{Follows, Decoded}
+use Rattle.fsb_rules.proofs.QueueFacts.{known_snooped, asked_of-known, has_next, told_of-told}
 use Rattle.fsb_rules.proofs.Transfers.{is_transferring-end, is_transferring-begun, is_transferring-kept}
+
+-- the chunks of a transfer
+abbrev pub chunks_in : Option Moving → Option ℕ
+chunks_in moving = option_map (λ m. m.chunks) moving
 
 some_chunks : (m : Option Moving) → is_some (chunks_in m) ≡ is_some m
 some_chunks None = refl
@@ -34,6 +42,21 @@ pub chunks_after : (m : Option Moving) (x : Sample) → chunks_in (after_chunk m
 unfolding after_chunk moved_by chunk_step
 chunks_after None x = refl
 chunks_after (Some a) x = one_chunk (nat_lt (a.chunks + cond (has_line x DRDY) 1 0) 4) a.asked (a.chunks + cond (has_line x DRDY) 1 0)
+
+-- the transfer that is kept is the trace's
+kept_cases : (h : Trace) (n : ℕ) (t : Option ℕ) → Orderly h → Decoded h → response_count h ≡ n → transfer_of h ≡ t → chunks_in (moving_after h n) ≡ t
+unfolding moving_after moving_with
+kept_cases h zero None o d e f = refl
+kept_cases h zero (Some k) o d e f = let p = transfer_parts h k f in absurd (omega (arith, p.1))
+kept_cases h (suc i) None o d e f = rw f refl
+kept_cases h (suc i) (Some k) o d e f =
+    let p = response_there h i (omega arith) in
+    let a = has_answer h p.0 i (o.timely i p.0 p.1) in
+    rw (f, asked_of-known h i (known_snooped h i a.snoop d a.is_snoop)) refl
+
+chunks_kept : (h : Trace) → Orderly h → Decoded h → chunks_in (moving_of h) ≡ transfer_of h
+unfolding moving_of
+chunks_kept h o d = kept_cases h (response_count h) (transfer_of h) o d refl refl
 
 -- the transfer that the sample begins
 pub moving_begun : (k : Checker) (h : Trace) (x : Sample) (f : Follows k h) (may : may_answer_next h ≡ true) → responds x ≡ true → moving_by k.queue (length h) x ≡ cond (does_move (told_by h (response_count h) (response_of x))) (Some (record { asked = (has_next k.queue h f.queue f.orderly f.decoded may).next.asked; chunks = 0 })) None

@@ -32,7 +32,6 @@ use Rattle.fsb_rules.specs.Tests.{ended_by}
 use Rattle.fsb_rules.specs.OpenTests.{reply_by, reply_after, open_with, open_after}
 use Rattle.fsb_rules.specs.Outstanding.{open_from}
 use Rattle.fsb_rules.proofs.Endings.{NoneEnds, EndsAlone, SaysEnded, says_ended, ends_at-none, ends_at-some, number_of}
-use Rattle.fsb_rules.proofs.QueueFacts.{request_with}
 use Rattle.fsb_rules.proofs.Goes.{Goes}
 use Rattle.fsb_rules.proofs.OpenGoes.{IsOpen, kept_if, happens, happens_cancelled, happens_ended, happens_begun, live_still, number_same, deferred_none, deferred_some, open_deferred}
 
@@ -40,7 +39,7 @@ use Rattle.fsb_rules.proofs.OpenGoes.{IsOpen, kept_if, happens, happens_cancelle
 abbrev pub deferred_open : Trace → ℕ → ℕ → Request → Open
 deferred_open w i p r = record { clock = p; did = r.did; deferred = response_clock_of w i; reply = reply_clock_of w i }
 
-pub eq_sym : (a b : ℕ) → nat_eq a b ≡ nat_eq b a
+eq_sym : (a b : ℕ) → nat_eq a b ≡ nat_eq b a
 eq_sym a b = elim (cases_eq a b) [ inl e ↦ eq-eqb a b e ∙ sym (eq-eqb b a (sym e)) | inr n ↦ ne_eqb a b n ∙ sym (ne_eqb b a (λ e. n (sym e))) ]
 
 -- the reply that begins at the last clock
@@ -95,11 +94,15 @@ pub record IsOpenDeferred (k : Checker) (h : Trace) (x : Sample) (v : Trace) (b 
 answered : (k : Checker) (h : Trace) (x : Sample) (v : Trace) (b : Option Asked) (p : ℕ) (r : Request) → IsOpenDeferred k h x v b p r → live_number_of h p < response_count h
 answered k h x v b p r o = let d = deferred_response h (live_number_of h p) o.deferred in response_counted h (live_number_of h p) d.0 d.1
 
+request_is : (w : Trace) (i p : ℕ) (r : Request) → live_clock_of w i ≡ Some p → request_at w p ≡ Some r → live_request_of w i ≡ Some r
+unfolding live_request_of
+request_is w i p r e f = rw (e, f) refl
+
 own_request : (k : Checker) (h : Trace) (x : Sample) (v : Trace) (b : Option Asked) (p : ℕ) (r : Request) → IsOpenDeferred k h x v b p r → live_request_of v (live_number_of h p) ≡ Some r
 own_request k h x v b p r o =
     let g = o.is_open.goes in
     live_request_of-old h x v (live_number_of h p) g.more g.follows.orderly (answered k h x v b p r o)
-    ∙ request_with h (live_number_of h p) p (Some r) (number_of h p (let e = o.is_open.early in omega arith) o.is_open.live) o.request
+    ∙ request_is h (live_number_of h p) p r (number_of h p (let e = o.is_open.early in omega arith) o.is_open.live) o.request
 
 reply_cases : (k : Checker) (h : Trace) (x : Sample) (v : Trace) (b : Option Asked) (p : ℕ) (r : Request) (o : IsOpenDeferred k h x v b p r) (old : Option ℕ) → reply_clock_of h (live_number_of h p) ≡ old → reply_after (happens k h x b) (deferred_open h (live_number_of h p) p r) ≡ elim old [ Some q ↦ cond (cancels x (length h) q) None (Some q) | None ↦ cond (is_live_reply_to v (live_number_of h p) (length h - 1)) (Some (length h - 1)) None ]
 reply_cases k h x v b p r o (Some q) e =

@@ -32,8 +32,8 @@ use Rattle.fsb_rules.specs.declared.checker.Checker.{Checker}
 use Rattle.fsb_rules.specs.Asked.{asked_from, asked_at, asked_of}
 use Rattle.fsb_rules.specs.Checker.{Follows}
 use Rattle.fsb_rules.specs.Tests.{told_of, moved_by, after_chunk, ended_at_once, ended_with_chunk, ended_by}
-use Rattle.fsb_rules.proofs.QueueFacts.{chunks_in, has_next, told_of-told}
-use Rattle.fsb_rules.proofs.DataRules.{chunks_going, chunks_now, moving_kept}
+use Rattle.fsb_rules.proofs.QueueFacts.{has_next, told_of-told}
+use Rattle.fsb_rules.proofs.DataRules.{chunks_in, chunks_going, chunks_now, moving_kept}
 use Rattle.fsb_rules.proofs.WaitingGoes.{next_asked, moving_parts, asked_same, snoop_below}
 use Rattle.fsb_rules.proofs.Goes.{Goes}
 

@@ -2,7 +2,7 @@
 use Rattle.std.proofs.Common.{ℕ, zero, suc, ◌+◌, ◌-◌, ◌<◌, ◌≤◌, ◌≡◌, Bool, true, false, cond, not, ◌&&◌, Option, Some, None, [], ◌++◌, length, refl, sym, ap, ◌∙◌, arith, inl, inr, subst}
 use Rattle.std.specs.Option.{option_and_then, option_to_list}
 use Rattle.std.specs.List.{filter_map}
-use Rattle.std.proofs.lemmas.Bool.{cases_Bool, and_left, and_right, le-leb, false_from_ne_true}
+use Rattle.std.proofs.lemmas.Bool.{cases_Bool, and_left, and_right, le-leb, lt-leb, false_from_ne_true}
 use Rattle.fsb_count.specs.Options.{is_some_and, is_before}
 use Rattle.fsb_count.specs.Clocks.{all_where}
 use Rattle.fsb_signal.specs.declared.lines.TheConstants.Lines.{ADS}
@@ -33,7 +33,6 @@ use Rattle.fsb_rules.proofs.Endings.{number_of}
 use Rattle.fsb_rules.proofs.Goes.{Goes}
 use Rattle.fsb_rules.proofs.OpenGoes.{IsOpen, kept_if, happens, happens_cancelled, cancelled_none, outstanding_is, open_plain, plain_open, plain_goes, number_same, live_still}
 use Rattle.fsb_rules.proofs.DeferredGoes.{deferred_goes}
-use Rattle.fsb_rules.proofs.Prefixes.{back_none}
 
 -- a request that is not live, or is a reply, is not outstanding
 dead_off : (w : Trace) (p : ℕ) → p < length w → is_live w p ≡ false → is_outstanding w (length w) p ≡ false
@@ -145,7 +144,7 @@ pub begun_plain : (q : ℕ) (r : Request) (t : Bool) → is_reply_kind r.kind �
 unfolding open_begun asked_from
 begun_plain q r t e = rw e refl
 
-pub reply_is : (r : Request) → is_reply (Some r) ≡ is_reply_kind r.kind
+reply_is : (r : Request) → is_reply (Some r) ≡ is_reply_kind r.kind
 unfolding is_reply is_some_and
 reply_is r = refl
 
@@ -193,12 +192,16 @@ none_of_none : (w : Trace) → filter_map (open_at w) (all_where (is_outstanding
 unfolding all_where
 none_of_none w = refl
 
+none_back : (h : Trace) → length h ≡ 0 → line_back ADS h (length h) 1 ≡ false
+unfolding line_back
+none_back h e = and_left _ _ (lt-leb 1 (length h) (omega arith))
+
 goes_cases : (k : Checker) (h : Trace) (x : Sample) (v : Trace) (b : Option Asked) (g : Goes k h x v b) (n : ℕ) → length h ≡ n → open_of v ≡ filter_map (open_after (happens k h x b)) (open_of h) ++ option_to_list (option_and_then (λ a. open_begun a) b)
 goes_cases k h x v b g zero e =
     let size = g.more.size in
     open_form v 0 (omega arith) ∙ none_of_none v
     ∙ sym (ap (λ xs. filter_map (open_after (happens k h x b)) xs ++ option_to_list (option_and_then (λ a. open_begun a) b)) (open_empty h e)
-    ∙ ap (λ o. option_to_list (option_and_then (λ a. open_begun a) o)) (g.unbegun (back_none ADS h e)))
+    ∙ ap (λ o. option_to_list (option_and_then (λ a. open_begun a) o)) (g.unbegun (none_back h e)))
 goes_cases k h x v b g (suc m) e =
     let size = g.more.size in
     let n : length h ≡ m + 1 = omega arith in

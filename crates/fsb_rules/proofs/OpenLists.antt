@@ -69,7 +69,7 @@ any_one test false o = refl
 any_one test true None = refl
 any_one test true (Some a) = or_false (test a)
 
-pub any_next : (p : ℕ → Bool) (n : ℕ) → any_where p (n + 1) ≡ (any_where p n || p n)
+any_next : (p : ℕ → Bool) (n : ℕ) → any_where p (n + 1) ≡ (any_where p n || p n)
 unfolding any_where
 any_next p n = rw add-one (either (any_where p n) (p n))
 

@@ -1,8 +1,7 @@
 -- The history before a request began.
-use Rattle.std.proofs.Common.{ℕ, ◌-◌, ◌<◌, ◌≡◌, true, false, length, take, sym, ap, ◌∙◌, arith, inl, inr}
-use Rattle.std.proofs.lemmas.Bool.{cases_lt, and_parts, and_left, leb-true, lt-leb, both_ways}
+use Rattle.std.proofs.Common.{ℕ, ◌-◌, ◌<◌, ◌≡◌, true, length, take, sym, ap, ◌∙◌, arith, inl, inr}
+use Rattle.std.proofs.lemmas.Bool.{cases_lt, and_parts, leb-true, both_ways}
 use Rattle.std.proofs.lemmas.List.{length-take}
-use Rattle.fsb_signal.specs.declared.lines.Lines.{Lines}
 use Rattle.fsb_signal.specs.declared.lines.TheConstants.Lines.{ADS}
 use Rattle.fsb_signal.specs.declared.sample.Sample.{Sample}
 use Rattle.fsb_signal.specs.Samples.{line_at}
@@ -60,10 +59,6 @@ has_before h l =
 pub back_some : (h : Trace) → line_back ADS h (length h) 1 ≡ true → (0 < length h) × (line_at ADS h (length h - 1) ≡ true)
 unfolding line_back
 back_some h t = let p = and_parts _ _ t in let l = leb-true 1 (length h) p.0 in (omega arith, p.1)
-
-pub back_none : (line : Lines) (h : Trace) → length h ≡ 0 → line_back line h (length h) 1 ≡ false
-unfolding line_back
-back_none line h e = and_left _ _ (lt-leb 1 (length h) (omega arith))
 
 pub begins_after : (h : Trace) (x : Sample) (v : Trace) (u : Trace) → OneMore h x v → Orderly h → Orderly v → line_back ADS h (length h) 1 ≡ true → HasBefore h u → BeginsAfter u v
 begins_after h x v u m o ov t b =

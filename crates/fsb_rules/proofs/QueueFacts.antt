@@ -1,6 +1,6 @@
 -- What a queue that follows a history tells of its requests.
 use Rattle.std.proofs.Common.{ℕ, zero, suc, ◌+◌, ◌-◌, ◌<◌, ◌≤◌, ◌≡◌, Bool, true, false, cond, ◌&&◌, nat_le, Option, Some, None, is_none, List, [], ◌∷◌, length, slice_get, refl, sym, ap, ◌∙◌, arith, inl, inr, subst, add-zero}
-use Rattle.std.specs.Option.{option_map, option_and_then}
+use Rattle.std.specs.Option.{option_and_then}
 use Rattle.std.proofs.lemmas.Bool.{cases_lt, and_left, lt-leb}
 use Rattle.fsb_count.specs.Options.{is_some_and, greater_of}
 use Rattle.fsb_count.specs.Clocks.{count_where, nth_where}
@@ -33,7 +33,7 @@ use Rattle.fsb_rules.specs.declared.queue.Queue.{Queue}
 use Rattle.fsb_rules.specs.Asked.{asked_from, asked_at, asked_of, snooped_with, snooped_of}
 use Rattle.fsb_rules.specs.Tests.{takes_by, is_code_by, kind_outcome, told_of, start_by, is_due_by, next_by}
 use Rattle.fsb_rules.specs.Window.{Window}
-use Rattle.fsb_rules.specs.Queue.{QueueStands, snoop_before, moving_with, moving_after, moving_of, known_count}
+use Rattle.fsb_rules.specs.Queue.{QueueStands, snoop_before, moving_after, moving_of, known_count}
 use Rattle.fsb_rules.specs.Checker.{Decoded}
 
 -- a live request that is decoded
@@ -196,36 +196,20 @@ told_with h i t q code r e f = rw (e, f, sym (kind_form q r)) refl
 pub told_of-told : (h : Trace) (i code : ℕ) (w : Snooped) → IsSnooped h i w → told_of w code ≡ told_by h i code
 told_of-told h i code w s = ap (λ a. told_of a code) s.same ∙ told_with h i s.clock s.known.clock code s.known.request (live_request_of-known h i s.known) s.is_clock
 
-pub request_with : (w : Trace) (i p : ℕ) (o : Option Request) → live_clock_of w i ≡ Some p → request_at w p ≡ o → live_request_of w i ≡ o
-unfolding live_request_of
-request_with w i p o e f = rw (e, f) refl
-
--- the chunks of a transfer
-abbrev pub chunks_in : Option Moving → Option ℕ
-chunks_in moving = option_map (λ m. m.chunks) moving
-
--- the transfer that is kept is the trace's
-kept_cases : (h : Trace) (n : ℕ) (t : Option ℕ) → Orderly h → Decoded h → response_count h ≡ n → transfer_of h ≡ t → chunks_in (moving_after h n) ≡ t
-unfolding moving_after moving_with
-kept_cases h zero None o d e f = refl
-kept_cases h zero (Some k) o d e f = let p = transfer_parts h k f in absurd (omega (arith, p.1))
-kept_cases h (suc i) None o d e f = rw f refl
-kept_cases h (suc i) (Some k) o d e f =
+-- whether data are on the way
+moving_cases : (h : Trace) (n : ℕ) (t : Option ℕ) → Orderly h → Decoded h → response_count h ≡ n → transfer_of h ≡ t → is_none (moving_after h n) ≡ is_none t
+unfolding moving_after
+moving_cases h zero None o d e f = refl
+moving_cases h zero (Some k) o d e f = let p = transfer_parts h k f in absurd (omega (arith, p.1))
+moving_cases h (suc i) None o d e f = rw f refl
+moving_cases h (suc i) (Some k) o d e f =
     let p = response_there h i (omega arith) in
     let a = has_answer h p.0 i (o.timely i p.0 p.1) in
     rw (f, asked_of-known h i (known_snooped h i a.snoop d a.is_snoop)) refl
 
-pub chunks_kept : (h : Trace) → Orderly h → Decoded h → chunks_in (moving_of h) ≡ transfer_of h
-unfolding moving_of
-chunks_kept h o d = kept_cases h (response_count h) (transfer_of h) o d refl refl
-
--- whether data are on the way
-no_chunks : (m : Option Moving) → is_none m ≡ is_none (chunks_in m)
-no_chunks None = refl
-no_chunks (Some a) = refl
-
 pub moving-transfer : (h : Trace) → Orderly h → Decoded h → is_none (moving_of h) ≡ is_none (transfer_of h)
-moving-transfer h o d = no_chunks (moving_of h) ∙ ap (λ t. is_none t) (chunks_kept h o d)
+unfolding moving_of
+moving-transfer h o d = moving_cases h (response_count h) (transfer_of h) o d refl refl
 
 -- the request that may respond
 abbrev pub next_among : List Snooped → Option Moving → ℕ → Option Snooped

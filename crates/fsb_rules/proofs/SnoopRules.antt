@@ -7,7 +7,7 @@ use Rattle.fsb_signal.specs.declared.lines.TheConstants.Lines.{HIT, HITM, DEFER}
 use Rattle.fsb_signal.specs.declared.sample.Sample.{Sample}
 use Rattle.fsb_signal.specs.Samples.{has_line}
 use Rattle.fsb_encode.specs.declared.request.Request.{Request}
-use Rattle.fsb_trace.specs.At.{Trace}
+use Rattle.fsb_trace.specs.At.{Trace, request_at}
 use Rattle.fsb_trace.specs.Requests.{live_count, live_clock_of, live_request_of, is_reply, is_write_back}
 use Rattle.fsb_trace.specs.Snoop.{snoop_end_of, snoop_start_of, is_every_second_from}
 use Rattle.fsb_trace.specs.Rules.{is_snoop_line_alone, is_result_unfit_for, is_snoop_result_unfit}
@@ -29,7 +29,7 @@ use Rattle.fsb_rules.specs.Window.{Window}
 use Rattle.fsb_rules.specs.Queue.{known_count}
 use Rattle.fsb_rules.specs.Steps.{is_snoop_line_alone_by, is_result_unfit_by}
 use Rattle.fsb_rules.specs.Checker.{Follows, Decoded}
-use Rattle.fsb_rules.proofs.QueueFacts.{IsKnown, is_known, request_with, not_known, asked_of-known, is_due_by-due}
+use Rattle.fsb_rules.proofs.QueueFacts.{IsKnown, is_known, not_known, asked_of-known, is_due_by-due}
 
 -- 11 snoop lines in snoop clocks
 pub rule_11 : (k : Checker) (h : Trace) (x : Sample) (v : Trace) → Follows k h → OneMore h x v → is_snoop_line_alone_by k (length h) x ≡ is_snoop_line_alone v (length h)
@@ -120,6 +120,10 @@ unfolding is_some_and
 none_form None x = refl
 none_form (Some a) x = refl
 
+request_with : (v : Trace) (i q : ℕ) (r : Request) → live_clock_of v i ≡ Some q → request_at v q ≡ Some r → live_request_of v i ≡ Some r
+unfolding live_request_of
+request_with v i q r e f = rw (e, f) refl
+
 -- only the next request can have its snoop end with the sample
 other_not : (h : Trace) (x : Sample) (v : Trace) (s i : ℕ) → OneMore h x v → Orderly h → SnoopsTo h s → (i ≡ s → ⊥) → is_at (snoop_end_of v i) (length h) ≡ false
 other_not h x v s i m o to other =
@@ -162,7 +166,7 @@ request_kept h x v s m o d to t k =
     let f = k.is_clock in
     let same : c.clock ≡ k.clock = cc in
     let clock : live_clock_of v s ≡ Some k.clock = c.is_clock ∙ ap (λ n. Some n) same in
-    request_with v s k.clock (Some k.request) clock (request_at-old h x v k.clock m k.early ∙ k.is_request)
+    request_with v s k.clock k.request clock (request_at-old h x v k.clock m k.early ∙ k.is_request)
 
 -- 12 snoop results of write-backs and replies
 unfit_cases : (k : Checker) (h : Trace) (x : Sample) (v : Trace) (f : Follows k h) (b : Bool) → OneMore h x v → ends_snoop_of h f.queue.snooped x ≡ b → is_some_and (slice_get k.queue.asking.items 0) (λ a. b && is_unfit_by a x) ≡ is_result_unfit_for v (length h) f.queue.snooped

@@ -1,7 +1,7 @@
 -- The rules of lines and of requests that begin, with a new sample.
-use Rattle.std.proofs.Common.{ℕ, ◌-◌, ◌<◌, ◌≡◌, Bool, true, false, cond, not, ◌&&◌, ◌||◌, nat_le, Option, Some, None, is_none, length, refl, sym, ap, ◌∙◌, arith, inl, inr}
+use Rattle.std.proofs.Common.{ℕ, ◌+◌, ◌-◌, ◌<◌, ◌≡◌, Bool, true, false, cond, not, ◌&&◌, ◌||◌, nat_le, Option, Some, None, is_none, length, refl, sym, ap, ◌∙◌, arith, inl, inr, add-one}
 use Rattle.std.specs.Option.{option_map}
-use Rattle.std.proofs.lemmas.Bool.{cases_lt, and_parts, and_right, le-leb}
+use Rattle.std.proofs.lemmas.Bool.{cases_lt, and_parts, and_left, and_right, leb-true, le-leb, lt-leb}
 use Rattle.fsb_count.specs.Options.{is_some_and}
 use Rattle.fsb_count.specs.Clocks.{any_where}
 use Rattle.fsb_signal.specs.declared.lines.Lines.{Lines}
@@ -28,8 +28,6 @@ use Rattle.fsb_rules.specs.Steps.{begun_by, is_too_soon_by, is_identified_by, is
 use Rattle.fsb_rules.specs.Checker.{Follows, beginner_of}
 use Rattle.fsb_rules.proofs.Lines.{is_among-back, line_back-new, request_by-new}
 use Rattle.fsb_rules.proofs.QueueLength.{queue_len-in_flight}
-use Rattle.fsb_rules.proofs.Prefixes.{back_some, back_none}
-use Rattle.fsb_rules.proofs.OpenLists.{any_next}
 
 -- lines of the last clocks
 pub first_back : (line : Lines) (k : Checker) (h : Trace) → Follows k h → is_among k.recent.first line ≡ line_back line h (length h) 1
@@ -53,11 +51,15 @@ rule_2 k h x v f m =
     rw (first_back ADS k h f, second_back ADS k h f, line_at-new ADS h x v m, line_back-new ADS h x v 1 m (omega arith), line_back-new ADS h x v 2 m (omega arith)) refl
 
 -- the request that began at the last clock
+back_some : (h : Trace) → line_back ADS h (length h) 1 ≡ true → 0 < length h
+unfolding line_back
+back_some h t = let l = leb-true 1 (length h) (and_parts _ _ t).0 in omega arith
+
 begun_cases : (k : Checker) (h : Trace) (x : Sample) (v : Trace) (b : Bool) → Follows k h → OneMore h x v → line_back ADS h (length h) 1 ≡ b → begun_by k (length h) x ≡ cond b (asked_at v (length h - 1)) None
 unfolding begun_by asked_at
 begun_cases k h x v true f m t =
     rw (first_back ADS k h f, t)
-    (ap (option_map (asked_from (length h - 1))) (ap (λ w. request_by w x) f.recent.words ∙ request_by-new h x v m (back_some h t).0))
+    (ap (option_map (asked_from (length h - 1))) (ap (λ w. request_by w x) f.recent.words ∙ request_by-new h x v m (back_some h t)))
 begun_cases k h x v false f m t = rw (first_back ADS k h f, t) refl
 
 pub begun-form : (k : Checker) (h : Trace) (x : Sample) (v : Trace) → Follows k h → OneMore h x v → begun_by k (length h) x ≡ cond (line_back ADS h (length h) 1) (asked_at v (length h - 1)) None
@@ -172,6 +174,10 @@ begins_by k h x v who false f m l t =
     let quiet : line_at ADS h (length h - 1) ≡ false = (let g : (true && line_at ADS h (length h - 1)) ≡ false = rw (le-leb 1 (length h) (omega arith)) at t in g) in
     rw (line_at-old ADS h x v (length h - 1) m (omega arith), quiet, beginner_none k h f t) (sym (no_agent who))
 
+back_none : (line : Lines) (h : Trace) → length h ≡ 0 → line_back line h (length h) 1 ≡ false
+unfolding line_back
+back_none line h e = and_left _ _ (lt-leb 1 (length h) (omega arith))
+
 asked_first : (k : Checker) (h : Trace) (x : Sample) (v : Trace) (who : Who) → Follows k h → OneMore h x v → length h ≡ 0 → is_asked_wrongly_by k x who ≡ is_asked_wrongly v (length h) who
 unfolding is_asked_wrongly_by is_asked_wrongly
 asked_first k h x v who f m e =
@@ -204,6 +210,14 @@ asked_wrongly k h x v who f m =
       | inl l ↦ asked_next k h x v who f m l
       | inr l ↦ asked_first k h x v who f m (omega arith)
     ]
+
+either : (b c : Bool) → elim b [ true ↦ true | false ↦ c ] ≡ (b || c)
+either true c = refl
+either false c = refl
+
+any_next : (p : ℕ → Bool) (n : ℕ) → any_where p (n + 1) ≡ (any_where p n || p n)
+unfolding any_where
+any_next p n = rw add-one (either (any_where p n) (p n))
 
 none_yet : (p : ℕ → Bool) → (any_where p 0 || p 0) ≡ p 0
 unfolding any_where

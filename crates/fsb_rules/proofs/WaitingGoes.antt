@@ -27,10 +27,10 @@ use Rattle.fsb_rules.specs.Window.{Window}
 use Rattle.fsb_rules.specs.Queue.{snoop_before, moving_after, moving_of, moving_with}
 use Rattle.fsb_rules.specs.Tests.{waiting_after, snooped_by, moving_by, moved_by, after_chunk, ready_after_by}
 use Rattle.fsb_rules.proofs.Windows.{window-push, window-same}
-use Rattle.fsb_rules.proofs.QueueFacts.{chunks_in, known_snooped, asked_of-known, snooped_of-form, IsSnooped, has_next}
+use Rattle.fsb_rules.proofs.QueueFacts.{known_snooped, asked_of-known, snooped_of-form, IsSnooped, has_next}
 use Rattle.fsb_rules.proofs.QueueSteps.{asked_kept}
 use Rattle.fsb_rules.proofs.QueueGoes.{snooped_known, drop_first, snooped_after, snooped_ends, snooped_not, snooped_there}
-use Rattle.fsb_rules.proofs.DataRules.{chunks_now, moving_begun, moving_kept}
+use Rattle.fsb_rules.proofs.DataRules.{chunks_in, chunks_now, moving_begun, moving_kept}
 use Rattle.fsb_rules.proofs.Goes.{Goes}
 
 -- what is kept of a request with its snoop end stays
