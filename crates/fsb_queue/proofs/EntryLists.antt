@@ -2,7 +2,7 @@
 use Rattle.std.proofs.Common.{ℕ, zero, suc, ◌+◌, ◌-◌, ◌<◌, ◌≤◌, ◌≡◌, true, false, nat_eq, Option, Some, None, List, [], ◌∷◌, ◌++◌, length, take, drop, refl, sym, ap, ◌∙◌, inl, inr, arith, is_some, ◌⊎◌}
 use Rattle.std.specs.List.{slice_get, slice_set}
 use Rattle.std.proofs.lemmas.Bool.{cases_Bool, ne_eqb}
-use Rattle.std.proofs.lemmas.List.{take_more, length-append, length-drop, length-take, append_assoc}
+use Rattle.std.proofs.lemmas.List.{take_more, length-append, length-drop, length-take, append_assoc, drop_all, take_all}
 use Rattle.std.proofs.lemmas.Option.{get_or_from_slice_get, slice_get_within}
 use Rattle.circular_buffer.specs.Buffer.{keep_last}
 use Rattle.fsb_trace.specs.declared.outcome.Outcome.{Outcome}
@@ -144,6 +144,10 @@ passed_kept number k n es items x o e l most h f g =
 -- there is a first one
 pub passed_there : (number k : ℕ) (es items : List Entry) → items ≡ passed number k es → k < length es → slice_get items 0 ≡ None → ⊥
 passed_there number k es items e l h = left_none es (without number (take k es)) k l (ap (λ ys. slice_get ys 0) (sym e) ∙ h)
+
+-- all were passed
+pub passed_all : (number k : ℕ) (es : List Entry) → length es ≤ k → passed number k es ≡ without number es
+passed_all number k es l = ap (λ r. r ++ without number (take k es)) (drop_all k es l) ∙ ap (without number) (take_all k es l)
 
 pub none_where : {X : Type 0} (o : Option X) → is_some o ≡ false → o ≡ None
 none_where None e = refl
