@@ -10,6 +10,7 @@ use Rattle.fsb_access.specs.declared.access.Setting.{Setting}
 use Rattle.fsb_access.specs.declared.item.Item.{Item}
 use Rattle.fsb_access.specs.declared.item.Item.TheVariants.{One, Locked, Idle}
 use Rattle.fsb_access.specs.Access.{accessed_line, is_lawful_access}
+use Rattle.fsb_hazard.specs.declared.line.HazardLine.{HazardLine}
 use Rattle.fsb_script.specs.declared.fault.Cause.{Cause}
 use Rattle.fsb_script.specs.declared.fault.Cause.TheVariants.{Range}
 use Rattle.fsb_script.specs.Bounds.{is_apart, is_lawful_item}
@@ -44,6 +45,10 @@ past_or false d e r h = inr h
 
 abbrev pub final_state : ℕ → ℕ → List Setting → List Item → List ℕ → Progress
 final_state clocks cache mem script lines = record (item_state clocks cache mem [] lines) { place = place_behind 1 1; scripts = script ∷ []; earlier = lines }
+
+no_hazard : (d : Progress) (h : HazardLine) (e : Progress) → add_hazard d h ≡ Ok e → ⊥
+unfolding add_hazard built is_built
+no_hazard d h e x = cc
 
 no_hazard_line : (d : Progress) (word rest : List ℕ) (e : Progress) → hazard_line d word rest ≡ Ok e → ⊥
 unfolding hazard_line transaction_line block_line add_hazard built is_built
