@@ -1,6 +1,37 @@
--- Bytes that lie side by side in a memory.
-use Rattle.std.proofs.Common.{◌≡◌, ℕ, zero, suc, ◌+◌, ◌<◌, ◌≤◌, List, ◌∷◌, length, get_or, take, drop, drop-cons, refl, arith, add-zero}
-use Rattle.fsb_access.specs.ByteMemory.{ByteMemory, bytes_at}
+use Rattle.std.proofs.Common.{◌≡◌, ℕ, zero, suc, ◌+◌, ◌-◌, ◌*◌, ◌/◌, ◌%◌, ◌^◌, ◌<◌, ◌≤◌, true, false, ◌&&◌, ◌⊎◌, List, [], ◌∷◌, sym, length, get_or, take, drop, drop-cons, refl, ◌∙◌, ap, ⊎_elim, inl, inr, arith, add-zero}
+use Rattle.std.proofs.lemmas.Bool.Decides.{nat_tests}
+use Rattle.std.proofs.Math.Nat.{pow-suc, div-div-eq-div-mul}
+use Rattle.std.specs.Prelude.{nat_le, nat_lt}
+use Rattle.fsb_access.specs.Access.{is_place}
+use Rattle.fsb_access.specs.ByteMemory.{ByteMemory, bytes_at, put_value, byte_of, value_of_bytes, value_at}
+
+-- as many bytes as said
+pub length-bytes_at : (memory : ByteMemory) (addr count : ℕ) → length (bytes_at memory addr count) ≡ count
+unfolding bytes_at
+length-bytes_at memory addr zero = refl
+length-bytes_at memory addr (suc count) = ap (λ (n : ℕ). suc n) (length-bytes_at memory (addr + 1) count)
+
+-- each of them is the memory's
+pub get_or-bytes_at : (memory : ByteMemory) (addr count k : ℕ) → k < count → get_or (bytes_at memory addr count) k 0 ≡ memory (addr + k)
+unfolding bytes_at
+get_or-bytes_at memory addr zero k below = absurd (omega arith)
+get_or-bytes_at memory addr (suc count) zero below = rw add-zero refl
+get_or-bytes_at memory addr (suc count) (suc k) below =
+    let next : addr + 1 + k ≡ addr + suc k = omega arith in
+    get_or-bytes_at memory (addr + 1) count k (omega arith) ∙ ap memory next
+
+-- memories that agree on some addresses have the same bytes there
+pub bytes_at-same :
+    (memory other : ByteMemory) (addr count : ℕ) → ((k : ℕ) → k < count → memory (addr + k) ≡ other (addr + k)) → bytes_at memory addr count ≡ bytes_at other addr count
+unfolding bytes_at
+bytes_at-same memory other addr zero same = refl
+bytes_at-same memory other addr (suc count) same =
+    let first : memory addr ≡ other addr = simp add-zero at (same 0 (omega arith)) in
+    let rest = bytes_at-same memory other (addr + 1) count (λ k h. moved k (same (suc k) (omega arith))) in
+    rw (first, rest) refl
+  where
+    moved : (k : ℕ) → memory (addr + suc k) ≡ other (addr + suc k) → memory (addr + 1 + k) ≡ other (addr + 1 + k)
+    moved k h = let next : addr + 1 + k ≡ addr + suc k = omega arith in rw next h
 
 -- bytes of a memory are those of a list that it has at these addresses
 pub bytes_at-is :
@@ -17,3 +48,70 @@ bytes_at-is memory bytes addr start (suc count) within same =
   where
     moved : (k : ℕ) → memory (addr + (k + 1)) ≡ get_or bytes (start + (k + 1)) 0 → memory (addr + 1 + k) ≡ get_or bytes (suc start + k) 0
     moved k h = let to : addr + 1 + k ≡ addr + (k + 1) = omega arith in let from : suc start + k ≡ start + (k + 1) = omega arith in rw (to, from) h
+
+-- bytes from within others are a part of them
+pub bytes_at-part :
+    (memory : ByteMemory) (addr count start size : ℕ) → start + size ≤ count →
+    bytes_at memory (addr + start) size ≡ take size (drop start (bytes_at memory addr count))
+bytes_at-part memory addr count start size within =
+    bytes_at-is memory (bytes_at memory addr count) (addr + start) start size (omega (arith, length-bytes_at memory addr count)) same
+  where
+    same : (k : ℕ) → k < size → memory (addr + start + k) ≡ get_or (bytes_at memory addr count) (start + k) 0
+    same k h =
+        let place : addr + start + k ≡ addr + (start + k) = omega arith in
+        ap memory place ∙ sym (get_or-bytes_at memory addr count (start + k) (omega arith))
+
+-- the number of some bytes has no more bytes
+pub value_of_bytes-below : (bytes : List ℕ) → ((i : ℕ) → get_or bytes i 0 < 256) → value_of_bytes bytes < 256 ^ length bytes
+value_of_bytes-below [] small = omega arith
+value_of_bytes-below (byte ∷ bytes) small =
+    omega (arith, small 0, value_of_bytes-below bytes (λ i. small (suc i)), pow-suc 256 (length bytes))
+
+-- a byte of a number that was put, and a byte beside it
+pub put_value-inside :
+    (memory : ByteMemory) (addr size value place : ℕ) → addr ≤ place → place < addr + size → put_value memory addr size value place ≡ byte_of value (place - addr)
+unfolding put_value
+put_value-inside memory addr size value place from to =
+    let within : (nat_le addr place && nat_lt place (addr + size)) ≡ true = grind (arith, nat_tests) in rw within refl
+
+pub put_value-outside :
+    (memory : ByteMemory) (addr size value place : ℕ) → (place < addr) ⊎ (addr + size ≤ place) → put_value memory addr size value place ≡ memory place
+unfolding put_value
+put_value-outside memory addr size value place beside =
+    let beyond : (nat_le addr place && nat_lt place (addr + size)) ≡ false = grind (arith, nat_tests) in rw beyond refl
+
+-- bytes beside a number that was put stay
+pub bytes_at-beside :
+    (memory : ByteMemory) (addr size value from count : ℕ) → (from + count ≤ addr) ⊎ (addr + size ≤ from) →
+    bytes_at (put_value memory addr size value) from count ≡ bytes_at memory from count
+bytes_at-beside memory addr size value from count beside =
+    bytes_at-same (put_value memory addr size value) memory from count (λ k h. put_value-outside memory addr size value (from + k) (⊎_elim (λ (before : from + count ≤ addr). inl (omega arith)) (λ (after : addr + size ≤ from). inr (omega arith)) beside))
+
+-- a memory that has a number's bytes at an address has the number there
+pub value_at-bytes :
+    (memory : ByteMemory) (addr size value : ℕ) → ((k : ℕ) → k < size → memory (addr + k) ≡ byte_of value k) → value < 256 ^ size → value_at memory addr size ≡ value
+unfolding bytes_at
+value_at-bytes memory addr zero value same below = omega arith
+value_at-bytes memory addr (suc size) value same below =
+    let first : memory addr ≡ value % 256 = simp add-zero at (same 0 (omega arith)) ∙ omega arith in
+    let rest = value_at-bytes memory (addr + 1) size (value / 256) (λ k h. moved k (same (suc k) (omega arith))) (omega (arith, pow-suc 256 size)) in
+    rw (first, rest) (omega arith)
+  where
+    moved : (k : ℕ) → memory (addr + suc k) ≡ byte_of value (suc k) → memory (addr + 1 + k) ≡ byte_of (value / 256) k
+    moved k h =
+        let next : addr + 1 + k ≡ addr + suc k = omega arith in
+        let power : 256 ^ suc k ≡ 256 * 256 ^ k = omega (arith, pow-suc 256 k) in
+        rw (next, div-div-eq-div-mul value 256 (256 ^ k), ← power) h
+
+-- a load after a store of the same bytes gives the number that was stored
+pub value_at-put_value :
+    (memory : ByteMemory) (addr size value : ℕ) → value < 256 ^ size → value_at (put_value memory addr size value) addr size ≡ value
+value_at-put_value memory addr size value below =
+    value_at-bytes (put_value memory addr size value) addr size value (λ k h. inside k h) below
+  where
+    inside : (k : ℕ) → k < size → put_value memory addr size value (addr + k) ≡ byte_of value k
+    inside k h = let place : addr + k - addr ≡ k = omega arith in put_value-inside memory addr size value (addr + k) (omega arith) (omega arith) ∙ rw place refl
+
+-- the bytes of a lawful place lie within one line
+pub place-within_line : (size addr : ℕ) → is_place size addr ≡ true → addr % 32 + size ≤ 32
+place-within_line size addr lawful = grind (arith, nat_tests)

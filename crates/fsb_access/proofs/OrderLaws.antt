@@ -1,4 +1,3 @@
--- Scripts, agents and items of a log as it grows: laws for a simulator, which is not built yet; what one agent alone needs is used already.
 use Rattle.std.proofs.Common.{◌≡◌, ◌≢◌, ℕ, zero, suc, ◌+◌, ◌<◌, ◌≤◌, Bool, true, false, not, ◌&&◌, ◌||◌, List, [], ◌∷◌, ◌++◌, Some, map, length, take, refl, sym, ◌∙◌, ap, ⊎_elim, arith, add-zero, zero-add, append_assoc, append-nil}
 use Rattle.std.proofs.lemmas.Bool.{and_from, and_parts, cases_Bool, cases_eq, eq-eqb, eqb-true, lt-ltb, ltb-true, ne_eqb, or_parts}
 use Rattle.std.proofs.lemmas.List.{length-take, map-append}

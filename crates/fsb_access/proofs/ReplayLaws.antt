@@ -1,4 +1,3 @@
--- How a replay goes on as its log grows: laws for a simulator, which is not built yet and will write its log entry by entry.
 use Rattle.std.proofs.Common.{◌≡◌, ℕ, List, [], ◌∷◌, ◌++◌, map, refl, sym, ◌∙◌, ap}
 use Rattle.std.proofs.lemmas.List.{map-append}
 use Rattle.fsb_access.specs.Replay.{ReplayState, start_of, served_value, state_after, replay, replayed_values, Served}
