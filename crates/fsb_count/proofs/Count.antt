@@ -1,5 +1,6 @@
 -- How many clocks pass.
-use Rattle.std.proofs.Common.{ℕ, zero, suc, ◌+◌, ◌-◌, ◌<◌, ◌≤◌, ◌≡◌, Bool, true, false, cond, refl, ap, ◌∙◌, arith, add-one, add-zero}
+use Rattle.std.proofs.Common.{ℕ, zero, suc, ◌+◌, ◌-◌, ◌<◌, ◌≤◌, ◌≡◌, Bool, true, false, cond, refl, ap, ◌∙◌, inl, inr, arith, add-one, add-zero}
+use Rattle.std.proofs.lemmas.Bool.{cases_Bool}
 use Rattle.fsb_count.specs.Clocks.{count_where, AgreeBelow}
 
 -- one more clock
@@ -41,3 +42,11 @@ count_where-above p n m l t =
     let one = count_where-passed p n t in
     let rest = count_where-mono p (n + 1) m (omega arith) in
     omega arith
+
+-- at most all of them
+pub count_where-most : (p : ℕ → Bool) (n : ℕ) → count_where p n ≤ n
+unfolding count_where
+count_where-most p zero = omega arith
+count_where-most p (suc n) =
+    let ih : count_where p n ≤ n = count_where-most p n in
+    elim (cases_Bool (p n)) [ inl t ↦ rw t (omega arith) | inr f ↦ rw f (omega arith) ]
