@@ -15,14 +15,6 @@ tokens_so_far-grown fed more =
     let e : 0 + length fed ≡ length fed = omega arith in
     rw e at (tokens-append 0 [] fed more)
 
--- the tokens of a text are those that count in its first bytes, and then others
-pub tokens_of-append : (fed more : List ℕ) → (ts : List Token) × (tokens_of (fed ++ more) ≡ tokens_so_far fed ++ ts)
-tokens_of-append fed more = (
-  tokens_from (length fed) (open_run fed) more ++ ended_at (length (fed ++ more)) (open_run (fed ++ more)),
-  ap (λ ts. ts ++ ended_at (length (fed ++ more)) (open_run (fed ++ more))) (tokens_so_far-grown fed more)
-      ∙ append_assoc (tokens_so_far fed) (tokens_from (length fed) (open_run fed) more) (ended_at (length (fed ++ more)) (open_run (fed ++ more))),
-)
-
 pub tokens_so_far-append : (fed more : List ℕ) → (ts : List Token) × (tokens_so_far (fed ++ more) ≡ tokens_so_far fed ++ ts)
 tokens_so_far-append fed more = (tokens_from (length fed) (open_run fed) more, tokens_so_far-grown fed more)
 

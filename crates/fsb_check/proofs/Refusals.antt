@@ -41,11 +41,6 @@ refuses-back limit samples fault stops.TooLong other h = rw (lt-ltb limit (lengt
 refuses-back limit samples fault (stops.Bad f) other h = rw (h.1, le-ltb limit (length samples) h.0) refl
 refuses-back limit samples fault stops.Memory other h = absurd h
 
--- what a reader has refused with shows in the first bytes
-pub so_far-refuses : (limit : ℕ) (fed : List ℕ) (stop : VcdStop) → stop_so_far limit fed ≡ Some stop → Refuses limit (samples_so_far fed) (fault_so_far fed) stop
-unfolding stop_so_far
-so_far-refuses limit fed stop e = refuses limit (samples_so_far fed) (fault_so_far fed) stop e
-
 some_fault : (k : Option VcdFault) (f : VcdFault) → k ≡ Some f → is_some k ≡ true
 some_fault k f e = rw e refl
 

@@ -42,11 +42,3 @@ count_where-above p n m l t =
     let one = count_where-passed p n t in
     let rest = count_where-mono p (n + 1) m (omega arith) in
     omega arith
-
--- at most all of them
-pub count_where-most : (p : ℕ → Bool) (n : ℕ) → count_where p n ≤ n
-unfolding count_where
-count_where-most p zero = omega arith
-count_where-most p (suc n) =
-    let ih : count_where p n ≤ n = count_where-most p n in
-    elim (cases_Bool (p n)) [ inl t ↦ rw t (omega arith) | inr f ↦ rw f (omega arith) ]

@@ -112,10 +112,6 @@ ends_later p h x queue e s j y st l g =
 abbrev ends_clock : Trace → ℕ → ℕ → Bool
 ends_clock v n q = is_live v q && is_at (end_of v (live_number_of v q)) n
 
-ends_form : (v : Trace) (n : ℕ) (y : Entry) → ends_at v n y ≡ ends_clock v n y.clock
-unfolding ends_at live_of
-ends_form v n y = refl
-
 keep_one : (t : Entry → Bool) (z : Entry) (zs : List Entry) → t z ≡ true → filter t (z ∷ zs) ≡ z ∷ filter t zs
 keep_one t z zs e = ap (λ b. cond b (z ∷ filter t zs) (filter t zs)) e
 

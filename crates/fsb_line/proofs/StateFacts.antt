@@ -26,14 +26,6 @@ cond-same a u v = grind (arith, nat_tests)
 pub cond-other : {A : Type 0} (b a : ℕ) (u v : A) → b ≢ a → cond (b == a) u v ≡ v
 cond-other b a u v h = grind (arith, nat_tests)
 
-pub put-same : {A : Type 0} (f : ℕ → A) (a : ℕ) (v : A) → put f a v a ≡ v
-unfolding put
-put-same f a v = cond-same a v (f a)
-
-pub put-other : {A : Type 0} (f : ℕ → A) (a : ℕ) (v : A) (b : ℕ) → b ≢ a → put f a v b ≡ f b
-unfolding put
-put-other f a v b h = cond-other b a v (f b) h
-
 -- who has the line Modified has it alone, and holds it
 pub modified_is_sole : (s : Mesi) → is_modified s ≡ true → is_sole s ≡ true
 modified_is_sole Modified h = refl
@@ -79,13 +71,6 @@ snoop_not_sole Modified Read h = refl
 snoop_not_sole s Own h = refl
 snoop_not_sole s Upgrade h = refl
 snoop_not_sole s WriteBack h = absurd (cc)
-
--- after that of a request for ownership nobody else holds it
-pub snoop_owned : (s : Mesi) (k : Kind) → k ≢ Read → asks_line k ≡ true → is_held (after_snoop s k) ≡ false
-snoop_owned s Read n h = absurd (n refl)
-snoop_owned s Own n h = refl
-snoop_owned s Upgrade n h = refl
-snoop_owned s WriteBack n h = absurd (cc)
 
 -- a snoop keeps the state of a clean line suited to its agent's own request
 pub snoop_suits : (j : Kind) (s : Mesi) (k : Kind) → suits j s ≡ true → is_modified s ≡ false → suits j (after_snoop s k) ≡ true

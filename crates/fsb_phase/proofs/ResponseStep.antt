@@ -90,9 +90,6 @@ begins h queue e x f to a =
     ∙ told-is h a.head set.0 e a.snoop (response_of x) set.1 number a.is_snoop a.code
     ∙ sym (rw a.at refl)
 
-transfer_step : Bool → Bool → Bool → Option ℕ → Option ℕ
-transfer_step drdy answers move t = chunk_step drdy (cond answers (cond move (Some 0) None) t)
-
 pub transfer_to-is : (p : Phases) (h : Trace) (x : Sample) (v : Trace) (queue : List Entry) (e s : ℕ) → OneMore h x v → Stands p h → SnoopsTo h s → Held queue h → EndsTo h e → (responds x ≡ true → Answering h queue e x) → transfer_to p x queue ≡ transfer_of v
 unfolding transfer_to
 transfer_to-is p h x v queue e s m k to f ends ans =

@@ -145,10 +145,6 @@ passed_kept number k n es items x o e l most h f g =
 pub passed_there : (number k : ℕ) (es items : List Entry) → items ≡ passed number k es → k < length es → slice_get items 0 ≡ None → ⊥
 passed_there number k es items e l h = left_none es (without number (take k es)) k l (ap (λ ys. slice_get ys 0) (sym e) ∙ h)
 
--- all were passed
-pub passed_all : (number k : ℕ) (es : List Entry) → length es ≤ k → passed number k es ≡ without number es
-passed_all number k es l = ap (λ r. r ++ without number (take k es)) (drop_all k es l) ∙ ap (without number) (take_all k es l)
-
 pub none_where : {X : Type 0} (o : Option X) → is_some o ≡ false → o ≡ None
 none_where None e = refl
 none_where (Some x) e = absurd (let no : ⊥ = cc in no)

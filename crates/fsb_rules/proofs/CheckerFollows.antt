@@ -45,14 +45,6 @@ pub record Absorbed (k : Checker) (h : Trace) (x : Sample) (b : Option Asked) (w
   pub queue : QueueGoes k.queue (length h) x b new.queue
   pub outstanding : OpenLeft k h x b new.outstanding
 
--- the requests of the new trace are decoded
-ads_within : (w : Trace) (q : ℕ) → line_at ADS w q ≡ true → q < length w
-ads_within w q t =
-    elim (cases_lt q (length w)) [
-      | inl l ↦ l
-      | inr past ↦ absurd (both_ways _ (line_at-past ADS w q past) t)
-    ]
-
 back_is : (h : Trace) (q : ℕ) → q + 1 ≡ length h → line_at ADS h q ≡ line_back ADS h (length h) 1
 unfolding line_back
 back_is h q e =

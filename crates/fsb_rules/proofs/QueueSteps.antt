@@ -19,10 +19,6 @@ use Rattle.fsb_rules.specs.Queue.{known_count}
 use Rattle.fsb_rules.specs.Checker.{Decoded}
 use Rattle.fsb_rules.proofs.QueueFacts.{known_clock, asked_of-form, is_known, asked_of-known}
 
--- AERR# comes three clocks after a request, and no other
-pub record IsErrorTimed (h : Trace) (x : Sample) : Type 0 where
-  pub timed : has_line x AERR ≡ true → line_back ADS h (length h) 3 ≡ true
-
 -- how many live requests are known, where none is cancelled: one more, if one began at the last clock
 not_cancels : (x : Sample) (n q : ℕ) → has_line x AERR ≡ false → cancels x n q ≡ false
 unfolding cancels

@@ -5,10 +5,6 @@ use Rattle.std.proofs.lemmas.List.{length-append, length-take}
 use Rattle.fsb_count.proofs.Nth.{slice_get-end}
 use Rattle.fsb_rules.specs.Window.{Window}
 
--- nothing yet
-pub window-empty : {A : Type 0} (f : ℕ → Option A) (n : ℕ) → Window [] f n n
-window-empty f n = record { size = omega arith; at = λ k l. absurd (omega arith) }
-
 grown : {X : Type 0} (xs ys : List X) (c : ℕ) → c < length xs → slice_get (xs ++ ys) c ≡ slice_get xs c
 grown [] ys c l = absurd (omega arith)
 grown (x ∷ xs) ys zero l = refl

@@ -46,10 +46,6 @@ past_or false d e r h = inr h
 abbrev pub final_state : ℕ → ℕ → List Setting → List Item → List ℕ → Progress
 final_state clocks cache mem script lines = record (item_state clocks cache mem [] lines) { place = place_behind 1 1; scripts = script ∷ []; earlier = lines }
 
-no_hazard : (d : Progress) (h : HazardLine) (e : Progress) → add_hazard d h ≡ Ok e → ⊥
-unfolding add_hazard built is_built
-no_hazard d h e x = cc
-
 no_hazard_line : (d : Progress) (word rest : List ℕ) (e : Progress) → hazard_line d word rest ≡ Ok e → ⊥
 unfolding hazard_line transaction_line block_line add_hazard built is_built
 no_hazard_line d word rest e h = grind arith

@@ -7,11 +7,6 @@ use Rattle.vcd_read.specs.Taking.{pushed}
 use Rattle.vcd_read.specs.Scanning.{Reading, after_bytes, samples_in_bytes, decided_in_reading, Fits, Part}
 use Rattle.vcd_read.proofs.Readings.{part_more, samples-append, behind_taken, behind_sampled, behind_part, behind_fits}
 
--- what holds anyway holds on success, and on failure
-pub ok_anyway : {T E P : Type 0} (r : Result T E) → P → OnOk r P
-ok_anyway (Ok x) p = p
-ok_anyway (Err e) p = tt
-
 pub err_anyway : {T E P : Type 0} (r : Result T E) → P → OnErr r P
 err_anyway (Ok x) p = tt
 err_anyway (Err e) p = p
@@ -31,18 +26,6 @@ pub record Absorbed (limit : ℕ) (start now : Reading) (piece rest : List ℕ) 
   pub split : done ++ rest ≡ piece
   pub read : now ≡ after_bytes start done
   pub kept : to ≡ pushed limit (decided_in_reading start) old (samples_in_bytes start done)
-
-pub absorbed-none : (limit : ℕ) (start : Reading) (piece : List ℕ) (old : List Sample) → Absorbed limit start start piece piece old old
-absorbed-none limit start piece old = record {
-  done = [];
-  split = refl;
-  read = let n : start.at ≡ start.at + 0 = omega arith in λ i. record { taken = start.taken; at = n i; run = start.run };
-  kept = refl;
-}
-
-pub absorbed-room : (limit : ℕ) (start now : Reading) (piece rest : List ℕ) (old to : List Sample) → Absorbed limit start now piece rest old to → start.at + length piece < 2 ^ 64 → now.at + length rest < 2 ^ 64
-absorbed-room limit start now piece rest old to a room =
-    omega (arith, room, ap (λ (r : Reading). r.at) a.read, length-append a.done rest, ap length a.split)
 
 pub absorbed-fits : (limit : ℕ) (start now : Reading) (piece rest : List ℕ) (old to : List Sample) → Absorbed limit start now piece rest old to → Fits start → Fits now
 absorbed-fits limit start now piece rest old to a fits = behind_fits start now a.done a.read fits
@@ -65,9 +48,3 @@ absorbed-part limit start now piece rest old to new a p =
 whole : (limit : ℕ) (start now : Reading) (piece rest : List ℕ) (old to : List Sample) (a : Absorbed limit start now piece rest old to) → length rest ≡ 0 → a.done ≡ piece
 whole limit start now piece [] old to a h = sym (append-nil a.done) ∙ a.split
 whole limit start now piece (b ∷ rest) old to a h = absurd (omega (arith, h))
-
-pub absorbed-all : (limit : ℕ) (start now : Reading) (piece rest : List ℕ) (old to : List Sample) → Absorbed limit start now piece rest old to → length rest ≡ 0 → now ≡ after_bytes start piece
-absorbed-all limit start now piece rest old to a h = a.read ∙ ap (after_bytes start) (whole limit start now piece rest old to a h)
-
-pub absorbed-samples : (limit : ℕ) (start now : Reading) (piece rest : List ℕ) (old to : List Sample) → Absorbed limit start now piece rest old to → length rest ≡ 0 → to ≡ pushed limit (decided_in_reading start) old (samples_in_bytes start piece)
-absorbed-samples limit start now piece rest old to a h = a.kept ∙ ap (λ w. pushed limit (decided_in_reading start) old (samples_in_bytes start w)) (whole limit start now piece rest old to a h)

@@ -27,9 +27,6 @@ one_stays k = record { at_most = omega arith }
 one_goes : (k : Known) (mode : Mode) → One (goes_to k mode)
 one_goes k mode = record { at_most = omega arith }
 
-one_fails : (k : Known) (place : ℕ) (cause : _) → One (fails k place cause)
-one_fails k place cause = record { at_most = omega arith }
-
 one_header : (k : Known) (place : ℕ) (w : HeaderWord) → One (header_turn k place w)
 one_header k place Declares = record { at_most = omega arith }
 one_header k place Finishes = record { at_most = omega arith }

@@ -192,13 +192,6 @@ pub over_sampled : (r : Reading) (bs : List ℕ) (new : List Sample) (place : �
 over_sampled r bs new place word limit to dark short over within at is h =
     h ∙ (λ i. pushed limit (decided_in_reading r) to (decided_of r.taken (turn r.taken.known (token_of (at i) (is i))))) ∙ ap (pushed limit (decided_in_reading r) to) (sym (over_samples r bs dark short over within))
 
--- a byte of white space, once the run was ended
-pub white_taken : (r now : Reading) (w : ℕ) (run : List ℕ) → is_white w ≡ true → run ≡ [] → now ≡ record r { taken = take_tokens r.taken (ended_at r.at r.run) } → record { taken = now.taken; at = now.at + 1; run = run } ≡ after_bytes r (w ∷ [])
-white_taken r now w run white none h = (λ i. record { taken = (h i).taken; at = (h i).at + 1; run = none i }) ∙ sym (white_bytes r w white)
-
-pub white_sampled : (r : Reading) (w : ℕ) (limit : ℕ) (to new : List Sample) → is_white w ≡ true → new ≡ pushed limit (decided_in_reading r) to (samples_in_tokens r.taken (ended_at r.at r.run)) → new ≡ pushed limit (decided_in_reading r) to (samples_in_bytes r (w ∷ []))
-white_sampled r w limit to new white h = h ∙ ap (pushed limit (decided_in_reading r) to) (sym (white_samples r w white))
-
 -- a reading that has no run
 abbrev pub runless : Taken → ℕ → Reading
 runless taken at = record { taken = taken; at = at; run = [] }

@@ -7,19 +7,11 @@ use Rattle.fsb_signal.specs.Table.{Entry, table}
 use Rattle.fsb_signal.specs.DumpText.{width_of}
 use Rattle.vcd_grammar.specs.Digits.{extended}
 
--- the width of an entry that was found
-pub width_is : (n : ℕ) (e : Entry) → slice_get table n ≡ Some e → e.width ≡ width_of n
-width_is n e h = ap (λ o. option_map_or (λ x. x.width) o 0) (sym h)
-
 -- no width of entries that pass the test is above 64
 most : (es : List Entry) (n : ℕ) → list_all (λ e. nat_le e.width 64) es ≡ true → option_map_or (λ x. x.width) (slice_get es n) 0 ≤ 64
 most [] n h = omega arith
 most (e ∷ es) zero h = leb-true e.width 64 (and_parts (nat_le e.width 64) (list_all (λ x. nat_le x.width 64) es) h).0
 most (e ∷ es) (suc n) h = most es n (and_parts (nat_le e.width 64) (list_all (λ x. nat_le x.width 64) es) h).1
-
--- no line has more than 64 digits
-pub width_most : (n : ℕ) → width_of n ≤ 64
-width_most n = most table n refl
 
 -- a value that is not too wide fits
 pub fits : (digits : List ℕ) (n : ℕ) → (nat_lt (width_of n) (length digits) || false) ≡ false → length digits ≤ width_of n
