@@ -1,24 +1,9 @@
-use Rattle.std.proofs.Common.{◌≡◌, ℕ, zero, suc, ◌+◌, ◌-◌, ◌*◌, ◌/◌, ◌%◌, ◌^◌, ◌<◌, ◌≤◌, true, false, ◌&&◌, ◌⊎◌, List, [], ◌∷◌, sym, length, get_or, take, drop, drop-cons, refl, ◌∙◌, ap, ⊎_elim, inl, inr, arith, add-zero}
+use Rattle.std.proofs.Common.{◌≡◌, ℕ, zero, suc, ◌+◌, ◌-◌, ◌*◌, ◌/◌, ◌%◌, ◌^◌, ◌<◌, ◌≤◌, true, false, ◌&&◌, ◌⊎◌, List, ◌∷◌, length, get_or, take, drop, drop-cons, refl, ◌∙◌, ⊎_elim, inl, inr, arith, add-zero}
 use Rattle.std.proofs.lemmas.Bool.Decides.{nat_tests}
 use Rattle.std.proofs.Math.Nat.{pow-suc, div-div-eq-div-mul}
 use Rattle.std.specs.Prelude.{nat_le, nat_lt}
 use Rattle.fsb_access.specs.Access.{is_place}
-use Rattle.fsb_access.specs.ByteMemory.{ByteMemory, bytes_at, put_value, byte_of, value_of_bytes, value_at}
-
--- as many bytes as said
-pub length-bytes_at : (memory : ByteMemory) (addr count : ℕ) → length (bytes_at memory addr count) ≡ count
-unfolding bytes_at
-length-bytes_at memory addr zero = refl
-length-bytes_at memory addr (suc count) = ap (λ (n : ℕ). suc n) (length-bytes_at memory (addr + 1) count)
-
--- each of them is the memory's
-pub get_or-bytes_at : (memory : ByteMemory) (addr count k : ℕ) → k < count → get_or (bytes_at memory addr count) k 0 ≡ memory (addr + k)
-unfolding bytes_at
-get_or-bytes_at memory addr zero k below = absurd (omega arith)
-get_or-bytes_at memory addr (suc count) zero below = rw add-zero refl
-get_or-bytes_at memory addr (suc count) (suc k) below =
-    let next : addr + 1 + k ≡ addr + suc k = omega arith in
-    get_or-bytes_at memory (addr + 1) count k (omega arith) ∙ ap memory next
+use Rattle.fsb_access.specs.ByteMemory.{ByteMemory, bytes_at, put_value, byte_of, value_at}
 
 -- memories that agree on some addresses have the same bytes there
 pub bytes_at-same :
@@ -48,24 +33,6 @@ bytes_at-is memory bytes addr start (suc count) within same =
   where
     moved : (k : ℕ) → memory (addr + (k + 1)) ≡ get_or bytes (start + (k + 1)) 0 → memory (addr + 1 + k) ≡ get_or bytes (suc start + k) 0
     moved k h = let to : addr + 1 + k ≡ addr + (k + 1) = omega arith in let from : suc start + k ≡ start + (k + 1) = omega arith in rw (to, from) h
-
--- bytes from within others are a part of them
-pub bytes_at-part :
-    (memory : ByteMemory) (addr count start size : ℕ) → start + size ≤ count →
-    bytes_at memory (addr + start) size ≡ take size (drop start (bytes_at memory addr count))
-bytes_at-part memory addr count start size within =
-    bytes_at-is memory (bytes_at memory addr count) (addr + start) start size (omega (arith, length-bytes_at memory addr count)) same
-  where
-    same : (k : ℕ) → k < size → memory (addr + start + k) ≡ get_or (bytes_at memory addr count) (start + k) 0
-    same k h =
-        let place : addr + start + k ≡ addr + (start + k) = omega arith in
-        ap memory place ∙ sym (get_or-bytes_at memory addr count (start + k) (omega arith))
-
--- the number of some bytes has no more bytes
-pub value_of_bytes-below : (bytes : List ℕ) → ((i : ℕ) → get_or bytes i 0 < 256) → value_of_bytes bytes < 256 ^ length bytes
-value_of_bytes-below [] small = omega arith
-value_of_bytes-below (byte ∷ bytes) small =
-    omega (arith, small 0, value_of_bytes-below bytes (λ i. small (suc i)), pow-suc 256 (length bytes))
 
 -- a byte of a number that was put, and a byte beside it
 pub put_value-inside :
@@ -102,6 +69,13 @@ value_at-bytes memory addr (suc size) value same below =
         let next : addr + 1 + k ≡ addr + suc k = omega arith in
         let power : 256 ^ suc k ≡ 256 * 256 ^ k = omega (arith, pow-suc 256 k) in
         rw (next, div-div-eq-div-mul value 256 (256 ^ k), ← power) h
+
+-- a number of bytes has no more bytes than they are
+pub value_at-fits : (memory : ByteMemory) (addr size : ℕ) → ((place : ℕ) → memory place < 256) → value_at memory addr size < 256 ^ size
+unfolding bytes_at
+value_at-fits memory addr zero small = omega arith
+value_at-fits memory addr (suc size) small =
+    omega (arith, small addr, value_at-fits memory (addr + 1) size small, pow-suc 256 size)
 
 -- a load after a store of the same bytes gives the number that was stored
 pub value_at-put_value :

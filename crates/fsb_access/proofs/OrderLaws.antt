@@ -5,7 +5,7 @@ use Rattle.std.proofs.lemmas.List.Elements.{filter-append}
 use Rattle.std.proofs.lemmas.List.Folds.{list_any-append, list_all-append}
 use Rattle.std.specs.Prelude.{◌==◌, nat_lt, slice_get}
 use Rattle.std.specs.List.{list_any, list_all}
-use Rattle.fsb_access.specs.ScriptOrder.{Step, steps_from, steps_of_item, accesses_from, accesses_of, step_of, steps_of, script_of, AreOfItems, is_same_item, comes_again, are_items_together, InOrder}
+use Rattle.fsb_access.specs.ScriptOrder.{Step, steps_from, steps_of_item, accesses_from, accesses_of, step_of, steps_of, script_of, AreOfItems, is_same_item, comes_again, are_items_together, InOrder, AreNextItem}
 use Rattle.fsb_access.specs.declared.access.Access.{Access}
 use Rattle.fsb_access.specs.declared.item.Item.{Item}
 use Rattle.fsb_access.specs.declared.item.Item.TheVariants.{One, Locked, Idle}
@@ -210,15 +210,7 @@ is_of-all agent item (done ∷ log) own numbered =
 pub InOrder-empty : (scripts : List (List Item)) → InOrder scripts []
 InOrder-empty scripts = record { follows = λ agent. record { items = 0; same = refl }; together = refl }
 
--- the entries of an agent's next item, as its script has it
-pub record AreNextItem (script : List Item) (agent count : ℕ) (log more : List Done) : Type 0 where
-  pub item : Item
-  pub stands : slice_get script count ≡ Some item
-  pub before : steps_of agent log ≡ accesses_of (take count script)
-  pub own : list_all (λ (done : Done). done.agent == agent) more ≡ true
-  pub steps : map step_of more ≡ steps_of_item count item
-
--- past them, the agent's entries are those of one item more
+-- past the entries of an agent's next item, its entries are those of one item more
 pub steps_of-next :
     (script : List Item) (agent count : ℕ) (log more : List Done) → AreNextItem script agent count log more →
     steps_of agent (log ++ more) ≡ accesses_of (take (count + 1) script)

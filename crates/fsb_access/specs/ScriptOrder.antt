@@ -1,5 +1,5 @@
-use Rattle.std.specs.Prelude.{◌≡◌, ℕ, ◌+◌, Bool, true, false, not, ◌&&◌, ◌==◌, IsTrue, if◌then◌else◌, List, [], ◌∷◌, ◌++◌, map, filter, take, slice_get, unwrap_or}
-use Rattle.std.specs.List.{list_any}
+use Rattle.std.specs.Prelude.{◌≡◌, ℕ, ◌+◌, Bool, true, false, not, ◌&&◌, ◌==◌, IsTrue, if◌then◌else◌, List, [], ◌∷◌, ◌++◌, Some, map, filter, take, slice_get, unwrap_or}
+use Rattle.std.specs.List.{list_any, list_all}
 use Rattle.fsb_access.specs.declared.access.Access.{Access}
 use Rattle.fsb_access.specs.declared.item.Item.{Item}
 use Rattle.fsb_access.specs.declared.item.Item.TheVariants.{One, Locked, Idle}
@@ -68,3 +68,12 @@ are_items_together (done ∷ log) = not (comes_again done log) && are_items_toge
 pub record InOrder (scripts : List (List Item)) (log : List Done) : Type 0 where
   pub follows : (agent : ℕ) → AreOfItems (script_of scripts agent) (steps_of agent log)
   pub together : IsTrue (are_items_together log)
+
+-- entries that come after a log are those of an agent's next item: its entries so far are those of the items before, and
+-- these are its own and are the accesses of that item
+pub record AreNextItem (script : List Item) (agent count : ℕ) (log more : List Done) : Type 0 where
+  pub item : Item
+  pub stands : slice_get script count ≡ Some item
+  pub before : steps_of agent log ≡ accesses_of (take count script)
+  pub own : list_all (λ (done : Done). done.agent == agent) more ≡ true
+  pub steps : map step_of more ≡ steps_of_item count item
