@@ -46,3 +46,39 @@ fn lock_keeps_the_bus(rt: HostRuntime) {
     arbiter.absorb(&sample(0));
     assert_eq!(rt; arbiter.winner(), Some(Who::Priority));
 }
+
+#[test]
+fn priority_agent_keeps_a_locked_bus(rt: HostRuntime) {
+    let two = Lines::BREQ0.0 | Lines::BREQ1.0;
+    let mut arbiter = Arbiter::new();
+    arbiter.absorb(&sample(two));
+    arbiter.absorb(&sample(Lines::BPRI.0));
+    assert_eq!(rt; arbiter.winner(), Some(Who::Symmetric(0)));
+    arbiter.absorb(&sample(Lines::BPRI.0 | Lines::ADS.0));
+    assert_eq!(rt; arbiter.winner(), Some(Who::Priority));
+    arbiter.absorb(&sample(two | Lines::BPRI.0 | Lines::LOCK.0 | Lines::ADS.0));
+    assert_eq!(rt; arbiter.winner(), Some(Who::Priority));
+    arbiter.absorb(&sample(two | Lines::LOCK.0));
+    assert_eq!(rt; arbiter.winner(), Some(Who::Priority));
+    arbiter.absorb(&sample(two));
+    assert_eq!(rt; arbiter.winner(), None);
+    arbiter.absorb(&sample(0));
+    assert_eq!(rt; arbiter.winner(), Some(Who::Symmetric(1)));
+}
+
+#[test]
+fn request_of_nobody_ends_a_lock_and_keeps_the_order(rt: HostRuntime) {
+    let all = Lines::BREQ0.0 | Lines::BREQ1.0 | Lines::BREQ2.0 | Lines::BREQ3.0;
+    let mut arbiter = Arbiter::new();
+    arbiter.absorb(&sample(all));
+    arbiter.absorb(&sample(0));
+    assert_eq!(rt; arbiter.winner(), Some(Who::Symmetric(0)));
+    arbiter.absorb(&sample(Lines::ADS.0));
+    assert_eq!(rt; arbiter.winner(), None);
+    arbiter.absorb(&sample(all | Lines::LOCK.0 | Lines::ADS.0));
+    assert_eq!(rt; arbiter.winner(), None);
+    arbiter.absorb(&sample(all));
+    assert_eq!(rt; arbiter.winner(), None);
+    arbiter.absorb(&sample(0));
+    assert_eq!(rt; arbiter.winner(), Some(Who::Symmetric(1)));
+}
