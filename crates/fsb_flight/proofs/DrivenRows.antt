@@ -23,7 +23,7 @@ use Rattle.fsb_trace.specs.Flight.{is_dropped, has_ended, is_in_flight, in_fligh
 use Rattle.fsb_trace.proofs.LaidOut.{clock, idle}
 use Rattle.fsb_trace.proofs.Rows.{two_agents_overlap, store_handed_over_before_arrival, locked_increments, write_back_held_off, stalled_snoop, deferred_and_replied, cancelled_by_address_error}
 use Rattle.fsb_queue.specs.declared.entry.Entry.{Entry}
-use Rattle.fsb_phase.specs.Timing.{is_stall_from, is_ready_from, is_response_from, chunk_from, is_busy_from}
+use Rattle.fsb_trace.specs.Timing.{is_stall_from, is_ready_from, is_response_from, chunk_from, is_busy_from}
 use Rattle.fsb_phase.specs.Due.{live_of, has_snoop, is_stalled, awaits_response, has_ready, has_response, response_to_now, moves, chunk_of, keeps_busy}
 use Rattle.fsb_phase.specs.declared.drive.Drive.{Drive}
 use Rattle.fsb_phase.specs.declared.drive.Phased.{Phased}

@@ -14,7 +14,7 @@ use Rattle.fsb_laws.specs.OneMore.{responds}
 use Rattle.fsb_laws.specs.Progress.{EndsTo, response_count, transfer_of, may_answer_next}
 use Rattle.fsb_laws.proofs.ReadySteps.{has_ready, after_answer}
 use Rattle.fsb_queue.specs.declared.entry.Entry.{Entry}
-use Rattle.fsb_phase.specs.Timing.{is_response_from}
+use Rattle.fsb_trace.specs.Timing.{is_response_from}
 use Rattle.fsb_phase.specs.Due.{live_of, has_response}
 use Rattle.fsb_phase.proofs.Held.{Held}
 use Rattle.fsb_phase.specs.Drive.{code_of, drive_of}

@@ -12,7 +12,7 @@ use Rattle.fsb_laws.specs.Progress.{EndsTo, response_count, transfer_of}
 use Rattle.fsb_laws.proofs.ResponseSteps.{response_past}
 use Rattle.fsb_queue.specs.declared.entry.Entry.{Entry}
 use Rattle.fsb_phase.specs.declared.phases.Phases.{Phases}
-use Rattle.fsb_phase.specs.Timing.{is_ready_from, is_response_from, chunk_from, is_busy_from}
+use Rattle.fsb_trace.specs.Timing.{is_ready_from, is_response_from, chunk_from, is_busy_from}
 use Rattle.fsb_phase.specs.Due.{live_of, awaits_response, has_ready, has_response, response_to_now, moves, chunk_of, keeps_busy}
 use Rattle.fsb_phase.proofs.Held.{IsSettled, Held}
 use Rattle.fsb_phase.specs.Phases.{Stands, value_before, last_response}

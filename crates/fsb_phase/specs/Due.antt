@@ -8,7 +8,7 @@ use Rattle.fsb_trace.specs.Snoop.{is_every_second_from, snoop_start_of, snoop_en
 use Rattle.fsb_trace.specs.Outcome.{does_move, response_clock_of}
 use Rattle.fsb_trace.specs.Response.{takes, answer_from, ready_clock_of}
 use Rattle.fsb_queue.specs.declared.entry.Entry.{Entry}
-use Rattle.fsb_phase.specs.Timing.{is_stall_from, is_ready_from, is_response_from, chunk_from, is_busy_from}
+use Rattle.fsb_trace.specs.Timing.{is_stall_from, is_ready_from, is_response_from, chunk_from, is_busy_from}
 
 -- the number of the entry's request among the live ones
 unfoldable pub live_of : Trace → Entry → ℕ

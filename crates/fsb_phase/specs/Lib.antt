@@ -1,4 +1,3 @@
-pub mod Timing
 pub mod Due
 pub mod Flight
 pub mod Drive

@@ -14,7 +14,7 @@ use Rattle.fsb_queue.specs.declared.entry.Entry.{Entry}
 use Rattle.fsb_phase.specs.declared.drive.Drive.{Drive}
 use Rattle.fsb_phase.specs.declared.drive.Phased.{Phased}
 use Rattle.fsb_phase.specs.declared.phases.Phases.{Phases}
-use Rattle.fsb_phase.specs.Timing.{is_stall_from, is_ready_from, is_response_from, chunk_from, is_busy_from}
+use Rattle.fsb_trace.specs.Timing.{is_stall_from, is_ready_from, is_response_from, chunk_from, is_busy_from}
 use Rattle.fsb_phase.specs.Due.{moves}
 use Rattle.fsb_phase.specs.Drive.{code_of}
 

@@ -1,7 +1,7 @@
 -- Responses and data: what is on TRDY#, RS#, DRDY#, DBSY# and D#, and which bytes the data are.
-use Rattle.std.specs.Prelude.{ℕ, ◌+◌, ◌*◌, ◌&&◌, ◌||◌, Bool, true, false, nat_eq, nat_lt, nat_le, Option, slice_index}
+use Rattle.std.specs.Prelude.{ℕ, ◌+◌, ◌*◌, ◌&&◌, ◌||◌, Bool, true, false, nat_eq, nat_lt, Option, is_some, slice_index}
 use Rattle.std.specs.List.{filter}
-use Rattle.std.specs.Option.{option_map, option_map_or, option_and_then}
+use Rattle.std.specs.Option.{option_map_or, option_and_then}
 use Rattle.fsb_count.specs.Options.{is_some_and, is_at}
 use Rattle.fsb_count.specs.Clocks.{first_where, any_where}
 use Rattle.fsb_access.specs.ByteMemory.{ByteMemory, value_at}
@@ -15,6 +15,7 @@ use Rattle.fsb_encode.specs.Burst.{burst_order}
 use Rattle.fsb_trace.specs.declared.outcome.Outcome.{Outcome}
 use Rattle.fsb_trace.specs.Outcome.{does_move, response_code_of, response_clock_of, settled_outcome_of}
 use Rattle.fsb_trace.specs.Response.{takes, data_clock_of, answer_from, ready_clock_of}
+use Rattle.fsb_trace.specs.Timing.{is_ready_from, is_response_from, chunk_from, is_busy_from}
 use Rattle.fsb_timely.specs.Moments.{turns_in, served_number}
 use Rattle.fsb_timely.specs.Runs.{Run, Past}
 use Rattle.fsb_timely.specs.Starts.{is_exactly, each_where}
@@ -23,16 +24,13 @@ use Rattle.fsb_timely.specs.Snoops.{live_choice}
 -- live request i takes, and c is its ready clock: the clock from which it is answered, and its wait for TRDY#
 unfoldable pub is_ready_clock : Run → ℕ → ℕ → Bool
 is_ready_clock r c i =
-    takes r.trace i && is_at (option_map (λ f. f + (live_choice r i).trdy) (answer_from r.trace i)) c
+    takes r.trace i && is_ready_from (answer_from r.trace i) (live_choice r i).trdy c
 
 -- c is the response clock that live request i is to have: one that takes has it two clocks after its ready clock, any
 -- other from the clock from which it is answered, and both wait as is chosen
 unfoldable pub is_response_clock : Run → ℕ → ℕ → Bool
 is_response_clock r c i =
-    elim (takes r.trace i) [
-      | true ↦ is_at (option_map (λ y. y + 2 + (live_choice r i).resp) (ready_clock_of r.trace i)) c
-      | false ↦ is_at (option_map (λ f. f + (live_choice r i).resp) (answer_from r.trace i)) c
-    ]
+    is_response_from (takes r.trace i) (answer_from r.trace i) (ready_clock_of r.trace i) (live_choice r i).resp c
 
 -- the settled outcome of live request i
 unfoldable pub settled_of : Run → Past → ℕ → Option Outcome
@@ -50,25 +48,17 @@ code_due r p c = option_map_or response_code_of (option_and_then (settled_of r p
 unfoldable pub settles_to_move : Run → Past → ℕ → Bool
 settles_to_move r p i = is_some_and (settled_of r p i) does_move
 
--- the clocks from one chunk of live request i to the next
-unfoldable pub clocks_between_chunks : Run → ℕ → ℕ
-clocks_between_chunks r i = 1 + (live_choice r i).gap
-
--- c is one of the four clocks at which live request i, with this response clock, has data
-unfoldable pub is_data_clock_from : Run → ℕ → ℕ → ℕ → Bool
-is_data_clock_from r c i response = any_where (λ n. nat_eq c (response + n * clocks_between_chunks r i)) 4
-
--- data of live request i move, and c is one of its data clocks
+-- data of live request i move, and c is one of its four data clocks: a chunk is due there
 unfoldable pub has_data_at : Run → Past → ℕ → ℕ → Bool
-has_data_at r p c i = settles_to_move r p i && is_some_and (response_clock_of r.trace i) (is_data_clock_from r c i)
+has_data_at r p c i =
+    settles_to_move r p i
+    && is_some (option_and_then (chunk_from (live_choice r i).gap c) (response_clock_of r.trace i))
 
--- c lies from this response clock of live request i to the clock before its last data
-unfoldable pub is_busy_clock_from : Run → ℕ → ℕ → ℕ → Bool
-is_busy_clock_from r c i response = nat_le response c && nat_lt c (response + 3 * clocks_between_chunks r i)
-
--- data of live request i move, and c is a clock at which it keeps the data bus
+-- data of live request i move, and c is a clock at which it keeps the data bus: from its response clock to the clock
+-- before its last data
 unfoldable pub is_busy_at : Run → Past → ℕ → ℕ → Bool
-is_busy_at r p c i = settles_to_move r p i && is_some_and (response_clock_of r.trace i) (is_busy_clock_from r c i)
+is_busy_at r p c i =
+    settles_to_move r p i && is_some_and (response_clock_of r.trace i) (is_busy_from (live_choice r i).gap c)
 
 -- Responses and data: TRDY# is at c exactly where c is the ready clock of a request that takes; RS# has the code that is
 -- due; DRDY# is at c exactly where some request has data there, and DBSY# exactly where one keeps the data bus; and D# is
