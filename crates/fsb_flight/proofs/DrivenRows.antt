@@ -18,13 +18,13 @@ use Rattle.fsb_trace.specs.At.{Trace, response_code_at, responds_at, stalls_at, 
 use Rattle.fsb_trace.specs.Requests.{is_cancelled, is_live, live_count, live_clock_of, live_number_of, live_request_of, is_write_back_kind, is_write_back}
 use Rattle.fsb_trace.specs.Snoop.{is_every_second_from, ends_snoop, snoop_end_from, snoop_end_if, start_after_clock, start_after_end, snoop_end_of, snoop_start_of, line_at_snoop_end}
 use Rattle.fsb_trace.specs.Outcome.{does_move, response_code_of, outcome_by_kind, response_clock_of, told_by, outcome_of, moves_data, settled_by, settled_outcome_of}
-use Rattle.fsb_trace.specs.Response.{takes, data_clock_of, end_of, clock_after_snoop, ready_after, ready_clock_of}
+use Rattle.fsb_trace.specs.Response.{takes, data_clock_of, end_of, clock_after_snoop, ready_after, ready_clock_of, two_after_snoop, answer_from}
 use Rattle.fsb_trace.specs.Flight.{is_dropped, has_ended, is_in_flight, in_flight}
 use Rattle.fsb_trace.proofs.LaidOut.{clock, idle}
 use Rattle.fsb_trace.proofs.Rows.{two_agents_overlap, store_handed_over_before_arrival, locked_increments, write_back_held_off, stalled_snoop, deferred_and_replied, cancelled_by_address_error}
 use Rattle.fsb_queue.specs.declared.entry.Entry.{Entry}
-use Rattle.fsb_phase.specs.Timing.{is_stall_from, is_ready_from, is_response_from, chunk_from, is_busy_from}
-use Rattle.fsb_phase.specs.Due.{live_of, has_snoop, is_stalled, two_after_snoop, answer_from, awaits_response, has_ready, has_response, response_to_now, moves, chunk_of, keeps_busy}
+use Rattle.fsb_trace.specs.Timing.{is_stall_from, is_ready_from, is_response_from, chunk_from, is_busy_from}
+use Rattle.fsb_phase.specs.Due.{live_of, has_snoop, is_stalled, awaits_response, has_ready, has_response, response_to_now, moves, chunk_of, keeps_busy}
 use Rattle.fsb_phase.specs.declared.drive.Drive.{Drive}
 use Rattle.fsb_phase.specs.declared.drive.Phased.{Phased}
 use Rattle.fsb_phase.specs.Drive.{code_of, numbered_chunk, drive_of, ends_snoop_at, ends_at, phased_at}

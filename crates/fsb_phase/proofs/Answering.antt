@@ -9,13 +9,13 @@ use Rattle.fsb_signal.specs.Samples.{response_of}
 use Rattle.fsb_trace.specs.At.{Trace}
 use Rattle.fsb_trace.specs.Snoop.{snoop_end_of}
 use Rattle.fsb_trace.specs.Outcome.{response_clock_of}
-use Rattle.fsb_trace.specs.Response.{takes, end_of, ready_clock_of}
+use Rattle.fsb_trace.specs.Response.{takes, end_of, ready_clock_of, two_after_snoop, answer_from}
 use Rattle.fsb_laws.specs.OneMore.{responds}
 use Rattle.fsb_laws.specs.Progress.{EndsTo, response_count, transfer_of, may_answer_next}
 use Rattle.fsb_laws.proofs.ReadySteps.{has_ready, after_answer}
 use Rattle.fsb_queue.specs.declared.entry.Entry.{Entry}
-use Rattle.fsb_phase.specs.Timing.{is_response_from}
-use Rattle.fsb_phase.specs.Due.{live_of, two_after_snoop, answer_from, has_response}
+use Rattle.fsb_trace.specs.Timing.{is_response_from}
+use Rattle.fsb_phase.specs.Due.{live_of, has_response}
 use Rattle.fsb_phase.proofs.Held.{Held}
 use Rattle.fsb_phase.specs.Drive.{code_of, drive_of}
 use Rattle.fsb_phase.proofs.Finds.{Found, find-cases, find-off, find-place}

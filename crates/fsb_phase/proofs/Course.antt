@@ -10,7 +10,7 @@ use Rattle.fsb_signal.specs.Samples.{has_line, response_of}
 use Rattle.fsb_trace.specs.At.{Trace}
 use Rattle.fsb_trace.specs.Requests.{is_live, live_clock_of}
 use Rattle.fsb_trace.specs.Snoop.{snoop_end_of}
-use Rattle.fsb_trace.specs.Response.{end_of}
+use Rattle.fsb_trace.specs.Response.{end_of, two_after_snoop, answer_from}
 use Rattle.fsb_trace.proofs.Stay.{snoop_end_of-clock}
 use Rattle.fsb_laws.specs.OneMore.{OneMore, responds}
 use Rattle.fsb_laws.specs.Orderly.{Spaced, Orderly}
@@ -21,7 +21,7 @@ use Rattle.fsb_laws.proofs.EndFacts.{ends_to-still, ends_to-moving, end_of-old, 
 use Rattle.fsb_laws.proofs.SnoopSteps.{snoop_end_of-old, snoop_end_of-more}
 use Rattle.fsb_queue.specs.declared.entry.Entry.{Entry}
 use Rattle.fsb_phase.specs.declared.phases.Phases.{Phases}
-use Rattle.fsb_phase.specs.Due.{live_of, two_after_snoop, answer_from, moves}
+use Rattle.fsb_phase.specs.Due.{live_of, moves}
 use Rattle.fsb_phase.specs.Flight.{is_too_soon}
 use Rattle.fsb_phase.proofs.Held.{Held}
 use Rattle.fsb_phase.specs.Drive.{drive_of, ends_at}

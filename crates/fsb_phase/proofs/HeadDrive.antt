@@ -7,13 +7,13 @@ use Rattle.fsb_count.specs.Options.{is_some_and, is_at, greater_of}
 use Rattle.fsb_trace.specs.At.{Trace}
 use Rattle.fsb_trace.specs.Snoop.{snoop_end_of}
 use Rattle.fsb_trace.specs.Outcome.{response_clock_of}
-use Rattle.fsb_trace.specs.Response.{takes, end_of, clock_after_snoop, ready_after, ready_clock_of}
+use Rattle.fsb_trace.specs.Response.{takes, end_of, clock_after_snoop, ready_after, ready_clock_of, two_after_snoop, answer_from}
 use Rattle.fsb_laws.specs.Progress.{EndsTo, response_count, transfer_of}
 use Rattle.fsb_laws.proofs.ResponseSteps.{response_past}
 use Rattle.fsb_queue.specs.declared.entry.Entry.{Entry}
 use Rattle.fsb_phase.specs.declared.phases.Phases.{Phases}
-use Rattle.fsb_phase.specs.Timing.{is_ready_from, is_response_from, chunk_from, is_busy_from}
-use Rattle.fsb_phase.specs.Due.{live_of, two_after_snoop, answer_from, awaits_response, has_ready, has_response, response_to_now, moves, chunk_of, keeps_busy}
+use Rattle.fsb_trace.specs.Timing.{is_ready_from, is_response_from, chunk_from, is_busy_from}
+use Rattle.fsb_phase.specs.Due.{live_of, awaits_response, has_ready, has_response, response_to_now, moves, chunk_of, keeps_busy}
 use Rattle.fsb_phase.proofs.Held.{IsSettled, Held}
 use Rattle.fsb_phase.specs.Phases.{Stands, value_before, last_response}
 use Rattle.fsb_phase.specs.Drive.{numbered_chunk}

@@ -10,7 +10,7 @@ use Rattle.fsb_signal.specs.Samples.{has_line, response_of}
 use Rattle.fsb_trace.specs.At.{Trace, line_back}
 use Rattle.fsb_trace.specs.Snoop.{snoop_end_of}
 use Rattle.fsb_trace.specs.Outcome.{response_clock_of, does_move, told_by}
-use Rattle.fsb_trace.specs.Response.{ready_clock_of}
+use Rattle.fsb_trace.specs.Response.{ready_clock_of, two_after_snoop, answer_from}
 use Rattle.fsb_laws.specs.OneMore.{OneMore, responds}
 use Rattle.fsb_laws.specs.Orderly.{Spaced, Orderly}
 use Rattle.fsb_laws.specs.Progress.{SnoopsTo, EndsTo, response_count, transfer_of, chunk_step, may_answer_next}
@@ -22,7 +22,7 @@ use Rattle.fsb_laws.proofs.AnswerSteps.{answered_below}
 use Rattle.fsb_laws.proofs.EndFacts.{ends_to-still}
 use Rattle.fsb_queue.specs.declared.entry.Entry.{Entry}
 use Rattle.fsb_phase.specs.declared.phases.Phases.{Phases}
-use Rattle.fsb_phase.specs.Due.{live_of, two_after_snoop, answer_from, moves}
+use Rattle.fsb_phase.specs.Due.{live_of, moves}
 use Rattle.fsb_phase.specs.Flight.{is_too_soon}
 use Rattle.fsb_phase.proofs.Held.{Held}
 use Rattle.fsb_phase.specs.Phases.{Stands, value_before, last_response}

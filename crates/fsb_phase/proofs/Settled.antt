@@ -13,13 +13,13 @@ use Rattle.fsb_trace.specs.declared.outcome.Outcome.TheVariants.{Granted, Handed
 use Rattle.fsb_trace.specs.At.{Trace}
 use Rattle.fsb_trace.specs.Requests.{live_request_of, is_write_back, is_write_back_kind}
 use Rattle.fsb_trace.specs.Snoop.{snoop_end_of, line_at_snoop_end}
-use Rattle.fsb_trace.specs.Outcome.{does_move, response_code_of, outcome_by_kind, told_by, settled_by}
+use Rattle.fsb_trace.specs.Outcome.{does_move, response_code_of, outcome_by_kind, told_by, settled_by, does_take}
 use Rattle.fsb_trace.specs.Response.{takes}
 use Rattle.fsb_queue.specs.declared.entry.Entry.{Entry}
 use Rattle.fsb_phase.specs.Due.{live_of, moves}
 use Rattle.fsb_phase.specs.Drive.{code_of}
 use Rattle.fsb_phase.proofs.Held.{IsSettled}
-use Rattle.fsb_phase.specs.Registers.{does_take, is_taking}
+use Rattle.fsb_phase.specs.Registers.{is_taking}
 
 -- the settled outcome, by what it is settled with
 settled_cases : Bool → ℕ → Option Request → Outcome

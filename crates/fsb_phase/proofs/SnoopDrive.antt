@@ -12,7 +12,7 @@ use Rattle.fsb_laws.specs.Progress.{SnoopsTo, EndsTo}
 use Rattle.fsb_laws.proofs.SnoopSteps.{snoop_end_of-above}
 use Rattle.fsb_queue.specs.declared.entry.Entry.{Entry}
 use Rattle.fsb_phase.specs.declared.phases.Phases.{Phases}
-use Rattle.fsb_phase.specs.Timing.{is_stall_from}
+use Rattle.fsb_trace.specs.Timing.{is_stall_from}
 use Rattle.fsb_phase.specs.Due.{live_of, has_snoop, is_stalled}
 use Rattle.fsb_phase.proofs.Held.{IsSettled, Held}
 use Rattle.fsb_phase.specs.Phases.{value_before}

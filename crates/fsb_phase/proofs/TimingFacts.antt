@@ -3,7 +3,7 @@ use Rattle.std.proofs.Common.{ℕ, ◌+◌, ◌-◌, ◌*◌, ◌/◌, ◌%◌, 
 use Rattle.std.proofs.lemmas.Bool.{cases_lt, eq-eqb, ne_eqb, lt-ltb, le-ltb}
 use Rattle.fsb_count.proofs.First.{first_where-at, first_where-off}
 use Rattle.fsb_count.proofs.Any.{any_where-at, any_where-off}
-use Rattle.fsb_phase.specs.Timing.{is_stall_from, chunk_from}
+use Rattle.fsb_trace.specs.Timing.{is_stall_from, chunk_from}
 
 pub stall-before : (stall c start : ℕ) → c < start → false ≡ is_stall_from stall c start
 unfolding is_stall_from

@@ -1,14 +1,14 @@
 -- What is due at the next clock after a history, of a request in flight.
-use Rattle.std.specs.Prelude.{ℕ, zero, suc, ◌+◌, Bool, ◌&&◌, is_none, if◌then◌else◌, Option, Some, None, length}
-use Rattle.std.specs.Option.{option_map, option_and_then}
-use Rattle.fsb_count.specs.Options.{is_some_and, greater_of}
+use Rattle.std.specs.Prelude.{ℕ, Bool, ◌&&◌, is_none, if◌then◌else◌, Option, Some, None, length}
+use Rattle.std.specs.Option.{option_and_then}
+use Rattle.fsb_count.specs.Options.{is_some_and}
 use Rattle.fsb_trace.specs.At.{Trace}
 use Rattle.fsb_trace.specs.Requests.{live_number_of}
 use Rattle.fsb_trace.specs.Snoop.{is_every_second_from, snoop_start_of, snoop_end_of}
 use Rattle.fsb_trace.specs.Outcome.{does_move, response_clock_of}
-use Rattle.fsb_trace.specs.Response.{takes, end_of, ready_clock_of}
+use Rattle.fsb_trace.specs.Response.{takes, answer_from, ready_clock_of}
 use Rattle.fsb_queue.specs.declared.entry.Entry.{Entry}
-use Rattle.fsb_phase.specs.Timing.{is_stall_from, is_ready_from, is_response_from, chunk_from, is_busy_from}
+use Rattle.fsb_trace.specs.Timing.{is_stall_from, is_ready_from, is_response_from, chunk_from, is_busy_from}
 
 -- the number of the entry's request among the live ones
 unfoldable pub live_of : Trace → Entry → ℕ
@@ -23,16 +23,6 @@ has_snoop h e =
 -- and there its snoop is to be stalled: its stalls are not used up
 unfoldable pub is_stalled : Trace → Entry → Bool
 is_stalled h e = has_snoop h e && is_some_and (snoop_start_of h (live_of h e)) (is_stall_from e.choice.stall (length h))
-
--- two clocks after the snoop end of live request i
-unfoldable pub two_after_snoop : Trace → ℕ → Option ℕ
-two_after_snoop h i = option_map (λ s. s + 2) (snoop_end_of h i)
-
--- the clock from which live request i is answered, with its waits: two after its snoop end, or, if that is later, one
--- after the end of the request before it
-unfoldable pub answer_from : Trace → ℕ → Option ℕ
-answer_from h zero = two_after_snoop h 0
-answer_from h (suc i) = greater_of (two_after_snoop h (suc i)) (option_map (λ t. t + 1) (end_of h i))
 
 -- the request has not responded yet
 unfoldable pub awaits_response : Trace → Entry → Bool

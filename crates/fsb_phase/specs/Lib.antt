@@ -1,5 +1,3 @@
-pub mod ChunkOrder
-pub mod Timing
 pub mod Due
 pub mod Flight
 pub mod Drive

@@ -7,12 +7,11 @@ use Rattle.fsb_trace.specs.At.{Trace}
 use Rattle.fsb_trace.specs.Requests.{live_count}
 use Rattle.fsb_trace.specs.Snoop.{snoop_end_of}
 use Rattle.fsb_trace.specs.Outcome.{response_clock_of}
-use Rattle.fsb_trace.specs.Response.{ready_clock_of}
+use Rattle.fsb_trace.specs.Response.{ready_clock_of, answer_from}
 use Rattle.fsb_laws.specs.Orderly.{Orderly}
 use Rattle.fsb_laws.specs.Progress.{response_count, transfer_of}
 use Rattle.fsb_queue.specs.declared.entry.Entry.{Entry}
 use Rattle.fsb_phase.specs.declared.phases.Phases.{Phases}
-use Rattle.fsb_phase.specs.Due.{answer_from}
 use Rattle.fsb_phase.specs.Flight.{InFlight, is_too_soon}
 use Rattle.fsb_phase.specs.Drive.{drive_of}
 

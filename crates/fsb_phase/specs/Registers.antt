@@ -1,33 +1,22 @@
 -- What the phases answer by what they keep, before any history is looked at.
-use Rattle.std.specs.Prelude.{ℕ, ◌+◌, Bool, true, false, ◌&&◌, ◌||◌, nat_le, max, is_none, is_some, if◌then◌else◌, List, Option, Some, None, slice_get}
+use Rattle.std.specs.Prelude.{ℕ, ◌+◌, Bool, ◌&&◌, ◌||◌, nat_le, max, is_none, is_some, if◌then◌else◌, List, Option, Some, None, slice_get}
 use Rattle.std.specs.List.{find}
 use Rattle.std.specs.Option.{option_map, option_map_or, option_and_then}
 use Rattle.fsb_count.specs.Options.{is_some_and}
 use Rattle.fsb_signal.specs.declared.lines.TheConstants.Lines.{TRDY, DRDY}
 use Rattle.fsb_signal.specs.declared.sample.Sample.{Sample}
 use Rattle.fsb_signal.specs.Samples.{has_line}
-use Rattle.fsb_trace.specs.declared.outcome.Outcome.{Outcome}
-use Rattle.fsb_trace.specs.declared.outcome.Outcome.TheVariants.{Granted, Handed, Retried, Deferred, Written, Replied, Failed}
 use Rattle.fsb_trace.specs.Snoop.{is_every_second_from}
+use Rattle.fsb_trace.specs.Outcome.{does_take}
 use Rattle.fsb_laws.specs.OneMore.{stalls, responds}
 use Rattle.fsb_laws.specs.Progress.{chunk_step}
 use Rattle.fsb_queue.specs.declared.entry.Entry.{Entry}
 use Rattle.fsb_phase.specs.declared.drive.Drive.{Drive}
 use Rattle.fsb_phase.specs.declared.drive.Phased.{Phased}
 use Rattle.fsb_phase.specs.declared.phases.Phases.{Phases}
-use Rattle.fsb_phase.specs.Timing.{is_stall_from, is_ready_from, is_response_from, chunk_from, is_busy_from}
+use Rattle.fsb_trace.specs.Timing.{is_stall_from, is_ready_from, is_response_from, chunk_from, is_busy_from}
 use Rattle.fsb_phase.specs.Due.{moves}
 use Rattle.fsb_phase.specs.Drive.{code_of}
-
--- memory takes data with this outcome
-unfoldable pub does_take : Outcome → Bool
-does_take Granted = false
-does_take Handed = true
-does_take Retried = false
-does_take Deferred = false
-does_take Written = true
-does_take Replied = false
-does_take Failed = false
 
 -- the entry's outcome is settled, and with it memory takes data
 unfoldable pub is_taking : Entry → Bool

@@ -1,11 +1,11 @@
 ghost use Rattle.std.specs.Prelude.{◌≡◌, ◌<◌};
-ghost use Rattle.fsb_phase.specs.ChunkOrder.{chunk_order};
+ghost use Rattle.fsb_encode.specs.Burst.{burst_order};
 
 /// The chunks of a line in the order in which they come, where this one comes first.
-#[tactic(auto, unfolding(crate::specs::ChunkOrder::chunk_order))]
+#[tactic(auto, unfolding(fsb_encode::specs::Burst::burst_order))]
 pub fn chunk_order(first: u8) -> [u8; 4]
     requires { first < 4 }
-    ensures { result ≡ chunk_order first }
+    ensures { result ≡ burst_order first }
 {
     match first {
         0 => [0, 1, 2, 3],

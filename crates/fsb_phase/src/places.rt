@@ -3,13 +3,14 @@
 ghost use Rattle.std.specs.Prelude.{◌≡◌, ◌<◌};
 ghost use Rattle.fsb_phase.specs.Due.{moves};
 ghost use Rattle.fsb_phase.specs.Drive.{code_of};
-ghost use Rattle.fsb_phase.specs.Registers.{does_take, is_taking, open_entry};
+ghost use Rattle.fsb_trace.specs.Outcome.{does_take};
+ghost use Rattle.fsb_phase.specs.Registers.{is_taking, open_entry};
 
 use fsb_queue::{Entry, Queue};
 use fsb_trace::{Outcome, code_of as response_code};
 
 /// Whether memory takes data with the entry's outcome.
-#[tactic(auto, unfolding(crate::specs::Registers::is_taking, crate::specs::Registers::does_take, fsb_count::specs::Options::is_some_and))]
+#[tactic(auto, unfolding(crate::specs::Registers::is_taking, fsb_trace::specs::Outcome::does_take, fsb_count::specs::Options::is_some_and))]
 pub fn is_taking(e: &Entry) -> bool
     ensures { result ≡ is_taking e.now }
 {

@@ -2,7 +2,7 @@
 
 ghost use Rattle.std.specs.Prelude.{◌≡◌, ◌<◌, ◌+◌, IfSome};
 ghost use Rattle.fsb_trace.specs.Snoop.{is_every_second_from};
-ghost use Rattle.fsb_phase.specs.Timing.{is_stall_from, is_ready_from, is_response_from, chunk_from, is_busy_from};
+ghost use Rattle.fsb_trace.specs.Timing.{is_stall_from, is_ready_from, is_response_from, chunk_from, is_busy_from};
 
 /// Whether `c` is the start or an even number of clocks after it.
 #[tactic(auto, unfolding(fsb_trace::specs::Snoop::is_every_second_from))]
@@ -24,7 +24,7 @@ pub fn is_stall_from(stall: u8, c: u64, start: u64) -> bool
 }
 
 /// Whether `c` is the ready clock of a request that takes, is answered from this clock on and waits so long.
-#[tactic(auto, unfolding(crate::specs::Timing::is_ready_from, fsb_count::specs::Options::is_at, fsb_count::specs::Options::is_some_and))]
+#[tactic(auto, unfolding(fsb_trace::specs::Timing::is_ready_from, fsb_count::specs::Options::is_at, fsb_count::specs::Options::is_some_and))]
 pub fn is_ready_from(from: Option<u64>, wait: u8, c: u64) -> bool
     ensures { result ≡ is_ready_from from wait c }
 {
@@ -36,7 +36,7 @@ pub fn is_ready_from(from: Option<u64>, wait: u8, c: u64) -> bool
 
 /// Whether `c` is the response clock of a request that is answered from this clock on or, where it takes, has this ready
 /// clock, and waits so long.
-#[tactic(auto, unfolding(crate::specs::Timing::is_response_from, crate::specs::Timing::is_ready_from, fsb_count::specs::Options::is_at, fsb_count::specs::Options::is_some_and))]
+#[tactic(auto, unfolding(fsb_trace::specs::Timing::is_response_from, fsb_trace::specs::Timing::is_ready_from, fsb_count::specs::Options::is_at, fsb_count::specs::Options::is_some_and))]
 pub fn is_response_from(
     takes: bool,
     from: Option<u64>,
@@ -71,7 +71,7 @@ pub fn chunk_from(gap: u8, c: u32, r: u32) -> Option<u8>
 }
 
 /// Whether `c` lies from the response clock `r` to the clock before the last chunk.
-#[tactic(auto, unfolding(crate::specs::Timing::is_busy_from))]
+#[tactic(auto, unfolding(fsb_trace::specs::Timing::is_busy_from))]
 pub fn is_busy_from(gap: u8, c: u32, r: u32) -> bool
     ensures { result ≡ is_busy_from gap c r }
 {

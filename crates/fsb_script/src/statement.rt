@@ -7,15 +7,11 @@ ghost use Rattle.fsb_script.specs.Statements.{keyword, size_at, aligned_at, load
 use crate::fault::Cause;
 use crate::plan::Window;
 use crate::word::{
-    ADDRESSES, address, decimal, decimal_within, hex_digit, hex_of, hexadecimal, is_ended,
-    next_word,
+    address, decimal, decimal_within, hex_digit, hex_of, hexadecimal, is_ended, next_word,
 };
 use arrayvec::ArrayVec;
-use fsb_access::{Access, Operand};
+use fsb_access::{ADDRESS_LIMIT, Access, LINE_BYTES, Operand};
 use fsb_hazard::HazardLine;
-
-/// The bytes of a line of memory.
-const LINE: u64 = 32;
 
 /// The last request or clock that a hazard may name.
 const LAST: u64 = 199_999;
@@ -159,17 +155,17 @@ pub(crate) fn window_of(line: &[u8]) -> Result<Window, Cause>
     ensures lawful { IfOk result (λ x. IsTrue (is_lawful_window x)) }
 {
     let (base, rest) = address(line)?;
-    if base % LINE != 0 {
+    if base % LINE_BYTES != 0 {
         return Err(Cause::Align);
     }
     let (size, rest) = hexadecimal(rest)?;
-    if size > ADDRESSES {
+    if size > ADDRESS_LIMIT {
         return Err(Cause::Outside);
     }
-    if size == 0 || size % LINE != 0 {
+    if size == 0 || size % LINE_BYTES != 0 {
         return Err(Cause::Align);
     }
-    if base + size > ADDRESSES {
+    if base + size > ADDRESS_LIMIT {
         return Err(Cause::Outside);
     }
     if !is_ended(rest) {
@@ -214,7 +210,7 @@ pub(crate) fn memory_of(line: &[u8]) -> Result<(u64, ArrayVec<u8, BYTES>), Cause
     let (addr, rest) = address(line)?;
     let (word, rest) = next_word(rest)?;
     let bytes = bytes_of(word)?;
-    if addr + bytes.len() as u64 > ADDRESSES {
+    if addr + bytes.len() as u64 > ADDRESS_LIMIT {
         return Err(Cause::Outside);
     }
     if !is_ended(rest) {

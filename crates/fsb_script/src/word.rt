@@ -3,9 +3,7 @@ ghost use Rattle.fsb_script.specs.Reading.{Reads};
 ghost use Rattle.fsb_script.specs.Words.{is_blank, skip_blanks, word_len, is_read_past, next_word, is_empty, decimal_from, decimal_of, hex_digit, hex_from, hex_of, decimal, hexadecimal, decimal_within, address};
 
 use crate::fault::Cause;
-
-/// Addresses are below this number of bytes.
-pub(crate) const ADDRESSES: u64 = 1 << 36;
+use fsb_access::ADDRESS_LIMIT;
 
 fn is_blank(byte: u8) -> bool
     ensures { result ≡ is_blank byte }
@@ -168,7 +166,7 @@ pub(crate) fn address(line: &[u8]) -> Result<(u64, &[u8]), Cause>
     ensures below { IfOk result (λ x. x.0 < 2 ^ 36) }
 {
     let (number, rest) = hexadecimal(line)?;
-    if number < ADDRESSES {
+    if number < ADDRESS_LIMIT {
         Ok((number, rest))
     } else {
         Err(Cause::Outside)

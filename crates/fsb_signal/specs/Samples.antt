@@ -51,14 +51,6 @@ line_at line w c = option_map_or (λ s. has_line s line) (slice_get w c) false
 abbrev pub known_word : ℕ → Word
 known_word bits = record { bits = bits; unknown = 0; disjoint = and_zero_r bits }
 
--- the request word at clock c; past the end nothing is asserted
-abbrev pub req_at : List Sample → ℕ → Word
-req_at w c = option_map_or (λ s. s.req) (slice_get w c) (known_word 0)
-
--- the address word at clock c; past the end nothing is asserted
-abbrev pub addr_at : List Sample → ℕ → Word
-addr_at w c = option_map_or (λ s. s.addr) (slice_get w c) (known_word 0)
-
 -- the data word at clock c; past the end nothing is asserted
 abbrev pub data_at : List Sample → ℕ → Word
 data_at w c = option_map_or (λ s. s.dbus) (slice_get w c) (known_word 0)

@@ -2,7 +2,7 @@
 #![tactic(auto)]
 
 pub use lines::Lines;
-pub use query::{idle_sample, is_asserted_at};
+pub use query::{idle_sample, line_at};
 pub use sample::{Sample, Word};
 pub use signal::Signal;
 pub use table::{SIGNALS, signal_at, signal_named};

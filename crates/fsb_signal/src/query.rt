@@ -131,7 +131,7 @@ pub fn idle_sample() -> Sample
 
 /// Whether the line is asserted at the clock; past the last sample nothing is.
 #[tactic(auto, unfolding(crate::specs::Samples::line_at))]
-pub fn is_asserted_at(samples: &[Sample], line: Lines, clock: usize) -> bool
+pub fn line_at(line: Lines, samples: &[Sample], clock: usize) -> bool
     ensures { result ≡ line_at line samples.now clock }
 {
     match samples.get(clock) {

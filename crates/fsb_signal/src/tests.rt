@@ -1,4 +1,4 @@
-use crate::{Lines, SIGNALS, Sample, Word, idle_sample, is_asserted_at, signal_at, signal_named};
+use crate::{Lines, SIGNALS, Sample, Word, idle_sample, line_at, signal_at, signal_named};
 
 #[test]
 fn names_have_their_numbers(rt: HostRuntime) {
@@ -27,10 +27,10 @@ fn samples_tell_what_is_asserted(rt: HostRuntime) {
     assert_eq!(rt; idle_sample(), Sample::known(Lines(0), 0, 0, 0));
     assert_eq!(rt; Word::known(5).bits, 5);
     let samples = [idle_sample(), sample];
-    assert!(rt; is_asserted_at(&samples, Lines::ADS, 1));
-    assert!(rt; !is_asserted_at(&samples, Lines::ADS, 0));
+    assert!(rt; line_at(Lines::ADS, &samples, 1));
+    assert!(rt; !line_at(Lines::ADS, &samples, 0));
     assert!(rt;
-        !is_asserted_at(&samples, Lines::ADS, 2),
+        !line_at(Lines::ADS, &samples, 2),
         "past the end nothing is asserted"
     );
 }

@@ -1,5 +1,5 @@
 -- The waveform of one agent on lines of its own.
-use Rattle.std.specs.Prelude.{ℕ, Bool, not, ◌+◌, ◌*◌, true, if◌then◌else◌, List, [], ◌∷◌, ◌++◌, take, replicate, slice_index, slice_index_or}
+use Rattle.std.specs.Prelude.{ℕ, Bool, not, ◌+◌, ◌*◌, true, if◌then◌else◌, List, [], ◌∷◌, ◌++◌, take, replicate, slice_index}
 use Rattle.std.specs.Int.RustNames.{bit_or}
 use Rattle.fsb_access.specs.Access.{accessed_line, chunk_of}
 use Rattle.fsb_access.specs.ByteMemory.{ByteMemory, start_memory, value_at}
@@ -8,6 +8,7 @@ use Rattle.fsb_access.specs.declared.access.Access.TheVariants.{Load, Store}
 use Rattle.fsb_access.specs.declared.access.Setting.{Setting}
 use Rattle.fsb_access.specs.declared.item.Item.{Item}
 use Rattle.fsb_access.specs.declared.item.Item.TheVariants.{One, Locked, Idle}
+use Rattle.fsb_encode.specs.Burst.{burst_order}
 use Rattle.fsb_encode.specs.Request.{pairs_of}
 use Rattle.fsb_encode.specs.declared.request.Kind.{Kind}
 use Rattle.fsb_encode.specs.declared.request.Kind.TheVariants.{Read, Invalidate}
@@ -33,12 +34,6 @@ request_for access = record {
   did = 0;
   den = true;
 }
-
--- the order of a burst by the chunk that comes first
-abbrev pub burst_order : ℕ → List ℕ
-burst_order first = slice_index_or
-    ((0 ∷ 1 ∷ 2 ∷ 3 ∷ []) ∷ (1 ∷ 0 ∷ 3 ∷ 2 ∷ []) ∷ (2 ∷ 3 ∷ 0 ∷ 1 ∷ []) ∷ (3 ∷ 2 ∷ 1 ∷ 0 ∷ []) ∷ [])
-    first []
 
 -- the n-th chunk of an access's line in its burst, as the memory has it
 abbrev pub burst_chunk : ByteMemory → Access → ℕ → ℕ

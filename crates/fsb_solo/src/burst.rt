@@ -1,17 +1,20 @@
 //! The data of a transaction.
-ghost use Rattle.std.specs.Prelude.{◌≡◌, ◌+◌, ◌*◌, ◌<◌, ◌^◌, IfOk};
+ghost use Rattle.std.specs.Prelude.{◌≡◌, ◌+◌, ◌*◌, ◌<◌, ◌^◌, IfOk, All};
 ghost use Rattle.fsb_access.specs.Access.{IsLawfulAccess};
 ghost use Rattle.fsb_access.specs.ByteMemory.{value_at};
 ghost use Rattle.fsb_access.specs.FlatView.{state_of};
-ghost use Rattle.fsb_solo.specs.SoloTrace.{burst_order, burst_of};
+ghost use Rattle.fsb_encode.specs.Burst.{burst_order};
+ghost use Rattle.fsb_solo.specs.SoloTrace.{burst_of};
 
 use fsb_access::{Access, Flat};
 use fsb_io::Memory;
 
 /// The chunks of a line in the order of a burst that begins with this one.
+#[tactic(auto, unfolding(fsb_encode::specs::Burst::burst_order))]
 pub fn burst_order(first: u8) -> [u8; 4]
     requires { first < 4 }
-    ensures { result ≡ burst_order first }
+    ensures order { result ≡ burst_order first }
+    ensures chunks { All (λ chunk. chunk < 4) result }
 {
     match first {
         0 => [0, 1, 2, 3],

@@ -13,10 +13,8 @@ use Rattle.fsb_hazard.specs.declared.choice.Choice.{Choice}
 use Rattle.fsb_hazard.specs.Choice.{quiet_choice, join}
 use Rattle.fsb_line.specs.declared.state.Mesi.{Mesi}
 use Rattle.fsb_line.specs.declared.state.Mesi.TheVariants.{Invalid}
-use Rattle.fsb_trace.specs.declared.outcome.Outcome.{Outcome}
-use Rattle.fsb_trace.specs.declared.outcome.Outcome.TheVariants.{Granted, Handed, Retried, Deferred, Written, Replied, Failed}
 use Rattle.fsb_trace.specs.Requests.{live_count}
-use Rattle.fsb_trace.specs.Outcome.{response_clock_of}
+use Rattle.fsb_trace.specs.Outcome.{does_take, response_clock_of}
 use Rattle.fsb_trace.specs.Response.{end_of}
 use Rattle.fsb_timely.specs.Moments.{live_claim_of}
 use Rattle.fsb_timely.specs.Runs.{Run, Past, past_of}
@@ -92,21 +90,11 @@ line_bytes memory line = bytes_at memory (line * 32) 32
 unfoldable pub bytes_now : Run → ℕ → List ℕ
 bytes_now r line = line_bytes (replay (start_of r.plan.mem) r.log).memory line
 
--- data go into memory with this outcome
-unfoldable pub is_taken : Outcome → Bool
-is_taken Granted = false
-is_taken Handed = true
-is_taken Retried = false
-is_taken Deferred = false
-is_taken Written = true
-is_taken Replied = false
-is_taken Failed = false
-
 -- live request i is for the line, its settled outcome is Handed or Written, and its end is below the end of the trace
 unfoldable pub is_put : Run → Past → ℕ → ℕ → Bool
 is_put r p line i =
     is_some_and (live_claim_of r.trace i) (λ claim. nat_eq claim.line line)
-    && is_some_and (settled_of r p i) is_taken
+    && is_some_and (settled_of r p i) does_take
     && is_before (end_of r.trace i) (length r.trace)
 
 -- the last live request that put the line into memory

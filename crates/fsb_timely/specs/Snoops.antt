@@ -1,5 +1,5 @@
 -- Hazards and snoop results: what is on BNR#, AERR#, HIT#, HITM# and DEFER#.
-use Rattle.std.specs.Prelude.{ℕ, ◌+◌, ◌-◌, ◌*◌, ◌&&◌, ◌||◌, Bool, true, false, not, nat_eq, nat_le, Option, Some, None, slice_get}
+use Rattle.std.specs.Prelude.{ℕ, ◌-◌, ◌&&◌, ◌||◌, Bool, true, false, not, nat_eq, nat_le, Option, Some, None, slice_get}
 use Rattle.std.specs.Option.{option_map_or, option_and_then}
 use Rattle.fsb_count.specs.Options.{is_some_and}
 use Rattle.fsb_count.specs.Clocks.{any_where}
@@ -12,6 +12,7 @@ use Rattle.fsb_hazard.specs.Choice.{quiet_choice}
 use Rattle.fsb_trace.specs.At.{stalls_at}
 use Rattle.fsb_trace.specs.Requests.{live_clock_of, live_count, is_reply_kind}
 use Rattle.fsb_trace.specs.Snoop.{snoop_start_of, is_snoop_clock, line_at_snoop_end}
+use Rattle.fsb_trace.specs.Timing.{is_stall_from}
 use Rattle.fsb_timely.specs.Moments.{SnoopEnd, choice_at, turns_in, served_number, number_snooped_at}
 use Rattle.fsb_timely.specs.Runs.{Run, Past}
 use Rattle.fsb_timely.specs.Grants.{snooped_at, is_held}
@@ -34,7 +35,7 @@ live_choice r i = option_map_or (choice_at r.choices r.trace) (live_clock_of r.t
 -- stalls are not used up
 unfoldable pub is_stall_chosen : Run → ℕ → ℕ → Bool
 is_stall_chosen r c i =
-    is_some_and (snoop_start_of r.trace i) (λ start. any_where (λ m. nat_eq c (start + 2 * m)) (live_choice r i).stall)
+    is_some_and (snoop_start_of r.trace i) (is_stall_from (live_choice r i).stall c)
 
 -- the turn is Keep
 unfoldable pub is_keep : Turn → Bool

@@ -1,48 +1,36 @@
 -- Responses and data: what is on TRDY#, RS#, DRDY#, DBSY# and D#, and which bytes the data are.
-use Rattle.std.specs.Prelude.{ℕ, zero, suc, ◌+◌, ◌*◌, ◌&&◌, ◌||◌, Bool, true, false, nat_eq, nat_lt, nat_le, List, [], ◌∷◌, Option, slice_index}
+use Rattle.std.specs.Prelude.{ℕ, ◌+◌, ◌*◌, ◌&&◌, ◌||◌, Bool, true, false, nat_eq, nat_lt, Option, is_some, slice_index}
 use Rattle.std.specs.List.{filter}
-use Rattle.std.specs.Option.{option_map, option_map_or, option_and_then}
-use Rattle.fsb_count.specs.Options.{is_some_and, is_at, greater_of}
+use Rattle.std.specs.Option.{option_map_or, option_and_then}
+use Rattle.fsb_count.specs.Options.{is_some_and, is_at}
 use Rattle.fsb_count.specs.Clocks.{first_where, any_where}
 use Rattle.fsb_access.specs.ByteMemory.{ByteMemory, value_at}
 use Rattle.fsb_access.specs.Replay.{start_of, replay}
 use Rattle.fsb_signal.specs.declared.lines.TheConstants.Lines.{TRDY, DRDY, DBSY}
 use Rattle.fsb_signal.specs.Samples.{line_at, data_at}
-use Rattle.fsb_trace.specs.At.{Trace, response_code_at}
+use Rattle.fsb_trace.specs.At.{response_code_at}
 use Rattle.fsb_trace.specs.Requests.{live_count, live_request_of}
-use Rattle.fsb_trace.specs.Snoop.{snoop_end_of}
 use Rattle.fsb_encode.specs.declared.request.Request.{Request}
+use Rattle.fsb_encode.specs.Burst.{burst_order}
 use Rattle.fsb_trace.specs.declared.outcome.Outcome.{Outcome}
 use Rattle.fsb_trace.specs.Outcome.{does_move, response_code_of, response_clock_of, settled_outcome_of}
-use Rattle.fsb_trace.specs.Response.{takes, data_clock_of, end_of, ready_clock_of}
+use Rattle.fsb_trace.specs.Response.{takes, data_clock_of, answer_from, ready_clock_of}
+use Rattle.fsb_trace.specs.Timing.{is_ready_from, is_response_from, chunk_from, is_busy_from}
 use Rattle.fsb_timely.specs.Moments.{turns_in, served_number}
 use Rattle.fsb_timely.specs.Runs.{Run, Past}
 use Rattle.fsb_timely.specs.Starts.{is_exactly, each_where}
 use Rattle.fsb_timely.specs.Snoops.{live_choice}
 
--- two clocks after the snoop end of live request i
-unfoldable pub two_after_snoop : Trace → ℕ → Option ℕ
-two_after_snoop w i = option_map (λ s. s + 2) (snoop_end_of w i)
-
--- the clock from which live request i is answered, with its waits: two after its snoop end, or, if that is later, one
--- after the end of the request before it
-unfoldable pub answer_from : Trace → ℕ → Option ℕ
-answer_from w zero = two_after_snoop w 0
-answer_from w (suc i) = greater_of (two_after_snoop w (suc i)) (option_map (λ e. e + 1) (end_of w i))
-
 -- live request i takes, and c is its ready clock: the clock from which it is answered, and its wait for TRDY#
 unfoldable pub is_ready_clock : Run → ℕ → ℕ → Bool
 is_ready_clock r c i =
-    takes r.trace i && is_at (option_map (λ f. f + (live_choice r i).trdy) (answer_from r.trace i)) c
+    takes r.trace i && is_ready_from (answer_from r.trace i) (live_choice r i).trdy c
 
 -- c is the response clock that live request i is to have: one that takes has it two clocks after its ready clock, any
 -- other from the clock from which it is answered, and both wait as is chosen
 unfoldable pub is_response_clock : Run → ℕ → ℕ → Bool
 is_response_clock r c i =
-    elim (takes r.trace i) [
-      | true ↦ is_at (option_map (λ y. y + 2 + (live_choice r i).resp) (ready_clock_of r.trace i)) c
-      | false ↦ is_at (option_map (λ f. f + (live_choice r i).resp) (answer_from r.trace i)) c
-    ]
+    is_response_from (takes r.trace i) (answer_from r.trace i) (ready_clock_of r.trace i) (live_choice r i).resp c
 
 -- the settled outcome of live request i
 unfoldable pub settled_of : Run → Past → ℕ → Option Outcome
@@ -60,25 +48,17 @@ code_due r p c = option_map_or response_code_of (option_and_then (settled_of r p
 unfoldable pub settles_to_move : Run → Past → ℕ → Bool
 settles_to_move r p i = is_some_and (settled_of r p i) does_move
 
--- the clocks from one chunk of live request i to the next
-unfoldable pub chunk_step : Run → ℕ → ℕ
-chunk_step r i = 1 + (live_choice r i).gap
-
--- c is one of the four clocks at which live request i, with this response clock, has data
-unfoldable pub is_data_clock_from : Run → ℕ → ℕ → ℕ → Bool
-is_data_clock_from r c i response = any_where (λ n. nat_eq c (response + n * chunk_step r i)) 4
-
--- data of live request i move, and c is one of its data clocks
+-- data of live request i move, and c is one of its four data clocks: a chunk is due there
 unfoldable pub has_data_at : Run → Past → ℕ → ℕ → Bool
-has_data_at r p c i = settles_to_move r p i && is_some_and (response_clock_of r.trace i) (is_data_clock_from r c i)
+has_data_at r p c i =
+    settles_to_move r p i
+    && is_some (option_and_then (chunk_from (live_choice r i).gap c) (response_clock_of r.trace i))
 
--- c lies from this response clock of live request i to the clock before its last data
-unfoldable pub is_busy_from : Run → ℕ → ℕ → ℕ → Bool
-is_busy_from r c i response = nat_le response c && nat_lt c (response + 3 * chunk_step r i)
-
--- data of live request i move, and c is a clock at which it keeps the data bus
+-- data of live request i move, and c is a clock at which it keeps the data bus: from its response clock to the clock
+-- before its last data
 unfoldable pub is_busy_at : Run → Past → ℕ → ℕ → Bool
-is_busy_at r p c i = settles_to_move r p i && is_some_and (response_clock_of r.trace i) (is_busy_from r c i)
+is_busy_at r p c i =
+    settles_to_move r p i && is_some_and (response_clock_of r.trace i) (is_busy_from (live_choice r i).gap c)
 
 -- Responses and data: TRDY# is at c exactly where c is the ready clock of a request that takes; RS# has the code that is
 -- due; DRDY# is at c exactly where some request has data there, and DBSY# exactly where one keeps the data bus; and D# is
@@ -90,13 +70,6 @@ drives_responses r p c =
     && is_exactly (line_at DRDY r.trace c) (any_where (has_data_at r p c) (live_count r.trace))
     && is_exactly (line_at DBSY r.trace c) (any_where (is_busy_at r p c) (live_count r.trace))
     && (line_at DRDY r.trace c || nat_eq (data_at r.trace c).bits 0)
-
--- the chunks of a line in the order in which they come where this one comes first
-unfoldable pub burst_of : ℕ → List ℕ
-burst_of zero = 0 ∷ 1 ∷ 2 ∷ 3 ∷ []
-burst_of (suc zero) = 1 ∷ 0 ∷ 3 ∷ 2 ∷ []
-burst_of (suc (suc zero)) = 2 ∷ 3 ∷ 0 ∷ 1 ∷ []
-burst_of (suc (suc (suc n))) = 3 ∷ 2 ∷ 1 ∷ 0 ∷ []
 
 -- the bytes after the entries below clock n are served one after the other on the plan's memory
 unfoldable pub memory_below : Run → ℕ → ByteMemory
@@ -110,7 +83,7 @@ chunk_value memory line chunk = value_at memory (line * 32 + chunk * 8) 8
 -- its own one, as it stands in the replay of the entries below the response
 unfoldable pub carried_value : Run → ℕ → ℕ → Request → ℕ
 carried_value r n response request =
-    chunk_value (memory_below r response) request.line (slice_index (burst_of request.chunk) n)
+    chunk_value (memory_below r response) request.line (slice_index (burst_order request.chunk) n)
 
 -- the request whose line and chunk live request i has: its own ones, and for a reply those of the request that it answers
 unfoldable pub served_request : Run → Past → ℕ → Option Request

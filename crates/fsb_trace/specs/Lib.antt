@@ -4,6 +4,7 @@ pub mod Requests
 pub mod Snoop
 pub mod Outcome
 pub mod Response
+pub mod Timing
 pub mod Flight
 pub mod Deferral
 pub mod Rules

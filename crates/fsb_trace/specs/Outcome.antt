@@ -23,6 +23,16 @@ does_move Written = true
 does_move Replied = true
 does_move Failed = false
 
+-- memory takes data with this outcome
+unfoldable pub does_take : Outcome → Bool
+does_take Granted = false
+does_take Handed = true
+does_take Retried = false
+does_take Deferred = false
+does_take Written = true
+does_take Replied = false
+does_take Failed = false
+
 -- the response code of this outcome: RS2, RS1 and RS0
 unfoldable pub response_code_of : Outcome → ℕ
 response_code_of Granted = 0b111

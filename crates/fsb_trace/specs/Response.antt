@@ -41,6 +41,16 @@ unfoldable pub ready_after : Trace → ℕ → Option ℕ
 ready_after w zero = clock_after_snoop w 0
 ready_after w (suc i) = greater_of (clock_after_snoop w (suc i)) (end_of w i)
 
+-- two clocks after the snoop end of live request i
+unfoldable pub two_after_snoop : Trace → ℕ → Option ℕ
+two_after_snoop w i = option_map (λ s. s + 2) (snoop_end_of w i)
+
+-- the clock from which live request i is answered, with its waits: two after its snoop end, or, if that is later, one
+-- after the end of the request before it
+unfoldable pub answer_from : Trace → ℕ → Option ℕ
+answer_from w zero = two_after_snoop w 0
+answer_from w (suc i) = greater_of (two_after_snoop w (suc i)) (option_map (λ t. t + 1) (end_of w i))
+
 -- the ready clock of live request i: the first TRDY# clock above that
 unfoldable pub ready_clock_of : Trace → ℕ → Option ℕ
 ready_clock_of w i =

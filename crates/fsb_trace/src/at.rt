@@ -1,22 +1,10 @@
 //! What a trace has at a clock.
 
 ghost use Rattle.std.specs.Prelude.{◌≡◌, ◌+◌, ◌^◌, ◌<◌, ◌≤◌};
-ghost use Rattle.fsb_signal.specs.Samples.{line_at};
 ghost use Rattle.fsb_trace.specs.At.{line_back, response_code_at, responds_at, stalls_at, known_pair, known_pair_at, request_at};
 
 use fsb_encode::{Pair, Request, decode};
-use fsb_signal::{Lines, Sample};
-
-/// Whether the line is asserted at `c`.
-#[tactic(auto, unfolding(fsb_signal::specs::Samples::line_at))]
-pub fn line_at(line: Lines, w: &[Sample], c: usize) -> bool
-    ensures { result ≡ line_at line w.now c }
-{
-    match w.get(c) {
-        Some(sample) => sample.has(line),
-        None => false,
-    }
-}
+use fsb_signal::{Lines, Sample, line_at};
 
 /// Whether the line is asserted `d` clocks before `c`.
 #[tactic(auto, unfolding(crate::specs::At::line_back))]

@@ -5,12 +5,11 @@ ghost use Rattle.fsb_count.specs.Clocks.{from_clock};
 ghost use Rattle.fsb_signal.specs.Samples.{line_at};
 ghost use Rattle.fsb_trace.specs.Response.{takes, data_clock_of, end_of, is_clear_before, clock_after_snoop, ready_after, ready_clock_of};
 
-use crate::at::line_at;
 use crate::request::{is_write_back, live_request_of};
 use crate::snoop::{greater_of, is_before, line_at_snoop_end, snoop_end_of};
 use crate::told::{moves_data, response_clock_of};
 use fsb_count::{first_where, nth_where};
-use fsb_signal::{Lines, Sample};
+use fsb_signal::{Lines, Sample, line_at};
 
 /// Whether memory is to take the data of live request `i`.
 #[tactic(auto, unfolding(crate::specs::Response::takes))]

@@ -4,7 +4,7 @@ ghost use Rattle.std.specs.Prelude.{◌≡◌, ◌+◌, ◌^◌, ◌<◌, length
 ghost use Rattle.fsb_trace.specs.Flight.{is_dropped, has_ended, is_in_flight, in_flight, is_reply_to, is_live_reply_to, reply_clock_of, reply_number_of, reply_end_of, last_clock_of, is_finished, is_outstanding};
 ghost use Rattle.fsb_trace.specs.Deferral.{answers, is_answered};
 
-use crate::at::{line_at, request_at};
+use crate::at::request_at;
 use crate::ending::end_clock_of;
 use crate::request::{
     have_same_id, is_cancelled, is_live, is_reply, live_number_of, live_request_of,
@@ -12,7 +12,7 @@ use crate::request::{
 use crate::snoop::is_before;
 use crate::told::{is_deferred, response_clock_of};
 use fsb_count::{any_where, count_where, first_where};
-use fsb_signal::{Lines, Sample};
+use fsb_signal::{Lines, Sample, line_at};
 
 /// Whether the request that begins at `q` was cancelled, and its address error lies below `c`.
 #[tactic(auto, unfolding(crate::specs::Flight::is_dropped))]

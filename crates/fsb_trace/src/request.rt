@@ -3,13 +3,13 @@
 ghost use Rattle.std.specs.Prelude.{◌≡◌, ◌+◌, ◌^◌, ◌<◌, length, IfSome, IfOk};
 ghost use Rattle.fsb_trace.specs.Requests.{is_cancelled, seen_at, requests_of, is_live, live_count, live_clock_of, live_number_of, live_request_of, is_reply, is_write_back, have_same_id};
 
-use crate::at::{line_at, request_at};
+use crate::at::request_at;
 use crate::seen::Seen;
 use crate::winner::winner_at;
 use fsb_count::{count_where, nth_where};
 use fsb_encode::{Kind, Request};
 use fsb_io::Memory;
-use fsb_signal::{Lines, Sample};
+use fsb_signal::{Lines, Sample, line_at};
 use std::alloc::Global;
 
 /// Whether the request that begins at `q` is cancelled.

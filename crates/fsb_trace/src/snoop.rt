@@ -4,10 +4,10 @@ ghost use Rattle.std.specs.Prelude.{◌≡◌, ℕ, ◌+◌, ◌^◌, ◌<◌, �
 ghost use Rattle.fsb_count.specs.Options.{is_before, is_at, greater_of};
 ghost use Rattle.fsb_trace.specs.Snoop.{is_every_second_from, ends_snoop, snoop_end_from, snoop_end_if, start_after_clock, start_after_end, snoop_end_of, snoop_start_of, is_snoop_clock_of, is_snoop_clock, line_at_snoop_end};
 
-use crate::at::{line_at, stalls_at};
+use crate::at::stalls_at;
 use crate::request::{live_clock_of, live_count};
 use fsb_count::{any_where, first_where};
-use fsb_signal::{Lines, Sample};
+use fsb_signal::{Lines, Sample, line_at};
 
 /// Whether the number is reached and below `n`.
 #[tactic(auto, unfolding(fsb_count::specs::Options::is_before, fsb_count::specs::Options::is_some_and))]

@@ -3,10 +3,9 @@
 ghost use Rattle.std.specs.Prelude.{◌≡◌, ◌<◌, ◌≤◌};
 ghost use Rattle.fsb_trace.specs.Winner.{bus_request_of, request_line_of, is_same_agent, is_agent, symmetric_after, then_begun, first_in_order, agent_in_order, asks_in_order, first_asking, last_if_asking, winner_by, winner_after, turns_before, winner_at, begins_at};
 
-use crate::at::line_at;
 use crate::who::Who;
 use fsb_count::first_where;
-use fsb_signal::{Lines, Sample};
+use fsb_signal::{Lines, Sample, line_at};
 
 /// Which agents began the requests so far: the agent of the last one, if there is one and it had a winner, and the
 /// symmetric agent that began one last.

@@ -7,7 +7,7 @@ use crate::named::{Earlier, Named};
 use crate::place::Place;
 use crate::plan::{Scripts, Settings, Window};
 use crate::statement::{block_of, idle_of, transaction_of, window_of};
-use fsb_access::{Access, Group, Item, Script};
+use fsb_access::{Access, Group, Item, LINE_BYTES, Script};
 use fsb_hazard::{HazardLine, HazardLines};
 use std::alloc::{AllocError, Global};
 use std::test::Fail;
@@ -56,7 +56,7 @@ fn loads(alloc: Global, lines: &[u32]) -> Result<Vec<Access>, AllocError> {
     for line in lines {
         accesses.push(Access::Load {
             size: 1,
-            addr: u64::from(*line) * 32,
+            addr: u64::from(*line) * LINE_BYTES,
         })?;
     }
     Ok(accesses)
