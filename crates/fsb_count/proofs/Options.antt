@@ -1,7 +1,8 @@
 -- What a test says of a number that may not be reached.
-use Rattle.std.proofs.Common.{ℕ, ◌≡◌, Bool, true, false, cond, Option, Some, None, is_some, is_none, refl, ap, arith}
-use Rattle.std.proofs.lemmas.Bool.{eqb-true, eq-eqb, le-ltb}
+use Rattle.std.proofs.Common.{ℕ, ◌≡◌, Bool, true, false, cond, Option, Some, None, is_some, is_none, refl, ap, arith, ◌+◌, ◌<◌, ◌||◌}
+use Rattle.std.proofs.lemmas.Bool.{eqb-true, eq-eqb, le-ltb, ltb-true, lt-ltb}
 use Rattle.fsb_count.specs.Options.{is_some_and, is_before, is_at}
+use Rattle.fsb_count.proofs.Bools.{nat_lt-more}
 
 -- what is not some is none
 pub is_some-none : {A : Type 0} (o : Option A) → is_some o ≡ false → o ≡ None
@@ -28,6 +29,23 @@ pub is_before-if : (n : ℕ) (b : Bool) → is_before (cond b (Some n) None) n �
 unfolding is_before is_some_and
 is_before-if n true = le-ltb n n (omega arith)
 is_before-if n false = refl
+
+-- a number that is before n is reached
+pub is_before-parts : (o : Option ℕ) (n : ℕ) → is_before o n ≡ true → (m : ℕ) × (o ≡ Some m) × (m < n)
+unfolding is_before is_some_and
+is_before-parts None n t = absurd (let no : ⊥ = cc in no)
+is_before-parts (Some m) n t = (m, refl, ltb-true m n t)
+
+-- a number below n is before n
+pub is_before-from : (o : Option ℕ) (m n : ℕ) → o ≡ Some m → m < n → is_before o n ≡ true
+unfolding is_before is_some_and
+is_before-from o m n e l = rw (e, lt-ltb m n l) refl
+
+-- a number that is before the next one is before n, or is n
+pub is_before-more : (o : Option ℕ) (n : ℕ) → is_before o (n + 1) ≡ (is_before o n || is_at o n)
+unfolding is_before is_at is_some_and
+is_before-more None n = refl
+is_before-more (Some m) n = nat_lt-more m n
 
 -- the number that is at n is n
 pub is_at-some : (o : Option ℕ) (n : ℕ) → is_at o n ≡ true → o ≡ Some n

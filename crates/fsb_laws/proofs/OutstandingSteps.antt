@@ -4,7 +4,7 @@ use Rattle.std.proofs.lemmas.Option.{cond_some}
 use Rattle.std.proofs.lemmas.Bool.{cases_Bool, cases_lt, and_parts, and_right, both_ways, lt-ltb}
 use Rattle.fsb_count.specs.Options.{is_some_and, is_before, is_at}
 use Rattle.fsb_count.proofs.First.{first_where-found}
-use Rattle.fsb_count.proofs.Options.{is_before-none}
+use Rattle.fsb_count.proofs.Options.{is_before-none, is_before-more}
 use Rattle.fsb_signal.specs.declared.lines.TheConstants.Lines.{ADS}
 use Rattle.fsb_signal.specs.declared.sample.Sample.{Sample}
 use Rattle.fsb_signal.specs.Samples.{line_at}
@@ -24,7 +24,7 @@ use Rattle.fsb_laws.specs.Progress.{response_count}
 use Rattle.fsb_laws.specs.Flight.{ends_at}
 use Rattle.fsb_laws.proofs.LiveSteps.{is_live-ads, is_live-more, live_number_of-more}
 use Rattle.fsb_laws.proofs.ResponseSteps.{has_answer, response_there, response_counted, is_deferred-old}
-use Rattle.fsb_laws.proofs.FlightSteps.{end_before-same, ended_known, at_or_before, dropped_form}
+use Rattle.fsb_laws.proofs.FlightSteps.{end_before-same, ended_known, dropped_form}
 use Rattle.fsb_laws.proofs.OrderlySteps.{response_now}
 use Rattle.fsb_laws.proofs.ReplySteps.{cancelled_clock, reply_clock_of-more, reply_clock_of-fresh}
 
@@ -93,7 +93,7 @@ reply_end_of-some w i q e = rw e refl
 pub finished-plain : (h : Trace) (x : Sample) (v : Trace) (i : ℕ) → OneMore h x v → Orderly h → is_deferred h i ≡ false → is_deferred v i ≡ false → is_before (last_clock_of v i) (length v) ≡ (is_before (last_clock_of h i) (length h) || is_at (end_of v i) (length h))
 finished-plain h x v i m o f g =
     rw (last_clock_of-plain v i g, last_clock_of-plain h i f, m.size)
-    (at_or_before (length h) (end_of v i) ∙ ap (λ b. b || is_at (end_of v i) (length h)) (end_before-same h x v i m o))
+    (is_before-more (end_of v i) (length h) ∙ ap (λ b. b || is_at (end_of v i) (length h)) (end_before-same h x v i m o))
 
 -- one that is Deferred by the sample ends with it and is not finished
 pub record IsNewlyDeferred (h v : Trace) (i : ℕ) : Type 0 where
@@ -156,7 +156,7 @@ deferred_kept h x v i q m o ov t u e f =
     let k = live_of_reply v i q f in
     let same : live_number_of h q ≡ live_number_of v q = live_number_of-more h x v q m o.spaced p.1 (is_live-ads h q p.0) in
     rw (last_clock_of-deferred v i t, last_clock_of-deferred h i u, reply_end_of-some v i q f, reply_end_of-some h i q e, same, m.size)
-    (at_or_before (length h) (end_of v (live_number_of v q))
+    (is_before-more (end_of v (live_number_of v q)) (length h)
     ∙ ap (λ b. b || is_at (end_of v (live_number_of v q)) (length h)) (end_before-same h x v (live_number_of v q) m o)
     ∙ ap (λ b. is_before (end_of h (live_number_of v q)) (length h) || b) (ends_live v (length h) q k.0))
 
