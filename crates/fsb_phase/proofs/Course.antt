@@ -167,11 +167,12 @@ course p h x v queue e s k =
           ]
     ]
 
--- the entry that ends
+-- an entry whose end is not reached does not end
 pub no_end : (v : Trace) (n : ℕ) (y : Entry) → end_of v (live_of v y) ≡ None → ends_at v n y ≡ false
 unfolding ends_at is_at is_some_and
 no_end v n y e = and_right (is_live v y.clock) _ (rw e refl)
 
+-- the entry that ends
 none_ends : (p : Phases) (h : Trace) (x : Sample) (v : Trace) (queue : List Entry) (e s : ℕ) → Step p h x v queue e s → EndsTo v e → find (ends_at v (length h)) queue ≡ None
 none_ends p h x v queue e s k to =
     find-off (ends_at v (length h)) queue (λ j y g.

@@ -42,11 +42,12 @@ old_cases line h x v d false m l e = rw e refl
 pub line_back-new : (line : Lines) (h : Trace) (x : Sample) (v : Trace) (d : ℕ) → OneMore h x v → 0 < d → line_back line v (length h) d ≡ line_back line h (length h) d
 line_back-new line h x v d m l = old_cases line h x v d (nat_le d (length h)) m l refl
 
--- a line that is asserted a clock back, and none before the first clock
+-- a line that is asserted a clock back has a clock before
 pub line_back-some : (h : Trace) → line_back ADS h (length h) 1 ≡ true → 0 < length h
 unfolding line_back
 line_back-some h t = let l = leb-true 1 (length h) (and_parts _ _ t).0 in omega arith
 
+-- before the first clock none is
 pub line_back-none : (h : Trace) → length h ≡ 0 → line_back ADS h (length h) 1 ≡ false
 unfolding line_back
 line_back-none h e = and_left _ _ (lt-leb 1 (length h) (omega arith))
