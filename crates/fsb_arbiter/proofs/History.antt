@@ -1,5 +1,5 @@
 -- What an arbiter keeps of a history, and what it says of the next winner.
-use Rattle.std.proofs.Common.{ℕ, ◌+◌, ◌-◌, ◌<◌, ◌≤◌, ◌≡◌, Bool, true, false, cond, Option, Some, None, [], ◌∷◌, ◌++◌, length, nat_le, nat_lt, refl, sym, ap, ◌∙◌, inl, inr, arith}
+use Rattle.std.proofs.Common.{ℕ, ◌+◌, ◌-◌, ◌<◌, ◌≤◌, ◌≡◌, Bool, true, false, cond, Option, Some, None, [], ◌∷◌, ◌++◌, length, nat_le, refl, sym, ap, ◌∙◌, inl, inr, arith}
 use Rattle.std.specs.List.{slice_get}
 use Rattle.std.specs.Option.{option_map}
 use Rattle.std.proofs.lemmas.Bool.{cases_lt, le-leb, lt-leb, lt-ltb, le-ltb}
@@ -14,9 +14,10 @@ use Rattle.fsb_signal.specs.Samples.{line_at}
 use Rattle.fsb_trace.specs.declared.who.Who.{Who}
 use Rattle.fsb_trace.specs.At.{Trace}
 use Rattle.fsb_trace.specs.Agree.{AgreeTo}
-use Rattle.fsb_trace.specs.Winner.{Turns, winner_by, winner_after, winner_at, turns_before, then_begun, symmetric_after, last_agent, last_symmetric}
+use Rattle.fsb_trace.specs.Winner.{Turns, winner_after, winner_at, turns_before, then_begun, symmetric_after, last_agent, last_symmetric}
 use Rattle.fsb_trace.proofs.AgreeAt.{turns_before-agree, winner_after-agree}
 use Rattle.fsb_trace.proofs.TurnSteps.{turns_before-begun, turns_before-kept}
+use Rattle.fsb_trace.proofs.WinnerSteps.{winner_after-low, winner_after-high}
 use Rattle.fsb_arbiter.specs.declared.arbiter.Arbiter.{Arbiter}
 use Rattle.fsb_arbiter.specs.Order.{is_in, winner_among}
 use Rattle.fsb_arbiter.specs.Arbiter.{lines_back, Stands}
@@ -56,14 +57,6 @@ none_back h l e =
       | inl there ↦ none-some there.0 (sym gone ∙ there.2)
       | inr past ↦ (let low : length h ≤ length h - 2 = past.0 in omega arith)
     ]
-
-winner_after-low : (w : Trace) (c : ℕ) (turns : Turns) → nat_lt c 2 ≡ true → winner_after w c turns ≡ None
-unfolding winner_after
-winner_after-low w c turns t = rw (t, winner_after) refl
-
-winner_after-high : (w : Trace) (c : ℕ) (turns : Turns) → nat_lt c 2 ≡ false → winner_after w c turns ≡ winner_by w (c - 2) turns
-unfolding winner_after
-winner_after-high w c turns f = rw (f, winner_after) refl
 
 -- the winner of the next clock
 winner_by_lines : (h : Trace) (lines : Lines) (turns : Turns) → 2 ≤ length h → lines_back h 2 ≡ Some lines → winner_after h (length h) turns ≡ winner_among lines turns.0 turns.1

@@ -1,5 +1,5 @@
 -- The winner by a set of lines is the definition's winner by the lines of a clock.
-use Rattle.std.proofs.Common.{ℕ, ◌+◌, ◌%◌, ◌<◌, ◌≡◌, true, false, Option, Some, None, refl, sym, ap, ◌∙◌, inl, inr}
+use Rattle.std.proofs.Common.{ℕ, ◌≡◌, true, false, Option, Some, None, refl, sym, ap, ◌∙◌, inl, inr}
 use Rattle.std.specs.List.{slice_get}
 use Rattle.std.specs.Option.{option_map}
 use Rattle.std.proofs.lemmas.Bool.{cases_Bool}
@@ -12,6 +12,7 @@ use Rattle.fsb_trace.specs.declared.who.Who.{Who}
 use Rattle.fsb_trace.specs.declared.who.Who.TheVariants.{Symmetric, Priority}
 use Rattle.fsb_trace.specs.At.{Trace}
 use Rattle.fsb_trace.specs.Winner.{Turns, bus_request_of, request_line_of, agent_in_order, first_in_order, asks_in_order, first_asking, last_if_asking, winner_by}
+use Rattle.fsb_trace.proofs.WinnerSteps.{winner_by-locked, winner_by-priority, winner_by-symmetric}
 use Rattle.fsb_arbiter.specs.Order.{is_in, asks_among, first_among, last_if_among, winner_among}
 
 -- a line of a clock
@@ -31,18 +32,6 @@ last_if_asking-is w d s None e = refl
 last_if_asking-is w d s (Some who) e = rw (line_at-is w d s (request_line_of who) e) refl
 
 -- the winner, by which lines are asserted
-by_lock : (w : Trace) (d : ℕ) (turns : Turns) → line_at LOCK w d ≡ true → winner_by w d turns ≡ last_if_asking w d turns.0
-unfolding winner_by
-by_lock w d turns t = rw (t, winner_by) refl
-
-by_priority : (w : Trace) (d : ℕ) (turns : Turns) → line_at LOCK w d ≡ false → line_at BPRI w d ≡ true → winner_by w d turns ≡ Some Priority
-unfolding winner_by
-by_priority w d turns f t = rw (f, t, winner_by) refl
-
-by_order : (w : Trace) (d : ℕ) (turns : Turns) → line_at LOCK w d ≡ false → line_at BPRI w d ≡ false → winner_by w d turns ≡ option_map Symmetric (first_asking w d (first_in_order turns.1))
-unfolding winner_by
-by_order w d turns f g = rw (f, g, winner_by) refl
-
 among_lock : (lines : Lines) (last : Option Who) (symmetric : Option ℕ) → is_in lines LOCK ≡ true → winner_among lines last symmetric ≡ last_if_among lines last
 unfolding winner_among
 among_lock lines last symmetric t = rw (t, winner_among) refl
@@ -62,12 +51,12 @@ winner_by-is w d s turns e =
     let bpri : line_at BPRI w d ≡ is_in s.lines BPRI = line_at-is w d s BPRI e in
     elim (cases_Bool (is_in s.lines LOCK)) [
       | inl t ↦
-          by_lock w d turns (lock ∙ t) ∙ last_if_asking-is w d s turns.0 e ∙ sym (among_lock s.lines turns.0 turns.1 t)
+          winner_by-locked w d turns (lock ∙ t) ∙ last_if_asking-is w d s turns.0 e ∙ sym (among_lock s.lines turns.0 turns.1 t)
       | inr f ↦
           elim (cases_Bool (is_in s.lines BPRI)) [
-            | inl u ↦ by_priority w d turns (lock ∙ f) (bpri ∙ u) ∙ sym (among_priority s.lines turns.0 turns.1 f u)
+            | inl u ↦ winner_by-priority w d turns (lock ∙ f) (bpri ∙ u) ∙ sym (among_priority s.lines turns.0 turns.1 f u)
             | inr g ↦
-                by_order w d turns (lock ∙ f) (bpri ∙ g)
+                winner_by-symmetric w d turns (lock ∙ f) (bpri ∙ g)
                 ∙ ap (option_map Symmetric) (first_asking-is w d (first_in_order turns.1) s e)
                 ∙ sym (among_order s.lines turns.0 turns.1 f g)
           ]

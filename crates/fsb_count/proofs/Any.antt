@@ -1,5 +1,5 @@
 -- Whether some clock passes.
-use Rattle.std.proofs.Common.{ℕ, zero, suc, ◌<◌, ◌≡◌, Bool, true, false, sym, refl, ◌∙◌, inl, inr, arith, below_more}
+use Rattle.std.proofs.Common.{ℕ, zero, suc, ◌<◌, ◌≡◌, Bool, true, false, sym, refl, ◌∙◌, inl, inr, arith, below_more, ◌+◌, ◌||◌, add-one}
 use Rattle.std.proofs.lemmas.Bool.{cases_Bool, both_ways}
 use Rattle.fsb_count.specs.Clocks.{any_where, AgreeBelow}
 
@@ -21,6 +21,15 @@ pub any_where-says : (p : ℕ → Bool) (n : ℕ) → SaysAny p n (any_where p n
 unfolding any_where
 any_where-says p zero = λ k l. absurd (omega arith)
 any_where-says p (suc n) = says_any-step p n (any_where p n) refl (any_where-says p n)
+
+either : (b c : Bool) → elim b [ true ↦ true | false ↦ c ] ≡ (b || c)
+either true c = refl
+either false c = refl
+
+-- one more clock
+pub any_where-more : (p : ℕ → Bool) (n : ℕ) → any_where p (n + 1) ≡ (any_where p n || p n)
+unfolding any_where
+any_where-more p n = rw add-one (either (any_where p n) (p n))
 
 -- some clock passes
 pub any_where-found : (p : ℕ → Bool) (n : ℕ) → any_where p n ≡ true → (k : ℕ) × (k < n) × (p k ≡ true)

@@ -1,6 +1,5 @@
 -- How many clocks pass.
-use Rattle.std.proofs.Common.{ℕ, zero, suc, ◌+◌, ◌-◌, ◌<◌, ◌≤◌, ◌≡◌, Bool, true, false, cond, refl, ap, ◌∙◌, inl, inr, arith, add-one, add-zero}
-use Rattle.std.proofs.lemmas.Bool.{cases_Bool}
+use Rattle.std.proofs.Common.{ℕ, zero, suc, ◌+◌, ◌-◌, ◌<◌, ◌≤◌, ◌≡◌, Bool, true, false, cond, refl, ap, ◌∙◌, arith, add-one, add-zero}
 use Rattle.fsb_count.specs.Clocks.{count_where, AgreeBelow}
 
 -- one more clock

@@ -1,3 +1,5 @@
+pub mod Bools
+pub mod Options
 pub mod First
 pub mod Any
 pub mod Count

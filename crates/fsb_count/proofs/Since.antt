@@ -4,11 +4,13 @@ use Rattle.std.proofs.lemmas.Bool.{cases_Bool, lt-leb, le-leb}
 use Rattle.fsb_count.specs.Clocks.{last_where, any_where, from_clock, holds_since}
 use Rattle.fsb_count.proofs.Any.{any_where-off}
 
-last_where-passed : (p : ℕ → Bool) (n : ℕ) → p n ≡ true → last_where p (suc n) ≡ Some n
+-- one more clock, which passes, is the last that does
+pub last_where-passed : (p : ℕ → Bool) (n : ℕ) → p n ≡ true → last_where p (suc n) ≡ Some n
 unfolding last_where
 last_where-passed p n t = rw (t, last_where) refl
 
-last_where-failed : (p : ℕ → Bool) (n : ℕ) → p n ≡ false → last_where p (suc n) ≡ last_where p n
+-- one more clock, which does not pass, leaves the last one
+pub last_where-failed : (p : ℕ → Bool) (n : ℕ) → p n ≡ false → last_where p (suc n) ≡ last_where p n
 unfolding last_where
 last_where-failed p n f = rw (f, last_where) refl
 

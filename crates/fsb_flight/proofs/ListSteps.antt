@@ -1,10 +1,9 @@
 -- The steps of a clock on a list of entries.
-use Rattle.std.proofs.Common.{ℕ, zero, suc, ◌+◌, ◌<◌, ◌≤◌, ◌≡◌, true, false, nat_eq, is_none, Some, None, List, [], ◌∷◌, length, refl, ap, ◌∙◌, inl, inr, arith}
+use Rattle.std.proofs.Common.{ℕ, zero, suc, ◌+◌, ◌<◌, ◌≡◌, true, false, nat_eq, is_none, Some, None, List, [], ◌∷◌, length, refl, ap, ◌∙◌, arith}
 use Rattle.std.specs.List.{slice_get}
-use Rattle.std.proofs.lemmas.Bool.{cases_Bool}
 use Rattle.fsb_trace.specs.declared.outcome.Outcome.{Outcome}
 use Rattle.fsb_queue.specs.declared.entry.Entry.{Entry}
-use Rattle.fsb_queue.specs.Entries.{settled_at, without}
+use Rattle.fsb_queue.specs.Entries.{settled_at}
 use Rattle.fsb_flight.specs.Steps.{settle_first, number_before}
 
 -- the first entry without an outcome, by its place
@@ -29,13 +28,6 @@ unfolding settled_at
 length-settled_at k o [] = refl
 length-settled_at zero o (e ∷ es) = refl
 length-settled_at (suc k) o (e ∷ es) = ap (λ n. suc n) (length-settled_at k o es)
-
-pub length-without : (number : ℕ) (es : List Entry) → length (without number es) ≤ length es
-unfolding without
-length-without number [] = omega arith
-length-without number (e ∷ es) =
-    let ih : length (without number es) ≤ length es = length-without number es in
-    elim (cases_Bool (nat_eq e.number number)) [ inl t ↦ rw t (omega arith) | inr f ↦ rw f (omega arith) ]
 
 -- the number of the first entry that began three clocks before
 pub number_before-at : (n : ℕ) (es : List Entry) (k : ℕ) (e : Entry) → slice_get es k ≡ Some e → nat_eq (e.clock + 3) n ≡ true → ((j : ℕ) (y : Entry) → j < k → slice_get es j ≡ Some y → nat_eq (y.clock + 3) n ≡ false) → number_before n es ≡ Some e.number

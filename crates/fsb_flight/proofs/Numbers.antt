@@ -11,7 +11,7 @@ use Rattle.fsb_queue.specs.declared.entry.Entry.{Entry}
 use Rattle.fsb_flight.specs.GoesOn.{settles, stays, goes_on, Rising, IsLater}
 use Rattle.fsb_flight.specs.Steps.{begun_list}
 use Rattle.fsb_flight.proofs.QueueStep.{filter_from, map_from, append_from}
-use Rattle.fsb_flight.proofs.Taken.{settles_number}
+use Rattle.fsb_flight.proofs.Taken.{settles_number, less_along}
 
 rising_none : Rising []
 rising_none = record { rise = λ j k e f l g h. absurd (let none : ⊥ = cc in none) }
@@ -41,15 +41,12 @@ rising_filter t (z ∷ zs) r =
       | inr n ↦ subst (λ b. Rising (cond b (z ∷ filter t zs) (filter t zs))) (sym n) rest
     ]
 
-less_same : (a b c d : ℕ) → a ≡ b → c ≡ d → b < d → a < c
-less_same a b c d e f l = omega arith
-
 rising_settled : (h : Trace) (x : Sample) (o : Outcome) (es : List Entry) → Rising es → Rising (map (settles h x o) es)
 rising_settled h x o es r = record {
   rise = λ j k y z l g b.
       let one = map_from (settles h x o) es j y (slice_get es j) refl (sym (slice_get-map (settles h x o) es j) ∙ g) in
       let two = map_from (settles h x o) es k z (slice_get es k) refl (sym (slice_get-map (settles h x o) es k) ∙ b) in
-      less_same _ _ _ _ (ap (λ w. w.number) (sym one.2) ∙ settles_number h x o one.0) (ap (λ w. w.number) (sym two.2) ∙ settles_number h x o two.0)
+      less_along _ _ _ _ (ap (λ w. w.number) (sym one.2) ∙ settles_number h x o one.0) (ap (λ w. w.number) (sym two.2) ∙ settles_number h x o two.0)
       (r.rise j k one.0 two.0 l one.1 two.1);
 }
 
@@ -88,4 +85,4 @@ rising-goes_on h x o (Some e) queue r l =
     (λ j f g.
     let z = number_of_old h x o queue j f g in
     let low = l.later e z.1 z.0 refl z.2 in
-    less_same _ _ _ _ z.3 refl low)
+    less_along _ _ _ _ z.3 refl low)

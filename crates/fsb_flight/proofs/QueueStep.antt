@@ -2,10 +2,11 @@
 use Rattle.std.proofs.Common.{ℕ, zero, suc, ◌+◌, ◌<◌, ◌≤◌, ◌≡◌, Bool, true, false, not, cond, ◌&&◌, Option, Some, None, List, [], ◌∷◌, ◌++◌, map, filter, length, slice_index, refl, sym, ap, ◌∙◌, ◌⊎◌, inl, inr, arith, subst}
 use Rattle.std.specs.List.{slice_get}
 use Rattle.std.specs.Option.{option_map}
-use Rattle.std.proofs.lemmas.Bool.{cases_Bool, cases_eq, cases_order, both_ways, and_parts, eqb-true}
+use Rattle.std.proofs.lemmas.Bool.{cases_Bool, cases_eq, cases_order, both_ways, and_parts}
 use Rattle.std.proofs.lemmas.List.{map-append}
 use Rattle.std.proofs.lemmas.Option.{slice_get-map}
-use Rattle.fsb_count.specs.Options.{is_some_and, is_at}
+use Rattle.fsb_count.specs.Options.{is_at}
+use Rattle.fsb_count.proofs.Options.{is_at-some}
 use Rattle.fsb_signal.specs.declared.lines.TheConstants.Lines.{ADS, HITM}
 use Rattle.fsb_signal.specs.declared.sample.Sample.{Sample}
 use Rattle.fsb_signal.specs.Samples.{has_line, response_of}
@@ -17,14 +18,14 @@ use Rattle.fsb_trace.specs.Outcome.{settled_by, settled_outcome_of}
 use Rattle.fsb_trace.specs.Flight.{in_flight}
 use Rattle.fsb_trace.proofs.Stay.{snoop_end_of-clock}
 use Rattle.fsb_trace.proofs.StayEnds.{live_request_of-stays}
+use Rattle.fsb_trace.proofs.LiveRequests.{settled_outcome_of-ended}
 use Rattle.fsb_laws.specs.OneMore.{OneMore, stalls}
-use Rattle.fsb_laws.specs.Orderly.{Spaced}
 use Rattle.fsb_laws.specs.Progress.{SnoopsTo, ends_snoop_of, is_snoop_due}
 use Rattle.fsb_laws.specs.Flight.{leaves}
 use Rattle.fsb_laws.proofs.OneMoreFacts.{one_more, line_at-old}
 use Rattle.fsb_laws.proofs.FlightSteps.{in_flight-more}
 use Rattle.fsb_laws.proofs.LiveSteps.{live_clock_of-new}
-use Rattle.fsb_laws.proofs.SnoopSteps.{snoop_end_of-above, snoop_end_of-old, snoop_end_of-more, snoops_to-ended, snoops_to-kept}
+use Rattle.fsb_laws.proofs.SnoopSteps.{snoop_end_of-above, snoop_end_of-old, snoop_end_of-more}
 use Rattle.fsb_queue.specs.declared.entry.Entry.{Entry}
 use Rattle.fsb_queue.specs.Entries.{settled}
 use Rattle.fsb_phase.specs.declared.phases.Phases.{Phases}
@@ -36,7 +37,7 @@ use Rattle.fsb_phase.proofs.Counts.{snoops_count}
 use Rattle.fsb_phase.proofs.Held.{held}
 use Rattle.fsb_phase.proofs.Entries.{Placed, placed}
 use Rattle.fsb_phase.proofs.SnoopDrive.{snoop_at, has_snoop-at, snoop_elsewhere, not_reached_from}
-use Rattle.fsb_phase.proofs.SnoopStep.{ends_entry, number_stays}
+use Rattle.fsb_phase.proofs.SnoopStep.{ends_entry, number_stays, later_none}
 use Rattle.fsb_phase.proofs.Course.{Step, step}
 use Rattle.fsb_flight.specs.GoesOn.{settles, stays, goes_on, TakesTurn}
 
@@ -108,14 +109,6 @@ no_outcome : (w : Trace) (turns : List ℕ) (i : ℕ) → snoop_end_of w i ≡ N
 unfolding settled_outcome_of
 no_outcome w turns i e = ap (option_map (settled_by w (slice_index turns i) i)) e
 
-new_outcome : (w : Trace) (turns : List ℕ) (i n : ℕ) → snoop_end_of w i ≡ Some n → settled_outcome_of w turns i ≡ Some (settled_by w (slice_index turns i) i n)
-unfolding settled_outcome_of
-new_outcome w turns i n e = ap (option_map (settled_by w (slice_index turns i) i)) e
-
-later_none : (h : Trace) (x : Sample) (v : Trace) (s i : ℕ) (b : Bool) → OneMore h x v → Spaced h → SnoopsTo h s → ends_snoop_of h s x ≡ b → s < i → snoop_end_of v i ≡ None
-later_none h x v s i true m sp to t l = snoop_end_of-above v (s + 1) i (snoops_to-ended h x v s m sp to t) (omega arith)
-later_none h x v s i false m sp to f l = snoop_end_of-above v s i (snoops_to-kept h x v s m sp to f) (omega arith)
-
 pub settles_not : (h : Trace) (x : Sample) (o : Outcome) (e : Entry) → ends_snoop_at (h ++ x ∷ []) (length h) e ≡ false → settles h x o e ≡ e
 unfolding settles
 settles_not h x o e f = rw f refl
@@ -135,11 +128,6 @@ is_next p h x queue e s j y k here t =
       | inr other ↦ absurd (both_ways _ (snoop_elsewhere h s (e + j) k.meets.snoops other) due)
     ]
 
-at_where : (o : Option ℕ) (n : ℕ) → is_at o n ≡ true → o ≡ Some n
-unfolding is_at is_some_and
-at_where None n t = absurd (let none : ⊥ = cc in none)
-at_where (Some m) n t = ap (λ k. Some k) (eqb-true m n t)
-
 at_end : (h : Trace) (s : ℕ) (x : Sample) → SnoopsTo h s → ends_snoop_of h s x ≡ true → (snoop_at h s && not (stalls x)) ≡ true
 unfolding ends_snoop_of is_snoop_due
 at_end h s x to t = rw (not_reached_from h s s to (omega arith)) t
@@ -147,7 +135,7 @@ at_end h s x to t = rw (not_reached_from h s s to (omega arith)) t
 -- its snoop end is the new clock; and of another entry whose snoop end is not reached it is not
 ends_now : (v : Trace) (y : Entry) (n i : ℕ) → live_of v y ≡ i → ends_snoop_at v n y ≡ true → snoop_end_of v i ≡ Some n
 unfolding ends_snoop_at
-ends_now v y n i f t = at_where (snoop_end_of v i) n (ap (λ j. is_at (snoop_end_of v j) n) (sym f) ∙ (and_parts _ _ t).1)
+ends_now v y n i f t = is_at-some (snoop_end_of v i) n (ap (λ j. is_at (snoop_end_of v j) n) (sym f) ∙ (and_parts _ _ t).1)
 
 not_now : (p : Phases) (h : Trace) (x : Sample) (queue : List Entry) (e s j : ℕ) (y : Entry) (b : Bool) → Step p h x (h ++ x ∷ []) queue e s → Placed h e j y → e + j ≡ s → ends_snoop_of h s x ≡ b → ends_snoop_at (h ++ x ∷ []) (length h) y ≡ false → snoop_end_of (h ++ x ∷ []) s ≡ None
 not_now p h x queue e s j y false k here same b f =
@@ -185,7 +173,7 @@ old_entry p h x queue new turns later outcome e j y k f n g =
           let same : e + j ≡ s = is_next p h x queue e s j y k here t in
           let end : snoop_end_of v s ≡ Some (length h) = ends_now v y (length h) s (number ∙ same) t in
           ap (λ z. z.outcome) (settles_now h x outcome y t) ∙ ap (λ o. Some o) (n.outcome_is end)
-          ∙ sym (ap (settled_outcome_of v later) (number ∙ same) ∙ new_outcome v later s (length h) end)
+          ∙ sym (ap (settled_outcome_of v later) (number ∙ same) ∙ settled_outcome_of-ended v later s (length h) end)
       | inr not ↦
           ap (λ z. z.outcome) (settles_not h x outcome y not) ∙ f.settled j y g ∙ ap (settled_outcome_of h turns) here.number
           ∙ kept_outcome p h x queue new turns later outcome e j y k n here not

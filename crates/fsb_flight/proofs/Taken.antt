@@ -2,9 +2,10 @@
 use Rattle.std.proofs.Common.{ℕ, zero, suc, ◌+◌, ◌<◌, ◌≡◌, Bool, true, false, not, cond, ◌&&◌, ◌||◌, nat_eq, Option, Some, None, List, [], ◌∷◌, ◌++◌, map, filter, drop, length, is_none, is_some, refl, sym, ap, ◌∙◌, inl, inr, arith}
 use Rattle.std.specs.List.{slice_get, find}
 use Rattle.std.specs.Option.{option_map}
-use Rattle.std.proofs.lemmas.Bool.{cases_Bool, and_right, eqb-true, eq-eqb, ne_eqb}
+use Rattle.std.proofs.lemmas.Bool.{cases_Bool, eqb-true, eq-eqb, ne_eqb}
 use Rattle.std.proofs.lemmas.Option.{slice_get-map}
-use Rattle.fsb_count.specs.Options.{is_at, is_some_and}
+use Rattle.std.proofs.Math.Bool.{or-false}
+use Rattle.fsb_count.specs.Options.{is_at}
 use Rattle.fsb_signal.specs.declared.lines.TheConstants.Lines.{AERR}
 use Rattle.fsb_signal.specs.declared.sample.Sample.{Sample}
 use Rattle.fsb_signal.specs.Samples.{has_line}
@@ -27,7 +28,7 @@ use Rattle.fsb_phase.proofs.Finds.{Found, find-cases, find-place, find-off, find
 use Rattle.fsb_phase.proofs.Entries.{placed}
 use Rattle.fsb_phase.proofs.SnoopDrive.{outcome_reached, reached_before, not_reached_from}
 use Rattle.fsb_phase.proofs.SnoopStep.{number_stays}
-use Rattle.fsb_phase.proofs.Course.{Step, course}
+use Rattle.fsb_phase.proofs.Course.{Step, course, no_end}
 use Rattle.fsb_flight.specs.GoesOn.{settles, stays, goes_on, Rising}
 use Rattle.fsb_flight.specs.Steps.{settle_first, number_before, without_if, cancel_before, begun_list, taken}
 use Rattle.fsb_flight.proofs.QueueStep.{map_from, is_next, step_at, settles_clock, settles_not, settles_now}
@@ -88,10 +89,6 @@ settle_is p h x queue o e s st =
           ap (λ a. cond (is_some a) (settle_first o queue) queue) (find-off (ends_snoop_at v (length h)) queue f)
           ∙ unchanged (settles h x o) queue (λ j y g. settles_not h x o y (f j y g))
     ]
-
-no_end : (v : Trace) (n : ℕ) (y : Entry) → end_of v (live_of v y) ≡ None → ends_at v n y ≡ false
-unfolding ends_at is_at is_some_and
-no_end v n y e = and_right (is_live v y.clock) _ (rw e refl)
 
 -- the entry that ends is the first
 ends_later : (p : Phases) (h : Trace) (x : Sample) (queue : List Entry) (e s j : ℕ) (y : Entry) → Step p h x (h ++ x ∷ []) queue e s → 0 < j → slice_get queue j ≡ Some y → ends_at (h ++ x ∷ []) (length h) y ≡ false
@@ -229,13 +226,9 @@ or_top : (b : Bool) → not (b || true) ≡ false
 or_top true = refl
 or_top false = refl
 
-or_none : (b : Bool) → (b || false) ≡ b
-or_none true = refl
-or_none false = refl
-
 both_kept : (t u : Entry → Bool) (z : Entry) (zs : List Entry) → filter (λ e. not (t e)) (filter (λ e. not (u e)) zs) ≡ filter (λ e. not (t e || u e)) zs → u z ≡ false → filter (λ e. not (t e)) (z ∷ filter (λ e. not (u e)) zs) ≡ filter (λ e. not (t e || u e)) (z ∷ zs)
 both_kept t u z zs ih b =
-    let test : (t z || u z) ≡ t z = ap (λ c. t z || c) b ∙ or_none (t z) in
+    let test : (t z || u z) ≡ t z = ap (λ c. t z || c) b ∙ or-false (t z) in
     elim (cases_Bool (t z)) [
       | inl y ↦
           drop_one (λ e. not (t e)) z (filter (λ e. not (u e)) zs) (ap not y) ∙ ih
@@ -272,7 +265,8 @@ unfolding settles
 settles_number h x o e =
     elim (cases_Bool (ends_snoop_at (h ++ x ∷ []) (length h) e)) [ inl t ↦ (rw t refl) | inr f ↦ (rw f refl) ]
 
-less_along : (a b c d : ℕ) → a ≡ b → c ≡ d → b < d → a < c
+-- less, along two equations
+pub less_along : (a b c d : ℕ) → a ≡ b → c ≡ d → b < d → a < c
 less_along a b c d e f l = omega arith
 
 apart_settled : (h : Trace) (x : Sample) (o : Outcome) (es : List Entry) → Apart es → Apart (map (settles h x o) es)

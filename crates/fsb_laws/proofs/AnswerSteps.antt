@@ -2,6 +2,7 @@
 use Rattle.std.proofs.Common.{ℕ, zero, suc, ◌+◌, ◌<◌, ◌≤◌, ◌≡◌, true, false, nat_le, Option, Some, None, is_none, length, refl, sym, ap, ◌∙◌, arith, inl, inr}
 use Rattle.std.proofs.lemmas.Bool.{cases_lt, and_parts, leb-true, lt-leb, lt-ltb, le-ltb}
 use Rattle.fsb_count.specs.Options.{is_some_and, is_before}
+use Rattle.fsb_count.proofs.Options.{is_some_and-none, is_none-none}
 use Rattle.fsb_signal.specs.declared.sample.Sample.{Sample}
 use Rattle.fsb_trace.specs.At.{Trace}
 use Rattle.fsb_trace.specs.Snoop.{snoop_end_of}
@@ -50,17 +51,13 @@ unfolding is_some_and
 two_before n None f = refl
 two_before n (Some t) f = let e = f t refl in lt-leb (t + 2) n (omega arith)
 
-none_passes : (n : ℕ) → is_some_and None (λ t. nat_le (t + 2) n) ≡ false
-unfolding is_some_and
-none_passes n = refl
-
 snoop_in_time : (h : Trace) (x : Sample) (v : Trace) (s i : ℕ) → OneMore h x v → Spaced h → SnoopsTo h s → is_some_and (snoop_end_of v i) (λ t. nat_le (t + 2) (length h)) ≡ is_some_and (snoop_end_of h i) (λ t. nat_le (t + 2) (length h))
 snoop_in_time h x v s i m sp to =
     elim (cases_lt i s) [
       | inl old ↦ ap (λ o. is_some_and o (λ t. nat_le (t + 2) (length h))) (snoop_end_of-old h x v s i m to old)
       | inr new ↦
           two_before (length h) (snoop_end_of v i) (λ t e. ended_where h x v s i t m sp to new e)
-          ∙ sym (rw (snoop_end_of-above h s i to new) (none_passes (length h)))
+          ∙ sym (rw (snoop_end_of-above h s i to new) (is_some_and-none (λ t. nat_le (t + 2) (length h))))
     ]
 
 -- the next response may come at the new clock where its snoop end lies two clocks before and no transfer is on the way
@@ -75,16 +72,12 @@ unfolding is_some_and
 next_parts h None e f = absurd (let no : ⊥ = cc in no)
 next_parts h (Some t) e f = (t, e, leb-true (t + 2) (length h) f)
 
-none_of : (o : Option ℕ) → is_none o ≡ true → o ≡ None
-none_of None e = refl
-none_of (Some k) e = absurd (let no : ⊥ = cc in no)
-
 pub may_answer_next-parts : (h : Trace) → may_answer_next h ≡ true → (t : ℕ) × (snoop_end_of h (response_count h) ≡ Some t) × (t + 2 ≤ length h) × (transfer_of h ≡ None)
 unfolding may_answer_next
 may_answer_next-parts h e =
     let p = and_parts _ _ e in
     let q = next_parts h (snoop_end_of h (response_count h)) refl p.0 in
-    (q.0, q.1, q.2, none_of (transfer_of h) p.1)
+    (q.0, q.1, q.2, is_none-none (transfer_of h) p.1)
 
 pub answered_below : (h : Trace) (s : ℕ) → SnoopsTo h s → may_answer_next h ≡ true → response_count h < s
 answered_below h s to e =

@@ -5,7 +5,6 @@ use Rattle.fsb_count.specs.Options.{is_some_and, is_before}
 use Rattle.fsb_count.proofs.First.{first_where-found, first_where-none, first_where-at}
 use Rattle.fsb_count.proofs.Any.{any_where-at, any_where-off}
 use Rattle.fsb_count.proofs.Count.{count_where-same}
-use Rattle.fsb_count.proofs.Nth.{nth_where-at}
 use Rattle.fsb_signal.specs.declared.lines.TheConstants.Lines.{ADS}
 use Rattle.fsb_signal.specs.Samples.{line_at}
 use Rattle.fsb_trace.specs.At.{Trace, request_at}
@@ -18,6 +17,7 @@ use Rattle.fsb_trace.specs.Agree.{AgreeTo}
 use Rattle.fsb_trace.proofs.AgreeAt.{AgreeTo-sym, line_at-agree, request_at-agree, is_cancelled-agree, is_live-agree}
 use Rattle.fsb_trace.proofs.Stay.{response_clock_of-stays}
 use Rattle.fsb_trace.proofs.StayEnds.{end_of-response, live_request_of-stays, is_deferred-stays}
+use Rattle.fsb_trace.proofs.LiveRequests.{live_clock_of-number}
 use Rattle.fsb_laws.specs.Orderly.{Orderly}
 use Rattle.fsb_laws.specs.Progress.{response_count}
 use Rattle.fsb_laws.proofs.LiveSteps.{is_live-ads, is_cancelled-late}
@@ -58,10 +58,6 @@ unfolding live_number_of
 same_number u v p b l t =
     count_where-same (is_live v) (is_live u) p (record { same = λ c k. below_live u v p c (line_at ADS u c) b l t k refl })
 
-clock_of_number : (w : Trace) (p : ℕ) → p < length w → is_live w p ≡ true → live_clock_of w (live_number_of w p) ≡ Some p
-unfolding live_clock_of live_number_of
-clock_of_number w p l t = nth_where-at (is_live w) (length w) p l t
-
 -- ends before the request begins
 end_before : (u v : Trace) (i : ℕ) (o k : Option ℕ) → BeginsAfter u v → end_of u i ≡ o → end_of v i ≡ k → is_before k (length u) ≡ is_before o (length u)
 unfolding is_before is_some_and
@@ -100,7 +96,7 @@ late_end : (w : Trace) (p n : ℕ) → Orderly w → p < length w → is_live w 
 late_end w p n o l t late =
     not_before n (end_of w (live_number_of w p)) (λ e f.
     let q = end_after_clock w (live_number_of w p) e o f in
-    let c = clock_of_number w p l t in
+    let c = live_clock_of-number w p l t in
     let a = q.1 in
     let same : q.0 ≡ p = cc in
     omega (arith, q.2))
@@ -121,7 +117,8 @@ late_reply : (w : Trace) (i n : ℕ) → Orderly w → ((q : ℕ) → reply_cloc
 late_reply w i n o late = late_reply_cases w i n (reply_clock_of w i) o refl late
 
 -- requests that responded before
-same_deferred : (u v : Trace) (i : ℕ) → BeginsAfter u v → i < response_count u → is_deferred v i ≡ is_deferred u i
+-- whether a request that was answered before is deferred stays
+pub same_deferred : (u v : Trace) (i : ℕ) → BeginsAfter u v → i < response_count u → is_deferred v i ≡ is_deferred u i
 same_deferred u v i b l =
     let p = response_there u i l in
     let a = has_answer u p.0 i (b.before.timely i p.0 p.1) in
@@ -198,7 +195,7 @@ reply_after w i r e (Some q) o f g k =
     let p = live_reply w i q g in
     let l = reply_begins_after w i r q f p.1 in
     let z = end_after_clock w (live_number_of w q) e o (sym (reply_end_of-some w i q g) ∙ k) in
-    let c = clock_of_number w q p.2 p.0 in
+    let c = live_clock_of-number w q p.2 p.0 in
     let a = z.1 in
     let same : z.0 ≡ q = cc in
     omega (arith, z.2)
@@ -257,7 +254,7 @@ late_finish : (w : Trace) (p n : ℕ) → Orderly w → p < length w → is_live
 late_finish w p n o l t late =
     not_before n (last_clock_of w (live_number_of w p)) (λ e f.
     let q = last_after_plain w (live_number_of w p) e (is_deferred w (live_number_of w p)) refl o f in
-    let c = clock_of_number w p l t in
+    let c = live_clock_of-number w p l t in
     let a = q.1 in
     let same : q.0 ≡ p = cc in
     omega (arith, q.2))

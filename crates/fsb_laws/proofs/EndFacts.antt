@@ -1,9 +1,10 @@
 -- Which live requests have their ends in an orderly trace.
 use Rattle.std.proofs.Common.{ℕ, zero, suc, ◌<◌, ◌≤◌, ◌≡◌, true, false, ◌&&◌, nat_lt, Option, Some, None, length, refl, sym, ◌∙◌, arith, inl, inr, subst}
 use Rattle.std.proofs.lemmas.Bool.{cases_Bool, cases_eq, and_parts, ltb-true, ltb-false}
-use Rattle.fsb_count.specs.Options.{is_some_and, is_before}
+use Rattle.fsb_count.specs.Options.{is_some_and}
 use Rattle.fsb_count.specs.Clocks.{count_where, from_clock}
 use Rattle.fsb_count.proofs.Nth.{nth_where-found, nth_where-there, nth_where-past}
+use Rattle.fsb_count.proofs.Options.{is_before-parts}
 use Rattle.fsb_signal.specs.declared.lines.TheConstants.Lines.{DRDY}
 use Rattle.fsb_signal.specs.declared.sample.Sample.{Sample}
 use Rattle.fsb_signal.specs.Samples.{line_at}
@@ -62,15 +63,10 @@ no_response w i (Some t) e f = let p = end_of-response w i t f in let a = p.1 in
 pub end_past : (w : Trace) (i : ℕ) → response_count w ≤ i → end_of w i ≡ None
 end_past w i l = no_response w i (end_of w i) (response_past w i l) refl
 
-before_parts : (w : Trace) (i c : ℕ) (o : Option ℕ) → end_of w i ≡ o → is_before o c ≡ true → (e : ℕ) × (end_of w i ≡ Some e) × (e < c)
-unfolding is_before is_some_and
-before_parts w i c None f t = absurd (let no : ⊥ = cc in no)
-before_parts w i c (Some e) f t = (e, f, ltb-true e c t)
-
 -- the request before one that may be answered has its end
 pub clear_parts : (w : Trace) (i c : ℕ) → is_clear_before w (suc i) c ≡ true → (e : ℕ) × (end_of w i ≡ Some e) × (e < c)
 unfolding is_clear_before
-clear_parts w i c t = before_parts w i c (end_of w i) refl t
+clear_parts w i c t = is_before-parts (end_of w i) c t
 
 -- each response but the last is of a request that has its end
 pub end_before_last : (h : Trace) (i : ℕ) → Orderly h → suc i < response_count h → (e : ℕ) × (end_of h i ≡ Some e) × (e < length h)

@@ -1,9 +1,11 @@
 -- Requests in flight, one sample on.
 use Rattle.std.proofs.Common.{ℕ, ◌+◌, ◌-◌, ◌<◌, ◌≤◌, ◌≡◌, Bool, true, false, cond, not, ◌&&◌, ◌||◌, nat_le, Option, Some, None, [], ◌∷◌, ◌++◌, drop, filter, length, refl, sym, ap, ◌∙◌, arith, inl, inr, length-drop}
-use Rattle.std.proofs.lemmas.Bool.{cases_Bool, cases_lt, cases_eq, and_left, and_right, and_from, eq-eqb, ne_eqb, lt-ltb, le-ltb, le-leb, lt-leb}
+use Rattle.std.proofs.lemmas.Bool.{cases_Bool, cases_lt, and_left, and_right, and_from, lt-ltb, le-ltb, le-leb, lt-leb}
+use Rattle.std.proofs.Math.Bool.{and-true}
 use Rattle.fsb_count.specs.Options.{is_some_and, is_before, is_at}
 use Rattle.fsb_count.specs.Clocks.{count_where, all_where}
 use Rattle.fsb_count.proofs.Nth.{nth_where-at, length-all_where}
+use Rattle.fsb_count.proofs.Options.{is_before-more}
 use Rattle.fsb_signal.specs.declared.lines.TheConstants.Lines.{ADS}
 use Rattle.fsb_signal.specs.declared.sample.Sample.{Sample}
 use Rattle.fsb_signal.specs.Samples.{has_line, line_at}
@@ -19,7 +21,7 @@ use Rattle.fsb_laws.specs.Progress.{EndsTo}
 use Rattle.fsb_laws.specs.Flight.{leaves}
 use Rattle.fsb_laws.proofs.Clocks.{all_where-same, all_where-filter, all_where-drop, all_where-more}
 use Rattle.fsb_laws.proofs.OneMoreFacts.{line_at-old}
-use Rattle.fsb_laws.proofs.LiveSteps.{is_live-ads, is_cancelled-more, is_cancelled-late, is_live-more, is_live-new, live_number_of-more}
+use Rattle.fsb_laws.proofs.LiveSteps.{is_live-ads, is_cancelled-more, is_cancelled-late, is_live-more, is_live-new, live_number_of-more, not_cancelled}
 use Rattle.fsb_laws.proofs.ResponseSteps.{has_answer}
 use Rattle.fsb_laws.proofs.EndFacts.{end_of-old, end_of-kept}
 
@@ -72,15 +74,12 @@ ended_known h q (Some u) o l t late e =
 form : (a c b : Bool) → (((a && true) && not c) && not ((a && not c) && b)) ≡ ((a && not c) && not b)
 form a c b = grind arith
 
-and_true : (b : Bool) → (b && true) ≡ b
-and_true true = refl
-and_true false = refl
-
-dropped_form : (w : Trace) (q : ℕ) → is_dropped w (length w) q ≡ is_cancelled w q
+-- at the end of the trace a request is dropped where it is cancelled
+pub dropped_form : (w : Trace) (q : ℕ) → is_dropped w (length w) q ≡ is_cancelled w q
 unfolding is_dropped
 dropped_form w q =
     elim (cases_lt (q + 3) (length w)) [
-      | inl l ↦ rw (lt-ltb (q + 3) (length w) l) (and_true (is_cancelled w q))
+      | inl l ↦ rw (lt-ltb (q + 3) (length w) l) (and-true (is_cancelled w q))
       | inr l ↦ rw (is_cancelled-late w q l) refl
     ]
 
@@ -88,10 +87,6 @@ pub is_in_flight-end : (w : Trace) (q : ℕ) → q < length w → is_in_flight w
 unfolding is_in_flight has_ended is_live
 is_in_flight-end w q l =
     rw (lt-ltb q (length w) l, dropped_form w q) (form (line_at ADS w q) (is_cancelled w q) (is_before (end_of w (live_number_of w q)) (length w)))
-
-not_cancelled : (x : Sample) (n q : ℕ) → (q + 3 ≡ n → ⊥) → cancels x n q ≡ false
-unfolding cancels
-not_cancelled x n q f = and_right _ _ (ne_eqb (q + 3) n f)
 
 -- whether a request is in flight at the new clock shows in the old trace
 now_form : (w : Trace) (n q : ℕ) → q < n → is_in_flight w n q ≡ (line_at ADS w q && not (is_dropped w n q) && not (has_ended w n q))
@@ -162,20 +157,6 @@ unfolding live_count
 in_flight-count h e to =
     ap length (in_flight-live h e to) ∙ length-drop e (all_where (is_live h) (length h)) ∙ ap (λ k. k - e) (length-all_where (is_live h) (length h))
 
--- a number that is below the next clock is below n, or is n
-pub at_or_before : (n : ℕ) (o : Option ℕ) → is_before o (n + 1) ≡ (is_before o n || is_at o n)
-unfolding is_before is_at is_some_and
-at_or_before n None = refl
-at_or_before n (Some t) =
-    elim (cases_lt t n) [
-      | inl l ↦ rw (lt-ltb t (n + 1) (omega arith), lt-ltb t n l) refl
-      | inr l ↦
-          elim (cases_eq t n) [
-            | inl e ↦ rw (lt-ltb t (n + 1) (omega arith), le-ltb t n l, eq-eqb t n e) refl
-            | inr d ↦ rw (le-ltb t (n + 1) (omega arith), le-ltb t n l, ne_eqb t n d) refl
-          ]
-    ]
-
 step_form : (live cancel before at : Bool) → ((live && not cancel) && not (before || at)) ≡ ((live && not before) && not (cancel || (live && not cancel) && at))
 step_form live cancel before at = grind arith
 
@@ -185,7 +166,7 @@ more_live h x v q m o l t =
     let size : length v ≡ length h + 1 = m.size in
     let same : live_number_of v q ≡ live_number_of h q = sym (live_number_of-more h x v q m o.spaced l (is_live-ads h q t)) in
     is_in_flight-end v q (omega arith)
-    ∙ (rw (size, at_or_before (length h) (end_of v (live_number_of v q)), is_live-more h x v q m l, same, end_before-same h x v (live_number_of h q) m o, is_in_flight-end h q l)
+    ∙ (rw (size, is_before-more (end_of v (live_number_of v q)) (length h), is_live-more h x v q m l, same, end_before-same h x v (live_number_of h q) m o, is_in_flight-end h q l)
     (step_form (is_live h q) (cancels x (length h) q) (is_before (end_of h (live_number_of h q)) (length h)) (is_at (end_of v (live_number_of h q)) (length h))))
 
 more_not : (h : Trace) (x : Sample) (v : Trace) (q : ℕ) → OneMore h x v → q < length h → is_live h q ≡ false → is_in_flight v (length v) q ≡ (is_in_flight h (length h) q && not (leaves h x v q))

@@ -7,11 +7,12 @@ use Rattle.fsb_count.proofs.Nth.{nth_where-found, nth_where-at}
 use Rattle.fsb_signal.specs.declared.lines.TheConstants.Lines.{ADS, AERR}
 use Rattle.fsb_signal.specs.declared.sample.Sample.{Sample}
 use Rattle.fsb_signal.specs.Samples.{has_line, line_at}
+use Rattle.fsb_signal.proofs.AtClock.{line_at-past}
 use Rattle.fsb_trace.specs.At.{Trace}
 use Rattle.fsb_trace.specs.Requests.{is_cancelled, is_live, live_clock_of, live_number_of}
 use Rattle.fsb_laws.specs.OneMore.{OneMore, cancels}
 use Rattle.fsb_laws.specs.Orderly.{Spaced}
-use Rattle.fsb_laws.proofs.OneMoreFacts.{line_at-old, line_at-new, line_at-past}
+use Rattle.fsb_laws.proofs.OneMoreFacts.{line_at-old, line_at-new}
 
 -- a live request has ADS# at its first clock
 pub is_live-ads : (w : Trace) (q : ℕ) → is_live w q ≡ true → line_at ADS w q ≡ true
@@ -30,6 +31,11 @@ is_cancelled-now h x v q m e = rw e (line_at-new AERR h x v m)
 pub is_cancelled-late : (w : Trace) (q : ℕ) → length w ≤ q + 3 → is_cancelled w q ≡ false
 unfolding is_cancelled
 is_cancelled-late w q l = line_at-past AERR w (q + 3) l
+
+-- a sample cancels no request but the one three clocks before it
+pub not_cancelled : (x : Sample) (n q : ℕ) → (q + 3 ≡ n → ⊥) → cancels x n q ≡ false
+unfolding cancels
+not_cancelled x n q f = and_right _ _ (ne_eqb (q + 3) n f)
 
 kept : (x : Sample) (n q : ℕ) (b : Bool) → (q + 3 ≡ n → ⊥) → b ≡ (b && not (cancels x n q))
 unfolding cancels

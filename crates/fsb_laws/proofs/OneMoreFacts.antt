@@ -1,27 +1,22 @@
 -- What a trace with one sample more has at its clocks.
-use Rattle.std.proofs.Common.{ℕ, zero, suc, ◌+◌, ◌<◌, ◌≤◌, ◌≡◌, false, List, [], ◌∷◌, ◌++◌, length, refl, sym, arith, slice_get}
+use Rattle.std.proofs.Common.{ℕ, ◌+◌, ◌<◌, ◌≡◌, [], ◌∷◌, ◌++◌, length, refl, sym, arith}
 use Rattle.std.proofs.lemmas.List.{length-append}
-use Rattle.std.proofs.lemmas.Option.{slice_get_past}
 use Rattle.fsb_count.proofs.Nth.{slice_get-end}
 use Rattle.fsb_signal.specs.declared.lines.Lines.{Lines}
 use Rattle.fsb_signal.specs.declared.lines.TheConstants.Lines.{HIT, HITM}
 use Rattle.fsb_signal.specs.declared.sample.Sample.{Sample}
 use Rattle.fsb_signal.specs.Samples.{has_line, line_at, response_of}
+use Rattle.fsb_signal.proofs.AtClock.{slice_get-before}
 use Rattle.fsb_trace.specs.At.{Trace, response_code_at, stalls_at}
 use Rattle.fsb_trace.proofs.AgreeAt.{line_at-agree}
 use Rattle.fsb_laws.specs.OneMore.{OneMore, stalls}
-
-grown : {X : Type 0} (xs ys : List X) (c : ℕ) → c < length xs → slice_get xs c ≡ slice_get (xs ++ ys) c
-grown [] ys c l = absurd (omega arith)
-grown (x ∷ xs) ys zero l = refl
-grown (x ∷ xs) ys (suc c) l = grown xs ys c (omega arith)
 
 -- a sample put behind a trace
 pub one_more : (h : Trace) (x : Sample) → OneMore h x (h ++ x ∷ [])
 one_more h x =
     let size : length (h ++ x ∷ []) ≡ length h + 1 = length-append h (x ∷ []) in
     record {
-      agree = record { left = omega arith; right = omega arith; same = λ c l. grown h (x ∷ []) c l };
+      agree = record { left = omega arith; right = omega arith; same = λ c l. sym (slice_get-before h (x ∷ []) c l) };
       size = size;
       last = slice_get-end h x;
     }
@@ -42,8 +37,3 @@ response_code_at-new h x v m = rw m.last refl
 pub stalls_at-new : (h : Trace) (x : Sample) (v : Trace) → OneMore h x v → stalls_at v (length h) ≡ stalls x
 unfolding stalls_at stalls
 stalls_at-new h x v m = rw (line_at-new HIT h x v m, line_at-new HITM h x v m) refl
-
--- past the end nothing is asserted
-pub line_at-past : (line : Lines) (w : Trace) (c : ℕ) → length w ≤ c → line_at line w c ≡ false
-unfolding line_at
-line_at-past line w c l = rw (slice_get_past w c l) refl

@@ -2,10 +2,10 @@
 use Rattle.std.proofs.Common.{ℕ, zero, suc, ◌+◌, ◌-◌, ◌<◌, ◌≤◌, ◌≡◌, true, false, Some, [], length, refl, sym, ◌∙◌, arith, inl, inr, subst, add-one}
 use Rattle.std.proofs.lemmas.Bool.{cases_Bool, cases_lt, cases_eq, lt-ltb, le-leb, both_ways}
 use Rattle.fsb_count.specs.Options.{is_some_and, is_before}
-use Rattle.fsb_count.specs.Clocks.{count_where}
 use Rattle.fsb_signal.specs.declared.lines.TheConstants.Lines.{ADS}
 use Rattle.fsb_signal.specs.declared.sample.Sample.{Sample}
 use Rattle.fsb_signal.specs.Samples.{has_line, line_at}
+use Rattle.fsb_signal.proofs.AtClock.{line_at-past}
 use Rattle.fsb_trace.specs.At.{Trace, line_back}
 use Rattle.fsb_trace.specs.Snoop.{snoop_end_of}
 use Rattle.fsb_trace.specs.Outcome.{response_clock_of}
@@ -18,8 +18,8 @@ use Rattle.fsb_trace.proofs.StayEnds.{end_of-stays}
 use Rattle.fsb_laws.specs.OneMore.{OneMore, responds}
 use Rattle.fsb_laws.specs.Orderly.{Spaced, Orderly}
 use Rattle.fsb_laws.specs.Progress.{SnoopsTo, response_count, may_answer_next}
-use Rattle.fsb_laws.proofs.OneMoreFacts.{line_at-old, line_at-new, line_at-past}
-use Rattle.fsb_laws.proofs.ResponseSteps.{has_answer, may_answer-from, response_there, response_counted, response_count-more, response_clock_of-old, response_clock_of-new}
+use Rattle.fsb_laws.proofs.OneMoreFacts.{line_at-old, line_at-new}
+use Rattle.fsb_laws.proofs.ResponseSteps.{has_answer, may_answer-from, response_there, response_counted, response_count-more, response_clock_of-old, response_clock_of-new, response_count-empty}
 use Rattle.fsb_laws.proofs.EndFacts.{clear_parts}
 use Rattle.fsb_laws.proofs.AnswerSteps.{may_answer-new}
 
@@ -27,12 +27,8 @@ use Rattle.fsb_laws.proofs.AnswerSteps.{may_answer-new}
 pub spaced-empty : Spaced []
 spaced-empty = record { apart = λ p q l t u. absurd (both_ways _ (line_at-past ADS [] p (omega arith)) t) }
 
-no_responses : response_count [] ≡ 0
-unfolding response_count count_where
-no_responses = refl
-
 pub orderly-empty : Orderly []
-orderly-empty = record { spaced = spaced-empty; timely = λ i r e. absurd (let l = response_counted [] i r e in let none : response_count [] ≡ 0 = no_responses in omega arith) }
+orderly-empty = record { spaced = spaced-empty; timely = λ i r e. absurd (let l = response_counted [] i r e in let none : response_count [] ≡ 0 = response_count-empty in omega arith) }
 
 not_back : (w : Trace) (n d p : ℕ) → d ≤ n → p ≡ n - d → line_back ADS w n d ≡ false → line_at ADS w p ≡ true → ⊥
 unfolding line_back
@@ -49,7 +45,8 @@ far_enough h p l t f g =
           ]
     ]
 
-ads_before_end : (w : Trace) (q : ℕ) → line_at ADS w q ≡ true → q < length w
+-- ADS# is asserted at clocks of the trace alone
+pub ads_before_end : (w : Trace) (q : ℕ) → line_at ADS w q ≡ true → q < length w
 ads_before_end w q t =
     elim (cases_lt q (length w)) [
       | inl l ↦ l

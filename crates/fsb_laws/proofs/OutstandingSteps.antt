@@ -4,6 +4,7 @@ use Rattle.std.proofs.lemmas.Option.{cond_some}
 use Rattle.std.proofs.lemmas.Bool.{cases_Bool, cases_lt, and_parts, and_right, both_ways, lt-ltb}
 use Rattle.fsb_count.specs.Options.{is_some_and, is_before, is_at}
 use Rattle.fsb_count.proofs.First.{first_where-found}
+use Rattle.fsb_count.proofs.Options.{is_before-none, is_before-more}
 use Rattle.fsb_signal.specs.declared.lines.TheConstants.Lines.{ADS}
 use Rattle.fsb_signal.specs.declared.sample.Sample.{Sample}
 use Rattle.fsb_signal.specs.Samples.{line_at}
@@ -13,7 +14,7 @@ use Rattle.fsb_trace.specs.declared.outcome.Outcome.{Outcome}
 use Rattle.fsb_trace.specs.declared.outcome.Outcome.TheVariants.{Granted, Handed, Retried, Deferred, Written, Replied, Failed}
 use Rattle.fsb_trace.specs.Outcome.{response_clock_of, outcome_of, moves_data, is_deferred, does_move, is_deferral}
 use Rattle.fsb_trace.specs.Response.{end_of}
-use Rattle.fsb_trace.specs.Flight.{is_dropped, is_live_reply_to, reply_clock_of, reply_number_of, reply_end_of, last_clock_of, is_finished, is_outstanding}
+use Rattle.fsb_trace.specs.Flight.{is_live_reply_to, reply_clock_of, reply_number_of, reply_end_of, last_clock_of, is_finished, is_outstanding}
 use Rattle.fsb_trace.proofs.AgreeAt.{AgreeTo-sym}
 use Rattle.fsb_trace.proofs.Stay.{snoop_end_of-clock, response_clock_of-stays}
 use Rattle.fsb_trace.proofs.StayEnds.{end_of-response, end_of-still}
@@ -21,9 +22,9 @@ use Rattle.fsb_laws.specs.OneMore.{OneMore, cancels}
 use Rattle.fsb_laws.specs.Orderly.{Orderly}
 use Rattle.fsb_laws.specs.Progress.{response_count}
 use Rattle.fsb_laws.specs.Flight.{ends_at}
-use Rattle.fsb_laws.proofs.LiveSteps.{is_live-ads, is_cancelled-late, is_live-more, live_number_of-more}
+use Rattle.fsb_laws.proofs.LiveSteps.{is_live-ads, is_live-more, live_number_of-more}
 use Rattle.fsb_laws.proofs.ResponseSteps.{has_answer, response_there, response_counted, is_deferred-old}
-use Rattle.fsb_laws.proofs.FlightSteps.{end_before-same, ended_known, at_or_before}
+use Rattle.fsb_laws.proofs.FlightSteps.{end_before-same, ended_known, dropped_form}
 use Rattle.fsb_laws.proofs.OrderlySteps.{response_now}
 use Rattle.fsb_laws.proofs.ReplySteps.{cancelled_clock, reply_clock_of-more, reply_clock_of-fresh}
 
@@ -31,18 +32,10 @@ use Rattle.fsb_laws.proofs.ReplySteps.{cancelled_clock, reply_clock_of-more, rep
 outstanding_form : (a r c b : Bool) → ((((a && true) && not r) && not c) && not ((a && not c) && b)) ≡ (((a && not c) && not r) && not b)
 outstanding_form a r c b = grind arith
 
-dropped_end : (w : Trace) (q : ℕ) → is_dropped w (length w) q ≡ is_cancelled w q
-unfolding is_dropped
-dropped_end w q =
-    elim (cases_lt (q + 3) (length w)) [
-      | inl l ↦ rw (lt-ltb (q + 3) (length w) l) (grind arith)
-      | inr l ↦ rw (is_cancelled-late w q l) refl
-    ]
-
 pub is_outstanding-end : (w : Trace) (q : ℕ) → q < length w → is_outstanding w (length w) q ≡ (is_live w q && not (is_reply (request_at w q)) && not (is_before (last_clock_of w (live_number_of w q)) (length w)))
 unfolding is_outstanding is_finished is_live
 is_outstanding-end w q l =
-    rw (lt-ltb q (length w) l, dropped_end w q)
+    rw (lt-ltb q (length w) l, dropped_form w q)
     (outstanding_form (line_at ADS w q) (is_reply (request_at w q)) (is_cancelled w q) (is_before (last_clock_of w (live_number_of w q)) (length w)))
 
 -- a Deferred request has its response, and its data do not move
@@ -100,7 +93,7 @@ reply_end_of-some w i q e = rw e refl
 pub finished-plain : (h : Trace) (x : Sample) (v : Trace) (i : ℕ) → OneMore h x v → Orderly h → is_deferred h i ≡ false → is_deferred v i ≡ false → is_before (last_clock_of v i) (length v) ≡ (is_before (last_clock_of h i) (length h) || is_at (end_of v i) (length h))
 finished-plain h x v i m o f g =
     rw (last_clock_of-plain v i g, last_clock_of-plain h i f, m.size)
-    (at_or_before (length h) (end_of v i) ∙ ap (λ b. b || is_at (end_of v i) (length h)) (end_before-same h x v i m o))
+    (is_before-more (end_of v i) (length h) ∙ ap (λ b. b || is_at (end_of v i) (length h)) (end_before-same h x v i m o))
 
 -- one that is Deferred by the sample ends with it and is not finished
 pub record IsNewlyDeferred (h v : Trace) (i : ℕ) : Type 0 where
@@ -109,10 +102,6 @@ pub record IsNewlyDeferred (h v : Trace) (i : ℕ) : Type 0 where
   pub end : end_of v i ≡ Some (length h)
   pub reply : reply_clock_of v i ≡ None
   pub unfinished : is_before (last_clock_of v i) (length v) ≡ false
-
-not_finished : (n : ℕ) → is_before None n ≡ false
-unfolding is_before is_some_and
-not_finished n = refl
 
 pub newly_deferred : (h : Trace) (x : Sample) (v : Trace) (i : ℕ) → OneMore h x v → Orderly h → is_deferred h i ≡ false → is_deferred v i ≡ true → IsNewlyDeferred h v i
 newly_deferred h x v i m o f t =
@@ -136,7 +125,7 @@ newly_deferred h x v i m o f t =
       response = here;
       end = subst (λ r. end_of v i ≡ Some r) now.1 p.2;
       reply = none;
-      unfinished = ap (λ k. is_before k (length v)) (last_clock_of-deferred v i t ∙ reply_end_of-none v i none) ∙ not_finished (length v);
+      unfinished = ap (λ k. is_before k (length v)) (last_clock_of-deferred v i t ∙ reply_end_of-none v i none) ∙ is_before-none (length v);
     }
 
 pub not_finished-newly : (h : Trace) (x : Sample) (v : Trace) (i : ℕ) → OneMore h x v → Orderly h → is_deferred h i ≡ false → is_deferred v i ≡ true → is_before (last_clock_of v i) (length v) ≡ false
@@ -156,7 +145,8 @@ ends_live : (v : Trace) (n q : ℕ) → is_live v q ≡ true → is_at (end_of v
 unfolding ends_at
 ends_live v n q t = rw t refl
 
-ends_dead : (v : Trace) (n q : ℕ) → is_live v q ≡ false → ends_at v n q ≡ false
+-- one that is not live does not end
+pub ends_dead : (v : Trace) (n q : ℕ) → is_live v q ≡ false → ends_at v n q ≡ false
 unfolding ends_at
 ends_dead v n q f = rw f refl
 
@@ -166,7 +156,7 @@ deferred_kept h x v i q m o ov t u e f =
     let k = live_of_reply v i q f in
     let same : live_number_of h q ≡ live_number_of v q = live_number_of-more h x v q m o.spaced p.1 (is_live-ads h q p.0) in
     rw (last_clock_of-deferred v i t, last_clock_of-deferred h i u, reply_end_of-some v i q f, reply_end_of-some h i q e, same, m.size)
-    (at_or_before (length h) (end_of v (live_number_of v q))
+    (is_before-more (end_of v (live_number_of v q)) (length h)
     ∙ ap (λ b. b || is_at (end_of v (live_number_of v q)) (length h)) (end_before-same h x v (live_number_of v q) m o)
     ∙ ap (λ b. is_before (end_of h (live_number_of v q)) (length h) || b) (ends_live v (length h) q k.0))
 
@@ -175,7 +165,7 @@ deferred_cancelled h x v i q m o t u e c f =
     let p = live_of_reply h i q e in
     let here : q + 3 ≡ length h = cancelled_clock x (length h) q c in
     let dead : is_live v q ≡ false = is_live-more h x v q m p.1 ∙ (rw c (and_right _ _ refl)) in
-    ap (λ k. is_before k (length v)) (last_clock_of-deferred v i t ∙ reply_end_of-none v i f) ∙ not_finished (length v)
+    ap (λ k. is_before k (length v)) (last_clock_of-deferred v i t ∙ reply_end_of-none v i f) ∙ is_before-none (length v)
     ∙ sym (rw (last_clock_of-deferred h i u, reply_end_of-some h i q e, later_end h q o p.1 p.0 (omega arith), ends_dead v (length h) q dead) refl)
 
 -- by the reply that the request had before
@@ -184,12 +174,12 @@ ends_by v n reply = is_some_and reply (ends_at v n)
 
 deferred_waiting : (h : Trace) (x : Sample) (v : Trace) (i : ℕ) (o : Option ℕ) → OneMore h x v → Orderly v → is_deferred v i ≡ true → is_deferred h i ≡ true → reply_clock_of h i ≡ None → reply_clock_of v i ≡ o → ((q : ℕ) → o ≡ Some q → length v ≤ q + 3) → is_before (last_clock_of v i) (length v) ≡ (is_before (last_clock_of h i) (length h) || false)
 deferred_waiting h x v i None m ov t u e f late =
-    ap (λ k. is_before k (length v)) (last_clock_of-deferred v i t ∙ reply_end_of-none v i f) ∙ not_finished (length v)
-    ∙ sym (rw (last_clock_of-deferred h i u, reply_end_of-none h i e, not_finished (length h)) refl)
+    ap (λ k. is_before k (length v)) (last_clock_of-deferred v i t ∙ reply_end_of-none v i f) ∙ is_before-none (length v)
+    ∙ sym (rw (last_clock_of-deferred h i u, reply_end_of-none h i e, is_before-none (length h)) refl)
 deferred_waiting h x v i (Some q) m ov t u e f late =
     let p = live_of_reply v i q f in
     ap (λ k. is_before k (length v)) (last_clock_of-deferred v i t ∙ reply_end_of-some v i q f) ∙ later_end v q ov p.1 p.0 (late q refl)
-    ∙ sym (rw (last_clock_of-deferred h i u, reply_end_of-none h i e, not_finished (length h)) refl)
+    ∙ sym (rw (last_clock_of-deferred h i u, reply_end_of-none h i e, is_before-none (length h)) refl)
 
 finished_cases : (h : Trace) (x : Sample) (v : Trace) (i : ℕ) (old : Option ℕ) → OneMore h x v → Orderly h → Orderly v → i < response_count h → 0 < length h → is_deferred v i ≡ true → is_deferred h i ≡ true → reply_clock_of h i ≡ old → is_before (last_clock_of v i) (length v) ≡ (is_before (last_clock_of h i) (length h) || ends_by v (length h) old)
 unfolding is_some_and

@@ -1,5 +1,5 @@
 -- Responses and outcomes, one sample on.
-use Rattle.std.proofs.Common.{ℕ, ◌+◌, ◌<◌, ◌≤◌, ◌≡◌, true, cond, ◌&&◌, nat_le, Option, Some, None, length, refl, sym, ap, ◌∙◌, arith, inl, inr}
+use Rattle.std.proofs.Common.{ℕ, ◌+◌, ◌<◌, ◌≤◌, ◌≡◌, true, cond, ◌&&◌, nat_le, Option, Some, None, length, refl, sym, ap, ◌∙◌, arith, inl, inr, [], false, add-zero}
 use Rattle.std.proofs.lemmas.Bool.{cases_lt, and_parts, leb-true, le-leb}
 use Rattle.fsb_count.specs.Options.{is_some_and}
 use Rattle.fsb_count.specs.Clocks.{AgreeBelow, count_where}
@@ -62,6 +62,16 @@ response_count-more h x v m =
     rw m.size (count_where-more (responds_at v) (length h)
     ∙ ap (λ b. count_where (responds_at v) (length h) + cond b 1 0) (responds_at-new h x v m)
     ∙ ap (λ n. n + cond (responds x) 1 0) (sym (count_where-same _ _ (length h) (same_responses h x v m))))
+
+-- without a response the count stays
+pub response_count-kept : (h : Trace) (x : Sample) (v : Trace) → OneMore h x v → responds x ≡ false → response_count v ≡ response_count h
+response_count-kept h x v m f =
+    response_count-more h x v m ∙ ap (λ b. response_count h + cond b 1 0) f ∙ add-zero (response_count h)
+
+-- the empty trace has no response
+pub response_count-empty : response_count [] ≡ 0
+unfolding response_count count_where
+response_count-empty = refl
 
 pub response_there : (w : Trace) (i : ℕ) → i < response_count w → (r : ℕ) × (response_clock_of w i ≡ Some r) × (r < length w)
 unfolding response_count response_clock_of

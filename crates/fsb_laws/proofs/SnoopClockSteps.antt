@@ -1,33 +1,19 @@
 -- Whether the new clock is a snoop clock, and of which request.
-use Rattle.std.proofs.Common.{ℕ, zero, suc, ◌+◌, ◌<◌, ◌≤◌, ◌≡◌, Bool, true, false, cond, Option, Some, None, length, refl, sym, ap, ◌∙◌, arith, inl, inr, subst}
-use Rattle.std.proofs.lemmas.Bool.{cases_Bool, cases_lt, cases_order, and_parts, and_right, lt-ltb, le-ltb, leb-true, false_from_ne_true}
+use Rattle.std.proofs.Common.{ℕ, zero, suc, ◌+◌, ◌<◌, ◌≤◌, ◌≡◌, true, false, Option, Some, None, length, refl, sym, ap, ◌∙◌, arith, inl, inr, subst}
+use Rattle.std.proofs.lemmas.Bool.{cases_Bool, cases_lt, cases_order, and_right, lt-ltb, false_from_ne_true}
 use Rattle.fsb_count.specs.Options.{is_some_and, is_before}
-use Rattle.fsb_count.specs.Clocks.{count_where}
 use Rattle.fsb_count.proofs.Any.{any_where-at, any_where-off}
-use Rattle.fsb_count.proofs.Count.{count_where-above}
-use Rattle.fsb_count.proofs.Nth.{nth_where-found}
+use Rattle.fsb_count.proofs.Options.{is_before-if}
 use Rattle.fsb_signal.specs.declared.sample.Sample.{Sample}
 use Rattle.fsb_trace.specs.At.{Trace}
-use Rattle.fsb_trace.specs.Requests.{is_live, live_clock_of, live_count}
+use Rattle.fsb_trace.specs.Requests.{live_count}
 use Rattle.fsb_trace.specs.Snoop.{is_every_second_from, snoop_end_of, snoop_start_of, is_snoop_clock_of, is_snoop_clock}
-use Rattle.fsb_trace.proofs.Order.{snoop_start_of-after}
+use Rattle.fsb_trace.proofs.Order.{snoop_start_of-after, snoop_clock-start}
+use Rattle.fsb_trace.proofs.LiveRequests.{live_below_count}
 use Rattle.fsb_laws.specs.OneMore.{OneMore}
 use Rattle.fsb_laws.specs.Orderly.{Spaced}
 use Rattle.fsb_laws.specs.Progress.{SnoopsTo, is_snoop_due, ends_snoop_of}
 use Rattle.fsb_laws.proofs.SnoopSteps.{start_clock, snoop_end_of-old, snoop_end_of-above, snoop_end_of-more, is_snoop_due-more, snoops_to-ended, snoops_to-kept}
-
--- a live request that has its clock is one of those that are counted
-pub live_below_count : (w : Trace) (i q : ℕ) → live_clock_of w i ≡ Some q → i < live_count w
-unfolding live_clock_of live_count
-live_below_count w i q e =
-    let p = nth_where-found (is_live w) i (length w) q e in
-    let more : count_where (is_live w) q < count_where (is_live w) (length w) = count_where-above (is_live w) q (length w) p.0 p.1 in
-    omega (arith, p.2)
-
-not_before : (n : ℕ) (b : Bool) → is_before (cond b (Some n) None) n ≡ false
-unfolding is_before is_some_and
-not_before n true = le-ltb n n (omega arith)
-not_before n false = refl
 
 clock_of_next : (w : Trace) (s n : ℕ) → length w ≡ n + 1 → is_before (snoop_end_of w s) n ≡ false → is_snoop_clock_of w n s ≡ is_snoop_due w s n
 unfolding is_snoop_clock_of is_snoop_due
@@ -36,7 +22,7 @@ clock_of_next w s n size f = rw (size, lt-ltb n (n + 1) (omega arith), f) (grind
 -- of the first live request without its snoop end, the new clock is a snoop clock where it is due
 pub is_snoop_clock_of-next : (h : Trace) (x : Sample) (v : Trace) (s : ℕ) → OneMore h x v → Spaced h → SnoopsTo h s → is_snoop_clock_of v (length h) s ≡ is_snoop_due h s (length h)
 is_snoop_clock_of-next h x v s m sp to =
-    clock_of_next v s (length h) m.size (ap (λ o. is_before o (length h)) (snoop_end_of-more h x v s m sp to) ∙ not_before (length h) (ends_snoop_of h s x))
+    clock_of_next v s (length h) m.size (ap (λ o. is_before o (length h)) (snoop_end_of-more h x v s m sp to) ∙ is_before-if (length h) (ends_snoop_of h s x))
     ∙ is_snoop_due-more h x v s m sp to
 
 ended_no_clock : (w : Trace) (c i t : ℕ) → snoop_end_of w i ≡ Some t → t < c → is_snoop_clock_of w c i ≡ false
@@ -57,15 +43,6 @@ started w s n (Some start) e t = let p = start_clock w s start e in live_below_c
 due_is_live : (w : Trace) (s n : ℕ) → is_snoop_due w s n ≡ true → s < live_count w
 unfolding is_snoop_due
 due_is_live w s n t = started w s n (snoop_start_of w s) refl t
-
-snoop_clock_starts : (w : Trace) (c i : ℕ) (o : Option ℕ) → snoop_start_of w i ≡ o → is_some_and o (λ start. is_every_second_from start c) ≡ true → (start : ℕ) × (snoop_start_of w i ≡ Some start) × (start ≤ c)
-unfolding is_some_and is_every_second_from
-snoop_clock_starts w c i None e t = absurd (let no : ⊥ = cc in no)
-snoop_clock_starts w c i (Some start) e t = (start, e, leb-true start c (and_parts _ _ t).0)
-
-clock_has_start : (w : Trace) (c i : ℕ) → is_snoop_clock_of w c i ≡ true → (start : ℕ) × (snoop_start_of w i ≡ Some start) × (start ≤ c)
-unfolding is_snoop_clock_of
-clock_has_start w c i t = snoop_clock_starts w c i (snoop_start_of w i) refl (and_parts _ _ (and_parts _ _ t).0).1
 
 -- a snoop end that is new in the new trace is the new clock
 pub ended_where : (h : Trace) (x : Sample) (v : Trace) (s i t : ℕ) → OneMore h x v → Spaced h → SnoopsTo h s → s ≤ i → snoop_end_of v i ≡ Some t → t ≡ length h
@@ -89,7 +66,7 @@ ended_where h x v s i t m sp to l e =
 later_no_clock : (h : Trace) (x : Sample) (v : Trace) (s i : ℕ) → OneMore h x v → Spaced h → SnoopsTo h s → s < i → is_snoop_clock_of v (length h) i ≡ true → ⊥
 later_no_clock h x v s zero m sp to l t = omega arith
 later_no_clock h x v s (suc i) m sp to l t =
-    let p = clock_has_start v (length h) (suc i) t in
+    let p = snoop_clock-start v (length h) (suc i) t in
     let b = snoop_start_of-after v i p.0 p.1 in
     let e = ended_where h x v s i b.0 m sp to (omega arith) b.1 in
     omega (arith, p.2, b.2, e)

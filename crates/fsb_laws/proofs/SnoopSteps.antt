@@ -1,7 +1,7 @@
 -- Snoop clocks and snoop ends, one sample on.
 use Rattle.std.proofs.Common.{ℕ, zero, suc, ◌+◌, ◌<◌, ◌≤◌, ◌≡◌, ◌⊎◌, Bool, true, false, cond, not, ◌&&◌, Option, Some, None, length, max, refl, sym, ap, ◌∙◌, arith, inl, inr, add-one, subst}
 use Rattle.std.specs.Option.{option_map}
-use Rattle.std.proofs.lemmas.Bool.{cases_lt, cases_eq, and_left, and_right, ne_eqb, lt-leb}
+use Rattle.std.proofs.lemmas.Bool.{cases_lt, cases_eq, and_left, lt-leb}
 use Rattle.fsb_count.specs.Options.{is_some_and, greater_of}
 use Rattle.fsb_count.specs.Clocks.{AgreeBelow, first_where}
 use Rattle.fsb_count.proofs.First.{first_where-same}
@@ -12,11 +12,11 @@ use Rattle.fsb_trace.specs.Snoop.{is_every_second_from, ends_snoop, snoop_end_fr
 use Rattle.fsb_trace.proofs.AgreeAt.{stalls_at-agree}
 use Rattle.fsb_trace.proofs.Stay.{snoop_end_of-stays, snoop_end_of-before, snoop_end_of-clock, snoop_end_from-found}
 use Rattle.fsb_trace.proofs.Order.{snoop_end_of-rises}
-use Rattle.fsb_laws.specs.OneMore.{OneMore, stalls, cancels}
+use Rattle.fsb_laws.specs.OneMore.{OneMore, stalls}
 use Rattle.fsb_laws.specs.Orderly.{Spaced}
 use Rattle.fsb_laws.specs.Progress.{SnoopsTo, is_snoop_due, ends_snoop_of}
 use Rattle.fsb_laws.proofs.OneMoreFacts.{stalls_at-new}
-use Rattle.fsb_laws.proofs.LiveSteps.{live_clock_of-more, live_clock_of-less}
+use Rattle.fsb_laws.proofs.LiveSteps.{live_clock_of-more, live_clock_of-less, not_cancelled}
 
 -- past the first live request without a snoop end there are none
 none_above : (h : Trace) (s i : ℕ) (o : Option ℕ) → snoop_end_of h s ≡ None → s < i → snoop_end_of h i ≡ o → snoop_end_of h i ≡ None
@@ -79,10 +79,6 @@ same_start : (h : Trace) (x : Sample) (v : Trace) (s q : ℕ) → OneMore h x v 
 unfolding snoop_start_of start_after_clock start_after_end
 same_start h x v zero q m to e f = rw (e, f) refl
 same_start h x v (suc i) q m to e f = rw (e, f, snoop_end_of-old h x v (suc i) i m to (omega arith)) refl
-
-not_cancelled : (x : Sample) (n q : ℕ) → (q + 3 ≡ n → ⊥) → cancels x n q ≡ false
-unfolding cancels
-not_cancelled x n q f = and_right _ _ (ne_eqb (q + 3) n f)
 
 starts : (h : Trace) (x : Sample) (v : Trace) (s : ℕ) (o : Option ℕ) → OneMore h x v → Spaced h → SnoopsTo h s → live_clock_of h s ≡ o → (snoop_start_of v s ≡ snoop_start_of h s) ⊎ (StartsAfter h s (length h) × StartsAfter v s (length h))
 starts h x v s None m sp to e = inr (starts_late h x v s m sp (λ q f. absurd (let no : ⊥ = cc in no)))

@@ -3,13 +3,14 @@ use Rattle.std.proofs.Common.{ℕ, zero, suc, ◌+◌, ◌<◌, ◌≤◌, ◌�
 use Rattle.std.proofs.lemmas.Bool.{cases_Bool, cases_lt, cases_eq, cases_order}
 use Rattle.fsb_count.specs.Clocks.{count_where}
 use Rattle.fsb_count.proofs.Count.{count_where-failed}
+use Rattle.fsb_count.proofs.Options.{is_some-none}
 use Rattle.fsb_trace.specs.At.{Trace}
 use Rattle.fsb_trace.specs.Requests.{live_count}
 use Rattle.fsb_trace.specs.Snoop.{snoop_end_of}
 use Rattle.fsb_trace.proofs.Order.{snoop_end_of-rises}
 use Rattle.fsb_trace.proofs.Stay.{snoop_end_of-clock}
+use Rattle.fsb_trace.proofs.LiveRequests.{live_below_count}
 use Rattle.fsb_laws.specs.Progress.{SnoopsTo}
-use Rattle.fsb_laws.proofs.SnoopClockSteps.{live_below_count}
 use Rattle.fsb_phase.specs.Phases.{snooped_count}
 
 -- what passes below a number that passes, passes too
@@ -76,10 +77,6 @@ some_value : (o : Option ℕ) → is_some o ≡ true → (t : ℕ) × (o ≡ Som
 some_value None e = absurd (let none : ⊥ = cc in none)
 some_value (Some t) e = (t, refl)
 
-no_value : (o : Option ℕ) → is_some o ≡ false → o ≡ None
-no_value None e = refl
-no_value (Some t) e = absurd (let none : ⊥ = cc in none)
-
 unreached : (h : Trace) (s : ℕ) (o : Option ℕ) → live_count h ≤ s → snoop_end_of h s ≡ o → o ≡ None
 unreached h s None l e = refl
 unreached h s (Some t) l e =
@@ -96,7 +93,7 @@ snoops_to h =
     record {
       reached = λ i l. let v = some_value (snoop_end_of h i) (split.below i l) in (v.0, v.1, (snoop_end_of-clock h i v.0 v.1).within);
       next = elim (cases_lt (count_where (λ i. is_some (snoop_end_of h i)) n) n) [
-        | inl less ↦ no_value _ (split.above _ (omega arith) less)
+        | inl less ↦ is_some-none _ (split.above _ (omega arith) less)
         | inr most ↦ unreached h _ _ most refl
       ];
     }

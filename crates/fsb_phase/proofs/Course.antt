@@ -15,7 +15,7 @@ use Rattle.fsb_trace.proofs.Stay.{snoop_end_of-clock}
 use Rattle.fsb_laws.specs.OneMore.{OneMore, responds}
 use Rattle.fsb_laws.specs.Orderly.{Spaced, Orderly}
 use Rattle.fsb_laws.specs.Progress.{SnoopsTo, EndsTo, response_count, transfer_of, ends_snoop_of, is_snoop_due, chunk_step}
-use Rattle.fsb_laws.proofs.ResponseSteps.{has_answer}
+use Rattle.fsb_laws.proofs.ResponseSteps.{has_answer, response_count-kept}
 use Rattle.fsb_laws.proofs.OrderlySteps.{orderly-more}
 use Rattle.fsb_laws.proofs.EndFacts.{ends_to-still, ends_to-moving, end_of-old, end_of-kept}
 use Rattle.fsb_laws.proofs.SnoopSteps.{snoop_end_of-old, snoop_end_of-more}
@@ -34,7 +34,7 @@ use Rattle.fsb_phase.proofs.HeadDrive.{Answered, no_answer-before, no_answer-sno
 use Rattle.fsb_phase.proofs.Driven.{far, meets}
 use Rattle.fsb_phase.proofs.SnoopStep.{queue_has, ends_is, live_after, number_stays, due_clock}
 use Rattle.fsb_phase.proofs.Answering.{Answering, answering, may_answer}
-use Rattle.fsb_phase.proofs.ResponseStep.{count_answered, count_kept, transfer_to-is, spaced_on}
+use Rattle.fsb_phase.proofs.ResponseStep.{count_answered, transfer_to-is, spaced_on}
 
 -- the next sample, taken where it may be
 pub record Step (p : Phases) (h : Trace) (x : Sample) (v : Trace) (queue : List Entry) (e s : ℕ) : Type 0 where
@@ -93,7 +93,7 @@ quiet : (p : Phases) (h : Trace) (x : Sample) (v : Trace) (queue : List Entry) (
 unfolding has_answered ends_by transfer_to chunk_step
 quiet p h x v queue e s k f t g c =
     let none : has_answered p x ≡ false = ap (λ b. b || is_some p.transfer) f ∙ ap is_some t in
-    let count : response_count v ≡ e = count_kept h x v k.more f ∙ c in
+    let count : response_count v ≡ e = response_count-kept h x v k.more f ∙ c in
     let still : transfer_of v ≡ None =
     sym k.transfer ∙ ap (λ b. chunk_step (has_line x DRDY) (cond b (cond (is_some_and (slice_get queue 0) moves) (Some 0) None) p.transfer)) f
     ∙ ap (chunk_step (has_line x DRDY)) t in
@@ -163,15 +163,16 @@ course p h x v queue e s k =
                 let a = has_answer h moving.1 e (k.stands.orderly.timely e moving.1 moving.4) in
                 inr (answered_course p h x v queue e s (transfer_of v) k
                 (ap (λ b. b || is_some p.transfer) f ∙ ap is_some (k.stands.transfer ∙ moving.2))
-                (count_kept h x v k.more f ∙ moving.3) (head_snooped h e s a.snoop k.meets.snoops a.is_snoop) refl)
+                (response_count-kept h x v k.more f ∙ moving.3) (head_snooped h e s a.snoop k.meets.snoops a.is_snoop) refl)
           ]
     ]
 
--- the entry that ends
-no_end : (v : Trace) (n : ℕ) (y : Entry) → end_of v (live_of v y) ≡ None → ends_at v n y ≡ false
+-- an entry whose end is not reached does not end
+pub no_end : (v : Trace) (n : ℕ) (y : Entry) → end_of v (live_of v y) ≡ None → ends_at v n y ≡ false
 unfolding ends_at is_at is_some_and
 no_end v n y e = and_right (is_live v y.clock) _ (rw e refl)
 
+-- the entry that ends
 none_ends : (p : Phases) (h : Trace) (x : Sample) (v : Trace) (queue : List Entry) (e s : ℕ) → Step p h x v queue e s → EndsTo v e → find (ends_at v (length h)) queue ≡ None
 none_ends p h x v queue e s k to =
     find-off (ends_at v (length h)) queue (λ j y g.

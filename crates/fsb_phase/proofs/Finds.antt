@@ -84,7 +84,8 @@ find-only p xs k x e f =
       | inr off ↦ rw off (find-off p xs (at_all p xs k x e off f))
     ]
 
-none_passes : (p : Entry → Bool) → None ≡ if_passes p None
+-- where there is no entry, none passes
+pub none_passes : (p : Entry → Bool) → None ≡ if_passes p None
 unfolding if_passes
 none_passes p = refl
 

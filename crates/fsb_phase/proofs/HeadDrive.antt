@@ -149,10 +149,6 @@ open_response h y turn i (Some s) k f g = rw (taking-is h y turn i s k f g) refl
 open_response h y turn i None k f g =
     rw (no_answer-snoop h i g, no_ready-snoop h i g) (not_response (is_taking y) y.choice.resp (length h) ∙ sym (not_response (takes h i) y.choice.resp (length h)))
 
-three : (a b c : Bool) → (a && b && c) ≡ (a && (b && c))
-three true b c = refl
-three false b c = refl
-
 -- no transfer is on the way
 still_ready : (p : Phases) (h : Trace) (y : Entry) (turn i : ℕ) → IsSettled h y turn → live_of h y ≡ i → p.transfer ≡ None → p.from ≡ answer_from h i → response_clock_of h i ≡ None → gets_ready p (length h) y ≡ has_ready h y
 unfolding gets_ready

@@ -2,7 +2,8 @@
 use Rattle.std.proofs.Common.{ℕ, zero, suc, ◌+◌, ◌<◌, ◌≤◌, ◌≡◌, Bool, true, false, cond, ◌&&◌, ◌||◌, max, nat_le, Option, Some, None, List, length, is_none, refl, sym, ap, ◌∙◌, inl, inr, arith}
 use Rattle.std.specs.List.{slice_get}
 use Rattle.std.specs.Option.{option_map}
-use Rattle.std.proofs.lemmas.Bool.{cases_Bool, and_right, cases_lt, le-leb, lt-leb}
+use Rattle.std.proofs.lemmas.Bool.{cases_Bool, and_right, cases_lt, le-leb, lt-leb, or_parts}
+use Rattle.std.proofs.Math.Bool.{and_comm}
 use Rattle.fsb_count.specs.Options.{is_some_and, greater_of}
 use Rattle.fsb_signal.specs.declared.lines.TheConstants.Lines.{ADS, TRDY, DRDY}
 use Rattle.fsb_signal.specs.declared.sample.Sample.{Sample}
@@ -15,7 +16,7 @@ use Rattle.fsb_laws.specs.OneMore.{OneMore, responds}
 use Rattle.fsb_laws.specs.Orderly.{Spaced, Orderly}
 use Rattle.fsb_laws.specs.Progress.{SnoopsTo, EndsTo, response_count, transfer_of, chunk_step, may_answer_next}
 use Rattle.fsb_laws.proofs.OrderlySteps.{spaced-more}
-use Rattle.fsb_laws.proofs.ResponseSteps.{response_count-more, response_clock_of-new, response_clock_of-old}
+use Rattle.fsb_laws.proofs.ResponseSteps.{response_count-more, response_clock_of-new, response_clock_of-old, response_count-kept}
 use Rattle.fsb_laws.proofs.TransferSteps.{transfer_of-kept, transfer_of-begun}
 use Rattle.fsb_laws.proofs.ReadySteps.{ready_clock_of-next, ready_clock_of-after}
 use Rattle.fsb_laws.proofs.AnswerSteps.{answered_below}
@@ -32,10 +33,6 @@ use Rattle.fsb_phase.proofs.Settled.{told-is}
 use Rattle.fsb_phase.proofs.Answering.{Answering, may_answer}
 
 -- a request that is not too soon keeps the distance
-or_parts : (a b : Bool) → (a || b) ≡ false → (a ≡ false) × (b ≡ false)
-or_parts false b e = (refl, e)
-or_parts true b e = absurd (let none : ⊥ = cc in none)
-
 far_enough : (h : Trace) (x : Sample) → is_too_soon h x ≡ false → has_line x ADS ≡ true → (line_back ADS h (length h) 1 ≡ false) × (line_back ADS h (length h) 2 ≡ false)
 unfolding is_too_soon
 far_enough h x f t = or_parts _ _ (go (has_line x ADS) t f) where
@@ -52,11 +49,6 @@ count_answered h x v m t =
     response_count-more h x v m ∙ ap (λ b. response_count h + cond b 1 0) t
     ∙ (let one : response_count h + 1 ≡ suc (response_count h) = omega arith in one)
 
-pub count_kept : (h : Trace) (x : Sample) (v : Trace) → OneMore h x v → responds x ≡ false → response_count v ≡ response_count h
-count_kept h x v m f =
-    response_count-more h x v m ∙ ap (λ b. response_count h + cond b 1 0) f
-    ∙ (let none : response_count h + 0 ≡ response_count h = omega arith in none)
-
 last_same : (h : Trace) (x : Sample) (v : Trace) (n : ℕ) → OneMore h x v → n ≤ response_count h → value_before (response_clock_of v) n ≡ value_before (response_clock_of h) n
 unfolding value_before
 last_same h x v zero m l = refl
@@ -69,7 +61,7 @@ last_answered h x v m t = ap (value_before (response_clock_of v)) (count_answere
 last_kept : (h : Trace) (x : Sample) (v : Trace) → OneMore h x v → responds x ≡ false → last_response v ≡ last_response h
 unfolding last_response
 last_kept h x v m f =
-    ap (value_before (response_clock_of v)) (count_kept h x v m f) ∙ last_same h x v (response_count h) m (omega arith)
+    ap (value_before (response_clock_of v)) (response_count-kept h x v m f) ∙ last_same h x v (response_count h) m (omega arith)
 
 pub response_to-is : (p : Phases) (h : Trace) (x : Sample) (v : Trace) → OneMore h x v → Stands p h → response_to p (length h) x ≡ last_response v
 unfolding response_to
@@ -129,16 +121,10 @@ late_answer h (suc i) o f c =
     ∙ ap (λ t. is_some_and (greater_of (option_map (λ s. s + 2) (snoop_end_of h (suc i))) t) (λ g. nat_le g (length h)))
     (sym (ap (option_map (λ t. t + 1)) r.1))
 
-and_turned : (a b : Bool) → (a && b) ≡ (b && a)
-and_turned true true = refl
-and_turned true false = refl
-and_turned false true = refl
-and_turned false false = refl
-
 may_cases : (h : Trace) (t : Option ℕ) → Orderly h → transfer_of h ≡ t → (is_none t && is_some_and (answer_from h (response_count h)) (λ f. nat_le f (length h))) ≡ (is_some_and (snoop_end_of h (response_count h)) (λ t. nat_le (t + 2) (length h)) && is_none t)
 may_cases h None o f =
     sym (late_answer h (response_count h) o f refl)
-    ∙ and_turned true (is_some_and (snoop_end_of h (response_count h)) (λ t. nat_le (t + 2) (length h)))
+    ∙ and_comm true (is_some_and (snoop_end_of h (response_count h)) (λ t. nat_le (t + 2) (length h)))
 may_cases h (Some k) o f = sym (and_right _ false refl)
 
 pub may_is : (p : Phases) (h : Trace) → Stands p h → may_answer_at p (length h) ≡ may_answer_next h
@@ -173,5 +159,5 @@ ready_to-is p h x v s m k to =
           ∙ ap (λ b. ready_step (has_line x TRDY) b (length h) p.ready) (may_is p h k)
           ∙ ap (ready_step (has_line x TRDY) (may_answer_next h) (length h)) k.ready
           ∙ sym (next_form h x v s m k.orderly to)
-          ∙ ap (ready_clock_of v) (sym (count_kept h x v m f))
+          ∙ ap (ready_clock_of v) (sym (response_count-kept h x v m f))
     ]

@@ -2,6 +2,7 @@
 use Rattle.std.proofs.Common.{ℕ, ◌≤◌, ◌≡◌, Bool, true, false, ◌||◌, cond, nat_eq, nat_le, Option, Some, None, refl, sym, ap, ◌∙◌, inl, inr, arith, subst}
 use Rattle.std.specs.Option.{option_map}
 use Rattle.std.proofs.lemmas.Bool.{cases_Bool, eqb-true, leb-true}
+use Rattle.std.proofs.Math.Bool.{or-false, or-true}
 use Rattle.fsb_count.specs.Options.{is_some_and}
 use Rattle.fsb_signal.specs.declared.lines.TheConstants.Lines.{HITM}
 use Rattle.fsb_signal.specs.Samples.{line_at}
@@ -45,23 +46,15 @@ late_turn : (turn : ℕ) (wb : Bool) → (wb ≡ true → turn ≡ 0) → 1 ≤ 
 late_turn turn true f l = absurd (let z : turn ≡ 0 = f refl in omega arith)
 late_turn turn false f l = refl
 
-or_false : (b : Bool) → b ≡ (b || false)
-or_false true = refl
-or_false false = refl
-
-or_true : (b : Bool) → true ≡ (b || true)
-or_true true = refl
-or_true false = refl
-
 cases_take : (hitm : Bool) (turn : ℕ) (request : Option Request) → (is_write_back request ≡ true → turn ≡ 0) → does_take (settled_cases hitm turn request) ≡ (is_write_back request || hitm)
 unfolding settled_cases does_take
-cases_take true turn request f = or_true (is_write_back request)
+cases_take true turn request f = sym (or-true (is_write_back request))
 cases_take false turn request f =
     elim (cases_Bool (nat_eq turn 1)) [
       | inl one ↦ rw one (late_turn turn (is_write_back request) f (let e = eqb-true turn 1 one in omega arith))
       | inr other ↦ elim (cases_Bool (nat_le 2 turn)) [
         | inl late ↦ rw (other, late) (late_turn turn (is_write_back request) f (let e = leb-true 2 turn late in omega arith))
-        | inr kept ↦ rw (other, kept) (by_kind_takes request ∙ or_false (is_write_back request))
+        | inr kept ↦ rw (other, kept) (by_kind_takes request ∙ sym (or-false (is_write_back request)))
       ]
     ]
 

@@ -5,6 +5,7 @@ use Rattle.std.specs.Option.{option_map}
 use Rattle.std.proofs.lemmas.Bool.{cases_Bool, cases_lt, cases_order, and_left, and_right}
 use Rattle.std.proofs.lemmas.Option.{slice_get_within, slice_get_cases}
 use Rattle.fsb_count.specs.Options.{is_some_and, greater_of}
+use Rattle.fsb_count.proofs.Options.{is_some_and-none}
 use Rattle.fsb_trace.specs.At.{Trace}
 use Rattle.fsb_trace.specs.Requests.{live_clock_of}
 use Rattle.fsb_trace.specs.Snoop.{is_every_second_from, start_after_clock, start_after_end, snoop_start_of, snoop_end_of}
@@ -17,7 +18,7 @@ use Rattle.fsb_phase.specs.Due.{live_of, has_snoop, is_stalled}
 use Rattle.fsb_phase.proofs.Held.{IsSettled, Held}
 use Rattle.fsb_phase.specs.Phases.{value_before}
 use Rattle.fsb_phase.specs.Registers.{if_passes, open_entry, start_after, is_snooping, snooping, stalls_at}
-use Rattle.fsb_phase.proofs.Finds.{Found, find-cases, find-only, find-off, find-place}
+use Rattle.fsb_phase.proofs.Finds.{Found, find-cases, find-only, find-off, find-place, none_passes}
 use Rattle.fsb_phase.proofs.Entries.{placed}
 
 -- the numbers that the phases, a history and a queue have in common: the live requests below e have their end, those
@@ -152,10 +153,6 @@ passes_same : (t u : Entry → Bool) (x : Entry) → t x ≡ u x → if_passes t
 unfolding if_passes
 passes_same t u x e = rw e refl
 
-no_entry : (t : Entry → Bool) → None ≡ if_passes t None
-unfolding if_passes
-no_entry t = refl
-
 found_snoop : (p : Phases) (h : Trace) (queue : List Entry) (e s : ℕ) → Meets p h queue e s → (k : Found (λ y. is_none y.outcome) queue) → has_snoop h k.item ≡ is_snooping p (length h) k.item
 found_snoop p h queue e s m k =
     let same : e + k.place ≡ s = open_is p h queue e s k m in
@@ -169,7 +166,7 @@ unfolding snooping open_entry
 snooping-is p h queue e s m =
     elim (find-cases (λ y. is_none y.outcome) queue) [
       | inr g ↦
-          ap (if_passes (is_snooping p (length h))) (find-off (λ y. is_none y.outcome) queue g) ∙ sym (no_entry _)
+          ap (if_passes (is_snooping p (length h))) (find-off (λ y. is_none y.outcome) queue g) ∙ sym (none_passes _)
           ∙ sym (find-off (has_snoop h) queue (nowhere p h queue e s m g))
       | inl k ↦
           ap (if_passes (is_snooping p (length h))) (find-place (λ y. is_none y.outcome) queue k.place k.item k.at k.passes k.before)
@@ -199,10 +196,6 @@ found_stall p h queue e s m k =
     let clock : live_clock_of h s ≡ Some k.item.clock = subst (λ i. live_clock_of h i ≡ Some k.item.clock) same here.clock in
     rw (found_snoop p h queue e s m k, number, stall_here p h s k.item m.snoops m.snooped clock) refl
 
-nothing : (f : Entry → Bool) → is_some_and None f ≡ false
-unfolding is_some_and
-nothing f = refl
-
 -- whether that snoop stalls
 pub stalled-is : (p : Phases) (h : Trace) (queue : List Entry) (e s : ℕ) → Meets p h queue e s → is_some_and (snooping p (length h) queue) (stalls_at p (length h)) ≡ is_some (find (is_stalled h) queue)
 unfolding snooping open_entry
@@ -210,7 +203,7 @@ stalled-is p h queue e s m =
     elim (find-cases (λ y. is_none y.outcome) queue) [
       | inr g ↦
           ap (λ o. is_some_and (if_passes (is_snooping p (length h)) o) (stalls_at p (length h))) (find-off (λ y. is_none y.outcome) queue g)
-          ∙ ap (λ o. is_some_and o (stalls_at p (length h))) (sym (no_entry _)) ∙ nothing _
+          ∙ ap (λ o. is_some_and o (stalls_at p (length h))) (sym (none_passes _)) ∙ is_some_and-none _
           ∙ sym (ap is_some (find-off (is_stalled h) queue (λ j y a. not_stalled h y (nowhere p h queue e s m g j y a))))
       | inl k ↦
           ap (λ o. is_some_and (if_passes (is_snooping p (length h)) o) (stalls_at p (length h))) (find-place (λ y. is_none y.outcome) queue k.place k.item k.at k.passes k.before)

@@ -2,10 +2,12 @@
 use Rattle.std.proofs.Common.{ℕ, zero, suc, ◌+◌, ◌-◌, ◌<◌, ◌≤◌, ◌≡◌, Bool, true, false, not, cond, ◌&&◌, Option, Some, None, List, [], ◌∷◌, length, is_some, refl, sym, ap, ◌∙◌, inl, inr, arith, subst}
 use Rattle.std.specs.List.{slice_get, find}
 use Rattle.std.specs.Option.{option_map}
-use Rattle.std.proofs.lemmas.Bool.{cases_Bool, cases_eq, cases_order, and_left, and_right, and_parts, eq-eqb, ne_eqb, leb-true, both_ways}
+use Rattle.std.proofs.lemmas.Bool.{cases_Bool, cases_eq, cases_order, and_left, and_right, and_parts, ne_eqb, leb-true, both_ways}
 use Rattle.std.proofs.lemmas.Option.{slice_get-map}
+use Rattle.std.proofs.Math.Bool.{and-true}
 use Rattle.fsb_count.specs.Options.{is_some_and, is_at}
 use Rattle.fsb_count.specs.Clocks.{all_where, nth_where}
+use Rattle.fsb_count.proofs.Options.{is_at-if, is_at-off}
 use Rattle.fsb_signal.specs.declared.sample.Sample.{Sample}
 use Rattle.fsb_trace.specs.At.{Trace}
 use Rattle.fsb_trace.specs.Requests.{is_live, live_clock_of}
@@ -99,20 +101,12 @@ ends_is p h x queue e s m =
     ∙ ap (λ b. b && not (stalls x)) (found_due p h queue e s m)
 
 -- whether the snoop of live request i ends at the new clock
-at_clock : (n : ℕ) (b : Bool) → is_at (cond b (Some n) None) n ≡ b
-unfolding is_at is_some_and
-at_clock n true = eq-eqb n n refl
-at_clock n false = refl
-
 not_at : (o : Option ℕ) (t n : ℕ) → o ≡ Some t → t < n → is_at o n ≡ false
 unfolding is_at is_some_and
 not_at o t n e l = rw e (ne_eqb t n (λ f. omega arith))
 
-nowhere_at : (o : Option ℕ) (n : ℕ) → o ≡ None → is_at o n ≡ false
-unfolding is_at is_some_and
-nowhere_at o n e = rw e refl
-
-later_none : (h : Trace) (x : Sample) (v : Trace) (s i : ℕ) (b : Bool) → OneMore h x v → Spaced h → SnoopsTo h s → ends_snoop_of h s x ≡ b → s < i → snoop_end_of v i ≡ None
+-- the snoops behind the next one have no snoop end yet
+pub later_none : (h : Trace) (x : Sample) (v : Trace) (s i : ℕ) (b : Bool) → OneMore h x v → Spaced h → SnoopsTo h s → ends_snoop_of h s x ≡ b → s < i → snoop_end_of v i ≡ None
 later_none h x v s i true m sp to t l = snoop_end_of-above v (s + 1) i (snoops_to-ended h x v s m sp to t) (omega arith)
 later_none h x v s i false m sp to f l = snoop_end_of-above v s i (snoops_to-kept h x v s m sp to f) (omega arith)
 
@@ -122,7 +116,7 @@ end_here h x v s i m sp to =
     elim (cases_order i s) [
       | inl same ↦
           let here : is_at (snoop_end_of v s) (length h) ≡ (snoop_at h s && not (stalls x)) =
-          ap (λ o. is_at o (length h)) (snoop_end_of-more h x v s m sp to) ∙ at_clock (length h) (ends_snoop_of h s x)
+          ap (λ o. is_at o (length h)) (snoop_end_of-more h x v s m sp to) ∙ is_at-if (length h) (ends_snoop_of h s x)
           ∙ ap (λ b. b && not (stalls x)) (sym (at_next h s to)) in
           subst (λ j. is_at (snoop_end_of v j) (length h) ≡ (snoop_at h j && not (stalls x))) (sym same) here
       | inr other ↦ elim other [
@@ -131,7 +125,7 @@ end_here h x v s i m sp to =
             not_at (snoop_end_of v i) r.0 (length h) (snoop_end_of-old h x v s i m to less ∙ r.1) r.2
             ∙ sym (and_left _ _ (snoop_elsewhere h s i to (λ f. omega arith)))
         | inr more ↦
-            nowhere_at (snoop_end_of v i) (length h) (later_none h x v s i (ends_snoop_of h s x) m sp to refl more)
+            is_at-off (snoop_end_of v i) (length h) (later_none h x v s i (ends_snoop_of h s x) m sp to refl more)
             ∙ sym (and_left _ _ (snoop_elsewhere h s i to (λ f. omega arith)))
       ]
     ]
@@ -179,13 +173,9 @@ pub find_same : (t u : Entry → Bool) (xs : List Entry) → ((j : ℕ) (y : Ent
 find_same t u [] f = refl
 find_same t u (z ∷ xs) f = rw (f 0 z refl, find_same t u xs (λ j y e. f (suc j) y e)) refl
 
-true_and : (b : Bool) → (b && true) ≡ b
-true_and true = refl
-true_and false = refl
-
 find_unless : (t : Entry → Bool) (b : Bool) (xs : List Entry) → find (λ y. t y && not b) xs ≡ cond b None (find t xs)
 find_unless t true xs = find-off (λ y. t y && false) xs (λ j y e. and_right (t y) false refl)
-find_unless t false xs = find_same (λ y. t y && true) t xs (λ j y e. true_and (t y))
+find_unless t false xs = find_same (λ y. t y && true) t xs (λ j y e. and-true (t y))
 
 -- the entry whose snoop ends with the sample
 pub snooped_is : (p : Phases) (h : Trace) (x : Sample) (v : Trace) (queue : List Entry) (e s : ℕ) → OneMore h x v → Spaced h → Meets p h queue e s → snooped_by p (length h) x queue ≡ find (ends_snoop_at v (length h)) queue

@@ -2,7 +2,7 @@
 use Rattle.std.proofs.Common.{ℕ, zero, suc, ◌+◌, ◌-◌, ◌<◌, ◌≤◌, ◌≡◌, true, false, nat_eq, Option, Some, None, List, [], ◌∷◌, ◌++◌, length, take, drop, refl, sym, ap, ◌∙◌, inl, inr, arith, is_some, ◌⊎◌}
 use Rattle.std.specs.List.{slice_get, slice_set}
 use Rattle.std.proofs.lemmas.Bool.{cases_Bool, ne_eqb}
-use Rattle.std.proofs.lemmas.List.{take_more, length-append, length-drop, length-take, append_assoc, drop_all, take_all}
+use Rattle.std.proofs.lemmas.List.{take_more, length-append, length-drop, length-take, append_assoc}
 use Rattle.std.proofs.lemmas.Option.{get_or_from_slice_get, slice_get_within}
 use Rattle.circular_buffer.specs.Buffer.{keep_last}
 use Rattle.fsb_trace.specs.declared.outcome.Outcome.{Outcome}
@@ -95,7 +95,8 @@ pub take_one : {X : Type 0} (xs : List X) (k : ℕ) (x : X) → slice_get xs k �
 take_one xs k x e =
     take_more xs k x (slice_get_within xs k x e) ∙ ap (λ y. take k xs ++ y ∷ []) (get_or_from_slice_get xs k x x e)
 
-length-without : (number : ℕ) (xs : List Entry) → length (without number xs) ≤ length xs
+-- an entry dropped leaves no more
+pub length-without : (number : ℕ) (xs : List Entry) → length (without number xs) ≤ length xs
 unfolding without
 length-without number [] = omega arith
 length-without number (y ∷ xs) =
@@ -144,10 +145,6 @@ passed_kept number k n es items x o e l most h f g =
 -- there is a first one
 pub passed_there : (number k : ℕ) (es items : List Entry) → items ≡ passed number k es → k < length es → slice_get items 0 ≡ None → ⊥
 passed_there number k es items e l h = left_none es (without number (take k es)) k l (ap (λ ys. slice_get ys 0) (sym e) ∙ h)
-
-pub none_where : {X : Type 0} (o : Option X) → is_some o ≡ false → o ≡ None
-none_where None e = refl
-none_where (Some x) e = absurd (let no : ⊥ = cc in no)
 
 pub not_past : {X : Type 0} (xs : List X) (i : ℕ) → i < length xs → slice_get xs i ≡ None → ⊥
 not_past [] i l e = omega arith

@@ -1,5 +1,5 @@
 -- A symmetric winner is one of four agents, and a request of its own has one of its IDs.
-use Rattle.std.proofs.Common.{ℕ, zero, suc, ◌+◌, ◌-◌, ◌/◌, ◌%◌, ◌<◌, ◌≡◌, Bool, true, false, nat_lt, Option, Some, None, lit<, refl, sym, ap, ◌∙◌, arith}
+use Rattle.std.proofs.Common.{ℕ, zero, suc, ◌+◌, ◌-◌, ◌/◌, ◌%◌, ◌<◌, ◌≡◌, Bool, true, false, nat_lt, Option, Some, None, lit<, refl, sym, ap, ◌∙◌, arith, cond}
 use Rattle.std.specs.Option.{option_map}
 use Rattle.std.proofs.Math.Nat.{mod-lt}
 use Rattle.std.proofs.lemmas.Bool.{eqb-true}
@@ -12,8 +12,10 @@ use Rattle.fsb_encode.specs.declared.request.Request.{Request}
 use Rattle.fsb_trace.specs.declared.who.Who.{Who}
 use Rattle.fsb_trace.specs.declared.who.Who.TheVariants.{Symmetric, Priority}
 use Rattle.fsb_trace.specs.At.{Trace}
-use Rattle.fsb_trace.specs.Winner.{Turns, agent_in_order, asks_in_order, first_asking, last_if_asking, winner_by, winner_after, turns_before, winner_at, then_begun, no_turns, request_line_of, is_same_agent, first_in_order}
+use Rattle.fsb_trace.specs.Winner.{Turns, agent_in_order, asks_in_order, first_asking, last_if_asking, winner_by, winner_after, turns_before, winner_at, then_begun, request_line_of, is_same_agent, first_in_order, is_agent}
 use Rattle.fsb_trace.specs.Rules.{is_own_id}
+use Rattle.fsb_trace.proofs.WinnerSteps.{winner_by-locked, winner_by-priority, winner_by-symmetric, winner_after-low, winner_after-high}
+use Rattle.fsb_trace.proofs.TurnSteps.{turns_before-start, turns_before-begun, turns_before-kept}
 
 -- there is no such agent, or it is the priority agent, or one of the four
 abbrev pub IsOneOfFour : Option Who → Type 0
@@ -40,72 +42,44 @@ by_last w d (Some who) f = λ a e.
 same_four : (o p : Option Who) → o ≡ p → IsOneOfFour p → IsOneOfFour o
 same_four o p e f = λ a h. f a (sym e ∙ h)
 
-locked : (w : Trace) (d : ℕ) (turns : Turns) → line_at LOCK w d ≡ true → winner_by w d turns ≡ last_if_asking w d turns.0
-unfolding winner_by
-locked w d turns t = rw (t, winner_by) refl
-
-priority : (w : Trace) (d : ℕ) (turns : Turns) → line_at LOCK w d ≡ false → line_at BPRI w d ≡ true → winner_by w d turns ≡ Some Priority
-unfolding winner_by
-priority w d turns f t = rw (f, t, winner_by) refl
-
-symmetric : (w : Trace) (d : ℕ) (turns : Turns) → line_at LOCK w d ≡ false → line_at BPRI w d ≡ false → winner_by w d turns ≡ option_map Symmetric (first_asking w d (first_in_order turns.1))
-unfolding winner_by
-symmetric w d turns f g = rw (f, g, winner_by) refl
-
 by_lines : (w : Trace) (d : ℕ) (turns : Turns) (lock bpri : Bool) → line_at LOCK w d ≡ lock → line_at BPRI w d ≡ bpri → IsOneOfFour turns.0 → IsOneOfFour (winner_by w d turns)
-by_lines w d turns true bpri e g f = same_four _ _ (locked w d turns e) (by_last w d turns.0 f)
-by_lines w d turns false true e g f = same_four _ _ (priority w d turns e g) (λ a h. absurd (let no : ⊥ = cc in no))
-by_lines w d turns false false e g f = same_four _ _ (symmetric w d turns e g) (by_order w d (first_in_order turns.1))
-
-low : (w : Trace) (c : ℕ) (turns : Turns) → nat_lt c 2 ≡ true → winner_after w c turns ≡ None
-unfolding winner_after
-low w c turns t = rw (t, winner_after) refl
-
-high : (w : Trace) (c : ℕ) (turns : Turns) → nat_lt c 2 ≡ false → winner_after w c turns ≡ winner_by w (c - 2) turns
-unfolding winner_after
-high w c turns f = rw (f, winner_after) refl
+by_lines w d turns true bpri e g f = same_four _ _ (winner_by-locked w d turns e) (by_last w d turns.0 f)
+by_lines w d turns false true e g f = same_four _ _ (winner_by-priority w d turns e g) (λ a h. absurd (let no : ⊥ = cc in no))
+by_lines w d turns false false e g f = same_four _ _ (winner_by-symmetric w d turns e g) (by_order w d (first_in_order turns.1))
 
 after_cases : (w : Trace) (c : ℕ) (turns : Turns) (b : Bool) → nat_lt c 2 ≡ b → IsOneOfFour turns.0 → IsOneOfFour (winner_after w c turns)
-after_cases w c turns true e f = same_four _ _ (low w c turns e) (λ a h. absurd (let no : ⊥ = cc in no))
+after_cases w c turns true e f = same_four _ _ (winner_after-low w c turns e) (λ a h. absurd (let no : ⊥ = cc in no))
 after_cases w c turns false e f =
-    same_four _ _ (high w c turns e) (by_lines w (c - 2) turns (line_at LOCK w (c - 2)) (line_at BPRI w (c - 2)) refl refl f)
+    same_four _ _ (winner_after-high w c turns e) (by_lines w (c - 2) turns (line_at LOCK w (c - 2)) (line_at BPRI w (c - 2)) refl refl f)
 
 then_last : (turns : Turns) (winner : Option Who) → (then_begun turns winner).0 ≡ winner
 unfolding then_begun
 then_last turns winner = refl
 
-begun : (w : Trace) (c : ℕ) → line_at ADS w c ≡ true → turns_before w (suc c) ≡ then_begun (turns_before w c) (winner_after w c (turns_before w c))
-unfolding turns_before
-begun w c t = rw (t, turns_before) refl
-
-kept : (w : Trace) (c : ℕ) → line_at ADS w c ≡ false → turns_before w (suc c) ≡ turns_before w c
-unfolding turns_before
-kept w c f = rw (f, turns_before) refl
-
-first_turns : (w : Trace) → (turns_before w zero).0 ≡ None
-unfolding turns_before no_turns
-first_turns w = refl
-
-turn_cases : (w : Trace) (c : ℕ) (ads : Bool) → line_at ADS w c ≡ ads → IsOneOfFour (turns_before w c).0 → IsOneOfFour (turns_before w (suc c)).0
+turn_cases : (w : Trace) (c : ℕ) (ads : Bool) → line_at ADS w c ≡ ads → IsOneOfFour (turns_before w c).0 → IsOneOfFour (turns_before w (c + 1)).0
 turn_cases w c true e f =
-    same_four _ _ (ap (λ t. t.0) (begun w c e) ∙ then_last (turns_before w c) (winner_after w c (turns_before w c)))
+    same_four _ _ (ap (λ t. t.0) (turns_before-begun w c e) ∙ then_last (turns_before w c) (winner_after w c (turns_before w c)))
     (after_cases w c (turns_before w c) (nat_lt c 2) refl f)
-turn_cases w c false e f = same_four _ _ (ap (λ t. t.0) (kept w c e)) f
+turn_cases w c false e f = same_four _ _ (ap (λ t. t.0) (turns_before-kept w c e)) f
 
 turns_four : (w : Trace) (c : ℕ) → IsOneOfFour (turns_before w c).0
-turns_four w zero = same_four _ _ (first_turns w) (λ a e. absurd (let no : ⊥ = cc in no))
-turns_four w (suc c) = turn_cases w c (line_at ADS w c) refl (turns_four w c)
+turns_four w zero = same_four _ _ (ap (λ t. t.0) (turns_before-start w)) (λ a e. absurd (let no : ⊥ = cc in no))
+turns_four w (suc c) =
+    let next : suc c ≡ c + 1 = omega arith in
+    rw next (turn_cases w c (line_at ADS w c) refl (turns_four w c))
 
 pub winner_four : (w : Trace) (c a : ℕ) → winner_at w c ≡ Some (Symmetric a) → a < 4
 unfolding winner_at
 winner_four w c = after_cases w c (turns_before w c) (nat_lt c 2) refl (turns_four w c)
 
 -- the agent of a request with an ID of its own
-own_cases : (winner : Option Who) (r : Request) → is_own_id winner r ≡ true → winner ≡ Some (Symmetric (r.did / 16))
-unfolding is_own_id is_some_and is_same_agent
-own_cases None r t = absurd (let no : ⊥ = cc in no)
-own_cases (Some Priority) r t = absurd (let no : ⊥ = cc in no)
-own_cases (Some (Symmetric a)) r t = ap (λ n. Some (Symmetric n)) (sym (eqb-true (r.did / 16) a t))
-
 pub own_agent : (winner : Option Who) (r : Request) → is_own_id winner r ≡ true → winner ≡ Some (Symmetric (r.did / 16))
-own_agent = own_cases
+unfolding is_own_id is_some_and is_same_agent
+own_agent None r t = absurd (let no : ⊥ = cc in no)
+own_agent (Some Priority) r t = absurd (let no : ⊥ = cc in no)
+own_agent (Some (Symmetric a)) r t = ap (λ n. Some (Symmetric n)) (sym (eqb-true (r.did / 16) a t))
+
+-- a request that is no reply has an ID of its own
+pub own_part : (winner : Option Who) (s : Request) (b : Bool) → b ≡ false → cond b (is_agent winner Priority) (is_own_id winner s) ≡ true → is_own_id winner s ≡ true
+own_part winner s false e t = t
+own_part winner s true e t = absurd (let no : ⊥ = cc in no)

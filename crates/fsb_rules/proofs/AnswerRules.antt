@@ -1,7 +1,9 @@
 -- The rules of responses and targets, with a new sample.
 use Rattle.std.proofs.Common.{ℕ, ◌+◌, ◌<◌, ◌≡◌, Bool, true, false, cond, not, ◌&&◌, nat_le, Option, Some, None, is_some, is_none, length, refl, sym, ap, ◌∙◌, arith}
-use Rattle.std.proofs.lemmas.Bool.{and_parts, and_right, lt-ltb, le-ltb, lt-leb}
+use Rattle.std.proofs.lemmas.Bool.{and_parts, and_right, lt-ltb, lt-leb}
+use Rattle.std.proofs.Math.Bool.{and-true}
 use Rattle.fsb_count.specs.Options.{is_some_and, is_before}
+use Rattle.fsb_count.proofs.Options.{is_some_and-none, is_before-if, is_before-from}
 use Rattle.fsb_signal.specs.declared.lines.TheConstants.Lines.{TRDY, HITM, DEFER}
 use Rattle.fsb_signal.specs.declared.sample.Sample.{Sample}
 use Rattle.fsb_signal.specs.Samples.{has_line, response_of}
@@ -12,11 +14,11 @@ use Rattle.fsb_trace.specs.Response.{takes, ready_clock_of}
 use Rattle.fsb_trace.specs.Rules.{may_answer, next_response, is_response_early, is_code_for, responds_soundly, has_code_at, is_code_wrong, is_ready_in_time, is_ready_wrongly, is_target_ready_wrong}
 use Rattle.fsb_trace.proofs.Stay.{snoop_end_of-stays, snoop_end_of-clock}
 use Rattle.fsb_trace.proofs.StayEnds.{line_at_snoop_end-stays, live_request_of-stays}
+use Rattle.fsb_trace.proofs.LiveRequests.{live_below_count}
 use Rattle.fsb_laws.specs.OneMore.{OneMore, responds}
 use Rattle.fsb_laws.specs.Orderly.{Orderly}
 use Rattle.fsb_laws.specs.Progress.{SnoopsTo, response_count, may_answer_next}
 use Rattle.fsb_laws.proofs.OneMoreFacts.{line_at-new, response_code_at-new}
-use Rattle.fsb_laws.proofs.SnoopClockSteps.{live_below_count}
 use Rattle.fsb_laws.proofs.ResponseSteps.{responds_at-new, next_response-new}
 use Rattle.fsb_laws.proofs.AnswerSteps.{may_answer-new, may_answer_next-parts}
 use Rattle.fsb_laws.proofs.ReadySteps.{has_ready, ready_clock_of-old, ready_clock_of-next}
@@ -122,45 +124,28 @@ pub takes_none : (k : Checker) (h : Trace) → Follows k h → may_answer_next h
 unfolding is_some_and
 takes_none k h f e = rw (no_next k.queue h f.queue f.orderly f.decoded e) refl
 
-and_true : (b : Bool) → (b && true) ≡ b
-and_true true = refl
-and_true false = refl
-
 takes_and_may : (k : Checker) (h : Trace) (x : Sample) (v : Trace) (b : Bool) → Follows k h → OneMore h x v → may_answer_next h ≡ b → is_some_and (next_by k.queue (length h)) takes_by ≡ (takes v (response_count h) && b)
-takes_and_may k h x v true f m e = takes_next k h x v f m e ∙ sym (and_true (takes v (response_count h)))
+takes_and_may k h x v true f m e = takes_next k h x v f m e ∙ sym (and-true (takes v (response_count h)))
 takes_and_may k h x v false f m e = takes_none k h f e ∙ sym (and_right _ _ refl)
-
-before_by : (n : ℕ) (b : Bool) → is_before (cond b (Some n) None) n ≡ false
-unfolding is_before is_some_and
-before_by n true = le-ltb n n (omega arith)
-before_by n false = refl
 
 in_time_by : (n : ℕ) (b : Bool) → is_some_and (cond b (Some n) None) (λ y. nat_le (y + 2) n) ≡ false
 unfolding is_some_and
 in_time_by n true = lt-leb (n + 2) n (omega arith)
 in_time_by n false = refl
 
-before_some : (n y : ℕ) → y < n → is_before (Some y) n ≡ true
-unfolding is_before is_some_and
-before_some n y l = lt-ltb y n l
-
-in_time_none : (n : ℕ) → is_some_and None (λ y. nat_le (y + 2) n) ≡ false
-unfolding is_some_and
-in_time_none n = refl
-
 before_cases : (h : Trace) (x : Sample) (v : Trace) (s : ℕ) (old : Option ℕ) → OneMore h x v → Orderly h → SnoopsTo h s → ready_clock_of h (response_count h) ≡ old → is_before (ready_clock_of v (response_count h)) (length h) ≡ is_some old
 before_cases h x v s (Some y) m o to e =
     let within = (has_ready h (response_count h) y e).within in
-    ap (λ r. is_before r (length h)) (ready_clock_of-old h x v (response_count h) y m e) ∙ before_some (length h) y within
+    ap (λ r. is_before r (length h)) (ready_clock_of-old h x v (response_count h) y m e) ∙ is_before-from (Some y) y (length h) refl within
 before_cases h x v s None m o to e =
-    ap (λ r. is_before r (length h)) (let g = rw e at (ready_clock_of-next h x v s m o to) in g) ∙ before_by (length h) (has_line x TRDY && may_answer_next h)
+    ap (λ r. is_before r (length h)) (let g = rw e at (ready_clock_of-next h x v s m o to) in g) ∙ is_before-if (length h) (has_line x TRDY && may_answer_next h)
 
 time_cases : (h : Trace) (x : Sample) (v : Trace) (s : ℕ) (old : Option ℕ) → OneMore h x v → Orderly h → SnoopsTo h s → ready_clock_of h (response_count h) ≡ old → is_some_and (ready_clock_of v (response_count h)) (λ y. nat_le (y + 2) (length h)) ≡ is_some_and old (λ y. nat_le (y + 2) (length h))
 time_cases h x v s (Some y) m o to e =
     ap (λ r. is_some_and r (λ c. nat_le (c + 2) (length h))) (ready_clock_of-old h x v (response_count h) y m e)
 time_cases h x v s None m o to e =
     ap (λ r. is_some_and r (λ c. nat_le (c + 2) (length h))) (let g = rw e at (ready_clock_of-next h x v s m o to) in g)
-    ∙ in_time_by (length h) (has_line x TRDY && may_answer_next h) ∙ sym (in_time_none (length h))
+    ∙ in_time_by (length h) (has_line x TRDY && may_answer_next h) ∙ sym (is_some_and-none (λ y. nat_le (y + 2) (length h)))
 
 ready_wrongly : (k : Checker) (h : Trace) (x : Sample) (v : Trace) → Follows k h → OneMore h x v → is_ready_wrongly_by k.queue (length h) ≡ is_ready_wrongly v (length h) (response_count h)
 unfolding is_ready_wrongly_by is_ready_wrongly

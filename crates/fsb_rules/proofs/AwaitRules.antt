@@ -2,11 +2,12 @@
 use Rattle.std.proofs.Common.{ℕ, ◌/◌, ◌<◌, ◌≡◌, Bool, true, false, cond, not, ◌&&◌, ◌||◌, nat_eq, nat_le, Option, Some, None, is_some, is_none, List, length, count_by, refl, sym, ap, ◌∙◌, arith, subst}
 use Rattle.std.specs.Option.{option_map}
 use Rattle.std.specs.List.{list_any}
-use Rattle.std.proofs.lemmas.Bool.{and_parts, and_from, both_ways, lt-ltb, ltb-true, not-true, false_from_ne_true}
+use Rattle.std.proofs.lemmas.Bool.{and_parts, and_from, both_ways, not-true, false_from_ne_true}
 use Rattle.fsb_count.specs.Options.{is_some_and, is_before}
 use Rattle.fsb_count.specs.Clocks.{any_where, count_where}
 use Rattle.fsb_count.proofs.Any.{any_where-at, any_where-off, any_where-found}
 use Rattle.fsb_count.proofs.Nth.{nth_where-found}
+use Rattle.fsb_count.proofs.Options.{is_some-none, is_none-none, is_before-parts, is_before-from}
 use Rattle.fsb_encode.specs.declared.request.Request.{Request}
 use Rattle.fsb_trace.specs.At.{Trace, request_at}
 use Rattle.fsb_trace.specs.Requests.{is_live, live_count, live_clock_of, live_number_of, live_request_of, is_reply, is_reply_kind, have_same_id}
@@ -17,35 +18,18 @@ use Rattle.fsb_trace.specs.Rules.{awaits_reply, is_id_taken_by, is_outstanding_o
 use Rattle.fsb_trace.proofs.AgreeAt.{AgreeTo-sym}
 use Rattle.fsb_trace.proofs.Stay.{snoop_end_of-clock, snoop_end_of-stays, response_clock_of-stays}
 use Rattle.fsb_trace.proofs.StayEnds.{is_deferred-stays, live_request_of-stays}
-use Rattle.fsb_laws.specs.Progress.{response_count}
-use Rattle.fsb_laws.proofs.SnoopClockSteps.{live_below_count}
+use Rattle.fsb_trace.proofs.LiveRequests.{is_reply-some, live_clock_of-number, live_below_count}
 use Rattle.fsb_laws.proofs.ResponseSteps.{has_answer, response_there, response_counted}
 use Rattle.fsb_laws.proofs.OutstandingSteps.{is_outstanding-end, deferred_response, last_clock_of-deferred, reply_end_of-none}
-use Rattle.fsb_laws.proofs.BeginSteps.{BeginsAfter, same_live_request, same_answered}
+use Rattle.fsb_laws.proofs.BeginSteps.{same_live_request, same_answered, same_deferred}
 use Rattle.fsb_rules.specs.declared.outstanding.Open.{Open}
 use Rattle.fsb_rules.specs.Asked.{asked_from}
 use Rattle.fsb_rules.specs.OpenTests.{awaits, has_id, is_of_agent, is_wrong_among}
 use Rattle.fsb_rules.specs.Outstanding.{open_from, open_at, open_of}
 use Rattle.fsb_rules.proofs.OpenLists.{list_any-all}
-use Rattle.fsb_rules.proofs.Endings.{number_of}
 use Rattle.fsb_rules.proofs.BeginRules.{Begun, is_open, open_ads, open_request, open_list, taken_id, of_agent}
 
-same_deferred : (u v : Trace) (i : ℕ) → BeginsAfter u v → i < response_count u → is_deferred v i ≡ is_deferred u i
-same_deferred u v i b l =
-    let p = response_there u i l in
-    let a = has_answer u p.0 i (b.before.timely i p.0 p.1) in
-    sym (is_deferred-stays (length u) u v i a.snoop p.0 b.agree (omega (arith, a.before, p.2)) a.is_snoop p.2 p.1)
-
 -- a reply begins after the response of the request that it answers
-before_parts : (n : ℕ) (o : Option ℕ) → is_before o n ≡ true → (r : ℕ) × (o ≡ Some r) × (r < n)
-unfolding is_before is_some_and
-before_parts n None t = absurd (let no : ⊥ = cc in no)
-before_parts n (Some r) t = (r, refl, ltb-true r n t)
-
-before_from : (n r : ℕ) (o : Option ℕ) → o ≡ Some r → r < n → is_before o n ≡ true
-unfolding is_before is_some_and
-before_from n r o e l = rw (e, lt-ltb r n l) refl
-
 -- the parts of awaiting
 await_parts : (v : Trace) (q i : ℕ) → awaits_reply v q i ≡ true → (is_deferred v i ≡ true) × (have_same_id (live_request_of v i) (request_at v q) ≡ true) × (is_before (response_clock_of v i) q ≡ true) × (is_answered v q i ≡ false)
 unfolding awaits_reply
@@ -58,10 +42,6 @@ await_parts v q i t =
 await_from : (v : Trace) (q i : ℕ) → is_deferred v i ≡ true → have_same_id (live_request_of v i) (request_at v q) ≡ true → is_before (response_clock_of v i) q ≡ true → is_answered v q i ≡ false → awaits_reply v q i ≡ true
 unfolding awaits_reply
 await_from v q i a b c d = rw (a, b, c, d) refl
-
-none_of : (o : Option ℕ) → is_some o ≡ false → o ≡ None
-none_of None e = refl
-none_of (Some a) e = absurd (let no : ⊥ = cc in no)
 
 -- a request that awaits a reply is an open one that does
 open_awaits : (u : Trace) (i p t : ℕ) (o : Option Request) (s r : Request) → o ≡ Some s → is_deferred u i ≡ true → response_clock_of u i ≡ Some t → reply_clock_of u i ≡ None → nat_eq s.did r.did ≡ true → is_some_and (option_map (open_from u i p) o) (awaits r.did) ≡ true
@@ -102,11 +82,11 @@ awaiting_open : (u h v : Trace) (r : Request) (i : ℕ) → Begun u h v r → aw
 unfolding open_at
 awaiting_open u h v r i b t =
     let parts = await_parts v (length u) i t in
-    let before = before_parts (length u) (response_clock_of v i) parts.2 in
+    let before = is_before-parts (response_clock_of v i) (length u) parts.2 in
     let back : response_clock_of u i ≡ Some before.0 = response_clock_of-stays (length u) v u i before.0 (AgreeTo-sym (length u) u v b.begins.agree) before.2 before.1 in
     let counted = response_counted u i before.0 back in
     let deferred : is_deferred u i ≡ true = sym (same_deferred u v i b.begins counted) ∙ parts.0 in
-    let none : reply_clock_of u i ≡ None = none_of (reply_clock_of u i) (sym (same_answered u v i b.begins counted) ∙ parts.3) in
+    let none : reply_clock_of u i ≡ None = is_some-none (reply_clock_of u i) (sym (same_answered u v i b.begins counted) ∙ parts.3) in
     let a = has_answer u before.0 i (b.begins.before.timely i before.0 back) in
     let c = snoop_end_of-clock u i a.snoop a.is_snoop in
     let n = clock_number u i c.clock c.is_clock in
@@ -132,12 +112,8 @@ deferred_there : (d : Bool) (o : Option ℕ) → is_some (cond d o None) ≡ tru
 deferred_there true o t = refl
 deferred_there false o t = absurd (let no : ⊥ = cc in no)
 
-none_here : (o : Option ℕ) → is_none o ≡ true → o ≡ None
-none_here None t = refl
-none_here (Some a) t = absurd (let no : ⊥ = cc in no)
-
 no_reply : (d : Bool) (o : Option ℕ) → d ≡ true → is_none (cond d o None) ≡ true → o ≡ None
-no_reply true o e t = none_here o t
+no_reply true o e t = is_none-none o t
 no_reply false o e t = absurd (let no : ⊥ = cc in no)
 
 awaits_cases : (u : Trace) (i p : ℕ) (d : Bool) (s r : Request) → is_deferred u i ≡ d → is_some_and (option_map (open_from u i p) (Some s)) (awaits r.did) ≡ true → (d ≡ true) × (nat_eq s.did r.did ≡ true) × (is_none (cond d (reply_clock_of u i) None) ≡ true)
@@ -164,12 +140,12 @@ open_awaiting u h v r p b l t =
     let snoop = snoop_end_of-stays (length u) u v i e.snoop b.begins.agree (omega (arith, e.before, there.2)) e.is_snoop in
     let clock = snoop_end_of-clock v i e.snoop snoop in
     let response = response_clock_of-stays (length u) u v i there.0 b.begins.agree there.2 there.1 in
-    let request : live_request_of v i ≡ Some s.0 = same_live_request u v i b.begins counted ∙ request_with u i p (Some s.0) (number_of u p l a.0) s.1 in (
+    let request : live_request_of v i ≡ Some s.0 = same_live_request u v i b.begins counted ∙ request_with u i p (Some s.0) (live_clock_of-number u p l a.0) s.1 in (
       i,
       live_below_count v i clock.clock clock.is_clock,
       await_from v (length u) i (same_deferred u v i b.begins counted ∙ c.0)
           (same_id s.0 r (live_request_of v i) (request_at v (length u)) request b.request ∙ c.1)
-          (before_from (length u) there.0 (response_clock_of v i) response there.2)
+          (is_before-from (response_clock_of v i) there.0 (length u) response there.2)
           (same_answered u v i b.begins counted ∙ ap (λ o. is_some o) none),
     )
 
@@ -188,10 +164,6 @@ awaited u h v r b =
     (λ i l t. awaiting_open u h v r i b t) (λ p l t. open_awaiting u h v r p b l t)
 
 -- 18 deferred IDs and outstanding requests
-reply_is : (r : Request) → is_reply (Some r) ≡ is_reply_kind r.kind
-unfolding is_reply is_some_and
-reply_is r = refl
-
 wrong_cases : (u h v : Trace) (r : Request) (t : Bool) → Begun u h v r → is_reply_kind r.kind ≡ t → cond t (not (list_any (awaits r.did) (open_of u))) (list_any (has_id r.did) (open_of u) || nat_le 4 (count_by (is_of_agent (r.did / 16)) (open_of u))) ≡ cond t (not (any_where (awaits_reply v (length u)) (live_count v))) (any_where (is_id_taken_by v (length u)) (length u) || nat_le 4 (count_where (is_outstanding_of_winner v (length u)) (length u)))
 wrong_cases u h v r true b e = ap not (sym (awaited u h v r b))
 wrong_cases u h v r false b e = rw (taken_id u h v r b, of_agent u h v r b e) refl
@@ -202,7 +174,7 @@ wrong_form xs q r = refl
 
 begun_form : (v : Trace) (q : ℕ) (r : Request) → request_at v q ≡ Some r → is_begun_wrongly v q ≡ cond (is_reply_kind r.kind) (not (any_where (awaits_reply v q) (live_count v))) (any_where (is_id_taken_by v q) q || nat_le 4 (count_where (is_outstanding_of_winner v q) q))
 unfolding is_begun_wrongly
-begun_form v q r e = rw (e, reply_is r) refl
+begun_form v q r e = rw (e, is_reply-some r) refl
 
 pub wrong_begun : (u h v : Trace) (q : ℕ) (r : Request) → Begun u h v r → is_wrong_among (open_of u) (asked_from q r) ≡ is_begun_wrongly v (length u)
 wrong_begun u h v q r b =

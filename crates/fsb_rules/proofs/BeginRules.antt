@@ -1,22 +1,23 @@
 -- The rule of deferred IDs and outstanding requests, with a new sample.
-use Rattle.std.proofs.Common.{ℕ, ◌+◌, ◌/◌, ◌<◌, ◌≤◌, ◌≡◌, Bool, true, false, cond, ◌&&◌, nat_eq, Option, Some, None, length, count_by, refl, sym, ap, ◌∙◌, arith, inl, inr}
+use Rattle.std.proofs.Common.{ℕ, ◌+◌, ◌/◌, ◌<◌, ◌≤◌, ◌≡◌, Bool, true, false, ◌&&◌, Option, Some, None, length, count_by, refl, sym, ap, ◌∙◌, arith}
 use Rattle.std.specs.Option.{option_map}
 use Rattle.std.specs.List.{filter_map, list_any}
-use Rattle.std.proofs.lemmas.Bool.{cases_eq, and_parts, and_left, eq-eqb, ne_eqb, not-true}
+use Rattle.std.proofs.lemmas.Bool.{and_parts, and_left, not-true}
 use Rattle.fsb_count.specs.Options.{is_some_and, is_before}
 use Rattle.fsb_count.specs.Clocks.{any_where, count_where, all_where}
 use Rattle.fsb_count.proofs.Any.{any_where-same}
 use Rattle.fsb_count.proofs.Count.{count_where-same}
+use Rattle.fsb_count.proofs.Bools.{nat_eq-sym}
 use Rattle.fsb_signal.specs.declared.lines.TheConstants.Lines.{ADS}
 use Rattle.fsb_signal.specs.Samples.{line_at}
 use Rattle.fsb_encode.specs.declared.request.Request.{Request}
 use Rattle.fsb_trace.specs.declared.who.Who.{Who}
-use Rattle.fsb_trace.specs.declared.who.Who.TheVariants.{Symmetric, Priority}
+use Rattle.fsb_trace.specs.declared.who.Who.TheVariants.{Symmetric}
 use Rattle.fsb_trace.specs.At.{Trace, request_at}
 use Rattle.fsb_trace.specs.Winner.{winner_at, is_agent, is_same_agent}
 use Rattle.fsb_trace.specs.Requests.{is_live, live_number_of, is_reply, is_reply_kind, have_same_id}
 use Rattle.fsb_trace.specs.Flight.{last_clock_of, is_outstanding, outstanding}
-use Rattle.fsb_trace.specs.Rules.{is_own_id, is_identified, is_id_taken_by, is_outstanding_of_winner}
+use Rattle.fsb_trace.specs.Rules.{is_identified, is_id_taken_by, is_outstanding_of_winner}
 use Rattle.fsb_trace.specs.Agree.{AgreeTo}
 use Rattle.fsb_trace.proofs.AgreeAt.{winner_at-agree, request_at-agree, line_at-agree}
 use Rattle.fsb_laws.specs.Orderly.{Orderly}
@@ -26,7 +27,7 @@ use Rattle.fsb_laws.proofs.BeginSteps.{BeginsAfter, same_outstanding}
 use Rattle.fsb_rules.specs.OpenTests.{has_id, is_of_agent}
 use Rattle.fsb_rules.specs.Outstanding.{open_from, open_at, open_of}
 use Rattle.fsb_rules.specs.Checker.{Decoded, Identified, Deferrable}
-use Rattle.fsb_rules.proofs.Agents.{own_agent}
+use Rattle.fsb_rules.proofs.Agents.{own_agent, own_part}
 use Rattle.fsb_rules.proofs.OpenLists.{list_any-all, count_by-all}
 use Rattle.fsb_rules.proofs.Prefixes.{HasBefore}
 
@@ -101,20 +102,13 @@ taken_id u h v r b =
     ∙ sym (ap (list_any (has_id r.did)) (open_list u) ∙ list_any-all (has_id r.did) (is_open u) (open_at u) (length u))
 
 -- how many of its agent there are
-eq_sym : (a b : ℕ) → nat_eq a b ≡ nat_eq b a
-eq_sym a b = elim (cases_eq a b) [ inl e ↦ eq-eqb a b e ∙ sym (eq-eqb b a (sym e)) | inr n ↦ ne_eqb a b n ∙ sym (ne_eqb b a (λ e. n (sym e))) ]
-
-own_part : (winner : Option Who) (s : Request) (b : Bool) → b ≡ false → cond b (is_agent winner Priority) (is_own_id winner s) ≡ true → is_own_id winner s ≡ true
-own_part winner s false e t = t
-own_part winner s true e t = absurd (let no : ⊥ = cc in no)
-
 owned : (winner : Option Who) (s : Request) → is_identified winner (Some s) ≡ true → is_reply_kind s.kind ≡ false → winner ≡ Some (Symmetric (s.did / 16))
 unfolding is_identified is_reply is_some_and
 owned winner s t f = own_agent winner s (own_part winner s (is_reply_kind s.kind) f t)
 
 agent_form : (u : Trace) (i p a : ℕ) (s : Request) → is_some_and (Some (Symmetric a)) (is_agent (Some (Symmetric (s.did / 16)))) ≡ is_some_and (option_map (open_from u i p) (Some s)) (is_of_agent a)
 unfolding is_agent is_same_agent is_some_and is_of_agent open_from
-agent_form u i p a s = eq_sym a (s.did / 16)
+agent_form u i p a s = nat_eq-sym a (s.did / 16)
 
 agent_cases : (u h v : Trace) (r : Request) (p : ℕ) (t : Bool) → Begun u h v r → is_reply_kind r.kind ≡ false → p < length u → is_open u p ≡ t → is_outstanding_of_winner v (length u) p ≡ (is_open u p && is_some_and (open_at u p) (is_of_agent (r.did / 16)))
 unfolding is_outstanding_of_winner open_at

@@ -1,6 +1,6 @@
 -- The checker follows the history with a sample that breaks no rule.
 use Rattle.std.proofs.Common.{ℕ, ◌+◌, ◌-◌, ◌<◌, ◌≡◌, true, false, cond, not, ◌&&◌, nat_eq, nat_lt, Option, Some, None, [], ◌∷◌, ◌++◌, length, refl, sym, ap, ◌∙◌, arith, inl, inr, subst}
-use Rattle.std.proofs.lemmas.Bool.{cases_Bool, cases_lt, cases_eq, and_parts, both_ways, le-leb, not-false, ne_eqb}
+use Rattle.std.proofs.lemmas.Bool.{cases_Bool, cases_lt, cases_eq, and_parts, le-leb, not-false, ne_eqb}
 use Rattle.fsb_count.specs.Options.{is_some_and}
 use Rattle.fsb_count.proofs.Nth.{nth_where-found}
 use Rattle.fsb_signal.specs.declared.lines.TheConstants.Lines.{ADS}
@@ -16,7 +16,7 @@ use Rattle.fsb_trace.proofs.AgreeAt.{winner_at-agree}
 use Rattle.fsb_trace.proofs.RuleSteps.{breaks-14}
 use Rattle.fsb_arbiter.specs.Arbiter.{Stands as ArbiterStands}
 use Rattle.fsb_laws.specs.OneMore.{OneMore}
-use Rattle.fsb_laws.proofs.OneMoreFacts.{one_more, line_at-old, line_at-past}
+use Rattle.fsb_laws.proofs.OneMoreFacts.{one_more, line_at-old}
 use Rattle.fsb_laws.proofs.ResponseSteps.{next_response-new, response_counted}
 use Rattle.fsb_laws.proofs.ReplySteps.{request_at-last, request_at-old, live_request_of-old}
 use Rattle.fsb_laws.proofs.OutstandingSteps.{deferred_response, newly_deferred}

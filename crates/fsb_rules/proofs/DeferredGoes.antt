@@ -1,9 +1,11 @@
 -- What is left of a Deferred request with a sample that breaks no rule.
 use Rattle.std.proofs.Common.{ℕ, ◌-◌, ◌<◌, ◌≡◌, Bool, true, false, cond, not, ◌&&◌, ◌||◌, nat_eq, Option, Some, None, length, refl, sym, ap, ◌∙◌, arith, inl, inr, subst}
 use Rattle.std.specs.Option.{option_and_then}
-use Rattle.std.proofs.lemmas.Bool.{cases_Bool, cases_eq, and_left, and_right, and_from, eq-eqb, ne_eqb, eqb-true, le-leb, false_from_ne_true}
+use Rattle.std.proofs.lemmas.Bool.{cases_Bool, and_right, and_from, ne_eqb, eqb-true, le-leb, false_from_ne_true}
 use Rattle.fsb_count.specs.Options.{is_some_and, is_before, is_at}
 use Rattle.fsb_count.proofs.Nth.{nth_where-one}
+use Rattle.fsb_count.proofs.Bools.{nat_eq-sym}
+use Rattle.fsb_count.proofs.Options.{is_at-off}
 use Rattle.fsb_signal.specs.declared.lines.TheConstants.Lines.{ADS}
 use Rattle.fsb_signal.specs.declared.sample.Sample.{Sample}
 use Rattle.fsb_signal.specs.Samples.{line_at}
@@ -13,6 +15,7 @@ use Rattle.fsb_trace.specs.Requests.{is_cancelled, is_live, live_clock_of, live_
 use Rattle.fsb_trace.specs.Outcome.{response_clock_of, is_deferred}
 use Rattle.fsb_trace.specs.Response.{end_of}
 use Rattle.fsb_trace.specs.Flight.{is_reply_to, is_live_reply_to, reply_clock_of, last_clock_of}
+use Rattle.fsb_trace.proofs.LiveRequests.{live_clock_of-number, live_request_of-at}
 use Rattle.fsb_laws.specs.OneMore.{OneMore, cancels}
 use Rattle.fsb_laws.specs.Progress.{response_count}
 use Rattle.fsb_laws.specs.Flight.{ends_at}
@@ -21,7 +24,7 @@ use Rattle.fsb_laws.proofs.LiveSteps.{is_cancelled-late, is_live-more}
 use Rattle.fsb_laws.proofs.ResponseSteps.{response_counted, response_there, response_clock_of-old, is_deferred-old}
 use Rattle.fsb_laws.proofs.EndFacts.{end_of-kept}
 use Rattle.fsb_laws.proofs.ReplySteps.{live_request_of-old, reply_clock_of-more}
-use Rattle.fsb_laws.proofs.OutstandingSteps.{deferred_response, end_after_clock, finished-deferred, ends_by, live_of_reply}
+use Rattle.fsb_laws.proofs.OutstandingSteps.{deferred_response, end_after_clock, finished-deferred, ends_by, live_of_reply, ends_dead}
 use Rattle.fsb_rules.specs.declared.asked.Asked.{Asked}
 use Rattle.fsb_rules.specs.declared.asked.Ended.{Ended}
 use Rattle.fsb_rules.specs.declared.checker.Checker.{Checker}
@@ -31,16 +34,13 @@ use Rattle.fsb_rules.specs.Asked.{asked_from}
 use Rattle.fsb_rules.specs.Tests.{ended_by}
 use Rattle.fsb_rules.specs.OpenTests.{reply_by, reply_after, open_with, open_after}
 use Rattle.fsb_rules.specs.Outstanding.{open_from}
-use Rattle.fsb_rules.proofs.Endings.{NoneEnds, EndsAlone, SaysEnded, says_ended, ends_at-none, ends_at-some, number_of}
+use Rattle.fsb_rules.proofs.Endings.{NoneEnds, EndsAlone, SaysEnded, says_ended, ends_at-none, ends_at-some}
 use Rattle.fsb_rules.proofs.Goes.{Goes}
 use Rattle.fsb_rules.proofs.OpenGoes.{IsOpen, kept_if, happens, happens_cancelled, happens_ended, happens_begun, live_still, number_same, deferred_none, deferred_some, open_deferred}
 
 -- a live Deferred request, as it is kept
 abbrev pub deferred_open : Trace → ℕ → ℕ → Request → Open
 deferred_open w i p r = record { clock = p; did = r.did; deferred = response_clock_of w i; reply = reply_clock_of w i }
-
-eq_sym : (a b : ℕ) → nat_eq a b ≡ nat_eq b a
-eq_sym a b = elim (cases_eq a b) [ inl e ↦ eq-eqb a b e ∙ sym (eq-eqb b a (sym e)) | inr n ↦ ne_eqb a b n ∙ sym (ne_eqb b a (λ e. n (sym e))) ]
 
 -- the reply that begins at the last clock
 ads_back : (h : Trace) (x : Sample) (v : Trace) → OneMore h x v → 0 < length h → line_at ADS v (length h - 1) ≡ line_back ADS h (length h) 1
@@ -57,7 +57,7 @@ reply_form ads canc reply same before e f = rw (e, f) (grind arith)
 reply_back : (h : Trace) (x : Sample) (v : Trace) (i : ℕ) (r s : Request) → OneMore h x v → 0 < length h → line_back ADS h (length h) 1 ≡ true → request_at v (length h - 1) ≡ Some s → live_request_of v i ≡ Some r → is_live_reply_to v i (length h - 1) ≡ ((is_reply_kind s.kind && is_before (response_clock_of v i) (length h - 1)) && nat_eq r.did s.did)
 unfolding is_live_reply_to is_live is_reply_to is_reply have_same_id is_some_and
 reply_back h x v i r s m l t e f =
-    rw (e, f, eq_sym s.did r.did)
+    rw (e, f, nat_eq-sym s.did r.did)
     (reply_form (line_at ADS v (length h - 1)) (is_cancelled v (length h - 1)) (is_reply_kind s.kind) (nat_eq r.did s.did) (is_before (response_clock_of v i) (length h - 1))
     (ads_back h x v m l ∙ t) (is_cancelled-late v (length h - 1) (let size = m.size in omega arith)))
 
@@ -94,15 +94,11 @@ pub record IsOpenDeferred (k : Checker) (h : Trace) (x : Sample) (v : Trace) (b 
 answered : (k : Checker) (h : Trace) (x : Sample) (v : Trace) (b : Option Asked) (p : ℕ) (r : Request) → IsOpenDeferred k h x v b p r → live_number_of h p < response_count h
 answered k h x v b p r o = let d = deferred_response h (live_number_of h p) o.deferred in response_counted h (live_number_of h p) d.0 d.1
 
-request_is : (w : Trace) (i p : ℕ) (r : Request) → live_clock_of w i ≡ Some p → request_at w p ≡ Some r → live_request_of w i ≡ Some r
-unfolding live_request_of
-request_is w i p r e f = rw (e, f) refl
-
 own_request : (k : Checker) (h : Trace) (x : Sample) (v : Trace) (b : Option Asked) (p : ℕ) (r : Request) → IsOpenDeferred k h x v b p r → live_request_of v (live_number_of h p) ≡ Some r
 own_request k h x v b p r o =
     let g = o.is_open.goes in
     live_request_of-old h x v (live_number_of h p) g.more g.follows.orderly (answered k h x v b p r o)
-    ∙ request_is h (live_number_of h p) p r (number_of h p (let e = o.is_open.early in omega arith) o.is_open.live) o.request
+    ∙ live_request_of-at h (live_number_of h p) p r (live_clock_of-number h p (let e = o.is_open.early in omega arith) o.is_open.live) o.request
 
 reply_cases : (k : Checker) (h : Trace) (x : Sample) (v : Trace) (b : Option Asked) (p : ℕ) (r : Request) (o : IsOpenDeferred k h x v b p r) (old : Option ℕ) → reply_clock_of h (live_number_of h p) ≡ old → reply_after (happens k h x b) (deferred_open h (live_number_of h p) p r) ≡ elim old [ Some q ↦ cond (cancels x (length h) q) None (Some q) | None ↦ cond (is_live_reply_to v (live_number_of h p) (length h - 1)) (Some (length h - 1)) None ]
 reply_cases k h x v b p r o (Some q) e =
@@ -131,10 +127,6 @@ at_one : (q c : ℕ) → is_at (Some q) c ≡ nat_eq q c
 unfolding is_at is_some_and
 at_one q c = refl
 
-at_none : (c : ℕ) → is_at None c ≡ false
-unfolding is_at is_some_and
-at_none c = refl
-
 by_one : (v : Trace) (n q : ℕ) → ends_by v n (Some q) ≡ ends_at v n q
 unfolding is_some_and
 by_one v n q = refl
@@ -142,10 +134,6 @@ by_one v n q = refl
 by_none : (v : Trace) (n : ℕ) → ends_by v n None ≡ false
 unfolding is_some_and
 by_none v n = refl
-
-dead_ends : (v : Trace) (n q : ℕ) → is_live v q ≡ false → ends_at v n q ≡ false
-unfolding ends_at
-dead_ends v n q f = and_left _ _ f
 
 finish_cases : (k : Checker) (h : Trace) (x : Sample) (v : Trace) (b : Option Asked) (p : ℕ) (r : Request) (o : IsOpenDeferred k h x v b p r) (a : Ended) (s : EndsAlone v (length h) a) (old : Option ℕ) → reply_clock_of h (live_number_of h p) ≡ old → is_at (elim old [ Some q ↦ cond (cancels x (length h) q) None (Some q) | None ↦ cond (is_live_reply_to v (live_number_of h p) (length h - 1)) (Some (length h - 1)) None ]) a.asked.clock ≡ ends_by v (length h) old
 finish_cases k h x v b p r o a s None e =
@@ -163,10 +151,10 @@ finish_cases k h x v b p r o a s (Some q) e =
     let size = g.more.size in
     elim (cases_Bool (cancels x (length h) q)) [
       | inl t ↦
-          ap (λ u. is_at (cond u None (Some q)) a.asked.clock) t ∙ at_none a.asked.clock
-          ∙ sym (by_one v (length h) q ∙ dead_ends v (length h) q (more ∙ and_right _ _ (ap not t)))
+          ap (λ u. is_at (cond u None (Some q)) a.asked.clock) t ∙ is_at-off None a.asked.clock refl
+          ∙ sym (by_one v (length h) q ∙ ends_dead v (length h) q (more ∙ and_right _ _ (ap not t)))
       | inr f ↦
-          ap (λ u. is_at (cond u None (Some q)) a.asked.clock) f ∙ at_one q a.asked.clock ∙ eq_sym q a.asked.clock
+          ap (λ u. is_at (cond u None (Some q)) a.asked.clock) f ∙ at_one q a.asked.clock ∙ nat_eq-sym q a.asked.clock
           ∙ sym (by_one v (length h) q ∙ ends_at-some v (length h) q a s (omega (arith, l.1)) (more ∙ and_from _ _ l.0 (ap not f)))
     ]
 
@@ -194,7 +182,7 @@ own_end k h x v b p r o a s =
     false_from_ne_true _ (λ t.
     let clock : a.asked.clock ≡ p = eqb-true a.asked.clock p t in
     let below : p < length v = (let e = o.is_open.early in let size = g.more.size in omega arith) in
-    let number = number_of v p below (live_still k h x v b p r o.is_open) in
+    let number = live_clock_of-number v p below (live_still k h x v b p r o.is_open) in
     let here : live_clock_of v s.number ≡ Some p = s.clock ∙ ap (λ m. Some m) clock in
     let one = same_number v s.number (live_number_of v p) p here number in
     let two : s.number ≡ i = one ∙ sym (number_same k h x v b p r o.is_open) in

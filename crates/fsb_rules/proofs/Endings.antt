@@ -1,10 +1,11 @@
 -- Which request ends with a sample that breaks no rule.
-use Rattle.std.proofs.Common.{ℕ, ◌+◌, ◌<◌, ◌≤◌, ◌≡◌, Bool, true, false, cond, nat_eq, Option, Some, None, is_some, length, refl, sym, ap, ◌∙◌, arith, inl, inr, subst, add-zero, add-one}
+use Rattle.std.proofs.Common.{ℕ, ◌+◌, ◌<◌, ◌≤◌, ◌≡◌, Bool, true, false, cond, nat_eq, Option, Some, None, is_some, length, refl, sym, ap, ◌∙◌, arith, inl, inr, subst, add-one}
 use Rattle.std.specs.Option.{option_map, option_and_then}
 use Rattle.std.proofs.lemmas.Option.{same_Some}
-use Rattle.std.proofs.lemmas.Bool.{cases_lt, cases_eq, and_parts, and_from, both_ways, eq-eqb, ne_eqb, eqb-true, false_from_ne_true}
-use Rattle.fsb_count.specs.Options.{is_some_and, is_at}
-use Rattle.fsb_count.proofs.Nth.{nth_where-at, nth_where-one}
+use Rattle.std.proofs.lemmas.Bool.{cases_lt, cases_eq, and_parts, and_from, both_ways, eq-eqb, ne_eqb, false_from_ne_true}
+use Rattle.fsb_count.specs.Options.{is_some_and}
+use Rattle.fsb_count.proofs.Nth.{nth_where-one}
+use Rattle.fsb_count.proofs.Options.{is_at-some, is_at-from}
 use Rattle.fsb_signal.specs.declared.lines.TheConstants.Lines.{DRDY}
 use Rattle.fsb_signal.specs.declared.sample.Sample.{Sample}
 use Rattle.fsb_signal.specs.Samples.{has_line, response_of}
@@ -15,11 +16,12 @@ use Rattle.fsb_trace.specs.Outcome.{told_by, does_move, is_deferral, is_deferred
 use Rattle.fsb_trace.specs.declared.outcome.Outcome.{Outcome}
 use Rattle.fsb_trace.specs.Response.{end_of}
 use Rattle.fsb_trace.specs.Rules.{is_transferring_of}
+use Rattle.fsb_trace.proofs.LiveRequests.{live_clock_of-number}
 use Rattle.fsb_laws.specs.OneMore.{OneMore, responds}
 use Rattle.fsb_laws.specs.Orderly.{Orderly}
 use Rattle.fsb_laws.specs.Progress.{SnoopsTo, EndsTo, response_count, transfer_of, may_answer_next, chunk_step}
 use Rattle.fsb_laws.specs.Flight.{ends_at}
-use Rattle.fsb_laws.proofs.ResponseSteps.{response_count-more, response_there, has_answer, outcome_of-new, moves_data-old}
+use Rattle.fsb_laws.proofs.ResponseSteps.{response_count-more, response_there, has_answer, outcome_of-new, moves_data-old, response_count-kept}
 use Rattle.fsb_laws.proofs.EndFacts.{ends_to-still, ends_to-moving, transfer_parts, end_of-old, end_of-kept}
 use Rattle.fsb_laws.proofs.TransferSteps.{transfer_of-begun}
 use Rattle.fsb_laws.proofs.AnswerSteps.{may_answer_next-parts, answered_below}
@@ -127,9 +129,6 @@ some_transfer false = (0, refl)
 count_next : (h : Trace) (x : Sample) (v : Trace) → OneMore h x v → responds x ≡ true → response_count v ≡ response_count h + 1
 count_next h x v m t = response_count-more h x v m ∙ ap (λ c. response_count h + cond c 1 0) t
 
-count_same : (h : Trace) (x : Sample) (v : Trace) → OneMore h x v → responds x ≡ false → response_count v ≡ response_count h
-count_same h x v m f = response_count-more h x v m ∙ ap (λ c. response_count h + cond c 1 0) f ∙ add-zero (response_count h)
-
 at_once : (k : Checker) (h : Trace) (x : Sample) (v : Trace) (b : Option Asked) (g : Goes k h x v b) (moves : Bool) (t : responds x ≡ true) → does_move (told_by h (response_count h) (response_of x)) ≡ moves → SaysEnded v (length h) (cond moves None (Some (record { asked = (has_next k.queue h g.follows.queue g.follows.orderly g.follows.decoded (g.may t)).next.asked; is_deferred = is_deferral (told_by h (response_count h) (response_of x)) })))
 at_once k h x v b g true t e =
     let f = g.follows in
@@ -187,7 +186,7 @@ chunk_none k h x v b g e n =
     let old : transfer_of h ≡ None = sym (chunks_going k h x f e) ∙ ap chunks_in (moving_kept k h x e ∙ n) in
     let now : transfer_of v ≡ None = sym (chunks_now k h x v false f g.more g.may e) ∙ ap (λ m. chunks_in (after_chunk m x)) (moving_kept k h x e ∙ n) ∙ none_after x in
     none_ends h x v (response_count h) g.more f.orderly (ends_to-still h f.orderly old)
-    (subst (EndsTo v) (count_same h x v g.more e) (ends_to-still v g.after now))
+    (subst (EndsTo v) (response_count-kept h x v g.more e) (ends_to-still v g.after now))
 
 chunk_some : (k : Checker) (h : Trace) (x : Sample) (v : Trace) (b : Option Asked) (g : Goes k h x v b) (m : Moving) (o : Option Moving) → responds x ≡ false → k.queue.moving ≡ Some m → moved_by m x ≡ o → SaysEnded v (length h) (cond (is_some o) None (Some (record { asked = m.asked; is_deferred = false })))
 chunk_some k h x v b g m (Some n) e mo s =
@@ -196,7 +195,7 @@ chunk_some k h x v b g m (Some n) e mo s =
     let now : transfer_of v ≡ Some n.chunks = sym (chunks_now k h x v false f g.more g.may e) ∙ ap (λ a. chunks_in (after_chunk a x)) (moving_kept k h x e ∙ mo) ∙ ap chunks_in (one_after m x ∙ s) in
     let p = transfer_parts h m.chunks old in
     none_ends h x v p.0 g.more f.orderly (ends_to-moving h m.chunks p.0 f.orderly old p.1)
-    (ends_to-moving v n.chunks p.0 g.after now (count_same h x v g.more e ∙ p.1))
+    (ends_to-moving v n.chunks p.0 g.after now (response_count-kept h x v g.more e ∙ p.1))
 chunk_some k h x v b g m None e mo s =
     let f = g.follows in
     let old : transfer_of h ≡ Some m.chunks = sym (chunks_going k h x f e) ∙ ap chunks_in (moving_kept k h x e ∙ mo) in
@@ -209,7 +208,7 @@ chunk_some k h x v b g m None e mo s =
     let asked : asked_of v p.0 ≡ Some m.asked =
     sym (asked_same k h x v b g p.0 a.snoop (snoop_below h f.queue.snooped p.0 a.snoop f.queue.to a.is_snoop) a.is_snoop) ∙ subst (λ i. asked_of h i ≡ Some m.asked) same q.2 in
     let moves : moves_data v p.0 ≡ true = moves_data-old h x v p.0 g.more f.orderly (omega (arith, p.1)) ∙ moving_moves h p.0 p.2 in
-    let count : response_count v ≡ p.0 + 1 = count_same h x v g.more e ∙ p.1 ∙ sym (add-one p.0) in
+    let count : response_count v ≡ p.0 + 1 = response_count-kept h x v g.more e ∙ p.1 ∙ sym (add-one p.0) in
     ends_alone h x v p.0 _ g.more f.orderly (ends_to-moving h m.chunks p.0 f.orderly old p.1)
     (subst (EndsTo v) count (ends_to-still v g.after now))
     (asked_clock v p.0 m.asked (live_clock_of v p.0) refl asked)
@@ -236,36 +235,23 @@ pub says_ended : (k : Checker) (h : Trace) (x : Sample) (v : Trace) (b : Option 
 says_ended k h x v b g = says_cases k h x v b g (responds x) refl
 
 -- whether a live request ends at the clock
-pub number_of : (w : Trace) (p : ℕ) → p < length w → is_live w p ≡ true → live_clock_of w (live_number_of w p) ≡ Some p
-unfolding live_clock_of live_number_of
-number_of w p l t = nth_where-at (is_live w) (length w) p l t
-
-at_from : (o : Option ℕ) (n : ℕ) → is_at o n ≡ true → o ≡ Some n
-unfolding is_at is_some_and
-at_from None n t = absurd (let no : ⊥ = cc in no)
-at_from (Some m) n t = ap (λ c. Some c) (eqb-true m n t)
-
-pub at_some : (o : Option ℕ) (n : ℕ) → o ≡ Some n → is_at o n ≡ true
-unfolding is_at is_some_and
-at_some o n e = rw e (eq-eqb n n refl)
-
 pub ends_at-none : (v : Trace) (n p : ℕ) → NoneEnds v n → ends_at v n p ≡ false
 unfolding ends_at
-ends_at-none v n p e = false_from_ne_true _ (λ t. e.none (live_number_of v p) (at_from _ n (and_parts _ _ t).1))
+ends_at-none v n p e = false_from_ne_true _ (λ t. e.none (live_number_of v p) (is_at-some _ n (and_parts _ _ t).1))
 
 pub ends_at-some : (v : Trace) (n p : ℕ) (e : Ended) → EndsAlone v n e → p < length v → is_live v p ≡ true → ends_at v n p ≡ nat_eq e.asked.clock p
 unfolding ends_at live_clock_of
 ends_at-some v n p e a l t =
-    let clock = number_of v p l t in
+    let clock = live_clock_of-number v p l t in
     elim (cases_eq e.asked.clock p) [
       | inl same ↦
           let c = a.clock in
           let here : live_clock_of v a.number ≡ Some p = a.clock ∙ ap (λ m. Some m) same in
           let number : a.number ≡ live_number_of v p = nth_where-one (is_live v) a.number (live_number_of v p) (length v) p here clock in
-          and_from _ _ t (at_some (end_of v (live_number_of v p)) n (subst (λ i. end_of v i ≡ Some n) number a.end)) ∙ sym (eq-eqb e.asked.clock p same)
+          and_from _ _ t (is_at-from (end_of v (live_number_of v p)) n (subst (λ i. end_of v i ≡ Some n) number a.end)) ∙ sym (eq-eqb e.asked.clock p same)
       | inr other ↦
           false_from_ne_true _ (λ u.
-          let number = a.alone (live_number_of v p) (at_from _ n (and_parts _ _ u).1) in
+          let number = a.alone (live_number_of v p) (is_at-some _ n (and_parts _ _ u).1) in
           let c : live_clock_of v a.number ≡ Some p = subst (λ i. live_clock_of v i ≡ Some p) number clock in
           let d = a.clock in
           other (let same : e.asked.clock ≡ p = cc in same))

@@ -63,18 +63,19 @@ pub verdict_next : (h : Trace) (x : Sample) (v : Trace) → OneMore h x v → ve
 verdict_next h x v m e = next_cases v (length h) (least_rule v (length h)) refl (foul_next h x v m e ∙ foul_form v (length h))
 
 -- what was found
-none_broken : (p : Option (ℕ × ℕ)) → as_broken p ≡ None → p ≡ None
-unfolding as_broken
-none_broken None e = refl
-none_broken (Some p) e = absurd (let no : ⊥ = cc in no)
-
 some_broken : (p : Option (ℕ × ℕ)) (b : Broken) → as_broken p ≡ Some b → is_some p ≡ true
 unfolding as_broken
 some_broken None b e = absurd (let no : ⊥ = cc in no)
 some_broken (Some p) b e = refl
 
+-- where nothing is told broken there is no verdict
+pub as_broken-none : (p : Option (ℕ × ℕ)) → as_broken p ≡ None → p ≡ None
+unfolding as_broken
+as_broken-none None e = refl
+as_broken-none (Some p) e = absurd (let no : ⊥ = cc in no)
+
 pub no_verdict : (k : Checker) (h : Trace) → Stands k h → k.found ≡ None → verdict h ≡ None
-no_verdict k h s e = none_broken (verdict h) (sym s.found ∙ e)
+no_verdict k h s e = as_broken-none (verdict h) (sym s.found ∙ e)
 
 -- what was found before stays
 pub found_stays : (k : Checker) (h : Trace) (x : Sample) (b : Broken) → Stands k h → k.found ≡ Some b → Stands k (h ++ x ∷ [])
@@ -207,10 +208,6 @@ broken_stands k new h x b winner rule f e =
     (e ∙ ap (λ n. Some (record { clock = n; rule = rule })) (clock_of k h x b winner (Some rule) f))
 
 -- whether something was found
-pub not_found : (o : Option Broken) → is_some o ≡ false → o ≡ None
-not_found None t = refl
-not_found (Some b) t = absurd (let no : ⊥ = cc in no)
-
 found_cases : (k : Checker) (h : Trace) (x : Sample) (o : Option Broken) → Stands k h → k.found ≡ o → is_some o ≡ true → Stands k (h ++ x ∷ [])
 found_cases k h x None s e t = absurd (let no : ⊥ = cc in no)
 found_cases k h x (Some b) s e t = found_stays k h x b s e

@@ -1,11 +1,12 @@
 -- The lines of the last clocks.
 use Rattle.std.proofs.Common.{ℕ, ◌+◌, ◌-◌, ◌<◌, ◌≡◌, Bool, true, false, nat_le, Option, Some, None, length, slice_get, refl, sym, arith}
 use Rattle.std.specs.Option.{option_map, option_and_then, option_map_or}
-use Rattle.std.proofs.lemmas.Bool.{leb-true, leb-false, le-leb, lt-leb}
+use Rattle.std.proofs.lemmas.Bool.{leb-true, leb-false, le-leb, lt-leb, and_parts, and_left}
 use Rattle.fsb_count.specs.Options.{is_some_and}
 use Rattle.fsb_signal.specs.declared.lines.Lines.{Lines}
 use Rattle.fsb_signal.specs.declared.sample.Sample.{Sample}
 use Rattle.fsb_signal.specs.Samples.{has_line, line_at}
+use Rattle.fsb_signal.specs.declared.lines.TheConstants.Lines.{ADS}
 use Rattle.fsb_encode.specs.declared.request.Pair.{Pair}
 use Rattle.fsb_encode.specs.declared.request.Request.{Request}
 use Rattle.fsb_encode.specs.Decoded.{request_of}
@@ -40,6 +41,16 @@ old_cases line h x v d false m l e = rw e refl
 
 pub line_back-new : (line : Lines) (h : Trace) (x : Sample) (v : Trace) (d : ℕ) → OneMore h x v → 0 < d → line_back line v (length h) d ≡ line_back line h (length h) d
 line_back-new line h x v d m l = old_cases line h x v d (nat_le d (length h)) m l refl
+
+-- a line that is asserted a clock back has a clock before
+pub line_back-some : (h : Trace) → line_back ADS h (length h) 1 ≡ true → 0 < length h
+unfolding line_back
+line_back-some h t = let l = leb-true 1 (length h) (and_parts _ _ t).0 in omega arith
+
+-- before the first clock none is
+pub line_back-none : (h : Trace) → length h ≡ 0 → line_back ADS h (length h) 1 ≡ false
+unfolding line_back
+line_back-none h e = and_left _ _ (lt-leb 1 (length h) (omega arith))
 
 -- what is kept goes on
 pub lines_back-first : (h : Trace) (x : Sample) (v : Trace) → OneMore h x v → lines_back v 1 ≡ Some x.lines

@@ -1,9 +1,10 @@
 -- The outstanding requests follow the history with a sample that breaks no rule.
-use Rattle.std.proofs.Common.{ℕ, zero, suc, ◌+◌, ◌-◌, ◌<◌, ◌≤◌, ◌≡◌, Bool, true, false, cond, not, ◌&&◌, Option, Some, None, [], ◌++◌, length, refl, sym, ap, ◌∙◌, arith, inl, inr, subst}
+use Rattle.std.proofs.Common.{ℕ, zero, suc, ◌+◌, ◌-◌, ◌<◌, ◌≤◌, ◌≡◌, Bool, true, false, cond, not, Option, Some, None, [], ◌++◌, length, refl, sym, ap, ◌∙◌, arith, inl, inr, subst}
 use Rattle.std.specs.Option.{option_and_then, option_to_list}
 use Rattle.std.specs.List.{filter_map}
-use Rattle.std.proofs.lemmas.Bool.{cases_Bool, and_left, and_right, le-leb, lt-leb, false_from_ne_true}
-use Rattle.fsb_count.specs.Options.{is_some_and, is_before}
+use Rattle.std.proofs.lemmas.Bool.{cases_Bool, and_left, and_right, le-leb, false_from_ne_true}
+use Rattle.std.proofs.Math.Bool.{and-true}
+use Rattle.fsb_count.specs.Options.{is_before}
 use Rattle.fsb_count.specs.Clocks.{all_where}
 use Rattle.fsb_signal.specs.declared.lines.TheConstants.Lines.{ADS}
 use Rattle.fsb_signal.specs.declared.sample.Sample.{Sample}
@@ -14,6 +15,7 @@ use Rattle.fsb_trace.specs.Requests.{is_live, live_number_of, is_reply, is_reply
 use Rattle.fsb_trace.specs.Outcome.{response_clock_of, is_deferred}
 use Rattle.fsb_trace.specs.Response.{end_of}
 use Rattle.fsb_trace.specs.Flight.{last_clock_of, is_outstanding, outstanding}
+use Rattle.fsb_trace.proofs.LiveRequests.{is_reply-some, live_clock_of-number}
 use Rattle.fsb_laws.specs.OneMore.{OneMore, cancels}
 use Rattle.fsb_laws.specs.Orderly.{Orderly}
 use Rattle.fsb_laws.proofs.OneMoreFacts.{line_at-old}
@@ -29,10 +31,10 @@ use Rattle.fsb_rules.specs.Asked.{asked_from}
 use Rattle.fsb_rules.specs.OpenTests.{open_after, open_begun}
 use Rattle.fsb_rules.specs.Outstanding.{open_from, open_at, open_of}
 use Rattle.fsb_rules.proofs.OpenLists.{filter_all-more, filter_all-none, filter_all-left}
-use Rattle.fsb_rules.proofs.Endings.{number_of}
 use Rattle.fsb_rules.proofs.Goes.{Goes}
 use Rattle.fsb_rules.proofs.OpenGoes.{IsOpen, kept_if, happens, happens_cancelled, cancelled_none, outstanding_is, open_plain, plain_open, plain_goes, number_same, live_still}
 use Rattle.fsb_rules.proofs.DeferredGoes.{deferred_goes}
+use Rattle.fsb_rules.proofs.Lines.{line_back-none}
 
 -- a request that is not live, or is a reply, is not outstanding
 dead_off : (w : Trace) (p : ℕ) → p < length w → is_live w p ≡ false → is_outstanding w (length w) p ≡ false
@@ -109,16 +111,12 @@ found_goes k h x v b g p l =
     ]
 
 -- the request that began at the last clock
-and_true : (b : Bool) → (b && true) ≡ b
-and_true true = refl
-and_true false = refl
-
 last_live : (h : Trace) (x : Sample) (v : Trace) (m : ℕ) → OneMore h x v → length h ≡ suc m → is_live v m ≡ line_back ADS h (length h) 1
 unfolding is_live line_back
 last_live h x v m o e =
     let size = o.size in
     let same : length h - 1 ≡ m = omega arith in
-    rw (is_cancelled-late v m (omega arith), le-leb 1 (length h) (omega arith), same, line_at-old ADS h x v m o (omega arith)) (and_true (line_at ADS h m))
+    rw (is_cancelled-late v m (omega arith), le-leb 1 (length h) (omega arith), same, line_at-old ADS h x v m o (omega arith)) (and-true (line_at ADS h m))
 
 response_within : (w : Trace) (i r : ℕ) → response_clock_of w i ≡ Some r → r < length w
 response_within w i r e =
@@ -130,7 +128,7 @@ response_within w i r e =
 not_finished : (w : Trace) (m : ℕ) → Orderly w → m < length w → length w ≤ m + 3 → is_live w m ≡ true → (is_deferred w (live_number_of w m) ≡ false) × (is_before (last_clock_of w (live_number_of w m)) (length w) ≡ false)
 not_finished w m o l late t =
     let i : ℕ = live_number_of w m in
-    let number = number_of w m l t in
+    let number = live_clock_of-number w m l t in
     let plain : is_deferred w i ≡ false = false_from_ne_true _ (λ d.
     let r = deferred_response w i d in
     let c = end_after_clock w i r.0 o r.2 in
@@ -144,18 +142,14 @@ pub begun_plain : (q : ℕ) (r : Request) (t : Bool) → is_reply_kind r.kind �
 unfolding open_begun asked_from
 begun_plain q r t e = rw e refl
 
-reply_is : (r : Request) → is_reply (Some r) ≡ is_reply_kind r.kind
-unfolding is_reply is_some_and
-reply_is r = refl
-
 last_found : (k : Checker) (h : Trace) (x : Sample) (v : Trace) (b : Option Asked) (g : Goes k h x v b) (m : ℕ) (r : Request) (t : Bool) → length h ≡ suc m → is_live v m ≡ true → request_at v m ≡ Some r → is_reply_kind r.kind ≡ t → cond (is_outstanding v (length v) m) (open_at v m) None ≡ cond t None (Some (plain_open m r.did))
 last_found k h x v b g m r true e l q t =
     let size = g.more.size in
-    ap (λ u. cond u (open_at v m) None) (reply_off v m (omega arith) (ap is_reply q ∙ reply_is r ∙ t))
+    ap (λ u. cond u (open_at v m) None) (reply_off v m (omega arith) (ap is_reply q ∙ is_reply-some r ∙ t))
 last_found k h x v b g m r false e l q t =
     let size = g.more.size in
     let f = not_finished v m g.after (omega arith) (omega arith) l in
-    outstanding_is v m r (omega arith) l q (reply_is r ∙ t)
+    outstanding_is v m r (omega arith) l q (is_reply-some r ∙ t)
     ∙ ap (λ u. kept_if u (open_from v (live_number_of v m) m r)) f.1
     ∙ ap (λ o. Some o) (open_plain v (live_number_of v m) m r f.0)
 
@@ -192,16 +186,12 @@ none_of_none : (w : Trace) → filter_map (open_at w) (all_where (is_outstanding
 unfolding all_where
 none_of_none w = refl
 
-none_back : (h : Trace) → length h ≡ 0 → line_back ADS h (length h) 1 ≡ false
-unfolding line_back
-none_back h e = and_left _ _ (lt-leb 1 (length h) (omega arith))
-
 goes_cases : (k : Checker) (h : Trace) (x : Sample) (v : Trace) (b : Option Asked) (g : Goes k h x v b) (n : ℕ) → length h ≡ n → open_of v ≡ filter_map (open_after (happens k h x b)) (open_of h) ++ option_to_list (option_and_then (λ a. open_begun a) b)
 goes_cases k h x v b g zero e =
     let size = g.more.size in
     open_form v 0 (omega arith) ∙ none_of_none v
     ∙ sym (ap (λ xs. filter_map (open_after (happens k h x b)) xs ++ option_to_list (option_and_then (λ a. open_begun a) b)) (open_empty h e)
-    ∙ ap (λ o. option_to_list (option_and_then (λ a. open_begun a) o)) (g.unbegun (none_back h e)))
+    ∙ ap (λ o. option_to_list (option_and_then (λ a. open_begun a) o)) (g.unbegun (line_back-none h e)))
 goes_cases k h x v b g (suc m) e =
     let size = g.more.size in
     let n : length h ≡ m + 1 = omega arith in

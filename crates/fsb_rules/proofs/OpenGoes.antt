@@ -4,6 +4,7 @@ use Rattle.std.specs.Option.{option_and_then}
 use Rattle.std.proofs.lemmas.Bool.{cases_Bool, cases_eq, and_parts, and_right, eq-eqb, ne_eqb, eqb-true, leb-true}
 use Rattle.fsb_count.specs.Options.{is_some_and, is_before, is_at}
 use Rattle.fsb_count.proofs.Nth.{nth_where-one}
+use Rattle.fsb_count.proofs.Options.{is_at-from, is_before-none}
 use Rattle.fsb_signal.specs.declared.lines.TheConstants.Lines.{ADS, AERR}
 use Rattle.fsb_signal.specs.declared.sample.Sample.{Sample}
 use Rattle.fsb_signal.specs.Samples.{has_line}
@@ -13,6 +14,7 @@ use Rattle.fsb_trace.specs.Requests.{is_live, live_clock_of, live_number_of, is_
 use Rattle.fsb_trace.specs.Outcome.{response_clock_of, is_deferred}
 use Rattle.fsb_trace.specs.Response.{end_of}
 use Rattle.fsb_trace.specs.Flight.{reply_clock_of, last_clock_of, is_outstanding}
+use Rattle.fsb_trace.proofs.LiveRequests.{live_clock_of-number}
 use Rattle.fsb_laws.specs.OneMore.{cancels}
 use Rattle.fsb_laws.specs.Flight.{ends_at}
 use Rattle.fsb_laws.proofs.LiveSteps.{is_live-ads, is_live-more, live_number_of-more}
@@ -27,7 +29,7 @@ use Rattle.fsb_rules.specs.Tests.{ended_by}
 use Rattle.fsb_rules.specs.OpenTests.{reply_by, reply_after, open_with, open_after_end, open_after}
 use Rattle.fsb_rules.specs.Outstanding.{open_from, open_at}
 use Rattle.fsb_rules.specs.Steps.{happened_by}
-use Rattle.fsb_rules.proofs.Endings.{NoneEnds, EndsAlone, SaysEnded, says_ended, ends_at-none, ends_at-some, number_of, at_some}
+use Rattle.fsb_rules.proofs.Endings.{NoneEnds, EndsAlone, SaysEnded, says_ended, ends_at-none, ends_at-some}
 use Rattle.fsb_rules.proofs.Goes.{Goes}
 
 three_back : (h : Trace) → line_back ADS h (length h) 3 ≡ true → 3 ≤ length h
@@ -133,10 +135,6 @@ plain_kept_some false false w p did o a c h n d s = ap (λ b. Some b) s ∙ sym 
 plain_deferred : (w : Happened) (p did : ℕ) (a : Ended) → is_at w.cancelled p ≡ false → w.ended ≡ Some a → nat_eq a.asked.clock p ≡ true → a.is_deferred ≡ true → kept_if false (record { clock = p; did = did; deferred = Some w.clock; reply = None }) ≡ option_and_then (open_after w) (kept_if false (plain_open p did))
 plain_deferred w p did a c h n d = sym (plain_some w p did a c h ∙ (rw (n, d) refl))
 
-pub not_before_none : (n : ℕ) → is_before None n ≡ false
-unfolding is_before is_some_and
-not_before_none n = refl
-
 -- the parts of what happens
 abbrev pub happens : Checker → Trace → Sample → Option Asked → Happened
 happens k h x b = happened_by k (length h) x b
@@ -172,7 +170,7 @@ unfolding live_clock_of
 ended_deferral v n p a s l t e =
     let same : a.asked.clock ≡ p = eqb-true a.asked.clock p e in
     let here : live_clock_of v s.number ≡ Some p = s.clock ∙ ap (λ m. Some m) same in
-    let number : s.number ≡ live_number_of v p = nth_where-one (is_live v) s.number (live_number_of v p) (length v) p here (number_of v p l t) in
+    let number : s.number ≡ live_number_of v p = nth_where-one (is_live v) s.number (live_number_of v p) (length v) p here (live_clock_of-number v p l t) in
     subst (λ i. is_deferred v i ≡ a.is_deferred) number s.deferred
 
 plain_one_ends : (k : Checker) (h : Trace) (x : Sample) (v : Trace) (b : Option Asked) (p : ℕ) (r : Request) (a : Ended) (o : IsOpen k h x v b p r) → is_deferred h (live_number_of h p) ≡ false → is_deferred v (live_number_of h p) ≡ false → ended_by k.queue (length h) x ≡ Some a → EndsAlone v (length h) a → kept_if (is_before (last_clock_of v (live_number_of h p)) (length v)) (open_from v (live_number_of h p) p r) ≡ option_and_then (open_after (happens k h x b)) (kept_if (is_before (last_clock_of h (live_number_of h p)) (length h)) (open_from h (live_number_of h p) p r))
@@ -207,8 +205,8 @@ becomes_deferred k h x v b p r o (Some a) f d e s =
     let live = live_still k h x v b p r o in
     let n = newly_deferred h x v i g.more g.follows.orderly f d in
     let none : end_of h i ≡ None = end_past h i (omega (arith, n.number)) in
-    let not_yet : is_before (last_clock_of h i) (length h) ≡ false = ap (λ c. is_before c (length h)) (last_clock_of-plain h i f ∙ none) ∙ not_before_none (length h) in
-    let ends : nat_eq a.asked.clock p ≡ true = sym (ends_at-some v (length h) p a s below live) ∙ sym (end_is k h x v b p r o) ∙ at_some (end_of v i) (length h) n.end in
+    let not_yet : is_before (last_clock_of h i) (length h) ≡ false = ap (λ c. is_before c (length h)) (last_clock_of-plain h i f ∙ none) ∙ is_before-none (length h) in
+    let ends : nat_eq a.asked.clock p ≡ true = sym (ends_at-some v (length h) p a s below live) ∙ sym (end_is k h x v b p r o) ∙ is_at-from (end_of v i) (length h) n.end in
     let deferred : a.is_deferred ≡ true = sym (ended_deferral v (length h) p a s below live ends) ∙ subst (λ j. is_deferred v j ≡ true) (number_same k h x v b p r o) d in
     ap (λ t. kept_if t (open_from v i p r)) n.unfinished
     ∙ ap (λ c. Some c) (newly_form h v i p r d n)

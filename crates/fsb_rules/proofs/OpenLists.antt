@@ -1,14 +1,16 @@
 -- Lists of what is found at the clocks that pass a test.
-use Rattle.std.proofs.Common.{ℕ, zero, suc, ◌+◌, ◌<◌, ◌≡◌, Bool, true, false, cond, ◌&&◌, ◌||◌, Option, Some, None, List, [], ◌∷◌, ◌++◌, count_by, refl, sym, ap, ◌∙◌, arith, add-one, subst}
+use Rattle.std.proofs.Common.{ℕ, zero, suc, ◌+◌, ◌<◌, ◌≡◌, Bool, true, false, cond, ◌&&◌, ◌||◌, Option, Some, None, List, [], ◌∷◌, ◌++◌, count_by, refl, sym, ap, ◌∙◌, arith, subst}
 use Rattle.std.specs.List.{filter_map, list_any}
 use Rattle.std.specs.Option.{option_and_then, option_to_list}
 use Rattle.std.proofs.lemmas.List.{append-nil}
 use Rattle.std.proofs.lemmas.List.Elements.{filter_map-append}
 use Rattle.std.proofs.lemmas.List.Folds.{list_any-append}
 use Rattle.std.proofs.lemmas.List.Sums.{sum_by-append}
+use Rattle.std.proofs.Math.Bool.{or-false}
 use Rattle.fsb_count.specs.Options.{is_some_and}
 use Rattle.fsb_count.specs.Clocks.{any_where, count_where, all_where}
 use Rattle.fsb_count.proofs.Count.{count_where-more}
+use Rattle.fsb_count.proofs.Any.{any_where-more}
 use Rattle.fsb_laws.proofs.Clocks.{all_where-more}
 
 -- one more clock
@@ -55,23 +57,11 @@ filter_all-left s t e f g (suc n) same =
     ∙ ap (filter_map g) (sym (filter_all-more t f n)))
 
 -- whether one passes, and how many
-or_false : (b : Bool) → (b || false) ≡ b
-or_false true = refl
-or_false false = refl
-
-either : (b c : Bool) → elim b [ true ↦ true | false ↦ c ] ≡ (b || c)
-either true c = refl
-either false c = refl
-
 any_one : {A : Type 0} (test : A → Bool) (b : Bool) (o : Option A) → list_any test (option_to_list (cond b o None)) ≡ (b && is_some_and o test)
 unfolding is_some_and
 any_one test false o = refl
 any_one test true None = refl
-any_one test true (Some a) = or_false (test a)
-
-any_next : (p : ℕ → Bool) (n : ℕ) → any_where p (n + 1) ≡ (any_where p n || p n)
-unfolding any_where
-any_next p n = rw add-one (either (any_where p n) (p n))
+any_one test true (Some a) = or-false (test a)
 
 pub list_any-all : {A : Type 0} (test : A → Bool) (t : ℕ → Bool) (f : ℕ → Option A) (n : ℕ) → list_any test (filter_map f (all_where t n)) ≡ any_where (λ p. t p && is_some_and (f p) test) n
 unfolding all_where any_where
@@ -83,7 +73,7 @@ list_any-all test t f (suc n) =
     ∙ list_any-append test (filter_map f (all_where t n)) (option_to_list (cond (t n) (f n) None))
     ∙ ap (λ b. b || list_any test (option_to_list (cond (t n) (f n) None))) (list_any-all test t f n)
     ∙ ap (λ b. any_where (λ p. t p && is_some_and (f p) test) n || b) (any_one test (t n) (f n))
-    ∙ sym (any_next (λ p. t p && is_some_and (f p) test) n))
+    ∙ sym (any_where-more (λ p. t p && is_some_and (f p) test) n))
 
 pub count_by-append : {A : Type 0} (p : A → Bool) (xs ys : List A) → count_by p (xs ++ ys) ≡ count_by p xs + count_by p ys
 count_by-append p xs ys = sum_by-append (λ x. cond (p x) 1 0) xs ys

@@ -7,14 +7,14 @@ use Rattle.std.proofs.lemmas.Bool.{cases_eq, and_from, or_parts, ne_eqb, lt-ltb,
 use Rattle.std.proofs.lemmas.List.{append-nil, take_at, length-append}
 use Rattle.std.proofs.lemmas.List.Folds.{list_all-append}
 use Rattle.fsb_count.specs.Options.{is_some_and}
+use Rattle.fsb_count.proofs.Bools.{cond-most}
 use Rattle.fsb_signal.specs.declared.lines.TheConstants.Lines.{ADS}
 use Rattle.fsb_signal.specs.declared.sample.Sample.{Sample}
 use Rattle.fsb_signal.specs.Samples.{has_line}
 use Rattle.fsb_encode.specs.declared.request.Request.{Request}
 use Rattle.fsb_trace.specs.declared.who.Who.{Who}
-use Rattle.fsb_trace.specs.declared.who.Who.TheVariants.{Priority}
 use Rattle.fsb_trace.specs.At.{Trace, line_back}
-use Rattle.fsb_trace.specs.Winner.{winner_at, is_agent}
+use Rattle.fsb_trace.specs.Winner.{winner_at}
 use Rattle.fsb_trace.specs.Requests.{is_reply_kind, is_reply}
 use Rattle.fsb_trace.specs.Rules.{is_identified, is_identity_wrong, is_own_id}
 use Rattle.fsb_rules.specs.declared.asked.Asked.{Asked}
@@ -25,7 +25,7 @@ use Rattle.fsb_rules.specs.Asked.{asked_from}
 use Rattle.fsb_rules.specs.OpenTests.{open_after, open_begun, is_of_agent, has_id, is_wrong_among}
 use Rattle.fsb_rules.specs.Outstanding.{open_of, OutstandingStands}
 use Rattle.fsb_rules.specs.Steps.{is_begun_wrongly_by}
-use Rattle.fsb_rules.proofs.Agents.{winner_four, own_agent}
+use Rattle.fsb_rules.proofs.Agents.{winner_four, own_agent, own_part}
 use Rattle.fsb_rules.proofs.OpenLists.{count_by-append, one_count}
 use Rattle.fsb_rules.proofs.OpenCounts.{count_left, own_left, is_own, room_for}
 use Rattle.fsb_rules.proofs.OpenGoes.{happens, plain_open}
@@ -41,10 +41,6 @@ pub record OpensOne (k : Checker) (h : Trace) (b : Option Asked) (o : Open) : Ty
   pub own : is_own o ≡ true
   pub back : line_back ADS h (length h) 1 ≡ true
   pub fewer : count_by (is_of_agent (o.did / 16)) k.outstanding.before.items < 4
-
-own_part : (winner : Option Who) (s : Request) (b : Bool) → b ≡ false → cond b (is_agent winner Priority) (is_own_id winner s) ≡ true → is_own_id winner s ≡ true
-own_part winner s false e t = t
-own_part winner s true e t = absurd (let no : ⊥ = cc in no)
 
 own_id : (winner : Option Who) (s : Request) → is_identified winner (Some s) ≡ true → is_reply_kind s.kind ≡ false → is_own_id winner s ≡ true
 unfolding is_identified is_reply is_some_and
@@ -107,14 +103,10 @@ pub open_room : (k : Checker) (h : Trace) (x : Sample) (v : Trace) (b : Option A
 open_room k h x v b g own wrong t = room_cases k h x v b (option_and_then (λ a. open_begun a) b) g own wrong refl t
 
 -- how many there are then
-most : (b : Bool) → cond b 1 0 ≤ 1
-most true = omega arith
-most false = omega arith
-
 one_most : (a : ℕ) (o : Open) → count_by (is_of_agent a) (o ∷ []) ≤ 1
 one_most a o =
     let e = one_count (is_of_agent a) o (is_of_agent a o) refl in
-    let m = most (is_of_agent a o) in omega arith
+    let m = cond-most (is_of_agent a o) in omega arith
 
 one_other : (a : ℕ) (o : Open) → (o.did / 16 ≡ a → ⊥) → count_by (is_of_agent a) (o ∷ []) ≡ 0
 unfolding is_of_agent

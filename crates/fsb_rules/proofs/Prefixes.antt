@@ -1,6 +1,6 @@
 -- The history before a request began.
-use Rattle.std.proofs.Common.{ℕ, ◌-◌, ◌<◌, ◌≡◌, true, length, take, sym, ap, ◌∙◌, arith, inl, inr}
-use Rattle.std.proofs.lemmas.Bool.{cases_lt, and_parts, leb-true, both_ways}
+use Rattle.std.proofs.Common.{◌-◌, ◌<◌, ◌≡◌, true, length, take, sym, ap, ◌∙◌, arith}
+use Rattle.std.proofs.lemmas.Bool.{and_parts, leb-true}
 use Rattle.std.proofs.lemmas.List.{length-take}
 use Rattle.fsb_signal.specs.declared.lines.TheConstants.Lines.{ADS}
 use Rattle.fsb_signal.specs.declared.sample.Sample.{Sample}
@@ -11,18 +11,11 @@ use Rattle.fsb_trace.proofs.AgreeAt.{AgreeTo-sym, line_at-agree}
 use Rattle.fsb_trace.proofs.Stay.{response_clock_of-stays}
 use Rattle.fsb_laws.specs.OneMore.{OneMore}
 use Rattle.fsb_laws.specs.Orderly.{Orderly}
-use Rattle.fsb_laws.proofs.OneMoreFacts.{line_at-old, line_at-past}
+use Rattle.fsb_laws.proofs.OneMoreFacts.{line_at-old}
 use Rattle.fsb_laws.proofs.ResponseSteps.{response_there, response_counted}
-use Rattle.fsb_laws.proofs.OrderlySteps.{may_answer-stays}
+use Rattle.fsb_laws.proofs.OrderlySteps.{may_answer-stays, ads_before_end}
 use Rattle.fsb_laws.proofs.BeginSteps.{BeginsAfter}
 use Rattle.fsb_rules.proofs.Windows.{taken}
-
-within : (w : Trace) (q : ℕ) → line_at ADS w q ≡ true → q < length w
-within w q t =
-    elim (cases_lt q (length w)) [
-      | inl l ↦ l
-      | inr past ↦ absurd (both_ways _ (line_at-past ADS w q past) t)
-    ]
 
 -- a prefix of an orderly trace is orderly
 pub orderly-prefix : (u h : Trace) → AgreeTo (length u) u h → Orderly h → Orderly u
@@ -30,7 +23,7 @@ orderly-prefix u h a o =
     record {
       spaced = record {
         apart = λ p q l s t.
-            let below : q < length u = within u q t in
+            let below : q < length u = ads_before_end u q t in
             o.spaced.apart p q l (sym (line_at-agree ADS (length u) u h p a (omega arith)) ∙ s) (sym (line_at-agree ADS (length u) u h q a below) ∙ t);
       };
       timely = λ i r e.

@@ -1,6 +1,7 @@
 -- The queue stands for the history with one sample more.
 use Rattle.std.proofs.Common.{ℕ, ◌+◌, ◌-◌, ◌≤◌, ◌≡◌, Bool, true, false, cond, Option, Some, None, is_some, is_none, length, refl, sym, ap, ◌∙◌, arith, subst, add-zero}
 use Rattle.std.proofs.lemmas.Bool.{le-leb}
+use Rattle.fsb_count.proofs.Bools.{cond-most}
 use Rattle.fsb_signal.specs.declared.lines.TheConstants.Lines.{ADS, AERR, DRDY}
 use Rattle.fsb_signal.specs.declared.sample.Sample.{Sample}
 use Rattle.fsb_signal.specs.Samples.{has_line}
@@ -45,15 +46,11 @@ step_none : (comes : Bool) → chunk_step comes None ≡ None
 unfolding chunk_step
 step_none comes = refl
 
-moving_most : (m : Bool) → cond m 1 0 ≤ 1
-moving_most true = omega arith
-moving_most false = omega arith
-
 not_moving : (k : Checker) (h : Trace) (x : Sample) (v : Trace) (b : Option Asked) (g : Goes k h x v b) (t : Option ℕ) → responds x ≡ false → transfer_of h ≡ t → cond (is_some (transfer_of v)) 1 0 ≤ cond (is_some t) 1 0
 not_moving k h x v b g None f e =
     let none : transfer_of v ≡ None = transfer_of-kept h x v g.more g.follows.orderly f ∙ ap (chunk_step (has_line x DRDY)) e ∙ step_none (has_line x DRDY) in
     rw none (omega arith)
-not_moving k h x v b g (Some c) f e = moving_most (is_some (transfer_of v))
+not_moving k h x v b g (Some c) f e = cond-most (is_some (transfer_of v))
 
 some_moving : (m : Option Moving) (t : Option ℕ) → is_none m ≡ is_none t → is_some m ≡ is_some t
 some_moving None None e = refl
@@ -73,7 +70,7 @@ len_of q w s a b = omega (arith, a.size, b.size)
 answers_most : (k : Checker) (h : Trace) (x : Sample) (v : Trace) (b : Option Asked) (g : Goes k h x v b) (t : Bool) → responds x ≡ t → cond (is_some (transfer_of v)) 1 0 + response_count h ≤ response_count v + cond (is_some (transfer_of h)) 1 0
 answers_most k h x v b g true e =
     let more : response_count v ≡ response_count h + 1 = response_count-more h x v g.more ∙ ap (λ c. response_count h + cond c 1 0) e in
-    let most = moving_most (is_some (transfer_of v)) in omega arith
+    let most = cond-most (is_some (transfer_of v)) in omega arith
 answers_most k h x v b g false e =
     let same : response_count v ≡ response_count h + 0 = response_count-more h x v g.more ∙ ap (λ c. response_count h + cond c 1 0) e in
     let most = not_moving k h x v b g (transfer_of h) e refl in omega arith

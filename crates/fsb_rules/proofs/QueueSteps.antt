@@ -1,6 +1,7 @@
 -- The queue follows the history with a new sample that breaks no rule.
-use Rattle.std.proofs.Common.{ℕ, zero, suc, ◌+◌, ◌-◌, ◌<◌, ◌≡◌, Bool, true, false, cond, not, ◌&&◌, Some, length, refl, sym, ap, ◌∙◌, arith, inl, inr}
-use Rattle.std.proofs.lemmas.Bool.{cases_Bool, and_parts, and_left, and_right, and_from, le-leb, leb-true, false_from_ne_true, eq-eqb, lt-leb}
+use Rattle.std.proofs.Common.{ℕ, zero, suc, ◌+◌, ◌-◌, ◌<◌, ◌≡◌, true, false, cond, not, ◌&&◌, Some, length, refl, sym, ap, ◌∙◌, arith, inl, inr}
+use Rattle.std.proofs.lemmas.Bool.{cases_Bool, and_parts, and_left, and_right, and_from, le-leb, leb-true, false_from_ne_true, eq-eqb}
+use Rattle.std.proofs.Math.Bool.{and-true}
 use Rattle.fsb_count.specs.Clocks.{AgreeBelow, count_where}
 use Rattle.fsb_count.proofs.Count.{count_where-more, count_where-same, count_where-passed, count_where-failed}
 use Rattle.fsb_count.proofs.Nth.{nth_where-at}
@@ -18,32 +19,21 @@ use Rattle.fsb_rules.specs.Asked.{asked_from, asked_of}
 use Rattle.fsb_rules.specs.Queue.{known_count}
 use Rattle.fsb_rules.specs.Checker.{Decoded}
 use Rattle.fsb_rules.proofs.QueueFacts.{known_clock, asked_of-form, is_known, asked_of-known}
+use Rattle.fsb_rules.proofs.Lines.{line_back-none, line_back-some}
 
 -- how many live requests are known, where none is cancelled: one more, if one began at the last clock
 not_cancels : (x : Sample) (n q : ℕ) → has_line x AERR ≡ false → cancels x n q ≡ false
 unfolding cancels
 not_cancels x n q f = and_left _ _ f
 
-and_true : (b : Bool) → (b && true) ≡ b
-and_true true = refl
-and_true false = refl
-
 same_live : (h : Trace) (x : Sample) (v : Trace) (c : ℕ) → OneMore h x v → has_line x AERR ≡ false → c < length h → is_live v c ≡ is_live h c
-same_live h x v c m f l = is_live-more h x v c m l ∙ ap (λ b. is_live h c && not b) (not_cancels x (length h) c f) ∙ and_true (is_live h c)
+same_live h x v c m f l = is_live-more h x v c m l ∙ ap (λ b. is_live h c && not b) (not_cancels x (length h) c f) ∙ and-true (is_live h c)
 
 live_last : (h : Trace) (n : ℕ) → length h ≡ suc n → is_live h n ≡ line_back ADS h (length h) 1
 unfolding is_live line_back
 live_last h n e =
     let same : length h - 1 ≡ n = omega arith in
-    rw (is_cancelled-late h n (omega arith), le-leb 1 (length h) (omega arith), same) (and_true (line_at ADS h n))
-
-back_none : (h : Trace) → length h ≡ 0 → line_back ADS h (length h) 1 ≡ false
-unfolding line_back
-back_none h e = and_left _ _ (lt-leb 1 (length h) (omega arith))
-
-back_some : (h : Trace) → line_back ADS h (length h) 1 ≡ true → 0 < length h
-unfolding line_back
-back_some h t = let l = leb-true 1 (length h) (and_parts _ _ t).0 in omega arith
+    rw (is_cancelled-late h n (omega arith), le-leb 1 (length h) (omega arith), same) (and-true (line_at ADS h n))
 
 no_count : (v h : Trace) → count_where (is_live v) 0 ≡ count_where (is_live h) 0 + 0
 unfolding count_where
@@ -52,7 +42,7 @@ no_count v h = refl
 count_cases : (h : Trace) (x : Sample) (v : Trace) (n : ℕ) → OneMore h x v → has_line x AERR ≡ false → length h ≡ n → known_count v ≡ known_count h + cond (line_back ADS h (length h) 1) 1 0
 unfolding known_count
 count_cases h x v zero m f e =
-    let quiet : line_back ADS h (length h) 1 ≡ false = back_none h e in
+    let quiet : line_back ADS h (length h) 1 ≡ false = line_back-none h e in
     let a : length v - 1 ≡ 0 = omega (arith, m.size) in
     let b : length h - 1 ≡ 0 = omega arith in
     rw (a, b, quiet) (no_count v h)
@@ -126,7 +116,7 @@ kept_clock h x v i q m s e l k =
 begun_clock : (h : Trace) (x : Sample) (v : Trace) → OneMore h x v → line_back ADS h (length h) 1 ≡ true → has_line x AERR ≡ false → live_clock_of v (known_count h) ≡ Some (length h - 1)
 unfolding known_count live_clock_of
 begun_clock h x v m t f =
-    let some = back_some h t in
+    let some = line_back-some h t in
     let below : AgreeBelow (length h - 1) (is_live h) (is_live v) = record { same = λ c l. sym (same_live h x v c m f (omega arith)) } in
     let live : is_live v (length h - 1) ≡ true = same_live h x v (length h - 1) m f (omega arith) ∙ live_last h (length h - 1) (omega arith) ∙ t in
     rw (count_where-same (is_live h) (is_live v) (length h - 1) below)

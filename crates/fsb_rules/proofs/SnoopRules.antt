@@ -1,13 +1,14 @@
 -- The rules of snoops, with a new sample.
-use Rattle.std.proofs.Common.{ℕ, ◌<◌, ◌≤◌, ◌≡◌, Bool, true, false, cond, ◌&&◌, ◌||◌, Option, Some, None, List, [], ◌∷◌, length, slice_get, refl, sym, ap, ◌∙◌, arith, inl, inr, subst, add-zero}
-use Rattle.std.proofs.lemmas.Bool.{cases_lt, and_parts, and_left, eq-eqb, eqb-true, leb-true, cases_eq, false_from_ne_true}
+use Rattle.std.proofs.Common.{ℕ, ◌<◌, ◌≤◌, ◌≡◌, Bool, true, false, ◌&&◌, ◌||◌, Option, Some, None, List, [], ◌∷◌, length, slice_get, refl, sym, ap, ◌∙◌, arith, inl, inr, subst, add-zero}
+use Rattle.std.proofs.lemmas.Bool.{cases_lt, and_parts, and_left, leb-true, cases_eq, false_from_ne_true}
 use Rattle.fsb_count.specs.Options.{is_some_and, is_at}
 use Rattle.fsb_count.proofs.Any.{any_where-at, any_where-off}
+use Rattle.fsb_count.proofs.Options.{is_at-if, is_at-some}
 use Rattle.fsb_signal.specs.declared.lines.TheConstants.Lines.{HIT, HITM, DEFER}
 use Rattle.fsb_signal.specs.declared.sample.Sample.{Sample}
 use Rattle.fsb_signal.specs.Samples.{has_line}
 use Rattle.fsb_encode.specs.declared.request.Request.{Request}
-use Rattle.fsb_trace.specs.At.{Trace, request_at}
+use Rattle.fsb_trace.specs.At.{Trace}
 use Rattle.fsb_trace.specs.Requests.{live_count, live_clock_of, live_request_of, is_reply, is_write_back}
 use Rattle.fsb_trace.specs.Snoop.{snoop_end_of, snoop_start_of, is_every_second_from}
 use Rattle.fsb_trace.specs.Rules.{is_snoop_line_alone, is_result_unfit_for, is_snoop_result_unfit}
@@ -17,10 +18,11 @@ use Rattle.fsb_laws.specs.Orderly.{Orderly}
 use Rattle.fsb_laws.specs.Progress.{SnoopsTo, is_snoop_due, ends_snoop_of}
 use Rattle.fsb_laws.proofs.OneMoreFacts.{line_at-new}
 use Rattle.fsb_trace.proofs.Order.{snoop_end_of-rises}
+use Rattle.fsb_trace.proofs.LiveRequests.{live_request_of-at, live_below_count}
 use Rattle.fsb_laws.proofs.LiveSteps.{live_clock_of-less}
 use Rattle.fsb_laws.proofs.ReplySteps.{request_at-old}
 use Rattle.fsb_laws.proofs.SnoopSteps.{start_clock, snoop_end_of-old, snoop_end_of-more}
-use Rattle.fsb_laws.proofs.SnoopClockSteps.{is_snoop_clock-more, ended_where, live_below_count}
+use Rattle.fsb_laws.proofs.SnoopClockSteps.{is_snoop_clock-more, ended_where}
 use Rattle.fsb_rules.specs.declared.asked.Asked.{Asked}
 use Rattle.fsb_rules.specs.declared.checker.Checker.{Checker}
 use Rattle.fsb_rules.specs.Asked.{asked_from, asked_of}
@@ -56,16 +58,6 @@ first_of h s (a ∷ xs) w l = w.at 0 (omega arith) ∙ ap (asked_of h) (add-zero
 none_of : (h : Trace) (s : ℕ) (xs : List Asked) → Window xs (asked_of h) s (known_count h) → known_count h ≤ s → slice_get xs 0 ≡ None
 none_of h s [] w l = refl
 none_of h s (a ∷ xs) w l = absurd (omega (arith, w.size))
-
-ended_at : (b : Bool) (n : ℕ) → is_at (cond b (Some n) None) n ≡ b
-unfolding is_at is_some_and
-ended_at true n = eq-eqb n n refl
-ended_at false n = refl
-
-ended_now : (n : ℕ) (o : Option ℕ) → is_at o n ≡ true → o ≡ Some n
-unfolding is_at is_some_and
-ended_now n None t = absurd (let no : ⊥ = cc in no)
-ended_now n (Some t) u = ap (λ c. Some c) (eqb-true t n u)
 
 due_start : (h : Trace) (s n : ℕ) (o : Option ℕ) → snoop_start_of h s ≡ o → is_some_and o (λ start. is_every_second_from start n) ≡ true → (start : ℕ) × (snoop_start_of h s ≡ Some start) × (start ≤ n)
 unfolding is_some_and is_every_second_from
@@ -120,15 +112,11 @@ unfolding is_some_and
 none_form None x = refl
 none_form (Some a) x = refl
 
-request_with : (v : Trace) (i q : ℕ) (r : Request) → live_clock_of v i ≡ Some q → request_at v q ≡ Some r → live_request_of v i ≡ Some r
-unfolding live_request_of
-request_with v i q r e f = rw (e, f) refl
-
 -- only the next request can have its snoop end with the sample
 other_not : (h : Trace) (x : Sample) (v : Trace) (s i : ℕ) → OneMore h x v → Orderly h → SnoopsTo h s → (i ≡ s → ⊥) → is_at (snoop_end_of v i) (length h) ≡ false
 other_not h x v s i m o to other =
     false_from_ne_true _ (λ t.
-    let e = ended_now (length h) (snoop_end_of v i) t in
+    let e = is_at-some (snoop_end_of v i) (length h) t in
     elim (cases_lt i s) [
       | inl old ↦
           let p = to.reached i old in
@@ -150,7 +138,7 @@ unfit_none h x v s m o to f =
 unfit_some : (v : Trace) (n s : ℕ) → is_at (snoop_end_of v s) n ≡ true → is_result_unfit_for v n s ≡ true → is_snoop_result_unfit v n ≡ true
 unfolding is_snoop_result_unfit
 unfit_some v n s a t =
-    let e = ended_now n (snoop_end_of v s) a in
+    let e = is_at-some (snoop_end_of v s) n a in
     let c = snoop_end_of-clock v s n e in
     any_where-at (is_result_unfit_for v n) (live_count v) s (live_below_count v s c.clock c.is_clock) t
 
@@ -166,7 +154,7 @@ request_kept h x v s m o d to t k =
     let f = k.is_clock in
     let same : c.clock ≡ k.clock = cc in
     let clock : live_clock_of v s ≡ Some k.clock = c.is_clock ∙ ap (λ n. Some n) same in
-    request_with v s k.clock k.request clock (request_at-old h x v k.clock m k.early ∙ k.is_request)
+    live_request_of-at v s k.clock k.request clock (request_at-old h x v k.clock m k.early ∙ k.is_request)
 
 -- 12 snoop results of write-backs and replies
 unfit_cases : (k : Checker) (h : Trace) (x : Sample) (v : Trace) (f : Follows k h) (b : Bool) → OneMore h x v → ends_snoop_of h f.queue.snooped x ≡ b → is_some_and (slice_get k.queue.asking.items 0) (λ a. b && is_unfit_by a x) ≡ is_result_unfit_for v (length h) f.queue.snooped
@@ -177,13 +165,13 @@ unfit_cases k h x v f true m t =
     some_form (slice_get k.queue.asking.items 0) (asked_from known.clock known.request) x first
     ∙ unfit_form known.clock known.request x
     ∙ sym (unfit_here h x v s known.request true m
-    (ap (λ o. is_at o (length h)) (snoop_end_of-more h x v s m f.orderly.spaced f.queue.to) ∙ ended_at (ends_snoop_of h s x) (length h) ∙ t)
+    (ap (λ o. is_at o (length h)) (snoop_end_of-more h x v s m f.orderly.spaced f.queue.to) ∙ is_at-if (length h) (ends_snoop_of h s x) ∙ t)
     (request_kept h x v s m f.orderly f.decoded f.queue.to t known))
 unfit_cases k h x v f false m t =
     let s : ℕ = f.queue.snooped in
     none_form (slice_get k.queue.asking.items 0) x
     ∙ sym (unfit_not v (length h) s
-    (ap (λ o. is_at o (length h)) (snoop_end_of-more h x v s m f.orderly.spaced f.queue.to) ∙ ended_at (ends_snoop_of h s x) (length h) ∙ t))
+    (ap (λ o. is_at o (length h)) (snoop_end_of-more h x v s m f.orderly.spaced f.queue.to) ∙ is_at-if (length h) (ends_snoop_of h s x) ∙ t))
 
 pub rule_12 : (k : Checker) (h : Trace) (x : Sample) (v : Trace) → Follows k h → OneMore h x v → is_result_unfit_by k (length h) x ≡ is_snoop_result_unfit v (length h)
 unfolding is_result_unfit_by

@@ -5,6 +5,7 @@ use Rattle.std.proofs.lemmas.Bool.{both_ways}
 use Rattle.fsb_count.specs.Clocks.{first_where, count_where}
 use Rattle.fsb_signal.specs.declared.lines.TheConstants.Lines.{ADS}
 use Rattle.fsb_signal.specs.Samples.{line_at}
+use Rattle.fsb_signal.proofs.AtClock.{line_at-past}
 use Rattle.fsb_trace.specs.At.{line_back}
 use Rattle.fsb_trace.specs.Snoop.{snoop_end_of}
 use Rattle.fsb_trace.specs.Response.{ready_clock_of}
@@ -12,9 +13,8 @@ use Rattle.fsb_trace.specs.Verdict.{verdict}
 use Rattle.fsb_trace.proofs.Stay.{snoop_end_of-clock}
 use Rattle.fsb_arbiter.specs.Arbiter.{Stands as ArbiterStands, lines_back}
 use Rattle.fsb_laws.specs.Progress.{response_count}
-use Rattle.fsb_laws.proofs.OneMoreFacts.{line_at-past}
 use Rattle.fsb_laws.proofs.OrderlySteps.{orderly-empty}
-use Rattle.fsb_laws.proofs.ResponseSteps.{response_counted}
+use Rattle.fsb_laws.proofs.ResponseSteps.{response_counted, response_count-empty}
 use Rattle.fsb_laws.proofs.ReadySteps.{has_ready}
 use Rattle.fsb_laws.proofs.OutstandingSteps.{deferred_response}
 use Rattle.fsb_rules.specs.declared.checker.Checker.{Checker}
@@ -43,10 +43,6 @@ pub record IsNew (k : Checker) : Type 0 where
   pub ready : k.queue.ready ≡ None
   pub current : k.outstanding.current.items ≡ []
   pub before : k.outstanding.before.items ≡ []
-
-no_responses : response_count [] ≡ 0
-unfolding response_count count_where
-no_responses = refl
 
 no_ads : (q : ℕ) → line_at ADS [] q ≡ true → ⊥
 no_ads q t = both_ways _ (line_at-past ADS [] q (omega arith)) t
@@ -89,7 +85,7 @@ no_beginner = rw no_back refl
 
 none_moves : moving_of [] ≡ None
 unfolding moving_of moving_after
-none_moves = ap (moving_after []) no_responses
+none_moves = ap (moving_after []) response_count-empty
 
 no_before : snoop_before [] 0 ≡ None
 unfolding snoop_before
@@ -106,7 +102,7 @@ new_queue k n =
       to = record { reached = λ i l. absurd (omega arith); next = no_snoop 0 (snoop_end_of [] 0) refl };
       asking = record { size = (let e : length k.queue.asking.items ≡ 0 = ap length n.asking in let z = none_known in omega arith); at = λ m l. absurd (let e : length k.queue.asking.items ≡ 0 = ap length n.asking in omega arith) };
       waiting = record {
-        size = (let e : length k.queue.waiting.items ≡ 0 = ap length n.waiting in let r = no_responses in omega arith);
+        size = (let e : length k.queue.waiting.items ≡ 0 = ap length n.waiting in let r = response_count-empty in omega arith);
         at = λ m l. absurd (let e : length k.queue.waiting.items ≡ 0 = ap length n.waiting in omega arith);
       };
       moving = n.moving ∙ sym none_moves;
@@ -131,7 +127,7 @@ new_follows k n =
       orderly = orderly-empty;
       decoded = record { there = λ q t l. absurd (no_ads q t) };
       identified = record { own = λ q r t e. absurd (no_ads q t) };
-      deferrable = record { no_reply = λ i t. absurd (let d = deferred_response [] i t in let l = response_counted [] i d.0 d.1 in let z = no_responses in omega arith) };
+      deferrable = record { no_reply = λ i t. absurd (let d = deferred_response [] i t in let l = response_counted [] i d.0 d.1 in let z = response_count-empty in omega arith) };
       clock = n.clock;
       recent = record {
         first = n.first ∙ sym no_first;

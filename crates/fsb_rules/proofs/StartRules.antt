@@ -1,9 +1,10 @@
 -- The rules of lines and of requests that begin, with a new sample.
-use Rattle.std.proofs.Common.{ℕ, ◌+◌, ◌-◌, ◌<◌, ◌≡◌, Bool, true, false, cond, not, ◌&&◌, ◌||◌, nat_le, Option, Some, None, is_none, length, refl, sym, ap, ◌∙◌, arith, inl, inr, add-one}
+use Rattle.std.proofs.Common.{ℕ, ◌-◌, ◌<◌, ◌≡◌, Bool, true, false, cond, not, ◌&&◌, ◌||◌, nat_le, Option, Some, None, is_none, length, refl, sym, ap, ◌∙◌, arith, inl, inr}
 use Rattle.std.specs.Option.{option_map}
-use Rattle.std.proofs.lemmas.Bool.{cases_lt, and_parts, and_left, and_right, leb-true, le-leb, lt-leb}
+use Rattle.std.proofs.lemmas.Bool.{cases_lt, and_parts, and_left, and_right, le-leb, lt-leb}
 use Rattle.fsb_count.specs.Options.{is_some_and}
 use Rattle.fsb_count.specs.Clocks.{any_where}
+use Rattle.fsb_count.proofs.Any.{any_where-more}
 use Rattle.fsb_signal.specs.declared.lines.Lines.{Lines}
 use Rattle.fsb_signal.specs.declared.lines.TheConstants.Lines.{ADS, AERR, BNR, LOCK, DRDY}
 use Rattle.fsb_signal.specs.declared.sample.Sample.{Sample}
@@ -26,7 +27,7 @@ use Rattle.fsb_rules.specs.Asked.{asked_from, asked_at}
 use Rattle.fsb_rules.specs.Tests.{is_among, request_by, queue_len}
 use Rattle.fsb_rules.specs.Steps.{begun_by, is_too_soon_by, is_identified_by, is_identity_wrong_by, is_asked_wrongly_by, is_some_asked_wrongly_by, is_lock_alone_by}
 use Rattle.fsb_rules.specs.Checker.{Follows, beginner_of}
-use Rattle.fsb_rules.proofs.Lines.{is_among-back, line_back-new, request_by-new}
+use Rattle.fsb_rules.proofs.Lines.{is_among-back, line_back-new, request_by-new, line_back-some}
 use Rattle.fsb_rules.proofs.QueueLength.{queue_len-in_flight}
 
 -- lines of the last clocks
@@ -51,15 +52,11 @@ rule_2 k h x v f m =
     rw (first_back ADS k h f, second_back ADS k h f, line_at-new ADS h x v m, line_back-new ADS h x v 1 m (omega arith), line_back-new ADS h x v 2 m (omega arith)) refl
 
 -- the request that began at the last clock
-back_some : (h : Trace) → line_back ADS h (length h) 1 ≡ true → 0 < length h
-unfolding line_back
-back_some h t = let l = leb-true 1 (length h) (and_parts _ _ t).0 in omega arith
-
 begun_cases : (k : Checker) (h : Trace) (x : Sample) (v : Trace) (b : Bool) → Follows k h → OneMore h x v → line_back ADS h (length h) 1 ≡ b → begun_by k (length h) x ≡ cond b (asked_at v (length h - 1)) None
 unfolding begun_by asked_at
 begun_cases k h x v true f m t =
     rw (first_back ADS k h f, t)
-    (ap (option_map (asked_from (length h - 1))) (ap (λ w. request_by w x) f.recent.words ∙ request_by-new h x v m (back_some h t)))
+    (ap (option_map (asked_from (length h - 1))) (ap (λ w. request_by w x) f.recent.words ∙ request_by-new h x v m (line_back-some h t)))
 begun_cases k h x v false f m t = rw (first_back ADS k h f, t) refl
 
 pub begun-form : (k : Checker) (h : Trace) (x : Sample) (v : Trace) → Follows k h → OneMore h x v → begun_by k (length h) x ≡ cond (line_back ADS h (length h) 1) (asked_at v (length h - 1)) None
@@ -211,24 +208,16 @@ asked_wrongly k h x v who f m =
       | inr l ↦ asked_first k h x v who f m (omega arith)
     ]
 
-either : (b c : Bool) → elim b [ true ↦ true | false ↦ c ] ≡ (b || c)
-either true c = refl
-either false c = refl
-
-any_next : (p : ℕ → Bool) (n : ℕ) → any_where p (n + 1) ≡ (any_where p n || p n)
-unfolding any_where
-any_next p n = rw add-one (either (any_where p n) (p n))
-
 none_yet : (p : ℕ → Bool) → (any_where p 0 || p 0) ≡ p 0
 unfolding any_where
 none_yet p = refl
 
 any_four : (p : ℕ → Bool) → any_where p 4 ≡ (((p 0 || p 1) || p 2) || p 3)
 any_four p =
-    let one : any_where p 1 ≡ p 0 = any_next p 0 ∙ none_yet p in
-    let two : any_where p 2 ≡ (p 0 || p 1) = any_next p 1 ∙ ap (λ b. b || p 1) one in
-    let three : any_where p 3 ≡ ((p 0 || p 1) || p 2) = any_next p 2 ∙ ap (λ b. b || p 2) two in
-    any_next p 3 ∙ ap (λ b. b || p 3) three
+    let one : any_where p 1 ≡ p 0 = any_where-more p 0 ∙ none_yet p in
+    let two : any_where p 2 ≡ (p 0 || p 1) = any_where-more p 1 ∙ ap (λ b. b || p 1) one in
+    let three : any_where p 3 ≡ ((p 0 || p 1) || p 2) = any_where-more p 2 ∙ ap (λ b. b || p 2) two in
+    any_where-more p 3 ∙ ap (λ b. b || p 3) three
 
 pub rule_8 : (k : Checker) (h : Trace) (x : Sample) (v : Trace) → Follows k h → OneMore h x v → is_some_asked_wrongly_by k x ≡ is_some_asked_wrongly v (length h)
 unfolding is_some_asked_wrongly_by is_some_asked_wrongly

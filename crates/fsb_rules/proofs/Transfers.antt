@@ -16,12 +16,12 @@ use Rattle.fsb_trace.specs.Response.{end_of}
 use Rattle.fsb_trace.specs.Rules.{is_transferring_of, is_transferring}
 use Rattle.fsb_trace.proofs.Stay.{snoop_end_of-clock}
 use Rattle.fsb_trace.proofs.StayEnds.{end_of-moving}
+use Rattle.fsb_trace.proofs.LiveRequests.{live_below_count}
 use Rattle.fsb_laws.specs.OneMore.{OneMore, responds}
 use Rattle.fsb_laws.specs.Orderly.{Orderly}
 use Rattle.fsb_laws.specs.Progress.{SnoopsTo, response_count, transfer_after, transfer_of}
 use Rattle.fsb_laws.proofs.OneMoreFacts.{line_at-old}
 use Rattle.fsb_laws.proofs.Clocks.{count_where-none}
-use Rattle.fsb_laws.proofs.SnoopClockSteps.{live_below_count}
 use Rattle.fsb_laws.proofs.ResponseSteps.{has_answer, response_there, response_past, response_count-more, response_clock_of-old, response_clock_of-new, moves_data-old}
 use Rattle.fsb_laws.proofs.EndFacts.{transferring_form, chunks_of-form, clear_parts}
 use Rattle.fsb_laws.proofs.TransferSteps.{moves_new}

@@ -22,6 +22,7 @@ use Rattle.fsb_trace.specs.Rules.{breaks, is_request_too_soon, is_code_unlawful,
 use Rattle.fsb_trace.specs.Verdict.{is_broken, least_rule}
 use Rattle.fsb_trace.proofs.RuleSteps.{breaks-2, breaks-3, breaks-4, breaks-7, breaks-10, breaks-13, breaks-15, breaks-18}
 use Rattle.fsb_count.proofs.First.{first_where-none}
+use Rattle.fsb_count.proofs.Options.{is_some-none}
 use Rattle.fsb_laws.specs.OneMore.{OneMore}
 use Rattle.fsb_laws.specs.Progress.{may_answer_next}
 use Rattle.fsb_laws.proofs.OneMoreFacts.{line_at-new}
@@ -61,14 +62,10 @@ ready_parts k h x f t =
     let q = or_parts _ _ g in
     (not-false _ q.0, q.1)
 
-none_some : (o : Option ℕ) → is_some o ≡ false → o ≡ None
-none_some None e = refl
-none_some (Some a) e = absurd (let no : ⊥ = cc in no)
-
 ready_now : (k : Checker) (h : Trace) (x : Sample) → Follows k h → is_target_ready_wrong_by k (length h) x ≡ false → has_line x TRDY ≡ true → (may_answer_next h ≡ true) × (k.queue.ready ≡ None)
 ready_now k h x f e t =
     let p = ready_parts k h x e t in
-    (elim (cases_Bool (may_answer_next h)) [ inl may ↦ may | inr not_yet ↦ absurd (both_ways _ (takes_none k h f not_yet) p.0) ], none_some k.queue.ready p.1)
+    (elim (cases_Bool (may_answer_next h)) [ inl may ↦ may | inr not_yet ↦ absurd (both_ways _ (takes_none k h f not_yet) p.0) ], is_some-none k.queue.ready p.1)
 
 -- there is room in the queue
 room_now : (k : Checker) (h : Trace) (x : Sample) → (has_line x ADS && nat_le 8 (queue_len k.queue)) ≡ false → has_line x ADS ≡ true → queue_len k.queue < 8

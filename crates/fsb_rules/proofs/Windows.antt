@@ -3,12 +3,8 @@ use Rattle.std.proofs.Common.{ℕ, zero, suc, ◌+◌, ◌-◌, ◌<◌, ◌≤�
 use Rattle.std.proofs.lemmas.Bool.{cases_lt}
 use Rattle.std.proofs.lemmas.List.{length-append, length-take}
 use Rattle.fsb_count.proofs.Nth.{slice_get-end}
+use Rattle.fsb_signal.proofs.AtClock.{slice_get-before}
 use Rattle.fsb_rules.specs.Window.{Window}
-
-grown : {X : Type 0} (xs ys : List X) (c : ℕ) → c < length xs → slice_get (xs ++ ys) c ≡ slice_get xs c
-grown [] ys c l = absurd (omega arith)
-grown (x ∷ xs) ys zero l = refl
-grown (x ∷ xs) ys (suc c) l = grown xs ys c (omega arith)
 
 -- the next one comes
 pub window-push : {A : Type 0} (xs : List A) (f : ℕ → Option A) (m n : ℕ) (y : A) → Window xs f m n → f n ≡ Some y → Window (xs ++ y ∷ []) f m (n + 1)
@@ -17,7 +13,7 @@ window-push xs f m n y w e =
     record {
       size = omega (arith, w.size);
       at = λ k l. elim (cases_lt k (length xs)) [
-        | inl old ↦ grown xs (y ∷ []) k old ∙ w.at k old
+        | inl old ↦ slice_get-before xs (y ∷ []) k old ∙ w.at k old
         | inr new ↦
             let last : length xs ≡ k = omega arith in
             let here : n ≡ m + k = omega (arith, w.size) in

@@ -1,5 +1,5 @@
 -- Traces that agree have the same at a clock.
-use Rattle.std.proofs.Common.{ℕ, zero, suc, ◌+◌, ◌-◌, ◌<◌, ◌≤◌, ◌≡◌, true, false, Option, Some, None, [], ◌∷◌, take, refl, sym, ap, ◌∙◌, arith, nat_lt, inl, inr}
+use Rattle.std.proofs.Common.{ℕ, zero, suc, ◌+◌, ◌-◌, ◌<◌, ◌≤◌, ◌≡◌, Option, Some, None, [], ◌∷◌, take, refl, sym, ap, ◌∙◌, arith, nat_lt, inl, inr}
 use Rattle.std.specs.Option.{option_map}
 use Rattle.std.proofs.lemmas.Bool.{cases_Bool, ltb-false}
 use Rattle.fsb_count.specs.Clocks.{AgreeBelow}
@@ -8,11 +8,13 @@ use Rattle.fsb_signal.specs.declared.lines.Lines.{Lines}
 use Rattle.fsb_signal.specs.declared.lines.TheConstants.Lines.{ADS, AERR, LOCK, BPRI}
 use Rattle.fsb_signal.specs.Samples.{line_at}
 use Rattle.fsb_trace.specs.declared.who.Who.{Who}
-use Rattle.fsb_trace.specs.declared.who.Who.TheVariants.{Symmetric, Priority}
+use Rattle.fsb_trace.specs.declared.who.Who.TheVariants.{Symmetric}
 use Rattle.fsb_trace.specs.At.{Trace, responds_at, response_code_at, stalls_at, known_pair_at, request_at}
-use Rattle.fsb_trace.specs.Winner.{Turns, asks_in_order, first_asking, last_if_asking, request_line_of, first_in_order, winner_by, winner_after, turns_before, winner_at, then_begun}
+use Rattle.fsb_trace.specs.Winner.{Turns, asks_in_order, first_asking, last_if_asking, request_line_of, winner_by, winner_after, turns_before, winner_at, then_begun}
 use Rattle.fsb_trace.specs.Requests.{is_cancelled, is_live}
 use Rattle.fsb_trace.specs.Agree.{AgreeTo}
+use Rattle.fsb_trace.proofs.TurnSteps.{turns_before-start, turns_before-begun, turns_before-kept}
+use Rattle.fsb_trace.proofs.WinnerSteps.{winner_by-locked, winner_by-priority, winner_by-symmetric, winner_after-low, winner_after-high}
 
 pub AgreeTo-sym : (n : ℕ) (w v : Trace) → AgreeTo n w v → AgreeTo n v w
 AgreeTo-sym n w v a = record { left = a.right; right = a.left; same = λ c l. sym (a.same c l) }
@@ -74,35 +76,6 @@ unfolding last_if_asking
 last_if_asking-agree n w v d None a l = refl
 last_if_asking-agree n w v d (Some who) a l = rw (line_at-agree (request_line_of who) n w v d a l) refl
 
--- the paths of the winner's definition
-winner_by-locked : (w : Trace) (d : ℕ) (turns : Turns) → line_at LOCK w d ≡ true → winner_by w d turns ≡ last_if_asking w d turns.0
-unfolding winner_by
-winner_by-locked w d turns t = rw (t, winner_by) refl
-
-winner_by-priority : (w : Trace) (d : ℕ) (turns : Turns) → line_at LOCK w d ≡ false → line_at BPRI w d ≡ true → winner_by w d turns ≡ Some Priority
-unfolding winner_by
-winner_by-priority w d turns f t = rw (f, t, winner_by) refl
-
-winner_by-symmetric : (w : Trace) (d : ℕ) (turns : Turns) → line_at LOCK w d ≡ false → line_at BPRI w d ≡ false → winner_by w d turns ≡ option_map Symmetric (first_asking w d (first_in_order turns.1))
-unfolding winner_by
-winner_by-symmetric w d turns f g = rw (f, g, winner_by) refl
-
-winner_after-low : (w : Trace) (c : ℕ) (turns : Turns) → nat_lt c 2 ≡ true → winner_after w c turns ≡ None
-unfolding winner_after
-winner_after-low w c turns t = rw (t, winner_after) refl
-
-winner_after-high : (w : Trace) (c : ℕ) (turns : Turns) → nat_lt c 2 ≡ false → winner_after w c turns ≡ winner_by w (c - 2) turns
-unfolding winner_after
-winner_after-high w c turns f = rw (f, winner_after) refl
-
-begun : (w : Trace) (c : ℕ) → line_at ADS w c ≡ true → turns_before w (suc c) ≡ then_begun (turns_before w c) (winner_after w c (turns_before w c))
-unfolding turns_before
-begun w c t = rw (t, turns_before) refl
-
-kept : (w : Trace) (c : ℕ) → line_at ADS w c ≡ false → turns_before w (suc c) ≡ turns_before w c
-unfolding turns_before
-kept w c f = rw (f, turns_before) refl
-
 pub winner_by-agree : (n : ℕ) (w v : Trace) (d : ℕ) (turns : Turns) → AgreeTo n w v → d < n → winner_by w d turns ≡ winner_by v d turns
 winner_by-agree n w v d turns a l =
     let lock : line_at LOCK w d ≡ line_at LOCK v d = line_at-agree LOCK n w v d a l in
@@ -128,19 +101,19 @@ winner_after-agree n w v c turns a l =
     ]
 
 pub turns_before-agree : (n : ℕ) (w v : Trace) (c : ℕ) → AgreeTo n w v → c ≤ n → turns_before w c ≡ turns_before v c
-unfolding turns_before
-turns_before-agree n w v zero a l = refl
+turns_before-agree n w v zero a l = turns_before-start w ∙ sym (turns_before-start v)
 turns_before-agree n w v (suc c) a l =
     let before : turns_before w c ≡ turns_before v c = turns_before-agree n w v c a (omega arith) in
     let ads : line_at ADS w c ≡ line_at ADS v c = line_at-agree ADS n w v c a (omega arith) in
-    elim (cases_Bool (line_at ADS v c)) [
+    let next : suc c ≡ c + 1 = omega arith in
+    rw next (elim (cases_Bool (line_at ADS v c)) [
       | inl t ↦
-          begun w c (ads ∙ t)
+          turns_before-begun w c (ads ∙ t)
           ∙ ap (λ turns. then_begun turns (winner_after w c turns)) before
           ∙ ap (then_begun (turns_before v c)) (winner_after-agree n w v c (turns_before v c) a (omega arith))
-          ∙ sym (begun v c t)
-      | inr f ↦ kept w c (ads ∙ f) ∙ before ∙ sym (kept v c f)
-    ]
+          ∙ sym (turns_before-begun v c t)
+      | inr f ↦ turns_before-kept w c (ads ∙ f) ∙ before ∙ sym (turns_before-kept v c f)
+    ])
 
 pub winner_at-agree : (n : ℕ) (w v : Trace) (c : ℕ) → AgreeTo n w v → c ≤ n → winner_at w c ≡ winner_at v c
 unfolding winner_at

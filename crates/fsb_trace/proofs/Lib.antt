@@ -1,6 +1,8 @@
 pub mod LaidOut
 pub mod TurnSteps
+pub mod WinnerSteps
 pub mod RequestSteps
+pub mod LiveRequests
 pub mod SnoopSteps
 pub mod EndSteps
 pub mod FlightSteps

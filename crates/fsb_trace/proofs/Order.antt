@@ -52,7 +52,7 @@ started w c None e = absurd (let no : ⊥ = cc in no)
 started w c (Some n) e = (n, refl, leb-true n c (and_parts _ _ e).0)
 
 -- a snoop clock is not before its snoop's start, and not after its snoop end
-snoop_clock-start : (w : Trace) (c i : ℕ) → is_snoop_clock_of w c i ≡ true → (n : ℕ) × (snoop_start_of w i ≡ Some n) × (n ≤ c)
+pub snoop_clock-start : (w : Trace) (c i : ℕ) → is_snoop_clock_of w c i ≡ true → (n : ℕ) × (snoop_start_of w i ≡ Some n) × (n ≤ c)
 unfolding is_snoop_clock_of
 snoop_clock-start w c i e = started w c (snoop_start_of w i) ((and_parts _ _ (and_parts _ _ e).0).1)
 

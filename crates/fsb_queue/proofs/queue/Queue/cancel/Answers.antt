@@ -1,9 +1,10 @@
 use Rattle.std.proofs.Common.{[], ◌∷◌, ◌++◌, ◌≡◌, ◌<◌, ◌≤◌, length, take, drop, None, refl, sym, ap, ◌∙◌, true, is_some, ◌⊎◌, inl, inr, arith}
 use Rattle.std.proofs.lemmas.Bool.{eq-eqb}
 use Rattle.std.proofs.lemmas.List.{append-nil}
+use Rattle.fsb_count.proofs.Options.{is_some-none}
 use Rattle.circular_buffer.specs.Buffer.{keep_last}
 use Rattle.fsb_queue.specs.Entries.{entry_of, without}
-use Rattle.fsb_queue.proofs.EntryLists.{passed_found, passed_kept, passed_there, none_where}
+use Rattle.fsb_queue.proofs.EntryLists.{passed_found, passed_kept, passed_there}
 use Rattle.fsb_queue.proofs.queue.Queue.cancel.Goals as goal
 use Rattle.fsb_queue.proofs.queue.Queue.cancel.Goals.{in-Some+then-is_none+then-entry-number, in-Some+else-is_none, else-is_none-via-then-is_none+else-entry-number, else-is_none-via-else-is_none, in_default}
 
@@ -20,7 +21,7 @@ loop-preserved c =
     let small : length es ≤ 8 = omega (arith, c.len-count.ensures.within, c.self.invariant) in
     elim c.match-pop_front.branch [
       | in-Some+then-is_none+then-entry-number w ↦
-          let none : entry_of number (take k es) ≡ None = sym c.loop.invariant.found ∙ none_where c.loop.found w.if-is_none.ensures in
+          let none : entry_of number (take k es) ≡ None = sym c.loop.invariant.found ∙ is_some-none c.loop.found w.if-is_none.ensures in
           let step = passed_found number k es c.loop.self-inside.entries.items w.in-Some.entry c.loop.invariant.items below
           (sym c.pop_front.ensures.value ∙ w.in-Some.is) none (eq-eqb _ _ w.if-entry-number.true) in
           record {

@@ -1,17 +1,18 @@
 use Rattle.std.proofs.Common.{None, sym, ap, ◌∙◌, subst, [], ◌∷◌, ◌++◌}
+use Rattle.fsb_count.proofs.Options.{is_some-none}
 use Rattle.fsb_trace.specs.At.{Trace}
 use Rattle.fsb_rules.specs.Checker.{Stands}
-use Rattle.fsb_rules.proofs.Feeds.{FeedStep, queue_few, queue_room, outstanding_room, absorb_stands, broken_stands, not_found, was_found}
+use Rattle.fsb_rules.proofs.Feeds.{FeedStep, queue_few, queue_room, outstanding_room, absorb_stands, broken_stands, was_found}
 use Rattle.fsb_rules.proofs.checker.Checker.feed.Goals as goal
 use Rattle.fsb_rules.proofs.checker.Checker.feed.Goals.{then-is_none+in-Some, then-is_none+in-None, else-is_none}
 
 pub absorb-requires-clause-few : goal.absorb-requires-clause-few
 absorb-requires-clause-few c =
-    queue_few c.args.self.now c.requires.0 c.requires.1 (not_found c.args.self.now.found c.if-is_none.ensures)
+    queue_few c.args.self.now c.requires.0 c.requires.1 (is_some-none c.args.self.now.found c.if-is_none.ensures)
 
 pub absorb-requires-clause-room : goal.absorb-requires-clause-room
 absorb-requires-clause-room c =
-    let none = not_found c.args.self.now.found c.if-is_none.ensures in
+    let none = is_some-none c.args.self.now.found c.if-is_none.ensures in
     queue_room c.args.self.now c.requires.0 c.args.sample.now c.begun-begun.result c.winner-winner.result c.first_broken.result (record {
       stands = c.requires.1;
       none = none;
@@ -22,7 +23,7 @@ absorb-requires-clause-room c =
 
 pub absorb-requires-clause-open_room : goal.absorb-requires-clause-open_room
 absorb-requires-clause-open_room c =
-    let none = not_found c.args.self.now.found c.if-is_none.ensures in
+    let none = is_some-none c.args.self.now.found c.if-is_none.ensures in
     outstanding_room c.args.self.now c.requires.0 c.args.sample.now c.begun-begun.result c.winner-winner.result (record {
       stands = c.requires.1;
       none = none;
@@ -35,7 +36,7 @@ stands : (c : goal.After-result-1) (h : Trace) → Stands c.args.self.now h → 
 stands c h s =
     elim c.if-is_none.branch [
       | then-is_none+in-Some w ↦
-          let none = not_found c.args.self.now.found w.if-is_none.ensures in
+          let none = is_some-none c.args.self.now.found w.if-is_none.ensures in
           broken_stands c.args.self.now c.if-is_none.self h c.args.sample.now w.begun-begun.result w.winner-winner.result _ (record {
             stands = s;
             none = none;
@@ -44,7 +45,7 @@ stands c h s =
             rule_is = sym w.in-Some.is ∙ w.first_broken.ensures;
           }) (ap (λ k. k.found) w.self-is)
       | then-is_none+in-None w ↦
-          let none = not_found c.args.self.now.found w.if-is_none.ensures in
+          let none = is_some-none c.args.self.now.found w.if-is_none.ensures in
           let step : FeedStep c.args.self.now h c.args.sample.now w.begun-begun.result w.winner-winner.result None = record {
             stands = s;
             none = none;
