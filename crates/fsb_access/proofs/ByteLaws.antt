@@ -1,3 +1,4 @@
+-- Bytes and numbers of a memory: what is put, what is found again, and what stays.
 use Rattle.std.proofs.Common.{◌≡◌, ℕ, zero, suc, ◌+◌, ◌-◌, ◌*◌, ◌/◌, ◌%◌, ◌^◌, ◌<◌, ◌≤◌, true, false, ◌&&◌, ◌⊎◌, List, ◌∷◌, length, get_or, take, drop, drop-cons, refl, ◌∙◌, ⊎_elim, inl, inr, arith, add-zero}
 use Rattle.std.proofs.lemmas.Bool.Decides.{nat_tests}
 use Rattle.std.proofs.Math.Nat.{pow-suc, div-div-eq-div-mul}

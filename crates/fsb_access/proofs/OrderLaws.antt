@@ -1,4 +1,6 @@
-use Rattle.std.proofs.Common.{◌≡◌, ◌≢◌, ℕ, zero, suc, ◌+◌, ◌<◌, ◌≤◌, Bool, true, false, not, ◌&&◌, ◌||◌, List, [], ◌∷◌, ◌++◌, Some, map, length, take, refl, sym, ◌∙◌, ap, ⊎_elim, arith, add-zero, zero-add, append_assoc, append-nil}
+-- How the order of a log goes on by the entries of an agent's next item.
+use Rattle.std.proofs.Common.{◌≡◌, ◌≢◌, ℕ, zero, suc, ◌+◌, ◌<◌, ◌≤◌, Bool, true, false, not, ◌&&◌, List, [], ◌∷◌, ◌++◌, Some, map, length, take, refl, sym, ◌∙◌, ap, ⊎_elim, arith, add-zero, zero-add, append_assoc, append-nil}
+use Rattle.std.proofs.Math.Bool.{or-false}
 use Rattle.std.proofs.lemmas.Bool.{and_from, and_parts, cases_Bool, cases_eq, eq-eqb, eqb-true, lt-ltb, ltb-true, ne_eqb, or_parts}
 use Rattle.std.proofs.lemmas.List.{length-take, map-append}
 use Rattle.std.proofs.lemmas.List.Elements.{filter-append}
@@ -90,9 +92,6 @@ comes_again-absent done (other ∷ log) absent =
     let parts = or_parts (is_same_item done other) (list_any (is_same_item done) log) absent in
     rw parts.0 parts.1
 
-or_false : (b : Bool) → (b || false) ≡ b
-or_false b = elim b as (λ v. (v || false) ≡ v) [ true ↦ refl | false ↦ refl ]
-
 -- entries of other items after a log change nothing for an item
 pub comes_again-append : (done : Done) (log more : List Done) → list_any (is_same_item done) more ≡ false → comes_again done (log ++ more) ≡ comes_again done log
 comes_again-append done [] more absent = comes_again-absent done more absent
@@ -103,7 +102,7 @@ comes_again-append done (other ∷ log) more absent =
     same rest is = rw is rest
 
     differs : is_same_item done other ≡ false → comes_again done (other ∷ log ++ more) ≡ comes_again done (other ∷ log)
-    differs is = rw is (list_any-append (is_same_item done) log more ∙ rw absent (or_false (list_any (is_same_item done) log)))
+    differs is = rw is (list_any-append (is_same_item done) log more ∙ rw absent (or-false (list_any (is_same_item done) log)))
 
 -- entries that are all of one item do not come again after another
 pub comes_again-one : (done : Done) (log : List Done) → list_all (is_same_item done) log ≡ true → comes_again done log ≡ false

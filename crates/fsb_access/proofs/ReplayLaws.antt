@@ -1,3 +1,4 @@
+-- How the replay of a log goes on by more entries.
 use Rattle.std.proofs.Common.{◌≡◌, ℕ, List, [], ◌∷◌, ◌++◌, map, refl, sym, ◌∙◌, ap}
 use Rattle.std.proofs.lemmas.List.{map-append}
 use Rattle.fsb_access.specs.Replay.{ReplayState, start_of, served_value, state_after, replay, replayed_values, Served}

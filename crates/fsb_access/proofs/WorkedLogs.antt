@@ -1,3 +1,4 @@
+-- Worked logs that replay and are in order, and logs with a fault that do not.
 use Rattle.std.proofs.Common.{◌≡◌, ℕ, zero, suc, false, List, [], ◌∷◌, map, take, refl, ap, arith}
 use Rattle.fsb_access.proofs.OrderLaws.{steps_of-nobody}
 use Rattle.fsb_access.specs.ByteMemory.{bytes_at, put_value}

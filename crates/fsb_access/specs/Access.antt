@@ -1,3 +1,4 @@
+-- Accesses: how many bytes, where, and which are lawful.
 use Rattle.std.specs.Prelude.{ℕ, ◌*◌, ◌/◌, ◌%◌, ◌^◌, Bool, ◌&&◌, ◌||◌, ◌==◌, nat_lt, IsTrue}
 use Rattle.fsb_access.specs.declared.access.Access.{Access}
 use Rattle.fsb_access.specs.declared.access.Access.TheVariants.{Load, Store}

@@ -1,3 +1,4 @@
+-- A byte memory, and the numbers that its bytes spell.
 use Rattle.std.specs.Prelude.{ℕ, zero, suc, ◌+◌, ◌-◌, ◌*◌, ◌/◌, ◌%◌, ◌^◌, ◌&&◌, ◌==◌, nat_lt, nat_le, if◌then◌else◌, List, [], ◌∷◌, fold, length, slice_index}
 use Rattle.fsb_access.specs.declared.access.Setting.{Setting}
 

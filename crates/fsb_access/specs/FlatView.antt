@@ -1,3 +1,4 @@
+-- A flat memory: the bytes in chunks of eight.
 use Rattle.std.specs.Prelude.{ℕ, ◌/◌, ◌%◌, List, unwrap_or, replicate, slice_index}
 use Rattle.std.specs.BTreeMap.{is_at}
 use Rattle.std.specs.Map.{lookup}

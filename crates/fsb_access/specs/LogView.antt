@@ -1,3 +1,4 @@
+-- A log.
 use Rattle.std.specs.Prelude.{ℕ, List}
 use Rattle.fsb_access.specs.declared.log.Done.{Done}
 

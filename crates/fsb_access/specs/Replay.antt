@@ -1,3 +1,4 @@
+-- The replay of a log on one byte memory.
 use Rattle.std.specs.Prelude.{◌≡◌, ℕ, ◌+◌, ◌*◌, ◌%◌, ◌^◌, ◌==◌, if◌then◌else◌, List, [], ◌∷◌, map}
 use Rattle.fsb_access.specs.ByteMemory.{ByteMemory, start_memory, value_at, put_value}
 use Rattle.fsb_access.specs.declared.access.Access.{Access}

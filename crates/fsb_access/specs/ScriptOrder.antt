@@ -1,3 +1,4 @@
+-- The order of a log: each agent's accesses as its script has them, and the entries of an item together.
 use Rattle.std.specs.Prelude.{◌≡◌, ℕ, ◌+◌, Bool, true, false, not, ◌&&◌, ◌==◌, IsTrue, if◌then◌else◌, List, [], ◌∷◌, ◌++◌, Some, map, filter, take, slice_get, unwrap_or}
 use Rattle.std.specs.List.{list_any, list_all}
 use Rattle.fsb_access.specs.declared.access.Access.{Access}

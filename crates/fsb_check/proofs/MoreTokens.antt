@@ -2,8 +2,8 @@
 use Rattle.std.proofs.Common.{◌≡◌, ◌≤◌, ◌+◌, ◌++◌, ◌∷◌, [], ℕ, List, true, length, is_some, refl, sym, ap, ◌∙◌, arith}
 use Rattle.std.proofs.lemmas.List.{append_assoc, append-nil, length-append}
 use Rattle.fsb_signal.specs.declared.sample.Sample.{Sample}
-use Rattle.vcd_grammar.proofs.Append.{tokens-append, blocks_some, ended-cons}
-use Rattle.vcd_grammar.specs.Tokens.{Token, tokens_from, tokens_so_far, tokens_of, ended_at, open_run}
+use Rattle.vcd_grammar.proofs.Append.{tokens-append, blocks_some, ended-cons, behind-append, events_in-append}
+use Rattle.vcd_grammar.specs.Tokens.{Token, tokens_from, tokens_so_far, open_run}
 use Rattle.vcd_grammar.specs.Blocks.{Block, Event, Later, Changed, blocks_from, blocks_of, ended}
 use Rattle.vcd_grammar.specs.Judging.{Known, nothing, Turn, turn, behind, events_in}
 use Rattle.vcd_grammar.specs.Values.{at_first, samples_in, values_behind, sample_of_block, Values}
@@ -19,16 +19,6 @@ pub tokens_so_far-append : (fed more : List ℕ) → (ts : List Token) × (token
 tokens_so_far-append fed more = (tokens_from (length fed) (open_run fed) more, tokens_so_far-grown fed more)
 
 -- ---- what is known behind appended tokens, and what happens in them
-
-behind-append : (k : Known) (ts us : List Token) → behind k (ts ++ us) ≡ behind (behind k ts) us
-behind-append k [] us = refl
-behind-append k (t ∷ ts) us = behind-append (turn k t).known ts us
-
-events_in-append : (k : Known) (ts us : List Token) → events_in k (ts ++ us) ≡ events_in k ts ++ events_in (behind k ts) us
-events_in-append k [] us = refl
-events_in-append k (t ∷ ts) us =
-    ap (λ es. (turn k t).events ++ es) (events_in-append (turn k t).known ts us)
-    ∙ sym (append_assoc (turn k t).events (events_in (turn k t).known ts) (events_in (behind (turn k t).known ts) us))
 
 -- behind a fault nothing is known or happens any more
 turn-refused : (k : Known) (t : Token) → is_some k.fault ≡ true → turn k t ≡ record { known = k; events = [] }

@@ -1,5 +1,5 @@
 //! The reading of a dump in pieces.
-ghost use Rattle.std.specs.Prelude.{◌≡◌, ◌≤◌, ◌<◌, ◌+◌, ◌^◌, ◌++◌, ◌⊎◌, ℕ, List, [], Err, IsTrue, IfOk, Some, length};
+ghost use Rattle.std.specs.Prelude.{◌≡◌, ◌≤◌, ◌<◌, ◌+◌, ◌^◌, ℕ, List, [], Err, IsTrue, IfOk, Some, length};
 ghost use Rattle.fsb_io.specs.Faults.{Rose};
 ghost use Rattle.fsb_check.specs.Judging.{Stood, HasTaken, IsStopOfReading};
 ghost use Rattle.fsb_check.specs.Found.{IsChecked, HasBegun};

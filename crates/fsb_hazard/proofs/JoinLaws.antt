@@ -1,5 +1,7 @@
 -- Choices join in any order and any number of times.
-use Rattle.std.proofs.Common.{◌≡◌, ℕ, max, Bool, true, false, ◌||◌, cond, List, [], ◌∷◌, ◌++◌, map, refl, sym, ap, ◌∙◌, arith}
+use Rattle.std.proofs.Common.{◌≡◌, ℕ, max, Bool, true, false, cond, List, [], ◌∷◌, ◌++◌, map, refl, sym, ap, ◌∙◌, arith}
+use Rattle.std.proofs.Math.Nat.{max-zero, max_comm}
+use Rattle.std.proofs.Math.Bool.{or-false, or_assoc, or_comm, or_self}
 use Rattle.std.specs.List.{fold, filter}
 use Rattle.fsb_hazard.specs.declared.choice.Choice.{Choice}
 use Rattle.fsb_hazard.specs.declared.choice.Turn.{Turn}
@@ -14,35 +16,11 @@ same_choice : (a b c d : Bool) (k l m n k' l' m' n' : ℕ) (s t : Turn) → a �
     let y : Choice = record { bnr = c; aerr = d; stall = k'; trdy = l'; resp = m'; gap = n'; turn = t } in x ≡ y)
 same_choice a b c d k l m n k' l' m' n' s t e1 e2 e3 e4 e5 e6 e7 = cc
 
-or_swap : (x y : Bool) → (x || y) ≡ (y || x)
-or_swap true true = refl
-or_swap true false = refl
-or_swap false true = refl
-or_swap false false = refl
-
-or_regroup : (x y z : Bool) → ((x || y) || z) ≡ (x || (y || z))
-or_regroup true y z = refl
-or_regroup false y z = refl
-
-or_once : (x : Bool) → (x || x) ≡ x
-or_once true = refl
-or_once false = refl
-
-or_nothing : (x : Bool) → (x || false) ≡ x
-or_nothing true = refl
-or_nothing false = refl
-
-max_swap : (m n : ℕ) → max m n ≡ max n m
-max_swap m n = omega arith
-
 max_regroup : (k m n : ℕ) → max (max k m) n ≡ max k (max m n)
 max_regroup k m n = omega arith
 
 max_once : (n : ℕ) → max n n ≡ n
 max_once n = omega arith
-
-max_nothing : (n : ℕ) → max n 0 ≡ n
-max_nothing n = omega arith
 
 turns_swap : (s t : Turn) → join_turns s t ≡ join_turns t s
 turns_swap Keep Keep = refl
@@ -53,7 +31,7 @@ turns_swap Retry Retry = refl
 turns_swap Retry (Defer n) = refl
 turns_swap (Defer m) Keep = refl
 turns_swap (Defer m) Retry = refl
-turns_swap (Defer m) (Defer n) = ap (λ k. Defer k) (max_swap m n)
+turns_swap (Defer m) (Defer n) = ap (λ k. Defer k) (max_comm m n)
 
 turns_regroup : (s t u : Turn) → join_turns (join_turns s t) u ≡ join_turns s (join_turns t u)
 turns_regroup Keep t u = refl
@@ -77,29 +55,29 @@ turns_nothing (Defer n) = refl
 pub join_commutes : (a b : Choice) → join a b ≡ join b a
 join_commutes a b =
     same_choice _ _ _ _ _ _ _ _ _ _ _ _ _ _
-    (or_swap a.bnr b.bnr) (or_swap a.aerr b.aerr)
-    (max_swap a.stall b.stall) (max_swap a.trdy b.trdy) (max_swap a.resp b.resp) (max_swap a.gap b.gap)
+    (or_comm a.bnr b.bnr) (or_comm a.aerr b.aerr)
+    (max_comm a.stall b.stall) (max_comm a.trdy b.trdy) (max_comm a.resp b.resp) (max_comm a.gap b.gap)
     (turns_swap a.turn b.turn)
 
 pub join_regroups : (a b c : Choice) → join (join a b) c ≡ join a (join b c)
 join_regroups a b c =
     same_choice _ _ _ _ _ _ _ _ _ _ _ _ _ _
-    (or_regroup a.bnr b.bnr c.bnr) (or_regroup a.aerr b.aerr c.aerr)
+    (or_assoc a.bnr b.bnr c.bnr) (or_assoc a.aerr b.aerr c.aerr)
     (max_regroup a.stall b.stall c.stall) (max_regroup a.trdy b.trdy c.trdy) (max_regroup a.resp b.resp c.resp) (max_regroup a.gap b.gap c.gap)
     (turns_regroup a.turn b.turn c.turn)
 
 pub join_once : (a : Choice) → join a a ≡ a
 join_once a =
     same_choice _ _ _ _ _ _ _ _ _ _ _ _ _ _
-    (or_once a.bnr) (or_once a.aerr)
+    (or_self a.bnr) (or_self a.aerr)
     (max_once a.stall) (max_once a.trdy) (max_once a.resp) (max_once a.gap)
     (turns_once a.turn)
 
 pub join_nothing : (a : Choice) → join a quiet_choice ≡ a
 join_nothing a =
     same_choice _ _ _ _ _ _ _ _ _ _ _ _ _ _
-    (or_nothing a.bnr) (or_nothing a.aerr)
-    (max_nothing a.stall) (max_nothing a.trdy) (max_nothing a.resp) (max_nothing a.gap)
+    (or-false a.bnr) (or-false a.aerr)
+    (max-zero a.stall) (max-zero a.trdy) (max-zero a.resp) (max-zero a.gap)
     (turns_nothing a.turn)
 
 fold_from : (a : Choice) (cs : List Choice) → fold join a cs ≡ join a (fold join quiet_choice cs)

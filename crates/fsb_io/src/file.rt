@@ -1,7 +1,6 @@
 //! Real files and standard output. They tell no content and no name: what a system call does is not
 //! known to a proof. This is the trusted edge.
 ghost use Rattle.std.specs.Prelude.{◌≡◌, ◌≤◌, ◌<◌, ℕ, [], None, false, length, IfOk};
-ghost use Rattle.fsb_io.specs.Faults.{HasCause};
 
 use crate::{Failed, Sink, Source};
 use std::fs::Files;

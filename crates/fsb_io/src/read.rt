@@ -1,5 +1,5 @@
 //! Reads a source to its end.
-ghost use Rattle.std.specs.Prelude.{◌≡◌, ◌≢◌, ◌≤◌, ◌<◌, ◌+◌, ◌++◌, [], Err, IsTrue, IfOk, OnOk, length, take, drop, vec_len};
+ghost use Rattle.std.specs.Prelude.{◌≡◌, ◌≢◌, ◌≤◌, ◌<◌, ◌+◌, ◌++◌, [], Err, IsTrue, IfOk, OnOk, length, drop, vec_len};
 ghost use Rattle.fsb_io.specs.declared.read.ReadStop.{ReadStop};
 ghost use Rattle.fsb_io.specs.Faults.{Rose};
 ghost use Rattle.fsb_io.specs.Takes.{TakesAtMost};

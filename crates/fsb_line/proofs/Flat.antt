@@ -1,3 +1,4 @@
+-- What the laws cite to take a line apart, and lines that are the same in each field.
 use Rattle.std.proofs.Common.{◌≡◌}
 use Rattle.fsb_line.specs.Line.{Line, SameFields}
 use Rattle.fsb_line.proofs.Theorem.{after-copy, run-now}

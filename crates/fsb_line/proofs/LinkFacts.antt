@@ -1,4 +1,6 @@
-use Rattle.std.proofs.Common.{◌≡◌, ◌==◌, ℕ, Bool, true, false, cond, not, ◌&&◌, ◌||◌, ◌⊎◌, inl, inr, Some, List, [], ◌∷◌, ◌++◌, refl, ap, subst, arith}
+-- What the questions to a chain answer when a link is put at its end.
+use Rattle.std.proofs.Common.{◌≡◌, ◌==◌, ℕ, Bool, true, false, cond, not, ◌&&◌, ◌||◌, ◌⊎◌, inl, inr, Some, List, [], ◌∷◌, ◌++◌, refl, sym, ap, subst, arith}
+use Rattle.std.proofs.Math.Bool.{or-true, or-false, or_assoc}
 use Rattle.std.proofs.lemmas.Bool.Decides.{nat_tests}
 use Rattle.fsb_line.specs.declared.link.Link.{Link}
 use Rattle.fsb_line.specs.Links.{IsChained, any_owns, any_won, giver_after, has_late_upgrade, has_won, is_linked, is_overtaken, is_won, newest, owns}
@@ -15,25 +17,17 @@ newest_cases [] = inl refl
 newest_cases (l ∷ []) = inr (l, refl)
 newest_cases (k ∷ m ∷ ls) = elim (newest_cases (m ∷ ls)) [ inl h ↦ absurd (cc) | inr h ↦ inr h ]
 
-or_assoc : (p q r : Bool) → (p || (q || r)) ≡ ((p || q) || r)
-or_assoc true q r = refl
-or_assoc false q r = refl
-
-or_swap : (p : Bool) → (p || false) ≡ (false || p)
-or_swap true = refl
-or_swap false = refl
-
 pub is_linked-end : (a : ℕ) (ls : List Link) (l : Link) → is_linked a (ls ++ l ∷ []) ≡ (is_linked a ls || (l.agent == a))
-is_linked-end a [] l = or_swap (l.agent == a)
-is_linked-end a (k ∷ ks) l = rw (is_linked-end a ks l) (or_assoc (k.agent == a) (is_linked a ks) (l.agent == a))
+is_linked-end a [] l = or-false (l.agent == a)
+is_linked-end a (k ∷ ks) l = rw (is_linked-end a ks l) (sym (or_assoc (k.agent == a) (is_linked a ks) (l.agent == a)))
 
 pub has_won-end : (a : ℕ) (ls : List Link) (l : Link) → has_won a (ls ++ l ∷ []) ≡ (has_won a ls || ((l.agent == a) && is_won l))
-has_won-end a [] l = or_swap ((l.agent == a) && is_won l)
-has_won-end a (k ∷ ks) l = rw (has_won-end a ks l) (or_assoc ((k.agent == a) && is_won k) (has_won a ks) ((l.agent == a) && is_won l))
+has_won-end a [] l = or-false ((l.agent == a) && is_won l)
+has_won-end a (k ∷ ks) l = rw (has_won-end a ks l) (sym (or_assoc ((k.agent == a) && is_won k) (has_won a ks) ((l.agent == a) && is_won l)))
 
 pub any_won-end : (ls : List Link) (l : Link) → any_won (ls ++ l ∷ []) ≡ (any_won ls || is_won l)
-any_won-end [] l = or_swap (is_won l)
-any_won-end (k ∷ ks) l = rw (any_won-end ks l) (or_assoc (is_won k) (any_won ks) (is_won l))
+any_won-end [] l = or-false (is_won l)
+any_won-end (k ∷ ks) l = rw (any_won-end ks l) (sym (or_assoc (is_won k) (any_won ks) (is_won l)))
 
 overtaken_one : (o e : Bool) → ((o && (not e && true)) || false) ≡ cond e false (o || false)
 overtaken_one true true = refl
@@ -77,11 +71,7 @@ has_late_upgrade-end (k ∷ ks) l =
 pub newest_is_linked : (ls : List Link) (l : Link) → newest ls ≡ Some l → is_linked l.agent ls ≡ true
 newest_is_linked [] l h = absurd (cc)
 newest_is_linked (k ∷ []) l h = let e : k ≡ l = cc in subst (λ m. is_linked m.agent (k ∷ []) ≡ true) e (grind (arith, nat_tests))
-newest_is_linked (k ∷ m ∷ ls) l h = let e = newest_is_linked (m ∷ ls) l h in rw e (or_true (k.agent == l.agent))
-  where
-    or_true : (p : Bool) → (p || true) ≡ true
-    or_true true = refl
-    or_true false = refl
+newest_is_linked (k ∷ m ∷ ls) l h = let e = newest_is_linked (m ∷ ls) l h in rw e (or-true (k.agent == l.agent))
 
 -- a newest link stays so behind an older one
 pub newest-tail : (l : Link) (ls : List Link) (k : Link) → newest ls ≡ Some k → newest (l ∷ ls) ≡ Some k

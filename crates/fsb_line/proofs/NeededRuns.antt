@@ -1,3 +1,4 @@
+-- Runs in which a condition of an event is needed: without it the event breaks a promise.
 use Rattle.std.proofs.Common.{true, false, [], ◌∷◌, ◌++◌, refl, arith}
 use Rattle.std.proofs.lemmas.Bool.Decides.{nat_tests}
 use Rattle.fsb_line.specs.Events.{May, after, arrived, effect, ended, given, linked, replied, responded, settled}

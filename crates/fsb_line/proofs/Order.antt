@@ -1,3 +1,4 @@
+-- The order of a line does not look at its bytes; a retry keeps it.
 use Rattle.std.proofs.Common.{◌≡◌, ℕ, true, arith}
 use Rattle.std.proofs.lemmas.Bool.Decides.{nat_tests}
 use Rattle.fsb_line.specs.Coherence.{IsPending, Ordered}

@@ -1,3 +1,4 @@
+-- A response and the end of the oldest link keep the order of a line.
 use Rattle.std.proofs.Common.{◌≡◌, ◌==◌, ℕ, Bool, true, false, ◌||◌, Some, List, [], ◌∷◌, sym, ◌∙◌, ap, subst}
 use Rattle.fsb_line.specs.Coherence.{Ordered}
 use Rattle.fsb_line.specs.Events.{arrived, responded}

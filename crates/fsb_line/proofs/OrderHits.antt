@@ -1,3 +1,4 @@
+-- A store, a drop, a begin and a cancellation keep the order of a line.
 use Rattle.std.proofs.Common.{◌≡◌, ℕ, true, false, inl, inr, None, [], ap, subst, arith}
 use Rattle.std.proofs.lemmas.Bool.Decides.{nat_tests}
 use Rattle.fsb_line.specs.Coherence.{Ordered}

@@ -1,4 +1,6 @@
+-- The outcomes of a snoop end, and a deferred reply, keep the order of a line.
 use Rattle.std.proofs.Common.{◌≡◌, ℕ, Bool, true, false, inl, inr, Option, Some, None, is_some, [], ◌∷◌, ◌++◌, sym, ap, subst, arith}
+use Rattle.std.proofs.lemmas.Bool.{false_from_ne_true, and_right}
 use Rattle.std.proofs.lemmas.Bool.Decides.{nat_tests}
 use Rattle.fsb_line.specs.Coherence.{IsPending, Ordered}
 use Rattle.fsb_line.specs.Events.{IsOldest, MayGrant, MayHand, MayLose, MayUpgrade, NobodyElseModified, effect, given, linked, replied, settled}
@@ -11,12 +13,12 @@ use Rattle.fsb_line.specs.declared.kind.Kind.TheVariants.{Upgrade, WriteBack}
 use Rattle.fsb_line.specs.declared.link.Link.{Link}
 use Rattle.fsb_line.proofs.LinkFacts.{IsChained-end, any_owns-unlinked, has_late_upgrade-end, is_linked-end, is_overtaken-end, newest-end, newest_is_linked}
 use Rattle.fsb_line.proofs.OrderHits.{sole_unlinked}
-use Rattle.fsb_line.proofs.StateFacts.{and_false, asker_not_sole, not_true, unheld_unmodified, gets_asks, gets_no_upgrade, gets_owns, granted_alone, granted_owns, granted_sole, modified_is_sole, modified_suits, same_agent, snoop_held, snoop_not_sole, snoop_suits, snoop_unheld, snoop_unowned, sole_is_held}
+use Rattle.fsb_line.proofs.StateFacts.{asker_not_sole, unheld_unmodified, gets_asks, gets_no_upgrade, gets_owns, granted_alone, granted_owns, granted_sole, modified_is_sole, modified_suits, same_agent, snoop_held, snoop_not_sole, snoop_suits, snoop_unheld, snoop_unowned, sole_is_held}
 
 -- where nobody else has the line Modified, the newest link owns nothing, for an agent that awaits no link
 pub newest_reads : (x : Line) (a : ℕ) (k : Link) → Ordered x → NobodyElseModified x a → is_linked a x.chain ≡ false → newest x.chain ≡ Some k → owns k ≡ false
 newest_reads x a k o clean u e =
-    not_true (owns k) (λ h.
+    false_from_ne_true (owns k) (λ h.
     let held = o.newest_owner k e h in
     let linked = newest_is_linked x.chain k e in
     elim (same_agent k.agent a) [
@@ -46,7 +48,7 @@ Ordered-IsGranted x a kind shared o m =
       newest_owner = λ k e h. grind (arith, nat_tests, granted_owns);
       chained = IsChained-end x.chain l o.chained (λ k e. sym (giver_after-reader k (newest_reads x a k o m.settles.clean u e)));
       holds_on = λ b h. rw is_overtaken-end (grind (arith, nat_tests, o.holds_on b, snoop_held, snoop_unowned));
-      no_late_upgrade = rw has_late_upgrade-end (grind (arith, o.no_late_upgrade, gets_no_upgrade, and_false));
+      no_late_upgrade = rw has_late_upgrade-end (grind (arith, o.no_late_upgrade, gets_no_upgrade, and_right));
     }
 
 pub Ordered-IsUpgraded : (x : Line) (a : ℕ) → Ordered x → MayUpgrade x a → Ordered (effect x (IsUpgraded a))
@@ -98,7 +100,7 @@ Ordered-IsHanded x a kind owner o m =
       newest_owner = λ k e h. grind (arith, nat_tests, granted_owns);
       chained = IsChained-end x.chain l o.chained (λ k e. giver_after-owner k owner (o.modified_owns owner k m.modified e) (o.sole_is_newest owner k sole e));
       holds_on = λ b h. rw is_overtaken-end (grind (arith, nat_tests, m.asks, o.holds_on b, snoop_held, snoop_unowned));
-      no_late_upgrade = rw has_late_upgrade-end (grind (arith, o.no_late_upgrade, and_false));
+      no_late_upgrade = rw has_late_upgrade-end (grind (arith, o.no_late_upgrade, and_right));
     }
   where
     giver_after-owner : (k : Link) (owner : ℕ) → owns k ≡ true → k.agent ≡ owner → Some owner ≡ giver_after k
@@ -125,7 +127,7 @@ Ordered-IsWritten x a o m =
       newest_owner = λ k e h. grind (arith, nat_tests);
       chained = IsChained-end x.chain l o.chained (λ k e. absurd (cc));
       holds_on = λ b h. grind (arith, nat_tests, o.alone a sole b);
-      no_late_upgrade = rw has_late_upgrade-end (grind (arith, o.no_late_upgrade, and_false));
+      no_late_upgrade = rw has_late_upgrade-end (grind (arith, o.no_late_upgrade, and_right));
     }
 
 pub Ordered-IsLost : (x : Line) (a : ℕ) → Ordered x → MayLose x a → Ordered (effect x (IsLost a))
@@ -192,7 +194,7 @@ Ordered-IsReplied x (Some d) e h o =
     let gets : gets_line d.kind ≡ true = p.gets in
     let l : Link = record { agent = d.agent; kind = d.kind; giver = None } in
     let end : newest (x.chain ++ l ∷ []) ≡ Some l = newest-end x.chain l in
-    let clean : NobodyElseModified x d.agent = λ b n. not_true (is_modified (x.state b)) (λ g. let f = p.nobody_sole b in let g = modified_is_sole (x.state b) g in cc) in
+    let clean : NobodyElseModified x d.agent = λ b n. false_from_ne_true (is_modified (x.state b)) (λ g. let f = p.nobody_sole b in let g = modified_is_sole (x.state b) g in cc) in
     record {
       alone = λ b h c n. grind (arith, nat_tests, p.nobody_sole b, p.unshared, p.unseen, granted_sole, gets_owns);
       suited = λ b k e. grind (arith, nat_tests, o.suited b k);
@@ -203,6 +205,6 @@ Ordered-IsReplied x (Some d) e h o =
       modified_owns = λ b k h e. grind (arith, nat_tests, p.nobody_sole b, modified_is_sole, granted_owns);
       newest_owner = λ k e h. grind (arith, nat_tests, granted_owns);
       chained = IsChained-end x.chain l o.chained (λ k e. sym (giver_after-reader k (newest_reads x d.agent k o clean p.no_link e)));
-      holds_on = λ b h. rw is_overtaken-end (grind (arith, nat_tests, o.holds_on b, p.unshared, gets_owns, not_true));
-      no_late_upgrade = rw has_late_upgrade-end (grind (arith, o.no_late_upgrade, gets_no_upgrade, and_false));
+      holds_on = λ b h. rw is_overtaken-end (grind (arith, nat_tests, o.holds_on b, p.unshared, gets_owns, false_from_ne_true));
+      no_late_upgrade = rw has_late_upgrade-end (grind (arith, o.no_late_upgrade, gets_no_upgrade, and_right));
     }

@@ -1,4 +1,7 @@
-use Rattle.std.proofs.Common.{◌≡◌, ℕ, Bool, true, false, not, ◌&&◌, ◌||◌, Option, Some, None, List, [], ◌∷◌, refl, ◌∙◌, arith}
+-- The state of an agent is told by its grants and losses in the past.
+use Rattle.std.proofs.Common.{◌≡◌, ℕ, Bool, true, false, not, ◌&&◌, ◌||◌, Option, Some, None, List, [], ◌∷◌, refl, sym, ◌∙◌, arith}
+use Rattle.std.proofs.Math.Bool.{and-true}
+use Rattle.std.proofs.lemmas.Bool.{false_from_ne_true}
 use Rattle.std.proofs.lemmas.Bool.Decides.{nat_tests}
 use Rattle.fsb_line.specs.Coherence.{IsPending, Ordered}
 use Rattle.fsb_line.specs.Events.{Event, May, after, arrived, effect, ended, given, linked, replied, responded, settled}
@@ -12,7 +15,7 @@ use Rattle.fsb_line.specs.declared.kind.Kind.TheVariants.{Own, Read, Upgrade, Wr
 use Rattle.fsb_line.specs.declared.link.Link.{Link}
 use Rattle.fsb_line.specs.declared.state.Mesi.{Mesi}
 use Rattle.fsb_line.specs.declared.state.Mesi.TheVariants.{Exclusive, Invalid, Modified, Shared}
-use Rattle.fsb_line.proofs.StateFacts.{asker_not_sole, gets_asks, granted_owns, modified_is_sole, not_true, snoop_not_sole, sole_is_held, unheld_unmodified}
+use Rattle.fsb_line.proofs.StateFacts.{asker_not_sole, gets_asks, granted_owns, modified_is_sole, snoop_not_sole, sole_is_held, unheld_unmodified}
 use Rattle.fsb_line.proofs.Theorem.{ordered_after, ordered_unheld}
 
 -- a test that is gained and lost event by event is gained and kept over a run
@@ -20,11 +23,7 @@ kept_run : (p : Line → Bool) (gain loss : Line → Event → Bool)
     → ((x : Line) (e : Event) → Ordered x → May x e → p (after x e) ≡ (gain x e || (p x && not (loss x e))))
     → (x : Line) (es : List Event) → Ordered x → MayRun x es
     → p (run x es) ≡ (gained_and_kept gain loss x es || (p x && not (any_event loss x es)))
-kept_run p gain loss step x [] o m = none (p x)
-  where
-    none : (b : Bool) → b ≡ (false || (b && not false))
-    none true = refl
-    none false = refl
+kept_run p gain loss step x [] o m = sym (and-true (p x))
 kept_run p gain loss step x (e ∷ es) o m =
     kept_run p gain loss step (after x e) es (ordered_after x e o m.0) m.1
     ∙ rw (step x e o m.0) (more (gained_and_kept gain loss (after x e) es) (gain x e) (p x) (loss x e) (any_event loss (after x e) es))
@@ -64,15 +63,11 @@ granted_held Own shared h = refl
 granted_held Upgrade shared h = refl
 granted_held WriteBack shared h = absurd (cc)
 
-and_true : (b : Bool) → b ≡ (false || (b && not false))
-and_true true = refl
-and_true false = refl
-
 unheld_not_sole : (s : Mesi) → is_held s ≡ false → is_sole s ≡ false
-unheld_not_sole s h = not_true (is_sole s) (λ g. let f = sole_is_held s g in cc)
+unheld_not_sole s h = false_from_ne_true (is_sole s) (λ g. let f = sole_is_held s g in cc)
 
 not_sole_unmodified : (s : Mesi) → is_sole s ≡ false → is_modified s ≡ false
-not_sole_unmodified s h = not_true (is_modified s) (λ g. let f = modified_is_sole s g in cc)
+not_sole_unmodified s h = false_from_ne_true (is_modified s) (λ g. let f = modified_is_sole s g in cc)
 
 granted_sole_is : (k : Kind) (shared : Bool) → asks_line k ≡ true → is_sole (granted k shared) ≡ (kind_owns k || not shared)
 granted_sole_is Read true h = refl
@@ -97,32 +92,32 @@ after-state x e = refl
 
 replied_held : (a : ℕ) (x : Line) (od : Option Deferral) → x.deferral ≡ od → Ordered x → is_held ((replied x od).state a) ≡ (replies_to od a || (is_held (x.state a) && not false))
 unfolding replied settled linked
-replied_held a x None e o = and_true (is_held (x.state a))
+replied_held a x None e o = sym (and-true (is_held (x.state a)))
 replied_held a x (Some d) e o =
     let p : IsPending x d = o.pending d e in
     grind (arith, nat_tests, granted_held d.kind d.shared (gets_asks d.kind p.gets))
 
 replied_sole : (a : ℕ) (x : Line) (od : Option Deferral) → x.deferral ≡ od → Ordered x → is_sole ((replied x od).state a) ≡ (replies_alone_to od a || (is_sole (x.state a) && not false))
 unfolding replied settled linked
-replied_sole a x None e o = and_true (is_sole (x.state a))
+replied_sole a x None e o = sym (and-true (is_sole (x.state a)))
 replied_sole a x (Some d) e o =
     let p : IsPending x d = o.pending d e in
     grind (arith, nat_tests, granted_sole_is d.kind d.shared (gets_asks d.kind p.gets), p.nobody_sole a)
 
 replied_modified : (a : ℕ) (x : Line) (od : Option Deferral) → x.deferral ≡ od → Ordered x → is_modified ((replied x od).state a) ≡ (replies_owned_to od a || (is_modified (x.state a) && not false))
 unfolding replied settled linked
-replied_modified a x None e o = and_true (is_modified (x.state a))
+replied_modified a x None e o = sym (and-true (is_modified (x.state a)))
 replied_modified a x (Some d) e o =
     let p : IsPending x d = o.pending d e in
     grind (arith, nat_tests, granted_owns d.kind d.shared, not_sole_unmodified (x.state a) (p.nobody_sole a))
 
 held_step : (a : ℕ) (x : Line) (e : Event) → Ordered x → May x e → is_held ((effect x e).state a) ≡ (is_grant a x e || (is_held (x.state a) && not (is_loss a x e)))
 unfolding May effect is_grant is_loss settled linked given put
-held_step a x (Loads b) o m = and_true (is_held (x.state a))
+held_step a x (Loads b) o m = sym (and-true (is_held (x.state a)))
 held_step a x (Stores b change) o m = grind (arith, nat_tests, m.0.held)
 held_step a x (Drops b) o m = grind (arith, nat_tests)
-held_step a x (Begins b kind number) o m = and_true (is_held (x.state a))
-held_step a x (IsCancelled b) o m = and_true (is_held (x.state a))
+held_step a x (Begins b kind number) o m = sym (and-true (is_held (x.state a)))
+held_step a x (IsCancelled b) o m = sym (and-true (is_held (x.state a)))
 held_step a x (IsWritten b) o m = grind (arith, nat_tests)
 held_step a x (IsHanded b kind owner) o m = grind (arith, nat_tests, snoop_keeps (x.state a) kind m.asks, granted_held kind true m.asks)
 held_step a x (IsGranted b kind shared) o m = grind (arith, nat_tests, snoop_keeps (x.state a) kind (gets_asks kind m.gets), granted_held kind shared (gets_asks kind m.gets))
@@ -131,16 +126,16 @@ held_step a x (IsLost b) o m = grind (arith, nat_tests, m.lost)
 held_step a x (IsRetried b kind) o m = grind (arith, nat_tests, snoop_keeps (x.state a) kind m.1)
 held_step a x (IsDeferred b kind shared) o m = grind (arith, nat_tests, snoop_keeps (x.state a) kind (gets_asks kind m.gets))
 held_step a x IsReplied o m = replied_held a x x.deferral refl o
-held_step a x Responds o m = rw (responded-state x x.chain) (and_true (is_held (x.state a)))
-held_step a x (Ends change) o m = rw (ended-state x x.chain change) (and_true (is_held (x.state a)))
+held_step a x Responds o m = rw (responded-state x x.chain) (sym (and-true (is_held (x.state a))))
+held_step a x (Ends change) o m = rw (ended-state x x.chain change) (sym (and-true (is_held (x.state a))))
 
 sole_step : (a : ℕ) (x : Line) (e : Event) → Ordered x → May x e → is_sole ((effect x e).state a) ≡ (is_grant_alone a x e || (is_sole (x.state a) && not (ends_alone a x e)))
 unfolding May effect is_grant_alone ends_alone settled linked given put
-sole_step a x (Loads b) o m = and_true (is_sole (x.state a))
+sole_step a x (Loads b) o m = sym (and-true (is_sole (x.state a)))
 sole_step a x (Stores b change) o m = grind (arith, nat_tests, m.1)
 sole_step a x (Drops b) o m = grind (arith, nat_tests)
-sole_step a x (Begins b kind number) o m = and_true (is_sole (x.state a))
-sole_step a x (IsCancelled b) o m = and_true (is_sole (x.state a))
+sole_step a x (Begins b kind number) o m = sym (and-true (is_sole (x.state a)))
+sole_step a x (IsCancelled b) o m = sym (and-true (is_sole (x.state a)))
 sole_step a x (IsWritten b) o m =
     let sole = modified_is_sole (x.state b) (o.suited b _ m.asked) in
     grind (arith, nat_tests, o.alone b sole a, unheld_not_sole)
@@ -156,16 +151,16 @@ sole_step a x (IsLost b) o m = grind (arith, nat_tests, m.lost, unheld_not_sole)
 sole_step a x (IsRetried b kind) o m = grind (arith, nat_tests, snoop_not_sole (x.state a) kind m.1)
 sole_step a x (IsDeferred b kind shared) o m = grind (arith, nat_tests, snoop_not_sole (x.state a) kind (gets_asks kind m.gets))
 sole_step a x IsReplied o m = replied_sole a x x.deferral refl o
-sole_step a x Responds o m = rw (responded-state x x.chain) (and_true (is_sole (x.state a)))
-sole_step a x (Ends change) o m = rw (ended-state x x.chain change) (and_true (is_sole (x.state a)))
+sole_step a x Responds o m = rw (responded-state x x.chain) (sym (and-true (is_sole (x.state a))))
+sole_step a x (Ends change) o m = rw (ended-state x x.chain change) (sym (and-true (is_sole (x.state a))))
 
 modified_step : (a : ℕ) (x : Line) (e : Event) → Ordered x → May x e → is_modified ((effect x e).state a) ≡ (is_dirtied a x e || (is_modified (x.state a) && not (ends_alone a x e)))
 unfolding May effect is_dirtied ends_alone settled linked given put
-modified_step a x (Loads b) o m = and_true (is_modified (x.state a))
+modified_step a x (Loads b) o m = sym (and-true (is_modified (x.state a)))
 modified_step a x (Stores b change) o m = grind (arith, nat_tests, m.1)
 modified_step a x (Drops b) o m = grind (arith, nat_tests)
-modified_step a x (Begins b kind number) o m = and_true (is_modified (x.state a))
-modified_step a x (IsCancelled b) o m = and_true (is_modified (x.state a))
+modified_step a x (Begins b kind number) o m = sym (and-true (is_modified (x.state a)))
+modified_step a x (IsCancelled b) o m = sym (and-true (is_modified (x.state a)))
 modified_step a x (IsWritten b) o m =
     let sole = modified_is_sole (x.state b) (o.suited b _ m.asked) in
     grind (arith, nat_tests, o.alone b sole a, unheld_unmodified)
@@ -187,8 +182,8 @@ modified_step a x (IsDeferred b kind shared) o m =
     let other = not_sole_unmodified _ (snoop_not_sole (x.state a) kind (gets_asks kind m.gets)) in
     grind (arith, nat_tests, other)
 modified_step a x IsReplied o m = replied_modified a x x.deferral refl o
-modified_step a x Responds o m = rw (responded-state x x.chain) (and_true (is_modified (x.state a)))
-modified_step a x (Ends change) o m = rw (ended-state x x.chain change) (and_true (is_modified (x.state a)))
+modified_step a x Responds o m = rw (responded-state x x.chain) (sym (and-true (is_modified (x.state a))))
+modified_step a x (Ends change) o m = rw (ended-state x x.chain change) (sym (and-true (is_modified (x.state a))))
 
 -- a state is told by whether the line is held, alone and dirty
 state_by-tests : (s : Mesi) → s ≡ state_by (is_held s) (is_sole s) (is_modified s)

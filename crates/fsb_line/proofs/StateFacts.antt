@@ -1,20 +1,13 @@
-use Rattle.std.proofs.Common.{◌≡◌, ◌≢◌, ◌==◌, ℕ, Bool, true, false, cond, not, ◌&&◌, ◌⊎◌, inl, inr, refl, arith}
+-- What states, requests and snoops say of each other.
+use Rattle.std.proofs.Common.{◌≡◌, ◌≢◌, ◌==◌, ℕ, Bool, true, false, cond, not, ◌⊎◌, inl, inr, refl, arith}
+use Rattle.std.proofs.lemmas.Bool.{false_from_ne_true, not-true}
 use Rattle.std.proofs.lemmas.Bool.Decides.{nat_tests}
 use Rattle.fsb_line.specs.declared.kind.Kind.{Kind}
 use Rattle.fsb_line.specs.declared.kind.Kind.TheVariants.{Own, Read, Upgrade, WriteBack}
 use Rattle.fsb_line.specs.declared.state.Mesi.{Mesi}
 use Rattle.fsb_line.specs.declared.state.Mesi.TheVariants.{Exclusive, Invalid, Modified, Shared}
-use Rattle.fsb_line.specs.Line.{put}
 use Rattle.fsb_line.specs.Links.{is_upgrade}
 use Rattle.fsb_line.specs.States.{after_snoop, asks_line, gets_line, granted, is_held, is_modified, is_sole, kind_owns, suits}
-
-pub not_true : (b : Bool) → (b ≡ true → ⊥) → b ≡ false
-not_true true f = absurd (f refl)
-not_true false f = refl
-
-pub and_false : (b c : Bool) → c ≡ false → (b && c) ≡ false
-and_false true c h = h
-and_false false c h = refl
 
 -- two agents are the same or they aren't
 pub same_agent : (b a : ℕ) → (b ≡ a) ⊎ (b ≢ a)
@@ -40,7 +33,7 @@ sole_is_held Shared h = refl
 sole_is_held Invalid h = absurd (cc)
 
 pub unheld_unmodified : (s : Mesi) → is_held s ≡ false → is_modified s ≡ false
-unheld_unmodified s h = not_true (is_modified s) (λ g. let f = sole_is_held s (modified_is_sole s g) in cc)
+unheld_unmodified s h = false_from_ne_true (is_modified s) (λ g. let f = sole_is_held s (modified_is_sole s g) in cc)
 
 -- a snoop gives nobody the line
 pub snoop_unheld : (s : Mesi) (k : Kind) → is_held s ≡ false → is_held (after_snoop s k) ≡ false
@@ -129,16 +122,8 @@ dropped_suits WriteBack s h m = absurd (cc)
 
 -- who asks for a line has it not sole
 pub asker_not_sole : (k : Kind) (s : Mesi) → asks_line k ≡ true → suits k s ≡ true → is_sole s ≡ false
-asker_not_sole Own s h m = not_true (is_sole s) m
-  where
-    not_true : (b : Bool) → not b ≡ true → b ≡ false
-    not_true true h = absurd (cc)
-    not_true false h = refl
-asker_not_sole Upgrade s h m = not_true (is_sole s) m
-  where
-    not_true : (b : Bool) → not b ≡ true → b ≡ false
-    not_true true h = absurd (cc)
-    not_true false h = refl
+asker_not_sole Own s h m = not-true (is_sole s) m
+asker_not_sole Upgrade s h m = not-true (is_sole s) m
 asker_not_sole Read Invalid h m = refl
 asker_not_sole Read Shared h m = refl
 asker_not_sole Read Exclusive h m = absurd (cc)

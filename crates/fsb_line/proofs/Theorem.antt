@@ -1,3 +1,4 @@
+-- Every event that may happen keeps the order and the bytes of a line, and meets what it owes.
 use Rattle.std.proofs.Common.{◌≡◌, ℕ, Bool, true, false, cond, Option, Some, None, is_some, List, [], ◌∷◌, refl, ◌∙◌, ap, unwrap_or}
 use Rattle.fsb_line.specs.Coherence.{EndsOldest, IsCoherent, MovesNow, Ordered, Owes, Valued}
 use Rattle.fsb_line.specs.Events.{AwaitsResponse, Event, HasArrived, IsDecidedEnd, May, after, arrived, effect, ended, given, linked, replied, responded, settled, stored, stored_at_end}

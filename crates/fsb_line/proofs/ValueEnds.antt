@@ -1,4 +1,6 @@
+-- A response and the end of the oldest link keep the bytes of a line.
 use Rattle.std.proofs.Common.{◌≡◌, ◌≢◌, ◌==◌, ℕ, Bool, true, false, cond, not, ◌&&◌, ◌||◌, inl, inr, Some, None, List, [], ◌∷◌, refl, sym, ◌∙◌, ap, subst, arith}
+use Rattle.std.proofs.lemmas.Bool.{false_from_ne_true}
 use Rattle.std.proofs.lemmas.Bool.Decides.{nat_tests}
 use Rattle.fsb_line.specs.Coherence.{Ordered, Valued}
 use Rattle.fsb_line.specs.Events.{arrived, changed, responded}
@@ -7,7 +9,7 @@ use Rattle.fsb_line.specs.Links.{IsChained, giver_after, has_late_upgrade, any_w
 use Rattle.fsb_line.specs.States.{is_held, is_modified}
 use Rattle.fsb_line.specs.declared.link.Link.{Link}
 use Rattle.fsb_line.proofs.LinkFacts.{won_is_any}
-use Rattle.fsb_line.proofs.StateFacts.{cond-other, cond-same, not_true, same_agent}
+use Rattle.fsb_line.proofs.StateFacts.{cond-other, cond-same, same_agent}
 
 pub Valued-Responds : (x : Line) (ls : List Link) → x.chain ≡ ls → Valued x → Valued (responded x ls)
 unfolding responded
@@ -64,7 +66,7 @@ others_copies x l ls a change e o v n h =
 
 -- where the oldest link owns, no other agent has bytes
 pub no_copies : (x : Line) (l : Link) (ls : List Link) (a : ℕ) → x.chain ≡ l ∷ ls → Ordered x → owns l ≡ true → a ≢ l.agent → has_copy x a ≡ false
-no_copies x l ls a e o w n = not_true (has_copy x a) (λ h. let reads = no_copies_behind x l ls a e o n (sym (has_copy-rest x l ls a e n) ∙ h) in cc)
+no_copies x l ls a e o w n = false_from_ne_true (has_copy x a) (λ h. let reads = no_copies_behind x l ls a e o n (sym (has_copy-rest x l ls a e n) ∙ h) in cc)
 
 -- the memory has the line's bytes after the end of a link that owns nothing
 memory_after : (x : Line) (l : Link) (ls : List Link) (bytes : Bytes) → x.chain ≡ l ∷ ls → bytes ≡ x.now → Valued x → cond (takes l) bytes x.memory ≡ x.now
@@ -76,7 +78,7 @@ memory_after x l ls bytes e b v = one (takes l) refl
 
 -- the last link to end owns nothing where nobody has the line Modified
 last_reads : (x : Line) (l : Link) → x.chain ≡ l ∷ [] → Ordered x → ((a : ℕ) → is_modified (x.state a) ≡ false) → owns l ≡ false
-last_reads x l e o g = not_true (owns l) (λ h. let held = o.newest_owner l (ap newest e) h in let q = g l.agent in cc)
+last_reads x l e o g = false_from_ne_true (owns l) (λ h. let held = o.newest_owner l (ap newest e) h in let q = g l.agent in cc)
 
 -- the next link gets the line's bytes: from the agent of the one that ended where that owns, else from the memory
 next_source : (x : Line) (l k : Link) (ks : List Link) (change : Bytes → Bytes) (bytes : Bytes) → x.chain ≡ l ∷ k ∷ ks → bytes ≡ x.now → Ordered x → Valued x → source (arrived x l (k ∷ ks) change bytes) k ≡ Some (changed l change x.now)

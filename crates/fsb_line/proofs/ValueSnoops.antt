@@ -1,4 +1,6 @@
+-- The outcomes of a snoop end that make links, and a deferred reply, keep the bytes of a line.
 use Rattle.std.proofs.Common.{◌≡◌, ℕ, Bool, true, false, inl, inr, Option, Some, None, is_some, List, [], ◌∷◌, ◌++◌, refl, ap, subst, arith}
+use Rattle.std.proofs.lemmas.Bool.{false_from_ne_true, and_right, true_from_ne_false}
 use Rattle.std.proofs.lemmas.Bool.Decides.{nat_tests}
 use Rattle.fsb_line.specs.Coherence.{IsPending, Ordered, Valued}
 use Rattle.fsb_line.specs.Events.{IsOldest, MayGrant, MayHand, MayUpgrade, effect, given, linked, replied, settled}
@@ -11,11 +13,11 @@ use Rattle.fsb_line.specs.declared.kind.Kind.TheVariants.{Upgrade, WriteBack}
 use Rattle.fsb_line.specs.declared.link.Link.{Link}
 use Rattle.fsb_line.proofs.LinkFacts.{end_not_empty, end_oldest, has_won-end, is_linked-end, won_is_linked}
 use Rattle.fsb_line.proofs.OrderHits.{sole_unlinked}
-use Rattle.fsb_line.proofs.StateFacts.{and_false, asker_not_sole, gets_asks, gets_no_upgrade, modified_is_sole, not_true, snoop_held, sole_is_held}
+use Rattle.fsb_line.proofs.StateFacts.{asker_not_sole, gets_asks, gets_no_upgrade, modified_is_sole, snoop_held, sole_is_held}
 use Rattle.fsb_line.proofs.Values.{ready_has_copy}
 
 not_sole_unmodified : (x : Line) (a : ℕ) → is_sole (x.state a) ≡ false → is_modified (x.state a) ≡ false
-not_sole_unmodified x a h = not_true (is_modified (x.state a)) (λ g. let f = modified_is_sole (x.state a) g in cc)
+not_sole_unmodified x a h = false_from_ne_true (is_modified (x.state a)) (λ g. let f = modified_is_sole (x.state a) g in cc)
 
 pub Valued-IsGranted : (x : Line) (a : ℕ) (kind : Kind) (shared : Bool) → Ordered x → Valued x → MayGrant x a kind shared → Valued (effect x (IsGranted a kind shared))
 unfolding effect settled linked
@@ -66,13 +68,9 @@ oldest_given x owner l k ks o v sole giver f =
           let g : k.giver ≡ Some owner = subst (λ m. m.giver ≡ Some owner) p.1 giver in
           rw (g, unlinked) (ap Some e)
       | inr p ↦
-          let awaits : is_linked owner x.chain ≡ true = not_false (is_linked owner x.chain) (λ u. let empty = sole_unlinked x owner o sole u in let q = p.1 in cc) in
+          let awaits : is_linked owner x.chain ≡ true = true_from_ne_false (is_linked owner x.chain) (λ u. let empty = sole_unlinked x owner o sole u in let q = p.1 in cc) in
           rw awaits (v.oldest k p.0 p.1)
     ]
-  where
-    not_false : (b : Bool) → (b ≡ false → ⊥) → b ≡ true
-    not_false true f = refl
-    not_false false f = absurd (f refl)
 
 pub Valued-IsHanded : (x : Line) (a : ℕ) (kind : Kind) (owner : ℕ) → Ordered x → Valued x → MayHand x a kind owner → Valued (effect x (IsHanded a kind owner))
 unfolding effect settled linked given
@@ -81,7 +79,7 @@ Valued-IsHanded x a kind owner o v m =
     let sole : is_sole (x.state owner) ≡ true = modified_is_sole _ m.modified in
     let l : Link = record { agent = a; kind = kind; giver = Some owner } in
     record {
-      copies = λ b h. v.copies b (let h = rw (has_won-end, is_linked-end) at h in grind (arith, nat_tests, snoop_held, and_false, won_is_linked));
+      copies = λ b h. v.copies b (let h = rw (has_won-end, is_linked-end) at h in grind (arith, nat_tests, snoop_held, and_right, won_is_linked));
       rests = λ f g. absurd (end_not_empty x.chain l f);
       oldest = λ k ks f. unfold given in oldest_given x owner l k ks o v sole refl f;
       carried = v.carried;
@@ -95,7 +93,7 @@ Valued-IsWritten x a o v m =
     let sole : is_sole (x.state a) ≡ true = modified_is_sole _ (o.suited a _ m.asked) in
     let l : Link = record { agent = a; kind = WriteBack; giver = Some a } in
     record {
-      copies = λ b h. v.copies b (let h = rw (has_won-end, is_linked-end) at h in grind (arith, nat_tests, snoop_held, and_false, won_is_linked));
+      copies = λ b h. v.copies b (let h = rw (has_won-end, is_linked-end) at h in grind (arith, nat_tests, snoop_held, and_right, won_is_linked));
       rests = λ f g. absurd (end_not_empty x.chain l f);
       oldest = λ k ks f. unfold given in oldest_given x a l k ks o v sole refl f;
       carried = v.carried;

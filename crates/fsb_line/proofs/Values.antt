@@ -1,4 +1,6 @@
-use Rattle.std.proofs.Common.{◌≡◌, ℕ, Bool, true, false, ◌||◌, [], refl, ap, arith}
+-- The events that make no link keep the bytes of a line.
+use Rattle.std.proofs.Common.{◌≡◌, ℕ, Bool, true, false, [], ap, arith}
+use Rattle.std.proofs.Math.Bool.{or-true}
 use Rattle.std.proofs.lemmas.Bool.Decides.{nat_tests}
 use Rattle.fsb_line.specs.Coherence.{Ordered, Valued}
 use Rattle.fsb_line.specs.Events.{IsReady, MayLose, MaySettle, MayGrant, effect, settled}
@@ -23,11 +25,7 @@ Valued-trimmed x v = record {
 
 -- a ready copy is a copy
 pub ready_has_copy : (x : Line) (a : ℕ) → is_held (x.state a) ≡ true → is_linked a x.chain ≡ false → has_copy x a ≡ true
-ready_has_copy x a h u = rw (h, u) (or_true (has_won a x.chain))
-  where
-    or_true : (p : Bool) → (p || true) ≡ true
-    or_true true = refl
-    or_true false = refl
+ready_has_copy x a h u = rw (h, u) (or-true (has_won a x.chain))
 
 pub Valued-Stores : (x : Line) (a : ℕ) (change : Bytes → Bytes) → Ordered x → Valued x → IsReady x a × (is_sole (x.state a) ≡ true) → Valued (effect x (Stores a change))
 unfolding effect put

@@ -1,3 +1,4 @@
+-- The worked runs may happen, and end as they should.
 use Rattle.std.proofs.Common.{◌≡◌, [], refl, length, arith}
 use Rattle.std.proofs.lemmas.Bool.Decides.{nat_tests}
 use Rattle.fsb_line.specs.Events.{May, after, arrived, effect, ended, given, linked, replied, responded, settled}

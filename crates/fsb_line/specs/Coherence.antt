@@ -1,3 +1,4 @@
+-- The order and the bytes of a line, and what each event owes.
 use Rattle.std.specs.Prelude.{◌≡◌, ◌≢◌, ◌<◌, ℕ, false, Some, None, IsTrue, IsFalse, List, [], ◌∷◌, ⊤}
 use Rattle.fsb_line.specs.declared.kind.Kind.TheVariants.{Own, WriteBack}
 use Rattle.fsb_line.specs.declared.link.Link.{Link}

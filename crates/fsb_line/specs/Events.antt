@@ -1,3 +1,4 @@
+-- What can happen to a line, when it may, and the line after it.
 use Rattle.std.specs.Prelude.{◌≡◌, ◌≢◌, ◌==◌, ◌<◌, ◌≤◌, ℕ, Bool, true, false, cond, Option, Some, None, is_some, IsTrue, IsFalse, List, [], ◌∷◌, ◌++◌, unwrap_or, ⊤}
 use Rattle.fsb_line.specs.declared.kind.Kind.{Kind}
 use Rattle.fsb_line.specs.declared.kind.Kind.TheVariants.{Upgrade, WriteBack}

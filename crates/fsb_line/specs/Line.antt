@@ -1,3 +1,4 @@
+-- One line of memory: its states, copies, requests and chain.
 use Rattle.std.specs.Prelude.{◌≡◌, ◌==◌, ℕ, Bool, cond, not, ◌&&◌, ◌||◌, Option, Some, None, List, []}
 use Rattle.fsb_line.specs.declared.kind.Kind.{Kind}
 use Rattle.fsb_line.specs.declared.link.Link.{Link}

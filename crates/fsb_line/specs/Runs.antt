@@ -1,3 +1,4 @@
+-- Lists of events.
 use Rattle.std.specs.Prelude.{List, [], ◌∷◌, ⊤}
 use Rattle.fsb_line.specs.Coherence.{Owes}
 use Rattle.fsb_line.specs.Events.{Event, May, after, stored}

@@ -1,3 +1,4 @@
+-- The states of an agent, the kinds of requests, and what a snoop end makes of a state.
 use Rattle.std.specs.Prelude.{not, Bool, true, false, cond, Option, Some, None}
 use Rattle.fsb_line.specs.declared.kind.Kind.{Kind}
 use Rattle.fsb_line.specs.declared.kind.Kind.TheVariants.{Own, Read, Upgrade, WriteBack}

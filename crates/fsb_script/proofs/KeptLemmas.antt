@@ -3,7 +3,7 @@ use Rattle.std.proofs.Common.{◌≡◌, ℕ, zero, suc, ◌<◌, ◌≤◌, Boo
 use Rattle.std.specs.Prelude.{◌&&◌, ◌||◌, nat_le, ◌==◌}
 use Rattle.std.specs.List.{list_all}
 use Rattle.std.proofs.lemmas.List.Folds.{list_all-append}
-use Rattle.std.proofs.lemmas.Bool.{le-leb, leb-true, ltb-true, eqb-true}
+use Rattle.std.proofs.lemmas.Bool.{le-leb, leb-true, ltb-true, eqb-true, and_from, and_parts}
 use Rattle.fsb_access.specs.declared.access.Access.{Access}
 use Rattle.fsb_access.specs.Access.{is_lawful_access}
 use Rattle.fsb_access.specs.declared.item.Item.{Item}
@@ -15,22 +15,9 @@ use Rattle.fsb_script.specs.declared.place.Place.TheVariants as places
 use Rattle.fsb_script.specs.Drafts.{place_behind}
 use Rattle.fsb_script.specs.Kept.{are_counts, is_fresh, has_all, has_lock_room}
 
-pub both : (a b : Bool) → a ≡ true → b ≡ true → (a && b) ≡ true
-both true true p q = refl
-both true false p q = absurd cc
-both false b p q = absurd cc
-
-pub first_of_both : (a b : Bool) → (a && b) ≡ true → a ≡ true
-first_of_both true b p = refl
-first_of_both false b p = absurd cc
-
-pub second_of_both : (a b : Bool) → (a && b) ≡ true → b ≡ true
-second_of_both true b p = p
-second_of_both false b p = absurd cc
-
 -- a test of each element, through a push
 pub all_push : {X : Type 0} (p : X → Bool) (xs : List X) (x : X) → list_all p xs ≡ true → p x ≡ true → list_all p (xs ++ x ∷ []) ≡ true
-all_push p xs x old new = list_all-append p xs (x ∷ []) ∙ both _ _ old (both _ _ new refl)
+all_push p xs x old new = list_all-append p xs (x ∷ []) ∙ and_from _ _ old (and_from _ _ new refl)
 
 -- a list that stays short, through a push
 pub short_push : {X : Type 0} (xs : List X) (x : X) → length xs < 4096 → nat_le (length (xs ++ x ∷ [])) 4096 ≡ true
@@ -38,7 +25,7 @@ short_push xs x room = le-leb _ _ (omega (arith, length-append xs (x ∷ [])))
 
 pub script_push : (cache : ℕ) (items : List Item) (item : Item) → IsTrue (is_lawful_script cache items) → length items < 4096 → IsTrue (is_lawful_item cache item) → IsTrue (is_lawful_script cache (items ++ item ∷ []))
 unfolding is_lawful_script
-script_push cache items item old room new = both _ _ (short_push items item room) (all_push (is_lawful_item cache) items item (second_of_both _ _ old) new)
+script_push cache items item old room new = and_from _ _ (short_push items item room) (all_push (is_lawful_item cache) items item (and_parts _ _ old).1 new)
 
 pub script_none : (cache : ℕ) (items : List Item) → length items ≡ 0 → IsTrue (is_lawful_script cache items)
 unfolding is_lawful_script
@@ -51,7 +38,7 @@ scripts_none cache (items ∷ scripts) none = absurd (omega arith)
 
 pub hazard_push : (lines : List HazardLine) (line : HazardLine) → IsTrue (are_lawful_hazards lines) → length lines < 4096 → IsTrue (is_lawful_hazard line) → IsTrue (are_lawful_hazards (lines ++ line ∷ []))
 unfolding are_lawful_hazards
-hazard_push lines line old room new = both _ _ (short_push lines line room) (all_push is_lawful_hazard lines line (second_of_both _ _ old) new)
+hazard_push lines line old room new = and_from _ _ (short_push lines line room) (all_push is_lawful_hazard lines line (and_parts _ _ old).1 new)
 
 -- ---- empty lists
 
@@ -77,7 +64,7 @@ or_right true b p q = absurd cc
 or_right false b p q = q
 
 cache_empty : (scripts : List (List Item)) (script : List Item) → ((length scripts == 0) && (length script == 0)) ≡ true → (length scripts ≡ 0) × (length script ≡ 0)
-cache_empty scripts script h = (eqb-true (length scripts) 0 (first_of_both (length scripts == 0) (length script == 0) h), eqb-true (length script) 0 (second_of_both (length scripts == 0) (length script == 0) h))
+cache_empty scripts script h = (eqb-true (length scripts) 0 (and_parts (length scripts == 0) (length script == 0) h).0, eqb-true (length script) 0 (and_parts (length scripts == 0) (length script == 0) h).1)
 
 -- no item stands before the number of cache lines
 pub cache_none : (place : Place) (scripts : List (List Item)) (script : List Item) → IsTrue (is_fresh place scripts script) → place ≡ places.Cache → (length scripts ≡ 0) × (length script ≡ 0)
@@ -152,20 +139,20 @@ pub record Counts (agents clocks ahead : ℕ) : Type 0 where
 
 pub counts_are : (agents clocks ahead : ℕ) → IsTrue (are_counts agents clocks ahead) → Counts agents clocks ahead
 counts_are agents clocks ahead h =
-    let agents_two : (nat_le 1 agents && nat_le agents 4) ≡ true = first_of_both (nat_le 1 agents && nat_le agents 4) (nat_le clocks 200000 && (nat_le 1 ahead && nat_le ahead 4)) h in
-    let others : (nat_le clocks 200000 && (nat_le 1 ahead && nat_le ahead 4)) ≡ true = second_of_both (nat_le 1 agents && nat_le agents 4) (nat_le clocks 200000 && (nat_le 1 ahead && nat_le ahead 4)) h in
-    let ahead_two : (nat_le 1 ahead && nat_le ahead 4) ≡ true = second_of_both (nat_le clocks 200000) (nat_le 1 ahead && nat_le ahead 4) others in
+    let agents_two : (nat_le 1 agents && nat_le agents 4) ≡ true = (and_parts (nat_le 1 agents && nat_le agents 4) (nat_le clocks 200000 && (nat_le 1 ahead && nat_le ahead 4)) h).0 in
+    let others : (nat_le clocks 200000 && (nat_le 1 ahead && nat_le ahead 4)) ≡ true = (and_parts (nat_le 1 agents && nat_le agents 4) (nat_le clocks 200000 && (nat_le 1 ahead && nat_le ahead 4)) h).1 in
+    let ahead_two : (nat_le 1 ahead && nat_le ahead 4) ≡ true = (and_parts (nat_le clocks 200000) (nat_le 1 ahead && nat_le ahead 4) others).1 in
     record {
-      some_agents = leb-true 1 agents (first_of_both (nat_le 1 agents) (nat_le agents 4) agents_two);
-      few_agents = leb-true agents 4 (second_of_both (nat_le 1 agents) (nat_le agents 4) agents_two);
-      few_clocks = leb-true clocks 200000 (first_of_both (nat_le clocks 200000) (nat_le 1 ahead && nat_le ahead 4) others);
-      some_ahead = leb-true 1 ahead (first_of_both (nat_le 1 ahead) (nat_le ahead 4) ahead_two);
-      few_ahead = leb-true ahead 4 (second_of_both (nat_le 1 ahead) (nat_le ahead 4) ahead_two);
+      some_agents = leb-true 1 agents (and_parts (nat_le 1 agents) (nat_le agents 4) agents_two).0;
+      few_agents = leb-true agents 4 (and_parts (nat_le 1 agents) (nat_le agents 4) agents_two).1;
+      few_clocks = leb-true clocks 200000 (and_parts (nat_le clocks 200000) (nat_le 1 ahead && nat_le ahead 4) others).0;
+      some_ahead = leb-true 1 ahead (and_parts (nat_le 1 ahead) (nat_le ahead 4) ahead_two).0;
+      few_ahead = leb-true ahead 4 (and_parts (nat_le 1 ahead) (nat_le ahead 4) ahead_two).1;
     }
 
 -- a locked item is lawful
 pub locked_lawful : (cache : ℕ) (group : List Access) → IsTrue (list_all is_lawful_access group) → is_lock_size group ≡ true → is_lock_apart cache group ≡ true → IsTrue (is_lawful_item cache (Locked group))
-locked_lawful cache group lawful few apart = both _ _ lawful (both _ _ few apart)
+locked_lawful cache group lawful few apart = and_from _ _ lawful (and_from _ _ few apart)
 
 pub not_empty : (n : ℕ) (test : Bool) → test ≡ (n == 0) → test ≡ false → 0 < n
 not_empty zero test is false_test = absurd cc

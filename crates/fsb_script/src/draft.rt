@@ -363,7 +363,7 @@ impl Draft {
         Ok(())
     }
 
-    #[tactic(auto, using(crate::proofs::KeptLemmas::script_push, crate::proofs::KeptLemmas::both), unfolding(crate::specs::Drafts::unlock_line, crate::specs::Words::ended, crate::specs::Kept::is_fresh, crate::specs::Kept::has_all, crate::specs::Kept::has_lock_room))]
+    #[tactic(auto, using(crate::proofs::KeptLemmas::script_push, std::proofs::lemmas::Bool::and_from), unfolding(crate::specs::Drafts::unlock_line, crate::specs::Words::ended, crate::specs::Kept::is_fresh, crate::specs::Kept::has_all, crate::specs::Kept::has_lock_room))]
     fn unlock_line(&mut self, alloc: Global, line: &[u8]) -> Result<(), LineStop>
         requires { self.old.place ≡ Place.Locked }
         ensures { LineGives (λ _. progress self.new) result (unlock_line (progress self.old) line.now) }

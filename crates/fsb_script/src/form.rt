@@ -1,5 +1,4 @@
 ghost use Rattle.std.specs.Prelude.{◌≡◌};
-ghost use Rattle.fsb_script.specs.Reading.{Reads};
 
 use fsb_hazard::HazardLine;
 

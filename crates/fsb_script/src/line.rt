@@ -1,7 +1,6 @@
-ghost use Rattle.std.specs.Prelude.{◌≡◌, ◌<◌, ◌≤◌, ◌+◌, ◌++◌, [], ◌∷◌, codes, length};
+ghost use Rattle.std.specs.Prelude.{◌≡◌, ◌<◌, ◌≤◌, ◌+◌, ◌++◌, codes, length};
 ghost use Rattle.std.specs.Fmt.{decimal};
 ghost use Rattle.arrayvec.specs.ArrayVec.{array_vec_len};
-ghost use Rattle.fsb_io.specs.NumberText.{hexadecimal};
 ghost use Rattle.fsb_script.specs.Text.{feed, space, head_text, window_text, digit_text, setting_text, operand_text, access_text, idle_text, agent_text, turn_text, hazard_text};
 
 use crate::plan::Window;

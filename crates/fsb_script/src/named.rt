@@ -14,8 +14,7 @@ pub(crate) struct Named {
 }
 
 impl Model for Named {
-    ghost use Rattle.std.specs.Prelude.{ℕ, ◌≡◌, ◌<◌, Option, None, vec_len, slice_index_or};
-    ghost use Rattle.fsb_script.specs.Named.{Lines, first_in};
+    ghost use Rattle.fsb_script.specs.Named.{Lines};
 
     ghost Value = { Lines };
 

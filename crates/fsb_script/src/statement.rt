@@ -1,4 +1,4 @@
-ghost use Rattle.std.specs.Prelude.{◌≡◌, ◌+◌, ◌<◌, ◌≤◌, ◌^◌, ◌*◌, ◌%◌, length, List, [], ◌∷◌, ◌++◌, IfOk, OnOk, IsTrue, codes};
+ghost use Rattle.std.specs.Prelude.{◌≡◌, ◌+◌, ◌≤◌, ◌^◌, ◌%◌, length, [], IfOk, IsTrue};
 ghost use Rattle.fsb_access.specs.Access.{is_size, is_place, fits, number_of, is_lawful_access};
 ghost use Rattle.fsb_script.specs.Reading.{Reads};
 ghost use Rattle.fsb_script.specs.Bounds.{is_lawful_window, is_lawful_hazard};

@@ -1,4 +1,4 @@
-ghost use Rattle.std.specs.Prelude.{◌≡◌, ◌+◌, ◌<◌, ◌≤◌, ◌^◌, length, take, drop, IfOk};
+ghost use Rattle.std.specs.Prelude.{◌≡◌, ◌<◌, ◌≤◌, ◌^◌, length, IfOk};
 ghost use Rattle.fsb_script.specs.Reading.{Reads};
 ghost use Rattle.fsb_script.specs.Words.{is_blank, skip_blanks, word_len, is_read_past, next_word, is_empty, decimal_from, decimal_of, hex_digit, hex_from, hex_of, decimal, hexadecimal, decimal_within, address};
 

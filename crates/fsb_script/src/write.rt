@@ -1,4 +1,4 @@
-ghost use Rattle.std.specs.Prelude.{◌≡◌, ◌<◌, ◌+◌, ◌^◌, ◌++◌, OnOk, IfOk, length};
+ghost use Rattle.std.specs.Prelude.{◌≡◌, ◌+◌, ◌++◌, OnOk, IfOk};
 ghost use Rattle.fsb_script.specs.Text.{settings_text, accesses_text, item_text, items_text, script_text, scripts_text, hazards_text, bridge_text, bench_text};
 ghost use Rattle.fsb_script.specs.View.{plan_view};
 

@@ -3,7 +3,7 @@ use Rattle.std.proofs.Common.{◌≡◌, ℕ, ◌*◌, ◌%◌, ◌^◌, ◌<◌
 use Rattle.std.specs.Prelude.{◌&&◌, codes, nat_lt, nat_le, slice_index}
 use Rattle.std.specs.List.{list_all}
 use Rattle.std.specs.Fmt.{decimal}
-use Rattle.std.proofs.lemmas.Bool.{le-leb, leb-true, leb-false, lt-ltb, ltb-true, ne_eqb}
+use Rattle.std.proofs.lemmas.Bool.{le-leb, leb-true, leb-false, lt-ltb, ltb-true, ne_eqb, and_parts}
 use Rattle.std.proofs.lemmas.List.{append-nil, append_assoc}
 use Rattle.std.proofs.Math.Nat.{pow-le-pow_right}
 use Rattle.fsb_io.specs.NumberText.{hexadecimal}
@@ -16,7 +16,7 @@ use Rattle.fsb_script.specs.Words.{ended, address}
 use Rattle.fsb_script.specs.Statements.{size_at, aligned_at, load_of, store_of, operand_of, literal_of, is_added}
 use Rattle.fsb_script.specs.Text.{access_text, operand_text}
 use Rattle.fsb_script_laws.proofs.Numbers.{is_figure, Figures, hex_figures, hex_back}
-use Rattle.fsb_script_laws.proofs.Split.{first_of_both, second_of_both, is_inner, Word, plain_inner, figures_word, decimal_next, hex_next, hex_last, hex_inner, next_behind, decimal_inner, inner_append}
+use Rattle.fsb_script_laws.proofs.Split.{is_inner, Word, plain_inner, figures_word, decimal_next, hex_next, hex_last, hex_inner, next_behind, decimal_inner, inner_append}
 
 above : (n : ℕ) → 8 < n → is_size n ≡ false
 above n h = rw (ne_eqb n 1 (λ e. omega arith), ne_eqb n 2 (λ e. omega arith), ne_eqb n 4 (λ e. omega arith), ne_eqb n 8 (λ e. omega arith)) refl
@@ -37,13 +37,13 @@ pub record Place (size addr : ℕ) : Type 0 where
 
 pub place_is : (size addr : ℕ) → is_place size addr ≡ true → Place size addr
 place_is size addr h =
-    let two : (is_size size && nat_lt addr (2 ^ 36)) ≡ true = first_of_both (is_size size && nat_lt addr (2 ^ 36)) (eqb (addr % size) 0) h in
-    let size_is : is_size size ≡ true = first_of_both (is_size size) (nat_lt addr (2 ^ 36)) two in
+    let two : (is_size size && nat_lt addr (2 ^ 36)) ≡ true = (and_parts (is_size size && nat_lt addr (2 ^ 36)) (eqb (addr % size) 0) h).0 in
+    let size_is : is_size size ≡ true = (and_parts (is_size size) (nat_lt addr (2 ^ 36)) two).0 in
     record {
       size_is = size_is;
       small = size_small size size_is;
-      below = ltb-true addr (2 ^ 36) (second_of_both (is_size size) (nat_lt addr (2 ^ 36)) two);
-      aligned = second_of_both (is_size size && nat_lt addr (2 ^ 36)) (eqb (addr % size) 0) h;
+      below = ltb-true addr (2 ^ 36) (and_parts (is_size size) (nat_lt addr (2 ^ 36)) two).1;
+      aligned = (and_parts (is_size size && nat_lt addr (2 ^ 36)) (eqb (addr % size) 0) h).1;
     }
 
 -- ---- where an access is
@@ -79,8 +79,8 @@ no_first false b = refl
 not_added : (word : List ℕ) → list_all is_figure word ≡ true → is_added word ≡ false
 not_added [] all = refl
 not_added (b ∷ bs) all =
-    let here : is_figure b ≡ true = first_of_both (is_figure b) (list_all is_figure bs) all in
-    let high : b ≤ 102 = leb-true b 102 (second_of_both (nat_le 48 b) (nat_le b 102) here) in
+    let here : is_figure b ≡ true = (and_parts (is_figure b) (list_all is_figure bs) all).0 in
+    let high : b ≤ 102 = leb-true b 102 (and_parts (nat_le 48 b) (nat_le b 102) here).1 in
     rw (ne_eqb b 114 (λ e. omega arith)) (no_first (nat_le 2 (length (b ∷ bs))) (eqb (slice_index (b ∷ bs) 1) 43))
 
 operand_back : (size : ℕ) (value : Operand) → size ≤ 8 → fits size (number_of value) ≡ true → operand_of size (operand_text value) ≡ Ok value
@@ -135,6 +135,6 @@ access_inner (Load size addr) lawful =
     let whole = place_inner size addr [] (place_is size addr lawful) refl in
     inner_append (codes "ld ") (load_words size addr) refl (rw append-nil at whole)
 access_inner (Store size addr value) lawful =
-    let at : Place size addr = place_is size addr (first_of_both (is_place size addr) (fits size (number_of value)) lawful) in
-    let fit : fits size (number_of value) ≡ true = second_of_both (is_place size addr) (fits size (number_of value)) lawful in
+    let at : Place size addr = place_is size addr (and_parts (is_place size addr) (fits size (number_of value)) lawful).0 in
+    let fit : fits size (number_of value) ≡ true = (and_parts (is_place size addr) (fits size (number_of value)) lawful).1 in
     inner_append (codes "st ") (store_words size addr value) refl (place_inner size addr (32 ∷ operand_text value) at (plain_inner (operand_text value) (operand_word size value at.small fit).plain))

@@ -3,7 +3,7 @@ use Rattle.std.proofs.Common.{◌≡◌, ℕ, ◌+◌, ◌%◌, ◌^◌, ◌<◌
 use Rattle.std.specs.Prelude.{◌&&◌, codes, nat_lt, nat_le, IsTrue}
 use Rattle.std.specs.List.{list_all}
 use Rattle.std.specs.Fmt.{decimal}
-use Rattle.std.proofs.lemmas.Bool.{le-leb, leb-true, lt-ltb, ltb-true}
+use Rattle.std.proofs.lemmas.Bool.{le-leb, leb-true, lt-ltb, ltb-true, and_from, and_parts}
 use Rattle.std.proofs.lemmas.List.{append-nil, append_assoc}
 use Rattle.fsb_io.specs.NumberText.{hexadecimal}
 use Rattle.fsb_access.specs.declared.access.Access.{Access}
@@ -22,7 +22,7 @@ use Rattle.fsb_script.specs.Statements.{keyword, memory_of, window_of, load_of, 
 use Rattle.fsb_script.specs.Text.{setting_text, window_text, access_text, idle_text, hazard_text}
 use Rattle.fsb_script_laws.specs.BuiltPlans.{is_byte_setting}
 use Rattle.fsb_script_laws.specs.LineTexts.{IsLineOf, is_of_request}
-use Rattle.fsb_script_laws.proofs.Split.{first_of_both, second_of_both, both, is_inner, decimal_next, decimal_last, decimal_inner, hex_next, hex_last, hex_inner, inner_append, first_line_is}
+use Rattle.fsb_script_laws.proofs.Split.{is_inner, decimal_next, decimal_last, decimal_inner, hex_next, hex_last, hex_inner, inner_append, first_line_is}
 use Rattle.fsb_script_laws.proofs.MemoryLines.{setting_words, memory_back, setting_line, setting_inner}
 use Rattle.fsb_script_laws.proofs.AccessLines.{place_is, load_back, store_back, access_line, access_line_is, access_inner}
 
@@ -31,7 +31,7 @@ one_line : (line text : List ℕ) → text ≡ line ++ (10 ∷ []) → list_all 
 one_line line text is inner = ap lines_of is ∙ first_line_is line [] inner
 
 within_both : (low high n : ℕ) → low ≤ n → n ≤ high → (nat_le low n && nat_le n high) ≡ true
-within_both low high n a b = both _ _ (le-leb low n a) (le-leb n high b)
+within_both low high n a b = and_from _ _ (le-leb low n a) (le-leb n high b)
 
 -- a number in its bounds, before more words or at the line's end
 within_next : (low high n : ℕ) (rest : List ℕ) → n < 10 ^ 18 → low ≤ n → n ≤ high → decimal_within low high (32 ∷ (decimal n ++ (32 ∷ rest))) ≡ Ok (n, 32 ∷ rest)
@@ -75,19 +75,19 @@ window_back base size below base_whole some size_whole last =
 pub window_line_back : (w : Window) → IsTrue (is_lawful_window w) → IsLineOf (codes "bridge") window_of (window_text w) w
 unfolding keyword next_word
 window_line_back w lawful =
-    let here : (nat_lt w.base (2 ^ 36) && eqb (w.base % 32) 0) ≡ true = first_of_both (nat_lt w.base (2 ^ 36) && eqb (w.base % 32) 0) ((nat_lt 0 w.size && eqb (w.size % 32) 0) && nat_le (w.base + w.size) (2 ^ 36)) lawful in
-    let there : ((nat_lt 0 w.size && eqb (w.size % 32) 0) && nat_le (w.base + w.size) (2 ^ 36)) ≡ true = second_of_both (nat_lt w.base (2 ^ 36) && eqb (w.base % 32) 0) ((nat_lt 0 w.size && eqb (w.size % 32) 0) && nat_le (w.base + w.size) (2 ^ 36)) lawful in
-    let size_is : (nat_lt 0 w.size && eqb (w.size % 32) 0) ≡ true = first_of_both (nat_lt 0 w.size && eqb (w.size % 32) 0) (nat_le (w.base + w.size) (2 ^ 36)) there in
-    let below : w.base < 2 ^ 36 = ltb-true w.base (2 ^ 36) (first_of_both (nat_lt w.base (2 ^ 36)) (eqb (w.base % 32) 0) here) in
-    let some : 0 < w.size = ltb-true 0 w.size (first_of_both (nat_lt 0 w.size) (eqb (w.size % 32) 0) size_is) in
-    let last : w.base + w.size ≤ 2 ^ 36 = leb-true (w.base + w.size) (2 ^ 36) (second_of_both (nat_lt 0 w.size && eqb (w.size % 32) 0) (nat_le (w.base + w.size) (2 ^ 36)) there) in
+    let here : (nat_lt w.base (2 ^ 36) && eqb (w.base % 32) 0) ≡ true = (and_parts (nat_lt w.base (2 ^ 36) && eqb (w.base % 32) 0) ((nat_lt 0 w.size && eqb (w.size % 32) 0) && nat_le (w.base + w.size) (2 ^ 36)) lawful).0 in
+    let there : ((nat_lt 0 w.size && eqb (w.size % 32) 0) && nat_le (w.base + w.size) (2 ^ 36)) ≡ true = (and_parts (nat_lt w.base (2 ^ 36) && eqb (w.base % 32) 0) ((nat_lt 0 w.size && eqb (w.size % 32) 0) && nat_le (w.base + w.size) (2 ^ 36)) lawful).1 in
+    let size_is : (nat_lt 0 w.size && eqb (w.size % 32) 0) ≡ true = (and_parts (nat_lt 0 w.size && eqb (w.size % 32) 0) (nat_le (w.base + w.size) (2 ^ 36)) there).0 in
+    let below : w.base < 2 ^ 36 = ltb-true w.base (2 ^ 36) (and_parts (nat_lt w.base (2 ^ 36)) (eqb (w.base % 32) 0) here).0 in
+    let some : 0 < w.size = ltb-true 0 w.size (and_parts (nat_lt 0 w.size) (eqb (w.size % 32) 0) size_is).0 in
+    let last : w.base + w.size ≤ 2 ^ 36 = leb-true (w.base + w.size) (2 ^ 36) (and_parts (nat_lt 0 w.size && eqb (w.size % 32) 0) (nat_le (w.base + w.size) (2 ^ 36)) there).1 in
     let wide : w.base < 16 ^ 16 = omega arith in
     let wide_size : w.size < 16 ^ 16 = omega arith in (
       codes "bridge " ++ window_words w.base w.size,
       (
         one_line (codes "bridge " ++ window_words w.base w.size) (window_text w) (window_line w.base w.size)
             (inner_append (codes "bridge ") (window_words w.base w.size) refl (inner_append (hexadecimal w.base) (32 ∷ hexadecimal w.size) (hex_inner w.base wide) (hex_inner w.size wide_size))),
-        window_back w.base w.size below (second_of_both (nat_lt w.base (2 ^ 36)) (eqb (w.base % 32) 0) here) some (second_of_both (nat_lt 0 w.size) (eqb (w.size % 32) 0) size_is) last,
+        window_back w.base w.size below (and_parts (nat_lt w.base (2 ^ 36)) (eqb (w.base % 32) 0) here).1 some (and_parts (nat_lt 0 w.size) (eqb (w.size % 32) 0) size_is).1 last,
       ),
     )
 
@@ -106,7 +106,7 @@ store_line_back size addr value lawful = (
   access_line (Store size addr value),
   (
     access_one_line (Store size addr value) lawful,
-    store_back size addr value (place_is size addr (first_of_both (is_place size addr) (fits size (number_of value)) lawful)) (second_of_both (is_place size addr) (fits size (number_of value)) lawful),
+    store_back size addr value (place_is size addr (and_parts (is_place size addr) (fits size (number_of value)) lawful).0) (and_parts (is_place size addr) (fits size (number_of value)) lawful).1,
   ),
 )
 
@@ -164,28 +164,28 @@ hazard_line_is (Aerr k) is = simp append_assoc
 hazard_line_is (Bnr from to) is = absurd cc
 
 request_small : (h : HazardLine) → is_lawful_hazard h ≡ true → is_of_request h ≡ true → request_of h ≤ 199999
-request_small (Stall k n) lawful is = leb-true k 199999 (first_of_both (nat_le k 199999) (nat_le 1 n && nat_le n 255) lawful)
-request_small (Trdy k n) lawful is = leb-true k 199999 (first_of_both (nat_le k 199999) (nat_le 1 n && nat_le n 255) lawful)
-request_small (Resp k n) lawful is = leb-true k 199999 (first_of_both (nat_le k 199999) (nat_le 1 n && nat_le n 255) lawful)
-request_small (Gap k n) lawful is = leb-true k 199999 (first_of_both (nat_le k 199999) (nat_le 1 n && nat_le n 255) lawful)
+request_small (Stall k n) lawful is = leb-true k 199999 (and_parts (nat_le k 199999) (nat_le 1 n && nat_le n 255) lawful).0
+request_small (Trdy k n) lawful is = leb-true k 199999 (and_parts (nat_le k 199999) (nat_le 1 n && nat_le n 255) lawful).0
+request_small (Resp k n) lawful is = leb-true k 199999 (and_parts (nat_le k 199999) (nat_le 1 n && nat_le n 255) lawful).0
+request_small (Gap k n) lawful is = leb-true k 199999 (and_parts (nat_le k 199999) (nat_le 1 n && nat_le n 255) lawful).0
 request_small (Retry k) lawful is = leb-true k 199999 lawful
-request_small (Defer k later) lawful is = leb-true k 199999 (first_of_both (nat_le k 199999) (nat_le later 65535) lawful)
+request_small (Defer k later) lawful is = leb-true k 199999 (and_parts (nat_le k 199999) (nat_le later 65535) lawful).0
 request_small (Aerr k) lawful is = leb-true k 199999 lawful
 request_small (Bnr from to) lawful is = absurd cc
 
 count_back : (k n : ℕ) → (nat_le k 199999 && (nat_le 1 n && nat_le n 255)) ≡ true → count_of (32 ∷ decimal n) ≡ Ok n
 unfolding count_of ended
 count_back k n lawful =
-    let two : (nat_le 1 n && nat_le n 255) ≡ true = second_of_both (nat_le k 199999) (nat_le 1 n && nat_le n 255) lawful in
-    let some : 1 ≤ n = leb-true 1 n (first_of_both (nat_le 1 n) (nat_le n 255) two) in
-    let few : n ≤ 255 = leb-true n 255 (second_of_both (nat_le 1 n) (nat_le n 255) two) in
+    let two : (nat_le 1 n && nat_le n 255) ≡ true = (and_parts (nat_le k 199999) (nat_le 1 n && nat_le n 255) lawful).1 in
+    let some : 1 ≤ n = leb-true 1 n (and_parts (nat_le 1 n) (nat_le n 255) two).0 in
+    let few : n ≤ 255 = leb-true n 255 (and_parts (nat_le 1 n) (nat_le n 255) two).1 in
     let small : n < 10 ^ 18 = omega arith in
     rw (within_last 1 255 n small some few) refl
 
 later_back : (k n : ℕ) → (nat_le k 199999 && nat_le n 65535) ≡ true → later_of (32 ∷ decimal n) ≡ Ok n
 unfolding later_of ended
 later_back k n lawful =
-    let few : n ≤ 65535 = leb-true n 65535 (second_of_both (nat_le k 199999) (nat_le n 65535) lawful) in
+    let few : n ≤ 65535 = leb-true n 65535 (and_parts (nat_le k 199999) (nat_le n 65535) lawful).1 in
     let small : n < 10 ^ 18 = omega arith in
     rw (within_last 0 65535 n small (omega arith) few) refl
 
@@ -213,8 +213,8 @@ transaction_back h lawful is =
 
 counted : (word : List ℕ) (k n : ℕ) → (nat_le k 199999 && (nat_le 1 n && nat_le n 255)) ≡ true → list_all is_inner word ≡ true → list_all is_inner (word ++ decimal n) ≡ true
 counted word k n lawful inner =
-    let two : (nat_le 1 n && nat_le n 255) ≡ true = second_of_both (nat_le k 199999) (nat_le 1 n && nat_le n 255) lawful in
-    let few : n ≤ 255 = leb-true n 255 (second_of_both (nat_le 1 n) (nat_le n 255) two) in
+    let two : (nat_le 1 n && nat_le n 255) ≡ true = (and_parts (nat_le k 199999) (nat_le 1 n && nat_le n 255) lawful).1 in
+    let few : n ≤ 255 = leb-true n 255 (and_parts (nat_le 1 n) (nat_le n 255) two).1 in
     let small : n < 10 ^ 18 = omega arith in
     inner_append word (decimal n) inner (decimal_inner n small)
 
@@ -225,7 +225,7 @@ turn_inner (Resp k n) lawful is = counted (codes "resp ") k n lawful refl
 turn_inner (Gap k n) lawful is = counted (codes "data ") k n lawful refl
 turn_inner (Retry k) lawful is = refl
 turn_inner (Defer k later) lawful is =
-    let few : later ≤ 65535 = leb-true later 65535 (second_of_both (nat_le k 199999) (nat_le later 65535) lawful) in
+    let few : later ≤ 65535 = leb-true later 65535 (and_parts (nat_le k 199999) (nat_le later 65535) lawful).1 in
     let small : later < 10 ^ 18 = omega arith in
     inner_append (codes "defer ") (decimal later) refl (decimal_inner later small)
 turn_inner (Aerr k) lawful is = refl
@@ -258,8 +258,8 @@ block_back from to order most =
 pub block_line_back : (from to : ℕ) → IsTrue (is_lawful_hazard (Bnr from to)) → IsLineOf (codes "bnr") block_of (hazard_text (Bnr from to)) (Bnr from to)
 unfolding keyword next_word
 block_line_back from to lawful =
-    let order : from ≤ to = leb-true from to (first_of_both (nat_le from to) (nat_le to 199999) lawful) in
-    let most : to ≤ 199999 = leb-true to 199999 (second_of_both (nat_le from to) (nat_le to 199999) lawful) in
+    let order : from ≤ to = leb-true from to (and_parts (nat_le from to) (nat_le to 199999) lawful).0 in
+    let most : to ≤ 199999 = leb-true to 199999 (and_parts (nat_le from to) (nat_le to 199999) lawful).1 in
     let small : from < 10 ^ 18 = omega arith in
     let small_to : to < 10 ^ 18 = omega arith in (
       codes "bnr " ++ (decimal from ++ (32 ∷ decimal to)),

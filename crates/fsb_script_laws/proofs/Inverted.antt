@@ -2,7 +2,7 @@
 use Rattle.std.proofs.Common.{◌≡◌, ℕ, ◌+◌, ◌-◌, ◌*◌, ◌%◌, ◌^◌, ◌<◌, ◌≤◌, Bool, true, false, cond, eqb, List, [], ◌∷◌, ◌++◌, length, Result, Ok, Err, ◌⊎◌, inl, inr, refl, sym, subst, ◌∙◌, arith, drop}
 use Rattle.std.specs.Prelude.{◌&&◌, nat_lt, nat_le}
 use Rattle.std.specs.List.{list_all}
-use Rattle.std.proofs.lemmas.Bool.{leb-true, lt-ltb}
+use Rattle.std.proofs.lemmas.Bool.{leb-true, lt-ltb, and_from, and_parts}
 use Rattle.std.proofs.lemmas.List.Folds.{list_all-append}
 use Rattle.fsb_access.specs.declared.access.Access.{Access}
 use Rattle.fsb_access.specs.declared.access.Access.TheVariants.{Load, Store}
@@ -18,7 +18,6 @@ use Rattle.fsb_script.specs.Words.{decimal as decimal_word, hexadecimal as hex_w
 use Rattle.fsb_script.specs.Statements.{size_at, aligned_at, load_of, store_of, literal_of, operand_of, is_added, bytes_from, bytes_of, memory_of, settings_at}
 use Rattle.fsb_script.specs.Drafts.{Progress}
 use Rattle.fsb_script_laws.specs.BuiltPlans.{is_byte_setting}
-use Rattle.fsb_script_laws.proofs.Split.{both, first_of_both, second_of_both}
 
 pub bind_ok : {A B E : Type 0} (r : Result A E) (f : A → Result B E) (y : B) → (r >>= f) ≡ Ok y → (x : A) × ((r ≡ Ok x) × (f x ≡ Ok y))
 bind_ok (Ok x) f y h = (x, (refl, h))
@@ -74,13 +73,13 @@ unfolding aligned_at
 aligned_is size line n h =
     let a = bind_ok (address line) _ n h in
     let b = require_ok (eqb (a.0.0 % size) 0) _ a.0 n a.1.1 in
-    subst (λ (m : ℕ × List ℕ). (nat_lt m.0 (2 ^ 36) && eqb (m.0 % size) 0) ≡ true) b.1 (both _ _ (address_is line a.0 a.1.0) b.0)
+    subst (λ (m : ℕ × List ℕ). (nat_lt m.0 (2 ^ 36) && eqb (m.0 % size) 0) ≡ true) b.1 (and_from _ _ (address_is line a.0 a.1.0) b.0)
 
 place_from : (size addr : ℕ) → is_size size ≡ true → (nat_lt addr (2 ^ 36) && eqb (addr % size) 0) ≡ true → is_place size addr ≡ true
 place_from size addr a b =
-    both (is_size size && nat_lt addr (2 ^ 36)) (eqb (addr % size) 0)
-    (both (is_size size) (nat_lt addr (2 ^ 36)) a (first_of_both (nat_lt addr (2 ^ 36)) (eqb (addr % size) 0) b))
-    (second_of_both (nat_lt addr (2 ^ 36)) (eqb (addr % size) 0) b)
+    and_from (is_size size && nat_lt addr (2 ^ 36)) (eqb (addr % size) 0)
+    (and_from (is_size size) (nat_lt addr (2 ^ 36)) a (and_parts (nat_lt addr (2 ^ 36)) (eqb (addr % size) 0) b).0)
+    (and_parts (nat_lt addr (2 ^ 36)) (eqb (addr % size) 0) b).1
 
 pub load_is : (line : List ℕ) (access : Access) → load_of line ≡ Ok access → is_lawful_access access ≡ true
 unfolding load_of
@@ -119,7 +118,7 @@ store_is line access h =
     let c = bind_ok (next_word b.0.1) _ access b.1.1 in
     let d = bind_ok (operand_of a.0.0 c.0.0) _ access c.1.1 in
     subst (λ (x : Access). is_lawful_access x ≡ true) (ended_is (Store a.0.0 b.0.0 d.0) access c.0.1 d.1.1)
-    (both (is_place a.0.0 b.0.0) (fits a.0.0 (number_of d.0))
+    (and_from (is_place a.0.0 b.0.0) (fits a.0.0 (number_of d.0))
     (place_from a.0.0 b.0.0 (size_is line a.0 a.1.0) (aligned_is a.0.0 a.0.1 b.0 b.1.0))
     (operand_is a.0.0 c.0.0 d.0 d.1.0))
 
@@ -132,15 +131,15 @@ digit_is b h e = by (nat_le 48 b && nat_le b 57) (nat_le 97 b && nat_le b 102) (
     by : (s t u : Bool) → (nat_le 48 b && nat_le b 57) ≡ s → (nat_le 97 b && nat_le b 102) ≡ t → (nat_le 65 b && nat_le b 70) ≡ u
         → cond s (Ok (b - 48)) (cond t (Ok (b - 87)) (cond u (Ok (b - 55)) (Err Number))) ≡ Ok h → h < 16
     by true t u p q r e =
-        let x : b ≤ 57 = leb-true b 57 (second_of_both (nat_le 48 b) (nat_le b 57) p) in
+        let x : b ≤ 57 = leb-true b 57 (and_parts (nat_le 48 b) (nat_le b 57) p).1 in
         let y : b - 48 ≡ h = cc in
         omega arith
     by false true u p q r e =
-        let x : b ≤ 102 = leb-true b 102 (second_of_both (nat_le 97 b) (nat_le b 102) q) in
+        let x : b ≤ 102 = leb-true b 102 (and_parts (nat_le 97 b) (nat_le b 102) q).1 in
         let y : b - 87 ≡ h = cc in
         omega arith
     by false false true p q r e =
-        let x : b ≤ 70 = leb-true b 70 (second_of_both (nat_le 65 b) (nat_le b 70) r) in
+        let x : b ≤ 70 = leb-true b 70 (and_parts (nat_le 65 b) (nat_le b 70) r).1 in
         let y : b - 55 ≡ h = cc in
         omega arith
     by false false false p q r e = absurd cc
@@ -157,7 +156,7 @@ bytes_are so_far (high ∷ (low ∷ digits)) bytes all h =
     let high_is : a.0 < 16 = digit_is high a.0 a.1.0 in
     let low_is : b.0 < 16 = digit_is low b.0 b.1.0 in
     let small : is_byte (a.0 * 16 + b.0) ≡ true = lt-ltb (a.0 * 16 + b.0) 256 (omega (arith, high_is, low_is)) in
-    bytes_are (so_far ++ (a.0 * 16 + b.0) ∷ []) digits bytes (list_all-append is_byte so_far ((a.0 * 16 + b.0) ∷ []) ∙ both (list_all is_byte so_far) (is_byte (a.0 * 16 + b.0) && true) all (both (is_byte (a.0 * 16 + b.0)) true small refl)) b.1.1
+    bytes_are (so_far ++ (a.0 * 16 + b.0) ∷ []) digits bytes (list_all-append is_byte so_far ((a.0 * 16 + b.0) ∷ []) ∙ and_from (list_all is_byte so_far) (is_byte (a.0 * 16 + b.0) && true) all (and_from (is_byte (a.0 * 16 + b.0)) true small refl)) b.1.1
 
 bytes_of_are : (word bytes : List ℕ) → bytes_of word ≡ Ok bytes → list_all is_byte bytes ≡ true
 unfolding bytes_of
@@ -187,7 +186,7 @@ memory_is line m h =
 pub settings_lawful : (addr : ℕ) (bytes : List ℕ) → addr + length bytes ≤ 2 ^ 36 → list_all is_byte bytes ≡ true → (list_all is_lawful_setting (settings_at addr bytes) ≡ true) × (list_all is_byte_setting (settings_at addr bytes) ≡ true)
 settings_lawful addr [] inside small = (refl, refl)
 settings_lawful addr (b ∷ bs) inside small =
-    let again = settings_lawful (addr + 1) bs (omega arith) (second_of_both (is_byte b) (list_all is_byte bs) small) in (
-      both (nat_lt addr (2 ^ 36)) (list_all is_lawful_setting (settings_at (addr + 1) bs)) (lt-ltb addr (2 ^ 36) (omega arith)) again.0,
-      both (is_byte b) (list_all is_byte_setting (settings_at (addr + 1) bs)) (first_of_both (is_byte b) (list_all is_byte bs) small) again.1,
+    let again = settings_lawful (addr + 1) bs (omega arith) (and_parts (is_byte b) (list_all is_byte bs) small).1 in (
+      and_from (nat_lt addr (2 ^ 36)) (list_all is_lawful_setting (settings_at (addr + 1) bs)) (lt-ltb addr (2 ^ 36) (omega arith)) again.0,
+      and_from (is_byte b) (list_all is_byte_setting (settings_at (addr + 1) bs)) (and_parts (is_byte b) (list_all is_byte bs) small).0 again.1,
     )

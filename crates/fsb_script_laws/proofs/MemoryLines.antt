@@ -3,7 +3,7 @@ use Rattle.std.proofs.Common.{◌≡◌, ℕ, ◌+◌, ◌/◌, ◌%◌, ◌^◌
 use Rattle.std.specs.Prelude.{codes}
 use Rattle.std.specs.List.{list_all}
 use Rattle.std.specs.Fmt.{decimal}
-use Rattle.std.proofs.lemmas.Bool.{le-leb, lt-ltb, ltb-true}
+use Rattle.std.proofs.lemmas.Bool.{le-leb, lt-ltb, ltb-true, and_parts}
 use Rattle.std.proofs.lemmas.List.{append-nil, append_assoc}
 use Rattle.fsb_io.specs.NumberText.{hexadecimal}
 use Rattle.fsb_access.specs.declared.access.Setting.{Setting}
@@ -18,7 +18,7 @@ use Rattle.fsb_script.specs.Drafts.{Progress, beginning, after_line, heading_of,
 use Rattle.fsb_script.specs.Text.{setting_text, settings_text, agent_text, digit_text}
 use Rattle.fsb_script_laws.specs.BuiltPlans.{is_byte_setting}
 use Rattle.fsb_script_laws.proofs.Numbers.{byte_back}
-use Rattle.fsb_script_laws.proofs.Split.{first_of_both, second_of_both, is_inner, plain_inner, hex_next, hex_inner, byte_word, next_behind, decimal_last, decimal_inner, inner_append, GoesOn, goes_on}
+use Rattle.fsb_script_laws.proofs.Split.{is_inner, plain_inner, hex_next, hex_inner, byte_word, next_behind, decimal_last, decimal_inner, inner_append, GoesOn, goes_on}
 use Rattle.fsb_script_laws.proofs.HeadLines.{behind, at_bridge, head_state}
 
 abbrev pub at_memory : Progress
@@ -71,9 +71,9 @@ pub settings_go_on : (settings : List Setting) (set : Bool) (clocks cache : ℕ)
     → GoesOn (head_state (before_script set) clocks cache mem) (settings_text settings ++ rest) p
 settings_go_on [] set clocks cache mem rest p lawful bytes then_ = subst (λ (m : List Setting). GoesOn (head_state (before_script set) clocks cache m) rest p) (append-nil mem) (then_ set)
 settings_go_on (s ∷ ss) set clocks cache mem rest p lawful bytes then_ =
-    let below : s.addr < 2 ^ 36 = ltb-true s.addr (2 ^ 36) (first_of_both (is_lawful_setting s) (list_all is_lawful_setting ss) lawful) in
-    let small : s.byte < 256 = ltb-true s.byte 256 (first_of_both (is_byte_setting s) (list_all is_byte_setting ss) bytes) in
-    let others = settings_go_on ss true clocks cache (mem ++ s ∷ []) rest p (second_of_both (is_lawful_setting s) (list_all is_lawful_setting ss) lawful) (second_of_both (is_byte_setting s) (list_all is_byte_setting ss) bytes)
+    let below : s.addr < 2 ^ 36 = ltb-true s.addr (2 ^ 36) (and_parts (is_lawful_setting s) (list_all is_lawful_setting ss) lawful).0 in
+    let small : s.byte < 256 = ltb-true s.byte 256 (and_parts (is_byte_setting s) (list_all is_byte_setting ss) bytes).0 in
+    let others = settings_go_on ss true clocks cache (mem ++ s ∷ []) rest p (and_parts (is_lawful_setting s) (list_all is_lawful_setting ss) lawful).1 (and_parts (is_byte_setting s) (list_all is_byte_setting ss) bytes).1
     (λ b. subst (λ (m : List Setting). GoesOn (head_state (before_script b) clocks cache m) rest p) (sym (append_assoc mem (s ∷ []) ss)) (then_ b)) in
     let here = goes_on (head_state (before_script set) clocks cache mem) (head_state at_memory clocks cache (mem ++ s ∷ [])) (codes "mem " ++ setting_words s.addr s.byte) (settings_text ss ++ rest) p (setting_inner s.addr s.byte below small) (setting_taken set clocks cache mem s.addr s.byte below small) others in
     subst (λ text. GoesOn (head_state (before_script set) clocks cache mem) text p) (sym (append_assoc (setting_text s) (settings_text ss) rest ∙ setting_line s.addr s.byte (settings_text ss ++ rest))) here

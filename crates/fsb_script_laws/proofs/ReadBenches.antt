@@ -1,5 +1,6 @@
 -- A plan that was read is built: from the script back to the first line.
 use Rattle.std.proofs.Common.{◌≡◌, ℕ, ◌+◌, Bool, true, false, cond, List, [], ◌∷◌, ◌++◌, Ok, Err, ◌⊎◌, inl, inr, refl, sym, subst, ◌∙◌, arith}
+use Rattle.std.proofs.lemmas.Bool.{and_from}
 use Rattle.std.specs.Prelude.{codes}
 use Rattle.std.specs.List.{list_all}
 use Rattle.std.specs.Str.{bytes_eq}
@@ -17,7 +18,6 @@ use Rattle.fsb_script.specs.Forms.{is_built, built}
 use Rattle.fsb_script.specs.Plans.{PlanView}
 use Rattle.fsb_script.specs.Drafts.{Progress, after_line, heading_of, first_line, agents_line, clocks_line, cache_line, ahead_line, choice_line, body_line, bridge_line, memory_line, mem_line, agent_line, item_line, load_item, store_item, idle_item, lock_item, end_line, end_of, plan_from}
 use Rattle.fsb_script_laws.specs.BuiltPlans.{is_byte_setting}
-use Rattle.fsb_script_laws.proofs.Split.{both}
 use Rattle.fsb_script_laws.proofs.HeadLines.{at_bridge, head_state}
 use Rattle.fsb_script_laws.proofs.MemoryLines.{at_memory, item_state, before_script}
 use Rattle.fsb_script_laws.proofs.Scripts.{plan_with}
@@ -142,8 +142,8 @@ memory_push : (mem : List Setting) (addr : ℕ) (bytes : List ℕ) → Lawful me
 memory_push mem addr bytes l m =
     let new = settings_lawful addr bytes m.inside m.small in
     record {
-      below = list_all-append is_lawful_setting mem (settings_at addr bytes) ∙ both (list_all is_lawful_setting mem) (list_all is_lawful_setting (settings_at addr bytes)) l.below new.0;
-      bytes = list_all-append is_byte_setting mem (settings_at addr bytes) ∙ both (list_all is_byte_setting mem) (list_all is_byte_setting (settings_at addr bytes)) l.bytes new.1;
+      below = list_all-append is_lawful_setting mem (settings_at addr bytes) ∙ and_from (list_all is_lawful_setting mem) (list_all is_lawful_setting (settings_at addr bytes)) l.below new.0;
+      bytes = list_all-append is_byte_setting mem (settings_at addr bytes) ∙ and_from (list_all is_byte_setting mem) (list_all is_byte_setting (settings_at addr bytes)) l.bytes new.1;
     }
 
 -- the plan has that memory, too

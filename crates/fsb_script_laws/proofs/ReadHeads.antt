@@ -2,7 +2,7 @@
 use Rattle.std.proofs.Common.{◌≡◌, ℕ, ◌+◌, ◌≤◌, true, false, eqb, List, [], ◌∷◌, length, Ok, ◌⊎◌, inl, inr, refl, sym, ap, subst, ◌∙◌}
 use Rattle.std.specs.Prelude.{◌&&◌, codes, nat_le}
 use Rattle.std.specs.List.{list_all}
-use Rattle.std.proofs.lemmas.Bool.{le-leb, leb-true, eqb-true}
+use Rattle.std.proofs.lemmas.Bool.{le-leb, leb-true, eqb-true, and_from, and_parts}
 use Rattle.fsb_access.specs.declared.access.Setting.{Setting}
 use Rattle.fsb_access.specs.declared.item.Item.{Item}
 use Rattle.fsb_script.specs.declared.fault.Cause.TheVariants.{FirstLine, Range, Unbuilt}
@@ -16,7 +16,6 @@ use Rattle.fsb_script.specs.Forms.{is_built, built}
 use Rattle.fsb_script.specs.Plans.{PlanView}
 use Rattle.fsb_script.specs.Drafts.{Progress, beginning, after_line, heading_of, ends_heading, first_line, agents_line, clocks_line, cache_line, ahead_line, end_of, plan_from, plan_of, BenchText}
 use Rattle.fsb_script_laws.specs.BuiltPlans.{are_apart, has_lines_apart, IsBuiltPlan}
-use Rattle.fsb_script_laws.proofs.Split.{both, second_of_both}
 use Rattle.fsb_script_laws.proofs.HeadLines.{at_agents, at_clocks, at_cache, at_ahead, at_bridge, head_state}
 use Rattle.fsb_script_laws.proofs.Scripts.{plan_with}
 use Rattle.fsb_script_laws.proofs.Inverted.{bind_ok, require_ok, state_is, ended_is, within_is}
@@ -85,7 +84,7 @@ clocks_inv line e h =
     let c = bind_ok (ended b.0.0 b.0.1) _ e b.1.1 in
     let same : b.0.0 ≡ c.0 = ended_is b.0.0 c.0 b.0.1 c.1.0 in
     let within : (nat_le 0 b.0.0 && nat_le b.0.0 200000) ≡ true = within_is 0 200000 a.0 b.0 b.1.0 in
-    let most : b.0.0 ≤ 200000 = leb-true b.0.0 200000 (second_of_both (nat_le 0 b.0.0) (nat_le b.0.0 200000) within) in
+    let most : b.0.0 ≤ 200000 = leb-true b.0.0 200000 (and_parts (nat_le 0 b.0.0) (nat_le b.0.0 200000) within).1 in
     record { clocks = c.0; few = subst (λ (k : ℕ). k ≤ 200000) same most; state = state_is (head_state at_cache c.0 1 []) e c.1.1 }
 
 agents_inv : (line : List ℕ) (e : Progress) → agents_line (head_state at_agents 0 1 []) line ≡ Ok e → head_state at_clocks 0 1 [] ≡ e
@@ -174,9 +173,9 @@ plan_built clocks cache mem script lines few lawful m s = record {
   lawful_cache = lawful;
   lawful_mem = m.below;
   byte_mem = m.bytes;
-  lawful_scripts = both (nat_le (length script) 4096 && list_all (is_lawful_item cache) script) true (both (nat_le (length script) 4096) (list_all (is_lawful_item cache) script) (le-leb (length script) 4096 s.few) s.lawful) refl;
-  single_accesses = both (list_all is_one script) true s.ones refl;
-  lines_apart = both (has_lines_apart cache script) true (subst (λ (ls : List ℕ). are_apart cache ls ≡ true) (sym s.named) s.apart) refl;
+  lawful_scripts = and_from (nat_le (length script) 4096 && list_all (is_lawful_item cache) script) true (and_from (nat_le (length script) 4096) (list_all (is_lawful_item cache) script) (le-leb (length script) 4096 s.few) s.lawful) refl;
+  single_accesses = and_from (list_all is_one script) true s.ones refl;
+  lines_apart = and_from (has_lines_apart cache script) true (subst (λ (ls : List ℕ). are_apart cache ls ≡ true) (sym s.named) s.apart) refl;
 }
 
 pub read_is_built : (text : List ℕ) (p : PlanView) → BenchText text p → IsBuiltPlan p

@@ -1,8 +1,9 @@
 -- A plan that was read is built: the states of the reading, from the first line on.
 use Rattle.std.proofs.Common.{◌≡◌, ℕ, ◌+◌, ◌%◌, ◌<◌, ◌≤◌, Bool, true, false, cond, eqb, List, [], ◌∷◌, ◌++◌, length, Some, Result, Ok, Err, ◌⊎◌, inl, inr, refl, sym, ap, subst, ◌∙◌, arith, length-append}
-use Rattle.std.specs.Prelude.{◌&&◌, ◌||◌, not, nat_lt}
+use Rattle.std.proofs.Math.Bool.{or-true}
+use Rattle.std.specs.Prelude.{◌&&◌, nat_lt}
 use Rattle.std.specs.List.{list_all}
-use Rattle.std.proofs.lemmas.Bool.{ltb-true, eqb-true, eq-eqb, ne_eqb, eqb-false}
+use Rattle.std.proofs.lemmas.Bool.{ltb-true, eqb-true, eq-eqb, ne_eqb, eqb-false, and_from, and_parts, not-false}
 use Rattle.std.proofs.lemmas.List.{append_assoc}
 use Rattle.std.proofs.lemmas.List.Folds.{list_all-append}
 use Rattle.fsb_access.specs.declared.access.Access.{Access}
@@ -10,7 +11,6 @@ use Rattle.fsb_access.specs.declared.access.Setting.{Setting}
 use Rattle.fsb_access.specs.declared.item.Item.{Item}
 use Rattle.fsb_access.specs.declared.item.Item.TheVariants.{One, Locked, Idle}
 use Rattle.fsb_access.specs.Access.{accessed_line, is_lawful_access}
-use Rattle.fsb_hazard.specs.declared.line.HazardLine.{HazardLine}
 use Rattle.fsb_script.specs.declared.fault.Cause.{Cause}
 use Rattle.fsb_script.specs.declared.fault.Cause.TheVariants.{Range}
 use Rattle.fsb_script.specs.Bounds.{is_apart, is_lawful_item}
@@ -23,7 +23,6 @@ use Rattle.fsb_script.specs.Forms.{is_built, built, built_if}
 use Rattle.fsb_script.specs.Plans.{PlanView}
 use Rattle.fsb_script.specs.Drafts.{Progress, after_line, choice_line, room, load_item, store_item, idle_item, lock_item, one_item, named_line, end_line, place_behind, hazard_line, transaction_line, block_line, add_hazard, end_of, on_line, plan_from}
 use Rattle.fsb_script_laws.specs.BuiltPlans.{lines_of_item, lines_named, are_apart}
-use Rattle.fsb_script_laws.proofs.Split.{both, first_of_both, second_of_both}
 use Rattle.fsb_script_laws.proofs.MemoryLines.{item_state}
 use Rattle.fsb_script_laws.proofs.Scripts.{plan_with}
 use Rattle.fsb_script_laws.proofs.Inverted.{bind_ok, require_ok, ok_same, state_is, load_is, store_is}
@@ -84,42 +83,34 @@ apart_turn cache a b h = rw (same_eqb a b (eqb a b) refl, same_eqb (a % cache) (
 
 apart_turn_all : (cache line : ℕ) (lines : List ℕ) → list_all (is_apart cache line) lines ≡ true → list_all (λ other. is_apart cache other line) lines ≡ true
 apart_turn_all cache line [] h = refl
-apart_turn_all cache line (x ∷ xs) h = both (is_apart cache x line) (list_all (λ other. is_apart cache other line) xs) (apart_turn cache line x (first_of_both (is_apart cache line x) (list_all (is_apart cache line) xs) h)) (apart_turn_all cache line xs (second_of_both (is_apart cache line x) (list_all (is_apart cache line) xs) h))
-
-not_true : (t : Bool) → not t ≡ false → t ≡ true
-not_true true h = refl
-not_true false h = absurd cc
-
-or_true : (t : Bool) → (t || true) ≡ true
-or_true true = refl
-or_true false = refl
+apart_turn_all cache line (x ∷ xs) h = and_from (is_apart cache x line) (list_all (λ other. is_apart cache other line) xs) (apart_turn cache line x (and_parts (is_apart cache line x) (list_all (is_apart cache line) xs) h).0) (apart_turn_all cache line xs (and_parts (is_apart cache line x) (list_all (is_apart cache line) xs) h).1)
 
 -- a line whose cache set no other line has is apart from all
 all_apart : (cache line : ℕ) (lines : List ℕ) → are_apart cache lines ≡ true → is_other line (first_in cache (line % cache) lines) ≡ false → list_all (λ other. is_apart cache other line) lines ≡ true
 all_apart cache line [] apart free = refl
-all_apart cache line (x ∷ xs) apart free = by (λ f. all_apart cache line xs (second_of_both (list_all (is_apart cache x) xs) (are_apart cache xs) apart) f) (eqb (x % cache) (line % cache)) refl free
+all_apart cache line (x ∷ xs) apart free = by (λ f. all_apart cache line xs (and_parts (list_all (is_apart cache x) xs) (are_apart cache xs) apart).1 f) (eqb (x % cache) (line % cache)) refl free
   where
     here : list_all (is_apart cache x) xs ≡ true
-    here = first_of_both (list_all (is_apart cache x) xs) (are_apart cache xs) apart
+    here = (and_parts (list_all (is_apart cache x) xs) (are_apart cache xs) apart).0
 
     by : (is_other line (first_in cache (line % cache) xs) ≡ false → list_all (λ other. is_apart cache other line) xs ≡ true)
         → (t : Bool) → eqb (x % cache) (line % cache) ≡ t → is_other line (cond t (Some x) (first_in cache (line % cache) xs)) ≡ false → list_all (λ other. is_apart cache other line) (x ∷ xs) ≡ true
     by again true e f =
-        let same : line ≡ x = eqb-true line x (not_true (eqb line x) f) in
+        let same : line ≡ x = eqb-true line x (not-false (eqb line x) f) in
         let first : is_apart cache x line ≡ true = rw (eq-eqb x line (sym same)) refl in
-        both (is_apart cache x line) (list_all (λ other. is_apart cache other line) xs) first (subst (λ (l : ℕ). list_all (λ other. is_apart cache other l) xs ≡ true) (sym same) (apart_turn_all cache x xs here))
+        and_from (is_apart cache x line) (list_all (λ other. is_apart cache other line) xs) first (subst (λ (l : ℕ). list_all (λ other. is_apart cache other l) xs ≡ true) (sym same) (apart_turn_all cache x xs here))
     by again false e f =
-        let first : is_apart cache x line ≡ true = rw e (or_true (eqb x line)) in
-        both (is_apart cache x line) (list_all (λ other. is_apart cache other line) xs) first (again f)
+        let first : is_apart cache x line ≡ true = rw e (or-true (eqb x line)) in
+        and_from (is_apart cache x line) (list_all (λ other. is_apart cache other line) xs) first (again f)
 
 apart_push : (cache line : ℕ) (lines : List ℕ) → are_apart cache lines ≡ true → list_all (λ other. is_apart cache other line) lines ≡ true → are_apart cache (lines ++ line ∷ []) ≡ true
 apart_push cache line [] apart all = refl
 apart_push cache line (x ∷ xs) apart all =
-    let here : is_apart cache x line ≡ true = first_of_both (is_apart cache x line) (list_all (λ other. is_apart cache other line) xs) all in
-    let known : list_all (is_apart cache x) xs ≡ true = first_of_both (list_all (is_apart cache x) xs) (are_apart cache xs) apart in
-    both (list_all (is_apart cache x) (xs ++ line ∷ [])) (are_apart cache (xs ++ line ∷ []))
-    (list_all-append (is_apart cache x) xs (line ∷ []) ∙ both (list_all (is_apart cache x) xs) (is_apart cache x line && true) known (both (is_apart cache x line) true here refl))
-    (apart_push cache line xs (second_of_both (list_all (is_apart cache x) xs) (are_apart cache xs) apart) (second_of_both (is_apart cache x line) (list_all (λ other. is_apart cache other line) xs) all))
+    let here : is_apart cache x line ≡ true = (and_parts (is_apart cache x line) (list_all (λ other. is_apart cache other line) xs) all).0 in
+    let known : list_all (is_apart cache x) xs ≡ true = (and_parts (list_all (is_apart cache x) xs) (are_apart cache xs) apart).0 in
+    and_from (list_all (is_apart cache x) (xs ++ line ∷ [])) (are_apart cache (xs ++ line ∷ []))
+    (list_all-append (is_apart cache x) xs (line ∷ []) ∙ and_from (list_all (is_apart cache x) xs) (is_apart cache x line && true) known (and_from (is_apart cache x line) true here refl))
+    (apart_push cache line xs (and_parts (list_all (is_apart cache x) xs) (are_apart cache xs) apart).1 (and_parts (is_apart cache x line) (list_all (λ other. is_apart cache other line) xs) all).1)
 
 named_push : (script : List Item) (access : Access) → lines_named (script ++ One access ∷ []) ≡ lines_named script ++ accessed_line access ∷ []
 named_push [] access = refl
@@ -140,8 +131,8 @@ pub record Script (cache : ℕ) (script : List Item) (lines : List ℕ) : Type 0
 pub script_push : (cache : ℕ) (script : List Item) (lines : List ℕ) (access : Access) → Script cache script lines → is_lawful_access access ≡ true → length script < 4096 → has_other (record { cache = cache; lines = lines }) (accessed_line access) ≡ false → Script cache (script ++ One access ∷ []) (lines ++ accessed_line access ∷ [])
 unfolding has_other
 script_push cache script lines access s lawful room free = record {
-  ones = list_all-append is_one script (One access ∷ []) ∙ both (list_all is_one script) true s.ones refl;
-  lawful = list_all-append (is_lawful_item cache) script (One access ∷ []) ∙ both (list_all (is_lawful_item cache) script) (is_lawful_access access && true) s.lawful (both (is_lawful_access access) true lawful refl);
+  ones = list_all-append is_one script (One access ∷ []) ∙ and_from (list_all is_one script) true s.ones refl;
+  lawful = list_all-append (is_lawful_item cache) script (One access ∷ []) ∙ and_from (list_all (is_lawful_item cache) script) (is_lawful_access access && true) s.lawful (and_from (is_lawful_access access) true lawful refl);
   few = omega (arith, length-append script (One access ∷ []));
   named = named_push script access ∙ ap (λ (ls : List ℕ). ls ++ accessed_line access ∷ []) s.named;
   apart = apart_push cache (accessed_line access) lines s.apart (all_apart cache (accessed_line access) lines s.apart free);

@@ -2,7 +2,7 @@
 use Rattle.std.proofs.Common.{◌≡◌, ℕ, ◌+◌, ◌%◌, ◌<◌, ◌≤◌, Bool, true, false, cond, eqb, List, [], ◌∷◌, ◌++◌, length, Option, Some, None, Ok, refl, sym, ap, subst, ◌∙◌, arith, length-append}
 use Rattle.std.specs.Prelude.{◌&&◌, ◌||◌, not, codes}
 use Rattle.std.specs.List.{list_all}
-use Rattle.std.proofs.lemmas.Bool.{lt-ltb, eqb-true, eq-eqb}
+use Rattle.std.proofs.lemmas.Bool.{lt-ltb, eqb-true, eq-eqb, and_from, and_parts}
 use Rattle.std.proofs.lemmas.List.{append-nil, append_assoc}
 use Rattle.std.proofs.lemmas.List.Folds.{list_all-append}
 use Rattle.fsb_access.specs.declared.access.Access.{Access}
@@ -22,7 +22,7 @@ use Rattle.fsb_script.specs.Plans.{PlanView}
 use Rattle.fsb_script.specs.Drafts.{after_line, heading_of, first_line, agents_line, clocks_line, cache_line, ahead_line, choice_line, body_line, memory_line, agent_line, item_line, load_item, store_item, one_item, named_line, end_line, end_of}
 use Rattle.fsb_script.specs.Text.{access_text, item_text, items_text}
 use Rattle.fsb_script_laws.specs.BuiltPlans.{lines_named, are_apart}
-use Rattle.fsb_script_laws.proofs.Split.{first_of_both, second_of_both, both, GoesOn, goes_on}
+use Rattle.fsb_script_laws.proofs.Split.{GoesOn, goes_on}
 use Rattle.fsb_script_laws.proofs.AccessLines.{place_is, load_back, store_back, access_line, access_line_is, access_inner}
 use Rattle.fsb_script_laws.proofs.MemoryLines.{item_state}
 
@@ -40,22 +40,22 @@ other_from line other false line_same rest e apart later = later
 none_other : (cache line : ℕ) (later earlier : List ℕ) → are_clear cache earlier (line ∷ later) ≡ true → is_other line (first_in cache (line % cache) earlier) ≡ false
 none_other cache line later [] clear = refl
 none_other cache line later (other ∷ others) clear =
-    let here : list_all (is_apart cache other) (line ∷ later) ≡ true = first_of_both (list_all (is_apart cache other) (line ∷ later)) (are_clear cache others (line ∷ later)) clear in
-    let apart : is_apart cache other line ≡ true = first_of_both (is_apart cache other line) (list_all (is_apart cache other) later) here in
-    let again : is_other line (first_in cache (line % cache) others) ≡ false = none_other cache line later others (second_of_both (list_all (is_apart cache other) (line ∷ later)) (are_clear cache others (line ∷ later)) clear) in
+    let here : list_all (is_apart cache other) (line ∷ later) ≡ true = (and_parts (list_all (is_apart cache other) (line ∷ later)) (are_clear cache others (line ∷ later)) clear).0 in
+    let apart : is_apart cache other line ≡ true = (and_parts (is_apart cache other line) (list_all (is_apart cache other) later) here).0 in
+    let again : is_other line (first_in cache (line % cache) others) ≡ false = none_other cache line later others (and_parts (list_all (is_apart cache other) (line ∷ later)) (are_clear cache others (line ∷ later)) clear).1 in
     other_from line other (eqb (other % cache) (line % cache)) (eqb other line) (first_in cache (line % cache) others) refl apart again
 
 clear_less : (cache line : ℕ) (later earlier : List ℕ) → are_clear cache earlier (line ∷ later) ≡ true → are_clear cache earlier later ≡ true
 clear_less cache line later [] clear = refl
 clear_less cache line later (other ∷ others) clear =
-    let here : list_all (is_apart cache other) (line ∷ later) ≡ true = first_of_both (list_all (is_apart cache other) (line ∷ later)) (are_clear cache others (line ∷ later)) clear in
-    both (list_all (is_apart cache other) later) (are_clear cache others later)
-    (second_of_both (is_apart cache other line) (list_all (is_apart cache other) later) here)
-    (clear_less cache line later others (second_of_both (list_all (is_apart cache other) (line ∷ later)) (are_clear cache others (line ∷ later)) clear))
+    let here : list_all (is_apart cache other) (line ∷ later) ≡ true = (and_parts (list_all (is_apart cache other) (line ∷ later)) (are_clear cache others (line ∷ later)) clear).0 in
+    and_from (list_all (is_apart cache other) later) (are_clear cache others later)
+    (and_parts (is_apart cache other line) (list_all (is_apart cache other) later) here).1
+    (clear_less cache line later others (and_parts (list_all (is_apart cache other) (line ∷ later)) (are_clear cache others (line ∷ later)) clear).1)
 
 clear_more : (cache line : ℕ) (later earlier : List ℕ) → are_clear cache earlier later ≡ true → list_all (is_apart cache line) later ≡ true → are_clear cache (earlier ++ line ∷ []) later ≡ true
 clear_more cache line later earlier clear apart =
-    list_all-append (λ other. list_all (is_apart cache other) later) earlier (line ∷ []) ∙ both (are_clear cache earlier later) (list_all (is_apart cache line) later && true) clear (both (list_all (is_apart cache line) later) true apart refl)
+    list_all-append (λ other. list_all (is_apart cache other) later) earlier (line ∷ []) ∙ and_from (are_clear cache earlier later) (list_all (is_apart cache line) later && true) clear (and_from (list_all (is_apart cache line) later) true apart refl)
 
 -- ---- an access
 
@@ -66,7 +66,7 @@ unfolding after_line is_read_past heading_of first_line agents_line clocks_line 
 access_taken (Load size addr) clocks cache mem script lines lawful room alone =
     rw (lt-ltb (length script) 4096 room) (rw (load_back size addr (place_is size addr lawful)) (rw alone refl))
 access_taken (Store size addr value) clocks cache mem script lines lawful room alone =
-    rw (lt-ltb (length script) 4096 room) (rw (store_back size addr value (place_is size addr (first_of_both (is_place size addr) (fits size (number_of value)) lawful)) (second_of_both (is_place size addr) (fits size (number_of value)) lawful)) (rw alone refl))
+    rw (lt-ltb (length script) 4096 room) (rw (store_back size addr value (place_is size addr (and_parts (is_place size addr) (fits size (number_of value)) lawful).0) (and_parts (is_place size addr) (fits size (number_of value)) lawful).1) (rw alone refl))
 
 access_goes_on : (access : Access) (clocks cache : ℕ) (mem : List Setting) (script : List Item) (lines : List ℕ) (rest : List ℕ) (p : PlanView)
     → is_lawful_access access ≡ true → length script < 4096 → is_other (accessed_line access) (first_in cache (accessed_line access % cache) lines) ≡ false
@@ -90,10 +90,10 @@ pub items_go_on : (items : List Item) (clocks cache : ℕ) (mem : List Setting) 
 items_go_on [] clocks cache mem script lines rest p ones lawful few apart clear then_ =
     subst (λ (s : List Item). GoesOn (item_state clocks cache mem s lines) rest p) (append-nil script) (then_ lines)
 items_go_on (One access ∷ items) clocks cache mem script lines rest p ones lawful few apart clear then_ =
-    let lawful_access : is_lawful_access access ≡ true = first_of_both (is_lawful_access access) (list_all (is_lawful_item cache) items) lawful in
-    let lawful_items : list_all (is_lawful_item cache) items ≡ true = second_of_both (is_lawful_access access) (list_all (is_lawful_item cache) items) lawful in
-    let apart_here : list_all (is_apart cache (accessed_line access)) (lines_named items) ≡ true = first_of_both (list_all (is_apart cache (accessed_line access)) (lines_named items)) (are_apart cache (lines_named items)) apart in
-    let apart_later : are_apart cache (lines_named items) ≡ true = second_of_both (list_all (is_apart cache (accessed_line access)) (lines_named items)) (are_apart cache (lines_named items)) apart in
+    let lawful_access : is_lawful_access access ≡ true = (and_parts (is_lawful_access access) (list_all (is_lawful_item cache) items) lawful).0 in
+    let lawful_items : list_all (is_lawful_item cache) items ≡ true = (and_parts (is_lawful_access access) (list_all (is_lawful_item cache) items) lawful).1 in
+    let apart_here : list_all (is_apart cache (accessed_line access)) (lines_named items) ≡ true = (and_parts (list_all (is_apart cache (accessed_line access)) (lines_named items)) (are_apart cache (lines_named items)) apart).0 in
+    let apart_later : are_apart cache (lines_named items) ≡ true = (and_parts (list_all (is_apart cache (accessed_line access)) (lines_named items)) (are_apart cache (lines_named items)) apart).1 in
     let room : length script < 4096 = omega arith in
     let few_more : length (script ++ One access ∷ []) + length items ≤ 4096 = omega (arith, length-append script (One access ∷ [])) in
     let clear_later : are_clear cache (lines ++ accessed_line access ∷ []) (lines_named items) ≡ true = clear_more cache (accessed_line access) (lines_named items) lines (clear_less cache (accessed_line access) (lines_named items) lines clear) apart_here in

@@ -1,9 +1,9 @@
 -- A word is split off a line, and a line off a text.
 use Rattle.std.proofs.Common.{◌≡◌, ℕ, suc, ◌+◌, ◌^◌, ◌<◌, ◌≤◌, Bool, true, false, List, [], ◌∷◌, ◌++◌, length, take, drop, Result, Ok, refl, ◌∙◌, arith}
-use Rattle.std.specs.Prelude.{◌&&◌, nat_lt, nat_le}
+use Rattle.std.specs.Prelude.{nat_lt, nat_le}
 use Rattle.std.specs.List.{list_all}
 use Rattle.std.specs.Fmt.{decimal}
-use Rattle.std.proofs.lemmas.Bool.{leb-true, lt-ltb, ltb-true, ne_eqb}
+use Rattle.std.proofs.lemmas.Bool.{leb-true, lt-ltb, ltb-true, ne_eqb, and_from, and_parts}
 use Rattle.std.proofs.lemmas.List.{append-nil}
 use Rattle.std.proofs.lemmas.List.Folds.{list_all-append}
 use Rattle.std.proofs.Math.Seq.{take-append_seam, drop-append_seam}
@@ -15,19 +15,6 @@ use Rattle.fsb_script.specs.Text.{digit_text}
 use Rattle.fsb_script.specs.Plans.{PlanView}
 use Rattle.fsb_script.specs.Drafts.{Progress, after_line, plan_from}
 use Rattle.fsb_script_laws.proofs.Numbers.{is_figure, figure, Figures, decimal_figures, hex_figures, decimal_back, hex_back}
-
-pub both : (a b : Bool) → a ≡ true → b ≡ true → (a && b) ≡ true
-both true true p q = refl
-both true false p q = absurd cc
-both false b p q = absurd cc
-
-pub first_of_both : (a b : Bool) → (a && b) ≡ true → a ≡ true
-first_of_both true b p = refl
-first_of_both false b p = absurd cc
-
-pub second_of_both : (a b : Bool) → (a && b) ≡ true → b ≡ true
-second_of_both true b p = p
-second_of_both false b p = absurd cc
 
 -- a byte of a word
 abbrev pub is_plain : ℕ → Bool
@@ -55,9 +42,9 @@ word_len_of : (word rest : List ℕ) → list_all is_plain word ≡ true → sto
 word_len_of [] [] plain stop = refl
 word_len_of [] (b ∷ bs) plain stop = rw stop refl
 word_len_of (b ∷ bs) rest plain stop =
-    let again : word_len (bs ++ rest) ≡ length bs = word_len_of bs rest (second_of_both (is_plain b) (list_all is_plain bs) plain) stop in
+    let again : word_len (bs ++ rest) ≡ length bs = word_len_of bs rest (and_parts (is_plain b) (list_all is_plain bs) plain).1 stop in
     let one : 1 + length bs ≡ suc (length bs) = omega arith in
-    rw (not_blank b (first_of_both (is_plain b) (list_all is_plain bs) plain)) (rw again one)
+    rw (not_blank b (and_parts (is_plain b) (list_all is_plain bs) plain).0) (rw again one)
 
 -- what a split gave
 abbrev Split : Result (List ℕ × List ℕ) Cause → List ℕ → List ℕ → Type 0
@@ -70,7 +57,7 @@ next_is (b ∷ bs) rest w stop =
     let len : word_len ((b ∷ bs) ++ rest) ≡ length (b ∷ bs) = word_len_of (b ∷ bs) rest w.plain stop in
     let front : take (length (b ∷ bs)) ((b ∷ bs) ++ rest) ≡ b ∷ bs = take-append_seam (b ∷ bs) rest in
     let back : drop (length (b ∷ bs)) ((b ∷ bs) ++ rest) ≡ rest = drop-append_seam (b ∷ bs) rest in
-    rw (not_blank b (first_of_both (is_plain b) (list_all is_plain bs) w.plain)) (cut (word_len ((b ∷ bs) ++ rest)) len front back)
+    rw (not_blank b (and_parts (is_plain b) (list_all is_plain bs) w.plain).0) (cut (word_len ((b ∷ bs) ++ rest)) len front back)
   where
     cut : (n : ℕ) → n ≡ length (b ∷ bs) → take (length (b ∷ bs)) ((b ∷ bs) ++ rest) ≡ b ∷ bs → drop (length (b ∷ bs)) ((b ∷ bs) ++ rest) ≡ rest → Split (Ok (take n ((b ∷ bs) ++ rest), drop n ((b ∷ bs) ++ rest))) (b ∷ bs) rest
     cut n e front back = rw e (rw front (rw back refl))
@@ -84,9 +71,9 @@ next_behind word rest w stop = next_is word rest w stop
 figures_plain : (word : List ℕ) → list_all is_figure word ≡ true → list_all is_plain word ≡ true
 figures_plain [] all = refl
 figures_plain (b ∷ bs) all =
-    let here : is_figure b ≡ true = first_of_both (is_figure b) (list_all is_figure bs) all in
-    let low : 48 ≤ b = leb-true 48 b (first_of_both (nat_le 48 b) (nat_le b 102) here) in
-    both _ _ (lt-ltb 32 b (omega arith)) (figures_plain bs (second_of_both (is_figure b) (list_all is_figure bs) all))
+    let here : is_figure b ≡ true = (and_parts (is_figure b) (list_all is_figure bs) all).0 in
+    let low : 48 ≤ b = leb-true 48 b (and_parts (nat_le 48 b) (nat_le b 102) here).0 in
+    and_from _ _ (lt-ltb 32 b (omega arith)) (figures_plain bs (and_parts (is_figure b) (list_all is_figure bs) all).1)
 
 pub figures_word : (most : ℕ) (word : List ℕ) → Figures most word → Word word
 figures_word most word f = record { some = f.some; plain = figures_plain word f.all }
@@ -112,11 +99,11 @@ hex_last n below = rw append-nil at (hex_next n [] below refl)
 pub plain_inner : (word : List ℕ) → list_all is_plain word ≡ true → list_all is_inner word ≡ true
 plain_inner [] plain = refl
 plain_inner (b ∷ bs) plain =
-    let here : 32 < b = ltb-true 32 b (first_of_both (is_plain b) (list_all is_plain bs) plain) in
-    both _ _ (lt-ltb 31 b (omega arith)) (plain_inner bs (second_of_both (is_plain b) (list_all is_plain bs) plain))
+    let here : 32 < b = ltb-true 32 b (and_parts (is_plain b) (list_all is_plain bs) plain).0 in
+    and_from _ _ (lt-ltb 31 b (omega arith)) (plain_inner bs (and_parts (is_plain b) (list_all is_plain bs) plain).1)
 
 pub inner_append : (a b : List ℕ) → list_all is_inner a ≡ true → list_all is_inner b ≡ true → list_all is_inner (a ++ b) ≡ true
-inner_append a b p q = list_all-append is_inner a b ∙ both _ _ p q
+inner_append a b p q = list_all-append is_inner a b ∙ and_from _ _ p q
 
 pub decimal_inner : (n : ℕ) → n < 10 ^ 18 → list_all is_inner (decimal n) ≡ true
 decimal_inner n below = plain_inner (decimal n) (figures_plain (decimal n) (decimal_figures 17 n (omega arith) below).all)
@@ -127,8 +114,8 @@ hex_inner n below = plain_inner (hexadecimal n) (figures_plain (hexadecimal n) (
 pub first_line_is : (line rest : List ℕ) → list_all is_inner line ≡ true → lines_of (line ++ (10 ∷ rest)) ≡ line ∷ lines_of rest
 first_line_is [] rest inner = refl
 first_line_is (b ∷ bs) rest inner =
-    let here : 31 < b = ltb-true 31 b (first_of_both (is_inner b) (list_all is_inner bs) inner) in
-    rw (first_line_is bs rest (second_of_both (is_inner b) (list_all is_inner bs) inner)) (rw (ne_eqb b 10 (λ e. omega arith)) refl)
+    let here : 31 < b = ltb-true 31 b (and_parts (is_inner b) (list_all is_inner bs) inner).0 in
+    rw (first_line_is bs rest (and_parts (is_inner b) (list_all is_inner bs) inner).1) (rw (ne_eqb b 10 (λ e. omega arith)) refl)
 
 -- the text goes on from there to the plan, whatever its first line's number
 abbrev pub GoesOn : Progress → List ℕ → PlanView → Type 0
@@ -139,4 +126,4 @@ goes_on d e line rest p inner taken then_ number = rw (first_line_is line rest i
 
 -- the two digits of a byte
 pub byte_word : (high low : ℕ) → high < 16 → low < 16 → Word (digit_text high ∷ digit_text low ∷ [])
-byte_word high low h l = record { some = omega arith; plain = figures_plain (digit_text high ∷ digit_text low ∷ []) (both (is_figure (digit_text high)) _ (figure high h) (both (is_figure (digit_text low)) true (figure low l) refl)) }
+byte_word high low h l = record { some = omega arith; plain = figures_plain (digit_text high ∷ digit_text low ∷ []) (and_from (is_figure (digit_text high)) _ (figure high h) (and_from (is_figure (digit_text low)) true (figure low l) refl)) }

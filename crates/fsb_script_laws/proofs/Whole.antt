@@ -2,7 +2,7 @@
 use Rattle.std.proofs.Common.{◌≡◌, ℕ, ◌+◌, ◌<◌, ◌≤◌, Bool, true, false, List, [], ◌∷◌, ◌++◌, length, Option, None, Result, Ok, refl, sym, ap, subst, ◌∙◌, arith}
 use Rattle.std.specs.Prelude.{codes, nat_le}
 use Rattle.std.specs.List.{list_all}
-use Rattle.std.proofs.lemmas.Bool.{leb-true, leb-false, ne_eqb}
+use Rattle.std.proofs.lemmas.Bool.{leb-true, leb-false, ne_eqb, and_parts}
 use Rattle.std.proofs.lemmas.List.{append-nil, append_assoc}
 use Rattle.fsb_access.specs.declared.access.Setting.{Setting}
 use Rattle.fsb_access.specs.declared.item.Item.{Item}
@@ -15,7 +15,7 @@ use Rattle.fsb_script.specs.Plans.{PlanView}
 use Rattle.fsb_script.specs.Drafts.{beginning, plan_of, BenchText}
 use Rattle.fsb_script.specs.Text.{head_text, settings_text, agent_text, items_text, script_text, bench_text}
 use Rattle.fsb_script_laws.specs.BuiltPlans.{has_lines_apart, is_byte_setting, IsBuiltPlan}
-use Rattle.fsb_script_laws.proofs.Split.{first_of_both, second_of_both, GoesOn}
+use Rattle.fsb_script_laws.proofs.Split.{GoesOn}
 use Rattle.fsb_script_laws.proofs.HeadLines.{head_goes_on}
 use Rattle.fsb_script_laws.proofs.MemoryLines.{settings_go_on, agent_goes_on}
 use Rattle.fsb_script_laws.proofs.Scripts.{items_go_on, plan_with, script_ends}
@@ -41,9 +41,9 @@ unfolding is_lawful_script has_ones
 script_reads clocks cache mem script few lawful_cache lawful_mem bytes lawful ones apart =
     let p : PlanView = plan_with clocks cache mem script in
     let last : List ℕ = codes "end" ++ (10 ∷ []) in
-    let short : length script ≤ 4096 = leb-true (length script) 4096 (first_of_both (nat_le (length script) 4096) (list_all (is_lawful_item cache) script) lawful) in
+    let short : length script ≤ 4096 = leb-true (length script) 4096 (and_parts (nat_le (length script) 4096) (list_all (is_lawful_item cache) script) lawful).0 in
     let short_all : 0 + length script ≤ 4096 = omega arith in
-    let lawful_items : list_all (is_lawful_item cache) script ≡ true = second_of_both (nat_le (length script) 4096) (list_all (is_lawful_item cache) script) lawful in
+    let lawful_items : list_all (is_lawful_item cache) script ≡ true = (and_parts (nat_le (length script) 4096) (list_all (is_lawful_item cache) script) lawful).1 in
     subst (λ text. GoesOn beginning text (plan_with clocks cache mem script)) (sym (text_is clocks cache mem script))
     (head_goes_on clocks cache (settings_text mem ++ (agent_text 0 ++ (items_text script ++ (codes "end" ++ (10 ∷ []))))) (plan_with clocks cache mem script) few (cache_small cache lawful_cache) lawful_cache
     (settings_go_on mem false clocks cache [] (agent_text 0 ++ (items_text script ++ (codes "end" ++ (10 ∷ [])))) (plan_with clocks cache mem script) lawful_mem bytes
@@ -57,7 +57,7 @@ one_script : (scripts : List (List Item)) (clocks cache : ℕ) (mem : List Setti
 unfolding plan_of
 one_script [] clocks cache mem b = absurd (omega (arith, b.one_script))
 one_script (script ∷ []) clocks cache mem b =
-    script_reads clocks cache mem script b.few_clocks b.lawful_cache b.lawful_mem b.byte_mem (first_of_both (is_lawful_script cache script) true b.lawful_scripts) (first_of_both (has_ones script) true b.single_accesses) (first_of_both (has_lines_apart cache script) true b.lines_apart) 1
+    script_reads clocks cache mem script b.few_clocks b.lawful_cache b.lawful_mem b.byte_mem (and_parts (is_lawful_script cache script) true b.lawful_scripts).0 (and_parts (has_ones script) true b.single_accesses).0 (and_parts (has_lines_apart cache script) true b.lines_apart).0 1
 one_script (script ∷ (other ∷ others)) clocks cache mem b = absurd (omega (arith, b.one_script))
 
 -- the plan with these three, which are all that the forms fix

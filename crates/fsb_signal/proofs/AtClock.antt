@@ -1,10 +1,9 @@
 -- Which line is asserted at a clock, as a list of samples grows or is cut.
-use Rattle.std.proofs.Common.{◌≡◌, ℕ, ◌<◌, ◌≤◌, false, List, [], ◌∷◌, ◌++◌, length, slice_get, Some, refl, ap, arith, zero, suc}
+use Rattle.std.proofs.Common.{◌≡◌, ℕ, ◌<◌, ◌≤◌, false, List, [], ◌∷◌, ◌++◌, length, slice_get, refl, arith, zero, suc}
 use Rattle.std.proofs.lemmas.Option.{slice_get_past}
-use Rattle.std.specs.Option.{option_map_or}
 use Rattle.fsb_signal.specs.declared.lines.Lines.{Lines}
 use Rattle.fsb_signal.specs.declared.sample.Sample.{Sample}
-use Rattle.fsb_signal.specs.Samples.{line_at, has_line}
+use Rattle.fsb_signal.specs.Samples.{line_at}
 
 -- elements that are appended change nothing before them
 pub slice_get-before : {X : Type 0} (w v : List X) (c : ℕ) → c < length w → slice_get (w ++ v) c ≡ slice_get w c

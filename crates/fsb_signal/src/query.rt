@@ -1,6 +1,6 @@
 //! Samples and words that are made, and questions to them.
 
-ghost use Rattle.std.specs.Prelude.{◌≡◌, ◌<◌, ◌^◌, slice_index};
+ghost use Rattle.std.specs.Prelude.{◌≡◌, ◌<◌, ◌^◌};
 ghost use Rattle.fsb_signal.specs.Samples.{bit_of, has_line, has_unknown, has_known_lines, is_known, is_known_word, response_of, line_at, known_word, known_sample, idle};
 ghost use Rattle.fsb_signal.specs.DumpText.{value_of};
 

@@ -1,5 +1,6 @@
 -- The waveform has no unknown bit.
-use Rattle.std.proofs.Common.{◌≡◌, ℕ, zero, suc, Bool, true, false, not, ◌&&◌, List, [], ◌∷◌, ◌++◌, take, drop, replicate, refl, sym, ap, ◌∙◌, IsTrue}
+use Rattle.std.proofs.Common.{◌≡◌, ℕ, zero, suc, Bool, true, false, not, List, [], ◌∷◌, ◌++◌, take, drop, replicate, refl, sym, ap, ◌∙◌, IsTrue}
+use Rattle.std.proofs.lemmas.Bool.{and_from, and_parts}
 use Rattle.std.proofs.lemmas.List.{take-append-drop}
 use Rattle.std.proofs.lemmas.List.Folds.{list_all-append}
 use Rattle.std.specs.List.{list_all}
@@ -21,14 +22,11 @@ known_clocks : (is_new : Bool) (memory : ByteMemory) (access : Access) → list_
 known_clocks true memory access = known_transaction memory access
 known_clocks false memory access = refl
 
-both : (a b : Bool) → a ≡ true → b ≡ true → (a && b) ≡ true
-both a b e f = rw (e, f) refl
-
 known_samples : (memory : ByteMemory) (earlier items : List Item) → list_all is_known (samples_from memory earlier items) ≡ true
 known_samples memory earlier [] = refl
 known_samples memory earlier (One access ∷ items) =
     list_all-append is_known (clocks_of (not (was_named earlier access)) memory access) (samples_from memory (earlier ++ One access ∷ []) items)
-    ∙ both _ _ (known_clocks (not (was_named earlier access)) memory access) (known_samples memory (earlier ++ One access ∷ []) items)
+    ∙ and_from _ _ (known_clocks (not (was_named earlier access)) memory access) (known_samples memory (earlier ++ One access ∷ []) items)
 known_samples memory earlier (Locked group ∷ items) = refl
 known_samples memory earlier (Idle count ∷ items) = refl
 
@@ -36,15 +34,11 @@ known_pad : (n : ℕ) → list_all is_known (replicate n idle) ≡ true
 known_pad zero = refl
 known_pad (suc n) = known_pad n
 
-first_part : (a b : Bool) → (a && b) ≡ true → a ≡ true
-first_part true b e = refl
-first_part false b e = e
-
 known_take : (n : ℕ) (w : List Sample) → list_all is_known w ≡ true → list_all is_known (take n w) ≡ true
-known_take n w e = first_part _ _
-    (sym (list_all-append is_known (take n w) (drop n w)) ∙ ap (list_all is_known) (take-append-drop n w) ∙ e)
+known_take n w e = (and_parts _ _
+    (sym (list_all-append is_known (take n w) (drop n w)) ∙ ap (list_all is_known) (take-append-drop n w) ∙ e)).0
 
 pub known_solo : (clocks : ℕ) (settings : List Setting) (items : List Item) → IsTrue (is_known_trace (solo_trace clocks settings items))
 known_solo clocks settings items = known_take clocks _
     (list_all-append is_known (samples_from (start_memory settings) [] items) (replicate clocks idle)
-    ∙ both _ _ (known_samples (start_memory settings) [] items) (known_pad clocks))
+    ∙ and_from _ _ (known_samples (start_memory settings) [] items) (known_pad clocks))

@@ -1,5 +1,6 @@
 -- The log is that of one byte memory, and keeps to the script.
-use Rattle.std.proofs.Common.{◌≡◌, ℕ, zero, suc, ◌+◌, ◌<◌, arith, Bool, true, false, ◌&&◌, nat_eq, nat_lt, List, [], ◌∷◌, ◌++◌, length, map, take, refl, ap, ◌∙◌, if◌then◌else◌}
+use Rattle.std.proofs.Common.{◌≡◌, ℕ, zero, suc, ◌+◌, ◌<◌, arith, Bool, true, false, nat_eq, nat_lt, List, [], ◌∷◌, ◌++◌, length, map, take, refl, ap, ◌∙◌, if◌then◌else◌}
+use Rattle.std.proofs.lemmas.Bool.{and_right}
 use Rattle.std.proofs.lemmas.Grind.{common_steps}
 use Rattle.std.specs.List.{list_any, list_all}
 use Rattle.std.proofs.lemmas.List.{length-append}
@@ -88,10 +89,6 @@ own_from clocks earlier state first (One access ∷ items) =
     go false e = refl
 own_from clocks earlier state first (Locked group ∷ items) = refl
 own_from clocks earlier state first (Idle count ∷ items) = refl
-
-and_right : (a b : Bool) → b ≡ false → (a && b) ≡ false
-and_right true b e = e
-and_right false b e = refl
 
 differs : (m n : ℕ) → m < n → nat_eq m n ≡ false
 differs m n h = grind (arith, common_steps)

@@ -1,5 +1,5 @@
 //! The log.
-ghost use Rattle.std.specs.Prelude.{◌≡◌, ◌≤◌, ◌+◌, ◌==◌, if◌then◌else◌, List, length, IfOk};
+ghost use Rattle.std.specs.Prelude.{◌≡◌, ◌≤◌, ◌+◌, if◌then◌else◌, List, length, IfOk};
 ghost use Rattle.fsb_access.specs.Replay.{Served};
 ghost use Rattle.fsb_access.specs.ScriptOrder.{InOrder, script_of};
 ghost use Rattle.fsb_access.specs.declared.item.Item.{Item};

@@ -1,9 +1,9 @@
 //! The waveform.
-ghost use Rattle.std.specs.Prelude.{◌≡◌, ◌≤◌, ◌<◌, ◌^◌, ◌++◌, IsTrue, IfOk, OnOk, take, length, vec_len, vec_capacity};
+ghost use Rattle.std.specs.Prelude.{◌≡◌, ◌≤◌, ◌<◌, ◌^◌, ◌++◌, IsTrue, IfOk, OnOk, take, vec_len, vec_capacity};
 ghost use Rattle.fsb_access.specs.Access.{IsLawfulAccess};
 ghost use Rattle.fsb_access.specs.FlatView.{state_of};
 ghost use Rattle.fsb_encode.specs.Request.{pairs_of};
-ghost use Rattle.fsb_signal.specs.Samples.{is_known_trace, known_sample};
+ghost use Rattle.fsb_signal.specs.Samples.{is_known_trace};
 ghost use Rattle.fsb_signal.specs.declared.lines.TheConstants.Lines.{BREQ0, ADS};
 ghost use Rattle.fsb_solo.specs.SoloLog.{AreLawful};
 ghost use Rattle.fsb_solo.specs.SoloTrace.{transaction, request_for, request_sample, data_samples, clocks_of, and_line, solo_trace};

@@ -1,5 +1,6 @@
 -- Where an agent is in its script rests on the entries below the clock.
 use Rattle.std.proofs.Common.{ℕ, zero, suc, ◌+◌, ◌-◌, ◌<◌, ◌≤◌, ◌≡◌, Bool, true, false, not, ◌&&◌, ◌||◌, nat_eq, nat_lt, nat_le, List, [], ◌∷◌, ◌++◌, length, drop, Option, Some, None, slice_get, refl, sym, ap, subst, ◌∙◌, arith}
+use Rattle.std.proofs.Math.Bool.{and-false, or-false}
 use Rattle.std.proofs.lemmas.Bool.{and_parts, leb-true, le-ltb}
 use Rattle.std.proofs.lemmas.List.{length-append}
 use Rattle.std.proofs.lemmas.List.Folds.{list_any-append}
@@ -19,10 +20,6 @@ use Rattle.fsb_timely.proofs.Since.{last_where-found}
 use Rattle.fsb_timely.proofs.Holding.{last-failed}
 use Rattle.fsb_timely.proofs.GoingOn.{last-same, is_held-same, is_exclusive-same, is_ready-same}
 
-and-false : (b : Bool) → (b && false) ≡ false
-and-false true = refl
-and-false false = refl
-
 -- an entry of clock n or later is no entry below c
 done-later : (n a c : ℕ) (done : Done) → c ≤ n → nat_le n done.clock ≡ true → is_done_by a c done ≡ false
 unfolding is_done_by
@@ -37,10 +34,6 @@ none-logged n a c k (done ∷ entries) l e =
     let here = done-later n a c done l parts.0 in
     let rest = none-logged n a c k entries l parts.1 in
     λ i. (here i && nat_eq done.item k) || rest i
-
-or-false : (b : Bool) → (b || false) ≡ b
-or-false true = refl
-or-false false = refl
 
 is_logged-same : (n : ℕ) (p q : Past) (a c k : ℕ) → GoesOn n p q → c ≤ n → is_logged p a c k ≡ is_logged q a c k
 unfolding is_logged

@@ -1,5 +1,6 @@
 -- What an agent holds, one clock further.
 use Rattle.std.proofs.Common.{ℕ, ◌+◌, ◌≡◌, Bool, true, false, not, ◌&&◌, ◌||◌, Some, refl, ap, ◌∙◌, inl, inr, add-one, if◌then◌else◌}
+use Rattle.std.proofs.Math.Bool.{and-true}
 use Rattle.std.proofs.lemmas.Bool.{cases_Bool}
 use Rattle.std.specs.Option.{option_and_then}
 use Rattle.fsb_count.specs.Options.{is_some_and}
@@ -44,10 +45,6 @@ regrouped true true false n l = refl
 regrouped true false true true l = refl
 regrouped true false true false l = refl
 regrouped true false false n l = refl
-
-and-true : (b : Bool) → (b && true) ≡ b
-and-true true = refl
-and-true false = refl
 
 is_exclusive-granted : (p : Past) (a line c : ℕ) → is_granted p a line c ≡ true → is_exclusive p a line (c + 1) ≡ is_some_and (grant_at p c) is_sole
 unfolding is_exclusive

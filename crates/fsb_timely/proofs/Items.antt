@@ -1,6 +1,6 @@
 -- Where an agent is in its script, one clock further.
-use Rattle.std.proofs.Common.{ℕ, ◌+◌, ◌≡◌, Bool, true, false, not, ◌&&◌, ◌||◌, List, [], ◌∷◌, refl, ap, ◌∙◌, nat_eq, nat_lt, length, arith, slice_get}
-use Rattle.std.proofs.lemmas.Bool.Decides.{nat_tests}
+use Rattle.std.proofs.Common.{ℕ, ◌+◌, ◌≡◌, Bool, true, false, not, ◌&&◌, ◌||◌, List, [], ◌∷◌, refl, ap, ◌∙◌, nat_eq, nat_lt, length, slice_get}
+use Rattle.std.proofs.lemmas.Bool.{or_parts}
 use Rattle.std.specs.List.{list_any}
 use Rattle.std.specs.Option.{option_and_then, option_map_or}
 use Rattle.fsb_count.specs.Options.{is_some_and}
@@ -8,9 +8,7 @@ use Rattle.fsb_count.proofs.First.{first_where-same}
 use Rattle.fsb_access.specs.declared.log.Done.{Done}
 use Rattle.fsb_timely.specs.Runs.{Past}
 use Rattle.fsb_timely.specs.Scripts.{is_idle, items_of, is_done_by, is_done_at, completes_at, is_logged_at, is_logged, is_to_do, next_number, next_item, window_at, window}
-
-lt-more : (n c : ℕ) → nat_lt n (c + 1) ≡ (nat_lt n c || nat_eq n c)
-lt-more n c = grind (arith, nat_tests)
+use Rattle.fsb_timely.proofs.Outstanding.{lt-more}
 
 and-or : (b x y z : Bool) → z ≡ (x || y) → (b && z) ≡ ((b && x) || (b && y))
 and-or true x y z e = e
@@ -20,10 +18,6 @@ and-or false x y z e = refl
 done-more : (a c : ℕ) (done : Done) → is_done_by a (c + 1) done ≡ (is_done_by a c done || is_done_at a c done)
 unfolding is_done_by is_done_at
 done-more a c done = and-or (nat_eq done.agent a) (nat_lt done.clock c) (nat_eq done.clock c) (nat_lt done.clock (c + 1)) (lt-more done.clock c)
-
-or-false : (a b : Bool) → (a || b) ≡ false → (a ≡ false) × (b ≡ false)
-or-false false b e = (refl, e)
-or-false true b e = absurd (let h : ⊥ = cc in h)
 
 -- an entry that is not at c
 done-same : (a c : ℕ) (done : Done) → is_done_at a c done ≡ false → is_done_by a (c + 1) done ≡ is_done_by a c done
@@ -37,7 +31,7 @@ logged-same : (a c n : ℕ) (log : List Done) → list_any (is_done_at a c) log 
     → list_any (λ done. is_done_by a (c + 1) done && nat_eq done.item n) log ≡ list_any (λ done. is_done_by a c done && nat_eq done.item n) log
 logged-same a c n [] e = refl
 logged-same a c n (done ∷ log) e =
-    let parts = or-false (is_done_at a c done) (list_any (is_done_at a c) log) e in
+    let parts = or_parts (is_done_at a c done) (list_any (is_done_at a c) log) e in
     let here = done-same a c done parts.0 in
     let rest = logged-same a c n log parts.1 in
     λ i. (here i && nat_eq done.item n) || rest i

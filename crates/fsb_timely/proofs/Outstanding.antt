@@ -9,7 +9,8 @@ use Rattle.fsb_trace.specs.Requests.{is_cancelled, is_live, live_number_of, is_r
 use Rattle.fsb_trace.specs.Flight.{is_dropped, is_finished, last_clock_of, is_outstanding}
 use Rattle.fsb_timely.specs.Growth.{is_last_clock}
 
-lt-more : (n c : ℕ) → nat_lt n (c + 1) ≡ (nat_lt n c || nat_eq n c)
+-- a number is below the next clock where it is below this one, or is this one
+pub lt-more : (n c : ℕ) → nat_lt n (c + 1) ≡ (nat_lt n c || nat_eq n c)
 lt-more n c = grind (arith, nat_tests)
 
 before-more : (number : Option ℕ) (c : ℕ) → is_before number (c + 1) ≡ (is_before number c || is_at number c)

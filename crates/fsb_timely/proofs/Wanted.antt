@@ -1,6 +1,6 @@
 -- What an agent wants is a line that none of its outstanding requests is for.
 use Rattle.std.proofs.Common.{ℕ, ◌≡◌, min, Bool, true, false, not, ◌&&◌, ◌||◌, List, [], ◌∷◌, Option, Some, None, refl, sym, subst, inl, inr, nat_eq, nat_le, length, arith}
-use Rattle.std.proofs.lemmas.Bool.{cases_Bool, and_parts, cases_lt, both_ways, eqb-true, eq-eqb, not-true}
+use Rattle.std.proofs.lemmas.Bool.{cases_Bool, and_parts, cases_lt, both_ways, eqb-true, eq-eqb, not-true, or_parts}
 use Rattle.std.specs.List.{find, filter, list_any}
 use Rattle.std.specs.Option.{option_map}
 use Rattle.fsb_encode.specs.declared.request.Request.{Request}
@@ -49,10 +49,6 @@ least_of-passes test (n ∷ ns) m e =
       | inr f ↦ least_of-passes test ns m (let e' = rw f at e in e')
     ]
 
-or-false : (a b : Bool) → (a || b) ≡ false → (a ≡ false) × (b ≡ false)
-or-false false b e = (refl, e)
-or-false true b e = absurd (let h : ⊥ = cc in h)
-
 -- a number that differs in a test is another one
 differs : (test : ℕ → Bool) (n m : ℕ) → test n ≡ false → test m ≡ true → nat_eq n m ≡ false
 differs test n m f t =
@@ -66,7 +62,7 @@ not_asked : (p : Past) (line other : ℕ) (owings : List Owing) → list_any (λ
 unfolding is_asked_for
 not_asked p line other [] e s = refl
 not_asked p line other (owing ∷ owings) e s =
-    let parts = or-false (is_same_set p line owing.claim.line) (list_any (λ x. is_same_set p line x.claim.line) owings) e in
+    let parts = or_parts (is_same_set p line owing.claim.line) (list_any (λ x. is_same_set p line x.claim.line) owings) e in
     rw (differs (is_same_set p line) owing.claim.line other parts.0 s) (not_asked p line other owings parts.1 s)
 
 -- what is known of a need that may be asked for: no request is for its line, and none for a line of its set
@@ -76,7 +72,7 @@ unfolding is_missing is_set_taken
 missing-parts p a c owings need e =
     let outer = and_parts (not (is_met p a c need) && not (is_asked_for owings need.line)) (not (is_set_taken p owings need.earlier need.line)) e in
     let inner = and_parts (not (is_met p a c need)) (not (is_asked_for owings need.line)) outer.0 in
-    let sets = or-false (list_any (λ owing. is_same_set p need.line owing.claim.line) owings) (list_any (is_same_set p need.line) need.earlier) (not-true _ outer.1) in
+    let sets = or_parts (list_any (λ owing. is_same_set p need.line owing.claim.line) owings) (list_any (is_same_set p need.line) need.earlier) (not-true _ outer.1) in
     (not-true (is_asked_for owings need.line) inner.1, sets.0)
 
 -- a victim lies in the set of the line that it makes room for

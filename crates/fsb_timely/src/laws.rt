@@ -1,6 +1,6 @@
 //! Laws over the definitions: no code.
 
-ghost use Rattle.std.specs.Prelude.{◌≡◌, ◌↔◌, ◌<◌, ◌≤◌, ◌+◌, ◌&&◌, ◌||◌, ℕ, List, Bool, true, false, not, Some, length, if◌then◌else◌, IsTrue};
+ghost use Rattle.std.specs.Prelude.{◌≡◌, ◌↔◌, ◌<◌, ◌≤◌, ◌+◌, ◌&&◌, ◌||◌, ℕ, List, false, not, Some, length, if◌then◌else◌, IsTrue};
 ghost use Rattle.fsb_count.specs.Options.{is_some_and};
 ghost use Rattle.fsb_encode.specs.declared.request.Request.{Request};
 ghost use Rattle.fsb_hazard.specs.declared.choice.Ask.TheVariants.{Begun};

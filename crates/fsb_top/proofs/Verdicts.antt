@@ -1,8 +1,6 @@
 -- The status of a finding tells the verdict.
 use Rattle.std.proofs.Common.{◌≡◌, ℕ, List, Option, Some, None, sym, ◌∙◌, refl}
-use Rattle.std.specs.Option.{option_map}
 use Rattle.fsb_check.specs.declared.finding.Finding.{Finding}
-use Rattle.fsb_rules.specs.declared.broken.Broken.{Broken}
 use Rattle.fsb_rules.specs.Checker.{as_broken}
 use Rattle.fsb_signal.specs.declared.sample.Sample.{Sample}
 use Rattle.fsb_trace.specs.Verdict.{verdict}

@@ -1,5 +1,5 @@
 //! The check of a dump, and the line of its verdict.
-ghost use Rattle.std.specs.Prelude.{◌≡◌, ◌≤◌, ◌<◌, ◌^◌, ◌⊎◌, IsTrue, List, Some, length};
+ghost use Rattle.std.specs.Prelude.{◌≡◌, ◌≤◌, ◌<◌, ◌^◌, ◌⊎◌, IsTrue, List, length};
 ghost use Rattle.fsb_check.specs.Found.{HasManySamples};
 ghost use Rattle.fsb_io.specs.Faults.{Rose};
 ghost use Rattle.fsb_signal.specs.declared.sample.Sample.{Sample};

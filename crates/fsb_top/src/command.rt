@@ -1,4 +1,4 @@
-ghost use Rattle.std.specs.Prelude.{◌≡◌, ◌==◌, Option, None, Some, MatchOption, option_map};
+ghost use Rattle.std.specs.Prelude.{◌≡◌};
 ghost use Rattle.fsb_top.specs.Form.{form_of, form_of_two, is_name};
 ghost use Rattle.fsb_top.specs.Command.{IsCommand};
 

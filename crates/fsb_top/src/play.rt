@@ -1,5 +1,5 @@
 //! The writing of a run: its log, and its dump where one was named.
-ghost use Rattle.std.specs.Prelude.{◌≡◌, ◌≢◌, ◌≤◌, ◌<◌, ◌^◌, ◌++◌, is_some, IsTrue, OnOk, OnErr, Option, Some, None, length};
+ghost use Rattle.std.specs.Prelude.{◌≡◌, ◌≢◌, ◌≤◌, ◌<◌, ◌^◌, ◌++◌, is_some, IsTrue, OnOk, OnErr, Some, None, length};
 ghost use Rattle.std.specs.Option.{option_map, ForSome};
 ghost use Rattle.fsb_io.specs.Appends.{AppendsPart};
 ghost use Rattle.fsb_io.specs.Faults.{HasCause, Rose};

@@ -1,5 +1,5 @@
 //! The simulation of a plan.
-ghost use Rattle.std.specs.Prelude.{◌≡◌, ◌≤◌, IsTrue, IfOk, List, length, vec_len};
+ghost use Rattle.std.specs.Prelude.{◌≡◌, ◌≤◌, IsTrue, IfOk, length, vec_len};
 ghost use Rattle.fsb_access.specs.Replay.{Served};
 ghost use Rattle.fsb_access.specs.ScriptOrder.{InOrder, script_of};
 ghost use Rattle.fsb_signal.specs.Samples.{is_known_trace};

@@ -1,5 +1,5 @@
 //! How a call ended.
-ghost use Rattle.std.specs.Prelude.{◌≡◌, ◌≤◌, ◌+◌, ◌++◌, [], length};
+ghost use Rattle.std.specs.Prelude.{◌≡◌, ◌≤◌, ◌+◌, ◌++◌, length};
 ghost use Rattle.arrayvec.specs.ArrayVec.{array_vec_len};
 ghost use Rattle.fsb_top.specs.StatusText.{code_of, status_text, cause_name, dump_cause_text, line_name};
 

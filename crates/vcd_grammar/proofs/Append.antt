@@ -1,6 +1,7 @@
--- Bytes behind bytes, and events behind events: the tokens, and the blocks that are ended.
+-- Bytes behind bytes, tokens behind tokens, and events behind events.
 use Rattle.std.proofs.Common.{◌≡◌, ℕ, ◌+◌, ◌-◌, ◌<◌, List, [], ◌∷◌, ◌++◌, length, take, refl, sym, ap, ◌∙◌, arith, append_assoc, suc}
-use Rattle.vcd_grammar.specs.Tokens.{counted, run_behind, tokens_from, open_from}
+use Rattle.vcd_grammar.specs.Tokens.{Token, counted, run_behind, tokens_from, open_from}
+use Rattle.vcd_grammar.specs.Judging.{Known, turn, behind, events_in}
 use Rattle.vcd_grammar.specs.Blocks.{Block, Event, Later, Changed, blocks_from, ended}
 
 -- the run that stands open behind bytes and then others
@@ -15,6 +16,18 @@ tokens-append at run (x ∷ xs) ys =
     let next : at + 1 + length xs ≡ at + length (x ∷ xs) = omega arith in
     ap (λ ts. counted at run x ++ ts) (tokens-append (at + 1) (run_behind run x) xs ys ∙ ap (λ n. tokens_from (at + 1) (run_behind run x) xs ++ tokens_from n (open_from (run_behind run x) xs) ys) next)
     ∙ sym (append_assoc (counted at run x) (tokens_from (at + 1) (run_behind run x) xs) (tokens_from (at + length (x ∷ xs)) (open_from (run_behind run x) xs) ys))
+
+-- what is known behind tokens and then others
+pub behind-append : (k : Known) (ts us : List Token) → behind k (ts ++ us) ≡ behind (behind k ts) us
+behind-append k [] us = refl
+behind-append k (t ∷ ts) us = behind-append (turn k t).known ts us
+
+-- what happens in tokens and then others
+pub events_in-append : (k : Known) (ts us : List Token) → events_in k (ts ++ us) ≡ events_in k ts ++ events_in (behind k ts) us
+events_in-append k [] us = refl
+events_in-append k (t ∷ ts) us =
+    ap (λ es. (turn k t).events ++ es) (events_in-append (turn k t).known ts us)
+    ∙ sym (append_assoc (turn k t).events (events_in (turn k t).known ts) (events_in (behind (turn k t).known ts) us))
 
 -- there is a last block
 pub blocks_some : (block : Block) (es : List Event) → 0 < length (blocks_from block es)

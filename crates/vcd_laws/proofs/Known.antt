@@ -2,7 +2,7 @@
 use Rattle.std.proofs.Common.{◌≡◌, ℕ, zero, suc, ◌<◌, ◌≤◌, Bool, true, false, not, List, [], ◌∷◌, ◌++◌, map, Option, Some, None, refl, ap, arith, codes}
 use Rattle.std.specs.Prelude.{◌==◌, ◌&&◌, nat_le}
 use Rattle.std.specs.Fmt.{digits}
-use Rattle.std.proofs.lemmas.Bool.{eqb-true, leb-true}
+use Rattle.std.proofs.lemmas.Bool.{eqb-true, leb-true, and_parts}
 use Rattle.fsb_signal.specs.Table.{signal_number}
 use Rattle.fsb_signal.specs.DumpText.{code_of, width_of, texts_from, declaration_text, range_text}
 use Rattle.vcd_grammar.specs.Tokens.{is_white, tokens_from, open_from, ended_at, grown_at}
@@ -99,23 +99,15 @@ pub record Listed (number : ℕ) : Type 0 where
   pub few : width_of number ≤ 64
   pub code : Word (code_of number ∷ [])
 
-pub left : (a b : Bool) → (a && b) ≡ true → a ≡ true
-left true b h = refl
-left false b h = h
-
-pub right : (a b : Bool) → (a && b) ≡ true → b ≡ true
-right true b h = h
-right false b h = absurd cc
-
 pub listed : (number : ℕ) → number < 20 → Listed number
 unfolding is_listed
 listed number h =
     let test = listed_test number h in
-    let rest = right _ _ test in
-    let widths = left _ _ rest in
+    let rest = (and_parts _ _ test).1 in
+    let widths = (and_parts _ _ rest).0 in
     record {
-      lines = alone _ number (left _ _ test);
-      some = leb-true 1 (width_of number) (left _ _ widths);
-      few = leb-true (width_of number) 64 (right _ _ widths);
-      code = record { some = omega arith; few = omega arith; plain = ap (λ t. t && true) (right _ _ rest) };
+      lines = alone _ number (and_parts _ _ test).0;
+      some = leb-true 1 (width_of number) (and_parts _ _ widths).0;
+      few = leb-true (width_of number) 64 (and_parts _ _ widths).1;
+      code = record { some = omega arith; few = omega arith; plain = ap (λ t. t && true) (and_parts _ _ rest).1 };
     }

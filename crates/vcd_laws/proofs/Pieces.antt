@@ -4,32 +4,12 @@ use Rattle.std.proofs.Math.Path.{ap₂}
 use Rattle.std.specs.Prelude.{◌==◌}
 use Rattle.std.specs.List.{list_all}
 use Rattle.std.proofs.lemmas.Bool.{ne_eqb, le-ltb}
-use Rattle.vcd_grammar.specs.Tokens.{Token, is_white, is_long, longest, ended_at, grown_at, counted, run_behind, tokens_from, open_from}
+use Rattle.vcd_grammar.proofs.Append.{open-append, tokens-append, behind-append, events_in-append}
+use Rattle.vcd_grammar.specs.Tokens.{is_white, is_long, longest, ended_at, grown_at, tokens_from, open_from}
 use Rattle.vcd_grammar.specs.Blocks.{Event}
 use Rattle.vcd_grammar.specs.Judging.{Known, turn, behind, events_in}
 
 -- ---- texts one behind the other
-
-pub open_from-append : (run a b : List ℕ) → open_from run (a ++ b) ≡ open_from (open_from run a) b
-open_from-append run [] b = refl
-open_from-append run (x ∷ a) b = open_from-append (run_behind run x) a b
-
-pub tokens_from-append : (at : ℕ) (run a b : List ℕ) → tokens_from at run (a ++ b) ≡ tokens_from at run a ++ tokens_from (at + length a) (open_from run a) b
-tokens_from-append at run [] b = let here : at ≡ at + 0 = omega arith in ap (λ n. tokens_from n run b) here
-tokens_from-append at run (x ∷ a) b =
-    let place : (at + 1) + length a ≡ at + suc (length a) = omega arith in
-    ap (λ ts. counted at run x ++ ts) (tokens_from-append (at + 1) (run_behind run x) a b ∙ ap (λ n. tokens_from (at + 1) (run_behind run x) a ++ tokens_from n (open_from (run_behind run x) a) b) place)
-    ∙ sym (append_assoc (counted at run x) (tokens_from (at + 1) (run_behind run x) a) (tokens_from (at + suc (length a)) (open_from (run_behind run x) a) b))
-
-pub behind-append : (k : Known) (a b : List Token) → behind k (a ++ b) ≡ behind (behind k a) b
-behind-append k [] b = refl
-behind-append k (t ∷ a) b = behind-append (turn k t).known a b
-
-pub events_in-append : (k : Known) (a b : List Token) → events_in k (a ++ b) ≡ events_in k a ++ events_in (behind k a) b
-events_in-append k [] b = refl
-events_in-append k (t ∷ a) b =
-    ap (λ es. (turn k t).events ++ es) (events_in-append (turn k t).known a b)
-    ∙ sym (append_assoc (turn k t).events (events_in (turn k t).known a) (events_in (behind (turn k t).known a) b))
 
 -- ---- what a piece does
 
@@ -45,11 +25,11 @@ does-nothing k = record { closes = refl; known = λ at. refl; happens = λ at. r
 
 -- the tokens behind a piece are those of the rest by itself
 pub tokens_behind : (at : ℕ) (a b : List ℕ) → open_from [] a ≡ [] → tokens_from at [] (a ++ b) ≡ tokens_from at [] a ++ tokens_from (at + length a) [] b
-tokens_behind at a b closes = tokens_from-append at [] a b ∙ ap (λ run. tokens_from at [] a ++ tokens_from (at + length a) run b) closes
+tokens_behind at a b closes = tokens-append at [] a b ∙ ap (λ run. tokens_from at [] a ++ tokens_from (at + length a) run b) closes
 
 pub does-both : (a b : List ℕ) (k l m : Known) (e f : List Event) → Does a k l e → Does b l m f → Does (a ++ b) k m (e ++ f)
 does-both a b k l m e f p q = record {
-  closes = open_from-append [] a b ∙ ap (λ run. open_from run b) p.closes ∙ q.closes;
+  closes = open-append [] a b ∙ ap (λ run. open_from run b) p.closes ∙ q.closes;
   known = λ at.
       ap (behind k) (tokens_behind at a b p.closes)
       ∙ behind-append k (tokens_from at [] a) (tokens_from (at + length a) [] b)
@@ -102,7 +82,7 @@ tokens_of_word at run (x ∷ word) b plain white few =
     ∙ ap₂ (λ n r. ended_at n r) place (append_assoc run (x ∷ []) word))))
 
 pub open_of_word : (run word : List ℕ) (b : ℕ) → is_white b ≡ true → open_from run (word ++ b ∷ []) ≡ []
-open_of_word run word b white = open_from-append run word (b ∷ []) ∙ rw white refl
+open_of_word run word b white = open-append run word (b ∷ []) ∙ rw white refl
 
 -- a word and the white space behind it are one token
 pub one_token : (at : ℕ) (word : List ℕ) (b : ℕ) → Word word → is_white b ≡ true →
@@ -129,7 +109,7 @@ pub does-tokens : (word : List ℕ) (a : ℕ) (code : List ℕ) (b : ℕ) (k now
     ((at next : ℕ) → events_in k (record { place = at; word = word } ∷ record { place = next; word = code } ∷ []) ≡ events) →
     Does ((word ++ a ∷ []) ++ (code ++ b ∷ [])) k now events
 does-tokens word a code b k now events w white c blank known happens = record {
-  closes = open_from-append [] (word ++ a ∷ []) (code ++ b ∷ []) ∙ ap (λ run. open_from run (code ++ b ∷ [])) (open_of_word [] word a white) ∙ open_of_word [] code b blank;
+  closes = open-append [] (word ++ a ∷ []) (code ++ b ∷ []) ∙ ap (λ run. open_from run (code ++ b ∷ [])) (open_of_word [] word a white) ∙ open_of_word [] code b blank;
   known = λ at. ap (behind k) (both at) ∙ known at (at + length (word ++ a ∷ []));
   happens = λ at. ap (events_in k) (both at) ∙ happens at (at + length (word ++ a ∷ []));
 }

@@ -8,7 +8,7 @@ use Rattle.std.specs.Int.Bits.{and_zero_r, xor_zero_r}
 use Rattle.std.proofs.Math.Nat.{mod-eq_of_lt}
 use Rattle.std.proofs.lemmas.Nat.{mod-pow-add}
 use Rattle.std.proofs.lemmas.Nat.Bits.{and_pow, bit_at-lt}
-use Rattle.std.proofs.lemmas.Bool.{eqb-true, ne_eqb}
+use Rattle.std.proofs.lemmas.Bool.{eqb-true, ne_eqb, and_parts}
 use Rattle.fsb_signal.specs.declared.sample.Sample.{Sample}
 use Rattle.fsb_signal.specs.Samples.{is_known}
 use Rattle.fsb_signal.specs.DumpText.{width_of, value_of}
@@ -18,7 +18,7 @@ use Rattle.vcd_grammar.specs.declared.level.Level.{Level}
 use Rattle.vcd_grammar.specs.Levels.{level_of, asserted_at, unknown_at, control_of, without, bits_from, is_low}
 use Rattle.vcd_grammar.specs.Values.{sample_at, sample_of}
 use Rattle.vcd_laws.proofs.Digits.{low-digits_of, unknown-digits_of}
-use Rattle.vcd_laws.proofs.Known.{next, none, left, right}
+use Rattle.vcd_laws.proofs.Known.{next, none}
 use Rattle.vcd_laws.proofs.Lines.{digits_at, line_digits}
 
 -- ---- a number from its bits
@@ -195,13 +195,13 @@ record IsKnown (s : Sample) : Type 0 where
 
 known_parts : (s : Sample) → is_known s ≡ true → IsKnown s
 known_parts s h =
-    let three_known = left _ _ h in
-    let two_known = left _ _ three_known in
+    let three_known = (and_parts _ _ h).0 in
+    let two_known = (and_parts _ _ three_known).0 in
     record {
-      lines = eqb-true _ _ (left _ _ two_known);
-      req = eqb-true _ _ (right _ _ two_known);
-      addr = eqb-true _ _ (right _ _ three_known);
-      dbus = eqb-true _ _ (right _ _ h);
+      lines = eqb-true _ _ (and_parts _ _ two_known).0;
+      req = eqb-true _ _ (and_parts _ _ two_known).1;
+      addr = eqb-true _ _ (and_parts _ _ three_known).1;
+      dbus = eqb-true _ _ (and_parts _ _ h).1;
     }
 
 pub sample-back : (clock : ℕ) (s : Sample) → is_known s ≡ true → s.dbus.bits < 2 ^ 64 → sample_of (digits_at clock s) ≡ s

@@ -2,7 +2,7 @@
 use Rattle.std.proofs.Common.{◌≡◌, ℕ, ◌-◌, ◌^◌, ◌<◌, ◌≤◌, true, false, List, [], ◌∷◌, ◌++◌, length, Some, refl, arith, rules}
 use Rattle.std.specs.Fmt.{decimal}
 use Rattle.std.specs.List.{list_all}
-use Rattle.std.proofs.lemmas.Bool.{ne_eqb, le-ltb, le-leb, lt-ltb, leb-true, lt-leb}
+use Rattle.std.proofs.lemmas.Bool.{ne_eqb, le-ltb, le-leb, lt-ltb, leb-true, lt-leb, and_parts}
 use Rattle.std.proofs.lemmas.Fmt.{digits_decimal, digits_value-decimal, length-decimal-le, decimal_nonempty}
 use Rattle.std.proofs.lemmas.Str.Parse.{IsNumeralModel, numerals_by_fold}
 use Rattle.vcd_grammar.specs.Tokens.{is_white}
@@ -11,7 +11,7 @@ use Rattle.vcd_grammar.specs.Words.{value_word}
 use Rattle.vcd_grammar.specs.Blocks.{Later}
 use Rattle.vcd_grammar.specs.Judging.{turn}
 use Rattle.vcd_laws.proofs.Pieces.{Word, Does, does-token, is_plain}
-use Rattle.vcd_laws.proofs.Known.{written, left, right}
+use Rattle.vcd_laws.proofs.Known.{written}
 
 -- the grammar's numbers are those of decimal digits
 own : IsNumeralModel (λ ds. list_all is_digit ds ≡ true) (number_from 0)
@@ -28,12 +28,12 @@ few time h = length-decimal-le 20 time (omega arith) (omega arith) h
 
 digit_plain : (b : ℕ) → is_digit b ≡ true → is_white b ≡ false
 digit_plain b h =
-    let low : 48 ≤ b = leb-true 48 b (left _ _ h) in
+    let low : 48 ≤ b = leb-true 48 b (and_parts _ _ h).0 in
     rw (le-leb 9 b (omega arith), lt-leb b 13 (omega arith), ne_eqb b 32 (λ e. omega arith)) refl
 
 digits_plain : (ds : List ℕ) → list_all is_digit ds ≡ true → is_plain ds ≡ true
 digits_plain [] h = refl
-digits_plain (b ∷ bs) h = rw (digit_plain b (left _ _ h)) (digits_plain bs (right _ _ h))
+digits_plain (b ∷ bs) h = rw (digit_plain b (and_parts _ _ h).0) (digits_plain bs (and_parts _ _ h).1)
 
 stamp_is_word : (time : ℕ) → time < 2 ^ 64 → Word (35 ∷ decimal time)
 stamp_is_word time h = record { some = omega arith; few = omega (arith, few time h); plain = digits_plain (decimal time) (all_digits time h) }

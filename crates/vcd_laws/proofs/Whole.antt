@@ -1,10 +1,12 @@
 -- A whole written dump: it has no fault, and its samples are those that it was written of.
 use Rattle.std.proofs.Common.{◌≡◌, ℕ, suc, ◌+◌, ◌^◌, ◌<◌, ◌≤◌, true, List, [], ◌∷◌, ◌++◌, length, None, refl, sym, ap, ◌∙◌, arith, append_assoc, append-nil, codes, subst}
+use Rattle.std.proofs.lemmas.Bool.{and_parts}
 use Rattle.std.proofs.Math.Path.{ap₂}
 use Rattle.std.specs.Prelude.{All}
 use Rattle.fsb_signal.specs.declared.sample.Sample.{Sample}
 use Rattle.fsb_signal.specs.Samples.{is_known_trace, idle}
 use Rattle.fsb_signal.specs.DumpText.{texts_from, sample_value_text, header_text, clock_text, clocks_text, dump_text}
+use Rattle.vcd_grammar.proofs.Append.{open-append, behind-append, events_in-append}
 use Rattle.vcd_grammar.specs.Tokens.{ended_at, tokens_from, open_from, tokens_of}
 use Rattle.vcd_grammar.specs.Digits.{extended}
 use Rattle.vcd_grammar.specs.Words.{value_word, is_read_past}
@@ -12,8 +14,8 @@ use Rattle.vcd_grammar.specs.Blocks.{Event, Later, Changed, blocks_of, blocks_fr
 use Rattle.vcd_grammar.specs.Values.{Values, at_first, values_behind, samples_in}
 use Rattle.vcd_grammar.specs.Judging.{nothing, turn, behind, events_in}
 use Rattle.vcd_grammar.specs.Reading.{or_cut, first_fault, samples_of, Reads}
-use Rattle.vcd_laws.proofs.Pieces.{Does, does-nothing, does-both, does-token, open_from-append, tokens_behind, behind-append, events_in-append}
-use Rattle.vcd_laws.proofs.Known.{written, fixed_text, unknown_lines, fixed-closes, fixed-known, fixed-happens, changed, left, right}
+use Rattle.vcd_laws.proofs.Pieces.{Does, does-nothing, does-both, does-token, tokens_behind}
+use Rattle.vcd_laws.proofs.Known.{written, fixed_text, unknown_lines, fixed-closes, fixed-known, fixed-happens, changed}
 use Rattle.vcd_laws.proofs.Lines.{changes_of, set_to, does-values, behind-values}
 use Rattle.vcd_laws.specs.Written.{IsWritten}
 use Rattle.vcd_laws.proofs.Clocks.{clock_to, does-rising, Lead, lead-clocks, clock_events, blocks-changed, IsWhole, AreWhole, samples-clocks}
@@ -24,7 +26,7 @@ use Rattle.vcd_laws.proofs.Clocks.{clock_to, does-rising, Lead, lead-clocks, clo
 tokens-whole : (rest : List ℕ) → open_from [] rest ≡ [] → tokens_of (fixed_text ++ rest) ≡ tokens_from 0 [] fixed_text ++ tokens_from (0 + length fixed_text) [] rest
 unfolding ended_at
 tokens-whole rest closes =
-    ap (λ run. tokens_from 0 [] (fixed_text ++ rest) ++ ended_at (length (fixed_text ++ rest)) run) (open_from-append [] fixed_text rest ∙ ap (λ run. open_from run rest) fixed-closes ∙ closes)
+    ap (λ run. tokens_from 0 [] (fixed_text ++ rest) ++ ended_at (length (fixed_text ++ rest)) run) (open-append [] fixed_text rest ∙ ap (λ run. open_from run rest) fixed-closes ∙ closes)
     ∙ append-nil (tokens_from 0 [] (fixed_text ++ rest))
     ∙ tokens_behind 0 fixed_text rest fixed-closes
 
@@ -126,8 +128,8 @@ reads-some first w known all few =
 are_whole : (w : List Sample) → is_known_trace w ≡ true → All (λ s. s.dbus.bits < 2 ^ 64) w → AreWhole w
 are_whole [] known fit = tt
 are_whole (s ∷ w) known fit = (
-  record { known = left _ _ known; fits = fit 0 s (omega arith) },
-  are_whole w (right _ _ known) (λ k d within. fit (suc k) d (omega (arith, within))),
+  record { known = (and_parts _ _ known).0; fits = fit 0 s (omega arith) },
+  are_whole w (and_parts _ _ known).1 (λ k d within. fit (suc k) d (omega (arith, within))),
 )
 
 -- a written dump says the trace that it was written of

@@ -1,5 +1,6 @@
 -- The end of a text: what is answered, and which samples are appended.
 use Rattle.std.proofs.Common.{◌≡◌, ℕ, ◌+◌, ◌-◌, ◌≤◌, Bool, true, false, not, ◌&&◌, ◌||◌, ◌==◌, List, [], ◌∷◌, ◌++◌, length, take, nat_lt, if◌then◌else◌, Option, Some, None, is_some, refl, sym, ap, ◌∙◌, subst, arith, append_assoc, length-append}
+use Rattle.std.proofs.Math.Bool.{or-false}
 use Rattle.std.proofs.lemmas.Bool.{ltb-true, ltb-false, lt-ltb, le-ltb, eqb-true, eqb-false}
 use Rattle.std.proofs.lemmas.List.{append-nil, take_all, take-append-le}
 use Rattle.fsb_signal.specs.declared.sample.Sample.{Sample}
@@ -85,11 +86,7 @@ pub dump_stop_is : (limit : ℕ) (before : List Sample) (fault : Option VcdFault
     → dump_stop limit (length before) fault (not (is_some fault) && b) ≡ fault_or fault (long_or limit (before ++ one_if b x) None)
 unfolding dump_stop
 dump_stop_is limit before (Some fault) b x = refl
-dump_stop_is limit before None false x = ap (λ c. if c then Some stops.TooLong else None) (by (nat_lt limit (length before)) ∙ ap (λ (w : List Sample). nat_lt limit (length w)) (sym (append-nil before)))
-  where
-    by : (t : Bool) → (t || false) ≡ t
-    by true = refl
-    by false = refl
+dump_stop_is limit before None false x = ap (λ c. if c then Some stops.TooLong else None) (or-false (nat_lt limit (length before)) ∙ ap (λ (w : List Sample). nat_lt limit (length w)) (sym (append-nil before)))
 dump_stop_is limit before None true x = ap (λ c. if c then Some stops.TooLong else None) (by (nat_lt limit (length before)) refl ∙ ap (nat_lt limit) (sym n))
   where
     n : length (before ++ x ∷ []) ≡ length before + 1

@@ -86,7 +86,3 @@ digit-few b h = omega (arith, leb-true b 57 ((and_parts (nat_le 48 b) (nat_le b 
 
 pub not_empty : (word : List ℕ) → 0 < length word → (length word == 0) ≡ false
 not_empty word h = ne_eqb (length word) 0 (λ e. omega (arith, e, h))
-
-pub and_true : (a b : Bool) → a ≡ true → b ≡ true → (a && b) ≡ true
-and_true true b h k = k
-and_true false b h k = h

@@ -1,9 +1,9 @@
 -- The widths of the signal table.
-use Rattle.std.proofs.Common.{◌≡◌, ℕ, ◌<◌, ◌≤◌, true, false, ◌||◌, List, [], ◌∷◌, length, slice_get, slice_index, sym, Some, nat_le, nat_lt, ap, refl, arith, suc, zero}
+use Rattle.std.proofs.Common.{◌≡◌, ℕ, ◌<◌, ◌≤◌, true, false, ◌||◌, List, [], ◌∷◌, length, slice_get, slice_index, nat_le, nat_lt, refl, arith, suc, zero}
 use Rattle.std.specs.List.{list_all}
 use Rattle.std.specs.Option.{option_map_or}
 use Rattle.std.proofs.lemmas.Bool.{leb-true, ltb-false, and_parts, or_parts}
-use Rattle.fsb_signal.specs.Table.{Entry, table}
+use Rattle.fsb_signal.specs.Table.{Entry}
 use Rattle.fsb_signal.specs.DumpText.{width_of}
 use Rattle.vcd_grammar.specs.Digits.{extended}
 

@@ -1,4 +1,4 @@
-ghost use Rattle.std.specs.Prelude.{◌≡◌, [], ◌∷◌, ◌++◌, Some, None, option_map, IfSome, IfOk, OnOk};
+ghost use Rattle.std.specs.Prelude.{◌≡◌, [], ◌∷◌, ◌++◌, Some, option_map, IfSome, IfOk, OnOk};
 ghost use Rattle.vcd_grammar.specs.Codes.{lines_of, with_code};
 ghost use Rattle.vcd_read.specs.CodesView.{lines_or_none, only_of, with_single};
 

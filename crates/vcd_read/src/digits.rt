@@ -1,6 +1,6 @@
 //! Numbers, and the digits of a value.
 
-ghost use Rattle.std.specs.Prelude.{◌≡◌, ◌≤◌, ◌<◌, ◌+◌, ◌-◌, ◌*◌, ◌^◌, length, slice_index, IfSome, IfNone};
+ghost use Rattle.std.specs.Prelude.{◌≡◌, ◌≤◌, ◌<◌, ◌+◌, ◌-◌, ◌*◌, ◌^◌, length, IfSome, IfNone};
 ghost use Rattle.vcd_grammar.specs.Tokens.{is_white, is_long};
 ghost use Rattle.vcd_grammar.specs.Digits.{is_digit, number_up_to, width_in, time_in, is_unknown, is_open, is_value_digit, pad_of};
 

@@ -1,11 +1,8 @@
 ghost use Rattle.std.specs.Prelude.{◌≡◌, ℕ, ◌==◌, ◌&&◌, not, slice_get, ◌<◌, ◌+◌, ◌^◌, List, take, length, ◌≤◌, Some, IfOk, OnOk, OnErr, if◌then◌else◌};
-ghost use Rattle.fsb_signal.specs.DumpText.{width_of};
 ghost use Rattle.fsb_signal.specs.Table.{Entry, table};
 ghost use Rattle.vcd_grammar.specs.Digits.{time_in};
 ghost use Rattle.vcd_grammar.specs.Words.{header_word, value_word, stamp_word, scalar_word, vector_word, is_end};
-ghost use Rattle.vcd_grammar.specs.Codes.{lines_of};
-ghost use Rattle.vcd_grammar.specs.Values.{is_rise};
-ghost use Rattle.vcd_grammar.specs.Judging.{Known, Turn, turn, turn_in, stays, goes_to, fails, later, unless_long, drafted, declared, other_declared, line_declared, named, closed, is_declared, missing_from, header_turn, value_turn, stamped, scalar_turn, vector_turn, beside_turn, Header as in_header, Variable as in_variable, Pending as in_pending, Beside as in_beside};
+ghost use Rattle.vcd_grammar.specs.Judging.{turn, turn_in, stays, goes_to, fails, later, unless_long, drafted, declared, other_declared, line_declared, named, closed, is_declared, missing_from, header_turn, value_turn, stamped, Variable as in_variable, Pending as in_pending, Beside as in_beside};
 ghost use Rattle.vcd_grammar.specs.Reading.{or_cut};
 ghost use Rattle.vcd_read.specs.View.{known_of, lines_of as lines_view, draft_of};
 ghost use Rattle.vcd_read.specs.Lines.{rises};

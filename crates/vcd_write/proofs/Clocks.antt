@@ -1,10 +1,10 @@
 -- The texts of the clocks from one on.
 use Rattle.std.proofs.Common.{◌≡◌, ℕ, ◌+◌, ◌<◌, ◌≤◌, List, [], ◌∷◌, ◌++◌, refl, length, get_or, drop, sym, drop-cons, slice_get, Some, None, true, suc, ap, ◌∙◌, arith}
+use Rattle.std.proofs.lemmas.Bool.{true_from_ne_false}
 use Rattle.std.proofs.Math.Path.{ap₂}
 use Rattle.std.proofs.lemmas.List.{drop_all}
 use Rattle.fsb_signal.specs.declared.sample.Sample.{Sample}
 use Rattle.std.proofs.lemmas.List.Folds.{list_all_at}
-use Rattle.vcd_write.proofs.HeaderText.{true_unless}
 use Rattle.fsb_signal.specs.Samples.{is_known, is_known_trace, idle}
 use Rattle.fsb_signal.specs.DumpText.{header_text, clock_text, clocks_text, dump_text}
 
@@ -25,7 +25,7 @@ clocks_text-past w clock before past = rw (drop_all clock w past) refl
 -- each of some known samples is known
 pub is_known-at : (w : List Sample) (clock : ℕ) (now : Sample) → is_known_trace w ≡ true → clock < length w → now ≡ get_or w clock now → is_known now ≡ true
 is_known-at w clock now known within is =
-    true_unless (is_known now) (λ unknown. cc (sym known ∙ list_all_at is_known w clock now within (ap is_known (sym is) ∙ unknown)))
+    true_from_ne_false (is_known now) (λ unknown. cc (sym known ∙ list_all_at is_known w clock now within (ap is_known (sym is) ∙ unknown)))
 
 -- a dump with a first sample is its header and the texts of the clocks
 pub dump_text-some : (w : List Sample) (first : Sample) → Some first ≡ slice_get w 0 → dump_text w ≡ header_text first ++ clocks_text 0 first w

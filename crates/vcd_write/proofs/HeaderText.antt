@@ -1,9 +1,9 @@
 -- The lines of the header, by their entry.
-use Rattle.std.proofs.Common.{◌≡◌, ℕ, ◌+◌, ◌-◌, ◌<◌, ◌≤◌, ◌≢◌, List, [], ◌∷◌, ◌++◌, refl, codes, decimal, append_assoc, sym, arith, length, true, Some, slice_get, get_or, Bool, false, nat_lt, ap, ◌∙◌}
+use Rattle.std.proofs.Common.{◌≡◌, ℕ, ◌+◌, ◌-◌, ◌<◌, ◌≤◌, ◌≢◌, List, [], ◌∷◌, ◌++◌, refl, codes, decimal, append_assoc, sym, arith, length, true, Some, slice_get, get_or, Bool, nat_lt, ap, ◌∙◌}
 use Rattle.std.specs.List.{list_all}
 use Rattle.std.proofs.lemmas.Option.{slice_get_within, get_or_from_slice_get}
 use Rattle.std.proofs.lemmas.List.Folds.{list_all_at}
-use Rattle.std.proofs.lemmas.Bool.{ne_eqb, ltb-true}
+use Rattle.std.proofs.lemmas.Bool.{ne_eqb, ltb-true, true_from_ne_false}
 use Rattle.fsb_signal.specs.Table.{Entry, table}
 use Rattle.fsb_signal.specs.DumpText.{width_of, lowest_of, range_text, declaration_text}
 
@@ -31,11 +31,6 @@ declaration_text-entry number e h = rw h refl
 abbrev is_short : Entry → Bool
 is_short e = nat_lt (length e.name) 8
 
--- a test that cannot fail passes
-pub true_unless : (b : Bool) → (b ≡ false → ⊥) → b ≡ true
-true_unless true h = refl
-true_unless false h = absurd (h refl)
-
 -- the name of each entry has at most seven bytes
 pub entry_name-short : (number : ℕ) (e : Entry) → slice_get table number ≡ Some e → length e.name ≤ 7
 entry_name-short number e h =
@@ -43,7 +38,7 @@ entry_name-short number e h =
     let at : get_or table number e ≡ e = get_or_from_slice_get table number e e h in
     let all : list_all is_short table ≡ true = refl in
     let short : is_short e ≡ true =
-    true_unless (is_short e) (λ long. cc (sym all ∙ list_all_at is_short table number e within (ap is_short at ∙ long)))
+    true_from_ne_false (is_short e) (λ long. cc (sym all ∙ list_all_at is_short table number e within (ap is_short at ∙ long)))
     in
     omega (arith, ltb-true (length e.name) 8 short)
 

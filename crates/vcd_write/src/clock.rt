@@ -1,12 +1,11 @@
 //! The text of a clock.
 
-ghost use Rattle.std.specs.Prelude.{◌≡◌, ◌+◌, ◌*◌, ◌≤◌, ◌<◌, ◌^◌, ◌++◌, IsTrue, OnOk, codes, decimal, length};
+ghost use Rattle.std.specs.Prelude.{◌≡◌, ◌+◌, ◌≤◌, ◌<◌, ◌^◌, ◌++◌, IsTrue, OnOk, codes, decimal, length};
 ghost use Rattle.arrayvec.specs.ArrayVec.{array_vec_len};
 ghost use Rattle.fsb_io.specs.Appends.{AppendsPart};
 ghost use Rattle.fsb_io.specs.Faults.{HasCause};
 ghost use Rattle.fsb_signal.specs.Samples.{is_known};
-ghost use Rattle.fsb_signal.specs.DumpText.{clock_text, falling_text};
-ghost use Rattle.vcd_write.specs.Room.{values_room};
+ghost use Rattle.fsb_signal.specs.DumpText.{clock_text};
 
 use crate::value::put_changes;
 use arrayvec::ArrayVec;

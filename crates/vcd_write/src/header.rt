@@ -1,12 +1,11 @@
 //! The header: the declarations, and the values of the first sample.
 
-ghost use Rattle.std.specs.Prelude.{◌≡◌, ◌+◌, ◌*◌, ◌≤◌, ◌<◌, ◌++◌, IsTrue, OnOk, codes, length};
+ghost use Rattle.std.specs.Prelude.{◌≡◌, ◌+◌, ◌≤◌, ◌<◌, ◌++◌, IsTrue, OnOk};
 ghost use Rattle.arrayvec.specs.ArrayVec.{array_vec_len};
 ghost use Rattle.fsb_io.specs.Appends.{AppendsPart};
 ghost use Rattle.fsb_io.specs.Faults.{HasCause};
 ghost use Rattle.fsb_signal.specs.Samples.{is_known};
 ghost use Rattle.fsb_signal.specs.DumpText.{header_text, declaration_text, range_text, lowest_of, width_of, texts_from};
-ghost use Rattle.vcd_write.specs.Room.{values_room};
 
 use crate::value::put_values;
 use arrayvec::ArrayVec;

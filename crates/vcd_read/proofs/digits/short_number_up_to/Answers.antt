@@ -1,7 +1,8 @@
 use Rattle.std.proofs.Common.{◌≡◌, true, get_or, ◌∙◌, sym, arith}
+use Rattle.std.proofs.lemmas.Bool.{and_from}
 use Rattle.std.proofs.lemmas.List.Folds.{list_all_more}
 use Rattle.vcd_grammar.specs.Digits.{is_digit}
-use Rattle.vcd_read.proofs.Numbers.{and_true, not_empty, number-other, number-read, number-above, number_from-more, number-room, number-grown, digit-few}
+use Rattle.vcd_read.proofs.Numbers.{not_empty, number-other, number-read, number-above, number_from-more, number-room, number-grown, digit-few}
 use Rattle.vcd_read.proofs.digits.short_number_up_to.Goals as goal
 
 pub returns-then-not-is_digit : goal.returns-then-not-is_digit
@@ -27,7 +28,7 @@ loop-byte-preserved c =
     let i = c.loop-byte.byte-index in
     let digit : is_digit (get_or word i 0) ≡ true = sym c.is_digit.ensures ∙ c.if-not-is_digit.false in
     record {
-      digits = list_all_more is_digit word i 0 c.loop-byte-test.true ∙ and_true _ _ c.loop-byte.invariant.digits digit;
+      digits = list_all_more is_digit word i 0 c.loop-byte-test.true ∙ and_from _ _ c.loop-byte.invariant.digits digit;
       value = rw c.from.ensures (sym (number_from-more c.loop-byte.number word i c.loop-byte-test.true) ∙ c.loop-byte.invariant.value);
       small = rw c.from.ensures (number-grown c.loop-byte.number _ i c.loop-byte.invariant.small (digit-few _ digit));
     }
