@@ -1,5 +1,5 @@
 ghost use Rattle.std.specs.Prelude.{◌≡◌, ◌^◌, ◌<◌, ◌≤◌, IsTrue};
-ghost use Rattle.fsb_encode.specs.Request.{is_lawful_request, are_lawful_fields, high_bit, den_bit, clocks, pairs_of};
+ghost use Rattle.fsb_encode.specs.Request.{is_lawful_request, high_bit, den_bit, clocks, pairs_of};
 
 /// The place of A4# in the address word, whose bit 0 is A3#; in the second clock it is DEN#.
 pub const A4: u64 = 1 << 1;

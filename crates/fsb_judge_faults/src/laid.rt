@@ -1,6 +1,6 @@
 //! Waveforms, laid out of pieces.
 
-ghost use Rattle.std.specs.Prelude.{◌≡◌, ◌^◌, ◌<◌, ◌≤◌, length, IfOk};
+ghost use Rattle.std.specs.Prelude.{◌^◌, ◌<◌, ◌≤◌, length, IfOk};
 
 use fsb_rules::Checker;
 use fsb_signal::{Lines, Sample, Word};

@@ -1,7 +1,7 @@
 //! How the numbers of an orderly trace go on when one sample is added: functions with no code, whose contracts are
 //! the laws.
 
-ghost use Rattle.std.specs.Prelude.{◌≡◌, ℕ, suc, ◌+◌, ◌<◌, ◌≤◌, Bool, true, false, not, ◌&&◌, ◌||◌, if◌then◌else◌, List, [], ◌∷◌, ◌++◌, filter, Option, Some, None, length, is_some};
+ghost use Rattle.std.specs.Prelude.{◌≡◌, ℕ, suc, ◌+◌, ◌<◌, true, false, not, ◌&&◌, ◌||◌, if◌then◌else◌, [], ◌∷◌, ◌++◌, filter, Some, None, length};
 ghost use Rattle.fsb_count.specs.Options.{is_some_and, is_before, is_at};
 ghost use Rattle.fsb_signal.specs.declared.lines.TheConstants.Lines.{ADS, TRDY, DRDY};
 ghost use Rattle.fsb_signal.specs.declared.sample.Sample.{Sample};
@@ -9,7 +9,7 @@ ghost use Rattle.fsb_signal.specs.Samples.{has_line, response_of};
 ghost use Rattle.fsb_trace.specs.At.{Trace};
 ghost use Rattle.fsb_trace.specs.Requests.{live_clock_of, live_number_of};
 ghost use Rattle.fsb_trace.specs.Snoop.{snoop_end_of, is_snoop_clock};
-ghost use Rattle.fsb_trace.specs.Outcome.{response_clock_of, outcome_of, told_by, does_move, is_deferred};
+ghost use Rattle.fsb_trace.specs.Outcome.{outcome_of, told_by, does_move, is_deferred};
 ghost use Rattle.fsb_trace.specs.Response.{end_of, ready_clock_of};
 ghost use Rattle.fsb_trace.specs.Rules.{may_answer};
 ghost use Rattle.fsb_trace.specs.Flight.{in_flight, last_clock_of, reply_clock_of};

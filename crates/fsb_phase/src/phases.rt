@@ -1,10 +1,10 @@
-ghost use Rattle.std.specs.Prelude.{◌≡◌, ℕ, List, ◌<◌, ◌^◌, [], ◌∷◌, ◌++◌, length};
+ghost use Rattle.std.specs.Prelude.{◌≡◌, ℕ, List, [], ◌∷◌, ◌++◌, length};
 ghost use Rattle.std.specs.Option.{option_and_then};
 ghost use Rattle.fsb_trace.specs.At.{Trace};
 ghost use Rattle.fsb_phase.specs.Drive.{drive_of, phased_at};
 ghost use Rattle.fsb_phase.specs.Flight.{InFlight};
 ghost use Rattle.fsb_phase.specs.Phases.{Stands, MayTake};
-ghost use Rattle.fsb_phase.specs.Registers.{start_after, is_snooping, snooping, stalls_at, gets_ready, answers, answered, chunk_at, is_busy, numbered_at, drive_by, snooped_by, transfer_to, has_answered, ends_by, ended_by, phased_by, snooped_to, answer_to, from_to, may_answer_at, ready_to, response_to, phases_to};
+ghost use Rattle.fsb_phase.specs.Registers.{start_after, snooping, stalls_at, gets_ready, answers, answered, chunk_at, is_busy, numbered_at, drive_by, snooped_by, transfer_to, has_answered, ends_by, phased_by, answer_to, from_to, may_answer_at, ready_to, phases_to};
 
 use crate::drive::{Drive, Phased};
 use crate::places::{code_of, is_taking, moves, open_entry};

@@ -1,9 +1,8 @@
 //! What the entries of a queue say of themselves.
 
-ghost use Rattle.std.specs.Prelude.{◌≡◌, ◌<◌};
+ghost use Rattle.std.specs.Prelude.{◌≡◌};
 ghost use Rattle.fsb_phase.specs.Due.{moves};
 ghost use Rattle.fsb_phase.specs.Drive.{code_of};
-ghost use Rattle.fsb_trace.specs.Outcome.{does_take};
 ghost use Rattle.fsb_phase.specs.Registers.{is_taking, open_entry};
 
 use fsb_queue::{Entry, Queue};

@@ -1,6 +1,6 @@
 //! When the steps of a request are due, by the clocks that they rest on and the waits that were chosen for it.
 
-ghost use Rattle.std.specs.Prelude.{◌≡◌, ◌<◌, ◌+◌, IfSome};
+ghost use Rattle.std.specs.Prelude.{◌≡◌, ◌<◌, IfSome};
 ghost use Rattle.fsb_trace.specs.Snoop.{is_every_second_from};
 ghost use Rattle.fsb_trace.specs.Timing.{is_stall_from, is_ready_from, is_response_from, chunk_from, is_busy_from};
 

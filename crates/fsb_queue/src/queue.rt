@@ -19,7 +19,6 @@ pub struct Queue {
 
 impl Model for Queue {
     ghost use Rattle.std.specs.Prelude.{List};
-    ghost use Rattle.std.specs.Coded.{coded_list};
     ghost use Rattle.fsb_queue.specs.declared.entry.Entry.{Entry};
 
     ghost Value = { List Entry };

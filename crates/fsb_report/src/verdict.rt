@@ -1,6 +1,5 @@
 //! The line of a verdict.
-ghost use Rattle.std.specs.Prelude.{◌≡◌, ◌≤◌, ◌+◌, ◌++◌, [], Option, None, Some, length};
-ghost use Rattle.arrayvec.specs.ArrayVec.{array_vec_len};
+ghost use Rattle.std.specs.Prelude.{◌≡◌, None, Some};
 ghost use Rattle.fsb_report.specs.VerdictText.{verdict_text};
 
 use arrayvec::ArrayVec;

@@ -1,6 +1,6 @@
 //! What the rules need to know of a request.
 
-ghost use Rattle.std.specs.Prelude.{◌≡◌, ◌<◌, ◌^◌};
+ghost use Rattle.std.specs.Prelude.{◌≡◌};
 ghost use Rattle.fsb_rules.specs.Asked.{asked_from};
 ghost use Rattle.fsb_rules.specs.Tests.{takes_by, is_code_by, kind_outcome, told_of, moved_by, after_chunk};
 

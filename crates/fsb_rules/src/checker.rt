@@ -1,6 +1,6 @@
 //! The checker: every rule, clock by clock.
 
-ghost use Rattle.std.specs.Prelude.{◌≡◌, ℕ, ◌+◌, ◌-◌, ◌^◌, ◌<◌, ◌≤◌, true, is_some, is_none, [], ◌∷◌, ◌++◌, length, if◌then◌else◌, Option, Some, None, ◌&&◌, not};
+ghost use Rattle.std.specs.Prelude.{◌≡◌, ◌+◌, ◌^◌, ◌<◌, ◌≤◌, true, is_some, [], ◌∷◌, ◌++◌, length, if◌then◌else◌, Some, None};
 ghost use Rattle.std.specs.List.{filter_map};
 ghost use Rattle.std.specs.Option.{option_and_then, option_to_list};
 ghost use Rattle.fsb_count.specs.Options.{is_some_and};
@@ -10,7 +10,7 @@ ghost use Rattle.fsb_trace.specs.At.{Trace, known_pair};
 ghost use Rattle.fsb_trace.specs.Verdict.{verdict};
 ghost use Rattle.fsb_arbiter.specs.Arbiter.{Stands as ArbiterStands};
 ghost use Rattle.fsb_laws.specs.OneMore.{responds};
-ghost use Rattle.fsb_rules.specs.Tests.{is_among, request_by, queue_len, snooped_by, asking_after, waiting_after, after_chunk, moving_by, ready_after_by};
+ghost use Rattle.fsb_rules.specs.Tests.{queue_len, snooped_by, asking_after, waiting_after, after_chunk, moving_by, ready_after_by};
 ghost use Rattle.fsb_rules.specs.OpenTests.{open_after, open_begun};
 ghost use Rattle.fsb_rules.specs.Steps.{begun_by, is_too_soon_by, is_identified_by, is_identity_wrong_by, is_asked_wrongly_by, is_some_asked_wrongly_by, is_lock_alone_by, is_snoop_line_alone_by, is_begun_wrongly_by, later_broken, first_broken, happened_by};
 ghost use Rattle.fsb_trace.specs.Winner.{is_agent, is_same_agent, request_line_of};

@@ -1,6 +1,6 @@
 //! The requests that are outstanding.
 
-ghost use Rattle.std.specs.Prelude.{◌≡◌, ◌<◌, ◌≤◌, ◌/◌, true, [], ◌++◌, length, count_by, if◌then◌else◌, Option, None};
+ghost use Rattle.std.specs.Prelude.{◌≡◌, ◌<◌, ◌≤◌, true, [], ◌++◌, length, count_by, if◌then◌else◌};
 ghost use Rattle.std.specs.List.{list_any, filter_map};
 ghost use Rattle.std.specs.Option.{option_and_then, option_to_list, is_some};
 ghost use Rattle.fsb_count.specs.Options.{is_at, is_before};

@@ -1,7 +1,6 @@
 //! The live requests from their second clocks to their ends.
 
-ghost use Rattle.std.specs.Prelude.{◌≡◌, ℕ, ◌+◌, ◌-◌, ◌^◌, ◌<◌, ◌≤◌, Bool, true, false, is_some, is_none, nat_le, [], ◌∷◌, ◌++◌, length, take, drop, slice_get, if◌then◌else◌, Some, None, ◌&&◌, not, ◌||◌};
-ghost use Rattle.std.specs.Option.{option_to_list};
+ghost use Rattle.std.specs.Prelude.{◌≡◌, ◌+◌, ◌<◌, ◌≤◌, true, is_some, is_none, nat_le, [], length, slice_get, if◌then◌else◌, Some, None, ◌&&◌, not, ◌||◌};
 ghost use Rattle.fsb_count.specs.Options.{is_some_and};
 ghost use Rattle.fsb_signal.specs.declared.lines.TheConstants.Lines.{AERR, TRDY, DRDY, DBSY};
 ghost use Rattle.fsb_signal.specs.Samples.{has_line, response_of};

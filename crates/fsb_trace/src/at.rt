@@ -1,6 +1,6 @@
 //! What a trace has at a clock.
 
-ghost use Rattle.std.specs.Prelude.{◌≡◌, ◌+◌, ◌^◌, ◌<◌, ◌≤◌};
+ghost use Rattle.std.specs.Prelude.{◌≡◌, ◌^◌, ◌<◌};
 ghost use Rattle.fsb_trace.specs.At.{line_back, response_code_at, responds_at, stalls_at, known_pair, known_pair_at, request_at};
 
 use fsb_encode::{Pair, Request, decode};

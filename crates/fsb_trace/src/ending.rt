@@ -1,6 +1,6 @@
 //! When a live request takes data, when its target is ready, when its data move, and when it ends.
 
-ghost use Rattle.std.specs.Prelude.{◌≡◌, ◌+◌, ◌^◌, ◌<◌, ◌≤◌, length, IfSome};
+ghost use Rattle.std.specs.Prelude.{◌≡◌, ◌^◌, ◌<◌, ◌≤◌, length, IfSome};
 ghost use Rattle.fsb_count.specs.Clocks.{from_clock};
 ghost use Rattle.fsb_signal.specs.Samples.{line_at};
 ghost use Rattle.fsb_trace.specs.Response.{takes, data_clock_of, end_of, is_clear_before, clock_after_snoop, ready_after, ready_clock_of};

@@ -1,7 +1,7 @@
 //! Requests in flight, requests that are outstanding, and replies to deferred ones.
 
-ghost use Rattle.std.specs.Prelude.{◌≡◌, ◌+◌, ◌^◌, ◌<◌, length, IfSome};
-ghost use Rattle.fsb_trace.specs.Flight.{is_dropped, has_ended, is_in_flight, in_flight, is_reply_to, is_live_reply_to, reply_clock_of, reply_number_of, reply_end_of, last_clock_of, is_finished, is_outstanding};
+ghost use Rattle.std.specs.Prelude.{◌≡◌, ◌^◌, ◌<◌, length, IfSome};
+ghost use Rattle.fsb_trace.specs.Flight.{is_dropped, has_ended, is_in_flight, in_flight, is_reply_to, is_live_reply_to, reply_clock_of, reply_end_of, last_clock_of, is_finished, is_outstanding};
 ghost use Rattle.fsb_trace.specs.Deferral.{answers, is_answered};
 
 use crate::at::request_at;

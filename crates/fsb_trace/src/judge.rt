@@ -1,6 +1,6 @@
 //! The verdict on a trace, clock by clock and rule by rule.
 
-ghost use Rattle.std.specs.Prelude.{◌≡◌, ◌+◌, ◌^◌, ◌<◌, length, IfSome};
+ghost use Rattle.std.specs.Prelude.{◌≡◌, ◌^◌, ◌<◌, length, IfSome};
 ghost use Rattle.fsb_trace.specs.Rules.{breaks};
 ghost use Rattle.fsb_trace.specs.Verdict.{is_broken, least_rule, is_foul, verdict};
 

@@ -1,6 +1,6 @@
 //! The requests of a trace.
 
-ghost use Rattle.std.specs.Prelude.{◌≡◌, ◌+◌, ◌^◌, ◌<◌, length, IfSome, IfOk};
+ghost use Rattle.std.specs.Prelude.{◌≡◌, ◌^◌, ◌<◌, length, IfSome, IfOk};
 ghost use Rattle.fsb_trace.specs.Requests.{is_cancelled, seen_at, requests_of, is_live, live_count, live_clock_of, live_number_of, live_request_of, is_reply, is_write_back, have_same_id};
 
 use crate::at::request_at;

@@ -1,6 +1,6 @@
 //! Snoop clocks and snoop ends.
 
-ghost use Rattle.std.specs.Prelude.{◌≡◌, ℕ, ◌+◌, ◌^◌, ◌<◌, ◌≤◌, length, IfSome};
+ghost use Rattle.std.specs.Prelude.{◌≡◌, ℕ, ◌^◌, ◌<◌, ◌≤◌, length, IfSome};
 ghost use Rattle.fsb_count.specs.Options.{is_before, is_at, greater_of};
 ghost use Rattle.fsb_trace.specs.Snoop.{is_every_second_from, ends_snoop, snoop_end_from, snoop_end_if, start_after_clock, start_after_end, snoop_end_of, snoop_start_of, is_snoop_clock_of, is_snoop_clock, line_at_snoop_end};
 

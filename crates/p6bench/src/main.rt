@@ -1,19 +1,21 @@
 //! The program `p6bench`: the real files and standard output under the top call.
 #![tactic(auto)]
+ghost use Rattle.std.specs.Prelude.{◌≡◌, drop, map, Err, IfOk};
+ghost use Rattle.std.specs.Process.{exit_status};
+ghost use Rattle.std.specs.String.{string_bytes};
+ghost use Rattle.fsb_top.specs.StatusText.{code_of};
 
 use fsb_io::{FileSink, FileSource, StdoutSink};
 use fsb_top::{Status, Words, bench, code, status_line};
+use std::alloc::Global;
+use std::env::Args;
 use std::io::{self, ErrorKind, Write};
 use std::process::ExitCode;
 use std::rt::{Env, Files};
 
 fn main(rt: HostRuntime) -> ExitCode {
     let status = run(&rt);
-    let line = status_line(&status);
-    if !line.is_empty() {
-        let _ = report(&rt, line.as_slice());
-    }
-    ExitCode::from(code(&status))
+    end(&rt, &status)
 }
 
 // Does what the program's words ask for.
@@ -28,20 +30,42 @@ fn run(rt: &(impl Files + Env + Print + AllocGlobal)) -> Status {
     bench(rt.alloc(), &words, &mut source, &mut out, &mut dump)
 }
 
-// The words after the program's name.
+// The words that the program was called with.
 fn words_of(rt: &(impl Env + AllocGlobal)) -> Result<Words, Status> {
-    let args = match std::env::args(rt) {
-        Ok(args) => args,
-        Err(error) if error.kind() == ErrorKind::OutOfMemory => return Err(Status::OutOfMemory),
-        Err(_) => return Err(Status::BadWords),
-    };
-    let mut words = Words::new(rt.alloc());
-    for word in args.skip(1) {
-        if words.push(rt.alloc(), word.as_str()).is_err() {
+    match std::env::args(rt) {
+        Ok(args) => words_after_name(rt.alloc(), args),
+        Err(error) if error.kind() == ErrorKind::OutOfMemory => Err(Status::OutOfMemory),
+        Err(_) => Err(Status::BadWords),
+    }
+}
+
+// The words after the program's name.
+fn words_after_name(alloc: Global, mut args: Args) -> Result<Words, Status>
+    ensures words { IfOk result (λ words. words ≡ drop 1 (map (λ word. string_bytes word) args.rest.items)) }
+    ensures memory { (status : Status) → result ≡ Err status → status ≡ Status.OutOfMemory }
+{
+    let mut words = Words::new(alloc);
+    if args.next().is_none() {
+        return Ok(words);
+    }
+    for word in args {
+        if words.push(alloc, word.as_str()).is_err() {
             return Err(Status::OutOfMemory);
         }
     }
     Ok(words)
+}
+
+// The end of the program: the status's line goes to standard error, where there is one, and its number is the exit
+// status.
+fn end(rt: &HostRuntime, status: &Status) -> ExitCode
+    ensures { exit_status result ≡ code_of status.now }
+{
+    let line = status_line(status);
+    if !line.is_empty() {
+        let _ = report(rt, line.as_slice());
+    }
+    ExitCode::from(code(status))
 }
 
 // Prints a line to standard error.
