@@ -1,10 +1,11 @@
 //! One agent's requests over a list of choices, driven by the arbiter, the queue and the phases: a loop that meets what
 //! they ask of their caller at each clock, and makes a trace that breaks no rule.
 
+use crate::tests::QUIET;
 use crate::{Drive, Phased, Phases};
 use fsb_arbiter::Arbiter;
 use fsb_encode::{Kind, Pair, Request, encode};
-use fsb_hazard::{Choice, Turn, quiet_choice};
+use fsb_hazard::{Choice, Turn};
 use fsb_io::Memory;
 use fsb_queue::{Entry, Queue};
 use fsb_signal::{Lines, Sample};
@@ -48,26 +49,38 @@ fn outcome(choice: &Choice) -> Outcome {
     }
 }
 
+/// What becomes of the request at this place of the queue, if it has this number.
+fn outcome_at(queue: &Queue, i: usize, number: Option<u32>) -> Option<Outcome> {
+    match queue.at(i) {
+        Some(e) if Some(e.number) == number => Some(outcome(&e.choice)),
+        _ => None,
+    }
+}
+
+/// The line, where it is asserted.
+fn line_if(is_asserted: bool, line: Lines) -> u32 {
+    if is_asserted { line.0 } else { 0 }
+}
+
 /// The lines that are driven.
 fn driven(drive: &Drive) -> u32 {
-    let stall = if drive.stall {
-        Lines::HIT.0 + Lines::HITM.0
-    } else {
-        0
-    };
-    let trdy = if drive.trdy { Lines::TRDY.0 } else { 0 };
-    let busy = if drive.dbsy { Lines::DBSY.0 } else { 0 };
-    let data = if drive.chunk.is_some() {
-        Lines::DRDY.0
-    } else {
-        0
-    };
     let code = u32::from(drive.rs % 8) * Lines::RS0.0;
-    stall
-        .wrapping_add(trdy)
-        .wrapping_add(busy)
-        .wrapping_add(data)
+    line_if(drive.stall, Lines::HIT)
+        .wrapping_add(line_if(drive.stall, Lines::HITM))
+        .wrapping_add(line_if(drive.trdy, Lines::TRDY))
+        .wrapping_add(line_if(drive.dbsy, Lines::DBSY))
+        .wrapping_add(line_if(drive.chunk.is_some(), Lines::DRDY))
         .wrapping_add(code)
+}
+
+/// The words of both clocks of a read with this number, which is lawful.
+fn words(number: u32) -> Option<(Pair, Pair)> {
+    let asked = request(number);
+    if asked.is_lawful() {
+        Some(encode(&asked))
+    } else {
+        None
+    }
 }
 
 impl Bus {
@@ -97,35 +110,59 @@ impl Bus {
         }
     }
 
-    /// DEFER# at a snoop end whose request is to be retried.
-    fn defer(&self, drive: &Drive) -> u32 {
-        if drive.stall || drive.snoop.is_none() {
-            return 0;
+    /// Whether a request is left to begin.
+    fn wants(&self, choices: &[Choice]) -> bool {
+        self.begun < choices.len()
+    }
+
+    /// Whether the next request begins at this clock.
+    fn begins(&self, choices: &[Choice]) -> bool {
+        self.wants(choices)
+            && self.since >= 3
+            && self.queue.len() < 4
+            && self.arbiter.winner() == Some(Who::Symmetric(0))
+    }
+
+    /// Whether there is DEFER#: at a snoop end whose request is to be retried.
+    fn defers(&self, drive: &Drive) -> bool {
+        if drive.stall {
+            return false;
         }
         for i in 0..8 {
-            if let Some(e) = self.queue.at(i) {
-                if Some(e.number) == drive.snoop && outcome(&e.choice) == Outcome::Retried {
-                    return Lines::DEFER.0;
+            if outcome_at(&self.queue, i, drive.snoop) == Some(Outcome::Retried) {
+                return true;
+            }
+        }
+        false
+    }
+
+    /// The lines of the clock: what the phases drive, and what the agent does.
+    fn lines(&self, drive: &Drive, choices: &[Choice]) -> u32 {
+        let asks = self.wants(choices) && self.since != 1;
+        driven(drive)
+            .wrapping_add(line_if(self.defers(drive), Lines::DEFER))
+            .wrapping_add(line_if(asks, Lines::BREQ0))
+            .wrapping_add(line_if(self.error().is_some(), Lines::AERR))
+            .wrapping_add(line_if(self.begins(choices), Lines::ADS))
+    }
+
+    /// Gives the request with this number its outcome.
+    fn settle(&mut self, number: Option<u32>) {
+        for i in 0..8 {
+            let found = outcome_at(&self.queue, i, number);
+            if let Some(outcome) = found {
+                if i < self.queue.len() {
+                    self.queue.settle(i, outcome);
                 }
             }
         }
-        0
     }
 
     /// Takes what happened at the clock into the queue.
-    fn settle(&mut self, clock: u32, phased: &Phased) -> Result<(), Memory> {
+    fn pass(&mut self, clock: u32, phased: &Phased) -> Result<(), Memory> {
         if phased.snooped.is_some() {
             self.snooped.push(clock)?;
-            for i in 0..8 {
-                if i < self.queue.len() {
-                    let entry = self.queue.at(i).copied();
-                    if let Some(e) = entry {
-                        if Some(e.number) == phased.snooped {
-                            self.queue.settle(i, outcome(&e.choice));
-                        }
-                    }
-                }
-            }
+            self.settle(phased.snooped);
         }
         if phased.ended.is_some() {
             self.ended.push(clock)?;
@@ -134,70 +171,53 @@ impl Bus {
         Ok(())
     }
 
-    /// One clock: the sample is made of what the machines say, and they take it.
-    fn step(&mut self, clock: u32, choices: &[Choice]) -> Result<(), Memory> {
-        let drive = self.phases.drive(clock, &self.queue);
-        let cancelled = self.error();
-        let wants = self.begun < choices.len();
-        let begins = wants
-            && self.since >= 3
-            && self.queue.len() < 4
-            && self.arbiter.winner() == Some(Who::Symmetric(0));
-        let asks = if wants && self.since != 1 {
-            Lines::BREQ0.0
-        } else {
-            0
-        };
-        let errs = if cancelled.is_some() {
-            Lines::AERR.0
-        } else {
-            0
-        };
-        let starts = if begins { Lines::ADS.0 } else { 0 };
-        let lines = driven(&drive)
-            .wrapping_add(self.defer(&drive))
-            .wrapping_add(asks)
-            .wrapping_add(errs)
-            .wrapping_add(starts);
-        let number = (self.begun % 1024) as u32;
-        let asked = request(number);
-        if !asked.is_lawful() {
-            return Ok(());
-        }
-        let pairs = encode(&asked);
-        let words = if begins {
-            pairs.0
-        } else {
-            self.second.unwrap_or(Pair { addr: 0, req: 0 })
-        };
-        let sample = Sample::known(
-            Lines(lines % (1 << 18)),
-            words.req % 32,
-            words.addr % (1 << 33),
-            0,
-        );
-        let phased = self.phases.absorb(clock, &sample, &self.queue);
-        self.arbiter.absorb(&sample);
-        self.trace.push(sample)?;
-        self.settle(clock, &phased)?;
-        if let Some(k) = cancelled {
-            let _ = self.queue.cancel(k);
-        }
-        self.second = None;
-        self.since = self.since.saturating_add(1);
-        if begins && self.begun < choices.len() && self.queue.len() < 8 {
+    /// Takes the request that began at the clock into the queue, with the words of its second clock.
+    fn begin(&mut self, clock: u32, number: u32, choices: &[Choice], second: Pair) {
+        if self.begun < choices.len() && self.queue.len() < 8 {
             let choice = choices[self.begun];
             self.queue.enter(Entry {
                 number,
                 clock,
                 who: Who::Symmetric(0),
-                request: asked,
+                request: request(number),
                 choice,
                 outcome: None,
             });
-            self.second = Some(pairs.1);
+            self.second = Some(second);
             self.since = 1;
             self.begun = self.begun.saturating_add(1);
+        }
+    }
+
+    /// One clock: the sample is made of what the machines say, and they take it.
+    fn step(&mut self, clock: u32, choices: &[Choice]) -> Result<(), Memory> {
+        let drive = self.phases.drive(clock, &self.queue);
+        let cancelled = self.error();
+        let begins = self.begins(choices);
+        let lines = self.lines(&drive, choices);
+        let number = (self.begun % 1024) as u32;
+        let Some((first, second)) = words(number) else {
+            return Ok(());
+        };
+        let put = if begins { Some(first) } else { self.second };
+        let on_bus = put.unwrap_or(Pair { addr: 0, req: 0 });
+        let sample = Sample::known(
+            Lines(lines % (1 << 18)),
+            on_bus.req % 32,
+            on_bus.addr % (1 << 33),
+            0,
+        );
+        let phased = self.phases.absorb(clock, &sample, &self.queue);
+        self.arbiter.absorb(&sample);
+        self.trace.push(sample)?;
+        self.pass(clock, &phased)?;
+        if let Some(k) = cancelled {
+            let _ = self.queue.cancel(k);
+        }
+        self.second = None;
+        self.since = self.since.saturating_add(1);
+        if begins {
+            self.begin(clock, number, choices, second);
         }
         Ok(())
     }
@@ -227,52 +247,53 @@ fn expect_accepted(rt: &impl Abort, alloc: Global, choices: &[Choice], clocks: u
     assert_eq!(rt; snoop_end(w, live), None);
 }
 
+/// Choices of every hazard that a request has.
+const HAZARDS: [Choice; 9] = [
+    Choice { stall: 2, ..QUIET },
+    Choice {
+        aerr: true,
+        ..QUIET
+    },
+    Choice {
+        resp: 3,
+        gap: 2,
+        ..QUIET
+    },
+    Choice {
+        turn: Turn::Retry,
+        ..QUIET
+    },
+    Choice {
+        aerr: true,
+        stall: 1,
+        ..QUIET
+    },
+    Choice {
+        trdy: 4,
+        resp: 1,
+        gap: 1,
+        ..QUIET
+    },
+    Choice {
+        stall: 3,
+        turn: Turn::Defer(4),
+        ..QUIET
+    },
+    Choice {
+        stall: 1,
+        resp: 200,
+        turn: Turn::Retry,
+        ..QUIET
+    },
+    QUIET,
+];
+
 #[test]
 fn quiet_requests(rt: HostRuntime) {
-    expect_accepted(&rt, rt.alloc(), &[quiet_choice(); 6], 80, 6);
+    expect_accepted(&rt, rt.alloc(), &[QUIET; 6], 80, 6);
 }
 
 #[test]
-fn requests_with_every_hazard(rt: HostRuntime) {
-    let quiet = quiet_choice();
-    let choices = [
-        Choice { stall: 2, ..quiet },
-        Choice {
-            aerr: true,
-            ..quiet
-        },
-        Choice {
-            resp: 3,
-            gap: 2,
-            ..quiet
-        },
-        Choice {
-            turn: Turn::Retry,
-            ..quiet
-        },
-        Choice {
-            aerr: true,
-            stall: 1,
-            ..quiet
-        },
-        Choice {
-            trdy: 4,
-            resp: 1,
-            gap: 1,
-            ..quiet
-        },
-        Choice {
-            stall: 3,
-            turn: Turn::Defer(4),
-            ..quiet
-        },
-        Choice {
-            stall: 1,
-            resp: 200,
-            turn: Turn::Retry,
-            ..quiet
-        },
-        quiet,
-    ];
-    expect_accepted(&rt, rt.alloc(), &choices, 400, 7);
+fn requests_with_each_hazard_of_a_request(rt: HostRuntime) {
+    expect_accepted(&rt, rt.alloc(), &HAZARDS, 400, 7);
 }

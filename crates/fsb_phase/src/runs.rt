@@ -1,34 +1,36 @@
 //! Runs, laid out clock by clock by their control lines.
 
-const BREQ0: u32 = 1;
+use fsb_signal::Lines;
 
-const BREQ1: u32 = 2;
+const BREQ0: u32 = Lines::BREQ0.0;
 
-const BPRI: u32 = 16;
+const BREQ1: u32 = Lines::BREQ1.0;
 
-const LOCK: u32 = 32;
+const BPRI: u32 = Lines::BPRI.0;
 
-const ADS: u32 = 128;
+const LOCK: u32 = Lines::LOCK.0;
 
-const AERR: u32 = 256;
+const ADS: u32 = Lines::ADS.0;
 
-const HIT: u32 = 512;
+const AERR: u32 = Lines::AERR.0;
 
-const HITM: u32 = 1024;
+const HIT: u32 = Lines::HIT.0;
 
-const DEFER: u32 = 2048;
+const HITM: u32 = Lines::HITM.0;
 
-const RS0: u32 = 4096;
+const DEFER: u32 = Lines::DEFER.0;
 
-const RS1: u32 = 8192;
+const RS0: u32 = Lines::RS0.0;
 
-const RS2: u32 = 16384;
+const RS1: u32 = Lines::RS1.0;
 
-const TRDY: u32 = 32768;
+const RS2: u32 = Lines::RS2.0;
 
-const DBSY: u32 = 65536;
+const TRDY: u32 = Lines::TRDY.0;
 
-const DRDY: u32 = 131072;
+const DBSY: u32 = Lines::DBSY.0;
+
+const DRDY: u32 = Lines::DRDY.0;
 
 /// Two agents load different lines.
 pub const TWO_AGENTS_OVERLAP: [u32; 16] = [

@@ -1,5 +1,7 @@
 //! Whole runs, in which the phases drive what the run has, clock by clock.
 
+ghost use Rattle.std.specs.Prelude.{◌<◌};
+
 use crate::runs::{
     CANCELLED_BY_ADDRESS_ERROR, DEFERRED_AND_REPLIED, DIRTY_VICTIM_WRITTEN_BACK,
     HANDED_ON_WITH_WAITS, LOCKED_INCREMENTS, SECOND_STALLED, STALLED_SNOOP, TWO_AGENTS_OVERLAP,
@@ -18,7 +20,8 @@ use std::process::Abort;
 /// cancelled.
 type Told = (Kind, Choice, Outcome, u32, u32);
 
-const QUIET: Choice = Choice {
+/// No hazard.
+pub(crate) const QUIET: Choice = Choice {
     bnr: false,
     aerr: false,
     stall: 0,
@@ -71,15 +74,19 @@ fn expect_chunk(rt: &impl Abort, drive: &Drive, queue: &Queue, came: u8) {
     }
 }
 
+/// Whether the entry at this place of the queue has this number.
+fn has_number(queue: &Queue, i: usize, number: u32) -> bool {
+    match queue.at(i) {
+        Some(e) => e.number == number,
+        None => false,
+    }
+}
+
 /// Gives the entry of the number its outcome.
 fn settle(queue: &mut Queue, number: u32, outcome: Outcome) {
     for i in 0..8 {
-        if i < queue.len() {
-            if let Some(e) = queue.at(i).copied() {
-                if e.number == number {
-                    queue.settle(i, outcome);
-                }
-            }
+        if i < queue.len() && has_number(queue, i, number) {
+            queue.settle(i, outcome);
         }
     }
 }
@@ -99,6 +106,26 @@ fn step(rt: &impl Abort, queue: &mut Queue, clock: u32, phased: &Phased, told: &
         let left = queue.leave();
         assert_eq!(rt; left.map(|e| e.number), Some(number));
     }
+}
+
+/// Cancels the last entry, and asserts that it began three clocks before this one.
+fn cancel(rt: &impl Abort, queue: &mut Queue, clock: u32) {
+    let last = queue.len();
+    assert!(rt; 0 < last);
+    let clock_and_number = queue.at(last - 1).map(|e| (e.clock, e.number));
+    if let Some((begun, number)) = clock_and_number {
+        assert_eq!(rt; begun, clock.saturating_sub(3));
+        assert!(rt; queue.cancel(number).is_some());
+    }
+}
+
+/// Takes the request of this number, which begins at the clock, into the queue, and asserts that it is told.
+fn begin(rt: &impl Abort, queue: &mut Queue, number: usize, clock: u32, told: &[Told])
+    requires { number < 1000 }
+{
+    assert!(rt; number < told.len());
+    assert!(rt; queue.len() < 8);
+    queue.enter(entry(number as u32, clock, &told[number]));
 }
 
 /// Runs the phases over the run: asserts that at each clock they drive what is on its lines, and that its requests have
@@ -127,20 +154,10 @@ fn expect_run(rt: &impl Abort, alloc: Global, clocks: &[u32], told: &[Told]) {
         ended += usize::from(phased.ended.is_some());
         step(rt, &mut queue, clock, &phased, told);
         if taken.has(Lines::AERR) {
-            let last = queue.len();
-            if 0 < last {
-                if let Some(e) = queue.at(last - 1).copied() {
-                    assert_eq!(rt; e.clock, clock.saturating_sub(3));
-                    let gone = queue.cancel(e.number);
-                    assert_eq!(rt; gone.is_some(), true);
-                }
-            }
+            cancel(rt, &mut queue, clock);
         }
         if taken.has(Lines::ADS) {
-            assert!(rt; begun < told.len());
-            if queue.len() < 8 {
-                queue.enter(entry(begun as u32, clock, &told[begun]));
-            }
+            begin(rt, &mut queue, begun, clock, told);
             begun += 1;
         }
     }

@@ -1,7 +1,4 @@
-use crate::{
-    Outcome, code_of, moves, numbers_stay, one_snoop_at_a_clock, requests_rise,
-    rules_rest_on_the_past, snoop_ends_rise, verdict_is_least,
-};
+use crate::{Outcome, code_of, moves};
 
 #[test]
 fn outcomes_move_data_and_have_codes(rt: HostRuntime) {
@@ -18,14 +15,4 @@ fn outcomes_move_data_and_have_codes(rt: HostRuntime) {
         assert_eq!(rt; moves(outcome), does_move);
         assert_eq!(rt; code_of(outcome), code);
     }
-}
-
-#[test]
-fn laws_can_be_called() {
-    requests_rise();
-    snoop_ends_rise();
-    one_snoop_at_a_clock();
-    numbers_stay();
-    rules_rest_on_the_past();
-    verdict_is_least();
 }

@@ -3,6 +3,7 @@
 ghost use Rattle.std.specs.Prelude.{◌^◌, ◌<◌, length};
 
 use crate::laid_out::{laid_out, sample, with_sample, with_turned};
+use crate::lines::{ADS, AERR, BNR, BREQ1, DBSY, DRDY, HIT, LOCK, RS0, RS1, RS2, TRDY};
 use crate::runs::{
     CANCELLED_BY_ADDRESS_ERROR, Clock, DEFERRED_AND_REPLIED, DIRTY_VICTIM_WRITTEN_BACK,
     LEAST_RULE_NAMED, LOAD_THEN_STORE_HIT, LOCKED_INCREMENTS, LOOK_AHEAD_TWO, QUEUE_DEPTH_BROKEN,
@@ -81,7 +82,7 @@ fn expect_alike(rt: &impl Abort, alloc: Global, clocks: &[Clock])
 }
 
 #[test]
-fn accepted_rows(rt: HostRuntime) {
+fn worked_waveforms_are_accepted(rt: HostRuntime) {
     expect_accepted(&rt, rt.alloc(), &LOAD_THEN_STORE_HIT);
     expect_accepted(&rt, rt.alloc(), &TWO_AGENTS_OVERLAP);
     expect_accepted(&rt, rt.alloc(), &STORE_HANDED_OVER_BEFORE_ARRIVAL);
@@ -98,7 +99,7 @@ fn accepted_rows(rt: HostRuntime) {
 }
 
 #[test]
-fn rejected_rows(rt: HostRuntime) {
+fn broken_waveforms_are_rejected(rt: HostRuntime) {
     expect_rejected(&rt, rt.alloc(), &REQUEST_SPACING_BROKEN, 4, 2);
     expect_rejected(&rt, rt.alloc(), &LEAST_RULE_NAMED, 1, 2);
     expect_rejected(&rt, rt.alloc(), &QUEUE_DEPTH_BROKEN, 26, 4);
@@ -107,27 +108,29 @@ fn rejected_rows(rt: HostRuntime) {
 
 #[test]
 fn each_rule_broken_by_one_sample(rt: HostRuntime) {
+    let normal_data = RS0 | RS1 | RS2;
+    let moves = DBSY | DRDY;
     // The clock, the asserted lines, the unknown lines, REQ, the address, the unknown data bits, and the rule.
     let edits = [
-        (7, 0, 512, 0, 0, 0, 1),
-        (4, 2 + 128, 0, 6, 0x10, 0, 2),
-        (3, 2, 0, 3, 2, 0, 3),
-        (3, 2, 0, 2, 0x2_0002, 0, 7),
+        (7, 0, HIT, 0, 0, 0, 1),
+        (4, BREQ1 | ADS, 0, 6, 0x10, 0, 2),
+        (3, BREQ1, 0, 3, 2, 0, 3),
+        (3, BREQ1, 0, 2, 0x2_0002, 0, 7),
         (4, 0, 0, 0, 0, 0, 8),
-        (7, 32, 0, 0, 0, 0, 9),
-        (7, 256, 0, 0, 0, 0, 10),
-        (7, 512, 0, 0, 0, 0, 11),
-        (7, 0x7000, 0, 0, 0, 0, 13),
-        (8, 0x3_5000, 0, 0, 0, 0, 14),
-        (8, 0x3_f000, 0, 0, 0, 0, 15),
-        (11, 0x3_0000, 0, 0, 0, 0, 16),
-        (9, 0x3_0000, 0, 0, 0, 1, 17),
+        (7, LOCK, 0, 0, 0, 0, 9),
+        (7, AERR, 0, 0, 0, 0, 10),
+        (7, HIT, 0, 0, 0, 0, 11),
+        (7, normal_data, 0, 0, 0, 0, 13),
+        (8, RS0 | RS2 | moves, 0, 0, 0, 0, 14),
+        (8, normal_data | TRDY | moves, 0, 0, 0, 0, 15),
+        (11, moves, 0, 0, 0, 0, 16),
+        (9, moves, 0, 0, 0, 1, 17),
     ];
     for (at, lines, unknown, req, addr, data, rule) in edits {
         let edit = sample(lines, unknown, req, addr, data);
         expect_broken(&rt, rt.alloc(), &TWO_AGENTS_OVERLAP, at, edit, rule);
     }
-    let hit_of_a_write_back = sample(512, 0, 0, 0, 0);
+    let hit_of_a_write_back = sample(HIT, 0, 0, 0, 0);
     expect_broken(
         &rt,
         rt.alloc(),
@@ -142,24 +145,24 @@ fn each_rule_broken_by_one_sample(rt: HostRuntime) {
         rt.alloc(),
         &TWO_AGENTS_OVERLAP,
         3,
-        sample(2 + 64, 0, 2, 2, 0),
+        sample(BREQ1 | BNR, 0, 2, 2, 0),
     )
     .expect(&rt, "out of memory");
     expect_verdict(&rt, &blocked, Some((5, 5)));
 }
 
 #[test]
-fn one_line_turned_over(rt: HostRuntime) {
+fn judges_agree_where_one_line_is_turned_over(rt: HostRuntime) {
     expect_alike(&rt, rt.alloc(), &STALLED_SNOOP);
     expect_alike(&rt, rt.alloc(), &CANCELLED_BY_ADDRESS_ERROR);
     expect_alike(&rt, rt.alloc(), &DEFERRED_AND_REPLIED);
 }
 
 #[test]
-fn found_once_stays(rt: HostRuntime) {
+fn first_verdict_stays(rt: HostRuntime) {
     let found = Some(Broken { clock: 0, rule: 2 });
     let mut checker = Checker::new();
-    assert_eq!(rt; checker.feed(&sample(1 << 7, 0, 0, 0, 0)), found);
+    assert_eq!(rt; checker.feed(&sample(ADS, 0, 0, 0, 0)), found);
     assert_eq!(rt; checker.feed(&sample(0, 0, 0, 0, 0)), found);
-    assert_eq!(rt; checker.feed(&sample(1 << 8, 1 << 9, 0, 0, 0)), found);
+    assert_eq!(rt; checker.feed(&sample(AERR, HIT, 0, 0, 0)), found);
 }

@@ -8,6 +8,8 @@ mod judged;
 #[cfg(test)]
 mod laid_out;
 #[cfg(test)]
+mod lines;
+#[cfg(test)]
 mod numbers;
 #[cfg(test)]
 mod runs;

@@ -33,7 +33,7 @@ fn expect_numbers(rt: &impl Abort, alloc: Global, clocks: &[Clock], numbers: &[N
 }
 
 #[test]
-fn canonical_text_and_trace_numbers(rt: HostRuntime) {
+fn numbers_of_one_request(rt: HostRuntime) {
     let w = laid_out(rt.alloc(), &LOAD_THEN_STORE_HIT).expect(&rt, "out of memory");
     let seen = requests(rt.alloc(), &w).expect(&rt, "out of memory");
     assert_eq!(rt; seen.len(), 1);
@@ -97,7 +97,7 @@ fn numbers_of_deferred_and_written_requests(rt: HostRuntime) {
 }
 
 #[test]
-fn winners_and_requests_of_a_reply(rt: HostRuntime) {
+fn requests_of_a_reply_and_after_an_address_error(rt: HostRuntime) {
     let w = laid_out(rt.alloc(), &DEFERRED_AND_REPLIED).expect(&rt, "out of memory");
     let seen = requests(rt.alloc(), &w).expect(&rt, "out of memory");
     let clocks = [2, 5, 14, 21, 24];

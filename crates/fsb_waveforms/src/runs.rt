@@ -1,37 +1,11 @@
 //! Traces of runs, laid out clock by clock, up to the last clock at which something is asserted.
 
+use crate::lines::{
+    ADS, AERR, BPRI, BREQ0, BREQ1, DBSY, DEFER, DRDY, HIT, HITM, LOCK, RS0, RS1, RS2, TRDY,
+};
+
 /// The control lines, the REQ word and the address word of a clock.
 pub type Clock = (u32, u64, u64);
-
-const BREQ0: u32 = 1;
-
-const BREQ1: u32 = 2;
-
-const BPRI: u32 = 16;
-
-const LOCK: u32 = 32;
-
-const ADS: u32 = 128;
-
-const AERR: u32 = 256;
-
-const HIT: u32 = 512;
-
-const HITM: u32 = 1024;
-
-const DEFER: u32 = 2048;
-
-const RS0: u32 = 4096;
-
-const RS1: u32 = 8192;
-
-const RS2: u32 = 16384;
-
-const TRDY: u32 = 32768;
-
-const DBSY: u32 = 65536;
-
-const DRDY: u32 = 131072;
 
 /// A load of one agent, and a store that hits.
 pub const LOAD_THEN_STORE_HIT: [Clock; 12] = [

@@ -3,6 +3,7 @@
 ghost use Rattle.std.specs.Prelude.{◌<◌, ◌^◌, length};
 
 use crate::laid_out::{laid_out, sample};
+use crate::lines::ADS;
 use crate::runs::{
     CANCELLED_BY_ADDRESS_ERROR, Clock, DEFERRED_AND_REPLIED, LOCKED_INCREMENTS, STALLED_SNOOP,
     TWO_AGENTS_OVERLAP, WRITE_BACK_HELD_OFF,
@@ -19,7 +20,7 @@ fn next_winner(alloc: Global, clocks: &[Clock]) -> Result<Option<Who>, Memory>
     requires { length clocks.now < 2 ^ 31 }
 {
     let mut w = laid_out(alloc, clocks)?;
-    w.push(sample(Lines::ADS.0, 0, 0, 0, 0))?;
+    w.push(sample(ADS, 0, 0, 0, 0))?;
     let seen = requests(alloc, &w)?;
     Ok(match seen.last() {
         Some(last) => last.who,

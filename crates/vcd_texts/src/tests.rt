@@ -259,7 +259,12 @@ const FIRST_FAULTS: [(&str, u64, VcdCause); 7] = [
 ];
 
 #[test]
-fn first_faults(rt: HostRuntime) -> Result<(), Fail> {
+fn written_dump_of_no_samples(rt: HostRuntime) {
+    assert!(rt; reads(rt.alloc(), NO_SAMPLES.as_bytes(), &[]));
+}
+
+#[test]
+fn first_faults_behind_a_written_dump(rt: HostRuntime) -> Result<(), Fail> {
     for (text, place, cause) in FIRST_FAULTS.iter() {
         let bytes = joined(rt.alloc(), &[NO_SAMPLES, text])?;
         let place = (NO_SAMPLES.len() as u64).wrapping_add(*place);
@@ -269,7 +274,7 @@ fn first_faults(rt: HostRuntime) -> Result<(), Fail> {
 }
 
 #[test]
-fn cut_and_missing(rt: HostRuntime) {
+fn declarations_cut_or_missing(rt: HostRuntime) {
     assert!(rt; fails(rt.alloc(), b"$var wire 1", 11, VcdCause::Cut));
     assert!(rt; fails(rt.alloc(), b"$enddefinitions $end", 0, VcdCause::Missing(0)));
 }
@@ -334,7 +339,7 @@ fn lines_that_change_at_the_edge_come_one_clock_late(rt: HostRuntime) {
 
 /// Of two samples a reader of at most one gives the first, and then refuses for good.
 #[test]
-fn streamed_in_pieces(rt: HostRuntime) -> Result<(), Fail> {
+fn reader_of_one_sample_refuses_a_second(rt: HostRuntime) -> Result<(), Fail> {
     let bytes = joined(
         rt.alloc(),
         &[SIMULATOR_HEAD, SIMULATOR_START, SIMULATOR_RISES],

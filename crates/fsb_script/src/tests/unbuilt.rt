@@ -109,7 +109,7 @@ fn cache_sets_of_locked_items(rt: HostRuntime) -> Result<(), Fail> {
 }
 
 /// A draft of two agents, each with a cache of 64 lines, behind the line `ahead 1`.
-fn two_agents(alloc: Global) -> Result<Draft, AllocError> {
+pub(crate) fn two_agents(alloc: Global) -> Result<Draft, AllocError> {
     Ok(Draft {
         place: Place::Bridge,
         agents: 2,
@@ -159,10 +159,10 @@ fn last_answer(alloc: Global, draft: Draft, lines: &[&str]) -> Result<(), LineSt
     Ok(())
 }
 
-const TAKEN: Result<(), LineStop> = Ok(());
+pub(crate) const TAKEN: Result<(), LineStop> = Ok(());
 
 /// The answer to a line that is bad for this cause.
-fn bad(cause: Cause) -> Result<(), LineStop> {
+pub(crate) fn bad(cause: Cause) -> Result<(), LineStop> {
     Err(LineStop::Bad(cause))
 }
 
