@@ -33,7 +33,7 @@ fn flat_serves_load_and_store(rt: HostRuntime) -> Result<(), Fail> {
 }
 
 #[test]
-fn replay_table(rt: HostRuntime) -> Result<(), Fail> {
+fn accesses_served_one_after_the_other(rt: HostRuntime) -> Result<(), Fail> {
     let sets = [
         Setting {
             addr: 0x58,

@@ -1,7 +1,7 @@
 use crate::{any_where, count_where, first_where, nth_where};
 
 #[test]
-fn multiples_of_three(rt: HostRuntime) {
+fn first_any_count_and_nth_where(rt: HostRuntime) {
     let test = |c: usize| c % 3 == 2;
     assert_eq!(rt; first_where(9, test), Some(2));
     assert_eq!(rt; first_where(2, test), None);

@@ -242,7 +242,7 @@ mod tests {
     }
 
     #[test]
-    fn a_row_of_each_kind(rt: HostRuntime) {
+    fn codes_of_each_kind(rt: HostRuntime) {
         // Line 5 has the byte address A0h, and its chunk 3 has B8h; a word's bit 0 is A3#.
         let rows = [
             (

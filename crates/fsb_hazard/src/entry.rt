@@ -84,7 +84,7 @@ mod tests {
     use fsb_encode::{Kind, Request};
 
     #[test]
-    fn lines_that_are_asked(rt: HostRuntime) {
+    fn answers_of_hazard_lines(rt: HostRuntime) {
         let request = Request {
             kind: Kind::Read,
             line: 2,

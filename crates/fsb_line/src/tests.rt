@@ -14,7 +14,7 @@ fn states_of_a_grant(rt: HostRuntime) {
 }
 
 #[test]
-fn shared_line_invalidated(rt: HostRuntime) {
+fn states_after_a_snoop(rt: HostRuntime) {
     assert_eq!(rt; Mesi::Shared.after_snoop(Kind::Own), Mesi::Invalid);
     assert_eq!(rt; Mesi::Exclusive.after_snoop(Kind::Read), Mesi::Shared);
     assert_eq!(rt; Mesi::Invalid.after_snoop(Kind::Read), Mesi::Invalid);
@@ -114,7 +114,7 @@ fn states_after_a_snoop_end(rt: HostRuntime) {
 }
 
 #[test]
-fn modified_overrides_retry(rt: HostRuntime) {
+fn outcomes_of_requests(rt: HostRuntime) {
     for (kind, owned, pending, turn, want) in [
         (Kind::Own, true, false, Turn::Retry, Settled::Handed),
         (Kind::Read, false, false, Turn::Retry, Settled::Retried),
@@ -131,7 +131,7 @@ fn modified_overrides_retry(rt: HostRuntime) {
 }
 
 #[test]
-fn write_back_held_off(rt: HostRuntime) {
+fn write_back_alone_is_held_off(rt: HostRuntime) {
     assert!(rt; Kind::WriteBack.is_held_off(true) && !Kind::WriteBack.is_held_off(false));
     assert!(rt; !Kind::Read.is_held_off(true));
 }
@@ -161,7 +161,7 @@ fn requests_that_accesses_need(rt: HostRuntime) {
 }
 
 #[test]
-fn three_stores_chained(rt: HostRuntime) {
+fn givers_in_a_chain_of_requests(rt: HostRuntime) {
     let first = Link {
         agent: 0,
         kind: Kind::Own,

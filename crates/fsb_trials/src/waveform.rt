@@ -20,32 +20,50 @@ const AIMS: u32 = 40;
 /// The number of the last rule.
 const RULES: u8 = 18;
 
-const BPRI: u32 = 16;
+const BREQ0: u32 = Lines::BREQ0.0;
 
-const LOCK: u32 = 32;
+const BREQ1: u32 = Lines::BREQ1.0;
 
-const BNR: u32 = 64;
+const BREQ2: u32 = Lines::BREQ2.0;
 
-const ADS: u32 = 128;
+const BREQ3: u32 = Lines::BREQ3.0;
 
-const AERR: u32 = 256;
+const BPRI: u32 = Lines::BPRI.0;
 
-const HIT: u32 = 512;
+const LOCK: u32 = Lines::LOCK.0;
 
-const HITM: u32 = 1024;
+const BNR: u32 = Lines::BNR.0;
 
-const DEFER: u32 = 2048;
+const ADS: u32 = Lines::ADS.0;
 
-const RS0: u32 = 4096;
+const AERR: u32 = Lines::AERR.0;
 
-const TRDY: u32 = 32768;
+const HIT: u32 = Lines::HIT.0;
 
-const DBSY: u32 = 65536;
+const HITM: u32 = Lines::HITM.0;
 
-const DRDY: u32 = 131_072;
+const DEFER: u32 = Lines::DEFER.0;
+
+const RS0: u32 = Lines::RS0.0;
+
+const RS1: u32 = Lines::RS1.0;
+
+const RS2: u32 = Lines::RS2.0;
+
+const TRDY: u32 = Lines::TRDY.0;
+
+const DBSY: u32 = Lines::DBSY.0;
+
+const DRDY: u32 = Lines::DRDY.0;
 
 /// The request lines of the four agents and of the priority agent.
-const REQUESTS: [u32; 5] = [1, 2, 4, 8, BPRI];
+const REQUESTS: [u32; 5] = [BREQ0, BREQ1, BREQ2, BREQ3, BPRI];
+
+/// All of them together.
+const ALL_REQUESTS: u32 = BREQ0 | BREQ1 | BREQ2 | BREQ3 | BPRI;
+
+/// The response lines.
+const RESPONSE: u32 = RS0 | RS1 | RS2;
 
 /// The lines of a clock by themselves, each with how seldom it is drawn.
 const SELDOM: [(u32, u32); 6] = [
@@ -75,9 +93,9 @@ const MARKS: [u32; 19] = [
     AERR,
     HIT | HITM | DEFER,
     HIT | HITM | DEFER,
-    7 * RS0,
-    7 * RS0,
-    7 * RS0 | TRDY,
+    RESPONSE,
+    RESPONSE,
+    RESPONSE | TRDY,
     0,
     DRDY,
     ADS,
@@ -100,7 +118,7 @@ struct Habits {
 
 /// What is drawn to break a rule.
 const BREAKING: Habits = Habits {
-    asking: 31,
+    asking: ALL_REQUESTS,
     seldom: 4,
     blurred: 2,
     responds: true,
@@ -226,8 +244,12 @@ fn breaking(draws: &mut Draws, now: &Now, w: &[Sample], rule: u8) -> Option<Step
 
 /// Who asks in a waveform, and whether it has responses: three times out of four.
 fn drawn_habits(draws: &mut Draws) -> Habits {
-    let agent = 1 << (draws.below(4) % 4);
-    let asking = if draws.once_in(3) { agent | BPRI } else { 31 };
+    let agent = BREQ0 << (draws.below(4) % 4);
+    let asking = if draws.once_in(3) {
+        agent | BPRI
+    } else {
+        ALL_REQUESTS
+    };
     let responds = !draws.once_in(4);
     let seldom = if responds { 12 } else { 3 };
     Habits {

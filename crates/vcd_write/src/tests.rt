@@ -86,7 +86,7 @@ fn read_of_a_line() -> [Sample; 3]
 }
 
 #[test]
-fn empty_run(rt: HostRuntime) -> Result<(), Fail> {
+fn dump_of_no_samples(rt: HostRuntime) -> Result<(), Fail> {
     let mut sink = MemSink::new(rt.alloc(), 2_000, &[])?;
     assert_eq!(rt; put_dump(&mut sink, &[]), Ok(()));
     assert_eq!(rt; sink.holds(), NO_SAMPLES.as_bytes());
@@ -106,7 +106,7 @@ fn two_request_clocks(rt: HostRuntime) -> Result<(), Fail> {
 }
 
 #[test]
-fn dump_fault(rt: HostRuntime) -> Result<(), Fail> {
+fn fault_leaves_the_pieces_before_it(rt: HostRuntime) -> Result<(), Fail> {
     let samples = read_of_a_line();
     let mut whole = MemSink::new(rt.alloc(), 2_000, &[])?;
     assert_eq!(rt; put_header(&mut whole, &samples[0]), Ok(()));

@@ -138,7 +138,7 @@ fn broken_rules_are_named(rt: HostRuntime) -> Result<(), Fail> {
 }
 
 #[test]
-fn simulator_dump(rt: HostRuntime) -> Result<(), Fail> {
+fn simulator_dump_without_and_with_unknown_lines(rt: HostRuntime) -> Result<(), Fail> {
     let unknown = Status::Rejected(Broken { clock: 1, rule: 1 });
     let table = [
         (SIMULATOR_RISES, Status::Done, "accepted clocks=2\n"),
@@ -155,7 +155,7 @@ fn simulator_dump(rt: HostRuntime) -> Result<(), Fail> {
 }
 
 #[test]
-fn dumps_of_simulators(rt: HostRuntime) -> Result<(), Fail> {
+fn simulator_dumps_accepted_and_then_broken(rt: HostRuntime) -> Result<(), Fail> {
     // Each is accepted. Without the line that ends DBSY# at clock 11, or BREQ0# at clock 4, the next sample breaks a rule.
     let table = [
         (FALLING, "#110\n1*\n", "#110\n", 15, 11, 16),
@@ -187,7 +187,7 @@ fn dumps_of_simulators(rt: HostRuntime) -> Result<(), Fail> {
 }
 
 #[test]
-fn cut_and_missing(rt: HostRuntime) -> Result<(), Fail> {
+fn dumps_that_are_not_read(rt: HostRuntime) -> Result<(), Fail> {
     let table = [
         ("$var wire 1", 11, VcdCause::Cut),
         ("$enddefinitions $end", 0, VcdCause::Missing(0)),
