@@ -101,7 +101,7 @@ fn is_place(size: u8, addr: u64) -> bool
 }
 
 /// Whether a number is one of so many bytes.
-fn fits(size: u8, number: u64) -> bool
+pub fn fits(size: u8, number: u64) -> bool
     requires { IsTrue (is_size size) }
     ensures { result ≡ fits size number }
 {

@@ -7,6 +7,7 @@ ghost use Rattle.fsb_rules.specs.Tests.{is_among, request_by};
 use bitflags::Flags;
 use fsb_encode::{Pair, Request, decode};
 use fsb_signal::{Lines, Sample};
+use fsb_trace::known_pair;
 
 /// What is kept of the last three clocks; none where there is no such clock.
 #[derive(Clone, Copy, Debug, PartialEq, Eq)]
@@ -29,21 +30,6 @@ fn is_among(lines: Option<Lines>, line: Lines) -> bool
     match lines {
         Some(lines) => lines.contains(line),
         None => false,
-    }
-}
-
-/// The address and REQ words of a sample, where no bit of them is unknown.
-#[tactic(auto, unfolding(fsb_trace::specs::At::known_pair))]
-fn known_pair(sample: &Sample) -> Option<Pair>
-    ensures { result ≡ known_pair sample.now }
-{
-    if sample.addr.is_known() && sample.req.is_known() {
-        Some(Pair {
-            addr: sample.addr.bits,
-            req: sample.req.bits as u8,
-        })
-    } else {
-        None
     }
 }
 

@@ -10,7 +10,7 @@ use crate::word::{
     address, decimal, decimal_within, hex_digit, hex_of, hexadecimal, is_ended, next_word,
 };
 use arrayvec::ArrayVec;
-use fsb_access::{ADDRESS_LIMIT, Access, LINE_BYTES, Operand};
+use fsb_access::{ADDRESS_LIMIT, Access, LINE_BYTES, Operand, fits};
 use fsb_hazard::HazardLine;
 
 /// The last request or clock that a hazard may name.
@@ -77,18 +77,6 @@ fn is_added(word: &[u8]) -> bool
     ensures { result ≡ is_added word.now }
 {
     word.len() >= 2 && word[0] == b'r' && word[1] == b'+'
-}
-
-fn fits(size: u8, number: u64) -> bool
-    requires { IsTrue (is_size size) }
-    ensures { result ≡ fits size number }
-{
-    match size {
-        1 => number < 0x100,
-        2 => number < 0x1_0000,
-        4 => number < 0x1_0000_0000,
-        _ => true,
-    }
 }
 
 #[tactic(auto, unfolding(crate::specs::Statements::literal_of))]

@@ -43,7 +43,7 @@ pub fn stalls_at(w: &[Sample], c: usize) -> bool
 
 /// The address and REQ words of a sample, where no bit of them is unknown.
 #[tactic(auto, unfolding(crate::specs::At::known_pair))]
-fn known_pair(sample: &Sample) -> Option<Pair>
+pub fn known_pair(sample: &Sample) -> Option<Pair>
     ensures { result ≡ known_pair sample.now }
 {
     if sample.addr.is_known() && sample.req.is_known() {

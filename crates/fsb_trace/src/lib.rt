@@ -5,6 +5,7 @@
 //! calls here are their plain, slow form, for tests and for comparison with machines that look at each sample once.
 #![tactic(auto)]
 
+pub use at::known_pair;
 pub use judge::verdict;
 pub use laws::{
     numbers_stay, one_snoop_at_a_clock, requests_rise, rules_rest_on_the_past, snoop_ends_rise,

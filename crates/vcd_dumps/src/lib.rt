@@ -1,4 +1,4 @@
-//! Dumps that other tools wrote, as texts: what the tests of several crates read.
+//! Dumps as texts: what the tests of several crates read, of other tools and of p6bench itself.
 //!
 //! Those of Icarus Verilog and Verilator are files too, in `crates/vcd_texts/data/`, and the program `vcd_texts` compares
 //! each file with its text here. `examples/dumps/` has the benches that they were written of.
@@ -9,7 +9,9 @@ pub use simulator::{
     SIMULATOR_HEAD, SIMULATOR_RISES, SIMULATOR_START, UNKNOWN_AFTER_FALL, UNKNOWN_AFTER_RISE,
 };
 pub use verilator::FALLING_VERILATOR;
+pub use written::NO_SAMPLES;
 
 mod icarus;
 mod simulator;
 mod verilator;
+mod written;

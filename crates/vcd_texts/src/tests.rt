@@ -3,11 +3,8 @@ use loads::{LATE_LOAD, LOAD, LOAD_OF_KNOWN_DATA, NO_DATA};
 use std::alloc::{AllocError, Global};
 use std::test::Fail;
 use table::{BAD, GOOD};
-use texts::{LINES, NO_SAMPLES, QUIET, VALUES};
-use vcd_dumps::{
-    FALLING, FALLING_VERILATOR, SAME_TIME, SCOPES, SIMULATOR_HEAD, SIMULATOR_RISES,
-    SIMULATOR_START, UNKNOWN_AFTER_FALL, UNKNOWN_AFTER_RISE,
-};
+use texts::{LINES, QUIET, VALUES};
+use vcd_dumps::{FALLING, FALLING_VERILATOR, NO_SAMPLES, SAME_TIME, SCOPES, SIMULATOR_HEAD, SIMULATOR_RISES, SIMULATOR_START, UNKNOWN_AFTER_FALL, UNKNOWN_AFTER_RISE};
 use vcd_read::{Reader, VcdCause, VcdFault, VcdStop, read_dump};
 
 mod loads;
