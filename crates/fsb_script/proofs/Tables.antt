@@ -1,6 +1,7 @@
 -- A table by cache set through one more line.
 use Rattle.std.proofs.Common.{◌≡◌, ℕ, ◌<◌, ◌%◌, Bool, true, false, cond, eqb, List, [], ◌∷◌, ◌++◌, length, get_or, set, Option, Some, None, refl, sym, ap, ◌∙◌, arith}
 use Rattle.std.specs.Prelude.{is_some}
+use Rattle.std.proofs.option.Match.{None-if_not_some}
 use Rattle.std.proofs.lemmas.Bool.{eqb-true, eqb-false}
 use Rattle.std.proofs.lemmas.List.{get_or_read, get_or-set_same, get_or-set_other, length-set}
 use Rattle.std.proofs.Math.Nat.{mod-lt}
@@ -19,10 +20,6 @@ or_none (Some x) = refl
 or_taken : (o d : Option ℕ) → is_some o ≡ true → or_first o d ≡ o
 or_taken None d h = absurd cc
 or_taken (Some x) d h = refl
-
-is_none_is : (o : Option ℕ) → is_some o ≡ false → o ≡ None
-is_none_is None h = refl
-is_none_is (Some x) h = absurd cc
 
 cond_or : (b : Bool) (x : ℕ) (r s t : Option ℕ) → r ≡ or_first s t → cond b (Some x) r ≡ or_first (cond b (Some x) s) t
 cond_or true x r s t h = refl
@@ -52,7 +49,7 @@ agrees_free cache lines table line slot a read free = record {
     at_place place inside true same =
         let here : line % cache ≡ place = eqb-true _ _ same in
         let within : line % cache < length table = omega (arith, a.sets) in
-        let none : first_in cache (line % cache) lines ≡ None = sym (slot_is cache lines table line slot a read) ∙ is_none_is slot free in
+        let none : first_in cache (line % cache) lines ≡ None = sym (slot_is cache lines table line slot a read) ∙ None-if_not_some slot free in
         let none_here : first_in cache place lines ≡ None = rw (← here) none in
         rw (first-push cache place lines line) (rw (none_here) (rw same (rw (← here) (get_or-set_same table (line % cache) (Some line) None within))))
     at_place place inside false differs =

@@ -9,6 +9,7 @@ use Rattle.std.specs.Option.{option_and_then, option_map_or}
 use Rattle.fsb_count.specs.Options.{is_some_and}
 use Rattle.fsb_count.specs.Clocks.{last_where, first_where}
 use Rattle.fsb_count.proofs.First.{first_where-same}
+use Rattle.fsb_count.proofs.Since.{last_where-failed}
 use Rattle.fsb_signal.proofs.AtClock.{slice_get-before}
 use Rattle.fsb_access.specs.declared.log.Done.{Done}
 use Rattle.fsb_access.specs.ScriptOrder.{script_of}
@@ -17,7 +18,6 @@ use Rattle.fsb_timely.specs.Growth.{GoesOn}
 use Rattle.fsb_timely.specs.Scripts.{is_idle, is_done_by, items_of, is_logged, is_to_do, next_number, next_item, last_done, idle_clocks, idle_start, number_after, is_idling, window_from, window_at, window, needs_of, Need}
 use Rattle.fsb_timely.specs.Hits.{is_met, is_served, is_hit}
 use Rattle.fsb_timely.proofs.Since.{last_where-found}
-use Rattle.fsb_timely.proofs.Holding.{last-failed}
 use Rattle.fsb_timely.proofs.GoingOn.{last-same, is_held-same, is_exclusive-same, is_ready-same}
 
 -- an entry of clock n or later is no entry below c
@@ -78,8 +78,8 @@ window-alike n p q a c h l =
 last-flat : (test : ℕ → Bool) (m d : ℕ) → ((k : ℕ) → m ≤ k → k < m + d → test k ≡ false) → last_where test (m + d) ≡ last_where test m
 last-flat test m zero none = let e : m + 0 ≡ m = omega arith in ap (last_where test) e
 last-flat test m (suc d) none =
-    let e : m + suc d ≡ (m + d) + 1 = omega arith in
-    ap (last_where test) e ∙ last-failed test (m + d) (none (m + d) (omega arith) (omega arith)) ∙ last-flat test m d (λ k l h. none k l (omega arith))
+    let e : m + suc d ≡ suc (m + d) = omega arith in
+    ap (last_where test) e ∙ last_where-failed test (m + d) (none (m + d) (omega arith) (omega arith)) ∙ last-flat test m d (λ k l h. none k l (omega arith))
 
 slice_get-behind : {X : Type 0} (xs ys : List X) (j : ℕ) → slice_get (xs ++ ys) (length xs + j) ≡ slice_get ys j
 slice_get-behind [] ys j = let e : 0 + j ≡ j = omega arith in ap (slice_get ys) e

@@ -1,11 +1,12 @@
 -- What an agent holds, one clock further.
-use Rattle.std.proofs.Common.{ℕ, ◌+◌, ◌≡◌, Bool, true, false, not, ◌&&◌, ◌||◌, Some, refl, ap, ◌∙◌, inl, inr, add-one, if◌then◌else◌}
+use Rattle.std.proofs.Common.{ℕ, ◌+◌, ◌≡◌, Bool, true, false, not, ◌&&◌, ◌||◌, refl, ap, inl, inr, add-one, if◌then◌else◌}
 use Rattle.std.proofs.Math.Bool.{and-true}
 use Rattle.std.proofs.lemmas.Bool.{cases_Bool}
 use Rattle.std.specs.Option.{option_and_then}
 use Rattle.fsb_count.specs.Options.{is_some_and}
-use Rattle.fsb_count.specs.Clocks.{any_where, last_where, holds_since}
-use Rattle.fsb_count.proofs.Since.{holds_since-more}
+use Rattle.fsb_count.specs.Clocks.{holds_since}
+use Rattle.fsb_count.proofs.Any.{any_where-more}
+use Rattle.fsb_count.proofs.Since.{holds_since-more, last_where-passed, last_where-failed}
 use Rattle.fsb_timely.specs.Runs.{Past}
 use Rattle.fsb_timely.specs.Grants.{is_end_at, is_ended, grant_at, is_granted, is_lost, is_held, latest_grant, is_named_by_other, is_sole, is_exclusive}
 
@@ -14,21 +15,13 @@ pub is_held-more : (p : Past) (a line c : ℕ) → is_held p a line (c + 1) ≡ 
 unfolding is_held
 is_held-more p a line c = holds_since-more (is_granted p a line) (is_lost p a line) c
 
-last-passed : (test : ℕ → Bool) (n : ℕ) → test n ≡ true → last_where test (n + 1) ≡ Some n
-unfolding last_where
-last-passed test n t = ap (last_where test) (add-one n) ∙ rw (t, last_where) refl
-
-pub last-failed : (test : ℕ → Bool) (n : ℕ) → test n ≡ false → last_where test (n + 1) ≡ last_where test n
-unfolding last_where
-last-failed test n f = ap (last_where test) (add-one n) ∙ rw (f, last_where) refl
-
 latest-granted : (p : Past) (a line c : ℕ) → is_granted p a line c ≡ true → latest_grant p a line (c + 1) ≡ grant_at p c
 unfolding latest_grant
-latest-granted p a line c t = ap (option_and_then (grant_at p)) (last-passed (is_granted p a line) c t)
+latest-granted p a line c t = rw add-one (ap (option_and_then (grant_at p)) (last_where-passed (is_granted p a line) c t))
 
 latest-kept : (p : Past) (a line c : ℕ) → is_granted p a line c ≡ false → latest_grant p a line (c + 1) ≡ latest_grant p a line c
 unfolding latest_grant
-latest-kept p a line c f = ap (option_and_then (grant_at p)) (last-failed (is_granted p a line) c f)
+latest-kept p a line c f = rw add-one (ap (option_and_then (grant_at p)) (last_where-failed (is_granted p a line) c f))
 
 -- the grant at c is the latest one from then on, and otherwise the latest one stays
 pub latest_grant-more : (p : Past) (a line c : ℕ) → latest_grant p a line (c + 1) ≡ (if is_granted p a line c then grant_at p c else latest_grant p a line c)
@@ -66,15 +59,7 @@ is_exclusive-more p a line c =
       | inr f ↦ rw f (is_exclusive-kept p a line c f)
     ]
 
-any-more : (test : ℕ → Bool) (n : ℕ) → any_where test (n + 1) ≡ (any_where test n || test n)
-unfolding any_where
-any-more test n =
-    ap (any_where test) (add-one n) ∙ elim (cases_Bool (any_where test n)) [
-      | inl t ↦ rw (t, any_where) refl
-      | inr f ↦ rw (f, any_where) refl
-    ]
-
 -- a request has ended below the next clock where it has ended below this one, or ends at it
 pub is_ended-more : (p : Past) (c q : ℕ) → is_ended p (c + 1) q ≡ (is_ended p c q || is_end_at p c q)
 unfolding is_ended
-is_ended-more p c q = any-more (λ t. is_end_at p t q) c
+is_ended-more p c q = any_where-more (λ t. is_end_at p t q) c

@@ -4,11 +4,11 @@ use Rattle.std.proofs.lemmas.Bool.{or_parts}
 use Rattle.std.specs.List.{list_any}
 use Rattle.std.specs.Option.{option_and_then, option_map_or}
 use Rattle.fsb_count.specs.Options.{is_some_and}
+use Rattle.fsb_count.proofs.Bools.{nat_lt-more}
 use Rattle.fsb_count.proofs.First.{first_where-same}
 use Rattle.fsb_access.specs.declared.log.Done.{Done}
 use Rattle.fsb_timely.specs.Runs.{Past}
 use Rattle.fsb_timely.specs.Scripts.{is_idle, items_of, is_done_by, is_done_at, completes_at, is_logged_at, is_logged, is_to_do, next_number, next_item, window_at, window}
-use Rattle.fsb_timely.proofs.Outstanding.{lt-more}
 
 and-or : (b x y z : Bool) → z ≡ (x || y) → (b && z) ≡ ((b && x) || (b && y))
 and-or true x y z e = e
@@ -17,7 +17,7 @@ and-or false x y z e = refl
 -- an entry of an agent is below c + 1 where it is below c or at c
 done-more : (a c : ℕ) (done : Done) → is_done_by a (c + 1) done ≡ (is_done_by a c done || is_done_at a c done)
 unfolding is_done_by is_done_at
-done-more a c done = and-or (nat_eq done.agent a) (nat_lt done.clock c) (nat_eq done.clock c) (nat_lt done.clock (c + 1)) (lt-more done.clock c)
+done-more a c done = and-or (nat_eq done.agent a) (nat_lt done.clock c) (nat_eq done.clock c) (nat_lt done.clock (c + 1)) (nat_lt-more done.clock c)
 
 -- an entry that is not at c
 done-same : (a c : ℕ) (done : Done) → is_done_at a c done ≡ false → is_done_by a (c + 1) done ≡ is_done_by a c done

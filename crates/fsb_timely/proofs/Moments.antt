@@ -1,18 +1,19 @@
 -- The moments of a run, and what the whole trace says.
 use Rattle.std.proofs.Common.{ℕ, zero, suc, ◌+◌, ◌<◌, ◌≤◌, ◌≡◌, Bool, true, false, [], ◌∷◌, ◌++◌, Option, Some, None, length, take, drop, slice_get, refl, sym, ap, subst, ◌∙◌, inl, inr, arith}
-use Rattle.std.proofs.lemmas.Bool.{cases_lt, eqb-true, eq-eqb}
+use Rattle.std.proofs.lemmas.Bool.{cases_lt}
 use Rattle.std.proofs.lemmas.List.{length-take-le, take-append-drop}
 use Rattle.std.specs.Option.{option_and_then}
-use Rattle.fsb_count.specs.Options.{is_some_and, is_at}
+use Rattle.fsb_count.specs.Options.{is_at}
 use Rattle.fsb_count.proofs.First.{first_where-found, first_where-at}
-use Rattle.fsb_count.proofs.Count.{count_where-above}
-use Rattle.fsb_count.proofs.Nth.{nth_where-found, slice_get-end}
+use Rattle.fsb_count.proofs.Options.{is_at-some, is_at-from}
+use Rattle.fsb_count.proofs.Nth.{slice_get-end}
 use Rattle.fsb_signal.proofs.AtClock.{slice_get-before}
 use Rattle.fsb_trace.specs.At.{Trace}
 use Rattle.fsb_trace.specs.Agree.{AgreeTo}
-use Rattle.fsb_trace.specs.Requests.{is_live, live_count, live_clock_of}
+use Rattle.fsb_trace.specs.Requests.{live_count, live_clock_of}
 use Rattle.fsb_trace.specs.Snoop.{snoop_end_of}
 use Rattle.fsb_trace.proofs.AgreeAt.{AgreeTo-sym}
+use Rattle.fsb_trace.proofs.LiveRequests.{live_below_count}
 use Rattle.fsb_trace.proofs.Stay.{snoop_end_of-clock, snoop_end_of-stays, live_clock_of-stays}
 use Rattle.fsb_timely.specs.Moments.{SnoopEnd, Moment, moment_at, snoop_at, snoop_end_if_begun, snoop_end_for, snoop_end_with, number_snooped_at, turns_in, effective_choice}
 use Rattle.fsb_timely.specs.Runs.{Run, run_to, moments_below, past_of}
@@ -40,30 +41,12 @@ moment-at r (suc n) t l =
 pub cut-agrees : (w : Trace) (n : ℕ) → n ≤ length w → AgreeTo n w (take n w)
 cut-agrees w n l = record { left = l; right = let e = length-take-le n w l in omega arith; same = λ c m. ap (λ v. slice_get v c) (sym (take-append-drop n w)) ∙ slice_get-before (take n w) (drop n w) c (let e = length-take-le n w l in omega arith) }
 
-pub is_at-some : (number : Option ℕ) (n : ℕ) → is_at number n ≡ true → number ≡ Some n
-unfolding is_at is_some_and
-is_at-some None n e = absurd (let h : ⊥ = cc in h)
-is_at-some (Some m) n e = ap Some (eqb-true m n e)
-
-pub at-is_at : (number : Option ℕ) (n : ℕ) → number ≡ Some n → is_at number n ≡ true
-unfolding is_at is_some_and
-at-is_at number n e = subst (λ o. is_at o n ≡ true) (sym e) (eq-eqb n n refl)
-
--- a live request that began is one of those that are counted
-pub counted : (w : Trace) (i q : ℕ) → live_clock_of w i ≡ Some q → i < live_count w
-unfolding live_clock_of live_count
-counted w i q e =
-    let h = nth_where-found (is_live w) i (length w) q e in
-    let more = count_where-above (is_live w) q (length w) h.0 h.1 in
-    let same = h.2 in
-    omega arith
-
 -- the request whose snoop end is t is found as such
 pub number-found : (w : Trace) (i t : ℕ) → snoop_end_of w i ≡ Some t → number_snooped_at w t ≡ Some i
 unfolding number_snooped_at
 number-found w i t e =
     let h = snoop_end_of-clock w i t e in
-    first_where-at (λ j. is_at (snoop_end_of w j) t) (live_count w) i (counted w i h.clock h.is_clock) (at-is_at (snoop_end_of w i) t e) (λ k l. not_before k l (is_at (snoop_end_of w k) t) refl)
+    first_where-at (λ j. is_at (snoop_end_of w j) t) (live_count w) i (live_below_count w i h.clock h.is_clock) (is_at-from (snoop_end_of w i) t e) (λ k l. not_before k l (is_at (snoop_end_of w k) t) refl)
   where
     not_before : (k : ℕ) → k < i → (b : Bool) → is_at (snoop_end_of w k) t ≡ b → is_at (snoop_end_of w k) t ≡ false
     not_before k l false f = f

@@ -1,22 +1,15 @@
 -- The outstanding requests, one clock further.
-use Rattle.std.proofs.Common.{ℕ, ◌+◌, ◌≡◌, ◌<◌, Bool, true, false, not, ◌&&◌, ◌||◌, Option, Some, None, refl, ap, ◌∙◌, nat_eq, nat_lt, arith}
+use Rattle.std.proofs.Common.{ℕ, ◌+◌, ◌≡◌, ◌<◌, Bool, true, false, not, ◌&&◌, ◌||◌, refl, ap, ◌∙◌, nat_eq, nat_lt, arith}
 use Rattle.std.proofs.lemmas.Bool.Decides.{nat_tests}
-use Rattle.fsb_count.specs.Options.{is_some_and, is_before, is_at}
+use Rattle.fsb_count.specs.Options.{is_before, is_at}
+use Rattle.fsb_count.proofs.Bools.{nat_lt-more}
+use Rattle.fsb_count.proofs.Options.{is_before-more}
 use Rattle.fsb_signal.specs.declared.lines.TheConstants.Lines.{ADS}
 use Rattle.fsb_signal.specs.Samples.{line_at}
 use Rattle.fsb_trace.specs.At.{Trace, request_at}
 use Rattle.fsb_trace.specs.Requests.{is_cancelled, is_live, live_number_of, is_reply}
 use Rattle.fsb_trace.specs.Flight.{is_dropped, is_finished, last_clock_of, is_outstanding}
 use Rattle.fsb_timely.specs.Growth.{is_last_clock}
-
--- a number is below the next clock where it is below this one, or is this one
-pub lt-more : (n c : ℕ) → nat_lt n (c + 1) ≡ (nat_lt n c || nat_eq n c)
-lt-more n c = grind (arith, nat_tests)
-
-before-more : (number : Option ℕ) (c : ℕ) → is_before number (c + 1) ≡ (is_before number c || is_at number c)
-unfolding is_before is_at is_some_and
-before-more None c = refl
-before-more (Some n) c = lt-more n c
 
 gone-more : (k x y : Bool) → not (k && (x || y)) ≡ (not (k && x) && not (k && y))
 gone-more true true y = refl
@@ -33,12 +26,12 @@ regrouped true false false false v = refl
 
 dropped-more : (w : Trace) (c q : ℕ) → not (is_dropped w (c + 1) q) ≡ (not (is_dropped w c q) && not (is_cancelled w q && nat_eq (q + 3) c))
 unfolding is_dropped
-dropped-more w c q = ap (λ b. not (is_cancelled w q && b)) (lt-more (q + 3) c) ∙ gone-more (is_cancelled w q) (nat_lt (q + 3) c) (nat_eq (q + 3) c)
+dropped-more w c q = ap (λ b. not (is_cancelled w q && b)) (nat_lt-more (q + 3) c) ∙ gone-more (is_cancelled w q) (nat_lt (q + 3) c) (nat_eq (q + 3) c)
 
 finished-more : (w : Trace) (c q : ℕ) → not (is_finished w (c + 1) q) ≡ (not (is_finished w c q) && not (is_live w q && is_at (last_clock_of w (live_number_of w q)) c))
 unfolding is_finished
 finished-more w c q =
-    ap (λ b. not (is_live w q && b)) (before-more (last_clock_of w (live_number_of w q)) c)
+    ap (λ b. not (is_live w q && b)) (is_before-more (last_clock_of w (live_number_of w q)) c)
     ∙ gone-more (is_live w q) (is_before (last_clock_of w (live_number_of w q)) c) (is_at (last_clock_of w (live_number_of w q)) c)
 
 -- a request that began before c stays outstanding, unless c is its last clock as such

@@ -1,8 +1,9 @@
 -- The grant that a moment has is the one that the whole trace gives.
 use Rattle.std.proofs.Common.{ℕ, ◌+◌, ◌<◌, ◌≤◌, ◌≡◌, Bool, true, false, ◌&&◌, ◌||◌, List, Option, Some, None, length, slice_index, refl, sym, ap, subst, ◌∙◌, inl, inr, arith}
-use Rattle.std.proofs.lemmas.Bool.{cases_lt, lt-ltb, ltb-true, and_parts}
+use Rattle.std.proofs.lemmas.Bool.{cases_lt, and_parts}
 use Rattle.std.specs.Option.{option_map, option_and_then}
 use Rattle.fsb_count.specs.Options.{is_some_and, is_at, is_before}
+use Rattle.fsb_count.proofs.Options.{is_at-some, is_at-from, is_before-parts, is_before-from}
 use Rattle.fsb_count.proofs.First.{first_where-carried, first_where-found, first_where-same}
 use Rattle.fsb_count.proofs.Count.{count_where-same}
 use Rattle.fsb_count.specs.Clocks.{nth_where}
@@ -13,24 +14,15 @@ use Rattle.fsb_trace.specs.At.{Trace}
 use Rattle.fsb_trace.specs.Agree.{AgreeTo}
 use Rattle.fsb_trace.specs.Requests.{is_live, live_clock_of, live_number_of, live_request_of, is_reply, have_same_id}
 use Rattle.fsb_trace.specs.Snoop.{snoop_end_of}
-use Rattle.fsb_trace.specs.Outcome.{response_clock_of, settled_by, settled_outcome_of, is_settled_deferred, is_deferral}
+use Rattle.fsb_trace.specs.Outcome.{response_clock_of, settled_by, is_settled_deferred, is_deferral}
 use Rattle.fsb_trace.specs.Flight.{is_reply_to, is_live_reply_to, reply_clock_of, reply_number_of}
 use Rattle.fsb_trace.proofs.AgreeAt.{AgreeTo-sym, line_at-agree, request_at-agree, is_live-agree}
 use Rattle.fsb_trace.proofs.Stay.{snoop_end_of-clock, snoop_end_of-stays, live_clock_of-stays, response_clock_of-stays}
 use Rattle.fsb_trace.proofs.StayEnds.{live_request_of-stays}
 use Rattle.fsb_trace.proofs.Order.{snoop_end_of-rises}
+use Rattle.fsb_trace.proofs.LiveRequests.{settled_outcome_of-ended}
 use Rattle.fsb_timely.specs.Moments.{is_answered_by, served_number, live_claim_of, is_owner_request, is_shared_at, grant_to, grant_for, grant_of, makes_grant, claim_at}
-use Rattle.fsb_timely.proofs.Moments.{is_at-some, at-is_at}
 use Rattle.fsb_timely.proofs.Settled.{settled_by-agree, claim_at-agree}
-
-before-some : (number : Option ℕ) (c : ℕ) → is_before number c ≡ true → (r : ℕ) × (number ≡ Some r) × (r < c)
-unfolding is_before is_some_and
-before-some None c e = absurd (let h : ⊥ = cc in h)
-before-some (Some r) c e = (r, refl, ltb-true r c e)
-
-some-before : (number : Option ℕ) (r c : ℕ) → number ≡ Some r → r < c → is_before number c ≡ true
-unfolding is_before is_some_and
-some-before number r c e l = subst (λ o. is_before o c ≡ true) (sym e) (lt-ltb r c l)
 
 -- two tests of which each gives the other are the same
 same-both : (x y : Bool) → (x ≡ true → y ≡ true) → (y ≡ true → x ≡ true) → x ≡ y
@@ -41,10 +33,10 @@ same-both false false f g = refl
 -- whether a response lies below a clock shows in the samples below it
 response-kept : (n : ℕ) (w v : Trace) (j c : ℕ) → AgreeTo n w v → c ≤ n → is_before (response_clock_of w j) c ≡ true → is_before (response_clock_of v j) c ≡ true
 response-kept n w v j c a l e =
-    let h = before-some (response_clock_of w j) c e in
+    let h = is_before-parts (response_clock_of w j) c e in
     let r : ℕ = h.0 in
     let below : r < c = h.2 in
-    some-before (response_clock_of v j) r c (response_clock_of-stays n w v j r a (omega arith) h.1) below
+    is_before-from (response_clock_of v j) r c (response_clock_of-stays n w v j r a (omega arith) h.1) below
 
 response-same : (n : ℕ) (w v : Trace) (j c : ℕ) → AgreeTo n w v → c ≤ n → is_before (response_clock_of w j) c ≡ is_before (response_clock_of v j) c
 response-same n w v j c a l =
@@ -113,17 +105,13 @@ reply-kept n w v j s i q h f l e =
 answers-same : (n : ℕ) (w v : Trace) (j s i q : ℕ) → Reached n w v j s → live_clock_of w i ≡ Some q → live_clock_of v i ≡ Some q → q + 3 < n → is_at (reply_number_of w j) i ≡ is_at (reply_number_of v j) i
 answers-same n w v j s i q h f g l =
     same-both (is_at (reply_number_of w j) i) (is_at (reply_number_of v j) i)
-    (λ e. at-is_at (reply_number_of v j) i (reply-kept n w v j s i q h f l (is_at-some (reply_number_of w j) i e)))
-    (λ e. at-is_at (reply_number_of w j) i (reply-kept n v w j s i q (reached-sym n w v j s h) g l (is_at-some (reply_number_of v j) i e)))
-
-settled-there : (w : Trace) (turns : List ℕ) (j s : ℕ) → snoop_end_of w j ≡ Some s → settled_outcome_of w turns j ≡ Some (settled_by w (slice_index turns j) j s)
-unfolding settled_outcome_of
-settled-there w turns j s e = ap (option_map (settled_by w (slice_index turns j) j)) e
+    (λ e. is_at-from (reply_number_of v j) i (reply-kept n w v j s i q h f l (is_at-some (reply_number_of w j) i e)))
+    (λ e. is_at-from (reply_number_of w j) i (reply-kept n v w j s i q (reached-sym n w v j s h) g l (is_at-some (reply_number_of v j) i e)))
 
 deferred-same : (n : ℕ) (w v : Trace) (us ts : List ℕ) (j s : ℕ) → Reached n w v j s → slice_index us j ≡ slice_index ts j → is_settled_deferred w us j ≡ is_settled_deferred v ts j
 unfolding is_settled_deferred
 deferred-same n w v us ts j s h turn =
-    ap (λ o. is_some_and o is_deferral) (settled-there w us j s h.left ∙ ap Some (ap (λ k. settled_by w k j s) turn ∙ settled_by-agree n w v (slice_index ts j) j s h.agree h.below h.left) ∙ sym (settled-there v ts j s h.right))
+    ap (λ o. is_some_and o is_deferral) (settled_outcome_of-ended w us j s h.left ∙ ap Some (ap (λ k. settled_by w k j s) turn ∙ settled_by-agree n w v (slice_index ts j) j s h.agree h.below h.left) ∙ sym (settled_outcome_of-ended v ts j s h.right))
 
 -- what is reached at the snoop end of a live request, and at those before it
 reached-before : (n : ℕ) (w v : Trace) (i t j : ℕ) → Reached n w v i t → j < i → (s : ℕ) × Reached n w v j s

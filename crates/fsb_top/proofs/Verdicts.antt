@@ -1,18 +1,14 @@
 -- The status of a finding tells the verdict.
-use Rattle.std.proofs.Common.{◌≡◌, ℕ, List, Option, Some, None, sym, ◌∙◌, refl}
+use Rattle.std.proofs.Common.{◌≡◌, List, sym, ◌∙◌}
 use Rattle.fsb_check.specs.declared.finding.Finding.{Finding}
 use Rattle.fsb_rules.specs.Checker.{as_broken}
+use Rattle.fsb_rules.proofs.Feeds.{as_broken-none}
 use Rattle.fsb_signal.specs.declared.sample.Sample.{Sample}
 use Rattle.fsb_trace.specs.Verdict.{verdict}
 use Rattle.fsb_top.specs.declared.status.Status.{Status}
 use Rattle.fsb_top.specs.declared.status.Status.TheVariants as statuses
 use Rattle.fsb_top.specs.Told.{IsFindingTold}
 use Rattle.fsb_top.specs.Outcome.{TellsVerdict}
-
-as_broken-none : (found : Option (ℕ × ℕ)) → as_broken found ≡ None → found ≡ None
-unfolding as_broken
-as_broken-none None e = refl
-as_broken-none (Some p) e = absurd (let no : ⊥ = cc in no)
 
 pub tells_verdict : (status : Status) (finding : Finding) (w : List Sample) → IsFindingTold status finding → finding.broken ≡ as_broken (verdict w) → TellsVerdict status w
 tells_verdict statuses.Done finding w told e = as_broken-none (verdict w) (sym e ∙ told)
