@@ -124,7 +124,7 @@ tokens_most s (t ∷ ts) = let h = token_most s t in let k = tokens_most (take_t
 event_count : (l : Lines) (e : Event) → (after_event l e).decided ≡ l.decided + length (decided_by l e)
 event_count l Later = by (rises l)
   where
-    by : (b : Bool) → (if b then l.decided + 1 else l.decided) ≡ l.decided + length (if b then Rattle.vcd_grammar.specs.Values.sample_at l.before.levels ∷ [] else [])
+    by : (b : Bool) → (if b then l.decided + 1 else l.decided) ≡ l.decided + length (if b then l.block.sample_before ∷ [] else [])
     by true = refl
     by false = omega arith
 event_count l (Changed change) = omega arith

@@ -6,7 +6,6 @@ use Rattle.std.proofs.lemmas.List.{append-nil, take_all, take-append-le}
 use Rattle.fsb_signal.specs.declared.sample.Sample.{Sample}
 use Rattle.vcd_grammar.specs.declared.fault.VcdFault.{VcdFault}
 use Rattle.vcd_grammar.specs.Tokens.{tokens_so_far, tokens_of, open_run, ended_at}
-use Rattle.vcd_grammar.specs.Values.{sample_at}
 use Rattle.vcd_grammar.specs.Reading.{samples_so_far, samples_of, samples_before_end, first_fault, or_cut}
 use Rattle.vcd_read.specs.declared.scan.Scan.{Scan}
 use Rattle.vcd_read.specs.declared.stop.VcdStop.{VcdStop}
@@ -181,7 +180,7 @@ scan_stop_is s text limit decided fault more h f d m =
     let lines = (ended_taken (reading s)).lines in
     let count : decided ≡ length (samples_before_end text) = d ∙ end_decided s text h in
     (λ i. end_stop limit (count i) (f i) (m i))
-    ∙ end_stop_is limit (samples_before_end text) (end_fault (reading s)) (rises lines) (sample_at lines.before.levels)
+    ∙ end_stop_is limit (samples_before_end text) (end_fault (reading s)) (rises lines) lines.block.sample_before
     ∙ (λ i. long_or limit (samples_before_end text) (fault_or (end_fault_is s text h i) (long_or limit (sym (all_is s text h) i) None)))
 
 pub scan_dump_is : (s : Scan) (text : List ℕ) (limit decided : ℕ) (fault : Option VcdFault) (more : Bool) → Scanned s text
@@ -192,7 +191,7 @@ scan_dump_is s text limit decided fault more h f d m =
     let lines = (ended_taken (reading s)).lines in
     let count : decided ≡ length (samples_before_end text) = d ∙ end_decided s text h in
     (λ i. dump_stop limit (count i) (f i) (m i))
-    ∙ dump_stop_is limit (samples_before_end text) (end_fault (reading s)) (rises lines) (sample_at lines.before.levels)
+    ∙ dump_stop_is limit (samples_before_end text) (end_fault (reading s)) (rises lines) lines.block.sample_before
     ∙ (λ i. fault_or (end_fault_is s text h i) (long_or limit (sym (all_is s text h) i) None))
 
 pub scan_appends : (s : Scan) (text : List ℕ) (limit decided : ℕ) (fault : Option VcdFault) (more : Bool) (old new : List Sample) → Scanned s text → length (samples_so_far text) ≤ limit
@@ -204,7 +203,7 @@ scan_appends s text limit decided fault more old new h few f d m k =
     let before = before_end_is s text h in
     let count : length (samples_so_far text ++ ended_samples (reading s)) ≡ decided = ap length (sym before) ∙ sym (d ∙ end_decided s text h) in
     let all : (samples_so_far text ++ ended_samples (reading s)) ++ sample_of_end lines ≡ samples_of text = ap (λ w. w ++ sample_of_end lines) (sym before) ∙ sym (all_is s text h) in
-    let base = end_appends limit s.machine.decided (samples_so_far text) (ended_samples (reading s)) (end_fault (reading s)) (rises lines) (sample_at lines.before.levels) old new (scanned_decided s text h) few k in
+    let base = end_appends limit s.machine.decided (samples_so_far text) (ended_samples (reading s)) (end_fault (reading s)) (rises lines) lines.block.sample_before old new (scanned_decided s text h) few k in
     let stop : end_stop limit (length (samples_so_far text ++ ended_samples (reading s))) (end_fault (reading s)) (open_rises (end_fault (reading s)) lines) ≡ end_stop limit decided fault more =
     λ i. end_stop limit (count i) (sym f i) (sym m i) in
     moved limit (samples_so_far text) _ _ _ _ _ _ old new stop (sym before) all base
@@ -216,7 +215,7 @@ scan_part s text limit old new h few p =
     let lines = (ended_taken (reading s)).lines in
     let all : (samples_so_far text ++ ended_samples (reading s)) ++ sample_of_end lines ≡ samples_of text = ap (λ w. w ++ sample_of_end lines) (sym (before_end_is s text h)) ∙ sym (all_is s text h) in
     subst (λ w. AppendsPart (samples_so_far text) (take limit w) old new) all
-    (end_part limit s.machine.decided (samples_so_far text) (ended_samples (reading s)) (end_fault (reading s)) (rises lines) (sample_at lines.before.levels) old new (scanned_decided s text h) few p)
+    (end_part limit s.machine.decided (samples_so_far text) (ended_samples (reading s)) (end_fault (reading s)) (rises lines) lines.block.sample_before old new (scanned_decided s text h) few p)
 
 -- where a dump is not refused, it has no fault, and no more samples than the limit
 none_of_dump : (fault : Option VcdFault) (limit : ℕ) (w : List Sample) → fault_or fault (long_or limit w None) ≡ None → (fault ≡ None) × (length w ≤ limit)

@@ -7,11 +7,11 @@ use Rattle.vcd_grammar.specs.Tokens.{Token, tokens_of, tokens_so_far}
 use Rattle.vcd_grammar.specs.Digits.{extended}
 use Rattle.vcd_grammar.specs.Levels.{level_of}
 use Rattle.vcd_grammar.specs.Blocks.{Change, Block, Event, Later, Changed, blocks_from, ended}
-use Rattle.vcd_grammar.specs.Values.{Values, at_first, set_line, set_lines, values_behind, clock_of, is_rise, sample_at, sample_of_block, samples_in}
+use Rattle.vcd_grammar.specs.Values.{Values, at_first, set_line, set_lines, values_behind, clock_of, sample_of, sample_of_block, samples_in}
 use Rattle.vcd_grammar.specs.Judging.{Known, turn, nothing, behind, events_in}
 use Rattle.vcd_grammar.specs.Reading.{samples_of, samples_before_end, samples_so_far, first_fault, fault_so_far, or_cut}
 use Rattle.vcd_grammar.proofs.Append.{blocks_some, ended-cons}
-use Rattle.vcd_read.specs.Lines.{with_line, with_lines, Lines, at_start, after_event, sample_of_end, decided_by, after_events, decided_in}
+use Rattle.vcd_read.specs.Lines.{with_line, with_lines, changed_lines, next_block, block_rises, Lines, at_start, after_event, sample_of_end, decided_by, after_events, decided_in}
 use Rattle.vcd_read.specs.Taking.{Taken, untaken, decided_of, take_token, take_tokens, samples_in_tokens}
 use Rattle.vcd_read.specs.declared.levels.Values.{Values as Kept}
 
@@ -54,14 +54,27 @@ block_some v (c ∷ block) some = block_some (set_lines v c.lines c.digits) bloc
 
 -- what the reader keeps in a block that stands open
 abbrev in_block : Values → Block → ℕ → Lines
-in_block v block decided = record { before = kept v; now = kept (values_behind v block); decided = decided }
+in_block v block decided = record {
+  block = record { clock_before = clock_of v; sample_before = sample_of v; now = kept (values_behind v block) };
+  decided = decided;
+}
+
+-- a change of the block that stands open
+same_change : (v : Values) (block : Block) (change : Change) → 0 < length v
+    → (in_block v (block ++ change ∷ []) 0).block ≡ changed_lines (in_block v block 0).block change.lines change.digits
+same_change v block change some = λ i. record {
+  clock_before = clock_of v;
+  sample_before = sample_of v;
+  now = (ap kept (behind-more v block change) ∙ sym (lines_kept (values_behind v block) change.lines change.digits (block_some v block some))) i;
+}
 
 -- the count of samples makes no difference to them
-decided_any : (l m : Lines) (es : List Event) → l.before ≡ m.before → l.now ≡ m.now → decided_in l es ≡ decided_in m es
-decided_any l m [] h k = refl
-decided_any l m (Later ∷ es) h k =
-    λ i. (if is_rise (h i).clock (k i).clock then sample_at (h i).levels ∷ [] else []) ++ decided_any (after_event l Later) (after_event m Later) es k k i
-decided_any l m (Changed change ∷ es) h k = decided_any (after_event l (Changed change)) (after_event m (Changed change)) es h (ap (λ w. with_lines w change.lines change.digits) k)
+decided_any : (l m : Lines) (es : List Event) → l.block ≡ m.block → decided_in l es ≡ decided_in m es
+decided_any l m [] h = refl
+decided_any l m (Later ∷ es) h =
+    λ i. (if block_rises (h i) then (h i).sample_before ∷ [] else []) ++ decided_any (after_event l Later) (after_event m Later) es (ap next_block h) i
+decided_any l m (Changed change ∷ es) h =
+    decided_any (after_event l (Changed change)) (after_event m (Changed change)) es (ap (λ b. changed_lines b change.lines change.digits) h)
 
 -- the samples of the blocks that were ended are those that were decided
 pub ended_law : (v : Values) (block : Block) (decided : ℕ) (es : List Event) → 0 < length v → samples_in v (ended (blocks_from block es)) ≡ decided_in (in_block v block decided) es
@@ -69,20 +82,16 @@ ended_law v block decided [] some = refl
 ended_law v block decided (Later ∷ es) some =
     let w = values_behind v block in
     ap (samples_in v) (ended-cons block (blocks_from [] es) (blocks_some [] es))
-    ∙ ap (λ xs. sample_of_block v block ++ xs) (ended_law w [] 0 es (block_some v block some) ∙ decided_any (in_block w [] 0) (after_event (in_block v block decided) Later) es refl refl)
+    ∙ ap (λ xs. sample_of_block v block ++ xs) (ended_law w [] 0 es (block_some v block some) ∙ decided_any (in_block w [] 0) (after_event (in_block v block decided) Later) es refl)
 ended_law v block decided (Changed change ∷ es) some =
     ended_law v (block ++ change ∷ []) decided es some
-    ∙ decided_any (in_block v (block ++ change ∷ []) decided) (after_event (in_block v block decided) (Changed change)) es refl
-    (ap kept (behind-more v block change) ∙ sym (lines_kept (values_behind v block) change.lines change.digits (block_some v block some)))
+    ∙ decided_any (in_block v (block ++ change ∷ []) decided) (after_event (in_block v block decided) (Changed change)) es (same_change v block change some)
 
--- at the end of a block nothing but the values before it and in it counts
-end_any : (l m : Lines) → l.before ≡ m.before → l.now ≡ m.now → sample_of_end l ≡ sample_of_end m
-end_any l m h k = λ i. if is_rise (h i).clock (k i).clock then sample_at (h i).levels ∷ [] else []
-
-after_any : (l m : Lines) (es : List Event) → l.before ≡ m.before → l.now ≡ m.now → sample_of_end (after_events l es) ≡ sample_of_end (after_events m es)
-after_any l m [] h k = end_any l m h k
-after_any l m (Later ∷ es) h k = after_any (after_event l Later) (after_event m Later) es k k
-after_any l m (Changed change ∷ es) h k = after_any (after_event l (Changed change)) (after_event m (Changed change)) es h (ap (λ w. with_lines w change.lines change.digits) k)
+after_any : (l m : Lines) (es : List Event) → l.block ≡ m.block → sample_of_end (after_events l es) ≡ sample_of_end (after_events m es)
+after_any l m [] h = λ i. if block_rises (h i) then (h i).sample_before ∷ [] else []
+after_any l m (Later ∷ es) h = after_any (after_event l Later) (after_event m Later) es (ap next_block h)
+after_any l m (Changed change ∷ es) h =
+    after_any (after_event l (Changed change)) (after_event m (Changed change)) es (ap (λ b. changed_lines b change.lines change.digits) h)
 
 -- the samples of all blocks are these and that of the last one
 pub whole_law : (v : Values) (block : Block) (decided : ℕ) (es : List Event) → 0 < length v
@@ -92,14 +101,14 @@ whole_law v block decided (Later ∷ es) some =
     let w = values_behind v block in
     let next = after_event (in_block v block decided) Later in
     ap (λ xs. sample_of_block v block ++ xs)
-    (whole_law w [] 0 es (block_some v block some) ∙ (λ i. decided_any (in_block w [] 0) next es refl refl i ++ after_any (in_block w [] 0) next es refl refl i))
+    (whole_law w [] 0 es (block_some v block some) ∙ (λ i. decided_any (in_block w [] 0) next es refl i ++ after_any (in_block w [] 0) next es refl i))
     ∙ sym (append_assoc (sample_of_block v block) (decided_in next es) (sample_of_end (after_events next es)))
 whole_law v block decided (Changed change ∷ es) some =
     let more = in_block v (block ++ change ∷ []) decided in
     let next = after_event (in_block v block decided) (Changed change) in
-    let same = ap kept (behind-more v block change) ∙ sym (lines_kept (values_behind v block) change.lines change.digits (block_some v block some)) in
+    let same = same_change v block change some in
     whole_law v (block ++ change ∷ []) decided es some
-    ∙ (λ i. decided_any more next es refl same i ++ after_any more next es refl same i)
+    ∙ (λ i. decided_any more next es same i ++ after_any more next es same i)
 
 -- tokens, one after another
 pub known_behind : (s : Taken) (ts : List Token) → (take_tokens s ts).known ≡ behind s.known ts

@@ -1,3 +1,4 @@
+pub mod Samples
 pub mod Numbers
 pub mod Bits
 pub mod Widths

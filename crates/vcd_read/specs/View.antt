@@ -39,6 +39,6 @@ known_of m = record {
   time = m.time;
 }
 
--- the values before the block that stands open, and in it
+-- the block that stands open, and how many samples were decided
 abbrev pub lines_of : Machine → Lines
-lines_of m = record { before = m.before; now = m.current; decided = m.decided }
+lines_of m = record { block = m.block; decided = m.decided }

@@ -1,8 +1,8 @@
 //! Reading a value change dump: in pieces of any size, or whole.
 //!
 //! A `Reader` takes the bytes of a dump as they come, and appends each sample once a greater time stamp has ended its
-//! block. It keeps the declared codes, the values of the lines before and in the open block, and one token at most; how
-//! the text was cut into pieces shows in nothing that it answers. `read_dump` reads a whole text.
+//! block. It keeps the declared codes, the sample before the open block and the values of the lines in it, and one token at
+//! most; how the text was cut into pieces shows in nothing that it answers. `read_dump` reads a whole text.
 #![tactic(auto)]
 
 pub use dump::read_dump;
@@ -16,6 +16,7 @@ mod dump;
 mod levels;
 mod machine;
 mod mode;
+mod open_block;
 mod reader;
 mod scan;
 mod stop;

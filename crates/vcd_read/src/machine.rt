@@ -11,8 +11,9 @@ ghost use Rattle.vcd_read.specs.Scanning.{open_samples, open_rises};
 
 use crate::codes::Codes;
 use crate::digits::{is_long, is_value_digit, time_in, width_in};
-use crate::levels::{Values, is_too_wide, is_wider, width_of};
+use crate::levels::{is_too_wide, is_wider, width_of};
 use crate::mode::{Draft, Mode};
+use crate::open_block::OpenBlock;
 use crate::words::{
     are_value_digits, is_code, is_dollar, is_end, is_foreign_type, is_read_past, line_in,
 };
@@ -34,10 +35,7 @@ pub(crate) struct Machine {
     pub(crate) lines: Vec<u8>,
     pub(crate) codes: Codes,
     pub(crate) time: Option<u64>,
-    /// The values before the block that stands open.
-    pub(crate) before: Values,
-    /// The values in the block that stands open.
-    pub(crate) current: Values,
+    pub(crate) block: OpenBlock,
     /// How many samples were decided, whether they were kept or not.
     pub(crate) decided: u64,
 }
@@ -55,8 +53,7 @@ impl Machine {
             lines: Vec::new(alloc),
             codes: Codes::new(alloc),
             time: None,
-            before: Values::new(),
-            current: Values::new(),
+            block: OpenBlock::new(),
             decided: 0,
         }
     }
@@ -167,7 +164,7 @@ impl Machine {
     {
         self.lines.push(number)?;
         self.codes.declare(self.code.as_slice(), &[number])?;
-        self.current.set_line(number, b"x");
+        self.block.set_line(number, b"x");
         self.mode = Mode::Header;
         Ok(())
     }
@@ -287,11 +284,11 @@ impl Machine {
     {
         if self.rises() {
             if self.decided < u64::from(limit) {
-                to.push(self.before.sample())?;
+                to.push(self.block.sample_before())?;
             }
             self.decided += 1;
         }
-        self.before = self.current;
+        self.block.end();
         self.time = Some(time);
         Ok(())
     }
@@ -323,7 +320,7 @@ impl Machine {
             return Ok(false);
         }
         if self.decided < u64::from(limit) {
-            to.push(self.before.sample())?;
+            to.push(self.block.sample_before())?;
         }
         Ok(true)
     }
@@ -332,7 +329,7 @@ impl Machine {
     pub(crate) fn rises(&self) -> bool
         ensures { result ≡ rises (lines_view self.now) }
     {
-        self.before.clock == b'0' && self.current.clock == b'1'
+        self.block.rises()
     }
 
     /// A scalar change.
@@ -344,12 +341,12 @@ impl Machine {
             return;
         }
         if let Some(number) = self.codes.single(code) {
-            self.current.set_line(number, &[digit]);
+            self.block.set_line(number, &[digit]);
             return;
         }
         match self.codes.lines(code) {
             None => self.fail(place, VcdCause::Code),
-            Some(lines) => self.current.set_lines_to(lines, digit),
+            Some(lines) => self.block.set_lines_to(lines, digit),
         }
     }
 
@@ -378,7 +375,7 @@ impl Machine {
             if is_wider(self.digits.as_slice(), number) {
                 self.fail(from, VcdCause::Width);
             } else {
-                self.current.set_line(number, self.digits.as_slice());
+                self.block.set_line(number, self.digits.as_slice());
                 self.mode = Mode::Values;
             }
             return;
@@ -389,7 +386,7 @@ impl Machine {
                 if is_too_wide(self.digits.as_slice(), lines) {
                     self.fail(from, VcdCause::Width);
                 } else {
-                    self.current.set_lines(lines, self.digits.as_slice());
+                    self.block.set_lines(lines, self.digits.as_slice());
                     self.mode = Mode::Values;
                 }
             }
