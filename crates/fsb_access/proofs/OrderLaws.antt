@@ -15,15 +15,6 @@ use Rattle.fsb_access.specs.declared.log.Done.{Done}
 
 -- ---- a script's accesses
 
--- the accesses of more items follow those of fewer
-pub accesses_from-append :
-    (number : ℕ) (items more : List Item) → accesses_from number (items ++ more) ≡ accesses_from number items ++ accesses_from (number + length items) more
-accesses_from-append number [] more = simp add-zero refl
-accesses_from-append number (item ∷ items) more =
-    let rest = accesses_from-append (number + 1) items more in
-    let next : number + 1 + length items ≡ number + suc (length items) = omega arith in
-    rw (rest, next) (sym (append_assoc (steps_of_item number item) _ _))
-
 -- the accesses up to the end of the next item
 pub accesses_of-next :
     (items : List Item) (count : ℕ) (item : Item) → slice_get items count ≡ Some item →
@@ -38,11 +29,6 @@ accesses_of-next items count item at = rw zero-add at (next 0 items count at)
         let ahead = rw more at (next (number + 1) items count at) in
         let one : suc count + 1 ≡ suc (count + 1) = omega arith in
         rw (one, ahead) (sym (append_assoc (steps_of_item number first) _ _))
-
--- an idle item has no access
-pub accesses_of-idle :
-    (items : List Item) (count clocks : ℕ) → slice_get items count ≡ Some (Idle clocks) → accesses_of (take (count + 1) items) ≡ accesses_of (take count items)
-accesses_of-idle items count clocks at = accesses_of-next items count (Idle clocks) at ∙ append-nil _
 
 -- ---- an agent's entries
 

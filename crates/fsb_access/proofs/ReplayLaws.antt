@@ -5,11 +5,6 @@ use Rattle.fsb_access.specs.Replay.{ReplayState, start_of, served_value, state_a
 use Rattle.fsb_access.specs.declared.access.Setting.{Setting}
 use Rattle.fsb_access.specs.declared.log.Done.{Done}
 
--- a longer log is replayed from where the shorter one ended
-pub replay-append : (state : ReplayState) (log more : List Done) → replay state (log ++ more) ≡ replay (replay state log) more
-replay-append state [] more = refl
-replay-append state (done ∷ log) more = replay-append (state_after state done.agent done.access) log more
-
 -- its values are those of the shorter one and then those from where that ended
 pub replayed_values-append :
     (state : ReplayState) (log more : List Done) →
