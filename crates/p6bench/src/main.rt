@@ -1,5 +1,6 @@
 //! The program `p6bench`: the real files and standard output under the top call.
 #![tactic(auto)]
+
 ghost use Rattle.std.specs.Prelude.{◌≡◌, drop, map, Err, IfOk};
 ghost use Rattle.std.specs.Process.{exit_status};
 ghost use Rattle.std.specs.String.{string_bytes};

@@ -4,7 +4,10 @@ use std::alloc::{AllocError, Global};
 use std::test::Fail;
 use table::{BAD, GOOD};
 use texts::{LINES, QUIET, VALUES};
-use vcd_dumps::{FALLING, FALLING_VERILATOR, NO_SAMPLES, SAME_TIME, SCOPES, SIMULATOR_HEAD, SIMULATOR_RISES, SIMULATOR_START, UNKNOWN_AFTER_FALL, UNKNOWN_AFTER_RISE};
+use vcd_dumps::{
+    FALLING, FALLING_VERILATOR, NO_SAMPLES, SAME_TIME, SCOPES, SIMULATOR_HEAD, SIMULATOR_RISES,
+    SIMULATOR_START, UNKNOWN_AFTER_FALL, UNKNOWN_AFTER_RISE,
+};
 use vcd_read::{Reader, VcdCause, VcdFault, VcdStop, read_dump};
 
 mod loads;
