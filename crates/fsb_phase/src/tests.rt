@@ -2,15 +2,15 @@
 
 ghost use Rattle.std.specs.Prelude.{◌<◌};
 
-use crate::runs::{
-    CANCELLED_BY_ADDRESS_ERROR, DEFERRED_AND_REPLIED, DIRTY_VICTIM_WRITTEN_BACK,
-    HANDED_ON_WITH_WAITS, LOCKED_INCREMENTS, SECOND_STALLED, STALLED_SNOOP, TWO_AGENTS_OVERLAP,
-    WRITE_BACK_HELD_OFF,
-};
+use crate::runs::{HANDED_ON_WITH_WAITS, SECOND_STALLED};
 use crate::{Drive, Phased, Phases, chunk_order};
 use fsb_encode::{Kind, Request};
 use fsb_hazard::{Choice, Turn};
 use fsb_queue::{Entry, Queue};
+use fsb_runs::{
+    CANCELLED_BY_ADDRESS_ERROR, Clock, DEFERRED_AND_REPLIED, DIRTY_VICTIM_WRITTEN_BACK,
+    LOCKED_INCREMENTS, STALLED_SNOOP, TWO_AGENTS_OVERLAP, WRITE_BACK_HELD_OFF,
+};
 use fsb_signal::{Lines, Sample};
 use fsb_trace::{Outcome, Who};
 use std::alloc::Global;
@@ -30,6 +30,11 @@ pub(crate) const QUIET: Choice = Choice {
     gap: 0,
     turn: Turn::Keep,
 };
+
+/// The control lines of a clock.
+fn control_lines(clock: Clock) -> u32 {
+    clock.0
+}
 
 /// The sample with these control lines.
 fn sample(lines: u32) -> Sample {
@@ -181,14 +186,19 @@ fn two_agents_overlap(rt: HostRuntime) {
         (Kind::Read, QUIET, Outcome::Granted, 6, 11),
         (Kind::Read, QUIET, Outcome::Granted, 9, 15),
     ];
-    expect_run(&rt, rt.alloc(), &TWO_AGENTS_OVERLAP, &told);
+    expect_run(
+        &rt,
+        rt.alloc(),
+        &TWO_AGENTS_OVERLAP.map(control_lines),
+        &told,
+    );
 }
 
 #[test]
 fn stalled_snoop(rt: HostRuntime) {
     let twice = Choice { stall: 2, ..QUIET };
     let told = [(Kind::Read, twice, Outcome::Granted, 10, 15)];
-    expect_run(&rt, rt.alloc(), &STALLED_SNOOP, &told);
+    expect_run(&rt, rt.alloc(), &STALLED_SNOOP.map(control_lines), &told);
 }
 
 #[test]
@@ -206,7 +216,12 @@ fn cancelled_by_address_error(rt: HostRuntime) {
         ),
         (Kind::Read, QUIET, Outcome::Granted, 12, 17),
     ];
-    expect_run(&rt, rt.alloc(), &CANCELLED_BY_ADDRESS_ERROR, &told);
+    expect_run(
+        &rt,
+        rt.alloc(),
+        &CANCELLED_BY_ADDRESS_ERROR.map(control_lines),
+        &told,
+    );
 }
 
 #[test]
@@ -218,7 +233,12 @@ fn deferred_and_replied(rt: HostRuntime) {
         (Kind::Reply, QUIET, Outcome::Replied, 25, 30),
         (Kind::Invalidate, QUIET, Outcome::Granted, 28, 34),
     ];
-    expect_run(&rt, rt.alloc(), &DEFERRED_AND_REPLIED, &told);
+    expect_run(
+        &rt,
+        rt.alloc(),
+        &DEFERRED_AND_REPLIED.map(control_lines),
+        &told,
+    );
 }
 
 #[test]
@@ -227,7 +247,12 @@ fn locked_increments(rt: HostRuntime) {
         (Kind::Invalidate, QUIET, Outcome::Granted, 6, 11),
         (Kind::Invalidate, QUIET, Outcome::Handed, 18, 25),
     ];
-    expect_run(&rt, rt.alloc(), &LOCKED_INCREMENTS, &told);
+    expect_run(
+        &rt,
+        rt.alloc(),
+        &LOCKED_INCREMENTS.map(control_lines),
+        &told,
+    );
 }
 
 #[test]
@@ -237,7 +262,12 @@ fn write_back_held_off(rt: HostRuntime) {
         (Kind::Read, QUIET, Outcome::Handed, 17, 24),
         (Kind::Read, QUIET, Outcome::Granted, 22, 28),
     ];
-    expect_run(&rt, rt.alloc(), &WRITE_BACK_HELD_OFF, &told);
+    expect_run(
+        &rt,
+        rt.alloc(),
+        &WRITE_BACK_HELD_OFF.map(control_lines),
+        &told,
+    );
 }
 
 #[test]
@@ -248,7 +278,12 @@ fn dirty_victim_written_back(rt: HostRuntime) {
         (Kind::Read, QUIET, Outcome::Granted, 32, 37),
         (Kind::Read, QUIET, Outcome::Granted, 44, 49),
     ];
-    expect_run(&rt, rt.alloc(), &DIRTY_VICTIM_WRITTEN_BACK, &told);
+    expect_run(
+        &rt,
+        rt.alloc(),
+        &DIRTY_VICTIM_WRITTEN_BACK.map(control_lines),
+        &told,
+    );
 }
 
 #[test]

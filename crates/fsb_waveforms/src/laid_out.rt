@@ -2,7 +2,7 @@
 
 ghost use Rattle.std.specs.Prelude.{◌≡◌, length, IfOk};
 
-use crate::runs::Clock;
+use fsb_runs::Clock;
 use fsb_signal::{Lines, Sample, Word};
 use std::alloc::{AllocError, Global};
 

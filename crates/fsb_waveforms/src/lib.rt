@@ -8,10 +8,6 @@ mod judged;
 #[cfg(test)]
 mod laid_out;
 #[cfg(test)]
-mod lines;
-#[cfg(test)]
 mod numbers;
-#[cfg(test)]
-mod runs;
 #[cfg(test)]
 mod winners;

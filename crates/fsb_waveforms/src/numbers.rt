@@ -3,12 +3,12 @@
 ghost use Rattle.std.specs.Prelude.{◌^◌, ◌<◌, length};
 
 use crate::laid_out::laid_out;
-use crate::runs::{
+use fsb_encode::Kind;
+use fsb_runs::{
     CANCELLED_BY_ADDRESS_ERROR, Clock, DEFERRED_AND_REPLIED, DIRTY_VICTIM_WRITTEN_BACK,
     LOAD_THEN_STORE_HIT, LOCKED_INCREMENTS, STALLED_SNOOP, STORE_HANDED_OVER_BEFORE_ARRIVAL,
     TWO_AGENTS_OVERLAP, WRITE_BACK_HELD_OFF,
 };
-use fsb_encode::Kind;
 use fsb_trace::{Outcome, Who, end_of, outcome_of, requests, response, snoop_end, verdict};
 use std::alloc::Global;
 use std::process::Abort;

@@ -3,13 +3,12 @@
 ghost use Rattle.std.specs.Prelude.{◌<◌, ◌^◌, length};
 
 use crate::laid_out::{laid_out, sample};
-use crate::lines::ADS;
-use crate::runs::{
-    CANCELLED_BY_ADDRESS_ERROR, Clock, DEFERRED_AND_REPLIED, LOCKED_INCREMENTS, STALLED_SNOOP,
-    TWO_AGENTS_OVERLAP, WRITE_BACK_HELD_OFF,
-};
 use fsb_arbiter::Arbiter;
 use fsb_io::Memory;
+use fsb_runs::{
+    ADS, CANCELLED_BY_ADDRESS_ERROR, Clock, DEFERRED_AND_REPLIED, LOCKED_INCREMENTS, STALLED_SNOOP,
+    TWO_AGENTS_OVERLAP, WRITE_BACK_HELD_OFF,
+};
 use fsb_signal::Lines;
 use fsb_trace::{Who, requests};
 use std::alloc::Global;

@@ -1,4 +1,4 @@
-//! Traces of runs, laid out clock by clock, up to the last clock at which something is asserted.
+//! Waveforms of runs, laid out clock by clock, up to the last clock at which something is asserted.
 
 use crate::lines::{
     ADS, AERR, BPRI, BREQ0, BREQ1, DBSY, DEFER, DRDY, HIT, HITM, LOCK, RS0, RS1, RS2, TRDY,
