@@ -3,40 +3,14 @@
 ghost use Rattle.std.specs.Prelude.{◌^◌, ◌<◌, ◌≤◌, length, IfOk};
 
 use fsb_rules::Checker;
+use fsb_runs::{ADS, BPRI, BREQ0, BREQ1, BREQ2, BREQ3, DBSY, DRDY, RS0};
 use fsb_signal::{Lines, Sample, Word};
 use fsb_trace::verdict;
 use std::alloc::{AllocError, Global};
 use std::process::Abort;
 
-pub const BPRI: u32 = Lines::BPRI.0;
-
-pub const LOCK: u32 = Lines::LOCK.0;
-
-pub const BNR: u32 = Lines::BNR.0;
-
-pub const ADS: u32 = Lines::ADS.0;
-
-pub const AERR: u32 = Lines::AERR.0;
-
-pub const HIT: u32 = Lines::HIT.0;
-
-pub const HITM: u32 = Lines::HITM.0;
-
-pub const DEFER: u32 = Lines::DEFER.0;
-
-pub const TRDY: u32 = Lines::TRDY.0;
-
-pub const DBSY: u32 = Lines::DBSY.0;
-
-pub const DRDY: u32 = Lines::DRDY.0;
-
 /// The BREQ# lines of the four agents.
-pub const BREQ: [u32; 4] = [
-    Lines::BREQ0.0,
-    Lines::BREQ1.0,
-    Lines::BREQ2.0,
-    Lines::BREQ3.0,
-];
+pub const BREQ: [u32; 4] = [BREQ0, BREQ1, BREQ2, BREQ3];
 
 /// What stands on a waveform, at these clocks.
 #[derive(Clone, Copy)]
@@ -159,9 +133,9 @@ fn put(cells: &mut Cells, piece: &Piece) {
             put_words(cells, q, words.0, words.1);
             put_words(cells, q.saturating_add(1), words.2, words.3);
         }
-        Piece::Code(c, code) => assert_lines(cells, (code % 8) * Lines::RS0.0, c, c),
+        Piece::Code(c, code) => assert_lines(cells, (code % 8) * RS0, c, c),
         Piece::Data(c, code) => {
-            assert_lines(cells, (code % 8) * Lines::RS0.0, c, c);
+            assert_lines(cells, (code % 8) * RS0, c, c);
             assert_lines(cells, DBSY, c, c.saturating_add(2));
             assert_lines(cells, DRDY, c, c.saturating_add(3));
         }

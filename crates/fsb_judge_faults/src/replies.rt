@@ -1,10 +1,8 @@
 //! Snoops, responses, data and deferrals: for each phase rule from 11 to 18 waveforms that just break it, and waveforms that just
 //! do not.
 
-use crate::laid::{
-    AERR, DBSY, DEFER, DRDY, HIT, HITM, Piece, TRDY, expect_fair, expect_foul, first, kept_read,
-    read, reply, write_back,
-};
+use crate::laid::{Piece, expect_fair, expect_foul, first, kept_read, read, reply, write_back};
+use fsb_runs::{AERR, DBSY, DEFER, DRDY, HIT, HITM, TRDY};
 
 #[test]
 fn snoop_lines_in_snoop_clocks(rt: HostRuntime) {

@@ -2,9 +2,9 @@
 //! not.
 
 use crate::laid::{
-    ADS, AERR, BNR, BPRI, BREQ, DEFER, LOCK, Piece, expect_fair, expect_foul, first, kept_read,
-    read, reply, write_back,
+    BREQ, Piece, expect_fair, expect_foul, first, kept_read, read, reply, write_back,
 };
+use fsb_runs::{ADS, AERR, BNR, BPRI, DEFER, LOCK};
 
 #[test]
 fn known_control_lines(rt: HostRuntime) {

@@ -4,6 +4,10 @@ ghost use Rattle.std.specs.Prelude.{◌≡◌, ◌+◌, ◌≤◌, ◌<◌, ◌^
 use crate::draws::Draws;
 use fsb_arbiter::Arbiter;
 use fsb_rules::Checker;
+use fsb_runs::{
+    ADS, AERR, BNR, BPRI, BREQ0, BREQ1, BREQ2, BREQ3, DBSY, DEFER, DRDY, HIT, HITM, LOCK, RS0, RS1,
+    RS2, TRDY,
+};
 use fsb_signal::{Lines, Sample, Word};
 use fsb_trace::Who;
 use std::alloc::{AllocError, Global};
@@ -19,42 +23,6 @@ const AIMS: u32 = 40;
 
 /// The number of the last rule.
 const RULES: u8 = 18;
-
-const BREQ0: u32 = Lines::BREQ0.0;
-
-const BREQ1: u32 = Lines::BREQ1.0;
-
-const BREQ2: u32 = Lines::BREQ2.0;
-
-const BREQ3: u32 = Lines::BREQ3.0;
-
-const BPRI: u32 = Lines::BPRI.0;
-
-const LOCK: u32 = Lines::LOCK.0;
-
-const BNR: u32 = Lines::BNR.0;
-
-const ADS: u32 = Lines::ADS.0;
-
-const AERR: u32 = Lines::AERR.0;
-
-const HIT: u32 = Lines::HIT.0;
-
-const HITM: u32 = Lines::HITM.0;
-
-const DEFER: u32 = Lines::DEFER.0;
-
-const RS0: u32 = Lines::RS0.0;
-
-const RS1: u32 = Lines::RS1.0;
-
-const RS2: u32 = Lines::RS2.0;
-
-const TRDY: u32 = Lines::TRDY.0;
-
-const DBSY: u32 = Lines::DBSY.0;
-
-const DRDY: u32 = Lines::DRDY.0;
 
 /// The request lines of the four agents and of the priority agent.
 const REQUESTS: [u32; 5] = [BREQ0, BREQ1, BREQ2, BREQ3, BPRI];

@@ -6,6 +6,7 @@ use super::{CHECK, Ended, FIRST, NAMED, NO_FAILS, call_bench, joined};
 use crate::Status;
 use fsb_io::{MemSink, Memory};
 use fsb_rules::Broken;
+use fsb_runs::{Clock, LEAST_RULE_NAMED, QUEUE_DEPTH_BROKEN, REQUEST_SPACING_BROKEN};
 use fsb_signal::{Lines, Sample, Word};
 use std::alloc::{AllocError, Global};
 use std::test::Fail;
@@ -15,60 +16,6 @@ use vcd_dumps::{
 };
 use vcd_read::{VcdCause, VcdFault};
 use vcd_write::put_dump;
-
-/// The control lines, the REQ word and the address word of a clock.
-type Clock = (u32, u64, u64);
-
-const BREQ0: u32 = 1;
-
-const BREQ1: u32 = 2;
-
-const ADS: u32 = 128;
-
-const AERR: u32 = 256;
-
-/// A read of the line of address 40, and ADS# again two clocks later.
-const TOO_SOON: [Clock; 5] = [
-    (BREQ0, 0, 0),
-    (BREQ0, 0, 0),
-    (BREQ0 | ADS, 0x6, 0x8),
-    (0, 0x2, 0x2),
-    (BREQ0 | ADS, 0, 0),
-];
-
-/// A clock at which the rules 2, 6 and 10 are broken.
-const THREE_RULES: [Clock; 2] = [(0, 0, 0), (ADS | AERR, 0, 0)];
-
-/// The first clocks of nine reads of two agents in turn, to which nobody responds.
-const NINE_READS: [Clock; 27] = [
-    (BREQ0 | BREQ1, 0, 0),
-    (BREQ0 | BREQ1, 0, 0),
-    (BREQ0 | BREQ1 | ADS, 0x6, 0x8),
-    (BREQ1, 0x2, 0x2),
-    (BREQ0 | BREQ1, 0, 0),
-    (BREQ0 | BREQ1 | ADS, 0x6, 0xc),
-    (BREQ0, 0x2, 0x20002),
-    (BREQ0 | BREQ1, 0, 0),
-    (BREQ0 | BREQ1 | ADS, 0x6, 0x10),
-    (BREQ1, 0x2, 0x2002),
-    (BREQ0 | BREQ1, 0, 0),
-    (BREQ0 | BREQ1 | ADS, 0x6, 0x14),
-    (BREQ0, 0x2, 0x22002),
-    (BREQ0 | BREQ1, 0, 0),
-    (BREQ0 | BREQ1 | ADS, 0x6, 0x18),
-    (BREQ1, 0x2, 0x4002),
-    (BREQ0 | BREQ1, 0, 0),
-    (BREQ0 | BREQ1 | ADS, 0x6, 0x1c),
-    (BREQ0, 0x2, 0x24002),
-    (BREQ0 | BREQ1, 0, 0),
-    (BREQ0 | BREQ1 | ADS, 0x6, 0x20),
-    (BREQ1, 0x2, 0x6002),
-    (BREQ0 | BREQ1, 0, 0),
-    (BREQ0 | BREQ1 | ADS, 0x6, 0x24),
-    (BREQ0, 0x2, 0x26002),
-    (BREQ0, 0, 0),
-    (BREQ0 | ADS, 0x6, 0x28),
-];
 
 /// The sample of a clock.
 fn sample(clock: Clock) -> Sample
@@ -124,9 +71,9 @@ fn own_dump_accepted(rt: HostRuntime) -> Result<(), Fail> {
 #[test]
 fn broken_rules_are_named(rt: HostRuntime) -> Result<(), Fail> {
     let table: [(&[Clock], u32, u8, &str); 3] = [
-        (&TOO_SOON, 4, 2, "rejected clock=4 rule=2\n"),
-        (&THREE_RULES, 1, 2, "rejected clock=1 rule=2\n"),
-        (&NINE_READS, 26, 4, "rejected clock=26 rule=4\n"),
+        (&REQUEST_SPACING_BROKEN, 4, 2, "rejected clock=4 rule=2\n"),
+        (&LEAST_RULE_NAMED, 1, 2, "rejected clock=1 rule=2\n"),
+        (&QUEUE_DEPTH_BROKEN, 26, 4, "rejected clock=26 rule=4\n"),
     ];
     for (clocks, clock, rule, text) in table {
         let dump = written(rt.alloc(), clocks)?;
