@@ -15,7 +15,9 @@ import subprocess
 import sys
 import tempfile
 
-TOP = os.path.dirname(os.path.dirname(os.path.abspath(__file__)))
+sys.dont_write_bytecode = True
+from common import TOP, built_program
+
 DATA = os.path.join(TOP, "crates", "p6bench", "data")
 REFUSED = (8, b"", b"out of memory\n", None)
 
@@ -139,7 +141,7 @@ def tried(program, library, name, words, folder):
 
 
 def main():
-    program = os.path.abspath(sys.argv[1] if len(sys.argv) > 1 else os.path.join(TOP, "crates", "p6bench", "out", "p6bench"))
+    program = built_program(sys.argv[1] if len(sys.argv) > 1 else None)
     with tempfile.TemporaryDirectory() as folder:
         library = os.path.join(folder, "refuse.so")
         source = written(folder, "refuse.c", LIBRARY.encode())

@@ -12,7 +12,7 @@ trap 'rm -rf "$folder"' EXIT
 python3 - "$program" "$folder" "$megabytes" <<'PY'
 import os, subprocess, sys, time
 sys.path.insert(0, "bench")
-from memory import most_memory, row
+from common import most_memory, row
 program, folder, size = sys.argv[1], sys.argv[2], int(sys.argv[3]) * 1_000_000
 bench, run, large, small = (os.path.join(folder, name) for name in ("run.bench", "run.vcd", "large.vcd", "small.vcd"))
 

@@ -17,7 +17,9 @@ import subprocess
 import sys
 import tempfile
 
-TOP = os.path.dirname(os.path.dirname(os.path.abspath(__file__)))
+sys.dont_write_bytecode = True
+from common import TOP, built_program
+
 DUMPS = ["crates/p6bench/data/first.vcd", "crates/vcd_texts/data/falling.vcd", "crates/vcd_texts/data/scopes.vcd"]
 BENCHES = ["examples/first.bench", "examples/counter.bench", "examples/two_agents.bench"]
 ALLOWED = {"check": {0, 1, 4}, "run": {0, 3}}
@@ -106,7 +108,7 @@ def jobs_of(program, verb, path, folder, edits, seed):
 
 def main():
     words = sys.argv[1:] + [None] * 3
-    program = words[0] or os.path.join(TOP, "crates/p6bench/out/p6bench")
+    program = built_program(words[0])
     edits, seed = int(words[1] or 10_000), int(words[2] or 1)
     bad = 0
     with tempfile.TemporaryDirectory() as folder, concurrent.futures.ProcessPoolExecutor() as pool:

@@ -24,7 +24,7 @@ PY
 python3 - "$program" "$folder/large.bench" "$folder/small.bench" <<'PY'
 import os, subprocess, sys, time
 sys.path.insert(0, "bench")
-from memory import most_memory, row
+from common import most_memory, row
 program, large, small = sys.argv[1:]
 def best(path):
     times = []

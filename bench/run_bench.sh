@@ -11,7 +11,7 @@ trap 'rm -rf "$folder"' EXIT
 python3 - "$program" "$folder" <<'PY'
 import os, subprocess, sys, time
 sys.path.insert(0, "bench")
-from memory import most_memory, row
+from common import most_memory, row
 program, folder = sys.argv[1:]
 bench = os.path.join(folder, "long.bench")
 dump = os.path.join(folder, "long.vcd")

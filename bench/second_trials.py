@@ -17,10 +17,10 @@ import sys
 import tempfile
 
 sys.dont_write_bytecode = True
+from common import TOP, built_program
 from second_judge import (DEFERRED, DEN_BIT, HARD_FAILURE, IDLE, IMPLICIT_WRITEBACK, NEEDED, NORMAL_DATA, NO_DATA, PRIORITY,
                           REQUEST_LINES, RETRY, SYMMETRIC, WIDTHS, WORDS, read_samples, verdict)
 
-TOP = os.path.dirname(os.path.dirname(os.path.abspath(__file__)))
 FIRST_CODES = {'Reply': 0b00000, 'Invalidate': 0b00010, 'Read': 0b00110, 'WriteBack': 0b00101}
 ANSWERS = ['accepted'] + [f'rule={rule}' for rule in range(1, 19)]
 
@@ -367,7 +367,7 @@ def answer_of(program, path):
 
 
 def main(words):
-    program = words[0] if words else os.path.join(TOP, 'crates/p6bench/out/p6bench')
+    program = built_program(words[0] if words else None)
     count, seed = int(words[1]) if words[1:] else 2000, int(words[2]) if words[2:] else 1
     sys.setrecursionlimit(100000)
     told, clocks, differences = collections.Counter(), 0, 0

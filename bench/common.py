@@ -1,10 +1,22 @@
-"""The most memory that a program has while it runs, in MiB.
+"""What the scripts of this folder share: the built program, and the most memory that a program has while it runs, in MiB.
 
-It is read off /proc again and again, since what the system counts for a child also counts its parent's before the child begins.
+The memory is read off /proc again and again, since what the system counts for a child also counts its parent's before the child begins.
 """
 
+import os
 import subprocess
+import sys
 import time
+
+TOP = os.path.dirname(os.path.dirname(os.path.abspath(__file__)))
+
+
+def built_program(name=None):
+    """The program of this name, or the one that the checkout has built."""
+    program = os.path.abspath(name or os.path.join(TOP, "crates/p6bench/out/p6bench"))
+    if not os.access(program, os.X_OK):
+        sys.exit("no program at %s: build it by 'rt run' in crates/p6bench" % program)
+    return program
 
 
 def most_memory(words):
