@@ -348,7 +348,10 @@ fn reader_of_one_sample_refuses_a_second(rt: HostRuntime) -> Result<(), Fail> {
     let mut samples = Vec::new(rt.alloc());
     assert_eq!(rt; reader.feed(&bytes, &mut samples), Ok(()));
     assert_eq!(rt; samples.len(), 1);
-    assert_eq!(rt; reader.finish(&mut samples), Err(VcdStop::TooLong));
+    let Err(stop) = reader.finish(&mut samples) else {
+        panic!(rt; "a second sample was let through");
+    };
+    assert_eq!(rt; stop, VcdStop::TooLong);
     assert_eq!(rt; reader.feed(b"0~ ", &mut samples), Err(VcdStop::TooLong));
     assert_eq!(rt; samples.len(), 1);
     Ok(())
