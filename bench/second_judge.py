@@ -13,9 +13,12 @@ from collections import namedtuple
 
 WIDTHS = {'BCLK': 1, 'BREQ0_n': 1, 'BREQ1_n': 1, 'BREQ2_n': 1, 'BREQ3_n': 1, 'BPRI_n': 1, 'LOCK_n': 1, 'BNR_n': 1,
           'ADS_n': 1, 'REQ_n': 5, 'A_n': 33, 'AERR_n': 1, 'HIT_n': 1, 'HITM_n': 1, 'DEFER_n': 1, 'RS_n': 3, 'TRDY_n': 1,
-          'DBSY_n': 1, 'DRDY_n': 1, 'D_n': 64}
-NEEDED = set(WIDTHS) - {'BREQ1_n', 'BREQ2_n', 'BREQ3_n', 'BPRI_n', 'LOCK_n', 'BNR_n', 'AERR_n', 'DEFER_n'}
+          'DBSY_n': 1, 'DRDY_n': 1, 'D_n': 64, 'AP_n': 2, 'RP_n': 1}
+NEEDED = set(WIDTHS) - {'BREQ1_n', 'BREQ2_n', 'BREQ3_n', 'BPRI_n', 'LOCK_n', 'BNR_n', 'AERR_n', 'DEFER_n', 'AP_n', 'RP_n'}
 WORDS = ('REQ_n', 'A_n', 'D_n')
+# The control lines, by the variable that has them, the highest first.
+LINES = {name: [name[:-2]] for name in WIDTHS if name not in WORDS + ('BCLK',)}
+LINES.update({'RS_n': ['RS2', 'RS1', 'RS0'], 'AP_n': ['AP1', 'AP0']})
 
 # The request line of each agent. The symmetric agents are numbers.
 SYMMETRIC = (0, 1, 2, 3)
@@ -25,12 +28,18 @@ REQUEST_LINES = {0: 'BREQ0', 1: 'BREQ1', 2: 'BREQ2', 3: 'BREQ3', PRIORITY: 'BPRI
 # The codes of RS#.
 IDLE, RETRY, DEFERRED, HARD_FAILURE, NO_DATA, IMPLICIT_WRITEBACK, NORMAL_DATA = 0, 1, 2, 4, 5, 6, 7
 
-# Each kind that is no reply, by the first code on REQ without its bit z. The ID stands on A[23:16], and DEN# on A4.
-KINDS = {0b00010: 'Invalidate', 0b00110: 'Read', 0b00101: 'WriteBack'}
+# Each kind that is no reply, by the first code on REQ without its bit z, and the second one. The ID stands on A[23:16], and
+# DEN# on A4.
+KINDS = {(0b00010, 0b00010): 'Invalidate', (0b00110, 0b00010): 'Read', (0b00101, 0b00010): 'WriteBack',
+         (0b00010, 0b00000): 'Upgrade'}
 ID_BITS, DEN_BIT = 0xff << 13, 1 << 1
+LOW_ADDRESS = (1 << 21) - 1  # A[23:3] of the address word
 
-# What the lines have at a clock: the asserted ones, the code of RS#, and the words, None where a bit is unknown.
-Sample = namedtuple('Sample', 'has_unknown_line asserted code req a d')
+# What the lines have at a clock: the unknown and the asserted ones, the code of RS#, and the words, None where a bit is
+# unknown.
+Sample = namedtuple('Sample', 'unknown asserted code req a d')
+# Which of the parity lines a dump declares.
+Marks = namedtuple('Marks', 'ap rp')
 Request = namedtuple('Request', 'kind id den')
 NO_REQUEST = Request(None, None, None)
 
@@ -45,7 +54,7 @@ def refuse_unless(holds, why):
 
 
 def read_samples(text):
-    """The samples of a dump, which is given as bytes."""
+    """The marks and the samples of a dump, which is given as bytes."""
     words = iter([word.decode('latin-1') for word in text.split()])
     names = read_declarations(words)
     values = {name: ('x' if name in names.values() else '1') * width for name, width in WIDTHS.items()}
@@ -75,7 +84,7 @@ def read_samples(text):
                 refuse_unless(len(digits) <= width, f'the width of the value {word} of {names[code]}')
                 values[names[code]] = digits.rjust(width, '0' if digits[0] in '01' else digits[0])
     end_block()
-    return samples
+    return Marks('AP_n' in names.values(), 'RP_n' in names.values()), samples
 
 
 def read_declarations(words):
@@ -117,11 +126,11 @@ def number_of(word):
 
 def sample_of(values):
     """What the lines have: 0 is asserted, 1 and z are not, x is unknown."""
-    lines = [name for name in WIDTHS if name not in WORDS + ('BCLK', 'RS_n')]
-    code, *words = (int(values[name].translate(str.maketrans('01zx', '1000')), 2) for name in ('RS_n',) + WORDS)
-    words = (None if 'x' in values[name] else word for name, word in zip(WORDS, words))
-    asserted = {name[:-2] for name in lines if values[name] == '0'}
-    return Sample(any('x' in values[name] for name in lines + ['RS_n']), asserted, code, *words)
+    lines = {line: digit for name in LINES for line, digit in zip(LINES[name], values[name])}
+    asserted = {line for line, digit in lines.items() if digit == '0'}
+    words = (None if 'x' in values[name] else int(values[name].translate(str.maketrans('01z', '100')), 2) for name in WORDS)
+    code = sum(1 << bit for bit in range(3) if f'RS{bit}' in asserted)
+    return Sample({line for line, digit in lines.items() if digit == 'x'}, asserted, code, *words)
 
 
 def decode(first, second):
@@ -131,10 +140,16 @@ def decode(first, second):
     if first.req == 0:
         is_lawful = first.a & ~ID_BITS == 0 and second.req == 0 and second.a == 0
         return Request('Reply', first.a >> 13, False) if is_lawful else NO_REQUEST
-    kind, is_high, den = KINDS.get(first.req & ~0b01000), first.req & 0b01000 != 0, second.a & DEN_BIT != 0
-    is_lawful = (kind and is_high == (first.a >= 1 << 29) and second.req == 0b00010
-                 and second.a & ~(ID_BITS | DEN_BIT) == 0 and not (kind == 'WriteBack' and (first.a & 0b11 or den)))
+    kind, is_high = KINDS.get((first.req & ~0b01000, second.req)), first.req & 0b01000 != 0
+    den = second.a & DEN_BIT != 0
+    is_lawful = (kind and is_high == (first.a >= 1 << 29) and second.a & ~(ID_BITS | DEN_BIT) == 0
+                 and not (kind == 'WriteBack' and first.a & 0b11) and not (kind in ('WriteBack', 'Upgrade') and den))
     return Request(kind, second.a >> 13, den) if is_lawful else NO_REQUEST
+
+
+def is_odd(*groups):
+    """An odd number of lines is asserted in the groups: conditions, and words."""
+    return sum(bin(group).count('1') for group in groups) % 2 == 1
 
 
 def is_below(number, c):
@@ -152,10 +167,10 @@ def once(word):
 
 
 class Trace:
-    """Samples, and the words over them. k is the first clock of a request, i the number of a live one."""
+    """Marks and samples, and the words over them. k is the first clock of a request, i the number of a live one."""
 
-    def __init__(self, samples):
-        self.samples, self.kept = samples, {}
+    def __init__(self, marks, samples):
+        self.marks, self.samples, self.kept = marks, samples, {}
         self.clocks = range(len(samples))
         self.requests = [c for c in self.clocks if self.has('ADS', c)]
         self.live = [k for k in self.requests if not self.is_cancelled(k)]
@@ -221,7 +236,7 @@ class Trace:
             return 'Failed'
         if self.has_at_snoop_end(i, 'HITM'):
             return 'Handed'
-        by_kind = {'WriteBack': 'Written', 'Reply': 'Replied'}.get(self.request_of(i).kind, 'Granted')
+        by_kind = {'WriteBack': 'Written', 'Upgrade': 'Upgraded', 'Reply': 'Replied'}.get(self.request_of(i).kind, 'Granted')
         return {RETRY: 'Retried', DEFERRED: 'Deferred'}.get(code, by_kind)
 
     def does_move(self, i):
@@ -291,7 +306,7 @@ class Trace:
             return [NO_DATA]
         if self.has_at_snoop_end(i, 'DEFER'):
             return [RETRY, DEFERRED] if self.request_of(i).den else [RETRY]
-        return [NORMAL_DATA]
+        return [NO_DATA] if self.request_of(i).kind == 'Upgrade' else [NORMAL_DATA]
 
     # The rules at the last clock c. The longer ones come first.
 
@@ -335,10 +350,20 @@ class Trace:
         return (any(self.request_at(k).id == request.id for k in outstanding)
                 or sum(self.winner_at(k) == self.winner_at(c - 1) for k in outstanding) >= 4)
 
+    def is_address_parity_wrong(self, c):
+        sample, asserted = self.samples[c], self.samples[c].asserted
+        return sample.a is not None and not sample.unknown & {'AP0', 'AP1'} and (
+            is_odd('AP0' in asserted, sample.a & LOW_ADDRESS) or is_odd('AP1' in asserted, sample.a & ~LOW_ADDRESS))
+
+    def is_request_parity_wrong(self, c):
+        sample, asserted = self.samples[c], self.samples[c].asserted
+        return (sample.req is not None and not sample.unknown & {'RP', 'ADS'}
+                and is_odd('RP' in asserted, 'ADS' in asserted, sample.req))
+
     def are_broken(self, c):
         """For each rule, from 1, whether it is broken at the last clock c."""
         begins, began, i, code = self.has('ADS', c), self.has('ADS', c - 1), self.next_response(c), self.samples[c].code
-        yield self.samples[c].has_unknown_line
+        yield bool(self.samples[c].unknown)                                                  # has_unknown_line
         yield begins and (c < 2 or began or self.has('ADS', c - 2))                          # is_request_too_soon
         yield began and self.request_at(c - 1) == NO_REQUEST                                 # is_code_unlawful
         yield begins and sum(self.is_in_flight(k, c) for k in self.requests) >= 8            # is_queue_full
@@ -357,17 +382,20 @@ class Trace:
         yield self.is_data_wrong(c)
         yield self.has('DRDY', c) and self.samples[c].d is None                              # has_unknown_data
         yield began and self.is_outstanding_wrong(c)
+        yield self.marks.ap and (begins or began) and self.is_address_parity_wrong(c)
+        yield self.marks.rp and (begins or began) and self.is_request_parity_wrong(c)
 
 
-def least_rule(samples):
+def least_rule(marks, samples):
     """The least rule that is broken at the last of the samples, or None."""
-    return next((rule for rule, is_broken in enumerate(Trace(samples).are_broken(len(samples) - 1), 1) if is_broken), None)
+    broken = Trace(marks, samples).are_broken(len(samples) - 1)
+    return next((rule for rule, is_broken in enumerate(broken, 1) if is_broken), None)
 
 
-def verdict(samples):
+def verdict(marks, samples):
     """The line that tells the verdict: each clock is judged over the samples up to it alone."""
     for c in range(len(samples)):
-        rule = least_rule(samples[:c + 1])
+        rule = least_rule(marks, samples[:c + 1])
         if rule is not None:
             return f'rejected clock={c} rule={rule}'
     return f'accepted clocks={len(samples)}'
@@ -379,7 +407,7 @@ def main(words):
     sys.setrecursionlimit(100000)
     try:
         with open(words[0], 'rb') as source:
-            line = verdict(read_samples(source.read()))
+            line = verdict(*read_samples(source.read()))
     except (OSError, Unsupported) as refusal:
         print(f'second_judge: {words[0]}: {refusal}', file=sys.stderr)
         return 2

@@ -21,8 +21,8 @@ from common import TOP, built_program
 from second_judge import (DEFERRED, DEN_BIT, HARD_FAILURE, IDLE, IMPLICIT_WRITEBACK, NEEDED, NORMAL_DATA, NO_DATA, PRIORITY,
                           REQUEST_LINES, RETRY, SYMMETRIC, WIDTHS, WORDS, read_samples, verdict)
 
-FIRST_CODES = {'Reply': 0b00000, 'Invalidate': 0b00010, 'Read': 0b00110, 'WriteBack': 0b00101}
-ANSWERS = ['accepted'] + [f'rule={rule}' for rule in range(1, 19)]
+FIRST_CODES = {'Reply': 0b00000, 'Invalidate': 0b00010, 'Read': 0b00110, 'WriteBack': 0b00101, 'Upgrade': 0b00010}
+ANSWERS = ['accepted'] + [f'rule={rule}' for rule in range(1, 21)]
 
 
 class Request:
@@ -70,7 +70,11 @@ class Traffic:
         self.stalls, self.hits, self.defers, self.fails = some(0, 0.4), some(0, 0.4), some(0, 0.5), some(0, 0.2)
         self.responds, self.chunks, self.noise = some(0.02, 0.5, 1), some(0.5, 1), some(0, 0.3)
         self.replies = some(0.05, 0.5)
-        self.kinds = some(('Read', 'Invalidate'), ('Read', 'Invalidate', 'WriteBack'))
+        self.kinds = some(('Read', 'Invalidate'), ('Read', 'Invalidate', 'WriteBack'), ('Read', 'Upgrade', 'WriteBack'))
+        undeclared = ('AP_n', 'RP_n')
+        if forgotten in (19, 20) or self.happens(0.4):
+            undeclared = some((), (), ('RP_n',) if forgotten != 20 else (), ('AP_n',) if forgotten != 19 else ())
+        self.names = [name for name in WIDTHS if name not in undeclared]
         self.past, self.samples, self.requests, self.responses = [], [], [], []
         self.last, self.turn, self.snooped, self.second = None, 0, -9, None
         # A rule whose breach needs much to have come before is given the traffic for it.
@@ -79,7 +83,7 @@ class Traffic:
         if forgotten in (7, 12, 14, 18):
             self.asks, self.defers = 0.7, 0.7
         if forgotten in (3, 15):
-            self.asks, self.kinds = 0.7, some(('WriteBack',), ('Read', 'Invalidate'))
+            self.asks, self.kinds = 0.7, some(('WriteBack',), ('Read', 'Invalidate', 'Upgrade'))
         if forgotten == 18 and self.case == 2:
             self.cancels = some(0, 0.5)
         if forgotten == 18 and self.case == 3:
@@ -181,10 +185,10 @@ class Traffic:
         used = [r.id for r in self.requests if r.agent == agent][-5:]
         ids = used if used and self.happens(0.4) else [16 * agent + number for number in range(self.ids)]
         free = [id for id in ids if all(r.id != id for r in outstanding)] if self.keeps(18, 2) else used or ids
-        return Request(c, winner, kind, self.chance.choice(free), kind != 'WriteBack' and self.happens(0.5)) if free else None
+        return Request(c, winner, kind, self.chance.choice(free), kind in ('Read', 'Invalidate') and self.happens(0.5)) if free else None
 
     def put_words(self, request):
-        second = 0b00010, request.id << 13 | DEN_BIT * request.den
+        second = 0b00010 * (request.kind != 'Upgrade'), request.id << 13 | DEN_BIT * request.den
         if request.kind == 'Reply':
             first, second = (0, request.id << 13), (0, 0)
         else:
@@ -249,7 +253,8 @@ class Traffic:
             r.code = self.code_of(r) if self.keeps(14) else self.chance.randrange(1, 8)
         self.lines |= {f'RS{bit}' for bit in range(3) if r.code >> bit & 1}
         r.response = c
-        r.end = c if r.code in (HARD_FAILURE, RETRY, DEFERRED) else None
+        is_dataless = r.kind == 'Upgrade' and 'HITM' not in r.results
+        r.end = c if is_dataless or r.code in (HARD_FAILURE, RETRY, DEFERRED) else None
         self.responses.append(r)
 
     def code_of(self, r):
@@ -259,7 +264,7 @@ class Traffic:
             return NO_DATA
         if 'DEFER' in r.results:
             return DEFERRED if r.den and self.happens(0.8) else RETRY
-        return NORMAL_DATA
+        return NO_DATA if r.kind == 'Upgrade' else NORMAL_DATA
 
     def move(self, c):
         r = self.responses[-1] if self.responses and self.responses[-1].end is None else None
@@ -280,14 +285,25 @@ class Traffic:
         """The digits of the lines of this clock. Words that nobody looks at may be anything, and a line that is let go z."""
         def idle():
             return 'z' if self.happens(self.noise / 3) else '1'
-        digits = {name: '0' if name[:-2] in self.lines else idle() for name in WIDTHS}
+        digits = {name: '0' if name[:-2] in self.lines else idle() for name in self.names}
         digits['RS_n'] = ''.join('0' if line in self.lines else idle() for line in ('RS2', 'RS1', 'RS0'))
         for name in WORDS:
             nothing = ''.join(self.chance.choices('01xz', k=WIDTHS[name])) if self.happens(self.noise) else '1' * WIDTHS[name]
             digits[name] = self.words.get(name, nothing)
+        if 'AP_n' in digits:
+            digits['AP_n'] = (self.parity(19, digits['A_n'][:12], idle) + self.parity(19, digits['A_n'][12:], idle))
+        if 'RP_n' in digits:
+            digits['RP_n'] = self.parity(20, digits['REQ_n'] + digits['ADS_n'], idle)
         if not self.keeps(1):
             change_a_line(self.chance, digits, 'x')
         return digits
+
+    def parity(self, rule, group, idle):
+        """The digit of a parity line with this group. Where nobody looks at it, it may be anything that is known."""
+        if 'ADS' not in self.lines and not self.had('ADS', len(self.past) - 2):
+            return '0' if self.happens(self.noise) else idle()
+        is_asserted = (group.count('0') % 2 == 1) == self.keeps(rule)
+        return '0' if is_asserted else idle()
 
 
 def inverted(name, value):
@@ -302,13 +318,13 @@ def changed(chance, digits, to='01xz'):
 
 
 def change_a_line(chance, digits, to='01xz'):
-    name = chance.choice([name for name in WIDTHS if name not in WORDS + ('BCLK',)])
+    name = chance.choice([name for name in digits if name not in WORDS + ('BCLK',)])
     digits[name] = changed(chance, digits[name], to)
 
 
 def random_samples(chance):
     form = chance.randrange(8)
-    samples = Traffic(chance, chance.choice([*range(1, 19), 4, 7, 12, 18, 18, 18]) if form >= 4 else None).samples
+    samples = Traffic(chance, chance.choice([*range(1, 21), 4, 7, 12, 18, 18, 18]) if form >= 4 else None).samples
     begun = [c for c in range(3, len(samples)) if samples[c - 3]['ADS_n'] == '0']
     if form == 1:
         change_a_line(chance, chance.choice(samples), '0011xz')
@@ -324,10 +340,11 @@ def random_samples(chance):
 def dump_text(chance, samples):
     """A dump of the samples: as the program writes it, or in one of the ways of a simulator."""
     is_plain = chance.random() < 0.4
-    names = list(WIDTHS)
-    codes = {name: chr(33 + number) for number, name in enumerate(names)}
+    names = list(samples[0])
+    codes = {name: chr(33 + number) for number, name in enumerate(WIDTHS)}
     if not is_plain:
-        names = [name for name in names if name in NEEDED or chance.random() < 0.5 or any(s[name] in '0x' for s in samples)]
+        names = [name for name in names if name in NEEDED or name in ('AP_n', 'RP_n') or chance.random() < 0.5
+                 or any(s[name] in '0x' for s in samples)]
         chance.shuffle(names)
         codes = {name: code + chance.choice(('', 'a', '~!')) for name, code in codes.items()}
 
@@ -381,8 +398,8 @@ def main(words):
             with open(path, 'w') as dump:
                 dump.write(dump_text(chance, random_samples(chance)))
         with open(path, 'rb') as dump:
-            samples = read_samples(dump.read())
-        second, first = verdict(samples), answer_of(program, path)
+            marks, samples = read_samples(dump.read())
+        second, first = verdict(marks, samples), answer_of(program, path)
         if first != second:
             differences += 1
             print(f'{name}, {path}: the program says {first!r}, the second judge {second!r}', flush=True)

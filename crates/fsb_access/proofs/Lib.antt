@@ -3,3 +3,4 @@ pub mod Chunks
 pub mod OrderLaws
 pub mod ReplayLaws
 pub mod WorkedLogs
+pub mod Interface

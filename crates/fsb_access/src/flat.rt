@@ -161,7 +161,7 @@ fn cut(size: u8, number: u64) -> u64
 }
 
 /// The number that at most eight bytes spell, the lowest first.
-fn value_of(bytes: &[u8]) -> u64
+pub fn value_of(bytes: &[u8]) -> u64
     requires { length bytes.now ≤ 8 }
     ensures value { result ≡ value_of_bytes bytes.now }
     ensures bound { result < 256 ^ length bytes.now }

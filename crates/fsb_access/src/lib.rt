@@ -18,7 +18,7 @@
 pub use access::{
     ADDRESS_LIMIT, Access, CHUNK_BYTES, LINE_BYTES, LINE_CHUNKS, Operand, Setting, fits,
 };
-pub use flat::Flat;
+pub use flat::{Flat, value_of};
 pub use item::{Group, Item, Script};
 pub use laws::{orderly_logs_go_on, served_logs_go_on, stores_are_loaded};
 pub use log::{Done, Log};

@@ -5,8 +5,8 @@ use Rattle.std.specs.Option.{option_map}
 use Rattle.std.proofs.lemmas.Bool.{cases_lt, le-leb, lt-leb, lt-ltb, le-ltb}
 use Rattle.std.proofs.lemmas.List.{length_push}
 use Rattle.std.proofs.lemmas.Option.{slice_get_cases, none-some}
-use Rattle.fsb_count.proofs.Nth.{slice_get-end}
-use Rattle.fsb_signal.proofs.AtClock.{slice_get-before}
+use Rattle.fsb_count.proofs.Interface.{slice_get-end}
+use Rattle.fsb_signal.proofs.Interface.{slice_get-before}
 use Rattle.fsb_signal.specs.declared.lines.Lines.{Lines}
 use Rattle.fsb_signal.specs.declared.lines.TheConstants.Lines.{ADS}
 use Rattle.fsb_signal.specs.declared.sample.Sample.{Sample}
@@ -14,10 +14,8 @@ use Rattle.fsb_signal.specs.Samples.{line_at}
 use Rattle.fsb_trace.specs.declared.who.Who.{Who}
 use Rattle.fsb_trace.specs.At.{Trace}
 use Rattle.fsb_trace.specs.Agree.{AgreeTo}
-use Rattle.fsb_trace.specs.Winner.{Turns, winner_after, winner_at, turns_before, then_begun, symmetric_after, last_agent, last_symmetric}
-use Rattle.fsb_trace.proofs.AgreeAt.{turns_before-agree, winner_after-agree}
-use Rattle.fsb_trace.proofs.TurnSteps.{turns_before-begun, turns_before-kept}
-use Rattle.fsb_trace.proofs.WinnerSteps.{winner_after-low, winner_after-high}
+use Rattle.fsb_trace.specs.Winner.{Requesters, winner_after, winner_at, requesters_before, then_begun, symmetric_after, last_agent, last_symmetric}
+use Rattle.fsb_trace.proofs.Interface.{requesters_before-agree, winner_after-agree, requesters_before-begun, requesters_before-kept, winner_after-low, winner_after-high}
 use Rattle.fsb_arbiter.specs.declared.arbiter.Arbiter.{Arbiter}
 use Rattle.fsb_arbiter.specs.Order.{is_in, winner_among}
 use Rattle.fsb_arbiter.specs.Arbiter.{lines_back, Stands}
@@ -59,7 +57,7 @@ none_back h l e =
     ]
 
 -- the winner of the next clock
-winner_by_lines : (h : Trace) (lines : Lines) (turns : Turns) → 2 ≤ length h → lines_back h 2 ≡ Some lines → winner_after h (length h) turns ≡ winner_among lines turns.0 turns.1
+winner_by_lines : (h : Trace) (lines : Lines) (turns : Requesters) → 2 ≤ length h → lines_back h 2 ≡ Some lines → winner_after h (length h) turns ≡ winner_among lines turns.0 turns.1
 winner_by_lines h lines turns l e =
     let p = lines_parts lines (slice_get h (length h - 2)) (sym (lines_back-there h 2 l) ∙ e) in
     winner_after-high h (length h) turns (le-ltb (length h) 2 l) ∙ winner_by-is h (length h - 2) p.0 turns p.1
@@ -73,14 +71,14 @@ winner-some arbiter h lines s e =
       | inr high ↦
           ap (λ x. winner_among lines x arbiter.symmetric) s.last
           ∙ ap (winner_among lines (last_agent h (length h))) s.symmetric
-          ∙ sym (winner_by_lines h lines (turns_before h (length h)) high (sym s.older ∙ e))
+          ∙ sym (winner_by_lines h lines (requesters_before h (length h)) high (sym s.older ∙ e))
     ]
 
 pub winner-none : (arbiter : Arbiter) (h : Trace) → Stands arbiter h → arbiter.older ≡ None → None ≡ winner_at h (length h)
 unfolding winner_at
 winner-none arbiter h s e =
     elim (cases_lt (length h) 2) [
-      | inl low ↦ sym (winner_after-low h (length h) (turns_before h (length h)) (lt-ltb (length h) 2 low))
+      | inl low ↦ sym (winner_after-low h (length h) (requesters_before h (length h)) (lt-ltb (length h) 2 low))
       | inr high ↦ absurd (none_back h high (sym s.older ∙ e))
     ]
 
@@ -107,24 +105,24 @@ older_back h s =
     ]
 
 -- which agents began requests, with one more sample
-turns-begun : (h : Trace) (s : Sample) → is_in s.lines ADS ≡ true → turns_before (h ++ s ∷ []) (length (h ++ s ∷ [])) ≡ then_begun (turns_before h (length h)) (winner_at h (length h))
+turns-begun : (h : Trace) (s : Sample) → is_in s.lines ADS ≡ true → requesters_before (h ++ s ∷ []) (length (h ++ s ∷ [])) ≡ then_begun (requesters_before h (length h)) (winner_at h (length h))
 unfolding winner_at
 turns-begun h s t =
     let n : ℕ = length h in
     let v : Trace = h ++ s ∷ [] in
     let ads : line_at ADS v n ≡ true = line_at-is v n s ADS (slice_get-end h s) ∙ t in
-    let old : turns_before h n ≡ turns_before v n = turns_before-agree n h v n (agree_to h s) (omega arith) in
-    let won : winner_after h n (turns_before h n) ≡ winner_after v n (turns_before h n) = winner_after-agree n h v n (turns_before h n) (agree_to h s) (omega arith) in
-    ap (turns_before v) (length_push h s) ∙ turns_before-begun v n ads
-    ∙ ap (λ turns. then_begun turns (winner_after v n turns)) (sym old) ∙ ap (then_begun (turns_before h n)) (sym won)
+    let old : requesters_before h n ≡ requesters_before v n = requesters_before-agree n h v n (agree_to h s) (omega arith) in
+    let won : winner_after h n (requesters_before h n) ≡ winner_after v n (requesters_before h n) = winner_after-agree n h v n (requesters_before h n) (agree_to h s) (omega arith) in
+    ap (requesters_before v) (length_push h s) ∙ requesters_before-begun v n ads
+    ∙ ap (λ turns. then_begun turns (winner_after v n turns)) (sym old) ∙ ap (then_begun (requesters_before h n)) (sym won)
 
-turns-kept : (h : Trace) (s : Sample) → is_in s.lines ADS ≡ false → turns_before (h ++ s ∷ []) (length (h ++ s ∷ [])) ≡ turns_before h (length h)
+turns-kept : (h : Trace) (s : Sample) → is_in s.lines ADS ≡ false → requesters_before (h ++ s ∷ []) (length (h ++ s ∷ [])) ≡ requesters_before h (length h)
 turns-kept h s f =
     let n : ℕ = length h in
     let v : Trace = h ++ s ∷ [] in
     let ads : line_at ADS v n ≡ false = line_at-is v n s ADS (slice_get-end h s) ∙ f in
-    ap (turns_before v) (length_push h s) ∙ turns_before-kept v n ads
-    ∙ sym (turns_before-agree n h v n (agree_to h s) (omega arith))
+    ap (requesters_before v) (length_push h s) ∙ requesters_before-kept v n ads
+    ∙ sym (requesters_before-agree n h v n (agree_to h s) (omega arith))
 
 -- the arbiter after one more sample
 pub stands-begun : (old new : Arbiter) (h : Trace) (s : Sample) (w : Option Who) → Stands old h → w ≡ winner_at h (length h) → is_in s.lines ADS ≡ true → new.older ≡ old.newer → new.newer ≡ Some s.lines → new.last ≡ w → new.symmetric ≡ symmetric_after old.symmetric w → Stands new (h ++ s ∷ [])

@@ -3,7 +3,7 @@ use Rattle.std.proofs.Common.{ℕ, ◌≡◌, true, false, Option, Some, None, r
 use Rattle.std.specs.List.{slice_get}
 use Rattle.std.specs.Option.{option_map}
 use Rattle.std.proofs.lemmas.Bool.{cases_Bool}
-use Rattle.fsb_count.proofs.First.{first_where-same}
+use Rattle.fsb_count.proofs.Interface.{first_where-same}
 use Rattle.fsb_signal.specs.declared.lines.Lines.{Lines}
 use Rattle.fsb_signal.specs.declared.lines.TheConstants.Lines.{BPRI, LOCK}
 use Rattle.fsb_signal.specs.declared.sample.Sample.{Sample}
@@ -11,8 +11,8 @@ use Rattle.fsb_signal.specs.Samples.{line_at}
 use Rattle.fsb_trace.specs.declared.who.Who.{Who}
 use Rattle.fsb_trace.specs.declared.who.Who.TheVariants.{Symmetric, Priority}
 use Rattle.fsb_trace.specs.At.{Trace}
-use Rattle.fsb_trace.specs.Winner.{Turns, bus_request_of, request_line_of, agent_in_order, first_in_order, asks_in_order, first_asking, last_if_asking, winner_by}
-use Rattle.fsb_trace.proofs.WinnerSteps.{winner_by-locked, winner_by-priority, winner_by-symmetric}
+use Rattle.fsb_trace.specs.Winner.{Requesters, bus_request_of, request_line_of, agent_in_order, first_in_order, asks_in_order, first_asking, last_if_asking, winner_by}
+use Rattle.fsb_trace.proofs.Interface.{winner_by-locked, winner_by-priority, winner_by-symmetric}
 use Rattle.fsb_arbiter.specs.Order.{is_in, asks_among, first_among, last_if_among, winner_among}
 
 -- a line of a clock
@@ -45,7 +45,7 @@ unfolding winner_among
 among_order lines last symmetric f g = rw (f, g, winner_among) refl
 
 -- the winner by the lines of clock d
-pub winner_by-is : (w : Trace) (d : ℕ) (s : Sample) (turns : Turns) → slice_get w d ≡ Some s → winner_by w d turns ≡ winner_among s.lines turns.0 turns.1
+pub winner_by-is : (w : Trace) (d : ℕ) (s : Sample) (turns : Requesters) → slice_get w d ≡ Some s → winner_by w d turns ≡ winner_among s.lines turns.0 turns.1
 winner_by-is w d s turns e =
     let lock : line_at LOCK w d ≡ is_in s.lines LOCK = line_at-is w d s LOCK e in
     let bpri : line_at BPRI w d ≡ is_in s.lines BPRI = line_at-is w d s BPRI e in

@@ -3,9 +3,9 @@ ghost use Rattle.fsb_trace.specs.At.{Trace};
 ghost use Rattle.fsb_trace.specs.Winner.{winner_at};
 ghost use Rattle.fsb_arbiter.specs.Arbiter.{Stands};
 
-use crate::order::{symmetric_after, winner_among};
+use crate::order::winner_among;
 use fsb_signal::{Lines, Sample};
-use fsb_trace::Who;
+use fsb_trace::{Who, symmetric_after};
 
 /// Tells the winner of the next clock, from the samples that it was given so far.
 ///

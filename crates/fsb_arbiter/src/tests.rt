@@ -7,7 +7,7 @@ use std::process::Abort;
 
 /// The sample with these control lines.
 fn sample(lines: u32) -> Sample {
-    Sample::known(Lines(lines % (1 << 18)), 0, 0, 0)
+    Sample::known(Lines(lines % (1 << 21)), 0, 0, 0)
 }
 
 /// The symmetric agents that win one after another while these ask, and each winner begins a request.

@@ -1,7 +1,8 @@
 -- What is found of the text that was left.
-use Rattle.std.proofs.Common.{◌≡◌, ◌≤◌, ◌+◌, ◌^◌, ◌++◌, [], ℕ, Bool, IsTrue, List, Result, Ok, Err, length, drop, inl, inr, sym, ap, subst, ◌∙◌, arith}
+use Rattle.std.proofs.Common.{◌≡◌, ◌≤◌, ◌+◌, ◌^◌, ◌++◌, [], ℕ, Bool, IsTrue, List, Result, Ok, Err, length, drop, inl, inr, refl, sym, ap, subst, ◌∙◌, arith}
 use Rattle.std.proofs.lemmas.List.{length-append, append-nil, append_assoc, nil_from_length}
 use Rattle.std.proofs.Math.Seq.{drop-append_seam}
+use Rattle.fsb_io.specs.Takes.{TakesAtMost}
 use Rattle.fsb_check.specs.declared.finding.Finding.{Finding}
 use Rattle.fsb_check.specs.declared.finding.CheckStop.{CheckStop}
 use Rattle.fsb_check.specs.declared.finding.CheckStop.TheVariants as stops
@@ -14,15 +15,25 @@ pub checked_whole : (result : Result Finding CheckStop) (text left : List ℕ) �
 checked_whole (Ok finding) text left read h = (read, h)
 checked_whole (Err (stops.Bad fault)) text left read h = (read, h)
 checked_whole (Err stops.TooLong) text left read h = inr (read, h)
-checked_whole (Err stops.Memory) text left read h = tt
+checked_whole (Err stops.Memory) text left read h =
+    record { taken = text; whole = sym (ap (λ xs. text ++ xs) read.all ∙ append-nil text); within = omega (arith, read.short) }
 checked_whole (Err stops.ReadFault) text left read h = tt
 
 -- a stop of reading says nothing of the text
-pub checked_not : (stop : CheckStop) (text left : List ℕ) → IsStopOfReading stop → IsChecked (Err stop) text left
-checked_not stops.ReadFault text left h = tt
-checked_not stops.Memory text left h = tt
-checked_not (stops.Bad fault) text left h = absurd h
-checked_not stops.TooLong text left h = absurd h
+pub checked_not : (stop : CheckStop) (text left : List ℕ) → IsStopOfReading stop → (stop ≡ stops.Memory → TakesAtMost (2 ^ 40 + 1) text left) → IsChecked (Err stop) text left
+checked_not stops.ReadFault text left h m = tt
+checked_not stops.Memory text left h m = m refl
+checked_not (stops.Bad fault) text left h m = absurd h
+checked_not stops.TooLong text left h m = absurd h
+
+-- what was taken before, and the last piece
+pub takes_so_far : (text fed left now : List ℕ) (most : ℕ) → text ≡ fed ++ left → TakesAtMost most left now → length fed + most ≤ 2 ^ 40 + 1 → TakesAtMost (2 ^ 40 + 1) text now
+takes_so_far text fed left now most e t l =
+    record {
+      taken = fed ++ t.taken;
+      whole = e ∙ ap (λ xs. fed ++ xs) t.whole ∙ sym (append_assoc fed t.taken now);
+      within = (let size = length-append fed t.taken in omega (arith, size, l, t.within));
+    }
 
 -- a text that is too long
 pub checked_past : (fed text left : List ℕ) → text ≡ fed ++ left → length fed ≡ 2 ^ 40 + 1 → IsChecked (Err stops.TooLong) text left

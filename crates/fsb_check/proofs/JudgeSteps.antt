@@ -1,14 +1,18 @@
 -- What a judge stands for behind a piece, and at the end.
 use Rattle.std.proofs.Common.{◌≡◌, ◌≤◌, ◌+◌, ◌-◌, ◌++◌, [], ℕ, List, nat_lt, Option, Some, None, Result, Ok, Err, length, take, refl, sym, ap, subst, ◌∙◌, ◌^◌, inl, inr, arith}
 use Rattle.std.proofs.lemmas.Bool.{cases_Bool, ltb-false}
-use Rattle.std.proofs.lemmas.List.{length-append, take_all}
+use Rattle.std.proofs.lemmas.List.{length-append, append-nil, nil_from_length, take_all}
+use Rattle.fsb_signal.specs.declared.marks.Marks.{Marks}
 use Rattle.fsb_signal.specs.declared.sample.Sample.{Sample}
 use Rattle.vcd_grammar.specs.declared.fault.VcdFault.{VcdFault}
-use Rattle.vcd_grammar.specs.Reading.{first_fault, samples_so_far, samples_of}
+use Rattle.vcd_grammar.specs.Reading.{first_fault, marks_of, marks_so_far, samples_so_far, samples_of}
+use Rattle.vcd_grammar.proofs.Interface.{marks-whole}
 use Rattle.vcd_read.specs.declared.stop.VcdStop.{VcdStop}
 use Rattle.vcd_read.specs.declared.stop.VcdStop.TheVariants as stops
 use Rattle.vcd_read.specs.Answers.{Answers, AppendsUpTo, stop_so_far, stop_at_end}
 use Rattle.fsb_check.specs.Found.{IsBad, HasManySamples}
+use Rattle.fsb_check.specs.Judging.{IsJudging, MarksStay}
+use Rattle.fsb_check.specs.declared.judge.Running.{Running}
 use Rattle.fsb_check.proofs.Refusals.{refusal-stays, refusal-at_end, at_end-few, at_end-accepts, at_end-refuses}
 
 -- a reader that answers Ok had not refused
@@ -129,3 +133,21 @@ answers_long e stop same h =
 
 pub refused_same : (e g : VcdStop) (o : Option VcdStop) → e ≡ g → o ≡ Some g → o ≡ Some e
 refused_same e g o same h = h ∙ ap (λ x. Some x) (sym same)
+
+-- what is none, and then more, has no more
+pub none_more : (xs ys zs : List Sample) → xs ++ ys ≡ zs → zs ≡ [] → ys ≡ []
+none_more xs ys zs e f =
+    nil_from_length ys (let size = length-append xs ys in let none : length (xs ++ ys) ≡ 0 = ap (λ s. length s) (e ∙ f) in omega arith)
+
+-- the marks at the end are those of the first bytes
+pub marks_at_end : (fed : List ℕ) (marks : Option Marks) → marks ≡ Some (marks_of fed) → MarksStay (marks_so_far fed) marks
+marks_at_end fed marks e m f =
+    e ∙ ap (λ t. Some t) (sym (ap marks_of (append-nil fed)) ∙ marks-whole fed [] m f)
+
+-- the end: what is judged is the whole trace, by its marks
+pub end_judged : (begun new : Option Running) (marks : Option Marks) (fed : List ℕ) (items slice : List Sample) → marks ≡ Some (marks_of fed) → slice ≡ items → Finished fed items → IsJudging begun marks (samples_so_far fed) → ((told : Option Marks) (w : List Sample) → IsJudging begun told w → (told ≡ None → slice ≡ []) → IsJudging new told (w ++ slice)) → IsJudging new (Some (marks_of fed)) (samples_of fed)
+end_judged begun new marks fed items slice told value now judging more =
+    let whole = ap (λ s. samples_so_far fed ++ s) value ∙ now.whole in
+    subst (λ (m : Option Marks). IsJudging new m (samples_of fed)) told
+    (subst (λ (w : List Sample). IsJudging new marks w) whole
+    (more marks (samples_so_far fed) judging (λ n. absurd (let no : ⊥ = cc in no))))

@@ -2,7 +2,7 @@
 use Rattle.std.proofs.Common.{◌≡◌, ◌≤◌, ◌+◌, ◌++◌, ◌∷◌, [], ℕ, List, true, length, is_some, refl, sym, ap, ◌∙◌, arith}
 use Rattle.std.proofs.lemmas.List.{append_assoc, append-nil, length-append}
 use Rattle.fsb_signal.specs.declared.sample.Sample.{Sample}
-use Rattle.vcd_grammar.proofs.Append.{tokens-append, blocks_some, ended-cons, behind-append, events_in-append}
+use Rattle.vcd_grammar.proofs.Interface.{tokens-append, blocks_some, ended-cons, behind-append, events_in-append}
 use Rattle.vcd_grammar.specs.Tokens.{Token, tokens_from, tokens_so_far, open_run}
 use Rattle.vcd_grammar.specs.Blocks.{Block, Event, Later, Changed, blocks_from, blocks_of, ended}
 use Rattle.vcd_grammar.specs.Judging.{Known, nothing, Turn, turn, behind, events_in}

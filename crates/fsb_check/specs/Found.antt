@@ -1,5 +1,7 @@
 -- What is found of a dump.
-use Rattle.std.specs.Prelude.{◌≡◌, ◌≤◌, ◌<◌, ◌-◌, ◌^◌, ◌⊎◌, ◌+◌, ℕ, List, [], None, length, drop, Result, Ok, Err}
+use Rattle.std.specs.Prelude.{◌≡◌, ◌≤◌, ◌<◌, ◌-◌, ◌^◌, ◌⊎◌, ◌+◌, ℕ, List, [], Option, Some, None, length, drop, Result, Ok, Err}
+use Rattle.fsb_io.specs.Takes.{TakesAtMost}
+use Rattle.fsb_signal.specs.declared.marks.Marks.{Marks}
 use Rattle.fsb_signal.specs.declared.sample.Sample.{Sample}
 use Rattle.fsb_rules.specs.Checker.{as_broken}
 use Rattle.fsb_trace.specs.Verdict.{verdict}
@@ -9,12 +11,13 @@ use Rattle.fsb_check.specs.declared.finding.Finding.{Finding}
 use Rattle.fsb_check.specs.declared.finding.CheckStop.{CheckStop}
 use Rattle.fsb_check.specs.declared.finding.CheckStop.TheVariants as stops
 
--- the text is the dump of a trace, which has so many clocks and this verdict
+-- the text is the dump of a trace with these marks, which has so many clocks and this verdict
 pub record IsFound (text : List ℕ) (finding : Finding) : Type 0 where
+  pub marks : Marks
   pub trace : List Sample
-  pub reads : Reads text trace
+  pub reads : Reads text marks trace
   pub clocks : finding.clocks ≡ length trace
-  pub judged : finding.broken ≡ as_broken (verdict trace)
+  pub judged : finding.broken ≡ as_broken (verdict marks trace)
 
 -- the text is no dump, this is its first fault, and at most 2^32 - 1 samples are decided before it
 pub record IsBad (text : List ℕ) (fault : VcdFault) : Type 0 where
@@ -36,18 +39,23 @@ pub record IsReadPast (text left : List ℕ) : Type 0 where
   pub long : 2 ^ 40 < length text
   pub rest : left ≡ drop (2 ^ 40 + 1) text
 
--- what was read of a text, and what it is found to be
+-- what was read of a text, and what it is found to be; what is left after a fault of the source is not known
 abbrev pub IsChecked : Result Finding CheckStop → List ℕ → List ℕ → Type 0
 IsChecked (Ok finding) text left = IsReadWhole text left × IsFound text finding
 IsChecked (Err (stops.Bad fault)) text left = IsReadWhole text left × IsBad text fault
 IsChecked (Err stops.TooLong) text left = IsReadPast text left ⊎ (IsReadWhole text left × HasManySamples text)
 IsChecked (Err stops.ReadFault) text left = Unit {0}
-IsChecked (Err stops.Memory) text left = Unit {0}
+IsChecked (Err stops.Memory) text left = TakesAtMost (2 ^ 40 + 1) text left
 
--- a call that was not stopped by its source or by want of memory
+-- a call that was not stopped by its source
 abbrev pub HasBegun : Result Finding CheckStop → Type 0
 HasBegun (Ok finding) = Unit {0}
 HasBegun (Err (stops.Bad fault)) = Unit {0}
 HasBegun (Err stops.TooLong) = Unit {0}
 HasBegun (Err stops.ReadFault) = ⊥
-HasBegun (Err stops.Memory) = ⊥
+HasBegun (Err stops.Memory) = Unit {0}
+
+-- the source was begun under the name, or it could not be begun, and neither its name nor what is left of it changed
+abbrev pub IsBegunOrStays : List ℕ → Option (List ℕ) → Option (List ℕ) → List ℕ → List ℕ → Type 0
+IsBegunOrStays name was_begun_as begun_as left_before left =
+    (begun_as ≡ Some name) ⊎ ((begun_as ≡ was_begun_as) × (left ≡ left_before))

@@ -1,8 +1,9 @@
 //! The reading of a dump in pieces.
 ghost use Rattle.std.specs.Prelude.{◌≡◌, ◌≤◌, ◌<◌, ◌+◌, ◌^◌, ℕ, List, [], Err, IsTrue, IfOk, Some, length};
 ghost use Rattle.fsb_io.specs.Faults.{Rose};
+ghost use Rattle.fsb_io.specs.Takes.{TakesAtMost};
 ghost use Rattle.fsb_check.specs.Judging.{Stood, HasTaken, IsStopOfReading};
-ghost use Rattle.fsb_check.specs.Found.{IsChecked, HasBegun};
+ghost use Rattle.fsb_check.specs.Found.{IsChecked, HasBegun, IsBegunOrStays};
 
 use crate::finding::{CheckStop, Finding};
 use crate::judge::Judge;
@@ -27,7 +28,10 @@ pub fn check_dump<S: Source>(
     requires { length name.now ≤ 4096 }
     ensures checked { IsTrue S.tells → IsChecked result (S.holds source.old) (S.left source.new) }
     ensures named { IsTrue S.tells → HasBegun result → S.begun_as source.new ≡ Some name.now }
+    ensures not_read { IsTrue S.tells → result ≡ Err CheckStop.ReadFault
+        → IsBegunOrStays name.now (S.begun_as source.old) (S.begun_as source.new) (S.left source.old) (S.left source.new) }
     ensures read_fault { result ≡ Err CheckStop.ReadFault → Rose (S.faults source.old) (S.faults source.new) }
+    ensures later { S.faults source.old ≤ S.faults source.new }
     ensures holds_stays { IsTrue S.tells → S.holds source.new ≡ S.holds source.old }
 {
     match source.begin(name) {
@@ -61,19 +65,22 @@ fn check_left<S: Source>(alloc: Global, source: &mut S) -> Result<Finding, Check
     Err(CheckStop::TooLong)
 }
 
-// Reads once into the piece, and lets the judge take the bytes that came; answers how many.
+// Reads once into the piece of at most 65,536 bytes, and lets the judge take the bytes that came; answers how many.
 fn take_piece<S: Source>(
     source: &mut S,
     judge: &mut Judge,
     piece: &mut [u8],
 ) -> Result<usize, CheckStop>
-    requires { (fed : List ℕ) × Stood judge.old fed × (length fed + length piece.old < 2 ^ 64) }
+    requires few { length piece.old ≤ 65536 }
+    requires room { (fed : List ℕ) × Stood judge.old fed × (length fed + length piece.old < 2 ^ 64) }
     ensures within { IfOk result (λ count. count ≤ length piece.old) }
     ensures len { length piece.new ≡ length piece.old }
     ensures taken { IfOk result (λ count. (fed : List ℕ) → Stood judge.old fed
         → HasTaken judge.new fed (S.left source.old) (S.left source.new) count S.tells) }
     ensures end { IsTrue S.tells → 0 < length piece.old → IfOk result (λ count. count ≡ 0 → S.left source.new ≡ []) }
     ensures stop { (stop : CheckStop) → result ≡ Err stop → IsStopOfReading stop }
+    ensures memory { IsTrue S.tells → result ≡ Err CheckStop.Memory
+        → TakesAtMost (length piece.old) (S.left source.old) (S.left source.new) }
     ensures read_fault { result ≡ Err CheckStop.ReadFault → Rose (S.faults source.old) (S.faults source.new) }
     ensures later { S.faults source.old ≤ S.faults source.new }
     ensures name_stays { IsTrue S.tells → S.begun_as source.new ≡ S.begun_as source.old }

@@ -17,7 +17,8 @@ pub enum CheckStop {
     Bad(VcdFault),
     /// The source failed in this call.
     ReadFault,
-    /// The file has more than 2^40 bytes, or more than 2^32 - 1 samples before its first fault.
+    /// The file has more than 2^40 bytes, or more than 2^32 - 1 samples before its first fault, or in all of it where it has
+    /// no fault.
     TooLong,
     /// Memory was lacking.
     Memory,

@@ -1,12 +1,15 @@
 //! The judge of a dump that comes in pieces.
-ghost use Rattle.std.specs.Prelude.{◌≡◌, ◌<◌, ◌+◌, ◌^◌, ◌++◌, ◌∷◌, ℕ, List, [], length, IfOk, OnOk};
+ghost use Rattle.std.specs.Prelude.{◌≡◌, ◌<◌, ◌+◌, ◌^◌, ◌++◌, ◌∷◌, ℕ, List, [], Option, Some, None, length, IfOk, OnOk};
+ghost use Rattle.fsb_signal.specs.declared.marks.Marks.{Marks};
 ghost use Rattle.fsb_signal.specs.declared.sample.Sample.{Sample};
-ghost use Rattle.fsb_check.specs.Judging.{HasJudged, Stood, Ends};
+ghost use Rattle.fsb_rules.specs.Checker.{as_broken};
+ghost use Rattle.fsb_trace.specs.Verdict.{verdict};
+ghost use Rattle.fsb_check.specs.Judging.{HasJudged, IsJudging, MarksStay, Stood, Ends};
 
 use crate::finding::{CheckStop, Finding};
 use fsb_io::Memory;
 use fsb_rules::{Broken, Checker};
-use fsb_signal::Sample;
+use fsb_signal::{Marks, Sample};
 use std::alloc::Global;
 use vcd_read::{Reader, VcdStop};
 
@@ -19,12 +22,12 @@ pub struct Running {
 }
 
 impl Running {
-    /// Before the first sample.
-    pub fn new() -> Self
-        ensures { HasJudged result [] }
+    /// Before the first sample of a dump with these marks.
+    pub fn new(marks: Marks) -> Self
+        ensures { HasJudged result marks [] }
     {
         Running {
-            checker: Checker::new(),
+            checker: Checker::new(marks),
             clocks: 0,
             broken: None,
         }
@@ -32,8 +35,8 @@ impl Running {
 
     /// Judges the next samples.
     pub fn judge(&mut self, samples: &[Sample])
-        requires { (w : List Sample) × HasJudged self.old w × (length w + length samples.now < 2 ^ 32) }
-        ensures { (w : List Sample) → HasJudged self.old w → HasJudged self.new (w ++ samples.now) }
+        requires { (m : Marks) × (w : List Sample) × HasJudged self.old m w × (length w + length samples.now < 2 ^ 32) }
+        ensures { (m : Marks) (w : List Sample) → HasJudged self.old m w → HasJudged self.new m (w ++ samples.now) }
     {
         for sample in samples {
             self.judge_one(sample);
@@ -42,8 +45,8 @@ impl Running {
 
     // Judges the next sample.
     fn judge_one(&mut self, sample: &Sample)
-        requires { (w : List Sample) × HasJudged self.old w × (length w + 1 < 2 ^ 32) }
-        ensures { (w : List Sample) → HasJudged self.old w → HasJudged self.new (w ++ sample.now ∷ []) }
+        requires { (m : Marks) × (w : List Sample) × HasJudged self.old m w × (length w + 1 < 2 ^ 32) }
+        ensures { (m : Marks) (w : List Sample) → HasJudged self.old m w → HasJudged self.new m (w ++ sample.now ∷ []) }
     {
         self.broken = self.checker.feed(sample);
         self.clocks += 1;
@@ -61,11 +64,48 @@ impl Running {
     }
 }
 
+// Begins the running verdict, where the marks are told by now.
+fn begin(running: &mut Option<Running>, marks: Option<Marks>)
+    ensures { (told : Option Marks) (w : List Sample) → IsJudging running.old told w → MarksStay told marks
+        → IsJudging running.new marks w }
+{
+    if running.is_none() {
+        if let Some(marks) = marks {
+            *running = Some(Running::new(marks));
+        }
+    }
+}
+
+// Judges the next samples, of which there are none before the marks.
+fn judge_more(running: &mut Option<Running>, samples: &[Sample])
+    requires { (told : Option Marks) × (w : List Sample) × IsJudging running.old told w × (length w + length samples.now < 2 ^ 32) }
+    ensures { (told : Option Marks) (w : List Sample) → IsJudging running.old told w → (told ≡ None → samples.now ≡ [])
+        → IsJudging running.new told (w ++ samples.now) }
+{
+    if let Some(running) = running {
+        running.judge(samples);
+    }
+}
+
+// What the samples are found to be, where the marks are told.
+fn finding_of(running: &Option<Running>) -> Finding
+    requires { (m : Marks) × (w : List Sample) × IsJudging running.now (Some m) w }
+    ensures clocks { (m : Marks) (w : List Sample) → IsJudging running.now (Some m) w → result.clocks ≡ length w }
+    ensures broken { (m : Marks) (w : List Sample) → IsJudging running.now (Some m) w
+        → result.broken ≡ as_broken (verdict m w) }
+{
+    match running {
+        Some(running) => running.finding(),
+        None => unreachable!(),
+    }
+}
+
 /// Parses and judges each piece of a dump as it comes.
 #[derive(Drop)]
 pub struct Judge {
     reader: Reader,
-    running: Running,
+    /// None until the reader tells the marks of the dump.
+    running: Option<Running>,
     /// The samples of the last piece.
     samples: Vec<Sample>,
 }
@@ -77,7 +117,7 @@ impl Judge {
     {
         Ok(Judge {
             reader: Reader::new(alloc)?,
-            running: Running::new(),
+            running: None,
             samples: Vec::new(alloc),
         })
     }
@@ -90,7 +130,8 @@ impl Judge {
         self.samples.clear();
         match self.reader.feed(piece, &mut self.samples) {
             Ok(()) => {
-                self.running.judge(self.samples.as_slice());
+                begin(&mut self.running, self.reader.marks());
+                judge_more(&mut self.running, self.samples.as_slice());
                 Ok(())
             }
             Err(VcdStop::Memory) => Err(Memory),
@@ -108,8 +149,9 @@ impl Judge {
         self.samples.clear();
         match self.reader.finish(&mut self.samples) {
             Ok(()) => {
-                self.running.judge(self.samples.as_slice());
-                Ok(self.running.finding())
+                begin(&mut self.running, self.reader.marks());
+                judge_more(&mut self.running, self.samples.as_slice());
+                Ok(finding_of(&self.running))
             }
             Err(VcdStop::Bad(fault)) => Err(CheckStop::Bad(fault)),
             Err(VcdStop::TooLong) => Err(CheckStop::TooLong),

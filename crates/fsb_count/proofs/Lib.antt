@@ -2,7 +2,9 @@ pub mod Bools
 pub mod Options
 pub mod First
 pub mod Any
+pub mod Each
 pub mod Count
 pub mod Nth
 pub mod Since
 pub mod Examples
+pub mod Interface

@@ -16,6 +16,11 @@ unfoldable pub any_where : (ℕ → Bool) → ℕ → Bool
 any_where test zero = false
 any_where test (suc n) = elim (any_where test n) [ true ↦ true | false ↦ test n ]
 
+-- every clock below n passes
+unfoldable pub each_where : (ℕ → Bool) → ℕ → Bool
+each_where test zero = true
+each_where test (suc n) = each_where test n && test n
+
 -- how many clocks below n pass
 unfoldable pub count_where : (ℕ → Bool) → ℕ → ℕ
 count_where test zero = 0

@@ -4,7 +4,7 @@ use Rattle.std.specs.Prelude.{IsTrue}
 use Rattle.std.specs.Option.{option_and_then}
 use Rattle.std.proofs.lemmas.Bool.{and_parts, and_from, cases_Bool, eqb-true, eq-eqb, ltb-true, not-true}
 use Rattle.fsb_encode.specs.declared.request.Kind.{Kind}
-use Rattle.fsb_encode.specs.declared.request.Kind.TheVariants.{Reply, Invalidate, Read, WriteBack}
+use Rattle.fsb_encode.specs.declared.request.Kind.TheVariants.{Reply, Invalidate, Read, WriteBack, Upgrade}
 use Rattle.fsb_encode.specs.declared.request.Request.{Request}
 use Rattle.fsb_encode.specs.declared.request.Pair.{Pair}
 use Rattle.fsb_encode.specs.declared.request.TheConstants.{A4, A16, LINE_BYTES}
@@ -19,6 +19,8 @@ kind_of-row_of Invalidate line chunk did den =
     elim (nat_le (2 ^ 32) (line * LINE_BYTES)) as (λ t. kind_of (0b00010 + cond t 0b01000 0) 0b00010 ≡ Some Invalidate) [ true ↦ refl | false ↦ refl ]
 kind_of-row_of Read line chunk did den =
     elim (nat_le (2 ^ 32) (line * LINE_BYTES)) as (λ t. kind_of (0b00110 + cond t 0b01000 0) 0b00010 ≡ Some Read) [ true ↦ refl | false ↦ refl ]
+kind_of-row_of Upgrade line chunk did den =
+    elim (nat_le (2 ^ 32) (line * LINE_BYTES)) as (λ t. kind_of (0b00010 + cond t 0b01000 0) 0b00000 ≡ Some Upgrade) [ true ↦ refl | false ↦ refl ]
 kind_of-row_of WriteBack line chunk did den =
     elim (nat_le (2 ^ 32) (line * LINE_BYTES)) as (λ t. kind_of (0b00101 + cond t 0b01000 0) 0b00010 ≡ Some WriteBack) [ true ↦ refl | false ↦ refl ]
 
@@ -50,6 +52,11 @@ read_off-row_of Invalidate line chunk did den lawful small =
 read_off-row_of Read line chunk did den lawful small =
     let chunk_small : chunk < 4 = ltb-true chunk 4 (and_parts (nat_lt line (2 ^ 31)) (nat_lt chunk 4) lawful).1 in
     same_request Read _ _ _ _ _ _ _ _ (omega arith) (omega arith) (did_read did den small) (den_read did den)
+read_off-row_of Upgrade line chunk did den lawful small =
+    let outer = and_parts (nat_lt line (2 ^ 31) && nat_lt chunk 4) (not den) lawful in
+    let inner = and_parts (nat_lt line (2 ^ 31)) (nat_lt chunk 4) outer.0 in
+    let chunk_small : chunk < 4 = ltb-true chunk 4 inner.1 in
+    same_request Upgrade _ _ _ _ _ _ _ _ (omega arith) (omega arith) (omega arith) (sym (not-true _ outer.1))
 read_off-row_of WriteBack line chunk did den lawful small =
     let outer = and_parts (nat_lt line (2 ^ 31) && nat_eq chunk 0) (not den) lawful in
     let inner = and_parts (nat_lt line (2 ^ 31)) (nat_eq chunk 0) outer.0 in

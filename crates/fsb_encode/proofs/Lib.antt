@@ -2,3 +2,4 @@ pub mod CodedRequests
 pub mod DecodedLaws
 pub mod DecodedSteps
 pub mod Samples
+pub mod Interface

@@ -4,7 +4,7 @@ use Rattle.std.specs.Prelude.{is_some}
 use Rattle.std.specs.List.{find, list_any, list_all}
 use Rattle.std.proofs.lemmas.Bool.{and_parts, cases_Bool, eqb-true, or_cases}
 use Rattle.fsb_encode.specs.declared.request.Kind.{Kind}
-use Rattle.fsb_encode.specs.declared.request.Kind.TheVariants.{Reply, Invalidate, Read, WriteBack}
+use Rattle.fsb_encode.specs.declared.request.Kind.TheVariants.{Reply, Invalidate, Read, WriteBack, Upgrade}
 use Rattle.fsb_encode.specs.declared.request.Request.{Request}
 use Rattle.fsb_encode.specs.Request.{are_lawful_fields, is_lawful_request, high_bit, clocks, row_of, pairs_of}
 use Rattle.fsb_encode.specs.Decoded.{req_words, is_code, kind_of, IsCode, IsKind, IsCodedAs}
@@ -18,7 +18,7 @@ sample kind line = record { kind = kind; line = line; chunk = 0; did = 0; den = 
 samples : List Request
 samples =
     sample Reply 0 ∷ sample Invalidate 0 ∷ sample Invalidate (2 ^ 27) ∷ sample Read 0 ∷ sample Read (2 ^ 27)
-    ∷ sample WriteBack 0 ∷ sample WriteBack (2 ^ 27) ∷ []
+    ∷ sample WriteBack 0 ∷ sample WriteBack (2 ^ 27) ∷ sample Upgrade 0 ∷ sample Upgrade (2 ^ 27) ∷ []
 
 words_of : Request → ℕ × ℕ × Kind
 words_of r = ((pairs_of r).0.req, (pairs_of r).1.req, r.kind)

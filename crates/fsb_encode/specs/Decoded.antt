@@ -3,7 +3,7 @@ use Rattle.std.specs.Prelude.{◌≡◌, IsTrue, ℕ, ◌/◌, ◌%◌, Bool, fa
 use Rattle.std.specs.List.{list_any, find}
 use Rattle.std.specs.Option.{option_map, option_and_then, ok_or}
 use Rattle.fsb_encode.specs.declared.request.Kind.{Kind}
-use Rattle.fsb_encode.specs.declared.request.Kind.TheVariants.{Reply, Invalidate, Read, WriteBack}
+use Rattle.fsb_encode.specs.declared.request.Kind.TheVariants.{Reply, Invalidate, Read, WriteBack, Upgrade}
 use Rattle.fsb_encode.specs.declared.request.Request.{Request}
 use Rattle.fsb_encode.specs.declared.request.Pair.{Pair}
 use Rattle.fsb_encode.specs.declared.request.TheConstants.{A4, A5, A16}
@@ -17,7 +17,8 @@ req_words =
     (0b00000, 0b00000, Reply)
     ∷ (0b00010, 0b00010, Invalidate) ∷ (0b01010, 0b00010, Invalidate)
     ∷ (0b00110, 0b00010, Read) ∷ (0b01110, 0b00010, Read)
-    ∷ (0b00101, 0b00010, WriteBack) ∷ (0b01101, 0b00010, WriteBack) ∷ []
+    ∷ (0b00101, 0b00010, WriteBack) ∷ (0b01101, 0b00010, WriteBack)
+    ∷ (0b00010, 0b00000, Upgrade) ∷ (0b01010, 0b00000, Upgrade) ∷ []
 
 -- whether some request has this REQ word in its first clock
 unfoldable pub is_code : ℕ → Bool
@@ -37,6 +38,8 @@ read_off Read a b =
     record { kind = Read; line = a.addr / A5; chunk = a.addr % A5; did = b.addr / A16 % 2 ^ 8; den = nat_eq (b.addr / A4 % 2) 1 }
 read_off WriteBack a b =
     record { kind = WriteBack; line = a.addr / A5; chunk = 0; did = b.addr / A16 % 2 ^ 8; den = false }
+read_off Upgrade a b =
+    record { kind = Upgrade; line = a.addr / A5; chunk = a.addr % A5; did = b.addr / A16 % 2 ^ 8; den = false }
 
 -- the request is lawful, and these are its two clocks
 pub record IsCodedAs (r : Request) (a b : Pair) : Type 0 where

@@ -1,7 +1,7 @@
 -- A request and the two clocks in which it stands on the bus.
 use Rattle.std.specs.Prelude.{ℕ, ◌+◌, ◌*◌, ◌^◌, Bool, ◌&&◌, not, nat_eq, nat_lt, nat_le, if◌then◌else◌}
 use Rattle.fsb_encode.specs.declared.request.Kind.{Kind}
-use Rattle.fsb_encode.specs.declared.request.Kind.TheVariants.{Reply, Invalidate, Read, WriteBack}
+use Rattle.fsb_encode.specs.declared.request.Kind.TheVariants.{Reply, Invalidate, Read, WriteBack, Upgrade}
 use Rattle.fsb_encode.specs.declared.request.Request.{Request}
 use Rattle.fsb_encode.specs.declared.request.Pair.{Pair}
 use Rattle.fsb_encode.specs.declared.request.TheConstants.{A4, A5, A16, LINE_BYTES}
@@ -12,6 +12,7 @@ are_lawful_fields Reply line chunk den = nat_eq line 0 && nat_eq chunk 0 && not 
 are_lawful_fields Invalidate line chunk den = nat_lt line (2 ^ 31) && nat_lt chunk 4
 are_lawful_fields Read line chunk den = nat_lt line (2 ^ 31) && nat_lt chunk 4
 are_lawful_fields WriteBack line chunk den = nat_lt line (2 ^ 31) && nat_eq chunk 0 && not den
+are_lawful_fields Upgrade line chunk den = nat_lt line (2 ^ 31) && nat_lt chunk 4 && not den
 
 -- whether the request is lawful: its kind allows its fields, and its ID has eight bits
 unfoldable pub is_lawful_request : Request → Bool
@@ -39,6 +40,7 @@ row_of Invalidate line chunk did den =
 row_of Read line chunk did den =
     clocks (0b00110 + high_bit line) (line * A5 + chunk) 0b00010 (did * A16 + den_bit den)
 row_of WriteBack line chunk did den = clocks (0b00101 + high_bit line) (line * A5) 0b00010 (did * A16)
+row_of Upgrade line chunk did den = clocks (0b00010 + high_bit line) (line * A5 + chunk) 0b00000 (did * A16)
 
 -- the two clocks of a lawful request
 unfoldable pub pairs_of : Request → Pair × Pair

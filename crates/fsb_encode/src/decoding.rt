@@ -91,6 +91,7 @@ fn kind_of(first: u8, second: u8) -> Option<Kind>
         (0b00010 | 0b01010, 0b00010) => Some(Kind::Invalidate),
         (0b00110 | 0b01110, 0b00010) => Some(Kind::Read),
         (0b00101 | 0b01101, 0b00010) => Some(Kind::WriteBack),
+        (0b00010 | 0b01010, 0b00000) => Some(Kind::Upgrade),
         _ => None,
     }
 }
@@ -130,6 +131,13 @@ fn read_off(kind: Kind, a: Pair, b: Pair) -> Request
             kind,
             line: a.addr / A5,
             chunk: 0,
+            did: id_on(b.addr),
+            den: false,
+        },
+        Kind::Upgrade => Request {
+            kind,
+            line: a.addr / A5,
+            chunk: (a.addr % A5) as u8,
             did: id_on(b.addr),
             den: false,
         },
@@ -183,7 +191,25 @@ mod tests {
         assert_eq!(rt; decode(a, pair(1, b.req)), Err(DecodeFault::BadField));
     }
 
-    // The kind of each REQ word of the first clock, from 00000 on.
+    #[test]
+    fn code_of_an_upgrade(rt: HostRuntime) {
+        let upgrade = request(Kind::Upgrade, 0x40 / 32, false);
+        assert!(rt; upgrade.is_lawful());
+        let (a, b) = encode(&upgrade);
+        assert_eq!(rt; (a, b), (pair(8, 0b00010), pair(0, 0b00000)));
+        assert_eq!(rt; decode(a, b), Ok(upgrade));
+        assert_eq!(rt; decode(a, pair(0, 0b00011)), Err(DecodeFault::BadLen(3)));
+        assert_eq!(rt; decode(a, pair(2, 0b00000)), Err(DecodeFault::BadField));
+        assert!(rt;
+            !Request {
+                den: true,
+                ..upgrade
+            }
+            .is_lawful()
+        );
+    }
+
+    // The kind of each REQ word of the first clock, from 00000 on; that of an upgrade is that of a read and invalidate.
     const KINDS: [Option<Kind>; 32] = [
         Some(Kind::Reply),
         None,
@@ -225,12 +251,14 @@ mod tests {
             // A line at or above 4 GiB asserts REQ3#.
             let line = if first / 8 % 2 == 1 { 1 << 27 } else { 0 };
             for second in 0..32 {
-                let expected = match KINDS[usize::from(first)] {
-                    None => Err(DecodeFault::BadCode(first)),
-                    Some(Kind::Reply) if second == 0 => Ok(request(Kind::Reply, 0, false)),
-                    Some(Kind::Reply) => Err(DecodeFault::BadLen(second)),
-                    Some(kind) if second == 2 => Ok(request(kind, line, false)),
-                    Some(_) => Err(DecodeFault::BadLen(second)),
+                let kind = KINDS[usize::from(first)];
+                let expected = match (kind, second) {
+                    (None, _) => Err(DecodeFault::BadCode(first)),
+                    (Some(Kind::Reply), 0) => Ok(request(Kind::Reply, 0, false)),
+                    (Some(Kind::Reply), _) => Err(DecodeFault::BadLen(second)),
+                    (Some(Kind::Invalidate), 0) => Ok(request(Kind::Upgrade, line, false)),
+                    (Some(kind), 2) => Ok(request(kind, line, false)),
+                    (Some(_), _) => Err(DecodeFault::BadLen(second)),
                 };
                 assert_eq!(rt;
                     decode(pair(line * 4, first), pair(0, second)),
@@ -280,6 +308,15 @@ mod tests {
                 false,
                 pair(0x1_ffff_fffc, 0b01101),
                 pair(0x1_e000, 0b00010),
+            ),
+            (
+                Kind::Upgrade,
+                5,
+                2,
+                0x13,
+                false,
+                pair(0x16, 0b00010),
+                pair(0x2_6000, 0b00000),
             ),
         ];
         for (kind, line, chunk, did, den, a, b) in rows {

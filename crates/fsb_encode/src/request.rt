@@ -24,6 +24,9 @@ pub enum Kind {
     Read,
     /// A write-back of a modified line.
     WriteBack,
+    /// An upgrade, a zero-length invalidation: ownership of a line that the agent holds. No data move, unless it lost
+    /// its race.
+    Upgrade,
 }
 
 /// A request as it is decoded from its two clocks.
@@ -49,7 +52,7 @@ pub struct Pair {
 
 impl Request {
     /// Whether the request is lawful: its line is below 2^31 and its chunk below 4; a write-back has chunk 0 and no
-    /// DEN#; a reply has line 0, chunk 0 and no DEN#.
+    /// DEN#; an upgrade has no DEN#; a reply has line 0, chunk 0 and no DEN#.
     #[tactic(auto, unfolding(crate::specs::Request::is_lawful_request, crate::specs::Request::are_lawful_fields))]
     pub fn is_lawful(&self) -> bool
         ensures { result ≡ is_lawful_request self.now }
@@ -59,6 +62,7 @@ impl Request {
             Kind::Reply => self.line == 0 && self.chunk == 0 && !self.den,
             Kind::Invalidate | Kind::Read => self.line < 1 << 31 && self.chunk < 4,
             Kind::WriteBack => self.line < 1 << 31 && self.chunk == 0 && !self.den,
+            Kind::Upgrade => self.line < 1 << 31 && self.chunk < 4 && !self.den,
         }
     }
 }
@@ -88,6 +92,10 @@ pub fn encode(request: &Request) -> (Pair, Pair)
             clocks(0b00110 + high_bit(line), addr, 0b00010, id + den_bit(den))
         }
         Kind::WriteBack => clocks(0b00101 + high_bit(line), line * A5, 0b00010, id),
+        Kind::Upgrade => {
+            let addr = line * A5 + u64::from(chunk);
+            clocks(0b00010 + high_bit(line), addr, 0b00000, id)
+        }
     }
 }
 

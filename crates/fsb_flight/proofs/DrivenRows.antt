@@ -6,7 +6,7 @@ use Rattle.std.specs.Option.{option_map}
 use Rattle.std.proofs.lemmas.Option.{slice_get-map}
 use Rattle.fsb_count.specs.Options.{is_some_and, is_before, is_at, greater_of}
 use Rattle.fsb_count.specs.Clocks.{first_where, any_where, count_where, all_where, nth_where, from_clock}
-use Rattle.fsb_signal.specs.declared.lines.TheConstants.Lines.{BREQ0, ADS, HITM, RS0, RS1, RS2, TRDY, DBSY, DRDY}
+use Rattle.fsb_signal.specs.declared.lines.TheConstants.Lines.{BREQ0, BREQ1, ADS, HIT, HITM, RS0, RS1, RS2, TRDY, DBSY, DRDY}
 use Rattle.fsb_signal.specs.Samples.{line_at}
 use Rattle.fsb_encode.specs.declared.request.Kind.TheVariants.{Read}
 use Rattle.fsb_encode.specs.Request.{is_lawful_request, are_lawful_fields, high_bit, den_bit, clocks, row_of, pairs_of}
@@ -17,17 +17,17 @@ use Rattle.fsb_trace.specs.declared.who.Who.TheVariants.{Priority}
 use Rattle.fsb_trace.specs.At.{Trace, response_code_at, responds_at, stalls_at, known_pair, known_pair_at, request_at}
 use Rattle.fsb_trace.specs.Requests.{is_cancelled, is_live, live_count, live_clock_of, live_number_of, live_request_of, is_write_back_kind, is_write_back}
 use Rattle.fsb_trace.specs.Snoop.{is_every_second_from, ends_snoop, snoop_end_from, snoop_end_if, start_after_clock, start_after_end, snoop_end_of, snoop_start_of, line_at_snoop_end}
-use Rattle.fsb_trace.specs.Outcome.{does_move, response_code_of, outcome_by_kind, response_clock_of, told_by, outcome_of, moves_data, settled_by, settled_outcome_of}
+use Rattle.fsb_trace.specs.Outcome.{does_move, response_code_of, outcome_by_kind, response_clock_of, live_response_of, told_by, outcome_of, moves_data, settled_by, settled_outcome_of}
 use Rattle.fsb_trace.specs.Response.{takes, data_clock_of, end_of, clock_after_snoop, ready_after, ready_clock_of, two_after_snoop, answer_from}
 use Rattle.fsb_trace.specs.Flight.{is_dropped, has_ended, is_in_flight, in_flight}
 use Rattle.fsb_trace.proofs.LaidOut.{clock, idle}
 use Rattle.fsb_trace.proofs.Rows.{two_agents_overlap, store_handed_over_before_arrival, locked_increments, write_back_held_off, stalled_snoop, deferred_and_replied, cancelled_by_address_error}
 use Rattle.fsb_queue.specs.declared.entry.Entry.{Entry}
 use Rattle.fsb_trace.specs.Timing.{is_stall_from, is_ready_from, is_response_from, chunk_from, is_busy_from}
-use Rattle.fsb_phase.specs.Due.{live_of, has_snoop, is_stalled, awaits_response, has_ready, has_response, response_to_now, moves, chunk_of, keeps_busy}
+use Rattle.fsb_phase.specs.Due.{live_of, has_snoop, is_stalled, awaits_response, has_ready, has_response, response_to_now, is_moving, due_chunk, keeps_busy}
 use Rattle.fsb_phase.specs.declared.drive.Drive.{Drive}
 use Rattle.fsb_phase.specs.declared.drive.Phased.{Phased}
-use Rattle.fsb_phase.specs.Drive.{code_of, numbered_chunk, drive_of, ends_snoop_at, ends_at, phased_at}
+use Rattle.fsb_phase.specs.Drive.{settled_code, numbered_chunk, drive_of, ends_snoop_at, has_end_at, phased_at}
 use Rattle.fsb_phase.specs.Flight.{InFlight}
 
 -- the request that begins at q, as an entry with this choice, where these are the effective turns
@@ -68,7 +68,7 @@ pub rows_driven :
     × (any_where (misses quiet_choice [] write_back_held_off) 31 ≡ false)
     × (misses stalled_twice [] two_agents_overlap 6 ≡ true)
     × (misses quiet_choice [] deferred_and_replied 8 ≡ true)
-unfolding is_some_and is_before is_at greater_of first_where any_where count_where all_where nth_where from_clock line_at is_lawful_request are_lawful_fields high_bit den_bit clocks row_of pairs_of req_words kind_of read_off is_pair is_coded_as if_coded_as request_of response_code_at responds_at stalls_at known_pair known_pair_at request_at is_cancelled is_live live_count live_clock_of live_number_of live_request_of is_write_back_kind is_write_back is_every_second_from ends_snoop snoop_end_from snoop_end_if start_after_clock start_after_end snoop_end_of snoop_start_of line_at_snoop_end does_move response_code_of outcome_by_kind response_clock_of told_by outcome_of moves_data settled_by settled_outcome_of takes data_clock_of end_of clock_after_snoop ready_after ready_clock_of is_dropped has_ended is_in_flight in_flight is_stall_from is_ready_from is_response_from chunk_from is_busy_from live_of has_snoop is_stalled two_after_snoop answer_from awaits_response has_ready has_response response_to_now moves chunk_of keeps_busy code_of numbered_chunk drive_of
+unfolding is_some_and is_before is_at greater_of first_where any_where count_where all_where nth_where from_clock line_at is_lawful_request are_lawful_fields high_bit den_bit clocks row_of pairs_of req_words kind_of read_off is_pair is_coded_as if_coded_as request_of response_code_at responds_at stalls_at known_pair known_pair_at request_at is_cancelled is_live live_count live_clock_of live_number_of live_request_of is_write_back_kind is_write_back is_every_second_from ends_snoop snoop_end_from snoop_end_if start_after_clock start_after_end snoop_end_of snoop_start_of line_at_snoop_end does_move response_code_of outcome_by_kind response_clock_of live_response_of told_by outcome_of moves_data settled_by settled_outcome_of takes data_clock_of end_of clock_after_snoop ready_after ready_clock_of is_dropped has_ended is_in_flight in_flight is_stall_from is_ready_from is_response_from chunk_from is_busy_from live_of has_snoop is_stalled two_after_snoop answer_from awaits_response has_ready has_response response_to_now is_moving due_chunk keeps_busy settled_code numbered_chunk drive_of
 rows_driven = (refl, refl, refl, refl, refl, refl, refl, refl, refl)
 
 -- the requests in flight, as entries
@@ -94,8 +94,53 @@ pub rows_numbered :
     × (map (λ c. (happens stalled_twice [] stalled_snoop c).snooped) (6 ∷ 8 ∷ 10 ∷ []) ≡ None ∷ None ∷ Some 0 ∷ [])
     × (map (λ c. (driven quiet_choice [] cancelled_by_address_error c).snoop) (6 ∷ 12 ∷ []) ≡ None ∷ Some 1 ∷ [])
     × (map (λ c. (happens quiet_choice (12 ∷ 1 ∷ 1 ∷ []) deferred_and_replied c).ended) (8 ∷ 11 ∷ 30 ∷ []) ≡ Some 0 ∷ Some 1 ∷ Some 3 ∷ [])
-unfolding is_some_and is_before is_at greater_of first_where any_where count_where all_where nth_where from_clock line_at is_lawful_request are_lawful_fields high_bit den_bit clocks row_of pairs_of req_words kind_of read_off is_pair is_coded_as if_coded_as request_of response_code_at responds_at stalls_at known_pair known_pair_at request_at is_cancelled is_live live_count live_clock_of live_number_of live_request_of is_write_back_kind is_write_back is_every_second_from ends_snoop snoop_end_from snoop_end_if start_after_clock start_after_end snoop_end_of snoop_start_of line_at_snoop_end does_move response_code_of outcome_by_kind response_clock_of told_by outcome_of moves_data settled_by settled_outcome_of takes data_clock_of end_of clock_after_snoop ready_after ready_clock_of is_dropped has_ended is_in_flight in_flight is_stall_from is_ready_from is_response_from chunk_from is_busy_from live_of has_snoop is_stalled two_after_snoop answer_from awaits_response has_ready has_response response_to_now moves chunk_of keeps_busy code_of numbered_chunk drive_of ends_snoop_at ends_at phased_at
+unfolding is_some_and is_before is_at greater_of first_where any_where count_where all_where nth_where from_clock line_at is_lawful_request are_lawful_fields high_bit den_bit clocks row_of pairs_of req_words kind_of read_off is_pair is_coded_as if_coded_as request_of response_code_at responds_at stalls_at known_pair known_pair_at request_at is_cancelled is_live live_count live_clock_of live_number_of live_request_of is_write_back_kind is_write_back is_every_second_from ends_snoop snoop_end_from snoop_end_if start_after_clock start_after_end snoop_end_of snoop_start_of line_at_snoop_end does_move response_code_of outcome_by_kind response_clock_of live_response_of told_by outcome_of moves_data settled_by settled_outcome_of takes data_clock_of end_of clock_after_snoop ready_after ready_clock_of is_dropped has_ended is_in_flight in_flight is_stall_from is_ready_from is_response_from chunk_from is_busy_from live_of has_snoop is_stalled two_after_snoop answer_from awaits_response has_ready has_response response_to_now is_moving due_chunk keeps_busy settled_code numbered_chunk drive_of ends_snoop_at has_end_at phased_at
 rows_numbered = (refl, refl, refl, refl, refl, refl, refl, refl, refl)
+
+-- two agents load a line and upgrade it: the first keeps it with no data, the second has lost, and is handed it
+abbrev pub upgrade_lost_and_handed : Trace
+upgrade_lost_and_handed =
+    clock (BREQ0 ∷ BREQ1 ∷ []) 0x0 0x0
+    ∷ clock (BREQ0 ∷ BREQ1 ∷ []) 0x0 0x0
+    ∷ clock (BREQ0 ∷ BREQ1 ∷ ADS ∷ []) 0x6 0x8
+    ∷ clock (BREQ1 ∷ []) 0x2 0x2
+    ∷ clock (BREQ1 ∷ []) 0x0 0x0
+    ∷ clock (BREQ1 ∷ ADS ∷ []) 0x6 0x8
+    ∷ clock ([]) 0x2 0x20002
+    ∷ idle
+    ∷ clock (RS0 ∷ RS1 ∷ RS2 ∷ DBSY ∷ DRDY ∷ []) 0x0 0x0
+    ∷ clock (HIT ∷ DBSY ∷ DRDY ∷ []) 0x0 0x0
+    ∷ clock (DBSY ∷ DRDY ∷ []) 0x0 0x0
+    ∷ clock (DRDY ∷ []) 0x0 0x0
+    ∷ clock (BREQ0 ∷ RS0 ∷ RS1 ∷ RS2 ∷ DBSY ∷ DRDY ∷ []) 0x0 0x0
+    ∷ clock (BREQ0 ∷ DBSY ∷ DRDY ∷ []) 0x0 0x0
+    ∷ clock (BREQ0 ∷ ADS ∷ DBSY ∷ DRDY ∷ []) 0x2 0x8
+    ∷ clock (DRDY ∷ []) 0x0 0x0
+    ∷ clock (BREQ1 ∷ []) 0x0 0x0
+    ∷ clock (BREQ1 ∷ []) 0x0 0x0
+    ∷ clock (BREQ1 ∷ ADS ∷ HIT ∷ []) 0x2 0x8
+    ∷ clock ([]) 0x0 0x20000
+    ∷ clock (RS0 ∷ RS2 ∷ []) 0x0 0x0
+    ∷ idle
+    ∷ clock (HITM ∷ []) 0x0 0x0
+    ∷ idle
+    ∷ clock (TRDY ∷ []) 0x0 0x0
+    ∷ idle
+    ∷ clock (RS1 ∷ RS2 ∷ DBSY ∷ DRDY ∷ []) 0x0 0x0
+    ∷ clock (DBSY ∷ DRDY ∷ []) 0x0 0x0
+    ∷ clock (DBSY ∷ DRDY ∷ []) 0x0 0x0
+    ∷ clock (DRDY ∷ []) 0x0 0x0
+    ∷ idle
+    ∷ []
+
+pub rows_with_upgrades :
+    (any_where (misses quiet_choice [] upgrade_lost_and_handed) 31 ≡ false)
+    × (map (λ c. (driven quiet_choice [] upgrade_lost_and_handed c).rs) (19 ∷ 20 ∷ 21 ∷ 26 ∷ []) ≡ 0 ∷ 0b101 ∷ 0 ∷ 0b110 ∷ [])
+    × (map (λ c. (driven quiet_choice [] upgrade_lost_and_handed c).chunk) (20 ∷ 26 ∷ 29 ∷ []) ≡ None ∷ Some (3, 0) ∷ Some (3, 3) ∷ [])
+    × (map (λ c. (happens quiet_choice [] upgrade_lost_and_handed c).snooped) (18 ∷ 22 ∷ []) ≡ Some 2 ∷ Some 3 ∷ [])
+    × (map (λ c. (happens quiet_choice [] upgrade_lost_and_handed c).ended) (15 ∷ 20 ∷ 26 ∷ 29 ∷ []) ≡ Some 1 ∷ Some 2 ∷ None ∷ Some 3 ∷ [])
+unfolding is_some_and is_before is_at greater_of first_where any_where count_where all_where nth_where from_clock line_at is_lawful_request are_lawful_fields high_bit den_bit clocks row_of pairs_of req_words kind_of read_off is_pair is_coded_as if_coded_as request_of response_code_at responds_at stalls_at known_pair known_pair_at request_at is_cancelled is_live live_count live_clock_of live_number_of live_request_of is_write_back_kind is_write_back is_every_second_from ends_snoop snoop_end_from snoop_end_if start_after_clock start_after_end snoop_end_of snoop_start_of line_at_snoop_end does_move response_code_of outcome_by_kind response_clock_of live_response_of told_by outcome_of moves_data settled_by settled_outcome_of takes data_clock_of end_of clock_after_snoop ready_after ready_clock_of is_dropped has_ended is_in_flight in_flight is_stall_from is_ready_from is_response_from chunk_from is_busy_from live_of has_snoop is_stalled two_after_snoop answer_from awaits_response has_ready has_response response_to_now is_moving due_chunk keeps_busy settled_code numbered_chunk drive_of ends_snoop_at has_end_at phased_at
+rows_with_upgrades = (refl, refl, refl, refl, refl)
 
 -- a line that is handed on, with waits of two clocks for its target, of three for its response, and of one between its chunks
 abbrev pub handed_on_with_waits : Trace
@@ -148,7 +193,7 @@ read_with_a_wait =
 pub rows_with_waits :
     (any_where (misses (record quiet_choice { trdy = 2; resp = 3; gap = 1 }) [] handed_on_with_waits) 23 ≡ false)
     × (any_where (misses (record quiet_choice { trdy = 9; resp = 2 }) [] read_with_a_wait) 15 ≡ false)
-unfolding is_some_and is_before is_at greater_of first_where any_where count_where all_where nth_where from_clock line_at is_lawful_request are_lawful_fields high_bit den_bit clocks row_of pairs_of req_words kind_of read_off is_pair is_coded_as if_coded_as request_of response_code_at responds_at stalls_at known_pair known_pair_at request_at is_cancelled is_live live_count live_clock_of live_number_of live_request_of is_write_back_kind is_write_back is_every_second_from ends_snoop snoop_end_from snoop_end_if start_after_clock start_after_end snoop_end_of snoop_start_of line_at_snoop_end does_move response_code_of outcome_by_kind response_clock_of told_by outcome_of moves_data settled_by settled_outcome_of takes data_clock_of end_of clock_after_snoop ready_after ready_clock_of is_dropped has_ended is_in_flight in_flight is_stall_from is_ready_from is_response_from chunk_from is_busy_from live_of has_snoop is_stalled two_after_snoop answer_from awaits_response has_ready has_response response_to_now moves chunk_of keeps_busy code_of numbered_chunk drive_of
+unfolding is_some_and is_before is_at greater_of first_where any_where count_where all_where nth_where from_clock line_at is_lawful_request are_lawful_fields high_bit den_bit clocks row_of pairs_of req_words kind_of read_off is_pair is_coded_as if_coded_as request_of response_code_at responds_at stalls_at known_pair known_pair_at request_at is_cancelled is_live live_count live_clock_of live_number_of live_request_of is_write_back_kind is_write_back is_every_second_from ends_snoop snoop_end_from snoop_end_if start_after_clock start_after_end snoop_end_of snoop_start_of line_at_snoop_end does_move response_code_of outcome_by_kind response_clock_of live_response_of told_by outcome_of moves_data settled_by settled_outcome_of takes data_clock_of end_of clock_after_snoop ready_after ready_clock_of is_dropped has_ended is_in_flight in_flight is_stall_from is_ready_from is_response_from chunk_from is_busy_from live_of has_snoop is_stalled two_after_snoop answer_from awaits_response has_ready has_response response_to_now is_moving due_chunk keeps_busy settled_code numbered_chunk drive_of
 rows_with_waits = (refl, refl)
 
 -- for every history there is such a queue, and it holds the requests in flight

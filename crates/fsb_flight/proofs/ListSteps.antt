@@ -1,6 +1,8 @@
 -- The steps of a clock on a list of entries.
-use Rattle.std.proofs.Common.{ℕ, zero, suc, ◌+◌, ◌<◌, ◌≡◌, true, false, nat_eq, is_none, Some, None, List, [], ◌∷◌, length, refl, ap, ◌∙◌, arith}
-use Rattle.std.specs.List.{slice_get}
+use Rattle.std.proofs.Common.{ℕ, inl, inr, zero, suc, ◌+◌, ◌<◌, ◌≡◌, true, false, nat_eq, is_none, Some, List, [], ◌∷◌, length, refl, ap, ◌∙◌, arith}
+use Rattle.std.specs.List.{slice_get, find}
+use Rattle.std.specs.Option.{option_map}
+use Rattle.std.proofs.lemmas.Bool.{cases_Bool}
 use Rattle.fsb_trace.specs.declared.outcome.Outcome.{Outcome}
 use Rattle.fsb_queue.specs.declared.entry.Entry.{Entry}
 use Rattle.fsb_queue.specs.Entries.{settled_at}
@@ -30,17 +32,11 @@ length-settled_at zero o (e ∷ es) = refl
 length-settled_at (suc k) o (e ∷ es) = ap (λ n. suc n) (length-settled_at k o es)
 
 -- the number of the first entry that began three clocks before
-pub number_before-at : (n : ℕ) (es : List Entry) (k : ℕ) (e : Entry) → slice_get es k ≡ Some e → nat_eq (e.clock + 3) n ≡ true → ((j : ℕ) (y : Entry) → j < k → slice_get es j ≡ Some y → nat_eq (y.clock + 3) n ≡ false) → number_before n es ≡ Some e.number
+pub number_before-find : (n : ℕ) (es : List Entry) → number_before n es ≡ option_map (λ e. e.number) (find (λ e. nat_eq (e.clock + 3) n) es)
 unfolding number_before
-number_before-at n [] k e g t f = absurd (let none : ⊥ = cc in none)
-number_before-at n (z ∷ zs) zero e g t f =
-    let same : z ≡ e = cc in
-    let here : nat_eq (z.clock + 3) n ≡ true = ap (λ y. nat_eq (y.clock + 3) n) same ∙ t in
-    rw here (ap (λ y. Some y.number) same)
-number_before-at n (z ∷ zs) (suc k) e g t f =
-    rw (f 0 z (omega arith) refl) (number_before-at n zs k e g t (λ j y l h. f (suc j) y (omega arith) h))
-
-pub number_before-none : (n : ℕ) (es : List Entry) → ((j : ℕ) (y : Entry) → slice_get es j ≡ Some y → nat_eq (y.clock + 3) n ≡ false) → number_before n es ≡ None
-unfolding number_before
-number_before-none n [] f = refl
-number_before-none n (z ∷ zs) f = rw (f 0 z refl) (number_before-none n zs (λ j y g. f (suc j) y g))
+number_before-find n [] = refl
+number_before-find n (z ∷ zs) =
+    elim (cases_Bool (nat_eq (z.clock + 3) n)) [
+      | inl t ↦ rw t refl
+      | inr f ↦ rw f (number_before-find n zs)
+    ]

@@ -8,7 +8,7 @@ use Rattle.fsb_signal.specs.declared.sample.Sample.{Sample}
 use Rattle.fsb_trace.specs.declared.outcome.Outcome.{Outcome}
 use Rattle.fsb_trace.specs.At.{Trace}
 use Rattle.fsb_queue.specs.declared.entry.Entry.{Entry}
-use Rattle.fsb_flight.specs.GoesOn.{settles, stays, goes_on, Rising, IsLater}
+use Rattle.fsb_flight.specs.GoesOn.{settles, stays_in_flight, goes_on, Rising, IsLater}
 use Rattle.fsb_flight.specs.Steps.{begun_list}
 use Rattle.fsb_flight.proofs.QueueStep.{filter_from, map_from, append_from}
 use Rattle.fsb_flight.proofs.Taken.{settles_number, less_along}
@@ -68,13 +68,13 @@ rising_end (z ∷ zs) e r low =
 number_of_old : (h : Trace) (x : Sample) (o : Outcome) (queue : List Entry) (j : ℕ) (f : Entry) → slice_get (goes_on h x o queue) j ≡ Some f → (k : ℕ) × (z : Entry) × (slice_get queue k ≡ Some z) × (f.number ≡ z.number)
 unfolding goes_on
 number_of_old h x o queue j f g =
-    let a = filter_from (stays h x) (map (settles h x o) queue) j f g in
+    let a = filter_from (stays_in_flight h x) (map (settles h x o) queue) j f g in
     let z = map_from (settles h x o) queue a.0 f (slice_get queue a.0) refl (sym (slice_get-map (settles h x o) queue a.0) ∙ a.1) in
     (a.0, z.0, z.1, ap (λ w. w.number) (sym z.2) ∙ settles_number h x o z.0)
 
 rising_old : (h : Trace) (x : Sample) (o : Outcome) (queue : List Entry) → Rising queue → Rising (goes_on h x o queue)
 unfolding goes_on
-rising_old h x o queue r = rising_filter (stays h x) (map (settles h x o) queue) (rising_settled h x o queue r)
+rising_old h x o queue r = rising_filter (stays_in_flight h x) (map (settles h x o) queue) (rising_settled h x o queue r)
 
 -- and so they do after a clock
 pub rising-goes_on : (h : Trace) (x : Sample) (o : Outcome) (begun : Option Entry) (queue : List Entry) → Rising queue → IsLater begun queue → Rising (goes_on h x o queue ++ begun_list begun)

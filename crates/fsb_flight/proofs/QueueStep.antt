@@ -6,7 +6,7 @@ use Rattle.std.proofs.lemmas.Bool.{cases_Bool, cases_eq, cases_order, both_ways,
 use Rattle.std.proofs.lemmas.List.{map-append}
 use Rattle.std.proofs.lemmas.Option.{slice_get-map}
 use Rattle.fsb_count.specs.Options.{is_at}
-use Rattle.fsb_count.proofs.Options.{is_at-some}
+use Rattle.fsb_count.proofs.Interface.{is_at-some}
 use Rattle.fsb_signal.specs.declared.lines.TheConstants.Lines.{ADS, HITM}
 use Rattle.fsb_signal.specs.declared.sample.Sample.{Sample}
 use Rattle.fsb_signal.specs.Samples.{has_line, response_of}
@@ -16,16 +16,11 @@ use Rattle.fsb_trace.specs.Requests.{live_clock_of, live_number_of}
 use Rattle.fsb_trace.specs.Snoop.{snoop_end_of}
 use Rattle.fsb_trace.specs.Outcome.{settled_by, settled_outcome_of}
 use Rattle.fsb_trace.specs.Flight.{in_flight}
-use Rattle.fsb_trace.proofs.Stay.{snoop_end_of-clock}
-use Rattle.fsb_trace.proofs.StayEnds.{live_request_of-stays}
-use Rattle.fsb_trace.proofs.LiveRequests.{settled_outcome_of-ended}
+use Rattle.fsb_trace.proofs.Interface.{snoop_end_of-clock, live_request_of-stays, settled_outcome_of-ended}
 use Rattle.fsb_laws.specs.OneMore.{OneMore, stalls}
 use Rattle.fsb_laws.specs.Progress.{SnoopsTo, ends_snoop_of, is_snoop_due}
 use Rattle.fsb_laws.specs.Flight.{leaves}
-use Rattle.fsb_laws.proofs.OneMoreFacts.{one_more, line_at-old}
-use Rattle.fsb_laws.proofs.FlightSteps.{in_flight-more}
-use Rattle.fsb_laws.proofs.LiveSteps.{live_clock_of-new}
-use Rattle.fsb_laws.proofs.SnoopSteps.{snoop_end_of-above, snoop_end_of-old, snoop_end_of-more}
+use Rattle.fsb_laws.proofs.Interface.{one_more, line_at-old, in_flight-more, live_clock_of-new, snoop_end_of-above, snoop_end_of-old, snoop_end_of-more}
 use Rattle.fsb_queue.specs.declared.entry.Entry.{Entry}
 use Rattle.fsb_queue.specs.Entries.{settled}
 use Rattle.fsb_phase.specs.declared.phases.Phases.{Phases}
@@ -33,13 +28,8 @@ use Rattle.fsb_phase.specs.Due.{live_of}
 use Rattle.fsb_phase.specs.Drive.{ends_snoop_at, drive_of}
 use Rattle.fsb_phase.specs.Flight.{InFlight, is_too_soon}
 use Rattle.fsb_phase.specs.Phases.{Stands, MayTake, snooped_count}
-use Rattle.fsb_phase.proofs.Counts.{snoops_count}
-use Rattle.fsb_phase.proofs.Held.{held}
-use Rattle.fsb_phase.proofs.Entries.{Placed, placed}
-use Rattle.fsb_phase.proofs.SnoopDrive.{snoop_at, has_snoop-at, snoop_elsewhere, not_reached_from}
-use Rattle.fsb_phase.proofs.SnoopStep.{ends_entry, number_stays, later_none}
-use Rattle.fsb_phase.proofs.Course.{Step, step}
-use Rattle.fsb_flight.specs.GoesOn.{settles, stays, goes_on, TakesTurn}
+use Rattle.fsb_phase.proofs.Interface.{snoops_count, held, Placed, placed, snoop_at, has_snoop-at, snoop_elsewhere, not_reached_from, ends_entry, number_stays, later_none, Step, step}
+use Rattle.fsb_flight.specs.GoesOn.{settles, stays_in_flight, goes_on, TakesTurn}
 
 -- elements of lists that are made of others
 one_later : {X : Type 0} (z : X) (xs rest : List X) (k : ℕ) (y : X) → ((j : ℕ) (w : X) → slice_get rest j ≡ Some w → (i : ℕ) × (slice_get xs i ≡ Some w)) → slice_get (z ∷ rest) k ≡ Some y → (j : ℕ) × (slice_get (z ∷ xs) j ≡ Some y)
@@ -81,8 +71,8 @@ clocks_filtered r (e ∷ es) =
       | inr f ↦ rw f (clocks_filtered r es)
     ]
 
-stayed : (h : Trace) (x : Sample) (es : List Entry) → map (λ e. e.clock) (filter (stays h x) es) ≡ filter (λ q. not (leaves h x (h ++ x ∷ []) q)) (map (λ e. e.clock) es)
-unfolding stays
+stayed : (h : Trace) (x : Sample) (es : List Entry) → map (λ e. e.clock) (filter (stays_in_flight h x) es) ≡ filter (λ q. not (leaves h x (h ++ x ∷ []) q)) (map (λ e. e.clock) es)
+unfolding stays_in_flight
 stayed h x es = clocks_filtered (λ q. not (leaves h x (h ++ x ∷ []) q)) es
 
 clocks_on : (h : Trace) (x : Sample) (o : Outcome) (queue : List Entry) → map (λ e. e.clock) (goes_on h x o queue) ≡ filter (λ q. not (leaves h x (h ++ x ∷ []) q)) (map (λ e. e.clock) queue)
@@ -212,9 +202,9 @@ new_entry h x turns later outcome new k y n g =
 each_entry : (p : Phases) (h : Trace) (x : Sample) (queue new : List Entry) (turns later : List ℕ) (outcome : Outcome) (e : ℕ) → Step p h x (h ++ x ∷ []) queue e (snooped_count h) → InFlight queue turns h → TakesTurn h x turns later outcome new → (k : ℕ) (y : Entry) → slice_get (goes_on h x outcome queue ++ new) k ≡ Some y → y.outcome ≡ settled_outcome_of (h ++ x ∷ []) later (live_of (h ++ x ∷ []) y)
 unfolding goes_on live_of
 each_entry p h x queue new turns later outcome e st f n k y g =
-    elim (append_from (filter (stays h x) (map (settles h x outcome) queue)) new k y g) [
+    elim (append_from (filter (stays_in_flight h x) (map (settles h x outcome) queue)) new k y g) [
       | inl old ↦
-          let a = filter_from (stays h x) (map (settles h x outcome) queue) k y old in
+          let a = filter_from (stays_in_flight h x) (map (settles h x outcome) queue) k y old in
           let z = map_from (settles h x outcome) queue a.0 y (slice_get queue a.0) refl (sym (slice_get-map (settles h x outcome) queue a.0) ∙ a.1) in
           ap (λ w. w.outcome) (sym z.2) ∙ old_entry p h x queue new turns later outcome e a.0 z.0 st f n z.1
           ∙ ap (λ q. settled_outcome_of (h ++ x ∷ []) later (live_number_of (h ++ x ∷ []) q)) (sym (settles_clock h x outcome z.0) ∙ ap (λ w. w.clock) z.2)

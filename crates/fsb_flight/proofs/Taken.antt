@@ -13,7 +13,7 @@ use Rattle.fsb_trace.specs.declared.outcome.Outcome.{Outcome}
 use Rattle.fsb_trace.specs.At.{Trace}
 use Rattle.fsb_trace.specs.Requests.{is_live, live_number_of}
 use Rattle.fsb_trace.specs.Response.{end_of}
-use Rattle.fsb_trace.proofs.Order.{live_clock_of-rises}
+use Rattle.fsb_trace.proofs.Interface.{live_clock_of-rises}
 use Rattle.fsb_laws.specs.OneMore.{cancels}
 use Rattle.fsb_laws.specs.Flight.{leaves}
 use Rattle.fsb_queue.specs.declared.entry.Entry.{Entry}
@@ -21,16 +21,12 @@ use Rattle.fsb_queue.specs.Entries.{settled, settled_at, without}
 use Rattle.fsb_phase.specs.declared.drive.Phased.{Phased}
 use Rattle.fsb_phase.specs.declared.phases.Phases.{Phases}
 use Rattle.fsb_phase.specs.Due.{live_of}
-use Rattle.fsb_phase.specs.Drive.{ends_snoop_at, ends_at, phased_at}
+use Rattle.fsb_phase.specs.Drive.{ends_snoop_at, has_end_at, phased_at}
 use Rattle.fsb_phase.specs.Phases.{Stands, MayTake, snooped_count}
 use Rattle.fsb_phase.specs.Registers.{if_passes}
-use Rattle.fsb_phase.proofs.Finds.{Found, find-cases, find-place, find-off, find-first}
-use Rattle.fsb_phase.proofs.Entries.{placed}
-use Rattle.fsb_phase.proofs.SnoopDrive.{outcome_reached, reached_before, not_reached_from}
-use Rattle.fsb_phase.proofs.SnoopStep.{number_stays}
-use Rattle.fsb_phase.proofs.Course.{Step, course, no_end}
-use Rattle.fsb_flight.specs.GoesOn.{settles, stays, goes_on, Rising}
-use Rattle.fsb_flight.specs.Steps.{settle_first, number_before, without_if, cancel_before, begun_list, taken}
+use Rattle.fsb_phase.proofs.Interface.{Found, find-cases, find-place, find-off, find-first, placed, outcome_reached, reached_before, not_reached_from, number_stays, Step, course, no_end}
+use Rattle.fsb_flight.specs.GoesOn.{settles, stays_in_flight, goes_on, Rising}
+use Rattle.fsb_flight.specs.Steps.{settle_first, number_before, without_if, cancel_before, begun_list, queue_after}
 use Rattle.fsb_flight.proofs.QueueStep.{map_from, is_next, step_at, settles_clock, settles_not, settles_now}
 use Rattle.fsb_flight.proofs.ListSteps.{settle_first-at}
 
@@ -91,7 +87,7 @@ settle_is p h x queue o e s st =
     ]
 
 -- the entry that ends is the first
-ends_later : (p : Phases) (h : Trace) (x : Sample) (queue : List Entry) (e s j : ℕ) (y : Entry) → Step p h x (h ++ x ∷ []) queue e s → 0 < j → slice_get queue j ≡ Some y → ends_at (h ++ x ∷ []) (length h) y ≡ false
+ends_later : (p : Phases) (h : Trace) (x : Sample) (queue : List Entry) (e s j : ℕ) (y : Entry) → Step p h x (h ++ x ∷ []) queue e s → 0 < j → slice_get queue j ≡ Some y → has_end_at (h ++ x ∷ []) (length h) y ≡ false
 ends_later p h x queue e s j y st l g =
     let v : Trace = h ++ x ∷ [] in
     let here = placed h queue e j y st.meets.flight st.meets.ends g in
@@ -136,12 +132,12 @@ head_leaves r f (z ∷ zs) c later =
           ∙ sym (keep_one (λ e. not (r e.clock)) (f z) (map f zs) (test ∙ ap not u) ∙ ap (λ w. f z ∷ w) rest)
     ]
 
-leave_is : (p : Phases) (h : Trace) (x : Sample) (queue : List Entry) (o : Outcome) (e s : ℕ) → Step p h x (h ++ x ∷ []) queue e s → cond (is_some (find (ends_at (h ++ x ∷ []) (length h)) queue)) (drop 1 (map (settles h x o) queue)) (map (settles h x o) queue) ≡ filter (λ y. not (ends_clock (h ++ x ∷ []) (length h) y.clock)) (map (settles h x o) queue)
-unfolding ends_at live_of
+leave_is : (p : Phases) (h : Trace) (x : Sample) (queue : List Entry) (o : Outcome) (e s : ℕ) → Step p h x (h ++ x ∷ []) queue e s → cond (is_some (find (has_end_at (h ++ x ∷ []) (length h)) queue)) (drop 1 (map (settles h x o) queue)) (map (settles h x o) queue) ≡ filter (λ y. not (ends_clock (h ++ x ∷ []) (length h) y.clock)) (map (settles h x o) queue)
+unfolding has_end_at live_of
 leave_is p h x queue o e s st =
     let v : Trace = h ++ x ∷ [] in
     ap (λ a. cond (is_some a) (drop 1 (map (settles h x o) queue)) (map (settles h x o) queue))
-    (find-first (ends_at v (length h)) queue (λ j y l g. ends_later p h x queue e s j y st l g))
+    (find-first (has_end_at v (length h)) queue (λ j y l g. ends_later p h x queue e s j y st l g))
     ∙ head_leaves (ends_clock v (length h)) (settles h x o) queue (settles_clock h x o)
     (λ j y l g. ends_later p h x queue e s j y st l g)
 
@@ -286,37 +282,37 @@ apart_left true [] a = a
 apart_left true (z ∷ zs) a = apart_tail z zs a
 apart_left false es a = a
 
-stays_form : (h : Trace) (x : Sample) (es : List Entry) → filter (λ e. not ((has_line x AERR && nat_eq (e.clock + 3) (length h)) || ends_clock (h ++ x ∷ []) (length h) e.clock)) es ≡ filter (stays h x) es
-unfolding stays leaves cancels
+stays_form : (h : Trace) (x : Sample) (es : List Entry) → filter (λ e. not ((has_line x AERR && nat_eq (e.clock + 3) (length h)) || ends_clock (h ++ x ∷ []) (length h) e.clock)) es ≡ filter (stays_in_flight h x) es
+unfolding stays_in_flight leaves cancels
 stays_form h x es = refl
 
-kept_by : (h : Trace) (x : Sample) (ys left : List Entry) → Apart left → left ≡ filter (λ y. not (ends_clock (h ++ x ∷ []) (length h) y.clock)) ys → cond (has_line x AERR) (cancel_before (length h) left) left ≡ filter (stays h x) ys
+kept_by : (h : Trace) (x : Sample) (ys left : List Entry) → Apart left → left ≡ filter (λ y. not (ends_clock (h ++ x ∷ []) (length h) y.clock)) ys → cond (has_line x AERR) (cancel_before (length h) left) left ≡ filter (stays_in_flight h x) ys
 kept_by h x ys left a e =
     error_is (has_line x AERR) (length h) left a
     ∙ ap (filter (λ y. not (has_line x AERR && nat_eq (y.clock + 3) (length h)))) e
     ∙ both (λ y. has_line x AERR && nat_eq (y.clock + 3) (length h)) (λ y. ends_clock (h ++ x ∷ []) (length h) y.clock) ys
     ∙ stays_form h x ys
 
-steps_are : (p : Phases) (h : Trace) (x : Sample) (queue : List Entry) (o : Outcome) (begun : Option Entry) (e s : ℕ) → Step p h x (h ++ x ∷ []) queue e s → Rising queue → taken (length h) (phased_at (h ++ x ∷ []) (length h) queue) o (has_line x AERR) begun queue ≡ goes_on h x o queue ++ begun_list begun
-unfolding taken phased_at goes_on
+steps_are : (p : Phases) (h : Trace) (x : Sample) (queue : List Entry) (o : Outcome) (begun : Option Entry) (e s : ℕ) → Step p h x (h ++ x ∷ []) queue e s → Rising queue → queue_after (length h) (phased_at (h ++ x ∷ []) (length h) queue) o (has_line x AERR) begun queue ≡ goes_on h x o queue ++ begun_list begun
+unfolding queue_after phased_at goes_on
 steps_are p h x queue o begun e s st r =
     let v : Trace = h ++ x ∷ [] in
     let n : ℕ = length h in
     let sn : Bool = is_some (find (ends_snoop_at v n) queue) in
-    let en : Bool = is_some (find (ends_at v n) queue) in
+    let en : Bool = is_some (find (has_end_at v n) queue) in
     let ys : List Entry = map (settles h x o) queue in
     let first : cond sn (settle_first o queue) queue ≡ ys = settle_is p h x queue o e s st in
     let left : List Entry = cond en (drop 1 ys) ys in
-    ap (λ b. cond (has_line x AERR) (cancel_before n (cond (is_some (option_map (λ y. y.number) (find (ends_at v n) queue))) (drop 1 (cond b (settle_first o queue) queue)) (cond b (settle_first o queue) queue))) (cond (is_some (option_map (λ y. y.number) (find (ends_at v n) queue))) (drop 1 (cond b (settle_first o queue) queue)) (cond b (settle_first o queue) queue)) ++ begun_list begun) (some_number (find (ends_snoop_at v n) queue))
-    ∙ ap (λ b. cond (has_line x AERR) (cancel_before n (cond b (drop 1 (cond sn (settle_first o queue) queue)) (cond sn (settle_first o queue) queue))) (cond b (drop 1 (cond sn (settle_first o queue) queue)) (cond sn (settle_first o queue) queue)) ++ begun_list begun) (some_number (find (ends_at v n) queue))
+    ap (λ b. cond (has_line x AERR) (cancel_before n (cond (is_some (option_map (λ y. y.number) (find (has_end_at v n) queue))) (drop 1 (cond b (settle_first o queue) queue)) (cond b (settle_first o queue) queue))) (cond (is_some (option_map (λ y. y.number) (find (has_end_at v n) queue))) (drop 1 (cond b (settle_first o queue) queue)) (cond b (settle_first o queue) queue)) ++ begun_list begun) (some_number (find (ends_snoop_at v n) queue))
+    ∙ ap (λ b. cond (has_line x AERR) (cancel_before n (cond b (drop 1 (cond sn (settle_first o queue) queue)) (cond sn (settle_first o queue) queue))) (cond b (drop 1 (cond sn (settle_first o queue) queue)) (cond sn (settle_first o queue) queue)) ++ begun_list begun) (some_number (find (has_end_at v n) queue))
     ∙ ap (λ w. cond (has_line x AERR) (cancel_before n (cond en (drop 1 w) w)) (cond en (drop 1 w) w) ++ begun_list begun) first
     ∙ ap (λ w. w ++ begun_list begun) (kept_by h x ys left (apart_left en ys (apart_settled h x o queue (apart_queue p h x queue e s st r))) (leave_is p h x queue o e s st))
 
 -- the steps of a clock make of the queue what it has to hold
-pub taken-is : (p : Phases) (h : Trace) (clock : ℕ) (x : Sample) (queue : List Entry) (turns : List ℕ) (phased : Phased) (o : Outcome) (error : Bool) (begun : Option Entry) → Stands p h → MayTake clock x queue turns h → Rising queue → phased ≡ phased_at (h ++ x ∷ []) clock queue → error ≡ has_line x AERR → taken clock phased o error begun queue ≡ goes_on h x o queue ++ begun_list begun
-taken-is p h clock x queue turns phased o error begun k t r f e =
+pub queue_after-is : (p : Phases) (h : Trace) (clock : ℕ) (x : Sample) (queue : List Entry) (turns : List ℕ) (phased : Phased) (o : Outcome) (error : Bool) (begun : Option Entry) → Stands p h → MayTake clock x queue turns h → Rising queue → phased ≡ phased_at (h ++ x ∷ []) clock queue → error ≡ has_line x AERR → queue_after clock phased o error begun queue ≡ goes_on h x o queue ++ begun_list begun
+queue_after-is p h clock x queue turns phased o error begun k t r f e =
     let st = step_at p h x queue turns k t.flight t.answers t.spaced in
-    ap (λ q. taken clock q o error begun queue) f
-    ∙ ap (λ b. taken clock (phased_at (h ++ x ∷ []) clock queue) o b begun queue) e
-    ∙ ap (λ n. taken n (phased_at (h ++ x ∷ []) n queue) o (has_line x AERR) begun queue) t.clock_is
+    ap (λ q. queue_after clock q o error begun queue) f
+    ∙ ap (λ b. queue_after clock (phased_at (h ++ x ∷ []) clock queue) o b begun queue) e
+    ∙ ap (λ n. queue_after n (phased_at (h ++ x ∷ []) n queue) o (has_line x AERR) begun queue) t.clock_is
     ∙ steps_are p h x queue o begun st.0 (snooped_count h) st.1 r

@@ -20,12 +20,12 @@ unfoldable pub settles : Trace → Sample → Outcome → Entry → Entry
 settles h x outcome e = if ends_snoop_at (h ++ x ∷ []) (length h) e then settled outcome e else e
 
 -- the entries that stay: those that x neither ends nor cancels
-unfoldable pub stays : Trace → Sample → Entry → Bool
-stays h x e = not (leaves h x (h ++ x ∷ []) e.clock)
+unfoldable pub stays_in_flight : Trace → Sample → Entry → Bool
+stays_in_flight h x e = not (leaves h x (h ++ x ∷ []) e.clock)
 
 -- the entries after the sample, without one that begins there
 unfoldable pub goes_on : Trace → Sample → Outcome → List Entry → List Entry
-goes_on h x outcome queue = filter (stays h x) (map (settles h x outcome) queue)
+goes_on h x outcome queue = filter (stays_in_flight h x) (map (settles h x outcome) queue)
 
 -- the effective turns go on as the later ones, with this outcome where a snoop ends, and these entries, one at most, begin
 pub record TakesTurn (h : Trace) (x : Sample) (turns later : List ℕ) (outcome : Outcome) (new : List Entry) : Type 0 where

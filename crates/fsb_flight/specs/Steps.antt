@@ -30,8 +30,8 @@ begun_list None = []
 begun_list (Some e) = e ∷ []
 
 -- the entries after the steps of a clock
-unfoldable pub taken : ℕ → Phased → Outcome → Bool → Option Entry → List Entry → List Entry
-taken n phased outcome error begun es =
+unfoldable pub queue_after : ℕ → Phased → Outcome → Bool → Option Entry → List Entry → List Entry
+queue_after n phased outcome error begun es =
     let settled_now = if is_some phased.snooped then settle_first outcome es else es in
     let left = if is_some phased.ended then drop 1 settled_now else settled_now in
     (if error then cancel_before n left else left) ++ begun_list begun

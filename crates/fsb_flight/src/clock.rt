@@ -9,7 +9,7 @@ ghost use Rattle.fsb_phase.specs.declared.phases.Phases.{Phases};
 ghost use Rattle.fsb_phase.specs.Drive.{phased_at};
 ghost use Rattle.fsb_phase.specs.Phases.{Stands, MayTake};
 ghost use Rattle.fsb_flight.specs.GoesOn.{goes_on, Rising};
-ghost use Rattle.fsb_flight.specs.Steps.{settle_first, number_before, cancel_before, begun_list, taken};
+ghost use Rattle.fsb_flight.specs.Steps.{settle_first, number_before, cancel_before, begun_list, queue_after};
 
 use fsb_phase::Phased;
 use fsb_queue::{Entry, Queue};
@@ -34,14 +34,14 @@ fn settle_first(queue: &mut Queue, outcome: Outcome)
 fn number_before(queue: &Queue, clock: u32) -> Option<u32>
     ensures { result ≡ number_before clock queue.now }
 {
-    for i in 0..queue.len() {
-        if let Some(e) = queue.at(i).copied() {
-            if u64::from(e.clock) + 3 == u64::from(clock) {
-                return Some(e.number);
-            }
-        }
+    let found = queue
+        .iter()
+        .find(|e| u64::from(e.clock) + 3 == u64::from(clock))
+        .copied();
+    match found {
+        Some(e) => Some(e.number),
+        None => None,
     }
-    None
 }
 
 /// Takes out the first entry that began three clocks before.
@@ -73,7 +73,7 @@ pub fn take_clock(
     take(queue, clock, phased, outcome, error, begun);
 }
 
-#[tactic(auto, unfolding(crate::specs::Steps::taken, crate::specs::Steps::begun_list))]
+#[tactic(auto, unfolding(crate::specs::Steps::queue_after, crate::specs::Steps::begun_list))]
 fn take(
     queue: &mut Queue,
     clock: u32,
@@ -83,7 +83,7 @@ fn take(
     begun: Option<Entry>,
 )
     requires { IfSome begun (λ e. length queue.old < 8) }
-    ensures { queue.new ≡ taken clock phased.now outcome error begun queue.old }
+    ensures { queue.new ≡ queue_after clock phased.now outcome error begun queue.old }
 {
     if phased.snooped.is_some() {
         settle_first(queue, outcome);

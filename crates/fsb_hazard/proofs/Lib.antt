@@ -1,1 +1,5 @@
+pub mod AskedObjects
 pub mod JoinLaws
+pub mod LoadedObjects
+pub mod WorkedSeeds
+pub mod Interface

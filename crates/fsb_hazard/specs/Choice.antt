@@ -1,7 +1,7 @@
 -- What hazards choose, together and in effect.
 use Rattle.std.specs.Prelude.{max, Bool, true, false, not, ◌&&◌, ◌||◌, if◌then◌else◌}
 use Rattle.fsb_encode.specs.declared.request.Kind.{Kind}
-use Rattle.fsb_encode.specs.declared.request.Kind.TheVariants.{Reply, Invalidate, Read, WriteBack}
+use Rattle.fsb_encode.specs.declared.request.Kind.TheVariants.{Reply, Invalidate, Read, WriteBack, Upgrade}
 use Rattle.fsb_encode.specs.declared.request.Request.{Request}
 use Rattle.fsb_hazard.specs.declared.choice.Choice.{Choice}
 use Rattle.fsb_hazard.specs.declared.choice.Turn.{Turn}
@@ -37,6 +37,7 @@ is_never_held_up Reply = true
 is_never_held_up Invalidate = false
 is_never_held_up Read = false
 is_never_held_up WriteBack = true
+is_never_held_up Upgrade = false
 
 -- whether a request is put off for later
 abbrev pub is_defer : Turn → Bool

@@ -91,7 +91,7 @@ fn join_turns(a: Turn, b: Turn) -> Turn
 
 /// The choice that counts for a request at its snoop end, given whether its line is in the bridge's window and
 /// whether it is pending. The turn of a write-back or a reply is `Keep`. Any other request for a pending line is retried.
-/// A request without DEN#, or for a line outside the window, is not deferred. All else stays as it was chosen.
+/// A request without DEN#, as an upgrade, or for a line outside the window, is not deferred. All else stays as it was chosen.
 pub fn effective(choice: &Choice, request: &Request, in_window: bool, pending: bool) -> Choice
     ensures { result ≡ effective choice.now request.now in_window pending }
 {
@@ -219,6 +219,9 @@ mod tests {
             (Kind::Invalidate, true, true, false, later, later),
             (Kind::Read, false, false, false, Turn::Retry, Turn::Retry),
             (Kind::Read, true, true, false, Turn::Keep, Turn::Keep),
+            (Kind::Upgrade, false, true, true, Turn::Keep, Turn::Retry),
+            (Kind::Upgrade, false, true, false, later, Turn::Keep),
+            (Kind::Upgrade, false, true, false, Turn::Retry, Turn::Retry),
         ];
         for (kind, den, in_window, pending, chosen, counts) in rows {
             let request = Request {

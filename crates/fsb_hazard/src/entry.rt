@@ -61,7 +61,7 @@ fn is_of_clocks(first: u32, last: u32, ask: &Ask) -> bool
 }
 
 /// What the line chooses, where it is asked.
-fn choice_of(line: &HazardLine) -> Choice
+pub(crate) fn choice_of(line: &HazardLine) -> Choice
     ensures { result ≡ choice_of line.now }
 {
     let mut choice = quiet_choice();

@@ -2,6 +2,7 @@
 //! known to a proof. This is the trusted edge.
 ghost use Rattle.std.specs.Prelude.{◌≡◌, ◌≤◌, ◌<◌, ℕ, [], None, false, length, IfOk};
 
+use crate::place::{Place, place_of};
 use crate::{Failed, Sink, Source};
 use std::fs::Files;
 use std::io::{ErrorKind, Print, Read, Write};
@@ -9,7 +10,7 @@ use std::marker::Model;
 use std::{fs, io};
 
 /// How often an interrupted call is tried again.
-const TRIES: u32 = 1_000;
+pub(crate) const TRIES: u32 = 1_000;
 
 /// Reads the file that it was begun under. Contracts see its count of faults.
 #[derive(Drop)]
@@ -83,16 +84,20 @@ impl<R: Files> Source for FileSource<'_, R> {
     }
 }
 
-/// Makes the file that it is begun under, or empties it, and writes it. Contracts see its count of
-/// faults.
+/// The name of what standard output goes to.
+const OUTPUT: &str = "/proc/self/fd/1";
+
+/// Makes the file that it is begun under, or empties it, and writes it. Under a name of what standard
+/// output goes to it empties nothing, and writes to standard output. Contracts see its count of faults.
 #[derive(Drop)]
-pub struct FileSink<'a, R: Files> {
-    files: &'a R,
-    file: Option<R::File>,
+pub struct FileSink<'a, R: Files + Print> {
+    rt: &'a R,
+    spared: Option<&'a str>,
+    place: Place<R::File>,
     faults: u64,
 }
 
-impl<'a, R: Files> Model for FileSink<'a, R> {
+impl<'a, R: Files + Print> Model for FileSink<'a, R> {
     ghost use Rattle.std.specs.Prelude.{ℕ};
 
     ghost Value = { ℕ };
@@ -100,14 +105,16 @@ impl<'a, R: Files> Model for FileSink<'a, R> {
     ghost view = { λ s. s.faults };
 }
 
-impl<'a, R: Files> FileSink<'a, R> {
-    /// Not begun: a `write` is a fault until `begin` answers Ok.
-    pub fn new(files: &'a R) -> FileSink<'a, R>
+impl<'a, R: Files + Print> FileSink<'a, R> {
+    /// Not begun: a `write` is a fault until `begin` answers Ok. A `begin` under a name of the file
+    /// `spared` is a fault.
+    pub fn new(rt: &'a R, spared: Option<&'a str>) -> FileSink<'a, R>
         ensures { result ≡ 0 }
     {
         FileSink {
-            files,
-            file: None,
+            rt,
+            spared,
+            place: Place::Nowhere,
             faults: 0,
         }
     }
@@ -120,7 +127,7 @@ impl<'a, R: Files> FileSink<'a, R> {
     }
 }
 
-impl<R: Files> Sink for FileSink<'_, R> {
+impl<R: Files + Print> Sink for FileSink<'_, R> {
     ghost tells = { false };
 
     ghost holds = { λ _. [] };
@@ -130,9 +137,9 @@ impl<R: Files> Sink for FileSink<'_, R> {
     ghost faults = { λ faults. faults };
 
     fn begin(&mut self, name: &str) -> Result<(), Failed> {
-        match create_tried(self.files, name) {
-            Ok(file) => {
-                self.file = Some(file);
+        match place_of(self.rt, OUTPUT, self.spared, name) {
+            Ok(place) => {
+                self.place = place;
                 Ok(())
             }
             Err(failed) => {
@@ -143,9 +150,10 @@ impl<R: Files> Sink for FileSink<'_, R> {
     }
 
     fn write(&mut self, piece: &[u8]) -> Result<usize, Failed> {
-        let answer = match &mut self.file {
-            Some(file) => write_tried(file, piece),
-            None => Err(Failed),
+        let answer = match &mut self.place {
+            Place::Nowhere => Err(Failed),
+            Place::Output => write_tried(&mut io::writer(self.rt), piece),
+            Place::File(file) => write_tried(file, piece),
         };
         if answer.is_err() {
             self.faults = self.faults.saturating_add(1);
@@ -213,21 +221,6 @@ impl<P: Print> Sink for StdoutSink<'_, P> {
 fn open_tried<R: Files>(files: &R, name: &str) -> Result<R::File, Failed> {
     for _ in 0..=TRIES {
         match fs::open(files, name) {
-            Ok(file) => return Ok(file),
-            Err(error) => {
-                if error.kind() != ErrorKind::Interrupted {
-                    return Err(Failed);
-                }
-            }
-        }
-    }
-    Err(Failed)
-}
-
-/// Makes a file, or empties it, to write. An interrupted call is tried again.
-fn create_tried<R: Files>(files: &R, name: &str) -> Result<R::File, Failed> {
-    for _ in 0..=TRIES {
-        match fs::create(files, name) {
             Ok(file) => return Ok(file),
             Err(error) => {
                 if error.kind() != ErrorKind::Interrupted {
@@ -333,7 +326,7 @@ mod tests {
         let name = path.as_str();
         assert!(rt; name.len() <= 4_096);
 
-        let mut sink = FileSink::new(&rt);
+        let mut sink = FileSink::new(&rt, None);
         assert_eq!(rt; put_all(&mut sink, b"lost"), Err(Failed), "not begun");
         assert_eq!(rt; sink.begin(name), Ok(()));
         assert_eq!(rt; put_all(&mut sink, b"old text"), Ok(()));
@@ -362,7 +355,7 @@ mod tests {
         assert!(rt; matches!(answer, Err(ReadStop::ReadFault)));
         assert_eq!(rt; source.faults(), 1);
 
-        let mut sink = FileSink::new(&rt);
+        let mut sink = FileSink::new(&rt, None);
         assert_eq!(rt; sink.begin("/dev/full"), Ok(()));
         assert_eq!(rt; put_all(&mut sink, b"lost"), Err(Failed));
         assert_eq!(rt; sink.faults(), 1);

@@ -15,6 +15,7 @@ mod file;
 mod mem_sink;
 mod mem_source;
 mod number;
+mod place;
 mod read;
 mod refusal;
 mod sink;

@@ -1,6 +1,6 @@
 use std::alloc::{AllocError, AllocFailed};
 use std::error::Error;
-use std::fmt;
+use std::{fmt, io};
 
 /// Want of memory: the one answer that a call may give at any time.
 #[derive(Clone, Copy, Debug, PartialEq, Eq)]
@@ -37,3 +37,9 @@ impl fmt::Display for Failed {
 }
 
 impl Error for Failed {}
+
+impl From<io::Error> for Failed {
+    fn from(_error: io::Error) -> Failed {
+        Failed
+    }
+}

@@ -4,10 +4,16 @@ ghost use Rattle.std.specs.Prelude.{◌^◌, ◌<◌, ◌≤◌, length, IfOk};
 
 use fsb_rules::Checker;
 use fsb_runs::{ADS, BPRI, BREQ0, BREQ1, BREQ2, BREQ3, DBSY, DRDY, RS0};
-use fsb_signal::{Lines, Sample, Word};
+use fsb_signal::{Lines, Marks, Sample, Word};
 use fsb_trace::verdict;
 use std::alloc::{AllocError, Global};
 use std::process::Abort;
+
+/// A dump that declares neither parity line.
+pub const UNMARKED: Marks = Marks {
+    ap: false,
+    rp: false,
+};
 
 /// The BREQ# lines of the four agents.
 pub const BREQ: [u32; 4] = [BREQ0, BREQ1, BREQ2, BREQ3];
@@ -49,6 +55,11 @@ pub fn kept_read(id: u64) -> Words {
 /// A write-back of line 0 with this ID.
 pub fn write_back(id: u64) -> Words {
     (5, 0, 2, (id % 256) * 8192)
+}
+
+/// An upgrade of line 0 with this ID.
+pub fn upgrade(id: u64) -> Words {
+    (2, 0, 0, (id % 256) * 8192)
 }
 
 /// A reply with this ID.
@@ -113,7 +124,7 @@ fn make_unknown(cells: &mut Cells, piece: &Piece) {
     };
     if let Some(cell) = cells.get_mut(c) {
         match *piece {
-            Piece::UnknownLine(_, line) => cell.unknown = 1 << (line % 18),
+            Piece::UnknownLine(_, line) => cell.unknown = 1 << (line % 21),
             Piece::UnknownReq(_) => cell.unknown_req = true,
             Piece::UnknownAddr(_) => cell.unknown_addr = true,
             Piece::UnknownData(_, bits) => cell.unknown_data = bits,
@@ -160,10 +171,10 @@ fn word(bits: u64, is_unknown: bool) -> Word
 
 /// The sample of a clock.
 fn sample(cell: &Cell) -> Sample {
-    let unknown = cell.unknown % (1 << 18);
+    let unknown = cell.unknown % (1 << 21);
     Sample {
         lines: Lines(if unknown == 0 {
-            cell.lines % (1 << 18)
+            cell.lines % (1 << 21)
         } else {
             0
         }),
@@ -192,11 +203,11 @@ fn laid_out(alloc: Global, pieces: &[Piece], clocks: usize) -> Result<Vec<Sample
     Ok(w)
 }
 
-/// What the checker says of a waveform.
-fn checked(w: &[Sample]) -> Option<(u32, u8)>
+/// What the checker says of a waveform, of a dump with these marks.
+fn checked(marks: Marks, w: &[Sample]) -> Option<(u32, u8)>
     requires { length w.now < 2 ^ 32 }
 {
-    let mut checker = Checker::new();
+    let mut checker = Checker::new(marks);
     let mut found = None;
     for sample in w {
         found = checker.feed(sample);
@@ -204,25 +215,26 @@ fn checked(w: &[Sample]) -> Option<(u32, u8)>
     found.map(|broken| (broken.clock, broken.rule))
 }
 
-/// Asserts that both judges say this of the waveform of so many clocks with these pieces.
-fn expect(
+/// Asserts that both judges say this of the waveform of so many clocks with these pieces, of a dump with these marks.
+pub fn expect(
     rt: &impl Abort,
     alloc: Global,
+    marks: Marks,
     pieces: &[Piece],
     clocks: usize,
     found: Option<(u32, u8)>,
 ) {
     let w = laid_out(alloc, pieces, clocks).expect(rt, "out of memory");
-    assert_eq!(rt; verdict(&w), found);
-    assert_eq!(rt; checked(&w), found);
+    assert_eq!(rt; verdict(marks, &w), found);
+    assert_eq!(rt; checked(marks, &w), found);
 }
 
 /// Asserts that both judges accept the waveform of so many clocks with these pieces.
 pub fn expect_fair(rt: &impl Abort, alloc: Global, clocks: usize, pieces: &[Piece]) {
-    expect(rt, alloc, pieces, clocks, None);
+    expect(rt, alloc, UNMARKED, pieces, clocks, None);
 }
 
 /// Asserts that both judges name this clock and this rule for the waveform with these pieces, which goes on to its fortieth clock.
 pub fn expect_foul(rt: &impl Abort, alloc: Global, clock: u32, rule: u8, pieces: &[Piece]) {
-    expect(rt, alloc, pieces, 40, Some((clock, rule)));
+    expect(rt, alloc, UNMARKED, pieces, 40, Some((clock, rule)));
 }

@@ -5,6 +5,10 @@
 #[cfg(test)]
 mod laid;
 #[cfg(test)]
+mod parity;
+#[cfg(test)]
 mod replies;
 #[cfg(test)]
 mod requests;
+#[cfg(test)]
+mod upgrades;

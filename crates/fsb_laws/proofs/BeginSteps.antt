@@ -2,9 +2,7 @@
 use Rattle.std.proofs.Common.{ℕ, ◌+◌, ◌<◌, ◌≤◌, ◌≡◌, Bool, true, false, not, ◌&&◌, ◌||◌, nat_lt, Option, Some, None, is_some, length, refl, sym, ap, ◌∙◌, arith, inl, inr}
 use Rattle.std.proofs.lemmas.Bool.{cases_Bool, cases_lt, cases_eq, and_parts, and_left, and_right, and_from, or_left, or_right, both_ways, ltb-true, lt-ltb, le-ltb, false_from_ne_true, not-false, not_from_false}
 use Rattle.fsb_count.specs.Options.{is_some_and, is_before}
-use Rattle.fsb_count.proofs.First.{first_where-found, first_where-none, first_where-at}
-use Rattle.fsb_count.proofs.Any.{any_where-at, any_where-off}
-use Rattle.fsb_count.proofs.Count.{count_where-same}
+use Rattle.fsb_count.proofs.Interface.{first_where-found, first_where-none, first_where-at, any_where-at, any_where-off, count_where-same}
 use Rattle.fsb_signal.specs.declared.lines.TheConstants.Lines.{ADS}
 use Rattle.fsb_signal.specs.Samples.{line_at}
 use Rattle.fsb_trace.specs.At.{Trace, request_at}
@@ -14,10 +12,7 @@ use Rattle.fsb_trace.specs.Response.{end_of}
 use Rattle.fsb_trace.specs.Flight.{is_dropped, has_ended, is_in_flight, is_reply_to, is_live_reply_to, reply_clock_of, reply_end_of, last_clock_of, is_finished, is_outstanding}
 use Rattle.fsb_trace.specs.Deferral.{answers, is_answered}
 use Rattle.fsb_trace.specs.Agree.{AgreeTo}
-use Rattle.fsb_trace.proofs.AgreeAt.{AgreeTo-sym, line_at-agree, request_at-agree, is_cancelled-agree, is_live-agree}
-use Rattle.fsb_trace.proofs.Stay.{response_clock_of-stays}
-use Rattle.fsb_trace.proofs.StayEnds.{end_of-response, live_request_of-stays, is_deferred-stays}
-use Rattle.fsb_trace.proofs.LiveRequests.{live_clock_of-number}
+use Rattle.fsb_trace.proofs.Interface.{AgreeTo-sym, line_at-agree, request_at-agree, is_cancelled-agree, is_live-agree, response_clock_of-stays, end_of-response, live_request_of-stays, is_deferred-stays, live_clock_of-number}
 use Rattle.fsb_laws.specs.Orderly.{Orderly}
 use Rattle.fsb_laws.specs.Progress.{response_count}
 use Rattle.fsb_laws.proofs.LiveSteps.{is_live-ads, is_cancelled-late}

@@ -4,7 +4,7 @@ use Rattle.std.proofs.lemmas.Bool.{cases_Bool, cases_lt, and_left, and_right, an
 use Rattle.std.proofs.lemmas.List.{length-append, drop-append-le, drop_all}
 use Rattle.std.proofs.lemmas.List.Elements.{filter-append}
 use Rattle.fsb_count.specs.Clocks.{AgreeBelow, count_where, all_where}
-use Rattle.fsb_count.proofs.Nth.{length-all_where, all_where-passed, all_where-failed}
+use Rattle.fsb_count.proofs.Interface.{length-all_where, all_where-passed, all_where-failed}
 
 -- tests that agree below n
 pub all_where-same : (p q : ℕ → Bool) (n : ℕ) → AgreeBelow n p q → all_where p n ≡ all_where q n

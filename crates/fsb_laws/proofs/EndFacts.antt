@@ -3,19 +3,17 @@ use Rattle.std.proofs.Common.{ℕ, zero, suc, ◌<◌, ◌≤◌, ◌≡◌, tru
 use Rattle.std.proofs.lemmas.Bool.{cases_Bool, cases_eq, and_parts, ltb-true, ltb-false}
 use Rattle.fsb_count.specs.Options.{is_some_and}
 use Rattle.fsb_count.specs.Clocks.{count_where, from_clock}
-use Rattle.fsb_count.proofs.Nth.{nth_where-found, nth_where-there, nth_where-past}
-use Rattle.fsb_count.proofs.Options.{is_before-parts}
+use Rattle.fsb_count.proofs.Interface.{nth_where-found, nth_where-there, nth_where-past, is_before-parts}
 use Rattle.fsb_signal.specs.declared.lines.TheConstants.Lines.{DRDY}
 use Rattle.fsb_signal.specs.declared.sample.Sample.{Sample}
 use Rattle.fsb_signal.specs.Samples.{line_at}
 use Rattle.fsb_trace.specs.At.{Trace}
 use Rattle.fsb_trace.specs.Outcome.{response_clock_of, moves_data}
+use Rattle.fsb_trace.specs.Snoop.{snoop_end_of}
 use Rattle.fsb_trace.specs.Response.{end_of, is_clear_before}
 use Rattle.fsb_trace.specs.Rules.{is_transferring_of}
 use Rattle.fsb_trace.specs.Agree.{AgreeTo}
-use Rattle.fsb_trace.proofs.AgreeAt.{AgreeTo-sym}
-use Rattle.fsb_trace.proofs.Stay.{response_clock_of-stays, snoop_end_of-stays}
-use Rattle.fsb_trace.proofs.StayEnds.{end_of-moving, end_of-still, end_of-response, end_of-stays}
+use Rattle.fsb_trace.proofs.Interface.{AgreeTo-sym, response_clock_of-stays, snoop_end_of-stays, end_of-moving, end_of-answered, end_of-response, end_of-stays}
 use Rattle.fsb_laws.specs.OneMore.{OneMore}
 use Rattle.fsb_laws.specs.Orderly.{Orderly}
 use Rattle.fsb_laws.specs.Progress.{EndsTo, response_count, chunks_of, transfer_after, transfer_of}
@@ -38,14 +36,14 @@ moved_end w i r f t l =
     let p = nth_where-there (from_clock r (line_at DRDY w)) 3 (length w) (omega arith) in
     (p.0, end_of-moving w i r t f ∙ p.1, (nth_where-found (from_clock r (line_at DRDY w)) 3 (length w) p.0 p.1).0)
 
--- a request that responded and whose data are not on the way has its end
-pub end_reached : (w : Trace) (i r : ℕ) → response_clock_of w i ≡ Some r → r < length w → is_transferring_of w (length w) i ≡ false → (e : ℕ) × (end_of w i ≡ Some e) × (e < length w)
-end_reached w i r f l none =
+-- a live request that responded and whose data are not on the way has its end
+pub end_reached : (w : Trace) (i s r : ℕ) → snoop_end_of w i ≡ Some s → response_clock_of w i ≡ Some r → r < length w → is_transferring_of w (length w) i ≡ false → (e : ℕ) × (end_of w i ≡ Some e) × (e < length w)
+end_reached w i s r live f l none =
     elim (cases_Bool (moves_data w i)) [
       | inl t ↦
           let few : nat_lt (chunks_from w r) 4 ≡ false = (let g = sym (transferring_form w (length w) i r f) ∙ none in rw t at g) in
           moved_end w i r f t (ltb-false _ _ few)
-      | inr u ↦ (r, end_of-still w i u ∙ f, l)
+      | inr u ↦ (r, end_of-answered w i s live u ∙ f, l)
     ]
 
 -- one whose data are on the way has none yet
@@ -94,7 +92,8 @@ still_reached h i o f l =
     elim (cases_eq (suc i) (response_count h)) [
       | inl last ↦
           let p = response_there h i l in
-          end_reached h i p.0 p.1 p.2 (still_last h i (sym last) f)
+          let a = has_answer h p.0 i (o.timely i p.0 p.1) in
+          end_reached h i a.snoop p.0 a.is_snoop p.1 p.2 (still_last h i (sym last) f)
       | inr other ↦ end_before_last h i o (omega (arith, other))
     ]
 

@@ -4,8 +4,7 @@ use Rattle.std.proofs.lemmas.Bool.{cases_Bool, cases_lt, and_left, and_right, an
 use Rattle.std.proofs.Math.Bool.{and-true}
 use Rattle.fsb_count.specs.Options.{is_some_and, is_before, is_at}
 use Rattle.fsb_count.specs.Clocks.{count_where, all_where}
-use Rattle.fsb_count.proofs.Nth.{nth_where-at, length-all_where}
-use Rattle.fsb_count.proofs.Options.{is_before-more}
+use Rattle.fsb_count.proofs.Interface.{nth_where-at, length-all_where, is_before-more}
 use Rattle.fsb_signal.specs.declared.lines.TheConstants.Lines.{ADS}
 use Rattle.fsb_signal.specs.declared.sample.Sample.{Sample}
 use Rattle.fsb_signal.specs.Samples.{has_line, line_at}
@@ -13,8 +12,7 @@ use Rattle.fsb_trace.specs.At.{Trace}
 use Rattle.fsb_trace.specs.Requests.{is_cancelled, is_live, live_clock_of, live_count, live_number_of}
 use Rattle.fsb_trace.specs.Response.{end_of}
 use Rattle.fsb_trace.specs.Flight.{is_dropped, has_ended, is_in_flight, in_flight}
-use Rattle.fsb_trace.proofs.Stay.{snoop_end_of-clock}
-use Rattle.fsb_trace.proofs.StayEnds.{end_of-response}
+use Rattle.fsb_trace.proofs.Interface.{snoop_end_of-clock, end_of-response}
 use Rattle.fsb_laws.specs.OneMore.{OneMore, cancels}
 use Rattle.fsb_laws.specs.Orderly.{Orderly}
 use Rattle.fsb_laws.specs.Progress.{EndsTo}

@@ -13,3 +13,4 @@ pub mod FlightSteps
 pub mod ReplySteps
 pub mod OutstandingSteps
 pub mod BeginSteps
+pub mod Interface

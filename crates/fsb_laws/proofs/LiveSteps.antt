@@ -2,12 +2,11 @@
 use Rattle.std.proofs.Common.{ℕ, ◌+◌, ◌<◌, ◌≤◌, ◌≡◌, Bool, true, false, not, ◌&&◌, Some, length, refl, sym, ◌∙◌, arith, inl, inr}
 use Rattle.std.proofs.lemmas.Bool.{cases_order, and_parts, and_left, and_right, eq-eqb, ne_eqb}
 use Rattle.fsb_count.specs.Clocks.{count_where}
-use Rattle.fsb_count.proofs.Count.{count_where-same}
-use Rattle.fsb_count.proofs.Nth.{nth_where-found, nth_where-at}
+use Rattle.fsb_count.proofs.Interface.{count_where-same, nth_where-found, nth_where-at}
 use Rattle.fsb_signal.specs.declared.lines.TheConstants.Lines.{ADS, AERR}
 use Rattle.fsb_signal.specs.declared.sample.Sample.{Sample}
 use Rattle.fsb_signal.specs.Samples.{has_line, line_at}
-use Rattle.fsb_signal.proofs.AtClock.{line_at-past}
+use Rattle.fsb_signal.proofs.Interface.{line_at-past}
 use Rattle.fsb_trace.specs.At.{Trace}
 use Rattle.fsb_trace.specs.Requests.{is_cancelled, is_live, live_clock_of, live_number_of}
 use Rattle.fsb_laws.specs.OneMore.{OneMore, cancels}

@@ -1,14 +1,14 @@
 -- What a trace with one sample more has at its clocks.
 use Rattle.std.proofs.Common.{ℕ, ◌+◌, ◌<◌, ◌≡◌, [], ◌∷◌, ◌++◌, length, refl, sym, arith}
 use Rattle.std.proofs.lemmas.List.{length-append}
-use Rattle.fsb_count.proofs.Nth.{slice_get-end}
+use Rattle.fsb_count.proofs.Interface.{slice_get-end}
 use Rattle.fsb_signal.specs.declared.lines.Lines.{Lines}
 use Rattle.fsb_signal.specs.declared.lines.TheConstants.Lines.{HIT, HITM}
 use Rattle.fsb_signal.specs.declared.sample.Sample.{Sample}
 use Rattle.fsb_signal.specs.Samples.{has_line, line_at, response_of}
-use Rattle.fsb_signal.proofs.AtClock.{slice_get-before}
+use Rattle.fsb_signal.proofs.Interface.{slice_get-before}
 use Rattle.fsb_trace.specs.At.{Trace, response_code_at, stalls_at}
-use Rattle.fsb_trace.proofs.AgreeAt.{line_at-agree}
+use Rattle.fsb_trace.proofs.Interface.{line_at-agree}
 use Rattle.fsb_laws.specs.OneMore.{OneMore, stalls}
 
 -- a sample put behind a trace

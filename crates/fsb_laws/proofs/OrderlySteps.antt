@@ -5,16 +5,14 @@ use Rattle.fsb_count.specs.Options.{is_some_and, is_before}
 use Rattle.fsb_signal.specs.declared.lines.TheConstants.Lines.{ADS}
 use Rattle.fsb_signal.specs.declared.sample.Sample.{Sample}
 use Rattle.fsb_signal.specs.Samples.{has_line, line_at}
-use Rattle.fsb_signal.proofs.AtClock.{line_at-past}
+use Rattle.fsb_signal.proofs.Interface.{line_at-past}
 use Rattle.fsb_trace.specs.At.{Trace, line_back}
 use Rattle.fsb_trace.specs.Snoop.{snoop_end_of}
 use Rattle.fsb_trace.specs.Outcome.{response_clock_of}
 use Rattle.fsb_trace.specs.Response.{is_clear_before}
 use Rattle.fsb_trace.specs.Rules.{may_answer}
 use Rattle.fsb_trace.specs.Agree.{AgreeTo}
-use Rattle.fsb_trace.proofs.AgreeAt.{AgreeTo-sym}
-use Rattle.fsb_trace.proofs.Stay.{response_clock_of-stays, snoop_end_of-stays, snoop_end_of-before}
-use Rattle.fsb_trace.proofs.StayEnds.{end_of-stays}
+use Rattle.fsb_trace.proofs.Interface.{AgreeTo-sym, response_clock_of-stays, snoop_end_of-stays, snoop_end_of-before, end_of-stays}
 use Rattle.fsb_laws.specs.OneMore.{OneMore, responds}
 use Rattle.fsb_laws.specs.Orderly.{Spaced, Orderly}
 use Rattle.fsb_laws.specs.Progress.{SnoopsTo, response_count, may_answer_next}

@@ -3,21 +3,18 @@ use Rattle.std.proofs.Common.{ℕ, ◌+◌, ◌-◌, ◌<◌, ◌≤◌, ◌≡�
 use Rattle.std.proofs.lemmas.Option.{cond_some}
 use Rattle.std.proofs.lemmas.Bool.{cases_Bool, cases_lt, and_parts, and_right, both_ways, lt-ltb}
 use Rattle.fsb_count.specs.Options.{is_some_and, is_before, is_at}
-use Rattle.fsb_count.proofs.First.{first_where-found}
-use Rattle.fsb_count.proofs.Options.{is_before-none, is_before-more}
+use Rattle.fsb_count.proofs.Interface.{first_where-found, is_before-none, is_before-more}
 use Rattle.fsb_signal.specs.declared.lines.TheConstants.Lines.{ADS}
 use Rattle.fsb_signal.specs.declared.sample.Sample.{Sample}
 use Rattle.fsb_signal.specs.Samples.{line_at}
 use Rattle.fsb_trace.specs.At.{Trace, request_at}
 use Rattle.fsb_trace.specs.Requests.{is_cancelled, is_live, live_clock_of, live_number_of, is_reply}
 use Rattle.fsb_trace.specs.declared.outcome.Outcome.{Outcome}
-use Rattle.fsb_trace.specs.declared.outcome.Outcome.TheVariants.{Granted, Handed, Retried, Deferred, Written, Replied, Failed}
-use Rattle.fsb_trace.specs.Outcome.{response_clock_of, outcome_of, moves_data, is_deferred, does_move, is_deferral}
+use Rattle.fsb_trace.specs.declared.outcome.Outcome.TheVariants.{Granted, Handed, Retried, Deferred, Written, Replied, Failed, Upgraded}
+use Rattle.fsb_trace.specs.Outcome.{response_clock_of, live_response_of, outcome_of, moves_data, is_deferred, does_move, is_deferral}
 use Rattle.fsb_trace.specs.Response.{end_of}
 use Rattle.fsb_trace.specs.Flight.{is_live_reply_to, reply_clock_of, reply_number_of, reply_end_of, last_clock_of, is_finished, is_outstanding}
-use Rattle.fsb_trace.proofs.AgreeAt.{AgreeTo-sym}
-use Rattle.fsb_trace.proofs.Stay.{snoop_end_of-clock, response_clock_of-stays}
-use Rattle.fsb_trace.proofs.StayEnds.{end_of-response, end_of-still}
+use Rattle.fsb_trace.proofs.Interface.{AgreeTo-sym, snoop_end_of-clock, response_clock_of-stays, live_response_of-is, end_of-response, end_of-still}
 use Rattle.fsb_laws.specs.OneMore.{OneMore, cancels}
 use Rattle.fsb_laws.specs.Orderly.{Orderly}
 use Rattle.fsb_laws.specs.Progress.{response_count}
@@ -49,20 +46,21 @@ deferred_outcome w i (Some Deferred) e t = refl
 deferred_outcome w i (Some Written) e t = absurd (let no : ⊥ = cc in no)
 deferred_outcome w i (Some Replied) e t = absurd (let no : ⊥ = cc in no)
 deferred_outcome w i (Some Failed) e t = refl
+deferred_outcome w i (Some Upgraded) e t = absurd (let no : ⊥ = cc in no)
 
 pub deferred_still : (w : Trace) (i : ℕ) → is_deferred w i ≡ true → moves_data w i ≡ false
 unfolding is_deferred moves_data
 deferred_still w i t = deferred_outcome w i (outcome_of w i) refl t
 
-deferred_there : (w : Trace) (i : ℕ) (o : Option ℕ) → response_clock_of w i ≡ o → is_deferred w i ≡ true → (r : ℕ) × (response_clock_of w i ≡ Some r)
+deferred_there : (w : Trace) (i : ℕ) (o : Option ℕ) → live_response_of w i ≡ o → is_deferred w i ≡ true → (r : ℕ) × (live_response_of w i ≡ Some r)
 unfolding is_deferred outcome_of is_some_and
 deferred_there w i None e t = absurd (let f : false ≡ true = rw e at t in let no : ⊥ = cc in no)
 deferred_there w i (Some r) e t = (r, e)
 
 pub deferred_response : (w : Trace) (i : ℕ) → is_deferred w i ≡ true → (r : ℕ) × (response_clock_of w i ≡ Some r) × (end_of w i ≡ Some r)
 deferred_response w i t =
-    let p = deferred_there w i (response_clock_of w i) refl t in
-    (p.0, p.1, end_of-still w i (deferred_still w i t) ∙ p.1)
+    let p = deferred_there w i (live_response_of w i) refl t in
+    (p.0, live_response_of-is w i p.0 p.1, end_of-still w i (deferred_still w i t) ∙ p.1)
 
 -- an end lies six clocks after the first clock of its request at least
 pub end_after_clock : (w : Trace) (i e : ℕ) → Orderly w → end_of w i ≡ Some e → (q : ℕ) × (live_clock_of w i ≡ Some q) × (q + 6 ≤ e)

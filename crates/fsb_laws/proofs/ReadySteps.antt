@@ -4,15 +4,14 @@ use Rattle.std.specs.Option.{option_map, option_and_then}
 use Rattle.std.proofs.lemmas.Bool.{cases_Bool, cases_lt, and_parts, and_from, leb-true, le-leb, both_ways, lt-ltb}
 use Rattle.fsb_count.specs.Options.{is_some_and, is_before, greater_of}
 use Rattle.fsb_count.specs.Clocks.{AgreeBelow, first_where, from_clock}
-use Rattle.fsb_count.proofs.First.{first_where-found, first_where-same}
+use Rattle.fsb_count.proofs.Interface.{first_where-found, first_where-same}
 use Rattle.fsb_signal.specs.declared.lines.TheConstants.Lines.{TRDY}
 use Rattle.fsb_signal.specs.declared.sample.Sample.{Sample}
 use Rattle.fsb_signal.specs.Samples.{has_line, line_at}
 use Rattle.fsb_trace.specs.At.{Trace}
 use Rattle.fsb_trace.specs.Snoop.{snoop_end_of}
 use Rattle.fsb_trace.specs.Response.{end_of, is_clear_before, clock_after_snoop, ready_after, ready_clock_of}
-use Rattle.fsb_trace.proofs.AgreeAt.{AgreeTo-sym}
-use Rattle.fsb_trace.proofs.StayEnds.{end_of-response, ready_clock_of-stays}
+use Rattle.fsb_trace.proofs.Interface.{AgreeTo-sym, end_of-response, ready_clock_of-stays}
 use Rattle.fsb_laws.specs.OneMore.{OneMore, responds}
 use Rattle.fsb_laws.specs.Orderly.{Orderly}
 use Rattle.fsb_laws.specs.Progress.{SnoopsTo, response_count, transfer_of, may_answer_next}

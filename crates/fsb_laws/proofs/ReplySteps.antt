@@ -4,7 +4,7 @@ use Rattle.std.specs.Option.{option_and_then}
 use Rattle.std.proofs.lemmas.Bool.{cases_Bool, cases_lt, cases_eq, cases_order, eqb-true, and_parts, and_left, both_ways, le-ltb, false_from_ne_true}
 use Rattle.std.proofs.lemmas.Option.{slice_get_past}
 use Rattle.fsb_count.specs.Options.{is_some_and, is_before}
-use Rattle.fsb_count.proofs.First.{first_where-at, first_where-off, first_where-found, first_where-none}
+use Rattle.fsb_count.proofs.Interface.{first_where-at, first_where-off, first_where-found, first_where-none}
 use Rattle.fsb_signal.specs.declared.lines.TheConstants.Lines.{ADS}
 use Rattle.fsb_signal.specs.declared.sample.Sample.{Sample}
 use Rattle.fsb_signal.specs.Samples.{line_at}
@@ -15,8 +15,7 @@ use Rattle.fsb_trace.specs.At.{Trace, known_pair_at, request_at}
 use Rattle.fsb_trace.specs.Requests.{is_live, live_request_of, is_reply}
 use Rattle.fsb_trace.specs.Outcome.{response_clock_of}
 use Rattle.fsb_trace.specs.Flight.{is_reply_to, is_live_reply_to, reply_clock_of}
-use Rattle.fsb_trace.proofs.AgreeAt.{request_at-agree}
-use Rattle.fsb_trace.proofs.StayEnds.{live_request_of-stays}
+use Rattle.fsb_trace.proofs.Interface.{request_at-agree, live_request_of-stays}
 use Rattle.fsb_laws.specs.OneMore.{OneMore, cancels}
 use Rattle.fsb_laws.specs.Orderly.{Orderly}
 use Rattle.fsb_laws.specs.Progress.{response_count}

@@ -3,8 +3,7 @@ use Rattle.std.proofs.Common.{ℕ, ◌+◌, ◌<◌, ◌≤◌, ◌≡◌, true,
 use Rattle.std.proofs.lemmas.Bool.{cases_lt, and_parts, leb-true, le-leb}
 use Rattle.fsb_count.specs.Options.{is_some_and}
 use Rattle.fsb_count.specs.Clocks.{AgreeBelow, count_where}
-use Rattle.fsb_count.proofs.Count.{count_where-more, count_where-same}
-use Rattle.fsb_count.proofs.Nth.{nth_where-found, nth_where-at, nth_where-there, nth_where-past}
+use Rattle.fsb_count.proofs.Interface.{count_where-more, count_where-same, nth_where-found, nth_where-at, nth_where-there, nth_where-past}
 use Rattle.fsb_signal.specs.declared.sample.Sample.{Sample}
 use Rattle.fsb_signal.specs.declared.lines.TheConstants.Lines.{HITM}
 use Rattle.fsb_signal.specs.Samples.{response_of}
@@ -13,9 +12,7 @@ use Rattle.fsb_trace.specs.Snoop.{snoop_end_of}
 use Rattle.fsb_trace.specs.Outcome.{response_clock_of, outcome_of, told_by, moves_data, is_deferred, does_move, is_deferral}
 use Rattle.fsb_trace.specs.Response.{is_clear_before}
 use Rattle.fsb_trace.specs.Rules.{may_answer, next_response}
-use Rattle.fsb_trace.proofs.AgreeAt.{responds_at-agree}
-use Rattle.fsb_trace.proofs.Stay.{response_clock_of-stays}
-use Rattle.fsb_trace.proofs.StayEnds.{outcome_of-stays, line_at_snoop_end-stays, live_request_of-stays}
+use Rattle.fsb_trace.proofs.Interface.{responds_at-agree, response_clock_of-stays, snoop_end_of-stays, live_response_of-there, outcome_of-stays, line_at_snoop_end-stays, live_request_of-stays}
 use Rattle.fsb_laws.specs.OneMore.{OneMore, responds}
 use Rattle.fsb_laws.specs.Orderly.{Orderly}
 use Rattle.fsb_laws.specs.Progress.{SnoopsTo, response_count}
@@ -131,5 +128,8 @@ told_by-old h x v s i code m to l =
 pub outcome_of-new : (h : Trace) (x : Sample) (v : Trace) (s : ℕ) → OneMore h x v → SnoopsTo h s → response_count h < s → responds x ≡ true → outcome_of v (response_count h) ≡ Some (told_by h (response_count h) (response_of x))
 unfolding outcome_of
 outcome_of-new h x v s m to l t =
-    rw (response_clock_of-new h x v m t, response_code_at-new h x v m)
+    let i : ℕ = response_count h in
+    let p = to.reached i l in
+    let there = live_response_of-there v i p.0 (snoop_end_of-stays (length h) h v i p.0 m.agree p.2 p.1) in
+    rw (there ∙ response_clock_of-new h x v m t, response_code_at-new h x v m)
     (ap (λ k. Some k) (told_by-old h x v s (response_count h) (response_of x) m to l))

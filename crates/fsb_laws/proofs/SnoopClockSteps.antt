@@ -2,14 +2,12 @@
 use Rattle.std.proofs.Common.{ℕ, zero, suc, ◌+◌, ◌<◌, ◌≤◌, ◌≡◌, true, false, Option, Some, None, length, refl, sym, ap, ◌∙◌, arith, inl, inr, subst}
 use Rattle.std.proofs.lemmas.Bool.{cases_Bool, cases_lt, cases_order, and_right, lt-ltb, false_from_ne_true}
 use Rattle.fsb_count.specs.Options.{is_some_and, is_before}
-use Rattle.fsb_count.proofs.Any.{any_where-at, any_where-off}
-use Rattle.fsb_count.proofs.Options.{is_before-if}
+use Rattle.fsb_count.proofs.Interface.{any_where-at, any_where-off, is_before-if}
 use Rattle.fsb_signal.specs.declared.sample.Sample.{Sample}
 use Rattle.fsb_trace.specs.At.{Trace}
 use Rattle.fsb_trace.specs.Requests.{live_count}
 use Rattle.fsb_trace.specs.Snoop.{is_every_second_from, snoop_end_of, snoop_start_of, is_snoop_clock_of, is_snoop_clock}
-use Rattle.fsb_trace.proofs.Order.{snoop_start_of-after, snoop_clock-start}
-use Rattle.fsb_trace.proofs.LiveRequests.{live_below_count}
+use Rattle.fsb_trace.proofs.Interface.{snoop_start_of-after, snoop_clock-start, live_below_count}
 use Rattle.fsb_laws.specs.OneMore.{OneMore}
 use Rattle.fsb_laws.specs.Orderly.{Spaced}
 use Rattle.fsb_laws.specs.Progress.{SnoopsTo, is_snoop_due, ends_snoop_of}

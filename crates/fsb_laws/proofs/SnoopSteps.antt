@@ -4,14 +4,12 @@ use Rattle.std.specs.Option.{option_map}
 use Rattle.std.proofs.lemmas.Bool.{cases_lt, cases_eq, and_left, lt-leb}
 use Rattle.fsb_count.specs.Options.{is_some_and, greater_of}
 use Rattle.fsb_count.specs.Clocks.{AgreeBelow, first_where}
-use Rattle.fsb_count.proofs.First.{first_where-same}
+use Rattle.fsb_count.proofs.Interface.{first_where-same}
 use Rattle.fsb_signal.specs.declared.sample.Sample.{Sample}
 use Rattle.fsb_trace.specs.At.{Trace}
 use Rattle.fsb_trace.specs.Requests.{live_clock_of}
 use Rattle.fsb_trace.specs.Snoop.{is_every_second_from, ends_snoop, snoop_end_from, snoop_end_if, start_after_clock, start_after_end, snoop_end_of, snoop_start_of}
-use Rattle.fsb_trace.proofs.AgreeAt.{stalls_at-agree}
-use Rattle.fsb_trace.proofs.Stay.{snoop_end_of-stays, snoop_end_of-before, snoop_end_of-clock, snoop_end_from-found}
-use Rattle.fsb_trace.proofs.Order.{snoop_end_of-rises}
+use Rattle.fsb_trace.proofs.Interface.{stalls_at-agree, snoop_end_of-stays, snoop_end_of-before, snoop_end_of-clock, snoop_end_from-found, snoop_end_of-rises}
 use Rattle.fsb_laws.specs.OneMore.{OneMore, stalls}
 use Rattle.fsb_laws.specs.Orderly.{Spaced}
 use Rattle.fsb_laws.specs.Progress.{SnoopsTo, is_snoop_due, ends_snoop_of}

@@ -1,14 +1,14 @@
 -- Runs in which a condition of an event is needed: without it the event breaks a promise.
 use Rattle.std.proofs.Common.{true, false, [], ◌∷◌, ◌++◌, refl, arith}
 use Rattle.std.proofs.lemmas.Bool.Decides.{nat_tests}
-use Rattle.fsb_line.specs.Events.{May, after, arrived, effect, ended, given, linked, replied, responded, settled}
+use Rattle.fsb_line.specs.Events.{May, after, arrived, effect, oldest_ended, given, linked, replied, responded, settled}
 use Rattle.fsb_line.specs.Events.Event.{Begins, Ends, IsGranted, IsHanded, IsReplied, IsUpgraded, IsWritten, Responds, Stores}
 use Rattle.fsb_line.specs.Line.{put, trimmed}
-use Rattle.fsb_line.specs.Witness.{IsNeeded, as_it_is, awaited, byte, contest, deferred, owned, reader, rival, stores, taken}
-use Rattle.fsb_line.specs.declared.kind.Kind.TheVariants.{Own, Read, WriteBack}
+use Rattle.fsb_line.specs.Witness.{IsNeeded, as_it_is, awaited, byte, contest, deferred, owned, reader, rival, stores, taken_over}
+use Rattle.fsb_line.specs.declared.purpose.Purpose.TheVariants.{Own, Read, WriteBack}
 
 pub dirty_owner_gives : IsNeeded (owned ++ reader) (IsGranted 1 Read true) (Responds ∷ Ends as_it_is ∷ [])
-unfolding May after effect trimmed settled linked given put replied responded ended arrived
+unfolding May after effect trimmed settled linked given put replied responded oldest_ended arrived
 dirty_owner_gives = record {
   happens = (
     record { no_ask = refl; no_link = refl; no_deferral = λ d e. absurd (cc); suited = refl; newest = λ b k e. grind (arith, nat_tests); not_held_off = λ b n. refl },
@@ -38,7 +38,7 @@ dirty_owner_gives = record {
 }
 
 pub owner_without_bytes_gives : IsNeeded (awaited ++ reader) (IsGranted 1 Read true) (Responds ∷ Ends (stores 5) ∷ Responds ∷ [])
-unfolding May after effect trimmed settled linked given put replied responded ended arrived
+unfolding May after effect trimmed settled linked given put replied responded oldest_ended arrived
 owner_without_bytes_gives = record {
   happens = (
     record { no_ask = refl; no_link = refl; no_deferral = λ d e. absurd (cc); suited = refl; newest = λ b k e. grind (arith, nat_tests); not_held_off = λ b n. refl },
@@ -64,8 +64,8 @@ owner_without_bytes_gives = record {
   breaks = λ h. let e = h.bus (byte 0) refl in absurd (cc);
 }
 
-pub taken_line_unstored : IsNeeded taken (Stores 0 (stores 7)) []
-unfolding May after effect trimmed settled linked given put replied responded ended arrived
+pub taken_line_unstored : IsNeeded taken_over (Stores 0 (stores 7)) []
+unfolding May after effect trimmed settled linked given put replied responded oldest_ended arrived
 taken_line_unstored = record {
   happens = (
     record { no_ask = refl; no_link = refl; no_deferral = λ d e. absurd (cc); suited = refl; newest = λ b k e. grind (arith, nat_tests); not_held_off = λ b n. refl },
@@ -93,7 +93,7 @@ taken_line_unstored = record {
 }
 
 pub write_back_held_off : IsNeeded (owned ++ rival) (Begins 0 WriteBack 2) (IsHanded 1 Own 0 ∷ IsWritten 0 ∷ Responds ∷ [])
-unfolding May after effect trimmed settled linked given put replied responded ended arrived
+unfolding May after effect trimmed settled linked given put replied responded oldest_ended arrived
 write_back_held_off = record {
   happens = (
     record { no_ask = refl; no_link = refl; no_deferral = λ d e. absurd (cc); suited = refl; newest = λ b k e. grind (arith, nat_tests); not_held_off = λ b n. refl },
@@ -126,7 +126,7 @@ write_back_held_off = record {
 }
 
 pub pending_line_ungranted : IsNeeded deferred (IsGranted 1 Own false) (IsReplied ∷ [])
-unfolding May after effect trimmed settled linked given put replied responded ended arrived
+unfolding May after effect trimmed settled linked given put replied responded oldest_ended arrived
 pending_line_ungranted = record {
   happens = (
     record { no_ask = refl; no_link = refl; no_deferral = λ d e. absurd (cc); suited = refl; newest = λ b k e. grind (arith, nat_tests); not_held_off = λ b n. refl },
@@ -147,7 +147,7 @@ pending_line_ungranted = record {
 }
 
 pub lost_upgrade_unwon : IsNeeded contest (IsUpgraded 1) (Ends (stores 7) ∷ [])
-unfolding May after effect trimmed settled linked given put replied responded ended arrived
+unfolding May after effect trimmed settled linked given put replied responded oldest_ended arrived
 lost_upgrade_unwon = record {
   happens = (
     record { no_ask = refl; no_link = refl; no_deferral = λ d e. absurd (cc); suited = refl; newest = λ b k e. grind (arith, nat_tests); not_held_off = λ b n. refl },

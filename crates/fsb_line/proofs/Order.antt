@@ -4,14 +4,14 @@ use Rattle.std.proofs.lemmas.Bool.Decides.{nat_tests}
 use Rattle.fsb_line.specs.Coherence.{IsPending, Ordered}
 use Rattle.fsb_line.specs.Events.{MaySettle, effect, settled}
 use Rattle.fsb_line.specs.Events.Event.{IsRetried}
-use Rattle.fsb_line.specs.Line.{Line, put, trimmed}
+use Rattle.fsb_line.specs.Line.{MemoryLine, put, trimmed}
 use Rattle.fsb_line.specs.States.{asks_line}
-use Rattle.fsb_line.specs.declared.kind.Kind.{Kind}
+use Rattle.fsb_line.specs.declared.purpose.Purpose.{Purpose}
 use Rattle.fsb_line.proofs.LinkFacts.{}
 use Rattle.fsb_line.proofs.StateFacts.{modified_is_sole, snoop_held, snoop_not_sole, snoop_suits, snoop_unheld}
 
 -- the order of a line doesn't look at its bytes
-pub Ordered-trimmed : (x : Line) → Ordered x → Ordered (trimmed x)
+pub Ordered-trimmed : (x : MemoryLine) → Ordered x → Ordered (trimmed x)
 unfolding trimmed
 Ordered-trimmed x o = record {
   alone = o.alone;
@@ -34,7 +34,7 @@ Ordered-trimmed x o = record {
   no_late_upgrade = o.no_late_upgrade;
 }
 
-pub Ordered-IsRetried : (x : Line) (a : ℕ) (kind : Kind) → Ordered x → MaySettle x a kind × (asks_line kind ≡ true) → Ordered (effect x (IsRetried a kind))
+pub Ordered-IsRetried : (x : MemoryLine) (a : ℕ) (kind : Purpose) → Ordered x → MaySettle x a kind × (asks_line kind ≡ true) → Ordered (effect x (IsRetried a kind))
 unfolding effect settled put
 Ordered-IsRetried x a kind o m = record {
   alone = λ b h c n. grind (arith, nat_tests, o.alone b, m.0.clean, snoop_held, snoop_unheld, snoop_not_sole);

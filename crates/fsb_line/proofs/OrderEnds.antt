@@ -2,12 +2,12 @@
 use Rattle.std.proofs.Common.{◌≡◌, ◌==◌, ℕ, Bool, true, false, ◌||◌, Some, List, [], ◌∷◌, sym, ◌∙◌, ap, subst}
 use Rattle.fsb_line.specs.Coherence.{Ordered}
 use Rattle.fsb_line.specs.Events.{arrived, responded}
-use Rattle.fsb_line.specs.Line.{Bytes, Line}
+use Rattle.fsb_line.specs.Line.{Bytes, MemoryLine}
 use Rattle.fsb_line.specs.Links.{IsChained, has_late_upgrade, is_linked, is_overtaken, newest}
 use Rattle.fsb_line.specs.declared.link.Link.{Link}
 use Rattle.fsb_line.proofs.LinkFacts.{IsChained-tail, newest-tail}
 
-pub Ordered-Responds : (x : Line) (ls : List Link) → Ordered x → Ordered (responded x ls)
+pub Ordered-Responds : (x : MemoryLine) (ls : List Link) → Ordered x → Ordered (responded x ls)
 unfolding responded
 Ordered-Responds x [] o = o
 Ordered-Responds x (l ∷ ls) o = record {
@@ -35,7 +35,7 @@ or_false_right : (p q : Bool) → (p || q) ≡ false → q ≡ false
 or_false_right true q h = absurd (cc)
 or_false_right false q h = h
 
-pub Ordered-Ends : (x : Line) (l : Link) (ls : List Link) (change : Bytes → Bytes) (bytes : Bytes) → x.chain ≡ l ∷ ls → Ordered x → Ordered (arrived x l ls change bytes)
+pub Ordered-Ends : (x : MemoryLine) (l : Link) (ls : List Link) (change : Bytes → Bytes) (bytes : Bytes) → x.chain ≡ l ∷ ls → Ordered x → Ordered (arrived x l ls change bytes)
 unfolding arrived
 Ordered-Ends x l ls change bytes e o =
     let newest_before : (k : Link) → newest ls ≡ Some k → newest x.chain ≡ Some k = λ k h. ap newest e ∙ newest-tail l ls k h in

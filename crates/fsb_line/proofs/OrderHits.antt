@@ -4,22 +4,22 @@ use Rattle.std.proofs.lemmas.Bool.Decides.{nat_tests}
 use Rattle.fsb_line.specs.Coherence.{Ordered}
 use Rattle.fsb_line.specs.Events.{IsReady, MayBegin, effect}
 use Rattle.fsb_line.specs.Events.Event.{Begins, Drops, IsCancelled, Stores}
-use Rattle.fsb_line.specs.Line.{Bytes, Line, put}
+use Rattle.fsb_line.specs.Line.{Bytes, MemoryLine, put}
 use Rattle.fsb_line.specs.Links.{is_linked, newest}
 use Rattle.fsb_line.specs.States.{is_modified, is_sole}
-use Rattle.fsb_line.specs.declared.kind.Kind.{Kind}
+use Rattle.fsb_line.specs.declared.purpose.Purpose.{Purpose}
 use Rattle.fsb_line.proofs.LinkFacts.{newest_cases, newest_is_linked}
 use Rattle.fsb_line.proofs.StateFacts.{dropped_suits, sole_is_held, sole_suits}
 
 -- who has the line alone and awaits no link sees an empty chain: no store changes the bytes under a chain
-pub sole_unlinked : (x : Line) (a : ℕ) → Ordered x → is_sole (x.state a) ≡ true → is_linked a x.chain ≡ false → x.chain ≡ []
+pub sole_unlinked : (x : MemoryLine) (a : ℕ) → Ordered x → is_sole (x.state a) ≡ true → is_linked a x.chain ≡ false → x.chain ≡ []
 sole_unlinked x a o s u =
     elim (newest_cases x.chain) [
       | inl e ↦ e
       | inr p ↦ absurd (let e = o.sole_is_newest a p.0 s p.1 in let h = newest_is_linked x.chain p.0 p.1 in let g : is_linked a x.chain ≡ true = subst (λ b. is_linked b x.chain ≡ true) e h in cc)
     ]
 
-pub Ordered-Stores : (x : Line) (a : ℕ) (change : Bytes → Bytes) → Ordered x → IsReady x a × (is_sole (x.state a) ≡ true) → Ordered (effect x (Stores a change))
+pub Ordered-Stores : (x : MemoryLine) (a : ℕ) (change : Bytes → Bytes) → Ordered x → IsReady x a × (is_sole (x.state a) ≡ true) → Ordered (effect x (Stores a change))
 unfolding effect put
 Ordered-Stores x a change o m =
     let e0 : newest x.chain ≡ None = ap newest (sole_unlinked x a o m.1 m.0.no_link) in
@@ -37,7 +37,7 @@ Ordered-Stores x a change o m =
       no_late_upgrade = o.no_late_upgrade;
     }
 
-pub Ordered-Drops : (x : Line) (a : ℕ) → Ordered x → is_modified (x.state a) ≡ false → Ordered (effect x (Drops a))
+pub Ordered-Drops : (x : MemoryLine) (a : ℕ) → Ordered x → is_modified (x.state a) ≡ false → Ordered (effect x (Drops a))
 unfolding effect put
 Ordered-Drops x a o m = record {
   alone = λ b h c n. grind (arith, nat_tests, o.alone b);
@@ -60,7 +60,7 @@ Ordered-Drops x a o m = record {
   no_late_upgrade = o.no_late_upgrade;
 }
 
-pub Ordered-Begins : (x : Line) (a : ℕ) (kind : Kind) (number : ℕ) → Ordered x → MayBegin x a kind number → Ordered (effect x (Begins a kind number))
+pub Ordered-Begins : (x : MemoryLine) (a : ℕ) (kind : Purpose) (number : ℕ) → Ordered x → MayBegin x a kind number → Ordered (effect x (Begins a kind number))
 unfolding effect put
 Ordered-Begins x a kind number o m = record {
   alone = o.alone;
@@ -83,7 +83,7 @@ Ordered-Begins x a kind number o m = record {
   no_late_upgrade = o.no_late_upgrade;
 }
 
-pub Ordered-IsCancelled : (x : Line) (a : ℕ) → Ordered x → Ordered (effect x (IsCancelled a))
+pub Ordered-IsCancelled : (x : MemoryLine) (a : ℕ) → Ordered x → Ordered (effect x (IsCancelled a))
 unfolding effect put
 Ordered-IsCancelled x a o = record {
   alone = o.alone;

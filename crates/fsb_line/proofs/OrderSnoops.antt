@@ -5,18 +5,18 @@ use Rattle.std.proofs.lemmas.Bool.Decides.{nat_tests}
 use Rattle.fsb_line.specs.Coherence.{IsPending, Ordered}
 use Rattle.fsb_line.specs.Events.{IsOldest, MayGrant, MayHand, MayLose, MayUpgrade, NobodyElseModified, effect, given, linked, replied, settled}
 use Rattle.fsb_line.specs.Events.Event.{IsDeferred, IsGranted, IsHanded, IsLost, IsUpgraded, IsWritten}
-use Rattle.fsb_line.specs.Line.{Ask, Deferral, Line, put}
+use Rattle.fsb_line.specs.Line.{OpenRequest, Deferral, MemoryLine, put}
 use Rattle.fsb_line.specs.Links.{any_owns, giver_after, is_linked, newest, owns}
 use Rattle.fsb_line.specs.States.{asks_line, gets_line, is_held, is_modified, is_sole}
-use Rattle.fsb_line.specs.declared.kind.Kind.{Kind}
-use Rattle.fsb_line.specs.declared.kind.Kind.TheVariants.{Upgrade, WriteBack}
+use Rattle.fsb_line.specs.declared.purpose.Purpose.{Purpose}
+use Rattle.fsb_line.specs.declared.purpose.Purpose.TheVariants.{Upgrade, WriteBack}
 use Rattle.fsb_line.specs.declared.link.Link.{Link}
 use Rattle.fsb_line.proofs.LinkFacts.{IsChained-end, any_owns-unlinked, has_late_upgrade-end, is_linked-end, is_overtaken-end, newest-end, newest_is_linked}
 use Rattle.fsb_line.proofs.OrderHits.{sole_unlinked}
 use Rattle.fsb_line.proofs.StateFacts.{asker_not_sole, unheld_unmodified, gets_asks, gets_no_upgrade, gets_owns, granted_alone, granted_owns, granted_sole, modified_is_sole, modified_suits, same_agent, snoop_held, snoop_not_sole, snoop_suits, snoop_unheld, snoop_unowned, sole_is_held}
 
 -- where nobody else has the line Modified, the newest link owns nothing, for an agent that awaits no link
-pub newest_reads : (x : Line) (a : ℕ) (k : Link) → Ordered x → NobodyElseModified x a → is_linked a x.chain ≡ false → newest x.chain ≡ Some k → owns k ≡ false
+pub newest_reads : (x : MemoryLine) (a : ℕ) (k : Link) → Ordered x → NobodyElseModified x a → is_linked a x.chain ≡ false → newest x.chain ≡ Some k → owns k ≡ false
 newest_reads x a k o clean u e =
     false_from_ne_true (owns k) (λ h.
     let held = o.newest_owner k e h in
@@ -29,7 +29,7 @@ newest_reads x a k o clean u e =
 pub giver_after-reader : (k : Link) → owns k ≡ false → giver_after k ≡ None
 giver_after-reader k h = rw h
 
-pub Ordered-IsGranted : (x : Line) (a : ℕ) (kind : Kind) (shared : Bool) → Ordered x → MayGrant x a kind shared → Ordered (effect x (IsGranted a kind shared))
+pub Ordered-IsGranted : (x : MemoryLine) (a : ℕ) (kind : Purpose) (shared : Bool) → Ordered x → MayGrant x a kind shared → Ordered (effect x (IsGranted a kind shared))
 unfolding effect settled linked put
 Ordered-IsGranted x a kind shared o m =
     let asked = m.settles.oldest.asked in
@@ -51,7 +51,7 @@ Ordered-IsGranted x a kind shared o m =
       no_late_upgrade = rw has_late_upgrade-end (grind (arith, o.no_late_upgrade, gets_no_upgrade, and_right));
     }
 
-pub Ordered-IsUpgraded : (x : Line) (a : ℕ) → Ordered x → MayUpgrade x a → Ordered (effect x (IsUpgraded a))
+pub Ordered-IsUpgraded : (x : MemoryLine) (a : ℕ) → Ordered x → MayUpgrade x a → Ordered (effect x (IsUpgraded a))
 unfolding effect settled linked put
 Ordered-IsUpgraded x a o m =
     let asked = m.settles.oldest.asked in
@@ -75,14 +75,14 @@ Ordered-IsUpgraded x a o m =
     }
 
 -- whoever has the line Modified has no open request that is younger than another's: a write-back is older than every other
-owner_asks_nothing : (x : Line) (a : ℕ) (kind : Kind) (owner : ℕ) → Ordered x → MayHand x a kind owner → (k : Ask) → x.ask owner ≡ Some k → ⊥
+owner_asks_nothing : (x : MemoryLine) (a : ℕ) (kind : Purpose) (owner : ℕ) → Ordered x → MayHand x a kind owner → (k : OpenRequest) → x.ask owner ≡ Some k → ⊥
 owner_asks_nothing x a kind owner o m k e =
     let back : k.kind ≡ WriteBack = modified_suits k.kind (x.state owner) (o.suited owner k e) m.modified in
     let older = o.first owner a k _ e m.oldest.asked m.other back in
     let younger = m.oldest.oldest owner k e in
     absurd (omega arith)
 
-pub Ordered-IsHanded : (x : Line) (a : ℕ) (kind : Kind) (owner : ℕ) → Ordered x → MayHand x a kind owner → Ordered (effect x (IsHanded a kind owner))
+pub Ordered-IsHanded : (x : MemoryLine) (a : ℕ) (kind : Purpose) (owner : ℕ) → Ordered x → MayHand x a kind owner → Ordered (effect x (IsHanded a kind owner))
 unfolding effect settled linked given put
 Ordered-IsHanded x a kind owner o m =
     let u : is_linked a x.chain ≡ false = o.apart a _ m.oldest.asked in
@@ -106,7 +106,7 @@ Ordered-IsHanded x a kind owner o m =
     giver_after-owner : (k : Link) (owner : ℕ) → owns k ≡ true → k.agent ≡ owner → Some owner ≡ giver_after k
     giver_after-owner k owner h e = rw h (ap Some (sym e))
 
-pub Ordered-IsWritten : (x : Line) (a : ℕ) → Ordered x → IsOldest x a WriteBack → Ordered (effect x (IsWritten a))
+pub Ordered-IsWritten : (x : MemoryLine) (a : ℕ) → Ordered x → IsOldest x a WriteBack → Ordered (effect x (IsWritten a))
 unfolding effect settled linked given put
 Ordered-IsWritten x a o m =
     let u : is_linked a x.chain ≡ false = o.apart a _ m.asked in
@@ -130,7 +130,7 @@ Ordered-IsWritten x a o m =
       no_late_upgrade = rw has_late_upgrade-end (grind (arith, o.no_late_upgrade, and_right));
     }
 
-pub Ordered-IsLost : (x : Line) (a : ℕ) → Ordered x → MayLose x a → Ordered (effect x (IsLost a))
+pub Ordered-IsLost : (x : MemoryLine) (a : ℕ) → Ordered x → MayLose x a → Ordered (effect x (IsLost a))
 unfolding effect settled put
 Ordered-IsLost x a o m =
     let lost : is_held (x.state a) ≡ false = m.lost in
@@ -155,7 +155,7 @@ Ordered-IsLost x a o m =
       no_late_upgrade = o.no_late_upgrade;
     }
 
-pub Ordered-IsDeferred : (x : Line) (a : ℕ) (kind : Kind) (shared : Bool) → Ordered x → MayGrant x a kind shared → Ordered (effect x (IsDeferred a kind shared))
+pub Ordered-IsDeferred : (x : MemoryLine) (a : ℕ) (kind : Purpose) (shared : Bool) → Ordered x → MayGrant x a kind shared → Ordered (effect x (IsDeferred a kind shared))
 unfolding effect settled put
 Ordered-IsDeferred x a kind shared o m =
     let asked = m.settles.oldest.asked in
@@ -186,7 +186,7 @@ Ordered-IsDeferred x a kind shared o m =
       no_late_upgrade = o.no_late_upgrade;
     }
 
-pub Ordered-IsReplied : (x : Line) (od : Option Deferral) → x.deferral ≡ od → is_some od ≡ true → Ordered x → Ordered (replied x od)
+pub Ordered-IsReplied : (x : MemoryLine) (od : Option Deferral) → x.deferral ≡ od → is_some od ≡ true → Ordered x → Ordered (replied x od)
 unfolding replied settled linked put
 Ordered-IsReplied x None e h o = o
 Ordered-IsReplied x (Some d) e h o =

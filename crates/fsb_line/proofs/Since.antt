@@ -4,14 +4,14 @@ use Rattle.std.proofs.Math.Bool.{and-true}
 use Rattle.std.proofs.lemmas.Bool.{false_from_ne_true}
 use Rattle.std.proofs.lemmas.Bool.Decides.{nat_tests}
 use Rattle.fsb_line.specs.Coherence.{IsPending, Ordered}
-use Rattle.fsb_line.specs.Events.{Event, May, after, arrived, effect, ended, given, linked, replied, responded, settled}
+use Rattle.fsb_line.specs.Events.{Event, May, after, arrived, effect, oldest_ended, given, linked, replied, responded, settled}
 use Rattle.fsb_line.specs.Events.Event.{Begins, Drops, Ends, IsCancelled, IsDeferred, IsGranted, IsHanded, IsLost, IsReplied, IsRetried, IsUpgraded, IsWritten, Loads, Responds, Stores}
 use Rattle.fsb_line.specs.History.{any_event, gained_and_kept, is_alone_since, ends_alone, is_dirtied, is_dirty_since, is_grant, is_grant_alone, is_held_since, is_loss, replies_alone_to, replies_owned_to, replies_to, state_by}
-use Rattle.fsb_line.specs.Line.{Bytes, Deferral, Line, put, trimmed, unheld}
+use Rattle.fsb_line.specs.Line.{Bytes, Deferral, MemoryLine, put, trimmed, unheld}
 use Rattle.fsb_line.specs.Runs.{MayRun, run}
 use Rattle.fsb_line.specs.States.{after_snoop, asks_line, granted, is_held, is_modified, is_sole, kind_owns}
-use Rattle.fsb_line.specs.declared.kind.Kind.{Kind}
-use Rattle.fsb_line.specs.declared.kind.Kind.TheVariants.{Own, Read, Upgrade, WriteBack}
+use Rattle.fsb_line.specs.declared.purpose.Purpose.{Purpose}
+use Rattle.fsb_line.specs.declared.purpose.Purpose.TheVariants.{Own, Read, Upgrade, WriteBack}
 use Rattle.fsb_line.specs.declared.link.Link.{Link}
 use Rattle.fsb_line.specs.declared.state.Mesi.{Mesi}
 use Rattle.fsb_line.specs.declared.state.Mesi.TheVariants.{Exclusive, Invalid, Modified, Shared}
@@ -19,9 +19,9 @@ use Rattle.fsb_line.proofs.StateFacts.{asker_not_sole, gets_asks, granted_owns, 
 use Rattle.fsb_line.proofs.Theorem.{ordered_after, ordered_unheld}
 
 -- a test that is gained and lost event by event is gained and kept over a run
-kept_run : (p : Line → Bool) (gain loss : Line → Event → Bool)
-    → ((x : Line) (e : Event) → Ordered x → May x e → p (after x e) ≡ (gain x e || (p x && not (loss x e))))
-    → (x : Line) (es : List Event) → Ordered x → MayRun x es
+kept_run : (p : MemoryLine → Bool) (gain loss : MemoryLine → Event → Bool)
+    → ((x : MemoryLine) (e : Event) → Ordered x → May x e → p (after x e) ≡ (gain x e || (p x && not (loss x e))))
+    → (x : MemoryLine) (es : List Event) → Ordered x → MayRun x es
     → p (run x es) ≡ (gained_and_kept gain loss x es || (p x && not (any_event loss x es)))
 kept_run p gain loss step x [] o m = sym (and-true (p x))
 kept_run p gain loss step x (e ∷ es) o m =
@@ -41,7 +41,7 @@ kept_run p gain loss step x (e ∷ es) o m =
     more false false true false false = refl
     more false false false l a = refl
 
-snoop_keeps : (s : Mesi) (k : Kind) → asks_line k ≡ true → is_held (after_snoop s k) ≡ (is_held s && not (kind_owns k))
+snoop_keeps : (s : Mesi) (k : Purpose) → asks_line k ≡ true → is_held (after_snoop s k) ≡ (is_held s && not (kind_owns k))
 snoop_keeps Invalid Read h = refl
 snoop_keeps Shared Read h = refl
 snoop_keeps Exclusive Read h = refl
@@ -56,7 +56,7 @@ snoop_keeps Exclusive Upgrade h = refl
 snoop_keeps Modified Upgrade h = refl
 snoop_keeps s WriteBack h = absurd (cc)
 
-granted_held : (k : Kind) (shared : Bool) → asks_line k ≡ true → is_held (granted k shared) ≡ true
+granted_held : (k : Purpose) (shared : Bool) → asks_line k ≡ true → is_held (granted k shared) ≡ true
 granted_held Read true h = refl
 granted_held Read false h = refl
 granted_held Own shared h = refl
@@ -69,49 +69,49 @@ unheld_not_sole s h = false_from_ne_true (is_sole s) (λ g. let f = sole_is_held
 not_sole_unmodified : (s : Mesi) → is_sole s ≡ false → is_modified s ≡ false
 not_sole_unmodified s h = false_from_ne_true (is_modified s) (λ g. let f = modified_is_sole s g in cc)
 
-granted_sole_is : (k : Kind) (shared : Bool) → asks_line k ≡ true → is_sole (granted k shared) ≡ (kind_owns k || not shared)
+granted_sole_is : (k : Purpose) (shared : Bool) → asks_line k ≡ true → is_sole (granted k shared) ≡ (kind_owns k || not shared)
 granted_sole_is Read true h = refl
 granted_sole_is Read false h = refl
 granted_sole_is Own shared h = refl
 granted_sole_is Upgrade shared h = refl
 granted_sole_is WriteBack shared h = absurd (cc)
 
-responded-state : (x : Line) (ls : List Link) → (responded x ls).state ≡ x.state
+responded-state : (x : MemoryLine) (ls : List Link) → (responded x ls).state ≡ x.state
 unfolding responded
 responded-state x [] = refl
 responded-state x (l ∷ ls) = refl
 
-ended-state : (x : Line) (ls : List Link) (change : Bytes → Bytes) → (ended x ls change).state ≡ x.state
-unfolding ended arrived
-ended-state x [] change = refl
-ended-state x (l ∷ ls) change = refl
+oldest_ended-state : (x : MemoryLine) (ls : List Link) (change : Bytes → Bytes) → (oldest_ended x ls change).state ≡ x.state
+unfolding oldest_ended arrived
+oldest_ended-state x [] change = refl
+oldest_ended-state x (l ∷ ls) change = refl
 
-after-state : (x : Line) (e : Event) → (after x e).state ≡ (effect x e).state
+after-state : (x : MemoryLine) (e : Event) → (after x e).state ≡ (effect x e).state
 unfolding after trimmed
 after-state x e = refl
 
-replied_held : (a : ℕ) (x : Line) (od : Option Deferral) → x.deferral ≡ od → Ordered x → is_held ((replied x od).state a) ≡ (replies_to od a || (is_held (x.state a) && not false))
+replied_held : (a : ℕ) (x : MemoryLine) (od : Option Deferral) → x.deferral ≡ od → Ordered x → is_held ((replied x od).state a) ≡ (replies_to od a || (is_held (x.state a) && not false))
 unfolding replied settled linked
 replied_held a x None e o = sym (and-true (is_held (x.state a)))
 replied_held a x (Some d) e o =
     let p : IsPending x d = o.pending d e in
     grind (arith, nat_tests, granted_held d.kind d.shared (gets_asks d.kind p.gets))
 
-replied_sole : (a : ℕ) (x : Line) (od : Option Deferral) → x.deferral ≡ od → Ordered x → is_sole ((replied x od).state a) ≡ (replies_alone_to od a || (is_sole (x.state a) && not false))
+replied_sole : (a : ℕ) (x : MemoryLine) (od : Option Deferral) → x.deferral ≡ od → Ordered x → is_sole ((replied x od).state a) ≡ (replies_alone_to od a || (is_sole (x.state a) && not false))
 unfolding replied settled linked
 replied_sole a x None e o = sym (and-true (is_sole (x.state a)))
 replied_sole a x (Some d) e o =
     let p : IsPending x d = o.pending d e in
     grind (arith, nat_tests, granted_sole_is d.kind d.shared (gets_asks d.kind p.gets), p.nobody_sole a)
 
-replied_modified : (a : ℕ) (x : Line) (od : Option Deferral) → x.deferral ≡ od → Ordered x → is_modified ((replied x od).state a) ≡ (replies_owned_to od a || (is_modified (x.state a) && not false))
+replied_modified : (a : ℕ) (x : MemoryLine) (od : Option Deferral) → x.deferral ≡ od → Ordered x → is_modified ((replied x od).state a) ≡ (replies_owned_to od a || (is_modified (x.state a) && not false))
 unfolding replied settled linked
 replied_modified a x None e o = sym (and-true (is_modified (x.state a)))
 replied_modified a x (Some d) e o =
     let p : IsPending x d = o.pending d e in
     grind (arith, nat_tests, granted_owns d.kind d.shared, not_sole_unmodified (x.state a) (p.nobody_sole a))
 
-held_step : (a : ℕ) (x : Line) (e : Event) → Ordered x → May x e → is_held ((effect x e).state a) ≡ (is_grant a x e || (is_held (x.state a) && not (is_loss a x e)))
+held_step : (a : ℕ) (x : MemoryLine) (e : Event) → Ordered x → May x e → is_held ((effect x e).state a) ≡ (is_grant a x e || (is_held (x.state a) && not (is_loss a x e)))
 unfolding May effect is_grant is_loss settled linked given put
 held_step a x (Loads b) o m = sym (and-true (is_held (x.state a)))
 held_step a x (Stores b change) o m = grind (arith, nat_tests, m.0.held)
@@ -127,9 +127,9 @@ held_step a x (IsRetried b kind) o m = grind (arith, nat_tests, snoop_keeps (x.s
 held_step a x (IsDeferred b kind shared) o m = grind (arith, nat_tests, snoop_keeps (x.state a) kind (gets_asks kind m.gets))
 held_step a x IsReplied o m = replied_held a x x.deferral refl o
 held_step a x Responds o m = rw (responded-state x x.chain) (sym (and-true (is_held (x.state a))))
-held_step a x (Ends change) o m = rw (ended-state x x.chain change) (sym (and-true (is_held (x.state a))))
+held_step a x (Ends change) o m = rw (oldest_ended-state x x.chain change) (sym (and-true (is_held (x.state a))))
 
-sole_step : (a : ℕ) (x : Line) (e : Event) → Ordered x → May x e → is_sole ((effect x e).state a) ≡ (is_grant_alone a x e || (is_sole (x.state a) && not (ends_alone a x e)))
+sole_step : (a : ℕ) (x : MemoryLine) (e : Event) → Ordered x → May x e → is_sole ((effect x e).state a) ≡ (is_grant_alone a x e || (is_sole (x.state a) && not (ends_alone a x e)))
 unfolding May effect is_grant_alone ends_alone settled linked given put
 sole_step a x (Loads b) o m = sym (and-true (is_sole (x.state a)))
 sole_step a x (Stores b change) o m = grind (arith, nat_tests, m.1)
@@ -152,9 +152,9 @@ sole_step a x (IsRetried b kind) o m = grind (arith, nat_tests, snoop_not_sole (
 sole_step a x (IsDeferred b kind shared) o m = grind (arith, nat_tests, snoop_not_sole (x.state a) kind (gets_asks kind m.gets))
 sole_step a x IsReplied o m = replied_sole a x x.deferral refl o
 sole_step a x Responds o m = rw (responded-state x x.chain) (sym (and-true (is_sole (x.state a))))
-sole_step a x (Ends change) o m = rw (ended-state x x.chain change) (sym (and-true (is_sole (x.state a))))
+sole_step a x (Ends change) o m = rw (oldest_ended-state x x.chain change) (sym (and-true (is_sole (x.state a))))
 
-modified_step : (a : ℕ) (x : Line) (e : Event) → Ordered x → May x e → is_modified ((effect x e).state a) ≡ (is_dirtied a x e || (is_modified (x.state a) && not (ends_alone a x e)))
+modified_step : (a : ℕ) (x : MemoryLine) (e : Event) → Ordered x → May x e → is_modified ((effect x e).state a) ≡ (is_dirtied a x e || (is_modified (x.state a) && not (ends_alone a x e)))
 unfolding May effect is_dirtied ends_alone settled linked given put
 modified_step a x (Loads b) o m = sym (and-true (is_modified (x.state a)))
 modified_step a x (Stores b change) o m = grind (arith, nat_tests, m.1)
@@ -183,7 +183,7 @@ modified_step a x (IsDeferred b kind shared) o m =
     grind (arith, nat_tests, other)
 modified_step a x IsReplied o m = replied_modified a x x.deferral refl o
 modified_step a x Responds o m = rw (responded-state x x.chain) (sym (and-true (is_modified (x.state a))))
-modified_step a x (Ends change) o m = rw (ended-state x x.chain change) (sym (and-true (is_modified (x.state a))))
+modified_step a x (Ends change) o m = rw (oldest_ended-state x x.chain change) (sym (and-true (is_modified (x.state a))))
 
 -- a state is told by whether the line is held, alone and dirty
 state_by-tests : (s : Mesi) → s ≡ state_by (is_held s) (is_sole s) (is_modified s)
@@ -196,16 +196,16 @@ or_false : (b c : Bool) → (b || (false && c)) ≡ b
 or_false true c = refl
 or_false false c = refl
 
-since_run : (p : Mesi → Bool) (gain loss : ℕ → Line → Event → Bool) (a : ℕ) (bytes : Bytes) (es : List Event)
+since_run : (p : Mesi → Bool) (gain loss : ℕ → MemoryLine → Event → Bool) (a : ℕ) (bytes : Bytes) (es : List Event)
     → p Invalid ≡ false
-    → ((x : Line) (e : Event) → Ordered x → May x e → p ((effect x e).state a) ≡ (gain a x e || (p (x.state a) && not (loss a x e))))
+    → ((x : MemoryLine) (e : Event) → Ordered x → May x e → p ((effect x e).state a) ≡ (gain a x e || (p (x.state a) && not (loss a x e))))
     → MayRun (unheld bytes) es
     → p ((run (unheld bytes) es).state a) ≡ gained_and_kept (gain a) (loss a) (unheld bytes) es
 since_run p gain loss a bytes es none step m =
     kept_run (λ x. p (x.state a)) (gain a) (loss a) (λ x e o h. trimmed_step x e o h) (unheld bytes) es (ordered_unheld bytes) m
     ∙ (rw none (or_false (gained_and_kept (gain a) (loss a) (unheld bytes) es) (not (any_event (loss a) (unheld bytes) es))))
   where
-    trimmed_step : (x : Line) (e : Event) → Ordered x → May x e → p ((after x e).state a) ≡ (gain a x e || (p (x.state a) && not (loss a x e)))
+    trimmed_step : (x : MemoryLine) (e : Event) → Ordered x → May x e → p ((after x e).state a) ≡ (gain a x e || (p (x.state a) && not (loss a x e)))
     trimmed_step x e o h = rw (after-state x e) (step x e o h)
 
 -- an agent holds the line since a grant with no loss after it

@@ -1,16 +1,16 @@
 -- Every event that may happen keeps the order and the bytes of a line, and meets what it owes.
 use Rattle.std.proofs.Common.{◌≡◌, ℕ, Bool, true, false, cond, Option, Some, None, is_some, List, [], ◌∷◌, refl, ◌∙◌, ap, unwrap_or}
 use Rattle.fsb_line.specs.Coherence.{EndsOldest, IsCoherent, MovesNow, Ordered, Owes, Valued}
-use Rattle.fsb_line.specs.Events.{AwaitsResponse, Event, HasArrived, IsDecidedEnd, May, after, arrived, effect, ended, given, linked, replied, responded, settled, stored, stored_at_end}
+use Rattle.fsb_line.specs.Events.{AwaitsResponse, Event, HasArrived, IsDecidedEnd, May, after, arrived, effect, oldest_ended, given, linked, replied, responded, settled, stored, stored_at_end}
 use Rattle.fsb_line.specs.Events.Event.{Begins, Drops, Ends, IsCancelled, IsDeferred, IsGranted, IsHanded, IsLost, IsReplied, IsRetried, IsUpgraded, IsWritten, Loads, Responds, Stores}
-use Rattle.fsb_line.specs.Line.{Bytes, Deferral, Line, brought, has_copy, trimmed, unheld}
-use Rattle.fsb_line.specs.Runs.{MayRun, OwesAll, replay, run}
+use Rattle.fsb_line.specs.Line.{Bytes, Deferral, MemoryLine, brought, has_copy, trimmed, unheld}
+use Rattle.fsb_line.specs.Runs.{MayRun, OwesAll, stored_by_all, run}
 use Rattle.fsb_line.specs.States.{asks_line, gets_line, put_off, sent_back, served}
-use Rattle.fsb_line.specs.declared.kind.Kind.{Kind}
-use Rattle.fsb_line.specs.declared.kind.Kind.TheVariants.{Own, Read, Upgrade, WriteBack}
-use Rattle.fsb_line.specs.declared.kind.Settled.{Settled}
-use Rattle.fsb_line.specs.declared.kind.Settled.TheVariants.{Deferred, Granted, Retried, Written}
-use Rattle.fsb_line.specs.declared.kind.Turn.TheVariants.{Defer, Keep, Retry}
+use Rattle.fsb_line.specs.declared.purpose.Purpose.{Purpose}
+use Rattle.fsb_line.specs.declared.purpose.Purpose.TheVariants.{Own, Read, Upgrade, WriteBack}
+use Rattle.fsb_line.specs.declared.purpose.Settled.{Settled}
+use Rattle.fsb_line.specs.declared.purpose.Settled.TheVariants.{Deferred, Granted, Retried, Written}
+use Rattle.fsb_line.specs.declared.purpose.Ruling.TheVariants.{Defer, Keep, Retry}
 use Rattle.fsb_line.specs.declared.link.Link.{Link}
 use Rattle.fsb_line.proofs.Order.{Ordered-IsRetried, Ordered-trimmed}
 use Rattle.fsb_line.proofs.OrderEnds.{Ordered-Ends, Ordered-Responds}
@@ -22,24 +22,24 @@ use Rattle.fsb_line.proofs.ValueSnoops.{Valued-IsGranted, Valued-IsHanded, Value
 use Rattle.fsb_line.proofs.Values.{Valued-Begins, Valued-Drops, Valued-IsCancelled, Valued-IsDeferred, Valued-IsLost, Valued-IsRetried, Valued-Stores, Valued-trimmed, ready_has_copy}
 
 -- what the end of the oldest link brings
-brought_some : (x : Line) (l : Link) (ls : List Link) → x.chain ≡ l ∷ ls → Valued x → is_some (brought x l) ≡ true → brought x l ≡ Some x.now
+brought_some : (x : MemoryLine) (l : Link) (ls : List Link) → x.chain ≡ l ∷ ls → Valued x → is_some (brought x l) ≡ true → brought x l ≡ Some x.now
 brought_some x l ls e v h = one (brought x l) refl h
   where
     one : (b : Option Bytes) → brought x l ≡ b → is_some b ≡ true → brought x l ≡ Some x.now
     one None f g = absurd (cc)
     one (Some bytes) f g = f ∙ ap Some (brought_now x l ls bytes e v f)
 
-Ordered-ended : (x : Line) (ls : List Link) (change : Bytes → Bytes) → x.chain ≡ ls → Ordered x → Ordered (ended x ls change)
-unfolding ended
-Ordered-ended x [] change e o = o
-Ordered-ended x (l ∷ ls) change e o = Ordered-Ends x l ls change (unwrap_or (brought x l) []) e o
+Ordered-oldest_ended : (x : MemoryLine) (ls : List Link) (change : Bytes → Bytes) → x.chain ≡ ls → Ordered x → Ordered (oldest_ended x ls change)
+unfolding oldest_ended
+Ordered-oldest_ended x [] change e o = o
+Ordered-oldest_ended x (l ∷ ls) change e o = Ordered-Ends x l ls change (unwrap_or (brought x l) []) e o
 
-Valued-ended : (x : Line) (ls : List Link) (change : Bytes → Bytes) → x.chain ≡ ls → HasArrived x ls → Ordered x → Valued x → Valued (ended x ls change)
-unfolding ended
-Valued-ended x [] change e h o v = v
-Valued-ended x (l ∷ ls) change e h o v = Valued-Ends x l ls change (unwrap_or (brought x l) []) e (rw (brought_some x l ls e v h)) o v
+Valued-oldest_ended : (x : MemoryLine) (ls : List Link) (change : Bytes → Bytes) → x.chain ≡ ls → HasArrived x ls → Ordered x → Valued x → Valued (oldest_ended x ls change)
+unfolding oldest_ended
+Valued-oldest_ended x [] change e h o v = v
+Valued-oldest_ended x (l ∷ ls) change e h o v = Valued-Ends x l ls change (unwrap_or (brought x l) []) e (rw (brought_some x l ls e v h)) o v
 
-ordered_effect : (x : Line) (e : Event) → Ordered x → May x e → Ordered (effect x e)
+ordered_effect : (x : MemoryLine) (e : Event) → Ordered x → May x e → Ordered (effect x e)
 unfolding May
 ordered_effect x (Loads a) o m = unfold effect in o
 ordered_effect x (Stores a change) o m = Ordered-Stores x a change o m
@@ -55,9 +55,9 @@ ordered_effect x (IsRetried a kind) o m = Ordered-IsRetried x a kind o m
 ordered_effect x (IsDeferred a kind shared) o m = Ordered-IsDeferred x a kind shared o m
 ordered_effect x IsReplied o m = unfold effect in Ordered-IsReplied x x.deferral refl m o
 ordered_effect x Responds o m = unfold effect in Ordered-Responds x x.chain o
-ordered_effect x (Ends change) o m = unfold effect in Ordered-ended x x.chain change refl o
+ordered_effect x (Ends change) o m = unfold effect in Ordered-oldest_ended x x.chain change refl o
 
-valued_effect : (x : Line) (e : Event) → Ordered x → Valued x → May x e → Valued (effect x e)
+valued_effect : (x : MemoryLine) (e : Event) → Ordered x → Valued x → May x e → Valued (effect x e)
 unfolding May
 valued_effect x (Loads a) o v m = unfold effect in v
 valued_effect x (Stores a change) o v m = Valued-Stores x a change o v m
@@ -73,23 +73,23 @@ valued_effect x (IsRetried a kind) o v m = Valued-IsRetried x a kind v m
 valued_effect x (IsDeferred a kind shared) o v m = Valued-IsDeferred x a kind shared v m
 valued_effect x IsReplied o v m = unfold effect in Valued-IsReplied x x.deferral refl m o v
 valued_effect x Responds o v m = unfold effect in Valued-Responds x x.chain refl v
-valued_effect x (Ends change) o v m = unfold effect in Valued-ended x x.chain change refl m o v
+valued_effect x (Ends change) o v m = unfold effect in Valued-oldest_ended x x.chain change refl m o v
 
 -- every event that may happen keeps the order of a line
-pub ordered_after : (x : Line) (e : Event) → Ordered x → May x e → Ordered (after x e)
+pub ordered_after : (x : MemoryLine) (e : Event) → Ordered x → May x e → Ordered (after x e)
 unfolding after
 ordered_after x e o m = Ordered-trimmed (effect x e) (ordered_effect x e o m)
 
 -- and the bytes
-pub valued_after : (x : Line) (e : Event) → Ordered x → Valued x → May x e → Valued (after x e)
+pub valued_after : (x : MemoryLine) (e : Event) → Ordered x → Valued x → May x e → Valued (after x e)
 unfolding after
 valued_after x e o v m = Valued-trimmed (effect x e) (valued_effect x e o v m)
 
-responds_now : (x : Line) (ls : List Link) → x.chain ≡ ls → Valued x → AwaitsResponse x ls → MovesNow x ls
+responds_now : (x : MemoryLine) (ls : List Link) → x.chain ≡ ls → Valued x → AwaitsResponse x ls → MovesNow x ls
 responds_now x [] e v h = h
 responds_now x (l ∷ ls) e v h = v.oldest l ls e
 
-ends_now : (x : Line) (ls : List Link) → x.chain ≡ ls → HasArrived x ls → Ordered x → Valued x → EndsOldest x ls
+ends_now : (x : MemoryLine) (ls : List Link) → x.chain ≡ ls → HasArrived x ls → Ordered x → Valued x → EndsOldest x ls
 ends_now x [] e h o v = h
 ends_now x (l ∷ ls) e h o v = record {
   value = brought_some x l ls e v h;
@@ -97,7 +97,7 @@ ends_now x (l ∷ ls) e h o v = record {
 }
 
 -- every event meets what it owes
-pub owes_met : (x : Line) (e : Event) → Ordered x → Valued x → May x e → Owes x e
+pub owes_met : (x : MemoryLine) (e : Event) → Ordered x → Valued x → May x e → Owes x e
 unfolding May Owes
 owes_met x (Loads a) o v m = record { value = v.copies a (ready_has_copy x a m.held m.no_link) }
 owes_met x (Stores a change) o v m = record { value = v.copies a (ready_has_copy x a m.0.held m.0.no_link); alone = o.alone a m.1 }
@@ -140,19 +140,19 @@ valued_unheld bytes = record {
   quiet = λ e. refl;
 }
 
-pub ordered_run : (x : Line) (es : List Event) → Ordered x → MayRun x es → Ordered (run x es)
+pub ordered_run : (x : MemoryLine) (es : List Event) → Ordered x → MayRun x es → Ordered (run x es)
 ordered_run x [] o m = o
 ordered_run x (e ∷ es) o m = ordered_run (after x e) es (ordered_after x e o m.0) m.1
 
-pub valued_run : (x : Line) (es : List Event) → Ordered x → Valued x → MayRun x es → Valued (run x es)
+pub valued_run : (x : MemoryLine) (es : List Event) → Ordered x → Valued x → MayRun x es → Valued (run x es)
 valued_run x [] o v m = v
 valued_run x (e ∷ es) o v m = valued_run (after x e) es (ordered_after x e o m.0) (valued_after x e o v m.0) m.1
 
-pub owes_run : (x : Line) (es : List Event) → Ordered x → Valued x → MayRun x es → OwesAll x es
+pub owes_run : (x : MemoryLine) (es : List Event) → Ordered x → Valued x → MayRun x es → OwesAll x es
 owes_run x [] o v m = tt
 owes_run x (e ∷ es) o v m = (owes_met x e o v m.0, owes_run (after x e) es (ordered_after x e o m.0) (valued_after x e o v m.0) m.1)
 
-pub coherent : (x : Line) → Ordered x → Valued x → IsCoherent x
+pub coherent : (x : MemoryLine) → Ordered x → Valued x → IsCoherent x
 coherent x o v = record {
   one_writer = o.alone;
   ready_copies = λ a r. v.copies a (ready_has_copy x a r.held r.no_link);
@@ -172,22 +172,22 @@ coherent_from_unheld bytes es m =
     (ordered_run (unheld bytes) es (ordered_unheld bytes) m)
     (valued_run (unheld bytes) es (ordered_unheld bytes) (valued_unheld bytes) m)
 
-responded-now : (x : Line) (ls : List Link) → (responded x ls).now ≡ x.now
+responded-now : (x : MemoryLine) (ls : List Link) → (responded x ls).now ≡ x.now
 unfolding responded
 responded-now x [] = refl
 responded-now x (l ∷ ls) = refl
 
-ended-now : (x : Line) (ls : List Link) (change : Bytes → Bytes) → (ended x ls change).now ≡ stored_at_end ls change x.now
-unfolding ended arrived
-ended-now x [] change = refl
-ended-now x (l ∷ ls) change = refl
+oldest_ended-now : (x : MemoryLine) (ls : List Link) (change : Bytes → Bytes) → (oldest_ended x ls change).now ≡ stored_at_end ls change x.now
+unfolding oldest_ended arrived
+oldest_ended-now x [] change = refl
+oldest_ended-now x (l ∷ ls) change = refl
 
-replied-now : (x : Line) (od : Option Deferral) → (replied x od).now ≡ x.now
+replied-now : (x : MemoryLine) (od : Option Deferral) → (replied x od).now ≡ x.now
 unfolding replied settled linked
 replied-now x None = refl
 replied-now x (Some d) = refl
 
-after-now : (x : Line) (e : Event) → (after x e).now ≡ stored x e x.now
+after-now : (x : MemoryLine) (e : Event) → (after x e).now ≡ stored x e x.now
 unfolding after trimmed effect stored settled linked given
 after-now x (Loads a) = refl
 after-now x (Stores a change) = refl
@@ -203,31 +203,31 @@ after-now x (IsRetried a kind) = refl
 after-now x (IsDeferred a kind shared) = refl
 after-now x IsReplied = replied-now x x.deferral
 after-now x Responds = responded-now x x.chain
-after-now x (Ends change) = ended-now x x.chain change
+after-now x (Ends change) = oldest_ended-now x x.chain change
 
 -- the line in the one flat memory is what the stores make of it
-pub run-now : (x : Line) (es : List Event) → (run x es).now ≡ replay x es x.now
+pub run-now : (x : MemoryLine) (es : List Event) → (run x es).now ≡ stored_by_all x es x.now
 run-now x [] = refl
-run-now x (e ∷ es) = run-now (after x e) es ∙ ap (replay (after x e) es) (after-now x e)
+run-now x (e ∷ es) = run-now (after x e) es ∙ ap (stored_by_all (after x e) es) (after-now x e)
 
 -- an agent that has no bytes has none
-pub after-copy : (x : Line) (e : Event) (a : ℕ) → has_copy (after x e) a ≡ false → (after x e).copy a ≡ []
+pub after-copy : (x : MemoryLine) (e : Event) (a : ℕ) → has_copy (after x e) a ≡ false → (after x e).copy a ≡ []
 unfolding after trimmed
 after-copy x e a h = rw h
 
-sent_back_asker : (k : Kind) → asks_line k ≡ true → sent_back k ≡ Retried
+sent_back_asker : (k : Purpose) → asks_line k ≡ true → sent_back k ≡ Retried
 sent_back_asker Read h = refl
 sent_back_asker Own h = refl
 sent_back_asker Upgrade h = refl
 sent_back_asker WriteBack h = absurd (cc)
 
-put_off_getter : (k : Kind) → gets_line k ≡ true → put_off k ≡ Deferred
+put_off_getter : (k : Purpose) → gets_line k ≡ true → put_off k ≡ Deferred
 put_off_getter Read h = refl
 put_off_getter Own h = refl
 put_off_getter Upgrade h = absurd (cc)
 put_off_getter WriteBack h = absurd (cc)
 
-served_getter : (k : Kind) → gets_line k ≡ true → served k ≡ Granted
+served_getter : (k : Purpose) → gets_line k ≡ true → served k ≡ Granted
 served_getter Read h = refl
 served_getter Own h = refl
 served_getter Upgrade h = absurd (cc)
@@ -238,7 +238,7 @@ cond_alike true s t h = refl
 cond_alike false s t h = h
 
 -- each snoop end comes out as the bus decides
-pub snoop_end_decided : (x : Line) (e : Event) → May x e → IsDecidedEnd x e
+pub snoop_end_decided : (x : MemoryLine) (e : Event) → May x e → IsDecidedEnd x e
 unfolding May IsDecidedEnd
 snoop_end_decided x (Loads a) m = tt
 snoop_end_decided x (Stores a change) m = tt

@@ -5,21 +5,21 @@ use Rattle.std.proofs.lemmas.Bool.Decides.{nat_tests}
 use Rattle.fsb_line.specs.Coherence.{IsPending, Ordered, Valued}
 use Rattle.fsb_line.specs.Events.{IsOldest, MayGrant, MayHand, MayUpgrade, effect, given, linked, replied, settled}
 use Rattle.fsb_line.specs.Events.Event.{IsGranted, IsHanded, IsUpgraded, IsWritten}
-use Rattle.fsb_line.specs.Line.{Deferral, Line, has_copy, source}
+use Rattle.fsb_line.specs.Line.{Deferral, MemoryLine, has_copy, source}
 use Rattle.fsb_line.specs.Links.{is_linked}
 use Rattle.fsb_line.specs.States.{asks_line, is_modified, is_sole}
-use Rattle.fsb_line.specs.declared.kind.Kind.{Kind}
-use Rattle.fsb_line.specs.declared.kind.Kind.TheVariants.{Upgrade, WriteBack}
+use Rattle.fsb_line.specs.declared.purpose.Purpose.{Purpose}
+use Rattle.fsb_line.specs.declared.purpose.Purpose.TheVariants.{Upgrade, WriteBack}
 use Rattle.fsb_line.specs.declared.link.Link.{Link}
 use Rattle.fsb_line.proofs.LinkFacts.{end_not_empty, end_oldest, has_won-end, is_linked-end, won_is_linked}
 use Rattle.fsb_line.proofs.OrderHits.{sole_unlinked}
 use Rattle.fsb_line.proofs.StateFacts.{asker_not_sole, gets_asks, gets_no_upgrade, modified_is_sole, snoop_held, sole_is_held}
 use Rattle.fsb_line.proofs.Values.{ready_has_copy}
 
-not_sole_unmodified : (x : Line) (a : ℕ) → is_sole (x.state a) ≡ false → is_modified (x.state a) ≡ false
+not_sole_unmodified : (x : MemoryLine) (a : ℕ) → is_sole (x.state a) ≡ false → is_modified (x.state a) ≡ false
 not_sole_unmodified x a h = false_from_ne_true (is_modified (x.state a)) (λ g. let f = modified_is_sole (x.state a) g in cc)
 
-pub Valued-IsGranted : (x : Line) (a : ℕ) (kind : Kind) (shared : Bool) → Ordered x → Valued x → MayGrant x a kind shared → Valued (effect x (IsGranted a kind shared))
+pub Valued-IsGranted : (x : MemoryLine) (a : ℕ) (kind : Purpose) (shared : Bool) → Ordered x → Valued x → MayGrant x a kind shared → Valued (effect x (IsGranted a kind shared))
 unfolding effect settled linked
 Valued-IsGranted x a kind shared o v m =
     let asked = m.settles.oldest.asked in
@@ -38,7 +38,7 @@ Valued-IsGranted x a kind shared o v m =
       quiet = λ f. absurd (end_not_empty x.chain l f);
     }
 
-pub Valued-IsUpgraded : (x : Line) (a : ℕ) → Ordered x → Valued x → MayUpgrade x a → Valued (effect x (IsUpgraded a))
+pub Valued-IsUpgraded : (x : MemoryLine) (a : ℕ) → Ordered x → Valued x → MayUpgrade x a → Valued (effect x (IsUpgraded a))
 unfolding effect settled linked
 Valued-IsUpgraded x a o v m =
     let asked = m.settles.oldest.asked in
@@ -58,7 +58,7 @@ Valued-IsUpgraded x a o v m =
     }
 
 -- the source of the oldest link after a new one is handed over: the owner has given, or what was given before stays
-oldest_given : (x : Line) (owner : ℕ) (l k : Link) (ks : List Link) → Ordered x → Valued x → is_sole (x.state owner) ≡ true → l.giver ≡ Some owner → x.chain ++ l ∷ [] ≡ k ∷ ks → source (given x owner) k ≡ Some x.now
+oldest_given : (x : MemoryLine) (owner : ℕ) (l k : Link) (ks : List Link) → Ordered x → Valued x → is_sole (x.state owner) ≡ true → l.giver ≡ Some owner → x.chain ++ l ∷ [] ≡ k ∷ ks → source (given x owner) k ≡ Some x.now
 unfolding given
 oldest_given x owner l k ks o v sole giver f =
     elim (end_oldest x.chain l k ks f) [
@@ -72,7 +72,7 @@ oldest_given x owner l k ks o v sole giver f =
           rw awaits (v.oldest k p.0 p.1)
     ]
 
-pub Valued-IsHanded : (x : Line) (a : ℕ) (kind : Kind) (owner : ℕ) → Ordered x → Valued x → MayHand x a kind owner → Valued (effect x (IsHanded a kind owner))
+pub Valued-IsHanded : (x : MemoryLine) (a : ℕ) (kind : Purpose) (owner : ℕ) → Ordered x → Valued x → MayHand x a kind owner → Valued (effect x (IsHanded a kind owner))
 unfolding effect settled linked given
 Valued-IsHanded x a kind owner o v m =
     let u : is_linked a x.chain ≡ false = o.apart a _ m.oldest.asked in
@@ -86,7 +86,7 @@ Valued-IsHanded x a kind owner o v m =
       quiet = λ f. absurd (end_not_empty x.chain l f);
     }
 
-pub Valued-IsWritten : (x : Line) (a : ℕ) → Ordered x → Valued x → IsOldest x a WriteBack → Valued (effect x (IsWritten a))
+pub Valued-IsWritten : (x : MemoryLine) (a : ℕ) → Ordered x → Valued x → IsOldest x a WriteBack → Valued (effect x (IsWritten a))
 unfolding effect settled linked given
 Valued-IsWritten x a o v m =
     let u : is_linked a x.chain ≡ false = o.apart a _ m.asked in
@@ -100,7 +100,7 @@ Valued-IsWritten x a o v m =
       quiet = λ f. absurd (end_not_empty x.chain l f);
     }
 
-pub Valued-IsReplied : (x : Line) (od : Option Deferral) → x.deferral ≡ od → is_some od ≡ true → Ordered x → Valued x → Valued (replied x od)
+pub Valued-IsReplied : (x : MemoryLine) (od : Option Deferral) → x.deferral ≡ od → is_some od ≡ true → Ordered x → Valued x → Valued (replied x od)
 unfolding replied settled linked
 Valued-IsReplied x None e h o v = v
 Valued-IsReplied x (Some d) e h o v =

@@ -1,13 +1,13 @@
 -- The worked runs may happen, and end as they should.
 use Rattle.std.proofs.Common.{◌≡◌, [], refl, length, arith}
 use Rattle.std.proofs.lemmas.Bool.Decides.{nat_tests}
-use Rattle.fsb_line.specs.Events.{May, after, arrived, effect, ended, given, linked, replied, responded, settled}
+use Rattle.fsb_line.specs.Events.{May, after, arrived, effect, oldest_ended, given, linked, replied, responded, settled}
 use Rattle.fsb_line.specs.Line.{put, trimmed, unheld}
 use Rattle.fsb_line.specs.Runs.{MayRun, run}
 use Rattle.fsb_line.specs.Witness.{byte, deferral, deliveries, lost_upgrade, promises, sharing, upgrade_race, write_back}
 
 pub promises_may_happen : MayRun (unheld (byte 0)) promises
-unfolding May after effect trimmed settled linked given put replied responded ended arrived
+unfolding May after effect trimmed settled linked given put replied responded oldest_ended arrived
 promises_may_happen = (
   record { no_ask = refl; no_link = refl; no_deferral = λ d e. absurd (cc); suited = refl; newest = λ b k e. absurd (cc); not_held_off = λ b n. refl },
   (
@@ -29,7 +29,7 @@ promises_may_happen = (
 )
 
 pub deliveries_may_happen : MayRun (run (unheld (byte 0)) promises) deliveries
-unfolding May after effect trimmed settled linked given put replied responded ended arrived
+unfolding May after effect trimmed settled linked given put replied responded oldest_ended arrived
 deliveries_may_happen = (
   (refl, refl),
   (
@@ -54,7 +54,7 @@ deliveries_may_happen = (
 )
 
 pub deferral_may_happen : MayRun (unheld (byte 0)) deferral
-unfolding May after effect trimmed settled linked given put replied responded ended arrived
+unfolding May after effect trimmed settled linked given put replied responded oldest_ended arrived
 deferral_may_happen = (
   record { no_ask = refl; no_link = refl; no_deferral = λ d e. absurd (cc); suited = refl; newest = λ b k e. grind (arith, nat_tests); not_held_off = λ b n. refl },
   (
@@ -94,7 +94,7 @@ deferral_may_happen = (
 )
 
 pub sharing_may_happen : MayRun (unheld (byte 0)) sharing
-unfolding May after effect trimmed settled linked given put replied responded ended arrived
+unfolding May after effect trimmed settled linked given put replied responded oldest_ended arrived
 sharing_may_happen = (
   record { no_ask = refl; no_link = refl; no_deferral = λ d e. absurd (cc); suited = refl; newest = λ b k e. grind (arith, nat_tests); not_held_off = λ b n. refl },
   (
@@ -122,7 +122,7 @@ sharing_may_happen = (
 )
 
 pub upgrade_race_may_happen : MayRun (run (unheld (byte 0)) sharing) upgrade_race
-unfolding May after effect trimmed settled linked given put replied responded ended arrived
+unfolding May after effect trimmed settled linked given put replied responded oldest_ended arrived
 upgrade_race_may_happen = (
   record { no_ask = refl; no_link = refl; no_deferral = λ d e. absurd (cc); suited = refl; newest = λ b k e. grind (arith, nat_tests); not_held_off = λ b n. refl },
   (
@@ -150,7 +150,7 @@ upgrade_race_may_happen = (
 )
 
 pub lost_upgrade_may_happen : MayRun (run (unheld (byte 0)) sharing) lost_upgrade
-unfolding May after effect trimmed settled linked given put replied responded ended arrived
+unfolding May after effect trimmed settled linked given put replied responded oldest_ended arrived
 lost_upgrade_may_happen = (
   record { no_ask = refl; no_link = refl; no_deferral = λ d e. absurd (cc); suited = refl; newest = λ b k e. grind (arith, nat_tests); not_held_off = λ b n. refl },
   (
@@ -181,7 +181,7 @@ lost_upgrade_may_happen = (
 )
 
 pub write_back_may_happen : MayRun (unheld (byte 0)) write_back
-unfolding May after effect trimmed settled linked given put replied responded ended arrived
+unfolding May after effect trimmed settled linked given put replied responded oldest_ended arrived
 write_back_may_happen = (
   record { no_ask = refl; no_link = refl; no_deferral = λ d e. absurd (cc); suited = refl; newest = λ b k e. grind (arith, nat_tests); not_held_off = λ b n. refl },
   (
@@ -236,31 +236,31 @@ write_back_may_happen = (
 )
 
 pub race_awaits : length (run (unheld (byte 0)) promises).chain ≡ 3
-unfolding after effect trimmed settled linked given put replied responded ended arrived
+unfolding after effect trimmed settled linked given put replied responded oldest_ended arrived
 race_awaits = refl
 
 pub race_ends : (run (run (unheld (byte 0)) promises) deliveries).chain ≡ []
-unfolding after effect trimmed settled linked given put replied responded ended arrived
+unfolding after effect trimmed settled linked given put replied responded oldest_ended arrived
 race_ends = refl
 
 pub race_is_read : (run (run (unheld (byte 0)) promises) deliveries).copy 2 ≡ byte 7
-unfolding after effect trimmed settled linked given put replied responded ended arrived
+unfolding after effect trimmed settled linked given put replied responded oldest_ended arrived
 race_is_read = refl
 
 pub deferral_is_read : (run (unheld (byte 0)) deferral).copy 1 ≡ byte 5
-unfolding after effect trimmed settled linked given put replied responded ended arrived
+unfolding after effect trimmed settled linked given put replied responded oldest_ended arrived
 deferral_is_read = refl
 
 pub upgrade_race_is_stored : (run (run (unheld (byte 0)) sharing) upgrade_race).copy 1 ≡ byte 7
-unfolding after effect trimmed settled linked given put replied responded ended arrived
+unfolding after effect trimmed settled linked given put replied responded oldest_ended arrived
 upgrade_race_is_stored = refl
 
 pub lost_upgrade_is_stored : (run (run (unheld (byte 0)) sharing) lost_upgrade).copy 1 ≡ byte 7
-unfolding after effect trimmed settled linked given put replied responded ended arrived
+unfolding after effect trimmed settled linked given put replied responded oldest_ended arrived
 lost_upgrade_is_stored = refl
 
 pub write_back_is_kept : (run (unheld (byte 0)) write_back).memory ≡ byte 7
-unfolding after effect trimmed settled linked given put replied responded ended arrived
+unfolding after effect trimmed settled linked given put replied responded oldest_ended arrived
 write_back_is_kept = refl
 
 -- what the laws cite

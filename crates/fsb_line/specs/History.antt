@@ -4,7 +4,7 @@ use Rattle.fsb_line.specs.declared.state.Mesi.{Mesi}
 use Rattle.fsb_line.specs.declared.state.Mesi.TheVariants.{Exclusive, Invalid, Modified, Shared}
 use Rattle.fsb_line.specs.Events.{Event, after}
 use Rattle.fsb_line.specs.Events.Event.{Drops, IsDeferred, IsGranted, IsHanded, IsLost, IsReplied, IsRetried, IsUpgraded, IsWritten, Stores}
-use Rattle.fsb_line.specs.Line.{Deferral, Line}
+use Rattle.fsb_line.specs.Line.{Deferral, MemoryLine}
 use Rattle.fsb_line.specs.States.{kind_owns}
 
 -- the reply gets the line for this agent
@@ -23,7 +23,7 @@ replies_owned_to None a = false
 replies_owned_to (Some d) a = (d.agent == a) && kind_owns d.kind
 
 -- the event grants the line to the agent
-unfoldable pub is_grant : ℕ → Line → Event → Bool
+unfoldable pub is_grant : ℕ → MemoryLine → Event → Bool
 is_grant a x (IsHanded b kind owner) = b == a
 is_grant a x (IsGranted b kind shared) = b == a
 is_grant a x (IsUpgraded b) = b == a
@@ -31,7 +31,7 @@ is_grant a x IsReplied = replies_to x.deferral a
 is_grant a x _ = false
 
 -- the agent loses the line: it drops it or writes it back, or the event is the snoop end of another agent's request to own it, whatever comes of that
-unfoldable pub is_loss : ℕ → Line → Event → Bool
+unfoldable pub is_loss : ℕ → MemoryLine → Event → Bool
 is_loss a x (Drops b) = b == a
 is_loss a x (IsWritten b) = b == a
 is_loss a x (IsHanded b kind owner) = not (b == a) && kind_owns kind
@@ -43,7 +43,7 @@ is_loss a x (IsDeferred b kind shared) = not (b == a) && kind_owns kind
 is_loss a x _ = false
 
 -- the event grants the line to the agent for itself: by a request to own it, or where nobody else was seen to hold it
-unfoldable pub is_grant_alone : ℕ → Line → Event → Bool
+unfoldable pub is_grant_alone : ℕ → MemoryLine → Event → Bool
 is_grant_alone a x (IsHanded b kind owner) = (b == a) && kind_owns kind
 is_grant_alone a x (IsGranted b kind shared) = (b == a) && (kind_owns kind || not shared)
 is_grant_alone a x (IsUpgraded b) = b == a
@@ -51,7 +51,7 @@ is_grant_alone a x IsReplied = replies_alone_to x.deferral a
 is_grant_alone a x _ = false
 
 -- the agent is no longer alone with the line: it drops it or writes it back, or the event is the snoop end of any request of another agent
-unfoldable pub ends_alone : ℕ → Line → Event → Bool
+unfoldable pub ends_alone : ℕ → MemoryLine → Event → Bool
 ends_alone a x (Drops b) = b == a
 ends_alone a x (IsWritten b) = true
 ends_alone a x (IsHanded b kind owner) = not (b == a)
@@ -63,7 +63,7 @@ ends_alone a x (IsDeferred b kind shared) = not (b == a)
 ends_alone a x _ = false
 
 -- the line becomes dirty at the agent: by a grant to own it, or by a store
-unfoldable pub is_dirtied : ℕ → Line → Event → Bool
+unfoldable pub is_dirtied : ℕ → MemoryLine → Event → Bool
 is_dirtied a x (Stores b change) = b == a
 is_dirtied a x (IsHanded b kind owner) = (b == a) && kind_owns kind
 is_dirtied a x (IsGranted b kind shared) = (b == a) && kind_owns kind
@@ -72,25 +72,25 @@ is_dirtied a x IsReplied = replies_owned_to x.deferral a
 is_dirtied a x _ = false
 
 -- one of the events passes the test in its turn
-abbrev pub any_event : (Line → Event → Bool) → Line → List Event → Bool
+abbrev pub any_event : (MemoryLine → Event → Bool) → MemoryLine → List Event → Bool
 any_event test x [] = false
 any_event test x (e ∷ es) = test x e || any_event test (after x e) es
 
 -- at one of the events something was gained, and at none after it was it lost
-abbrev pub gained_and_kept : (Line → Event → Bool) → (Line → Event → Bool) → Line → List Event → Bool
+abbrev pub gained_and_kept : (MemoryLine → Event → Bool) → (MemoryLine → Event → Bool) → MemoryLine → List Event → Bool
 gained_and_kept gain loss x [] = false
 gained_and_kept gain loss x (e ∷ es) = (gain x e && not (any_event loss (after x e) es)) || gained_and_kept gain loss (after x e) es
 
 -- held: since a grant, with no loss after it
-abbrev pub is_held_since : ℕ → Line → List Event → Bool
+abbrev pub is_held_since : ℕ → MemoryLine → List Event → Bool
 is_held_since a x es = gained_and_kept (is_grant a) (is_loss a) x es
 
 -- alone: since a grant for itself, with nothing after it that ends that
-abbrev pub is_alone_since : ℕ → Line → List Event → Bool
+abbrev pub is_alone_since : ℕ → MemoryLine → List Event → Bool
 is_alone_since a x es = gained_and_kept (is_grant_alone a) (ends_alone a) x es
 
 -- dirty: since a grant to own it or a store, with nothing after it that ends that
-abbrev pub is_dirty_since : ℕ → Line → List Event → Bool
+abbrev pub is_dirty_since : ℕ → MemoryLine → List Event → Bool
 is_dirty_since a x es = gained_and_kept (is_dirtied a) (ends_alone a) x es
 
 -- the state that these three make

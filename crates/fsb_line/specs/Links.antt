@@ -1,7 +1,7 @@
 -- Links of a chain, and the questions to them.
 use Rattle.std.specs.Prelude.{◌≡◌, ◌==◌, ℕ, Bool, true, false, cond, not, ◌&&◌, ◌||◌, Option, Some, None, is_some, is_none, List, [], ◌∷◌, ⊤}
-use Rattle.fsb_line.specs.declared.kind.Kind.{Kind}
-use Rattle.fsb_line.specs.declared.kind.Kind.TheVariants.{Own, Read, Upgrade, WriteBack}
+use Rattle.fsb_line.specs.declared.purpose.Purpose.{Purpose}
+use Rattle.fsb_line.specs.declared.purpose.Purpose.TheVariants.{Own, Read, Upgrade, WriteBack}
 use Rattle.fsb_line.specs.declared.link.Link.{Link}
 use Rattle.fsb_line.specs.States.{kind_owns}
 
@@ -10,23 +10,23 @@ abbrev pub owns : Link → Bool
 owns l = kind_owns l.kind
 
 -- it is an upgrade
-abbrev pub is_upgrade : Kind → Bool
-is_upgrade Read = false
-is_upgrade Own = false
-is_upgrade Upgrade = true
-is_upgrade WriteBack = false
+abbrev pub upgrades : Purpose → Bool
+upgrades Read = false
+upgrades Own = false
+upgrades Upgrade = true
+upgrades WriteBack = false
 
 -- it is an upgrade that was won: its agent keeps its copy, and no data move
 abbrev pub is_won : Link → Bool
-is_won l = is_upgrade l.kind && is_none l.giver
+is_won l = upgrades l.kind && is_none l.giver
 
 -- data move at its response
 abbrev pub carries : Link → Bool
 carries l = not (is_won l)
 
 -- the memory takes the data that move
-abbrev pub takes : Link → Bool
-takes l = is_some l.giver
+abbrev pub feeds_memory : Link → Bool
+feeds_memory l = is_some l.giver
 
 -- who gives the bytes of the link that comes right after it: its agent where it owns, else the memory
 abbrev pub giver_after : Link → Option ℕ

@@ -2,24 +2,24 @@
 use Rattle.std.specs.Prelude.{List, [], ◌∷◌, ⊤}
 use Rattle.fsb_line.specs.Coherence.{Owes}
 use Rattle.fsb_line.specs.Events.{Event, May, after, stored}
-use Rattle.fsb_line.specs.Line.{Bytes, Line}
+use Rattle.fsb_line.specs.Line.{Bytes, MemoryLine}
 
 -- the line after a list of events
-abbrev pub run : Line → List Event → Line
+abbrev pub run : MemoryLine → List Event → MemoryLine
 run x [] = x
 run x (e ∷ es) = run (after x e) es
 
 -- each event may happen in its turn
-abbrev pub MayRun : Line → List Event → Type 0
+abbrev pub MayRun : MemoryLine → List Event → Type 0
 MayRun x [] = ⊤
 MayRun x (e ∷ es) = May x e × MayRun (after x e) es
 
 -- each event meets what it owes in its turn
-abbrev pub OwesAll : Line → List Event → Type 0
+abbrev pub OwesAll : MemoryLine → List Event → Type 0
 OwesAll x [] = ⊤
 OwesAll x (e ∷ es) = Owes x e × OwesAll (after x e) es
 
 -- the bytes after the stores of all events, each made in its turn
-abbrev pub replay : Line → List Event → Bytes → Bytes
-replay x [] bytes = bytes
-replay x (e ∷ es) bytes = replay (after x e) es (stored x e bytes)
+abbrev pub stored_by_all : MemoryLine → List Event → Bytes → Bytes
+stored_by_all x [] bytes = bytes
+stored_by_all x (e ∷ es) bytes = stored_by_all (after x e) es (stored x e bytes)

@@ -1,6 +1,6 @@
 -- Worked runs, as lists of events.
 use Rattle.std.specs.Prelude.{ℕ, true, false, List, [], ◌∷◌, ◌++◌}
-use Rattle.fsb_line.specs.declared.kind.Kind.TheVariants.{Own, Read, Upgrade, WriteBack}
+use Rattle.fsb_line.specs.declared.purpose.Purpose.TheVariants.{Own, Read, Upgrade, WriteBack}
 use Rattle.fsb_line.specs.Coherence.{IsCoherent}
 use Rattle.fsb_line.specs.Events.{Event, May, after}
 use Rattle.fsb_line.specs.Events.Event.{Begins, Drops, Ends, IsCancelled, IsDeferred, IsGranted, IsHanded, IsLost, IsReplied, IsRetried, IsUpgraded, IsWritten, Loads, Responds, Stores}
@@ -75,8 +75,8 @@ abbrev pub rival : List Event
 rival = Begins 1 Own 1 ∷ []
 
 -- agent 0 has lost the line to agent 1, whose bytes haven't come
-abbrev pub taken : List Event
-taken = owned ++ (Begins 1 Own 1 ∷ IsHanded 1 Own 0 ∷ [])
+abbrev pub taken_over : List Event
+taken_over = owned ++ (Begins 1 Own 1 ∷ IsHanded 1 Own 0 ∷ [])
 
 -- agent 0 is to own the line, by a reply that hasn't come, and agent 1 asks to own it too
 abbrev pub deferred : List Event

@@ -9,8 +9,8 @@ ghost use Rattle.fsb_line.specs.History.{
   is_held_since,
   state_by,
 };
-ghost use Rattle.fsb_line.specs.Line.{Bytes, Line, SameFields, has_copy, unheld};
-ghost use Rattle.fsb_line.specs.Runs.{MayRun, OwesAll, replay, run};
+ghost use Rattle.fsb_line.specs.Line.{Bytes, MemoryLine, SameFields, has_copy, unheld};
+ghost use Rattle.fsb_line.specs.Runs.{MayRun, OwesAll, stored_by_all, run};
 
 /// A line that nobody holds or asks for is in order, and its bytes are where they belong.
 pub fn starts_in_order()
@@ -21,13 +21,13 @@ pub fn starts_in_order()
 /// Every event that may happen keeps the order of a line, whatever its bytes are.
 #[tactic(auto, using(crate::proofs::Theorem::ordered_after))]
 pub fn event_keeps_order()
-    ensures { (x : Line) (e : Event) → Ordered x → May x e → Ordered (after x e) }
+    ensures { (x : MemoryLine) (e : Event) → Ordered x → May x e → Ordered (after x e) }
 {}
 
 /// Every event that may happen keeps the bytes where they belong.
 #[tactic(auto, using(crate::proofs::Theorem::valued_after))]
 pub fn event_keeps_values()
-    ensures { (x : Line) (e : Event) → Ordered x → Valued x → May x e → Valued (after x e) }
+    ensures { (x : MemoryLine) (e : Event) → Ordered x → Valued x → May x e → Valued (after x e) }
 {}
 
 /// Every event that may happen meets what it owes: an access uses the line's bytes, a store is made
@@ -35,13 +35,13 @@ pub fn event_keeps_values()
 /// brings.
 #[tactic(auto, using(crate::proofs::Theorem::owes_met))]
 pub fn event_meets_what_it_owes()
-    ensures { (x : Line) (e : Event) → Ordered x → Valued x → May x e → Owes x e }
+    ensures { (x : MemoryLine) (e : Event) → Ordered x → Valued x → May x e → Owes x e }
 {}
 
 /// A line in order with its bytes is coherent.
 #[tactic(auto, using(crate::proofs::Theorem::coherent))]
 pub fn order_and_values_are_coherence()
-    ensures { (x : Line) → Ordered x → Valued x → IsCoherent x }
+    ensures { (x : MemoryLine) → Ordered x → Valued x → IsCoherent x }
 {}
 
 /// Over every list of events that may happen, from a line that nobody holds, each event meets what
@@ -62,20 +62,20 @@ pub fn run_is_coherent()
 /// The line in the one flat memory is the first bytes with the stores of every event made in turn.
 #[tactic(auto, using(crate::proofs::Flat::flat))]
 pub fn flat_memory_replays_the_stores()
-    ensures { (x : Line) (es : List Event) → (run x es).now ≡ replay x es x.now }
+    ensures { (x : MemoryLine) (es : List Event) → (run x es).now ≡ stored_by_all x es x.now }
 {}
 
-/// Every snoop end that may happen comes out as `Kind::settled` decides.
+/// Every snoop end that may happen comes out as `Purpose::settled` decides.
 #[tactic(auto, using(crate::proofs::Theorem::snoop_end_decided))]
 pub fn snoop_ends_come_out_as_decided()
-    ensures { (x : Line) (e : Event) → May x e → IsDecidedEnd x e }
+    ensures { (x : MemoryLine) (e : Event) → May x e → IsDecidedEnd x e }
 {}
 
 /// After an event an agent that has no bytes of the line has none in the record either, so the
 /// record can be read off a cache and its fills.
 #[tactic(auto, using(crate::proofs::Flat::without))]
 pub fn copies_stand_only_where_agents_have_them()
-    ensures { (x : Line) (e : Event) (a : ℕ) →
+    ensures { (x : MemoryLine) (e : Event) (a : ℕ) →
         IsFalse (has_copy (after x e) a) → (after x e).copy a ≡ [] }
 {}
 
@@ -83,7 +83,7 @@ pub fn copies_stand_only_where_agents_have_them()
 /// field, and agent by agent.
 #[tactic(auto, using(crate::proofs::Flat::same_line))]
 pub fn lines_are_their_fields()
-    ensures { (x y : Line) → SameFields x y → x ≡ y }
+    ensures { (x y : MemoryLine) → SameFields x y → x ≡ y }
 {}
 
 /// The state of an agent is told by what happened: it holds the line since a grant with no loss

@@ -4,19 +4,19 @@
 //! The line is a record of specs/, its events are a type, and coherence is a theorem over every
 //! list of events that may happen (`laws`). `witness` has runs that meet the conditions of the
 //! events, `needed` runs that go wrong where a condition is left out. The agents and the bus take
-//! their decisions by the functions of `Mesi`, `Kind` and `Link`, whose contracts are the words
+//! their decisions by the functions of `Mesi`, `Purpose` and `Link`, whose contracts are the words
 //! that the events use. No clock, queue, cache set or address stands here. docs/coherence.md tells
 //! the argument.
 #![tactic(auto)]
 
-pub use kind::{Kind, Settled, Turn};
 pub use link::Link;
+pub use purpose::{Purpose, Ruling, Settled};
 pub use state::{Answer, Mesi};
 
-mod kind;
 pub mod laws;
 mod link;
 pub mod needed;
+mod purpose;
 mod state;
 #[cfg(test)]
 mod tests;

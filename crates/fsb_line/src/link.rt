@@ -1,11 +1,11 @@
-use crate::kind::Kind;
+use crate::purpose::Purpose;
 
 /// A request whose snoop end moved the line, and whose end is still to come.
 #[derive(Clone, Copy, Debug, PartialEq, Eq)]
 pub struct Link {
     /// The agent that made the request.
     pub agent: u8,
-    pub kind: Kind,
+    pub kind: Purpose,
     /// The agent that gives the line's bytes; None where they come from the memory, or where none
     /// move.
     pub giver: Option<u8>,
@@ -13,7 +13,7 @@ pub struct Link {
 
 impl Link {
     ghost use Rattle.std.specs.Prelude.{◌≡◌};
-    ghost use Rattle.fsb_line.specs.Links.{carries, giver_after, gives, owns, takes};
+    ghost use Rattle.fsb_line.specs.Links.{carries, giver_after, gives, owns, feeds_memory};
 
     /// Whether the link makes its agent the owner of the line.
     pub fn owns(&self) -> bool
@@ -26,12 +26,12 @@ impl Link {
     pub fn carries(&self) -> bool
         ensures { result ≡ carries self.now }
     {
-        self.kind != Kind::Upgrade || self.giver.is_some()
+        self.kind != Purpose::Upgrade || self.giver.is_some()
     }
 
     /// Whether the memory takes the data that move.
-    pub fn takes(&self) -> bool
-        ensures { result ≡ takes self.now }
+    pub fn feeds_memory(&self) -> bool
+        ensures { result ≡ feeds_memory self.now }
     {
         self.giver.is_some()
     }

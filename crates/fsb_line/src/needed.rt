@@ -2,7 +2,7 @@
 //! not coherent.
 
 ghost use Rattle.std.specs.Prelude.{true, false, [], ◌∷◌, ◌++◌};
-ghost use Rattle.fsb_line.specs.declared.kind.Kind.TheVariants.{Own, Read, WriteBack};
+ghost use Rattle.fsb_line.specs.declared.purpose.Purpose.TheVariants.{Own, Read, WriteBack};
 ghost use Rattle.fsb_line.specs.Events.Event.{
   Begins,
   Ends,
@@ -24,7 +24,7 @@ ghost use Rattle.fsb_line.specs.Witness.{
   reader,
   rival,
   stores,
-  taken,
+  taken_over,
 };
 
 /// The memory doesn't give a line that another agent has Modified: the reader would get old bytes.
@@ -43,7 +43,7 @@ pub fn an_owner_without_bytes_gives_the_line()
 /// An owner whose line was taken stores no more: there would be two writers.
 #[tactic(auto, using(crate::proofs::NeededRuns::needs))]
 pub fn a_taken_line_is_not_stored_into()
-    ensures { IsNeeded taken (Stores 0 (stores 7)) [] }
+    ensures { IsNeeded taken_over (Stores 0 (stores 7)) [] }
 {}
 
 /// A write-back is held off while another agent's request is open: that one takes the line first, and

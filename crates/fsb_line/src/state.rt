@@ -1,4 +1,4 @@
-use crate::kind::{Kind, Settled};
+use crate::purpose::{Purpose, Settled};
 
 /// The state of a line at one agent.
 #[derive(Clone, Copy, Debug, PartialEq, Eq)]
@@ -22,7 +22,7 @@ impl Mesi {
       granted,
       is_held,
       is_sole,
-      next_state,
+      state_after,
       suits,
       wanted,
     };
@@ -55,7 +55,7 @@ impl Mesi {
 
     /// The request that an access needs first: none where the state serves it. An access that isn't
     /// a plain load wants the line `alone`. `upgrades` says that the bus knows upgrades.
-    pub fn wanted(self, alone: bool, upgrades: bool) -> Option<Kind>
+    pub fn wanted(self, alone: bool, upgrades: bool) -> Option<Purpose>
         ensures value { result ≡ wanted self alone upgrades }
         ensures suited { IfSome result (λ kind. IsTrue (suits kind self)) }
         ensures serves { result ≡ None → IsTrue (is_held self) }
@@ -64,40 +64,40 @@ impl Mesi {
         match self {
             Mesi::Exclusive | Mesi::Modified => None,
             Mesi::Shared if !alone => None,
-            Mesi::Shared if upgrades => Some(Kind::Upgrade),
-            Mesi::Invalid if !alone => Some(Kind::Read),
-            Mesi::Shared | Mesi::Invalid => Some(Kind::Own),
+            Mesi::Shared if upgrades => Some(Purpose::Upgrade),
+            Mesi::Invalid if !alone => Some(Purpose::Read),
+            Mesi::Shared | Mesi::Invalid => Some(Purpose::Own),
         }
     }
 
     /// The state in which a request of this kind gets its line. `shared` says that another agent
     /// was seen to hold the line.
-    pub fn granted(kind: Kind, shared: bool) -> Mesi
+    pub fn granted(kind: Purpose, shared: bool) -> Mesi
         ensures { result ≡ granted kind shared }
     {
         match kind {
-            Kind::Read if shared => Mesi::Shared,
-            Kind::Read => Mesi::Exclusive,
-            Kind::Own | Kind::Upgrade => Mesi::Modified,
-            Kind::WriteBack => Mesi::Invalid,
+            Purpose::Read if shared => Mesi::Shared,
+            Purpose::Read => Mesi::Exclusive,
+            Purpose::Own | Purpose::Upgrade => Mesi::Modified,
+            Purpose::WriteBack => Mesi::Invalid,
         }
     }
 
     /// The state after the snoop end of another agent's request of this kind.
-    pub fn after_snoop(self, kind: Kind) -> Mesi
+    pub fn after_snoop(self, kind: Purpose) -> Mesi
         ensures { result ≡ after_snoop self kind }
     {
         match kind {
-            Kind::Read if self.is_held() => Mesi::Shared,
-            Kind::Own | Kind::Upgrade => Mesi::Invalid,
-            Kind::Read | Kind::WriteBack => self,
+            Purpose::Read if self.is_held() => Mesi::Shared,
+            Purpose::Own | Purpose::Upgrade => Mesi::Invalid,
+            Purpose::Read | Purpose::WriteBack => self,
         }
     }
 
     /// The state after a snoop end: of the agent's own request where `mine`, else of another's.
     /// A reply has the kind of the request that it answers, and `shared` is what that one saw.
-    pub fn next_state(self, mine: bool, kind: Kind, settled: Settled, shared: bool) -> Mesi
-        ensures { result ≡ next_state self mine kind settled shared }
+    pub fn state_after(self, mine: bool, kind: Purpose, settled: Settled, shared: bool) -> Mesi
+        ensures { result ≡ state_after self mine kind settled shared }
     {
         match settled {
             Settled::Replied if !mine => self,

@@ -1,13 +1,13 @@
-use crate::{Answer, Kind, Link, Mesi, Settled, Turn};
+use crate::{Answer, Link, Mesi, Purpose, Ruling, Settled};
 
 #[test]
 fn states_of_a_grant(rt: HostRuntime) {
     for (kind, shared, want) in [
-        (Kind::Read, false, Mesi::Exclusive),
-        (Kind::Read, true, Mesi::Shared),
-        (Kind::Own, true, Mesi::Modified),
-        (Kind::Upgrade, false, Mesi::Modified),
-        (Kind::WriteBack, false, Mesi::Invalid),
+        (Purpose::Read, false, Mesi::Exclusive),
+        (Purpose::Read, true, Mesi::Shared),
+        (Purpose::Own, true, Mesi::Modified),
+        (Purpose::Upgrade, false, Mesi::Modified),
+        (Purpose::WriteBack, false, Mesi::Invalid),
     ] {
         assert_eq!(rt; Mesi::granted(kind, shared), want, "{kind:?} {shared}");
     }
@@ -15,9 +15,9 @@ fn states_of_a_grant(rt: HostRuntime) {
 
 #[test]
 fn states_after_a_snoop(rt: HostRuntime) {
-    assert_eq!(rt; Mesi::Shared.after_snoop(Kind::Own), Mesi::Invalid);
-    assert_eq!(rt; Mesi::Exclusive.after_snoop(Kind::Read), Mesi::Shared);
-    assert_eq!(rt; Mesi::Invalid.after_snoop(Kind::Read), Mesi::Invalid);
+    assert_eq!(rt; Mesi::Shared.after_snoop(Purpose::Own), Mesi::Invalid);
+    assert_eq!(rt; Mesi::Exclusive.after_snoop(Purpose::Read), Mesi::Shared);
+    assert_eq!(rt; Mesi::Invalid.after_snoop(Purpose::Read), Mesi::Invalid);
     assert!(rt; !Mesi::Invalid.is_held() && Mesi::Shared.is_held());
     assert!(rt; !Mesi::Shared.is_sole() && Mesi::Exclusive.is_sole());
 }
@@ -29,28 +29,28 @@ fn states_after_a_snoop_end(rt: HostRuntime) {
         (
             Mesi::Modified,
             false,
-            Kind::Own,
+            Purpose::Own,
             Settled::Handed,
             Mesi::Invalid,
         ),
         (
             Mesi::Invalid,
             true,
-            Kind::Own,
+            Purpose::Own,
             Settled::Handed,
             Mesi::Modified,
         ),
         (
             Mesi::Modified,
             false,
-            Kind::Read,
+            Purpose::Read,
             Settled::Handed,
             Mesi::Shared,
         ),
         (
             Mesi::Invalid,
             true,
-            Kind::Read,
+            Purpose::Read,
             Settled::Handed,
             Mesi::Shared,
         ),
@@ -58,14 +58,14 @@ fn states_after_a_snoop_end(rt: HostRuntime) {
         (
             Mesi::Shared,
             false,
-            Kind::Own,
+            Purpose::Own,
             Settled::Retried,
             Mesi::Invalid,
         ),
         (
             Mesi::Shared,
             true,
-            Kind::Own,
+            Purpose::Own,
             Settled::Retried,
             Mesi::Shared,
         ),
@@ -73,7 +73,7 @@ fn states_after_a_snoop_end(rt: HostRuntime) {
         (
             Mesi::Modified,
             true,
-            Kind::WriteBack,
+            Purpose::WriteBack,
             Settled::Written,
             Mesi::Invalid,
         ),
@@ -81,14 +81,14 @@ fn states_after_a_snoop_end(rt: HostRuntime) {
         (
             Mesi::Shared,
             true,
-            Kind::Upgrade,
+            Purpose::Upgrade,
             Settled::Upgraded,
             Mesi::Modified,
         ),
         (
             Mesi::Invalid,
             true,
-            Kind::Upgrade,
+            Purpose::Upgrade,
             Settled::Upgraded,
             Mesi::Invalid,
         ),
@@ -96,19 +96,19 @@ fn states_after_a_snoop_end(rt: HostRuntime) {
         (
             Mesi::Invalid,
             true,
-            Kind::Read,
+            Purpose::Read,
             Settled::Replied,
             Mesi::Exclusive,
         ),
         (
             Mesi::Shared,
             false,
-            Kind::Read,
+            Purpose::Read,
             Settled::Replied,
             Mesi::Shared,
         ),
     ] {
-        let next = state.next_state(mine, kind, settled, false);
+        let next = state.state_after(mine, kind, settled, false);
         assert_eq!(rt; next, want, "{state:?} {mine} {kind:?} {settled:?}");
     }
 }
@@ -116,14 +116,38 @@ fn states_after_a_snoop_end(rt: HostRuntime) {
 #[test]
 fn outcomes_of_requests(rt: HostRuntime) {
     for (kind, owned, pending, turn, want) in [
-        (Kind::Own, true, false, Turn::Retry, Settled::Handed),
-        (Kind::Read, false, false, Turn::Retry, Settled::Retried),
-        (Kind::Read, false, false, Turn::Defer, Settled::Deferred),
-        (Kind::Read, false, true, Turn::Keep, Settled::Retried),
-        (Kind::Own, false, false, Turn::Keep, Settled::Granted),
-        (Kind::Upgrade, false, false, Turn::Defer, Settled::Upgraded),
-        (Kind::Upgrade, false, true, Turn::Keep, Settled::Retried),
-        (Kind::WriteBack, false, false, Turn::Retry, Settled::Written),
+        (Purpose::Own, true, false, Ruling::Retry, Settled::Handed),
+        (Purpose::Read, false, false, Ruling::Retry, Settled::Retried),
+        (
+            Purpose::Read,
+            false,
+            false,
+            Ruling::Defer,
+            Settled::Deferred,
+        ),
+        (Purpose::Read, false, true, Ruling::Keep, Settled::Retried),
+        (Purpose::Own, false, false, Ruling::Keep, Settled::Granted),
+        (
+            Purpose::Upgrade,
+            false,
+            false,
+            Ruling::Defer,
+            Settled::Upgraded,
+        ),
+        (
+            Purpose::Upgrade,
+            false,
+            true,
+            Ruling::Keep,
+            Settled::Retried,
+        ),
+        (
+            Purpose::WriteBack,
+            false,
+            false,
+            Ruling::Retry,
+            Settled::Written,
+        ),
     ] {
         let settled = kind.settled(owned, pending, turn);
         assert_eq!(rt; settled, want, "{kind:?} {owned} {pending} {turn:?}");
@@ -132,19 +156,19 @@ fn outcomes_of_requests(rt: HostRuntime) {
 
 #[test]
 fn write_back_alone_is_held_off(rt: HostRuntime) {
-    assert!(rt; Kind::WriteBack.is_held_off(true) && !Kind::WriteBack.is_held_off(false));
-    assert!(rt; !Kind::Read.is_held_off(true));
+    assert!(rt; Purpose::WriteBack.is_held_off(true) && !Purpose::WriteBack.is_held_off(false));
+    assert!(rt; !Purpose::Read.is_held_off(true));
 }
 
 #[test]
 fn requests_that_accesses_need(rt: HostRuntime) {
     for (state, alone, upgrades, want) in [
-        (Mesi::Invalid, false, true, Some(Kind::Read)),
-        (Mesi::Invalid, true, true, Some(Kind::Own)),
-        (Mesi::Invalid, true, false, Some(Kind::Own)),
+        (Mesi::Invalid, false, true, Some(Purpose::Read)),
+        (Mesi::Invalid, true, true, Some(Purpose::Own)),
+        (Mesi::Invalid, true, false, Some(Purpose::Own)),
         (Mesi::Shared, false, true, None),
-        (Mesi::Shared, true, false, Some(Kind::Own)),
-        (Mesi::Shared, true, true, Some(Kind::Upgrade)),
+        (Mesi::Shared, true, false, Some(Purpose::Own)),
+        (Mesi::Shared, true, true, Some(Purpose::Upgrade)),
         (Mesi::Exclusive, true, true, None),
         (Mesi::Modified, true, false, None),
     ] {
@@ -164,28 +188,28 @@ fn requests_that_accesses_need(rt: HostRuntime) {
 fn givers_in_a_chain_of_requests(rt: HostRuntime) {
     let first = Link {
         agent: 0,
-        kind: Kind::Own,
+        kind: Purpose::Own,
         giver: None,
     };
     let second = Link {
         agent: 1,
-        kind: Kind::Own,
+        kind: Purpose::Own,
         giver: first.giver_after(),
     };
     assert_eq!(rt; second.giver, Some(0));
     assert!(rt; second.is_given_by(0) && !second.is_given_by(1));
-    assert!(rt; first.owns() && first.carries() && !first.takes() && second.takes());
+    assert!(rt; first.owns() && first.carries() && !first.feeds_memory() && second.feeds_memory());
 
     let reader = Link {
         agent: 2,
-        kind: Kind::Read,
+        kind: Purpose::Read,
         giver: second.giver_after(),
     };
     assert_eq!(rt; reader.giver_after(), None);
     let upgrade = Link {
         agent: 3,
-        kind: Kind::Upgrade,
+        kind: Purpose::Upgrade,
         giver: None,
     };
-    assert!(rt; !upgrade.carries() && upgrade.owns() && Kind::Upgrade.owns());
+    assert!(rt; !upgrade.carries() && upgrade.owns() && Purpose::Upgrade.owns());
 }

@@ -22,7 +22,7 @@ pub fn two_owners_race_and_a_third_reads()
     ensures promised { MayRun (unheld (byte 0)) promises }
     ensures awaited { length (run (unheld (byte 0)) promises).chain ≡ 3 }
     ensures delivered { MayRun (run (unheld (byte 0)) promises) deliveries }
-    ensures ended { (run (run (unheld (byte 0)) promises) deliveries).chain ≡ [] }
+    ensures oldest_ended { (run (run (unheld (byte 0)) promises) deliveries).chain ≡ [] }
     ensures read { (run (run (unheld (byte 0)) promises) deliveries).copy 2 ≡ byte 7 }
 {}
 

@@ -12,12 +12,12 @@ use Rattle.fsb_trace.specs.Outcome.{response_clock_of}
 use Rattle.fsb_trace.specs.Response.{takes, end_of, ready_clock_of, two_after_snoop, answer_from}
 use Rattle.fsb_laws.specs.OneMore.{responds}
 use Rattle.fsb_laws.specs.Progress.{EndsTo, response_count, transfer_of, may_answer_next}
-use Rattle.fsb_laws.proofs.ReadySteps.{has_ready, after_answer}
+use Rattle.fsb_laws.proofs.Interface.{has_ready, after_answer}
 use Rattle.fsb_queue.specs.declared.entry.Entry.{Entry}
 use Rattle.fsb_trace.specs.Timing.{is_response_from}
 use Rattle.fsb_phase.specs.Due.{live_of, has_response}
 use Rattle.fsb_phase.proofs.Held.{Held}
-use Rattle.fsb_phase.specs.Drive.{code_of, drive_of}
+use Rattle.fsb_phase.specs.Drive.{settled_code, drive_of}
 use Rattle.fsb_phase.proofs.Finds.{Found, find-cases, find-off, find-place}
 use Rattle.fsb_phase.proofs.Entries.{placed}
 use Rattle.fsb_phase.proofs.HeadDrive.{Answered, idle-later, has_response-at, response_at}
@@ -64,21 +64,21 @@ response_snoop h i w n true e =
 pub record Answering (h : Trace) (queue : List Entry) (e : ℕ) (x : Sample) : Type 0 where
   pub head : Entry
   pub at : slice_get queue 0 ≡ Some head
-  pub code : response_of x ≡ code_of head
+  pub code : response_of x ≡ settled_code head
   pub still : transfer_of h ≡ None
   pub count : response_count h ≡ e
   pub snoop : ℕ
   pub is_snoop : snoop_end_of h e ≡ Some snoop
   pub late : snoop + 2 ≤ length h
 
-idle_code : (o : Option Entry) (n : ℕ) → n ≡ option_map_or code_of o 0 → o ≡ None → not (nat_eq n 0) ≡ true → ⊥
+idle_code : (o : Option Entry) (n : ℕ) → n ≡ option_map_or settled_code o 0 → o ≡ None → not (nat_eq n 0) ≡ true → ⊥
 idle_code None n e f t = let z : n ≡ 0 = e in both_ways (not (nat_eq n 0)) (rw z refl) t
 idle_code (Some y) n e f t = absurd (let none : ⊥ = cc in none)
 
 not_yet : (h : Trace) (e r : ℕ) → response_clock_of h e ≡ Some r → is_none (response_clock_of h e) ≡ true → ⊥
 not_yet h e r f t = both_ways (is_none (response_clock_of h e)) (rw f refl) t
 
-the_head : (h : Trace) (queue : List Entry) (e : ℕ) (x : Sample) → Held queue h → EndsTo h e → Answered h e → (k : Found (has_response h) queue) → (n : ℕ) → k.place ≡ n → response_of x ≡ code_of k.item → Answering h queue e x
+the_head : (h : Trace) (queue : List Entry) (e : ℕ) (x : Sample) → Held queue h → EndsTo h e → Answered h e → (k : Found (has_response h) queue) → (n : ℕ) → k.place ≡ n → response_of x ≡ settled_code k.item → Answering h queue e x
 the_head h queue e x f to a k (suc n) p c =
     absurd (both_ways (has_response h k.item) (idle-later h queue e k.place k.item f to a (omega arith) k.at).response k.passes)
 the_head h queue e x f to a k zero p c =
@@ -99,7 +99,7 @@ answering h queue e x f to a c t =
     elim (find-cases (has_response h) queue) [
       | inl k ↦
           the_head h queue e x f to a k k.place refl
-          (c ∙ ap (λ o. option_map_or code_of o 0) (find-place (has_response h) queue k.place k.item k.at k.passes k.before))
+          (c ∙ ap (λ o. option_map_or settled_code o 0) (find-place (has_response h) queue k.place k.item k.at k.passes k.before))
       | inr g ↦ absurd (idle_code (find (has_response h) queue) (response_of x) c (find-off (has_response h) queue g) t)
     ]
 

@@ -2,14 +2,11 @@
 use Rattle.std.proofs.Common.{ℕ, zero, suc, ◌+◌, ◌<◌, ◌≤◌, ◌≡◌, Bool, true, false, Option, Some, None, is_some, refl, sym, inl, inr, arith, subst, add-one}
 use Rattle.std.proofs.lemmas.Bool.{cases_Bool, cases_lt, cases_eq, cases_order}
 use Rattle.fsb_count.specs.Clocks.{count_where}
-use Rattle.fsb_count.proofs.Count.{count_where-failed}
-use Rattle.fsb_count.proofs.Options.{is_some-none}
+use Rattle.fsb_count.proofs.Interface.{count_where-failed, is_some-none}
 use Rattle.fsb_trace.specs.At.{Trace}
 use Rattle.fsb_trace.specs.Requests.{live_count}
 use Rattle.fsb_trace.specs.Snoop.{snoop_end_of}
-use Rattle.fsb_trace.proofs.Order.{snoop_end_of-rises}
-use Rattle.fsb_trace.proofs.Stay.{snoop_end_of-clock}
-use Rattle.fsb_trace.proofs.LiveRequests.{live_below_count}
+use Rattle.fsb_trace.proofs.Interface.{snoop_end_of-rises, snoop_end_of-clock, live_below_count}
 use Rattle.fsb_laws.specs.Progress.{SnoopsTo}
 use Rattle.fsb_phase.specs.Phases.{snooped_count}
 

@@ -11,22 +11,19 @@ use Rattle.fsb_trace.specs.At.{Trace}
 use Rattle.fsb_trace.specs.Requests.{is_live, live_clock_of}
 use Rattle.fsb_trace.specs.Snoop.{snoop_end_of}
 use Rattle.fsb_trace.specs.Response.{end_of, two_after_snoop, answer_from}
-use Rattle.fsb_trace.proofs.Stay.{snoop_end_of-clock}
+use Rattle.fsb_trace.proofs.Interface.{snoop_end_of-clock}
 use Rattle.fsb_laws.specs.OneMore.{OneMore, responds}
 use Rattle.fsb_laws.specs.Orderly.{Spaced, Orderly}
 use Rattle.fsb_laws.specs.Progress.{SnoopsTo, EndsTo, response_count, transfer_of, ends_snoop_of, is_snoop_due, chunk_step}
-use Rattle.fsb_laws.proofs.ResponseSteps.{has_answer, response_count-kept}
-use Rattle.fsb_laws.proofs.OrderlySteps.{orderly-more}
-use Rattle.fsb_laws.proofs.EndFacts.{ends_to-still, ends_to-moving, end_of-old, end_of-kept}
-use Rattle.fsb_laws.proofs.SnoopSteps.{snoop_end_of-old, snoop_end_of-more}
+use Rattle.fsb_laws.proofs.Interface.{has_answer, response_count-kept, orderly-more, ends_to-still, ends_to-moving, end_of-old, end_of-kept, snoop_end_of-old, snoop_end_of-more}
 use Rattle.fsb_queue.specs.declared.entry.Entry.{Entry}
 use Rattle.fsb_phase.specs.declared.phases.Phases.{Phases}
-use Rattle.fsb_phase.specs.Due.{live_of, moves}
+use Rattle.fsb_phase.specs.Due.{live_of, is_moving}
 use Rattle.fsb_phase.specs.Flight.{is_too_soon}
 use Rattle.fsb_phase.proofs.Held.{Held}
-use Rattle.fsb_phase.specs.Drive.{drive_of, ends_at}
+use Rattle.fsb_phase.specs.Drive.{drive_of, has_end_at}
 use Rattle.fsb_phase.specs.Phases.{Stands, snooped_count}
-use Rattle.fsb_phase.specs.Registers.{snooped_by, transfer_to, has_answered, ends_by, ended_by, answer_to, from_to}
+use Rattle.fsb_phase.specs.Registers.{entry_snooped, transfer_to, has_answered, ends_by, entry_ended, answer_to, from_to}
 use Rattle.fsb_phase.proofs.Finds.{find-off, find-place}
 use Rattle.fsb_phase.proofs.Entries.{placed}
 use Rattle.fsb_phase.proofs.SnoopDrive.{Meets, outcome_reached, reached_before, not_reached_from}
@@ -95,7 +92,7 @@ quiet p h x v queue e s k f t g c =
     let none : has_answered p x ≡ false = ap (λ b. b || is_some p.transfer) f ∙ ap is_some t in
     let count : response_count v ≡ e = response_count-kept h x v k.more f ∙ c in
     let still : transfer_of v ≡ None =
-    sym k.transfer ∙ ap (λ b. chunk_step (has_line x DRDY) (cond b (cond (is_some_and (slice_get queue 0) moves) (Some 0) None) p.transfer)) f
+    sym k.transfer ∙ ap (λ b. chunk_step (has_line x DRDY) (cond b (cond (is_some_and (slice_get queue 0) is_moving) (Some 0) None) p.transfer)) f
     ∙ ap (chunk_step (has_line x DRDY)) t in
     record {
       not_answered = none;
@@ -168,14 +165,14 @@ course p h x v queue e s k =
     ]
 
 -- an entry whose end is not reached does not end
-pub no_end : (v : Trace) (n : ℕ) (y : Entry) → end_of v (live_of v y) ≡ None → ends_at v n y ≡ false
-unfolding ends_at is_at is_some_and
+pub no_end : (v : Trace) (n : ℕ) (y : Entry) → end_of v (live_of v y) ≡ None → has_end_at v n y ≡ false
+unfolding has_end_at is_at is_some_and
 no_end v n y e = and_right (is_live v y.clock) _ (rw e refl)
 
 -- the entry that ends
-none_ends : (p : Phases) (h : Trace) (x : Sample) (v : Trace) (queue : List Entry) (e s : ℕ) → Step p h x v queue e s → EndsTo v e → find (ends_at v (length h)) queue ≡ None
+none_ends : (p : Phases) (h : Trace) (x : Sample) (v : Trace) (queue : List Entry) (e s : ℕ) → Step p h x v queue e s → EndsTo v e → find (has_end_at v (length h)) queue ≡ None
 none_ends p h x v queue e s k to =
-    find-off (ends_at v (length h)) queue (λ j y g.
+    find-off (has_end_at v (length h)) queue (λ j y g.
     let here = placed h queue e j y k.meets.flight k.meets.ends g in
     let number : live_of v y ≡ e + j = number_stays h x v e j y k.more k.stands.orderly.spaced here in
     no_end v (length h) y (ap (end_of v) number ∙ to.above (e + j) (omega arith)))
@@ -190,12 +187,12 @@ head_is h queue e s f to sn l =
     let same : y.0.clock ≡ c.clock = (let one : Some y.0.clock ≡ Some c.clock = sym here.clock ∙ first in cc) in
     (y.0, y.1, omega (arith, c.above, r.2))
 
-ends_here : (h : Trace) (v : Trace) (e n : ℕ) (y : Entry) → is_live v y.clock ≡ true → live_of v y ≡ e → end_of v e ≡ Some n → ends_at v n y ≡ true
-unfolding ends_at is_at is_some_and
+ends_here : (h : Trace) (v : Trace) (e n : ℕ) (y : Entry) → is_live v y.clock ≡ true → live_of v y ≡ e → end_of v e ≡ Some n → has_end_at v n y ≡ true
+unfolding has_end_at is_at is_some_and
 ends_here h v e n y l f g = rw (l, f, g) (eq-eqb n n refl)
 
-pub ended_is : (p : Phases) (h : Trace) (x : Sample) (v : Trace) (queue : List Entry) (e s : ℕ) → Step p h x v queue e s → ended_by p x queue ≡ find (ends_at v (length h)) queue
-unfolding ended_by
+pub ended_is : (p : Phases) (h : Trace) (x : Sample) (v : Trace) (queue : List Entry) (e s : ℕ) → Step p h x v queue e s → entry_ended p x queue ≡ find (has_end_at v (length h)) queue
+unfolding entry_ended
 ended_is p h x v queue e s k =
     elim (course p h x v queue e s k) [
       | inl q ↦ ap (λ b. cond b (slice_get queue 0) None) q.not_ended ∙ sym (none_ends p h x v queue e s k q.ends)
@@ -207,7 +204,7 @@ ended_is p h x v queue e s k =
             let number : live_of v y.0 ≡ e = number_stays h x v e 0 y.0 k.more k.stands.orderly.spaced here ∙ (let same : e + 0 ≡ e = omega arith in same) in
             let live : is_live v y.0.clock ≡ true = live_after h x v y.0.clock k.more here.live y.2 in
             ap (λ b. cond b (slice_get queue 0) None) d.ended ∙ y.1
-            ∙ sym (find-place (ends_at v (length h)) queue 0 y.0 y.1 (ends_here h v e (length h) y.0 live number d.end)
+            ∙ sym (find-place (has_end_at v (length h)) queue 0 y.0 y.1 (ends_here h v e (length h) y.0 live number d.end)
             (λ j z l g. absurd (omega arith)))
       ]
     ]
@@ -279,7 +276,7 @@ open_place p h x v queue e s k f false st same before t =
     ∙ sym (no_answer-snoop v (e + k) end)
 
 -- of the entry at place k
-pub answer_place : (p : Phases) (h : Trace) (x : Sample) (v : Trace) (queue : List Entry) (e s k : ℕ) (f : Option ℕ) → Step p h x v queue e s → e + k ≤ s → (e + k < s → answer_from v (e + k) ≡ f) → ((j : ℕ) → e + k ≡ suc j → (t : ℕ) × (end_of v j ≡ Some t) × (t ≤ length h)) → option_and_then (answer_to f (length h) (is_some (snooped_by p (length h) x queue))) (slice_get queue k) ≡ answer_from v (e + k)
+pub answer_place : (p : Phases) (h : Trace) (x : Sample) (v : Trace) (queue : List Entry) (e s k : ℕ) (f : Option ℕ) → Step p h x v queue e s → e + k ≤ s → (e + k < s → answer_from v (e + k) ≡ f) → ((j : ℕ) → e + k ≡ suc j → (t : ℕ) × (end_of v j ≡ Some t) × (t ≤ length h)) → option_and_then (answer_to f (length h) (is_some (entry_snooped p (length h) x queue))) (slice_get queue k) ≡ answer_from v (e + k)
 answer_place p h x v queue e s k f st l settled before =
     let b : Bool = ends_snoop_of h s x in
     ap (λ c. option_and_then (answer_to f (length h) c) (slice_get queue k)) (ends_is p h x queue e s st.meets)
@@ -297,7 +294,7 @@ answer_place p h x v queue e s k f st l settled before =
           open_place p h x v queue e s k f b st same before refl
     ]
 
-from_quiet : (p : Phases) (h : Trace) (x : Sample) (v : Trace) (queue : List Entry) (e s : ℕ) → Step p h x v queue e s → Quiet p h x v queue e → option_and_then (answer_to p.from (length h) (is_some (snooped_by p (length h) x queue))) (slice_get queue 0) ≡ answer_from v (response_count v)
+from_quiet : (p : Phases) (h : Trace) (x : Sample) (v : Trace) (queue : List Entry) (e s : ℕ) → Step p h x v queue e s → Quiet p h x v queue e → option_and_then (answer_to p.from (length h) (is_some (entry_snooped p (length h) x queue))) (slice_get queue 0) ≡ answer_from v (response_count v)
 from_quiet p h x v queue e s k q =
     let none : e + 0 ≡ e = omega arith in
     answer_place p h x v queue e s 0 p.from k (omega (arith, k.meets.order))
@@ -308,7 +305,7 @@ from_quiet p h x v queue e s k q =
     (r.0, end_of-kept h x v j r.0 k.more k.stands.orderly r.1 r.2, omega (arith, r.2)))
     ∙ ap (answer_from v) (none ∙ sym q.count)
 
-from_done : (p : Phases) (h : Trace) (x : Sample) (v : Trace) (queue : List Entry) (e s : ℕ) → Step p h x v queue e s → Done p h x v queue e s → option_and_then (answer_to (Some (length h + 1)) (length h) (is_some (snooped_by p (length h) x queue))) (slice_get queue 1) ≡ answer_from v (response_count v)
+from_done : (p : Phases) (h : Trace) (x : Sample) (v : Trace) (queue : List Entry) (e s : ℕ) → Step p h x v queue e s → Done p h x v queue e s → option_and_then (answer_to (Some (length h + 1)) (length h) (is_some (entry_snooped p (length h) x queue))) (slice_get queue 1) ≡ answer_from v (response_count v)
 from_done p h x v queue e s k d =
     let one : e + 1 ≡ suc e = omega arith in
     answer_place p h x v queue e s 1 (Some (length h + 1)) k (omega (arith, d.snooped))

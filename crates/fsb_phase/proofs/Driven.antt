@@ -5,8 +5,7 @@ use Rattle.std.proofs.lemmas.Bool.{cases_lt}
 use Rattle.fsb_trace.specs.At.{Trace}
 use Rattle.fsb_laws.specs.Orderly.{Orderly}
 use Rattle.fsb_laws.specs.Progress.{SnoopsTo, EndsTo, response_count, transfer_of}
-use Rattle.fsb_laws.proofs.ResponseSteps.{response_there, response_past, has_answer}
-use Rattle.fsb_laws.proofs.EndFacts.{ends_to-still, ends_to-moving, transfer_parts}
+use Rattle.fsb_laws.proofs.Interface.{response_there, response_past, has_answer, ends_to-still, ends_to-moving, transfer_parts}
 use Rattle.fsb_queue.specs.declared.entry.Entry.{Entry}
 use Rattle.fsb_phase.specs.declared.phases.Phases.{Phases}
 use Rattle.fsb_phase.proofs.Held.{Held}

@@ -4,11 +4,11 @@ use Rattle.std.specs.List.{slice_get}
 use Rattle.std.specs.Option.{option_map}
 use Rattle.std.proofs.lemmas.Option.{slice_get-map}
 use Rattle.fsb_count.specs.Clocks.{all_where, nth_where}
-use Rattle.fsb_count.proofs.Nth.{nth_where-found}
+use Rattle.fsb_count.proofs.Interface.{nth_where-found}
 use Rattle.fsb_trace.specs.At.{Trace}
 use Rattle.fsb_trace.specs.Requests.{is_live, live_clock_of, live_number_of}
 use Rattle.fsb_laws.specs.Progress.{EndsTo}
-use Rattle.fsb_laws.proofs.FlightSteps.{in_flight-live}
+use Rattle.fsb_laws.proofs.Interface.{in_flight-live}
 use Rattle.fsb_queue.specs.declared.entry.Entry.{Entry}
 use Rattle.fsb_phase.specs.Due.{live_of}
 use Rattle.fsb_phase.proofs.Held.{Held}

@@ -3,7 +3,7 @@ use Rattle.std.proofs.Common.{ℕ, zero, suc, ◌<◌, ◌≡◌, Bool, true, fa
 use Rattle.std.specs.List.{slice_get, find}
 use Rattle.std.proofs.lemmas.Bool.{cases_Bool, cases_eq}
 use Rattle.fsb_queue.specs.declared.entry.Entry.{Entry}
-use Rattle.fsb_phase.specs.Registers.{open_entry, if_passes}
+use Rattle.fsb_phase.specs.Registers.{if_passes}
 
 pub find-place : {X : Type 0} (p : X → Bool) (xs : List X) (k : ℕ) (x : X) → slice_get xs k ≡ Some x → p x ≡ true → ((j : ℕ) (y : X) → j < k → slice_get xs j ≡ Some y → p y ≡ false) → find p xs ≡ Some x
 find-place p [] k x e t f = absurd (let no : ⊥ = cc in no)
@@ -16,14 +16,6 @@ find-place p (z ∷ xs) (suc k) x e t f =
 pub find-off : {X : Type 0} (p : X → Bool) (xs : List X) → ((j : ℕ) (y : X) → slice_get xs j ≡ Some y → p y ≡ false) → find p xs ≡ None
 find-off p [] f = refl
 find-off p (z ∷ xs) f = rw (f 0 z refl) (find-off p xs (λ j y g. f (suc j) y g))
-
-pub open_entry-place : (queue : List Entry) (k : ℕ) (e : Entry) → slice_get queue k ≡ Some e → is_none e.outcome ≡ true → ((j : ℕ) (y : Entry) → j < k → slice_get queue j ≡ Some y → is_none y.outcome ≡ false) → open_entry queue ≡ Some e
-unfolding open_entry
-open_entry-place queue k e = find-place (λ y. is_none y.outcome) queue k e
-
-pub open_entry-off : (queue : List Entry) → ((j : ℕ) (y : Entry) → slice_get queue j ≡ Some y → is_none y.outcome ≡ false) → open_entry queue ≡ None
-unfolding open_entry
-open_entry-off queue = find-off (λ y. is_none y.outcome) queue
 
 pub none_is : {X : Type 0} (o : Option X) → is_some o ≡ false → is_none o ≡ true
 none_is None e = refl

@@ -9,15 +9,15 @@ use Rattle.fsb_trace.specs.Snoop.{snoop_end_of}
 use Rattle.fsb_trace.specs.Outcome.{response_clock_of}
 use Rattle.fsb_trace.specs.Response.{takes, end_of, clock_after_snoop, ready_after, ready_clock_of, two_after_snoop, answer_from}
 use Rattle.fsb_laws.specs.Progress.{EndsTo, response_count, transfer_of}
-use Rattle.fsb_laws.proofs.ResponseSteps.{response_past}
+use Rattle.fsb_laws.proofs.Interface.{response_past}
 use Rattle.fsb_queue.specs.declared.entry.Entry.{Entry}
 use Rattle.fsb_phase.specs.declared.phases.Phases.{Phases}
 use Rattle.fsb_trace.specs.Timing.{is_ready_from, is_response_from, chunk_from, is_busy_from}
-use Rattle.fsb_phase.specs.Due.{live_of, awaits_response, has_ready, has_response, response_to_now, moves, chunk_of, keeps_busy}
+use Rattle.fsb_phase.specs.Due.{live_of, awaits_response, has_ready, has_response, response_to_now, is_moving, due_chunk, keeps_busy}
 use Rattle.fsb_phase.proofs.Held.{IsSettled, Held}
 use Rattle.fsb_phase.specs.Phases.{Stands, value_before, last_response}
 use Rattle.fsb_phase.specs.Drive.{numbered_chunk}
-use Rattle.fsb_phase.specs.Registers.{if_passes, is_taking, gets_ready, answers, answered, chunk_at, is_busy, numbered_at}
+use Rattle.fsb_phase.specs.Registers.{if_passes, is_taking, gets_ready, gets_response, answered, chunk_at, is_busy, numbered_at}
 use Rattle.fsb_phase.proofs.Finds.{find-first}
 use Rattle.fsb_phase.proofs.Entries.{placed}
 use Rattle.fsb_phase.proofs.Settled.{taking-is}
@@ -96,13 +96,13 @@ to_then h e i r f g =
     ap (λ (o : Option ℕ). elim o as (λ z. Option ℕ) [ Some q ↦ Some q | None ↦ cond (has_response h e) (Some (length h)) None ])
     (ap (response_clock_of h) f ∙ g)
 
-no_chunk : (h : Trace) (e : Entry) → response_to_now h e ≡ None → chunk_of h e ≡ None
-unfolding chunk_of
-no_chunk h e f = elim (cases_Bool (moves e)) [ inl t ↦ (rw (t, f) refl) | inr u ↦ (rw u refl) ]
+no_chunk : (h : Trace) (e : Entry) → response_to_now h e ≡ None → due_chunk h e ≡ None
+unfolding due_chunk
+no_chunk h e f = elim (cases_Bool (is_moving e)) [ inl t ↦ (rw (t, f) refl) | inr u ↦ (rw u refl) ]
 
 no_busy : (h : Trace) (e : Entry) → response_to_now h e ≡ None → keeps_busy h e ≡ false
 unfolding keeps_busy is_some_and
-no_busy h e f = and_right (moves e) _ (rw f refl)
+no_busy h e f = and_right (is_moving e) _ (rw f refl)
 
 -- how far the responses have come: no transfer is on the way and the oldest request is the next to respond, or the oldest
 -- has responded and its transfer is on the way
@@ -115,7 +115,7 @@ pub record Idle (h : Trace) (y : Entry) : Type 0 where
   pub ready : has_ready h y ≡ false
   pub response : has_response h y ≡ false
   pub busy : keeps_busy h y ≡ false
-  pub chunk : is_some (chunk_of h y) ≡ false
+  pub chunk : is_some (due_chunk h y) ≡ false
 
 pub idle-later : (h : Trace) (queue : List Entry) (e j : ℕ) (y : Entry) → Held queue h → EndsTo h e → Answered h e → 0 < j → slice_get queue j ≡ Some y → Idle h y
 idle-later h queue e j y f to a l g =
@@ -135,7 +135,7 @@ idle-later h queue e j y f to a l g =
 -- of the oldest, what is driven is what is due
 pub record Same (p : Phases) (h : Trace) (y : Entry) : Type 0 where
   pub ready : gets_ready p (length h) y ≡ has_ready h y
-  pub response : answers p (length h) y ≡ has_response h y
+  pub response : gets_response p (length h) y ≡ has_response h y
   pub now : answered p (length h) y ≡ response_to_now h y
 
 open_ready : (h : Trace) (y : Entry) (turn i : ℕ) (o : Option ℕ) → IsSettled h y turn → live_of h y ≡ i → snoop_end_of h i ≡ o → (is_taking y && is_ready_from (answer_from h i) y.choice.trdy (length h)) ≡ (takes h i && is_ready_from (answer_from h i) y.choice.trdy (length h))
@@ -158,8 +158,8 @@ still_ready p h y turn i k f t from r =
     ∙ open_ready h y turn i (snoop_end_of h i) k f refl
     ∙ sym (has_ready-at h y i f ∙ ap (λ o. is_none o && takes h i && is_ready_from (answer_from h i) y.choice.trdy (length h)) r)
 
-still_response : (p : Phases) (h : Trace) (y : Entry) (turn i : ℕ) → IsSettled h y turn → live_of h y ≡ i → p.transfer ≡ None → p.from ≡ answer_from h i → p.ready ≡ ready_clock_of h i → response_clock_of h i ≡ None → answers p (length h) y ≡ has_response h y
-unfolding answers
+still_response : (p : Phases) (h : Trace) (y : Entry) (turn i : ℕ) → IsSettled h y turn → live_of h y ≡ i → p.transfer ≡ None → p.from ≡ answer_from h i → p.ready ≡ ready_clock_of h i → response_clock_of h i ≡ None → gets_response p (length h) y ≡ has_response h y
+unfolding gets_response
 still_response p h y turn i k f t from ready r =
     ap (λ o. is_none o && is_response_from (is_taking y) p.from p.ready y.choice.resp (length h)) t
     ∙ ap (λ o. is_response_from (is_taking y) o p.ready y.choice.resp (length h)) from
@@ -167,12 +167,12 @@ still_response p h y turn i k f t from ready r =
     ∙ open_response h y turn i (snoop_end_of h i) k f refl
     ∙ sym (has_response-at h y i f ∙ ap (λ o. is_none o && is_response_from (takes h i) (answer_from h i) (ready_clock_of h i) y.choice.resp (length h)) r)
 
-answered_form : (p : Phases) (n : ℕ) (y : Entry) (o : Option ℕ) → p.transfer ≡ o → answered p n y ≡ elim o as (λ z. Option ℕ) [ Some k ↦ p.response | None ↦ cond (answers p n y) (Some n) None ]
+answered_form : (p : Phases) (n : ℕ) (y : Entry) (o : Option ℕ) → p.transfer ≡ o → answered p n y ≡ elim o as (λ z. Option ℕ) [ Some k ↦ p.response | None ↦ cond (gets_response p n y) (Some n) None ]
 unfolding answered
 answered_form p n y o t =
-    ap (λ (u : Option ℕ). elim u as (λ z. Option ℕ) [ Some k ↦ p.response | None ↦ cond (answers p n y) (Some n) None ]) t
+    ap (λ (u : Option ℕ). elim u as (λ z. Option ℕ) [ Some k ↦ p.response | None ↦ cond (gets_response p n y) (Some n) None ]) t
 
-still_now : (p : Phases) (h : Trace) (y : Entry) (i : ℕ) → live_of h y ≡ i → p.transfer ≡ None → answers p (length h) y ≡ has_response h y → response_clock_of h i ≡ None → answered p (length h) y ≡ response_to_now h y
+still_now : (p : Phases) (h : Trace) (y : Entry) (i : ℕ) → live_of h y ≡ i → p.transfer ≡ None → gets_response p (length h) y ≡ has_response h y → response_clock_of h i ≡ None → answered p (length h) y ≡ response_to_now h y
 still_now p h y i f t same r =
     answered_form p (length h) y None t ∙ ap (λ b. cond b (Some (length h)) None) same ∙ sym (to_now h y i f r)
 
@@ -183,8 +183,8 @@ moving_ready p h y i k r f t e =
     ap (λ o. is_none o && is_taking y && is_ready_from p.from y.choice.trdy (length h)) t
     ∙ sym (has_ready-at h y i f ∙ ap (λ o. is_none o && takes h i && is_ready_from (answer_from h i) y.choice.trdy (length h)) e)
 
-moving_response : (p : Phases) (h : Trace) (y : Entry) (i k r : ℕ) → live_of h y ≡ i → p.transfer ≡ Some k → response_clock_of h i ≡ Some r → answers p (length h) y ≡ has_response h y
-unfolding answers
+moving_response : (p : Phases) (h : Trace) (y : Entry) (i k r : ℕ) → live_of h y ≡ i → p.transfer ≡ Some k → response_clock_of h i ≡ Some r → gets_response p (length h) y ≡ has_response h y
+unfolding gets_response
 moving_response p h y i k r f t e =
     ap (λ o. is_none o && is_response_from (is_taking y) p.from p.ready y.choice.resp (length h)) t
     ∙ sym (has_response-at h y i f ∙ ap (λ o. is_none o && is_response_from (takes h i) (answer_from h i) (ready_clock_of h i) y.choice.resp (length h)) e)
@@ -228,13 +228,13 @@ same_head p h queue e y k f to a g =
     ]
 
 -- so it is of the whole queue
-chunk_same : (p : Phases) (h : Trace) (y : Entry) → answered p (length h) y ≡ response_to_now h y → chunk_at p (length h) y ≡ chunk_of h y
-unfolding chunk_at chunk_of
-chunk_same p h y e = ap (λ o. cond (moves y) (option_and_then (chunk_from y.choice.gap (length h)) o) None) e
+chunk_same : (p : Phases) (h : Trace) (y : Entry) → answered p (length h) y ≡ response_to_now h y → chunk_at p (length h) y ≡ due_chunk h y
+unfolding chunk_at due_chunk
+chunk_same p h y e = ap (λ o. cond (is_moving y) (option_and_then (chunk_from y.choice.gap (length h)) o) None) e
 
 pub busy_same : (p : Phases) (h : Trace) (y : Entry) → answered p (length h) y ≡ response_to_now h y → is_busy p (length h) y ≡ keeps_busy h y
 unfolding is_busy keeps_busy
-busy_same p h y e = ap (λ o. moves y && is_some_and o (is_busy_from y.choice.gap (length h))) e
+busy_same p h y e = ap (λ o. is_moving y && is_some_and o (is_busy_from y.choice.gap (length h))) e
 
 pub numbered_same : (p : Phases) (h : Trace) (y : Entry) → answered p (length h) y ≡ response_to_now h y → numbered_at p (length h) y ≡ numbered_chunk h y
 unfolding numbered_at numbered_chunk
@@ -251,18 +251,18 @@ unfolding if_passes
 same_passes t u None f = refl
 same_passes t u (Some y) f = rw (f y refl) refl
 
-numbered_none : (h : Trace) (y : Entry) → is_some (chunk_of h y) ≡ false → numbered_chunk h y ≡ None
+numbered_none : (h : Trace) (y : Entry) → is_some (due_chunk h y) ≡ false → numbered_chunk h y ≡ None
 unfolding numbered_chunk
-numbered_none h y f = go (chunk_of h y) f where
+numbered_none h y f = go (due_chunk h y) f where
   go : (o : Option ℕ) → is_some o ≡ false → ◌≡◌ {A = Option (ℕ × ℕ)} (option_map (λ n. (y.number, n)) o) None
   go None f = refl
   go (Some n) f = absurd (let none : ⊥ = cc in none)
 
-numbered_passes : (h : Trace) (o : Option Entry) → option_and_then (numbered_chunk h) o ≡ option_and_then (numbered_chunk h) (if_passes (λ y. is_some (chunk_of h y)) o)
+numbered_passes : (h : Trace) (o : Option Entry) → option_and_then (numbered_chunk h) o ≡ option_and_then (numbered_chunk h) (if_passes (λ y. is_some (due_chunk h y)) o)
 unfolding if_passes
 numbered_passes h None = refl
 numbered_passes h (Some y) =
-    elim (cases_Bool (is_some (chunk_of h y))) [
+    elim (cases_Bool (is_some (due_chunk h y))) [
       | inl t ↦ rw t refl
       | inr n ↦ (rw n (numbered_none h y n))
     ]
@@ -272,9 +272,9 @@ trdy-is p h queue s i =
     some_passes (gets_ready p (length h)) (has_ready h) (slice_get queue 0) (λ y e. (s y e).ready)
     ∙ sym (ap is_some (find-first (has_ready h) queue (λ j y l e. (i j y l e).ready)))
 
-pub rs-is : (p : Phases) (h : Trace) (queue : List Entry) → ((y : Entry) → slice_get queue 0 ≡ Some y → Same p h y) → ((j : ℕ) (y : Entry) → 0 < j → slice_get queue j ≡ Some y → Idle h y) → if_passes (answers p (length h)) (slice_get queue 0) ≡ find (has_response h) queue
+pub rs-is : (p : Phases) (h : Trace) (queue : List Entry) → ((y : Entry) → slice_get queue 0 ≡ Some y → Same p h y) → ((j : ℕ) (y : Entry) → 0 < j → slice_get queue j ≡ Some y → Idle h y) → if_passes (gets_response p (length h)) (slice_get queue 0) ≡ find (has_response h) queue
 rs-is p h queue s i =
-    same_passes (answers p (length h)) (has_response h) (slice_get queue 0) (λ y e. (s y e).response)
+    same_passes (gets_response p (length h)) (has_response h) (slice_get queue 0) (λ y e. (s y e).response)
     ∙ sym (find-first (has_response h) queue (λ j y l e. (i j y l e).response))
 
 pub dbsy-is : (p : Phases) (h : Trace) (queue : List Entry) → ((y : Entry) → slice_get queue 0 ≡ Some y → Same p h y) → ((j : ℕ) (y : Entry) → 0 < j → slice_get queue j ≡ Some y → Idle h y) → is_some_and (slice_get queue 0) (is_busy p (length h)) ≡ is_some (find (keeps_busy h) queue)
@@ -286,8 +286,8 @@ same_then : (f g : Entry → Option (ℕ × ℕ)) (o : Option Entry) → ((y : E
 same_then f g None e = refl
 same_then f g (Some y) e = e y refl
 
-pub chunk-is : (p : Phases) (h : Trace) (queue : List Entry) → ((y : Entry) → slice_get queue 0 ≡ Some y → Same p h y) → ((j : ℕ) (y : Entry) → 0 < j → slice_get queue j ≡ Some y → Idle h y) → option_and_then (numbered_at p (length h)) (slice_get queue 0) ≡ option_and_then (numbered_chunk h) (find (λ y. is_some (chunk_of h y)) queue)
+pub chunk-is : (p : Phases) (h : Trace) (queue : List Entry) → ((y : Entry) → slice_get queue 0 ≡ Some y → Same p h y) → ((j : ℕ) (y : Entry) → 0 < j → slice_get queue j ≡ Some y → Idle h y) → option_and_then (numbered_at p (length h)) (slice_get queue 0) ≡ option_and_then (numbered_chunk h) (find (λ y. is_some (due_chunk h y)) queue)
 chunk-is p h queue s i =
     same_then (numbered_at p (length h)) (numbered_chunk h) (slice_get queue 0) (λ y e. numbered_same p h y (s y e).now)
     ∙ numbered_passes h (slice_get queue 0)
-    ∙ sym (ap (option_and_then (numbered_chunk h)) (find-first (λ y. is_some (chunk_of h y)) queue (λ j y l e. (i j y l e).chunk)))
+    ∙ sym (ap (option_and_then (numbered_chunk h)) (find-first (λ y. is_some (due_chunk h y)) queue (λ j y l e. (i j y l e).chunk)))

@@ -12,3 +12,4 @@ pub mod Answering
 pub mod ResponseStep
 pub mod Course
 pub mod Absorbed
+pub mod Interface

@@ -15,15 +15,10 @@ use Rattle.fsb_trace.specs.Response.{ready_clock_of, two_after_snoop, answer_fro
 use Rattle.fsb_laws.specs.OneMore.{OneMore, responds}
 use Rattle.fsb_laws.specs.Orderly.{Spaced, Orderly}
 use Rattle.fsb_laws.specs.Progress.{SnoopsTo, EndsTo, response_count, transfer_of, chunk_step, may_answer_next}
-use Rattle.fsb_laws.proofs.OrderlySteps.{spaced-more}
-use Rattle.fsb_laws.proofs.ResponseSteps.{response_count-more, response_clock_of-new, response_clock_of-old, response_count-kept}
-use Rattle.fsb_laws.proofs.TransferSteps.{transfer_of-kept, transfer_of-begun}
-use Rattle.fsb_laws.proofs.ReadySteps.{ready_clock_of-next, ready_clock_of-after}
-use Rattle.fsb_laws.proofs.AnswerSteps.{answered_below}
-use Rattle.fsb_laws.proofs.EndFacts.{ends_to-still}
+use Rattle.fsb_laws.proofs.Interface.{spaced-more, response_count-more, response_clock_of-new, response_clock_of-old, response_count-kept, transfer_of-kept, transfer_of-begun, ready_clock_of-next, ready_clock_of-after, answered_below, ends_to-still}
 use Rattle.fsb_queue.specs.declared.entry.Entry.{Entry}
 use Rattle.fsb_phase.specs.declared.phases.Phases.{Phases}
-use Rattle.fsb_phase.specs.Due.{live_of, moves}
+use Rattle.fsb_phase.specs.Due.{live_of, is_moving}
 use Rattle.fsb_phase.specs.Flight.{is_too_soon}
 use Rattle.fsb_phase.proofs.Held.{Held}
 use Rattle.fsb_phase.specs.Phases.{Stands, value_before, last_response}
@@ -72,7 +67,7 @@ response_to-is p h x v m k =
     ]
 
 -- the transfer on the way
-begins : (h : Trace) (queue : List Entry) (e : ℕ) (x : Sample) → Held queue h → EndsTo h e → Answering h queue e x → does_move (told_by h (response_count h) (response_of x)) ≡ is_some_and (slice_get queue 0) moves
+begins : (h : Trace) (queue : List Entry) (e : ℕ) (x : Sample) → Held queue h → EndsTo h e → Answering h queue e x → does_move (told_by h (response_count h) (response_of x)) ≡ is_some_and (slice_get queue 0) is_moving
 unfolding is_some_and
 begins h queue e x f to a =
     let here = placed h queue e 0 a.head f to a.at in
@@ -88,11 +83,11 @@ transfer_to-is p h x v queue e s m k to f ends ans =
     elim (cases_Bool (responds x)) [
       | inl t ↦
           let a = ans t in
-          ap (λ b. chunk_step (has_line x DRDY) (cond b (cond (is_some_and (slice_get queue 0) moves) (Some 0) None) p.transfer)) t
+          ap (λ b. chunk_step (has_line x DRDY) (cond b (cond (is_some_and (slice_get queue 0) is_moving) (Some 0) None) p.transfer)) t
           ∙ ap (λ b. chunk_step (has_line x DRDY) (cond b (Some 0) None)) (sym (begins h queue e x f ends a))
           ∙ sym (transfer_of-begun h x v s m to (answered_below h s to (may_answer h queue e x a)) t)
       | inr n ↦
-          ap (λ b. chunk_step (has_line x DRDY) (cond b (cond (is_some_and (slice_get queue 0) moves) (Some 0) None) p.transfer)) n
+          ap (λ b. chunk_step (has_line x DRDY) (cond b (cond (is_some_and (slice_get queue 0) is_moving) (Some 0) None) p.transfer)) n
           ∙ ap (chunk_step (has_line x DRDY)) k.transfer
           ∙ sym (transfer_of-kept h x v m k.orderly n)
     ]

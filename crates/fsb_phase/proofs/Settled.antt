@@ -7,18 +7,18 @@ use Rattle.fsb_count.specs.Options.{is_some_and}
 use Rattle.fsb_signal.specs.declared.lines.TheConstants.Lines.{HITM}
 use Rattle.fsb_signal.specs.Samples.{line_at}
 use Rattle.fsb_encode.specs.declared.request.Kind.{Kind}
-use Rattle.fsb_encode.specs.declared.request.Kind.TheVariants.{Reply, Invalidate, Read, WriteBack}
+use Rattle.fsb_encode.specs.declared.request.Kind.TheVariants.{Reply, Invalidate, Read, WriteBack, Upgrade}
 use Rattle.fsb_encode.specs.declared.request.Request.{Request}
 use Rattle.fsb_trace.specs.declared.outcome.Outcome.{Outcome}
-use Rattle.fsb_trace.specs.declared.outcome.Outcome.TheVariants.{Granted, Handed, Retried, Deferred, Written, Replied, Failed}
+use Rattle.fsb_trace.specs.declared.outcome.Outcome.TheVariants.{Granted, Handed, Retried, Deferred, Written, Replied, Failed, Upgraded}
 use Rattle.fsb_trace.specs.At.{Trace}
 use Rattle.fsb_trace.specs.Requests.{live_request_of, is_write_back, is_write_back_kind}
 use Rattle.fsb_trace.specs.Snoop.{snoop_end_of, line_at_snoop_end}
 use Rattle.fsb_trace.specs.Outcome.{does_move, response_code_of, outcome_by_kind, told_by, settled_by, does_take}
 use Rattle.fsb_trace.specs.Response.{takes}
 use Rattle.fsb_queue.specs.declared.entry.Entry.{Entry}
-use Rattle.fsb_phase.specs.Due.{live_of, moves}
-use Rattle.fsb_phase.specs.Drive.{code_of}
+use Rattle.fsb_phase.specs.Due.{live_of, is_moving}
+use Rattle.fsb_phase.specs.Drive.{settled_code}
 use Rattle.fsb_phase.proofs.Held.{IsSettled}
 use Rattle.fsb_phase.specs.Registers.{is_taking}
 
@@ -36,11 +36,12 @@ by_kind_takes : (request : Option Request) → does_take (outcome_by_kind reques
 unfolding does_take outcome_by_kind is_write_back is_some_and is_write_back_kind
 by_kind_takes None = refl
 by_kind_takes (Some request) = kind_takes request.kind where
-  kind_takes : (k : Kind) → does_take (elim k [ WriteBack ↦ Written | Reply ↦ Replied | Read ↦ Granted | Invalidate ↦ Granted ]) ≡ is_write_back_kind k
+  kind_takes : (k : Kind) → does_take (elim k [ WriteBack ↦ Written | Upgrade ↦ Upgraded | Reply ↦ Replied | Read ↦ Granted | Invalidate ↦ Granted ]) ≡ is_write_back_kind k
   kind_takes Reply = refl
   kind_takes Invalidate = refl
   kind_takes Read = refl
   kind_takes WriteBack = refl
+  kind_takes Upgrade = refl
 
 late_turn : (turn : ℕ) (wb : Bool) → (wb ≡ true → turn ≡ 0) → 1 ≤ turn → false ≡ (wb || false)
 late_turn turn true f l = absurd (let z : turn ≡ 0 = f refl in omega arith)
@@ -81,11 +82,12 @@ by_kind_told : (request : Option Request) → told_cases false (response_code_of
 unfolding told_cases outcome_by_kind response_code_of
 by_kind_told None = refl
 by_kind_told (Some request) = kind_told request.kind where
-  kind_told : (k : Kind) → (let o : Outcome = elim k as (λ z. Outcome) [ WriteBack ↦ Written | Reply ↦ Replied | Read ↦ Granted | Invalidate ↦ Granted ] in cond (nat_eq (response_code_of o) 4) Failed (cond false Handed (cond (nat_eq (response_code_of o) 1) Retried (cond (nat_eq (response_code_of o) 2) Deferred o))) ≡ o)
+  kind_told : (k : Kind) → (let o : Outcome = elim k as (λ z. Outcome) [ WriteBack ↦ Written | Upgrade ↦ Upgraded | Reply ↦ Replied | Read ↦ Granted | Invalidate ↦ Granted ] in cond (nat_eq (response_code_of o) 4) Failed (cond false Handed (cond (nat_eq (response_code_of o) 1) Retried (cond (nat_eq (response_code_of o) 2) Deferred o))) ≡ o)
   kind_told Reply = refl
   kind_told Invalidate = refl
   kind_told Read = refl
   kind_told WriteBack = refl
+  kind_told Upgrade = refl
 
 cases_told : (hitm : Bool) (turn : ℕ) (request : Option Request) → told_cases hitm (response_code_of (settled_cases hitm turn request)) request ≡ settled_cases hitm turn request
 unfolding settled_cases response_code_of told_cases
@@ -99,15 +101,15 @@ cases_told false turn request =
       ]
     ]
 
-code_is : (e : Entry) (o : Outcome) → e.outcome ≡ Some o → code_of e ≡ response_code_of o
-unfolding code_of
+code_is : (e : Entry) (o : Outcome) → e.outcome ≡ Some o → settled_code e ≡ response_code_of o
+unfolding settled_code
 code_is e o f = rw f refl
 
-moves_is : (e : Entry) (o : Outcome) → e.outcome ≡ Some o → moves e ≡ does_move o
-unfolding moves is_some_and
-moves_is e o f = rw f refl
+moving_is : (e : Entry) (o : Outcome) → e.outcome ≡ Some o → is_moving e ≡ does_move o
+unfolding is_moving is_some_and
+moving_is e o f = rw f refl
 
-pub told-is : (h : Trace) (e : Entry) (turn i s code : ℕ) → IsSettled h e turn → live_of h e ≡ i → snoop_end_of h i ≡ Some s → code ≡ code_of e → does_move (told_by h i code) ≡ moves e
+pub told-is : (h : Trace) (e : Entry) (turn i s code : ℕ) → IsSettled h e turn → live_of h e ≡ i → snoop_end_of h i ≡ Some s → code ≡ settled_code e → does_move (told_by h i code) ≡ is_moving e
 told-is h e turn i s code k f g c =
     let o : Outcome = settled_by h turn i s in
     let form : o ≡ settled_cases (line_at HITM h s) turn (live_request_of h i) = settled_form h turn i s in
@@ -116,4 +118,4 @@ told-is h e turn i s code k f g c =
     ∙ ap (λ x. told_cases (line_at HITM h s) (response_code_of x) (live_request_of h i)) form
     ∙ cases_told (line_at HITM h s) turn (live_request_of h i) ∙ sym form in
     ap (λ n. does_move (told_by h i n)) (c ∙ code_is e o (outcome_at h e turn i s k f g))
-    ∙ ap does_move told ∙ sym (moves_is e o (outcome_at h e turn i s k f g))
+    ∙ ap does_move told ∙ sym (moving_is e o (outcome_at h e turn i s k f g))

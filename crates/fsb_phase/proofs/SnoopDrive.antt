@@ -5,19 +5,19 @@ use Rattle.std.specs.Option.{option_map}
 use Rattle.std.proofs.lemmas.Bool.{cases_Bool, cases_lt, cases_order, and_left, and_right}
 use Rattle.std.proofs.lemmas.Option.{slice_get_within, slice_get_cases}
 use Rattle.fsb_count.specs.Options.{is_some_and, greater_of}
-use Rattle.fsb_count.proofs.Options.{is_some_and-none}
+use Rattle.fsb_count.proofs.Interface.{is_some_and-none}
 use Rattle.fsb_trace.specs.At.{Trace}
 use Rattle.fsb_trace.specs.Requests.{live_clock_of}
 use Rattle.fsb_trace.specs.Snoop.{is_every_second_from, start_after_clock, start_after_end, snoop_start_of, snoop_end_of}
 use Rattle.fsb_laws.specs.Progress.{SnoopsTo, EndsTo}
-use Rattle.fsb_laws.proofs.SnoopSteps.{snoop_end_of-above}
+use Rattle.fsb_laws.proofs.Interface.{snoop_end_of-above}
 use Rattle.fsb_queue.specs.declared.entry.Entry.{Entry}
 use Rattle.fsb_phase.specs.declared.phases.Phases.{Phases}
 use Rattle.fsb_trace.specs.Timing.{is_stall_from}
 use Rattle.fsb_phase.specs.Due.{live_of, has_snoop, is_stalled}
 use Rattle.fsb_phase.proofs.Held.{IsSettled, Held}
 use Rattle.fsb_phase.specs.Phases.{value_before}
-use Rattle.fsb_phase.specs.Registers.{if_passes, open_entry, start_after, is_snooping, snooping, stalls_at}
+use Rattle.fsb_phase.specs.Registers.{if_passes, open_entry, start_after, is_snooping, snooping, is_to_stall}
 use Rattle.fsb_phase.proofs.Finds.{Found, find-cases, find-only, find-off, find-place, none_passes}
 use Rattle.fsb_phase.proofs.Entries.{placed}
 
@@ -104,8 +104,8 @@ unfolding is_some_and is_snooping
 snoop_here p h s e to f c =
     rw (not_reached_from h s s to (omega arith), start_is h s e.clock to c, f) refl
 
-stall_here : (p : Phases) (h : Trace) (s : ℕ) (e : Entry) → SnoopsTo h s → p.snooped ≡ value_before (snoop_end_of h) s → live_clock_of h s ≡ Some e.clock → is_some_and (snoop_start_of h s) (is_stall_from e.choice.stall (length h)) ≡ stalls_at p (length h) e
-unfolding is_some_and stalls_at
+stall_here : (p : Phases) (h : Trace) (s : ℕ) (e : Entry) → SnoopsTo h s → p.snooped ≡ value_before (snoop_end_of h) s → live_clock_of h s ≡ Some e.clock → is_some_and (snoop_start_of h s) (is_stall_from e.choice.stall (length h)) ≡ is_to_stall p (length h) e
+unfolding is_some_and is_to_stall
 stall_here p h s e to f c = rw (start_is h s e.clock to c, f) refl
 
 no_gap : (p : Phases) (h : Trace) (queue : List Entry) (e s n : ℕ) (k : Found (λ y. is_none y.outcome) queue) → Meets p h queue e s → s ≤ e + k.place → k.place ≡ n → e + k.place ≡ s
@@ -187,7 +187,7 @@ both_passed : (t u : Entry → Bool) (x : Entry) → is_some_and (if_passes t (S
 unfolding if_passes is_some_and
 both_passed t u x = elim (cases_Bool (t x)) [ inl y ↦ (rw y refl) | inr n ↦ (rw n refl) ]
 
-found_stall : (p : Phases) (h : Trace) (queue : List Entry) (e s : ℕ) → Meets p h queue e s → (k : Found (λ y. is_none y.outcome) queue) → is_stalled h k.item ≡ (is_snooping p (length h) k.item && stalls_at p (length h) k.item)
+found_stall : (p : Phases) (h : Trace) (queue : List Entry) (e s : ℕ) → Meets p h queue e s → (k : Found (λ y. is_none y.outcome) queue) → is_stalled h k.item ≡ (is_snooping p (length h) k.item && is_to_stall p (length h) k.item)
 unfolding is_stalled
 found_stall p h queue e s m k =
     let same : e + k.place ≡ s = open_is p h queue e s k m in
@@ -197,17 +197,17 @@ found_stall p h queue e s m k =
     rw (found_snoop p h queue e s m k, number, stall_here p h s k.item m.snoops m.snooped clock) refl
 
 -- whether that snoop stalls
-pub stalled-is : (p : Phases) (h : Trace) (queue : List Entry) (e s : ℕ) → Meets p h queue e s → is_some_and (snooping p (length h) queue) (stalls_at p (length h)) ≡ is_some (find (is_stalled h) queue)
+pub stalled-is : (p : Phases) (h : Trace) (queue : List Entry) (e s : ℕ) → Meets p h queue e s → is_some_and (snooping p (length h) queue) (is_to_stall p (length h)) ≡ is_some (find (is_stalled h) queue)
 unfolding snooping open_entry
 stalled-is p h queue e s m =
     elim (find-cases (λ y. is_none y.outcome) queue) [
       | inr g ↦
-          ap (λ o. is_some_and (if_passes (is_snooping p (length h)) o) (stalls_at p (length h))) (find-off (λ y. is_none y.outcome) queue g)
-          ∙ ap (λ o. is_some_and o (stalls_at p (length h))) (sym (none_passes _)) ∙ is_some_and-none _
+          ap (λ o. is_some_and (if_passes (is_snooping p (length h)) o) (is_to_stall p (length h))) (find-off (λ y. is_none y.outcome) queue g)
+          ∙ ap (λ o. is_some_and o (is_to_stall p (length h))) (sym (none_passes _)) ∙ is_some_and-none _
           ∙ sym (ap is_some (find-off (is_stalled h) queue (λ j y a. not_stalled h y (nowhere p h queue e s m g j y a))))
       | inl k ↦
-          ap (λ o. is_some_and (if_passes (is_snooping p (length h)) o) (stalls_at p (length h))) (find-place (λ y. is_none y.outcome) queue k.place k.item k.at k.passes k.before)
-          ∙ both_passed (is_snooping p (length h)) (stalls_at p (length h)) k.item
+          ap (λ o. is_some_and (if_passes (is_snooping p (length h)) o) (is_to_stall p (length h))) (find-place (λ y. is_none y.outcome) queue k.place k.item k.at k.passes k.before)
+          ∙ both_passed (is_snooping p (length h)) (is_to_stall p (length h)) k.item
           ∙ sym (found_stall p h queue e s m k) ∙ sym (is_passed (is_stalled h) k.item)
           ∙ sym (ap is_some (find-only (is_stalled h) queue k.place k.item k.at
           (λ j y other a. not_stalled h y (elsewhere p h queue e s k.place m (open_is p h queue e s k m) j y other a))))

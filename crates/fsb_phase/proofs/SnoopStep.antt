@@ -7,7 +7,7 @@ use Rattle.std.proofs.lemmas.Option.{slice_get-map}
 use Rattle.std.proofs.Math.Bool.{and-true}
 use Rattle.fsb_count.specs.Options.{is_some_and, is_at}
 use Rattle.fsb_count.specs.Clocks.{all_where, nth_where}
-use Rattle.fsb_count.proofs.Options.{is_at-if, is_at-off}
+use Rattle.fsb_count.proofs.Interface.{is_at-if, is_at-off}
 use Rattle.fsb_signal.specs.declared.sample.Sample.{Sample}
 use Rattle.fsb_trace.specs.At.{Trace}
 use Rattle.fsb_trace.specs.Requests.{is_live, live_clock_of}
@@ -15,16 +15,14 @@ use Rattle.fsb_trace.specs.Snoop.{is_every_second_from, snoop_start_of, snoop_en
 use Rattle.fsb_laws.specs.OneMore.{OneMore, cancels, stalls}
 use Rattle.fsb_laws.specs.Orderly.{Spaced}
 use Rattle.fsb_laws.specs.Progress.{SnoopsTo, EndsTo, is_snoop_due, ends_snoop_of}
-use Rattle.fsb_laws.proofs.FlightSteps.{in_flight-live}
-use Rattle.fsb_laws.proofs.LiveSteps.{is_live-ads, is_live-more, live_number_of-more}
-use Rattle.fsb_laws.proofs.SnoopSteps.{snoop_end_of-above, snoop_end_of-old, snoop_end_of-more, snoops_to-ended, snoops_to-kept, start_clock}
+use Rattle.fsb_laws.proofs.Interface.{in_flight-live, is_live-ads, is_live-more, live_number_of-more, snoop_end_of-above, snoop_end_of-old, snoop_end_of-more, snoops_to-ended, snoops_to-kept, start_clock}
 use Rattle.fsb_queue.specs.declared.entry.Entry.{Entry}
 use Rattle.fsb_phase.specs.declared.phases.Phases.{Phases}
 use Rattle.fsb_phase.specs.Due.{live_of, has_snoop}
 use Rattle.fsb_phase.proofs.Held.{Held}
 use Rattle.fsb_phase.specs.Drive.{ends_snoop_at}
 use Rattle.fsb_phase.specs.Phases.{value_before, last_snoop_end}
-use Rattle.fsb_phase.specs.Registers.{snooping, snooped_by, snooped_to}
+use Rattle.fsb_phase.specs.Registers.{snooping, entry_snooped, snooped_to}
 use Rattle.fsb_phase.proofs.Finds.{Found, find-cases, find-place, find-off}
 use Rattle.fsb_phase.proofs.Counts.{snoops_count}
 use Rattle.fsb_phase.proofs.Entries.{Placed, placed, dropped}
@@ -93,8 +91,8 @@ unless false None = refl
 unless false (Some y) = refl
 
 -- an entry's snoop ends with the sample exactly where that of the first live request without its snoop end does
-pub ends_is : (p : Phases) (h : Trace) (x : Sample) (queue : List Entry) (e s : ℕ) → Meets p h queue e s → is_some (snooped_by p (length h) x queue) ≡ ends_snoop_of h s x
-unfolding snooped_by ends_snoop_of
+pub ends_is : (p : Phases) (h : Trace) (x : Sample) (queue : List Entry) (e s : ℕ) → Meets p h queue e s → is_some (entry_snooped p (length h) x queue) ≡ ends_snoop_of h s x
+unfolding entry_snooped ends_snoop_of
 ends_is p h x queue e s m =
     unless (stalls x) (snooping p (length h) queue)
     ∙ ap (λ o. is_some o && not (stalls x)) (snooping-is p h queue e s m)
@@ -178,8 +176,8 @@ find_unless t true xs = find-off (λ y. t y && false) xs (λ j y e. and_right (t
 find_unless t false xs = find_same (λ y. t y && true) t xs (λ j y e. and-true (t y))
 
 -- the entry whose snoop ends with the sample
-pub snooped_is : (p : Phases) (h : Trace) (x : Sample) (v : Trace) (queue : List Entry) (e s : ℕ) → OneMore h x v → Spaced h → Meets p h queue e s → snooped_by p (length h) x queue ≡ find (ends_snoop_at v (length h)) queue
-unfolding snooped_by
+pub snooped_is : (p : Phases) (h : Trace) (x : Sample) (v : Trace) (queue : List Entry) (e s : ℕ) → OneMore h x v → Spaced h → Meets p h queue e s → entry_snooped p (length h) x queue ≡ find (ends_snoop_at v (length h)) queue
+unfolding entry_snooped
 snooped_is p h x v queue e s m sp k =
     ap (λ o. cond (stalls x) None o) (snooping-is p h queue e s k)
     ∙ sym (find_unless (has_snoop h) (stalls x) queue)

@@ -1,8 +1,7 @@
 -- When stalls and chunks are due, as a machine finds it.
 use Rattle.std.proofs.Common.{ℕ, ◌+◌, ◌-◌, ◌*◌, ◌/◌, ◌%◌, ◌<◌, ◌≤◌, ◌≡◌, false, nat_eq, nat_lt, Some, None, sym, ◌∙◌, inl, inr, arith}
 use Rattle.std.proofs.lemmas.Bool.{cases_lt, eq-eqb, ne_eqb, lt-ltb, le-ltb}
-use Rattle.fsb_count.proofs.First.{first_where-at, first_where-off}
-use Rattle.fsb_count.proofs.Any.{any_where-at, any_where-off}
+use Rattle.fsb_count.proofs.Interface.{first_where-at, first_where-off, any_where-at, any_where-off}
 use Rattle.fsb_trace.specs.Timing.{is_stall_from, chunk_from}
 
 pub stall-before : (stall c start : ℕ) → c < start → false ≡ is_stall_from stall c start

@@ -49,14 +49,14 @@ response_to_now h e =
     ]
 
 -- the request's outcome is settled, and with it data move
-unfoldable pub moves : Entry → Bool
-moves e = is_some_and e.outcome does_move
+unfoldable pub is_moving : Entry → Bool
+is_moving e = is_some_and e.outcome does_move
 
 -- the chunk of the request's data that is due at the next clock, by its place in the burst order
-unfoldable pub chunk_of : Trace → Entry → Option ℕ
-chunk_of h e =
-    if moves e then option_and_then (chunk_from e.choice.gap (length h)) (response_to_now h e) else None
+unfoldable pub due_chunk : Trace → Entry → Option ℕ
+due_chunk h e =
+    if is_moving e then option_and_then (chunk_from e.choice.gap (length h)) (response_to_now h e) else None
 
 -- the request's data keep the bus busy at the next clock
 unfoldable pub keeps_busy : Trace → Entry → Bool
-keeps_busy h e = moves e && is_some_and (response_to_now h e) (is_busy_from e.choice.gap (length h))
+keeps_busy h e = is_moving e && is_some_and (response_to_now h e) (is_busy_from e.choice.gap (length h))

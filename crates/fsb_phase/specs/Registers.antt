@@ -15,8 +15,8 @@ use Rattle.fsb_phase.specs.declared.drive.Drive.{Drive}
 use Rattle.fsb_phase.specs.declared.drive.Phased.{Phased}
 use Rattle.fsb_phase.specs.declared.phases.Phases.{Phases}
 use Rattle.fsb_trace.specs.Timing.{is_stall_from, is_ready_from, is_response_from, chunk_from, is_busy_from}
-use Rattle.fsb_phase.specs.Due.{moves}
-use Rattle.fsb_phase.specs.Drive.{code_of}
+use Rattle.fsb_phase.specs.Due.{is_moving}
+use Rattle.fsb_phase.specs.Drive.{settled_code}
 
 -- the entry's outcome is settled, and with it memory takes data
 unfoldable pub is_taking : Entry → Bool
@@ -45,30 +45,30 @@ unfoldable pub snooping : Phases → ℕ → List Entry → Option Entry
 snooping p c queue = if_passes (is_snooping p c) (open_entry queue)
 
 -- its snoop is to be stalled at c
-unfoldable pub stalls_at : Phases → ℕ → Entry → Bool
-stalls_at p c e = is_stall_from e.choice.stall c (start_after p.snooped e.clock)
+unfoldable pub is_to_stall : Phases → ℕ → Entry → Bool
+is_to_stall p c e = is_stall_from e.choice.stall c (start_after p.snooped e.clock)
 
 -- c is the ready clock of the oldest entry
 unfoldable pub gets_ready : Phases → ℕ → Entry → Bool
 gets_ready p c e = is_none p.transfer && is_taking e && is_ready_from p.from e.choice.trdy c
 
 -- c is the response clock of the oldest entry
-unfoldable pub answers : Phases → ℕ → Entry → Bool
-answers p c e = is_none p.transfer && is_response_from (is_taking e) p.from p.ready e.choice.resp c
+unfoldable pub gets_response : Phases → ℕ → Entry → Bool
+gets_response p c e = is_none p.transfer && is_response_from (is_taking e) p.from p.ready e.choice.resp c
 
 -- the response clock of the oldest entry, if it is c or lies before
 unfoldable pub answered : Phases → ℕ → Entry → Option ℕ
 answered p c e =
-    elim p.transfer [ Some k ↦ p.response | None ↦ if answers p c e then Some c else None ]
+    elim p.transfer [ Some k ↦ p.response | None ↦ if gets_response p c e then Some c else None ]
 
 -- the chunk of the oldest entry that is due at c
 unfoldable pub chunk_at : Phases → ℕ → Entry → Option ℕ
 chunk_at p c e =
-    if moves e then option_and_then (chunk_from e.choice.gap c) (answered p c e) else None
+    if is_moving e then option_and_then (chunk_from e.choice.gap c) (answered p c e) else None
 
 -- the oldest entry keeps the bus busy at c
 unfoldable pub is_busy : Phases → ℕ → Entry → Bool
-is_busy p c e = moves e && is_some_and (answered p c e) (is_busy_from e.choice.gap c)
+is_busy p c e = is_moving e && is_some_and (answered p c e) (is_busy_from e.choice.gap c)
 
 -- the chunk of the oldest entry that is due at c, with the entry's number
 unfoldable pub numbered_at : Phases → ℕ → Entry → Option (ℕ × ℕ)
@@ -78,21 +78,21 @@ numbered_at p c e = option_map (λ n. (e.number, n)) (chunk_at p c e)
 unfoldable pub drive_by : Phases → ℕ → List Entry → Drive
 drive_by p c queue = record {
   snoop = option_map (λ e. e.number) (snooping p c queue);
-  stall = is_some_and (snooping p c queue) (stalls_at p c);
+  stall = is_some_and (snooping p c queue) (is_to_stall p c);
   trdy = is_some_and (slice_get queue 0) (gets_ready p c);
-  rs = option_map_or code_of (if_passes (answers p c) (slice_get queue 0)) 0;
+  rs = option_map_or settled_code (if_passes (gets_response p c) (slice_get queue 0)) 0;
   dbsy = is_some_and (slice_get queue 0) (is_busy p c);
   chunk = option_and_then (numbered_at p c) (slice_get queue 0);
 }
 
 -- the entry whose snoop end the sample at c is
-unfoldable pub snooped_by : Phases → ℕ → Sample → List Entry → Option Entry
-snooped_by p c x queue = if stalls x then None else snooping p c queue
+unfoldable pub entry_snooped : Phases → ℕ → Sample → List Entry → Option Entry
+entry_snooped p c x queue = if stalls x then None else snooping p c queue
 
 -- the transfer with the sample: the oldest entry's begins where the sample is its response
 unfoldable pub transfer_to : Phases → Sample → List Entry → Option ℕ
 transfer_to p x queue =
-    chunk_step (has_line x DRDY) (if responds x then (if is_some_and (slice_get queue 0) moves then Some 0 else None) else p.transfer)
+    chunk_step (has_line x DRDY) (if responds x then (if is_some_and (slice_get queue 0) is_moving then Some 0 else None) else p.transfer)
 
 -- the oldest entry has responded, with the sample or before
 unfoldable pub has_answered : Phases → Sample → Bool
@@ -103,19 +103,19 @@ unfoldable pub ends_by : Phases → Sample → List Entry → Bool
 ends_by p x queue = has_answered p x && is_none (transfer_to p x queue)
 
 -- the oldest entry, if its end comes with the sample
-unfoldable pub ended_by : Phases → Sample → List Entry → Option Entry
-ended_by p x queue = if ends_by p x queue then slice_get queue 0 else None
+unfoldable pub entry_ended : Phases → Sample → List Entry → Option Entry
+entry_ended p x queue = if ends_by p x queue then slice_get queue 0 else None
 
 -- what happens with the sample at c
 unfoldable pub phased_by : Phases → ℕ → Sample → List Entry → Phased
 phased_by p c x queue = record {
-  snooped = option_map (λ e. e.number) (snooped_by p c x queue);
-  ended = option_map (λ e. e.number) (ended_by p x queue);
+  snooped = option_map (λ e. e.number) (entry_snooped p c x queue);
+  ended = option_map (λ e. e.number) (entry_ended p x queue);
 }
 
 -- the last snoop end, after the sample at c
 unfoldable pub snooped_to : Phases → ℕ → Sample → List Entry → Option ℕ
-snooped_to p c x queue = if is_some (snooped_by p c x queue) then Some c else p.snooped
+snooped_to p c x queue = if is_some (entry_snooped p c x queue) then Some c else p.snooped
 
 -- the clock from which an entry is answered, after the sample at c, where the end before it came earlier, or with the
 -- sample: as it was, or the next clock, where the entry has its outcome; else two clocks later, where its snoop ends now
@@ -127,10 +127,10 @@ unfoldable pub from_to : Phases → ℕ → Sample → List Entry → Option ℕ
 from_to p c x queue =
     if has_answered p x then (
     if ends_by p x queue
-    then option_and_then (answer_to (Some (c + 1)) c (is_some (snooped_by p c x queue))) (slice_get queue 1)
+    then option_and_then (answer_to (Some (c + 1)) c (is_some (entry_snooped p c x queue))) (slice_get queue 1)
     else None
     )
-    else option_and_then (answer_to p.from c (is_some (snooped_by p c x queue))) (slice_get queue 0)
+    else option_and_then (answer_to p.from c (is_some (entry_snooped p c x queue))) (slice_get queue 0)
 
 -- the next entry may respond at c
 unfoldable pub may_answer_at : Phases → ℕ → Bool

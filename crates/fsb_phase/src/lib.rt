@@ -5,11 +5,10 @@
 //! of them, for a queue that holds the requests in flight.
 #![tactic(auto)]
 
-pub use burst::chunk_order;
 pub use drive::{Drive, Phased};
+pub use fsb_encode::chunk_order;
 pub use phases::Phases;
 
-mod burst;
 mod drive;
 #[cfg(test)]
 mod lone;

@@ -8,7 +8,7 @@ use fsb_encode::{Kind, Pair, Request, encode};
 use fsb_hazard::{Choice, Turn};
 use fsb_io::Memory;
 use fsb_queue::{Entry, Queue};
-use fsb_signal::{Lines, Sample};
+use fsb_signal::{Lines, Marks, Sample};
 use fsb_trace::{Outcome, Who, end_of, outcome_of, requests, response, snoop_end, verdict};
 use std::alloc::Global;
 use std::process::Abort;
@@ -202,7 +202,7 @@ impl Bus {
         let put = if begins { Some(first) } else { self.second };
         let on_bus = put.unwrap_or(Pair { addr: 0, req: 0 });
         let sample = Sample::known(
-            Lines(lines % (1 << 18)),
+            Lines(lines % (1 << 21)),
             on_bus.req % 32,
             on_bus.addr % (1 << 33),
             0,
@@ -232,7 +232,7 @@ fn expect_accepted(rt: &impl Abort, alloc: Global, choices: &[Choice], clocks: u
     }
     let w = &bus.trace;
     assert!(rt; w.len() < 1 << 32);
-    assert_eq!(rt; verdict(w), None);
+    assert_eq!(rt; verdict(Marks::of_profile(1), w), None);
     let seen = requests(alloc, w).expect(rt, "out of memory");
     assert_eq!(rt; seen.len(), choices.len());
     assert_eq!(rt; bus.queue.len(), 0);

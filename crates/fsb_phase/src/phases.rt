@@ -4,15 +4,14 @@ ghost use Rattle.fsb_trace.specs.At.{Trace};
 ghost use Rattle.fsb_phase.specs.Drive.{drive_of, phased_at};
 ghost use Rattle.fsb_phase.specs.Flight.{InFlight};
 ghost use Rattle.fsb_phase.specs.Phases.{Stands, MayTake};
-ghost use Rattle.fsb_phase.specs.Registers.{start_after, snooping, stalls_at, gets_ready, answers, answered, chunk_at, is_busy, numbered_at, drive_by, snooped_by, transfer_to, has_answered, ends_by, phased_by, answer_to, from_to, may_answer_at, ready_to, phases_to};
+ghost use Rattle.fsb_phase.specs.Registers.{start_after, snooping, is_to_stall, gets_ready, gets_response, answered, chunk_at, is_busy, numbered_at, drive_by, entry_snooped, transfer_to, has_answered, ends_by, phased_by, answer_to, from_to, may_answer_at, ready_to, phases_to};
 
 use crate::drive::{Drive, Phased};
-use crate::places::{code_of, is_taking, moves, open_entry};
-use crate::timing::{
-    chunk_from, is_busy_from, is_every_second_from, is_ready_from, is_response_from, is_stall_from,
-};
+use crate::places::{is_moving, is_taking, open_entry, settled_code};
+use crate::timing::{chunk_from, is_busy_from, is_ready_from, is_response_from, is_stall_from};
 use fsb_queue::{Entry, Queue};
 use fsb_signal::{Lines, Sample};
+use fsb_trace::is_every_second_from;
 
 /// Tells what is due at a clock, from the samples and the queues that it was given so far.
 #[derive(Clone, Copy, Debug, PartialEq, Eq)]
@@ -73,7 +72,7 @@ impl Phases {
         Drive {
             snoop: snooping.map(|e| e.number),
             stall: match snooping {
-                Some(e) => self.stalls_at(now, &e),
+                Some(e) => self.is_to_stall(now, &e),
                 None => false,
             },
             trdy: match head {
@@ -81,7 +80,7 @@ impl Phases {
                 None => false,
             },
             rs: match head {
-                Some(e) if self.answers(now, &e) => code_of(&e),
+                Some(e) if self.gets_response(now, &e) => settled_code(&e),
                 _ => 0,
             },
             dbsy: match head {
@@ -117,9 +116,9 @@ impl Phases {
         }
     }
 
-    #[tactic(auto, unfolding(crate::specs::Registers::stalls_at))]
-    fn stalls_at(&self, now: u32, e: &Entry) -> bool
-        ensures { result ≡ stalls_at self.now now e.now }
+    #[tactic(auto, unfolding(crate::specs::Registers::is_to_stall))]
+    fn is_to_stall(&self, now: u32, e: &Entry) -> bool
+        ensures { result ≡ is_to_stall self.now now e.now }
     {
         is_stall_from(e.choice.stall, u64::from(now), self.start_after(e.clock))
     }
@@ -133,9 +132,9 @@ impl Phases {
             && is_ready_from(self.from, e.choice.trdy, u64::from(now))
     }
 
-    #[tactic(auto, unfolding(crate::specs::Registers::answers))]
-    fn answers(&self, now: u32, e: &Entry) -> bool
-        ensures { result ≡ answers self.now now e.now }
+    #[tactic(auto, unfolding(crate::specs::Registers::gets_response))]
+    fn gets_response(&self, now: u32, e: &Entry) -> bool
+        ensures { result ≡ gets_response self.now now e.now }
     {
         self.transfer.is_none()
             && is_response_from(is_taking(e), self.from, self.ready, e.choice.resp, now)
@@ -147,7 +146,7 @@ impl Phases {
     {
         match self.transfer {
             Some(_) => self.response,
-            None if self.answers(now, e) => Some(now),
+            None if self.gets_response(now, e) => Some(now),
             None => None,
         }
     }
@@ -157,7 +156,7 @@ impl Phases {
         ensures { result ≡ chunk_at self.now now e.now }
     {
         match self.answered(now, e) {
-            Some(r) if moves(e) => chunk_from(e.choice.gap, now, r),
+            Some(r) if is_moving(e) => chunk_from(e.choice.gap, now, r),
             _ => None,
         }
     }
@@ -167,7 +166,7 @@ impl Phases {
         ensures { result ≡ is_busy self.now now e.now }
     {
         match self.answered(now, e) {
-            Some(r) => moves(e) && is_busy_from(e.choice.gap, now, r),
+            Some(r) => is_moving(e) && is_busy_from(e.choice.gap, now, r),
             None => false,
         }
     }
@@ -182,9 +181,9 @@ impl Phases {
         }
     }
 
-    #[tactic(auto, unfolding(crate::specs::Registers::snooped_by, fsb_laws::specs::OneMore::stalls))]
-    fn snooped_by(&self, now: u32, sample: &Sample, queue: &Queue) -> Option<Entry>
-        ensures { result ≡ snooped_by self.now now sample.now queue.now }
+    #[tactic(auto, unfolding(crate::specs::Registers::entry_snooped, fsb_laws::specs::OneMore::stalls))]
+    fn entry_snooped(&self, now: u32, sample: &Sample, queue: &Queue) -> Option<Entry>
+        ensures { result ≡ entry_snooped self.now now sample.now queue.now }
     {
         if sample.has(Lines::HIT) && sample.has(Lines::HITM) {
             None
@@ -201,7 +200,7 @@ impl Phases {
             self.transfer
         } else {
             match queue.at(0) {
-                Some(e) if moves(e) => Some(0),
+                Some(e) if is_moving(e) => Some(0),
                 _ => None,
             }
         };
@@ -228,7 +227,7 @@ impl Phases {
         self.has_answered(sample) && self.transfer_to(sample, queue).is_none()
     }
 
-    #[tactic(auto, unfolding(crate::specs::Registers::phased_by, crate::specs::Registers::ended_by))]
+    #[tactic(auto, unfolding(crate::specs::Registers::phased_by, crate::specs::Registers::entry_ended))]
     fn phased_by(&self, now: u32, sample: &Sample, queue: &Queue) -> Phased
         ensures { result ≡ phased_by self.now now sample.now queue.now }
     {
@@ -238,7 +237,7 @@ impl Phases {
             None
         };
         Phased {
-            snooped: self.snooped_by(now, sample, queue).map(|e| e.number),
+            snooped: self.entry_snooped(now, sample, queue).map(|e| e.number),
             ended: ended.map(|e| e.number),
         }
     }
@@ -247,7 +246,7 @@ impl Phases {
     fn from_to(&self, now: u32, sample: &Sample, queue: &Queue) -> Option<u64>
         ensures { result ≡ from_to self.now now sample.now queue.now }
     {
-        let ends = self.snooped_by(now, sample, queue).is_some();
+        let ends = self.entry_snooped(now, sample, queue).is_some();
         if !self.has_answered(sample) {
             answer_to(self.from, now, ends, queue.at(0).copied())
         } else if self.ends_by(sample, queue) {
@@ -286,7 +285,7 @@ impl Phases {
     fn phases_to(&self, now: u32, sample: &Sample, queue: &Queue) -> Phases
         ensures { result ≡ phases_to self.now now sample.now queue.now }
     {
-        let snooped = if self.snooped_by(now, sample, queue).is_some() {
+        let snooped = if self.entry_snooped(now, sample, queue).is_some() {
             Some(now)
         } else {
             self.snooped

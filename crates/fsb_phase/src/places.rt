@@ -1,12 +1,12 @@
 //! What the entries of a queue say of themselves.
 
 ghost use Rattle.std.specs.Prelude.{◌≡◌};
-ghost use Rattle.fsb_phase.specs.Due.{moves};
-ghost use Rattle.fsb_phase.specs.Drive.{code_of};
+ghost use Rattle.fsb_phase.specs.Due.{is_moving};
+ghost use Rattle.fsb_phase.specs.Drive.{settled_code};
 ghost use Rattle.fsb_phase.specs.Registers.{is_taking, open_entry};
 
 use fsb_queue::{Entry, Queue};
-use fsb_trace::{Outcome, code_of as response_code};
+use fsb_trace::{Outcome, code_of};
 
 /// Whether memory takes data with the entry's outcome.
 #[tactic(auto, unfolding(crate::specs::Registers::is_taking, fsb_trace::specs::Outcome::does_take, fsb_count::specs::Options::is_some_and))]
@@ -17,9 +17,9 @@ pub fn is_taking(e: &Entry) -> bool
 }
 
 /// Whether data move with the entry's outcome.
-#[tactic(auto, unfolding(crate::specs::Due::moves, fsb_count::specs::Options::is_some_and))]
-pub fn moves(e: &Entry) -> bool
-    ensures { result ≡ moves e.now }
+#[tactic(auto, unfolding(crate::specs::Due::is_moving, fsb_count::specs::Options::is_some_and))]
+pub fn is_moving(e: &Entry) -> bool
+    ensures { result ≡ is_moving e.now }
 {
     match e.outcome {
         Some(outcome) => fsb_trace::moves(outcome),
@@ -28,12 +28,12 @@ pub fn moves(e: &Entry) -> bool
 }
 
 /// The response code of the entry's outcome; 0 where it has none.
-#[tactic(auto, unfolding(crate::specs::Drive::code_of))]
-pub fn code_of(e: &Entry) -> u8
-    ensures { result ≡ code_of e.now }
+#[tactic(auto, unfolding(crate::specs::Drive::settled_code))]
+pub fn settled_code(e: &Entry) -> u8
+    ensures { result ≡ settled_code e.now }
 {
     match e.outcome {
-        Some(outcome) => response_code(outcome),
+        Some(outcome) => code_of(outcome),
         None => 0,
     }
 }
@@ -42,12 +42,5 @@ pub fn code_of(e: &Entry) -> u8
 pub fn open_entry(queue: &Queue) -> Option<Entry>
     ensures { result ≡ open_entry queue.now }
 {
-    for i in 0..queue.len() {
-        if let Some(e) = queue.at(i) {
-            if e.outcome.is_none() {
-                return Some(*e);
-            }
-        }
-    }
-    None
+    queue.iter().find(|e| e.outcome.is_none()).copied()
 }

@@ -9,7 +9,8 @@ use fsb_hazard::{Choice, Turn};
 use fsb_queue::{Entry, Queue};
 use fsb_runs::{
     CANCELLED_BY_ADDRESS_ERROR, Clock, DEFERRED_AND_REPLIED, DIRTY_VICTIM_WRITTEN_BACK,
-    LOCKED_INCREMENTS, STALLED_SNOOP, TWO_AGENTS_OVERLAP, WRITE_BACK_HELD_OFF,
+    LOCKED_INCREMENTS, STALLED_SNOOP, TWO_AGENTS_OVERLAP, UPGRADE_LOST_AND_HANDED,
+    UPGRADE_OF_A_SHARED_LINE, WRITE_BACK_HELD_OFF,
 };
 use fsb_signal::{Lines, Sample};
 use fsb_trace::{Outcome, Who};
@@ -38,7 +39,7 @@ fn control_lines(clock: Clock) -> u32 {
 
 /// The sample with these control lines.
 fn sample(lines: u32) -> Sample {
-    Sample::known(Lines(lines % (1 << 18)), 0, 0, 0)
+    Sample::known(Lines(lines % (1 << 21)), 0, 0, 0)
 }
 
 /// The request that begins at the clock, as an entry.
@@ -282,6 +283,37 @@ fn dirty_victim_written_back(rt: HostRuntime) {
         &rt,
         rt.alloc(),
         &DIRTY_VICTIM_WRITTEN_BACK.map(control_lines),
+        &told,
+    );
+}
+
+#[test]
+fn upgrade_of_a_shared_line(rt: HostRuntime) {
+    let told = [
+        (Kind::Read, QUIET, Outcome::Granted, 6, 11),
+        (Kind::Read, QUIET, Outcome::Granted, 9, 15),
+        (Kind::Upgrade, QUIET, Outcome::Upgraded, 18, 20),
+    ];
+    expect_run(
+        &rt,
+        rt.alloc(),
+        &UPGRADE_OF_A_SHARED_LINE.map(control_lines),
+        &told,
+    );
+}
+
+#[test]
+fn upgrade_lost_and_handed(rt: HostRuntime) {
+    let told = [
+        (Kind::Read, QUIET, Outcome::Granted, 6, 11),
+        (Kind::Read, QUIET, Outcome::Granted, 9, 15),
+        (Kind::Upgrade, QUIET, Outcome::Upgraded, 18, 20),
+        (Kind::Upgrade, QUIET, Outcome::Handed, 22, 29),
+    ];
+    expect_run(
+        &rt,
+        rt.alloc(),
+        &UPGRADE_LOST_AND_HANDED.map(control_lines),
         &told,
     );
 }

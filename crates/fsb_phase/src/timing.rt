@@ -1,16 +1,7 @@
 //! When the steps of a request are due, by the clocks that they rest on and the waits that were chosen for it.
 
 ghost use Rattle.std.specs.Prelude.{◌≡◌, ◌<◌, IfSome};
-ghost use Rattle.fsb_trace.specs.Snoop.{is_every_second_from};
 ghost use Rattle.fsb_trace.specs.Timing.{is_stall_from, is_ready_from, is_response_from, chunk_from, is_busy_from};
-
-/// Whether `c` is the start or an even number of clocks after it.
-#[tactic(auto, unfolding(fsb_trace::specs::Snoop::is_every_second_from))]
-pub fn is_every_second_from(start: u64, c: u64) -> bool
-    ensures { result ≡ is_every_second_from start c }
-{
-    start <= c && (c - start) % 2 == 0
-}
 
 /// Whether `c` is one of the first clocks of a snoop that starts there, as many as it is to be stalled.
 pub fn is_stall_from(stall: u8, c: u64, start: u64) -> bool

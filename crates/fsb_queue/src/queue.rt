@@ -2,7 +2,7 @@ ghost use Rattle.std.specs.Prelude.{◌≡◌, ◌<◌, ◌≤◌, [], ◌∷◌
 ghost use Rattle.fsb_queue.specs.Entries.{entry_of, without, settled_at};
 
 use crate::entry::Entry;
-use circular_buffer::HeapCircularBuffer;
+use circular_buffer::{HeapCircularBuffer, Iter};
 use fsb_io::Memory;
 use fsb_trace::Outcome;
 use std::alloc::Global;
@@ -79,6 +79,13 @@ impl Queue {
         ensures { option_copied result ≡ slice_get self.now i }
     {
         self.entries.get(i)
+    }
+
+    /// The entries in order, from the oldest.
+    pub fn iter(&self) -> Iter<'_, Entry>
+        ensures { result ≡ self.now }
+    {
+        self.entries.iter()
     }
 
     /// Gives the entry at this place its outcome.

@@ -46,6 +46,11 @@ fn expect_numbers(rt: &impl Abort, queue: &Queue, numbers: &[u32]) {
         assert_eq!(rt; queue.at(i).copied(), Some(entry(*number)));
     }
     assert!(rt; queue.at(numbers.len()).is_none());
+    let mut lent = queue.iter();
+    for number in numbers {
+        assert_eq!(rt; lent.next().copied(), Some(entry(*number)));
+    }
+    assert!(rt; lent.next().is_none());
 }
 
 #[test]

@@ -1,2 +1,4 @@
 pub mod LogText
+pub mod RequestCounts
+pub mod SummaryText
 pub mod VerdictText

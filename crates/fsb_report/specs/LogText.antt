@@ -8,15 +8,15 @@ use Rattle.fsb_access.specs.declared.access.Access.TheVariants.{Load, Store}
 use Rattle.fsb_access.specs.declared.log.Done.{Done}
 
 -- what an access does, between two spaces and its address: ` ld <size> <addr>` or ` st <size> <addr>`
-unfoldable pub access_text : Access → List ℕ
-access_text (Load size addr) = codes " ld " ++ decimal size ++ codes " " ++ hexadecimal addr
-access_text (Store size addr value) = codes " st " ++ decimal size ++ codes " " ++ hexadecimal addr
+unfoldable pub logged_access_text : Access → List ℕ
+logged_access_text (Load size addr) = codes " ld " ++ decimal size ++ codes " " ++ hexadecimal addr
+logged_access_text (Store size addr value) = codes " st " ++ decimal size ++ codes " " ++ hexadecimal addr
 
 -- the line of one completed access: `<clock> <agent> <item> ld|st <size> <addr> = <value>`
 unfoldable pub log_line_text : Done → List ℕ
 log_line_text done =
     decimal done.clock ++ codes " " ++ decimal done.agent ++ codes " " ++ decimal done.item
-    ++ access_text done.access ++ codes " = " ++ hexadecimal done.value ++ codes "\n"
+    ++ logged_access_text done.access ++ codes " = " ++ hexadecimal done.value ++ codes "\n"
 
 -- the last line: `end clocks=<clocks> done=<done> of=<of>`
 unfoldable pub end_line_text : ℕ → ℕ → ℕ → List ℕ

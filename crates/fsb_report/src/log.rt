@@ -1,7 +1,7 @@
 //! The lines of the printed log.
 ghost use Rattle.std.specs.Prelude.{◌≡◌, ◌≤◌, ◌+◌, ◌++◌};
 ghost use Rattle.arrayvec.specs.ArrayVec.{array_vec_len};
-ghost use Rattle.fsb_report.specs.LogText.{log_line_text, access_text, end_line_text};
+ghost use Rattle.fsb_report.specs.LogText.{log_line_text, logged_access_text, end_line_text};
 
 use arrayvec::ArrayVec;
 use fsb_access::{Access, Done};
@@ -27,10 +27,10 @@ pub fn log_line(done: &Done) -> Line
 }
 
 // Appends what the access does: the word, its size and its address.
-#[tactic(auto, unfolding(crate::specs::LogText::access_text))]
+#[tactic(auto, unfolding(crate::specs::LogText::logged_access_text))]
 fn put_access(line: &mut Line, access: &Access)
     requires { array_vec_len line.old + 50 ≤ 256 }
-    ensures items { line.new.items ≡ line.old.items ++ access_text access.now }
+    ensures items { line.new.items ≡ line.old.items ++ logged_access_text access.now }
     ensures len { array_vec_len line.new ≤ array_vec_len line.old + 50 }
 {
     let (word, size, addr) = match access {

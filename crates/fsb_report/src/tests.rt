@@ -1,6 +1,16 @@
-use crate::{end_line, log_line, verdict_line};
+use crate::{
+    RequestCounts, bus_line, end_line, gen_line, log_line, rejected_line, request_counts,
+    verdict_line,
+};
 use fsb_access::{Access, Done, Operand};
 use fsb_rules::Broken;
+use fsb_runs::{
+    ADS, BREQ0, CANCELLED_BY_ADDRESS_ERROR, Clock, DBSY, DRDY, LOAD_THEN_STORE_HIT, LOCK, RS0, RS1,
+    RS2, UPGRADE_OF_A_SHARED_LINE,
+};
+use fsb_signal::{Lines, Sample};
+use std::alloc::Global;
+use std::process::Abort;
 
 /// An entry of agent 0.
 fn entry(clock: u32, item: u16, access: Access, value: u64) -> Done {
@@ -81,5 +91,119 @@ fn verdict_lines(rt: HostRuntime) {
     assert_eq!(rt;
         verdict_line(60, Some(broken)).as_slice(),
         b"rejected clock=26 rule=4\n".as_slice()
+    );
+    let parity = Broken { clock: 2, rule: 20 };
+    assert_eq!(rt;
+        rejected_line(&parity).as_slice(),
+        b"rejected clock=2 rule=20".as_slice()
+    );
+}
+
+/// The run of one agent with one locked item, up to the last clock at which something is asserted.
+const LOCKED_ITEM: [Clock; 12] = [
+    (BREQ0, 0, 0),
+    (BREQ0, 0, 0),
+    (BREQ0 | LOCK | ADS, 0x2, 0x0),
+    (LOCK, 0x2, 0x0),
+    (LOCK, 0, 0),
+    (LOCK, 0, 0),
+    (LOCK, 0, 0),
+    (LOCK, 0, 0),
+    (LOCK | RS0 | RS1 | RS2 | DBSY | DRDY, 0, 0),
+    (LOCK | DBSY | DRDY, 0, 0),
+    (LOCK | DBSY | DRDY, 0, 0),
+    (LOCK | DRDY, 0, 0),
+];
+
+/// A read, two reads and invalidates, three write-backs and four replies, of low lines and of high ones.
+const EACH_KIND: [Clock; 20] = [
+    (ADS, 0x6, 0x8),
+    (0, 0x2, 0x2),
+    (ADS, 0x2, 0x9),
+    (0, 0x2, 0x2),
+    (ADS, 0xa, 0x2000_0000),
+    (0, 0x2, 0x20000),
+    (ADS, 0x5, 0x8),
+    (0, 0x2, 0x0),
+    (ADS, 0xd, 0x2000_0008),
+    (0, 0x2, 0x2000),
+    (ADS, 0x5, 0x10),
+    (0, 0x2, 0x4000),
+    (ADS, 0x0, 0x0),
+    (0, 0x0, 0x0),
+    (ADS, 0x0, 0x2000),
+    (0, 0x0, 0x0),
+    (ADS, 0x0, 0x4000),
+    (0, 0x0, 0x0),
+    (ADS, 0x0, 0x20000),
+    (0, 0x0, 0x0),
+];
+
+/// The counts, in the order of the line.
+fn counts(reads: u32, invalidates: u32, writebacks: u32, replies: u32) -> RequestCounts {
+    RequestCounts {
+        reads,
+        invalidates,
+        writebacks,
+        replies,
+    }
+}
+
+/// Asserts that the trace of these clocks, which are fewer than 100, has so many requests.
+fn expect_counts(rt: &impl Abort, alloc: Global, clocks: &[Clock], counts: RequestCounts) {
+    let mut w = Vec::new(alloc);
+    for &(lines, req, addr) in clocks {
+        let lines = Lines(lines % (1 << 21));
+        let sample = Sample::known(lines, (req % 32) as u8, addr % (1 << 33), 0);
+        w.push(sample).expect(rt, "out of memory");
+    }
+    assert!(rt; w.len() < 100);
+    assert_eq!(rt; request_counts(&w), counts);
+}
+
+#[test]
+fn requests_are_counted_by_kind(rt: HostRuntime) {
+    let unknown_code = [(ADS, 0x1f, 0x8), (0, 0x2, 0x2)];
+    let rows: [(&[Clock], RequestCounts); 7] = [
+        (&LOCKED_ITEM, counts(0, 1, 0, 0)),
+        (&EACH_KIND, counts(1, 2, 3, 4)),
+        // A cancelled request counts; one that does not decode, and an upgrade, do not.
+        (&CANCELLED_BY_ADDRESS_ERROR, counts(2, 0, 0, 0)),
+        (&unknown_code, counts(0, 0, 0, 0)),
+        (&UPGRADE_OF_A_SHARED_LINE, counts(2, 0, 0, 0)),
+        // The second clock of the only request is past the end, and it is the last clock.
+        (&LOAD_THEN_STORE_HIT[..3], counts(0, 0, 0, 0)),
+        (&LOAD_THEN_STORE_HIT[..4], counts(1, 0, 0, 0)),
+    ];
+    for (clocks, counts) in rows {
+        expect_counts(&rt, rt.alloc(), clocks, counts);
+    }
+}
+
+#[test]
+fn summary_of_one_locked_item(rt: HostRuntime) {
+    assert_eq!(rt;
+        gen_line(0, 1, 1).as_slice(),
+        b"gen seed=0 agents=1 items=1\n".as_slice()
+    );
+    assert_eq!(rt;
+        end_line(40, 2, 2).as_slice(),
+        b"end clocks=40 done=2 of=2\n".as_slice()
+    );
+    assert_eq!(rt;
+        bus_line(&counts(0, 1, 0, 0)).as_slice(),
+        b"bus requests=1 reads=0 invalidates=1 writebacks=0 replies=0\n".as_slice()
+    );
+}
+
+#[test]
+fn longest_lines_of_a_summary(rt: HostRuntime) {
+    assert_eq!(rt;
+        gen_line(u64::MAX, 4, 4_096).as_slice(),
+        b"gen seed=18446744073709551615 agents=4 items=4096\n".as_slice()
+    );
+    assert_eq!(rt;
+        bus_line(&counts(1, 2, 3, u32::MAX)).as_slice(),
+        b"bus requests=4294967301 reads=1 invalidates=2 writebacks=3 replies=4294967295\n".as_slice()
     );
 }

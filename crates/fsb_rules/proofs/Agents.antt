@@ -12,10 +12,9 @@ use Rattle.fsb_encode.specs.declared.request.Request.{Request}
 use Rattle.fsb_trace.specs.declared.who.Who.{Who}
 use Rattle.fsb_trace.specs.declared.who.Who.TheVariants.{Symmetric, Priority}
 use Rattle.fsb_trace.specs.At.{Trace}
-use Rattle.fsb_trace.specs.Winner.{Turns, agent_in_order, asks_in_order, first_asking, last_if_asking, winner_by, winner_after, turns_before, winner_at, then_begun, request_line_of, is_same_agent, first_in_order, is_agent}
+use Rattle.fsb_trace.specs.Winner.{Requesters, agent_in_order, asks_in_order, first_asking, last_if_asking, winner_by, winner_after, requesters_before, winner_at, then_begun, request_line_of, is_same_agent, first_in_order, is_agent}
 use Rattle.fsb_trace.specs.Rules.{is_own_id}
-use Rattle.fsb_trace.proofs.WinnerSteps.{winner_by-locked, winner_by-priority, winner_by-symmetric, winner_after-low, winner_after-high}
-use Rattle.fsb_trace.proofs.TurnSteps.{turns_before-start, turns_before-begun, turns_before-kept}
+use Rattle.fsb_trace.proofs.Interface.{winner_by-locked, winner_by-priority, winner_by-symmetric, winner_after-low, winner_after-high, requesters_before-start, requesters_before-begun, requesters_before-kept}
 
 -- there is no such agent, or it is the priority agent, or one of the four
 abbrev pub IsOneOfFour : Option Who → Type 0
@@ -42,35 +41,35 @@ by_last w d (Some who) f = λ a e.
 same_four : (o p : Option Who) → o ≡ p → IsOneOfFour p → IsOneOfFour o
 same_four o p e f = λ a h. f a (sym e ∙ h)
 
-by_lines : (w : Trace) (d : ℕ) (turns : Turns) (lock bpri : Bool) → line_at LOCK w d ≡ lock → line_at BPRI w d ≡ bpri → IsOneOfFour turns.0 → IsOneOfFour (winner_by w d turns)
+by_lines : (w : Trace) (d : ℕ) (turns : Requesters) (lock bpri : Bool) → line_at LOCK w d ≡ lock → line_at BPRI w d ≡ bpri → IsOneOfFour turns.0 → IsOneOfFour (winner_by w d turns)
 by_lines w d turns true bpri e g f = same_four _ _ (winner_by-locked w d turns e) (by_last w d turns.0 f)
 by_lines w d turns false true e g f = same_four _ _ (winner_by-priority w d turns e g) (λ a h. absurd (let no : ⊥ = cc in no))
 by_lines w d turns false false e g f = same_four _ _ (winner_by-symmetric w d turns e g) (by_order w d (first_in_order turns.1))
 
-after_cases : (w : Trace) (c : ℕ) (turns : Turns) (b : Bool) → nat_lt c 2 ≡ b → IsOneOfFour turns.0 → IsOneOfFour (winner_after w c turns)
+after_cases : (w : Trace) (c : ℕ) (turns : Requesters) (b : Bool) → nat_lt c 2 ≡ b → IsOneOfFour turns.0 → IsOneOfFour (winner_after w c turns)
 after_cases w c turns true e f = same_four _ _ (winner_after-low w c turns e) (λ a h. absurd (let no : ⊥ = cc in no))
 after_cases w c turns false e f =
     same_four _ _ (winner_after-high w c turns e) (by_lines w (c - 2) turns (line_at LOCK w (c - 2)) (line_at BPRI w (c - 2)) refl refl f)
 
-then_last : (turns : Turns) (winner : Option Who) → (then_begun turns winner).0 ≡ winner
+then_last : (turns : Requesters) (winner : Option Who) → (then_begun turns winner).0 ≡ winner
 unfolding then_begun
 then_last turns winner = refl
 
-turn_cases : (w : Trace) (c : ℕ) (ads : Bool) → line_at ADS w c ≡ ads → IsOneOfFour (turns_before w c).0 → IsOneOfFour (turns_before w (c + 1)).0
+turn_cases : (w : Trace) (c : ℕ) (ads : Bool) → line_at ADS w c ≡ ads → IsOneOfFour (requesters_before w c).0 → IsOneOfFour (requesters_before w (c + 1)).0
 turn_cases w c true e f =
-    same_four _ _ (ap (λ t. t.0) (turns_before-begun w c e) ∙ then_last (turns_before w c) (winner_after w c (turns_before w c)))
-    (after_cases w c (turns_before w c) (nat_lt c 2) refl f)
-turn_cases w c false e f = same_four _ _ (ap (λ t. t.0) (turns_before-kept w c e)) f
+    same_four _ _ (ap (λ t. t.0) (requesters_before-begun w c e) ∙ then_last (requesters_before w c) (winner_after w c (requesters_before w c)))
+    (after_cases w c (requesters_before w c) (nat_lt c 2) refl f)
+turn_cases w c false e f = same_four _ _ (ap (λ t. t.0) (requesters_before-kept w c e)) f
 
-turns_four : (w : Trace) (c : ℕ) → IsOneOfFour (turns_before w c).0
-turns_four w zero = same_four _ _ (ap (λ t. t.0) (turns_before-start w)) (λ a e. absurd (let no : ⊥ = cc in no))
+turns_four : (w : Trace) (c : ℕ) → IsOneOfFour (requesters_before w c).0
+turns_four w zero = same_four _ _ (ap (λ t. t.0) (requesters_before-start w)) (λ a e. absurd (let no : ⊥ = cc in no))
 turns_four w (suc c) =
     let next : suc c ≡ c + 1 = omega arith in
     rw next (turn_cases w c (line_at ADS w c) refl (turns_four w c))
 
 pub winner_four : (w : Trace) (c a : ℕ) → winner_at w c ≡ Some (Symmetric a) → a < 4
 unfolding winner_at
-winner_four w c = after_cases w c (turns_before w c) (nat_lt c 2) refl (turns_four w c)
+winner_four w c = after_cases w c (requesters_before w c) (nat_lt c 2) refl (turns_four w c)
 
 -- the agent of a request with an ID of its own
 pub own_agent : (winner : Option Who) (r : Request) → is_own_id winner r ≡ true → winner ≡ Some (Symmetric (r.did / 16))

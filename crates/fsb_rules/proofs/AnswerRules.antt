@@ -3,7 +3,7 @@ use Rattle.std.proofs.Common.{ℕ, ◌+◌, ◌<◌, ◌≡◌, Bool, true, fals
 use Rattle.std.proofs.lemmas.Bool.{and_parts, and_right, lt-ltb, lt-leb}
 use Rattle.std.proofs.Math.Bool.{and-true}
 use Rattle.fsb_count.specs.Options.{is_some_and, is_before}
-use Rattle.fsb_count.proofs.Options.{is_some_and-none, is_before-if, is_before-from}
+use Rattle.fsb_count.proofs.Interface.{is_some_and-none, is_before-if, is_before-from}
 use Rattle.fsb_signal.specs.declared.lines.TheConstants.Lines.{TRDY, HITM, DEFER}
 use Rattle.fsb_signal.specs.declared.sample.Sample.{Sample}
 use Rattle.fsb_signal.specs.Samples.{has_line, response_of}
@@ -12,17 +12,12 @@ use Rattle.fsb_trace.specs.Requests.{live_count}
 use Rattle.fsb_trace.specs.Snoop.{snoop_end_of}
 use Rattle.fsb_trace.specs.Response.{takes, ready_clock_of}
 use Rattle.fsb_trace.specs.Rules.{may_answer, next_response, is_response_early, is_code_for, responds_soundly, has_code_at, is_code_wrong, is_ready_in_time, is_ready_wrongly, is_target_ready_wrong}
-use Rattle.fsb_trace.proofs.Stay.{snoop_end_of-stays, snoop_end_of-clock}
-use Rattle.fsb_trace.proofs.StayEnds.{line_at_snoop_end-stays, live_request_of-stays}
-use Rattle.fsb_trace.proofs.LiveRequests.{live_below_count}
+use Rattle.fsb_trace.proofs.Interface.{snoop_end_of-stays, snoop_end_of-clock, line_at_snoop_end-stays, live_request_of-stays, live_below_count}
 use Rattle.fsb_laws.specs.OneMore.{OneMore, responds}
 use Rattle.fsb_laws.specs.Orderly.{Orderly}
 use Rattle.fsb_laws.specs.Progress.{SnoopsTo, response_count, may_answer_next}
-use Rattle.fsb_laws.proofs.OneMoreFacts.{line_at-new, response_code_at-new}
-use Rattle.fsb_laws.proofs.ResponseSteps.{responds_at-new, next_response-new}
-use Rattle.fsb_laws.proofs.AnswerSteps.{may_answer-new, may_answer_next-parts}
-use Rattle.fsb_laws.proofs.ReadySteps.{has_ready, ready_clock_of-old, ready_clock_of-next}
-use Rattle.fsb_rules.specs.declared.asked.Snooped.{Snooped}
+use Rattle.fsb_laws.proofs.Interface.{line_at-new, response_code_at-new, responds_at-new, next_response-new, may_answer-new, may_answer_next-parts, has_ready, ready_clock_of-old, ready_clock_of-next}
+use Rattle.fsb_rules.specs.declared.live.Snooped.{Snooped}
 use Rattle.fsb_rules.specs.declared.checker.Checker.{Checker}
 use Rattle.fsb_rules.specs.Tests.{takes_by, is_code_by, next_by, is_sound, is_ready_wrongly_by, is_ready_late_by}
 use Rattle.fsb_rules.specs.Steps.{is_code_wrong_by, is_target_ready_wrong_by}

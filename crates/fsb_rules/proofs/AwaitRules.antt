@@ -5,9 +5,7 @@ use Rattle.std.specs.List.{list_any}
 use Rattle.std.proofs.lemmas.Bool.{and_parts, and_from, both_ways, not-true, false_from_ne_true}
 use Rattle.fsb_count.specs.Options.{is_some_and, is_before}
 use Rattle.fsb_count.specs.Clocks.{any_where, count_where}
-use Rattle.fsb_count.proofs.Any.{any_where-at, any_where-off, any_where-found}
-use Rattle.fsb_count.proofs.Nth.{nth_where-found}
-use Rattle.fsb_count.proofs.Options.{is_some-none, is_none-none, is_before-parts, is_before-from}
+use Rattle.fsb_count.proofs.Interface.{any_where-at, any_where-off, any_where-found, nth_where-found, is_some-none, is_none-none, is_before-parts, is_before-from}
 use Rattle.fsb_encode.specs.declared.request.Request.{Request}
 use Rattle.fsb_trace.specs.At.{Trace, request_at}
 use Rattle.fsb_trace.specs.Requests.{is_live, live_count, live_clock_of, live_number_of, live_request_of, is_reply, is_reply_kind, have_same_id}
@@ -15,15 +13,10 @@ use Rattle.fsb_trace.specs.Outcome.{response_clock_of, is_deferred}
 use Rattle.fsb_trace.specs.Flight.{reply_clock_of, last_clock_of}
 use Rattle.fsb_trace.specs.Deferral.{is_answered}
 use Rattle.fsb_trace.specs.Rules.{awaits_reply, is_id_taken_by, is_outstanding_of_winner, is_begun_wrongly}
-use Rattle.fsb_trace.proofs.AgreeAt.{AgreeTo-sym}
-use Rattle.fsb_trace.proofs.Stay.{snoop_end_of-clock, snoop_end_of-stays, response_clock_of-stays}
-use Rattle.fsb_trace.proofs.StayEnds.{is_deferred-stays, live_request_of-stays}
-use Rattle.fsb_trace.proofs.LiveRequests.{is_reply-some, live_clock_of-number, live_below_count}
-use Rattle.fsb_laws.proofs.ResponseSteps.{has_answer, response_there, response_counted}
-use Rattle.fsb_laws.proofs.OutstandingSteps.{is_outstanding-end, deferred_response, last_clock_of-deferred, reply_end_of-none}
-use Rattle.fsb_laws.proofs.BeginSteps.{same_live_request, same_answered, same_deferred}
+use Rattle.fsb_trace.proofs.Interface.{AgreeTo-sym, snoop_end_of-clock, snoop_end_of-stays, response_clock_of-stays, is_deferred-stays, live_request_of-stays, is_reply-some, live_clock_of-number, live_below_count}
+use Rattle.fsb_laws.proofs.Interface.{has_answer, response_there, response_counted, is_outstanding-end, deferred_response, last_clock_of-deferred, reply_end_of-none, same_live_request, same_answered, same_deferred}
 use Rattle.fsb_rules.specs.declared.outstanding.Open.{Open}
-use Rattle.fsb_rules.specs.Asked.{asked_from}
+use Rattle.fsb_rules.specs.Live.{live_from}
 use Rattle.fsb_rules.specs.OpenTests.{awaits, has_id, is_of_agent, is_wrong_among}
 use Rattle.fsb_rules.specs.Outstanding.{open_from, open_at, open_of}
 use Rattle.fsb_rules.proofs.OpenLists.{list_any-all}
@@ -168,14 +161,14 @@ wrong_cases : (u h v : Trace) (r : Request) (t : Bool) → Begun u h v r → is_
 wrong_cases u h v r true b e = ap not (sym (awaited u h v r b))
 wrong_cases u h v r false b e = rw (taken_id u h v r b, of_agent u h v r b e) refl
 
-wrong_form : (xs : List Open) (q : ℕ) (r : Request) → is_wrong_among xs (asked_from q r) ≡ cond (is_reply_kind r.kind) (not (list_any (awaits r.did) xs)) (list_any (has_id r.did) xs || nat_le 4 (count_by (is_of_agent (r.did / 16)) xs))
-unfolding is_wrong_among asked_from
+wrong_form : (xs : List Open) (q : ℕ) (r : Request) → is_wrong_among xs (live_from q r) ≡ cond (is_reply_kind r.kind) (not (list_any (awaits r.did) xs)) (list_any (has_id r.did) xs || nat_le 4 (count_by (is_of_agent (r.did / 16)) xs))
+unfolding is_wrong_among live_from
 wrong_form xs q r = refl
 
 begun_form : (v : Trace) (q : ℕ) (r : Request) → request_at v q ≡ Some r → is_begun_wrongly v q ≡ cond (is_reply_kind r.kind) (not (any_where (awaits_reply v q) (live_count v))) (any_where (is_id_taken_by v q) q || nat_le 4 (count_where (is_outstanding_of_winner v q) q))
 unfolding is_begun_wrongly
 begun_form v q r e = rw (e, is_reply-some r) refl
 
-pub wrong_begun : (u h v : Trace) (q : ℕ) (r : Request) → Begun u h v r → is_wrong_among (open_of u) (asked_from q r) ≡ is_begun_wrongly v (length u)
+pub wrong_begun : (u h v : Trace) (q : ℕ) (r : Request) → Begun u h v r → is_wrong_among (open_of u) (live_from q r) ≡ is_begun_wrongly v (length u)
 wrong_begun u h v q r b =
     wrong_form (open_of u) q r ∙ wrong_cases u h v r (is_reply_kind r.kind) b refl ∙ sym (begun_form v (length u) r b.request)

@@ -5,9 +5,7 @@ use Rattle.std.specs.List.{filter_map, list_any}
 use Rattle.std.proofs.lemmas.Bool.{and_parts, and_left, not-true}
 use Rattle.fsb_count.specs.Options.{is_some_and, is_before}
 use Rattle.fsb_count.specs.Clocks.{any_where, count_where, all_where}
-use Rattle.fsb_count.proofs.Any.{any_where-same}
-use Rattle.fsb_count.proofs.Count.{count_where-same}
-use Rattle.fsb_count.proofs.Bools.{nat_eq-sym}
+use Rattle.fsb_count.proofs.Interface.{any_where-same, count_where-same, nat_eq-sym}
 use Rattle.fsb_signal.specs.declared.lines.TheConstants.Lines.{ADS}
 use Rattle.fsb_signal.specs.Samples.{line_at}
 use Rattle.fsb_encode.specs.declared.request.Request.{Request}
@@ -19,11 +17,9 @@ use Rattle.fsb_trace.specs.Requests.{is_live, live_number_of, is_reply, is_reply
 use Rattle.fsb_trace.specs.Flight.{last_clock_of, is_outstanding, outstanding}
 use Rattle.fsb_trace.specs.Rules.{is_identified, is_id_taken_by, is_outstanding_of_winner}
 use Rattle.fsb_trace.specs.Agree.{AgreeTo}
-use Rattle.fsb_trace.proofs.AgreeAt.{winner_at-agree, request_at-agree, line_at-agree}
+use Rattle.fsb_trace.proofs.Interface.{winner_at-agree, request_at-agree, line_at-agree}
 use Rattle.fsb_laws.specs.Orderly.{Orderly}
-use Rattle.fsb_laws.proofs.LiveSteps.{is_live-ads}
-use Rattle.fsb_laws.proofs.OutstandingSteps.{is_outstanding-end}
-use Rattle.fsb_laws.proofs.BeginSteps.{BeginsAfter, same_outstanding}
+use Rattle.fsb_laws.proofs.Interface.{is_live-ads, is_outstanding-end, BeginsAfter, same_outstanding}
 use Rattle.fsb_rules.specs.OpenTests.{has_id, is_of_agent}
 use Rattle.fsb_rules.specs.Outstanding.{open_from, open_at, open_of}
 use Rattle.fsb_rules.specs.Checker.{Decoded, Identified, Deferrable}

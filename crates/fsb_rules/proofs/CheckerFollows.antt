@@ -2,25 +2,22 @@
 use Rattle.std.proofs.Common.{ℕ, ◌+◌, ◌-◌, ◌<◌, ◌≡◌, true, false, cond, not, ◌&&◌, nat_eq, nat_lt, Option, Some, None, [], ◌∷◌, ◌++◌, length, refl, sym, ap, ◌∙◌, arith, inl, inr, subst}
 use Rattle.std.proofs.lemmas.Bool.{cases_Bool, cases_lt, cases_eq, and_parts, le-leb, not-false, ne_eqb}
 use Rattle.fsb_count.specs.Options.{is_some_and}
-use Rattle.fsb_count.proofs.Nth.{nth_where-found}
+use Rattle.fsb_count.proofs.Interface.{nth_where-found}
 use Rattle.fsb_signal.specs.declared.lines.TheConstants.Lines.{ADS}
+use Rattle.fsb_signal.specs.declared.marks.Marks.{Marks}
 use Rattle.fsb_signal.specs.declared.sample.Sample.{Sample}
 use Rattle.fsb_signal.specs.Samples.{has_line, line_at}
 use Rattle.fsb_trace.specs.declared.who.Who.{Who}
 use Rattle.fsb_trace.specs.At.{Trace, line_back, known_pair, request_at, responds_at, response_code_at}
 use Rattle.fsb_trace.specs.Winner.{winner_at}
 use Rattle.fsb_trace.specs.Requests.{live_request_of, is_reply, live_count}
-use Rattle.fsb_trace.specs.Outcome.{outcome_of, is_deferred, is_deferral, told_by, response_code_of, response_clock_of}
+use Rattle.fsb_trace.specs.Outcome.{outcome_of, is_deferred, is_deferral, told_by, response_code_of, response_clock_of, live_response_of}
 use Rattle.fsb_trace.specs.Rules.{is_identified, is_identity_wrong, is_code_wrong, responds_soundly, has_code_at, is_code_for, next_response}
-use Rattle.fsb_trace.proofs.AgreeAt.{winner_at-agree}
-use Rattle.fsb_trace.proofs.RuleSteps.{breaks-14}
+use Rattle.fsb_trace.proofs.Interface.{winner_at-agree, breaks-14, live_response_of-is}
 use Rattle.fsb_arbiter.specs.Arbiter.{Stands as ArbiterStands}
 use Rattle.fsb_laws.specs.OneMore.{OneMore}
-use Rattle.fsb_laws.proofs.OneMoreFacts.{one_more, line_at-old}
-use Rattle.fsb_laws.proofs.ResponseSteps.{next_response-new, response_counted}
-use Rattle.fsb_laws.proofs.ReplySteps.{request_at-last, request_at-old, live_request_of-old}
-use Rattle.fsb_laws.proofs.OutstandingSteps.{deferred_response, newly_deferred}
-use Rattle.fsb_rules.specs.declared.asked.Asked.{Asked}
+use Rattle.fsb_laws.proofs.Interface.{one_more, line_at-old, next_response-new, response_counted, request_at-last, request_at-old, live_request_of-old, deferred_response, newly_deferred}
+use Rattle.fsb_rules.specs.declared.live.LiveRequest.{LiveRequest}
 use Rattle.fsb_rules.specs.declared.recent.Recent.{Recent}
 use Rattle.fsb_rules.specs.declared.checker.Checker.{Checker}
 use Rattle.fsb_rules.specs.Recent.{RecentStands}
@@ -34,7 +31,7 @@ use Rattle.fsb_rules.proofs.Unbroken.{IsUnbroken, goes_on, own_unbroken, calm, t
 use Rattle.fsb_rules.proofs.Goes.{Goes}
 
 -- what the code leaves in the checker
-pub record Absorbed (k : Checker) (h : Trace) (x : Sample) (b : Option Asked) (winner : Option Who) (new : Checker) : Type 0 where
+pub record Absorbed (k : Checker) (h : Trace) (x : Sample) (b : Option LiveRequest) (winner : Option Who) (new : Checker) : Type 0 where
   pub clock : new.clock ≡ length h + 1
   pub first : new.recent.first ≡ Some x.lines
   pub second : new.recent.second ≡ k.recent.first
@@ -51,7 +48,7 @@ back_is h q e =
     let same : length h - 1 ≡ q = omega arith in
     sym (rw (le-leb 1 (length h) (omega arith), same) refl)
 
-decoded_goes : (k : Checker) (h : Trace) (x : Sample) (v : Trace) (b : Option Asked) → Goes k h x v b → Decoded v
+decoded_goes : (k : Checker) (h : Trace) (x : Sample) (v : Trace) (b : Option LiveRequest) → Goes k h x v b → Decoded v
 decoded_goes k h x v b g =
     let size = g.more.size in
     record {
@@ -70,7 +67,7 @@ decoded_goes k h x v b g =
     }
 
 -- and of their agents
-identified_goes : (k : Checker) (h : Trace) (x : Sample) (v : Trace) (b : Option Asked) → Goes k h x v b → is_identity_wrong v (length h) ≡ false → Identified v
+identified_goes : (k : Checker) (h : Trace) (x : Sample) (v : Trace) (b : Option LiveRequest) → Goes k h x v b → is_identity_wrong v (length h) ≡ false → Identified v
 identified_goes k h x v b g own =
     let size = g.more.size in
     record {
@@ -101,9 +98,16 @@ code_fits v n i f e t c =
     let g : ((true && not false) && not (nat_lt i (live_count v) && is_code_for v i (response_code_at v n))) ≡ false = rw (e, t, c) at f in
     (and_parts _ _ (not-false _ g)).1
 
-told_deferral : (v : Trace) (n i : ℕ) → response_clock_of v i ≡ Some n → is_deferred v i ≡ true → is_deferral (told_by v i (response_code_at v n)) ≡ true
+told_cases : (v : Trace) (n i : ℕ) (o : Option ℕ) → live_response_of v i ≡ o → response_clock_of v i ≡ Some n → is_deferred v i ≡ true → is_deferral (told_by v i (response_code_at v n)) ≡ true
 unfolding is_deferred outcome_of is_some_and
-told_deferral v n i e t = rw e at t
+told_cases v n i None f e t = absurd (let g : false ≡ true = rw f at t in let no : ⊥ = cc in no)
+told_cases v n i (Some r) f e t =
+    let there = live_response_of-is v i r f in
+    let same : r ≡ n = cc in
+    subst (λ c. is_deferral (told_by v i (response_code_at v c)) ≡ true) same (let g = rw f at t in g)
+
+told_deferral : (v : Trace) (n i : ℕ) → response_clock_of v i ≡ Some n → is_deferred v i ≡ true → is_deferral (told_by v i (response_code_at v n)) ≡ true
+told_deferral v n i e t = told_cases v n i (live_response_of v i) refl e t
 
 no_failure : (v : Trace) (i code : ℕ) → is_deferral (told_by v i code) ≡ true → nat_eq code 4 ≡ false
 no_failure v i code t = let p = (told_deferral_parts v i code t).1 in ne_eqb code 4 (λ e. omega arith)
@@ -118,7 +122,7 @@ newly_no_reply v n i e t f next =
     deferral_no_reply v i (response_code_at v n) told
     (code_fits v n i f next (responds_there v i n e) (no_failure v i (response_code_at v n) told))
 
-deferrable_goes : (k : Checker) (h : Trace) (x : Sample) (v : Trace) (b : Option Asked) → Goes k h x v b → is_code_wrong v (length h) ≡ false → Deferrable v
+deferrable_goes : (k : Checker) (h : Trace) (x : Sample) (v : Trace) (b : Option LiveRequest) → Goes k h x v b → is_code_wrong v (length h) ≡ false → Deferrable v
 deferrable_goes k h x v b g code =
     record {
       no_reply = λ i t.
@@ -150,22 +154,22 @@ beginner_goes h x v m =
     let e : length h + 1 - 1 ≡ length h = omega arith in
     sym (rw (new_back h x v m, m.size, e) (ap (λ w. cond (has_line x ADS) w None) (sym (winner_at-agree (length h) h v (length h) m.agree (omega arith)))))
 
-pub checker_follows : (k : Checker) (h : Trace) (x : Sample) (new : Checker) → Follows k h → IsUnbroken (h ++ x ∷ []) (length h) → Absorbed k h x (begun_by k (length h) x) (winner_at h (length h)) new → Follows new (h ++ x ∷ [])
-checker_follows k h x new f u r =
+pub checker_follows : (marks : Marks) (k : Checker) (h : Trace) (x : Sample) (new : Checker) → Follows k h → IsUnbroken marks (h ++ x ∷ []) (length h) → Absorbed k h x (begun_by k (length h) x) (winner_at h (length h)) new → Follows new (h ++ x ∷ [])
+checker_follows marks k h x new f u r =
     let v : Trace = h ++ x ∷ [] in
     let m = one_more h x in
     let size = m.size in
-    let g = goes_on k h x v f m u in
+    let g = goes_on marks k h x v f m u in
     let decoded = decoded_goes k h x v (begun_by k (length h) x) g in
     record {
       orderly = g.after;
       decoded = decoded;
-      identified = identified_goes k h x v (begun_by k (length h) x) g (own_unbroken v (length h) u);
-      deferrable = deferrable_goes k h x v (begun_by k (length h) x) g (sym (breaks-14 v (length h)) ∙ u.sound 14 (omega arith));
+      identified = identified_goes k h x v (begun_by k (length h) x) g (own_unbroken marks v (length h) u);
+      deferrable = deferrable_goes k h x v (begun_by k (length h) x) g (sym (breaks-14 marks v (length h)) ∙ u.sound 14 (omega arith));
       clock = r.clock ∙ sym m.size;
       recent = recent_goes k h x new.recent f r.first r.second r.third r.words;
       arbiter = r.arbiter;
       beginner = r.beginner ∙ beginner_goes h x v m;
       queue = queue_follows k h x v (begun_by k (length h) x) g new.queue decoded r.queue;
-      outstanding = open_stands k h x (begun_by k (length h) x) new.outstanding g (own_unbroken v (length h) u) (calm k h x v f m u) r.outstanding;
+      outstanding = open_stands k h x (begun_by k (length h) x) new.outstanding g (own_unbroken marks v (length h) u) (calm marks k h x v f m u) r.outstanding;
     }

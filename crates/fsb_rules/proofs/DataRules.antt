@@ -10,19 +10,15 @@ use Rattle.fsb_trace.specs.Rules.{is_transferring, is_data_wrong}
 use Rattle.fsb_laws.specs.OneMore.{OneMore, responds}
 use Rattle.fsb_laws.specs.Orderly.{Orderly}
 use Rattle.fsb_laws.specs.Progress.{response_count, transfer_of, may_answer_next, chunk_step}
-use Rattle.fsb_laws.proofs.OneMoreFacts.{line_at-new}
-use Rattle.fsb_laws.proofs.ResponseSteps.{response_there, has_answer}
-use Rattle.fsb_laws.proofs.EndFacts.{transfer_parts}
-use Rattle.fsb_laws.proofs.TransferSteps.{transfer_of-kept, transfer_of-begun}
-use Rattle.fsb_laws.proofs.AnswerSteps.{answered_below}
-use Rattle.fsb_rules.specs.declared.asked.Asked.{Asked}
-use Rattle.fsb_rules.specs.declared.asked.Moving.{Moving}
+use Rattle.fsb_laws.proofs.Interface.{line_at-new, response_there, has_answer, transfer_parts, transfer_of-kept, transfer_of-begun, answered_below}
+use Rattle.fsb_rules.specs.declared.live.LiveRequest.{LiveRequest}
+use Rattle.fsb_rules.specs.declared.live.Moving.{Moving}
 use Rattle.fsb_rules.specs.declared.checker.Checker.{Checker}
-use Rattle.fsb_rules.specs.Queue.{moving_with, moving_after, moving_of}
+use Rattle.fsb_rules.specs.InFlight.{moving_with, moving_after, moving_of}
 use Rattle.fsb_rules.specs.Tests.{moving_by, moved_by, after_chunk}
 use Rattle.fsb_rules.specs.Steps.{is_data_wrong_by}
 use Rattle.fsb_rules.specs.Checker.{Follows, Decoded}
-use Rattle.fsb_rules.proofs.QueueFacts.{known_snooped, asked_of-known, has_next, told_of-told}
+use Rattle.fsb_rules.proofs.QueueFacts.{known_snooped, live_of-known, has_next, told_of-told}
 use Rattle.fsb_rules.proofs.Transfers.{is_transferring-end, is_transferring-begun, is_transferring-kept}
 
 -- the chunks of a transfer
@@ -34,14 +30,14 @@ some_chunks None = refl
 some_chunks (Some a) = refl
 
 -- the sample's chunk
-one_chunk : (b : Bool) (a : Asked) (k : ℕ) → chunks_in (cond b (Some (record { asked = a; chunks = k })) None) ≡ cond b (Some k) None
+one_chunk : (b : Bool) (a : LiveRequest) (k : ℕ) → chunks_in (cond b (Some (record { request = a; chunks = k })) None) ≡ cond b (Some k) None
 one_chunk true a k = refl
 one_chunk false a k = refl
 
 pub chunks_after : (m : Option Moving) (x : Sample) → chunks_in (after_chunk m x) ≡ chunk_step (has_line x DRDY) (chunks_in m)
 unfolding after_chunk moved_by chunk_step
 chunks_after None x = refl
-chunks_after (Some a) x = one_chunk (nat_lt (a.chunks + cond (has_line x DRDY) 1 0) 4) a.asked (a.chunks + cond (has_line x DRDY) 1 0)
+chunks_after (Some a) x = one_chunk (nat_lt (a.chunks + cond (has_line x DRDY) 1 0) 4) a.request (a.chunks + cond (has_line x DRDY) 1 0)
 
 -- the transfer that is kept is the trace's
 kept_cases : (h : Trace) (n : ℕ) (t : Option ℕ) → Orderly h → Decoded h → response_count h ≡ n → transfer_of h ≡ t → chunks_in (moving_after h n) ≡ t
@@ -52,14 +48,14 @@ kept_cases h (suc i) None o d e f = rw f refl
 kept_cases h (suc i) (Some k) o d e f =
     let p = response_there h i (omega arith) in
     let a = has_answer h p.0 i (o.timely i p.0 p.1) in
-    rw (f, asked_of-known h i (known_snooped h i a.snoop d a.is_snoop)) refl
+    rw (f, live_of-known h i (known_snooped h i a.snoop d a.is_snoop)) refl
 
 chunks_kept : (h : Trace) → Orderly h → Decoded h → chunks_in (moving_of h) ≡ transfer_of h
 unfolding moving_of
 chunks_kept h o d = kept_cases h (response_count h) (transfer_of h) o d refl refl
 
 -- the transfer that the sample begins
-pub moving_begun : (k : Checker) (h : Trace) (x : Sample) (f : Follows k h) (may : may_answer_next h ≡ true) → responds x ≡ true → moving_by k.queue (length h) x ≡ cond (does_move (told_by h (response_count h) (response_of x))) (Some (record { asked = (has_next k.queue h f.queue f.orderly f.decoded may).next.asked; chunks = 0 })) None
+pub moving_begun : (k : Checker) (h : Trace) (x : Sample) (f : Follows k h) (may : may_answer_next h ≡ true) → responds x ≡ true → moving_by k.queue (length h) x ≡ cond (does_move (told_by h (response_count h) (response_of x))) (Some (record { request = (has_next k.queue h f.queue f.orderly f.decoded may).next.request; chunks = 0 })) None
 unfolding moving_by
 moving_begun k h x f may t =
     let n = has_next k.queue h f.queue f.orderly f.decoded may in
@@ -72,7 +68,7 @@ moving_kept k h x e = rw e refl
 chunks_begun : (k : Checker) (h : Trace) (x : Sample) → Follows k h → may_answer_next h ≡ true → responds x ≡ true → chunks_in (moving_by k.queue (length h) x) ≡ cond (does_move (told_by h (response_count h) (response_of x))) (Some 0) None
 chunks_begun k h x f may t =
     ap chunks_in (moving_begun k h x f may t)
-    ∙ one_chunk (does_move (told_by h (response_count h) (response_of x))) (has_next k.queue h f.queue f.orderly f.decoded may).next.asked 0
+    ∙ one_chunk (does_move (told_by h (response_count h) (response_of x))) (has_next k.queue h f.queue f.orderly f.decoded may).next.request 0
 
 pub chunks_going : (k : Checker) (h : Trace) (x : Sample) → Follows k h → responds x ≡ false → chunks_in (moving_by k.queue (length h) x) ≡ transfer_of h
 chunks_going k h x f e =

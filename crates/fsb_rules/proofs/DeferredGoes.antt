@@ -3,9 +3,7 @@ use Rattle.std.proofs.Common.{ℕ, ◌-◌, ◌<◌, ◌≡◌, Bool, true, fals
 use Rattle.std.specs.Option.{option_and_then}
 use Rattle.std.proofs.lemmas.Bool.{cases_Bool, and_right, and_from, ne_eqb, eqb-true, le-leb, false_from_ne_true}
 use Rattle.fsb_count.specs.Options.{is_some_and, is_before, is_at}
-use Rattle.fsb_count.proofs.Nth.{nth_where-one}
-use Rattle.fsb_count.proofs.Bools.{nat_eq-sym}
-use Rattle.fsb_count.proofs.Options.{is_at-off}
+use Rattle.fsb_count.proofs.Interface.{nth_where-one, nat_eq-sym, is_at-off}
 use Rattle.fsb_signal.specs.declared.lines.TheConstants.Lines.{ADS}
 use Rattle.fsb_signal.specs.declared.sample.Sample.{Sample}
 use Rattle.fsb_signal.specs.Samples.{line_at}
@@ -15,22 +13,17 @@ use Rattle.fsb_trace.specs.Requests.{is_cancelled, is_live, live_clock_of, live_
 use Rattle.fsb_trace.specs.Outcome.{response_clock_of, is_deferred}
 use Rattle.fsb_trace.specs.Response.{end_of}
 use Rattle.fsb_trace.specs.Flight.{is_reply_to, is_live_reply_to, reply_clock_of, last_clock_of}
-use Rattle.fsb_trace.proofs.LiveRequests.{live_clock_of-number, live_request_of-at}
+use Rattle.fsb_trace.proofs.Interface.{live_clock_of-number, live_request_of-at}
 use Rattle.fsb_laws.specs.OneMore.{OneMore, cancels}
 use Rattle.fsb_laws.specs.Progress.{response_count}
 use Rattle.fsb_laws.specs.Flight.{ends_at}
-use Rattle.fsb_laws.proofs.OneMoreFacts.{line_at-old}
-use Rattle.fsb_laws.proofs.LiveSteps.{is_cancelled-late, is_live-more}
-use Rattle.fsb_laws.proofs.ResponseSteps.{response_counted, response_there, response_clock_of-old, is_deferred-old}
-use Rattle.fsb_laws.proofs.EndFacts.{end_of-kept}
-use Rattle.fsb_laws.proofs.ReplySteps.{live_request_of-old, reply_clock_of-more}
-use Rattle.fsb_laws.proofs.OutstandingSteps.{deferred_response, end_after_clock, finished-deferred, ends_by, live_of_reply, ends_dead}
-use Rattle.fsb_rules.specs.declared.asked.Asked.{Asked}
-use Rattle.fsb_rules.specs.declared.asked.Ended.{Ended}
+use Rattle.fsb_laws.proofs.Interface.{line_at-old, is_cancelled-late, is_live-more, response_counted, response_there, response_clock_of-old, is_deferred-old, end_of-kept, live_request_of-old, reply_clock_of-more, deferred_response, end_after_clock, finished-deferred, ends_by, live_of_reply, ends_dead}
+use Rattle.fsb_rules.specs.declared.live.LiveRequest.{LiveRequest}
+use Rattle.fsb_rules.specs.declared.live.Ended.{Ended}
 use Rattle.fsb_rules.specs.declared.checker.Checker.{Checker}
 use Rattle.fsb_rules.specs.declared.outstanding.Open.{Open}
 use Rattle.fsb_rules.specs.declared.outstanding.Happened.{Happened}
-use Rattle.fsb_rules.specs.Asked.{asked_from}
+use Rattle.fsb_rules.specs.Live.{live_from}
 use Rattle.fsb_rules.specs.Tests.{ended_by}
 use Rattle.fsb_rules.specs.OpenTests.{reply_by, reply_after, open_with, open_after}
 use Rattle.fsb_rules.specs.Outstanding.{open_from}
@@ -61,18 +54,18 @@ reply_back h x v i r s m l t e f =
     (reply_form (line_at ADS v (length h - 1)) (is_cancelled v (length h - 1)) (is_reply_kind s.kind) (nat_eq r.did s.did) (is_before (response_clock_of v i) (length h - 1))
     (ads_back h x v m l ∙ t) (is_cancelled-late v (length h - 1) (let size = m.size in omega arith)))
 
-reply_asked : (o : Open) (q : ℕ) (s : Request) → reply_by o (asked_from q s) ≡ cond ((is_reply_kind s.kind && is_before o.deferred q) && nat_eq o.did s.did) (Some q) None
-unfolding reply_by asked_from
-reply_asked o q s = refl
+reply_request : (o : Open) (q : ℕ) (s : Request) → reply_by o (live_from q s) ≡ cond ((is_reply_kind s.kind && is_before o.deferred q) && nat_eq o.did s.did) (Some q) None
+unfolding reply_by live_from
+reply_request o q s = refl
 
-begun_reply : (k : Checker) (h : Trace) (x : Sample) (v : Trace) (b : Option Asked) (g : Goes k h x v b) (i p : ℕ) (r : Request) (t : Bool) → 0 < length h → line_back ADS h (length h) 1 ≡ t → live_request_of v i ≡ Some r → response_clock_of v i ≡ response_clock_of h i → option_and_then (λ a. reply_by (deferred_open h i p r) a) b ≡ cond (is_live_reply_to v i (length h - 1)) (Some (length h - 1)) None
+begun_reply : (k : Checker) (h : Trace) (x : Sample) (v : Trace) (b : Option LiveRequest) (g : Goes k h x v b) (i p : ℕ) (r : Request) (t : Bool) → 0 < length h → line_back ADS h (length h) 1 ≡ t → live_request_of v i ≡ Some r → response_clock_of v i ≡ response_clock_of h i → option_and_then (λ a. reply_by (deferred_open h i p r) a) b ≡ cond (is_live_reply_to v i (length h - 1)) (Some (length h - 1)) None
 begun_reply k h x v b g i p r false l t f c =
     ap (λ o. option_and_then (λ a. reply_by (deferred_open h i p r) a) o) (g.unbegun t)
     ∙ sym (ap (λ u. cond u (Some (length h - 1)) None) (no_reply_back h x v i g.more l t))
 begun_reply k h x v b g i p r true l t f c =
     let d = g.decoded t in
     ap (λ o. option_and_then (λ a. reply_by (deferred_open h i p r) a) o) d.2
-    ∙ reply_asked (deferred_open h i p r) (length h - 1) d.0
+    ∙ reply_request (deferred_open h i p r) (length h - 1) d.0
     ∙ ap (λ o. cond ((is_reply_kind d.0.kind && is_before o (length h - 1)) && nat_eq r.did d.0.did) (Some (length h - 1)) None) (sym c)
     ∙ sym (ap (λ u. cond u (Some (length h - 1)) None) (reply_back h x v i r d.0 g.more l t d.1 f))
 
@@ -86,21 +79,21 @@ unfolding reply_after
 reply_none w o e = rw e refl
 
 -- what is known of the Deferred request
-pub record IsOpenDeferred (k : Checker) (h : Trace) (x : Sample) (v : Trace) (b : Option Asked) (p : ℕ) (r : Request) : Type 0 where
+pub record IsOpenDeferred (k : Checker) (h : Trace) (x : Sample) (v : Trace) (b : Option LiveRequest) (p : ℕ) (r : Request) : Type 0 where
   pub is_open : IsOpen k h x v b p r
   pub request : request_at h p ≡ Some r
   pub deferred : is_deferred h (live_number_of h p) ≡ true
 
-answered : (k : Checker) (h : Trace) (x : Sample) (v : Trace) (b : Option Asked) (p : ℕ) (r : Request) → IsOpenDeferred k h x v b p r → live_number_of h p < response_count h
+answered : (k : Checker) (h : Trace) (x : Sample) (v : Trace) (b : Option LiveRequest) (p : ℕ) (r : Request) → IsOpenDeferred k h x v b p r → live_number_of h p < response_count h
 answered k h x v b p r o = let d = deferred_response h (live_number_of h p) o.deferred in response_counted h (live_number_of h p) d.0 d.1
 
-own_request : (k : Checker) (h : Trace) (x : Sample) (v : Trace) (b : Option Asked) (p : ℕ) (r : Request) → IsOpenDeferred k h x v b p r → live_request_of v (live_number_of h p) ≡ Some r
+own_request : (k : Checker) (h : Trace) (x : Sample) (v : Trace) (b : Option LiveRequest) (p : ℕ) (r : Request) → IsOpenDeferred k h x v b p r → live_request_of v (live_number_of h p) ≡ Some r
 own_request k h x v b p r o =
     let g = o.is_open.goes in
     live_request_of-old h x v (live_number_of h p) g.more g.follows.orderly (answered k h x v b p r o)
     ∙ live_request_of-at h (live_number_of h p) p r (live_clock_of-number h p (let e = o.is_open.early in omega arith) o.is_open.live) o.request
 
-reply_cases : (k : Checker) (h : Trace) (x : Sample) (v : Trace) (b : Option Asked) (p : ℕ) (r : Request) (o : IsOpenDeferred k h x v b p r) (old : Option ℕ) → reply_clock_of h (live_number_of h p) ≡ old → reply_after (happens k h x b) (deferred_open h (live_number_of h p) p r) ≡ elim old [ Some q ↦ cond (cancels x (length h) q) None (Some q) | None ↦ cond (is_live_reply_to v (live_number_of h p) (length h - 1)) (Some (length h - 1)) None ]
+reply_cases : (k : Checker) (h : Trace) (x : Sample) (v : Trace) (b : Option LiveRequest) (p : ℕ) (r : Request) (o : IsOpenDeferred k h x v b p r) (old : Option ℕ) → reply_clock_of h (live_number_of h p) ≡ old → reply_after (happens k h x b) (deferred_open h (live_number_of h p) p r) ≡ elim old [ Some q ↦ cond (cancels x (length h) q) None (Some q) | None ↦ cond (is_live_reply_to v (live_number_of h p) (length h - 1)) (Some (length h - 1)) None ]
 reply_cases k h x v b p r o (Some q) e =
     reply_some (happens k h x b) (deferred_open h (live_number_of h p) p r) q e
     ∙ ap (λ t. cond t None (Some q)) (happens_cancelled k h x v b o.is_open.goes q)
@@ -111,7 +104,7 @@ reply_cases k h x v b p r o None e =
     ∙ begun_reply k h x v b g (live_number_of h p) p r (line_back ADS h (length h) 1) (let l = o.is_open.early in omega arith) refl (own_request k h x v b p r o)
     (response_clock_of-old h x v (live_number_of h p) g.more (answered k h x v b p r o))
 
-pub reply_goes : (k : Checker) (h : Trace) (x : Sample) (v : Trace) (b : Option Asked) (p : ℕ) (r : Request) (o : IsOpenDeferred k h x v b p r) → reply_after (happens k h x b) (deferred_open h (live_number_of h p) p r) ≡ reply_clock_of v (live_number_of h p)
+pub reply_goes : (k : Checker) (h : Trace) (x : Sample) (v : Trace) (b : Option LiveRequest) (p : ℕ) (r : Request) (o : IsOpenDeferred k h x v b p r) → reply_after (happens k h x b) (deferred_open h (live_number_of h p) p r) ≡ reply_clock_of v (live_number_of h p)
 reply_goes k h x v b p r o =
     let g = o.is_open.goes in
     reply_cases k h x v b p r o (reply_clock_of h (live_number_of h p)) refl
@@ -135,14 +128,14 @@ by_none : (v : Trace) (n : ℕ) → ends_by v n None ≡ false
 unfolding is_some_and
 by_none v n = refl
 
-finish_cases : (k : Checker) (h : Trace) (x : Sample) (v : Trace) (b : Option Asked) (p : ℕ) (r : Request) (o : IsOpenDeferred k h x v b p r) (a : Ended) (s : EndsAlone v (length h) a) (old : Option ℕ) → reply_clock_of h (live_number_of h p) ≡ old → is_at (elim old [ Some q ↦ cond (cancels x (length h) q) None (Some q) | None ↦ cond (is_live_reply_to v (live_number_of h p) (length h - 1)) (Some (length h - 1)) None ]) a.asked.clock ≡ ends_by v (length h) old
+finish_cases : (k : Checker) (h : Trace) (x : Sample) (v : Trace) (b : Option LiveRequest) (p : ℕ) (r : Request) (o : IsOpenDeferred k h x v b p r) (a : Ended) (s : EndsAlone v (length h) a) (old : Option ℕ) → reply_clock_of h (live_number_of h p) ≡ old → is_at (elim old [ Some q ↦ cond (cancels x (length h) q) None (Some q) | None ↦ cond (is_live_reply_to v (live_number_of h p) (length h - 1)) (Some (length h - 1)) None ]) a.request.clock ≡ ends_by v (length h) old
 finish_cases k h x v b p r o a s None e =
     let g = o.is_open.goes in
     let c = end_after_clock v s.number (length h) g.after s.end in
     let d = s.clock in
     let f = c.1 in
-    let same : c.0 ≡ a.asked.clock = cc in
-    not_its_reply (length h - 1) a.asked.clock (is_live_reply_to v (live_number_of h p) (length h - 1)) (λ t. omega (arith, c.2))
+    let same : c.0 ≡ a.request.clock = cc in
+    not_its_reply (length h - 1) a.request.clock (is_live_reply_to v (live_number_of h p) (length h - 1)) (λ t. omega (arith, c.2))
     ∙ sym (by_none v (length h))
 finish_cases k h x v b p r o a s (Some q) e =
     let g = o.is_open.goes in
@@ -151,10 +144,10 @@ finish_cases k h x v b p r o a s (Some q) e =
     let size = g.more.size in
     elim (cases_Bool (cancels x (length h) q)) [
       | inl t ↦
-          ap (λ u. is_at (cond u None (Some q)) a.asked.clock) t ∙ is_at-off None a.asked.clock refl
+          ap (λ u. is_at (cond u None (Some q)) a.request.clock) t ∙ is_at-off None a.request.clock refl
           ∙ sym (by_one v (length h) q ∙ ends_dead v (length h) q (more ∙ and_right _ _ (ap not t)))
       | inr f ↦
-          ap (λ u. is_at (cond u None (Some q)) a.asked.clock) f ∙ at_one q a.asked.clock ∙ nat_eq-sym q a.asked.clock
+          ap (λ u. is_at (cond u None (Some q)) a.request.clock) f ∙ at_one q a.request.clock ∙ nat_eq-sym q a.request.clock
           ∙ sym (by_one v (length h) q ∙ ends_at-some v (length h) q a s (omega (arith, l.1)) (more ∙ and_from _ _ l.0 (ap not f)))
     ]
 
@@ -168,7 +161,7 @@ unfolding live_clock_of
 same_number w i j p e f = nth_where-one (is_live w) i j (length w) p e f
 
 -- it does not end itself
-own_end : (k : Checker) (h : Trace) (x : Sample) (v : Trace) (b : Option Asked) (p : ℕ) (r : Request) (o : IsOpenDeferred k h x v b p r) (a : Ended) → EndsAlone v (length h) a → nat_eq a.asked.clock p ≡ false
+own_end : (k : Checker) (h : Trace) (x : Sample) (v : Trace) (b : Option LiveRequest) (p : ℕ) (r : Request) (o : IsOpenDeferred k h x v b p r) (a : Ended) → EndsAlone v (length h) a → nat_eq a.request.clock p ≡ false
 own_end k h x v b p r o a s =
     let g = o.is_open.goes in
     let i : ℕ = live_number_of h p in
@@ -180,7 +173,7 @@ own_end k h x v b p r o a s =
     let early : d.0 < length h = omega (arith, there.2) in
     let kept = end_of-kept h x v i d.0 g.more g.follows.orderly d.2 early in
     false_from_ne_true _ (λ t.
-    let clock : a.asked.clock ≡ p = eqb-true a.asked.clock p t in
+    let clock : a.request.clock ≡ p = eqb-true a.request.clock p t in
     let below : p < length v = (let e = o.is_open.early in let size = g.more.size in omega arith) in
     let number = live_clock_of-number v p below (live_still k h x v b p r o.is_open) in
     let here : live_clock_of v s.number ≡ Some p = s.clock ∙ ap (λ m. Some m) clock in
@@ -195,7 +188,7 @@ left_none : (f : Bool) (w : Happened) (o n : Open) → is_at w.cancelled o.clock
 left_none true w o n c e s = refl
 left_none false w o n c e s = ap (λ a. Some a) (sym s) ∙ sym (deferred_none w o c e)
 
-left_some : (f e : Bool) (w : Happened) (o n : Open) (a : Ended) → is_at w.cancelled o.clock ≡ false → w.ended ≡ Some a → nat_eq a.asked.clock o.clock ≡ false → is_at (reply_after w o) a.asked.clock ≡ e → open_with o o.deferred (reply_after w o) ≡ n → kept_if (f || e) n ≡ option_and_then (open_after w) (kept_if f o)
+left_some : (f e : Bool) (w : Happened) (o n : Open) (a : Ended) → is_at w.cancelled o.clock ≡ false → w.ended ≡ Some a → nat_eq a.request.clock o.clock ≡ false → is_at (reply_after w o) a.request.clock ≡ e → open_with o o.deferred (reply_after w o) ≡ n → kept_if (f || e) n ≡ option_and_then (open_after w) (kept_if f o)
 left_some true e w o n a c h x r s = refl
 left_some false true w o n a c h x r s = sym (deferred_some w o a c h x ∙ (rw r refl))
 left_some false false w o n a c h x r s = ap (λ b. Some b) (sym s) ∙ sym (deferred_some w o a c h x ∙ (rw r refl))
@@ -204,7 +197,7 @@ with_form : (o : Open) (d q : Option ℕ) → open_with o d q ≡ record { clock
 unfolding open_with
 with_form o d q = refl
 
-new_open : (k : Checker) (h : Trace) (x : Sample) (v : Trace) (b : Option Asked) (p : ℕ) (r : Request) (o : IsOpenDeferred k h x v b p r) → open_with (deferred_open h (live_number_of h p) p r) (response_clock_of h (live_number_of h p)) (reply_after (happens k h x b) (deferred_open h (live_number_of h p) p r)) ≡ open_from v (live_number_of h p) p r
+new_open : (k : Checker) (h : Trace) (x : Sample) (v : Trace) (b : Option LiveRequest) (p : ℕ) (r : Request) (o : IsOpenDeferred k h x v b p r) → open_with (deferred_open h (live_number_of h p) p r) (response_clock_of h (live_number_of h p)) (reply_after (happens k h x b) (deferred_open h (live_number_of h p) p r)) ≡ open_from v (live_number_of h p) p r
 new_open k h x v b p r o =
     let g = o.is_open.goes in
     let i : ℕ = live_number_of h p in
@@ -214,7 +207,7 @@ new_open k h x v b p r o =
     ∙ ap (λ d. record { clock = p; did = r.did; deferred = d; reply = reply_clock_of v i }) (sym (response_clock_of-old h x v i g.more l))
     ∙ sym (open_deferred v i p r (is_deferred-old h x v i g.more g.follows.orderly l ∙ o.deferred))
 
-deferred_cases : (k : Checker) (h : Trace) (x : Sample) (v : Trace) (b : Option Asked) (p : ℕ) (r : Request) (o : IsOpenDeferred k h x v b p r) (e : Option Ended) → ended_by k.queue (length h) x ≡ e → SaysEnded v (length h) e → kept_if (is_before (last_clock_of h (live_number_of h p)) (length h) || ends_by v (length h) (reply_clock_of h (live_number_of h p))) (open_from v (live_number_of h p) p r) ≡ option_and_then (open_after (happens k h x b)) (kept_if (is_before (last_clock_of h (live_number_of h p)) (length h)) (deferred_open h (live_number_of h p) p r))
+deferred_cases : (k : Checker) (h : Trace) (x : Sample) (v : Trace) (b : Option LiveRequest) (p : ℕ) (r : Request) (o : IsOpenDeferred k h x v b p r) (e : Option Ended) → ended_by k.queue (length h) x ≡ e → SaysEnded v (length h) e → kept_if (is_before (last_clock_of h (live_number_of h p)) (length h) || ends_by v (length h) (reply_clock_of h (live_number_of h p))) (open_from v (live_number_of h p) p r) ≡ option_and_then (open_after (happens k h x b)) (kept_if (is_before (last_clock_of h (live_number_of h p)) (length h)) (deferred_open h (live_number_of h p) p r))
 deferred_cases k h x v b p r o None e s =
     let g = o.is_open.goes in
     let i : ℕ = live_number_of h p in
@@ -226,10 +219,10 @@ deferred_cases k h x v b p r o (Some a) e s =
     let i : ℕ = live_number_of h p in
     left_some (is_before (last_clock_of h i) (length h)) (ends_by v (length h) (reply_clock_of h i)) (happens k h x b) (deferred_open h i p r) (open_from v i p r) a
     (happens_cancelled k h x v b g p ∙ o.is_open.stays) (happens_ended k h x b ∙ e) (own_end k h x v b p r o a s)
-    (ap (λ q. is_at q a.asked.clock) (reply_cases k h x v b p r o (reply_clock_of h i) refl) ∙ finish_cases k h x v b p r o a s (reply_clock_of h i) refl)
+    (ap (λ q. is_at q a.request.clock) (reply_cases k h x v b p r o (reply_clock_of h i) refl) ∙ finish_cases k h x v b p r o a s (reply_clock_of h i) refl)
     (new_open k h x v b p r o)
 
-pub deferred_goes : (k : Checker) (h : Trace) (x : Sample) (v : Trace) (b : Option Asked) (p : ℕ) (r : Request) (o : IsOpenDeferred k h x v b p r) → kept_if (is_before (last_clock_of v (live_number_of h p)) (length v)) (open_from v (live_number_of h p) p r) ≡ option_and_then (open_after (happens k h x b)) (kept_if (is_before (last_clock_of h (live_number_of h p)) (length h)) (open_from h (live_number_of h p) p r))
+pub deferred_goes : (k : Checker) (h : Trace) (x : Sample) (v : Trace) (b : Option LiveRequest) (p : ℕ) (r : Request) (o : IsOpenDeferred k h x v b p r) → kept_if (is_before (last_clock_of v (live_number_of h p)) (length v)) (open_from v (live_number_of h p) p r) ≡ option_and_then (open_after (happens k h x b)) (kept_if (is_before (last_clock_of h (live_number_of h p)) (length h)) (open_from h (live_number_of h p) p r))
 deferred_goes k h x v b p r o =
     let g = o.is_open.goes in
     let i : ℕ = live_number_of h p in

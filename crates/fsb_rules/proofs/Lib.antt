@@ -1,6 +1,6 @@
 pub mod QuietClocks
 pub mod Room
-pub mod Windows
+pub mod Stretches
 pub mod Lines
 pub mod QueueFacts
 pub mod QueueLength
@@ -30,3 +30,4 @@ pub mod OpenStands
 pub mod CheckerFollows
 pub mod StartFollows
 pub mod Feeds
+pub mod Interface

@@ -14,7 +14,7 @@ use Rattle.fsb_trace.specs.At.{Trace, line_back, known_pair, known_pair_at, requ
 use Rattle.fsb_arbiter.specs.Order.{is_in}
 use Rattle.fsb_arbiter.specs.Arbiter.{lines_back}
 use Rattle.fsb_laws.specs.OneMore.{OneMore}
-use Rattle.fsb_laws.proofs.OneMoreFacts.{line_at-old}
+use Rattle.fsb_laws.proofs.Interface.{line_at-old}
 use Rattle.fsb_rules.specs.Recent.{words_back}
 use Rattle.fsb_rules.specs.Tests.{is_among, request_by}
 

@@ -4,7 +4,7 @@ use Rattle.std.specs.List.{filter_map, list_all}
 use Rattle.std.proofs.lemmas.Bool.{and_parts, and_from, ltb-true}
 use Rattle.std.proofs.lemmas.Option.{same_Some}
 use Rattle.fsb_count.specs.Options.{is_at}
-use Rattle.fsb_rules.specs.declared.asked.Ended.{Ended}
+use Rattle.fsb_rules.specs.declared.live.Ended.{Ended}
 use Rattle.fsb_rules.specs.declared.outstanding.Open.{Open}
 use Rattle.fsb_rules.specs.declared.outstanding.Happened.{Happened}
 use Rattle.fsb_rules.specs.OpenTests.{reply_after, open_with, open_after_end, open_after, is_of_agent}
@@ -28,8 +28,8 @@ either_id did false x y f g = g
 end_id : (n : ℕ) (o : Open) (reply : Option ℕ) (e : Ended) → KeepsId o.did (open_after_end n o reply e)
 unfolding open_after_end
 end_id n o reply e =
-    either_id o.did (is_at reply e.asked.clock) None _ (none_id o.did)
-    (either_id o.did (nat_eq e.asked.clock o.clock) _ _
+    either_id o.did (is_at reply e.request.clock) None _ (none_id o.did)
+    (either_id o.did (nat_eq e.request.clock o.clock) _ _
     (either_id o.did e.is_deferred _ None (with_id o (Some n) reply) (none_id o.did)) (with_id o o.deferred reply))
 
 ended_id : (w : Happened) (o : Open) (e : Option Ended) → KeepsId o.did (elim e [ Some a ↦ open_after_end w.clock o (reply_after w o) a | None ↦ Some (open_with o o.deferred (reply_after w o)) ])

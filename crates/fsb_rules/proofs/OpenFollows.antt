@@ -15,19 +15,14 @@ use Rattle.fsb_trace.specs.Requests.{is_live, live_number_of, is_reply, is_reply
 use Rattle.fsb_trace.specs.Outcome.{response_clock_of, is_deferred}
 use Rattle.fsb_trace.specs.Response.{end_of}
 use Rattle.fsb_trace.specs.Flight.{last_clock_of, is_outstanding, outstanding}
-use Rattle.fsb_trace.proofs.LiveRequests.{is_reply-some, live_clock_of-number}
+use Rattle.fsb_trace.proofs.Interface.{is_reply-some, live_clock_of-number}
 use Rattle.fsb_laws.specs.OneMore.{OneMore, cancels}
 use Rattle.fsb_laws.specs.Orderly.{Orderly}
-use Rattle.fsb_laws.proofs.OneMoreFacts.{line_at-old}
-use Rattle.fsb_laws.proofs.LiveSteps.{is_live-ads, is_cancelled-late, is_live-more}
-use Rattle.fsb_laws.proofs.ResponseSteps.{response_there, response_counted}
-use Rattle.fsb_laws.proofs.FlightSteps.{ended_known}
-use Rattle.fsb_laws.proofs.ReplySteps.{request_at-last, request_at-old}
-use Rattle.fsb_laws.proofs.OutstandingSteps.{is_outstanding-end, deferred_response, end_after_clock, last_clock_of-plain}
-use Rattle.fsb_rules.specs.declared.asked.Asked.{Asked}
+use Rattle.fsb_laws.proofs.Interface.{line_at-old, is_live-ads, is_cancelled-late, is_live-more, response_there, response_counted, ended_known, request_at-last, request_at-old, is_outstanding-end, deferred_response, end_after_clock, last_clock_of-plain}
+use Rattle.fsb_rules.specs.declared.live.LiveRequest.{LiveRequest}
 use Rattle.fsb_rules.specs.declared.checker.Checker.{Checker}
 use Rattle.fsb_rules.specs.declared.outstanding.Open.{Open}
-use Rattle.fsb_rules.specs.Asked.{asked_from}
+use Rattle.fsb_rules.specs.Live.{live_from}
 use Rattle.fsb_rules.specs.OpenTests.{open_after, open_begun}
 use Rattle.fsb_rules.specs.Outstanding.{open_from, open_at, open_of}
 use Rattle.fsb_rules.proofs.OpenLists.{filter_all-more, filter_all-none, filter_all-left}
@@ -47,17 +42,17 @@ off : {A B : Type 0} (a b : Bool) (o : Option A) (q : Option B) (f : A → Optio
 off a b o q f e g = rw (e, g) refl
 
 -- what is found of one request with the sample
-abbrev pub FoundGoes : Checker → Trace → Sample → Trace → Option Asked → ℕ → Type 0
+abbrev pub FoundGoes : Checker → Trace → Sample → Trace → Option LiveRequest → ℕ → Type 0
 FoundGoes k h x v b p = cond (is_outstanding v (length v) p) (open_at v p) None ≡ option_and_then (open_after (happens k h x b)) (cond (is_outstanding h (length h) p) (open_at h p) None)
 
-open_left : (k : Checker) (h : Trace) (x : Sample) (v : Trace) (b : Option Asked) (p : ℕ) (r : Request) → IsOpen k h x v b p r → request_at h p ≡ Some r → kept_if (is_before (last_clock_of v (live_number_of h p)) (length v)) (open_from v (live_number_of h p) p r) ≡ option_and_then (open_after (happens k h x b)) (kept_if (is_before (last_clock_of h (live_number_of h p)) (length h)) (open_from h (live_number_of h p) p r))
+open_left : (k : Checker) (h : Trace) (x : Sample) (v : Trace) (b : Option LiveRequest) (p : ℕ) (r : Request) → IsOpen k h x v b p r → request_at h p ≡ Some r → kept_if (is_before (last_clock_of v (live_number_of h p)) (length v)) (open_from v (live_number_of h p) p r) ≡ option_and_then (open_after (happens k h x b)) (kept_if (is_before (last_clock_of h (live_number_of h p)) (length h)) (open_from h (live_number_of h p) p r))
 open_left k h x v b p r o e =
     elim (cases_Bool (is_deferred h (live_number_of h p))) [
       | inl t ↦ deferred_goes k h x v b p r (record { is_open = o; request = e; deferred = t })
       | inr f ↦ plain_goes k h x v b p r o f
     ]
 
-stays_open : (k : Checker) (h : Trace) (x : Sample) (v : Trace) (b : Option Asked) (p : ℕ) (r : Request) → IsOpen k h x v b p r → request_at h p ≡ Some r → is_reply (Some r) ≡ false → FoundGoes k h x v b p
+stays_open : (k : Checker) (h : Trace) (x : Sample) (v : Trace) (b : Option LiveRequest) (p : ℕ) (r : Request) → IsOpen k h x v b p r → request_at h p ≡ Some r → is_reply (Some r) ≡ false → FoundGoes k h x v b p
 stays_open k h x v b p r o e n =
     let m = o.goes.more in
     let size = m.size in
@@ -75,7 +70,7 @@ clock_from : (w : Trace) (i p : ℕ) (r : Request) → (open_from w i p r).clock
 unfolding open_from
 clock_from w i p r = refl
 
-is_cancelled_now : (k : Checker) (h : Trace) (x : Sample) (v : Trace) (b : Option Asked) (g : Goes k h x v b) (p : ℕ) (r : Request) → p + 1 < length h → is_live h p ≡ true → cancels x (length h) p ≡ true → request_at h p ≡ Some r → is_reply (Some r) ≡ false → FoundGoes k h x v b p
+is_cancelled_now : (k : Checker) (h : Trace) (x : Sample) (v : Trace) (b : Option LiveRequest) (g : Goes k h x v b) (p : ℕ) (r : Request) → p + 1 < length h → is_live h p ≡ true → cancels x (length h) p ≡ true → request_at h p ≡ Some r → is_reply (Some r) ≡ false → FoundGoes k h x v b p
 is_cancelled_now k h x v b g p r l t c e n =
     let size = g.more.size in
     let i : ℕ = live_number_of h p in
@@ -85,7 +80,7 @@ is_cancelled_now k h x v b g p r l t c e n =
     (cancelled_none (happens k h x b) (open_from h i p r) (happens_cancelled k h x v b g (open_from h i p r).clock ∙ ap (cancels x (length h)) (clock_from h i p r) ∙ c))
     ∙ ap (option_and_then (open_after (happens k h x b))) (sym (outstanding_is h p r (omega arith) t e n))
 
-live_cases : (k : Checker) (h : Trace) (x : Sample) (v : Trace) (b : Option Asked) (g : Goes k h x v b) (p : ℕ) (r : Request) → p + 1 < length h → is_live h p ≡ true → request_at h p ≡ Some r → FoundGoes k h x v b p
+live_cases : (k : Checker) (h : Trace) (x : Sample) (v : Trace) (b : Option LiveRequest) (g : Goes k h x v b) (p : ℕ) (r : Request) → p + 1 < length h → is_live h p ≡ true → request_at h p ≡ Some r → FoundGoes k h x v b p
 live_cases k h x v b g p r l t e =
     let size = g.more.size in
     elim (cases_Bool (is_reply (Some r))) [
@@ -99,7 +94,7 @@ live_cases k h x v b g p r l t e =
           ]
     ]
 
-found_goes : (k : Checker) (h : Trace) (x : Sample) (v : Trace) (b : Option Asked) (g : Goes k h x v b) (p : ℕ) → p + 1 < length h → FoundGoes k h x v b p
+found_goes : (k : Checker) (h : Trace) (x : Sample) (v : Trace) (b : Option LiveRequest) (g : Goes k h x v b) (p : ℕ) → p + 1 < length h → FoundGoes k h x v b p
 found_goes k h x v b g p l =
     let size = g.more.size in
     elim (cases_Bool (is_live h p)) [
@@ -138,11 +133,11 @@ not_finished w m o l late t =
     omega (arith, c.2)) in
     (plain, ap (λ c. is_before c (length w)) (last_clock_of-plain w i plain) ∙ ended_known w m (end_of w i) o l t late refl)
 
-pub begun_plain : (q : ℕ) (r : Request) (t : Bool) → is_reply_kind r.kind ≡ t → open_begun (asked_from q r) ≡ cond t None (Some (plain_open q r.did))
-unfolding open_begun asked_from
+pub begun_plain : (q : ℕ) (r : Request) (t : Bool) → is_reply_kind r.kind ≡ t → open_begun (live_from q r) ≡ cond t None (Some (plain_open q r.did))
+unfolding open_begun live_from
 begun_plain q r t e = rw e refl
 
-last_found : (k : Checker) (h : Trace) (x : Sample) (v : Trace) (b : Option Asked) (g : Goes k h x v b) (m : ℕ) (r : Request) (t : Bool) → length h ≡ suc m → is_live v m ≡ true → request_at v m ≡ Some r → is_reply_kind r.kind ≡ t → cond (is_outstanding v (length v) m) (open_at v m) None ≡ cond t None (Some (plain_open m r.did))
+last_found : (k : Checker) (h : Trace) (x : Sample) (v : Trace) (b : Option LiveRequest) (g : Goes k h x v b) (m : ℕ) (r : Request) (t : Bool) → length h ≡ suc m → is_live v m ≡ true → request_at v m ≡ Some r → is_reply_kind r.kind ≡ t → cond (is_outstanding v (length v) m) (open_at v m) None ≡ cond t None (Some (plain_open m r.did))
 last_found k h x v b g m r true e l q t =
     let size = g.more.size in
     ap (λ u. cond u (open_at v m) None) (reply_off v m (omega arith) (ap is_reply q ∙ is_reply-some r ∙ t))
@@ -153,7 +148,7 @@ last_found k h x v b g m r false e l q t =
     ∙ ap (λ u. kept_if u (open_from v (live_number_of v m) m r)) f.1
     ∙ ap (λ o. Some o) (open_plain v (live_number_of v m) m r f.0)
 
-last_cases : (k : Checker) (h : Trace) (x : Sample) (v : Trace) (b : Option Asked) (g : Goes k h x v b) (m : ℕ) (t : Bool) → length h ≡ suc m → line_back ADS h (length h) 1 ≡ t → cond (is_outstanding v (length v) m) (open_at v m) None ≡ option_and_then (λ a. open_begun a) b
+last_cases : (k : Checker) (h : Trace) (x : Sample) (v : Trace) (b : Option LiveRequest) (g : Goes k h x v b) (m : ℕ) (t : Bool) → length h ≡ suc m → line_back ADS h (length h) 1 ≡ t → cond (is_outstanding v (length v) m) (open_at v m) None ≡ option_and_then (λ a. open_begun a) b
 last_cases k h x v b g m false e f =
     let size = g.more.size in
     ap (λ u. cond u (open_at v m) None) (dead_off v m (omega arith) (last_live h x v m g.more e ∙ f))
@@ -186,7 +181,7 @@ none_of_none : (w : Trace) → filter_map (open_at w) (all_where (is_outstanding
 unfolding all_where
 none_of_none w = refl
 
-goes_cases : (k : Checker) (h : Trace) (x : Sample) (v : Trace) (b : Option Asked) (g : Goes k h x v b) (n : ℕ) → length h ≡ n → open_of v ≡ filter_map (open_after (happens k h x b)) (open_of h) ++ option_to_list (option_and_then (λ a. open_begun a) b)
+goes_cases : (k : Checker) (h : Trace) (x : Sample) (v : Trace) (b : Option LiveRequest) (g : Goes k h x v b) (n : ℕ) → length h ≡ n → open_of v ≡ filter_map (open_after (happens k h x b)) (open_of h) ++ option_to_list (option_and_then (λ a. open_begun a) b)
 goes_cases k h x v b g zero e =
     let size = g.more.size in
     open_form v 0 (omega arith) ∙ none_of_none v
@@ -203,5 +198,5 @@ goes_cases k h x v b g (suc m) e =
     ∙ ap (filter_map (open_after (happens k h x b))) (sym (open_form h m n)))
     ∙ ap (λ o. filter_map (open_after (happens k h x b)) (open_of h) ++ option_to_list o) (last_cases k h x v b g m (line_back ADS h (length h) 1) e refl)
 
-pub open_goes : (k : Checker) (h : Trace) (x : Sample) (v : Trace) (b : Option Asked) → Goes k h x v b → open_of v ≡ filter_map (open_after (happens k h x b)) (open_of h) ++ option_to_list (option_and_then (λ a. open_begun a) b)
+pub open_goes : (k : Checker) (h : Trace) (x : Sample) (v : Trace) (b : Option LiveRequest) → Goes k h x v b → open_of v ≡ filter_map (open_after (happens k h x b)) (open_of h) ++ option_to_list (option_and_then (λ a. open_begun a) b)
 open_goes k h x v b g = goes_cases k h x v b g (length h) refl

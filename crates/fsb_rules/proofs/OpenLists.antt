@@ -9,9 +9,8 @@ use Rattle.std.proofs.lemmas.List.Sums.{sum_by-append}
 use Rattle.std.proofs.Math.Bool.{or-false}
 use Rattle.fsb_count.specs.Options.{is_some_and}
 use Rattle.fsb_count.specs.Clocks.{any_where, count_where, all_where}
-use Rattle.fsb_count.proofs.Count.{count_where-more}
-use Rattle.fsb_count.proofs.Any.{any_where-more}
-use Rattle.fsb_laws.proofs.Clocks.{all_where-more}
+use Rattle.fsb_count.proofs.Interface.{count_where-more, any_where-more}
+use Rattle.fsb_laws.proofs.Interface.{all_where-more}
 
 -- one more clock
 found : {A : Type 0} (f : ℕ → Option A) (n : ℕ) (b : Bool) (o : Option A) → f n ≡ o → filter_map f (cond b (n ∷ []) []) ≡ option_to_list (cond b o None)

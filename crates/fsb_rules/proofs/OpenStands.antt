@@ -7,7 +7,7 @@ use Rattle.std.proofs.lemmas.Bool.{cases_eq, and_from, or_parts, ne_eqb, lt-ltb,
 use Rattle.std.proofs.lemmas.List.{append-nil, take_at, length-append}
 use Rattle.std.proofs.lemmas.List.Folds.{list_all-append}
 use Rattle.fsb_count.specs.Options.{is_some_and}
-use Rattle.fsb_count.proofs.Bools.{cond-most}
+use Rattle.fsb_count.proofs.Interface.{cond-most}
 use Rattle.fsb_signal.specs.declared.lines.TheConstants.Lines.{ADS}
 use Rattle.fsb_signal.specs.declared.sample.Sample.{Sample}
 use Rattle.fsb_signal.specs.Samples.{has_line}
@@ -17,11 +17,11 @@ use Rattle.fsb_trace.specs.At.{Trace, line_back}
 use Rattle.fsb_trace.specs.Winner.{winner_at}
 use Rattle.fsb_trace.specs.Requests.{is_reply_kind, is_reply}
 use Rattle.fsb_trace.specs.Rules.{is_identified, is_identity_wrong, is_own_id}
-use Rattle.fsb_rules.specs.declared.asked.Asked.{Asked}
+use Rattle.fsb_rules.specs.declared.live.LiveRequest.{LiveRequest}
 use Rattle.fsb_rules.specs.declared.checker.Checker.{Checker}
 use Rattle.fsb_rules.specs.declared.outstanding.Open.{Open}
 use Rattle.fsb_rules.specs.declared.outstanding.Outstanding.{Outstanding}
-use Rattle.fsb_rules.specs.Asked.{asked_from}
+use Rattle.fsb_rules.specs.Live.{live_from}
 use Rattle.fsb_rules.specs.OpenTests.{open_after, open_begun, is_of_agent, has_id, is_wrong_among}
 use Rattle.fsb_rules.specs.Outstanding.{open_of, OutstandingStands}
 use Rattle.fsb_rules.specs.Steps.{is_begun_wrongly_by}
@@ -36,7 +36,7 @@ use Rattle.fsb_rules.proofs.FirstBroken.{identified_now}
 use Rattle.fsb_rules.proofs.Goes.{Goes}
 
 -- the outstanding request that the sample begins, with what the rules say of it
-pub record OpensOne (k : Checker) (h : Trace) (b : Option Asked) (o : Open) : Type 0 where
+pub record OpensOne (k : Checker) (h : Trace) (b : Option LiveRequest) (o : Open) : Type 0 where
   pub agent : o.did / 16 < 4
   pub own : is_own o ≡ true
   pub back : line_back ADS h (length h) 1 ≡ true
@@ -46,13 +46,13 @@ own_id : (winner : Option Who) (s : Request) → is_identified winner (Some s) �
 unfolding is_identified is_reply is_some_and
 own_id winner s t f = own_part winner s (is_reply_kind s.kind) f t
 
-few_parts : (xs : List Open) (q : ℕ) (r : Request) → is_wrong_among xs (asked_from q r) ≡ false → is_reply_kind r.kind ≡ false → count_by (is_of_agent (r.did / 16)) xs < 4
-unfolding is_wrong_among asked_from
+few_parts : (xs : List Open) (q : ℕ) (r : Request) → is_wrong_among xs (live_from q r) ≡ false → is_reply_kind r.kind ≡ false → count_by (is_of_agent (r.did / 16)) xs < 4
+unfolding is_wrong_among live_from
 few_parts xs q r w f =
     let g : (list_any (has_id r.did) xs || nat_le 4 (count_by (is_of_agent (r.did / 16)) xs)) ≡ false = rw f at w in
     leb-false 4 (count_by (is_of_agent (r.did / 16)) xs) (or_parts _ _ g).1
 
-wrong_of : (k : Checker) (b : Option Asked) (a : Asked) → b ≡ Some a → is_begun_wrongly_by k b ≡ false → is_wrong_among k.outstanding.before.items a ≡ false
+wrong_of : (k : Checker) (b : Option LiveRequest) (a : LiveRequest) → b ≡ Some a → is_begun_wrongly_by k b ≡ false → is_wrong_among k.outstanding.before.items a ≡ false
 unfolding is_begun_wrongly_by is_some_and
 wrong_of k b a e f = rw e at f
 
@@ -63,7 +63,7 @@ not_reply : (t : Bool) (p o : Open) → cond t None (Some p) ≡ Some o → (t �
 not_reply true p o e = absurd (let no : ⊥ = cc in no)
 not_reply false p o e = (refl, same_Some p o e)
 
-opens_cases : (k : Checker) (h : Trace) (x : Sample) (v : Trace) (b : Option Asked) (o : Open) (t : Bool) → Goes k h x v b → is_identity_wrong v (length h) ≡ false → is_begun_wrongly_by k b ≡ false → line_back ADS h (length h) 1 ≡ t → option_and_then (λ a. open_begun a) b ≡ Some o → OpensOne k h b o
+opens_cases : (k : Checker) (h : Trace) (x : Sample) (v : Trace) (b : Option LiveRequest) (o : Open) (t : Bool) → Goes k h x v b → is_identity_wrong v (length h) ≡ false → is_begun_wrongly_by k b ≡ false → line_back ADS h (length h) 1 ≡ t → option_and_then (λ a. open_begun a) b ≡ Some o → OpensOne k h b o
 opens_cases k h x v b o false g own wrong t e =
     absurd (let n : None ≡ Some o = rw (g.unbegun t) at e in let no : ⊥ = cc in no)
 opens_cases k h x v b o true g own wrong t e =
@@ -81,14 +81,14 @@ opens_cases k h x v b o true g own wrong t e =
       own = own_below o.did agent;
       back = t;
       fewer = subst (λ n. count_by (is_of_agent (n / 16)) k.outstanding.before.items < 4) did
-          (few_parts k.outstanding.before.items (length h - 1) r (wrong_of k b (asked_from (length h - 1) r) d.2 wrong) p.0);
+          (few_parts k.outstanding.before.items (length h - 1) r (wrong_of k b (live_from (length h - 1) r) d.2 wrong) p.0);
     }
 
-pub opens_one : (k : Checker) (h : Trace) (x : Sample) (v : Trace) (b : Option Asked) (o : Open) → Goes k h x v b → is_identity_wrong v (length h) ≡ false → is_begun_wrongly_by k b ≡ false → option_and_then (λ a. open_begun a) b ≡ Some o → OpensOne k h b o
+pub opens_one : (k : Checker) (h : Trace) (x : Sample) (v : Trace) (b : Option LiveRequest) (o : Open) → Goes k h x v b → is_identity_wrong v (length h) ≡ false → is_begun_wrongly_by k b ≡ false → option_and_then (λ a. open_begun a) b ≡ Some o → OpensOne k h b o
 opens_one k h x v b o g own wrong e = opens_cases k h x v b o (line_back ADS h (length h) 1) g own wrong refl e
 
 -- there is room for it
-room_cases : (k : Checker) (h : Trace) (x : Sample) (v : Trace) (b : Option Asked) (n : Option Open) → Goes k h x v b → is_identity_wrong v (length h) ≡ false → is_begun_wrongly_by k b ≡ false → option_and_then (λ a. open_begun a) b ≡ n → is_some n ≡ true → length (filter_map (open_after (happens k h x b)) k.outstanding.current.items) < 16
+room_cases : (k : Checker) (h : Trace) (x : Sample) (v : Trace) (b : Option LiveRequest) (n : Option Open) → Goes k h x v b → is_identity_wrong v (length h) ≡ false → is_begun_wrongly_by k b ≡ false → option_and_then (λ a. open_begun a) b ≡ n → is_some n ≡ true → length (filter_map (open_after (happens k h x b)) k.outstanding.current.items) < 16
 room_cases k h x v b None g own wrong e t = absurd (let no : ⊥ = cc in no)
 room_cases k h x v b (Some o) g own wrong e t =
     let one = opens_one k h x v b o g own wrong e in
@@ -99,7 +99,7 @@ room_cases k h x v b (Some o) g own wrong e t =
     one.agent
     (let l = count_left (happens k h x b) (o.did / 16) k.outstanding.current.items in let f = st.fewer one.back (o.did / 16) in let c = one.fewer in omega arith)
 
-pub open_room : (k : Checker) (h : Trace) (x : Sample) (v : Trace) (b : Option Asked) → Goes k h x v b → is_identity_wrong v (length h) ≡ false → is_begun_wrongly_by k b ≡ false → is_some (option_and_then (λ a. open_begun a) b) ≡ true → length (filter_map (open_after (happens k h x b)) k.outstanding.current.items) < 16
+pub open_room : (k : Checker) (h : Trace) (x : Sample) (v : Trace) (b : Option LiveRequest) → Goes k h x v b → is_identity_wrong v (length h) ≡ false → is_begun_wrongly_by k b ≡ false → is_some (option_and_then (λ a. open_begun a) b) ≡ true → length (filter_map (open_after (happens k h x b)) k.outstanding.current.items) < 16
 open_room k h x v b g own wrong t = room_cases k h x v b (option_and_then (λ a. open_begun a) b) g own wrong refl t
 
 -- how many there are then
@@ -112,7 +112,7 @@ one_other : (a : ℕ) (o : Open) → (o.did / 16 ≡ a → ⊥) → count_by (is
 unfolding is_of_agent
 one_other a o n = one_count (is_of_agent a) o (is_of_agent a o) refl ∙ ap (λ b. cond {A = ℕ} b 1 0) (ne_eqb (o.did / 16) a n)
 
-few_cases : (k : Checker) (h : Trace) (x : Sample) (v : Trace) (b : Option Asked) (n : Option Open) (a : ℕ) → Goes k h x v b → is_identity_wrong v (length h) ≡ false → is_begun_wrongly_by k b ≡ false → option_and_then (λ c. open_begun c) b ≡ n → count_by (is_of_agent a) (filter_map (open_after (happens k h x b)) k.outstanding.current.items) + count_by (is_of_agent a) (option_to_list n) ≤ 4
+few_cases : (k : Checker) (h : Trace) (x : Sample) (v : Trace) (b : Option LiveRequest) (n : Option Open) (a : ℕ) → Goes k h x v b → is_identity_wrong v (length h) ≡ false → is_begun_wrongly_by k b ≡ false → option_and_then (λ c. open_begun c) b ≡ n → count_by (is_of_agent a) (filter_map (open_after (happens k h x b)) k.outstanding.current.items) + count_by (is_of_agent a) (option_to_list n) ≤ 4
 few_cases k h x v b None a g own wrong e =
     let l = count_left (happens k h x b) a k.outstanding.current.items in
     let f = g.follows.outstanding.few a in omega arith
@@ -129,19 +129,19 @@ few_cases k h x v b (Some o) a g own wrong e =
           let z = one_other a o other in omega arith
     ]
 
-own_cases : (k : Checker) (h : Trace) (x : Sample) (v : Trace) (b : Option Asked) (n : Option Open) → Goes k h x v b → is_identity_wrong v (length h) ≡ false → is_begun_wrongly_by k b ≡ false → option_and_then (λ c. open_begun c) b ≡ n → list_all is_own (option_to_list n) ≡ true
+own_cases : (k : Checker) (h : Trace) (x : Sample) (v : Trace) (b : Option LiveRequest) (n : Option Open) → Goes k h x v b → is_identity_wrong v (length h) ≡ false → is_begun_wrongly_by k b ≡ false → option_and_then (λ c. open_begun c) b ≡ n → list_all is_own (option_to_list n) ≡ true
 own_cases k h x v b None g own wrong e = refl
 own_cases k h x v b (Some o) g own wrong e = let one = opens_one k h x v b o g own wrong e in and_from _ _ one.own refl
 
 -- what the code leaves of them
-pub record OpenLeft (k : Checker) (h : Trace) (x : Sample) (b : Option Asked) (new : Outstanding) : Type 0 where
+pub record OpenLeft (k : Checker) (h : Trace) (x : Sample) (b : Option LiveRequest) (new : Outstanding) : Type 0 where
   pub current : new.current.items ≡ filter_map (open_after (happens k h x b)) k.outstanding.current.items ++ option_to_list (option_and_then (λ a. open_begun a) b)
   pub before : new.before.items ≡ cond (has_line x ADS) k.outstanding.current.items k.outstanding.before.items
 
 before_same : (h : Trace) (x : Sample) → take (length (h ++ x ∷ []) - 1) (h ++ x ∷ []) ≡ h
 before_same h x = take_at h (x ∷ []) (length (h ++ x ∷ []) - 1) (let e = length-append h (x ∷ []) in omega arith)
 
-pub open_stands : (k : Checker) (h : Trace) (x : Sample) (b : Option Asked) (new : Outstanding) → Goes k h x (h ++ x ∷ []) b → is_identity_wrong (h ++ x ∷ []) (length h) ≡ false → is_begun_wrongly_by k b ≡ false → OpenLeft k h x b new → OutstandingStands new (h ++ x ∷ [])
+pub open_stands : (k : Checker) (h : Trace) (x : Sample) (b : Option LiveRequest) (new : Outstanding) → Goes k h x (h ++ x ∷ []) b → is_identity_wrong (h ++ x ∷ []) (length h) ≡ false → is_begun_wrongly_by k b ≡ false → OpenLeft k h x b new → OutstandingStands new (h ++ x ∷ [])
 open_stands k h x b new g own wrong r =
     let v : Trace = h ++ x ∷ [] in
     let st = g.follows.outstanding in

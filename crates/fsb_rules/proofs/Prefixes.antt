@@ -7,15 +7,11 @@ use Rattle.fsb_signal.specs.declared.sample.Sample.{Sample}
 use Rattle.fsb_signal.specs.Samples.{line_at}
 use Rattle.fsb_trace.specs.At.{Trace, line_back}
 use Rattle.fsb_trace.specs.Agree.{AgreeTo}
-use Rattle.fsb_trace.proofs.AgreeAt.{AgreeTo-sym, line_at-agree}
-use Rattle.fsb_trace.proofs.Stay.{response_clock_of-stays}
+use Rattle.fsb_trace.proofs.Interface.{AgreeTo-sym, line_at-agree, response_clock_of-stays}
 use Rattle.fsb_laws.specs.OneMore.{OneMore}
 use Rattle.fsb_laws.specs.Orderly.{Orderly}
-use Rattle.fsb_laws.proofs.OneMoreFacts.{line_at-old}
-use Rattle.fsb_laws.proofs.ResponseSteps.{response_there, response_counted}
-use Rattle.fsb_laws.proofs.OrderlySteps.{may_answer-stays, ads_before_end}
-use Rattle.fsb_laws.proofs.BeginSteps.{BeginsAfter}
-use Rattle.fsb_rules.proofs.Windows.{taken}
+use Rattle.fsb_laws.proofs.Interface.{line_at-old, response_there, response_counted, may_answer-stays, ads_before_end, BeginsAfter}
+use Rattle.fsb_rules.proofs.Stretches.{taken}
 
 -- a prefix of an orderly trace is orderly
 pub orderly-prefix : (u h : Trace) → AgreeTo (length u) u h → Orderly h → Orderly u

@@ -4,36 +4,31 @@ use Rattle.std.specs.Option.{option_and_then}
 use Rattle.std.proofs.lemmas.Bool.{cases_lt, and_left, lt-leb}
 use Rattle.fsb_count.specs.Options.{is_some_and, greater_of}
 use Rattle.fsb_count.specs.Clocks.{count_where, nth_where}
-use Rattle.fsb_count.proofs.Count.{count_where-above}
-use Rattle.fsb_count.proofs.Nth.{nth_where-found, nth_where-there, nth_where-at}
+use Rattle.fsb_count.proofs.Interface.{count_where-above, nth_where-found, nth_where-there, nth_where-at}
 use Rattle.fsb_signal.specs.declared.lines.TheConstants.Lines.{ADS}
 use Rattle.fsb_signal.specs.Samples.{line_at}
 use Rattle.fsb_encode.specs.declared.request.Request.{Request}
 use Rattle.fsb_encode.specs.declared.request.Kind.{Kind}
-use Rattle.fsb_encode.specs.declared.request.Kind.TheVariants.{Reply, Invalidate, Read, WriteBack}
+use Rattle.fsb_encode.specs.declared.request.Kind.TheVariants.{Reply, Invalidate, Read, WriteBack, Upgrade}
 use Rattle.fsb_trace.specs.At.{Trace, request_at}
-use Rattle.fsb_trace.specs.Requests.{is_live, live_clock_of, live_request_of, is_write_back, is_reply_kind, is_write_back_kind}
+use Rattle.fsb_trace.specs.Requests.{is_live, live_clock_of, live_request_of, is_write_back, is_upgrade, is_reply_kind, is_write_back_kind, is_upgrade_kind}
 use Rattle.fsb_trace.specs.Snoop.{is_every_second_from, snoop_end_of, snoop_start_of, start_after_clock, start_after_end, line_at_snoop_end}
-use Rattle.fsb_trace.specs.declared.outcome.Outcome.TheVariants.{Granted, Written, Replied}
+use Rattle.fsb_trace.specs.declared.outcome.Outcome.TheVariants.{Granted, Written, Replied, Upgraded}
 use Rattle.fsb_trace.specs.Outcome.{told_by, outcome_by_kind}
 use Rattle.fsb_trace.specs.Response.{takes}
 use Rattle.fsb_trace.specs.Rules.{is_code_for, has_den}
-use Rattle.fsb_trace.proofs.Stay.{snoop_end_of-clock}
+use Rattle.fsb_trace.proofs.Interface.{snoop_end_of-clock}
 use Rattle.fsb_laws.specs.Orderly.{Orderly}
 use Rattle.fsb_laws.specs.Progress.{SnoopsTo, is_snoop_due, response_count, transfer_of, may_answer_next}
-use Rattle.fsb_laws.proofs.LiveSteps.{is_live-ads}
-use Rattle.fsb_laws.proofs.SnoopSteps.{start_clock, snoop_end_of-above}
-use Rattle.fsb_laws.proofs.ResponseSteps.{has_answer, response_there}
-use Rattle.fsb_laws.proofs.EndFacts.{transfer_parts}
-use Rattle.fsb_laws.proofs.AnswerSteps.{may_answer_next-parts}
-use Rattle.fsb_rules.specs.declared.asked.Asked.{Asked}
-use Rattle.fsb_rules.specs.declared.asked.Snooped.{Snooped}
-use Rattle.fsb_rules.specs.declared.asked.Moving.{Moving}
-use Rattle.fsb_rules.specs.declared.queue.Queue.{Queue}
-use Rattle.fsb_rules.specs.Asked.{asked_from, asked_at, asked_of, snooped_with, snooped_of}
+use Rattle.fsb_laws.proofs.Interface.{is_live-ads, start_clock, snoop_end_of-above, has_answer, response_there, transfer_parts, may_answer_next-parts}
+use Rattle.fsb_rules.specs.declared.live.LiveRequest.{LiveRequest}
+use Rattle.fsb_rules.specs.declared.live.Snooped.{Snooped}
+use Rattle.fsb_rules.specs.declared.live.Moving.{Moving}
+use Rattle.fsb_rules.specs.declared.in_flight.InFlight.{InFlight}
+use Rattle.fsb_rules.specs.Live.{live_from, live_at, live_of, snooped_with, snooped_of}
 use Rattle.fsb_rules.specs.Tests.{takes_by, is_code_by, kind_outcome, told_of, start_by, is_due_by, next_by}
-use Rattle.fsb_rules.specs.Window.{Window}
-use Rattle.fsb_rules.specs.Queue.{QueueStands, snoop_before, moving_after, moving_of, known_count}
+use Rattle.fsb_rules.specs.Stretch.{Stretch}
+use Rattle.fsb_rules.specs.InFlight.{InFlightStands, snoop_before, moving_after, moving_of, known_count}
 use Rattle.fsb_rules.specs.Checker.{Decoded}
 
 -- a live request that is decoded
@@ -44,12 +39,12 @@ pub record IsKnown (h : Trace) (i : ℕ) : Type 0 where
   pub early : clock + 1 < length h
   pub is_request : request_at h clock ≡ Some request
 
-pub asked_of-form : (h : Trace) (i q : ℕ) (r : Request) → live_clock_of h i ≡ Some q → request_at h q ≡ Some r → asked_of h i ≡ Some (asked_from q r)
-unfolding asked_of asked_at
-asked_of-form h i q r e f = rw (e, f) refl
+pub live_of-form : (h : Trace) (i q : ℕ) (r : Request) → live_clock_of h i ≡ Some q → request_at h q ≡ Some r → live_of h i ≡ Some (live_from q r)
+unfolding live_of live_at
+live_of-form h i q r e f = rw (e, f) refl
 
-pub asked_of-known : (h : Trace) (i : ℕ) (k : IsKnown h i) → asked_of h i ≡ Some (asked_from k.clock k.request)
-asked_of-known h i k = asked_of-form h i k.clock k.request k.is_clock k.is_request
+pub live_of-known : (h : Trace) (i : ℕ) (k : IsKnown h i) → live_of h i ≡ Some (live_from k.clock k.request)
+live_of-known h i k = live_of-form h i k.clock k.request k.is_clock k.is_request
 
 pub live_request_of-known : (h : Trace) (i : ℕ) (k : IsKnown h i) → live_request_of h i ≡ Some k.request
 unfolding live_request_of
@@ -127,19 +122,19 @@ none_asks h s l =
     omega (arith, p.2))
 
 -- by the first request of a list
-abbrev pub due_among : List Asked → Option ℕ → ℕ → Bool
+abbrev pub due_among : List LiveRequest → Option ℕ → ℕ → Bool
 due_among xs last n = is_some_and (slice_get xs 0) (λ a. is_every_second_from (start_by last a.clock) n)
 
-due_by_list : (h : Trace) (s : ℕ) (xs : List Asked) → SnoopsTo h s → Decoded h → Window xs (asked_of h) s (known_count h) → due_among xs (snoop_before h s) (length h) ≡ is_snoop_due h s (length h)
-unfolding is_some_and asked_from
+due_by_list : (h : Trace) (s : ℕ) (xs : List LiveRequest) → SnoopsTo h s → Decoded h → Stretch xs (live_of h) s (known_count h) → due_among xs (snoop_before h s) (length h) ≡ is_snoop_due h s (length h)
+unfolding is_some_and live_from
 due_by_list h s [] to d w = sym (none_asks h s (omega (arith, w.size)))
 due_by_list h s (a ∷ xs) to d w =
     let k = is_known h s d (omega (arith, w.size)) in
-    let here : Some a ≡ asked_of h s = w.at 0 (omega arith) ∙ ap (asked_of h) (add-zero s) in
-    let same : a ≡ asked_from k.clock k.request = (let e = asked_of-known h s k in cc) in
+    let here : Some a ≡ live_of h s = w.at 0 (omega arith) ∙ ap (live_of h) (add-zero s) in
+    let same : a ≡ live_from k.clock k.request = (let e = live_of-known h s k in cc) in
     rw same (sym (due_some h s (length h) _ (snoop_start-by h s k.clock to k.is_clock)))
 
-pub is_due_by-due : (q : Queue) (h : Trace) (st : QueueStands q h) → Decoded h → is_due_by q (length h) ≡ is_snoop_due h st.snooped (length h)
+pub is_due_by-due : (q : InFlight) (h : Trace) (st : InFlightStands q h) → Decoded h → is_due_by q (length h) ≡ is_snoop_due h st.snooped (length h)
 unfolding is_due_by
 is_due_by-due q h st d =
     ap (λ last. due_among q.asking.items last (length h)) st.last_snoop ∙ due_by_list h st.snooped q.asking.items st.to d st.asking
@@ -149,14 +144,14 @@ pub record IsSnooped (h : Trace) (i : ℕ) (w : Snooped) : Type 0 where
   pub known : IsKnown h i
   pub clock : ℕ
   pub is_clock : snoop_end_of h i ≡ Some clock
-  pub same : w ≡ snooped_with h clock (asked_from known.clock known.request)
+  pub same : w ≡ snooped_with h clock (live_from known.clock known.request)
 
-pub snooped_of-form : (h : Trace) (i t : ℕ) (a : Asked) → snoop_end_of h i ≡ Some t → asked_of h i ≡ Some a → snooped_of h i ≡ Some (snooped_with h t a)
+pub snooped_of-form : (h : Trace) (i t : ℕ) (a : LiveRequest) → snoop_end_of h i ≡ Some t → live_of h i ≡ Some a → snooped_of h i ≡ Some (snooped_with h t a)
 unfolding snooped_of
 snooped_of-form h i t a e f = rw (e, f) refl
 
-pub snooped_of-known : (h : Trace) (i t : ℕ) (k : IsKnown h i) → snoop_end_of h i ≡ Some t → snooped_of h i ≡ Some (snooped_with h t (asked_from k.clock k.request))
-snooped_of-known h i t k e = snooped_of-form h i t _ e (asked_of-known h i k)
+pub snooped_of-known : (h : Trace) (i t : ℕ) (k : IsKnown h i) → snoop_end_of h i ≡ Some t → snooped_of h i ≡ Some (snooped_with h t (live_from k.clock k.request))
+snooped_of-known h i t k e = snooped_of-form h i t _ e (live_of-known h i k)
 
 pub is_snooped : (h : Trace) (i t : ℕ) (w : Snooped) → Decoded h → snoop_end_of h i ≡ Some t → snooped_of h i ≡ Some w → IsSnooped h i w
 is_snooped h i t w d e f =
@@ -164,32 +159,33 @@ is_snooped h i t w d e f =
     record { known = k; clock = t; is_clock = e; same = (let g = snooped_of-known h i t k e in cc) }
 
 -- the tests of a snooped request are those of the trace
-takes_with : (h : Trace) (i t q : ℕ) (r : Request) → live_request_of h i ≡ Some r → snoop_end_of h i ≡ Some t → takes_by (snooped_with h t (asked_from q r)) ≡ takes h i
-unfolding takes_by snooped_with asked_from takes is_write_back line_at_snoop_end is_some_and
+takes_with : (h : Trace) (i t q : ℕ) (r : Request) → live_request_of h i ≡ Some r → snoop_end_of h i ≡ Some t → takes_by (snooped_with h t (live_from q r)) ≡ takes h i
+unfolding takes_by snooped_with live_from takes is_write_back line_at_snoop_end is_some_and
 takes_with h i t q r e f = rw (e, f) refl
 
 pub takes_by-takes : (h : Trace) (i : ℕ) (w : Snooped) → IsSnooped h i w → takes_by w ≡ takes h i
 takes_by-takes h i w s = ap takes_by s.same ∙ takes_with h i s.clock s.known.clock s.known.request (live_request_of-known h i s.known) s.is_clock
 
-code_with : (h : Trace) (i t q code : ℕ) (r : Request) → live_request_of h i ≡ Some r → snoop_end_of h i ≡ Some t → is_code_by (snooped_with h t (asked_from q r)) code ≡ is_code_for h i code
-unfolding is_code_by snooped_with asked_from is_code_for is_write_back has_den line_at_snoop_end is_some_and
+code_with : (h : Trace) (i t q code : ℕ) (r : Request) → live_request_of h i ≡ Some r → snoop_end_of h i ≡ Some t → is_code_by (snooped_with h t (live_from q r)) code ≡ is_code_for h i code
+unfolding is_code_by snooped_with live_from is_code_for is_write_back is_upgrade has_den line_at_snoop_end is_some_and
 code_with h i t q code r e f = rw (e, f) refl
 
 pub is_code_by-code : (h : Trace) (i code : ℕ) (w : Snooped) → IsSnooped h i w → is_code_by w code ≡ is_code_for h i code
 is_code_by-code h i code w s = ap (λ a. is_code_by a code) s.same ∙ code_with h i s.clock s.known.clock code s.known.request (live_request_of-known h i s.known) s.is_clock
 
-by_kind : (k : Kind) → cond (is_write_back_kind k) Written (cond (is_reply_kind k) Replied Granted) ≡ elim k [ WriteBack ↦ Written | Reply ↦ Replied | Read ↦ Granted | Invalidate ↦ Granted ]
-unfolding is_reply_kind is_write_back_kind
+by_kind : (k : Kind) → cond (is_write_back_kind k) Written (cond (is_upgrade_kind k) Upgraded (cond (is_reply_kind k) Replied Granted)) ≡ elim k [ WriteBack ↦ Written | Upgrade ↦ Upgraded | Reply ↦ Replied | Read ↦ Granted | Invalidate ↦ Granted ]
+unfolding is_reply_kind is_write_back_kind is_upgrade_kind
 by_kind Reply = refl
 by_kind Invalidate = refl
 by_kind Read = refl
 by_kind WriteBack = refl
+by_kind Upgrade = refl
 
-kind_form : (q : ℕ) (r : Request) → kind_outcome (asked_from q r) ≡ outcome_by_kind (Some r)
-unfolding kind_outcome asked_from outcome_by_kind
+kind_form : (q : ℕ) (r : Request) → kind_outcome (live_from q r) ≡ outcome_by_kind (Some r)
+unfolding kind_outcome live_from outcome_by_kind
 kind_form q r = by_kind r.kind
 
-told_with : (h : Trace) (i t q code : ℕ) (r : Request) → live_request_of h i ≡ Some r → snoop_end_of h i ≡ Some t → told_of (snooped_with h t (asked_from q r)) code ≡ told_by h i code
+told_with : (h : Trace) (i t q code : ℕ) (r : Request) → live_request_of h i ≡ Some r → snoop_end_of h i ≡ Some t → told_of (snooped_with h t (live_from q r)) code ≡ told_by h i code
 unfolding told_of snooped_with told_by line_at_snoop_end is_some_and
 told_with h i t q code r e f = rw (e, f, sym (kind_form q r)) refl
 
@@ -205,7 +201,7 @@ moving_cases h (suc i) None o d e f = rw f refl
 moving_cases h (suc i) (Some k) o d e f =
     let p = response_there h i (omega arith) in
     let a = has_answer h p.0 i (o.timely i p.0 p.1) in
-    rw (f, asked_of-known h i (known_snooped h i a.snoop d a.is_snoop)) refl
+    rw (f, live_of-known h i (known_snooped h i a.snoop d a.is_snoop)) refl
 
 pub moving-transfer : (h : Trace) → Orderly h → Decoded h → is_none (moving_of h) ≡ is_none (transfer_of h)
 unfolding moving_of
@@ -223,14 +219,14 @@ one_answers : (h : Trace) (t : ℕ) → snoop_end_of h (response_count h) ≡ So
 unfolding may_answer_next is_some_and
 one_answers h t e = rw e refl
 
-clock_with : (h : Trace) (t : ℕ) (a : Asked) → (snooped_with h t a).clock ≡ t
+clock_with : (h : Trace) (t : ℕ) (a : LiveRequest) → (snooped_with h t a).clock ≡ t
 unfolding snooped_with
 clock_with h t a = refl
 
 snooped_clock : (h : Trace) (i : ℕ) (w : Snooped) (s : IsSnooped h i w) → w.clock ≡ s.clock
-snooped_clock h i w s = ap (λ a. a.clock) s.same ∙ clock_with h s.clock (asked_from s.known.clock s.known.request)
+snooped_clock h i w s = ap (λ a. a.clock) s.same ∙ clock_with h s.clock (live_from s.known.clock s.known.request)
 
-next_by_list : (h : Trace) (s : ℕ) (xs : List Snooped) → SnoopsTo h s → Orderly h → Decoded h → Window xs (snooped_of h) (response_count h) s → next_among xs (moving_of h) (length h) ≡ cond (may_answer_next h) (snooped_of h (response_count h)) None
+next_by_list : (h : Trace) (s : ℕ) (xs : List Snooped) → SnoopsTo h s → Orderly h → Decoded h → Stretch xs (snooped_of h) (response_count h) s → next_among xs (moving_of h) (length h) ≡ cond (may_answer_next h) (snooped_of h (response_count h)) None
 next_by_list h s [] to o d w =
     let none : snoop_end_of h (response_count h) ≡ None = snoop_end_of-above h s (response_count h) to (omega (arith, w.size)) in
     sym (rw (none_answers h none) refl)
@@ -244,22 +240,22 @@ next_by_list h s (a ∷ xs) to o d w =
     ∙ ap (λ b. cond b (Some a) None) (sym (one_answers h there.0 there.1))
     ∙ ap (λ next. cond (may_answer_next h) next None) here
 
-pub next_by-next : (q : Queue) (h : Trace) (st : QueueStands q h) → Orderly h → Decoded h → next_by q (length h) ≡ cond (may_answer_next h) (snooped_of h (response_count h)) None
+pub next_by-next : (q : InFlight) (h : Trace) (st : InFlightStands q h) → Orderly h → Decoded h → next_by q (length h) ≡ cond (may_answer_next h) (snooped_of h (response_count h)) None
 unfolding next_by
 next_by-next q h st o d =
     ap (λ m. next_among q.waiting.items m (length h)) st.moving ∙ next_by_list h st.snooped q.waiting.items st.to o d st.waiting
 
 -- it is there where it may respond
-pub record HasNext (q : Queue) (h : Trace) : Type 0 where
+pub record HasNext (q : InFlight) (h : Trace) : Type 0 where
   pub next : Snooped
   pub is_next : next_by q (length h) ≡ Some next
   pub snooped : IsSnooped h (response_count h) next
 
-pub has_next : (q : Queue) (h : Trace) → QueueStands q h → Orderly h → Decoded h → may_answer_next h ≡ true → HasNext q h
+pub has_next : (q : InFlight) (h : Trace) → InFlightStands q h → Orderly h → Decoded h → may_answer_next h ≡ true → HasNext q h
 has_next q h st o d t =
     let p = may_answer_next-parts h t in
     let k = known_snooped h (response_count h) p.0 d p.1 in
-    let w = snooped_with h p.0 (asked_from k.clock k.request) in
+    let w = snooped_with h p.0 (live_from k.clock k.request) in
     let e : snooped_of h (response_count h) ≡ Some w = snooped_of-known h (response_count h) p.0 k p.1 in
     record {
       next = w;
@@ -267,5 +263,5 @@ has_next q h st o d t =
       snooped = record { known = k; clock = p.0; is_clock = p.1; same = refl };
     }
 
-pub no_next : (q : Queue) (h : Trace) → QueueStands q h → Orderly h → Decoded h → may_answer_next h ≡ false → next_by q (length h) ≡ None
+pub no_next : (q : InFlight) (h : Trace) → InFlightStands q h → Orderly h → Decoded h → may_answer_next h ≡ false → next_by q (length h) ≡ None
 no_next q h st o d f = next_by-next q h st o d ∙ (rw f refl)

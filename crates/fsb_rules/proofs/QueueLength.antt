@@ -2,7 +2,7 @@
 use Rattle.std.proofs.Common.{ℕ, zero, suc, ◌+◌, ◌-◌, ◌≡◌, true, false, cond, not, Option, Some, None, is_some, is_none, length, refl, sym, ap, ◌∙◌, arith, add-zero}
 use Rattle.std.proofs.lemmas.Bool.{both_ways, le-leb, false_from_ne_true}
 use Rattle.fsb_count.specs.Clocks.{count_where}
-use Rattle.fsb_count.proofs.Count.{count_where-more}
+use Rattle.fsb_count.proofs.Interface.{count_where-more}
 use Rattle.fsb_signal.specs.declared.lines.TheConstants.Lines.{ADS}
 use Rattle.fsb_signal.specs.Samples.{line_at}
 use Rattle.fsb_trace.specs.At.{Trace, line_back}
@@ -10,13 +10,11 @@ use Rattle.fsb_trace.specs.Requests.{is_live, live_count}
 use Rattle.fsb_trace.specs.Flight.{in_flight}
 use Rattle.fsb_laws.specs.Orderly.{Orderly}
 use Rattle.fsb_laws.specs.Progress.{response_count, transfer_of}
-use Rattle.fsb_laws.proofs.LiveSteps.{is_live-ads}
-use Rattle.fsb_laws.proofs.EndFacts.{ends_to-still, ends_to-moving, transfer_parts}
-use Rattle.fsb_laws.proofs.FlightSteps.{in_flight-count}
-use Rattle.fsb_rules.specs.declared.asked.Moving.{Moving}
-use Rattle.fsb_rules.specs.declared.queue.Queue.{Queue}
+use Rattle.fsb_laws.proofs.Interface.{is_live-ads, ends_to-still, ends_to-moving, transfer_parts, in_flight-count}
+use Rattle.fsb_rules.specs.declared.live.Moving.{Moving}
+use Rattle.fsb_rules.specs.declared.in_flight.InFlight.{InFlight}
 use Rattle.fsb_rules.specs.Tests.{queue_len}
-use Rattle.fsb_rules.specs.Queue.{QueueStands, known_count}
+use Rattle.fsb_rules.specs.InFlight.{InFlightStands, known_count}
 use Rattle.fsb_rules.specs.Checker.{Decoded}
 use Rattle.fsb_rules.proofs.QueueFacts.{moving-transfer}
 
@@ -47,7 +45,7 @@ some_none : (m : Option Moving) → is_some m ≡ not (is_none m)
 some_none None = refl
 some_none (Some a) = refl
 
-len_cases : (q : Queue) (h : Trace) (st : QueueStands q h) (t : Option ℕ) → Orderly h → line_back ADS h (length h) 1 ≡ false → transfer_of h ≡ t → length q.asking.items + length q.waiting.items + cond (not (is_none t)) 1 0 ≡ length (in_flight h (length h))
+len_cases : (q : InFlight) (h : Trace) (st : InFlightStands q h) (t : Option ℕ) → Orderly h → line_back ADS h (length h) 1 ≡ false → transfer_of h ≡ t → length q.asking.items + length q.waiting.items + cond (not (is_none t)) 1 0 ≡ length (in_flight h (length h))
 len_cases q h st None o f e =
     let known = known_count-quiet h f in
     let count = in_flight-count h (response_count h) (ends_to-still h o e) in
@@ -59,7 +57,7 @@ len_cases q h st (Some k) o f e =
     omega (arith, st.asking.size, st.waiting.size, p.1)
 
 -- where none begins at the last clock the queue has those in flight
-pub queue_len-in_flight : (q : Queue) (h : Trace) → QueueStands q h → Orderly h → Decoded h → line_back ADS h (length h) 1 ≡ false → queue_len q ≡ length (in_flight h (length h))
+pub queue_len-in_flight : (q : InFlight) (h : Trace) → InFlightStands q h → Orderly h → Decoded h → line_back ADS h (length h) 1 ≡ false → queue_len q ≡ length (in_flight h (length h))
 unfolding queue_len
 queue_len-in_flight q h st o d f =
     ap (λ b. length q.asking.items + length q.waiting.items + cond b 1 0)

@@ -3,8 +3,7 @@ use Rattle.std.proofs.Common.{ℕ, zero, suc, ◌+◌, ◌-◌, ◌<◌, ◌≡�
 use Rattle.std.proofs.lemmas.Bool.{cases_Bool, and_parts, and_left, and_right, and_from, le-leb, leb-true, false_from_ne_true, eq-eqb}
 use Rattle.std.proofs.Math.Bool.{and-true}
 use Rattle.fsb_count.specs.Clocks.{AgreeBelow, count_where}
-use Rattle.fsb_count.proofs.Count.{count_where-more, count_where-same, count_where-passed, count_where-failed}
-use Rattle.fsb_count.proofs.Nth.{nth_where-at}
+use Rattle.fsb_count.proofs.Interface.{count_where-more, count_where-same, count_where-passed, count_where-failed, nth_where-at}
 use Rattle.fsb_signal.specs.declared.lines.TheConstants.Lines.{ADS, AERR}
 use Rattle.fsb_signal.specs.declared.sample.Sample.{Sample}
 use Rattle.fsb_signal.specs.Samples.{has_line, line_at}
@@ -13,12 +12,11 @@ use Rattle.fsb_trace.specs.At.{Trace, line_back, request_at}
 use Rattle.fsb_trace.specs.Requests.{is_live, live_clock_of, live_number_of}
 use Rattle.fsb_laws.specs.OneMore.{OneMore, cancels}
 use Rattle.fsb_laws.specs.Orderly.{Spaced}
-use Rattle.fsb_laws.proofs.LiveSteps.{is_live-ads, is_cancelled-late, is_live-more, live_number_of-more, live_clock_of-more, live_clock_of-less}
-use Rattle.fsb_laws.proofs.ReplySteps.{request_at-old}
-use Rattle.fsb_rules.specs.Asked.{asked_from, asked_of}
-use Rattle.fsb_rules.specs.Queue.{known_count}
+use Rattle.fsb_laws.proofs.Interface.{is_live-ads, is_cancelled-late, is_live-more, live_number_of-more, live_clock_of-more, live_clock_of-less, request_at-old}
+use Rattle.fsb_rules.specs.Live.{live_from, live_of}
+use Rattle.fsb_rules.specs.InFlight.{known_count}
 use Rattle.fsb_rules.specs.Checker.{Decoded}
-use Rattle.fsb_rules.proofs.QueueFacts.{known_clock, asked_of-form, is_known, asked_of-known}
+use Rattle.fsb_rules.proofs.QueueFacts.{known_clock, live_of-form, is_known, live_of-known}
 use Rattle.fsb_rules.proofs.Lines.{line_back-none, line_back-some}
 
 -- how many live requests are known, where none is cancelled: one more, if one began at the last clock
@@ -123,13 +121,13 @@ begun_clock h x v m t f =
     (nth_where-at (is_live v) (length v) (length h - 1) (omega (arith, m.size)) live)
 
 -- the known requests of both traces are the same
-pub asked_kept : (h : Trace) (x : Sample) (v : Trace) (i : ℕ) → OneMore h x v → Spaced h → Decoded h → i < known_count h → i < known_count v → asked_of h i ≡ asked_of v i
-asked_kept h x v i m s d l k =
+pub live_kept : (h : Trace) (x : Sample) (v : Trace) (i : ℕ) → OneMore h x v → Spaced h → Decoded h → i < known_count h → i < known_count v → live_of h i ≡ live_of v i
+live_kept h x v i m s d l k =
     let a = is_known h i d l in
     let clock : live_clock_of v i ≡ Some a.clock = kept_clock h x v i a.clock m s a.is_clock a.early k in
-    asked_of-known h i a ∙ sym (asked_of-form v i a.clock a.request clock (request_at-old h x v a.clock m a.early ∙ a.is_request))
+    live_of-known h i a ∙ sym (live_of-form v i a.clock a.request clock (request_at-old h x v a.clock m a.early ∙ a.is_request))
 
 -- the request that began at the last clock is the next known one
-pub asked_begun : (h : Trace) (x : Sample) (v : Trace) (r : Request) → OneMore h x v → line_back ADS h (length h) 1 ≡ true → has_line x AERR ≡ false → request_at v (length h - 1) ≡ Some r → asked_of v (known_count h) ≡ Some (asked_from (length h - 1) r)
-asked_begun h x v r m t f e =
-    asked_of-form v (known_count h) (length h - 1) r (begun_clock h x v m t f) e
+pub live_begun : (h : Trace) (x : Sample) (v : Trace) (r : Request) → OneMore h x v → line_back ADS h (length h) 1 ≡ true → has_line x AERR ≡ false → request_at v (length h - 1) ≡ Some r → live_of v (known_count h) ≡ Some (live_from (length h - 1) r)
+live_begun h x v r m t f e =
+    live_of-form v (known_count h) (length h - 1) r (begun_clock h x v m t f) e

@@ -3,7 +3,7 @@ use Rattle.std.proofs.Common.{ℕ, ◌≡◌, true, Option, Some, None, List, []
 use Rattle.std.specs.List.{filter_map}
 use Rattle.std.proofs.lemmas.Bool.{and_parts}
 use Rattle.fsb_count.specs.Options.{is_some_and, is_at}
-use Rattle.fsb_count.proofs.Options.{is_none-none}
+use Rattle.fsb_count.proofs.Interface.{is_none-none}
 use Rattle.fsb_rules.specs.declared.outstanding.Open.{Open}
 use Rattle.fsb_rules.specs.declared.outstanding.Happened.{Happened}
 use Rattle.fsb_rules.specs.OpenTests.{is_quiet, open_after, open_with, reply_after}

@@ -2,8 +2,7 @@
 use Rattle.std.proofs.Common.{ℕ, ◌<◌, ◌≤◌, ◌≡◌, Bool, true, false, ◌&&◌, ◌||◌, Option, Some, None, List, [], ◌∷◌, length, slice_get, refl, sym, ap, ◌∙◌, arith, inl, inr, subst, add-zero}
 use Rattle.std.proofs.lemmas.Bool.{cases_lt, and_parts, and_left, leb-true, cases_eq, false_from_ne_true}
 use Rattle.fsb_count.specs.Options.{is_some_and, is_at}
-use Rattle.fsb_count.proofs.Any.{any_where-at, any_where-off}
-use Rattle.fsb_count.proofs.Options.{is_at-if, is_at-some}
+use Rattle.fsb_count.proofs.Interface.{any_where-at, any_where-off, is_at-if, is_at-some}
 use Rattle.fsb_signal.specs.declared.lines.TheConstants.Lines.{HIT, HITM, DEFER}
 use Rattle.fsb_signal.specs.declared.sample.Sample.{Sample}
 use Rattle.fsb_signal.specs.Samples.{has_line}
@@ -12,26 +11,20 @@ use Rattle.fsb_trace.specs.At.{Trace}
 use Rattle.fsb_trace.specs.Requests.{live_count, live_clock_of, live_request_of, is_reply, is_write_back}
 use Rattle.fsb_trace.specs.Snoop.{snoop_end_of, snoop_start_of, is_every_second_from}
 use Rattle.fsb_trace.specs.Rules.{is_snoop_line_alone, is_result_unfit_for, is_snoop_result_unfit}
-use Rattle.fsb_trace.proofs.Stay.{snoop_end_of-clock}
+use Rattle.fsb_trace.proofs.Interface.{snoop_end_of-clock, snoop_end_of-rises, live_request_of-at, live_below_count}
 use Rattle.fsb_laws.specs.OneMore.{OneMore}
 use Rattle.fsb_laws.specs.Orderly.{Orderly}
 use Rattle.fsb_laws.specs.Progress.{SnoopsTo, is_snoop_due, ends_snoop_of}
-use Rattle.fsb_laws.proofs.OneMoreFacts.{line_at-new}
-use Rattle.fsb_trace.proofs.Order.{snoop_end_of-rises}
-use Rattle.fsb_trace.proofs.LiveRequests.{live_request_of-at, live_below_count}
-use Rattle.fsb_laws.proofs.LiveSteps.{live_clock_of-less}
-use Rattle.fsb_laws.proofs.ReplySteps.{request_at-old}
-use Rattle.fsb_laws.proofs.SnoopSteps.{start_clock, snoop_end_of-old, snoop_end_of-more}
-use Rattle.fsb_laws.proofs.SnoopClockSteps.{is_snoop_clock-more, ended_where}
-use Rattle.fsb_rules.specs.declared.asked.Asked.{Asked}
+use Rattle.fsb_laws.proofs.Interface.{line_at-new, live_clock_of-less, request_at-old, start_clock, snoop_end_of-old, snoop_end_of-more, is_snoop_clock-more, ended_where}
+use Rattle.fsb_rules.specs.declared.live.LiveRequest.{LiveRequest}
 use Rattle.fsb_rules.specs.declared.checker.Checker.{Checker}
-use Rattle.fsb_rules.specs.Asked.{asked_from, asked_of}
+use Rattle.fsb_rules.specs.Live.{live_from, live_of}
 use Rattle.fsb_rules.specs.Tests.{ends_snoop_by, is_unfit_by}
-use Rattle.fsb_rules.specs.Window.{Window}
-use Rattle.fsb_rules.specs.Queue.{known_count}
+use Rattle.fsb_rules.specs.Stretch.{Stretch}
+use Rattle.fsb_rules.specs.InFlight.{known_count}
 use Rattle.fsb_rules.specs.Steps.{is_snoop_line_alone_by, is_result_unfit_by}
 use Rattle.fsb_rules.specs.Checker.{Follows, Decoded}
-use Rattle.fsb_rules.proofs.QueueFacts.{IsKnown, is_known, not_known, asked_of-known, is_due_by-due}
+use Rattle.fsb_rules.proofs.QueueFacts.{IsKnown, is_known, not_known, live_of-known, is_due_by-due}
 
 -- 11 snoop lines in snoop clocks
 pub rule_11 : (k : Checker) (h : Trace) (x : Sample) (v : Trace) → Follows k h → OneMore h x v → is_snoop_line_alone_by k (length h) x ≡ is_snoop_line_alone v (length h)
@@ -51,11 +44,11 @@ unfolding ends_snoop_by ends_snoop_of
 ends_by-ends k h x f = rw (is_due_by-due k.queue h f.queue f.decoded) refl
 
 -- the first request of a list, where the request is known
-pub first_of : (h : Trace) (s : ℕ) (xs : List Asked) → Window xs (asked_of h) s (known_count h) → s < known_count h → slice_get xs 0 ≡ asked_of h s
+pub first_of : (h : Trace) (s : ℕ) (xs : List LiveRequest) → Stretch xs (live_of h) s (known_count h) → s < known_count h → slice_get xs 0 ≡ live_of h s
 first_of h s [] w l = absurd (omega (arith, w.size))
-first_of h s (a ∷ xs) w l = w.at 0 (omega arith) ∙ ap (asked_of h) (add-zero s)
+first_of h s (a ∷ xs) w l = w.at 0 (omega arith) ∙ ap (live_of h) (add-zero s)
 
-none_of : (h : Trace) (s : ℕ) (xs : List Asked) → Window xs (asked_of h) s (known_count h) → known_count h ≤ s → slice_get xs 0 ≡ None
+none_of : (h : Trace) (s : ℕ) (xs : List LiveRequest) → Stretch xs (live_of h) s (known_count h) → known_count h ≤ s → slice_get xs 0 ≡ None
 none_of h s [] w l = refl
 none_of h s (a ∷ xs) w l = absurd (omega (arith, w.size))
 
@@ -80,8 +73,8 @@ known_ending h x v s m o d to t =
           absurd (omega (arith, c.2, p.2))
     ]
 
-unfit_form : (q : ℕ) (r : Request) (x : Sample) → is_unfit_by (asked_from q r) x ≡ ((is_write_back (Some r) || is_reply (Some r)) && (has_line x HITM || has_line x DEFER) || is_write_back (Some r) && has_line x HIT)
-unfolding is_unfit_by asked_from is_write_back is_reply is_some_and
+unfit_form : (q : ℕ) (r : Request) (x : Sample) → is_unfit_by (live_from q r) x ≡ ((is_write_back (Some r) || is_reply (Some r)) && (has_line x HITM || has_line x DEFER) || is_write_back (Some r) && has_line x HIT)
+unfolding is_unfit_by live_from is_write_back is_reply is_some_and
 unfit_form q r x = refl
 
 unfit_here : (h : Trace) (x : Sample) (v : Trace) (i : ℕ) (r : Request) (e : Bool) → OneMore h x v → is_at (snoop_end_of v i) (length h) ≡ e → live_request_of v i ≡ Some r → is_result_unfit_for v (length h) i ≡ (e && ((is_write_back (Some r) || is_reply (Some r)) && (has_line x HITM || has_line x DEFER) || is_write_back (Some r) && has_line x HIT))
@@ -103,11 +96,11 @@ later_not h x v s i m o to l e =
     let c = ended_where h x v s s b.0 m o.spaced to (omega arith) b.1 in
     omega (arith, b.2, c)
 
-some_form : (o : Option Asked) (a : Asked) (x : Sample) → o ≡ Some a → is_some_and o (λ b. true && is_unfit_by b x) ≡ is_unfit_by a x
+some_form : (o : Option LiveRequest) (a : LiveRequest) (x : Sample) → o ≡ Some a → is_some_and o (λ b. true && is_unfit_by b x) ≡ is_unfit_by a x
 unfolding is_some_and
 some_form o a x e = rw e refl
 
-none_form : (o : Option Asked) (x : Sample) → is_some_and o (λ a. false && is_unfit_by a x) ≡ false
+none_form : (o : Option LiveRequest) (x : Sample) → is_some_and o (λ a. false && is_unfit_by a x) ≡ false
 unfolding is_some_and
 none_form None x = refl
 none_form (Some a) x = refl
@@ -161,8 +154,8 @@ unfit_cases : (k : Checker) (h : Trace) (x : Sample) (v : Trace) (f : Follows k 
 unfit_cases k h x v f true m t =
     let s : ℕ = f.queue.snooped in
     let known = is_known h s f.decoded (known_ending h x v s m f.orderly f.decoded f.queue.to t) in
-    let first = first_of h s k.queue.asking.items f.queue.asking (known_ending h x v s m f.orderly f.decoded f.queue.to t) ∙ asked_of-known h s known in
-    some_form (slice_get k.queue.asking.items 0) (asked_from known.clock known.request) x first
+    let first = first_of h s k.queue.asking.items f.queue.asking (known_ending h x v s m f.orderly f.decoded f.queue.to t) ∙ live_of-known h s known in
+    some_form (slice_get k.queue.asking.items 0) (live_from known.clock known.request) x first
     ∙ unfit_form known.clock known.request x
     ∙ sym (unfit_here h x v s known.request true m
     (ap (λ o. is_at o (length h)) (snoop_end_of-more h x v s m f.orderly.spaced f.queue.to) ∙ is_at-if (length h) (ends_snoop_of h s x) ∙ t)

@@ -4,22 +4,20 @@ use Rattle.std.specs.List.{list_all}
 use Rattle.std.proofs.lemmas.Bool.{both_ways}
 use Rattle.fsb_count.specs.Clocks.{first_where, count_where}
 use Rattle.fsb_signal.specs.declared.lines.TheConstants.Lines.{ADS}
+use Rattle.fsb_signal.specs.declared.marks.Marks.{Marks}
 use Rattle.fsb_signal.specs.Samples.{line_at}
-use Rattle.fsb_signal.proofs.AtClock.{line_at-past}
+use Rattle.fsb_signal.proofs.Interface.{line_at-past}
 use Rattle.fsb_trace.specs.At.{line_back}
 use Rattle.fsb_trace.specs.Snoop.{snoop_end_of}
 use Rattle.fsb_trace.specs.Response.{ready_clock_of}
 use Rattle.fsb_trace.specs.Verdict.{verdict}
-use Rattle.fsb_trace.proofs.Stay.{snoop_end_of-clock}
+use Rattle.fsb_trace.proofs.Interface.{snoop_end_of-clock}
 use Rattle.fsb_arbiter.specs.Arbiter.{Stands as ArbiterStands, lines_back}
 use Rattle.fsb_laws.specs.Progress.{response_count}
-use Rattle.fsb_laws.proofs.OrderlySteps.{orderly-empty}
-use Rattle.fsb_laws.proofs.ResponseSteps.{response_counted, response_count-empty}
-use Rattle.fsb_laws.proofs.ReadySteps.{has_ready}
-use Rattle.fsb_laws.proofs.OutstandingSteps.{deferred_response}
+use Rattle.fsb_laws.proofs.Interface.{orderly-empty, response_counted, response_count-empty, has_ready, deferred_response}
 use Rattle.fsb_rules.specs.declared.checker.Checker.{Checker}
 use Rattle.fsb_rules.specs.Recent.{words_back}
-use Rattle.fsb_rules.specs.Queue.{QueueStands, known_count, snoop_before, moving_after, moving_of}
+use Rattle.fsb_rules.specs.InFlight.{InFlightStands, known_count, snoop_before, moving_after, moving_of}
 use Rattle.fsb_rules.specs.Outstanding.{OutstandingStands}
 use Rattle.fsb_rules.specs.OpenTests.{is_of_agent}
 use Rattle.fsb_rules.specs.Tests.{queue_len}
@@ -95,7 +93,7 @@ no_requests : (k : Checker) → IsNew k → queue_len k.queue ≡ 0
 unfolding queue_len
 no_requests k n = rw (n.asking, n.waiting, n.moving) refl
 
-new_queue : (k : Checker) → IsNew k → QueueStands k.queue []
+new_queue : (k : Checker) → IsNew k → InFlightStands k.queue []
 new_queue k n =
     record {
       snooped = 0;
@@ -141,9 +139,9 @@ new_follows k n =
       outstanding = new_outstanding k n;
     }
 
-nothing_found : None ≡ as_broken (verdict [])
+nothing_found : (marks : Marks) → None ≡ as_broken (verdict marks [])
 unfolding as_broken verdict first_where
-nothing_found = refl
+nothing_found marks = refl
 
-pub new_stands : (k : Checker) → IsNew k → Stands k []
-new_stands k n = record { found = n.found ∙ nothing_found; follows = λ e. new_follows k n }
+pub new_stands : (k : Checker) (marks : Marks) → IsNew k → k.marks ≡ marks → Stands k marks []
+new_stands k marks n e = record { marked = e; found = n.found ∙ nothing_found marks; follows = λ e. new_follows k n }

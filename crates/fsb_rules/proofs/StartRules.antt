@@ -4,7 +4,7 @@ use Rattle.std.specs.Option.{option_map}
 use Rattle.std.proofs.lemmas.Bool.{cases_lt, and_parts, and_left, and_right, le-leb, lt-leb}
 use Rattle.fsb_count.specs.Options.{is_some_and}
 use Rattle.fsb_count.specs.Clocks.{any_where}
-use Rattle.fsb_count.proofs.Any.{any_where-more}
+use Rattle.fsb_count.proofs.Interface.{any_where-more}
 use Rattle.fsb_signal.specs.declared.lines.Lines.{Lines}
 use Rattle.fsb_signal.specs.declared.lines.TheConstants.Lines.{ADS, AERR, BNR, LOCK, DRDY}
 use Rattle.fsb_signal.specs.declared.sample.Sample.{Sample}
@@ -15,17 +15,16 @@ use Rattle.fsb_trace.specs.declared.who.Who.TheVariants.{Symmetric, Priority}
 use Rattle.fsb_trace.specs.At.{Trace, line_back, request_at}
 use Rattle.fsb_trace.specs.Winner.{winner_at, winner_after, is_agent, request_line_of, begins_at}
 use Rattle.fsb_trace.specs.Requests.{is_reply}
-use Rattle.fsb_trace.specs.Rules.{has_unknown_line, is_request_too_soon, is_code_unlawful, is_queue_full, is_request_blocked, has_no_winner, is_own_id, is_identified, is_identity_wrong, is_asked_wrongly, is_some_asked_wrongly, is_lock_alone, is_error_alone, has_unknown_data}
+use Rattle.fsb_trace.specs.Rules.{has_unknown_line, is_request_too_soon, is_code_unlawful, is_queue_full, is_request_blocked, has_no_winner, is_own_id, is_identified, is_identity_wrong, is_asked_wrongly, is_some_asked_wrongly, is_lock_alone, is_error_alone, has_unknown_data, has_parity_at, is_address_parity_wrong, is_request_parity_wrong}
 use Rattle.fsb_trace.specs.Flight.{in_flight}
-use Rattle.fsb_trace.proofs.AgreeAt.{winner_at-agree}
+use Rattle.fsb_trace.proofs.Interface.{winner_at-agree}
 use Rattle.fsb_laws.specs.OneMore.{OneMore}
-use Rattle.fsb_laws.proofs.OneMoreFacts.{line_at-old, line_at-new}
-use Rattle.fsb_laws.proofs.FlightSteps.{in_flight-now}
-use Rattle.fsb_rules.specs.declared.asked.Asked.{Asked}
+use Rattle.fsb_laws.proofs.Interface.{line_at-old, line_at-new, in_flight-now}
+use Rattle.fsb_rules.specs.declared.live.LiveRequest.{LiveRequest}
 use Rattle.fsb_rules.specs.declared.checker.Checker.{Checker}
-use Rattle.fsb_rules.specs.Asked.{asked_from, asked_at}
+use Rattle.fsb_rules.specs.Live.{live_from, live_at}
 use Rattle.fsb_rules.specs.Tests.{is_among, request_by, queue_len}
-use Rattle.fsb_rules.specs.Steps.{begun_by, is_too_soon_by, is_identified_by, is_identity_wrong_by, is_asked_wrongly_by, is_some_asked_wrongly_by, is_lock_alone_by}
+use Rattle.fsb_rules.specs.Steps.{begun_by, is_too_soon_by, is_identified_by, is_identity_wrong_by, is_asked_wrongly_by, is_some_asked_wrongly_by, is_lock_alone_by, has_parity_by, is_address_wrong_by, is_request_wrong_by}
 use Rattle.fsb_rules.specs.Checker.{Follows, beginner_of}
 use Rattle.fsb_rules.proofs.Lines.{is_among-back, line_back-new, request_by-new, line_back-some}
 use Rattle.fsb_rules.proofs.QueueLength.{queue_len-in_flight}
@@ -52,24 +51,24 @@ rule_2 k h x v f m =
     rw (first_back ADS k h f, second_back ADS k h f, line_at-new ADS h x v m, line_back-new ADS h x v 1 m (omega arith), line_back-new ADS h x v 2 m (omega arith)) refl
 
 -- the request that began at the last clock
-begun_cases : (k : Checker) (h : Trace) (x : Sample) (v : Trace) (b : Bool) → Follows k h → OneMore h x v → line_back ADS h (length h) 1 ≡ b → begun_by k (length h) x ≡ cond b (asked_at v (length h - 1)) None
-unfolding begun_by asked_at
+begun_cases : (k : Checker) (h : Trace) (x : Sample) (v : Trace) (b : Bool) → Follows k h → OneMore h x v → line_back ADS h (length h) 1 ≡ b → begun_by k (length h) x ≡ cond b (live_at v (length h - 1)) None
+unfolding begun_by live_at
 begun_cases k h x v true f m t =
     rw (first_back ADS k h f, t)
-    (ap (option_map (asked_from (length h - 1))) (ap (λ w. request_by w x) f.recent.words ∙ request_by-new h x v m (line_back-some h t)))
+    (ap (option_map (live_from (length h - 1))) (ap (λ w. request_by w x) f.recent.words ∙ request_by-new h x v m (line_back-some h t)))
 begun_cases k h x v false f m t = rw (first_back ADS k h f, t) refl
 
-pub begun-form : (k : Checker) (h : Trace) (x : Sample) (v : Trace) → Follows k h → OneMore h x v → begun_by k (length h) x ≡ cond (line_back ADS h (length h) 1) (asked_at v (length h - 1)) None
+pub begun-form : (k : Checker) (h : Trace) (x : Sample) (v : Trace) → Follows k h → OneMore h x v → begun_by k (length h) x ≡ cond (line_back ADS h (length h) 1) (live_at v (length h - 1)) None
 begun-form k h x v f m = begun_cases k h x v (line_back ADS h (length h) 1) f m refl
 
 -- 3 lawful codes
-none_asked : (q : ℕ) (o : Option Request) → is_none (option_map (asked_from q) o) ≡ is_none o
-none_asked q None = refl
-none_asked q (Some r) = refl
+none_request : (q : ℕ) (o : Option Request) → is_none (option_map (live_from q) o) ≡ is_none o
+none_request q None = refl
+none_request q (Some r) = refl
 
-unlawful_cases : (h : Trace) (v : Trace) (b : Bool) → (b && is_none (cond b (asked_at v (length h - 1)) None)) ≡ (b && is_none (request_at v (length h - 1)))
-unfolding asked_at
-unlawful_cases h v true = none_asked (length h - 1) (request_at v (length h - 1))
+unlawful_cases : (h : Trace) (v : Trace) (b : Bool) → (b && is_none (cond b (live_at v (length h - 1)) None)) ≡ (b && is_none (request_at v (length h - 1)))
+unfolding live_at
+unlawful_cases h v true = none_request (length h - 1) (request_at v (length h - 1))
 unlawful_cases h v false = refl
 
 pub rule_3 : (k : Checker) (h : Trace) (x : Sample) (v : Trace) → Follows k h → OneMore h x v → (is_among k.recent.first ADS && is_none (begun_by k (length h) x)) ≡ is_code_unlawful v (length h)
@@ -111,8 +110,8 @@ unfolding beginner_of
 beginner_none k h f t = f.beginner ∙ (rw t refl)
 
 -- 7 request identity, where the code is lawful
-identified : (winner : Option Who) (q : ℕ) (r : Request) → is_identified_by winner (asked_from q r) ≡ is_identified winner (Some r)
-unfolding is_identified_by asked_from is_identified is_own_id is_reply is_some_and
+identified : (winner : Option Who) (q : ℕ) (r : Request) → is_identified_by winner (live_from q r) ≡ is_identified winner (Some r)
+unfolding is_identified_by live_from is_identified is_own_id is_reply is_some_and
 identified winner q r = refl
 
 there : {A : Type 0} (o : Option A) → is_none o ≡ false → (a : A) × (o ≡ Some a)
@@ -123,21 +122,21 @@ request_there : (v : Trace) (n : ℕ) → line_back ADS v n 1 ≡ true → is_co
 unfolding is_code_unlawful
 request_there v n t f = there (request_at v (n - 1)) (let g : (true && is_none (request_at v (n - 1))) ≡ false = rw t at f in g)
 
-begun_with : (k : Checker) (h : Trace) (x : Sample) (v : Trace) (r : Request) → Follows k h → OneMore h x v → line_back ADS h (length h) 1 ≡ true → request_at v (length h - 1) ≡ Some r → begun_by k (length h) x ≡ Some (asked_from (length h - 1) r)
-unfolding asked_at
+begun_with : (k : Checker) (h : Trace) (x : Sample) (v : Trace) (r : Request) → Follows k h → OneMore h x v → line_back ADS h (length h) 1 ≡ true → request_at v (length h - 1) ≡ Some r → begun_by k (length h) x ≡ Some (live_from (length h - 1) r)
+unfolding live_at
 begun_with k h x v r f m t e = begun-form k h x v f m ∙ (rw (t, e) refl)
 
-pub begun_there : (k : Checker) (h : Trace) (x : Sample) (v : Trace) → Follows k h → OneMore h x v → line_back ADS h (length h) 1 ≡ true → is_code_unlawful v (length h) ≡ false → (r : Request) × (request_at v (length h - 1) ≡ Some r) × (begun_by k (length h) x ≡ Some (asked_from (length h - 1) r))
+pub begun_there : (k : Checker) (h : Trace) (x : Sample) (v : Trace) → Follows k h → OneMore h x v → line_back ADS h (length h) 1 ≡ true → is_code_unlawful v (length h) ≡ false → (r : Request) × (request_at v (length h - 1) ≡ Some r) × (begun_by k (length h) x ≡ Some (live_from (length h - 1) r))
 begun_there k h x v f m t lawful =
     let p = request_there v (length h) (line_back-new ADS h x v 1 m (omega arith) ∙ t) lawful in
     (p.0, p.1, begun_with k h x v p.0 f m t p.1)
 
-identity_with : (k : Checker) (q : ℕ) (r : Request) (begun : Option Asked) (winner : Option Who) (o : Option Request) → begun ≡ Some (asked_from q r) → k.beginner ≡ winner → o ≡ Some r → is_identity_wrong_by k begun ≡ (true && not (is_identified winner o))
+identity_with : (k : Checker) (q : ℕ) (r : Request) (begun : Option LiveRequest) (winner : Option Who) (o : Option Request) → begun ≡ Some (live_from q r) → k.beginner ≡ winner → o ≡ Some r → is_identity_wrong_by k begun ≡ (true && not (is_identified winner o))
 unfolding is_identity_wrong_by is_some_and
 identity_with k q r begun winner o e w g =
-    rw (e, g) (ap (λ b. not (is_identified_by b (asked_from q r))) w ∙ ap not (identified winner q r))
+    rw (e, g) (ap (λ b. not (is_identified_by b (live_from q r))) w ∙ ap not (identified winner q r))
 
-identity_none : (k : Checker) (begun : Option Asked) → begun ≡ None → is_identity_wrong_by k begun ≡ false
+identity_none : (k : Checker) (begun : Option LiveRequest) → begun ≡ None → is_identity_wrong_by k begun ≡ false
 unfolding is_identity_wrong_by is_some_and
 identity_none k begun e = rw e refl
 
@@ -175,9 +174,9 @@ back_none : (line : Lines) (h : Trace) → length h ≡ 0 → line_back line h (
 unfolding line_back
 back_none line h e = and_left _ _ (lt-leb 1 (length h) (omega arith))
 
-asked_first : (k : Checker) (h : Trace) (x : Sample) (v : Trace) (who : Who) → Follows k h → OneMore h x v → length h ≡ 0 → is_asked_wrongly_by k x who ≡ is_asked_wrongly v (length h) who
+live_first : (k : Checker) (h : Trace) (x : Sample) (v : Trace) (who : Who) → Follows k h → OneMore h x v → length h ≡ 0 → is_asked_wrongly_by k x who ≡ is_asked_wrongly v (length h) who
 unfolding is_asked_wrongly_by is_asked_wrongly
-asked_first k h x v who f m e =
+live_first k h x v who f m e =
     let quiet : line_back ADS h (length h) 1 ≡ false = back_none ADS h e in
     rw (
       beginner_none k h f quiet,
@@ -190,9 +189,9 @@ asked_first k h x v who f m e =
       begins_first v who,
     ) refl
 
-asked_next : (k : Checker) (h : Trace) (x : Sample) (v : Trace) (who : Who) → Follows k h → OneMore h x v → 0 < length h → is_asked_wrongly_by k x who ≡ is_asked_wrongly v (length h) who
+live_next : (k : Checker) (h : Trace) (x : Sample) (v : Trace) (who : Who) → Follows k h → OneMore h x v → 0 < length h → is_asked_wrongly_by k x who ≡ is_asked_wrongly v (length h) who
 unfolding is_asked_wrongly_by is_asked_wrongly
-asked_next k h x v who f m l =
+live_next k h x v who f m l =
     rw (
       begins_by k h x v who (line_back ADS h (length h) 1) f m l refl,
       le-leb 1 (length h) (omega arith),
@@ -204,8 +203,8 @@ asked_next k h x v who f m l =
 asked_wrongly : (k : Checker) (h : Trace) (x : Sample) (v : Trace) (who : Who) → Follows k h → OneMore h x v → is_asked_wrongly_by k x who ≡ is_asked_wrongly v (length h) who
 asked_wrongly k h x v who f m =
     elim (cases_lt 0 (length h)) [
-      | inl l ↦ asked_next k h x v who f m l
-      | inr l ↦ asked_first k h x v who f m (omega arith)
+      | inl l ↦ live_next k h x v who f m l
+      | inr l ↦ live_first k h x v who f m (omega arith)
     ]
 
 none_yet : (p : ℕ → Bool) → (any_where p 0 || p 0) ≡ p 0
@@ -247,3 +246,19 @@ rule_10 k h x v f m =
 pub rule_17 : (h : Trace) (x : Sample) (v : Trace) → OneMore h x v → (has_line x DRDY && not (is_known_word x.dbus)) ≡ has_unknown_data v (length h)
 unfolding has_unknown_data
 rule_17 h x v m = rw (line_at-new DRDY h x v m, m.last) refl
+
+-- whether the new clock is one of the two of a request
+parity_there : (k : Checker) (h : Trace) (x : Sample) (v : Trace) → Follows k h → OneMore h x v → has_parity_by k x ≡ has_parity_at v (length h)
+unfolding has_parity_by has_parity_at
+parity_there k h x v f m =
+    rw (first_back ADS k h f, line_at-new ADS h x v m, line_back-new ADS h x v 1 m (omega arith)) refl
+
+-- 19 address parity
+pub rule_19 : (k : Checker) (h : Trace) (x : Sample) (v : Trace) → Follows k h → OneMore h x v → is_address_wrong_by k x ≡ (k.marks.ap && is_address_parity_wrong v (length h))
+unfolding is_address_wrong_by is_address_parity_wrong
+rule_19 k h x v f m = rw (parity_there k h x v f m, m.last) refl
+
+-- 20 request parity
+pub rule_20 : (k : Checker) (h : Trace) (x : Sample) (v : Trace) → Follows k h → OneMore h x v → is_request_wrong_by k x ≡ (k.marks.rp && is_request_parity_wrong v (length h))
+unfolding is_request_wrong_by is_request_parity_wrong
+rule_20 k h x v f m = rw (parity_there k h x v f m, m.last) refl

@@ -3,9 +3,7 @@ use Rattle.std.proofs.Common.{ℕ, zero, suc, ◌+◌, ◌<◌, ◌≤◌, ◌�
 use Rattle.std.proofs.lemmas.Bool.{cases_lt, cases_eq, and_left, and_right, lt-leb, le-ltb}
 use Rattle.fsb_count.specs.Options.{is_some_and}
 use Rattle.fsb_count.specs.Clocks.{count_where, from_clock}
-use Rattle.fsb_count.proofs.Any.{any_where-at, any_where-off}
-use Rattle.fsb_count.proofs.Count.{count_where-mono, count_where-passed, count_where-same}
-use Rattle.fsb_count.proofs.Nth.{nth_where-found}
+use Rattle.fsb_count.proofs.Interface.{any_where-at, any_where-off, count_where-mono, count_where-passed, count_where-same, nth_where-found}
 use Rattle.fsb_signal.specs.declared.lines.TheConstants.Lines.{DRDY}
 use Rattle.fsb_signal.specs.declared.sample.Sample.{Sample}
 use Rattle.fsb_signal.specs.Samples.{line_at, response_of}
@@ -14,17 +12,11 @@ use Rattle.fsb_trace.specs.Requests.{live_count}
 use Rattle.fsb_trace.specs.Outcome.{response_clock_of, moves_data, told_by, does_move}
 use Rattle.fsb_trace.specs.Response.{end_of}
 use Rattle.fsb_trace.specs.Rules.{is_transferring_of, is_transferring}
-use Rattle.fsb_trace.proofs.Stay.{snoop_end_of-clock}
-use Rattle.fsb_trace.proofs.StayEnds.{end_of-moving}
-use Rattle.fsb_trace.proofs.LiveRequests.{live_below_count}
+use Rattle.fsb_trace.proofs.Interface.{snoop_end_of-clock, end_of-moving, live_below_count}
 use Rattle.fsb_laws.specs.OneMore.{OneMore, responds}
 use Rattle.fsb_laws.specs.Orderly.{Orderly}
 use Rattle.fsb_laws.specs.Progress.{SnoopsTo, response_count, transfer_after, transfer_of}
-use Rattle.fsb_laws.proofs.OneMoreFacts.{line_at-old}
-use Rattle.fsb_laws.proofs.Clocks.{count_where-none}
-use Rattle.fsb_laws.proofs.ResponseSteps.{has_answer, response_there, response_past, response_count-more, response_clock_of-old, response_clock_of-new, moves_data-old}
-use Rattle.fsb_laws.proofs.EndFacts.{transferring_form, chunks_of-form, clear_parts}
-use Rattle.fsb_laws.proofs.TransferSteps.{moves_new}
+use Rattle.fsb_laws.proofs.Interface.{line_at-old, count_where-none, has_answer, response_there, response_past, response_count-more, response_clock_of-old, response_clock_of-new, moves_data-old, transferring_form, chunks_of-form, clear_parts, moves_new}
 
 -- without a response nothing is on the way
 not_without : (w : Trace) (m i : ℕ) → response_clock_of w i ≡ None → is_transferring_of w m i ≡ false

@@ -5,27 +5,27 @@ use Rattle.std.proofs.lemmas.Bool.{cases_Bool, and_parts, or_parts, both_ways, n
 use Rattle.std.proofs.lemmas.Option.{cond_some}
 use Rattle.fsb_count.specs.Options.{is_some_and}
 use Rattle.fsb_signal.specs.declared.lines.TheConstants.Lines.{ADS, AERR, TRDY, HITM}
+use Rattle.fsb_signal.specs.declared.marks.Marks.{Marks}
 use Rattle.fsb_signal.specs.declared.sample.Sample.{Sample}
 use Rattle.fsb_signal.specs.Samples.{has_line, line_at}
 use Rattle.fsb_encode.specs.declared.request.Request.{Request}
 use Rattle.fsb_encode.specs.declared.request.Pair.{Pair}
 use Rattle.fsb_encode.specs.declared.request.Kind.{Kind}
-use Rattle.fsb_encode.specs.declared.request.Kind.TheVariants.{Reply, Invalidate, Read, WriteBack}
+use Rattle.fsb_encode.specs.declared.request.Kind.TheVariants.{Reply, Invalidate, Read, WriteBack, Upgrade}
 use Rattle.fsb_encode.specs.Request.{is_lawful_request, are_lawful_fields}
 use Rattle.fsb_encode.specs.Decoded.{kind_of, read_off, is_coded_as, if_coded_as, request_of}
-use Rattle.fsb_trace.specs.declared.outcome.Outcome.TheVariants.{Granted, Handed, Retried, Deferred, Written, Replied, Failed}
+use Rattle.fsb_trace.specs.declared.outcome.Outcome.TheVariants.{Granted, Handed, Retried, Deferred, Written, Replied, Failed, Upgraded}
 use Rattle.fsb_trace.specs.At.{Trace, line_back, known_pair_at, request_at}
 use Rattle.fsb_trace.specs.Requests.{live_clock_of, live_request_of, is_reply, is_reply_kind}
 use Rattle.fsb_trace.specs.Snoop.{line_at_snoop_end}
 use Rattle.fsb_trace.specs.Outcome.{told_by, is_deferral, response_code_of, outcome_by_kind}
 use Rattle.fsb_trace.specs.Rules.{breaks, is_request_too_soon, is_code_unlawful, is_identity_wrong, is_error_alone, is_response_early, is_code_for, has_den}
 use Rattle.fsb_trace.specs.Verdict.{is_broken, least_rule}
-use Rattle.fsb_trace.proofs.RuleSteps.{breaks-2, breaks-3, breaks-4, breaks-7, breaks-10, breaks-13, breaks-15, breaks-18}
-use Rattle.fsb_count.proofs.First.{first_where-none}
-use Rattle.fsb_count.proofs.Options.{is_some-none}
+use Rattle.fsb_trace.proofs.Interface.{breaks-2, breaks-3, breaks-4, breaks-7, breaks-10, breaks-13, breaks-15, breaks-18}
+use Rattle.fsb_count.proofs.Interface.{first_where-none, is_some-none}
 use Rattle.fsb_laws.specs.OneMore.{OneMore}
 use Rattle.fsb_laws.specs.Progress.{may_answer_next}
-use Rattle.fsb_laws.proofs.OneMoreFacts.{line_at-new}
+use Rattle.fsb_laws.proofs.Interface.{line_at-new}
 use Rattle.fsb_rules.specs.declared.checker.Checker.{Checker}
 use Rattle.fsb_rules.specs.Tests.{queue_len, next_by, takes_by, is_ready_wrongly_by}
 use Rattle.fsb_rules.specs.Steps.{begun_by, is_begun_wrongly_by, is_target_ready_wrong_by}
@@ -37,13 +37,13 @@ use Rattle.fsb_rules.proofs.FirstBroken.{broken_here, too_soon_not, orderly_afte
 use Rattle.fsb_rules.proofs.Goes.{Goes}
 
 -- no rule is broken at the last clock
-pub record IsUnbroken (v : Trace) (n : ℕ) : Type 0 where
-  pub sound : (j : ℕ) → j < 19 → breaks v n j ≡ false
+pub record IsUnbroken (marks : Marks) (v : Trace) (n : ℕ) : Type 0 where
+  pub sound : (j : ℕ) → j < 21 → breaks marks v n j ≡ false
 
-pub unbroken : (v : Trace) (n : ℕ) → length v ≡ n + 1 → least_rule v n ≡ None → IsUnbroken v n
+pub unbroken : (marks : Marks) (v : Trace) (n : ℕ) → length v ≡ n + 1 → least_rule marks v n ≡ None → IsUnbroken marks v n
 unfolding least_rule
-unbroken v n e f =
-    record { sound = λ j l. sym (broken_here v n j e) ∙ first_where-none (is_broken v n) 19 f j l }
+unbroken marks v n e f =
+    record { sound = λ j l. sym (broken_here marks v n j e) ∙ first_where-none (is_broken marks v n) 21 f j l }
 
 -- an address error comes three clocks after a request
 error_timed : (h : Trace) (x : Sample) (v : Trace) → OneMore h x v → is_error_alone v (length h) ≡ false → has_line x AERR ≡ true → line_back ADS h (length h) 3 ≡ true
@@ -72,37 +72,37 @@ room_now : (k : Checker) (h : Trace) (x : Sample) → (has_line x ADS && nat_le 
 room_now k h x f t =
     let g : (true && nat_le 8 (queue_len k.queue)) ≡ false = rw t at f in leb-false 8 (queue_len k.queue) g
 
-pub goes_on : (k : Checker) (h : Trace) (x : Sample) (v : Trace) → Follows k h → OneMore h x v → IsUnbroken v (length h) → Goes k h x v (begun_by k (length h) x)
-goes_on k h x v f m u =
+pub goes_on : (marks : Marks) (k : Checker) (h : Trace) (x : Sample) (v : Trace) → Follows k h → OneMore h x v → IsUnbroken marks v (length h) → Goes k h x v (begun_by k (length h) x)
+goes_on marks k h x v f m u =
     let n : ℕ = length h in
-    let soon : is_request_too_soon v n ≡ false = sym (breaks-2 v n) ∙ u.sound 2 (omega arith) in
-    let lawful : is_code_unlawful v n ≡ false = sym (breaks-3 v n) ∙ u.sound 3 (omega arith) in
-    let early : is_response_early v n ≡ false = sym (breaks-13 v n) ∙ u.sound 13 (omega arith) in
+    let soon : is_request_too_soon v n ≡ false = sym (breaks-2 marks v n) ∙ u.sound 2 (omega arith) in
+    let lawful : is_code_unlawful v n ≡ false = sym (breaks-3 marks v n) ∙ u.sound 3 (omega arith) in
+    let early : is_response_early v n ≡ false = sym (breaks-13 marks v n) ∙ u.sound 13 (omega arith) in
     let may = timely k h x v f m early in
     record {
       more = m;
       follows = f;
       after = orderly_after k h x v f m soon early;
       may = may;
-      timed = λ t. error_timed h x v m (sym (breaks-10 v n) ∙ u.sound 10 (omega arith)) t;
+      timed = λ t. error_timed h x v m (sym (breaks-10 marks v n) ∙ u.sound 10 (omega arith)) t;
       decoded = λ t. begun_there k h x v f m t lawful;
       unbegun = λ t. begun-form k h x v f m ∙ (rw t refl);
-      ready = λ t. ready_now k h x f (rule_15 k h x v f m may ∙ sym (breaks-15 v n) ∙ u.sound 15 (omega arith)) t;
+      ready = λ t. ready_now k h x f (rule_15 k h x v f m may ∙ sym (breaks-15 marks v n) ∙ u.sound 15 (omega arith)) t;
       room = λ t.
           let quiet = too_soon_not h x v m soon t in
-          (room_now k h x (rule_4 k h x v f m (λ s. (too_soon_not h x v m soon s).0) ∙ sym (breaks-4 v n) ∙ u.sound 4 (omega arith)) t, quiet.0);
+          (room_now k h x (rule_4 k h x v f m (λ s. (too_soon_not h x v m soon s).0) ∙ sym (breaks-4 marks v n) ∙ u.sound 4 (omega arith)) t, quiet.0);
     }
 
-pub own_unbroken : (v : Trace) (n : ℕ) → IsUnbroken v n → is_identity_wrong v n ≡ false
-own_unbroken v n u = sym (breaks-7 v n) ∙ u.sound 7 (omega arith)
+pub own_unbroken : (marks : Marks) (v : Trace) (n : ℕ) → IsUnbroken marks v n → is_identity_wrong v n ≡ false
+own_unbroken marks v n u = sym (breaks-7 marks v n) ∙ u.sound 7 (omega arith)
 
-pub calm : (k : Checker) (h : Trace) (x : Sample) (v : Trace) → Follows k h → OneMore h x v → IsUnbroken v (length h) → is_begun_wrongly_by k (begun_by k (length h) x) ≡ false
-calm k h x v f m u =
+pub calm : (marks : Marks) (k : Checker) (h : Trace) (x : Sample) (v : Trace) → Follows k h → OneMore h x v → IsUnbroken marks v (length h) → is_begun_wrongly_by k (begun_by k (length h) x) ≡ false
+calm marks k h x v f m u =
     let n : ℕ = length h in
-    let soon : is_request_too_soon v n ≡ false = sym (breaks-2 v n) ∙ u.sound 2 (omega arith) in
-    let lawful : is_code_unlawful v n ≡ false = sym (breaks-3 v n) ∙ u.sound 3 (omega arith) in
-    let early : is_response_early v n ≡ false = sym (breaks-13 v n) ∙ u.sound 13 (omega arith) in
-    rule_18 k h x v f m (orderly_after k h x v f m soon early) lawful (own_unbroken v n u) ∙ sym (breaks-18 v n) ∙ u.sound 18 (omega arith)
+    let soon : is_request_too_soon v n ≡ false = sym (breaks-2 marks v n) ∙ u.sound 2 (omega arith) in
+    let lawful : is_code_unlawful v n ≡ false = sym (breaks-3 marks v n) ∙ u.sound 3 (omega arith) in
+    let early : is_response_early v n ≡ false = sym (breaks-13 marks v n) ∙ u.sound 13 (omega arith) in
+    rule_18 k h x v f m (orderly_after k h x v f m soon early) lawful (own_unbroken marks v n u) ∙ sym (breaks-18 marks v n) ∙ u.sound 18 (omega arith)
 
 -- a request with DEN# is no reply
 lawful_kind : (kind : Kind) (line chunk : ℕ) (den : Bool) → are_lawful_fields kind line chunk den ≡ true → den ≡ true → is_reply_kind kind ≡ false
@@ -111,6 +111,7 @@ lawful_kind Reply line chunk den t d = absurd (let p = and_parts _ _ t in let q 
 lawful_kind Invalidate line chunk den t d = refl
 lawful_kind Read line chunk den t d = refl
 lawful_kind WriteBack line chunk den t d = refl
+lawful_kind Upgrade line chunk den t d = refl
 
 lawful_den : (r : Request) → is_lawful_request r ≡ true → r.den ≡ true → is_reply_kind r.kind ≡ false
 unfolding is_lawful_request
@@ -150,12 +151,13 @@ pub den_no_reply : (w : Trace) (i : ℕ) → has_den (live_request_of w i) ≡ t
 den_no_reply w i t = den_cases w i (live_clock_of w i) (live_request_of w i) refl refl t
 
 -- a response that defers is the code of a request with DEN#
-kind_cases : (k : Kind) → is_deferral (elim k [ WriteBack ↦ Written | Reply ↦ Replied | Read ↦ Granted | Invalidate ↦ Granted ]) ≡ false
+kind_cases : (k : Kind) → is_deferral (elim k [ WriteBack ↦ Written | Upgrade ↦ Upgraded | Reply ↦ Replied | Read ↦ Granted | Invalidate ↦ Granted ]) ≡ false
 unfolding is_deferral
 kind_cases Reply = refl
 kind_cases Invalidate = refl
 kind_cases Read = refl
 kind_cases WriteBack = refl
+kind_cases Upgrade = refl
 
 kind_not : (o : Option Request) → is_deferral (outcome_by_kind o) ≡ false
 unfolding is_deferral outcome_by_kind
@@ -175,14 +177,15 @@ unfolding told_by response_code_of
 told_deferral w i code t =
     let p = told_cases _ _ _ _ (live_request_of w i) t in (p.1, eqb-true code 2 p.3)
 
-code_cases : (back defer den : Bool) → cond back (nat_eq 2 5) (cond defer (nat_eq 2 1 || den && nat_eq 2 2) (nat_eq 2 7)) ≡ true → den ≡ true
-code_cases true defer den t = absurd (let no : ⊥ = cc in no)
-code_cases false true den t = (and_parts den true t).0
-code_cases false false den t = absurd (let no : ⊥ = cc in no)
+code_cases : (back defer den upgrade : Bool) → cond back (nat_eq 2 5) (cond defer (nat_eq 2 1 || den && nat_eq 2 2) (cond upgrade (nat_eq 2 5) (nat_eq 2 7))) ≡ true → den ≡ true
+code_cases true defer den upgrade t = absurd (let no : ⊥ = cc in no)
+code_cases false true den upgrade t = (and_parts den true t).0
+code_cases false false den true t = absurd (let no : ⊥ = cc in no)
+code_cases false false den false t = absurd (let no : ⊥ = cc in no)
 
 code_den : (w : Trace) (i : ℕ) → line_at_snoop_end HITM w i ≡ false → is_code_for w i 2 ≡ true → has_den (live_request_of w i) ≡ true
 unfolding is_code_for response_code_of
-code_den w i f t = code_cases _ _ _ (let g = rw f at t in g)
+code_den w i f t = code_cases _ _ _ _ (let g = rw f at t in g)
 
 pub deferral_no_reply : (w : Trace) (i code : ℕ) → is_deferral (told_by w i code) ≡ true → is_code_for w i code ≡ true → is_reply (live_request_of w i) ≡ false
 deferral_no_reply w i code t c =

@@ -2,6 +2,7 @@
 use Rattle.std.specs.Prelude.{◌≡◌, ◌<◌, ℕ, ◌+◌, ◌-◌, true, false, if◌then◌else◌, Option, Some, None, length}
 use Rattle.std.specs.Option.{option_map}
 use Rattle.fsb_signal.specs.declared.lines.TheConstants.Lines.{ADS}
+use Rattle.fsb_signal.specs.declared.marks.Marks.{Marks}
 use Rattle.fsb_signal.specs.Samples.{line_at}
 use Rattle.fsb_encode.specs.declared.request.Request.{Request}
 use Rattle.fsb_trace.specs.declared.who.Who.{Who}
@@ -16,7 +17,7 @@ use Rattle.fsb_laws.specs.Orderly.{Orderly}
 use Rattle.fsb_rules.specs.declared.broken.Broken.{Broken}
 use Rattle.fsb_rules.specs.declared.checker.Checker.{Checker}
 use Rattle.fsb_rules.specs.Recent.{RecentStands}
-use Rattle.fsb_rules.specs.Queue.{QueueStands}
+use Rattle.fsb_rules.specs.InFlight.{InFlightStands}
 use Rattle.fsb_rules.specs.Outstanding.{OutstandingStands}
 
 -- a verdict as the checker tells it
@@ -49,10 +50,12 @@ pub record Follows (checker : Checker) (h : Trace) : Type 0 where
   pub recent : RecentStands checker.recent h
   pub arbiter : ArbiterStands checker.arbiter h
   pub beginner : checker.beginner ≡ beginner_of h
-  pub queue : QueueStands checker.queue h
+  pub queue : InFlightStands checker.queue h
   pub outstanding : OutstandingStands checker.outstanding h
 
--- the checker was fed these samples: it found their verdict, and as long as there is none it follows them
-pub record Stands (checker : Checker) (h : Trace) : Type 0 where
-  pub found : checker.found ≡ as_broken (verdict h)
+-- the checker was made with these marks and fed these samples: it found their verdict, and as long as there is none it
+-- follows them
+pub record Stands (checker : Checker) (marks : Marks) (h : Trace) : Type 0 where
+  pub marked : checker.marks ≡ marks
+  pub found : checker.found ≡ as_broken (verdict marks h)
   pub follows : checker.found ≡ None → Follows checker h

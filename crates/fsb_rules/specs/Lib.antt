@@ -1,9 +1,9 @@
-pub mod Asked
+pub mod Live
 pub mod Tests
 pub mod OpenTests
 pub mod Steps
-pub mod Window
+pub mod Stretch
 pub mod Recent
-pub mod Queue
+pub mod InFlight
 pub mod Outstanding
 pub mod Checker

@@ -4,22 +4,23 @@ use Rattle.std.specs.Option.{option_map}
 use Rattle.fsb_count.specs.Options.{is_some_and}
 use Rattle.fsb_signal.specs.declared.lines.TheConstants.Lines.{ADS, AERR, HIT, HITM, DEFER, TRDY, DBSY, DRDY, BNR, LOCK}
 use Rattle.fsb_signal.specs.declared.sample.Sample.{Sample}
+use Rattle.fsb_signal.specs.Parity.{is_address_odd, is_request_odd}
 use Rattle.fsb_signal.specs.Samples.{has_line, has_known_lines, is_known_word, response_of}
 use Rattle.fsb_trace.specs.declared.who.Who.{Who}
 use Rattle.fsb_trace.specs.declared.who.Who.TheVariants.{Symmetric, Priority}
 use Rattle.fsb_trace.specs.Winner.{is_agent, is_same_agent, request_line_of}
 use Rattle.fsb_laws.specs.OneMore.{responds}
-use Rattle.fsb_rules.specs.declared.asked.Asked.{Asked}
+use Rattle.fsb_rules.specs.declared.live.LiveRequest.{LiveRequest}
 use Rattle.fsb_rules.specs.declared.checker.Checker.{Checker}
 use Rattle.fsb_rules.specs.declared.outstanding.Happened.{Happened}
-use Rattle.fsb_rules.specs.Asked.{asked_from}
+use Rattle.fsb_rules.specs.Live.{live_from}
 use Rattle.fsb_rules.specs.Tests.{is_among, request_by, is_due_by, ends_snoop_by, is_unfit_by, next_by, is_sound, is_code_by, takes_by, is_ready_wrongly_by, is_ready_late_by, moving_by, after_chunk, ended_by, queue_len}
 use Rattle.fsb_rules.specs.OpenTests.{is_wrong_among}
 
 -- the request that began at the last clock, whose second clock n is the sample
-unfoldable pub begun_by : Checker → ℕ → Sample → Option Asked
+unfoldable pub begun_by : Checker → ℕ → Sample → Option LiveRequest
 begun_by k n x =
-    if is_among k.recent.first ADS then option_map (asked_from (n - 1)) (request_by k.recent.words x) else None
+    if is_among k.recent.first ADS then option_map (live_from (n - 1)) (request_by k.recent.words x) else None
 
 -- 2 request spacing
 unfoldable pub is_too_soon_by : Checker → ℕ → Sample → Bool
@@ -27,12 +28,12 @@ is_too_soon_by k n x =
     has_line x ADS && (nat_lt n 2 || is_among k.recent.first ADS || is_among k.recent.second ADS)
 
 -- the request is a reply of the priority agent, or another request with an ID of its agent's
-unfoldable pub is_identified_by : Option Who → Asked → Bool
+unfoldable pub is_identified_by : Option Who → LiveRequest → Bool
 is_identified_by beginner a =
     if a.is_reply then is_agent beginner Priority else is_some_and beginner (is_same_agent (Symmetric (a.did / 16)))
 
 -- 7 request identity
-unfoldable pub is_identity_wrong_by : Checker → Option Asked → Bool
+unfoldable pub is_identity_wrong_by : Checker → Option LiveRequest → Bool
 is_identity_wrong_by k begun = is_some_and begun (λ a. not (is_identified_by k.beginner a))
 
 -- the agent's request line is not held until its request begins, or not released then
@@ -78,11 +79,28 @@ is_data_wrong_by k n x =
     || has_line x DBSY && not (is_some (after_chunk (moving_by k.queue n x) x))
 
 -- 18 deferred IDs and outstanding requests
-unfoldable pub is_begun_wrongly_by : Checker → Option Asked → Bool
+unfoldable pub is_begun_wrongly_by : Checker → Option LiveRequest → Bool
 is_begun_wrongly_by k begun = is_some_and begun (is_wrong_among k.outstanding.before.items)
 
--- the least of rules 11 to 18 that is broken
-unfoldable pub later_broken : Checker → ℕ → Sample → Option Asked → Option ℕ
+-- the sample is one of the two clocks of a request, which have parity
+unfoldable pub has_parity_by : Checker → Sample → Bool
+has_parity_by k x = has_line x ADS || is_among k.recent.first ADS
+
+-- 19 address parity, where the dump declares it
+unfoldable pub is_address_wrong_by : Checker → Sample → Bool
+is_address_wrong_by k x = k.marks.ap && (has_parity_by k x && is_address_odd x)
+
+-- 20 request parity, where the dump declares it
+unfoldable pub is_request_wrong_by : Checker → Sample → Bool
+is_request_wrong_by k x = k.marks.rp && (has_parity_by k x && is_request_odd x)
+
+-- the least of the two parity rules that is broken
+unfoldable pub parity_broken : Checker → Sample → Option ℕ
+parity_broken k x =
+    if is_address_wrong_by k x then Some 19 else (if is_request_wrong_by k x then Some 20 else None)
+
+-- the least of rules 11 to 20 that is broken
+unfoldable pub later_broken : Checker → ℕ → Sample → Option LiveRequest → Option ℕ
 later_broken k n x begun =
     if is_snoop_line_alone_by k n x then Some 11
     else (if is_result_unfit_by k n x then Some 12
@@ -92,10 +110,10 @@ later_broken k n x begun =
     else (if is_data_wrong_by k n x then Some 16
     else (if has_line x DRDY && not (is_known_word x.dbus) then Some 17
     else (if is_begun_wrongly_by k begun then Some 18
-    else None)))))))
+    else parity_broken k x)))))))
 
 -- the least rule that is broken
-unfoldable pub first_broken : Checker → ℕ → Sample → Option Asked → Option Who → Option ℕ
+unfoldable pub first_broken : Checker → ℕ → Sample → Option LiveRequest → Option Who → Option ℕ
 first_broken k n x begun winner =
     if not (has_known_lines x) then Some 1
     else (if is_too_soon_by k n x then Some 2
@@ -110,6 +128,6 @@ first_broken k n x begun winner =
     else later_broken k n x begun)))))))))
 
 -- what happens with the sample
-unfoldable pub happened_by : Checker → ℕ → Sample → Option Asked → Happened
+unfoldable pub happened_by : Checker → ℕ → Sample → Option LiveRequest → Happened
 happened_by k n x begun =
     record { clock = n; cancelled = if has_line x AERR then Some (n - 3) else None; ended = ended_by k.queue n x; begun = begun }

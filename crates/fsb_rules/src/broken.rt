@@ -3,6 +3,6 @@
 pub struct Broken {
     /// The clock, from 0.
     pub clock: u32,
-    /// The number of the rule, from 1 to 18.
+    /// The number of the rule, from 1 to 20.
     pub rule: u8,
 }

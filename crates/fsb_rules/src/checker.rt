@@ -5,6 +5,7 @@ ghost use Rattle.std.specs.List.{filter_map};
 ghost use Rattle.std.specs.Option.{option_and_then, option_to_list};
 ghost use Rattle.fsb_count.specs.Options.{is_some_and};
 ghost use Rattle.fsb_signal.specs.declared.lines.TheConstants.Lines.{ADS, AERR};
+ghost use Rattle.fsb_signal.specs.declared.marks.Marks.{Marks};
 ghost use Rattle.fsb_signal.specs.Samples.{has_line};
 ghost use Rattle.fsb_trace.specs.At.{Trace, known_pair};
 ghost use Rattle.fsb_trace.specs.Verdict.{verdict};
@@ -12,22 +13,24 @@ ghost use Rattle.fsb_arbiter.specs.Arbiter.{Stands as ArbiterStands};
 ghost use Rattle.fsb_laws.specs.OneMore.{responds};
 ghost use Rattle.fsb_rules.specs.Tests.{queue_len, snooped_by, asking_after, waiting_after, after_chunk, moving_by, ready_after_by};
 ghost use Rattle.fsb_rules.specs.OpenTests.{open_after, open_begun};
-ghost use Rattle.fsb_rules.specs.Steps.{begun_by, is_too_soon_by, is_identified_by, is_identity_wrong_by, is_asked_wrongly_by, is_some_asked_wrongly_by, is_lock_alone_by, is_snoop_line_alone_by, is_begun_wrongly_by, later_broken, first_broken, happened_by};
+ghost use Rattle.fsb_rules.specs.Steps.{begun_by, is_too_soon_by, is_identified_by, is_identity_wrong_by, is_asked_wrongly_by, is_some_asked_wrongly_by, is_lock_alone_by, is_snoop_line_alone_by, is_begun_wrongly_by, has_parity_by, is_address_wrong_by, is_request_wrong_by, parity_broken, later_broken, first_broken, happened_by};
 ghost use Rattle.fsb_trace.specs.Winner.{is_agent, is_same_agent, request_line_of};
 ghost use Rattle.fsb_rules.specs.Checker.{Stands, as_broken};
 
-use crate::asked::{Asked, asked_of};
 use crate::broken::Broken;
+use crate::in_flight::InFlight;
+use crate::live::{LiveRequest, live_of};
 use crate::outstanding::{Happened, Outstanding};
-use crate::queue::Queue;
 use crate::recent::Recent;
 use fsb_arbiter::Arbiter;
-use fsb_signal::{Lines, Sample};
+use fsb_signal::{Lines, Marks, Sample};
 use fsb_trace::Who;
 
 /// Tells after each sample whether a phase rule is broken by the samples fed so far.
 #[derive(Debug, Drop)]
 pub struct Checker {
+    /// Which of the two parity lines the dump declares.
+    marks: Marks,
     /// What was found; nothing below is looked at any more once something was.
     found: Option<Broken>,
     /// How many samples were fed.
@@ -36,7 +39,7 @@ pub struct Checker {
     arbiter: Arbiter,
     /// The agent that began a request at the last clock.
     beginner: Option<Who>,
-    queue: Queue,
+    queue: InFlight,
     outstanding: Outstanding,
 }
 
@@ -54,13 +57,13 @@ fn is_agent(agent: Option<Who>, who: Who) -> bool
 
 /// Whether the request is a reply of the priority agent, or another one with an ID of its agent's.
 #[tactic(auto, unfolding(crate::specs::Steps::is_identified_by))]
-fn is_identified(beginner: Option<Who>, asked: &Asked) -> bool
-    ensures { result ≡ is_identified_by beginner asked.now }
+fn is_identified(beginner: Option<Who>, request: &LiveRequest) -> bool
+    ensures { result ≡ is_identified_by beginner request.now }
 {
-    if asked.is_reply {
+    if request.is_reply {
         is_agent(beginner, Who::Priority)
     } else {
-        is_own_agent(beginner, asked.did / 16)
+        is_own_agent(beginner, request.did / 16)
     }
 }
 
@@ -76,17 +79,18 @@ fn is_own_agent(agent: Option<Who>, number: u8) -> bool
 }
 
 impl Checker {
-    /// The checker before the first sample.
-    pub fn new() -> Checker
-        ensures { Stands result [] }
+    /// The checker before the first sample of a dump with these marks.
+    pub fn new(marks: Marks) -> Checker
+        ensures { Stands result marks [] }
     {
         Checker {
+            marks,
             found: None,
             clock: 0,
             recent: Recent::new(),
             arbiter: Arbiter::new(),
             beginner: None,
-            queue: Queue::new(),
+            queue: InFlight::new(),
             outstanding: Outstanding::new(),
         }
     }
@@ -94,9 +98,10 @@ impl Checker {
     /// Takes the next sample, and tells the first clock with a broken rule and the least rule broken there, if there
     /// is one among the samples fed.
     pub fn feed(&mut self, sample: &Sample) -> Option<Broken>
-        requires { (h : Trace) × Stands self.old h × (length h < 2 ^ 32) }
-        ensures verdict { (h : Trace) → Stands self.old h → result ≡ as_broken (verdict (h ++ sample.now ∷ [])) }
-        ensures stands { (h : Trace) → Stands self.old h → Stands self.new (h ++ sample.now ∷ []) }
+        requires { (m : Marks) × (h : Trace) × Stands self.old m h × (length h < 2 ^ 32) }
+        ensures verdict { (m : Marks) (h : Trace) → Stands self.old m h
+            → result ≡ as_broken (verdict m (h ++ sample.now ∷ [])) }
+        ensures stands { (m : Marks) (h : Trace) → Stands self.old m h → Stands self.new m (h ++ sample.now ∷ []) }
     {
         if self.found.is_none() {
             let clock = self.clock as u32;
@@ -116,7 +121,7 @@ impl Checker {
         &self,
         clock: u32,
         sample: &Sample,
-        begun: Option<Asked>,
+        begun: Option<LiveRequest>,
         winner: Option<Who>,
     ) -> Option<u8>
         ensures { result ≡ first_broken self.now clock sample.now begun winner }
@@ -149,7 +154,7 @@ impl Checker {
 
     /// The least of the rules from 11 on that is broken with this sample.
     #[tactic(auto, unfolding(crate::specs::Steps::later_broken, crate::specs::Steps::is_result_unfit_by, crate::specs::Steps::is_code_wrong_by, crate::specs::Steps::is_target_ready_wrong_by, crate::specs::Steps::is_data_wrong_by))]
-    fn later_broken(&self, clock: u32, sample: &Sample, begun: Option<Asked>) -> Option<u8>
+    fn later_broken(&self, clock: u32, sample: &Sample, begun: Option<LiveRequest>) -> Option<u8>
         ensures { result ≡ later_broken self.now clock sample.now begun }
     {
         if self.is_snoop_line_alone(clock, sample) {
@@ -169,6 +174,20 @@ impl Checker {
         } else if self.is_begun_wrongly(begun) {
             Some(18)
         } else {
+            self.parity_broken(sample)
+        }
+    }
+
+    /// The least of the two parity rules that is broken with this sample.
+    #[tactic(auto, unfolding(crate::specs::Steps::parity_broken))]
+    fn parity_broken(&self, sample: &Sample) -> Option<u8>
+        ensures { result ≡ parity_broken self.now sample.now }
+    {
+        if self.is_address_wrong(sample) {
+            Some(19)
+        } else if self.is_request_wrong(sample) {
+            Some(20)
+        } else {
             None
         }
     }
@@ -184,11 +203,11 @@ impl Checker {
 
     /// Rule 7, request identity.
     #[tactic(auto, unfolding(crate::specs::Steps::is_identity_wrong_by, fsb_count::specs::Options::is_some_and))]
-    fn is_identity_wrong(&self, begun: Option<Asked>) -> bool
+    fn is_identity_wrong(&self, begun: Option<LiveRequest>) -> bool
         ensures { result ≡ is_identity_wrong_by self.now begun }
     {
         match begun {
-            Some(asked) => !is_identified(self.beginner, &asked),
+            Some(request) => !is_identified(self.beginner, &request),
             None => false,
         }
     }
@@ -237,23 +256,47 @@ impl Checker {
 
     /// Rule 18, deferred IDs and outstanding requests.
     #[tactic(auto, unfolding(crate::specs::Steps::is_begun_wrongly_by, fsb_count::specs::Options::is_some_and))]
-    fn is_begun_wrongly(&self, begun: Option<Asked>) -> bool
+    fn is_begun_wrongly(&self, begun: Option<LiveRequest>) -> bool
         ensures { result ≡ is_begun_wrongly_by self.now begun }
     {
         match begun {
-            Some(asked) => self.outstanding.is_begun_wrongly(&asked),
+            Some(request) => self.outstanding.is_begun_wrongly(&request),
             None => false,
         }
     }
 
+    /// Whether the sample is one of the two clocks of a request, which have parity.
+    #[tactic(auto, unfolding(crate::specs::Steps::has_parity_by))]
+    fn has_parity(&self, sample: &Sample) -> bool
+        ensures { result ≡ has_parity_by self.now sample.now }
+    {
+        sample.has(Lines::ADS) || self.recent.one_back(Lines::ADS)
+    }
+
+    /// Rule 19, address parity, where the dump declares it.
+    #[tactic(auto, unfolding(crate::specs::Steps::is_address_wrong_by))]
+    fn is_address_wrong(&self, sample: &Sample) -> bool
+        ensures { result ≡ is_address_wrong_by self.now sample.now }
+    {
+        self.marks.ap && (self.has_parity(sample) && sample.is_address_odd())
+    }
+
+    /// Rule 20, request parity, where the dump declares it.
+    #[tactic(auto, unfolding(crate::specs::Steps::is_request_wrong_by))]
+    fn is_request_wrong(&self, sample: &Sample) -> bool
+        ensures { result ≡ is_request_wrong_by self.now sample.now }
+    {
+        self.marks.rp && (self.has_parity(sample) && sample.is_request_odd())
+    }
+
     /// The request that began at the last clock, whose second clock is this one.
     #[tactic(auto, unfolding(crate::specs::Steps::begun_by))]
-    fn begun(&self, clock: u32, sample: &Sample) -> Option<Asked>
+    fn begun(&self, clock: u32, sample: &Sample) -> Option<LiveRequest>
         ensures { result ≡ begun_by self.now clock sample.now }
     {
         if self.recent.one_back(Lines::ADS) {
             match self.recent.request(sample) {
-                Some(request) => Some(asked_of(clock.saturating_sub(1), &request)),
+                Some(request) => Some(live_of(clock.saturating_sub(1), &request)),
                 None => None,
             }
         } else {
@@ -263,7 +306,7 @@ impl Checker {
 
     /// What happens with this sample.
     #[tactic(auto, unfolding(crate::specs::Steps::happened_by))]
-    fn happened(&self, clock: u32, sample: &Sample, begun: Option<Asked>) -> Happened
+    fn happened(&self, clock: u32, sample: &Sample, begun: Option<LiveRequest>) -> Happened
         ensures { result ≡ happened_by self.now clock sample.now begun }
     {
         Happened {
@@ -280,11 +323,18 @@ impl Checker {
 
     /// Takes the next sample, which breaks no rule.
     #[tactic(auto, unfolding(crate::specs::Steps::happened_by))]
-    fn absorb(&mut self, clock: u32, sample: &Sample, begun: Option<Asked>, winner: Option<Who>)
+    fn absorb(
+        &mut self,
+        clock: u32,
+        sample: &Sample,
+        begun: Option<LiveRequest>,
+        winner: Option<Who>,
+    )
         requires few { queue_len self.old.queue ≤ 8 }
         requires room { is_some begun ≡ true → queue_len self.old.queue < 8 }
         requires open_room { is_some (option_and_then (λ a. open_begun a) begun) ≡ true
             → length (filter_map (open_after (happened_by self.old clock sample.now begun)) self.old.outstanding.current.items) < 16 }
+        ensures marks { self.new.marks ≡ self.old.marks }
         ensures found { self.new.found ≡ self.old.found }
         ensures clock { self.new.clock ≡ clock + 1 }
         ensures first { self.new.recent.first ≡ Some sample.now.lines }

@@ -1,5 +1,6 @@
 //! The judge of a waveform: it looks at each sample once, keeps no history and takes no memory, and tells after each
-//! sample whether a phase rule is broken so far: the first clock with a broken rule and, there, the least rule.
+//! sample whether a phase rule is broken so far: the first clock with a broken rule and, there, the least rule. It is made
+//! with the marks of the dump, which say whether the two parity rules are judged.
 //!
 //! `Stands` says which samples a checker was fed; its answer is the verdict on them.
 #![tactic(auto)]
@@ -7,9 +8,9 @@
 pub use broken::Broken;
 pub use checker::Checker;
 
-mod asked;
 mod broken;
 mod checker;
+mod in_flight;
+mod live;
 mod outstanding;
-mod queue;
 mod recent;

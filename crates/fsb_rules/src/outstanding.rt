@@ -6,7 +6,7 @@ ghost use Rattle.std.specs.Option.{option_and_then, option_to_list, is_some};
 ghost use Rattle.fsb_count.specs.Options.{is_at, is_before};
 ghost use Rattle.fsb_rules.specs.OpenTests.{reply_by, reply_after, open_with, open_after_end, open_after, open_begun, awaits, has_id, is_of_agent, is_wrong_among, is_quiet};
 
-use crate::asked::{Asked, Ended};
+use crate::live::{Ended, LiveRequest};
 use arrayvec::ArrayVec;
 
 /// An outstanding request, from its second clock on. It is no reply.
@@ -41,7 +41,7 @@ pub struct Happened {
     /// The request that ends.
     pub ended: Option<Ended>,
     /// The request whose second clock the sample is.
-    pub begun: Option<Asked>,
+    pub begun: Option<LiveRequest>,
 }
 
 /// Whether there is such a clock, and it is this one.
@@ -68,15 +68,15 @@ fn is_before(clock: Option<u32>, other: u32) -> bool
 
 /// The outstanding request that is begun, if it is no reply.
 #[tactic(auto, unfolding(crate::specs::OpenTests::open_begun))]
-fn open_begun(asked: &Asked) -> Option<Open>
-    ensures { result ≡ open_begun asked.now }
+fn open_begun(request: &LiveRequest) -> Option<Open>
+    ensures { result ≡ open_begun request.now }
 {
-    if asked.is_reply {
+    if request.is_reply {
         None
     } else {
         Some(Open {
-            clock: asked.clock,
-            did: asked.did,
+            clock: request.clock,
+            did: request.did,
             deferred: None,
             reply: None,
         })
@@ -96,11 +96,11 @@ impl Happened {
 impl Open {
     /// The reply that it gets, where this request begins.
     #[tactic(auto, unfolding(crate::specs::OpenTests::reply_by))]
-    fn reply_by(&self, asked: &Asked) -> Option<u32>
-        ensures { result ≡ reply_by self.now asked.now }
+    fn reply_by(&self, request: &LiveRequest) -> Option<u32>
+        ensures { result ≡ reply_by self.now request.now }
     {
-        if asked.is_reply && is_before(self.deferred, asked.clock) && self.did == asked.did {
-            Some(asked.clock)
+        if request.is_reply && is_before(self.deferred, request.clock) && self.did == request.did {
+            Some(request.clock)
         } else {
             None
         }
@@ -120,7 +120,7 @@ impl Open {
                 }
             }
             None => match happened.begun {
-                Some(asked) => self.reply_by(&asked),
+                Some(request) => self.reply_by(&request),
                 None => None,
             },
         }
@@ -144,9 +144,9 @@ impl Open {
     fn after_end(&self, clock: u32, reply: Option<u32>, ended: &Ended) -> Option<Open>
         ensures { result ≡ open_after_end clock self.now reply ended.now }
     {
-        if is_at(reply, ended.asked.clock) {
+        if is_at(reply, ended.request.clock) {
             None
-        } else if ended.asked.clock == self.clock {
+        } else if ended.request.clock == self.clock {
             if ended.is_deferred {
                 Some(self.with(Some(clock), reply))
             } else {
@@ -274,14 +274,14 @@ impl Outstanding {
 
     /// Rule 18, deferred IDs and outstanding requests, for the request that began one clock back.
     #[tactic(auto, unfolding(crate::specs::OpenTests::is_wrong_among))]
-    pub fn is_begun_wrongly(&self, asked: &Asked) -> bool
-        ensures { result ≡ is_wrong_among self.now.before.items asked.now }
+    pub fn is_begun_wrongly(&self, request: &LiveRequest) -> bool
+        ensures { result ≡ is_wrong_among self.now.before.items request.now }
     {
         let before = self.before.as_slice();
-        if asked.is_reply {
-            !is_awaited(before, asked.did)
+        if request.is_reply {
+            !is_awaited(before, request.did)
         } else {
-            is_taken(before, asked.did) || count_of(before, asked.did / 16) >= 4
+            is_taken(before, request.did) || count_of(before, request.did / 16) >= 4
         }
     }
 
@@ -307,8 +307,8 @@ impl Outstanding {
             self.before = copy_of(self.current.as_slice());
         }
         self.pass(happened);
-        if let Some(asked) = happened.begun {
-            if let Some(open) = open_begun(&asked) {
+        if let Some(request) = happened.begun {
+            if let Some(open) = open_begun(&request) {
                 self.current.push(open);
             }
         }

@@ -5,7 +5,7 @@ use Rattle.std.proofs.option.Match.{None-if_not_some}
 use Rattle.std.proofs.lemmas.Bool.{eqb-true, eqb-false}
 use Rattle.std.proofs.lemmas.List.{get_or_read, get_or-set_same, get_or-set_other, length-set}
 use Rattle.std.proofs.Math.Nat.{mod-lt}
-use Rattle.fsb_script.specs.Named.{Lines, first_in, is_other, has_other}
+use Rattle.fsb_script.specs.Named.{NamedLines, first_in, is_other, has_other}
 use Rattle.fsb_script.specs.NamedTable.{Agrees}
 
 -- the first that there is
@@ -74,6 +74,6 @@ agrees_taken cache lines table line slot a read taken = record {
     at_place place inside false differs =
         rw (first-push cache place lines line) (rw differs (rw (or_none (first_in cache place lines)) (a.each place inside)))
 
-pub other_is : (cache : ℕ) (lines : List ℕ) (table : List (Option ℕ)) (line : ℕ) (slot : Option ℕ) (named : Lines) → record { cache = cache; lines = lines } ≡ named → Agrees cache lines table → slot ≡ get_or table (line % cache) slot → is_other line slot ≡ has_other named line
+pub other_is : (cache : ℕ) (lines : List ℕ) (table : List (Option ℕ)) (line : ℕ) (slot : Option ℕ) (named : NamedLines) → record { cache = cache; lines = lines } ≡ named → Agrees cache lines table → slot ≡ get_or table (line % cache) slot → is_other line slot ≡ has_other named line
 unfolding has_other
 other_is cache lines table line slot named view a read = rw (← view) (ap (is_other line) (slot_is cache lines table line slot a read))

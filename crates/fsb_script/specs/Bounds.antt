@@ -16,6 +16,10 @@ is_cache n =
     (((n == 1) || ((n == 2) || (n == 4))) || ((n == 8) || ((n == 16) || (n == 32))))
     || (((n == 64) || ((n == 128) || (n == 256))) || ((n == 512) || (n == 1024)))
 
+-- the bus has two profiles
+abbrev pub is_profile : ℕ → Bool
+is_profile n = (n == 1) || (n == 2)
+
 -- whether an access of the list is to the line
 unfoldable pub names_line : ℕ → List Access → Bool
 names_line line accesses = list_any (λ other. accessed_line other == line) accesses

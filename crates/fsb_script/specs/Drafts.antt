@@ -10,15 +10,15 @@ use Rattle.fsb_hazard.specs.declared.line.HazardLine.{HazardLine}
 use Rattle.fsb_script.specs.declared.fault.Cause.{Cause}
 use Rattle.fsb_script.specs.declared.fault.Cause.TheVariants.{FirstLine, Word, Range, Missing, LockSize, LockConflict}
 use Rattle.fsb_script.specs.declared.fault.ScriptFault.{ScriptFault}
-use Rattle.fsb_script.specs.declared.form.Form.TheVariants as forms
+use Rattle.fsb_script.specs.declared.form.LineForm.TheVariants as forms
 use Rattle.fsb_script.specs.declared.place.Place.{Place}
 use Rattle.fsb_script.specs.declared.place.Place.TheVariants as places
 use Rattle.fsb_script.specs.declared.plan.Window.{Window}
 use Rattle.fsb_script.specs.Reading.{◌>>=◌, require}
-use Rattle.fsb_script.specs.Words.{lines_of, skip_blanks, is_empty, is_read_past, next_word, ended, decimal, decimal_within}
-use Rattle.fsb_script.specs.Statements.{keyword, load_of, store_of, idle_of, window_of, memory_of, settings_at, agent_of, transaction_of, block_of}
+use Rattle.fsb_script.specs.Words.{text_lines, skip_blanks, is_empty, is_silent, next_word, line_ended, decimal_word, decimal_within}
+use Rattle.fsb_script.specs.Statements.{keyword, load_of, store_of, idle_of, profile_of, window_of, memory_of, settings_at, agent_of, transaction_of, block_of}
 use Rattle.fsb_script.specs.Forms.{built, built_if}
-use Rattle.fsb_script.specs.Named.{Lines, has_other}
+use Rattle.fsb_script.specs.Named.{NamedLines, has_other}
 use Rattle.fsb_script.specs.Bounds.{is_cache, is_lock_size, is_lock_apart}
 use Rattle.fsb_access.specs.Access.{accessed_line}
 use Rattle.fsb_script.specs.Plans.{PlanView}
@@ -30,12 +30,13 @@ pub record Progress : Type 0 where
   pub clocks : ℕ
   pub cache : ℕ
   pub ahead : ℕ
+  pub profile : ℕ
   pub bridge : Option Window
   pub mem : List Setting
   pub scripts : List (List Item)
   pub script : List Item
   pub group : List Access
-  pub named : Lines
+  pub named : NamedLines
   pub earlier : List ℕ
   pub hazards : List HazardLine
 
@@ -47,6 +48,7 @@ beginning = record {
   clocks = 0;
   cache = 1;
   ahead = 1;
+  profile = 1;
   bridge = None;
   mem = [];
   scripts = [];
@@ -79,7 +81,7 @@ unfoldable pub agents_line : Progress → List ℕ → Result Progress Cause
 agents_line d line = do
   rest ← keyword (codes "agents") line
   n ← decimal_within 1 4 rest
-  count ← ended n.0 n.1
+  count ← line_ended n.0 n.1
   agents ← built (forms.Agents count) count
   Ok (record d { agents = agents; place = places.Clocks })
 
@@ -88,16 +90,16 @@ unfoldable pub clocks_line : Progress → List ℕ → Result Progress Cause
 clocks_line d line = do
   rest ← keyword (codes "clocks") line
   n ← decimal_within 0 200000 rest
-  clocks ← ended n.0 n.1
+  clocks ← line_ended n.0 n.1
   Ok (record d { clocks = clocks; place = places.Cache })
 
 -- `cache N`
 unfoldable pub cache_line : Progress → List ℕ → Result Progress Cause
 cache_line d line = do
   rest ← keyword (codes "cache") line
-  n ← decimal rest
+  n ← decimal_word rest
   m ← require (is_cache n.0) Range n
-  cache ← ended m.0 m.1
+  cache ← line_ended m.0 m.1
   Ok (record d { cache = cache; place = places.Ahead })
 
 -- `ahead N`
@@ -105,11 +107,18 @@ unfoldable pub ahead_line : Progress → List ℕ → Result Progress Cause
 ahead_line d line = do
   rest ← keyword (codes "ahead") line
   n ← decimal_within 1 4 rest
-  count ← ended n.0 n.1
+  count ← line_ended n.0 n.1
   ahead ← built (forms.Ahead count) count
-  Ok (record d { ahead = ahead; place = places.Bridge })
+  Ok (record d { ahead = ahead; place = places.Profile })
 
--- ---- the bridge, memory, and the beginning of a script
+-- ---- the profile, the bridge, memory, and the beginning of a script
+
+-- `profile N`
+unfoldable pub profile_line : Progress → List ℕ → Result Progress Cause
+profile_line d line = do
+  n ← profile_of line
+  profile ← built (forms.Profile n) n
+  Ok (record d { profile = profile; place = places.Bridge })
 
 -- `bridge BASE SIZE`
 unfoldable pub bridge_line : Progress → List ℕ → Result Progress Cause
@@ -175,7 +184,7 @@ idle_item d line = do
 unfoldable pub lock_item : Progress → List ℕ → Result Progress Cause
 lock_item d line = do
   e ← room d
-  f ← ended d line
+  f ← line_ended d line
   g ← built forms.Lock d
   Ok (record d { group = []; place = places.Locked })
 
@@ -186,7 +195,7 @@ place_behind scripts agents = if scripts == agents then places.Hazards else plac
 -- a script ends
 unfoldable pub end_line : Progress → List ℕ → Result Progress Cause
 end_line d line = do
-  e ← ended d line
+  e ← line_ended d line
   Ok (record d {
     scripts = d.scripts ++ d.script ∷ [];
     script = [];
@@ -213,7 +222,7 @@ locked_access d access = do
 -- a locked item ends
 unfoldable pub unlock_line : Progress → List ℕ → Result Progress Cause
 unlock_line d line = do
-  e ← ended d line
+  e ← line_ended d line
   few ← require (is_lock_size d.group) LockSize d
   apart ← require (is_lock_apart d.cache d.group) LockConflict d
   Ok (record d { script = d.script ++ Locked d.group ∷ []; group = []; place = places.Items })
@@ -268,54 +277,61 @@ memory_line d word line =
     else (if bytes_eq word (codes "agent") then agent_line d line
     else Err Word)
 
--- a line behind `ahead`: the bridge, a setting, or the first agent
+-- a line behind `profile`: the bridge, a setting, or the first agent
 unfoldable pub body_line : Progress → List ℕ → List ℕ → Result Progress Cause
 body_line d word line =
     if bytes_eq word (codes "bridge") then bridge_line d line
     else memory_line d word line
+
+-- a line behind `ahead`: the profile, the bridge, a setting, or the first agent
+unfoldable pub front_line : Progress → List ℕ → List ℕ → Result Progress Cause
+front_line d word line =
+    if bytes_eq word (codes "profile") then profile_line d line
+    else body_line d word line
 
 -- a line between two scripts: the next agent
 unfoldable pub next_agent_line : Progress → List ℕ → List ℕ → Result Progress Cause
 next_agent_line d word line = if bytes_eq word (codes "agent") then agent_line d line else Err Word
 
 -- a line by its first word, where more than one may stand
-abbrev pub choice_at : Place → Progress → List ℕ → List ℕ → Result Progress Cause
-choice_at places.Bridge d word line = body_line d word line
-choice_at places.Memory d word line = memory_line d word line
-choice_at places.Agent d word line = next_agent_line d word line
-choice_at places.Items d word line = item_line d word line
-choice_at places.Locked d word line = locked_line d word line
-choice_at _ d word line = hazard_line d word line
+abbrev pub line_by_word : Place → Progress → List ℕ → List ℕ → Result Progress Cause
+line_by_word places.Profile d word line = front_line d word line
+line_by_word places.Bridge d word line = body_line d word line
+line_by_word places.Memory d word line = memory_line d word line
+line_by_word places.Agent d word line = next_agent_line d word line
+line_by_word places.Items d word line = item_line d word line
+line_by_word places.Locked d word line = locked_line d word line
+line_by_word _ d word line = hazard_line d word line
 
 -- a line whose first word says which of those that may stand there it is
 unfoldable pub choice_line : Progress → List ℕ → Result Progress Cause
 choice_line d line = do
   w ← next_word line
-  choice_at d.place d w.0 w.1
+  line_by_word d.place d w.0 w.1
 
 -- a line that has words and is no comment
-abbrev pub line_at : Place → Progress → List ℕ → Result Progress Cause
-line_at places.First d line = first_line d line
-line_at places.Agents d line = agents_line d line
-line_at places.Clocks d line = clocks_line d line
-line_at places.Cache d line = cache_line d line
-line_at places.Ahead d line = ahead_line d line
-line_at _ d line = choice_line d line
+abbrev pub placed_line : Place → Progress → List ℕ → Result Progress Cause
+placed_line places.First d line = first_line d line
+placed_line places.Agents d line = agents_line d line
+placed_line places.Clocks d line = clocks_line d line
+placed_line places.Cache d line = cache_line d line
+placed_line places.Ahead d line = ahead_line d line
+placed_line _ d line = choice_line d line
 
 -- whether a line is read past there: none is before the second line
 abbrev pub is_past : Place → List ℕ → Bool
 is_past places.First line = false
-is_past _ line = is_read_past line
+is_past _ line = is_silent line
 
 -- what a line adds
 unfoldable pub after_line : Progress → List ℕ → Result Progress Cause
-after_line d line = if is_past d.place line then Ok d else line_at d.place d line
+after_line d line = if is_past d.place line then Ok d else placed_line d.place d line
 
 -- ---- the whole text
 
 -- the plan, once the last script has ended
 abbrev pub plan_so_far : Progress → PlanView
-plan_so_far d = record { scripts = d.scripts; clocks = d.clocks; cache = d.cache; ahead = d.ahead; bridge = d.bridge; mem = d.mem; hazards = d.hazards }
+plan_so_far d = record { scripts = d.scripts; clocks = d.clocks; cache = d.cache; ahead = d.ahead; profile = d.profile; bridge = d.bridge; mem = d.mem; hazards = d.hazards }
 
 -- the answer at the end of the file: the plan where the last script has ended, FirstLine where there was no line, else
 -- Missing
@@ -325,8 +341,8 @@ end_at number d places.Hazards = Ok (plan_so_far d)
 end_at number d _ = Err (record { line = number; cause = Missing })
 
 -- the end of the text, where the next line would have this number
-unfoldable pub end_of : ℕ → Progress → Result PlanView ScriptFault
-end_of number d = end_at number d d.place
+unfoldable pub plan_at_end : ℕ → Progress → Result PlanView ScriptFault
+plan_at_end number d = end_at number d d.place
 
 -- the same answer, with the number of its line where it is a fault
 abbrev pub on_line : ℕ → Result Progress Cause → Result Progress ScriptFault
@@ -335,17 +351,17 @@ on_line number (Err cause) = Err (record { line = number; cause = cause })
 
 -- the lines that are left, of which the first has this number
 abbrev pub plan_from : ℕ → Progress → List (List ℕ) → Result PlanView ScriptFault
-plan_from number d [] = end_of number d
+plan_from number d [] = plan_at_end number d
 plan_from number d (line ∷ lines) = on_line number (after_line d line) >>= (λ e. plan_from (number + 1) e lines)
 
 -- the plan of a bench file, or its first bad line and that line's first cause from left to right
-unfoldable pub plan_of : List ℕ → Result PlanView ScriptFault
-plan_of text = plan_from 1 beginning (lines_of text)
+unfoldable pub said_plan : List ℕ → Result PlanView ScriptFault
+said_plan text = plan_from 1 beginning (text_lines text)
 
 -- the text is a bench file that says this plan
 abbrev pub BenchText : List ℕ → PlanView → Type 0
-BenchText text plan = plan_of text ≡ Ok plan
+BenchText text plan = said_plan text ≡ Ok plan
 
 -- the text is no bench file, and this is its first bad line with that line's first cause
 abbrev pub FirstBad : List ℕ → ScriptFault → Type 0
-FirstBad text fault = plan_of text ≡ Err fault
+FirstBad text fault = said_plan text ≡ Err fault

@@ -30,10 +30,10 @@ unfoldable pub has_all : Place → ℕ → List (List Item) → Bool
 has_all place agents scripts = not (is_last place) || (length scripts == agents)
 
 -- whether a locked item is open
-abbrev pub is_locked : Place → Bool
-is_locked places.Locked = true
-is_locked _ = false
+abbrev pub is_lock_open : Place → Bool
+is_lock_open places.Locked = true
+is_lock_open _ = false
 
 -- a locked item that is open has its place in the script
 unfoldable pub has_lock_room : Place → List Item → Bool
-has_lock_room place script = not (is_locked place) || nat_lt (length script) 4096
+has_lock_room place script = not (is_lock_open place) || nat_lt (length script) 4096

@@ -10,3 +10,4 @@ pub mod Drafts
 pub mod View
 pub mod Kept
 pub mod Text
+pub mod Made

@@ -2,7 +2,7 @@
 use Rattle.std.specs.Prelude.{ℕ, ◌%◌, List, [], ◌∷◌, Option, Some, None, Bool, false, not, ◌==◌, if◌then◌else◌}
 
 -- the lines that an agent's script has named so far, in order, and the number of its cache's lines
-pub record Lines : Type 0 where
+pub record NamedLines : Type 0 where
   pub cache : ℕ
   pub lines : List ℕ
 
@@ -17,5 +17,5 @@ is_other line None = false
 is_other line (Some other) = not (line == other)
 
 -- whether the cache set of a line has a different line that was named earlier
-unfoldable pub has_other : Lines → ℕ → Bool
+unfoldable pub has_other : NamedLines → ℕ → Bool
 has_other named line = is_other line (first_in named.cache (line % named.cache) named.lines)

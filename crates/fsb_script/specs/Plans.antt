@@ -11,6 +11,7 @@ pub record PlanView : Type 0 where
   pub clocks : ℕ
   pub cache : ℕ
   pub ahead : ℕ
+  pub profile : ℕ
   pub bridge : Option Window
   pub mem : List Setting
   pub hazards : List HazardLine

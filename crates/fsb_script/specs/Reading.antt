@@ -18,9 +18,9 @@ abbrev pub require : {A E : Type 0} → Bool → E → A → Result A E
 require test cause x = if test then Ok x else Err cause
 
 -- what a reader answered, seen by view, is what is defined
-abbrev pub Reads : {X Y E : Type 0} → (X → Y) → Result X E → Result Y E → Type 0
-Reads view (Ok x) read = read ≡ Ok (view x)
-Reads view (Err e) read = read ≡ Err e
+abbrev pub ReadsAs : {X Y E : Type 0} → (X → Y) → Result X E → Result Y E → Type 0
+ReadsAs view (Ok x) read = read ≡ Ok (view x)
+ReadsAs view (Err e) read = read ≡ Err e
 
 -- the same, for a line whose reading may lack memory
 abbrev pub LineFails : {Y : Type 0} → LineStop → Result Y Cause → Type 0

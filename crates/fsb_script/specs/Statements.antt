@@ -13,7 +13,7 @@ use Rattle.fsb_script.specs.declared.fault.Cause.{Cause}
 use Rattle.fsb_script.specs.declared.fault.Cause.TheVariants.{Word, Number, Range, Align, Outside}
 use Rattle.fsb_script.specs.declared.plan.Window.{Window}
 use Rattle.fsb_script.specs.Reading.{◌>>=◌, require}
-use Rattle.fsb_script.specs.Words.{next_word, ended, decimal, hexadecimal, decimal_within, address, hex_digit, hex_of}
+use Rattle.fsb_script.specs.Words.{next_word, line_ended, decimal_word, hex_word, decimal_within, address, hex_digit, hex_of}
 
 -- what follows a first word that has to be this one
 unfoldable pub keyword : List ℕ → List ℕ → Result (List ℕ) Cause
@@ -24,7 +24,7 @@ keyword name line = do
 -- the next word as the size of an access
 unfoldable pub size_at : List ℕ → Result (ℕ × List ℕ) Cause
 size_at line = do
-  n ← decimal line
+  n ← decimal_word line
   require (is_size n.0) Range n
 
 -- an address that is a multiple of the access's size
@@ -38,7 +38,7 @@ unfoldable pub load_of : List ℕ → Result Access Cause
 load_of line = do
   size ← size_at line
   a ← aligned_at size.0 size.1
-  ended (Load size.0 a.0) a.1
+  line_ended (Load size.0 a.0) a.1
 
 -- whether a value adds to the last loaded value: it begins with `r+`
 abbrev pub is_added : List ℕ → Bool
@@ -63,24 +63,30 @@ store_of line = do
   a ← aligned_at size.0 size.1
   w ← next_word a.1
   value ← operand_of size.0 w.0
-  ended (Store size.0 a.0 value) w.1
+  line_ended (Store size.0 a.0 value) w.1
 
 -- the clocks of an idle item
 unfoldable pub idle_of : List ℕ → Result ℕ Cause
 idle_of line = do
   n ← decimal_within 1 200000 line
-  ended n.0 n.1
+  line_ended n.0 n.1
+
+-- the number of a profile
+unfoldable pub profile_of : List ℕ → Result ℕ Cause
+profile_of line = do
+  n ← decimal_within 1 2 line
+  line_ended n.0 n.1
 
 -- `BASE SIZE` of the bridge
 unfoldable pub window_of : List ℕ → Result Window Cause
 window_of line = do
   base ← address line
   from ← require (base.0 % 32 == 0) Align base
-  size ← hexadecimal from.1
+  size ← hex_word from.1
   inside ← require (nat_le size.0 (2 ^ 36)) Outside size
   whole ← require (nat_lt 0 inside.0 && (inside.0 % 32 == 0)) Align inside
   last ← require (nat_le (from.0 + whole.0) (2 ^ 36)) Outside whole
-  ended (record { base = from.0; size = last.0 }) last.1
+  line_ended (record { base = from.0; size = last.0 }) last.1
 
 -- two hexadecimal digits a byte, the first byte first
 abbrev pub bytes_from : List ℕ → List ℕ → Result (List ℕ) Cause
@@ -99,7 +105,7 @@ memory_of line = do
   w ← next_word a.1
   bytes ← bytes_of w.0
   inside ← require (nat_le (a.0 + length bytes) (2 ^ 36)) Outside bytes
-  ended (a.0, inside) w.1
+  line_ended (a.0, inside) w.1
 
 -- bytes from an address on, one setting each
 abbrev pub settings_at : ℕ → List ℕ → List Setting
@@ -109,21 +115,21 @@ settings_at addr (b ∷ bs) = record { addr = addr; byte = b } ∷ settings_at (
 -- the number of an agent, which has to be the next one
 unfoldable pub agent_of : ℕ → List ℕ → Result ℕ Cause
 agent_of next line = do
-  n ← decimal line
+  n ← decimal_word line
   m ← require (n.0 == next) Word n
-  ended m.0 m.1
+  line_ended m.0 m.1
 
 -- the clocks that a hazard adds, or its number of stalls
 unfoldable pub count_of : List ℕ → Result ℕ Cause
 count_of line = do
   n ← decimal_within 1 255 line
-  ended n.0 n.1
+  line_ended n.0 n.1
 
 -- how many clocks later a deferred request is answered
-unfoldable pub later_of : List ℕ → Result ℕ Cause
-later_of line = do
+unfoldable pub delay_of : List ℕ → Result ℕ Cause
+delay_of line = do
   n ← decimal_within 0 65535 line
-  ended n.0 n.1
+  line_ended n.0 n.1
 
 -- the hazard of a word, for request k
 unfoldable pub turn_of : ℕ → List ℕ → List ℕ → Result HazardLine Cause
@@ -132,9 +138,9 @@ turn_of k word line =
     else (if bytes_eq word (codes "trdy") then count_of line >>= (λ n. Ok (Trdy k n))
     else (if bytes_eq word (codes "resp") then count_of line >>= (λ n. Ok (Resp k n))
     else (if bytes_eq word (codes "data") then count_of line >>= (λ n. Ok (Gap k n))
-    else (if bytes_eq word (codes "retry") then ended (Retry k) line
-    else (if bytes_eq word (codes "defer") then later_of line >>= (λ n. Ok (Defer k n))
-    else (if bytes_eq word (codes "aerr") then ended (Aerr k) line
+    else (if bytes_eq word (codes "retry") then line_ended (Retry k) line
+    else (if bytes_eq word (codes "defer") then delay_of line >>= (λ n. Ok (Defer k n))
+    else (if bytes_eq word (codes "aerr") then line_ended (Aerr k) line
     else Err Word))))))
 
 -- `REQUEST HAZARD ..` of a transaction
@@ -150,4 +156,4 @@ block_of line = do
   from ← decimal_within 0 199999 line
   to ← decimal_within 0 199999 from.1
   last ← require (nat_le from.0 to.0) Range to
-  ended (Bnr from.0 last.0) last.1
+  line_ended (Bnr from.0 last.0) last.1

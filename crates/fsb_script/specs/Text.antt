@@ -1,5 +1,5 @@
 -- The canonical text of a plan.
-use Rattle.std.specs.Prelude.{ℕ, ◌+◌, ◌/◌, ◌%◌, List, [], ◌∷◌, ◌++◌, length, Option, Some, None, codes, nat_lt, if◌then◌else◌}
+use Rattle.std.specs.Prelude.{ℕ, ◌+◌, ◌/◌, ◌%◌, List, [], ◌∷◌, ◌++◌, length, Option, Some, None, codes, nat_lt, ◌==◌, if◌then◌else◌}
 use Rattle.std.specs.Fmt.{decimal}
 use Rattle.fsb_access.specs.declared.access.Access.{Access}
 use Rattle.fsb_access.specs.declared.access.Access.TheVariants.{Load, Store}
@@ -31,7 +31,11 @@ head_text agents clocks cache ahead =
     ++ codes "cache " ++ decimal cache ++ feed
     ++ codes "ahead " ++ decimal ahead ++ feed
 
--- the bridge's line, where there is one
+-- the line of profile 2; a text without it says profile 1
+abbrev pub profile_text : ℕ → List ℕ
+profile_text profile = if profile == 2 then codes "profile 2" ++ feed else []
+
+-- the bridge's line
 unfoldable pub window_text : Window → List ℕ
 window_text window = codes "bridge " ++ hexadecimal window.base ++ space ++ hexadecimal window.size ++ feed
 
@@ -121,6 +125,7 @@ hazards_text (line ∷ lines) = hazard_text line ++ hazards_text lines
 unfoldable pub bench_text : PlanView → List ℕ
 bench_text plan =
     head_text (length plan.scripts) plan.clocks plan.cache plan.ahead
+    ++ profile_text plan.profile
     ++ bridge_text plan.bridge
     ++ settings_text plan.mem
     ++ scripts_text 0 plan.scripts

@@ -12,6 +12,7 @@ progress d = record {
   clocks = d.clocks;
   cache = d.cache;
   ahead = d.ahead;
+  profile = d.profile;
   bridge = d.bridge;
   mem = d.mem;
   scripts = d.scripts;
@@ -24,4 +25,4 @@ progress d = record {
 
 -- a plan without the facts that it keeps
 abbrev pub plan_view : Plan → PlanView
-plan_view p = record { scripts = p.scripts; clocks = p.clocks; cache = p.cache; ahead = p.ahead; bridge = p.bridge; mem = p.mem; hazards = p.hazards }
+plan_view p = record { scripts = p.scripts; clocks = p.clocks; cache = p.cache; ahead = p.ahead; profile = p.profile; bridge = p.bridge; mem = p.mem; hazards = p.hazards }

@@ -14,9 +14,9 @@ abbrev pub before_lines : ℕ → List (List ℕ) → List (List ℕ)
 before_lines b lines = if b == 10 then [] ∷ lines else in_front b lines
 
 -- the lines of a text, without their line feeds; the last line may lack it
-abbrev pub lines_of : List ℕ → List (List ℕ)
-lines_of [] = []
-lines_of (b ∷ bs) = before_lines b (lines_of bs)
+abbrev pub text_lines : List ℕ → List (List ℕ)
+text_lines [] = []
+text_lines (b ∷ bs) = before_lines b (text_lines bs)
 
 -- how many bytes stand before the first line feed
 abbrev pub line_len : List ℕ → ℕ
@@ -43,8 +43,8 @@ begins_as_comment [] = true
 begins_as_comment (b ∷ bs) = b == 35
 
 -- whether a line from the second on is read past
-unfoldable pub is_read_past : List ℕ → Bool
-is_read_past line = begins_as_comment (skip_blanks line)
+unfoldable pub is_silent : List ℕ → Bool
+is_silent line = begins_as_comment (skip_blanks line)
 
 -- the word at the front, which isn't empty, and what follows it
 abbrev pub word_at : List ℕ → Result (List ℕ × List ℕ) Cause
@@ -61,8 +61,8 @@ is_empty [] = true
 is_empty (b ∷ bs) = false
 
 -- what was read of a line, where the line has no further word
-unfoldable pub ended : {A : Type 0} → A → List ℕ → Result A Cause
-ended x line = require (is_empty (skip_blanks line)) After x
+unfoldable pub line_ended : {A : Type 0} → A → List ℕ → Result A Cause
+line_ended x line = require (is_empty (skip_blanks line)) After x
 
 -- the number that decimal digits add to the digits before them
 abbrev pub decimal_from : ℕ → List ℕ → Result ℕ Cause
@@ -90,15 +90,15 @@ unfoldable pub hex_of : List ℕ → Result ℕ Cause
 hex_of word = if nat_le 1 (length word) && nat_le (length word) 16 then hex_from 0 word else Err Number
 
 -- the next word as a decimal number
-unfoldable pub decimal : List ℕ → Result (ℕ × List ℕ) Cause
-decimal line = do
+unfoldable pub decimal_word : List ℕ → Result (ℕ × List ℕ) Cause
+decimal_word line = do
   w ← next_word line
   n ← decimal_of w.0
   Ok (n, w.1)
 
 -- the next word as a hexadecimal number
-unfoldable pub hexadecimal : List ℕ → Result (ℕ × List ℕ) Cause
-hexadecimal line = do
+unfoldable pub hex_word : List ℕ → Result (ℕ × List ℕ) Cause
+hex_word line = do
   w ← next_word line
   n ← hex_of w.0
   Ok (n, w.1)
@@ -106,11 +106,11 @@ hexadecimal line = do
 -- a decimal number within its bounds
 unfoldable pub decimal_within : ℕ → ℕ → List ℕ → Result (ℕ × List ℕ) Cause
 decimal_within low high line = do
-  n ← decimal line
+  n ← decimal_word line
   require (nat_le low n.0 && nat_le n.0 high) Range n
 
 -- a byte address: hexadecimal and below 2^36
 unfoldable pub address : List ℕ → Result (ℕ × List ℕ) Cause
 address line = do
-  n ← hexadecimal line
+  n ← hex_word line
   require (nat_lt n.0 (2 ^ 36)) Outside n

@@ -1,22 +1,23 @@
 ghost use Rattle.std.specs.Prelude.{◌≡◌, ◌<◌, ◌≤◌, ◌+◌, ◌^◌, ◌++◌, length, nat_lt, IsTrue, IfOk, OnOk};
 ghost use Rattle.std.specs.List.{list_all};
 ghost use Rattle.fsb_access.specs.Access.{is_lawful_access};
-ghost use Rattle.fsb_script.specs.Bounds.{is_cache, is_lawful_script, is_lawful_bridge, is_lawful_setting, is_lawful_hazard, are_lawful_hazards};
+ghost use Rattle.fsb_script.specs.Bounds.{is_cache, is_profile, is_lawful_script, is_lawful_bridge, is_lawful_setting, is_lawful_hazard, are_lawful_hazards};
 ghost use Rattle.fsb_script.specs.Kept.{are_counts, is_fresh, has_all, has_lock_room};
-ghost use Rattle.fsb_script.specs.Reading.{Reads, LineGives};
+ghost use Rattle.fsb_script.specs.Reading.{ReadsAs, LineGives};
 ghost use Rattle.fsb_script.specs.Statements.{settings_at};
 ghost use Rattle.fsb_script.specs.Drafts.{heading_of, ends_heading, place_behind};
 
 use crate::bounds::{ITEMS, is_cache, is_lock_apart, is_lock_size};
 use crate::fault::{Cause, LineStop};
-use crate::form::Form;
+use crate::form::LineForm;
 use crate::named::{Earlier, Named};
 use crate::place::Place;
 use crate::plan::{Scripts, Settings, Window};
 use crate::statement::{
-    agent_of, block_of, idle_of, keyword, load_of, memory_of, store_of, transaction_of, window_of,
+    agent_of, block_of, idle_of, keyword, load_of, memory_of, profile_of, store_of, transaction_of,
+    window_of,
 };
-use crate::word::{decimal, decimal_within, is_ended, is_read_past, next_word};
+use crate::word::{decimal_within, decimal_word, is_ended, is_silent, next_word};
 use fsb_access::{Access, Group, Item, Script, Setting};
 use fsb_hazard::{HazardLine, HazardLines};
 use fsb_io::Memory;
@@ -31,6 +32,7 @@ pub(crate) struct Draft {
     pub(crate) clocks: u32,
     pub(crate) cache: u32,
     pub(crate) ahead: u8,
+    pub(crate) profile: u8,
     pub(crate) bridge: Option<Window>,
     pub(crate) mem: Settings,
     pub(crate) scripts: Scripts,
@@ -42,6 +44,7 @@ pub(crate) struct Draft {
     ghost some_cache: { 0 < cache },
     ghost lawful_cache: { IsTrue (is_cache cache) },
     ghost counts: { IsTrue (are_counts agents clocks ahead) },
+    ghost lawful_profile: { IsTrue (is_profile profile) },
     ghost lawful_bridge: { IsTrue (is_lawful_bridge bridge) },
     ghost lawful_mem: { IsTrue (list_all is_lawful_setting mem) },
     ghost lawful_hazards: { IsTrue (are_lawful_hazards hazards) },
@@ -56,7 +59,7 @@ pub(crate) struct Draft {
 /// What follows `p6bench 1`.
 #[tactic(auto, unfolding(crate::specs::Drafts::heading_of))]
 fn heading_of(line: &[u8]) -> Result<&[u8], Cause>
-    ensures { Reads (λ x. x.now) result (heading_of line.now) }
+    ensures { ReadsAs (λ x. x.now) result (heading_of line.now) }
 {
     let rest = keyword(b"p6bench", line)?;
     keyword(b"1", rest)
@@ -84,7 +87,7 @@ fn place_behind(scripts: usize, agents: u8) -> Place
 
 impl Draft {
     ghost use Rattle.fsb_script.specs.View.{progress};
-    ghost use Rattle.fsb_script.specs.Drafts.{beginning, first_line, agents_line, clocks_line, cache_line, ahead_line, bridge_line, mem_line, agent_line, named_line, one_item, load_item, store_item, idle_item, lock_item, end_line, item_line, locked_access, unlock_line, locked_line, add_hazard, transaction_line, block_line, hazard_line, memory_line, body_line, next_agent_line, choice_line, line_at, is_past, after_line};
+    ghost use Rattle.fsb_script.specs.Drafts.{beginning, first_line, agents_line, clocks_line, cache_line, ahead_line, profile_line, bridge_line, mem_line, agent_line, named_line, one_item, load_item, store_item, idle_item, lock_item, end_line, item_line, locked_access, unlock_line, locked_line, add_hazard, transaction_line, block_line, hazard_line, memory_line, body_line, front_line, next_agent_line, choice_line, placed_line, is_past, after_line};
 
     /// Before the first line.
     pub(crate) fn new(alloc: Global) -> Result<Self, AllocError>
@@ -96,6 +99,7 @@ impl Draft {
             clocks: 0,
             cache: 1,
             ahead: 1,
+            profile: 1,
             bridge: None,
             mem: Settings::new(alloc),
             scripts: Scripts::new(alloc),
@@ -110,7 +114,7 @@ impl Draft {
     #[tactic(auto, unfolding(crate::specs::Drafts::first_line, crate::specs::Kept::is_fresh, crate::specs::Kept::has_all, crate::specs::Kept::has_lock_room))]
     fn first_line(&mut self, line: &[u8]) -> Result<(), Cause>
         requires { self.old.place ≡ Place.First }
-        ensures { Reads (λ _. progress self.new) result (first_line (progress self.old) line.now) }
+        ensures { ReadsAs (λ _. progress self.new) result (first_line (progress self.old) line.now) }
     {
         if !is_heading(line) {
             return Err(Cause::FirstLine);
@@ -119,10 +123,10 @@ impl Draft {
         Ok(())
     }
 
-    #[tactic(auto, unfolding(crate::specs::Drafts::agents_line, crate::specs::Words::ended, crate::specs::Forms::built, crate::specs::Kept::is_fresh, crate::specs::Kept::has_all, crate::specs::Kept::has_lock_room))]
+    #[tactic(auto, unfolding(crate::specs::Drafts::agents_line, crate::specs::Words::line_ended, crate::specs::Forms::built, crate::specs::Kept::is_fresh, crate::specs::Kept::has_all, crate::specs::Kept::has_lock_room))]
     fn agents_line(&mut self, line: &[u8]) -> Result<(), Cause>
         requires { self.old.place ≡ Place.Agents }
-        ensures { Reads (λ _. progress self.new) result (agents_line (progress self.old) line.now) }
+        ensures { ReadsAs (λ _. progress self.new) result (agents_line (progress self.old) line.now) }
     {
         let rest = keyword(b"agents", line)?;
         let (count, rest) = decimal_within(1, 4, rest)?;
@@ -130,7 +134,7 @@ impl Draft {
             return Err(Cause::After);
         }
         let agents = count as u8;
-        if !Form::Agents(agents).is_built() {
+        if !LineForm::Agents(agents).is_built() {
             return Err(Cause::Unbuilt);
         }
         self.agents = agents;
@@ -138,10 +142,10 @@ impl Draft {
         Ok(())
     }
 
-    #[tactic(auto, unfolding(crate::specs::Drafts::clocks_line, crate::specs::Words::ended, crate::specs::Kept::is_fresh, crate::specs::Kept::has_all, crate::specs::Kept::has_lock_room))]
+    #[tactic(auto, unfolding(crate::specs::Drafts::clocks_line, crate::specs::Words::line_ended, crate::specs::Kept::is_fresh, crate::specs::Kept::has_all, crate::specs::Kept::has_lock_room))]
     fn clocks_line(&mut self, line: &[u8]) -> Result<(), Cause>
         requires { self.old.place ≡ Place.Clocks }
-        ensures { Reads (λ _. progress self.new) result (clocks_line (progress self.old) line.now) }
+        ensures { ReadsAs (λ _. progress self.new) result (clocks_line (progress self.old) line.now) }
     {
         let rest = keyword(b"clocks", line)?;
         let (clocks, rest) = decimal_within(0, 200_000, rest)?;
@@ -153,13 +157,13 @@ impl Draft {
         Ok(())
     }
 
-    #[tactic(auto, using(crate::proofs::KeptLemmas::script_none, crate::proofs::KeptLemmas::scripts_none), unfolding(crate::specs::Drafts::cache_line, crate::specs::Words::ended, crate::specs::Kept::is_fresh, crate::specs::Kept::has_all, crate::specs::Kept::has_lock_room))]
+    #[tactic(auto, using(crate::proofs::KeptLemmas::script_none, crate::proofs::KeptLemmas::scripts_none), unfolding(crate::specs::Drafts::cache_line, crate::specs::Words::line_ended, crate::specs::Kept::is_fresh, crate::specs::Kept::has_all, crate::specs::Kept::has_lock_room))]
     fn cache_line(&mut self, line: &[u8]) -> Result<(), Cause>
         requires { self.old.place ≡ Place.Cache }
-        ensures { Reads (λ _. progress self.new) result (cache_line (progress self.old) line.now) }
+        ensures { ReadsAs (λ _. progress self.new) result (cache_line (progress self.old) line.now) }
     {
         let rest = keyword(b"cache", line)?;
-        let (lines, rest) = decimal(rest)?;
+        let (lines, rest) = decimal_word(rest)?;
         if !is_cache(lines) {
             return Err(Cause::Range);
         }
@@ -171,9 +175,9 @@ impl Draft {
         Ok(())
     }
 
-    #[tactic(auto, unfolding(crate::specs::Drafts::ahead_line, crate::specs::Words::ended, crate::specs::Forms::built, crate::specs::Kept::is_fresh, crate::specs::Kept::has_all, crate::specs::Kept::has_lock_room))]
+    #[tactic(auto, unfolding(crate::specs::Drafts::ahead_line, crate::specs::Words::line_ended, crate::specs::Forms::built, crate::specs::Kept::is_fresh, crate::specs::Kept::has_all, crate::specs::Kept::has_lock_room))]
     fn ahead_line(&mut self, line: &[u8]) -> Result<(), Cause>
-        ensures { Reads (λ _. progress self.new) result (ahead_line (progress self.old) line.now) }
+        ensures { ReadsAs (λ _. progress self.new) result (ahead_line (progress self.old) line.now) }
     {
         let rest = keyword(b"ahead", line)?;
         let (count, rest) = decimal_within(1, 4, rest)?;
@@ -181,20 +185,33 @@ impl Draft {
             return Err(Cause::After);
         }
         let ahead = count as u8;
-        if !Form::Ahead(ahead).is_built() {
+        if !LineForm::Ahead(ahead).is_built() {
             return Err(Cause::Unbuilt);
         }
         self.ahead = ahead;
+        self.place = Place::Profile;
+        Ok(())
+    }
+
+    #[tactic(auto, unfolding(crate::specs::Drafts::profile_line, crate::specs::Forms::built, crate::specs::Kept::is_fresh, crate::specs::Kept::has_all, crate::specs::Kept::has_lock_room))]
+    fn profile_line(&mut self, line: &[u8]) -> Result<(), Cause>
+        ensures { ReadsAs (λ _. progress self.new) result (profile_line (progress self.old) line.now) }
+    {
+        let profile = profile_of(line)?;
+        if !LineForm::Profile(profile).is_built() {
+            return Err(Cause::Unbuilt);
+        }
+        self.profile = profile;
         self.place = Place::Bridge;
         Ok(())
     }
 
     #[tactic(auto, unfolding(crate::specs::Drafts::bridge_line, crate::specs::Forms::built, crate::specs::Kept::is_fresh, crate::specs::Kept::has_all, crate::specs::Kept::has_lock_room))]
     fn bridge_line(&mut self, line: &[u8]) -> Result<(), Cause>
-        ensures { Reads (λ _. progress self.new) result (bridge_line (progress self.old) line.now) }
+        ensures { ReadsAs (λ _. progress self.new) result (bridge_line (progress self.old) line.now) }
     {
         let window = window_of(line)?;
-        if !Form::Bridge.is_built() {
+        if !LineForm::Bridge.is_built() {
             return Err(Cause::Unbuilt);
         }
         self.bridge = Some(window);
@@ -229,10 +246,10 @@ impl Draft {
         ensures kept { self.new.script ≡ self.old.script }
         ensures same { self.new.place ≡ self.old.place }
     {
-        if self.earlier.contains(line) && !Form::Foreign.is_built() {
+        if self.earlier.contains(line) && !LineForm::Foreign.is_built() {
             return Err(LineStop::Bad(Cause::Unbuilt));
         }
-        if self.named.has_other(line) && !Form::Evicting.is_built() {
+        if self.named.has_other(line) && !LineForm::Evicting.is_built() {
             return Err(LineStop::Bad(Cause::Unbuilt));
         }
         self.named.push(line)?;
@@ -291,16 +308,16 @@ impl Draft {
             return Err(LineStop::Bad(Cause::Range));
         }
         let clocks = idle_of(line)?;
-        if !Form::Idle.is_built() {
+        if !LineForm::Idle.is_built() {
             return Err(LineStop::Bad(Cause::Unbuilt));
         }
         self.script.push(Item::Idle(clocks))?;
         Ok(())
     }
 
-    #[tactic(auto, unfolding(crate::specs::Drafts::lock_item, crate::specs::Words::ended, crate::specs::Forms::built, crate::specs::Kept::is_fresh, crate::specs::Kept::has_all, crate::specs::Kept::has_lock_room))]
+    #[tactic(auto, unfolding(crate::specs::Drafts::lock_item, crate::specs::Words::line_ended, crate::specs::Forms::built, crate::specs::Kept::is_fresh, crate::specs::Kept::has_all, crate::specs::Kept::has_lock_room))]
     fn lock_item(&mut self, alloc: Global, line: &[u8]) -> Result<(), Cause>
-        ensures { Reads (λ _. progress self.new) result (lock_item (progress self.old) line.now) }
+        ensures { ReadsAs (λ _. progress self.new) result (lock_item (progress self.old) line.now) }
     {
         if !self.has_room() {
             return Err(Cause::Range);
@@ -308,7 +325,7 @@ impl Draft {
         if !is_ended(line) {
             return Err(Cause::After);
         }
-        if !Form::Lock.is_built() {
+        if !LineForm::Lock.is_built() {
             return Err(Cause::Unbuilt);
         }
         self.group = Group::new(alloc);
@@ -316,7 +333,7 @@ impl Draft {
         Ok(())
     }
 
-    #[tactic(auto, using(crate::proofs::KeptLemmas::all_push), unfolding(crate::specs::Drafts::end_line, crate::specs::Words::ended, crate::specs::Kept::is_fresh, crate::specs::Kept::has_all, crate::specs::Kept::has_lock_room))]
+    #[tactic(auto, using(crate::proofs::KeptLemmas::all_push), unfolding(crate::specs::Drafts::end_line, crate::specs::Words::line_ended, crate::specs::Kept::is_fresh, crate::specs::Kept::has_all, crate::specs::Kept::has_lock_room))]
     fn end_line(&mut self, alloc: Global, line: &[u8]) -> Result<(), LineStop>
         requires { self.old.place ≡ Place.Items }
         ensures { LineGives (λ _. progress self.new) result (end_line (progress self.old) line.now) }
@@ -363,7 +380,7 @@ impl Draft {
         Ok(())
     }
 
-    #[tactic(auto, using(crate::proofs::KeptLemmas::script_push, std::proofs::lemmas::Bool::and_from), unfolding(crate::specs::Drafts::unlock_line, crate::specs::Words::ended, crate::specs::Kept::is_fresh, crate::specs::Kept::has_all, crate::specs::Kept::has_lock_room))]
+    #[tactic(auto, using(crate::proofs::KeptLemmas::script_push, std::proofs::lemmas::Bool::and_from), unfolding(crate::specs::Drafts::unlock_line, crate::specs::Words::line_ended, crate::specs::Kept::is_fresh, crate::specs::Kept::has_all, crate::specs::Kept::has_lock_room))]
     fn unlock_line(&mut self, alloc: Global, line: &[u8]) -> Result<(), LineStop>
         requires { self.old.place ≡ Place.Locked }
         ensures { LineGives (λ _. progress self.new) result (unlock_line (progress self.old) line.now) }
@@ -408,7 +425,7 @@ impl Draft {
         requires room { length self.old.hazards < 4096 }
         ensures { LineGives (λ _. progress self.new) result (add_hazard (progress self.old) hazard) }
     {
-        if !Form::Hazard(hazard).is_built() {
+        if !LineForm::Hazard(hazard).is_built() {
             return Err(LineStop::Bad(Cause::Unbuilt));
         }
         self.hazards.push(hazard)?;
@@ -483,6 +500,18 @@ impl Draft {
         }
     }
 
+    #[tactic(auto, unfolding(crate::specs::Drafts::front_line))]
+    fn front_line(&mut self, alloc: Global, word: &[u8], line: &[u8]) -> Result<(), LineStop>
+        ensures { LineGives (λ _. progress self.new) result (front_line (progress self.old) word.now line.now) }
+    {
+        if word == b"profile".as_slice() {
+            self.profile_line(line)?;
+            Ok(())
+        } else {
+            self.body_line(alloc, word, line)
+        }
+    }
+
     #[tactic(auto, unfolding(crate::specs::Drafts::next_agent_line))]
     fn next_agent_line(&mut self, alloc: Global, word: &[u8], line: &[u8]) -> Result<(), LineStop>
         ensures { LineGives (λ _. progress self.new) result (next_agent_line (progress self.old) word.now line.now) }
@@ -501,6 +530,7 @@ impl Draft {
     {
         let (word, rest) = next_word(line)?;
         match self.place {
+            Place::Profile => self.front_line(alloc, word, rest),
             Place::Bridge => self.body_line(alloc, word, rest),
             Place::Memory => self.memory_line(alloc, word, rest),
             Place::Agent => self.next_agent_line(alloc, word, rest),
@@ -512,7 +542,7 @@ impl Draft {
 
     /// A line that may stand first, or where one first word may stand alone.
     fn fixed_line(&mut self, alloc: Global, line: &[u8]) -> Result<(), LineStop>
-        ensures { LineGives (λ _. progress self.new) result (line_at self.old.place (progress self.old) line.now) }
+        ensures { LineGives (λ _. progress self.new) result (placed_line self.old.place (progress self.old) line.now) }
     {
         match self.place {
             Place::First => self.first_line(line)?,
@@ -531,7 +561,7 @@ impl Draft {
     {
         match self.place {
             Place::First => false,
-            _ => is_read_past(line),
+            _ => is_silent(line),
         }
     }
 

@@ -4,11 +4,13 @@ use fsb_hazard::HazardLine;
 
 /// The forms of lines that not every stage of the simulator serves.
 #[derive(Clone, Copy, Debug)]
-pub(crate) enum Form {
+pub(crate) enum LineForm {
     /// This number of agents.
     Agents(u8),
     /// This number of requests an agent.
     Ahead(u8),
+    /// This profile.
+    Profile(u8),
     /// A window of deferred addresses.
     Bridge,
     /// An idle item.
@@ -23,7 +25,7 @@ pub(crate) enum Form {
     Hazard(HazardLine),
 }
 
-impl Form {
+impl LineForm {
     ghost use Rattle.fsb_script.specs.Forms.{is_built};
 
     /// Whether the simulator serves it.
@@ -32,14 +34,15 @@ impl Form {
         ensures { result ≡ is_built self.now }
     {
         match self {
-            Form::Agents(count) => *count == 1,
-            Form::Ahead(count) => *count == 1,
-            Form::Bridge => false,
-            Form::Idle => false,
-            Form::Lock => false,
-            Form::Foreign => false,
-            Form::Evicting => false,
-            Form::Hazard(_) => false,
+            LineForm::Agents(count) => *count == 1,
+            LineForm::Ahead(count) => *count == 1,
+            LineForm::Profile(number) => *number == 1,
+            LineForm::Bridge => false,
+            LineForm::Idle => false,
+            LineForm::Lock => false,
+            LineForm::Foreign => false,
+            LineForm::Evicting => false,
+            LineForm::Hazard(_) => false,
         }
     }
 }

@@ -1,8 +1,9 @@
-//! The bench file: its text, its plan, and the first fault of a text that is no bench file.
+//! The bench file: its text, its plan, and the first fault of a text that is no bench file; and the plan of a seed.
 #![tactic(auto)]
 
 pub use fault::{Cause, ScriptFault, ScriptStop};
 pub use laws::one_answer;
+pub use made::plan_of;
 pub use plan::{Plan, Scripts, Settings, Window};
 pub use read::read_bench;
 pub use write::write_bench;
@@ -13,6 +14,7 @@ mod fault;
 mod form;
 mod laws;
 mod line;
+mod made;
 mod named;
 mod place;
 mod plan;

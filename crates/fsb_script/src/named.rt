@@ -14,9 +14,9 @@ pub(crate) struct Named {
 }
 
 impl Model for Named {
-    ghost use Rattle.fsb_script.specs.Named.{Lines};
+    ghost use Rattle.fsb_script.specs.Named.{NamedLines};
 
-    ghost Value = { Lines };
+    ghost Value = { NamedLines };
 
     ghost view = { λ n. record { cache = n.cache; lines = n.lines.items } };
 

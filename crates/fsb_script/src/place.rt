@@ -7,6 +7,8 @@ pub(crate) enum Place {
     Clocks,
     Cache,
     Ahead,
+    /// The profile, the bridge, memory, or the first script.
+    Profile,
     /// The bridge, memory, or the first script.
     Bridge,
     /// Memory, or the first script.

@@ -1,6 +1,6 @@
 ghost use Rattle.std.specs.Prelude.{◌≡◌, ◌≤◌, List, [], ◌∷◌, ◌++◌, length, IsTrue, OnOk, OnErr};
 ghost use Rattle.std.specs.List.{list_all};
-ghost use Rattle.fsb_script.specs.Bounds.{is_cache, is_lawful_script, is_lawful_bridge, is_lawful_setting, are_lawful_hazards};
+ghost use Rattle.fsb_script.specs.Bounds.{is_cache, is_profile, is_lawful_script, is_lawful_bridge, is_lawful_setting, are_lawful_hazards};
 
 use fsb_access::{Script, Setting};
 use fsb_hazard::HazardLines;
@@ -109,6 +109,8 @@ pub struct Plan {
     pub cache: u32,
     /// How many requests an agent may have outstanding, 1 to 4.
     pub ahead: u8,
+    /// The profile of the bus, 1 or 2.
+    pub profile: u8,
     /// The addresses whose requests may be deferred.
     pub bridge: Option<Window>,
     /// The bytes of memory that are set as the run begins, all others being 0; a later setting of a byte wins.
@@ -122,6 +124,7 @@ pub struct Plan {
     pub ghost lawful_cache: { IsTrue (is_cache cache) },
     pub ghost some_ahead: { 1 ≤ ahead },
     pub ghost few_ahead: { ahead ≤ 4 },
+    pub ghost lawful_profile: { IsTrue (is_profile profile) },
     pub ghost lawful_bridge: { IsTrue (is_lawful_bridge bridge) },
     pub ghost lawful_mem: { IsTrue (list_all is_lawful_setting mem) },
     pub ghost lawful_hazards: { IsTrue (are_lawful_hazards hazards) },

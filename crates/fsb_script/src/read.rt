@@ -1,7 +1,7 @@
 ghost use Rattle.std.specs.Prelude.{◌≡◌, ◌<◌, ◌≤◌, ◌-◌, ◌+◌, ◌^◌, length, take, drop};
 ghost use Rattle.fsb_script.specs.Reading.{Gives, stop_at};
 ghost use Rattle.fsb_script.specs.Words.{line_len};
-ghost use Rattle.fsb_script.specs.Drafts.{end_of, plan_of};
+ghost use Rattle.fsb_script.specs.Drafts.{plan_at_end, said_plan};
 ghost use Rattle.fsb_script.specs.View.{progress, plan_view};
 
 use crate::draft::Draft;
@@ -13,7 +13,7 @@ use std::alloc::Global;
 /// Reads a bench file: its plan, or its first bad line and that line's first cause from left to right.
 pub fn read_bench(alloc: Global, text: &[u8]) -> Result<Plan, ScriptStop>
     requires { length text.now < 2 ^ 32 - 1 }
-    ensures { Gives plan_view result (plan_of text.now) }
+    ensures { Gives plan_view result (said_plan text.now) }
 {
     let mut draft = match Draft::new(alloc) {
         Ok(draft) => draft,
@@ -30,7 +30,7 @@ pub fn read_bench(alloc: Global, text: &[u8]) -> Result<Plan, ScriptStop>
         number += 1;
         rest = after;
     }
-    end_of(number, draft)
+    plan_at_end(number, draft)
 }
 
 /// How many bytes stand before the first line feed.
@@ -73,9 +73,9 @@ fn stop_at(number: u32, stop: LineStop) -> ScriptStop
 }
 
 /// The plan, where the text may end there.
-#[tactic(auto, unfolding(crate::specs::Drafts::end_of))]
-fn end_of(number: u32, draft: Draft) -> Result<Plan, ScriptStop>
-    ensures { Gives plan_view result (end_of number (progress draft)) }
+#[tactic(auto, unfolding(crate::specs::Drafts::plan_at_end))]
+fn plan_at_end(number: u32, draft: Draft) -> Result<Plan, ScriptStop>
+    ensures { Gives plan_view result (plan_at_end number (progress draft)) }
 {
     match draft.place {
         Place::First => Err(ScriptStop::Bad(ScriptFault {
@@ -87,6 +87,7 @@ fn end_of(number: u32, draft: Draft) -> Result<Plan, ScriptStop>
             clocks: draft.clocks,
             cache: draft.cache,
             ahead: draft.ahead,
+            profile: draft.profile,
             bridge: draft.bridge,
             mem: draft.mem,
             hazards: draft.hazards,

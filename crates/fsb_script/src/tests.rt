@@ -5,6 +5,7 @@ use std::test::Fail;
 use table::{BAD, GOOD};
 
 mod hazard_room;
+mod made;
 mod table;
 mod unbuilt;
 

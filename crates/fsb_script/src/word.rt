@@ -1,6 +1,6 @@
 ghost use Rattle.std.specs.Prelude.{◌≡◌, ◌<◌, ◌≤◌, ◌^◌, length, IfOk};
-ghost use Rattle.fsb_script.specs.Reading.{Reads};
-ghost use Rattle.fsb_script.specs.Words.{is_blank, skip_blanks, word_len, is_read_past, next_word, is_empty, decimal_from, decimal_of, hex_digit, hex_from, hex_of, decimal, hexadecimal, decimal_within, address};
+ghost use Rattle.fsb_script.specs.Reading.{ReadsAs};
+ghost use Rattle.fsb_script.specs.Words.{is_blank, skip_blanks, word_len, is_silent, next_word, is_empty, decimal_from, decimal_of, hex_digit, hex_from, hex_of, decimal_word, hex_word, decimal_within, address};
 
 use crate::fault::Cause;
 use fsb_access::ADDRESS_LIMIT;
@@ -35,9 +35,9 @@ fn word_len(line: &[u8]) -> usize
 }
 
 /// Whether a line has no words or is a comment.
-#[tactic(auto, unfolding(crate::specs::Words::is_read_past))]
-pub(crate) fn is_read_past(line: &[u8]) -> bool
-    ensures { result ≡ is_read_past line.now }
+#[tactic(auto, unfolding(crate::specs::Words::is_silent))]
+pub(crate) fn is_silent(line: &[u8]) -> bool
+    ensures { result ≡ is_silent line.now }
 {
     match skip_blanks(line) {
         [] => true,
@@ -48,7 +48,7 @@ pub(crate) fn is_read_past(line: &[u8]) -> bool
 /// The next word and what follows it.
 #[tactic(auto, unfolding(crate::specs::Words::next_word))]
 pub(crate) fn next_word(line: &[u8]) -> Result<(&[u8], &[u8]), Cause>
-    ensures { Reads (λ x. (x.0.now, x.1.now)) result (next_word line.now) }
+    ensures { ReadsAs (λ x. (x.0.now, x.1.now)) result (next_word line.now) }
 {
     let line = skip_blanks(line);
     if line.is_empty() {
@@ -66,7 +66,7 @@ pub(crate) fn is_ended(line: &[u8]) -> bool
 
 fn decimal_digits(word: &[u8]) -> Result<u64, Cause>
     requires { length word.now ≤ 18 }
-    ensures { Reads (λ n. n) result (decimal_from 0 word.now) }
+    ensures { ReadsAs (λ n. n) result (decimal_from 0 word.now) }
 {
     let mut number: u64 = 0;
     for byte in word {
@@ -80,7 +80,7 @@ fn decimal_digits(word: &[u8]) -> Result<u64, Cause>
 
 #[tactic(auto, unfolding(crate::specs::Words::decimal_of))]
 fn decimal_of(word: &[u8]) -> Result<u64, Cause>
-    ensures { Reads (λ n. n) result (decimal_of word.now) }
+    ensures { ReadsAs (λ n. n) result (decimal_of word.now) }
 {
     if 1 <= word.len() && word.len() <= 18 {
         decimal_digits(word)
@@ -92,7 +92,7 @@ fn decimal_of(word: &[u8]) -> Result<u64, Cause>
 /// What a hexadecimal digit stands for.
 #[tactic(auto, unfolding(crate::specs::Words::hex_digit))]
 pub(crate) fn hex_digit(byte: u8) -> Result<u8, Cause>
-    ensures value { Reads (λ digit. digit) result (hex_digit byte) }
+    ensures value { ReadsAs (λ digit. digit) result (hex_digit byte) }
     ensures below { IfOk result (λ digit. digit < 16) }
 {
     match byte {
@@ -105,7 +105,7 @@ pub(crate) fn hex_digit(byte: u8) -> Result<u8, Cause>
 
 fn hex_digits(word: &[u8]) -> Result<u64, Cause>
     requires { length word.now ≤ 16 }
-    ensures { Reads (λ n. n) result (hex_from 0 word.now) }
+    ensures { ReadsAs (λ n. n) result (hex_from 0 word.now) }
 {
     let mut number: u64 = 0;
     for byte in word {
@@ -117,7 +117,7 @@ fn hex_digits(word: &[u8]) -> Result<u64, Cause>
 /// A word as a hexadecimal number.
 #[tactic(auto, unfolding(crate::specs::Words::hex_of))]
 pub(crate) fn hex_of(word: &[u8]) -> Result<u64, Cause>
-    ensures { Reads (λ n. n) result (hex_of word.now) }
+    ensures { ReadsAs (λ n. n) result (hex_of word.now) }
 {
     if 1 <= word.len() && word.len() <= 16 {
         hex_digits(word)
@@ -127,18 +127,18 @@ pub(crate) fn hex_of(word: &[u8]) -> Result<u64, Cause>
 }
 
 /// The next word as a decimal number.
-#[tactic(auto, unfolding(crate::specs::Words::decimal))]
-pub(crate) fn decimal(line: &[u8]) -> Result<(u64, &[u8]), Cause>
-    ensures { Reads (λ x. (x.0, x.1.now)) result (decimal line.now) }
+#[tactic(auto, unfolding(crate::specs::Words::decimal_word))]
+pub(crate) fn decimal_word(line: &[u8]) -> Result<(u64, &[u8]), Cause>
+    ensures { ReadsAs (λ x. (x.0, x.1.now)) result (decimal_word line.now) }
 {
     let (word, rest) = next_word(line)?;
     Ok((decimal_of(word)?, rest))
 }
 
 /// The next word as a hexadecimal number.
-#[tactic(auto, unfolding(crate::specs::Words::hexadecimal))]
-pub(crate) fn hexadecimal(line: &[u8]) -> Result<(u64, &[u8]), Cause>
-    ensures { Reads (λ x. (x.0, x.1.now)) result (hexadecimal line.now) }
+#[tactic(auto, unfolding(crate::specs::Words::hex_word))]
+pub(crate) fn hex_word(line: &[u8]) -> Result<(u64, &[u8]), Cause>
+    ensures { ReadsAs (λ x. (x.0, x.1.now)) result (hex_word line.now) }
 {
     let (word, rest) = next_word(line)?;
     Ok((hex_of(word)?, rest))
@@ -147,11 +147,11 @@ pub(crate) fn hexadecimal(line: &[u8]) -> Result<(u64, &[u8]), Cause>
 /// The next word as a decimal number from `low` to `high`.
 #[tactic(auto, unfolding(crate::specs::Words::decimal_within))]
 pub(crate) fn decimal_within(low: u64, high: u64, line: &[u8]) -> Result<(u64, &[u8]), Cause>
-    ensures value { Reads (λ x. (x.0, x.1.now)) result (decimal_within low high line.now) }
+    ensures value { ReadsAs (λ x. (x.0, x.1.now)) result (decimal_within low high line.now) }
     ensures least { IfOk result (λ x. low ≤ x.0) }
     ensures most { IfOk result (λ x. x.0 ≤ high) }
 {
-    let (number, rest) = decimal(line)?;
+    let (number, rest) = decimal_word(line)?;
     if low <= number && number <= high {
         Ok((number, rest))
     } else {
@@ -162,10 +162,10 @@ pub(crate) fn decimal_within(low: u64, high: u64, line: &[u8]) -> Result<(u64, &
 /// The next word as a byte address.
 #[tactic(auto, unfolding(crate::specs::Words::address))]
 pub(crate) fn address(line: &[u8]) -> Result<(u64, &[u8]), Cause>
-    ensures value { Reads (λ x. (x.0, x.1.now)) result (address line.now) }
+    ensures value { ReadsAs (λ x. (x.0, x.1.now)) result (address line.now) }
     ensures below { IfOk result (λ x. x.0 < 2 ^ 36) }
 {
-    let (number, rest) = hexadecimal(line)?;
+    let (number, rest) = hex_word(line)?;
     if number < ADDRESS_LIMIT {
         Ok((number, rest))
     } else {

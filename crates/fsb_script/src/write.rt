@@ -1,5 +1,5 @@
 ghost use Rattle.std.specs.Prelude.{◌≡◌, ◌+◌, ◌++◌, OnOk, IfOk};
-ghost use Rattle.fsb_script.specs.Text.{settings_text, accesses_text, item_text, items_text, script_text, scripts_text, hazards_text, bridge_text, bench_text};
+ghost use Rattle.fsb_script.specs.Text.{settings_text, accesses_text, item_text, items_text, script_text, scripts_text, hazards_text, profile_text, bridge_text, bench_text};
 ghost use Rattle.fsb_script.specs.View.{plan_view};
 
 use crate::line::{
@@ -20,11 +20,21 @@ pub fn write_bench(alloc: Global, plan: &Plan) -> Result<Vec<u8>, Memory>
     let mut text = Vec::new(alloc);
     let head = head_lines(scripts.len() as u64, plan.clocks, plan.cache, plan.ahead);
     text.extend_from_slice(head.as_slice())?;
+    put_profile(&mut text, plan.profile)?;
     put_bridge(&mut text, &plan.bridge)?;
     put_settings(&mut text, plan.mem.as_slice())?;
     put_scripts(&mut text, scripts)?;
     put_hazards(&mut text, plan.hazards.as_slice())?;
     Ok(text)
+}
+
+fn put_profile(text: &mut Vec<u8>, profile: u8) -> Result<(), Memory>
+    ensures { OnOk result (text.new.items ≡ text.old.items ++ profile_text profile) }
+{
+    if profile == 2 {
+        text.extend_from_slice(b"profile 2\n")?;
+    }
+    Ok(())
 }
 
 fn put_bridge(text: &mut Vec<u8>, bridge: &Option<Window>) -> Result<(), Memory>
@@ -186,6 +196,11 @@ bnr 0 199999
         let mut text = Vec::new(rt.alloc());
         put_hazards(&mut text, &HAZARDS)?;
         assert_eq!(rt; text.as_slice(), HAZARD_LINES.as_bytes());
+        let mut text = Vec::new(rt.alloc());
+        put_profile(&mut text, 1)?;
+        assert_eq!(rt; text.as_slice(), b"".as_slice());
+        put_profile(&mut text, 2)?;
+        assert_eq!(rt; text.as_slice(), b"profile 2\n".as_slice());
         let mut text = Vec::new(rt.alloc());
         let window = Window {
             base: 0x1000,

@@ -12,7 +12,7 @@ use Rattle.fsb_access.specs.declared.access.Access.TheVariants.{Load, Store}
 use Rattle.fsb_access.specs.declared.access.Operand.{Operand}
 use Rattle.fsb_access.specs.declared.access.Operand.TheVariants.{Literal, LastPlus}
 use Rattle.fsb_access.specs.Access.{is_size, is_place, fits, number_of, is_lawful_access}
-use Rattle.fsb_script.specs.Words.{ended, address}
+use Rattle.fsb_script.specs.Words.{line_ended, address}
 use Rattle.fsb_script.specs.Statements.{size_at, aligned_at, load_of, store_of, operand_of, literal_of, is_added}
 use Rattle.fsb_script.specs.Text.{access_text, operand_text}
 use Rattle.fsb_script_laws.proofs.Numbers.{is_figure, Figures, hex_figures, hex_back}
@@ -52,7 +52,7 @@ abbrev pub load_words : ℕ → ℕ → List ℕ
 load_words size addr = decimal size ++ (32 ∷ hexadecimal addr)
 
 pub load_back : (size addr : ℕ) → Place size addr → load_of (32 ∷ load_words size addr) ≡ Ok (Load size addr)
-unfolding load_of size_at aligned_at address ended
+unfolding load_of size_at aligned_at address line_ended
 load_back size addr at =
     let small : size < 10 ^ 18 = omega (arith, at.small) in
     let wide : addr < 16 ^ 16 = omega (arith, at.below) in
@@ -104,7 +104,7 @@ abbrev pub store_words : ℕ → ℕ → Operand → List ℕ
 store_words size addr value = decimal size ++ (32 ∷ (hexadecimal addr ++ (32 ∷ operand_text value)))
 
 pub store_back : (size addr : ℕ) (value : Operand) → Place size addr → fits size (number_of value) ≡ true → store_of (32 ∷ store_words size addr value) ≡ Ok (Store size addr value)
-unfolding store_of size_at aligned_at address ended
+unfolding store_of size_at aligned_at address line_ended
 store_back size addr value at fit =
     let small : size < 10 ^ 18 = omega (arith, at.small) in
     let wide : addr < 16 ^ 16 = omega (arith, at.below) in

@@ -17,18 +17,19 @@ use Rattle.fsb_script.specs.declared.fault.Cause.{Cause}
 use Rattle.fsb_script.specs.declared.plan.Window.{Window}
 use Rattle.fsb_script.specs.Reading.{◌>>=◌}
 use Rattle.fsb_script.specs.Bounds.{is_lawful_window, is_lawful_setting, is_lawful_hazard}
-use Rattle.fsb_script.specs.Words.{lines_of, next_word, ended, decimal_within, address}
-use Rattle.fsb_script.specs.Statements.{keyword, memory_of, window_of, load_of, store_of, idle_of, transaction_of, turn_of, count_of, later_of, block_of}
-use Rattle.fsb_script.specs.Text.{setting_text, window_text, access_text, idle_text, hazard_text}
+use Rattle.fsb_script.specs.Words.{text_lines, next_word, line_ended, decimal_of, decimal_within, address}
+use Rattle.fsb_script.specs.Words.{decimal_word}
+use Rattle.fsb_script.specs.Statements.{keyword, memory_of, profile_of, window_of, load_of, store_of, idle_of, transaction_of, turn_of, count_of, delay_of, block_of}
+use Rattle.fsb_script.specs.Text.{setting_text, profile_text, window_text, access_text, idle_text, hazard_text}
 use Rattle.fsb_script_laws.specs.BuiltPlans.{is_byte_setting}
-use Rattle.fsb_script_laws.specs.LineTexts.{IsLineOf, is_of_request}
+use Rattle.fsb_script_laws.specs.LineTexts.{IsLineOf, is_of_one_request}
 use Rattle.fsb_script_laws.proofs.Split.{is_inner, decimal_next, decimal_last, decimal_inner, hex_next, hex_last, hex_inner, inner_append, first_line_is}
 use Rattle.fsb_script_laws.proofs.MemoryLines.{setting_words, memory_back, setting_line, setting_inner}
 use Rattle.fsb_script_laws.proofs.AccessLines.{place_is, load_back, store_back, access_line, access_line_is, access_inner}
 
 -- a line with its line feed is one line
-one_line : (line text : List ℕ) → text ≡ line ++ (10 ∷ []) → list_all is_inner line ≡ true → lines_of text ≡ line ∷ []
-one_line line text is inner = ap lines_of is ∙ first_line_is line [] inner
+one_line : (line text : List ℕ) → text ≡ line ++ (10 ∷ []) → list_all is_inner line ≡ true → text_lines text ≡ line ∷ []
+one_line line text is inner = ap text_lines is ∙ first_line_is line [] inner
 
 within_both : (low high n : ℕ) → low ≤ n → n ≤ high → (nat_le low n && nat_le n high) ≡ true
 within_both low high n a b = and_from _ _ (le-leb low n a) (le-leb n high b)
@@ -42,7 +43,7 @@ within_last : (low high n : ℕ) → n < 10 ^ 18 → low ≤ n → n ≤ high �
 unfolding decimal_within
 within_last low high n small a b = rw (decimal_last n small) (rw (within_both low high n a b) refl)
 
--- ---- memory and the bridge
+-- ---- memory, the profile and the bridge
 
 pub memory_line_back : (s : Setting) → IsTrue (is_lawful_setting s) → IsTrue (is_byte_setting s) → IsLineOf (codes "mem") memory_of (setting_text s) (s.addr, s.byte ∷ [])
 unfolding keyword next_word
@@ -56,6 +57,10 @@ memory_line_back s lawful bytes =
       ),
     )
 
+pub profile_line_back : IsLineOf (codes "profile") profile_of (profile_text 2) 2
+unfolding keyword next_word profile_of decimal_within decimal_word decimal_of line_ended
+profile_line_back = (codes "profile 2", (refl, refl))
+
 abbrev window_words : ℕ → ℕ → List ℕ
 window_words base size = hexadecimal base ++ (32 ∷ hexadecimal size)
 
@@ -64,7 +69,7 @@ unfolding window_text
 window_line base size = simp append_assoc
 
 window_back : (base size : ℕ) → base < 2 ^ 36 → eqb (base % 32) 0 ≡ true → 0 < size → eqb (size % 32) 0 ≡ true → base + size ≤ 2 ^ 36 → window_of (32 ∷ window_words base size) ≡ Ok (record { base = base; size = size })
-unfolding window_of address ended
+unfolding window_of address line_ended
 window_back base size below base_whole some size_whole last =
     let wide : base < 16 ^ 16 = omega arith in
     let wide_size : size < 16 ^ 16 = omega arith in
@@ -93,7 +98,7 @@ window_line_back w lawful =
 
 -- ---- the items of a script
 
-access_one_line : (access : Access) → is_lawful_access access ≡ true → lines_of (access_text access) ≡ access_line access ∷ []
+access_one_line : (access : Access) → is_lawful_access access ≡ true → text_lines (access_text access) ≡ access_line access ∷ []
 access_one_line access lawful = one_line (access_line access) (access_text access) (sym (append-nil (access_text access)) ∙ access_line_is access []) (access_inner access lawful)
 
 pub load_line_back : (size addr : ℕ) → IsTrue (is_lawful_access (Load size addr)) → IsLineOf (codes "ld") load_of (access_text (Load size addr)) (Load size addr)
@@ -115,7 +120,7 @@ unfolding idle_text
 idle_line n = simp append_assoc
 
 idle_back : (n : ℕ) → 1 ≤ n → n ≤ 200000 → idle_of (32 ∷ decimal n) ≡ Ok n
-unfolding idle_of ended
+unfolding idle_of line_ended
 idle_back n some few =
     let small : n < 10 ^ 18 = omega arith in
     rw (within_last 1 200000 n small some few) refl
@@ -152,7 +157,7 @@ request_of (Bnr from to) = 0
 abbrev hazard_words : HazardLine → List ℕ
 hazard_words h = decimal (request_of h) ++ (32 ∷ turn_words h)
 
-hazard_line_is : (h : HazardLine) → is_of_request h ≡ true → hazard_text h ≡ (codes "tx " ++ hazard_words h) ++ (10 ∷ [])
+hazard_line_is : (h : HazardLine) → is_of_one_request h ≡ true → hazard_text h ≡ (codes "tx " ++ hazard_words h) ++ (10 ∷ [])
 unfolding hazard_text
 hazard_line_is (Stall k n) is = simp append_assoc
 hazard_line_is (Trdy k n) is = simp append_assoc
@@ -163,7 +168,7 @@ hazard_line_is (Defer k later) is = simp append_assoc
 hazard_line_is (Aerr k) is = simp append_assoc
 hazard_line_is (Bnr from to) is = absurd cc
 
-request_small : (h : HazardLine) → is_lawful_hazard h ≡ true → is_of_request h ≡ true → request_of h ≤ 199999
+request_small : (h : HazardLine) → is_lawful_hazard h ≡ true → is_of_one_request h ≡ true → request_of h ≤ 199999
 request_small (Stall k n) lawful is = leb-true k 199999 (and_parts (nat_le k 199999) (nat_le 1 n && nat_le n 255) lawful).0
 request_small (Trdy k n) lawful is = leb-true k 199999 (and_parts (nat_le k 199999) (nat_le 1 n && nat_le n 255) lawful).0
 request_small (Resp k n) lawful is = leb-true k 199999 (and_parts (nat_le k 199999) (nat_le 1 n && nat_le n 255) lawful).0
@@ -174,7 +179,7 @@ request_small (Aerr k) lawful is = leb-true k 199999 lawful
 request_small (Bnr from to) lawful is = absurd cc
 
 count_back : (k n : ℕ) → (nat_le k 199999 && (nat_le 1 n && nat_le n 255)) ≡ true → count_of (32 ∷ decimal n) ≡ Ok n
-unfolding count_of ended
+unfolding count_of line_ended
 count_back k n lawful =
     let two : (nat_le 1 n && nat_le n 255) ≡ true = (and_parts (nat_le k 199999) (nat_le 1 n && nat_le n 255) lawful).1 in
     let some : 1 ≤ n = leb-true 1 n (and_parts (nat_le 1 n) (nat_le n 255) two).0 in
@@ -182,8 +187,8 @@ count_back k n lawful =
     let small : n < 10 ^ 18 = omega arith in
     rw (within_last 1 255 n small some few) refl
 
-later_back : (k n : ℕ) → (nat_le k 199999 && nat_le n 65535) ≡ true → later_of (32 ∷ decimal n) ≡ Ok n
-unfolding later_of ended
+later_back : (k n : ℕ) → (nat_le k 199999 && nat_le n 65535) ≡ true → delay_of (32 ∷ decimal n) ≡ Ok n
+unfolding delay_of line_ended
 later_back k n lawful =
     let few : n ≤ 65535 = leb-true n 65535 (and_parts (nat_le k 199999) (nat_le n 65535) lawful).1 in
     let small : n < 10 ^ 18 = omega arith in
@@ -193,8 +198,8 @@ later_back k n lawful =
 abbrev turn_behind : ℕ → List ℕ → Result HazardLine Cause
 turn_behind k line = next_word line >>= (λ w. turn_of k w.0 w.1)
 
-turn_back : (h : HazardLine) → is_lawful_hazard h ≡ true → is_of_request h ≡ true → turn_behind (request_of h) (32 ∷ turn_words h) ≡ Ok h
-unfolding next_word turn_of ended
+turn_back : (h : HazardLine) → is_lawful_hazard h ≡ true → is_of_one_request h ≡ true → turn_behind (request_of h) (32 ∷ turn_words h) ≡ Ok h
+unfolding next_word turn_of line_ended
 turn_back (Stall k n) lawful is = rw (count_back k n lawful) refl
 turn_back (Trdy k n) lawful is = rw (count_back k n lawful) refl
 turn_back (Resp k n) lawful is = rw (count_back k n lawful) refl
@@ -204,7 +209,7 @@ turn_back (Defer k later) lawful is = rw (later_back k later lawful) refl
 turn_back (Aerr k) lawful is = refl
 turn_back (Bnr from to) lawful is = absurd cc
 
-transaction_back : (h : HazardLine) → is_lawful_hazard h ≡ true → is_of_request h ≡ true → transaction_of (32 ∷ hazard_words h) ≡ Ok h
+transaction_back : (h : HazardLine) → is_lawful_hazard h ≡ true → is_of_one_request h ≡ true → transaction_of (32 ∷ hazard_words h) ≡ Ok h
 unfolding transaction_of
 transaction_back h lawful is =
     let most : request_of h ≤ 199999 = request_small h lawful is in
@@ -218,7 +223,7 @@ counted word k n lawful inner =
     let small : n < 10 ^ 18 = omega arith in
     inner_append word (decimal n) inner (decimal_inner n small)
 
-turn_inner : (h : HazardLine) → is_lawful_hazard h ≡ true → is_of_request h ≡ true → list_all is_inner (turn_words h) ≡ true
+turn_inner : (h : HazardLine) → is_lawful_hazard h ≡ true → is_of_one_request h ≡ true → list_all is_inner (turn_words h) ≡ true
 turn_inner (Stall k n) lawful is = counted (codes "stall ") k n lawful refl
 turn_inner (Trdy k n) lawful is = counted (codes "trdy ") k n lawful refl
 turn_inner (Resp k n) lawful is = counted (codes "resp ") k n lawful refl
@@ -231,7 +236,7 @@ turn_inner (Defer k later) lawful is =
 turn_inner (Aerr k) lawful is = refl
 turn_inner (Bnr from to) lawful is = absurd cc
 
-pub transaction_line_back : (h : HazardLine) → IsTrue (is_of_request h) → IsTrue (is_lawful_hazard h) → IsLineOf (codes "tx") transaction_of (hazard_text h) h
+pub transaction_line_back : (h : HazardLine) → IsTrue (is_of_one_request h) → IsTrue (is_lawful_hazard h) → IsLineOf (codes "tx") transaction_of (hazard_text h) h
 unfolding keyword next_word
 transaction_line_back h is lawful =
     let most : request_of h ≤ 199999 = request_small h lawful is in
@@ -248,7 +253,7 @@ unfolding hazard_text
 block_line_is from to = simp append_assoc
 
 block_back : (from to : ℕ) → from ≤ to → to ≤ 199999 → block_of (32 ∷ (decimal from ++ (32 ∷ decimal to))) ≡ Ok (Bnr from to)
-unfolding block_of ended
+unfolding block_of line_ended
 block_back from to order most =
     let small : from < 10 ^ 18 = omega arith in
     let small_to : to < 10 ^ 18 = omega arith in

@@ -1,8 +1,8 @@
 -- What a line that was read says of its numbers.
-use Rattle.std.proofs.Common.{◌≡◌, ℕ, ◌+◌, ◌-◌, ◌*◌, ◌%◌, ◌^◌, ◌<◌, ◌≤◌, Bool, true, false, cond, eqb, List, [], ◌∷◌, ◌++◌, length, Result, Ok, Err, ◌⊎◌, inl, inr, refl, sym, subst, ◌∙◌, arith, drop}
+use Rattle.std.proofs.Common.{◌≡◌, ℕ, ◌+◌, ◌-◌, ◌*◌, ◌%◌, ◌^◌, ◌<◌, ◌≤◌, Bool, true, false, cond, eqb, List, [], ◌∷◌, ◌++◌, length, Result, Ok, Err, ◌⊎◌, inl, inr, refl, sym, ap, subst, ◌∙◌, arith, drop}
 use Rattle.std.specs.Prelude.{◌&&◌, nat_lt, nat_le}
 use Rattle.std.specs.List.{list_all}
-use Rattle.std.proofs.lemmas.Bool.{leb-true, lt-ltb, and_from, and_parts}
+use Rattle.std.proofs.lemmas.Bool.{leb-true, eqb-true, lt-ltb, and_from, and_parts}
 use Rattle.std.proofs.lemmas.List.Folds.{list_all-append}
 use Rattle.fsb_access.specs.declared.access.Access.{Access}
 use Rattle.fsb_access.specs.declared.access.Access.TheVariants.{Load, Store}
@@ -10,11 +10,11 @@ use Rattle.fsb_access.specs.declared.access.Operand.{Operand}
 use Rattle.fsb_access.specs.declared.access.Operand.TheVariants.{Literal, LastPlus}
 use Rattle.fsb_access.specs.Access.{is_size, is_place, fits, number_of, is_lawful_access}
 use Rattle.fsb_script.specs.declared.fault.Cause.{Cause}
-use Rattle.fsb_script.specs.declared.fault.Cause.TheVariants.{Number, Outside}
+use Rattle.fsb_script.specs.declared.fault.Cause.TheVariants.{Number, Outside, Unbuilt}
 use Rattle.fsb_script.specs.Reading.{◌>>=◌, require}
 use Rattle.fsb_script.specs.Bounds.{is_lawful_setting}
-use Rattle.fsb_script.specs.Words.{next_word, ended, decimal_within, address, hex_of, hex_digit}
-use Rattle.fsb_script.specs.Words.{decimal as decimal_word, hexadecimal as hex_word}
+use Rattle.fsb_script.specs.Words.{next_word, line_ended, decimal_within, address, hex_of, hex_digit}
+use Rattle.fsb_script.specs.Words.{decimal_word, hex_word}
 use Rattle.fsb_script.specs.Statements.{size_at, aligned_at, load_of, store_of, literal_of, operand_of, is_added, bytes_from, bytes_of, memory_of, settings_at}
 use Rattle.fsb_script.specs.Drafts.{Progress}
 use Rattle.fsb_script_laws.specs.BuiltPlans.{is_byte_setting}
@@ -41,8 +41,16 @@ Gave r e = r ≡ Ok e
 pub state_is : (d e : Progress) → Gave (Ok d) e → d ≡ e
 state_is d e h = cc
 
-pub ended_is : {A : Type 0} (x y : A) (line : List ℕ) → ended x line ≡ Ok y → x ≡ y
-unfolding ended
+-- a number that has to be 1
+pub one_is : (f : ℕ → Progress) (n : ℕ) (e : Progress) → (require (eqb n 1) Unbuilt n >>= (λ k. Ok (f k))) ≡ Ok e → f 1 ≡ e
+one_is f n e h =
+    let d = bind_ok (require (eqb n 1) Unbuilt n) (λ k. Ok (f k)) e h in
+    let r = require_ok (eqb n 1) Unbuilt n d.0 d.1.0 in
+    let one : 1 ≡ d.0 = sym (eqb-true n 1 r.0) ∙ r.1 in
+    ap f one ∙ state_is (f d.0) e d.1.1
+
+pub ended_is : {A : Type 0} (x y : A) (line : List ℕ) → line_ended x line ≡ Ok y → x ≡ y
+unfolding line_ended
 ended_is x y line h = (require_ok _ _ x y h).1
 
 pub within_is : (low high : ℕ) (line : List ℕ) (n : ℕ × List ℕ) → decimal_within low high line ≡ Ok n → (nat_le low n.0 && nat_le n.0 high) ≡ true

@@ -11,17 +11,17 @@ use Rattle.fsb_access.specs.declared.item.Item.TheVariants.{One}
 use Rattle.fsb_access.specs.Access.{accessed_line}
 use Rattle.fsb_script.specs.declared.fault.Cause.TheVariants.{Word}
 use Rattle.fsb_script.specs.Bounds.{is_lawful_setting}
-use Rattle.fsb_script.specs.Words.{is_read_past, next_word, ended, decimal_of, decimal_within, hex_digit, hex_of, address}
-use Rattle.fsb_script.specs.Words.{decimal as decimal_word, hexadecimal as hex_word}
-use Rattle.fsb_script.specs.Statements.{keyword, memory_of, bytes_of, settings_at, agent_of}
+use Rattle.fsb_script.specs.Words.{is_silent, next_word, line_ended, decimal_of, decimal_within, hex_digit, hex_of, address}
+use Rattle.fsb_script.specs.Words.{decimal_word, hex_word}
+use Rattle.fsb_script.specs.Statements.{keyword, profile_of, memory_of, bytes_of, settings_at, agent_of}
 use Rattle.fsb_script.specs.Forms.{is_built, built}
 use Rattle.fsb_script.specs.Plans.{PlanView}
-use Rattle.fsb_script.specs.Drafts.{Progress, after_line, heading_of, first_line, agents_line, clocks_line, cache_line, ahead_line, choice_line, body_line, bridge_line, memory_line, mem_line, agent_line, item_line, load_item, store_item, idle_item, lock_item, end_line, end_of, plan_from}
+use Rattle.fsb_script.specs.Drafts.{Progress, after_line, heading_of, first_line, agents_line, clocks_line, cache_line, ahead_line, choice_line, front_line, profile_line, body_line, bridge_line, memory_line, mem_line, agent_line, item_line, load_item, store_item, idle_item, lock_item, end_line, plan_at_end, plan_from}
 use Rattle.fsb_script_laws.specs.BuiltPlans.{is_byte_setting}
-use Rattle.fsb_script_laws.proofs.HeadLines.{at_bridge, head_state}
-use Rattle.fsb_script_laws.proofs.MemoryLines.{at_memory, item_state, before_script}
+use Rattle.fsb_script_laws.proofs.HeadLines.{at_profile, at_bridge, head_state}
+use Rattle.fsb_script_laws.proofs.MemoryLines.{at_memory, item_state, Before, OnlyHead, SomeProfile, SomeMemory, before_script}
 use Rattle.fsb_script_laws.proofs.Scripts.{plan_with}
-use Rattle.fsb_script_laws.proofs.Inverted.{bind_ok, if_ok, state_is, Memory, memory_is, settings_lawful}
+use Rattle.fsb_script_laws.proofs.Inverted.{bind_ok, if_ok, state_is, one_is, Memory, memory_is, settings_lawful}
 use Rattle.fsb_script_laws.proofs.ReadPlans.{next_line, past_or, final_state, from_final, Script, script_push, Added, load_inv, store_inv, no_idle, no_lock, end_inv}
 
 -- ---- the script
@@ -43,8 +43,8 @@ item_inv clocks cache mem script lines word rest e h = by (bytes_eq word (codes 
     by false false false false false h = absurd cc
 
 items_inv : (clocks cache : ℕ) (mem : List Setting) (script : List Item) (lines line : List ℕ) (e : Progress) → after_line (item_state clocks cache mem script lines) line ≡ Ok e → (item_state clocks cache mem script lines ≡ e) ⊎ ItemGave clocks cache mem script lines e
-unfolding after_line is_read_past heading_of first_line agents_line clocks_line cache_line ahead_line keyword next_word decimal_word decimal_of decimal_within ended built is_built choice_line body_line memory_line agent_line agent_of
-items_inv clocks cache mem script lines line e h = by (past_or (is_read_past line) (item_state clocks cache mem script lines) e (choice_line (item_state clocks cache mem script lines) line) h)
+unfolding after_line is_silent heading_of first_line agents_line clocks_line cache_line ahead_line keyword next_word decimal_word decimal_of decimal_within line_ended built is_built choice_line front_line body_line memory_line agent_line agent_of
+items_inv clocks cache mem script lines line e h = by (past_or (is_silent line) (item_state clocks cache mem script lines) e (choice_line (item_state clocks cache mem script lines) line) h)
   where
     by : (item_state clocks cache mem script lines ≡ e) ⊎ (choice_line (item_state clocks cache mem script lines) line ≡ Ok e) → (item_state clocks cache mem script lines ≡ e) ⊎ ItemGave clocks cache mem script lines e
     by (inl same) = inl same
@@ -58,7 +58,7 @@ pub record Ends (clocks cache : ℕ) (mem : List Setting) (p : PlanView) : Type 
   pub same : plan_with clocks cache mem script ≡ p
 
 from_items : (texts : List (List ℕ)) (n clocks cache : ℕ) (mem : List Setting) (script : List Item) (lines : List ℕ) (p : PlanView) → Script cache script lines → plan_from n (item_state clocks cache mem script lines) texts ≡ Ok p → Ends clocks cache mem p
-unfolding after_line is_read_past heading_of first_line agents_line clocks_line cache_line ahead_line keyword next_word decimal_word decimal_of decimal_within ended built is_built choice_line body_line memory_line agent_line agent_of end_of
+unfolding after_line is_silent heading_of first_line agents_line clocks_line cache_line ahead_line keyword next_word decimal_word decimal_of decimal_within line_ended built is_built choice_line front_line body_line memory_line agent_line agent_of plan_at_end
 from_items [] n clocks cache mem script lines p s h = absurd cc
 from_items (line ∷ texts) n clocks cache mem script lines p s h =
     let a = next_line n (item_state clocks cache mem script lines) line texts p h in
@@ -87,14 +87,14 @@ abbrev MemoryGave : ℕ → ℕ → List Setting → Progress → Type 0
 MemoryGave clocks cache mem e = Set clocks cache mem e ⊎ (item_state clocks cache mem [] [] ≡ e)
 
 -- the places of memory and of the script need the words that lead there
-mem_inv : (set : Bool) (clocks cache : ℕ) (mem : List Setting) (rest : List ℕ) (e : Progress) → mem_line (head_state (before_script set) clocks cache mem) rest ≡ Ok e → Set clocks cache mem e
-unfolding after_line is_read_past heading_of first_line agents_line clocks_line cache_line ahead_line keyword next_word decimal_word decimal_of decimal_within ended built is_built choice_line body_line memory_line mem_line memory_of address hex_word hex_of hex_digit bytes_of
+mem_inv : (set : Before) (clocks cache : ℕ) (mem : List Setting) (rest : List ℕ) (e : Progress) → mem_line (head_state (before_script set) clocks cache mem) rest ≡ Ok e → Set clocks cache mem e
+unfolding after_line is_silent heading_of first_line agents_line clocks_line cache_line ahead_line keyword next_word decimal_word decimal_of decimal_within line_ended built is_built choice_line front_line profile_line profile_of body_line memory_line mem_line memory_of address hex_word hex_of hex_digit bytes_of
 mem_inv set clocks cache mem rest e h =
     let a = bind_ok (memory_of rest) _ e h in
     record { addr = a.0.0; bytes = a.0.1; known = memory_is rest a.0 a.1.0; state = state_is (head_state at_memory clocks cache (mem ++ settings_at a.0.0 a.0.1)) e a.1.1 }
 
-agent_inv : (set : Bool) (clocks cache : ℕ) (mem : List Setting) (rest : List ℕ) (e : Progress) → agent_line (head_state (before_script set) clocks cache mem) rest ≡ Ok e → item_state clocks cache mem [] [] ≡ e
-unfolding after_line is_read_past heading_of first_line agents_line clocks_line cache_line ahead_line keyword next_word decimal_word decimal_of decimal_within ended built is_built choice_line body_line memory_line agent_line agent_of
+agent_inv : (set : Before) (clocks cache : ℕ) (mem : List Setting) (rest : List ℕ) (e : Progress) → agent_line (head_state (before_script set) clocks cache mem) rest ≡ Ok e → item_state clocks cache mem [] [] ≡ e
+unfolding after_line is_silent heading_of first_line agents_line clocks_line cache_line ahead_line keyword next_word decimal_word decimal_of decimal_within line_ended built is_built choice_line front_line body_line memory_line agent_line agent_of
 agent_inv set clocks cache mem rest e h =
     let a = bind_ok (agent_of 0 rest) _ e h in
     state_is (item_state clocks cache mem [] []) e a.1.1
@@ -103,7 +103,7 @@ no_bridge : (d : Progress) (rest : List ℕ) (e : Progress) → bridge_line d re
 unfolding bridge_line built is_built
 no_bridge d rest e h = grind arith
 
-memory_inv : (set : Bool) (clocks cache : ℕ) (mem : List Setting) (word rest : List ℕ) (e : Progress) → memory_line (head_state (before_script set) clocks cache mem) word rest ≡ Ok e → MemoryGave clocks cache mem e
+memory_inv : (set : Before) (clocks cache : ℕ) (mem : List Setting) (word rest : List ℕ) (e : Progress) → memory_line (head_state (before_script set) clocks cache mem) word rest ≡ Ok e → MemoryGave clocks cache mem e
 unfolding memory_line
 memory_inv set clocks cache mem word rest e h = by (bytes_eq word (codes "mem")) (bytes_eq word (codes "agent")) h
   where
@@ -112,7 +112,7 @@ memory_inv set clocks cache mem word rest e h = by (bytes_eq word (codes "mem"))
     by false true h = inr (agent_inv set clocks cache mem rest e h)
     by false false h = absurd cc
 
-body_inv : (set : Bool) (clocks cache : ℕ) (mem : List Setting) (word rest : List ℕ) (e : Progress) → body_line (head_state (before_script set) clocks cache mem) word rest ≡ Ok e → MemoryGave clocks cache mem e
+body_inv : (set : Before) (clocks cache : ℕ) (mem : List Setting) (word rest : List ℕ) (e : Progress) → body_line (head_state (before_script set) clocks cache mem) word rest ≡ Ok e → MemoryGave clocks cache mem e
 unfolding body_line
 body_inv set clocks cache mem word rest e h = by (if_ok (bytes_eq word (codes "bridge")) (bridge_line (head_state (before_script set) clocks cache mem) rest) (memory_line (head_state (before_script set) clocks cache mem) word rest) e h)
   where
@@ -120,18 +120,44 @@ body_inv set clocks cache mem word rest e h = by (if_ok (bytes_eq word (codes "b
     by (inl g) = absurd (no_bridge (head_state (before_script set) clocks cache mem) rest e g)
     by (inr g) = memory_inv set clocks cache mem word rest e g
 
-before_inv : (set : Bool) (clocks cache : ℕ) (mem : List Setting) (line : List ℕ) (e : Progress) → after_line (head_state (before_script set) clocks cache mem) line ≡ Ok e → (head_state (before_script set) clocks cache mem ≡ e) ⊎ MemoryGave clocks cache mem e
-unfolding after_line is_read_past heading_of first_line agents_line clocks_line cache_line ahead_line keyword next_word decimal_word decimal_of decimal_within ended built is_built choice_line body_line memory_line mem_line memory_of address hex_word hex_of hex_digit bytes_of
-before_inv true clocks cache mem line e h = by (past_or (is_read_past line) (head_state at_memory clocks cache mem) e (choice_line (head_state at_memory clocks cache mem) line) h)
+-- what a line before the script gave: the lines before it go on, or a setting, or the script begins
+abbrev BeforeGave : ℕ → ℕ → List Setting → Progress → Type 0
+BeforeGave clocks cache mem e = ((set : Before) × (head_state (before_script set) clocks cache mem ≡ e)) ⊎ MemoryGave clocks cache mem e
+
+profile_inv : (clocks cache : ℕ) (mem : List Setting) (rest : List ℕ) (e : Progress) → profile_line (head_state at_profile clocks cache mem) rest ≡ Ok e → head_state at_bridge clocks cache mem ≡ e
+unfolding after_line is_silent heading_of first_line agents_line clocks_line cache_line ahead_line keyword next_word decimal_word decimal_of decimal_within line_ended built is_built choice_line front_line profile_line profile_of
+profile_inv clocks cache mem rest e h =
+    let a = bind_ok (profile_of rest) _ e h in
+    one_is (λ k. record (head_state at_bridge clocks cache mem) { profile = k }) a.0 e a.1.1
+
+front_inv : (clocks cache : ℕ) (mem : List Setting) (word rest : List ℕ) (e : Progress) → front_line (head_state at_profile clocks cache mem) word rest ≡ Ok e → BeforeGave clocks cache mem e
+unfolding front_line
+front_inv clocks cache mem word rest e h = by (if_ok (bytes_eq word (codes "profile")) (profile_line (head_state at_profile clocks cache mem) rest) (body_line (head_state at_profile clocks cache mem) word rest) e h)
   where
-    by : (head_state at_memory clocks cache mem ≡ e) ⊎ (choice_line (head_state at_memory clocks cache mem) line ≡ Ok e) → (head_state at_memory clocks cache mem ≡ e) ⊎ MemoryGave clocks cache mem e
-    by (inl same) = inl same
-    by (inr g) = let a = bind_ok (next_word line) _ e g in inr (memory_inv true clocks cache mem a.0.0 a.0.1 e a.1.1)
-before_inv false clocks cache mem line e h = by (past_or (is_read_past line) (head_state at_bridge clocks cache mem) e (choice_line (head_state at_bridge clocks cache mem) line) h)
+    by : (profile_line (head_state at_profile clocks cache mem) rest ≡ Ok e) ⊎ (body_line (head_state at_profile clocks cache mem) word rest ≡ Ok e) → BeforeGave clocks cache mem e
+    by (inl g) = inl (SomeProfile, profile_inv clocks cache mem rest e g)
+    by (inr g) = inr (body_inv OnlyHead clocks cache mem word rest e g)
+
+choice_inv : (set : Before) (clocks cache : ℕ) (mem : List Setting) (line : List ℕ) (e : Progress) → choice_line (head_state (before_script set) clocks cache mem) line ≡ Ok e → BeforeGave clocks cache mem e
+unfolding after_line is_silent heading_of first_line agents_line clocks_line cache_line ahead_line keyword next_word decimal_word decimal_of decimal_within line_ended built is_built choice_line front_line profile_line profile_of body_line memory_line mem_line memory_of address hex_word hex_of hex_digit bytes_of
+choice_inv OnlyHead clocks cache mem line e h = let a = bind_ok (next_word line) _ e h in front_inv clocks cache mem a.0.0 a.0.1 e a.1.1
+choice_inv SomeProfile clocks cache mem line e h = let a = bind_ok (next_word line) _ e h in inr (body_inv SomeProfile clocks cache mem a.0.0 a.0.1 e a.1.1)
+choice_inv SomeMemory clocks cache mem line e h = let a = bind_ok (next_word line) _ e h in inr (memory_inv SomeMemory clocks cache mem a.0.0 a.0.1 e a.1.1)
+
+-- whichever lines stand before, the line is read past or says which it is
+before_or : (set : Before) (clocks cache : ℕ) (mem : List Setting) (line : List ℕ) (e : Progress) → after_line (head_state (before_script set) clocks cache mem) line ≡ Ok e
+    → (head_state (before_script set) clocks cache mem ≡ e) ⊎ (choice_line (head_state (before_script set) clocks cache mem) line ≡ Ok e)
+unfolding after_line is_silent heading_of first_line agents_line clocks_line cache_line ahead_line keyword next_word decimal_word decimal_of decimal_within line_ended built is_built choice_line front_line profile_line profile_of body_line memory_line mem_line memory_of address hex_word hex_of hex_digit bytes_of
+before_or OnlyHead clocks cache mem line e h = past_or (is_silent line) (head_state at_profile clocks cache mem) e (choice_line (head_state at_profile clocks cache mem) line) h
+before_or SomeProfile clocks cache mem line e h = past_or (is_silent line) (head_state at_bridge clocks cache mem) e (choice_line (head_state at_bridge clocks cache mem) line) h
+before_or SomeMemory clocks cache mem line e h = past_or (is_silent line) (head_state at_memory clocks cache mem) e (choice_line (head_state at_memory clocks cache mem) line) h
+
+before_inv : (set : Before) (clocks cache : ℕ) (mem : List Setting) (line : List ℕ) (e : Progress) → after_line (head_state (before_script set) clocks cache mem) line ≡ Ok e → BeforeGave clocks cache mem e
+before_inv set clocks cache mem line e h = by (before_or set clocks cache mem line e h)
   where
-    by : (head_state at_bridge clocks cache mem ≡ e) ⊎ (choice_line (head_state at_bridge clocks cache mem) line ≡ Ok e) → (head_state at_bridge clocks cache mem ≡ e) ⊎ MemoryGave clocks cache mem e
-    by (inl same) = inl same
-    by (inr g) = let a = bind_ok (next_word line) _ e g in inr (body_inv false clocks cache mem a.0.0 a.0.1 e a.1.1)
+    by : (head_state (before_script set) clocks cache mem ≡ e) ⊎ (choice_line (head_state (before_script set) clocks cache mem) line ≡ Ok e) → BeforeGave clocks cache mem e
+    by (inl same) = inl (set, same)
+    by (inr g) = choice_inv set clocks cache mem line e g
 
 -- what is known of memory
 pub record Lawful (mem : List Setting) : Type 0 where
@@ -152,19 +178,20 @@ pub record Follows (clocks cache : ℕ) (p : PlanView) : Type 0 where
   pub lawful : Lawful mem
   pub ends : Ends clocks cache mem p
 
-pub from_before : (texts : List (List ℕ)) (n : ℕ) (set : Bool) (clocks cache : ℕ) (mem : List Setting) (p : PlanView) → Lawful mem → plan_from n (head_state (before_script set) clocks cache mem) texts ≡ Ok p → Follows clocks cache p
-unfolding after_line is_read_past heading_of first_line agents_line clocks_line cache_line ahead_line keyword next_word decimal_word decimal_of decimal_within ended built is_built choice_line body_line memory_line mem_line memory_of address hex_word hex_of hex_digit bytes_of end_of
-from_before [] n true clocks cache mem p l h = absurd cc
-from_before [] n false clocks cache mem p l h = absurd cc
+pub from_before : (texts : List (List ℕ)) (n : ℕ) (set : Before) (clocks cache : ℕ) (mem : List Setting) (p : PlanView) → Lawful mem → plan_from n (head_state (before_script set) clocks cache mem) texts ≡ Ok p → Follows clocks cache p
+unfolding after_line is_silent heading_of first_line agents_line clocks_line cache_line ahead_line keyword next_word decimal_word decimal_of decimal_within line_ended built is_built choice_line front_line profile_line profile_of body_line memory_line mem_line memory_of address hex_word hex_of hex_digit bytes_of plan_at_end
+from_before [] n OnlyHead clocks cache mem p l h = absurd cc
+from_before [] n SomeProfile clocks cache mem p l h = absurd cc
+from_before [] n SomeMemory clocks cache mem p l h = absurd cc
 from_before (line ∷ texts) n set clocks cache mem p l h =
     let a = next_line n (head_state (before_script set) clocks cache mem) line texts p h in
     by a.0 a.1.1 (λ b m k. from_before texts (n + 1) b clocks cache m p k) (before_inv set clocks cache mem line a.0 a.1.0)
   where
     by : (e : Progress) → plan_from (n + 1) e texts ≡ Ok p
-        → ((b : Bool) (m : List Setting) → Lawful m → plan_from (n + 1) (head_state (before_script b) clocks cache m) texts ≡ Ok p → Follows clocks cache p)
-        → (head_state (before_script set) clocks cache mem ≡ e) ⊎ MemoryGave clocks cache mem e → Follows clocks cache p
-    by e g again (inl same) = again set mem l (subst (λ (d : Progress). plan_from (n + 1) d texts ≡ Ok p) (sym same) g)
-    by e g again (inr (inl m)) = again true (mem ++ settings_at m.addr m.bytes) (memory_push mem m.addr m.bytes l m.known) (subst (λ (d : Progress). plan_from (n + 1) d texts ≡ Ok p) (sym m.state) g)
+        → ((b : Before) (m : List Setting) → Lawful m → plan_from (n + 1) (head_state (before_script b) clocks cache m) texts ≡ Ok p → Follows clocks cache p)
+        → BeforeGave clocks cache mem e → Follows clocks cache p
+    by e g again (inl same) = again same.0 mem l (subst (λ (d : Progress). plan_from (n + 1) d texts ≡ Ok p) (sym same.1) g)
+    by e g again (inr (inl m)) = again SomeMemory (mem ++ settings_at m.addr m.bytes) (memory_push mem m.addr m.bytes l m.known) (subst (λ (d : Progress). plan_from (n + 1) d texts ≡ Ok p) (sym m.state) g)
     by e g again (inr (inr begun)) =
         let empty : Script cache [] [] = record { ones = refl; lawful = refl; few = omega arith; named = refl; apart = refl } in
         record { mem = mem; lawful = l; ends = from_items texts (n + 1) clocks cache mem [] [] p empty (subst (λ (d : Progress). plan_from (n + 1) d texts ≡ Ok p) (sym begun) g) }

@@ -1,24 +1,25 @@
 -- A plan that was read is built: the head, and the whole.
-use Rattle.std.proofs.Common.{◌≡◌, ℕ, ◌+◌, ◌≤◌, true, false, eqb, List, [], ◌∷◌, length, Ok, ◌⊎◌, inl, inr, refl, sym, ap, subst, ◌∙◌}
+use Rattle.std.proofs.Common.{◌≡◌, ℕ, ◌+◌, ◌≤◌, true, List, [], ◌∷◌, length, Ok, ◌⊎◌, inl, inr, refl, sym, ap, subst, ◌∙◌}
 use Rattle.std.specs.Prelude.{◌&&◌, codes, nat_le}
 use Rattle.std.specs.List.{list_all}
-use Rattle.std.proofs.lemmas.Bool.{le-leb, leb-true, eqb-true, and_from, and_parts}
+use Rattle.std.proofs.lemmas.Bool.{le-leb, leb-true, and_from, and_parts}
 use Rattle.fsb_access.specs.declared.access.Setting.{Setting}
 use Rattle.fsb_access.specs.declared.item.Item.{Item}
-use Rattle.fsb_script.specs.declared.fault.Cause.TheVariants.{FirstLine, Range, Unbuilt}
+use Rattle.fsb_script.specs.declared.fault.Cause.TheVariants.{FirstLine, Range}
 use Rattle.fsb_script.specs.Bounds.{is_cache, is_lawful_item, is_lawful_script}
 use Rattle.fsb_script_laws.specs.BuiltPlans.{is_one, has_ones}
-use Rattle.fsb_script.specs.Reading.{◌>>=◌, require}
-use Rattle.fsb_script.specs.Words.{lines_of, is_read_past, next_word, ended, decimal_of, decimal_within}
-use Rattle.fsb_script.specs.Words.{decimal as decimal_word}
+use Rattle.fsb_script.specs.Reading.{require}
+use Rattle.fsb_script.specs.Words.{text_lines, is_silent, next_word, line_ended, decimal_of, decimal_within}
+use Rattle.fsb_script.specs.Words.{decimal_word}
 use Rattle.fsb_script.specs.Statements.{keyword}
 use Rattle.fsb_script.specs.Forms.{is_built, built}
 use Rattle.fsb_script.specs.Plans.{PlanView}
-use Rattle.fsb_script.specs.Drafts.{Progress, beginning, after_line, heading_of, ends_heading, first_line, agents_line, clocks_line, cache_line, ahead_line, end_of, plan_from, plan_of, BenchText}
+use Rattle.fsb_script.specs.Drafts.{Progress, beginning, after_line, heading_of, ends_heading, first_line, agents_line, clocks_line, cache_line, ahead_line, plan_at_end, plan_from, said_plan, BenchText}
 use Rattle.fsb_script_laws.specs.BuiltPlans.{are_apart, has_lines_apart, IsBuiltPlan}
-use Rattle.fsb_script_laws.proofs.HeadLines.{at_agents, at_clocks, at_cache, at_ahead, at_bridge, head_state}
+use Rattle.fsb_script_laws.proofs.HeadLines.{at_agents, at_clocks, at_cache, at_ahead, at_profile, head_state}
+use Rattle.fsb_script_laws.proofs.MemoryLines.{OnlyHead}
 use Rattle.fsb_script_laws.proofs.Scripts.{plan_with}
-use Rattle.fsb_script_laws.proofs.Inverted.{bind_ok, require_ok, state_is, ended_is, within_is}
+use Rattle.fsb_script_laws.proofs.Inverted.{bind_ok, require_ok, state_is, one_is, ended_is, within_is}
 use Rattle.fsb_script_laws.proofs.ReadPlans.{next_line, past_or, Script}
 use Rattle.fsb_script_laws.proofs.ReadBenches.{Ends, Lawful, Follows, from_before}
 
@@ -35,21 +36,13 @@ goes n d e texts p same h = subst (λ (x : Progress). plan_from n x texts ≡ Ok
 
 -- ---- each line of the head
 
--- a number that has to be 1
-one_is : (f : ℕ → Progress) (n : ℕ) (e : Progress) → (require (eqb n 1) Unbuilt n >>= (λ k. Ok (f k))) ≡ Ok e → f 1 ≡ e
-one_is f n e h =
-    let d = bind_ok (require (eqb n 1) Unbuilt n) (λ k. Ok (f k)) e h in
-    let r = require_ok (eqb n 1) Unbuilt n d.0 d.1.0 in
-    let one : 1 ≡ d.0 = sym (eqb-true n 1 r.0) ∙ r.1 in
-    ap f one ∙ state_is (f d.0) e d.1.1
-
-ahead_inv : (clocks cache : ℕ) (line : List ℕ) (e : Progress) → ahead_line (head_state at_ahead clocks cache []) line ≡ Ok e → head_state at_bridge clocks cache [] ≡ e
-unfolding after_line is_read_past heading_of first_line agents_line clocks_line cache_line ahead_line keyword next_word decimal_word decimal_of decimal_within ended built is_built
+ahead_inv : (clocks cache : ℕ) (line : List ℕ) (e : Progress) → ahead_line (head_state at_ahead clocks cache []) line ≡ Ok e → head_state at_profile clocks cache [] ≡ e
+unfolding after_line is_silent heading_of first_line agents_line clocks_line cache_line ahead_line keyword next_word decimal_word decimal_of decimal_within line_ended built is_built
 ahead_inv clocks cache line e h =
     let a = bind_ok (keyword (codes "ahead") line) _ e h in
     let b = bind_ok (decimal_within 1 4 a.0) _ e a.1.1 in
-    let c = bind_ok (ended b.0.0 b.0.1) _ e b.1.1 in
-    one_is (λ k. record (head_state at_bridge clocks cache []) { ahead = k }) c.0 e c.1.1
+    let c = bind_ok (line_ended b.0.0 b.0.1) _ e b.1.1 in
+    one_is (λ k. record (head_state at_profile clocks cache []) { ahead = k }) c.0 e c.1.1
 
 -- the number of cache lines that a line says
 record Counted (clocks : ℕ) (e : Progress) : Type 0 where
@@ -61,13 +54,13 @@ counted : (clocks : ℕ) (b m : ℕ × List ℕ) (n : ℕ) (e : Progress) → is
 counted clocks b m n e lawful same there state = record { cache = n; lawful = subst (λ (k : ℕ). is_cache k ≡ true) (ap (λ (x : ℕ × List ℕ). x.0) same ∙ there) lawful; state = state }
 
 cache_inv : (clocks : ℕ) (line : List ℕ) (e : Progress) → cache_line (head_state at_cache clocks 1 []) line ≡ Ok e → Counted clocks e
-unfolding after_line is_read_past heading_of first_line agents_line clocks_line cache_line keyword next_word decimal_word decimal_of decimal_within ended built is_built
+unfolding after_line is_silent heading_of first_line agents_line clocks_line cache_line keyword next_word decimal_word decimal_of decimal_within line_ended built is_built
 cache_inv clocks line e h =
     let a = bind_ok (keyword (codes "cache") line) _ e h in
     let b = bind_ok (decimal_word a.0) _ e a.1.1 in
     let m = bind_ok (require (is_cache b.0.0) Range b.0) _ e b.1.1 in
     let r = require_ok (is_cache b.0.0) Range b.0 m.0 m.1.0 in
-    let c = bind_ok (ended m.0.0 m.0.1) _ e m.1.1 in
+    let c = bind_ok (line_ended m.0.0 m.0.1) _ e m.1.1 in
     counted clocks b.0 m.0 c.0 e r.0 r.1 (ended_is m.0.0 c.0 m.0.1 c.1.0) (state_is (head_state at_ahead clocks c.0 []) e c.1.1)
 
 -- the number of clocks that a line says
@@ -77,22 +70,22 @@ record Timed (e : Progress) : Type 0 where
   state : head_state at_cache clocks 1 [] ≡ e
 
 clocks_inv : (line : List ℕ) (e : Progress) → clocks_line (head_state at_clocks 0 1 []) line ≡ Ok e → Timed e
-unfolding after_line is_read_past heading_of first_line agents_line clocks_line keyword next_word decimal_word decimal_of decimal_within ended built is_built
+unfolding after_line is_silent heading_of first_line agents_line clocks_line keyword next_word decimal_word decimal_of decimal_within line_ended built is_built
 clocks_inv line e h =
     let a = bind_ok (keyword (codes "clocks") line) _ e h in
     let b = bind_ok (decimal_within 0 200000 a.0) _ e a.1.1 in
-    let c = bind_ok (ended b.0.0 b.0.1) _ e b.1.1 in
+    let c = bind_ok (line_ended b.0.0 b.0.1) _ e b.1.1 in
     let same : b.0.0 ≡ c.0 = ended_is b.0.0 c.0 b.0.1 c.1.0 in
     let within : (nat_le 0 b.0.0 && nat_le b.0.0 200000) ≡ true = within_is 0 200000 a.0 b.0 b.1.0 in
     let most : b.0.0 ≤ 200000 = leb-true b.0.0 200000 (and_parts (nat_le 0 b.0.0) (nat_le b.0.0 200000) within).1 in
     record { clocks = c.0; few = subst (λ (k : ℕ). k ≤ 200000) same most; state = state_is (head_state at_cache c.0 1 []) e c.1.1 }
 
 agents_inv : (line : List ℕ) (e : Progress) → agents_line (head_state at_agents 0 1 []) line ≡ Ok e → head_state at_clocks 0 1 [] ≡ e
-unfolding after_line is_read_past heading_of first_line agents_line keyword next_word decimal_word decimal_of decimal_within ended built is_built
+unfolding after_line is_silent heading_of first_line agents_line keyword next_word decimal_word decimal_of decimal_within line_ended built is_built
 agents_inv line e h =
     let a = bind_ok (keyword (codes "agents") line) _ e h in
     let b = bind_ok (decimal_within 1 4 a.0) _ e a.1.1 in
-    let c = bind_ok (ended b.0.0 b.0.1) _ e b.1.1 in
+    let c = bind_ok (line_ended b.0.0 b.0.1) _ e b.1.1 in
     one_is (λ k. record (head_state at_clocks 0 1 []) { agents = k }) c.0 e c.1.1
 
 first_inv : (line : List ℕ) (e : Progress) → after_line beginning line ≡ Ok e → head_state at_agents 0 1 [] ≡ e
@@ -102,23 +95,23 @@ first_inv line e h = (require_ok (ends_heading (heading_of line)) FirstLine (hea
 -- ---- the text from a line of the head on
 
 from_ahead : (texts : List (List ℕ)) (n clocks cache : ℕ) (p : PlanView) → plan_from n (head_state at_ahead clocks cache []) texts ≡ Ok p → Follows clocks cache p
-unfolding after_line is_read_past heading_of first_line agents_line clocks_line cache_line ahead_line keyword next_word decimal_word decimal_of decimal_within ended built is_built end_of
+unfolding after_line is_silent heading_of first_line agents_line clocks_line cache_line ahead_line keyword next_word decimal_word decimal_of decimal_within line_ended built is_built plan_at_end
 from_ahead [] n clocks cache p h = absurd cc
 from_ahead (line ∷ texts) n clocks cache p h =
     let a = next_line n (head_state at_ahead clocks cache []) line texts p h in
-    by a.0 a.1.1 (λ t. from_ahead texts (n + 1) clocks cache p t) (past_or (is_read_past line) (head_state at_ahead clocks cache []) a.0 (ahead_line (head_state at_ahead clocks cache []) line) a.1.0)
+    by a.0 a.1.1 (λ t. from_ahead texts (n + 1) clocks cache p t) (past_or (is_silent line) (head_state at_ahead clocks cache []) a.0 (ahead_line (head_state at_ahead clocks cache []) line) a.1.0)
   where
     by : (e : Progress) → plan_from (n + 1) e texts ≡ Ok p → (plan_from (n + 1) (head_state at_ahead clocks cache []) texts ≡ Ok p → Follows clocks cache p)
         → (head_state at_ahead clocks cache [] ≡ e) ⊎ (ahead_line (head_state at_ahead clocks cache []) line ≡ Ok e) → Follows clocks cache p
     by e g again (inl same) = again (goes (n + 1) (head_state at_ahead clocks cache []) e texts p same g)
-    by e g again (inr read) = from_before texts (n + 1) false clocks cache [] p (record { below = refl; bytes = refl }) (goes (n + 1) (head_state at_bridge clocks cache []) e texts p (ahead_inv clocks cache line e read) g)
+    by e g again (inr read) = from_before texts (n + 1) OnlyHead clocks cache [] p (record { below = refl; bytes = refl }) (goes (n + 1) (head_state at_profile clocks cache []) e texts p (ahead_inv clocks cache line e read) g)
 
 from_cache : (texts : List (List ℕ)) (n clocks : ℕ) (p : PlanView) → clocks ≤ 200000 → plan_from n (head_state at_cache clocks 1 []) texts ≡ Ok p → Begun p
-unfolding after_line is_read_past heading_of first_line agents_line clocks_line cache_line ahead_line keyword next_word decimal_word decimal_of decimal_within ended built is_built end_of
+unfolding after_line is_silent heading_of first_line agents_line clocks_line cache_line ahead_line keyword next_word decimal_word decimal_of decimal_within line_ended built is_built plan_at_end
 from_cache [] n clocks p few h = absurd cc
 from_cache (line ∷ texts) n clocks p few h =
     let a = next_line n (head_state at_cache clocks 1 []) line texts p h in
-    by a.0 a.1.1 (λ t. from_cache texts (n + 1) clocks p few t) (past_or (is_read_past line) (head_state at_cache clocks 1 []) a.0 (cache_line (head_state at_cache clocks 1 []) line) a.1.0)
+    by a.0 a.1.1 (λ t. from_cache texts (n + 1) clocks p few t) (past_or (is_silent line) (head_state at_cache clocks 1 []) a.0 (cache_line (head_state at_cache clocks 1 []) line) a.1.0)
   where
     by : (e : Progress) → plan_from (n + 1) e texts ≡ Ok p → (plan_from (n + 1) (head_state at_cache clocks 1 []) texts ≡ Ok p → Begun p)
         → (head_state at_cache clocks 1 [] ≡ e) ⊎ (cache_line (head_state at_cache clocks 1 []) line ≡ Ok e) → Begun p
@@ -128,11 +121,11 @@ from_cache (line ∷ texts) n clocks p few h =
         record { clocks = clocks; cache = k.cache; few = few; lawful = k.lawful; follows = from_ahead texts (n + 1) clocks k.cache p (goes (n + 1) (head_state at_ahead clocks k.cache []) e texts p k.state g) }
 
 from_clocks : (texts : List (List ℕ)) (n : ℕ) (p : PlanView) → plan_from n (head_state at_clocks 0 1 []) texts ≡ Ok p → Begun p
-unfolding after_line is_read_past heading_of first_line agents_line clocks_line keyword next_word decimal_word decimal_of decimal_within ended built is_built end_of
+unfolding after_line is_silent heading_of first_line agents_line clocks_line keyword next_word decimal_word decimal_of decimal_within line_ended built is_built plan_at_end
 from_clocks [] n p h = absurd cc
 from_clocks (line ∷ texts) n p h =
     let a = next_line n (head_state at_clocks 0 1 []) line texts p h in
-    by a.0 a.1.1 (λ t. from_clocks texts (n + 1) p t) (past_or (is_read_past line) (head_state at_clocks 0 1 []) a.0 (clocks_line (head_state at_clocks 0 1 []) line) a.1.0)
+    by a.0 a.1.1 (λ t. from_clocks texts (n + 1) p t) (past_or (is_silent line) (head_state at_clocks 0 1 []) a.0 (clocks_line (head_state at_clocks 0 1 []) line) a.1.0)
   where
     by : (e : Progress) → plan_from (n + 1) e texts ≡ Ok p → (plan_from (n + 1) (head_state at_clocks 0 1 []) texts ≡ Ok p → Begun p)
         → (head_state at_clocks 0 1 [] ≡ e) ⊎ (clocks_line (head_state at_clocks 0 1 []) line ≡ Ok e) → Begun p
@@ -142,11 +135,11 @@ from_clocks (line ∷ texts) n p h =
         from_cache texts (n + 1) k.clocks p k.few (goes (n + 1) (head_state at_cache k.clocks 1 []) e texts p k.state g)
 
 from_agents : (texts : List (List ℕ)) (n : ℕ) (p : PlanView) → plan_from n (head_state at_agents 0 1 []) texts ≡ Ok p → Begun p
-unfolding after_line is_read_past heading_of first_line agents_line keyword next_word decimal_word decimal_of decimal_within ended built is_built end_of
+unfolding after_line is_silent heading_of first_line agents_line keyword next_word decimal_word decimal_of decimal_within line_ended built is_built plan_at_end
 from_agents [] n p h = absurd cc
 from_agents (line ∷ texts) n p h =
     let a = next_line n (head_state at_agents 0 1 []) line texts p h in
-    by a.0 a.1.1 (λ t. from_agents texts (n + 1) p t) (past_or (is_read_past line) (head_state at_agents 0 1 []) a.0 (agents_line (head_state at_agents 0 1 []) line) a.1.0)
+    by a.0 a.1.1 (λ t. from_agents texts (n + 1) p t) (past_or (is_silent line) (head_state at_agents 0 1 []) a.0 (agents_line (head_state at_agents 0 1 []) line) a.1.0)
   where
     by : (e : Progress) → plan_from (n + 1) e texts ≡ Ok p → (plan_from (n + 1) (head_state at_agents 0 1 []) texts ≡ Ok p → Begun p)
         → (head_state at_agents 0 1 [] ≡ e) ⊎ (agents_line (head_state at_agents 0 1 []) line ≡ Ok e) → Begun p
@@ -154,7 +147,7 @@ from_agents (line ∷ texts) n p h =
     by e g again (inr read) = from_clocks texts (n + 1) p (goes (n + 1) (head_state at_clocks 0 1 []) e texts p (agents_inv line e read) g)
 
 from_first : (texts : List (List ℕ)) (p : PlanView) → plan_from 1 beginning texts ≡ Ok p → Begun p
-unfolding end_of
+unfolding plan_at_end
 from_first [] p h = absurd cc
 from_first (line ∷ texts) p h =
     let a = next_line 1 beginning line texts p h in
@@ -167,6 +160,7 @@ unfolding is_lawful_script has_ones
 plan_built clocks cache mem script lines few lawful m s = record {
   one_script = refl;
   ahead_by_one = refl;
+  first_profile = refl;
   no_bridge = refl;
   no_hazards = refl;
   few_clocks = few;
@@ -179,9 +173,9 @@ plan_built clocks cache mem script lines few lawful m s = record {
 }
 
 pub read_is_built : (text : List ℕ) (p : PlanView) → BenchText text p → IsBuiltPlan p
-unfolding plan_of
+unfolding said_plan
 read_is_built text p h =
-    let b : Begun p = from_first (lines_of text) p h in
+    let b : Begun p = from_first (text_lines text) p h in
     let f : Follows b.clocks b.cache p = b.follows in
     let s : Ends b.clocks b.cache f.mem p = f.ends in
     subst (λ (q : PlanView). IsBuiltPlan q) s.same (plan_built b.clocks b.cache f.mem s.script s.lines b.few b.lawful f.lawful s.known)

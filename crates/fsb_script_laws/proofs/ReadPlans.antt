@@ -17,11 +17,11 @@ use Rattle.fsb_script.specs.Bounds.{is_apart, is_lawful_item}
 use Rattle.fsb_script_laws.specs.BuiltPlans.{is_one}
 use Rattle.fsb_script.specs.Named.{first_in, is_other, has_other}
 use Rattle.fsb_script.specs.Reading.{◌>>=◌}
-use Rattle.fsb_script.specs.Words.{is_read_past, next_word, ended}
+use Rattle.fsb_script.specs.Words.{is_silent, next_word, line_ended}
 use Rattle.fsb_script.specs.Statements.{load_of, store_of}
 use Rattle.fsb_script.specs.Forms.{is_built, built, built_if}
 use Rattle.fsb_script.specs.Plans.{PlanView}
-use Rattle.fsb_script.specs.Drafts.{Progress, after_line, choice_line, room, load_item, store_item, idle_item, lock_item, one_item, named_line, end_line, place_behind, hazard_line, transaction_line, block_line, add_hazard, end_of, on_line, plan_from}
+use Rattle.fsb_script.specs.Drafts.{Progress, after_line, choice_line, room, load_item, store_item, idle_item, lock_item, one_item, named_line, end_line, place_behind, hazard_line, transaction_line, block_line, add_hazard, plan_at_end, on_line, plan_from}
 use Rattle.fsb_script_laws.specs.BuiltPlans.{lines_of_item, lines_named, are_apart}
 use Rattle.fsb_script_laws.proofs.MemoryLines.{item_state}
 use Rattle.fsb_script_laws.proofs.Scripts.{plan_with}
@@ -51,15 +51,15 @@ no_hazard_line d word rest e h = grind arith
 
 final_inv : (clocks cache : ℕ) (mem : List Setting) (script : List Item) (lines line : List ℕ) (e : Progress) → after_line (final_state clocks cache mem script lines) line ≡ Ok e → final_state clocks cache mem script lines ≡ e
 unfolding after_line choice_line
-final_inv clocks cache mem script lines line e h = by (past_or (is_read_past line) (final_state clocks cache mem script lines) e (choice_line (final_state clocks cache mem script lines) line) h)
+final_inv clocks cache mem script lines line e h = by (past_or (is_silent line) (final_state clocks cache mem script lines) e (choice_line (final_state clocks cache mem script lines) line) h)
   where
     by : (final_state clocks cache mem script lines ≡ e) ⊎ (choice_line (final_state clocks cache mem script lines) line ≡ Ok e) → final_state clocks cache mem script lines ≡ e
     by (inl same) = same
     by (inr g) = let a = bind_ok (next_word line) _ e g in absurd (no_hazard_line (final_state clocks cache mem script lines) a.0.0 a.0.1 e a.1.1)
 
 pub from_final : (texts : List (List ℕ)) (n clocks cache : ℕ) (mem : List Setting) (script : List Item) (lines : List ℕ) (p : PlanView) → plan_from n (final_state clocks cache mem script lines) texts ≡ Ok p → plan_with clocks cache mem script ≡ p
-unfolding end_of
-from_final [] n clocks cache mem script lines p h = ok_same (plan_with clocks cache mem script) p (end_of n (final_state clocks cache mem script lines)) refl h
+unfolding plan_at_end
+from_final [] n clocks cache mem script lines p h = ok_same (plan_with clocks cache mem script) p (plan_at_end n (final_state clocks cache mem script lines)) refl h
 from_final (line ∷ texts) n clocks cache mem script lines p h =
     let a = next_line n (final_state clocks cache mem script lines) line texts p h in
     from_final texts (n + 1) clocks cache mem script lines p (subst (λ (d : Progress). plan_from (n + 1) d texts ≡ Ok p) (sym (final_inv clocks cache mem script lines line a.0 a.1.0)) a.1.1)
@@ -186,5 +186,5 @@ no_lock d rest e h = grind arith
 pub end_inv : (clocks cache : ℕ) (mem : List Setting) (script : List Item) (lines rest : List ℕ) (e : Progress) → end_line (item_state clocks cache mem script lines) rest ≡ Ok e → final_state clocks cache mem script lines ≡ e
 unfolding end_line
 end_inv clocks cache mem script lines rest e h =
-    let a = bind_ok (ended (item_state clocks cache mem script lines) rest) _ e h in
+    let a = bind_ok (line_ended (item_state clocks cache mem script lines) rest) _ e h in
     state_is (final_state clocks cache mem script lines) e a.1.1

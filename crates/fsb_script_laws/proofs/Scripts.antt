@@ -14,12 +14,12 @@ use Rattle.fsb_access.specs.Access.{accessed_line, is_place, fits, number_of, is
 use Rattle.fsb_script.specs.Bounds.{is_apart, is_lawful_item}
 use Rattle.fsb_script_laws.specs.BuiltPlans.{is_one}
 use Rattle.fsb_script.specs.Named.{first_in, is_other, has_other}
-use Rattle.fsb_script.specs.Words.{is_read_past, next_word, ended, decimal_of, decimal_within}
-use Rattle.fsb_script.specs.Words.{decimal as decimal_word}
+use Rattle.fsb_script.specs.Words.{is_silent, next_word, line_ended, decimal_of, decimal_within}
+use Rattle.fsb_script.specs.Words.{decimal_word}
 use Rattle.fsb_script.specs.Statements.{keyword, agent_of}
 use Rattle.fsb_script.specs.Forms.{is_built, built, built_if}
 use Rattle.fsb_script.specs.Plans.{PlanView}
-use Rattle.fsb_script.specs.Drafts.{after_line, heading_of, first_line, agents_line, clocks_line, cache_line, ahead_line, choice_line, body_line, memory_line, agent_line, item_line, load_item, store_item, one_item, named_line, end_line, end_of}
+use Rattle.fsb_script.specs.Drafts.{after_line, heading_of, first_line, agents_line, clocks_line, cache_line, ahead_line, choice_line, front_line, body_line, memory_line, agent_line, item_line, load_item, store_item, one_item, named_line, end_line, plan_at_end}
 use Rattle.fsb_script.specs.Text.{access_text, item_text, items_text}
 use Rattle.fsb_script_laws.specs.BuiltPlans.{lines_named, are_apart}
 use Rattle.fsb_script_laws.proofs.Split.{GoesOn, goes_on}
@@ -62,7 +62,7 @@ clear_more cache line later earlier clear apart =
 access_taken : (access : Access) (clocks cache : ℕ) (mem : List Setting) (script : List Item) (lines : List ℕ)
     → is_lawful_access access ≡ true → length script < 4096 → is_other (accessed_line access) (first_in cache (accessed_line access % cache) lines) ≡ false
     → after_line (item_state clocks cache mem script lines) (access_line access) ≡ Ok (item_state clocks cache mem (script ++ One access ∷ []) (lines ++ accessed_line access ∷ []))
-unfolding after_line is_read_past heading_of first_line agents_line clocks_line cache_line ahead_line keyword next_word decimal_word decimal_of decimal_within ended built is_built built_if choice_line body_line memory_line agent_line agent_of item_line load_item store_item one_item named_line has_other
+unfolding after_line is_silent heading_of first_line agents_line clocks_line cache_line ahead_line keyword next_word decimal_word decimal_of decimal_within line_ended built is_built built_if choice_line front_line body_line memory_line agent_line agent_of item_line load_item store_item one_item named_line has_other
 access_taken (Load size addr) clocks cache mem script lines lawful room alone =
     rw (lt-ltb (length script) 4096 room) (rw (load_back size addr (place_is size addr lawful)) (rw alone refl))
 access_taken (Store size addr value) clocks cache mem script lines lawful room alone =
@@ -106,8 +106,8 @@ items_go_on (Idle n ∷ items) clocks cache mem script lines rest p ones lawful 
 
 -- the plan of one script, with built forms alone
 abbrev pub plan_with : ℕ → ℕ → List Setting → List Item → PlanView
-plan_with clocks cache mem script = record { scripts = script ∷ []; clocks = clocks; cache = cache; ahead = 1; bridge = None; mem = mem; hazards = [] }
+plan_with clocks cache mem script = record { scripts = script ∷ []; clocks = clocks; cache = cache; ahead = 1; profile = 1; bridge = None; mem = mem; hazards = [] }
 
 pub script_ends : (clocks cache : ℕ) (mem : List Setting) (script : List Item) (lines : List ℕ) → GoesOn (item_state clocks cache mem script lines) (codes "end" ++ (10 ∷ [])) (plan_with clocks cache mem script)
-unfolding after_line is_read_past heading_of first_line agents_line clocks_line cache_line ahead_line keyword next_word decimal_word decimal_of decimal_within ended built is_built built_if choice_line body_line memory_line agent_line agent_of item_line end_line end_of
+unfolding after_line is_silent heading_of first_line agents_line clocks_line cache_line ahead_line keyword next_word decimal_word decimal_of decimal_within line_ended built is_built built_if choice_line front_line body_line memory_line agent_line agent_of item_line end_line plan_at_end
 script_ends clocks cache mem script lines number = refl

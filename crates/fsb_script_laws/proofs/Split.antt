@@ -8,8 +8,8 @@ use Rattle.std.proofs.lemmas.List.{append-nil}
 use Rattle.std.proofs.lemmas.List.Folds.{list_all-append}
 use Rattle.std.proofs.Math.Seq.{take-append_seam, drop-append_seam}
 use Rattle.fsb_io.specs.NumberText.{hexadecimal}
-use Rattle.fsb_script.specs.Words.{lines_of, is_blank, word_len, next_word}
-use Rattle.fsb_script.specs.Words.{decimal as decimal_word, hexadecimal as hex_word}
+use Rattle.fsb_script.specs.Words.{text_lines, is_blank, word_len, next_word}
+use Rattle.fsb_script.specs.Words.{decimal_word, hex_word}
 use Rattle.fsb_script.specs.declared.fault.Cause.{Cause}
 use Rattle.fsb_script.specs.Text.{digit_text}
 use Rattle.fsb_script.specs.Plans.{PlanView}
@@ -111,7 +111,7 @@ decimal_inner n below = plain_inner (decimal n) (figures_plain (decimal n) (deci
 pub hex_inner : (n : ℕ) → n < 16 ^ 16 → list_all is_inner (hexadecimal n) ≡ true
 hex_inner n below = plain_inner (hexadecimal n) (figures_plain (hexadecimal n) (hex_figures 15 n (omega arith) below).all)
 
-pub first_line_is : (line rest : List ℕ) → list_all is_inner line ≡ true → lines_of (line ++ (10 ∷ rest)) ≡ line ∷ lines_of rest
+pub first_line_is : (line rest : List ℕ) → list_all is_inner line ≡ true → text_lines (line ++ (10 ∷ rest)) ≡ line ∷ text_lines rest
 first_line_is [] rest inner = refl
 first_line_is (b ∷ bs) rest inner =
     let here : 31 < b = ltb-true 31 b (and_parts (is_inner b) (list_all is_inner bs) inner).0 in
@@ -119,7 +119,7 @@ first_line_is (b ∷ bs) rest inner =
 
 -- the text goes on from there to the plan, whatever its first line's number
 abbrev pub GoesOn : Progress → List ℕ → PlanView → Type 0
-GoesOn d text p = (number : ℕ) → plan_from number d (lines_of text) ≡ Ok p
+GoesOn d text p = (number : ℕ) → plan_from number d (text_lines text) ≡ Ok p
 
 pub goes_on : (d e : Progress) (line rest : List ℕ) (p : PlanView) → list_all is_inner line ≡ true → after_line d line ≡ Ok e → GoesOn e rest p → GoesOn d (line ++ (10 ∷ rest)) p
 goes_on d e line rest p inner taken then_ number = rw (first_line_is line rest inner) (rw taken (then_ (number + 1)))

@@ -48,6 +48,8 @@ pub record IsBuiltPlan (p : PlanView) : Type 0 where
   pub one_script : length p.scripts ≡ 1
   -- it has one request outstanding at most
   pub ahead_by_one : p.ahead ≡ 1
+  -- the bus has the first profile
+  pub first_profile : p.profile ≡ 1
   -- no address is deferred
   pub no_bridge : p.bridge ≡ None
   -- nothing is held back

@@ -8,7 +8,7 @@ ghost use Rattle.std.specs.Prelude.{◌≡◌, ℕ, ◌<◌, ◌≤◌, ◌/◌,
 ghost use Rattle.std.specs.Fmt.{decimal};
 ghost use Rattle.fsb_io.specs.NumberText.{hexadecimal};
 ghost use Rattle.fsb_script.specs.Words.{decimal_of, hex_of};
-ghost use Rattle.fsb_script.specs.Statements.{bytes_of, memory_of, window_of, load_of, store_of, idle_of, transaction_of, block_of};
+ghost use Rattle.fsb_script.specs.Statements.{bytes_of, memory_of, profile_of, window_of, load_of, store_of, idle_of, transaction_of, block_of};
 ghost use Rattle.fsb_script.specs.Bounds.{is_lawful_setting, is_lawful_window, is_lawful_hazard};
 ghost use Rattle.fsb_script.specs.declared.plan.Window.{Window};
 ghost use Rattle.fsb_access.specs.declared.access.Access.TheVariants.{Load, Store};
@@ -17,11 +17,11 @@ ghost use Rattle.fsb_access.specs.declared.access.Setting.{Setting};
 ghost use Rattle.fsb_access.specs.Access.{is_lawful_access};
 ghost use Rattle.fsb_hazard.specs.declared.line.HazardLine.{HazardLine};
 ghost use Rattle.fsb_hazard.specs.declared.line.HazardLine.TheVariants.{Bnr};
-ghost use Rattle.fsb_script.specs.Text.{digit_text, setting_text, window_text, access_text, idle_text, hazard_text, bench_text};
+ghost use Rattle.fsb_script.specs.Text.{digit_text, setting_text, profile_text, window_text, access_text, idle_text, hazard_text, bench_text};
 ghost use Rattle.fsb_script.specs.Plans.{PlanView};
 ghost use Rattle.fsb_script.specs.Drafts.{BenchText};
 ghost use Rattle.fsb_script_laws.specs.BuiltPlans.{IsBuiltPlan, is_byte_setting};
-ghost use Rattle.fsb_script_laws.specs.LineTexts.{IsLineOf, is_of_request};
+ghost use Rattle.fsb_script_laws.specs.LineTexts.{IsLineOf, is_of_one_request};
 
 /// Numbers read back: decimals below 10^18, hexadecimals below 2^64, and the two digits of a byte of memory.
 pub fn numbers_read_back()
@@ -30,15 +30,16 @@ pub fn numbers_read_back()
     ensures bytes { (n : ℕ) → n < 256 → bytes_of (digit_text (n / 16) ∷ digit_text (n % 16) ∷ []) ≡ Ok (n ∷ []) }
 {}
 
-/// Each line reads back, within the bounds of its numbers, whether or not its form is built: memory, the bridge, loads,
-/// stores, idle clocks, and hazards of a request and of a span of clocks.
+/// Each line reads back, within the bounds of its numbers, whether or not its form is built: memory, the
+/// profile, the bridge, loads, stores, idle clocks, and hazards of a request and of a span of clocks.
 pub fn lines_read_back()
     ensures memory { (s : Setting) → IsTrue (is_lawful_setting s) → IsTrue (is_byte_setting s) → IsLineOf (codes "mem") memory_of (setting_text s) (s.addr, s.byte ∷ []) }
+    ensures profile { IsLineOf (codes "profile") profile_of (profile_text 2) 2 }
     ensures bridge { (w : Window) → IsTrue (is_lawful_window w) → IsLineOf (codes "bridge") window_of (window_text w) w }
     ensures loads { (size addr : ℕ) → IsTrue (is_lawful_access (Load size addr)) → IsLineOf (codes "ld") load_of (access_text (Load size addr)) (Load size addr) }
     ensures stores { (size addr : ℕ) (value : Operand) → IsTrue (is_lawful_access (Store size addr value)) → IsLineOf (codes "st") store_of (access_text (Store size addr value)) (Store size addr value) }
     ensures idle_clocks { (n : ℕ) → 1 ≤ n → n ≤ 200000 → IsLineOf (codes "idle") idle_of (idle_text n) n }
-    ensures transactions { (h : HazardLine) → IsTrue (is_of_request h) → IsTrue (is_lawful_hazard h) → IsLineOf (codes "tx") transaction_of (hazard_text h) h }
+    ensures transactions { (h : HazardLine) → IsTrue (is_of_one_request h) → IsTrue (is_lawful_hazard h) → IsLineOf (codes "tx") transaction_of (hazard_text h) h }
     ensures blocks { (from to : ℕ) → IsTrue (is_lawful_hazard (Bnr from to)) → IsLineOf (codes "bnr") block_of (hazard_text (Bnr from to)) (Bnr from to) }
 {}
 
@@ -48,7 +49,7 @@ pub fn canonical_text_reads_back()
     ensures own_text { (p q : PlanView) → IsBuiltPlan p → IsBuiltPlan q → bench_text p ≡ bench_text q → p ≡ q }
 {}
 
-/// Each plan that a bench file says is one of built forms within the bounds: one script, looking ahead by 1, no bridge,
+/// Each plan that a bench file says is one of built forms within the bounds: one script, looking ahead by 1, profile 1, no bridge,
 /// no hazard lines, single accesses alone, and no two of a script's lines in one cache set. So reading and writing any
 /// bench file gives a text of the same plan.
 pub fn plans_that_were_read_are_built()

@@ -1,9 +1,11 @@
 -- Texts of dumps, written out, and that the definition of the text gives them.
-use Rattle.std.specs.Prelude.{◌≡◌, ◌++◌, [], List, ℕ, codes}
+use Rattle.std.specs.Prelude.{◌≡◌, ◌++◌, ◌+◌, ◌||◌, true, false, [], List, ℕ, codes}
 use Rattle.std.specs.Fmt.{digits}
+use Rattle.std.specs.Int.Count.{ones}
 use Rattle.std.proofs.Common.{refl}
 use Rattle.fsb_signal.specs.declared.sample.Sample.{Sample}
 use Rattle.fsb_signal.specs.Samples.{known_sample}
+use Rattle.fsb_signal.specs.Parity.{is_address_odd, is_request_odd}
 use Rattle.fsb_signal.specs.DumpText.{header_text, clock_text, dump_text, texts_from, range_text, declaration_text, change_text, value_text, value_of}
 
 -- the dump of no samples
@@ -58,7 +60,7 @@ no_samples =
     ++ codes "b1111111111111111111111111111111111111111111111111111111111111111 4\n"
     ++ codes "$end\n"
 
-pub dump_text-none : dump_text [] ≡ no_samples
+pub dump_text-none : dump_text 1 [] ≡ no_samples
 unfolding digits texts_from dump_text header_text declaration_text range_text value_text value_of no_samples
 dump_text-none = refl
 
@@ -72,7 +74,7 @@ first_clock = known_sample 129 6 8 0
 abbrev second_clock : Sample
 second_clock = known_sample 0 2 2 0
 
-pub clock_text-first : clock_text 2 asks first_clock ≡
+pub clock_text-first : clock_text 1 2 asks first_clock ≡
     (codes "#20\n"
     ++ codes "0!\n"
     ++ codes "0)\n"
@@ -83,7 +85,7 @@ pub clock_text-first : clock_text 2 asks first_clock ≡
 unfolding digits texts_from clock_text change_text value_text value_of
 clock_text-first = refl
 
-pub clock_text-second : clock_text 3 first_clock second_clock ≡
+pub clock_text-second : clock_text 1 3 first_clock second_clock ≡
     (codes "#30\n"
     ++ codes "0!\n"
     ++ codes "1\"\n"
@@ -94,3 +96,59 @@ pub clock_text-second : clock_text 3 first_clock second_clock ≡
     ++ codes "1!\n")
 unfolding digits texts_from clock_text change_text value_text value_of
 clock_text-second = refl
+
+-- the same two clocks in profile 2, with the parity of a load of address 40: an odd number of lines is asserted of the
+-- low address, and of ADS# and the request, in the first clock; and of each of the two in the second
+abbrev first_clock_even : Sample
+first_clock_even = known_sample (129 + 262144 + 1048576) 6 8 0
+
+abbrev second_clock_even : Sample
+second_clock_even = known_sample (262144 + 1048576) 2 2 0
+
+pub parity_text-first : clock_text 2 2 asks first_clock_even ≡
+    (codes "#20\n"
+    ++ codes "0!\n"
+    ++ codes "0)\n"
+    ++ codes "b11001 *\n"
+    ++ codes "b111111111111111111111111111110111 +\n"
+    ++ codes "b10 5\n"
+    ++ codes "06\n"
+    ++ codes "#25\n"
+    ++ codes "1!\n")
+unfolding digits texts_from clock_text change_text value_text value_of
+parity_text-first = refl
+
+pub parity_text-second : clock_text 2 3 first_clock_even second_clock_even ≡
+    (codes "#30\n"
+    ++ codes "0!\n"
+    ++ codes "1\"\n"
+    ++ codes "1)\n"
+    ++ codes "b11101 *\n"
+    ++ codes "b111111111111111111111111111111101 +\n"
+    ++ codes "#35\n"
+    ++ codes "1!\n")
+unfolding digits texts_from clock_text change_text value_text value_of
+parity_text-second = refl
+
+pub parity_text-third : clock_text 2 4 second_clock_even (known_sample 0 0 0 0) ≡
+    (codes "#40\n"
+    ++ codes "0!\n"
+    ++ codes "b11111 *\n"
+    ++ codes "b111111111111111111111111111111111 +\n"
+    ++ codes "b11 5\n"
+    ++ codes "16\n"
+    ++ codes "#45\n"
+    ++ codes "1!\n")
+unfolding digits texts_from clock_text change_text value_text value_of
+parity_text-third = refl
+
+-- what is declared in profile 2 alone
+pub parity-declared : texts_from declaration_text 20 2 ≡ (codes "$var wire 2 5 AP_n [1:0] $end\n" ++ codes "$var wire 1 6 RP_n $end\n")
+unfolding digits texts_from declaration_text range_text
+parity-declared = refl
+
+-- the counts of these clocks are even, and odd without the parity lines
+pub parity-even : ((is_address_odd first_clock_even || is_request_odd first_clock_even || is_address_odd second_clock_even || is_request_odd second_clock_even) ≡ false)
+    × (is_address_odd first_clock ≡ true) × (is_request_odd first_clock ≡ true) × (is_request_odd second_clock ≡ true)
+unfolding is_address_odd is_request_odd ones
+parity-even = (refl, refl, refl, refl)

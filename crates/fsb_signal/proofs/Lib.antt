@@ -4,3 +4,4 @@ pub mod LineFacts
 pub mod AtClock
 pub mod Texts
 pub mod DumpExamples
+pub mod Interface

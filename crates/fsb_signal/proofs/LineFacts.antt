@@ -12,7 +12,7 @@ pub joined-others : (lines line other : ℕ) → bit_and line other ≡ 0 → (b
 joined-others lines line other apart = ap (λ n. n == other) (and_or_apart other lines line apart)
 
 -- a set that is joined to another has no bit above those of both
-pub joined-within : (lines more : ℕ) → lines < 2 ^ 18 → more < 2 ^ 18 → bit_or lines more < 2 ^ 18
-joined-within lines more h k = or_lt 18 lines more h k
+pub joined-within : (lines more : ℕ) → lines < 2 ^ 21 → more < 2 ^ 21 → bit_or lines more < 2 ^ 21
+joined-within lines more h k = or_lt 21 lines more h k
 
 pub ruleset joining = (joined, joined-others, joined-within)

@@ -6,10 +6,10 @@ use Rattle.std.proofs.lemmas.Bool.{ltb-false}
 use Rattle.std.proofs.lemmas.Option.{slice_get-get_or}
 use Rattle.std.proofs.lemmas.List.Quantifiers.{position-Some}
 use Rattle.std.proofs.lemmas.List.Sums.{fails_before_first}
-use Rattle.fsb_signal.specs.Table.{Entry, table, needed, signal_number}
+use Rattle.fsb_signal.specs.Table.{TableEntry, table, needed, signal_number}
 
 -- the entry's name is this one
-abbrev is_named : List ℕ → Entry → Bool
+abbrev is_named : List ℕ → TableEntry → Bool
 is_named name e = pointwise nat_eq e.name name
 
 -- the entry that has a name's number has that name

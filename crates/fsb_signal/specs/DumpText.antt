@@ -1,10 +1,11 @@
--- The text of a written dump: a value change dump of a list of samples.
+-- The text of a written dump: a value change dump of a list of samples, in profile 1 or 2. Profile 2 has the parity
+-- lines too, the last two entries of the table.
 use Rattle.std.specs.Prelude.{ℕ, ◌+◌, ◌-◌, ◌*◌, ◌==◌, if◌then◌else◌, suc, zero, List, [], ◌∷◌, ◌++◌, codes, decimal, slice_get, slice_index}
 use Rattle.std.specs.Int.{bit_at}
 use Rattle.std.specs.Option.{option_map_or}
-use Rattle.fsb_signal.specs.declared.lines.TheConstants.Lines.{BREQ0, BREQ1, BREQ2, BREQ3, BPRI, LOCK, BNR, ADS, AERR, HIT, HITM, DEFER, TRDY, DBSY, DRDY}
+use Rattle.fsb_signal.specs.declared.lines.TheConstants.Lines.{BREQ0, BREQ1, BREQ2, BREQ3, BPRI, LOCK, BNR, ADS, AERR, HIT, HITM, DEFER, TRDY, DBSY, DRDY, RP}
 use Rattle.fsb_signal.specs.declared.sample.Sample.{Sample}
-use Rattle.fsb_signal.specs.Samples.{bit_of, response_of, idle}
+use Rattle.fsb_signal.specs.Samples.{bit_of, response_of, address_parity_of, idle}
 use Rattle.fsb_signal.specs.Table.{table}
 
 -- the texts f from, f (from + 1) and so on, n of them, one after another
@@ -12,9 +13,13 @@ unfoldable pub texts_from : (ℕ → List ℕ) → ℕ → ℕ → List ℕ
 texts_from f from zero = []
 texts_from f from (suc n) = texts_from f from n ++ f (from + n)
 
+-- how many entries of the table a dump of this profile has
+abbrev pub entries_in : ℕ → ℕ
+entries_in profile = if profile == 2 then 22 else 20
+
 -- the code of an entry in a dump: one printable byte, from 33 on
-abbrev pub code_of : ℕ → ℕ
-code_of number = 33 + number
+abbrev pub dump_code_of : ℕ → ℕ
+dump_code_of number = 33 + number
 
 -- how many lines the entry of this number has
 abbrev pub width_of : ℕ → ℕ
@@ -29,7 +34,8 @@ abbrev pub values_of : Sample → List ℕ
 values_of s =
     0 ∷ bit_of s BREQ0 ∷ bit_of s BREQ1 ∷ bit_of s BREQ2 ∷ bit_of s BREQ3 ∷ bit_of s BPRI ∷ bit_of s LOCK
     ∷ bit_of s BNR ∷ bit_of s ADS ∷ s.req.bits ∷ s.addr.bits ∷ bit_of s AERR ∷ bit_of s HIT ∷ bit_of s HITM
-    ∷ bit_of s DEFER ∷ response_of s ∷ bit_of s TRDY ∷ bit_of s DBSY ∷ bit_of s DRDY ∷ s.dbus.bits ∷ []
+    ∷ bit_of s DEFER ∷ response_of s ∷ bit_of s TRDY ∷ bit_of s DBSY ∷ bit_of s DRDY ∷ s.dbus.bits
+    ∷ address_parity_of s ∷ bit_of s RP ∷ []
 
 -- what a sample asserts on the entry of this number
 unfoldable pub value_of : Sample → ℕ → ℕ
@@ -47,8 +53,8 @@ digits_of (suc width) value = digit_of (bit_at value width) ∷ digits_of width 
 -- a line of a value: of a single line its digit and code; of a word `b`, all its digits, a space and the code
 unfoldable pub value_text : ℕ → ℕ → List ℕ
 value_text number value =
-    if width_of number == 1 then digits_of 1 value ++ code_of number ∷ 10 ∷ []
-    else codes "b" ++ digits_of (width_of number) value ++ codes " " ++ code_of number ∷ 10 ∷ []
+    if width_of number == 1 then digits_of 1 value ++ dump_code_of number ∷ 10 ∷ []
+    else codes "b" ++ digits_of (width_of number) value ++ codes " " ++ dump_code_of number ∷ 10 ∷ []
 
 -- the number of the lowest line of an entry; the address begins with A3
 abbrev pub lowest_of : ℕ → ℕ
@@ -65,7 +71,7 @@ range_text number =
 -- the line that declares an entry
 unfoldable pub declaration_text : ℕ → List ℕ
 declaration_text number =
-    codes "$var wire " ++ decimal (width_of number) ++ codes " " ++ code_of number ∷ [] ++ codes " "
+    codes "$var wire " ++ decimal (width_of number) ++ codes " " ++ dump_code_of number ∷ [] ++ codes " "
     ++ name_of number ++ codes " " ++ range_text number ++ codes "$end\n"
 
 -- the value of an entry of a sample
@@ -78,31 +84,33 @@ change_text before now number =
     if value_of before number == value_of now number then [] else sample_value_text now number
 
 -- the text up to the end of the first block of values: the declarations, and the first sample with BCLK at 0
-unfoldable pub header_text : Sample → List ℕ
-header_text first =
+unfoldable pub header_text : ℕ → Sample → List ℕ
+header_text profile first =
     codes "$version p6bench 1 $end\n$timescale 1 ns $end\n$scope module fsb $end\n"
-    ++ texts_from declaration_text 0 20
+    ++ texts_from declaration_text 0 (entries_in profile)
     ++ codes "$upscope $end\n$enddefinitions $end\n#0\n$dumpvars\n0!\n"
-    ++ texts_from (sample_value_text first) 1 19
+    ++ texts_from (sample_value_text first) 1 (entries_in profile - 1)
     ++ codes "$end\n"
 
 -- the time of a clock's falling edge, the edge, and the values that differ from those of the clock before
-abbrev pub falling_text : ℕ → Sample → Sample → List ℕ
-falling_text clock before now =
-    codes "#" ++ decimal (10 * clock) ++ codes "\n0!\n" ++ texts_from (change_text before now) 1 19
+abbrev pub falling_text : ℕ → ℕ → Sample → Sample → List ℕ
+falling_text profile clock before now =
+    codes "#" ++ decimal (10 * clock) ++ codes "\n0!\n"
+    ++ texts_from (change_text before now) 1 (entries_in profile - 1)
 
 -- the text of a clock; clock 0 has its values in the header, so it is its rising edge alone
-unfoldable pub clock_text : ℕ → Sample → Sample → List ℕ
-clock_text clock before now =
-    (if clock == 0 then [] else falling_text clock before now)
+unfoldable pub clock_text : ℕ → ℕ → Sample → Sample → List ℕ
+clock_text profile clock before now =
+    (if clock == 0 then [] else falling_text profile clock before now)
     ++ codes "#" ++ decimal (10 * clock + 5) ++ codes "\n1!\n"
 
 -- the texts of the clocks of a list of samples, of which the first is that of clock `clock` and follows `before`
-unfoldable pub clocks_text : ℕ → Sample → List Sample → List ℕ
-clocks_text clock before [] = []
-clocks_text clock before (now ∷ w) = clock_text clock before now ++ clocks_text (clock + 1) now w
+unfoldable pub clocks_text : ℕ → ℕ → Sample → List Sample → List ℕ
+clocks_text profile clock before [] = []
+clocks_text profile clock before (now ∷ w) =
+    clock_text profile clock before now ++ clocks_text profile (clock + 1) now w
 
 -- the whole text of a dump of a list of samples; the text of no samples has the idle sample's values in its header
-unfoldable pub dump_text : List Sample → List ℕ
-dump_text [] = header_text idle
-dump_text (first ∷ w) = header_text first ++ clocks_text 0 first (first ∷ w)
+unfoldable pub dump_text : ℕ → List Sample → List ℕ
+dump_text profile [] = header_text profile idle
+dump_text profile (first ∷ w) = header_text profile first ++ clocks_text profile 0 first (first ∷ w)

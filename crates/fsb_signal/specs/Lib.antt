@@ -1,3 +1,4 @@
 pub mod Samples
+pub mod Parity
 pub mod Table
 pub mod DumpText

@@ -7,7 +7,7 @@ use Rattle.std.proofs.Common.{lit<}
 use Rattle.std.proofs.Math.Nat.{mod-lt}
 use Rattle.std.specs.Int.Bits.{and_zero_r}
 use Rattle.fsb_signal.specs.declared.lines.Lines.{Lines}
-use Rattle.fsb_signal.specs.declared.lines.TheConstants.Lines.{RS0, RS1, RS2}
+use Rattle.fsb_signal.specs.declared.lines.TheConstants.Lines.{RS0, RS1, RS2, AP0, AP1}
 use Rattle.fsb_signal.specs.declared.sample.Word.{Word}
 use Rattle.fsb_signal.specs.declared.sample.Sample.{Sample}
 
@@ -43,6 +43,10 @@ bit_of s line = if has_line s line then 1 else 0
 abbrev pub response_of : Sample → ℕ
 response_of s = 4 * bit_of s RS2 + 2 * bit_of s RS1 + bit_of s RS0
 
+-- the address parity of the sample: the two bits AP1 and AP0, with 1 for asserted
+abbrev pub address_parity_of : Sample → ℕ
+address_parity_of s = 2 * bit_of s AP1 + bit_of s AP0
+
 -- the line is asserted at clock c; past the end nothing is
 unfoldable pub line_at : Lines → List Sample → ℕ → Bool
 line_at line w c = option_map_or (λ s. has_line s line) (slice_get w c) false
@@ -59,12 +63,12 @@ data_at w c = option_map_or (λ s. s.dbus) (slice_get w c) (known_word 0)
 -- words; a bit that a sample cannot have is left out
 abbrev pub known_sample : ℕ → ℕ → ℕ → ℕ → Sample
 known_sample lines req addr dbus = record {
-  lines = record { 0 = lines % 2 ^ 18 };
+  lines = record { 0 = lines % 2 ^ 21 };
   unknown = record { 0 = 0 };
   req = known_word (req % 2 ^ 5);
   addr = known_word (addr % 2 ^ 33);
   dbus = known_word dbus;
-  disjoint = and_zero_r (lines % 2 ^ 18);
+  disjoint = and_zero_r (lines % 2 ^ 21);
   line_bits = mod-lt lines (lit< tt);
   line_unknown = lit< tt;
   req_bits = mod-lt req (lit< tt);

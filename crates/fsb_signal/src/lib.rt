@@ -2,12 +2,15 @@
 #![tactic(auto)]
 
 pub use lines::Lines;
+pub use marks::Marks;
 pub use query::{idle_sample, line_at};
 pub use sample::{Sample, Word};
 pub use signal::Signal;
 pub use table::{SIGNALS, signal_at, signal_named};
 
 mod lines;
+mod marks;
+mod parity;
 mod query;
 mod sample;
 mod signal;

@@ -2,9 +2,10 @@ ghost use Rattle.std.specs.Prelude.{⊤, [], ◌∷◌, codes};
 
 use bitflags::{Flag, Flags, bitflag_items};
 
-/// A set of the 18 control lines, which are asserted low on the bus; a line is in the set where it is asserted.
+/// A set of the 21 control lines, which are asserted low on the bus; a line is in the set where it is asserted. The
+/// last three are the parity of the address, of its low and of its high part, and of the request.
 ///
-/// The lines are the bits 0 to 17. A bit above them is no line: no question about a line looks at it, and a `Sample`
+/// The lines are the bits 0 to 20. A bit above them is no line: no question about a line looks at it, and a `Sample`
 /// has none.
 #[derive(Clone, Copy, Debug, PartialEq, Eq)]
 pub struct Lines(pub u32);
@@ -29,6 +30,9 @@ bitflag_items! {
         const TRDY = 32768;
         const DBSY = 65536;
         const DRDY = 131072;
+        const AP0 = 262144;
+        const AP1 = 524288;
+        const RP = 1048576;
     }
 }
 
@@ -41,7 +45,8 @@ impl Flags for Lines {
         ∷ (codes "BPRI", 16) ∷ (codes "LOCK", 32) ∷ (codes "BNR", 64) ∷ (codes "ADS", 128)
         ∷ (codes "AERR", 256) ∷ (codes "HIT", 512) ∷ (codes "HITM", 1024) ∷ (codes "DEFER", 2048)
         ∷ (codes "RS0", 4096) ∷ (codes "RS1", 8192) ∷ (codes "RS2", 16384) ∷ (codes "TRDY", 32768)
-        ∷ (codes "DBSY", 65536) ∷ (codes "DRDY", 131072) ∷ [] };
+        ∷ (codes "DBSY", 65536) ∷ (codes "DRDY", 131072)
+        ∷ (codes "AP0", 262144) ∷ (codes "AP1", 524288) ∷ (codes "RP", 1048576) ∷ [] };
 
     ghost set_of = { λ lines. lines.0 };
 

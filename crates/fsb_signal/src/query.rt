@@ -1,7 +1,7 @@
 //! Samples and words that are made, and questions to them.
 
 ghost use Rattle.std.specs.Prelude.{◌≡◌, ◌<◌, ◌^◌};
-ghost use Rattle.fsb_signal.specs.Samples.{bit_of, has_line, has_unknown, has_known_lines, is_known, is_known_word, response_of, line_at, known_word, known_sample, idle};
+ghost use Rattle.fsb_signal.specs.Samples.{bit_of, has_line, has_unknown, has_known_lines, is_known, is_known_word, response_of, address_parity_of, line_at, known_word, known_sample, idle};
 ghost use Rattle.fsb_signal.specs.DumpText.{value_of};
 
 use crate::lines::Lines;
@@ -28,7 +28,7 @@ impl Sample {
     /// The sample without unknown bits that asserts these lines and these bits of the words, of which `req` has at
     /// most 5 bits and `addr` at most 33.
     pub fn known(lines: Lines, req: u8, addr: u64, dbus: u64) -> Sample
-        requires lines { lines.0 < 2 ^ 18 }
+        requires lines { lines.0 < 2 ^ 21 }
         requires req { req < 2 ^ 5 }
         requires addr { addr < 2 ^ 33 }
         ensures { result ≡ known_sample lines.0 req addr dbus }
@@ -87,7 +87,7 @@ impl Sample {
     /// 0 for the clock itself, which is no part of a sample.
     #[tactic(auto, unfolding(crate::specs::DumpText::value_of))]
     pub fn value(&self, number: u8) -> u64
-        requires { number < 20 }
+        requires { number < 22 }
         ensures { result ≡ value_of self.now number }
     {
         match number {
@@ -110,8 +110,17 @@ impl Sample {
             17 => self.bit(Lines::DBSY),
             18 => self.bit(Lines::DRDY),
             19 => self.dbus.bits,
+            20 => self.address_parity(),
+            21 => self.bit(Lines::RP),
             _ => 0,
         }
+    }
+
+    /// AP1# and AP0#, as a number of two bits with 1 for asserted.
+    fn address_parity(&self) -> u64
+        ensures { result ≡ address_parity_of self.now }
+    {
+        2 * self.bit(Lines::AP1) + self.bit(Lines::AP0)
     }
 
     // 1 where the line is asserted, and 0 where it is not.

@@ -15,7 +15,7 @@ pub struct Word {
 
 /// What the lines of the bus have at one clock.
 ///
-/// A sample has nothing but what the table's lines can have: no control line above bit 17, no bit of the request
+/// A sample has nothing but what the table's lines can have: no control line above bit 20, no bit of the request
 /// word above 4 and none of the address word above 32. So two samples are equal exactly where every line is.
 #[derive(Clone, Copy, Debug, PartialEq, Eq)]
 pub struct Sample {
@@ -30,8 +30,8 @@ pub struct Sample {
     /// D[63:0]#.
     pub dbus: Word,
     ghost disjoint: { bit_and lines.0 unknown.0 ≡ 0 },
-    ghost line_bits: { lines.0 < 2 ^ 18 },
-    ghost line_unknown: { unknown.0 < 2 ^ 18 },
+    ghost line_bits: { lines.0 < 2 ^ 21 },
+    ghost line_unknown: { unknown.0 < 2 ^ 21 },
     ghost req_bits: { req.bits < 2 ^ 5 },
     ghost req_unknown: { req.unknown < 2 ^ 5 },
     ghost addr_bits: { addr.bits < 2 ^ 33 },

@@ -1,11 +1,11 @@
 ghost use Rattle.std.specs.Prelude.{◌≡◌, ◌≢◌, ◌↔◌, ◌<◌, Some, option_map, slice_get, IfSome, IsNone, All, nat_eq, position};
 ghost use Rattle.std.specs.Cmp.Lexicographic.{pointwise};
-ghost use Rattle.fsb_signal.specs.Table.{table, entry_of, signal_number};
+ghost use Rattle.fsb_signal.specs.Table.{table, table_entry_of, signal_number};
 
 use crate::signal::Signal;
 
 /// The signal table, in its order: the place of an entry is the number of the signal.
-pub const SIGNALS: [Signal; 20] = [
+pub const SIGNALS: [Signal; 22] = [
     Signal {
         name: "BCLK",
         width: 1,
@@ -106,12 +106,22 @@ pub const SIGNALS: [Signal; 20] = [
         width: 64,
         needed: true,
     },
+    Signal {
+        name: "AP_n",
+        width: 2,
+        needed: false,
+    },
+    Signal {
+        name: "RP_n",
+        width: 1,
+        needed: false,
+    },
 ];
 
 /// The entry of this number.
 pub fn signal_at(number: u8) -> &'static Signal
-    requires { number < 20 }
-    ensures { slice_get table number ≡ Some (entry_of result.now) }
+    requires { number < 22 }
+    ensures { slice_get table number ≡ Some (table_entry_of result.now) }
 {
     &SIGNALS[number as usize]
 }

@@ -1,4 +1,4 @@
-use crate::{Lines, SIGNALS, Sample, Word, idle_sample, line_at, signal_at, signal_named};
+use crate::{Lines, Marks, SIGNALS, Sample, Word, idle_sample, line_at, signal_at, signal_named};
 
 #[test]
 fn names_have_their_numbers(rt: HostRuntime) {
@@ -6,6 +6,8 @@ fn names_have_their_numbers(rt: HostRuntime) {
     assert_eq!(rt; signal_named("ADS_n"), Some(8));
     assert_eq!(rt; signal_named("RS_n"), Some(15));
     assert_eq!(rt; signal_named("D_n"), Some(19));
+    assert_eq!(rt; signal_named("AP_n"), Some(20));
+    assert_eq!(rt; signal_named("RP_n"), Some(21));
     assert_eq!(rt; signal_named("bclk"), None);
     assert_eq!(rt; signal_named("ADS"), None);
     assert_eq!(rt; signal_named(""), None);
@@ -72,11 +74,14 @@ fn each_line_has_its_number(rt: HostRuntime) {
         (Lines::TRDY, 16, 1),
         (Lines::DBSY, 17, 1),
         (Lines::DRDY, 18, 1),
+        (Lines::AP0, 20, 1),
+        (Lines::AP1, 20, 2),
+        (Lines::RP, 21, 1),
     ];
     for (line, number, value) in rows {
-        assert!(rt; line.0 < 1 << 18);
+        assert!(rt; line.0 < 1 << 21);
         let sample = Sample::known(line, 0, 0, 0);
-        for other in 0..20 {
+        for other in 0..22 {
             let expected = if other == number { value } else { 0 };
             assert_eq!(rt; sample.value(other), expected, "{number} at {other}");
         }
@@ -135,4 +140,43 @@ fn unknown_bits_are_told(rt: HostRuntime) {
         !Sample::known(Lines::HIT, 0, 0, 0).has(both),
         "each of the lines"
     );
+}
+
+#[test]
+fn parity_of_a_load(rt: HostRuntime) {
+    let lines = Lines(Lines::ADS.0 + Lines::AP0.0 + Lines::RP.0);
+    let first = Sample::known(lines, 6, 8, 0);
+    assert!(rt; !first.is_address_odd() && !first.is_request_odd());
+    assert_eq!(rt; first.value(20), 1);
+    assert_eq!(rt; first.value(21), 1);
+    let without = Sample::known(Lines::ADS, 6, 8, 0);
+    assert!(rt; without.is_address_odd() && without.is_request_odd());
+    // A23# is of the low part of the address, A24# of the high one.
+    let rows = [
+        (1 << 20, Lines::AP0),
+        (1 << 21, Lines::AP1),
+        (1 << 32, Lines::AP1),
+    ];
+    for (addr, line) in rows {
+        assert!(rt;
+            Sample::known(Lines(0), 0, addr, 0).is_address_odd(),
+            "{addr}"
+        );
+        assert!(rt; !Sample::known(line, 0, addr, 0).is_address_odd(), "{addr}");
+    }
+    // What is unknown makes no parity fail.
+    for (line, odd) in [(Lines::AP1, false), (Lines::RP, true)] {
+        let sample = Sample {
+            lines: Lines(0),
+            unknown: line,
+            req: Word::known(1),
+            addr: Word::known(1),
+            dbus: Word::known(0),
+        };
+        assert_eq!(rt; sample.is_address_odd(), odd);
+        assert_eq!(rt; sample.is_request_odd(), !odd);
+    }
+    let both = Marks { ap: true, rp: true };
+    assert_eq!(rt; Marks::of_profile(2), both);
+    assert!(rt; Marks::of_profile(1) != both);
 }

@@ -2,5 +2,5 @@ pub mod LogSteps
 pub mod RequestBits
 pub mod TakeSteps
 pub mod TraceSteps
-pub mod KnownSamples
+pub mod EachSample
 pub mod SoloLaws

@@ -10,7 +10,7 @@ use Rattle.fsb_access.specs.declared.access.Setting.{Setting}
 use Rattle.fsb_access.specs.declared.item.Item.{Item}
 use Rattle.fsb_access.specs.declared.item.Item.TheVariants.{One, Locked, Idle}
 use Rattle.fsb_access.specs.declared.log.Done.{Done}
-use Rattle.fsb_access.proofs.OrderLaws.{steps_of-other, comes_again-absent}
+use Rattle.fsb_access.proofs.Interface.{steps_of-other, comes_again-absent}
 use Rattle.fsb_solo.specs.SoloLog.{last_clock, entry_of, log_from, solo_log}
 
 -- ---- one byte memory

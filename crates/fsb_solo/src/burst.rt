@@ -7,22 +7,8 @@ ghost use Rattle.fsb_encode.specs.Burst.{burst_order};
 ghost use Rattle.fsb_solo.specs.SoloTrace.{burst_of};
 
 use fsb_access::{Access, Flat};
+use fsb_encode::chunk_order;
 use fsb_io::Memory;
-
-/// The chunks of a line in the order of a burst that begins with this one.
-#[tactic(auto, unfolding(fsb_encode::specs::Burst::burst_order))]
-pub fn burst_order(first: u8) -> [u8; 4]
-    requires { first < 4 }
-    ensures order { result ≡ burst_order first }
-    ensures chunks { All (λ chunk. chunk < 4) result }
-{
-    match first {
-        0 => [0, 1, 2, 3],
-        1 => [1, 0, 3, 2],
-        2 => [2, 3, 0, 1],
-        _ => [3, 2, 1, 0],
-    }
-}
 
 // A chunk of a line as the memory has it, which stays as it is.
 fn chunk_of(flat: &mut Flat, line: u64, chunk: u8) -> Result<u64, Memory>
@@ -47,7 +33,7 @@ pub fn burst(flat: &mut Flat, access: &Access) -> Result<[u64; 4], Memory>
     ensures stays { (state_of flat.new).memory ≡ (state_of flat.old).memory }
 {
     let line = access.line();
-    let [first, second, third, fourth] = burst_order(access.chunk());
+    let [first, second, third, fourth] = chunk_order(access.chunk());
     Ok([
         chunk_of(flat, line, first)?,
         chunk_of(flat, line, second)?,

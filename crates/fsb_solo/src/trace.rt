@@ -1,8 +1,10 @@
 //! The waveform.
 ghost use Rattle.std.specs.Prelude.{◌≡◌, ◌≤◌, ◌<◌, ◌^◌, ◌++◌, IsTrue, IfOk, OnOk, take, vec_len, vec_capacity};
+ghost use Rattle.std.specs.List.{list_all};
 ghost use Rattle.fsb_access.specs.Access.{IsLawfulAccess};
 ghost use Rattle.fsb_access.specs.FlatView.{state_of};
 ghost use Rattle.fsb_encode.specs.Request.{pairs_of};
+ghost use Rattle.fsb_signal.specs.Parity.{has_no_parity};
 ghost use Rattle.fsb_signal.specs.Samples.{is_known_trace};
 ghost use Rattle.fsb_signal.specs.declared.lines.TheConstants.Lines.{BREQ0, ADS};
 ghost use Rattle.fsb_solo.specs.SoloLog.{AreLawful};
@@ -18,7 +20,8 @@ use std::alloc::Global;
 use std::collections::HashSet;
 
 /// The waveform of a script of single accesses over so many clocks, one sample a clock, in a memory that begins with the
-/// settings. From the first item on that is no single access the bus is idle.
+/// settings. From the first item on that is no single access the bus is idle. No parity line is asserted: it is the waveform
+/// of profile 1.
 pub fn trace_of(
     alloc: Global,
     clocks: u32,
@@ -28,6 +31,7 @@ pub fn trace_of(
     requires lawful { AreLawful items.now }
     ensures trace { IfOk result (λ trace. trace.items ≡ solo_trace clocks settings.now items.now) }
     ensures known { IfOk result (λ trace. IsTrue (is_known_trace trace.items)) }
+    ensures no_parity { IfOk result (λ trace. IsTrue (list_all has_no_parity trace.items)) }
 {
     let room = clocks as usize;
     let mut trace = Vec::with_capacity(alloc, room)?;

@@ -8,17 +8,16 @@ use Rattle.std.specs.List.{list_any, list_all}
 use Rattle.std.specs.Option.{option_and_then, option_map_or}
 use Rattle.fsb_count.specs.Options.{is_some_and}
 use Rattle.fsb_count.specs.Clocks.{last_where, first_where}
-use Rattle.fsb_count.proofs.First.{first_where-same}
-use Rattle.fsb_count.proofs.Since.{last_where-failed}
-use Rattle.fsb_signal.proofs.AtClock.{slice_get-before}
+use Rattle.fsb_count.proofs.Interface.{first_where-same, last_where-failed}
+use Rattle.fsb_signal.proofs.Interface.{slice_get-before}
 use Rattle.fsb_access.specs.declared.log.Done.{Done}
 use Rattle.fsb_access.specs.ScriptOrder.{script_of}
-use Rattle.fsb_timely.specs.Runs.{Past}
+use Rattle.fsb_timely.specs.Past.{Past}
 use Rattle.fsb_timely.specs.Growth.{GoesOn}
 use Rattle.fsb_timely.specs.Scripts.{is_idle, is_done_by, items_of, is_logged, is_to_do, next_number, next_item, last_done, idle_clocks, idle_start, number_after, is_idling, window_from, window_at, window, needs_of, Need}
 use Rattle.fsb_timely.specs.Hits.{is_met, is_served, is_hit}
 use Rattle.fsb_timely.proofs.Since.{last_where-found}
-use Rattle.fsb_timely.proofs.GoingOn.{last-same, is_held-same, is_exclusive-same, is_ready-same}
+use Rattle.fsb_timely.proofs.GoingOn.{going-alike, last-same, holds_line-same, is_exclusive-same, is_ready-same}
 
 -- an entry of clock n or later is no entry below c
 done-later : (n a c : ℕ) (done : Done) → c ≤ n → nat_le n done.clock ≡ true → is_done_by a c done ≡ false
@@ -135,18 +134,18 @@ is_idling-alike n p q a c h l =
     let items = items-same n p q a h in
     λ i. is_some_and (number i) (λ k. nat_lt c (option_map_or (λ d. d.clock + 1) (done i) 0 + idle_clocks (items i) (option_map_or (λ d. d.item + 1) (done i) 0) k))
 
-is_met-alike : (n : ℕ) (p q : Past) (a c : ℕ) (need : Need) → GoesOn n p q → c ≤ n → is_met p a c need ≡ is_met q a c need
+pub is_met-alike : (n : ℕ) (p q : Past) (a c : ℕ) (need : Need) → GoesOn n p q → c ≤ n → is_met p a c need ≡ is_met q a c need
 unfolding is_met
 is_met-alike n p q a c need h l =
-    let held = is_held-same n p q a need.line c h l in
-    let exclusive = is_exclusive-same n p q a need.line c h l in
+    let held = holds_line-same n p q a need.line c (going-alike n p q h) l in
+    let exclusive = is_exclusive-same n p q a need.line c (going-alike n p q h) l in
     λ i. held i && (not need.alone || exclusive i)
 
 is_served-alike : (n : ℕ) (p q : Past) (a c : ℕ) (need : Need) → GoesOn n p q → c ≤ n → is_served p a c need ≡ is_served q a c need
 unfolding is_served
 is_served-alike n p q a c need h l =
     let met = is_met-alike n p q a c need h l in
-    let ready = is_ready-same n p q a need.line c h l in
+    let ready = is_ready-same n p q a need.line c (going-alike n p q h) l in
     λ i. met i && ready i
 
 pub is_hit-alike : (n : ℕ) (p q : Past) (a c : ℕ) → GoesOn n p q → c ≤ n → is_hit p a c ≡ is_hit q a c

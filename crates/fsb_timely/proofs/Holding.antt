@@ -5,15 +5,14 @@ use Rattle.std.proofs.lemmas.Bool.{cases_Bool}
 use Rattle.std.specs.Option.{option_and_then}
 use Rattle.fsb_count.specs.Options.{is_some_and}
 use Rattle.fsb_count.specs.Clocks.{holds_since}
-use Rattle.fsb_count.proofs.Any.{any_where-more}
-use Rattle.fsb_count.proofs.Since.{holds_since-more, last_where-passed, last_where-failed}
-use Rattle.fsb_timely.specs.Runs.{Past}
-use Rattle.fsb_timely.specs.Grants.{is_end_at, is_ended, grant_at, is_granted, is_lost, is_held, latest_grant, is_named_by_other, is_sole, is_exclusive}
+use Rattle.fsb_count.proofs.Interface.{any_where-more, holds_since-more, last_where-passed, last_where-failed}
+use Rattle.fsb_timely.specs.Past.{Past}
+use Rattle.fsb_timely.specs.Grants.{is_end_at, is_ended, grant_at, is_granted, is_lost, holds_line, latest_grant, is_named_by_other, is_sole_grant, is_exclusive}
 
 -- a grant, and otherwise what was held and is not lost
-pub is_held-more : (p : Past) (a line c : ℕ) → is_held p a line (c + 1) ≡ (is_granted p a line c || (is_held p a line c && not (is_lost p a line c)))
-unfolding is_held
-is_held-more p a line c = holds_since-more (is_granted p a line) (is_lost p a line) c
+pub holds_line-more : (p : Past) (a line c : ℕ) → holds_line p a line (c + 1) ≡ (is_granted p a line c || (holds_line p a line c && not (is_lost p a line c)))
+unfolding holds_line
+holds_line-more p a line c = holds_since-more (is_granted p a line) (is_lost p a line) c
 
 latest-granted : (p : Past) (a line c : ℕ) → is_granted p a line c ≡ true → latest_grant p a line (c + 1) ≡ grant_at p c
 unfolding latest_grant
@@ -39,19 +38,19 @@ regrouped true false true true l = refl
 regrouped true false true false l = refl
 regrouped true false false n l = refl
 
-is_exclusive-granted : (p : Past) (a line c : ℕ) → is_granted p a line c ≡ true → is_exclusive p a line (c + 1) ≡ is_some_and (grant_at p c) is_sole
+is_exclusive-granted : (p : Past) (a line c : ℕ) → is_granted p a line c ≡ true → is_exclusive p a line (c + 1) ≡ is_some_and (grant_at p c) is_sole_grant
 unfolding is_exclusive
 is_exclusive-granted p a line c t =
-    rw (is_held-more p a line c, holds_since-more (is_granted p a line) (is_named_by_other p a line) c, latest-granted p a line c t, t) (and-true (is_some_and (grant_at p c) is_sole))
+    rw (holds_line-more p a line c, holds_since-more (is_granted p a line) (is_named_by_other p a line) c, latest-granted p a line c t, t) (and-true (is_some_and (grant_at p c) is_sole_grant))
 
 is_exclusive-kept : (p : Past) (a line c : ℕ) → is_granted p a line c ≡ false → is_exclusive p a line (c + 1) ≡ (is_exclusive p a line c && (not (is_lost p a line c) && not (is_named_by_other p a line c)))
 unfolding is_exclusive
 is_exclusive-kept p a line c f =
-    rw (is_held-more p a line c, holds_since-more (is_granted p a line) (is_named_by_other p a line) c, latest-kept p a line c f, f) (regrouped (is_held p a line c) (not (is_lost p a line c)) (is_some_and (latest_grant p a line c) is_sole) (holds_since (is_granted p a line) (is_named_by_other p a line) c) (not (is_named_by_other p a line c)))
+    rw (holds_line-more p a line c, holds_since-more (is_granted p a line) (is_named_by_other p a line) c, latest-kept p a line c f, f) (regrouped (holds_line p a line c) (not (is_lost p a line c)) (is_some_and (latest_grant p a line c) is_sole_grant) (holds_since (is_granted p a line) (is_named_by_other p a line) c) (not (is_named_by_other p a line c)))
 
 -- a sole grant, and otherwise a line that was the agent's for itself, is not lost, and is named by no other agent
 pub is_exclusive-more : (p : Past) (a line c : ℕ) → is_exclusive p a line (c + 1)
-    ≡ (if is_granted p a line c then is_some_and (grant_at p c) is_sole else (is_exclusive p a line c && (not (is_lost p a line c) && not (is_named_by_other p a line c))))
+    ≡ (if is_granted p a line c then is_some_and (grant_at p c) is_sole_grant else (is_exclusive p a line c && (not (is_lost p a line c) && not (is_named_by_other p a line c))))
 unfolding is_exclusive
 is_exclusive-more p a line c =
     elim (cases_Bool (is_granted p a line c)) [

@@ -4,10 +4,9 @@ use Rattle.std.proofs.lemmas.Bool.{or_parts}
 use Rattle.std.specs.List.{list_any}
 use Rattle.std.specs.Option.{option_and_then, option_map_or}
 use Rattle.fsb_count.specs.Options.{is_some_and}
-use Rattle.fsb_count.proofs.Bools.{nat_lt-more}
-use Rattle.fsb_count.proofs.First.{first_where-same}
+use Rattle.fsb_count.proofs.Interface.{nat_lt-more, first_where-same}
 use Rattle.fsb_access.specs.declared.log.Done.{Done}
-use Rattle.fsb_timely.specs.Runs.{Past}
+use Rattle.fsb_timely.specs.Past.{Past}
 use Rattle.fsb_timely.specs.Scripts.{is_idle, items_of, is_done_by, is_done_at, completes_at, is_logged_at, is_logged, is_to_do, next_number, next_item, window_at, window}
 
 and-or : (b x y z : Bool) → z ≡ (x || y) → (b && z) ≡ ((b && x) || (b && y))

@@ -3,6 +3,8 @@ pub mod Next
 pub mod Since
 pub mod GoingOn
 pub mod GoingScripts
+pub mod GoingDirty
+pub mod GoingWants
 pub mod Holding
 pub mod TurnOrder
 pub mod Moments
@@ -15,3 +17,4 @@ pub mod Items
 pub mod OneEnd
 pub mod ToldLines
 pub mod Outstanding
+pub mod Interface

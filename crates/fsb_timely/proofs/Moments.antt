@@ -4,26 +4,23 @@ use Rattle.std.proofs.lemmas.Bool.{cases_lt}
 use Rattle.std.proofs.lemmas.List.{length-take-le, take-append-drop}
 use Rattle.std.specs.Option.{option_and_then}
 use Rattle.fsb_count.specs.Options.{is_at}
-use Rattle.fsb_count.proofs.First.{first_where-found, first_where-at}
-use Rattle.fsb_count.proofs.Options.{is_at-some, is_at-from}
-use Rattle.fsb_count.proofs.Nth.{slice_get-end}
-use Rattle.fsb_signal.proofs.AtClock.{slice_get-before}
+use Rattle.fsb_count.proofs.Interface.{first_where-found, first_where-at, is_at-some, is_at-from, slice_get-end}
+use Rattle.fsb_signal.proofs.Interface.{slice_get-before}
 use Rattle.fsb_trace.specs.At.{Trace}
 use Rattle.fsb_trace.specs.Agree.{AgreeTo}
 use Rattle.fsb_trace.specs.Requests.{live_count, live_clock_of}
 use Rattle.fsb_trace.specs.Snoop.{snoop_end_of}
-use Rattle.fsb_trace.proofs.AgreeAt.{AgreeTo-sym}
-use Rattle.fsb_trace.proofs.LiveRequests.{live_below_count}
-use Rattle.fsb_trace.proofs.Stay.{snoop_end_of-clock, snoop_end_of-stays, live_clock_of-stays}
-use Rattle.fsb_timely.specs.Moments.{SnoopEnd, Moment, moment_at, snoop_at, snoop_end_if_begun, snoop_end_for, snoop_end_with, number_snooped_at, turns_in, effective_choice}
-use Rattle.fsb_timely.specs.Runs.{Run, run_to, moments_below, past_of}
+use Rattle.fsb_trace.proofs.Interface.{AgreeTo-sym, live_below_count, snoop_end_of-clock, snoop_end_of-stays, live_clock_of-stays}
+use Rattle.fsb_timely.specs.Moments.{moment_at, snoop_at, snoop_end_if_begun, snoop_end_for, snoop_end_with, number_snooped_at, turns_in, effective_choice}
+use Rattle.fsb_timely.specs.Past.{SnoopEnd, Moment}
+use Rattle.fsb_timely.specs.Runs.{past_with, next_moment, Run, run_to, moments_below, past_of}
 use Rattle.fsb_timely.specs.Grants.{snooped_at}
 use Rattle.fsb_timely.proofs.Next.{length-moments}
 use Rattle.fsb_timely.proofs.OneEnd.{one_end}
 
 -- the moment of clock t of a run
 abbrev pub moment_of : Run → ℕ → Moment
-moment_of r t = moment_at r.plan.bridge (run_to r t).choices (run_to r t).trace (moments_below r t) t
+moment_of r t = next_moment r (moments_below r t) t
 
 -- the moment of a clock is at its place
 pub moment-at : (r : Run) (n t : ℕ) → t < n → slice_get (moments_below r n) t ≡ Some (moment_of r t)
@@ -66,7 +63,7 @@ snooped-there r t l = ap (option_and_then (λ moment. moment.snooped)) (moment-a
 -- what the moment of t has of live request i, whose first clock is q
 abbrev pub snoop_of : Run → ℕ → ℕ → ℕ → SnoopEnd
 snoop_of r t i q =
-    snoop_end_with (run_to r t).trace (turns_in (moments_below r t)) i q t (effective_choice r.plan.bridge (run_to r t).choices (run_to r t).trace (turns_in (moments_below r t)) q t).turn
+    snoop_end_with (past_with r (moments_below r t) t) (run_to r t).trace i q t (effective_choice r.plan.bridge (run_to r t).choices (run_to r t).trace (turns_in (moments_below r t)) q t).turn
 
 -- the moment of t has the snoop end of the live request that has it there in the run up to t
 snooped-as : (r : Run) (t i q : ℕ) → number_snooped_at (run_to r t).trace t ≡ Some i → live_clock_of (run_to r t).trace i ≡ Some q → (moment_of r t).snooped ≡ Some (snoop_of r t i q)

@@ -3,25 +3,25 @@ use Rattle.std.proofs.Common.{ℕ, zero, suc, ◌+◌, ◌<◌, ◌≤◌, ◌�
 use Rattle.std.specs.List.{list_all}
 use Rattle.std.proofs.lemmas.Bool.{and_parts, eqb-true, le-leb, lt-leb, lt-ltb, ltb-true}
 use Rattle.std.proofs.lemmas.List.{take-append-le, length-append}
-use Rattle.fsb_signal.proofs.AtClock.{slice_get-before}
+use Rattle.fsb_signal.proofs.Interface.{slice_get-before}
 use Rattle.std.proofs.lemmas.List.Elements.{filter-append}
 use Rattle.fsb_access.specs.declared.log.Done.{Done}
-use Rattle.fsb_count.proofs.Count.{count_where-same, count_where-mono}
+use Rattle.fsb_count.proofs.Interface.{count_where-same, count_where-mono}
 use Rattle.fsb_signal.specs.declared.lines.TheConstants.Lines.{ADS}
 use Rattle.fsb_signal.specs.declared.sample.Sample.{Sample}
-use Rattle.fsb_signal.specs.Samples.{line_at}
+use Rattle.fsb_signal.specs.Samples.{line_at, is_known_trace}
 use Rattle.fsb_trace.specs.At.{Trace}
 use Rattle.fsb_trace.specs.Agree.{AgreeTo}
-use Rattle.fsb_trace.proofs.AgreeAt.{line_at-agree}
+use Rattle.fsb_trace.proofs.Interface.{line_at-agree}
 use Rattle.fsb_timely.specs.Moments.{moment_at}
-use Rattle.fsb_timely.specs.Runs.{Run, requests_below, entries_to, run_to, moments_below, past_of, past_to}
+use Rattle.fsb_timely.specs.Runs.{next_moment, Run, requests_below, entries_to, run_to, moments_below, past_of, past_to}
 use Rattle.fsb_timely.specs.Growth.{IsNext, IsWhole, GoesOn}
-use Rattle.fsb_signal.specs.Samples.{is_known_trace}
 use Rattle.fsb_timely.specs.Starts.{starts_requests, drives_request_lines}
 use Rattle.fsb_timely.specs.Snoops.{drives_hazards, has_snoop_result}
 use Rattle.fsb_timely.specs.Transfers.{drives_responses}
 use Rattle.fsb_timely.specs.Completions.{logs_completions, is_in_time}
 use Rattle.fsb_timely.specs.BusLock.{drives_lock}
+use Rattle.fsb_timely.specs.ParityLines.{drives_parity}
 use Rattle.fsb_timely.specs.Timely.{Part, holds_in, holds_at, AtEachClock, IsTimelyAt, Timely}
 
 -- a sample more at the end
@@ -96,7 +96,7 @@ unfolding moments_below
 length-moments r zero = refl
 length-moments r (suc n) =
     let e = length-moments r n in
-    length-append (moments_below r n) (moment_at r.plan.bridge (run_to r n).choices (run_to r n).trace (moments_below r n) n ∷ []) ∙ ap (λ k. k + 1) e ∙ add-one n
+    length-append (moments_below r n) (next_moment r (moments_below r n) n ∷ []) ∙ ap (λ k. k + 1) e ∙ add-one n
 
 -- the moments of clocks that were passed
 pub moments-same : (r s : Run) (n : ℕ) → IsNext r s → IsWhole r → n ≤ length r.trace → moments_below s n ≡ moments_below r n
@@ -105,7 +105,8 @@ moments-same r s zero next whole l = refl
 moments-same r s (suc n) next whole l =
     let before = moments-same r s n next whole (omega arith) in
     let run = run_to-same r s n next whole (omega arith) in
-    λ i. before i ++ moment_at (next.same_plan i).bridge (run i).choices (run i).trace (before i) n ∷ []
+    let log = log-same r s n next (omega arith) in
+    λ i. before i ++ moment_at (record { plan = next.same_plan i; moments = before i; log = log i }) (run i).choices (run i).trace n ∷ []
 
 moments-cut : (r s : Run) (c : ℕ) → IsNext r s → IsWhole r → c < length r.trace → take (c + 1) (moments_below s (length s.trace)) ≡ take (c + 1) (moments_below r (length r.trace))
 unfolding moments_below
@@ -178,6 +179,7 @@ timely-more r s old next whole known new =
       responses_and_data = each_clock-more drives_responses r s next before old.responses_and_data new.responses_and_data;
       completions = each_clock-more logs_completions r s next before old.completions new.completions;
       bus_lock = each_clock-more drives_lock r s next before old.bus_lock new.bus_lock;
+      parity = each_clock-more drives_parity r s next before old.parity new.parity;
     }
 
 moments-there : (r s : Run) → IsNext r s → IsWhole r → (t : ℕ) → t < length r.trace → slice_get (past_of r).moments t ≡ slice_get (past_of s).moments t

@@ -3,7 +3,7 @@ use Rattle.std.proofs.Common.{ℕ, ◌+◌, ◌<◌, ◌≡◌, ◌≤◌, Some,
 use Rattle.std.proofs.lemmas.Bool.{cases_lt}
 use Rattle.fsb_trace.specs.At.{Trace}
 use Rattle.fsb_trace.specs.Snoop.{snoop_end_of}
-use Rattle.fsb_trace.proofs.Order.{snoop_end_of-rises}
+use Rattle.fsb_trace.proofs.Interface.{snoop_end_of-rises}
 
 -- the snoop end of an earlier live request is another clock
 apart : (w : Trace) (s i j : ℕ) → i < j → snoop_end_of w i ≡ Some s → snoop_end_of w j ≡ Some s → ⊥

@@ -2,8 +2,7 @@
 use Rattle.std.proofs.Common.{ℕ, ◌+◌, ◌≡◌, ◌<◌, Bool, true, false, not, ◌&&◌, ◌||◌, refl, ap, ◌∙◌, nat_eq, nat_lt, arith}
 use Rattle.std.proofs.lemmas.Bool.Decides.{nat_tests}
 use Rattle.fsb_count.specs.Options.{is_before, is_at}
-use Rattle.fsb_count.proofs.Bools.{nat_lt-more}
-use Rattle.fsb_count.proofs.Options.{is_before-more}
+use Rattle.fsb_count.proofs.Interface.{nat_lt-more, is_before-more}
 use Rattle.fsb_signal.specs.declared.lines.TheConstants.Lines.{ADS}
 use Rattle.fsb_signal.specs.Samples.{line_at}
 use Rattle.fsb_trace.specs.At.{Trace, request_at}

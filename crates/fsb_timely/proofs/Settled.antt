@@ -8,8 +8,7 @@ use Rattle.fsb_trace.specs.Requests.{line_of}
 use Rattle.fsb_trace.specs.Snoop.{snoop_end_of}
 use Rattle.fsb_trace.specs.Outcome.{settled_by}
 use Rattle.fsb_signal.specs.declared.lines.TheConstants.Lines.{HITM}
-use Rattle.fsb_trace.proofs.AgreeAt.{line_at-agree, winner_at-agree}
-use Rattle.fsb_trace.proofs.StayEnds.{live_request_of-stays}
+use Rattle.fsb_trace.proofs.Interface.{line_at-agree, winner_at-agree, live_request_of-stays}
 use Rattle.fsb_timely.specs.Moments.{claim_at, agent_at}
 
 -- what is settled rests on the samples up to the snoop end

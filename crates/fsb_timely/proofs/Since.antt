@@ -2,9 +2,9 @@
 use Rattle.std.proofs.Common.{ℕ, zero, suc, ◌+◌, ◌<◌, ◌≤◌, ◌≡◌, Bool, true, false, not, ◌&&◌, Option, Some, None, refl, ap, sym, subst, ◌∙◌, inl, inr, arith}
 use Rattle.std.proofs.lemmas.Bool.{cases_Bool, cases_lt, le-leb, lt-leb, not-true, both_ways}
 use Rattle.fsb_count.specs.Clocks.{last_where, any_where, from_clock, holds_since}
-use Rattle.fsb_count.proofs.Any.{any_where-none, any_where-off}
-use Rattle.fsb_timely.specs.Runs.{Past}
-use Rattle.fsb_timely.specs.Grants.{is_granted, is_lost, is_held, IsHeldSince}
+use Rattle.fsb_count.proofs.Interface.{any_where-none, any_where-off}
+use Rattle.fsb_timely.specs.Past.{Past}
+use Rattle.fsb_timely.specs.Grants.{is_granted, is_lost, holds_line, IsHeldSince}
 
 -- the last clock that passes: it passes, and lies below n
 pub last_where-found : (test : ℕ → Bool) (n c : ℕ) → last_where test n ≡ Some c → (c < n) × (test c ≡ true)
@@ -66,12 +66,12 @@ since-from gain loss n c l g kept =
     since-last gain loss n d last.1 (λ t m k. kept t (omega arith) k)
 
 -- an agent holds a line
-pub is_held-says : (p : Past) (a line c : ℕ) → is_held p a line c ≡ true → IsHeldSince p a line c
-unfolding is_held
-is_held-says p a line c e =
+pub holds_line-says : (p : Past) (a line c : ℕ) → holds_line p a line c ≡ true → IsHeldSince p a line c
+unfolding holds_line
+holds_line-says p a line c e =
     let h = since-says (is_granted p a line) (is_lost p a line) c e in
     record { at = h.0; before = h.1; granted = h.2; kept = h.3 }
 
-pub is_held-from : (p : Past) (a line c : ℕ) → IsHeldSince p a line c → is_held p a line c ≡ true
-unfolding is_held
-is_held-from p a line c h = since-from (is_granted p a line) (is_lost p a line) c h.at h.before h.granted h.kept
+pub holds_line-from : (p : Past) (a line c : ℕ) → IsHeldSince p a line c → holds_line p a line c ≡ true
+unfolding holds_line
+holds_line-from p a line c h = since-from (is_granted p a line) (is_lost p a line) c h.at h.before h.granted h.kept

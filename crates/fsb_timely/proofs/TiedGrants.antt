@@ -3,11 +3,8 @@ use Rattle.std.proofs.Common.{ℕ, ◌+◌, ◌<◌, ◌≤◌, ◌≡◌, Bool,
 use Rattle.std.proofs.lemmas.Bool.{cases_lt, and_parts}
 use Rattle.std.specs.Option.{option_map, option_and_then}
 use Rattle.fsb_count.specs.Options.{is_some_and, is_at, is_before}
-use Rattle.fsb_count.proofs.Options.{is_at-some, is_at-from, is_before-parts, is_before-from}
-use Rattle.fsb_count.proofs.First.{first_where-carried, first_where-found, first_where-same}
-use Rattle.fsb_count.proofs.Count.{count_where-same}
+use Rattle.fsb_count.proofs.Interface.{is_at-some, is_at-from, is_before-parts, is_before-from, first_where-carried, first_where-found, first_where-same, count_where-same, nth_where-at}
 use Rattle.fsb_count.specs.Clocks.{nth_where}
-use Rattle.fsb_count.proofs.Nth.{nth_where-at}
 use Rattle.fsb_signal.specs.declared.lines.TheConstants.Lines.{ADS, HIT, HITM}
 use Rattle.fsb_trace.specs.declared.outcome.Outcome.{Outcome}
 use Rattle.fsb_trace.specs.At.{Trace}
@@ -16,12 +13,11 @@ use Rattle.fsb_trace.specs.Requests.{is_live, live_clock_of, live_number_of, liv
 use Rattle.fsb_trace.specs.Snoop.{snoop_end_of}
 use Rattle.fsb_trace.specs.Outcome.{response_clock_of, settled_by, is_settled_deferred, is_deferral}
 use Rattle.fsb_trace.specs.Flight.{is_reply_to, is_live_reply_to, reply_clock_of, reply_number_of}
-use Rattle.fsb_trace.proofs.AgreeAt.{AgreeTo-sym, line_at-agree, request_at-agree, is_live-agree}
-use Rattle.fsb_trace.proofs.Stay.{snoop_end_of-clock, snoop_end_of-stays, live_clock_of-stays, response_clock_of-stays}
-use Rattle.fsb_trace.proofs.StayEnds.{live_request_of-stays}
-use Rattle.fsb_trace.proofs.Order.{snoop_end_of-rises}
-use Rattle.fsb_trace.proofs.LiveRequests.{settled_outcome_of-ended}
-use Rattle.fsb_timely.specs.Moments.{is_answered_by, served_number, live_claim_of, is_owner_request, is_shared_at, grant_to, grant_for, grant_of, makes_grant, claim_at}
+use Rattle.fsb_trace.proofs.Interface.{AgreeTo-sym, line_at-agree, request_at-agree, is_live-agree, snoop_end_of-clock, snoop_end_of-stays, live_clock_of-stays, response_clock_of-stays, live_request_of-stays, snoop_end_of-rises, settled_outcome_of-ended}
+use Rattle.fsb_timely.specs.Moments.{is_answered_by, served_number, live_claim_of, is_owner_request, is_shared_at, grant_to, grant_for, grant_of, makes_grant, is_upgraded, wins_race, gives_line, turns_in, claim_at}
+use Rattle.fsb_timely.specs.Past.{Past}
+use Rattle.fsb_timely.specs.Grants.{holds_line}
+use Rattle.fsb_timely.proofs.GoingOn.{Alike, holds_line-same}
 use Rattle.fsb_timely.proofs.Settled.{settled_by-agree, claim_at-agree}
 
 -- two tests of which each gives the other are the same
@@ -180,12 +176,24 @@ grant_by-same n w v us i t q h (Some j) e =
     let before = reached-to n w v i t j h (served-by w us i j (is_reply (live_request_of w i)) refl e) in
     grant_for-same n w v q t j before.0 h.below before.1
 
--- a grant rests on the samples up to its snoop end, and on the turns of the live requests before it
-pub grant_of-same : (n : ℕ) (w v : Trace) (us ts : List ℕ) (i t q : ℕ) (outcome : Outcome) → Reached n w v i t → live_clock_of w i ≡ Some q → live_clock_of v i ≡ Some q → q + 3 < n
-    → ((j : ℕ) → j < i → slice_index us j ≡ slice_index ts j) → grant_of w us i q t outcome ≡ grant_of v ts i q t outcome
+-- whether a grant is made rests on the samples up to its snoop end, and on the moments before it
+gives_line-same : (n : ℕ) (p p' : Past) (w v : Trace) (t q : ℕ) (outcome : Outcome) → Alike t p p' → AgreeTo n w v → q + 3 < n → gives_line p w q t outcome ≡ gives_line p' v q t outcome
+unfolding gives_line wins_race
+gives_line-same n p p' w v t q outcome h a l =
+    let request = request_at-agree n w v q a (omega arith) in
+    let claim = claim_at-agree n w v q a (omega arith) in
+    let held : (b line : ℕ) → holds_line p b line t ≡ holds_line p' b line t = λ b line. holds_line-same t p p' b line t h (omega arith) in
+    λ k. is_some_and (request k) (λ r. makes_grant r.kind outcome)
+    || is_some_and (claim k) (λ x. is_upgraded outcome && held x.agent x.line k)
+
+-- a grant rests on the samples up to its snoop end, on the moments before it, and on the turns of the live requests before
+-- it
+pub grant_of-same : (n : ℕ) (p p' : Past) (w v : Trace) (i t q : ℕ) (outcome : Outcome) → Alike t p p' → Reached n w v i t → live_clock_of w i ≡ Some q → live_clock_of v i ≡ Some q → q + 3 < n
+    → ((j : ℕ) → j < i → slice_index (turns_in p.moments) j ≡ slice_index (turns_in p'.moments) j) → grant_of p w i q t outcome ≡ grant_of p' v i q t outcome
 unfolding grant_of
-grant_of-same n w v us ts i t q outcome h f g l turns =
-    let request = request_at-agree n w v q h.agree (omega arith) in
-    let served = served-same n w v us ts i t q h f g l turns in
+grant_of-same n p p' w v i t q outcome alike h f g l turns =
+    let us = turns_in p.moments in
+    let made = gives_line-same n p p' w v t q outcome alike h.agree l in
+    let served = served-same n w v us (turns_in p'.moments) i t q h f g l turns in
     let granted = grant_by-same n w v us i t q h (served_number w us i) refl ∙ ap (option_and_then (grant_for v q t)) served in
-    λ k. elim (is_some_and (request k) (λ r. makes_grant r.kind outcome)) [ true ↦ granted k | false ↦ None ]
+    λ k. elim (made k) [ true ↦ granted k | false ↦ None ]

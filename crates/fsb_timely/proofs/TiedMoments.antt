@@ -5,44 +5,44 @@ use Rattle.std.proofs.lemmas.List.{length-append, get_or_append_left}
 use Rattle.std.proofs.Math.Seq.{get_or-append_seam}
 use Rattle.std.specs.Option.{option_map, option_and_then}
 use Rattle.fsb_count.specs.Clocks.{count_where}
-use Rattle.fsb_count.proofs.Count.{count_where-passed, count_where-failed, count_where-mono}
+use Rattle.fsb_count.proofs.Interface.{count_where-passed, count_where-failed, count_where-mono}
 use Rattle.fsb_trace.specs.Requests.{live_clock_of}
 use Rattle.fsb_trace.specs.Snoop.{snoop_end_of}
 use Rattle.fsb_trace.specs.Outcome.{settled_by, settled_outcome_of}
-use Rattle.fsb_trace.proofs.AgreeAt.{request_at-agree, AgreeTo-sym}
-use Rattle.fsb_trace.proofs.Stay.{snoop_end_of-clock, snoop_end_of-stays, live_clock_of-stays}
-use Rattle.fsb_timely.specs.Moments.{SnoopEnd, number_of_turn, turns_in, number_snooped_at, snoop_end_with}
-use Rattle.fsb_timely.specs.Runs.{Run, run_to, moments_below, past_of}
+use Rattle.fsb_trace.proofs.Interface.{request_at-agree, AgreeTo-sym, snoop_end_of-clock, snoop_end_of-stays, live_clock_of-stays, snoop_end_of-rises}
+use Rattle.fsb_timely.specs.Moments.{number_of_turn, turns_in, number_snooped_at, snoop_end_with}
+use Rattle.fsb_timely.specs.Past.{SnoopEnd}
+use Rattle.fsb_timely.specs.Runs.{past_with, Run, run_to, moments_below, past_of}
 use Rattle.fsb_timely.specs.Grants.{snooped_at}
 use Rattle.fsb_timely.specs.Tied.{IsSnoopOf}
 use Rattle.fsb_timely.proofs.TurnOrder.{turns_in-append, turns-snooped, turns-quiet}
 use Rattle.std.proofs.lemmas.Option.{slice_get_past}
 use Rattle.fsb_timely.proofs.Next.{length-moments}
-use Rattle.fsb_trace.proofs.Order.{snoop_end_of-rises}
 use Rattle.fsb_timely.proofs.TiedGrants.{grant_of-same}
+use Rattle.fsb_timely.proofs.GoingOn.{Alike}
 use Rattle.fsb_timely.proofs.Settled.{settled_by-agree, claim_at-agree}
-use Rattle.fsb_timely.proofs.EndCount.{ends_at, ends-below, is_end}
-use Rattle.fsb_timely.proofs.Moments.{moment_of, snoop_of, moment-snooped, moment-quiet, number-says, snooped-there, run_to-agrees}
+use Rattle.fsb_timely.proofs.EndCount.{is_end_of_snoop, ends-below, is_end}
+use Rattle.fsb_timely.proofs.Moments.{moment-at, moment_of, snoop_of, moment-snooped, moment-quiet, number-says, snooped-there, run_to-agrees}
 
 -- the turns so far are as many as the snoop ends so far
 length-turns-more : (r : Run) (n : ℕ) → n < length r.trace → (o : Option ℕ) → number_snooped_at r.trace n ≡ o
-    → length (turns_in (moments_below r n)) ≡ count_where (ends_at r.trace) n
-    → length (turns_in (moments_below r n ++ moment_of r n ∷ [])) ≡ count_where (ends_at r.trace) (n + 1)
-unfolding ends_at
+    → length (turns_in (moments_below r n)) ≡ count_where (is_end_of_snoop r.trace) n
+    → length (turns_in (moments_below r n ++ moment_of r n ∷ [])) ≡ count_where (is_end_of_snoop r.trace) (n + 1)
+unfolding is_end_of_snoop
 length-turns-more r n l None e h =
-    ap length (turns-quiet (moments_below r n) (moment_of r n) (moment-quiet r n l e)) ∙ h ∙ sym (count_where-failed (ends_at r.trace) n (ap is_some e))
+    ap length (turns-quiet (moments_below r n) (moment_of r n) (moment-quiet r n l e)) ∙ h ∙ sym (count_where-failed (is_end_of_snoop r.trace) n (ap is_some e))
 length-turns-more r n l (Some i) e h =
     let end = number-says r.trace i n e in
     let c = snoop_end_of-clock r.trace i n end in
     let s = snoop_of r n i c.clock in
     ap length (turns-snooped (moments_below r n) (moment_of r n) s (moment-snooped r i n c.clock end c.is_clock))
-    ∙ length-append (turns_in (moments_below r n)) (number_of_turn s.turn ∷ []) ∙ ap (λ k. k + 1) h ∙ sym (count_where-passed (ends_at r.trace) n (ap is_some e))
+    ∙ length-append (turns_in (moments_below r n)) (number_of_turn s.turn ∷ []) ∙ ap (λ k. k + 1) h ∙ sym (count_where-passed (is_end_of_snoop r.trace) n (ap is_some e))
 
-length-turns : (r : Run) (n : ℕ) → n ≤ length r.trace → length (turns_in (moments_below r n)) ≡ count_where (ends_at r.trace) n
+length-turns : (r : Run) (n : ℕ) → n ≤ length r.trace → length (turns_in (moments_below r n)) ≡ count_where (is_end_of_snoop r.trace) n
 unfolding moments_below turns_in count_where
 length-turns r zero l = refl
 length-turns r (suc n) l =
-    length-turns-more r n (omega arith) (number_snooped_at r.trace n) refl (length-turns r n (omega arith)) ∙ ap (count_where (ends_at r.trace)) (add-one n)
+    length-turns-more r n (omega arith) (number_snooped_at r.trace n) refl (length-turns r n (omega arith)) ∙ ap (count_where (is_end_of_snoop r.trace)) (add-one n)
 
 -- the turn of a live request comes after those of the live requests before it
 turn-new : (r : Run) (i t q : ℕ) → snoop_end_of r.trace i ≡ Some t → live_clock_of r.trace i ≡ Some q
@@ -60,9 +60,9 @@ turn-old : (r : Run) (n i t : ℕ) → snoop_end_of r.trace i ≡ Some t → t <
     → slice_index (turns_in (moments_below r n ++ moment_of r n ∷ [])) i ≡ slice_index (turns_in (moments_below r n)) i
 turn-old r n i t e l m =
     let count = length-turns r n m in
-    let passed = count_where-passed (ends_at r.trace) t (is_end r.trace i t e) in
+    let passed = count_where-passed (is_end_of_snoop r.trace) t (is_end r.trace i t e) in
     let at = ends-below r.trace i t e in
-    let more = count_where-mono (ends_at r.trace) (t + 1) n (omega arith) in
+    let more = count_where-mono (is_end_of_snoop r.trace) (t + 1) n (omega arith) in
     let within : i < length (turns_in (moments_below r n)) = omega arith in
     ap (λ ts. slice_index ts i) (turns_in-append (moments_below r n) (moment_of r n ∷ []))
     ∙ get_or_append_left (turns_in (moments_below r n)) (turns_in (moment_of r n ∷ [])) 0 i within
@@ -92,6 +92,14 @@ turns-alike r i t e j l =
     turn-there r t j u c.clock before.1 c.is_clock (omega arith) (omega arith)
     ∙ sym (turn-there r (length r.trace) j u c.clock before.1 c.is_clock (omega arith) (omega arith))
 
+-- the past below a clock is like that of the whole run up to there
+past-alike : (r : Run) (t : ℕ) → t ≤ length r.trace → Alike t (past_with r (moments_below r t) t) (past_of r)
+unfolding past_of
+past-alike r t l = record {
+  same_plan = refl;
+  same_moments = λ u m. moment-at r t u m ∙ sym (moment-at r (length r.trace) u (omega arith));
+}
+
 -- the snoop end of a live request of the whole trace is in the moment of its clock
 pub snoop-tied : (r : Run) (i t : ℕ) → snoop_end_of r.trace i ≡ Some t → (s : SnoopEnd) × IsSnoopOf r i t s
 unfolding snoop_end_with past_of settled_outcome_of
@@ -118,7 +126,7 @@ snoop-tied r i t e =
         outcome = ap (option_map (settled_by r.trace (slice_index (turns_in (moments_below r (length r.trace))) i) i)) e
             ∙ ap (λ k. Some (settled_by r.trace k i t)) turn
             ∙ ap Some (settled_by-agree (t + 1) r.trace v (number_of_turn s.turn) i t agree (omega arith) e);
-        grant = grant_of-same (t + 1) v r.trace (turns_in (moments_below r t)) (turns_in (moments_below r (length r.trace))) i t q s.outcome (record { agree = back; below = omega arith; left = there; right = e }) clock c.is_clock (omega arith) (λ j less. turns-alike r i t e j less);
+        grant = grant_of-same (t + 1) (past_with r (moments_below r t) t) (past_of r) v r.trace i t q s.outcome (past-alike r t (omega arith)) (record { agree = back; below = omega arith; left = there; right = e }) clock c.is_clock (omega arith) (λ j less. turns-alike r i t e j less);
       },
     )
 

@@ -1,10 +1,11 @@
 -- The turns of the snoop ends come in the order of the live requests.
 use Rattle.std.proofs.Common.{ℕ, zero, suc, ◌+◌, ◌<◌, ◌≤◌, ◌≡◌, List, [], ◌∷◌, ◌++◌, Option, Some, None, refl, sym, ap, ◌∙◌, inl, inr, arith, append-nil}
 use Rattle.std.proofs.lemmas.Bool.{cases_lt}
-use Rattle.fsb_trace.proofs.Order.{snoop_end_of-rises}
+use Rattle.fsb_trace.proofs.Interface.{snoop_end_of-rises}
 use Rattle.fsb_trace.specs.At.{Trace}
 use Rattle.fsb_trace.specs.Snoop.{snoop_end_of}
-use Rattle.fsb_timely.specs.Moments.{SnoopEnd, Moment, number_of_turn, turns_in}
+use Rattle.fsb_timely.specs.Moments.{number_of_turn, turns_in}
+use Rattle.fsb_timely.specs.Past.{SnoopEnd, Moment}
 
 turns-more : (o : Option SnoopEnd) (rest more ys : List ℕ) → more ≡ rest ++ ys →
     (elim o [ None ↦ more | Some s ↦ number_of_turn s.turn ∷ more ]) ≡ ((elim o [ None ↦ rest | Some s ↦ number_of_turn s.turn ∷ rest ]) ++ ys)

@@ -4,12 +4,11 @@ use Rattle.std.proofs.lemmas.Bool.{cases_Bool, and_parts, cases_lt, both_ways, e
 use Rattle.std.specs.List.{find, filter, list_any}
 use Rattle.std.specs.Option.{option_map}
 use Rattle.fsb_encode.specs.declared.request.Request.{Request}
-use Rattle.fsb_timely.specs.Moments.{Owing}
-use Rattle.fsb_timely.specs.Runs.{Past}
+use Rattle.fsb_timely.specs.Past.{Owing, Past}
 use Rattle.fsb_timely.specs.Grants.{set_of, is_rival, lines_granted}
 use Rattle.fsb_timely.specs.Scripts.{Need, is_idling, window, needs_from}
 use Rattle.fsb_timely.specs.Hits.{is_met, is_dirty}
-use Rattle.fsb_timely.specs.Wants.{owed, is_asked_for, is_same_set, is_set_taken, is_missing, least_of, victim_of, request_for, write_back_of, want_for, want_of}
+use Rattle.fsb_timely.specs.Wants.{request_of_kind, owed, is_asked_for, is_same_set, is_set_taken, is_missing, least_of, victim_of, write_back_of, want_for, want_of, request_of_kind}
 
 -- what is found passes the test
 find-passes : {X : Type 0} (test : X → Bool) (xs : List X) (x : X) → find test xs ≡ Some x → test x ≡ true
@@ -86,7 +85,7 @@ victim-set p a c line victim e =
 
 -- the line of the request for a need that may be asked for
 want_for-new : (p : Past) (a c : ℕ) (owings : List Owing) (need : Need) → is_missing p a c owings need ≡ true → (o : Option ℕ) → victim_of p a c need.line ≡ o → is_asked_for owings (want_for p a c owings need).line ≡ false
-unfolding want_for request_for write_back_of
+unfolding want_for request_of_kind write_back_of
 want_for-new p a c owings need missing None e = rw (e, want_for) (missing-parts p a c owings need missing).0
 want_for-new p a c owings need missing (Some victim) e =
     rw (e, want_for) (not_asked p need.line victim owings (missing-parts p a c owings need missing).1 (victim-set p a c need.line victim e))

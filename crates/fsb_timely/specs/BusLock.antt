@@ -1,18 +1,19 @@
 -- The bus lock.
 use Rattle.std.specs.Prelude.{ℕ, ◌+◌, ◌-◌, ◌&&◌, ◌||◌, Bool, true, false, not, nat_eq, nat_le, slice_get}
+use Rattle.std.specs.Bool.{beq}
 use Rattle.std.specs.List.{list_any}
 use Rattle.std.specs.Option.{option_and_then}
-use Rattle.fsb_count.specs.Options.{is_some_and}
 use Rattle.fsb_count.specs.Clocks.{any_where, holds_since}
-use Rattle.fsb_access.specs.declared.log.Done.{Done}
+use Rattle.fsb_count.specs.Options.{is_some_and}
 use Rattle.fsb_signal.specs.declared.lines.TheConstants.Lines.{LOCK}
 use Rattle.fsb_signal.specs.Samples.{line_at}
+use Rattle.fsb_access.specs.declared.log.Done.{Done}
 use Rattle.fsb_trace.specs.Requests.{is_write_back}
-use Rattle.fsb_timely.specs.Runs.{Run, Past, past_to}
+use Rattle.fsb_timely.specs.Past.{Past}
 use Rattle.fsb_timely.specs.Grants.{begun_at}
 use Rattle.fsb_timely.specs.Scripts.{is_locked, items_of, next_item}
 use Rattle.fsb_timely.specs.Wants.{want_of}
-use Rattle.fsb_timely.specs.Starts.{is_exactly}
+use Rattle.fsb_timely.specs.Runs.{Run, past_to}
 
 -- agent a begins a request at t
 unfoldable pub is_begun_by : Past → ℕ → ℕ → Bool
@@ -56,4 +57,4 @@ keeps_lock p c a = holds_since (is_locked_request p a) (is_released_before p a) 
 
 -- Bus lock: LOCK# is at c exactly where an agent keeps the bus locked.
 unfoldable pub drives_lock : Run → Past → ℕ → Bool
-drives_lock r p c = is_exactly (line_at LOCK r.trace c) (any_where (keeps_lock p c) 4)
+drives_lock r p c = beq (line_at LOCK r.trace c) (any_where (keeps_lock p c) 4)

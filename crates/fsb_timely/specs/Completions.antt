@@ -1,23 +1,24 @@
 -- Completions: which entries the log has at a clock.
 use Rattle.std.specs.Prelude.{ℕ, ◌+◌, ◌&&◌, ◌||◌, Bool, true, false, not, nat_eq, nat_le, nat_lt, List, [], ◌∷◌, ◌++◌, map}
-use Rattle.fsb_access.specs.declared.item.Item.{Item}
-use Rattle.fsb_access.specs.declared.log.Done.{Done}
 use Rattle.std.specs.List.{list_any, list_all, filter}
 use Rattle.std.specs.Option.{option_map_or}
-use Rattle.fsb_count.specs.Options.{is_some_and}
 use Rattle.fsb_count.specs.Clocks.{any_where}
+use Rattle.fsb_count.specs.Options.{is_some_and}
 use Rattle.fsb_access.specs.declared.access.Access.{Access}
 use Rattle.fsb_access.specs.declared.access.Access.TheVariants.{Load, Store}
 use Rattle.fsb_access.specs.declared.access.Operand.{Operand}
 use Rattle.fsb_access.specs.declared.access.Operand.TheVariants.{Literal, LastPlus}
+use Rattle.fsb_access.specs.declared.item.Item.{Item}
+use Rattle.fsb_access.specs.declared.log.Done.{Done}
 use Rattle.fsb_access.specs.ScriptOrder.{Step, steps_of_item, step_of}
-use Rattle.fsb_timely.specs.Runs.{Run, Past}
+use Rattle.fsb_timely.specs.Past.{Past}
 use Rattle.fsb_timely.specs.Grants.{is_end_at, grant_at, is_granted, has_arrived}
 use Rattle.fsb_timely.specs.Scripts.{Need, is_idling, next_number, next_item, needs_of}
 use Rattle.fsb_timely.specs.Hits.{is_met, is_hit}
+use Rattle.fsb_timely.specs.Runs.{Run}
 
--- the grant at t is one whose end is c, and it brings what is needed: a read and invalidate brings any line, a read a line
--- that is not needed alone
+-- the grant at t is of the needed line to agent a, its end is c, and it brings what is needed: a read and invalidate or an
+-- upgrade brings any line, a read a line that is not needed alone
 unfoldable pub brings_at : Past → ℕ → ℕ → Need → ℕ → Bool
 brings_at p a c need t =
     is_granted p a need.line t

@@ -1,29 +1,30 @@
 -- Which agent has which line, said by the snoop ends and the requests that came before.
 use Rattle.std.specs.Prelude.{◌≡◌, ◌<◌, IsTrue, ℕ, ◌%◌, ◌&&◌, ◌||◌, Bool, true, false, not, nat_eq, List, [], Option, Some, None, slice_get}
 use Rattle.std.specs.List.{filter_map, list_any, range_with_len}
-use Rattle.std.specs.Option.{option_map_or, option_and_then}
-use Rattle.fsb_count.specs.Options.{is_some_and}
+use Rattle.std.specs.Option.{option_map, option_map_or, option_and_then}
 use Rattle.fsb_count.specs.Clocks.{any_where, last_where, holds_since}
+use Rattle.fsb_count.specs.Options.{is_some_and}
 use Rattle.fsb_encode.specs.declared.request.Kind.{Kind}
+use Rattle.fsb_encode.specs.declared.request.Kind.TheVariants.{Invalidate, Read, Reply, Upgrade, WriteBack}
 use Rattle.fsb_trace.specs.Requests.{is_write_back_kind}
-use Rattle.fsb_timely.specs.Moments.{Claim, Grant, SnoopEnd, is_owning}
-use Rattle.fsb_timely.specs.Runs.{Past}
+use Rattle.fsb_timely.specs.Past.{Claim, Grant, SnoopEnd, Past}
 
 -- the request of a symmetric agent that begins at t
 unfoldable pub begun_at : Past → ℕ → Option Claim
-begun_at p t = option_and_then (λ moment. moment.begun) (slice_get p.moments t)
+begun_at p t =
+    option_map (λ owing. owing.claim) (option_and_then (λ moment. moment.begun) (slice_get p.moments t))
 
 -- the snoop end at t
 unfoldable pub snooped_at : Past → ℕ → Option SnoopEnd
 snooped_at p t = option_and_then (λ moment. moment.snooped) (slice_get p.moments t)
 
 -- the first clocks of the live requests whose end is t
-unfoldable pub ends_at : Past → ℕ → List ℕ
-ends_at p t = option_map_or (λ moment. moment.ended) (slice_get p.moments t) []
+unfoldable pub ended_requests : Past → ℕ → List ℕ
+ended_requests p t = option_map_or (λ moment. moment.ended) (slice_get p.moments t) []
 
 -- the live request that begins at q has its end at t
 unfoldable pub is_end_at : Past → ℕ → ℕ → Bool
-is_end_at p t q = list_any (nat_eq q) (ends_at p t)
+is_end_at p t q = list_any (nat_eq q) (ended_requests p t)
 
 -- the grant whose snoop end is t
 unfoldable pub grant_at : Past → ℕ → Option Grant
@@ -37,6 +38,14 @@ set_of p line = line % p.plan.cache
 unfoldable pub is_rival : Past → ℕ → ℕ → Bool
 is_rival p line other = nat_eq (set_of p line) (set_of p other) && not (nat_eq line other)
 
+-- a request of this kind makes its agent the owner of the line: a read and invalidate, or an upgrade
+unfoldable pub is_owning : Kind → Bool
+is_owning Reply = false
+is_owning Invalidate = true
+is_owning Read = false
+is_owning WriteBack = false
+is_owning Upgrade = true
+
 -- the claim is the agent's, for the line
 unfoldable pub is_claim_of : ℕ → ℕ → Claim → Bool
 is_claim_of a line claim = nat_eq claim.agent a && nat_eq claim.line line
@@ -49,11 +58,11 @@ is_claim_of_other a line claim = not (nat_eq claim.agent a) && nat_eq claim.line
 unfoldable pub is_granted : Past → ℕ → ℕ → ℕ → Bool
 is_granted p a line t = is_some_and (grant_at p t) (λ grant. nat_eq grant.agent a && nat_eq grant.line line)
 
--- agent a begins a request for another line of the line's cache set at t
+-- agent a begins a request for another line of the line's cache set at t, be it cancelled or retried later
 unfoldable pub is_evicted : Past → ℕ → ℕ → ℕ → Bool
 is_evicted p a line t = is_some_and (begun_at p t) (λ claim. nat_eq claim.agent a && is_rival p claim.line line)
 
--- the snoop end at t is that of a request of this claim and this kind
+-- the snoop end is that of a request whose claim and whose kind pass these tests
 unfoldable pub is_snooped : (Claim → Bool) → (Kind → Bool) → SnoopEnd → Bool
 is_snooped of_claim of_kind s = is_some_and s.claim of_claim && is_some_and s.kind of_kind
 
@@ -61,7 +70,7 @@ is_snooped of_claim of_kind s = is_some_and s.claim of_claim && is_some_and s.ki
 unfoldable pub is_written_back : Past → ℕ → ℕ → ℕ → Bool
 is_written_back p a line t = is_some_and (snooped_at p t) (is_snooped (is_claim_of a line) is_write_back_kind)
 
--- t is the snoop end of a live read and invalidate of the line by another agent
+-- t is the snoop end of a live read and invalidate or upgrade of the line by another agent, whatever its outcome
 unfoldable pub is_taken_away : Past → ℕ → ℕ → ℕ → Bool
 is_taken_away p a line t = is_some_and (snooped_at p t) (is_snooped (is_claim_of_other a line) is_owning)
 
@@ -70,8 +79,8 @@ unfoldable pub is_lost : Past → ℕ → ℕ → ℕ → Bool
 is_lost p a line t = is_evicted p a line t || is_written_back p a line t || is_taken_away p a line t
 
 -- agent a holds the line at c: it was granted to a below c, and not lost since
-unfoldable pub is_held : Past → ℕ → ℕ → ℕ → Bool
-is_held p a line c = holds_since (is_granted p a line) (is_lost p a line) c
+unfoldable pub holds_line : Past → ℕ → ℕ → ℕ → Bool
+holds_line p a line c = holds_since (is_granted p a line) (is_lost p a line) c
 
 -- the line was granted to agent a below c, and a did not lose it between that clock and c
 pub record IsHeldSince (p : Past) (a line c : ℕ) : Type 0 where
@@ -101,15 +110,15 @@ unfoldable pub is_named_by_other : Past → ℕ → ℕ → ℕ → Bool
 is_named_by_other p a line t =
     is_some_and (snooped_at p t) (λ s. is_some_and s.claim (is_claim_of_other a line))
 
--- the grant is by a read and invalidate, or by a read with neither HIT# nor HITM# at its snoop end
-unfoldable pub is_sole : Grant → Bool
-is_sole grant = grant.owns || not grant.shared
+-- the grant is by a read and invalidate or an upgrade, or by a read with neither HIT# nor HITM# at its snoop end
+unfoldable pub is_sole_grant : Grant → Bool
+is_sole_grant grant = grant.owns || not grant.shared
 
 -- agent a has the line for itself at c: it holds it, its latest grant is a sole one, and since that grant no live
 -- request of another agent that names the line had its snoop end
 unfoldable pub is_exclusive : Past → ℕ → ℕ → ℕ → Bool
 is_exclusive p a line c =
-    is_held p a line c && is_some_and (latest_grant p a line c) is_sole
+    holds_line p a line c && is_some_and (latest_grant p a line c) is_sole_grant
     && holds_since (is_granted p a line) (is_named_by_other p a line) c
 
 -- the line of the grant at t, where it is to agent a

@@ -1,14 +1,17 @@
 -- How a run grows, clock by clock.
-use Rattle.std.specs.Prelude.{ℕ, ◌+◌, ◌&&◌, ◌||◌, nat_eq, nat_le, slice_get, ◌≡◌, ◌<◌, Bool, List, [], ◌∷◌, ◌++◌, length, IsTrue}
-use Rattle.std.specs.List.{list_all}
+use Rattle.std.specs.Prelude.{ℕ, ◌+◌, ◌&&◌, ◌||◌, nat_eq, nat_le, slice_get, ◌≡◌, ◌<◌, Bool, true, false, List, [], ◌∷◌, ◌++◌, length, IsTrue}
+use Rattle.std.specs.List.{list_all, list_any}
 use Rattle.fsb_count.specs.Options.{is_at}
-use Rattle.fsb_trace.specs.At.{Trace}
-use Rattle.fsb_trace.specs.Requests.{is_cancelled, is_live, live_number_of}
-use Rattle.fsb_trace.specs.Flight.{last_clock_of}
+use Rattle.fsb_signal.specs.declared.sample.Sample.{Sample}
 use Rattle.fsb_access.specs.declared.log.Done.{Done}
 use Rattle.fsb_hazard.specs.declared.choice.Choice.{Choice}
-use Rattle.fsb_signal.specs.declared.sample.Sample.{Sample}
-use Rattle.fsb_timely.specs.Runs.{Run, Past, requests_below}
+use Rattle.fsb_trace.specs.At.{Trace}
+use Rattle.fsb_trace.specs.Flight.{last_clock_of}
+use Rattle.fsb_trace.specs.Requests.{is_cancelled, is_live, live_number_of}
+use Rattle.fsb_timely.specs.Past.{Past}
+use Rattle.fsb_timely.specs.Scripts.{is_done_at}
+use Rattle.fsb_timely.specs.Hits.{is_hit}
+use Rattle.fsb_timely.specs.Runs.{Run, requests_below}
 
 -- the second run is the first with one more clock: one more sample and one more hold, maybe more choices, and entries of
 -- that clock alone
@@ -37,6 +40,12 @@ pub record GoesOn (n : ℕ) (p q : Past) : Type 0 where
   pub entries : List Done
   pub more_log : q.log ≡ p.log ++ entries
   pub at_end : IsTrue (list_all (λ done. nat_le n done.clock) entries)
+
+-- the second past goes on from the first behind the hits of clock n: an agent that has a hit there has no entry of n among
+-- those that come
+pub record GoesOnAfterHits (n : ℕ) (p q : Past) : Type 0 where
+  pub goes_on : GoesOn n p q
+  pub hits_done : (a : ℕ) → is_hit p a n ≡ true → list_any (is_done_at a n) goes_on.entries ≡ false
 
 -- c is the last clock at which the request that begins at q is outstanding: its address error is at c, or its end, or, if it
 -- is Deferred, that of its reply

@@ -2,13 +2,14 @@
 use Rattle.std.specs.Prelude.{ℕ, zero, suc, ◌+◌, Bool, nat_le, List, [], ◌∷◌, ◌++◌, take, length}
 use Rattle.std.specs.List.{filter}
 use Rattle.fsb_count.specs.Clocks.{count_where}
-use Rattle.fsb_access.specs.declared.log.Done.{Done}
 use Rattle.fsb_signal.specs.declared.lines.TheConstants.Lines.{ADS}
 use Rattle.fsb_signal.specs.Samples.{line_at}
+use Rattle.fsb_access.specs.declared.log.Done.{Done}
 use Rattle.fsb_hazard.specs.declared.choice.Choice.{Choice}
 use Rattle.fsb_script.specs.Plans.{PlanView}
 use Rattle.fsb_trace.specs.At.{Trace}
-use Rattle.fsb_timely.specs.Moments.{Moment, moment_at}
+use Rattle.fsb_timely.specs.Past.{Moment, Past}
+use Rattle.fsb_timely.specs.Moments.{moment_at}
 
 -- the plan, a choice for each request, a hold (whether BNR# is asked for) for each clock, the trace, and the log
 pub record Run : Type 0 where
@@ -36,18 +37,18 @@ run_to r c = record {
   log = entries_to c r.log;
 }
 
+-- the past below clock c of a run, where these are its moments: what the moment of c rests on
+abbrev pub past_with : Run → List Moment → ℕ → Past
+past_with r moments c = record { plan = r.plan; moments = moments; log = entries_to c r.log }
+
+-- the moment of clock c of a run, after these moments
+abbrev pub next_moment : Run → List Moment → ℕ → Moment
+next_moment r moments c = moment_at (past_with r moments c) (run_to r c).choices (run_to r c).trace c
+
 -- the moments of the clocks below n, each from the run up to its clock and from the moments before it
 unfoldable pub moments_below : Run → ℕ → List Moment
 moments_below r zero = []
-moments_below r (suc c) =
-    let before = moments_below r c in
-    before ++ moment_at r.plan.bridge (run_to r c).choices (run_to r c).trace before c ∷ []
-
--- what the agents go by: the plan, the moments of the clocks, and the log
-pub record Past : Type 0 where
-  pub plan : PlanView
-  pub moments : List Moment
-  pub log : List Done
+moments_below r (suc c) = let before = moments_below r c in before ++ next_moment r before c ∷ []
 
 -- the past of a run: the moments of all its clocks
 unfoldable pub past_of : Run → Past

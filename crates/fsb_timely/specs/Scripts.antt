@@ -2,8 +2,8 @@
 use Rattle.std.specs.Prelude.{ℕ, zero, suc, ◌+◌, ◌-◌, ◌&&◌, Bool, true, false, not, nat_eq, nat_lt, nat_le, List, [], ◌∷◌, ◌++◌, map, drop, length, Option, slice_get, if◌then◌else◌}
 use Rattle.std.specs.List.{list_any, find}
 use Rattle.std.specs.Option.{option_map_or, option_and_then}
-use Rattle.fsb_count.specs.Options.{is_some_and}
 use Rattle.fsb_count.specs.Clocks.{first_where, last_where}
+use Rattle.fsb_count.specs.Options.{is_some_and}
 use Rattle.fsb_access.specs.declared.access.Access.{Access}
 use Rattle.fsb_access.specs.declared.access.Access.TheVariants.{Load, Store}
 use Rattle.fsb_access.specs.declared.item.Item.{Item}
@@ -11,7 +11,7 @@ use Rattle.fsb_access.specs.declared.item.Item.TheVariants.{One, Locked, Idle}
 use Rattle.fsb_access.specs.declared.log.Done.{Done}
 use Rattle.fsb_access.specs.Access.{accessed_line, chunk_of}
 use Rattle.fsb_access.specs.ScriptOrder.{script_of}
-use Rattle.fsb_timely.specs.Runs.{Past}
+use Rattle.fsb_timely.specs.Past.{Past}
 
 -- an item is idle
 unfoldable pub is_idle : Item → Bool

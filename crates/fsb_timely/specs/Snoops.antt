@@ -1,8 +1,9 @@
 -- Hazards and snoop results: what is on BNR#, AERR#, HIT#, HITM# and DEFER#.
 use Rattle.std.specs.Prelude.{ℕ, ◌-◌, ◌&&◌, ◌||◌, Bool, true, false, not, nat_eq, nat_le, Option, Some, None, slice_get}
+use Rattle.std.specs.Bool.{beq}
 use Rattle.std.specs.Option.{option_map_or, option_and_then}
-use Rattle.fsb_count.specs.Options.{is_some_and}
 use Rattle.fsb_count.specs.Clocks.{any_where}
+use Rattle.fsb_count.specs.Options.{is_some_and}
 use Rattle.fsb_signal.specs.declared.lines.TheConstants.Lines.{ADS, BNR, AERR, HIT, HITM, DEFER}
 use Rattle.fsb_signal.specs.Samples.{line_at}
 use Rattle.fsb_hazard.specs.declared.choice.Choice.{Choice}
@@ -13,11 +14,11 @@ use Rattle.fsb_trace.specs.At.{stalls_at}
 use Rattle.fsb_trace.specs.Requests.{live_clock_of, live_count, is_reply_kind}
 use Rattle.fsb_trace.specs.Snoop.{snoop_start_of, is_snoop_clock, line_at_snoop_end}
 use Rattle.fsb_trace.specs.Timing.{is_stall_from}
-use Rattle.fsb_timely.specs.Moments.{SnoopEnd, choice_at, turns_in, served_number, number_snooped_at}
-use Rattle.fsb_timely.specs.Runs.{Run, Past}
-use Rattle.fsb_timely.specs.Grants.{snooped_at, is_held}
+use Rattle.fsb_timely.specs.Past.{SnoopEnd, Past}
+use Rattle.fsb_timely.specs.Grants.{snooped_at, holds_line}
 use Rattle.fsb_timely.specs.Hits.{is_dirty}
-use Rattle.fsb_timely.specs.Starts.{is_exactly}
+use Rattle.fsb_timely.specs.Moments.{choice_at, turns_in, served_number, number_snooped_at}
+use Rattle.fsb_timely.specs.Runs.{Run}
 
 -- BNR# is asked for at c
 unfoldable pub is_bnr_chosen : Run → ℕ → Bool
@@ -47,16 +48,30 @@ is_keep (Defer later) = false
 unfoldable pub is_put_off : Past → ℕ → Bool
 is_put_off p c = is_some_and (snooped_at p c) (λ s. not (is_keep s.turn))
 
--- Hazard lines: BNR# is at c exactly where it is asked for; AERR# exactly where the request that began three clocks before
--- is to be cancelled; HIT# and HITM# together exactly where a live request stalls; DEFER# exactly at a snoop end whose
--- turn is not Keep; and HIT# or HITM# at snoop clocks alone.
+-- BNR# is at c exactly where it is asked for
+unfoldable pub drives_bnr : Run → ℕ → Bool
+drives_bnr r c = beq (line_at BNR r.trace c) (is_bnr_chosen r c)
+
+-- AERR# is at c exactly where the request that began three clocks before is to be cancelled
+unfoldable pub drives_aerr : Run → ℕ → Bool
+drives_aerr r c = beq (line_at AERR r.trace c) (is_error_chosen r c)
+
+-- HIT# and HITM# are both at c exactly where a live request stalls
+unfoldable pub drives_stalls : Run → ℕ → Bool
+drives_stalls r c = beq (stalls_at r.trace c) (any_where (is_stall_chosen r c) (live_count r.trace))
+
+-- DEFER# is at c exactly where c is a snoop end whose turn is not Keep
+unfoldable pub drives_defer : Run → Past → ℕ → Bool
+drives_defer r p c = beq (line_at DEFER r.trace c) (is_put_off p c)
+
+-- HIT# or HITM# is at c at a snoop clock alone
+unfoldable pub keeps_snoop_lines : Run → ℕ → Bool
+keeps_snoop_lines r c = is_snoop_clock r.trace c || not (line_at HIT r.trace c || line_at HITM r.trace c)
+
+-- Hazard lines: BNR#, AERR#, the stalls and DEFER# are as they are chosen, and the snoop lines are at snoop clocks alone.
 unfoldable pub drives_hazards : Run → Past → ℕ → Bool
 drives_hazards r p c =
-    is_exactly (line_at BNR r.trace c) (is_bnr_chosen r c)
-    && is_exactly (line_at AERR r.trace c) (is_error_chosen r c)
-    && is_exactly (stalls_at r.trace c) (any_where (is_stall_chosen r c) (live_count r.trace))
-    && is_exactly (line_at DEFER r.trace c) (is_put_off p c)
-    && (is_snoop_clock r.trace c || not (line_at HIT r.trace c || line_at HITM r.trace c))
+    drives_bnr r c && drives_aerr r c && drives_stalls r c && drives_defer r p c && keeps_snoop_lines r c
 
 -- an agent other than a is dirty on the line at c
 unfoldable pub is_dirty_elsewhere : Past → ℕ → ℕ → ℕ → Bool
@@ -64,7 +79,7 @@ is_dirty_elsewhere p a line c = any_where (λ b. not (nat_eq b a) && is_dirty p 
 
 -- an agent other than a holds the line at c
 unfoldable pub is_held_elsewhere : Past → ℕ → ℕ → ℕ → Bool
-is_held_elsewhere p a line c = any_where (λ b. not (nat_eq b a) && is_held p b line c) 4
+is_held_elsewhere p a line c = any_where (λ b. not (nat_eq b a) && holds_line p b line c) 4
 
 -- an agent other than the one whose snoop end this is is dirty on its line at c
 unfoldable pub is_dirty_for : Past → ℕ → SnoopEnd → Bool
@@ -93,10 +108,10 @@ is_reply_end s = is_some_and s.kind is_reply_kind
 unfoldable pub has_right_result : Run → Past → ℕ → SnoopEnd → Bool
 has_right_result r p c s =
     elim (is_reply_end s) [
-      | true ↦ is_exactly (line_at HIT r.trace c) (was_hit_before r p c) && not (line_at HITM r.trace c)
+      | true ↦ beq (line_at HIT r.trace c) (was_hit_before r p c) && not (line_at HITM r.trace c)
       | false ↦
-          is_exactly (line_at HITM r.trace c) (is_dirty_for p c s)
-          && is_exactly (line_at HIT r.trace c) (not (is_dirty_for p c s) && is_held_for p c s)
+          beq (line_at HITM r.trace c) (is_dirty_for p c s)
+          && beq (line_at HIT r.trace c) (not (is_dirty_for p c s) && is_held_for p c s)
     ]
 
 -- Snoop results: where c is a snoop end, its result is right.

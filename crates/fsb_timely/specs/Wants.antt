@@ -1,22 +1,31 @@
 -- What an agent wants of the bus.
-use Rattle.std.specs.Prelude.{ℕ, ◌+◌, ◌*◌, ◌&&◌, ◌||◌, Bool, true, false, not, nat_eq, nat_le, List, [], ◌∷◌, length, Option, Some, None, slice_get, min}
+use Rattle.std.specs.Prelude.{zero, suc, ℕ, ◌+◌, ◌*◌, ◌&&◌, ◌||◌, Bool, true, false, not, nat_eq, nat_le, List, [], ◌∷◌, length, Option, Some, None, slice_get, min, if◌then◌else◌}
 use Rattle.std.specs.List.{list_any, filter, find}
 use Rattle.std.specs.Option.{option_map, option_map_or}
-use Rattle.fsb_count.specs.Options.{is_some_and, is_at}
 use Rattle.fsb_count.specs.Clocks.{first_where}
-use Rattle.fsb_encode.specs.declared.request.Kind.TheVariants.{Invalidate, Read, WriteBack}
+use Rattle.fsb_count.specs.Options.{is_some_and}
+use Rattle.fsb_encode.specs.declared.request.Kind.{Kind}
+use Rattle.fsb_encode.specs.declared.request.Kind.TheVariants.{Invalidate, Read, WriteBack, Upgrade}
 use Rattle.fsb_encode.specs.declared.request.Request.{Request}
-use Rattle.fsb_trace.specs.Requests.{is_write_back_kind}
-use Rattle.fsb_timely.specs.Moments.{Owing}
-use Rattle.fsb_timely.specs.Runs.{Past}
-use Rattle.fsb_timely.specs.Grants.{set_of, is_rival, is_claim_of_other, lines_granted}
+use Rattle.fsb_trace.specs.Requests.{is_write_back_kind, is_upgrade_kind}
+use Rattle.fsb_timely.specs.Past.{Owing, Past, Claim}
+use Rattle.fsb_timely.specs.Grants.{set_of, is_rival, is_claim_of_other, lines_granted, holds_line}
 use Rattle.fsb_timely.specs.Scripts.{Need, is_idling, window, needs_from}
 use Rattle.fsb_timely.specs.Hits.{is_met, is_dirty}
 
+-- the requests of symmetric agents that are outstanding at c, as the clock before left them
+unfoldable pub outstanding_at : Past → ℕ → List Owing
+outstanding_at p zero = []
+outstanding_at p (suc c) = option_map_or (λ moment. moment.outstanding) (slice_get p.moments c) []
+
+-- the requests of symmetric agents that are in flight at c and have no snoop end below it, as the clock before left them
+unfoldable pub unsnooped_at : Past → ℕ → List Claim
+unsnooped_at p zero = []
+unsnooped_at p (suc c) = option_map_or (λ moment. moment.unsnooped) (slice_get p.moments c) []
+
 -- the outstanding requests of agent a at c
 unfoldable pub owed : Past → ℕ → ℕ → List Owing
-owed p a c =
-    filter (λ owing. nat_eq owing.claim.agent a) (option_map_or (λ moment. moment.outstanding) (slice_get p.moments c) [])
+owed p a c = filter (λ owing. nat_eq owing.claim.agent a) (outstanding_at p c)
 
 -- one of these requests is for the line
 unfoldable pub is_asked_for : List Owing → ℕ → Bool
@@ -52,23 +61,32 @@ unfoldable pub id_of : ℕ → ℕ → ℕ
 id_of a n = a * 16 + n
 
 -- one of these requests has the ID
-unfoldable pub has_id : List Owing → ℕ → Bool
-has_id owings did = list_any (λ owing. is_at owing.did did) owings
+unfoldable pub is_id_used : List Owing → ℕ → Bool
+is_id_used owings did = list_any (λ owing. nat_eq owing.did did) owings
 
 -- agent a's ID with the least number that none of these requests has
 unfoldable pub free_id : ℕ → List Owing → ℕ
 free_id a owings =
-    option_map_or (id_of a) (first_where (λ n. not (has_id owings (id_of a n))) (length owings + 1)) 0
+    option_map_or (id_of a) (first_where (λ n. not (is_id_used owings (id_of a n))) (length owings + 1)) 0
 
--- the request for a needed line, with an ID: a read and invalidate where it is needed for itself, otherwise a read;
--- DEN# says that it is not for a locked item
-unfoldable pub request_for : Need → ℕ → Request
-request_for need did = record {
-  kind = elim need.alone [ true ↦ Invalidate | false ↦ Read ];
+-- agent a may make an upgrade of the line at c: the profile is 2, and a holds the line
+unfoldable pub may_upgrade : Past → ℕ → ℕ → ℕ → Bool
+may_upgrade p a c line = nat_eq p.plan.profile 2 && holds_line p a line c
+
+-- the kind of agent a's request at c for a needed line: a read where it is not needed for itself, otherwise an upgrade
+-- where that may be made, and else a read and invalidate
+unfoldable pub kind_needed : Past → ℕ → ℕ → Need → Kind
+kind_needed p a c need =
+    if not need.alone then Read else (if may_upgrade p a c need.line then Upgrade else Invalidate)
+
+-- the request of this kind for a needed line, with an ID; DEN# says that it is neither for a locked item nor an upgrade
+unfoldable pub request_of_kind : Kind → Need → ℕ → Request
+request_of_kind kind need did = record {
+  kind = kind;
   line = need.line;
   chunk = need.chunk;
   did = did;
-  den = not need.locked;
+  den = not (need.locked || is_upgrade_kind kind);
 }
 
 -- the write-back of a line, with an ID
@@ -80,7 +98,7 @@ unfoldable pub want_for : Past → ℕ → ℕ → List Owing → Need → Reque
 want_for p a c owings need =
     elim (victim_of p a c need.line) [
       | Some victim ↦ write_back_of victim (free_id a owings)
-      | None ↦ request_for need (free_id a owings)
+      | None ↦ request_of_kind (kind_needed p a c need) need (free_id a owings)
     ]
 
 -- what agent a wants at c: nothing while it idles or has `ahead` requests outstanding; otherwise for the first need of
@@ -95,8 +113,7 @@ want_of p a c =
 
 -- a request of an agent other than a that names the line is in flight at c and has no snoop end below c
 unfoldable pub is_open_to_other : Past → ℕ → ℕ → ℕ → Bool
-is_open_to_other p a c line =
-    list_any (is_claim_of_other a line) (option_map_or (λ moment. moment.unsnooped) (slice_get p.moments c) [])
+is_open_to_other p a c line = list_any (is_claim_of_other a line) (unsnooped_at p c)
 
 -- agent a is held back at c: its want is a write-back, and another agent's open request names the line
 unfoldable pub is_held_back : Past → ℕ → ℕ → Bool

@@ -10,15 +10,15 @@ ghost use Rattle.fsb_signal.specs.Samples.{is_known_trace};
 ghost use Rattle.fsb_trace.specs.At.{Trace};
 ghost use Rattle.fsb_trace.specs.Snoop.{snoop_end_of};
 ghost use Rattle.fsb_trace.specs.Flight.{is_outstanding};
-ghost use Rattle.fsb_timely.specs.Moments.{SnoopEnd};
+ghost use Rattle.fsb_timely.specs.Past.{SnoopEnd, Past};
 ghost use Rattle.fsb_timely.specs.Tied.{IsSnoopOf};
-ghost use Rattle.fsb_timely.specs.Runs.{Run, Past, run_to, past_of, past_to};
-ghost use Rattle.fsb_timely.specs.Grants.{snooped_at, is_end_at, is_ended, grant_at, is_granted, is_lost, is_held, IsHeldSince, latest_grant, is_ready, is_named_by_other, is_sole, is_exclusive};
+ghost use Rattle.fsb_timely.specs.Runs.{Run, run_to, past_of, past_to};
+ghost use Rattle.fsb_timely.specs.Grants.{snooped_at, is_end_at, is_ended, grant_at, is_granted, is_lost, holds_line, IsHeldSince, latest_grant, is_ready, is_named_by_other, is_sole_grant, is_exclusive};
 ghost use Rattle.fsb_timely.specs.Scripts.{completes_at, is_logged_at, is_logged, next_number, next_item, is_idling, window};
-ghost use Rattle.fsb_timely.specs.Hits.{is_hit};
-ghost use Rattle.fsb_timely.specs.Wants.{owed, is_asked_for, want_of};
+ghost use Rattle.fsb_timely.specs.Hits.{is_hit, is_dirty};
+ghost use Rattle.fsb_timely.specs.Wants.{owed, is_asked_for, want_of, is_held_back};
 ghost use Rattle.fsb_timely.specs.Timely.{Part, holds_at, keeps, AtEachClock, IsTimelyAt, Timely};
-ghost use Rattle.fsb_timely.specs.Growth.{IsNext, IsWhole, GoesOn, is_last_clock};
+ghost use Rattle.fsb_timely.specs.Growth.{IsNext, IsWhole, GoesOn, GoesOnAfterHits, is_last_clock};
 
 /// What is said of a clock that a run has passed stays as it is when the run goes on: the run and its past up to that
 /// clock are the same, and so is each test of them.
@@ -52,7 +52,7 @@ pub fn moments_have_the_snoop_ends()
 
 /// An agent holds a line exactly where the line was granted to it and it did not lose it since.
 pub fn held_lines_were_granted()
-    ensures { (p : Past) (a line c : ℕ) → IsTrue (is_held p a line c) ↔ IsHeldSince p a line c }
+    ensures { (p : Past) (a line c : ℕ) → IsTrue (holds_line p a line c) ↔ IsHeldSince p a line c }
 {}
 
 /// What an agent holds, one clock further: a grant at the clock, or what it held and does not lose there. The latest grant
@@ -60,11 +60,11 @@ pub fn held_lines_were_granted()
 /// lost and no other agent names it. A request has ended below the next clock where it had, or ends at this one.
 pub fn held_lines_step()
     ensures held { (p : Past) (a line c : ℕ)
-        → is_held p a line (c + 1) ≡ (is_granted p a line c || (is_held p a line c && not (is_lost p a line c))) }
+        → holds_line p a line (c + 1) ≡ (is_granted p a line c || (holds_line p a line c && not (is_lost p a line c))) }
     ensures latest { (p : Past) (a line c : ℕ)
         → latest_grant p a line (c + 1) ≡ (if is_granted p a line c then grant_at p c else latest_grant p a line c) }
     ensures exclusive { (p : Past) (a line c : ℕ)
-        → is_exclusive p a line (c + 1) ≡ (if is_granted p a line c then is_some_and (grant_at p c) is_sole else (is_exclusive p a line c && (not (is_lost p a line c) && not (is_named_by_other p a line c)))) }
+        → is_exclusive p a line (c + 1) ≡ (if is_granted p a line c then is_some_and (grant_at p c) is_sole_grant else (is_exclusive p a line c && (not (is_lost p a line c) && not (is_named_by_other p a line c)))) }
     ensures ended { (p : Past) (c q : ℕ) → is_ended p (c + 1) q ≡ (is_ended p c q || is_end_at p c q) }
 {}
 
@@ -103,7 +103,7 @@ pub fn hazard_lines_go_by_number()
 /// holds, has ready and has for itself, its place in its script and its hit are the same, up to the clock at which it goes
 /// on.
 pub fn pasts_go_on()
-    ensures held { (n : ℕ) (p q : Past) (a line c : ℕ) → GoesOn n p q → c ≤ n → is_held p a line c ≡ is_held q a line c }
+    ensures held { (n : ℕ) (p q : Past) (a line c : ℕ) → GoesOn n p q → c ≤ n → holds_line p a line c ≡ holds_line q a line c }
     ensures latest { (n : ℕ) (p q : Past) (a line c : ℕ) → GoesOn n p q → c ≤ n
         → latest_grant p a line c ≡ latest_grant q a line c }
     ensures ready { (n : ℕ) (p q : Past) (a line c : ℕ) → GoesOn n p q → c ≤ n → is_ready p a line c ≡ is_ready q a line c }
@@ -114,4 +114,21 @@ pub fn pasts_go_on()
     ensures idling { (n : ℕ) (p q : Past) (a c : ℕ) → GoesOn n p q → c ≤ n → is_idling p a c ≡ is_idling q a c }
     ensures hit { (n : ℕ) (p q : Past) (a c : ℕ) → GoesOn n p q → c ≤ n → is_hit p a c ≡ is_hit q a c }
     ensures next { (r s : Run) → IsNext r s → IsWhole r → GoesOn (length r.trace) (past_of r) (past_of s) }
+{}
+
+/// What an agent wants at a clock, and whether it is held back there, rests on the past below that clock and on the entries
+/// of the clock's own hits. So it stays where a past goes on behind those hits, and at each earlier clock however it goes
+/// on; so do what the agent owes, and on which lines it is dirty.
+pub fn wants_go_on()
+    ensures owed { (n : ℕ) (p q : Past) (a c : ℕ) → GoesOn n p q → c ≤ n → owed p a c ≡ owed q a c }
+    ensures dirty { (n : ℕ) (p q : Past) (a line c : ℕ) → GoesOnAfterHits n p q → c ≤ n
+        → is_dirty p a line c ≡ is_dirty q a line c }
+    ensures want { (n : ℕ) (p q : Past) (a c : ℕ) → GoesOnAfterHits n p q → c ≤ n → want_of p a c ≡ want_of q a c }
+    ensures held_back { (n : ℕ) (p q : Past) (a c : ℕ) → GoesOnAfterHits n p q → c ≤ n
+        → is_held_back p a c ≡ is_held_back q a c }
+    ensures earlier_dirty { (n : ℕ) (p q : Past) (a line c : ℕ) → GoesOn n p q → c < n
+        → is_dirty p a line c ≡ is_dirty q a line c }
+    ensures earlier_want { (n : ℕ) (p q : Past) (a c : ℕ) → GoesOn n p q → c < n → want_of p a c ≡ want_of q a c }
+    ensures earlier_held_back { (n : ℕ) (p q : Past) (a c : ℕ) → GoesOn n p q → c < n
+        → is_held_back p a c ≡ is_held_back q a c }
 {}

@@ -2,15 +2,15 @@
 use Rattle.std.proofs.Common.{ℕ, zero, suc, ◌+◌, ◌≡◌, Bool, true, false, List, [], ◌∷◌, Some, length, slice_get, refl, sym, ap, ◌∙◌, subst, inl, inr, add-one}
 use Rattle.std.proofs.lemmas.List.{length-append}
 use Rattle.std.specs.List.{list_any}
-use Rattle.fsb_count.proofs.Nth.{slice_get-push}
+use Rattle.fsb_count.proofs.Interface.{slice_get-push}
 use Rattle.fsb_hazard.specs.declared.choice.Choice.{Choice}
 use Rattle.fsb_hazard.specs.declared.choice.Ask.TheVariants.{Clock, Begun}
 use Rattle.fsb_hazard.specs.declared.line.HazardLine.{HazardLine}
 use Rattle.fsb_hazard.specs.Choice.{quiet_choice}
 use Rattle.fsb_hazard.specs.Entry.{entry as entry_of_lines}
-use Rattle.fsb_hazard.proofs.JoinLaws.{join_commutes, join_nothing}
-use Rattle.fsb_timely.specs.Simulated.{IsChosen, IsHold, Asked}
-use Rattle.fsb_timely_rows.proofs.LaidOut.{some_request, entries_of, choice_for, choices_for, hold_for, holds_for}
+use Rattle.fsb_hazard.proofs.Interface.{join_commutes, join_nothing}
+use Rattle.fsb_timely.specs.Asked.{IsChosen, IsHold, Asked}
+use Rattle.fsb_timely_rows.proofs.LaidOut.{some_request, told_lines, choice_for, choices_for, hold_for, holds_for}
 
 length-choices : (lines : List HazardLine) (n : ℕ) → length (choices_for lines n) ≡ n
 length-choices lines zero = refl
@@ -42,22 +42,25 @@ or-nothing : (b : Bool) → b ≡ list_any (λ (x : Bool). x) (b ∷ [])
 or-nothing true = refl
 or-nothing false = refl
 
-chosen : (lines : List HazardLine) (k : ℕ) → IsChosen (Some (entries_of lines) ∷ []) k (choice_for lines k)
-chosen lines k = record {
-  answers = entry_of_lines lines (Begun k some_request) ∷ [];
-  answered = (refl, tt);
-  joined = let clear : Choice → Choice = λ choice. record choice { bnr = false } in ap clear (sym (join_commutes quiet_choice (entry_of_lines lines (Begun k some_request)) ∙ join_nothing (entry_of_lines lines (Begun k some_request))));
-}
+chosen : (lines : List HazardLine) (k : ℕ) → IsChosen (told_lines lines ∷ []) k (choice_for lines k)
+chosen lines k =
+    let answer : Choice = entry_of_lines lines (Begun k some_request) in
+    record {
+      request = some_request;
+      together = answer;
+      joined = record { answers = answer ∷ []; answered = (refl, tt); joined = sym (join_commutes quiet_choice answer ∙ join_nothing answer) };
+      chosen = refl;
+    }
 
-held : (lines : List HazardLine) (c : ℕ) → IsHold (Some (entries_of lines) ∷ []) c (hold_for lines c)
+held : (lines : List HazardLine) (c : ℕ) → IsHold (told_lines lines ∷ []) c (hold_for lines c)
 held lines c = record {
   answers = entry_of_lines lines (Clock c) ∷ [];
   answered = (refl, tt);
-  joined = or-nothing (hold_for lines c);
+  asks = or-nothing (hold_for lines c);
 }
 
-pub asked_for_lines : (lines : List HazardLine) (n m : ℕ) → Asked (Some (entries_of lines) ∷ []) (choices_for lines n) (holds_for lines m)
+pub asked_for_lines : (lines : List HazardLine) (n m : ℕ) → Asked (told_lines lines ∷ []) (choices_for lines n) (holds_for lines m)
 asked_for_lines lines n m = record {
-  chosen = λ k choice e. subst (IsChosen (Some (entries_of lines) ∷ []) k) (sym (choice-at lines n k choice e)) (chosen lines k);
-  held = λ c hold e. subst (IsHold (Some (entries_of lines) ∷ []) c) (sym (hold-at lines m c hold e)) (held lines c);
+  chosen = λ k choice e. subst (IsChosen (told_lines lines ∷ []) k) (sym (choice-at lines n k choice e)) (chosen lines k);
+  held = λ c hold e. subst (IsHold (told_lines lines ∷ []) c) (sym (hold-at lines m c hold e)) (held lines c);
 }

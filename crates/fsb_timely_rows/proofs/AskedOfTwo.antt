@@ -1,22 +1,27 @@
 -- `Asked` by itself: what two objects answered, of which one tells nothing, and answers that an object does not give.
-use Rattle.std.proofs.Common.{◌≡◌, ◌||◌, ℕ, zero, suc, Bool, true, false, refl, ap, ◌∙◌, List, [], ◌∷◌, Some, None, slice_get, arith}
+use Rattle.std.proofs.Common.{◌≡◌, ◌||◌, ℕ, zero, suc, Bool, true, false, refl, ap, ◌∙◌, List, [], ◌∷◌, Option, Some, None, slice_get, arith}
 use Rattle.std.specs.List.{list_any, fold}
 use Rattle.fsb_hazard.specs.declared.choice.Choice.{Choice}
 use Rattle.fsb_hazard.specs.declared.line.HazardLine.{HazardLine}
 use Rattle.fsb_hazard.specs.declared.line.HazardLine.TheVariants.{Stall, Bnr}
+use Rattle.fsb_hazard.specs.declared.choice.Ask.{Ask}
+use Rattle.fsb_hazard.specs.declared.choice.Ask.TheVariants.{Clock, Begun}
 use Rattle.fsb_hazard.specs.Choice.{quiet_choice, join}
-use Rattle.fsb_timely.specs.Simulated.{Asked, AreAnswers, Entries, IsChosen, IsHold, Told}
-use Rattle.fsb_timely_rows.proofs.LaidOut.{entries_of}
+use Rattle.fsb_hazard.specs.Entry.{entry}
+use Rattle.fsb_hazard.specs.Told.{Told}
+use Rattle.fsb_hazard.specs.Asking.{AreAnswers}
+use Rattle.fsb_timely.specs.Asked.{Asked, IsChosen, IsHold}
+use Rattle.fsb_timely_rows.proofs.LaidOut.{told_lines, some_request}
 
 -- two stalls of the first request, and BNR# at clock 1
 abbrev pub lines : List HazardLine
 lines = Stall 0 2 ∷ Bnr 1 1 ∷ []
 
 -- an object that tells these lines, and one that tells nothing
-abbrev pub teller : Told
-teller = Some (entries_of lines)
+abbrev pub teller : Option Told
+teller = told_lines lines
 
-abbrev pub silent : Told
+abbrev pub silent : Option Told
 silent = None
 
 -- so many stalls
@@ -35,28 +40,45 @@ both_are_asked = record {
 }
   where
     chosen-at : (k : ℕ) (choice : Choice) → slice_get (stalls 3 ∷ stalls 0 ∷ []) k ≡ Some choice → IsChosen (teller ∷ silent ∷ []) k choice
-    chosen-at zero choice e = record { answers = stalls 2 ∷ record (stalls 3) { bnr = true } ∷ []; answered = (refl, (tt, tt)); joined = cc }
-    chosen-at (suc zero) choice e = record { answers = quiet_choice ∷ quiet_choice ∷ []; answered = (refl, (tt, tt)); joined = cc }
+    chosen-at zero choice e = record {
+      request = some_request;
+      together = record (stalls 3) { bnr = true };
+      joined = record { answers = stalls 2 ∷ record (stalls 3) { bnr = true } ∷ []; answered = (refl, (tt, tt)); joined = refl };
+      chosen = cc;
+    }
+    chosen-at (suc zero) choice e = record {
+      request = some_request;
+      together = quiet_choice;
+      joined = record { answers = quiet_choice ∷ quiet_choice ∷ []; answered = (refl, (tt, tt)); joined = refl };
+      chosen = cc;
+    }
     chosen-at (suc (suc k)) choice e = absurd (let h : ⊥ = cc in h)
 
     held-at : (c : ℕ) (hold : Bool) → slice_get (true ∷ true ∷ []) c ≡ Some hold → IsHold (teller ∷ silent ∷ []) c hold
-    held-at zero hold e = record { answers = quiet_choice ∷ held ∷ []; answered = (refl, (tt, tt)); joined = cc }
-    held-at (suc zero) hold e = record { answers = held ∷ quiet_choice ∷ []; answered = (refl, (tt, tt)); joined = cc }
+    held-at zero hold e = record { answers = quiet_choice ∷ held ∷ []; answered = (refl, (tt, tt)); asks = cc }
+    held-at (suc zero) hold e = record { answers = held ∷ quiet_choice ∷ []; answered = (refl, (tt, tt)); asks = cc }
     held-at (suc (suc c)) hold e = absurd (let h : ⊥ = cc in h)
 
 -- one object that tells these lines has one answer, its entry
-one_answer : (entry : Entries → Choice) (answers : List Choice) → AreAnswers entry (teller ∷ []) answers → answers ≡ entry (entries_of lines) ∷ []
-one_answer entry [] h = absurd h
-one_answer entry (answer ∷ []) h = ap (λ a. a ∷ []) h.0
-one_answer entry (answer ∷ other ∷ answers) h = absurd h.1
+one_answer : (ask : Ask) (answers : List Choice) → AreAnswers (teller ∷ []) ask answers → answers ≡ entry lines ask ∷ []
+one_answer ask [] h = absurd h
+one_answer ask (answer ∷ []) h = ap (λ a. a ∷ []) h.0
+one_answer ask (answer ∷ other ∷ answers) h = absurd h.1
+
+-- what it chooses for a request is its entry
+told_choice : (k : ℕ) (choice : Choice) (h : IsChosen (teller ∷ []) k choice)
+    → choice ≡ record (fold join quiet_choice (entry lines (Begun k h.request) ∷ [])) { bnr = false }
+told_choice k choice h =
+    let clear : Choice → Choice = λ together. record together { bnr = false } in
+    h.chosen ∙ ap clear (h.joined.joined ∙ ap (fold join quiet_choice) (one_answer (Begun k h.request) h.joined.answers h.joined.answered))
 
 -- its choice for the first request has the two stalls
 told_stalls : (choice : Choice) → IsChosen (teller ∷ []) 0 choice → choice ≡ stalls 2
-told_stalls choice h = h.joined ∙ ap (λ answers. record (fold join quiet_choice answers) { bnr = false }) (one_answer (λ entries. entries.for_request 0) h.answers h.answered)
+told_stalls choice h = told_choice 0 choice h
 
 -- and its holds are those of the line
-told_hold : (c : ℕ) (hold : Bool) → IsHold (teller ∷ []) c hold → hold ≡ ((entries_of lines).for_clock c).bnr || false
-told_hold c hold h = h.joined ∙ ap (λ answers. list_any (λ (answer : Choice). answer.bnr) answers) (one_answer (λ entries. entries.for_clock c) h.answers h.answered)
+told_hold : (c : ℕ) (hold : Bool) → IsHold (teller ∷ []) c hold → hold ≡ (entry lines (Clock c)).bnr || false
+told_hold c hold h = h.asks ∙ ap (λ answers. list_any (λ (answer : Choice). answer.bnr) answers) (one_answer (Clock c) h.answers h.answered)
 
 -- a stall is left out
 pub stall_is_asked : ¬ Asked (teller ∷ []) (stalls 1 ∷ []) []

@@ -1,6 +1,6 @@
 -- A load of chunk three: the chunks come in the order 3, 2, 1, 0.
-use Rattle.std.proofs.Common.{◌≡◌, ℕ, zero, suc, refl, List, [], ◌∷◌, Some, None, true, false, replicate, arith, lit<}
-use Rattle.fsb_access.proofs.OrderLaws.{steps_of-nobody}
+use Rattle.std.proofs.Common.{◌≡◌, ℕ, zero, suc, refl, List, [], ◌∷◌, None, true, false, replicate, arith, lit<}
+use Rattle.fsb_access.proofs.Interface.{steps_of-nobody}
 use Rattle.fsb_access.specs.ScriptOrder.{AreOfItems, script_of, steps_of}
 use Rattle.fsb_access.specs.declared.access.Access.TheVariants.{Load}
 use Rattle.fsb_access.specs.declared.item.Item.TheVariants.{One}
@@ -10,10 +10,11 @@ use Rattle.fsb_signal.specs.declared.lines.TheConstants.Lines.{BREQ0, ADS, RS0, 
 use Rattle.fsb_trace.specs.At.{Trace}
 use Rattle.fsb_timely.specs.Runs.{Run}
 use Rattle.fsb_timely.specs.Starts.{starts_requests}
-use Rattle.fsb_timely.specs.Transfers.{carries_data}
+use Rattle.fsb_timely.specs.Carried.{carries_data}
 use Rattle.fsb_timely.specs.Timely.{holds_at, keeps}
-use Rattle.fsb_timely.specs.Simulated.{Simulated, Asked}
-use Rattle.fsb_timely_rows.proofs.LaidOut.{clock, idle, changed, entry, setting, entries_of, run_of, every_part}
+use Rattle.fsb_timely.specs.Simulated.{Simulated}
+use Rattle.fsb_timely.specs.Asked.{Asked}
+use Rattle.fsb_timely_rows.proofs.LaidOut.{clock, idle, changed, entry, setting, told_lines, run_of, every_part}
 use Rattle.fsb_timely_rows.proofs.Opened.{opened}
 use Rattle.fsb_timely_rows.proofs.Tests.{simulated_if, breaks_starts, breaks_data}
 use Rattle.fsb_timely_rows.proofs.AskedLines.{asked_for_lines}
@@ -24,6 +25,7 @@ plan = record {
   clocks = 60;
   cache = 64;
   ahead = 1;
+  profile = 1;
   bridge = None;
   mem = setting 0x58 0x01 ∷ setting 0x59 0x02 ∷ setting 0x5a 0x03 ∷ setting 0x5b 0x04 ∷ setting 0x5c 0x05 ∷ setting 0x5d 0x06 ∷ setting 0x5e 0x07 ∷ setting 0x5f 0x08 ∷ [];
   hazards = [];
@@ -94,5 +96,5 @@ pub is_simulated : Simulated run
 unfolding opened
 is_simulated = simulated_if run computes.0 refl refl refl refl (record { follows = follows; together = refl }) refl
 
-pub is_asked : Asked (Some (entries_of plan.hazards) ∷ []) run.choices run.holds
+pub is_asked : Asked (told_lines plan.hazards ∷ []) run.choices run.holds
 is_asked = asked_for_lines plan.hazards 1 60

@@ -3,8 +3,8 @@
 use Rattle.std.proofs.Common.{◌≡◌, true, false, refl, take, slice_index}
 use Rattle.fsb_line.specs.declared.state.Mesi.TheVariants.{Invalid, Shared, Exclusive, Modified}
 use Rattle.fsb_timely.specs.Runs.{Run, past_of}
-use Rattle.fsb_timely.specs.Hits.{state_of}
-use Rattle.fsb_timely.specs.Simulated.{is_named, bytes_now, bytes_put}
+use Rattle.fsb_timely.specs.Hits.{line_state_of}
+use Rattle.fsb_timely.specs.Kept.{is_named, bytes_now, bytes_put}
 use Rattle.fsb_timely_rows.proofs.Opened.{opened}
 use Rattle.fsb_timely_rows.proofs.LaidOut.{run_of}
 use Rattle.fsb_timely_rows.proofs.LoadThenStoreHit.{plan as hit_plan, trace as hit_trace, log as hit_log, run as hit_run}
@@ -26,11 +26,11 @@ abbrev pub handing : Run
 handing = run_of chain_plan 3 (take 22 chain_trace) (take 2 chain_log)
 
 pub load_then_store_hit-keeps :
-    (state_of (past_of loaded) 0 2 12 ≡ Exclusive)
+    (line_state_of (past_of loaded) 0 2 12 ≡ Exclusive)
     × (take 2 (bytes_now loaded 2) ≡ take 2 (bytes_put loaded 2))
     × (slice_index (bytes_now loaded 2) 0 ≡ 7)
     × (slice_index (bytes_now loaded 2) 1 ≡ 0)
-    × (state_of (past_of hit_run) 0 2 60 ≡ Modified)
+    × (line_state_of (past_of hit_run) 0 2 60 ≡ Modified)
     × (slice_index (bytes_now hit_run 2) 0 ≡ 7)
     × (slice_index (bytes_now hit_run 2) 1 ≡ 5)
     × (slice_index (bytes_put hit_run 2) 0 ≡ 7)
@@ -39,19 +39,19 @@ unfolding opened
 load_then_store_hit-keeps = (refl, refl, refl, refl, refl, refl, refl, refl, refl)
 
 pub dirty_victim_written_back-keeps :
-    (state_of (past_of stored) 0 2 14 ≡ Modified)
+    (line_state_of (past_of stored) 0 2 14 ≡ Modified)
     × (slice_index (bytes_now stored 2) 0 ≡ 1)
     × (slice_index (bytes_put stored 2) 0 ≡ 0)
-    × (state_of (past_of victim_run) 0 2 60 ≡ Exclusive)
-    × (state_of (past_of victim_run) 0 4 60 ≡ Invalid)
+    × (line_state_of (past_of victim_run) 0 2 60 ≡ Exclusive)
+    × (line_state_of (past_of victim_run) 0 4 60 ≡ Invalid)
     × (slice_index (bytes_now victim_run 2) 0 ≡ 1)
     × (slice_index (bytes_put victim_run 2) 0 ≡ 1)
 unfolding opened
 dirty_victim_written_back-keeps = (refl, refl, refl, refl, refl, refl, refl)
 
 pub three_stores_chained-keeps :
-    (state_of (past_of handing) 1 2 22 ≡ Invalid)
-    × (state_of (past_of handing) 2 2 22 ≡ Modified)
+    (line_state_of (past_of handing) 1 2 22 ≡ Invalid)
+    × (line_state_of (past_of handing) 2 2 22 ≡ Modified)
     × (slice_index (bytes_now handing 2) 0 ≡ 2)
     × (slice_index (bytes_put handing 2) 0 ≡ 1)
     × (slice_index (bytes_now chain_run 2) 0 ≡ 3)
@@ -60,11 +60,11 @@ unfolding opened
 three_stores_chained-keeps = (refl, refl, refl, refl, refl, refl)
 
 pub four_owners-keeps :
-    (state_of (past_of owners_run) 0 2 44 ≡ Shared)
-    × (state_of (past_of owners_run) 1 2 44 ≡ Invalid)
-    × (state_of (past_of owners_run) 3 2 44 ≡ Shared)
-    × (state_of (past_of owners_run) 1 4 44 ≡ Modified)
-    × (state_of (past_of owners_run) 2 4 44 ≡ Invalid)
+    (line_state_of (past_of owners_run) 0 2 44 ≡ Shared)
+    × (line_state_of (past_of owners_run) 1 2 44 ≡ Invalid)
+    × (line_state_of (past_of owners_run) 3 2 44 ≡ Shared)
+    × (line_state_of (past_of owners_run) 1 4 44 ≡ Modified)
+    × (line_state_of (past_of owners_run) 2 4 44 ≡ Invalid)
     × (slice_index (bytes_put owners_run 2) 0 ≡ 2)
     × (slice_index (bytes_now owners_run 4) 0 ≡ 3)
     × (slice_index (bytes_put owners_run 4) 0 ≡ 1)
@@ -75,7 +75,7 @@ four_owners-keeps = (refl, refl, refl, refl, refl, refl, refl, refl, refl, refl)
 
 -- a line that was loaded stays clean though the agent stores into others
 pub window_ends-keeps :
-    (state_of (past_of window_run) 0 2 64 ≡ Exclusive)
-    × (state_of (past_of window_run) 0 5 64 ≡ Modified)
+    (line_state_of (past_of window_run) 0 2 64 ≡ Exclusive)
+    × (line_state_of (past_of window_run) 0 5 64 ≡ Modified)
 unfolding opened
 window_ends-keeps = (refl, refl)

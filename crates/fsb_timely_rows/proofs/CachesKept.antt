@@ -1,11 +1,10 @@
 -- `Kept` by itself: caches and memory that are those of a run, and ones that differ in one thing.
-use Rattle.std.proofs.Common.{◌≡◌, ◌<◌, ℕ, true, false, refl, sym, ap, ◌∙◌, List, [], ◌∷◌, take, replicate, slice_index, IsTrue, arith}
-use Rattle.std.proofs.Common.{lit<}
+use Rattle.std.proofs.Common.{◌≡◌, ◌<◌, ℕ, true, false, refl, sym, ap, ◌∙◌, List, [], ◌∷◌, take, replicate, slice_index, IsTrue, arith, lit<}
 use Rattle.std.proofs.lemmas.Bool.Decides.{nat_tests}
 use Rattle.fsb_line.specs.declared.state.Mesi.TheVariants.{Invalid, Shared, Exclusive, Modified}
 use Rattle.fsb_timely.specs.Runs.{Run, past_of}
-use Rattle.fsb_timely.specs.Grants.{is_held, is_ready}
-use Rattle.fsb_timely.specs.Simulated.{Kept, is_named}
+use Rattle.fsb_timely.specs.Grants.{holds_line, is_ready}
+use Rattle.fsb_timely.specs.Kept.{Kept, is_named}
 use Rattle.fsb_timely_rows.proofs.Opened.{opened}
 use Rattle.fsb_timely_rows.proofs.LaidOut.{run_of}
 use Rattle.fsb_timely_rows.proofs.LoadThenStoreHit.{plan as hit_plan, trace as hit_trace, run as hit_run}
@@ -40,7 +39,7 @@ pub stored_is_kept : Kept hit_run (λ a line. Modified) (λ a line. new_bytes) (
 unfolding opened
 stored_is_kept = record {
   invalid = λ a line l n e.
-      let here : is_held (past_of hit_run) a line 60 ≡ true = rw (first a l, named_hit line n) refl in
+      let here : holds_line (past_of hit_run) a line 60 ≡ true = rw (first a l, named_hit line n) refl in
       absurd (let f : true ≡ false = sym here ∙ e in cc);
   states = λ a line l n held ready. rw (first a l, named_hit line n) refl;
   copies = λ a line l n held ready. rw (named_hit line n) refl;

@@ -1,6 +1,6 @@
 -- A load of a line that is held is deferred, and then one of a line that nobody holds, whose reply is stalled.
 use Rattle.std.proofs.Common.{◌≡◌, ℕ, zero, suc, refl, List, [], ◌∷◌, Some, true, false, replicate, arith, lit<}
-use Rattle.fsb_access.proofs.OrderLaws.{steps_of-nobody}
+use Rattle.fsb_access.proofs.Interface.{steps_of-nobody}
 use Rattle.fsb_access.specs.ScriptOrder.{AreOfItems, script_of, steps_of}
 use Rattle.fsb_access.specs.declared.access.Access.TheVariants.{Load, Store}
 use Rattle.fsb_access.specs.declared.access.Operand.TheVariants.{Literal}
@@ -12,11 +12,12 @@ use Rattle.fsb_signal.specs.declared.lines.TheConstants.Lines.{BREQ0, BREQ1, BPR
 use Rattle.fsb_trace.specs.At.{Trace}
 use Rattle.fsb_timely.specs.Runs.{Run}
 use Rattle.fsb_timely.specs.Snoops.{has_snoop_result}
-use Rattle.fsb_timely.specs.Transfers.{carries_data}
+use Rattle.fsb_timely.specs.Carried.{carries_data}
 use Rattle.fsb_timely.specs.Completions.{logs_completions}
 use Rattle.fsb_timely.specs.Timely.{holds_at, keeps}
-use Rattle.fsb_timely.specs.Simulated.{Simulated, Asked}
-use Rattle.fsb_timely_rows.proofs.LaidOut.{clock, idle, changed, entry, setting, entries_of, run_of, every_part}
+use Rattle.fsb_timely.specs.Simulated.{Simulated}
+use Rattle.fsb_timely.specs.Asked.{Asked}
+use Rattle.fsb_timely_rows.proofs.LaidOut.{clock, idle, changed, entry, setting, told_lines, run_of, every_part}
 use Rattle.fsb_timely_rows.proofs.Opened.{opened}
 use Rattle.fsb_timely_rows.proofs.Tests.{simulated_if, breaks_snoop_results, breaks_completions, breaks_data}
 use Rattle.fsb_timely_rows.proofs.AskedLines.{asked_for_lines}
@@ -27,6 +28,7 @@ plan = record {
   clocks = 60;
   cache = 64;
   ahead = 1;
+  profile = 1;
   bridge = Some (record { base = 0x0; size = 0x1000 });
   mem = setting 0x5f 0x09 ∷ setting 0x50 0x03 ∷ [];
   hazards = DeferLine 1 0 ∷ DeferLine 3 8 ∷ StallLine 5 1 ∷ [];
@@ -170,5 +172,5 @@ pub is_simulated : Simulated run
 unfolding opened
 is_simulated = simulated_if run computes.0 refl refl refl refl (record { follows = follows; together = refl }) refl
 
-pub is_asked : Asked (Some (entries_of plan.hazards) ∷ []) run.choices run.holds
+pub is_asked : Asked (told_lines plan.hazards ∷ []) run.choices run.holds
 is_asked = asked_for_lines plan.hazards 6 60

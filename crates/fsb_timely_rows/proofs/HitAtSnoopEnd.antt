@@ -1,6 +1,6 @@
 -- A store hits in the very clock of another agent's snoop end.
-use Rattle.std.proofs.Common.{◌≡◌, ℕ, zero, suc, refl, List, [], ◌∷◌, Some, None, true, false, arith, lit<}
-use Rattle.fsb_access.proofs.OrderLaws.{steps_of-nobody}
+use Rattle.std.proofs.Common.{◌≡◌, ℕ, zero, suc, refl, List, [], ◌∷◌, None, true, false, arith, lit<}
+use Rattle.fsb_access.proofs.Interface.{steps_of-nobody}
 use Rattle.fsb_access.specs.ScriptOrder.{AreOfItems, script_of, steps_of}
 use Rattle.fsb_access.specs.declared.access.Access.TheVariants.{Load, Store}
 use Rattle.fsb_access.specs.declared.access.Operand.TheVariants.{Literal, LastPlus}
@@ -13,8 +13,9 @@ use Rattle.fsb_timely.specs.Runs.{Run}
 use Rattle.fsb_timely.specs.Snoops.{drives_hazards, has_snoop_result}
 use Rattle.fsb_timely.specs.Completions.{logs_completions}
 use Rattle.fsb_timely.specs.Timely.{holds_at, keeps}
-use Rattle.fsb_timely.specs.Simulated.{Simulated, Asked}
-use Rattle.fsb_timely_rows.proofs.LaidOut.{clock, idle, changed, entry, entries_of, run_of, every_part}
+use Rattle.fsb_timely.specs.Simulated.{Simulated}
+use Rattle.fsb_timely.specs.Asked.{Asked}
+use Rattle.fsb_timely_rows.proofs.LaidOut.{clock, idle, changed, entry, told_lines, run_of, every_part}
 use Rattle.fsb_timely_rows.proofs.Opened.{opened}
 use Rattle.fsb_timely_rows.proofs.Tests.{simulated_if, breaks_hazards, breaks_snoop_results, breaks_completions}
 use Rattle.fsb_timely_rows.proofs.AskedLines.{asked_for_lines}
@@ -25,6 +26,7 @@ plan = record {
   clocks = 36;
   cache = 64;
   ahead = 1;
+  profile = 1;
   bridge = None;
   mem = [];
   hazards = [];
@@ -198,5 +200,5 @@ pub is_simulated : Simulated run
 unfolding opened
 is_simulated = simulated_if run computes.0 refl refl refl refl (record { follows = follows; together = refl }) refl
 
-pub is_asked : Asked (Some (entries_of plan.hazards) ∷ []) run.choices run.holds
+pub is_asked : Asked (told_lines plan.hazards ∷ []) run.choices run.holds
 is_asked = asked_for_lines plan.hazards 3 36

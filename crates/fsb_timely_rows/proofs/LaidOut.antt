@@ -1,5 +1,5 @@
 -- Runs written out clock by clock.
-use Rattle.std.proofs.Common.{ℕ, zero, suc, ◌+◌, ◌&&◌, Bool, false, List, [], ◌∷◌, ◌++◌, length, take, set}
+use Rattle.std.proofs.Common.{ℕ, zero, suc, ◌+◌, ◌&&◌, Bool, false, List, [], ◌∷◌, ◌++◌, length, take, set, Option, Some}
 use Rattle.fsb_access.specs.declared.access.Access.{Access}
 use Rattle.fsb_access.specs.declared.access.Setting.{Setting}
 use Rattle.fsb_access.specs.declared.log.Done.{Done}
@@ -8,6 +8,7 @@ use Rattle.fsb_encode.specs.declared.request.Request.{Request}
 use Rattle.fsb_hazard.specs.declared.choice.Choice.{Choice}
 use Rattle.fsb_hazard.specs.declared.choice.Ask.TheVariants.{Clock, Begun}
 use Rattle.fsb_hazard.specs.declared.line.HazardLine.{HazardLine}
+use Rattle.fsb_hazard.specs.Told.{Told, by_lines}
 use Rattle.fsb_hazard.specs.Entry.{entry as entry_of_lines}
 use Rattle.fsb_script.specs.Plans.{PlanView}
 use Rattle.fsb_signal.specs.declared.lines.Lines.{Lines}
@@ -17,11 +18,12 @@ use Rattle.fsb_trace.specs.At.{Trace}
 use Rattle.fsb_timely.specs.Runs.{Run}
 use Rattle.fsb_timely.specs.Starts.{starts_requests, drives_request_lines}
 use Rattle.fsb_timely.specs.Snoops.{drives_hazards, has_snoop_result}
-use Rattle.fsb_timely.specs.Transfers.{drives_responses, carries_data}
+use Rattle.fsb_timely.specs.Transfers.{drives_responses}
+use Rattle.fsb_timely.specs.Carried.{carries_data}
 use Rattle.fsb_timely.specs.Completions.{logs_completions}
 use Rattle.fsb_timely.specs.BusLock.{drives_lock}
+use Rattle.fsb_timely.specs.ParityLines.{drives_parity}
 use Rattle.fsb_timely.specs.Timely.{Part}
-use Rattle.fsb_timely.specs.Simulated.{Entries}
 
 -- the bits of some different lines together
 abbrev pub bits_of : List Lines → ℕ
@@ -53,9 +55,8 @@ abbrev pub some_request : Request
 some_request = record { kind = Read; line = 0; chunk = 0; did = 0; den = false }
 
 -- what an object tells that tells these lines
-abbrev pub entries_of : List HazardLine → Entries
-entries_of lines =
-    record { for_clock = λ c. entry_of_lines lines (Clock c); for_request = λ k. entry_of_lines lines (Begun k some_request) }
+abbrev pub told_lines : List HazardLine → Option Told
+told_lines lines = Some (by_lines lines)
 
 -- what an object that tells these lines answers for request k, BNR# left out
 abbrev pub choice_for : List HazardLine → ℕ → Choice
@@ -75,10 +76,10 @@ abbrev pub holds_for : List HazardLine → ℕ → List Bool
 holds_for lines zero = []
 holds_for lines (suc n) = holds_for lines n ++ hold_for lines n ∷ []
 
--- the seven parts together, and the data
+-- the eight parts together, and the data
 abbrev pub every_part : Part
 every_part r p c =
-    starts_requests r p c && (drives_request_lines r p c && (drives_hazards r p c && (has_snoop_result r p c && (drives_responses r p c && (logs_completions r p c && (drives_lock r p c && carries_data r p c))))))
+    starts_requests r p c && (drives_request_lines r p c && (drives_hazards r p c && (has_snoop_result r p c && (drives_responses r p c && (logs_completions r p c && (drives_lock r p c && (drives_parity r p c && carries_data r p c)))))))
 
 -- the run of a plan with so many requests, whose one hazard object tells the plan's lines
 abbrev pub run_of : PlanView → ℕ → Trace → List Done → Run

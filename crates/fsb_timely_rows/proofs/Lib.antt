@@ -1,6 +1,7 @@
 pub mod Opened
 pub mod LaidOut
 pub mod Tests
+pub mod ParityByDigits
 pub mod AskedLines
 mod LoadThenStoreHit
 mod TwoAgentsOverlap
@@ -47,3 +48,41 @@ mod ReplyPastHeldBack
 mod CachesAndMemory
 mod CachesKept
 mod AskedOfTwo
+mod UpgradeOfASharedLine
+mod UpgradeLostAndHanded
+mod UpgradeLostAndMadeAgain
+mod ParityOfALoad
+mod CancelledUpgrade
+mod LockedUpgrade
+mod RetriedUpgrade
+mod DeferredWithUpgrades
+mod StoreAtSnoopEnd
+mod DropAtSnoopEnd
+mod Mixed00
+mod Mixed01
+mod Mixed02
+mod Mixed03
+mod Mixed04
+mod Mixed05
+mod Mixed06
+mod Mixed07
+mod Mixed08
+mod Mixed09
+mod Mixed10
+mod Mixed11
+mod Mixed12
+mod Mixed13
+mod Mixed14
+mod Mixed15
+mod Mixed16
+mod Mixed17
+mod Mixed18
+mod Mixed19
+mod Mixed20
+mod Mixed21
+mod Mixed22
+mod Mixed23
+mod Mixed24
+mod Mixed25
+mod Mixed26
+mod Mixed27

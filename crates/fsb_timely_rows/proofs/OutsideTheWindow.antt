@@ -1,6 +1,6 @@
 -- Deferrals at the edges of the bridge's window; two replies are due at once.
 use Rattle.std.proofs.Common.{◌≡◌, ℕ, zero, suc, refl, List, [], ◌∷◌, Some, true, false, replicate, arith, lit<}
-use Rattle.fsb_access.proofs.OrderLaws.{steps_of-nobody}
+use Rattle.fsb_access.proofs.Interface.{steps_of-nobody}
 use Rattle.fsb_access.specs.ScriptOrder.{AreOfItems, script_of, steps_of}
 use Rattle.fsb_access.specs.declared.access.Access.TheVariants.{Load, Store}
 use Rattle.fsb_access.specs.declared.access.Operand.TheVariants.{Literal}
@@ -13,10 +13,11 @@ use Rattle.fsb_trace.specs.At.{Trace}
 use Rattle.fsb_timely.specs.Runs.{Run}
 use Rattle.fsb_timely.specs.Starts.{drives_request_lines}
 use Rattle.fsb_timely.specs.Snoops.{drives_hazards, has_snoop_result}
-use Rattle.fsb_timely.specs.Transfers.{carries_data}
+use Rattle.fsb_timely.specs.Carried.{carries_data}
 use Rattle.fsb_timely.specs.Timely.{holds_at, keeps}
-use Rattle.fsb_timely.specs.Simulated.{Simulated, Asked}
-use Rattle.fsb_timely_rows.proofs.LaidOut.{clock, idle, changed, entry, setting, entries_of, run_of, every_part}
+use Rattle.fsb_timely.specs.Simulated.{Simulated}
+use Rattle.fsb_timely.specs.Asked.{Asked}
+use Rattle.fsb_timely_rows.proofs.LaidOut.{clock, idle, changed, entry, setting, told_lines, run_of, every_part}
 use Rattle.fsb_timely_rows.proofs.Opened.{opened}
 use Rattle.fsb_timely_rows.proofs.Tests.{simulated_if, breaks_request_lines, breaks_hazards, breaks_snoop_results, breaks_data}
 use Rattle.fsb_timely_rows.proofs.AskedLines.{asked_for_lines}
@@ -27,6 +28,7 @@ plan = record {
   clocks = 60;
   cache = 64;
   ahead = 1;
+  profile = 1;
   bridge = Some (record { base = 0x1000; size = 0x40 });
   mem = setting 0xfe0 0x11 ∷ setting 0x1000 0x22 ∷ setting 0x1020 0x33 ∷ setting 0x1040 0x44 ∷ [];
   hazards = DeferLine 0 0 ∷ DeferLine 1 0 ∷ DeferLine 2 5 ∷ DeferLine 3 0 ∷ [];
@@ -173,5 +175,5 @@ pub is_simulated : Simulated run
 unfolding opened
 is_simulated = simulated_if run computes.0 refl refl refl refl (record { follows = follows; together = refl }) refl
 
-pub is_asked : Asked (Some (entries_of plan.hazards) ∷ []) run.choices run.holds
+pub is_asked : Asked (told_lines plan.hazards ∷ []) run.choices run.holds
 is_asked = asked_for_lines plan.hazards 7 60

@@ -7,12 +7,14 @@ use Rattle.fsb_signal.specs.Samples.{is_known_trace}
 use Rattle.fsb_timely.specs.Runs.{Run, requests_below}
 use Rattle.fsb_timely.specs.Starts.{starts_requests, drives_request_lines}
 use Rattle.fsb_timely.specs.Snoops.{drives_hazards, has_snoop_result}
-use Rattle.fsb_timely.specs.Transfers.{drives_responses, carries_data}
+use Rattle.fsb_timely.specs.Transfers.{drives_responses}
+use Rattle.fsb_timely.specs.Carried.{carries_data}
 use Rattle.fsb_timely.specs.Completions.{logs_completions, is_in_time}
 use Rattle.fsb_timely.specs.BusLock.{drives_lock}
+use Rattle.fsb_timely.specs.ParityLines.{drives_parity}
 use Rattle.fsb_timely.specs.Timely.{Part, holds_in, holds_at, keeps, AtEachClock}
 use Rattle.fsb_timely.specs.Simulated.{Simulated}
-use Rattle.fsb_timely.proofs.EachClock.{keeps-at}
+use Rattle.fsb_timely.proofs.Interface.{keeps-at}
 use Rattle.fsb_timely_rows.proofs.LaidOut.{every_part}
 
 -- two parts together, clock by clock
@@ -26,22 +28,25 @@ second_of_two one two r h = record { at = λ c l. (and_parts _ _ (h.at c l)).1 }
 
 -- what is left of every part after the first n
 abbrev rest1 : Part
-rest1 r p c = drives_request_lines r p c && (drives_hazards r p c && (has_snoop_result r p c && (drives_responses r p c && (logs_completions r p c && (drives_lock r p c && carries_data r p c)))))
+rest1 r p c = drives_request_lines r p c && (drives_hazards r p c && (has_snoop_result r p c && (drives_responses r p c && (logs_completions r p c && (drives_lock r p c && (drives_parity r p c && carries_data r p c))))))
 
 abbrev rest2 : Part
-rest2 r p c = drives_hazards r p c && (has_snoop_result r p c && (drives_responses r p c && (logs_completions r p c && (drives_lock r p c && carries_data r p c))))
+rest2 r p c = drives_hazards r p c && (has_snoop_result r p c && (drives_responses r p c && (logs_completions r p c && (drives_lock r p c && (drives_parity r p c && carries_data r p c)))))
 
 abbrev rest3 : Part
-rest3 r p c = has_snoop_result r p c && (drives_responses r p c && (logs_completions r p c && (drives_lock r p c && carries_data r p c)))
+rest3 r p c = has_snoop_result r p c && (drives_responses r p c && (logs_completions r p c && (drives_lock r p c && (drives_parity r p c && carries_data r p c))))
 
 abbrev rest4 : Part
-rest4 r p c = drives_responses r p c && (logs_completions r p c && (drives_lock r p c && carries_data r p c))
+rest4 r p c = drives_responses r p c && (logs_completions r p c && (drives_lock r p c && (drives_parity r p c && carries_data r p c)))
 
 abbrev rest5 : Part
-rest5 r p c = logs_completions r p c && (drives_lock r p c && carries_data r p c)
+rest5 r p c = logs_completions r p c && (drives_lock r p c && (drives_parity r p c && carries_data r p c))
 
 abbrev rest6 : Part
-rest6 r p c = drives_lock r p c && carries_data r p c
+rest6 r p c = drives_lock r p c && (drives_parity r p c && carries_data r p c)
+
+abbrev rest7 : Part
+rest7 r p c = drives_parity r p c && carries_data r p c
 
 pub simulated_if :
     (r : Run) → keeps every_part r ≡ true → IsTrue (is_known_trace r.trace) → length r.holds ≡ length r.trace
@@ -55,6 +60,7 @@ simulated_if r e known one_hold one_choice in_time in_order served =
     let h4 = second_of_two has_snoop_result rest4 r h3 in
     let h5 = second_of_two drives_responses rest5 r h4 in
     let h6 = second_of_two logs_completions rest6 r h5 in
+    let h7 = second_of_two drives_lock rest7 r h6 in
     record {
       timely = record {
         known = known;
@@ -67,9 +73,10 @@ simulated_if r e known one_hold one_choice in_time in_order served =
         snoop_results = first_of_two has_snoop_result rest4 r h3;
         responses_and_data = first_of_two drives_responses rest5 r h4;
         completions = first_of_two logs_completions rest6 r h5;
-        bus_lock = first_of_two drives_lock carries_data r h6;
+        bus_lock = first_of_two drives_lock rest7 r h6;
+        parity = first_of_two drives_parity carries_data r h7;
       };
-      carried = second_of_two drives_lock carries_data r h6;
+      carried = second_of_two drives_parity carries_data r h7;
       in_order = in_order;
       served = served;
     }
@@ -98,6 +105,9 @@ breaks_completions r c l e s = breaks logs_completions r c l e s.timely.completi
 
 pub breaks_lock : (r : Run) (c : ℕ) → c < length r.trace → holds_at drives_lock r c ≡ false → ¬ Simulated r
 breaks_lock r c l e s = breaks drives_lock r c l e s.timely.bus_lock
+
+pub breaks_parity : (r : Run) (c : ℕ) → c < length r.trace → holds_at drives_parity r c ≡ false → ¬ Simulated r
+breaks_parity r c l e s = breaks drives_parity r c l e s.timely.parity
 
 pub breaks_data : (r : Run) (c : ℕ) → c < length r.trace → holds_at carries_data r c ≡ false → ¬ Simulated r
 breaks_data r c l e s = breaks carries_data r c l e s.carried

@@ -1,6 +1,6 @@
 -- Waits and gaps of loads, of a write-back and of bursts that begin with each chunk.
-use Rattle.std.proofs.Common.{◌≡◌, ℕ, zero, suc, refl, List, [], ◌∷◌, Some, None, true, false, replicate, arith, lit<}
-use Rattle.fsb_access.proofs.OrderLaws.{steps_of-nobody}
+use Rattle.std.proofs.Common.{◌≡◌, ℕ, zero, suc, refl, List, [], ◌∷◌, None, true, false, replicate, arith, lit<}
+use Rattle.fsb_access.proofs.Interface.{steps_of-nobody}
 use Rattle.fsb_access.specs.ScriptOrder.{AreOfItems, script_of, steps_of}
 use Rattle.fsb_access.specs.declared.access.Access.TheVariants.{Load, Store}
 use Rattle.fsb_access.specs.declared.access.Operand.TheVariants.{Literal}
@@ -11,10 +11,12 @@ use Rattle.fsb_script.specs.Plans.{PlanView}
 use Rattle.fsb_signal.specs.declared.lines.TheConstants.Lines.{BREQ0, BREQ1, ADS, RS0, RS1, RS2, TRDY, DBSY, DRDY}
 use Rattle.fsb_trace.specs.At.{Trace}
 use Rattle.fsb_timely.specs.Runs.{Run}
-use Rattle.fsb_timely.specs.Transfers.{drives_responses, carries_data}
+use Rattle.fsb_timely.specs.Transfers.{drives_responses}
+use Rattle.fsb_timely.specs.Carried.{carries_data}
 use Rattle.fsb_timely.specs.Timely.{holds_at, keeps}
-use Rattle.fsb_timely.specs.Simulated.{Simulated, Asked}
-use Rattle.fsb_timely_rows.proofs.LaidOut.{clock, idle, changed, entry, setting, entries_of, run_of, every_part}
+use Rattle.fsb_timely.specs.Simulated.{Simulated}
+use Rattle.fsb_timely.specs.Asked.{Asked}
+use Rattle.fsb_timely_rows.proofs.LaidOut.{clock, idle, changed, entry, setting, told_lines, run_of, every_part}
 use Rattle.fsb_timely_rows.proofs.Opened.{opened}
 use Rattle.fsb_timely_rows.proofs.Tests.{simulated_if, breaks_responses, breaks_data}
 use Rattle.fsb_timely_rows.proofs.AskedLines.{asked_for_lines}
@@ -25,6 +27,7 @@ plan = record {
   clocks = 80;
   cache = 1;
   ahead = 2;
+  profile = 1;
   bridge = None;
   mem = setting 0x40 0x01 ∷ setting 0x48 0x02 ∷ setting 0x50 0x03 ∷ setting 0x58 0x04 ∷ setting 0x60 0x05 ∷ setting 0x68 0x06 ∷ setting 0x70 0x07 ∷ setting 0x78 0x08 ∷ setting 0x80 0x09 ∷ setting 0x88 0x0a ∷ setting 0x90 0x0b ∷ setting 0x98 0x0c ∷ [];
   hazards = GapLine 0 1 ∷ RespLine 1 2 ∷ TrdyLine 1 3 ∷ GapLine 2 2 ∷ TrdyLine 3 2 ∷ RespLine 3 1 ∷ [];
@@ -162,5 +165,5 @@ pub is_simulated : Simulated run
 unfolding opened
 is_simulated = simulated_if run computes.0 refl refl refl refl (record { follows = follows; together = refl }) refl
 
-pub is_asked : Asked (Some (entries_of plan.hazards) ∷ []) run.choices run.holds
+pub is_asked : Asked (told_lines plan.hazards ∷ []) run.choices run.holds
 is_asked = asked_for_lines plan.hazards 5 80

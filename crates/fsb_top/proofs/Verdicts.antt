@@ -2,7 +2,8 @@
 use Rattle.std.proofs.Common.{◌≡◌, List, sym, ◌∙◌}
 use Rattle.fsb_check.specs.declared.finding.Finding.{Finding}
 use Rattle.fsb_rules.specs.Checker.{as_broken}
-use Rattle.fsb_rules.proofs.Feeds.{as_broken-none}
+use Rattle.fsb_rules.proofs.Interface.{as_broken-none}
+use Rattle.fsb_signal.specs.declared.marks.Marks.{Marks}
 use Rattle.fsb_signal.specs.declared.sample.Sample.{Sample}
 use Rattle.fsb_trace.specs.Verdict.{verdict}
 use Rattle.fsb_top.specs.declared.status.Status.{Status}
@@ -10,14 +11,14 @@ use Rattle.fsb_top.specs.declared.status.Status.TheVariants as statuses
 use Rattle.fsb_top.specs.Told.{IsFindingTold}
 use Rattle.fsb_top.specs.Outcome.{TellsVerdict}
 
-pub tells_verdict : (status : Status) (finding : Finding) (w : List Sample) → IsFindingTold status finding → finding.broken ≡ as_broken (verdict w) → TellsVerdict status w
-tells_verdict statuses.Done finding w told e = as_broken-none (verdict w) (sym e ∙ told)
-tells_verdict (statuses.Rejected broken) finding w told e = sym e ∙ told
-tells_verdict statuses.WriteFault finding w told e = tt
-tells_verdict statuses.DumpFault finding w told e = told
-tells_verdict statuses.BadWords finding w told e = told
-tells_verdict (statuses.BadBench fault) finding w told e = told
-tells_verdict (statuses.BadDump fault) finding w told e = told
-tells_verdict statuses.ReadFault finding w told e = told
-tells_verdict statuses.OutOfMemory finding w told e = told
-tells_verdict statuses.TooLong finding w told e = told
+pub tells_verdict : (status : Status) (finding : Finding) (marks : Marks) (w : List Sample) → IsFindingTold status finding → finding.broken ≡ as_broken (verdict marks w) → TellsVerdict status marks w
+tells_verdict statuses.Done finding marks w told e = as_broken-none (verdict marks w) (sym e ∙ told)
+tells_verdict (statuses.Rejected broken) finding marks w told e = sym e ∙ told
+tells_verdict statuses.WriteFault finding marks w told e = tt
+tells_verdict statuses.DumpFault finding marks w told e = told
+tells_verdict statuses.BadWords finding marks w told e = told
+tells_verdict (statuses.BadBench fault) finding marks w told e = told
+tells_verdict (statuses.BadDump fault) finding marks w told e = told
+tells_verdict statuses.ReadFault finding marks w told e = told
+tells_verdict statuses.OutOfMemory finding marks w told e = told
+tells_verdict statuses.TooLong finding marks w told e = told

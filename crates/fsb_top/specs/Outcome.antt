@@ -6,12 +6,14 @@ use Rattle.fsb_access.specs.declared.log.Done.{Done as Entry}
 use Rattle.fsb_io.specs.Appends.{AppendsPart}
 use Rattle.fsb_check.specs.Found.{IsReadWhole, IsBad, HasManySamples}
 use Rattle.fsb_report.specs.LogText.{log_text}
-use Rattle.fsb_report.specs.VerdictText.{verdict_text}
+use Rattle.fsb_report.specs.VerdictText.{trace_text}
 use Rattle.fsb_rules.specs.Checker.{as_broken}
 use Rattle.fsb_script.specs.Drafts.{BenchText, FirstBad}
 use Rattle.fsb_script.specs.Plans.{PlanView}
 use Rattle.fsb_script.specs.declared.fault.ScriptFault.{ScriptFault}
 use Rattle.fsb_signal.specs.DumpText.{dump_text}
+use Rattle.fsb_signal.specs.Parity.{marks_in}
+use Rattle.fsb_signal.specs.declared.marks.Marks.{Marks}
 use Rattle.fsb_signal.specs.declared.sample.Sample.{Sample}
 use Rattle.fsb_solo.specs.SoloLog.{solo_log}
 use Rattle.fsb_solo.specs.SoloTrace.{solo_trace}
@@ -34,6 +36,10 @@ plan_log plan = solo_log plan.clocks plan.mem (script_of plan.scripts 0)
 -- the waveform of a plan
 abbrev pub plan_trace : PlanView → List Sample
 plan_trace plan = solo_trace plan.clocks plan.mem (script_of plan.scripts 0)
+
+-- the dump of a plan, in its profile
+abbrev pub plan_dump : PlanView → List ℕ
+plan_dump plan = dump_text plan.profile (plan_trace plan)
 
 -- the printed log of a plan
 abbrev pub plan_text : PlanView → List ℕ
@@ -96,9 +102,9 @@ IsLogged TooLong plan before held = Unit {0}
 -- the dump's sink, where it has a name, was begun under it and has the dump of the plan's waveform; where it failed it has
 -- a first part of that, or is as it was
 abbrev pub IsDumped : Status → PlanView → Option (List ℕ) → List ℕ → Option (List ℕ) → List ℕ → Option (List ℕ) → Type 0
-IsDumped Done plan name before was_begun_as held begun_as = HasDump (dump_text (plan_trace plan)) name held begun_as
+IsDumped Done plan name before was_begun_as held begun_as = HasDump (plan_dump plan) name held begun_as
 IsDumped DumpFault plan name before was_begun_as held begun_as =
-    HasDumpPart (dump_text (plan_trace plan)) name before was_begun_as held begun_as
+    HasDumpPart (plan_dump plan) name before was_begun_as held begun_as
 IsDumped WriteFault plan name before was_begun_as held begun_as = Unit {0}
 IsDumped (Rejected broken) plan name before was_begun_as held begun_as = Unit {0}
 IsDumped BadWords plan name before was_begun_as held begun_as = Unit {0}
@@ -110,35 +116,31 @@ IsDumped TooLong plan name before was_begun_as held begun_as = Unit {0}
 
 -- ---- a check
 
--- the verdict on a trace, as it is printed
-abbrev pub trace_text : List Sample → List ℕ
-trace_text w = verdict_text (length w) (as_broken (verdict w))
-
--- the status is that of the verdict on the trace; where the sink failed, of any
-abbrev pub TellsVerdict : Status → List Sample → Type 0
-TellsVerdict Done w = verdict w ≡ None
-TellsVerdict (Rejected broken) w = as_broken (verdict w) ≡ Some broken
-TellsVerdict WriteFault w = Unit {0}
-TellsVerdict DumpFault w = ⊥
-TellsVerdict BadWords w = ⊥
-TellsVerdict (BadBench fault) w = ⊥
-TellsVerdict (BadDump fault) w = ⊥
-TellsVerdict ReadFault w = ⊥
-TellsVerdict OutOfMemory w = ⊥
-TellsVerdict TooLong w = ⊥
+-- the status is that of the verdict on the trace, of a dump with these marks; where the sink failed, of any
+abbrev pub TellsVerdict : Status → Marks → List Sample → Type 0
+TellsVerdict Done marks w = verdict marks w ≡ None
+TellsVerdict (Rejected broken) marks w = as_broken (verdict marks w) ≡ Some broken
+TellsVerdict WriteFault marks w = Unit {0}
+TellsVerdict DumpFault marks w = ⊥
+TellsVerdict BadWords marks w = ⊥
+TellsVerdict (BadBench fault) marks w = ⊥
+TellsVerdict (BadDump fault) marks w = ⊥
+TellsVerdict ReadFault marks w = ⊥
+TellsVerdict OutOfMemory marks w = ⊥
+TellsVerdict TooLong marks w = ⊥
 
 -- the log's sink has the line of the verdict behind what it held, or a first part of it where it failed
-abbrev pub IsTold : Status → List Sample → List ℕ → List ℕ → Type 0
-IsTold Done w before held = held ≡ before ++ trace_text w
-IsTold (Rejected broken) w before held = held ≡ before ++ trace_text w
-IsTold WriteFault w before held = AppendsPart (trace_text w) before held
-IsTold DumpFault w before held = Unit {0}
-IsTold BadWords w before held = Unit {0}
-IsTold (BadBench fault) w before held = Unit {0}
-IsTold (BadDump fault) w before held = Unit {0}
-IsTold ReadFault w before held = Unit {0}
-IsTold OutOfMemory w before held = Unit {0}
-IsTold TooLong w before held = Unit {0}
+abbrev pub IsTold : Status → Marks → List Sample → List ℕ → List ℕ → Type 0
+IsTold Done marks w before held = held ≡ before ++ trace_text marks w
+IsTold (Rejected broken) marks w before held = held ≡ before ++ trace_text marks w
+IsTold WriteFault marks w before held = AppendsPart (trace_text marks w) before held
+IsTold DumpFault marks w before held = Unit {0}
+IsTold BadWords marks w before held = Unit {0}
+IsTold (BadBench fault) marks w before held = Unit {0}
+IsTold (BadDump fault) marks w before held = Unit {0}
+IsTold ReadFault marks w before held = Unit {0}
+IsTold OutOfMemory marks w before held = Unit {0}
+IsTold TooLong marks w before held = Unit {0}
 
 -- a check ends in one of these
 abbrev pub IsOfCheck : Status → Type 0
@@ -169,29 +171,31 @@ IsOfRun BadWords = ⊥
 -- ---- the whole call
 
 -- all of the file under this name was read, and it is the bench file of this plan, whose log is that of one byte memory
--- and keeps to the scripts in order, and the dump of whose waveform reads back to the waveform
+-- and keeps to the scripts in order, and the dump of whose waveform reads back to the waveform, with the marks of its
+-- profile
 pub record HasPlan (name held left : List ℕ) (begun_as : Option (List ℕ)) : Type 0 where
   pub read : HasRead held name left begun_as
   pub plan : PlanView
   pub is_bench : BenchText held plan
   pub served : Served plan.mem (plan_log plan)
   pub in_order : InOrder plan.scripts (plan_log plan)
-  pub reads_back : Reads (dump_text (plan_trace plan)) (plan_trace plan)
+  pub reads_back : Reads (plan_dump plan) (marks_in plan.profile) (plan_trace plan)
 
 -- all of the file under this name was read, and it is no bench file, with this first fault
 pub record IsBadBench (name held left : List ℕ) (begun_as : Option (List ℕ)) (fault : ScriptFault) : Type 0 where
   pub read : HasRead held name left begun_as
   pub is_bad : FirstBad held fault
 
--- all of the file under this name was read, it is the dump of this trace of at most 2^32 - 1 samples, and the status is
--- that of its verdict
+-- all of the file under this name was read, it is the dump of this trace of at most 2^32 - 1 samples with these marks, and
+-- the status is that of its verdict
 pub record HasVerdict (status : Status) (name held left : List ℕ) (begun_as : Option (List ℕ)) : Type 0 where
   pub read : IsReadWhole held left
   pub named : begun_as ≡ Some name
+  pub marks : Marks
   pub trace : List Sample
-  pub reads : Reads held trace
+  pub reads : Reads held marks trace
   pub few : length trace ≤ 2 ^ 32 - 1
-  pub told : TellsVerdict status trace
+  pub told : TellsVerdict status marks trace
 
 -- all of the file under this name was read, and it is no dump, with this first fault, before which at most 2^32 - 1
 -- samples are decided

@@ -2,6 +2,7 @@
 use Rattle.std.specs.Prelude.{ℕ, List, [], ◌++◌, codes, slice_get}
 use Rattle.std.specs.Option.{option_map_or}
 use Rattle.std.specs.Fmt.{decimal}
+use Rattle.fsb_report.specs.VerdictText.{rejected_text}
 use Rattle.fsb_script.specs.declared.fault.Cause.{Cause}
 use Rattle.fsb_script.specs.declared.fault.Cause.TheVariants.{FirstLine, Word, Number, Range, Align, Outside, LockConflict, LockSize, Missing, After, Unbuilt}
 use Rattle.fsb_signal.specs.Table.{table}
@@ -54,8 +55,7 @@ dump_cause_text causes.Cut = codes "Cut"
 -- the line on standard error, without its line feed; after Done there is none
 abbrev pub status_text : Status → List ℕ
 status_text Done = []
-status_text (Rejected broken) =
-    codes "rejected clock=" ++ decimal broken.clock ++ codes " rule=" ++ decimal broken.rule
+status_text (Rejected broken) = rejected_text broken
 status_text BadWords = codes "bad words"
 status_text (BadBench fault) = codes "bench line " ++ decimal fault.line ++ codes ": " ++ cause_name fault.cause
 status_text (BadDump fault) =

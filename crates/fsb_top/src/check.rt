@@ -2,6 +2,7 @@
 ghost use Rattle.std.specs.Prelude.{◌≡◌, ◌≤◌, ◌<◌, ◌^◌, ◌⊎◌, IsTrue, List, length};
 ghost use Rattle.fsb_check.specs.Found.{HasManySamples};
 ghost use Rattle.fsb_io.specs.Faults.{Rose};
+ghost use Rattle.fsb_signal.specs.declared.marks.Marks.{Marks};
 ghost use Rattle.fsb_signal.specs.declared.sample.Sample.{Sample};
 ghost use Rattle.vcd_grammar.specs.declared.fault.VcdFault.{VcdFault};
 ghost use Rattle.vcd_grammar.specs.Reading.{Reads};
@@ -25,8 +26,8 @@ pub fn check_file<S: Source, O: Sink>(
     ensures of_check { IsOfCheck result }
     ensures judged { IsTrue S.tells → HasRun result
         → HasVerdict result name.now (S.holds source.old) (S.left source.new) (S.begun_as source.new) }
-    ensures told { IsTrue S.tells → IsTrue O.tells → (w : List Sample) → Reads (S.holds source.old) w
-        → IsTold result w (O.holds out.old) (O.holds out.new) }
+    ensures told { IsTrue S.tells → IsTrue O.tells → (m : Marks) (w : List Sample) → Reads (S.holds source.old) m w
+        → IsTold result m w (O.holds out.old) (O.holds out.new) }
     ensures bad_dump { IsTrue S.tells → (fault : VcdFault) → result ≡ Status.BadDump fault
         → IsBadDump name.now (S.holds source.old) (S.left source.new) (S.begun_as source.new) fault }
     ensures too_long { IsTrue S.tells → result ≡ Status.TooLong

@@ -1,10 +1,12 @@
 //! The writing of a run: its log, and its dump where one was named.
-ghost use Rattle.std.specs.Prelude.{◌≡◌, ◌≢◌, ◌≤◌, ◌<◌, ◌^◌, ◌++◌, is_some, IsTrue, OnOk, OnErr, Some, None, length};
+ghost use Rattle.std.specs.Prelude.{◌≡◌, ◌≢◌, ◌≤◌, ◌<◌, ◌^◌, ◌⊎◌, ◌++◌, is_some, IsTrue, OnOk, OnErr, Some, None, length};
+ghost use Rattle.std.specs.List.{list_all};
 ghost use Rattle.std.specs.Option.{option_map, ForSome};
 ghost use Rattle.fsb_io.specs.Appends.{AppendsPart};
 ghost use Rattle.fsb_io.specs.Faults.{HasCause, Rose};
 ghost use Rattle.fsb_report.specs.LogText.{log_text};
 ghost use Rattle.fsb_signal.specs.DumpText.{dump_text};
+ghost use Rattle.fsb_signal.specs.Parity.{has_no_parity};
 ghost use Rattle.fsb_signal.specs.Samples.{is_known_trace};
 ghost use Rattle.fsb_top.specs.Writing.{HasDump, HasDumpPart};
 
@@ -32,6 +34,8 @@ pub struct Run<'a> {
     pub clocks: u32,
     /// How many accesses the scripts have.
     pub accesses: u32,
+    /// The profile, 1 or 2, which the dump is written in.
+    pub profile: u8,
     pub log: &'a [Done],
     pub trace: &'a [Sample],
 }
@@ -47,6 +51,8 @@ pub fn play<O: Sink, D: Sink>(
     requires log { length run.now.log.now < 2 ^ 32 }
     requires trace { length run.now.trace.now ≤ 200000 }
     requires known { IsTrue (is_known_trace run.now.trace.now) }
+    requires profile { run.now.profile ≡ 1 ⊎ run.now.profile ≡ 2 }
+    requires parity { run.now.profile ≡ 1 → IsTrue (list_all has_no_parity run.now.trace.now) }
 
     ensures write_fault { result ≡ Played.WriteFault → Rose (O.faults out.old) (O.faults out.new) }
     ensures dump_fault { result ≡ Played.DumpFault → Rose (D.faults dump.old) (D.faults dump.new) }
@@ -63,9 +69,9 @@ pub fn play<O: Sink, D: Sink>(
     ensures not_begun { result ≡ Played.WriteFault → dump.new ≡ dump.old }
     ensures no_dump { name.entry ≡ None → dump.new ≡ dump.old }
     ensures whole_dump { IsTrue D.tells → result ≡ Played.Done
-        → HasDump (dump_text run.now.trace.now) (option_map (λ n. n.now) name.entry) (D.holds dump.new) (D.begun_as dump.new) }
+        → HasDump (dump_text run.now.profile run.now.trace.now) (option_map (λ n. n.now) name.entry) (D.holds dump.new) (D.begun_as dump.new) }
     ensures dump_part { IsTrue D.tells → result ≡ Played.DumpFault
-        → HasDumpPart (dump_text run.now.trace.now) (option_map (λ n. n.now) name.entry) (D.holds dump.old) (D.begun_as dump.old) (D.holds dump.new) (D.begun_as dump.new) }
+        → HasDumpPart (dump_text run.now.profile run.now.trace.now) (option_map (λ n. n.now) name.entry) (D.holds dump.old) (D.begun_as dump.old) (D.holds dump.new) (D.begun_as dump.new) }
 {
     if write_log(out, run.clocks, run.accesses, run.log).is_err() {
         return Played::WriteFault;
@@ -73,23 +79,30 @@ pub fn play<O: Sink, D: Sink>(
     let Some(name) = name else {
         return Played::Done;
     };
-    match write_dump(dump, name, run.trace) {
+    match write_dump(dump, name, run.profile, run.trace) {
         Ok(()) => Played::Done,
         Err(Failed) => Played::DumpFault,
     }
 }
 
 // Begins the sink under the name and writes the dump.
-fn write_dump<D: Sink>(dump: &mut D, name: &str, trace: &[Sample]) -> Result<(), Failed>
+fn write_dump<D: Sink>(
+    dump: &mut D,
+    name: &str,
+    profile: u8,
+    trace: &[Sample],
+) -> Result<(), Failed>
     requires named { length name.now ≤ 4096 }
     requires trace { length trace.now ≤ 200000 }
     requires known { IsTrue (is_known_trace trace.now) }
-    ensures whole { IsTrue D.tells → OnOk result (D.holds dump.new ≡ dump_text trace.now) }
+    requires profile { profile ≡ 1 ⊎ profile ≡ 2 }
+    requires parity { profile ≡ 1 → IsTrue (list_all has_no_parity trace.now) }
+    ensures whole { IsTrue D.tells → OnOk result (D.holds dump.new ≡ dump_text profile trace.now) }
     ensures named { IsTrue D.tells → OnOk result (D.begun_as dump.new ≡ Some name.now) }
     ensures part { IsTrue D.tells → OnErr result
-        (HasDumpPart (dump_text trace.now) (Some name.now) (D.holds dump.old) (D.begun_as dump.old) (D.holds dump.new) (D.begun_as dump.new)) }
+        (HasDumpPart (dump_text profile trace.now) (Some name.now) (D.holds dump.old) (D.begun_as dump.old) (D.holds dump.new) (D.begun_as dump.new)) }
     ensures cause { HasCause (D.faults dump.old) (D.faults dump.new) result }
 {
     dump.begin(name)?;
-    put_dump(dump, trace)
+    put_dump(dump, profile, trace)
 }

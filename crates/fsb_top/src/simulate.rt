@@ -1,7 +1,9 @@
 //! The simulation of a plan.
 ghost use Rattle.std.specs.Prelude.{◌≡◌, ◌≤◌, IsTrue, IfOk, length, vec_len};
+ghost use Rattle.std.specs.List.{list_all};
 ghost use Rattle.fsb_access.specs.Replay.{Served};
 ghost use Rattle.fsb_access.specs.ScriptOrder.{InOrder, script_of};
+ghost use Rattle.fsb_signal.specs.Parity.{has_no_parity};
 ghost use Rattle.fsb_signal.specs.Samples.{is_known_trace};
 ghost use Rattle.fsb_solo.specs.SoloLog.{AreLawful, solo_log};
 ghost use Rattle.fsb_solo.specs.SoloTrace.{solo_trace};
@@ -27,6 +29,7 @@ pub fn simulate_log(alloc: Global, plan: &Plan) -> Result<Log, Memory>
 pub fn simulate_trace(alloc: Global, plan: &Plan) -> Result<Vec<Sample>, Memory>
     ensures trace { IfOk result (λ trace. trace.items ≡ solo_trace plan.now.clocks plan.now.mem (script_of plan.now.scripts 0)) }
     ensures known { IfOk result (λ trace. IsTrue (is_known_trace trace.items)) }
+    ensures no_parity { IfOk result (λ trace. IsTrue (list_all has_no_parity trace.items)) }
     ensures len { IfOk result (λ trace. vec_len trace ≡ plan.now.clocks) }
 {
     trace_of(alloc, plan.clocks, plan.mem.as_slice(), first_script(plan))

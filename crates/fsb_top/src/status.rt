@@ -5,6 +5,7 @@ ghost use Rattle.fsb_top.specs.StatusText.{code_of, status_text, cause_name, dum
 
 use arrayvec::ArrayVec;
 use fsb_io::{Line, put_decimal, put_text};
+use fsb_report::rejected_line;
 use fsb_rules::Broken;
 use fsb_script::{Cause, ScriptFault};
 use fsb_signal::signal_at;
@@ -33,7 +34,7 @@ pub enum Status {
     /// Memory was lacking; nothing was written.
     OutOfMemory,
     /// The bench file is longer than 4,194,304 bytes; the dump is longer than 2^40 bytes, or has more than 2^32 - 1 samples
-    /// before its first fault.
+    /// before its first fault, or in all of it where it has no fault.
     TooLong,
 }
 
@@ -115,18 +116,6 @@ fn name_of(cause: Cause) -> &'static str
     }
 }
 
-// The line of a broken rule.
-fn rejected_line(broken: &Broken) -> Line
-    ensures { result.items ≡ status_text (Status.Rejected broken.now) }
-{
-    let mut line = ArrayVec::new();
-    put_text(&mut line, "rejected clock=");
-    put_decimal(&mut line, u64::from(broken.clock));
-    put_text(&mut line, " rule=");
-    put_decimal(&mut line, u64::from(broken.rule));
-    line
-}
-
 // The line of the first fault of a dump.
 fn bad_dump_line(fault: &VcdFault) -> Line
     ensures { result.items ≡ status_text (Status.BadDump fault.now) }
@@ -163,7 +152,7 @@ fn put_line_name(line: &mut Line, number: u8)
     requires { array_vec_len line.old + 30 ≤ 256 }
     ensures { line.new.items ≡ line.old.items ++ line_name number }
 {
-    if number < 20 {
+    if number < 22 {
         put_text(line, signal_at(number).name);
     } else {
         put_decimal(line, u64::from(number));

@@ -306,7 +306,15 @@ fn printed_causes(rt: HostRuntime) {
         ),
         (
             bad_dump(0, VcdCause::Missing(20)),
-            "dump byte 0: Missing 20",
+            "dump byte 0: Missing AP_n",
+        ),
+        (
+            bad_dump(0, VcdCause::Missing(21)),
+            "dump byte 0: Missing RP_n",
+        ),
+        (
+            bad_dump(0, VcdCause::Missing(22)),
+            "dump byte 0: Missing 22",
         ),
     ];
     for (status, text) in of_dumps {

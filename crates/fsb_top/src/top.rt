@@ -8,12 +8,13 @@ ghost use Rattle.fsb_script.specs.Drafts.{BenchText};
 ghost use Rattle.fsb_script.specs.Plans.{PlanView};
 ghost use Rattle.fsb_script.specs.View.{plan_view};
 ghost use Rattle.fsb_script.specs.declared.fault.ScriptFault.{ScriptFault};
-ghost use Rattle.fsb_signal.specs.DumpText.{dump_text};
+ghost use Rattle.fsb_signal.specs.Parity.{marks_in};
+ghost use Rattle.fsb_signal.specs.declared.marks.Marks.{Marks};
 ghost use Rattle.fsb_signal.specs.declared.sample.Sample.{Sample};
 ghost use Rattle.vcd_grammar.specs.declared.fault.VcdFault.{VcdFault};
 ghost use Rattle.vcd_grammar.specs.Reading.{Reads};
 ghost use Rattle.fsb_top.specs.Form.{Form, form_of, run, check};
-ghost use Rattle.fsb_top.specs.Outcome.{plan_log, plan_trace, HasRun, HasEnded, IsSilent, IsOfRun, IsOfCheck, IsLogged, IsTold, IsDumped, HasPlan, HasVerdict, IsBadBench, IsBadDump, IsTooLong, FromRun, FromCheck};
+ghost use Rattle.fsb_top.specs.Outcome.{plan_log, plan_trace, plan_dump, HasRun, HasEnded, IsSilent, IsOfRun, IsOfCheck, IsLogged, IsTold, IsDumped, HasPlan, HasVerdict, IsBadBench, IsBadDump, IsTooLong, FromRun, FromCheck};
 ghost use Rattle.fsb_top.specs.Refused.{refusal_status};
 
 use crate::check::check_file;
@@ -30,7 +31,8 @@ use std::alloc::Global;
 use vcd_laws::its_dump_reads_back;
 
 /// Does what the words ask for: runs the bench file in `source`, and writes the log to `out` and the dump, where one is
-/// named, to `dump`; or checks the dump in `source`, and writes the line of its verdict to `out`.
+/// named, to `dump`; or checks the dump in `source` by its own marks, and writes the line
+/// of its verdict to `out`.
 ///
 /// Every status but `OutOfMemory` has its cause: the words, a count of faults that rose in this call, the length of the
 /// file, its first fault, or the verdict. What is said of bytes and names holds for a source and sinks that tell them.
@@ -68,9 +70,9 @@ pub fn bench<S: Source, O: Sink, D: Sink>(
     ensures log { IsTrue S.tells → IsTrue O.tells → (plan : PlanView) → BenchText (S.holds source.old) plan
         → (name : List ℕ) (dump : Option (List ℕ)) → form_of words.now ≡ Some (run name dump)
         → IsLogged result plan (O.holds out.old) (O.holds out.new) }
-    ensures told { IsTrue S.tells → IsTrue O.tells → (w : List Sample) → Reads (S.holds source.old) w
+    ensures told { IsTrue S.tells → IsTrue O.tells → (m : Marks) (w : List Sample) → Reads (S.holds source.old) m w
         → (name : List ℕ) → form_of words.now ≡ Some (check name)
-        → IsTold result w (O.holds out.old) (O.holds out.new) }
+        → IsTold result m w (O.holds out.old) (O.holds out.new) }
     ensures log_name { IsTrue O.tells → O.begun_as out.new ≡ O.begun_as out.old }
     ensures no_dump { IsSilent result → dump.new ≡ dump.old }
     ensures not_begun { result ≡ Status.WriteFault → dump.new ≡ dump.old }
@@ -151,7 +153,8 @@ fn run_plan<O: Sink, D: Sink>(
     ensures dump_fault { result ≡ Status.DumpFault → Rose (D.faults dump.old) (D.faults dump.new) }
     ensures served { HasRun result → Served plan.now.mem (plan_log (plan_view plan.now)) }
     ensures in_order { HasRun result → InOrder plan.now.scripts (plan_log (plan_view plan.now)) }
-    ensures reads_back { HasRun result → Reads (dump_text (plan_trace (plan_view plan.now))) (plan_trace (plan_view plan.now)) }
+    ensures reads_back { HasRun result →
+        Reads (plan_dump (plan_view plan.now)) (marks_in plan.now.profile) (plan_trace (plan_view plan.now)) }
     ensures silent { IsSilent result → out.new ≡ out.old }
     ensures log { IsTrue O.tells → IsLogged result (plan_view plan.now) (O.holds out.old) (O.holds out.new) }
     ensures log_name { IsTrue O.tells → O.begun_as out.new ≡ O.begun_as out.old }
@@ -167,10 +170,11 @@ fn run_plan<O: Sink, D: Sink>(
     let Ok(trace) = simulate_trace(alloc, plan) else {
         return Status::OutOfMemory;
     };
-    its_dump_reads_back(trace.as_slice());
+    its_dump_reads_back(plan.profile, trace.as_slice());
     let run = Run {
         clocks: plan.clocks,
         accesses: access_count(plan),
+        profile: plan.profile,
         log: log.as_slice(),
         trace: trace.as_slice(),
     };

@@ -3,17 +3,17 @@ use Rattle.std.proofs.Common.{ℕ, zero, suc, ◌+◌, ◌-◌, ◌<◌, ◌≤�
 use Rattle.std.specs.Option.{option_map}
 use Rattle.std.proofs.lemmas.Bool.{cases_Bool, ltb-false}
 use Rattle.fsb_count.specs.Clocks.{AgreeBelow}
-use Rattle.fsb_count.proofs.First.{first_where-same}
+use Rattle.fsb_count.proofs.Interface.{first_where-same}
 use Rattle.fsb_signal.specs.declared.lines.Lines.{Lines}
 use Rattle.fsb_signal.specs.declared.lines.TheConstants.Lines.{ADS, AERR, LOCK, BPRI}
 use Rattle.fsb_signal.specs.Samples.{line_at}
 use Rattle.fsb_trace.specs.declared.who.Who.{Who}
 use Rattle.fsb_trace.specs.declared.who.Who.TheVariants.{Symmetric}
 use Rattle.fsb_trace.specs.At.{Trace, responds_at, response_code_at, stalls_at, known_pair_at, request_at}
-use Rattle.fsb_trace.specs.Winner.{Turns, asks_in_order, first_asking, last_if_asking, request_line_of, winner_by, winner_after, turns_before, winner_at, then_begun}
+use Rattle.fsb_trace.specs.Winner.{Requesters, asks_in_order, first_asking, last_if_asking, request_line_of, winner_by, winner_after, requesters_before, winner_at, then_begun}
 use Rattle.fsb_trace.specs.Requests.{is_cancelled, is_live}
 use Rattle.fsb_trace.specs.Agree.{AgreeTo}
-use Rattle.fsb_trace.proofs.TurnSteps.{turns_before-start, turns_before-begun, turns_before-kept}
+use Rattle.fsb_trace.proofs.RequesterSteps.{requesters_before-start, requesters_before-begun, requesters_before-kept}
 use Rattle.fsb_trace.proofs.WinnerSteps.{winner_by-locked, winner_by-priority, winner_by-symmetric, winner_after-low, winner_after-high}
 
 pub AgreeTo-sym : (n : ℕ) (w v : Trace) → AgreeTo n w v → AgreeTo n v w
@@ -76,7 +76,7 @@ unfolding last_if_asking
 last_if_asking-agree n w v d None a l = refl
 last_if_asking-agree n w v d (Some who) a l = rw (line_at-agree (request_line_of who) n w v d a l) refl
 
-pub winner_by-agree : (n : ℕ) (w v : Trace) (d : ℕ) (turns : Turns) → AgreeTo n w v → d < n → winner_by w d turns ≡ winner_by v d turns
+pub winner_by-agree : (n : ℕ) (w v : Trace) (d : ℕ) (turns : Requesters) → AgreeTo n w v → d < n → winner_by w d turns ≡ winner_by v d turns
 winner_by-agree n w v d turns a l =
     let lock : line_at LOCK w d ≡ line_at LOCK v d = line_at-agree LOCK n w v d a l in
     let bpri : line_at BPRI w d ≡ line_at BPRI v d = line_at-agree BPRI n w v d a l in
@@ -91,7 +91,7 @@ winner_by-agree n w v d turns a l =
           ]
     ]
 
-pub winner_after-agree : (n : ℕ) (w v : Trace) (c : ℕ) (turns : Turns) → AgreeTo n w v → c ≤ n → winner_after w c turns ≡ winner_after v c turns
+pub winner_after-agree : (n : ℕ) (w v : Trace) (c : ℕ) (turns : Requesters) → AgreeTo n w v → c ≤ n → winner_after w c turns ≡ winner_after v c turns
 winner_after-agree n w v c turns a l =
     elim (cases_Bool (nat_lt c 2)) [
       | inl low ↦ winner_after-low w c turns low ∙ sym (winner_after-low v c turns low)
@@ -100,21 +100,21 @@ winner_after-agree n w v c turns a l =
           winner_after-high w c turns high ∙ winner_by-agree n w v (c - 2) turns a below ∙ sym (winner_after-high v c turns high)
     ]
 
-pub turns_before-agree : (n : ℕ) (w v : Trace) (c : ℕ) → AgreeTo n w v → c ≤ n → turns_before w c ≡ turns_before v c
-turns_before-agree n w v zero a l = turns_before-start w ∙ sym (turns_before-start v)
-turns_before-agree n w v (suc c) a l =
-    let before : turns_before w c ≡ turns_before v c = turns_before-agree n w v c a (omega arith) in
+pub requesters_before-agree : (n : ℕ) (w v : Trace) (c : ℕ) → AgreeTo n w v → c ≤ n → requesters_before w c ≡ requesters_before v c
+requesters_before-agree n w v zero a l = requesters_before-start w ∙ sym (requesters_before-start v)
+requesters_before-agree n w v (suc c) a l =
+    let before : requesters_before w c ≡ requesters_before v c = requesters_before-agree n w v c a (omega arith) in
     let ads : line_at ADS w c ≡ line_at ADS v c = line_at-agree ADS n w v c a (omega arith) in
     let next : suc c ≡ c + 1 = omega arith in
     rw next (elim (cases_Bool (line_at ADS v c)) [
       | inl t ↦
-          turns_before-begun w c (ads ∙ t)
+          requesters_before-begun w c (ads ∙ t)
           ∙ ap (λ turns. then_begun turns (winner_after w c turns)) before
-          ∙ ap (then_begun (turns_before v c)) (winner_after-agree n w v c (turns_before v c) a (omega arith))
-          ∙ sym (turns_before-begun v c t)
-      | inr f ↦ turns_before-kept w c (ads ∙ f) ∙ before ∙ sym (turns_before-kept v c f)
+          ∙ ap (then_begun (requesters_before v c)) (winner_after-agree n w v c (requesters_before v c) a (omega arith))
+          ∙ sym (requesters_before-begun v c t)
+      | inr f ↦ requesters_before-kept w c (ads ∙ f) ∙ before ∙ sym (requesters_before-kept v c f)
     ])
 
 pub winner_at-agree : (n : ℕ) (w v : Trace) (c : ℕ) → AgreeTo n w v → c ≤ n → winner_at w c ≡ winner_at v c
 unfolding winner_at
-winner_at-agree n w v c a l = rw (turns_before-agree n w v c a l) (winner_after-agree n w v c _ a l)
+winner_at-agree n w v c a l = rw (requesters_before-agree n w v c a l) (winner_after-agree n w v c _ a l)

@@ -1,7 +1,7 @@
 -- How many requests are in flight.
 use Rattle.std.proofs.Common.{ℕ, ◌≡◌, length}
 use Rattle.fsb_count.specs.Clocks.{count_where}
-use Rattle.fsb_count.proofs.Nth.{length-all_where}
+use Rattle.fsb_count.proofs.Interface.{length-all_where}
 use Rattle.fsb_trace.specs.At.{Trace}
 use Rattle.fsb_trace.specs.Flight.{is_in_flight, in_flight}
 

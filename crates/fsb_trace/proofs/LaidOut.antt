@@ -5,6 +5,8 @@ use Rattle.std.specs.Int.Bits.{and_zero_r}
 use Rattle.fsb_signal.specs.declared.lines.Lines.{Lines}
 use Rattle.fsb_signal.specs.declared.sample.Word.{Word}
 use Rattle.fsb_signal.specs.declared.sample.Sample.{Sample}
+use Rattle.fsb_signal.specs.declared.marks.Marks.{Marks}
+use Rattle.fsb_signal.specs.Parity.{marks_in}
 
 -- the bits of some different lines together
 abbrev pub bits_of : List Lines → ℕ
@@ -19,7 +21,7 @@ word bits = record { bits = bits; unknown = 0; disjoint = and_zero_r bits }
 abbrev pub clock : List Lines → ℕ → ℕ → Sample
 clock lines req addr =
     record {
-      lines = record { 0 = bits_of lines % 2 ^ 18 };
+      lines = record { 0 = bits_of lines % 2 ^ 21 };
       unknown = record { 0 = 0 };
       req = word (req % 2 ^ 5);
       addr = word (addr % 2 ^ 33);
@@ -36,3 +38,11 @@ clock lines req addr =
 -- a sample in which nothing is asserted
 abbrev pub idle : Sample
 idle = clock [] 0 0
+
+-- the marks of a dump without parity lines
+abbrev pub no_marks : Marks
+no_marks = marks_in 1
+
+-- the marks of a dump with both
+abbrev pub both_marks : Marks
+both_marks = marks_in 2

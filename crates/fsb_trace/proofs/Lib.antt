@@ -1,5 +1,5 @@
 pub mod LaidOut
-pub mod TurnSteps
+pub mod RequesterSteps
 pub mod WinnerSteps
 pub mod RequestSteps
 pub mod LiveRequests
@@ -14,3 +14,4 @@ pub mod Order
 pub mod VerdictLaws
 pub mod Rows
 pub mod Values
+pub mod Interface

@@ -5,20 +5,22 @@ use Rattle.fsb_trace.specs.declared.who.Who.TheVariants.{Symmetric, Priority}
 use Rattle.fsb_trace.specs.declared.outcome.Outcome.TheVariants.{Granted, Handed, Retried, Deferred, Replied}
 use Rattle.fsb_count.specs.Options.{is_some_and, is_before, is_at, greater_of}
 use Rattle.fsb_count.specs.Clocks.{first_where, last_where, any_where, count_where, all_where, nth_where, from_clock, holds_since}
+use Rattle.std.specs.Int.Count.{ones}
 use Rattle.fsb_signal.specs.Samples.{line_at}
+use Rattle.fsb_signal.specs.Parity.{is_address_odd, is_request_odd}
 use Rattle.fsb_encode.specs.Request.{is_lawful_request, are_lawful_fields, high_bit, den_bit, clocks, row_of, pairs_of}
 use Rattle.fsb_encode.specs.Decoded.{req_words, kind_of, read_off, is_pair, is_coded_as, if_coded_as, request_of}
 use Rattle.fsb_trace.specs.At.{Trace, line_back, response_code_at, responds_at, stalls_at, known_pair, known_pair_at, request_at}
-use Rattle.fsb_trace.specs.Winner.{bus_request_of, request_line_of, is_same_agent, is_agent, no_turns, symmetric_after, then_begun, first_in_order, agent_in_order, asks_in_order, first_asking, last_if_asking, winner_by, winner_after, turns_before, winner_at, last_agent, last_symmetric, begins_at}
-use Rattle.fsb_trace.specs.Requests.{is_cancelled, seen_at, requests_of, first_clock_of, is_live, live_count, live_clock_of, live_number_of, live_request_of, is_reply_kind, is_write_back_kind, is_reply, is_write_back, have_same_id, line_of}
+use Rattle.fsb_trace.specs.Winner.{bus_request_of, request_line_of, is_same_agent, is_agent, no_requesters, symmetric_after, then_begun, first_in_order, agent_in_order, asks_in_order, first_asking, last_if_asking, winner_by, winner_after, requesters_before, winner_at, last_agent, last_symmetric, begins_at}
+use Rattle.fsb_trace.specs.Requests.{is_cancelled, seen_at, requests_of, first_clock_of, is_live, live_count, live_clock_of, live_number_of, live_request_of, is_reply_kind, is_write_back_kind, is_upgrade_kind, is_reply, is_write_back, is_upgrade, have_same_id, line_of}
 use Rattle.fsb_trace.specs.Snoop.{is_every_second_from, ends_snoop, snoop_end_from, snoop_end_if, start_after_clock, start_after_end, snoop_end_of, snoop_start_of, is_snoop_clock_of, is_snoop_clock, line_at_snoop_end}
-use Rattle.fsb_trace.specs.Outcome.{does_move, response_code_of, is_deferral, outcome_by_kind, response_clock_of, told_by, outcome_of, moves_data, is_deferred, settled_by, settled_outcome_of, is_settled_deferred}
+use Rattle.fsb_trace.specs.Outcome.{does_move, response_code_of, is_deferral, outcome_by_kind, response_clock_of, live_response_of, told_by, outcome_of, moves_data, is_deferred, settled_by, settled_outcome_of, is_settled_deferred}
 use Rattle.fsb_trace.specs.Response.{takes, data_clock_of, end_of, is_clear_before, clock_after_snoop, ready_after, ready_clock_of}
 use Rattle.fsb_trace.specs.Flight.{is_dropped, has_ended, is_in_flight, in_flight, is_reply_to, is_live_reply_to, reply_clock_of, reply_number_of, reply_end_of, last_clock_of, is_finished, is_outstanding, outstanding}
 use Rattle.fsb_trace.specs.Deferral.{answers, is_answered, later_of, is_due, due_at, keeps_pending, is_pending}
-use Rattle.fsb_trace.specs.Rules.{has_unknown_line, is_request_too_soon, is_code_unlawful, is_queue_full, is_request_blocked, has_no_winner, is_own_id, is_identified, is_identity_wrong, is_asked_wrongly, is_some_asked_wrongly, is_lock_alone, is_error_alone, is_snoop_line_alone, is_result_unfit_for, is_snoop_result_unfit, next_response, may_answer, is_response_early, has_den, is_code_for, responds_soundly, has_code_at, is_code_wrong, is_ready_in_time, is_ready_wrongly, is_target_ready_wrong, is_transferring_of, is_transferring, is_data_wrong, has_unknown_data, awaits_reply, is_id_taken_by, is_outstanding_of_winner, is_begun_wrongly, is_outstanding_wrong, phase_rules, breaks}
+use Rattle.fsb_trace.specs.Rules.{has_unknown_line, is_request_too_soon, is_code_unlawful, is_queue_full, is_request_blocked, has_no_winner, is_own_id, is_identified, is_identity_wrong, is_asked_wrongly, is_some_asked_wrongly, is_lock_alone, is_error_alone, is_snoop_line_alone, is_result_unfit_for, is_snoop_result_unfit, next_response, may_answer, is_response_early, has_den, is_code_for, responds_soundly, has_code_at, is_code_wrong, is_ready_in_time, is_ready_wrongly, is_target_ready_wrong, is_transferring_of, is_transferring, is_data_wrong, has_unknown_data, awaits_reply, is_id_taken_by, is_outstanding_of_winner, is_begun_wrongly, is_outstanding_wrong, has_parity_at, is_address_parity_wrong, is_request_parity_wrong, is_marked_address_wrong, is_marked_request_wrong, phase_rules, breaks}
 use Rattle.fsb_trace.specs.Verdict.{is_broken, least_rule, is_foul, verdict}
-use Rattle.fsb_trace.proofs.LaidOut.{clock, idle}
+use Rattle.fsb_trace.proofs.LaidOut.{no_marks, clock, idle}
 
 -- a load of one agent, and a store that hits: one request
 abbrev pub load_then_store_hit : Trace
@@ -47,7 +49,7 @@ load_then_store_hit-says =
     × (end_of load_then_store_hit 0 ≡ Some 11)
     × (outcome_of load_then_store_hit 0 ≡ Some Granted)
     × (live_clock_of load_then_store_hit 1 ≡ None)
-    × (verdict load_then_store_hit ≡ None)
+    × (verdict no_marks load_then_store_hit ≡ None)
 
 -- two agents load different lines: the second request overlaps the first
 abbrev pub two_agents_overlap : Trace
@@ -85,7 +87,7 @@ two_agents_overlap-says =
     × (end_of two_agents_overlap 1 ≡ Some 15)
     × (outcome_of two_agents_overlap 1 ≡ Some Granted)
     × (live_clock_of two_agents_overlap 2 ≡ None)
-    × (verdict two_agents_overlap ≡ None)
+    × (verdict no_marks two_agents_overlap ≡ None)
 
 -- two agents store to one line: the second is handed the line by the first, whose bytes have not come
 abbrev pub store_handed_over_before_arrival : Trace
@@ -126,7 +128,7 @@ store_handed_over_before_arrival-says =
     × (outcome_of store_handed_over_before_arrival 1 ≡ Some Handed)
     × (data_clock_of store_handed_over_before_arrival 1 0 ≡ Some 14)
     × (live_clock_of store_handed_over_before_arrival 2 ≡ None)
-    × (verdict store_handed_over_before_arrival ≡ None)
+    × (verdict no_marks store_handed_over_before_arrival ≡ None)
 
 -- a snoop that is stalled twice
 abbrev pub stalled_snoop : Trace
@@ -159,7 +161,7 @@ stalled_snoop-says =
     × (end_of stalled_snoop 0 ≡ Some 15)
     × (outcome_of stalled_snoop 0 ≡ Some Granted)
     × (live_clock_of stalled_snoop 1 ≡ None)
-    × (verdict stalled_snoop ≡ None)
+    × (verdict no_marks stalled_snoop ≡ None)
 
 -- a request that is cancelled, and comes again
 abbrev pub cancelled_by_address_error : Trace
@@ -197,7 +199,7 @@ cancelled_by_address_error-says =
     × (end_of cancelled_by_address_error 0 ≡ Some 17)
     × (outcome_of cancelled_by_address_error 0 ≡ Some Granted)
     × (live_clock_of cancelled_by_address_error 1 ≡ None)
-    × (verdict cancelled_by_address_error ≡ None)
+    × (verdict no_marks cancelled_by_address_error ≡ None)
 
 -- a load that is deferred and replied to, and a store of another agent that waits for it
 abbrev pub deferred_and_replied : Trace
@@ -285,7 +287,7 @@ deferred_and_replied-says =
     × (is_pending deferred_and_replied (12 ∷ 1 ∷ 1 ∷ 0 ∷ 0 ∷ []) 0x80 25 ≡ true)
     × (is_pending deferred_and_replied (12 ∷ 1 ∷ 1 ∷ 0 ∷ 0 ∷ []) 0x80 26 ≡ false)
     × (live_clock_of deferred_and_replied 5 ≡ None)
-    × (verdict deferred_and_replied ≡ None)
+    × (verdict no_marks deferred_and_replied ≡ None)
 
 -- two agents increment a byte under LOCK#
 abbrev pub locked_increments : Trace
@@ -335,7 +337,7 @@ locked_increments-says =
     × (end_of locked_increments 1 ≡ Some 25)
     × (outcome_of locked_increments 1 ≡ Some Handed)
     × (live_clock_of locked_increments 2 ≡ None)
-    × (verdict locked_increments ≡ None)
+    × (verdict no_marks locked_increments ≡ None)
 
 -- a store, a read of the stored line by another agent, and a read that has waited for it
 abbrev pub write_back_held_off : Trace
@@ -388,7 +390,7 @@ write_back_held_off-says =
     × (end_of write_back_held_off 2 ≡ Some 28)
     × (outcome_of write_back_held_off 2 ≡ Some Granted)
     × (live_clock_of write_back_held_off 3 ≡ None)
-    × (verdict write_back_held_off ≡ None)
+    × (verdict no_marks write_back_held_off ≡ None)
 
 -- a second request two clocks after the first; its own pair is not complete
 abbrev pub request_spacing_broken : Trace
@@ -402,7 +404,7 @@ request_spacing_broken =
 
 abbrev pub request_spacing_broken-says : Type 0
 request_spacing_broken-says =
-    (verdict request_spacing_broken ≡ Some (4, 2))
+    (verdict no_marks request_spacing_broken ≡ Some (4, 2))
     × (length request_spacing_broken ≡ 5)
 
 -- ADS# and AERR# at clock 1, which breaks the rules 2, 6 and 10
@@ -414,7 +416,7 @@ least_rule_named =
 
 abbrev pub least_rule_named-says : Type 0
 least_rule_named-says =
-    (verdict least_rule_named ≡ Some (1, 2))
+    (verdict no_marks least_rule_named ≡ Some (1, 2))
     × (length least_rule_named ≡ 2)
 
 -- nine requests of two agents, and no response: the ninth is one too many
@@ -451,7 +453,7 @@ queue_depth_broken =
 
 abbrev pub queue_depth_broken-says : Type 0
 queue_depth_broken-says =
-    (verdict queue_depth_broken ≡ Some (26, 4))
+    (verdict no_marks queue_depth_broken ≡ Some (26, 4))
     × (length queue_depth_broken ≡ 27)
 
 -- all of the above
@@ -470,13 +472,14 @@ pub rows_hold :
 unfolding is_some_and is_before is_at greater_of first_where last_where any_where count_where all_where nth_where
     from_clock holds_since line_at is_lawful_request are_lawful_fields high_bit den_bit clocks row_of pairs_of
     req_words kind_of read_off is_pair is_coded_as if_coded_as request_of line_back response_code_at responds_at
-    stalls_at known_pair known_pair_at request_at bus_request_of request_line_of is_same_agent is_agent no_turns
+    stalls_at known_pair known_pair_at request_at bus_request_of request_line_of is_same_agent is_agent no_requesters
     symmetric_after then_begun first_in_order agent_in_order asks_in_order first_asking last_if_asking winner_by winner_after
-    turns_before winner_at last_agent last_symmetric begins_at is_cancelled seen_at requests_of first_clock_of is_live
-    live_count live_clock_of live_number_of live_request_of is_reply_kind is_write_back_kind is_reply is_write_back
+    requesters_before winner_at last_agent last_symmetric begins_at is_cancelled seen_at requests_of first_clock_of is_live
+    live_count live_clock_of live_number_of live_request_of is_reply_kind is_write_back_kind
+    is_upgrade_kind is_reply is_write_back is_upgrade
     have_same_id line_of is_every_second_from ends_snoop snoop_end_from snoop_end_if start_after_clock start_after_end
     snoop_end_of snoop_start_of is_snoop_clock_of is_snoop_clock line_at_snoop_end does_move response_code_of
-    is_deferral outcome_by_kind response_clock_of told_by outcome_of moves_data is_deferred settled_by
+    is_deferral outcome_by_kind response_clock_of live_response_of told_by outcome_of moves_data is_deferred settled_by
     settled_outcome_of is_settled_deferred takes data_clock_of end_of is_clear_before clock_after_snoop ready_after
     ready_clock_of is_dropped has_ended is_in_flight in_flight is_reply_to is_live_reply_to reply_clock_of
     reply_number_of reply_end_of last_clock_of is_finished is_outstanding outstanding answers is_answered later_of
@@ -485,6 +488,8 @@ unfolding is_some_and is_before is_at greater_of first_where last_where any_wher
     is_lock_alone is_error_alone is_snoop_line_alone is_result_unfit_for is_snoop_result_unfit next_response
     may_answer is_response_early has_den is_code_for responds_soundly has_code_at is_code_wrong is_ready_in_time
     is_ready_wrongly is_target_ready_wrong is_transferring_of is_transferring is_data_wrong has_unknown_data
-    awaits_reply is_id_taken_by is_outstanding_of_winner is_begun_wrongly is_outstanding_wrong phase_rules breaks
+    awaits_reply is_id_taken_by is_outstanding_of_winner is_begun_wrongly is_outstanding_wrong has_parity_at
+    is_address_parity_wrong is_request_parity_wrong is_marked_address_wrong is_marked_request_wrong is_address_odd
+    is_request_odd ones phase_rules breaks
     is_broken least_rule is_foul verdict
 rows_hold = ((refl, refl, refl, refl, refl, refl, refl, refl, refl), (refl, refl, refl, refl, refl, refl, refl, refl, refl, refl, refl, refl, refl, refl), (refl, refl, refl, refl, refl, refl, refl, refl, refl, refl, refl, refl, refl, refl, refl), (refl, refl, refl, refl, refl, refl, refl, refl, refl), (refl, refl, refl, refl, refl, refl, refl, refl, refl, refl, refl, refl), (refl, refl, refl, refl, refl, refl, refl, refl, refl, refl, refl, refl, refl, refl, refl, refl, refl, refl, refl, refl, refl, refl, refl, refl, refl, refl, refl, refl, refl, refl, refl, refl, refl, refl, refl, refl, refl, refl, refl, refl, refl, refl, refl, refl, refl), (refl, refl, refl, refl, refl, refl, refl, refl, refl, refl, refl, refl, refl, refl, refl, refl), (refl, refl, refl, refl, refl, refl, refl, refl, refl, refl, refl, refl, refl, refl, refl, refl), (refl, refl), (refl, refl), (refl, refl))

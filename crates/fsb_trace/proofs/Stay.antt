@@ -3,8 +3,7 @@ use Rattle.std.proofs.Common.{ℕ, zero, suc, ◌+◌, ◌<◌, ◌≤◌, ◌�
 use Rattle.std.specs.Option.{option_and_then, option_map}
 use Rattle.std.proofs.lemmas.Bool.{and_parts, leb-true}
 use Rattle.fsb_count.specs.Options.{greater_of}
-use Rattle.fsb_count.proofs.First.{first_where-carried, first_where-found}
-use Rattle.fsb_count.proofs.Nth.{nth_where-carried}
+use Rattle.fsb_count.proofs.Interface.{first_where-carried, first_where-found, nth_where-carried}
 use Rattle.fsb_signal.specs.declared.lines.TheConstants.Lines.{ADS}
 use Rattle.fsb_signal.specs.Samples.{line_at}
 use Rattle.fsb_trace.specs.At.{Trace, responds_at}

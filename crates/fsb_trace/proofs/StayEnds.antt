@@ -1,20 +1,20 @@
 -- Outcomes and ends stay, where the snoop end is there.
-use Rattle.std.proofs.Common.{ℕ, zero, suc, ◌+◌, ◌<◌, ◌≤◌, ◌≡◌, true, false, Option, Some, None, length, max, refl, sym, ap, ◌∙◌, arith, inl, inr, add-one}
+use Rattle.std.proofs.Common.{ℕ, zero, suc, ◌+◌, ◌<◌, ◌≤◌, ◌≡◌, true, false, cond, Option, Some, None, length, max, nat_lt, refl, sym, ap, ◌∙◌, arith, inl, inr, add-one}
 use Rattle.std.specs.Option.{option_and_then, option_map}
 use Rattle.std.proofs.lemmas.Bool.{cases_Bool, and_parts, leb-true, lt-ltb}
 use Rattle.fsb_count.specs.Options.{is_some_and, greater_of}
 use Rattle.fsb_count.specs.Clocks.{AgreeBelow, first_where, nth_where, from_clock}
-use Rattle.fsb_count.proofs.First.{first_where-carried, first_where-found}
-use Rattle.fsb_count.proofs.Nth.{nth_where-carried, nth_where-found}
+use Rattle.fsb_count.proofs.Interface.{first_where-carried, first_where-found, nth_where-carried, nth_where-found}
 use Rattle.fsb_signal.specs.declared.lines.Lines.{Lines}
 use Rattle.fsb_signal.specs.declared.lines.TheConstants.Lines.{HITM, DRDY, TRDY}
 use Rattle.fsb_signal.specs.Samples.{line_at}
 use Rattle.fsb_trace.specs.At.{Trace, response_code_at}
-use Rattle.fsb_trace.specs.Requests.{live_request_of}
+use Rattle.fsb_trace.specs.Requests.{live_count, live_request_of}
 use Rattle.fsb_trace.specs.Snoop.{snoop_end_of, line_at_snoop_end}
-use Rattle.fsb_trace.specs.Outcome.{does_move, is_deferral, response_clock_of, told_by, outcome_of, moves_data, is_deferred}
+use Rattle.fsb_trace.specs.Outcome.{does_move, is_deferral, response_clock_of, live_response_of, told_by, outcome_of, moves_data, is_deferred}
 use Rattle.fsb_trace.specs.Response.{data_clock_of, end_of, clock_after_snoop, ready_after, ready_clock_of}
 use Rattle.fsb_trace.specs.Agree.{AgreeTo}
+use Rattle.fsb_trace.proofs.LiveRequests.{live_below_count}
 use Rattle.fsb_trace.proofs.AgreeAt.{line_at-agree, response_code_at-agree, request_at-agree}
 use Rattle.fsb_trace.proofs.Stay.{live_clock_of-stays, response_clock_of-stays, snoop_end_of-stays, snoop_end_of-clock, snoop_end_of-before}
 
@@ -36,11 +36,34 @@ unfolding told_by
 told_by-stays n w v i s code a l e =
     rw (line_at_snoop_end-stays HITM n w v i s a l e, live_request_of-stays n w v i s a l e) refl
 
+-- a request with a snoop end is live
+pub live_response_of-there : (w : Trace) (i s : ℕ) → snoop_end_of w i ≡ Some s → live_response_of w i ≡ response_clock_of w i
+unfolding live_response_of
+live_response_of-there w i s e =
+    let h = snoop_end_of-clock w i s e in
+    rw (lt-ltb i (live_count w) (live_below_count w i h.clock h.is_clock)) refl
+
+-- a response of a live request is a response
+pub live_response_of-is : (w : Trace) (i r : ℕ) → live_response_of w i ≡ Some r → response_clock_of w i ≡ Some r
+unfolding live_response_of
+live_response_of-is w i r =
+    let none : Option ℕ = None in
+    elim (nat_lt i (live_count w)) as (λ t. cond t (response_clock_of w i) none ≡ Some r → response_clock_of w i ≡ Some r)
+    [ true ↦ λ e. e | false ↦ λ e. absurd (let no : ⊥ = cc in no) ]
+
 -- the outcome of a request whose snoop end and response are there
 pub outcome_of-stays : (n : ℕ) (w v : Trace) (i s r : ℕ) → AgreeTo n w v → s < n → snoop_end_of w i ≡ Some s → r < n → response_clock_of w i ≡ Some r → outcome_of w i ≡ outcome_of v i
 unfolding outcome_of
 outcome_of-stays n w v i s r a l e m f =
-    rw (f, response_clock_of-stays n w v i r a m f, response_code_at-agree n w v r a m, told_by-stays n w v i s (response_code_at v r) a l e) refl
+    rw (
+      live_response_of-there w i s e,
+      live_response_of-there v i s (snoop_end_of-stays n w v i s a l e),
+      f,
+      response_clock_of-stays n w v i r a m f,
+      response_code_at-agree n w v r a m,
+      told_by-stays n w v i s (response_code_at v r) a l e,
+    )
+    refl
 
 pub moves_data-stays : (n : ℕ) (w v : Trace) (i s r : ℕ) → AgreeTo n w v → s < n → snoop_end_of w i ≡ Some s → r < n → response_clock_of w i ≡ Some r → moves_data w i ≡ moves_data v i
 unfolding moves_data
@@ -58,7 +81,7 @@ pub end_of-moving : (w : Trace) (i r : ℕ) → moves_data w i ≡ true → resp
 unfolding end_of
 end_of-moving w i r t f = rw t (data_clock_of-moving w i 3 r (omega arith) t f)
 
-pub end_of-still : (w : Trace) (i : ℕ) → moves_data w i ≡ false → end_of w i ≡ response_clock_of w i
+pub end_of-still : (w : Trace) (i : ℕ) → moves_data w i ≡ false → end_of w i ≡ live_response_of w i
 unfolding end_of
 end_of-still w i f = rw f refl
 
@@ -69,12 +92,16 @@ moved w i e (Some r) f t h =
     let k = nth_where-found (from_clock r (line_at DRDY w)) 3 (length w) e (sym (end_of-moving w i r t f) ∙ h) in
     (r, f, leb-true r e (and_parts _ _ k.1).0)
 
+-- the end of a request that has a snoop end and moves no data
+pub end_of-answered : (w : Trace) (i s : ℕ) → snoop_end_of w i ≡ Some s → moves_data w i ≡ false → end_of w i ≡ response_clock_of w i
+end_of-answered w i s e f = end_of-still w i f ∙ live_response_of-there w i s e
+
 -- an end is not before the response
 pub end_of-response : (w : Trace) (i e : ℕ) → end_of w i ≡ Some e → (r : ℕ) × (response_clock_of w i ≡ Some r) × (r ≤ e)
 end_of-response w i e h =
     elim (cases_Bool (moves_data w i)) [
       | inl t ↦ moved w i e (response_clock_of w i) refl t h
-      | inr f ↦ (e, sym (end_of-still w i f) ∙ h, omega arith)
+      | inr f ↦ (e, live_response_of-is w i e (sym (end_of-still w i f) ∙ h), omega arith)
     ]
 
 drdy_below : (n : ℕ) (w v : Trace) (r e : ℕ) → AgreeTo n w v → e < n → AgreeBelow (e + 1) (from_clock r (line_at DRDY w)) (from_clock r (line_at DRDY v))
@@ -95,7 +122,8 @@ end_of-stays n w v i s e a l h m k =
           end_of-moving v i r (sym same ∙ t) g
           ∙ nth_where-carried (from_clock r (line_at DRDY w)) (from_clock r (line_at DRDY v)) 3 (length w) (length v) e
           (drdy_below n w v r e a m) (omega (arith, a.right)) (sym (end_of-moving w i r t f) ∙ k)
-      | inr u ↦ end_of-still v i (sym same ∙ u) ∙ g ∙ sym f ∙ sym (end_of-still w i u) ∙ k
+      | inr u ↦
+          end_of-answered v i s (snoop_end_of-stays n w v i s a l h) (sym same ∙ u) ∙ g ∙ sym f ∙ sym (end_of-answered w i s h u) ∙ k
     ]
 
 trdy_below : (n : ℕ) (w v : Trace) (b y : ℕ) → AgreeTo n w v → y < n → AgreeBelow (y + 1) (from_clock b (line_at TRDY w)) (from_clock b (line_at TRDY v))

@@ -4,25 +4,27 @@ use Rattle.std.specs.Int.Bits.{and_zero_r}
 use Rattle.fsb_signal.specs.declared.lines.Lines.{Lines}
 use Rattle.fsb_signal.specs.declared.sample.Sample.{Sample}
 use Rattle.fsb_signal.specs.declared.sample.Word.{Word}
-use Rattle.fsb_signal.specs.declared.lines.TheConstants.Lines.{BREQ0, BREQ1, BREQ2, BREQ3, BPRI, LOCK, ADS, AERR, HIT, HITM, RS0, RS1, RS2, TRDY, DBSY, DRDY}
+use Rattle.fsb_signal.specs.declared.lines.TheConstants.Lines.{BREQ0, BREQ1, BREQ2, BREQ3, BPRI, LOCK, ADS, AERR, HIT, HITM, DEFER, RS0, RS1, RS2, TRDY, DBSY, DRDY, AP0, AP1, RP}
 use Rattle.fsb_trace.specs.declared.who.Who.TheVariants.{Symmetric, Priority}
-use Rattle.fsb_trace.specs.declared.outcome.Outcome.TheVariants.{Handed, Retried, Deferred, Written, Replied, Failed}
+use Rattle.fsb_trace.specs.declared.outcome.Outcome.TheVariants.{Handed, Retried, Deferred, Written, Replied, Failed, Upgraded}
 use Rattle.fsb_count.specs.Options.{is_some_and, is_before, is_at, greater_of}
 use Rattle.fsb_count.specs.Clocks.{first_where, last_where, any_where, count_where, all_where, nth_where, from_clock, holds_since}
+use Rattle.std.specs.Int.Count.{ones}
 use Rattle.fsb_signal.specs.Samples.{line_at}
+use Rattle.fsb_signal.specs.Parity.{is_address_odd, is_request_odd}
 use Rattle.fsb_encode.specs.Request.{is_lawful_request, are_lawful_fields, high_bit, den_bit, clocks, row_of, pairs_of}
 use Rattle.fsb_encode.specs.Decoded.{req_words, kind_of, read_off, is_pair, is_coded_as, if_coded_as, request_of}
 use Rattle.fsb_trace.specs.At.{Trace, line_back, response_code_at, responds_at, stalls_at, known_pair, known_pair_at, request_at}
-use Rattle.fsb_trace.specs.Winner.{bus_request_of, request_line_of, is_same_agent, is_agent, no_turns, symmetric_after, then_begun, first_in_order, agent_in_order, asks_in_order, first_asking, last_if_asking, winner_by, winner_after, turns_before, winner_at, last_agent, last_symmetric, begins_at}
-use Rattle.fsb_trace.specs.Requests.{is_cancelled, seen_at, requests_of, first_clock_of, is_live, live_count, live_clock_of, live_number_of, live_request_of, is_reply_kind, is_write_back_kind, is_reply, is_write_back, have_same_id, line_of}
+use Rattle.fsb_trace.specs.Winner.{bus_request_of, request_line_of, is_same_agent, is_agent, no_requesters, symmetric_after, then_begun, first_in_order, agent_in_order, asks_in_order, first_asking, last_if_asking, winner_by, winner_after, requesters_before, winner_at, last_agent, last_symmetric, begins_at}
+use Rattle.fsb_trace.specs.Requests.{is_cancelled, seen_at, requests_of, first_clock_of, is_live, live_count, live_clock_of, live_number_of, live_request_of, is_reply_kind, is_write_back_kind, is_upgrade_kind, is_reply, is_write_back, is_upgrade, have_same_id, line_of}
 use Rattle.fsb_trace.specs.Snoop.{is_every_second_from, ends_snoop, snoop_end_from, snoop_end_if, start_after_clock, start_after_end, snoop_end_of, snoop_start_of, is_snoop_clock_of, is_snoop_clock, line_at_snoop_end}
-use Rattle.fsb_trace.specs.Outcome.{does_move, response_code_of, is_deferral, outcome_by_kind, response_clock_of, told_by, outcome_of, moves_data, is_deferred, settled_by, settled_outcome_of, is_settled_deferred}
+use Rattle.fsb_trace.specs.Outcome.{does_move, response_code_of, is_deferral, outcome_by_kind, response_clock_of, live_response_of, told_by, outcome_of, moves_data, is_deferred, settled_by, settled_outcome_of, is_settled_deferred}
 use Rattle.fsb_trace.specs.Response.{takes, data_clock_of, end_of, is_clear_before, clock_after_snoop, ready_after, ready_clock_of}
 use Rattle.fsb_trace.specs.Flight.{is_dropped, has_ended, is_in_flight, in_flight, is_reply_to, is_live_reply_to, reply_clock_of, reply_number_of, reply_end_of, last_clock_of, is_finished, is_outstanding, outstanding}
 use Rattle.fsb_trace.specs.Deferral.{answers, is_answered, later_of, is_due, due_at, keeps_pending, is_pending}
-use Rattle.fsb_trace.specs.Rules.{has_unknown_line, is_request_too_soon, is_code_unlawful, is_queue_full, is_request_blocked, has_no_winner, is_own_id, is_identified, is_identity_wrong, is_asked_wrongly, is_some_asked_wrongly, is_lock_alone, is_error_alone, is_snoop_line_alone, is_result_unfit_for, is_snoop_result_unfit, next_response, may_answer, is_response_early, has_den, is_code_for, responds_soundly, has_code_at, is_code_wrong, is_ready_in_time, is_ready_wrongly, is_target_ready_wrong, is_transferring_of, is_transferring, is_data_wrong, has_unknown_data, awaits_reply, is_id_taken_by, is_outstanding_of_winner, is_begun_wrongly, is_outstanding_wrong, phase_rules, breaks}
+use Rattle.fsb_trace.specs.Rules.{has_unknown_line, is_request_too_soon, is_code_unlawful, is_queue_full, is_request_blocked, has_no_winner, is_own_id, is_identified, is_identity_wrong, is_asked_wrongly, is_some_asked_wrongly, is_lock_alone, is_error_alone, is_snoop_line_alone, is_result_unfit_for, is_snoop_result_unfit, next_response, may_answer, is_response_early, has_den, is_code_for, responds_soundly, has_code_at, is_code_wrong, is_ready_in_time, is_ready_wrongly, is_target_ready_wrong, is_transferring_of, is_transferring, is_data_wrong, has_unknown_data, awaits_reply, is_id_taken_by, is_outstanding_of_winner, is_begun_wrongly, is_outstanding_wrong, has_parity_at, is_address_parity_wrong, is_request_parity_wrong, is_marked_address_wrong, is_marked_request_wrong, phase_rules, breaks}
 use Rattle.fsb_trace.specs.Verdict.{is_broken, least_rule, is_foul, verdict}
-use Rattle.fsb_trace.proofs.LaidOut.{clock, idle, word, bits_of}
+use Rattle.fsb_trace.proofs.LaidOut.{no_marks, both_marks, clock, idle, word, bits_of}
 use Rattle.fsb_trace.proofs.Rows.{two_agents_overlap, store_handed_over_before_arrival, cancelled_by_address_error, deferred_and_replied, write_back_held_off}
 
 -- a clock with these lines and quiet words
@@ -179,7 +181,7 @@ stall_moves_the_next-says =
     × (is_snoop_clock stall_moves_the_next 13 ≡ true)
     × (is_snoop_clock stall_moves_the_next 15 ≡ false)
     × (end_of stall_moves_the_next 1 ≡ Some 19)
-    × (verdict stall_moves_the_next ≡ None)
+    × (verdict no_marks stall_moves_the_next ≡ None)
     × (snoop_start_of (take 6 stall_moves_the_next) 1 ≡ None)
 
 -- a load whose line another agent owns (HITM#), up to its response clock
@@ -201,9 +203,9 @@ abbrev owned_load-says : Type 0
 owned_load-says =
     (outcome_of (owned_load (RS2 ∷ [])) 0 ≡ Some Failed)
     × (end_of (owned_load (RS2 ∷ [])) 0 ≡ Some 8)
-    × (verdict (owned_load (RS2 ∷ [])) ≡ None)
+    × (verdict no_marks (owned_load (RS2 ∷ [])) ≡ None)
     × (outcome_of (owned_load (RS0 ∷ [])) 0 ≡ Some Handed)
-    × (verdict (owned_load (RS0 ∷ [])) ≡ Some (8, 14))
+    × (verdict no_marks (owned_load (RS0 ∷ [])) ≡ Some (8, 14))
 
 -- a line that has been written is written back
 abbrev written_back : Trace
@@ -230,13 +232,13 @@ written_back-says =
     × (takes written_back 0 ≡ true)
     × (ready_clock_of written_back 0 ≡ Some 8)
     × (end_of written_back 0 ≡ Some 13)
-    × (verdict written_back ≡ None)
+    × (verdict no_marks written_back ≡ None)
     × (response_code_of Replied ≡ 0b111)
     × (ready_clock_of (take 7 written_back ++ lines (TRDY ∷ []) ∷ lines (TRDY ∷ []) ∷ []) 0 ≡ Some 8)
 
 -- a lock that begins with the trace and with no request
 abbrev lock_at_first-says : Type 0
-lock_at_first-says = verdict (lines (LOCK ∷ []) ∷ []) ≡ Some (0, 9)
+lock_at_first-says = verdict no_marks (lines (LOCK ∷ []) ∷ []) ≡ Some (0, 9)
 
 -- an address word, and a REQ word, with an unknown bit
 abbrev unclear : Word
@@ -288,9 +290,9 @@ abbrev unclear_words-say : Type 0
 unclear_words-say =
     (request_at (load_from unclear_address) 2 ≡ None)
     × (request_at (load_from unclear_req) 2 ≡ None)
-    × (verdict (load_from unclear_address) ≡ Some (3, 3))
-    × (verdict (load_from unclear_req) ≡ Some (3, 3))
-    × (verdict (load_from (clock (BREQ0 ∷ ADS ∷ []) 0x6 0x8)) ≡ None)
+    × (verdict no_marks (load_from unclear_address) ≡ Some (3, 3))
+    × (verdict no_marks (load_from unclear_req) ≡ Some (3, 3))
+    × (verdict no_marks (load_from (clock (BREQ0 ∷ ADS ∷ []) 0x6 0x8)) ≡ None)
 
 -- a second load with the ID of the first, which is outstanding
 abbrev id_in_use : Trace
@@ -306,7 +308,7 @@ id_in_use =
     ∷ []
 
 abbrev id_in_use-says : Type 0
-id_in_use-says = verdict id_in_use ≡ Some (7, 18)
+id_in_use-says = verdict no_marks id_in_use ≡ Some (7, 18)
 
 -- of the run of two agents, the one in which a line is handed on, and the one with a cancelled request
 abbrev two_agents-say : Type 0
@@ -371,6 +373,74 @@ reply_cancelled-says =
     × (due_at reply_cancelled (12 ∷ 1 ∷ 1 ∷ 0 ∷ []) 25 ≡ Some 0)
     × (is_pending reply_cancelled (12 ∷ 1 ∷ 1 ∷ 0 ∷ []) 0x80 25 ≡ true)
 
+-- an upgrade of address 40, with these lines at its snoop end and after it
+abbrev upgrade : List Lines → Trace → Trace
+upgrade snooped after =
+    lines (BREQ0 ∷ [])
+    ∷ lines (BREQ0 ∷ [])
+    ∷ clock (BREQ0 ∷ ADS ∷ []) 0x2 0x8
+    ∷ idle
+    ∷ idle
+    ∷ idle
+    ∷ lines snooped
+    ∷ idle
+    ∷ after
+
+-- the same with its response two clocks after its snoop end
+abbrev upgrade_answered : List Lines → List Lines → Trace
+upgrade_answered snooped response = upgrade snooped (lines response ∷ [])
+
+-- the same that has lost its race to the line's new owner, with this response and its first data
+abbrev upgrade_lost : List Lines → Trace
+upgrade_lost response = upgrade (HITM ∷ []) (lines (TRDY ∷ []) ∷ idle ∷ lines response ∷ [])
+
+-- it moves no data unless it lost its race, and with DEFER# it is retried and never deferred
+abbrev upgrade-says : Type 0
+upgrade-says =
+    (outcome_of (upgrade_answered [] (RS2 ∷ RS0 ∷ [])) 0 ≡ Some Upgraded)
+    × (end_of (upgrade_answered [] (RS2 ∷ RS0 ∷ [])) 0 ≡ Some 8)
+    × (verdict no_marks (upgrade_answered [] (RS2 ∷ RS0 ∷ [])) ≡ None)
+    × (verdict no_marks (upgrade_answered [] (RS2 ∷ RS1 ∷ RS0 ∷ DRDY ∷ DBSY ∷ [])) ≡ Some (8, 14))
+    × (verdict no_marks (upgrade_answered [] (RS2 ∷ RS1 ∷ DRDY ∷ DBSY ∷ [])) ≡ Some (8, 14))
+    × (verdict no_marks (upgrade_answered (HIT ∷ []) (RS2 ∷ RS0 ∷ [])) ≡ None)
+    × (outcome_of (upgrade_answered (DEFER ∷ []) (RS0 ∷ [])) 0 ≡ Some Retried)
+    × (verdict no_marks (upgrade_answered (DEFER ∷ []) (RS0 ∷ [])) ≡ None)
+    × (verdict no_marks (upgrade_answered (DEFER ∷ []) (RS1 ∷ [])) ≡ Some (8, 14))
+    × (verdict no_marks (upgrade_answered (DEFER ∷ []) (RS2 ∷ RS0 ∷ [])) ≡ Some (8, 14))
+    × (outcome_of (upgrade_lost (RS2 ∷ RS1 ∷ DRDY ∷ DBSY ∷ [])) 0 ≡ Some Handed)
+    × (takes (upgrade_lost (RS2 ∷ RS1 ∷ DRDY ∷ DBSY ∷ [])) 0 ≡ true)
+    × (verdict no_marks (upgrade_lost (RS2 ∷ RS1 ∷ DRDY ∷ DBSY ∷ [])) ≡ None)
+    × (verdict no_marks (upgrade_lost (RS2 ∷ RS0 ∷ [])) ≡ Some (10, 14))
+    × (settled_outcome_of (upgrade [] []) (0 ∷ []) 0 ≡ Some Upgraded)
+
+-- the two clocks of a load of address 40 with these parity lines
+abbrev load_with : List Lines → List Lines → Trace
+load_with first second =
+    lines (BREQ0 ∷ []) ∷ lines (BREQ0 ∷ []) ∷ clock (BREQ0 ∷ ADS ∷ first) 0x6 0x8 ∷ clock second 0x2 0x2 ∷ []
+
+-- both clocks of a request have even parity, each rule where its line is declared, and no other clock
+abbrev parity-says : Type 0
+parity-says =
+    (verdict both_marks (load_with (AP0 ∷ RP ∷ []) (AP0 ∷ RP ∷ [])) ≡ None)
+    × (verdict both_marks (load_with (AP0 ∷ []) (AP0 ∷ RP ∷ [])) ≡ Some (2, 20))
+    × (verdict both_marks (load_with (RP ∷ []) (AP0 ∷ RP ∷ [])) ≡ Some (2, 19))
+    × (verdict both_marks (load_with (AP0 ∷ AP1 ∷ RP ∷ []) (AP0 ∷ RP ∷ [])) ≡ Some (2, 19))
+    × (verdict both_marks (load_with (AP0 ∷ RP ∷ []) (AP0 ∷ AP1 ∷ RP ∷ [])) ≡ Some (3, 19))
+    × (verdict both_marks (load_with (AP0 ∷ RP ∷ []) (AP0 ∷ [])) ≡ Some (3, 20))
+    × (verdict no_marks (load_with [] []) ≡ None)
+    × (verdict (record { ap = true; rp = false }) (load_with (AP0 ∷ []) (AP0 ∷ [])) ≡ None)
+    × (verdict (record { ap = true; rp = false }) (load_with [] []) ≡ Some (2, 19))
+    × (verdict (record { ap = false; rp = true }) (load_with (RP ∷ []) (RP ∷ [])) ≡ None)
+    × (verdict (record { ap = false; rp = true }) (load_with [] []) ≡ Some (2, 20))
+    × (verdict both_marks (lines (AP0 ∷ RP ∷ []) ∷ []) ≡ None)
+
+-- a response of no live request is counted, and tells no outcome
+abbrev stray_response-says : Type 0
+stray_response-says =
+    (response_clock_of (lines (RS0 ∷ []) ∷ []) 0 ≡ Some 0)
+    × (outcome_of (lines (RS0 ∷ []) ∷ []) 0 ≡ None)
+    × (end_of (lines (RS0 ∷ []) ∷ []) 0 ≡ None)
+
 -- all of the above
 pub values_hold :
     four_in_turn-says
@@ -388,16 +458,20 @@ pub values_hold :
     × two_agents-say
     × deferral-says
     × reply_cancelled-says
+    × upgrade-says
+    × parity-says
+    × stray_response-says
 unfolding is_some_and is_before is_at greater_of first_where last_where any_where count_where all_where nth_where
     from_clock holds_since line_at is_lawful_request are_lawful_fields high_bit den_bit clocks row_of pairs_of
     req_words kind_of read_off is_pair is_coded_as if_coded_as request_of line_back response_code_at responds_at
-    stalls_at known_pair known_pair_at request_at bus_request_of request_line_of is_same_agent is_agent no_turns
+    stalls_at known_pair known_pair_at request_at bus_request_of request_line_of is_same_agent is_agent no_requesters
     symmetric_after then_begun first_in_order agent_in_order asks_in_order first_asking last_if_asking winner_by winner_after
-    turns_before winner_at last_agent last_symmetric begins_at is_cancelled seen_at requests_of first_clock_of is_live
-    live_count live_clock_of live_number_of live_request_of is_reply_kind is_write_back_kind is_reply is_write_back
+    requesters_before winner_at last_agent last_symmetric begins_at is_cancelled seen_at requests_of first_clock_of is_live
+    live_count live_clock_of live_number_of live_request_of is_reply_kind is_write_back_kind
+    is_upgrade_kind is_reply is_write_back is_upgrade
     have_same_id line_of is_every_second_from ends_snoop snoop_end_from snoop_end_if start_after_clock start_after_end
     snoop_end_of snoop_start_of is_snoop_clock_of is_snoop_clock line_at_snoop_end does_move response_code_of
-    is_deferral outcome_by_kind response_clock_of told_by outcome_of moves_data is_deferred settled_by
+    is_deferral outcome_by_kind response_clock_of live_response_of told_by outcome_of moves_data is_deferred settled_by
     settled_outcome_of is_settled_deferred takes data_clock_of end_of is_clear_before clock_after_snoop ready_after
     ready_clock_of is_dropped has_ended is_in_flight in_flight is_reply_to is_live_reply_to reply_clock_of
     reply_number_of reply_end_of last_clock_of is_finished is_outstanding outstanding answers is_answered later_of
@@ -406,6 +480,8 @@ unfolding is_some_and is_before is_at greater_of first_where last_where any_wher
     is_lock_alone is_error_alone is_snoop_line_alone is_result_unfit_for is_snoop_result_unfit next_response
     may_answer is_response_early has_den is_code_for responds_soundly has_code_at is_code_wrong is_ready_in_time
     is_ready_wrongly is_target_ready_wrong is_transferring_of is_transferring is_data_wrong has_unknown_data
-    awaits_reply is_id_taken_by is_outstanding_of_winner is_begun_wrongly is_outstanding_wrong phase_rules breaks
+    awaits_reply is_id_taken_by is_outstanding_of_winner is_begun_wrongly is_outstanding_wrong has_parity_at
+    is_address_parity_wrong is_request_parity_wrong is_marked_address_wrong is_marked_request_wrong is_address_odd
+    is_request_odd ones phase_rules breaks
     is_broken least_rule is_foul verdict
-values_hold = ((refl, refl, refl, refl, refl, refl, refl, refl, refl), (refl, refl), (refl, refl, refl, refl), (refl, refl, refl, refl), (refl, refl, refl, refl), (refl, refl), (refl, refl, refl, refl, refl, refl, refl, refl, refl, refl, refl, refl), (refl, refl, refl, refl, refl), (refl, refl, refl, refl, refl, refl, refl), refl, (refl, refl, refl, refl, refl), refl, (refl, refl, refl, refl, refl, refl, refl, refl, refl, refl, refl, refl, refl, refl, refl, refl, refl, refl, refl, refl, refl, refl, refl), (refl, refl, refl, refl, refl, refl, refl, refl, refl, refl, refl, refl, refl, refl, refl, refl, refl), (refl, refl, refl, refl, refl, refl, refl, refl))
+values_hold = ((refl, refl, refl, refl, refl, refl, refl, refl, refl), (refl, refl), (refl, refl, refl, refl), (refl, refl, refl, refl), (refl, refl, refl, refl), (refl, refl), (refl, refl, refl, refl, refl, refl, refl, refl, refl, refl, refl, refl), (refl, refl, refl, refl, refl), (refl, refl, refl, refl, refl, refl, refl), refl, (refl, refl, refl, refl, refl), refl, (refl, refl, refl, refl, refl, refl, refl, refl, refl, refl, refl, refl, refl, refl, refl, refl, refl, refl, refl, refl, refl, refl, refl), (refl, refl, refl, refl, refl, refl, refl, refl, refl, refl, refl, refl, refl, refl, refl, refl, refl), (refl, refl, refl, refl, refl, refl, refl, refl), (refl, refl, refl, refl, refl, refl, refl, refl, refl, refl, refl, refl, refl, refl, refl), (refl, refl, refl, refl, refl, refl, refl, refl, refl, refl, refl, refl), (refl, refl, refl))

@@ -1,16 +1,16 @@
 -- Outcomes: the one that a response tells, and the one that is settled at the snoop end.
-use Rattle.std.specs.Prelude.{ℕ, Bool, true, false, nat_eq, nat_le, if◌then◌else◌, List, Option, Some, None, length, slice_index}
+use Rattle.std.specs.Prelude.{ℕ, Bool, true, false, nat_eq, nat_le, nat_lt, if◌then◌else◌, List, Option, Some, None, length, slice_index}
 use Rattle.std.specs.Option.{option_map}
 use Rattle.fsb_count.specs.Options.{is_some_and}
 use Rattle.fsb_count.specs.Clocks.{nth_where}
 use Rattle.fsb_signal.specs.declared.lines.TheConstants.Lines.{HITM}
 use Rattle.fsb_signal.specs.Samples.{line_at}
-use Rattle.fsb_encode.specs.declared.request.Kind.TheVariants.{Reply, Invalidate, Read, WriteBack}
+use Rattle.fsb_encode.specs.declared.request.Kind.TheVariants.{Reply, Invalidate, Read, WriteBack, Upgrade}
 use Rattle.fsb_encode.specs.declared.request.Request.{Request}
 use Rattle.fsb_trace.specs.declared.outcome.Outcome.{Outcome}
-use Rattle.fsb_trace.specs.declared.outcome.Outcome.TheVariants.{Granted, Handed, Retried, Deferred, Written, Replied, Failed}
+use Rattle.fsb_trace.specs.declared.outcome.Outcome.TheVariants.{Granted, Handed, Retried, Deferred, Written, Replied, Failed, Upgraded}
 use Rattle.fsb_trace.specs.At.{Trace, responds_at, response_code_at}
-use Rattle.fsb_trace.specs.Requests.{live_request_of}
+use Rattle.fsb_trace.specs.Requests.{live_count, live_request_of}
 use Rattle.fsb_trace.specs.Snoop.{snoop_end_of, line_at_snoop_end}
 
 -- data move with this outcome
@@ -22,6 +22,7 @@ does_move Deferred = false
 does_move Written = true
 does_move Replied = true
 does_move Failed = false
+does_move Upgraded = false
 
 -- memory takes data with this outcome
 unfoldable pub does_take : Outcome → Bool
@@ -32,6 +33,7 @@ does_take Deferred = false
 does_take Written = true
 does_take Replied = false
 does_take Failed = false
+does_take Upgraded = false
 
 -- the response code of this outcome: RS2, RS1 and RS0
 unfoldable pub response_code_of : Outcome → ℕ
@@ -42,6 +44,7 @@ response_code_of Deferred = 0b010
 response_code_of Written = 0b101
 response_code_of Replied = 0b111
 response_code_of Failed = 0b100
+response_code_of Upgraded = 0b101
 
 -- the outcome is Deferred
 unfoldable pub is_deferral : Outcome → Bool
@@ -52,16 +55,22 @@ is_deferral Deferred = true
 is_deferral Written = false
 is_deferral Replied = false
 is_deferral Failed = false
+is_deferral Upgraded = false
 
 -- the outcome of a request that nothing hands on, retries, defers or fails: by its kind
 unfoldable pub outcome_by_kind : Option Request → Outcome
 outcome_by_kind None = Granted
 outcome_by_kind (Some request) =
-    elim request.kind [ WriteBack ↦ Written | Reply ↦ Replied | Read ↦ Granted | Invalidate ↦ Granted ]
+    elim request.kind
+    [ WriteBack ↦ Written | Upgrade ↦ Upgraded | Reply ↦ Replied | Read ↦ Granted | Invalidate ↦ Granted ]
 
 -- the response clock of live request i: the i-th clock, from 0, at which RS# is not idle
 unfoldable pub response_clock_of : Trace → ℕ → Option ℕ
 response_clock_of w i = nth_where (responds_at w) i (length w)
+
+-- the response clock of live request i, where there is such a request
+unfoldable pub live_response_of : Trace → ℕ → Option ℕ
+live_response_of w i = if nat_lt i (live_count w) then response_clock_of w i else None
 
 -- what a response with this code tells of live request i
 unfoldable pub told_by : Trace → ℕ → ℕ → Outcome
@@ -74,7 +83,7 @@ told_by w i code =
 
 -- the told outcome of live request i, which is read at its response
 unfoldable pub outcome_of : Trace → ℕ → Option Outcome
-outcome_of w i = option_map (λ r. told_by w i (response_code_at w r)) (response_clock_of w i)
+outcome_of w i = option_map (λ r. told_by w i (response_code_at w r)) (live_response_of w i)
 
 -- the outcome of live request i is told, and with it data move
 unfoldable pub moves_data : Trace → ℕ → Bool

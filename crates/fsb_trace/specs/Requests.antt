@@ -6,7 +6,7 @@ use Rattle.fsb_count.specs.Clocks.{count_where, all_where, nth_where}
 use Rattle.fsb_signal.specs.declared.lines.TheConstants.Lines.{ADS, AERR}
 use Rattle.fsb_signal.specs.Samples.{line_at}
 use Rattle.fsb_encode.specs.declared.request.Kind.{Kind}
-use Rattle.fsb_encode.specs.declared.request.Kind.TheVariants.{Reply, Invalidate, Read, WriteBack}
+use Rattle.fsb_encode.specs.declared.request.Kind.TheVariants.{Reply, Invalidate, Read, WriteBack, Upgrade}
 use Rattle.fsb_encode.specs.declared.request.Request.{Request}
 use Rattle.fsb_trace.specs.declared.seen.Seen.{Seen}
 use Rattle.fsb_trace.specs.declared.who.Who.TheVariants.{Symmetric, Priority}
@@ -55,6 +55,7 @@ is_reply_kind Reply = true
 is_reply_kind Invalidate = false
 is_reply_kind Read = false
 is_reply_kind WriteBack = false
+is_reply_kind Upgrade = false
 
 -- the kind is that of a write-back
 unfoldable pub is_write_back_kind : Kind → Bool
@@ -62,6 +63,15 @@ is_write_back_kind Reply = false
 is_write_back_kind Invalidate = false
 is_write_back_kind Read = false
 is_write_back_kind WriteBack = true
+is_write_back_kind Upgrade = false
+
+-- the kind is that of an upgrade
+unfoldable pub is_upgrade_kind : Kind → Bool
+is_upgrade_kind Reply = false
+is_upgrade_kind Invalidate = false
+is_upgrade_kind Read = false
+is_upgrade_kind WriteBack = false
+is_upgrade_kind Upgrade = true
 
 -- the request is decoded, and it is a reply
 unfoldable pub is_reply : Option Request → Bool
@@ -70,6 +80,10 @@ is_reply request = is_some_and request (λ r. is_reply_kind r.kind)
 -- the request is decoded, and it is a write-back
 unfoldable pub is_write_back : Option Request → Bool
 is_write_back request = is_some_and request (λ r. is_write_back_kind r.kind)
+
+-- the request is decoded, and it is an upgrade
+unfoldable pub is_upgrade : Option Request → Bool
+is_upgrade request = is_some_and request (λ r. is_upgrade_kind r.kind)
 
 -- both requests are decoded, and they have the same ID
 unfoldable pub have_same_id : Option Request → Option Request → Bool

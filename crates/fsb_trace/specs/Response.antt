@@ -8,7 +8,7 @@ use Rattle.fsb_signal.specs.Samples.{line_at}
 use Rattle.fsb_trace.specs.At.{Trace}
 use Rattle.fsb_trace.specs.Requests.{live_request_of, is_write_back}
 use Rattle.fsb_trace.specs.Snoop.{snoop_end_of, line_at_snoop_end}
-use Rattle.fsb_trace.specs.Outcome.{response_clock_of, moves_data}
+use Rattle.fsb_trace.specs.Outcome.{response_clock_of, live_response_of, moves_data}
 
 -- live request i takes: memory is to take its data, since it is a write-back or HITM# is at its snoop end
 unfoldable pub takes : Trace → ℕ → Bool
@@ -24,7 +24,7 @@ data_clock_of w i n =
 
 -- the end of live request i: its fourth data clock where its data move, and its response clock otherwise
 unfoldable pub end_of : Trace → ℕ → Option ℕ
-end_of w i = if moves_data w i then data_clock_of w i 3 else response_clock_of w i
+end_of w i = if moves_data w i then data_clock_of w i 3 else live_response_of w i
 
 -- the request before live request i has ended below c, or i is the first
 unfoldable pub is_clear_before : Trace → ℕ → ℕ → Bool

@@ -1,18 +1,21 @@
--- The eighteen phase rules. Each test says that the rule is broken at clock c of v, and v is to end with clock c: a
--- rule is judged over the samples up to its clock alone, and all numbers are taken in them.
+-- The twenty phase rules. Each test says that the rule is broken at clock c of v, and v is to end with clock c: a rule
+-- is judged over the samples up to its clock alone, and all numbers are taken in them. The last two are judged only
+-- of a dump that declares their lines, which its marks say.
 use Rattle.std.specs.Prelude.{ℕ, zero, suc, ◌+◌, ◌-◌, ◌/◌, Bool, false, ◌&&◌, ◌||◌, not, nat_lt, nat_le, nat_eq, if◌then◌else◌, List, [], ◌∷◌, Option, Some, None, length, slice_get, is_none}
 use Rattle.std.specs.Option.{option_map_or}
 use Rattle.fsb_count.specs.Options.{is_some_and, is_before, is_at}
 use Rattle.fsb_count.specs.Clocks.{any_where, count_where, from_clock}
 use Rattle.fsb_signal.specs.declared.lines.TheConstants.Lines.{BNR, ADS, AERR, HIT, HITM, DEFER, LOCK, TRDY, DBSY, DRDY}
+use Rattle.fsb_signal.specs.declared.marks.Marks.{Marks}
+use Rattle.fsb_signal.specs.Parity.{is_address_odd, is_request_odd}
 use Rattle.fsb_signal.specs.Samples.{line_at, has_known_lines, is_known_word}
 use Rattle.fsb_encode.specs.declared.request.Request.{Request}
 use Rattle.fsb_trace.specs.declared.who.Who.{Who}
 use Rattle.fsb_trace.specs.declared.who.Who.TheVariants.{Symmetric, Priority}
-use Rattle.fsb_trace.specs.declared.outcome.Outcome.TheVariants.{Granted, Handed, Retried, Deferred, Written, Failed}
+use Rattle.fsb_trace.specs.declared.outcome.Outcome.TheVariants.{Granted, Handed, Retried, Deferred, Written, Failed, Upgraded}
 use Rattle.fsb_trace.specs.At.{Trace, line_back, responds_at, response_code_at, request_at}
 use Rattle.fsb_trace.specs.Winner.{winner_at, is_agent, is_same_agent, begins_at, request_line_of}
-use Rattle.fsb_trace.specs.Requests.{live_count, live_request_of, is_reply, is_write_back, have_same_id}
+use Rattle.fsb_trace.specs.Requests.{live_count, live_request_of, is_reply, is_write_back, is_upgrade, have_same_id}
 use Rattle.fsb_trace.specs.Snoop.{snoop_end_of, line_at_snoop_end, is_snoop_clock}
 use Rattle.fsb_trace.specs.Outcome.{response_code_of, response_clock_of, moves_data, is_deferred}
 use Rattle.fsb_trace.specs.Response.{takes, is_clear_before, ready_clock_of}
@@ -111,7 +114,7 @@ unfoldable pub has_den : Option Request → Bool
 has_den request = is_some_and request (λ r. r.den)
 
 -- the code is the one for live request i: implicit writeback with HITM#, no data for a write-back, retry with DEFER#
--- or, if DEN# was asserted, deferred, and else normal data
+-- or, if DEN# was asserted, deferred, and else no data for an upgrade and normal data for the rest
 unfoldable pub is_code_for : Trace → ℕ → ℕ → Bool
 is_code_for v i code =
     if line_at_snoop_end HITM v i then nat_eq code (response_code_of Handed)
@@ -119,7 +122,9 @@ is_code_for v i code =
     else (if line_at_snoop_end DEFER v i
     then nat_eq code (response_code_of Retried)
     || has_den (live_request_of v i) && nat_eq code (response_code_of Deferred)
-    else nat_eq code (response_code_of Granted)))
+    else (if is_upgrade (live_request_of v i)
+    then nat_eq code (response_code_of Upgraded)
+    else nat_eq code (response_code_of Granted))))
 
 -- RS# is neither idle nor a hard failure at c
 unfoldable pub responds_soundly : Trace → ℕ → Bool
@@ -197,15 +202,37 @@ is_begun_wrongly v q =
 unfoldable pub is_outstanding_wrong : Trace → ℕ → Bool
 is_outstanding_wrong v c = line_back ADS v c 1 && is_begun_wrongly v (c - 1)
 
--- the rules in their order
-unfoldable pub phase_rules : List (Trace → ℕ → Bool)
-phase_rules =
+-- the two clocks of a request that has its first clock at c or at c - 1 have parity; c is one of them
+unfoldable pub has_parity_at : Trace → ℕ → Bool
+has_parity_at v c = line_at ADS v c || line_back ADS v c 1
+
+-- 19 address parity: ADS# is at c or at c - 1, nothing of the address and its parity is unknown at c, and the parity
+-- of its low or of its high part is odd
+unfoldable pub is_address_parity_wrong : Trace → ℕ → Bool
+is_address_parity_wrong v c = has_parity_at v c && option_map_or is_address_odd (slice_get v c) false
+
+-- 20 request parity: ADS# is at c or at c - 1, nothing of the request and its parity is unknown at c, and the parity
+-- is odd
+unfoldable pub is_request_parity_wrong : Trace → ℕ → Bool
+is_request_parity_wrong v c = has_parity_at v c && option_map_or is_request_odd (slice_get v c) false
+
+-- rule 19 where the dump declares the address parity
+unfoldable pub is_marked_address_wrong : Marks → Trace → ℕ → Bool
+is_marked_address_wrong m v c = m.ap && is_address_parity_wrong v c
+
+-- rule 20 where the dump declares the request parity
+unfoldable pub is_marked_request_wrong : Marks → Trace → ℕ → Bool
+is_marked_request_wrong m v c = m.rp && is_request_parity_wrong v c
+
+-- the rules in their order, for a dump with these marks
+unfoldable pub phase_rules : Marks → List (Trace → ℕ → Bool)
+phase_rules m =
     has_unknown_line ∷ is_request_too_soon ∷ is_code_unlawful ∷ is_queue_full ∷ is_request_blocked ∷ has_no_winner
     ∷ is_identity_wrong ∷ is_some_asked_wrongly ∷ is_lock_alone ∷ is_error_alone ∷ is_snoop_line_alone
     ∷ is_snoop_result_unfit ∷ is_response_early ∷ is_code_wrong ∷ is_target_ready_wrong ∷ is_data_wrong
-    ∷ has_unknown_data ∷ is_outstanding_wrong ∷ []
+    ∷ has_unknown_data ∷ is_outstanding_wrong ∷ is_marked_address_wrong m ∷ is_marked_request_wrong m ∷ []
 
--- rule j, from 1, is broken at the last clock c of v
-unfoldable pub breaks : Trace → ℕ → ℕ → Bool
-breaks v c zero = false
-breaks v c (suc j) = elim (slice_get phase_rules j) [ Some rule ↦ rule v c | None ↦ false ]
+-- rule j, from 1, is broken at the last clock c of v, in a dump with these marks
+unfoldable pub breaks : Marks → Trace → ℕ → ℕ → Bool
+breaks m v c zero = false
+breaks m v c (suc j) = elim (slice_get (phase_rules m) j) [ Some rule ↦ rule v c | None ↦ false ]

@@ -35,12 +35,12 @@ is_agent winner who = is_some_and winner (is_same_agent who)
 
 -- which agents began the requests so far: the agent of the last one, if there is one and it had a winner, and the
 -- symmetric agent that began one last
-abbrev pub Turns : Type 0
-Turns = Option Who × Option ℕ
+abbrev pub Requesters : Type 0
+Requesters = Option Who × Option ℕ
 
 -- no request yet
-unfoldable pub no_turns : Turns
-no_turns = (None, None)
+unfoldable pub no_requesters : Requesters
+no_requesters = (None, None)
 
 -- the symmetric agent that began a request last, where it was this one so far, and this agent begins one more
 unfoldable pub symmetric_after : Option ℕ → Option Who → Option ℕ
@@ -49,8 +49,8 @@ symmetric_after symmetric (Some Priority) = symmetric
 symmetric_after symmetric None = symmetric
 
 -- one more request, begun by this agent, if there is one
-unfoldable pub then_begun : Turns → Option Who → Turns
-then_begun turns winner = (winner, symmetric_after turns.1 winner)
+unfoldable pub then_begun : Requesters → Option Who → Requesters
+then_begun requesters winner = (winner, symmetric_after requesters.1 winner)
 
 -- the agent with which the rotating order begins: the one after the last symmetric requester, or agent 0
 unfoldable pub first_in_order : Option ℕ → ℕ
@@ -76,40 +76,40 @@ last_if_asking w d (Some who) = if line_at (request_line_of who) w d then Some w
 
 -- the winner by the lines of clock d: with LOCK# the last requester while it asks; without LOCK# the priority agent
 -- if it asks, else the first symmetric agent that asks, in rotating order
-unfoldable pub winner_by : Trace → ℕ → Turns → Option Who
-winner_by w d turns =
+unfoldable pub winner_by : Trace → ℕ → Requesters → Option Who
+winner_by w d requesters =
     elim (line_at LOCK w d) [
-      | true ↦ last_if_asking w d turns.0
+      | true ↦ last_if_asking w d requesters.0
       | false ↦ elim (line_at BPRI w d) [
         | true ↦ Some Priority
-        | false ↦ option_map Symmetric (first_asking w d (first_in_order turns.1))
+        | false ↦ option_map Symmetric (first_asking w d (first_in_order requesters.1))
       ]
     ]
 
 -- the winner at c after these requests, by the lines two clocks before; below clock 2 there is none
-unfoldable pub winner_after : Trace → ℕ → Turns → Option Who
-winner_after w c turns = elim (nat_lt c 2) [ true ↦ None | false ↦ winner_by w (c - 2) turns ]
+unfoldable pub winner_after : Trace → ℕ → Requesters → Option Who
+winner_after w c requesters = elim (nat_lt c 2) [ true ↦ None | false ↦ winner_by w (c - 2) requesters ]
 
 -- which agents began the requests before clock c; each request counts, also one that is cancelled later
-unfoldable pub turns_before : Trace → ℕ → Turns
-turns_before w zero = no_turns
-turns_before w (suc c) =
+unfoldable pub requesters_before : Trace → ℕ → Requesters
+requesters_before w zero = no_requesters
+requesters_before w (suc c) =
     elim (line_at ADS w c) [
-      | true ↦ let turns = turns_before w c in then_begun turns (winner_after w c turns)
-      | false ↦ turns_before w c
+      | true ↦ let requesters = requesters_before w c in then_begun requesters (winner_after w c requesters)
+      | false ↦ requesters_before w c
     ]
 
 -- the winner at c
 unfoldable pub winner_at : Trace → ℕ → Option Who
-winner_at w c = winner_after w c (turns_before w c)
+winner_at w c = winner_after w c (requesters_before w c)
 
 -- the agent of the last request before c
 unfoldable pub last_agent : Trace → ℕ → Option Who
-last_agent w c = (turns_before w c).0
+last_agent w c = (requesters_before w c).0
 
 -- the agent of the last request before c that a symmetric agent began
 unfoldable pub last_symmetric : Trace → ℕ → Option ℕ
-last_symmetric w c = (turns_before w c).1
+last_symmetric w c = (requesters_before w c).1
 
 -- the agent begins a request at c
 unfoldable pub begins_at : Trace → ℕ → Who → Bool

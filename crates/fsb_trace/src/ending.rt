@@ -7,7 +7,7 @@ ghost use Rattle.fsb_trace.specs.Response.{takes, data_clock_of, end_of, is_clea
 
 use crate::request::{is_write_back, live_request_of};
 use crate::snoop::{greater_of, is_before, line_at_snoop_end, snoop_end_of};
-use crate::told::{moves_data, response_clock_of};
+use crate::told::{live_response_of, moves_data, response_clock_of};
 use fsb_count::{first_where, nth_where};
 use fsb_signal::{Lines, Sample, line_at};
 
@@ -55,7 +55,7 @@ pub fn end_clock_of(w: &[Sample], i: usize) -> Option<usize>
     if moves_data(w, i) {
         data_clock_of(w, i, 3)
     } else {
-        response_clock_of(w, i)
+        live_response_of(w, i)
     }
 }
 

@@ -1,6 +1,7 @@
 //! Laws of the definitions: small functions with no code, whose contracts are the laws.
 
 ghost use Rattle.std.specs.Prelude.{◌≡◌, ℕ, ◌+◌, ◌<◌, ◌≤◌, Some, None, true, false, length};
+ghost use Rattle.fsb_signal.specs.declared.marks.Marks.{Marks};
 ghost use Rattle.fsb_trace.specs.At.{Trace};
 ghost use Rattle.fsb_trace.specs.Agree.{AgreeTo};
 ghost use Rattle.fsb_trace.specs.Winner.{winner_at};
@@ -42,18 +43,24 @@ pub fn numbers_stay()
     ensures ready { (n : ℕ) (w v : Trace) (i y : ℕ) → AgreeTo n w v → y < n → ready_clock_of w i ≡ Some y → ready_clock_of v i ≡ Some y }
 {}
 
-/// Whether a rule is broken at a clock rests on the samples up to that clock alone; so a verdict stays, however the
-/// trace goes on.
+/// Whether a rule is broken at a clock rests on the marks and on the samples up to that clock alone; so a verdict stays,
+/// however the trace goes on.
 pub fn rules_rest_on_the_past()
-    ensures broken { (w v : Trace) (c j : ℕ) → AgreeTo (c + 1) w v → is_broken w c j ≡ is_broken v c j }
-    ensures stays { (n : ℕ) (w v : Trace) (c j : ℕ) → AgreeTo n w v → c < n → verdict w ≡ Some (c, j) → verdict v ≡ Some (c, j) }
+    ensures broken { (m : Marks) (w v : Trace) (c j : ℕ) → AgreeTo (c + 1) w v
+        → is_broken m w c j ≡ is_broken m v c j }
+    ensures stays { (n : ℕ) (m : Marks) (w v : Trace) (c j : ℕ) → AgreeTo n w v → c < n
+        → verdict m w ≡ Some (c, j) → verdict m v ≡ Some (c, j) }
 {}
 
 /// A verdict names a clock and a rule that is broken there, while no rule is broken before that clock and no lesser
 /// one at it; where there is none, no rule is broken at all.
 pub fn verdict_is_least()
-    ensures broken { (w : Trace) (c j : ℕ) → verdict w ≡ Some (c, j) → (c < length w) × (is_broken w c j ≡ true) }
-    ensures rule { (w : Trace) (c j k : ℕ) → verdict w ≡ Some (c, j) → k < j → is_broken w c k ≡ false }
-    ensures clock { (w : Trace) (c j d k : ℕ) → verdict w ≡ Some (c, j) → d < c → k < 19 → is_broken w d k ≡ false }
-    ensures accepted { (w : Trace) (c j : ℕ) → verdict w ≡ None → j < 19 → is_broken w c j ≡ false }
+    ensures broken { (m : Marks) (w : Trace) (c j : ℕ) → verdict m w ≡ Some (c, j)
+        → (c < length w) × (is_broken m w c j ≡ true) }
+    ensures rule { (m : Marks) (w : Trace) (c j k : ℕ) → verdict m w ≡ Some (c, j) → k < j
+        → is_broken m w c k ≡ false }
+    ensures clock { (m : Marks) (w : Trace) (c j d k : ℕ) → verdict m w ≡ Some (c, j) → d < c → k < 21
+        → is_broken m w d k ≡ false }
+    ensures accepted { (m : Marks) (w : Trace) (c j : ℕ) → verdict m w ≡ None → j < 21
+        → is_broken m w c j ≡ false }
 {}

@@ -1,5 +1,5 @@
 //! What a trace says: requests and their winners, snoop ends, responses, data and outcomes, what is in flight,
-//! outstanding, due and pending, and the eighteen phase rules with their verdict.
+//! outstanding, due and pending, and the twenty phase rules with their verdict.
 //!
 //! A trace is judged as a whole, and numbers are picked out of it by position. The definitions are in `specs/`; the
 //! calls here are their plain, slow form, for tests and for comparison with machines that look at each sample once.
@@ -15,7 +15,11 @@ pub use numbers::{end_of, outcome_of, response, snoop_end};
 pub use outcome::{Outcome, code_of, moves};
 pub use request::requests;
 pub use seen::Seen;
+pub use snoop::is_every_second_from;
 pub use who::Who;
+pub use winner::{
+    agent_in_order, bus_request_of, first_in_order, request_line_of, symmetric_after,
+};
 
 mod at;
 mod ending;

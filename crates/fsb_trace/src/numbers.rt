@@ -35,8 +35,7 @@ pub fn response(w: &[Sample], i: u32) -> Option<u32>
 }
 
 /// The end of live request `i`: its fourth data clock where data move, and else its response clock; none where it is
-/// not reached. Where there is no live request `i` but the `i`-th response clock is reached, this is the end that the
-/// outcome told there gives: the fourth DRDY# clock from the response on for Granted, else the response clock.
+/// not reached, and where there is no live request `i`.
 pub fn end_of(w: &[Sample], i: u32) -> Option<u32>
     requires { length w.now < 2 ^ 32 }
     ensures { result ≡ end_of w.now i }
@@ -47,9 +46,8 @@ pub fn end_of(w: &[Sample], i: u32) -> Option<u32>
     }
 }
 
-/// The outcome of live request `i`, as its response tells it; none where the response is not reached. Where there is no
-/// live request `i` but the `i`-th response clock is reached, the outcome is what the code there tells: Failed for 100,
-/// Retried for 001, Deferred for 010, and Granted for any other.
+/// The outcome of live request `i`, as its response tells it; none where the response is not reached, and where there
+/// is no live request `i`.
 pub fn outcome_of(w: &[Sample], i: u32) -> Option<Outcome>
     requires { length w.now < 2 ^ 32 }
     ensures { result ≡ outcome_of w.now i }

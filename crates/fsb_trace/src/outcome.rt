@@ -18,6 +18,8 @@ pub enum Outcome {
     Replied,
     /// A hard failure: nothing moves.
     Failed,
+    /// An upgrade: nothing moves; the requester owns the line, if it still holds it.
+    Upgraded,
 }
 
 /// Whether data move with this outcome.
@@ -27,7 +29,7 @@ pub fn moves(outcome: Outcome) -> bool
 {
     match outcome {
         Outcome::Granted | Outcome::Handed | Outcome::Written | Outcome::Replied => true,
-        Outcome::Retried | Outcome::Deferred | Outcome::Failed => false,
+        Outcome::Retried | Outcome::Deferred | Outcome::Failed | Outcome::Upgraded => false,
     }
 }
 
@@ -41,7 +43,7 @@ pub fn code_of(outcome: Outcome) -> u8
         Outcome::Handed => 0b110,
         Outcome::Retried => 0b001,
         Outcome::Deferred => 0b010,
-        Outcome::Written => 0b101,
+        Outcome::Written | Outcome::Upgraded => 0b101,
         Outcome::Failed => 0b100,
     }
 }
@@ -58,6 +60,7 @@ pub(crate) fn is_deferral(outcome: Outcome) -> bool
         | Outcome::Retried
         | Outcome::Written
         | Outcome::Replied
-        | Outcome::Failed => false,
+        | Outcome::Failed
+        | Outcome::Upgraded => false,
     }
 }

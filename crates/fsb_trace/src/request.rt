@@ -1,7 +1,7 @@
 //! The requests of a trace.
 
 ghost use Rattle.std.specs.Prelude.{◌≡◌, ◌^◌, ◌<◌, length, IfSome, IfOk};
-ghost use Rattle.fsb_trace.specs.Requests.{is_cancelled, seen_at, requests_of, is_live, live_count, live_clock_of, live_number_of, live_request_of, is_reply, is_write_back, have_same_id};
+ghost use Rattle.fsb_trace.specs.Requests.{is_cancelled, seen_at, requests_of, is_live, live_count, live_clock_of, live_number_of, live_request_of, is_reply, is_write_back, is_upgrade, have_same_id};
 
 use crate::at::request_at;
 use crate::seen::Seen;
@@ -107,7 +107,7 @@ pub fn is_reply(request: Option<Request>) -> bool
     match request {
         Some(request) => match request.kind {
             Kind::Reply => true,
-            Kind::Invalidate | Kind::Read | Kind::WriteBack => false,
+            Kind::Invalidate | Kind::Read | Kind::WriteBack | Kind::Upgrade => false,
         },
         None => false,
     }
@@ -121,7 +121,21 @@ pub fn is_write_back(request: Option<Request>) -> bool
     match request {
         Some(request) => match request.kind {
             Kind::WriteBack => true,
-            Kind::Reply | Kind::Invalidate | Kind::Read => false,
+            Kind::Reply | Kind::Invalidate | Kind::Read | Kind::Upgrade => false,
+        },
+        None => false,
+    }
+}
+
+/// Whether the request is decoded and is an upgrade.
+#[tactic(auto, unfolding(crate::specs::Requests::is_upgrade, crate::specs::Requests::is_upgrade_kind, fsb_count::specs::Options::is_some_and))]
+pub fn is_upgrade(request: Option<Request>) -> bool
+    ensures { result ≡ is_upgrade request }
+{
+    match request {
+        Some(request) => match request.kind {
+            Kind::Upgrade => true,
+            Kind::Reply | Kind::Invalidate | Kind::Read | Kind::WriteBack => false,
         },
         None => false,
     }

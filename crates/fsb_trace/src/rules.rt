@@ -1,13 +1,15 @@
-//! The eighteen phase rules. Each function says that its rule is broken at clock `c` of `v`, which is to end there.
+//! The twenty phase rules. Each function says that its rule is broken at clock `c` of `v`, which is to end there.
 
 ghost use Rattle.std.specs.Prelude.{◌≡◌, ◌^◌, ◌<◌, length};
-ghost use Rattle.fsb_trace.specs.Rules.{has_unknown_line, is_request_too_soon, is_code_unlawful, is_queue_full, is_request_blocked, has_no_winner, is_own_id, is_identified, is_identity_wrong, is_asked_wrongly, is_some_asked_wrongly, is_lock_alone, is_error_alone, is_snoop_line_alone, is_result_unfit_for, is_snoop_result_unfit, next_response, may_answer, is_response_early, has_den, is_code_for, responds_soundly, has_code_at, is_code_wrong, is_ready_in_time, is_ready_wrongly, is_target_ready_wrong, is_transferring_of, is_transferring, is_data_wrong, has_unknown_data, awaits_reply, is_id_taken_by, is_outstanding_of_winner, is_begun_wrongly, is_outstanding_wrong};
+ghost use Rattle.fsb_trace.specs.Rules.{has_unknown_line, is_request_too_soon, is_code_unlawful, is_queue_full, is_request_blocked, has_no_winner, is_own_id, is_identified, is_identity_wrong, is_asked_wrongly, is_some_asked_wrongly, is_lock_alone, is_error_alone, is_snoop_line_alone, is_result_unfit_for, is_snoop_result_unfit, next_response, may_answer, is_response_early, has_den, is_code_for, responds_soundly, has_code_at, is_code_wrong, is_ready_in_time, is_ready_wrongly, is_target_ready_wrong, is_transferring_of, is_transferring, is_data_wrong, has_unknown_data, awaits_reply, is_id_taken_by, is_outstanding_of_winner, is_begun_wrongly, is_outstanding_wrong, has_parity_at, is_address_parity_wrong, is_request_parity_wrong};
 
 use crate::at::{line_back, request_at, responds_at, response_code_at};
 use crate::ending::{is_clear_before, line_at_from, ready_clock_of, takes};
 use crate::flight::{count_in_flight, is_answered, is_outstanding};
 use crate::outcome::{Outcome, code_of};
-use crate::request::{have_same_id, is_reply, is_write_back, live_count, live_request_of};
+use crate::request::{
+    have_same_id, is_reply, is_upgrade, is_write_back, live_count, live_request_of,
+};
 use crate::snoop::{is_at, is_before, is_snoop_clock, line_at_snoop_end, snoop_end_of};
 use crate::told::{is_deferred, moves_data, response_clock_of};
 use crate::who::Who;
@@ -231,6 +233,8 @@ fn is_code_for(v: &[Sample], i: usize, code: u8) -> bool
         code == code_of(Outcome::Written)
     } else if line_at_snoop_end(Lines::DEFER, v, i) {
         code == code_of(Outcome::Retried) || has_den(request) && code == code_of(Outcome::Deferred)
+    } else if is_upgrade(request) {
+        code == code_of(Outcome::Upgraded)
     } else {
         code == code_of(Outcome::Granted)
     }
@@ -398,4 +402,34 @@ pub fn is_outstanding_wrong(v: &[Sample], c: usize) -> bool
     ensures { result ≡ is_outstanding_wrong v.now c }
 {
     line_back(Lines::ADS, v, c, 1) && is_begun_wrongly(v, c.saturating_sub(1))
+}
+
+/// Whether ADS# is asserted at `c` or at `c - 1`: one of the two clocks of a request, which have parity.
+#[tactic(auto, unfolding(crate::specs::Rules::has_parity_at))]
+fn has_parity_at(v: &[Sample], c: usize) -> bool
+    ensures { result ≡ has_parity_at v.now c }
+{
+    line_at(Lines::ADS, v, c) || line_back(Lines::ADS, v, c, 1)
+}
+
+/// Rule 19, address parity.
+#[tactic(auto, unfolding(crate::specs::Rules::is_address_parity_wrong))]
+pub fn is_address_parity_wrong(v: &[Sample], c: usize) -> bool
+    ensures { result ≡ is_address_parity_wrong v.now c }
+{
+    match v.get(c) {
+        Some(sample) => has_parity_at(v, c) && sample.is_address_odd(),
+        None => false,
+    }
+}
+
+/// Rule 20, request parity.
+#[tactic(auto, unfolding(crate::specs::Rules::is_request_parity_wrong))]
+pub fn is_request_parity_wrong(v: &[Sample], c: usize) -> bool
+    ensures { result ≡ is_request_parity_wrong v.now c }
+{
+    match v.get(c) {
+        Some(sample) => has_parity_at(v, c) && sample.is_request_odd(),
+        None => false,
+    }
 }

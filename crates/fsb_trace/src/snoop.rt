@@ -43,8 +43,9 @@ pub fn greater_of(a: Option<usize>, b: Option<usize>) -> Option<usize>
     }
 }
 
+/// Whether `c` is the start or an even number of clocks after it.
 #[tactic(auto, unfolding(crate::specs::Snoop::is_every_second_from))]
-fn is_every_second_from(start: usize, c: usize) -> bool
+pub fn is_every_second_from(start: u64, c: u64) -> bool
     ensures { result ≡ is_every_second_from start c }
 {
     start <= c && (c - start) % 2 == 0
@@ -54,7 +55,7 @@ fn is_every_second_from(start: usize, c: usize) -> bool
 fn ends_snoop(w: &[Sample], start: usize, c: usize) -> bool
     ensures { result ≡ ends_snoop w.now start c }
 {
-    is_every_second_from(start, c) && !stalls_at(w, c)
+    is_every_second_from(start as u64, c as u64) && !stalls_at(w, c)
 }
 
 /// The end of a snoop that starts there.
@@ -139,7 +140,7 @@ fn is_snoop_clock_of(w: &[Sample], c: usize, i: usize) -> bool
 {
     match snoop_start_of(w, i) {
         Some(start) => c < w.len()
-            && is_every_second_from(start, c)
+            && is_every_second_from(start as u64, c as u64)
             && !is_before(snoop_end_of(w, i), c),
         None => false,
     }

@@ -1,11 +1,11 @@
 //! Responses, and the outcomes that they tell.
 
 ghost use Rattle.std.specs.Prelude.{◌≡◌, ◌^◌, ◌<◌, length, IfSome};
-ghost use Rattle.fsb_trace.specs.Outcome.{outcome_by_kind, response_clock_of, told_by, outcome_of, moves_data, is_deferred};
+ghost use Rattle.fsb_trace.specs.Outcome.{outcome_by_kind, response_clock_of, live_response_of, told_by, outcome_of, moves_data, is_deferred};
 
 use crate::at::{responds_at, response_code_at};
 use crate::outcome::{Outcome, code_of, is_deferral, moves};
-use crate::request::live_request_of;
+use crate::request::{live_count, live_request_of};
 use crate::snoop::line_at_snoop_end;
 use fsb_count::nth_where;
 use fsb_encode::{Kind, Request};
@@ -19,6 +19,7 @@ fn outcome_by_kind(request: Option<Request>) -> Outcome
     match request {
         Some(request) => match request.kind {
             Kind::WriteBack => Outcome::Written,
+            Kind::Upgrade => Outcome::Upgraded,
             Kind::Reply => Outcome::Replied,
             Kind::Read | Kind::Invalidate => Outcome::Granted,
         },
@@ -33,6 +34,20 @@ pub fn response_clock_of(w: &[Sample], i: usize) -> Option<usize>
     ensures below { IfSome result (λ r. r < length w.now) }
 {
     nth_where(i, w.len(), |c| responds_at(w, c))
+}
+
+/// The response clock of live request `i`, where there is such a request.
+#[tactic(auto, unfolding(crate::specs::Outcome::live_response_of))]
+pub fn live_response_of(w: &[Sample], i: usize) -> Option<usize>
+    requires { length w.now < 2 ^ 32 }
+    ensures value { result ≡ live_response_of w.now i }
+    ensures below { IfSome result (λ r. r < length w.now) }
+{
+    if i < live_count(w) {
+        response_clock_of(w, i)
+    } else {
+        None
+    }
 }
 
 /// What a response with this code tells of live request `i`.
@@ -60,7 +75,7 @@ pub fn told_outcome_of(w: &[Sample], i: usize) -> Option<Outcome>
     requires { length w.now < 2 ^ 32 }
     ensures { result ≡ outcome_of w.now i }
 {
-    match response_clock_of(w, i) {
+    match live_response_of(w, i) {
         Some(r) => Some(told_by(w, i, response_code_at(w, r))),
         None => None,
     }

@@ -1,7 +1,7 @@
 //! Arbitration: which agent may begin a request at a clock.
 
 ghost use Rattle.std.specs.Prelude.{◌≡◌, ◌<◌};
-ghost use Rattle.fsb_trace.specs.Winner.{bus_request_of, request_line_of, is_same_agent, is_agent, symmetric_after, then_begun, first_in_order, agent_in_order, asks_in_order, first_asking, last_if_asking, winner_by, winner_after, turns_before, winner_at, begins_at};
+ghost use Rattle.fsb_trace.specs.Winner.{bus_request_of, request_line_of, is_same_agent, is_agent, symmetric_after, then_begun, first_in_order, agent_in_order, asks_in_order, first_asking, last_if_asking, winner_by, winner_after, requesters_before, winner_at, begins_at};
 
 use crate::who::Who;
 use fsb_count::first_where;
@@ -9,7 +9,7 @@ use fsb_signal::{Lines, Sample, line_at};
 
 /// Which agents began the requests so far: the agent of the last one, if there is one and it had a winner, and the
 /// symmetric agent that began one last.
-type Turns = (Option<Who>, Option<u8>);
+type Requesters = (Option<Who>, Option<u8>);
 
 /// The BREQ# line of a symmetric agent.
 #[tactic(auto, unfolding(crate::specs::Winner::bus_request_of))]
@@ -60,7 +60,7 @@ pub fn is_agent(winner: Option<Who>, who: Who) -> bool
 
 /// The symmetric agent that began a request last, where it was this one so far, and `winner` begins one more.
 #[tactic(auto, unfolding(crate::specs::Winner::symmetric_after))]
-fn symmetric_after(symmetric: Option<u8>, winner: Option<Who>) -> Option<u8>
+pub fn symmetric_after(symmetric: Option<u8>, winner: Option<Who>) -> Option<u8>
     ensures { result ≡ symmetric_after symmetric winner }
 {
     match winner {
@@ -71,16 +71,16 @@ fn symmetric_after(symmetric: Option<u8>, winner: Option<Who>) -> Option<u8>
 
 /// One more request, begun by this agent, if there is one.
 #[tactic(auto, unfolding(crate::specs::Winner::then_begun))]
-fn then_begun(turns: Turns, winner: Option<Who>) -> Turns
-    ensures { result ≡ then_begun turns winner }
+fn then_begun(requesters: Requesters, winner: Option<Who>) -> Requesters
+    ensures { result ≡ then_begun requesters winner }
 {
-    let (_, symmetric) = turns;
+    let (_, symmetric) = requesters;
     (winner, symmetric_after(symmetric, winner))
 }
 
 /// The agent with which the rotating order begins.
 #[tactic(auto, unfolding(crate::specs::Winner::first_in_order))]
-fn first_in_order(symmetric: Option<u8>) -> usize
+pub fn first_in_order(symmetric: Option<u8>) -> usize
     ensures value { result ≡ first_in_order symmetric }
     ensures below { result < 4 }
 {
@@ -92,7 +92,7 @@ fn first_in_order(symmetric: Option<u8>) -> usize
 
 /// The `n`-th agent, from 0, in the order that begins with `first`.
 #[tactic(auto, unfolding(crate::specs::Winner::agent_in_order))]
-fn agent_in_order(first: usize, n: usize) -> u8
+pub fn agent_in_order(first: usize, n: usize) -> u8
     requires first { first < 4 }
     requires place { n < 4 }
     ensures { result ≡ agent_in_order first n }
@@ -134,10 +134,10 @@ fn last_if_asking(w: &[Sample], d: usize, last: Option<Who>) -> Option<Who>
 
 /// The winner by the lines of clock `d`.
 #[tactic(auto, unfolding(crate::specs::Winner::winner_by))]
-fn winner_by(w: &[Sample], d: usize, turns: Turns) -> Option<Who>
-    ensures { result ≡ winner_by w.now d turns }
+fn winner_by(w: &[Sample], d: usize, requesters: Requesters) -> Option<Who>
+    ensures { result ≡ winner_by w.now d requesters }
 {
-    let (last, symmetric) = turns;
+    let (last, symmetric) = requesters;
     if line_at(Lines::LOCK, w, d) {
         last_if_asking(w, d, last)
     } else if line_at(Lines::BPRI, w, d) {
@@ -152,28 +152,28 @@ fn winner_by(w: &[Sample], d: usize, turns: Turns) -> Option<Who>
 
 /// The winner at `c`, after these requests.
 #[tactic(auto, unfolding(crate::specs::Winner::winner_after))]
-fn winner_after(w: &[Sample], c: usize, turns: Turns) -> Option<Who>
-    ensures { result ≡ winner_after w.now c turns }
+fn winner_after(w: &[Sample], c: usize, requesters: Requesters) -> Option<Who>
+    ensures { result ≡ winner_after w.now c requesters }
 {
     if c < 2 {
         None
     } else {
-        winner_by(w, c - 2, turns)
+        winner_by(w, c - 2, requesters)
     }
 }
 
 /// Which agents began the requests before `c`.
-#[tactic(auto, using(crate::proofs::TurnSteps::turn_steps))]
-fn turns_before(w: &[Sample], c: usize) -> Turns
-    ensures { result ≡ turns_before w.now c }
+#[tactic(auto, using(crate::proofs::RequesterSteps::requester_steps))]
+fn requesters_before(w: &[Sample], c: usize) -> Requesters
+    ensures { result ≡ requesters_before w.now c }
 {
-    let mut turns = (None, None);
+    let mut requesters = (None, None);
     for d in 0..c {
         if line_at(Lines::ADS, w, d) {
-            turns = then_begun(turns, winner_after(w, d, turns));
+            requesters = then_begun(requesters, winner_after(w, d, requesters));
         }
     }
-    turns
+    requesters
 }
 
 /// The winner at `c`.
@@ -181,7 +181,7 @@ fn turns_before(w: &[Sample], c: usize) -> Turns
 pub fn winner_at(w: &[Sample], c: usize) -> Option<Who>
     ensures { result ≡ winner_at w.now c }
 {
-    winner_after(w, c, turns_before(w, c))
+    winner_after(w, c, requesters_before(w, c))
 }
 
 /// Whether the agent begins a request at `c`.

@@ -1,7 +1,8 @@
 //! Waveforms, judged twice: by the checker, sample by sample, and by the plain judge of whole traces.
 //!
 //! `fsb_trials <seed> <count> <dump>..` makes so many random waveforms from the seed, and reads the dumps; of each dump it
-//! also takes every waveform in which one control line is turned over at one clock. Of the random ones and then of those of
+//! also takes every waveform in which one control line is turned over at one clock: a parity line only where the dump
+//! declares one. The random ones have parity lines, and are judged by marks that are drawn. Of the random ones and then of those of
 //! the dumps it prints how many were judged, how many were accepted and how many broke each rule first, and how many were
 //! judged differently, which is to be none.
 #![tactic(auto)]
@@ -11,7 +12,7 @@ ghost use Rattle.std.specs.Prelude.{◌<◌, ◌^◌, length};
 use draws::Draws;
 use fsb_io::{FileSource, Source, read_all};
 use fsb_rules::{Broken, Checker};
-use fsb_signal::Sample;
+use fsb_signal::{Marks, Sample};
 use fsb_trace::verdict;
 use std::alloc::{AllocError, Global};
 use std::rt::{Env, Files};
@@ -45,14 +46,14 @@ struct Tally {
     judged: u32,
     accepted: u32,
     /// How many broke each rule first, at the rule's number.
-    broken: [u32; 19],
+    broken: [u32; 21],
     differ: u32,
 }
 
 const NONE_JUDGED: Tally = Tally {
     judged: 0,
     accepted: 0,
-    broken: [0; 19],
+    broken: [0; 21],
     differ: 0,
 };
 
@@ -86,8 +87,12 @@ fn read_words(rt: &(impl Env + AllocGlobal)) -> Asked {
 fn random(alloc: Global, asked: Asked, tally: &mut Tally) -> Result<(), AllocError> {
     let mut draws = Draws::new(asked.seed);
     for _ in 0..asked.count {
-        let w = waveform(alloc, &mut draws)?;
-        tally.judge(&w);
+        let marks = Marks {
+            ap: draws.once_in(2),
+            rp: draws.once_in(2),
+        };
+        let w = waveform(alloc, &mut draws, marks)?;
+        tally.judge(marks, &w);
     }
     Ok(())
 }
@@ -100,27 +105,28 @@ fn dump(rt: &(impl Files + AllocGlobal), name: &str, tally: &mut Tally) -> Optio
     let mut source = FileSource::new(rt);
     source.begin(name).ok()?;
     let text = read_all(rt.alloc(), &mut source, 1 << 20).ok()?;
-    let mut w = read_dump(rt.alloc(), &text).ok()?;
+    let (marks, mut w) = read_dump(rt.alloc(), &text).ok()?;
     if w.len() > 200_000 {
         return None;
     }
-    tally.judge(&w);
+    let lines = if marks.ap || marks.rp { 21 } else { 18 };
+    tally.judge(marks, &w);
     for at in 0..w.len() {
         let kept = w[at];
-        for line in 0..18 {
+        for line in 0..lines {
             w[at] = turned_over(&kept, line);
-            tally.judge(&w);
+            tally.judge(marks, &w);
         }
         w[at] = kept;
     }
     Some(())
 }
 
-/// What the checker says of the samples.
-fn checked(w: &[Sample]) -> Option<(u32, u8)>
+/// What the checker says of the samples, of a dump with these marks.
+fn checked(marks: Marks, w: &[Sample]) -> Option<(u32, u8)>
     requires { length w.now < 2 ^ 32 }
 {
-    let mut checker = Checker::new();
+    let mut checker = Checker::new(marks);
     let mut found = None;
     for sample in w {
         found = checker.feed(sample);
@@ -130,10 +136,10 @@ fn checked(w: &[Sample]) -> Option<(u32, u8)>
 
 impl Tally {
     /// Judges a waveform twice.
-    fn judge(&mut self, w: &[Sample])
+    fn judge(&mut self, marks: Marks, w: &[Sample])
         requires { length w.now < 2 ^ 32 }
     {
-        self.count(verdict(w), checked(w));
+        self.count(verdict(marks, w), checked(marks, w));
     }
 
     /// Counts a waveform with these two verdicts.

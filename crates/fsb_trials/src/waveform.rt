@@ -8,7 +8,7 @@ use fsb_runs::{
     ADS, AERR, BNR, BPRI, BREQ0, BREQ1, BREQ2, BREQ3, DBSY, DEFER, DRDY, HIT, HITM, LOCK, RS0, RS1,
     RS2, TRDY,
 };
-use fsb_signal::{Lines, Sample, Word};
+use fsb_signal::{Lines, Marks, Sample, Word};
 use fsb_trace::Who;
 use std::alloc::{AllocError, Global};
 
@@ -22,7 +22,7 @@ const TRIES: u32 = 200;
 const AIMS: u32 = 40;
 
 /// The number of the last rule.
-const RULES: u8 = 18;
+const RULES: u8 = 20;
 
 /// The request lines of the four agents and of the priority agent.
 const REQUESTS: [u32; 5] = [BREQ0, BREQ1, BREQ2, BREQ3, BPRI];
@@ -47,7 +47,7 @@ const SELDOM: [(u32, u32); 6] = [
 const CODES: [u32; 8] = [7, 7, 7, 6, 5, 1, 2, 4];
 
 /// By the number of a rule, the lines of which one is asserted in the first clock of a step that breaks it; 0 where none need be.
-const MARKS: [u32; 19] = [
+const SIGNS: [u32; 21] = [
     0,
     0,
     ADS,
@@ -67,6 +67,8 @@ const MARKS: [u32; 19] = [
     0,
     DRDY,
     ADS,
+    0,
+    0,
 ];
 
 /// What is drawn alike in all clocks of a waveform.
@@ -93,9 +95,9 @@ const BREAKING: Habits = Habits {
     turns: true,
 };
 
-/// A waveform from these draws: steps that break no rule. Three times out of four it is to break a rule of a number that is
+/// A waveform from these draws: steps that break no rule of a dump with these marks. Three times out of four it is to break a rule of a number that is
 /// drawn: then from a drawn step on, steps are tried that break it, and the first that does is the last. Else it is spoilt.
-pub fn waveform(alloc: Global, draws: &mut Draws) -> Result<Vec<Sample>, AllocError>
+pub fn waveform(alloc: Global, draws: &mut Draws, marks: Marks) -> Result<Vec<Sample>, AllocError>
     ensures { IfOk result (λ w. vec_len w ≤ 140) }
 {
     let mut w = Vec::new(alloc);
@@ -105,16 +107,16 @@ pub fn waveform(alloc: Global, draws: &mut Draws) -> Result<Vec<Sample>, AllocEr
         arbiter: Arbiter::new(),
     };
     let habits = drawn_habits(draws);
-    let rule = (1 + draws.below(24) % 24) as u8;
+    let rule = (1 + draws.below(26) % 26) as u8;
     let from = draws.below(STEPS);
     for n in 0..STEPS {
         if n >= from {
-            if let Some(step) = breaking(draws, &now, &w, rule) {
+            if let Some(step) = breaking(draws, &now, marks, &w, rule) {
                 put(&mut w, step)?;
                 return Ok(w);
             }
         }
-        let step = lawful(draws, habits, &now, &w);
+        let step = lawful(draws, habits, &now, marks, &w);
         now.take(step);
         put(&mut w, step)?;
     }
@@ -175,14 +177,14 @@ fn put(w: &mut Vec<Sample>, step: Step) -> Result<(), AllocError>
 }
 
 /// A step that breaks no rule, with a request half of the time where one may begin.
-fn lawful(draws: &mut Draws, habits: Habits, now: &Now, w: &[Sample]) -> Step
+fn lawful(draws: &mut Draws, habits: Habits, now: &Now, marks: Marks, w: &[Sample]) -> Step
     requires { length w.now + 2 < 2 ^ 32 }
 {
     let winner = now.winner();
     let begins = winner.is_some() && now.quiet > 1 && draws.once_in(2);
     for n in 0..TRIES {
         let drawn = step(draws, habits, now.last, winner, begins && n < 8);
-        if broken_by(w, drawn).is_none() {
+        if broken_by(marks, w, drawn).is_none() {
             return drawn;
         }
     }
@@ -190,20 +192,20 @@ fn lawful(draws: &mut Draws, habits: Habits, now: &Now, w: &[Sample]) -> Step
 }
 
 /// A step that breaks this rule first, if one is found.
-fn breaking(draws: &mut Draws, now: &Now, w: &[Sample], rule: u8) -> Option<Step>
+fn breaking(draws: &mut Draws, now: &Now, marks: Marks, w: &[Sample], rule: u8) -> Option<Step>
     requires { length w.now + 2 < 2 ^ 32 }
 {
     if rule > RULES {
         return None;
     }
-    let marks = MARKS.get(rule as usize).copied().unwrap_or(0);
+    let signs = SIGNS.get(rule as usize).copied().unwrap_or(0);
     let winner = now.winner();
     for n in 0..AIMS {
         let begins = draws.once_in(2);
         let agent = if n % 4 == 0 { None } else { winner };
         let drawn = step(draws, BREAKING, now.last, agent, begins);
-        let may_break = marks == 0 || has(drawn.0.lines, marks);
-        if may_break && broken_by(w, drawn) == Some(rule) {
+        let may_break = signs == 0 || has(drawn.0.lines, signs);
+        if may_break && broken_by(marks, w, drawn) == Some(rule) {
             return Some(drawn);
         }
     }
@@ -235,7 +237,7 @@ fn spoil(draws: &mut Draws, w: &mut [Sample])
     ensures { length w.new ≡ length w.old }
 {
     let at = draws.below(w.len() as u32) as usize;
-    let line = draws.below(18) % 18;
+    let line = draws.below(21) % 21;
     let habits = drawn_habits(draws);
     let drawn = sample(drawn_clock(draws, habits, 0, 5, false));
     let kind = draws.below(4);
@@ -250,10 +252,10 @@ fn spoil(draws: &mut Draws, w: &mut [Sample])
 
 /// The sample with the control line of this number turned over; no bit of it is unknown.
 pub fn turned_over(sample: &Sample, line: u32) -> Sample
-    requires { line < 18 }
+    requires { line < 21 }
 {
     Sample::known(
-        Lines((sample.lines.0 ^ (1 << line)) % (1 << 18)),
+        Lines((sample.lines.0 ^ (1 << line)) % (1 << 21)),
         (sample.req.bits % (1 << 5)) as u8,
         sample.addr.bits % (1 << 33),
         sample.dbus.bits,
@@ -287,11 +289,11 @@ enum Blur {
 type Step = (Clock, Option<Clock>);
 
 /// The rule that the samples and then these clocks break first.
-fn broken_by(w: &[Sample], drawn: Step) -> Option<u8>
+fn broken_by(marks: Marks, w: &[Sample], drawn: Step) -> Option<u8>
     requires { length w.now + 2 < 2 ^ 32 }
 {
     let (first, second) = drawn;
-    let mut checker = Checker::new();
+    let mut checker = Checker::new(marks);
     for sample in w {
         let _ = checker.feed(sample);
     }
@@ -323,6 +325,7 @@ fn step(draws: &mut Draws, habits: Habits, last: u32, winner: Option<u32>, begin
 fn drawn_clock(draws: &mut Draws, habits: Habits, last: u32, agent: u32, begins: bool) -> Clock {
     let lines = lines(draws, habits, last, agent, begins);
     let (req, addr) = words(draws, last, lines, agent);
+    let lines = with_parity(draws, lines, req, addr);
     let blur = drawn_blur(draws, habits.blurred);
     Clock {
         lines,
@@ -332,10 +335,33 @@ fn drawn_clock(draws: &mut Draws, habits: Habits, last: u32, agent: u32, begins:
     }
 }
 
+/// The lines of parity: AP0#, AP1# and RP#.
+const PARITY: [u32; 3] = [Lines::AP0.0, Lines::AP1.0, Lines::RP.0];
+
+/// The lines with the parity of these words, in which one line is turned over once in eight draws.
+fn with_parity(draws: &mut Draws, lines: u32, req: u64, addr: u64) -> u32 {
+    let counts = [
+        (addr % (1 << 21)).count_ones(),
+        (addr / (1 << 21)).count_ones(),
+        req.count_ones() % 2 + u32::from(has(lines, ADS)),
+    ];
+    let mut all = lines;
+    for (count, line) in counts.into_iter().zip(PARITY) {
+        if count % 2 == 1 {
+            all |= line;
+        }
+    }
+    if draws.once_in(8) {
+        all ^ PARITY[draws.below(3) as usize % 3]
+    } else {
+        all
+    }
+}
+
 /// What is unknown, once in so many times.
 fn drawn_blur(draws: &mut Draws, seldom: u32) -> Blur {
     if draws.once_in(seldom) {
-        let line = draws.below(18) % 18;
+        let line = draws.below(21) % 21;
         match draws.below(6) {
             0 => Blur::Line(line),
             1 => Blur::Req,
@@ -352,10 +378,13 @@ fn words(draws: &mut Draws, last: u32, lines: u32, agent: u32) -> (u64, u64) {
     let number = u64::from(draws.below(5));
     if has(last, ADS) {
         let den = u64::from(draws.below(2));
+        let id = (u64::from(agent % 8) * 16 + number) * 8192;
         return if agent == 4 {
             (0, 0)
+        } else if draws.once_in(6) {
+            (0, id)
         } else {
-            (2, (u64::from(agent % 8) * 16 + number) * 8192 + den * 2)
+            (2, id + den * 2)
         };
     }
     if has(lines, ADS) {
@@ -380,7 +409,7 @@ fn lines(draws: &mut Draws, habits: Habits, last: u32, agent: u32, begins: bool)
         lines |= LOCK;
     }
     if habits.turns && draws.once_in(2) {
-        (lines | last & DBSY) ^ (1 << (draws.below(18) % 18))
+        (lines | last & DBSY) ^ (1 << (draws.below(21) % 21))
     } else if draws.once_in(4) {
         lines | event_lines(draws, habits, last)
     } else {
@@ -453,10 +482,10 @@ fn word(bits: u64, is_unknown: bool) -> Word
 
 /// The sample of a clock. Where a line is unknown, no line is asserted.
 fn sample(clock: Clock) -> Sample {
-    let unknown = unknown_line(clock.blur) % (1 << 18);
+    let unknown = unknown_line(clock.blur) % (1 << 21);
     Sample {
         lines: Lines(if unknown == 0 {
-            clock.lines % (1 << 18)
+            clock.lines % (1 << 21)
         } else {
             0
         }),

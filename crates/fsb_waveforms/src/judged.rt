@@ -2,14 +2,14 @@
 
 ghost use Rattle.std.specs.Prelude.{◌^◌, ◌<◌, length};
 
-use crate::laid_out::{laid_out, sample, with_sample, with_turned};
+use crate::laid_out::{UNMARKED, laid_out, sample, with_sample, with_turned};
 use fsb_rules::{Broken, Checker};
 use fsb_runs::{
     ADS, AERR, BNR, BREQ1, CANCELLED_BY_ADDRESS_ERROR, Clock, DBSY, DEFERRED_AND_REPLIED,
     DIRTY_VICTIM_WRITTEN_BACK, DRDY, HIT, LEAST_RULE_NAMED, LOAD_THEN_STORE_HIT, LOCK,
     LOCKED_INCREMENTS, LOOK_AHEAD_TWO, QUEUE_DEPTH_BROKEN, REQUEST_SPACING_BROKEN,
     REQUEST_WITHOUT_WINNER, RS0, RS1, RS2, STALLED_SNOOP, STORE_HANDED_OVER_BEFORE_ARRIVAL, TRDY,
-    TWO_AGENTS_OVERLAP, WRITE_BACK_HELD_OFF,
+    TWO_AGENTS_OVERLAP, UPGRADE_LOST_AND_HANDED, UPGRADE_OF_A_SHARED_LINE, WRITE_BACK_HELD_OFF,
 };
 use fsb_signal::Sample;
 use fsb_trace::verdict;
@@ -20,7 +20,7 @@ use std::process::Abort;
 fn checked(w: &[Sample]) -> Option<(u32, u8)>
     requires { length w.now < 2 ^ 32 }
 {
-    let mut checker = Checker::new();
+    let mut checker = Checker::new(UNMARKED);
     let mut found = None;
     for sample in w {
         found = checker.feed(sample);
@@ -32,7 +32,7 @@ fn checked(w: &[Sample]) -> Option<(u32, u8)>
 fn expect_verdict(rt: &impl Abort, w: &[Sample], found: Option<(u32, u8)>)
     requires { length w.now < 2 ^ 32 }
 {
-    assert_eq!(rt; verdict(w), found);
+    assert_eq!(rt; verdict(UNMARKED, w), found);
     assert_eq!(rt; checked(w), found);
 }
 
@@ -76,7 +76,7 @@ fn expect_alike(rt: &impl Abort, alloc: Global, clocks: &[Clock])
         for bit in 0..19_u32 {
             let line = if bit < 18 { 1_u32 << bit } else { 0 };
             let w = with_turned(alloc, clocks, at, line).expect(rt, "out of memory");
-            assert_eq!(rt; checked(&w), verdict(&w));
+            assert_eq!(rt; checked(&w), verdict(UNMARKED, &w));
         }
     }
 }
@@ -93,6 +93,8 @@ fn worked_waveforms_are_accepted(rt: HostRuntime) {
     expect_accepted(&rt, rt.alloc(), &LOCKED_INCREMENTS);
     expect_accepted(&rt, rt.alloc(), &LOOK_AHEAD_TWO);
     expect_accepted(&rt, rt.alloc(), &WRITE_BACK_HELD_OFF);
+    expect_accepted(&rt, rt.alloc(), &UPGRADE_OF_A_SHARED_LINE);
+    expect_accepted(&rt, rt.alloc(), &UPGRADE_LOST_AND_HANDED);
     expect_accepted(&rt, rt.alloc(), &QUEUE_DEPTH_BROKEN[..26]);
     expect_accepted(&rt, rt.alloc(), &REQUEST_WITHOUT_WINNER[..2]);
     expect_verdict(&rt, &[], None);
@@ -156,12 +158,14 @@ fn judges_agree_where_one_line_is_turned_over(rt: HostRuntime) {
     expect_alike(&rt, rt.alloc(), &STALLED_SNOOP);
     expect_alike(&rt, rt.alloc(), &CANCELLED_BY_ADDRESS_ERROR);
     expect_alike(&rt, rt.alloc(), &DEFERRED_AND_REPLIED);
+    expect_alike(&rt, rt.alloc(), &UPGRADE_OF_A_SHARED_LINE);
+    expect_alike(&rt, rt.alloc(), &UPGRADE_LOST_AND_HANDED);
 }
 
 #[test]
 fn first_verdict_stays(rt: HostRuntime) {
     let found = Some(Broken { clock: 0, rule: 2 });
-    let mut checker = Checker::new();
+    let mut checker = Checker::new(UNMARKED);
     assert_eq!(rt; checker.feed(&sample(ADS, 0, 0, 0, 0)), found);
     assert_eq!(rt; checker.feed(&sample(0, 0, 0, 0, 0)), found);
     assert_eq!(rt; checker.feed(&sample(AERR, HIT, 0, 0, 0)), found);

@@ -3,8 +3,14 @@
 ghost use Rattle.std.specs.Prelude.{◌≡◌, length, IfOk};
 
 use fsb_runs::Clock;
-use fsb_signal::{Lines, Sample, Word};
+use fsb_signal::{Lines, Marks, Sample, Word};
 use std::alloc::{AllocError, Global};
+
+/// The marks of a dump that declares no parity line.
+pub(crate) const UNMARKED: Marks = Marks {
+    ap: false,
+    rp: false,
+};
 
 /// A sample with these lines, these of them unknown, these REQ and address words, and these unknown data bits.
 pub(crate) fn sample(

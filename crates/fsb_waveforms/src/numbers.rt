@@ -2,12 +2,12 @@
 
 ghost use Rattle.std.specs.Prelude.{◌^◌, ◌<◌, length};
 
-use crate::laid_out::laid_out;
+use crate::laid_out::{UNMARKED, laid_out};
 use fsb_encode::Kind;
 use fsb_runs::{
     CANCELLED_BY_ADDRESS_ERROR, Clock, DEFERRED_AND_REPLIED, DIRTY_VICTIM_WRITTEN_BACK,
     LOAD_THEN_STORE_HIT, LOCKED_INCREMENTS, STALLED_SNOOP, STORE_HANDED_OVER_BEFORE_ARRIVAL,
-    TWO_AGENTS_OVERLAP, WRITE_BACK_HELD_OFF,
+    TWO_AGENTS_OVERLAP, UPGRADE_LOST_AND_HANDED, UPGRADE_OF_A_SHARED_LINE, WRITE_BACK_HELD_OFF,
 };
 use fsb_trace::{Outcome, Who, end_of, outcome_of, requests, response, snoop_end, verdict};
 use std::alloc::Global;
@@ -22,7 +22,7 @@ fn expect_numbers(rt: &impl Abort, alloc: Global, clocks: &[Clock], numbers: &[N
     requires numbers { length numbers.now < 2 ^ 32 }
 {
     let w = laid_out(alloc, clocks).expect(rt, "out of memory");
-    assert_eq!(rt; verdict(&w), None);
+    assert_eq!(rt; verdict(UNMARKED, &w), None);
     for (i, &(snoop, answer, end, outcome)) in numbers.iter().enumerate() {
         assert_eq!(rt; snoop_end(&w, i as u32), Some(snoop));
         assert_eq!(rt; response(&w, i as u32), Some(answer));
@@ -128,4 +128,23 @@ fn requests_of_a_reply_and_after_an_address_error(rt: HostRuntime) {
     assert_eq!(rt; both[0].cancelled, true);
     assert_eq!(rt; both[1].clock, 8);
     assert_eq!(rt; both[1].cancelled, false);
+}
+
+#[test]
+fn numbers_of_upgrades(rt: HostRuntime) {
+    let loads = [(6, 8, 11, Outcome::Granted), (9, 12, 15, Outcome::Granted)];
+    let won = (18, 20, 20, Outcome::Upgraded);
+    let lost = (22, 26, 29, Outcome::Handed);
+    expect_numbers(
+        &rt,
+        rt.alloc(),
+        &UPGRADE_OF_A_SHARED_LINE,
+        &[loads[0], loads[1], won],
+    );
+    expect_numbers(
+        &rt,
+        rt.alloc(),
+        &UPGRADE_LOST_AND_HANDED,
+        &[loads[0], loads[1], won, lost],
+    );
 }

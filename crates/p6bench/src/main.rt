@@ -14,12 +14,15 @@ use std::io::{self, ErrorKind, Write};
 use std::process::ExitCode;
 use std::rt::{Env, Files};
 
+// The place of the word that names the file to read.
+const FILE: usize = 1;
+
 fn main(rt: HostRuntime) -> ExitCode {
     let status = run(&rt);
     end(&rt, &status)
 }
 
-// Does what the program's words ask for.
+// Does what the program's words ask for. The dump never replaces the file that is read.
 fn run(rt: &(impl Files + Env + Print + AllocGlobal)) -> Status {
     let words = match words_of(rt) {
         Ok(words) => words,
@@ -27,7 +30,7 @@ fn run(rt: &(impl Files + Env + Print + AllocGlobal)) -> Status {
     };
     let mut source = FileSource::new(rt);
     let mut out = StdoutSink::new(rt);
-    let mut dump = FileSink::new(rt);
+    let mut dump = FileSink::new(rt, words.word(FILE));
     bench(rt.alloc(), &words, &mut source, &mut out, &mut dump)
 }
 

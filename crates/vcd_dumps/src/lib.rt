@@ -9,7 +9,7 @@ pub use simulator::{
     SIMULATOR_HEAD, SIMULATOR_RISES, SIMULATOR_START, UNKNOWN_AFTER_FALL, UNKNOWN_AFTER_RISE,
 };
 pub use verilator::FALLING_VERILATOR;
-pub use written::NO_SAMPLES;
+pub use written::{NO_SAMPLES, PARITY_OF_A_LOAD};
 
 mod icarus;
 mod simulator;

@@ -1,7 +1,8 @@
 -- Small texts with what they say, worked out by hand from docs/dump-format.md: what the definitions make of them, by
 -- computation, is that. Each row tells a clause of a definition from a near miss of it.
-use Rattle.std.specs.Prelude.{◌≡◌, ◌+◌, ◌++◌, [], ◌∷◌, length, map, replicate, List, ℕ, true, false, Option, Some, None, codes}
+use Rattle.std.specs.Prelude.{◌≡◌, ◌+◌, ◌++◌, [], ◌∷◌, length, map, replicate, List, ℕ, Bool, true, false, Option, Some, None, codes}
 use Rattle.std.proofs.Common.{refl}
+use Rattle.fsb_signal.specs.declared.marks.Marks.{Marks}
 use Rattle.fsb_signal.specs.declared.sample.Sample.{Sample}
 use Rattle.fsb_signal.specs.Table.{signal_number}
 use Rattle.vcd_grammar.specs.declared.fault.VcdFault.{VcdFault}
@@ -13,7 +14,7 @@ use Rattle.vcd_grammar.specs.Words.{header_word, value_word, is_read_past, is_fo
 use Rattle.vcd_grammar.specs.Levels.{level_of, control_of, without}
 use Rattle.vcd_grammar.specs.Values.{sample_at}
 use Rattle.vcd_grammar.specs.Judging.{Mode, Header, Variable, Skipped, Closing, Values, Pending, Beside, Passed, nothing, draft_at, turn_in, turn, drafted, declared, closed}
-use Rattle.vcd_grammar.specs.Reading.{first_fault, samples_of, samples_before_end, samples_so_far, fault_so_far}
+use Rattle.vcd_grammar.specs.Reading.{first_fault, samples_of, samples_before_end, samples_so_far, fault_so_far, marks_of, marks_so_far}
 
 -- a text, and the place and the cause of its first fault
 pub record Bad : Type 0 where
@@ -312,6 +313,98 @@ values-none = refl
 pub values-samples : map (λ (row : Good). map numbers_of (samples_of (quiet ++ row.text))) values ≡ map (λ (row : Good). row.samples) values
 unfolding samples_of ended_at grown_at number_up_to time_in extended header_word value_word is_read_past is_foreign_type level_of control_of without sample_at signal_number turn drafted declared closed
 values-samples = refl
+
+-- ---- the parity lines, which a header may declare or not
+
+-- both are declared, and at time 0 neither of them nor another line is asserted
+abbrev pub with_parity : List ℕ
+with_parity =
+    lines ++ codes "$var wire 2 y AP_n [1:0] $end $var wire 1 z RP_n $end $enddefinitions $end "
+    ++ codes "#0 0a 1b 1c bz d bz e 1f 1g bz h 1i 1j 1k bz l 1z bz y "
+
+abbrev pub parity_faulty : List Bad
+parity_faulty =
+    bad (codes "$var wire 1 y AP_n $end $enddefinitions $end") 0 causes.Width
+    ∷ bad (codes "$var wire 3 y AP_n $end $enddefinitions $end") 0 causes.Width
+    ∷ bad (codes "$var wire 2 y RP_n $end $enddefinitions $end") 0 causes.Width
+    ∷ bad (codes "$var wire 2 y AP_n $end $enddefinitions $end b111 y") 45 causes.Width
+    ∷ []
+
+pub parity-faults : map (λ (row : Bad). first_fault (lines ++ row.text)) parity_faulty ≡ map (fault_behind lines) parity_faulty
+unfolding first_fault ended_at grown_at number_up_to time_in extended header_word value_word is_read_past is_foreign_type signal_number turn drafted declared closed
+parity-faults = refl
+
+-- what is declared and never set is unknown
+abbrev pub parity_unset : List Good
+parity_unset =
+    good (codes "$var wire 2 y AP_n $end $var wire 1 z RP_n $end $enddefinitions $end 0a #5 1a") (unset 0 1835008 ∷ [])
+    ∷ good (codes "$var wire 2 y AP_n $end $enddefinitions $end 0a #5 1a") (unset 0 786432 ∷ [])
+    ∷ good (codes "$var wire 1 z RP_n $end $enddefinitions $end 0a #5 1a") (unset 0 1048576 ∷ [])
+    ∷ good (codes "$var real 1 y AP_n $end $enddefinitions $end 0a #5 1a") (unset 0 0 ∷ [])
+    ∷ []
+
+pub parity_unset-none : map (λ (row : Good). first_fault (lines ++ row.text)) parity_unset ≡ map (λ (row : Good). None) parity_unset
+unfolding first_fault ended_at grown_at number_up_to time_in extended header_word value_word is_read_past is_foreign_type signal_number turn drafted declared closed
+parity_unset-none = refl
+
+pub parity_unset-samples : map (λ (row : Good). map numbers_of (samples_of (lines ++ row.text))) parity_unset ≡ map (λ (row : Good). row.samples) parity_unset
+unfolding samples_of ended_at grown_at number_up_to time_in extended header_word value_word is_read_past is_foreign_type level_of control_of without sample_at signal_number turn drafted declared closed
+parity_unset-samples = refl
+
+abbrev pub parity_values : List Good
+parity_values =
+    good (codes "#5 1a") (idle ∷ [])
+    ∷ good (codes "#4 b10 y 0z #5 1a") (asserts 1310720 ∷ [])
+    ∷ good (codes "#4 b01 y #5 1a") (asserts 524288 ∷ [])
+    ∷ good (codes "#4 b00 y #5 1a") (asserts 786432 ∷ [])
+    ∷ good (codes "#4 0y #5 1a") (asserts 786432 ∷ [])
+    ∷ good (codes "#4 1y #5 1a") (asserts 524288 ∷ [])
+    ∷ good (codes "#4 xy #5 1a") (unknown 786432 ∷ [])
+    ∷ good (codes "#4 bx0 y xz #5 1a") ((262144 ∷ 1572864 ∷ 0 ∷ 0 ∷ 0 ∷ 0 ∷ 0 ∷ 0 ∷ []) ∷ [])
+    ∷ []
+
+pub parity_values-none : map (λ (row : Good). first_fault (with_parity ++ row.text)) parity_values ≡ map (λ (row : Good). None) parity_values
+unfolding first_fault ended_at grown_at number_up_to time_in extended header_word value_word is_read_past is_foreign_type signal_number turn drafted declared closed
+parity_values-none = refl
+
+pub parity_values-samples : map (λ (row : Good). map numbers_of (samples_of (with_parity ++ row.text))) parity_values ≡ map (λ (row : Good). row.samples) parity_values
+unfolding samples_of ended_at grown_at number_up_to time_in extended header_word value_word is_read_past is_foreign_type level_of control_of without sample_at signal_number turn drafted declared closed
+parity_values-samples = refl
+
+-- a text, and the marks that its bytes show
+pub record Marked : Type 0 where
+  pub text : List ℕ
+  pub marks : Option Marks
+
+abbrev pub marked : List ℕ → Bool → Bool → Marked
+marked text ap rp = record { text = text; marks = Some (record { ap = ap; rp = rp }) }
+
+abbrev pub unmarked : List ℕ → Marked
+unmarked text = record { text = text; marks = None }
+
+abbrev pub marking : List Marked
+marking =
+    marked (codes "$enddefinitions $end ") false false
+    ∷ marked (codes "$var wire 2 y AP_n $end $enddefinitions $end ") true false
+    ∷ marked (codes "$var wire 1 z RP_n $end $enddefinitions $end ") false true
+    ∷ marked (codes "$var wire 2 y AP_n $end $var wire 1 z RP_n $end $enddefinitions $end ") true true
+    ∷ marked (codes "$var wire 1 z RP_n $end $enddefinitions some $end #0 b0 d 0 ") false true
+    ∷ marked (codes "$var real 64 y AP_n $end $var wire 1 z RP_n[0] $end $enddefinitions $end r1 ") false true
+    ∷ marked (codes "$var wire 2 y AP_n_n $end $enddefinitions $end b1 ") false false
+    ∷ unmarked (codes "$var wire 2 y AP_n $end $enddefinitions $end")
+    ∷ unmarked (codes "$var wire 2 y AP_n $end $enddefinitions ")
+    ∷ unmarked (codes "$var wire 2 y AP_n $end ")
+    ∷ unmarked (codes "$var wire 1 y AP_n $end $enddefinitions $end ")
+    ∷ []
+
+pub marking-so_far : map (λ (row : Marked). marks_so_far (lines ++ row.text)) marking ≡ map (λ (row : Marked). row.marks) marking
+unfolding marks_so_far ended_at grown_at number_up_to time_in extended header_word value_word is_read_past is_foreign_type signal_number turn drafted declared closed
+marking-so_far = refl
+
+-- the last token of a whole text counts too
+pub marking-whole : marks_of (lines ++ codes "$var wire 2 y AP_n $end $enddefinitions $end") ≡ record { ap = true; rp = false }
+unfolding marks_of ended_at grown_at number_up_to time_in extended header_word value_word is_read_past is_foreign_type signal_number turn drafted declared closed
+marking-whole = refl
 
 -- ---- first bytes of a text: a word counts with the white space behind it, and nothing counts behind a fault
 

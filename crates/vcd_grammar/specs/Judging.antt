@@ -1,8 +1,9 @@
 -- Each token, judged in the place where it stands: it is read past, is a fault, declares, changes lines, or ends a block.
-use Rattle.std.specs.Prelude.{ℕ, ◌+◌, Bool, false, not, ◌&&◌, ◌||◌, ◌==◌, nat_lt, if◌then◌else◌, List, [], ◌∷◌, ◌++◌, length, Option, Some, None, is_some}
+use Rattle.std.specs.Prelude.{ℕ, ◌+◌, Bool, true, false, not, ◌&&◌, ◌||◌, ◌==◌, nat_lt, if◌then◌else◌, List, [], ◌∷◌, ◌++◌, length, Option, Some, None, is_some}
 use Rattle.std.specs.List.{list_any}
-use Rattle.fsb_signal.specs.Table.{Entry, table, signal_number}
+use Rattle.fsb_signal.specs.Table.{TableEntry, table, signal_number}
 use Rattle.fsb_signal.specs.DumpText.{width_of}
+use Rattle.fsb_signal.specs.declared.marks.Marks.{Marks}
 use Rattle.vcd_grammar.specs.declared.fault.VcdFault.{VcdFault}
 use Rattle.vcd_grammar.specs.declared.fault.VcdCause.{VcdCause}
 use Rattle.vcd_grammar.specs.declared.fault.VcdCause.TheVariants as causes
@@ -120,7 +121,7 @@ unfoldable pub declared : Known → Draft → Turn
 declared k d = with_width k d d.width
 
 -- the first line of the table, from a number on, that must be declared and is not
-abbrev pub missing_from : List ℕ → ℕ → List Entry → Option ℕ
+abbrev pub missing_from : List ℕ → ℕ → List TableEntry → Option ℕ
 missing_from lines number [] = None
 missing_from lines number (e ∷ es) =
     if e.needed && not (is_declared lines number) then Some number else missing_from lines (number + 1) es
@@ -209,3 +210,19 @@ behind k (t ∷ ts) = behind (turn k t).known ts
 abbrev pub events_in : Known → List Token → List Event
 events_in k [] = []
 events_in k (t ∷ ts) = (turn k t).events ++ events_in (turn k t).known ts
+
+-- the header is over: its `$enddefinitions` has its `$end`
+abbrev pub is_past_header : Mode → Bool
+is_past_header Values = true
+is_past_header (Pending from digits) = true
+is_past_header Beside = true
+is_past_header Passed = true
+is_past_header _ = false
+
+-- the marks of a header that declares these lines: which of the two parity lines, the last of the table, are among them
+abbrev pub marks_of_lines : List ℕ → Marks
+marks_of_lines lines = record { ap = is_declared lines 20; rp = is_declared lines 21 }
+
+-- the marks, where the header is over
+abbrev pub known_marks : Known → Option Marks
+known_marks k = if is_past_header k.mode then Some (marks_of_lines k.lines) else None

@@ -24,7 +24,7 @@ pub without-lt : (k a u : ℕ) → a < 2 ^ k → without a u < 2 ^ k
 unfolding without
 without-lt k a u h = xor_lt k a (bit_and a u) h (omega (arith, and_le_l a u, h))
 
--- the control lines are 18
-pub control_of-lt : (bit : ℕ → ℕ) → control_of bit < 2 ^ 18
+-- the control lines are 21
+pub control_of-lt : (bit : ℕ → ℕ) → control_of bit < 2 ^ 21
 unfolding control_of
 control_of-lt bit = omega arith

@@ -33,6 +33,7 @@ control_of bit =
     + 64 * (bit 7 % 2) + 128 * (bit 8 % 2))
     + (256 * (bit 11 % 2) + 512 * (bit 12 % 2) + 1024 * (bit 13 % 2) + 2048 * (bit 14 % 2) + 4096 * (bit 15 % 8)
     + 32768 * (bit 16 % 2) + 65536 * (bit 17 % 2) + 131072 * (bit 18 % 2))
+    + (262144 * (bit 20 % 4) + 1048576 * (bit 21 % 2))
 
 -- the bits of a number that are not among others
 unfoldable pub without : ℕ → ℕ → ℕ

@@ -4,7 +4,7 @@ use Rattle.std.proofs.Math.Path.{ap₂}
 use Rattle.std.specs.Prelude.{◌==◌}
 use Rattle.std.specs.List.{list_all}
 use Rattle.std.proofs.lemmas.Bool.{ne_eqb, le-ltb}
-use Rattle.vcd_grammar.proofs.Append.{open-append, tokens-append, behind-append, events_in-append}
+use Rattle.vcd_grammar.proofs.Interface.{open-append, tokens-append, behind-append, events_in-append}
 use Rattle.vcd_grammar.specs.Tokens.{is_white, is_long, longest, ended_at, grown_at, tokens_from, open_from}
 use Rattle.vcd_grammar.specs.Blocks.{Event}
 use Rattle.vcd_grammar.specs.Judging.{Known, turn, behind, events_in}

@@ -11,7 +11,7 @@ use Rattle.vcd_grammar.specs.Words.{value_word}
 use Rattle.vcd_grammar.specs.Blocks.{Later}
 use Rattle.vcd_grammar.specs.Judging.{turn}
 use Rattle.vcd_laws.proofs.Pieces.{Word, Does, does-token, is_plain}
-use Rattle.vcd_laws.proofs.Known.{written}
+use Rattle.vcd_laws.proofs.Known.{Profile, written}
 
 -- the grammar's numbers are those of decimal digits
 own : IsNumeralModel (λ ds. list_all is_digit ds ≡ true) (number_from 0)
@@ -48,9 +48,9 @@ time_read time h =
     (rw (le-leb time (2 ^ 64 - 1) (omega (arith, h))) refl))))
 
 -- a later time
-pub does-stamp : (last time : ℕ) → last < time → time < 2 ^ 64 → Does ((35 ∷ decimal time) ++ 10 ∷ []) (written last) (written time) (Later ∷ [])
+pub does-stamp : (p : Profile) (last time : ℕ) → last < time → time < 2 ^ 64 → Does ((35 ∷ decimal time) ++ 10 ∷ []) (written p last) (written p time) (Later ∷ [])
 unfolding turn value_word
-does-stamp last time later h = does-token (35 ∷ decimal time) 10 (written last) (written time) (Later ∷ []) (stamp_is_word time h) refl (λ at.
+does-stamp p last time later h = does-token (35 ∷ decimal time) 10 (written p last) (written p time) (Later ∷ []) (stamp_is_word time h) refl (λ at.
     rw (le-ltb 70000 (length (35 ∷ decimal time)) (omega (arith, few time h)))
     (rw (time_read time h)
     (rw (le-ltb time last (omega (arith, later)))

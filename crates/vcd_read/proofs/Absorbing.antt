@@ -1,11 +1,15 @@
 -- A piece that is read span by span.
 use Rattle.std.proofs.Common.{◌≡◌, ℕ, ◌+◌, ◌<◌, List, [], ◌∷◌, ◌++◌, length, take, drop, get_or, Result, Ok, Err, sym, ap, ◌∙◌, subst, arith, append_assoc}
-use Rattle.std.specs.Result.{OnErr}
+use Rattle.std.specs.Result.{OnOk, OnErr}
 use Rattle.std.proofs.lemmas.List.{take_more, take-append-drop, append-nil}
 use Rattle.fsb_signal.specs.declared.sample.Sample.{Sample}
 use Rattle.vcd_read.specs.Taking.{pushed}
 use Rattle.vcd_read.specs.Scanning.{Reading, after_bytes, samples_in_bytes, decided_in_reading, Fits, Part}
 use Rattle.vcd_read.proofs.Readings.{part_more, samples-append, behind_taken, behind_sampled, behind_part, behind_fits}
+
+pub ok_anyway : {T E P : Type 0} (r : Result T E) → P → OnOk r P
+ok_anyway (Ok x) p = p
+ok_anyway (Err e) p = tt
 
 pub err_anyway : {T E P : Type 0} (r : Result T E) → P → OnErr r P
 err_anyway (Ok x) p = tt

@@ -20,7 +20,7 @@ use Rattle.vcd_read.proofs.Law.{samples_so_far_law, samples_before_end_law, samp
 use Rattle.vcd_read.proofs.Standings.{scanned_decided, appends_all, appends_some, take_both}
 
 -- the text's tokens are those that count before its end, and the last one
-ended_is : (s : Scan) (fed : List ℕ) → Scanned s fed → ended_taken (reading s) ≡ take_tokens untaken (tokens_of fed)
+pub ended_is : (s : Scan) (fed : List ℕ) → Scanned s fed → ended_taken (reading s) ≡ take_tokens untaken (tokens_of fed)
 ended_is s fed h =
     (λ i. take_tokens (h.machine i) (ended_at (h.at i) (h.run i))) ∙ sym (take_tokens-append untaken (tokens_so_far fed) (ended_at (length fed) (open_run fed)))
 

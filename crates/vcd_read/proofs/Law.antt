@@ -10,7 +10,7 @@ use Rattle.vcd_grammar.specs.Blocks.{Change, Block, Event, Later, Changed, block
 use Rattle.vcd_grammar.specs.Values.{Values, at_first, set_line, set_lines, values_behind, clock_of, sample_of, sample_of_block, samples_in}
 use Rattle.vcd_grammar.specs.Judging.{Known, turn, nothing, behind, events_in}
 use Rattle.vcd_grammar.specs.Reading.{samples_of, samples_before_end, samples_so_far, first_fault, fault_so_far, or_cut}
-use Rattle.vcd_grammar.proofs.Append.{blocks_some, ended-cons}
+use Rattle.vcd_grammar.proofs.Interface.{blocks_some, ended-cons}
 use Rattle.vcd_read.specs.Lines.{with_line, with_lines, changed_lines, next_block, block_rises, Lines, at_start, after_event, sample_of_end, decided_by, after_events, decided_in}
 use Rattle.vcd_read.specs.Taking.{Taken, untaken, decided_of, take_token, take_tokens, samples_in_tokens}
 use Rattle.vcd_read.specs.declared.levels.Values.{Values as Kept}

@@ -12,3 +12,4 @@ pub mod Absorbing
 pub mod Law
 pub mod Standings
 pub mod Endings
+pub mod Marking

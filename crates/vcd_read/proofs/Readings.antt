@@ -10,7 +10,7 @@ use Rattle.vcd_grammar.specs.declared.fault.VcdFault.{VcdFault}
 use Rattle.vcd_read.specs.Lines.{Lines}
 use Rattle.vcd_read.specs.Taking.{Taken, decided_of, take_token, take_tokens, samples_in_tokens, pushed}
 use Rattle.vcd_read.specs.Scanning.{Reading, after_bytes, samples_in_bytes, decided_in_reading, is_dark, ended_taken, ended_samples, end_fault, open_samples, Fits, Part}
-use Rattle.vcd_grammar.proofs.Append.{tokens-append, open-append}
+use Rattle.vcd_grammar.proofs.Interface.{tokens-append, open-append}
 use Rattle.vcd_read.proofs.TokenRuns.{long_tokens, long_open, short_tokens, short_open, over_tokens, over_open, taken_by}
 use Rattle.vcd_read.proofs.Counts.{tokens_count, fits_after}
 

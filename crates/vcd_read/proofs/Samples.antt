@@ -1,7 +1,7 @@
 -- When the sample before a block is kept.
 use Rattle.std.proofs.Common.{◌≡◌, Bool, List, [], ◌∷◌, slice_set, refl, sym, ◌∙◌}
 use Rattle.fsb_signal.specs.declared.sample.Sample.{Sample}
-use Rattle.fsb_signal.proofs.SameSample.{same_sample}
+use Rattle.fsb_signal.proofs.Interface.{same_sample}
 use Rattle.vcd_grammar.specs.declared.level.Level.{Level}
 use Rattle.vcd_grammar.specs.Levels.{control_of}
 use Rattle.vcd_grammar.specs.Values.{sample_at}

@@ -3,12 +3,12 @@ use Rattle.std.proofs.Common.{◌≡◌, ℕ, ◌<◌, ◌≤◌, true, false, �
 use Rattle.std.specs.List.{list_all}
 use Rattle.std.specs.Option.{option_map_or}
 use Rattle.std.proofs.lemmas.Bool.{leb-true, ltb-false, and_parts, or_parts}
-use Rattle.fsb_signal.specs.Table.{Entry}
+use Rattle.fsb_signal.specs.Table.{TableEntry}
 use Rattle.fsb_signal.specs.DumpText.{width_of}
 use Rattle.vcd_grammar.specs.Digits.{extended}
 
 -- no width of entries that pass the test is above 64
-most : (es : List Entry) (n : ℕ) → list_all (λ e. nat_le e.width 64) es ≡ true → option_map_or (λ x. x.width) (slice_get es n) 0 ≤ 64
+most : (es : List TableEntry) (n : ℕ) → list_all (λ e. nat_le e.width 64) es ≡ true → option_map_or (λ x. x.width) (slice_get es n) 0 ≤ 64
 most [] n h = omega arith
 most (e ∷ es) zero h = leb-true e.width 64 (and_parts (nat_le e.width 64) (list_all (λ x. nat_le x.width 64) es) h).0
 most (e ∷ es) (suc n) h = most es n (and_parts (nat_le e.width 64) (list_all (λ x. nat_le x.width 64) es) h).1

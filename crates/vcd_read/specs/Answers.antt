@@ -1,5 +1,6 @@
 -- What reading answers, and what it appends.
 use Rattle.std.specs.Prelude.{◌≡◌, ℕ, nat_lt, Bool, ◌&&◌, ◌||◌, ◌==◌, List, ◌++◌, length, take, Option, Some, None, Result, Ok, Err, if◌then◌else◌}
+use Rattle.fsb_signal.specs.declared.marks.Marks.{Marks}
 use Rattle.fsb_signal.specs.declared.sample.Sample.{Sample}
 use Rattle.vcd_grammar.specs.declared.fault.VcdFault.{VcdFault}
 use Rattle.vcd_grammar.specs.Reading.{first_fault, samples_of, samples_before_end, fault_so_far, samples_so_far}
@@ -65,6 +66,11 @@ abbrev pub AppendsAtEnd : Result Unit VcdStop → ℕ → List Sample → List S
 AppendsAtEnd (Ok x) limit before decided all old new = AppendsUpTo before all old new
 AppendsAtEnd (Err stops.Memory) limit before decided all old new = AppendsPart before (take limit all) old new
 AppendsAtEnd (Err e) limit before decided all old new = AppendsUpTo before (take limit decided) old new
+
+-- what is told of the marks behind a piece: those of all that was fed; for want of memory those that were told before it
+abbrev pub TellsMarks : Result Unit VcdStop → Option Marks → Option Marks → Option Marks → Type 0
+TellsMarks (Err stops.Memory) fed old new = new ≡ old
+TellsMarks _ fed old new = new ≡ fed
 
 -- the answer that gives a refusal, or Ok where there is none
 abbrev pub result_of : Option VcdStop → Result Unit VcdStop

@@ -11,7 +11,7 @@ use Rattle.vcd_read.specs.declared.levels.Values.{Values}
 
 -- the values before anything was declared
 abbrev pub nothing_set : Values
-nothing_set = record { levels = replicate 20 (record { asserted = 0; unknown = 0 }); clock = 49 }
+nothing_set = record { levels = replicate 22 (record { asserted = 0; unknown = 0 }); clock = 49 }
 
 -- the values where one line has got some digits
 abbrev pub with_line : Values → ℕ → List ℕ → Values

@@ -1,7 +1,8 @@
 -- What a reader stands for.
 use Rattle.std.specs.Prelude.{◌≡◌, ℕ, ◌≤◌, List, length, Option, None}
+use Rattle.fsb_signal.specs.declared.marks.Marks.{Marks}
 use Rattle.vcd_grammar.specs.Tokens.{tokens_so_far, open_run}
-use Rattle.vcd_grammar.specs.Reading.{samples_so_far, fault_so_far}
+use Rattle.vcd_grammar.specs.Reading.{samples_so_far, fault_so_far, marks_so_far}
 use Rattle.vcd_read.specs.declared.reader.Reader.{Reader}
 use Rattle.vcd_read.specs.declared.scan.Scan.{Scan}
 use Rattle.vcd_read.specs.declared.stop.VcdStop.{VcdStop}
@@ -14,6 +15,10 @@ refusal_of r = r.refused
 -- the most samples that the reader gives
 abbrev pub limit_of : Reader → ℕ
 limit_of r = r.limit
+
+-- the marks that the reader tells, if it does
+abbrev pub marks_told : Reader → Option Marks
+marks_told r = r.marks
 
 -- the scan has taken the tokens that count in these bytes, and keeps the run behind them
 pub record Scanned (s : Scan) (fed : List ℕ) : Type 0 where
@@ -31,3 +36,4 @@ pub record Works (r : Reader) (fed : List ℕ) : Type 0 where
 -- the reader stands for the bytes that it was fed; once it has refused, for any
 pub record Stands (r : Reader) (fed : List ℕ) : Type 0 where
   pub works : refusal_of r ≡ None → Works r fed
+  pub marked : refusal_of r ≡ None → marks_told r ≡ marks_so_far fed

@@ -4,17 +4,17 @@ ghost use Rattle.vcd_read.specs.Answers.{Answers, dump_stop, stop_of_dump};
 
 use crate::scan::Scan;
 use crate::stop::VcdStop;
-use fsb_signal::Sample;
+use fsb_signal::{Marks, Sample};
 use std::alloc::Global;
 use vcd_grammar::VcdFault;
 
 /// The most samples of a dump that is read whole.
 const MOST: u32 = 200_000;
 
-/// Reads a whole dump of at most 200,000 samples.
-pub fn read_dump(alloc: Global, bytes: &[u8]) -> Result<Vec<Sample>, VcdStop>
+/// Reads a whole dump of at most 200,000 samples: its marks, and its trace.
+pub fn read_dump(alloc: Global, bytes: &[u8]) -> Result<(Marks, Vec<Sample>), VcdStop>
     ensures answer { Answers result (stop_of_dump 200000 bytes.now) }
-    ensures trace { IfOk result (λ w. Reads bytes.now w.items) }
+    ensures trace { IfOk result (λ told. Reads bytes.now told.0 told.1.items) }
 {
     let mut scan = match Scan::new(alloc) {
         Ok(scan) => scan,
@@ -30,7 +30,7 @@ pub fn read_dump(alloc: Global, bytes: &[u8]) -> Result<Vec<Sample>, VcdStop>
         Err(_) => return Err(VcdStop::Memory),
     };
     match refusal(scan.machine.decided, scan.machine.fault, more) {
-        None => Ok(samples),
+        None => Ok((scan.machine.declared_marks(), samples)),
         Some(stop) => Err(stop),
     }
 }

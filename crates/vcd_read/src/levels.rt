@@ -13,7 +13,7 @@ use vcd_grammar::Level;
 /// What each signal of the table has, and the digit of the clock.
 #[derive(Clone, Copy, Debug)]
 pub(crate) struct Values {
-    pub(crate) levels: [Level; 20],
+    pub(crate) levels: [Level; 22],
     pub(crate) clock: u8,
 }
 
@@ -94,7 +94,7 @@ fn level_of(width: u8, digits: &[u8]) -> Level
 
 /// The width of the line of this number.
 pub(crate) fn width_at(number: u8) -> u8
-    requires { number < 20 }
+    requires { number < 22 }
     ensures width { result ≡ width_of number }
     ensures most { result ≤ 64 }
 {
@@ -105,7 +105,7 @@ pub(crate) fn width_at(number: u8) -> u8
 pub(crate) fn width_of(number: u8) -> u64
     ensures { result ≡ width_of number }
 {
-    if number < 20 {
+    if number < 22 {
         u64::from(width_at(number))
     } else {
         0
@@ -127,7 +127,7 @@ fn clock_digit(digits: &[u8]) -> u8
 pub(crate) fn is_wider(digits: &[u8], number: u8) -> bool
     ensures { result ≡ is_too_wide digits.now (number ∷ []) }
 {
-    if number < 20 {
+    if number < 22 {
         (width_at(number) as usize) < digits.len()
     } else {
         0 < digits.len()
@@ -146,22 +146,22 @@ pub(crate) fn is_too_wide(digits: &[u8], lines: &[u8]) -> bool
     false
 }
 
-fn asserted_at(levels: &[Level; 20], number: usize) -> u64
-    requires { number < 20 }
+fn asserted_at(levels: &[Level; 22], number: usize) -> u64
+    requires { number < 22 }
     ensures { result ≡ asserted_at levels.now number }
 {
     levels[number].asserted
 }
 
-fn unknown_at(levels: &[Level; 20], number: usize) -> u64
-    requires { number < 20 }
+fn unknown_at(levels: &[Level; 22], number: usize) -> u64
+    requires { number < 22 }
     ensures { result ≡ unknown_at levels.now number }
 {
     levels[number].unknown
 }
 
 /// The control lines that are asserted.
-fn asserted_lines(levels: &[Level; 20]) -> u32
+fn asserted_lines(levels: &[Level; 22]) -> u32
     ensures { result ≡ control_of (asserted_at levels.now) }
 {
     let requests = asserted_at(levels, 1) % 2
@@ -180,11 +180,12 @@ fn asserted_lines(levels: &[Level; 20]) -> u32
         + 32768 * (asserted_at(levels, 16) % 2)
         + 65536 * (asserted_at(levels, 17) % 2)
         + 131072 * (asserted_at(levels, 18) % 2);
-    (requests + rest) as u32
+    let parity = 262144 * (asserted_at(levels, 20) % 4) + 1048576 * (asserted_at(levels, 21) % 2);
+    (requests + rest + parity) as u32
 }
 
 /// The control lines that are unknown.
-fn unknown_lines(levels: &[Level; 20]) -> u32
+fn unknown_lines(levels: &[Level; 22]) -> u32
     ensures { result ≡ control_of (unknown_at levels.now) }
 {
     let requests = unknown_at(levels, 1) % 2
@@ -203,7 +204,8 @@ fn unknown_lines(levels: &[Level; 20]) -> u32
         + 32768 * (unknown_at(levels, 16) % 2)
         + 65536 * (unknown_at(levels, 17) % 2)
         + 131072 * (unknown_at(levels, 18) % 2);
-    (requests + rest) as u32
+    let parity = 262144 * (unknown_at(levels, 20) % 4) + 1048576 * (unknown_at(levels, 21) % 2);
+    (requests + rest + parity) as u32
 }
 
 /// A word of the bus, from what is asserted and what is unknown.
@@ -217,7 +219,7 @@ fn word_of(asserted: u64, unknown: u64) -> Word
 }
 
 /// The sample of what the signals have.
-fn sample_at(levels: &[Level; 20]) -> Sample
+fn sample_at(levels: &[Level; 22]) -> Sample
     ensures { result ≡ sample_at levels.now }
 {
     let asserted = asserted_lines(levels);
@@ -249,17 +251,17 @@ impl Values {
             unknown: 0,
         };
         Values {
-            levels: [level; 20],
+            levels: [level; 22],
             clock: b'1',
         }
     }
 
     /// Gives a line some digits.
     pub(crate) fn set_line(&mut self, number: u8, digits: &[u8])
-        requires { number < 20 → is_too_wide digits.now (number ∷ []) ≡ false }
+        requires { number < 22 → is_too_wide digits.now (number ∷ []) ≡ false }
         ensures { self.new ≡ with_line self.old number digits.now }
     {
-        if number < 20 {
+        if number < 22 {
             self.levels[number as usize] = level_of(width_at(number), digits);
             if number == 0 {
                 self.clock = clock_digit(digits);

@@ -2,7 +2,9 @@
 //!
 //! A `Reader` takes the bytes of a dump as they come, and appends each sample once a greater time stamp has ended its
 //! block. It keeps the declared codes, the sample before the open block and the values of the lines in it, and one token at
-//! most; how the text was cut into pieces shows in nothing that it answers. `read_dump` reads a whole text.
+//! most; how the text was cut into pieces shows in nothing that it answers. It tells the marks of the dump, which of the two
+//! parity lines its header declares, once the header is over, also where the piece that ends it is refused for what follows.
+//! `read_dump` reads a whole text.
 #![tactic(auto)]
 
 pub use dump::read_dump;

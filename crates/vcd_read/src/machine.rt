@@ -1,8 +1,8 @@
 ghost use Rattle.std.specs.Prelude.{◌≡◌, ℕ, ◌==◌, ◌&&◌, not, slice_get, ◌<◌, ◌+◌, ◌^◌, List, take, length, ◌≤◌, Some, IfOk, OnOk, OnErr, if◌then◌else◌};
-ghost use Rattle.fsb_signal.specs.Table.{Entry, table};
+ghost use Rattle.fsb_signal.specs.Table.{TableEntry, table};
 ghost use Rattle.vcd_grammar.specs.Digits.{time_in};
 ghost use Rattle.vcd_grammar.specs.Words.{header_word, value_word, stamp_word, scalar_word, vector_word, is_end};
-ghost use Rattle.vcd_grammar.specs.Judging.{turn, turn_in, stays, goes_to, fails, later, unless_long, drafted, declared, other_declared, line_declared, named, closed, is_declared, missing_from, header_turn, value_turn, stamped, Variable as in_variable, Pending as in_pending, Beside as in_beside};
+ghost use Rattle.vcd_grammar.specs.Judging.{turn, turn_in, stays, goes_to, fails, later, unless_long, drafted, declared, other_declared, line_declared, named, closed, is_declared, missing_from, header_turn, value_turn, stamped, Variable as in_variable, Pending as in_pending, Beside as in_beside, marks_of_lines, known_marks};
 ghost use Rattle.vcd_grammar.specs.Reading.{or_cut};
 ghost use Rattle.vcd_read.specs.View.{known_of, lines_of as lines_view, draft_of};
 ghost use Rattle.vcd_read.specs.Lines.{rises};
@@ -18,7 +18,7 @@ use crate::words::{
     are_value_digits, is_code, is_dollar, is_end, is_foreign_type, is_read_past, line_in,
 };
 use arrayvec::ArrayVec;
-use fsb_signal::{Sample, signal_at};
+use fsb_signal::{Marks, Sample, signal_at};
 use std::alloc::{AllocError, Global};
 use vcd_grammar::{VcdCause, VcdFault};
 
@@ -293,6 +293,28 @@ impl Machine {
         Ok(())
     }
 
+    /// Which of the two parity lines were declared.
+    pub(crate) fn declared_marks(&self) -> Marks
+        ensures { result ≡ marks_of_lines self.now.lines.items }
+    {
+        Marks {
+            ap: is_declared(&self.lines, 20),
+            rp: is_declared(&self.lines, 21),
+        }
+    }
+
+    /// The marks, where the header is over.
+    pub(crate) fn marks(&self) -> Option<Marks>
+        ensures { result ≡ known_marks (known_of self.now) }
+    {
+        match self.mode {
+            Mode::Values | Mode::Pending(_) | Mode::Beside | Mode::Passed => {
+                Some(self.declared_marks())
+            }
+            Mode::Header | Mode::Variable(_) | Mode::Skipped | Mode::Closing(_) => None,
+        }
+    }
+
     /// The end of the text, at a place where a text may end or not.
     pub(crate) fn end(&mut self, place: u64)
         ensures known { known_of self.new ≡ record (known_of self.old) { fault = or_cut self.old.fault (known_of self.old).mode place } }
@@ -511,19 +533,26 @@ fn copy_first(to: &mut ArrayVec<u8, 65>, digits: &[u8])
     }
 }
 
+/// Whether the line of this number was declared.
+fn is_declared(lines: &[u8], number: u8) -> bool
+    ensures { result ≡ is_declared lines.now number }
+{
+    lines.contains(&number)
+}
+
 /// Whether the line of this number must be declared and is not.
 fn is_missing(lines: &[u8], number: u8) -> bool
-    requires { number < 20 }
-    ensures { (e : Entry) → slice_get table number ≡ Some e → result ≡ (e.needed && not (is_declared lines.now number)) }
+    requires { number < 22 }
+    ensures { (e : TableEntry) → slice_get table number ≡ Some e → result ≡ (e.needed && not (is_declared lines.now number)) }
 {
-    signal_at(number).needed && !lines.contains(&number)
+    signal_at(number).needed && !is_declared(lines, number)
 }
 
 /// The first line of the table that must be declared and is not.
 fn missing(lines: &[u8]) -> Option<u8>
     ensures { result ≡ missing_from lines.now 0 table }
 {
-    for number in 0..20 {
+    for number in 0..22 {
         if is_missing(lines, number) {
             return Some(number);
         }

@@ -45,7 +45,7 @@ impl OpenBlock {
 
     /// Gives a line some digits.
     pub(crate) fn set_line(&mut self, number: u8, digits: &[u8])
-        requires { number < 20 → is_too_wide digits.now (number ∷ []) ≡ false }
+        requires { number < 22 → is_too_wide digits.now (number ∷ []) ≡ false }
         ensures { self.new ≡ changed_line self.old number digits.now }
     {
         self.values.set_line(number, digits);

@@ -1,12 +1,14 @@
 ghost use Rattle.std.specs.Prelude.{◌≡◌, ◌<◌, ◌+◌, ◌-◌, ◌^◌, ◌++◌, ℕ, List, [], length, take, nat_lt, None, Some, Err, IfOk, OnOk, OnErr, if◌then◌else◌};
-ghost use Rattle.vcd_grammar.specs.Reading.{samples_of, samples_before_end, samples_so_far};
-ghost use Rattle.vcd_read.specs.Standing.{Works, Stands, refusal_of, limit_of};
-ghost use Rattle.vcd_read.specs.Answers.{Answers, refusal_in, result_of, fault_or, end_stop, stop_so_far, stop_at_end, AppendsBy, AppendsAtEnd};
+ghost use Rattle.vcd_grammar.specs.Reading.{marks_of, samples_of, samples_before_end, marks_so_far, samples_so_far};
+ghost use Rattle.vcd_grammar.specs.Judging.{nothing, behind};
+ghost use Rattle.vcd_grammar.specs.Tokens.{tokens_of};
+ghost use Rattle.vcd_read.specs.Standing.{Works, Stands, refusal_of, limit_of, marks_told};
+ghost use Rattle.vcd_read.specs.Answers.{Answers, refusal_in, result_of, fault_or, end_stop, stop_so_far, stop_at_end, AppendsBy, AppendsAtEnd, TellsMarks};
 
 use crate::scan::Scan;
 use crate::stop::VcdStop;
 use fsb_io::Memory;
-use fsb_signal::Sample;
+use fsb_signal::{Marks, Sample};
 use std::alloc::Global;
 
 /// Reads a dump in pieces of any size.
@@ -15,6 +17,8 @@ pub struct Reader {
     scan: Scan,
     limit: u32,
     refused: Option<VcdStop>,
+    /// The marks behind the last piece that was read to its end.
+    marks: Option<Marks>,
 }
 
 impl Reader {
@@ -38,6 +42,7 @@ impl Reader {
                 scan,
                 limit,
                 refused: None,
+                marks: None,
             }),
             Err(_) => Err(Memory),
         }
@@ -57,12 +62,17 @@ impl Reader {
             → AppendsBy result (samples_so_far fed) (take (limit_of self.old) (samples_so_far (fed ++ piece.now))) to.old.items to.new.items }
         ensures again { (stop : VcdStop) → refusal_of self.old ≡ Some stop → result ≡ Err stop }
         ensures silent { (stop : VcdStop) → refusal_of self.old ≡ Some stop → to.new.items ≡ to.old.items }
+        ensures marks { (fed : List ℕ) → Stands self.old fed → refusal_of self.old ≡ None
+            → TellsMarks result (marks_so_far (fed ++ piece.now)) (marks_told self.old) (marks_told self.new) }
+        ensures marks_stay { (stop : VcdStop) → refusal_of self.old ≡ Some stop → marks_told self.new ≡ marks_told self.old }
     {
         if let Some(stop) = self.refused {
             return Err(stop);
         }
         let answer = self.absorb(piece, to);
-        self.refused = refusal_in(answer);
+        if let Err(stop) = answer {
+            self.refused = Some(stop);
+        }
         answer
     }
 
@@ -71,12 +81,18 @@ impl Reader {
         requires { (fed : List ℕ) × Works self.old fed × (length fed + length piece.now < 2 ^ 64) }
         ensures works { OnOk result ((fed : List ℕ) → Works self.old fed → Works self.new (fed ++ piece.now)) }
         ensures limit { limit_of self.new ≡ limit_of self.old }
+        ensures marks { (fed : List ℕ) → Works self.old fed
+            → TellsMarks result (marks_so_far (fed ++ piece.now)) (marks_told self.old) (marks_told self.new) }
+        ensures refusal { refusal_of self.new ≡ refusal_of self.old }
         ensures answer { (fed : List ℕ) → Works self.old fed → Answers result (stop_so_far (limit_of self.old) (fed ++ piece.now)) }
         ensures samples { (fed : List ℕ) → Works self.old fed
             → AppendsBy result (samples_so_far fed) (take (limit_of self.old) (samples_so_far (fed ++ piece.now))) to.old.items to.new.items }
     {
         match self.scan.absorb(piece, self.limit, to) {
-            Ok(()) => self.answer(),
+            Ok(()) => {
+                self.marks = self.scan.machine.marks();
+                self.answer()
+            }
             Err(_) => Err(VcdStop::Memory),
         }
     }
@@ -94,6 +110,15 @@ impl Reader {
         }
     }
 
+    /// Which of the two parity lines the dump declares: none is told until its `$enddefinitions` has its `$end`, in a
+    /// token that counts. A piece that is refused has told them too, unless memory was wanting; later pieces tell nothing.
+    pub fn marks(&self) -> Option<Marks>
+        ensures told { result ≡ marks_told self.now }
+        ensures marks { (fed : List ℕ) → Stands self.now fed → refusal_of self.now ≡ None → result ≡ marks_so_far fed }
+    {
+        self.marks
+    }
+
     /// The end of the text. Appends the samples that it decides; after a refusal it appends nothing and refuses in the
     /// same way for good.
     pub fn finish(&mut self, to: &mut Vec<Sample>) -> Result<(), VcdStop>
@@ -108,12 +133,19 @@ impl Reader {
             → AppendsAtEnd result (limit_of self.old) (samples_so_far fed) (samples_before_end fed) (samples_of fed) to.old.items to.new.items }
         ensures again { (stop : VcdStop) → refusal_of self.old ≡ Some stop → result ≡ Err stop }
         ensures silent { (stop : VcdStop) → refusal_of self.old ≡ Some stop → to.new.items ≡ to.old.items }
+        ensures marks { OnOk result ((fed : List ℕ) → Stands self.old fed → marks_told self.new ≡ Some (marks_of fed)) }
+        ensures marks_refused { (fed : List ℕ) → Stands self.old fed → refusal_of self.old ≡ None
+            → OnErr result (marks_told self.new ≡ marks_so_far fed) }
+        ensures marks_stay { OnErr result (marks_told self.new ≡ marks_told self.old) }
     {
         if let Some(stop) = self.refused {
             return Err(stop);
         }
         let answer = self.end(to);
-        self.refused = refusal_in(answer);
+        match answer {
+            Ok(()) => self.marks = Some(self.scan.machine.declared_marks()),
+            Err(stop) => self.refused = Some(stop),
+        }
         answer
     }
 
@@ -121,6 +153,10 @@ impl Reader {
     fn end(&mut self, to: &mut Vec<Sample>) -> Result<(), VcdStop>
         requires { (fed : List ℕ) × Works self.old fed }
         ensures limit { limit_of self.new ≡ limit_of self.old }
+        ensures marks { marks_told self.new ≡ marks_told self.old }
+        ensures refusal { refusal_of self.new ≡ refusal_of self.old }
+        ensures declared { OnOk result ((fed : List ℕ) → Works self.old fed
+            → self.new.scan.machine.lines.items ≡ (behind nothing (tokens_of fed)).lines) }
         ensures answer { (fed : List ℕ) → Works self.old fed → Answers result (stop_at_end (limit_of self.old) fed) }
         ensures samples { (fed : List ℕ) → Works self.old fed
             → AppendsAtEnd result (limit_of self.old) (samples_so_far fed) (samples_before_end fed) (samples_of fed) to.old.items to.new.items }
@@ -146,15 +182,5 @@ impl Reader {
             return Err(VcdStop::TooLong);
         }
         Ok(())
-    }
-}
-
-/// The refusal that was answered, if one was.
-fn refusal_in(answer: Result<(), VcdStop>) -> Option<VcdStop>
-    ensures { result ≡ refusal_in answer }
-{
-    match answer {
-        Ok(()) => None,
-        Err(stop) => Some(stop),
     }
 }

@@ -151,6 +151,7 @@ impl Scan {
     pub(crate) fn finish(&mut self, limit: u32, to: &mut Vec<Sample>) -> Result<bool, AllocError>
         requires { Fits (reading self.old) }
         ensures fault { OnOk result (self.new.machine.fault ≡ end_fault (reading self.old)) }
+        ensures lines { OnOk result (self.new.machine.lines.items ≡ (ended_taken (reading self.old)).known.lines) }
         ensures decided { OnOk result (self.new.machine.decided ≡ (ended_taken (reading self.old)).lines.decided) }
         ensures rises { IfOk result (λ more. more ≡ open_rises (end_fault (reading self.old)) (ended_taken (reading self.old)).lines) }
         ensures samples { OnOk result (to.new.items ≡ pushed limit self.old.machine.decided to.old.items (ended_samples (reading self.old) ++ open_samples (end_fault (reading self.old)) (ended_taken (reading self.old)).lines)) }

@@ -1,7 +1,7 @@
 //! Each public call once, over a simulator's dump; `vcd_texts` has the tests of what the reader answers.
 
 use crate::{Reader, VcdStop, read_dump};
-use fsb_signal::Sample;
+use fsb_signal::{Marks, Sample};
 use std::process::Abort;
 use std::test::Fail;
 
@@ -52,6 +52,12 @@ $end
 1a
 ";
 
+/// The marks of that dump.
+const NEITHER: Marks = Marks {
+    ap: false,
+    rp: false,
+};
+
 /// Asserts that these are the samples of the simulator's dump.
 fn expect_samples(rt: &impl Abort, samples: &[Sample]) {
     assert_eq!(rt; samples.len(), 2);
@@ -65,7 +71,8 @@ fn expect_samples(rt: &impl Abort, samples: &[Sample]) {
 
 #[test]
 fn dump_read_at_once(rt: HostRuntime) -> Result<(), VcdStop> {
-    let samples = read_dump(rt.alloc(), SIMULATOR)?;
+    let (marks, samples) = read_dump(rt.alloc(), SIMULATOR)?;
+    assert_eq!(rt; marks, NEITHER);
     expect_samples(&rt, &samples);
     Ok(())
 }
@@ -76,8 +83,11 @@ fn dump_fed_in_two_pieces(rt: HostRuntime) -> Result<(), Fail> {
     let mut samples = Vec::new(rt.alloc());
     let mut reader = Reader::new(rt.alloc())?;
     assert_eq!(rt; reader.feed(first, &mut samples), Ok(()));
+    assert_eq!(rt; reader.marks(), None, "in the declarations");
     assert_eq!(rt; reader.feed(second, &mut samples), Ok(()));
+    assert_eq!(rt; reader.marks(), Some(NEITHER));
     assert_eq!(rt; reader.finish(&mut samples), Ok(()));
+    assert_eq!(rt; reader.marks(), Some(NEITHER));
     expect_samples(&rt, &samples);
     Ok(())
 }

@@ -1,16 +1,18 @@
-use fsb_signal::{Lines, Sample};
-use loads::{LATE_LOAD, LOAD, LOAD_OF_KNOWN_DATA, NO_DATA};
+use fsb_signal::{Lines, Marks, Sample};
+use loads::{LATE_LOAD, LOAD, LOAD_OF_KNOWN_DATA, LOAD_WITH_PARITY, NO_DATA};
+use parity::{BAD_PARITY, GOOD_PARITY};
 use std::alloc::{AllocError, Global};
 use std::test::Fail;
 use table::{BAD, GOOD};
-use texts::{LINES, QUIET, VALUES};
+use texts::{LINES, PARITY_LINES, PARITY_QUIET, QUIET, VALUES};
 use vcd_dumps::{
-    FALLING, FALLING_VERILATOR, NO_SAMPLES, SAME_TIME, SCOPES, SIMULATOR_HEAD, SIMULATOR_RISES,
-    SIMULATOR_START, UNKNOWN_AFTER_FALL, UNKNOWN_AFTER_RISE,
+    FALLING, FALLING_VERILATOR, NO_SAMPLES, PARITY_OF_A_LOAD, SAME_TIME, SCOPES, SIMULATOR_HEAD,
+    SIMULATOR_RISES, SIMULATOR_START, UNKNOWN_AFTER_FALL, UNKNOWN_AFTER_RISE,
 };
 use vcd_read::{Reader, VcdCause, VcdFault, VcdStop, read_dump};
 
 mod loads;
+mod parity;
 mod table;
 mod texts;
 
@@ -25,6 +27,8 @@ pub(crate) enum Start {
     Values,
     /// The same, and values at time 0: BCLK is 0, and no other line is asserted or unknown.
     Quiet,
+    /// The same, with the two parity lines.
+    Parity,
 }
 
 impl Start {
@@ -35,6 +39,7 @@ impl Start {
             Start::Lines => &[LINES],
             Start::Values => &[LINES, VALUES],
             Start::Quiet => &[LINES, VALUES, QUIET],
+            Start::Parity => &[LINES, PARITY_LINES, VALUES, QUIET, PARITY_QUIET],
         }
     }
 }
@@ -173,8 +178,11 @@ const WAYS: [Way; 6] = [
     Way::Pieces(64),
 ];
 
-/// The samples of a text that is fed in pieces of so many bytes, but at least one.
-fn in_pieces(alloc: Global, bytes: &[u8], size: usize) -> Result<Vec<Sample>, VcdStop> {
+/// What a text says: its marks, if they are told, and its samples.
+type Said = (Option<Marks>, Vec<Sample>);
+
+/// What a text says that is fed in pieces of so many bytes, but at least one.
+fn in_pieces(alloc: Global, bytes: &[u8], size: usize) -> Result<Said, VcdStop> {
     let mut reader = match Reader::new(alloc) {
         Ok(reader) => reader,
         Err(_) => return Err(VcdStop::Memory),
@@ -187,13 +195,19 @@ fn in_pieces(alloc: Global, bytes: &[u8], size: usize) -> Result<Vec<Sample>, Vc
         at = end;
     }
     reader.finish(&mut samples)?;
-    Ok(samples)
+    Ok((reader.marks(), samples))
 }
 
-/// The samples of a text.
-fn read(alloc: Global, bytes: &[u8], way: Way) -> Result<Vec<Sample>, VcdStop> {
+/// What a text says that is read at once.
+fn at_once(alloc: Global, bytes: &[u8]) -> Result<Said, VcdStop> {
+    let (marks, samples) = read_dump(alloc, bytes)?;
+    Ok((Some(marks), samples))
+}
+
+/// What a text says.
+fn read(alloc: Global, bytes: &[u8], way: Way) -> Result<Said, VcdStop> {
     match way {
-        Way::Whole => read_dump(alloc, bytes),
+        Way::Whole => at_once(alloc, bytes),
         Way::Pieces(size) => in_pieces(alloc, bytes, size),
     }
 }
@@ -220,7 +234,15 @@ fn fails(alloc: Global, bytes: &[u8], place: u64, cause: VcdCause) -> bool {
 /// Whether a text is read, and gives these samples, in whatever pieces it comes.
 fn reads(alloc: Global, bytes: &[u8], expected: &[Sees]) -> bool {
     WAYS.iter().all(|way| match read(alloc, bytes, *way) {
-        Ok(samples) => are_as_said(&samples, expected),
+        Ok((_, samples)) => are_as_said(&samples, expected),
+        Err(_) => false,
+    })
+}
+
+/// Whether a text is read, and has these marks, in whatever pieces it comes.
+fn is_marked(alloc: Global, bytes: &[u8], marks: Marks) -> bool {
+    WAYS.iter().all(|way| match read(alloc, bytes, *way) {
+        Ok((told, _)) => told == Some(marks),
         Err(_) => false,
     })
 }
@@ -243,6 +265,20 @@ fn each_text_that_is_read(rt: HostRuntime) -> Result<(), Fail> {
     for (start, text, expected) in GOOD.iter() {
         let bytes = text_of(rt.alloc(), *start, text)?;
         assert!(rt; reads(rt.alloc(), &bytes, expected), "{start:?} {text:?}");
+    }
+    Ok(())
+}
+
+#[test]
+fn each_text_with_parity_lines(rt: HostRuntime) -> Result<(), Fail> {
+    for (start, text, place, cause) in BAD_PARITY.iter() {
+        let bytes = text_of(rt.alloc(), *start, text)?;
+        let place = start_len(rt.alloc(), *start)?.wrapping_add(*place);
+        assert!(rt; fails(rt.alloc(), &bytes, place, *cause), "{text:?}");
+    }
+    for (start, text, expected) in GOOD_PARITY.iter() {
+        let bytes = text_of(rt.alloc(), *start, text)?;
+        assert!(rt; reads(rt.alloc(), &bytes, expected), "{text:?}");
     }
     Ok(())
 }
@@ -335,6 +371,161 @@ fn load_among_scopes_and_other_variables(rt: HostRuntime) {
 #[test]
 fn lines_that_change_at_the_edge_come_one_clock_late(rt: HostRuntime) {
     assert!(rt; reads(rt.alloc(), SAME_TIME.as_bytes(), &LATE_LOAD));
+}
+
+/// A dump of profile 2 has the parity of its request.
+#[test]
+fn load_with_parity(rt: HostRuntime) {
+    let bytes = PARITY_OF_A_LOAD.as_bytes();
+    assert!(rt; reads(rt.alloc(), bytes, &LOAD_WITH_PARITY));
+}
+
+/// Declarations behind those of the needed lines, and whether they are of the parity of the address and of the request.
+const MARKED: [(&str, bool, bool); 7] = [
+    ("", false, false),
+    ("$var wire 2 5 AP_n [1:0] $end ", true, false),
+    ("$var wire 1 6 RP_n $end ", false, true),
+    (PARITY_LINES, true, true),
+    (
+        "$var reg 1 ! RP_n[0] $end $var wire 2 ! AP_n $end ",
+        true,
+        true,
+    ),
+    (
+        "$var real 64 5 AP_n $end $var wire 1 6 RP $end ",
+        false,
+        false,
+    ),
+    ("$comment $var wire 2 5 AP_n $end ", false, false),
+];
+
+#[test]
+fn marks_of_each_dump(rt: HostRuntime) -> Result<(), Fail> {
+    for (lines, ap, rp) in MARKED.iter() {
+        let bytes = joined(rt.alloc(), &[LINES, lines, VALUES])?;
+        let marks = Marks { ap: *ap, rp: *rp };
+        assert!(rt; is_marked(rt.alloc(), &bytes, marks), "{lines:?}");
+    }
+    let neither = Marks {
+        ap: false,
+        rp: false,
+    };
+    assert!(rt; is_marked(rt.alloc(), NO_SAMPLES.as_bytes(), neither));
+    assert!(rt; is_marked(rt.alloc(), FALLING_VERILATOR.as_bytes(), neither));
+    let both = Marks { ap: true, rp: true };
+    assert!(rt; is_marked(rt.alloc(), PARITY_OF_A_LOAD.as_bytes(), both));
+    Ok(())
+}
+
+/// The marks that are told behind the first so many bytes of a text, and behind the rest, whether or not that is refused.
+fn told_twice(
+    alloc: Global,
+    bytes: &[u8],
+    first: usize,
+) -> Result<(Option<Marks>, Option<Marks>), VcdStop> {
+    let mut reader = match Reader::new(alloc) {
+        Ok(reader) => reader,
+        Err(_) => return Err(VcdStop::Memory),
+    };
+    let mut samples = Vec::new(alloc);
+    let first = bytes.len().min(first);
+    reader.feed(&bytes[..first], &mut samples)?;
+    let told = reader.marks();
+    let _answer = reader.feed(&bytes[first..], &mut samples);
+    Ok((told, reader.marks()))
+}
+
+/// The marks are told once the end of the declarations counts, also where the piece that has it is refused.
+#[test]
+fn marks_come_with_the_end_of_the_declarations(rt: HostRuntime) -> Result<(), Fail> {
+    let both = Some(Marks { ap: true, rp: true });
+    let len = joined(rt.alloc(), &[LINES, PARITY_LINES, "$enddefinitions $end"])?.len();
+    let rows = [
+        ("\n#0 ", len, (None, both)),
+        ("\n#0 ", len.wrapping_add(1), (both, both)),
+        ("\n0~ ", len, (None, both)),
+        ("\n0~ ", len.wrapping_add(1), (both, both)),
+    ];
+    for (rest, first, told) in rows.iter() {
+        let bytes = joined(
+            rt.alloc(),
+            &[LINES, PARITY_LINES, "$enddefinitions $end", rest],
+        )?;
+        assert_eq!(rt; told_twice(rt.alloc(), &bytes, *first), Ok(*told));
+    }
+    Ok(())
+}
+
+/// What a text is refused with, if it is, and the marks that are told behind it.
+type Told = (Option<VcdStop>, Option<Marks>);
+
+/// The last answer to a text that is fed in pieces of so many bytes, but at least one, to a reader of so many samples, and the
+/// marks behind it.
+fn told_in_pieces(alloc: Global, bytes: &[u8], limit: u32, size: usize) -> Result<Told, Fail> {
+    let mut reader = Reader::up_to(alloc, limit)?;
+    let mut samples = Vec::new(alloc);
+    let mut refusal = None;
+    let mut at = 0;
+    while at < bytes.len() {
+        let end = bytes.len().min(at.saturating_add(size.max(1)));
+        refusal = reader.feed(&bytes[at..end], &mut samples).err();
+        at = end;
+    }
+    Ok((refusal, reader.marks()))
+}
+
+/// Where a text is refused, its marks are told as far as it was read, in whatever pieces it comes.
+#[test]
+fn marks_of_refused_texts(rt: HostRuntime) -> Result<(), Fail> {
+    let neither = Some(Marks {
+        ap: false,
+        rp: false,
+    });
+    let both = Some(Marks { ap: true, rp: true });
+    let too_long = Some(VcdStop::TooLong);
+    let lines = start_len(rt.alloc(), Start::Lines)?;
+    let token = start_len(rt.alloc(), Start::Values)?.wrapping_add(4);
+    let code = start_len(rt.alloc(), Start::Parity)?.wrapping_add(3);
+    let header = bad(lines, VcdCause::Header);
+    let missing = bad(0, VcdCause::Missing(0));
+    let rows = [
+        (
+            Start::Values,
+            " #0 hello ",
+            u32::MAX,
+            (bad(token, VcdCause::Token), neither),
+        ),
+        (
+            Start::Parity,
+            "#1 0~ 1! #2 ",
+            u32::MAX,
+            (bad(code, VcdCause::Code), both),
+        ),
+        (Start::Parity, "#1 1! #2 hello ", 0, (too_long, both)),
+        (
+            Start::Lines,
+            "hello $enddefinitions $end ",
+            u32::MAX,
+            (header, None),
+        ),
+        (
+            Start::Whole,
+            "$enddefinitions $end #0 ",
+            u32::MAX,
+            (missing, None),
+        ),
+    ];
+    for (start, text, limit, told) in rows.iter() {
+        let bytes = text_of(rt.alloc(), *start, text)?;
+        for size in [1, 7, usize::MAX].iter() {
+            assert_eq!(rt;
+                told_in_pieces(rt.alloc(), &bytes, *limit, *size)?,
+                *told,
+                "{text:?}"
+            );
+        }
+    }
+    Ok(())
 }
 
 /// Of two samples a reader of at most one gives the first, and then refuses for good.

@@ -4,7 +4,7 @@ use Rattle.std.specs.List.{list_all}
 use Rattle.std.proofs.lemmas.Option.{slice_get_within, get_or_from_slice_get}
 use Rattle.std.proofs.lemmas.List.Folds.{list_all_at}
 use Rattle.std.proofs.lemmas.Bool.{ne_eqb, ltb-true, true_from_ne_false}
-use Rattle.fsb_signal.specs.Table.{Entry, table}
+use Rattle.fsb_signal.specs.Table.{TableEntry, table}
 use Rattle.fsb_signal.specs.DumpText.{width_of, lowest_of, range_text, declaration_text}
 
 -- a word's lines, from the highest to the lowest
@@ -21,18 +21,18 @@ unfolding range_text
 range_text-single number width is one = rw (sym is, one) refl
 
 -- the declaration of an entry of the table
-pub declaration_text-entry : (number : ℕ) (e : Entry) → slice_get table number ≡ Some e →
+pub declaration_text-entry : (number : ℕ) (e : TableEntry) → slice_get table number ≡ Some e →
     declaration_text number
     ≡ codes "$var wire " ++ decimal e.width ++ codes " " ++ (33 + number) ∷ [] ++ codes " " ++ e.name ++ codes " " ++ range_text number ++ codes "$end\n"
 unfolding declaration_text
 declaration_text-entry number e h = rw h refl
 
 -- the entry's name has at most seven bytes
-abbrev is_short : Entry → Bool
+abbrev is_short : TableEntry → Bool
 is_short e = nat_lt (length e.name) 8
 
 -- the name of each entry has at most seven bytes
-pub entry_name-short : (number : ℕ) (e : Entry) → slice_get table number ≡ Some e → length e.name ≤ 7
+pub entry_name-short : (number : ℕ) (e : TableEntry) → slice_get table number ≡ Some e → length e.name ≤ 7
 entry_name-short number e h =
     let within = slice_get_within table number e h in
     let at : get_or table number e ≡ e = get_or_from_slice_get table number e e h in

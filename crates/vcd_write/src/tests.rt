@@ -5,7 +5,7 @@ use crate::{put_clock, put_dump, put_header};
 use fsb_io::{Failed, MemSink};
 use fsb_signal::{Lines, Sample, idle_sample};
 use std::test::Fail;
-use vcd_dumps::NO_SAMPLES;
+use vcd_dumps::{NO_SAMPLES, PARITY_OF_A_LOAD};
 
 const TWO_CLOCKS: &str = "\
 #20
@@ -25,6 +25,41 @@ b111111111111111111111111111111101 +
 1!
 ";
 
+/// Clocks 2, 3 and 4 of a load of address 40 in profile 2.
+const THREE_CLOCKS_WITH_PARITY: [&str; 3] = [
+    "\
+#20
+0!
+0)
+b11001 *
+b111111111111111111111111111110111 +
+b10 5
+06
+#25
+1!
+",
+    "\
+#30
+0!
+1\"
+1)
+b11101 *
+b111111111111111111111111111111101 +
+#35
+1!
+",
+    "\
+#40
+0!
+b11111 *
+b111111111111111111111111111111111 +
+b11 5
+16
+#45
+1!
+",
+];
+
 /// Clocks 1 to 3 of a run: an agent asks for the bus, and reads a line.
 fn read_of_a_line() -> [Sample; 3]
     ensures { result ≡ known_sample 1 0 0 0 ∷ known_sample 129 6 8 0 ∷ known_sample 0 2 2 0 ∷ [] }
@@ -38,7 +73,7 @@ fn read_of_a_line() -> [Sample; 3]
 #[test]
 fn dump_of_no_samples(rt: HostRuntime) -> Result<(), Fail> {
     let mut sink = MemSink::new(rt.alloc(), 2_000, &[])?;
-    assert_eq!(rt; put_dump(&mut sink, &[]), Ok(()));
+    assert_eq!(rt; put_dump(&mut sink, 1, &[]), Ok(()));
     assert_eq!(rt; sink.holds(), NO_SAMPLES.as_bytes());
     assert_eq!(rt; sink.calls(), 1, "one piece");
     Ok(())
@@ -48,8 +83,8 @@ fn dump_of_no_samples(rt: HostRuntime) -> Result<(), Fail> {
 fn two_request_clocks(rt: HostRuntime) -> Result<(), Fail> {
     let [asks, begins, goes_on] = read_of_a_line();
     let mut sink = MemSink::new(rt.alloc(), 2_000, &[])?;
-    assert_eq!(rt; put_clock(&mut sink, 2, &asks, &begins), Ok(()));
-    assert_eq!(rt; put_clock(&mut sink, 3, &begins, &goes_on), Ok(()));
+    assert_eq!(rt; put_clock(&mut sink, 1, 2, &asks, &begins), Ok(()));
+    assert_eq!(rt; put_clock(&mut sink, 1, 3, &begins, &goes_on), Ok(()));
     assert_eq!(rt; sink.holds(), TWO_CLOCKS.as_bytes());
     assert_eq!(rt; sink.calls(), 2, "one piece a clock");
     Ok(())
@@ -59,20 +94,58 @@ fn two_request_clocks(rt: HostRuntime) -> Result<(), Fail> {
 fn fault_leaves_the_pieces_before_it(rt: HostRuntime) -> Result<(), Fail> {
     let samples = read_of_a_line();
     let mut whole = MemSink::new(rt.alloc(), 2_000, &[])?;
-    assert_eq!(rt; put_header(&mut whole, &samples[0]), Ok(()));
+    assert_eq!(rt; put_header(&mut whole, 1, &samples[0]), Ok(()));
     assert_eq!(rt;
-        put_clock(&mut whole, 0, &idle_sample(), &samples[0]),
+        put_clock(&mut whole, 1, 0, &idle_sample(), &samples[0]),
         Ok(())
     );
     let mut sink = MemSink::new(rt.alloc(), 2_000, &[2])?;
-    assert_eq!(rt; put_dump(&mut sink, &samples), Err(Failed));
+    assert_eq!(rt; put_dump(&mut sink, 1, &samples), Err(Failed));
     assert_eq!(rt; sink.holds(), whole.holds(), "the header and clock 0");
     let mut clock_zero = MemSink::new(rt.alloc(), 10, &[])?;
     assert_eq!(rt;
-        put_clock(&mut clock_zero, 0, &idle_sample(), &samples[0]),
+        put_clock(&mut clock_zero, 1, 0, &idle_sample(), &samples[0]),
         Ok(())
     );
     assert_eq!(rt; clock_zero.holds(), b"#5\n1!\n".as_slice());
     assert_eq!(rt; sink.faults(), 1);
+    Ok(())
+}
+
+/// Clocks 0 to 4 of a load of address 40 in profile 2.
+fn load_with_parity() -> [Sample; 5]
+    ensures { result
+        ≡ known_sample 1 0 0 0 ∷ known_sample 1 0 0 0 ∷ known_sample 1310849 6 8 0 ∷ known_sample 1310720 2 2 0
+        ∷ known_sample 0 0 0 0 ∷ [] }
+{
+    let parity = Lines::AP0.0 + Lines::RP.0;
+    let asks = Sample::known(Lines::BREQ0, 0, 0, 0);
+    let begins = Sample::known(Lines(Lines::BREQ0.0 + Lines::ADS.0 + parity), 6, 8, 0);
+    let goes_on = Sample::known(Lines(parity), 2, 2, 0);
+    [asks, asks, begins, goes_on, idle_sample()]
+}
+
+#[test]
+fn parity_lines_in_profile_2(rt: HostRuntime) -> Result<(), Fail> {
+    let samples = load_with_parity();
+    for (at, text) in THREE_CLOCKS_WITH_PARITY.iter().enumerate() {
+        let mut sink = MemSink::new(rt.alloc(), 2_000, &[])?;
+        let answer = put_clock(
+            &mut sink,
+            2,
+            at as u32 + 2,
+            &samples[at + 1],
+            &samples[at + 2],
+        );
+        assert_eq!(rt; answer, Ok(()));
+        assert_eq!(rt; sink.holds(), text.as_bytes());
+    }
+    let mut sink = MemSink::new(rt.alloc(), 2_000, &[])?;
+    assert_eq!(rt; put_dump(&mut sink, 2, &samples), Ok(()));
+    assert!(rt; PARITY_OF_A_LOAD.as_bytes().starts_with(sink.holds()));
+    assert!(rt;
+        sink.holds()
+            .ends_with(THREE_CLOCKS_WITH_PARITY[2].as_bytes())
+    );
     Ok(())
 }

@@ -1,9 +1,9 @@
 //! The lines of values.
 
-ghost use Rattle.std.specs.Prelude.{◌≡◌, ◌+◌, ◌<◌, ◌≤◌, ◌++◌, ◌==◌, [], if◌then◌else◌};
+ghost use Rattle.std.specs.Prelude.{◌≡◌, ◌+◌, ◌-◌, ◌<◌, ◌≤◌, ◌++◌, ◌==◌, [], if◌then◌else◌};
 ghost use Rattle.std.specs.Int.{bit_at};
 ghost use Rattle.arrayvec.specs.ArrayVec.{array_vec_len};
-ghost use Rattle.fsb_signal.specs.DumpText.{digit_of, digits_of, value_text, texts_from, sample_value_text, change_text};
+ghost use Rattle.fsb_signal.specs.DumpText.{digit_of, digits_of, value_text, texts_from, sample_value_text, change_text, entries_in};
 ghost use Rattle.vcd_write.specs.Room.{value_room, values_room};
 
 use arrayvec::ArrayVec;
@@ -37,7 +37,7 @@ fn digit_at(value: u64, place: u8) -> u8
 
 // Appends the line of the value of the signal of this number.
 pub(crate) fn put_value<const N: usize>(text: &mut ArrayVec<u8, N>, number: u8, value: u64)
-    requires number { number < 20 }
+    requires number { number < 22 }
     requires room { array_vec_len text.old + value_room number ≤ N }
     ensures items { text.new.items ≡ text.old.items ++ value_text number value }
     ensures len { array_vec_len text.new ≡ array_vec_len text.old + value_room number }
@@ -56,31 +56,47 @@ pub(crate) fn put_value<const N: usize>(text: &mut ArrayVec<u8, N>, number: u8, 
     }
 }
 
-// Appends the values of a sample, but for the clock's, in the order of the table.
-pub(crate) fn put_values<const N: usize>(text: &mut ArrayVec<u8, N>, sample: &Sample)
-    requires { array_vec_len text.old + values_room 20 ≤ N }
-    ensures items { text.new.items ≡ text.old.items ++ texts_from (sample_value_text sample.now) 1 19 }
-    ensures len { array_vec_len text.new ≤ array_vec_len text.old + values_room 20 }
+// How many entries of the table a dump of this profile has.
+pub(crate) fn entries_in(profile: u8) -> u8
+    ensures value { result ≡ entries_in profile }
+    ensures some { 20 ≤ result }
+    ensures within { result ≤ 22 }
 {
-    for number in 1..20 {
+    if profile == 2 { 22 } else { 20 }
+}
+
+// Appends the values of a sample, but for the clock's, in the order of the table.
+pub(crate) fn put_values<const N: usize>(text: &mut ArrayVec<u8, N>, profile: u8, sample: &Sample)
+    requires { array_vec_len text.old + values_room 22 ≤ N }
+    ensures items { text.new.items
+        ≡ text.old.items ++ texts_from (sample_value_text sample.now) 1 (entries_in profile - 1) }
+    ensures len { array_vec_len text.new ≤ array_vec_len text.old + values_room (entries_in profile) }
+{
+    for number in 1..entries_in(profile) {
         put_value(text, number, sample.value(number));
     }
 }
 
 // Appends the values of `now` that differ from those of `before`, in the order of the table.
-pub(crate) fn put_changes<const N: usize>(text: &mut ArrayVec<u8, N>, before: &Sample, now: &Sample)
-    requires { array_vec_len text.old + values_room 20 ≤ N }
-    ensures items { text.new.items ≡ text.old.items ++ texts_from (change_text before.now now.now) 1 19 }
-    ensures len { array_vec_len text.new ≤ array_vec_len text.old + values_room 20 }
+pub(crate) fn put_changes<const N: usize>(
+    text: &mut ArrayVec<u8, N>,
+    profile: u8,
+    before: &Sample,
+    now: &Sample,
+)
+    requires { array_vec_len text.old + values_room 22 ≤ N }
+    ensures items { text.new.items
+        ≡ text.old.items ++ texts_from (change_text before.now now.now) 1 (entries_in profile - 1) }
+    ensures len { array_vec_len text.new ≤ array_vec_len text.old + values_room (entries_in profile) }
 {
-    for number in 1..20 {
+    for number in 1..entries_in(profile) {
         put_change(text, number, before.value(number), now.value(number));
     }
 }
 
 // Appends the value of a signal where it differs from the one before.
 fn put_change<const N: usize>(text: &mut ArrayVec<u8, N>, number: u8, before: u64, now: u64)
-    requires number { number < 20 }
+    requires number { number < 22 }
     requires room { array_vec_len text.old + value_room number ≤ N }
     ensures items { text.new.items ≡ text.old.items ++ (if before == now then [] else value_text number now) }
     ensures len { array_vec_len text.new ≤ array_vec_len text.old + value_room number }

@@ -2,7 +2,7 @@ use super::Start;
 use crate::fault::Cause;
 
 /// Texts with a first bad line: what stands before, the text, the line, and the cause.
-pub(crate) static BAD: [(Start, &'static str, u32, Cause); 191] = [
+pub(crate) static BAD: [(Start, &'static str, u32, Cause); 209] = [
     (Start::Whole, "", 1, Cause::FirstLine),
     (Start::Whole, "\n", 1, Cause::FirstLine),
     (Start::Whole, "p6bench 2", 1, Cause::FirstLine),
@@ -195,6 +195,34 @@ pub(crate) static BAD: [(Start, &'static str, u32, Cause); 191] = [
     (Start::Head, "ld 1 40\n", 6, Cause::Word),
     (Start::Head, "end\n", 6, Cause::Word),
     (Start::Head, "tx 0 retry\n", 6, Cause::Word),
+    (Start::Head, "profile\n", 6, Cause::Missing),
+    (Start::Head, "profile x\n", 6, Cause::Number),
+    (Start::Head, "profile 0\n", 6, Cause::Range),
+    (Start::Head, "profile 3\n", 6, Cause::Range),
+    (Start::Head, "profile 3 1\n", 6, Cause::Range),
+    (Start::Head, "profile 1 1\n", 6, Cause::After),
+    (Start::Head, "profile 2 1\n", 6, Cause::After),
+    (Start::Head, "profile 2\n", 6, Cause::Unbuilt),
+    (Start::Head, "profile 1\n", 7, Cause::Missing),
+    (Start::Head, "profile 1\nprofile 1\n", 7, Cause::Word),
+    (Start::Head, "profile 1\nprofile 2\n", 7, Cause::Word),
+    (Start::Head, "profile 1\nahead 1\n", 7, Cause::Word),
+    (
+        Start::Head,
+        "profile 1\nbridge 1000 20\n",
+        7,
+        Cause::Unbuilt,
+    ),
+    (Start::Head, "mem 40 07\nprofile 1\n", 7, Cause::Word),
+    (Start::Items, "profile 1\n", 7, Cause::Word),
+    (Start::Tail, "profile 1\n", 9, Cause::Word),
+    (Start::Whole, "p6bench 1\nprofile 1\n", 2, Cause::Word),
+    (
+        Start::Whole,
+        "p6bench 1\nagents 1\nclocks 0\ncache 1\nprofile 1\nahead 1\n",
+        5,
+        Cause::Word,
+    ),
     (Start::Head, "bridge\n", 6, Cause::Missing),
     (Start::Head, "bridge 1000\n", 6, Cause::Missing),
     (Start::Head, "bridge xyz 20\n", 6, Cause::Number),
@@ -352,7 +380,7 @@ pub(crate) static BAD: [(Start, &'static str, u32, Cause); 191] = [
 ];
 
 /// Texts that are plans: what stands before, and the text.
-pub(crate) static GOOD: [(Start, &'static str); 19] = [
+pub(crate) static GOOD: [(Start, &'static str); 21] = [
     (Start::Items, "end\n"),
     (Start::Items, "end"),
     (Start::Items, "ld 1 40\nend\n"),
@@ -366,6 +394,8 @@ pub(crate) static GOOD: [(Start, &'static str); 19] = [
     (Start::Items, "ld 1 40\nld 1 5f\nld 1 60\nend\n"),
     (Start::Items, "\n# comment\n\tld\t1  40 \r\n#ld\nend \n"),
     (Start::Head, "mem 40 07\nmem 40 08\nagent 0\nend\n"),
+    (Start::Head, "profile 1\nmem 40 07\nagent 0\nend\n"),
+    (Start::Head, "\nprofile 01 \r\n# none\nagent 0\nend\n"),
     (
         Start::Head,
         "mem 40 00000000000000000000000000000000000000000000000000000000000000000000000000000000000000000000000000000000000000000000000000000000\nagent 0\nend\n",

@@ -6,7 +6,7 @@ use crate::fault::{Cause, LineStop};
 use crate::named::{Earlier, Named};
 use crate::place::Place;
 use crate::plan::{Scripts, Settings, Window};
-use crate::statement::{block_of, idle_of, transaction_of, window_of};
+use crate::statement::{block_of, idle_of, profile_of, transaction_of, window_of};
 use fsb_access::{Access, Group, Item, LINE_BYTES, Script};
 use fsb_hazard::{HazardLine, HazardLines};
 use std::alloc::{AllocError, Global};
@@ -31,11 +31,13 @@ fn what_each_hazard_says(rt: HostRuntime) {
 }
 
 #[test]
-fn what_bridge_and_idle_say(rt: HostRuntime) {
+fn what_profile_bridge_and_idle_say(rt: HostRuntime) {
     let window = Window {
         base: 0x1000,
         size: 0x20,
     };
+    assert_eq!(rt; profile_of(b" 1"), Ok(1));
+    assert_eq!(rt; profile_of(b" 2"), Ok(2));
     assert_eq!(rt; window_of(b" 1000 20"), Ok(window));
     assert_eq!(rt; idle_of(b" 1"), Ok(1));
     assert_eq!(rt; idle_of(b" 200000"), Ok(200_000));
@@ -116,6 +118,7 @@ pub(crate) fn two_agents(alloc: Global) -> Result<Draft, AllocError> {
         clocks: 0,
         cache: 64,
         ahead: 1,
+        profile: 1,
         bridge: None,
         mem: Settings::new(alloc),
         scripts: Scripts::new(alloc),
@@ -135,6 +138,7 @@ fn locked_item(alloc: Global) -> Result<Draft, AllocError> {
         clocks: 0,
         cache: 64,
         ahead: 1,
+        profile: 1,
         bridge: None,
         mem: Settings::new(alloc),
         scripts: Scripts::new(alloc),

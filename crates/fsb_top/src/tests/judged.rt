@@ -1,5 +1,6 @@
 //! Dumps that are checked.
-ghost use Rattle.std.specs.Prelude.{IsTrue};
+ghost use Rattle.std.specs.Prelude.{◌≡◌, IsTrue};
+ghost use Rattle.fsb_signal.specs.Parity.{has_no_parity};
 ghost use Rattle.fsb_signal.specs.Samples.{is_known};
 
 use super::{CHECK, Ended, FIRST, NAMED, NO_FAILS, call_bench, joined};
@@ -11,8 +12,8 @@ use fsb_signal::{Lines, Sample, Word};
 use std::alloc::{AllocError, Global};
 use std::test::Fail;
 use vcd_dumps::{
-    FALLING, FALLING_VERILATOR, SAME_TIME, SCOPES, SIMULATOR_HEAD, SIMULATOR_RISES,
-    SIMULATOR_START, UNKNOWN_AFTER_FALL, UNKNOWN_AFTER_RISE,
+    FALLING, FALLING_VERILATOR, PARITY_OF_A_LOAD, SAME_TIME, SCOPES, SIMULATOR_HEAD,
+    SIMULATOR_RISES, SIMULATOR_START, UNKNOWN_AFTER_FALL, UNKNOWN_AFTER_RISE,
 };
 use vcd_read::{VcdCause, VcdFault};
 use vcd_write::put_dump;
@@ -31,15 +32,25 @@ fn sample(clock: Clock) -> Sample
     }
 }
 
-/// The dump that is written of these clocks.
+/// Whether the sample may stand in a dump of profile 1.
+fn has_no_parity(sample: &Sample) -> bool
+    ensures { result ≡ has_no_parity sample.now }
+{
+    !(sample.has(Lines::AP0) || sample.has(Lines::AP1) || sample.has(Lines::RP))
+}
+
+/// The dump of profile 1 that is written of these clocks.
 fn written(alloc: Global, clocks: &[Clock]) -> Result<MemSink, Memory> {
     let mut samples = Vec::new(alloc);
     for &clock in clocks {
-        samples.push(sample(clock))?;
+        let sample = sample(clock);
+        if has_no_parity(&sample) {
+            samples.push(sample)?;
+        }
     }
     let mut sink = MemSink::new(alloc, 10_000, &[])?;
     if samples.len() <= 200_000 {
-        let _ = put_dump(&mut sink, &samples);
+        let _ = put_dump(&mut sink, 1, &samples);
     }
     Ok(sink)
 }
@@ -144,6 +155,28 @@ fn dumps_that_are_not_read(rt: HostRuntime) -> Result<(), Fail> {
         let ended = check(rt.alloc(), text.as_bytes())?;
         assert_eq!(rt; ended.status, Status::BadDump(VcdFault { place, cause }));
         assert_eq!(rt; ended.out.calls(), 0);
+    }
+    Ok(())
+}
+
+#[test]
+fn parity_lines(rt: HostRuntime) -> Result<(), Fail> {
+    let whole = check(rt.alloc(), PARITY_OF_A_LOAD.as_bytes())?;
+    assert_eq!(rt; whole.status, Status::Done);
+    assert_eq!(rt; whole.out.holds(), b"accepted clocks=60\n".as_slice());
+    // Without the change of RP#, or of AP0#, at clock 2 the parity of the first clock of the request fails there.
+    let table = [
+        ("b10 5\n06\n", "b10 5\n", 20),
+        ("b10 5\n06\n", "06\n", 19),
+        ("b10 5\n06\n", "", 19),
+    ];
+    for (part, by, rule) in table {
+        let changed = replaced(rt.alloc(), PARITY_OF_A_LOAD, part, by)?;
+        let rejected = check(rt.alloc(), &changed)?;
+        assert_eq!(rt;
+            rejected.status,
+            Status::Rejected(Broken { clock: 2, rule })
+        );
     }
     Ok(())
 }

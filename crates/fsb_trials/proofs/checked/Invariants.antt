@@ -4,4 +4,4 @@ use Rattle.fsb_trials.proofs.checked.Given as goal
 
 -- the checker was fed the samples so far
 abbrev pub invariant-loop-sample : goal.invariant-loop-sample
-invariant-loop-sample l = Stands l.checker (take l.sample-index l.w)
+invariant-loop-sample l = Stands l.checker l.fn.marks (take l.sample-index l.w)

@@ -110,3 +110,54 @@ pub(crate) const LATE_LOAD: [Sees; 5] = [
     ),
     (Rest::Idle, &[Mark::Req(0x2, 0), Mark::Addr(0x2, 0)]),
 ];
+
+/// The load up to clock 12, with the parity of the low address and of the request in clocks 2 and 3.
+pub(crate) const LOAD_WITH_PARITY: [Sees; 13] = [
+    (Rest::Idle, &[Mark::Asserts(Lines::BREQ0)]),
+    (Rest::Idle, &[Mark::Asserts(Lines::BREQ0)]),
+    (
+        Rest::Idle,
+        &[
+            Mark::Asserts(Lines::BREQ0),
+            Mark::Asserts(Lines::ADS),
+            Mark::Asserts(Lines::AP0),
+            Mark::Asserts(Lines::RP),
+            Mark::Req(0x6, 0),
+            Mark::Addr(0x8, 0),
+        ],
+    ),
+    (
+        Rest::Idle,
+        &[
+            Mark::Asserts(Lines::AP0),
+            Mark::Asserts(Lines::RP),
+            Mark::Req(0x2, 0),
+            Mark::Addr(0x2, 0),
+        ],
+    ),
+    (Rest::Idle, &[]),
+    (Rest::Idle, &[]),
+    (Rest::Idle, &[]),
+    (Rest::Idle, &[]),
+    (
+        Rest::Idle,
+        &[
+            Mark::Asserts(Lines::RS0),
+            Mark::Asserts(Lines::RS1),
+            Mark::Asserts(Lines::RS2),
+            Mark::Asserts(Lines::DBSY),
+            Mark::Asserts(Lines::DRDY),
+            Mark::Data(0x7, 0),
+        ],
+    ),
+    (
+        Rest::Idle,
+        &[Mark::Asserts(Lines::DBSY), Mark::Asserts(Lines::DRDY)],
+    ),
+    (
+        Rest::Idle,
+        &[Mark::Asserts(Lines::DBSY), Mark::Asserts(Lines::DRDY)],
+    ),
+    (Rest::Idle, &[Mark::Asserts(Lines::DRDY)]),
+    (Rest::Idle, &[]),
+];

@@ -19,3 +19,9 @@ pub(crate) const VALUES: &str = "$enddefinitions $end\n";
 
 /// At time 0 the clock is low and no other needed line is asserted.
 pub(crate) const QUIET: &str = "#0\n0!\n1\"\n1)\nbz *\nbz +\n1-\n1.\nbz 0\n11\n12\n13\nbz 4\n";
+
+/// The declarations of the two parity lines, with the codes of a written dump.
+pub(crate) const PARITY_LINES: &str = "$var wire 2 5 AP_n [1:0] $end\n$var wire 1 6 RP_n $end\n";
+
+/// Neither of them is asserted.
+pub(crate) const PARITY_QUIET: &str = "bz 5\n16\n";

@@ -1,11 +1,16 @@
-use Rattle.std.proofs.Common.{◌≡◌, ◌∙◌, ◌++◌, ◌+◌, refl, arith}
+use Rattle.std.proofs.Common.{◌≡◌, ◌∙◌, ◌++◌, ◌+◌, Err, ap, refl, arith}
 use Rattle.fsb_check.specs.Judging.{Stood, HasTaken}
-use Rattle.fsb_check.proofs.Checked.{checked_not, checked_past, taken_all, taken_more, checked_end, no_read_fault}
+use Rattle.fsb_check.proofs.Checked.{checked_not, takes_so_far, checked_past, taken_all, taken_more, checked_end, no_read_fault}
 use Rattle.std.proofs.lemmas.List.{length-append, length-take}
 use Rattle.fsb_check.proofs.check.check_left.Goals as goal
 
 pub returns-in-Err-clause-checked : goal.returns-in-Err-clause-checked
-returns-in-Err-clause-checked g c tells = checked_not _ _ _ (c.in-Err.ensures.stop _ refl)
+returns-in-Err-clause-checked g c tells =
+    let at = c.loop-taken.invariant.taken in
+    checked_not _ _ _ (c.in-Err.ensures.stop _ refl) (λ memory.
+    takes_so_far _ at.0 _ _ _ (at.3 tells) (c.in-Err.ensures.memory tells (ap (λ stop. Err stop) memory))
+    (let room = length-take (c.min.result + 1) c.deref_mut.result.now in
+    omega (arith, room, at.2, c.min.ensures, c.loop-taken-test.true, c.loop-taken.invariant.size, c.deref_mut.ensures.len)))
 
 pub returns-in-Err-clause-name_stays : goal.returns-in-Err-clause-name_stays
 returns-in-Err-clause-name_stays g c tells =

@@ -1,6 +1,6 @@
 use Rattle.std.proofs.Common.{◌≡◌, length, sym, ap, ◌∙◌, arith}
 use Rattle.fsb_queue.specs.Entries.{without}
-use Rattle.fsb_queue.proofs.EntryLists.{length-without}
+use Rattle.fsb_queue.proofs.Interface.{length-without}
 use Rattle.fsb_flight.specs.Steps.{without_if, cancel_before}
 use Rattle.fsb_flight.proofs.clock.cancel_before.Goals as goal
 

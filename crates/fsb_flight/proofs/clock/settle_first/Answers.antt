@@ -1,6 +1,6 @@
 use Rattle.std.proofs.Common.{◌≡◌, length, sym, ap, ◌∙◌, arith}
 use Rattle.std.proofs.lemmas.Option.{slice_get_within}
-use Rattle.fsb_phase.proofs.Finds.{none_is}
+use Rattle.fsb_phase.proofs.Interface.{none_is}
 use Rattle.fsb_flight.specs.Steps.{settle_first}
 use Rattle.fsb_flight.proofs.ListSteps.{settle_first-at, settle_first-none, length-settled_at}
 use Rattle.fsb_flight.proofs.clock.settle_first.Goals as goal

@@ -1,13 +1,11 @@
-use Rattle.std.proofs.Common.{sym, ◌∙◌, ap, arith}
-use Rattle.std.specs.Option.{option_copied}
-use Rattle.std.proofs.lemmas.Option.{slice_get_within}
-use Rattle.fsb_phase.proofs.Finds.{open_entry-place, open_entry-off, none_is}
+use Rattle.std.proofs.Common.{is_none, ◌∙◌, rules, tests}
+use Rattle.std.proofs.lemmas.Iterator.Consumers.{YieldsList-from_rest}
+use Rattle.std.proofs.lemmas.Iterator.Search.{find_from_yields_List}
+use Rattle.fsb_phase.specs.Registers.{open_entry}
 use Rattle.fsb_phase.proofs.places.open_entry.Goals as goal
 
-pub returns-then-is_none : goal.returns-then-is_none
-returns-then-is_none c =
-    sym (open_entry-place c.args.queue.now c.loop-i.i c.in-Some.e.now (sym c.at.ensures ∙ ap option_copied c.in-Some.is)
-    (none_is c.in-Some.e.now.outcome c.if-is_none.ensures) (λ j y l e. c.loop-i.invariant j y l e))
-
 pub returns : goal.returns
-returns c = sym (open_entry-off c.args.queue.now (λ j y e. c.loop-i.invariant j y (let within = slice_get_within c.args.queue.now j y e in omega (arith, c.len-i-end.ensures.len)) e))
+unfolding open_entry
+returns c =
+    c.copied.ensures
+    ∙ find_from_yields_List (λ e. is_none e.outcome) _ _ _ c.find.ensures.ran (YieldsList-from_rest c.args.queue.now c.iter.ensures) (λ x b q k. search (rules, tests))

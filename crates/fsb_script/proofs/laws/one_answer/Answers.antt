@@ -1,7 +1,7 @@
 use Rattle.std.proofs.Common.{◌≡◌, Result, Ok, Err, ◌⊎◌, inl, inr, refl}
 use Rattle.fsb_script.specs.declared.fault.ScriptFault.{ScriptFault}
 use Rattle.fsb_script.specs.Plans.{PlanView}
-use Rattle.fsb_script.specs.Drafts.{plan_of}
+use Rattle.fsb_script.specs.Drafts.{said_plan}
 use Rattle.fsb_script.proofs.laws.one_answer.Goals as goal
 
 answered : (r : Result PlanView ScriptFault) → ((p : PlanView) × (r ≡ Ok p)) ⊎ ((f : ScriptFault) × (r ≡ Err f))
@@ -18,4 +18,4 @@ pub returns-clause-not_both : goal.returns-clause-not_both
 returns-clause-not_both c text p f a b = cc
 
 pub returns-clause-either : goal.returns-clause-either
-returns-clause-either c text = answered (plan_of text)
+returns-clause-either c text = answered (said_plan text)

@@ -1,6 +1,6 @@
 use Rattle.std.proofs.Common.{◌+◌, ◌<◌, length, arith, ◌∙◌, sym, ap, length-drop}
 use Rattle.fsb_script.specs.Reading.{Fails, stop_at}
-use Rattle.fsb_script.specs.Words.{line_len, lines_of}
+use Rattle.fsb_script.specs.Words.{line_len, text_lines}
 use Rattle.fsb_script.specs.Drafts.{plan_from}
 use Rattle.fsb_script.specs.View.{progress}
 use Rattle.fsb_script.proofs.KeptLemmas.{not_empty}
@@ -14,7 +14,7 @@ pub returns-in-Err-take : goal.returns-in-Err-take
 returns-in-Err-take c =
     let some : 0 < length c.loop-rest.rest.now = not_empty _ c.is_empty.result c.is_empty.ensures c.loop-rest-test.true in
     let fails = rw c.split_line.ensures.line at c.in-Err-take.ensures in
-    let stops : Fails (stop_at c.loop-rest.number c.in-Err-take.stop) (plan_from c.loop-rest.number (progress c.loop-rest.draft) (lines_of c.loop-rest.rest.now)) = plan_stops c.loop-rest.number (progress c.loop-rest.draft) c.loop-rest.rest.now c.in-Err-take.stop some fails in
+    let stops : Fails (stop_at c.loop-rest.number c.in-Err-take.stop) (plan_from c.loop-rest.number (progress c.loop-rest.draft) (text_lines c.loop-rest.rest.now)) = plan_stops c.loop-rest.number (progress c.loop-rest.draft) c.loop-rest.rest.now c.in-Err-take.stop some fails in
     rw c.stop_at.ensures (rw (← c.loop-rest.invariant.ahead) stops)
 
 pub loop-rest-preserved : goal.loop-rest-preserved

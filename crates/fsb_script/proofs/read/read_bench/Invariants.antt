@@ -1,13 +1,13 @@
 -- The lines that are left go on to what the whole text says.
 use Rattle.std.proofs.Common.{◌≡◌, ◌+◌, ◌≤◌, length}
-use Rattle.fsb_script.specs.Words.{lines_of}
-use Rattle.fsb_script.specs.Drafts.{plan_from, plan_of}
+use Rattle.fsb_script.specs.Words.{text_lines}
+use Rattle.fsb_script.specs.Drafts.{plan_from, said_plan}
 use Rattle.fsb_script.specs.View.{progress}
 use Rattle.fsb_script.proofs.read.read_bench.Given as goal
 
 abbrev pub invariant-loop-rest : goal.invariant-loop-rest
 invariant-loop-rest l = record {
-  ahead : plan_from l.number (progress l.draft) (lines_of l.rest) ≡ plan_of l.text;
+  ahead : plan_from l.number (progress l.draft) (text_lines l.rest) ≡ said_plan l.text;
   few : l.number + length l.rest ≤ length l.text + 1;
 }
 

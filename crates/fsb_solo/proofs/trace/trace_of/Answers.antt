@@ -1,10 +1,12 @@
 use Rattle.std.proofs.Common.{◌≤◌, ◌+◌, ◌-◌, [], ◌∷◌, ◌++◌, refl, sym, ap, ◌∙◌, subst, take, nat_eq, IsTrue, vec_len, replicate, true}
 use Rattle.std.proofs.lemmas.List.{drop_all}
 use Rattle.std.specs.HashSet.{Updates}
+use Rattle.std.specs.List.{list_all}
 use Rattle.fsb_access.specs.ByteMemory.{start_memory}
+use Rattle.fsb_signal.specs.Parity.{has_no_parity}
 use Rattle.fsb_signal.specs.Samples.{is_known_trace}
 use Rattle.fsb_solo.specs.SoloTrace.{clocks_of, solo_trace}
-use Rattle.fsb_solo.proofs.KnownSamples.{known_solo}
+use Rattle.fsb_solo.proofs.EachSample.{known_solo, no_parity_of_solo}
 use Rattle.fsb_solo.proofs.LogSteps.{HasNamed, drop_at, take_at, has_named_more}
 use Rattle.fsb_solo.proofs.TraceSteps.{Runs, runs_more, runs_end, no_clocks, new_by_set, filled}
 use Rattle.fsb_solo.proofs.trace.trace_of.Goals as goal
@@ -41,3 +43,6 @@ returns-clause-trace c =
 
 pub returns-clause-known : goal.returns-clause-known
 returns-clause-known c = subst (λ w. IsTrue (is_known_trace w)) (sym (returns-clause-trace c)) (known_solo c.args.clocks c.args.settings.now c.args.items.now)
+
+pub returns-clause-no_parity : goal.returns-clause-no_parity
+returns-clause-no_parity c = subst (λ w. IsTrue (list_all has_no_parity w)) (sym (returns-clause-trace c)) (no_parity_of_solo c.args.clocks c.args.settings.now c.args.items.now)

@@ -8,8 +8,9 @@ returns-in-Ok-clause-judged g c tells run =
     record {
       read = checked.0;
       named = c.in-Ok.ensures.named tells tt;
+      marks = checked.1.marks;
       trace = checked.1.trace;
       reads = checked.1.reads;
       few = omega (arith, checked.1.clocks, c.tell.ensures.few);
-      told = tells_verdict c.tell.result c.in-Ok.finding checked.1.trace c.tell.ensures.told checked.1.judged;
+      told = tells_verdict c.tell.result c.in-Ok.finding checked.1.marks checked.1.trace c.tell.ensures.told checked.1.judged;
     }

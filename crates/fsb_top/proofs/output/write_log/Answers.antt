@@ -1,6 +1,6 @@
 use Rattle.std.proofs.Common.{arith, sym, ◌∙◌, refl, [], append-nil}
 use Rattle.std.proofs.lemmas.Result.{on_ok_weaker}
-use Rattle.fsb_io.proofs.Written.{written_none, written_more, written_part, written_all}
+use Rattle.fsb_io.proofs.Interface.{written_none, written_more, written_part, written_all}
 use Rattle.fsb_report.specs.LogText.{log_text, log_line_text}
 use Rattle.fsb_top.proofs.LinesAhead.{lines_ahead, lines_end}
 use Rattle.fsb_top.proofs.output.write_log.Goals as goal

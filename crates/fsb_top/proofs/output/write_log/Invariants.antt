@@ -1,6 +1,6 @@
 use Rattle.std.proofs.Common.{◌≡◌, ◌++◌, IsTrue, length, ◌≤◌, drop}
 use Rattle.std.specs.List.{flat_map}
-use Rattle.fsb_io.proofs.Written.{Written}
+use Rattle.fsb_io.proofs.Interface.{Written}
 use Rattle.fsb_report.specs.LogText.{log_text, log_line_text, end_line_text}
 use Rattle.fsb_top.proofs.output.write_log.Given as goal
 

@@ -4,6 +4,7 @@ use Rattle.vcd_read.specs.declared.stop.VcdStop.TheVariants as stops
 use Rattle.vcd_read.specs.Standing.{Scanned}
 use Rattle.vcd_read.specs.Answers.{Answers, stop_of_dump}
 use Rattle.vcd_read.proofs.Standings.{scanned_fits, scanned_more, reading_scanned}
+use Rattle.vcd_read.proofs.Marking.{ended_lines, whole_marks}
 use Rattle.vcd_read.proofs.Endings.{scan_dump_is, dump_read}
 use Rattle.vcd_read.proofs.dump.read_dump.Goals as goal
 
@@ -26,7 +27,9 @@ returns-in-None-clause-trace c =
     let h : Scanned c.absorb.new.self c.args.bytes.now = scanned_more c.in-Ok.scan c.absorb.new.self [] c.args.bytes.now (reading_scanned c.in-Ok.scan [] c.in-Ok.ensures) c.in-Ok-absorb.ensures.state in
     let lawful : stop_of_dump 200000 c.args.bytes.now ≡ None =
     sym (scan_dump_is c.absorb.new.self c.args.bytes.now 200000 _ _ c.in-Ok-finish.more h c.in-Ok-finish.ensures.fault c.in-Ok-finish.ensures.decided c.in-Ok-finish.ensures.rises) ∙ sym c.refusal.ensures ∙ c.in-None.is in
-    dump_read c.in-Ok.scan c.absorb.new.self c.args.bytes.now 200000 c.new-samples.result.items c.absorb.new.to.items c.finish.new.to.items c.in-Ok.ensures c.new-samples.ensures.items h c.in-Ok-absorb.ensures.samples c.in-Ok-finish.ensures.samples lawful
+    let read = dump_read c.in-Ok.scan c.absorb.new.self c.args.bytes.now 200000 c.new-samples.result.items c.absorb.new.to.items c.finish.new.to.items c.in-Ok.ensures c.new-samples.ensures.items h c.in-Ok-absorb.ensures.samples c.in-Ok-finish.ensures.samples lawful in
+    let lines = c.in-Ok-finish.ensures.lines ∙ ended_lines c.absorb.new.self c.args.bytes.now h in
+    (read.0, whole_marks c.args.bytes.now _ _ lines c.declared_marks.ensures, read.1)
 
 pub returns-clause-answer : goal.returns-clause-answer
 returns-clause-answer c =

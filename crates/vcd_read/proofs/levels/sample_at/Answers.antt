@@ -1,6 +1,6 @@
 use Rattle.std.proofs.Common.{◌%◌, ◌^◌, ◌<◌, ◌∙◌, lit<}
 use Rattle.std.proofs.Math.Nat.{mod-lt}
-use Rattle.fsb_signal.proofs.SameSample.{same_sample}
+use Rattle.fsb_signal.proofs.Interface.{same_sample}
 use Rattle.vcd_grammar.specs.Levels.{without, asserted_at, unknown_at}
 use Rattle.vcd_grammar.specs.LevelFacts.{without-apart, without-lt, control_of-lt}
 use Rattle.vcd_grammar.specs.Values.{sample_at, word_of}
@@ -10,10 +10,10 @@ pub invariant_of-result : goal.invariant_of-result
 unfolding without
 invariant_of-result c =
     let levels = c.args.levels.now in
-    let lines : c.asserted_lines-asserted.result < 2 ^ 18 = rw c.asserted_lines-asserted.ensures (control_of-lt (asserted_at levels)) in
+    let lines : c.asserted_lines-asserted.result < 2 ^ 21 = rw c.asserted_lines-asserted.ensures (control_of-lt (asserted_at levels)) in
     record {
       disjoint = without-apart c.asserted_lines-asserted.result c.unknown_lines-unknown.result;
-      line_bits = without-lt 18 _ c.unknown_lines-unknown.result lines;
+      line_bits = without-lt 21 _ c.unknown_lines-unknown.result lines;
       line_unknown = rw c.unknown_lines-unknown.ensures (control_of-lt (unknown_at levels));
       req_bits = rw c.word_of-req.ensures (without-lt 5 _ _ (mod-lt c.asserted_at.result (lit< tt)));
       req_unknown = rw c.word_of-req.ensures (mod-lt c.unknown_at.result (lit< tt));

@@ -1,5 +1,5 @@
 use Rattle.std.proofs.Common.{refl}
-use Rattle.fsb_signal.proofs.SameSample.{same_word}
+use Rattle.fsb_signal.proofs.Interface.{same_word}
 use Rattle.vcd_grammar.specs.Levels.{without}
 use Rattle.vcd_grammar.specs.LevelFacts.{without-apart}
 use Rattle.vcd_read.proofs.levels.word_of.Goals as goal

@@ -1,12 +1,12 @@
 use Rattle.std.proofs.Common.{rules, ◌≤◌, ◌+◌, ◌∷◌, [], length, codes, decimal, arith}
-use Rattle.fsb_signal.specs.Table.{entry_of}
+use Rattle.fsb_signal.specs.Table.{table_entry_of}
 use Rattle.fsb_signal.specs.DumpText.{range_text}
 use Rattle.vcd_write.proofs.HeaderText.{declaration_text-entry, entry_name-short, append_nine}
 use Rattle.vcd_write.proofs.header.put_declaration.Goals as goal
 
 pub put_text-requires-3 : goal.put_text-requires-3
 put_text-requires-3 g c =
-    let short : length c.signal_at-signal.result.now.name.now ≤ 7 = entry_name-short c.args.number (entry_of c.signal_at-signal.result.now) c.signal_at-signal.ensures in
+    let short : length c.signal_at-signal.result.now.name.now ≤ 7 = entry_name-short c.args.number (table_entry_of c.signal_at-signal.result.now) c.signal_at-signal.ensures in
     (search rules, omega (arith, short, c.requires.room, c.put_text.ensures.len, c.put_decimal.ensures.at_most, c.push.ensures.len, c.push-2.ensures.len, c.push-3.ensures.len, c.put_text-2.ensures.len, c.push-4.ensures.len, c.put_range.ensures.len))
 
 pub returns-clause-items : goal.returns-clause-items
@@ -17,5 +17,5 @@ returns-clause-items g c =
 
 pub returns-clause-len : goal.returns-clause-len
 returns-clause-len g c =
-    let short : length c.signal_at-signal.result.now.name.now ≤ 7 = entry_name-short c.args.number (entry_of c.signal_at-signal.result.now) c.signal_at-signal.ensures in
+    let short : length c.signal_at-signal.result.now.name.now ≤ 7 = entry_name-short c.args.number (table_entry_of c.signal_at-signal.result.now) c.signal_at-signal.ensures in
     omega (arith, short, c.requires.room, c.put_text.ensures.len, c.put_decimal.ensures.at_most, c.push.ensures.len, c.push-2.ensures.len, c.push-3.ensures.len, c.put_text-2.ensures.len, c.push-4.ensures.len, c.put_range.ensures.len, c.put_text-3.ensures.len)

@@ -1,6 +1,6 @@
 use Rattle.std.proofs.Common.{append-nil, arith, sym}
 use Rattle.fsb_signal.specs.DumpText.{texts_from}
-use Rattle.fsb_signal.proofs.Texts.{texts_from-step}
+use Rattle.fsb_signal.proofs.Interface.{texts_from-step}
 use Rattle.vcd_write.proofs.header.put_declarations.Goals as goal
 
 pub loop-number-init : goal.loop-number-init

@@ -1,7 +1,7 @@
 use Rattle.std.proofs.Common.{append-nil, ◌≡◌, ◌+◌, ◌-◌, ◌≤◌, arith, sym, ◌++◌, subst}
 use Rattle.arrayvec.specs.ArrayVec.{array_vec_len}
-use Rattle.fsb_signal.specs.DumpText.{texts_from, sample_value_text}
-use Rattle.fsb_signal.proofs.Texts.{texts_from-step}
+use Rattle.fsb_signal.specs.DumpText.{entries_in, texts_from, sample_value_text}
+use Rattle.fsb_signal.proofs.Interface.{texts_from-step}
 use Rattle.vcd_write.specs.Room.{values_room}
 use Rattle.vcd_write.proofs.RoomFacts.{values_room-next}
 use Rattle.vcd_write.proofs.value.put_values.Goals as goal
@@ -18,10 +18,10 @@ loop-number-preserved g c = record {
 
 pub returns-clause-items : goal.returns-clause-items
 returns-clause-items g c =
-    let end : c.loop-number.number ≡ 20 = omega (arith, c.loop-number-test.false, c.loop-number.auto.number-end) in
+    let end : c.loop-number.number ≡ entries_in c.args.profile = omega (arith, c.loop-number-test.false, c.loop-number.auto.number-end, c.entries_in-number-end.ensures.value) in
     subst (λ n. c.loop-number.text.items ≡ c.args.text.now.items ++ texts_from (sample_value_text c.args.sample.now) 1 (n - 1)) end c.loop-number.invariant.items
 
 pub returns-clause-len : goal.returns-clause-len
 returns-clause-len g c =
-    let end : c.loop-number.number ≡ 20 = omega (arith, c.loop-number-test.false, c.loop-number.auto.number-end) in
+    let end : c.loop-number.number ≡ entries_in c.args.profile = omega (arith, c.loop-number-test.false, c.loop-number.auto.number-end, c.entries_in-number-end.ensures.value) in
     subst (λ n. array_vec_len c.loop-number.text ≤ array_vec_len c.args.text.now + values_room n) end c.loop-number.invariant.len

@@ -1,20 +1,37 @@
-use Rattle.std.proofs.Common.{◌≡◌, ◌∙◌, ◌++◌, None, sym, ap, subst, refl, arith, ℕ, List}
-use Rattle.fsb_signal.specs.declared.sample.Sample.{Sample}
-use Rattle.vcd_grammar.specs.Reading.{samples_so_far, samples_of}
+use Rattle.std.proofs.Common.{◌≡◌, ◌∙◌, None, Some, sym, refl, arith, ℕ, List}
+use Rattle.vcd_grammar.specs.Reading.{marks_of, marks_so_far, samples_so_far, samples_of}
 use Rattle.vcd_read.specs.Standing.{refusal_of}
-use Rattle.fsb_check.specs.Judging.{HasJudged, Stood}
-use Rattle.fsb_check.proofs.JudgeSteps.{not_refused, Finished, finished, refused_end, refused_same, answers_bad, answers_long, is_bad_at_end, has_many_at_end}
+use Rattle.fsb_check.specs.Judging.{Stood}
+use Rattle.fsb_check.proofs.JudgeSteps.{end_judged, marks_at_end, not_refused, Finished, finished, refused_end, refused_same, answers_bad, answers_long, is_bad_at_end, has_many_at_end}
 use Rattle.fsb_check.proofs.judge.Judge.end.Goals as goal
 
-pub judge-requires : goal.judge-requires
-judge-requires c =
+pub judge_more-requires : goal.judge_more-requires
+judge_more-requires c =
     let fed : List ℕ = c.requires.0 in
     let stood : Stood c.args.self.now fed = c.requires.1 in
     let none : refusal_of c.args.self.now.reader ≡ None = not_refused _ _ refl c.in-Ok.ensures.again in
     let now : Finished fed c.finish.new.to.items =
     finished _ fed _ _ stood.limit c.clear.ensures.items (c.in-Ok.ensures.answer fed stood.reader none)
     (c.in-Ok.ensures.samples fed stood.reader none) in
-    (samples_so_far fed, stood.judged none, (let e = c.as_slice.ensures.value in rw e (omega (arith, now.few))))
+    let told : c.marks.result ≡ Some (marks_of fed) = c.marks.ensures.told ∙ c.in-Ok.ensures.marks fed stood.reader in (
+      c.marks.result,
+      samples_so_far fed,
+      c.begin.ensures (marks_so_far fed) (samples_so_far fed) (stood.judged none) (marks_at_end fed c.marks.result told),
+      (let e = c.as_slice.ensures.value in rw e (omega (arith, now.few))),
+    )
+
+pub finding_of-requires : goal.finding_of-requires
+finding_of-requires c =
+    let fed : List ℕ = c.requires.0 in
+    let stood : Stood c.args.self.now fed = c.requires.1 in
+    let none : refusal_of c.args.self.now.reader ≡ None = not_refused _ _ refl c.in-Ok.ensures.again in
+    let now : Finished fed c.finish.new.to.items =
+    finished _ fed _ _ stood.limit c.clear.ensures.items (c.in-Ok.ensures.answer fed stood.reader none)
+    (c.in-Ok.ensures.samples fed stood.reader none) in
+    let told : c.marks.result ≡ Some (marks_of fed) = c.marks.ensures.told ∙ c.in-Ok.ensures.marks fed stood.reader in
+    let judged = end_judged _ _ c.marks.result fed _ _ told c.as_slice.ensures.value now
+    (c.begin.ensures (marks_so_far fed) (samples_so_far fed) (stood.judged none) (marks_at_end fed c.marks.result told)) c.judge_more.ensures in
+    (marks_of fed, samples_of fed, judged)
 
 pub returns-in-Ok : goal.returns-in-Ok
 returns-in-Ok c fed stood =
@@ -22,15 +39,15 @@ returns-in-Ok c fed stood =
     let now : Finished fed c.finish.new.to.items =
     finished _ fed _ _ stood.limit c.clear.ensures.items (c.in-Ok.ensures.answer fed stood.reader none)
     (c.in-Ok.ensures.samples fed stood.reader none) in
-    let judged : HasJudged c.judge.new.self (samples_of fed) =
-    subst (λ (w : List Sample). HasJudged c.judge.new.self w)
-    (ap (λ items. samples_so_far fed ++ items) c.as_slice.ensures.value ∙ now.whole)
-    (c.judge.ensures (samples_so_far fed) (stood.judged none)) in
+    let told : c.marks.result ≡ Some (marks_of fed) = c.marks.ensures.told ∙ c.in-Ok.ensures.marks fed stood.reader in
+    let judged = end_judged _ _ c.marks.result fed _ _ told c.as_slice.ensures.value now
+    (c.begin.ensures (marks_so_far fed) (samples_so_far fed) (stood.judged none) (marks_at_end fed c.marks.result told)) c.judge_more.ensures in
     record {
+      marks = marks_of fed;
       trace = samples_of fed;
-      reads = (now.clear, refl);
-      clocks = c.finding.ensures.clocks ∙ judged.clocks;
-      judged = c.finding.ensures.broken ∙ judged.broken;
+      reads = (now.clear, refl, refl);
+      clocks = c.finding_of.ensures.clocks (marks_of fed) (samples_of fed) judged;
+      judged = c.finding_of.ensures.broken (marks_of fed) (samples_of fed) judged;
     }
 
 pub returns-in-Err-Bad : goal.returns-in-Err-Bad

@@ -1,12 +1,13 @@
-use Rattle.vcd_grammar.specs.Reading.{samples_so_far, fault_so_far}
+use Rattle.std.proofs.Common.{refl}
+use Rattle.vcd_grammar.specs.Reading.{marks_so_far, samples_so_far, fault_so_far}
 use Rattle.vcd_read.specs.Answers.{stop_so_far}
 use Rattle.fsb_check.proofs.judge.Judge.new.Goals as goal
 
 pub returns : goal.returns
-unfolding stop_so_far samples_so_far fault_so_far
+unfolding stop_so_far marks_so_far samples_so_far fault_so_far
 returns c = record {
   reader = c.in_ok-new.ensures.stands;
   limit = c.in_ok-new.ensures.limit;
   refused = c.in_ok-new.ensures.fresh;
-  judged = λ none. c.new-2.ensures;
+  judged = λ none. refl;
 }

@@ -1,20 +1,28 @@
-use Rattle.std.proofs.Common.{◌≡◌, ◌∙◌, ◌++◌, None, sym, ap, subst, refl, arith, ℕ, List}
+use Rattle.std.proofs.Common.{◌≡◌, ◌∙◌, ◌++◌, Option, None, sym, ap, subst, refl, arith, ℕ, List}
+use Rattle.fsb_signal.specs.declared.marks.Marks.{Marks}
 use Rattle.fsb_signal.specs.declared.sample.Sample.{Sample}
-use Rattle.vcd_grammar.specs.Reading.{samples_so_far}
+use Rattle.vcd_grammar.specs.Reading.{marks_so_far, samples_so_far}
+use Rattle.vcd_grammar.proofs.Interface.{marks-first, marks-longer}
 use Rattle.vcd_read.specs.Standing.{refusal_of}
-use Rattle.fsb_check.specs.Judging.{HasJudged, Stood}
-use Rattle.fsb_check.proofs.JudgeSteps.{not_refused, Took, took, refused_now, refused_same, answers_bad, answers_long, not_both}
+use Rattle.fsb_check.specs.Judging.{IsJudging, Stood}
+use Rattle.fsb_check.proofs.JudgeSteps.{none_more, not_refused, Took, took, refused_now, refused_same, answers_bad, answers_long, not_both}
 use Rattle.fsb_check.proofs.judge.Judge.take.Goals as goal
 
-pub judge-requires : goal.judge-requires
-judge-requires c =
+pub judge_more-requires : goal.judge_more-requires
+judge_more-requires c =
     let fed : List ℕ = c.requires.0 in
     let stood : Stood c.args.self.now fed = c.requires.1 in
     let none : refusal_of c.args.self.now.reader ≡ None = not_refused _ _ refl c.in-Ok.ensures.again in
     let now : Took fed c.args.piece.now c.feed.new.to.items =
     took _ fed _ _ _ stood.limit c.clear.ensures.items (c.in-Ok.ensures.answer fed stood.reader none)
     (c.in-Ok.ensures.samples fed stood.reader none) in
-    (samples_so_far fed, stood.judged none, (let e = c.as_slice.ensures.value in rw e (omega (arith, now.few))))
+    let told : c.marks.result ≡ marks_so_far (fed ++ c.args.piece.now) =
+    c.marks.ensures.marks (fed ++ c.args.piece.now) (c.in-Ok.ensures.stands fed stood.reader) c.in-Ok.ensures.refusal in (
+      c.marks.result,
+      samples_so_far fed,
+      c.begin.ensures (marks_so_far fed) (samples_so_far fed) (stood.judged none) (λ m e. told ∙ marks-longer fed c.args.piece.now m e),
+      (let e = c.as_slice.ensures.value in rw e (omega (arith, now.few))),
+    )
 
 pub returns-in-Ok : goal.returns-in-Ok
 returns-in-Ok c fed stood =
@@ -22,13 +30,18 @@ returns-in-Ok c fed stood =
     let now : Took fed c.args.piece.now c.feed.new.to.items =
     took _ fed _ _ _ stood.limit c.clear.ensures.items (c.in-Ok.ensures.answer fed stood.reader none)
     (c.in-Ok.ensures.samples fed stood.reader none) in
+    let told : c.marks.result ≡ marks_so_far (fed ++ c.args.piece.now) =
+    c.marks.ensures.marks (fed ++ c.args.piece.now) (c.in-Ok.ensures.stands fed stood.reader) c.in-Ok.ensures.refusal in
+    let begun = c.begin.ensures (marks_so_far fed) (samples_so_far fed) (stood.judged none) (λ m e. told ∙ marks-longer fed c.args.piece.now m e) in
+    let whole = ap (λ items. samples_so_far fed ++ items) c.as_slice.ensures.value ∙ now.whole in
+    let judged = c.judge_more.ensures c.marks.result (samples_so_far fed) begun
+    (λ n. none_more (samples_so_far fed) _ _ whole (marks-first (fed ++ c.args.piece.now) (sym told ∙ n))) in
     record {
       reader = c.in-Ok.ensures.stands fed stood.reader;
       limit = c.in-Ok.ensures.limit ∙ stood.limit;
       refused = c.in-Ok.ensures.refusal ∙ sym now.clear;
-      judged = λ clear. subst (λ (w : List Sample). HasJudged c.judge.new.self w)
-          (ap (λ items. samples_so_far fed ++ items) c.as_slice.ensures.value ∙ now.whole)
-          (c.judge.ensures (samples_so_far fed) (stood.judged none));
+      judged = λ clear. subst (λ (marks : Option Marks). IsJudging c.judge_more.new.running marks (samples_so_far (fed ++ c.args.piece.now))) told
+          (subst (λ (w : List Sample). IsJudging c.judge_more.new.running c.marks.result w) whole judged);
     }
 
 pub returns-in-Err-Bad : goal.returns-in-Err-Bad

@@ -4,7 +4,7 @@ use Rattle.fsb_trace.specs.Requests.{live_count, live_clock_of}
 use Rattle.fsb_trace.specs.Snoop.{snoop_end_of, snoop_end_if, start_after_clock}
 use Rattle.fsb_trace.specs.Response.{ready_clock_of, ready_after, clock_after_snoop, answer_from, two_after_snoop}
 use Rattle.fsb_laws.specs.Progress.{response_count, transfer_of, transfer_after}
-use Rattle.fsb_laws.proofs.OrderlySteps.{orderly-empty}
+use Rattle.fsb_laws.proofs.Interface.{orderly-empty}
 use Rattle.fsb_phase.specs.Phases.{value_before, snooped_count, last_snoop_end, last_response}
 use Rattle.fsb_phase.proofs.phases.Phases.new.Goals as goal
 

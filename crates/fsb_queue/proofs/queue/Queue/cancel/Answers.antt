@@ -1,7 +1,7 @@
 use Rattle.std.proofs.Common.{[], ◌∷◌, ◌++◌, ◌≡◌, ◌<◌, ◌≤◌, length, take, drop, None, refl, sym, ap, ◌∙◌, true, is_some, ◌⊎◌, inl, inr, arith}
 use Rattle.std.proofs.lemmas.Bool.{eq-eqb}
 use Rattle.std.proofs.lemmas.List.{append-nil}
-use Rattle.fsb_count.proofs.Options.{is_some-none}
+use Rattle.fsb_count.proofs.Interface.{is_some-none}
 use Rattle.circular_buffer.specs.Buffer.{keep_last}
 use Rattle.fsb_queue.specs.Entries.{entry_of, without}
 use Rattle.fsb_queue.proofs.EntryLists.{passed_found, passed_kept, passed_there}

@@ -1,5 +1,6 @@
 use Rattle.std.proofs.Common.{None, sym, ap, ◌∙◌, subst, [], ◌∷◌, ◌++◌}
-use Rattle.fsb_count.proofs.Options.{is_some-none}
+use Rattle.fsb_count.proofs.Interface.{is_some-none}
+use Rattle.fsb_signal.specs.declared.marks.Marks.{Marks}
 use Rattle.fsb_trace.specs.At.{Trace}
 use Rattle.fsb_rules.specs.Checker.{Stands}
 use Rattle.fsb_rules.proofs.Feeds.{FeedStep, queue_few, queue_room, outstanding_room, absorb_stands, broken_stands, was_found}
@@ -8,53 +9,53 @@ use Rattle.fsb_rules.proofs.checker.Checker.feed.Goals.{then-is_none+in-Some, th
 
 pub absorb-requires-clause-few : goal.absorb-requires-clause-few
 absorb-requires-clause-few c =
-    queue_few c.args.self.now c.requires.0 c.requires.1 (is_some-none c.args.self.now.found c.if-is_none.ensures)
+    queue_few c.requires.0 c.args.self.now c.requires.1 c.requires.2 (is_some-none c.args.self.now.found c.if-is_none.ensures)
 
 pub absorb-requires-clause-room : goal.absorb-requires-clause-room
 absorb-requires-clause-room c =
     let none = is_some-none c.args.self.now.found c.if-is_none.ensures in
-    queue_room c.args.self.now c.requires.0 c.args.sample.now c.begun-begun.result c.winner-winner.result c.first_broken.result (record {
-      stands = c.requires.1;
+    queue_room c.requires.0 c.args.self.now c.requires.1 c.args.sample.now c.begun-begun.result c.winner-winner.result c.first_broken.result (record {
+      stands = c.requires.2;
       none = none;
       begun = c.begun-begun.ensures;
-      winner_is = c.winner-winner.ensures c.requires.0 (c.requires.1.follows none).arbiter;
+      winner_is = c.winner-winner.ensures c.requires.1 (c.requires.2.follows none).arbiter;
       rule_is = c.first_broken.ensures;
     })
 
 pub absorb-requires-clause-open_room : goal.absorb-requires-clause-open_room
 absorb-requires-clause-open_room c =
     let none = is_some-none c.args.self.now.found c.if-is_none.ensures in
-    outstanding_room c.args.self.now c.requires.0 c.args.sample.now c.begun-begun.result c.winner-winner.result (record {
-      stands = c.requires.1;
+    outstanding_room c.requires.0 c.args.self.now c.requires.1 c.args.sample.now c.begun-begun.result c.winner-winner.result (record {
+      stands = c.requires.2;
       none = none;
       begun = c.begun-begun.ensures;
-      winner_is = c.winner-winner.ensures c.requires.0 (c.requires.1.follows none).arbiter;
+      winner_is = c.winner-winner.ensures c.requires.1 (c.requires.2.follows none).arbiter;
       rule_is = sym c.in-None.is ∙ c.first_broken.ensures;
     })
 
-stands : (c : goal.After-result-1) (h : Trace) → Stands c.args.self.now h → Stands c.if-is_none.self (h ++ c.args.sample.now ∷ [])
-stands c h s =
+stands : (c : goal.After-result-1) (m : Marks) (h : Trace) → Stands c.args.self.now m h → Stands c.if-is_none.self m (h ++ c.args.sample.now ∷ [])
+stands c m h s =
     elim c.if-is_none.branch [
       | then-is_none+in-Some w ↦
           let none = is_some-none c.args.self.now.found w.if-is_none.ensures in
-          broken_stands c.args.self.now c.if-is_none.self h c.args.sample.now w.begun-begun.result w.winner-winner.result _ (record {
+          broken_stands m c.args.self.now c.if-is_none.self h c.args.sample.now w.begun-begun.result w.winner-winner.result _ (record {
             stands = s;
             none = none;
             begun = w.begun-begun.ensures;
             winner_is = w.winner-winner.ensures h (s.follows none).arbiter;
             rule_is = sym w.in-Some.is ∙ w.first_broken.ensures;
-          }) (ap (λ k. k.found) w.self-is)
+          }) (ap (λ k. k.marks) w.self-is) (ap (λ k. k.found) w.self-is)
       | then-is_none+in-None w ↦
           let none = is_some-none c.args.self.now.found w.if-is_none.ensures in
-          let step : FeedStep c.args.self.now h c.args.sample.now w.begun-begun.result w.winner-winner.result None = record {
+          let step : FeedStep m c.args.self.now h c.args.sample.now w.begun-begun.result w.winner-winner.result None = record {
             stands = s;
             none = none;
             begun = w.begun-begun.ensures;
             winner_is = w.winner-winner.ensures h (s.follows none).arbiter;
             rule_is = sym w.in-None.is ∙ w.first_broken.ensures;
           } in
-          subst (λ k. Stands k (h ++ c.args.sample.now ∷ [])) (sym w.self-is)
-          (absorb_stands c.args.self.now _ h c.args.sample.now w.begun-begun.result w.winner-winner.result step w.absorb.ensures.found (record {
+          subst (λ k. Stands k m (h ++ c.args.sample.now ∷ [])) (sym w.self-is)
+          (absorb_stands m c.args.self.now _ h c.args.sample.now w.begun-begun.result w.winner-winner.result step w.absorb.ensures.marks w.absorb.ensures.found (record {
             clock = w.absorb.ensures.clock;
             first = w.absorb.ensures.first;
             second = w.absorb.ensures.second;
@@ -73,12 +74,12 @@ stands c h s =
             before = w.absorb.ensures.before;
           }))
       | else-is_none w ↦
-          subst (λ k. Stands k (h ++ c.args.sample.now ∷ [])) (sym w.self-is)
-          (was_found c.args.self.now h c.args.sample.now s w.if-is_none.ensures)
+          subst (λ k. Stands k m (h ++ c.args.sample.now ∷ [])) (sym w.self-is)
+          (was_found m c.args.self.now h c.args.sample.now s w.if-is_none.ensures)
     ]
 
 pub returns-clause-verdict : goal.returns-clause-verdict
-returns-clause-verdict c = λ h s. (stands c h s).found
+returns-clause-verdict c = λ m h s. (stands c m h s).found
 
 pub returns-clause-stands : goal.returns-clause-stands
 returns-clause-stands c = stands c

@@ -3,7 +3,7 @@ use Rattle.fsb_rules.proofs.StartFollows.{new_stands}
 use Rattle.fsb_rules.proofs.checker.Checker.new.Goals as goal
 
 pub returns : goal.returns
-returns c = new_stands _ (record {
+returns c = new_stands _ _ (record {
   found = refl;
   clock = refl;
   first = c.new.ensures.first;
@@ -19,4 +19,4 @@ returns c = new_stands _ (record {
   ready = c.new-3.ensures.ready;
   current = c.new-4.ensures.current;
   before = c.new-4.ensures.before;
-})
+}) refl

@@ -14,6 +14,7 @@ invariant_of-self c =
       some_cache = cache_some c.in_ok-lines.lines lawful;
       lawful_cache = lawful;
       counts = s.counts;
+      lawful_profile = s.lawful_profile;
       lawful_bridge = s.lawful_bridge;
       lawful_mem = s.lawful_mem;
       lawful_hazards = s.lawful_hazards;

@@ -16,6 +16,7 @@ invariant_of-self-2 c =
       some_cache = s.some_cache;
       lawful_cache = s.lawful_cache;
       counts = s.counts;
+      lawful_profile = s.lawful_profile;
       lawful_bridge = s.lawful_bridge;
       lawful_mem = s.lawful_mem;
       lawful_hazards = s.lawful_hazards;

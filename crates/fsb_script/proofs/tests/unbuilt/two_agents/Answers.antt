@@ -11,6 +11,7 @@ invariant_of-result c = record {
   some_cache = lit< tt;
   lawful_cache = refl;
   counts = refl;
+  lawful_profile = refl;
   lawful_bridge = refl;
   lawful_mem = all_none is_lawful_setting _ c.new.ensures;
   lawful_hazards = hazards_empty _ c.new-7.ensures;

@@ -1,19 +1,14 @@
-use Rattle.std.proofs.Common.{Result, Ok, Err, sym, ◌∙◌, ap}
-use Rattle.std.specs.Result.{OnOk}
+use Rattle.std.proofs.Common.{sym, ◌∙◌, ap}
 use Rattle.vcd_read.specs.View.{mode_of}
 use Rattle.vcd_read.specs.Taking.{taken}
+use Rattle.vcd_read.proofs.Absorbing.{ok_anyway}
 use Rattle.vcd_read.proofs.Quiet.{silent_variable, silent_closing}
 use Rattle.vcd_read.proofs.machine.Machine.take.Goals as goal
-
--- what holds anyway holds on success
-ok_weaker : {T E P : Type 0} (r : Result T E) → P → OnOk r P
-ok_weaker (Ok x) p = p
-ok_weaker (Err e) p = tt
 
 pub returns-in-Variable-clause-samples : goal.returns-in-Variable-clause-samples
 returns-in-Variable-clause-samples c =
     let m = c.args.self.now in
-    ok_weaker c.variable.result (silent_variable (taken m) _ _ c.args.limit m.decided c.args.to.now.items (sym c.is_some.ensures ∙ c.if-is_some.false) (ap (λ mode. mode_of mode m.code.items m.digits.items) c.in-Variable.is))
+    ok_anyway c.variable.result (silent_variable (taken m) _ _ c.args.limit m.decided c.args.to.now.items (sym c.is_some.ensures ∙ c.if-is_some.false) (ap (λ mode. mode_of mode m.code.items m.digits.items) c.in-Variable.is))
 
 pub returns-in-Closing-clause-samples : goal.returns-in-Closing-clause-samples
 returns-in-Closing-clause-samples c =

@@ -1,8 +1,9 @@
 use Rattle.std.proofs.Common.{◌++◌, sym, ap, ◌∙◌, subst, take}
-use Rattle.vcd_grammar.specs.Reading.{samples_so_far}
-use Rattle.vcd_read.specs.Standing.{Scanned}
-use Rattle.vcd_read.specs.Answers.{Answers, AppendsBy, result_of, stop_so_far}
+use Rattle.vcd_grammar.specs.Reading.{samples_so_far, marks_so_far}
+use Rattle.vcd_read.specs.Standing.{Scanned, marks_told}
+use Rattle.vcd_read.specs.Answers.{Answers, AppendsBy, result_of, stop_so_far, TellsMarks}
 use Rattle.vcd_read.proofs.Standings.{scanned_fits, scanned_more, answers_of, appends_of, stop_is, few_where_none, faultless_where_none, fed_appends, fed_part, ok_of}
+use Rattle.vcd_read.proofs.Marking.{scanned_marks, told_by}
 use Rattle.vcd_read.proofs.reader.Reader.absorb.Goals as goal
 
 pub absorb-requires-clause-fits : goal.absorb-requires-clause-fits
@@ -39,3 +40,11 @@ pub returns-in-Err-clause-samples : goal.returns-in-Err-clause-samples
 returns-in-Err-clause-samples c = λ fed w.
     let r = c.args.self.now in
     fed_part r.limit r.scan fed c.args.piece.now c.args.to.now.items c.absorb.new.to.items w.scanned w.few c.in-Err.ensures.part
+
+pub returns-in-Ok-clause-marks : goal.returns-in-Ok-clause-marks
+returns-in-Ok-clause-marks c = λ fed w.
+    let s = c.absorb.new.self in
+    let told = marks_so_far (fed ++ c.args.piece.now) in
+    let more : Scanned s (fed ++ c.args.piece.now) = scanned_more c.args.self.now.scan s fed c.args.piece.now w.scanned c.in-Ok.ensures.state in
+    subst (λ a. TellsMarks a told (marks_told c.args.self.now) c.marks-self.result) (sym c.answer.ensures)
+    (told_by _ s.machine.fault told (marks_told c.args.self.now) c.marks-self.result (c.marks-self.ensures ∙ scanned_marks s (fed ++ c.args.piece.now) more))

@@ -2,6 +2,8 @@ use Rattle.std.proofs.Common.{sym, ap, ◌∙◌, subst}
 use Rattle.vcd_grammar.specs.Reading.{samples_so_far, samples_before_end, samples_of}
 use Rattle.vcd_read.specs.Answers.{Answers, AppendsAtEnd, result_of, stop_at_end}
 use Rattle.vcd_read.proofs.Standings.{scanned_fits, answers_of}
+use Rattle.vcd_read.proofs.Absorbing.{ok_anyway}
+use Rattle.vcd_read.proofs.Marking.{ended_lines}
 use Rattle.vcd_read.proofs.Endings.{scan_stop_is, scan_appends, scan_part}
 use Rattle.vcd_read.proofs.reader.Reader.end.Goals as goal
 
@@ -24,3 +26,6 @@ pub returns-in-Err-clause-samples : goal.returns-in-Err-clause-samples
 returns-in-Err-clause-samples c = λ fed w.
     let r = c.args.self.now in
     scan_part r.scan fed r.limit c.args.to.now.items c.finish.new.to.items w.scanned w.few c.in-Err.ensures.part
+
+pub returns-in-Ok-clause-declared : goal.returns-in-Ok-clause-declared
+returns-in-Ok-clause-declared c = ok_anyway c.end_answer.result (λ fed w. c.in-Ok.ensures.lines ∙ ended_lines c.args.self.now.scan fed w.scanned)

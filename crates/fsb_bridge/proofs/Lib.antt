@@ -1,0 +1,10 @@
+pub mod Places
+pub mod Matched
+pub mod Rest
+pub mod Pending
+pub mod Entries
+pub mod Waits
+pub mod Due
+pub mod Taken
+pub mod Responses
+pub mod Interface

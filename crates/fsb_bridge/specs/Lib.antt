@@ -1,0 +1,2 @@
+pub mod Deferrals
+pub mod Standing

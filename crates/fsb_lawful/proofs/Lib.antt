@@ -1,0 +1,12 @@
+pub mod Keeping
+pub mod Cuts
+pub mod KnownWords
+pub mod Beginnings
+pub mod AddressErrors
+pub mod SnoopLines
+pub mod BusLock
+pub mod Begun
+pub mod Codes
+pub mod OwnIds
+pub mod Identity
+pub mod EvenParity

@@ -1,0 +1,91 @@
+-- Rule 11: the snoop lines of a timely run are at snoop clocks alone.
+use Rattle.std.proofs.Common.{ℕ, zero, suc, ◌+◌, ◌<◌, ◌≡◌, Bool, true, false, not, ◌&&◌, ◌||◌, Option, Some, None, length, take, refl, sym, ap, ◌∙◌, arith}
+use Rattle.std.specs.Option.{option_and_then}
+use Rattle.std.proofs.lemmas.Bool.{and_parts, le-ltb, lt-ltb}
+use Rattle.fsb_count.specs.Options.{is_some_and, is_before}
+use Rattle.fsb_count.proofs.Interface.{any_where-at, first_where-found}
+use Rattle.fsb_signal.specs.declared.lines.TheConstants.Lines.{HIT, HITM, DEFER}
+use Rattle.fsb_signal.specs.declared.marks.Marks.{Marks}
+use Rattle.fsb_signal.specs.Samples.{line_at}
+use Rattle.fsb_trace.specs.At.{Trace, stalls_at}
+use Rattle.fsb_trace.specs.Requests.{live_count}
+use Rattle.fsb_trace.specs.Snoop.{is_every_second_from, ends_snoop, snoop_end_from, snoop_end_if, snoop_end_of, snoop_start_of, is_snoop_clock_of, is_snoop_clock}
+use Rattle.fsb_trace.specs.Rules.{is_snoop_line_alone}
+use Rattle.fsb_trace.proofs.Interface.{breaks-11, live_below_count, snoop_end_of-clock}
+use Rattle.fsb_timely.specs.Moments.{moment_at, snoop_at, number_snooped_at}
+use Rattle.fsb_timely.specs.Past.{Past, SnoopEnd}
+use Rattle.fsb_timely.specs.Runs.{Run, run_to, past_of, past_to}
+use Rattle.fsb_timely.specs.Snoops.{is_keep, is_put_off, drives_bnr, drives_aerr, drives_stalls, drives_defer, keeps_snoop_lines, drives_hazards}
+use Rattle.fsb_timely.specs.Timely.{holds_in, holds_at, Timely}
+use Rattle.fsb_timely.proofs.Interface.{moment_of, number-says, snooped-there}
+use Rattle.fsb_lawful.specs.Keeps.{Keeps}
+use Rattle.fsb_lawful.proofs.Cuts.{snooped-to}
+use Rattle.fsb_lawful.proofs.Keeping.{and5, same-beq, keeps}
+
+-- a snoop end is that of a snoop that starts
+end_of_start : (w : Trace) (i : ℕ) → snoop_end_of w i ≡ snoop_end_if w (snoop_start_of w i)
+unfolding snoop_end_of snoop_start_of
+end_of_start w zero = refl
+end_of_start w (suc i) = refl
+
+second_by : (w : Trace) (s : ℕ) (o : Option ℕ) → option_and_then (snoop_end_from w) o ≡ Some s → is_some_and o (λ start. is_every_second_from start s) ≡ true
+unfolding is_some_and snoop_end_from ends_snoop
+second_by w s None e = absurd (let no : ⊥ = cc in no)
+second_by w s (Some n) e =
+    let h = first_where-found (ends_snoop w n) (length w) s e in (and_parts (is_every_second_from n s) (not (stalls_at w s)) h.1).0
+
+-- it is every second clock from that start
+second : (w : Trace) (i s : ℕ) → snoop_end_of w i ≡ Some s → is_some_and (snoop_start_of w i) (λ start. is_every_second_from start s) ≡ true
+unfolding snoop_end_if
+second w i s e = second_by w s (snoop_start_of w i) (sym (end_of_start w i) ∙ e)
+
+not-before : (s : ℕ) (o : Option ℕ) → o ≡ Some s → not (is_before o s) ≡ true
+unfolding is_before is_some_and
+not-before s o e = rw (e, le-ltb s s (omega arith)) refl
+
+-- a snoop end is a snoop clock
+pub end-is_snoop_clock : (w : Trace) (i s : ℕ) → snoop_end_of w i ≡ Some s → is_snoop_clock w s ≡ true
+unfolding is_snoop_clock is_snoop_clock_of
+end-is_snoop_clock w i s e =
+    let h = snoop_end_of-clock w i s e in
+    any_where-at (is_snoop_clock_of w s) (live_count w) i (live_below_count w i h.clock h.is_clock) (rw (lt-ltb s (length w) h.within, second w i s e, not-before s (snoop_end_of w i) e) refl)
+
+-- where the moment of a clock has a snoop end, the clock is one
+numbered : (r : Run) (c : ℕ) (test : SnoopEnd → Bool) (o : Option ℕ) → number_snooped_at (run_to r c).trace c ≡ o → is_some_and (moment_of r c).snooped test ≡ true → (i : ℕ) × (snoop_end_of (run_to r c).trace i ≡ Some c)
+unfolding is_some_and snoop_at moment_at
+numbered r c test None e h = let no : false ≡ true = rw (e, snoop_at) at h in absurd (cc no)
+numbered r c test (Some i) e h = (i, number-says (run_to r c).trace i c e)
+
+put_off-end : (r : Run) (c : ℕ) → c < length r.trace → is_put_off (past_to (past_of r) c) c ≡ true → (i : ℕ) × (snoop_end_of (run_to r c).trace i ≡ Some c)
+unfolding is_put_off
+put_off-end r c l h =
+    let there = snooped-to (past_of r) c c (omega arith) ∙ snooped-there r c l in
+    numbered r c (λ s. not (is_keep s.turn)) (number_snooped_at (run_to r c).trace c) refl (sym (ap (λ o. is_some_and o (λ s. not (is_keep s.turn))) there) ∙ h)
+
+alone : (h m d k : Bool) → (k || not (h || m)) ≡ true → (d ≡ true → k ≡ true) → ((h || m || d) && not k) ≡ false
+alone h m d true e f = and-not-true (h || m || d)
+  where
+    and-not-true : (b : Bool) → (b && false) ≡ false
+    and-not-true true = refl
+    and-not-true false = refl
+alone true m d false e f = absurd (let no : ⊥ = cc in no)
+alone false true d false e f = absurd (let no : ⊥ = cc in no)
+alone false false true false e f = sym (f refl)
+alone false false false false e f = refl
+
+by-parts : (r : Run) (p : Past) (c : ℕ) → drives_hazards r p c ≡ true → (is_put_off p c ≡ true → is_snoop_clock r.trace c ≡ true) → is_snoop_line_alone r.trace c ≡ false
+unfolding drives_hazards drives_defer keeps_snoop_lines is_snoop_line_alone
+by-parts r p c e f =
+    let a = and5 (drives_bnr r c) (drives_aerr r c) (drives_stalls r c) (drives_defer r p c) (keeps_snoop_lines r c) e in
+    let same = same-beq (line_at DEFER r.trace c) (is_put_off p c) a.3 in
+    alone (line_at HIT r.trace c) (line_at HITM r.trace c) (line_at DEFER r.trace c) (is_snoop_clock r.trace c) a.4 (λ t. f (sym same ∙ t))
+
+at-clock : (r : Run) (c : ℕ) → Timely r → c < length r.trace → is_snoop_line_alone (run_to r c).trace c ≡ false
+unfolding holds_at holds_in
+at-clock r c h l =
+    by-parts (run_to r c) (past_to (past_of r) c) c (h.hazard_lines.at c l) (λ t. let e = put_off-end r c l t in end-is_snoop_clock (run_to r c).trace e.0 c e.1)
+
+-- rule 11
+pub keeps-11 : (m : Marks) (r : Run) → Timely r → Keeps m 11 r.trace
+unfolding run_to
+keeps-11 m r h = keeps m 11 r.trace (λ c l. breaks-11 m (take (c + 1) r.trace) c ∙ at-clock r c h l)

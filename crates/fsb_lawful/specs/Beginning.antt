@@ -1,0 +1,11 @@
+-- What is known of the requests that begin in a run.
+use Rattle.std.specs.Prelude.{◌≡◌, ℕ, IsTrue, Some}
+use Rattle.fsb_encode.specs.declared.request.Request.{Request}
+use Rattle.fsb_encode.specs.Request.{is_lawful_request}
+use Rattle.fsb_timely.specs.Runs.{Run, run_to, past_of, past_to}
+use Rattle.fsb_timely.specs.Starts.{request_begun}
+
+-- what the winner of a clock would begin there is a lawful request: line, chunk and ID have their bits
+pub record WantsLawfully (r : Run) : Type 0 where
+  pub lawful : (c : ℕ) (request : Request)
+      → request_begun (run_to r c) (past_to (past_of r) c) c ≡ Some request → IsTrue (is_lawful_request request)

@@ -1,0 +1,14 @@
+//! A simulated run breaks no phase rule: laws over the definitions, and no code.
+//!
+//! `specs/` says what it is that a trace keeps a rule; `proofs/` has for each rule why a timely run keeps it. A rule is
+//! judged over the samples up to its clock alone, and so is each part of what a timely run is; docs/phase-rules.md tells
+//! beside each rule on which of these parts it rests.
+#![tactic(auto)]
+
+pub use laws::{
+    address_errors_cancel_requests, codes_are_lawful, locks_begin_with_requests, parity_is_even,
+    requests_are_identified, requests_begin_lawfully, snoop_lines_have_snoop_clocks,
+    words_are_known,
+};
+
+mod laws;

@@ -1,0 +1,3 @@
+pub mod LineMaps
+pub mod SetLines
+pub mod StartLines

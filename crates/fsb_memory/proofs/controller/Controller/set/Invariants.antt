@@ -1,0 +1,15 @@
+use Rattle.std.proofs.Common.{◌≡◌, ◌≤◌, ◌-◌, length, take}
+use Rattle.fsb_memory.specs.Controller.{line_in}
+use Rattle.fsb_memory.proofs.SetLines.{BytesSoFar, NamesSoFar}
+use Rattle.fsb_memory.proofs.controller.Controller.set.Given as goal
+
+abbrev pub invariant-loop-count : goal.invariant-loop-count
+invariant-loop-count l = record {
+  within : l.count ≤ length l.sets;
+  all : length l.bytes ≡ 32;
+  bytes : BytesSoFar (line_in l.fn.self) l.line l.bytes (take l.count l.sets);
+  named : NamesSoFar l.line l.count (take l.count l.sets);
+}
+
+abbrev pub decreases-loop-count : goal.decreases-loop-count
+decreases-loop-count l = length l.sets - l.count

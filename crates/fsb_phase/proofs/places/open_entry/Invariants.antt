@@ -1,7 +1,0 @@
-use Rattle.std.proofs.Common.{ℕ, ◌<◌, ◌≡◌, slice_get, Some, is_none, false}
-use Rattle.fsb_queue.specs.declared.entry.Entry.{Entry}
-use Rattle.fsb_phase.proofs.places.open_entry.Given as goal
-
--- the entries so far have an outcome
-abbrev pub invariant-loop-i : goal.invariant-loop-i
-invariant-loop-i l = (k : ℕ) (e : Entry) → k < l.i → slice_get l.queue k ≡ Some e → is_none e.outcome ≡ false

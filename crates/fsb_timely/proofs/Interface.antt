@@ -1,0 +1,8 @@
+-- The lemmas of this crate that others draw on; no other name of its proofs is used outside.
+
+-- A part holds at each clock exactly where its test passes.
+pub use Rattle.fsb_timely.proofs.EachClock.{keeps-at, keeps-all}
+-- What an agent has and does at a clock rests on the past below that clock.
+pub use Rattle.fsb_timely.proofs.GoingOn.{last-same}
+-- The moments of a run, and what the whole trace says.
+pub use Rattle.fsb_timely.proofs.Moments.{moment-at, moment_of, number-says, snooped-there}

@@ -1,0 +1,4 @@
+pub mod TriggerSteps
+pub mod Match
+pub mod Grammar
+pub mod Hunt

@@ -1,0 +1,18 @@
+//! Triggers: a list of steps that a trace is searched for.
+//!
+//! A [`Trigger`] is read from a word. A [`Hunt`] is fed the samples of a trace one after another and finds the least match
+//! of all the steps, with the clock of each step; it keeps no history, but the latest chain of clocks for each step.
+#![tactic(auto)]
+
+pub use clocks::{Clocks, Found};
+pub use hunt::Hunt;
+pub use test::Test;
+pub use trigger::{Trigger, TriggerStep};
+
+mod clocks;
+mod hunt;
+mod read;
+mod test;
+#[cfg(test)]
+mod tests;
+mod trigger;

@@ -1,0 +1,11 @@
+use Rattle.fsb_wave.proofs.EqualWaves.{number, asserted, unknown}
+use Rattle.fsb_wave.proofs.laws.equal_waves_show_equal_lines.Goals as goal
+
+pub returns-clause-number : goal.returns-clause-number
+returns-clause-number c = number
+
+pub returns-clause-asserted : goal.returns-clause-asserted
+returns-clause-asserted c = λ v w from to e c low high k named at. asserted v w from to c k named e low high at
+
+pub returns-clause-unknown : goal.returns-clause-unknown
+returns-clause-unknown c = λ v w from to e c low high k named at. unknown v w from to c k named e low high at

@@ -1,0 +1,4 @@
+pub mod ControlLines
+pub mod WaveText
+pub mod Wave
+pub mod Law

@@ -1,0 +1,103 @@
+-- The text of a wave: the control lines drawn over a range of clocks, and the words of its requests and of its data.
+use Rattle.std.specs.Prelude.{ℕ, ◌+◌, ◌-◌, ◌*◌, Bool, false, ◌||◌, if◌then◌else◌, min, List, [], ◌∷◌, ◌++◌, Option, codes, length, map, slice_get}
+use Rattle.std.specs.Fmt.{decimal}
+use Rattle.std.specs.List.{range_with_len}
+use Rattle.std.specs.Option.{option_map_or}
+use Rattle.fsb_count.specs.Clocks.{all_where}
+use Rattle.fsb_io.specs.NumberText.{hexadecimal}
+use Rattle.fsb_signal.specs.declared.lines.Lines.{Lines}
+use Rattle.fsb_signal.specs.declared.lines.TheConstants.Lines.{ADS, DRDY}
+use Rattle.fsb_signal.specs.declared.sample.Sample.{Sample}
+use Rattle.fsb_signal.specs.Samples.{has_line, has_unknown, is_known_word}
+use Rattle.fsb_wave.specs.ControlLines.{NamedLine, control_lines}
+
+-- the sample of each clock, where there is one
+abbrev pub Clocks : Type 0
+Clocks = ℕ → Option Sample
+
+-- the clock of the first sample that a wave looks at: the one before the range
+abbrev pub first_kept : ℕ → ℕ
+first_kept from = from - 1
+
+-- how many clocks of the range a trace of n samples reaches
+abbrev pub reached : ℕ → ℕ → ℕ → ℕ
+reached from to n = min (to + 1) n - from
+
+-- a line in a sample: `#` asserted, `?` unknown, `.` neither
+unfoldable pub mark_of : Lines → Sample → ℕ
+mark_of line s = if has_line s line then 35 else if has_unknown s line then 63 else 46
+
+-- the same at a clock
+unfoldable pub mark_at : Clocks → Lines → ℕ → ℕ
+mark_at clocks line c = option_map_or (mark_of line) (clocks c) 46
+
+-- a control line: its name filled with spaces to six places, then one character for each of n clocks
+unfoldable pub drawing : Clocks → ℕ → ℕ → NamedLine → List ℕ
+drawing clocks from n named =
+    named.name ++ map (mark_at clocks named.line) (range_with_len from n) ++ codes "\n"
+
+-- the line is asserted at a clock
+unfoldable pub is_at : Clocks → Lines → ℕ → Bool
+is_at clocks line c = option_map_or (λ s. has_line s line) (clocks c) false
+
+-- ADS# is at clock c or at the one before it; clock 0 has none before it, and there c - 1 is 0 too
+unfoldable pub has_request : Clocks → ℕ → Bool
+has_request clocks c = is_at clocks ADS c || is_at clocks ADS (c - 1)
+
+-- a number in hexadecimal, or `?` where it is not known
+abbrev pub value_text : Bool → ℕ → List ℕ
+value_text known value = if known then hexadecimal value else codes "?"
+
+-- the line of a clock of a request: `A <clock> <address> <request>`; the address is the address word times 8
+unfoldable pub request_text : ℕ → Sample → List ℕ
+request_text c s =
+    codes "A " ++ decimal c ++ codes " "
+    ++ value_text (is_known_word s.addr) (8 * s.addr.bits) ++ codes " "
+    ++ value_text (is_known_word s.req) s.req.bits ++ codes "\n"
+
+-- the line of a clock of data: `D <clock> <data>`
+unfoldable pub data_text : ℕ → Sample → List ℕ
+data_text c s =
+    codes "D " ++ decimal c ++ codes " "
+    ++ value_text (is_known_word s.dbus) s.dbus.bits ++ codes "\n"
+
+-- the last line: `clocks=<n>`
+unfoldable pub clocks_text : ℕ → List ℕ
+clocks_text n = codes "clocks=" ++ decimal n ++ codes "\n"
+
+-- the text of a clock, by its sample
+unfoldable pub text_at : (ℕ → Sample → List ℕ) → Clocks → ℕ → List ℕ
+text_at text clocks c = option_map_or (text c) (clocks c) []
+
+-- the 21 drawings over n clocks
+unfoldable pub drawings : Clocks → ℕ → ℕ → List (List ℕ)
+drawings clocks from n = map (drawing clocks from n) control_lines
+
+-- a line of text for each of the n clocks from `from` on that passes the test
+unfoldable pub texts_where : (ℕ → Bool) → (ℕ → List ℕ) → ℕ → ℕ → List (List ℕ)
+texts_where test text from n = map (λ j. text (from + j)) (all_where (λ j. test (from + j)) n)
+
+-- the lines of the clocks with ADS# at them or before them
+abbrev pub requests : Clocks → ℕ → ℕ → List (List ℕ)
+requests clocks from n = texts_where (has_request clocks) (text_at request_text clocks) from n
+
+-- the lines of the clocks with DRDY#
+abbrev pub transfers : Clocks → ℕ → ℕ → List (List ℕ)
+transfers clocks from n = texts_where (is_at clocks DRDY) (text_at data_text clocks) from n
+
+-- the lines of data, and the count of clocks of a trace of `all` samples
+unfoldable pub lines_behind : Clocks → ℕ → ℕ → ℕ → List (List ℕ)
+lines_behind clocks from n all = transfers clocks from n ++ clocks_text all ∷ []
+
+-- the lines of requests, and those behind them
+unfoldable pub lines_below : Clocks → ℕ → ℕ → ℕ → List (List ℕ)
+lines_below clocks from n all = requests clocks from n ++ lines_behind clocks from n all
+
+-- the lines of a wave over n clocks from `from` on, of a trace of `all` samples: the drawings, the lines of requests, the
+-- lines of data and the count of clocks, each with its line feed
+unfoldable pub lines_of : Clocks → ℕ → ℕ → ℕ → List (List ℕ)
+lines_of clocks from n all = drawings clocks from n ++ lines_below clocks from n all
+
+-- the lines of the wave of a trace over the clocks from `from` to `to`
+abbrev pub wave_lines : List Sample → ℕ → ℕ → List (List ℕ)
+wave_lines w from to = lines_of (slice_get w) from (reached from to (length w)) (length w)

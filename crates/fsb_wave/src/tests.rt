@@ -1,0 +1,156 @@
+ghost use Rattle.std.specs.Prelude.{◌≤◌, ◌+◌};
+
+use crate::Wave;
+use fsb_signal::{Lines, Sample, Word, idle_sample};
+use std::process::Abort;
+
+/// The samples of a load and of a store that hits, of 60 clocks.
+fn load_then_store_hit(clock: u32) -> Sample {
+    let first_data = Lines::RS0.0 | Lines::RS1.0 | Lines::RS2.0 | Lines::DBSY.0 | Lines::DRDY.0;
+    match clock {
+        0 | 1 => Sample::known(Lines::BREQ0, 0, 0, 0),
+        2 => Sample::known(Lines(Lines::BREQ0.0 | Lines::ADS.0), 6, 8, 0),
+        3 => Sample::known(Lines(0), 2, 2, 0),
+        8 => Sample::known(Lines(first_data), 0, 0, 7),
+        9 | 10 => Sample::known(Lines(Lines::DBSY.0 | Lines::DRDY.0), 0, 0, 0),
+        11 => Sample::known(Lines::DRDY, 0, 0, 0),
+        _ => idle_sample(),
+    }
+}
+
+/// The wave of these samples.
+fn wave_of_the_load(from: u32, to: u32) -> Wave
+    requires ordered { from ≤ to }
+    requires few { to ≤ from + 63 }
+{
+    let mut wave = Wave::new(from, to);
+    for clock in 0..60 {
+        wave.feed(&load_then_store_hit(clock));
+    }
+    wave
+}
+
+/// The wave of two samples.
+fn wave_of_two(from: u32, to: u32, first: &Sample, second: &Sample) -> Wave
+    requires ordered { from ≤ to }
+    requires few { to ≤ from + 63 }
+{
+    let mut wave = Wave::new(from, to);
+    wave.feed(first);
+    wave.feed(second);
+    wave
+}
+
+/// The wave gives exactly these lines.
+fn expect_lines(rt: &impl Abort, wave: &Wave, lines: &[&str]) {
+    assert_eq!(rt; wave.lines() as usize, lines.len());
+    for (i, text) in lines.iter().enumerate() {
+        match wave.line(i as u32) {
+            Some(line) => assert_eq!(rt; line.as_slice(), text.as_bytes()),
+            None => rt.abort(),
+        }
+    }
+    assert_eq!(rt; wave.line(wave.lines()).is_none(), true);
+}
+
+#[test]
+fn wave_text(rt: HostRuntime) {
+    let wave = wave_of_the_load(0, 11);
+    expect_lines(
+        &rt,
+        &wave,
+        &[
+            "BREQ0 ###.........\n",
+            "BREQ1 ............\n",
+            "BREQ2 ............\n",
+            "BREQ3 ............\n",
+            "BPRI  ............\n",
+            "LOCK  ............\n",
+            "BNR   ............\n",
+            "ADS   ..#.........\n",
+            "AERR  ............\n",
+            "HIT   ............\n",
+            "HITM  ............\n",
+            "DEFER ............\n",
+            "RS0   ........#...\n",
+            "RS1   ........#...\n",
+            "RS2   ........#...\n",
+            "TRDY  ............\n",
+            "DBSY  ........###.\n",
+            "DRDY  ........####\n",
+            "AP0   ............\n",
+            "AP1   ............\n",
+            "RP    ............\n",
+            "A 2 40 6\n",
+            "A 3 10 2\n",
+            "D 8 7\n",
+            "D 9 0\n",
+            "D 10 0\n",
+            "D 11 0\n",
+            "clocks=60\n",
+        ],
+    );
+}
+
+#[test]
+fn wave_past_the_end_and_words_that_are_unknown(rt: HostRuntime) {
+    let wave = wave_of_the_load(70, 71);
+    expect_lines(
+        &rt,
+        &wave,
+        &[
+            "BREQ0 \n",
+            "BREQ1 \n",
+            "BREQ2 \n",
+            "BREQ3 \n",
+            "BPRI  \n",
+            "LOCK  \n",
+            "BNR   \n",
+            "ADS   \n",
+            "AERR  \n",
+            "HIT   \n",
+            "HITM  \n",
+            "DEFER \n",
+            "RS0   \n",
+            "RS1   \n",
+            "RS2   \n",
+            "TRDY  \n",
+            "DBSY  \n",
+            "DRDY  \n",
+            "AP0   \n",
+            "AP1   \n",
+            "RP    \n",
+            "clocks=60\n",
+        ],
+    );
+    // A request whose first clock lies before the range, and unknown lines and bits.
+    let unknown = Sample {
+        lines: Lines::DRDY,
+        unknown: Lines::HIT,
+        req: Word {
+            bits: 1,
+            unknown: 2,
+        },
+        addr: Word::known(0x1_ffff_ffff),
+        dbus: Word {
+            bits: 0,
+            unknown: 1,
+        },
+    };
+    let wave = wave_of_two(1, 64, &Sample::known(Lines::ADS, 6, 8, 0), &unknown);
+    assert_eq!(rt; wave.lines(), 24);
+    let lines = [
+        (7, "ADS   .\n"),
+        (9, "HIT   ?\n"),
+        (17, "DRDY  #\n"),
+        (21, "A 1 ffffffff8 ?\n"),
+        (22, "D 1 ?\n"),
+        (23, "clocks=2\n"),
+    ];
+    for (i, text) in lines {
+        match wave.line(i) {
+            Some(line) => assert_eq!(rt; line.as_slice(), text.as_bytes()),
+            None => rt.abort(),
+        }
+    }
+}
