@@ -163,7 +163,7 @@ fn dumps_that_are_not_read(rt: HostRuntime) -> Result<(), Fail> {
 fn parity_lines(rt: HostRuntime) -> Result<(), Fail> {
     let whole = check(rt.alloc(), PARITY_OF_A_LOAD.as_bytes())?;
     assert_eq!(rt; whole.status, Status::Done);
-    assert_eq!(rt; whole.out.holds(), b"accepted clocks=60\n".as_slice());
+    assert_eq!(rt; whole.out.holds(), b"accepted clocks=13\n".as_slice());
     // Without the change of RP#, or of AP0#, at clock 2 the parity of the first clock of the request fails there.
     let table = [
         ("b10 5\n06\n", "b10 5\n", 20),
