@@ -64,7 +64,8 @@ impl Flat {
         requires symmetric { agent < 4 }
         requires place { IsTrue (is_place size addr) }
         ensures value { result ≡ served_value (state_of self.old) agent (Access.Load size addr) }
-        ensures moves { state_of self.new ≡ served_state (state_of self.old) agent (Access.Load size addr) }
+        ensures moves { state_of self.new
+            ≡ served_state (state_of self.old) agent (Access.Load size addr) }
     {
         let chunk = self.chunk(addr / CHUNK_BYTES);
         let start = (addr % CHUNK_BYTES) as usize;

@@ -35,8 +35,10 @@ impl Running {
 
     /// Judges the next samples.
     pub fn judge(&mut self, samples: &[Sample])
-        requires { (m : Marks) × (w : List Sample) × HasJudged self.old m w × (length w + length samples.now < 2 ^ 32) }
-        ensures { (m : Marks) (w : List Sample) → HasJudged self.old m w → HasJudged self.new m (w ++ samples.now) }
+        requires { (m : Marks) × (w : List Sample) × HasJudged self.old m w
+            × (length w + length samples.now < 2 ^ 32) }
+        ensures { (m : Marks) (w : List Sample) → HasJudged self.old m w →
+            HasJudged self.new m (w ++ samples.now) }
     {
         for sample in samples {
             self.judge_one(sample);
@@ -45,8 +47,10 @@ impl Running {
 
     // Judges the next sample.
     fn judge_one(&mut self, sample: &Sample)
-        requires { (m : Marks) × (w : List Sample) × HasJudged self.old m w × (length w + 1 < 2 ^ 32) }
-        ensures { (m : Marks) (w : List Sample) → HasJudged self.old m w → HasJudged self.new m (w ++ sample.now ∷ []) }
+        requires { (m : Marks) × (w : List Sample) × HasJudged self.old m w
+            × (length w + 1 < 2 ^ 32) }
+        ensures { (m : Marks) (w : List Sample) → HasJudged self.old m w →
+            HasJudged self.new m (w ++ sample.now ∷ []) }
     {
         self.broken = self.checker.feed(sample);
         self.clocks += 1;
@@ -78,7 +82,8 @@ fn begin(running: &mut Option<Running>, marks: Option<Marks>)
 
 // Judges the next samples, of which there are none before the marks.
 fn judge_more(running: &mut Option<Running>, samples: &[Sample])
-    requires { (told : Option Marks) × (w : List Sample) × IsJudging running.old told w × (length w + length samples.now < 2 ^ 32) }
+    requires { (told : Option Marks) × (w : List Sample) × IsJudging running.old told w
+        × (length w + length samples.now < 2 ^ 32) }
     ensures { (told : Option Marks) (w : List Sample) → IsJudging running.old told w → (told ≡ None → samples.now ≡ [])
         → IsJudging running.new told (w ++ samples.now) }
 {
@@ -90,7 +95,8 @@ fn judge_more(running: &mut Option<Running>, samples: &[Sample])
 // What the samples are found to be, where the marks are told.
 fn finding_of(running: &Option<Running>) -> Finding
     requires { (m : Marks) × (w : List Sample) × IsJudging running.now (Some m) w }
-    ensures clocks { (m : Marks) (w : List Sample) → IsJudging running.now (Some m) w → result.clocks ≡ length w }
+    ensures clocks { (m : Marks) (w : List Sample) → IsJudging running.now (Some m) w →
+        result.clocks ≡ length w }
     ensures broken { (m : Marks) (w : List Sample) → IsJudging running.now (Some m) w
         → result.broken ≡ as_broken (verdict m w) }
 {
@@ -125,7 +131,8 @@ impl Judge {
     /// Takes the next piece.
     pub fn take(&mut self, piece: &[u8]) -> Result<(), Memory>
         requires { (fed : List ℕ) × Stood self.old fed × (length fed + length piece.now < 2 ^ 64) }
-        ensures { OnOk result ((fed : List ℕ) → Stood self.old fed → Stood self.new (fed ++ piece.now)) }
+        ensures { OnOk result ((fed : List ℕ) → Stood self.old fed →
+            Stood self.new (fed ++ piece.now)) }
     {
         self.samples.clear();
         match self.reader.feed(piece, &mut self.samples) {

@@ -51,7 +51,8 @@ impl Controller {
     pub fn put(&mut self, line: u64, bytes: [u8; 32])
         requires { IsTrue (is_mapped self.old line) }
         ensures put { line_in self.new line ≡ bytes }
-        ensures others { (other : ℕ) → other ≢ line → line_in self.new other ≡ line_in self.old other }
+        ensures others { (other : ℕ) → other ≢ line →
+            line_in self.new other ≡ line_in self.old other }
         ensures named { (other : ℕ) → is_mapped self.new other ≡ is_mapped self.old other }
     {
         if let Some(kept) = self.lines.get_mut(&line) {
