@@ -81,7 +81,8 @@ impl Flat {
         ensures value { IfOk result (λ number.
             number ≡ served_value (state_of self.old) agent (Access.Store size addr value.now)) }
         ensures moves { OnOk result (
-            state_of self.new ≡ served_state (state_of self.old) agent (Access.Store size addr value.now)) }
+            state_of self.new ≡ served_state (state_of self.old) agent
+            (Access.Store size addr value.now)) }
         ensures stays { OnErr result (self.new ≡ self.old) }
     {
         let number = number_put(size, self.last[usize::from(agent)], value);

@@ -28,8 +28,9 @@ pub fn check_dump<S: Source>(
     requires { length name.now ≤ 4096 }
     ensures checked { IsTrue S.tells → IsChecked result (S.holds source.old) (S.left source.new) }
     ensures named { IsTrue S.tells → HasBegun result → S.begun_as source.new ≡ Some name.now }
-    ensures not_read { IsTrue S.tells → result ≡ Err CheckStop.ReadFault
-        → IsBegunOrStays name.now (S.begun_as source.old) (S.begun_as source.new) (S.left source.old) (S.left source.new) }
+    ensures not_read { IsTrue S.tells → result ≡ Err CheckStop.ReadFault →
+        IsBegunOrStays name.now (S.begun_as source.old) (S.begun_as source.new)
+        (S.left source.old) (S.left source.new) }
     ensures read_fault { result ≡ Err CheckStop.ReadFault →
         Rose (S.faults source.old) (S.faults source.new) }
     ensures later { S.faults source.old ≤ S.faults source.new }
@@ -78,13 +79,13 @@ fn take_piece<S: Source>(
         × (length fed + length piece.old < 2 ^ 64) }
     ensures within { IfOk result (λ count. count ≤ length piece.old) }
     ensures len { length piece.new ≡ length piece.old }
-    ensures taken { IfOk result (λ count. (fed : List ℕ) → Stood judge.old fed
-        → HasTaken judge.new fed (S.left source.old) (S.left source.new) count S.tells) }
+    ensures taken { IfOk result (λ count. (fed : List ℕ) → Stood judge.old fed →
+        HasTaken judge.new fed (S.left source.old) (S.left source.new) count S.tells) }
     ensures end { IsTrue S.tells → 0 < length piece.old →
         IfOk result (λ count. count ≡ 0 → S.left source.new ≡ []) }
     ensures stop { (stop : CheckStop) → result ≡ Err stop → IsStopOfReading stop }
-    ensures memory { IsTrue S.tells → result ≡ Err CheckStop.Memory
-        → TakesAtMost (length piece.old) (S.left source.old) (S.left source.new) }
+    ensures memory { IsTrue S.tells → result ≡ Err CheckStop.Memory →
+        TakesAtMost (length piece.old) (S.left source.old) (S.left source.new) }
     ensures read_fault { result ≡ Err CheckStop.ReadFault →
         Rose (S.faults source.old) (S.faults source.new) }
     ensures later { S.faults source.old ≤ S.faults source.new }

@@ -70,8 +70,9 @@ impl Running {
 
 // Begins the running verdict, where the marks are told by now.
 fn begin(running: &mut Option<Running>, marks: Option<Marks>)
-    ensures { (told : Option Marks) (w : List Sample) → IsJudging running.old told w → MarksStay told marks
-        → IsJudging running.new marks w }
+    ensures { (told : Option Marks) (w : List Sample) → IsJudging running.old told w →
+        MarksStay told marks →
+        IsJudging running.new marks w }
 {
     if running.is_none() {
         if let Some(marks) = marks {
@@ -84,8 +85,9 @@ fn begin(running: &mut Option<Running>, marks: Option<Marks>)
 fn judge_more(running: &mut Option<Running>, samples: &[Sample])
     requires { (told : Option Marks) × (w : List Sample) × IsJudging running.old told w
         × (length w + length samples.now < 2 ^ 32) }
-    ensures { (told : Option Marks) (w : List Sample) → IsJudging running.old told w → (told ≡ None → samples.now ≡ [])
-        → IsJudging running.new told (w ++ samples.now) }
+    ensures { (told : Option Marks) (w : List Sample) → IsJudging running.old told w →
+        (told ≡ None → samples.now ≡ []) →
+        IsJudging running.new told (w ++ samples.now) }
 {
     if let Some(running) = running {
         running.judge(samples);
@@ -97,8 +99,8 @@ fn finding_of(running: &Option<Running>) -> Finding
     requires { (m : Marks) × (w : List Sample) × IsJudging running.now (Some m) w }
     ensures clocks { (m : Marks) (w : List Sample) → IsJudging running.now (Some m) w →
         result.clocks ≡ length w }
-    ensures broken { (m : Marks) (w : List Sample) → IsJudging running.now (Some m) w
-        → result.broken ≡ as_broken (verdict m w) }
+    ensures broken { (m : Marks) (w : List Sample) → IsJudging running.now (Some m) w →
+        result.broken ≡ as_broken (verdict m w) }
 {
     match running {
         Some(running) => running.finding(),

@@ -60,21 +60,22 @@ pub fn numbers_stay()
 /// Whether a rule is broken at a clock rests on the marks and on the samples up to that clock alone; so a verdict stays,
 /// however the trace goes on.
 pub fn rules_rest_on_the_past()
-    ensures broken { (m : Marks) (w v : Trace) (c j : ℕ) → AgreeTo (c + 1) w v
-        → is_broken m w c j ≡ is_broken m v c j }
-    ensures stays { (n : ℕ) (m : Marks) (w v : Trace) (c j : ℕ) → AgreeTo n w v → c < n
-        → verdict m w ≡ Some (c, j) → verdict m v ≡ Some (c, j) }
+    ensures broken { (m : Marks) (w v : Trace) (c j : ℕ) → AgreeTo (c + 1) w v →
+        is_broken m w c j ≡ is_broken m v c j }
+    ensures stays { (n : ℕ) (m : Marks) (w v : Trace) (c j : ℕ) → AgreeTo n w v → c < n →
+        verdict m w ≡ Some (c, j) → verdict m v ≡ Some (c, j) }
 {}
 
 /// A verdict names a clock and a rule that is broken there, while no rule is broken before that clock and no lesser
 /// one at it; where there is none, no rule is broken at all.
 pub fn verdict_is_least()
-    ensures broken { (m : Marks) (w : Trace) (c j : ℕ) → verdict m w ≡ Some (c, j)
-        → (c < length w) × (is_broken m w c j ≡ true) }
-    ensures rule { (m : Marks) (w : Trace) (c j k : ℕ) → verdict m w ≡ Some (c, j) → k < j
-        → is_broken m w c k ≡ false }
-    ensures clock { (m : Marks) (w : Trace) (c j d k : ℕ) → verdict m w ≡ Some (c, j) → d < c → k < 21
-        → is_broken m w d k ≡ false }
-    ensures accepted { (m : Marks) (w : Trace) (c j : ℕ) → verdict m w ≡ None → j < 21
-        → is_broken m w c j ≡ false }
+    ensures broken { (m : Marks) (w : Trace) (c j : ℕ) → verdict m w ≡ Some (c, j) →
+        (c < length w) × (is_broken m w c j ≡ true) }
+    ensures rule { (m : Marks) (w : Trace) (c j k : ℕ) → verdict m w ≡ Some (c, j) → k < j →
+        is_broken m w c k ≡ false }
+    ensures clock { (m : Marks) (w : Trace) (c j d k : ℕ) → verdict m w ≡ Some (c, j) → d < c →
+        k < 21 →
+        is_broken m w d k ≡ false }
+    ensures accepted { (m : Marks) (w : Trace) (c j : ℕ) → verdict m w ≡ None → j < 21 →
+        is_broken m w c j ≡ false }
 {}
