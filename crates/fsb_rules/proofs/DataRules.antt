@@ -79,7 +79,7 @@ some_moves true = refl
 some_moves false = refl
 
 -- whether data are on the way at the new clock, and after it
-on_the_way : (k : Checker) (h : Trace) (x : Sample) (v : Trace) (b : Bool) → Follows k h → OneMore h x v → Orderly v → (responds x ≡ true → may_answer_next h ≡ true) → responds x ≡ b → is_some (moving_by k.queue (length h) x) ≡ is_transferring v (length h)
+pub on_the_way : (k : Checker) (h : Trace) (x : Sample) (v : Trace) (b : Bool) → Follows k h → OneMore h x v → Orderly v → (responds x ≡ true → may_answer_next h ≡ true) → responds x ≡ b → is_some (moving_by k.queue (length h) x) ≡ is_transferring v (length h)
 on_the_way k h x v true f m o may t =
     sym (some_chunks (moving_by k.queue (length h) x)) ∙ ap (λ c. is_some c) (chunks_begun k h x f (may t) t)
     ∙ some_moves (does_move (told_by h (response_count h) (response_of x)))

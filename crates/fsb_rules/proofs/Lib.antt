@@ -30,4 +30,5 @@ pub mod OpenStands
 pub mod CheckerFollows
 pub mod StartFollows
 pub mod Feeds
+pub mod ComingChunks
 pub mod Interface

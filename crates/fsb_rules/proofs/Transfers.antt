@@ -53,7 +53,7 @@ of_others w m i last o c other k =
       | inr l ↦ not_without w m i (response_past w i (omega (arith, other)))
     ]
 
-last_is_live : (w : Trace) (i : ℕ) → Orderly w → i < response_count w → i < live_count w
+pub last_is_live : (w : Trace) (i : ℕ) → Orderly w → i < response_count w → i < live_count w
 last_is_live w i o l =
     let p = response_there w i l in
     let a = has_answer w p.0 i (o.timely i p.0 p.1) in
@@ -101,7 +101,7 @@ unfolding transfer_of
 is_transferring-end w o = end_cases w (response_count w) o refl
 
 -- at the new clock, before its chunk: where the sample is a response, whether its data move
-none_from : (v : Trace) (n : ℕ) → count_where (from_clock n (line_at DRDY v)) n ≡ 0
+pub none_from : (v : Trace) (n : ℕ) → count_where (from_clock n (line_at DRDY v)) n ≡ 0
 unfolding from_clock
 none_from v n = count_where-none (from_clock n (line_at DRDY v)) n (λ c l. and_left _ _ (lt-leb n c l))
 
@@ -118,7 +118,7 @@ is_transferring-begun h x v s m o to l t =
     ∙ moves_new h x v s m to l t
 
 -- where it is none, whether data are on the way
-same_count : (h : Trace) (x : Sample) (v : Trace) (r : ℕ) → OneMore h x v → count_where (from_clock r (line_at DRDY v)) (length h) ≡ count_where (from_clock r (line_at DRDY h)) (length h)
+pub same_count : (h : Trace) (x : Sample) (v : Trace) (r : ℕ) → OneMore h x v → count_where (from_clock r (line_at DRDY v)) (length h) ≡ count_where (from_clock r (line_at DRDY h)) (length h)
 unfolding from_clock
 same_count h x v r m =
     count_where-same (from_clock r (line_at DRDY v)) (from_clock r (line_at DRDY h)) (length h)

@@ -7,3 +7,4 @@ pub mod Recent
 pub mod InFlight
 pub mod Outstanding
 pub mod Checker
+pub mod ComingChunks

@@ -1,6 +1,6 @@
 //! The checker: every rule, clock by clock.
 
-ghost use Rattle.std.specs.Prelude.{◌≡◌, ◌+◌, ◌^◌, ◌<◌, ◌≤◌, true, is_some, [], ◌∷◌, ◌++◌, length, if◌then◌else◌, Some, None};
+ghost use Rattle.std.specs.Prelude.{◌≡◌, ℕ, ◌+◌, ◌^◌, ◌<◌, ◌≤◌, true, is_some, [], ◌∷◌, ◌++◌, length, if◌then◌else◌, Some, None, IfSome};
 ghost use Rattle.std.specs.List.{filter_map};
 ghost use Rattle.std.specs.Option.{option_and_then, option_to_list};
 ghost use Rattle.fsb_count.specs.Options.{is_some_and};
@@ -15,9 +15,12 @@ ghost use Rattle.fsb_rules.specs.Tests.{queue_len, snooped_by, asking_after, wai
 ghost use Rattle.fsb_rules.specs.OpenTests.{open_after, open_begun};
 ghost use Rattle.fsb_rules.specs.Steps.{begun_by, is_too_soon_by, is_identified_by, is_identity_wrong_by, is_asked_wrongly_by, is_some_asked_wrongly_by, is_lock_alone_by, is_snoop_line_alone_by, is_begun_wrongly_by, has_parity_by, is_address_wrong_by, is_request_wrong_by, parity_broken, later_broken, first_broken, happened_by};
 ghost use Rattle.fsb_trace.specs.Winner.{is_agent, is_same_agent, request_line_of};
+ghost use Rattle.fsb_trace.specs.Response.{data_clock_of};
 ghost use Rattle.fsb_rules.specs.Checker.{Stands, as_broken};
+ghost use Rattle.fsb_rules.specs.ComingChunks.{HasData, coming_by};
 
 use crate::broken::Broken;
+use crate::coming::{Coming, coming_of};
 use crate::in_flight::InFlight;
 use crate::live::{LiveRequest, live_of};
 use crate::outstanding::{Happened, Outstanding};
@@ -113,6 +116,35 @@ impl Checker {
             }
         }
         self.found
+    }
+
+    /// The chunk of data that comes with the next sample, where that breaks no rule.
+    pub fn coming(&self, sample: &Sample) -> Option<Coming>
+        requires { (m : Marks) × (h : Trace) × Stands self.now m h × (length h < 2 ^ 32) }
+        ensures some { (m : Marks) (h : Trace) → Stands self.now m h →
+            verdict m (h ++ sample.now ∷ []) ≡ None →
+            IfSome result (λ coming. HasData (h ++ sample.now ∷ []) (length h) coming) }
+        ensures none { (m : Marks) (h : Trace) → Stands self.now m h →
+            verdict m (h ++ sample.now ∷ []) ≡ None → result ≡ None →
+            (i n : ℕ) → data_clock_of (h ++ sample.now ∷ []) i n ≡ Some (length h) → ⊥ }
+    {
+        if self.found.is_none() {
+            self.coming_at(self.clock as u32, sample)
+        } else {
+            None
+        }
+    }
+
+    /// The chunk of data that comes with the sample of this clock.
+    #[tactic(auto, unfolding(crate::specs::ComingChunks::coming_by))]
+    fn coming_at(&self, clock: u32, sample: &Sample) -> Option<Coming>
+        ensures { result ≡ coming_by self.now clock sample.now }
+    {
+        if sample.has(Lines::DRDY) {
+            coming_of(self.queue.moving_with(clock, sample))
+        } else {
+            None
+        }
     }
 
     /// The least rule that is broken with this sample.

@@ -273,7 +273,7 @@ impl InFlight {
 
     /// The request whose data are on the way at this clock, also if its response is there.
     #[tactic(auto, unfolding(crate::specs::Tests::moving_by))]
-    fn moving_with(&self, clock: u32, sample: &Sample) -> Option<Moving>
+    pub fn moving_with(&self, clock: u32, sample: &Sample) -> Option<Moving>
         ensures { result ≡ moving_by self.now clock sample.now }
     {
         if responds(sample) {
