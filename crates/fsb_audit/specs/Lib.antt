@@ -1,2 +1,4 @@
 pub mod Transfers
 pub mod Fouls
+pub mod Registers
+pub mod Audit

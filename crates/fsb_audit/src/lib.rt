@@ -7,6 +7,11 @@
 //! `Stands` says which samples an audit was fed; its answer is the `finding` of the whole trace of them.
 #![tactic(auto)]
 
+pub use audit::Audit;
 pub use finding::{Finding, FoulAt};
 
+mod audit;
+mod chunks;
 mod finding;
+#[cfg(test)]
+mod tests;
