@@ -83,6 +83,10 @@ responded w i r o e =
 pub live_below : (w : Trace) (i : ℕ) → Responded w i → i < live_count w
 live_below w i r = let c = snoop_end_of-clock w i r.snoop r.is_snoop in live_below_count w i c.clock c.is_clock
 
+by_number : (w : Trace) (k c : ℕ) → response_clock_of w k ≡ Some c → nth_where (responds_at w) k (length w) ≡ Some c
+unfolding response_clock_of
+by_number w k c e = e
+
 -- the response of a later request lies past the end of an earlier one
 later_response : (w : Trace) (i j r e : ℕ) → Orderly w → i < j → response_clock_of w j ≡ Some r → end_of w i ≡ Some e → e < r
 later_response w i j r e o l f g =
@@ -101,10 +105,6 @@ later_response w i j r e o l f g =
           let at : there.0 ≡ r = same_Some _ _ (sym there.1 ∙ ap (response_clock_of w) here ∙ f) in
           omega arith
     ]
-  where
-    by_number : (w : Trace) (k c : ℕ) → response_clock_of w k ≡ Some c → nth_where (responds_at w) k (length w) ≡ Some c
-    unfolding response_clock_of
-    by_number w k c e = e
 
 -- data of two requests do not come at one clock
 earlier_not : (w : Trace) (i j n k c : ℕ) → Orderly w → i < j → data_clock_of w i n ≡ Some c → data_clock_of w j k ≡ Some c → ⊥

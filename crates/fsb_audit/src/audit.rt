@@ -1,6 +1,6 @@
 //! The audit, sample by sample.
 
-ghost use Rattle.std.specs.Prelude.{◌≡◌, ℕ, ◌+◌, ◌*◌, ◌^◌, ◌<◌, true, false, [], ◌∷◌, ◌++◌, length, is_some, slice_index, if◌then◌else◌, Some, None, Err, IfOk, IfSome, OnOk, OnErr};
+ghost use Rattle.std.specs.Prelude.{◌≡◌, ℕ, ◌+◌, ◌*◌, ◌^◌, ◌<◌, true, false, [], ◌∷◌, ◌++◌, length, is_some, slice_index, if◌then◌else◌, Some, None, IsErr, IfOk, IfSome, OnOk, OnErr};
 ghost use Rattle.fsb_signal.specs.declared.marks.Marks.{Marks};
 ghost use Rattle.fsb_trace.specs.At.{Trace};
 ghost use Rattle.fsb_rules.specs.Tests.{request_by};
@@ -48,13 +48,13 @@ fn foul_of(
     clock: u32,
     chunk: u64,
     before: Option<u64>,
-    data: u64,
+    bits: u64,
 ) -> Option<Finding>
     requires { chunk < 2 ^ 33 }
-    ensures { result ≡ foul_by from_memory clock chunk before data }
+    ensures { result ≡ foul_by from_memory clock chunk before bits }
 {
     match before {
-        Some(before) if from_memory && before != data => Some(Finding::Foul(FoulAt {
+        Some(before) if from_memory && before != bits => Some(Finding::Foul(FoulAt {
             clock,
             addr: chunk * 8,
         })),
@@ -89,7 +89,7 @@ impl Audit {
             found ≡ finding_of m (h ++ sample.now ∷ [])) }
         ensures stands { (m : Marks) (h : Trace) → Stands self.old m h →
             Stands self.new m (h ++ sample.now ∷ []) }
-        ensures memory { is_full self.old ≡ true → result ≡ Err Memory }
+        ensures memory { is_full self.old ≡ true → IsErr result }
         ensures full { OnErr result (is_full self.new ≡ true) }
         ensures room { OnOk result (is_full self.new ≡ false) }
     {
@@ -145,7 +145,7 @@ impl Audit {
     }
 
     /// Whether the data of the request that responded last, with this sample or before, come from memory.
-    #[tactic(auto, unfolding(crate::specs::Registers::from_memory_after))]
+    #[tactic(auto, unfolding(crate::specs::Registers::from_memory_after, fsb_laws::specs::OneMore::responds))]
     fn is_from_memory(&self, sample: &Sample) -> bool
         ensures { result ≡ from_memory_after self.now.from_memory sample.now }
     {
@@ -157,7 +157,7 @@ impl Audit {
     }
 
     /// Keeps the data of the chunk that comes, and tells whether they are foul.
-    fn take_chunk(&mut self, clock: u32, data: u64, coming: Coming) -> Result<(), Memory>
+    fn take_chunk(&mut self, clock: u32, bits: u64, coming: Coming) -> Result<(), Memory>
         requires { self.old.count < 2 ^ 32 }
         ensures checker { self.new.checker ≡ self.old.checker }
         ensures full { OnErr result (self.new.is_full ≡ true) }
@@ -166,16 +166,16 @@ impl Audit {
         ensures asked { self.new.asked ≡ self.old.asked }
         ensures from_memory { self.new.from_memory ≡ self.old.from_memory }
         ensures count { OnOk result (self.new.count ≡ self.old.count + 1) }
-        ensures moved { OnOk result (Puts self.old.moved.entries self.new.moved.entries (chunk_by self.old.asked coming) data) }
+        ensures moved { OnOk result (Puts self.old.moved.entries self.new.moved.entries (chunk_by self.old.asked coming) bits) }
         ensures found { OnOk result (self.new.found ≡ foul_by self.old.from_memory clock (chunk_by self.old.asked coming)
-            (data_in self.old.moved.entries (chunk_by self.old.asked coming)) data) }
+            (data_in self.old.moved.entries (chunk_by self.old.asked coming)) bits) }
     {
         let chunk = nth_chunk(self.asked[usize::from(coming.did)], coming.place);
-        let Ok(before) = self.moved.insert(chunk, data) else {
+        let Ok(before) = self.moved.insert(chunk, bits) else {
             self.is_full = true;
             return Err(Memory);
         };
-        self.found = foul_of(self.from_memory, clock, chunk, before, data);
+        self.found = foul_of(self.from_memory, clock, chunk, before, bits);
         self.count += 1;
         Ok(())
     }
