@@ -21,7 +21,7 @@ use Rattle.fsb_audit.specs.Fouls.{foul_at, have_same_data, is_foul_clock, is_sta
 use Rattle.fsb_audit.proofs.Movers.{GoesOnFrom, Responded, data_responded, first_where-alike, live_after, live_below, mover_parts, responded, same_mover, same_outcome, same_place, same_request, still_responded}
 
 -- whether a request that responded is Deferred stays
-same_deferred : (u v : Trace) (i : ℕ) → GoesOnFrom u v → Responded u i → is_deferred v i ≡ is_deferred u i
+pub same_deferred : (u v : Trace) (i : ℕ) → GoesOnFrom u v → Responded u i → is_deferred v i ≡ is_deferred u i
 unfolding is_deferred
 same_deferred u v i g r = ap (λ o. is_some_and o is_deferral) (same_outcome u v i g r)
 
@@ -41,18 +41,18 @@ same_reply u v i q g r l =
 same_replies : (u v : Trace) (i q : ℕ) → GoesOnFrom u v → Responded u i → q + 3 < length u → AgreeBelow (q + 1) (is_live_reply_to u i) (is_live_reply_to v i)
 same_replies u v i q g r l = record { same = λ c k. same_reply u v i c g r (omega arith) }
 
-reply_forth : (u v : Trace) (i q : ℕ) → GoesOnFrom u v → Responded u i → q + 3 < length u → reply_clock_of u i ≡ Some q → reply_clock_of v i ≡ Some q
+pub reply_forth : (u v : Trace) (i q : ℕ) → GoesOnFrom u v → Responded u i → q + 3 < length u → reply_clock_of u i ≡ Some q → reply_clock_of v i ≡ Some q
 unfolding reply_clock_of
 reply_forth u v i q g r l e =
     first_where-carried (is_live_reply_to u i) (is_live_reply_to v i) (length u) (length v) q (same_replies u v i q g r l) (omega (arith, g.agree.right)) e
 
-reply_back : (u v : Trace) (i q : ℕ) → GoesOnFrom u v → Responded u i → q + 3 < length u → reply_clock_of v i ≡ Some q → reply_clock_of u i ≡ Some q
+pub reply_back : (u v : Trace) (i q : ℕ) → GoesOnFrom u v → Responded u i → q + 3 < length u → reply_clock_of v i ≡ Some q → reply_clock_of u i ≡ Some q
 unfolding reply_clock_of
 reply_back u v i q g r l e =
     first_where-carried (is_live_reply_to v i) (is_live_reply_to u i) (length v) (length u) q
     (record { same = λ c k. sym ((same_replies u v i q g r l).same c k) }) (omega arith) e
 
-same_number : (u v : Trace) (q : ℕ) → GoesOnFrom u v → q + 3 < length u → live_number_of v q ≡ live_number_of u q
+pub same_number : (u v : Trace) (q : ℕ) → GoesOnFrom u v → q + 3 < length u → live_number_of v q ≡ live_number_of u q
 unfolding live_number_of
 same_number u v q g l =
     count_where-same (is_live v) (is_live u) q (record { same = λ c k. sym (is_live-agree (length u) u v c g.agree (omega arith)) })
@@ -85,7 +85,7 @@ answer_live w j i a =
     subst (λ k. live_clock_of w k ≡ Some a.clock) a.number (live_clock_of-number w a.clock p.1 p.0)
 
 
-reply_before : (w : Trace) (i q : ℕ) → reply_clock_of w i ≡ Some q → (r : ℕ) × (response_clock_of w i ≡ Some r) × (r < q)
+pub reply_before : (w : Trace) (i q : ℕ) → reply_clock_of w i ≡ Some q → (r : ℕ) × (response_clock_of w i ≡ Some r) × (r < q)
 unfolding reply_clock_of is_live_reply_to is_reply_to
 reply_before w i q e =
     let p = first_where-found (is_live_reply_to w i) (length w) q e in

@@ -35,7 +35,7 @@ first_foul w n = first_where (is_foul_clock w) n
 
 -- the foul clock c as it is told, with the address of the chunk that is moved there
 unfoldable pub foul_at : Trace → ℕ → Option Finding
-foul_at w c = option_map (λ chunk. FoulFirst (record { clock = c; addr = 8 * chunk })) (moved_at w c)
+foul_at w c = option_map (λ chunk. FoulFirst (record { clock = c; addr = chunk * 8 })) (moved_at w c)
 
 -- the broken rule as it is told
 unfoldable pub broken_at : ℕ × ℕ → Finding

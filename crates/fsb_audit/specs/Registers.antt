@@ -36,10 +36,14 @@ chunk_by asked coming = nth_from (slice_index asked coming.did) coming.place
 unfoldable pub first_after : Sample → Option Pair
 first_after x = if has_line x ADS then known_pair x else None
 
+-- the chunks that were asked for, with the one of this request, unless it is a reply
+unfoldable pub asked_with : List ℕ → Option Request → List ℕ
+asked_with asked None = asked
+asked_with asked (Some r) = if is_reply_kind r.kind then asked else slice_set asked r.did (first_asked r)
+
 -- the chunks that were asked for, with the one of the request whose second clock the sample is
 unfoldable pub asked_after : List ℕ → Option Pair → Sample → List ℕ
-asked_after asked first x =
-    elim (request_by first x) [ Some r ↦ if is_reply_kind r.kind then asked else slice_set asked r.did (first_asked r) | None ↦ asked ]
+asked_after asked first x = asked_with asked (request_by first x)
 
 -- the data of the request that responded last come from memory: its response was normal data
 unfoldable pub from_memory_after : Bool → Sample → Bool

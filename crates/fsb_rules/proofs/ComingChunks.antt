@@ -83,7 +83,7 @@ pub found_none : (marks : Marks) (k : Checker) (h : Trace) (x : Sample) → Stan
 unfolding as_broken
 found_none marks k h x s f = s.found ∙ ap as_broken (none_before marks h x (verdict marks h) refl f)
 
-unbroken_now : (marks : Marks) (h : Trace) (x : Sample) → verdict marks (h ++ x ∷ []) ≡ None → IsUnbroken marks (h ++ x ∷ []) (length h)
+pub unbroken_now : (marks : Marks) (h : Trace) (x : Sample) → verdict marks (h ++ x ∷ []) ≡ None → IsUnbroken marks (h ++ x ∷ []) (length h)
 unfolding least_rule
 unbroken_now marks h x f =
     let m = one_more h x in
