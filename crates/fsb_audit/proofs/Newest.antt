@@ -63,7 +63,7 @@ lawful_parts : (r : Request) → is_lawful_request r ≡ true → (r.line < 2 ^ 
 unfolding is_lawful_request
 lawful_parts r t = lawful_fields r.kind r.line r.chunk r.den (and_parts _ _ t).0
 
-chunk_same : (r : Request) (n : ℕ) → is_lawful_request r ≡ true → n < 4 → nth_from (first_asked r) n ≡ nth_chunk n r
+pub chunk_same : (r : Request) (n : ℕ) → is_lawful_request r ≡ true → n < 4 → nth_from (first_asked r) n ≡ nth_chunk n r
 unfolding nth_from first_asked nth_chunk
 chunk_same r n t l =
     let p = lawful_parts r t in
@@ -91,7 +91,7 @@ pub record Comes (h : Trace) (x : Sample) (v : Trace) (j k : ℕ) (r : Request) 
   pub clock : IsDataClock v j k (length h)
   pub request : live_request_of v j ≡ Some r
 
-goes_on : (h : Trace) (x : Sample) (v : Trace) (j k : ℕ) (r : Request) → Comes h x v j k r → GoesOnFrom h v
+pub goes_on : (h : Trace) (x : Sample) (v : Trace) (j k : ℕ) (r : Request) → Comes h x v j k r → GoesOnFrom h v
 goes_on h x v j k r c = record { agree = c.more.agree; orderly = c.before }
 
 -- its first clock
@@ -104,7 +104,7 @@ pub record Began (h v : Trace) (j : ℕ) (r : Request) : Type 0 where
   pub request : request_at v first ≡ Some r
   pub known : request_at h first ≡ Some r
 
-request_where : (w : Trace) (j q : ℕ) (r : Request) → live_clock_of w j ≡ Some q → live_request_of w j ≡ Some r → request_at w q ≡ Some r
+pub request_where : (w : Trace) (j q : ℕ) (r : Request) → live_clock_of w j ≡ Some q → live_request_of w j ≡ Some r → request_at w q ≡ Some r
 unfolding live_request_of
 request_where w j q r e f = let a = rw e at f in a
 
@@ -124,7 +124,7 @@ began_at h x v j q r m o e f l =
       known = sym (request_at-old h x v q m (omega arith)) ∙ request;
     }
 
-began : (h : Trace) (x : Sample) (v : Trace) (j k : ℕ) (r : Request) → Comes h x v j k r → Began h v j r
+pub began : (h : Trace) (x : Sample) (v : Trace) (j k : ℕ) (r : Request) → Comes h x v j k r → Began h v j r
 began h x v j k r c =
     let a = responded v j c.clock.response c.after c.clock.is_response in
     let s = snoop_end_of-clock v j a.snoop a.is_snoop in
@@ -141,7 +141,7 @@ not_deferred h x v j k r c =
     both_ways _ (deferred_still v j (same ∙ t)) c.clock.moves)
 
 -- one that is no reply is outstanding before the sample
-plain_out : (h : Trace) (x : Sample) (v : Trace) (j k : ℕ) (r : Request) (c : Comes h x v j k r) (b : Began h v j r) → is_reply_kind r.kind ≡ false → IsOut h b.first
+pub plain_out : (h : Trace) (x : Sample) (v : Trace) (j k : ℕ) (r : Request) (c : Comes h x v j k r) (b : Began h v j r) → is_reply_kind r.kind ≡ false → IsOut h b.first
 unfolding is_reply is_some_and
 plain_out h x v j k r c b f = record {
   live = b.live;
@@ -155,7 +155,7 @@ unfolding reply_end_of reply_number_of
 reply_end_at w i q e = rw e refl
 
 -- the request that a reply answers is outstanding before the sample
-answered_out : (h : Trace) (x : Sample) (v : Trace) (j k : ℕ) (r : Request) (c : Comes h x v j k r) (b : Began h v j r) (i q : ℕ) (s : Request) → is_deferred h i ≡ true → reply_clock_of h i ≡ Some b.first → live_clock_of h i ≡ Some q → live_request_of h i ≡ Some s → q < length h → IsOut h q
+pub answered_out : (h : Trace) (x : Sample) (v : Trace) (j k : ℕ) (r : Request) (c : Comes h x v j k r) (b : Began h v j r) (i q : ℕ) (s : Request) → is_deferred h i ≡ true → reply_clock_of h i ≡ Some b.first → live_clock_of h i ≡ Some q → live_request_of h i ≡ Some s → q < length h → IsOut h q
 unfolding live_clock_of live_number_of
 answered_out h x v j k r c b i q s t e f g l =
     let p = nth_where-found (is_live h) i (length h) q f in

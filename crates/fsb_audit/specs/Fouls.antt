@@ -41,11 +41,17 @@ foul_at w c = option_map (λ chunk. FoulFirst (record { clock = c; addr = chunk 
 unfoldable pub broken_at : ℕ × ℕ → Finding
 broken_at p = BrokenFirst (record { clock = p.0; rule = p.1 })
 
+-- what is found where the broken rule is this one, and the first foul clock below its clock that one, if there is one
+unfoldable pub found_below : Trace → ℕ × ℕ → Option ℕ → Option Finding
+found_below w p None = Some (broken_at p)
+found_below w p (Some c) = foul_at w c
+
+-- what is found where this is the verdict
+unfoldable pub found_with : Trace → Option (ℕ × ℕ) → Option Finding
+found_with w None = option_and_then (foul_at w) (first_foul w (length w))
+found_with w (Some p) = found_below w p (first_foul w p.0)
+
 -- what is found in a trace of a dump with these marks: the broken rule where there is one and no clock below it is foul;
 -- otherwise the first foul clock, where there is one; otherwise nothing
 unfoldable pub finding_of : Marks → Trace → Option Finding
-finding_of marks w =
-    elim (verdict marks w) [
-      | Some p ↦ elim (first_foul w p.0) [ Some c ↦ foul_at w c | None ↦ Some (broken_at p) ]
-      | None ↦ option_and_then (foul_at w) (first_foul w (length w))
-    ]
+finding_of marks w = found_with w (verdict marks w)
