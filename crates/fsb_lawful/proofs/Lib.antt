@@ -1,5 +1,15 @@
 pub mod Keeping
 pub mod Cuts
+pub mod CutRuns
+pub mod AnswerClocks
+pub mod Responding
+pub mod OneAnswer
+pub mod Answers
+pub mod Turns
+pub mod ResponseCodes
+pub mod OrderlyRuns
+pub mod Chunks
+pub mod DataMoves
 pub mod KnownWords
 pub mod Beginnings
 pub mod AddressErrors

@@ -13,7 +13,7 @@ use Rattle.fsb_timely.specs.Scripts.{Need, is_idling, window, needs_from}
 use Rattle.fsb_timely.specs.Wants.{owed, is_missing, victim_of, id_of, is_id_used, free_id, may_upgrade, kind_needed, request_of_kind, write_back_of, want_for, want_of}
 
 -- how many pass one of two tests
-count-or : (p q : ℕ → Bool) (k : ℕ) → count_where (λ n. p n || q n) k ≤ count_where p k + count_where q k
+pub count-or : (p q : ℕ → Bool) (k : ℕ) → count_where (λ n. p n || q n) k ≤ count_where p k + count_where q k
 unfolding count_where
 count-or p q zero = omega arith
 count-or p q (suc k) = let before = count-or p q k in step (p k) (q k) before
@@ -34,6 +34,22 @@ count-all : (p : ℕ → Bool) (k : ℕ) → ((n : ℕ) → n < k → p n ≡ tr
 unfolding count_where
 count-all p zero h = refl
 count-all p (suc k) h = rw (h k (omega arith), count-all p k (λ n l. h n (omega arith))) (add-one k)
+
+other-place : (a k n : ℕ) → nat_eq k a ≡ true → n < k → (b : Bool) → nat_eq n a ≡ b → nat_eq n a ≡ false
+other-place a k n e l false f = f
+other-place a k n e l true f =
+    let one : k ≡ a = eqb-true k a e in let two : n ≡ a = eqb-true n a f in absurd (omega arith)
+
+-- a place is one number at most
+pub count-one-place : (a k : ℕ) → count_where (λ n. nat_eq n a) k ≤ 1
+unfolding count_where
+count-one-place a zero = omega arith
+count-one-place a (suc k) =
+    elim (cases_Bool (nat_eq k a)) [
+      | inl t ↦
+          let none = count-zero (λ n. nat_eq n a) k (λ n l. other-place a k n t l (nat_eq n a) refl) in rw t (omega arith)
+      | inr f ↦ let before = count-one-place a k in rw f (omega arith)
+    ]
 
 other-number : (did a k n : ℕ) → nat_eq did (id_of a k) ≡ true → n < k → (b : Bool) → nat_eq did (id_of a n) ≡ b → nat_eq did (id_of a n) ≡ false
 unfolding id_of
