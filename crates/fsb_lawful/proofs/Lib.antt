@@ -10,6 +10,9 @@ pub mod ResponseCodes
 pub mod OrderlyRuns
 pub mod Chunks
 pub mod DataMoves
+pub mod Listed
+pub mod OutstandingIds
+pub mod NewRequests
 pub mod KnownWords
 pub mod Beginnings
 pub mod AddressErrors

@@ -119,6 +119,20 @@ want_if-is p a c request (Some need) f =
     let same : want_for p a c (owed p a c) need ≡ request = cc in
     subst (IsWant p a c) same (want_for-is p a c need (victim_of p a c need.line) refl)
 
+-- and none of the outstanding requests has it
+free-unused : (a : ℕ) (owings : List Owing) (o : Option ℕ) → length owings < 16 → first_where (λ n. not (is_id_used owings (id_of a n))) (length owings + 1) ≡ o → is_id_used owings (free_id a owings) ≡ false
+unfolding free_id
+free-unused a owings None l e =
+    let all = count-all (λ n. is_id_used owings (id_of a n)) (length owings + 1) (λ n m. used-there (is_id_used owings (id_of a n)) (first_where-none (λ k. not (is_id_used owings (id_of a k))) (length owings + 1) e n m)) in
+    let few = used-few a owings (length owings + 1) in absurd (omega arith)
+free-unused a owings (Some n) l e =
+    let h = first_where-found (λ k. not (is_id_used owings (id_of a k))) (length owings + 1) n e in
+    rw (e, free_id) (unused (is_id_used owings (id_of a n)) h.1)
+  where
+    unused : (b : Bool) → not b ≡ true → b ≡ false
+    unused true t = absurd (let no : ⊥ = cc in no)
+    unused false t = refl
+
 want_by : (p : Past) (a c : ℕ) (request : Request) (b : Bool) → (is_idling p a c || nat_le p.plan.ahead (length (owed p a c))) ≡ b → want_of p a c ≡ Some request → (length (owed p a c) < p.plan.ahead) × IsWant p a c request
 unfolding want_of
 want_by p a c request true t e = absurd (let h : ⊥ = (let e' = rw (t, want_of) at e in cc) in h)
@@ -135,3 +149,12 @@ want-own p a c request few e =
     let is = h.1 in
     let short = h.0 in
     (is.no_reply, ap (λ d. d / 16) is.own ∙ free-own a (owed p a c) (first_where (λ n. not (is_id_used (owed p a c) (id_of a n))) (length (owed p a c) + 1)) (omega arith) refl)
+
+-- an agent that wants something has fewer requests outstanding than it may, and none of them has the want's ID
+pub want-few : (p : Past) (a c : ℕ) (request : Request) → p.plan.ahead ≤ 4 → want_of p a c ≡ Some request → (length (owed p a c) < p.plan.ahead) × (request.did ≡ free_id a (owed p a c)) × (is_id_used (owed p a c) request.did ≡ false)
+want-few p a c request few e =
+    let h = want_by p a c request (is_idling p a c || nat_le p.plan.ahead (length (owed p a c))) refl e in
+    let is = h.1 in
+    let short = h.0 in
+    let unused = free-unused a (owed p a c) (first_where (λ n. not (is_id_used (owed p a c) (id_of a n))) (length (owed p a c) + 1)) (omega arith) refl in
+    (short, is.own, ap (is_id_used (owed p a c)) is.own ∙ unused)
