@@ -59,9 +59,10 @@ same-winner r d l =
     winner_at-agree (d + 1) (run_to r d).trace r.trace d early (omega arith)
     ∙ winner_at-agree (suc d + 1) r.trace (run_to r (suc d)).trace d late (omega arith)
 
-there : (r : Run) (d : ℕ) → Timely r → r.plan.ahead ≤ 4 → WantsLawfully r → suc d < length r.trace → line_back ADS (run_to r (suc d)).trace (suc d) 1 ≡ true → is_identified (winner_at (run_to r (suc d)).trace d) (request_at (run_to r (suc d)).trace d) ≡ true
+-- a request is identified in its second clock
+pub identified-at : (r : Run) (d : ℕ) → Timely r → r.plan.ahead ≤ 4 → WantsLawfully r → suc d < length r.trace → line_back ADS (run_to r (suc d)).trace (suc d) 1 ≡ true → is_identified (winner_at (run_to r (suc d)).trace d) (request_at (run_to r (suc d)).trace d) ≡ true
 unfolding past_to past_of
-there r d h few wants l t =
+identified-at r d h few wants l t =
     let begun = begun-decoded r d h l (ads-back r d l ∙ t) in
     let decoded = begun.2 (wants.lawful d begun.0 begun.1) in
     ap (is_identified (winner_at (run_to r (suc d)).trace d)) decoded
@@ -80,7 +81,7 @@ at-clock r zero h few wants l =
 at-clock r (suc d) h few wants l =
     let one : suc d - 1 ≡ d = omega arith in
     let v = (run_to r (suc d)).trace in
-    and-fails (line_back ADS v (suc d) 1) (not (is_identified (winner_at v (suc d - 1)) (request_at v (suc d - 1)))) (λ t. ap (λ k. not (is_identified (winner_at v k) (request_at v k))) one ∙ ap not (there r d h few wants l t))
+    and-fails (line_back ADS v (suc d) 1) (not (is_identified (winner_at v (suc d - 1)) (request_at v (suc d - 1)))) (λ t. ap (λ k. not (is_identified (winner_at v k) (request_at v k))) one ∙ ap not (identified-at r d h few wants l t))
 
 -- rule 7
 pub keeps-7 : (m : Marks) (r : Run) → Timely r → r.plan.ahead ≤ 4 → WantsLawfully r → Keeps m 7 r.trace

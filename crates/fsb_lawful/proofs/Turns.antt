@@ -63,6 +63,7 @@ pub record Turned (r : Run) (c i s : ℕ) : Type 0 where
   pub settled : settled_of (run_to r c) (past_of (run_to r c)) i ≡ Some (settled_by (run_to r c).trace (number_of_turn end.turn) i s)
   pub outcome : settled_of (run_to r c) (past_of (run_to r c)) i ≡ Some end.outcome
   pub defers : line_at DEFER (run_to r c).trace s ≡ not (is_keep end.turn)
+  pub kind : (request : Request) → live_request_of (run_to r c).trace i ≡ Some request → end.kind ≡ Some request.kind
   pub effective : (request : Request) → live_request_of (run_to r c).trace i ≡ Some request → TurnFits end.turn request
 
 defers-by : (r : Run) (p : Past) (s : ℕ) (end : SnoopEnd) → drives_hazards r p s ≡ true → snooped_at p s ≡ Some end → line_at DEFER r.trace s ≡ not (is_keep end.turn)
@@ -118,6 +119,7 @@ turned-at r c i s h l e =
       settled = settled-by (run_to r c) i s (snoop_of r s i q) tied;
       outcome = tied.outcome;
       defers = defers-at r c s (snoop_of r s i q) h (omega arith) l there;
+      kind = λ request f. tied.kind ∙ ap (option_map (λ x. x.kind)) (request-there v i _ request tied.first f);
       effective = λ request f.
           chosen-fits r.plan.bridge _ (run_to r s).trace _ q s request (request_at-agree (s + 1) (run_to r s).trace v q agree (omega arith) ∙ request-there v i q request k.is_clock f);
     }
