@@ -15,6 +15,8 @@ pub mod OutstandingIds
 pub mod NewRequests
 pub mod RequestLines
 pub mod SnoopResults
+pub mod LawfulWants
+pub mod LawfulBeginnings
 pub mod KnownWords
 pub mod Beginnings
 pub mod AddressErrors
