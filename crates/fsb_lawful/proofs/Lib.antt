@@ -17,6 +17,7 @@ pub mod RequestLines
 pub mod SnoopResults
 pub mod LawfulWants
 pub mod LawfulBeginnings
+pub mod Accepted
 pub mod KnownWords
 pub mod Beginnings
 pub mod AddressErrors
