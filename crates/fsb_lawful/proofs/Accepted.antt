@@ -1,12 +1,10 @@
 -- A timely run whose plan keeps the bounds is accepted: no rule is broken at any of its clocks.
-use Rattle.std.proofs.Common.{ℕ, zero, suc, ◌+◌, ◌<◌, ◌≤◌, ◌≡◌, true, false, ◌&&◌, None, is_some, length, take, nat_lt, refl, ap, ◌∙◌, arith, below_more}
+use Rattle.std.proofs.Common.{ℕ, ◌+◌, ◌<◌, ◌≡◌, false, ◌&&◌, None, is_some, length, take, nat_lt, refl, ap, ◌∙◌, arith, below_more}
 use Rattle.std.proofs.lemmas.Bool.{and_right}
-use Rattle.fsb_count.specs.Clocks.{first_where}
 use Rattle.fsb_count.proofs.Interface.{first_where-off}
 use Rattle.fsb_signal.specs.declared.marks.Marks.{Marks}
 use Rattle.fsb_signal.specs.Parity.{marks_in}
 use Rattle.fsb_trace.specs.At.{Trace}
-use Rattle.fsb_trace.specs.Rules.{breaks}
 use Rattle.fsb_trace.specs.Verdict.{is_broken, is_foul, least_rule, verdict}
 use Rattle.fsb_trace.proofs.Interface.{breaks-none}
 use Rattle.fsb_timely.specs.Runs.{Run}

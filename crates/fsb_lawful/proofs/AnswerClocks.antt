@@ -9,7 +9,7 @@ use Rattle.fsb_signal.specs.declared.lines.TheConstants.Lines.{HITM}
 use Rattle.fsb_trace.specs.At.{Trace, responds_at}
 use Rattle.fsb_trace.specs.Agree.{AgreeTo}
 use Rattle.fsb_trace.specs.Requests.{is_write_back}
-use Rattle.fsb_trace.specs.Snoop.{snoop_end_of, line_at_snoop_end}
+use Rattle.fsb_trace.specs.Snoop.{snoop_end_of}
 use Rattle.fsb_trace.specs.Outcome.{response_clock_of}
 use Rattle.fsb_trace.specs.Response.{takes, end_of, is_clear_before, two_after_snoop, answer_from}
 use Rattle.fsb_trace.specs.Rules.{next_response}

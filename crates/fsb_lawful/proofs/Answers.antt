@@ -1,14 +1,12 @@
 -- Rules 13 and 15: responses and TRDY# of a timely run come in time.
-use Rattle.std.proofs.Common.{ℕ, ◌+◌, ◌<◌, ◌≤◌, ◌≡◌, Bool, true, false, not, ◌&&◌, ◌||◌, Option, Some, None, length, take, nat_le, nat_lt, refl, sym, ap, ◌∙◌, arith, inl, inr, subst}
-use Rattle.std.proofs.lemmas.Bool.{and_parts, le-leb, ltb-true, or_from}
+use Rattle.std.proofs.Common.{ℕ, ◌+◌, ◌<◌, ◌≡◌, Bool, true, false, not, ◌&&◌, length, take, refl, sym, ap, ◌∙◌, arith, inl, inr, subst}
+use Rattle.std.proofs.lemmas.Bool.{and_parts, le-leb, or_from}
 use Rattle.fsb_count.specs.Options.{is_some_and, is_before}
 use Rattle.fsb_count.proofs.Interface.{any_where-found, count_where-mono, is_before-parts}
 use Rattle.fsb_signal.specs.declared.lines.TheConstants.Lines.{TRDY}
 use Rattle.fsb_signal.specs.declared.marks.Marks.{Marks}
 use Rattle.fsb_signal.specs.Samples.{line_at}
-use Rattle.fsb_trace.specs.At.{Trace, responds_at, response_code_at}
-use Rattle.fsb_trace.specs.Outcome.{response_code_of}
-use Rattle.fsb_trace.specs.declared.outcome.Outcome.TheVariants.{Failed}
+use Rattle.fsb_trace.specs.At.{Trace, responds_at}
 use Rattle.fsb_trace.specs.Requests.{live_count}
 use Rattle.fsb_trace.specs.Response.{takes, ready_clock_of}
 use Rattle.fsb_trace.specs.Rules.{next_response, may_answer, is_response_early, responds_soundly, is_ready_in_time, is_ready_wrongly, is_target_ready_wrong}

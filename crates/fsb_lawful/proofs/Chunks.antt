@@ -1,7 +1,7 @@
 -- The four chunks of a transfer: when they come, and how many came below a clock.
 use Rattle.std.proofs.Common.{ℕ, zero, suc, ◌+◌, ◌*◌, ◌<◌, ◌≤◌, ◌≡◌, Bool, true, false, ◌||◌, Option, Some, None, is_some, nat_eq, refl, arith, if◌then◌else◌}
 use Rattle.std.proofs.lemmas.Bool.{eqb-true, eq-eqb, or_left, or_right}
-use Rattle.fsb_count.specs.Clocks.{count_where, first_where}
+use Rattle.fsb_count.specs.Clocks.{count_where}
 use Rattle.fsb_count.proofs.Interface.{count_where-above, first_where-found, first_where-none}
 use Rattle.fsb_trace.specs.Timing.{chunk_from}
 use Rattle.fsb_lawful.proofs.OwnIds.{count-or, count-one-place}

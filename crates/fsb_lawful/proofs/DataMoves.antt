@@ -1,21 +1,20 @@
 -- Rule 16: DRDY# and DBSY# of a timely run are those of the request that responded last.
-use Rattle.std.proofs.Common.{ℕ, zero, suc, ◌+◌, ◌*◌, ◌<◌, ◌≤◌, ◌≡◌, Bool, true, false, not, ◌&&◌, ◌||◌, Option, Some, None, is_some, length, take, nat_le, nat_lt, refl, sym, ap, ◌∙◌, arith, inl, inr, subst}
+use Rattle.std.proofs.Common.{ℕ, zero, suc, ◌+◌, ◌*◌, ◌<◌, ◌≤◌, ◌≡◌, Bool, true, false, not, ◌&&◌, ◌||◌, Some, None, is_some, length, take, nat_le, nat_lt, refl, sym, ap, ◌∙◌, arith, inl, inr}
 use Rattle.std.specs.Option.{option_and_then}
-use Rattle.std.proofs.lemmas.Bool.{cases_Bool, cases_eq, cases_lt, and_parts, and_right, le-leb, lt-leb, le-ltb, lt-ltb, ltb-true, ltb-false}
+use Rattle.std.proofs.lemmas.Bool.{cases_Bool, cases_eq, cases_lt, and_right, le-leb, lt-leb, le-ltb, lt-ltb, ltb-true, ltb-false}
 use Rattle.fsb_count.specs.Options.{is_some_and}
 use Rattle.fsb_count.specs.Clocks.{any_where, count_where, from_clock}
 use Rattle.fsb_count.proofs.Interface.{any_where-at, any_where-off, count_where-mono, count_where-passed, count_where-same, nth_where-found}
 use Rattle.fsb_signal.specs.declared.lines.TheConstants.Lines.{DRDY, DBSY}
 use Rattle.fsb_signal.specs.declared.marks.Marks.{Marks}
 use Rattle.fsb_signal.specs.Samples.{line_at}
-use Rattle.fsb_trace.specs.At.{Trace, responds_at}
-use Rattle.fsb_trace.specs.Outcome.{does_move, response_clock_of, outcome_of, moves_data}
+use Rattle.fsb_trace.specs.At.{responds_at}
+use Rattle.fsb_trace.specs.Outcome.{does_move, response_clock_of, moves_data}
 use Rattle.fsb_trace.specs.Requests.{live_count}
 use Rattle.fsb_trace.specs.Response.{end_of}
-use Rattle.fsb_trace.specs.Rules.{is_transferring_of, is_transferring, is_data_wrong}
+use Rattle.fsb_trace.specs.Rules.{is_transferring, is_data_wrong}
 use Rattle.fsb_trace.specs.Timing.{chunk_from, is_busy_from}
 use Rattle.fsb_trace.proofs.Interface.{breaks-16, AgreeTo-sym, end_of-moving, line_at-agree, outcome_of-stays, responds_at-agree, response_clock_of-stays}
-use Rattle.fsb_laws.specs.Orderly.{Orderly}
 use Rattle.fsb_laws.specs.Progress.{response_count}
 use Rattle.fsb_laws.proofs.Interface.{clear_parts, has_answer, is_transferring-last, is_transferring-none, last_is_live, response_past, response_there, transferring_form}
 use Rattle.fsb_timely.specs.Runs.{Run, run_to, past_of}

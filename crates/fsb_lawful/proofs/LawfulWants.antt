@@ -1,15 +1,15 @@
 -- What begins in a run whose plan keeps the bounds of a bench file is a lawful request.
-use Rattle.std.proofs.Common.{ℕ, zero, suc, ◌+◌, ◌-◌, ◌*◌, ◌/◌, ◌%◌, ◌^◌, ◌<◌, ◌≤◌, ◌≡◌, Bool, true, false, not, ◌&&◌, ◌||◌, IsTrue, List, [], ◌∷◌, ◌++◌, map, Option, Some, None, length, drop, min, nat_eq, nat_le, nat_lt, slice_get, refl, sym, ap, subst, ◌∙◌, arith, inl, inr, if◌then◌else◌}
+use Rattle.std.proofs.Common.{ℕ, zero, suc, ◌-◌, ◌^◌, ◌<◌, ◌≡◌, Bool, true, false, ◌&&◌, List, [], ◌∷◌, ◌++◌, map, Option, Some, None, drop, nat_eq, nat_lt, slice_get, refl, subst, arith, inl, inr, if◌then◌else◌}
 use Rattle.std.specs.List.{filter, filter_map, find, list_all}
-use Rattle.std.specs.Option.{option_and_then, option_map, option_map_or}
+use Rattle.std.specs.Option.{option_map_or}
 use Rattle.std.proofs.lemmas.Bool.{and_from, and_parts, cases_Bool, lt-ltb, ltb-true}
 use Rattle.fsb_access.specs.declared.access.Access.{Access}
 use Rattle.fsb_access.specs.declared.access.Access.TheVariants.{Load, Store}
 use Rattle.fsb_access.specs.declared.item.Item.{Item}
 use Rattle.fsb_access.specs.declared.item.Item.TheVariants.{One, Locked, Idle}
 use Rattle.fsb_access.specs.Access.{accessed_line, addr_of, chunk_of, fits, is_lawful_access, is_place, is_size, number_of}
-use Rattle.fsb_script.specs.Bounds.{is_lawful_item, is_lawful_script}
-use Rattle.fsb_timely.specs.Scripts.{Need, first_chunk, is_load, is_locked, locked_need, needs_after, needs_from, needs_of, plain_items, plain_need, window_from}
+use Rattle.fsb_script.specs.Bounds.{is_lawful_item}
+use Rattle.fsb_timely.specs.Scripts.{Need, first_chunk, is_locked, locked_need, needs_after, needs_from, needs_of, plain_items, plain_need, window_from}
 
 -- the line and the chunk of a need have their bits
 abbrev pub is_fit : Need → Bool

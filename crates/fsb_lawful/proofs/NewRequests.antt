@@ -1,9 +1,9 @@
 -- Rule 18: what begins in a timely run is a reply that is awaited, or a request with a new ID where few are outstanding.
-use Rattle.std.proofs.Common.{ℕ, zero, suc, ◌+◌, ◌-◌, ◌<◌, ◌≤◌, ◌≡◌, Bool, true, false, cond, not, ◌&&◌, ◌||◌, Option, Some, None, is_some, length, take, nat_eq, nat_le, nat_lt, slice_index, refl, sym, ap, subst, ◌∙◌, arith, if◌then◌else◌}
+use Rattle.std.proofs.Common.{ℕ, zero, suc, ◌+◌, ◌-◌, ◌<◌, ◌≤◌, ◌≡◌, Bool, true, false, not, ◌&&◌, Option, Some, None, length, take, nat_le, slice_index, refl, sym, ap, subst, ◌∙◌, arith}
 use Rattle.std.specs.Option.{option_and_then, option_map}
-use Rattle.std.proofs.lemmas.Bool.{and_from, and_parts, cases_Bool, eq-eqb, leb-true, lt-leb, lt-ltb, or_from}
-use Rattle.fsb_count.specs.Clocks.{any_where, count_where, first_where}
-use Rattle.fsb_count.specs.Options.{is_before, is_some_and}
+use Rattle.std.proofs.lemmas.Bool.{and_from, eq-eqb, leb-true, lt-leb}
+use Rattle.fsb_count.specs.Clocks.{any_where, count_where}
+use Rattle.fsb_count.specs.Options.{is_some_and}
 use Rattle.fsb_count.proofs.Interface.{any_where-at, any_where-off, first_where-found, is_before-from}
 use Rattle.fsb_encode.specs.declared.request.Request.{Request}
 use Rattle.fsb_signal.specs.declared.lines.TheConstants.Lines.{ADS}
@@ -17,20 +17,17 @@ use Rattle.fsb_trace.specs.Outcome.{is_deferral, is_deferred, is_settled_deferre
 use Rattle.fsb_trace.specs.Requests.{have_same_id, is_reply, is_reply_kind, live_count, live_request_of}
 use Rattle.fsb_trace.specs.Rules.{awaits_reply, is_begun_wrongly, is_id_taken_by, is_outstanding_of_winner, is_outstanding_wrong}
 use Rattle.fsb_trace.specs.Winner.{winner_at}
-use Rattle.fsb_trace.proofs.Interface.{AgreeTo-sym, breaks-18, is_reply-some, request_at-agree, response_clock_of-stays, winner_at-agree}
-use Rattle.fsb_laws.specs.Progress.{response_count}
-use Rattle.fsb_laws.proofs.Interface.{BeginsAfter, last_is_live, response_counted, same_answered, same_deferred, same_live_request}
+use Rattle.fsb_trace.proofs.Interface.{AgreeTo-sym, breaks-18, response_clock_of-stays, winner_at-agree}
+use Rattle.fsb_laws.proofs.Interface.{last_is_live, response_counted, same_answered, same_deferred, same_live_request}
 use Rattle.fsb_timely.specs.Moments.{turns_in}
-use Rattle.fsb_timely.specs.Past.{Past}
 use Rattle.fsb_timely.specs.Runs.{Run, past_of, past_to, run_to}
 use Rattle.fsb_timely.specs.Starts.{due_number, reply_to, request_begun, would_begin}
 use Rattle.fsb_timely.specs.Timely.{Timely}
 use Rattle.fsb_timely.specs.Transfers.{settled_of}
-use Rattle.fsb_timely.specs.Wants.{want_of}
 use Rattle.fsb_lawful.specs.Beginning.{WantsLawfully}
 use Rattle.fsb_lawful.specs.Keeps.{Keeps}
 use Rattle.fsb_lawful.proofs.Beginnings.{begins-at, not-low}
-use Rattle.fsb_lawful.proofs.Begun.{ads-back, begun_of, begun-decoded}
+use Rattle.fsb_lawful.proofs.Begun.{ads-back, begun-decoded}
 use Rattle.fsb_lawful.proofs.Cuts.{line-to}
 use Rattle.fsb_lawful.proofs.CutRuns.{cuts-agree, length-cut, past-cut}
 use Rattle.fsb_lawful.proofs.Identity.{begun-winner}

@@ -1,16 +1,16 @@
 -- In a timely run the request that responds is the next one, and so is the one whose target is ready.
-use Rattle.std.proofs.Common.{ℕ, zero, suc, ◌+◌, ◌<◌, ◌≤◌, ◌≡◌, Bool, true, false, ◌||◌, not, Option, Some, None, length, nat_eq, refl, sym, ap, ◌∙◌, arith, inl, inr, subst}
+use Rattle.std.proofs.Common.{ℕ, zero, suc, ◌+◌, ◌<◌, ◌≤◌, ◌≡◌, true, false, Option, Some, None, length, refl, sym, ap, ◌∙◌, arith, inl, inr, subst}
 use Rattle.std.proofs.lemmas.Bool.{cases_lt, eqb-true}
-use Rattle.fsb_count.specs.Clocks.{any_where, count_where, first_where}
+use Rattle.fsb_count.specs.Clocks.{any_where}
 use Rattle.fsb_count.proofs.Interface.{any_where-found, count_where-mono, count_where-same, first_where-found}
 use Rattle.fsb_signal.specs.declared.lines.TheConstants.Lines.{TRDY, DRDY, DBSY}
-use Rattle.fsb_signal.specs.Samples.{line_at, data_at}
-use Rattle.fsb_trace.specs.At.{Trace, responds_at, response_code_at}
+use Rattle.fsb_signal.specs.Samples.{line_at}
+use Rattle.fsb_trace.specs.At.{responds_at, response_code_at}
 use Rattle.fsb_trace.specs.Requests.{live_count}
 use Rattle.fsb_trace.specs.Response.{ready_clock_of}
 use Rattle.fsb_trace.specs.Rules.{next_response}
 use Rattle.fsb_trace.proofs.Interface.{responds_at-agree, line_at-agree}
-use Rattle.fsb_laws.proofs.Interface.{HasAnswer, after_answer, answer_later, has_ready}
+use Rattle.fsb_laws.proofs.Interface.{after_answer, answer_later, has_ready}
 use Rattle.fsb_timely.specs.Past.{Past}
 use Rattle.fsb_timely.specs.Runs.{Run, run_to, past_of}
 use Rattle.fsb_timely.specs.Snoops.{live_choice}

@@ -1,5 +1,5 @@
 -- A timely run keeps the distance of requests and the order of responses: its trace is orderly at each clock.
-use Rattle.std.proofs.Common.{ℕ, ◌+◌, ◌-◌, ◌<◌, ◌≤◌, ◌≡◌, true, false, Some, length, nat_le, ◌&&◌, refl, sym, ap, ◌∙◌, arith, inl, inr, subst}
+use Rattle.std.proofs.Common.{ℕ, ◌+◌, ◌-◌, ◌<◌, ◌≤◌, ◌≡◌, true, false, Some, length, sym, ap, ◌∙◌, arith, inl, inr, subst}
 use Rattle.std.proofs.lemmas.Bool.{cases_lt, le-leb}
 use Rattle.fsb_count.proofs.Interface.{nth_where-found}
 use Rattle.fsb_signal.specs.declared.lines.TheConstants.Lines.{ADS}
@@ -8,7 +8,7 @@ use Rattle.fsb_trace.specs.At.{Trace, line_back, responds_at}
 use Rattle.fsb_trace.specs.Outcome.{response_clock_of}
 use Rattle.fsb_trace.specs.Rules.{may_answer, next_response}
 use Rattle.fsb_trace.proofs.Interface.{line_at-agree, responds_at-agree}
-use Rattle.fsb_laws.specs.Orderly.{Spaced, Orderly}
+use Rattle.fsb_laws.specs.Orderly.{Orderly}
 use Rattle.fsb_laws.proofs.Interface.{ads_before_end, may_answer-stays}
 use Rattle.fsb_timely.specs.Runs.{Run, run_to}
 use Rattle.fsb_timely.specs.Timely.{Timely}

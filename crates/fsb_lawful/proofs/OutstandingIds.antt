@@ -1,11 +1,10 @@
 -- Where a symmetric agent's request begins, its ID is not taken, and few of its requests are outstanding.
-use Rattle.std.proofs.Common.{ℕ, zero, suc, ◌+◌, ◌-◌, ◌/◌, ◌<◌, ◌≤◌, ◌≡◌, Bool, true, false, not, ◌&&◌, ◌||◌, List, [], ◌∷◌, Option, Some, None, length, take, slice_get, nat_eq, nat_le, nat_lt, refl, sym, ap, subst, ◌∙◌, arith, inl, inr, add-one}
+use Rattle.std.proofs.Common.{ℕ, zero, suc, ◌+◌, ◌/◌, ◌<◌, ◌≤◌, ◌≡◌, Bool, true, false, not, ◌&&◌, List, [], ◌∷◌, Option, Some, None, length, slice_get, nat_eq, nat_lt, refl, sym, ap, subst, ◌∙◌, arith, add-one}
 use Rattle.std.specs.List.{filter, filter_map, list_any}
 use Rattle.std.specs.Option.{option_and_then, option_map, option_map_or}
-use Rattle.std.proofs.lemmas.Bool.{and_from, and_parts, cases_Bool, cases_lt, eqb-true, eq-eqb, ltb-true, lt-leb, ne_eqb, or_from}
-use Rattle.fsb_count.specs.Clocks.{any_where, all_where, count_where}
+use Rattle.std.proofs.lemmas.Bool.{and_from, and_parts, eqb-true, eq-eqb, ltb-true, ne_eqb}
+use Rattle.fsb_count.specs.Clocks.{all_where, count_where}
 use Rattle.fsb_count.specs.Options.{is_some_and}
-use Rattle.fsb_count.proofs.Interface.{any_where-off}
 use Rattle.fsb_encode.specs.declared.request.Request.{Request}
 use Rattle.fsb_signal.specs.declared.lines.TheConstants.Lines.{ADS}
 use Rattle.fsb_signal.specs.Samples.{line_at}
@@ -17,7 +16,7 @@ use Rattle.fsb_trace.specs.Flight.{is_dropped, is_finished, is_outstanding, outs
 use Rattle.fsb_trace.specs.Requests.{have_same_id, is_reply, is_reply_kind, line_of, live_request_of}
 use Rattle.fsb_trace.specs.Rules.{is_id_taken_by, is_outstanding_of_winner}
 use Rattle.fsb_trace.specs.Winner.{winner_at, is_agent, is_same_agent}
-use Rattle.fsb_trace.proofs.Interface.{is_reply-some, request_at-agree, winner_at-agree}
+use Rattle.fsb_trace.proofs.Interface.{request_at-agree, winner_at-agree}
 use Rattle.fsb_laws.proofs.Interface.{BeginsAfter, same_outstanding}
 use Rattle.fsb_timely.specs.Moments.{agent_at, begun_with, claim_at, moment_at, owing_at, owing_for}
 use Rattle.fsb_timely.specs.Past.{Claim, Owing, Past}
@@ -25,9 +24,9 @@ use Rattle.fsb_timely.specs.Runs.{Run, moments_below, past_of, past_to, past_wit
 use Rattle.fsb_timely.specs.Starts.{due_number, reply_to, request_begun, would_begin}
 use Rattle.fsb_timely.specs.Timely.{Timely}
 use Rattle.fsb_timely.specs.Wants.{free_id, is_id_used, outstanding_at, owed, want_of}
-use Rattle.fsb_timely.proofs.Interface.{length-moments, moment-at, moment_of}
+use Rattle.fsb_timely.proofs.Interface.{moment-at, moment_of}
 use Rattle.fsb_lawful.specs.Beginning.{WantsLawfully}
-use Rattle.fsb_lawful.proofs.Begun.{begun_of, begun-decoded}
+use Rattle.fsb_lawful.proofs.Begun.{begun-decoded}
 use Rattle.fsb_lawful.proofs.Cuts.{line-to, moments-to}
 use Rattle.fsb_lawful.proofs.CutRuns.{cuts-agree, length-cut}
 use Rattle.fsb_lawful.proofs.Identity.{begun-winner}

@@ -1,11 +1,10 @@
 -- Rule 8: who asks for the bus in a timely run goes on until it begins a request, and then stops.
-use Rattle.std.proofs.Common.{ℕ, zero, suc, ◌+◌, ◌-◌, ◌<◌, ◌≤◌, ◌≡◌, Bool, true, false, not, ◌&&◌, ◌||◌, Option, Some, None, is_some, length, take, nat_le, refl, sym, ap, ◌∙◌, arith, if◌then◌else◌}
+use Rattle.std.proofs.Common.{ℕ, zero, suc, ◌+◌, ◌-◌, ◌<◌, ◌≤◌, ◌≡◌, Bool, true, false, not, ◌&&◌, Option, Some, None, is_some, length, take, refl, sym, ap, ◌∙◌, arith, if◌then◌else◌}
 use Rattle.std.proofs.lemmas.Bool.{and_parts, le-leb, or_from}
-use Rattle.fsb_count.specs.Clocks.{any_where, each_where}
+use Rattle.fsb_count.specs.Clocks.{each_where}
 use Rattle.fsb_count.specs.Options.{is_some_and}
 use Rattle.fsb_count.proofs.Interface.{any_where-off, each_where-at}
 use Rattle.fsb_encode.specs.declared.request.Request.{Request}
-use Rattle.fsb_signal.specs.declared.lines.Lines.{Lines}
 use Rattle.fsb_signal.specs.declared.lines.TheConstants.Lines.{ADS, BPRI}
 use Rattle.fsb_signal.specs.declared.marks.Marks.{Marks}
 use Rattle.fsb_signal.specs.Samples.{line_at}
@@ -24,7 +23,6 @@ use Rattle.fsb_timely.specs.Wants.{want_of}
 use Rattle.fsb_lawful.specs.Beginning.{WantsLawfully}
 use Rattle.fsb_lawful.specs.Keeps.{Keeps}
 use Rattle.fsb_lawful.specs.Premises.{AsksOn}
-use Rattle.fsb_lawful.proofs.Begun.{ads-back}
 use Rattle.fsb_lawful.proofs.Cuts.{line-to}
 use Rattle.fsb_lawful.proofs.CutRuns.{cuts-agree}
 use Rattle.fsb_lawful.proofs.Identity.{identified-at}

@@ -1,6 +1,5 @@
 -- Rule 14: each response of a timely run has the code of its settled outcome, which is what is told of it.
-use Rattle.std.proofs.Common.{ℕ, ◌+◌, ◌<◌, ◌≤◌, ◌≡◌, Bool, true, false, cond, not, ◌&&◌, ◌||◌, List, Option, Some, None, length, take, nat_eq, nat_le, nat_lt, slice_index, refl, sym, ap, ◌∙◌, arith, inl, inr, subst}
-use Rattle.std.specs.Option.{option_map, option_map_or, option_and_then}
+use Rattle.std.proofs.Common.{ℕ, ◌+◌, ◌<◌, ◌≤◌, ◌≡◌, Bool, true, false, not, Option, Some, None, length, take, nat_eq, nat_le, nat_lt, refl, sym, ap, ◌∙◌, arith, subst}
 use Rattle.std.proofs.lemmas.Bool.{and_from, and_parts, le-leb, lt-ltb, ne_eqb}
 use Rattle.fsb_count.specs.Options.{is_some_and}
 use Rattle.fsb_count.proofs.Interface.{nth_where-found}
@@ -9,13 +8,12 @@ use Rattle.fsb_encode.specs.declared.request.Kind.TheVariants.{Reply, Invalidate
 use Rattle.fsb_encode.specs.declared.request.Request.{Request}
 use Rattle.fsb_hazard.specs.declared.choice.Turn.{Turn}
 use Rattle.fsb_hazard.specs.declared.choice.Turn.TheVariants.{Keep, Retry, Defer}
-use Rattle.fsb_hazard.specs.Choice.{is_never_held_up, is_defer}
+use Rattle.fsb_hazard.specs.Choice.{is_never_held_up}
 use Rattle.fsb_signal.specs.declared.lines.TheConstants.Lines.{HITM, DEFER}
 use Rattle.fsb_signal.specs.declared.marks.Marks.{Marks}
 use Rattle.fsb_signal.specs.Samples.{line_at}
 use Rattle.fsb_trace.specs.At.{Trace, responds_at, response_code_at}
 use Rattle.fsb_trace.specs.declared.outcome.Outcome.{Outcome}
-use Rattle.fsb_trace.specs.declared.outcome.Outcome.TheVariants.{Granted, Handed, Retried, Deferred, Written, Replied, Failed, Upgraded}
 use Rattle.fsb_trace.specs.Outcome.{outcome_by_kind, response_code_of, response_clock_of, told_by, outcome_of, settled_by}
 use Rattle.fsb_trace.specs.Requests.{live_count, live_request_of, is_write_back, is_write_back_kind, is_upgrade, is_upgrade_kind}
 use Rattle.fsb_trace.specs.Rules.{has_den, is_code_for, has_code_at, responds_soundly, is_code_wrong, next_response}

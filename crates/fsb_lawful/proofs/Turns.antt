@@ -1,5 +1,5 @@
 -- The turn of a live request of a timely run: what is settled by it, DEFER#, and that the request may have it.
-use Rattle.std.proofs.Common.{ℕ, zero, suc, ◌+◌, ◌<◌, ◌≤◌, ◌≡◌, Bool, true, false, not, ◌&&◌, ◌||◌, if◌then◌else◌, List, Option, Some, None, length, slice_index, refl, sym, ap, ◌∙◌, arith, subst, add-one}
+use Rattle.std.proofs.Common.{ℕ, suc, ◌+◌, ◌<◌, ◌≤◌, ◌≡◌, Bool, true, false, not, ◌&&◌, ◌||◌, if◌then◌else◌, List, Option, Some, length, slice_index, refl, sym, ap, ◌∙◌, arith, subst}
 use Rattle.std.specs.Option.{option_map}
 use Rattle.fsb_count.specs.Options.{is_some_and}
 use Rattle.fsb_encode.specs.declared.request.Request.{Request}
@@ -15,7 +15,7 @@ use Rattle.fsb_trace.specs.Deferral.{is_pending}
 use Rattle.fsb_trace.specs.Outcome.{settled_by, settled_outcome_of}
 use Rattle.fsb_trace.specs.Requests.{live_clock_of, live_request_of}
 use Rattle.fsb_trace.specs.Snoop.{snoop_end_of}
-use Rattle.fsb_trace.proofs.Interface.{AgreeTo-sym, line_at-agree, live_clock_of-stays, live_request_of-at, request_at-agree, snoop_end_of-clock, snoop_end_of-stays}
+use Rattle.fsb_trace.proofs.Interface.{AgreeTo-sym, live_clock_of-stays, live_request_of-at, request_at-agree, snoop_end_of-clock, snoop_end_of-stays}
 use Rattle.fsb_timely.specs.Grants.{snooped_at}
 use Rattle.fsb_timely.specs.Moments.{choice_at, is_in_window, effective_choice, number_of_turn, snoop_end_with, turns_in}
 use Rattle.fsb_timely.specs.Past.{Past, SnoopEnd}
@@ -24,7 +24,7 @@ use Rattle.fsb_timely.specs.Snoops.{is_keep, is_put_off, drives_bnr, drives_aerr
 use Rattle.fsb_timely.specs.Timely.{holds_in, holds_at, Timely}
 use Rattle.fsb_timely.specs.Transfers.{settled_of}
 use Rattle.fsb_timely.specs.Tied.{IsSnoopOf}
-use Rattle.fsb_timely.proofs.Interface.{moment_of, moment-snooped, snoop_of, snoop-tied, snooped-there}
+use Rattle.fsb_timely.proofs.Interface.{moment-snooped, snoop_of, snoop-tied, snooped-there}
 use Rattle.fsb_lawful.specs.Beginning.{WantsLawfully}
 use Rattle.fsb_lawful.proofs.Begun.{begun-decoded}
 use Rattle.fsb_lawful.proofs.Cuts.{run_to-agrees, snooped-to, line-to}
