@@ -4,13 +4,12 @@ ghost use Rattle.fsb_signal.specs.declared.sample.Sample.{Sample};
 ghost use Rattle.fsb_wave.specs.WaveText.{wave_lines, lines_over, lines_below, lines_behind, requests, transfers, drawings, asserts_at, has_request, mark_at, text_at, request_text, data_text};
 ghost use Rattle.fsb_wave.specs.Wave.{Stands, kept_at, shown};
 
-use crate::control_lines::control_line;
 use crate::range::ClockRange;
-use crate::text::{clocks_line, data_line, mark_of, request_line};
+use crate::text::{clocks_line, data_line, drawn_name, mark_of, request_line};
 use arrayvec::ArrayVec;
 use fsb_count::{count_where, nth_where};
-use fsb_io::{Line, put_text};
-use fsb_signal::{Lines, Sample, idle_sample};
+use fsb_io::Line;
+use fsb_signal::{Lines, Sample, control_line, idle_sample};
 
 /// The drawing of a range of at most 64 clocks of a trace, which is fed sample by sample.
 ///
@@ -129,11 +128,10 @@ impl Wave {
         ensures { slice_get (drawings (kept_at self.now) self.now.range.from (shown self.now)) number
             ≡ Some result.items }
     {
-        let entry = control_line(number);
-        let mut line = ArrayVec::new();
-        put_text(&mut line, entry.name);
+        let (name, control) = control_line(number);
+        let mut line = drawn_name(name);
         for place in 0..self.shown() {
-            line.push(self.mark(entry.line, place));
+            line.push(self.mark(control, place));
         }
         line.push(b'\n');
         line
