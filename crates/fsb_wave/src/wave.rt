@@ -73,7 +73,8 @@ impl Wave {
     // How many lines there are, by what is kept.
     fn length(&self) -> usize
         ensures value { result
-            ≡ length (lines_over (kept_at self.now) self.now.range.from (shown self.now) self.now.count) }
+            ≡ length (lines_over (kept_at self.now) self.now.range.from (shown self.now)
+            self.now.count) }
         ensures few { result ≤ 150 }
     {
         21 + self.requests() + self.transfers() + 1
@@ -82,7 +83,8 @@ impl Wave {
     // The line of this number, by what is kept.
     fn line_of(&self, i: usize) -> Option<Line>
         ensures { option_map (λ line. line.items) result
-            ≡ slice_get (lines_over (kept_at self.now) self.now.range.from (shown self.now) self.now.count)
+            ≡ slice_get (lines_over (kept_at self.now) self.now.range.from (shown self.now)
+            self.now.count)
             i }
     {
         if i < 21 {
@@ -95,7 +97,8 @@ impl Wave {
     // The line of this number below the drawings.
     fn line_below(&self, i: usize) -> Option<Line>
         ensures { option_map (λ line. line.items) result
-            ≡ slice_get (lines_below (kept_at self.now) self.now.range.from (shown self.now) self.now.count)
+            ≡ slice_get (lines_below (kept_at self.now) self.now.range.from (shown self.now)
+            self.now.count)
             i }
     {
         let requests = self.requests();
@@ -109,7 +112,8 @@ impl Wave {
     // The line of this number behind the lines of requests.
     fn line_behind(&self, i: usize) -> Option<Line>
         ensures { option_map (λ line. line.items) result
-            ≡ slice_get (lines_behind (kept_at self.now) self.now.range.from (shown self.now) self.now.count)
+            ≡ slice_get (lines_behind (kept_at self.now) self.now.range.from (shown self.now)
+            self.now.count)
             i }
     {
         let transfers = self.transfers();
@@ -125,7 +129,8 @@ impl Wave {
     // The drawing of a control line.
     fn drawing(&self, number: usize) -> Line
         requires { number < 21 }
-        ensures { slice_get (drawings (kept_at self.now) self.now.range.from (shown self.now)) number
+        ensures { slice_get (drawings (kept_at self.now) self.now.range.from (shown self.now))
+            number
             ≡ Some result.items }
     {
         let (name, control) = control_line(number);
@@ -183,7 +188,8 @@ impl Wave {
     #[tactic(auto, unfolding(crate::specs::WaveText::text_at))]
     fn request_at(&self, place: usize) -> Line
         requires { place < 64 }
-        ensures { result.items ≡ text_at request_text (kept_at self.now) (self.now.range.from + place) }
+        ensures { result.items ≡ text_at request_text (kept_at self.now)
+            (self.now.range.from + place) }
     {
         let clock = self.range.clock_of(place);
         match self.sample_at(clock) {
@@ -195,7 +201,8 @@ impl Wave {
     // How many lines of data there are.
     fn transfers(&self) -> usize
         ensures { result
-            ≡ count_where (λ place. asserts_at (kept_at self.now) Lines.DRDY (self.now.range.from + place))
+            ≡ count_where (λ place.
+            asserts_at (kept_at self.now) Lines.DRDY (self.now.range.from + place))
             (shown self.now) }
     {
         count_where(self.shown(), |place| self.has_data(place))
@@ -204,7 +211,8 @@ impl Wave {
     // The place of the k-th of them.
     fn transfer_place(&self, k: usize) -> Option<usize>
         ensures value { result
-            ≡ nth_where (λ place. asserts_at (kept_at self.now) Lines.DRDY (self.now.range.from + place)) k
+            ≡ nth_where (λ place. asserts_at (kept_at self.now) Lines.DRDY
+            (self.now.range.from + place)) k
             (shown self.now) }
         ensures few { IfSome result (λ place. place < 64) }
     {
@@ -226,7 +234,8 @@ impl Wave {
     #[tactic(auto, unfolding(crate::specs::WaveText::text_at))]
     fn data_at(&self, place: usize) -> Line
         requires { place < 64 }
-        ensures { result.items ≡ text_at data_text (kept_at self.now) (self.now.range.from + place) }
+        ensures { result.items ≡ text_at data_text (kept_at self.now)
+            (self.now.range.from + place) }
     {
         let clock = self.range.clock_of(place);
         match self.sample_at(clock) {
