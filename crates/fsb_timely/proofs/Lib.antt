@@ -1,6 +1,8 @@
 pub mod EachClock
 pub mod Next
 pub mod Since
+pub mod KeptAnswers
+pub mod Stepwise
 pub mod GoingOn
 pub mod GoingScripts
 pub mod GoingDirty

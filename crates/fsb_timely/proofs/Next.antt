@@ -25,7 +25,7 @@ use Rattle.fsb_timely.specs.ParityLines.{drives_parity}
 use Rattle.fsb_timely.specs.Timely.{Part, holds_in, holds_at, AtEachClock, IsTimelyAt, Timely}
 
 -- a sample more at the end
-agree_next : (w : Trace) (s : Sample) → AgreeTo (length w) (w ++ s ∷ []) w
+pub agree_next : (w : Trace) (s : Sample) → AgreeTo (length w) (w ++ s ∷ []) w
 agree_next w s = record {
   left = let e = length-append w (s ∷ []) in omega arith;
   right = omega arith;
@@ -33,7 +33,7 @@ agree_next w s = record {
 }
 
 -- requests below a clock that was passed
-requests-same : (w : Trace) (s : Sample) (n : ℕ) → n ≤ length w → requests_below (w ++ s ∷ []) n ≡ requests_below w n
+pub requests-same : (w : Trace) (s : Sample) (n : ℕ) → n ≤ length w → requests_below (w ++ s ∷ []) n ≡ requests_below w n
 unfolding requests_below
 requests-same w s n l =
     count_where-same (line_at ADS (w ++ s ∷ [])) (line_at ADS w) n (record { same = λ c m. line_at-agree ADS (length w) (w ++ s ∷ []) w c (agree_next w s) (omega arith) })
