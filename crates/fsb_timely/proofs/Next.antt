@@ -158,7 +158,7 @@ in_time-more first n (done ∷ log) entries l e f =
     let below : done.clock < n = ltb-true done.clock n rest.0 in
     rw (parts.0, lt-ltb done.clock (n + 1) (omega arith)) (in_time-more done.clock n log entries (omega arith) rest.1 f)
 
-in_time-next : (r s : Run) → IsNext r s → is_in_time 0 (length r.trace) r.log ≡ true → is_in_time 0 (length s.trace) s.log ≡ true
+pub in_time-next : (r s : Run) → IsNext r s → is_in_time 0 (length r.trace) r.log ≡ true → is_in_time 0 (length s.trace) s.log ≡ true
 in_time-next r s next e =
     let longer : length s.trace ≡ length r.trace + 1 = ap length next.more_trace ∙ length-append r.trace (next.sample ∷ []) in
     (λ i. is_in_time 0 (longer i) (next.more_log i)) ∙ in_time-more 0 (length r.trace) r.log next.entries (omega arith) e next.at_end

@@ -80,8 +80,7 @@ asked-empty standing r e = record { at = λ c l. absurd (omega (arith, e, l)) }
 pub asked-before : (standing : ℕ → List (Option Told)) (r s : Run) → IsNext r s → IsWhole r → AskedInSteps standing s
     → AskedInSteps standing r × IsAskedAt (standing (length r.trace)) s (length r.trace)
 asked-before standing r s next whole a =
-    let e : length s.trace ≡ length r.trace + 1 = longer r s next in
-    (
+    let e : length s.trace ≡ length r.trace + 1 = longer r s next in (
       record { at = λ c l. asked_back (standing c) r s c next whole l (a.at c (omega (arith, e, l))) },
       a.at (length r.trace) (omega (arith, e)),
     )
@@ -106,15 +105,15 @@ unfolding requests_below
 begins_there r s next old new l = elim (cases_Bool (line_at ADS s.trace (length r.trace))) [
   | inl t ↦ t
   | inr f ↦ absurd (
-    let n = length r.trace in
-    let more = count_where-more (line_at ADS s.trace) n ∙ ap (λ b. requests_below s.trace n + cond b 1 0) f in
-    let before : requests_below s.trace n ≡ requests_below r.trace n = count_there r s n next (omega arith) in
-    let choices : length s.choices ≡ length r.choices + length next.choices = ap length next.more_choices ∙ length-append r.choices next.choices in
-    let all : requests_below s.trace (length s.trace) ≡ requests_below s.trace (n + 1) = ap (requests_below s.trace) (longer r s next) in
-    let e = old.one_choice in
-    let e' = new.one_choice in
-    omega (arith, more, before, choices, all, e, e', l)
-  )
+      let n = length r.trace in
+      let more = count_where-more (line_at ADS s.trace) n ∙ ap (λ b. requests_below s.trace n + cond b 1 0) f in
+      let before : requests_below s.trace n ≡ requests_below r.trace n = count_there r s n next (omega arith) in
+      let choices : length s.choices ≡ length r.choices + length next.choices = ap length next.more_choices ∙ length-append r.choices next.choices in
+      let all : requests_below s.trace (length s.trace) ≡ requests_below s.trace (n + 1) = ap (requests_below s.trace) (longer r s next) in
+      let e = old.one_choice in
+      let e' = new.one_choice in
+      omega (arith, more, before, choices, all, e, e', l)
+      )
 ]
 
 -- how many requests began before the step is how many choices there were
