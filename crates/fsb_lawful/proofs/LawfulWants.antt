@@ -37,23 +37,27 @@ chunk-if : (o : Option Access) → nat_lt (option_map_or chunk_of o 0) 4 ≡ tru
 chunk-if None = refl
 chunk-if (Some access) = chunk-fits access
 
-all-append : {X : Type 0} (f : X → Bool) (xs ys : List X) → list_all f xs ≡ true → list_all f ys ≡ true → list_all f (xs ++ ys) ≡ true
+all-append : {X : Type 0} (f : X → Bool) (xs ys : List X) → list_all f xs ≡ true → list_all f ys ≡ true
+    → list_all f (xs ++ ys) ≡ true
 all-append f [] ys e g = g
 all-append f (x ∷ xs) ys e g = let a = and_parts (f x) (list_all f xs) e in and_from (f x) (list_all f (xs ++ ys)) a.0 (all-append f xs ys a.1 g)
 
-pub all-drop : {X : Type 0} (f : X → Bool) (n : ℕ) (xs : List X) → list_all f xs ≡ true → list_all f (drop n xs) ≡ true
+pub all-drop : {X : Type 0} (f : X → Bool) (n : ℕ) (xs : List X) → list_all f xs ≡ true
+    → list_all f (drop n xs) ≡ true
 all-drop f zero xs e = e
 all-drop f (suc n) [] e = refl
 all-drop f (suc n) (x ∷ xs) e = all-drop f n xs (and_parts (f x) (list_all f xs) e).1
 
-pub all-filter : {X : Type 0} (f g : X → Bool) (xs : List X) → list_all f xs ≡ true → list_all f (filter g xs) ≡ true
+pub all-filter : {X : Type 0} (f g : X → Bool) (xs : List X) → list_all f xs ≡ true
+    → list_all f (filter g xs) ≡ true
 all-filter f g [] e = refl
 all-filter f g (x ∷ xs) e =
     let a = and_parts (f x) (list_all f xs) e in
     let rest = all-filter f g xs a.1 in
     elim (cases_Bool (g x)) [ inl t ↦ rw t (and_from (f x) (list_all f (filter g xs)) a.0 rest) | inr n ↦ rw n rest ]
 
-pub all-given : {X Y : Type 0} (f : Y → Bool) (g : X → Option Y) (xs : List X) → ((x : X) (y : Y) → g x ≡ Some y → f y ≡ true) → list_all f (filter_map g xs) ≡ true
+pub all-given : {X Y : Type 0} (f : Y → Bool) (g : X → Option Y) (xs : List X)
+    → ((x : X) (y : Y) → g x ≡ Some y → f y ≡ true) → list_all f (filter_map g xs) ≡ true
 all-given f g [] h = refl
 all-given {Y = Y} f g (x ∷ xs) h = step (g x) refl (all-given f g xs h)
   where
@@ -61,12 +65,14 @@ all-given {Y = Y} f g (x ∷ xs) h = step (g x) refl (all-given f g xs h)
     step None e rest = rw e rest
     step (Some y) e rest = rw e (and_from (f y) (list_all f (filter_map g xs)) (h x y e) rest)
 
-pub all-at : {X : Type 0} (f : X → Bool) (xs : List X) (k : ℕ) (x : X) → list_all f xs ≡ true → slice_get xs k ≡ Some x → f x ≡ true
+pub all-at : {X : Type 0} (f : X → Bool) (xs : List X) (k : ℕ) (x : X) → list_all f xs ≡ true
+    → slice_get xs k ≡ Some x → f x ≡ true
 all-at f [] k x e g = absurd (let no : ⊥ = cc in no)
 all-at f (y ∷ xs) zero x e g = let same : y ≡ x = cc in subst (λ z. f z ≡ true) same (and_parts (f y) (list_all f xs) e).0
 all-at f (y ∷ xs) (suc k) x e g = all-at f xs k x (and_parts (f y) (list_all f xs) e).1 g
 
-pub all-found : {X : Type 0} (f g : X → Bool) (xs : List X) (x : X) → list_all f xs ≡ true → find g xs ≡ Some x → f x ≡ true
+pub all-found : {X : Type 0} (f g : X → Bool) (xs : List X) (x : X) → list_all f xs ≡ true → find g xs ≡ Some x
+    → f x ≡ true
 all-found f g [] x e h = absurd (let no : ⊥ = cc in no)
 all-found f g (y ∷ xs) x e h =
     let a = and_parts (f y) (list_all f xs) e in
@@ -76,21 +82,24 @@ all-found f g (y ∷ xs) x e h =
     ]
 
 -- the needs of an item fit
-locked-fit : (earlier : List ℕ) (group accesses : List Access) → list_all is_lawful_access accesses ≡ true → list_all is_fit (map (locked_need earlier group) accesses) ≡ true
+locked-fit : (earlier : List ℕ) (group accesses : List Access) → list_all is_lawful_access accesses ≡ true
+    → list_all is_fit (map (locked_need earlier group) accesses) ≡ true
 unfolding locked_need first_chunk
 locked-fit earlier group [] e = refl
 locked-fit earlier group (access ∷ accesses) e =
     let a = and_parts (is_lawful_access access) (list_all is_lawful_access accesses) e in
     and_from _ _ (and_from _ _ (line-fits access (low-access access a.0)) (chunk-if (find (λ x. nat_eq (accessed_line x) (accessed_line access)) group))) (locked-fit earlier group accesses a.1)
 
-needs-fit : (earlier : List ℕ) (cache : ℕ) (item : Item) → is_lawful_item cache item ≡ true → list_all is_fit (needs_after earlier item) ≡ true
+needs-fit : (earlier : List ℕ) (cache : ℕ) (item : Item) → is_lawful_item cache item ≡ true
+    → list_all is_fit (needs_after earlier item) ≡ true
 unfolding needs_after plain_need
 needs-fit earlier cache (One access) e = and_from _ _ (and_from _ _ (line-fits access (low-access access e)) (chunk-fits access)) refl
 needs-fit earlier cache (Locked group) e = locked-fit earlier group group (and_parts (list_all is_lawful_access group) _ e).0
 needs-fit earlier cache (Idle clocks) e = refl
 
 -- those of a window do
-pub window-fits : (earlier : List ℕ) (cache : ℕ) (items : List Item) → list_all (is_lawful_item cache) items ≡ true → list_all is_fit (needs_from earlier items) ≡ true
+pub window-fits : (earlier : List ℕ) (cache : ℕ) (items : List Item)
+    → list_all (is_lawful_item cache) items ≡ true → list_all is_fit (needs_from earlier items) ≡ true
 unfolding needs_from
 window-fits earlier cache [] e = refl
 window-fits earlier cache (item ∷ items) e =
@@ -98,7 +107,8 @@ window-fits earlier cache (item ∷ items) e =
     all-append is_fit (needs_after earlier item) (needs_from (earlier ++ map (λ need. need.line) (needs_of item)) items) (needs-fit earlier cache item a.0) (window-fits (earlier ++ map (λ need. need.line) (needs_of item)) cache items a.1)
 
 -- the items of a window are items of the script
-plain-lawful : (cache n : ℕ) (items : List Item) → list_all (is_lawful_item cache) items ≡ true → list_all (is_lawful_item cache) (plain_items n items) ≡ true
+plain-lawful : (cache n : ℕ) (items : List Item) → list_all (is_lawful_item cache) items ≡ true
+    → list_all (is_lawful_item cache) (plain_items n items) ≡ true
 unfolding plain_items
 plain-lawful cache zero items e = refl
 plain-lawful cache (suc n) [] e = refl
@@ -107,7 +117,9 @@ plain-lawful cache (suc n) (One access ∷ items) e =
 plain-lawful cache (suc n) (Locked group ∷ items) e = refl
 plain-lawful cache (suc n) (Idle clocks ∷ items) e = refl
 
-pub window-lawful : (cache ahead : ℕ) (item : Item) (items : List Item) → is_lawful_item cache item ≡ true → list_all (is_lawful_item cache) items ≡ true → list_all (is_lawful_item cache) (window_from ahead item items) ≡ true
+pub window-lawful : (cache ahead : ℕ) (item : Item) (items : List Item) → is_lawful_item cache item ≡ true
+    → list_all (is_lawful_item cache) items ≡ true
+    → list_all (is_lawful_item cache) (window_from ahead item items) ≡ true
 unfolding window_from
 window-lawful cache ahead item items e f = and_from (is_lawful_item cache item) _ e (rest (is_locked item))
   where

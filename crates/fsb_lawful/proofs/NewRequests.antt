@@ -46,18 +46,24 @@ pub record IsDueAt (r : Run) (e i : ℕ) (request : Request) : Type 0 where
   pub deferred : is_deferred (run_to r (suc e)).trace i ≡ true
   pub unanswered : is_answered (run_to r (suc e)).trace (suc e) i ≡ false
 
-response-parts : (o : Option ℕ) (later c : ℕ) → is_some_and o (λ t. nat_le (t + 1 + later) c) ≡ true → (t : ℕ) × (o ≡ Some t) × (t < c)
+response-parts : (o : Option ℕ) (later c : ℕ) → is_some_and o (λ t. nat_le (t + 1 + later) c) ≡ true
+    → (t : ℕ) × (o ≡ Some t) × (t < c)
 unfolding is_some_and
 response-parts None later c e = absurd (let no : ⊥ = cc in no)
 response-parts (Some t) later c e = (t, refl, (let l = leb-true (t + 1 + later) c e in omega arith))
 
-deferred-told : (r : Run) (d i t : ℕ) → Timely r → d < length r.trace → response_clock_of (run_to r d).trace i ≡ Some t → is_settled_deferred (run_to r d).trace (turns_in (past_to (past_of r) d).moments) i ≡ true → is_deferred (run_to r d).trace i ≡ true
+deferred-told : (r : Run) (d i t : ℕ) → Timely r → d < length r.trace
+    → response_clock_of (run_to r d).trace i ≡ Some t
+    → is_settled_deferred (run_to r d).trace (turns_in (past_to (past_of r) d).moments) i ≡ true
+    → is_deferred (run_to r d).trace i ≡ true
 unfolding is_settled_deferred is_deferred settled_of
 deferred-told r d i t h l e f =
     let told = told-as-settled r d i t h l e in
     ap (λ o. is_some_and o is_deferral) told.outcome ∙ ap (λ p. is_settled_deferred (run_to r d).trace (turns_in p.moments) i) (past-cut r d l) ∙ f
 
-due-is : (r : Run) (e i : ℕ) (request : Request) → Timely r → suc e < length r.trace → due_number (run_to r (suc e)) (past_to (past_of r) (suc e)) (suc e) ≡ Some i → live_request_of (run_to r (suc e)).trace i ≡ Some request
+due-is : (r : Run) (e i : ℕ) (request : Request) → Timely r → suc e < length r.trace
+    → due_number (run_to r (suc e)) (past_to (past_of r) (suc e)) (suc e) ≡ Some i
+    → live_request_of (run_to r (suc e)).trace i ≡ Some request
     → IsDueAt r e i request
 unfolding due_number due_at is_due
 due-is r e i request h l due asked =
@@ -73,7 +79,9 @@ unfolding have_same_id is_some_and reply_to
 same-did a b x e f = rw (e, f) (eq-eqb x.did x.did refl)
 
 -- a due request awaits its reply
-awaited : (r : Run) (e i : ℕ) (request : Request) → Timely r → suc (suc e) < length r.trace → line_at ADS (run_to r (suc (suc e))).trace (suc e) ≡ true → IsDueAt r e i request → request_at (run_to r (suc (suc e))).trace (suc e) ≡ Some (reply_to request)
+awaited : (r : Run) (e i : ℕ) (request : Request) → Timely r → suc (suc e) < length r.trace
+    → line_at ADS (run_to r (suc (suc e))).trace (suc e) ≡ true → IsDueAt r e i request
+    → request_at (run_to r (suc (suc e))).trace (suc e) ≡ Some (reply_to request)
     → any_where (awaits_reply (run_to r (suc (suc e))).trace (suc e)) (live_count (run_to r (suc (suc e))).trace) ≡ true
 unfolding awaits_reply
 awaited r e i request h l t k decoded =
@@ -96,19 +104,24 @@ awaited r e i request h l t k decoded =
     any_where-at (awaits_reply v (suc e)) (live_count v) i live
     (and_from _ _ (and_from _ _ (and_from _ _ deferred (same-did (live_request_of v i) (request_at v (suc e)) request asked decoded)) (is_before-from (response_clock_of v i) k.response (suc e) late before)) (ap not unanswered))
 
-mapped-reply : (o : Option Request) (request : Request) → option_map reply_to o ≡ Some request → (x : Request) × (o ≡ Some x) × (reply_to x ≡ request)
+mapped-reply : (o : Option Request) (request : Request) → option_map reply_to o ≡ Some request
+    → (x : Request) × (o ≡ Some x) × (reply_to x ≡ request)
 mapped-reply None request e = absurd (let no : ⊥ = cc in no)
 mapped-reply (Some x) request e = (x, refl, cc)
 
-found-request : (f : ℕ → Option Request) (o : Option ℕ) (x : Request) → option_and_then f o ≡ Some x → (i : ℕ) × (o ≡ Some i) × (f i ≡ Some x)
+found-request : (f : ℕ → Option Request) (o : Option ℕ) (x : Request) → option_and_then f o ≡ Some x
+    → (i : ℕ) × (o ≡ Some i) × (f i ≡ Some x)
 found-request f None x e = absurd (let no : ⊥ = cc in no)
 found-request f (Some i) x e = (i, refl, e)
 
-reply-rightly : (v : Trace) (q : ℕ) (x : Request) → request_at v q ≡ Some (reply_to x) → any_where (awaits_reply v q) (live_count v) ≡ true → is_begun_wrongly v q ≡ false
+reply-rightly : (v : Trace) (q : ℕ) (x : Request) → request_at v q ≡ Some (reply_to x)
+    → any_where (awaits_reply v q) (live_count v) ≡ true → is_begun_wrongly v q ≡ false
 unfolding is_begun_wrongly is_reply is_reply_kind is_some_and reply_to
 reply-rightly v q x e f = rw (e, f) refl
 
-wanted-rightly : (v : Trace) (q : ℕ) (x : Request) → request_at v q ≡ Some x → is_reply_kind x.kind ≡ false → any_where (is_id_taken_by v q) q ≡ false → count_where (is_outstanding_of_winner v q) q < 4 → is_begun_wrongly v q ≡ false
+wanted-rightly : (v : Trace) (q : ℕ) (x : Request) → request_at v q ≡ Some x → is_reply_kind x.kind ≡ false
+    → any_where (is_id_taken_by v q) q ≡ false → count_where (is_outstanding_of_winner v q) q < 4
+    → is_begun_wrongly v q ≡ false
 unfolding is_begun_wrongly is_reply is_some_and
 wanted-rightly v q x e f g l = rw (e, f, g) (lt-leb 4 (count_where (is_outstanding_of_winner v q) q) l)
 
@@ -116,8 +129,11 @@ untaken : (b : Bool) → (b ≡ true → ⊥) → b ≡ false
 untaken true h = absurd (h refl)
 untaken false h = refl
 
-by-who : (r : Run) (e : ℕ) (who : Who) (request : Request) → Timely r → WantsLawfully r → r.plan.ahead ≤ 4 → suc (suc e) < length r.trace → line_at ADS (run_to r (suc (suc e))).trace (suc e) ≡ true
-    → request_at (run_to r (suc (suc e))).trace (suc e) ≡ Some request → winner_at (run_to r (suc (suc e))).trace (suc e) ≡ Some who → would_begin (run_to r (suc e)) (past_to (past_of r) (suc e)) (suc e) who ≡ Some request
+by-who : (r : Run) (e : ℕ) (who : Who) (request : Request) → Timely r → WantsLawfully r → r.plan.ahead ≤ 4
+    → suc (suc e) < length r.trace → line_at ADS (run_to r (suc (suc e))).trace (suc e) ≡ true
+    → request_at (run_to r (suc (suc e))).trace (suc e) ≡ Some request
+    → winner_at (run_to r (suc (suc e))).trace (suc e) ≡ Some who
+    → would_begin (run_to r (suc e)) (past_to (past_of r) (suc e)) (suc e) who ≡ Some request
     → is_begun_wrongly (run_to r (suc (suc e))).trace (suc e) ≡ false
 unfolding would_begin past_to past_of
 by-who r e (Symmetric a) request h wants few l t decoded winner would =
@@ -134,7 +150,9 @@ by-who r e Priority request h wants few l t decoded winner would =
     let as-reply : request_at v (suc e) ≡ Some (reply_to x.0) = decoded ∙ ap Some (sym x.2) in
     reply-rightly v (suc e) x.0 as-reply (awaited r e i.0 x.0 h l t (due-is r e i.0 x.0 h (omega arith) i.1 i.2) as-reply)
 
-rightly : (r : Run) (e : ℕ) → Timely r → WantsLawfully r → r.plan.ahead ≤ 4 → suc (suc e) < length r.trace → line_back ADS (run_to r (suc (suc e))).trace (suc (suc e)) 1 ≡ true → is_begun_wrongly (run_to r (suc (suc e))).trace (suc e) ≡ false
+rightly : (r : Run) (e : ℕ) → Timely r → WantsLawfully r → r.plan.ahead ≤ 4 → suc (suc e) < length r.trace
+    → line_back ADS (run_to r (suc (suc e))).trace (suc (suc e)) 1 ≡ true
+    → is_begun_wrongly (run_to r (suc (suc e))).trace (suc e) ≡ false
 unfolding request_begun
 rightly r e h wants few l back =
     let v = (run_to r (suc (suc e))).trace in
@@ -156,7 +174,8 @@ none-back : (v : Trace) → line_back ADS v zero 1 ≡ false
 unfolding line_back
 none-back v = refl
 
-at-clock : (r : Run) (c : ℕ) → Timely r → WantsLawfully r → r.plan.ahead ≤ 4 → c < length r.trace → is_outstanding_wrong (run_to r c).trace c ≡ false
+at-clock : (r : Run) (c : ℕ) → Timely r → WantsLawfully r → r.plan.ahead ≤ 4 → c < length r.trace
+    → is_outstanding_wrong (run_to r c).trace c ≡ false
 unfolding is_outstanding_wrong
 at-clock r zero h wants few l = ap (λ b. b && is_begun_wrongly (run_to r zero).trace (zero - 1)) (none-back (run_to r zero).trace)
 at-clock r (suc zero) h wants few l =

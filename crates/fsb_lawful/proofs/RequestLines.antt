@@ -29,25 +29,30 @@ use Rattle.fsb_lawful.proofs.Identity.{identified-at}
 use Rattle.fsb_lawful.proofs.Keeping.{keeps, same-beq}
 
 -- what is on the request lines
-bus-by : (r : Run) (p : Past) (c a : ℕ) → drives_request_lines r p c ≡ true → a < 4 → line_at (bus_request_of a) r.trace c ≡ (is_some (want_of p a c) && not (began_before r c (Symmetric a)))
+bus-by : (r : Run) (p : Past) (c a : ℕ) → drives_request_lines r p c ≡ true → a < 4
+    → line_at (bus_request_of a) r.trace c ≡ (is_some (want_of p a c) && not (began_before r c (Symmetric a)))
 unfolding drives_request_lines asks_for_bus
 bus-by r p c a e l =
     same-beq _ _ (each_where-at (asks_for_bus r p c) 4 (and_parts (each_where (asks_for_bus r p c) 4) (asks_for_priority r p c) e).0 a l)
 
-priority-by : (r : Run) (p : Past) (c : ℕ) → drives_request_lines r p c ≡ true → line_at BPRI r.trace c ≡ (is_some (due_number r p c) && not (reply_before r c))
+priority-by : (r : Run) (p : Past) (c : ℕ) → drives_request_lines r p c ≡ true
+    → line_at BPRI r.trace c ≡ (is_some (due_number r p c) && not (reply_before r c))
 unfolding drives_request_lines asks_for_priority
 priority-by r p c e = same-beq _ _ (and_parts (each_where (asks_for_bus r p c) 4) (asks_for_priority r p c) e).1
 
-bus-at : (r : Run) (c a : ℕ) → Timely r → c < length r.trace → a < 4 → line_at (bus_request_of a) (run_to r c).trace c ≡ (is_some (want_of (past_to (past_of r) c) a c) && not (began_before (run_to r c) c (Symmetric a)))
+bus-at : (r : Run) (c a : ℕ) → Timely r → c < length r.trace → a < 4
+    → line_at (bus_request_of a) (run_to r c).trace c ≡ (is_some (want_of (past_to (past_of r) c) a c) && not (began_before (run_to r c) c (Symmetric a)))
 unfolding holds_at holds_in
 bus-at r c a h l few = bus-by (run_to r c) (past_to (past_of r) c) c a (h.request_lines.at c l) few
 
-priority-at : (r : Run) (c : ℕ) → Timely r → c < length r.trace → line_at BPRI (run_to r c).trace c ≡ (is_some (due_number (run_to r c) (past_to (past_of r) c) c) && not (reply_before (run_to r c) c))
+priority-at : (r : Run) (c : ℕ) → Timely r → c < length r.trace
+    → line_at BPRI (run_to r c).trace c ≡ (is_some (due_number (run_to r c) (past_to (past_of r) c) c) && not (reply_before (run_to r c) c))
 unfolding holds_at holds_in
 priority-at r c h l = priority-by (run_to r c) (past_to (past_of r) c) c (h.request_lines.at c l)
 
 -- a line that is asserted while the agent asks, where it did not begin at the clock before
-rightly : (began asked asks before now : Bool) → now ≡ (asks && not began) → (before ≡ true → asked ≡ true) → (asked ≡ true → began ≡ false → asks ≡ true)
+rightly : (began asked asks before now : Bool) → now ≡ (asks && not began) → (before ≡ true → asked ≡ true)
+    → (asked ≡ true → began ≡ false → asks ≡ true)
     → (if began then now else (before && not now)) ≡ false
 rightly true asked true before now e f g = e
 rightly true asked false before now e f g = e
@@ -55,7 +60,8 @@ rightly false asked asks false now e f g = refl
 rightly false asked asks true now e f g = rw (e, g (f refl) refl) refl
 
 -- who begins at a clock
-begins-to : (r : Run) (d c : ℕ) (who : Who) → d ≤ c → c < length r.trace → begins_at (run_to r c).trace d who ≡ begins_at (run_to r d).trace d who
+begins-to : (r : Run) (d c : ℕ) (who : Who) → d ≤ c → c < length r.trace
+    → begins_at (run_to r c).trace d who ≡ begins_at (run_to r d).trace d who
 unfolding begins_at
 begins-to r d c who l m =
     let ads = line-to ADS r d c l m in
@@ -63,7 +69,8 @@ begins-to r d c who l m =
     λ i. (sym ads) i && is_agent ((sym winner) i) who
 
 -- the rule at a clock that is not the first
-after-first : (v : Trace) (d : ℕ) (who : Who) → is_asked_wrongly v (suc d) who ≡ (if begins_at v d who then line_at (request_line_of who) v (suc d) else (line_at (request_line_of who) v d && not (line_at (request_line_of who) v (suc d))))
+after-first : (v : Trace) (d : ℕ) (who : Who)
+    → is_asked_wrongly v (suc d) who ≡ (if begins_at v d who then line_at (request_line_of who) v (suc d) else (line_at (request_line_of who) v d && not (line_at (request_line_of who) v (suc d))))
 unfolding is_asked_wrongly line_back
 after-first v d who =
     let one : suc d - 1 ≡ d = omega arith in rw (one, le-leb 1 (suc d) (omega arith)) refl
@@ -84,7 +91,8 @@ asked-by : (a b : Bool) → (a && not b) ≡ true → a ≡ true
 asked-by true b e = refl
 asked-by false b e = absurd (let no : ⊥ = cc in no)
 
-symmetric : (r : Run) (d a : ℕ) → Timely r → AsksOn r → suc d < length r.trace → a < 4 → is_asked_wrongly (run_to r (suc d)).trace (suc d) (Symmetric a) ≡ false
+symmetric : (r : Run) (d a : ℕ) → Timely r → AsksOn r → suc d < length r.trace → a < 4
+    → is_asked_wrongly (run_to r (suc d)).trace (suc d) (Symmetric a) ≡ false
 unfolding request_line_of
 symmetric r d a h asks l few =
     let v = run_to r (suc d) in
@@ -95,7 +103,8 @@ symmetric r d a h asks l few =
     (λ t. asked-by _ _ (sym before ∙ t)) (λ t f. asks.wants a d l t (sym (begins-to r d (suc d) (Symmetric a) (omega arith) l) ∙ f))
 
 -- the priority agent begins replies, and no other agent does
-reply-priority : (o : Option Who) (q : Option Request) (b : Bool) → is_identified o q ≡ true → is_reply q ≡ b → is_agent o Priority ≡ b
+reply-priority : (o : Option Who) (q : Option Request) (b : Bool) → is_identified o q ≡ true → is_reply q ≡ b
+    → is_agent o Priority ≡ b
 unfolding is_identified is_agent is_some_and is_same_agent is_own_id
 reply-priority o q true e f = rw (is_identified, f) at e
 reply-priority o q false e f = other o q (rw (is_identified, f) at e)
@@ -104,11 +113,14 @@ reply-priority o q false e f = other o q (rw (is_identified, f) at e)
     named None x e = refl
     named (Some (Symmetric a)) x e = refl
     named (Some Priority) x e = absurd (let no : ⊥ = cc in no)
+
     other : (o : Option Who) (q : Option Request) → is_some_and q (is_own_id o) ≡ true → is_agent o Priority ≡ false
     other o None e = absurd (let no : ⊥ = cc in no)
     other o (Some x) e = named o x e
 
-reply-by : (w : Trace) (d : ℕ) (b : Bool) → line_at ADS w d ≡ b → (b ≡ true → is_agent (winner_at w d) Priority ≡ is_reply (request_at w d)) → (line_at ADS w d && is_reply (request_at w d)) ≡ (line_at ADS w d && is_agent (winner_at w d) Priority)
+reply-by : (w : Trace) (d : ℕ) (b : Bool) → line_at ADS w d ≡ b
+    → (b ≡ true → is_agent (winner_at w d) Priority ≡ is_reply (request_at w d))
+    → (line_at ADS w d && is_reply (request_at w d)) ≡ (line_at ADS w d && is_agent (winner_at w d) Priority)
 reply-by w d true e f = rw e (sym (f refl))
 reply-by w d false e f = rw e refl
 
@@ -116,21 +128,24 @@ back-one : (w : Trace) (d : ℕ) → line_back ADS w (suc d) 1 ≡ line_at ADS w
 unfolding line_back
 back-one w d = let one : suc d - 1 ≡ d = omega arith in rw (one, le-leb 1 (suc d) (omega arith)) refl
 
-reply-before : (v : Run) (d : ℕ) → reply_before v (suc d) ≡ (line_at ADS v.trace d && is_reply (request_at v.trace d))
+reply-before : (v : Run) (d : ℕ)
+    → reply_before v (suc d) ≡ (line_at ADS v.trace d && is_reply (request_at v.trace d))
 unfolding reply_before
 reply-before v d =
     let one : suc d - 1 ≡ d = omega arith in
     ap (λ b. b && is_reply (request_at v.trace (suc d - 1))) (back-one v.trace d) ∙ ap (λ k. line_at ADS v.trace d && is_reply (request_at v.trace k)) one
 
 -- a reply began at the clock before exactly where the priority agent did
-reply-is : (r : Run) (d : ℕ) → Timely r → WantsLawfully r → r.plan.ahead ≤ 4 → suc d < length r.trace → reply_before (run_to r (suc d)) (suc d) ≡ begins_at (run_to r (suc d)).trace d Priority
+reply-is : (r : Run) (d : ℕ) → Timely r → WantsLawfully r → r.plan.ahead ≤ 4 → suc d < length r.trace
+    → reply_before (run_to r (suc d)) (suc d) ≡ begins_at (run_to r (suc d)).trace d Priority
 unfolding begins_at
 reply-is r d h wants few l =
     let v = run_to r (suc d) in
     reply-before v d
     ∙ reply-by v.trace d (line_at ADS v.trace d) refl (λ t. reply-priority (winner_at v.trace d) (request_at v.trace d) (is_reply (request_at v.trace d)) (identified-at r d h few wants l (back-one v.trace d ∙ t)) refl)
 
-priority : (r : Run) (d : ℕ) → Timely r → WantsLawfully r → AsksOn r → r.plan.ahead ≤ 4 → suc d < length r.trace → is_asked_wrongly (run_to r (suc d)).trace (suc d) Priority ≡ false
+priority : (r : Run) (d : ℕ) → Timely r → WantsLawfully r → AsksOn r → r.plan.ahead ≤ 4 → suc d < length r.trace
+    → is_asked_wrongly (run_to r (suc d)).trace (suc d) Priority ≡ false
 unfolding request_line_of
 priority r d h wants asks few l =
     let v = run_to r (suc d) in
@@ -140,7 +155,8 @@ priority r d h wants asks few l =
     ∙ rightly (begins_at v.trace d Priority) (is_some (due_number (run_to r d) (past_to (past_of r) d) d)) (is_some (due_number v (past_to (past_of r) (suc d)) (suc d))) (line_at BPRI v.trace d) (line_at BPRI v.trace (suc d)) now
     (λ t. asked-by _ _ (sym before ∙ t)) (λ t f. asks.dues d l t (sym (begins-to r d (suc d) Priority (omega arith) l) ∙ f))
 
-at-clock : (r : Run) (c : ℕ) → Timely r → WantsLawfully r → AsksOn r → r.plan.ahead ≤ 4 → c < length r.trace → is_some_asked_wrongly (run_to r c).trace c ≡ false
+at-clock : (r : Run) (c : ℕ) → Timely r → WantsLawfully r → AsksOn r → r.plan.ahead ≤ 4 → c < length r.trace
+    → is_some_asked_wrongly (run_to r c).trace c ≡ false
 unfolding is_some_asked_wrongly
 at-clock r zero h wants asks few l =
     let v = (run_to r zero).trace in

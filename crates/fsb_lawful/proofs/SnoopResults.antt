@@ -27,12 +27,14 @@ use Rattle.fsb_lawful.proofs.Cuts.{snooped-to}
 use Rattle.fsb_lawful.proofs.Keeping.{keeps, not-true, same-beq}
 use Rattle.fsb_lawful.proofs.Turns.{Turned, turned-at, decoded-live}
 
-right-by : (r : Run) (p : Past) (c : ℕ) (s : SnoopEnd) → has_snoop_result r p c ≡ true → snooped_at p c ≡ Some s → has_right_result r p c s ≡ true
+right-by : (r : Run) (p : Past) (c : ℕ) (s : SnoopEnd) → has_snoop_result r p c ≡ true → snooped_at p c ≡ Some s
+    → has_right_result r p c s ≡ true
 unfolding has_snoop_result
 right-by r p c s e there = rw (there, has_snoop_result) at e
 
 -- the result at a snoop end of the run
-right-at : (r : Run) (c : ℕ) (s : SnoopEnd) → Timely r → c < length r.trace → snooped_at (past_of r) c ≡ Some s → has_right_result (run_to r c) (past_to (past_of r) c) c s ≡ true
+right-at : (r : Run) (c : ℕ) (s : SnoopEnd) → Timely r → c < length r.trace → snooped_at (past_of r) c ≡ Some s
+    → has_right_result (run_to r c) (past_to (past_of r) c) c s ≡ true
 unfolding holds_at holds_in
 right-at r c s h l there =
     right-by (run_to r c) (past_to (past_of r) c) c s (h.snoop_results.at c l) (snooped-to (past_of r) c c (omega arith) ∙ there)
@@ -42,12 +44,15 @@ unfolding is_reply_end is_some_and
 reply-end s kind k = ap (λ o. is_some_and o is_reply_kind) k
 
 -- the result at the snoop end of a reply, and of any other request
-at-reply : (r : Run) (p : Past) (c : ℕ) (s : SnoopEnd) → has_right_result r p c s ≡ true → is_reply_end s ≡ true → line_at HITM r.trace c ≡ false
+at-reply : (r : Run) (p : Past) (c : ℕ) (s : SnoopEnd) → has_right_result r p c s ≡ true → is_reply_end s ≡ true
+    → line_at HITM r.trace c ≡ false
 unfolding has_right_result
 at-reply r p c s e k =
     let e' = rw (k, has_right_result) at e in not-true (line_at HITM r.trace c) (and_parts (beq (line_at HIT r.trace c) (was_hit_before r p c)) (not (line_at HITM r.trace c)) e').1
 
-at-other : (r : Run) (p : Past) (c : ℕ) (s : SnoopEnd) → has_right_result r p c s ≡ true → is_reply_end s ≡ false → (line_at HITM r.trace c ≡ is_dirty_for p c s) × (line_at HIT r.trace c ≡ (not (is_dirty_for p c s) && is_held_for p c s))
+at-other : (r : Run) (p : Past) (c : ℕ) (s : SnoopEnd) → has_right_result r p c s ≡ true
+    → is_reply_end s ≡ false
+    → (line_at HITM r.trace c ≡ is_dirty_for p c s) × (line_at HIT r.trace c ≡ (not (is_dirty_for p c s) && is_held_for p c s))
 unfolding has_right_result
 at-other r p c s e k =
     let e' = rw (k, has_right_result) at e in
@@ -55,19 +60,23 @@ at-other r p c s e k =
     (same-beq _ _ a.0, same-beq _ _ a.1)
 
 -- a reply has no HITM#
-reply-clean : (r : Run) (p : Past) (c : ℕ) (s : SnoopEnd) → has_right_result r p c s ≡ true → s.kind ≡ Some Reply → line_at HITM r.trace c ≡ false
+reply-clean : (r : Run) (p : Past) (c : ℕ) (s : SnoopEnd) → has_right_result r p c s ≡ true
+    → s.kind ≡ Some Reply → line_at HITM r.trace c ≡ false
 unfolding is_reply_kind
 reply-clean r p c s e k = at-reply r p c s e (reply-end s Reply k)
 
 -- a write-back of a line that no other agent has, has neither HITM# nor HIT#
-alone-clean : (r : Run) (p : Past) (c : ℕ) (s : SnoopEnd) → has_right_result r p c s ≡ true → s.kind ≡ Some WriteBack → is_dirty_for p c s ≡ false → is_held_for p c s ≡ false → (line_at HITM r.trace c ≡ false) × (line_at HIT r.trace c ≡ false)
+alone-clean : (r : Run) (p : Past) (c : ℕ) (s : SnoopEnd) → has_right_result r p c s ≡ true
+    → s.kind ≡ Some WriteBack → is_dirty_for p c s ≡ false → is_held_for p c s ≡ false
+    → (line_at HITM r.trace c ≡ false) × (line_at HIT r.trace c ≡ false)
 unfolding is_reply_kind
 alone-clean r p c s e k dirty held =
     let a = at-other r p c s e (reply-end s WriteBack k) in
     (a.0 ∙ dirty, a.1 ∙ ap (λ b. not (is_dirty_for p c s) && b) held ∙ and_right _ _ refl)
 
 -- what the rule asks of a request of this kind
-unfit-by : (kind : Kind) (hit hitm defer : Bool) → (is_never_held_up kind ≡ true → defer ≡ false) → (kind ≡ Reply → hitm ≡ false) → (kind ≡ WriteBack → (hitm ≡ false) × (hit ≡ false))
+unfit-by : (kind : Kind) (hit hitm defer : Bool) → (is_never_held_up kind ≡ true → defer ≡ false)
+    → (kind ≡ Reply → hitm ≡ false) → (kind ≡ WriteBack → (hitm ≡ false) × (hit ≡ false))
     → ((is_write_back_kind kind || is_reply_kind kind) && (hitm || defer) || is_write_back_kind kind && hit) ≡ false
 unfolding is_write_back_kind is_reply_kind
 unfit-by Reply hit hitm defer f g k = rw (f refl, g refl) refl
@@ -76,14 +85,18 @@ unfit-by Invalidate hit hitm defer f g k = refl
 unfit-by Read hit hitm defer f g k = refl
 unfit-by Upgrade hit hitm defer f g k = refl
 
-kept-quiet : (r : Run) (c i : ℕ) (k : Turned r c i c) (request : Request) → live_request_of (run_to r c).trace i ≡ Some request → is_never_held_up request.kind ≡ true → line_at DEFER (run_to r c).trace c ≡ false
+kept-quiet : (r : Run) (c i : ℕ) (k : Turned r c i c) (request : Request)
+    → live_request_of (run_to r c).trace i ≡ Some request → is_never_held_up request.kind ≡ true
+    → line_at DEFER (run_to r c).trace c ≡ false
 unfolding is_keep
 kept-quiet r c i k request q t = k.defers ∙ ap (λ turn. not (is_keep turn)) ((k.effective request q).keeps t)
 
-kind-is : (r : Run) (c i : ℕ) (k : Turned r c i c) (request : Request) (kind : Kind) → live_request_of (run_to r c).trace i ≡ Some request → request.kind ≡ kind → k.end.kind ≡ Some kind
+kind-is : (r : Run) (c i : ℕ) (k : Turned r c i c) (request : Request) (kind : Kind)
+    → live_request_of (run_to r c).trace i ≡ Some request → request.kind ≡ kind → k.end.kind ≡ Some kind
 kind-is r c i k request kind q e = k.kind request q ∙ ap Some e
 
-ended : (r : Run) (c i : ℕ) → Timely r → WantsLawfully r → WritesBackAlone r → c < length r.trace → snoop_end_of (run_to r c).trace i ≡ Some c
+ended : (r : Run) (c i : ℕ) → Timely r → WantsLawfully r → WritesBackAlone r → c < length r.trace
+    → snoop_end_of (run_to r c).trace i ≡ Some c
     → ((is_write_back (live_request_of (run_to r c).trace i) || is_reply (live_request_of (run_to r c).trace i)) && (line_at HITM (run_to r c).trace c || line_at DEFER (run_to r c).trace c) || is_write_back (live_request_of (run_to r c).trace i) && line_at HIT (run_to r c).trace c) ≡ false
 unfolding is_write_back is_reply is_some_and is_write_back_kind
 ended r c i h wants alone l e =
@@ -97,12 +110,14 @@ ended r c i h wants alone l e =
     (λ t. let w = kind-is r c i k q.0 WriteBack q.1 t in
     alone-clean (run_to r c) (past_to (past_of r) c) c k.end right w (alone.clean c k.end k.there (rw w refl)) (alone.alone c k.end k.there (rw w refl))))
 
-unfit : (r : Run) (c i : ℕ) → Timely r → WantsLawfully r → WritesBackAlone r → c < length r.trace → (b : Bool) → is_at (snoop_end_of (run_to r c).trace i) c ≡ b → is_result_unfit_for (run_to r c).trace c i ≡ false
+unfit : (r : Run) (c i : ℕ) → Timely r → WantsLawfully r → WritesBackAlone r → c < length r.trace → (b : Bool)
+    → is_at (snoop_end_of (run_to r c).trace i) c ≡ b → is_result_unfit_for (run_to r c).trace c i ≡ false
 unfolding is_result_unfit_for
 unfit r c i h wants alone l false e = and_left _ _ e
 unfit r c i h wants alone l true e = and_right _ _ (ended r c i h wants alone l (is_at-some (snoop_end_of (run_to r c).trace i) c e))
 
-at-clock : (r : Run) (c : ℕ) → Timely r → WantsLawfully r → WritesBackAlone r → c < length r.trace → is_snoop_result_unfit (run_to r c).trace c ≡ false
+at-clock : (r : Run) (c : ℕ) → Timely r → WantsLawfully r → WritesBackAlone r → c < length r.trace
+    → is_snoop_result_unfit (run_to r c).trace c ≡ false
 unfolding is_snoop_result_unfit
 at-clock r c h wants alone l =
     let v = (run_to r c).trace in

@@ -1,5 +1,5 @@
 -- What the last two rules rest on beside the parts of a timely run.
-use Rattle.std.specs.Prelude.{◌≡◌, ◌<◌, ℕ, suc, true, false, IsTrue, is_some, length, Some}
+use Rattle.std.specs.Prelude.{◌≡◌, ◌<◌, ℕ, suc, false, IsTrue, is_some, length, Some}
 use Rattle.fsb_count.specs.Options.{is_some_and}
 use Rattle.fsb_trace.specs.declared.who.Who.TheVariants.{Symmetric, Priority}
 use Rattle.fsb_trace.specs.Requests.{is_write_back_kind}
