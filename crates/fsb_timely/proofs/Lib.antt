@@ -19,6 +19,7 @@ pub mod TiedGrants
 pub mod TiedMoments
 pub mod Wanted
 pub mod Items
+pub mod StayingWants
 pub mod OneEnd
 pub mod ToldLines
 pub mod Outstanding

@@ -1,12 +1,16 @@
 //! Laws over what a past has one clock further: no code.
 
-ghost use Rattle.std.specs.Prelude.{◌≡◌, ◌<◌, ◌+◌, ◌&&◌, ◌||◌, ℕ, not, length, if◌then◌else◌};
+ghost use Rattle.std.specs.Prelude.{◌≡◌, ◌<◌, ◌+◌, ◌&&◌, ◌||◌, ℕ, Some, false, not, length, if◌then◌else◌};
 ghost use Rattle.fsb_count.specs.Options.{is_some_and};
+ghost use Rattle.fsb_encode.specs.declared.request.Request.{Request};
 ghost use Rattle.fsb_timely.specs.BusLock.{is_locked_request, is_release, keeps_lock};
 ghost use Rattle.fsb_timely.specs.Grants.{grant_at, is_end_at, is_ended, is_granted, is_ready, latest_grant};
 ghost use Rattle.fsb_timely.specs.Growth.{IsNext, IsWhole};
 ghost use Rattle.fsb_timely.specs.Past.{Past};
 ghost use Rattle.fsb_timely.specs.Runs.{Run, past_of};
+ghost use Rattle.fsb_timely.specs.Scripts.{completes_at};
+ghost use Rattle.fsb_timely.specs.Staying.{OwesNoMore};
+ghost use Rattle.fsb_timely.specs.Wants.{want_of};
 
 /// An agent keeps the bus locked exactly where it begins a locked request, or kept it locked at the clock before and made no
 /// release there. Whether a request is locked stays as a run goes on.
@@ -15,6 +19,13 @@ pub fn locks_step()
         ≡ (is_locked_request p a (c + 1) || (keeps_lock p c a && not (is_release p a c))) }
     ensures request { (r s : Run) (a t : ℕ) → IsNext r s → IsWhole r → t < length r.trace
         → is_locked_request (past_of s) a t ≡ is_locked_request (past_of r) a t }
+{}
+
+/// An agent that wants something, and neither begins a request at a clock nor has an entry there, wants something at the next
+/// clock, be it the same or not.
+pub fn wants_stay()
+    ensures { (p : Past) (a c : ℕ) (request : Request) → OwesNoMore p a c → completes_at p a c ≡ false
+        → want_of p a c ≡ Some request → (next : Request) × (want_of p a (c + 1) ≡ Some next) }
 {}
 
 /// A line is ready for an agent one clock further where the request that granted it last has ended, or ends at this clock.
