@@ -20,6 +20,7 @@ pub mod TiedMoments
 pub mod Wanted
 pub mod Items
 pub mod StayingWants
+pub mod WindowSteps
 pub mod OneEnd
 pub mod ToldLines
 pub mod Outstanding

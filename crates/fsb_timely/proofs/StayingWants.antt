@@ -90,20 +90,33 @@ three false true z e f g = absurd (let h : ⊥ = cc in h)
 three false false true e f g = absurd (let h : ⊥ = cc in h)
 three false false false e f g = refl
 
--- a need that may be asked for still may, where the lines of the earlier items are some of those before
-pub missing-over : (p : Past) (a c : ℕ) (need : Need) → OwesNoMore p a c → is_missing p a c (owed p a c) need ≡ true → is_missing p a (c + 1) (owed p a (c + 1)) need ≡ true
-unfolding is_missing is_set_taken is_asked_for
-missing-over p a c need h e =
+-- some lines are among others: what one of them passes, one of the others does
+pub record AreAmong (some all : List ℕ) : Type 0 where
+  pub passed : (test : ℕ → Bool) → list_any test some ≡ true → list_any test all ≡ true
+
+none-among : (some all : List ℕ) (test : ℕ → Bool) → AreAmong some all → list_any test all ≡ false → list_any test some ≡ false
+none-among some all test h e =
+    elim (cases_Bool (list_any test some)) [
+      | inl t ↦ absurd (let no : false ≡ true = sym e ∙ h.passed test t in cc)
+      | inr f ↦ f
+    ]
+
+-- a need that may be asked for still may, also where the lines of the earlier items are some of those before
+pub missing-over : (p : Past) (a c : ℕ) (need : Need) (earlier : List ℕ) → OwesNoMore p a c → AreAmong earlier need.earlier
+    → is_missing p a c (owed p a c) need ≡ true → is_missing p a (c + 1) (owed p a (c + 1)) (record need { earlier = earlier }) ≡ true
+unfolding is_missing is_set_taken is_asked_for is_met
+missing-over p a c need earlier h fewer e =
     let outer = and_parts (not (is_met p a c need) && not (is_asked_for (owed p a c) need.line)) (not (is_set_taken p (owed p a c) need.earlier need.line)) e in
     let inner = and_parts (not (is_met p a c need)) (not (is_asked_for (owed p a c) need.line)) outer.0 in
     let unmet = not-true (is_met p a c need) inner.0 in
     let unasked = not-true (is_asked_for (owed p a c) need.line) inner.1 in
     let sets = or_parts (list_any (λ owing. is_same_set p need.line owing.claim.line) (owed p a c)) (list_any (is_same_set p need.line) need.earlier) (not-true _ outer.1) in
     let free = still-none p a c (λ owing. is_same_set p need.line owing.claim.line) h sets.0 in
-    three (is_met p a (c + 1) need) (is_asked_for (owed p a (c + 1)) need.line) (is_set_taken p (owed p a (c + 1)) need.earlier need.line)
+    let room = none-among earlier need.earlier (is_same_set p need.line) fewer sets.1 in
+    three (is_met p a (c + 1) need) (is_asked_for (owed p a (c + 1)) need.line) (is_set_taken p (owed p a (c + 1)) earlier need.line)
     (is_met-over p a c need (not_granted p a c need.line h unasked) unmet)
     (still-none p a c (λ owing. nat_eq owing.claim.line need.line) h unasked)
-    (λ i. either (free i) (sets.1 i))
+    (λ i. either (free i) (room i))
   where
     either : Bool → Bool → Bool
     either x y = x || y
@@ -124,7 +137,7 @@ found-too test other (y ∷ ys) x h e =
     ]
 
 -- what an agent wants is of a need that it finds missing, while it does not idle and has room
-want-parts : (p : Past) (a c : ℕ) (request : Request) → want_of p a c ≡ Some request
+pub want-parts : (p : Past) (a c : ℕ) (request : Request) → want_of p a c ≡ Some request
     → (is_idling p a c ≡ false) × (nat_le p.plan.ahead (length (owed p a c)) ≡ false) × (need : Need) × (find (is_missing p a c (owed p a c)) (needs_from [] (window p a c)) ≡ Some need)
 unfolding want_of
 want-parts p a c request e = by_wait (is_idling p a c || nat_le p.plan.ahead (length (owed p a c))) refl
@@ -141,7 +154,7 @@ want-parts p a c request e = by_wait (is_idling p a c || nat_le p.plan.ahead (le
         let found = by_need (find (is_missing p a c (owed p a c)) (needs_from [] (window p a c))) (let e' = rw (f, want_of) at e in e') in
         (parts.0, parts.1, found.0, found.1)
 
-want-there : (p : Past) (a c : ℕ) (need : Need) → is_idling p a c ≡ false → nat_le p.plan.ahead (length (owed p a c)) ≡ false
+pub want-there : (p : Past) (a c : ℕ) (need : Need) → is_idling p a c ≡ false → nat_le p.plan.ahead (length (owed p a c)) ≡ false
     → find (is_missing p a c (owed p a c)) (needs_from [] (window p a c)) ≡ Some need → (request : Request) × (want_of p a c ≡ Some request)
 unfolding want_of
 want-there p a c need e f g =
@@ -151,7 +164,7 @@ want-there p a c need e f g =
     either : Bool → Bool → Bool
     either x y = x || y
 
-room-over : (ahead n m : ℕ) → m ≤ n → nat_le ahead n ≡ false → nat_le ahead m ≡ false
+pub room-over : (ahead n m : ℕ) → m ≤ n → nat_le ahead n ≡ false → nat_le ahead m ≡ false
 room-over ahead n m l e =
     elim (cases_Bool (nat_le ahead m)) [
       | inl t ↦ absurd (let k = leb-true ahead m t in let no : true ≡ false = sym (le-leb ahead n (omega arith)) ∙ e in cc)
@@ -162,7 +175,7 @@ pub want-stays : (p : Past) (a c : ℕ) (request : Request) → OwesNoMore p a c
     → (next : Request) × (want_of p a (c + 1) ≡ Some next)
 want-stays p a c request h e wants =
     let parts = want-parts p a c request wants in
-    let found = found-too (is_missing p a c (owed p a c)) (is_missing p a (c + 1) (owed p a (c + 1))) (needs_from [] (window p a c)) parts.2 (λ need t. missing-over p a c need h t) parts.3 in
+    let found = found-too (is_missing p a c (owed p a c)) (is_missing p a (c + 1) (owed p a (c + 1))) (needs_from [] (window p a c)) parts.2 (λ need t. missing-over p a c need need.earlier h (record { passed = λ test u. u }) t) parts.3 in
     want-there p a (c + 1) found.0
     (is_idling-over p a c e parts.0)
     (room-over p.plan.ahead (length (owed p a c)) (length (owed p a (c + 1))) h.fewer parts.1)

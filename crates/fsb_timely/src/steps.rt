@@ -9,7 +9,7 @@ ghost use Rattle.fsb_timely.specs.Growth.{IsNext, IsWhole};
 ghost use Rattle.fsb_timely.specs.Past.{Past};
 ghost use Rattle.fsb_timely.specs.Runs.{Run, past_of};
 ghost use Rattle.fsb_timely.specs.Scripts.{completes_at};
-ghost use Rattle.fsb_timely.specs.Staying.{OwesNoMore};
+ghost use Rattle.fsb_timely.specs.Staying.{CompletesNext, OwesNoMore};
 ghost use Rattle.fsb_timely.specs.Wants.{want_of};
 
 /// An agent keeps the bus locked exactly where it begins a locked request, or kept it locked at the clock before and made no
@@ -21,10 +21,12 @@ pub fn locks_step()
         → is_locked_request (past_of s) a t ≡ is_locked_request (past_of r) a t }
 {}
 
-/// An agent that wants something, and neither begins a request at a clock nor has an entry there, wants something at the next
-/// clock, be it the same or not.
+/// An agent that wants something, and begins no request at a clock, wants something at the next clock, be it the same or
+/// not: where it has no entry at the clock, and where it completes its next item there.
 pub fn wants_stay()
-    ensures { (p : Past) (a c : ℕ) (request : Request) → OwesNoMore p a c → completes_at p a c ≡ false
+    ensures waiting { (p : Past) (a c : ℕ) (request : Request) → OwesNoMore p a c → completes_at p a c ≡ false
+        → want_of p a c ≡ Some request → (next : Request) × (want_of p a (c + 1) ≡ Some next) }
+    ensures completing { (p : Past) (a c : ℕ) (request : Request) → OwesNoMore p a c → CompletesNext p a c
         → want_of p a c ≡ Some request → (next : Request) × (want_of p a (c + 1) ≡ Some next) }
 {}
 
