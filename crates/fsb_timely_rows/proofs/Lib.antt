@@ -48,6 +48,16 @@ mod ReplyPastHeldBack
 mod CachesAndMemory
 mod CachesKept
 mod AskedOfTwo
+mod WildObject
+mod ThreeRepliesDue
+mod ChangedLocks
+mod ChangedParity
+mod ChangedData
+mod ChangedHazards
+mod ChangedResults
+mod ChangedResponses
+mod ChangedStarts
+mod ChangedAsking
 mod UpgradeOfASharedLine
 mod UpgradeLostAndHanded
 mod UpgradeLostAndMadeAgain
