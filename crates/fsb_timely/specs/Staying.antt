@@ -5,15 +5,17 @@ use Rattle.fsb_access.specs.declared.item.Item.{Item}
 use Rattle.fsb_access.specs.declared.log.Done.{Done}
 use Rattle.fsb_timely.specs.Past.{Owing, Past}
 use Rattle.fsb_timely.specs.Grants.{is_granted}
-use Rattle.fsb_timely.specs.Scripts.{is_logged, is_logged_at, items_of, last_done, needs_of, next_number}
+use Rattle.fsb_timely.specs.Completions.{is_brought}
+use Rattle.fsb_timely.specs.Scripts.{Need, is_logged, is_logged_at, items_of, last_done, needs_of, next_number}
 use Rattle.fsb_timely.specs.Wants.{is_asked_for, is_missing, owed}
 
 -- agent a begins nothing at c: its outstanding requests of the next clock are some of those of this one, and a line is
--- granted to it at c only where one of them is for it
+-- granted to it at c, or comes with the end of its grant at c, only where one of them is for it
 pub record OwesNoMore (p : Past) (a c : ℕ) : Type 0 where
   pub among : (test : Owing → Bool) → list_any test (owed p a (c + 1)) ≡ true → list_any test (owed p a c) ≡ true
   pub fewer : length (owed p a (c + 1)) ≤ length (owed p a c)
   pub granted : (line : ℕ) → is_granted p a line c ≡ true → is_asked_for (owed p a c) line ≡ true
+  pub brought : (need : Need) → is_brought p a c need ≡ true → is_asked_for (owed p a c) need.line ≡ true
 
 -- agent a completes its next item at c, and nothing else: the item after it was not logged before, its last entry of c is
 -- of that item, and the item has no need for which a might have asked at c
