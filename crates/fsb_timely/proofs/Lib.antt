@@ -22,6 +22,7 @@ pub mod Items
 pub mod WholePast
 pub mod StayingWants
 pub mod WindowSteps
+pub mod LoggedItems
 pub mod OneEnd
 pub mod ToldLines
 pub mod Outstanding

@@ -64,7 +64,7 @@ met_by true true false false named e = refl
 met_by true true true lost named e = absurd (let h : ⊥ = cc in h)
 
 -- a need that is not met, and whose line is not granted, is not met at the next clock
-is_met-over : (p : Past) (a c : ℕ) (need : Need) → is_granted p a need.line c ≡ false → is_met p a c need ≡ false → is_met p a (c + 1) need ≡ false
+pub is_met-over : (p : Past) (a c : ℕ) (need : Need) → is_granted p a need.line c ≡ false → is_met p a c need ≡ false → is_met p a (c + 1) need ≡ false
 unfolding is_met
 is_met-over p a c need g f =
     rw (holds_line-more p a need.line c, is_exclusive-more p a need.line c, g) (met_by (holds_line p a need.line c) need.alone (is_exclusive p a need.line c) (is_lost p a need.line c) (is_named_by_other p a need.line c) f)
@@ -77,7 +77,7 @@ still-none p a c test h e =
       | inr f ↦ f
     ]
 
-not_granted : (p : Past) (a c line : ℕ) → OwesNoMore p a c → is_asked_for (owed p a c) line ≡ false → is_granted p a line c ≡ false
+pub not_granted : (p : Past) (a c line : ℕ) → OwesNoMore p a c → is_asked_for (owed p a c) line ≡ false → is_granted p a line c ≡ false
 not_granted p a c line h e =
     elim (cases_Bool (is_granted p a line c)) [
       | inl t ↦ absurd (let no : false ≡ true = sym e ∙ h.granted line t in cc)

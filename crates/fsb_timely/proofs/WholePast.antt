@@ -72,8 +72,8 @@ brings-alike n p q a c need t h l m =
     let grant = grant-same n p q t (going-alike n p q h) m in
     let ends = ends-same n p q c (going-alike n p q h) l in
     λ i.
-        is_some_and (grant i) (λ g. nat_eq g.agent a && nat_eq g.line need.line)
-        && is_some_and (grant i) (λ g. list_any (nat_eq g.first) (ends i) && (g.owns || not need.alone))
+    is_some_and (grant i) (λ g. nat_eq g.agent a && nat_eq g.line need.line)
+    && is_some_and (grant i) (λ g. list_any (nat_eq g.first) (ends i) && (g.owns || not need.alone))
 
 pub is_brought-alike : (n : ℕ) (p q : Past) (a c : ℕ) (need : Need) → GoesOn n p q → c < n → is_brought p a c need ≡ is_brought q a c need
 unfolding is_brought
@@ -97,5 +97,5 @@ is_arrival-alike n p q a c h l =
     let brought : (need : Need) → is_brought p a c need ≡ is_brought q a c need = λ need. is_brought-alike n p q a c need h l in
     let there : (need : Need) → is_there p a c need ≡ is_there q a c need = λ need. is_there-alike n p q a c need h l in
     λ i.
-        not (idling i) && not (hit i)
-        && is_some_and (item i) (λ x. list_any (λ need. brought need i && list_all (λ other. nat_eq other.line need.line || there other i) (needs_of x)) (needs_of x))
+    not (idling i) && not (hit i)
+    && is_some_and (item i) (λ x. list_any (λ need. brought need i && list_all (λ other. nat_eq other.line need.line || there other i) (needs_of x)) (needs_of x))

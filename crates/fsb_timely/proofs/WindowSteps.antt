@@ -133,7 +133,7 @@ drop-first (suc k) (z ∷ xs) ys x e =
     (rest.0, ap (λ n. drop n (z ∷ xs)) more ∙ rest.1)
 
 -- an item that is done, or idle, stays so; the next item is done now; and the one behind it is to do
-done-before : (p : Past) (a c m : ℕ) → is_to_do p a c m ≡ false → is_to_do p a (c + 1) m ≡ false
+pub done-before : (p : Past) (a c m : ℕ) → is_to_do p a c m ≡ false → is_to_do p a (c + 1) m ≡ false
 unfolding is_to_do
 done-before p a c m e = rw is_logged-more (by (is_some_and (slice_get (items_of p a) m) (λ item. not (is_idle item))) (is_logged p a c m) (is_logged_at p a c m) e)
   where
@@ -142,7 +142,7 @@ done-before p a c m e = rw is_logged-more (by (is_some_and (slice_get (items_of 
     by true true z e = refl
     by true false z e = absurd (let no : ⊥ = cc in no)
 
-done-now : (p : Past) (a c m : ℕ) → is_logged_at p a c m ≡ true → is_to_do p a (c + 1) m ≡ false
+pub done-now : (p : Past) (a c m : ℕ) → is_logged_at p a c m ≡ true → is_to_do p a (c + 1) m ≡ false
 unfolding is_to_do
 done-now p a c m t = rw (is_logged-more, t) (by (is_some_and (slice_get (items_of p a) m) (λ item. not (is_idle item))) (is_logged p a c m))
   where

@@ -14,7 +14,7 @@ pub use laws::{
     parts_are_tested, pasts_go_on, runs_grow, scripts_step, wants_are_new, wants_go_on,
     whole_pasts_go_on,
 };
-pub use steps::{locks_step, ready_lines_step, wants_stay};
+pub use steps::{entries_are_of_next_items, locks_step, ready_lines_step, wants_stay};
 
 mod asked;
 mod growth;

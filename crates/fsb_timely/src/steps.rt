@@ -1,15 +1,18 @@
 //! Laws over what a past has one clock further: no code.
 
-ghost use Rattle.std.specs.Prelude.{◌≡◌, ◌<◌, ◌+◌, ◌&&◌, ◌||◌, ℕ, Some, false, not, length, if◌then◌else◌};
+ghost use Rattle.std.specs.Prelude.{◌≡◌, ◌<◌, ◌≤◌, ◌⊎◌, ◌+◌, ◌&&◌, ◌||◌, ℕ, Some, true, false, not, length, if◌then◌else◌};
 ghost use Rattle.fsb_count.specs.Options.{is_some_and};
 ghost use Rattle.fsb_encode.specs.declared.request.Request.{Request};
 ghost use Rattle.fsb_timely.specs.BusLock.{is_locked_request, is_release, keeps_lock};
+ghost use Rattle.fsb_timely.specs.Completions.{is_arrival};
 ghost use Rattle.fsb_timely.specs.Grants.{grant_at, is_end_at, is_ended, is_granted, is_ready, latest_grant};
 ghost use Rattle.fsb_timely.specs.Growth.{IsNext, IsWhole};
+ghost use Rattle.fsb_timely.specs.Hits.{is_hit};
 ghost use Rattle.fsb_timely.specs.Past.{Past};
 ghost use Rattle.fsb_timely.specs.Runs.{Run, past_of};
-ghost use Rattle.fsb_timely.specs.Scripts.{completes_at};
+ghost use Rattle.fsb_timely.specs.Scripts.{completes_at, is_logged, is_logged_at, next_number};
 ghost use Rattle.fsb_timely.specs.Staying.{CompletesNext, OwesNoMore};
+ghost use Rattle.fsb_timely.specs.Timely.{Timely};
 ghost use Rattle.fsb_timely.specs.Wants.{want_of};
 
 /// An agent keeps the bus locked exactly where it begins a locked request, or kept it locked at the clock before and made no
@@ -28,6 +31,16 @@ pub fn wants_stay()
         → want_of p a c ≡ Some request → (next : Request) × (want_of p a (c + 1) ≡ Some next) }
     ensures completing { (p : Past) (a c : ℕ) (request : Request) → OwesNoMore p a c → CompletesNext p a c
         → want_of p a c ≡ Some request → (next : Request) × (want_of p a (c + 1) ≡ Some next) }
+{}
+
+/// In a timely run the entries of an agent at a clock are of its next item there, by a hit or an arrival; no item behind
+/// its next one was logged before.
+pub fn entries_are_of_next_items()
+    ensures next { (r : Run) (a c m : ℕ) → Timely r → c < length r.trace → is_logged_at (past_of r) a c m ≡ true
+        → (next_number (past_of r) a c ≡ Some m)
+        × ((is_hit (past_of r) a c ≡ true) ⊎ (is_arrival (past_of r) a c ≡ true)) }
+    ensures behind { (r : Run) (a c n m : ℕ) → Timely r → c ≤ length r.trace
+        → next_number (past_of r) a c ≡ Some n → n < m → is_logged (past_of r) a c m ≡ false }
 {}
 
 /// A line is ready for an agent one clock further where the request that granted it last has ended, or ends at this clock.
