@@ -23,6 +23,7 @@ pub mod WholePast
 pub mod StayingWants
 pub mod WindowSteps
 pub mod LoggedItems
+pub mod Completing
 pub mod OneEnd
 pub mod ToldLines
 pub mod Outstanding

@@ -25,10 +25,16 @@ pub fn locks_step()
 {}
 
 /// An agent that wants something, and begins no request at a clock, wants something at the next clock, be it the same or
-/// not: where it has no entry at the clock, and where it completes its next item there.
+/// not: where it has no entry at the clock, and where it completes its next item there. In a timely run one of these is so:
+/// an agent with an entry at a clock completes its next item there.
 pub fn wants_stay()
     ensures waiting { (p : Past) (a c : ℕ) (request : Request) → OwesNoMore p a c → completes_at p a c ≡ false
         → want_of p a c ≡ Some request → (next : Request) × (want_of p a (c + 1) ≡ Some next) }
+    ensures timely { (r : Run) (a c : ℕ) (request : Request) → Timely r → c < length r.trace
+        → OwesNoMore (past_of r) a c → want_of (past_of r) a c ≡ Some request
+        → (next : Request) × (want_of (past_of r) a (c + 1) ≡ Some next) }
+    ensures completes { (r : Run) (a c : ℕ) → Timely r → c < length r.trace → OwesNoMore (past_of r) a c
+        → completes_at (past_of r) a c ≡ true → CompletesNext (past_of r) a c }
     ensures completing { (p : Past) (a c : ℕ) (request : Request) → OwesNoMore p a c → CompletesNext p a c
         → want_of p a c ≡ Some request → (next : Request) × (want_of p a (c + 1) ≡ Some next) }
 {}
