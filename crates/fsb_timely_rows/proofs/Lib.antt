@@ -47,6 +47,7 @@ mod SharedLineOfLock
 mod ReplyPastHeldBack
 mod CachesAndMemory
 mod CachesKept
+mod KeptAtEnd
 mod AskedOfTwo
 mod WildObject
 mod ThreeRepliesDue
