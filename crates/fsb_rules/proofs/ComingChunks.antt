@@ -16,7 +16,7 @@ use Rattle.fsb_trace.specs.Outcome.{does_move, moves_data, response_clock_of, to
 use Rattle.fsb_trace.specs.Response.{data_clock_of}
 use Rattle.fsb_trace.specs.Rules.{is_transferring_of, is_transferring}
 use Rattle.fsb_trace.specs.Verdict.{is_broken, least_rule, verdict}
-use Rattle.fsb_trace.proofs.Interface.{live_request_of-stays, snoop_end_of-clock, verdict-none}
+use Rattle.fsb_trace.proofs.Interface.{live_below_count, live_request_of-stays, snoop_end_of-clock, verdict-none}
 use Rattle.fsb_laws.specs.OneMore.{OneMore, responds}
 use Rattle.fsb_laws.specs.Orderly.{Orderly}
 use Rattle.fsb_laws.specs.Progress.{may_answer_next, response_count, transfer_of}
@@ -31,7 +31,7 @@ use Rattle.fsb_rules.specs.Checker.{Follows, Stands, as_broken}
 use Rattle.fsb_rules.specs.ComingChunks.{HasData, coming_of, coming_by}
 use Rattle.fsb_rules.proofs.QueueFacts.{IsKnown, has_next, known_snooped, live_of-known, live_request_of-known}
 use Rattle.fsb_rules.proofs.DataRules.{moving_begun, moving_kept, on_the_way}
-use Rattle.fsb_rules.proofs.Transfers.{last_is_live, none_from, same_count}
+use Rattle.fsb_rules.proofs.Transfers.{none_from, same_count}
 use Rattle.fsb_rules.proofs.Feeds.{verdict_kept}
 use Rattle.fsb_rules.proofs.Goes.{Goes}
 use Rattle.fsb_rules.proofs.Unbroken.{IsUnbroken, goes_on, unbroken}
@@ -139,6 +139,14 @@ tells_some v n (Some coming) t = t
 pub tells_none : (v : Trace) (n : ℕ) (o : Option Coming) → Tells v n o → o ≡ None → (i k : ℕ) → data_clock_of v i k ≡ Some n → ⊥
 tells_none v n None t e = t
 tells_none v n (Some coming) t e = absurd (let no : ⊥ = cc in no)
+
+-- a request that responded is live
+last_is_live : (w : Trace) (i : ℕ) → Orderly w → i < response_count w → i < live_count w
+last_is_live w i o l =
+    let p = response_there w i l in
+    let a = has_answer w p.0 i (o.timely i p.0 p.1) in
+    let c = snoop_end_of-clock w i a.snoop a.is_snoop in
+    live_below_count w i c.clock c.is_clock
 
 -- data that come at the new clock are on the way there
 on_way : (h : Trace) (x : Sample) (v : Trace) (i n : ℕ) → OneMore h x v → Orderly v → data_clock_of v i n ≡ Some (length h) → (has_line x DRDY ≡ true) × (is_transferring v (length h) ≡ true)
