@@ -16,11 +16,11 @@ use Rattle.fsb_trace.specs.Outcome.{does_move, moves_data, response_clock_of, to
 use Rattle.fsb_trace.specs.Response.{data_clock_of}
 use Rattle.fsb_trace.specs.Rules.{is_transferring_of, is_transferring}
 use Rattle.fsb_trace.specs.Verdict.{is_broken, least_rule, verdict}
-use Rattle.fsb_trace.proofs.Interface.{live_below_count, live_request_of-stays, snoop_end_of-clock, verdict-none}
+use Rattle.fsb_trace.proofs.Interface.{live_request_of-stays, snoop_end_of-clock, verdict-none}
 use Rattle.fsb_laws.specs.OneMore.{OneMore, responds}
 use Rattle.fsb_laws.specs.Orderly.{Orderly}
 use Rattle.fsb_laws.specs.Progress.{may_answer_next, response_count, transfer_of}
-use Rattle.fsb_laws.proofs.Interface.{answered_below, chunks_of-form, has_answer, line_at-new, live_request_of-old, moves_data-old, moves_new, one_more, response_clock_of-new, response_clock_of-old, response_counted, response_there, transfer_parts, transferring_form}
+use Rattle.fsb_laws.proofs.Interface.{answered_below, chunks_of-form, has_answer, last_is_live, line_at-new, live_request_of-old, moves_data-old, moves_new, one_more, response_clock_of-new, response_clock_of-old, response_counted, response_there, transfer_parts, transferring_form}
 use Rattle.fsb_rules.specs.declared.checker.Checker.{Checker}
 use Rattle.fsb_rules.specs.declared.live.Moving.{Moving}
 use Rattle.fsb_rules.specs.declared.coming.Coming.{Coming}
@@ -139,14 +139,6 @@ tells_some v n (Some coming) t = t
 pub tells_none : (v : Trace) (n : ℕ) (o : Option Coming) → Tells v n o → o ≡ None → (i k : ℕ) → data_clock_of v i k ≡ Some n → ⊥
 tells_none v n None t e = t
 tells_none v n (Some coming) t e = absurd (let no : ⊥ = cc in no)
-
--- a request that responded is live
-last_is_live : (w : Trace) (i : ℕ) → Orderly w → i < response_count w → i < live_count w
-last_is_live w i o l =
-    let p = response_there w i l in
-    let a = has_answer w p.0 i (o.timely i p.0 p.1) in
-    let c = snoop_end_of-clock w i a.snoop a.is_snoop in
-    live_below_count w i c.clock c.is_clock
 
 -- data that come at the new clock are on the way there
 on_way : (h : Trace) (x : Sample) (v : Trace) (i n : ℕ) → OneMore h x v → Orderly v → data_clock_of v i n ≡ Some (length h) → (has_line x DRDY ≡ true) × (is_transferring v (length h) ≡ true)
