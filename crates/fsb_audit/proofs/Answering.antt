@@ -76,9 +76,12 @@ new_reply : (v : Trace) (n p : ℕ) → p + 1 ≡ n → p < length v → is_live
 unfolding reply_clock_of
 new_reply v n p e l live f r =
     let w = awaited v n p e (is_live-ads v p live) f r in
-    let a : Awaits v p w.0 = w.1 in
-    (w.0, a.deferred, first_where-at (is_live_reply_to v w.0) (length v) p l (replies_to v p w.0 a live r)
-    (λ c k. false_from_ne_true _ (λ t. unanswered_at v p w.0 c a.unanswered k t)))
+    let a : Awaits v p w.0 = w.1 in (
+      w.0,
+      a.deferred,
+      first_where-at (is_live_reply_to v w.0) (length v) p l (replies_to v p w.0 a live r)
+          (λ c k. false_from_ne_true _ (λ t. unanswered_at v p w.0 c a.unanswered k t)),
+    )
 
 old_reply : (h : Trace) (x : Sample) (v : Trace) (q : ℕ) → OneMore h x v → Orderly h → IsAnswering h → q + 1 < length h → is_live v q ≡ true → is_reply (request_at v q) ≡ true → (i : ℕ) × (is_deferred v i ≡ true) × (reply_clock_of v i ≡ Some q)
 old_reply h x v q m o had l live r =

@@ -189,7 +189,7 @@ asked_goes asked first h x v m o ov d is wrong had = cases (line_back ADS h (len
                 let is_s : r ≡ s = same_Some _ _ (sym k ∙ ap (request_at v) here ∙ f) in
                 ap (λ xs. slice_index xs r.did) a
                 ∙ subst (λ z. slice_index (slice_set asked s.did (first_asked s)) z.did ≡ first_asked z) (sym is_s)
-                  (get_or-set_same asked s.did (first_asked s) 0 (let low = id_below s (decoded_lawful v p s f) in let size = had.size in omega arith))
+                (get_or-set_same asked s.did (first_asked s) 0 (let low = id_below s (decoded_lawful v p s f) in let size = had.size in omega arith))
           ];
     }
 

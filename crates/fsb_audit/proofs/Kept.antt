@@ -155,7 +155,7 @@ count_goes h x v b m o e =
     rw m.size (count_where-more (λ c. is_some (moved_at v c)) (length h)
     ∙ ap (λ k. count_where (λ c. is_some (moved_at v c)) (length h) + cond k 1 0) e
     ∙ ap (λ k. k + cond b 1 0) (count_where-same (λ c. is_some (moved_at v c)) (λ c. is_some (moved_at h c)) (length h)
-      (record { same = λ c l. ap (λ k. is_some k) (same_moved h v c g l) })))
+    (record { same = λ c l. ap (λ k. is_some k) (same_moved h v c g l) })))
 
 -- the data of a chunk when it was moved last
 latest_more : (v : Trace) (chunk n : ℕ) → length v ≡ n + 1 → latest_data v chunk ≡ option_map (λ b. (data_at v b).bits) (last_where (λ b. is_at (moved_at v b) chunk) (suc n))

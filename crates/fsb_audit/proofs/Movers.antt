@@ -246,9 +246,11 @@ pub same_place : (u v : Trace) (c i : ℕ) → GoesOnFrom u v → c < length u �
 unfolding data_place_at
 same_place u v c i g l =
     first_where-same (λ n. is_at (data_clock_of v i n) c) (λ n. is_at (data_clock_of u i n) c) 4
-    (record { same = λ n m. same_Bool _ _
-      (λ t. is_at-from (data_clock_of u i n) c (data_back u v i n c g l (is_at-some (data_clock_of v i n) c t)))
-      (λ t. is_at-from (data_clock_of v i n) c (data_forth u v i n c g l (is_at-some (data_clock_of u i n) c t))) })
+    (record {
+      same = λ n m. same_Bool _ _
+          (λ t. is_at-from (data_clock_of u i n) c (data_back u v i n c g l (is_at-some (data_clock_of v i n) c t)))
+          (λ t. is_at-from (data_clock_of v i n) c (data_forth u v i n c g l (is_at-some (data_clock_of u i n) c t)));
+    })
 
 -- and so does the mover
 pub same_mover : (u v : Trace) (c : ℕ) → GoesOnFrom u v → c < length u → mover_at v c ≡ mover_at u c

@@ -84,7 +84,6 @@ answer_live w j i a =
     let p = live_of_reply w i a.clock a.is_clock in
     subst (λ k. live_clock_of w k ≡ Some a.clock) a.number (live_clock_of-number w a.clock p.1 p.0)
 
-
 pub reply_before : (w : Trace) (i q : ℕ) → reply_clock_of w i ≡ Some q → (r : ℕ) × (response_clock_of w i ≡ Some r) × (r < q)
 unfolding reply_clock_of is_live_reply_to is_reply_to
 reply_before w i q e =
@@ -99,13 +98,15 @@ answers_forth u v j i g r t =
     let k = responded u i d.0 g.orderly d.1 in
     let c = snoop_end_of-clock u j r.snoop r.is_snoop in
     let here : a.clock ≡ c.clock = same_Some _ _ (sym (answer_live u j i a) ∙ c.is_clock) in
-    let early : a.clock + 3 < length u = omega (arith, here, c.above, r.early, r.below) in
-    (live_after u v i g k, answer_from v j i (record {
-      deferred = same_deferred u v i g k ∙ a.deferred;
-      clock = a.clock;
-      is_clock = reply_forth u v i a.clock g k early a.is_clock;
-      number = same_number u v a.clock g early ∙ a.number;
-    }))
+    let early : a.clock + 3 < length u = omega (arith, here, c.above, r.early, r.below) in (
+      live_after u v i g k,
+      answer_from v j i (record {
+        deferred = same_deferred u v i g k ∙ a.deferred;
+        clock = a.clock;
+        is_clock = reply_forth u v i a.clock g k early a.is_clock;
+        number = same_number u v a.clock g early ∙ a.number;
+      }),
+    )
 
 answers_back : (u v : Trace) (j i : ℕ) → GoesOnFrom u v → Responded u j → is_answered_by v j i ≡ true → (i < live_count u) × (is_answered_by u j i ≡ true)
 answers_back u v j i g r t =
@@ -117,13 +118,15 @@ answers_back u v j i g r t =
     let early : a.clock + 3 < length u = omega arith in
     let b = reply_before v i a.clock a.is_clock in
     let back = response_clock_of-stays (length u) v u i b.0 (AgreeTo-sym (length u) u v g.agree) (omega (arith, b.2)) b.1 in
-    let k = responded u i b.0 g.orderly back in
-    (live_below u i k, answer_from u j i (record {
-      deferred = sym (same_deferred u v i g k) ∙ a.deferred;
-      clock = a.clock;
-      is_clock = reply_back u v i a.clock g k early a.is_clock;
-      number = sym (same_number u v a.clock g early) ∙ a.number;
-    }))
+    let k = responded u i b.0 g.orderly back in (
+      live_below u i k,
+      answer_from u j i (record {
+        deferred = sym (same_deferred u v i g k) ∙ a.deferred;
+        clock = a.clock;
+        is_clock = reply_back u v i a.clock g k early a.is_clock;
+        number = sym (same_number u v a.clock g early) ∙ a.number;
+      }),
+    )
 
 pub same_namer : (u v : Trace) (j : ℕ) → GoesOnFrom u v → Responded u j → namer_of v j ≡ namer_of u j
 unfolding namer_of

@@ -67,13 +67,16 @@ answered h x v j n r c b t =
     let a = reply_there h x v j n r c b t in
     let g = goes_on h x v j n r c in
     let d = deferred_response h a.0 a.1 in
-    let k = responded h a.0 d.0 c.before d.1 in
-    (a.0, live_after h v a.0 g k, answer_from v j a.0 (record {
-      deferred = same_deferred h v a.0 g k ∙ a.1;
-      clock = b.first;
-      is_clock = reply_forth h v a.0 b.first g k (omega (arith, b.early)) a.2;
-      number = same_number h v b.first g (omega (arith, b.early)) ∙ b.number;
-    }))
+    let k = responded h a.0 d.0 c.before d.1 in (
+      a.0,
+      live_after h v a.0 g k,
+      answer_from v j a.0 (record {
+        deferred = same_deferred h v a.0 g k ∙ a.1;
+        clock = b.first;
+        is_clock = reply_forth h v a.0 b.first g k (omega (arith, b.early)) a.2;
+        number = same_number h v b.first g (omega (arith, b.early)) ∙ b.number;
+      }),
+    )
 
 first_there : (v : Trace) (j i : ℕ) (o : Option ℕ) → i < live_count v → is_answered_by v j i ≡ true → first_where (is_answered_by v j) (live_count v) ≡ o → (k : ℕ) × (first_where (is_answered_by v j) (live_count v) ≡ Some k)
 first_there v j i None l t e = let f = first_where-none (is_answered_by v j) (live_count v) e i l in absurd (both_ways _ f t)

@@ -116,12 +116,7 @@ impl Audit {
     }
 
     /// Takes a sample that breaks no rule, and the chunk that comes with it.
-    fn absorb(
-        &mut self,
-        clock: u32,
-        sample: &Sample,
-        coming: Option<Coming>,
-    ) -> Result<(), Memory>
+    fn absorb(&mut self, clock: u32, sample: &Sample, coming: Option<Coming>) -> Result<(), Memory>
         requires { self.old.count < 2 ^ 32 }
         ensures checker { self.new.checker ≡ self.old.checker }
         ensures full { OnErr result (self.new.is_full ≡ true) }

@@ -64,18 +64,18 @@ stands c m h s =
           let done = w.in_ok-absorb-in-None.ensures in
           subst (λ a. Stands a m (h ++ c.args.sample.now ∷ [])) (sym w.self-is)
           (absorb_stands m c.args.self.now w.absorb.new.self h c.args.sample.now w.coming-coming.result (is_some-none c.args.self.now.found w.if-is_none.ensures) f
-            (record {
-              checker = subst (λ k. CheckerStands k m (h ++ c.args.sample.now ∷ [])) (sym w.absorb.ensures.checker) (w.feed.ensures.stands m h f.checker);
-              clock = done.clock;
-              first = done.first;
-              asked = done.asked;
-              from_memory = done.from_memory;
-              count = done.count;
-              moved = done.moved;
-              found = done.found;
-            })
-            (told_of (h ++ c.args.sample.now ∷ []) (length h) w.coming-coming.result (w.coming-coming.ensures.some m h f.checker sound) (w.coming-coming.ensures.none m h f.checker sound))
-            sound)
+          (record {
+            checker = subst (λ k. CheckerStands k m (h ++ c.args.sample.now ∷ [])) (sym w.absorb.ensures.checker) (w.feed.ensures.stands m h f.checker);
+            clock = done.clock;
+            first = done.first;
+            asked = done.asked;
+            from_memory = done.from_memory;
+            count = done.count;
+            moved = done.moved;
+            found = done.found;
+          })
+          (told_of (h ++ c.args.sample.now ∷ []) (length h) w.coming-coming.result (w.coming-coming.ensures.some m h f.checker sound) (w.coming-coming.ensures.none m h f.checker sound))
+          sound)
       | else-is_none w ↦
           subst (λ a. Stands a m (h ++ c.args.sample.now ∷ [])) (sym w.self-is)
           (found_stands m c.args.self.now h c.args.sample.now s c.if-self.false w.if-is_none.ensures)

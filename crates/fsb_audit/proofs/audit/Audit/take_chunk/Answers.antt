@@ -16,4 +16,4 @@ returns-clause-found c =
     c.foul_of-self.ensures
     ∙ ap (λ before. foul_by c.args.self.now.from_memory c.args.clock c.nth_chunk-chunk.result before c.args.bits) c.in-Ok.ensures.old
     ∙ ap (λ chunk. foul_by c.args.self.now.from_memory c.args.clock chunk (data_in c.args.self.now.moved.entries chunk) c.args.bits)
-      (c.nth_chunk-chunk.ensures.value ∙ ap (λ did. nth_from (slice_index c.args.self.now.asked did) c.args.coming.place) c.from.ensures)
+    (c.nth_chunk-chunk.ensures.value ∙ ap (λ did. nth_from (slice_index c.args.self.now.asked did) c.args.coming.place) c.from.ensures)
