@@ -8,10 +8,10 @@ use Rattle.fsb_laws.proofs.Interface.{response_count-empty}
 use Rattle.fsb_rules.specs.Checker.{Stands as CheckerStands}
 use Rattle.fsb_audit.specs.declared.audit.Audit.{Audit}
 use Rattle.fsb_audit.specs.Transfers.{moved_count}
-use Rattle.fsb_audit.specs.Fouls.{latest_move}
+use Rattle.fsb_audit.specs.Fouls.{finding_of, latest_move}
 use Rattle.fsb_audit.specs.Registers.{data_in}
 use Rattle.fsb_audit.specs.Audit.{Follows, HasAsked, IsAnswering, Stands, comes_after, first_back, latest_data}
-use Rattle.fsb_audit.proofs.Findings.{stands_following}
+use Rattle.fsb_audit.proofs.Findings.{nothing, stands_following}
 
 -- what the code makes
 pub record IsNew (a : Audit) (m : Marks) : Type 0 where
@@ -27,6 +27,10 @@ pub record IsNew (a : Audit) (m : Marks) : Type 0 where
 no_verdict : (m : Marks) → verdict m [] ≡ None
 unfolding verdict first_where
 no_verdict m = refl
+
+-- nothing is found in no sample
+pub nothing_yet : (m : Marks) → finding_of m [] ≡ None
+nothing_yet m = nothing m [] (no_verdict m) (λ c l. absurd (omega arith))
 
 no_words : first_back [] ≡ None
 unfolding first_back line_back
