@@ -1,6 +1,11 @@
 pub mod EachClock
 pub mod Next
 pub mod Since
+pub mod KeptAnswers
+pub mod Stepwise
+pub mod LastClock
+pub mod Growing
+pub mod LockSteps
 pub mod GoingOn
 pub mod GoingScripts
 pub mod GoingDirty
@@ -14,6 +19,11 @@ pub mod TiedGrants
 pub mod TiedMoments
 pub mod Wanted
 pub mod Items
+pub mod WholePast
+pub mod StayingWants
+pub mod WindowSteps
+pub mod LoggedItems
+pub mod Completing
 pub mod OneEnd
 pub mod ToldLines
 pub mod Outstanding

@@ -13,8 +13,10 @@ pub mod BusLock
 pub mod ParityLines
 pub mod Timely
 pub mod Growth
+pub mod Staying
 pub mod Tied
 pub mod Carried
 pub mod Simulated
 pub mod Asked
+pub mod AskedSteps
 pub mod Kept
