@@ -19,6 +19,7 @@ pub mod TiedGrants
 pub mod TiedMoments
 pub mod Wanted
 pub mod Items
+pub mod MomentFields
 pub mod WholePast
 pub mod StayingWants
 pub mod WindowSteps
