@@ -97,3 +97,4 @@ mod Mixed24
 mod Mixed25
 mod Mixed26
 mod Mixed27
+mod BrokenRules
