@@ -20,6 +20,8 @@ pub mod TiedMoments
 pub mod Wanted
 pub mod Items
 pub mod MomentFields
+pub mod WantedRequests
+pub mod MemoryStays
 pub mod WholePast
 pub mod StayingWants
 pub mod WindowSteps

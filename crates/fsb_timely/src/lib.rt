@@ -14,7 +14,10 @@ pub use laws::{
     outstanding_requests_step, parts_are_tested, pasts_go_on, runs_grow, scripts_step,
     wants_are_new, wants_go_on, whole_pasts_go_on,
 };
-pub use steps::{entries_are_of_next_items, locks_step, ready_lines_step, wants_stay};
+pub use steps::{
+    earlier_bytes_stay, entries_are_of_next_items, locks_step, ready_lines_step,
+    requests_are_wanted, wants_stay,
+};
 
 mod asked;
 mod growth;
