@@ -1,9 +1,8 @@
 -- A due request stays due until its reply begins.
-use Rattle.std.proofs.Common.{ℕ, zero, suc, ◌+◌, ◌<◌, ◌≤◌, ◌≡◌, Bool, true, false, not, ◌&&◌, ◌||◌, List, Option, Some, None, is_some, length, nat_le, nat_lt, slice_index, refl, sym, ap, subst, ◌∙◌, arith, inl, inr}
-use Rattle.std.proofs.lemmas.Bool.{and_from, and_parts, false_from_ne_true, cases_Bool, cases_lt, le-leb, leb-true, lt-ltb, ltb-true, or_right}
-use Rattle.fsb_count.specs.Clocks.{any_where, first_where}
+use Rattle.std.proofs.Common.{ℕ, suc, ◌+◌, ◌<◌, ◌≤◌, ◌≡◌, Bool, true, false, not, ◌&&◌, ◌||◌, List, Option, Some, None, is_some, length, nat_le, nat_lt, slice_index, refl, sym, ap, subst, ◌∙◌, arith, inl, inr}
+use Rattle.std.proofs.lemmas.Bool.{and_from, and_parts, false_from_ne_true, cases_lt, le-leb, leb-true, lt-ltb, or_right}
 use Rattle.fsb_count.specs.Options.{is_before, is_some_and}
-use Rattle.fsb_count.proofs.Interface.{any_where-at, any_where-found, any_where-off, first_where-found, first_where-none}
+use Rattle.fsb_count.proofs.Interface.{any_where-at, any_where-off, first_where-found, first_where-none}
 use Rattle.fsb_signal.proofs.Interface.{line_at-past}
 use Rattle.fsb_signal.specs.declared.lines.TheConstants.Lines.{ADS, AERR}
 use Rattle.fsb_signal.specs.Samples.{line_at}
@@ -18,9 +17,8 @@ use Rattle.fsb_trace.specs.Winner.{begins_at}
 use Rattle.fsb_trace.proofs.Interface.{line_at-agree, live_request_of-stays, request_at-agree, response_clock_of-stays, snoop_end_of-stays}
 use Rattle.fsb_laws.proofs.Interface.{last_is_live, response_counted}
 use Rattle.fsb_timely.specs.Moments.{number_of_turn, turns_in}
-use Rattle.fsb_timely.specs.Past.{Past}
 use Rattle.fsb_timely.specs.Runs.{Run, past_of, past_to, run_to}
-use Rattle.fsb_timely.specs.Starts.{due_number, reply_before}
+use Rattle.fsb_timely.specs.Starts.{due_number}
 use Rattle.fsb_timely.specs.Timely.{Timely}
 use Rattle.fsb_timely.specs.Transfers.{settled_of}
 use Rattle.fsb_lawful.specs.Beginning.{WantsLawfully}
@@ -132,10 +130,12 @@ due-next r d i h l none due =
     let end : early.end ≡ late.end = (let f = early.there in let g = late.there in cc) in
     let settled = late.outcome ∙ ap (λ x. Some x.outcome) (sym end) ∙ sym early.outcome in
     let later = ap later_of (early.number ∙ ap (λ x. number_of_turn x.turn) end ∙ sym late.number) in
-    let response = response_clock_of-stays (d + 1) v w i t.0 agree (omega arith) t.1 in
-    (last_is_live w i (orderly-at r (suc d) h l) (response_counted w i t.0 response), due-from w (turns_in (past_of (run_to r (suc d))).moments) (suc d) i (ap (λ o. is_some_and o is_deferral) settled ∙ a.0)
-    (still-late (response_clock_of w i) t.0 (later_of (slice_index (turns_in (past_of (run_to r d)).moments) i)) (later_of (slice_index (turns_in (past_of (run_to r (suc d))).moments) i)) d response later high)
-    (unanswered r d i s t.0 l told.is_snoop t.1 (omega arith) (omega arith) none a.2))
+    let response = response_clock_of-stays (d + 1) v w i t.0 agree (omega arith) t.1 in (
+      last_is_live w i (orderly-at r (suc d) h l) (response_counted w i t.0 response),
+      due-from w (turns_in (past_of (run_to r (suc d))).moments) (suc d) i (ap (λ o. is_some_and o is_deferral) settled ∙ a.0)
+          (still-late (response_clock_of w i) t.0 (later_of (slice_index (turns_in (past_of (run_to r d)).moments) i)) (later_of (slice_index (turns_in (past_of (run_to r (suc d))).moments) i)) d response later high)
+          (unanswered r d i s t.0 l told.is_snoop t.1 (omega arith) (omega arith) none a.2),
+    )
 
 some-due : (w : Trace) (turns : List ℕ) (c : ℕ) (o : Option ℕ) → due_at w turns c ≡ o → is_some o ≡ true → (i : ℕ) × (is_due w turns c i ≡ true)
 unfolding due_at

@@ -1,19 +1,16 @@
 -- Rule 8: who asks for the bus in a timely run goes on until it begins a request, and then stops.
-use Rattle.std.proofs.Common.{ℕ, zero, suc, ◌+◌, ◌-◌, ◌<◌, ◌≤◌, ◌≡◌, Bool, true, false, not, ◌&&◌, Option, Some, None, is_some, length, take, refl, sym, ap, ◌∙◌, arith, if◌then◌else◌}
+use Rattle.std.proofs.Common.{ℕ, zero, suc, ◌+◌, ◌-◌, ◌<◌, ◌≤◌, ◌≡◌, Bool, true, false, not, ◌&&◌, is_some, length, take, refl, sym, ap, ◌∙◌, arith, if◌then◌else◌}
 use Rattle.std.proofs.lemmas.Bool.{and_parts, le-leb, or_from}
 use Rattle.fsb_count.specs.Clocks.{each_where}
-use Rattle.fsb_count.specs.Options.{is_some_and}
 use Rattle.fsb_count.proofs.Interface.{any_where-off, each_where-at}
-use Rattle.fsb_encode.specs.declared.request.Request.{Request}
 use Rattle.fsb_signal.specs.declared.lines.TheConstants.Lines.{ADS, BPRI}
 use Rattle.fsb_signal.specs.declared.marks.Marks.{Marks}
 use Rattle.fsb_signal.specs.Samples.{line_at}
 use Rattle.fsb_trace.specs.declared.who.Who.{Who}
 use Rattle.fsb_trace.specs.declared.who.Who.TheVariants.{Symmetric, Priority}
-use Rattle.fsb_trace.specs.At.{Trace, line_back, request_at}
-use Rattle.fsb_trace.specs.Requests.{is_reply}
-use Rattle.fsb_trace.specs.Rules.{is_asked_wrongly, is_identified, is_own_id, is_some_asked_wrongly}
-use Rattle.fsb_trace.specs.Winner.{begins_at, bus_request_of, is_agent, is_same_agent, request_line_of, winner_at}
+use Rattle.fsb_trace.specs.At.{Trace, line_back}
+use Rattle.fsb_trace.specs.Rules.{is_asked_wrongly, is_some_asked_wrongly}
+use Rattle.fsb_trace.specs.Winner.{begins_at, bus_request_of, is_agent, request_line_of}
 use Rattle.fsb_trace.proofs.Interface.{breaks-8, winner_at-agree}
 use Rattle.fsb_timely.specs.Past.{Past}
 use Rattle.fsb_timely.specs.Runs.{Run, past_of, past_to, run_to}

@@ -7,7 +7,7 @@ use Rattle.fsb_trace.specs.Winner.{begins_at}
 use Rattle.fsb_timely.specs.Grants.{snooped_at}
 use Rattle.fsb_timely.specs.Past.{SnoopEnd}
 use Rattle.fsb_timely.specs.Runs.{Run, run_to, past_of, past_to}
-use Rattle.fsb_timely.specs.Snoops.{is_dirty_for, is_held_for}
+use Rattle.fsb_timely.specs.Snoops.{is_held_for}
 use Rattle.fsb_timely.specs.Wants.{want_of}
 
 -- a want stays until its request begins: a symmetric agent with a want that begins no request still has a want at the next
@@ -17,9 +17,7 @@ pub record WantsStay (r : Run) : Type 0 where
       → begins_at (run_to r c).trace c (Symmetric a) ≡ false
       → IsTrue (is_some (want_of (past_to (past_of r) (suc c)) a (suc c)))
 
--- at the snoop end of a write-back no other agent holds its line, nor is dirty on it
+-- at the snoop end of a write-back no other agent holds its line
 pub record WritesBackAlone (r : Run) : Type 0 where
   pub alone : (c : ℕ) (s : SnoopEnd) → snooped_at (past_of r) c ≡ Some s → IsTrue (is_some_and s.kind is_write_back_kind)
       → is_held_for (past_to (past_of r) c) c s ≡ false
-  pub clean : (c : ℕ) (s : SnoopEnd) → snooped_at (past_of r) c ≡ Some s → IsTrue (is_some_and s.kind is_write_back_kind)
-      → is_dirty_for (past_to (past_of r) c) c s ≡ false
