@@ -1,6 +1,8 @@
 //! Laws over what a past has one clock further: no code.
 
-ghost use Rattle.std.specs.Prelude.{◌≡◌, ◌<◌, ◌≤◌, ◌⊎◌, ◌+◌, ◌&&◌, ◌||◌, ℕ, Some, true, false, not, length, if◌then◌else◌};
+ghost use Rattle.std.specs.Prelude.{◌≡◌, ◌<◌, ◌≤◌, ◌⊎◌, ◌+◌, ◌&&◌, ◌||◌, ℕ, Some, true, false, not, nat_lt, length, take, if◌then◌else◌};
+ghost use Rattle.std.specs.List.{filter};
+ghost use Rattle.fsb_access.specs.ScriptOrder.{accesses_of, steps_of};
 ghost use Rattle.fsb_count.specs.Options.{is_some_and};
 ghost use Rattle.fsb_encode.specs.declared.request.Request.{Request};
 ghost use Rattle.fsb_signal.specs.declared.lines.TheConstants.Lines.{ADS};
@@ -15,7 +17,7 @@ ghost use Rattle.fsb_timely.specs.Growth.{IsNext, IsWhole};
 ghost use Rattle.fsb_timely.specs.Hits.{is_hit};
 ghost use Rattle.fsb_timely.specs.Past.{Past};
 ghost use Rattle.fsb_timely.specs.Runs.{Run, run_to, past_of, past_to};
-ghost use Rattle.fsb_timely.specs.Scripts.{completes_at, is_logged, is_logged_at, next_number};
+ghost use Rattle.fsb_timely.specs.Scripts.{completes_at, is_logged, is_logged_at, items_of, next_number};
 ghost use Rattle.fsb_timely.specs.Starts.{would_begin};
 ghost use Rattle.fsb_timely.specs.Staying.{CompletesNext, OwesNoMore};
 ghost use Rattle.fsb_timely.specs.Timely.{Timely};
@@ -53,6 +55,13 @@ pub fn entries_are_of_next_items()
         × ((is_hit (past_of r) a c ≡ true) ⊎ (is_arrival (past_of r) a c ≡ true)) }
     ensures behind { (r : Run) (a c n m : ℕ) → Timely r → c ≤ length r.trace
         → next_number (past_of r) a c ≡ Some n → n < m → is_logged (past_of r) a c m ≡ false }
+{}
+
+/// Below each clock the entries of an agent of a timely run are the accesses of its script up to its next item there, in
+/// order.
+pub fn logs_follow_scripts()
+    ensures { (r : Run) (a c n : ℕ) → Timely r → a < 4 → c ≤ length r.trace → next_number (past_of r) a c ≡ Some n
+        → steps_of a (filter (λ done. nat_lt done.clock c) r.log) ≡ accesses_of (take n (items_of (past_of r) a)) }
 {}
 
 /// Where a request begins in a timely run there is a winner, and it has something to begin: a symmetric agent its want, the
