@@ -123,12 +123,18 @@ impl Audit {
         ensures room { OnOk result (self.new.is_full ≡ self.old.is_full) }
         ensures clock { OnOk result (self.new.clock ≡ clock + 1) }
         ensures first { OnOk result (self.new.first ≡ first_after sample.now) }
-        ensures asked { OnOk result (self.new.asked ≡ asked_after self.old.asked self.old.first sample.now) }
-        ensures from_memory { OnOk result (self.new.from_memory ≡ from_memory_after self.old.from_memory sample.now) }
+        ensures asked { OnOk result (
+            self.new.asked ≡ asked_after self.old.asked self.old.first sample.now) }
+        ensures from_memory { OnOk result (
+            self.new.from_memory ≡ from_memory_after self.old.from_memory sample.now) }
         ensures count { OnOk result (self.new.count ≡ count_after self.old.count coming) }
-        ensures moved { OnOk result (HasMoved self.old.moved.entries self.new.moved.entries self.old.asked coming sample.now.dbus.bits) }
-        ensures found { OnOk result (self.new.found ≡ found_after self.old.found (from_memory_after self.old.from_memory sample.now)
-            clock self.old.moved.entries self.old.asked coming sample.now.dbus.bits) }
+        ensures moved { OnOk result (
+            HasMoved self.old.moved.entries self.new.moved.entries self.old.asked coming
+            sample.now.dbus.bits) }
+        ensures found { OnOk result (
+            self.new.found ≡ found_after self.old.found
+            (from_memory_after self.old.from_memory sample.now) clock
+            self.old.moved.entries self.old.asked coming sample.now.dbus.bits) }
     {
         self.from_memory = self.is_from_memory(sample);
         if let Some(coming) = coming {
@@ -161,8 +167,11 @@ impl Audit {
         ensures asked { self.new.asked ≡ self.old.asked }
         ensures from_memory { self.new.from_memory ≡ self.old.from_memory }
         ensures count { OnOk result (self.new.count ≡ self.old.count + 1) }
-        ensures moved { OnOk result (Puts self.old.moved.entries self.new.moved.entries (chunk_by self.old.asked coming) bits) }
-        ensures found { OnOk result (self.new.found ≡ foul_by self.old.from_memory clock (chunk_by self.old.asked coming)
+        ensures moved { OnOk result (
+            Puts self.old.moved.entries self.new.moved.entries
+            (chunk_by self.old.asked coming) bits) }
+        ensures found { OnOk result (
+            self.new.found ≡ foul_by self.old.from_memory clock (chunk_by self.old.asked coming)
             (data_in self.old.moved.entries (chunk_by self.old.asked coming)) bits) }
     {
         let chunk = nth_chunk(self.asked[usize::from(coming.did)], coming.place);
@@ -188,7 +197,10 @@ impl Audit {
     /// words of one that begins.
     #[tactic(auto, unfolding(crate::specs::Registers::asked_after, crate::specs::Registers::asked_with, crate::specs::Registers::first_after, fsb_trace::specs::Requests::is_reply_kind))]
     fn note_request(&mut self, sample: &Sample)
-        ensures rest { self.new ≡ record self.old { first = first_after sample.now; asked = asked_after self.old.asked self.old.first sample.now } }
+        ensures rest { self.new ≡ record self.old {
+          first = first_after sample.now;
+          asked = asked_after self.old.asked self.old.first sample.now;
+        } }
     {
         if let Some(request) = self.begun(sample) {
             if request.kind != Kind::Reply {
