@@ -1,0 +1,3 @@
+pub mod Awaits
+pub mod LineEvents
+pub mod Relation
