@@ -8,7 +8,7 @@ use Rattle.fsb_access.specs.declared.log.Done.{Done}
 use Rattle.fsb_line.specs.declared.link.Link.{Link}
 use Rattle.fsb_line.specs.declared.purpose.Purpose.{Purpose}
 use Rattle.fsb_line.specs.declared.purpose.Purpose.TheVariants.{Own, Read}
-use Rattle.fsb_line.specs.Line.{Deferral, MemoryLine, OpenRequest}
+use Rattle.fsb_line.specs.Line.{LineDeferral, MemoryLine, OpenRequest}
 use Rattle.fsb_line.specs.States.{is_held, is_modified, is_sole}
 use Rattle.fsb_trace.specs.declared.outcome.Outcome.TheVariants as outcomes
 use Rattle.fsb_trace.specs.Outcome.{is_deferral}
@@ -106,7 +106,7 @@ replies_line p line t =
     is_some_and (snooped_at p t) (λ s. is_none s.claim && is_some_and s.grant (λ grant. nat_eq grant.line line))
 
 -- what is deferred by this snoop end at t of a request with this claim
-unfoldable pub deferral_for : Past → ℕ → ℕ → SnoopEnd → Claim → Deferral
+unfoldable pub deferral_for : Past → ℕ → ℕ → SnoopEnd → Claim → LineDeferral
 deferral_for p line t s claim = record {
   agent = claim.agent;
   kind = purpose_at s;
@@ -114,12 +114,12 @@ deferral_for p line t s claim = record {
 }
 
 -- what is deferred by the snoop end at t
-unfoldable pub deferral_at : Past → ℕ → ℕ → Option Deferral
+unfoldable pub deferral_at : Past → ℕ → ℕ → Option LineDeferral
 deferral_at p line t =
     option_and_then (λ s. option_map_or (λ claim. Some (deferral_for p line t s claim)) s.claim None) (snooped_at p t)
 
 -- the deferral that the line awaits a reply to at n: the last one below n, if no reply granted the line since
-unfoldable pub deferral_below : Past → ℕ → ℕ → Option Deferral
+unfoldable pub deferral_below : Past → ℕ → ℕ → Option LineDeferral
 deferral_below p line n = elim (last_where (defers_line p line) n) [
   | None ↦ None
   | Some t ↦ if any_where (from_clock (t + 1) (replies_line p line)) n then None else deferral_at p line t
