@@ -142,7 +142,7 @@ pub record Tied (p : Past) (line n : ℕ) (x : MemoryLine) : Type 0 where
   pub sole : (a : ℕ) → is_sole (x.state a) ≡ is_exclusive p a line n
   pub modified : (a : ℕ) → is_modified (x.state a) ≡ is_dirty_below p a line n
   pub asked : (a : ℕ) (request : OpenRequest) → x.ask a ≡ Some request → IsOpen p a line n request
-  pub open : (a : ℕ) (request : OpenRequest) → IsOpen p a line n request → x.ask a ≡ Some request
+  pub opened : (a : ℕ) (request : OpenRequest) → IsOpen p a line n request → x.ask a ≡ Some request
   pub chain : x.chain ≡ chain_below p line n
   pub deferral : x.deferral ≡ deferral_below p line n
   pub moved : is_some x.moved ≡ is_moved_below p line n

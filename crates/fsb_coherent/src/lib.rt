@@ -3,3 +3,7 @@
 //! `specs/` has the events of a line of memory in a run, clock by clock, and what the line of the pure machine has to do
 //! with the run after them. docs/coherence.md tells the argument from the bus to the line.
 #![tactic(auto)]
+
+pub use laws::{events_stay, lines_start_tied};
+
+mod laws;

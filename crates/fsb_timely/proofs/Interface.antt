@@ -6,3 +6,5 @@ pub use Rattle.fsb_timely.proofs.EachClock.{keeps-at, keeps-all}
 pub use Rattle.fsb_timely.proofs.GoingOn.{last-same}
 -- The moments of a run, and what the whole trace says.
 pub use Rattle.fsb_timely.proofs.Moments.{moment-at, moment_of, number-says, snooped-there}
+-- The past up to a clock stays when the run goes on.
+pub use Rattle.fsb_timely.proofs.Next.{past-same}
