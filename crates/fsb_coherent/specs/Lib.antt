@@ -1,3 +1,5 @@
 pub mod Awaits
 pub mod LineEvents
 pub mod Relation
+pub mod KeepsTie
+pub mod Quiet

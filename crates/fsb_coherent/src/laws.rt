@@ -1,12 +1,20 @@
 //! Laws over the definitions: no code.
 
-ghost use Rattle.std.specs.Prelude.{◌≡◌, ◌<◌, ◌≤◌, ℕ, length};
-ghost use Rattle.fsb_line.specs.Line.{Bytes, unheld};
+ghost use Rattle.std.specs.Prelude.{◌≡◌, ◌≢◌, ◌<◌, ◌≤◌, ◌+◌, ◌++◌, ℕ, [], true, false, Some, None, length, if◌then◌else◌};
+ghost use Rattle.std.specs.Option.{option_map_or};
+ghost use Rattle.fsb_count.specs.Options.{is_at, is_some_and};
+ghost use Rattle.fsb_line.specs.Line.{Bytes, LineDeferral, MemoryLine, OpenRequest, unheld};
+ghost use Rattle.fsb_line.specs.Runs.{MayRun, run};
 ghost use Rattle.fsb_timely.specs.Past.{Past};
+ghost use Rattle.fsb_timely.specs.Grants.{holds_line, is_ended, is_exclusive, snooped_at};
+ghost use Rattle.fsb_timely.specs.Moments.{is_snoop_of};
 ghost use Rattle.fsb_timely.specs.Runs.{Run, past_of};
 ghost use Rattle.fsb_timely.specs.Growth.{IsNext, IsWhole};
+ghost use Rattle.fsb_coherent.specs.Awaits.{cancelled_in};
 ghost use Rattle.fsb_coherent.specs.LineEvents.{events_at, events_below};
-ghost use Rattle.fsb_coherent.specs.Relation.{Tied};
+ghost use Rattle.fsb_coherent.specs.KeepsTie.{IsTiedTo, KeepsTie};
+ghost use Rattle.fsb_coherent.specs.Quiet.{IsQuiet};
+ghost use Rattle.fsb_coherent.specs.Relation.{IsOpen, Tied, chain_below, deferral_at, deferral_below, defers_line, link_left, links_left, replies_line};
 
 /// The events of a line at a clock that a run has passed stay as they are when the run goes on, and so do all events of
 /// the line below its end.
@@ -20,4 +28,51 @@ pub fn events_stay()
 /// Before the first clock a line that nobody holds or asks for is the line of every run.
 pub fn lines_start_tied()
     ensures { (p : Past) (line : ℕ) (bytes : Bytes) → Tied p line 0 (unheld bytes) }
+{}
+
+/// Where each clock below n keeps the tie of a line, its events below n may happen to a line that nobody holds, and the line
+/// after them is that of the run.
+pub fn ties_go_on()
+    ensures { (p : Past) (line n : ℕ) (bytes : Bytes) → ((c : ℕ) → c < n → KeepsTie p line c)
+        → MayRun (unheld bytes) (events_below p line n)
+        × IsTiedTo p line n (run (unheld bytes) (events_below p line n)) }
+{}
+
+/// A clock at which nothing happens has no event of any line, and keeps the tie of each.
+pub fn quiet_clocks_keep_ties()
+    ensures events { (p : Past) (line n : ℕ) → IsQuiet p n → events_at p line n ≡ [] }
+    ensures tie { (p : Past) (line n : ℕ) → IsQuiet p n → KeepsTie p line n }
+{}
+
+/// An open request stays open until it is cancelled or has its snoop end; and no other is open that began before.
+pub fn open_requests_step()
+    ensures kept { (p : Past) (a line n : ℕ) (request : OpenRequest) → IsOpen p a line n request
+        → is_at (cancelled_in p n) request.number ≡ false
+        → is_some_and (snooped_at p n) (is_snoop_of request.number) ≡ false → IsOpen p a line (n + 1) request }
+    ensures before { (p : Past) (a line n : ℕ) (request : OpenRequest) → IsOpen p a line (n + 1) request
+        → request.number < n → IsOpen p a line n request }
+    ensures untouched { (p : Past) (a line n : ℕ) (request : OpenRequest) → IsOpen p a line (n + 1) request
+        → (is_at (cancelled_in p n) request.number ≡ false)
+        × (is_some_and (snooped_at p n) (is_snoop_of request.number) ≡ false) }
+{}
+
+/// The links of a line one clock on are those of before that are left, and that of a snoop end at the clock; where no request
+/// ends there, all are left. And its deferral is the one made at the clock, none where a reply grants the line there, and
+/// otherwise the one of before.
+pub fn links_and_deferrals_step()
+    ensures links { (p : Past) (line n : ℕ) → chain_below p line (n + 1)
+        ≡ links_left p line (n + 1) n ++ option_map_or (link_left p line (n + 1) n) (snooped_at p n) [] }
+    ensures kept { (p : Past) (line n : ℕ) → ((q : ℕ) → is_ended p (n + 1) q ≡ is_ended p n q)
+        → chain_below p line (n + 1) ≡ chain_below p line n ++ option_map_or (link_left p line n n) (snooped_at p n) [] }
+    ensures deferral { (p : Past) (line n : ℕ) → deferral_below p line (n + 1)
+        ≡ (if defers_line p line n then deferral_at p line n else (if replies_line p line n then None else deferral_below p line n)) }
+{}
+
+/// Where the line of the machine is in order and is that of a run, an agent that has the line for itself is its only holder,
+/// and nobody has a pending line for itself.
+pub fn tied_lines_have_one_owner()
+    ensures alone { (p : Past) (line n : ℕ) (x : MemoryLine) → IsTiedTo p line n x
+        → (a b : ℕ) → is_exclusive p a line n ≡ true → b ≢ a → holds_line p b line n ≡ false }
+    ensures pending { (p : Past) (line n : ℕ) (x : MemoryLine) → IsTiedTo p line n x
+        → (d : LineDeferral) → deferral_below p line n ≡ Some d → (a : ℕ) → is_exclusive p a line n ≡ false }
 {}

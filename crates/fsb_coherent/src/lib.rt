@@ -4,6 +4,9 @@
 //! with the run after them. docs/coherence.md tells the argument from the bus to the line.
 #![tactic(auto)]
 
-pub use laws::{events_stay, lines_start_tied};
+pub use laws::{
+    events_stay, lines_start_tied, links_and_deferrals_step, open_requests_step,
+    quiet_clocks_keep_ties, tied_lines_have_one_owner, ties_go_on,
+};
 
 mod laws;

@@ -8,3 +8,5 @@ pub use Rattle.fsb_timely.proofs.GoingOn.{last-same}
 pub use Rattle.fsb_timely.proofs.Moments.{moment-at, moment_of, number-says, snooped-there}
 -- The past up to a clock stays when the run goes on.
 pub use Rattle.fsb_timely.proofs.Next.{past-same}
+-- What an agent holds, one clock further.
+pub use Rattle.fsb_timely.proofs.Holding.{holds_line-more, latest_grant-more, is_exclusive-more, is_ended-more}

@@ -5,7 +5,7 @@ pub mod ParityByDigits
 pub mod AskedLines
 mod LoadThenStoreHit
 mod TwoAgentsOverlap
-mod StoreHandedOverBeforeArrival
+pub mod StoreHandedOverBeforeArrival
 mod RunCutBeforeArrival10
 mod RunCutBeforeArrival12
 mod ThreeStoresChained
@@ -16,7 +16,7 @@ mod RetriedLoad
 mod StalledSnoop
 mod CancelledByAddressError
 mod BlockNextRequest
-mod DeferredAndReplied
+pub mod DeferredAndReplied
 mod LockedIncrements
 mod LockedItemRetried
 mod WriteBackHeldOff
@@ -49,15 +49,15 @@ mod CachesAndMemory
 mod CachesKept
 mod AskedOfTwo
 mod UpgradeOfASharedLine
-mod UpgradeLostAndHanded
+pub mod UpgradeLostAndHanded
 mod UpgradeLostAndMadeAgain
 mod ParityOfALoad
 mod CancelledUpgrade
 mod LockedUpgrade
 mod RetriedUpgrade
 mod DeferredWithUpgrades
-mod StoreAtSnoopEnd
-mod DropAtSnoopEnd
+pub mod StoreAtSnoopEnd
+pub mod DropAtSnoopEnd
 mod Mixed00
 mod Mixed01
 mod Mixed02
@@ -86,3 +86,4 @@ mod Mixed24
 mod Mixed25
 mod Mixed26
 mod Mixed27
+pub mod Interface
