@@ -3,4 +3,6 @@ pub mod Clocks
 pub mod CoherentRuns
 pub mod EventsStay
 pub mod QuietClocks
+pub mod SnoopEnds
 pub mod Steps
+pub mod WorkedLine

@@ -3,3 +3,5 @@ pub mod LineEvents
 pub mod Relation
 pub mod KeepsTie
 pub mod Quiet
+pub mod Settled
+pub mod Worked

@@ -1,11 +1,16 @@
 //! Laws over the definitions: no code.
 
-ghost use Rattle.std.specs.Prelude.{◌≡◌, ◌≢◌, ◌<◌, ◌≤◌, ◌+◌, ◌++◌, ℕ, [], true, false, Some, None, length, if◌then◌else◌};
+ghost use Rattle.std.specs.Prelude.{◌≡◌, ◌≢◌, ◌<◌, ◌≤◌, ◌+◌, ◌++◌, ℕ, [], ◌∷◌, true, false, Some, None, length, if◌then◌else◌};
 ghost use Rattle.std.specs.Option.{option_map_or};
 ghost use Rattle.fsb_count.specs.Options.{is_at, is_some_and};
+ghost use Rattle.fsb_hazard.specs.declared.choice.Turn.TheVariants.{Keep};
 ghost use Rattle.fsb_line.specs.Line.{Bytes, LineDeferral, MemoryLine, OpenRequest, unheld};
 ghost use Rattle.fsb_line.specs.Runs.{MayRun, run};
-ghost use Rattle.fsb_timely.specs.Past.{Past};
+ghost use Rattle.fsb_signal.specs.declared.lines.TheConstants.Lines.{HITM};
+ghost use Rattle.fsb_signal.specs.Samples.{line_at};
+ghost use Rattle.fsb_trace.specs.At.{request_at};
+ghost use Rattle.fsb_trace.specs.Requests.{is_reply};
+ghost use Rattle.fsb_timely.specs.Past.{Claim, Past, SnoopEnd};
 ghost use Rattle.fsb_timely.specs.Grants.{holds_line, is_ended, is_exclusive, snooped_at};
 ghost use Rattle.fsb_timely.specs.Moments.{is_snoop_of};
 ghost use Rattle.fsb_timely.specs.Runs.{Run, past_of};
@@ -14,6 +19,8 @@ ghost use Rattle.fsb_coherent.specs.Awaits.{cancelled_in};
 ghost use Rattle.fsb_coherent.specs.LineEvents.{events_at, events_below};
 ghost use Rattle.fsb_coherent.specs.KeepsTie.{IsTiedTo, KeepsTie};
 ghost use Rattle.fsb_coherent.specs.Quiet.{IsQuiet};
+ghost use Rattle.fsb_coherent.specs.Settled.{is_always_kept, outcome_under, own_grant};
+ghost use Rattle.fsb_coherent.specs.Worked.{worked_events, worked_past};
 ghost use Rattle.fsb_coherent.specs.Relation.{IsOpen, Tied, chain_below, deferral_at, deferral_below, defers_line, link_left, links_left, replies_line};
 
 /// The events of a line at a clock that a run has passed stay as they are when the run goes on, and so do all events of
@@ -75,4 +82,23 @@ pub fn tied_lines_have_one_owner()
         → (a b : ℕ) → is_exclusive p a line n ≡ true → b ≢ a → holds_line p b line n ≡ false }
     ensures pending { (p : Past) (line n : ℕ) (x : MemoryLine) → IsTiedTo p line n x
         → (d : LineDeferral) → deferral_below p line n ≡ Some d → (a : ℕ) → is_exclusive p a line n ≡ false }
+{}
+
+/// At its snoop end a request has the outcome that HITM#, its turn and its kind make; one of a symmetric agent makes a grant to
+/// its own claim; and a write-back or a reply is neither retried nor put off.
+pub fn snoop_ends_are_settled()
+    ensures outcome { (r : Run) (t : ℕ) (s : SnoopEnd) → snooped_at (past_of r) t ≡ Some s
+        → s.outcome ≡ outcome_under (line_at HITM r.trace t) s.turn (request_at r.trace s.first) }
+    ensures grant { (r : Run) (t : ℕ) (s : SnoopEnd) (claim : Claim) → snooped_at (past_of r) t ≡ Some s
+        → s.claim ≡ Some claim → is_reply (request_at r.trace s.first) ≡ false
+        → s.grant ≡ own_grant (past_of r) r.trace s.first t s.outcome claim }
+    ensures turn { (r : Run) (t : ℕ) (s : SnoopEnd) → snooped_at (past_of r) t ≡ Some s
+        → is_always_kept (request_at r.trace s.first) ≡ true → s.turn ≡ Keep }
+{}
+
+/// In a few clocks by hand a hit stores before the snoop end of its clock, the line is handed over by the agent that is dirty
+/// on it, a line is dropped where its agent begins a request for another one of the cache set, and an upgrade is lost.
+pub fn line_is_worked_out()
+    ensures { (events_at worked_past 2 2 ∷ events_at worked_past 2 3 ∷ events_at worked_past 2 4
+        ∷ events_at worked_past 2 5 ∷ []) ≡ worked_events }
 {}

@@ -5,8 +5,9 @@
 #![tactic(auto)]
 
 pub use laws::{
-    events_stay, lines_start_tied, links_and_deferrals_step, open_requests_step,
-    quiet_clocks_keep_ties, tied_lines_have_one_owner, ties_go_on,
+    events_stay, line_is_worked_out, lines_start_tied, links_and_deferrals_step,
+    open_requests_step, quiet_clocks_keep_ties, snoop_ends_are_settled,
+    tied_lines_have_one_owner, ties_go_on,
 };
 
 mod laws;

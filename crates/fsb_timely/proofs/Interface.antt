@@ -10,3 +10,6 @@ pub use Rattle.fsb_timely.proofs.Moments.{moment-at, moment_of, number-says, sno
 pub use Rattle.fsb_timely.proofs.Next.{past-same}
 -- What an agent holds, one clock further.
 pub use Rattle.fsb_timely.proofs.Holding.{holds_line-more, latest_grant-more, is_exclusive-more, is_ended-more}
+-- What the moment of a snoop end has, and what the whole trace says of it.
+pub use Rattle.fsb_timely.proofs.Moments.{moment-snooped, run_to-agrees, snoop_of}
+pub use Rattle.fsb_timely.proofs.TiedMoments.{tied-snoop}
