@@ -1,6 +1,7 @@
 pub mod Beginning
 pub mod Clocks
 pub mod CoherentRuns
+pub mod DirtySteps
 pub mod EventsStay
 pub mod QuietClocks
 pub mod SnoopEnds

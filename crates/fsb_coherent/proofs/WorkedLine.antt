@@ -14,7 +14,7 @@ use Rattle.fsb_coherent.specs.Awaits.{purpose_of, purpose_wanted, is_written, aw
 use Rattle.fsb_coherent.specs.LineEvents.{access_event, awaiting_stores, begin_events, begins_on, cancels_on, claimed_events, end_events, ends_on, entries_on, events_at, events_in, events_of_ends, hits_on, is_awaited_for, is_brought_to, is_of_other_line, moves_on, others_on, responds_on, settled_events, snoop_events, snoops_on}
 use Rattle.fsb_coherent.specs.Worked.{worked_events, worked_past}
 
-pub worked-out : (events_at worked_past 2 2 ∷ events_at worked_past 2 3 ∷ events_at worked_past 2 4 ∷ events_at worked_past 2 5 ∷ []) ≡ worked_events
+pub worked-out : (events_at worked_past 2 3 ∷ events_at worked_past 2 4 ∷ events_at worked_past 2 5 ∷ events_at worked_past 2 6 ∷ []) ≡ worked_events
 unfolding
     first_where last_where any_where from_clock holds_since is_some_and is_upgrade_kind is_write_back_kind begun_at snooped_at ended_requests
     is_end_at grant_at set_of is_rival is_owning is_claim_of is_claim_of_other is_granted is_evicted is_snooped is_written_back

@@ -13,7 +13,7 @@ use Rattle.fsb_line.specs.States.{is_held, is_modified, is_sole}
 use Rattle.fsb_trace.specs.declared.outcome.Outcome.TheVariants as outcomes
 use Rattle.fsb_trace.specs.Outcome.{is_deferral}
 use Rattle.fsb_timely.specs.Past.{Claim, Grant, SnoopEnd, Past}
-use Rattle.fsb_timely.specs.Grants.{begun_at, holds_line, is_ended, is_exclusive, latest_grant, snooped_at}
+use Rattle.fsb_timely.specs.Grants.{begun_at, holds_line, is_ended, is_exclusive, is_sole_grant, latest_grant, snooped_at}
 use Rattle.fsb_timely.specs.Hits.{is_store_on}
 use Rattle.fsb_timely.specs.Moments.{is_snoop_of}
 use Rattle.fsb_timely.specs.Runs.{past_to}
@@ -31,6 +31,17 @@ unfoldable pub is_dirty_below : Past → ℕ → ℕ → ℕ → Bool
 is_dirty_below p a line n =
     is_exclusive p a line n
     && is_some_and (latest_grant p a line n) (λ grant. grant.owns || is_stored_below p a line n grant.first)
+
+-- agent a is dirty on the line at n, all stores of n counted
+unfoldable pub is_dirty_through : Past → ℕ → ℕ → ℕ → Bool
+is_dirty_through p a line n =
+    is_exclusive p a line n
+    && is_some_and (latest_grant p a line n) (λ grant. grant.owns || is_stored_below p a line (n + 1) grant.first)
+
+-- this grant of the line to agent a makes it dirty there at n: it is a sole one, and it owns, or a store above its end is
+-- logged below n
+unfoldable pub is_dirtying : Past → ℕ → ℕ → ℕ → Grant → Bool
+is_dirtying p a line n grant = is_sole_grant grant && (grant.owns || is_stored_below p a line n grant.first)
 
 -- the request that begins at q is cancelled below n
 unfoldable pub is_cancelled_below : Past → ℕ → ℕ → Bool

@@ -40,33 +40,44 @@ moment_with begun snooped ended = record {
   unsnooped = [];
 }
 
--- agent 1 gets the line for itself
+-- agent 0 reads the line
+abbrev pub got_by_0 : SnoopEnd
+got_by_0 = record {
+  first = 0;
+  claim = Some (record { first = 0; agent = 0; line = 2 });
+  kind = Some kinds.Read;
+  turn = Keep;
+  outcome = Granted;
+  grant = Some (record { first = 0; agent = 0; line = 2; owns = false; shared = false });
+}
+
+-- agent 1 gets it for itself
 abbrev pub owned_by_1 : SnoopEnd
 owned_by_1 = record {
-  first = 0;
-  claim = Some (record { first = 0; agent = 1; line = 2 });
+  first = 1;
+  claim = Some (record { first = 1; agent = 1; line = 2 });
   kind = Some kinds.Invalidate;
   turn = Keep;
   outcome = Granted;
-  grant = Some (record { first = 0; agent = 1; line = 2; owns = true; shared = false });
+  grant = Some (record { first = 1; agent = 1; line = 2; owns = true; shared = true });
 }
 
 -- and hands it to agent 2
 abbrev pub handed_to_2 : SnoopEnd
 handed_to_2 = record {
-  first = 2;
-  claim = Some (record { first = 2; agent = 2; line = 2 });
+  first = 3;
+  claim = Some (record { first = 3; agent = 2; line = 2 });
   kind = Some kinds.Read;
   turn = Keep;
   outcome = Handed;
-  grant = Some (record { first = 2; agent = 2; line = 2; owns = false; shared = true });
+  grant = Some (record { first = 3; agent = 2; line = 2; owns = false; shared = true });
 }
 
 -- an upgrade of agent 3 that has lost
 abbrev pub lost_by_3 : SnoopEnd
 lost_by_3 = record {
-  first = 1;
-  claim = Some (record { first = 1; agent = 3; line = 2 });
+  first = 2;
+  claim = Some (record { first = 2; agent = 3; line = 2 });
   kind = Some kinds.Upgrade;
   turn = Keep;
   outcome = Upgraded;
@@ -75,28 +86,29 @@ lost_by_3 = record {
 
 -- the store of agent 1, a hit
 abbrev pub worked_store : Done
-worked_store = record { clock = 3; agent = 1; item = 0; part = 0; access = Store 1 0x40 (Literal 7); value = 7 }
+worked_store = record { clock = 4; agent = 1; item = 0; part = 0; access = Store 1 0x40 (Literal 7); value = 7 }
 
--- agent 1 got the line and its bytes; agent 2 asks to read it, and gets it at the clock at which agent 1 stores; then agent 2
--- begins a request for another line of the cache set, and an upgrade of agent 3 has lost
+-- agent 0 read the line, and agent 1 got it for itself and has its bytes; agent 2 asks to read it, and gets it at the clock at
+-- which agent 1 stores; then agent 2 begins a request for another line of the cache set, and an upgrade of agent 3 has lost
 abbrev pub worked_past : Past
 worked_past = record {
   plan = worked_plan;
   moments =
-      moment_with None (Some owned_by_1) []
-      ∷ moment_with None None (0 ∷ [])
-      ∷ moment_with (Some (record { claim = record { first = 2; agent = 2; line = 2 }; did = 32 })) None []
+      moment_with None (Some got_by_0) []
+      ∷ moment_with None (Some owned_by_1) []
+      ∷ moment_with None None (0 ∷ 1 ∷ [])
+      ∷ moment_with (Some (record { claim = record { first = 3; agent = 2; line = 2 }; did = 32 })) None []
       ∷ moment_with None (Some handed_to_2) []
-      ∷ moment_with (Some (record { claim = record { first = 4; agent = 2; line = 6 }; did = 32 })) None []
+      ∷ moment_with (Some (record { claim = record { first = 5; agent = 2; line = 6 }; did = 32 })) None []
       ∷ moment_with None (Some lost_by_3) []
       ∷ [];
   log = worked_store ∷ [];
 }
 
--- the events of line 2 from clock 2 on, clock by clock
+-- the events of line 2 from clock 3 on, clock by clock
 abbrev pub worked_events : List (List Event)
 worked_events =
-    (Begins 2 Read 2 ∷ [])
+    (Begins 2 Read 3 ∷ [])
     ∷ (Stores 1 (change_of worked_store) ∷ IsHanded 2 Read 1 ∷ [])
     ∷ (Drops 2 ∷ [])
     ∷ (IsLost 3 ∷ [])

@@ -1,6 +1,6 @@
 //! Laws over the definitions: no code.
 
-ghost use Rattle.std.specs.Prelude.{◌≡◌, ◌≢◌, ◌<◌, ◌≤◌, ◌+◌, ◌++◌, ℕ, [], ◌∷◌, true, false, Some, None, length, if◌then◌else◌};
+ghost use Rattle.std.specs.Prelude.{◌≡◌, ◌≢◌, ◌<◌, ◌≤◌, ◌+◌, ◌++◌, ◌&&◌, not, ℕ, [], ◌∷◌, true, false, Some, None, length, if◌then◌else◌};
 ghost use Rattle.std.specs.Option.{option_map_or};
 ghost use Rattle.fsb_count.specs.Options.{is_at, is_some_and};
 ghost use Rattle.fsb_hazard.specs.declared.choice.Turn.TheVariants.{Keep};
@@ -11,7 +11,8 @@ ghost use Rattle.fsb_signal.specs.Samples.{line_at};
 ghost use Rattle.fsb_trace.specs.At.{request_at};
 ghost use Rattle.fsb_trace.specs.Requests.{is_reply};
 ghost use Rattle.fsb_timely.specs.Past.{Claim, Past, SnoopEnd};
-ghost use Rattle.fsb_timely.specs.Grants.{holds_line, is_ended, is_exclusive, snooped_at};
+ghost use Rattle.fsb_timely.specs.Grants.{grant_at, holds_line, is_ended, is_exclusive, is_granted, is_lost, is_named_by_other, snooped_at};
+ghost use Rattle.fsb_timely.specs.Hits.{is_dirty, is_hit};
 ghost use Rattle.fsb_timely.specs.Moments.{is_snoop_of};
 ghost use Rattle.fsb_timely.specs.Runs.{Run, past_of};
 ghost use Rattle.fsb_timely.specs.Growth.{IsNext, IsWhole};
@@ -21,7 +22,7 @@ ghost use Rattle.fsb_coherent.specs.KeepsTie.{IsTiedTo, KeepsTie};
 ghost use Rattle.fsb_coherent.specs.Quiet.{IsQuiet};
 ghost use Rattle.fsb_coherent.specs.Settled.{is_always_kept, outcome_under, own_grant};
 ghost use Rattle.fsb_coherent.specs.Worked.{worked_events, worked_past};
-ghost use Rattle.fsb_coherent.specs.Relation.{IsOpen, Tied, chain_below, deferral_at, deferral_below, defers_line, link_left, links_left, replies_line};
+ghost use Rattle.fsb_coherent.specs.Relation.{IsOpen, Tied, chain_below, deferral_at, deferral_below, defers_line, is_dirty_below, is_dirty_through, is_dirtying, link_left, links_left, replies_line};
 
 /// The events of a line at a clock that a run has passed stay as they are when the run goes on, and so do all events of
 /// the line below its end.
@@ -99,6 +100,16 @@ pub fn snoop_ends_are_settled()
 /// In a few clocks by hand a hit stores before the snoop end of its clock, the line is handed over by the agent that is dirty
 /// on it, a line is dropped where its agent begins a request for another one of the cache set, and an upgrade is lost.
 pub fn line_is_worked_out()
-    ensures { (events_at worked_past 2 2 ∷ events_at worked_past 2 3 ∷ events_at worked_past 2 4
-        ∷ events_at worked_past 2 5 ∷ []) ≡ worked_events }
+    ensures { (events_at worked_past 2 3 ∷ events_at worked_past 2 4 ∷ events_at worked_past 2 5
+        ∷ events_at worked_past 2 6 ∷ []) ≡ worked_events }
+{}
+
+/// An agent that has a hit at a clock is dirty there by its stores of the clock too. One clock on it is dirty by a grant at the
+/// clock, and otherwise where it was, its stores of the clock counted, did not lose the line, and was not named by another.
+pub fn dirty_lines_step()
+    ensures hits { (p : Past) (a line n : ℕ) → is_dirty p a line n
+        ≡ (if is_hit p a n then is_dirty_through p a line n else is_dirty_below p a line n) }
+    ensures step { (p : Past) (a line n : ℕ) → is_dirty_below p a line (n + 1)
+        ≡ (if is_granted p a line n then is_some_and (grant_at p n) (is_dirtying p a line (n + 1))
+        else (is_dirty_through p a line n && (not (is_lost p a line n) && not (is_named_by_other p a line n)))) }
 {}
