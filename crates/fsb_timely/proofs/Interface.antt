@@ -5,11 +5,9 @@ pub use Rattle.fsb_timely.proofs.EachClock.{keeps-at, keeps-all}
 -- What an agent has and does at a clock rests on the past below that clock.
 pub use Rattle.fsb_timely.proofs.GoingOn.{last-same}
 -- The moments of a run, and what the whole trace says.
-pub use Rattle.fsb_timely.proofs.Moments.{moment-at, moment_of, number-says, snooped-there}
--- The past up to a clock stays when the run goes on.
-pub use Rattle.fsb_timely.proofs.Next.{past-same}
+pub use Rattle.fsb_timely.proofs.Moments.{moment-at, moment-snooped, moment_of, number-says, run_to-agrees, snoop_of, snooped-there}
+pub use Rattle.fsb_timely.proofs.Next.{length-moments, past-same}
+-- The snoop ends of a run, in its moments and in its whole trace.
+pub use Rattle.fsb_timely.proofs.TiedMoments.{snoop-tied, tied-snoop}
 -- What an agent holds, one clock further.
 pub use Rattle.fsb_timely.proofs.Holding.{holds_line-more, latest_grant-more, is_exclusive-more, is_ended-more}
--- What the moment of a snoop end has, and what the whole trace says of it.
-pub use Rattle.fsb_timely.proofs.Moments.{moment-snooped, run_to-agrees, snoop_of}
-pub use Rattle.fsb_timely.proofs.TiedMoments.{tied-snoop}
