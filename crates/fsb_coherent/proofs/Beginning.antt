@@ -1,5 +1,5 @@
 -- The line of a run before the first clock.
-use Rattle.std.proofs.Common.{ℕ, zero, refl, arith}
+use Rattle.std.proofs.Common.{ℕ, refl, arith}
 use Rattle.fsb_count.specs.Clocks.{any_where, holds_since, last_where}
 use Rattle.fsb_line.specs.Line.{Bytes, unheld}
 use Rattle.fsb_timely.specs.Past.{Past}

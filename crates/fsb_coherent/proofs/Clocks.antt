@@ -1,7 +1,6 @@
 -- Clocks that keep the tie, one after the other.
-use Rattle.std.proofs.Common.{ℕ, zero, suc, ◌+◌, ◌<◌, ◌≡◌, List, [], ◌∷◌, ◌++◌, refl, sym, ap, subst, ◌∙◌, arith, add-one}
+use Rattle.std.proofs.Common.{ℕ, zero, suc, ◌+◌, ◌<◌, ◌≡◌, List, [], ◌∷◌, ◌++◌, refl, sym, subst, arith, add-one}
 use Rattle.fsb_line.specs.Events.{Event, after}
-use Rattle.fsb_line.specs.Coherence.{Ordered, Valued}
 use Rattle.fsb_line.specs.Line.{Bytes, MemoryLine, unheld}
 use Rattle.fsb_line.specs.Runs.{MayRun, run}
 use Rattle.fsb_line.proofs.Theorem.{ordered_run, ordered_unheld, valued_run, valued_unheld}

@@ -1,8 +1,6 @@
 -- What coherence says in the words of a run.
 use Rattle.std.proofs.Common.{ℕ, ◌≡◌, ◌≢◌, true, false, Some, sym, ◌∙◌}
-use Rattle.fsb_line.specs.Coherence.{IsCoherent, Ordered, Valued}
 use Rattle.fsb_line.specs.Line.{LineDeferral, MemoryLine}
-use Rattle.fsb_line.proofs.Theorem.{coherent}
 use Rattle.fsb_timely.specs.Past.{Past}
 use Rattle.fsb_timely.specs.Grants.{holds_line, is_exclusive}
 use Rattle.fsb_coherent.specs.KeepsTie.{IsTiedTo}

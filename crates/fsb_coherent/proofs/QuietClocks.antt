@@ -1,9 +1,8 @@
 -- At a clock at which nothing happens no line has an event, and the line of the machine stays that of the run.
-use Rattle.std.proofs.Common.{ℕ, zero, suc, ◌+◌, ◌<◌, ◌≤◌, ◌≡◌, Bool, true, false, not, ◌&&◌, ◌||◌, if◌then◌else◌, nat_eq, nat_le, nat_lt, List, [], ◌∷◌, ◌++◌, take, slice_get, Option, Some, None, is_some, refl, sym, ap, subst, ◌∙◌, inl, inr, arith, append-nil}
+use Rattle.std.proofs.Common.{ℕ, zero, suc, ◌+◌, ◌<◌, ◌≡◌, Bool, true, false, not, ◌&&◌, ◌||◌, if◌then◌else◌, nat_eq, nat_le, nat_lt, List, [], ◌∷◌, take, slice_get, None, refl, sym, ap, subst, ◌∙◌, inl, inr, arith, append-nil}
 use Rattle.std.proofs.lemmas.Bool.{cases_Bool, cases_lt, or_parts}
 use Rattle.std.specs.List.{filter, list_any}
 use Rattle.std.specs.Option.{option_and_then, option_map, option_map_or}
-use Rattle.fsb_count.specs.Clocks.{AgreeBelow}
 use Rattle.fsb_count.specs.Options.{is_at, is_some_and}
 use Rattle.fsb_count.proofs.Interface.{any_where-more, any_where-same, nat_lt-more}
 use Rattle.fsb_access.specs.declared.log.Done.{Done}
@@ -11,13 +10,13 @@ use Rattle.fsb_access.specs.Access.{accessed_line}
 use Rattle.fsb_line.specs.Events.{Event}
 use Rattle.fsb_line.specs.Line.{MemoryLine, OpenRequest}
 use Rattle.fsb_line.specs.Runs.{MayRun, run}
-use Rattle.fsb_timely.specs.Past.{Moment, Past}
+use Rattle.fsb_timely.specs.Past.{Past}
 use Rattle.fsb_timely.specs.Grants.{begun_at, ended_requests, grant_at, holds_line, is_end_at, is_ended, is_evicted, is_exclusive, is_granted, is_lost, is_named_by_other, is_sole_grant, is_taken_away, is_written_back, latest_grant, snooped_at}
 use Rattle.fsb_timely.specs.Hits.{is_store_on}
 use Rattle.fsb_timely.specs.Runs.{entries_to, past_to}
 use Rattle.fsb_timely.proofs.Interface.{holds_line-more, is_ended-more, is_exclusive-more, latest_grant-more}
 use Rattle.fsb_coherent.specs.Awaits.{cancelled_in, responded_in}
-use Rattle.fsb_coherent.specs.LineEvents.{begins_on, cancels_on, ends_on, entries_on, events_at, events_in, events_of_ends, hits_on, others_on, responds_on, snoops_on}
+use Rattle.fsb_coherent.specs.LineEvents.{begins_on, cancels_on, ends_on, entries_on, events_at, events_of_clock, events_of_ends, hits_on, others_on, responds_on, snoops_on}
 use Rattle.fsb_coherent.specs.KeepsTie.{KeepsTie}
 use Rattle.fsb_coherent.specs.Quiet.{IsQuiet}
 use Rattle.fsb_coherent.specs.Relation.{IsOpen, Tied, chain_below, deferral_at, deferral_below, defers_line, is_dirty_below, is_moved_below, is_moved_for, is_responded_below, is_stored_below, replies_line}
@@ -72,8 +71,8 @@ entries-none p line n e = no-entries n line p.log e
 
 -- a past with nothing at n has no event there
 nothing-in : (q : Past) (line n : ℕ) → begun_at q n ≡ None → cancelled_in q n ≡ None → snooped_at q n ≡ None → responded_in q n ≡ None → ended_requests q n ≡ [] → entries_on q line n ≡ []
-    → events_in q line n ≡ []
-unfolding events_in responds_on hits_on begins_on cancels_on snoops_on ends_on others_on events_of_ends is_some_and
+    → events_of_clock q line n ≡ []
+unfolding events_of_clock responds_on hits_on begins_on cancels_on snoops_on ends_on others_on events_of_ends is_some_and
 nothing-in q line n begun cancelled snooped responded ended entries = rw (begun, cancelled, snooped, responded, ended, entries) refl
 
 pub no_events : (p : Past) (line n : ℕ) → IsQuiet p n → events_at p line n ≡ []

@@ -1,13 +1,13 @@
 -- How a request is settled, and which grant it makes.
-use Rattle.std.proofs.Common.{ℕ, ◌+◌, ◌<◌, ◌≤◌, ◌≡◌, Bool, true, false, if◌then◌else◌, nat_eq, nat_le, List, Option, Some, None, length, slice_index, refl, sym, ap, ◌∙◌, inl, inr, arith}
-use Rattle.std.proofs.lemmas.Bool.{cases_Bool, cases_lt, le-leb, ne_eqb}
-use Rattle.std.specs.Option.{option_map, option_and_then}
+use Rattle.std.proofs.Common.{ℕ, ◌+◌, ◌<◌, ◌≡◌, Bool, true, false, nat_eq, nat_le, List, Option, Some, None, length, slice_index, refl, sym, ap, ◌∙◌, inl, inr, arith}
+use Rattle.std.proofs.lemmas.Bool.{cases_Bool, le-leb, ne_eqb}
+use Rattle.std.specs.Option.{option_map}
 use Rattle.fsb_count.specs.Options.{is_some_and}
 use Rattle.fsb_encode.specs.declared.request.Request.{Request}
 use Rattle.fsb_hazard.specs.declared.choice.Choice.{Choice}
 use Rattle.fsb_hazard.specs.declared.choice.Turn.{Turn}
 use Rattle.fsb_hazard.specs.declared.choice.Turn.TheVariants.{Keep, Retry, Defer}
-use Rattle.fsb_hazard.specs.Choice.{effective, is_never_held_up}
+use Rattle.fsb_hazard.specs.Choice.{is_never_held_up}
 use Rattle.fsb_script.specs.declared.plan.Window.{Window}
 use Rattle.fsb_signal.specs.declared.lines.TheConstants.Lines.{HITM}
 use Rattle.fsb_signal.specs.Samples.{line_at}
@@ -18,11 +18,11 @@ use Rattle.fsb_trace.specs.Requests.{is_reply, live_clock_of, live_request_of}
 use Rattle.fsb_trace.specs.Snoop.{snoop_end_of}
 use Rattle.fsb_trace.proofs.Interface.{request_at-agree, snoop_end_of-clock}
 use Rattle.fsb_timely.specs.Grants.{snooped_at}
-use Rattle.fsb_timely.specs.Moments.{choice_at, claim_at, effective_choice, gives_line, grant_for, grant_of, live_claim_of, number_of_turn, served_number, snoop_end_with, turns_in}
+use Rattle.fsb_timely.specs.Moments.{claim_at, effective_choice, gives_line, grant_for, grant_of, live_claim_of, number_of_turn, served_number, snoop_end_with, turns_in}
 use Rattle.fsb_timely.specs.Past.{Claim, Past, SnoopEnd}
 use Rattle.fsb_timely.specs.Runs.{Run, moments_below, past_of, run_to}
 use Rattle.fsb_timely.specs.Tied.{IsSnoopOf}
-use Rattle.fsb_timely.proofs.Interface.{moment-snooped, moment_of, run_to-agrees, snoop_of, snooped-there, tied-snoop}
+use Rattle.fsb_timely.proofs.Interface.{moment-snooped, run_to-agrees, snoop_of, snooped-there, tied-snoop}
 use Rattle.fsb_coherent.specs.Settled.{is_always_kept, outcome_by_turn, outcome_under, own_grant}
 
 -- the turn as a number says what the turn says

@@ -1,5 +1,5 @@
 -- The open requests, the links and the deferral of a line, one clock further.
-use Rattle.std.proofs.Common.{ℕ, zero, suc, ◌+◌, ◌<◌, ◌≤◌, ◌≡◌, Bool, true, false, not, ◌&&◌, ◌||◌, if◌then◌else◌, nat_eq, nat_le, List, [], ◌∷◌, ◌++◌, Option, Some, None, refl, sym, ap, ◌∙◌, inl, inr, arith, add-one}
+use Rattle.std.proofs.Common.{ℕ, zero, suc, ◌+◌, ◌<◌, ◌≡◌, Bool, true, false, ◌&&◌, ◌||◌, if◌then◌else◌, [], ◌++◌, Option, Some, None, refl, sym, ap, ◌∙◌, inl, inr, arith, add-one}
 use Rattle.std.proofs.lemmas.Bool.{cases_Bool, or_parts, le-leb, lt-leb}
 use Rattle.std.specs.Option.{option_map_or}
 use Rattle.fsb_count.specs.Clocks.{any_where, from_clock, last_where}
@@ -7,11 +7,10 @@ use Rattle.fsb_count.specs.Options.{is_at, is_some_and}
 use Rattle.fsb_count.proofs.Interface.{any_where-more, any_where-off, last_where-passed, last_where-failed}
 use Rattle.fsb_line.specs.Line.{LineDeferral, OpenRequest}
 use Rattle.fsb_timely.specs.Past.{Past, SnoopEnd}
-use Rattle.fsb_timely.specs.Grants.{begun_at, snooped_at, is_ended}
+use Rattle.fsb_timely.specs.Grants.{snooped_at, is_ended}
 use Rattle.fsb_timely.specs.Moments.{is_snoop_of}
-use Rattle.fsb_timely.specs.Runs.{past_to}
-use Rattle.fsb_coherent.specs.Awaits.{cancelled_in, purpose_wanted, responded_in}
-use Rattle.fsb_coherent.specs.Relation.{IsOpen, chain_below, deferral_at, deferral_below, defers_line, is_cancelled_below, is_moved_below, is_moved_for, is_responded_below, is_snooped_below, link_left, links_left, replies_line}
+use Rattle.fsb_coherent.specs.Awaits.{cancelled_in, responded_in}
+use Rattle.fsb_coherent.specs.Relation.{IsOpen, chain_below, deferral_at, deferral_below, defers_line, is_cancelled_below, is_moved_for, is_responded_below, is_snooped_below, link_left, links_left, replies_line}
 
 pub cancelled-more : (p : Past) (n q : ℕ) → is_cancelled_below p (n + 1) q ≡ (is_cancelled_below p n q || is_at (cancelled_in p n) q)
 unfolding is_cancelled_below

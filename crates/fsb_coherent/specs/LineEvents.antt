@@ -1,5 +1,5 @@
 -- The events of a line of memory in a run, clock by clock.
-use Rattle.std.specs.Prelude.{ℕ, zero, suc, ◌+◌, ◌%◌, ◌&&◌, Bool, true, false, not, nat_eq, is_some, if◌then◌else◌, List, [], ◌∷◌, ◌++◌, map, fold, slice_index, Option, Some, None}
+use Rattle.std.specs.Prelude.{ℕ, zero, suc, ◌%◌, ◌&&◌, Bool, not, nat_eq, is_some, if◌then◌else◌, List, [], ◌∷◌, ◌++◌, map, fold, slice_index, Some, None}
 use Rattle.std.specs.List.{filter, list_any}
 use Rattle.std.specs.Option.{option_map_or, option_and_then}
 use Rattle.fsb_count.specs.Options.{is_some_and}
@@ -11,7 +11,7 @@ use Rattle.fsb_line.specs.Events.{Event}
 use Rattle.fsb_line.specs.Events.Event.{Begins, Drops, Ends, IsCancelled, IsDeferred, IsGranted, IsHanded, IsLost, IsReplied, IsRetried, IsUpgraded, IsWritten, Loads, Responds, Stores}
 use Rattle.fsb_line.specs.Line.{Bytes}
 use Rattle.fsb_trace.specs.declared.outcome.Outcome.TheVariants as outcomes
-use Rattle.fsb_timely.specs.Past.{Claim, Grant, SnoopEnd, Past}
+use Rattle.fsb_timely.specs.Past.{Claim, SnoopEnd, Past}
 use Rattle.fsb_timely.specs.Grants.{begun_at, ended_requests, is_rival, snooped_at}
 use Rattle.fsb_timely.specs.Scripts.{is_load}
 use Rattle.fsb_timely.specs.Hits.{is_hit}
@@ -133,14 +133,14 @@ unfoldable pub others_on : Past → ℕ → ℕ → List Event
 others_on p line c = map access_event (filter (is_of_other_line p line c) (entries_on p line c))
 
 -- all events of the line at c, in order, where the past ends with c
-unfoldable pub events_in : Past → ℕ → ℕ → List Event
-events_in p line c =
+unfoldable pub events_of_clock : Past → ℕ → ℕ → List Event
+events_of_clock p line c =
     responds_on p line c ++ hits_on p line c ++ begins_on p line c ++ cancels_on p line c ++ snoops_on p line c ++ ends_on p line c ++ others_on p line c
 
 -- the events of the line at c: the response, the hits, the request that begins and the one that is cancelled, the snoop end,
 -- the end, and the other lines of what arrives. Hits come before the snoop end: that one sees what they stored
 unfoldable pub events_at : Past → ℕ → ℕ → List Event
-events_at p line c = events_in (past_to p c) line c
+events_at p line c = events_of_clock (past_to p c) line c
 
 -- the events of the line below clock n
 unfoldable pub events_below : Past → ℕ → ℕ → List Event

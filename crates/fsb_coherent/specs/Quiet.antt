@@ -1,5 +1,5 @@
 -- Clocks at which nothing happens.
-use Rattle.std.specs.Prelude.{◌≡◌, ℕ, false, nat_eq, List, [], None}
+use Rattle.std.specs.Prelude.{◌≡◌, ℕ, false, nat_eq, [], None}
 use Rattle.std.specs.List.{list_any}
 use Rattle.fsb_timely.specs.Past.{Past}
 use Rattle.fsb_timely.specs.Grants.{begun_at, ended_requests, snooped_at}

@@ -1,5 +1,5 @@
 -- How a request is settled, by what stands at its snoop end.
-use Rattle.std.specs.Prelude.{Bool, true, false, if◌then◌else◌, ℕ, Option, Some, None}
+use Rattle.std.specs.Prelude.{Bool, if◌then◌else◌, ℕ, Option, Some, None}
 use Rattle.fsb_encode.specs.declared.request.Request.{Request}
 use Rattle.fsb_hazard.specs.declared.choice.Turn.{Turn}
 use Rattle.fsb_hazard.specs.declared.choice.Turn.TheVariants.{Keep, Retry, Defer}
