@@ -5,5 +5,6 @@ pub mod DirtySteps
 pub mod EventsStay
 pub mod QuietClocks
 pub mod SnoopEnds
+pub mod SnoopLinks
 pub mod Steps
 pub mod WorkedLine

@@ -14,15 +14,16 @@ ghost use Rattle.fsb_timely.specs.Past.{Claim, Past, SnoopEnd};
 ghost use Rattle.fsb_timely.specs.Grants.{grant_at, holds_line, is_ended, is_exclusive, is_granted, is_lost, is_named_by_other, snooped_at};
 ghost use Rattle.fsb_timely.specs.Hits.{is_dirty, is_hit};
 ghost use Rattle.fsb_timely.specs.Moments.{is_snoop_of};
-ghost use Rattle.fsb_timely.specs.Runs.{Run, past_of};
+ghost use Rattle.fsb_timely.specs.Runs.{Run, past_of, past_to};
 ghost use Rattle.fsb_timely.specs.Growth.{IsNext, IsWhole};
-ghost use Rattle.fsb_coherent.specs.Awaits.{cancelled_in};
-ghost use Rattle.fsb_coherent.specs.LineEvents.{events_at, events_below};
+ghost use Rattle.fsb_coherent.specs.Awaits.{awaited_by, cancelled_in};
+ghost use Rattle.fsb_coherent.specs.Fitting.{IsSnoopOn};
+ghost use Rattle.fsb_coherent.specs.LineEvents.{events_at, events_below, snoop_events};
 ghost use Rattle.fsb_coherent.specs.KeepsTie.{IsTiedTo, KeepsTie};
 ghost use Rattle.fsb_coherent.specs.Quiet.{IsQuiet};
 ghost use Rattle.fsb_coherent.specs.Settled.{is_always_kept, outcome_under, own_grant};
 ghost use Rattle.fsb_coherent.specs.Worked.{worked_events, worked_past};
-ghost use Rattle.fsb_coherent.specs.Relation.{IsOpen, Tied, chain_below, deferral_at, deferral_below, defers_line, is_dirty_below, is_dirty_through, is_dirtying, link_left, links_left, replies_line};
+ghost use Rattle.fsb_coherent.specs.Relation.{IsOpen, Tied, chain_below, deferral_at, deferral_below, defers_line, is_dirty_below, is_dirty_through, is_dirtying, link_for, link_left, links_left, replies_line};
 
 /// The events of a line at a clock that a run has passed stay as they are when the run goes on, and so do all events of
 /// the line below its end.
@@ -112,4 +113,12 @@ pub fn dirty_lines_step()
     ensures step { (p : Past) (a line n : ℕ) → is_dirty_below p a line (n + 1)
         ≡ (if is_granted p a line n then is_some_and (grant_at p n) (is_dirtying p a line (n + 1))
         else (is_dirty_through p a line n && (not (is_lost p a line n) && not (is_named_by_other p a line n)))) }
+{}
+
+/// At the snoop end of a request for a line the line of the machine gets the links that the run has of it: by its grant, or by
+/// its write-back, or none.
+pub fn snoop_ends_make_links()
+    ensures { (p : Past) (line n : ℕ) (s : SnoopEnd) (x : MemoryLine) → IsSnoopOn p line n s
+        → (run x (snoop_events (past_to p n) line n s)).chain
+        ≡ x.chain ++ option_map_or (link_for p line n s) (awaited_by s) [] }
 {}

@@ -6,7 +6,7 @@
 
 pub use laws::{
     dirty_lines_step, events_stay, line_is_worked_out, lines_start_tied, links_and_deferrals_step,
-    open_requests_step, quiet_clocks_keep_ties, snoop_ends_are_settled,
+    open_requests_step, quiet_clocks_keep_ties, snoop_ends_are_settled, snoop_ends_make_links,
     tied_lines_have_one_owner, ties_go_on,
 };
 
