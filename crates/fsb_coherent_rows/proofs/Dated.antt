@@ -1,6 +1,5 @@
 -- Events with their clocks, and all that is computed with.
-use Rattle.std.proofs.Common.{ℕ, zero, suc, Bool, true, List, [], ◌∷◌, ◌++◌, map}
-use Rattle.fsb_access.specs.Access.{accessed_line}
+use Rattle.std.proofs.Common.{ℕ, zero, suc, Bool, true, List, [], ◌++◌, map}
 use Rattle.fsb_line.specs.Events.{Event}
 use Rattle.fsb_timely.specs.Past.{Past}
 use Rattle.fsb_timely_rows.proofs.Opened.{opened}

@@ -1,16 +1,16 @@
 -- A load is deferred, and its reply comes while a store waits for the line: the events of the line.
-use Rattle.std.proofs.Common.{◌≡◌, ℕ, true, false, List, [], ◌∷◌, refl, arith}
+use Rattle.std.proofs.Common.{◌≡◌, true, false, List, [], ◌∷◌, refl, arith}
 use Rattle.std.proofs.lemmas.Bool.Decides.{nat_tests}
-use Rattle.fsb_access.specs.declared.access.Access.TheVariants.{Load, Store}
+use Rattle.fsb_access.specs.declared.access.Access.TheVariants.{Store}
 use Rattle.fsb_access.specs.declared.access.Operand.TheVariants.{Literal}
-use Rattle.fsb_line.specs.declared.purpose.Purpose.TheVariants.{Own, Read, Upgrade}
-use Rattle.fsb_line.specs.Events.{Event, May, after, arrived, effect, given, linked, oldest_ended, replied, responded, settled}
-use Rattle.fsb_line.specs.Events.Event.{Begins, Drops, Ends, IsCancelled, IsDeferred, IsGranted, IsHanded, IsLost, IsReplied, IsRetried, IsUpgraded, IsWritten, Loads, Responds, Stores}
+use Rattle.fsb_line.specs.declared.purpose.Purpose.TheVariants.{Own, Read}
+use Rattle.fsb_line.specs.Events.{May, after, arrived, effect, given, linked, oldest_ended, replied, responded, settled}
+use Rattle.fsb_line.specs.Events.Event.{Begins, Ends, IsDeferred, IsGranted, IsReplied, IsRetried, Responds}
 use Rattle.fsb_line.specs.Line.{Bytes, put, trimmed, unheld}
 use Rattle.fsb_line.specs.Runs.{MayRun}
 use Rattle.fsb_timely.specs.Runs.{past_of}
 use Rattle.fsb_timely_rows.proofs.Interface.{entry, deferred_and_replied}
-use Rattle.fsb_coherent.specs.LineEvents.{changes_of, change_of, events_below}
+use Rattle.fsb_coherent.specs.LineEvents.{changes_of}
 use Rattle.fsb_coherent_rows.proofs.Dated.{Dated, computed, dated, dated_below, events_of}
 
 -- the events of line 128, each with its clock

@@ -1,16 +1,16 @@
 -- Two upgrades of one line: the first wins, and hands the line to the second: the events of the line.
-use Rattle.std.proofs.Common.{◌≡◌, ℕ, true, false, List, [], ◌∷◌, refl, arith}
+use Rattle.std.proofs.Common.{◌≡◌, true, false, List, [], ◌∷◌, refl, arith}
 use Rattle.std.proofs.lemmas.Bool.Decides.{nat_tests}
-use Rattle.fsb_access.specs.declared.access.Access.TheVariants.{Load, Store}
+use Rattle.fsb_access.specs.declared.access.Access.TheVariants.{Store}
 use Rattle.fsb_access.specs.declared.access.Operand.TheVariants.{Literal}
-use Rattle.fsb_line.specs.declared.purpose.Purpose.TheVariants.{Own, Read, Upgrade}
-use Rattle.fsb_line.specs.Events.{Event, May, after, arrived, effect, given, linked, oldest_ended, replied, responded, settled}
-use Rattle.fsb_line.specs.Events.Event.{Begins, Drops, Ends, IsCancelled, IsDeferred, IsGranted, IsHanded, IsLost, IsReplied, IsRetried, IsUpgraded, IsWritten, Loads, Responds, Stores}
+use Rattle.fsb_line.specs.declared.purpose.Purpose.TheVariants.{Read, Upgrade}
+use Rattle.fsb_line.specs.Events.{May, after, arrived, effect, given, linked, oldest_ended, replied, responded, settled}
+use Rattle.fsb_line.specs.Events.Event.{Begins, Ends, IsGranted, IsHanded, IsUpgraded, Responds}
 use Rattle.fsb_line.specs.Line.{Bytes, put, trimmed, unheld}
 use Rattle.fsb_line.specs.Runs.{MayRun}
 use Rattle.fsb_timely.specs.Runs.{past_of}
 use Rattle.fsb_timely_rows.proofs.Interface.{entry, upgrade_lost_and_handed}
-use Rattle.fsb_coherent.specs.LineEvents.{changes_of, change_of, events_below}
+use Rattle.fsb_coherent.specs.LineEvents.{changes_of}
 use Rattle.fsb_coherent_rows.proofs.Dated.{Dated, computed, dated, dated_below, events_of}
 
 -- the events of line 2, each with its clock
