@@ -13,6 +13,11 @@ pub mod DataMoves
 pub mod Listed
 pub mod OutstandingIds
 pub mod NewRequests
+pub mod RequestLines
+pub mod SnoopResults
+pub mod LawfulWants
+pub mod LawfulBeginnings
+pub mod Accepted
 pub mod KnownWords
 pub mod Beginnings
 pub mod AddressErrors

@@ -19,6 +19,11 @@ pub mod TiedGrants
 pub mod TiedMoments
 pub mod Wanted
 pub mod Items
+pub mod WholePast
+pub mod StayingWants
+pub mod WindowSteps
+pub mod LoggedItems
+pub mod Completing
 pub mod OneEnd
 pub mod ToldLines
 pub mod Outstanding

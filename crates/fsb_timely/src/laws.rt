@@ -14,7 +14,8 @@ ghost use Rattle.fsb_timely.specs.Past.{SnoopEnd, Past};
 ghost use Rattle.fsb_timely.specs.Tied.{IsSnoopOf};
 ghost use Rattle.fsb_timely.specs.Runs.{Run, run_to, past_of, past_to};
 ghost use Rattle.fsb_timely.specs.Grants.{snooped_at, is_end_at, is_ended, grant_at, is_granted, is_lost, holds_line, IsHeldSince, latest_grant, is_ready, is_named_by_other, is_sole_grant, is_exclusive};
-ghost use Rattle.fsb_timely.specs.Scripts.{completes_at, is_logged_at, is_logged, next_number, next_item, is_idling, window};
+ghost use Rattle.fsb_timely.specs.Completions.{is_arrival, is_brought};
+ghost use Rattle.fsb_timely.specs.Scripts.{Need, completes_at, is_logged_at, is_logged, next_number, next_item, is_idling, window};
 ghost use Rattle.fsb_timely.specs.Hits.{is_hit, is_dirty};
 ghost use Rattle.fsb_timely.specs.Wants.{owed, is_asked_for, want_of, is_held_back};
 ghost use Rattle.fsb_timely.specs.Timely.{Part, holds_at, keeps, AtEachClock, IsTimelyAt, Timely};
@@ -114,6 +115,16 @@ pub fn pasts_go_on()
     ensures idling { (n : ℕ) (p q : Past) (a c : ℕ) → GoesOn n p q → c ≤ n → is_idling p a c ≡ is_idling q a c }
     ensures hit { (n : ℕ) (p q : Past) (a c : ℕ) → GoesOn n p q → c ≤ n → is_hit p a c ≡ is_hit q a c }
     ensures next { (r s : Run) → IsNext r s → IsWhole r → GoesOn (length r.trace) (past_of r) (past_of s) }
+{}
+
+/// The past of a timely run goes on from its past up to each clock, so what rests on the past up to a clock is the same of
+/// both: all that `pasts_go_on` and `wants_go_on` name, and arrivals.
+pub fn whole_pasts_go_on()
+    ensures begins { (r : Run) (c : ℕ) → Timely r → c < length r.trace
+        → GoesOn (c + 1) (past_to (past_of r) c) (past_of r) }
+    ensures arrival { (n : ℕ) (p q : Past) (a c : ℕ) → GoesOn n p q → c < n → is_arrival p a c ≡ is_arrival q a c }
+    ensures brought { (n : ℕ) (p q : Past) (a c : ℕ) (need : Need) → GoesOn n p q → c < n
+        → is_brought p a c need ≡ is_brought q a c need }
 {}
 
 /// What an agent wants at a clock, and whether it is held back there, rests on the past below that clock and on the entries

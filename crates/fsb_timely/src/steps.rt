@@ -1,12 +1,19 @@
 //! Laws over what a past has one clock further: no code.
 
-ghost use Rattle.std.specs.Prelude.{◌≡◌, ◌<◌, ◌+◌, ◌&&◌, ◌||◌, ℕ, not, length, if◌then◌else◌};
+ghost use Rattle.std.specs.Prelude.{◌≡◌, ◌<◌, ◌≤◌, ◌⊎◌, ◌+◌, ◌&&◌, ◌||◌, ℕ, Some, true, false, not, length, if◌then◌else◌};
 ghost use Rattle.fsb_count.specs.Options.{is_some_and};
+ghost use Rattle.fsb_encode.specs.declared.request.Request.{Request};
 ghost use Rattle.fsb_timely.specs.BusLock.{is_locked_request, is_release, keeps_lock};
+ghost use Rattle.fsb_timely.specs.Completions.{is_arrival};
 ghost use Rattle.fsb_timely.specs.Grants.{grant_at, is_end_at, is_ended, is_granted, is_ready, latest_grant};
 ghost use Rattle.fsb_timely.specs.Growth.{IsNext, IsWhole};
+ghost use Rattle.fsb_timely.specs.Hits.{is_hit};
 ghost use Rattle.fsb_timely.specs.Past.{Past};
 ghost use Rattle.fsb_timely.specs.Runs.{Run, past_of};
+ghost use Rattle.fsb_timely.specs.Scripts.{completes_at, is_logged, is_logged_at, next_number};
+ghost use Rattle.fsb_timely.specs.Staying.{CompletesNext, OwesNoMore};
+ghost use Rattle.fsb_timely.specs.Timely.{Timely};
+ghost use Rattle.fsb_timely.specs.Wants.{want_of};
 
 /// An agent keeps the bus locked exactly where it begins a locked request, or kept it locked at the clock before and made no
 /// release there. Whether a request is locked stays as a run goes on.
@@ -15,6 +22,31 @@ pub fn locks_step()
         ≡ (is_locked_request p a (c + 1) || (keeps_lock p c a && not (is_release p a c))) }
     ensures request { (r s : Run) (a t : ℕ) → IsNext r s → IsWhole r → t < length r.trace
         → is_locked_request (past_of s) a t ≡ is_locked_request (past_of r) a t }
+{}
+
+/// An agent that wants something, and begins no request at a clock, wants something at the next clock, be it the same or
+/// not: where it has no entry at the clock, and where it completes its next item there. In a timely run one of these is so:
+/// an agent with an entry at a clock completes its next item there.
+pub fn wants_stay()
+    ensures waiting { (p : Past) (a c : ℕ) (request : Request) → OwesNoMore p a c → completes_at p a c ≡ false
+        → want_of p a c ≡ Some request → (next : Request) × (want_of p a (c + 1) ≡ Some next) }
+    ensures timely { (r : Run) (a c : ℕ) (request : Request) → Timely r → c < length r.trace
+        → OwesNoMore (past_of r) a c → want_of (past_of r) a c ≡ Some request
+        → (next : Request) × (want_of (past_of r) a (c + 1) ≡ Some next) }
+    ensures completes { (r : Run) (a c : ℕ) → Timely r → c < length r.trace → OwesNoMore (past_of r) a c
+        → completes_at (past_of r) a c ≡ true → CompletesNext (past_of r) a c }
+    ensures completing { (p : Past) (a c : ℕ) (request : Request) → OwesNoMore p a c → CompletesNext p a c
+        → want_of p a c ≡ Some request → (next : Request) × (want_of p a (c + 1) ≡ Some next) }
+{}
+
+/// In a timely run the entries of an agent at a clock are of its next item there, by a hit or an arrival; no item behind
+/// its next one was logged before.
+pub fn entries_are_of_next_items()
+    ensures next { (r : Run) (a c m : ℕ) → Timely r → c < length r.trace → is_logged_at (past_of r) a c m ≡ true
+        → (next_number (past_of r) a c ≡ Some m)
+        × ((is_hit (past_of r) a c ≡ true) ⊎ (is_arrival (past_of r) a c ≡ true)) }
+    ensures behind { (r : Run) (a c n m : ℕ) → Timely r → c ≤ length r.trace
+        → next_number (past_of r) a c ≡ Some n → n < m → is_logged (past_of r) a c m ≡ false }
 {}
 
 /// A line is ready for an agent one clock further where the request that granted it last has ended, or ends at this clock.
