@@ -5,6 +5,7 @@ pub mod DirtySteps
 pub mod EventsStay
 pub mod QuietClocks
 pub mod SnoopEnds
+pub mod SnoopHolders
 pub mod SnoopLinks
 pub mod Steps
 pub mod WorkedLine

@@ -1,9 +1,12 @@
 -- Which outcomes a request of a symmetric agent may have, and what its snoop end leaves of a line.
-use Rattle.std.specs.Prelude.{◌≡◌, ℕ, ◌&&◌, ◌||◌, Bool, true, false, is_some, if◌then◌else◌, Some, None}
+use Rattle.std.specs.Prelude.{◌≡◌, ℕ, ◌&&◌, ◌||◌, Bool, true, false, nat_eq, is_some, if◌then◌else◌, Some, None}
 use Rattle.fsb_encode.specs.declared.request.Kind.{Kind}
 use Rattle.fsb_encode.specs.declared.request.Kind.TheVariants as kinds
 use Rattle.fsb_trace.specs.declared.outcome.Outcome.{Outcome}
 use Rattle.fsb_trace.specs.declared.outcome.Outcome.TheVariants.{Granted, Handed, Retried, Deferred, Written, Replied, Failed, Upgraded}
+use Rattle.fsb_count.specs.Options.{is_some_and}
+use Rattle.fsb_trace.specs.Requests.{is_write_back_kind}
+use Rattle.fsb_timely.specs.Grants.{is_claim_of, is_claim_of_other, is_owning, is_snooped}
 use Rattle.fsb_timely.specs.Moments.{is_upgraded, makes_grant}
 use Rattle.fsb_timely.specs.Past.{Past, SnoopEnd}
 use Rattle.fsb_timely.specs.Runs.{past_to}
@@ -63,3 +66,12 @@ pub record IsSnoopOn (p : Past) (line n : ℕ) (s : SnoopEnd) : Type 0 where
   pub fits : fits_kind kind s.outcome ≡ true
   pub granted : s.grant ≡ (if makes_grant kind s.outcome || (is_upgraded s.outcome && won) then Some (record { first = s.first; agent = agent; line = line; owns = owns; shared = shared }) else None)
   pub owned : s.outcome ≡ Handed → is_some (owner_at (past_to p n) agent line n) ≡ true
+
+-- the snoop end grants the line to agent a
+unfoldable pub is_granted_by : SnoopEnd → ℕ → ℕ → Bool
+is_granted_by s a line = is_some_and s.grant (λ grant. nat_eq grant.agent a && nat_eq grant.line line)
+
+-- agent a loses the line at the snoop end, if it has it: it writes the line back, or another agent asks to own it
+unfoldable pub is_lost_by : SnoopEnd → ℕ → ℕ → Bool
+is_lost_by s a line =
+    is_snooped (is_claim_of a line) is_write_back_kind s || is_snooped (is_claim_of_other a line) is_owning s

@@ -11,7 +11,7 @@ use Rattle.fsb_line.specs.Line.{LineDeferral, MemoryLine, OpenRequest}
 use Rattle.fsb_line.specs.States.{is_held, is_modified, is_sole}
 use Rattle.fsb_trace.specs.declared.outcome.Outcome.TheVariants as outcomes
 use Rattle.fsb_trace.specs.Outcome.{is_deferral}
-use Rattle.fsb_timely.specs.Past.{Claim, Grant, SnoopEnd, Past}
+use Rattle.fsb_timely.specs.Past.{Grant, SnoopEnd, Past}
 use Rattle.fsb_timely.specs.Grants.{begun_at, holds_line, is_ended, is_exclusive, is_sole_grant, latest_grant, snooped_at}
 use Rattle.fsb_timely.specs.Hits.{is_store_on}
 use Rattle.fsb_timely.specs.Moments.{is_snoop_of}
@@ -115,18 +115,18 @@ unfoldable pub replies_line : Past → ℕ → ℕ → Bool
 replies_line p line t =
     is_some_and (snooped_at p t) (λ s. is_none s.claim && is_some_and s.grant (λ grant. nat_eq grant.line line))
 
--- what is deferred by this snoop end at t of a request with this claim
-unfoldable pub deferral_for : Past → ℕ → ℕ → SnoopEnd → Claim → LineDeferral
-deferral_for p line t s claim = record {
-  agent = claim.agent;
+-- what is deferred for this agent by this snoop end at t
+unfoldable pub deferred_to : Past → ℕ → ℕ → SnoopEnd → ℕ → LineDeferral
+deferred_to p line t s agent = record {
+  agent = agent;
   kind = purpose_at s;
-  shared = is_held_elsewhere (past_to p t) claim.agent line t;
+  shared = is_held_elsewhere (past_to p t) agent line t;
 }
 
 -- what is deferred by the snoop end at t
 unfoldable pub deferral_at : Past → ℕ → ℕ → Option LineDeferral
 deferral_at p line t =
-    option_and_then (λ s. option_map_or (λ claim. Some (deferral_for p line t s claim)) s.claim None) (snooped_at p t)
+    option_and_then (λ s. option_map_or (λ claim. Some (deferred_to p line t s claim.agent)) s.claim None) (snooped_at p t)
 
 -- the deferral that the line awaits a reply to at n: the last one below n, if no reply granted the line since
 unfoldable pub deferral_below : Past → ℕ → ℕ → Option LineDeferral

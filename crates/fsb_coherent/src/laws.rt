@@ -1,14 +1,16 @@
 //! Laws over the definitions: no code.
 
-ghost use Rattle.std.specs.Prelude.{◌≡◌, ◌≢◌, ◌<◌, ◌≤◌, ◌+◌, ◌++◌, ◌&&◌, not, ℕ, [], ◌∷◌, true, false, Some, None, length, if◌then◌else◌};
+ghost use Rattle.std.specs.Prelude.{◌≡◌, ◌≢◌, ◌<◌, ◌≤◌, ◌+◌, ◌++◌, ◌&&◌, ◌||◌, not, ℕ, [], ◌∷◌, true, false, Some, None, length, if◌then◌else◌};
 ghost use Rattle.std.specs.Option.{option_map_or};
 ghost use Rattle.fsb_count.specs.Options.{is_at, is_some_and};
 ghost use Rattle.fsb_hazard.specs.declared.choice.Turn.TheVariants.{Keep};
 ghost use Rattle.fsb_line.specs.Line.{Bytes, LineDeferral, MemoryLine, OpenRequest, unheld};
 ghost use Rattle.fsb_line.specs.Runs.{MayRun, run};
+ghost use Rattle.fsb_line.specs.States.{is_held};
 ghost use Rattle.fsb_signal.specs.declared.lines.TheConstants.Lines.{HITM};
 ghost use Rattle.fsb_signal.specs.Samples.{line_at};
 ghost use Rattle.fsb_trace.specs.At.{request_at};
+ghost use Rattle.fsb_trace.specs.Outcome.{is_deferral};
 ghost use Rattle.fsb_trace.specs.Requests.{is_reply};
 ghost use Rattle.fsb_timely.specs.Past.{Claim, Past, SnoopEnd};
 ghost use Rattle.fsb_timely.specs.Grants.{grant_at, holds_line, is_ended, is_exclusive, is_granted, is_lost, is_named_by_other, snooped_at};
@@ -17,13 +19,13 @@ ghost use Rattle.fsb_timely.specs.Moments.{is_snoop_of};
 ghost use Rattle.fsb_timely.specs.Runs.{Run, past_of, past_to};
 ghost use Rattle.fsb_timely.specs.Growth.{IsNext, IsWhole};
 ghost use Rattle.fsb_coherent.specs.Awaits.{awaited_by, cancelled_in};
-ghost use Rattle.fsb_coherent.specs.Fitting.{IsSnoopOn};
+ghost use Rattle.fsb_coherent.specs.Fitting.{IsSnoopOn, is_granted_by, is_lost_by};
 ghost use Rattle.fsb_coherent.specs.LineEvents.{events_at, events_below, snoop_events};
 ghost use Rattle.fsb_coherent.specs.KeepsTie.{IsTiedTo, KeepsTie};
 ghost use Rattle.fsb_coherent.specs.Quiet.{IsQuiet};
 ghost use Rattle.fsb_coherent.specs.Settled.{is_always_kept, outcome_under, own_grant};
 ghost use Rattle.fsb_coherent.specs.Worked.{worked_events, worked_past};
-ghost use Rattle.fsb_coherent.specs.Relation.{IsOpen, Tied, chain_below, deferral_at, deferral_below, defers_line, is_dirty_below, is_dirty_through, is_dirtying, link_for, link_left, links_left, replies_line};
+ghost use Rattle.fsb_coherent.specs.Relation.{IsOpen, Tied, chain_below, deferred_to, deferral_at, deferral_below, defers_line, is_dirty_below, is_dirty_through, is_dirtying, link_for, link_left, links_left, replies_line};
 
 /// The events of a line at a clock that a run has passed stay as they are when the run goes on, and so do all events of
 /// the line below its end.
@@ -116,9 +118,17 @@ pub fn dirty_lines_step()
 {}
 
 /// At the snoop end of a request for a line the line of the machine gets the links that the run has of it: by its grant, or by
-/// its write-back, or none.
+/// its write-back, or none; and the deferral, where it is Deferred. Where an upgrade is won by an agent that holds the line,
+/// those hold it afterwards who get it there, and who held it and do not lose it.
 pub fn snoop_ends_make_links()
-    ensures { (p : Past) (line n : ℕ) (s : SnoopEnd) (x : MemoryLine) → IsSnoopOn p line n s
+    ensures links { (p : Past) (line n : ℕ) (s : SnoopEnd) (x : MemoryLine) → IsSnoopOn p line n s
         → (run x (snoop_events (past_to p n) line n s)).chain
         ≡ x.chain ++ option_map_or (link_for p line n s) (awaited_by s) [] }
+    ensures deferral { (p : Past) (line n : ℕ) (s : SnoopEnd) (x : MemoryLine) (h : IsSnoopOn p line n s)
+        → (run x (snoop_events (past_to p n) line n s)).deferral
+        ≡ (if is_deferral s.outcome then Some (deferred_to p line n s h.agent) else x.deferral) }
+    ensures holders { (p : Past) (line n : ℕ) (s : SnoopEnd) (x : MemoryLine) (h : IsSnoopOn p line n s)
+        → h.won ≡ is_held (x.state h.agent) → (b : ℕ)
+        → is_held ((run x (snoop_events (past_to p n) line n s)).state b)
+        ≡ (is_granted_by s b line || (is_held (x.state b) && not (is_lost_by s b line))) }
 {}
