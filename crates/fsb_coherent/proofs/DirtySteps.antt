@@ -20,13 +20,15 @@ with-none true y b e = refl
 with-none false true b e = e
 with-none false false b e = refl
 
-stored-hit : (p : Past) (a line n q : ℕ) → is_hit p a n ≡ true → is_stored_since p a line n q ≡ is_stored_below p a line (n + 1) q
+stored-hit : (p : Past) (a line n q : ℕ) → is_hit p a n ≡ true
+    → is_stored_since p a line n q ≡ is_stored_below p a line (n + 1) q
 unfolding is_stored_since is_stored_below is_counted
 stored-hit p a line n q h =
     let counted : (k : ℕ) → (nat_lt k n || (nat_eq k n && is_hit p a n)) ≡ nat_lt k (n + 1) = λ k. with-hit (nat_lt k n) (nat_eq k n) (is_hit p a n) h ∙ sym (nat_lt-more k n) in
     λ i. list_any (λ done. is_store_on a line done && is_ended p done.clock q && counted done.clock i) p.log
 
-stored-none : (p : Past) (a line n q : ℕ) → is_hit p a n ≡ false → is_stored_since p a line n q ≡ is_stored_below p a line n q
+stored-none : (p : Past) (a line n q : ℕ) → is_hit p a n ≡ false
+    → is_stored_since p a line n q ≡ is_stored_below p a line n q
 unfolding is_stored_since is_stored_below is_counted
 stored-none p a line n q h =
     let counted : (k : ℕ) → (nat_lt k n || (nat_eq k n && is_hit p a n)) ≡ nat_lt k n = λ k. with-none (nat_lt k n) (nat_eq k n) (is_hit p a n) h in
@@ -41,14 +43,16 @@ unfolding is_dirty is_dirty_below
 dirty-none p a line n h = λ i. is_exclusive p a line n && is_some_and (latest_grant p a line n) (λ grant. grant.owns || stored-none p a line n grant.first h i)
 
 -- the hits of a clock count there: an agent that has one is dirty by its stores of the clock too
-pub dirty-by-hits : (p : Past) (a line n : ℕ) → is_dirty p a line n ≡ (if is_hit p a n then is_dirty_through p a line n else is_dirty_below p a line n)
+pub dirty-by-hits : (p : Past) (a line n : ℕ)
+    → is_dirty p a line n ≡ (if is_hit p a n then is_dirty_through p a line n else is_dirty_below p a line n)
 dirty-by-hits p a line n =
     elim (cases_Bool (is_hit p a n)) [
       | inl h ↦ dirty-hit p a line n h ∙ sym (ap (λ b. if b then is_dirty_through p a line n else is_dirty_below p a line n) h)
       | inr h ↦ dirty-none p a line n h ∙ sym (ap (λ b. if b then is_dirty_through p a line n else is_dirty_below p a line n) h)
     ]
 
-both : (o : Option Grant) (f g : Grant → Bool) → (is_some_and o f && is_some_and o g) ≡ is_some_and o (λ x. f x && g x)
+both : (o : Option Grant) (f g : Grant → Bool)
+    → (is_some_and o f && is_some_and o g) ≡ is_some_and o (λ x. f x && g x)
 unfolding is_some_and
 both None f g = refl
 both (Some x) f g = refl
@@ -60,7 +64,8 @@ regrouped true true false = refl
 regrouped true false true = refl
 regrouped true false false = refl
 
-dirty-granted : (p : Past) (a line n : ℕ) → is_granted p a line n ≡ true → is_dirty_below p a line (n + 1) ≡ is_some_and (grant_at p n) (is_dirtying p a line (n + 1))
+dirty-granted : (p : Past) (a line n : ℕ) → is_granted p a line n ≡ true
+    → is_dirty_below p a line (n + 1) ≡ is_some_and (grant_at p n) (is_dirtying p a line (n + 1))
 unfolding is_dirty_below is_dirtying
 dirty-granted p a line n t =
     let exclusive = is_exclusive-more p a line n ∙ ap (λ b. if b then is_some_and (grant_at p n) is_sole_grant else (is_exclusive p a line n && (not (is_lost p a line n) && not (is_named_by_other p a line n)))) t in

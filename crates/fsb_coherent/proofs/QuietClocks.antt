@@ -65,12 +65,14 @@ no-entries n line (done ∷ log) e =
       | inr late ↦ rw late rest
     ]
 
-entries-none : (p : Past) (line n : ℕ) → list_any (λ done. nat_eq done.clock n) p.log ≡ false → entries_on (past_to p n) line n ≡ []
+entries-none : (p : Past) (line n : ℕ) → list_any (λ done. nat_eq done.clock n) p.log ≡ false
+    → entries_on (past_to p n) line n ≡ []
 unfolding entries_on past_to
 entries-none p line n e = no-entries n line p.log e
 
 -- a past with nothing at n has no event there
-nothing-in : (q : Past) (line n : ℕ) → begun_at q n ≡ None → cancelled_in q n ≡ None → snooped_at q n ≡ None → responded_in q n ≡ None → ended_requests q n ≡ [] → entries_on q line n ≡ []
+nothing-in : (q : Past) (line n : ℕ) → begun_at q n ≡ None → cancelled_in q n ≡ None → snooped_at q n ≡ None
+    → responded_in q n ≡ None → ended_requests q n ≡ [] → entries_on q line n ≡ []
     → events_of_clock q line n ≡ []
 unfolding events_of_clock responds_on hits_on begins_on cancels_on snoops_on ends_on others_on events_of_ends is_some_and
 nothing-in q line n begun cancelled snooped responded ended entries = rw (begun, cancelled, snooped, responded, ended, entries) refl
@@ -134,7 +136,8 @@ no-new p a line n q (done ∷ log) e =
     let here : nat_lt done.clock (n + 1) ≡ nat_lt done.clock n = nat_lt-more done.clock n ∙ (λ i. nat_lt done.clock n || none i) ∙ or-nothing (nat_lt done.clock n) in
     λ i. (is_store_on a line done && is_ended p done.clock q && here i) || rest i
 
-stored-quiet : (p : Past) (a line n q : ℕ) → IsQuiet p n → is_stored_below p a line (n + 1) q ≡ is_stored_below p a line n q
+stored-quiet : (p : Past) (a line n q : ℕ) → IsQuiet p n
+    → is_stored_below p a line (n + 1) q ≡ is_stored_below p a line n q
 unfolding is_stored_below
 stored-quiet p a line n q h = no-new p a line n q p.log h.completed
 
@@ -194,11 +197,13 @@ unfolding is_at is_some_and
 uncancelled p n q e = rw e refl
 
 
-open-quiet : (p : Past) (a line n : ℕ) (request : OpenRequest) → IsQuiet p n → IsOpen p a line n request → IsOpen p a line (n + 1) request
+open-quiet : (p : Past) (a line n : ℕ) (request : OpenRequest) → IsQuiet p n → IsOpen p a line n request
+    → IsOpen p a line (n + 1) request
 unfolding is_some_and
 open-quiet p a line n request h open_there = open-kept p a line n request open_there (uncancelled p n request.number h.cancelled) (rw h.snooped refl)
 
-opened-quiet : (p : Past) (a line n : ℕ) (request : OpenRequest) → IsQuiet p n → IsOpen p a line (n + 1) request → IsOpen p a line n request
+opened-quiet : (p : Past) (a line n : ℕ) (request : OpenRequest) → IsQuiet p n → IsOpen p a line (n + 1) request
+    → IsOpen p a line n request
 opened-quiet p a line n request h open_there =
     elim (cases_lt request.number n) [
       | inl l ↦ open-before p a line n request open_there l

@@ -26,7 +26,8 @@ use Rattle.fsb_timely.proofs.Interface.{moment-snooped, run_to-agrees, snoop_of,
 use Rattle.fsb_coherent.specs.Settled.{is_always_kept, outcome_by_turn, outcome_under, own_grant}
 
 -- the turn as a number says what the turn says
-settled-form : (w : Trace) (turn : Turn) (i t : ℕ) (handed : Bool) → line_at HITM w t ≡ handed → settled_by w (number_of_turn turn) i t ≡ outcome_under handed turn (live_request_of w i)
+settled-form : (w : Trace) (turn : Turn) (i t : ℕ) (handed : Bool) → line_at HITM w t ≡ handed
+    → settled_by w (number_of_turn turn) i t ≡ outcome_under handed turn (live_request_of w i)
 unfolding settled_by outcome_under outcome_by_turn number_of_turn
 settled-form w turn i t true e = rw e refl
 settled-form w Keep i t false e = rw e refl
@@ -44,14 +45,16 @@ live-claim : (w : Trace) (i q : ℕ) → live_clock_of w i ≡ Some q → live_c
 unfolding live_claim_of
 live-claim w i q e = rw e refl
 
-settled-says : (w : Trace) (turns : List ℕ) (i t : ℕ) (outcome : Outcome) → snoop_end_of w i ≡ Some t → settled_outcome_of w turns i ≡ Some outcome → settled_by w (slice_index turns i) i t ≡ outcome
+settled-says : (w : Trace) (turns : List ℕ) (i t : ℕ) (outcome : Outcome) → snoop_end_of w i ≡ Some t
+    → settled_outcome_of w turns i ≡ Some outcome → settled_by w (slice_index turns i) i t ≡ outcome
 unfolding settled_outcome_of
 settled-says w turns i t outcome e f =
     let g : option_map (settled_by w (slice_index turns i) i) (snoop_end_of w i) ≡ Some (settled_by w (slice_index turns i) i t) = ap (option_map (settled_by w (slice_index turns i) i)) e in
     let h = sym g ∙ f in cc
 
 -- a snoop end has the outcome that HITM#, its turn and its request make
-pub outcome-made : (r : Run) (t : ℕ) (s : SnoopEnd) → snooped_at (past_of r) t ≡ Some s → s.outcome ≡ outcome_under (line_at HITM r.trace t) s.turn (request_at r.trace s.first)
+pub outcome-made : (r : Run) (t : ℕ) (s : SnoopEnd) → snooped_at (past_of r) t ≡ Some s
+    → s.outcome ≡ outcome_under (line_at HITM r.trace t) s.turn (request_at r.trace s.first)
 outcome-made r t s e =
     let tied = tied-snoop r t s e in
     let i : ℕ = tied.0 in
@@ -61,20 +64,24 @@ outcome-made r t s e =
     ∙ settled-form r.trace s.turn i t (line_at HITM r.trace t) refl
     ∙ ap (outcome_under (line_at HITM r.trace t) s.turn) (live-request r.trace i s.first h.first)
 
-served-itself : (w : Trace) (turns : List ℕ) (i : ℕ) → is_reply (live_request_of w i) ≡ false → served_number w turns i ≡ Some i
+served-itself : (w : Trace) (turns : List ℕ) (i : ℕ) → is_reply (live_request_of w i) ≡ false
+    → served_number w turns i ≡ Some i
 unfolding served_number
 served-itself w turns i e = rw (e, served_number) refl
 
-grant-for : (w : Trace) (i q t : ℕ) (claim : Claim) → live_clock_of w i ≡ Some q → claim_at w q ≡ Some claim → (p : Past) (outcome : Outcome) → gives_line p w q t outcome ≡ true
+grant-for : (w : Trace) (i q t : ℕ) (claim : Claim) → live_clock_of w i ≡ Some q → claim_at w q ≡ Some claim
+    → (p : Past) (outcome : Outcome) → gives_line p w q t outcome ≡ true
     → grant_for w q t i ≡ own_grant p w q t outcome claim
 unfolding grant_for own_grant
 grant-for w i q t claim e f p outcome gives = rw (live-request w i q e, live-claim w i q e, f, gives) refl
 
-no-grant : (w : Trace) (q t : ℕ) (claim : Claim) (p : Past) (outcome : Outcome) → gives_line p w q t outcome ≡ false → own_grant p w q t outcome claim ≡ None
+no-grant : (w : Trace) (q t : ℕ) (claim : Claim) (p : Past) (outcome : Outcome)
+    → gives_line p w q t outcome ≡ false → own_grant p w q t outcome claim ≡ None
 unfolding own_grant
 no-grant w q t claim p outcome gives = rw gives refl
 
-grant-form : (p : Past) (w : Trace) (i q t : ℕ) (outcome : Outcome) (claim : Claim) → live_clock_of w i ≡ Some q → claim_at w q ≡ Some claim → is_reply (request_at w q) ≡ false
+grant-form : (p : Past) (w : Trace) (i q t : ℕ) (outcome : Outcome) (claim : Claim) → live_clock_of w i ≡ Some q
+    → claim_at w q ≡ Some claim → is_reply (request_at w q) ≡ false
     → grant_of p w i q t outcome ≡ own_grant p w q t outcome claim
 unfolding grant_of
 grant-form p w i q t outcome claim e f not_reply =
@@ -85,7 +92,8 @@ grant-form p w i q t outcome claim e f not_reply =
     ]
 
 -- a request of a symmetric agent makes a grant to its own claim
-pub grant-made : (r : Run) (t : ℕ) (s : SnoopEnd) (claim : Claim) → snooped_at (past_of r) t ≡ Some s → s.claim ≡ Some claim → is_reply (request_at r.trace s.first) ≡ false
+pub grant-made : (r : Run) (t : ℕ) (s : SnoopEnd) (claim : Claim) → snooped_at (past_of r) t ≡ Some s
+    → s.claim ≡ Some claim → is_reply (request_at r.trace s.first) ≡ false
     → s.grant ≡ own_grant (past_of r) r.trace s.first t s.outcome claim
 grant-made r t s claim e f not_reply =
     let tied = tied-snoop r t s e in
@@ -100,12 +108,14 @@ turn-form bridge choices w turns q t None e kept = absurd (let x : ⊥ = cc in x
 turn-form bridge choices w turns q t (Some request) e kept =
     let always : is_never_held_up request.kind ≡ true = kept in rw (e, effective_choice, always) refl
 
-turn-of : (r : Run) (t i q : ℕ) → (snoop_of r t i q).turn ≡ (effective_choice r.plan.bridge (run_to r t).choices (run_to r t).trace (turns_in (moments_below r t)) q t).turn
+turn-of : (r : Run) (t i q : ℕ)
+    → (snoop_of r t i q).turn ≡ (effective_choice r.plan.bridge (run_to r t).choices (run_to r t).trace (turns_in (moments_below r t)) q t).turn
 unfolding snoop_end_with
 turn-of r t i q = refl
 
 -- a write-back and a reply are neither retried nor put off
-pub turn-kept : (r : Run) (t : ℕ) (s : SnoopEnd) → snooped_at (past_of r) t ≡ Some s → is_always_kept (request_at r.trace s.first) ≡ true → s.turn ≡ Keep
+pub turn-kept : (r : Run) (t : ℕ) (s : SnoopEnd) → snooped_at (past_of r) t ≡ Some s
+    → is_always_kept (request_at r.trace s.first) ≡ true → s.turn ≡ Keep
 turn-kept r t s e kept =
     let tied = tied-snoop r t s e in
     let i : ℕ = tied.0 in

@@ -35,7 +35,8 @@ held-cond true own other = refl
 held-cond false own other = refl
 
 -- what the agent of the request has, and what another one has
-by-agent : (m t u w o g gp h own other : Bool) → t ≡ m → u ≡ not m → gp ≡ (t && g) → (m ≡ true → own ≡ (g || (h && not w))) → other ≡ (h && not o)
+by-agent : (m t u w o g gp h own other : Bool) → t ≡ m → u ≡ not m → gp ≡ (t && g)
+    → (m ≡ true → own ≡ (g || (h && not w))) → other ≡ (h && not o)
     → cond m own other ≡ (gp || (h && not ((t && w) || (u && o))))
 by-agent true t u w o g gp h own other e f k x y =
     x refl ∙ (λ i. g || (h && not (sym (or-nothing w) i)))
@@ -47,7 +48,8 @@ and-same : (b : Bool) → (b && true) ≡ b
 and-same true = refl
 and-same false = refl
 
-held-of : (b agent : ℕ) (st own other : Mesi) (w o g gp : Bool) → gp ≡ ((nat_eq agent b && true) && g) → ((b == agent) ≡ true → is_held own ≡ (g || (is_held st && not w))) → is_held other ≡ (is_held st && not o)
+held-of : (b agent : ℕ) (st own other : Mesi) (w o g gp : Bool) → gp ≡ ((nat_eq agent b && true) && g)
+    → ((b == agent) ≡ true → is_held own ≡ (g || (is_held st && not w))) → is_held other ≡ (is_held st && not o)
     → is_held (cond (b == agent) own other) ≡ (gp || (is_held st && not (((nat_eq agent b && true) && w) || ((not (nat_eq agent b) && true) && o))))
 held-of b agent st own other w o g gp k x y =
     let swap : nat_eq agent b ≡ (b == agent) = nat_eq-sym agent b in
@@ -93,19 +95,22 @@ HeldBy p line n s x b =
     is_held ((run x (snoop_events (past_to p n) line n s)).state b) ≡ (is_granted_by s b line || (is_held (x.state b) && not (is_lost_by s b line)))
 
 handed-read : (p : Past) (line n first agent : ℕ) (turn : Turn) (owns shared : Bool) (x : MemoryLine) (b : ℕ) (o : Option ℕ) → nat_eq line line ≡ true
-    → owner_at (past_to p n) agent line n ≡ o → is_some o ≡ true → HeldBy p line n (end_with first agent line kinds.Read turn Handed (Some (grant_with first agent line owns shared))) x b
+    → owner_at (past_to p n) agent line n ≡ o → is_some o ≡ true
+    → HeldBy p line n (end_with first agent line kinds.Read turn Handed (Some (grant_with first agent line owns shared))) x b
 unfolding snoop_events claimed_events settled_events is_upgraded is_got makes_grant purpose_of is_granted_by is_lost_by is_some_and is_snooped is_claim_of is_claim_of_other is_owning is_write_back_kind fits_kind fits_getting fits_upgrade fits_write_back after effect given linked settled trimmed
 handed-read p line n first agent turn owns shared x b None e g h = absurd (let no : ⊥ = cc in no)
 handed-read p line n first agent turn owns shared x b (Some owner) e g h = rw (e, g) (held-of b agent (x.state b) (Shared) (after_snoop (x.state b) purposes.Read) false false true (nat_eq agent b && true) (same-true (nat_eq agent b && true)) (λ m. refl) (kept-by-read (x.state b)))
 
 handed-own : (p : Past) (line n first agent : ℕ) (turn : Turn) (owns shared : Bool) (x : MemoryLine) (b : ℕ) (o : Option ℕ) → nat_eq line line ≡ true
-    → owner_at (past_to p n) agent line n ≡ o → is_some o ≡ true → HeldBy p line n (end_with first agent line kinds.Invalidate turn Handed (Some (grant_with first agent line owns shared))) x b
+    → owner_at (past_to p n) agent line n ≡ o → is_some o ≡ true
+    → HeldBy p line n (end_with first agent line kinds.Invalidate turn Handed (Some (grant_with first agent line owns shared))) x b
 unfolding snoop_events claimed_events settled_events is_upgraded is_got makes_grant purpose_of is_granted_by is_lost_by is_some_and is_snooped is_claim_of is_claim_of_other is_owning is_write_back_kind fits_kind fits_getting fits_upgrade fits_write_back after effect given linked settled trimmed
 handed-own p line n first agent turn owns shared x b None e g h = absurd (let no : ⊥ = cc in no)
 handed-own p line n first agent turn owns shared x b (Some owner) e g h = rw (e, g) (held-of b agent (x.state b) (Modified) (Invalid) false true true (nat_eq agent b && true) (same-true (nat_eq agent b && true)) (λ m. refl) (none-held (is_held (x.state b))))
 
 handed-upgrade : (p : Past) (line n first agent : ℕ) (turn : Turn) (owns shared : Bool) (x : MemoryLine) (b : ℕ) (o : Option ℕ) → nat_eq line line ≡ true
-    → owner_at (past_to p n) agent line n ≡ o → is_some o ≡ true → HeldBy p line n (end_with first agent line kinds.Upgrade turn Handed (Some (grant_with first agent line owns shared))) x b
+    → owner_at (past_to p n) agent line n ≡ o → is_some o ≡ true
+    → HeldBy p line n (end_with first agent line kinds.Upgrade turn Handed (Some (grant_with first agent line owns shared))) x b
 unfolding snoop_events claimed_events settled_events is_upgraded is_got makes_grant purpose_of is_granted_by is_lost_by is_some_and is_snooped is_claim_of is_claim_of_other is_owning is_write_back_kind fits_kind fits_getting fits_upgrade fits_write_back after effect given linked settled trimmed
 handed-upgrade p line n first agent turn owns shared x b None e g h = absurd (let no : ⊥ = cc in no)
 handed-upgrade p line n first agent turn owns shared x b (Some owner) e g h = rw (e, g) (held-of b agent (x.state b) (Modified) (Invalid) false true true (nat_eq agent b && true) (same-true (nat_eq agent b && true)) (λ m. refl) (none-held (is_held (x.state b))))
@@ -130,7 +135,8 @@ holders p line n first agent kinds.Upgrade Handed turn won owns shared x b e h o
 holders p line n first agent _ _ turn won owns shared x b e h o w = absurd (let no : ⊥ = cc in no)
 
 -- an upgrade is won where the agent of the machine holds the line
-pub holders-made : (p : Past) (line n : ℕ) (s : SnoopEnd) (x : MemoryLine) (h : IsSnoopOn p line n s) → h.won ≡ is_held (x.state h.agent) → (b : ℕ)
+pub holders-made : (p : Past) (line n : ℕ) (s : SnoopEnd) (x : MemoryLine) (h : IsSnoopOn p line n s)
+    → h.won ≡ is_held (x.state h.agent) → (b : ℕ)
     → is_held ((run x (snoop_events (past_to p n) line n s)).state b) ≡ (is_granted_by s b line || (is_held (x.state b) && not (is_lost_by s b line)))
 holders-made p line n s x h w b =
     let whole : end_with s.first h.agent line h.kind s.turn s.outcome (grant_if s.first h.agent line h.kind s.outcome h.won h.owns h.shared) ≡ s =

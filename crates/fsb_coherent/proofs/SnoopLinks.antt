@@ -37,13 +37,15 @@ abbrev LinksOf : Past → ℕ → ℕ → SnoopEnd → MemoryLine → Type 0
 LinksOf p line n s x = (run x (snoop_events (past_to p n) line n s)).chain ≡ x.chain ++ option_map_or (link_for p line n s) (awaited_by s) []
 
 handed : (p : Past) (line n first agent : ℕ) (kind : Kind) (purpose : Purpose) (turn : Turn) (owns shared : Bool) (x : MemoryLine) (o : Option ℕ) → nat_eq line line ≡ true → purpose_of kind ≡ Some purpose
-    → owner_at (past_to p n) agent line n ≡ o → is_some o ≡ true → LinksOf p line n (end_with first agent line kind turn Handed (Some (grant_with first agent line owns shared))) x
+    → owner_at (past_to p n) agent line n ≡ o → is_some o ≡ true
+    → LinksOf p line n (end_with first agent line kind turn Handed (Some (grant_with first agent line owns shared))) x
 unfolding snoop_events claimed_events settled_events awaited_by awaited_by_grant is_upgraded link_for giver_at purpose_at after effect given linked settled trimmed
 handed p line n first agent kind purpose turn owns shared x None e f g h = absurd (let no : ⊥ = cc in no)
 handed p line n first agent kind purpose turn owns shared x (Some owner) e f g h = rw (e, f, g) refl
 
 links : (p : Past) (line n first agent : ℕ) (kind : Kind) (outcome : Outcome) (turn : Turn) (won owns shared : Bool) (x : MemoryLine) → nat_eq line line ≡ true → fits_kind kind outcome ≡ true
-    → (outcome ≡ Handed → is_some (owner_at (past_to p n) agent line n) ≡ true) → LinksOf p line n (end_with first agent line kind turn outcome (grant_if first agent line kind outcome won owns shared)) x
+    → (outcome ≡ Handed → is_some (owner_at (past_to p n) agent line n) ≡ true)
+    → LinksOf p line n (end_with first agent line kind turn outcome (grant_if first agent line kind outcome won owns shared)) x
 unfolding snoop_events claimed_events settled_events awaited_by awaited_by_grant awaited_by_claim is_written is_upgraded is_got makes_grant purpose_of link_for giver_at purpose_at fits_kind fits_getting fits_upgrade fits_write_back after effect given linked settled trimmed
 links p line n first agent kinds.Read Granted turn won owns shared x e h o = rw e refl
 links p line n first agent kinds.Read Handed turn won owns shared x e h o = handed p line n first agent kinds.Read _ turn owns shared x (owner_at (past_to p n) agent line n) e refl refl (o refl)
@@ -61,7 +63,8 @@ links p line n first agent kinds.WriteBack Written turn won owns shared x e h o 
 links p line n first agent _ _ turn won owns shared x e h o = absurd (let no : ⊥ = cc in no)
 
 -- the snoop end of a request for the line leaves the links of the run
-pub links-made : (p : Past) (line n : ℕ) (s : SnoopEnd) (x : MemoryLine) → IsSnoopOn p line n s → (run x (snoop_events (past_to p n) line n s)).chain ≡ x.chain ++ option_map_or (link_for p line n s) (awaited_by s) []
+pub links-made : (p : Past) (line n : ℕ) (s : SnoopEnd) (x : MemoryLine) → IsSnoopOn p line n s
+    → (run x (snoop_events (past_to p n) line n s)).chain ≡ x.chain ++ option_map_or (link_for p line n s) (awaited_by s) []
 links-made p line n s x h =
     let whole : end_with s.first h.agent line h.kind s.turn s.outcome (grant_if s.first h.agent line h.kind s.outcome h.won h.owns h.shared) ≡ s =
       (λ i. record { first = s.first; claim = sym h.claimed i; kind = sym h.known i; turn = s.turn; outcome = s.outcome; grant = sym h.granted i }) in
@@ -75,13 +78,15 @@ DeferralOf p line n agent s x =
     ≡ (if is_deferral s.outcome then Some (deferred_to p line n s agent) else x.deferral)
 
 handed-deferral : (p : Past) (line n first agent : ℕ) (kind : Kind) (purpose : Purpose) (turn : Turn) (owns shared : Bool) (x : MemoryLine) (o : Option ℕ) → nat_eq line line ≡ true → purpose_of kind ≡ Some purpose
-    → owner_at (past_to p n) agent line n ≡ o → is_some o ≡ true → DeferralOf p line n agent (end_with first agent line kind turn Handed (Some (grant_with first agent line owns shared))) x
+    → owner_at (past_to p n) agent line n ≡ o → is_some o ≡ true
+    → DeferralOf p line n agent (end_with first agent line kind turn Handed (Some (grant_with first agent line owns shared))) x
 unfolding snoop_events claimed_events settled_events is_deferral deferred_to purpose_at after effect given linked settled trimmed
 handed-deferral p line n first agent kind purpose turn owns shared x None e f g h = absurd (let no : ⊥ = cc in no)
 handed-deferral p line n first agent kind purpose turn owns shared x (Some owner) e f g h = rw (e, f, g) refl
 
 deferrals : (p : Past) (line n first agent : ℕ) (kind : Kind) (outcome : Outcome) (turn : Turn) (won owns shared : Bool) (x : MemoryLine) → nat_eq line line ≡ true → fits_kind kind outcome ≡ true
-    → (outcome ≡ Handed → is_some (owner_at (past_to p n) agent line n) ≡ true) → DeferralOf p line n agent (end_with first agent line kind turn outcome (grant_if first agent line kind outcome won owns shared)) x
+    → (outcome ≡ Handed → is_some (owner_at (past_to p n) agent line n) ≡ true)
+    → DeferralOf p line n agent (end_with first agent line kind turn outcome (grant_if first agent line kind outcome won owns shared)) x
 unfolding snoop_events claimed_events settled_events is_upgraded is_got makes_grant purpose_of is_deferral deferred_to purpose_at fits_kind fits_getting fits_upgrade fits_write_back after effect given linked settled trimmed
 deferrals p line n first agent kinds.Read Granted turn won owns shared x e h o = rw e refl
 deferrals p line n first agent kinds.Read Handed turn won owns shared x e h o = handed-deferral p line n first agent kinds.Read _ turn owns shared x (owner_at (past_to p n) agent line n) e refl refl (o refl)

@@ -12,15 +12,18 @@ use Rattle.fsb_timely.specs.Moments.{is_snoop_of}
 use Rattle.fsb_coherent.specs.Awaits.{cancelled_in, responded_in}
 use Rattle.fsb_coherent.specs.Relation.{IsOpen, chain_below, deferral_at, deferral_below, defers_line, is_cancelled_below, is_moved_for, is_responded_below, is_snooped_below, link_left, links_left, replies_line}
 
-pub cancelled-more : (p : Past) (n q : ℕ) → is_cancelled_below p (n + 1) q ≡ (is_cancelled_below p n q || is_at (cancelled_in p n) q)
+pub cancelled-more : (p : Past) (n q : ℕ)
+    → is_cancelled_below p (n + 1) q ≡ (is_cancelled_below p n q || is_at (cancelled_in p n) q)
 unfolding is_cancelled_below
 cancelled-more p n q = any_where-more (λ t. is_at (cancelled_in p t) q) n
 
-pub snooped-more : (p : Past) (n q : ℕ) → is_snooped_below p (n + 1) q ≡ (is_snooped_below p n q || is_some_and (snooped_at p n) (is_snoop_of q))
+pub snooped-more : (p : Past) (n q : ℕ)
+    → is_snooped_below p (n + 1) q ≡ (is_snooped_below p n q || is_some_and (snooped_at p n) (is_snoop_of q))
 unfolding is_snooped_below
 snooped-more p n q = any_where-more (λ t. is_some_and (snooped_at p t) (is_snoop_of q)) n
 
-pub responded-more : (p : Past) (n q : ℕ) → is_responded_below p (n + 1) q ≡ (is_responded_below p n q || is_at (responded_in p n) q)
+pub responded-more : (p : Past) (n q : ℕ)
+    → is_responded_below p (n + 1) q ≡ (is_responded_below p n q || is_at (responded_in p n) q)
 unfolding is_responded_below
 responded-more p n q = any_where-more (λ t. is_at (responded_in p t) q) n
 
@@ -28,7 +31,8 @@ neither : (x y z : Bool) → z ≡ (x || y) → x ≡ false → y ≡ false → 
 neither x y z e f g = e ∙ (λ i. f i || g i)
 
 -- an open request that is neither cancelled nor snooped stays open
-pub open-kept : (p : Past) (a line n : ℕ) (request : OpenRequest) → IsOpen p a line n request → is_at (cancelled_in p n) request.number ≡ false
+pub open-kept : (p : Past) (a line n : ℕ) (request : OpenRequest) → IsOpen p a line n request
+    → is_at (cancelled_in p n) request.number ≡ false
     → is_some_and (snooped_at p n) (is_snoop_of request.number) ≡ false → IsOpen p a line (n + 1) request
 open-kept p a line n request h uncancelled unsnooped = record {
   before = let l = h.before in omega arith;
@@ -39,7 +43,8 @@ open-kept p a line n request h uncancelled unsnooped = record {
 }
 
 -- one that is open and began before was open, and is neither cancelled nor snooped there
-pub open-before : (p : Past) (a line n : ℕ) (request : OpenRequest) → IsOpen p a line (n + 1) request → request.number < n → IsOpen p a line n request
+pub open-before : (p : Past) (a line n : ℕ) (request : OpenRequest) → IsOpen p a line (n + 1) request
+    → request.number < n → IsOpen p a line n request
 open-before p a line n request h l = record {
   before = l;
   begun = h.begun;
@@ -70,12 +75,14 @@ kept_of : Past → ℕ → ℕ → Option ℕ → Option LineDeferral
 kept_of p line n None = None
 kept_of p line n (Some t) = if any_where (from_clock (t + 1) (replies_line p line)) n then None else deferral_at p line t
 
-kept-form : (p : Past) (line n : ℕ) (o : Option ℕ) → last_where (defers_line p line) n ≡ o → deferral_below p line n ≡ kept_of p line n o
+kept-form : (p : Past) (line n : ℕ) (o : Option ℕ) → last_where (defers_line p line) n ≡ o
+    → deferral_below p line n ≡ kept_of p line n o
 unfolding deferral_below kept_of
 kept-form p line n None e = rw (e, deferral_below) refl
 kept-form p line n (Some t) e = rw (e, deferral_below) refl
 
-two-tests : {X : Type 0} (x y : Bool) (d : Option X) → (if (x || y) then None else d) ≡ (if y then None else (if x then None else d))
+two-tests : {X : Type 0} (x y : Bool) (d : Option X)
+    → (if (x || y) then None else d) ≡ (if y then None else (if x then None else d))
 two-tests true true d = refl
 two-tests true false d = refl
 two-tests false true d = refl
@@ -121,7 +128,8 @@ deferral-more p line n =
           ∙ sym (ap (λ b. if b then deferral_at p line n else (if replies_line p line n then None else deferral_below p line n)) f)
     ]
 
-link_left-same : (p : Past) (line n m t : ℕ) (s : SnoopEnd) → is_ended p n s.first ≡ is_ended p m s.first → link_left p line n t s ≡ link_left p line m t s
+link_left-same : (p : Past) (line n m t : ℕ) (s : SnoopEnd) → is_ended p n s.first ≡ is_ended p m s.first
+    → link_left p line n t s ≡ link_left p line m t s
 unfolding link_left
 link_left-same p line n m t s e = rw e refl
 
@@ -131,7 +139,8 @@ links_at-same p line n m t None e = refl
 links_at-same p line n m t (Some s) e = link_left-same p line n m t s (e s.first)
 
 -- links stay where no request ends
-pub links_left-same : (p : Past) (line n m t : ℕ) → ((q : ℕ) → is_ended p n q ≡ is_ended p m q) → links_left p line n t ≡ links_left p line m t
+pub links_left-same : (p : Past) (line n m t : ℕ) → ((q : ℕ) → is_ended p n q ≡ is_ended p m q)
+    → links_left p line n t ≡ links_left p line m t
 unfolding links_left
 links_left-same p line n m zero e = refl
 links_left-same p line n m (suc t) e =
@@ -140,7 +149,8 @@ links_left-same p line n m (suc t) e =
     λ i. before i ++ here i
 
 -- the links one clock on: those of before that are left, and that of a snoop end there
-pub chain-more : (p : Past) (line n : ℕ) → chain_below p line (n + 1) ≡ links_left p line (n + 1) n ++ option_map_or (link_left p line (n + 1) n) (snooped_at p n) []
+pub chain-more : (p : Past) (line n : ℕ)
+    → chain_below p line (n + 1) ≡ links_left p line (n + 1) n ++ option_map_or (link_left p line (n + 1) n) (snooped_at p n) []
 unfolding chain_below links_left
 chain-more p line n = rw add-one refl
 
@@ -153,13 +163,15 @@ chain-kept p line n e =
     let here = links_at-same p line (n + 1) n n (snooped_at p n) e in
     chain-more p line n ∙ (λ i. before i ++ here i)
 
-moved-same : (p : Past) (line n m : ℕ) (s : SnoopEnd) → is_ended p n s.first ≡ is_ended p m s.first → is_responded_below p n s.first ≡ is_responded_below p m s.first
+moved-same : (p : Past) (line n m : ℕ) (s : SnoopEnd) → is_ended p n s.first ≡ is_ended p m s.first
+    → is_responded_below p n s.first ≡ is_responded_below p m s.first
     → is_moved_for p line n s ≡ is_moved_for p line m s
 unfolding is_moved_for
 moved-same p line n m s e f = rw (e, f) refl
 
 pub moved_at-same : (p : Past) (line n m : ℕ) (o : Option SnoopEnd) → ((q : ℕ) → is_ended p n q ≡ is_ended p m q)
-    → ((q : ℕ) → is_responded_below p n q ≡ is_responded_below p m q) → is_some_and o (is_moved_for p line n) ≡ is_some_and o (is_moved_for p line m)
+    → ((q : ℕ) → is_responded_below p n q ≡ is_responded_below p m q)
+    → is_some_and o (is_moved_for p line n) ≡ is_some_and o (is_moved_for p line m)
 unfolding is_some_and
 moved_at-same p line n m None e f = refl
 moved_at-same p line n m (Some s) e f = moved-same p line n m s (e s.first) (f s.first)

@@ -11,7 +11,7 @@ use Rattle.fsb_timely.specs.Moments.{is_snoop_of, is_upgraded}
 use Rattle.fsb_timely.specs.Runs.{entries_to, past_to}
 use Rattle.fsb_timely.specs.Snoops.{is_held_elsewhere}
 use Rattle.fsb_coherent.specs.Awaits.{purpose_of, purpose_wanted, is_written, awaited_by_claim, awaited_by_grant, awaited_by, snoop_end_below, awaited_at, owner_at, responded_in, cancelled_in}
-use Rattle.fsb_coherent.specs.LineEvents.{access_event, awaiting_stores, begin_events, begins_on, cancels_on, claimed_events, end_events, ends_on, entries_on, events_at, events_of_clock, events_of_ends, hits_on, is_awaited_for, is_brought_to, is_of_other_line, moves_on, others_on, responds_on, settled_events, snoop_events, snoops_on}
+use Rattle.fsb_coherent.specs.LineEvents.{access_event, awaited_events, cancel_events, awaiting_stores, begin_events, begins_on, cancels_on, claimed_events, end_events, ends_on, entries_on, events_at, events_of_clock, events_of_ends, hits_on, is_awaited_for, is_brought_to, is_of_other_line, moves_on, others_on, responds_on, settled_events, snoop_events, snoops_on}
 use Rattle.fsb_coherent.specs.Worked.{worked_events, worked_past}
 
 pub worked-out : (events_at worked_past 2 3 ∷ events_at worked_past 2 4 ∷ events_at worked_past 2 5 ∷ events_at worked_past 2 6 ∷ []) ≡ worked_events
@@ -27,6 +27,6 @@ unfolding
     may_upgrade kind_needed request_of_kind write_back_of want_for want_of is_snoop_of is_upgraded entries_to past_to is_held_elsewhere
     purpose_of purpose_wanted is_written awaited_by_claim awaited_by_grant awaited_by snoop_end_below awaited_at
     owner_at responded_in cancelled_in access_event awaiting_stores begin_events begins_on cancels_on claimed_events
-    end_events ends_on entries_on events_at events_of_clock events_of_ends hits_on is_awaited_for is_brought_to
+    awaited_events cancel_events end_events ends_on entries_on events_at events_of_clock events_of_ends hits_on is_awaited_for is_brought_to
     is_of_other_line moves_on others_on responds_on settled_events snoop_events snoops_on
 worked-out = refl

@@ -48,7 +48,7 @@ pub record Awaited : Type 0 where
 unfoldable pub awaited_by_claim : Claim → Awaited
 awaited_by_claim claim = record { agent = claim.agent; line = claim.line; carries = true }
 
--- the end that is awaited after a snoop end with this outcome and this grant: data move, unless it is an upgrade that won
+-- the end that is awaited after a snoop end with this outcome and this grant: data move, unless an upgrade has won
 unfoldable pub awaited_by_grant : Outcome → Grant → Awaited
 awaited_by_grant outcome grant =
     record { agent = grant.agent; line = grant.line; carries = not (is_upgraded outcome) }

@@ -53,8 +53,8 @@ fits_kind kinds.Read outcome = fits_getting outcome
 fits_kind kinds.WriteBack outcome = fits_write_back outcome
 fits_kind kinds.Upgrade outcome = fits_upgrade outcome
 
--- a snoop end of a request for the line as it may be: whose, of which kind, and whether an upgrade is won; the outcome fits the
--- kind, the grant is the one that they make, and a line that is handed over has an owner
+-- a snoop end of a request for the line as it may be: whose, of which kind, and whether an upgrade is won; the outcome
+-- fits the kind, the grant is the one that they make, and a line that is handed over has an owner
 pub record IsSnoopOn (p : Past) (line n : ℕ) (s : SnoopEnd) : Type 0 where
   pub agent : ℕ
   pub kind : Kind
@@ -64,7 +64,9 @@ pub record IsSnoopOn (p : Past) (line n : ℕ) (s : SnoopEnd) : Type 0 where
   pub claimed : s.claim ≡ Some (record { first = s.first; agent = agent; line = line })
   pub known : s.kind ≡ Some kind
   pub fits : fits_kind kind s.outcome ≡ true
-  pub granted : s.grant ≡ (if makes_grant kind s.outcome || (is_upgraded s.outcome && won) then Some (record { first = s.first; agent = agent; line = line; owns = owns; shared = shared }) else None)
+  pub granted : s.grant
+      ≡ (if makes_grant kind s.outcome || (is_upgraded s.outcome && won)
+      then Some (record { first = s.first; agent = agent; line = line; owns = owns; shared = shared }) else None)
   pub owned : s.outcome ≡ Handed → is_some (owner_at (past_to p n) agent line n) ≡ true
 
 -- the snoop end grants the line to agent a

@@ -53,8 +53,8 @@ responds_on p line c =
 unfoldable pub hits_on : Past → ℕ → ℕ → List Event
 hits_on p line c = map access_event (filter (λ done. is_hit p done.agent c) (entries_on p line c))
 
--- what the request with this claim, which begins at c, is for the line: it begins there; or its agent drops the line, since
--- it is for another line of the cache set
+-- what the request with this claim, which begins at c, is for the line: it begins there; or its agent drops the line,
+-- since it is for another line of the cache set
 unfoldable pub begin_events : Past → ℕ → ℕ → Claim → List Event
 begin_events p line c claim =
     if nat_eq claim.line line
@@ -65,10 +65,14 @@ begin_events p line c claim =
 unfoldable pub begins_on : Past → ℕ → ℕ → List Event
 begins_on p line c = option_map_or (begin_events p line c) (begun_at p c) []
 
+-- the cancellation of a request with this claim, where it is on the line
+unfoldable pub cancel_events : ℕ → Claim → List Event
+cancel_events line claim = if nat_eq claim.line line then IsCancelled claim.agent ∷ [] else []
+
 -- the request on the line that is cancelled at c
 unfoldable pub cancels_on : Past → ℕ → ℕ → List Event
 cancels_on p line c =
-    option_map_or (λ claim. if nat_eq claim.line line then IsCancelled claim.agent ∷ [] else []) (option_and_then (begun_at p) (cancelled_in p c)) []
+    option_map_or (cancel_events line) (option_and_then (begun_at p) (cancelled_in p c)) []
 
 -- the snoop end of agent a's request of this kind, which is settled so
 unfoldable pub settled_events : Past → ℕ → ℕ → SnoopEnd → ℕ → Purpose → List Event
@@ -106,10 +110,15 @@ unfoldable pub awaiting_stores : Past → ℕ → ℕ → ℕ → List Done
 awaiting_stores p line c a =
     filter (λ done. nat_eq done.agent a && not (is_hit p a c) && not (is_load done.access)) (entries_on p line c)
 
+-- this end at c, where it was awaited on the line, with the stores that awaited it
+unfoldable pub awaited_events : Past → ℕ → ℕ → Awaited → List Event
+awaited_events p line c awaited =
+    if nat_eq awaited.line line then Ends (changes_of (awaiting_stores p line c awaited.agent)) ∷ [] else []
+
 -- the end at c of the live request that begins at q, where it was awaited on the line
 unfoldable pub end_events : Past → ℕ → ℕ → ℕ → List Event
 end_events p line c q =
-    option_map_or (λ awaited. if nat_eq awaited.line line then Ends (changes_of (awaiting_stores p line c awaited.agent)) ∷ [] else []) (awaited_at p c q) []
+    option_map_or (awaited_events p line c) (awaited_at p c q) []
 
 -- the ends of these live requests at c
 unfoldable pub events_of_ends : Past → ℕ → ℕ → List ℕ → List Event
@@ -135,10 +144,11 @@ others_on p line c = map access_event (filter (is_of_other_line p line c) (entri
 -- all events of the line at c, in order, where the past ends with c
 unfoldable pub events_of_clock : Past → ℕ → ℕ → List Event
 events_of_clock p line c =
-    responds_on p line c ++ hits_on p line c ++ begins_on p line c ++ cancels_on p line c ++ snoops_on p line c ++ ends_on p line c ++ others_on p line c
+    responds_on p line c ++ hits_on p line c ++ begins_on p line c ++ cancels_on p line c ++ snoops_on p line c
+    ++ ends_on p line c ++ others_on p line c
 
--- the events of the line at c: the response, the hits, the request that begins and the one that is cancelled, the snoop end,
--- the end, and the other lines of what arrives. Hits come before the snoop end: that one sees what they stored
+-- the events of the line at c: the response, the hits, the request that begins and the one that is cancelled, the snoop
+-- end, the end, and the other lines of what arrives. Hits come before the snoop end: that one sees what they stored
 unfoldable pub events_at : Past → ℕ → ℕ → List Event
 events_at p line c = events_of_clock (past_to p c) line c
 

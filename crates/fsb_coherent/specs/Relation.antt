@@ -37,8 +37,8 @@ is_dirty_through p a line n =
     is_exclusive p a line n
     && is_some_and (latest_grant p a line n) (λ grant. grant.owns || is_stored_below p a line (n + 1) grant.first)
 
--- this grant of the line to agent a makes it dirty there at n: it is a sole one, and it owns, or a store above its end is
--- logged below n
+-- this grant of the line to agent a makes it dirty there at n: it is a sole one, and it owns, or a store above its end
+-- is logged below n
 unfoldable pub is_dirtying : Past → ℕ → ℕ → ℕ → Grant → Bool
 is_dirtying p a line n grant = is_sole_grant grant && (grant.owns || is_stored_below p a line n grant.first)
 
@@ -54,8 +54,8 @@ is_snooped_below p n q = any_where (λ t. is_some_and (snooped_at p t) (is_snoop
 unfoldable pub is_responded_below : Past → ℕ → ℕ → Bool
 is_responded_below p n q = any_where (λ t. is_at (responded_in p t) q) n
 
--- agent a's request on the line is open at n: it began below n as what a wanted there, and was neither cancelled nor snooped
--- below n
+-- agent a's request on the line is open at n: it began below n as what a wanted there, and was neither cancelled nor
+-- snooped below n
 pub record IsOpen (p : Past) (a line n : ℕ) (request : OpenRequest) : Type 0 where
   pub before : request.number < n
   pub begun : begun_at p request.number ≡ Some (record { first = request.number; agent = a; line = line })
@@ -71,8 +71,8 @@ purpose_granted grant = if is_some_and grant (λ g. g.owns) then Own else Read
 unfoldable pub purpose_at : SnoopEnd → Purpose
 purpose_at s = option_map_or (λ kind. kind) (option_and_then purpose_of s.kind) (purpose_granted s.grant)
 
--- the agent that gives the bytes of a line that agent a awaits after this snoop end at t: the one that hands it over, and for
--- a write-back a itself; otherwise none
+-- the agent that gives the bytes of a line that agent a awaits after this snoop end at t: the one that hands it over,
+-- and for a write-back a itself; otherwise none
 unfoldable pub giver_at : Past → ℕ → ℕ → ℕ → SnoopEnd → Option ℕ
 giver_at p line t a s = elim s.outcome [
   | outcomes.Granted ↦ None
@@ -135,7 +135,8 @@ deferral_below p line n = elim (last_where (defers_line p line) n) [
   | Some t ↦ if any_where (from_clock (t + 1) (replies_line p line)) n then None else deferral_at p line t
 ]
 
--- the data that are awaited on the line after this snoop end are on the bus at n: its response is below n, and its end is not
+-- the data that are awaited on the line after this snoop end are on the bus at n: its response is below n, and its end
+-- is not
 unfoldable pub is_moved_for : Past → ℕ → ℕ → SnoopEnd → Bool
 is_moved_for p line n s =
     is_some_and (awaited_by s) (moves_on line) && is_responded_below p n s.first && not (is_ended p n s.first)
@@ -144,9 +145,9 @@ is_moved_for p line n s =
 unfoldable pub is_moved_below : Past → ℕ → ℕ → Bool
 is_moved_below p line n = any_where (λ t. is_some_and (snooped_at p t) (is_moved_for p line n)) n
 
--- the line of the machine is that of the run at clock n, the events of n left out. Its states are held, exclusive and dirty
--- as they are told by the run; its open requests, links and deferral are those of the run; and data are on the bus
--- where they are there
+-- the line of the machine is that of the run at clock n, the events of n left out. Its states are held, exclusive and
+-- dirty as they are told by the run; its open requests, links and deferral are those of the run; and data are on the
+-- bus where they are there
 pub record Tied (p : Past) (line n : ℕ) (x : MemoryLine) : Type 0 where
   pub held : (a : ℕ) → is_held (x.state a) ≡ holds_line p a line n
   pub sole : (a : ℕ) → is_sole (x.state a) ≡ is_exclusive p a line n

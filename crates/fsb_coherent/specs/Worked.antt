@@ -88,8 +88,9 @@ lost_by_3 = record {
 abbrev pub worked_store : Done
 worked_store = record { clock = 4; agent = 1; item = 0; part = 0; access = Store 1 0x40 (Literal 7); value = 7 }
 
--- agent 0 read the line, and agent 1 got it for itself and has its bytes; agent 2 asks to read it, and gets it at the clock at
--- which agent 1 stores; then agent 2 begins a request for another line of the cache set, and an upgrade of agent 3 has lost
+-- agent 0 read the line, and agent 1 got it for itself and has its bytes; agent 2 asks to read it, and gets it at the
+-- clock at which agent 1 stores; then agent 2 begins a request for another line of the cache set, and an upgrade of
+-- agent 3 has lost
 abbrev pub worked_past : Past
 worked_past = record {
   plan = worked_plan;
