@@ -13,6 +13,9 @@ pub mod DataMoves
 pub mod Listed
 pub mod OutstandingIds
 pub mod NewRequests
+pub mod RepliesBegun
+pub mod DuesStay
+pub mod WantsGoOn
 pub mod RequestLines
 pub mod SnoopResults
 pub mod LawfulWants

@@ -1,19 +1,16 @@
 -- Rule 8: who asks for the bus in a timely run goes on until it begins a request, and then stops.
-use Rattle.std.proofs.Common.{ℕ, zero, suc, ◌+◌, ◌-◌, ◌<◌, ◌≤◌, ◌≡◌, Bool, true, false, not, ◌&&◌, Option, Some, None, is_some, length, take, refl, sym, ap, ◌∙◌, arith, if◌then◌else◌}
+use Rattle.std.proofs.Common.{ℕ, zero, suc, ◌+◌, ◌-◌, ◌<◌, ◌≤◌, ◌≡◌, Bool, true, false, not, ◌&&◌, is_some, length, take, refl, sym, ap, ◌∙◌, arith, if◌then◌else◌}
 use Rattle.std.proofs.lemmas.Bool.{and_parts, le-leb, or_from}
 use Rattle.fsb_count.specs.Clocks.{each_where}
-use Rattle.fsb_count.specs.Options.{is_some_and}
 use Rattle.fsb_count.proofs.Interface.{any_where-off, each_where-at}
-use Rattle.fsb_encode.specs.declared.request.Request.{Request}
 use Rattle.fsb_signal.specs.declared.lines.TheConstants.Lines.{ADS, BPRI}
 use Rattle.fsb_signal.specs.declared.marks.Marks.{Marks}
 use Rattle.fsb_signal.specs.Samples.{line_at}
 use Rattle.fsb_trace.specs.declared.who.Who.{Who}
 use Rattle.fsb_trace.specs.declared.who.Who.TheVariants.{Symmetric, Priority}
-use Rattle.fsb_trace.specs.At.{Trace, line_back, request_at}
-use Rattle.fsb_trace.specs.Requests.{is_reply}
-use Rattle.fsb_trace.specs.Rules.{is_asked_wrongly, is_identified, is_own_id, is_some_asked_wrongly}
-use Rattle.fsb_trace.specs.Winner.{begins_at, bus_request_of, is_agent, is_same_agent, request_line_of, winner_at}
+use Rattle.fsb_trace.specs.At.{Trace, line_back}
+use Rattle.fsb_trace.specs.Rules.{is_asked_wrongly, is_some_asked_wrongly}
+use Rattle.fsb_trace.specs.Winner.{begins_at, bus_request_of, is_agent, request_line_of}
 use Rattle.fsb_trace.proofs.Interface.{breaks-8, winner_at-agree}
 use Rattle.fsb_timely.specs.Past.{Past}
 use Rattle.fsb_timely.specs.Runs.{Run, past_of, past_to, run_to}
@@ -22,10 +19,12 @@ use Rattle.fsb_timely.specs.Timely.{holds_in, holds_at, Timely}
 use Rattle.fsb_timely.specs.Wants.{want_of}
 use Rattle.fsb_lawful.specs.Beginning.{WantsLawfully}
 use Rattle.fsb_lawful.specs.Keeps.{Keeps}
-use Rattle.fsb_lawful.specs.Premises.{AsksOn}
+use Rattle.fsb_lawful.specs.Premises.{NoneOwesMore}
 use Rattle.fsb_lawful.proofs.Cuts.{line-to}
 use Rattle.fsb_lawful.proofs.CutRuns.{cuts-agree}
-use Rattle.fsb_lawful.proofs.Identity.{identified-at}
+use Rattle.fsb_lawful.proofs.DuesStay.{dues-stay}
+use Rattle.fsb_lawful.proofs.RepliesBegun.{reply-is}
+use Rattle.fsb_lawful.proofs.WantsGoOn.{wants-go-on}
 use Rattle.fsb_lawful.proofs.Keeping.{keeps, same-beq}
 
 -- what is on the request lines
@@ -91,7 +90,7 @@ asked-by : (a b : Bool) → (a && not b) ≡ true → a ≡ true
 asked-by true b e = refl
 asked-by false b e = absurd (let no : ⊥ = cc in no)
 
-symmetric : (r : Run) (d a : ℕ) → Timely r → AsksOn r → suc d < length r.trace → a < 4
+symmetric : (r : Run) (d a : ℕ) → Timely r → NoneOwesMore r → suc d < length r.trace → a < 4
     → is_asked_wrongly (run_to r (suc d)).trace (suc d) (Symmetric a) ≡ false
 unfolding request_line_of
 symmetric r d a h asks l few =
@@ -100,62 +99,20 @@ symmetric r d a h asks l few =
     let before = sym (line-to (bus_request_of a) r d (suc d) (omega arith) l) ∙ bus-at r d a h (omega arith) few in
     after-first v.trace d (Symmetric a)
     ∙ rightly (begins_at v.trace d (Symmetric a)) (is_some (want_of (past_to (past_of r) d) a d)) (is_some (want_of (past_to (past_of r) (suc d)) a (suc d))) (line_at (bus_request_of a) v.trace d) (line_at (bus_request_of a) v.trace (suc d)) now
-    (λ t. asked-by _ _ (sym before ∙ t)) (λ t f. asks.wants a d l t (sym (begins-to r d (suc d) (Symmetric a) (omega arith) l) ∙ f))
+    (λ t. asked-by _ _ (sym before ∙ t)) (λ t f. wants-go-on r a d h asks l t (sym (begins-to r d (suc d) (Symmetric a) (omega arith) l) ∙ f))
 
--- the priority agent begins replies, and no other agent does
-reply-priority : (o : Option Who) (q : Option Request) (b : Bool) → is_identified o q ≡ true → is_reply q ≡ b
-    → is_agent o Priority ≡ b
-unfolding is_identified is_agent is_some_and is_same_agent is_own_id
-reply-priority o q true e f = rw (is_identified, f) at e
-reply-priority o q false e f = other o q (rw (is_identified, f) at e)
-  where
-    named : (o : Option Who) (x : Request) → is_own_id o x ≡ true → is_agent o Priority ≡ false
-    named None x e = refl
-    named (Some (Symmetric a)) x e = refl
-    named (Some Priority) x e = absurd (let no : ⊥ = cc in no)
-
-    other : (o : Option Who) (q : Option Request) → is_some_and q (is_own_id o) ≡ true → is_agent o Priority ≡ false
-    other o None e = absurd (let no : ⊥ = cc in no)
-    other o (Some x) e = named o x e
-
-reply-by : (w : Trace) (d : ℕ) (b : Bool) → line_at ADS w d ≡ b
-    → (b ≡ true → is_agent (winner_at w d) Priority ≡ is_reply (request_at w d))
-    → (line_at ADS w d && is_reply (request_at w d)) ≡ (line_at ADS w d && is_agent (winner_at w d) Priority)
-reply-by w d true e f = rw e (sym (f refl))
-reply-by w d false e f = rw e refl
-
-back-one : (w : Trace) (d : ℕ) → line_back ADS w (suc d) 1 ≡ line_at ADS w d
-unfolding line_back
-back-one w d = let one : suc d - 1 ≡ d = omega arith in rw (one, le-leb 1 (suc d) (omega arith)) refl
-
-reply-before : (v : Run) (d : ℕ)
-    → reply_before v (suc d) ≡ (line_at ADS v.trace d && is_reply (request_at v.trace d))
-unfolding reply_before
-reply-before v d =
-    let one : suc d - 1 ≡ d = omega arith in
-    ap (λ b. b && is_reply (request_at v.trace (suc d - 1))) (back-one v.trace d) ∙ ap (λ k. line_at ADS v.trace d && is_reply (request_at v.trace k)) one
-
--- a reply began at the clock before exactly where the priority agent did
-reply-is : (r : Run) (d : ℕ) → Timely r → WantsLawfully r → r.plan.ahead ≤ 4 → suc d < length r.trace
-    → reply_before (run_to r (suc d)) (suc d) ≡ begins_at (run_to r (suc d)).trace d Priority
-unfolding begins_at
-reply-is r d h wants few l =
-    let v = run_to r (suc d) in
-    reply-before v d
-    ∙ reply-by v.trace d (line_at ADS v.trace d) refl (λ t. reply-priority (winner_at v.trace d) (request_at v.trace d) (is_reply (request_at v.trace d)) (identified-at r d h few wants l (back-one v.trace d ∙ t)) refl)
-
-priority : (r : Run) (d : ℕ) → Timely r → WantsLawfully r → AsksOn r → r.plan.ahead ≤ 4 → suc d < length r.trace
+priority : (r : Run) (d : ℕ) → Timely r → WantsLawfully r → r.plan.ahead ≤ 4 → suc d < length r.trace
     → is_asked_wrongly (run_to r (suc d)).trace (suc d) Priority ≡ false
 unfolding request_line_of
-priority r d h wants asks few l =
+priority r d h wants few l =
     let v = run_to r (suc d) in
     let now = priority-at r (suc d) h l ∙ ap (λ b. is_some (due_number v (past_to (past_of r) (suc d)) (suc d)) && not b) (reply-is r d h wants few l) in
     let before = sym (line-to BPRI r d (suc d) (omega arith) l) ∙ priority-at r d h (omega arith) in
     after-first v.trace d Priority
     ∙ rightly (begins_at v.trace d Priority) (is_some (due_number (run_to r d) (past_to (past_of r) d) d)) (is_some (due_number v (past_to (past_of r) (suc d)) (suc d))) (line_at BPRI v.trace d) (line_at BPRI v.trace (suc d)) now
-    (λ t. asked-by _ _ (sym before ∙ t)) (λ t f. asks.dues d l t (sym (begins-to r d (suc d) Priority (omega arith) l) ∙ f))
+    (λ t. asked-by _ _ (sym before ∙ t)) (λ t f. dues-stay r d h wants few l t f)
 
-at-clock : (r : Run) (c : ℕ) → Timely r → WantsLawfully r → AsksOn r → r.plan.ahead ≤ 4 → c < length r.trace
+at-clock : (r : Run) (c : ℕ) → Timely r → WantsLawfully r → NoneOwesMore r → r.plan.ahead ≤ 4 → c < length r.trace
     → is_some_asked_wrongly (run_to r c).trace c ≡ false
 unfolding is_some_asked_wrongly
 at-clock r zero h wants asks few l =
@@ -163,9 +120,9 @@ at-clock r zero h wants asks few l =
     or_from _ _ (any_where-off (λ a. is_asked_wrongly v zero (Symmetric a)) 4 (λ a k. at-first v (Symmetric a))) (at-first v Priority)
 at-clock r (suc d) h wants asks few l =
     let v = (run_to r (suc d)).trace in
-    or_from _ _ (any_where-off (λ a. is_asked_wrongly v (suc d) (Symmetric a)) 4 (λ a k. symmetric r d a h asks l k)) (priority r d h wants asks few l)
+    or_from _ _ (any_where-off (λ a. is_asked_wrongly v (suc d) (Symmetric a)) 4 (λ a k. symmetric r d a h asks l k)) (priority r d h wants few l)
 
 -- rule 8
-pub keeps-8 : (m : Marks) (r : Run) → Timely r → WantsLawfully r → AsksOn r → r.plan.ahead ≤ 4 → Keeps m 8 r.trace
+pub keeps-8 : (m : Marks) (r : Run) → Timely r → WantsLawfully r → NoneOwesMore r → r.plan.ahead ≤ 4 → Keeps m 8 r.trace
 unfolding run_to
 keeps-8 m r h wants asks few = keeps m 8 r.trace (λ c l. breaks-8 m (take (c + 1) r.trace) c ∙ at-clock r c h wants asks few l)

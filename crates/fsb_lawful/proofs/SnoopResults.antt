@@ -1,9 +1,9 @@
 -- Rule 12: at the snoop end of a write-back or a reply of a timely run there is nothing to be told.
-use Rattle.std.proofs.Common.{ℕ, ◌+◌, ◌<◌, ◌≡◌, Bool, true, false, not, ◌&&◌, ◌||◌, Some, length, take, refl, ap, ◌∙◌, arith}
+use Rattle.std.proofs.Common.{nat_eq, Option, None, sym, ℕ, ◌+◌, ◌<◌, ◌≡◌, Bool, true, false, not, ◌&&◌, ◌||◌, Some, length, take, refl, ap, ◌∙◌, arith}
 use Rattle.std.proofs.lemmas.Bool.{and_parts, and_left, and_right}
 use Rattle.std.specs.Bool.{beq}
 use Rattle.fsb_count.specs.Options.{is_at, is_some_and}
-use Rattle.fsb_count.proofs.Interface.{any_where-off, is_at-some}
+use Rattle.fsb_count.proofs.Interface.{any_where-none, any_where-off, is_at-some}
 use Rattle.fsb_encode.specs.declared.request.Kind.{Kind}
 use Rattle.fsb_encode.specs.declared.request.Kind.TheVariants.{Reply, Invalidate, Read, WriteBack, Upgrade}
 use Rattle.fsb_encode.specs.declared.request.Request.{Request}
@@ -15,10 +15,11 @@ use Rattle.fsb_trace.specs.Requests.{is_reply, is_reply_kind, is_write_back, is_
 use Rattle.fsb_trace.specs.Rules.{is_result_unfit_for, is_snoop_result_unfit}
 use Rattle.fsb_trace.specs.Snoop.{snoop_end_of}
 use Rattle.fsb_trace.proofs.Interface.{breaks-12}
-use Rattle.fsb_timely.specs.Grants.{snooped_at}
-use Rattle.fsb_timely.specs.Past.{Past, SnoopEnd}
+use Rattle.fsb_timely.specs.Grants.{holds_line, is_exclusive, snooped_at}
+use Rattle.fsb_timely.specs.Hits.{is_dirty}
+use Rattle.fsb_timely.specs.Past.{Claim, Past, SnoopEnd}
 use Rattle.fsb_timely.specs.Runs.{Run, past_of, past_to, run_to}
-use Rattle.fsb_timely.specs.Snoops.{has_right_result, has_snoop_result, is_dirty_for, is_held_for, is_keep, is_reply_end, was_hit_before}
+use Rattle.fsb_timely.specs.Snoops.{has_right_result, has_snoop_result, is_dirty_elsewhere, is_dirty_for, is_held_elsewhere, is_held_for, is_keep, is_reply_end, was_hit_before}
 use Rattle.fsb_timely.specs.Timely.{holds_in, holds_at, Timely}
 use Rattle.fsb_lawful.specs.Beginning.{WantsLawfully}
 use Rattle.fsb_lawful.specs.Keeps.{Keeps}
@@ -74,6 +75,27 @@ alone-clean r p c s e k dirty held =
     let a = at-other r p c s e (reply-end s WriteBack k) in
     (a.0 ∙ dirty, a.1 ∙ ap (λ b. not (is_dirty_for p c s) && b) held ∙ and_right _ _ refl)
 
+-- who is dirty on a line holds it
+dirty-holds : (p : Past) (a line c : ℕ) → is_dirty p a line c ≡ true → holds_line p a line c ≡ true
+unfolding is_dirty is_exclusive
+dirty-holds p a line c e =
+    (and_parts (holds_line p a line c) _ (and_parts (holds_line p a line c && _) _ (and_parts (is_exclusive p a line c) _ e).0).0).0
+
+not-dirty : (p : Past) (a line c : ℕ) → is_held_elsewhere p a line c ≡ false → is_dirty_elsewhere p a line c ≡ false
+unfolding is_held_elsewhere is_dirty_elsewhere
+not-dirty p a line c e =
+    any_where-off (λ b. not (nat_eq b a) && is_dirty p b line c) 4 (λ b l. neither (not (nat_eq b a)) (holds_line p b line c) (is_dirty p b line c) (any_where-none (λ b. not (nat_eq b a) && holds_line p b line c) 4 e b l) (dirty-holds p b line c))
+  where
+    neither : (other held dirty : Bool) → (other && held) ≡ false → (dirty ≡ true → held ≡ true) → (other && dirty) ≡ false
+    neither false held dirty f g = refl
+    neither true held false f g = refl
+    neither true held true f g = sym (g refl) ∙ f
+
+clean-for : (p : Past) (c : ℕ) (s : SnoopEnd) (o : Option Claim) → s.claim ≡ o → is_held_for p c s ≡ false → is_dirty_for p c s ≡ false
+unfolding is_held_for is_dirty_for is_some_and
+clean-for p c s None e h = rw e refl
+clean-for p c s (Some claim) e h = rw e (not-dirty p claim.agent claim.line c (rw e at h))
+
 -- what the rule asks of a request of this kind
 unfit-by : (kind : Kind) (hit hitm defer : Bool) → (is_never_held_up kind ≡ true → defer ≡ false)
     → (kind ≡ Reply → hitm ≡ false) → (kind ≡ WriteBack → (hitm ≡ false) × (hit ≡ false))
@@ -108,7 +130,7 @@ ended r c i h wants alone l e =
     (λ t. kept-quiet r c i k q.0 q.1 t)
     (λ t. reply-clean (run_to r c) (past_to (past_of r) c) c k.end right (kind-is r c i k q.0 Reply q.1 t))
     (λ t. let w = kind-is r c i k q.0 WriteBack q.1 t in
-    alone-clean (run_to r c) (past_to (past_of r) c) c k.end right w (alone.clean c k.end k.there (rw w refl)) (alone.alone c k.end k.there (rw w refl))))
+    alone-clean (run_to r c) (past_to (past_of r) c) c k.end right w (clean-for (past_to (past_of r) c) c k.end k.end.claim refl (alone.alone c k.end k.there (rw w refl))) (alone.alone c k.end k.there (rw w refl))))
 
 unfit : (r : Run) (c i : ℕ) → Timely r → WantsLawfully r → WritesBackAlone r → c < length r.trace → (b : Bool)
     → is_at (snoop_end_of (run_to r c).trace i) c ≡ b → is_result_unfit_for (run_to r c).trace c i ≡ false

@@ -65,6 +65,7 @@ pub record Turned (r : Run) (c i s : ℕ) : Type 0 where
   pub end : SnoopEnd
   pub there : snooped_at (past_of r) s ≡ Some end
   pub settled : settled_of (run_to r c) (past_of (run_to r c)) i ≡ Some (settled_by (run_to r c).trace (number_of_turn end.turn) i s)
+  pub number : slice_index (turns_in (past_of (run_to r c)).moments) i ≡ number_of_turn end.turn
   pub outcome : settled_of (run_to r c) (past_of (run_to r c)) i ≡ Some end.outcome
   pub defers : line_at DEFER (run_to r c).trace s ≡ not (is_keep end.turn)
   pub kind : (request : Request) → live_request_of (run_to r c).trace i ≡ Some request → end.kind ≡ Some request.kind
@@ -128,6 +129,7 @@ turned-at r c i s h l e =
       end = snoop_of r s i q;
       there = there;
       settled = settled-by (run_to r c) i s (snoop_of r s i q) tied;
+      number = tied.turn;
       outcome = tied.outcome;
       defers = defers-at r c s (snoop_of r s i q) h (omega arith) l there;
       kind = λ request f. tied.kind ∙ ap (option_map (λ x. x.kind)) (request-there v i _ request tied.first f);

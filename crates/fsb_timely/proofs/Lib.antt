@@ -19,6 +19,9 @@ pub mod TiedGrants
 pub mod TiedMoments
 pub mod Wanted
 pub mod Items
+pub mod MomentFields
+pub mod WantedRequests
+pub mod MemoryStays
 pub mod WholePast
 pub mod StayingWants
 pub mod WindowSteps

@@ -1,19 +1,22 @@
 //! Laws over the definitions: no code.
 
-ghost use Rattle.std.specs.Prelude.{◌≡◌, ◌↔◌, ◌<◌, ◌≤◌, ◌+◌, ◌&&◌, ◌||◌, ℕ, List, false, not, Some, length, if◌then◌else◌, IsTrue};
+ghost use Rattle.std.specs.Prelude.{◌≡◌, ◌↔◌, ◌<◌, ◌≤◌, ◌+◌, ◌&&◌, ◌||◌, ℕ, List, false, not, None, Some, length, slice_get, if◌then◌else◌, IsTrue};
+ghost use Rattle.std.specs.Option.{option_and_then};
 ghost use Rattle.fsb_count.specs.Options.{is_some_and};
 ghost use Rattle.fsb_encode.specs.declared.request.Request.{Request};
 ghost use Rattle.fsb_hazard.specs.declared.choice.Ask.TheVariants.{Begun};
 ghost use Rattle.fsb_hazard.specs.declared.line.HazardLine.{HazardLine};
 ghost use Rattle.fsb_hazard.specs.Entry.{entry};
-ghost use Rattle.fsb_signal.specs.Samples.{is_known_trace};
+ghost use Rattle.fsb_signal.specs.declared.lines.TheConstants.Lines.{ADS};
+ghost use Rattle.fsb_signal.specs.Samples.{is_known_trace, line_at};
 ghost use Rattle.fsb_trace.specs.At.{Trace};
 ghost use Rattle.fsb_trace.specs.Snoop.{snoop_end_of};
 ghost use Rattle.fsb_trace.specs.Flight.{is_outstanding};
 ghost use Rattle.fsb_timely.specs.Past.{SnoopEnd, Past};
 ghost use Rattle.fsb_timely.specs.Tied.{IsSnoopOf};
 ghost use Rattle.fsb_timely.specs.Runs.{Run, run_to, past_of, past_to};
-ghost use Rattle.fsb_timely.specs.Grants.{snooped_at, is_end_at, is_ended, grant_at, is_granted, is_lost, holds_line, IsHeldSince, latest_grant, is_ready, is_named_by_other, is_sole_grant, is_exclusive};
+ghost use Rattle.fsb_timely.specs.Moments.{cancelled_at, claim_at};
+ghost use Rattle.fsb_timely.specs.Grants.{begun_at, snooped_at, is_end_at, is_ended, grant_at, is_granted, is_lost, holds_line, IsHeldSince, latest_grant, is_ready, is_named_by_other, is_sole_grant, is_exclusive};
 ghost use Rattle.fsb_timely.specs.Completions.{is_arrival, is_brought};
 ghost use Rattle.fsb_timely.specs.Scripts.{Need, completes_at, is_logged_at, is_logged, next_number, next_item, is_idling, window};
 ghost use Rattle.fsb_timely.specs.Hits.{is_hit, is_dirty};
@@ -49,6 +52,14 @@ pub fn parts_are_tested()
 pub fn moments_have_the_snoop_ends()
     ensures reached { (r : Run) (i t : ℕ) → snoop_end_of r.trace i ≡ Some t → (s : SnoopEnd) × IsSnoopOf r i t s }
     ensures told { (r : Run) (t : ℕ) (s : SnoopEnd) → snooped_at (past_of r) t ≡ Some s → (i : ℕ) × IsSnoopOf r i t s }
+{}
+
+/// The moment of a clock has the request that begins there, and the one that AERR# cancels there, as the whole trace says.
+pub fn moments_have_the_beginnings()
+    ensures begun { (r : Run) (t : ℕ) → t < length r.trace
+        → begun_at (past_of r) t ≡ (if line_at ADS r.trace t then claim_at r.trace t else None) }
+    ensures cancelled { (r : Run) (t : ℕ) → t < length r.trace
+        → option_and_then (λ moment. moment.cancelled) (slice_get (past_of r).moments t) ≡ cancelled_at r.trace t }
 {}
 
 /// An agent holds a line exactly where the line was granted to it and it did not lose it since.

@@ -3,14 +3,20 @@
 ghost use Rattle.std.specs.Prelude.{◌≡◌, ◌<◌, ◌≤◌, ◌⊎◌, ◌+◌, ◌&&◌, ◌||◌, ℕ, Some, true, false, not, length, if◌then◌else◌};
 ghost use Rattle.fsb_count.specs.Options.{is_some_and};
 ghost use Rattle.fsb_encode.specs.declared.request.Request.{Request};
+ghost use Rattle.fsb_signal.specs.declared.lines.TheConstants.Lines.{ADS};
+ghost use Rattle.fsb_signal.specs.Samples.{line_at};
+ghost use Rattle.fsb_trace.specs.declared.who.Who.{Who};
+ghost use Rattle.fsb_trace.specs.Winner.{winner_at};
 ghost use Rattle.fsb_timely.specs.BusLock.{is_locked_request, is_release, keeps_lock};
+ghost use Rattle.fsb_timely.specs.Carried.{memory_below};
 ghost use Rattle.fsb_timely.specs.Completions.{is_arrival};
 ghost use Rattle.fsb_timely.specs.Grants.{grant_at, is_end_at, is_ended, is_granted, is_ready, latest_grant};
 ghost use Rattle.fsb_timely.specs.Growth.{IsNext, IsWhole};
 ghost use Rattle.fsb_timely.specs.Hits.{is_hit};
 ghost use Rattle.fsb_timely.specs.Past.{Past};
-ghost use Rattle.fsb_timely.specs.Runs.{Run, past_of};
+ghost use Rattle.fsb_timely.specs.Runs.{Run, run_to, past_of, past_to};
 ghost use Rattle.fsb_timely.specs.Scripts.{completes_at, is_logged, is_logged_at, next_number};
+ghost use Rattle.fsb_timely.specs.Starts.{would_begin};
 ghost use Rattle.fsb_timely.specs.Staying.{CompletesNext, OwesNoMore};
 ghost use Rattle.fsb_timely.specs.Timely.{Timely};
 ghost use Rattle.fsb_timely.specs.Wants.{want_of};
@@ -47,6 +53,20 @@ pub fn entries_are_of_next_items()
         × ((is_hit (past_of r) a c ≡ true) ⊎ (is_arrival (past_of r) a c ≡ true)) }
     ensures behind { (r : Run) (a c n m : ℕ) → Timely r → c ≤ length r.trace
         → next_number (past_of r) a c ≡ Some n → n < m → is_logged (past_of r) a c m ≡ false }
+{}
+
+/// Where a request begins in a timely run there is a winner, and it has something to begin: a symmetric agent its want, the
+/// priority agent the reply to a request that is due.
+pub fn requests_are_wanted()
+    ensures { (r : Run) (c : ℕ) → Timely r → c < length r.trace → line_at ADS r.trace c ≡ true
+        → (who : Who) × (winner_at (run_to r c).trace c ≡ Some who)
+        × (request : Request) × (would_begin (run_to r c) (past_to (past_of r) c) c who ≡ Some request) }
+{}
+
+/// The bytes that the replay of the entries below a clock leaves stay as they are, as a run goes on from that clock or a
+/// later one: so do those that memory is to have at a response.
+pub fn earlier_bytes_stay()
+    ensures { (r s : Run) (t : ℕ) → IsNext r s → t ≤ length r.trace → memory_below s t ≡ memory_below r t }
 {}
 
 /// A line is ready for an agent one clock further where the request that granted it last has ended, or ends at this clock.

@@ -6,6 +6,7 @@ ghost use Rattle.vcd_read.specs.Scanning.{reading, unread, after_bytes, samples_
 
 use crate::digits::{LONGEST, is_white};
 use crate::direct::stamp_in;
+use crate::lanes::{LANES, dark_run};
 use crate::machine::Machine;
 use fsb_signal::Sample;
 use std::alloc::{AllocError, Global};
@@ -233,14 +234,33 @@ impl Scan {
 }
 
 /// How many bytes stand before the first white space.
-#[tactic(auto, using(std::proofs::lemmas::List::Folds::list_all_more))]
 fn span_len(bytes: &[u8]) -> usize
     ensures within { result ≤ length bytes.now }
     ensures dark { list_all is_dark (take result bytes.now) ≡ true }
     ensures white { result < length bytes.now → is_white (slice_index bytes.now result) ≡ true }
 {
-    for (i, byte) in bytes.iter().enumerate() {
-        if is_white(*byte) {
+    let mut at = 0;
+    while LANES <= bytes.len() - at {
+        let run = dark_run(bytes, at);
+        if run < LANES {
+            return at + run;
+        }
+        at += LANES;
+    }
+    span_len_from(bytes, at)
+}
+
+/// How many bytes stand before the first white space, where so many were seen to.
+#[tactic(auto, using(std::proofs::lemmas::List::Folds::list_all_more))]
+fn span_len_from(bytes: &[u8], at: usize) -> usize
+    requires seen { at ≤ length bytes.now }
+    requires dark { list_all is_dark (take at bytes.now) ≡ true }
+    ensures within { result ≤ length bytes.now }
+    ensures dark { list_all is_dark (take result bytes.now) ≡ true }
+    ensures white { result < length bytes.now → is_white (slice_index bytes.now result) ≡ true }
+{
+    for i in at..bytes.len() {
+        if is_white(bytes[i]) {
             return i;
         }
     }
