@@ -7,7 +7,7 @@ use Rattle.fsb_count.proofs.Interface.{nat_lt-more}
 use Rattle.fsb_timely.specs.Past.{Grant, Past}
 use Rattle.fsb_timely.specs.Grants.{grant_at, is_ended, is_exclusive, is_granted, is_lost, is_named_by_other, is_sole_grant, latest_grant}
 use Rattle.fsb_timely.specs.Hits.{is_counted, is_dirty, is_hit, is_store_on, is_stored_since}
-use Rattle.fsb_timely.proofs.Interface.{is_exclusive-more, latest_grant-more}
+use Rattle.fsb_timely.proofs.Holding.{is_exclusive-more, latest_grant-more}
 use Rattle.fsb_coherent.specs.Relation.{is_dirty_below, is_dirty_through, is_dirtying, is_stored_below}
 
 with-hit : (x y b : Bool) → b ≡ true → (x || (y && b)) ≡ (x || y)

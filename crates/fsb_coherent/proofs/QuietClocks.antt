@@ -14,7 +14,7 @@ use Rattle.fsb_timely.specs.Past.{Past}
 use Rattle.fsb_timely.specs.Grants.{begun_at, ended_requests, grant_at, holds_line, is_end_at, is_ended, is_evicted, is_exclusive, is_granted, is_lost, is_named_by_other, is_sole_grant, is_taken_away, is_written_back, latest_grant, snooped_at}
 use Rattle.fsb_timely.specs.Hits.{is_store_on}
 use Rattle.fsb_timely.specs.Runs.{entries_to, past_to}
-use Rattle.fsb_timely.proofs.Interface.{holds_line-more, is_ended-more, is_exclusive-more, latest_grant-more}
+use Rattle.fsb_timely.proofs.Holding.{holds_line-more, is_ended-more, is_exclusive-more, latest_grant-more}
 use Rattle.fsb_coherent.specs.Awaits.{cancelled_in, responded_in}
 use Rattle.fsb_coherent.specs.LineEvents.{begins_on, cancels_on, ends_on, entries_on, events_at, events_of_clock, events_of_ends, hits_on, others_on, responds_on, snoops_on}
 use Rattle.fsb_coherent.specs.KeepsTie.{KeepsTie}

@@ -5,7 +5,7 @@ pub mod ParityByDigits
 pub mod AskedLines
 mod LoadThenStoreHit
 mod TwoAgentsOverlap
-pub mod StoreHandedOverBeforeArrival
+mod StoreHandedOverBeforeArrival
 mod RunCutBeforeArrival10
 mod RunCutBeforeArrival12
 mod ThreeStoresChained
@@ -16,7 +16,7 @@ mod RetriedLoad
 mod StalledSnoop
 mod CancelledByAddressError
 mod BlockNextRequest
-pub mod DeferredAndReplied
+mod DeferredAndReplied
 mod LockedIncrements
 mod LockedItemRetried
 mod WriteBackHeldOff
@@ -60,15 +60,15 @@ mod ChangedResponses
 mod ChangedStarts
 mod ChangedAsking
 mod UpgradeOfASharedLine
-pub mod UpgradeLostAndHanded
+mod UpgradeLostAndHanded
 mod UpgradeLostAndMadeAgain
 mod ParityOfALoad
 mod CancelledUpgrade
 mod LockedUpgrade
 mod RetriedUpgrade
 mod DeferredWithUpgrades
-pub mod StoreAtSnoopEnd
-pub mod DropAtSnoopEnd
+mod StoreAtSnoopEnd
+mod DropAtSnoopEnd
 mod Mixed00
 mod Mixed01
 mod Mixed02
@@ -98,4 +98,3 @@ mod Mixed25
 mod Mixed26
 mod Mixed27
 mod BrokenRules
-pub mod Interface

@@ -1,4 +1,0 @@
-pub mod Dated
-mod HandedOverBeforeArrival
-mod DeferredWithReply
-mod LostUpgradeHanded
