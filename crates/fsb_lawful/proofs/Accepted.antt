@@ -11,7 +11,7 @@ use Rattle.fsb_timely.specs.Runs.{Run}
 use Rattle.fsb_timely.specs.Timely.{Timely}
 use Rattle.fsb_lawful.specs.Beginning.{KeepsBounds}
 use Rattle.fsb_lawful.specs.Keeps.{Keeps}
-use Rattle.fsb_lawful.specs.Premises.{NoneOwesMore, WritesBackAlone}
+use Rattle.fsb_lawful.specs.Premises.{GrantsAreOwed, WritesBackAlone}
 use Rattle.fsb_lawful.proofs.AddressErrors.{keeps-10}
 use Rattle.fsb_lawful.proofs.Answers.{keeps-13, keeps-15}
 use Rattle.fsb_lawful.proofs.Beginnings.{keeps-2, keeps-4, keeps-5, keeps-6}
@@ -36,7 +36,7 @@ none-below : (m : Marks) (w : Trace) (j : ℕ) → j < 0 → Keeps m j w
 none-below m w j l = absurd (omega arith)
 
 -- each rule is kept
-each-rule : (r : Run) → Timely r → KeepsBounds r.plan → NoneOwesMore r → WritesBackAlone r → (j : ℕ) → j < 21
+each-rule : (r : Run) → Timely r → KeepsBounds r.plan → GrantsAreOwed r → WritesBackAlone r → (j : ℕ) → j < 21
     → Keeps (marks_in r.plan.profile) j r.trace
 each-rule r h bounds asks alone =
     let m : Marks = marks_in r.plan.profile in
@@ -76,11 +76,11 @@ unfolding verdict
 accepted-by m w h = rw (first_where-off (is_foul m w) (length w) (λ c l. h c)) refl
 
 -- no rule is broken at a clock of the run
-pub each-clock : (r : Run) → Timely r → KeepsBounds r.plan → NoneOwesMore r → WritesBackAlone r → (c : ℕ)
+pub each-clock : (r : Run) → Timely r → KeepsBounds r.plan → GrantsAreOwed r → WritesBackAlone r → (c : ℕ)
     → is_foul (marks_in r.plan.profile) r.trace c ≡ false
 each-clock r h bounds asks alone c = clean (marks_in r.plan.profile) r.trace c (each-rule r h bounds asks alone)
 
 -- the run is accepted
-pub accepted : (r : Run) → Timely r → KeepsBounds r.plan → NoneOwesMore r → WritesBackAlone r
+pub accepted : (r : Run) → Timely r → KeepsBounds r.plan → GrantsAreOwed r → WritesBackAlone r
     → verdict (marks_in r.plan.profile) r.trace ≡ None
 accepted r h bounds asks alone = accepted-by (marks_in r.plan.profile) r.trace (each-clock r h bounds asks alone)

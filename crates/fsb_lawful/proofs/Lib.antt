@@ -15,6 +15,7 @@ pub mod OutstandingIds
 pub mod NewRequests
 pub mod RepliesBegun
 pub mod DuesStay
+pub mod OwesLess
 pub mod WantsGoOn
 pub mod RequestLines
 pub mod SnoopResults

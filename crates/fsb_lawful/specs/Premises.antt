@@ -1,20 +1,22 @@
 -- What the last two rules rest on beside the parts of a timely run.
-use Rattle.std.specs.Prelude.{◌≡◌, ◌<◌, ℕ, suc, false, IsTrue, length, Some}
+use Rattle.std.specs.Prelude.{◌≡◌, ◌<◌, ℕ, false, IsTrue, length, Some}
 use Rattle.fsb_count.specs.Options.{is_some_and}
-use Rattle.fsb_trace.specs.declared.who.Who.TheVariants.{Symmetric}
 use Rattle.fsb_trace.specs.Requests.{is_write_back_kind}
-use Rattle.fsb_trace.specs.Winner.{begins_at}
-use Rattle.fsb_timely.specs.Grants.{snooped_at}
+use Rattle.fsb_timely.specs.Completions.{is_brought}
+use Rattle.fsb_timely.specs.Grants.{is_granted, snooped_at}
 use Rattle.fsb_timely.specs.Past.{SnoopEnd}
-use Rattle.fsb_timely.specs.Runs.{Run, run_to, past_of, past_to}
+use Rattle.fsb_timely.specs.Runs.{Run, past_of, past_to}
+use Rattle.fsb_timely.specs.Scripts.{Need}
 use Rattle.fsb_timely.specs.Snoops.{is_held_for}
-use Rattle.fsb_timely.specs.Staying.{OwesNoMore}
+use Rattle.fsb_timely.specs.Wants.{is_asked_for, owed}
 
--- who begins nothing owes no more: where a symmetric agent begins no request its outstanding requests of the next clock are
--- some of those of this one, and a line is granted to it, or comes with the end of its grant, only where one of them is for it
-pub record NoneOwesMore (r : Run) : Type 0 where
-  pub owes : (a c : ℕ) → suc c < length r.trace → begins_at (run_to r c).trace c (Symmetric a) ≡ false
-      → OwesNoMore (past_of r) a c
+-- what an agent gets it has asked for: where a line is granted to it, or comes with the end of its grant, one of its
+-- outstanding requests is for the line
+pub record GrantsAreOwed (r : Run) : Type 0 where
+  pub granted : (a c line : ℕ) → c < length r.trace → IsTrue (is_granted (past_of r) a line c)
+      → IsTrue (is_asked_for (owed (past_of r) a c) line)
+  pub brought : (a c : ℕ) (need : Need) → c < length r.trace → IsTrue (is_brought (past_of r) a c need)
+      → IsTrue (is_asked_for (owed (past_of r) a c) need.line)
 
 -- at the snoop end of a write-back no other agent holds its line
 pub record WritesBackAlone (r : Run) : Type 0 where

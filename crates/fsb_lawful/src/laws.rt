@@ -8,7 +8,7 @@ ghost use Rattle.fsb_timely.specs.Runs.{Run};
 ghost use Rattle.fsb_timely.specs.Timely.{Timely};
 ghost use Rattle.fsb_lawful.specs.Beginning.{KeepsBounds, WantsLawfully};
 ghost use Rattle.fsb_lawful.specs.Keeps.{Keeps};
-ghost use Rattle.fsb_lawful.specs.Premises.{NoneOwesMore, WritesBackAlone};
+ghost use Rattle.fsb_lawful.specs.Premises.{GrantsAreOwed, WritesBackAlone};
 
 /// In a timely run no control line is unknown, and no bit of its data (rules 1 and 17).
 pub fn words_are_known()
@@ -34,7 +34,8 @@ pub fn codes_are_lawful()
 /// Where each request that a winner would begin is lawful, and an agent has 4 requests outstanding at most, a request of a
 /// timely run is identified by its winner: a reply by the priority agent, any other by an ID of its agent (rule 7).
 pub fn requests_are_identified()
-    ensures { (m : Marks) (r : Run) → Timely r → r.plan.ahead ≤ 4 → WantsLawfully r → Keeps m 7 r.trace }
+    ensures { (m : Marks) (r : Run) → Timely r → r.plan.ahead ≤ 4 → WantsLawfully r →
+        Keeps m 7 r.trace }
 {}
 
 /// In a timely run an address error comes three clocks behind a request (rule 10).
@@ -63,16 +64,18 @@ pub fn wants_are_lawful()
     ensures { (r : Run) → KeepsBounds r.plan → WantsLawfully r }
 {}
 
-/// A timely run in which an agent that begins nothing owes no more asks as it must: its want stays until its request begins,
+/// A timely run in which an agent gets what it has asked for alone asks as it must: its want stays until its request begins,
 /// so its request line does, and is released then (rule 8).
 pub fn request_lines_are_held()
-    ensures { (m : Marks) (r : Run) → Timely r → WantsLawfully r → NoneOwesMore r → r.plan.ahead ≤ 4 → Keeps m 8 r.trace }
+    ensures { (m : Marks) (r : Run) → Timely r → WantsLawfully r → GrantsAreOwed r →
+        r.plan.ahead ≤ 4 → Keeps m 8 r.trace }
 {}
 
 /// In a timely run in which an agent that writes back has its line alone, nothing is told at the snoop end of a write-back
 /// or a reply (rule 12).
 pub fn snoop_results_fit()
-    ensures { (m : Marks) (r : Run) → Timely r → WantsLawfully r → WritesBackAlone r → Keeps m 12 r.trace }
+    ensures { (m : Marks) (r : Run) → Timely r → WantsLawfully r → WritesBackAlone r →
+        Keeps m 12 r.trace }
 {}
 
 /// In a timely run a response comes two clocks after its snoop end at least, and after the end before; TRDY# comes once for
@@ -97,13 +100,15 @@ pub fn data_follow_responses()
 /// In a timely run a reply answers a request that awaits it, and any other request has an ID that none of the outstanding
 /// ones has, of which its agent has fewer than 4 (rule 18).
 pub fn outstanding_requests_are_few()
-    ensures { (m : Marks) (r : Run) → Timely r → WantsLawfully r → r.plan.ahead ≤ 4 → Keeps m 18 r.trace }
+    ensures { (m : Marks) (r : Run) → Timely r → WantsLawfully r → r.plan.ahead ≤ 4 →
+        Keeps m 18 r.trace }
 {}
 
 /// A timely run is accepted, in profile 2 with its parity and in profile 1 without; and no rule is broken at any clock.
 pub fn timely_runs_are_accepted()
-    ensures whole { (r : Run) → Timely r → KeepsBounds r.plan → NoneOwesMore r → WritesBackAlone r
+    ensures whole { (r : Run) → Timely r → KeepsBounds r.plan → GrantsAreOwed r → WritesBackAlone r
         → verdict (marks_in r.plan.profile) r.trace ≡ None }
-    ensures clock { (r : Run) → Timely r → KeepsBounds r.plan → NoneOwesMore r → WritesBackAlone r → (c : ℕ)
-        → is_foul (marks_in r.plan.profile) r.trace c ≡ false }
+    ensures clock { (r : Run) → Timely r → KeepsBounds r.plan → GrantsAreOwed r →
+        WritesBackAlone r → (c : ℕ) →
+        is_foul (marks_in r.plan.profile) r.trace c ≡ false }
 {}

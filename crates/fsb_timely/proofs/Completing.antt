@@ -176,7 +176,7 @@ arrival-found p a c item h e t =
     brought-found p a c some.1.line (needs_of item) h (h.brought some.1 by.0) by.1
 
 -- the item of a number that is to do
-item-there : (p : Past) (a c n : ℕ) → next_number p a c ≡ Some n → (item : Item) × (slice_get (items_of p a) n ≡ Some item)
+pub item-there : (p : Past) (a c n : ℕ) → next_number p a c ≡ Some n → (item : Item) × (slice_get (items_of p a) n ≡ Some item)
 unfolding next_number is_to_do
 item-there p a c n e =
     let found = first_where-found (is_to_do p a c) (length (items_of p a)) n e in
@@ -184,7 +184,7 @@ item-there p a c n e =
     let there = some-there (slice_get (items_of p a) n) (λ item. not (is_idle item)) parts.0 in
     (there.0, there.1)
 
-item-is : (p : Past) (a c n : ℕ) (item : Item) → next_number p a c ≡ Some n → slice_get (items_of p a) n ≡ Some item → next_item p a c ≡ Some item
+pub item-is : (p : Past) (a c n : ℕ) (item : Item) → next_number p a c ≡ Some n → slice_get (items_of p a) n ≡ Some item → next_item p a c ≡ Some item
 unfolding next_item
 item-is p a c n item e s = ap (option_and_then (slice_get (items_of p a))) e ∙ s
 

@@ -27,6 +27,8 @@ pub mod StayingWants
 pub mod WindowSteps
 pub mod LoggedItems
 pub mod Completing
+pub mod FollowedScripts
+pub mod ScriptPlaces
 pub mod OneEnd
 pub mod ToldLines
 pub mod Outstanding

@@ -37,7 +37,7 @@ same-clock c (done ∷ log) =
     ]
 
 -- the completions of a clock, said of the whole past
-whole-completions : (r : Run) (c : ℕ) → Timely r → c < length r.trace → are_completed (entries_at (past_of r) c) (completed_at (past_of r) c) ≡ true
+pub whole-completions : (r : Run) (c : ℕ) → Timely r → c < length r.trace → are_completed (entries_at (past_of r) c) (completed_at (past_of r) c) ≡ true
 unfolding entries_at completed_at completed_if next_accesses of_all_agents holds_at holds_in logs_completions past_to past_of
 whole-completions r c h l =
     let g = past-begins r c h l in
@@ -183,7 +183,7 @@ logs-item p a c e = some-item a c p.log e
 abbrev Below : Past → ℕ → ℕ → Type 0
 Below p a c = (m j : ℕ) → is_logged p a c m ≡ true → j ≤ m → is_to_do p a c j ≡ false
 
-none-first : (a m : ℕ) (log : List Done) → list_any (λ done. is_done_by a 0 done && nat_eq done.item m) log ≡ false
+pub none-first : (a m : ℕ) (log : List Done) → list_any (λ done. is_done_by a 0 done && nat_eq done.item m) log ≡ false
 unfolding is_done_by
 none-first a m [] = refl
 none-first a m (done ∷ log) =

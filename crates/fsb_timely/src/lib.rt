@@ -15,8 +15,8 @@ pub use laws::{
     wants_are_new, wants_go_on, whole_pasts_go_on,
 };
 pub use steps::{
-    earlier_bytes_stay, entries_are_of_next_items, locks_step, ready_lines_step,
-    requests_are_wanted, wants_stay,
+    earlier_bytes_stay, entries_are_of_next_items, locks_step, logs_follow_scripts,
+    ready_lines_step, requests_are_wanted, wants_stay,
 };
 
 mod asked;

@@ -60,9 +60,11 @@ impl Scan {
         requires room { self.old.at + 3 < 2 ^ 64 }
         requires digit { is_value_digit change.digit ≡ true }
         requires code { is_white change.code ≡ false }
-        requires line { lines_of self.old.machine.codes (change.code ∷ []) ≡ Some (change.number ∷ []) }
-        ensures state { (w : ℕ) → is_white w ≡ true
-            → reading self.new ≡ after_bytes (reading self.old) (change.digit ∷ change.code ∷ w ∷ []) }
+        requires line { lines_of self.old.machine.codes (change.code ∷ [])
+            ≡ Some (change.number ∷ []) }
+        ensures state { (w : ℕ) → is_white w ≡ true →
+            reading self.new ≡ after_bytes (reading self.old)
+            (change.digit ∷ change.code ∷ w ∷ []) }
     {
         self.at += 3;
         self.machine.set_digit(change.number, change.digit);
@@ -83,10 +85,12 @@ impl Scan {
         requires says { value_word word.now ≡ Stamp time }
         requires room { self.old.at + length word.now + 1 < 2 ^ 64 }
         requires fits { Fits (reading self.old) }
-        ensures state { (w : ℕ) → is_white w ≡ true
-            → OnOk result (reading self.new ≡ after_bytes (reading self.old) (word.now ++ w ∷ [])) }
-        ensures samples { (w : ℕ) → is_white w ≡ true
-            → OnOk result (to.new.items ≡ pushed limit self.old.machine.decided to.old.items (samples_in_bytes (reading self.old) (word.now ++ w ∷ []))) }
+        ensures state { (w : ℕ) → is_white w ≡ true →
+            OnOk result (reading self.new ≡ after_bytes (reading self.old) (word.now ++ w ∷ [])) }
+        ensures samples { (w : ℕ) → is_white w ≡ true →
+            OnOk result (to.new.items
+            ≡ pushed limit self.old.machine.decided to.old.items
+            (samples_in_bytes (reading self.old) (word.now ++ w ∷ []))) }
         ensures silent { OnErr result (to.new.items ≡ to.old.items) }
     {
         let place = self.at;
