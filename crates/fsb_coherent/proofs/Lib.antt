@@ -1,0 +1,11 @@
+pub mod Beginning
+pub mod Clocks
+pub mod CoherentRuns
+pub mod DirtySteps
+pub mod EventsStay
+pub mod QuietClocks
+pub mod SnoopEnds
+pub mod SnoopHolders
+pub mod SnoopLinks
+pub mod Steps
+pub mod WorkedLine

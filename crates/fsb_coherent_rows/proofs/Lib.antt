@@ -1,0 +1,4 @@
+pub mod Dated
+mod HandedOverBeforeArrival
+mod DeferredWithReply
+mod LostUpgradeHanded
