@@ -1,0 +1,5 @@
+mod MoreTokens
+mod Refusals
+mod Steps
+mod WholeTexts
+mod Showing
