@@ -1,7 +1,7 @@
 -- How the replay of a log goes on by more entries.
 use Rattle.std.proofs.Common.{◌≡◌, ℕ, List, [], ◌∷◌, ◌++◌, map, refl, sym, ◌∙◌, ap}
 use Rattle.std.proofs.lemmas.List.{map-append}
-use Rattle.fsb_access.specs.Replay.{ReplayState, start_of, served_value, state_after, replay, replayed_values, Served}
+use Rattle.fsb_access.specs.Replay.{ReplayState, start_of, served_value, served_state, replay, replayed_values, Served}
 use Rattle.fsb_access.specs.declared.access.Setting.{Setting}
 use Rattle.fsb_access.specs.declared.log.Done.{Done}
 
@@ -11,7 +11,7 @@ pub replayed_values-append :
     replayed_values state (log ++ more) ≡ replayed_values state log ++ replayed_values (replay state log) more
 replayed_values-append state [] more = refl
 replayed_values-append state (done ∷ log) more =
-    ap (λ values. served_value state done.agent done.access ∷ values) (replayed_values-append (state_after state done.agent done.access) log more)
+    ap (λ values. served_value state done.agent done.access ∷ values) (replayed_values-append (served_state state done.agent done.access) log more)
 
 -- the empty log is served
 pub Served-empty : (settings : List Setting) → Served settings []
@@ -38,6 +38,6 @@ Served-front settings log more served = front (start_of settings) log served
     front state [] values = refl
     front state (done ∷ log) values =
         let value : done.value ≡ served_value state done.agent done.access = cc in
-        let rest : map (λ (d : Done). d.value) (log ++ more) ≡ replayed_values (state_after state done.agent done.access) (log ++ more) = cc in
-        let ahead = front (state_after state done.agent done.access) log rest in
+        let rest : map (λ (d : Done). d.value) (log ++ more) ≡ replayed_values (served_state state done.agent done.access) (log ++ more) = cc in
+        let ahead = front (served_state state done.agent done.access) log rest in
         cc

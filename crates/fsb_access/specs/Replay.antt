@@ -34,21 +34,21 @@ with_last state agent value =
     record state { last = λ other. if other == agent then value else state.last other }
 
 -- the state after an access: a load's value is its agent's last one, and a store's bytes stand in the memory
-abbrev pub state_after : ReplayState → ℕ → Access → ReplayState
-state_after state agent (Load size addr) = with_last state agent (value_at state.memory addr size)
-state_after state agent (Store size addr value) =
+abbrev pub served_state : ReplayState → ℕ → Access → ReplayState
+served_state state agent (Load size addr) = with_last state agent (value_at state.memory addr size)
+served_state state agent (Store size addr value) =
     record state { memory = put_value state.memory addr size (put_of size (state.last agent) value) }
 
 -- the state after entries are served one after the other
 abbrev pub replay : ReplayState → List Done → ReplayState
 replay state [] = state
-replay state (done ∷ log) = replay (state_after state done.agent done.access) log
+replay state (done ∷ log) = replay (served_state state done.agent done.access) log
 
 -- the values that entries have when they are served one after the other
 abbrev pub replayed_values : ReplayState → List Done → List ℕ
 replayed_values state [] = []
 replayed_values state (done ∷ log) =
-    served_value state done.agent done.access ∷ replayed_values (state_after state done.agent done.access) log
+    served_value state done.agent done.access ∷ replayed_values (served_state state done.agent done.access) log
 
 -- the log replays on one byte memory that begins with the settings: each entry has the value that the replay gives
 abbrev pub Served : List Setting → List Done → Type 0

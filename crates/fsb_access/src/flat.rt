@@ -2,7 +2,7 @@ ghost use Rattle.std.specs.Prelude.{◌≡◌, ◌+◌, ◌*◌, ◌%◌, ◌^�
 ghost use Rattle.fsb_access.specs.Access.{is_size, is_place, IsLawfulAccess};
 ghost use Rattle.fsb_access.specs.ByteMemory.{value_of_bytes, put_bytes, set_memory};
 ghost use Rattle.fsb_access.specs.FlatView.{chunk_bytes, memory_of_chunks, state_of};
-ghost use Rattle.fsb_access.specs.Replay.{start_of, served_value, state_after, put_of};
+ghost use Rattle.fsb_access.specs.Replay.{start_of, served_value, served_state, put_of};
 
 use crate::access::{Access, CHUNK_BYTES, Operand, Setting};
 use fsb_io::Memory;
@@ -50,7 +50,7 @@ impl Flat {
         ensures value { IfOk result (λ value.
             value ≡ served_value (state_of self.old) agent access.now) }
         ensures moves { OnOk result (
-            state_of self.new ≡ state_after (state_of self.old) agent access.now) }
+            state_of self.new ≡ served_state (state_of self.old) agent access.now) }
         ensures stays { OnErr result (self.new ≡ self.old) }
     {
         match access {
@@ -64,7 +64,7 @@ impl Flat {
         requires symmetric { agent < 4 }
         requires place { IsTrue (is_place size addr) }
         ensures value { result ≡ served_value (state_of self.old) agent (Access.Load size addr) }
-        ensures moves { state_of self.new ≡ state_after (state_of self.old) agent (Access.Load size addr) }
+        ensures moves { state_of self.new ≡ served_state (state_of self.old) agent (Access.Load size addr) }
     {
         let chunk = self.chunk(addr / CHUNK_BYTES);
         let start = (addr % CHUNK_BYTES) as usize;
@@ -80,7 +80,7 @@ impl Flat {
         ensures value { IfOk result (λ number.
             number ≡ served_value (state_of self.old) agent (Access.Store size addr value.now)) }
         ensures moves { OnOk result (
-            state_of self.new ≡ state_after (state_of self.old) agent (Access.Store size addr value.now)) }
+            state_of self.new ≡ served_state (state_of self.old) agent (Access.Store size addr value.now)) }
         ensures stays { OnErr result (self.new ≡ self.old) }
     {
         let number = number_put(size, self.last[usize::from(agent)], value);

@@ -22,11 +22,11 @@ use Rattle.fsb_laws.specs.Progress.{SnoopsTo, ends_snoop_of, is_snoop_due}
 use Rattle.fsb_laws.specs.Flight.{leaves}
 use Rattle.fsb_laws.proofs.Interface.{one_more, line_at-old, in_flight-more, live_clock_of-new, snoop_end_of-above, snoop_end_of-old, snoop_end_of-more}
 use Rattle.fsb_queue.specs.declared.entry.Entry.{Entry}
-use Rattle.fsb_queue.specs.Entries.{settled}
+use Rattle.fsb_queue.specs.Entries.{with_outcome}
 use Rattle.fsb_phase.specs.declared.phases.Phases.{Phases}
-use Rattle.fsb_phase.specs.Due.{live_of}
+use Rattle.fsb_phase.specs.Due.{rank_of}
 use Rattle.fsb_phase.specs.Drive.{ends_snoop_at, drive_of}
-use Rattle.fsb_phase.specs.Flight.{InFlight, is_too_soon}
+use Rattle.fsb_phase.specs.Flight.{HoldsInFlight, is_too_soon}
 use Rattle.fsb_phase.specs.Phases.{Stands, MayTake, snooped_count}
 use Rattle.fsb_phase.proofs.Interface.{snoops_count, held, Placed, placed, snoop_at, has_snoop-at, snoop_elsewhere, not_reached_from, ends_entry, number_stays, later_none, Step, step}
 use Rattle.fsb_flight.specs.GoesOn.{settles, stays_in_flight, goes_on, TakesTurn}
@@ -103,7 +103,7 @@ pub settles_not : (h : Trace) (x : Sample) (o : Outcome) (e : Entry) → ends_sn
 unfolding settles
 settles_not h x o e f = rw f refl
 
-pub settles_now : (h : Trace) (x : Sample) (o : Outcome) (e : Entry) → ends_snoop_at (h ++ x ∷ []) (length h) e ≡ true → settles h x o e ≡ settled o e
+pub settles_now : (h : Trace) (x : Sample) (o : Outcome) (e : Entry) → ends_snoop_at (h ++ x ∷ []) (length h) e ≡ true → settles h x o e ≡ with_outcome o e
 unfolding settles
 settles_now h x o e t = rw t refl
 
@@ -123,7 +123,7 @@ unfolding ends_snoop_of is_snoop_due
 at_end h s x to t = rw (not_reached_from h s s to (omega arith)) t
 
 -- its snoop end is the new clock; and of another entry whose snoop end is not reached it is not
-ends_now : (v : Trace) (y : Entry) (n i : ℕ) → live_of v y ≡ i → ends_snoop_at v n y ≡ true → snoop_end_of v i ≡ Some n
+ends_now : (v : Trace) (y : Entry) (n i : ℕ) → rank_of v y ≡ i → ends_snoop_at v n y ≡ true → snoop_end_of v i ≡ Some n
 unfolding ends_snoop_at
 ends_now v y n i f t = is_at-some (snoop_end_of v i) n (ap (λ j. is_at (snoop_end_of v j) n) (sym f) ∙ (and_parts _ _ t).1)
 
@@ -152,12 +152,12 @@ kept_outcome p h x queue new turns later outcome e j y k n here f =
     ]
 
 -- each entry of the queue, after the sample
-old_entry : (p : Phases) (h : Trace) (x : Sample) (queue new : List Entry) (turns later : List ℕ) (outcome : Outcome) (e j : ℕ) (y : Entry) → Step p h x (h ++ x ∷ []) queue e (snooped_count h) → InFlight queue turns h → TakesTurn h x turns later outcome new → slice_get queue j ≡ Some y → (settles h x outcome y).outcome ≡ settled_outcome_of (h ++ x ∷ []) later (live_of (h ++ x ∷ []) y)
+old_entry : (p : Phases) (h : Trace) (x : Sample) (queue new : List Entry) (turns later : List ℕ) (outcome : Outcome) (e j : ℕ) (y : Entry) → Step p h x (h ++ x ∷ []) queue e (snooped_count h) → HoldsInFlight queue turns h → TakesTurn h x turns later outcome new → slice_get queue j ≡ Some y → (settles h x outcome y).outcome ≡ settled_outcome_of (h ++ x ∷ []) later (rank_of (h ++ x ∷ []) y)
 old_entry p h x queue new turns later outcome e j y k f n g =
     let v : Trace = h ++ x ∷ [] in
     let s : ℕ = snooped_count h in
     let here = placed h queue e j y k.meets.flight k.meets.ends g in
-    let number : live_of v y ≡ e + j = number_stays h x v e j y k.more k.stands.orderly.spaced here in
+    let number : rank_of v y ≡ e + j = number_stays h x v e j y k.more k.stands.orderly.spaced here in
     elim (cases_Bool (ends_snoop_at v (length h) y)) [
       | inl t ↦
           let same : e + j ≡ s = is_next p h x queue e s j y k here t in
@@ -188,8 +188,8 @@ not_snooped v i q (Some t) c l e =
     let same : k.clock ≡ q = (let one : Some k.clock ≡ Some q = sym k.is_clock ∙ c in cc) in
     absurd (omega (arith, k.above, k.within))
 
-new_entry : (h : Trace) (x : Sample) (turns later : List ℕ) (outcome : Outcome) (new : List Entry) (k : ℕ) (y : Entry) → TakesTurn h x turns later outcome new → slice_get new k ≡ Some y → y.outcome ≡ settled_outcome_of (h ++ x ∷ []) later (live_of (h ++ x ∷ []) y)
-unfolding live_of
+new_entry : (h : Trace) (x : Sample) (turns later : List ℕ) (outcome : Outcome) (new : List Entry) (k : ℕ) (y : Entry) → TakesTurn h x turns later outcome new → slice_get new k ≡ Some y → y.outcome ≡ settled_outcome_of (h ++ x ∷ []) later (rank_of (h ++ x ∷ []) y)
+unfolding rank_of
 new_entry h x turns later outcome new k y n g =
     let v : Trace = h ++ x ∷ [] in
     let m : OneMore h x v = one_more h x in
@@ -199,8 +199,8 @@ new_entry h x turns later outcome new k y n g =
     let none : snoop_end_of v i ≡ None = not_snooped v i (length h) (snoop_end_of v i) clock (omega (arith, m.size)) refl in
     n.unsettled k y g ∙ sym (ap (λ q. settled_outcome_of v later (live_number_of v q)) b.1 ∙ no_outcome v later i none)
 
-each_entry : (p : Phases) (h : Trace) (x : Sample) (queue new : List Entry) (turns later : List ℕ) (outcome : Outcome) (e : ℕ) → Step p h x (h ++ x ∷ []) queue e (snooped_count h) → InFlight queue turns h → TakesTurn h x turns later outcome new → (k : ℕ) (y : Entry) → slice_get (goes_on h x outcome queue ++ new) k ≡ Some y → y.outcome ≡ settled_outcome_of (h ++ x ∷ []) later (live_of (h ++ x ∷ []) y)
-unfolding goes_on live_of
+each_entry : (p : Phases) (h : Trace) (x : Sample) (queue new : List Entry) (turns later : List ℕ) (outcome : Outcome) (e : ℕ) → Step p h x (h ++ x ∷ []) queue e (snooped_count h) → HoldsInFlight queue turns h → TakesTurn h x turns later outcome new → (k : ℕ) (y : Entry) → slice_get (goes_on h x outcome queue ++ new) k ≡ Some y → y.outcome ≡ settled_outcome_of (h ++ x ∷ []) later (rank_of (h ++ x ∷ []) y)
+unfolding goes_on rank_of
 each_entry p h x queue new turns later outcome e st f n k y g =
     elim (append_from (filter (stays_in_flight h x) (map (settles h x outcome) queue)) new k y g) [
       | inl old ↦
@@ -212,12 +212,12 @@ each_entry p h x queue new turns later outcome e st f n k y g =
     ]
 
 -- the step, with the count of snoop ends by its name
-pub step_at : (p : Phases) (h : Trace) (x : Sample) (queue : List Entry) (turns : List ℕ) → Stands p h → InFlight queue turns h → response_of x ≡ (drive_of h queue).rs → is_too_soon h x ≡ false → (e : ℕ) × Step p h x (h ++ x ∷ []) queue e (snooped_count h)
+pub step_at : (p : Phases) (h : Trace) (x : Sample) (queue : List Entry) (turns : List ℕ) → Stands p h → HoldsInFlight queue turns h → response_of x ≡ (drive_of h queue).rs → is_too_soon h x ≡ false → (e : ℕ) × Step p h x (h ++ x ∷ []) queue e (snooped_count h)
 step_at p h x queue turns k f c soon =
     let st = step p h x (h ++ x ∷ []) queue (one_more h x) k (held queue turns h f) c soon in
     (st.0, subst (λ s. Step p h x (h ++ x ∷ []) queue st.0 s) (sym (snoops_count h st.1 st.2.meets.snoops)) st.2)
 
-pub goes_on-holds : (p : Phases) (h : Trace) (clock : ℕ) (x : Sample) (queue new : List Entry) (turns later : List ℕ) (outcome : Outcome) → Stands p h → MayTake clock x queue turns h → TakesTurn h x turns later outcome new → InFlight (goes_on h x outcome queue ++ new) later (h ++ x ∷ [])
+pub goes_on-holds : (p : Phases) (h : Trace) (clock : ℕ) (x : Sample) (queue new : List Entry) (turns later : List ℕ) (outcome : Outcome) → Stands p h → MayTake clock x queue turns h → TakesTurn h x turns later outcome new → HoldsInFlight (goes_on h x outcome queue ++ new) later (h ++ x ∷ [])
 goes_on-holds p h clock x queue new turns later outcome k t n =
     let v : Trace = h ++ x ∷ [] in
     let st = step_at p h x queue turns k t.flight t.answers t.spaced in

@@ -17,10 +17,10 @@ use Rattle.fsb_trace.proofs.Interface.{live_clock_of-rises}
 use Rattle.fsb_laws.specs.OneMore.{cancels}
 use Rattle.fsb_laws.specs.Flight.{leaves}
 use Rattle.fsb_queue.specs.declared.entry.Entry.{Entry}
-use Rattle.fsb_queue.specs.Entries.{settled, settled_at, without}
+use Rattle.fsb_queue.specs.Entries.{with_outcome, settled_at, without}
 use Rattle.fsb_phase.specs.declared.drive.Phased.{Phased}
 use Rattle.fsb_phase.specs.declared.phases.Phases.{Phases}
-use Rattle.fsb_phase.specs.Due.{live_of}
+use Rattle.fsb_phase.specs.Due.{rank_of}
 use Rattle.fsb_phase.specs.Drive.{ends_snoop_at, has_end_at, phased_at}
 use Rattle.fsb_phase.specs.Phases.{Stands, MayTake, snooped_count}
 use Rattle.fsb_phase.specs.Registers.{if_passes}
@@ -37,12 +37,12 @@ unchanged f (z ∷ zs) same =
     ap (λ w. w ∷ zs) (sym (same 0 z refl)) ∙ ap (λ ws. f z ∷ ws) (unchanged f zs (λ j y g. same (suc j) y g))
 
 -- a function that changes one place alone
-changed_at : (f : Entry → Entry) (o : Outcome) (es : List Entry) (k : ℕ) (e : Entry) → slice_get es k ≡ Some e → f e ≡ settled o e → ((j : ℕ) (y : Entry) → (j ≡ k → ⊥) → slice_get es j ≡ Some y → f y ≡ y) → settled_at k o es ≡ map f es
+changed_at : (f : Entry → Entry) (o : Outcome) (es : List Entry) (k : ℕ) (e : Entry) → slice_get es k ≡ Some e → f e ≡ with_outcome o e → ((j : ℕ) (y : Entry) → (j ≡ k → ⊥) → slice_get es j ≡ Some y → f y ≡ y) → settled_at k o es ≡ map f es
 unfolding settled_at
 changed_at f o [] k e g s same = absurd (let none : ⊥ = cc in none)
 changed_at f o (z ∷ zs) zero e g s same =
     let one : z ≡ e = cc in
-    let first : f z ≡ settled o z = ap f one ∙ s ∙ ap (settled o) (sym one) in
+    let first : f z ≡ with_outcome o z = ap f one ∙ s ∙ ap (with_outcome o) (sym one) in
     ap (λ w. w ∷ zs) (sym first) ∙ ap (λ ws. f z ∷ ws) (unchanged f zs (λ j y g. same (suc j) y (λ q. omega arith) g))
 changed_at f o (z ∷ zs) (suc k) e g s same =
     ap (λ w. w ∷ settled_at k o zs) (sym (same 0 z (λ q. omega arith) refl))
@@ -91,7 +91,7 @@ ends_later : (p : Phases) (h : Trace) (x : Sample) (queue : List Entry) (e s j :
 ends_later p h x queue e s j y st l g =
     let v : Trace = h ++ x ∷ [] in
     let here = placed h queue e j y st.meets.flight st.meets.ends g in
-    let number : live_of v y ≡ e + j = number_stays h x v e j y st.more st.stands.orderly.spaced here in
+    let number : rank_of v y ≡ e + j = number_stays h x v e j y st.more st.stands.orderly.spaced here in
     let none : end_of v (e + j) ≡ None = elim (course p h x v queue e s st) [
       | inl q ↦ q.ends.above (e + j) (omega arith)
       | inr other ↦ elim other [
@@ -133,7 +133,7 @@ head_leaves r f (z ∷ zs) c later =
     ]
 
 leave_is : (p : Phases) (h : Trace) (x : Sample) (queue : List Entry) (o : Outcome) (e s : ℕ) → Step p h x (h ++ x ∷ []) queue e s → cond (is_some (find (has_end_at (h ++ x ∷ []) (length h)) queue)) (drop 1 (map (settles h x o) queue)) (map (settles h x o) queue) ≡ filter (λ y. not (ends_clock (h ++ x ∷ []) (length h) y.clock)) (map (settles h x o) queue)
-unfolding has_end_at live_of
+unfolding has_end_at rank_of
 leave_is p h x queue o e s st =
     let v : Trace = h ++ x ∷ [] in
     ap (λ a. cond (is_some a) (drop 1 (map (settles h x o) queue)) (map (settles h x o) queue))

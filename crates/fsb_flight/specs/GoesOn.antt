@@ -11,13 +11,13 @@ use Rattle.fsb_trace.specs.Snoop.{snoop_end_of}
 use Rattle.fsb_trace.specs.Outcome.{settled_by}
 use Rattle.fsb_laws.specs.Flight.{leaves}
 use Rattle.fsb_queue.specs.declared.entry.Entry.{Entry}
-use Rattle.fsb_queue.specs.Entries.{settled}
+use Rattle.fsb_queue.specs.Entries.{with_outcome}
 use Rattle.fsb_phase.specs.Drive.{ends_snoop_at}
 use Rattle.fsb_phase.specs.Phases.{snooped_count}
 
 -- the entry after the sample x as the next of the history: with this outcome, where its snoop ends there
 unfoldable pub settles : Trace → Sample → Outcome → Entry → Entry
-settles h x outcome e = if ends_snoop_at (h ++ x ∷ []) (length h) e then settled outcome e else e
+settles h x outcome e = if ends_snoop_at (h ++ x ∷ []) (length h) e then with_outcome outcome e else e
 
 -- the entries that stay: those that x neither ends nor cancels
 unfoldable pub stays_in_flight : Trace → Sample → Entry → Bool

@@ -2,13 +2,13 @@
 use Rattle.std.specs.Prelude.{ℕ, ◌+◌, Bool, nat_eq, is_none, is_some, if◌then◌else◌, List, [], ◌∷◌, ◌++◌, drop, Option, Some, None}
 use Rattle.fsb_trace.specs.declared.outcome.Outcome.{Outcome}
 use Rattle.fsb_queue.specs.declared.entry.Entry.{Entry}
-use Rattle.fsb_queue.specs.Entries.{settled, without}
+use Rattle.fsb_queue.specs.Entries.{with_outcome, without}
 use Rattle.fsb_phase.specs.declared.drive.Phased.{Phased}
 
 -- the entries, the first of them without an outcome with this one
 unfoldable pub settle_first : Outcome → List Entry → List Entry
 settle_first outcome [] = []
-settle_first outcome (e ∷ es) = if is_none e.outcome then settled outcome e ∷ es else e ∷ settle_first outcome es
+settle_first outcome (e ∷ es) = if is_none e.outcome then with_outcome outcome e ∷ es else e ∷ settle_first outcome es
 
 -- the number of the first entry that began three clocks before n
 unfoldable pub number_before : ℕ → List Entry → Option ℕ

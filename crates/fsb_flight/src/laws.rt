@@ -6,7 +6,7 @@ ghost use Rattle.fsb_trace.specs.declared.outcome.Outcome.{Outcome};
 ghost use Rattle.fsb_trace.specs.At.{Trace};
 ghost use Rattle.fsb_queue.specs.declared.entry.Entry.{Entry};
 ghost use Rattle.fsb_phase.specs.declared.phases.Phases.{Phases};
-ghost use Rattle.fsb_phase.specs.Flight.{InFlight};
+ghost use Rattle.fsb_phase.specs.Flight.{HoldsInFlight};
 ghost use Rattle.fsb_phase.specs.Phases.{Stands, MayTake};
 ghost use Rattle.fsb_flight.specs.GoesOn.{goes_on, TakesTurn, Rising, IsLater};
 ghost use Rattle.fsb_flight.specs.Steps.{begun_list};
@@ -16,7 +16,7 @@ ghost use Rattle.fsb_flight.specs.Steps.{begun_list};
 pub fn queue_goes_on()
     ensures { (p : Phases) (h : Trace) (clock : ℕ) (x : Sample) (queue new : List Entry) (turns later : List ℕ) (outcome : Outcome)
         → Stands p h → MayTake clock x queue turns h → TakesTurn h x turns later outcome new
-        → InFlight (goes_on h x outcome queue ++ new) later (h ++ x ∷ []) }
+        → HoldsInFlight (goes_on h x outcome queue ++ new) later (h ++ x ∷ []) }
 {}
 
 /// The numbers of the entries rise again after a clock, where the entry that begins has the greatest.

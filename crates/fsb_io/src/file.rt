@@ -2,7 +2,7 @@
 //! known to a proof. This is the trusted edge.
 ghost use Rattle.std.specs.Prelude.{◌≡◌, ◌≤◌, ◌<◌, ℕ, [], None, false, length, IfOk};
 
-use crate::place::{Place, place_of};
+use crate::place::{Destination, place_of};
 use crate::{Failed, Sink, Source};
 use std::fs::Files;
 use std::io::{ErrorKind, Print, Read, Write};
@@ -93,7 +93,7 @@ const OUTPUT: &str = "/proc/self/fd/1";
 pub struct FileSink<'a, R: Files + Print> {
     rt: &'a R,
     spared: Option<&'a str>,
-    place: Place<R::File>,
+    place: Destination<R::File>,
     faults: u64,
 }
 
@@ -114,7 +114,7 @@ impl<'a, R: Files + Print> FileSink<'a, R> {
         FileSink {
             rt,
             spared,
-            place: Place::Nowhere,
+            place: Destination::Nowhere,
             faults: 0,
         }
     }
@@ -151,9 +151,9 @@ impl<R: Files + Print> Sink for FileSink<'_, R> {
 
     fn write(&mut self, piece: &[u8]) -> Result<usize, Failed> {
         let answer = match &mut self.place {
-            Place::Nowhere => Err(Failed),
-            Place::Output => write_tried(&mut io::writer(self.rt), piece),
-            Place::File(file) => write_tried(file, piece),
+            Destination::Nowhere => Err(Failed),
+            Destination::Output => write_tried(&mut io::writer(self.rt), piece),
+            Destination::File(file) => write_tried(file, piece),
         };
         if answer.is_err() {
             self.faults = self.faults.saturating_add(1);

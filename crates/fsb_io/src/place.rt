@@ -8,7 +8,7 @@ use std::os::unix::fs::{FileTypeExt, MetadataExt};
 
 /// Where a file sink writes.
 #[derive(Drop)]
-pub(crate) enum Place<F: Drop> {
+pub(crate) enum Destination<F: Drop> {
     /// It was not begun.
     Nowhere,
     /// To standard output itself, behind what was written there.
@@ -42,10 +42,10 @@ pub(crate) fn place_of<R: Files>(
     output: &str,
     spared: Option<&str>,
     name: &str,
-) -> Result<Place<R::File>, Failed> {
+) -> Result<Destination<R::File>, Failed> {
     let output = named(files, output);
     if output.is_some() && output == named(files, name) {
-        return Ok(Place::Output);
+        return Ok(Destination::Output);
     }
     let file = open_tried(files, name)?;
     let metadata = file.metadata()?;
@@ -60,7 +60,7 @@ pub(crate) fn place_of<R: Files>(
         }
         file.set_len(0)?;
     }
-    Ok(Place::File(file))
+    Ok(Destination::File(file))
 }
 
 /// The file that has the name, None where the system does not tell.
@@ -103,11 +103,11 @@ mod tests {
     use std::test::Fail;
 
     /// How a place was answered.
-    fn answer<F: Drop>(place: Result<Place<F>, Failed>) -> &'static str {
+    fn answer<F: Drop>(place: Result<Destination<F>, Failed>) -> &'static str {
         match place {
-            Ok(Place::Nowhere) => "nowhere",
-            Ok(Place::Output) => "output",
-            Ok(Place::File(_)) => "file",
+            Ok(Destination::Nowhere) => "nowhere",
+            Ok(Destination::Output) => "output",
+            Ok(Destination::File(_)) => "file",
             Err(Failed) => "failed",
         }
     }

@@ -24,7 +24,7 @@ pub enum Piece {
     /// The lines, from a clock to another.
     Lines(u32, usize, usize),
     /// A request of agent 0 to 3, or 4 for the priority agent: its request line from a clock to the first clock, and the words.
-    Request(usize, usize, usize, Words),
+    Request(usize, usize, usize, RequestWords),
     /// A response with this code, without data.
     Code(usize, u32),
     /// A response with this code, and four chunks of data one after the other.
@@ -40,35 +40,35 @@ pub enum Piece {
 }
 
 /// The words of a request: REQ and address of its first clock, and of its second.
-pub type Words = (u64, u64, u64, u64);
+pub type RequestWords = (u64, u64, u64, u64);
 
 /// A read of line 0 with DEN#, and with this ID.
-pub fn read(id: u64) -> Words {
+pub fn read(id: u64) -> RequestWords {
     (6, 0, 2, (id % 256) * 8192 + 2)
 }
 
 /// A read of line 0 without DEN#, and with this ID.
-pub fn kept_read(id: u64) -> Words {
+pub fn kept_read(id: u64) -> RequestWords {
     (6, 0, 2, (id % 256) * 8192)
 }
 
 /// A write-back of line 0 with this ID.
-pub fn write_back(id: u64) -> Words {
+pub fn write_back(id: u64) -> RequestWords {
     (5, 0, 2, (id % 256) * 8192)
 }
 
 /// An upgrade of line 0 with this ID.
-pub fn upgrade(id: u64) -> Words {
+pub fn upgrade(id: u64) -> RequestWords {
     (2, 0, 0, (id % 256) * 8192)
 }
 
 /// A reply with this ID.
-pub fn reply(id: u64) -> Words {
+pub fn reply(id: u64) -> RequestWords {
     (0, (id % 256) * 8192, 0, 0)
 }
 
 /// A request of agent 0 that asks in clock 0 already, and begins in clock 2.
-pub fn first(words: Words) -> Piece {
+pub fn first(words: RequestWords) -> Piece {
     Piece::Request(0, 0, 2, words)
 }
 

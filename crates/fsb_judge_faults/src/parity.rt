@@ -1,6 +1,6 @@
 //! The parity of the address and of the request: each rule by its own mark, in both clocks of a request, and at no other.
 
-use crate::laid::{Piece, UNMARKED, Words, expect, first};
+use crate::laid::{Piece, UNMARKED, RequestWords, expect, first};
 use fsb_signal::{Lines, Marks};
 
 /// The lines of parity: AP0#, AP1# and RP#.
@@ -25,7 +25,7 @@ const REQUEST: Marks = Marks {
 
 /// A read of the line of address 40 with DEN# and ID 0: one bit of the address is asserted in each clock, two of REQ and
 /// ADS# in the first, and one of REQ in the second.
-const LOAD: Words = (6, 8, 2, 2);
+const LOAD: RequestWords = (6, 8, 2, 2);
 
 /// The parity lines at a clock.
 fn parity(lines: u32, clock: usize) -> Piece {

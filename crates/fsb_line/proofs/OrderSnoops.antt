@@ -5,7 +5,7 @@ use Rattle.std.proofs.lemmas.Bool.Decides.{nat_tests}
 use Rattle.fsb_line.specs.Coherence.{IsPending, Ordered}
 use Rattle.fsb_line.specs.Events.{IsOldest, MayGrant, MayHand, MayLose, MayUpgrade, NobodyElseModified, effect, given, linked, replied, settled}
 use Rattle.fsb_line.specs.Events.Event.{IsDeferred, IsGranted, IsHanded, IsLost, IsUpgraded, IsWritten}
-use Rattle.fsb_line.specs.Line.{OpenRequest, Deferral, MemoryLine, put}
+use Rattle.fsb_line.specs.Line.{OpenRequest, LineDeferral, MemoryLine, put}
 use Rattle.fsb_line.specs.Links.{any_owns, giver_after, is_linked, newest, owns}
 use Rattle.fsb_line.specs.States.{asks_line, gets_line, is_held, is_modified, is_sole}
 use Rattle.fsb_line.specs.declared.purpose.Purpose.{Purpose}
@@ -163,7 +163,7 @@ Ordered-IsDeferred x a kind shared o m =
     let not_sole : is_sole (x.state a) ≡ false = asker_not_sole kind (x.state a) asks (o.suited a _ asked) in
     let u : is_linked a x.chain ≡ false = o.apart a _ asked in
     let y = effect x (IsDeferred a kind shared) in
-    let this : Deferral = record { agent = a; kind = kind; shared = shared } in
+    let this : LineDeferral = record { agent = a; kind = kind; shared = shared } in
     let p : IsPending y this = record {
       gets = m.gets;
       no_ask = grind (arith, nat_tests);
@@ -186,7 +186,7 @@ Ordered-IsDeferred x a kind shared o m =
       no_late_upgrade = o.no_late_upgrade;
     }
 
-pub Ordered-IsReplied : (x : MemoryLine) (od : Option Deferral) → x.deferral ≡ od → is_some od ≡ true → Ordered x → Ordered (replied x od)
+pub Ordered-IsReplied : (x : MemoryLine) (od : Option LineDeferral) → x.deferral ≡ od → is_some od ≡ true → Ordered x → Ordered (replied x od)
 unfolding replied settled linked put
 Ordered-IsReplied x None e h o = o
 Ordered-IsReplied x (Some d) e h o =

@@ -7,7 +7,7 @@ use Rattle.fsb_line.specs.Coherence.{IsPending, Ordered}
 use Rattle.fsb_line.specs.Events.{Event, May, after, arrived, effect, oldest_ended, given, linked, replied, responded, settled}
 use Rattle.fsb_line.specs.Events.Event.{Begins, Drops, Ends, IsCancelled, IsDeferred, IsGranted, IsHanded, IsLost, IsReplied, IsRetried, IsUpgraded, IsWritten, Loads, Responds, Stores}
 use Rattle.fsb_line.specs.History.{any_event, gained_and_kept, is_alone_since, ends_alone, is_dirtied, is_dirty_since, is_grant, is_grant_alone, is_held_since, is_loss, replies_alone_to, replies_owned_to, replies_to, state_by}
-use Rattle.fsb_line.specs.Line.{Bytes, Deferral, MemoryLine, put, trimmed, unheld}
+use Rattle.fsb_line.specs.Line.{Bytes, LineDeferral, MemoryLine, put, trimmed, unheld}
 use Rattle.fsb_line.specs.Runs.{MayRun, run}
 use Rattle.fsb_line.specs.States.{after_snoop, asks_line, granted, is_held, is_modified, is_sole, kind_owns}
 use Rattle.fsb_line.specs.declared.purpose.Purpose.{Purpose}
@@ -90,21 +90,21 @@ after-state : (x : MemoryLine) (e : Event) → (after x e).state ≡ (effect x e
 unfolding after trimmed
 after-state x e = refl
 
-replied_held : (a : ℕ) (x : MemoryLine) (od : Option Deferral) → x.deferral ≡ od → Ordered x → is_held ((replied x od).state a) ≡ (replies_to od a || (is_held (x.state a) && not false))
+replied_held : (a : ℕ) (x : MemoryLine) (od : Option LineDeferral) → x.deferral ≡ od → Ordered x → is_held ((replied x od).state a) ≡ (replies_to od a || (is_held (x.state a) && not false))
 unfolding replied settled linked
 replied_held a x None e o = sym (and-true (is_held (x.state a)))
 replied_held a x (Some d) e o =
     let p : IsPending x d = o.pending d e in
     grind (arith, nat_tests, granted_held d.kind d.shared (gets_asks d.kind p.gets))
 
-replied_sole : (a : ℕ) (x : MemoryLine) (od : Option Deferral) → x.deferral ≡ od → Ordered x → is_sole ((replied x od).state a) ≡ (replies_alone_to od a || (is_sole (x.state a) && not false))
+replied_sole : (a : ℕ) (x : MemoryLine) (od : Option LineDeferral) → x.deferral ≡ od → Ordered x → is_sole ((replied x od).state a) ≡ (replies_alone_to od a || (is_sole (x.state a) && not false))
 unfolding replied settled linked
 replied_sole a x None e o = sym (and-true (is_sole (x.state a)))
 replied_sole a x (Some d) e o =
     let p : IsPending x d = o.pending d e in
     grind (arith, nat_tests, granted_sole_is d.kind d.shared (gets_asks d.kind p.gets), p.nobody_sole a)
 
-replied_modified : (a : ℕ) (x : MemoryLine) (od : Option Deferral) → x.deferral ≡ od → Ordered x → is_modified ((replied x od).state a) ≡ (replies_owned_to od a || (is_modified (x.state a) && not false))
+replied_modified : (a : ℕ) (x : MemoryLine) (od : Option LineDeferral) → x.deferral ≡ od → Ordered x → is_modified ((replied x od).state a) ≡ (replies_owned_to od a || (is_modified (x.state a) && not false))
 unfolding replied settled linked
 replied_modified a x None e o = sym (and-true (is_modified (x.state a)))
 replied_modified a x (Some d) e o =

@@ -3,7 +3,7 @@ use Rattle.std.proofs.Common.{◌≡◌, ℕ, Bool, true, false, cond, Option, S
 use Rattle.fsb_line.specs.Coherence.{EndsOldest, IsCoherent, MovesNow, Ordered, Owes, Valued}
 use Rattle.fsb_line.specs.Events.{AwaitsResponse, Event, HasArrived, IsDecidedEnd, May, after, arrived, effect, oldest_ended, given, linked, replied, responded, settled, stored, stored_at_end}
 use Rattle.fsb_line.specs.Events.Event.{Begins, Drops, Ends, IsCancelled, IsDeferred, IsGranted, IsHanded, IsLost, IsReplied, IsRetried, IsUpgraded, IsWritten, Loads, Responds, Stores}
-use Rattle.fsb_line.specs.Line.{Bytes, Deferral, MemoryLine, brought, has_copy, trimmed, unheld}
+use Rattle.fsb_line.specs.Line.{Bytes, LineDeferral, MemoryLine, brought, has_copy, trimmed, unheld}
 use Rattle.fsb_line.specs.Runs.{MayRun, OwesAll, stored_by_all, run}
 use Rattle.fsb_line.specs.States.{asks_line, gets_line, put_off, sent_back, served}
 use Rattle.fsb_line.specs.declared.purpose.Purpose.{Purpose}
@@ -182,7 +182,7 @@ unfolding oldest_ended arrived
 oldest_ended-now x [] change = refl
 oldest_ended-now x (l ∷ ls) change = refl
 
-replied-now : (x : MemoryLine) (od : Option Deferral) → (replied x od).now ≡ x.now
+replied-now : (x : MemoryLine) (od : Option LineDeferral) → (replied x od).now ≡ x.now
 unfolding replied settled linked
 replied-now x None = refl
 replied-now x (Some d) = refl

@@ -5,7 +5,7 @@ use Rattle.std.proofs.lemmas.Bool.Decides.{nat_tests}
 use Rattle.fsb_line.specs.Coherence.{IsPending, Ordered, Valued}
 use Rattle.fsb_line.specs.Events.{IsOldest, MayGrant, MayHand, MayUpgrade, effect, given, linked, replied, settled}
 use Rattle.fsb_line.specs.Events.Event.{IsGranted, IsHanded, IsUpgraded, IsWritten}
-use Rattle.fsb_line.specs.Line.{Deferral, MemoryLine, has_copy, source}
+use Rattle.fsb_line.specs.Line.{LineDeferral, MemoryLine, has_copy, source}
 use Rattle.fsb_line.specs.Links.{is_linked}
 use Rattle.fsb_line.specs.States.{asks_line, is_modified, is_sole}
 use Rattle.fsb_line.specs.declared.purpose.Purpose.{Purpose}
@@ -100,7 +100,7 @@ Valued-IsWritten x a o v m =
       quiet = λ f. absurd (end_not_empty x.chain l f);
     }
 
-pub Valued-IsReplied : (x : MemoryLine) (od : Option Deferral) → x.deferral ≡ od → is_some od ≡ true → Ordered x → Valued x → Valued (replied x od)
+pub Valued-IsReplied : (x : MemoryLine) (od : Option LineDeferral) → x.deferral ≡ od → is_some od ≡ true → Ordered x → Valued x → Valued (replied x od)
 unfolding replied settled linked
 Valued-IsReplied x None e h o v = v
 Valued-IsReplied x (Some d) e h o v =

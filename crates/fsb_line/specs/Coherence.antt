@@ -4,12 +4,12 @@ use Rattle.fsb_line.specs.declared.purpose.Purpose.TheVariants.{Own, WriteBack}
 use Rattle.fsb_line.specs.declared.link.Link.{Link}
 use Rattle.fsb_line.specs.Events.{Event, IsReady, NobodyElseHolds}
 use Rattle.fsb_line.specs.Events.Event.{Ends, IsHanded, IsUpgraded, IsWritten, Loads, Responds, Stores}
-use Rattle.fsb_line.specs.Line.{OpenRequest, Bytes, Deferral, MemoryLine, brought, has_copy, source}
+use Rattle.fsb_line.specs.Line.{OpenRequest, Bytes, LineDeferral, MemoryLine, brought, has_copy, source}
 use Rattle.fsb_line.specs.Links.{IsChained, has_late_upgrade, is_linked, is_overtaken, newest, owns}
 use Rattle.fsb_line.specs.States.{gets_line, is_held, is_modified, is_sole, suits}
 
 -- a line is pending for a deferral of a kind that gets it: the agent awaits nothing else on it; nobody is sole; and nobody else holds the line where it is to be owned, or where nobody was seen to hold it
-pub record IsPending (x : MemoryLine) (d : Deferral) : Type 0 where
+pub record IsPending (x : MemoryLine) (d : LineDeferral) : Type 0 where
   pub gets : IsTrue (gets_line d.kind)
   pub no_ask : x.ask d.agent ≡ None
   pub no_link : IsFalse (is_linked d.agent x.chain)
@@ -28,7 +28,7 @@ pub record Ordered (x : MemoryLine) : Type 0 where
   -- an open write-back is older than every other open request
   pub first : (a b : ℕ) (j k : OpenRequest) → x.ask a ≡ Some j → x.ask b ≡ Some k → a ≢ b → j.kind ≡ WriteBack → j.number < k.number
   -- what a deferral leaves behind stands until its reply
-  pub pending : (d : Deferral) → x.deferral ≡ Some d → IsPending x d
+  pub pending : (d : LineDeferral) → x.deferral ≡ Some d → IsPending x d
   -- the newest link is that of the agent that has the line alone
   pub sole_is_newest : (a : ℕ) (l : Link) → IsTrue (is_sole (x.state a)) → newest x.chain ≡ Some l → l.agent ≡ a
   -- it owns where that agent has the line Modified
@@ -106,4 +106,4 @@ pub record IsCoherent (x : MemoryLine) : Type 0 where
   -- and what is on the bus
   pub bus : (bytes : Bytes) → x.moved ≡ Some bytes → bytes ≡ x.now
   -- nobody is sole on a pending line
-  pub pending : (d : Deferral) → x.deferral ≡ Some d → (a : ℕ) → IsFalse (is_sole (x.state a))
+  pub pending : (d : LineDeferral) → x.deferral ≡ Some d → (a : ℕ) → IsFalse (is_sole (x.state a))

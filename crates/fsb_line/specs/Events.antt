@@ -7,7 +7,7 @@ use Rattle.fsb_line.specs.declared.purpose.Settled.TheVariants.{Deferred, Grante
 use Rattle.fsb_line.specs.declared.purpose.Ruling.{Ruling}
 use Rattle.fsb_line.specs.declared.link.Link.{Link}
 use Rattle.fsb_line.specs.declared.state.Mesi.TheVariants.{Invalid, Modified}
-use Rattle.fsb_line.specs.Line.{OpenRequest, Bytes, Deferral, MemoryLine, brought, put, source, trimmed}
+use Rattle.fsb_line.specs.Line.{OpenRequest, Bytes, LineDeferral, MemoryLine, brought, put, source, trimmed}
 use Rattle.fsb_line.specs.Links.{carries, gives, is_linked, owns, feeds_memory}
 use Rattle.fsb_line.specs.States.{asks_line, gets_line, is_held, is_held_off, is_modified, is_sole, state_after, settled_as, suits}
 
@@ -62,7 +62,7 @@ NobodyElseHolds x a = (b : ℕ) → b ≢ a → IsFalse (is_held (x.state b))
 pub record MayBegin (x : MemoryLine) (a : ℕ) (kind : Purpose) (number : ℕ) : Type 0 where
   pub no_ask : x.ask a ≡ None
   pub no_link : IsFalse (is_linked a x.chain)
-  pub no_deferral : (d : Deferral) → x.deferral ≡ Some d → d.agent ≢ a
+  pub no_deferral : (d : LineDeferral) → x.deferral ≡ Some d → d.agent ≢ a
   pub suited : IsTrue (suits kind (x.state a))
   pub newest : (b : ℕ) (k : OpenRequest) → x.ask b ≡ Some k → k.number < number
   pub not_held_off : (b : ℕ) → b ≢ a → IsFalse (is_held_off kind (is_some (x.ask b)))
@@ -147,7 +147,7 @@ unfoldable pub given : MemoryLine → ℕ → MemoryLine
 given x owner = record x { pushed = cond (is_linked owner x.chain) x.pushed (Some (x.copy owner)) }
 
 -- the line after the reply to a deferred request
-unfoldable pub replied : MemoryLine → Option Deferral → MemoryLine
+unfoldable pub replied : MemoryLine → Option LineDeferral → MemoryLine
 replied x None = x
 replied x (Some d) = linked (record (settled x d.agent d.kind Replied d.shared) { deferral = None }) d.agent d.kind None
 

@@ -4,21 +4,21 @@ use Rattle.fsb_line.specs.declared.state.Mesi.{Mesi}
 use Rattle.fsb_line.specs.declared.state.Mesi.TheVariants.{Exclusive, Invalid, Modified, Shared}
 use Rattle.fsb_line.specs.Events.{Event, after}
 use Rattle.fsb_line.specs.Events.Event.{Drops, IsDeferred, IsGranted, IsHanded, IsLost, IsReplied, IsRetried, IsUpgraded, IsWritten, Stores}
-use Rattle.fsb_line.specs.Line.{Deferral, MemoryLine}
+use Rattle.fsb_line.specs.Line.{LineDeferral, MemoryLine}
 use Rattle.fsb_line.specs.States.{kind_owns}
 
 -- the reply gets the line for this agent
-abbrev pub replies_to : Option Deferral → ℕ → Bool
+abbrev pub replies_to : Option LineDeferral → ℕ → Bool
 replies_to None a = false
 replies_to (Some d) a = d.agent == a
 
 -- and for it alone: it asked to own the line, or nobody was seen to hold it
-abbrev pub replies_alone_to : Option Deferral → ℕ → Bool
+abbrev pub replies_alone_to : Option LineDeferral → ℕ → Bool
 replies_alone_to None a = false
 replies_alone_to (Some d) a = (d.agent == a) && (kind_owns d.kind || not d.shared)
 
 -- and to own it
-abbrev pub replies_owned_to : Option Deferral → ℕ → Bool
+abbrev pub replies_owned_to : Option LineDeferral → ℕ → Bool
 replies_owned_to None a = false
 replies_owned_to (Some d) a = (d.agent == a) && kind_owns d.kind
 

@@ -17,7 +17,7 @@ pub record OpenRequest : Type 0 where
   pub number : ℕ
 
 -- a request that was deferred and has no reply yet; `shared` says that another agent was seen to hold the line
-pub record Deferral : Type 0 where
+pub record LineDeferral : Type 0 where
   pub agent : ℕ
   pub kind : Purpose
   pub shared : Bool
@@ -32,7 +32,7 @@ pub record MemoryLine : Type 0 where
   pub ask : ℕ → Option OpenRequest
   -- the links, oldest first
   pub chain : List Link
-  pub deferral : Option Deferral
+  pub deferral : Option LineDeferral
   -- the bytes in the memory
   pub memory : Bytes
   -- what the giver of the oldest link has given

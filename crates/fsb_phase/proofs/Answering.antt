@@ -15,7 +15,7 @@ use Rattle.fsb_laws.specs.Progress.{EndsTo, response_count, transfer_of, may_ans
 use Rattle.fsb_laws.proofs.Interface.{has_ready, after_answer}
 use Rattle.fsb_queue.specs.declared.entry.Entry.{Entry}
 use Rattle.fsb_trace.specs.Timing.{is_response_from}
-use Rattle.fsb_phase.specs.Due.{live_of, has_response}
+use Rattle.fsb_phase.specs.Due.{rank_of, has_response}
 use Rattle.fsb_phase.proofs.Held.{Held}
 use Rattle.fsb_phase.specs.Drive.{settled_code, drive_of}
 use Rattle.fsb_phase.proofs.Finds.{Found, find-cases, find-off, find-place}
@@ -84,7 +84,7 @@ the_head h queue e x f to a k (suc n) p c =
 the_head h queue e x f to a k zero p c =
     let at : slice_get queue 0 ≡ Some k.item = subst (λ i. slice_get queue i ≡ Some k.item) p k.at in
     let here = placed h queue e 0 k.item f to at in
-    let number : live_of h k.item ≡ e = here.number ∙ (let same : e + 0 ≡ e = omega arith in same) in
+    let number : rank_of h k.item ≡ e = here.number ∙ (let same : e + 0 ≡ e = omega arith in same) in
     let due : response_at h k.item e ≡ true = sym (has_response-at h k.item e number) ∙ k.passes in
     let parts = and_parts _ _ due in
     let s = response_snoop h e k.item.choice.resp (length h) (takes h e) parts.1 in

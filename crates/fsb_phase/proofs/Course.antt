@@ -18,7 +18,7 @@ use Rattle.fsb_laws.specs.Progress.{SnoopsTo, EndsTo, response_count, transfer_o
 use Rattle.fsb_laws.proofs.Interface.{has_answer, response_count-kept, orderly-more, ends_to-still, ends_to-moving, end_of-old, end_of-kept, snoop_end_of-old, snoop_end_of-more}
 use Rattle.fsb_queue.specs.declared.entry.Entry.{Entry}
 use Rattle.fsb_phase.specs.declared.phases.Phases.{Phases}
-use Rattle.fsb_phase.specs.Due.{live_of, is_moving}
+use Rattle.fsb_phase.specs.Due.{rank_of, is_moving}
 use Rattle.fsb_phase.specs.Flight.{is_too_soon}
 use Rattle.fsb_phase.proofs.Held.{Held}
 use Rattle.fsb_phase.specs.Drive.{drive_of, has_end_at}
@@ -165,7 +165,7 @@ course p h x v queue e s k =
     ]
 
 -- an entry whose end is not reached does not end
-pub no_end : (v : Trace) (n : ℕ) (y : Entry) → end_of v (live_of v y) ≡ None → has_end_at v n y ≡ false
+pub no_end : (v : Trace) (n : ℕ) (y : Entry) → end_of v (rank_of v y) ≡ None → has_end_at v n y ≡ false
 unfolding has_end_at is_at is_some_and
 no_end v n y e = and_right (is_live v y.clock) _ (rw e refl)
 
@@ -174,7 +174,7 @@ none_ends : (p : Phases) (h : Trace) (x : Sample) (v : Trace) (queue : List Entr
 none_ends p h x v queue e s k to =
     find-off (has_end_at v (length h)) queue (λ j y g.
     let here = placed h queue e j y k.meets.flight k.meets.ends g in
-    let number : live_of v y ≡ e + j = number_stays h x v e j y k.more k.stands.orderly.spaced here in
+    let number : rank_of v y ≡ e + j = number_stays h x v e j y k.more k.stands.orderly.spaced here in
     no_end v (length h) y (ap (end_of v) number ∙ to.above (e + j) (omega arith)))
 
 head_is : (h : Trace) (queue : List Entry) (e s : ℕ) → Held queue h → EndsTo h e → SnoopsTo h s → suc e ≤ s → (y : Entry) × (slice_get queue 0 ≡ Some y) × (y.clock + 4 ≤ length h)
@@ -187,7 +187,7 @@ head_is h queue e s f to sn l =
     let same : y.0.clock ≡ c.clock = (let one : Some y.0.clock ≡ Some c.clock = sym here.clock ∙ first in cc) in
     (y.0, y.1, omega (arith, c.above, r.2))
 
-ends_here : (h : Trace) (v : Trace) (e n : ℕ) (y : Entry) → is_live v y.clock ≡ true → live_of v y ≡ e → end_of v e ≡ Some n → has_end_at v n y ≡ true
+ends_here : (h : Trace) (v : Trace) (e n : ℕ) (y : Entry) → is_live v y.clock ≡ true → rank_of v y ≡ e → end_of v e ≡ Some n → has_end_at v n y ≡ true
 unfolding has_end_at is_at is_some_and
 ends_here h v e n y l f g = rw (l, f, g) (eq-eqb n n refl)
 
@@ -201,7 +201,7 @@ ended_is p h x v queue e s k =
         | inl d ↦
             let y = head_is h queue e s k.meets.flight k.meets.ends k.meets.snoops d.snooped in
             let here = placed h queue e 0 y.0 k.meets.flight k.meets.ends y.1 in
-            let number : live_of v y.0 ≡ e = number_stays h x v e 0 y.0 k.more k.stands.orderly.spaced here ∙ (let same : e + 0 ≡ e = omega arith in same) in
+            let number : rank_of v y.0 ≡ e = number_stays h x v e 0 y.0 k.more k.stands.orderly.spaced here ∙ (let same : e + 0 ≡ e = omega arith in same) in
             let live : is_live v y.0.clock ≡ true = live_after h x v y.0.clock k.more here.live y.2 in
             ap (λ b. cond b (slice_get queue 0) None) d.ended ∙ y.1
             ∙ sym (find-place (has_end_at v (length h)) queue 0 y.0 y.1 (ends_here h v e (length h) y.0 live number d.end)

@@ -10,7 +10,7 @@ use Rattle.fsb_trace.specs.Requests.{is_live, live_clock_of, live_number_of}
 use Rattle.fsb_laws.specs.Progress.{EndsTo}
 use Rattle.fsb_laws.proofs.Interface.{in_flight-live}
 use Rattle.fsb_queue.specs.declared.entry.Entry.{Entry}
-use Rattle.fsb_phase.specs.Due.{live_of}
+use Rattle.fsb_phase.specs.Due.{rank_of}
 use Rattle.fsb_phase.proofs.Held.{Held}
 
 pub dropped : {X : Type 0} (e k : ℕ) (xs : List X) → slice_get (drop e xs) k ≡ slice_get xs (e + k)
@@ -22,12 +22,12 @@ dropped (suc e) k (x ∷ xs) =
 -- the request at place k is the k-th live one from the first without its end on
 pub record Placed (h : Trace) (e k : ℕ) (entry : Entry) : Type 0 where
   pub clock : live_clock_of h (e + k) ≡ Some entry.clock
-  pub number : live_of h entry ≡ e + k
+  pub number : rank_of h entry ≡ e + k
   pub live : is_live h entry.clock ≡ true
   pub within : entry.clock < length h
 
 pub placed : (h : Trace) (queue : List Entry) (e k : ℕ) (entry : Entry) → Held queue h → EndsTo h e → slice_get queue k ≡ Some entry → Placed h e k entry
-unfolding live_clock_of live_of live_number_of nth_where
+unfolding live_clock_of rank_of live_number_of nth_where
 placed h queue e k entry f to at =
     let clock : slice_get (all_where (is_live h) (length h)) (e + k) ≡ Some entry.clock =
     sym (dropped e k (all_where (is_live h) (length h))) ∙ ap (λ qs. slice_get qs k) (sym (f.clocks ∙ in_flight-live h e to))

@@ -13,7 +13,7 @@ use Rattle.fsb_laws.proofs.Interface.{response_past}
 use Rattle.fsb_queue.specs.declared.entry.Entry.{Entry}
 use Rattle.fsb_phase.specs.declared.phases.Phases.{Phases}
 use Rattle.fsb_trace.specs.Timing.{is_ready_from, is_response_from, chunk_from, is_busy_from}
-use Rattle.fsb_phase.specs.Due.{live_of, awaits_response, has_ready, has_response, response_to_now, is_moving, due_chunk, keeps_busy}
+use Rattle.fsb_phase.specs.Due.{rank_of, awaits_response, has_ready, has_response, response_to_now, is_moving, due_chunk, keeps_busy}
 use Rattle.fsb_phase.proofs.Held.{IsSettled, Held}
 use Rattle.fsb_phase.specs.Phases.{Stands, value_before, last_response}
 use Rattle.fsb_phase.specs.Drive.{numbered_chunk}
@@ -70,11 +70,11 @@ response_at h e i =
     is_none (response_clock_of h i)
     && is_response_from (takes h i) (answer_from h i) (ready_clock_of h i) e.choice.resp (length h)
 
-has_ready-at : (h : Trace) (e : Entry) (i : ℕ) → live_of h e ≡ i → has_ready h e ≡ ready_at h e i
+has_ready-at : (h : Trace) (e : Entry) (i : ℕ) → rank_of h e ≡ i → has_ready h e ≡ ready_at h e i
 unfolding has_ready awaits_response
 has_ready-at h e i f = ap (ready_at h e) f
 
-pub has_response-at : (h : Trace) (e : Entry) (i : ℕ) → live_of h e ≡ i → has_response h e ≡ response_at h e i
+pub has_response-at : (h : Trace) (e : Entry) (i : ℕ) → rank_of h e ≡ i → has_response h e ≡ response_at h e i
 unfolding has_response awaits_response
 has_response-at h e i f = ap (response_at h e) f
 
@@ -84,13 +84,13 @@ no_ready h e i f = and_right (is_none (response_clock_of h i) && takes h i) _ (r
 no_response : (h : Trace) (e : Entry) (i : ℕ) → answer_from h i ≡ None → ready_clock_of h i ≡ None → response_at h e i ≡ false
 no_response h e i f g = and_right (is_none (response_clock_of h i)) _ (rw (f, g) (not_response (takes h i) e.choice.resp (length h)))
 
-to_now : (h : Trace) (e : Entry) (i : ℕ) → live_of h e ≡ i → response_clock_of h i ≡ None → response_to_now h e ≡ cond (has_response h e) (Some (length h)) None
+to_now : (h : Trace) (e : Entry) (i : ℕ) → rank_of h e ≡ i → response_clock_of h i ≡ None → response_to_now h e ≡ cond (has_response h e) (Some (length h)) None
 unfolding response_to_now
 to_now h e i f g =
     ap (λ (o : Option ℕ). elim o as (λ z. Option ℕ) [ Some r ↦ Some r | None ↦ cond (has_response h e) (Some (length h)) None ])
     (ap (response_clock_of h) f ∙ g)
 
-to_then : (h : Trace) (e : Entry) (i r : ℕ) → live_of h e ≡ i → response_clock_of h i ≡ Some r → response_to_now h e ≡ Some r
+to_then : (h : Trace) (e : Entry) (i r : ℕ) → rank_of h e ≡ i → response_clock_of h i ≡ Some r → response_to_now h e ≡ Some r
 unfolding response_to_now
 to_then h e i r f g =
     ap (λ (o : Option ℕ). elim o as (λ z. Option ℕ) [ Some q ↦ Some q | None ↦ cond (has_response h e) (Some (length h)) None ])
@@ -121,7 +121,7 @@ pub idle-later : (h : Trace) (queue : List Entry) (e j : ℕ) (y : Entry) → He
 idle-later h queue e j y f to a l g =
     let here = placed h queue e j y f to g in
     let i : ℕ = e + (j - 1) in
-    let number : live_of h y ≡ suc i = here.number ∙ (let same : e + j ≡ suc i = omega arith in same) in
+    let number : rank_of h y ≡ suc i = here.number ∙ (let same : e + j ≡ suc i = omega arith in same) in
     let before : end_of h i ≡ None = to.above i (omega arith) in
     let response : has_response h y ≡ false = has_response-at h y (suc i) number ∙ no_response h y (suc i) (no_answer-before h i before) (no_ready-before h i before) in
     let now : response_to_now h y ≡ None = to_now h y (suc i) number (a.later (suc i) (omega arith)) ∙ (rw response refl) in
@@ -138,19 +138,19 @@ pub record Same (p : Phases) (h : Trace) (y : Entry) : Type 0 where
   pub response : gets_response p (length h) y ≡ has_response h y
   pub now : answered p (length h) y ≡ response_to_now h y
 
-open_ready : (h : Trace) (y : Entry) (turn i : ℕ) (o : Option ℕ) → IsSettled h y turn → live_of h y ≡ i → snoop_end_of h i ≡ o → (is_taking y && is_ready_from (answer_from h i) y.choice.trdy (length h)) ≡ (takes h i && is_ready_from (answer_from h i) y.choice.trdy (length h))
+open_ready : (h : Trace) (y : Entry) (turn i : ℕ) (o : Option ℕ) → IsSettled h y turn → rank_of h y ≡ i → snoop_end_of h i ≡ o → (is_taking y && is_ready_from (answer_from h i) y.choice.trdy (length h)) ≡ (takes h i && is_ready_from (answer_from h i) y.choice.trdy (length h))
 open_ready h y turn i (Some s) k f g = rw (taking-is h y turn i s k f g) refl
 open_ready h y turn i None k f g =
     and_right (is_taking y) _ (rw (no_answer-snoop h i g) (not_ready y.choice.trdy (length h)))
     ∙ sym (and_right (takes h i) _ (rw (no_answer-snoop h i g) (not_ready y.choice.trdy (length h))))
 
-open_response : (h : Trace) (y : Entry) (turn i : ℕ) (o : Option ℕ) → IsSettled h y turn → live_of h y ≡ i → snoop_end_of h i ≡ o → is_response_from (is_taking y) (answer_from h i) (ready_clock_of h i) y.choice.resp (length h) ≡ is_response_from (takes h i) (answer_from h i) (ready_clock_of h i) y.choice.resp (length h)
+open_response : (h : Trace) (y : Entry) (turn i : ℕ) (o : Option ℕ) → IsSettled h y turn → rank_of h y ≡ i → snoop_end_of h i ≡ o → is_response_from (is_taking y) (answer_from h i) (ready_clock_of h i) y.choice.resp (length h) ≡ is_response_from (takes h i) (answer_from h i) (ready_clock_of h i) y.choice.resp (length h)
 open_response h y turn i (Some s) k f g = rw (taking-is h y turn i s k f g) refl
 open_response h y turn i None k f g =
     rw (no_answer-snoop h i g, no_ready-snoop h i g) (not_response (is_taking y) y.choice.resp (length h) ∙ sym (not_response (takes h i) y.choice.resp (length h)))
 
 -- no transfer is on the way
-still_ready : (p : Phases) (h : Trace) (y : Entry) (turn i : ℕ) → IsSettled h y turn → live_of h y ≡ i → p.transfer ≡ None → p.from ≡ answer_from h i → response_clock_of h i ≡ None → gets_ready p (length h) y ≡ has_ready h y
+still_ready : (p : Phases) (h : Trace) (y : Entry) (turn i : ℕ) → IsSettled h y turn → rank_of h y ≡ i → p.transfer ≡ None → p.from ≡ answer_from h i → response_clock_of h i ≡ None → gets_ready p (length h) y ≡ has_ready h y
 unfolding gets_ready
 still_ready p h y turn i k f t from r =
     ap (λ o. is_none o && is_taking y && is_ready_from p.from y.choice.trdy (length h)) t
@@ -158,7 +158,7 @@ still_ready p h y turn i k f t from r =
     ∙ open_ready h y turn i (snoop_end_of h i) k f refl
     ∙ sym (has_ready-at h y i f ∙ ap (λ o. is_none o && takes h i && is_ready_from (answer_from h i) y.choice.trdy (length h)) r)
 
-still_response : (p : Phases) (h : Trace) (y : Entry) (turn i : ℕ) → IsSettled h y turn → live_of h y ≡ i → p.transfer ≡ None → p.from ≡ answer_from h i → p.ready ≡ ready_clock_of h i → response_clock_of h i ≡ None → gets_response p (length h) y ≡ has_response h y
+still_response : (p : Phases) (h : Trace) (y : Entry) (turn i : ℕ) → IsSettled h y turn → rank_of h y ≡ i → p.transfer ≡ None → p.from ≡ answer_from h i → p.ready ≡ ready_clock_of h i → response_clock_of h i ≡ None → gets_response p (length h) y ≡ has_response h y
 unfolding gets_response
 still_response p h y turn i k f t from ready r =
     ap (λ o. is_none o && is_response_from (is_taking y) p.from p.ready y.choice.resp (length h)) t
@@ -172,24 +172,24 @@ unfolding answered
 answered_form p n y o t =
     ap (λ (u : Option ℕ). elim u as (λ z. Option ℕ) [ Some k ↦ p.response | None ↦ cond (gets_response p n y) (Some n) None ]) t
 
-still_now : (p : Phases) (h : Trace) (y : Entry) (i : ℕ) → live_of h y ≡ i → p.transfer ≡ None → gets_response p (length h) y ≡ has_response h y → response_clock_of h i ≡ None → answered p (length h) y ≡ response_to_now h y
+still_now : (p : Phases) (h : Trace) (y : Entry) (i : ℕ) → rank_of h y ≡ i → p.transfer ≡ None → gets_response p (length h) y ≡ has_response h y → response_clock_of h i ≡ None → answered p (length h) y ≡ response_to_now h y
 still_now p h y i f t same r =
     answered_form p (length h) y None t ∙ ap (λ b. cond b (Some (length h)) None) same ∙ sym (to_now h y i f r)
 
 -- a transfer is on the way
-moving_ready : (p : Phases) (h : Trace) (y : Entry) (i k r : ℕ) → live_of h y ≡ i → p.transfer ≡ Some k → response_clock_of h i ≡ Some r → gets_ready p (length h) y ≡ has_ready h y
+moving_ready : (p : Phases) (h : Trace) (y : Entry) (i k r : ℕ) → rank_of h y ≡ i → p.transfer ≡ Some k → response_clock_of h i ≡ Some r → gets_ready p (length h) y ≡ has_ready h y
 unfolding gets_ready
 moving_ready p h y i k r f t e =
     ap (λ o. is_none o && is_taking y && is_ready_from p.from y.choice.trdy (length h)) t
     ∙ sym (has_ready-at h y i f ∙ ap (λ o. is_none o && takes h i && is_ready_from (answer_from h i) y.choice.trdy (length h)) e)
 
-moving_response : (p : Phases) (h : Trace) (y : Entry) (i k r : ℕ) → live_of h y ≡ i → p.transfer ≡ Some k → response_clock_of h i ≡ Some r → gets_response p (length h) y ≡ has_response h y
+moving_response : (p : Phases) (h : Trace) (y : Entry) (i k r : ℕ) → rank_of h y ≡ i → p.transfer ≡ Some k → response_clock_of h i ≡ Some r → gets_response p (length h) y ≡ has_response h y
 unfolding gets_response
 moving_response p h y i k r f t e =
     ap (λ o. is_none o && is_response_from (is_taking y) p.from p.ready y.choice.resp (length h)) t
     ∙ sym (has_response-at h y i f ∙ ap (λ o. is_none o && is_response_from (takes h i) (answer_from h i) (ready_clock_of h i) y.choice.resp (length h)) e)
 
-moving_now : (p : Phases) (h : Trace) (y : Entry) (i k r : ℕ) → live_of h y ≡ i → p.transfer ≡ Some k → p.response ≡ Some r → response_clock_of h i ≡ Some r → answered p (length h) y ≡ response_to_now h y
+moving_now : (p : Phases) (h : Trace) (y : Entry) (i k r : ℕ) → rank_of h y ≡ i → p.transfer ≡ Some k → p.response ≡ Some r → response_clock_of h i ≡ Some r → answered p (length h) y ≡ response_to_now h y
 moving_now p h y i k r f t g e =
     answered_form p (length h) y (Some k) t ∙ g ∙ sym (to_then h y i r f e)
 
@@ -201,7 +201,7 @@ pub same_head : (p : Phases) (h : Trace) (queue : List Entry) (e : ℕ) (y : Ent
 unfolding last_response
 same_head p h queue e y k f to a g =
     let here = placed h queue e 0 y f to g in
-    let number : live_of h y ≡ e = here.number ∙ (let same : e + 0 ≡ e = omega arith in same) in
+    let number : rank_of h y ≡ e = here.number ∙ (let same : e + 0 ≡ e = omega arith in same) in
     let set = f.settled 0 y g in
     elim a.head [
       | inl still ↦

@@ -18,7 +18,7 @@ use Rattle.fsb_laws.specs.Progress.{SnoopsTo, EndsTo, response_count, transfer_o
 use Rattle.fsb_laws.proofs.Interface.{spaced-more, response_count-more, response_clock_of-new, response_clock_of-old, response_count-kept, transfer_of-kept, transfer_of-begun, ready_clock_of-next, ready_clock_of-after, answered_below, ends_to-still}
 use Rattle.fsb_queue.specs.declared.entry.Entry.{Entry}
 use Rattle.fsb_phase.specs.declared.phases.Phases.{Phases}
-use Rattle.fsb_phase.specs.Due.{live_of, is_moving}
+use Rattle.fsb_phase.specs.Due.{rank_of, is_moving}
 use Rattle.fsb_phase.specs.Flight.{is_too_soon}
 use Rattle.fsb_phase.proofs.Held.{Held}
 use Rattle.fsb_phase.specs.Phases.{Stands, value_before, last_response}
@@ -71,7 +71,7 @@ begins : (h : Trace) (queue : List Entry) (e : ℕ) (x : Sample) → Held queue 
 unfolding is_some_and
 begins h queue e x f to a =
     let here = placed h queue e 0 a.head f to a.at in
-    let number : live_of h a.head ≡ e = here.number ∙ (let same : e + 0 ≡ e = omega arith in same) in
+    let number : rank_of h a.head ≡ e = here.number ∙ (let same : e + 0 ≡ e = omega arith in same) in
     let set = f.settled 0 a.head a.at in
     ap (λ i. does_move (told_by h i (response_of x))) a.count
     ∙ told-is h a.head set.0 e a.snoop (response_of x) set.1 number a.is_snoop a.code

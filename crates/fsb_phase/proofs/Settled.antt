@@ -17,7 +17,7 @@ use Rattle.fsb_trace.specs.Snoop.{snoop_end_of, line_at_snoop_end}
 use Rattle.fsb_trace.specs.Outcome.{does_move, response_code_of, outcome_by_kind, told_by, settled_by, does_take}
 use Rattle.fsb_trace.specs.Response.{takes}
 use Rattle.fsb_queue.specs.declared.entry.Entry.{Entry}
-use Rattle.fsb_phase.specs.Due.{live_of, is_moving}
+use Rattle.fsb_phase.specs.Due.{rank_of, is_moving}
 use Rattle.fsb_phase.specs.Drive.{settled_code}
 use Rattle.fsb_phase.proofs.Held.{IsSettled}
 use Rattle.fsb_phase.specs.Registers.{is_taking}
@@ -59,11 +59,11 @@ cases_take false turn request f =
       ]
     ]
 
-outcome_at : (h : Trace) (e : Entry) (turn i s : ℕ) → IsSettled h e turn → live_of h e ≡ i → snoop_end_of h i ≡ Some s → e.outcome ≡ Some (settled_by h turn i s)
+outcome_at : (h : Trace) (e : Entry) (turn i s : ℕ) → IsSettled h e turn → rank_of h e ≡ i → snoop_end_of h i ≡ Some s → e.outcome ≡ Some (settled_by h turn i s)
 outcome_at h e turn i s k f g =
     k.outcome ∙ ap (λ j. option_map (settled_by h turn j) (snoop_end_of h j)) f ∙ ap (option_map (settled_by h turn i)) g
 
-pub taking-is : (h : Trace) (e : Entry) (turn i s : ℕ) → IsSettled h e turn → live_of h e ≡ i → snoop_end_of h i ≡ Some s → is_taking e ≡ takes h i
+pub taking-is : (h : Trace) (e : Entry) (turn i s : ℕ) → IsSettled h e turn → rank_of h e ≡ i → snoop_end_of h i ≡ Some s → is_taking e ≡ takes h i
 unfolding is_taking is_some_and takes line_at_snoop_end
 taking-is h e turn i s k f g =
     let kept : is_write_back (live_request_of h i) ≡ true → turn ≡ 0 = subst (λ j. is_write_back (live_request_of h j) ≡ true → turn ≡ 0) f k.kept in
@@ -109,7 +109,7 @@ moving_is : (e : Entry) (o : Outcome) → e.outcome ≡ Some o → is_moving e �
 unfolding is_moving is_some_and
 moving_is e o f = rw f refl
 
-pub told-is : (h : Trace) (e : Entry) (turn i s code : ℕ) → IsSettled h e turn → live_of h e ≡ i → snoop_end_of h i ≡ Some s → code ≡ settled_code e → does_move (told_by h i code) ≡ is_moving e
+pub told-is : (h : Trace) (e : Entry) (turn i s code : ℕ) → IsSettled h e turn → rank_of h e ≡ i → snoop_end_of h i ≡ Some s → code ≡ settled_code e → does_move (told_by h i code) ≡ is_moving e
 told-is h e turn i s code k f g c =
     let o : Outcome = settled_by h turn i s in
     let form : o ≡ settled_cases (line_at HITM h s) turn (live_request_of h i) = settled_form h turn i s in

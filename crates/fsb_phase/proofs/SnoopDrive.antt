@@ -14,7 +14,7 @@ use Rattle.fsb_laws.proofs.Interface.{snoop_end_of-above}
 use Rattle.fsb_queue.specs.declared.entry.Entry.{Entry}
 use Rattle.fsb_phase.specs.declared.phases.Phases.{Phases}
 use Rattle.fsb_trace.specs.Timing.{is_stall_from}
-use Rattle.fsb_phase.specs.Due.{live_of, has_snoop, is_stalled}
+use Rattle.fsb_phase.specs.Due.{rank_of, has_snoop, is_stalled}
 use Rattle.fsb_phase.proofs.Held.{IsSettled, Held}
 use Rattle.fsb_phase.specs.Phases.{value_before}
 use Rattle.fsb_phase.specs.Registers.{if_passes, open_entry, start_after, is_snooping, snooping, is_to_stall}
@@ -35,9 +35,9 @@ settled_none : (f : ℕ → Rattle.fsb_trace.specs.declared.outcome.Outcome.Outc
 settled_none f None = refl
 settled_none f (Some t) = refl
 
-pub outcome_reached : (h : Trace) (e : Entry) (turn i : ℕ) → IsSettled h e turn → live_of h e ≡ i → is_none e.outcome ≡ is_none (snoop_end_of h i)
+pub outcome_reached : (h : Trace) (e : Entry) (turn i : ℕ) → IsSettled h e turn → rank_of h e ≡ i → is_none e.outcome ≡ is_none (snoop_end_of h i)
 outcome_reached h e turn i s f =
-    ap is_none s.outcome ∙ settled_none _ (snoop_end_of h (live_of h e)) ∙ ap (λ k. is_none (snoop_end_of h k)) f
+    ap is_none s.outcome ∙ settled_none _ (snoop_end_of h (rank_of h e)) ∙ ap (λ k. is_none (snoop_end_of h k)) f
 
 pub reached_before : (h : Trace) (s i : ℕ) → SnoopsTo h s → i < s → is_none (snoop_end_of h i) ≡ false
 reached_before h s i to l = let v = to.reached i l in rw v.1 refl
@@ -80,7 +80,7 @@ later_start h s (suc i) to l = no_start h i (snoop_end_of-above h s i to (omega 
 abbrev pub snoop_at : Trace → ℕ → Bool
 snoop_at h i = is_none (snoop_end_of h i) && is_some_and (snoop_start_of h i) (λ start. is_every_second_from start (length h))
 
-pub has_snoop-at : (h : Trace) (e : Entry) (i : ℕ) → live_of h e ≡ i → has_snoop h e ≡ snoop_at h i
+pub has_snoop-at : (h : Trace) (e : Entry) (i : ℕ) → rank_of h e ≡ i → has_snoop h e ≡ snoop_at h i
 unfolding has_snoop
 has_snoop-at h e i f = ap (snoop_at h) f
 
@@ -192,7 +192,7 @@ unfolding is_stalled
 found_stall p h queue e s m k =
     let same : e + k.place ≡ s = open_is p h queue e s k m in
     let here = placed h queue e k.place k.item m.flight m.ends k.at in
-    let number : live_of h k.item ≡ s = here.number ∙ same in
+    let number : rank_of h k.item ≡ s = here.number ∙ same in
     let clock : live_clock_of h s ≡ Some k.item.clock = subst (λ i. live_clock_of h i ≡ Some k.item.clock) same here.clock in
     rw (found_snoop p h queue e s m k, number, stall_here p h s k.item m.snoops m.snooped clock) refl
 

@@ -18,7 +18,7 @@ use Rattle.fsb_laws.specs.Progress.{SnoopsTo, EndsTo, is_snoop_due, ends_snoop_o
 use Rattle.fsb_laws.proofs.Interface.{in_flight-live, is_live-ads, is_live-more, live_number_of-more, snoop_end_of-above, snoop_end_of-old, snoop_end_of-more, snoops_to-ended, snoops_to-kept, start_clock}
 use Rattle.fsb_queue.specs.declared.entry.Entry.{Entry}
 use Rattle.fsb_phase.specs.declared.phases.Phases.{Phases}
-use Rattle.fsb_phase.specs.Due.{live_of, has_snoop}
+use Rattle.fsb_phase.specs.Due.{rank_of, has_snoop}
 use Rattle.fsb_phase.proofs.Held.{Held}
 use Rattle.fsb_phase.specs.Drive.{ends_snoop_at}
 use Rattle.fsb_phase.specs.Phases.{value_before, last_snoop_end}
@@ -149,8 +149,8 @@ snoop_late : (h : Trace) (i q : ℕ) → live_clock_of h i ≡ Some q → snoop_
 snoop_late h i q c t = snoop_parts h i (length h) q (snoop_start_of h i) refl c (and_parts _ _ t).1
 
 -- the number of an entry's request stays
-pub number_stays : (h : Trace) (x : Sample) (v : Trace) (e j : ℕ) (y : Entry) → OneMore h x v → Spaced h → Placed h e j y → live_of v y ≡ e + j
-unfolding live_of
+pub number_stays : (h : Trace) (x : Sample) (v : Trace) (e j : ℕ) (y : Entry) → OneMore h x v → Spaced h → Placed h e j y → rank_of v y ≡ e + j
+unfolding rank_of
 number_stays h x v e j y m sp here =
     sym (live_number_of-more h x v y.clock m sp here.within (is_live-ads h y.clock here.live)) ∙ here.number
 

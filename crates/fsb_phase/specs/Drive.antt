@@ -11,7 +11,7 @@ use Rattle.fsb_trace.specs.Response.{end_of}
 use Rattle.fsb_queue.specs.declared.entry.Entry.{Entry}
 use Rattle.fsb_phase.specs.declared.drive.Drive.{Drive}
 use Rattle.fsb_phase.specs.declared.drive.Phased.{Phased}
-use Rattle.fsb_phase.specs.Due.{live_of, has_snoop, is_stalled, has_ready, has_response, due_chunk, keeps_busy}
+use Rattle.fsb_phase.specs.Due.{rank_of, has_snoop, is_stalled, has_ready, has_response, due_chunk, keeps_busy}
 
 -- the response code of the entry's outcome; 0 where it has none
 unfoldable pub settled_code : Entry → ℕ
@@ -36,11 +36,11 @@ drive_of h queue = record {
 
 -- the request is live in the longer history, and its snoop end is the clock n
 unfoldable pub ends_snoop_at : Trace → ℕ → Entry → Bool
-ends_snoop_at v n e = is_live v e.clock && is_at (snoop_end_of v (live_of v e)) n
+ends_snoop_at v n e = is_live v e.clock && is_at (snoop_end_of v (rank_of v e)) n
 
 -- the request is live in the longer history, and its end is the clock n
 unfoldable pub has_end_at : Trace → ℕ → Entry → Bool
-has_end_at v n e = is_live v e.clock && is_at (end_of v (live_of v e)) n
+has_end_at v n e = is_live v e.clock && is_at (end_of v (rank_of v e)) n
 
 -- what happens at the clock n of the history: the number of the request whose snoop end it is, and of the one whose end
 unfoldable pub phased_at : Trace → ℕ → List Entry → Phased

@@ -12,7 +12,7 @@ use Rattle.fsb_laws.specs.Orderly.{Orderly}
 use Rattle.fsb_laws.specs.Progress.{response_count, transfer_of}
 use Rattle.fsb_queue.specs.declared.entry.Entry.{Entry}
 use Rattle.fsb_phase.specs.declared.phases.Phases.{Phases}
-use Rattle.fsb_phase.specs.Flight.{InFlight, is_too_soon}
+use Rattle.fsb_phase.specs.Flight.{HoldsInFlight, is_too_soon}
 use Rattle.fsb_phase.specs.Drive.{drive_of}
 
 -- the value for the number before n, if there is one
@@ -47,6 +47,6 @@ pub record Stands (phases : Phases) (h : Trace) : Type 0 where
 -- requests in flight, RS# is what is driven, and a request begins no sooner than three clocks after the one before it
 pub record MayTake (clock : ℕ) (x : Sample) (queue : List Entry) (turns : List ℕ) (h : Trace) : Type 0 where
   pub clock_is : clock ≡ length h
-  pub flight : InFlight queue turns h
+  pub flight : HoldsInFlight queue turns h
   pub answers : response_of x ≡ (drive_of h queue).rs
   pub spaced : is_too_soon h x ≡ false

@@ -2,7 +2,7 @@ ghost use Rattle.std.specs.Prelude.{◌≡◌, ℕ, List, [], ◌∷◌, ◌++�
 ghost use Rattle.std.specs.Option.{option_and_then};
 ghost use Rattle.fsb_trace.specs.At.{Trace};
 ghost use Rattle.fsb_phase.specs.Drive.{drive_of, phased_at};
-ghost use Rattle.fsb_phase.specs.Flight.{InFlight};
+ghost use Rattle.fsb_phase.specs.Flight.{HoldsInFlight};
 ghost use Rattle.fsb_phase.specs.Phases.{Stands, MayTake};
 ghost use Rattle.fsb_phase.specs.Registers.{start_after, snooping, is_to_stall, gets_ready, gets_response, answered, chunk_at, is_busy, numbered_at, drive_by, entry_snooped, transfer_to, has_answered, ends_by, phased_by, answer_to, from_to, may_answer_at, ready_to, phases_to};
 
@@ -46,7 +46,7 @@ impl Phases {
     /// What is driven at the next clock. The clock is the number of samples taken so far, and the queue holds the requests
     /// in flight.
     pub fn drive(&self, clock: u32, queue: &Queue) -> Drive
-        ensures { (h : Trace) (turns : List ℕ) → Stands self.now h → clock ≡ length h → InFlight queue.now turns h → result ≡ drive_of h queue.now }
+        ensures { (h : Trace) (turns : List ℕ) → Stands self.now h → clock ≡ length h → HoldsInFlight queue.now turns h → result ≡ drive_of h queue.now }
     {
         self.drive_by(clock, queue)
     }

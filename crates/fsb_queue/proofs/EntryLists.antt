@@ -7,7 +7,7 @@ use Rattle.std.proofs.lemmas.Option.{get_or_from_slice_get, slice_get_within}
 use Rattle.circular_buffer.specs.Buffer.{keep_last}
 use Rattle.fsb_trace.specs.declared.outcome.Outcome.{Outcome}
 use Rattle.fsb_queue.specs.declared.entry.Entry.{Entry}
-use Rattle.fsb_queue.specs.Entries.{entry_of, without, settled, settled_at}
+use Rattle.fsb_queue.specs.Entries.{entry_of, without, with_outcome, settled_at}
 
 -- one more entry, behind a list in which the number was not found: it is the one
 pub entry_of-found : (number : ℕ) (xs : List Entry) (x : Entry) → entry_of number xs ≡ None → nat_eq x.number number ≡ true → entry_of number (xs ++ x ∷ []) ≡ Some x
@@ -152,8 +152,8 @@ not_past (x ∷ xs) zero l e = cc
 not_past (x ∷ xs) (suc i) l e = not_past xs i (omega arith) e
 
 -- an outcome written to a place
-pub settled_at-is : (i : ℕ) (outcome : Outcome) (es : List Entry) (e : Entry) → slice_get es i ≡ Some e → slice_set es i (settled outcome e) ≡ settled_at i outcome es
+pub settled_at-is : (i : ℕ) (outcome : Outcome) (es : List Entry) (e : Entry) → slice_get es i ≡ Some e → slice_set es i (with_outcome outcome e) ≡ settled_at i outcome es
 unfolding settled_at
 settled_at-is i outcome [] e h = absurd (let no : ⊥ = cc in no)
-settled_at-is zero outcome (y ∷ es) e h = let same : y ≡ e = cc in ap (λ z. settled outcome z ∷ es) (sym same)
+settled_at-is zero outcome (y ∷ es) e h = let same : y ≡ e = cc in ap (λ z. with_outcome outcome z ∷ es) (sym same)
 settled_at-is (suc i) outcome (y ∷ es) e h = ap (λ r. y ∷ r) (settled_at-is i outcome es e h)

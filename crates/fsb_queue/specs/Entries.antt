@@ -14,11 +14,11 @@ without number [] = []
 without number (e ∷ es) = if nat_eq e.number number then es else e ∷ without number es
 
 -- the entry with this outcome
-abbrev pub settled : Outcome → Entry → Entry
-settled outcome e = record e { outcome = Some outcome }
+abbrev pub with_outcome : Outcome → Entry → Entry
+with_outcome outcome e = record e { outcome = Some outcome }
 
 -- the entries, the i-th of them with this outcome; there are more than i
 unfoldable pub settled_at : ℕ → Outcome → List Entry → List Entry
 settled_at i outcome [] = []
-settled_at zero outcome (e ∷ es) = settled outcome e ∷ es
+settled_at zero outcome (e ∷ es) = with_outcome outcome e ∷ es
 settled_at (suc i) outcome (e ∷ es) = e ∷ settled_at i outcome es

@@ -1,11 +1,11 @@
 -- What the reader's own state stands for.
-use Rattle.fsb_script.specs.declared.draft.Draft.{Draft}
+use Rattle.fsb_script.specs.declared.draft.PlanDraft.{PlanDraft}
 use Rattle.fsb_script.specs.declared.plan.Plan.{Plan}
 use Rattle.fsb_script.specs.Drafts.{Progress}
 use Rattle.fsb_script.specs.Plans.{PlanView}
 
 -- what a draft has read
-abbrev pub progress : Draft → Progress
+abbrev pub progress : PlanDraft → Progress
 progress d = record {
   place = d.place;
   agents = d.agents;

@@ -26,7 +26,7 @@ use std::mem;
 
 /// What the lines so far have said, and which lines may stand next.
 #[derive(Debug, Drop)]
-pub(crate) struct Draft {
+pub(crate) struct PlanDraft {
     pub(crate) place: Place,
     pub(crate) agents: u8,
     pub(crate) clocks: u32,
@@ -85,7 +85,7 @@ fn place_behind(scripts: usize, agents: u8) -> Place
     }
 }
 
-impl Draft {
+impl PlanDraft {
     ghost use Rattle.fsb_script.specs.View.{progress};
     ghost use Rattle.fsb_script.specs.Drafts.{beginning, first_line, agents_line, clocks_line, cache_line, ahead_line, profile_line, bridge_line, mem_line, agent_line, named_line, one_item, load_item, store_item, idle_item, lock_item, end_line, item_line, locked_access, unlock_line, locked_line, add_hazard, transaction_line, block_line, hazard_line, memory_line, body_line, front_line, next_agent_line, choice_line, placed_line, is_past, after_line};
 
@@ -93,7 +93,7 @@ impl Draft {
     pub(crate) fn new(alloc: Global) -> Result<Self, AllocError>
         ensures { IfOk result (λ d. progress d ≡ beginning) }
     {
-        Ok(Draft {
+        Ok(PlanDraft {
             place: Place::First,
             agents: 1,
             clocks: 0,

@@ -4,7 +4,7 @@ ghost use Rattle.fsb_script.specs.Words.{line_len};
 ghost use Rattle.fsb_script.specs.Drafts.{plan_at_end, said_plan};
 ghost use Rattle.fsb_script.specs.View.{progress, plan_view};
 
-use crate::draft::Draft;
+use crate::draft::PlanDraft;
 use crate::fault::{Cause, LineStop, ScriptFault, ScriptStop};
 use crate::place::Place;
 use crate::plan::Plan;
@@ -15,7 +15,7 @@ pub fn read_bench(alloc: Global, text: &[u8]) -> Result<Plan, ScriptStop>
     requires { length text.now < 2 ^ 32 - 1 }
     ensures { Gives plan_view result (said_plan text.now) }
 {
-    let mut draft = match Draft::new(alloc) {
+    let mut draft = match PlanDraft::new(alloc) {
         Ok(draft) => draft,
         Err(_) => return Err(ScriptStop::Memory),
     };
@@ -74,7 +74,7 @@ fn stop_at(number: u32, stop: LineStop) -> ScriptStop
 
 /// The plan, where the text may end there.
 #[tactic(auto, unfolding(crate::specs::Drafts::plan_at_end))]
-fn plan_at_end(number: u32, draft: Draft) -> Result<Plan, ScriptStop>
+fn plan_at_end(number: u32, draft: PlanDraft) -> Result<Plan, ScriptStop>
     ensures { Gives plan_view result (plan_at_end number (progress draft)) }
 {
     match draft.place {

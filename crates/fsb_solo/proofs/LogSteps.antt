@@ -6,12 +6,12 @@ use Rattle.std.proofs.lemmas.List.Folds.{list_any-append}
 use Rattle.std.proofs.lemmas.Bool.{lt-ltb, le-ltb}
 use Rattle.std.specs.List.{list_any}
 use Rattle.fsb_access.specs.Access.{accessed_line}
-use Rattle.fsb_access.specs.Replay.{ReplayState, served_value, state_after}
+use Rattle.fsb_access.specs.Replay.{ReplayState, served_value, served_state}
 use Rattle.fsb_access.specs.declared.access.Access.{Access}
 use Rattle.fsb_access.specs.declared.item.Item.{Item}
 use Rattle.fsb_access.specs.declared.item.Item.TheVariants.{One, Locked, Idle}
 use Rattle.fsb_access.specs.declared.log.Done.{Done}
-use Rattle.fsb_solo.specs.SoloLog.{names, last_clock, entry_of, log_from}
+use Rattle.fsb_solo.specs.SoloLog.{names, last_clock, done_of, log_from}
 
 -- a set has exactly the lines that items name
 pub record HasNamed {S : Type 0} (set : HashSet ℕ S) (earlier : List Item) : Type 0 where
@@ -64,8 +64,8 @@ last_clock_of set earlier access first is_new has e =
 pub next_entry : (clocks : ℕ) (earlier items : List Item) (access : Access) (state : ReplayState) (first : ℕ)
     → last_clock earlier access first < clocks
     → log_from clocks earlier state first (One access ∷ items)
-    ≡ entry_of earlier access state (last_clock earlier access first)
-    ∷ log_from clocks (earlier ++ One access ∷ []) (state_after state 0 access) (last_clock earlier access first + 1) items
+    ≡ done_of earlier access state (last_clock earlier access first)
+    ∷ log_from clocks (earlier ++ One access ∷ []) (served_state state 0 access) (last_clock earlier access first + 1) items
 next_entry clocks earlier items access state first h = rw (lt-ltb (last_clock earlier access first) clocks h) refl
 
 -- the loop's next stand
@@ -73,8 +73,8 @@ pub stands_more : (clocks : ℕ) (items : List Item) (log whole : List Done) (st
     → i < length items → x ≡ get_or items i x → x ≡ One access
     → last_clock (take i items) access first < clocks
     → Stands clocks items log whole state first i
-    → Stands clocks items (log ++ entry_of (take i items) access state (last_clock (take i items) access first) ∷ []) whole
-    (state_after state 0 access) (last_clock (take i items) access first + 1) (i + 1)
+    → Stands clocks items (log ++ done_of (take i items) access state (last_clock (take i items) access first) ∷ []) whole
+    (served_state state 0 access) (last_clock (take i items) access first + 1) (i + 1)
 stands_more clocks items log whole state first i x access h at is short s = record {
   ahead = ap (λ earlier. log ++ entry ∷ [] ++ log_from clocks earlier next (clock + 1) (drop (i + 1) items))
       (take_at items i x h at ∙ ap (λ y. take i items ++ y ∷ []) is)
@@ -88,10 +88,10 @@ stands_more clocks items log whole state first i x access h at is short s = reco
   clock = last_clock (take i items) access first
 
   next : ReplayState
-  next = state_after state 0 access
+  next = served_state state 0 access
 
   entry : Done
-  entry = entry_of (take i items) access state clock
+  entry = done_of (take i items) access state clock
 
 -- an access that is not completed in time ends the log
 pub too_late : (clocks : ℕ) (earlier items : List Item) (access : Access) (state : ReplayState) (first : ℕ)
@@ -125,6 +125,6 @@ stands_same {clocks} {items} {log} {other} {whole} {state} {next} {first} {later
 pub entry_is : (earlier : List Item) (access : Access) (state : ReplayState) (clock last item value : ℕ)
     → clock ≡ last → item ≡ length earlier → value ≡ served_value state 0 access
     → ◌≡◌ {A = Done} (record { clock = clock; agent = 0; item = item; part = 0; access = access; value = value })
-    (entry_of earlier access state last)
+    (done_of earlier access state last)
 entry_is earlier access state clock last item value e f g =
     λ j. record { clock = e j; agent = 0; item = f j; part = 0; access = access; value = g j }

@@ -4,14 +4,14 @@ use Rattle.std.proofs.lemmas.Bool.{and_right}
 use Rattle.std.proofs.lemmas.Grind.{common_steps}
 use Rattle.std.specs.List.{list_any, list_all}
 use Rattle.std.proofs.lemmas.List.{length-append}
-use Rattle.fsb_access.specs.Replay.{ReplayState, start_of, state_after, replayed_values, Served}
+use Rattle.fsb_access.specs.Replay.{ReplayState, start_of, served_state, replayed_values, Served}
 use Rattle.fsb_access.specs.ScriptOrder.{InOrder, AreOfItems, Step, accesses_from, steps_of, script_of, is_same_item, comes_again, are_items_together}
 use Rattle.fsb_access.specs.declared.access.Setting.{Setting}
 use Rattle.fsb_access.specs.declared.item.Item.{Item}
 use Rattle.fsb_access.specs.declared.item.Item.TheVariants.{One, Locked, Idle}
 use Rattle.fsb_access.specs.declared.log.Done.{Done}
 use Rattle.fsb_access.proofs.Interface.{steps_of-other, comes_again-absent}
-use Rattle.fsb_solo.specs.SoloLog.{last_clock, entry_of, log_from, solo_log}
+use Rattle.fsb_solo.specs.SoloLog.{last_clock, done_of, log_from, solo_log}
 
 -- ---- one byte memory
 
@@ -20,15 +20,15 @@ served_from : (clocks : ℕ) (earlier : List Item) (state : ReplayState) (first 
 served_from clocks earlier state first [] = refl
 served_from clocks earlier state first (One access ∷ items) =
     go (nat_lt (last_clock earlier access first) clocks)
-    (served_from clocks (earlier ++ One access ∷ []) (state_after state 0 access) (last_clock earlier access first + 1) items)
+    (served_from clocks (earlier ++ One access ∷ []) (served_state state 0 access) (last_clock earlier access first + 1) items)
   where
     entry : Done
-    entry = entry_of earlier access state (last_clock earlier access first)
+    entry = done_of earlier access state (last_clock earlier access first)
 
     rest : List Done
-    rest = log_from clocks (earlier ++ One access ∷ []) (state_after state 0 access) (last_clock earlier access first + 1) items
+    rest = log_from clocks (earlier ++ One access ∷ []) (served_state state 0 access) (last_clock earlier access first + 1) items
 
-    go : (b : Bool) → map (λ done. done.value) rest ≡ replayed_values (state_after state 0 access) rest
+    go : (b : Bool) → map (λ done. done.value) rest ≡ replayed_values (served_state state 0 access) rest
         → map (λ done. done.value) (if b then entry ∷ rest else []) ≡ replayed_values state (if b then entry ∷ rest else [])
     go true e = ap (λ values. entry.value ∷ values) e
     go false e = refl
@@ -50,14 +50,14 @@ steps_from_front : (clocks : ℕ) (earlier : List Item) (state : ReplayState) (f
 steps_from_front clocks earlier state first [] = refl
 steps_from_front clocks earlier state first (One access ∷ items) =
     go (nat_lt (last_clock earlier access first) clocks)
-    (steps_from_front clocks (earlier ++ One access ∷ []) (state_after state 0 access) (last_clock earlier access first + 1) items
+    (steps_from_front clocks (earlier ++ One access ∷ []) (served_state state 0 access) (last_clock earlier access first + 1) items
     ∙ ap (λ n. accesses_from n (take (length rest) items)) (one_more earlier (One access)))
   where
     entry : Done
-    entry = entry_of earlier access state (last_clock earlier access first)
+    entry = done_of earlier access state (last_clock earlier access first)
 
     rest : List Done
-    rest = log_from clocks (earlier ++ One access ∷ []) (state_after state 0 access) (last_clock earlier access first + 1) items
+    rest = log_from clocks (earlier ++ One access ∷ []) (served_state state 0 access) (last_clock earlier access first + 1) items
 
     step : Step
     step = record { item = length earlier; part = 0; access = access }
@@ -75,13 +75,13 @@ own_from : (clocks : ℕ) (earlier : List Item) (state : ReplayState) (first : �
 own_from clocks earlier state first [] = refl
 own_from clocks earlier state first (One access ∷ items) =
     go (nat_lt (last_clock earlier access first) clocks)
-    (own_from clocks (earlier ++ One access ∷ []) (state_after state 0 access) (last_clock earlier access first + 1) items)
+    (own_from clocks (earlier ++ One access ∷ []) (served_state state 0 access) (last_clock earlier access first + 1) items)
   where
     entry : Done
-    entry = entry_of earlier access state (last_clock earlier access first)
+    entry = done_of earlier access state (last_clock earlier access first)
 
     rest : List Done
-    rest = log_from clocks (earlier ++ One access ∷ []) (state_after state 0 access) (last_clock earlier access first + 1) items
+    rest = log_from clocks (earlier ++ One access ∷ []) (served_state state 0 access) (last_clock earlier access first + 1) items
 
     go : (b : Bool) → list_all (λ (done : Done). nat_eq done.agent 0) rest ≡ true
         → list_all (λ (done : Done). nat_eq done.agent 0) (if b then entry ∷ rest else []) ≡ true
@@ -99,14 +99,14 @@ absent_from : (done : Done) (clocks : ℕ) (earlier : List Item) (state : Replay
 absent_from done clocks earlier state first [] h = refl
 absent_from done clocks earlier state first (One access ∷ items) h =
     go (nat_lt (last_clock earlier access first) clocks)
-    (absent_from done clocks (earlier ++ One access ∷ []) (state_after state 0 access) (last_clock earlier access first + 1) items
+    (absent_from done clocks (earlier ++ One access ∷ []) (served_state state 0 access) (last_clock earlier access first + 1) items
     (omega (arith, one_more earlier (One access))))
   where
     entry : Done
-    entry = entry_of earlier access state (last_clock earlier access first)
+    entry = done_of earlier access state (last_clock earlier access first)
 
     rest : List Done
-    rest = log_from clocks (earlier ++ One access ∷ []) (state_after state 0 access) (last_clock earlier access first + 1) items
+    rest = log_from clocks (earlier ++ One access ∷ []) (served_state state 0 access) (last_clock earlier access first + 1) items
 
     apart : is_same_item done entry ≡ false
     apart = and_right (nat_eq done.agent 0) (nat_eq done.item (length earlier)) (differs done.item (length earlier) h)
@@ -122,17 +122,17 @@ together_from : (clocks : ℕ) (earlier : List Item) (state : ReplayState) (firs
 together_from clocks earlier state first [] = refl
 together_from clocks earlier state first (One access ∷ items) =
     go (nat_lt (last_clock earlier access first) clocks)
-    (together_from clocks (earlier ++ One access ∷ []) (state_after state 0 access) (last_clock earlier access first + 1) items)
+    (together_from clocks (earlier ++ One access ∷ []) (served_state state 0 access) (last_clock earlier access first + 1) items)
   where
     entry : Done
-    entry = entry_of earlier access state (last_clock earlier access first)
+    entry = done_of earlier access state (last_clock earlier access first)
 
     rest : List Done
-    rest = log_from clocks (earlier ++ One access ∷ []) (state_after state 0 access) (last_clock earlier access first + 1) items
+    rest = log_from clocks (earlier ++ One access ∷ []) (served_state state 0 access) (last_clock earlier access first + 1) items
 
     alone : comes_again entry rest ≡ false
     alone = comes_again-absent entry rest
-        (absent_from entry clocks (earlier ++ One access ∷ []) (state_after state 0 access) (last_clock earlier access first + 1) items
+        (absent_from entry clocks (earlier ++ One access ∷ []) (served_state state 0 access) (last_clock earlier access first + 1) items
         (omega (arith, one_more earlier (One access))))
 
     go : (b : Bool) → are_items_together rest ≡ true → are_items_together (if b then entry ∷ rest else []) ≡ true

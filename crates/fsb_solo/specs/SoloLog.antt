@@ -2,7 +2,7 @@
 use Rattle.std.specs.Prelude.{◌≡◌, ℕ, ◌+◌, Bool, false, ◌==◌, if◌then◌else◌, nat_lt, List, [], ◌∷◌, ◌++◌, Some, length, slice_get}
 use Rattle.std.specs.List.{list_any}
 use Rattle.fsb_access.specs.Access.{accessed_line, IsLawfulAccess}
-use Rattle.fsb_access.specs.Replay.{ReplayState, start_of, served_value, state_after}
+use Rattle.fsb_access.specs.Replay.{ReplayState, start_of, served_value, served_state}
 use Rattle.fsb_access.specs.declared.access.Access.{Access}
 use Rattle.fsb_access.specs.declared.access.Setting.{Setting}
 use Rattle.fsb_access.specs.declared.item.Item.{Item}
@@ -29,8 +29,8 @@ abbrev pub last_clock : List Item → Access → ℕ → ℕ
 last_clock earlier access first = if was_named earlier access then first else first + 11
 
 -- the entry of an access that is completed in that clock
-abbrev pub entry_of : List Item → Access → ReplayState → ℕ → Done
-entry_of earlier access state clock = record {
+abbrev pub done_of : List Item → Access → ReplayState → ℕ → Done
+done_of earlier access state clock = record {
   clock = clock;
   agent = 0;
   item = length earlier;
@@ -44,8 +44,8 @@ abbrev pub log_from : ℕ → List Item → ReplayState → ℕ → List Item �
 log_from clocks earlier state first [] = []
 log_from clocks earlier state first (One access ∷ items) =
     if nat_lt (last_clock earlier access first) clocks
-    then entry_of earlier access state (last_clock earlier access first)
-    ∷ log_from clocks (earlier ++ One access ∷ []) (state_after state 0 access) (last_clock earlier access first + 1) items
+    then done_of earlier access state (last_clock earlier access first)
+    ∷ log_from clocks (earlier ++ One access ∷ []) (served_state state 0 access) (last_clock earlier access first + 1) items
     else []
 log_from clocks earlier state first (Locked group ∷ items) = []
 log_from clocks earlier state first (Idle count ∷ items) = []

@@ -29,7 +29,7 @@ pub enum Played {
 
 /// What a run gave: the log, and the waveform.
 #[derive(Clone, Copy)]
-pub struct Run<'a> {
+pub struct RunOutput<'a> {
     /// How many clocks were run.
     pub clocks: u32,
     /// How many accesses the scripts have.
@@ -42,7 +42,7 @@ pub struct Run<'a> {
 
 /// Writes the log to `out`, one piece a line, and then the dump under its name, where there is one.
 pub fn play<O: Sink, D: Sink>(
-    run: &Run<'_>,
+    run: &RunOutput<'_>,
     name: Option<&str>,
     out: &mut O,
     dump: &mut D,

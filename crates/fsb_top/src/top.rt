@@ -20,7 +20,7 @@ ghost use Rattle.fsb_top.specs.Refused.{refusal_status};
 use crate::check::check_file;
 use crate::command::{Command, read_words};
 use crate::count::access_count;
-use crate::play::{Played, Run, play};
+use crate::play::{Played, RunOutput, play};
 use crate::read::{Refusal, read_plan};
 use crate::simulate::{simulate_log, simulate_trace};
 use crate::status::Status;
@@ -171,7 +171,7 @@ fn run_plan<O: Sink, D: Sink>(
         return Status::OutOfMemory;
     };
     its_dump_reads_back(plan.profile, trace.as_slice());
-    let run = Run {
+    let run = RunOutput {
         clocks: plan.clocks,
         accesses: access_count(plan),
         profile: plan.profile,

@@ -4,8 +4,8 @@ use Rattle.std.proofs.lemmas.List.{append_assoc, append-nil, length-append}
 use Rattle.fsb_signal.specs.declared.sample.Sample.{Sample}
 use Rattle.vcd_grammar.proofs.Interface.{tokens-append, blocks_some, ended-cons, behind-append, events_in-append}
 use Rattle.vcd_grammar.specs.Tokens.{Token, tokens_from, tokens_so_far, open_run}
-use Rattle.vcd_grammar.specs.Blocks.{Block, Event, Later, Changed, blocks_from, blocks_of, ended}
-use Rattle.vcd_grammar.specs.Judging.{Known, nothing, Turn, turn, behind, events_in}
+use Rattle.vcd_grammar.specs.Blocks.{Block, BlockEvent, Later, Changed, blocks_from, blocks_of, ended}
+use Rattle.vcd_grammar.specs.Judging.{Known, nothing, TokenTurn, turn, behind, events_in}
 use Rattle.vcd_grammar.specs.Values.{at_first, samples_in, values_behind, sample_of_block, Values}
 
 -- ---- tokens of appended bytes
@@ -27,34 +27,34 @@ turn-refused k t e = rw e refl
 
 behind-refused : (k : Known) (ts : List Token) → is_some k.fault ≡ true → behind k ts ≡ k
 behind-refused k [] e = refl
-behind-refused k (t ∷ ts) e = ap (λ (x : Turn). behind x.known ts) (turn-refused k t e) ∙ behind-refused k ts e
+behind-refused k (t ∷ ts) e = ap (λ (x : TokenTurn). behind x.known ts) (turn-refused k t e) ∙ behind-refused k ts e
 
 events_in-refused : (k : Known) (ts : List Token) → is_some k.fault ≡ true → events_in k ts ≡ []
 events_in-refused k [] e = refl
 events_in-refused k (t ∷ ts) e =
-    ap (λ (x : Turn). x.events ++ events_in x.known ts) (turn-refused k t e) ∙ events_in-refused k ts e
+    ap (λ (x : TokenTurn). x.events ++ events_in x.known ts) (turn-refused k t e) ∙ events_in-refused k ts e
 
 -- ---- samples of appended events
 
 -- the blocks that a greater time has ended stay the first ones
-abbrev ended_from : Block → List Event → List Block
+abbrev ended_from : Block → List BlockEvent → List Block
 ended_from block [] = []
 ended_from block (Later ∷ events) = block ∷ ended_from [] events
 ended_from block (Changed change ∷ events) = ended_from (block ++ change ∷ []) events
 
-ended-from : (block : Block) (es : List Event) → ended (blocks_from block es) ≡ ended_from block es
+ended-from : (block : Block) (es : List BlockEvent) → ended (blocks_from block es) ≡ ended_from block es
 ended-from block [] = refl
 ended-from block (Later ∷ es) =
     ended-cons block (blocks_from [] es) (blocks_some [] es) ∙ ap (λ bs. block ∷ bs) (ended-from [] es)
 ended-from block (Changed c ∷ es) = ended-from (block ++ c ∷ []) es
 
 -- the block that stands open behind events
-abbrev open_block : Block → List Event → Block
+abbrev open_block : Block → List BlockEvent → Block
 open_block block [] = block
 open_block block (Later ∷ es) = open_block [] es
 open_block block (Changed c ∷ es) = open_block (block ++ c ∷ []) es
 
-ended_from-append : (block : Block) (es fs : List Event) → ended_from block (es ++ fs) ≡ ended_from block es ++ ended_from (open_block block es) fs
+ended_from-append : (block : Block) (es fs : List BlockEvent) → ended_from block (es ++ fs) ≡ ended_from block es ++ ended_from (open_block block es) fs
 ended_from-append block [] fs = refl
 ended_from-append block (Later ∷ es) fs = ap (λ bs. block ∷ bs) (ended_from-append [] es fs)
 ended_from-append block (Changed c ∷ es) fs = ended_from-append (block ++ c ∷ []) es fs
@@ -66,7 +66,7 @@ samples_in-append before (b ∷ bs) cs =
     (h.0, ap (λ ss. sample_of_block before b ++ ss) h.1 ∙ sym (append_assoc (sample_of_block before b) (samples_in (values_behind before b) bs) h.0))
 
 -- the samples that are decided stay the first ones
-decided-append : (es fs : List Event) → (ss : List Sample) × (samples_in at_first (ended (blocks_of (es ++ fs))) ≡ samples_in at_first (ended (blocks_of es)) ++ ss)
+decided-append : (es fs : List BlockEvent) → (ss : List Sample) × (samples_in at_first (ended (blocks_of (es ++ fs))) ≡ samples_in at_first (ended (blocks_of es)) ++ ss)
 decided-append es fs =
     let h = samples_in-append at_first (ended_from [] es) (ended_from (open_block [] es) fs) in (
       h.0,

@@ -15,17 +15,17 @@ use Rattle.fsb_signal.specs.declared.lines.Lines.{Lines}
 use Rattle.fsb_signal.specs.declared.sample.Sample.{Sample}
 use Rattle.fsb_signal.specs.Samples.{has_line, has_unknown, line_at}
 use Rattle.fsb_wave.specs.ControlLines.{NamedLine, control_lines}
-use Rattle.fsb_wave.specs.WaveText.{Clocks, mark_of, mark_at, drawing, clocks_text, requests, transfers, reached, lines_of, lines_behind}
-use Rattle.fsb_wave.specs.Law.{EqualWaves, unknown_at}
+use Rattle.fsb_wave.specs.WaveText.{Clocks, mark_of, mark_at, drawing, clock_count_text, requests, transfers, reached, lines_over, lines_behind}
+use Rattle.fsb_wave.specs.Law.{EqualWaves, is_unknown_at}
 use Rattle.fsb_wave.proofs.Texts.{drawings-at, line-drawn, line-below, line-behind, line-last, length-lines}
 
 -- the last line
-last-line : (clocks : Clocks) (from n all : ℕ) → slice_get (lines_of clocks from n all) (length (lines_of clocks from n all) - 1) ≡ Some (clocks_text all)
+last-line : (clocks : Clocks) (from n all : ℕ) → slice_get (lines_over clocks from n all) (length (lines_over clocks from n all) - 1) ≡ Some (clock_count_text all)
 last-line clocks from n all =
     let count = length-lines clocks from n all in
     let r = length (requests clocks from n) in
     let t = length (transfers clocks from n) in
-    let i = length (lines_of clocks from n all) - 1 in
+    let i = length (lines_over clocks from n all) - 1 in
     let place : i - 21 - r ≡ t = omega (arith, count) in
     line-below clocks from n all i (omega (arith, count))
     ∙ line-behind clocks from n all (i - 21) (omega (arith, count))
@@ -34,8 +34,8 @@ last-line clocks from n all =
 same_some : {X : Type 0} (x y : X) → Some x ≡ Some y → x ≡ y
 same_some x y e = cc
 
-same_count : (m n : ℕ) → m < 2 ^ 64 → n < 2 ^ 64 → clocks_text m ≡ clocks_text n → m ≡ n
-unfolding clocks_text
+same_count : (m n : ℕ) → m < 2 ^ 64 → n < 2 ^ 64 → clock_count_text m ≡ clock_count_text n → m ≡ n
+unfolding clock_count_text
 same_count m n a b e =
     let digits : decimal m ++ 10 ∷ [] ≡ decimal n ++ 10 ∷ [] = cc in
     decimal_injective m n a b (append_cancel_right (decimal m) (decimal n) (10 ∷ []) digits)
@@ -134,8 +134,8 @@ line_at-is : (w : List Sample) (line : Lines) (c : ℕ) (s : Sample) → slice_g
 unfolding line_at
 line_at-is w line c s e = ap (λ o. option_map_or (λ s. has_line s line) o false) e
 
-unknown_at-is : (w : List Sample) (line : Lines) (c : ℕ) (s : Sample) → slice_get w c ≡ Some s → unknown_at line w c ≡ has_unknown s line
-unfolding unknown_at
+unknown_at-is : (w : List Sample) (line : Lines) (c : ℕ) (s : Sample) → slice_get w c ≡ Some s → is_unknown_at line w c ≡ has_unknown s line
+unfolding is_unknown_at
 unknown_at-is w line c s e = ap (λ o. option_map_or (λ s. has_unknown s line) o false) e
 
 -- the sample of a clock that is reached
@@ -160,8 +160,8 @@ asserted v w from to c k named e low high at =
       | inr past ↦ rw (slice_get_past v c past, slice_get_past w c (omega (arith, same, past))) refl
     ]
 
-pub unknown : (v w : List Sample) (from to c k : ℕ) (named : NamedLine) → EqualWaves v w from to → from ≤ c → c ≤ to → slice_get control_lines k ≡ Some named → unknown_at named.line v c ≡ unknown_at named.line w c
-unfolding unknown_at has_bit
+pub unknown : (v w : List Sample) (from to c k : ℕ) (named : NamedLine) → EqualWaves v w from to → from ≤ c → c ≤ to → slice_get control_lines k ≡ Some named → is_unknown_at named.line v c ≡ is_unknown_at named.line w c
+unfolding is_unknown_at has_bit
 unknown v w from to c k named e low high at =
     let same = number v w from to e in
     elim (cases_lt c (length v)) [

@@ -12,7 +12,7 @@ use Rattle.fsb_signal.specs.declared.lines.Lines.{Lines}
 use Rattle.fsb_signal.specs.declared.lines.TheConstants.Lines.{ADS, DRDY}
 use Rattle.fsb_signal.specs.declared.sample.Sample.{Sample}
 use Rattle.fsb_wave.specs.ControlLines.{NamedLine, control_lines}
-use Rattle.fsb_wave.specs.WaveText.{Clocks, mark_of, mark_at, drawing, is_at, has_request, request_text, data_text, clocks_text, text_at, drawings, texts_where, requests, transfers, lines_behind, lines_below, lines_of}
+use Rattle.fsb_wave.specs.WaveText.{Clocks, mark_of, mark_at, drawing, asserts_at, has_request, request_text, data_text, clock_count_text, text_at, drawings, texts_where, requests, transfers, lines_behind, lines_below, lines_over}
 use Rattle.fsb_wave.proofs.Lists.{slice_get-behind, map-same, map_where-same}
 
 -- the lines of the clocks that pass, counted
@@ -42,23 +42,23 @@ unfolding drawings
 drawings-at clocks from n k named e = slice_get-map (drawing clocks from n) control_lines k ∙ ap (option_map (drawing clocks from n)) e
 
 -- how many lines there are
-pub length-lines : (clocks : Clocks) (from n all : ℕ) → length (lines_of clocks from n all) ≡ 21 + length (requests clocks from n) + length (transfers clocks from n) + 1
-unfolding lines_of lines_below lines_behind
+pub length-lines : (clocks : Clocks) (from n all : ℕ) → length (lines_over clocks from n all) ≡ 21 + length (requests clocks from n) + length (transfers clocks from n) + 1
+unfolding lines_over lines_below lines_behind
 length-lines clocks from n all =
     let a = length-append (drawings clocks from n) (lines_below clocks from n all) in
     let b = length-append (requests clocks from n) (lines_behind clocks from n all) in
-    let d = length-append (transfers clocks from n) (clocks_text all ∷ []) in
+    let d = length-append (transfers clocks from n) (clock_count_text all ∷ []) in
     let e = length-drawings clocks from n in
     omega (arith, a, b, d, e)
 
 -- the line of a number, part by part
-pub line-drawn : (clocks : Clocks) (from n all i : ℕ) → i < 21 → slice_get (lines_of clocks from n all) i ≡ slice_get (drawings clocks from n) i
-unfolding lines_of
+pub line-drawn : (clocks : Clocks) (from n all i : ℕ) → i < 21 → slice_get (lines_over clocks from n all) i ≡ slice_get (drawings clocks from n) i
+unfolding lines_over
 line-drawn clocks from n all i h =
     slice_get-before (drawings clocks from n) (lines_below clocks from n all) i (omega (arith, length-drawings clocks from n))
 
-pub line-below : (clocks : Clocks) (from n all i : ℕ) → 21 ≤ i → slice_get (lines_of clocks from n all) i ≡ slice_get (lines_below clocks from n all) (i - 21)
-unfolding lines_of
+pub line-below : (clocks : Clocks) (from n all i : ℕ) → 21 ≤ i → slice_get (lines_over clocks from n all) i ≡ slice_get (lines_below clocks from n all) (i - 21)
+unfolding lines_over
 line-below clocks from n all i h =
     slice_get-behind (drawings clocks from n) (lines_below clocks from n all) i (omega (arith, length-drawings clocks from n))
     ∙ ap (λ k. slice_get (lines_below clocks from n all) (i - k)) (length-drawings clocks from n)
@@ -73,16 +73,16 @@ line-behind clocks from n all i h = slice_get-behind (requests clocks from n) (l
 
 pub line-transfer : (clocks : Clocks) (from n all i : ℕ) → i < length (transfers clocks from n) → slice_get (lines_behind clocks from n all) i ≡ slice_get (transfers clocks from n) i
 unfolding lines_behind
-line-transfer clocks from n all i h = slice_get-before (transfers clocks from n) (clocks_text all ∷ []) i h
+line-transfer clocks from n all i h = slice_get-before (transfers clocks from n) (clock_count_text all ∷ []) i h
 
-pub line-last : (clocks : Clocks) (from n all : ℕ) → slice_get (lines_behind clocks from n all) (length (transfers clocks from n)) ≡ Some (clocks_text all)
+pub line-last : (clocks : Clocks) (from n all : ℕ) → slice_get (lines_behind clocks from n all) (length (transfers clocks from n)) ≡ Some (clock_count_text all)
 unfolding lines_behind
-line-last clocks from n all = slice_get-end (transfers clocks from n) (clocks_text all)
+line-last clocks from n all = slice_get-end (transfers clocks from n) (clock_count_text all)
 
 pub line-past : (clocks : Clocks) (from n all i : ℕ) → length (transfers clocks from n) < i → slice_get (lines_behind clocks from n all) i ≡ None
 unfolding lines_behind
 line-past clocks from n all i h =
-    slice_get_past (transfers clocks from n ++ clocks_text all ∷ []) i (omega (arith, length-append (transfers clocks from n) (clocks_text all ∷ [])))
+    slice_get_past (transfers clocks from n ++ clock_count_text all ∷ []) i (omega (arith, length-append (transfers clocks from n) (clock_count_text all ∷ [])))
 
 -- the lines depend on the clocks of the range and on the one before them alone
 pub record SameClocks (from n : ℕ) (a b : Clocks) : Type 0 where
@@ -102,8 +102,8 @@ drawings-same : (a b : Clocks) (from n : ℕ) → SameClocks from n a b → draw
 unfolding drawings
 drawings-same a b from n s = λ i. map (λ named. drawing-same a b from n s named i) control_lines
 
-is_at-same : (a b : Clocks) (line : Lines) (c : ℕ) → a c ≡ b c → is_at a line c ≡ is_at b line c
-unfolding is_at
+is_at-same : (a b : Clocks) (line : Lines) (c : ℕ) → a c ≡ b c → asserts_at a line c ≡ asserts_at b line c
+unfolding asserts_at
 is_at-same a b line c e = cc
 
 has_request-same : (a b : Clocks) (c : ℕ) → a c ≡ b c → a (c - 1) ≡ b (c - 1) → has_request a c ≡ has_request b c
@@ -124,12 +124,12 @@ requests-same a b from n s =
 transfers-same : (a b : Clocks) (from n : ℕ) → SameClocks from n a b → transfers a from n ≡ transfers b from n
 unfolding texts_where
 transfers-same a b from n s =
-    map_where-same (λ j. text_at data_text a (from + j)) (λ j. text_at data_text b (from + j)) (λ j. is_at a DRDY (from + j)) (λ j. is_at b DRDY (from + j)) n
+    map_where-same (λ j. text_at data_text a (from + j)) (λ j. text_at data_text b (from + j)) (λ j. asserts_at a DRDY (from + j)) (λ j. asserts_at b DRDY (from + j)) n
     (λ j l. is_at-same a b DRDY (from + j) (s.same (from + j) (omega (arith, l)) (omega arith) (omega (arith, l))))
     (λ j l. text_at-same data_text a b (from + j) (s.same (from + j) (omega (arith, l)) (omega arith) (omega (arith, l))))
 
-pub lines-same : (a b : Clocks) (from n all : ℕ) → SameClocks from n a b → lines_of a from n all ≡ lines_of b from n all
-unfolding lines_of lines_below lines_behind
+pub lines-same : (a b : Clocks) (from n all : ℕ) → SameClocks from n a b → lines_over a from n all ≡ lines_over b from n all
+unfolding lines_over lines_below lines_behind
 lines-same a b from n all s =
     rw (drawings-same a b from n s, requests-same a b from n s, transfers-same a b from n s) refl
 

@@ -7,8 +7,8 @@ use Rattle.fsb_signal.specs.Samples.{has_unknown}
 use Rattle.fsb_wave.specs.WaveText.{wave_lines}
 
 -- the line is unknown at clock c; past the end nothing is
-unfoldable pub unknown_at : Lines → List Sample → ℕ → Bool
-unknown_at line w c = option_map_or (λ s. has_unknown s line) (slice_get w c) false
+unfoldable pub is_unknown_at : Lines → List Sample → ℕ → Bool
+is_unknown_at line w c = option_map_or (λ s. has_unknown s line) (slice_get w c) false
 
 -- the waves of two traces over one range are equal
 pub record EqualWaves (v w : List Sample) (from to : ℕ) : Type 0 where

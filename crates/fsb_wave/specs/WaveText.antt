@@ -37,33 +37,33 @@ drawing clocks from n named =
     named.name ++ map (mark_at clocks named.line) (range_with_len from n) ++ codes "\n"
 
 -- the line is asserted at a clock
-unfoldable pub is_at : Clocks → Lines → ℕ → Bool
-is_at clocks line c = option_map_or (λ s. has_line s line) (clocks c) false
+unfoldable pub asserts_at : Clocks → Lines → ℕ → Bool
+asserts_at clocks line c = option_map_or (λ s. has_line s line) (clocks c) false
 
 -- ADS# is at clock c or at the one before it; clock 0 has none before it, and there c - 1 is 0 too
 unfoldable pub has_request : Clocks → ℕ → Bool
-has_request clocks c = is_at clocks ADS c || is_at clocks ADS (c - 1)
+has_request clocks c = asserts_at clocks ADS c || asserts_at clocks ADS (c - 1)
 
 -- a number in hexadecimal, or `?` where it is not known
-abbrev pub value_text : Bool → ℕ → List ℕ
-value_text known value = if known then hexadecimal value else codes "?"
+abbrev pub known_text : Bool → ℕ → List ℕ
+known_text known value = if known then hexadecimal value else codes "?"
 
 -- the line of a clock of a request: `A <clock> <address> <request>`; the address is the address word times 8
 unfoldable pub request_text : ℕ → Sample → List ℕ
 request_text c s =
     codes "A " ++ decimal c ++ codes " "
-    ++ value_text (is_known_word s.addr) (8 * s.addr.bits) ++ codes " "
-    ++ value_text (is_known_word s.req) s.req.bits ++ codes "\n"
+    ++ known_text (is_known_word s.addr) (8 * s.addr.bits) ++ codes " "
+    ++ known_text (is_known_word s.req) s.req.bits ++ codes "\n"
 
 -- the line of a clock of data: `D <clock> <data>`
 unfoldable pub data_text : ℕ → Sample → List ℕ
 data_text c s =
     codes "D " ++ decimal c ++ codes " "
-    ++ value_text (is_known_word s.dbus) s.dbus.bits ++ codes "\n"
+    ++ known_text (is_known_word s.dbus) s.dbus.bits ++ codes "\n"
 
 -- the last line: `clocks=<n>`
-unfoldable pub clocks_text : ℕ → List ℕ
-clocks_text n = codes "clocks=" ++ decimal n ++ codes "\n"
+unfoldable pub clock_count_text : ℕ → List ℕ
+clock_count_text n = codes "clocks=" ++ decimal n ++ codes "\n"
 
 -- the text of a clock, by its sample
 unfoldable pub text_at : (ℕ → Sample → List ℕ) → Clocks → ℕ → List ℕ
@@ -83,11 +83,11 @@ requests clocks from n = texts_where (has_request clocks) (text_at request_text 
 
 -- the lines of the clocks with DRDY#
 abbrev pub transfers : Clocks → ℕ → ℕ → List (List ℕ)
-transfers clocks from n = texts_where (is_at clocks DRDY) (text_at data_text clocks) from n
+transfers clocks from n = texts_where (asserts_at clocks DRDY) (text_at data_text clocks) from n
 
 -- the lines of data, and the count of clocks of a trace of `all` samples
 unfoldable pub lines_behind : Clocks → ℕ → ℕ → ℕ → List (List ℕ)
-lines_behind clocks from n all = transfers clocks from n ++ clocks_text all ∷ []
+lines_behind clocks from n all = transfers clocks from n ++ clock_count_text all ∷ []
 
 -- the lines of requests, and those behind them
 unfoldable pub lines_below : Clocks → ℕ → ℕ → ℕ → List (List ℕ)
@@ -95,9 +95,9 @@ lines_below clocks from n all = requests clocks from n ++ lines_behind clocks fr
 
 -- the lines of a wave over n clocks from `from` on, of a trace of `all` samples: the drawings, the lines of requests, the
 -- lines of data and the count of clocks, each with its line feed
-unfoldable pub lines_of : Clocks → ℕ → ℕ → ℕ → List (List ℕ)
-lines_of clocks from n all = drawings clocks from n ++ lines_below clocks from n all
+unfoldable pub lines_over : Clocks → ℕ → ℕ → ℕ → List (List ℕ)
+lines_over clocks from n all = drawings clocks from n ++ lines_below clocks from n all
 
 -- the lines of the wave of a trace over the clocks from `from` to `to`
 abbrev pub wave_lines : List Sample → ℕ → ℕ → List (List ℕ)
-wave_lines w from to = lines_of (slice_get w) from (reached from to (length w)) (length w)
+wave_lines w from to = lines_over (slice_get w) from (reached from to (length w)) (length w)

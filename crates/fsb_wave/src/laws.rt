@@ -4,7 +4,7 @@ ghost use Rattle.std.specs.Prelude.{◌≡◌, ◌≤◌, ℕ, List, Some, lengt
 ghost use Rattle.fsb_signal.specs.declared.sample.Sample.{Sample};
 ghost use Rattle.fsb_signal.specs.Samples.{line_at};
 ghost use Rattle.fsb_wave.specs.ControlLines.{NamedLine, control_lines};
-ghost use Rattle.fsb_wave.specs.Law.{EqualWaves, unknown_at};
+ghost use Rattle.fsb_wave.specs.Law.{EqualWaves, is_unknown_at};
 
 /// Two traces whose waves over a range are equal have the same number of samples, and at each clock of the range the
 /// same control lines asserted and the same unknown.
@@ -18,5 +18,5 @@ pub fn equal_waves_show_equal_lines()
     ensures unknown { (v w : List Sample) (from to : ℕ) → EqualWaves v w from to
         → (c : ℕ) → from ≤ c → c ≤ to
         → (k : ℕ) (named : NamedLine) → slice_get control_lines k ≡ Some named
-        → unknown_at named.line v c ≡ unknown_at named.line w c }
+        → is_unknown_at named.line v c ≡ is_unknown_at named.line w c }
 {}

@@ -2,7 +2,7 @@
 
 ghost use Rattle.std.specs.Prelude.{◌≡◌, ◌≤◌, ◌+◌, ◌++◌};
 ghost use Rattle.arrayvec.specs.ArrayVec.{array_vec_len};
-ghost use Rattle.fsb_wave.specs.WaveText.{mark_of, value_text, request_text, data_text, clocks_text};
+ghost use Rattle.fsb_wave.specs.WaveText.{mark_of, known_text, request_text, data_text, clock_count_text};
 
 use arrayvec::ArrayVec;
 use fsb_io::{Line, put_decimal, put_hex, put_text};
@@ -25,7 +25,7 @@ pub fn mark_of(line: Lines, sample: &Sample) -> u8
 // Appends a number, or `?` where it is not known.
 fn put_value(line: &mut Line, known: bool, value: u64)
     requires { array_vec_len line.old + 20 ≤ 256 }
-    ensures items { line.new.items ≡ line.old.items ++ value_text known value }
+    ensures items { line.new.items ≡ line.old.items ++ known_text known value }
     ensures len { array_vec_len line.new ≤ array_vec_len line.old + 16 }
 {
     if known {
@@ -66,9 +66,9 @@ pub fn data_line(clock: u64, sample: &Sample) -> Line
 }
 
 /// The last line, with its line feed.
-#[tactic(auto, unfolding(crate::specs::WaveText::clocks_text))]
+#[tactic(auto, unfolding(crate::specs::WaveText::clock_count_text))]
 pub fn clocks_line(count: u64) -> Line
-    ensures { result.items ≡ clocks_text count }
+    ensures { result.items ≡ clock_count_text count }
 {
     let mut line = ArrayVec::new();
     put_text(&mut line, "clocks=");

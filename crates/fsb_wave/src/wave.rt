@@ -1,7 +1,7 @@
 ghost use Rattle.std.specs.Prelude.{◌≡◌, ◌≤◌, ◌<◌, ◌+◌, ◌^◌, ◌++◌, ◌∷◌, [], ℕ, List, Some, IfSome, length, option_map, slice_get};
 ghost use Rattle.fsb_count.specs.Clocks.{count_where, nth_where};
 ghost use Rattle.fsb_signal.specs.declared.sample.Sample.{Sample};
-ghost use Rattle.fsb_wave.specs.WaveText.{wave_lines, lines_of, lines_below, lines_behind, requests, transfers, drawings, is_at, has_request, mark_at, text_at, request_text, data_text};
+ghost use Rattle.fsb_wave.specs.WaveText.{wave_lines, lines_over, lines_below, lines_behind, requests, transfers, drawings, asserts_at, has_request, mark_at, text_at, request_text, data_text};
 ghost use Rattle.fsb_wave.specs.Wave.{Stands, kept_at, shown};
 
 use crate::control_lines::control_line;
@@ -74,7 +74,7 @@ impl Wave {
     // How many lines there are, by what is kept.
     fn length(&self) -> usize
         ensures value { result
-            ≡ length (lines_of (kept_at self.now) self.now.range.from (shown self.now) self.now.count) }
+            ≡ length (lines_over (kept_at self.now) self.now.range.from (shown self.now) self.now.count) }
         ensures few { result ≤ 150 }
     {
         21 + self.requests() + self.transfers() + 1
@@ -83,7 +83,7 @@ impl Wave {
     // The line of this number, by what is kept.
     fn line_of(&self, i: usize) -> Option<Line>
         ensures { option_map (λ line. line.items) result
-            ≡ slice_get (lines_of (kept_at self.now) self.now.range.from (shown self.now) self.now.count)
+            ≡ slice_get (lines_over (kept_at self.now) self.now.range.from (shown self.now) self.now.count)
             i }
     {
         if i < 21 {
@@ -197,7 +197,7 @@ impl Wave {
     // How many lines of data there are.
     fn transfers(&self) -> usize
         ensures { result
-            ≡ count_where (λ place. is_at (kept_at self.now) Lines.DRDY (self.now.range.from + place))
+            ≡ count_where (λ place. asserts_at (kept_at self.now) Lines.DRDY (self.now.range.from + place))
             (shown self.now) }
     {
         count_where(self.shown(), |place| self.has_data(place))
@@ -206,7 +206,7 @@ impl Wave {
     // The place of the k-th of them.
     fn transfer_place(&self, k: usize) -> Option<usize>
         ensures value { result
-            ≡ nth_where (λ place. is_at (kept_at self.now) Lines.DRDY (self.now.range.from + place)) k
+            ≡ nth_where (λ place. asserts_at (kept_at self.now) Lines.DRDY (self.now.range.from + place)) k
             (shown self.now) }
         ensures few { IfSome result (λ place. place < 64) }
     {
@@ -250,15 +250,15 @@ impl Wave {
     // Whether DRDY# is asserted at a place of the range.
     fn has_data(&self, place: usize) -> bool
         requires { place < 64 }
-        ensures { result ≡ is_at (kept_at self.now) Lines.DRDY (self.now.range.from + place) }
+        ensures { result ≡ asserts_at (kept_at self.now) Lines.DRDY (self.now.range.from + place) }
     {
         self.has_at(Lines::DRDY, self.range.clock_of(place))
     }
 
     // Whether the line is asserted at a clock, as far as it is kept.
-    #[tactic(auto, unfolding(crate::specs::WaveText::is_at))]
+    #[tactic(auto, unfolding(crate::specs::WaveText::asserts_at))]
     fn has_at(&self, line: Lines, clock: u64) -> bool
-        ensures { result ≡ is_at (kept_at self.now) line clock }
+        ensures { result ≡ asserts_at (kept_at self.now) line clock }
     {
         match self.sample_at(clock) {
             Some(sample) => sample.has(line),

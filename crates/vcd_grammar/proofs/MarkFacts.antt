@@ -8,11 +8,11 @@ use Rattle.fsb_signal.specs.Table.{table}
 use Rattle.vcd_grammar.specs.declared.fault.VcdCause.{VcdCause}
 use Rattle.vcd_grammar.specs.declared.fault.VcdCause.TheVariants as causes
 use Rattle.vcd_grammar.specs.Tokens.{Token, is_long, tokens_from, tokens_so_far, open_run, ended_at}
-use Rattle.vcd_grammar.specs.Words.{HeaderWord, Declares, Finishes, Ends, Opens, Bare, header_word, ValueWord, Stamp, Scalar, Vector, Foreign, Mark, Section, Wrong, value_word, is_end, is_code}
+use Rattle.vcd_grammar.specs.Words.{HeaderWord, Declares, Finishes, Ends, Opens, Bare, header_word, ValueWord, Stamp, Scalar, Vector, Foreign, Mark, Section, Wrong, value_word, is_end, is_code_word}
 use Rattle.vcd_grammar.specs.Codes.{lines_of}
-use Rattle.vcd_grammar.specs.Blocks.{Block, Event, Later, Changed, blocks_from, ended}
+use Rattle.vcd_grammar.specs.Blocks.{Block, BlockEvent, Later, Changed, blocks_from, ended}
 use Rattle.vcd_grammar.specs.Values.{at_first, samples_in}
-use Rattle.vcd_grammar.specs.Judging.{Draft, Mode, Header, Variable, Skipped, Closing, Values, Pending, Beside, Passed, Known, nothing, Turn, stays, goes_to, fails, unless_long, drafted, is_declared, other_declared, line_declared, named, with_width, declared, missing_from, closed_with, closed, header_turn, later, stamped, scalar_turn, value_turn, is_too_wide, vector_turn, beside_turn, turn_in, turn, behind, events_in, is_past_header, marks_of_lines, known_marks}
+use Rattle.vcd_grammar.specs.Judging.{Draft, Mode, Header, Variable, Skipped, Closing, Values, Pending, Beside, Passed, Known, nothing, TokenTurn, stays, goes_to, fails, unless_long, drafted, is_declared, other_declared, line_declared, named, with_width, declared, missing_from, closed_with, closed, header_turn, later, stamped, scalar_turn, value_turn, is_too_wide, vector_turn, beside_turn, turn_in, turn, behind, events_in, is_past_header, marks_of_lines, known_marks}
 use Rattle.vcd_grammar.specs.Reading.{marks_of, marks_so_far, samples_so_far}
 use Rattle.vcd_grammar.proofs.Append.{tokens-append, behind-append}
 
@@ -23,7 +23,7 @@ pub record Past (k l : Known) : Type 0 where
   pub over : is_past_header l.mode ≡ true
   pub lines : l.lines ≡ k.lines
 
-past-if : (k : Known) (b : Bool) (x y : Turn) → Past k x.known → Past k y.known → Past k (if b then x else y).known
+past-if : (k : Known) (b : Bool) (x y : TokenTurn) → Past k x.known → Past k y.known → Past k (if b then x else y).known
 past-if k true x y p q = p
 past-if k false x y p q = q
 
@@ -68,7 +68,7 @@ past-beside : (k : Known) (place : ℕ) (lines : Option (List ℕ)) → is_past_
 past-beside k place None h = past-fails k place causes.Code h
 past-beside k place (Some lines) h = past-goes k Values refl
 
-past-long : (k : Known) (t : Token) (x : Turn) → is_past_header k.mode ≡ true → Past k x.known → Past k (unless_long k t x).known
+past-long : (k : Known) (t : Token) (x : TokenTurn) → is_past_header k.mode ≡ true → Past k x.known → Past k (unless_long k t x).known
 past-long k t x h p = past-if k (is_long t.word) (fails k t.place causes.Token) x (past-fails k t.place causes.Token h) p
 
 past-in : (m : Mode) (k : Known) (t : Token) → is_past_header m ≡ true → is_past_header k.mode ≡ true → Past k (turn_in m k t).known
@@ -129,15 +129,15 @@ marks-whole fed more m h =
 -- ---- before the end of the header
 
 -- what happens is no time
-abbrev is_change : Event → Bool
+abbrev is_change : BlockEvent → Bool
 is_change Later = false
 is_change (Changed change) = true
 
 -- no time comes
-abbrev Calm : List Event → Type 0
+abbrev Calm : List BlockEvent → Type 0
 Calm events = list_all is_change events ≡ true
 
-calm-if : (b : Bool) (x y : Turn) → Calm x.events → Calm y.events → Calm (if b then x else y).events
+calm-if : (b : Bool) (x y : TokenTurn) → Calm x.events → Calm y.events → Calm (if b then x else y).events
 calm-if true x y p q = p
 calm-if false x y p q = q
 
@@ -150,7 +150,7 @@ calm-named k d width (Some number) =
 
 calm-width : (k : Known) (d : Draft) (width : Option ℕ) → Calm (with_width k d width).events
 calm-width k d None = refl
-calm-width k d (Some width) = calm-if ((d.count == 4) && is_code d.code) (named k d width d.line) (fails k d.place causes.Header) (calm-named k d width d.line) refl
+calm-width k d (Some width) = calm-if ((d.count == 4) && is_code_word d.code) (named k d width d.line) (fails k d.place causes.Header) (calm-named k d width d.line) refl
 
 calm-declared : (k : Known) (d : Draft) → Calm (declared k d).events
 unfolding declared
@@ -167,7 +167,7 @@ calm-header k place Ends = refl
 calm-header k place Opens = refl
 calm-header k place Bare = refl
 
-calm-long : (k : Known) (t : Token) (x : Turn) → Calm x.events → Calm (unless_long k t x).events
+calm-long : (k : Known) (t : Token) (x : TokenTurn) → Calm x.events → Calm (unless_long k t x).events
 calm-long k t x p = calm-if (is_long t.word) (fails k t.place causes.Token) x refl p
 
 calm-in : (m : Mode) (k : Known) (t : Token) → is_past_header m ≡ false → Calm (turn_in m k t).events
@@ -187,7 +187,7 @@ calm-turn : (k : Known) (t : Token) → is_past_header k.mode ≡ false → Calm
 unfolding turn
 calm-turn k t h = calm-if (is_some k.fault) (stays k) (turn_in k.mode k t) refl (calm-in k.mode k t h)
 
-calm-append : (a b : List Event) → Calm a → Calm b → Calm (a ++ b)
+calm-append : (a b : List BlockEvent) → Calm a → Calm b → Calm (a ++ b)
 calm-append [] b p q = q
 calm-append (Later ∷ a) b p q = cc p
 calm-append (Changed change ∷ a) b p q = calm-append a b p q
@@ -205,7 +205,7 @@ calm-behind k [] h = refl
 calm-behind k (t ∷ ts) h = calm-first k t ts h (calm-behind (turn k t).known ts h)
 
 -- no block ends
-none_ended : (block : Block) (events : List Event) → Calm events → ended (blocks_from block events) ≡ []
+none_ended : (block : Block) (events : List BlockEvent) → Calm events → ended (blocks_from block events) ≡ []
 none_ended block [] h = refl
 none_ended block (Later ∷ events) h = cc h
 none_ended block (Changed change ∷ events) h = none_ended (block ++ change ∷ []) events h

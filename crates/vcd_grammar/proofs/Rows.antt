@@ -11,7 +11,7 @@ use Rattle.vcd_grammar.specs.declared.fault.VcdCause.TheVariants as causes
 use Rattle.vcd_grammar.specs.Tokens.{Token, is_long, ended_at, grown_at, run_behind}
 use Rattle.vcd_grammar.specs.Digits.{number_up_to, time_in, extended}
 use Rattle.vcd_grammar.specs.Words.{header_word, value_word, is_read_past, is_foreign_type}
-use Rattle.vcd_grammar.specs.Levels.{level_of, control_of, without}
+use Rattle.vcd_grammar.specs.Levels.{level_of, control_of, bits_without}
 use Rattle.vcd_grammar.specs.Values.{sample_at}
 use Rattle.vcd_grammar.specs.Judging.{Mode, Header, Variable, Skipped, Closing, Values, Pending, Beside, Passed, nothing, draft_at, turn_in, turn, drafted, declared, closed}
 use Rattle.vcd_grammar.specs.Reading.{first_fault, samples_of, samples_before_end, samples_so_far, fault_so_far, marks_of, marks_so_far}
@@ -216,7 +216,7 @@ unfolding first_fault ended_at grown_at number_up_to time_in extended header_wor
 declares-none = refl
 
 pub declares-samples : map (λ (row : Good). map numbers_of (samples_of (lines ++ row.text))) declares ≡ map (λ (row : Good). row.samples) declares
-unfolding samples_of ended_at grown_at number_up_to time_in extended header_word value_word is_read_past is_foreign_type level_of control_of without sample_at signal_number turn drafted declared closed
+unfolding samples_of ended_at grown_at number_up_to time_in extended header_word value_word is_read_past is_foreign_type level_of control_of bits_without sample_at signal_number turn drafted declared closed
 declares-samples = refl
 
 -- the lines that are not needed, each asserted at one clock
@@ -229,7 +229,7 @@ others =
     ++ codes "#40 0a 0q 1p #45 1a #50 0a 0r 1q #55 1a #60 0a 0s 1r #65 1a #70 0a 0t 1s #75 1a"
 
 pub others-samples : map numbers_of (samples_of (lines ++ others)) ≡ map (λ n. unset n 0) (2 ∷ 4 ∷ 8 ∷ 16 ∷ 32 ∷ 64 ∷ 256 ∷ 2048 ∷ [])
-unfolding samples_of ended_at grown_at number_up_to time_in extended header_word value_word is_read_past is_foreign_type level_of control_of without sample_at signal_number turn drafted declared closed
+unfolding samples_of ended_at grown_at number_up_to time_in extended header_word value_word is_read_past is_foreign_type level_of control_of bits_without sample_at signal_number turn drafted declared closed
 others-samples = refl
 
 -- ---- texts that are read: values before the first one, and at the first time
@@ -253,7 +253,7 @@ unfolding first_fault ended_at grown_at number_up_to time_in extended header_wor
 first_values-none = refl
 
 pub first_values-samples : map (λ (row : Good). map numbers_of (samples_of (begun ++ row.text))) first_values ≡ map (λ (row : Good). row.samples) first_values
-unfolding samples_of ended_at grown_at number_up_to time_in extended header_word value_word is_read_past is_foreign_type level_of control_of without sample_at signal_number turn drafted declared closed
+unfolding samples_of ended_at grown_at number_up_to time_in extended header_word value_word is_read_past is_foreign_type level_of control_of bits_without sample_at signal_number turn drafted declared closed
 first_values-samples = refl
 
 -- ---- texts that are read: values
@@ -311,7 +311,7 @@ unfolding first_fault ended_at grown_at number_up_to time_in extended header_wor
 values-none = refl
 
 pub values-samples : map (λ (row : Good). map numbers_of (samples_of (quiet ++ row.text))) values ≡ map (λ (row : Good). row.samples) values
-unfolding samples_of ended_at grown_at number_up_to time_in extended header_word value_word is_read_past is_foreign_type level_of control_of without sample_at signal_number turn drafted declared closed
+unfolding samples_of ended_at grown_at number_up_to time_in extended header_word value_word is_read_past is_foreign_type level_of control_of bits_without sample_at signal_number turn drafted declared closed
 values-samples = refl
 
 -- ---- the parity lines, which a header may declare or not
@@ -348,7 +348,7 @@ unfolding first_fault ended_at grown_at number_up_to time_in extended header_wor
 parity_unset-none = refl
 
 pub parity_unset-samples : map (λ (row : Good). map numbers_of (samples_of (lines ++ row.text))) parity_unset ≡ map (λ (row : Good). row.samples) parity_unset
-unfolding samples_of ended_at grown_at number_up_to time_in extended header_word value_word is_read_past is_foreign_type level_of control_of without sample_at signal_number turn drafted declared closed
+unfolding samples_of ended_at grown_at number_up_to time_in extended header_word value_word is_read_past is_foreign_type level_of control_of bits_without sample_at signal_number turn drafted declared closed
 parity_unset-samples = refl
 
 abbrev pub parity_values : List Good
@@ -368,7 +368,7 @@ unfolding first_fault ended_at grown_at number_up_to time_in extended header_wor
 parity_values-none = refl
 
 pub parity_values-samples : map (λ (row : Good). map numbers_of (samples_of (with_parity ++ row.text))) parity_values ≡ map (λ (row : Good). row.samples) parity_values
-unfolding samples_of ended_at grown_at number_up_to time_in extended header_word value_word is_read_past is_foreign_type level_of control_of without sample_at signal_number turn drafted declared closed
+unfolding samples_of ended_at grown_at number_up_to time_in extended header_word value_word is_read_past is_foreign_type level_of control_of bits_without sample_at signal_number turn drafted declared closed
 parity_values-samples = refl
 
 -- a text, and the marks that its bytes show
@@ -418,7 +418,7 @@ so_far =
     ∷ []
 
 pub so_far-samples : map (λ (row : Good). map numbers_of (samples_so_far (quiet ++ row.text))) so_far ≡ map (λ (row : Good). row.samples) so_far
-unfolding samples_so_far ended_at grown_at number_up_to time_in extended header_word value_word is_read_past is_foreign_type level_of control_of without sample_at signal_number turn drafted declared closed
+unfolding samples_so_far ended_at grown_at number_up_to time_in extended header_word value_word is_read_past is_foreign_type level_of control_of bits_without sample_at signal_number turn drafted declared closed
 so_far-samples = refl
 
 pub so_far-fault : fault_so_far (begun ++ codes "0~") ≡ None
@@ -438,7 +438,7 @@ before_end =
     ∷ []
 
 pub before_end-samples : map (λ (row : Good). map numbers_of (samples_before_end (quiet ++ row.text))) before_end ≡ map (λ (row : Good). row.samples) before_end
-unfolding samples_before_end ended_at grown_at number_up_to time_in extended header_word value_word is_read_past is_foreign_type level_of control_of without sample_at signal_number turn drafted declared closed
+unfolding samples_before_end ended_at grown_at number_up_to time_in extended header_word value_word is_read_past is_foreign_type level_of control_of bits_without sample_at signal_number turn drafted declared closed
 before_end-samples = refl
 
 -- ---- words that are too long

@@ -9,9 +9,9 @@ use Rattle.vcd_grammar.specs.declared.fault.VcdCause.{VcdCause}
 use Rattle.vcd_grammar.specs.declared.fault.VcdCause.TheVariants as causes
 use Rattle.vcd_grammar.specs.Tokens.{Token, is_long}
 use Rattle.vcd_grammar.specs.Digits.{width_in}
-use Rattle.vcd_grammar.specs.Words.{HeaderWord, Declares, Finishes, Ends, Opens, Bare, header_word, ValueWord, Stamp, Scalar, Vector, Foreign, Mark, Section, Wrong, value_word, is_end, is_foreign_type, name_in, is_code}
+use Rattle.vcd_grammar.specs.Words.{HeaderWord, Declares, Finishes, Ends, Opens, Bare, header_word, ValueWord, Stamp, Scalar, Vector, Foreign, Mark, Section, Wrong, value_word, is_end, is_foreign_type, name_in, is_code_word}
 use Rattle.vcd_grammar.specs.Codes.{Code, with_code, lines_of}
-use Rattle.vcd_grammar.specs.Blocks.{Event, Later, Changed}
+use Rattle.vcd_grammar.specs.Blocks.{BlockEvent, Later, Changed}
 
 -- what the tokens behind a `$var` at a place have said so far: how many they are, whether the type is that of a line, the
 -- width where it is one, the code, and the number of the line that has the name
@@ -56,24 +56,24 @@ abbrev pub nothing : Known
 nothing = record { fault = None; mode = Header; lines = []; codes = []; time = None }
 
 -- what a token does: what is known behind it, and what happens to the lines
-pub record Turn : Type 0 where
+pub record TokenTurn : Type 0 where
   pub known : Known
-  pub events : List Event
+  pub events : List BlockEvent
 
 -- a token that is read past
-abbrev pub stays : Known → Turn
+abbrev pub stays : Known → TokenTurn
 stays k = record { known = k; events = [] }
 
 -- a token behind which the next one stands elsewhere
-abbrev pub goes_to : Known → Mode → Turn
+abbrev pub goes_to : Known → Mode → TokenTurn
 goes_to k mode = record { known = record k { mode = mode }; events = [] }
 
 -- a fault
-abbrev pub fails : Known → ℕ → VcdCause → Turn
+abbrev pub fails : Known → ℕ → VcdCause → TokenTurn
 fails k place cause = record { known = record k { fault = Some (record { place = place; cause = cause }) }; events = [] }
 
 -- a token that is too long is a fault before any other look at it
-abbrev pub unless_long : Known → Token → Turn → Turn
+abbrev pub unless_long : Known → Token → TokenTurn → TokenTurn
 unless_long k t turn = if is_long t.word then fails k t.place causes.Token else turn
 
 -- before the first token behind a `$var`
@@ -93,31 +93,31 @@ abbrev pub is_declared : List ℕ → ℕ → Bool
 is_declared lines number = list_any (λ n. n == number) lines
 
 -- a variable of this code that is no line
-abbrev pub other_declared : Known → List ℕ → Turn
+abbrev pub other_declared : Known → List ℕ → TokenTurn
 other_declared k code = goes_to (record k { codes = with_code k.codes code [] }) Header
 
 -- a line of this code, which is unknown until it gets a value
-abbrev pub line_declared : Known → List ℕ → ℕ → Turn
+abbrev pub line_declared : Known → List ℕ → ℕ → TokenTurn
 line_declared k code number = record {
   known = record k { mode = Header; lines = k.lines ++ number ∷ []; codes = with_code k.codes code (number ∷ []) };
   events = Changed (record { lines = number ∷ []; digits = 120 ∷ [] }) ∷ [];
 }
 
 -- a variable of a line's name is that line, where its type allows it and no earlier variable is; it must have the line's width
-abbrev pub named : Known → Draft → ℕ → Option ℕ → Turn
+abbrev pub named : Known → Draft → ℕ → Option ℕ → TokenTurn
 named k d width None = other_declared k d.code
 named k d width (Some number) =
     if not d.is_line || is_declared k.lines number then other_declared k d.code
     else (if width == width_of number then line_declared k d.code number else fails k d.place causes.Width)
 
 -- a declaration at its `$end`: it has four tokens at least, its width is a number, and its code is one
-abbrev pub with_width : Known → Draft → Option ℕ → Turn
+abbrev pub with_width : Known → Draft → Option ℕ → TokenTurn
 with_width k d None = fails k d.place causes.Header
 with_width k d (Some width) =
-    if (d.count == 4) && is_code d.code then named k d width d.line else fails k d.place causes.Header
+    if (d.count == 4) && is_code_word d.code then named k d width d.line else fails k d.place causes.Header
 
 -- a declaration at its `$end`
-unfoldable pub declared : Known → Draft → Turn
+unfoldable pub declared : Known → Draft → TokenTurn
 declared k d = with_width k d d.width
 
 -- the first line of the table, from a number on, that must be declared and is not
@@ -127,16 +127,16 @@ missing_from lines number (e ∷ es) =
     if e.needed && not (is_declared lines number) then Some number else missing_from lines (number + 1) es
 
 -- the end of the header whose `$enddefinitions` stands at a place
-abbrev pub closed_with : Known → ℕ → Option ℕ → Turn
+abbrev pub closed_with : Known → ℕ → Option ℕ → TokenTurn
 closed_with k place None = goes_to k Values
 closed_with k place (Some number) = fails k place (causes.Missing number)
 
 -- the end of the header
-unfoldable pub closed : Known → ℕ → Turn
+unfoldable pub closed : Known → ℕ → TokenTurn
 closed k place = closed_with k place (missing_from k.lines 0 table)
 
 -- a token between the sections of the header
-abbrev pub header_turn : Known → ℕ → HeaderWord → Turn
+abbrev pub header_turn : Known → ℕ → HeaderWord → TokenTurn
 header_turn k place Declares = goes_to k (Variable (draft_at place))
 header_turn k place Finishes = goes_to k (Closing place)
 header_turn k place Ends = stays k
@@ -144,23 +144,23 @@ header_turn k place Opens = goes_to k Skipped
 header_turn k place Bare = fails k place causes.Header
 
 -- a greater time, which ends the block
-abbrev pub later : Known → ℕ → Turn
+abbrev pub later : Known → ℕ → TokenTurn
 later k time = record { known = record k { time = Some time }; events = Later ∷ [] }
 
 -- a time stamp, behind the last one: the first and each greater one ends the block, an equal one goes on with it
-abbrev pub stamped : Known → ℕ → ℕ → Option ℕ → Turn
+abbrev pub stamped : Known → ℕ → ℕ → Option ℕ → TokenTurn
 stamped k place time None = later k time
 stamped k place time (Some last) =
     if nat_lt time last then fails k place causes.TimeBack else (if nat_lt last time then later k time else stays k)
 
 -- a scalar change, whose code has these lines
-abbrev pub scalar_turn : Known → ℕ → ℕ → Option (List ℕ) → Turn
+abbrev pub scalar_turn : Known → ℕ → ℕ → Option (List ℕ) → TokenTurn
 scalar_turn k place digit None = fails k place causes.Code
 scalar_turn k place digit (Some lines) =
     record { known = k; events = Changed (record { lines = lines; digits = digit ∷ [] }) ∷ [] }
 
 -- a token between values
-abbrev pub value_turn : Known → ℕ → ValueWord → Turn
+abbrev pub value_turn : Known → ℕ → ValueWord → TokenTurn
 value_turn k place (Stamp time) = stamped k place time k.time
 value_turn k place (Scalar digit code) = scalar_turn k place digit (lines_of k.codes code)
 value_turn k place (Vector digits) = goes_to k (Pending place digits)
@@ -174,19 +174,19 @@ abbrev pub is_too_wide : List ℕ → List ℕ → Bool
 is_too_wide digits lines = list_any (λ number. nat_lt (width_of number) (length digits)) lines
 
 -- the code at a place, behind a vector at another, where the code has these lines
-abbrev pub vector_turn : Known → ℕ → ℕ → List ℕ → Option (List ℕ) → Turn
+abbrev pub vector_turn : Known → ℕ → ℕ → List ℕ → Option (List ℕ) → TokenTurn
 vector_turn k place from digits None = fails k place causes.Code
 vector_turn k place from digits (Some lines) =
     if is_too_wide digits lines then fails k from causes.Width
     else record { known = record k { mode = Values }; events = Changed (record { lines = lines; digits = digits }) ∷ [] }
 
 -- the code behind a real number or a string, whose value is read past
-abbrev pub beside_turn : Known → ℕ → Option (List ℕ) → Turn
+abbrev pub beside_turn : Known → ℕ → Option (List ℕ) → TokenTurn
 beside_turn k place None = fails k place causes.Code
 beside_turn k place (Some lines) = goes_to k Values
 
 -- a token, by where it stands
-abbrev pub turn_in : Mode → Known → Token → Turn
+abbrev pub turn_in : Mode → Known → Token → TokenTurn
 turn_in Header k t = unless_long k t (header_turn k t.place (header_word t.word))
 turn_in (Variable d) k t =
     unless_long k t (if is_end t.word then declared k d else goes_to k (Variable (drafted d t.word)))
@@ -198,7 +198,7 @@ turn_in Beside k t = unless_long k t (beside_turn k t.place (lines_of k.codes t.
 turn_in Passed k t = if is_end t.word then goes_to k Values else stays k
 
 -- what a token does: nothing behind the first fault
-unfoldable pub turn : Known → Token → Turn
+unfoldable pub turn : Known → Token → TokenTurn
 turn k t = if is_some k.fault then stays k else turn_in k.mode k t
 
 -- what is known behind tokens
@@ -207,7 +207,7 @@ behind k [] = k
 behind k (t ∷ ts) = behind (turn k t).known ts
 
 -- what happens to the lines in tokens
-abbrev pub events_in : Known → List Token → List Event
+abbrev pub events_in : Known → List Token → List BlockEvent
 events_in k [] = []
 events_in k (t ∷ ts) = (turn k t).events ++ events_in (turn k t).known ts
 

@@ -36,5 +36,5 @@ control_of bit =
     + (262144 * (bit 20 % 4) + 1048576 * (bit 21 % 2))
 
 -- the bits of a number that are not among others
-unfoldable pub without : ℕ → ℕ → ℕ
-without bits others = bit_xor bits (bit_and bits others)
+unfoldable pub bits_without : ℕ → ℕ → ℕ
+bits_without bits others = bit_xor bits (bit_and bits others)

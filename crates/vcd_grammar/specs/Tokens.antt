@@ -45,13 +45,13 @@ tokens_from at run [] = []
 tokens_from at run (b ∷ bs) = counted at run b ++ tokens_from (at + 1) (run_behind run b) bs
 
 -- the run that stands open behind bytes
-abbrev pub open_from : List ℕ → List ℕ → List ℕ
-open_from run [] = run
-open_from run (b ∷ bs) = open_from (run_behind run b) bs
+abbrev pub open_run_from : List ℕ → List ℕ → List ℕ
+open_run_from run [] = run
+open_run_from run (b ∷ bs) = open_run_from (run_behind run b) bs
 
 -- the run that stands open at the end of some bytes
 abbrev pub open_run : List ℕ → List ℕ
-open_run fed = open_from [] fed
+open_run fed = open_run_from [] fed
 
 -- the tokens that count in some first bytes of a text, however the text goes on
 abbrev pub tokens_so_far : List ℕ → List Token

@@ -9,7 +9,7 @@ use Rattle.fsb_signal.specs.Table.{table}
 use Rattle.fsb_signal.specs.DumpText.{width_of}
 use Rattle.vcd_grammar.specs.declared.level.Level.{Level}
 use Rattle.vcd_grammar.specs.Digits.{extended}
-use Rattle.vcd_grammar.specs.Levels.{level_of, asserted_at, unknown_at, control_of, without}
+use Rattle.vcd_grammar.specs.Levels.{level_of, asserted_at, unknown_at, control_of, bits_without}
 use Rattle.vcd_grammar.specs.Blocks.{Block}
 use Rattle.vcd_grammar.specs.LevelFacts.{without-apart, without-lt, control_of-lt}
 
@@ -46,7 +46,7 @@ is_rise before after = (before == 48) && (after == 49)
 -- a word of the bus, from what is asserted and what is unknown
 abbrev pub word_of : ℕ → ℕ → Word
 word_of asserted unknown = record {
-  bits = without asserted unknown;
+  bits = bits_without asserted unknown;
   unknown = unknown;
   disjoint = without-apart asserted unknown;
 }
@@ -59,7 +59,7 @@ sample_at levels =
     let req = asserted_at levels 9 % 2 ^ 5 in
     let addr = asserted_at levels 10 % 2 ^ 33 in
     record {
-      lines = record { 0 = without lines unknown };
+      lines = record { 0 = bits_without lines unknown };
       unknown = record { 0 = unknown };
       req = word_of req (unknown_at levels 9 % 2 ^ 5);
       addr = word_of addr (unknown_at levels 10 % 2 ^ 33);

@@ -85,5 +85,5 @@ abbrev pub name_in : List ℕ → List ℕ
 name_in reference = take_while (λ b. not (b == 91)) reference
 
 -- the bytes of a code are 33 to 126
-abbrev pub is_code : List ℕ → Bool
-is_code word = list_all (λ b. nat_le 33 b && nat_le b 126) word
+abbrev pub is_code_word : List ℕ → Bool
+is_code_word word = list_all (λ b. nat_le 33 b && nat_le b 126) word

@@ -9,7 +9,7 @@ use Rattle.fsb_signal.specs.DumpText.{dump_code_of, width_of, digit_of, digits_o
 use Rattle.vcd_grammar.specs.Tokens.{is_white}
 use Rattle.vcd_grammar.specs.Digits.{is_value_digit}
 use Rattle.vcd_grammar.specs.Words.{value_word}
-use Rattle.vcd_grammar.specs.Judging.{Turn, Pending, goes_to, turn}
+use Rattle.vcd_grammar.specs.Judging.{TokenTurn, Pending, goes_to, turn}
 use Rattle.vcd_laws.proofs.Pieces.{Word, Does, does-token, does-tokens, is_plain}
 use Rattle.vcd_laws.proofs.Digits.{length-digits_of, all-digits_of, digit}
 use Rattle.vcd_laws.proofs.Known.{Profile, written, Listed, sets, changed}
@@ -61,8 +61,8 @@ does-vector : (p : Profile) (number time : ℕ) (digits : List ℕ) → Listed p
 does-vector p number time digits l f =
     does-tokens (98 ∷ digits) 32 (dump_code_of number ∷ []) 10 (written p time) (written p time) (changed (sets number digits ∷ []))
     (vector_word_is p number digits l f) refl l.code refl
-    (λ at next. ap (λ (u : Turn). (turn u.known (record { place = next; word = dump_code_of number ∷ [] })).known) (vector_turns p number time at digits l f) ∙ ap (λ u. u.known) (code_turns p number time at next digits l f))
-    (λ at next. ap (λ (u : Turn). u.events ++ ((turn u.known (record { place = next; word = dump_code_of number ∷ [] })).events ++ [])) (vector_turns p number time at digits l f) ∙ ap (λ u. u.events ++ []) (code_turns p number time at next digits l f))
+    (λ at next. ap (λ (u : TokenTurn). (turn u.known (record { place = next; word = dump_code_of number ∷ [] })).known) (vector_turns p number time at digits l f) ∙ ap (λ u. u.known) (code_turns p number time at next digits l f))
+    (λ at next. ap (λ (u : TokenTurn). u.events ++ ((turn u.known (record { place = next; word = dump_code_of number ∷ [] })).events ++ [])) (vector_turns p number time at digits l f) ∙ ap (λ u. u.events ++ []) (code_turns p number time at next digits l f))
 
 full : (number value : ℕ) → Full number (digits_of (width_of number) value)
 full number value = record {

@@ -6,7 +6,7 @@ use Rattle.fsb_signal.specs.declared.sample.Sample.{Sample}
 use Rattle.fsb_signal.specs.Samples.{is_known}
 use Rattle.fsb_signal.specs.DumpText.{texts_from, change_text, clock_text, clocks_text}
 use Rattle.vcd_grammar.specs.Digits.{extended}
-use Rattle.vcd_grammar.specs.Blocks.{Change, Event, Block, Later, Changed, blocks_from}
+use Rattle.vcd_grammar.specs.Blocks.{Change, BlockEvent, Block, Later, Changed, blocks_from}
 use Rattle.vcd_grammar.specs.Values.{samples_in}
 use Rattle.vcd_laws.proofs.Pieces.{Does, does-nothing, does-both}
 use Rattle.vcd_laws.proofs.Known.{Profile, One, Two, number_of_profile, entries, last_entry, written, listed, sets, changed}
@@ -37,7 +37,7 @@ does-edge p last time digit later h d =
     (does-both _ _ _ _ _ _ _ (does-stamp p last time later h) (does-scalar p 0 digit time (listed p 0 (some_entries p)) d))
 
 -- a rising edge behind a text
-pub does-rising : (p : Profile) (text : List ℕ) (last now time : ℕ) (events : List Event) → Does text (written p last) (written p now) events → now < time → time < 2 ^ 64 →
+pub does-rising : (p : Profile) (text : List ℕ) (last now time : ℕ) (events : List BlockEvent) → Does text (written p last) (written p now) events → now < time → time < 2 ^ 64 →
     Does (text ++ codes "#" ++ decimal time ++ codes "\n1!\n") (written p last) (written p time) (events ++ Later ∷ changed (clock_to 49 ∷ []))
 does-rising p text last now time events does later h =
     subst (λ t. Does t (written p last) (written p time) (events ++ Later ∷ changed (clock_to 49 ∷ [])))
@@ -51,7 +51,7 @@ abbrev fall : Profile → Sample → Sample → List Change
 fall p before now = clock_to 48 ∷ changes_of (set_where before now) (last_entry p)
 
 -- the events of the clocks of some samples, behind a sample
-abbrev pub clock_events : Profile → Sample → List Sample → List Event
+abbrev pub clock_events : Profile → Sample → List Sample → List BlockEvent
 clock_events p before [] = []
 clock_events p before (now ∷ w) = Later ∷ changed (fall p before now) ++ (Later ∷ Changed (clock_to 49) ∷ clock_events p now w)
 
@@ -69,7 +69,7 @@ does-clock p clock last before now at some few =
 -- ---- clocks
 
 -- texts of clocks lead to some time
-pub record Lead (p : Profile) (text : List ℕ) (last : ℕ) (events : List Event) : Type 0 where
+pub record Lead (p : Profile) (text : List ℕ) (last : ℕ) (events : List BlockEvent) : Type 0 where
   pub time : ℕ
   pub does : Does text (written p last) (written p time) events
 
@@ -89,7 +89,7 @@ lead-clocks p clock last before (now ∷ w) at some few =
 -- ---- the samples
 
 -- changes go into the block that stands open
-pub blocks-changed : (block : Block) (changes : List Change) (events : List Event) → blocks_from block (changed changes ++ events) ≡ blocks_from (block ++ changes) events
+pub blocks-changed : (block : Block) (changes : List Change) (events : List BlockEvent) → blocks_from block (changed changes ++ events) ≡ blocks_from (block ++ changes) events
 blocks-changed block [] events = ap (λ b. blocks_from b events) (sym (append-nil block))
 blocks-changed block (c ∷ changes) events = blocks-changed (block ++ c ∷ []) changes events ∙ ap (λ b. blocks_from b events) (append_assoc block (c ∷ []) changes)
 

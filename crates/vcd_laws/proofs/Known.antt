@@ -5,11 +5,11 @@ use Rattle.std.specs.Fmt.{digits}
 use Rattle.std.proofs.lemmas.Bool.{eqb-true, leb-true, and_parts}
 use Rattle.fsb_signal.specs.Table.{signal_number}
 use Rattle.fsb_signal.specs.DumpText.{dump_code_of, width_of, entries_in, texts_from, declaration_text, range_text}
-use Rattle.vcd_grammar.specs.Tokens.{is_white, tokens_from, open_from, ended_at, grown_at}
+use Rattle.vcd_grammar.specs.Tokens.{is_white, tokens_from, open_run_from, ended_at, grown_at}
 use Rattle.vcd_grammar.specs.Digits.{number_up_to, time_in}
 use Rattle.vcd_grammar.specs.Words.{header_word, value_word, is_read_past, is_foreign_type}
 use Rattle.vcd_grammar.specs.Codes.{Code, lines_of}
-use Rattle.vcd_grammar.specs.Blocks.{Change, Event, Later, Changed}
+use Rattle.vcd_grammar.specs.Blocks.{Change, BlockEvent, Later, Changed}
 use Rattle.vcd_grammar.specs.Judging.{Known, Values, nothing, turn, drafted, declared, closed, behind, events_in}
 use Rattle.vcd_laws.proofs.Pieces.{Word}
 
@@ -48,7 +48,7 @@ abbrev pub sets : ℕ → List ℕ → Change
 sets number digits = record { lines = number ∷ []; digits = digits }
 
 -- changes as events
-abbrev pub changed : List Change → List Event
+abbrev pub changed : List Change → List BlockEvent
 changed changes = map Changed changes
 
 -- ---- the fixed part of the header: the declarations, the first time, and the clock's first value
@@ -63,7 +63,7 @@ fixed_text p =
 abbrev pub unknown_lines : Profile → List Change
 unknown_lines p = map (λ number. sets number (120 ∷ [])) (numbers p)
 
-pub fixed-closes : (p : Profile) → open_from [] (fixed_text p) ≡ []
+pub fixed-closes : (p : Profile) → open_run_from [] (fixed_text p) ≡ []
 unfolding digits texts_from declaration_text range_text
 fixed-closes One = refl
 fixed-closes Two = refl

@@ -5,8 +5,8 @@ use Rattle.std.specs.Prelude.{◌==◌}
 use Rattle.std.specs.List.{list_all}
 use Rattle.std.proofs.lemmas.Bool.{ne_eqb, le-ltb}
 use Rattle.vcd_grammar.proofs.Interface.{open-append, tokens-append, behind-append, events_in-append}
-use Rattle.vcd_grammar.specs.Tokens.{is_white, is_long, longest, ended_at, grown_at, tokens_from, open_from}
-use Rattle.vcd_grammar.specs.Blocks.{Event}
+use Rattle.vcd_grammar.specs.Tokens.{is_white, is_long, longest, ended_at, grown_at, tokens_from, open_run_from}
+use Rattle.vcd_grammar.specs.Blocks.{BlockEvent}
 use Rattle.vcd_grammar.specs.Judging.{Known, turn, behind, events_in}
 
 -- ---- texts one behind the other
@@ -15,8 +15,8 @@ use Rattle.vcd_grammar.specs.Judging.{Known, turn, behind, events_in}
 
 -- wherever the text stands, it ends its last token; it leads from what is known before it to what is known behind it, and
 -- these events happen
-pub record Does (text : List ℕ) (before now : Known) (events : List Event) : Type 0 where
-  pub closes : open_from [] text ≡ []
+pub record Does (text : List ℕ) (before now : Known) (events : List BlockEvent) : Type 0 where
+  pub closes : open_run_from [] text ≡ []
   pub known : (at : ℕ) → behind before (tokens_from at [] text) ≡ now
   pub happens : (at : ℕ) → events_in before (tokens_from at [] text) ≡ events
 
@@ -24,12 +24,12 @@ pub does-nothing : (k : Known) → Does [] k k []
 does-nothing k = record { closes = refl; known = λ at. refl; happens = λ at. refl }
 
 -- the tokens behind a piece are those of the rest by itself
-pub tokens_behind : (at : ℕ) (a b : List ℕ) → open_from [] a ≡ [] → tokens_from at [] (a ++ b) ≡ tokens_from at [] a ++ tokens_from (at + length a) [] b
+pub tokens_behind : (at : ℕ) (a b : List ℕ) → open_run_from [] a ≡ [] → tokens_from at [] (a ++ b) ≡ tokens_from at [] a ++ tokens_from (at + length a) [] b
 tokens_behind at a b closes = tokens-append at [] a b ∙ ap (λ run. tokens_from at [] a ++ tokens_from (at + length a) run b) closes
 
-pub does-both : (a b : List ℕ) (k l m : Known) (e f : List Event) → Does a k l e → Does b l m f → Does (a ++ b) k m (e ++ f)
+pub does-both : (a b : List ℕ) (k l m : Known) (e f : List BlockEvent) → Does a k l e → Does b l m f → Does (a ++ b) k m (e ++ f)
 does-both a b k l m e f p q = record {
-  closes = open-append [] a b ∙ ap (λ run. open_from run b) p.closes ∙ q.closes;
+  closes = open-append [] a b ∙ ap (λ run. open_run_from run b) p.closes ∙ q.closes;
   known = λ at.
       ap (behind k) (tokens_behind at a b p.closes)
       ∙ behind-append k (tokens_from at [] a) (tokens_from (at + length a) [] b)
@@ -81,7 +81,7 @@ tokens_of_word at run (x ∷ word) b plain white few =
     (tokens_of_word (at + 1) (run ++ x ∷ []) word b (is_plain-rest x word plain) white more
     ∙ ap₂ (λ n r. ended_at n r) place (append_assoc run (x ∷ []) word))))
 
-pub open_of_word : (run word : List ℕ) (b : ℕ) → is_white b ≡ true → open_from run (word ++ b ∷ []) ≡ []
+pub open_of_word : (run word : List ℕ) (b : ℕ) → is_white b ≡ true → open_run_from run (word ++ b ∷ []) ≡ []
 open_of_word run word b white = open-append run word (b ∷ []) ∙ rw white refl
 
 -- a word and the white space behind it are one token
@@ -95,7 +95,7 @@ one_token at word b w white =
     tokens_of_word at [] word b w.plain white (omega (arith, w.few)) ∙ rw (some, fits) (rw place refl)
 
 -- what a token does, it does as a piece
-pub does-token : (word : List ℕ) (b : ℕ) (k now : Known) (events : List Event) → Word word → is_white b ≡ true →
+pub does-token : (word : List ℕ) (b : ℕ) (k now : Known) (events : List BlockEvent) → Word word → is_white b ≡ true →
     ((at : ℕ) → turn k (record { place = at; word = word }) ≡ record { known = now; events = events }) → Does (word ++ b ∷ []) k now events
 does-token word b k now events w white turns = record {
   closes = open_of_word [] word b white;
@@ -104,12 +104,12 @@ does-token word b k now events w white turns = record {
 }
 
 -- two tokens, and what they do together
-pub does-tokens : (word : List ℕ) (a : ℕ) (code : List ℕ) (b : ℕ) (k now : Known) (events : List Event) → Word word → is_white a ≡ true → Word code → is_white b ≡ true →
+pub does-tokens : (word : List ℕ) (a : ℕ) (code : List ℕ) (b : ℕ) (k now : Known) (events : List BlockEvent) → Word word → is_white a ≡ true → Word code → is_white b ≡ true →
     ((at next : ℕ) → behind k (record { place = at; word = word } ∷ record { place = next; word = code } ∷ []) ≡ now) →
     ((at next : ℕ) → events_in k (record { place = at; word = word } ∷ record { place = next; word = code } ∷ []) ≡ events) →
     Does ((word ++ a ∷ []) ++ (code ++ b ∷ [])) k now events
 does-tokens word a code b k now events w white c blank known happens = record {
-  closes = open-append [] (word ++ a ∷ []) (code ++ b ∷ []) ∙ ap (λ run. open_from run (code ++ b ∷ [])) (open_of_word [] word a white) ∙ open_of_word [] code b blank;
+  closes = open-append [] (word ++ a ∷ []) (code ++ b ∷ []) ∙ ap (λ run. open_run_from run (code ++ b ∷ [])) (open_of_word [] word a white) ∙ open_of_word [] code b blank;
   known = λ at. ap (behind k) (both at) ∙ known at (at + length (word ++ a ∷ []));
   happens = λ at. ap (events_in k) (both at) ∙ happens at (at + length (word ++ a ∷ []));
 }

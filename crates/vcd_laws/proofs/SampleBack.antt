@@ -15,7 +15,7 @@ use Rattle.fsb_signal.specs.DumpText.{width_of, value_of}
 use Rattle.fsb_signal.proofs.Interface.{same_word, same_sample}
 use Rattle.vcd_grammar.specs.Digits.{is_unknown}
 use Rattle.vcd_grammar.specs.declared.level.Level.{Level}
-use Rattle.vcd_grammar.specs.Levels.{level_of, asserted_at, unknown_at, control_of, without, bits_from, is_low}
+use Rattle.vcd_grammar.specs.Levels.{level_of, asserted_at, unknown_at, control_of, bits_without, bits_from, is_low}
 use Rattle.vcd_grammar.specs.Values.{sample_at, sample_of}
 use Rattle.vcd_laws.proofs.Digits.{low-digits_of, unknown-digits_of}
 use Rattle.vcd_laws.proofs.Known.{next, none}
@@ -203,8 +203,8 @@ lines-levels clock s = record {
 
 -- ---- the sample
 
-without-none : (bits others : ℕ) → others ≡ 0 → without bits others ≡ bits
-unfolding without
+without-none : (bits others : ℕ) → others ≡ 0 → bits_without bits others ≡ bits
+unfolding bits_without
 without-none bits others is = rw is (rw (and_zero_r bits) (xor_zero_r bits))
 
 -- no bit of the sample is unknown

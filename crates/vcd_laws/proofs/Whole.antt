@@ -9,10 +9,10 @@ use Rattle.fsb_signal.specs.Samples.{is_known_trace, idle}
 use Rattle.fsb_signal.specs.Parity.{has_no_parity, marks_in}
 use Rattle.fsb_signal.specs.DumpText.{texts_from, sample_value_text, header_text, clock_text, clocks_text, dump_text}
 use Rattle.vcd_grammar.proofs.Interface.{open-append, behind-append, events_in-append}
-use Rattle.vcd_grammar.specs.Tokens.{ended_at, tokens_from, open_from, tokens_of}
+use Rattle.vcd_grammar.specs.Tokens.{ended_at, tokens_from, open_run_from, tokens_of}
 use Rattle.vcd_grammar.specs.Digits.{extended}
 use Rattle.vcd_grammar.specs.Words.{value_word, is_read_past}
-use Rattle.vcd_grammar.specs.Blocks.{Block, Event, Later, Changed, blocks_of, blocks_from}
+use Rattle.vcd_grammar.specs.Blocks.{Block, BlockEvent, Later, Changed, blocks_of, blocks_from}
 use Rattle.vcd_grammar.specs.Values.{Values, at_first, values_behind, samples_in}
 use Rattle.vcd_grammar.specs.Judging.{marks_of_lines, nothing, turn, behind, events_in}
 use Rattle.vcd_grammar.specs.Reading.{or_cut, first_fault, marks_of, samples_of, Reads}
@@ -25,25 +25,25 @@ use Rattle.vcd_laws.proofs.Clocks.{clock_to, does-rising, Lead, lead-clocks, clo
 -- ---- behind the fixed part of the header
 
 -- the tokens of a text that begins with the fixed part
-tokens-whole : (p : Profile) (rest : List ℕ) → open_from [] rest ≡ [] → tokens_of (fixed_text p ++ rest) ≡ tokens_from 0 [] (fixed_text p) ++ tokens_from (0 + length (fixed_text p)) [] rest
+tokens-whole : (p : Profile) (rest : List ℕ) → open_run_from [] rest ≡ [] → tokens_of (fixed_text p ++ rest) ≡ tokens_from 0 [] (fixed_text p) ++ tokens_from (0 + length (fixed_text p)) [] rest
 unfolding ended_at
 tokens-whole p rest closes =
-    ap (λ run. tokens_from 0 [] (fixed_text p ++ rest) ++ ended_at (length (fixed_text p ++ rest)) run) (open-append [] (fixed_text p) rest ∙ ap (λ run. open_from run rest) (fixed-closes p) ∙ closes)
+    ap (λ run. tokens_from 0 [] (fixed_text p ++ rest) ++ ended_at (length (fixed_text p ++ rest)) run) (open-append [] (fixed_text p) rest ∙ ap (λ run. open_run_from run rest) (fixed-closes p) ∙ closes)
     ∙ append-nil (tokens_from 0 [] (fixed_text p ++ rest))
     ∙ tokens_behind 0 (fixed_text p) rest (fixed-closes p)
 
-known-whole : (p : Profile) (rest : List ℕ) (time : ℕ) (events : List Event) → Does rest (written p 0) (written p time) events → behind nothing (tokens_of (fixed_text p ++ rest)) ≡ written p time
+known-whole : (p : Profile) (rest : List ℕ) (time : ℕ) (events : List BlockEvent) → Does rest (written p 0) (written p time) events → behind nothing (tokens_of (fixed_text p ++ rest)) ≡ written p time
 known-whole p rest time events does =
     ap (behind nothing) (tokens-whole p rest does.closes)
     ∙ behind-append nothing (tokens_from 0 [] (fixed_text p)) (tokens_from (0 + length (fixed_text p)) [] rest)
     ∙ ap (λ k. behind k (tokens_from (0 + length (fixed_text p)) [] rest)) (fixed-known p)
     ∙ does.known (0 + length (fixed_text p))
 
-fault-whole : (p : Profile) (rest : List ℕ) (time : ℕ) (events : List Event) → Does rest (written p 0) (written p time) events → first_fault (fixed_text p ++ rest) ≡ None
+fault-whole : (p : Profile) (rest : List ℕ) (time : ℕ) (events : List BlockEvent) → Does rest (written p 0) (written p time) events → first_fault (fixed_text p ++ rest) ≡ None
 unfolding first_fault
 fault-whole p rest time events does = ap (λ k. or_cut k.fault k.mode (length (fixed_text p ++ rest))) (known-whole p rest time events does)
 
-happens-whole : (p : Profile) (rest : List ℕ) (time : ℕ) (events : List Event) → Does rest (written p 0) (written p time) events →
+happens-whole : (p : Profile) (rest : List ℕ) (time : ℕ) (events : List BlockEvent) → Does rest (written p 0) (written p time) events →
     events_in nothing (tokens_of (fixed_text p ++ rest)) ≡ changed (unknown_lines p) ++ Later ∷ changed (clock_to 48 ∷ []) ++ events
 happens-whole p rest time events does =
     ap (events_in nothing) (tokens-whole p rest does.closes)
@@ -55,7 +55,7 @@ abbrev all_unknown : Profile → Values
 all_unknown p = values_behind at_first (unknown_lines p)
 
 -- the clock does not rise before it has a value
-unknown-first : (p : Profile) (events : List Event) →
+unknown-first : (p : Profile) (events : List BlockEvent) →
     samples_in at_first (blocks_of ((changed (unknown_lines p) ++ Later ∷ changed (clock_to 48 ∷ [])) ++ events)) ≡ samples_in (all_unknown p) (blocks_from (clock_to 48 ∷ []) events)
 unfolding extended
 unknown-first One events = refl
@@ -67,7 +67,7 @@ unknown-rises One block blocks = refl
 unknown-rises Two block blocks = refl
 
 -- the samples of a text that begins with the fixed part and goes on with changes
-samples-whole : (p : Profile) (rest : List ℕ) (time : ℕ) (first : Sample) (events : List Event) → Does rest (written p 0) (written p time) (changed (changes_of (set_to first) (last_entry p)) ++ events) →
+samples-whole : (p : Profile) (rest : List ℕ) (time : ℕ) (first : Sample) (events : List BlockEvent) → Does rest (written p 0) (written p time) (changed (changes_of (set_to first) (last_entry p)) ++ events) →
     samples_of (fixed_text p ++ rest) ≡ samples_in (all_unknown p) (blocks_from (clock_to 48 ∷ changes_of (set_to first) (last_entry p)) events)
 unfolding samples_of extended
 samples-whole p rest time first events does =
@@ -103,7 +103,7 @@ marks_of_numbers : (p : Profile) → marks_of_lines (numbers p) ≡ marks_in (nu
 marks_of_numbers One = refl
 marks_of_numbers Two = refl
 
-marks-whole : (p : Profile) (rest : List ℕ) (time : ℕ) (events : List Event) → Does rest (written p 0) (written p time) events →
+marks-whole : (p : Profile) (rest : List ℕ) (time : ℕ) (events : List BlockEvent) → Does rest (written p 0) (written p time) events →
     marks_in (number_of_profile p) ≡ marks_of (fixed_text p ++ rest)
 unfolding marks_of
 marks-whole p rest time events does = sym (ap (λ k. marks_of_lines k.lines) (known-whole p rest time events does) ∙ marks_of_numbers p)

@@ -4,20 +4,20 @@ use Rattle.std.proofs.lemmas.Bool.{eqb-true, eqb-false}
 use Rattle.fsb_signal.specs.Table.{table}
 use Rattle.fsb_signal.specs.DumpText.{width_of}
 use Rattle.vcd_grammar.specs.declared.fault.VcdCause.TheVariants as causes
-use Rattle.vcd_grammar.specs.Tokens.{Token, is_white, longest, is_long, ended_at, grown_at, counted, run_behind, tokens_from, open_from}
-use Rattle.vcd_grammar.specs.Words.{HeaderWord, Declares, Finishes, Ends, Opens, Bare, header_word, ValueWord, Stamp, Scalar, Vector, Foreign, Mark, Section, Wrong, value_word, is_end, is_code}
+use Rattle.vcd_grammar.specs.Tokens.{Token, is_white, longest, is_long, ended_at, grown_at, counted, run_behind, tokens_from, open_run_from}
+use Rattle.vcd_grammar.specs.Words.{HeaderWord, Declares, Finishes, Ends, Opens, Bare, header_word, ValueWord, Stamp, Scalar, Vector, Foreign, Mark, Section, Wrong, value_word, is_end, is_code_word}
 use Rattle.vcd_grammar.specs.Codes.{lines_of}
-use Rattle.vcd_grammar.specs.Blocks.{Event, Later, Changed}
-use Rattle.vcd_grammar.specs.Judging.{Known, Turn, Draft, Mode, Header, Variable, Skipped, Closing, Values, Pending, Beside, Passed, turn, turn_in, stays, goes_to, fails, later, unless_long, header_turn, declared, closed, closed_with, missing_from, other_declared, line_declared, named, with_width, is_declared, drafted, stamped, scalar_turn, value_turn, is_too_wide, vector_turn, beside_turn}
-use Rattle.vcd_read.specs.Lines.{Lines, rises, after_event, decided_by, after_events, decided_in}
+use Rattle.vcd_grammar.specs.Blocks.{BlockEvent, Later, Changed}
+use Rattle.vcd_grammar.specs.Judging.{Known, TokenTurn, Draft, Mode, Header, Variable, Skipped, Closing, Values, Pending, Beside, Passed, turn, turn_in, stays, goes_to, fails, later, unless_long, header_turn, declared, closed, closed_with, missing_from, other_declared, line_declared, named, with_width, is_declared, drafted, stamped, scalar_turn, value_turn, is_too_wide, vector_turn, beside_turn}
+use Rattle.vcd_read.specs.Lines.{OpenLines, rises, after_event, decided_by, after_events, decided_in}
 use Rattle.vcd_read.specs.Taking.{Taken, decided_of, take_token, take_tokens, samples_in_tokens}
 use Rattle.vcd_read.specs.Scanning.{Reading, after_bytes, Fits}
 
 -- a turn has one event at most
-record One (t : Turn) : Type 0 where
+record One (t : TokenTurn) : Type 0 where
   at_most : length t.events ≤ 1
 
-either : (b : Bool) (t u : Turn) → One t → One u → One (if b then t else u)
+either : (b : Bool) (t u : TokenTurn) → One t → One u → One (if b then t else u)
 either true t u h k = h
 either false t u h k = k
 
@@ -42,7 +42,7 @@ one_named k d width (Some number) =
 
 one_width : (k : Known) (d : Draft) (width : Option ℕ) → One (with_width k d width)
 one_width k d None = record { at_most = omega arith }
-one_width k d (Some width) = either ((d.count == 4) && is_code d.code) (named k d width d.line) (fails k d.place causes.Header) (one_named k d width d.line) (record { at_most = omega arith })
+one_width k d (Some width) = either ((d.count == 4) && is_code_word d.code) (named k d width d.line) (fails k d.place causes.Header) (one_named k d width d.line) (record { at_most = omega arith })
 
 one_closed : (k : Known) (place : ℕ) (line : Option ℕ) → One (closed_with k place line)
 one_closed k place None = record { at_most = omega arith }
@@ -79,7 +79,7 @@ one_beside : (k : Known) (place : ℕ) (lines : Option (List ℕ)) → One (besi
 one_beside k place None = record { at_most = omega arith }
 one_beside k place (Some lines) = record { at_most = omega arith }
 
-unless : (k : Known) (t : Token) (u : Turn) → One u → One (unless_long k t u)
+unless : (k : Known) (t : Token) (u : TokenTurn) → One u → One (unless_long k t u)
 unless k t u h = either (is_long t.word) (fails k t.place causes.Token) u (record { at_most = omega arith }) h
 
 one_in : (mode : Mode) (k : Known) (t : Token) → One (turn_in mode k t)
@@ -100,7 +100,7 @@ unfolding turn
 one_turn k t = either (is_some k.fault) (stays k) (turn_in k.mode k t) (one_stays k) (one_in k.mode k t)
 
 -- each event decides one sample at most
-event_most : (l : Lines) (e : Event) → (after_event l e).decided ≤ l.decided + 1
+event_most : (l : OpenLines) (e : BlockEvent) → (after_event l e).decided ≤ l.decided + 1
 event_most l Later = by (rises l)
   where
     by : (b : Bool) → (if b then l.decided + 1 else l.decided) ≤ l.decided + 1
@@ -108,7 +108,7 @@ event_most l Later = by (rises l)
     by false = omega arith
 event_most l (Changed change) = omega arith
 
-events_most : (l : Lines) (es : List Event) → (after_events l es).decided ≤ l.decided + length es
+events_most : (l : OpenLines) (es : List BlockEvent) → (after_events l es).decided ≤ l.decided + length es
 events_most l [] = omega arith
 events_most l (e ∷ es) = let h = event_most l e in let k = events_most (after_event l e) es in omega (arith, h, k)
 
@@ -121,7 +121,7 @@ tokens_most s [] = omega arith
 tokens_most s (t ∷ ts) = let h = token_most s t in let k = tokens_most (take_token s t) ts in omega (arith, h, k)
 
 -- samples are counted
-event_count : (l : Lines) (e : Event) → (after_event l e).decided ≡ l.decided + length (decided_by l e)
+event_count : (l : OpenLines) (e : BlockEvent) → (after_event l e).decided ≡ l.decided + length (decided_by l e)
 event_count l Later = by (rises l)
   where
     by : (b : Bool) → (if b then l.decided + 1 else l.decided) ≡ l.decided + length (if b then l.block.sample_before ∷ [] else [])
@@ -129,7 +129,7 @@ event_count l Later = by (rises l)
     by false = omega arith
 event_count l (Changed change) = omega arith
 
-events_count : (l : Lines) (es : List Event) → (after_events l es).decided ≡ l.decided + length (decided_in l es)
+events_count : (l : OpenLines) (es : List BlockEvent) → (after_events l es).decided ≡ l.decided + length (decided_in l es)
 events_count l [] = omega arith
 events_count l (e ∷ es) =
     events_count (after_event l e) es
@@ -179,7 +179,7 @@ byte_most at run b = by (is_white b) refl
     by false h = rw h (dark (length run == longest) (is_long run) refl refl)
 
 -- bytes
-bytes_most : (at : ℕ) (run bs : List ℕ) → length (tokens_from at run bs) + min (length (open_from run bs)) longest ≤ min (length run) longest + length bs
+bytes_most : (at : ℕ) (run bs : List ℕ) → length (tokens_from at run bs) + min (length (open_run_from run bs)) longest ≤ min (length run) longest + length bs
 bytes_most at run [] = omega arith
 bytes_most at run (b ∷ bs) =
     let h = byte_most at run b in

@@ -14,7 +14,7 @@ use Rattle.vcd_read.specs.Lines.{sample_of_end, rises}
 use Rattle.vcd_read.specs.Taking.{untaken, take_tokens, samples_in_tokens, pushed}
 use Rattle.vcd_read.specs.Scanning.{reading, unread, samples_in_bytes, ended_taken, ended_samples, end_fault, open_samples, open_rises, decided_in_reading, Part}
 use Rattle.vcd_read.specs.Standing.{Scanned}
-use Rattle.vcd_read.specs.Answers.{fault_or, long_or, stop_at_end, stop_of_dump, end_stop, dump_stop, AppendsUpTo, AppendsPart, AppendsAtEnd, result_of}
+use Rattle.vcd_read.specs.Answers.{fault_or, long_or, stop_at_end, stop_of_dump, end_stop, dump_stop, AppendsUpTo, AppendsSome, AppendsAtEnd, result_of}
 use Rattle.vcd_read.proofs.Readings.{take_tokens-append, samples_in_tokens-append, ended_decided, pushed-append, pushed-is}
 use Rattle.vcd_read.proofs.Law.{samples_so_far_law, samples_before_end_law, samples_of_law, first_fault_law}
 use Rattle.vcd_read.proofs.Standings.{scanned_decided, appends_all, appends_some, take_both}
@@ -145,7 +145,7 @@ end_appends limit decided before more None true x old new is few h = by (nat_lt 
         (omega (arith, ltb-false limit (length (before ++ more)) t, eqb-false (length (before ++ more)) limit e, length-append (before ++ more) (x ∷ [])))
 
 -- a first part of samples is one of these and more
-part_with : (limit : ℕ) (before xs ys : List Sample) (old new : List Sample) → AppendsPart before (take limit xs) old new → AppendsPart before (take limit (xs ++ ys)) old new
+part_with : (limit : ℕ) (before xs ys : List Sample) (old new : List Sample) → AppendsSome before (take limit xs) old new → AppendsSome before (take limit (xs ++ ys)) old new
 part_with limit before xs ys old new p = record {
   added = p.added;
   rest = p.rest ++ take (limit - length xs) ys;
@@ -156,12 +156,12 @@ part_with limit before xs ys old new p = record {
 -- what is appended at the end for want of memory
 pub end_part : (limit decided : ℕ) (before more : List Sample) (fault : Option VcdFault) (b : Bool) (x : Sample) (old new : List Sample)
     → decided ≡ length before → length before ≤ limit → Part limit decided (more ++ (if is_some fault then [] else one_if b x)) old new
-    → AppendsPart before (take limit ((before ++ more) ++ one_if b x)) old new
+    → AppendsSome before (take limit ((before ++ more) ++ one_if b x)) old new
 end_part limit decided before more (Some fault) b x old new is few p =
     part_with limit before (before ++ more) (one_if b x) old new
-    (subst (λ w. AppendsPart before (take limit w) old new) (ap (λ w. before ++ w) (append-nil more)) (appends_some limit decided before (more ++ []) old new is few p))
+    (subst (λ w. AppendsSome before (take limit w) old new) (ap (λ w. before ++ w) (append-nil more)) (appends_some limit decided before (more ++ []) old new is few p))
 end_part limit decided before more None b x old new is few p =
-    subst (λ w. AppendsPart before (take limit w) old new) (sym (append_assoc before more (one_if b x))) (appends_some limit decided before (more ++ one_if b x) old new is few p)
+    subst (λ w. AppendsSome before (take limit w) old new) (sym (append_assoc before more (one_if b x))) (appends_some limit decided before (more ++ one_if b x) old new is few p)
 
 -- what was appended, said with other names
 moved : (limit : ℕ) (before decided decided' all all' : List Sample) (stop stop' : Option VcdStop) (old new : List Sample) → stop ≡ stop' → decided ≡ decided' → all ≡ all'
@@ -210,11 +210,11 @@ scan_appends s text limit decided fault more old new h few f d m k =
 
 pub scan_part : (s : Scan) (text : List ℕ) (limit : ℕ) (old new : List Sample) → Scanned s text → length (samples_so_far text) ≤ limit
     → Part limit s.machine.decided (ended_samples (reading s) ++ open_samples (end_fault (reading s)) (ended_taken (reading s)).lines) old new
-    → AppendsPart (samples_so_far text) (take limit (samples_of text)) old new
+    → AppendsSome (samples_so_far text) (take limit (samples_of text)) old new
 scan_part s text limit old new h few p =
     let lines = (ended_taken (reading s)).lines in
     let all : (samples_so_far text ++ ended_samples (reading s)) ++ sample_of_end lines ≡ samples_of text = ap (λ w. w ++ sample_of_end lines) (sym (before_end_is s text h)) ∙ sym (all_is s text h) in
-    subst (λ w. AppendsPart (samples_so_far text) (take limit w) old new) all
+    subst (λ w. AppendsSome (samples_so_far text) (take limit w) old new) all
     (end_part limit s.machine.decided (samples_so_far text) (ended_samples (reading s)) (end_fault (reading s)) (rises lines) lines.block.sample_before old new (scanned_decided s text h) few p)
 
 -- where a dump is not refused, it has no fault, and no more samples than the limit

@@ -6,12 +6,12 @@ use Rattle.fsb_signal.specs.DumpText.{width_of}
 use Rattle.vcd_grammar.specs.Tokens.{Token, tokens_of, tokens_so_far}
 use Rattle.vcd_grammar.specs.Digits.{extended}
 use Rattle.vcd_grammar.specs.Levels.{level_of}
-use Rattle.vcd_grammar.specs.Blocks.{Change, Block, Event, Later, Changed, blocks_from, ended}
+use Rattle.vcd_grammar.specs.Blocks.{Change, Block, BlockEvent, Later, Changed, blocks_from, ended}
 use Rattle.vcd_grammar.specs.Values.{Values, at_first, set_line, set_lines, values_behind, clock_of, sample_of, sample_of_block, samples_in}
 use Rattle.vcd_grammar.specs.Judging.{Known, turn, nothing, behind, events_in}
 use Rattle.vcd_grammar.specs.Reading.{samples_of, samples_before_end, samples_so_far, first_fault, fault_so_far, or_cut}
 use Rattle.vcd_grammar.proofs.Interface.{blocks_some, ended-cons}
-use Rattle.vcd_read.specs.Lines.{with_line, with_lines, changed_lines, next_block, block_rises, Lines, at_start, after_event, sample_of_end, decided_by, after_events, decided_in}
+use Rattle.vcd_read.specs.Lines.{with_line, with_lines, changed_lines, next_block, block_rises, OpenLines, at_start, after_event, sample_of_end, decided_by, after_events, decided_in}
 use Rattle.vcd_read.specs.Taking.{Taken, untaken, decided_of, take_token, take_tokens, samples_in_tokens}
 use Rattle.vcd_read.specs.declared.levels.Values.{Values as Kept}
 
@@ -53,7 +53,7 @@ block_some v [] some = some
 block_some v (c ∷ block) some = block_some (set_lines v c.lines c.digits) block (lines_some v c.lines c.digits some)
 
 -- what the reader keeps in a block that stands open
-abbrev in_block : Values → Block → ℕ → Lines
+abbrev in_block : Values → Block → ℕ → OpenLines
 in_block v block decided = record {
   block = record { clock_before = clock_of v; sample_before = sample_of v; now = kept (values_behind v block) };
   decided = decided;
@@ -69,7 +69,7 @@ same_change v block change some = λ i. record {
 }
 
 -- the count of samples makes no difference to them
-decided_any : (l m : Lines) (es : List Event) → l.block ≡ m.block → decided_in l es ≡ decided_in m es
+decided_any : (l m : OpenLines) (es : List BlockEvent) → l.block ≡ m.block → decided_in l es ≡ decided_in m es
 decided_any l m [] h = refl
 decided_any l m (Later ∷ es) h =
     λ i. (if block_rises (h i) then (h i).sample_before ∷ [] else []) ++ decided_any (after_event l Later) (after_event m Later) es (ap next_block h) i
@@ -77,7 +77,7 @@ decided_any l m (Changed change ∷ es) h =
     decided_any (after_event l (Changed change)) (after_event m (Changed change)) es (ap (λ b. changed_lines b change.lines change.digits) h)
 
 -- the samples of the blocks that were ended are those that were decided
-pub ended_law : (v : Values) (block : Block) (decided : ℕ) (es : List Event) → 0 < length v → samples_in v (ended (blocks_from block es)) ≡ decided_in (in_block v block decided) es
+pub ended_law : (v : Values) (block : Block) (decided : ℕ) (es : List BlockEvent) → 0 < length v → samples_in v (ended (blocks_from block es)) ≡ decided_in (in_block v block decided) es
 ended_law v block decided [] some = refl
 ended_law v block decided (Later ∷ es) some =
     let w = values_behind v block in
@@ -87,14 +87,14 @@ ended_law v block decided (Changed change ∷ es) some =
     ended_law v (block ++ change ∷ []) decided es some
     ∙ decided_any (in_block v (block ++ change ∷ []) decided) (after_event (in_block v block decided) (Changed change)) es (same_change v block change some)
 
-after_any : (l m : Lines) (es : List Event) → l.block ≡ m.block → sample_of_end (after_events l es) ≡ sample_of_end (after_events m es)
+after_any : (l m : OpenLines) (es : List BlockEvent) → l.block ≡ m.block → sample_of_end (after_events l es) ≡ sample_of_end (after_events m es)
 after_any l m [] h = λ i. if block_rises (h i) then (h i).sample_before ∷ [] else []
 after_any l m (Later ∷ es) h = after_any (after_event l Later) (after_event m Later) es (ap next_block h)
 after_any l m (Changed change ∷ es) h =
     after_any (after_event l (Changed change)) (after_event m (Changed change)) es (ap (λ b. changed_lines b change.lines change.digits) h)
 
 -- the samples of all blocks are these and that of the last one
-pub whole_law : (v : Values) (block : Block) (decided : ℕ) (es : List Event) → 0 < length v
+pub whole_law : (v : Values) (block : Block) (decided : ℕ) (es : List BlockEvent) → 0 < length v
     → samples_in v (blocks_from block es) ≡ decided_in (in_block v block decided) es ++ sample_of_end (after_events (in_block v block decided) es)
 whole_law v block decided [] some = append-nil (sample_of_block v block)
 whole_law v block decided (Later ∷ es) some =
@@ -115,11 +115,11 @@ pub known_behind : (s : Taken) (ts : List Token) → (take_tokens s ts).known �
 known_behind s [] = refl
 known_behind s (t ∷ ts) = known_behind (take_token s t) ts
 
-decided-append : (l : Lines) (es fs : List Event) → decided_in l (es ++ fs) ≡ decided_in l es ++ decided_in (after_events l es) fs
+decided-append : (l : OpenLines) (es fs : List BlockEvent) → decided_in l (es ++ fs) ≡ decided_in l es ++ decided_in (after_events l es) fs
 decided-append l [] fs = refl
 decided-append l (e ∷ es) fs = ap (λ xs. decided_by l e ++ xs) (decided-append (after_event l e) es fs) ∙ sym (append_assoc (decided_by l e) (decided_in (after_event l e) es) (decided_in (after_events (after_event l e) es) fs))
 
-after-append : (l : Lines) (es fs : List Event) → after_events l (es ++ fs) ≡ after_events (after_events l es) fs
+after-append : (l : OpenLines) (es fs : List BlockEvent) → after_events l (es ++ fs) ≡ after_events (after_events l es) fs
 after-append l [] fs = refl
 after-append l (e ∷ es) fs = after-append (after_event l e) es fs
 

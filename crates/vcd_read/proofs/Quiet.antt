@@ -1,8 +1,8 @@
 -- Tokens of the header decide no sample.
 use Rattle.std.proofs.Common.{◌≡◌, ℕ, Bool, true, false, not, ◌||◌, ◌&&◌, ◌==◌, is_some, List, [], Option, Some, None, if◌then◌else◌, refl, sym, ap, ◌∙◌}
 use Rattle.vcd_grammar.specs.Tokens.{Token, is_long}
-use Rattle.vcd_grammar.specs.Words.{is_end, is_code}
-use Rattle.vcd_grammar.specs.Judging.{Known, Turn, Draft, Mode, Variable, Closing, turn, turn_in, stays, goes_to, fails, declared, closed, missing_from, other_declared, line_declared, named, with_width, is_declared, drafted, closed_with}
+use Rattle.vcd_grammar.specs.Words.{is_end, is_code_word}
+use Rattle.vcd_grammar.specs.Judging.{Known, TokenTurn, Draft, Mode, Variable, Closing, turn, turn_in, stays, goes_to, fails, declared, closed, missing_from, other_declared, line_declared, named, with_width, is_declared, drafted, closed_with}
 use Rattle.fsb_signal.specs.Table.{table}
 use Rattle.fsb_signal.specs.DumpText.{width_of}
 use Rattle.fsb_signal.specs.declared.sample.Sample.{Sample}
@@ -10,7 +10,7 @@ use Rattle.vcd_grammar.specs.declared.fault.VcdCause.TheVariants.{Width, Header,
 use Rattle.vcd_read.specs.Taking.{Taken, decided_of, pushed}
 
 -- a choice of two turns that decide no sample decides none
-both : (s : Taken) (b : Bool) (t u : Turn) → decided_of s t ≡ [] → decided_of s u ≡ [] → decided_of s (if b then t else u) ≡ []
+both : (s : Taken) (b : Bool) (t u : TokenTurn) → decided_of s t ≡ [] → decided_of s u ≡ [] → decided_of s (if b then t else u) ≡ []
 both s true t u h k = h
 both s false t u h k = k
 
@@ -22,7 +22,7 @@ quiet_named s k d width (Some number) =
 
 quiet_width : (s : Taken) (k : Known) (d : Draft) (width : Option ℕ) → decided_of s (with_width k d width) ≡ []
 quiet_width s k d None = refl
-quiet_width s k d (Some width) = both s ((d.count == 4) && is_code d.code) (named k d width d.line) (fails k d.place Header) (quiet_named s k d width d.line) refl
+quiet_width s k d (Some width) = both s ((d.count == 4) && is_code_word d.code) (named k d width d.line) (fails k d.place Header) (quiet_named s k d width d.line) refl
 
 -- a token of a declaration
 quiet_variable : (s : Taken) (k : Known) (d : Draft) (t : Token) → decided_of s (turn_in (Variable d) k t) ≡ []

@@ -4,10 +4,10 @@ use Rattle.std.specs.List.{list_all}
 use Rattle.std.proofs.lemmas.Bool.{ltb-true, ltb-false, lt-ltb, le-ltb, ne_eqb, eq-eqb}
 use Rattle.std.proofs.lemmas.List.{append-nil}
 use Rattle.fsb_signal.specs.declared.sample.Sample.{Sample}
-use Rattle.vcd_grammar.specs.Tokens.{Token, is_white, longest, ended_at, tokens_from, open_from}
+use Rattle.vcd_grammar.specs.Tokens.{Token, is_white, longest, ended_at, tokens_from, open_run_from}
 use Rattle.vcd_grammar.specs.Judging.{turn}
 use Rattle.vcd_grammar.specs.declared.fault.VcdFault.{VcdFault}
-use Rattle.vcd_read.specs.Lines.{Lines}
+use Rattle.vcd_read.specs.Lines.{OpenLines}
 use Rattle.vcd_read.specs.Taking.{Taken, decided_of, take_token, take_tokens, samples_in_tokens, pushed}
 use Rattle.vcd_read.specs.Scanning.{Reading, after_bytes, samples_in_bytes, decided_in_reading, is_dark, ended_taken, ended_samples, end_fault, open_samples, Fits, Part}
 use Rattle.vcd_grammar.proofs.Interface.{tokens-append, open-append}
@@ -29,14 +29,14 @@ samples_in_tokens-append s (t ∷ ts) us =
 pub after-append : (r : Reading) (xs ys : List ℕ) → after_bytes r (xs ++ ys) ≡ after_bytes (after_bytes r xs) ys
 after-append r xs ys =
     let at : r.at + length (xs ++ ys) ≡ r.at + length xs + length ys = omega (arith, length-append xs ys) in
-    let tokens : take_tokens r.taken (tokens_from r.at r.run (xs ++ ys)) ≡ take_tokens (take_tokens r.taken (tokens_from r.at r.run xs)) (tokens_from (r.at + length xs) (open_from r.run xs) ys) =
-    ap (take_tokens r.taken) (tokens-append r.at r.run xs ys) ∙ take_tokens-append r.taken (tokens_from r.at r.run xs) (tokens_from (r.at + length xs) (open_from r.run xs) ys) in
-    let open_run : open_from r.run (xs ++ ys) ≡ open_from (open_from r.run xs) ys = open-append r.run xs ys in
+    let tokens : take_tokens r.taken (tokens_from r.at r.run (xs ++ ys)) ≡ take_tokens (take_tokens r.taken (tokens_from r.at r.run xs)) (tokens_from (r.at + length xs) (open_run_from r.run xs) ys) =
+    ap (take_tokens r.taken) (tokens-append r.at r.run xs ys) ∙ take_tokens-append r.taken (tokens_from r.at r.run xs) (tokens_from (r.at + length xs) (open_run_from r.run xs) ys) in
+    let open_run : open_run_from r.run (xs ++ ys) ≡ open_run_from (open_run_from r.run xs) ys = open-append r.run xs ys in
     λ i. record { taken = tokens i; at = at i; run = open_run i }
 
 pub samples-append : (r : Reading) (xs ys : List ℕ) → samples_in_bytes r (xs ++ ys) ≡ samples_in_bytes r xs ++ samples_in_bytes (after_bytes r xs) ys
 samples-append r xs ys =
-    ap (samples_in_tokens r.taken) (tokens-append r.at r.run xs ys) ∙ samples_in_tokens-append r.taken (tokens_from r.at r.run xs) (tokens_from (r.at + length xs) (open_from r.run xs) ys)
+    ap (samples_in_tokens r.taken) (tokens-append r.at r.run xs ys) ∙ samples_in_tokens-append r.taken (tokens_from r.at r.run xs) (tokens_from (r.at + length xs) (open_run_from r.run xs) ys)
 
 -- samples behind samples
 pub pushed-append : (limit decided : ℕ) (old xs ys : List Sample) → pushed limit decided old (xs ++ ys) ≡ pushed limit (decided + length xs) (pushed limit decided old xs) ys
@@ -109,7 +109,7 @@ over_samples r bs dark short over within = ap (samples_in_tokens r.taken) (over_
 white_tokens : (at : ℕ) (run : List ℕ) (w : ℕ) → is_white w ≡ true → tokens_from at run (w ∷ []) ≡ ended_at at run
 white_tokens at run w white = rw white (append-nil (ended_at at run))
 
-white_open : (run : List ℕ) (w : ℕ) → is_white w ≡ true → open_from run (w ∷ []) ≡ []
+white_open : (run : List ℕ) (w : ℕ) → is_white w ≡ true → open_run_from run (w ∷ []) ≡ []
 white_open run w white = rw white refl
 
 pub white_bytes : (r : Reading) (w : ℕ) → is_white w ≡ true → after_bytes r (w ∷ []) ≡ record { taken = take_tokens r.taken (ended_at r.at r.run); at = r.at + 1; run = [] }
@@ -293,12 +293,12 @@ behind_fits r mid xs h f = subst Fits (sym h) (fits_after r xs f)
 pub ended_decided : (r : Reading) → (ended_taken r).lines.decided ≡ decided_in_reading r + length (ended_samples r)
 ended_decided r = tokens_count r.taken (ended_at r.at r.run)
 
-pub end_sampled : (r : Reading) (limit : ℕ) (fault : Option VcdFault) (lines : Lines) (old to new : List Sample) → fault ≡ end_fault r → lines ≡ (ended_taken r).lines
+pub end_sampled : (r : Reading) (limit : ℕ) (fault : Option VcdFault) (lines : OpenLines) (old to new : List Sample) → fault ≡ end_fault r → lines ≡ (ended_taken r).lines
     → to ≡ pushed limit (decided_in_reading r) old (ended_samples r)
     → new ≡ pushed limit lines.decided to (open_samples fault lines)
     → new ≡ pushed limit (decided_in_reading r) old (ended_samples r ++ open_samples (end_fault r) (ended_taken r).lines)
 end_sampled r limit fault lines old to new f l h k =
-    let decided : lines.decided ≡ decided_in_reading r + length (ended_samples r) = ap (λ (m : Lines). m.decided) l ∙ ended_decided r in
+    let decided : lines.decided ≡ decided_in_reading r + length (ended_samples r) = ap (λ (m : OpenLines). m.decided) l ∙ ended_decided r in
     k ∙ (λ i. pushed limit (decided i) (h i) (open_samples (f i) (l i)))
     ∙ sym (pushed-append limit (decided_in_reading r) old (ended_samples r) (open_samples (end_fault r) (ended_taken r).lines))
 

@@ -12,7 +12,7 @@ use Rattle.vcd_read.specs.declared.stop.VcdStop.TheVariants as stops
 use Rattle.vcd_read.specs.Taking.{pushed}
 use Rattle.vcd_read.specs.Scanning.{Reading, reading, unread, after_bytes, samples_in_bytes, Fits, Part}
 use Rattle.vcd_read.specs.Standing.{Scanned}
-use Rattle.vcd_read.specs.Answers.{fault_or, stop_so_far, Answers, AppendsUpTo, AppendsPart, AppendsBy, result_of}
+use Rattle.vcd_read.specs.Answers.{fault_or, stop_so_far, Answers, AppendsUpTo, AppendsSome, AppendsBy, result_of}
 use Rattle.vcd_read.proofs.Readings.{pushed-is, behind_taken, behind_samples, behind_decided, behind_fits}
 use Rattle.vcd_read.proofs.Law.{samples_so_far_law, fault_so_far_law}
 
@@ -77,7 +77,7 @@ appends_all limit decided before more old new is few h = record {
 }
 
 -- or to a first part of that
-pub appends_some : (limit decided : ℕ) (before more old new : List Sample) → decided ≡ length before → length before ≤ limit → Part limit decided more old new → AppendsPart before (take limit (before ++ more)) old new
+pub appends_some : (limit decided : ℕ) (before more old new : List Sample) → decided ≡ length before → length before ≤ limit → Part limit decided more old new → AppendsSome before (take limit (before ++ more)) old new
 appends_some limit decided before more old new is few p =
     let room = limit - length before in
     record {
@@ -98,7 +98,7 @@ answers_of (Some stops.Memory) = tt
 answers_of (Some (stops.Bad fault)) = refl
 
 -- all is a first part
-appends_part : (before after old new : List Sample) → AppendsUpTo before after old new → AppendsPart before after old new
+appends_part : (before after old new : List Sample) → AppendsUpTo before after old new → AppendsSome before after old new
 appends_part before after old new a = record { added = a.added; rest = []; appended = a.appended; partial = append-nil (before ++ a.added) ∙ a.complete }
 
 pub appends_of : (stop : Option VcdStop) (before after old new : List Sample) → AppendsUpTo before after old new → AppendsBy (result_of stop) before after old new
@@ -137,9 +137,9 @@ fed_appends limit s fed piece old new h few k =
     (appends_all limit s.machine.decided (samples_so_far fed) (samples_in_bytes (reading s) piece) old new (scanned_decided s fed h) few k)
 
 pub fed_part : (limit : ℕ) (s : Scan) (fed piece : List ℕ) (old new : List Sample) → Scanned s fed → length (samples_so_far fed) ≤ limit
-    → Part limit s.machine.decided (samples_in_bytes (reading s) piece) old new → AppendsPart (samples_so_far fed) (take limit (samples_so_far (fed ++ piece))) old new
+    → Part limit s.machine.decided (samples_in_bytes (reading s) piece) old new → AppendsSome (samples_so_far fed) (take limit (samples_so_far (fed ++ piece))) old new
 fed_part limit s fed piece old new h few p =
-    subst (λ w. AppendsPart (samples_so_far fed) (take limit w) old new) (sym (fed_samples s fed piece h))
+    subst (λ w. AppendsSome (samples_so_far fed) (take limit w) old new) (sym (fed_samples s fed piece h))
     (appends_some limit s.machine.decided (samples_so_far fed) (samples_in_bytes (reading s) piece) old new (scanned_decided s fed h) few p)
 
 -- what follows where nothing is refused

@@ -3,7 +3,7 @@ use Rattle.std.proofs.Common.{◌≡◌, ℕ, ◌+◌, ◌-◌, ◌<◌, ◌≤�
 use Rattle.std.specs.List.{list_all}
 use Rattle.std.proofs.lemmas.Bool.{and_parts, not-true, ne_eqb, eq-eqb, lt-ltb, le-ltb, eqb-true, eqb-false}
 use Rattle.std.proofs.lemmas.List.{append-nil, length_push}
-use Rattle.vcd_grammar.specs.Tokens.{is_white, longest, is_long, grown_at, counted, run_behind, tokens_from, open_from}
+use Rattle.vcd_grammar.specs.Tokens.{is_white, longest, is_long, grown_at, counted, run_behind, tokens_from, open_run_from}
 use Rattle.vcd_read.specs.Scanning.{is_dark}
 
 -- the first of some bytes, and the others
@@ -38,7 +38,7 @@ long_tokens at run (b ∷ bs) dark long =
     let e = stays_long run b w (lt-ltb longest (length run) long) in
     rw (none_counted at run b w (ne_eqb (length run) longest (λ q. omega (arith, q, long))), e) (long_tokens (at + 1) run bs (dark_rest b bs dark) long)
 
-pub long_open : (run bs : List ℕ) → list_all is_dark bs ≡ true → longest < length run → open_from run bs ≡ run
+pub long_open : (run bs : List ℕ) → list_all is_dark bs ≡ true → longest < length run → open_run_from run bs ≡ run
 long_open run [] dark long = refl
 long_open run (b ∷ bs) dark long =
     rw (stays_long run b (dark_first b bs dark) (lt-ltb longest (length run) long)) (long_open run bs (dark_rest b bs dark) long)
@@ -53,7 +53,7 @@ short_tokens at run (b ∷ bs) dark short =
     rw (none_counted at run b w (ne_eqb (length run) longest (λ q. omega (arith, q, short))), e)
     (short_tokens (at + 1) (run ++ b ∷ []) bs (dark_rest b bs dark) (omega (arith, short, length_push run b)))
 
-pub short_open : (run bs : List ℕ) → list_all is_dark bs ≡ true → length run + length bs ≤ longest → open_from run bs ≡ run ++ bs
+pub short_open : (run bs : List ℕ) → list_all is_dark bs ≡ true → length run + length bs ≤ longest → open_run_from run bs ≡ run ++ bs
 short_open run [] dark short = sym (append-nil run)
 short_open run (b ∷ bs) dark short =
     rw (grows run b (dark_first b bs dark) (le-ltb longest (length run) (omega (arith, short))))
@@ -74,7 +74,7 @@ next_byte run b bs h =
     append_assoc run (b ∷ []) (take (longest + 1 - length (run ++ b ∷ [])) bs) ∙ sym (ap (λ n. run ++ take n (b ∷ bs)) more)
 
 -- a run that becomes too long counts once
-pub over_open : (run bs : List ℕ) → list_all is_dark bs ≡ true → length run ≤ longest → longest < length run + length bs → open_from run bs ≡ taken_by run bs
+pub over_open : (run bs : List ℕ) → list_all is_dark bs ≡ true → length run ≤ longest → longest < length run + length bs → open_run_from run bs ≡ taken_by run bs
 over_open run [] dark short over = absurd (omega (arith, short, over))
 over_open run (b ∷ bs) dark short over = by (length run == longest) refl (λ less. over_open (run ++ b ∷ []) bs (dark_rest b bs dark) (omega (arith, less, length_push run b)) (omega (arith, over, length_push run b)))
   where
@@ -84,7 +84,7 @@ over_open run (b ∷ bs) dark short over = by (length run == longest) refl (λ l
     e : run_behind run b ≡ run ++ b ∷ []
     e = grows run b w (le-ltb longest (length run) short)
 
-    by : (t : Bool) → (length run == longest) ≡ t → (length run < longest → open_from (run ++ b ∷ []) bs ≡ taken_by (run ++ b ∷ []) bs) → open_from run (b ∷ bs) ≡ taken_by run (b ∷ bs)
+    by : (t : Bool) → (length run == longest) ≡ t → (length run < longest → open_run_from (run ++ b ∷ []) bs ≡ taken_by (run ++ b ∷ []) bs) → open_run_from run (b ∷ bs) ≡ taken_by run (b ∷ bs)
     by true t rest =
         let full = eqb-true (length run) longest t in
         rw e (long_open (run ++ b ∷ []) bs (dark_rest b bs dark) (omega (arith, full, length_push run b)) ∙ sym (last_byte run b bs full))

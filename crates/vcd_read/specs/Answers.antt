@@ -49,7 +49,7 @@ pub record AppendsUpTo (before after old new : List Sample) : Type 0 where
   pub complete : before ++ added ≡ after
 
 -- what was appended goes on from the samples `before` to a first part of `after`
-pub record AppendsPart (before after old new : List Sample) : Type 0 where
+pub record AppendsSome (before after old new : List Sample) : Type 0 where
   pub added : List Sample
   pub rest : List Sample
   pub appended : new ≡ old ++ added
@@ -57,14 +57,14 @@ pub record AppendsPart (before after old new : List Sample) : Type 0 where
 
 -- what a piece appended: the samples that it decides, at most up to the limit; for want of memory a first part of them
 abbrev pub AppendsBy : Result Unit VcdStop → List Sample → List Sample → List Sample → List Sample → Type 0
-AppendsBy (Err stops.Memory) before after old new = AppendsPart before after old new
+AppendsBy (Err stops.Memory) before after old new = AppendsSome before after old new
 AppendsBy _ before after old new = AppendsUpTo before after old new
 
 -- what the end of a text appended: all samples, where it is Ok; those that a greater time has decided, at most up to the
 -- limit, where it refuses; for want of memory a first part of all up to the limit
 abbrev pub AppendsAtEnd : Result Unit VcdStop → ℕ → List Sample → List Sample → List Sample → List Sample → List Sample → Type 0
 AppendsAtEnd (Ok x) limit before decided all old new = AppendsUpTo before all old new
-AppendsAtEnd (Err stops.Memory) limit before decided all old new = AppendsPart before (take limit all) old new
+AppendsAtEnd (Err stops.Memory) limit before decided all old new = AppendsSome before (take limit all) old new
 AppendsAtEnd (Err e) limit before decided all old new = AppendsUpTo before (take limit decided) old new
 
 -- what is told of the marks behind a piece: those of all that was fed; for want of memory those that were told before it

@@ -6,7 +6,7 @@ use Rattle.vcd_grammar.specs.declared.level.Level.{Level}
 use Rattle.vcd_grammar.specs.Digits.{extended}
 use Rattle.vcd_grammar.specs.Levels.{level_of}
 use Rattle.vcd_grammar.specs.Values.{is_rise, sample_at}
-use Rattle.vcd_grammar.specs.Blocks.{Event, Later, Changed}
+use Rattle.vcd_grammar.specs.Blocks.{BlockEvent, Later, Changed}
 use Rattle.vcd_read.specs.declared.levels.Values.{Values}
 
 -- the values before anything was declared
@@ -56,38 +56,38 @@ pub record SampleKept (changed : Bool) (sample : Sample) (levels : List Level) :
   pub same : changed ≡ false → sample ≡ sample_at levels
 
 -- the block that stands open, and how many samples were decided
-pub record Lines : Type 0 where
+pub record OpenLines : Type 0 where
   pub block : BlockView
   pub decided : ℕ
 
 -- before the first token
-abbrev pub at_start : Lines
+abbrev pub at_start : OpenLines
 at_start = record { block = nothing_changed; decided = 0 }
 
 -- the clock rises in the block that stands open
-abbrev pub rises : Lines → Bool
+abbrev pub rises : OpenLines → Bool
 rises l = block_rises l.block
 
 -- what an event makes of them
-abbrev pub after_event : Lines → Event → Lines
+abbrev pub after_event : OpenLines → BlockEvent → OpenLines
 after_event l Later = record { block = next_block l.block; decided = if rises l then l.decided + 1 else l.decided }
 after_event l (Changed change) = record l { block = changed_lines l.block change.lines change.digits }
 
 -- the sample that a block gives which ends there
-abbrev pub sample_of_end : Lines → List Sample
+abbrev pub sample_of_end : OpenLines → List Sample
 sample_of_end l = if rises l then l.block.sample_before ∷ [] else []
 
 -- the samples that an event decides
-abbrev pub decided_by : Lines → Event → List Sample
+abbrev pub decided_by : OpenLines → BlockEvent → List Sample
 decided_by l Later = sample_of_end l
 decided_by l (Changed change) = []
 
 -- what events make of them
-abbrev pub after_events : Lines → List Event → Lines
+abbrev pub after_events : OpenLines → List BlockEvent → OpenLines
 after_events l [] = l
 after_events l (e ∷ es) = after_events (after_event l e) es
 
 -- the samples that events decide
-abbrev pub decided_in : Lines → List Event → List Sample
+abbrev pub decided_in : OpenLines → List BlockEvent → List Sample
 decided_in l [] = []
 decided_in l (e ∷ es) = decided_by l e ++ decided_in (after_event l e) es

@@ -1,11 +1,11 @@
 -- What bytes make of the reader's state.
 use Rattle.std.specs.Prelude.{◌≡◌, ℕ, ◌+◌, ◌≤◌, Bool, not, ◌&&◌, Option, is_some, if◌then◌else◌, min, List, [], ◌++◌, length}
 use Rattle.fsb_signal.specs.declared.sample.Sample.{Sample}
-use Rattle.vcd_grammar.specs.Tokens.{is_white, longest, ended_at, tokens_from, open_from}
+use Rattle.vcd_grammar.specs.Tokens.{is_white, longest, ended_at, tokens_from, open_run_from}
 use Rattle.vcd_grammar.specs.declared.fault.VcdFault.{VcdFault}
 use Rattle.vcd_grammar.specs.Reading.{or_cut}
 use Rattle.vcd_read.specs.declared.scan.Scan.{Scan}
-use Rattle.vcd_read.specs.Lines.{Lines, rises, sample_of_end}
+use Rattle.vcd_read.specs.Lines.{OpenLines, rises, sample_of_end}
 use Rattle.vcd_read.specs.Taking.{Taken, taken, untaken, take_tokens, samples_in_tokens, pushed}
 
 -- what tokens have made, how many bytes there were, and the run that stands open
@@ -31,7 +31,7 @@ abbrev pub after_bytes : Reading → List ℕ → Reading
 after_bytes r bytes = record {
   taken = take_tokens r.taken (tokens_from r.at r.run bytes);
   at = r.at + length bytes;
-  run = open_from r.run bytes;
+  run = open_run_from r.run bytes;
 }
 
 -- the samples that bytes decide
@@ -66,9 +66,9 @@ abbrev pub end_fault : Reading → Option VcdFault
 end_fault r = or_cut (ended_taken r).known.fault (ended_taken r).known.mode r.at
 
 -- the sample of the block that stands open, where there is no fault
-abbrev pub open_samples : Option VcdFault → Lines → List Sample
+abbrev pub open_samples : Option VcdFault → OpenLines → List Sample
 open_samples fault lines = if is_some fault then [] else sample_of_end lines
 
 -- the clock rises in the block that stands open, and there is no fault
-abbrev pub open_rises : Option VcdFault → Lines → Bool
+abbrev pub open_rises : Option VcdFault → OpenLines → Bool
 open_rises fault lines = not (is_some fault) && rises lines

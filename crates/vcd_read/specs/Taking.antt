@@ -2,30 +2,30 @@
 use Rattle.std.specs.Prelude.{ℕ, ◌+◌, List, [], ◌∷◌, ◌++◌, nat_lt, if◌then◌else◌}
 use Rattle.fsb_signal.specs.declared.sample.Sample.{Sample}
 use Rattle.vcd_grammar.specs.Tokens.{Token}
-use Rattle.vcd_grammar.specs.Judging.{Known, nothing, Turn, turn}
+use Rattle.vcd_grammar.specs.Judging.{Known, nothing, TokenTurn, turn}
 use Rattle.vcd_read.specs.declared.machine.Machine.{Machine}
-use Rattle.vcd_read.specs.Lines.{Lines, at_start, after_events, decided_in}
-use Rattle.vcd_read.specs.View.{known_of, lines_of}
+use Rattle.vcd_read.specs.Lines.{OpenLines, at_start, after_events, decided_in}
+use Rattle.vcd_read.specs.View.{known_of, lines_view}
 
 -- what is known, and the values
 pub record Taken : Type 0 where
   pub known : Known
-  pub lines : Lines
+  pub lines : OpenLines
 
 -- what a machine has taken
 abbrev pub taken : Machine → Taken
-taken m = record { known = known_of m; lines = lines_of m }
+taken m = record { known = known_of m; lines = lines_view m }
 
 -- before the first token
 abbrev pub untaken : Taken
 untaken = record { known = nothing; lines = at_start }
 
 -- what a token's turn makes of it
-abbrev pub turned : Taken → Turn → Taken
+abbrev pub turned : Taken → TokenTurn → Taken
 turned s t = record { known = t.known; lines = after_events s.lines t.events }
 
 -- the samples that a token's turn decides
-abbrev pub decided_of : Taken → Turn → List Sample
+abbrev pub decided_of : Taken → TokenTurn → List Sample
 decided_of s t = decided_in s.lines t.events
 
 -- what a token makes of it

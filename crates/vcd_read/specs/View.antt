@@ -5,7 +5,7 @@ use Rattle.vcd_read.specs.declared.mode.Draft.{Draft}
 use Rattle.vcd_read.specs.declared.mode.Mode.{Mode}
 use Rattle.vcd_read.specs.declared.mode.Mode.TheVariants as modes
 use Rattle.vcd_read.specs.declared.machine.Machine.{Machine}
-use Rattle.vcd_read.specs.Lines.{Lines}
+use Rattle.vcd_read.specs.Lines.{OpenLines}
 
 -- a declaration so far, with the code that is kept beside it
 abbrev pub draft_of : Draft → List ℕ → DraftView
@@ -40,5 +40,5 @@ known_of m = record {
 }
 
 -- the block that stands open, and how many samples were decided
-abbrev pub lines_of : Machine → Lines
-lines_of m = record { block = m.block; decided = m.decided }
+abbrev pub lines_view : Machine → OpenLines
+lines_view m = record { block = m.block; decided = m.decided }

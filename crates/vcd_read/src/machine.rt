@@ -4,7 +4,7 @@ ghost use Rattle.vcd_grammar.specs.Digits.{time_in};
 ghost use Rattle.vcd_grammar.specs.Words.{header_word, value_word, stamp_word, scalar_word, vector_word, is_end};
 ghost use Rattle.vcd_grammar.specs.Judging.{turn, turn_in, stays, goes_to, fails, later, unless_long, drafted, declared, other_declared, line_declared, named, closed, is_declared, missing_from, header_turn, value_turn, stamped, Variable as in_variable, Pending as in_pending, Beside as in_beside, marks_of_lines, known_marks};
 ghost use Rattle.vcd_grammar.specs.Reading.{or_cut};
-ghost use Rattle.vcd_read.specs.View.{known_of, lines_of as lines_view, draft_of};
+ghost use Rattle.vcd_read.specs.View.{known_of, lines_view, draft_of};
 ghost use Rattle.vcd_read.specs.Lines.{rises};
 ghost use Rattle.vcd_read.specs.Taking.{taken, untaken, turned, decided_of, pushed};
 ghost use Rattle.vcd_read.specs.Scanning.{open_samples, open_rises};
@@ -15,7 +15,7 @@ use crate::levels::{is_too_wide, is_wider, width_of};
 use crate::mode::{Draft, Mode};
 use crate::open_block::OpenBlock;
 use crate::words::{
-    are_value_digits, is_code, is_dollar, is_end, is_foreign_type, is_read_past, line_in,
+    are_value_digits, is_code_word, is_dollar, is_end, is_foreign_type, is_read_past, line_in,
 };
 use arrayvec::ArrayVec;
 use fsb_signal::{Marks, Sample, signal_at};
@@ -125,7 +125,7 @@ impl Machine {
             self.fail(draft.place, VcdCause::Header);
             return Ok(());
         };
-        if draft.count != 4 || !is_code(self.code.as_slice()) {
+        if draft.count != 4 || !is_code_word(self.code.as_slice()) {
             self.fail(draft.place, VcdCause::Header);
             return Ok(());
         }

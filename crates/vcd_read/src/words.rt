@@ -4,7 +4,7 @@ ghost use Rattle.std.specs.Prelude.{◌≡◌, ◌≤◌, not, ◌==◌, nat_eq,
 ghost use Rattle.std.specs.List.{list_all, prefix_len};
 ghost use Rattle.std.specs.Cmp.Lexicographic.{pointwise};
 ghost use Rattle.vcd_grammar.specs.Digits.{is_value_digit};
-ghost use Rattle.vcd_grammar.specs.Words.{is_end, is_dollar, is_read_past, is_foreign_type, name_in, is_code};
+ghost use Rattle.vcd_grammar.specs.Words.{is_end, is_dollar, is_read_past, is_foreign_type, name_in, is_code_word};
 ghost use Rattle.fsb_signal.specs.Table.{signal_number};
 
 use crate::digits::is_value_digit;
@@ -83,8 +83,8 @@ pub(crate) fn line_in(reference: &[u8]) -> Option<u8>
 }
 
 /// Whether each byte may stand in a code.
-pub(crate) fn is_code(word: &[u8]) -> bool
-    ensures { result ≡ is_code word.now }
+pub(crate) fn is_code_word(word: &[u8]) -> bool
+    ensures { result ≡ is_code_word word.now }
 {
     word.iter().all(|byte| 33 <= *byte && *byte <= 126)
 }

@@ -4,7 +4,7 @@ ghost use Rattle.fsb_script.specs.declared.fault.Cause.TheVariants.{Range};
 ghost use Rattle.fsb_script.specs.Drafts.{Progress, hazard_room};
 
 use super::unbuilt::{TAKEN, bad, two_agents};
-use crate::draft::Draft;
+use crate::draft::PlanDraft;
 use crate::fault::Cause;
 use fsb_hazard::HazardLine;
 use fsb_io::Memory;
@@ -18,7 +18,7 @@ fn room_for_hazard_lines()
 
 /// Adds a hazard line, where there is room for it.
 #[tactic(auto, using(crate::proofs::KeptLemmas::hazard_push))]
-fn add_retry(draft: &mut Draft) -> Result<(), Memory> {
+fn add_retry(draft: &mut PlanDraft) -> Result<(), Memory> {
     if draft.hazards.as_slice().len() < 4_096 {
         draft.hazards.push(HazardLine::Retry(0))?;
     }

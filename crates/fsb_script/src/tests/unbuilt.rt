@@ -1,7 +1,7 @@
 //! Lines of forms that are not built yet: what they say, and what may follow them.
 
 use crate::bounds::{is_cache, is_lock_apart, is_lock_size};
-use crate::draft::Draft;
+use crate::draft::PlanDraft;
 use crate::fault::{Cause, LineStop};
 use crate::named::{Earlier, Named};
 use crate::place::Place;
@@ -111,8 +111,8 @@ fn cache_sets_of_locked_items(rt: HostRuntime) -> Result<(), Fail> {
 }
 
 /// A draft of two agents, each with a cache of 64 lines, behind the line `ahead 1`.
-pub(crate) fn two_agents(alloc: Global) -> Result<Draft, AllocError> {
-    Ok(Draft {
+pub(crate) fn two_agents(alloc: Global) -> Result<PlanDraft, AllocError> {
+    Ok(PlanDraft {
         place: Place::Bridge,
         agents: 2,
         clocks: 0,
@@ -131,8 +131,8 @@ pub(crate) fn two_agents(alloc: Global) -> Result<Draft, AllocError> {
 }
 
 /// The same behind the lines `agent 0` and `lock`.
-fn locked_item(alloc: Global) -> Result<Draft, AllocError> {
-    Ok(Draft {
+fn locked_item(alloc: Global) -> Result<PlanDraft, AllocError> {
+    Ok(PlanDraft {
         place: Place::Locked,
         agents: 2,
         clocks: 0,
@@ -151,7 +151,7 @@ fn locked_item(alloc: Global) -> Result<Draft, AllocError> {
 }
 
 /// What the last of these lines is answered, where all before it are taken.
-fn last_answer(alloc: Global, draft: Draft, lines: &[&str]) -> Result<(), LineStop> {
+fn last_answer(alloc: Global, draft: PlanDraft, lines: &[&str]) -> Result<(), LineStop> {
     let mut draft = draft;
     for (i, line) in lines.iter().enumerate() {
         let answer = draft.take(alloc, line.as_bytes());

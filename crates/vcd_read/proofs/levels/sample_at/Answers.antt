@@ -1,13 +1,13 @@
 use Rattle.std.proofs.Common.{◌%◌, ◌^◌, ◌<◌, ◌∙◌, lit<}
 use Rattle.std.proofs.Math.Nat.{mod-lt}
 use Rattle.fsb_signal.proofs.Interface.{same_sample}
-use Rattle.vcd_grammar.specs.Levels.{without, asserted_at, unknown_at}
+use Rattle.vcd_grammar.specs.Levels.{bits_without, asserted_at, unknown_at}
 use Rattle.vcd_grammar.specs.LevelFacts.{without-apart, without-lt, control_of-lt}
 use Rattle.vcd_grammar.specs.Values.{sample_at, word_of}
 use Rattle.vcd_read.proofs.levels.sample_at.Goals as goal
 
 pub invariant_of-result : goal.invariant_of-result
-unfolding without
+unfolding bits_without
 invariant_of-result c =
     let levels = c.args.levels.now in
     let lines : c.asserted_lines-asserted.result < 2 ^ 21 = rw c.asserted_lines-asserted.ensures (control_of-lt (asserted_at levels)) in
@@ -22,9 +22,9 @@ invariant_of-result c =
     }
 
 pub returns : goal.returns
-unfolding sample_at without
+unfolding sample_at bits_without
 returns c = same_sample _ _
-    (λ i. record { 0 = without (c.asserted_lines-asserted.ensures i) (c.unknown_lines-unknown.ensures i) })
+    (λ i. record { 0 = bits_without (c.asserted_lines-asserted.ensures i) (c.unknown_lines-unknown.ensures i) })
     (λ i. record { 0 = c.unknown_lines-unknown.ensures i })
     (c.word_of-req.ensures ∙ (λ i. word_of (c.asserted_at.ensures i % 2 ^ 5) (c.unknown_at.ensures i % 2 ^ 5)))
     (c.word_of-addr.ensures ∙ (λ i. word_of (c.asserted_at-2.ensures i % 2 ^ 33) (c.unknown_at-2.ensures i % 2 ^ 33)))

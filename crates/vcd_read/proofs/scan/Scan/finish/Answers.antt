@@ -2,7 +2,7 @@ use Rattle.std.proofs.Common.{◌≡◌, ap, ◌∙◌}
 use Rattle.std.proofs.lemmas.Result.{on_ok_weaker}
 use Rattle.vcd_grammar.specs.Judging.{Known}
 use Rattle.vcd_grammar.specs.Reading.{or_cut}
-use Rattle.vcd_read.specs.View.{lines_of}
+use Rattle.vcd_read.specs.View.{lines_view}
 use Rattle.vcd_read.specs.Scanning.{Reading, reading, end_fault, ended_taken}
 use Rattle.vcd_read.proofs.Readings.{end_sampled}
 use Rattle.vcd_read.proofs.scan.Scan.finish.Goals as goal
@@ -13,8 +13,8 @@ returns-clause-samples c =
     let m = c.end.new.self in
     let state = c.in_ok-last.ensures.state in
     let fault : m.fault ≡ end_fault r = ap (λ (k : Known). k.fault) c.end.ensures.known ∙ ap (λ (x : Reading). or_cut x.taken.known.fault x.taken.known.mode x.at) state in
-    let lines : lines_of m ≡ (ended_taken r).lines = c.end.ensures.lines ∙ ap (λ (x : Reading). x.taken.lines) state in
-    on_ok_weaker c.close.result (λ h. end_sampled r c.args.limit m.fault (lines_of m) c.args.to.now.items c.last.new.to.items _ fault lines c.in_ok-last.ensures.samples h) c.close.ensures.samples
+    let lines : lines_view m ≡ (ended_taken r).lines = c.end.ensures.lines ∙ ap (λ (x : Reading). x.taken.lines) state in
+    on_ok_weaker c.close.result (λ h. end_sampled r c.args.limit m.fault (lines_view m) c.args.to.now.items c.last.new.to.items _ fault lines c.in_ok-last.ensures.samples h) c.close.ensures.samples
 
 pub returns-clause-lines : goal.returns-clause-lines
 returns-clause-lines c =
