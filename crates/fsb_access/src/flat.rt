@@ -64,7 +64,8 @@ impl Flat {
         requires symmetric { agent < 4 }
         requires place { IsTrue (is_place size addr) }
         ensures value { result ≡ served_value (state_of self.old) agent (Access.Load size addr) }
-        ensures moves { state_of self.new ≡ served_state (state_of self.old) agent (Access.Load size addr) }
+        ensures moves { state_of self.new
+            ≡ served_state (state_of self.old) agent (Access.Load size addr) }
     {
         let chunk = self.chunk(addr / CHUNK_BYTES);
         let start = (addr % CHUNK_BYTES) as usize;
@@ -80,7 +81,8 @@ impl Flat {
         ensures value { IfOk result (λ number.
             number ≡ served_value (state_of self.old) agent (Access.Store size addr value.now)) }
         ensures moves { OnOk result (
-            state_of self.new ≡ served_state (state_of self.old) agent (Access.Store size addr value.now)) }
+            state_of self.new ≡ served_state (state_of self.old) agent
+            (Access.Store size addr value.now)) }
         ensures stays { OnErr result (self.new ≡ self.old) }
     {
         let number = number_put(size, self.last[usize::from(agent)], value);

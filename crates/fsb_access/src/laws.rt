@@ -12,9 +12,13 @@ ghost use Rattle.fsb_access.specs.declared.log.Done.{Done};
 /// A load of the bytes that a store has put gives the number that was stored, and bytes beside them stay as they were.
 /// A number that is loaded fits its bytes, and the bytes of a lawful access lie within one line of 32 bytes.
 pub fn stores_are_loaded()
-    ensures stored { (memory : ByteMemory) (addr size value : ℕ) → value < 256 ^ size → value_at (put_value memory addr size value) addr size ≡ value }
-    ensures beside { (memory : ByteMemory) (addr size value from count : ℕ) → (from + count ≤ addr) ⊎ (addr + size ≤ from) → bytes_at (put_value memory addr size value) from count ≡ bytes_at memory from count }
-    ensures fits { (memory : ByteMemory) (addr size : ℕ) → ((place : ℕ) → memory place < 256) → value_at memory addr size < 256 ^ size }
+    ensures stored { (memory : ByteMemory) (addr size value : ℕ) → value < 256 ^ size →
+        value_at (put_value memory addr size value) addr size ≡ value }
+    ensures beside { (memory : ByteMemory) (addr size value from count : ℕ) →
+        (from + count ≤ addr) ⊎ (addr + size ≤ from) →
+        bytes_at (put_value memory addr size value) from count ≡ bytes_at memory from count }
+    ensures fits { (memory : ByteMemory) (addr size : ℕ) → ((place : ℕ) → memory place < 256) →
+        value_at memory addr size < 256 ^ size }
     ensures line { (size addr : ℕ) → is_place size addr ≡ true → addr % 32 + size ≤ 32 }
 {}
 
@@ -22,12 +26,17 @@ pub fn stores_are_loaded()
 /// others; and so is the front of a log that is served.
 pub fn served_logs_go_on()
     ensures empty { (settings : List Setting) → Served settings [] }
-    ensures next { (settings : List Setting) (log : List Done) (done : Done) → Served settings log → done.value ≡ served_value (replay (start_of settings) log) done.agent done.access → Served settings (log ++ done ∷ []) }
-    ensures front { (settings : List Setting) (log more : List Done) → Served settings (log ++ more) → Served settings log }
+    ensures next { (settings : List Setting) (log : List Done) (done : Done) → Served settings log →
+        done.value ≡ served_value (replay (start_of settings) log) done.agent done.access →
+        Served settings (log ++ done ∷ []) }
+    ensures front { (settings : List Setting) (log more : List Done) →
+        Served settings (log ++ more) → Served settings log }
 {}
 
 /// The empty log is in order; so is a log in order with the entries of the next item of one agent's script after it.
 pub fn orderly_logs_go_on()
     ensures empty { (scripts : List (List Item)) → InOrder scripts [] }
-    ensures next { (scripts : List (List Item)) (agent count : ℕ) (log more : List Done) → InOrder scripts log → AreNextItem (script_of scripts agent) agent count log more → InOrder scripts (log ++ more) }
+    ensures next { (scripts : List (List Item)) (agent count : ℕ) (log more : List Done) →
+        InOrder scripts log → AreNextItem (script_of scripts agent) agent count log more →
+        InOrder scripts (log ++ more) }
 {}

@@ -132,7 +132,8 @@ impl Bridge {
     #[tactic(auto, using(crate::proofs::Places::found_at, crate::proofs::Places::found_none))]
     pub fn committed(&mut self, did: u8) -> Option<Deferral>
         ensures deferral { result ≡ deferral_of_id did self.old.waiting }
-        ensures rest { self.new ≡ record self.old { waiting = waiting_without did self.old.waiting } }
+        ensures rest { self.new ≡ record self.old
+            { waiting = waiting_without did self.old.waiting } }
     {
         let place = self.place_of(did)?;
         Some(self.waiting.remove(place).deferral)

@@ -28,9 +28,11 @@ pub fn check_dump<S: Source>(
     requires { length name.now ≤ 4096 }
     ensures checked { IsTrue S.tells → IsChecked result (S.holds source.old) (S.left source.new) }
     ensures named { IsTrue S.tells → HasBegun result → S.begun_as source.new ≡ Some name.now }
-    ensures not_read { IsTrue S.tells → result ≡ Err CheckStop.ReadFault
-        → IsBegunOrStays name.now (S.begun_as source.old) (S.begun_as source.new) (S.left source.old) (S.left source.new) }
-    ensures read_fault { result ≡ Err CheckStop.ReadFault → Rose (S.faults source.old) (S.faults source.new) }
+    ensures not_read { IsTrue S.tells → result ≡ Err CheckStop.ReadFault →
+        IsBegunOrStays name.now (S.begun_as source.old) (S.begun_as source.new)
+        (S.left source.old) (S.left source.new) }
+    ensures read_fault { result ≡ Err CheckStop.ReadFault →
+        Rose (S.faults source.old) (S.faults source.new) }
     ensures later { S.faults source.old ≤ S.faults source.new }
     ensures holds_stays { IsTrue S.tells → S.holds source.new ≡ S.holds source.old }
 {
@@ -43,7 +45,8 @@ pub fn check_dump<S: Source>(
 // Reads all that is left, piece by piece, and judges it.
 fn check_left<S: Source>(alloc: Global, source: &mut S) -> Result<Finding, CheckStop>
     ensures checked { IsTrue S.tells → IsChecked result (S.left source.old) (S.left source.new) }
-    ensures read_fault { result ≡ Err CheckStop.ReadFault → Rose (S.faults source.old) (S.faults source.new) }
+    ensures read_fault { result ≡ Err CheckStop.ReadFault →
+        Rose (S.faults source.old) (S.faults source.new) }
     ensures later { S.faults source.old ≤ S.faults source.new }
     ensures name_stays { IsTrue S.tells → S.begun_as source.new ≡ S.begun_as source.old }
     ensures holds_stays { IsTrue S.tells → S.holds source.new ≡ S.holds source.old }
@@ -72,16 +75,19 @@ fn take_piece<S: Source>(
     piece: &mut [u8],
 ) -> Result<usize, CheckStop>
     requires few { length piece.old ≤ 65536 }
-    requires room { (fed : List ℕ) × Stood judge.old fed × (length fed + length piece.old < 2 ^ 64) }
+    requires room { (fed : List ℕ) × Stood judge.old fed
+        × (length fed + length piece.old < 2 ^ 64) }
     ensures within { IfOk result (λ count. count ≤ length piece.old) }
     ensures len { length piece.new ≡ length piece.old }
-    ensures taken { IfOk result (λ count. (fed : List ℕ) → Stood judge.old fed
-        → HasTaken judge.new fed (S.left source.old) (S.left source.new) count S.tells) }
-    ensures end { IsTrue S.tells → 0 < length piece.old → IfOk result (λ count. count ≡ 0 → S.left source.new ≡ []) }
+    ensures taken { IfOk result (λ count. (fed : List ℕ) → Stood judge.old fed →
+        HasTaken judge.new fed (S.left source.old) (S.left source.new) count S.tells) }
+    ensures end { IsTrue S.tells → 0 < length piece.old →
+        IfOk result (λ count. count ≡ 0 → S.left source.new ≡ []) }
     ensures stop { (stop : CheckStop) → result ≡ Err stop → IsStopOfReading stop }
-    ensures memory { IsTrue S.tells → result ≡ Err CheckStop.Memory
-        → TakesAtMost (length piece.old) (S.left source.old) (S.left source.new) }
-    ensures read_fault { result ≡ Err CheckStop.ReadFault → Rose (S.faults source.old) (S.faults source.new) }
+    ensures memory { IsTrue S.tells → result ≡ Err CheckStop.Memory →
+        TakesAtMost (length piece.old) (S.left source.old) (S.left source.new) }
+    ensures read_fault { result ≡ Err CheckStop.ReadFault →
+        Rose (S.faults source.old) (S.faults source.new) }
     ensures later { S.faults source.old ≤ S.faults source.new }
     ensures name_stays { IsTrue S.tells → S.begun_as source.new ≡ S.begun_as source.old }
     ensures holds_stays { IsTrue S.tells → S.holds source.new ≡ S.holds source.old }

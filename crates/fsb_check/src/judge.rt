@@ -35,8 +35,10 @@ impl Running {
 
     /// Judges the next samples.
     pub fn judge(&mut self, samples: &[Sample])
-        requires { (m : Marks) × (w : List Sample) × HasJudged self.old m w × (length w + length samples.now < 2 ^ 32) }
-        ensures { (m : Marks) (w : List Sample) → HasJudged self.old m w → HasJudged self.new m (w ++ samples.now) }
+        requires { (m : Marks) × (w : List Sample) × HasJudged self.old m w
+            × (length w + length samples.now < 2 ^ 32) }
+        ensures { (m : Marks) (w : List Sample) → HasJudged self.old m w →
+            HasJudged self.new m (w ++ samples.now) }
     {
         for sample in samples {
             self.judge_one(sample);
@@ -45,8 +47,10 @@ impl Running {
 
     // Judges the next sample.
     fn judge_one(&mut self, sample: &Sample)
-        requires { (m : Marks) × (w : List Sample) × HasJudged self.old m w × (length w + 1 < 2 ^ 32) }
-        ensures { (m : Marks) (w : List Sample) → HasJudged self.old m w → HasJudged self.new m (w ++ sample.now ∷ []) }
+        requires { (m : Marks) × (w : List Sample) × HasJudged self.old m w
+            × (length w + 1 < 2 ^ 32) }
+        ensures { (m : Marks) (w : List Sample) → HasJudged self.old m w →
+            HasJudged self.new m (w ++ sample.now ∷ []) }
     {
         self.broken = self.checker.feed(sample);
         self.clocks += 1;
@@ -66,8 +70,9 @@ impl Running {
 
 // Begins the running verdict, where the marks are told by now.
 fn begin(running: &mut Option<Running>, marks: Option<Marks>)
-    ensures { (told : Option Marks) (w : List Sample) → IsJudging running.old told w → MarksStay told marks
-        → IsJudging running.new marks w }
+    ensures { (told : Option Marks) (w : List Sample) → IsJudging running.old told w →
+        MarksStay told marks →
+        IsJudging running.new marks w }
 {
     if running.is_none() {
         if let Some(marks) = marks {
@@ -78,9 +83,11 @@ fn begin(running: &mut Option<Running>, marks: Option<Marks>)
 
 // Judges the next samples, of which there are none before the marks.
 fn judge_more(running: &mut Option<Running>, samples: &[Sample])
-    requires { (told : Option Marks) × (w : List Sample) × IsJudging running.old told w × (length w + length samples.now < 2 ^ 32) }
-    ensures { (told : Option Marks) (w : List Sample) → IsJudging running.old told w → (told ≡ None → samples.now ≡ [])
-        → IsJudging running.new told (w ++ samples.now) }
+    requires { (told : Option Marks) × (w : List Sample) × IsJudging running.old told w
+        × (length w + length samples.now < 2 ^ 32) }
+    ensures { (told : Option Marks) (w : List Sample) → IsJudging running.old told w →
+        (told ≡ None → samples.now ≡ []) →
+        IsJudging running.new told (w ++ samples.now) }
 {
     if let Some(running) = running {
         running.judge(samples);
@@ -90,9 +97,10 @@ fn judge_more(running: &mut Option<Running>, samples: &[Sample])
 // What the samples are found to be, where the marks are told.
 fn finding_of(running: &Option<Running>) -> Finding
     requires { (m : Marks) × (w : List Sample) × IsJudging running.now (Some m) w }
-    ensures clocks { (m : Marks) (w : List Sample) → IsJudging running.now (Some m) w → result.clocks ≡ length w }
-    ensures broken { (m : Marks) (w : List Sample) → IsJudging running.now (Some m) w
-        → result.broken ≡ as_broken (verdict m w) }
+    ensures clocks { (m : Marks) (w : List Sample) → IsJudging running.now (Some m) w →
+        result.clocks ≡ length w }
+    ensures broken { (m : Marks) (w : List Sample) → IsJudging running.now (Some m) w →
+        result.broken ≡ as_broken (verdict m w) }
 {
     match running {
         Some(running) => running.finding(),
@@ -125,7 +133,8 @@ impl Judge {
     /// Takes the next piece.
     pub fn take(&mut self, piece: &[u8]) -> Result<(), Memory>
         requires { (fed : List ℕ) × Stood self.old fed × (length fed + length piece.now < 2 ^ 64) }
-        ensures { OnOk result ((fed : List ℕ) → Stood self.old fed → Stood self.new (fed ++ piece.now)) }
+        ensures { OnOk result ((fed : List ℕ) → Stood self.old fed →
+            Stood self.new (fed ++ piece.now)) }
     {
         self.samples.clear();
         match self.reader.feed(piece, &mut self.samples) {

@@ -6,7 +6,8 @@ ghost use Rattle.fsb_count.specs.Clocks.{first_where, any_where, count_where, nt
 /// The first clock below `n` that passes.
 pub fn first_where<F: Fn(usize) -> bool>(n: usize, test: F) -> Option<usize>
     requires { (c : ℕ) → c < n → F.pre test c }
-    ensures value { (p : ℕ → Bool) → ((c : ℕ) (b : Bool) → c < n → F.post test c b → b ≡ p c) → result ≡ first_where p n }
+    ensures value { (p : ℕ → Bool) → ((c : ℕ) (b : Bool) → c < n → F.post test c b → b ≡ p c) →
+        result ≡ first_where p n }
     ensures below { IfSome result (λ c. c < n) }
 {
     for c in 0..n {
@@ -20,7 +21,8 @@ pub fn first_where<F: Fn(usize) -> bool>(n: usize, test: F) -> Option<usize>
 /// Whether some clock below `n` passes.
 pub fn any_where<F: Fn(usize) -> bool>(n: usize, test: F) -> bool
     requires { (c : ℕ) → c < n → F.pre test c }
-    ensures { (p : ℕ → Bool) → ((c : ℕ) (b : Bool) → c < n → F.post test c b → b ≡ p c) → result ≡ any_where p n }
+    ensures { (p : ℕ → Bool) → ((c : ℕ) (b : Bool) → c < n → F.post test c b → b ≡ p c) →
+        result ≡ any_where p n }
 {
     for c in 0..n {
         if test(c) {
@@ -33,7 +35,8 @@ pub fn any_where<F: Fn(usize) -> bool>(n: usize, test: F) -> bool
 /// How many clocks below `n` pass.
 pub fn count_where<F: Fn(usize) -> bool>(n: usize, test: F) -> usize
     requires { (c : ℕ) → c < n → F.pre test c }
-    ensures { (p : ℕ → Bool) → ((c : ℕ) (b : Bool) → c < n → F.post test c b → b ≡ p c) → result ≡ count_where p n }
+    ensures { (p : ℕ → Bool) → ((c : ℕ) (b : Bool) → c < n → F.post test c b → b ≡ p c) →
+        result ≡ count_where p n }
 {
     let mut count = 0;
     for c in 0..n {
@@ -47,7 +50,8 @@ pub fn count_where<F: Fn(usize) -> bool>(n: usize, test: F) -> usize
 /// The clock below `n` that passes and before which `k` pass.
 pub fn nth_where<F: Fn(usize) -> bool>(k: usize, n: usize, test: F) -> Option<usize>
     requires { (c : ℕ) → c < n → F.pre test c }
-    ensures value { (p : ℕ → Bool) → ((c : ℕ) (b : Bool) → c < n → F.post test c b → b ≡ p c) → result ≡ nth_where p k n }
+    ensures value { (p : ℕ → Bool) → ((c : ℕ) (b : Bool) → c < n → F.post test c b → b ≡ p c) →
+        result ≡ nth_where p k n }
     ensures below { IfSome result (λ c. c < n) }
 {
     let mut passed = 0;

@@ -27,7 +27,8 @@ pub fn decode(a: Pair, b: Pair) -> Result<Request, DecodeFault>
     ensures ok { (r : Request) → (result ≡ Ok r) ↔ IsCodedAs r a b }
 
     // Each fault exactly where some lawful request has the words before, and none has this one with them.
-    ensures bad_code { (v : ℕ) → (result ≡ Err (DecodeFault.BadCode v)) ↔ ((v ≡ a.req) × ¬ IsCode a.req) }
+    ensures bad_code { (v : ℕ) → (result ≡ Err (DecodeFault.BadCode v))
+        ↔ ((v ≡ a.req) × ¬ IsCode a.req) }
     ensures bad_len { (v : ℕ) → (result ≡ Err (DecodeFault.BadLen v))
         ↔ ((v ≡ b.req) × IsCode a.req × ¬ IsKind a.req b.req) }
     ensures bad_field { (result ≡ Err DecodeFault.BadField)

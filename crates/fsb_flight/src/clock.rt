@@ -66,9 +66,10 @@ pub fn take_clock(
     begun: Option<Entry>,
 )
     requires { IfSome begun (λ e. length queue.old < 8) }
-    ensures { (p : Phases) (h : Trace) (x : Sample) (turns : List ℕ) → Stands p h → MayTake clock x queue.old turns h → Rising queue.old
-        → phased.now ≡ phased_at (h ++ x ∷ []) clock queue.old → error ≡ has_line x AERR
-        → queue.new ≡ goes_on h x outcome queue.old ++ begun_list begun }
+    ensures { (p : Phases) (h : Trace) (x : Sample) (turns : List ℕ) → Stands p h →
+        MayTake clock x queue.old turns h → Rising queue.old →
+        phased.now ≡ phased_at (h ++ x ∷ []) clock queue.old → error ≡ has_line x AERR →
+        queue.new ≡ goes_on h x outcome queue.old ++ begun_list begun }
 {
     take(queue, clock, phased, outcome, error, begun);
 }

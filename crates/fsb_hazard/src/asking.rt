@@ -12,7 +12,8 @@ use fsb_io::Memory;
 pub fn ask_all(hazards: &mut [Box<dyn Hazard>], ask: &Ask) -> Choice
     ensures joined { IsJoined (map (λ h. told h) hazards.old) ask.now result }
     ensures told_stays { map (λ h. told h) hazards.new ≡ map (λ h. told h) hazards.old }
-    ensures kinds_stay { map (λ h. is_scripted h) hazards.new ≡ map (λ h. is_scripted h) hazards.old }
+    ensures kinds_stay { map (λ h. is_scripted h) hazards.new
+        ≡ map (λ h. is_scripted h) hazards.old }
 {
     let mut choice = quiet_choice();
     for hazard in hazards {
@@ -26,7 +27,8 @@ pub fn ask_all(hazards: &mut [Box<dyn Hazard>], ask: &Ask) -> Choice
 pub fn load_all(hazards: &mut [Box<dyn Hazard>], lines: &[HazardLine]) -> Result<(), Memory>
     ensures loaded { OnOk result (map (λ h. told h) hazards.new
         ≡ map (λ h. told_after (is_scripted h) lines.now (told h)) hazards.old) }
-    ensures kinds_stay { map (λ h. is_scripted h) hazards.new ≡ map (λ h. is_scripted h) hazards.old }
+    ensures kinds_stay { map (λ h. is_scripted h) hazards.new
+        ≡ map (λ h. is_scripted h) hazards.old }
 {
     for hazard in hazards {
         load_one(hazard, lines)?;

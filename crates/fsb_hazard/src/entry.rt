@@ -21,7 +21,8 @@ pub fn entry_of(lines: &[HazardLine], ask: &Ask) -> Choice
 
 /// The entry of two lists one after the other is the join of their entries: a law, and no code.
 pub fn entry_laws()
-    ensures { (xs ys : List HazardLine) (ask : Ask) → entry (xs ++ ys) ask ≡ join (entry xs ask) (entry ys ask) }
+    ensures { (xs ys : List HazardLine) (ask : Ask) →
+        entry (xs ++ ys) ask ≡ join (entry xs ask) (entry ys ask) }
 {}
 
 /// Whether the line speaks of what is asked.

@@ -126,7 +126,9 @@ impl Sink for MemSink {
     }
 
     fn write(&mut self, piece: &[u8]) -> Result<usize, Failed>
-        ensures failed { IsErr result ↔ ((self.old.room < length self.old.holds + length piece.now) ⊎ IsListed self.old.tally) }
+        ensures failed { IsErr result
+            ↔ ((self.old.room < length self.old.holds + length piece.now)
+            ⊎ IsListed self.old.tally) }
         ensures counted { self.new.tally ≡ after_call (is_err result) self.old.tally }
         ensures room_stays { self.new.room ≡ self.old.room }
         ensures whole { IfOk result (λ n. n ≡ length piece.now) }

@@ -115,7 +115,8 @@ impl Source for MemSource {
         requires { length name.now ≤ 4096 }
         ensures failed { IsErr result ↔ IsListed self.old.tally }
         ensures counted { self.new.tally ≡ after_call (is_err result) self.old.tally }
-        ensures begun { OnOk result (IsBegun self.old.holds self.new.left name.now self.new.begun_as) }
+        ensures begun { OnOk result
+            (IsBegun self.old.holds self.new.left name.now self.new.begun_as) }
         ensures left_stays { OnErr result (self.new.left ≡ self.old.left) }
         ensures name_stays { OnErr result (self.new.begun_as ≡ self.old.begun_as) }
         ensures holds_stays { self.new.holds ≡ self.old.holds }

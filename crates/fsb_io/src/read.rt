@@ -65,10 +65,14 @@ pub fn read_all<S: Source>(alloc: Global, src: &mut S, limit: usize) -> Result<V
     ensures end { IsTrue S.tells → OnOk result (S.left src.new ≡ []) }
     ensures short { IfOk result (λ bytes. vec_len bytes ≤ limit) }
 
-    ensures too_long { IsTrue S.tells → result ≡ Err ReadStop.TooLong → limit < length (S.left src.old) }
-    ensures one_past { IsTrue S.tells → result ≡ Err ReadStop.TooLong → S.left src.new ≡ drop (limit + 1) (S.left src.old) }
-    ensures memory { IsTrue S.tells → result ≡ Err ReadStop.Memory → TakesAtMost limit (S.left src.old) (S.left src.new) }
-    ensures read_fault { result ≡ Err ReadStop.ReadFault → Rose (S.faults src.old) (S.faults src.new) }
+    ensures too_long { IsTrue S.tells → result ≡ Err ReadStop.TooLong →
+        limit < length (S.left src.old) }
+    ensures one_past { IsTrue S.tells → result ≡ Err ReadStop.TooLong →
+        S.left src.new ≡ drop (limit + 1) (S.left src.old) }
+    ensures memory { IsTrue S.tells → result ≡ Err ReadStop.Memory →
+        TakesAtMost limit (S.left src.old) (S.left src.new) }
+    ensures read_fault { result ≡ Err ReadStop.ReadFault →
+        Rose (S.faults src.old) (S.faults src.new) }
     ensures later { S.faults src.old ≤ S.faults src.new }
 
     ensures name_stays { IsTrue S.tells → S.begun_as src.new ≡ S.begun_as src.old }
@@ -90,12 +94,15 @@ fn read_some<S: Source>(src: &mut S, bytes: &mut Vec<u8>, room: usize) -> Result
     requires few { room ≤ 65536 }
     ensures within { IfOk result (λ n. n ≤ room) }
     ensures grows { IfOk result (λ n. vec_len bytes.new ≡ vec_len bytes.old + n) }
-    ensures taken { IsTrue S.tells → OnOk result (bytes.new.items ++ S.left src.new ≡ bytes.old.items ++ S.left src.old) }
+    ensures taken { IsTrue S.tells →
+        OnOk result (bytes.new.items ++ S.left src.new ≡ bytes.old.items ++ S.left src.old) }
     ensures end { IsTrue S.tells → IfOk result (λ n. n ≡ 0 → S.left src.new ≡ []) }
 
     ensures stop { result ≢ Err ReadStop.TooLong }
-    ensures memory { IsTrue S.tells → result ≡ Err ReadStop.Memory → S.left src.new ≡ S.left src.old }
-    ensures read_fault { result ≡ Err ReadStop.ReadFault → Rose (S.faults src.old) (S.faults src.new) }
+    ensures memory { IsTrue S.tells → result ≡ Err ReadStop.Memory →
+        S.left src.new ≡ S.left src.old }
+    ensures read_fault { result ≡ Err ReadStop.ReadFault →
+        Rose (S.faults src.old) (S.faults src.new) }
     ensures later { S.faults src.old ≤ S.faults src.new }
     ensures name_stays { IsTrue S.tells → S.begun_as src.new ≡ S.begun_as src.old }
     ensures holds_stays { IsTrue S.tells → S.holds src.new ≡ S.holds src.old }

@@ -23,7 +23,8 @@ pub trait Sink {
     /// what it holds nor the name begun last has changed.
     fn begin(&mut self, name: &str) -> Result<(), Failed>
         requires { length name.now ≤ 4096 }
-        ensures begun { IsTrue tells → OnOk result (IsEmptied (holds self.new) name.now (begun_as self.new)) }
+        ensures begun { IsTrue tells →
+            OnOk result (IsEmptied (holds self.new) name.now (begun_as self.new)) }
         ensures holds_stays { IsTrue tells → OnErr result (holds self.new ≡ holds self.old) }
         ensures name_stays { IsTrue tells → OnErr result (begun_as self.new ≡ begun_as self.old) }
         ensures cause { HasCause (faults self.old) (faults self.new) result };
@@ -33,7 +34,8 @@ pub trait Sink {
     fn write(&mut self, piece: &[u8]) -> Result<usize, Failed>
         ensures within { IfOk result (λ n. n ≤ length piece.now) }
         ensures some { 0 < length piece.now → IfOk result (λ n. 0 < n) }
-        ensures appends { IsTrue tells → IfOk result (λ n. holds self.new ≡ holds self.old ++ take n piece.now) }
+        ensures appends { IsTrue tells →
+            IfOk result (λ n. holds self.new ≡ holds self.old ++ take n piece.now) }
         ensures holds_stays { IsTrue tells → OnErr result (holds self.new ≡ holds self.old) }
         ensures name_stays { IsTrue tells → begun_as self.new ≡ begun_as self.old }
         ensures cause { HasCause (faults self.old) (faults self.new) result };
@@ -42,7 +44,8 @@ pub trait Sink {
 /// Appends the whole of `piece`. After `Failed` a first part of it was appended, maybe none of it.
 /// Takes no memory.
 pub fn put_all<O: Sink>(sink: &mut O, piece: &[u8]) -> Result<(), Failed>
-    ensures whole { IsTrue O.tells → OnOk result (O.holds sink.new ≡ O.holds sink.old ++ piece.now) }
+    ensures whole { IsTrue O.tells →
+        OnOk result (O.holds sink.new ≡ O.holds sink.old ++ piece.now) }
     ensures part { IsTrue O.tells → AppendsPart piece.now (O.holds sink.old) (O.holds sink.new) }
     ensures name_stays { IsTrue O.tells → O.begun_as sink.new ≡ O.begun_as sink.old }
     ensures cause { HasCause (O.faults sink.old) (O.faults sink.new) result }

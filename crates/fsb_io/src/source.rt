@@ -24,7 +24,8 @@ pub trait Source {
     /// neither what is left nor the name begun last has changed.
     fn begin(&mut self, name: &str) -> Result<(), Failed>
         requires { length name.now ≤ 4096 }
-        ensures begun { IsTrue tells → OnOk result (IsBegun (holds self.old) (left self.new) name.now (begun_as self.new)) }
+        ensures begun { IsTrue tells →
+            OnOk result (IsBegun (holds self.old) (left self.new) name.now (begun_as self.new)) }
         ensures left_stays { IsTrue tells → OnErr result (left self.new ≡ left self.old) }
         ensures name_stays { IsTrue tells → OnErr result (begun_as self.new ≡ begun_as self.old) }
         ensures holds_stays { IsTrue tells → holds self.new ≡ holds self.old }
@@ -35,8 +36,10 @@ pub trait Source {
     /// said here.
     fn read(&mut self, buf: &mut [u8]) -> Result<usize, Failed>
         ensures within { IfOk result (λ n. n ≤ length buf.new) }
-        ensures bytes { IsTrue tells → IfOk result (λ n. left self.old ≡ take n buf.new ++ left self.new) }
-        ensures end { IsTrue tells → 0 < length buf.old → IfOk result (λ n. n ≡ 0 → left self.new ≡ []) }
+        ensures bytes { IsTrue tells →
+            IfOk result (λ n. left self.old ≡ take n buf.new ++ left self.new) }
+        ensures end { IsTrue tells → 0 < length buf.old →
+            IfOk result (λ n. n ≡ 0 → left self.new ≡ []) }
         ensures name_stays { IsTrue tells → begun_as self.new ≡ begun_as self.old }
         ensures holds_stays { IsTrue tells → holds self.new ≡ holds self.old }
         ensures cause { HasCause (faults self.old) (faults self.new) result };

@@ -48,7 +48,8 @@ pub fn order_and_values_are_coherence()
 /// it owes.
 #[tactic(auto, using(crate::proofs::Theorem::owes_from_unheld))]
 pub fn run_meets_what_it_owes()
-    ensures { (bytes : Bytes) (es : List Event) → MayRun (unheld bytes) es → OwesAll (unheld bytes) es }
+    ensures { (bytes : Bytes) (es : List Event) → MayRun (unheld bytes) es →
+        OwesAll (unheld bytes) es }
 {}
 
 /// And after every such list the line is coherent: one writer; ready copies, the memory and the bus

@@ -122,7 +122,8 @@ impl LineBuffers {
     #[tactic(auto, using(crate::proofs::FillLists::found_at, crate::proofs::FillLists::found_none))]
     pub fn take_push(&mut self, number: u32) -> Option<[u8; 32]>
         ensures bytes { result ≡ option_map (λ push. push.bytes) (push_for number self.old.pushes) }
-        ensures rest { self.new ≡ record self.old { pushes = pushes_without number self.old.pushes } }
+        ensures rest { self.new ≡ record self.old
+            { pushes = pushes_without number self.old.pushes } }
     {
         let place = self.push_place(number)?;
         Some(self.pushes.remove(place).bytes)

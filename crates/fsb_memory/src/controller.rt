@@ -51,7 +51,8 @@ impl Controller {
     pub fn put(&mut self, line: u64, bytes: [u8; 32])
         requires { IsTrue (is_mapped self.old line) }
         ensures put { line_in self.new line ≡ bytes }
-        ensures others { (other : ℕ) → other ≢ line → line_in self.new other ≡ line_in self.old other }
+        ensures others { (other : ℕ) → other ≢ line →
+            line_in self.new other ≡ line_in self.old other }
         ensures named { (other : ℕ) → is_mapped self.new other ≡ is_mapped self.old other }
     {
         if let Some(kept) = self.lines.get_mut(&line) {
@@ -83,7 +84,8 @@ impl Controller {
         ensures some { IfOk result (λ count. 0 < count) }
         ensures within { IfOk result (λ count. count ≤ length sets.now) }
         ensures bytes { IfOk result (λ count.
-            (line : ℕ) → line_in self.new line ≡ set_bytes line (line_in self.old line) (take count sets.now)) }
+            (line : ℕ) → line_in self.new line
+            ≡ set_bytes line (line_in self.old line) (take count sets.now)) }
         ensures named { IfOk result (λ count.
             (line : ℕ) → is_mapped self.new line
             ≡ (list_any (is_in_line line) (take count sets.now) || is_mapped self.old line)) }
@@ -105,7 +107,8 @@ impl Controller {
         ensures others { OnOk result (
             (other : ℕ) → other ≢ line → line_in self.new other ≡ line_in self.old other) }
         ensures named { OnOk result (
-            (other : ℕ) → is_mapped self.new other ≡ ((other == line) || is_mapped self.old other)) }
+            (other : ℕ) → is_mapped self.new other
+            ≡ ((other == line) || is_mapped self.old other)) }
     {
         self.lines.insert(line, bytes)?;
         Ok(())

@@ -46,7 +46,8 @@ impl Phases {
     /// What is driven at the next clock. The clock is the number of samples taken so far, and the queue holds the requests
     /// in flight.
     pub fn drive(&self, clock: u32, queue: &Queue) -> Drive
-        ensures { (h : Trace) (turns : List ℕ) → Stands self.now h → clock ≡ length h → HoldsInFlight queue.now turns h → result ≡ drive_of h queue.now }
+        ensures { (h : Trace) (turns : List ℕ) → Stands self.now h → clock ≡ length h →
+            HoldsInFlight queue.now turns h → result ≡ drive_of h queue.now }
     {
         self.drive_by(clock, queue)
     }
@@ -55,8 +56,11 @@ impl Phases {
     /// samples taken before, the queue holds the requests in flight, RS# is what is driven, and a request begins no sooner
     /// than three clocks after the one before it. All other lines are free.
     pub fn absorb(&mut self, clock: u32, sample: &Sample, queue: &Queue) -> Phased
-        ensures result { (h : Trace) (turns : List ℕ) → Stands self.old h → MayTake clock sample.now queue.now turns h → result ≡ phased_at (h ++ sample.now ∷ []) clock queue.now }
-        ensures stands { (h : Trace) (turns : List ℕ) → Stands self.old h → MayTake clock sample.now queue.now turns h → Stands self.new (h ++ sample.now ∷ []) }
+        ensures result { (h : Trace) (turns : List ℕ) → Stands self.old h →
+            MayTake clock sample.now queue.now turns h →
+            result ≡ phased_at (h ++ sample.now ∷ []) clock queue.now }
+        ensures stands { (h : Trace) (turns : List ℕ) → Stands self.old h →
+            MayTake clock sample.now queue.now turns h → Stands self.new (h ++ sample.now ∷ []) }
     {
         let phased = self.phased_by(clock, sample, queue);
         *self = self.phases_to(clock, sample, queue);

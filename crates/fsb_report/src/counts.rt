@@ -38,9 +38,12 @@ impl RequestCounts {
         requires writebacks { self.old.writebacks + 1 < 2 ^ 32 }
         requires replies { self.old.replies + 1 < 2 ^ 32 }
         ensures reads { self.new.reads ≡ self.old.reads + (if is_read request then 1 else 0) }
-        ensures invalidates { self.new.invalidates ≡ self.old.invalidates + (if is_invalidate request then 1 else 0) }
-        ensures writebacks { self.new.writebacks ≡ self.old.writebacks + (if is_write_back request then 1 else 0) }
-        ensures replies { self.new.replies ≡ self.old.replies + (if is_reply request then 1 else 0) }
+        ensures invalidates { self.new.invalidates
+            ≡ self.old.invalidates + (if is_invalidate request then 1 else 0) }
+        ensures writebacks { self.new.writebacks
+            ≡ self.old.writebacks + (if is_write_back request then 1 else 0) }
+        ensures replies { self.new.replies
+            ≡ self.old.replies + (if is_reply request then 1 else 0) }
     {
         if let Some(request) = request {
             match request.kind {

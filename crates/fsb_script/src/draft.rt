@@ -114,7 +114,8 @@ impl PlanDraft {
     #[tactic(auto, unfolding(crate::specs::Drafts::first_line, crate::specs::Kept::is_fresh, crate::specs::Kept::has_all, crate::specs::Kept::has_lock_room))]
     fn first_line(&mut self, line: &[u8]) -> Result<(), Cause>
         requires { self.old.place ≡ Place.First }
-        ensures { ReadsAs (λ _. progress self.new) result (first_line (progress self.old) line.now) }
+        ensures { ReadsAs (λ _. progress self.new) result
+            (first_line (progress self.old) line.now) }
     {
         if !is_heading(line) {
             return Err(Cause::FirstLine);
@@ -126,7 +127,8 @@ impl PlanDraft {
     #[tactic(auto, unfolding(crate::specs::Drafts::agents_line, crate::specs::Words::line_ended, crate::specs::Forms::built, crate::specs::Kept::is_fresh, crate::specs::Kept::has_all, crate::specs::Kept::has_lock_room))]
     fn agents_line(&mut self, line: &[u8]) -> Result<(), Cause>
         requires { self.old.place ≡ Place.Agents }
-        ensures { ReadsAs (λ _. progress self.new) result (agents_line (progress self.old) line.now) }
+        ensures { ReadsAs (λ _. progress self.new) result
+            (agents_line (progress self.old) line.now) }
     {
         let rest = keyword(b"agents", line)?;
         let (count, rest) = decimal_within(1, 4, rest)?;
@@ -145,7 +147,8 @@ impl PlanDraft {
     #[tactic(auto, unfolding(crate::specs::Drafts::clocks_line, crate::specs::Words::line_ended, crate::specs::Kept::is_fresh, crate::specs::Kept::has_all, crate::specs::Kept::has_lock_room))]
     fn clocks_line(&mut self, line: &[u8]) -> Result<(), Cause>
         requires { self.old.place ≡ Place.Clocks }
-        ensures { ReadsAs (λ _. progress self.new) result (clocks_line (progress self.old) line.now) }
+        ensures { ReadsAs (λ _. progress self.new) result
+            (clocks_line (progress self.old) line.now) }
     {
         let rest = keyword(b"clocks", line)?;
         let (clocks, rest) = decimal_within(0, 200_000, rest)?;
@@ -160,7 +163,8 @@ impl PlanDraft {
     #[tactic(auto, using(crate::proofs::KeptLemmas::script_none, crate::proofs::KeptLemmas::scripts_none), unfolding(crate::specs::Drafts::cache_line, crate::specs::Words::line_ended, crate::specs::Kept::is_fresh, crate::specs::Kept::has_all, crate::specs::Kept::has_lock_room))]
     fn cache_line(&mut self, line: &[u8]) -> Result<(), Cause>
         requires { self.old.place ≡ Place.Cache }
-        ensures { ReadsAs (λ _. progress self.new) result (cache_line (progress self.old) line.now) }
+        ensures { ReadsAs (λ _. progress self.new) result
+            (cache_line (progress self.old) line.now) }
     {
         let rest = keyword(b"cache", line)?;
         let (lines, rest) = decimal_word(rest)?;
@@ -177,7 +181,8 @@ impl PlanDraft {
 
     #[tactic(auto, unfolding(crate::specs::Drafts::ahead_line, crate::specs::Words::line_ended, crate::specs::Forms::built, crate::specs::Kept::is_fresh, crate::specs::Kept::has_all, crate::specs::Kept::has_lock_room))]
     fn ahead_line(&mut self, line: &[u8]) -> Result<(), Cause>
-        ensures { ReadsAs (λ _. progress self.new) result (ahead_line (progress self.old) line.now) }
+        ensures { ReadsAs (λ _. progress self.new) result
+            (ahead_line (progress self.old) line.now) }
     {
         let rest = keyword(b"ahead", line)?;
         let (count, rest) = decimal_within(1, 4, rest)?;
@@ -195,7 +200,8 @@ impl PlanDraft {
 
     #[tactic(auto, unfolding(crate::specs::Drafts::profile_line, crate::specs::Forms::built, crate::specs::Kept::is_fresh, crate::specs::Kept::has_all, crate::specs::Kept::has_lock_room))]
     fn profile_line(&mut self, line: &[u8]) -> Result<(), Cause>
-        ensures { ReadsAs (λ _. progress self.new) result (profile_line (progress self.old) line.now) }
+        ensures { ReadsAs (λ _. progress self.new) result
+            (profile_line (progress self.old) line.now) }
     {
         let profile = profile_of(line)?;
         if !LineForm::Profile(profile).is_built() {
@@ -208,7 +214,8 @@ impl PlanDraft {
 
     #[tactic(auto, unfolding(crate::specs::Drafts::bridge_line, crate::specs::Forms::built, crate::specs::Kept::is_fresh, crate::specs::Kept::has_all, crate::specs::Kept::has_lock_room))]
     fn bridge_line(&mut self, line: &[u8]) -> Result<(), Cause>
-        ensures { ReadsAs (λ _. progress self.new) result (bridge_line (progress self.old) line.now) }
+        ensures { ReadsAs (λ _. progress self.new) result
+            (bridge_line (progress self.old) line.now) }
     {
         let window = window_of(line)?;
         if !LineForm::Bridge.is_built() {
@@ -221,7 +228,8 @@ impl PlanDraft {
 
     #[tactic(auto, unfolding(crate::specs::Drafts::mem_line, crate::specs::Kept::is_fresh, crate::specs::Kept::has_all, crate::specs::Kept::has_lock_room))]
     fn mem_line(&mut self, line: &[u8]) -> Result<(), LineStop>
-        ensures { LineGives (λ _. progress self.new) result (mem_line (progress self.old) line.now) }
+        ensures { LineGives (λ _. progress self.new) result
+            (mem_line (progress self.old) line.now) }
     {
         let (addr, bytes) = memory_of(line)?;
         add_settings(&mut self.mem, addr, bytes.as_slice())?;
@@ -231,7 +239,8 @@ impl PlanDraft {
 
     #[tactic(auto, unfolding(crate::specs::Drafts::agent_line, crate::specs::Kept::is_fresh, crate::specs::Kept::has_all, crate::specs::Kept::has_lock_room))]
     fn agent_line(&mut self, alloc: Global, line: &[u8]) -> Result<(), LineStop>
-        ensures { LineGives (λ _. progress self.new) result (agent_line (progress self.old) line.now) }
+        ensures { LineGives (λ _. progress self.new) result
+            (agent_line (progress self.old) line.now) }
     {
         let _number = agent_of(self.scripts.as_slice().len() as u64, line)?;
         self.named = Named::new(alloc, self.cache)?;
@@ -242,7 +251,8 @@ impl PlanDraft {
     /// Names the line of an access.
     #[tactic(auto, unfolding(crate::specs::Drafts::named_line, crate::specs::Forms::built_if, crate::specs::Forms::built))]
     fn named_line(&mut self, line: u64) -> Result<(), LineStop>
-        ensures value { LineGives (λ _. progress self.new) result (named_line (progress self.old) line) }
+        ensures value { LineGives (λ _. progress self.new) result
+            (named_line (progress self.old) line) }
         ensures kept { self.new.script ≡ self.old.script }
         ensures same { self.new.place ≡ self.old.place }
     {
@@ -278,7 +288,8 @@ impl PlanDraft {
     #[tactic(auto, unfolding(crate::specs::Drafts::load_item))]
     fn load_item(&mut self, line: &[u8]) -> Result<(), LineStop>
         requires { self.old.place ≡ Place.Items }
-        ensures { LineGives (λ _. progress self.new) result (load_item (progress self.old) line.now) }
+        ensures { LineGives (λ _. progress self.new) result
+            (load_item (progress self.old) line.now) }
     {
         if !self.has_room() {
             return Err(LineStop::Bad(Cause::Range));
@@ -290,7 +301,8 @@ impl PlanDraft {
     #[tactic(auto, unfolding(crate::specs::Drafts::store_item))]
     fn store_item(&mut self, line: &[u8]) -> Result<(), LineStop>
         requires { self.old.place ≡ Place.Items }
-        ensures { LineGives (λ _. progress self.new) result (store_item (progress self.old) line.now) }
+        ensures { LineGives (λ _. progress self.new) result
+            (store_item (progress self.old) line.now) }
     {
         if !self.has_room() {
             return Err(LineStop::Bad(Cause::Range));
@@ -302,7 +314,8 @@ impl PlanDraft {
     #[tactic(auto, using(crate::proofs::KeptLemmas::script_push), unfolding(crate::specs::Drafts::idle_item, crate::specs::Forms::built, crate::specs::Kept::is_fresh, crate::specs::Kept::has_all, crate::specs::Kept::has_lock_room))]
     fn idle_item(&mut self, line: &[u8]) -> Result<(), LineStop>
         requires { self.old.place ≡ Place.Items }
-        ensures { LineGives (λ _. progress self.new) result (idle_item (progress self.old) line.now) }
+        ensures { LineGives (λ _. progress self.new) result
+            (idle_item (progress self.old) line.now) }
     {
         if !self.has_room() {
             return Err(LineStop::Bad(Cause::Range));
@@ -336,7 +349,8 @@ impl PlanDraft {
     #[tactic(auto, using(crate::proofs::KeptLemmas::all_push), unfolding(crate::specs::Drafts::end_line, crate::specs::Words::line_ended, crate::specs::Kept::is_fresh, crate::specs::Kept::has_all, crate::specs::Kept::has_lock_room))]
     fn end_line(&mut self, alloc: Global, line: &[u8]) -> Result<(), LineStop>
         requires { self.old.place ≡ Place.Items }
-        ensures { LineGives (λ _. progress self.new) result (end_line (progress self.old) line.now) }
+        ensures { LineGives (λ _. progress self.new) result
+            (end_line (progress self.old) line.now) }
     {
         if !is_ended(line) {
             return Err(LineStop::Bad(Cause::After));
@@ -352,7 +366,8 @@ impl PlanDraft {
     #[tactic(auto, unfolding(crate::specs::Drafts::item_line))]
     fn item_line(&mut self, alloc: Global, word: &[u8], line: &[u8]) -> Result<(), LineStop>
         requires { self.old.place ≡ Place.Items }
-        ensures { LineGives (λ _. progress self.new) result (item_line (progress self.old) word.now line.now) }
+        ensures { LineGives (λ _. progress self.new) result
+            (item_line (progress self.old) word.now line.now) }
     {
         if word == b"ld".as_slice() {
             self.load_item(line)
@@ -373,7 +388,8 @@ impl PlanDraft {
     #[tactic(auto, using(crate::proofs::KeptLemmas::all_push), unfolding(crate::specs::Drafts::locked_access))]
     fn locked_access(&mut self, access: Access) -> Result<(), LineStop>
         requires lawful { IsTrue (is_lawful_access access) }
-        ensures { LineGives (λ _. progress self.new) result (locked_access (progress self.old) access) }
+        ensures { LineGives (λ _. progress self.new) result
+            (locked_access (progress self.old) access) }
     {
         self.named_line(access.line())?;
         self.group.push(access)?;
@@ -383,7 +399,8 @@ impl PlanDraft {
     #[tactic(auto, using(crate::proofs::KeptLemmas::script_push, std::proofs::lemmas::Bool::and_from), unfolding(crate::specs::Drafts::unlock_line, crate::specs::Words::line_ended, crate::specs::Kept::is_fresh, crate::specs::Kept::has_all, crate::specs::Kept::has_lock_room))]
     fn unlock_line(&mut self, alloc: Global, line: &[u8]) -> Result<(), LineStop>
         requires { self.old.place ≡ Place.Locked }
-        ensures { LineGives (λ _. progress self.new) result (unlock_line (progress self.old) line.now) }
+        ensures { LineGives (λ _. progress self.new) result
+            (unlock_line (progress self.old) line.now) }
     {
         if !is_ended(line) {
             return Err(LineStop::Bad(Cause::After));
@@ -404,7 +421,8 @@ impl PlanDraft {
     #[tactic(auto, unfolding(crate::specs::Drafts::locked_line))]
     fn locked_line(&mut self, alloc: Global, word: &[u8], line: &[u8]) -> Result<(), LineStop>
         requires { self.old.place ≡ Place.Locked }
-        ensures { LineGives (λ _. progress self.new) result (locked_line (progress self.old) word.now line.now) }
+        ensures { LineGives (λ _. progress self.new) result
+            (locked_line (progress self.old) word.now line.now) }
     {
         if word == b"ld".as_slice() {
             let access = load_of(line)?;
@@ -423,7 +441,8 @@ impl PlanDraft {
     fn add_hazard(&mut self, hazard: HazardLine) -> Result<(), LineStop>
         requires lawful { IsTrue (is_lawful_hazard hazard) }
         requires room { length self.old.hazards < 4096 }
-        ensures { LineGives (λ _. progress self.new) result (add_hazard (progress self.old) hazard) }
+        ensures { LineGives (λ _. progress self.new) result
+            (add_hazard (progress self.old) hazard) }
     {
         if !LineForm::Hazard(hazard).is_built() {
             return Err(LineStop::Bad(Cause::Unbuilt));
@@ -441,7 +460,8 @@ impl PlanDraft {
 
     #[tactic(auto, unfolding(crate::specs::Drafts::transaction_line))]
     fn transaction_line(&mut self, line: &[u8]) -> Result<(), LineStop>
-        ensures { LineGives (λ _. progress self.new) result (transaction_line (progress self.old) line.now) }
+        ensures { LineGives (λ _. progress self.new) result
+            (transaction_line (progress self.old) line.now) }
     {
         if !self.has_hazard_room() {
             return Err(LineStop::Bad(Cause::Range));
@@ -452,7 +472,8 @@ impl PlanDraft {
 
     #[tactic(auto, unfolding(crate::specs::Drafts::block_line))]
     fn block_line(&mut self, line: &[u8]) -> Result<(), LineStop>
-        ensures { LineGives (λ _. progress self.new) result (block_line (progress self.old) line.now) }
+        ensures { LineGives (λ _. progress self.new) result
+            (block_line (progress self.old) line.now) }
     {
         if !self.has_hazard_room() {
             return Err(LineStop::Bad(Cause::Range));
@@ -464,7 +485,8 @@ impl PlanDraft {
     /// A line behind the last script.
     #[tactic(auto, unfolding(crate::specs::Drafts::hazard_line))]
     fn hazard_line(&mut self, word: &[u8], line: &[u8]) -> Result<(), LineStop>
-        ensures { LineGives (λ _. progress self.new) result (hazard_line (progress self.old) word.now line.now) }
+        ensures { LineGives (λ _. progress self.new) result
+            (hazard_line (progress self.old) word.now line.now) }
     {
         if word == b"tx".as_slice() {
             self.transaction_line(line)
@@ -477,7 +499,8 @@ impl PlanDraft {
 
     #[tactic(auto, unfolding(crate::specs::Drafts::memory_line))]
     fn memory_line(&mut self, alloc: Global, word: &[u8], line: &[u8]) -> Result<(), LineStop>
-        ensures { LineGives (λ _. progress self.new) result (memory_line (progress self.old) word.now line.now) }
+        ensures { LineGives (λ _. progress self.new) result
+            (memory_line (progress self.old) word.now line.now) }
     {
         if word == b"mem".as_slice() {
             self.mem_line(line)
@@ -490,7 +513,8 @@ impl PlanDraft {
 
     #[tactic(auto, unfolding(crate::specs::Drafts::body_line))]
     fn body_line(&mut self, alloc: Global, word: &[u8], line: &[u8]) -> Result<(), LineStop>
-        ensures { LineGives (λ _. progress self.new) result (body_line (progress self.old) word.now line.now) }
+        ensures { LineGives (λ _. progress self.new) result
+            (body_line (progress self.old) word.now line.now) }
     {
         if word == b"bridge".as_slice() {
             self.bridge_line(line)?;
@@ -502,7 +526,8 @@ impl PlanDraft {
 
     #[tactic(auto, unfolding(crate::specs::Drafts::front_line))]
     fn front_line(&mut self, alloc: Global, word: &[u8], line: &[u8]) -> Result<(), LineStop>
-        ensures { LineGives (λ _. progress self.new) result (front_line (progress self.old) word.now line.now) }
+        ensures { LineGives (λ _. progress self.new) result
+            (front_line (progress self.old) word.now line.now) }
     {
         if word == b"profile".as_slice() {
             self.profile_line(line)?;
@@ -514,7 +539,8 @@ impl PlanDraft {
 
     #[tactic(auto, unfolding(crate::specs::Drafts::next_agent_line))]
     fn next_agent_line(&mut self, alloc: Global, word: &[u8], line: &[u8]) -> Result<(), LineStop>
-        ensures { LineGives (λ _. progress self.new) result (next_agent_line (progress self.old) word.now line.now) }
+        ensures { LineGives (λ _. progress self.new) result
+            (next_agent_line (progress self.old) word.now line.now) }
     {
         if word == b"agent".as_slice() {
             self.agent_line(alloc, line)
@@ -526,7 +552,8 @@ impl PlanDraft {
     /// A line where more than one first word may stand.
     #[tactic(auto, unfolding(crate::specs::Drafts::choice_line))]
     fn choice_line(&mut self, alloc: Global, line: &[u8]) -> Result<(), LineStop>
-        ensures { LineGives (λ _. progress self.new) result (choice_line (progress self.old) line.now) }
+        ensures { LineGives (λ _. progress self.new) result
+            (choice_line (progress self.old) line.now) }
     {
         let (word, rest) = next_word(line)?;
         match self.place {
@@ -542,7 +569,8 @@ impl PlanDraft {
 
     /// A line that may stand first, or where one first word may stand alone.
     fn fixed_line(&mut self, alloc: Global, line: &[u8]) -> Result<(), LineStop>
-        ensures { LineGives (λ _. progress self.new) result (placed_line self.old.place (progress self.old) line.now) }
+        ensures { LineGives (λ _. progress self.new) result
+            (placed_line self.old.place (progress self.old) line.now) }
     {
         match self.place {
             Place::First => self.first_line(line)?,
@@ -568,7 +596,8 @@ impl PlanDraft {
     /// Takes the next line.
     #[tactic(auto, unfolding(crate::specs::Drafts::after_line))]
     pub(crate) fn take(&mut self, alloc: Global, line: &[u8]) -> Result<(), LineStop>
-        ensures { LineGives (λ _. progress self.new) result (after_line (progress self.old) line.now) }
+        ensures { LineGives (λ _. progress self.new) result
+            (after_line (progress self.old) line.now) }
     {
         if self.is_past(line) {
             return Ok(());
@@ -580,7 +609,8 @@ impl PlanDraft {
 /// Adds a setting for each byte, from an address on.
 fn add_settings(mem: &mut Settings, addr: u64, bytes: &[u8]) -> Result<(), Memory>
     requires { addr + length bytes.now ≤ 2 ^ 36 }
-    ensures lawful { IsTrue (list_all is_lawful_setting mem.old) → IsTrue (list_all is_lawful_setting mem.new) }
+    ensures lawful { IsTrue (list_all is_lawful_setting mem.old) →
+        IsTrue (list_all is_lawful_setting mem.new) }
     ensures ok { OnOk result (mem.new ≡ mem.old ++ settings_at addr bytes.now) }
 {
     for (i, byte) in bytes.iter().enumerate() {

@@ -51,7 +51,8 @@ impl Named {
 
     /// Adds a line as the last one.
     pub(crate) fn push(&mut self, line: u64) -> Result<(), AllocError>
-        ensures ok { OnOk result (self.new ≡ record { cache = self.old.cache; lines = self.old.lines ++ line ∷ [] }) }
+        ensures ok { OnOk result (self.new
+            ≡ record { cache = self.old.cache; lines = self.old.lines ++ line ∷ [] }) }
     {
         self.lines.push(line)?;
         let set = (line % self.cache as u64) as usize;

@@ -27,26 +27,37 @@ ghost use Rattle.fsb_script_laws.specs.LineTexts.{IsLineOf, is_of_one_request};
 pub fn numbers_read_back()
     ensures decimals { (n : ℕ) → n < 10 ^ 18 → decimal_of (decimal n) ≡ Ok n }
     ensures hexadecimals { (n : ℕ) → n < 2 ^ 64 → hex_of (hexadecimal n) ≡ Ok n }
-    ensures bytes { (n : ℕ) → n < 256 → bytes_of (digit_text (n / 16) ∷ digit_text (n % 16) ∷ []) ≡ Ok (n ∷ []) }
+    ensures bytes { (n : ℕ) → n < 256 →
+        bytes_of (digit_text (n / 16) ∷ digit_text (n % 16) ∷ []) ≡ Ok (n ∷ []) }
 {}
 
 /// Each line reads back, within the bounds of its numbers, whether or not its form is built: memory, the
 /// profile, the bridge, loads, stores, idle clocks, and hazards of a request and of a span of clocks.
 pub fn lines_read_back()
-    ensures memory { (s : Setting) → IsTrue (is_lawful_setting s) → IsTrue (is_byte_setting s) → IsLineOf (codes "mem") memory_of (setting_text s) (s.addr, s.byte ∷ []) }
+    ensures memory { (s : Setting) → IsTrue (is_lawful_setting s) → IsTrue (is_byte_setting s) →
+        IsLineOf (codes "mem") memory_of (setting_text s) (s.addr, s.byte ∷ []) }
     ensures profile { IsLineOf (codes "profile") profile_of (profile_text 2) 2 }
-    ensures bridge { (w : Window) → IsTrue (is_lawful_window w) → IsLineOf (codes "bridge") window_of (window_text w) w }
-    ensures loads { (size addr : ℕ) → IsTrue (is_lawful_access (Load size addr)) → IsLineOf (codes "ld") load_of (access_text (Load size addr)) (Load size addr) }
-    ensures stores { (size addr : ℕ) (value : Operand) → IsTrue (is_lawful_access (Store size addr value)) → IsLineOf (codes "st") store_of (access_text (Store size addr value)) (Store size addr value) }
-    ensures idle_clocks { (n : ℕ) → 1 ≤ n → n ≤ 200000 → IsLineOf (codes "idle") idle_of (idle_text n) n }
-    ensures transactions { (h : HazardLine) → IsTrue (is_of_one_request h) → IsTrue (is_lawful_hazard h) → IsLineOf (codes "tx") transaction_of (hazard_text h) h }
-    ensures blocks { (from to : ℕ) → IsTrue (is_lawful_hazard (Bnr from to)) → IsLineOf (codes "bnr") block_of (hazard_text (Bnr from to)) (Bnr from to) }
+    ensures bridge { (w : Window) → IsTrue (is_lawful_window w) →
+        IsLineOf (codes "bridge") window_of (window_text w) w }
+    ensures loads { (size addr : ℕ) → IsTrue (is_lawful_access (Load size addr)) →
+        IsLineOf (codes "ld") load_of (access_text (Load size addr)) (Load size addr) }
+    ensures stores { (size addr : ℕ) (value : Operand) →
+        IsTrue (is_lawful_access (Store size addr value)) →
+        IsLineOf (codes "st") store_of (access_text (Store size addr value))
+        (Store size addr value) }
+    ensures idle_clocks { (n : ℕ) → 1 ≤ n → n ≤ 200000 →
+        IsLineOf (codes "idle") idle_of (idle_text n) n }
+    ensures transactions { (h : HazardLine) → IsTrue (is_of_one_request h) →
+        IsTrue (is_lawful_hazard h) → IsLineOf (codes "tx") transaction_of (hazard_text h) h }
+    ensures blocks { (from to : ℕ) → IsTrue (is_lawful_hazard (Bnr from to)) →
+        IsLineOf (codes "bnr") block_of (hazard_text (Bnr from to)) (Bnr from to) }
 {}
 
 /// The canonical text of a plan of built forms is a bench file that says this plan. So no two such plans have one text.
 pub fn canonical_text_reads_back()
     ensures same_plan { (p : PlanView) → IsBuiltPlan p → BenchText (bench_text p) p }
-    ensures own_text { (p q : PlanView) → IsBuiltPlan p → IsBuiltPlan q → bench_text p ≡ bench_text q → p ≡ q }
+    ensures own_text { (p q : PlanView) → IsBuiltPlan p → IsBuiltPlan q →
+        bench_text p ≡ bench_text q → p ≡ q }
 {}
 
 /// Each plan that a bench file says is one of built forms within the bounds: one script, looking ahead by 1, profile 1, no bridge,
@@ -54,5 +65,6 @@ pub fn canonical_text_reads_back()
 /// bench file gives a text of the same plan.
 pub fn plans_that_were_read_are_built()
     ensures built { (text : List ℕ) (p : PlanView) → BenchText text p → IsBuiltPlan p }
-    ensures written_again { (text : List ℕ) (p : PlanView) → BenchText text p → BenchText (bench_text p) p }
+    ensures written_again { (text : List ℕ) (p : PlanView) → BenchText text p →
+        BenchText (bench_text p) p }
 {}

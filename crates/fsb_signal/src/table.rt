@@ -129,7 +129,8 @@ pub fn signal_at(number: u8) -> &'static Signal
 /// The number of the signal of this name, or `None` where no entry of the table has the name.
 pub fn signal_named(name: &str) -> Option<u8>
     ensures number { result ≡ signal_number name.now }
-    ensures found { IfSome result (λ n. option_map (λ e. e.name) (slice_get table n) ≡ Some name.now) }
+    ensures found { IfSome result (λ n.
+        option_map (λ e. e.name) (slice_get table n) ≡ Some name.now) }
     ensures none { IsNone result ↔ All (λ e. e.name ≢ name.now) table }
 {
     let number = place_of(&SIGNALS, name)?;

@@ -14,7 +14,8 @@ use fsb_io::Memory;
 fn chunk_of(flat: &mut Flat, line: u64, chunk: u8) -> Result<u64, Memory>
     requires line { line < 2 ^ 31 }
     requires chunk { chunk < 4 }
-    ensures value { IfOk result (λ value. value ≡ value_at (state_of flat.old).memory (32 * line + 8 * chunk) 8) }
+    ensures value { IfOk result (λ value.
+        value ≡ value_at (state_of flat.old).memory (32 * line + 8 * chunk) 8) }
     ensures stays { (state_of flat.new).memory ≡ (state_of flat.old).memory }
 {
     flat.serve(
@@ -29,7 +30,8 @@ fn chunk_of(flat: &mut Flat, line: u64, chunk: u8) -> Result<u64, Memory>
 /// The four chunks of an access's line in the order of its burst, as the memory has them, which stays as it is.
 pub fn burst(flat: &mut Flat, access: &Access) -> Result<[u64; 4], Memory>
     requires { IsLawfulAccess access.now }
-    ensures chunks { IfOk result (λ chunks. chunks ≡ burst_of (state_of flat.old).memory access.now) }
+    ensures chunks { IfOk result (λ chunks.
+        chunks ≡ burst_of (state_of flat.old).memory access.now) }
     ensures stays { (state_of flat.new).memory ≡ (state_of flat.old).memory }
 {
     let line = access.line();

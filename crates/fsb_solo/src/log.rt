@@ -27,7 +27,8 @@ pub fn log_of(
 
     // One byte memory that serves the entries singly gives their values; they keep to the script in order.
     ensures served { IfOk result (λ log. Served settings.now log.entries) }
-    ensures in_order { (scripts : List (List Item)) → script_of scripts 0 ≡ items.now → IfOk result (λ log. InOrder scripts log.entries) }
+    ensures in_order { (scripts : List (List Item)) → script_of scripts 0 ≡ items.now →
+        IfOk result (λ log. InOrder scripts log.entries) }
 {
     let mut log = Log::with_room(alloc, items.len())?;
     let mut flat = Flat::new(alloc, settings)?;

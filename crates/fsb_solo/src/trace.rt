@@ -57,7 +57,8 @@ fn record_access(
     requires lawful { IsLawfulAccess access.now }
     requires within { vec_len trace.old ≤ room }
     requires room { room ≤ vec_capacity trace.old }
-    ensures items { OnOk result (trace.new.items ≡ take room (trace.old.items ++ clocks_of is_new (state_of flat.old).memory access.now)) }
+    ensures items { OnOk result (trace.new.items
+        ≡ take room (trace.old.items ++ clocks_of is_new (state_of flat.old).memory access.now)) }
     ensures within { OnOk result (vec_len trace.new ≤ room) }
     ensures room { OnOk result (room ≤ vec_capacity trace.new) }
     ensures stays { (state_of flat.new).memory ≡ (state_of flat.old).memory }
@@ -90,7 +91,8 @@ fn record(trace: &mut Vec<Sample>, room: usize, samples: &[Sample])
 #[tactic(auto, unfolding(crate::specs::SoloTrace::transaction))]
 fn transaction(flat: &mut Flat, access: &Access) -> Result<[Sample; 12], Memory>
     requires { IsLawfulAccess access.now }
-    ensures samples { IfOk result (λ samples. samples ≡ transaction (state_of flat.old).memory access.now) }
+    ensures samples { IfOk result (λ samples.
+        samples ≡ transaction (state_of flat.old).memory access.now) }
     ensures stays { (state_of flat.new).memory ≡ (state_of flat.old).memory }
 {
     let chunks = burst(flat, access)?;
@@ -106,7 +108,8 @@ fn transaction(flat: &mut Flat, access: &Access) -> Result<[Sample; 12], Memory>
 // The two clocks of an access's request, the first of them with BREQ0# and ADS#.
 fn request_clocks(access: &Access) -> (Sample, Sample)
     requires { IsLawfulAccess access.now }
-    ensures first { result.0 ≡ request_sample (and_line BREQ0.0 ADS) (pairs_of (request_for access.now)).0 }
+    ensures first { result.0 ≡ request_sample (and_line BREQ0.0 ADS)
+        (pairs_of (request_for access.now)).0 }
     ensures second { result.1 ≡ request_sample 0 (pairs_of (request_for access.now)).1 }
 {
     let (first, second) = pairs_for(access);

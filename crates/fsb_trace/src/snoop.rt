@@ -35,7 +35,8 @@ pub fn is_at(number: Option<usize>, n: usize) -> bool
 #[tactic(auto, unfolding(fsb_count::specs::Options::greater_of))]
 pub fn greater_of(a: Option<usize>, b: Option<usize>) -> Option<usize>
     ensures value { result ≡ greater_of a b }
-    ensures bound { (n : ℕ) → IfSome a (λ m. m ≤ n) → IfSome b (λ m. m ≤ n) → IfSome result (λ m. m ≤ n) }
+    ensures bound { (n : ℕ) → IfSome a (λ m. m ≤ n) → IfSome b (λ m. m ≤ n) →
+        IfSome result (λ m. m ≤ n) }
 {
     match (a, b) {
         (Some(m), Some(n)) => Some(m.max(n)),

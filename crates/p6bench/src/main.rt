@@ -45,7 +45,8 @@ fn words_of(rt: &(impl Env + AllocGlobal)) -> Result<Words, Status> {
 
 // The words after the program's name.
 fn words_after_name(alloc: Global, mut args: Args) -> Result<Words, Status>
-    ensures words { IfOk result (λ words. words ≡ drop 1 (map (λ word. string_bytes word) args.rest.items)) }
+    ensures words { IfOk result (λ words.
+        words ≡ drop 1 (map (λ word. string_bytes word) args.rest.items)) }
     ensures memory { (status : Status) → result ≡ Err status → status ≡ Status.OutOfMemory }
 {
     let mut words = Words::new(alloc);

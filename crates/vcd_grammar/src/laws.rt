@@ -6,16 +6,23 @@ ghost use Rattle.vcd_grammar.specs.Reading.{Reads, FirstFault, marks_of, marks_s
 
 /// Each text has exactly one answer: its marks and one trace, or one first fault.
 pub fn one_answer()
-    ensures one_trace { (text : List ℕ) (m n : Marks) (w v : List Sample) → Reads text m w → Reads text n v → w ≡ v }
-    ensures one_marks { (text : List ℕ) (m n : Marks) (w v : List Sample) → Reads text m w → Reads text n v → m ≡ n }
-    ensures one_fault { (text : List ℕ) (f g : VcdFault) → FirstFault text f → FirstFault text g → f ≡ g }
-    ensures not_both { (text : List ℕ) (m : Marks) (w : List Sample) (f : VcdFault) → Reads text m w → FirstFault text f → ⊥ }
-    ensures either { (text : List ℕ) → ((m : Marks) × (w : List Sample) × Reads text m w) ⊎ ((f : VcdFault) × FirstFault text f) }
+    ensures one_trace { (text : List ℕ) (m n : Marks) (w v : List Sample) → Reads text m w →
+        Reads text n v → w ≡ v }
+    ensures one_marks { (text : List ℕ) (m n : Marks) (w v : List Sample) → Reads text m w →
+        Reads text n v → m ≡ n }
+    ensures one_fault { (text : List ℕ) (f g : VcdFault) → FirstFault text f → FirstFault text g →
+        f ≡ g }
+    ensures not_both { (text : List ℕ) (m : Marks) (w : List Sample) (f : VcdFault) →
+        Reads text m w → FirstFault text f → ⊥ }
+    ensures either { (text : List ℕ) →
+        ((m : Marks) × (w : List Sample) × Reads text m w) ⊎ ((f : VcdFault) × FirstFault text f) }
 {}
 
 /// The marks come before the first sample, and stay: what the first bytes of a text show, the whole text has.
 pub fn marks_come_first()
     ensures none { (fed : List ℕ) → marks_so_far fed ≡ None → samples_so_far fed ≡ [] }
-    ensures stay { (fed more : List ℕ) (m : Marks) → marks_so_far fed ≡ Some m → marks_so_far (fed ++ more) ≡ Some m }
-    ensures whole { (fed more : List ℕ) (m : Marks) → marks_so_far fed ≡ Some m → marks_of (fed ++ more) ≡ m }
+    ensures stay { (fed more : List ℕ) (m : Marks) → marks_so_far fed ≡ Some m →
+        marks_so_far (fed ++ more) ≡ Some m }
+    ensures whole { (fed more : List ℕ) (m : Marks) → marks_so_far fed ≡ Some m →
+        marks_of (fed ++ more) ≡ m }
 {}

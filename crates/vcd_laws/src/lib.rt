@@ -18,7 +18,8 @@ use fsb_signal::{Sample, Word};
 /// unknown, it has at most 200,000 samples, and in profile 1 none asserts a parity line. So no two such traces have one
 /// dump, nor does one trace in two profiles.
 pub fn written_dumps_read_back()
-    ensures reads { (p : ℕ) (w : List Sample) → IsWritten p w → Reads (dump_text p w) (marks_in p) w }
+    ensures reads { (p : ℕ) (w : List Sample) → IsWritten p w →
+        Reads (dump_text p w) (marks_in p) w }
     ensures own_text { (p q : ℕ) (v w : List Sample) → IsWritten p v → IsWritten q w
         → dump_text p v ≡ dump_text q w → v ≡ w }
     ensures own_profile { (p q : ℕ) (v w : List Sample) → IsWritten p v → IsWritten q w

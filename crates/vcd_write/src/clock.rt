@@ -69,7 +69,8 @@ fn put_edge<const N: usize>(text: &mut ArrayVec<u8, N>, time: u64, edge: &str)
     requires edge { length edge.now ≡ 3 }
     requires time { time < 10 ^ 7 }
     requires room { array_vec_len text.old + 25 ≤ N }
-    ensures items { text.new.items ≡ text.old.items ++ (codes "#" ++ decimal time ++ codes "\n" ++ edge.now) }
+    ensures items { text.new.items
+        ≡ text.old.items ++ (codes "#" ++ decimal time ++ codes "\n" ++ edge.now) }
     ensures len { array_vec_len text.new ≤ array_vec_len text.old + 12 }
 {
     text.push(b'#');

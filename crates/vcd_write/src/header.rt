@@ -55,7 +55,8 @@ fn text_of_header(profile: u8, first: &Sample) -> ArrayVec<u8, 4096>
 // Appends the declaration of each entry of the table that a dump of this profile has.
 fn put_declarations<const N: usize>(text: &mut ArrayVec<u8, N>, profile: u8)
     requires { array_vec_len text.old + 2090 ≤ N }
-    ensures items { text.new.items ≡ text.old.items ++ texts_from declaration_text 0 (entries_in profile) }
+    ensures items { text.new.items
+        ≡ text.old.items ++ texts_from declaration_text 0 (entries_in profile) }
     ensures len { array_vec_len text.new ≤ array_vec_len text.old + 2090 }
 {
     for number in 0..entries_in(profile) {

@@ -70,7 +70,8 @@ pub(crate) fn put_values<const N: usize>(text: &mut ArrayVec<u8, N>, profile: u8
     requires { array_vec_len text.old + values_room 22 ≤ N }
     ensures items { text.new.items
         ≡ text.old.items ++ texts_from (sample_value_text sample.now) 1 (entries_in profile - 1) }
-    ensures len { array_vec_len text.new ≤ array_vec_len text.old + values_room (entries_in profile) }
+    ensures len { array_vec_len text.new ≤ array_vec_len text.old + values_room
+        (entries_in profile) }
 {
     for number in 1..entries_in(profile) {
         put_value(text, number, sample.value(number));
@@ -87,7 +88,8 @@ pub(crate) fn put_changes<const N: usize>(
     requires { array_vec_len text.old + values_room 22 ≤ N }
     ensures items { text.new.items
         ≡ text.old.items ++ texts_from (change_text before.now now.now) 1 (entries_in profile - 1) }
-    ensures len { array_vec_len text.new ≤ array_vec_len text.old + values_room (entries_in profile) }
+    ensures len { array_vec_len text.new ≤ array_vec_len text.old + values_room
+        (entries_in profile) }
 {
     for number in 1..entries_in(profile) {
         put_change(text, number, before.value(number), now.value(number));
@@ -98,7 +100,8 @@ pub(crate) fn put_changes<const N: usize>(
 fn put_change<const N: usize>(text: &mut ArrayVec<u8, N>, number: u8, before: u64, now: u64)
     requires number { number < 22 }
     requires room { array_vec_len text.old + value_room number ≤ N }
-    ensures items { text.new.items ≡ text.old.items ++ (if before == now then [] else value_text number now) }
+    ensures items { text.new.items
+        ≡ text.old.items ++ (if before == now then [] else value_text number now) }
     ensures len { array_vec_len text.new ≤ array_vec_len text.old + value_room number }
 {
     if before != now {
