@@ -22,3 +22,4 @@ tells_verdict (statuses.BadDump fault) finding marks w told e = told
 tells_verdict statuses.ReadFault finding marks w told e = told
 tells_verdict statuses.OutOfMemory finding marks w told e = told
 tells_verdict statuses.TooLong finding marks w told e = told
+tells_verdict statuses.NotFound finding marks w told e = told

@@ -1,18 +1,19 @@
 //! The check of a dump, and the line of its verdict.
 ghost use Rattle.std.specs.Prelude.{◌≡◌, ◌≤◌, ◌<◌, ◌^◌, ◌⊎◌, IsTrue, List, length};
-ghost use Rattle.fsb_check.specs.Found.{HasManySamples};
 ghost use Rattle.fsb_io.specs.Faults.{Rose};
 ghost use Rattle.fsb_signal.specs.declared.marks.Marks.{Marks};
 ghost use Rattle.fsb_signal.specs.declared.sample.Sample.{Sample};
+ghost use Rattle.fsb_watch.specs.Watched.{HasManySamples};
 ghost use Rattle.vcd_grammar.specs.declared.fault.VcdFault.{VcdFault};
 ghost use Rattle.vcd_grammar.specs.Reading.{Reads};
 ghost use Rattle.fsb_top.specs.Outcome.{HasRun, IsSilent, IsOfCheck, IsTold, HasVerdict, IsBadDump};
 ghost use Rattle.fsb_top.specs.Told.{IsFindingTold, IsFindingWritten};
 
 use crate::status::Status;
-use fsb_check::{CheckStop, Finding, check_dump};
+use fsb_check::{Finding, check_dump};
 use fsb_io::{Failed, Sink, Source, put_all};
 use fsb_report::verdict_line;
+use fsb_watch::DumpStop;
 use std::alloc::Global;
 
 /// Judges the dump that the source holds under the name, and writes the line of its verdict to `out`.
@@ -40,10 +41,10 @@ pub fn check_file<S: Source, O: Sink>(
 {
     match check_dump(alloc, name, source) {
         Ok(finding) => tell(out, finding),
-        Err(CheckStop::Bad(fault)) => Status::BadDump(fault),
-        Err(CheckStop::ReadFault) => Status::ReadFault,
-        Err(CheckStop::TooLong) => Status::TooLong,
-        Err(CheckStop::Memory) => Status::OutOfMemory,
+        Err(DumpStop::Bad(fault)) => Status::BadDump(fault),
+        Err(DumpStop::ReadFault) => Status::ReadFault,
+        Err(DumpStop::TooLong) => Status::TooLong,
+        Err(DumpStop::Memory) => Status::OutOfMemory,
     }
 }
 

@@ -10,6 +10,7 @@ use vcd_read::{VcdCause, VcdFault};
 mod counts;
 mod faults;
 mod judged;
+mod looked;
 mod texts;
 
 /// A command line that names a bench file and a dump.

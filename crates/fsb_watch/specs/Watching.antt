@@ -28,6 +28,12 @@ pub record CanShow {W : Type 0} (seen : W → W → Marks → List Sample → Ty
   pub none : marks_told p.reader ≡ None → p.samples.items ≡ []
   pub few : length h + length p.samples.items ≤ 2 ^ 32 - 1
 
+-- the samples of the last piece were shown behind those before, and the marks told
+pub record HasShown {W : Type 0} (seen : W → W → Marks → List Sample → Type 0) (first now : W) (before after : Pieces) (h : List Sample) : Type 0 where
+  pub shown : IsShown seen first now (marks_told before.reader) (h ++ before.samples.items)
+  pub told : after.told ≡ is_some (marks_told before.reader)
+  pub count : after.shown ≡ length (h ++ before.samples.items)
+
 -- these bytes were parsed: the reader has refused what they refuse with, and without a refusal so many samples were shown as
 -- they decide
 pub record Parsed (p : Pieces) (fed : List ℕ) : Type 0 where

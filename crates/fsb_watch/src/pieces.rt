@@ -1,9 +1,8 @@
 //! The pieces of a dump.
-ghost use Rattle.std.specs.Prelude.{◌≡◌, ◌<◌, ◌≤◌, ◌-◌, ◌+◌, ◌^◌, ◌++◌, ℕ, List, [], Option, is_some, length, IfOk, OnOk};
+ghost use Rattle.std.specs.Prelude.{◌≡◌, ◌<◌, ◌+◌, ◌^◌, ◌++◌, ℕ, List, [], Option, length, IfOk, OnOk};
 ghost use Rattle.fsb_signal.specs.declared.marks.Marks.{Marks};
 ghost use Rattle.fsb_signal.specs.declared.sample.Sample.{Sample};
-ghost use Rattle.vcd_read.specs.Standing.{marks_told};
-ghost use Rattle.fsb_watch.specs.Watching.{CanShow, Ends, IsShown, Parsed, Stood};
+ghost use Rattle.fsb_watch.specs.Watching.{CanShow, Ends, HasShown, Parsed, Stood};
 
 use crate::show::{show, tell};
 use crate::stop::DumpStop;
@@ -77,11 +76,9 @@ impl Pieces {
     fn show<W: Watcher>(&mut self, watcher: &mut W) -> Result<(), Memory>
         requires { (first : W) × (before : Option Marks) × (h : List Sample) × W.is_ready first
             × CanShow W.has_seen first watcher.old self.old before h }
-        ensures shown { OnOk result ((first : W) (before : Option Marks) (h : List Sample) → W.is_ready first
+        ensures shown { OnOk result ((first : W) (before : Option Marks) (h : List Sample)
             → CanShow W.has_seen first watcher.old self.old before h
-            → IsShown W.has_seen first watcher.new (marks_told self.old.reader) (h ++ self.old.samples.items)) }
-        ensures told { OnOk result (self.new.told ≡ is_some (marks_told self.old.reader)) }
-        ensures count { OnOk result (self.new.shown ≡ self.old.shown + length self.old.samples.items) }
+            → HasShown W.has_seen first watcher.new self.old self.new h) }
         ensures reader_stays { self.new.reader ≡ self.old.reader }
     {
         let marks = self.reader.marks();
