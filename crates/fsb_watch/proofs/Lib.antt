@@ -1,5 +1,6 @@
 mod MoreTokens
 mod Refusals
 mod Steps
-mod WholeTexts
+pub mod WholeTexts
 mod Showing
+pub mod Interface
