@@ -64,7 +64,7 @@ unfolding run_to
 spaced r c h l t = (begins-at r c h l t).not_before
 
 -- a clock with a winner is not one of the first two
-not-low : (v : Trace) (c : ℕ) (who : Who) (b : Bool) → nat_lt c 2 ≡ b → winner_at v c ≡ Some who → nat_lt c 2 ≡ false
+pub not-low : (v : Trace) (c : ℕ) (who : Who) (b : Bool) → nat_lt c 2 ≡ b → winner_at v c ≡ Some who → nat_lt c 2 ≡ false
 unfolding winner_at
 not-low v c who false e w = e
 not-low v c who true e w =

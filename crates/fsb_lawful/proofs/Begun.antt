@@ -1,48 +1,23 @@
 -- The request that begins in a timely run is the one that its winner would begin.
 use Rattle.std.proofs.Common.{ℕ, suc, ◌+◌, ◌-◌, ◌<◌, ◌≤◌, ◌≡◌, Bool, true, false, Option, Some, None, length, take, nat_eq, refl, sym, ap, ◌∙◌, arith, add-one}
-use Rattle.std.specs.Option.{option_map, option_map_or, option_and_then}
+use Rattle.std.specs.Option.{option_map, option_and_then}
 use Rattle.std.proofs.lemmas.Bool.{and_parts, eqb-true, le-leb}
 use Rattle.fsb_count.specs.Options.{is_some_and}
-use Rattle.fsb_count.proofs.Interface.{count_where-same, count_where-mono}
 use Rattle.fsb_encode.specs.Decoded.{is_pair}
 use Rattle.fsb_encode.specs.declared.request.Pair.{Pair}
 use Rattle.fsb_encode.specs.declared.request.Request.{Request}
 use Rattle.fsb_encode.specs.Request.{is_lawful_request, pairs_of}
 use Rattle.fsb_encode.proofs.Interface.{request_of_coded}
 use Rattle.fsb_signal.specs.declared.lines.TheConstants.Lines.{ADS}
-use Rattle.fsb_signal.specs.Samples.{has_line, line_at}
+use Rattle.fsb_signal.specs.Samples.{line_at}
 use Rattle.fsb_trace.specs.At.{Trace, line_back, known_pair, known_pair_at, request_at}
 use Rattle.fsb_timely.specs.Past.{Past}
-use Rattle.fsb_timely.specs.Runs.{Run, requests_below, run_to, past_of, past_to}
+use Rattle.fsb_timely.specs.Runs.{Run, run_to, past_of, past_to}
 use Rattle.fsb_timely.specs.Starts.{request_begun, request_begun_before, pair_due, drives_ads, drives_pair, starts_requests}
 use Rattle.fsb_timely.specs.Timely.{holds_in, holds_at, Timely}
 use Rattle.fsb_lawful.proofs.Beginnings.{spaced}
-use Rattle.fsb_lawful.proofs.Cuts.{slice_get-take, take-twice, entries-twice, past-twice, line-to}
-
--- the run up to t of the run up to c
-requests-twice : (w : Trace) (t c : ℕ) → t ≤ c → requests_below (take (c + 1) w) (t + 1) ≡ requests_below w (t + 1)
-unfolding requests_below line_at
-requests-twice w t c l =
-    count_where-same (line_at ADS (take (c + 1) w)) (line_at ADS w) (t + 1) (record { same = λ d m. ap (λ o. option_map_or (λ s. has_line s ADS) o false) (slice_get-take (c + 1) w d (omega arith)) })
-
-requests-more : (w : Trace) (n m : ℕ) → n ≤ m → requests_below w n ≤ requests_below w m
-unfolding requests_below
-requests-more w n m k = count_where-mono (line_at ADS w) n m k
-
-choices-twice : (r : Run) (t c : ℕ) → t ≤ c → (run_to (run_to r c) t).choices ≡ (run_to r t).choices
-unfolding run_to
-choices-twice r t c l =
-    ap (λ n. take n (take (requests_below r.trace (c + 1)) r.choices)) (requests-twice r.trace t c l)
-    ∙ take-twice (requests_below r.trace (t + 1)) (requests_below r.trace (c + 1)) r.choices (requests-more r.trace (t + 1) (c + 1) (omega arith))
-
-run-twice : (r : Run) (t c : ℕ) → t ≤ c → run_to (run_to r c) t ≡ run_to r t
-unfolding run_to
-run-twice r t c l =
-    let choices = choices-twice r t c l in
-    let holds = take-twice (t + 1) (c + 1) r.holds (omega arith) in
-    let trace = take-twice (t + 1) (c + 1) r.trace (omega arith) in
-    let log = entries-twice t c r.log l in
-    λ i. record { plan = r.plan; choices = choices i; holds = holds i; trace = trace i; log = log i }
+use Rattle.fsb_lawful.proofs.Cuts.{slice_get-take, past-twice, line-to}
+use Rattle.fsb_lawful.proofs.CutRuns.{run-twice}
 
 same-pair : (p q : Pair) → is_pair p q ≡ true → p ≡ q
 unfolding is_pair

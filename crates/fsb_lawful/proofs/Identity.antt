@@ -25,7 +25,7 @@ use Rattle.fsb_lawful.proofs.OwnIds.{want-own}
 use Rattle.fsb_lawful.proofs.Keeping.{and-fails, keeps}
 
 -- the request of a winner
-begun-winner : (f : Who → Option Request) (o : Option Who) (q : Request) → option_and_then f o ≡ Some q → (who : Who) × (o ≡ Some who) × (f who ≡ Some q)
+pub begun-winner : (f : Who → Option Request) (o : Option Who) (q : Request) → option_and_then f o ≡ Some q → (who : Who) × (o ≡ Some who) × (f who ≡ Some q)
 begun-winner f None q e = absurd (let no : ⊥ = cc in no)
 begun-winner f (Some who) q e = (who, refl, e)
 

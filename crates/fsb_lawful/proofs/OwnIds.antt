@@ -13,7 +13,7 @@ use Rattle.fsb_timely.specs.Scripts.{Need, is_idling, window, needs_from}
 use Rattle.fsb_timely.specs.Wants.{owed, is_missing, victim_of, id_of, is_id_used, free_id, may_upgrade, kind_needed, request_of_kind, write_back_of, want_for, want_of}
 
 -- how many pass one of two tests
-count-or : (p q : ℕ → Bool) (k : ℕ) → count_where (λ n. p n || q n) k ≤ count_where p k + count_where q k
+pub count-or : (p q : ℕ → Bool) (k : ℕ) → count_where (λ n. p n || q n) k ≤ count_where p k + count_where q k
 unfolding count_where
 count-or p q zero = omega arith
 count-or p q (suc k) = let before = count-or p q k in step (p k) (q k) before
@@ -34,6 +34,22 @@ count-all : (p : ℕ → Bool) (k : ℕ) → ((n : ℕ) → n < k → p n ≡ tr
 unfolding count_where
 count-all p zero h = refl
 count-all p (suc k) h = rw (h k (omega arith), count-all p k (λ n l. h n (omega arith))) (add-one k)
+
+other-place : (a k n : ℕ) → nat_eq k a ≡ true → n < k → (b : Bool) → nat_eq n a ≡ b → nat_eq n a ≡ false
+other-place a k n e l false f = f
+other-place a k n e l true f =
+    let one : k ≡ a = eqb-true k a e in let two : n ≡ a = eqb-true n a f in absurd (omega arith)
+
+-- a place is one number at most
+pub count-one-place : (a k : ℕ) → count_where (λ n. nat_eq n a) k ≤ 1
+unfolding count_where
+count-one-place a zero = omega arith
+count-one-place a (suc k) =
+    elim (cases_Bool (nat_eq k a)) [
+      | inl t ↦
+          let none = count-zero (λ n. nat_eq n a) k (λ n l. other-place a k n t l (nat_eq n a) refl) in rw t (omega arith)
+      | inr f ↦ let before = count-one-place a k in rw f (omega arith)
+    ]
 
 other-number : (did a k n : ℕ) → nat_eq did (id_of a k) ≡ true → n < k → (b : Bool) → nat_eq did (id_of a n) ≡ b → nat_eq did (id_of a n) ≡ false
 unfolding id_of
@@ -103,6 +119,20 @@ want_if-is p a c request (Some need) f =
     let same : want_for p a c (owed p a c) need ≡ request = cc in
     subst (IsWant p a c) same (want_for-is p a c need (victim_of p a c need.line) refl)
 
+-- and none of the outstanding requests has it
+free-unused : (a : ℕ) (owings : List Owing) (o : Option ℕ) → length owings < 16 → first_where (λ n. not (is_id_used owings (id_of a n))) (length owings + 1) ≡ o → is_id_used owings (free_id a owings) ≡ false
+unfolding free_id
+free-unused a owings None l e =
+    let all = count-all (λ n. is_id_used owings (id_of a n)) (length owings + 1) (λ n m. used-there (is_id_used owings (id_of a n)) (first_where-none (λ k. not (is_id_used owings (id_of a k))) (length owings + 1) e n m)) in
+    let few = used-few a owings (length owings + 1) in absurd (omega arith)
+free-unused a owings (Some n) l e =
+    let h = first_where-found (λ k. not (is_id_used owings (id_of a k))) (length owings + 1) n e in
+    rw (e, free_id) (unused (is_id_used owings (id_of a n)) h.1)
+  where
+    unused : (b : Bool) → not b ≡ true → b ≡ false
+    unused true t = absurd (let no : ⊥ = cc in no)
+    unused false t = refl
+
 want_by : (p : Past) (a c : ℕ) (request : Request) (b : Bool) → (is_idling p a c || nat_le p.plan.ahead (length (owed p a c))) ≡ b → want_of p a c ≡ Some request → (length (owed p a c) < p.plan.ahead) × IsWant p a c request
 unfolding want_of
 want_by p a c request true t e = absurd (let h : ⊥ = (let e' = rw (t, want_of) at e in cc) in h)
@@ -119,3 +149,12 @@ want-own p a c request few e =
     let is = h.1 in
     let short = h.0 in
     (is.no_reply, ap (λ d. d / 16) is.own ∙ free-own a (owed p a c) (first_where (λ n. not (is_id_used (owed p a c) (id_of a n))) (length (owed p a c) + 1)) (omega arith) refl)
+
+-- an agent that wants something has fewer requests outstanding than it may, and none of them has the want's ID
+pub want-few : (p : Past) (a c : ℕ) (request : Request) → p.plan.ahead ≤ 4 → want_of p a c ≡ Some request → (length (owed p a c) < p.plan.ahead) × (request.did ≡ free_id a (owed p a c)) × (is_id_used (owed p a c) request.did ≡ false)
+want-few p a c request few e =
+    let h = want_by p a c request (is_idling p a c || nat_le p.plan.ahead (length (owed p a c))) refl e in
+    let is = h.1 in
+    let short = h.0 in
+    let unused = free-unused a (owed p a c) (first_where (λ n. not (is_id_used (owed p a c) (id_of a n))) (length (owed p a c) + 1)) (omega arith) refl in
+    (short, is.own, ap (is_id_used (owed p a c)) is.own ∙ unused)

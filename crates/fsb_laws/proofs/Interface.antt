@@ -9,15 +9,17 @@ pub use Rattle.fsb_laws.proofs.SnoopSteps.{first_where-next, snoop_end_of-above,
 -- Whether the new clock is a snoop clock, and of which request.
 pub use Rattle.fsb_laws.proofs.SnoopClockSteps.{ended_where, is_snoop_clock-more}
 -- Responses and outcomes, one sample on.
-pub use Rattle.fsb_laws.proofs.ResponseSteps.{has_answer, is_deferred-old, moves_data-old, next_response-new, outcome_of-new, responds_at-new, response_clock_of-new, response_clock_of-old, response_count-empty, response_count-kept, response_count-more, response_counted, response_past, response_there}
+pub use Rattle.fsb_laws.proofs.ResponseSteps.{HasAnswer, has_answer, may_answer-from, is_deferred-old, moves_data-old, next_response-new, outcome_of-new, responds_at-new, response_clock_of-new, response_clock_of-old, response_count-empty, response_count-kept, response_count-more, response_counted, response_past, response_there}
 -- Which live requests have their ends in an orderly trace.
 pub use Rattle.fsb_laws.proofs.EndFacts.{chunks_of-form, clear_parts, end_of-kept, end_of-old, end_past, ends_to-moving, ends_to-still, transfer_parts, transferring_form}
 -- The transfer that is on the way, one sample on.
 pub use Rattle.fsb_laws.proofs.TransferSteps.{moves_new, transfer_of-begun, transfer_of-kept}
+-- Which data are on the way: those of the request that responded last.
+pub use Rattle.fsb_laws.proofs.OnTheWay.{is_transferring-last, is_transferring-none, last_is_live}
 -- Whether the next response may come at the new clock, and whether its target is ready.
 pub use Rattle.fsb_laws.proofs.AnswerSteps.{answered_below, may_answer-new, may_answer_next-parts}
 -- The ready clock of the next request to respond, one sample on.
-pub use Rattle.fsb_laws.proofs.ReadySteps.{after_answer, has_ready, ready_clock_of-after, ready_clock_of-next, ready_clock_of-old}
+pub use Rattle.fsb_laws.proofs.ReadySteps.{after_answer, answer_later, has_ready, ready_clock_of-after, ready_clock_of-next, ready_clock_of-old}
 -- An orderly trace goes on orderly where its next sample keeps the distance and responds in time.
 pub use Rattle.fsb_laws.proofs.OrderlySteps.{ads_before_end, may_answer-stays, orderly-empty, orderly-more, spaced-more}
 -- Words over a test of a clock: all clocks that pass, and how many.

@@ -5,6 +5,7 @@ pub mod SnoopClockSteps
 pub mod ResponseSteps
 pub mod EndFacts
 pub mod TransferSteps
+pub mod OnTheWay
 pub mod AnswerSteps
 pub mod ReadySteps
 pub mod OrderlySteps

@@ -74,7 +74,7 @@ unfolding is_clear_before is_before is_some_and
 clear_later w zero b c l t = refl
 clear_later w (suc i) b c l t = let p = clear_parts w i b t in rw p.1 (lt-ltb p.0 c (omega (arith, p.2)))
 
-answer_later : (w : Trace) (b c i : ℕ) → b ≤ c → HasAnswer w b i → HasAnswer w c i
+pub answer_later : (w : Trace) (b c i : ℕ) → b ≤ c → HasAnswer w b i → HasAnswer w c i
 answer_later w b c i l a =
     record { snoop = a.snoop; is_snoop = a.is_snoop; before = omega (arith, a.before); clear = clear_later w i b c l a.clear }
 

@@ -1,5 +1,5 @@
 -- What the checker answers, and what it stands for, after one sample more.
-use Rattle.std.proofs.Common.{ℕ, ◌+◌, ◌-◌, ◌<◌, ◌≤◌, ◌≡◌, Bool, true, false, cond, Option, Some, None, is_some, [], ◌∷◌, ◌++◌, length, refl, sym, ap, ◌∙◌, arith, subst}
+use Rattle.std.proofs.Common.{ℕ, ◌+◌, ◌-◌, ◌<◌, ◌≤◌, ◌≡◌, Bool, true, false, cond, Option, Some, None, is_some, is_none, ◌&&◌, [], ◌∷◌, ◌++◌, length, refl, sym, ap, ◌∙◌, arith, subst}
 use Rattle.std.specs.Option.{option_map, option_and_then, option_to_list}
 use Rattle.std.specs.List.{filter_map}
 use Rattle.std.proofs.lemmas.Bool.{both_ways}
@@ -128,7 +128,7 @@ pub record FeedStep (marks : Marks) (k : Checker) (h : Trace) (x : Sample) (b : 
   pub stands : Stands k marks h
   pub none : k.found ≡ None
   pub begun : b ≡ begun_by k k.clock x
-  pub winner_is : winner ≡ winner_at h (length h)
+  pub winner_is : winner ≡ cond (has_line x ADS) (winner_at h (length h)) None
   pub rule_is : rule ≡ first_broken k k.clock x b winner
 
 clock_of : (marks : Marks) (k : Checker) (h : Trace) (x : Sample) (b : Option LiveRequest) (winner : Option Who) (rule : Option ℕ) → FeedStep marks k h x b winner rule → k.clock ≡ length h
@@ -137,11 +137,21 @@ clock_of marks k h x b winner rule f = (f.stands.follows f.none).clock
 begun_of : (marks : Marks) (k : Checker) (h : Trace) (x : Sample) (b : Option LiveRequest) (winner : Option Who) (rule : Option ℕ) → FeedStep marks k h x b winner rule → b ≡ begun_by k (length h) x
 begun_of marks k h x b winner rule f = f.begun ∙ ap (λ n. begun_by k n x) (clock_of marks k h x b winner rule f)
 
+-- the winner counts only where a request begins
+asked_winner : (t : Bool) (w : Option Who) → (t && is_none (cond t w None)) ≡ (t && is_none w)
+asked_winner true w = refl
+asked_winner false w = refl
+
+same_rule : (k : Checker) (n : ℕ) (x : Sample) (b : Option LiveRequest) (w : Option Who) → first_broken k n x b (cond (has_line x ADS) w None) ≡ first_broken k n x b w
+unfolding first_broken
+same_rule k n x b w = rw (asked_winner (has_line x ADS) w) refl
+
 pub rule_of : (marks : Marks) (k : Checker) (h : Trace) (x : Sample) (b : Option LiveRequest) (winner : Option Who) (rule : Option ℕ) → FeedStep marks k h x b winner rule → first_broken k (length h) x (begun_by k (length h) x) (winner_at h (length h)) ≡ rule
 rule_of marks k h x b winner rule f =
     sym (f.rule_is ∙ ap (λ n. first_broken k n x b winner) (clock_of marks k h x b winner rule f)
     ∙ ap (λ c. first_broken k (length h) x c winner) (begun_of marks k h x b winner rule f)
-    ∙ ap (first_broken k (length h) x (begun_by k (length h) x)) f.winner_is)
+    ∙ ap (first_broken k (length h) x (begun_by k (length h) x)) f.winner_is
+    ∙ same_rule k (length h) x (begun_by k (length h) x) (winner_at h (length h)))
 
 -- there is room for what comes
 pub queue_few : (marks : Marks) (k : Checker) (h : Trace) → Stands k marks h → k.found ≡ None → queue_len k.queue ≤ 8
@@ -187,6 +197,25 @@ pub record AbsorbedAt (k : Checker) (n : ℕ) (h : Trace) (x : Sample) (b : Opti
   pub current : new.outstanding.current.items ≡ filter_map (open_after (happened_by k n x b)) k.outstanding.current.items ++ option_to_list (option_and_then (λ a. open_begun a) b)
   pub before : new.outstanding.before.items ≡ cond (has_line x ADS) k.outstanding.current.items k.outstanding.before.items
 
+same_beginner : (t : Bool) (w : Option Who) → cond t (cond t w None) None ≡ cond t w None
+same_beginner true w = refl
+same_beginner false w = refl
+
+by_winner : (k : Checker) (n : ℕ) (h : Trace) (x : Sample) (b : Option LiveRequest) (w : Option Who) (new : Checker) → AbsorbedAt k n h x b (cond (has_line x ADS) w None) new → AbsorbedAt k n h x b w new
+by_winner k n h x b w new r =
+    record {
+      clock = r.clock;
+      first = r.first;
+      second = r.second;
+      third = r.third;
+      words = r.words;
+      arbiter = r.arbiter;
+      beginner = r.beginner ∙ same_beginner (has_line x ADS) w;
+      queue = r.queue;
+      current = r.current;
+      before = r.before;
+    }
+
 absorbed : (k : Checker) (h : Trace) (x : Sample) (b : Option LiveRequest) (winner : Option Who) (new : Checker) → AbsorbedAt k (length h) h x b winner new → Absorbed k h x b winner new
 absorbed k h x b winner new r =
     record {
@@ -205,7 +234,9 @@ pub absorb_stands : (marks : Marks) (k new : Checker) (h : Trace) (x : Sample) (
 absorb_stands marks k new h x b winner f same e r =
     let at : AbsorbedAt k (length h) h x b winner new = subst (λ n. AbsorbedAt k n h x b winner new) (clock_of marks k h x b winner None f) r in
     let with_begun : AbsorbedAt k (length h) h x (begun_by k (length h) x) winner new = subst (λ c. AbsorbedAt k (length h) h x c winner new) (begun_of marks k h x b winner None f) at in
-    let with_winner : AbsorbedAt k (length h) h x (begun_by k (length h) x) (winner_at h (length h)) new = subst (λ w. AbsorbedAt k (length h) h x (begun_by k (length h) x) w new) f.winner_is with_begun in
+    let with_winner : AbsorbedAt k (length h) h x (begun_by k (length h) x) (winner_at h (length h)) new =
+    by_winner k (length h) h x (begun_by k (length h) x) (winner_at h (length h)) new
+    (subst (λ w. AbsorbedAt k (length h) h x (begun_by k (length h) x) w new) f.winner_is with_begun) in
     none_now marks k new h x f.stands f.none (rule_of marks k h x b winner None f) same (e ∙ f.none)
     (absorbed k h x (begun_by k (length h) x) (winner_at h (length h)) new with_winner)
 

@@ -1,4 +1,5 @@
 pub mod QuietClocks
+pub mod StillClocks
 pub mod Room
 pub mod Stretches
 pub mod Lines

@@ -1,6 +1,7 @@
 pub mod Live
 pub mod Tests
 pub mod OpenTests
+pub mod Still
 pub mod Steps
 pub mod Stretch
 pub mod Recent

@@ -14,7 +14,7 @@ ghost use Rattle.fsb_laws.specs.OneMore.{responds};
 ghost use Rattle.fsb_rules.specs.Tests.{queue_len, snooped_by, asking_after, waiting_after, after_chunk, moving_by, ready_after_by};
 ghost use Rattle.fsb_rules.specs.OpenTests.{open_after, open_begun};
 ghost use Rattle.fsb_rules.specs.Steps.{begun_by, is_too_soon_by, is_identified_by, is_identity_wrong_by, is_asked_wrongly_by, is_some_asked_wrongly_by, is_lock_alone_by, is_snoop_line_alone_by, is_begun_wrongly_by, has_parity_by, is_address_wrong_by, is_request_wrong_by, parity_broken, later_broken, first_broken, happened_by};
-ghost use Rattle.fsb_trace.specs.Winner.{is_agent, is_same_agent, request_line_of};
+ghost use Rattle.fsb_trace.specs.Winner.{is_agent, is_same_agent, request_line_of, winner_at};
 ghost use Rattle.fsb_rules.specs.Checker.{Stands, as_broken};
 
 use crate::broken::Broken;
@@ -106,13 +106,25 @@ impl Checker {
         if self.found.is_none() {
             let clock = self.clock as u32;
             let begun = self.begun(clock, sample);
-            let winner = self.arbiter.winner();
+            let winner = self.winner_of(sample);
             match self.first_broken(clock, sample, begun, winner) {
                 Some(rule) => self.found = Some(Broken { clock, rule }),
                 None => self.absorb(clock, sample, begun, winner),
             }
         }
         self.found
+    }
+
+    /// The winner at this clock, where a request begins with the sample.
+    fn winner_of(&self, sample: &Sample) -> Option<Who>
+        ensures { (h : Trace) → ArbiterStands self.now.arbiter h
+            → result ≡ (if has_line sample.now ADS then winner_at h (length h) else None) }
+    {
+        if sample.has(Lines::ADS) {
+            self.arbiter.winner()
+        } else {
+            None
+        }
     }
 
     /// The least rule that is broken with this sample.
@@ -152,9 +164,21 @@ impl Checker {
         }
     }
 
-    /// The least of the rules from 11 on that is broken with this sample.
-    #[tactic(auto, unfolding(crate::specs::Steps::later_broken, crate::specs::Steps::is_result_unfit_by, crate::specs::Steps::is_code_wrong_by, crate::specs::Steps::is_target_ready_wrong_by, crate::specs::Steps::is_data_wrong_by))]
+    /// The least of the rules from 11 on that is broken with this sample; at most clocks it can be a parity rule alone.
+    #[tactic(auto, using(crate::proofs::StillClocks::quiet_later))]
     fn later_broken(&self, clock: u32, sample: &Sample, begun: Option<LiveRequest>) -> Option<u8>
+        ensures { result ≡ later_broken self.now clock sample.now begun }
+    {
+        if self.queue.is_quiet(sample, begun) {
+            self.parity_broken(sample)
+        } else {
+            self.busy_broken(clock, sample, begun)
+        }
+    }
+
+    /// The least of the rules from 11 on that is broken with a sample in which anything may happen.
+    #[tactic(auto, unfolding(crate::specs::Steps::later_broken, crate::specs::Steps::is_result_unfit_by, crate::specs::Steps::is_code_wrong_by, crate::specs::Steps::is_target_ready_wrong_by, crate::specs::Steps::is_data_wrong_by))]
+    fn busy_broken(&self, clock: u32, sample: &Sample, begun: Option<LiveRequest>) -> Option<u8>
         ensures { result ≡ later_broken self.now clock sample.now begun }
     {
         if self.is_snoop_line_alone(clock, sample) {

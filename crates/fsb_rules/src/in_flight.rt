@@ -7,6 +7,7 @@ ghost use Rattle.fsb_signal.specs.Samples.{has_line, response_of};
 ghost use Rattle.fsb_trace.specs.Outcome.{does_move, is_deferral};
 ghost use Rattle.fsb_laws.specs.OneMore.{responds, stalls};
 ghost use Rattle.fsb_rules.specs.Tests.{start_by, is_due_by, ends_snoop_by, is_unfit_by, next_by, queue_len, snooped_by, ready_after_by, asking_after, waiting_after, told_of, is_sound, is_ready_wrongly_by, is_ready_late_by, moving_by, after_chunk, ended_at_once, ended_with_chunk, ended_by, takes_by, is_code_by};
+ghost use Rattle.fsb_rules.specs.Still.{is_still, is_quiet_by, stays_by};
 
 use crate::live::{Ended, LiveRequest, Moving, Snooped, after_chunk};
 use arrayvec::ArrayVec;
@@ -50,6 +51,23 @@ fn stalls(sample: &Sample) -> bool
     ensures { result ≡ stalls sample.now }
 {
     sample.has(Lines::HIT) && sample.has(Lines::HITM)
+}
+
+/// Whether no line is asserted that tells of a snoop, a response or data, or cancels.
+#[tactic(auto, unfolding(crate::specs::Still::is_still))]
+fn is_still(sample: &Sample) -> bool
+    ensures { result ≡ is_still sample.now }
+{
+    !sample.has(Lines::HIT)
+        && !sample.has(Lines::HITM)
+        && !sample.has(Lines::DEFER)
+        && !sample.has(Lines::RS0)
+        && !sample.has(Lines::RS1)
+        && !sample.has(Lines::RS2)
+        && !sample.has(Lines::TRDY)
+        && !sample.has(Lines::DBSY)
+        && !sample.has(Lines::DRDY)
+        && !sample.has(Lines::AERR)
 }
 
 /// The start of the snoop of a request that began at `clock`, after this snoop end.
@@ -174,6 +192,22 @@ impl InFlight {
             ),
             None => false,
         }
+    }
+
+    /// Whether no data are on the way, and no request is begun, with a sample in which no line tells of one.
+    #[tactic(auto, unfolding(crate::specs::Still::is_quiet_by))]
+    pub fn is_quiet(&self, sample: &Sample, begun: Option<LiveRequest>) -> bool
+        ensures { result ≡ is_quiet_by self.now sample.now begun }
+    {
+        begun.is_none() && (self.moving.is_none() && is_still(sample))
+    }
+
+    /// Whether the sample changes nothing.
+    #[tactic(auto, unfolding(crate::specs::Still::stays_by))]
+    fn stays(&self, clock: u32, sample: &Sample, begun: Option<LiveRequest>) -> bool
+        ensures { result ≡ stays_by self.now clock sample.now begun }
+    {
+        self.is_quiet(sample, begun) && !self.is_snoop_clock(clock)
     }
 
     /// Whether a snoop ends with this sample.
@@ -354,9 +388,26 @@ impl InFlight {
         }
     }
 
-    /// Takes the sample of this clock, which breaks no rule, and the request whose second clock it is.
-    #[tactic(auto, using(crate::proofs::Room::room))]
+    /// Takes the sample of this clock, which breaks no rule, and the request whose second clock it is; at most clocks
+    /// nothing changes.
+    #[tactic(auto, using(crate::proofs::StillClocks::still_clocks))]
     pub fn absorb(&mut self, clock: u32, sample: &Sample, begun: Option<LiveRequest>)
+        requires few { queue_len self.old ≤ 8 }
+        requires room { is_some begun ≡ true → queue_len self.old < 8 }
+        ensures asking { self.new.asking.items ≡ asking_after self.old.asking.items (has_line sample.now AERR) (is_some (snooped_by self.old clock sample.now)) begun }
+        ensures waiting { self.new.waiting.items ≡ waiting_after self.old.waiting.items (responds sample.now) (snooped_by self.old clock sample.now) }
+        ensures moving { self.new.moving ≡ after_chunk (moving_by self.old clock sample.now) sample.now }
+        ensures last_snoop { self.new.last_snoop ≡ (if is_some (snooped_by self.old clock sample.now) then Some clock else self.old.last_snoop) }
+        ensures ready { self.new.ready ≡ ready_after_by self.old clock sample.now }
+    {
+        if !self.stays(clock, sample, begun) {
+            self.go_on(clock, sample, begun);
+        }
+    }
+
+    /// Takes the sample of this clock, with which something may change.
+    #[tactic(auto, using(crate::proofs::Room::room))]
+    fn go_on(&mut self, clock: u32, sample: &Sample, begun: Option<LiveRequest>)
         requires few { queue_len self.old ≤ 8 }
         requires room { is_some begun ≡ true → queue_len self.old < 8 }
         ensures asking { self.new.asking.items ≡ asking_after self.old.asking.items (has_line sample.now AERR) (is_some (snooped_by self.old clock sample.now)) begun }

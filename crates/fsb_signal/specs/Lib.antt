@@ -1,3 +1,4 @@
+pub mod ControlLines
 pub mod Samples
 pub mod Parity
 pub mod Table

@@ -1,4 +1,5 @@
-ghost use Rattle.std.specs.Prelude.{⊤, [], ◌∷◌, codes};
+ghost use Rattle.std.specs.Prelude.{⊤};
+ghost use Rattle.fsb_signal.specs.ControlLines.{line_names};
 
 use bitflags::{Flag, Flags, bitflag_items};
 
@@ -41,12 +42,7 @@ impl Flags for Lines {
 
     ghost exact = { ⊤ };
 
-    ghost table = { (codes "BREQ0", 1) ∷ (codes "BREQ1", 2) ∷ (codes "BREQ2", 4) ∷ (codes "BREQ3", 8)
-        ∷ (codes "BPRI", 16) ∷ (codes "LOCK", 32) ∷ (codes "BNR", 64) ∷ (codes "ADS", 128)
-        ∷ (codes "AERR", 256) ∷ (codes "HIT", 512) ∷ (codes "HITM", 1024) ∷ (codes "DEFER", 2048)
-        ∷ (codes "RS0", 4096) ∷ (codes "RS1", 8192) ∷ (codes "RS2", 16384) ∷ (codes "TRDY", 32768)
-        ∷ (codes "DBSY", 65536) ∷ (codes "DRDY", 131072)
-        ∷ (codes "AP0", 262144) ∷ (codes "AP1", 524288) ∷ (codes "RP", 1048576) ∷ [] };
+    ghost table = { line_names };
 
     ghost set_of = { λ lines. lines.0 };
 

@@ -45,7 +45,7 @@ snooped-same : (n : ℕ) (p q : Past) (t : ℕ) → Alike n p q → t < n → sn
 unfolding snooped_at
 snooped-same n p q t h l = ap (option_and_then (λ moment. moment.snooped)) (h.same_moments t l)
 
-begun-same : (n : ℕ) (p q : Past) (t : ℕ) → Alike n p q → t < n → begun_at p t ≡ begun_at q t
+pub begun-same : (n : ℕ) (p q : Past) (t : ℕ) → Alike n p q → t < n → begun_at p t ≡ begun_at q t
 unfolding begun_at
 begun-same n p q t h l =
     ap (λ o. option_map (λ owing. owing.claim) (option_and_then (λ moment. moment.begun) o)) (h.same_moments t l)

@@ -7,7 +7,7 @@ use Rattle.fsb_count.specs.Options.{is_some_and}
 use Rattle.fsb_count.specs.Clocks.{holds_since}
 use Rattle.fsb_count.proofs.Interface.{any_where-more, holds_since-more, last_where-passed, last_where-failed}
 use Rattle.fsb_timely.specs.Past.{Past}
-use Rattle.fsb_timely.specs.Grants.{is_end_at, is_ended, grant_at, is_granted, is_lost, holds_line, latest_grant, is_named_by_other, is_sole_grant, is_exclusive}
+use Rattle.fsb_timely.specs.Grants.{is_end_at, is_ended, grant_at, is_granted, is_lost, holds_line, latest_grant, has_arrived, is_ready, is_named_by_other, is_sole_grant, is_exclusive}
 
 -- a grant, and otherwise what was held and is not lost
 pub holds_line-more : (p : Past) (a line c : ℕ) → holds_line p a line (c + 1) ≡ (is_granted p a line c || (holds_line p a line c && not (is_lost p a line c)))
@@ -62,3 +62,12 @@ is_exclusive-more p a line c =
 pub is_ended-more : (p : Past) (c q : ℕ) → is_ended p (c + 1) q ≡ (is_ended p c q || is_end_at p c q)
 unfolding is_ended
 is_ended-more p c q = any_where-more (λ t. is_end_at p t q) c
+
+-- the request of the latest grant has ended, or ends at c
+pub is_ready-more : (p : Past) (a line c : ℕ) → is_ready p a line (c + 1)
+    ≡ is_some_and (if is_granted p a line c then grant_at p c else latest_grant p a line c) (λ grant. is_ended p c grant.first || is_end_at p c grant.first)
+unfolding is_ready has_arrived
+is_ready-more p a line c =
+    let latest = latest_grant-more p a line c in
+    let ended : (q : ℕ) → is_ended p (c + 1) q ≡ (is_ended p c q || is_end_at p c q) = λ q. is_ended-more p c q in
+    λ i. is_some_and (latest i) (λ grant. ended grant.first i)

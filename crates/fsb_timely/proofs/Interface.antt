@@ -5,4 +5,7 @@ pub use Rattle.fsb_timely.proofs.EachClock.{keeps-at, keeps-all}
 -- What an agent has and does at a clock rests on the past below that clock.
 pub use Rattle.fsb_timely.proofs.GoingOn.{last-same}
 -- The moments of a run, and what the whole trace says.
-pub use Rattle.fsb_timely.proofs.Moments.{moment-at, moment_of, number-says, snooped-there}
+pub use Rattle.fsb_timely.proofs.Moments.{moment-at, moment-snooped, moment_of, number-says, snoop_of, snooped-there}
+pub use Rattle.fsb_timely.proofs.Next.{length-moments}
+-- The snoop ends of a run, in its moments and in its whole trace.
+pub use Rattle.fsb_timely.proofs.TiedMoments.{snoop-tied}

@@ -1,6 +1,11 @@
 pub mod EachClock
 pub mod Next
 pub mod Since
+pub mod KeptAnswers
+pub mod Stepwise
+pub mod LastClock
+pub mod Growing
+pub mod LockSteps
 pub mod GoingOn
 pub mod GoingScripts
 pub mod GoingDirty

@@ -25,7 +25,7 @@ use Rattle.fsb_timely.specs.ParityLines.{drives_parity}
 use Rattle.fsb_timely.specs.Timely.{Part, holds_in, holds_at, AtEachClock, IsTimelyAt, Timely}
 
 -- a sample more at the end
-agree_next : (w : Trace) (s : Sample) → AgreeTo (length w) (w ++ s ∷ []) w
+pub agree_next : (w : Trace) (s : Sample) → AgreeTo (length w) (w ++ s ∷ []) w
 agree_next w s = record {
   left = let e = length-append w (s ∷ []) in omega arith;
   right = omega arith;
@@ -33,7 +33,7 @@ agree_next w s = record {
 }
 
 -- requests below a clock that was passed
-requests-same : (w : Trace) (s : Sample) (n : ℕ) → n ≤ length w → requests_below (w ++ s ∷ []) n ≡ requests_below w n
+pub requests-same : (w : Trace) (s : Sample) (n : ℕ) → n ≤ length w → requests_below (w ++ s ∷ []) n ≡ requests_below w n
 unfolding requests_below
 requests-same w s n l =
     count_where-same (line_at ADS (w ++ s ∷ [])) (line_at ADS w) n (record { same = λ c m. line_at-agree ADS (length w) (w ++ s ∷ []) w c (agree_next w s) (omega arith) })
@@ -158,7 +158,7 @@ in_time-more first n (done ∷ log) entries l e f =
     let below : done.clock < n = ltb-true done.clock n rest.0 in
     rw (parts.0, lt-ltb done.clock (n + 1) (omega arith)) (in_time-more done.clock n log entries (omega arith) rest.1 f)
 
-in_time-next : (r s : Run) → IsNext r s → is_in_time 0 (length r.trace) r.log ≡ true → is_in_time 0 (length s.trace) s.log ≡ true
+pub in_time-next : (r s : Run) → IsNext r s → is_in_time 0 (length r.trace) r.log ≡ true → is_in_time 0 (length s.trace) s.log ≡ true
 in_time-next r s next e =
     let longer : length s.trace ≡ length r.trace + 1 = ap length next.more_trace ∙ length-append r.trace (next.sample ∷ []) in
     (λ i. is_in_time 0 (longer i) (next.more_log i)) ∙ in_time-more 0 (length r.trace) r.log next.entries (omega arith) e next.at_end

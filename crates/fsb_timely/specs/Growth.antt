@@ -8,10 +8,12 @@ use Rattle.fsb_hazard.specs.declared.choice.Choice.{Choice}
 use Rattle.fsb_trace.specs.At.{Trace}
 use Rattle.fsb_trace.specs.Flight.{last_clock_of}
 use Rattle.fsb_trace.specs.Requests.{is_cancelled, is_live, live_number_of}
-use Rattle.fsb_timely.specs.Past.{Past}
+use Rattle.fsb_timely.specs.Past.{Moment, Past}
 use Rattle.fsb_timely.specs.Scripts.{is_done_at}
 use Rattle.fsb_timely.specs.Hits.{is_hit}
-use Rattle.fsb_timely.specs.Runs.{Run, requests_below}
+use Rattle.fsb_timely.specs.Moments.{moment_at}
+use Rattle.fsb_timely.specs.Runs.{Run, requests_below, past_of}
+use Rattle.fsb_timely.specs.Timely.{Timely}
 
 -- the second run is the first with one more clock: one more sample and one more hold, maybe more choices, and entries of
 -- that clock alone
@@ -31,6 +33,21 @@ pub record IsNext (r s : Run) : Type 0 where
 pub record IsWhole (r : Run) : Type 0 where
   pub one_hold : length r.holds ≡ length r.trace
   pub one_choice : length r.choices ≡ requests_below r.trace (length r.trace)
+
+-- the timely run r grows to s by one clock: s is r with one more clock, and has one hold for each clock and one choice for
+-- each request
+pub record GrowsTo (r s : Run) : Type 0 where
+  pub timely : Timely r
+  pub next : IsNext r s
+  pub whole : IsWhole s
+
+-- the past of the clock by which the run r grows to s: the moments of r, and the log of s
+unfoldable pub past_at_growth : Run → Run → Past
+past_at_growth r s = record { plan = s.plan; moments = (past_of r).moments; log = s.log }
+
+-- the moment of the clock by which the run r grows to s
+unfoldable pub moment_at_growth : Run → Run → Moment
+moment_at_growth r s = moment_at (past_at_growth r s) s.choices s.trace (length r.trace)
 
 -- the second past goes on from the first, of which clock n is the next: they have one plan and the same moments below n, and
 -- the log of the second is that of the first with entries of clock n or later

@@ -17,4 +17,5 @@ pub mod Tied
 pub mod Carried
 pub mod Simulated
 pub mod Asked
+pub mod AskedSteps
 pub mod Kept

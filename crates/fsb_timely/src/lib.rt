@@ -6,10 +6,16 @@
 //! docs/agents.md tells what the agents do, and docs/bus.md how the bus moves. There is no code but laws over them.
 #![tactic(auto)]
 
+pub use asked::{answers_are_kept, asked_in_steps};
+pub use growth::{empty_runs_are_simulated, runs_end_at_their_clock, simulations_grow};
 pub use laws::{
     each_part_stays, hazard_lines_go_by_number, held_lines_step, held_lines_were_granted,
     moments_have_the_snoop_ends, one_snoop_end_at_a_clock, outstanding_requests_step,
     parts_are_tested, pasts_go_on, runs_grow, scripts_step, wants_are_new, wants_go_on,
 };
+pub use steps::{locks_step, ready_lines_step};
 
+mod asked;
+mod growth;
 mod laws;
+mod steps;

@@ -9,7 +9,7 @@ pub use Rattle.fsb_trace.proofs.LiveRequests.{is_reply-some, live_below_count, l
 -- The phase rules by their numbers.
 pub use Rattle.fsb_trace.proofs.RuleSteps.{breaks-1, breaks-10, breaks-11, breaks-12, breaks-13, breaks-14, breaks-15, breaks-16, breaks-17, breaks-18, breaks-19, breaks-2, breaks-20, breaks-3, breaks-4, breaks-5, breaks-6, breaks-7, breaks-8, breaks-9, breaks-none}
 -- Traces that agree have the same at a clock.
-pub use Rattle.fsb_trace.proofs.AgreeAt.{AgreeTo-less, AgreeTo-sym, is_cancelled-agree, is_live-agree, line_at-agree, request_at-agree, requesters_before-agree, responds_at-agree, stalls_at-agree, winner_after-agree, winner_at-agree}
+pub use Rattle.fsb_trace.proofs.AgreeAt.{AgreeTo-less, AgreeTo-sym, is_cancelled-agree, is_live-agree, line_at-agree, request_at-agree, requesters_before-agree, response_code_at-agree, responds_at-agree, stalls_at-agree, winner_after-agree, winner_at-agree}
 -- A number that is reached stays as it is in every trace that agrees up to it.
 pub use Rattle.fsb_trace.proofs.Stay.{live_clock_of-stays, response_clock_of-stays, snoop_end_from-found, snoop_end_of-before, snoop_end_of-clock, snoop_end_of-stays}
 -- Outcomes and ends stay, where the snoop end is there.

@@ -3,13 +3,14 @@ use Rattle.std.specs.Prelude.{◌≡◌, ℕ, ◌+◌, List, [], ◌∷◌, Some
 use Rattle.std.proofs.Common.{refl}
 use Rattle.bitflags.specs.Sets.{find_row}
 use Rattle.fsb_count.specs.Clocks.{any_where, first_where, last_where}
+use Rattle.fsb_signal.specs.ControlLines.{line_named}
 use Rattle.fsb_signal.specs.declared.lines.TheConstants.Lines.{ADS, HIT, HITM, RS0, RS1, RS2}
 use Rattle.fsb_signal.specs.declared.sample.Sample.{Sample}
 use Rattle.fsb_signal.specs.Samples.{known_sample, idle}
 use Rattle.fsb_trigger.specs.declared.test.Test.TheVariants.{Asserted, NotAsserted, Request, Address, Data}
 use Rattle.fsb_trigger.specs.TriggerSteps.{StepView, test_holds, step_holds, keeps_bound}
 use Rattle.fsb_trigger.specs.Match.{step_holds_at, near, matches, chain, least_match}
-use Rattle.fsb_trigger.specs.Grammar.{onto_first, parts, cut_of, behind_first, both, all_there, up_to_eight, line_named, decimal_value, hex_value, hex_number, short_number, not_zero, bound_of, request_test, address_test, word_test, plain_test, test_of, tests_of, step_within, bounded_step, step_read, steps_read, first_unbound, trigger_of}
+use Rattle.fsb_trigger.specs.Grammar.{onto_first, parts, cut_of, behind_first, both, all_there, up_to_eight, decimal_value, hex_value, hex_number, short_number, not_zero, bound_of, request_test, address_test, word_test, plain_test, test_of, tests_of, step_within, bounded_step, step_read, steps_read, first_unbound, trigger_of}
 
 abbrev pub three_steps : List StepView
 three_steps =

@@ -1,8 +1,7 @@
 -- Which words are triggers, and of which steps.
 use Rattle.std.specs.Prelude.{ℕ, ◌+◌, ◌-◌, ◌*◌, ◌/◌, ◌%◌, ◌^◌, ◌==◌, ◌&&◌, nat_eq, nat_le, nat_lt, if◌then◌else◌, Option, Some, None, option_map, option_and_then, List, [], ◌∷◌, ◌++◌, codes, length, map}
 use Rattle.std.specs.Cmp.Lexicographic.{pointwise}
-use Rattle.bitflags.specs.Sets.{find_name}
-use Rattle.fsb_signal.specs.declared.lines.Lines.{Lines}
+use Rattle.fsb_signal.specs.ControlLines.{line_named}
 use Rattle.fsb_trigger.specs.declared.test.Test.{Test}
 use Rattle.fsb_trigger.specs.declared.test.Test.TheVariants.{Asserted, NotAsserted, Request, Address, Data}
 use Rattle.fsb_trigger.specs.TriggerSteps.{StepView}
@@ -46,24 +45,6 @@ up_to_eight xs = if nat_le (length xs) 8 then Some xs else None
 unfoldable pub next_of : {X : Type 0} → (List ℕ → Option X) → List X → List ℕ → Option (List X)
 next_of read xs text =
     if nat_lt (length xs) 8 then option_map (λ x. xs ++ x ∷ []) (read text) else None
-
--- the control lines: their names and their bits
-abbrev pub line_names : List (List ℕ × ℕ)
-line_names =
-    (codes "BREQ0", 1) ∷ (codes "BREQ1", 2) ∷ (codes "BREQ2", 4) ∷ (codes "BREQ3", 8)
-    ∷ (codes "BPRI", 16) ∷ (codes "LOCK", 32) ∷ (codes "BNR", 64) ∷ (codes "ADS", 128)
-    ∷ (codes "AERR", 256) ∷ (codes "HIT", 512) ∷ (codes "HITM", 1024) ∷ (codes "DEFER", 2048)
-    ∷ (codes "RS0", 4096) ∷ (codes "RS1", 8192) ∷ (codes "RS2", 16384) ∷ (codes "TRDY", 32768)
-    ∷ (codes "DBSY", 65536) ∷ (codes "DRDY", 131072)
-    ∷ (codes "AP0", 262144) ∷ (codes "AP1", 524288) ∷ (codes "RP", 1048576) ∷ []
-
--- the line of these bits
-abbrev pub line_with : ℕ → Lines
-line_with bits = record { 0 = bits }
-
--- the line of this name
-unfoldable pub line_named : List ℕ → Option Lines
-line_named name = option_map line_with (find_name line_names name)
 
 -- the value of a decimal digit
 unfoldable pub decimal_value : ℕ → Option ℕ

@@ -118,7 +118,8 @@ impl Hunt {
         requires short { self.now.count < 2 ^ 32 }
         ensures { (h : List Sample) → self.now.count ≡ length h
             → KeepsLatest self.now.latest (steps_in self.now.trigger) h
-            → kept (i + 1) result ≡ newest_match (steps_in self.now.trigger) (h ++ sample.now ∷ []) i }
+            → kept (i + 1) result
+            ≡ newest_match (steps_in self.now.trigger) (h ++ sample.now ∷ []) i }
     {
         let step = &self.trigger.steps.as_slice()[i];
         let clock = self.count as u32;
@@ -139,7 +140,8 @@ impl Hunt {
 fn chain_behind(before: &[u32; 8], i: usize, clock: u32, step: &TriggerStep) -> Option<[u32; 8]>
     requires some { 0 < i }
     requires few { i < 8 }
-    ensures value { result ≡ (if keeps_bound (view_of step.now) (clock - slice_index before.now (i - 1))
+    ensures value { result ≡ (if keeps_bound (view_of step.now)
+        (clock - slice_index before.now (i - 1))
         then Some (slice_set before.now i clock) else None) }
     ensures long { length before.now ≡ 8 }
 {

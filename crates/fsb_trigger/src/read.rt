@@ -1,15 +1,14 @@
 //! A trigger, read from a word.
 
 ghost use Rattle.std.specs.Prelude.{◌≡◌, ◌<◌, ◌≤◌, IfSome, length, map, option_map};
-ghost use Rattle.fsb_trigger.specs.Grammar.{address_test, bound_of, bounded_step, behind_first, cut_of, decimal_value, hex_number, hex_value, line_named, next_of, number_behind, plain_test, request_test, short_number, step_read, steps_read, test_of, tests_of, trigger_of, word_test};
+ghost use Rattle.fsb_trigger.specs.Grammar.{address_test, bound_of, bounded_step, behind_first, cut_of, decimal_value, hex_number, hex_value, next_of, number_behind, plain_test, request_test, short_number, step_read, steps_read, test_of, tests_of, trigger_of, word_test};
 ghost use Rattle.fsb_trigger.specs.Hunt.{steps_in};
 ghost use Rattle.fsb_trigger.specs.TriggerSteps.{view_of};
 
 use crate::test::Test;
 use crate::trigger::{Trigger, TriggerStep};
 use arrayvec::ArrayVec;
-use bitflags::Flags;
-use fsb_signal::Lines;
+use fsb_signal::line_named;
 
 impl Trigger {
     /// The trigger that the word is, or none where it is no trigger.
@@ -132,14 +131,6 @@ fn read_plain_test(text: &str) -> Option<Test>
         Some((name, digits)) => word_test(name, read_hex(digits)?),
         None => Some(Test::Asserted(line_named(text)?)),
     }
-}
-
-// The control line of this name.
-#[tactic(auto, unfolding(crate::specs::Grammar::line_named))]
-fn line_named(name: &str) -> Option<Lines>
-    ensures { result ≡ line_named name.now }
-{
-    Lines::from_name(name)
 }
 
 // A test of the word of this name.

@@ -14,7 +14,7 @@ use Rattle.std.proofs.lemmas.Option.{slice_get_past, slice_get_within}
 use Rattle.fsb_signal.specs.declared.lines.Lines.{Lines}
 use Rattle.fsb_signal.specs.declared.sample.Sample.{Sample}
 use Rattle.fsb_signal.specs.Samples.{has_line, has_unknown, line_at}
-use Rattle.fsb_wave.specs.ControlLines.{NamedLine, control_lines}
+use Rattle.fsb_wave.specs.WaveText.{NamedLine, control_lines}
 use Rattle.fsb_wave.specs.WaveText.{Clocks, mark_of, mark_at, drawing, clock_count_text, requests, transfers, reached, lines_over, lines_behind}
 use Rattle.fsb_wave.specs.Law.{EqualWaves, is_unknown_at}
 use Rattle.fsb_wave.proofs.Texts.{drawings-at, line-drawn, line-below, line-behind, line-last, length-lines}

@@ -1,17 +1,18 @@
 -- The lines of a wave: how many there are, the line of a number, and what they depend on.
-use Rattle.std.proofs.Common.{◌≡◌, ◌<◌, ◌≤◌, ◌+◌, ◌-◌, ℕ, Bool, List, [], ◌∷◌, ◌++◌, Some, None, length, map, slice_get, option_map, refl, sym, ap, append_assoc, ◌∙◌, arith}
+use Rattle.std.proofs.Common.{◌≡◌, ◌<◌, ◌≤◌, ◌+◌, ◌-◌, ℕ, Bool, List, [], ◌∷◌, ◌++◌, Some, None, length, map, replicate, slice_get, option_map, refl, sym, ap, append_assoc, ◌∙◌, arith}
 use Rattle.std.specs.List.{range_with_len}
 use Rattle.std.specs.Option.{option_map_or}
-use Rattle.std.proofs.lemmas.List.{length-append, length-map}
+use Rattle.std.proofs.lemmas.List.{length-append, length-map, replicate-append-replicate}
 use Rattle.std.proofs.lemmas.List.FromFn.{map-range_with_len_more}
 use Rattle.std.proofs.lemmas.Option.{slice_get-map, slice_get_past}
 use Rattle.fsb_count.specs.Clocks.{all_where, count_where, nth_where}
 use Rattle.fsb_count.proofs.Interface.{length-all_where, slice_get-end}
 use Rattle.fsb_signal.proofs.Interface.{slice_get-before}
+use Rattle.fsb_signal.specs.ControlLines.{line_names}
 use Rattle.fsb_signal.specs.declared.lines.Lines.{Lines}
 use Rattle.fsb_signal.specs.declared.lines.TheConstants.Lines.{ADS, DRDY}
 use Rattle.fsb_signal.specs.declared.sample.Sample.{Sample}
-use Rattle.fsb_wave.specs.ControlLines.{NamedLine, control_lines}
+use Rattle.fsb_wave.specs.WaveText.{NamedLine, control_lines, drawn_line}
 use Rattle.fsb_wave.specs.WaveText.{Clocks, mark_of, mark_at, drawing, asserts_at, has_request, request_text, data_text, clock_count_text, text_at, drawings, texts_where, requests, transfers, lines_behind, lines_below, lines_over}
 use Rattle.fsb_wave.proofs.Lists.{slice_get-behind, map-same, map_where-same}
 
@@ -40,6 +41,11 @@ length-drawings clocks from n = length-map control_lines (drawing clocks from n)
 pub drawings-at : (clocks : Clocks) (from n k : ℕ) (named : NamedLine) → slice_get control_lines k ≡ Some named → slice_get (drawings clocks from n) k ≡ Some (drawing clocks from n named)
 unfolding drawings
 drawings-at clocks from n k named e = slice_get-map (drawing clocks from n) control_lines k ∙ ap (option_map (drawing clocks from n)) e
+
+-- a control line by the place of its name
+pub control_lines-at : (k : ℕ) (name : List ℕ) (bits : ℕ) → slice_get line_names k ≡ Some (name, bits)
+    → slice_get control_lines k ≡ Some (drawn_line (name, bits))
+control_lines-at k name bits e = slice_get-map drawn_line line_names k ∙ ap (option_map drawn_line) e
 
 -- how many lines there are
 pub length-lines : (clocks : Clocks) (from n all : ℕ) → length (lines_over clocks from n all) ≡ 21 + length (requests clocks from n) + length (transfers clocks from n) + 1
@@ -132,6 +138,16 @@ pub lines-same : (a b : Clocks) (from n all : ℕ) → SameClocks from n a b →
 unfolding lines_over lines_below lines_behind
 lines-same a b from n all s =
     rw (drawings-same a b from n s, requests-same a b from n s, transfers-same a b from n s) refl
+
+-- one more space behind a name that is filled so far
+pub filled-more : (name old new : List ℕ) → old ≡ name ++ replicate (length old - length name) 32 → new ≡ old ++ 32 ∷ []
+    → length name ≤ length old → new ≡ name ++ replicate (length new - length name) 32
+filled-more name old new filled push least =
+    let k = length old - length name in
+    let more : length new - length name ≡ k + 1 = omega (arith, ap length push ∙ length-append old (32 ∷ []), least) in
+    push ∙ ap (λ xs. xs ++ 32 ∷ []) filled ∙ append_assoc name (replicate k 32) (32 ∷ [])
+    ∙ ap (λ xs. name ++ xs) (replicate-append-replicate k 1 32)
+    ∙ ap (λ n. name ++ replicate n 32) (sym more)
 
 -- one more character behind the ones that are drawn
 pub drawn-more : (name : List ℕ) (f : ℕ → ℕ) (from k m : ℕ) (old new : List ℕ) → old ≡ name ++ map f (range_with_len from k) → new ≡ old ++ m ∷ [] → m ≡ f (from + k) → new ≡ name ++ map f (range_with_len from (k + 1))

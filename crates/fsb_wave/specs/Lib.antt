@@ -1,4 +1,3 @@
-pub mod ControlLines
 pub mod WaveText
 pub mod Wave
 pub mod Law

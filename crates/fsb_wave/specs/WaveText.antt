@@ -1,15 +1,15 @@
 -- The text of a wave: the control lines drawn over a range of clocks, and the words of its requests and of its data.
-use Rattle.std.specs.Prelude.{ℕ, ◌+◌, ◌-◌, ◌*◌, Bool, false, ◌||◌, if◌then◌else◌, min, List, [], ◌∷◌, ◌++◌, Option, codes, length, map, slice_get}
+use Rattle.std.specs.Prelude.{ℕ, ◌+◌, ◌-◌, ◌*◌, Bool, false, ◌||◌, if◌then◌else◌, min, List, [], ◌∷◌, ◌++◌, Option, codes, length, map, replicate, slice_get}
 use Rattle.std.specs.Fmt.{decimal}
 use Rattle.std.specs.List.{flat_map, range_with_len}
 use Rattle.std.specs.Option.{option_map_or}
 use Rattle.fsb_count.specs.Clocks.{all_where}
 use Rattle.fsb_io.specs.NumberText.{hexadecimal}
+use Rattle.fsb_signal.specs.ControlLines.{line_names, line_with}
 use Rattle.fsb_signal.specs.declared.lines.Lines.{Lines}
 use Rattle.fsb_signal.specs.declared.lines.TheConstants.Lines.{ADS, DRDY}
 use Rattle.fsb_signal.specs.declared.sample.Sample.{Sample}
 use Rattle.fsb_signal.specs.Samples.{has_line, has_unknown, is_known_word}
-use Rattle.fsb_wave.specs.ControlLines.{NamedLine, control_lines}
 
 -- the sample of each clock, where there is one
 abbrev pub Clocks : Type 0
@@ -22,6 +22,23 @@ first_kept from = from - 1
 -- how many clocks of the range a trace of n samples reaches
 abbrev pub reached : ℕ → ℕ → ℕ → ℕ
 reached from to n = min (to + 1) n - from
+
+-- a control line, and its name as it is drawn
+pub record NamedLine : Type 0 where
+  pub name : List ℕ
+  pub line : Lines
+
+-- a name, filled with spaces to six places
+abbrev pub drawn_name : List ℕ → List ℕ
+drawn_name name = name ++ replicate (6 - length name) 32
+
+-- the line of this name and of these bits
+abbrev pub drawn_line : List ℕ × ℕ → NamedLine
+drawn_line entry = record { name = drawn_name entry.0; line = line_with entry.1 }
+
+-- the 21 control lines in the order of their bits
+abbrev pub control_lines : List NamedLine
+control_lines = map drawn_line line_names
 
 -- a line in a sample: `#` asserted, `?` unknown, `.` neither
 unfoldable pub mark_of : Lines → Sample → ℕ

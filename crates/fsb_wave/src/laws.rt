@@ -3,7 +3,7 @@
 ghost use Rattle.std.specs.Prelude.{◌≡◌, ◌≤◌, ℕ, List, Some, length, slice_get};
 ghost use Rattle.fsb_signal.specs.declared.sample.Sample.{Sample};
 ghost use Rattle.fsb_signal.specs.Samples.{line_at};
-ghost use Rattle.fsb_wave.specs.ControlLines.{NamedLine, control_lines};
+ghost use Rattle.fsb_wave.specs.WaveText.{NamedLine, control_lines};
 ghost use Rattle.fsb_wave.specs.Law.{EqualWaves, is_unknown_at};
 
 /// Two traces whose waves over a range are equal have the same number of samples, and at each clock of the range the

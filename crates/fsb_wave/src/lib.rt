@@ -9,7 +9,6 @@ pub use laws::equal_waves_show_equal_lines;
 pub use range::ClockRange;
 pub use wave::Wave;
 
-mod control_lines;
 mod laws;
 mod range;
 #[cfg(test)]

@@ -1,8 +1,8 @@
 //! The lines of a wave, each by what it shows.
 
-ghost use Rattle.std.specs.Prelude.{◌≡◌, ◌≤◌, ◌+◌, ◌++◌};
+ghost use Rattle.std.specs.Prelude.{◌≡◌, ◌≤◌, ◌+◌, ◌++◌, length};
 ghost use Rattle.arrayvec.specs.ArrayVec.{array_vec_len};
-ghost use Rattle.fsb_wave.specs.WaveText.{mark_of, known_text, request_text, data_text, clock_count_text};
+ghost use Rattle.fsb_wave.specs.WaveText.{drawn_name, mark_of, known_text, request_text, data_text, clock_count_text};
 
 use arrayvec::ArrayVec;
 use fsb_io::{Line, put_decimal, put_hex, put_text};
@@ -20,6 +20,20 @@ pub fn mark_of(line: Lines, sample: &Sample) -> u8
     } else {
         b'.'
     }
+}
+
+/// The beginning of a drawing: a name, filled with spaces to six places.
+pub fn drawn_name(name: &str) -> Line
+    requires { length name.now ≤ 6 }
+    ensures items { result.items ≡ drawn_name name.now }
+    ensures len { array_vec_len result ≡ 6 }
+{
+    let mut line = ArrayVec::new();
+    put_text(&mut line, name);
+    while line.len() < 6 {
+        line.push(b' ');
+    }
+    line
 }
 
 // Appends a number, or `?` where it is not known.

@@ -4,13 +4,12 @@ ghost use Rattle.fsb_signal.specs.declared.sample.Sample.{Sample};
 ghost use Rattle.fsb_wave.specs.WaveText.{wave_lines, lines_over, lines_below, lines_behind, requests, transfers, drawings, asserts_at, has_request, mark_at, text_at, request_text, data_text};
 ghost use Rattle.fsb_wave.specs.Wave.{Stands, kept_at, shown};
 
-use crate::control_lines::control_line;
 use crate::range::ClockRange;
-use crate::text::{clocks_line, data_line, mark_of, request_line};
+use crate::text::{clocks_line, data_line, drawn_name, mark_of, request_line};
 use arrayvec::ArrayVec;
 use fsb_count::{count_where, nth_where};
-use fsb_io::{Line, put_text};
-use fsb_signal::{Lines, Sample, idle_sample};
+use fsb_io::Line;
+use fsb_signal::{Lines, Sample, control_line, idle_sample};
 
 /// The drawing of a range of at most 64 clocks of a trace, which is fed sample by sample.
 ///
@@ -74,7 +73,8 @@ impl Wave {
     // How many lines there are, by what is kept.
     fn length(&self) -> usize
         ensures value { result
-            ≡ length (lines_over (kept_at self.now) self.now.range.from (shown self.now) self.now.count) }
+            ≡ length (lines_over (kept_at self.now) self.now.range.from (shown self.now)
+            self.now.count) }
         ensures few { result ≤ 150 }
     {
         21 + self.requests() + self.transfers() + 1
@@ -83,7 +83,8 @@ impl Wave {
     // The line of this number, by what is kept.
     fn line_of(&self, i: usize) -> Option<Line>
         ensures { option_map (λ line. line.items) result
-            ≡ slice_get (lines_over (kept_at self.now) self.now.range.from (shown self.now) self.now.count)
+            ≡ slice_get (lines_over (kept_at self.now) self.now.range.from (shown self.now)
+            self.now.count)
             i }
     {
         if i < 21 {
@@ -96,7 +97,8 @@ impl Wave {
     // The line of this number below the drawings.
     fn line_below(&self, i: usize) -> Option<Line>
         ensures { option_map (λ line. line.items) result
-            ≡ slice_get (lines_below (kept_at self.now) self.now.range.from (shown self.now) self.now.count)
+            ≡ slice_get (lines_below (kept_at self.now) self.now.range.from (shown self.now)
+            self.now.count)
             i }
     {
         let requests = self.requests();
@@ -110,7 +112,8 @@ impl Wave {
     // The line of this number behind the lines of requests.
     fn line_behind(&self, i: usize) -> Option<Line>
         ensures { option_map (λ line. line.items) result
-            ≡ slice_get (lines_behind (kept_at self.now) self.now.range.from (shown self.now) self.now.count)
+            ≡ slice_get (lines_behind (kept_at self.now) self.now.range.from (shown self.now)
+            self.now.count)
             i }
     {
         let transfers = self.transfers();
@@ -126,14 +129,14 @@ impl Wave {
     // The drawing of a control line.
     fn drawing(&self, number: usize) -> Line
         requires { number < 21 }
-        ensures { slice_get (drawings (kept_at self.now) self.now.range.from (shown self.now)) number
+        ensures { slice_get (drawings (kept_at self.now) self.now.range.from (shown self.now))
+            number
             ≡ Some result.items }
     {
-        let entry = control_line(number);
-        let mut line = ArrayVec::new();
-        put_text(&mut line, entry.name);
+        let (name, control) = control_line(number);
+        let mut line = drawn_name(name);
         for place in 0..self.shown() {
-            line.push(self.mark(entry.line, place));
+            line.push(self.mark(control, place));
         }
         line.push(b'\n');
         line
@@ -185,7 +188,8 @@ impl Wave {
     #[tactic(auto, unfolding(crate::specs::WaveText::text_at))]
     fn request_at(&self, place: usize) -> Line
         requires { place < 64 }
-        ensures { result.items ≡ text_at request_text (kept_at self.now) (self.now.range.from + place) }
+        ensures { result.items ≡ text_at request_text (kept_at self.now)
+            (self.now.range.from + place) }
     {
         let clock = self.range.clock_of(place);
         match self.sample_at(clock) {
@@ -197,7 +201,8 @@ impl Wave {
     // How many lines of data there are.
     fn transfers(&self) -> usize
         ensures { result
-            ≡ count_where (λ place. asserts_at (kept_at self.now) Lines.DRDY (self.now.range.from + place))
+            ≡ count_where (λ place.
+            asserts_at (kept_at self.now) Lines.DRDY (self.now.range.from + place))
             (shown self.now) }
     {
         count_where(self.shown(), |place| self.has_data(place))
@@ -206,7 +211,8 @@ impl Wave {
     // The place of the k-th of them.
     fn transfer_place(&self, k: usize) -> Option<usize>
         ensures value { result
-            ≡ nth_where (λ place. asserts_at (kept_at self.now) Lines.DRDY (self.now.range.from + place)) k
+            ≡ nth_where (λ place. asserts_at (kept_at self.now) Lines.DRDY
+            (self.now.range.from + place)) k
             (shown self.now) }
         ensures few { IfSome result (λ place. place < 64) }
     {
@@ -228,7 +234,8 @@ impl Wave {
     #[tactic(auto, unfolding(crate::specs::WaveText::text_at))]
     fn data_at(&self, place: usize) -> Line
         requires { place < 64 }
-        ensures { result.items ≡ text_at data_text (kept_at self.now) (self.now.range.from + place) }
+        ensures { result.items ≡ text_at data_text (kept_at self.now)
+            (self.now.range.from + place) }
     {
         let clock = self.range.clock_of(place);
         match self.sample_at(clock) {

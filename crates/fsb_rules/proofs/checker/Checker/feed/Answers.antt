@@ -14,22 +14,22 @@ absorb-requires-clause-few c =
 pub absorb-requires-clause-room : goal.absorb-requires-clause-room
 absorb-requires-clause-room c =
     let none = is_some-none c.args.self.now.found c.if-is_none.ensures in
-    queue_room c.requires.0 c.args.self.now c.requires.1 c.args.sample.now c.begun-begun.result c.winner-winner.result c.first_broken.result (record {
+    queue_room c.requires.0 c.args.self.now c.requires.1 c.args.sample.now c.begun-begun.result c.winner_of-winner.result c.first_broken.result (record {
       stands = c.requires.2;
       none = none;
       begun = c.begun-begun.ensures;
-      winner_is = c.winner-winner.ensures c.requires.1 (c.requires.2.follows none).arbiter;
+      winner_is = c.winner_of-winner.ensures c.requires.1 (c.requires.2.follows none).arbiter;
       rule_is = c.first_broken.ensures;
     })
 
 pub absorb-requires-clause-open_room : goal.absorb-requires-clause-open_room
 absorb-requires-clause-open_room c =
     let none = is_some-none c.args.self.now.found c.if-is_none.ensures in
-    outstanding_room c.requires.0 c.args.self.now c.requires.1 c.args.sample.now c.begun-begun.result c.winner-winner.result (record {
+    outstanding_room c.requires.0 c.args.self.now c.requires.1 c.args.sample.now c.begun-begun.result c.winner_of-winner.result (record {
       stands = c.requires.2;
       none = none;
       begun = c.begun-begun.ensures;
-      winner_is = c.winner-winner.ensures c.requires.1 (c.requires.2.follows none).arbiter;
+      winner_is = c.winner_of-winner.ensures c.requires.1 (c.requires.2.follows none).arbiter;
       rule_is = sym c.in-None.is ∙ c.first_broken.ensures;
     })
 
@@ -38,24 +38,24 @@ stands c m h s =
     elim c.if-is_none.branch [
       | then-is_none+in-Some w ↦
           let none = is_some-none c.args.self.now.found w.if-is_none.ensures in
-          broken_stands m c.args.self.now c.if-is_none.self h c.args.sample.now w.begun-begun.result w.winner-winner.result _ (record {
+          broken_stands m c.args.self.now c.if-is_none.self h c.args.sample.now w.begun-begun.result w.winner_of-winner.result _ (record {
             stands = s;
             none = none;
             begun = w.begun-begun.ensures;
-            winner_is = w.winner-winner.ensures h (s.follows none).arbiter;
+            winner_is = w.winner_of-winner.ensures h (s.follows none).arbiter;
             rule_is = sym w.in-Some.is ∙ w.first_broken.ensures;
           }) (ap (λ k. k.marks) w.self-is) (ap (λ k. k.found) w.self-is)
       | then-is_none+in-None w ↦
           let none = is_some-none c.args.self.now.found w.if-is_none.ensures in
-          let step : FeedStep m c.args.self.now h c.args.sample.now w.begun-begun.result w.winner-winner.result None = record {
+          let step : FeedStep m c.args.self.now h c.args.sample.now w.begun-begun.result w.winner_of-winner.result None = record {
             stands = s;
             none = none;
             begun = w.begun-begun.ensures;
-            winner_is = w.winner-winner.ensures h (s.follows none).arbiter;
+            winner_is = w.winner_of-winner.ensures h (s.follows none).arbiter;
             rule_is = sym w.in-None.is ∙ w.first_broken.ensures;
           } in
           subst (λ k. Stands k m (h ++ c.args.sample.now ∷ [])) (sym w.self-is)
-          (absorb_stands m c.args.self.now _ h c.args.sample.now w.begun-begun.result w.winner-winner.result step w.absorb.ensures.marks w.absorb.ensures.found (record {
+          (absorb_stands m c.args.self.now _ h c.args.sample.now w.begun-begun.result w.winner_of-winner.result step w.absorb.ensures.marks w.absorb.ensures.found (record {
             clock = w.absorb.ensures.clock;
             first = w.absorb.ensures.first;
             second = w.absorb.ensures.second;

@@ -1,7 +1,7 @@
 use Rattle.std.proofs.Common.{◌≡◌, ℕ, Option, Some, None, option_map, ap}
 use Rattle.fsb_signal.specs.declared.lines.Lines.{Lines}
-use Rattle.fsb_trigger.specs.Grammar.{line_named, line_with}
-use Rattle.fsb_trigger.proofs.read.line_named.Goals as goal
+use Rattle.fsb_signal.specs.ControlLines.{line_named, line_with}
+use Rattle.fsb_signal.proofs.control_lines.line_named.Goals as goal
 
 -- a line by its bits
 line_is : (r : Option Lines) (bits : Option ℕ) → option_map (λ lines. lines.0) r ≡ bits → r ≡ option_map line_with bits

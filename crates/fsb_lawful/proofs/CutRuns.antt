@@ -1,0 +1,114 @@
+-- A run that is cut at a clock is a run, and its past is the past up to that clock.
+use Rattle.std.proofs.Common.{ℕ, zero, suc, ◌+◌, ◌-◌, ◌<◌, ◌≤◌, ◌≡◌, true, false, not, [], ◌∷◌, ◌++◌, Some, length, take, slice_get, refl, sym, ap, ◌∙◌, arith, inl, inr}
+use Rattle.std.specs.Option.{option_map_or}
+use Rattle.std.proofs.lemmas.Bool.{and_parts, cases_lt}
+use Rattle.std.proofs.lemmas.List.{length-take-le, take-append-le, take_all}
+use Rattle.fsb_count.specs.Clocks.{count_where}
+use Rattle.fsb_count.proofs.Interface.{count_where-above, count_where-same, count_where-mono, nth_where-found}
+use Rattle.fsb_hazard.specs.Choice.{quiet_choice}
+use Rattle.fsb_signal.specs.declared.lines.TheConstants.Lines.{ADS}
+use Rattle.fsb_signal.specs.Samples.{has_line, line_at}
+use Rattle.fsb_trace.specs.At.{Trace}
+use Rattle.fsb_trace.specs.Agree.{AgreeTo}
+use Rattle.fsb_trace.specs.Requests.{is_live, is_cancelled, live_clock_of}
+use Rattle.fsb_trace.specs.Snoop.{snoop_end_of}
+use Rattle.fsb_trace.proofs.Interface.{AgreeTo-sym, live_clock_of-stays, snoop_end_of-clock}
+use Rattle.fsb_timely.specs.Moments.{choice_at, moment_at}
+use Rattle.fsb_timely.specs.Runs.{Run, requests_below, entries_to, run_to, moments_below, past_of, past_to}
+use Rattle.fsb_timely.specs.Snoops.{live_choice}
+use Rattle.fsb_timely.proofs.Interface.{length-moments}
+use Rattle.fsb_lawful.proofs.Cuts.{slice_get-take, take-twice, entries-twice, run_to-agrees}
+
+-- the run up to t of the run up to c
+requests-twice : (w : Trace) (t c : ℕ) → t ≤ c → requests_below (take (c + 1) w) (t + 1) ≡ requests_below w (t + 1)
+unfolding requests_below line_at
+requests-twice w t c l =
+    count_where-same (line_at ADS (take (c + 1) w)) (line_at ADS w) (t + 1) (record { same = λ d m. ap (λ o. option_map_or (λ s. has_line s ADS) o false) (slice_get-take (c + 1) w d (omega arith)) })
+
+requests-more : (w : Trace) (n m : ℕ) → n ≤ m → requests_below w n ≤ requests_below w m
+unfolding requests_below
+requests-more w n m k = count_where-mono (line_at ADS w) n m k
+
+choices-twice : (r : Run) (t c : ℕ) → t ≤ c → (run_to (run_to r c) t).choices ≡ (run_to r t).choices
+unfolding run_to
+choices-twice r t c l =
+    ap (λ n. take n (take (requests_below r.trace (c + 1)) r.choices)) (requests-twice r.trace t c l)
+    ∙ take-twice (requests_below r.trace (t + 1)) (requests_below r.trace (c + 1)) r.choices (requests-more r.trace (t + 1) (c + 1) (omega arith))
+
+pub run-twice : (r : Run) (t c : ℕ) → t ≤ c → run_to (run_to r c) t ≡ run_to r t
+unfolding run_to
+run-twice r t c l =
+    let choices = choices-twice r t c l in
+    let holds = take-twice (t + 1) (c + 1) r.holds (omega arith) in
+    let trace = take-twice (t + 1) (c + 1) r.trace (omega arith) in
+    let log = entries-twice t c r.log l in
+    λ i. record { plan = r.plan; choices = choices i; holds = holds i; trace = trace i; log = log i }
+
+moments-cut : (r : Run) (c n : ℕ) → n ≤ c + 1 → moments_below (run_to r c) n ≡ moments_below r n
+unfolding moments_below run_to
+moments-cut r c zero l = refl
+moments-cut r c (suc n) l =
+    let before = moments-cut r c n (omega arith) in
+    let run = run-twice r n c (omega arith) in
+    let log = entries-twice n c r.log (omega arith) in
+    λ i. before i ++ moment_at (record { plan = r.plan; moments = before i; log = log i }) (run i).choices (run i).trace n ∷ []
+
+-- the moments below a clock begin those below a later one
+moments-begin : (r : Run) (n m : ℕ) → n ≤ m → take n (moments_below r m) ≡ moments_below r n
+unfolding moments_below
+moments-begin r n zero l = let none : n ≡ zero = omega arith in rw none refl
+moments-begin r n (suc m) l =
+    elim (cases_lt n (suc m)) [
+      | inl less ↦ take-append-le n (moments_below r m) _ (let e = length-moments r m in omega arith) ∙ moments-begin r n m (omega arith)
+      | inr more ↦
+          let same : n ≡ suc m = omega arith in
+          rw same (take_all (suc m) (moments_below r (suc m)) (let e = length-moments r (suc m) in omega arith))
+    ]
+
+-- the past of a run that is cut
+pub past-cut : (r : Run) (c : ℕ) → c < length r.trace → past_of (run_to r c) ≡ past_to (past_of r) c
+unfolding past_of past_to run_to
+past-cut r c l =
+    let size : length (take (c + 1) r.trace) ≡ c + 1 = length-take-le (c + 1) r.trace (omega arith) in
+    let whole = moments-begin r (c + 1) (length r.trace) (omega arith) in
+    let moments = ap (moments_below (run_to r c)) size ∙ moments-cut r c (c + 1) (omega arith) ∙ sym whole in
+    λ i. record { plan = r.plan; moments = moments i; log = entries_to c r.log }
+
+-- the run up to a clock has that clock last
+pub length-cut : (r : Run) (c : ℕ) → c < length r.trace → length (run_to r c).trace ≡ c + 1
+unfolding run_to
+length-cut r c l = length-take-le (c + 1) r.trace (omega arith)
+
+-- the runs up to two clocks agree up to the earlier one
+pub cuts-agree : (r : Run) (t c : ℕ) → t ≤ c → c < length r.trace → AgreeTo (t + 1) (run_to r t).trace (run_to r c).trace
+cuts-agree r t c l m = record {
+  left = let e = length-cut r t (omega arith) in omega arith;
+  right = let e = length-cut r c m in omega arith;
+  same = λ d k. sym ((run_to-agrees r t (omega arith)).same d k) ∙ (run_to-agrees r c m).same d (omega arith);
+}
+
+-- the choice for a request that begins up to the cut
+choice-same : (r : Run) (c q : ℕ) → q ≤ c → line_at ADS r.trace q ≡ true → choice_at (run_to r c).choices (run_to r c).trace q ≡ choice_at r.choices r.trace q
+unfolding choice_at run_to requests_below line_at
+choice-same r c q l t =
+    let before = count_where-same (line_at ADS (take (c + 1) r.trace)) (line_at ADS r.trace) q (record { same = λ d m. ap (λ o. option_map_or (λ s. has_line s ADS) o false) (slice_get-take (c + 1) r.trace d (omega arith)) }) in
+    let above = count_where-above (line_at ADS r.trace) q (c + 1) (omega arith) t in
+    ap (λ n. option_map_or (λ choice. choice) (slice_get (take (count_where (line_at ADS r.trace) (c + 1)) r.choices) n) quiet_choice) before
+    ∙ ap (λ o. option_map_or (λ choice. choice) o quiet_choice) (slice_get-take (count_where (line_at ADS r.trace) (c + 1)) r.choices (count_where (line_at ADS r.trace) q) above)
+
+-- the first clock of a live request has ADS#
+pub live-ads : (w : Trace) (i q : ℕ) → live_clock_of w i ≡ Some q → line_at ADS w q ≡ true
+unfolding live_clock_of is_live
+live-ads w i q e = (and_parts (line_at ADS w q) (not (is_cancelled w q)) (nth_where-found (is_live w) i (length w) q e).1).0
+
+-- the choice for a live request whose snoop end is reached
+pub live_choice-same : (r : Run) (c i s : ℕ) → c < length r.trace → snoop_end_of (run_to r c).trace i ≡ Some s → live_choice (run_to r c) i ≡ live_choice r i
+unfolding live_choice
+live_choice-same r c i s l e =
+    let h = snoop_end_of-clock (run_to r c).trace i s e in
+    let q : ℕ = h.clock in
+    let above : q + 4 ≤ s = h.above in
+    let size = length-cut r c l in
+    let within = h.within in
+    let there = live_clock_of-stays (c + 1) (run_to r c).trace r.trace i q (AgreeTo-sym (c + 1) r.trace (run_to r c).trace (run_to-agrees r c l)) (omega arith) h.is_clock in
+    rw (h.is_clock, there) (choice-same r c q (omega arith) (live-ads r.trace i q there))

@@ -1,0 +1,64 @@
+-- What is listed: of the clocks that pass a test, what each of them gives.
+use Rattle.std.proofs.Common.{ℕ, zero, suc, ◌+◌, ◌<◌, ◌≤◌, ◌≡◌, Bool, true, false, ◌&&◌, ◌||◌, List, [], ◌∷◌, ◌++◌, Option, Some, length, refl, sym, ap, subst, ◌∙◌, arith, inl, inr, if◌then◌else◌}
+use Rattle.std.specs.List.{filter, filter_map, list_any}
+use Rattle.std.proofs.lemmas.Bool.{cases_Bool, cases_lt, or_left, or_right}
+use Rattle.std.proofs.lemmas.List.{length-append}
+use Rattle.std.proofs.lemmas.List.Elements.{filter-append, filter_map-append}
+use Rattle.std.proofs.lemmas.List.Folds.{list_any-append}
+use Rattle.fsb_count.specs.Clocks.{all_where, count_where}
+
+-- clock q passes the test, and what it gives passes the other one
+pub record IsListed {Y : Type 0} (t : ℕ → Bool) (g : ℕ → Option Y) (f : Y → Bool) (q : ℕ) : Type 0 where
+  pub there : t q ≡ true
+  pub given : Y
+  pub gives : g q ≡ Some given
+  pub passes : f given ≡ true
+
+-- what passes both tests passes the second among those that pass the first
+pub any-kept : {X : Type 0} (g f : X → Bool) (xs : List X) → list_any (λ x. g x && f x) xs ≡ true → list_any f (filter g xs) ≡ true
+any-kept g f [] e = absurd (let no : ⊥ = cc in no)
+any-kept g f (x ∷ xs) e =
+    elim (cases_Bool (g x)) [
+      | inl t ↦ rw t (kept (f x) (list_any (λ y. g y && f y) xs) (list_any f (filter g xs)) (any-kept g f xs) (rw t at e))
+      | inr n ↦ rw n (any-kept g f xs (rw n at e))
+    ]
+  where
+    kept : (b both rest : Bool) → (both ≡ true → rest ≡ true) → (b || both) ≡ true → (b || rest) ≡ true
+    kept true both rest h k = refl
+    kept false both rest h k = h k
+
+-- the last clock of a list
+last-any : {Y : Type 0} (t : ℕ → Bool) (g : ℕ → Option Y) (f : Y → Bool) (q : ℕ) → IsListed t g f q → list_any f (filter_map g (if t q then q ∷ [] else [])) ≡ true
+last-any t g f q k = rw (k.there, k.gives) (or_left _ _ k.passes)
+
+last-length : {Y : Type 0} (t : ℕ → Bool) (g : ℕ → Option Y) (f : Y → Bool) (q : ℕ) → IsListed t g f q → 1 ≤ length (filter f (filter_map g (if t q then q ∷ [] else [])))
+last-length t g f q k = rw (k.there, k.gives, k.passes) (omega arith)
+
+-- what a clock gives is in the list
+pub any-listed : {Y : Type 0} (t : ℕ → Bool) (g : ℕ → Option Y) (f : Y → Bool) (n q : ℕ) → q < n → IsListed t g f q → list_any f (filter_map g (all_where t n)) ≡ true
+unfolding all_where
+any-listed t g f zero q l k = absurd (omega arith)
+any-listed t g f (suc n) q l k =
+    ap (list_any f) (filter_map-append g (all_where t n) (if t n then n ∷ [] else []))
+    ∙ list_any-append f (filter_map g (all_where t n)) (filter_map g (if t n then n ∷ [] else []))
+    ∙ elim (cases_lt q n) [
+      | inl m ↦ or_left _ _ (any-listed t g f n q m k)
+      | inr m ↦
+          let same : q ≡ n = omega arith in
+          or_right _ _ (subst (λ i. list_any f (filter_map g (if t i then i ∷ [] else [])) ≡ true) same (last-any t g f q k))
+    ]
+
+-- and the list is at least as long as there are such clocks
+pub few-listed : {Y : Type 0} (some t : ℕ → Bool) (g : ℕ → Option Y) (f : Y → Bool) (n : ℕ) → ((q : ℕ) → q < n → some q ≡ true → IsListed t g f q)
+    → count_where some n ≤ length (filter f (filter_map g (all_where t n)))
+unfolding all_where count_where
+few-listed some t g f zero h = omega arith
+few-listed some t g f (suc n) h =
+    let before = few-listed some t g f n (λ q l. h q (omega arith)) in
+    let whole = ap (λ xs. length (filter f xs)) (filter_map-append g (all_where t n) (if t n then n ∷ [] else []))
+    ∙ ap length (filter-append f (filter_map g (all_where t n)) (filter_map g (if t n then n ∷ [] else [])))
+    ∙ length-append (filter f (filter_map g (all_where t n))) (filter f (filter_map g (if t n then n ∷ [] else []))) in
+    elim (cases_Bool (some n)) [
+      | inl found ↦ let one = last-length t g f n (h n (omega arith) found) in rw found (omega arith)
+      | inr none ↦ rw none (omega arith)
+    ]

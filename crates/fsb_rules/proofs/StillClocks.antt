@@ -1,0 +1,163 @@
+-- A sample in which no line tells of a snoop, a response or data breaks none of their rules, and mostly changes nothing.
+use Rattle.std.proofs.Common.{ℕ, ◌≡◌, Bool, true, false, cond, ◌&&◌, ◌||◌, Option, Some, None, is_some, slice_get, refl}
+use Rattle.std.specs.Option.{option_and_then}
+use Rattle.std.proofs.lemmas.Bool.{and_parts, and_right, not-true}
+use Rattle.std.proofs.lemmas.List.{append-nil}
+use Rattle.fsb_count.specs.Options.{is_some_and}
+use Rattle.fsb_count.proofs.Interface.{is_none-none}
+use Rattle.fsb_signal.specs.declared.lines.TheConstants.Lines.{HIT, HITM, DEFER, RS0, RS1, RS2, TRDY, DBSY, DRDY, AERR}
+use Rattle.fsb_signal.specs.declared.sample.Sample.{Sample}
+use Rattle.fsb_signal.specs.Samples.{has_line}
+use Rattle.fsb_laws.specs.OneMore.{responds}
+use Rattle.fsb_rules.specs.declared.checker.Checker.{Checker}
+use Rattle.fsb_rules.specs.declared.in_flight.InFlight.{InFlight}
+use Rattle.fsb_rules.specs.declared.live.LiveRequest.{LiveRequest}
+use Rattle.fsb_rules.specs.declared.live.Snooped.{Snooped}
+use Rattle.fsb_rules.specs.Still.{is_still, is_quiet_by, stays_by}
+use Rattle.fsb_rules.specs.Tests.{is_due_by, ends_snoop_by, is_unfit_by, is_sound, moving_by, after_chunk, snooped_by, asking_after, without_last, waiting_after, ready_after_by}
+use Rattle.fsb_rules.specs.Steps.{is_snoop_line_alone_by, is_result_unfit_by, is_code_wrong_by, is_target_ready_wrong_by, is_data_wrong_by, is_begun_wrongly_by, later_broken, parity_broken}
+
+-- none of the lines is asserted
+record Stillness (x : Sample) : Type 0 where
+  pub hit : has_line x HIT ≡ false
+  pub hitm : has_line x HITM ≡ false
+  pub defer : has_line x DEFER ≡ false
+  pub low : has_line x RS0 ≡ false
+  pub middle : has_line x RS1 ≡ false
+  pub high : has_line x RS2 ≡ false
+  pub trdy : has_line x TRDY ≡ false
+  pub dbsy : has_line x DBSY ≡ false
+  pub drdy : has_line x DRDY ≡ false
+  pub aerr : has_line x AERR ≡ false
+
+stillness : (x : Sample) → is_still x ≡ true → Stillness x
+unfolding is_still
+stillness x t =
+    let a = and_parts _ _ t in
+    let b = and_parts _ _ a.0 in
+    let c = and_parts _ _ b.0 in
+    let d = and_parts _ _ c.0 in
+    let e = and_parts _ _ d.0 in
+    let f = and_parts _ _ e.0 in
+    let g = and_parts _ _ f.0 in
+    let h = and_parts _ _ g.0 in
+    let i = and_parts _ _ h.0 in
+    record {
+      hit = not-true _ i.0;
+      hitm = not-true _ i.1;
+      defer = not-true _ h.1;
+      low = not-true _ g.1;
+      middle = not-true _ f.1;
+      high = not-true _ e.1;
+      trdy = not-true _ d.1;
+      dbsy = not-true _ c.1;
+      drdy = not-true _ b.1;
+      aerr = not-true _ a.1;
+    }
+
+silent : (x : Sample) → Stillness x → responds x ≡ false
+unfolding responds
+silent x s = rw (s.low, s.middle, s.high) refl
+
+not_sound : (x : Sample) → Stillness x → is_sound x ≡ false
+unfolding is_sound
+not_sound x s = rw (silent x s) refl
+
+-- the rules from 11 to 18
+not_alone : (k : Checker) (n : ℕ) (x : Sample) → Stillness x → is_snoop_line_alone_by k n x ≡ false
+unfolding is_snoop_line_alone_by
+not_alone k n x s = rw (s.hit, s.hitm, s.defer) refl
+
+fits : (b c : Bool) → ((b || c) && (false || false) || b && false) ≡ false
+fits true c = refl
+fits false true = refl
+fits false false = refl
+
+not_unfit : (a : LiveRequest) (x : Sample) → Stillness x → is_unfit_by a x ≡ false
+unfolding is_unfit_by
+not_unfit a x s = rw (s.hit, s.hitm, s.defer) (fits a.is_write_back a.is_reply)
+
+no_unfit : (q : InFlight) (n : ℕ) (x : Sample) (o : Option LiveRequest) → Stillness x → is_some_and o (λ a. ends_snoop_by q n x && is_unfit_by a x) ≡ false
+unfolding is_some_and
+no_unfit q n x None s = refl
+no_unfit q n x (Some a) s = and_right _ _ (not_unfit a x s)
+
+result_fits : (k : Checker) (n : ℕ) (x : Sample) → Stillness x → is_result_unfit_by k n x ≡ false
+unfolding is_result_unfit_by
+result_fits k n x s = no_unfit k.queue n x (slice_get k.queue.asking.items 0) s
+
+no_code : (k : Checker) (n : ℕ) (x : Sample) → Stillness x → is_code_wrong_by k n x ≡ false
+unfolding is_code_wrong_by
+no_code k n x s = rw (not_sound x s) refl
+
+no_target : (k : Checker) (n : ℕ) (x : Sample) → Stillness x → is_target_ready_wrong_by k n x ≡ false
+unfolding is_target_ready_wrong_by
+no_target k n x s = rw (s.trdy, not_sound x s) refl
+
+no_data : (k : Checker) (n : ℕ) (x : Sample) → k.queue.moving ≡ None → Stillness x → is_data_wrong_by k n x ≡ false
+unfolding is_data_wrong_by moving_by after_chunk
+no_data k n x e s = rw (silent x s, e, s.drdy, s.dbsy) refl
+
+later_parts : (k : Checker) (n : ℕ) (x : Sample) (b : Option LiveRequest) → Stillness x → k.queue.moving ≡ None → b ≡ None → later_broken k n x b ≡ parity_broken k x
+unfolding later_broken is_begun_wrongly_by is_some_and
+later_parts k n x b s e f =
+    rw (not_alone k n x s, result_fits k n x s, silent x s, no_code k n x s, no_target k n x s, no_data k n x e s, s.drdy, f) refl
+
+pub quiet_later : (k : Checker) (n : ℕ) (x : Sample) (b : Option LiveRequest) → is_quiet_by k.queue x b ≡ true → later_broken k n x b ≡ parity_broken k x
+unfolding is_quiet_by
+quiet_later k n x b t =
+    let p = and_parts _ _ t in
+    let q = and_parts _ _ p.1 in
+    later_parts k n x b (stillness x q.1) (is_none-none _ q.0) (is_none-none _ p.0)
+
+-- what is kept of the requests
+none_where : (o : Option LiveRequest) (f : LiveRequest → Option Snooped) → option_and_then (λ a. cond false (f a) None) o ≡ None
+none_where None f = refl
+none_where (Some a) f = refl
+
+not_snooped : (q : InFlight) (n : ℕ) (x : Sample) → is_due_by q n ≡ false → snooped_by q n x ≡ None
+unfolding snooped_by ends_snoop_by
+not_snooped q n x e =
+    rw e (none_where (slice_get q.asking.items 0) (λ a. Some (record { request = a; clock = n; hitm = has_line x HITM; defer = has_line x DEFER })))
+
+record Staying (q : InFlight) (n : ℕ) (x : Sample) (b : Option LiveRequest) : Type 0 where
+  pub still : Stillness x
+  pub moving : q.moving ≡ None
+  pub begun : b ≡ None
+  pub snooped : snooped_by q n x ≡ None
+
+staying : (q : InFlight) (n : ℕ) (x : Sample) (b : Option LiveRequest) → stays_by q n x b ≡ true → Staying q n x b
+unfolding stays_by is_quiet_by
+staying q n x b t =
+    let p = and_parts _ _ t in
+    let r = and_parts _ _ p.0 in
+    let s = and_parts _ _ r.1 in
+    record {
+      still = stillness x s.1;
+      moving = is_none-none _ s.0;
+      begun = is_none-none _ r.0;
+      snooped = not_snooped q n x (not-true _ p.1);
+    }
+
+pub asking_stays : (q : InFlight) (n : ℕ) (x : Sample) (b : Option LiveRequest) → stays_by q n x b ≡ true → asking_after q.asking.items (has_line x AERR) (is_some (snooped_by q n x)) b ≡ q.asking.items
+unfolding asking_after without_last
+asking_stays q n x b t =
+    let s = staying q n x b t in rw (s.still.aerr, s.snooped, s.begun) (append-nil q.asking.items)
+
+pub waiting_stays : (q : InFlight) (n : ℕ) (x : Sample) (b : Option LiveRequest) → stays_by q n x b ≡ true → waiting_after q.waiting.items (responds x) (snooped_by q n x) ≡ q.waiting.items
+unfolding waiting_after
+waiting_stays q n x b t =
+    let s = staying q n x b t in rw (silent x s.still, s.snooped) (append-nil q.waiting.items)
+
+pub moving_stays : (q : InFlight) (n : ℕ) (x : Sample) (b : Option LiveRequest) → stays_by q n x b ≡ true → after_chunk (moving_by q n x) x ≡ q.moving
+unfolding moving_by after_chunk
+moving_stays q n x b t = let s = staying q n x b t in rw (silent x s.still, s.moving) refl
+
+pub snoop_stays : (q : InFlight) (n : ℕ) (x : Sample) (b : Option LiveRequest) → stays_by q n x b ≡ true → cond (is_some (snooped_by q n x)) (Some n) q.last_snoop ≡ q.last_snoop
+snoop_stays q n x b t = let s = staying q n x b t in rw s.snooped refl
+
+pub ready_stays : (q : InFlight) (n : ℕ) (x : Sample) (b : Option LiveRequest) → stays_by q n x b ≡ true → ready_after_by q n x ≡ q.ready
+unfolding ready_after_by
+ready_stays q n x b t = let s = staying q n x b t in rw (silent x s.still, s.still.trdy) refl
+
+pub ruleset still_clocks = (asking_stays, waiting_stays, moving_stays, snoop_stays, ready_stays)
