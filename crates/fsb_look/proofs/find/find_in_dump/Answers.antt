@@ -3,7 +3,7 @@ use Rattle.fsb_count.specs.Clocks.{first_where}
 use Rattle.fsb_trigger.specs.Hunt.{steps_in}
 use Rattle.fsb_trigger.specs.Match.{least_match}
 use Rattle.fsb_look.specs.Looked.{IsSearch}
-use Rattle.fsb_look.specs.Looking.{Seeks}
+use Rattle.fsb_look.specs.Looking.{HasSought, Seeks}
 use Rattle.fsb_look.proofs.Same.{same_steps}
 use Rattle.fsb_look.proofs.find.find_in_dump.Goals as goal
 use Rattle.fsb_watch.proofs.Interface.{refused_alike}
@@ -31,4 +31,4 @@ returns-in-Ok-clause-read g c tells =
 
 pub returns-in-Err-clause-read : goal.returns-in-Err-clause-read
 returns-in-Err-clause-read g c tells =
-    refused_alike (IsSeen _) (IsSearch (steps_in c.args.trigger)) _ _ _ (c.in-Err.ensures.read tells)
+    refused_alike (IsSeen (λ marks h. HasSought record { hunt = c.new.result; found = None } c.watch_dump.new.watcher h)) (IsSearch (steps_in c.args.trigger)) _ _ _ (c.in-Err.ensures.read tells)

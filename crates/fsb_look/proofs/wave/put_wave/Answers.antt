@@ -12,14 +12,14 @@ loop-i-init g c = record {
 
 pub returns-in_err-put_line-clause-part : goal.returns-in_err-put_line-clause-part
 returns-in_err-put_line-clause-part g c tells from to h stands =
-    let more = c.lines.ensures from to h stands in
+    let more = c.lines-i-end.ensures from to h stands in
     written_part _ _ _ _ _ _ _ (c.loop-i.invariant.written tells from to h stands)
     (next_line _ c.loop-i.i (omega (arith, more, c.loop-i-test.true))) (c.put_line.ensures.part tells from to h stands)
 
 pub loop-i-preserved : goal.loop-i-preserved
 loop-i-preserved g c = record {
   written = λ tells from to h stands.
-      let more = c.lines.ensures from to h stands in
+      let more = c.lines-i-end.ensures from to h stands in
       written_more _ _ _ _ _ _ _ (c.loop-i.invariant.written tells from to h stands)
       (next_line _ c.loop-i.i (omega (arith, more, c.loop-i-test.true))) (c.in_ok-put_line.ensures.whole tells from to h stands);
   name = λ tells. c.put_line.ensures.name_stays tells ∙ c.loop-i.invariant.name tells;
@@ -28,11 +28,11 @@ loop-i-preserved g c = record {
 
 pub returns-clause-whole : goal.returns-clause-whole
 returns-clause-whole g c tells from to h stands =
-    let more = c.lines.ensures from to h stands in
+    let more = c.lines-i-end.ensures from to h stands in
     written_all _ _ _ _ (c.loop-i.invariant.written tells from to h stands) (no_line _ c.loop-i.i (omega (arith, more, c.loop-i-test.false)))
 
 pub returns-clause-part : goal.returns-clause-part
 returns-clause-part g c tells from to h stands =
-    let more = c.lines.ensures from to h stands in
+    let more = c.lines-i-end.ensures from to h stands in
     let w = c.loop-i.invariant.written tells from to h stands in
     part_of_all _ _ _ (written_all _ _ _ _ w (no_line _ c.loop-i.i (omega (arith, more, c.loop-i-test.false))))

@@ -1,4 +1,5 @@
 use Rattle.fsb_look.specs.Looked.{IsWave}
+use Rattle.fsb_look.specs.Looking.{HasDrawn}
 use Rattle.fsb_look.proofs.Same.{same_range}
 use Rattle.fsb_look.proofs.wave.wave_of_dump.Goals as goal
 use Rattle.fsb_watch.proofs.Interface.{refused_alike}
@@ -22,4 +23,4 @@ returns-in-Ok-clause-read g c tells =
 
 pub returns-in-Err-clause-read : goal.returns-in-Err-clause-read
 returns-in-Err-clause-read g c tells =
-    refused_alike (IsSeen _) (IsWave c.args.from c.args.to) _ _ _ (c.in-Err.ensures.read tells)
+    refused_alike (IsSeen (λ marks h. HasDrawn record { wave = c.new.result } c.watch_dump.new.watcher h)) (IsWave c.args.from c.args.to) _ _ _ (c.in-Err.ensures.read tells)
