@@ -254,6 +254,7 @@ fn exit_codes_and_printed_lines(rt: HostRuntime) {
         (Status::DumpFault, 7, "dump fault"),
         (Status::OutOfMemory, 8, "out of memory"),
         (Status::TooLong, 9, "too long"),
+        (Status::NotFound, 11, "not found"),
     ];
     for (status, exit, text) in table {
         assert_eq!(rt; code(&status), exit);
