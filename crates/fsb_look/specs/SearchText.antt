@@ -9,9 +9,9 @@ abbrev pub behind_text : ℕ → List ℕ
 behind_text clock = codes "," ++ decimal clock
 
 -- clocks divided by commas
-abbrev pub clocks_text : List ℕ → List ℕ
-clocks_text [] = []
-clocks_text (clock ∷ rest) = decimal clock ++ flat_map behind_text rest
+abbrev pub clock_list_text : List ℕ → List ℕ
+clock_list_text [] = []
+clock_list_text (clock ∷ rest) = decimal clock ++ flat_map behind_text rest
 
 -- the last of the clocks
 abbrev pub last_text : List ℕ → List ℕ
@@ -19,7 +19,7 @@ last_text clocks = option_map_or decimal (slice_get clocks (length clocks - 1)) 
 
 -- the line of a match: `found clock=<clock> steps=<clocks>`; its clock is that of the last step
 abbrev pub found_text : List ℕ → List ℕ
-found_text clocks = codes "found clock=" ++ last_text clocks ++ codes " steps=" ++ clocks_text clocks ++ codes "\n"
+found_text clocks = codes "found clock=" ++ last_text clocks ++ codes " steps=" ++ clock_list_text clocks ++ codes "\n"
 
 -- the line where there is no match: `none clocks=<clocks>`
 abbrev pub none_text : ℕ → List ℕ

@@ -2,7 +2,7 @@
 ghost use Rattle.std.specs.Prelude.{◌≡◌, ◌≤◌, ◌+◌, ◌*◌, ◌++◌, length, option_map};
 ghost use Rattle.std.specs.List.{flat_map};
 ghost use Rattle.arrayvec.specs.ArrayVec.{array_vec_len};
-ghost use Rattle.fsb_look.specs.SearchText.{behind_text, clocks_text, found_text, last_text, none_text, search_text};
+ghost use Rattle.fsb_look.specs.SearchText.{behind_text, clock_list_text, found_text, last_text, none_text, search_text};
 
 use crate::find::Search;
 use arrayvec::ArrayVec;
@@ -29,7 +29,7 @@ fn found_line(clocks: &[u32]) -> Line
     put_text(&mut line, "found clock=");
     put_last(&mut line, clocks);
     put_text(&mut line, " steps=");
-    put_clocks(&mut line, clocks);
+    put_clock_list(&mut line, clocks);
     put_text(&mut line, "\n");
     line
 }
@@ -46,10 +46,10 @@ fn put_last(line: &mut Line, clocks: &[u32])
 }
 
 // Appends the clocks, divided by commas.
-fn put_clocks(line: &mut Line, clocks: &[u32])
+fn put_clock_list(line: &mut Line, clocks: &[u32])
     requires few { length clocks.now ≤ 8 }
     requires room { array_vec_len line.old + 190 ≤ 256 }
-    ensures items { line.new.items ≡ line.old.items ++ clocks_text clocks.now }
+    ensures items { line.new.items ≡ line.old.items ++ clock_list_text clocks.now }
     ensures len { array_vec_len line.new ≤ array_vec_len line.old + 188 }
 {
     if let Some((first, rest)) = clocks.split_first() {

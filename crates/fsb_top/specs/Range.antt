@@ -12,8 +12,8 @@ unfoldable pub clock_below : ℕ → Option ℕ
 clock_below number = if nat_lt number (2 ^ 32) then Some number else None
 
 -- a clock: 1 to 10 decimal digits
-unfoldable pub clock_of : List ℕ → Option ℕ
-clock_of text =
+unfoldable pub clock_named : List ℕ → Option ℕ
+clock_named text =
     if nat_le 1 (length text) && nat_le (length text) 10
     then option_and_then clock_below (number_behind 10 decimal_value 0 text) else None
 
@@ -23,4 +23,4 @@ range_between from to = if nat_le from to && nat_le (to - from) 63 then Some (fr
 
 -- the range that two words name
 unfoldable pub range_of : List ℕ → List ℕ → Option (ℕ × ℕ)
-range_of from to = option_and_then (λ first. option_and_then (range_between first) (clock_of to)) (clock_of from)
+range_of from to = option_and_then (λ first. option_and_then (range_between first) (clock_named to)) (clock_named from)

@@ -1,7 +1,7 @@
 //! The range of clocks that two words name.
 ghost use Rattle.std.specs.Prelude.{◌≡◌, ◌≤◌, ◌<◌, ◌^◌, IfSome, length, option_map};
 ghost use Rattle.fsb_trigger.specs.Grammar.{decimal_value, number_behind};
-ghost use Rattle.fsb_top.specs.Range.{clock_below, clock_of, range_between, range_of, range_view};
+ghost use Rattle.fsb_top.specs.Range.{clock_below, clock_named, range_between, range_of, range_view};
 
 use fsb_wave::ClockRange;
 
@@ -28,9 +28,9 @@ fn range_between(from: u32, to: u32) -> Option<ClockRange>
 }
 
 // A clock: 1 to 10 decimal digits.
-#[tactic(auto, unfolding(crate::specs::Range::clock_of))]
+#[tactic(auto, unfolding(crate::specs::Range::clock_named))]
 fn read_clock(digits: &[u8]) -> Option<u32>
-    ensures { result ≡ clock_of digits.now }
+    ensures { result ≡ clock_named digits.now }
 {
     if 1 <= digits.len() && digits.len() <= 10 {
         clock_below(decimal_digits(digits)?)
