@@ -37,7 +37,7 @@ impl Judge {
 impl Watcher for Judge {
     ghost use Rattle.fsb_check.specs.Judging.{HasJudged};
 
-    ghost is_ready = { λ _. ⊤ };
+    ghost is_ready = { λ _. Unit {0} };
 
     ghost has_seen = { λ _ now marks h. HasJudged now marks h };
 
