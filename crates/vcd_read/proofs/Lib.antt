@@ -9,6 +9,7 @@ pub mod TokenRuns
 pub mod Counts
 pub mod Readings
 pub mod Absorbing
+pub mod DirectTokens
 pub mod Law
 pub mod Standings
 pub mod Endings

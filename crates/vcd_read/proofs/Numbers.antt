@@ -1,5 +1,5 @@
 -- Decimal numbers, read from the left.
-use Rattle.std.proofs.Common.{◌≡◌, ℕ, ◌+◌, ◌-◌, ◌*◌, ◌^◌, ◌<◌, ◌≤◌, ◌&&◌, ◌==◌, not, Bool, true, false, List, [], ◌∷◌, length, get_or, drop, take, Some, None, nat_le, cond, refl, sym, ap, ◌∙◌, arith}
+use Rattle.std.proofs.Common.{◌≡◌, ℕ, ◌+◌, ◌-◌, ◌*◌, ◌^◌, ◌<◌, ◌≤◌, ◌&&◌, ◌==◌, not, Bool, true, false, List, [], ◌∷◌, ◌++◌, length, get_or, drop, take, Some, None, nat_le, cond, refl, sym, ap, ◌∙◌, arith}
 use Rattle.std.specs.List.{list_all}
 use Rattle.std.proofs.lemmas.List.{drop_more, drop_all, take_all}
 use Rattle.std.proofs.lemmas.Bool.{le-leb, lt-leb, leb-true, and_parts, and_right, ne_eqb}
@@ -86,3 +86,8 @@ digit-few b h = omega (arith, leb-true b 57 ((and_parts (nat_le 48 b) (nat_le b 
 
 pub not_empty : (word : List ℕ) → 0 < length word → (length word == 0) ≡ false
 not_empty word h = ne_eqb (length word) 0 (λ e. omega (arith, e, h))
+
+-- one more digit behind a number
+pub number_from-push : (n : ℕ) (bs : List ℕ) (b : ℕ) → number_from n (bs ++ b ∷ []) ≡ number_from n bs * 10 + (b - 48)
+number_from-push n [] b = refl
+number_from-push n (c ∷ bs) b = number_from-push (n * 10 + (c - 48)) bs b

@@ -5,3 +5,4 @@ pub mod Taking
 pub mod Standing
 pub mod Answers
 pub mod Scanning
+pub mod Direct

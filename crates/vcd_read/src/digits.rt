@@ -3,6 +3,7 @@
 ghost use Rattle.std.specs.Prelude.{◌≡◌, ◌≤◌, ◌<◌, ◌+◌, ◌-◌, ◌*◌, ◌^◌, length, IfSome, IfNone};
 ghost use Rattle.vcd_grammar.specs.Tokens.{is_white, is_long};
 ghost use Rattle.vcd_grammar.specs.Digits.{is_digit, number_up_to, width_in, time_in, is_unknown, is_open, is_value_digit, pad_of};
+ghost use Rattle.vcd_read.specs.Direct.{BeginsWithNumber};
 
 /// A token of more bytes is too long.
 pub(crate) const LONGEST: usize = 70_000;
@@ -74,6 +75,23 @@ fn number_up_to(limit: u64, word: &[u8]) -> Option<u64>
         }
     }
     if number <= limit { Some(number) } else { None }
+}
+
+/// How many decimal digits a text begins with, and the number that they are, where there are 15 at most and the text goes on.
+pub(crate) fn number_before(text: &[u8]) -> Option<(usize, u64)>
+    ensures { IfSome result (λ n. BeginsWithNumber text.now n.0 n.1) }
+{
+    let mut number: u64 = 0;
+    for (i, byte) in text.iter().enumerate() {
+        if !is_digit(*byte) {
+            return Some((i, number));
+        }
+        if i == 15 {
+            return None;
+        }
+        number = number * 10 + u64::from(*byte - 48);
+    }
+    None
 }
 
 /// The width that a declaration tells.

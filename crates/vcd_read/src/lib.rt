@@ -14,6 +14,7 @@ pub use vcd_grammar::{VcdCause, VcdFault};
 
 mod codes;
 mod digits;
+mod direct;
 mod dump;
 mod levels;
 mod machine;

@@ -1,8 +1,8 @@
-ghost use Rattle.std.specs.Prelude.{◌≡◌, ℕ, ◌==◌, ◌&&◌, not, slice_get, ◌<◌, ◌+◌, ◌^◌, List, take, length, ◌≤◌, Some, IfOk, OnOk, OnErr, if◌then◌else◌};
+ghost use Rattle.std.specs.Prelude.{◌≡◌, ℕ, true, None, [], ◌∷◌, ◌==◌, ◌&&◌, not, slice_get, ◌<◌, ◌+◌, ◌^◌, List, take, length, ◌≤◌, Some, IfOk, OnOk, OnErr, if◌then◌else◌};
 ghost use Rattle.fsb_signal.specs.Table.{TableEntry, table};
 ghost use Rattle.vcd_grammar.specs.Digits.{time_in};
 ghost use Rattle.vcd_grammar.specs.Words.{header_word, value_word, stamp_word, scalar_word, vector_word, is_end};
-ghost use Rattle.vcd_grammar.specs.Judging.{turn, turn_in, stays, goes_to, fails, later, unless_long, drafted, declared, other_declared, line_declared, named, closed, is_declared, missing_from, header_turn, value_turn, stamped, Variable as in_variable, Pending as in_pending, Beside as in_beside, marks_of_lines, known_marks};
+ghost use Rattle.vcd_grammar.specs.Judging.{turn, turn_in, stays, goes_to, fails, later, unless_long, drafted, declared, other_declared, line_declared, named, closed, is_declared, missing_from, header_turn, value_turn, scalar_turn, stamped, Variable as in_variable, Pending as in_pending, Beside as in_beside, marks_of_lines, known_marks};
 ghost use Rattle.vcd_grammar.specs.Reading.{or_cut};
 ghost use Rattle.vcd_read.specs.View.{known_of, lines_view, draft_of};
 ghost use Rattle.vcd_read.specs.Lines.{rises};
@@ -247,8 +247,22 @@ impl Machine {
         }
     }
 
+    /// Whether the next token stands between values, with no fault before it.
+    pub(crate) fn is_between_values(&self) -> bool
+        ensures fault { result ≡ true → self.now.fault ≡ None }
+        ensures mode { result ≡ true → self.now.mode ≡ Mode.Values }
+    {
+        if self.fault.is_some() {
+            return false;
+        }
+        match self.mode {
+            Mode::Values => true,
+            _ => false,
+        }
+    }
+
     /// A time stamp of this time.
-    fn stamped(
+    pub(crate) fn stamped(
         &mut self,
         place: u64,
         time: u64,
@@ -370,6 +384,13 @@ impl Machine {
             None => self.fail(place, VcdCause::Code),
             Some(lines) => self.block.set_lines_to(lines, digit),
         }
+    }
+
+    /// A digit for a line.
+    pub(crate) fn set_digit(&mut self, number: u8, digit: u8)
+        ensures { taken self.new ≡ turned (taken self.old) (scalar_turn (known_of self.old) 0 digit (Some (number ∷ []))) }
+    {
+        self.block.set_line(number, &[digit]);
     }
 
     /// A vector, of which `digits` stand behind the `b`.

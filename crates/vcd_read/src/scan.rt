@@ -5,6 +5,7 @@ ghost use Rattle.vcd_read.specs.Taking.{taken, take_tokens, samples_in_tokens, p
 ghost use Rattle.vcd_read.specs.Scanning.{reading, unread, after_bytes, samples_in_bytes, is_dark, ended_taken, ended_samples, end_fault, open_samples, open_rises, Fits, Part};
 
 use crate::digits::{LONGEST, is_white};
+use crate::direct::stamp_in;
 use crate::machine::Machine;
 use fsb_signal::Sample;
 use std::alloc::{AllocError, Global};
@@ -63,6 +64,35 @@ impl Scan {
         ensures samples { IfOk result (λ len. to.new.items ≡ pushed limit self.old.machine.decided to.old.items (samples_in_bytes (reading self.old) (take len bytes.now))) }
         ensures part { OnErr result (Part limit self.old.machine.decided (samples_in_bytes (reading self.old) bytes.now) to.old.items to.new.items) }
     {
+        if self.is_ready() {
+            if let Some(change) = self.scalar_in(bytes) {
+                self.scalar(change);
+                return Ok(3);
+            }
+            if let Some((len, time)) = stamp_in(bytes) {
+                self.stamp(&bytes[..len], time, limit, to)?;
+                return Ok(len + 1);
+            }
+        }
+        self.any_span(bytes, limit, to)
+    }
+
+    /// The bytes up to the first white space and that byte too, or all bytes where there is none, whatever they are.
+    fn any_span(
+        &mut self,
+        bytes: &[u8],
+        limit: u32,
+        to: &mut Vec<Sample>,
+    ) -> Result<usize, AllocError>
+        requires some { 0 < length bytes.now }
+        requires room { self.old.at + length bytes.now < 2 ^ 64 }
+        requires fits { Fits (reading self.old) }
+        ensures some { IfOk result (λ len. 0 < len) }
+        ensures within { IfOk result (λ len. len ≤ length bytes.now) }
+        ensures state { IfOk result (λ len. reading self.new ≡ after_bytes (reading self.old) (take len bytes.now)) }
+        ensures samples { IfOk result (λ len. to.new.items ≡ pushed limit self.old.machine.decided to.old.items (samples_in_bytes (reading self.old) (take len bytes.now))) }
+        ensures part { OnErr result (Part limit self.old.machine.decided (samples_in_bytes (reading self.old) bytes.now) to.old.items to.new.items) }
+    {
         let len = span_len(bytes);
         if len < bytes.len() {
             self.closed(&bytes[..len], limit, to)?;
@@ -90,7 +120,7 @@ impl Scan {
     }
 
     /// How many bytes of the run there are.
-    fn run_len(&self) -> usize
+    pub(crate) fn run_len(&self) -> usize
         ensures { result ≡ length self.now.run.items }
     {
         self.run.as_slice().len()

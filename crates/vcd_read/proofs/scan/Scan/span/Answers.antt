@@ -1,14 +1,15 @@
-use Rattle.std.proofs.Common.{◌+◌, [], ◌∷◌, ◌++◌, take, drop, get_or, subst}
-use Rattle.vcd_read.specs.Scanning.{reading, samples_in_bytes, Part}
-use Rattle.vcd_read.proofs.Absorbing.{err_anyway, part_first, span_split}
+use Rattle.std.proofs.Common.{◌≡◌, sym, subst}
+use Rattle.vcd_read.specs.Taking.{pushed}
+use Rattle.vcd_read.specs.Scanning.{reading, samples_in_bytes}
+use Rattle.vcd_read.proofs.DirectTokens.{scalar_sampled}
 use Rattle.vcd_read.proofs.scan.Scan.span.Goals as goal
 
-pub returns-in_err-closed-clause-part : goal.returns-in_err-closed-clause-part
-returns-in_err-closed-clause-part c =
+pub returns-in-Some-clause-samples : goal.returns-in-Some-clause-samples
+returns-in-Some-clause-samples c =
     let s = c.args.self.now in
-    let bytes = c.args.bytes.now in
-    let len = c.span_len-len.result in
-    let part = c.in_err-closed.ensures.part (get_or bytes len 0) (c.span_len-len.ensures.white c.if-len-bytes.true) in
-    err_anyway c.from_residual.result
-    (subst (λ w. Part c.args.limit s.machine.decided (samples_in_bytes (reading s) w) c.args.to.now.items c.closed.new.to.items) (span_split bytes len c.if-len-bytes.true)
-    (part_first (reading s) (take len bytes ++ get_or bytes len 0 ∷ []) (drop (len + 1) bytes) c.args.limit c.args.to.now.items c.closed.new.to.items part))
+    let to = c.args.to.now.items in
+    let change = c.in-Some.change in
+    let begins = c.in-Some.ensures in
+    let ready = c.is_ready.ensures c.if-is_ready.true in
+    subst (λ bytes. to ≡ pushed c.args.limit s.machine.decided to (samples_in_bytes (reading s) bytes)) (sym begins.begins)
+    (scalar_sampled (reading s) begins.white change.digit change.code change.number c.args.limit to ready begins.digit begins.code begins.line begins.behind)

@@ -1,0 +1,115 @@
+//! Tokens that are taken at once: scalar changes with a code of one byte, and time stamps of few digits.
+
+ghost use Rattle.std.specs.Prelude.{◌≡◌, ◌<◌, ◌≤◌, ◌+◌, ◌^◌, ◌++◌, ℕ, [], ◌∷◌, length, true, false, Some, IfSome, OnOk, OnErr};
+ghost use Rattle.std.specs.List.{list_all};
+ghost use Rattle.vcd_grammar.specs.Tokens.{is_white};
+ghost use Rattle.vcd_grammar.specs.Digits.{is_value_digit};
+ghost use Rattle.vcd_grammar.specs.Codes.{lines_of};
+ghost use Rattle.vcd_grammar.specs.Words.{value_word, Stamp};
+ghost use Rattle.vcd_read.specs.Taking.{pushed};
+ghost use Rattle.vcd_read.specs.Scanning.{reading, after_bytes, samples_in_bytes, is_dark, Fits};
+ghost use Rattle.vcd_read.specs.Direct.{IsReady, BeginsWithScalar, BeginsWithStamp};
+
+use crate::digits::{is_value_digit, is_white, number_before};
+use crate::scan::Scan;
+use fsb_signal::Sample;
+use std::alloc::AllocError;
+
+/// A scalar change whose code is one byte and a line's alone.
+#[derive(Clone, Copy, Debug)]
+pub(crate) struct DirectScalar {
+    pub(crate) digit: u8,
+    pub(crate) code: u8,
+    /// The number of the line.
+    pub(crate) number: u8,
+}
+
+impl Scan {
+    /// Whether no token is begun, and the next one stands between values, with no fault before it.
+    pub(crate) fn is_ready(&self) -> bool
+        ensures { result ≡ true → IsReady (reading self.now) }
+    {
+        self.run_len() == 0 && self.machine.is_between_values()
+    }
+
+    /// The scalar change with which the bytes begin, where it can be taken at once.
+    pub(crate) fn scalar_in(&self, bytes: &[u8]) -> Option<DirectScalar>
+        ensures { IfSome result (λ s. BeginsWithScalar self.now.machine.codes bytes.now s) }
+    {
+        match bytes {
+            [digit, code, white, ..] => {
+                if !is_value_digit(*digit) || is_white(*code) || !is_white(*white) {
+                    return None;
+                }
+                match self.machine.codes.single(&[*code]) {
+                    Some(number) => Some(DirectScalar {
+                        digit: *digit,
+                        code: *code,
+                        number,
+                    }),
+                    None => None,
+                }
+            }
+            _ => None,
+        }
+    }
+
+    /// Such a change, and a byte of white space behind it.
+    pub(crate) fn scalar(&mut self, change: DirectScalar)
+        requires ready { IsReady (reading self.old) }
+        requires room { self.old.at + 3 < 2 ^ 64 }
+        requires digit { is_value_digit change.digit ≡ true }
+        requires code { is_white change.code ≡ false }
+        requires line { lines_of self.old.machine.codes (change.code ∷ []) ≡ Some (change.number ∷ []) }
+        ensures state { (w : ℕ) → is_white w ≡ true
+            → reading self.new ≡ after_bytes (reading self.old) (change.digit ∷ change.code ∷ w ∷ []) }
+    {
+        self.at += 3;
+        self.machine.set_digit(change.number, change.digit);
+    }
+
+    /// A time stamp that stands whole, and a byte of white space behind it.
+    pub(crate) fn stamp(
+        &mut self,
+        word: &[u8],
+        time: u64,
+        limit: u32,
+        to: &mut Vec<Sample>,
+    ) -> Result<(), AllocError>
+        requires ready { IsReady (reading self.old) }
+        requires some { 0 < length word.now }
+        requires short { length word.now ≤ 70000 }
+        requires dark { list_all is_dark word.now ≡ true }
+        requires says { value_word word.now ≡ Stamp time }
+        requires room { self.old.at + length word.now + 1 < 2 ^ 64 }
+        requires fits { Fits (reading self.old) }
+        ensures state { (w : ℕ) → is_white w ≡ true
+            → OnOk result (reading self.new ≡ after_bytes (reading self.old) (word.now ++ w ∷ [])) }
+        ensures samples { (w : ℕ) → is_white w ≡ true
+            → OnOk result (to.new.items ≡ pushed limit self.old.machine.decided to.old.items (samples_in_bytes (reading self.old) (word.now ++ w ∷ []))) }
+        ensures silent { OnErr result (to.new.items ≡ to.old.items) }
+    {
+        let place = self.at;
+        self.at = place + word.len() as u64 + 1;
+        self.machine.stamped(place, time, limit, to)
+    }
+}
+
+/// The time stamp with which the bytes begin, where it can be taken at once: how many bytes it has, and its time.
+pub(crate) fn stamp_in(bytes: &[u8]) -> Option<(usize, u64)>
+    ensures { IfSome result (λ s. BeginsWithStamp bytes.now s.0 s.1) }
+{
+    match bytes {
+        [] => None,
+        [first, rest @ ..] => {
+            if *first != b'#' {
+                return None;
+            }
+            let (len, time) = number_before(rest)?;
+            if len == 0 || !is_white(rest[len]) {
+                return None;
+            }
+            Some((len + 1, time))
+        }
+    }
+}
