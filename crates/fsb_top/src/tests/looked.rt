@@ -1,7 +1,7 @@
 //! Dumps that are looked into.
 
 use super::judged::written;
-use super::{FIRST, Fails, NAMED, NO_FAILS, call_bench};
+use super::{Ended, FIRST, Fails, NAMED, NO_FAILS, call_bench};
 use crate::Status;
 use fsb_io::{MemSink, Memory};
 use fsb_runs::STORE_HANDED_OVER_BEFORE_ARRIVAL;
@@ -60,9 +60,9 @@ fn handed_over(alloc: Global) -> Result<MemSink, Memory> {
     written(alloc, &clocks)
 }
 
-/// The dump of the first run.
-fn first_dump(alloc: Global) -> Result<MemSink, Memory> {
-    Ok(call_bench(alloc, &NAMED, FIRST.as_bytes(), NO_FAILS)?.dump)
+/// The first run, with its dump.
+fn first_run(alloc: Global) -> Result<Ended, Memory> {
+    call_bench(alloc, &NAMED, FIRST.as_bytes(), NO_FAILS)
 }
 
 #[test]
@@ -90,13 +90,14 @@ fn find_trigger(rt: HostRuntime) -> Result<(), Fail> {
 
 #[test]
 fn wave_text(rt: HostRuntime) -> Result<(), Fail> {
-    let dump = first_dump(rt.alloc())?;
-    let drawn = call_bench(rt.alloc(), &WAVE, dump.holds(), NO_FAILS)?;
+    let run = first_run(rt.alloc())?;
+    let dump = run.dump.holds();
+    let drawn = call_bench(rt.alloc(), &WAVE, dump, NO_FAILS)?;
     assert_eq!(rt; drawn.status, Status::Done);
     assert_eq!(rt; drawn.out.holds(), FIRST_WAVE.as_bytes());
     assert_eq!(rt; drawn.out.calls(), 28, "one piece a line");
     let behind = ["wave", "first.vcd", "70", "71"];
-    let drawn = call_bench(rt.alloc(), &behind, dump.holds(), NO_FAILS)?;
+    let drawn = call_bench(rt.alloc(), &behind, dump, NO_FAILS)?;
     assert_eq!(rt; drawn.status, Status::Done);
     assert_eq!(rt; drawn.out.holds(), WAVE_BEHIND.as_bytes());
     Ok(())
@@ -141,7 +142,8 @@ fn words_that_look_nowhere(rt: HostRuntime) -> Result<(), Fail> {
 
 #[test]
 fn each_call_of_a_look_fails(rt: HostRuntime) -> Result<(), Fail> {
-    let dump = first_dump(rt.alloc())?;
+    let run = first_run(rt.alloc())?;
+    let dump = run.dump.holds();
     let table: [&[&str]; 2] = [&FIND, &WAVE];
     for words in table {
         // The file is begun, read, and read again at its end.
@@ -151,7 +153,7 @@ fn each_call_of_a_look_fails(rt: HostRuntime) -> Result<(), Fail> {
                 source: &source,
                 ..NO_FAILS
             };
-            let ended = call_bench(rt.alloc(), words, dump.holds(), fails)?;
+            let ended = call_bench(rt.alloc(), words, dump, fails)?;
             assert_eq!(rt; ended.status, Status::ReadFault, "at call {call}");
             assert_eq!(rt; ended.source.calls(), u64::from(call) + 1);
             assert_eq!(rt; ended.out.calls(), 0);
@@ -161,7 +163,7 @@ fn each_call_of_a_look_fails(rt: HostRuntime) -> Result<(), Fail> {
             out: &[0],
             dump: &[0],
         };
-        let ended = call_bench(rt.alloc(), words, dump.holds(), fails)?;
+        let ended = call_bench(rt.alloc(), words, dump, fails)?;
         assert_eq!(rt; ended.status, Status::WriteFault);
         assert_eq!(rt; ended.out.holds(), b"".as_slice());
         assert_eq!(rt; ended.source.left(), b"".as_slice());
@@ -171,7 +173,7 @@ fn each_call_of_a_look_fails(rt: HostRuntime) -> Result<(), Fail> {
         out: &[2],
         ..NO_FAILS
     };
-    let ended = call_bench(rt.alloc(), &WAVE, dump.holds(), fails)?;
+    let ended = call_bench(rt.alloc(), &WAVE, dump, fails)?;
     assert_eq!(rt; ended.status, Status::WriteFault);
     let part = "BREQ0 ###.........\nBREQ1 ............\n";
     assert_eq!(rt; ended.out.holds(), part.as_bytes());
