@@ -28,7 +28,10 @@ impl Judge {
     // Before the marks of the dump are told.
     fn new() -> Judge {
         Judge {
-            checker: Checker::new(Marks { ap: false, rp: false }),
+            checker: Checker::new(Marks {
+                ap: false,
+                rp: false,
+            }),
             broken: None,
         }
     }
@@ -57,11 +60,7 @@ impl Watcher for Judge {
 /// and parses and judges each piece as it comes.
 ///
 /// Each turn takes a byte at least. No trace is kept: the memory that is taken does not grow with the dump.
-pub fn check_dump<S: Source>(
-    alloc: Global,
-    name: &str,
-    source: &mut S,
-) -> Result<Finding, DumpStop>
+pub fn check_dump<S: Source>(alloc: Global, name: &str, source: &mut S) -> Result<Finding, DumpStop>
     requires { length name.now ≤ 4096 }
     ensures checked { IsTrue S.tells → IsReadAs IsFound result (S.holds source.old) (S.left source.new) }
     ensures named { IsTrue S.tells → HasBegun result → S.begun_as source.new ≡ Some name.now }
