@@ -1,6 +1,6 @@
 -- The status of a finding tells the verdict.
 use Rattle.std.proofs.Common.{◌≡◌, List, sym, ◌∙◌}
-use Rattle.fsb_check.specs.declared.finding.Finding.{Finding}
+use Rattle.fsb_check.specs.declared.check.Finding.{Finding}
 use Rattle.fsb_rules.specs.Checker.{as_broken}
 use Rattle.fsb_rules.proofs.Interface.{as_broken-none}
 use Rattle.fsb_signal.specs.declared.marks.Marks.{Marks}

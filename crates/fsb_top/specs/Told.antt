@@ -1,6 +1,6 @@
 -- The status of a finding, of a search and of a wave, and what is written of a finding.
 use Rattle.std.specs.Prelude.{◌≡◌, ℕ, IsTrue, List, ◌++◌, Option, Some, None, is_some}
-use Rattle.fsb_check.specs.declared.finding.Finding.{Finding}
+use Rattle.fsb_check.specs.declared.check.Finding.{Finding}
 use Rattle.fsb_io.specs.Appends.{AppendsPart}
 use Rattle.fsb_report.specs.VerdictText.{verdict_text}
 use Rattle.fsb_top.specs.declared.status.Status.{Status}

@@ -94,12 +94,7 @@ fn command_with<'a>(verb: &str, name: &'a str, word: &'a str) -> Option<Command<
 }
 
 // The command of a verb, the name of a file and two more words.
-fn command_between<'a>(
-    verb: &str,
-    name: &'a str,
-    first: &str,
-    last: &str,
-) -> Option<Command<'a>>
+fn command_between<'a>(verb: &str, name: &'a str, first: &str, last: &str) -> Option<Command<'a>>
     ensures { IsCommand (form_of_four verb.now name.now first.now last.now) result }
 {
     if verb != "wave" {

@@ -105,10 +105,12 @@ pub fn bench<S: Source, O: Sink, D: Sink>(
         None => Status::BadWords,
         Some(Command::Run { bench, dump: name }) => run_file(alloc, bench, name, source, out, dump),
         Some(Command::Check { dump: name }) => check_file(alloc, name, source, out),
-        Some(Command::Find {
-            dump: name,
-            trigger,
-        }) => find_file(alloc, name, trigger, source, out),
+        Some(
+            Command::Find {
+                dump: name,
+                trigger,
+            },
+        ) => find_file(alloc, name, trigger, source, out),
         Some(Command::Wave { dump: name, range }) => wave_file(alloc, name, &range, source, out),
     }
 }

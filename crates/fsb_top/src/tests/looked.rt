@@ -48,7 +48,8 @@ clocks=60
 ";
 
 /// The wave of a range behind the last clock of the first run.
-const WAVE_BEHIND: &str = "BREQ0 \nBREQ1 \nBREQ2 \nBREQ3 \nBPRI  \nLOCK  \nBNR   \nADS   \nAERR  \nHIT   \nHITM  \nDEFER \nRS0   \nRS1   \nRS2   \nTRDY  \nDBSY  \nDRDY  \nAP0   \nAP1   \nRP    \nclocks=60\n";
+const WAVE_BEHIND: &str =
+    "BREQ0 \nBREQ1 \nBREQ2 \nBREQ3 \nBPRI  \nLOCK  \nBNR   \nADS   \nAERR  \nHIT   \nHITM  \nDEFER \nRS0   \nRS1   \nRS2   \nTRDY  \nDBSY  \nDRDY  \nAP0   \nAP1   \nRP    \nclocks=60\n";
 
 /// The dump of the run of 60 clocks in which a store is handed over before its bytes have come.
 fn handed_over(alloc: Global) -> Result<MemSink, Memory> {
