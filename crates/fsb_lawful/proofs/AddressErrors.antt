@@ -20,13 +20,15 @@ chosen r c e =
     let a = and3 (nat_le 3 c) (line_at ADS r.trace (c - 3)) (choice_at r.choices r.trace (c - 3)).aerr e in
     rw (a.0, a.1) refl
 
-behind_request : (r : Run) (p : Past) (c : ℕ) → drives_hazards r p c ≡ true → line_at AERR r.trace c ≡ true → line_back ADS r.trace c 3 ≡ true
+behind_request : (r : Run) (p : Past) (c : ℕ) → drives_hazards r p c ≡ true → line_at AERR r.trace c ≡ true
+    → line_back ADS r.trace c 3 ≡ true
 unfolding drives_hazards drives_aerr
 behind_request r p c e t =
     let a = and5 (drives_bnr r c) (drives_aerr r c) (drives_stalls r c) (drives_defer r p c) (keeps_snoop_lines r c) e in
     chosen r c (sym (same-beq (line_at AERR r.trace c) (is_error_chosen r c) a.1) ∙ t)
 
-at-clock : (r : Run) (c : ℕ) → Timely r → c < length r.trace → line_at AERR (take (c + 1) r.trace) c ≡ true → line_back ADS (take (c + 1) r.trace) c 3 ≡ true
+at-clock : (r : Run) (c : ℕ) → Timely r → c < length r.trace → line_at AERR (take (c + 1) r.trace) c ≡ true
+    → line_back ADS (take (c + 1) r.trace) c 3 ≡ true
 unfolding holds_at holds_in run_to
 at-clock r c h l t = behind_request (run_to r c) (past_to (past_of r) c) c (h.hazard_lines.at c l) t
 

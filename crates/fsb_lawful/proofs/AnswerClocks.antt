@@ -9,7 +9,7 @@ use Rattle.fsb_signal.specs.declared.lines.TheConstants.Lines.{HITM}
 use Rattle.fsb_trace.specs.At.{Trace, responds_at}
 use Rattle.fsb_trace.specs.Agree.{AgreeTo}
 use Rattle.fsb_trace.specs.Requests.{is_write_back}
-use Rattle.fsb_trace.specs.Snoop.{snoop_end_of, line_at_snoop_end}
+use Rattle.fsb_trace.specs.Snoop.{snoop_end_of}
 use Rattle.fsb_trace.specs.Outcome.{response_clock_of}
 use Rattle.fsb_trace.specs.Response.{takes, end_of, is_clear_before, two_after_snoop, answer_from}
 use Rattle.fsb_trace.specs.Rules.{next_response}
@@ -22,7 +22,8 @@ first_parts : (w : Trace) (f : ℕ) (o : Option ℕ) → snoop_end_of w 0 ≡ o 
 first_parts w f None e g = absurd (let no : ⊥ = cc in no)
 first_parts w f (Some s) e g = (s, e, cc)
 
-next_parts : (w : Trace) (i f : ℕ) (o p : Option ℕ) → snoop_end_of w (suc i) ≡ o → end_of w i ≡ p → greater_of (option_map (λ s. s + 2) o) (option_map (λ t. t + 1) p) ≡ Some f
+next_parts : (w : Trace) (i f : ℕ) (o p : Option ℕ) → snoop_end_of w (suc i) ≡ o → end_of w i ≡ p
+    → greater_of (option_map (λ s. s + 2) o) (option_map (λ t. t + 1) p) ≡ Some f
     → (s t : ℕ) × (snoop_end_of w (suc i) ≡ Some s) × (end_of w i ≡ Some t) × (max (s + 2) (t + 1) ≡ f)
 unfolding greater_of
 next_parts w i f None p e g h = absurd (let no : ⊥ = cc in no)
@@ -43,7 +44,8 @@ answer_from-answer w (suc i) f e =
     record { snoop = s; is_snoop = p.2; before = omega arith; clear = rw p.3 (lt-ltb t f (omega arith)) }
 
 -- it stays
-pub answer_from-stays : (n : ℕ) (w v : Trace) (i f : ℕ) → AgreeTo n w v → f ≤ n → answer_from w i ≡ Some f → answer_from v i ≡ Some f
+pub answer_from-stays : (n : ℕ) (w v : Trace) (i f : ℕ) → AgreeTo n w v → f ≤ n → answer_from w i ≡ Some f
+    → answer_from v i ≡ Some f
 unfolding answer_from two_after_snoop greater_of
 answer_from-stays n w v zero f a l e =
     let p = first_parts w f (snoop_end_of w 0) refl e in
@@ -65,7 +67,8 @@ answer_from-stays n w v (suc i) f a l e =
     (ap (λ m. Some m) top)
 
 -- whether memory takes its data stays
-pub takes-stays : (n : ℕ) (w v : Trace) (i s : ℕ) → AgreeTo n w v → s < n → snoop_end_of w i ≡ Some s → takes w i ≡ takes v i
+pub takes-stays : (n : ℕ) (w v : Trace) (i s : ℕ) → AgreeTo n w v → s < n → snoop_end_of w i ≡ Some s
+    → takes w i ≡ takes v i
 unfolding takes
 takes-stays n w v i s a l e =
     let request = live_request_of-stays n w v i s a l e in

@@ -1,14 +1,12 @@
 -- Rules 13 and 15: responses and TRDY# of a timely run come in time.
-use Rattle.std.proofs.Common.{ℕ, ◌+◌, ◌<◌, ◌≤◌, ◌≡◌, Bool, true, false, not, ◌&&◌, ◌||◌, Option, Some, None, length, take, nat_le, nat_lt, refl, sym, ap, ◌∙◌, arith, inl, inr, subst}
-use Rattle.std.proofs.lemmas.Bool.{and_parts, le-leb, ltb-true, or_from}
+use Rattle.std.proofs.Common.{ℕ, ◌+◌, ◌<◌, ◌≡◌, Bool, true, false, not, ◌&&◌, length, take, refl, sym, ap, ◌∙◌, arith, inl, inr, subst}
+use Rattle.std.proofs.lemmas.Bool.{and_parts, le-leb, or_from}
 use Rattle.fsb_count.specs.Options.{is_some_and, is_before}
 use Rattle.fsb_count.proofs.Interface.{any_where-found, count_where-mono, is_before-parts}
 use Rattle.fsb_signal.specs.declared.lines.TheConstants.Lines.{TRDY}
 use Rattle.fsb_signal.specs.declared.marks.Marks.{Marks}
 use Rattle.fsb_signal.specs.Samples.{line_at}
-use Rattle.fsb_trace.specs.At.{Trace, responds_at, response_code_at}
-use Rattle.fsb_trace.specs.Outcome.{response_code_of}
-use Rattle.fsb_trace.specs.declared.outcome.Outcome.TheVariants.{Failed}
+use Rattle.fsb_trace.specs.At.{Trace, responds_at}
 use Rattle.fsb_trace.specs.Requests.{live_count}
 use Rattle.fsb_trace.specs.Response.{takes, ready_clock_of}
 use Rattle.fsb_trace.specs.Rules.{next_response, may_answer, is_response_early, responds_soundly, is_ready_in_time, is_ready_wrongly, is_target_ready_wrong}
@@ -24,7 +22,9 @@ use Rattle.fsb_lawful.proofs.OneAnswer.{transfers-at, one_answer, answered-next,
 use Rattle.fsb_lawful.proofs.Responding.{Responding, IsReadyDue, responding-answer, ready-answer, one-ready, ready-now}
 
 -- a response comes when it may
-pub answers-in-time : (r : Run) (c : ℕ) → Timely r → c < length r.trace → responds_at (run_to r c).trace c ≡ true → may_answer (run_to r c).trace c (next_response (run_to r c).trace c) ≡ true
+pub answers-in-time : (r : Run) (c : ℕ) → Timely r → c < length r.trace
+    → responds_at (run_to r c).trace c ≡ true
+    → may_answer (run_to r c).trace c (next_response (run_to r c).trace c) ≡ true
 answers-in-time r c h l t =
     let v = (run_to r c).trace in
     may_answer-from v c (next_response v c) (responding-answer v _ c (next_response v c) (answered-next r c h l t).2)
@@ -41,8 +41,10 @@ unfolding run_to
 keeps-13 m r h = keeps m 13 r.trace (λ c l. breaks-13 m (take (c + 1) r.trace) c ∙ early r c h l)
 
 -- TRDY# comes once for a request
-not-ready-before : (r : Run) (c : ℕ) → Timely r → c < length r.trace → IsReadyDue (run_to r c).trace (live_choice r (next_response (run_to r c).trace c)).trdy c (next_response (run_to r c).trace c)
-    → (b : Bool) → is_before (ready_clock_of (run_to r c).trace (next_response (run_to r c).trace c)) c ≡ b → b ≡ false
+not-ready-before : (r : Run) (c : ℕ) → Timely r → c < length r.trace
+    → IsReadyDue (run_to r c).trace (live_choice r (next_response (run_to r c).trace c)).trdy c (next_response (run_to r c).trace c)
+    → (b : Bool) → is_before (ready_clock_of (run_to r c).trace (next_response (run_to r c).trace c)) c ≡ b
+    → b ≡ false
 unfolding next_response
 not-ready-before r c h l now false e = refl
 not-ready-before r c h l now true e =
@@ -53,7 +55,8 @@ not-ready-before r c h l now true e =
     let then = ready-then r c i y.0 h l (λ t k. one_answer r t h (omega arith)) y.1 below (count_where-mono (responds_at v) y.0 c (omega arith)) in
     let same = one-ready v (live_choice r i).trdy y.0 c i then now in absurd (omega arith)
 
-ready_rightly : (r : Run) (c : ℕ) → Timely r → c < length r.trace → line_at TRDY (run_to r c).trace c ≡ true → is_ready_wrongly (run_to r c).trace c (next_response (run_to r c).trace c) ≡ false
+ready_rightly : (r : Run) (c : ℕ) → Timely r → c < length r.trace → line_at TRDY (run_to r c).trace c ≡ true
+    → is_ready_wrongly (run_to r c).trace c (next_response (run_to r c).trace c) ≡ false
 unfolding is_ready_wrongly
 ready_rightly r c h l t =
     let v = (run_to r c).trace in
@@ -64,7 +67,8 @@ ready_rightly r c h l t =
     let may = may_answer-from v c i (ready-answer v (live_choice r i).trdy c i now) in
     or_from (not (takes v i && may_answer v c i)) (is_before (ready_clock_of v i) c) (rw (now.does_take, may) refl) (not-ready-before r c h l now (is_before (ready_clock_of v i) c) refl)
 
-taken_in_time : (w : Trace) (wait c i : ℕ) → Responding w wait c i → takes w i ≡ true → is_ready_in_time w c i ≡ true
+taken_in_time : (w : Trace) (wait c i : ℕ) → Responding w wait c i → takes w i ≡ true
+    → is_ready_in_time w c i ≡ true
 unfolding is_ready_in_time is_some_and
 taken_in_time w wait c i (inl k) t = rw k.is_ready (le-leb (k.ready + 2) c (omega (arith, k.waits)))
 taken_in_time w wait c i (inr k) t = let no : true ≡ false = sym t ∙ k.takes_none in absurd (cc no)
@@ -73,7 +77,8 @@ responds_by : (v : Trace) (c : ℕ) → responds_soundly v c ≡ true → respon
 unfolding responds_soundly
 responds_by v c e = (and_parts (responds_at v c) _ e).0
 
-late : (r : Run) (c : ℕ) → Timely r → c < length r.trace → (responds_soundly (run_to r c).trace c && takes (run_to r c).trace (next_response (run_to r c).trace c)) ≡ true
+late : (r : Run) (c : ℕ) → Timely r → c < length r.trace
+    → (responds_soundly (run_to r c).trace c && takes (run_to r c).trace (next_response (run_to r c).trace c)) ≡ true
     → not (is_ready_in_time (run_to r c).trace c (next_response (run_to r c).trace c)) ≡ false
 late r c h l e =
     let v = (run_to r c).trace in

@@ -47,24 +47,28 @@ begins-by r p c e =
       wins = winner.1;
     }
 
-begins-where : (r : Run) (p : Past) (c : ℕ) → starts_requests r p c ≡ true → line_at ADS r.trace c ≡ true → Begins r.trace c
+begins-where : (r : Run) (p : Past) (c : ℕ) → starts_requests r p c ≡ true → line_at ADS r.trace c ≡ true
+    → Begins r.trace c
 unfolding starts_requests drives_ads
 begins-where r p c e t =
     let same = same-beq (line_at ADS r.trace c) (may_begin r p c) (and_parts (drives_ads r p c) (drives_pair r p c) e).0 in
     begins-by r p c (sym same ∙ t)
 
 -- where a request of a timely run begins
-pub begins-at : (r : Run) (c : ℕ) → Timely r → c < length r.trace → line_at ADS (take (c + 1) r.trace) c ≡ true → Begins (take (c + 1) r.trace) c
+pub begins-at : (r : Run) (c : ℕ) → Timely r → c < length r.trace → line_at ADS (take (c + 1) r.trace) c ≡ true
+    → Begins (take (c + 1) r.trace) c
 unfolding holds_at holds_in run_to
 begins-at r c h l t = begins-where (run_to r c) (past_to (past_of r) c) c (h.request_starts.at c l) t
 
 -- the clock before has none
-pub spaced : (r : Run) (c : ℕ) → Timely r → c < length r.trace → line_at ADS (run_to r c).trace c ≡ true → line_back ADS (run_to r c).trace c 1 ≡ false
+pub spaced : (r : Run) (c : ℕ) → Timely r → c < length r.trace → line_at ADS (run_to r c).trace c ≡ true
+    → line_back ADS (run_to r c).trace c 1 ≡ false
 unfolding run_to
 spaced r c h l t = (begins-at r c h l t).not_before
 
 -- a clock with a winner is not one of the first two
-pub not-low : (v : Trace) (c : ℕ) (who : Who) (b : Bool) → nat_lt c 2 ≡ b → winner_at v c ≡ Some who → nat_lt c 2 ≡ false
+pub not-low : (v : Trace) (c : ℕ) (who : Who) (b : Bool) → nat_lt c 2 ≡ b → winner_at v c ≡ Some who
+    → nat_lt c 2 ≡ false
 unfolding winner_at
 not-low v c who false e w = e
 not-low v c who true e w =

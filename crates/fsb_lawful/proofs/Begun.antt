@@ -1,5 +1,5 @@
 -- The request that begins in a timely run is the one that its winner would begin.
-use Rattle.std.proofs.Common.{ℕ, suc, ◌+◌, ◌-◌, ◌<◌, ◌≤◌, ◌≡◌, Bool, true, false, Option, Some, None, length, take, nat_eq, refl, sym, ap, ◌∙◌, arith, add-one}
+use Rattle.std.proofs.Common.{ℕ, suc, ◌+◌, ◌-◌, ◌<◌, ◌≡◌, Bool, true, false, Option, Some, None, length, nat_eq, refl, sym, ap, ◌∙◌, arith, add-one}
 use Rattle.std.specs.Option.{option_map, option_and_then}
 use Rattle.std.proofs.lemmas.Bool.{and_parts, eqb-true, le-leb}
 use Rattle.fsb_count.specs.Options.{is_some_and}
@@ -28,37 +28,46 @@ same-pair p q e =
     λ i. record { addr = addr i; req = req i }
 
 -- the words of a clock are those of a request that is there
-pair-there : (f : Request → Pair) (o : Option Request) (k : Option Pair) → is_some_and (option_map f o) (λ due. is_some_and k (is_pair due)) ≡ true → (q : Request) × (o ≡ Some q) × (k ≡ Some (f q))
+pair-there : (f : Request → Pair) (o : Option Request) (k : Option Pair)
+    → is_some_and (option_map f o) (λ due. is_some_and k (is_pair due)) ≡ true
+    → (q : Request) × (o ≡ Some q) × (k ≡ Some (f q))
 unfolding is_some_and
 pair-there f None k e = absurd (let no : ⊥ = cc in no)
 pair-there f (Some q) None e = absurd (let no : ⊥ = cc in no)
 pair-there f (Some q) (Some b) e = (q, refl, ap (λ x. Some x) (sym (same-pair (f q) b e)))
 
-due-first : (r : Run) (p : Past) (c : ℕ) → line_at ADS r.trace c ≡ true → pair_due r p c ≡ option_map (λ request. (pairs_of request).0) (request_begun r p c)
+due-first : (r : Run) (p : Past) (c : ℕ) → line_at ADS r.trace c ≡ true
+    → pair_due r p c ≡ option_map (λ request. (pairs_of request).0) (request_begun r p c)
 unfolding pair_due
 due-first r p c t = rw (pair_due, t) refl
 
-due-second : (r : Run) (p : Past) (c : ℕ) → line_at ADS r.trace c ≡ false → line_back ADS r.trace c 1 ≡ true → pair_due r p c ≡ option_map (λ request. (pairs_of request).1) (request_begun_before r p c)
+due-second : (r : Run) (p : Past) (c : ℕ) → line_at ADS r.trace c ≡ false → line_back ADS r.trace c 1 ≡ true
+    → pair_due r p c ≡ option_map (λ request. (pairs_of request).1) (request_begun_before r p c)
 unfolding pair_due
 due-second r p c f t = rw (pair_due, f, t) refl
 
 -- the words are those that are due
-as-due : (r : Run) (p : Past) (c : ℕ) (o : Option Pair) → starts_requests r p c ≡ true → pair_due r p c ≡ o → is_some_and o (λ due. is_some_and (known_pair_at r.trace c) (is_pair due)) ≡ true
+as-due : (r : Run) (p : Past) (c : ℕ) (o : Option Pair) → starts_requests r p c ≡ true → pair_due r p c ≡ o
+    → is_some_and o (λ due. is_some_and (known_pair_at r.trace c) (is_pair due)) ≡ true
 unfolding starts_requests drives_pair
 as-due r p c o e same =
     sym (ap (λ x. is_some_and x (λ due. is_some_and (known_pair_at r.trace c) (is_pair due))) same) ∙ (and_parts (drives_ads r p c) (drives_pair r p c) e).1
 
 -- the first clock of a request has its first words
-first-words : (r : Run) (p : Past) (c : ℕ) → starts_requests r p c ≡ true → line_at ADS r.trace c ≡ true → (q : Request) × (request_begun r p c ≡ Some q) × (known_pair_at r.trace c ≡ Some (pairs_of q).0)
+first-words : (r : Run) (p : Past) (c : ℕ) → starts_requests r p c ≡ true → line_at ADS r.trace c ≡ true
+    → (q : Request) × (request_begun r p c ≡ Some q) × (known_pair_at r.trace c ≡ Some (pairs_of q).0)
 first-words r p c e t =
     pair-there (λ request. (pairs_of request).0) (request_begun r p c) (known_pair_at r.trace c) (as-due r p c _ e (due-first r p c t))
 
 -- the clock after it has its second words
-second-words : (r : Run) (p : Past) (c : ℕ) → starts_requests r p c ≡ true → line_at ADS r.trace c ≡ false → line_back ADS r.trace c 1 ≡ true → (q : Request) × (request_begun_before r p c ≡ Some q) × (known_pair_at r.trace c ≡ Some (pairs_of q).1)
+second-words : (r : Run) (p : Past) (c : ℕ) → starts_requests r p c ≡ true → line_at ADS r.trace c ≡ false
+    → line_back ADS r.trace c 1 ≡ true
+    → (q : Request) × (request_begun_before r p c ≡ Some q) × (known_pair_at r.trace c ≡ Some (pairs_of q).1)
 second-words r p c e f t =
     pair-there (λ request. (pairs_of request).1) (request_begun_before r p c) (known_pair_at r.trace c) (as-due r p c _ e (due-second r p c f t))
 
-before-is : (r : Run) (d : ℕ) → request_begun_before (run_to r (suc d)) (past_to (past_of r) (suc d)) (suc d) ≡ request_begun (run_to r d) (past_to (past_of r) d) d
+before-is : (r : Run) (d : ℕ)
+    → request_begun_before (run_to r (suc d)) (past_to (past_of r) (suc d)) (suc d) ≡ request_begun (run_to r d) (past_to (past_of r) d) d
 unfolding request_begun_before
 before-is r d =
     let one : suc d - 1 ≡ d = omega arith in
@@ -70,14 +79,17 @@ before-is r d =
 abbrev pub begun_of : Run → ℕ → Option Request
 begun_of r d = request_begun (run_to r d) (past_to (past_of r) d) d
 
-pub ads-back : (r : Run) (d : ℕ) → suc d < length r.trace → line_at ADS (run_to r d).trace d ≡ line_back ADS (run_to r (suc d)).trace (suc d) 1
+pub ads-back : (r : Run) (d : ℕ) → suc d < length r.trace
+    → line_at ADS (run_to r d).trace d ≡ line_back ADS (run_to r (suc d)).trace (suc d) 1
 unfolding line_back
 ads-back r d l =
     let one : suc d - 1 ≡ d = omega arith in
     rw (le-leb 1 (suc d) (omega arith), one) (line-to ADS r d (suc d) (omega arith) l)
 
 -- no request begins in the second clock of another
-no-second : (r : Run) (d : ℕ) → Timely r → suc d < length r.trace → line_at ADS (run_to r d).trace d ≡ true → (b : Bool) → line_at ADS (run_to r (suc d)).trace (suc d) ≡ b → line_at ADS (run_to r (suc d)).trace (suc d) ≡ false
+no-second : (r : Run) (d : ℕ) → Timely r → suc d < length r.trace → line_at ADS (run_to r d).trace d ≡ true
+    → (b : Bool) → line_at ADS (run_to r (suc d)).trace (suc d) ≡ b
+    → line_at ADS (run_to r (suc d)).trace (suc d) ≡ false
 no-second r d h l t false e = e
 no-second r d h l t true e =
     let no : false ≡ true = sym (spaced r (suc d) h l e) ∙ sym (ads-back r d l) ∙ t in absurd (cc no)
@@ -87,7 +99,9 @@ unfolding known_pair_at run_to
 words-to r d =
     ap (option_and_then known_pair) (slice_get-take (d + 1) r.trace d (omega arith) ∙ sym (slice_get-take (suc d + 1) r.trace d (omega arith)))
 
-decoded-from : (v : Trace) (d : ℕ) (q : Request) → is_lawful_request q ≡ true → known_pair_at v d ≡ Some (pairs_of q).0 → known_pair_at v (d + 1) ≡ Some (pairs_of q).1 → request_at v d ≡ Some q
+decoded-from : (v : Trace) (d : ℕ) (q : Request) → is_lawful_request q ≡ true
+    → known_pair_at v d ≡ Some (pairs_of q).0 → known_pair_at v (d + 1) ≡ Some (pairs_of q).1
+    → request_at v d ≡ Some q
 unfolding request_at
 decoded-from v d q lawful e f =
     rw (e, f) (request_of_coded q (pairs_of q).0 (pairs_of q).1 (record { lawful = lawful; clocks = refl }))

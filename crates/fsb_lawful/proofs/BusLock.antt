@@ -29,7 +29,8 @@ use Rattle.fsb_lawful.proofs.Cuts.{line-to, past-twice, moments-to, begun-to, an
 use Rattle.fsb_lawful.proofs.Keeping.{and3, same-beq, keeps}
 
 -- gains and losses that agree
-since-same : (gain gain' loss loss' : ℕ → Bool) (n : ℕ) → AgreeBelow n gain gain' → AgreeBelow n loss loss' → holds_since gain loss n ≡ holds_since gain' loss' n
+since-same : (gain gain' loss loss' : ℕ → Bool) (n : ℕ) → AgreeBelow n gain gain' → AgreeBelow n loss loss'
+    → holds_since gain loss n ≡ holds_since gain' loss' n
 unfolding holds_since from_clock
 since-same gain gain' loss loss' n a b =
     let last = last-same gain gain' n a in
@@ -46,13 +47,15 @@ request-to p a c t l =
     λ i. elim (is_some_and (begun i) (λ claim. nat_eq claim.agent a)) [ true ↦ wants_lock (past i) a t | false ↦ false ]
 
 -- the request of a moment, which begins at c or below
-named-to : (p : Past) (a c : ℕ) (o : Option ℕ) → ((q : ℕ) → o ≡ Some q → q ≤ c) → is_some_and o (is_locked_request (past_to p c) a) ≡ is_some_and o (is_locked_request p a)
+named-to : (p : Past) (a c : ℕ) (o : Option ℕ) → ((q : ℕ) → o ≡ Some q → q ≤ c)
+    → is_some_and o (is_locked_request (past_to p c) a) ≡ is_some_and o (is_locked_request p a)
 unfolding is_some_and
 named-to p a c None h = refl
 named-to p a c (Some q) h = request-to p a c q (h q refl)
 
 -- the entries of clock t
-entry-to : (p : Past) (a c t : ℕ) → t ≤ c → list_any (ends_locked_item (past_to p c) a t) (past_to p c).log ≡ list_any (ends_locked_item p a t) p.log
+entry-to : (p : Past) (a c t : ℕ) → t ≤ c
+    → list_any (ends_locked_item (past_to p c) a t) (past_to p c).log ≡ list_any (ends_locked_item p a t) p.log
 unfolding past_to ends_locked_item items_of
 entry-to p a c t l =
     any-entry (ends_locked_item p a t) t c p.log l (λ done e. eqb-true done.clock t (and3 (nat_eq done.clock t) (nat_eq done.agent a) (is_some_and (slice_get (items_of p a) done.item) is_locked) e).0)
@@ -75,20 +78,23 @@ cancelled_at-below w t q e = by-test (nat_le 3 t && line_at AERR w t && line_at 
     by-test false e = absurd (let no : ⊥ = cc in no)
 
 -- the moment of t names requests that begin at t or below
-retried-below : (r : Run) (t q : ℕ) → t < length r.trace → option_and_then (λ moment. moment.retried) (slice_get (past_of r).moments t) ≡ Some q → q ≤ t
+retried-below : (r : Run) (t q : ℕ) → t < length r.trace
+    → option_and_then (λ moment. moment.retried) (slice_get (past_of r).moments t) ≡ Some q → q ≤ t
 unfolding past_of run_to moment_at
 retried-below r t q l e =
     let e' = rw (moment-at r (length r.trace) t l) at e in
     let below = retried_at-below (take (t + 1) r.trace) t q e' in
     let cut = length-take-le (t + 1) r.trace (omega arith) in omega arith
 
-cancelled-below : (r : Run) (t q : ℕ) → t < length r.trace → option_and_then (λ moment. moment.cancelled) (slice_get (past_of r).moments t) ≡ Some q → q ≤ t
+cancelled-below : (r : Run) (t q : ℕ) → t < length r.trace
+    → option_and_then (λ moment. moment.cancelled) (slice_get (past_of r).moments t) ≡ Some q → q ≤ t
 unfolding past_of run_to moment_at
 cancelled-below r t q l e =
     let e' = rw (moment-at r (length r.trace) t l) at e in cancelled_at-below (take (t + 1) r.trace) t q e'
 
 -- a release up to c is one of the whole past
-release-to : (r : Run) (a c t : ℕ) → t ≤ c → c < length r.trace → is_release (past_to (past_of r) c) a t ≡ is_release (past_of r) a t
+release-to : (r : Run) (a c t : ℕ) → t ≤ c → c < length r.trace
+    → is_release (past_to (past_of r) c) a t ≡ is_release (past_of r) a t
 unfolding is_release is_lock_retried is_lock_cancelled
 release-to r a c t l m =
     let p : Past = past_of r in
@@ -98,7 +104,8 @@ release-to r a c t l m =
     let cancelled = ap (λ o. is_some_and (option_and_then (λ moment. moment.cancelled) o) (is_locked_request (past_to p c) a)) moment ∙ named-to p a c (option_and_then (λ moment. moment.cancelled) (slice_get p.moments t)) (λ q e. let low = cancelled-below r t q (omega arith) e in omega arith) in
     λ i. ended i || retried i || cancelled i
 
-released-to : (r : Run) (a c t : ℕ) → t ≤ c → c < length r.trace → is_released_before (past_to (past_of r) c) a t ≡ is_released_before (past_of r) a t
+released-to : (r : Run) (a c t : ℕ) → t ≤ c → c < length r.trace
+    → is_released_before (past_to (past_of r) c) a t ≡ is_released_before (past_of r) a t
 unfolding is_released_before
 released-to r a c t l m = ap (λ b. nat_le 1 t && b) (release-to r a c (t - 1) (omega arith) m)
 
@@ -109,7 +116,8 @@ keeps-to r a c n l m =
     since-same (is_locked_request (past_to (past_of r) c) a) (is_locked_request (past_of r) a) (is_released_before (past_to (past_of r) c) a) (is_released_before (past_of r) a) n (record { same = λ t k. request-to (past_of r) a c t (omega arith) }) (record { same = λ t k. released-to r a c t (omega arith) m })
 
 -- an agent locks the bus at c, or did so at the clock before
-either : (r : Run) (a c : ℕ) → c < length r.trace → keeps_lock (past_to (past_of r) c) c a ≡ true → (is_locked_request (past_of r) a c ≡ true) ⊎ (holds_since (is_locked_request (past_of r) a) (is_released_before (past_of r) a) c ≡ true)
+either : (r : Run) (a c : ℕ) → c < length r.trace → keeps_lock (past_to (past_of r) c) c a ≡ true
+    → (is_locked_request (past_of r) a c ≡ true) ⊎ (holds_since (is_locked_request (past_of r) a) (is_released_before (past_of r) a) c ≡ true)
 unfolding keeps_lock
 either r a c l e =
     let whole = sym (keeps-to r a c (c + 1) (omega arith) l) ∙ e in
@@ -120,23 +128,27 @@ either r a c l e =
     split false true l e = inr refl
     split false false l e = absurd (let no : ⊥ = cc in no)
 
-begun-ads : (p : Past) (w : Trace) (c : ℕ) (b : Bool) (test : Owing → Bool) → line_at ADS w c ≡ b → is_some_and (begun_with p w c) test ≡ true → line_at ADS w c ≡ true
+begun-ads : (p : Past) (w : Trace) (c : ℕ) (b : Bool) (test : Owing → Bool) → line_at ADS w c ≡ b
+    → is_some_and (begun_with p w c) test ≡ true → line_at ADS w c ≡ true
 unfolding is_some_and begun_with
 begun-ads p w c true test e h = e
 begun-ads p w c false test e h = let no : false ≡ true = rw (e, begun_with) at h in absurd (cc no)
 
-some-map : {A B : Type 0} (o : Option A) (f : A → B) (test : B → Bool) → is_some_and (option_map f o) test ≡ is_some_and o (λ x. test (f x))
+some-map : {A B : Type 0} (o : Option A) (f : A → B) (test : B → Bool)
+    → is_some_and (option_map f o) test ≡ is_some_and o (λ x. test (f x))
 unfolding is_some_and
 some-map None f test = refl
 some-map (Some x) f test = refl
 
-request-begins : (p : Past) (a c : ℕ) (b : Bool) → is_begun_by p a c ≡ b → is_locked_request p a c ≡ true → is_begun_by p a c ≡ true
+request-begins : (p : Past) (a c : ℕ) (b : Bool) → is_begun_by p a c ≡ b → is_locked_request p a c ≡ true
+    → is_begun_by p a c ≡ true
 unfolding is_locked_request
 request-begins p a c true e h = e
 request-begins p a c false e h = let no : false ≡ true = rw (e, is_locked_request) at h in absurd (cc no)
 
 -- a locked request begins with ADS#
-request-ads : (r : Run) (a c : ℕ) → c < length r.trace → is_locked_request (past_of r) a c ≡ true → line_at ADS (run_to r c).trace c ≡ true
+request-ads : (r : Run) (a c : ℕ) → c < length r.trace → is_locked_request (past_of r) a c ≡ true
+    → line_at ADS (run_to r c).trace c ≡ true
 unfolding is_begun_by begun_at past_of moment_at
 request-ads r a c l h =
     let e = request-begins (past_of r) a c (is_begun_by (past_of r) a c) refl h in
@@ -144,12 +156,14 @@ request-ads r a c l h =
     let e'' = sym (some-map (moment_of r c).begun (λ owing. owing.claim) (λ claim. nat_eq claim.agent a)) ∙ e' in
     begun-ads _ (run_to r c).trace c (line_at ADS (run_to r c).trace c) (λ owing. nat_eq owing.claim.agent a) refl e''
 
-agent-locks : (r : Run) (p : Past) (c : ℕ) → drives_lock r p c ≡ true → line_at LOCK r.trace c ≡ true → (a : ℕ) × (a < 4) × (keeps_lock p c a ≡ true)
+agent-locks : (r : Run) (p : Past) (c : ℕ) → drives_lock r p c ≡ true → line_at LOCK r.trace c ≡ true
+    → (a : ℕ) × (a < 4) × (keeps_lock p c a ≡ true)
 unfolding drives_lock
 agent-locks r p c e t =
     any_where-found (keeps_lock p c) 4 (sym (same-beq (line_at LOCK r.trace c) (any_where (keeps_lock p c) 4) e) ∙ t)
 
-locks-from : (r : Run) (p : Past) (c a : ℕ) → drives_lock r p c ≡ true → a < 4 → keeps_lock p c a ≡ true → line_at LOCK r.trace c ≡ true
+locks-from : (r : Run) (p : Past) (c a : ℕ) → drives_lock r p c ≡ true → a < 4 → keeps_lock p c a ≡ true
+    → line_at LOCK r.trace c ≡ true
 unfolding drives_lock
 locks-from r p c a e l t =
     same-beq (line_at LOCK r.trace c) (any_where (keeps_lock p c) 4) e ∙ any_where-at (keeps_lock p c) 4 a l t
@@ -159,7 +173,9 @@ unfolding holds_since last_where
 none-yet gain loss e = let no : ⊥ = cc in no
 
 -- who held the bus locked at the end of a clock did so in it
-locked-before : (r : Run) (a c : ℕ) → Timely r → c < length r.trace → a < 4 → holds_since (is_locked_request (past_of r) a) (is_released_before (past_of r) a) c ≡ true → line_back LOCK (run_to r c).trace c 1 ≡ true
+locked-before : (r : Run) (a c : ℕ) → Timely r → c < length r.trace → a < 4
+    → holds_since (is_locked_request (past_of r) a) (is_released_before (past_of r) a) c ≡ true
+    → line_back LOCK (run_to r c).trace c 1 ≡ true
 unfolding holds_at holds_in keeps_lock line_back
 locked-before r a zero h l m e = absurd (none-yet (is_locked_request (past_of r) a) (is_released_before (past_of r) a) e)
 locked-before r a (suc c) h l m e =
@@ -167,7 +183,8 @@ locked-before r a (suc c) h l m e =
     let same : suc c - 1 ≡ c = omega arith in
     rw (le-leb 1 (suc c) (omega arith), same) (sym (line-to LOCK r c (suc c) (omega arith) l) ∙ there)
 
-begins : (r : Run) (c : ℕ) → Timely r → c < length r.trace → line_at LOCK (run_to r c).trace c ≡ true → (line_at ADS (run_to r c).trace c ≡ true) ⊎ (line_back LOCK (run_to r c).trace c 1 ≡ true)
+begins : (r : Run) (c : ℕ) → Timely r → c < length r.trace → line_at LOCK (run_to r c).trace c ≡ true
+    → (line_at ADS (run_to r c).trace c ≡ true) ⊎ (line_back LOCK (run_to r c).trace c 1 ≡ true)
 unfolding holds_at holds_in
 begins r c h l t =
     let a = agent-locks (run_to r c) (past_to (past_of r) c) c (h.bus_lock.at c l) t in

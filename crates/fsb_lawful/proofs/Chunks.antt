@@ -1,7 +1,7 @@
 -- The four chunks of a transfer: when they come, and how many came below a clock.
 use Rattle.std.proofs.Common.{ℕ, zero, suc, ◌+◌, ◌*◌, ◌<◌, ◌≤◌, ◌≡◌, Bool, true, false, ◌||◌, Option, Some, None, is_some, nat_eq, refl, arith, if◌then◌else◌}
 use Rattle.std.proofs.lemmas.Bool.{eqb-true, eq-eqb, or_left, or_right}
-use Rattle.fsb_count.specs.Clocks.{count_where, first_where}
+use Rattle.fsb_count.specs.Clocks.{count_where}
 use Rattle.fsb_count.proofs.Interface.{count_where-above, first_where-found, first_where-none}
 use Rattle.fsb_trace.specs.Timing.{chunk_from}
 use Rattle.fsb_lawful.proofs.OwnIds.{count-or, count-one-place}
@@ -26,7 +26,8 @@ chunk_by gap r t (Some n) e h =
 chunk-place : (gap r t : ℕ) → is_chunk gap r t ≡ true → ChunkPlace gap r t
 chunk-place gap r t h = chunk_by gap r t (chunk_from gap t r) refl h
 
-chunk_found : (gap r t n : ℕ) (o : Option ℕ) → chunk_from gap t r ≡ o → n < 4 → t ≡ r + n * (1 + gap) → is_some o ≡ true
+chunk_found : (gap r t n : ℕ) (o : Option ℕ) → chunk_from gap t r ≡ o → n < 4 → t ≡ r + n * (1 + gap)
+    → is_some o ≡ true
 unfolding chunk_from
 chunk_found gap r t n (Some k) e l p = refl
 chunk_found gap r t n None e l p =
@@ -37,7 +38,8 @@ chunk-at : (gap r t n : ℕ) → n < 4 → t ≡ r + n * (1 + gap) → is_chunk 
 chunk-at gap r t n l p = chunk_found gap r t n (chunk_from gap t r) refl l p
 
 -- the four places
-place_is : (gap r t n : ℕ) → n < 4 → t ≡ r + n * (1 + gap) → ((t < r + 3 * (1 + gap) → (nat_eq t r || nat_eq t (r + (1 + gap)) || nat_eq t (r + 2 * (1 + gap))) ≡ true)) × (r ≤ t) × (t ≤ r + 3 * (1 + gap))
+place_is : (gap r t n : ℕ) → n < 4 → t ≡ r + n * (1 + gap)
+    → ((t < r + 3 * (1 + gap) → (nat_eq t r || nat_eq t (r + (1 + gap)) || nat_eq t (r + 2 * (1 + gap))) ≡ true)) × (r ≤ t) × (t ≤ r + 3 * (1 + gap))
 place_is gap r t zero l e = (λ m. or_left _ _ (or_left _ _ (eq-eqb t r (omega arith))), omega arith, omega arith)
 place_is gap r t (suc zero) l e = (λ m. or_left _ _ (or_right _ _ (eq-eqb t (r + (1 + gap)) (omega arith))), omega arith, omega arith)
 place_is gap r t (suc (suc zero)) l e = (λ m. or_right _ _ (eq-eqb t (r + 2 * (1 + gap)) (omega arith)), omega arith, omega arith)
@@ -50,7 +52,8 @@ chunk-bounds gap r t h =
     let p = chunk-place gap r t h in let q = place_is gap r t p.number p.few p.place in (q.1, q.2)
 
 -- a test that passes wherever another does passes as often at least
-count-less : (p q : ℕ → Bool) (k : ℕ) → ((n : ℕ) → n < k → p n ≡ true → q n ≡ true) → count_where p k ≤ count_where q k
+count-less : (p q : ℕ → Bool) (k : ℕ) → ((n : ℕ) → n < k → p n ≡ true → q n ≡ true)
+    → count_where p k ≤ count_where q k
 unfolding count_where
 count-less p q zero h = omega arith
 count-less p q (suc k) h = let before = count-less p q k (λ n l. h n (omega arith)) in step (p k) (q k) (h k (omega arith)) before

@@ -16,12 +16,15 @@ none-back : (v : Trace) → line_back ADS v zero 1 ≡ false
 unfolding line_back
 none-back v = refl
 
-there : (r : Run) (d : ℕ) → Timely r → WantsLawfully r → suc d < length r.trace → line_back ADS (run_to r (suc d)).trace (suc d) 1 ≡ true → is_none (request_at (run_to r (suc d)).trace d) ≡ false
+there : (r : Run) (d : ℕ) → Timely r → WantsLawfully r → suc d < length r.trace
+    → line_back ADS (run_to r (suc d)).trace (suc d) 1 ≡ true
+    → is_none (request_at (run_to r (suc d)).trace d) ≡ false
 there r d h wants l t =
     let begun = begun-decoded r d h l (ads-back r d l ∙ t) in
     ap is_none (begun.2 (wants.lawful d begun.0 begun.1))
 
-at-clock : (r : Run) (c : ℕ) → Timely r → WantsLawfully r → c < length r.trace → is_code_unlawful (run_to r c).trace c ≡ false
+at-clock : (r : Run) (c : ℕ) → Timely r → WantsLawfully r → c < length r.trace
+    → is_code_unlawful (run_to r c).trace c ≡ false
 unfolding is_code_unlawful
 at-clock r zero h wants l = ap (λ b. b && is_none (request_at (run_to r zero).trace (zero - 1))) (none-back (run_to r zero).trace)
 at-clock r (suc d) h wants l =

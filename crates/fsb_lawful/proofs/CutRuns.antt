@@ -1,5 +1,5 @@
 -- A run that is cut at a clock is a run, and its past is the past up to that clock.
-use Rattle.std.proofs.Common.{ℕ, zero, suc, ◌+◌, ◌-◌, ◌<◌, ◌≤◌, ◌≡◌, true, false, not, [], ◌∷◌, ◌++◌, Some, length, take, slice_get, refl, sym, ap, ◌∙◌, arith, inl, inr}
+use Rattle.std.proofs.Common.{ℕ, zero, suc, ◌+◌, ◌<◌, ◌≤◌, ◌≡◌, true, false, not, [], ◌∷◌, ◌++◌, Some, length, take, slice_get, refl, sym, ap, ◌∙◌, arith, inl, inr}
 use Rattle.std.specs.Option.{option_map_or}
 use Rattle.std.proofs.lemmas.Bool.{and_parts, cases_lt}
 use Rattle.std.proofs.lemmas.List.{length-take-le, take-append-le, take_all}
@@ -80,7 +80,8 @@ unfolding run_to
 length-cut r c l = length-take-le (c + 1) r.trace (omega arith)
 
 -- the runs up to two clocks agree up to the earlier one
-pub cuts-agree : (r : Run) (t c : ℕ) → t ≤ c → c < length r.trace → AgreeTo (t + 1) (run_to r t).trace (run_to r c).trace
+pub cuts-agree : (r : Run) (t c : ℕ) → t ≤ c → c < length r.trace
+    → AgreeTo (t + 1) (run_to r t).trace (run_to r c).trace
 cuts-agree r t c l m = record {
   left = let e = length-cut r t (omega arith) in omega arith;
   right = let e = length-cut r c m in omega arith;
@@ -88,7 +89,8 @@ cuts-agree r t c l m = record {
 }
 
 -- the choice for a request that begins up to the cut
-choice-same : (r : Run) (c q : ℕ) → q ≤ c → line_at ADS r.trace q ≡ true → choice_at (run_to r c).choices (run_to r c).trace q ≡ choice_at r.choices r.trace q
+choice-same : (r : Run) (c q : ℕ) → q ≤ c → line_at ADS r.trace q ≡ true
+    → choice_at (run_to r c).choices (run_to r c).trace q ≡ choice_at r.choices r.trace q
 unfolding choice_at run_to requests_below line_at
 choice-same r c q l t =
     let before = count_where-same (line_at ADS (take (c + 1) r.trace)) (line_at ADS r.trace) q (record { same = λ d m. ap (λ o. option_map_or (λ s. has_line s ADS) o false) (slice_get-take (c + 1) r.trace d (omega arith)) }) in
@@ -102,7 +104,8 @@ unfolding live_clock_of is_live
 live-ads w i q e = (and_parts (line_at ADS w q) (not (is_cancelled w q)) (nth_where-found (is_live w) i (length w) q e).1).0
 
 -- the choice for a live request whose snoop end is reached
-pub live_choice-same : (r : Run) (c i s : ℕ) → c < length r.trace → snoop_end_of (run_to r c).trace i ≡ Some s → live_choice (run_to r c) i ≡ live_choice r i
+pub live_choice-same : (r : Run) (c i s : ℕ) → c < length r.trace → snoop_end_of (run_to r c).trace i ≡ Some s
+    → live_choice (run_to r c) i ≡ live_choice r i
 unfolding live_choice
 live_choice-same r c i s l e =
     let h = snoop_end_of-clock (run_to r c).trace i s e in

@@ -25,7 +25,8 @@ take-twice (suc m) (suc n) [] l = refl
 take-twice (suc m) (suc n) (x ∷ xs) l = ap (λ ys. x ∷ ys) (take-twice m n xs (omega arith))
 
 -- a line at a clock, in the run up to that clock and up to a later one
-pub line-to : (line : Lines) (r : Run) (c d : ℕ) → c ≤ d → d < length r.trace → line_at line (run_to r c).trace c ≡ line_at line (run_to r d).trace c
+pub line-to : (line : Lines) (r : Run) (c d : ℕ) → c ≤ d → d < length r.trace
+    → line_at line (run_to r c).trace c ≡ line_at line (run_to r d).trace c
 unfolding line_at run_to
 line-to line r c d l m =
     let sample = slice_get-take (c + 1) r.trace c (omega arith) ∙ sym (slice_get-take (d + 1) r.trace c (omega arith)) in
@@ -74,7 +75,8 @@ unfolding snooped_at
 snooped-to p c t l = ap (option_and_then (λ moment. moment.snooped)) (moments-to p c t l)
 
 -- entries of clock t are there in a log that is cut at t or later
-pub any-entry : (test : Done → Bool) (t c : ℕ) (log : List Done) → t ≤ c → ((done : Done) → test done ≡ true → done.clock ≡ t) → list_any test (entries_to c log) ≡ list_any test log
+pub any-entry : (test : Done → Bool) (t c : ℕ) (log : List Done) → t ≤ c
+    → ((done : Done) → test done ≡ true → done.clock ≡ t) → list_any test (entries_to c log) ≡ list_any test log
 unfolding entries_to
 any-entry test t c [] l h = refl
 any-entry test t c (done ∷ log) l h =

@@ -1,21 +1,20 @@
 -- Rule 16: DRDY# and DBSY# of a timely run are those of the request that responded last.
-use Rattle.std.proofs.Common.{ℕ, zero, suc, ◌+◌, ◌*◌, ◌<◌, ◌≤◌, ◌≡◌, Bool, true, false, not, ◌&&◌, ◌||◌, Option, Some, None, is_some, length, take, nat_le, nat_lt, refl, sym, ap, ◌∙◌, arith, inl, inr, subst}
+use Rattle.std.proofs.Common.{ℕ, zero, suc, ◌+◌, ◌*◌, ◌<◌, ◌≤◌, ◌≡◌, Bool, true, false, not, ◌&&◌, ◌||◌, Some, None, is_some, length, take, nat_le, nat_lt, refl, sym, ap, ◌∙◌, arith, inl, inr}
 use Rattle.std.specs.Option.{option_and_then}
-use Rattle.std.proofs.lemmas.Bool.{cases_Bool, cases_eq, cases_lt, and_parts, and_right, le-leb, lt-leb, le-ltb, lt-ltb, ltb-true, ltb-false}
+use Rattle.std.proofs.lemmas.Bool.{cases_Bool, cases_eq, cases_lt, and_right, le-leb, lt-leb, le-ltb, lt-ltb, ltb-true, ltb-false}
 use Rattle.fsb_count.specs.Options.{is_some_and}
 use Rattle.fsb_count.specs.Clocks.{any_where, count_where, from_clock}
 use Rattle.fsb_count.proofs.Interface.{any_where-at, any_where-off, count_where-mono, count_where-passed, count_where-same, nth_where-found}
 use Rattle.fsb_signal.specs.declared.lines.TheConstants.Lines.{DRDY, DBSY}
 use Rattle.fsb_signal.specs.declared.marks.Marks.{Marks}
 use Rattle.fsb_signal.specs.Samples.{line_at}
-use Rattle.fsb_trace.specs.At.{Trace, responds_at}
-use Rattle.fsb_trace.specs.Outcome.{does_move, response_clock_of, outcome_of, moves_data}
+use Rattle.fsb_trace.specs.At.{responds_at}
+use Rattle.fsb_trace.specs.Outcome.{does_move, response_clock_of, moves_data}
 use Rattle.fsb_trace.specs.Requests.{live_count}
 use Rattle.fsb_trace.specs.Response.{end_of}
-use Rattle.fsb_trace.specs.Rules.{is_transferring_of, is_transferring, is_data_wrong}
+use Rattle.fsb_trace.specs.Rules.{is_transferring, is_data_wrong}
 use Rattle.fsb_trace.specs.Timing.{chunk_from, is_busy_from}
 use Rattle.fsb_trace.proofs.Interface.{breaks-16, AgreeTo-sym, end_of-moving, line_at-agree, outcome_of-stays, responds_at-agree, response_clock_of-stays}
-use Rattle.fsb_laws.specs.Orderly.{Orderly}
 use Rattle.fsb_laws.specs.Progress.{response_count}
 use Rattle.fsb_laws.proofs.Interface.{clear_parts, has_answer, is_transferring-last, is_transferring-none, last_is_live, response_past, response_there, transferring_form}
 use Rattle.fsb_timely.specs.Runs.{Run, run_to, past_of}
@@ -57,7 +56,8 @@ busy-form r t i p h l e =
     ∙ ap (λ x. is_some_and (settled_of v (past_of v) i) does_move && is_busy_from x.gap t p) choice
     ∙ ap (λ o. is_some_and o does_move && is_busy_from (live_choice r i).gap t p) (sym told.outcome)
 
-no-data : (v : Run) (t i : ℕ) → response_clock_of v.trace i ≡ None → (has_data_at v (past_of v) t i ≡ false) × (is_busy_at v (past_of v) t i ≡ false)
+no-data : (v : Run) (t i : ℕ) → response_clock_of v.trace i ≡ None
+    → (has_data_at v (past_of v) t i ≡ false) × (is_busy_at v (past_of v) t i ≡ false)
 unfolding has_data_at is_busy_at is_some_and
 no-data v t i e = (and_right _ _ (ap (λ o. is_some (option_and_then (chunk_from (live_choice v i).gap t) o)) e), and_right _ _ (ap (λ o. is_some_and o (is_busy_from (live_choice v i).gap t)) e))
 
@@ -66,13 +66,15 @@ pub record LastMoves (r : Run) (t i : ℕ) : Type 0 where
   pub ready : line_at DRDY (run_to r t).trace t ≡ has_data_at (run_to r t) (past_of (run_to r t)) t i
   pub busy : line_at DBSY (run_to r t).trace t ≡ is_busy_at (run_to r t) (past_of (run_to r t)) t i
 
-only-one : (f : ℕ → Bool) (n i : ℕ) (b : Bool) → i < n → f i ≡ b → ((j : ℕ) → (j ≡ i → ⊥) → f j ≡ false) → any_where f n ≡ b
+only-one : (f : ℕ → Bool) (n i : ℕ) (b : Bool) → i < n → f i ≡ b → ((j : ℕ) → (j ≡ i → ⊥) → f j ≡ false)
+    → any_where f n ≡ b
 only-one f n i true l e other = any_where-at f n i l e
 only-one f n i false l e other =
     any_where-off f n (λ j m. elim (cases_eq j i) [ inl same ↦ ap f same ∙ e | inr differs ↦ other j differs ])
 
 -- how many responded up to a clock
-counted : (r : Run) (u t : ℕ) → u ≤ t → t < length r.trace → response_count (run_to r u).trace ≡ count_where (responds_at (run_to r t).trace) (u + 1)
+counted : (r : Run) (u t : ℕ) → u ≤ t → t < length r.trace
+    → response_count (run_to r u).trace ≡ count_where (responds_at (run_to r t).trace) (u + 1)
 unfolding response_count
 counted r u t l m =
     let agree = cuts-agree r u t l m in
@@ -80,7 +82,9 @@ counted r u t l m =
     ∙ count_where-same (responds_at (run_to r u).trace) (responds_at (run_to r t).trace) (u + 1) (record { same = λ d k. responds_at-agree (u + 1) (run_to r u).trace (run_to r t).trace d agree k })
 
 -- from its response up to before the next one a request is the one that responded last
-last-between : (r : Run) (u t j p q : ℕ) → u ≤ t → t < length r.trace → response_clock_of (run_to r t).trace j ≡ Some p → count_where (responds_at (run_to r t).trace) q ≤ suc j → p ≤ u → u < q
+last-between : (r : Run) (u t j p q : ℕ) → u ≤ t → t < length r.trace
+    → response_clock_of (run_to r t).trace j ≡ Some p → count_where (responds_at (run_to r t).trace) q ≤ suc j
+    → p ≤ u → u < q
     → response_count (run_to r u).trace ≡ suc j
 unfolding response_clock_of
 last-between r u t j p q l m e few low high =
@@ -93,7 +97,8 @@ last-between r u t j p q l m e few low high =
     counted r u t l m ∙ (omega arith)
 
 -- the test of the chunks from a response on is DRDY#, while the request is the one that responded last
-chunk-there : (r : Run) (u t j p : ℕ) → Timely r → u ≤ t → t < length r.trace → LastMoves r u j → response_clock_of (run_to r t).trace j ≡ Some p → p ≤ u → moves_data (run_to r u).trace j ≡ true
+chunk-there : (r : Run) (u t j p : ℕ) → Timely r → u ≤ t → t < length r.trace → LastMoves r u j
+    → response_clock_of (run_to r t).trace j ≡ Some p → p ≤ u → moves_data (run_to r u).trace j ≡ true
     → from_clock p (line_at DRDY (run_to r t).trace) u ≡ is_chunk (gap_of r j) p u
 unfolding from_clock
 chunk-there r u t j p h l m k e low moves =
@@ -103,13 +108,16 @@ chunk-there r u t j p h l m k e low moves =
     let there = response_clock_of-stays (u + 1) (run_to r t).trace v j p (AgreeTo-sym (u + 1) v (run_to r t).trace agree) (omega arith) e in
     rw (le-leb p u low) (sym (line_at-agree DRDY (u + 1) v (run_to r t).trace u agree (omega arith)) ∙ k.ready ∙ data-form r u j p h (omega arith) there ∙ ap (λ b. b && is_chunk (gap_of r j) p u) moves)
 
-chunk-before : (gap p u : ℕ) (test : ℕ → Bool) (b : Bool) → u < p → is_chunk gap p u ≡ b → from_clock p test u ≡ is_chunk gap p u
+chunk-before : (gap p u : ℕ) (test : ℕ → Bool) (b : Bool) → u < p → is_chunk gap p u ≡ b
+    → from_clock p test u ≡ is_chunk gap p u
 unfolding from_clock
 chunk-before gap p u test true l e = let k = chunk-bounds gap p u e in let low = k.0 in absurd (omega arith)
 chunk-before gap p u test false l e = rw (lt-leb p u l) (sym e)
 
 -- what is told of a request that responded up to u is told later
-same-moves : (r : Run) (u t j p : ℕ) → Timely r → u ≤ t → t < length r.trace → response_clock_of (run_to r t).trace j ≡ Some p → p ≤ u → moves_data (run_to r u).trace j ≡ moves_data (run_to r t).trace j
+same-moves : (r : Run) (u t j p : ℕ) → Timely r → u ≤ t → t < length r.trace
+    → response_clock_of (run_to r t).trace j ≡ Some p → p ≤ u
+    → moves_data (run_to r u).trace j ≡ moves_data (run_to r t).trace j
 unfolding moves_data
 same-moves r u t j p h l m e low =
     let v = (run_to r u).trace in
@@ -121,16 +129,22 @@ same-moves r u t j p h l m e low =
     ap (λ o. is_some_and o does_move) (outcome_of-stays (u + 1) v (run_to r t).trace j told.snoop p agree (omega arith) told.is_snoop (omega arith) there)
 
 -- so many chunks came below m as its wait says
-chunk-count : (r : Run) (t j p m : ℕ) → Timely r → t < length r.trace → ((u : ℕ) → u < m → p ≤ u → LastMoves r u j) → m ≤ t + 1 → response_clock_of (run_to r t).trace j ≡ Some p → moves_data (run_to r t).trace j ≡ true
+chunk-count : (r : Run) (t j p m : ℕ) → Timely r → t < length r.trace
+    → ((u : ℕ) → u < m → p ≤ u → LastMoves r u j) → m ≤ t + 1 → response_clock_of (run_to r t).trace j ≡ Some p
+    → moves_data (run_to r t).trace j ≡ true
     → count_where (from_clock p (line_at DRDY (run_to r t).trace)) m ≡ count_where (is_chunk (gap_of r j) p) m
 chunk-count r t j p m h l last few e moves =
-    count_where-same (from_clock p (line_at DRDY (run_to r t).trace)) (is_chunk (gap_of r j) p) m (record { same = λ u k. elim (cases_lt u p) [
-      | inl early ↦ chunk-before (gap_of r j) p u (line_at DRDY (run_to r t).trace) (is_chunk (gap_of r j) p u) early refl
-      | inr late ↦ chunk-there r u t j p h (omega arith) l (last u k late) e late (same-moves r u t j p h (omega arith) l e late ∙ moves)
-    ] })
+    count_where-same (from_clock p (line_at DRDY (run_to r t).trace)) (is_chunk (gap_of r j) p) m (record {
+      same = λ u k. elim (cases_lt u p) [
+        | inl early ↦ chunk-before (gap_of r j) p u (line_at DRDY (run_to r t).trace) (is_chunk (gap_of r j) p u) early refl
+        | inr late ↦ chunk-there r u t j p h (omega arith) l (last u k late) e late (same-moves r u t j p h (omega arith) l e late ∙ moves)
+      ];
+    })
 
 -- the end of a request that moves data is its last chunk
-moved-end : (r : Run) (t j p e : ℕ) → Timely r → t < length r.trace → ((u : ℕ) → u < e + 1 → p ≤ u → LastMoves r u j) → e ≤ t → response_clock_of (run_to r t).trace j ≡ Some p → moves_data (run_to r t).trace j ≡ true
+moved-end : (r : Run) (t j p e : ℕ) → Timely r → t < length r.trace
+    → ((u : ℕ) → u < e + 1 → p ≤ u → LastMoves r u j) → e ≤ t → response_clock_of (run_to r t).trace j ≡ Some p
+    → moves_data (run_to r t).trace j ≡ true
     → end_of (run_to r t).trace j ≡ Some e → p + 3 * (1 + gap_of r j) ≤ e
 moved-end r t j p e h l last few k moves f =
     let w = (run_to r t).trace in
@@ -144,14 +158,18 @@ moved-end r t j p e h l last few k moves f =
     ]
 
 -- past its last chunk a request has no data
-past-data : (gap p t : ℕ) (moves b d : Bool) → (moves ≡ true → p + 3 * (1 + gap) < t) → is_chunk gap p t ≡ b → is_busy_from gap t p ≡ d → ((moves && is_chunk gap p t) ≡ false) × ((moves && is_busy_from gap t p) ≡ false)
+past-data : (gap p t : ℕ) (moves b d : Bool) → (moves ≡ true → p + 3 * (1 + gap) < t) → is_chunk gap p t ≡ b
+    → is_busy_from gap t p ≡ d
+    → ((moves && is_chunk gap p t) ≡ false) × ((moves && is_busy_from gap t p) ≡ false)
 unfolding is_busy_from
 past-data gap p t false b d past e f = (refl, refl)
 past-data gap p t true true d past e f = let k = chunk-bounds gap p t e in let high = k.1 in let more = past refl in absurd (omega arith)
 past-data gap p t true false d past e f = let more = past refl in (e, and_right (nat_le p t) (nat_lt t (p + 3 * (1 + gap))) (le-ltb t (p + 3 * (1 + gap)) (omega arith)))
 
 -- a request before the last one has no data any more
-earlier-none : (r : Run) (t i j : ℕ) → Timely r → t < length r.trace → ((u k : ℕ) → u < t → response_count (run_to r u).trace ≡ suc k → LastMoves r u k) → response_count (run_to r t).trace ≡ suc i → j < i
+earlier-none : (r : Run) (t i j : ℕ) → Timely r → t < length r.trace
+    → ((u k : ℕ) → u < t → response_count (run_to r u).trace ≡ suc k → LastMoves r u k)
+    → response_count (run_to r t).trace ≡ suc i → j < i
     → (has_data_at (run_to r t) (past_of (run_to r t)) t j ≡ false) × (is_busy_at (run_to r t) (past_of (run_to r t)) t j ≡ false)
 unfolding response_clock_of
 earlier-none r t i j h l before count less =
@@ -171,7 +189,9 @@ earlier-none r t i j h l before count less =
     let none = past-data (gap_of r j) p.0 t (moves_data v j) (is_chunk (gap_of r j) p.0 t) (is_busy_from (gap_of r j) t p.0) past refl refl in
     (data-form r t j p.0 h l p.1 ∙ none.0, busy-form r t j p.0 h l p.1 ∙ none.1)
 
-other-none : (r : Run) (t i j : ℕ) → Timely r → t < length r.trace → ((u k : ℕ) → u < t → response_count (run_to r u).trace ≡ suc k → LastMoves r u k) → response_count (run_to r t).trace ≡ suc i → (j ≡ i → ⊥)
+other-none : (r : Run) (t i j : ℕ) → Timely r → t < length r.trace
+    → ((u k : ℕ) → u < t → response_count (run_to r u).trace ≡ suc k → LastMoves r u k)
+    → response_count (run_to r t).trace ≡ suc i → (j ≡ i → ⊥)
     → (has_data_at (run_to r t) (past_of (run_to r t)) t j ≡ false) × (is_busy_at (run_to r t) (past_of (run_to r t)) t j ≡ false)
 other-none r t i j h l before count differs =
     elim (cases_lt j i) [
@@ -179,7 +199,8 @@ other-none r t i j h l before count differs =
       | inr more ↦ no-data (run_to r t) t j (response_past (run_to r t).trace j (omega (arith, differs)))
     ]
 
-last_by : (r : Run) (n t i : ℕ) → Timely r → t < n → t < length r.trace → response_count (run_to r t).trace ≡ suc i → LastMoves r t i
+last_by : (r : Run) (n t i : ℕ) → Timely r → t < n → t < length r.trace
+    → response_count (run_to r t).trace ≡ suc i → LastMoves r t i
 last_by r zero t i h l m count = absurd (omega arith)
 last_by r (suc n) t i h l m count =
     let v = run_to r t in
@@ -192,11 +213,13 @@ last_by r (suc n) t i h l m count =
     }
 
 -- the data lines are those of the request that responded last
-pub last-moves : (r : Run) (t i : ℕ) → Timely r → t < length r.trace → response_count (run_to r t).trace ≡ suc i → LastMoves r t i
+pub last-moves : (r : Run) (t i : ℕ) → Timely r → t < length r.trace → response_count (run_to r t).trace ≡ suc i
+    → LastMoves r t i
 last-moves r t i h l count = last_by r (t + 1) t i h (omega arith) l count
 
 -- without a response there are no data
-quiet : (r : Run) (c : ℕ) → Timely r → c < length r.trace → response_count (run_to r c).trace ≡ 0 → (line_at DRDY (run_to r c).trace c ≡ false) × (line_at DBSY (run_to r c).trace c ≡ false)
+quiet : (r : Run) (c : ℕ) → Timely r → c < length r.trace → response_count (run_to r c).trace ≡ 0
+    → (line_at DRDY (run_to r c).trace c ≡ false) × (line_at DBSY (run_to r c).trace c ≡ false)
 quiet r c h l count =
     let v = run_to r c in
     let lines = transfers-at r c h l in
@@ -204,7 +227,8 @@ quiet r c h l count =
     (lines.data_ready ∙ any_where-off (has_data_at v (past_of v) c) (live_count v.trace) (λ j m. (no-data v c j (none j)).0), lines.data_busy ∙ any_where-off (is_busy_at v (past_of v) c) (live_count v.trace) (λ j m. (no-data v c j (none j)).1))
 
 -- what the rule says of the data lines, and of whether data are on the way at the clock and after it
-rule-by : (d b now after : Bool) → (d ≡ true → now ≡ true) → b ≡ after → (d && not now || not b && after || b && not after) ≡ false
+rule-by : (d b now after : Bool) → (d ≡ true → now ≡ true) → b ≡ after
+    → (d && not now || not b && after || b && not after) ≡ false
 rule-by true true true after f g = rw (sym g) refl
 rule-by true false true after f g = rw (sym g) refl
 rule-by true b false after f g = absurd (let e = f refl in let no : ⊥ = cc in no)
@@ -212,14 +236,17 @@ rule-by false true now after f g = rw (sym g) refl
 rule-by false false now after f g = rw (sym g) refl
 
 -- the transfer of the request that responded last, by its chunks
-transfer-is : (r : Run) (c i p m : ℕ) → Timely r → c < length r.trace → response_count (run_to r c).trace ≡ suc i → response_clock_of (run_to r c).trace i ≡ Some p → c ≤ m → m ≤ c + 1
+transfer-is : (r : Run) (c i p m : ℕ) → Timely r → c < length r.trace
+    → response_count (run_to r c).trace ≡ suc i → response_clock_of (run_to r c).trace i ≡ Some p → c ≤ m
+    → m ≤ c + 1
     → is_transferring (run_to r c).trace m ≡ (moves_data (run_to r c).trace i && nat_lt (count_where (from_clock p (line_at DRDY (run_to r c).trace)) m) 4)
 transfer-is r c i p m h l count e low high =
     let v = (run_to r c).trace in
     let size = length-cut r c l in
     is_transferring-last v m i (orderly-at r c h l) count (omega arith) ∙ transferring_form v m i p e
 
-few-by : (gap p m k : ℕ) (b : Bool) → k ≡ count_where (is_chunk gap p) m → nat_lt m (p + 3 * (1 + gap) + 1) ≡ b → nat_lt k 4 ≡ b
+few-by : (gap p m k : ℕ) (b : Bool) → k ≡ count_where (is_chunk gap p) m → nat_lt m (p + 3 * (1 + gap) + 1) ≡ b
+    → nat_lt k 4 ≡ b
 few-by gap p m k true e f =
     let few = chunks-few gap p m (let l = ltb-true m (p + 3 * (1 + gap) + 1) f in omega arith) in lt-ltb k 4 (omega arith)
 few-by gap p m k false e f =
@@ -231,7 +258,9 @@ busy-by gap p c true l e = rw (le-leb p c l) (lt-ltb c (p + 3 * (1 + gap)) (let 
 busy-by gap p c false l e = rw (le-leb p c l) (le-ltb c (p + 3 * (1 + gap)) (let m = ltb-false (c + 1) (p + 3 * (1 + gap) + 1) e in omega arith))
 
 -- where data move, a clock with a chunk has a transfer on the way, and DBSY# goes on as long
-moving : (r : Run) (c i p : ℕ) → Timely r → c < length r.trace → response_count (run_to r c).trace ≡ suc i → response_clock_of (run_to r c).trace i ≡ Some p → p ≤ c → moves_data (run_to r c).trace i ≡ true → LastMoves r c i
+moving : (r : Run) (c i p : ℕ) → Timely r → c < length r.trace → response_count (run_to r c).trace ≡ suc i
+    → response_clock_of (run_to r c).trace i ≡ Some p → p ≤ c → moves_data (run_to r c).trace i ≡ true
+    → LastMoves r c i
     → (line_at DRDY (run_to r c).trace c ≡ true → is_transferring (run_to r c).trace c ≡ true) × (line_at DBSY (run_to r c).trace c ≡ is_transferring (run_to r c).trace (c + 1))
 moving r c i p h l count e low moves last =
     let v = (run_to r c).trace in
@@ -245,7 +274,9 @@ moving r c i p h l count e low moves last =
     let m = chunk-count r c i p (c + 1) h l lasts (omega arith) e moves in
     (λ t. now ∙ few-by gap p c _ true k (let high = (chunk-bounds gap p c (sym drdy ∙ t)).1 in lt-ltb c (p + 3 * (1 + gap) + 1) (omega arith)), dbsy ∙ busy-by gap p c (nat_lt (c + 1) (p + 3 * (1 + gap) + 1)) low refl ∙ sym (few-by gap p (c + 1) _ (nat_lt (c + 1) (p + 3 * (1 + gap) + 1)) m refl) ∙ sym after)
 
-still : (r : Run) (c i p : ℕ) → Timely r → c < length r.trace → response_count (run_to r c).trace ≡ suc i → response_clock_of (run_to r c).trace i ≡ Some p → moves_data (run_to r c).trace i ≡ false → LastMoves r c i
+still : (r : Run) (c i p : ℕ) → Timely r → c < length r.trace → response_count (run_to r c).trace ≡ suc i
+    → response_clock_of (run_to r c).trace i ≡ Some p → moves_data (run_to r c).trace i ≡ false
+    → LastMoves r c i
     → (line_at DRDY (run_to r c).trace c ≡ true → is_transferring (run_to r c).trace c ≡ true) × (line_at DBSY (run_to r c).trace c ≡ is_transferring (run_to r c).trace (c + 1))
 still r c i p h l count e none last =
     let v = (run_to r c).trace in

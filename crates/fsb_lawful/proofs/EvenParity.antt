@@ -35,26 +35,31 @@ not_odd-request s e =
     last-fails (is_known_word s.req) (not (has_unknown s ADS || has_unknown s RP)) (is_request_even s) a.2
 
 -- a test that the sample rules out, of a sample that may not be there
-not_odd : (odd : Sample → Bool) (o : Option Sample) → ((s : Sample) → is_even_sample s ≡ true → odd s ≡ false) → is_some_and o is_even_sample ≡ true → option_map_or odd o false ≡ false
+not_odd : (odd : Sample → Bool) (o : Option Sample) → ((s : Sample) → is_even_sample s ≡ true → odd s ≡ false)
+    → is_some_and o is_even_sample ≡ true → option_map_or odd o false ≡ false
 unfolding is_some_and
 not_odd odd None h e = refl
 not_odd odd (Some s) h e = h s e
 
-even-at : (r : Run) (p : Past) (c : ℕ) → nat_eq r.plan.profile 2 ≡ true → drives_parity r p c ≡ true → is_some_and (slice_get r.trace c) is_even_sample ≡ true
+even-at : (r : Run) (p : Past) (c : ℕ) → nat_eq r.plan.profile 2 ≡ true → drives_parity r p c ≡ true
+    → is_some_and (slice_get r.trace c) is_even_sample ≡ true
 unfolding drives_parity
 even-at r p c two e = let e' = rw two at e in e'
 
-even-there : (r : Run) (c : ℕ) → Timely r → c < length r.trace → nat_eq r.plan.profile 2 ≡ true → is_some_and (slice_get (take (c + 1) r.trace) c) is_even_sample ≡ true
+even-there : (r : Run) (c : ℕ) → Timely r → c < length r.trace → nat_eq r.plan.profile 2 ≡ true
+    → is_some_and (slice_get (take (c + 1) r.trace) c) is_even_sample ≡ true
 unfolding holds_at holds_in run_to
 even-there r c h l two = even-at (run_to r c) (past_to (past_of r) c) c two (h.parity.at c l)
 
-address-kept : (r : Run) (c : ℕ) → Timely r → c < length r.trace → nat_eq r.plan.profile 2 ≡ true → is_address_parity_wrong (take (c + 1) r.trace) c ≡ false
+address-kept : (r : Run) (c : ℕ) → Timely r → c < length r.trace → nat_eq r.plan.profile 2 ≡ true
+    → is_address_parity_wrong (take (c + 1) r.trace) c ≡ false
 unfolding is_address_parity_wrong
 address-kept r c h l two =
     let v = take (c + 1) r.trace in
     and-fails (has_parity_at v c) (option_map_or is_address_odd (slice_get v c) false) (λ t. not_odd is_address_odd (slice_get v c) not_odd-address (even-there r c h l two))
 
-request-kept : (r : Run) (c : ℕ) → Timely r → c < length r.trace → nat_eq r.plan.profile 2 ≡ true → is_request_parity_wrong (take (c + 1) r.trace) c ≡ false
+request-kept : (r : Run) (c : ℕ) → Timely r → c < length r.trace → nat_eq r.plan.profile 2 ≡ true
+    → is_request_parity_wrong (take (c + 1) r.trace) c ≡ false
 unfolding is_request_parity_wrong
 request-kept r c h l two =
     let v = take (c + 1) r.trace in

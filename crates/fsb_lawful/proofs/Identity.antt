@@ -25,43 +25,52 @@ use Rattle.fsb_lawful.proofs.OwnIds.{want-own}
 use Rattle.fsb_lawful.proofs.Keeping.{and-fails, keeps}
 
 -- the request of a winner
-pub begun-winner : (f : Who → Option Request) (o : Option Who) (q : Request) → option_and_then f o ≡ Some q → (who : Who) × (o ≡ Some who) × (f who ≡ Some q)
+pub begun-winner : (f : Who → Option Request) (o : Option Who) (q : Request) → option_and_then f o ≡ Some q
+    → (who : Who) × (o ≡ Some who) × (f who ≡ Some q)
 begun-winner f None q e = absurd (let no : ⊥ = cc in no)
 begun-winner f (Some who) q e = (who, refl, e)
 
-own : (a : ℕ) (q : Request) → is_reply_kind q.kind ≡ false → q.did / 16 ≡ a → is_identified (Some (Symmetric a)) (Some q) ≡ true
+own : (a : ℕ) (q : Request) → is_reply_kind q.kind ≡ false → q.did / 16 ≡ a
+    → is_identified (Some (Symmetric a)) (Some q) ≡ true
 unfolding is_identified is_reply is_some_and is_own_id is_same_agent
 own a q e f = rw e (eq-eqb (q.did / 16) a f)
 
-reply-identified : (o : Option Request) (q : Request) → option_map reply_to o ≡ Some q → is_identified (Some Priority) (Some q) ≡ true
+reply-identified : (o : Option Request) (q : Request) → option_map reply_to o ≡ Some q
+    → is_identified (Some Priority) (Some q) ≡ true
 unfolding is_identified is_reply is_reply_kind is_some_and is_agent is_same_agent reply_to
 reply-identified None q e = absurd (let no : ⊥ = cc in no)
 reply-identified (Some x) q e =
     let same : reply_to x ≡ q = cc in subst (λ y. is_identified (Some Priority) (Some y) ≡ true) same refl
 
-identified-by : (r : Run) (p : Past) (c : ℕ) (who : Who) (q : Request) → p.plan.ahead ≤ 4 → would_begin r p c who ≡ Some q → is_identified (Some who) (Some q) ≡ true
+identified-by : (r : Run) (p : Past) (c : ℕ) (who : Who) (q : Request) → p.plan.ahead ≤ 4
+    → would_begin r p c who ≡ Some q → is_identified (Some who) (Some q) ≡ true
 unfolding would_begin
 identified-by r p c (Symmetric a) q few e = let h = want-own p a c q few e in own a q h.0 h.1
 identified-by r p c Priority q few e =
     reply-identified (option_and_then (live_request_of r.trace) (due_number r p c)) q e
 
 -- the request that begins is identified by the winner of its first clock
-begun-identified : (r : Run) (p : Past) (c : ℕ) (q : Request) → p.plan.ahead ≤ 4 → request_begun r p c ≡ Some q → is_identified (winner_at r.trace c) (Some q) ≡ true
+begun-identified : (r : Run) (p : Past) (c : ℕ) (q : Request) → p.plan.ahead ≤ 4 → request_begun r p c ≡ Some q
+    → is_identified (winner_at r.trace c) (Some q) ≡ true
 unfolding request_begun
 begun-identified r p c q few e =
     let h = begun-winner (would_begin r p c) (winner_at r.trace c) q e in
     ap (λ o. is_identified o (Some q)) h.1 ∙ identified-by r p c h.0 q few h.2
 
-same-winner : (r : Run) (d : ℕ) → suc d < length r.trace → winner_at (run_to r d).trace d ≡ winner_at (run_to r (suc d)).trace d
+same-winner : (r : Run) (d : ℕ) → suc d < length r.trace
+    → winner_at (run_to r d).trace d ≡ winner_at (run_to r (suc d)).trace d
 same-winner r d l =
     let early = AgreeTo-sym (d + 1) r.trace (run_to r d).trace (run_to-agrees r d (omega arith)) in
     let late = run_to-agrees r (suc d) l in
     winner_at-agree (d + 1) (run_to r d).trace r.trace d early (omega arith)
     ∙ winner_at-agree (suc d + 1) r.trace (run_to r (suc d)).trace d late (omega arith)
 
-there : (r : Run) (d : ℕ) → Timely r → r.plan.ahead ≤ 4 → WantsLawfully r → suc d < length r.trace → line_back ADS (run_to r (suc d)).trace (suc d) 1 ≡ true → is_identified (winner_at (run_to r (suc d)).trace d) (request_at (run_to r (suc d)).trace d) ≡ true
+-- a request is identified in its second clock
+pub identified-at : (r : Run) (d : ℕ) → Timely r → r.plan.ahead ≤ 4 → WantsLawfully r → suc d < length r.trace
+    → line_back ADS (run_to r (suc d)).trace (suc d) 1 ≡ true
+    → is_identified (winner_at (run_to r (suc d)).trace d) (request_at (run_to r (suc d)).trace d) ≡ true
 unfolding past_to past_of
-there r d h few wants l t =
+identified-at r d h few wants l t =
     let begun = begun-decoded r d h l (ads-back r d l ∙ t) in
     let decoded = begun.2 (wants.lawful d begun.0 begun.1) in
     ap (is_identified (winner_at (run_to r (suc d)).trace d)) decoded
@@ -72,7 +81,8 @@ none-back : (v : Trace) → line_back ADS v zero 1 ≡ false
 unfolding line_back
 none-back v = refl
 
-at-clock : (r : Run) (c : ℕ) → Timely r → r.plan.ahead ≤ 4 → WantsLawfully r → c < length r.trace → is_identity_wrong (run_to r c).trace c ≡ false
+at-clock : (r : Run) (c : ℕ) → Timely r → r.plan.ahead ≤ 4 → WantsLawfully r → c < length r.trace
+    → is_identity_wrong (run_to r c).trace c ≡ false
 unfolding is_identity_wrong
 at-clock r zero h few wants l =
     let v = (run_to r zero).trace in
@@ -80,7 +90,7 @@ at-clock r zero h few wants l =
 at-clock r (suc d) h few wants l =
     let one : suc d - 1 ≡ d = omega arith in
     let v = (run_to r (suc d)).trace in
-    and-fails (line_back ADS v (suc d) 1) (not (is_identified (winner_at v (suc d - 1)) (request_at v (suc d - 1)))) (λ t. ap (λ k. not (is_identified (winner_at v k) (request_at v k))) one ∙ ap not (there r d h few wants l t))
+    and-fails (line_back ADS v (suc d) 1) (not (is_identified (winner_at v (suc d - 1)) (request_at v (suc d - 1)))) (λ t. ap (λ k. not (is_identified (winner_at v k) (request_at v k))) one ∙ ap not (identified-at r d h few wants l t))
 
 -- rule 7
 pub keeps-7 : (m : Marks) (r : Run) → Timely r → r.plan.ahead ≤ 4 → WantsLawfully r → Keeps m 7 r.trace

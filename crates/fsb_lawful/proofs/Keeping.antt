@@ -21,7 +21,8 @@ pub and4 : (a b d f : Bool) → (a && b && d && f) ≡ true → (a ≡ true) × 
 and4 a b d f e =
     let last = and_parts (a && b && d) f e in let first = and3 a b d last.0 in (first.0, first.1, first.2, last.1)
 
-pub and5 : (a b d f g : Bool) → (a && b && d && f && g) ≡ true → (a ≡ true) × (b ≡ true) × (d ≡ true) × (f ≡ true) × (g ≡ true)
+pub and5 : (a b d f g : Bool) → (a && b && d && f && g) ≡ true
+    → (a ≡ true) × (b ≡ true) × (d ≡ true) × (f ≡ true) × (g ≡ true)
 and5 a b d f g e =
     let last = and_parts (a && b && d && f) g e in
     let first = and4 a b d f last.0 in (first.0, first.1, first.2, first.3, last.1)
@@ -39,7 +40,8 @@ same-beq true false e = absurd (let no : ⊥ = cc in no)
 same-beq false true e = absurd (let no : ⊥ = cc in no)
 
 -- the rule is kept where it is broken at no clock of the trace
-pub keeps : (m : Marks) (j : ℕ) (w : Trace) → ((c : ℕ) → c < length w → breaks m (take (c + 1) w) c j ≡ false) → Keeps m j w
+pub keeps : (m : Marks) (j : ℕ) (w : Trace) → ((c : ℕ) → c < length w → breaks m (take (c + 1) w) c j ≡ false)
+    → Keeps m j w
 unfolding is_broken
 keeps m j w h =
     record { unbroken = λ c. and-fails (nat_lt c (length w)) (breaks m (take (c + 1) w) c j) (λ t. h c (ltb-true c (length w) t)) }

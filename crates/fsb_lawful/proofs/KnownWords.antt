@@ -16,14 +16,16 @@ use Rattle.fsb_lawful.specs.Keeps.{Keeps}
 use Rattle.fsb_lawful.proofs.Keeping.{and-fails, and4, keeps}
 
 -- what holds of all samples holds of those of a cut trace
-all-cut : {X : Type 0} (test : X → Bool) (n : ℕ) (xs : List X) → list_all test xs ≡ true → list_all test (take n xs) ≡ true
+all-cut : {X : Type 0} (test : X → Bool) (n : ℕ) (xs : List X) → list_all test xs ≡ true
+    → list_all test (take n xs) ≡ true
 all-cut test zero xs e = refl
 all-cut test (suc n) [] e = refl
 all-cut test (suc n) (x ∷ xs) e =
     let parts = and_parts (test x) (list_all test xs) e in ap (λ b. b && list_all test (take n xs)) parts.0 ∙ all-cut test n xs parts.1
 
 -- what holds of all samples and gives that a test fails, fails at each clock
-none-at : {X : Type 0} (test bad : X → Bool) (xs : List X) (c : ℕ) → ((x : X) → test x ≡ true → bad x ≡ false) → list_all test xs ≡ true → option_map_or bad (slice_get xs c) false ≡ false
+none-at : {X : Type 0} (test bad : X → Bool) (xs : List X) (c : ℕ) → ((x : X) → test x ≡ true → bad x ≡ false)
+    → list_all test xs ≡ true → option_map_or bad (slice_get xs c) false ≡ false
 none-at test bad [] c h e = refl
 none-at test bad (x ∷ xs) zero h e = h x (and_parts (test x) (list_all test xs) e).0
 none-at test bad (x ∷ xs) (suc c) h e = none-at test bad xs c h (and_parts (test x) (list_all test xs) e).1

@@ -13,6 +13,15 @@ pub mod DataMoves
 pub mod Listed
 pub mod OutstandingIds
 pub mod NewRequests
+pub mod RepliesBegun
+pub mod DuesStay
+pub mod OwesLess
+pub mod WantsGoOn
+pub mod RequestLines
+pub mod SnoopResults
+pub mod LawfulWants
+pub mod LawfulBeginnings
+pub mod Accepted
 pub mod KnownWords
 pub mod Beginnings
 pub mod AddressErrors

@@ -1,5 +1,5 @@
 -- What is listed: of the clocks that pass a test, what each of them gives.
-use Rattle.std.proofs.Common.{ℕ, zero, suc, ◌+◌, ◌<◌, ◌≤◌, ◌≡◌, Bool, true, false, ◌&&◌, ◌||◌, List, [], ◌∷◌, ◌++◌, Option, Some, length, refl, sym, ap, subst, ◌∙◌, arith, inl, inr, if◌then◌else◌}
+use Rattle.std.proofs.Common.{ℕ, zero, suc, ◌<◌, ◌≤◌, ◌≡◌, Bool, true, false, ◌&&◌, ◌||◌, List, [], ◌∷◌, Option, Some, length, refl, ap, subst, ◌∙◌, arith, inl, inr, if◌then◌else◌}
 use Rattle.std.specs.List.{filter, filter_map, list_any}
 use Rattle.std.proofs.lemmas.Bool.{cases_Bool, cases_lt, or_left, or_right}
 use Rattle.std.proofs.lemmas.List.{length-append}
@@ -15,7 +15,8 @@ pub record IsListed {Y : Type 0} (t : ℕ → Bool) (g : ℕ → Option Y) (f : 
   pub passes : f given ≡ true
 
 -- what passes both tests passes the second among those that pass the first
-pub any-kept : {X : Type 0} (g f : X → Bool) (xs : List X) → list_any (λ x. g x && f x) xs ≡ true → list_any f (filter g xs) ≡ true
+pub any-kept : {X : Type 0} (g f : X → Bool) (xs : List X) → list_any (λ x. g x && f x) xs ≡ true
+    → list_any f (filter g xs) ≡ true
 any-kept g f [] e = absurd (let no : ⊥ = cc in no)
 any-kept g f (x ∷ xs) e =
     elim (cases_Bool (g x)) [
@@ -28,14 +29,17 @@ any-kept g f (x ∷ xs) e =
     kept false both rest h k = h k
 
 -- the last clock of a list
-last-any : {Y : Type 0} (t : ℕ → Bool) (g : ℕ → Option Y) (f : Y → Bool) (q : ℕ) → IsListed t g f q → list_any f (filter_map g (if t q then q ∷ [] else [])) ≡ true
+last-any : {Y : Type 0} (t : ℕ → Bool) (g : ℕ → Option Y) (f : Y → Bool) (q : ℕ) → IsListed t g f q
+    → list_any f (filter_map g (if t q then q ∷ [] else [])) ≡ true
 last-any t g f q k = rw (k.there, k.gives) (or_left _ _ k.passes)
 
-last-length : {Y : Type 0} (t : ℕ → Bool) (g : ℕ → Option Y) (f : Y → Bool) (q : ℕ) → IsListed t g f q → 1 ≤ length (filter f (filter_map g (if t q then q ∷ [] else [])))
+last-length : {Y : Type 0} (t : ℕ → Bool) (g : ℕ → Option Y) (f : Y → Bool) (q : ℕ) → IsListed t g f q
+    → 1 ≤ length (filter f (filter_map g (if t q then q ∷ [] else [])))
 last-length t g f q k = rw (k.there, k.gives, k.passes) (omega arith)
 
 -- what a clock gives is in the list
-pub any-listed : {Y : Type 0} (t : ℕ → Bool) (g : ℕ → Option Y) (f : Y → Bool) (n q : ℕ) → q < n → IsListed t g f q → list_any f (filter_map g (all_where t n)) ≡ true
+pub any-listed : {Y : Type 0} (t : ℕ → Bool) (g : ℕ → Option Y) (f : Y → Bool) (n q : ℕ) → q < n
+    → IsListed t g f q → list_any f (filter_map g (all_where t n)) ≡ true
 unfolding all_where
 any-listed t g f zero q l k = absurd (omega arith)
 any-listed t g f (suc n) q l k =
@@ -49,7 +53,8 @@ any-listed t g f (suc n) q l k =
     ]
 
 -- and the list is at least as long as there are such clocks
-pub few-listed : {Y : Type 0} (some t : ℕ → Bool) (g : ℕ → Option Y) (f : Y → Bool) (n : ℕ) → ((q : ℕ) → q < n → some q ≡ true → IsListed t g f q)
+pub few-listed : {Y : Type 0} (some t : ℕ → Bool) (g : ℕ → Option Y) (f : Y → Bool) (n : ℕ)
+    → ((q : ℕ) → q < n → some q ≡ true → IsListed t g f q)
     → count_where some n ≤ length (filter f (filter_map g (all_where t n)))
 unfolding all_where count_where
 few-listed some t g f zero h = omega arith

@@ -1,9 +1,9 @@
 -- Rule 18: what begins in a timely run is a reply that is awaited, or a request with a new ID where few are outstanding.
-use Rattle.std.proofs.Common.{ℕ, zero, suc, ◌+◌, ◌-◌, ◌<◌, ◌≤◌, ◌≡◌, Bool, true, false, cond, not, ◌&&◌, ◌||◌, Option, Some, None, is_some, length, take, nat_eq, nat_le, nat_lt, slice_index, refl, sym, ap, subst, ◌∙◌, arith, if◌then◌else◌}
+use Rattle.std.proofs.Common.{ℕ, zero, suc, ◌+◌, ◌-◌, ◌<◌, ◌≤◌, ◌≡◌, Bool, true, false, not, ◌&&◌, Option, Some, None, length, take, nat_le, slice_index, refl, sym, ap, subst, ◌∙◌, arith}
 use Rattle.std.specs.Option.{option_and_then, option_map}
-use Rattle.std.proofs.lemmas.Bool.{and_from, and_parts, cases_Bool, eq-eqb, leb-true, lt-leb, lt-ltb, or_from}
-use Rattle.fsb_count.specs.Clocks.{any_where, count_where, first_where}
-use Rattle.fsb_count.specs.Options.{is_before, is_some_and}
+use Rattle.std.proofs.lemmas.Bool.{and_from, eq-eqb, leb-true, lt-leb}
+use Rattle.fsb_count.specs.Clocks.{any_where, count_where}
+use Rattle.fsb_count.specs.Options.{is_some_and}
 use Rattle.fsb_count.proofs.Interface.{any_where-at, any_where-off, first_where-found, is_before-from}
 use Rattle.fsb_encode.specs.declared.request.Request.{Request}
 use Rattle.fsb_signal.specs.declared.lines.TheConstants.Lines.{ADS}
@@ -17,20 +17,17 @@ use Rattle.fsb_trace.specs.Outcome.{is_deferral, is_deferred, is_settled_deferre
 use Rattle.fsb_trace.specs.Requests.{have_same_id, is_reply, is_reply_kind, live_count, live_request_of}
 use Rattle.fsb_trace.specs.Rules.{awaits_reply, is_begun_wrongly, is_id_taken_by, is_outstanding_of_winner, is_outstanding_wrong}
 use Rattle.fsb_trace.specs.Winner.{winner_at}
-use Rattle.fsb_trace.proofs.Interface.{AgreeTo-sym, breaks-18, is_reply-some, request_at-agree, response_clock_of-stays, winner_at-agree}
-use Rattle.fsb_laws.specs.Progress.{response_count}
-use Rattle.fsb_laws.proofs.Interface.{BeginsAfter, last_is_live, response_counted, same_answered, same_deferred, same_live_request}
+use Rattle.fsb_trace.proofs.Interface.{AgreeTo-sym, breaks-18, response_clock_of-stays, winner_at-agree}
+use Rattle.fsb_laws.proofs.Interface.{last_is_live, response_counted, same_answered, same_deferred, same_live_request}
 use Rattle.fsb_timely.specs.Moments.{turns_in}
-use Rattle.fsb_timely.specs.Past.{Past}
 use Rattle.fsb_timely.specs.Runs.{Run, past_of, past_to, run_to}
 use Rattle.fsb_timely.specs.Starts.{due_number, reply_to, request_begun, would_begin}
 use Rattle.fsb_timely.specs.Timely.{Timely}
 use Rattle.fsb_timely.specs.Transfers.{settled_of}
-use Rattle.fsb_timely.specs.Wants.{want_of}
 use Rattle.fsb_lawful.specs.Beginning.{WantsLawfully}
 use Rattle.fsb_lawful.specs.Keeps.{Keeps}
 use Rattle.fsb_lawful.proofs.Beginnings.{begins-at, not-low}
-use Rattle.fsb_lawful.proofs.Begun.{ads-back, begun_of, begun-decoded}
+use Rattle.fsb_lawful.proofs.Begun.{ads-back, begun-decoded}
 use Rattle.fsb_lawful.proofs.Cuts.{line-to}
 use Rattle.fsb_lawful.proofs.CutRuns.{cuts-agree, length-cut, past-cut}
 use Rattle.fsb_lawful.proofs.Identity.{begun-winner}
@@ -49,18 +46,24 @@ pub record IsDueAt (r : Run) (e i : ℕ) (request : Request) : Type 0 where
   pub deferred : is_deferred (run_to r (suc e)).trace i ≡ true
   pub unanswered : is_answered (run_to r (suc e)).trace (suc e) i ≡ false
 
-response-parts : (o : Option ℕ) (later c : ℕ) → is_some_and o (λ t. nat_le (t + 1 + later) c) ≡ true → (t : ℕ) × (o ≡ Some t) × (t < c)
+response-parts : (o : Option ℕ) (later c : ℕ) → is_some_and o (λ t. nat_le (t + 1 + later) c) ≡ true
+    → (t : ℕ) × (o ≡ Some t) × (t < c)
 unfolding is_some_and
 response-parts None later c e = absurd (let no : ⊥ = cc in no)
 response-parts (Some t) later c e = (t, refl, (let l = leb-true (t + 1 + later) c e in omega arith))
 
-deferred-told : (r : Run) (d i t : ℕ) → Timely r → d < length r.trace → response_clock_of (run_to r d).trace i ≡ Some t → is_settled_deferred (run_to r d).trace (turns_in (past_to (past_of r) d).moments) i ≡ true → is_deferred (run_to r d).trace i ≡ true
+deferred-told : (r : Run) (d i t : ℕ) → Timely r → d < length r.trace
+    → response_clock_of (run_to r d).trace i ≡ Some t
+    → is_settled_deferred (run_to r d).trace (turns_in (past_to (past_of r) d).moments) i ≡ true
+    → is_deferred (run_to r d).trace i ≡ true
 unfolding is_settled_deferred is_deferred settled_of
 deferred-told r d i t h l e f =
     let told = told-as-settled r d i t h l e in
     ap (λ o. is_some_and o is_deferral) told.outcome ∙ ap (λ p. is_settled_deferred (run_to r d).trace (turns_in p.moments) i) (past-cut r d l) ∙ f
 
-due-is : (r : Run) (e i : ℕ) (request : Request) → Timely r → suc e < length r.trace → due_number (run_to r (suc e)) (past_to (past_of r) (suc e)) (suc e) ≡ Some i → live_request_of (run_to r (suc e)).trace i ≡ Some request
+due-is : (r : Run) (e i : ℕ) (request : Request) → Timely r → suc e < length r.trace
+    → due_number (run_to r (suc e)) (past_to (past_of r) (suc e)) (suc e) ≡ Some i
+    → live_request_of (run_to r (suc e)).trace i ≡ Some request
     → IsDueAt r e i request
 unfolding due_number due_at is_due
 due-is r e i request h l due asked =
@@ -76,7 +79,9 @@ unfolding have_same_id is_some_and reply_to
 same-did a b x e f = rw (e, f) (eq-eqb x.did x.did refl)
 
 -- a due request awaits its reply
-awaited : (r : Run) (e i : ℕ) (request : Request) → Timely r → suc (suc e) < length r.trace → line_at ADS (run_to r (suc (suc e))).trace (suc e) ≡ true → IsDueAt r e i request → request_at (run_to r (suc (suc e))).trace (suc e) ≡ Some (reply_to request)
+awaited : (r : Run) (e i : ℕ) (request : Request) → Timely r → suc (suc e) < length r.trace
+    → line_at ADS (run_to r (suc (suc e))).trace (suc e) ≡ true → IsDueAt r e i request
+    → request_at (run_to r (suc (suc e))).trace (suc e) ≡ Some (reply_to request)
     → any_where (awaits_reply (run_to r (suc (suc e))).trace (suc e)) (live_count (run_to r (suc (suc e))).trace) ≡ true
 unfolding awaits_reply
 awaited r e i request h l t k decoded =
@@ -99,19 +104,24 @@ awaited r e i request h l t k decoded =
     any_where-at (awaits_reply v (suc e)) (live_count v) i live
     (and_from _ _ (and_from _ _ (and_from _ _ deferred (same-did (live_request_of v i) (request_at v (suc e)) request asked decoded)) (is_before-from (response_clock_of v i) k.response (suc e) late before)) (ap not unanswered))
 
-mapped-reply : (o : Option Request) (request : Request) → option_map reply_to o ≡ Some request → (x : Request) × (o ≡ Some x) × (reply_to x ≡ request)
+mapped-reply : (o : Option Request) (request : Request) → option_map reply_to o ≡ Some request
+    → (x : Request) × (o ≡ Some x) × (reply_to x ≡ request)
 mapped-reply None request e = absurd (let no : ⊥ = cc in no)
 mapped-reply (Some x) request e = (x, refl, cc)
 
-found-request : (f : ℕ → Option Request) (o : Option ℕ) (x : Request) → option_and_then f o ≡ Some x → (i : ℕ) × (o ≡ Some i) × (f i ≡ Some x)
+found-request : (f : ℕ → Option Request) (o : Option ℕ) (x : Request) → option_and_then f o ≡ Some x
+    → (i : ℕ) × (o ≡ Some i) × (f i ≡ Some x)
 found-request f None x e = absurd (let no : ⊥ = cc in no)
 found-request f (Some i) x e = (i, refl, e)
 
-reply-rightly : (v : Trace) (q : ℕ) (x : Request) → request_at v q ≡ Some (reply_to x) → any_where (awaits_reply v q) (live_count v) ≡ true → is_begun_wrongly v q ≡ false
+reply-rightly : (v : Trace) (q : ℕ) (x : Request) → request_at v q ≡ Some (reply_to x)
+    → any_where (awaits_reply v q) (live_count v) ≡ true → is_begun_wrongly v q ≡ false
 unfolding is_begun_wrongly is_reply is_reply_kind is_some_and reply_to
 reply-rightly v q x e f = rw (e, f) refl
 
-wanted-rightly : (v : Trace) (q : ℕ) (x : Request) → request_at v q ≡ Some x → is_reply_kind x.kind ≡ false → any_where (is_id_taken_by v q) q ≡ false → count_where (is_outstanding_of_winner v q) q < 4 → is_begun_wrongly v q ≡ false
+wanted-rightly : (v : Trace) (q : ℕ) (x : Request) → request_at v q ≡ Some x → is_reply_kind x.kind ≡ false
+    → any_where (is_id_taken_by v q) q ≡ false → count_where (is_outstanding_of_winner v q) q < 4
+    → is_begun_wrongly v q ≡ false
 unfolding is_begun_wrongly is_reply is_some_and
 wanted-rightly v q x e f g l = rw (e, f, g) (lt-leb 4 (count_where (is_outstanding_of_winner v q) q) l)
 
@@ -119,8 +129,11 @@ untaken : (b : Bool) → (b ≡ true → ⊥) → b ≡ false
 untaken true h = absurd (h refl)
 untaken false h = refl
 
-by-who : (r : Run) (e : ℕ) (who : Who) (request : Request) → Timely r → WantsLawfully r → r.plan.ahead ≤ 4 → suc (suc e) < length r.trace → line_at ADS (run_to r (suc (suc e))).trace (suc e) ≡ true
-    → request_at (run_to r (suc (suc e))).trace (suc e) ≡ Some request → winner_at (run_to r (suc (suc e))).trace (suc e) ≡ Some who → would_begin (run_to r (suc e)) (past_to (past_of r) (suc e)) (suc e) who ≡ Some request
+by-who : (r : Run) (e : ℕ) (who : Who) (request : Request) → Timely r → WantsLawfully r → r.plan.ahead ≤ 4
+    → suc (suc e) < length r.trace → line_at ADS (run_to r (suc (suc e))).trace (suc e) ≡ true
+    → request_at (run_to r (suc (suc e))).trace (suc e) ≡ Some request
+    → winner_at (run_to r (suc (suc e))).trace (suc e) ≡ Some who
+    → would_begin (run_to r (suc e)) (past_to (past_of r) (suc e)) (suc e) who ≡ Some request
     → is_begun_wrongly (run_to r (suc (suc e))).trace (suc e) ≡ false
 unfolding would_begin past_to past_of
 by-who r e (Symmetric a) request h wants few l t decoded winner would =
@@ -137,7 +150,9 @@ by-who r e Priority request h wants few l t decoded winner would =
     let as-reply : request_at v (suc e) ≡ Some (reply_to x.0) = decoded ∙ ap Some (sym x.2) in
     reply-rightly v (suc e) x.0 as-reply (awaited r e i.0 x.0 h l t (due-is r e i.0 x.0 h (omega arith) i.1 i.2) as-reply)
 
-rightly : (r : Run) (e : ℕ) → Timely r → WantsLawfully r → r.plan.ahead ≤ 4 → suc (suc e) < length r.trace → line_back ADS (run_to r (suc (suc e))).trace (suc (suc e)) 1 ≡ true → is_begun_wrongly (run_to r (suc (suc e))).trace (suc e) ≡ false
+rightly : (r : Run) (e : ℕ) → Timely r → WantsLawfully r → r.plan.ahead ≤ 4 → suc (suc e) < length r.trace
+    → line_back ADS (run_to r (suc (suc e))).trace (suc (suc e)) 1 ≡ true
+    → is_begun_wrongly (run_to r (suc (suc e))).trace (suc e) ≡ false
 unfolding request_begun
 rightly r e h wants few l back =
     let v = (run_to r (suc (suc e))).trace in
@@ -159,7 +174,8 @@ none-back : (v : Trace) → line_back ADS v zero 1 ≡ false
 unfolding line_back
 none-back v = refl
 
-at-clock : (r : Run) (c : ℕ) → Timely r → WantsLawfully r → r.plan.ahead ≤ 4 → c < length r.trace → is_outstanding_wrong (run_to r c).trace c ≡ false
+at-clock : (r : Run) (c : ℕ) → Timely r → WantsLawfully r → r.plan.ahead ≤ 4 → c < length r.trace
+    → is_outstanding_wrong (run_to r c).trace c ≡ false
 unfolding is_outstanding_wrong
 at-clock r zero h wants few l = ap (λ b. b && is_begun_wrongly (run_to r zero).trace (zero - 1)) (none-back (run_to r zero).trace)
 at-clock r (suc zero) h wants few l =

@@ -1,16 +1,16 @@
 -- In a timely run the request that responds is the next one, and so is the one whose target is ready.
-use Rattle.std.proofs.Common.{ℕ, zero, suc, ◌+◌, ◌<◌, ◌≤◌, ◌≡◌, Bool, true, false, ◌||◌, not, Option, Some, None, length, nat_eq, refl, sym, ap, ◌∙◌, arith, inl, inr, subst}
+use Rattle.std.proofs.Common.{ℕ, zero, suc, ◌+◌, ◌<◌, ◌≤◌, ◌≡◌, true, false, Option, Some, None, length, refl, sym, ap, ◌∙◌, arith, inl, inr, subst}
 use Rattle.std.proofs.lemmas.Bool.{cases_lt, eqb-true}
-use Rattle.fsb_count.specs.Clocks.{any_where, count_where, first_where}
+use Rattle.fsb_count.specs.Clocks.{any_where}
 use Rattle.fsb_count.proofs.Interface.{any_where-found, count_where-mono, count_where-same, first_where-found}
 use Rattle.fsb_signal.specs.declared.lines.TheConstants.Lines.{TRDY, DRDY, DBSY}
-use Rattle.fsb_signal.specs.Samples.{line_at, data_at}
-use Rattle.fsb_trace.specs.At.{Trace, responds_at, response_code_at}
+use Rattle.fsb_signal.specs.Samples.{line_at}
+use Rattle.fsb_trace.specs.At.{responds_at, response_code_at}
 use Rattle.fsb_trace.specs.Requests.{live_count}
 use Rattle.fsb_trace.specs.Response.{ready_clock_of}
 use Rattle.fsb_trace.specs.Rules.{next_response}
 use Rattle.fsb_trace.proofs.Interface.{responds_at-agree, line_at-agree}
-use Rattle.fsb_laws.proofs.Interface.{HasAnswer, after_answer, answer_later, has_ready}
+use Rattle.fsb_laws.proofs.Interface.{after_answer, answer_later, has_ready}
 use Rattle.fsb_timely.specs.Past.{Past}
 use Rattle.fsb_timely.specs.Runs.{Run, run_to, past_of}
 use Rattle.fsb_timely.specs.Snoops.{live_choice}
@@ -39,12 +39,14 @@ transfers_by v p c e =
       data_busy = same-beq (line_at DBSY v.trace c) (any_where (is_busy_at v p c) (live_count v.trace)) a.3;
     }
 
-pub transfers-at : (r : Run) (c : ℕ) → Timely r → c < length r.trace → Transfers (run_to r c) (past_of (run_to r c)) c
+pub transfers-at : (r : Run) (c : ℕ) → Timely r → c < length r.trace
+    → Transfers (run_to r c) (past_of (run_to r c)) c
 unfolding holds_at holds_in
 transfers-at r c h l =
     subst (λ p. Transfers (run_to r c) p c) (sym (past-cut r c l)) (transfers_by (run_to r c) _ c (h.responses_and_data.at c l))
 
-number_by : (v : Run) (p : Past) (c : ℕ) (o : Option ℕ) → response_code_at v.trace c ≡ code_due v p c → number_responding v c ≡ o → responds_at v.trace c ≡ true → (i : ℕ) × (number_responding v c ≡ Some i)
+number_by : (v : Run) (p : Past) (c : ℕ) (o : Option ℕ) → response_code_at v.trace c ≡ code_due v p c
+    → number_responding v c ≡ o → responds_at v.trace c ≡ true → (i : ℕ) × (number_responding v c ≡ Some i)
 unfolding code_due responds_at
 number_by v p c None e n h =
     let none : response_code_at v.trace c ≡ 0 = rw (n, code_due) at e in
@@ -61,7 +63,8 @@ responder r c h l t =
     let f = first_where-found (is_response_clock v c) (live_count v.trace) n.0 n.1 in (n.0, n.1, f.0, f.1)
 
 -- the next response at an earlier clock
-pub next-same : (r : Run) (t c : ℕ) → t ≤ c → c < length r.trace → next_response (run_to r t).trace t ≡ next_response (run_to r c).trace t
+pub next-same : (r : Run) (t c : ℕ) → t ≤ c → c < length r.trace
+    → next_response (run_to r t).trace t ≡ next_response (run_to r c).trace t
 unfolding next_response
 next-same r t c l m =
     let a = cuts-agree r t c l m in
@@ -73,7 +76,8 @@ pub record OneAnswer (r : Run) (c : ℕ) : Type 0 where
   pub ready : (i : ℕ) → is_ready_due (run_to r c) c i ≡ true → i ≡ next_response (run_to r c).trace c
 
 -- a request before the next one had its response when it was due
-responded-then : (r : Run) (c i : ℕ) → Timely r → c < length r.trace → ((t : ℕ) → t < c → OneAnswer r t) → i < next_response (run_to r c).trace c
+responded-then : (r : Run) (c i : ℕ) → Timely r → c < length r.trace → ((t : ℕ) → t < c → OneAnswer r t)
+    → i < next_response (run_to r c).trace c
     → (t : ℕ) × (t < c) × (next_response (run_to r c).trace t ≡ i) × Responding (run_to r c).trace (live_choice r i).resp t i
 responded-then r c i h l before less =
     let v = (run_to r c).trace in
@@ -89,7 +93,8 @@ responded-then r c i h l before less =
     (t, below, p.4, responding-stays (t + 1) (run_to r t).trace v (live_choice r i).resp t i a (omega arith) then)
 
 -- TRDY# before a request had responded was its own, when it was due
-pub ready-then : (r : Run) (c i y : ℕ) → Timely r → c < length r.trace → ((t : ℕ) → t < c → OneAnswer r t) → ready_clock_of (run_to r c).trace i ≡ Some y → y < c → next_response (run_to r c).trace y ≤ i
+pub ready-then : (r : Run) (c i y : ℕ) → Timely r → c < length r.trace → ((t : ℕ) → t < c → OneAnswer r t)
+    → ready_clock_of (run_to r c).trace i ≡ Some y → y < c → next_response (run_to r c).trace y ≤ i
     → IsReadyDue (run_to r c).trace (live_choice r i).trdy y i
 ready-then r c i y h l before e below few =
     let v = (run_to r c).trace in
@@ -104,7 +109,8 @@ ready-then r c i y h l before e below few =
     let then = ready-now r y i (omega arith) (subst (λ k. is_ready_due (run_to r y) y k ≡ true) same any.2) in
     ready-stays (y + 1) (run_to r y).trace v (live_choice r i).trdy y i a (omega arith) then
 
-response_is : (r : Run) (c i : ℕ) → Timely r → c < length r.trace → ((t : ℕ) → t < c → OneAnswer r t) → is_response_clock (run_to r c) c i ≡ true → i ≡ next_response (run_to r c).trace c
+response_is : (r : Run) (c i : ℕ) → Timely r → c < length r.trace → ((t : ℕ) → t < c → OneAnswer r t)
+    → is_response_clock (run_to r c) c i ≡ true → i ≡ next_response (run_to r c).trace c
 response_is r c i h l before e =
     let v = (run_to r c).trace in
     let now = responding-now r c i l e in
@@ -118,7 +124,8 @@ response_is r c i h l before e =
     ]
 
 -- a target that is ready is not that of a request that responded before
-ready_once : (r : Run) (c t i : ℕ) → Timely r → c < length r.trace → ((t : ℕ) → t < c → OneAnswer r t) → IsReadyDue (run_to r c).trace (live_choice r i).trdy c i
+ready_once : (r : Run) (c t i : ℕ) → Timely r → c < length r.trace → ((t : ℕ) → t < c → OneAnswer r t)
+    → IsReadyDue (run_to r c).trace (live_choice r i).trdy c i
     → t < c → next_response (run_to r c).trace t ≡ i → Responding (run_to r c).trace (live_choice r i).resp t i → ⊥
 unfolding next_response
 ready_once r c t i h l before now below e (inl k) =
@@ -130,7 +137,8 @@ ready_once r c t i h l before now below e (inl k) =
 ready_once r c t i h l before now below e (inr k) =
     let no : true ≡ false = sym now.does_take ∙ k.takes_none in cc no
 
-ready_is : (r : Run) (c i : ℕ) → Timely r → c < length r.trace → ((t : ℕ) → t < c → OneAnswer r t) → is_ready_due (run_to r c) c i ≡ true → i ≡ next_response (run_to r c).trace c
+ready_is : (r : Run) (c i : ℕ) → Timely r → c < length r.trace → ((t : ℕ) → t < c → OneAnswer r t)
+    → is_ready_due (run_to r c) c i ≡ true → i ≡ next_response (run_to r c).trace c
 ready_is r c i h l before e =
     let v = (run_to r c).trace in
     let now = ready-now r c i l e in

@@ -1,5 +1,5 @@
 -- A timely run keeps the distance of requests and the order of responses: its trace is orderly at each clock.
-use Rattle.std.proofs.Common.{ℕ, ◌+◌, ◌-◌, ◌<◌, ◌≤◌, ◌≡◌, true, false, Some, length, nat_le, ◌&&◌, refl, sym, ap, ◌∙◌, arith, inl, inr, subst}
+use Rattle.std.proofs.Common.{ℕ, ◌+◌, ◌-◌, ◌<◌, ◌≤◌, ◌≡◌, true, false, Some, length, sym, ap, ◌∙◌, arith, inl, inr, subst}
 use Rattle.std.proofs.lemmas.Bool.{cases_lt, le-leb}
 use Rattle.fsb_count.proofs.Interface.{nth_where-found}
 use Rattle.fsb_signal.specs.declared.lines.TheConstants.Lines.{ADS}
@@ -8,7 +8,7 @@ use Rattle.fsb_trace.specs.At.{Trace, line_back, responds_at}
 use Rattle.fsb_trace.specs.Outcome.{response_clock_of}
 use Rattle.fsb_trace.specs.Rules.{may_answer, next_response}
 use Rattle.fsb_trace.proofs.Interface.{line_at-agree, responds_at-agree}
-use Rattle.fsb_laws.specs.Orderly.{Spaced, Orderly}
+use Rattle.fsb_laws.specs.Orderly.{Orderly}
 use Rattle.fsb_laws.proofs.Interface.{ads_before_end, may_answer-stays}
 use Rattle.fsb_timely.specs.Runs.{Run, run_to}
 use Rattle.fsb_timely.specs.Timely.{Timely}
@@ -27,11 +27,13 @@ not-back : (v : Trace) (p q d : ℕ) → line_at ADS v p ≡ true → line_back 
 not-back v p q d t f e =
     let no : false ≡ true = sym f ∙ ap (λ k. line_back ADS v k d) e ∙ back-is v p d t in cc no
 
-begins-from : (r : Run) (q : ℕ) → Timely r → q < length r.trace → line_at ADS (run_to r q).trace q ≡ true → Begins (run_to r q).trace q
+begins-from : (r : Run) (q : ℕ) → Timely r → q < length r.trace → line_at ADS (run_to r q).trace q ≡ true
+    → Begins (run_to r q).trace q
 unfolding run_to
 begins-from r q h l t = begins-at r q h l t
 
-far : (r : Run) (c p q : ℕ) → Timely r → c < length r.trace → p < q → line_at ADS (run_to r c).trace p ≡ true → line_at ADS (run_to r c).trace q ≡ true → p + 3 ≤ q
+far : (r : Run) (c p q : ℕ) → Timely r → c < length r.trace → p < q → line_at ADS (run_to r c).trace p ≡ true
+    → line_at ADS (run_to r c).trace q ≡ true → p + 3 ≤ q
 far r c p q h l m t u =
     let v = (run_to r c).trace in
     let size = length-cut r c l in
@@ -51,7 +53,8 @@ far r c p q h l m t u =
     agree-line : (r : Run) (p q c : ℕ) → p < q → q ≤ c → c < length r.trace → line_at ADS (run_to r q).trace p ≡ line_at ADS (run_to r c).trace p
     agree-line r p q c l m k = line_at-agree ADS (q + 1) (run_to r q).trace (run_to r c).trace p (cuts-agree r q c m k) (omega arith)
 
-responded : (r : Run) (c i t : ℕ) → Timely r → c < length r.trace → response_clock_of (run_to r c).trace i ≡ Some t → may_answer (run_to r c).trace t i ≡ true
+responded : (r : Run) (c i t : ℕ) → Timely r → c < length r.trace
+    → response_clock_of (run_to r c).trace i ≡ Some t → may_answer (run_to r c).trace t i ≡ true
 unfolding response_clock_of next_response
 responded r c i t h l e =
     let v = (run_to r c).trace in

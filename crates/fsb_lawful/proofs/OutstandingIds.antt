@@ -1,11 +1,10 @@
 -- Where a symmetric agent's request begins, its ID is not taken, and few of its requests are outstanding.
-use Rattle.std.proofs.Common.{ℕ, zero, suc, ◌+◌, ◌-◌, ◌/◌, ◌<◌, ◌≤◌, ◌≡◌, Bool, true, false, not, ◌&&◌, ◌||◌, List, [], ◌∷◌, Option, Some, None, length, take, slice_get, nat_eq, nat_le, nat_lt, refl, sym, ap, subst, ◌∙◌, arith, inl, inr, add-one}
+use Rattle.std.proofs.Common.{ℕ, zero, suc, ◌+◌, ◌/◌, ◌<◌, ◌≤◌, ◌≡◌, Bool, true, false, not, ◌&&◌, List, [], ◌∷◌, Option, Some, None, length, slice_get, nat_eq, nat_lt, refl, sym, ap, subst, ◌∙◌, arith, add-one}
 use Rattle.std.specs.List.{filter, filter_map, list_any}
 use Rattle.std.specs.Option.{option_and_then, option_map, option_map_or}
-use Rattle.std.proofs.lemmas.Bool.{and_from, and_parts, cases_Bool, cases_lt, eqb-true, eq-eqb, ltb-true, lt-leb, ne_eqb, or_from}
-use Rattle.fsb_count.specs.Clocks.{any_where, all_where, count_where}
+use Rattle.std.proofs.lemmas.Bool.{and_from, and_parts, eqb-true, eq-eqb, ltb-true, ne_eqb}
+use Rattle.fsb_count.specs.Clocks.{all_where, count_where}
 use Rattle.fsb_count.specs.Options.{is_some_and}
-use Rattle.fsb_count.proofs.Interface.{any_where-off}
 use Rattle.fsb_encode.specs.declared.request.Request.{Request}
 use Rattle.fsb_signal.specs.declared.lines.TheConstants.Lines.{ADS}
 use Rattle.fsb_signal.specs.Samples.{line_at}
@@ -17,7 +16,7 @@ use Rattle.fsb_trace.specs.Flight.{is_dropped, is_finished, is_outstanding, outs
 use Rattle.fsb_trace.specs.Requests.{have_same_id, is_reply, is_reply_kind, line_of, live_request_of}
 use Rattle.fsb_trace.specs.Rules.{is_id_taken_by, is_outstanding_of_winner}
 use Rattle.fsb_trace.specs.Winner.{winner_at, is_agent, is_same_agent}
-use Rattle.fsb_trace.proofs.Interface.{is_reply-some, request_at-agree, winner_at-agree}
+use Rattle.fsb_trace.proofs.Interface.{request_at-agree, winner_at-agree}
 use Rattle.fsb_laws.proofs.Interface.{BeginsAfter, same_outstanding}
 use Rattle.fsb_timely.specs.Moments.{agent_at, begun_with, claim_at, moment_at, owing_at, owing_for}
 use Rattle.fsb_timely.specs.Past.{Claim, Owing, Past}
@@ -25,9 +24,9 @@ use Rattle.fsb_timely.specs.Runs.{Run, moments_below, past_of, past_to, past_wit
 use Rattle.fsb_timely.specs.Starts.{due_number, reply_to, request_begun, would_begin}
 use Rattle.fsb_timely.specs.Timely.{Timely}
 use Rattle.fsb_timely.specs.Wants.{free_id, is_id_used, outstanding_at, owed, want_of}
-use Rattle.fsb_timely.proofs.Interface.{length-moments, moment-at, moment_of}
+use Rattle.fsb_timely.proofs.Interface.{moment-at, moment_of}
 use Rattle.fsb_lawful.specs.Beginning.{WantsLawfully}
-use Rattle.fsb_lawful.proofs.Begun.{begun_of, begun-decoded}
+use Rattle.fsb_lawful.proofs.Begun.{begun-decoded}
 use Rattle.fsb_lawful.proofs.Cuts.{line-to, moments-to}
 use Rattle.fsb_lawful.proofs.CutRuns.{cuts-agree, length-cut}
 use Rattle.fsb_lawful.proofs.Identity.{begun-winner}
@@ -42,14 +41,16 @@ get-there (x ∷ xs) zero l = (x, refl)
 get-there (x ∷ xs) (suc k) l = get-there xs k (omega arith)
 
 -- the claim of a symmetric winner
-claim-of : (w : Trace) (q a : ℕ) → q < length w → winner_at w q ≡ Some (Symmetric a) → (claim : Claim) × (claim_at w q ≡ Some claim) × (claim.agent ≡ a)
+claim-of : (w : Trace) (q a : ℕ) → q < length w → winner_at w q ≡ Some (Symmetric a)
+    → (claim : Claim) × (claim_at w q ≡ Some claim) × (claim.agent ≡ a)
 unfolding claim_at agent_at line_of
 claim-of w q a l e =
     let s = get-there w q l in
     (record { first = q; agent = a; line = s.0.addr.bits / 4 }, rw (claim_at, agent_at, e, line_of, s.1) refl, refl)
 
 -- what an agent owes, by the moments below a clock
-owed-same : (r : Run) (q a : ℕ) → q < length r.trace → owed (past_with r (moments_below r q) q) a q ≡ owed (past_to (past_of r) q) a q
+owed-same : (r : Run) (q a : ℕ) → q < length r.trace
+    → owed (past_with r (moments_below r q) q) a q ≡ owed (past_to (past_of r) q) a q
 unfolding owed outstanding_at past_of
 owed-same r zero a l = refl
 owed-same r (suc e) a l =
@@ -64,7 +65,9 @@ pub record KnownOwing (r : Run) (q a : ℕ) (request : Request) : Type 0 where
   pub agent : owing.claim.agent ≡ a
   pub did : owing.did ≡ request.did
 
-begun-owing : (r : Run) (q a : ℕ) (request : Request) → r.plan.ahead ≤ 4 → q < length r.trace → line_at ADS (run_to r q).trace q ≡ true → winner_at (run_to r q).trace q ≡ Some (Symmetric a) → want_of (past_to (past_of r) q) a q ≡ Some request
+begun-owing : (r : Run) (q a : ℕ) (request : Request) → r.plan.ahead ≤ 4 → q < length r.trace
+    → line_at ADS (run_to r q).trace q ≡ true → winner_at (run_to r q).trace q ≡ Some (Symmetric a)
+    → want_of (past_to (past_of r) q) a q ≡ Some request
     → KnownOwing r q a request
 unfolding moment_at begun_with owing_for past_to past_of
 begun-owing r q a request few l t w e =
@@ -99,7 +102,8 @@ pub record IsKnown (r : Run) (e p : ℕ) : Type 0 where
   pub own : request.did / 16 ≡ agent
   pub there : is_outstanding (run_to r e).trace (e + 1) p ≡ true
 
-gives-by : (r : Run) (e p : ℕ) (owing : Owing) → p < e → (moment_of r p).begun ≡ Some owing → owing_at (past_with r (moments_below r e) e) (run_to r e).trace e p ≡ Some owing
+gives-by : (r : Run) (e p : ℕ) (owing : Owing) → p < e → (moment_of r p).begun ≡ Some owing
+    → owing_at (past_with r (moments_below r e) e) (run_to r e).trace e p ≡ Some owing
 unfolding owing_at
 gives-by r e p owing l b =
     rw (ne_eqb p e (λ s. omega arith), owing_at, moment-at r e p l) b
@@ -109,7 +113,8 @@ unfolding is_reply is_reply_kind is_some_and reply_to
 reply-is x = refl
 
 -- a request that is no reply is a symmetric agent's want
-pub wanted-by : (r : Run) (p : ℕ) (who : Who) (request : Request) → would_begin (run_to r p) (past_to (past_of r) p) p who ≡ Some request → is_reply (Some request) ≡ false
+pub wanted-by : (r : Run) (p : ℕ) (who : Who) (request : Request)
+    → would_begin (run_to r p) (past_to (past_of r) p) p who ≡ Some request → is_reply (Some request) ≡ false
     → (a : ℕ) × (who ≡ Symmetric a) × (want_of (past_to (past_of r) p) a p ≡ Some request)
 unfolding would_begin
 wanted-by r p (Symmetric a) request e f = (a, refl, e)
@@ -121,13 +126,15 @@ wanted-by r p Priority request e f = absurd (replies (option_and_then (live_requ
         let same : reply_to x ≡ request = cc in
         let no : true ≡ false = sym (reply-is x) ∙ ap (λ y. is_reply (Some y)) same ∙ f in cc no
 
-outstanding-parts : (w : Trace) (c p : ℕ) → is_outstanding w c p ≡ true → (line_at ADS w p ≡ true) × (p < c) × (is_reply (request_at w p) ≡ false)
+outstanding-parts : (w : Trace) (c p : ℕ) → is_outstanding w c p ≡ true
+    → (line_at ADS w p ≡ true) × (p < c) × (is_reply (request_at w p) ≡ false)
 unfolding is_outstanding
 outstanding-parts w c p e =
     let a = and5 (line_at ADS w p) (nat_lt p c) (not (is_reply (request_at w p))) (not (is_dropped w c p)) (not (is_finished w c p)) e in
     (a.0, ltb-true p c a.1, not-true (is_reply (request_at w p)) a.2)
 
-pub begins-after : (r : Run) (e c : ℕ) → Timely r → suc e ≤ c → c < length r.trace → line_at ADS (run_to r c).trace (suc e) ≡ true → BeginsAfter (run_to r e).trace (run_to r c).trace
+pub begins-after : (r : Run) (e c : ℕ) → Timely r → suc e ≤ c → c < length r.trace
+    → line_at ADS (run_to r c).trace (suc e) ≡ true → BeginsAfter (run_to r e).trace (run_to r c).trace
 begins-after r e c h k l t =
     let size = length-cut r e (omega arith) in
     let same : length (run_to r e).trace ≡ suc e = omega arith in
@@ -139,7 +146,9 @@ begins-after r e c h k l t =
     }
 
 -- each of them is known to its agent, with its ID
-is-known : (r : Run) (e p : ℕ) → Timely r → WantsLawfully r → r.plan.ahead ≤ 4 → suc (suc e) < length r.trace → line_at ADS (run_to r (suc (suc e))).trace (suc e) ≡ true → is_outstanding (run_to r (suc (suc e))).trace (suc e) p ≡ true
+is-known : (r : Run) (e p : ℕ) → Timely r → WantsLawfully r → r.plan.ahead ≤ 4 → suc (suc e) < length r.trace
+    → line_at ADS (run_to r (suc (suc e))).trace (suc e) ≡ true
+    → is_outstanding (run_to r (suc (suc e))).trace (suc e) p ≡ true
     → IsKnown r e p
 unfolding request_begun past_to past_of
 is-known r e p h wants few l t out =
@@ -181,7 +190,9 @@ pub record IsWanted (r : Run) (e a : ℕ) (request : Request) : Type 0 where
   pub want : want_of (past_to (past_of r) (suc e)) a (suc e) ≡ Some request
 
 -- its ID is not taken
-pub id-free : (r : Run) (e a p : ℕ) (request : Request) → Timely r → WantsLawfully r → r.plan.ahead ≤ 4 → suc (suc e) < length r.trace → line_at ADS (run_to r (suc (suc e))).trace (suc e) ≡ true → IsWanted r e a request
+pub id-free : (r : Run) (e a p : ℕ) (request : Request) → Timely r → WantsLawfully r → r.plan.ahead ≤ 4
+    → suc (suc e) < length r.trace → line_at ADS (run_to r (suc (suc e))).trace (suc e) ≡ true
+    → IsWanted r e a request
     → p < suc e → is_id_taken_by (run_to r (suc (suc e))).trace (suc e) p ≡ true → ⊥
 unfolding is_id_taken_by is_id_used owed outstanding past_to past_of
 id-free r e a p request h wants few l t k below taken =
@@ -202,12 +213,15 @@ id-free r e a p request h wants few l t k below taken =
     let used : is_id_used (owed (past_to (past_of r) (suc e)) a (suc e)) request.did ≡ true = ap (λ xs. list_any (λ owing. nat_eq owing.did request.did) (filter (λ owing. nat_eq owing.claim.agent a) xs)) (outstanding-is r e (omega arith)) ∙ there in
     let no : false ≡ true = sym (want-few (past_to (past_of r) (suc e)) a (suc e) request few k.want).2 ∙ used in cc no
 
-is-agent : (o : Option Who) (a b : ℕ) → is_some_and (Some (Symmetric a)) (is_agent o) ≡ true → o ≡ Some (Symmetric b) → b ≡ a
+is-agent : (o : Option Who) (a b : ℕ) → is_some_and (Some (Symmetric a)) (is_agent o) ≡ true
+    → o ≡ Some (Symmetric b) → b ≡ a
 unfolding is_some_and is_agent is_same_agent
 is-agent o a b h e = let h' = rw e at h in sym (eqb-true a b h')
 
 -- few requests of its agent are outstanding
-pub few-outstanding : (r : Run) (e a : ℕ) (request : Request) → Timely r → WantsLawfully r → r.plan.ahead ≤ 4 → suc (suc e) < length r.trace → line_at ADS (run_to r (suc (suc e))).trace (suc e) ≡ true → IsWanted r e a request
+pub few-outstanding : (r : Run) (e a : ℕ) (request : Request) → Timely r → WantsLawfully r → r.plan.ahead ≤ 4
+    → suc (suc e) < length r.trace → line_at ADS (run_to r (suc (suc e))).trace (suc e) ≡ true
+    → IsWanted r e a request
     → count_where (is_outstanding_of_winner (run_to r (suc (suc e))).trace (suc e)) (suc e) < 4
 unfolding is_outstanding_of_winner owed outstanding past_to past_of
 few-outstanding r e a request h wants few l t k =

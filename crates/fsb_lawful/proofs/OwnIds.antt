@@ -51,7 +51,8 @@ count-one-place a (suc k) =
       | inr f ↦ let before = count-one-place a k in rw f (omega arith)
     ]
 
-other-number : (did a k n : ℕ) → nat_eq did (id_of a k) ≡ true → n < k → (b : Bool) → nat_eq did (id_of a n) ≡ b → nat_eq did (id_of a n) ≡ false
+other-number : (did a k n : ℕ) → nat_eq did (id_of a k) ≡ true → n < k → (b : Bool) → nat_eq did (id_of a n) ≡ b
+    → nat_eq did (id_of a n) ≡ false
 unfolding id_of
 other-number did a k n e l false f = f
 other-number did a k n e l true f =
@@ -84,7 +85,8 @@ used-there true e = refl
 used-there false e = absurd (let no : ⊥ = cc in no)
 
 -- the free ID is one of the agent's
-free-own : (a : ℕ) (owings : List Owing) (o : Option ℕ) → length owings < 16 → first_where (λ n. not (is_id_used owings (id_of a n))) (length owings + 1) ≡ o → free_id a owings / 16 ≡ a
+free-own : (a : ℕ) (owings : List Owing) (o : Option ℕ) → length owings < 16
+    → first_where (λ n. not (is_id_used owings (id_of a n))) (length owings + 1) ≡ o → free_id a owings / 16 ≡ a
 unfolding free_id id_of
 free-own a owings None l e =
     let all = count-all (λ n. is_id_used owings (id_of a n)) (length owings + 1) (λ n m. used-there (is_id_used owings (id_of a n)) (first_where-none (λ k. not (is_id_used owings (id_of a k))) (length owings + 1) e n m)) in
@@ -107,20 +109,24 @@ kind-plain false b = refl
 kind-plain true true = refl
 kind-plain true false = refl
 
-want_for-is : (p : Past) (a c : ℕ) (need : Need) (o : Option ℕ) → victim_of p a c need.line ≡ o → IsWant p a c (want_for p a c (owed p a c) need)
+want_for-is : (p : Past) (a c : ℕ) (need : Need) (o : Option ℕ) → victim_of p a c need.line ≡ o
+    → IsWant p a c (want_for p a c (owed p a c) need)
 unfolding want_for write_back_of request_of_kind kind_needed is_reply_kind
 want_for-is p a c need (Some victim) e = rw (e, want_for) (record { no_reply = refl; own = refl })
 want_for-is p a c need None e =
     rw (e, want_for) (record { no_reply = kind-plain need.alone (may_upgrade p a c need.line); own = refl })
 
-want_if-is : (p : Past) (a c : ℕ) (request : Request) (o : Option Need) → option_map (want_for p a c (owed p a c)) o ≡ Some request → IsWant p a c request
+want_if-is : (p : Past) (a c : ℕ) (request : Request) (o : Option Need)
+    → option_map (want_for p a c (owed p a c)) o ≡ Some request → IsWant p a c request
 want_if-is p a c request None f = absurd (let no : ⊥ = cc in no)
 want_if-is p a c request (Some need) f =
     let same : want_for p a c (owed p a c) need ≡ request = cc in
     subst (IsWant p a c) same (want_for-is p a c need (victim_of p a c need.line) refl)
 
 -- and none of the outstanding requests has it
-free-unused : (a : ℕ) (owings : List Owing) (o : Option ℕ) → length owings < 16 → first_where (λ n. not (is_id_used owings (id_of a n))) (length owings + 1) ≡ o → is_id_used owings (free_id a owings) ≡ false
+free-unused : (a : ℕ) (owings : List Owing) (o : Option ℕ) → length owings < 16
+    → first_where (λ n. not (is_id_used owings (id_of a n))) (length owings + 1) ≡ o
+    → is_id_used owings (free_id a owings) ≡ false
 unfolding free_id
 free-unused a owings None l e =
     let all = count-all (λ n. is_id_used owings (id_of a n)) (length owings + 1) (λ n m. used-there (is_id_used owings (id_of a n)) (first_where-none (λ k. not (is_id_used owings (id_of a k))) (length owings + 1) e n m)) in
@@ -133,7 +139,9 @@ free-unused a owings (Some n) l e =
     unused true t = absurd (let no : ⊥ = cc in no)
     unused false t = refl
 
-want_by : (p : Past) (a c : ℕ) (request : Request) (b : Bool) → (is_idling p a c || nat_le p.plan.ahead (length (owed p a c))) ≡ b → want_of p a c ≡ Some request → (length (owed p a c) < p.plan.ahead) × IsWant p a c request
+want_by : (p : Past) (a c : ℕ) (request : Request) (b : Bool)
+    → (is_idling p a c || nat_le p.plan.ahead (length (owed p a c))) ≡ b → want_of p a c ≡ Some request
+    → (length (owed p a c) < p.plan.ahead) × IsWant p a c request
 unfolding want_of
 want_by p a c request true t e = absurd (let h : ⊥ = (let e' = rw (t, want_of) at e in cc) in h)
 want_by p a c request false f e =
@@ -143,7 +151,8 @@ want_by p a c request false f e =
     )
 
 -- an agent's want is no reply, and has an ID of the agent
-pub want-own : (p : Past) (a c : ℕ) (request : Request) → p.plan.ahead ≤ 4 → want_of p a c ≡ Some request → (is_reply_kind request.kind ≡ false) × (request.did / 16 ≡ a)
+pub want-own : (p : Past) (a c : ℕ) (request : Request) → p.plan.ahead ≤ 4 → want_of p a c ≡ Some request
+    → (is_reply_kind request.kind ≡ false) × (request.did / 16 ≡ a)
 want-own p a c request few e =
     let h = want_by p a c request (is_idling p a c || nat_le p.plan.ahead (length (owed p a c))) refl e in
     let is = h.1 in
@@ -151,7 +160,8 @@ want-own p a c request few e =
     (is.no_reply, ap (λ d. d / 16) is.own ∙ free-own a (owed p a c) (first_where (λ n. not (is_id_used (owed p a c) (id_of a n))) (length (owed p a c) + 1)) (omega arith) refl)
 
 -- an agent that wants something has fewer requests outstanding than it may, and none of them has the want's ID
-pub want-few : (p : Past) (a c : ℕ) (request : Request) → p.plan.ahead ≤ 4 → want_of p a c ≡ Some request → (length (owed p a c) < p.plan.ahead) × (request.did ≡ free_id a (owed p a c)) × (is_id_used (owed p a c) request.did ≡ false)
+pub want-few : (p : Past) (a c : ℕ) (request : Request) → p.plan.ahead ≤ 4 → want_of p a c ≡ Some request
+    → (length (owed p a c) < p.plan.ahead) × (request.did ≡ free_id a (owed p a c)) × (is_id_used (owed p a c) request.did ≡ false)
 want-few p a c request few e =
     let h = want_by p a c request (is_idling p a c || nat_le p.plan.ahead (length (owed p a c))) refl e in
     let is = h.1 in

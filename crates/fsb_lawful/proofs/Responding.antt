@@ -45,7 +45,8 @@ mapped : (o : Option ℕ) (g : ℕ → ℕ) (t : ℕ) → option_map g o ≡ Som
 mapped None g t e = absurd (let no : ⊥ = cc in no)
 mapped (Some y) g t e = (y, refl, cc)
 
-responding_by : (w : Trace) (wait t i : ℕ) (b : Bool) → takes w i ≡ b → is_response_from b (answer_from w i) (ready_clock_of w i) wait t ≡ true → Responding w wait t i
+responding_by : (w : Trace) (wait t i : ℕ) (b : Bool) → takes w i ≡ b
+    → is_response_from b (answer_from w i) (ready_clock_of w i) wait t ≡ true → Responding w wait t i
 unfolding is_response_from
 responding_by w wait t i true k e =
     let p = mapped (ready_clock_of w i) (λ y. y + 2 + wait) t (is_at-some _ t e) in
@@ -63,7 +64,8 @@ responding-answer w wait t i (inr k) =
     answer_later w k.from t i (omega (arith, k.waits)) (answer_from-answer w i k.from k.is_from)
 
 -- it stays
-pub responding-stays : (n : ℕ) (w v : Trace) (wait t i : ℕ) → AgreeTo n w v → t ≤ n → Responding w wait t i → Responding v wait t i
+pub responding-stays : (n : ℕ) (w v : Trace) (wait t i : ℕ) → AgreeTo n w v → t ≤ n → Responding w wait t i
+    → Responding v wait t i
 responding-stays n w v wait t i a l (inl k) =
     let h = responding-answer w wait t i (inl k) in
     let same = takes-stays n w v i h.snoop a (omega (arith, h.before)) h.is_snoop in
@@ -87,7 +89,8 @@ one-response w wait t u i (inl k) (inr m) = let no : true ≡ false = sym k.does
 one-response w wait t u i (inr k) (inl m) = let no : true ≡ false = sym m.does_take ∙ k.takes_none in absurd (cc no)
 
 -- the request whose response clock is c in the run up to c
-pub responding-now : (r : Run) (c i : ℕ) → c < length r.trace → is_response_clock (run_to r c) c i ≡ true → Responding (run_to r c).trace (live_choice r i).resp c i
+pub responding-now : (r : Run) (c i : ℕ) → c < length r.trace → is_response_clock (run_to r c) c i ≡ true
+    → Responding (run_to r c).trace (live_choice r i).resp c i
 unfolding is_response_clock
 responding-now r c i l e =
     let v = (run_to r c).trace in
@@ -100,7 +103,8 @@ pub ready-answer : (w : Trace) (wait t i : ℕ) → IsReadyDue w wait t i → Ha
 ready-answer w wait t i k = answer_later w k.from t i (omega (arith, k.waits)) (answer_from-answer w i k.from k.is_from)
 
 -- it stays
-pub ready-stays : (n : ℕ) (w v : Trace) (wait t i : ℕ) → AgreeTo n w v → t ≤ n → IsReadyDue w wait t i → IsReadyDue v wait t i
+pub ready-stays : (n : ℕ) (w v : Trace) (wait t i : ℕ) → AgreeTo n w v → t ≤ n → IsReadyDue w wait t i
+    → IsReadyDue v wait t i
 ready-stays n w v wait t i a l k =
     let h = ready-answer w wait t i k in
     let same = takes-stays n w v i h.snoop a (omega (arith, h.before)) h.is_snoop in
@@ -114,7 +118,8 @@ one-ready w wait t u i k m =
     let same : k.from ≡ m.from = cc in omega (arith, k.waits, m.waits)
 
 -- the request whose target is to be ready at c in the run up to c
-pub ready-now : (r : Run) (c i : ℕ) → c < length r.trace → is_ready_due (run_to r c) c i ≡ true → IsReadyDue (run_to r c).trace (live_choice r i).trdy c i
+pub ready-now : (r : Run) (c i : ℕ) → c < length r.trace → is_ready_due (run_to r c) c i ≡ true
+    → IsReadyDue (run_to r c).trace (live_choice r i).trdy c i
 unfolding is_ready_due is_ready_from
 ready-now r c i l e =
     let v = (run_to r c).trace in

@@ -1,6 +1,5 @@
 -- Rule 14: each response of a timely run has the code of its settled outcome, which is what is told of it.
-use Rattle.std.proofs.Common.{ℕ, ◌+◌, ◌<◌, ◌≤◌, ◌≡◌, Bool, true, false, cond, not, ◌&&◌, ◌||◌, List, Option, Some, None, length, take, nat_eq, nat_le, nat_lt, slice_index, refl, sym, ap, ◌∙◌, arith, inl, inr, subst}
-use Rattle.std.specs.Option.{option_map, option_map_or, option_and_then}
+use Rattle.std.proofs.Common.{ℕ, ◌+◌, ◌<◌, ◌≤◌, ◌≡◌, Bool, true, false, not, Option, Some, None, length, take, nat_eq, nat_le, nat_lt, refl, sym, ap, ◌∙◌, arith, subst}
 use Rattle.std.proofs.lemmas.Bool.{and_from, and_parts, le-leb, lt-ltb, ne_eqb}
 use Rattle.fsb_count.specs.Options.{is_some_and}
 use Rattle.fsb_count.proofs.Interface.{nth_where-found}
@@ -9,13 +8,12 @@ use Rattle.fsb_encode.specs.declared.request.Kind.TheVariants.{Reply, Invalidate
 use Rattle.fsb_encode.specs.declared.request.Request.{Request}
 use Rattle.fsb_hazard.specs.declared.choice.Turn.{Turn}
 use Rattle.fsb_hazard.specs.declared.choice.Turn.TheVariants.{Keep, Retry, Defer}
-use Rattle.fsb_hazard.specs.Choice.{is_never_held_up, is_defer}
+use Rattle.fsb_hazard.specs.Choice.{is_never_held_up}
 use Rattle.fsb_signal.specs.declared.lines.TheConstants.Lines.{HITM, DEFER}
 use Rattle.fsb_signal.specs.declared.marks.Marks.{Marks}
 use Rattle.fsb_signal.specs.Samples.{line_at}
 use Rattle.fsb_trace.specs.At.{Trace, responds_at, response_code_at}
 use Rattle.fsb_trace.specs.declared.outcome.Outcome.{Outcome}
-use Rattle.fsb_trace.specs.declared.outcome.Outcome.TheVariants.{Granted, Handed, Retried, Deferred, Written, Replied, Failed, Upgraded}
 use Rattle.fsb_trace.specs.Outcome.{outcome_by_kind, response_code_of, response_clock_of, told_by, outcome_of, settled_by}
 use Rattle.fsb_trace.specs.Requests.{live_count, live_request_of, is_write_back, is_write_back_kind, is_upgrade, is_upgrade_kind}
 use Rattle.fsb_trace.specs.Rules.{has_den, is_code_for, has_code_at, responds_soundly, is_code_wrong, next_response}
@@ -41,11 +39,14 @@ number-retry later = ne_eqb (later + 2) 1 (λ e. omega arith)
 number-defer : (later : ℕ) → nat_le 2 (later + 2) ≡ true
 number-defer later = le-leb 2 (later + 2) (omega arith)
 
-handed-fits : (w : Trace) (i s turn : ℕ) → snoop_end_of w i ≡ Some s → line_at HITM w s ≡ true → is_code_for w i (response_code_of (settled_by w turn i s)) ≡ true
+handed-fits : (w : Trace) (i s turn : ℕ) → snoop_end_of w i ≡ Some s → line_at HITM w s ≡ true
+    → is_code_for w i (response_code_of (settled_by w turn i s)) ≡ true
 unfolding is_code_for settled_by line_at_snoop_end is_some_and response_code_of
 handed-fits w i s turn e t = rw (e, t) refl
 
-kept-fits : (w : Trace) (i s : ℕ) (request : Request) (kind : Kind) → snoop_end_of w i ≡ Some s → line_at HITM w s ≡ false → line_at DEFER w s ≡ false → live_request_of w i ≡ Some request → request.kind ≡ kind
+kept-fits : (w : Trace) (i s : ℕ) (request : Request) (kind : Kind) → snoop_end_of w i ≡ Some s
+    → line_at HITM w s ≡ false → line_at DEFER w s ≡ false → live_request_of w i ≡ Some request
+    → request.kind ≡ kind
     → is_code_for w i (response_code_of (settled_by w (number_of_turn Keep) i s)) ≡ true
 unfolding is_code_for settled_by line_at_snoop_end is_some_and response_code_of number_of_turn outcome_by_kind is_write_back is_write_back_kind is_upgrade is_upgrade_kind
 kept-fits w i s request Reply e f d q k = rw (e, f, d, q, k) refl
@@ -62,18 +63,23 @@ not-written Read h = refl
 not-written WriteBack h = absurd (h refl)
 not-written Upgrade h = refl
 
-retried-fits : (w : Trace) (i s : ℕ) (request : Request) → snoop_end_of w i ≡ Some s → line_at HITM w s ≡ false → line_at DEFER w s ≡ true → live_request_of w i ≡ Some request → is_write_back_kind request.kind ≡ false
+retried-fits : (w : Trace) (i s : ℕ) (request : Request) → snoop_end_of w i ≡ Some s → line_at HITM w s ≡ false
+    → line_at DEFER w s ≡ true → live_request_of w i ≡ Some request → is_write_back_kind request.kind ≡ false
     → is_code_for w i (response_code_of (settled_by w (number_of_turn Retry) i s)) ≡ true
 unfolding is_code_for settled_by line_at_snoop_end is_some_and response_code_of number_of_turn is_write_back
 retried-fits w i s request e f d q k = rw (e, f, d, q, k) refl
 
-deferred-fits : (w : Trace) (i s later : ℕ) (request : Request) → snoop_end_of w i ≡ Some s → line_at HITM w s ≡ false → line_at DEFER w s ≡ true → live_request_of w i ≡ Some request → is_write_back_kind request.kind ≡ false → request.den ≡ true
+deferred-fits : (w : Trace) (i s later : ℕ) (request : Request) → snoop_end_of w i ≡ Some s
+    → line_at HITM w s ≡ false → line_at DEFER w s ≡ true → live_request_of w i ≡ Some request
+    → is_write_back_kind request.kind ≡ false → request.den ≡ true
     → is_code_for w i (response_code_of (settled_by w (number_of_turn (Defer later)) i s)) ≡ true
 unfolding is_code_for settled_by line_at_snoop_end is_some_and response_code_of number_of_turn is_write_back has_den
 deferred-fits w i s later request e f d q k n = rw (e, f, d, q, k, n, number-retry later, number-defer later) refl
 
 -- the code of a settled outcome is one that its request may have
-code-fits : (w : Trace) (i s : ℕ) (turn : Turn) (request : Request) (b : Bool) → snoop_end_of w i ≡ Some s → line_at HITM w s ≡ b → live_request_of w i ≡ Some request → line_at DEFER w s ≡ not (is_keep turn) → TurnFits turn request
+code-fits : (w : Trace) (i s : ℕ) (turn : Turn) (request : Request) (b : Bool) → snoop_end_of w i ≡ Some s
+    → line_at HITM w s ≡ b → live_request_of w i ≡ Some request → line_at DEFER w s ≡ not (is_keep turn)
+    → TurnFits turn request
     → is_code_for w i (response_code_of (settled_by w (number_of_turn turn) i s)) ≡ true
 unfolding is_keep
 code-fits w i s turn request true e f q d fits = handed-fits w i s (number_of_turn turn) e f
@@ -83,24 +89,31 @@ code-fits w i s Retry request false e f q d fits =
 code-fits w i s (Defer later) request false e f q d fits =
     deferred-fits w i s later request e f d q (not-written request.kind (λ t. let no : Defer later ≡ Keep = fits.keeps t in cc no)) (fits.has_den refl)
 
-told-handed : (w : Trace) (i s turn : ℕ) → snoop_end_of w i ≡ Some s → line_at HITM w s ≡ true → told_by w i (response_code_of (settled_by w turn i s)) ≡ settled_by w turn i s
+told-handed : (w : Trace) (i s turn : ℕ) → snoop_end_of w i ≡ Some s → line_at HITM w s ≡ true
+    → told_by w i (response_code_of (settled_by w turn i s)) ≡ settled_by w turn i s
 unfolding told_by settled_by line_at_snoop_end is_some_and response_code_of
 told-handed w i s turn e t = rw (e, t) refl
 
-told-retried : (w : Trace) (i s turn : ℕ) → snoop_end_of w i ≡ Some s → line_at HITM w s ≡ false → nat_eq turn 1 ≡ true → told_by w i (response_code_of (settled_by w turn i s)) ≡ settled_by w turn i s
+told-retried : (w : Trace) (i s turn : ℕ) → snoop_end_of w i ≡ Some s → line_at HITM w s ≡ false
+    → nat_eq turn 1 ≡ true → told_by w i (response_code_of (settled_by w turn i s)) ≡ settled_by w turn i s
 unfolding told_by settled_by line_at_snoop_end is_some_and response_code_of
 told-retried w i s turn e f a = rw (e, f, a) refl
 
-told-deferred : (w : Trace) (i s turn : ℕ) → snoop_end_of w i ≡ Some s → line_at HITM w s ≡ false → nat_eq turn 1 ≡ false → nat_le 2 turn ≡ true → told_by w i (response_code_of (settled_by w turn i s)) ≡ settled_by w turn i s
+told-deferred : (w : Trace) (i s turn : ℕ) → snoop_end_of w i ≡ Some s → line_at HITM w s ≡ false
+    → nat_eq turn 1 ≡ false → nat_le 2 turn ≡ true
+    → told_by w i (response_code_of (settled_by w turn i s)) ≡ settled_by w turn i s
 unfolding told_by settled_by line_at_snoop_end is_some_and response_code_of
 told-deferred w i s turn e f a b = rw (e, f, a, b) refl
 
-told-unknown : (w : Trace) (i s turn : ℕ) → snoop_end_of w i ≡ Some s → line_at HITM w s ≡ false → nat_eq turn 1 ≡ false → nat_le 2 turn ≡ false → live_request_of w i ≡ None
+told-unknown : (w : Trace) (i s turn : ℕ) → snoop_end_of w i ≡ Some s → line_at HITM w s ≡ false
+    → nat_eq turn 1 ≡ false → nat_le 2 turn ≡ false → live_request_of w i ≡ None
     → told_by w i (response_code_of (settled_by w turn i s)) ≡ settled_by w turn i s
 unfolding told_by settled_by line_at_snoop_end is_some_and response_code_of outcome_by_kind
 told-unknown w i s turn e f a b q = rw (e, f, a, b, q) refl
 
-told-kind : (w : Trace) (i s turn : ℕ) (request : Request) (kind : Kind) → snoop_end_of w i ≡ Some s → line_at HITM w s ≡ false → nat_eq turn 1 ≡ false → nat_le 2 turn ≡ false → live_request_of w i ≡ Some request → request.kind ≡ kind
+told-kind : (w : Trace) (i s turn : ℕ) (request : Request) (kind : Kind) → snoop_end_of w i ≡ Some s
+    → line_at HITM w s ≡ false → nat_eq turn 1 ≡ false → nat_le 2 turn ≡ false
+    → live_request_of w i ≡ Some request → request.kind ≡ kind
     → told_by w i (response_code_of (settled_by w turn i s)) ≡ settled_by w turn i s
 unfolding told_by settled_by line_at_snoop_end is_some_and response_code_of outcome_by_kind
 told-kind w i s turn request Reply e f a b q k = rw (e, f, a, b, q, k) refl
@@ -109,7 +122,8 @@ told-kind w i s turn request Read e f a b q k = rw (e, f, a, b, q, k) refl
 told-kind w i s turn request WriteBack e f a b q k = rw (e, f, a, b, q, k) refl
 told-kind w i s turn request Upgrade e f a b q k = rw (e, f, a, b, q, k) refl
 
-told-by : (w : Trace) (i s turn : ℕ) (h a b : Bool) (o : Option Request) → snoop_end_of w i ≡ Some s → line_at HITM w s ≡ h → nat_eq turn 1 ≡ a → nat_le 2 turn ≡ b → live_request_of w i ≡ o
+told-by : (w : Trace) (i s turn : ℕ) (h a b : Bool) (o : Option Request) → snoop_end_of w i ≡ Some s
+    → line_at HITM w s ≡ h → nat_eq turn 1 ≡ a → nat_le 2 turn ≡ b → live_request_of w i ≡ o
     → told_by w i (response_code_of (settled_by w turn i s)) ≡ settled_by w turn i s
 told-by w i s turn true a b o e f g k q = told-handed w i s turn e f
 told-by w i s turn false true b o e f g k q = told-retried w i s turn e f g
@@ -118,22 +132,27 @@ told-by w i s turn false false false None e f g k q = told-unknown w i s turn e 
 told-by w i s turn false false false (Some request) e f g k q = told-kind w i s turn request request.kind e f g k q refl
 
 -- the code of a settled outcome tells that outcome
-pub told-settled : (w : Trace) (i s turn : ℕ) → snoop_end_of w i ≡ Some s → told_by w i (response_code_of (settled_by w turn i s)) ≡ settled_by w turn i s
+pub told-settled : (w : Trace) (i s turn : ℕ) → snoop_end_of w i ≡ Some s
+    → told_by w i (response_code_of (settled_by w turn i s)) ≡ settled_by w turn i s
 told-settled w i s turn e = told-by w i s turn (line_at HITM w s) (nat_eq turn 1) (nat_le 2 turn) (live_request_of w i) e refl refl refl refl
 
-code_by : (v : Run) (c i : ℕ) (x : Outcome) → number_responding v c ≡ Some i → settled_of v (past_of v) i ≡ Some x → code_due v (past_of v) c ≡ response_code_of x
+code_by : (v : Run) (c i : ℕ) (x : Outcome) → number_responding v c ≡ Some i
+    → settled_of v (past_of v) i ≡ Some x → code_due v (past_of v) c ≡ response_code_of x
 unfolding code_due
 code_by v c i x n e = rw (n, e) refl
 
 -- the code of a response is that of the settled outcome of the next request to respond
-code-settled : (r : Run) (c s : ℕ) → Timely r → c < length r.trace → responds_at (run_to r c).trace c ≡ true → (k : Turned r c (next_response (run_to r c).trace c) s)
+code-settled : (r : Run) (c s : ℕ) → Timely r → c < length r.trace → responds_at (run_to r c).trace c ≡ true
+    → (k : Turned r c (next_response (run_to r c).trace c) s)
     → response_code_at (run_to r c).trace c ≡ response_code_of (settled_by (run_to r c).trace (number_of_turn k.end.turn) (next_response (run_to r c).trace c) s)
 code-settled r c s h l t k =
     let v = run_to r c in
     let i = next_response v.trace c in
     (transfers-at r c h l).code ∙ code_by v c i (settled_by v.trace (number_of_turn k.end.turn) i s) (answered-next r c h l t).0 k.settled
 
-has-code : (r : Run) (c : ℕ) → Timely r → WantsLawfully r → c < length r.trace → responds_at (run_to r c).trace c ≡ true → has_code_at (run_to r c).trace c (next_response (run_to r c).trace c) ≡ true
+has-code : (r : Run) (c : ℕ) → Timely r → WantsLawfully r → c < length r.trace
+    → responds_at (run_to r c).trace c ≡ true
+    → has_code_at (run_to r c).trace c (next_response (run_to r c).trace c) ≡ true
 unfolding has_code_at
 has-code r c h wants l t =
     let v = (run_to r c).trace in
@@ -151,7 +170,8 @@ responds_by : (v : Trace) (c : ℕ) → responds_soundly v c ≡ true → respon
 unfolding responds_soundly
 responds_by v c e = (and_parts (responds_at v c) _ e).0
 
-at-clock : (r : Run) (c : ℕ) → Timely r → WantsLawfully r → c < length r.trace → is_code_wrong (run_to r c).trace c ≡ false
+at-clock : (r : Run) (c : ℕ) → Timely r → WantsLawfully r → c < length r.trace
+    → is_code_wrong (run_to r c).trace c ≡ false
 unfolding is_code_wrong
 at-clock r c h wants l =
     let v = (run_to r c).trace in
@@ -170,7 +190,8 @@ pub record AnsweredAs (r : Run) (t i : ℕ) : Type 0 where
   pub turned : Turned r t i snoop
   pub code : response_code_at (run_to r t).trace t ≡ response_code_of (settled_by (run_to r t).trace (number_of_turn turned.end.turn) i snoop)
 
-pub answered-as : (r : Run) (t i : ℕ) → Timely r → t < length r.trace → responds_at (run_to r t).trace t ≡ true → next_response (run_to r t).trace t ≡ i → AnsweredAs r t i
+pub answered-as : (r : Run) (t i : ℕ) → Timely r → t < length r.trace → responds_at (run_to r t).trace t ≡ true
+    → next_response (run_to r t).trace t ≡ i → AnsweredAs r t i
 answered-as r t i h l k same =
     let v = (run_to r t).trace in
     let n = next_response v t in
@@ -185,7 +206,8 @@ pub record ToldAsSettled (r : Run) (c i t : ℕ) : Type 0 where
   pub before : snoop + 2 ≤ t
   pub outcome : outcome_of (run_to r c).trace i ≡ settled_of (run_to r c) (past_of (run_to r c)) i
 
-same-settled : (r : Run) (t c i s : ℕ) (j : Turned r t i s) (k : Turned r c i s) → settled_by (run_to r t).trace (number_of_turn j.end.turn) i s ≡ settled_by (run_to r c).trace (number_of_turn k.end.turn) i s
+same-settled : (r : Run) (t c i s : ℕ) (j : Turned r t i s) (k : Turned r c i s)
+    → settled_by (run_to r t).trace (number_of_turn j.end.turn) i s ≡ settled_by (run_to r c).trace (number_of_turn k.end.turn) i s
 same-settled r t c i s j k =
     let a = j.settled in
     let b = j.outcome in
@@ -198,11 +220,13 @@ same-settled r t c i s j k =
     let two : settled_by (run_to r c).trace (number_of_turn k.end.turn) i s ≡ k.end.outcome = cc in
     one ∙ ap (λ x. x.outcome) end ∙ sym two
 
-outcome-at : (w : Trace) (i s t code : ℕ) → snoop_end_of w i ≡ Some s → response_clock_of w i ≡ Some t → response_code_at w t ≡ code → outcome_of w i ≡ Some (told_by w i code)
+outcome-at : (w : Trace) (i s t code : ℕ) → snoop_end_of w i ≡ Some s → response_clock_of w i ≡ Some t
+    → response_code_at w t ≡ code → outcome_of w i ≡ Some (told_by w i code)
 unfolding outcome_of
 outcome-at w i s t code e f g = rw (live_response_of-there w i s e, f, g) refl
 
-pub told-as-settled : (r : Run) (c i t : ℕ) → Timely r → c < length r.trace → response_clock_of (run_to r c).trace i ≡ Some t → ToldAsSettled r c i t
+pub told-as-settled : (r : Run) (c i t : ℕ) → Timely r → c < length r.trace
+    → response_clock_of (run_to r c).trace i ≡ Some t → ToldAsSettled r c i t
 unfolding response_clock_of next_response
 told-as-settled r c i t h l e =
     let v = (run_to r c).trace in

@@ -28,14 +28,16 @@ unfolding snoop_end_of snoop_start_of
 end_of_start w zero = refl
 end_of_start w (suc i) = refl
 
-second_by : (w : Trace) (s : ℕ) (o : Option ℕ) → option_and_then (snoop_end_from w) o ≡ Some s → is_some_and o (λ start. is_every_second_from start s) ≡ true
+second_by : (w : Trace) (s : ℕ) (o : Option ℕ) → option_and_then (snoop_end_from w) o ≡ Some s
+    → is_some_and o (λ start. is_every_second_from start s) ≡ true
 unfolding is_some_and snoop_end_from ends_snoop
 second_by w s None e = absurd (let no : ⊥ = cc in no)
 second_by w s (Some n) e =
     let h = first_where-found (ends_snoop w n) (length w) s e in (and_parts (is_every_second_from n s) (not (stalls_at w s)) h.1).0
 
 -- it is every second clock from that start
-second : (w : Trace) (i s : ℕ) → snoop_end_of w i ≡ Some s → is_some_and (snoop_start_of w i) (λ start. is_every_second_from start s) ≡ true
+second : (w : Trace) (i s : ℕ) → snoop_end_of w i ≡ Some s
+    → is_some_and (snoop_start_of w i) (λ start. is_every_second_from start s) ≡ true
 unfolding snoop_end_if
 second w i s e = second_by w s (snoop_start_of w i) (sym (end_of_start w i) ∙ e)
 
@@ -51,12 +53,15 @@ end-is_snoop_clock w i s e =
     any_where-at (is_snoop_clock_of w s) (live_count w) i (live_below_count w i h.clock h.is_clock) (rw (lt-ltb s (length w) h.within, second w i s e, not-before s (snoop_end_of w i) e) refl)
 
 -- where the moment of a clock has a snoop end, the clock is one
-numbered : (r : Run) (c : ℕ) (test : SnoopEnd → Bool) (o : Option ℕ) → number_snooped_at (run_to r c).trace c ≡ o → is_some_and (moment_of r c).snooped test ≡ true → (i : ℕ) × (snoop_end_of (run_to r c).trace i ≡ Some c)
+numbered : (r : Run) (c : ℕ) (test : SnoopEnd → Bool) (o : Option ℕ)
+    → number_snooped_at (run_to r c).trace c ≡ o → is_some_and (moment_of r c).snooped test ≡ true
+    → (i : ℕ) × (snoop_end_of (run_to r c).trace i ≡ Some c)
 unfolding is_some_and snoop_at moment_at
 numbered r c test None e h = let no : false ≡ true = rw (e, snoop_at) at h in absurd (cc no)
 numbered r c test (Some i) e h = (i, number-says (run_to r c).trace i c e)
 
-put_off-end : (r : Run) (c : ℕ) → c < length r.trace → is_put_off (past_to (past_of r) c) c ≡ true → (i : ℕ) × (snoop_end_of (run_to r c).trace i ≡ Some c)
+put_off-end : (r : Run) (c : ℕ) → c < length r.trace → is_put_off (past_to (past_of r) c) c ≡ true
+    → (i : ℕ) × (snoop_end_of (run_to r c).trace i ≡ Some c)
 unfolding is_put_off
 put_off-end r c l h =
     let there = snooped-to (past_of r) c c (omega arith) ∙ snooped-there r c l in
@@ -73,7 +78,8 @@ alone false true d false e f = absurd (let no : ⊥ = cc in no)
 alone false false true false e f = sym (f refl)
 alone false false false false e f = refl
 
-by-parts : (r : Run) (p : Past) (c : ℕ) → drives_hazards r p c ≡ true → (is_put_off p c ≡ true → is_snoop_clock r.trace c ≡ true) → is_snoop_line_alone r.trace c ≡ false
+by-parts : (r : Run) (p : Past) (c : ℕ) → drives_hazards r p c ≡ true
+    → (is_put_off p c ≡ true → is_snoop_clock r.trace c ≡ true) → is_snoop_line_alone r.trace c ≡ false
 unfolding drives_hazards drives_defer keeps_snoop_lines is_snoop_line_alone
 by-parts r p c e f =
     let a = and5 (drives_bnr r c) (drives_aerr r c) (drives_stalls r c) (drives_defer r p c) (keeps_snoop_lines r c) e in

@@ -50,7 +50,7 @@ unfolding begun_at
 begun-same n p q t h l =
     ap (λ o. option_map (λ owing. owing.claim) (option_and_then (λ moment. moment.begun) o)) (h.same_moments t l)
 
-ends-same : (n : ℕ) (p q : Past) (t : ℕ) → Alike n p q → t < n → ended_requests p t ≡ ended_requests q t
+pub ends-same : (n : ℕ) (p q : Past) (t : ℕ) → Alike n p q → t < n → ended_requests p t ≡ ended_requests q t
 unfolding ended_requests
 ends-same n p q t h l = ap (λ o. option_map_or (λ moment. moment.ended) o []) (h.same_moments t l)
 

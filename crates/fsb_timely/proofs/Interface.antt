@@ -9,3 +9,7 @@ pub use Rattle.fsb_timely.proofs.Moments.{moment-at, moment-snooped, moment_of, 
 pub use Rattle.fsb_timely.proofs.Next.{length-moments}
 -- The snoop ends of a run, in its moments and in its whole trace.
 pub use Rattle.fsb_timely.proofs.TiedMoments.{snoop-tied}
+-- What an agent wants at a clock rests on the past up to that clock, and stays where it owes no more.
+pub use Rattle.fsb_timely.proofs.Completing.{timely-want-stays}
+pub use Rattle.fsb_timely.proofs.GoingDirty.{below_le, done_below}
+pub use Rattle.fsb_timely.proofs.GoingWants.{want_of-alike}

@@ -19,7 +19,7 @@ unfolding is_done_by is_done_at
 done-more a c done = and-or (nat_eq done.agent a) (nat_lt done.clock c) (nat_eq done.clock c) (nat_lt done.clock (c + 1)) (nat_lt-more done.clock c)
 
 -- an entry that is not at c
-done-same : (a c : ℕ) (done : Done) → is_done_at a c done ≡ false → is_done_by a (c + 1) done ≡ is_done_by a c done
+pub done-same : (a c : ℕ) (done : Done) → is_done_at a c done ≡ false → is_done_by a (c + 1) done ≡ is_done_by a c done
 done-same a c done e = done-more a c done ∙ or-nothing (is_done_by a c done) (is_done_at a c done) e
   where
     or-nothing : (x y : Bool) → y ≡ false → (x || y) ≡ x

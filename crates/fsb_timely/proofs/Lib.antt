@@ -19,6 +19,16 @@ pub mod TiedGrants
 pub mod TiedMoments
 pub mod Wanted
 pub mod Items
+pub mod MomentFields
+pub mod WantedRequests
+pub mod MemoryStays
+pub mod WholePast
+pub mod StayingWants
+pub mod WindowSteps
+pub mod LoggedItems
+pub mod Completing
+pub mod FollowedScripts
+pub mod ScriptPlaces
 pub mod OneEnd
 pub mod ToldLines
 pub mod Outstanding

@@ -17,7 +17,7 @@ last_where-found test (suc n) c e =
     ]
 
 -- where a clock passes, the last one that passes is that clock or a later one
-last_where-from : (test : ℕ → Bool) (n c : ℕ) → c < n → test c ≡ true → (d : ℕ) × (last_where test n ≡ Some d) × (c ≤ d)
+pub last_where-from : (test : ℕ → Bool) (n c : ℕ) → c < n → test c ≡ true → (d : ℕ) × (last_where test n ≡ Some d) × (c ≤ d)
 unfolding last_where
 last_where-from test zero c l t = absurd (omega arith)
 last_where-from test (suc n) c l t =

@@ -11,7 +11,7 @@ use Rattle.fsb_timely.specs.Hits.{is_met, is_dirty}
 use Rattle.fsb_timely.specs.Wants.{request_of_kind, owed, is_asked_for, is_same_set, is_set_taken, is_missing, least_of, victim_of, write_back_of, want_for, want_of, request_of_kind}
 
 -- what is found passes the test
-find-passes : {X : Type 0} (test : X → Bool) (xs : List X) (x : X) → find test xs ≡ Some x → test x ≡ true
+pub find-passes : {X : Type 0} (test : X → Bool) (xs : List X) (x : X) → find test xs ≡ Some x → test x ≡ true
 find-passes test [] x e = absurd (let h : ⊥ = cc in h)
 find-passes test (y ∷ ys) x e =
     elim (cases_Bool (test y)) [
@@ -65,7 +65,7 @@ not_asked p line other (owing ∷ owings) e s =
     rw (differs (is_same_set p line) owing.claim.line other parts.0 s) (not_asked p line other owings parts.1 s)
 
 -- what is known of a need that may be asked for: no request is for its line, and none for a line of its set
-missing-parts : (p : Past) (a c : ℕ) (owings : List Owing) (need : Need) → is_missing p a c owings need ≡ true
+pub missing-parts : (p : Past) (a c : ℕ) (owings : List Owing) (need : Need) → is_missing p a c owings need ≡ true
     → (is_asked_for owings need.line ≡ false) × (list_any (λ owing. is_same_set p need.line owing.claim.line) owings ≡ false)
 unfolding is_missing is_set_taken
 missing-parts p a c owings need e =

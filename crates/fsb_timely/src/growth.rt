@@ -17,25 +17,26 @@ ghost use Rattle.fsb_timely.specs.Timely.{holds_at, IsTimelyAt};
 pub fn runs_end_at_their_clock()
     ensures run { (r s : Run) → GrowsTo r s → run_to s (length r.trace) ≡ s }
     ensures past { (r s : Run) → GrowsTo r s → past_to (past_of s) (length r.trace) ≡ past_of s }
-    ensures earlier_run { (r s : Run) (n : ℕ) → GrowsTo r s → n + 1 ≡ length r.trace → run_to s n ≡ r }
-    ensures earlier_past { (r s : Run) (n : ℕ) → GrowsTo r s → n + 1 ≡ length r.trace
-        → past_to (past_of s) n ≡ past_of r }
-    ensures moments { (r s : Run) → GrowsTo r s
-        → (past_of s).moments ≡ (past_of r).moments ++ moment_at_growth r s ∷ [] }
-    ensures entries { (r s : Run) (grows : GrowsTo r s)
-        → filter (λ done. nat_eq done.clock (length r.trace)) s.log ≡ grows.next.entries }
+    ensures earlier_run { (r s : Run) (n : ℕ) → GrowsTo r s → n + 1 ≡ length r.trace →
+        run_to s n ≡ r }
+    ensures earlier_past { (r s : Run) (n : ℕ) → GrowsTo r s → n + 1 ≡ length r.trace →
+        past_to (past_of s) n ≡ past_of r }
+    ensures moments { (r s : Run) → GrowsTo r s →
+        (past_of s).moments ≡ (past_of r).moments ++ moment_at_growth r s ∷ [] }
+    ensures entries { (r s : Run) (grows : GrowsTo r s) →
+        filter (λ done. nat_eq done.clock (length r.trace)) s.log ≡ grows.next.entries }
 {}
 
 /// A simulation of no clock.
 pub fn empty_runs_are_simulated()
-    ensures { (plan : PlanView)
-        → Simulated (record { plan = plan; choices = []; holds = []; trace = []; log = [] }) }
+    ensures { (plan : PlanView) →
+        Simulated (record { plan = plan; choices = []; holds = []; trace = []; log = [] }) }
 {}
 
 /// A simulation that grows by a clock is one again where the parts hold at that clock, the data there are carried, and the
 /// log still follows the scripts and is served.
 pub fn simulations_grow()
-    ensures { (r s : Run) → Simulated r → GrowsTo r s → IsTrue (is_known_trace s.trace)
-        → IsTimelyAt s (length r.trace) → IsTrue (holds_at carries_data s (length r.trace))
-        → InOrder s.plan.scripts s.log → Served s.plan.mem s.log → Simulated s }
+    ensures { (r s : Run) → Simulated r → GrowsTo r s → IsTrue (is_known_trace s.trace) →
+        IsTimelyAt s (length r.trace) → IsTrue (holds_at carries_data s (length r.trace)) →
+        InOrder s.plan.scripts s.log → Served s.plan.mem s.log → Simulated s }
 {}

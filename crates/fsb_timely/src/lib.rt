@@ -10,10 +10,14 @@ pub use asked::{answers_are_kept, asked_in_steps};
 pub use growth::{empty_runs_are_simulated, runs_end_at_their_clock, simulations_grow};
 pub use laws::{
     each_part_stays, hazard_lines_go_by_number, held_lines_step, held_lines_were_granted,
-    moments_have_the_snoop_ends, one_snoop_end_at_a_clock, outstanding_requests_step,
-    parts_are_tested, pasts_go_on, runs_grow, scripts_step, wants_are_new, wants_go_on,
+    moments_have_the_beginnings, moments_have_the_snoop_ends, one_snoop_end_at_a_clock,
+    outstanding_requests_step, parts_are_tested, pasts_go_on, runs_grow, scripts_step,
+    wants_are_new, wants_go_on, whole_pasts_go_on,
 };
-pub use steps::{locks_step, ready_lines_step};
+pub use steps::{
+    earlier_bytes_stay, entries_are_of_next_items, locks_step, logs_follow_scripts,
+    ready_lines_step, requests_are_wanted, wants_stay,
+};
 
 mod asked;
 mod growth;

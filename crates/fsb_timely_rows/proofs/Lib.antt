@@ -47,7 +47,18 @@ mod SharedLineOfLock
 mod ReplyPastHeldBack
 mod CachesAndMemory
 mod CachesKept
+mod KeptAtEnd
 mod AskedOfTwo
+mod WildObject
+mod ThreeRepliesDue
+mod ChangedLocks
+mod ChangedParity
+mod ChangedData
+mod ChangedHazards
+mod ChangedResults
+mod ChangedResponses
+mod ChangedStarts
+mod ChangedAsking
 mod UpgradeOfASharedLine
 mod UpgradeLostAndHanded
 mod UpgradeLostAndMadeAgain
@@ -86,3 +97,4 @@ mod Mixed24
 mod Mixed25
 mod Mixed26
 mod Mixed27
+mod BrokenRules

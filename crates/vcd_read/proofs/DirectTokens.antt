@@ -1,5 +1,5 @@
 -- Tokens that are taken at once do what any token does.
-use Rattle.std.proofs.Common.{◌≡◌, ℕ, ◌+◌, ◌-◌, ◌*◌, ◌^◌, ◌<◌, ◌≤◌, ◌&&◌, ◌==◌, true, false, None, Some, List, [], ◌∷◌, ◌++◌, length, take, drop, slice_index, nat_le, suc, refl, sym, ap, ◌∙◌, subst, arith, inl, inr}
+use Rattle.std.proofs.Common.{◌≡◌, ℕ, ◌+◌, ◌-◌, ◌^◌, ◌<◌, ◌≤◌, ◌==◌, true, false, None, Some, List, [], ◌∷◌, length, take, drop, slice_index, nat_le, suc, refl, sym, ap, ◌∙◌, subst, arith, inl, inr}
 use Rattle.std.specs.List.{list_all}
 use Rattle.std.proofs.lemmas.Bool.{and_parts, and_from, and_right, ne_eqb, le-leb, lt-leb, le-ltb, leb-true, cases_lt, false≢true, both_ways}
 use Rattle.std.proofs.lemmas.List.{length-take-le}
@@ -7,11 +7,11 @@ use Rattle.fsb_signal.specs.declared.sample.Sample.{Sample}
 use Rattle.vcd_grammar.specs.Tokens.{Token, is_white, longest}
 use Rattle.vcd_grammar.specs.Digits.{is_digit, number_from, number_up_to, time_in, is_value_digit}
 use Rattle.vcd_grammar.specs.Codes.{lines_of}
-use Rattle.vcd_grammar.specs.Words.{ValueWord, Stamp, Scalar, value_word}
+use Rattle.vcd_grammar.specs.Words.{Stamp, Scalar, value_word}
 use Rattle.vcd_grammar.specs.Judging.{Known, Values, turn, value_turn, scalar_turn, stamped}
 use Rattle.vcd_read.specs.Taking.{Taken, turned, decided_of, pushed}
 use Rattle.vcd_read.specs.Scanning.{Reading, after_bytes, samples_in_bytes, decided_in_reading, is_dark}
-use Rattle.vcd_read.specs.Direct.{IsReady, BeginsWithNumber, BeginsWithStamp}
+use Rattle.vcd_read.specs.Direct.{AwaitsToken, BeginsWithNumber, BeginsWithStamp}
 use Rattle.vcd_read.proofs.Numbers.{not_empty}
 use Rattle.vcd_read.proofs.Readings.{token_of, whole_taken, whole_sampled}
 
@@ -60,7 +60,7 @@ scalar_turns : (k : Known) (at d c number : ℕ) → k.fault ≡ None → k.mode
 scalar_turns k at d c number sound values digit line =
     turn_between k (token_of at (d ∷ c ∷ [])) sound values (omega arith) ∙ ap (value_turn k at) (scalar_says d c digit) ∙ ap (scalar_turn k at d) line
 
-pub scalar_taken : (r : Reading) (now : Taken) (w d c number : ℕ) → IsReady r → is_value_digit d ≡ true → is_white c ≡ false → lines_of r.taken.known.codes (c ∷ []) ≡ Some (number ∷ []) → is_white w ≡ true
+pub scalar_taken : (r : Reading) (now : Taken) (w d c number : ℕ) → AwaitsToken r → is_value_digit d ≡ true → is_white c ≡ false → lines_of r.taken.known.codes (c ∷ []) ≡ Some (number ∷ []) → is_white w ≡ true
     → now ≡ turned r.taken (scalar_turn r.taken.known 0 d (Some (number ∷ []))) → record { taken = now; at = r.at + 3; run = r.run } ≡ after_bytes r (d ∷ c ∷ w ∷ [])
 scalar_taken r now w d c number ready digit code line white h =
     let dark : list_all is_dark (d ∷ c ∷ []) ≡ true = rw (value_digit_dark d digit, code) refl in
@@ -68,7 +68,7 @@ scalar_taken r now w d c number ready digit code line white h =
     (λ i. record { taken = now; at = at i; run = r.run })
     ∙ whole_taken r now w (d ∷ c ∷ []) ready.empty dark (omega arith) (omega arith) white (h ∙ ap (turned r.taken) (sym (scalar_turns r.taken.known r.at d c number ready.sound ready.values digit line)))
 
-pub scalar_sampled : (r : Reading) (w d c number limit : ℕ) (to : List Sample) → IsReady r → is_value_digit d ≡ true → is_white c ≡ false → lines_of r.taken.known.codes (c ∷ []) ≡ Some (number ∷ []) → is_white w ≡ true
+pub scalar_sampled : (r : Reading) (w d c number limit : ℕ) (to : List Sample) → AwaitsToken r → is_value_digit d ≡ true → is_white c ≡ false → lines_of r.taken.known.codes (c ∷ []) ≡ Some (number ∷ []) → is_white w ≡ true
     → to ≡ pushed limit (decided_in_reading r) to (samples_in_bytes r (d ∷ c ∷ w ∷ []))
 scalar_sampled r w d c number limit to ready digit code line white =
     let dark : list_all is_dark (d ∷ c ∷ []) ≡ true = rw (value_digit_dark d digit, code) refl in

@@ -8,6 +8,7 @@ pub mod Entries
 pub mod TokenRuns
 pub mod Counts
 pub mod Readings
+pub mod LaneRuns
 pub mod Absorbing
 pub mod DirectTokens
 pub mod Law

@@ -10,7 +10,7 @@ use Rattle.vcd_read.specs.declared.direct.DirectScalar.{DirectScalar}
 use Rattle.vcd_read.specs.Scanning.{Reading, is_dark}
 
 -- no token is begun, and the next one stands between values, with no fault before it
-pub record IsReady (r : Reading) : Type 0 where
+pub record AwaitsToken (r : Reading) : Type 0 where
   pub empty : length r.run ≡ 0
   pub sound : r.taken.known.fault ≡ None
   pub values : r.taken.known.mode ≡ Values

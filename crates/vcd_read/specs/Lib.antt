@@ -6,3 +6,4 @@ pub mod Standing
 pub mod Answers
 pub mod Scanning
 pub mod Direct
+pub mod Lanes

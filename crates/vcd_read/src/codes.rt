@@ -64,7 +64,8 @@ impl Codes {
 
     /// The lines of the code, if it was declared, and one more variable's.
     fn joined(&self, code: &[u8], line: &[u8]) -> Result<Vec<u8>, AllocError>
-        ensures { IfOk result (λ lines. lines.items ≡ lines_or_none (lines_of self.now code.now) ++ line.now) }
+        ensures { IfOk result (λ lines.
+            lines.items ≡ lines_or_none (lines_of self.now code.now) ++ line.now) }
     {
         let mut lines = match self.lines(code) {
             Some(lines) => copy_of(self.alloc, lines)?,

@@ -8,7 +8,7 @@ ghost use Rattle.vcd_grammar.specs.Codes.{lines_of};
 ghost use Rattle.vcd_grammar.specs.Words.{value_word, Stamp};
 ghost use Rattle.vcd_read.specs.Taking.{pushed};
 ghost use Rattle.vcd_read.specs.Scanning.{reading, after_bytes, samples_in_bytes, is_dark, Fits};
-ghost use Rattle.vcd_read.specs.Direct.{IsReady, BeginsWithScalar, BeginsWithStamp};
+ghost use Rattle.vcd_read.specs.Direct.{AwaitsToken, BeginsWithScalar, BeginsWithStamp};
 
 use crate::digits::{is_value_digit, is_white, number_before};
 use crate::scan::Scan;
@@ -27,7 +27,7 @@ pub(crate) struct DirectScalar {
 impl Scan {
     /// Whether no token is begun, and the next one stands between values, with no fault before it.
     pub(crate) fn is_ready(&self) -> bool
-        ensures { result ≡ true → IsReady (reading self.now) }
+        ensures { result ≡ true → AwaitsToken (reading self.now) }
     {
         self.run_len() == 0 && self.machine.is_between_values()
     }
@@ -56,13 +56,15 @@ impl Scan {
 
     /// Such a change, and a byte of white space behind it.
     pub(crate) fn scalar(&mut self, change: DirectScalar)
-        requires ready { IsReady (reading self.old) }
+        requires ready { AwaitsToken (reading self.old) }
         requires room { self.old.at + 3 < 2 ^ 64 }
         requires digit { is_value_digit change.digit ≡ true }
         requires code { is_white change.code ≡ false }
-        requires line { lines_of self.old.machine.codes (change.code ∷ []) ≡ Some (change.number ∷ []) }
-        ensures state { (w : ℕ) → is_white w ≡ true
-            → reading self.new ≡ after_bytes (reading self.old) (change.digit ∷ change.code ∷ w ∷ []) }
+        requires line { lines_of self.old.machine.codes (change.code ∷ [])
+            ≡ Some (change.number ∷ []) }
+        ensures state { (w : ℕ) → is_white w ≡ true →
+            reading self.new ≡ after_bytes (reading self.old)
+            (change.digit ∷ change.code ∷ w ∷ []) }
     {
         self.at += 3;
         self.machine.set_digit(change.number, change.digit);
@@ -76,17 +78,19 @@ impl Scan {
         limit: u32,
         to: &mut Vec<Sample>,
     ) -> Result<(), AllocError>
-        requires ready { IsReady (reading self.old) }
+        requires ready { AwaitsToken (reading self.old) }
         requires some { 0 < length word.now }
         requires short { length word.now ≤ 70000 }
         requires dark { list_all is_dark word.now ≡ true }
         requires says { value_word word.now ≡ Stamp time }
         requires room { self.old.at + length word.now + 1 < 2 ^ 64 }
         requires fits { Fits (reading self.old) }
-        ensures state { (w : ℕ) → is_white w ≡ true
-            → OnOk result (reading self.new ≡ after_bytes (reading self.old) (word.now ++ w ∷ [])) }
-        ensures samples { (w : ℕ) → is_white w ≡ true
-            → OnOk result (to.new.items ≡ pushed limit self.old.machine.decided to.old.items (samples_in_bytes (reading self.old) (word.now ++ w ∷ []))) }
+        ensures state { (w : ℕ) → is_white w ≡ true →
+            OnOk result (reading self.new ≡ after_bytes (reading self.old) (word.now ++ w ∷ [])) }
+        ensures samples { (w : ℕ) → is_white w ≡ true →
+            OnOk result (to.new.items
+            ≡ pushed limit self.old.machine.decided to.old.items
+            (samples_in_bytes (reading self.old) (word.now ++ w ∷ []))) }
         ensures silent { OnErr result (to.new.items ≡ to.old.items) }
     {
         let place = self.at;

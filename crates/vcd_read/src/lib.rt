@@ -16,6 +16,7 @@ mod codes;
 mod digits;
 mod direct;
 mod dump;
+mod lanes;
 mod levels;
 mod machine;
 mod mode;

@@ -67,7 +67,9 @@ impl Machine {
     /// A token between the sections of the header.
     #[tactic(auto, unfolding(vcd_grammar::specs::Words::header_word))]
     fn header(&mut self, place: u64, word: &[u8])
-        ensures { taken self.new ≡ turned (taken self.old) (unless_long (known_of self.old) (record { place = place; word = word.now }) (header_turn (known_of self.old) place (header_word word.now))) }
+        ensures { taken self.new ≡ turned (taken self.old)
+            (unless_long (known_of self.old) (record { place = place; word = word.now })
+            (header_turn (known_of self.old) place (header_word word.now))) }
     {
         if is_long(word) {
             self.fail(place, VcdCause::Token);
@@ -92,7 +94,10 @@ impl Machine {
     /// A token of the declaration of a variable.
     fn variable(&mut self, draft: Draft, place: u64, word: &[u8]) -> Result<(), AllocError>
         requires { self.old.mode ≡ Mode.Variable draft }
-        ensures { OnOk result (taken self.new ≡ turned (taken self.old) (turn_in (in_variable (draft_of draft self.old.code.items)) (known_of self.old) (record { place = place; word = word.now }))) }
+        ensures { OnOk result (taken self.new
+            ≡ turned (taken self.old)
+            (turn_in (in_variable (draft_of draft self.old.code.items)) (known_of self.old)
+            (record { place = place; word = word.now }))) }
     {
         if is_long(word) {
             self.fail(place, VcdCause::Token);
@@ -106,7 +111,10 @@ impl Machine {
 
     /// A further token of a declaration, which is not its `$end`.
     fn drafted(&mut self, draft: Draft, word: &[u8]) -> Result<(), AllocError>
-        ensures { OnOk result (taken self.new ≡ turned (taken self.old) (goes_to (known_of self.old) (in_variable (drafted (draft_of draft self.old.code.items) word.now)))) }
+        ensures { OnOk result (taken self.new
+            ≡ turned (taken self.old)
+            (goes_to (known_of self.old)
+            (in_variable (drafted (draft_of draft self.old.code.items) word.now)))) }
     {
         if draft.count == 2 {
             self.code.clear();
@@ -119,7 +127,9 @@ impl Machine {
     /// The `$end` of a declaration.
     #[tactic(auto, unfolding(vcd_grammar::specs::Judging::declared))]
     fn declare(&mut self, draft: Draft) -> Result<(), AllocError>
-        ensures { OnOk result (taken self.new ≡ turned (taken self.old) (declared (known_of self.old) (draft_of draft self.old.code.items))) }
+        ensures { OnOk result (taken self.new
+            ≡ turned (taken self.old)
+            (declared (known_of self.old) (draft_of draft self.old.code.items))) }
     {
         let Some(width) = draft.width else {
             self.fail(draft.place, VcdCause::Header);
@@ -137,7 +147,8 @@ impl Machine {
 
     /// A variable that is no line.
     fn declare_other(&mut self) -> Result<(), AllocError>
-        ensures { OnOk result (taken self.new ≡ turned (taken self.old) (other_declared (known_of self.old) self.old.code.items)) }
+        ensures { OnOk result (taken self.new
+            ≡ turned (taken self.old) (other_declared (known_of self.old) self.old.code.items)) }
     {
         self.codes.declare(self.code.as_slice(), &[])?;
         self.mode = Mode::Header;
@@ -146,7 +157,9 @@ impl Machine {
 
     /// A variable of a line's name.
     fn declare_named(&mut self, draft: Draft, width: u64, number: u8) -> Result<(), AllocError>
-        ensures { OnOk result (taken self.new ≡ turned (taken self.old) (named (known_of self.old) (draft_of draft self.old.code.items) width (Some number))) }
+        ensures { OnOk result (taken self.new
+            ≡ turned (taken self.old)
+            (named (known_of self.old) (draft_of draft self.old.code.items) width (Some number))) }
     {
         if !draft.is_line || self.lines.contains(&number) {
             self.declare_other()
@@ -160,7 +173,9 @@ impl Machine {
 
     /// A line, which is unknown until it gets a value.
     fn declare_line(&mut self, number: u8) -> Result<(), AllocError>
-        ensures { OnOk result (taken self.new ≡ turned (taken self.old) (line_declared (known_of self.old) self.old.code.items number)) }
+        ensures { OnOk result (taken self.new
+            ≡ turned (taken self.old)
+            (line_declared (known_of self.old) self.old.code.items number)) }
     {
         self.lines.push(number)?;
         self.codes.declare(self.code.as_slice(), &[number])?;
@@ -172,7 +187,9 @@ impl Machine {
     /// A token behind the `$enddefinitions` at `place`.
     #[tactic(auto, unfolding(vcd_grammar::specs::Judging::closed))]
     fn closing(&mut self, place: u64, word: &[u8])
-        ensures { taken self.new ≡ turned (taken self.old) (if is_end word.now then closed (known_of self.old) place else stays (known_of self.old)) }
+        ensures { taken self.new ≡ turned (taken self.old)
+            (if is_end word.now then closed (known_of self.old) place else stays
+            (known_of self.old)) }
     {
         if !is_end(word) {
             return;
@@ -193,8 +210,15 @@ impl Machine {
         to: &mut Vec<Sample>,
     ) -> Result<(), AllocError>
         requires { self.old.decided + 1 < 2 ^ 64 }
-        ensures taken { OnOk result (taken self.new ≡ turned (taken self.old) (unless_long (known_of self.old) (record { place = place; word = word.now }) (value_turn (known_of self.old) place (value_word word.now)))) }
-        ensures samples { OnOk result (to.new.items ≡ pushed limit self.old.decided to.old.items (decided_of (taken self.old) (unless_long (known_of self.old) (record { place = place; word = word.now }) (value_turn (known_of self.old) place (value_word word.now))))) }
+        ensures taken { OnOk result
+            (taken self.new ≡ turned (taken self.old)
+            (unless_long (known_of self.old) (record { place = place; word = word.now })
+            (value_turn (known_of self.old) place (value_word word.now)))) }
+        ensures samples { OnOk result
+            (to.new.items ≡ pushed limit self.old.decided to.old.items
+            (decided_of (taken self.old)
+            (unless_long (known_of self.old) (record { place = place; word = word.now })
+            (value_turn (known_of self.old) place (value_word word.now))))) }
         ensures silent { OnErr result (to.new.items ≡ to.old.items) }
     {
         if is_long(word) {
@@ -234,8 +258,13 @@ impl Machine {
         to: &mut Vec<Sample>,
     ) -> Result<(), AllocError>
         requires { self.old.decided + 1 < 2 ^ 64 }
-        ensures taken { OnOk result (taken self.new ≡ turned (taken self.old) (value_turn (known_of self.old) place (stamp_word (time_in digits.now)))) }
-        ensures samples { OnOk result (to.new.items ≡ pushed limit self.old.decided to.old.items (decided_of (taken self.old) (value_turn (known_of self.old) place (stamp_word (time_in digits.now))))) }
+        ensures taken { OnOk result
+            (taken self.new ≡ turned (taken self.old)
+            (value_turn (known_of self.old) place (stamp_word (time_in digits.now)))) }
+        ensures samples { OnOk result
+            (to.new.items ≡ pushed limit self.old.decided to.old.items
+            (decided_of (taken self.old)
+            (value_turn (known_of self.old) place (stamp_word (time_in digits.now))))) }
         ensures silent { OnErr result (to.new.items ≡ to.old.items) }
     {
         match time_in(digits) {
@@ -270,8 +299,12 @@ impl Machine {
         to: &mut Vec<Sample>,
     ) -> Result<(), AllocError>
         requires { self.old.decided + 1 < 2 ^ 64 }
-        ensures taken { OnOk result (taken self.new ≡ turned (taken self.old) (stamped (known_of self.old) place time self.old.time)) }
-        ensures samples { OnOk result (to.new.items ≡ pushed limit self.old.decided to.old.items (decided_of (taken self.old) (stamped (known_of self.old) place time self.old.time))) }
+        ensures taken { OnOk result
+            (taken self.new ≡ turned (taken self.old)
+            (stamped (known_of self.old) place time self.old.time)) }
+        ensures samples { OnOk result
+            (to.new.items ≡ pushed limit self.old.decided to.old.items
+            (decided_of (taken self.old) (stamped (known_of self.old) place time self.old.time))) }
         ensures silent { OnErr result (to.new.items ≡ to.old.items) }
     {
         match self.time {
@@ -292,8 +325,11 @@ impl Machine {
     /// A greater time, which ends the block.
     fn later(&mut self, time: u64, limit: u32, to: &mut Vec<Sample>) -> Result<(), AllocError>
         requires { self.old.decided + 1 < 2 ^ 64 }
-        ensures taken { OnOk result (taken self.new ≡ turned (taken self.old) (later (known_of self.old) time)) }
-        ensures samples { OnOk result (to.new.items ≡ pushed limit self.old.decided to.old.items (decided_of (taken self.old) (later (known_of self.old) time))) }
+        ensures taken { OnOk result
+            (taken self.new ≡ turned (taken self.old) (later (known_of self.old) time)) }
+        ensures samples { OnOk result
+            (to.new.items ≡ pushed limit self.old.decided to.old.items
+            (decided_of (taken self.old) (later (known_of self.old) time))) }
         ensures silent { OnErr result (to.new.items ≡ to.old.items) }
     {
         if self.rises() {
@@ -331,7 +367,9 @@ impl Machine {
 
     /// The end of the text, at a place where a text may end or not.
     pub(crate) fn end(&mut self, place: u64)
-        ensures known { known_of self.new ≡ record (known_of self.old) { fault = or_cut self.old.fault (known_of self.old).mode place } }
+        ensures known { known_of self.new
+            ≡ record (known_of self.old)
+            { fault = or_cut self.old.fault (known_of self.old).mode place } }
         ensures lines { lines_view self.new ≡ lines_view self.old }
     {
         if self.fault.is_none() {
@@ -345,8 +383,11 @@ impl Machine {
     /// The block that stands open, where the text ends: its sample is appended while there are fewer than the limit, if
     /// there is no fault. Tells whether there is such a sample.
     pub(crate) fn close(&self, limit: u32, to: &mut Vec<Sample>) -> Result<bool, AllocError>
-        ensures rises { IfOk result (λ more. more ≡ open_rises self.now.fault (lines_view self.now)) }
-        ensures samples { OnOk result (to.new.items ≡ pushed limit self.now.decided to.old.items (open_samples self.now.fault (lines_view self.now))) }
+        ensures rises { IfOk result
+            (λ more. more ≡ open_rises self.now.fault (lines_view self.now)) }
+        ensures samples { OnOk result
+            (to.new.items ≡ pushed limit self.now.decided to.old.items
+            (open_samples self.now.fault (lines_view self.now))) }
         ensures silent { OnErr result (to.new.items ≡ to.old.items) }
     {
         if self.fault.is_some() {
@@ -370,7 +411,8 @@ impl Machine {
 
     /// A scalar change.
     fn scalar(&mut self, place: u64, digit: u8, code: &[u8])
-        ensures { taken self.new ≡ turned (taken self.old) (value_turn (known_of self.old) place (scalar_word digit code.now)) }
+        ensures { taken self.new ≡ turned (taken self.old)
+            (value_turn (known_of self.old) place (scalar_word digit code.now)) }
     {
         if code.is_empty() {
             self.fail(place, VcdCause::Token);
@@ -388,14 +430,16 @@ impl Machine {
 
     /// A digit for a line.
     pub(crate) fn set_digit(&mut self, number: u8, digit: u8)
-        ensures { taken self.new ≡ turned (taken self.old) (scalar_turn (known_of self.old) 0 digit (Some (number ∷ []))) }
+        ensures { taken self.new ≡ turned (taken self.old)
+            (scalar_turn (known_of self.old) 0 digit (Some (number ∷ []))) }
     {
         self.block.set_line(number, &[digit]);
     }
 
     /// A vector, of which `digits` stand behind the `b`.
     fn vector(&mut self, place: u64, digits: &[u8])
-        ensures { taken self.new ≡ turned (taken self.old) (value_turn (known_of self.old) place (vector_word digits.now)) }
+        ensures { taken self.new ≡ turned (taken self.old)
+            (value_turn (known_of self.old) place (vector_word digits.now)) }
     {
         if digits.is_empty() || !are_value_digits(digits) {
             self.fail(place, VcdCause::Token);
@@ -408,7 +452,9 @@ impl Machine {
     /// The code at `place` of the vector at `from`.
     fn vector_code(&mut self, from: u64, place: u64, code: &[u8])
         requires { self.old.mode ≡ Mode.Pending from }
-        ensures { taken self.new ≡ turned (taken self.old) (turn_in (in_pending from self.old.digits.items) (known_of self.old) (record { place = place; word = code.now })) }
+        ensures { taken self.new ≡ turned (taken self.old)
+            (turn_in (in_pending from self.old.digits.items) (known_of self.old)
+            (record { place = place; word = code.now })) }
     {
         if is_long(code) {
             self.fail(place, VcdCause::Token);
@@ -438,7 +484,8 @@ impl Machine {
 
     /// The code of a real number or a string.
     fn beside(&mut self, place: u64, code: &[u8])
-        ensures { taken self.new ≡ turned (taken self.old) (turn_in in_beside (known_of self.old) (record { place = place; word = code.now })) }
+        ensures { taken self.new ≡ turned (taken self.old)
+            (turn_in in_beside (known_of self.old) (record { place = place; word = code.now })) }
     {
         if is_long(code) {
             self.fail(place, VcdCause::Token);
@@ -460,8 +507,13 @@ impl Machine {
         to: &mut Vec<Sample>,
     ) -> Result<(), AllocError>
         requires { self.old.decided + 1 < 2 ^ 64 }
-        ensures taken { OnOk result (taken self.new ≡ turned (taken self.old) (turn (known_of self.old) (record { place = place; word = word.now }))) }
-        ensures samples { OnOk result (to.new.items ≡ pushed limit self.old.decided to.old.items (decided_of (taken self.old) (turn (known_of self.old) (record { place = place; word = word.now })))) }
+        ensures taken { OnOk result
+            (taken self.new ≡ turned (taken self.old)
+            (turn (known_of self.old) (record { place = place; word = word.now }))) }
+        ensures samples { OnOk result
+            (to.new.items ≡ pushed limit self.old.decided to.old.items
+            (decided_of (taken self.old)
+            (turn (known_of self.old) (record { place = place; word = word.now })))) }
         ensures silent { OnErr result (to.new.items ≡ to.old.items) }
     {
         if self.fault.is_some() {
@@ -492,7 +544,8 @@ impl Machine {
 /// A declaration with a further token; a code is kept beside it.
 #[tactic(auto, unfolding(vcd_grammar::specs::Judging::drafted))]
 fn next_draft(draft: Draft, word: &[u8]) -> Draft
-    ensures { (code : List ℕ) → draft_of result (if draft.count == 2 then word.now else code) ≡ drafted (draft_of draft code) word.now }
+    ensures { (code : List ℕ) → draft_of result (if draft.count == 2 then word.now else code)
+        ≡ drafted (draft_of draft code) word.now }
 {
     if draft.count == 0 {
         Draft {
@@ -564,7 +617,8 @@ fn is_declared(lines: &[u8], number: u8) -> bool
 /// Whether the line of this number must be declared and is not.
 fn is_missing(lines: &[u8], number: u8) -> bool
     requires { number < 22 }
-    ensures { (e : TableEntry) → slice_get table number ≡ Some e → result ≡ (e.needed && not (is_declared lines.now number)) }
+    ensures { (e : TableEntry) → slice_get table number ≡ Some e →
+        result ≡ (e.needed && not (is_declared lines.now number)) }
 {
     signal_at(number).needed && !is_declared(lines, number)
 }

@@ -56,15 +56,20 @@ impl Reader {
         ensures stands { (fed : List ℕ) → Stands self.old fed → Stands self.new (fed ++ piece.now) }
         ensures refusal { refusal_of self.new ≡ refusal_in result }
         ensures limit { limit_of self.new ≡ limit_of self.old }
-        ensures answer { (fed : List ℕ) → Stands self.old fed → refusal_of self.old ≡ None
-            → Answers result (stop_so_far (limit_of self.old) (fed ++ piece.now)) }
-        ensures samples { (fed : List ℕ) → Stands self.old fed → refusal_of self.old ≡ None
-            → AppendsBy result (samples_so_far fed) (take (limit_of self.old) (samples_so_far (fed ++ piece.now))) to.old.items to.new.items }
+        ensures answer { (fed : List ℕ) → Stands self.old fed → refusal_of self.old ≡ None →
+            Answers result (stop_so_far (limit_of self.old) (fed ++ piece.now)) }
+        ensures samples { (fed : List ℕ) → Stands self.old fed → refusal_of self.old ≡ None →
+            AppendsBy result (samples_so_far fed)
+            (take (limit_of self.old) (samples_so_far (fed ++ piece.now)))
+            to.old.items to.new.items }
         ensures again { (stop : VcdStop) → refusal_of self.old ≡ Some stop → result ≡ Err stop }
-        ensures silent { (stop : VcdStop) → refusal_of self.old ≡ Some stop → to.new.items ≡ to.old.items }
-        ensures marks { (fed : List ℕ) → Stands self.old fed → refusal_of self.old ≡ None
-            → TellsMarks result (marks_so_far (fed ++ piece.now)) (marks_told self.old) (marks_told self.new) }
-        ensures marks_stay { (stop : VcdStop) → refusal_of self.old ≡ Some stop → marks_told self.new ≡ marks_told self.old }
+        ensures silent { (stop : VcdStop) → refusal_of self.old ≡ Some stop →
+            to.new.items ≡ to.old.items }
+        ensures marks { (fed : List ℕ) → Stands self.old fed → refusal_of self.old ≡ None →
+            TellsMarks result (marks_so_far (fed ++ piece.now)) (marks_told self.old)
+            (marks_told self.new) }
+        ensures marks_stay { (stop : VcdStop) → refusal_of self.old ≡ Some stop →
+            marks_told self.new ≡ marks_told self.old }
     {
         if let Some(stop) = self.refused {
             return Err(stop);
@@ -79,14 +84,19 @@ impl Reader {
     /// The next piece, where nothing was refused.
     fn absorb(&mut self, piece: &[u8], to: &mut Vec<Sample>) -> Result<(), VcdStop>
         requires { (fed : List ℕ) × Works self.old fed × (length fed + length piece.now < 2 ^ 64) }
-        ensures works { OnOk result ((fed : List ℕ) → Works self.old fed → Works self.new (fed ++ piece.now)) }
+        ensures works { OnOk result
+            ((fed : List ℕ) → Works self.old fed → Works self.new (fed ++ piece.now)) }
         ensures limit { limit_of self.new ≡ limit_of self.old }
-        ensures marks { (fed : List ℕ) → Works self.old fed
-            → TellsMarks result (marks_so_far (fed ++ piece.now)) (marks_told self.old) (marks_told self.new) }
+        ensures marks { (fed : List ℕ) → Works self.old fed →
+            TellsMarks result (marks_so_far (fed ++ piece.now)) (marks_told self.old)
+            (marks_told self.new) }
         ensures refusal { refusal_of self.new ≡ refusal_of self.old }
-        ensures answer { (fed : List ℕ) → Works self.old fed → Answers result (stop_so_far (limit_of self.old) (fed ++ piece.now)) }
-        ensures samples { (fed : List ℕ) → Works self.old fed
-            → AppendsBy result (samples_so_far fed) (take (limit_of self.old) (samples_so_far (fed ++ piece.now))) to.old.items to.new.items }
+        ensures answer { (fed : List ℕ) → Works self.old fed →
+            Answers result (stop_so_far (limit_of self.old) (fed ++ piece.now)) }
+        ensures samples { (fed : List ℕ) → Works self.old fed →
+            AppendsBy result (samples_so_far fed)
+            (take (limit_of self.old) (samples_so_far (fed ++ piece.now)))
+            to.old.items to.new.items }
     {
         match self.scan.absorb(piece, self.limit, to) {
             Ok(()) => {
@@ -99,7 +109,9 @@ impl Reader {
 
     /// What the tokens so far answer.
     fn answer(&self) -> Result<(), VcdStop>
-        ensures { result ≡ result_of (if nat_lt self.now.limit self.now.scan.machine.decided then Some VcdStop.TooLong else fault_or self.now.scan.machine.fault None) }
+        ensures { result ≡ result_of
+            (if nat_lt self.now.limit self.now.scan.machine.decided then Some VcdStop.TooLong else
+            fault_or self.now.scan.machine.fault None) }
     {
         if u64::from(self.limit) < self.scan.machine.decided {
             return Err(VcdStop::TooLong);
@@ -114,7 +126,8 @@ impl Reader {
     /// token that counts. A piece that is refused has told them too, unless memory was wanting; later pieces tell nothing.
     pub fn marks(&self) -> Option<Marks>
         ensures told { result ≡ marks_told self.now }
-        ensures marks { (fed : List ℕ) → Stands self.now fed → refusal_of self.now ≡ None → result ≡ marks_so_far fed }
+        ensures marks { (fed : List ℕ) → Stands self.now fed → refusal_of self.now ≡ None →
+            result ≡ marks_so_far fed }
     {
         self.marks
     }
@@ -127,15 +140,18 @@ impl Reader {
         ensures stands { OnErr result ((fed : List ℕ) → Stands self.old fed → Stands self.new fed) }
         ensures refusal { refusal_of self.new ≡ refusal_in result }
         ensures limit { limit_of self.new ≡ limit_of self.old }
-        ensures answer { (fed : List ℕ) → Stands self.old fed → refusal_of self.old ≡ None
-            → Answers result (stop_at_end (limit_of self.old) fed) }
-        ensures samples { (fed : List ℕ) → Stands self.old fed → refusal_of self.old ≡ None
-            → AppendsAtEnd result (limit_of self.old) (samples_so_far fed) (samples_before_end fed) (samples_of fed) to.old.items to.new.items }
+        ensures answer { (fed : List ℕ) → Stands self.old fed → refusal_of self.old ≡ None →
+            Answers result (stop_at_end (limit_of self.old) fed) }
+        ensures samples { (fed : List ℕ) → Stands self.old fed → refusal_of self.old ≡ None →
+            AppendsAtEnd result (limit_of self.old) (samples_so_far fed) (samples_before_end fed)
+            (samples_of fed) to.old.items to.new.items }
         ensures again { (stop : VcdStop) → refusal_of self.old ≡ Some stop → result ≡ Err stop }
-        ensures silent { (stop : VcdStop) → refusal_of self.old ≡ Some stop → to.new.items ≡ to.old.items }
-        ensures marks { OnOk result ((fed : List ℕ) → Stands self.old fed → marks_told self.new ≡ Some (marks_of fed)) }
-        ensures marks_refused { (fed : List ℕ) → Stands self.old fed → refusal_of self.old ≡ None
-            → OnErr result (marks_told self.new ≡ marks_so_far fed) }
+        ensures silent { (stop : VcdStop) → refusal_of self.old ≡ Some stop →
+            to.new.items ≡ to.old.items }
+        ensures marks { OnOk result
+            ((fed : List ℕ) → Stands self.old fed → marks_told self.new ≡ Some (marks_of fed)) }
+        ensures marks_refused { (fed : List ℕ) → Stands self.old fed → refusal_of self.old ≡ None →
+            OnErr result (marks_told self.new ≡ marks_so_far fed) }
         ensures marks_stay { OnErr result (marks_told self.new ≡ marks_told self.old) }
     {
         if let Some(stop) = self.refused {
@@ -155,11 +171,13 @@ impl Reader {
         ensures limit { limit_of self.new ≡ limit_of self.old }
         ensures marks { marks_told self.new ≡ marks_told self.old }
         ensures refusal { refusal_of self.new ≡ refusal_of self.old }
-        ensures declared { OnOk result ((fed : List ℕ) → Works self.old fed
-            → self.new.scan.machine.lines.items ≡ (behind nothing (tokens_of fed)).lines) }
-        ensures answer { (fed : List ℕ) → Works self.old fed → Answers result (stop_at_end (limit_of self.old) fed) }
-        ensures samples { (fed : List ℕ) → Works self.old fed
-            → AppendsAtEnd result (limit_of self.old) (samples_so_far fed) (samples_before_end fed) (samples_of fed) to.old.items to.new.items }
+        ensures declared { OnOk result ((fed : List ℕ) → Works self.old fed →
+            self.new.scan.machine.lines.items ≡ (behind nothing (tokens_of fed)).lines) }
+        ensures answer { (fed : List ℕ) → Works self.old fed →
+            Answers result (stop_at_end (limit_of self.old) fed) }
+        ensures samples { (fed : List ℕ) → Works self.old fed →
+            AppendsAtEnd result (limit_of self.old) (samples_so_far fed) (samples_before_end fed)
+            (samples_of fed) to.old.items to.new.items }
     {
         match self.scan.finish(self.limit, to) {
             Ok(more) => self.end_answer(more),
@@ -170,7 +188,9 @@ impl Reader {
     /// What the whole text answers, where its end decides one more sample or not.
     #[tactic(auto, unfolding(crate::specs::Answers::end_stop))]
     fn end_answer(&self, more: bool) -> Result<(), VcdStop>
-        ensures { result ≡ result_of (end_stop self.now.limit self.now.scan.machine.decided self.now.scan.machine.fault more) }
+        ensures { result ≡ result_of
+            (end_stop self.now.limit self.now.scan.machine.decided self.now.scan.machine.fault
+            more) }
     {
         if u64::from(self.limit) < self.scan.machine.decided {
             return Err(VcdStop::TooLong);

@@ -6,6 +6,7 @@ ghost use Rattle.vcd_read.specs.Scanning.{reading, unread, after_bytes, samples_
 
 use crate::digits::{LONGEST, is_white};
 use crate::direct::stamp_in;
+use crate::lanes::{LANES, dark_run};
 use crate::machine::Machine;
 use fsb_signal::Sample;
 use std::alloc::{AllocError, Global};
@@ -42,8 +43,12 @@ impl Scan {
         requires room { self.old.at + length piece.now < 2 ^ 64 }
         requires fits { Fits (reading self.old) }
         ensures state { OnOk result (reading self.new ≡ after_bytes (reading self.old) piece.now) }
-        ensures samples { OnOk result (to.new.items ≡ pushed limit self.old.machine.decided to.old.items (samples_in_bytes (reading self.old) piece.now)) }
-        ensures part { OnErr result (Part limit self.old.machine.decided (samples_in_bytes (reading self.old) piece.now) to.old.items to.new.items) }
+        ensures samples { OnOk result
+            (to.new.items ≡ pushed limit self.old.machine.decided to.old.items
+            (samples_in_bytes (reading self.old) piece.now)) }
+        ensures part { OnErr result
+            (Part limit self.old.machine.decided (samples_in_bytes (reading self.old) piece.now)
+            to.old.items to.new.items) }
     {
         let mut rest = piece;
         while !rest.is_empty() {
@@ -60,9 +65,14 @@ impl Scan {
         requires fits { Fits (reading self.old) }
         ensures some { IfOk result (λ len. 0 < len) }
         ensures within { IfOk result (λ len. len ≤ length bytes.now) }
-        ensures state { IfOk result (λ len. reading self.new ≡ after_bytes (reading self.old) (take len bytes.now)) }
-        ensures samples { IfOk result (λ len. to.new.items ≡ pushed limit self.old.machine.decided to.old.items (samples_in_bytes (reading self.old) (take len bytes.now))) }
-        ensures part { OnErr result (Part limit self.old.machine.decided (samples_in_bytes (reading self.old) bytes.now) to.old.items to.new.items) }
+        ensures state { IfOk result
+            (λ len. reading self.new ≡ after_bytes (reading self.old) (take len bytes.now)) }
+        ensures samples { IfOk result
+            (λ len. to.new.items ≡ pushed limit self.old.machine.decided to.old.items
+            (samples_in_bytes (reading self.old) (take len bytes.now))) }
+        ensures part { OnErr result
+            (Part limit self.old.machine.decided (samples_in_bytes (reading self.old) bytes.now)
+            to.old.items to.new.items) }
     {
         if self.is_ready() {
             if let Some(change) = self.scalar_in(bytes) {
@@ -89,9 +99,14 @@ impl Scan {
         requires fits { Fits (reading self.old) }
         ensures some { IfOk result (λ len. 0 < len) }
         ensures within { IfOk result (λ len. len ≤ length bytes.now) }
-        ensures state { IfOk result (λ len. reading self.new ≡ after_bytes (reading self.old) (take len bytes.now)) }
-        ensures samples { IfOk result (λ len. to.new.items ≡ pushed limit self.old.machine.decided to.old.items (samples_in_bytes (reading self.old) (take len bytes.now))) }
-        ensures part { OnErr result (Part limit self.old.machine.decided (samples_in_bytes (reading self.old) bytes.now) to.old.items to.new.items) }
+        ensures state { IfOk result
+            (λ len. reading self.new ≡ after_bytes (reading self.old) (take len bytes.now)) }
+        ensures samples { IfOk result
+            (λ len. to.new.items ≡ pushed limit self.old.machine.decided to.old.items
+            (samples_in_bytes (reading self.old) (take len bytes.now))) }
+        ensures part { OnErr result
+            (Part limit self.old.machine.decided (samples_in_bytes (reading self.old) bytes.now)
+            to.old.items to.new.items) }
     {
         let len = span_len(bytes);
         if len < bytes.len() {
@@ -108,9 +123,15 @@ impl Scan {
         requires dark { list_all is_dark bytes.now ≡ true }
         requires room { self.old.at + length bytes.now + 1 < 2 ^ 64 }
         requires fits { Fits (reading self.old) }
-        ensures state { (w : ℕ) → is_white w ≡ true → OnOk result (reading self.new ≡ after_bytes (reading self.old) (bytes.now ++ w ∷ [])) }
-        ensures samples { (w : ℕ) → is_white w ≡ true → OnOk result (to.new.items ≡ pushed limit self.old.machine.decided to.old.items (samples_in_bytes (reading self.old) (bytes.now ++ w ∷ []))) }
-        ensures part { (w : ℕ) → is_white w ≡ true → OnErr result (Part limit self.old.machine.decided (samples_in_bytes (reading self.old) (bytes.now ++ w ∷ [])) to.old.items to.new.items) }
+        ensures state { (w : ℕ) → is_white w ≡ true →
+            OnOk result (reading self.new ≡ after_bytes (reading self.old) (bytes.now ++ w ∷ [])) }
+        ensures samples { (w : ℕ) → is_white w ≡ true →
+            OnOk result (to.new.items
+            ≡ pushed limit self.old.machine.decided to.old.items
+            (samples_in_bytes (reading self.old) (bytes.now ++ w ∷ []))) }
+        ensures part { (w : ℕ) → is_white w ≡ true →
+            OnErr result (Part limit self.old.machine.decided
+            (samples_in_bytes (reading self.old) (bytes.now ++ w ∷ [])) to.old.items to.new.items) }
     {
         if self.run_len() == 0 && bytes.len() <= LONGEST {
             return self.whole(bytes, limit, to);
@@ -133,8 +154,12 @@ impl Scan {
         requires dark { list_all is_dark bytes.now ≡ true }
         requires room { self.old.at + length bytes.now + 1 < 2 ^ 64 }
         requires fits { Fits (reading self.old) }
-        ensures state { (w : ℕ) → is_white w ≡ true → OnOk result (reading self.new ≡ after_bytes (reading self.old) (bytes.now ++ w ∷ [])) }
-        ensures samples { (w : ℕ) → is_white w ≡ true → OnOk result (to.new.items ≡ pushed limit self.old.machine.decided to.old.items (samples_in_bytes (reading self.old) (bytes.now ++ w ∷ []))) }
+        ensures state { (w : ℕ) → is_white w ≡ true →
+            OnOk result (reading self.new ≡ after_bytes (reading self.old) (bytes.now ++ w ∷ [])) }
+        ensures samples { (w : ℕ) → is_white w ≡ true →
+            OnOk result (to.new.items
+            ≡ pushed limit self.old.machine.decided to.old.items
+            (samples_in_bytes (reading self.old) (bytes.now ++ w ∷ []))) }
         ensures silent { OnErr result (to.new.items ≡ to.old.items) }
     {
         let place = self.at;
@@ -149,8 +174,12 @@ impl Scan {
     fn white(&mut self, limit: u32, to: &mut Vec<Sample>) -> Result<(), AllocError>
         requires room { self.old.at + 1 < 2 ^ 64 }
         requires fits { Fits (reading self.old) }
-        ensures state { (w : ℕ) → is_white w ≡ true → OnOk result (reading self.new ≡ after_bytes (reading self.old) (w ∷ [])) }
-        ensures samples { (w : ℕ) → is_white w ≡ true → OnOk result (to.new.items ≡ pushed limit self.old.machine.decided to.old.items (samples_in_bytes (reading self.old) (w ∷ []))) }
+        ensures state { (w : ℕ) → is_white w ≡ true →
+            OnOk result (reading self.new ≡ after_bytes (reading self.old) (w ∷ [])) }
+        ensures samples { (w : ℕ) → is_white w ≡ true →
+            OnOk result (to.new.items
+            ≡ pushed limit self.old.machine.decided to.old.items
+            (samples_in_bytes (reading self.old) (w ∷ []))) }
         ensures silent { OnErr result (to.new.items ≡ to.old.items) }
     {
         self.last(limit, to)?;
@@ -162,8 +191,14 @@ impl Scan {
     /// The run that stands open, ended here.
     fn last(&mut self, limit: u32, to: &mut Vec<Sample>) -> Result<(), AllocError>
         requires { Fits (reading self.old) }
-        ensures state { OnOk result (reading self.new ≡ record (reading self.old) { taken = take_tokens (taken self.old.machine) (ended_at self.old.at self.old.run.items) }) }
-        ensures samples { OnOk result (to.new.items ≡ pushed limit self.old.machine.decided to.old.items (samples_in_tokens (taken self.old.machine) (ended_at self.old.at self.old.run.items))) }
+        ensures state { OnOk result
+            (reading self.new ≡ record (reading self.old) {
+              taken = take_tokens (taken self.old.machine) (ended_at self.old.at self.old.run.items);
+            }) }
+        ensures samples { OnOk result
+            (to.new.items ≡ pushed limit self.old.machine.decided to.old.items
+            (samples_in_tokens (taken self.old.machine)
+            (ended_at self.old.at self.old.run.items))) }
         ensures silent { OnErr result (to.new.items ≡ to.old.items) }
     {
         if self.run_len() == 0 {
@@ -181,11 +216,23 @@ impl Scan {
     pub(crate) fn finish(&mut self, limit: u32, to: &mut Vec<Sample>) -> Result<bool, AllocError>
         requires { Fits (reading self.old) }
         ensures fault { OnOk result (self.new.machine.fault ≡ end_fault (reading self.old)) }
-        ensures lines { OnOk result (self.new.machine.lines.items ≡ (ended_taken (reading self.old)).known.lines) }
-        ensures decided { OnOk result (self.new.machine.decided ≡ (ended_taken (reading self.old)).lines.decided) }
-        ensures rises { IfOk result (λ more. more ≡ open_rises (end_fault (reading self.old)) (ended_taken (reading self.old)).lines) }
-        ensures samples { OnOk result (to.new.items ≡ pushed limit self.old.machine.decided to.old.items (ended_samples (reading self.old) ++ open_samples (end_fault (reading self.old)) (ended_taken (reading self.old)).lines)) }
-        ensures part { OnErr result (Part limit self.old.machine.decided (ended_samples (reading self.old) ++ open_samples (end_fault (reading self.old)) (ended_taken (reading self.old)).lines) to.old.items to.new.items) }
+        ensures lines { OnOk result
+            (self.new.machine.lines.items ≡ (ended_taken (reading self.old)).known.lines) }
+        ensures decided { OnOk result
+            (self.new.machine.decided ≡ (ended_taken (reading self.old)).lines.decided) }
+        ensures rises { IfOk result
+            (λ more. more ≡ open_rises (end_fault (reading self.old))
+            (ended_taken (reading self.old)).lines) }
+        ensures samples { OnOk result
+            (to.new.items ≡ pushed limit self.old.machine.decided to.old.items
+            (ended_samples (reading self.old)
+            ++ open_samples (end_fault (reading self.old))
+            (ended_taken (reading self.old)).lines)) }
+        ensures part { OnErr result
+            (Part limit self.old.machine.decided
+            (ended_samples (reading self.old)
+            ++ open_samples (end_fault (reading self.old)) (ended_taken (reading self.old)).lines)
+            to.old.items to.new.items) }
     {
         self.last(limit, to)?;
         self.machine.end(self.at);
@@ -198,7 +245,9 @@ impl Scan {
         requires room { self.old.at + length bytes.now < 2 ^ 64 }
         requires fits { Fits (reading self.old) }
         ensures state { OnOk result (reading self.new ≡ after_bytes (reading self.old) bytes.now) }
-        ensures samples { OnOk result (to.new.items ≡ pushed limit self.old.machine.decided to.old.items (samples_in_bytes (reading self.old) bytes.now)) }
+        ensures samples { OnOk result
+            (to.new.items ≡ pushed limit self.old.machine.decided to.old.items
+            (samples_in_bytes (reading self.old) bytes.now)) }
         ensures silent { OnErr result (to.new.items ≡ to.old.items) }
     {
         if LONGEST < self.run_len() {
@@ -221,7 +270,9 @@ impl Scan {
         requires short { length self.old.run.items ≤ 70000 }
         requires over { 70000 < length self.old.run.items + length bytes.now }
         ensures state { OnOk result (reading self.new ≡ after_bytes (reading self.old) bytes.now) }
-        ensures samples { OnOk result (to.new.items ≡ pushed limit self.old.machine.decided to.old.items (samples_in_bytes (reading self.old) bytes.now)) }
+        ensures samples { OnOk result
+            (to.new.items ≡ pushed limit self.old.machine.decided to.old.items
+            (samples_in_bytes (reading self.old) bytes.now)) }
         ensures silent { OnErr result (to.new.items ≡ to.old.items) }
     {
         let place = self.at - self.run_len() as u64;
@@ -233,14 +284,33 @@ impl Scan {
 }
 
 /// How many bytes stand before the first white space.
-#[tactic(auto, using(std::proofs::lemmas::List::Folds::list_all_more))]
 fn span_len(bytes: &[u8]) -> usize
     ensures within { result ≤ length bytes.now }
     ensures dark { list_all is_dark (take result bytes.now) ≡ true }
     ensures white { result < length bytes.now → is_white (slice_index bytes.now result) ≡ true }
 {
-    for (i, byte) in bytes.iter().enumerate() {
-        if is_white(*byte) {
+    let mut at = 0;
+    while LANES <= bytes.len() - at {
+        let run = dark_run(bytes, at);
+        if run < LANES {
+            return at + run;
+        }
+        at += LANES;
+    }
+    span_len_from(bytes, at)
+}
+
+/// How many bytes stand before the first white space, where so many were seen to.
+#[tactic(auto, using(std::proofs::lemmas::List::Folds::list_all_more))]
+fn span_len_from(bytes: &[u8], at: usize) -> usize
+    requires seen { at ≤ length bytes.now }
+    requires dark { list_all is_dark (take at bytes.now) ≡ true }
+    ensures within { result ≤ length bytes.now }
+    ensures dark { list_all is_dark (take result bytes.now) ≡ true }
+    ensures white { result < length bytes.now → is_white (slice_index bytes.now result) ≡ true }
+{
+    for i in at..bytes.len() {
+        if is_white(bytes[i]) {
             return i;
         }
     }

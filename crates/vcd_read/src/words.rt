@@ -1,6 +1,6 @@
 //! What a token says by itself.
 
-ghost use Rattle.std.specs.Prelude.{◌≡◌, ◌≤◌, not, ◌==◌, nat_eq, length, position};
+ghost use Rattle.std.specs.Prelude.{◌≡◌, ◌≤◌, true, take, not, ◌==◌, nat_eq, length, position};
 ghost use Rattle.std.specs.List.{list_all, prefix_len};
 ghost use Rattle.std.specs.Cmp.Lexicographic.{pointwise};
 ghost use Rattle.vcd_grammar.specs.Digits.{is_value_digit};
@@ -8,6 +8,7 @@ ghost use Rattle.vcd_grammar.specs.Words.{is_end, is_dollar, is_read_past, is_fo
 ghost use Rattle.fsb_signal.specs.Table.{signal_number};
 
 use crate::digits::is_value_digit;
+use crate::lanes::{LANES, binary_run};
 use fsb_signal::{SIGNALS, Signal};
 
 /// Whether the token ends a section.
@@ -89,9 +90,33 @@ pub(crate) fn is_code_word(word: &[u8]) -> bool
     word.iter().all(|byte| 33 <= *byte && *byte <= 126)
 }
 
+/// A number of first bytes that are digits 0 and 1, in steps of sixteen.
+fn binary_len(word: &[u8]) -> usize
+    ensures within { result ≤ length word.now }
+    ensures digits { list_all is_value_digit (take result word.now) ≡ true }
+{
+    let mut at = 0;
+    while LANES <= word.len() - at {
+        let run = binary_run(word, at);
+        if run < LANES {
+            return at + run;
+        }
+        at += LANES;
+    }
+    at
+}
+
+/// Whether each byte is a digit of a value, byte by byte.
+fn are_all_digits(word: &[u8]) -> bool
+    ensures { result ≡ list_all is_value_digit word.now }
+{
+    word.iter().all(|byte| is_value_digit(*byte))
+}
+
 /// Whether each byte is a digit of a value.
 pub(crate) fn are_value_digits(word: &[u8]) -> bool
     ensures { result ≡ list_all is_value_digit word.now }
 {
-    word.iter().all(|byte| is_value_digit(*byte))
+    let at = binary_len(word);
+    are_all_digits(&word[at..])
 }

@@ -1,0 +1,60 @@
+-- Replies are begun by the priority agent, and by no other agent.
+use Rattle.std.proofs.Common.{ℕ, suc, ◌-◌, ◌<◌, ◌≤◌, ◌≡◌, Bool, true, false, ◌&&◌, Option, Some, None, length, refl, sym, ap, ◌∙◌, arith}
+use Rattle.std.proofs.lemmas.Bool.{le-leb}
+use Rattle.fsb_count.specs.Options.{is_some_and}
+use Rattle.fsb_encode.specs.declared.request.Request.{Request}
+use Rattle.fsb_signal.specs.declared.lines.TheConstants.Lines.{ADS}
+use Rattle.fsb_signal.specs.Samples.{line_at}
+use Rattle.fsb_trace.specs.declared.who.Who.{Who}
+use Rattle.fsb_trace.specs.declared.who.Who.TheVariants.{Symmetric, Priority}
+use Rattle.fsb_trace.specs.At.{Trace, line_back, request_at}
+use Rattle.fsb_trace.specs.Requests.{is_reply}
+use Rattle.fsb_trace.specs.Rules.{is_identified, is_own_id}
+use Rattle.fsb_trace.specs.Winner.{begins_at, is_agent, is_same_agent, winner_at}
+use Rattle.fsb_timely.specs.Runs.{Run, run_to}
+use Rattle.fsb_timely.specs.Starts.{reply_before}
+use Rattle.fsb_timely.specs.Timely.{Timely}
+use Rattle.fsb_lawful.specs.Beginning.{WantsLawfully}
+use Rattle.fsb_lawful.proofs.Identity.{identified-at}
+
+-- the priority agent begins replies, and no other agent does
+reply-priority : (o : Option Who) (q : Option Request) (b : Bool) → is_identified o q ≡ true → is_reply q ≡ b
+    → is_agent o Priority ≡ b
+unfolding is_identified is_agent is_some_and is_same_agent is_own_id
+reply-priority o q true e f = rw (is_identified, f) at e
+reply-priority o q false e f = other o q (rw (is_identified, f) at e)
+  where
+    named : (o : Option Who) (x : Request) → is_own_id o x ≡ true → is_agent o Priority ≡ false
+    named None x e = refl
+    named (Some (Symmetric a)) x e = refl
+    named (Some Priority) x e = absurd (let no : ⊥ = cc in no)
+
+    other : (o : Option Who) (q : Option Request) → is_some_and q (is_own_id o) ≡ true → is_agent o Priority ≡ false
+    other o None e = absurd (let no : ⊥ = cc in no)
+    other o (Some x) e = named o x e
+
+reply-by : (w : Trace) (d : ℕ) (b : Bool) → line_at ADS w d ≡ b
+    → (b ≡ true → is_agent (winner_at w d) Priority ≡ is_reply (request_at w d))
+    → (line_at ADS w d && is_reply (request_at w d)) ≡ (line_at ADS w d && is_agent (winner_at w d) Priority)
+reply-by w d true e f = rw e (sym (f refl))
+reply-by w d false e f = rw e refl
+
+back-one : (w : Trace) (d : ℕ) → line_back ADS w (suc d) 1 ≡ line_at ADS w d
+unfolding line_back
+back-one w d = let one : suc d - 1 ≡ d = omega arith in rw (one, le-leb 1 (suc d) (omega arith)) refl
+
+pub reply-before : (v : Run) (d : ℕ)
+    → reply_before v (suc d) ≡ (line_at ADS v.trace d && is_reply (request_at v.trace d))
+unfolding reply_before
+reply-before v d =
+    let one : suc d - 1 ≡ d = omega arith in
+    ap (λ b. b && is_reply (request_at v.trace (suc d - 1))) (back-one v.trace d) ∙ ap (λ k. line_at ADS v.trace d && is_reply (request_at v.trace k)) one
+
+-- a reply began at the clock before exactly where the priority agent did
+pub reply-is : (r : Run) (d : ℕ) → Timely r → WantsLawfully r → r.plan.ahead ≤ 4 → suc d < length r.trace
+    → reply_before (run_to r (suc d)) (suc d) ≡ begins_at (run_to r (suc d)).trace d Priority
+unfolding begins_at
+reply-is r d h wants few l =
+    let v = run_to r (suc d) in
+    reply-before v d
+    ∙ reply-by v.trace d (line_at ADS v.trace d) refl (λ t. reply-priority (winner_at v.trace d) (request_at v.trace d) (is_reply (request_at v.trace d)) (identified-at r d h few wants l (back-one v.trace d ∙ t)) refl)

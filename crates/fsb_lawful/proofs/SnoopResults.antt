@@ -1,0 +1,151 @@
+-- Rule 12: at the snoop end of a write-back or a reply of a timely run there is nothing to be told.
+use Rattle.std.proofs.Common.{nat_eq, Option, None, sym, ℕ, ◌+◌, ◌<◌, ◌≡◌, Bool, true, false, not, ◌&&◌, ◌||◌, Some, length, take, refl, ap, ◌∙◌, arith}
+use Rattle.std.proofs.lemmas.Bool.{and_parts, and_left, and_right}
+use Rattle.std.specs.Bool.{beq}
+use Rattle.fsb_count.specs.Options.{is_at, is_some_and}
+use Rattle.fsb_count.proofs.Interface.{any_where-none, any_where-off, is_at-some}
+use Rattle.fsb_encode.specs.declared.request.Kind.{Kind}
+use Rattle.fsb_encode.specs.declared.request.Kind.TheVariants.{Reply, Invalidate, Read, WriteBack, Upgrade}
+use Rattle.fsb_encode.specs.declared.request.Request.{Request}
+use Rattle.fsb_hazard.specs.Choice.{is_never_held_up}
+use Rattle.fsb_signal.specs.declared.lines.TheConstants.Lines.{HIT, HITM, DEFER}
+use Rattle.fsb_signal.specs.declared.marks.Marks.{Marks}
+use Rattle.fsb_signal.specs.Samples.{line_at}
+use Rattle.fsb_trace.specs.Requests.{is_reply, is_reply_kind, is_write_back, is_write_back_kind, live_count, live_request_of}
+use Rattle.fsb_trace.specs.Rules.{is_result_unfit_for, is_snoop_result_unfit}
+use Rattle.fsb_trace.specs.Snoop.{snoop_end_of}
+use Rattle.fsb_trace.proofs.Interface.{breaks-12}
+use Rattle.fsb_timely.specs.Grants.{holds_line, is_exclusive, snooped_at}
+use Rattle.fsb_timely.specs.Hits.{is_dirty}
+use Rattle.fsb_timely.specs.Past.{Claim, Past, SnoopEnd}
+use Rattle.fsb_timely.specs.Runs.{Run, past_of, past_to, run_to}
+use Rattle.fsb_timely.specs.Snoops.{has_right_result, has_snoop_result, is_dirty_elsewhere, is_dirty_for, is_held_elsewhere, is_held_for, is_keep, is_reply_end, was_hit_before}
+use Rattle.fsb_timely.specs.Timely.{holds_in, holds_at, Timely}
+use Rattle.fsb_lawful.specs.Beginning.{WantsLawfully}
+use Rattle.fsb_lawful.specs.Keeps.{Keeps}
+use Rattle.fsb_lawful.specs.Premises.{WritesBackAlone}
+use Rattle.fsb_lawful.proofs.Cuts.{snooped-to}
+use Rattle.fsb_lawful.proofs.Keeping.{keeps, not-true, same-beq}
+use Rattle.fsb_lawful.proofs.Turns.{Turned, turned-at, decoded-live}
+
+right-by : (r : Run) (p : Past) (c : ℕ) (s : SnoopEnd) → has_snoop_result r p c ≡ true → snooped_at p c ≡ Some s
+    → has_right_result r p c s ≡ true
+unfolding has_snoop_result
+right-by r p c s e there = rw (there, has_snoop_result) at e
+
+-- the result at a snoop end of the run
+right-at : (r : Run) (c : ℕ) (s : SnoopEnd) → Timely r → c < length r.trace → snooped_at (past_of r) c ≡ Some s
+    → has_right_result (run_to r c) (past_to (past_of r) c) c s ≡ true
+unfolding holds_at holds_in
+right-at r c s h l there =
+    right-by (run_to r c) (past_to (past_of r) c) c s (h.snoop_results.at c l) (snooped-to (past_of r) c c (omega arith) ∙ there)
+
+reply-end : (s : SnoopEnd) (kind : Kind) → s.kind ≡ Some kind → is_reply_end s ≡ is_reply_kind kind
+unfolding is_reply_end is_some_and
+reply-end s kind k = ap (λ o. is_some_and o is_reply_kind) k
+
+-- the result at the snoop end of a reply, and of any other request
+at-reply : (r : Run) (p : Past) (c : ℕ) (s : SnoopEnd) → has_right_result r p c s ≡ true → is_reply_end s ≡ true
+    → line_at HITM r.trace c ≡ false
+unfolding has_right_result
+at-reply r p c s e k =
+    let e' = rw (k, has_right_result) at e in not-true (line_at HITM r.trace c) (and_parts (beq (line_at HIT r.trace c) (was_hit_before r p c)) (not (line_at HITM r.trace c)) e').1
+
+at-other : (r : Run) (p : Past) (c : ℕ) (s : SnoopEnd) → has_right_result r p c s ≡ true
+    → is_reply_end s ≡ false
+    → (line_at HITM r.trace c ≡ is_dirty_for p c s) × (line_at HIT r.trace c ≡ (not (is_dirty_for p c s) && is_held_for p c s))
+unfolding has_right_result
+at-other r p c s e k =
+    let e' = rw (k, has_right_result) at e in
+    let a = and_parts (beq (line_at HITM r.trace c) (is_dirty_for p c s)) (beq (line_at HIT r.trace c) (not (is_dirty_for p c s) && is_held_for p c s)) e' in
+    (same-beq _ _ a.0, same-beq _ _ a.1)
+
+-- a reply has no HITM#
+reply-clean : (r : Run) (p : Past) (c : ℕ) (s : SnoopEnd) → has_right_result r p c s ≡ true
+    → s.kind ≡ Some Reply → line_at HITM r.trace c ≡ false
+unfolding is_reply_kind
+reply-clean r p c s e k = at-reply r p c s e (reply-end s Reply k)
+
+-- a write-back of a line that no other agent has, has neither HITM# nor HIT#
+alone-clean : (r : Run) (p : Past) (c : ℕ) (s : SnoopEnd) → has_right_result r p c s ≡ true
+    → s.kind ≡ Some WriteBack → is_dirty_for p c s ≡ false → is_held_for p c s ≡ false
+    → (line_at HITM r.trace c ≡ false) × (line_at HIT r.trace c ≡ false)
+unfolding is_reply_kind
+alone-clean r p c s e k dirty held =
+    let a = at-other r p c s e (reply-end s WriteBack k) in
+    (a.0 ∙ dirty, a.1 ∙ ap (λ b. not (is_dirty_for p c s) && b) held ∙ and_right _ _ refl)
+
+-- who is dirty on a line holds it
+dirty-holds : (p : Past) (a line c : ℕ) → is_dirty p a line c ≡ true → holds_line p a line c ≡ true
+unfolding is_dirty is_exclusive
+dirty-holds p a line c e =
+    (and_parts (holds_line p a line c) _ (and_parts (holds_line p a line c && _) _ (and_parts (is_exclusive p a line c) _ e).0).0).0
+
+not-dirty : (p : Past) (a line c : ℕ) → is_held_elsewhere p a line c ≡ false → is_dirty_elsewhere p a line c ≡ false
+unfolding is_held_elsewhere is_dirty_elsewhere
+not-dirty p a line c e =
+    any_where-off (λ b. not (nat_eq b a) && is_dirty p b line c) 4 (λ b l. neither (not (nat_eq b a)) (holds_line p b line c) (is_dirty p b line c) (any_where-none (λ b. not (nat_eq b a) && holds_line p b line c) 4 e b l) (dirty-holds p b line c))
+  where
+    neither : (other held dirty : Bool) → (other && held) ≡ false → (dirty ≡ true → held ≡ true) → (other && dirty) ≡ false
+    neither false held dirty f g = refl
+    neither true held false f g = refl
+    neither true held true f g = sym (g refl) ∙ f
+
+clean-for : (p : Past) (c : ℕ) (s : SnoopEnd) (o : Option Claim) → s.claim ≡ o → is_held_for p c s ≡ false → is_dirty_for p c s ≡ false
+unfolding is_held_for is_dirty_for is_some_and
+clean-for p c s None e h = rw e refl
+clean-for p c s (Some claim) e h = rw e (not-dirty p claim.agent claim.line c (rw e at h))
+
+-- what the rule asks of a request of this kind
+unfit-by : (kind : Kind) (hit hitm defer : Bool) → (is_never_held_up kind ≡ true → defer ≡ false)
+    → (kind ≡ Reply → hitm ≡ false) → (kind ≡ WriteBack → (hitm ≡ false) × (hit ≡ false))
+    → ((is_write_back_kind kind || is_reply_kind kind) && (hitm || defer) || is_write_back_kind kind && hit) ≡ false
+unfolding is_write_back_kind is_reply_kind
+unfit-by Reply hit hitm defer f g k = rw (f refl, g refl) refl
+unfit-by WriteBack hit hitm defer f g k = rw (f refl, (k refl).0, (k refl).1) refl
+unfit-by Invalidate hit hitm defer f g k = refl
+unfit-by Read hit hitm defer f g k = refl
+unfit-by Upgrade hit hitm defer f g k = refl
+
+kept-quiet : (r : Run) (c i : ℕ) (k : Turned r c i c) (request : Request)
+    → live_request_of (run_to r c).trace i ≡ Some request → is_never_held_up request.kind ≡ true
+    → line_at DEFER (run_to r c).trace c ≡ false
+unfolding is_keep
+kept-quiet r c i k request q t = k.defers ∙ ap (λ turn. not (is_keep turn)) ((k.effective request q).keeps t)
+
+kind-is : (r : Run) (c i : ℕ) (k : Turned r c i c) (request : Request) (kind : Kind)
+    → live_request_of (run_to r c).trace i ≡ Some request → request.kind ≡ kind → k.end.kind ≡ Some kind
+kind-is r c i k request kind q e = k.kind request q ∙ ap Some e
+
+ended : (r : Run) (c i : ℕ) → Timely r → WantsLawfully r → WritesBackAlone r → c < length r.trace
+    → snoop_end_of (run_to r c).trace i ≡ Some c
+    → ((is_write_back (live_request_of (run_to r c).trace i) || is_reply (live_request_of (run_to r c).trace i)) && (line_at HITM (run_to r c).trace c || line_at DEFER (run_to r c).trace c) || is_write_back (live_request_of (run_to r c).trace i) && line_at HIT (run_to r c).trace c) ≡ false
+unfolding is_write_back is_reply is_some_and is_write_back_kind
+ended r c i h wants alone l e =
+    let v = (run_to r c).trace in
+    let q = decoded-live r c i c h wants l e in
+    let k = turned-at r c i c h l e in
+    let right = right-at r c k.end h l k.there in
+    rw q.1 (unfit-by q.0.kind (line_at HIT v c) (line_at HITM v c) (line_at DEFER v c)
+    (λ t. kept-quiet r c i k q.0 q.1 t)
+    (λ t. reply-clean (run_to r c) (past_to (past_of r) c) c k.end right (kind-is r c i k q.0 Reply q.1 t))
+    (λ t. let w = kind-is r c i k q.0 WriteBack q.1 t in
+    alone-clean (run_to r c) (past_to (past_of r) c) c k.end right w (clean-for (past_to (past_of r) c) c k.end k.end.claim refl (alone.alone c k.end k.there (rw w refl))) (alone.alone c k.end k.there (rw w refl))))
+
+unfit : (r : Run) (c i : ℕ) → Timely r → WantsLawfully r → WritesBackAlone r → c < length r.trace → (b : Bool)
+    → is_at (snoop_end_of (run_to r c).trace i) c ≡ b → is_result_unfit_for (run_to r c).trace c i ≡ false
+unfolding is_result_unfit_for
+unfit r c i h wants alone l false e = and_left _ _ e
+unfit r c i h wants alone l true e = and_right _ _ (ended r c i h wants alone l (is_at-some (snoop_end_of (run_to r c).trace i) c e))
+
+at-clock : (r : Run) (c : ℕ) → Timely r → WantsLawfully r → WritesBackAlone r → c < length r.trace
+    → is_snoop_result_unfit (run_to r c).trace c ≡ false
+unfolding is_snoop_result_unfit
+at-clock r c h wants alone l =
+    let v = (run_to r c).trace in
+    any_where-off (is_result_unfit_for v c) (live_count v) (λ i m. unfit r c i h wants alone l (is_at (snoop_end_of v i) c) refl)
+
+-- rule 12
+pub keeps-12 : (m : Marks) (r : Run) → Timely r → WantsLawfully r → WritesBackAlone r → Keeps m 12 r.trace
+unfolding run_to
+keeps-12 m r h wants alone = keeps m 12 r.trace (λ c l. breaks-12 m (take (c + 1) r.trace) c ∙ at-clock r c h wants alone l)

@@ -1,0 +1,78 @@
+-- A want stays until its request begins, where what an agent gets it has asked for.
+use Rattle.std.proofs.Common.{ℕ, suc, ◌+◌, ◌<◌, ◌≡◌, true, false, ◌&&◌, List, [], ◌∷◌, ◌++◌, Option, Some, None, is_some, length, nat_le, nat_lt, refl, sym, ap, ◌∙◌, arith, inl, inr, add-one}
+use Rattle.std.specs.List.{list_all}
+use Rattle.std.proofs.lemmas.Bool.{and_from, and_parts, cases_Bool, le-leb, leb-false, leb-true, lt-leb}
+use Rattle.fsb_access.specs.declared.log.Done.{Done}
+use Rattle.fsb_trace.specs.declared.who.Who.TheVariants.{Symmetric}
+use Rattle.fsb_trace.specs.Winner.{begins_at}
+use Rattle.fsb_timely.specs.Completions.{is_in_time}
+use Rattle.fsb_timely.specs.Growth.{GoesOn}
+use Rattle.fsb_timely.specs.Runs.{Run, entries_to, past_of, past_to, run_to}
+use Rattle.fsb_timely.specs.Staying.{OwesNoMore}
+use Rattle.fsb_timely.specs.Timely.{Timely}
+use Rattle.fsb_timely.specs.Wants.{want_of}
+use Rattle.fsb_timely.proofs.Interface.{below_le, done_below, timely-want-stays, want_of-alike}
+use Rattle.fsb_lawful.specs.Premises.{GrantsAreOwed}
+use Rattle.fsb_lawful.proofs.Cuts.{moments-to}
+use Rattle.fsb_lawful.proofs.OwesLess.{owes-less}
+
+-- the entries behind a clock
+record IsCut (c : ℕ) (log : List Done) : Type 0 where
+  pub later : List Done
+  pub whole : log ≡ entries_to c log ++ later
+  pub behind : list_all (λ done. nat_le (c + 1) done.clock) later ≡ true
+
+all-later : (c first n : ℕ) (log : List Done) → c < first → is_in_time first n log ≡ true → (entries_to c log ≡ []) × (list_all (λ done. nat_le (c + 1) done.clock) log ≡ true)
+unfolding is_in_time entries_to
+all-later c first n [] l e = (refl, refl)
+all-later c first n (done ∷ log) l e =
+    let a = and_parts (nat_le first done.clock) (nat_lt done.clock n && is_in_time done.clock n log) e in
+    let b = and_parts (nat_lt done.clock n) (is_in_time done.clock n log) a.1 in
+    let low = leb-true first done.clock a.0 in
+    let rest = all-later c done.clock n log (omega arith) b.1 in
+    (rw (lt-leb done.clock c (omega arith)) rest.0, and_from _ _ (le-leb (c + 1) done.clock (omega arith)) rest.1)
+
+-- a log in time is what it has up to a clock, and then the entries behind it
+cut : (c first n : ℕ) (log : List Done) → is_in_time first n log ≡ true → IsCut c log
+unfolding is_in_time entries_to
+cut c first n [] e = record { later = []; whole = refl; behind = refl }
+cut c first n (done ∷ log) e =
+    let a = and_parts (nat_le first done.clock) (nat_lt done.clock n && is_in_time done.clock n log) e in
+    let b = and_parts (nat_lt done.clock n) (is_in_time done.clock n log) a.1 in
+    elim (cases_Bool (nat_le done.clock c)) [
+      | inl early ↦ let rest = cut c done.clock n log b.1 in record { later = rest.later; whole = rw early (ap (λ xs. done ∷ xs) rest.whole); behind = rest.behind }
+      | inr late ↦
+          let more = leb-false done.clock c late in
+          let rest = all-later c done.clock n log more b.1 in
+          record { later = done ∷ log; whole = rw (late, rest.0) refl; behind = and_from _ _ (le-leb (c + 1) done.clock (omega arith)) rest.1 }
+    ]
+
+-- the whole past goes on from the past up to a clock
+goes-on : (r : Run) (c : ℕ) → Timely r → GoesOn (c + 1) (past_to (past_of r) c) (past_of r)
+unfolding past_of past_to
+goes-on r c h =
+    let k = cut c 0 (length r.trace) r.log h.in_time in
+    record { same_plan = refl; same_moments = λ t l. moments-to (past_of r) c t (omega arith); entries = k.later; more_log = k.whole; at_end = k.behind }
+
+want-same : (r : Run) (a c : ℕ) → Timely r → want_of (past_to (past_of r) c) a c ≡ want_of (past_of r) a c
+want-same r a c h =
+    let g = goes-on r c h in
+    want_of-alike (c + 1) (past_to (past_of r) c) (past_of r) a c g (below_le c (c + 1) (omega arith)) (done_below (c + 1) (past_to (past_of r) c) a c g.entries (omega arith) g.at_end)
+
+some-is : {A : Type 0} (o : Option A) → is_some o ≡ true → (x : A) × (o ≡ Some x)
+some-is None e = absurd (let no : ⊥ = cc in no)
+some-is (Some x) e = (x, refl)
+
+-- who begins nothing owes no more
+owes-no-more : (r : Run) (a c : ℕ) → Timely r → GrantsAreOwed r → c < length r.trace → begins_at (run_to r c).trace c (Symmetric a) ≡ false → OwesNoMore (past_of r) a c
+owes-no-more r a c h grants l begins =
+    let less = owes-less r a c h l begins in
+    record { among = less.among; fewer = less.fewer; granted = λ line e. grants.granted a c line l e; brought = λ need e. grants.brought a c need l e }
+
+-- a want stays
+pub wants-go-on : (r : Run) (a c : ℕ) → Timely r → GrantsAreOwed r → suc c < length r.trace → is_some (want_of (past_to (past_of r) c) a c) ≡ true → begins_at (run_to r c).trace c (Symmetric a) ≡ false
+    → is_some (want_of (past_to (past_of r) (suc c)) a (suc c)) ≡ true
+wants-go-on r a c h none l some begins =
+    let want = some-is (want_of (past_of r) a c) (ap (λ o. is_some o) (sym (want-same r a c h)) ∙ some) in
+    let next = timely-want-stays r a c want.0 h (omega arith) (owes-no-more r a c h none (omega arith) begins) want.1 in
+    ap (λ o. is_some o) (want-same r a (suc c) h ∙ ap (want_of (past_of r) a) (sym (add-one c)) ∙ next.1)

@@ -1,0 +1,13 @@
+use Rattle.std.proofs.Common.{refl}
+use Rattle.std.proofs.lemmas.Simd.{zip2_splat, length-chunk}
+use lib.Lanes.{chunk}
+use Rattle.vcd_read.specs.Lanes.{is_binary}
+use Rattle.vcd_read.proofs.LaneRuns.{joined, run_of}
+use Rattle.vcd_read.proofs.lanes.binary_run.Goals as goal
+
+pub returns : goal.returns
+returns c =
+    let v = chunk c.args.at 16 c.args.bytes.now in
+    let long = length-chunk c.args.at 16 c.args.bytes.now c.requires in
+    run_of (λ b. is_binary b) c.args.bytes.now c.args.at _ _ c.requires c.type_inv.bytes c.first_set.ensures _
+    (joined _ _ _ v (zip2_splat _ v 16 48 long) (zip2_splat _ v 16 49 long)) refl
