@@ -105,6 +105,8 @@ def forms(folder):
         "check": ["check", dump],
         "check of a dump of 190 KB": ["check", long],
         "check of a file that is refused": ["check", written(folder, "bad.vcd", head + clocks + b"x")],
+        "find": ["find", dump, "ADS/DRDY"],
+        "wave": ["wave", dump, "0", "63"],
         "bad words": ["run", "-x"],
     }
 

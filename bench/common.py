@@ -1,4 +1,4 @@
-"""What the scripts of this folder share: the built program, and the most memory that a program has while it runs, in MiB.
+"""What the scripts of this folder share: the built program, a large dump, and the most memory that a program has while it runs, in MiB.
 
 The memory is read off /proc again and again, since what the system counts for a child also counts its parent's before the child begins.
 """
@@ -39,3 +39,38 @@ def most_memory(words):
 def row(work, measured, memory, asked):
     """Prints one line of the table."""
     print("%-62s %-10s %8.1f MiB   %s" % (work, measured, memory, asked))
+
+
+def large_dump(program, folder, size):
+    """Writes a dump of so many bytes or a little more into the folder, in the form that the program writes: the clocks of a real run over
+    and over with rising time stamps. Answers its name, that of a dump of its header alone, and how many clocks it has."""
+    bench, run, large, small = (os.path.join(folder, name) for name in ("run.bench", "run.vcd", "large.vcd", "small.vcd"))
+
+    # a run of loads and stores on lines of their own, with idle clocks behind it
+    items = "".join("ld 8 %x\nst 8 %x %x\n" % (32 * n, 32 * n + 8, 1000 * n + 7) for n in range(64))
+    with open(bench, "w") as out:
+        out.write("p6bench 1\nagents 1\nclocks 1600\ncache 1024\nahead 1\nagent 0\n" + items + "end\n")
+    subprocess.run([program, "run", bench, run], stdout=subprocess.DEVNULL, check=True)
+
+    # the header, and of each clock the values that change, where the first clock follows the last one
+    with open(run) as file:
+        text = file.read()
+    end = text.index("$end\n", text.index("$dumpvars")) + len("$end\n")
+    header, words = text[:end], text[end:].split("#")
+    first = dict((line[-1], line) for line in header[header.index("$dumpvars"):].splitlines()[2:-1])
+    last, clocks = dict(first), []
+    for word in words[2::2]:
+        lines = word.splitlines()[2:]
+        last.update((line[-1], line) for line in lines)
+        clocks.append("".join(line + "\n" for line in lines))
+    again = "".join(line + "\n" for code, line in first.items() if last[code] != line)
+    form = "".join("#%d\n0!\n" + values + "#%d\n1!\n" for values in clocks + [again])
+    count = len(clocks) + 1
+    with open(large, "w") as out:
+        made, clock = out.write(header + "#5\n1!\n"), 1
+        while made < size:
+            made += out.write(form % tuple(stamp for c in range(clock, clock + count) for stamp in (10 * c, 10 * c + 5)))
+            clock += count
+    with open(small, "w") as out:
+        out.write(header)
+    return large, small, clock

@@ -27,7 +27,7 @@ use Rattle.fsb_audit.specs.declared.audit.Audit.{Audit}
 use Rattle.fsb_audit.specs.Transfers.{is_from_memory, moved_at, moved_count}
 use Rattle.fsb_audit.specs.Fouls.{broken_at, foul_at, is_foul_clock}
 use Rattle.fsb_audit.specs.Registers.{HasMoved, asked_after, chunk_by, count_after, data_in, first_after, found_after, from_memory_after}
-use Rattle.fsb_audit.specs.Audit.{BreaksFirst, Follows, FoulsFirst, HasAsked, IsAnswering, Settled, Stands, comes_after, is_full, latest_data}
+use Rattle.fsb_audit.specs.Audit.{BreaksFirst, KeepsUp, FoulsFirst, HasAsked, IsAnswering, IsFoundForGood, Stands, comes_after, is_full, latest_data}
 use Rattle.fsb_audit.proofs.Asked.{asked_goes}
 use Rattle.fsb_audit.proofs.Answering.{answering_goes}
 use Rattle.fsb_audit.proofs.Newest.{Comes}
@@ -87,7 +87,7 @@ told_of v n None some none = none refl
 told_of v n (Some c) some none = some
 
 -- the audit follows the history with the sample, where its clock is not foul
-following : (m : Marks) (a : Audit) (h : Trace) (x : Sample) (coming : Option Coming) (new : Audit) → Follows a m h → Moment m h x (h ++ x ∷ []) → Absorbs m a (length h) h x coming new → is_foul_clock (h ++ x ∷ []) (length h) ≡ false → new.count ≡ moved_count (h ++ x ∷ []) → ((chunk : ℕ) → data_in new.moved.entries chunk ≡ latest_data (h ++ x ∷ []) chunk) → Follows new m (h ++ x ∷ [])
+following : (m : Marks) (a : Audit) (h : Trace) (x : Sample) (coming : Option Coming) (new : Audit) → KeepsUp a m h → Moment m h x (h ++ x ∷ []) → Absorbs m a (length h) h x coming new → is_foul_clock (h ++ x ∷ []) (length h) ≡ false → new.count ≡ moved_count (h ++ x ∷ []) → ((chunk : ℕ) → data_in new.moved.entries chunk ≡ latest_data (h ++ x ∷ []) chunk) → KeepsUp new m (h ++ x ∷ [])
 following m a h x coming new f k r clean count moved =
     let v : Trace = h ++ x ∷ [] in
     record {
@@ -104,7 +104,7 @@ following m a h x coming new f k r clean count moved =
     }
 
 -- no data come
-without_data : (m : Marks) (a : Audit) (h : Trace) (x : Sample) (new : Audit) → a.found ≡ None → Follows a m h → Moment m h x (h ++ x ∷ []) → Absorbs m a (length h) h x None new → ((i k : ℕ) → data_clock_of (h ++ x ∷ []) i k ≡ Some (length h) → ⊥) → Stands new m (h ++ x ∷ [])
+without_data : (m : Marks) (a : Audit) (h : Trace) (x : Sample) (new : Audit) → a.found ≡ None → KeepsUp a m h → Moment m h x (h ++ x ∷ []) → Absorbs m a (length h) h x None new → ((i k : ℕ) → data_clock_of (h ++ x ∷ []) i k ≡ Some (length h) → ⊥) → Stands new m (h ++ x ∷ [])
 unfolding found_after count_after
 without_data m a h x new e f k r none =
     let v : Trace = h ++ x ∷ [] in
@@ -116,7 +116,7 @@ without_data m a h x new e f k r none =
     (λ chunk. ap (λ xs. data_in xs chunk) r.moved ∙ map_stays a.moved.entries h x v k.more k.before still.0 f.moved chunk))
 
 -- a chunk comes, and is foul or not
-settled_now : (m : Marks) (h : Trace) (x : Sample) (v : Trace) (f : Finding) → Moment m h x v → ((c : ℕ) → c < length h → is_foul_clock h c ≡ false) → is_foul_clock v (length h) ≡ true → foul_at v (length h) ≡ Some f → Settled m v f
+settled_now : (m : Marks) (h : Trace) (x : Sample) (v : Trace) (f : Finding) → Moment m h x v → ((c : ℕ) → c < length h → is_foul_clock h c ≡ false) → is_foul_clock v (length h) ≡ true → foul_at v (length h) ≡ Some f → IsFoundForGood m v f
 settled_now m h x v f k clean t e = record {
   past = v;
   agree = record { left = omega arith; right = omega arith; same = λ c l. refl };
@@ -125,7 +125,7 @@ settled_now m h x v f k clean t e = record {
   first = inr (record { clock = length h; foul = foul_first h x v k.more k.before clean t; told = e });
 }
 
-by_foul : (m : Marks) (a : Audit) (h : Trace) (x : Sample) (coming : Coming) (new : Audit) (b : Bool) → Follows a m h → Moment m h x (h ++ x ∷ []) → Absorbs m a (length h) h x (Some coming) new → moved_at (h ++ x ∷ []) (length h) ≡ Some (chunk_by a.asked coming) → is_foul_clock (h ++ x ∷ []) (length h) ≡ b → new.found ≡ cond b (foul_at (h ++ x ∷ []) (length h)) None → Stands new m (h ++ x ∷ [])
+by_foul : (m : Marks) (a : Audit) (h : Trace) (x : Sample) (coming : Coming) (new : Audit) (b : Bool) → KeepsUp a m h → Moment m h x (h ++ x ∷ []) → Absorbs m a (length h) h x (Some coming) new → moved_at (h ++ x ∷ []) (length h) ≡ Some (chunk_by a.asked coming) → is_foul_clock (h ++ x ∷ []) (length h) ≡ b → new.found ≡ cond b (foul_at (h ++ x ∷ []) (length h)) None → Stands new m (h ++ x ∷ [])
 unfolding count_after
 by_foul m a h x coming new true f k r moved t e =
     let v : Trace = h ++ x ∷ [] in
@@ -139,7 +139,7 @@ by_foul m a h x coming new false f k r moved t e =
     (following m a h x (Some coming) new f k r t (same ∙ ap (λ n. n + 1) f.count ∙ sym count)
     (map_goes a.moved.entries new.moved.entries h x v (chunk_by a.asked coming) k.more k.before moved r.moved f.moved))
 
-with_data : (m : Marks) (a : Audit) (h : Trace) (x : Sample) (coming : Coming) (new : Audit) → Follows a m h → Moment m h x (h ++ x ∷ []) → Absorbs m a (length h) h x (Some coming) new → HasData (h ++ x ∷ []) (length h) coming → Stands new m (h ++ x ∷ [])
+with_data : (m : Marks) (a : Audit) (h : Trace) (x : Sample) (coming : Coming) (new : Audit) → KeepsUp a m h → Moment m h x (h ++ x ∷ []) → Absorbs m a (length h) h x (Some coming) new → HasData (h ++ x ∷ []) (length h) coming → Stands new m (h ++ x ∷ [])
 unfolding found_after
 with_data m a h x coming new f k r d =
     let v : Trace = h ++ x ∷ [] in
@@ -158,12 +158,12 @@ with_data m a h x coming new f k r d =
     by_foul m a h x coming new (is_foul_clock v (length h)) f k r moved refl
     (r.found ∙ found_now a.moved.entries h x v (chunk_by a.asked coming) (from_memory_after a.from_memory x) k.more k.before (f.moved (chunk_by a.asked coming)) moved (from ∙ sym kept))
 
-either : (m : Marks) (a : Audit) (h : Trace) (x : Sample) (coming : Option Coming) (new : Audit) → a.found ≡ None → Follows a m h → Moment m h x (h ++ x ∷ []) → Absorbs m a (length h) h x coming new → Told (h ++ x ∷ []) (length h) coming → Stands new m (h ++ x ∷ [])
+either : (m : Marks) (a : Audit) (h : Trace) (x : Sample) (coming : Option Coming) (new : Audit) → a.found ≡ None → KeepsUp a m h → Moment m h x (h ++ x ∷ []) → Absorbs m a (length h) h x coming new → Told (h ++ x ∷ []) (length h) coming → Stands new m (h ++ x ∷ [])
 either m a h x None new e f k r t = without_data m a h x new e f k r t
 either m a h x (Some c) new e f k r t = with_data m a h x c new f k r t
 
 -- a sample that breaks no rule
-pub absorb_stands : (m : Marks) (a new : Audit) (h : Trace) (x : Sample) (coming : Option Coming) → a.found ≡ None → Follows a m h → Absorbs m a a.clock h x coming new → Told (h ++ x ∷ []) (length h) coming → verdict m (h ++ x ∷ []) ≡ None → Stands new m (h ++ x ∷ [])
+pub absorb_stands : (m : Marks) (a new : Audit) (h : Trace) (x : Sample) (coming : Option Coming) → a.found ≡ None → KeepsUp a m h → Absorbs m a a.clock h x coming new → Told (h ++ x ∷ []) (length h) coming → verdict m (h ++ x ∷ []) ≡ None → Stands new m (h ++ x ∷ [])
 absorb_stands m a new h x coming e f r t s =
     either m a h x coming new e f (moment m a.checker new.checker h x f.checker r.checker s)
     (subst (λ n. Absorbs m a n h x coming new) f.clock r) t
@@ -174,7 +174,7 @@ unfolding as_broken
 broken_parts None b e = absurd (let no : ⊥ = cc in no)
 broken_parts (Some p) b e = (p, refl, same_Some _ _ e)
 
-settled_broken : (m : Marks) (a : Audit) (h : Trace) (x : Sample) (b : Broken) (p : ℕ × ℕ) → Follows a m h → Orderly h → verdict m (h ++ x ∷ []) ≡ Some p → record { clock = p.0; rule = p.1 } ≡ b → Settled m (h ++ x ∷ []) (BrokenFirst b)
+settled_broken : (m : Marks) (a : Audit) (h : Trace) (x : Sample) (b : Broken) (p : ℕ × ℕ) → KeepsUp a m h → Orderly h → verdict m (h ++ x ∷ []) ≡ Some p → record { clock = p.0; rule = p.1 } ≡ b → IsFoundForGood m (h ++ x ∷ []) (BrokenFirst b)
 unfolding broken_at
 settled_broken m a h x b p f o e same =
     let more = one_more h x in
@@ -188,7 +188,7 @@ settled_broken m a h x b p f o e same =
       first = inl (record { clean = f.clean; rule = p; broken = e; behind = omega arith; told = ap (λ k. BrokenFirst k) same });
     }
 
-pub broken_stands : (m : Marks) (a new : Audit) (h : Trace) (x : Sample) (b : Broken) → Follows a m h → as_broken (verdict m (h ++ x ∷ [])) ≡ Some b → new.found ≡ Some (BrokenFirst b) → Stands new m (h ++ x ∷ [])
+pub broken_stands : (m : Marks) (a new : Audit) (h : Trace) (x : Sample) (b : Broken) → KeepsUp a m h → as_broken (verdict m (h ++ x ∷ [])) ≡ Some b → new.found ≡ Some (BrokenFirst b) → Stands new m (h ++ x ∷ [])
 broken_stands m a new h x b f e t =
     let p = broken_parts (verdict m (h ++ x ∷ [])) b e in
     let o = (f.checker.follows (found_now_none m a.checker h f.checker f.sound)).orderly in
@@ -204,7 +204,7 @@ pub found_stands : (m : Marks) (a : Audit) (h : Trace) (x : Sample) → Stands a
 found_stands m a h x s room t = found_cases m a h x a.found s room refl t
 
 -- what the audit keeps where nothing was found
-pub follows_now : (m : Marks) (a : Audit) (h : Trace) → Stands a m h → is_full a ≡ false → is_some a.found ≡ false → Follows a m h
+pub follows_now : (m : Marks) (a : Audit) (h : Trace) → Stands a m h → is_full a ≡ false → is_some a.found ≡ false → KeepsUp a m h
 follows_now m a h s room e = s.follows room (is_some-none a.found e)
 
 pub no_verdict : (m : Marks) (w : Trace) (told : Option Broken) → told ≡ as_broken (verdict m w) → told ≡ None → verdict m w ≡ None
@@ -215,7 +215,7 @@ unfolding count_where
 count_most p zero = omega arith
 count_most p (suc n) = let l = count_most p n in let c : cond (p n) 1 0 ≤ 1 = cond-most (p n) in omega arith
 
-pub count_below : (m : Marks) (a : Audit) (h : Trace) → Follows a m h → length h < 2 ^ 32 → a.count < 2 ^ 32
+pub count_below : (m : Marks) (a : Audit) (h : Trace) → KeepsUp a m h → length h < 2 ^ 32 → a.count < 2 ^ 32
 unfolding moved_count
 count_below m a h f l =
     let most : count_where (λ c. is_some (moved_at h c)) (length h) ≤ length h = count_most (λ c. is_some (moved_at h c)) (length h) in

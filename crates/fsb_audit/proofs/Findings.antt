@@ -22,7 +22,7 @@ use Rattle.fsb_audit.specs.declared.audit.Audit.{Audit}
 use Rattle.fsb_audit.specs.Transfers.{is_from_memory, moved_at}
 use Rattle.fsb_audit.specs.Fouls.{broken_at, finding_of, found_below, found_with, first_foul, foul_at, have_same_data, is_foul_clock, is_stale, latest_move}
 use Rattle.fsb_audit.specs.Registers.{ChunkMap, data_in, foul_by}
-use Rattle.fsb_audit.specs.Audit.{BreaksFirst, Follows, FoulsFirst, Settled, Stands, is_full, latest_data}
+use Rattle.fsb_audit.specs.Audit.{BreaksFirst, KeepsUp, FoulsFirst, IsFoundForGood, Stands, is_full, latest_data}
 use Rattle.fsb_audit.proofs.Movers.{GoesOnFrom}
 use Rattle.fsb_audit.proofs.Moves.{same_foul, same_foul_at}
 use Rattle.fsb_audit.proofs.Kept.{latest_kept}
@@ -76,7 +76,7 @@ either_found : (m : Marks) (u h : Trace) (f : Finding) → GoesOnFrom u h → ve
 either_found m u h f g e (inl b) = broken_found m u h f g b
 either_found m u h f g e (inr k) = foul_found m u h k.clock f (verdict m h) g e k.foul k.told refl
 
-pub settled_found : (m : Marks) (h : Trace) (f : Finding) → Settled m h f → finding_of m h ≡ Some f
+pub settled_found : (m : Marks) (h : Trace) (f : Finding) → IsFoundForGood m h f → finding_of m h ≡ Some f
 settled_found m h f s = either_found m s.past h f (record { agree = s.agree; orderly = s.orderly }) s.sound s.first
 
 -- what was found stays so with one sample more
@@ -97,7 +97,7 @@ either_stays m u h v f a (inl b) = inl (record {
 })
 either_stays m u h v f a (inr k) = inr k
 
-pub settled_stays : (m : Marks) (h : Trace) (x : Sample) (v : Trace) (f : Finding) → OneMore h x v → Settled m h f → Settled m v f
+pub settled_stays : (m : Marks) (h : Trace) (x : Sample) (v : Trace) (f : Finding) → OneMore h x v → IsFoundForGood m h f → IsFoundForGood m v f
 settled_stays m h x v f more s = record {
   past = s.past;
   agree = agree_on s.past h v s.agree more.agree;
@@ -107,18 +107,18 @@ settled_stays m h x v f more s = record {
 }
 
 -- the audit stands for its history where it follows it, and where what it found is settled
-pub stands_following : (m : Marks) (a : Audit) (h : Trace) → a.found ≡ None → Follows a m h → Stands a m h
+pub stands_following : (m : Marks) (a : Audit) (h : Trace) → a.found ≡ None → KeepsUp a m h → Stands a m h
 stands_following m a h e f = record {
   found = λ room. e ∙ sym (nothing m h f.sound f.clean);
   follows = λ room none. f;
   settled = λ room found some. absurd (let no : ⊥ = cc in no);
 }
 
-pub stands_settled : (m : Marks) (a : Audit) (h : Trace) (f : Finding) → a.found ≡ Some f → Settled m h f → Stands a m h
+pub stands_settled : (m : Marks) (a : Audit) (h : Trace) (f : Finding) → a.found ≡ Some f → IsFoundForGood m h f → Stands a m h
 stands_settled m a h f e s = record {
   found = λ room. e ∙ sym (settled_found m h f s);
   follows = λ room none. absurd (let no : ⊥ = cc in no);
-  settled = λ room found some. subst (Settled m h) (same_Some _ _ (sym e ∙ some)) s;
+  settled = λ room found some. subst (IsFoundForGood m h) (same_Some _ _ (sym e ∙ some)) s;
 }
 
 pub stands_full : (m : Marks) (a : Audit) (h : Trace) → is_full a ≡ true → Stands a m h

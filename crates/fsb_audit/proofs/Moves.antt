@@ -16,7 +16,7 @@ use Rattle.fsb_trace.specs.Outcome.{outcome_of, is_deferral, is_deferred, respon
 use Rattle.fsb_trace.specs.Flight.{is_reply_to, is_live_reply_to, reply_clock_of, reply_number_of}
 use Rattle.fsb_trace.proofs.Interface.{AgreeTo-sym, is_live-agree, line_at-agree, live_clock_of-number, live_clock_of-stays, request_at-agree, response_clock_of-stays, snoop_end_of-clock}
 use Rattle.fsb_laws.proofs.Interface.{deferred_response, live_of_reply}
-use Rattle.fsb_audit.specs.Transfers.{chunk_moved_at, chunk_moved_by, data_place_at, does_come_from_memory, is_answered_by, is_from_memory, moved_at, mover_at, namer_of, nth_chunk}
+use Rattle.fsb_audit.specs.Transfers.{chunk_moved_at, chunk_moved_by, data_place_at, does_come_from_memory, is_named_by_reply, is_from_memory, moved_at, mover_at, namer_of, nth_chunk}
 use Rattle.fsb_audit.specs.Fouls.{foul_at, have_same_data, is_foul_clock, is_stale, latest_move}
 use Rattle.fsb_audit.proofs.Movers.{GoesOnFrom, Responded, data_responded, first_where-alike, live_after, live_below, mover_parts, responded, same_mover, same_outcome, same_place, same_request, still_responded}
 
@@ -68,15 +68,15 @@ answer_clock : (w : Trace) (j : ℕ) (o : Option ℕ) → option_map (live_numbe
 answer_clock w j None e = absurd (let no : ⊥ = cc in no)
 answer_clock w j (Some q) e = (q, refl, same_Some _ _ e)
 
-pub answer_parts : (w : Trace) (j i : ℕ) → is_answered_by w j i ≡ true → Answer w j i
-unfolding is_answered_by reply_number_of
+pub answer_parts : (w : Trace) (j i : ℕ) → is_named_by_reply w j i ≡ true → Answer w j i
+unfolding is_named_by_reply reply_number_of
 answer_parts w j i t =
     let p = and_parts _ _ t in
     let c = answer_clock w j (reply_clock_of w i) (is_at-some _ j p.1) in
     record { deferred = p.0; clock = c.0; is_clock = c.1; number = c.2 }
 
-pub answer_from : (w : Trace) (j i : ℕ) → Answer w j i → is_answered_by w j i ≡ true
-unfolding is_answered_by reply_number_of
+pub answer_from : (w : Trace) (j i : ℕ) → Answer w j i → is_named_by_reply w j i ≡ true
+unfolding is_named_by_reply reply_number_of
 answer_from w j i a = and_from _ _ a.deferred (is_at-from _ j (rw a.is_clock (ap (λ k. Some k) a.number)))
 
 pub answer_live : (w : Trace) (j i : ℕ) (a : Answer w j i) → live_clock_of w j ≡ Some a.clock
@@ -91,7 +91,7 @@ reply_before w i q e =
     is_before-parts (response_clock_of w i) q (and_parts _ _ (and_parts _ _ p.1).1).1
 
 -- the request that a reply answers stays, where the reply responded
-answers_forth : (u v : Trace) (j i : ℕ) → GoesOnFrom u v → Responded u j → is_answered_by u j i ≡ true → (i < live_count v) × (is_answered_by v j i ≡ true)
+answers_forth : (u v : Trace) (j i : ℕ) → GoesOnFrom u v → Responded u j → is_named_by_reply u j i ≡ true → (i < live_count v) × (is_named_by_reply v j i ≡ true)
 answers_forth u v j i g r t =
     let a = answer_parts u j i t in
     let d = deferred_response u i a.deferred in
@@ -108,7 +108,7 @@ answers_forth u v j i g r t =
       }),
     )
 
-answers_back : (u v : Trace) (j i : ℕ) → GoesOnFrom u v → Responded u j → is_answered_by v j i ≡ true → (i < live_count u) × (is_answered_by u j i ≡ true)
+answers_back : (u v : Trace) (j i : ℕ) → GoesOnFrom u v → Responded u j → is_named_by_reply v j i ≡ true → (i < live_count u) × (is_named_by_reply u j i ≡ true)
 answers_back u v j i g r t =
     let a = answer_parts v j i t in
     let c = snoop_end_of-clock u j r.snoop r.is_snoop in
@@ -133,13 +133,13 @@ unfolding namer_of
 same_namer u v j g r =
     rw (same_request u v j g r)
     (ap (λ o. cond (is_reply (live_request_of u j)) o (Some j))
-    (first_where-alike (is_answered_by v j) (is_answered_by u j) (live_count v) (live_count u)
+    (first_where-alike (is_named_by_reply v j) (is_named_by_reply u j) (live_count v) (live_count u)
     (λ i l t. answers_back u v j i g r t) (λ i l t. answers_forth u v j i g r t)))
 
 -- the request that names the line and the chunk has responded
-namer_cases : (u : Trace) (j i : ℕ) (b : Bool) → GoesOnFrom u u → Responded u j → cond b (first_where (is_answered_by u j) (live_count u)) (Some j) ≡ Some i → Responded u i
+namer_cases : (u : Trace) (j i : ℕ) (b : Bool) → GoesOnFrom u u → Responded u j → cond b (first_where (is_named_by_reply u j) (live_count u)) (Some j) ≡ Some i → Responded u i
 namer_cases u j i true g r e =
-    let p = first_where-found (is_answered_by u j) (live_count u) i e in
+    let p = first_where-found (is_named_by_reply u j) (live_count u) i e in
     let a = answer_parts u j i p.1 in
     let d = deferred_response u i a.deferred in
     responded u i d.0 g.orderly d.1

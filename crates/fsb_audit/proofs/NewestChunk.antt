@@ -25,7 +25,7 @@ use Rattle.fsb_rules.specs.declared.coming.Coming.{Coming}
 use Rattle.fsb_rules.specs.ComingChunks.{HasData}
 use Rattle.fsb_rules.proofs.Interface.{IsDataClock, data_clock-parts, decoded_lawful}
 use Rattle.fsb_audit.specs.Registers.{chunk_by, first_asked, nth_from}
-use Rattle.fsb_audit.specs.Transfers.{chunk_moved_at, chunk_moved_by, does_come_from_memory, is_answered_by, is_from_memory, moved_at, mover_at, namer_of, nth_chunk}
+use Rattle.fsb_audit.specs.Transfers.{chunk_moved_at, chunk_moved_by, does_come_from_memory, is_named_by_reply, is_from_memory, moved_at, mover_at, namer_of, nth_chunk}
 use Rattle.fsb_audit.specs.Audit.{HasAsked, IsAnswering, comes_after}
 use Rattle.fsb_audit.proofs.Movers.{Responded, before_end, live_after, mover_is, no_mover, place_is, responded, same_request}
 use Rattle.fsb_audit.proofs.Moves.{Answer, answer_from, answer_live, answer_parts, reply_back, reply_before, reply_forth, same_deferred, same_number}
@@ -62,7 +62,7 @@ reply_there : (h : Trace) (x : Sample) (v : Trace) (j n : ℕ) (r : Request) (c 
 unfolding is_reply is_some_and
 reply_there h x v j n r c b t = c.answering.answers b.first (omega (arith, b.early)) b.live (rw b.known t)
 
-answered : (h : Trace) (x : Sample) (v : Trace) (j n : ℕ) (r : Request) (c : Comes h x v j n r) (b : Began h v j r) → is_reply_kind r.kind ≡ true → (i : ℕ) × (i < live_count v) × (is_answered_by v j i ≡ true)
+answered : (h : Trace) (x : Sample) (v : Trace) (j n : ℕ) (r : Request) (c : Comes h x v j n r) (b : Began h v j r) → is_reply_kind r.kind ≡ true → (i : ℕ) × (i < live_count v) × (is_named_by_reply v j i ≡ true)
 answered h x v j n r c b t =
     let a = reply_there h x v j n r c b t in
     let g = goes_on h x v j n r c in
@@ -78,11 +78,11 @@ answered h x v j n r c b t =
       }),
     )
 
-first_there : (v : Trace) (j i : ℕ) (o : Option ℕ) → i < live_count v → is_answered_by v j i ≡ true → first_where (is_answered_by v j) (live_count v) ≡ o → (k : ℕ) × (first_where (is_answered_by v j) (live_count v) ≡ Some k)
-first_there v j i None l t e = let f = first_where-none (is_answered_by v j) (live_count v) e i l in absurd (both_ways _ f t)
+first_there : (v : Trace) (j i : ℕ) (o : Option ℕ) → i < live_count v → is_named_by_reply v j i ≡ true → first_where (is_named_by_reply v j) (live_count v) ≡ o → (k : ℕ) × (first_where (is_named_by_reply v j) (live_count v) ≡ Some k)
+first_there v j i None l t e = let f = first_where-none (is_named_by_reply v j) (live_count v) e i l in absurd (both_ways _ f t)
 first_there v j i (Some k) l t e = (k, e)
 
-namer_reply : (w : Trace) (j : ℕ) (r : Request) → live_request_of w j ≡ Some r → is_reply_kind r.kind ≡ true → namer_of w j ≡ first_where (is_answered_by w j) (live_count w)
+namer_reply : (w : Trace) (j : ℕ) (r : Request) → live_request_of w j ≡ Some r → is_reply_kind r.kind ≡ true → namer_of w j ≡ first_where (is_named_by_reply w j) (live_count w)
 unfolding namer_of is_reply is_some_and
 namer_reply w j r e t = rw (e, t) refl
 
@@ -110,7 +110,7 @@ request_there w i (Some s) q e f = (s, f)
 request_there w i None q e f =
     absurd (no_id (request_at w q) (subst (λ o. have_same_id (request_at w q) o ≡ true) f (same_id_of w i q e)))
 
-reply_chunk_by : (asked : List ℕ) (h : Trace) (x : Sample) (v : Trace) (j n did i : ℕ) (r : Request) (c : Comes h x v j n r) (b : Began h v j r) → HasAsked asked h → did ≡ r.did → namer_of v j ≡ Some i → is_answered_by v j i ≡ true → chunk_moved_by v j n ≡ Some (nth_from (slice_index asked did) n)
+reply_chunk_by : (asked : List ℕ) (h : Trace) (x : Sample) (v : Trace) (j n did i : ℕ) (r : Request) (c : Comes h x v j n r) (b : Began h v j r) → HasAsked asked h → did ≡ r.did → namer_of v j ≡ Some i → is_named_by_reply v j i ≡ true → chunk_moved_by v j n ≡ Some (nth_from (slice_index asked did) n)
 reply_chunk_by asked h x v j n did i r c b had same e t =
     let g = goes_on h x v j n r c in
     let a = answer_parts v j i t in
@@ -135,8 +135,8 @@ reply_chunk : (asked : List ℕ) (h : Trace) (x : Sample) (v : Trace) (j n did :
 reply_chunk asked h x v j n did r c had same t =
     let b = began h x v j n r c in
     let a = answered h x v j n r c b t in
-    let f = first_there v j a.0 (first_where (is_answered_by v j) (live_count v)) a.1 a.2 refl in
-    let found = first_where-found (is_answered_by v j) (live_count v) f.0 f.1 in
+    let f = first_there v j a.0 (first_where (is_named_by_reply v j) (live_count v)) a.1 a.2 refl in
+    let found = first_where-found (is_named_by_reply v j) (live_count v) f.0 f.1 in
     reply_chunk_by asked h x v j n did f.0 r c b had same (namer_reply v j r c.request t ∙ f.1) found.1
 
 any_chunk : (asked : List ℕ) (h : Trace) (x : Sample) (v : Trace) (j n did : ℕ) (r : Request) (b : Bool) (c : Comes h x v j n r) → HasAsked asked h → did ≡ r.did → is_reply_kind r.kind ≡ b → chunk_moved_by v j n ≡ Some (nth_from (slice_index asked did) n)

@@ -28,7 +28,7 @@ use Rattle.fsb_rules.specs.declared.broken.Broken.{Broken}
 use Rattle.fsb_audit.specs.declared.finding.FoulAt.{FoulAt}
 use Rattle.fsb_audit.specs.declared.finding.Finding.{Finding}
 use Rattle.fsb_audit.specs.declared.finding.Finding.TheVariants.{Broken as BrokenFirst, Foul as FoulFirst}
-use Rattle.fsb_audit.specs.Transfers.{data_place_at, mover_at, is_answered_by, namer_of, nth_chunk, chunk_moved_by, chunk_moved_at, moved_at, moved_count, does_come_from_memory, is_from_memory}
+use Rattle.fsb_audit.specs.Transfers.{data_place_at, mover_at, is_named_by_reply, namer_of, nth_chunk, chunk_moved_by, chunk_moved_at, moved_at, moved_count, does_come_from_memory, is_from_memory}
 use Rattle.fsb_audit.specs.Fouls.{latest_move, have_same_data, is_stale, is_foul_clock, first_foul, foul_at, broken_at, found_below, found_with, finding_of}
 
 -- the bits of some different lines together
@@ -255,6 +255,6 @@ unfolding is_some_and is_before is_at greater_of first_where last_where any_wher
     is_address_parity_wrong is_request_parity_wrong is_marked_address_wrong is_marked_request_wrong is_address_odd
     is_request_odd ones phase_rules breaks
     is_broken least_rule is_foul verdict
-    burst_order data_place_at mover_at is_answered_by namer_of nth_chunk chunk_moved_by chunk_moved_at moved_at moved_count
+    burst_order data_place_at mover_at is_named_by_reply namer_of nth_chunk chunk_moved_by chunk_moved_at moved_at moved_count
     does_come_from_memory is_from_memory latest_move have_same_data is_stale is_foul_clock first_foul foul_at broken_at found_below found_with finding_of
 rows_hold = (refl, refl, refl, refl, refl, refl, refl, refl, refl, refl, refl, refl, refl, refl, refl, refl, refl, refl, refl, refl, refl, refl, refl)

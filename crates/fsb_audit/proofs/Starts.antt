@@ -10,7 +10,7 @@ use Rattle.fsb_audit.specs.declared.audit.Audit.{Audit}
 use Rattle.fsb_audit.specs.Transfers.{moved_count}
 use Rattle.fsb_audit.specs.Fouls.{finding_of, latest_move}
 use Rattle.fsb_audit.specs.Registers.{data_in}
-use Rattle.fsb_audit.specs.Audit.{Follows, HasAsked, IsAnswering, Stands, comes_after, first_back, latest_data}
+use Rattle.fsb_audit.specs.Audit.{KeepsUp, HasAsked, IsAnswering, Stands, comes_after, first_back, latest_data}
 use Rattle.fsb_audit.proofs.Findings.{nothing, stands_following}
 
 -- what the code makes

@@ -49,7 +49,7 @@ pub record IsAnswering (h : Trace) : Type 0 where
   pub answers : (q : ℕ) → q + 1 < length h → is_live h q ≡ true → is_reply (request_at h q) ≡ true → (i : ℕ) × (is_deferred h i ≡ true) × (reply_clock_of h i ≡ Some q)
 
 -- no rule is broken by the history and no clock of it is foul, and what is kept is what it leaves
-pub record Follows (audit : Audit) (marks : Marks) (h : Trace) : Type 0 where
+pub record KeepsUp (audit : Audit) (marks : Marks) (h : Trace) : Type 0 where
   pub checker : CheckerStands audit.checker marks h
   pub sound : verdict marks h ≡ None
   pub clean : (c : ℕ) → c < length h → is_foul_clock h c ≡ false
@@ -76,7 +76,7 @@ pub record FoulsFirst (past : Trace) (found : Finding) : Type 0 where
   pub told : foul_at past clock ≡ Some found
 
 -- what was found stays found, by a past of the history that breaks no rule
-pub record Settled (marks : Marks) (h : Trace) (found : Finding) : Type 0 where
+pub record IsFoundForGood (marks : Marks) (h : Trace) (found : Finding) : Type 0 where
   pub past : Trace
   pub agree : AgreeTo (length past) past h
   pub orderly : Orderly past
@@ -87,5 +87,5 @@ pub record Settled (marks : Marks) (h : Trace) (found : Finding) : Type 0 where
 -- them, and as long as there is nothing it follows them
 pub record Stands (audit : Audit) (marks : Marks) (h : Trace) : Type 0 where
   pub found : is_full audit ≡ false → audit.found ≡ finding_of marks h
-  pub follows : is_full audit ≡ false → audit.found ≡ None → Follows audit marks h
-  pub settled : is_full audit ≡ false → (found : Finding) → audit.found ≡ Some found → Settled marks h found
+  pub follows : is_full audit ≡ false → audit.found ≡ None → KeepsUp audit marks h
+  pub settled : is_full audit ≡ false → (found : Finding) → audit.found ≡ Some found → IsFoundForGood marks h found

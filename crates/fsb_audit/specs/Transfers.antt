@@ -23,13 +23,13 @@ unfoldable pub mover_at : Trace → ℕ → Option ℕ
 mover_at w c = first_where (λ i. is_some (data_place_at w c i)) (live_count w)
 
 -- live request i is Deferred, and live request j is the reply to it
-unfoldable pub is_answered_by : Trace → ℕ → ℕ → Bool
-is_answered_by w j i = is_deferred w i && is_at (reply_number_of w i) j
+unfoldable pub is_named_by_reply : Trace → ℕ → ℕ → Bool
+is_named_by_reply w j i = is_deferred w i && is_at (reply_number_of w i) j
 
 -- the live request that names the line and the chunk of live request j: itself, and for a reply the one that it answers
 unfoldable pub namer_of : Trace → ℕ → Option ℕ
 namer_of w j =
-    if is_reply (live_request_of w j) then first_where (is_answered_by w j) (live_count w) else Some j
+    if is_reply (live_request_of w j) then first_where (is_named_by_reply w j) (live_count w) else Some j
 
 -- the number of the chunk that comes n-th where the request's line comes in burst order from its own chunk
 unfoldable pub nth_chunk : ℕ → Request → ℕ

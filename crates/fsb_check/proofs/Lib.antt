@@ -1,4 +1,0 @@
-mod MoreTokens
-mod Refusals
-mod JudgeSteps
-mod Checked

@@ -1,12 +1,8 @@
-//! The check of a dump: a source is read in pieces, and each piece is parsed and judged as it comes.
+//! The check of a dump: its samples are judged as they come, while its source is read in pieces.
 //!
-//! No trace is kept. After a fault of the text the rest is still read, so that a fault of the source or too long a file
-//! is told before it.
+//! No trace is kept.
 #![tactic(auto)]
 
-pub use check::check_dump;
-pub use finding::{CheckStop, Finding};
+pub use check::{Finding, check_dump};
 
 mod check;
-mod finding;
-mod judge;

@@ -34,8 +34,7 @@ may-below p line (suc n) bytes keeps =
       ordered = ordered_run x (events_at p line n) before.1.ordered may;
       valued = valued_run x (events_at p line n) before.1.ordered before.1.valued may;
       tied = next;
-    } in
-    (
+    } in (
       MayRun-append (unheld bytes) (events_below p line n) (events_at p line n) before.0 may,
       subst (IsTiedTo p line (suc n)) (sym (run-append (unheld bytes) (events_below p line n) (events_at p line n))) after_it,
     )

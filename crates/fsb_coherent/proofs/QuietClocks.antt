@@ -189,13 +189,12 @@ moved-quiet p line n h =
     let later = any_where-more (λ t. is_some_and (snooped_at p t) (is_moved_for p line (n + 1))) n in
     let here : is_some_and (snooped_at p n) (is_moved_for p line (n + 1)) ≡ false = rw h.snooped refl in
     let same = any_where-same (λ t. is_some_and (snooped_at p t) (is_moved_for p line (n + 1))) (λ t. is_some_and (snooped_at p t) (is_moved_for p line n)) n
-      (record { same = λ t l. moved_at-same p line (n + 1) n (snooped_at p t) (λ q. ended-quiet p n q h) (λ q. responded-quiet p n q h) }) in
+    (record { same = λ t l. moved_at-same p line (n + 1) n (snooped_at p t) (λ q. ended-quiet p n q h) (λ q. responded-quiet p n q h) }) in
     later ∙ (λ i. same i || here i) ∙ or-nothing (is_moved_below p line n)
 
 uncancelled : (p : Past) (n q : ℕ) → cancelled_in p n ≡ None → is_at (cancelled_in p n) q ≡ false
 unfolding is_at is_some_and
 uncancelled p n q e = rw e refl
-
 
 open-quiet : (p : Past) (a line n : ℕ) (request : OpenRequest) → IsQuiet p n → IsOpen p a line n request
     → IsOpen p a line (n + 1) request

@@ -55,7 +55,7 @@ held-of b agent st own other w o g gp k x y =
     let swap : nat_eq agent b ≡ (b == agent) = nat_eq-sym agent b in
     held-cond (b == agent) own other
     ∙ by-agent (b == agent) (nat_eq agent b && true) (not (nat_eq agent b) && true) w o g gp (is_held st) (is_held own) (is_held other)
-      (and-same (nat_eq agent b) ∙ swap) (and-same (not (nat_eq agent b)) ∙ ap not swap) k x y
+    (and-same (nat_eq agent b) ∙ swap) (and-same (not (nat_eq agent b)) ∙ ap not swap) k x y
 
 same-true : (b : Bool) → b ≡ (b && true)
 same-true true = refl
@@ -140,6 +140,6 @@ pub holders-made : (p : Past) (line n : ℕ) (s : SnoopEnd) (x : MemoryLine) (h 
     → is_held ((run x (snoop_events (past_to p n) line n s)).state b) ≡ (is_granted_by s b line || (is_held (x.state b) && not (is_lost_by s b line)))
 holders-made p line n s x h w b =
     let whole : end_with s.first h.agent line h.kind s.turn s.outcome (grant_if s.first h.agent line h.kind s.outcome h.won h.owns h.shared) ≡ s =
-      (λ i. record { first = s.first; claim = sym h.claimed i; kind = sym h.known i; turn = s.turn; outcome = s.outcome; grant = sym h.granted i }) in
+    (λ i. record { first = s.first; claim = sym h.claimed i; kind = sym h.known i; turn = s.turn; outcome = s.outcome; grant = sym h.granted i }) in
     subst (λ t. HeldBy p line n t x b) whole
-      (holders p line n s.first h.agent h.kind s.outcome s.turn h.won h.owns h.shared x b (eq-eqb line line refl) h.fits h.owned w)
+    (holders p line n s.first h.agent h.kind s.outcome s.turn h.won h.owns h.shared x b (eq-eqb line line refl) h.fits h.owned w)

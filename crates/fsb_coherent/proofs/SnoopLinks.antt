@@ -67,9 +67,9 @@ pub links-made : (p : Past) (line n : ℕ) (s : SnoopEnd) (x : MemoryLine) → I
     → (run x (snoop_events (past_to p n) line n s)).chain ≡ x.chain ++ option_map_or (link_for p line n s) (awaited_by s) []
 links-made p line n s x h =
     let whole : end_with s.first h.agent line h.kind s.turn s.outcome (grant_if s.first h.agent line h.kind s.outcome h.won h.owns h.shared) ≡ s =
-      (λ i. record { first = s.first; claim = sym h.claimed i; kind = sym h.known i; turn = s.turn; outcome = s.outcome; grant = sym h.granted i }) in
+    (λ i. record { first = s.first; claim = sym h.claimed i; kind = sym h.known i; turn = s.turn; outcome = s.outcome; grant = sym h.granted i }) in
     subst (λ t. LinksOf p line n t x) whole
-      (links p line n s.first h.agent h.kind s.outcome s.turn h.won h.owns h.shared x (eq-eqb line line refl) h.fits h.owned)
+    (links p line n s.first h.agent h.kind s.outcome s.turn h.won h.owns h.shared x (eq-eqb line line refl) h.fits h.owned)
 
 -- the deferral after it: what is deferred, and otherwise the one of before
 abbrev DeferralOf : Past → ℕ → ℕ → ℕ → SnoopEnd → MemoryLine → Type 0
@@ -109,6 +109,6 @@ pub deferral-made : (p : Past) (line n : ℕ) (s : SnoopEnd) (x : MemoryLine) �
     ≡ (if is_deferral s.outcome then Some (deferred_to p line n s h.agent) else x.deferral)
 deferral-made p line n s x h =
     let whole : end_with s.first h.agent line h.kind s.turn s.outcome (grant_if s.first h.agent line h.kind s.outcome h.won h.owns h.shared) ≡ s =
-      (λ i. record { first = s.first; claim = sym h.claimed i; kind = sym h.known i; turn = s.turn; outcome = s.outcome; grant = sym h.granted i }) in
+    (λ i. record { first = s.first; claim = sym h.claimed i; kind = sym h.known i; turn = s.turn; outcome = s.outcome; grant = sym h.granted i }) in
     subst (λ t. DeferralOf p line n h.agent t x) whole
-      (deferrals p line n s.first h.agent h.kind s.outcome s.turn h.won h.owns h.shared x (eq-eqb line line refl) h.fits h.owned)
+    (deferrals p line n s.first h.agent h.kind s.outcome s.turn h.won h.owns h.shared x (eq-eqb line line refl) h.fits h.owned)

@@ -30,10 +30,10 @@ ghost use Rattle.fsb_coherent.specs.Relation.{IsOpen, Tied, chain_below, deferre
 /// The events of a line at a clock that a run has passed stay as they are when the run goes on, and
 /// so do all events of the line below its end.
 pub fn events_stay()
-    ensures at { (r s : Run) (line c : ℕ) → IsNext r s → IsWhole r → c < length r.trace
-        → events_at (past_of s) line c ≡ events_at (past_of r) line c }
-    ensures below { (r s : Run) (line n : ℕ) → IsNext r s → IsWhole r → n ≤ length r.trace
-        → events_below (past_of s) line n ≡ events_below (past_of r) line n }
+    ensures at { (r s : Run) (line c : ℕ) → IsNext r s → IsWhole r → c < length r.trace →
+        events_at (past_of s) line c ≡ events_at (past_of r) line c }
+    ensures below { (r s : Run) (line n : ℕ) → IsNext r s → IsWhole r → n ≤ length r.trace →
+        events_below (past_of s) line n ≡ events_below (past_of r) line n }
 {}
 
 /// Before the first clock a line that nobody holds or asks for is the line of every run.
@@ -44,8 +44,8 @@ pub fn lines_start_tied()
 /// Where each clock below n keeps the tie of a line, its events below n may happen to a line that
 /// nobody holds, and the line after them is that of the run.
 pub fn ties_go_on()
-    ensures { (p : Past) (line n : ℕ) (bytes : Bytes) → ((c : ℕ) → c < n → KeepsTie p line c)
-        → MayRun (unheld bytes) (events_below p line n)
+    ensures { (p : Past) (line n : ℕ) (bytes : Bytes) → ((c : ℕ) → c < n → KeepsTie p line c) →
+        MayRun (unheld bytes) (events_below p line n)
         × IsTiedTo p line n (run (unheld bytes) (events_below p line n)) }
 {}
 
@@ -58,15 +58,15 @@ pub fn quiet_clocks_keep_ties()
 /// An open request stays open until it is cancelled or has its snoop end; and no other is open that
 /// began before.
 pub fn open_requests_step()
-    ensures kept { (p : Past) (a line n : ℕ) (request : OpenRequest) → IsOpen p a line n request
-        → is_at (cancelled_in p n) request.number ≡ false
-        → is_some_and (snooped_at p n) (is_snoop_of request.number) ≡ false
-        → IsOpen p a line (n + 1) request }
-    ensures before { (p : Past) (a line n : ℕ) (request : OpenRequest)
-        → IsOpen p a line (n + 1) request → request.number < n → IsOpen p a line n request }
-    ensures untouched { (p : Past) (a line n : ℕ) (request : OpenRequest)
-        → IsOpen p a line (n + 1) request
-        → (is_at (cancelled_in p n) request.number ≡ false)
+    ensures kept { (p : Past) (a line n : ℕ) (request : OpenRequest) → IsOpen p a line n request →
+        is_at (cancelled_in p n) request.number ≡ false →
+        is_some_and (snooped_at p n) (is_snoop_of request.number) ≡ false →
+        IsOpen p a line (n + 1) request }
+    ensures before { (p : Past) (a line n : ℕ) (request : OpenRequest) →
+        IsOpen p a line (n + 1) request → request.number < n → IsOpen p a line n request }
+    ensures untouched { (p : Past) (a line n : ℕ) (request : OpenRequest) →
+        IsOpen p a line (n + 1) request →
+        (is_at (cancelled_in p n) request.number ≡ false)
         × (is_some_and (snooped_at p n) (is_snoop_of request.number) ≡ false) }
 {}
 
@@ -77,8 +77,8 @@ pub fn links_and_deferrals_step()
     ensures links { (p : Past) (line n : ℕ) → chain_below p line (n + 1)
         ≡ links_left p line (n + 1) n
         ++ option_map_or (link_left p line (n + 1) n) (snooped_at p n) [] }
-    ensures kept { (p : Past) (line n : ℕ) → ((q : ℕ) → is_ended p (n + 1) q ≡ is_ended p n q)
-        → chain_below p line (n + 1)
+    ensures kept { (p : Past) (line n : ℕ) → ((q : ℕ) → is_ended p (n + 1) q ≡ is_ended p n q) →
+        chain_below p line (n + 1)
         ≡ chain_below p line n ++ option_map_or (link_left p line n n) (snooped_at p n) [] }
     ensures deferral { (p : Past) (line n : ℕ) → deferral_below p line (n + 1)
         ≡ (if defers_line p line n then deferral_at p line n
@@ -88,24 +88,25 @@ pub fn links_and_deferrals_step()
 /// Where the line of the machine is in order and is that of a run, an agent that has the line for
 /// itself is its only holder, and nobody has a pending line for itself.
 pub fn tied_lines_have_one_owner()
-    ensures alone { (p : Past) (line n : ℕ) (x : MemoryLine) → IsTiedTo p line n x
-        → (a b : ℕ) → is_exclusive p a line n ≡ true → b ≢ a → holds_line p b line n ≡ false }
-    ensures pending { (p : Past) (line n : ℕ) (x : MemoryLine) → IsTiedTo p line n x
-        → (d : LineDeferral) → deferral_below p line n ≡ Some d
-        → (a : ℕ) → is_exclusive p a line n ≡ false }
+    ensures alone { (p : Past) (line n : ℕ) (x : MemoryLine) → IsTiedTo p line n x →
+        (a b : ℕ) → is_exclusive p a line n ≡ true → b ≢ a → holds_line p b line n ≡ false }
+    ensures pending { (p : Past) (line n : ℕ) (x : MemoryLine) → IsTiedTo p line n x →
+        (d : LineDeferral) → deferral_below p line n ≡ Some d →
+        (a : ℕ) → is_exclusive p a line n ≡ false }
 {}
 
 /// At its snoop end a request has the outcome that HITM#, its turn and its kind make; one of a
 /// symmetric agent makes a grant to its own claim; and a write-back or a reply is neither retried
 /// nor put off.
 pub fn snoop_ends_are_settled()
-    ensures outcome { (r : Run) (t : ℕ) (s : SnoopEnd) → snooped_at (past_of r) t ≡ Some s
-        → s.outcome ≡ outcome_under (line_at HITM r.trace t) s.turn (request_at r.trace s.first) }
-    ensures grant { (r : Run) (t : ℕ) (s : SnoopEnd) (claim : Claim)
-        → snooped_at (past_of r) t ≡ Some s → s.claim ≡ Some claim → is_reply (request_at r.trace s.first) ≡ false
-        → s.grant ≡ own_grant (past_of r) r.trace s.first t s.outcome claim }
-    ensures turn { (r : Run) (t : ℕ) (s : SnoopEnd) → snooped_at (past_of r) t ≡ Some s
-        → is_always_kept (request_at r.trace s.first) ≡ true → s.turn ≡ Keep }
+    ensures outcome { (r : Run) (t : ℕ) (s : SnoopEnd) → snooped_at (past_of r) t ≡ Some s →
+        s.outcome ≡ outcome_under (line_at HITM r.trace t) s.turn (request_at r.trace s.first) }
+    ensures grant { (r : Run) (t : ℕ) (s : SnoopEnd) (claim : Claim) →
+        snooped_at (past_of r) t ≡ Some s → s.claim ≡ Some claim →
+        is_reply (request_at r.trace s.first) ≡ false →
+        s.grant ≡ own_grant (past_of r) r.trace s.first t s.outcome claim }
+    ensures turn { (r : Run) (t : ℕ) (s : SnoopEnd) → snooped_at (past_of r) t ≡ Some s →
+        is_always_kept (request_at r.trace s.first) ≡ true → s.turn ≡ Keep }
 {}
 
 /// In a few clocks by hand a hit stores before the snoop end of its clock, the line is handed over
@@ -133,14 +134,14 @@ pub fn dirty_lines_step()
 /// Where an upgrade is won by an agent that holds the line, those hold it afterwards who get it
 /// there, and who held it and do not lose it.
 pub fn snoop_ends_make_links()
-    ensures links { (p : Past) (line n : ℕ) (s : SnoopEnd) (x : MemoryLine) → IsSnoopOn p line n s
-        → (run x (snoop_events (past_to p n) line n s)).chain
+    ensures links { (p : Past) (line n : ℕ) (s : SnoopEnd) (x : MemoryLine) → IsSnoopOn p line n s →
+        (run x (snoop_events (past_to p n) line n s)).chain
         ≡ x.chain ++ option_map_or (link_for p line n s) (awaited_by s) [] }
     ensures deferral { (p : Past) (line n : ℕ) (s : SnoopEnd) (x : MemoryLine)
         (h : IsSnoopOn p line n s) → (run x (snoop_events (past_to p n) line n s)).deferral
         ≡ (if is_deferral s.outcome then Some (deferred_to p line n s h.agent) else x.deferral) }
     ensures holders { (p : Past) (line n : ℕ) (s : SnoopEnd) (x : MemoryLine)
-        (h : IsSnoopOn p line n s) → h.won ≡ is_held (x.state h.agent) → (b : ℕ)
-        → is_held ((run x (snoop_events (past_to p n) line n s)).state b)
+        (h : IsSnoopOn p line n s) → h.won ≡ is_held (x.state h.agent) → (b : ℕ) →
+        is_held ((run x (snoop_events (past_to p n) line n s)).state b)
         ≡ (is_granted_by s b line || (is_held (x.state b) && not (is_lost_by s b line))) }
 {}

@@ -102,9 +102,10 @@ impl Checker {
     /// is one among the samples fed.
     pub fn feed(&mut self, sample: &Sample) -> Option<Broken>
         requires { (m : Marks) × (h : Trace) × Stands self.old m h × (length h < 2 ^ 32) }
-        ensures verdict { (m : Marks) (h : Trace) → Stands self.old m h
-            → result ≡ as_broken (verdict m (h ++ sample.now ∷ [])) }
-        ensures stands { (m : Marks) (h : Trace) → Stands self.old m h → Stands self.new m (h ++ sample.now ∷ []) }
+        ensures verdict { (m : Marks) (h : Trace) → Stands self.old m h →
+            result ≡ as_broken (verdict m (h ++ sample.now ∷ [])) }
+        ensures stands { (m : Marks) (h : Trace) → Stands self.old m h →
+            Stands self.new m (h ++ sample.now ∷ []) }
     {
         if self.found.is_none() {
             let clock = self.clock as u32;
@@ -149,8 +150,8 @@ impl Checker {
 
     /// The winner at this clock, where a request begins with the sample.
     fn winner_of(&self, sample: &Sample) -> Option<Who>
-        ensures { (h : Trace) → ArbiterStands self.now.arbiter h
-            → result ≡ (if has_line sample.now ADS then winner_at h (length h) else None) }
+        ensures { (h : Trace) → ArbiterStands self.now.arbiter h →
+            result ≡ (if has_line sample.now ADS then winner_at h (length h) else None) }
     {
         if sample.has(Lines::ADS) {
             self.arbiter.winner()
@@ -388,8 +389,9 @@ impl Checker {
     )
         requires few { queue_len self.old.queue ≤ 8 }
         requires room { is_some begun ≡ true → queue_len self.old.queue < 8 }
-        requires open_room { is_some (option_and_then (λ a. open_begun a) begun) ≡ true
-            → length (filter_map (open_after (happened_by self.old clock sample.now begun)) self.old.outstanding.current.items) < 16 }
+        requires open_room { is_some (option_and_then (λ a. open_begun a) begun) ≡ true →
+            length (filter_map (open_after (happened_by self.old clock sample.now begun))
+            self.old.outstanding.current.items) < 16 }
         ensures marks { self.new.marks ≡ self.old.marks }
         ensures found { self.new.found ≡ self.old.found }
         ensures clock { self.new.clock ≡ clock + 1 }
@@ -397,16 +399,28 @@ impl Checker {
         ensures second { self.new.recent.second ≡ self.old.recent.first }
         ensures third { self.new.recent.third ≡ self.old.recent.second }
         ensures words { self.new.recent.words ≡ known_pair sample.now }
-        ensures arbiter { (h : Trace) → ArbiterStands self.old.arbiter h → ArbiterStands self.new.arbiter (h ++ sample.now ∷ []) }
+        ensures arbiter { (h : Trace) → ArbiterStands self.old.arbiter h →
+            ArbiterStands self.new.arbiter (h ++ sample.now ∷ []) }
         ensures beginner { self.new.beginner ≡ (if has_line sample.now ADS then winner else None) }
-        ensures asking { self.new.queue.asking.items ≡ asking_after self.old.queue.asking.items (has_line sample.now AERR) (is_some (snooped_by self.old.queue clock sample.now)) begun }
-        ensures waiting { self.new.queue.waiting.items ≡ waiting_after self.old.queue.waiting.items (responds sample.now) (snooped_by self.old.queue clock sample.now) }
-        ensures moving { self.new.queue.moving ≡ after_chunk (moving_by self.old.queue clock sample.now) sample.now }
-        ensures last_snoop { self.new.queue.last_snoop ≡ (if is_some (snooped_by self.old.queue clock sample.now) then Some clock else self.old.queue.last_snoop) }
+        ensures asking { self.new.queue.asking.items
+            ≡ asking_after self.old.queue.asking.items (has_line sample.now AERR)
+            (is_some (snooped_by self.old.queue clock sample.now)) begun }
+        ensures waiting { self.new.queue.waiting.items
+            ≡ waiting_after self.old.queue.waiting.items (responds sample.now)
+            (snooped_by self.old.queue clock sample.now) }
+        ensures moving { self.new.queue.moving
+            ≡ after_chunk (moving_by self.old.queue clock sample.now) sample.now }
+        ensures last_snoop { self.new.queue.last_snoop
+            ≡ (if is_some (snooped_by self.old.queue clock sample.now)
+            then Some clock else self.old.queue.last_snoop) }
         ensures ready { self.new.queue.ready ≡ ready_after_by self.old.queue clock sample.now }
-        ensures current { self.new.outstanding.current.items ≡ filter_map (open_after (happened_by self.old clock sample.now begun)) self.old.outstanding.current.items
+        ensures current { self.new.outstanding.current.items
+            ≡ filter_map (open_after (happened_by self.old clock sample.now begun))
+            self.old.outstanding.current.items
             ++ option_to_list (option_and_then (λ a. open_begun a) begun) }
-        ensures before { self.new.outstanding.before.items ≡ (if has_line sample.now ADS then self.old.outstanding.current.items else self.old.outstanding.before.items) }
+        ensures before { self.new.outstanding.before.items
+            ≡ (if has_line sample.now ADS then self.old.outstanding.current.items else
+            self.old.outstanding.before.items) }
     {
         let happened = self.happened(clock, sample, begun);
         let begins = sample.has(Lines::ADS);

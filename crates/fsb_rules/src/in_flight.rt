@@ -142,7 +142,8 @@ fn ended_with_chunk(moving: &Moving, sample: &Sample) -> Option<Ended>
 
 /// The request whose data are on the way from a response with this code on.
 fn moving_at_once(next: &Snooped, code: u8) -> Option<Moving>
-    ensures { result ≡ (if does_move (told_of next.now code) then Some (record { request = next.now.request; chunks = 0 }) else None) }
+    ensures { result ≡ (if does_move (told_of next.now code) then Some
+        (record { request = next.now.request; chunks = 0 }) else None) }
 {
     if moves(next.told_by(code)) {
         Some(Moving {
@@ -221,7 +222,8 @@ impl InFlight {
     /// Rule 12, snoop results of write-backs and replies.
     #[tactic(auto, unfolding(fsb_count::specs::Options::is_some_and))]
     pub fn is_snoop_result_unfit(&self, clock: u32, sample: &Sample) -> bool
-        ensures { result ≡ is_some_and (slice_get self.now.asking.items 0) (λ a. ends_snoop_by self.now clock sample.now && is_unfit_by a sample.now) }
+        ensures { result ≡ is_some_and (slice_get self.now.asking.items 0)
+            (λ a. ends_snoop_by self.now clock sample.now && is_unfit_by a sample.now) }
     {
         match self.asking.as_slice().first() {
             Some(request) => self.ends_snoop(clock, sample) && is_unfit(request, sample),
@@ -256,7 +258,9 @@ impl InFlight {
     /// Rule 14, response code, where the response is not early.
     #[tactic(auto, unfolding(fsb_count::specs::Options::is_some_and))]
     pub fn is_code_wrong(&self, clock: u32, sample: &Sample) -> bool
-        ensures { result ≡ (is_sound sample.now && not (is_some_and (next_by self.now clock) (λ s. is_code_by s (response_of sample.now)))) }
+        ensures { result ≡ (is_sound sample.now
+            && not (is_some_and (next_by self.now clock)
+            (λ s. is_code_by s (response_of sample.now)))) }
     {
         let fits = match self.next(clock) {
             Some(next) => next.is_code_for(sample.response()),
@@ -298,7 +302,8 @@ impl InFlight {
     /// Rule 15, target ready, where the response is not early.
     pub fn is_target_ready_wrong(&self, clock: u32, sample: &Sample) -> bool
         ensures { result ≡ (has_line sample.now TRDY && is_ready_wrongly_by self.now clock
-            || is_sound sample.now && is_some_and (next_by self.now clock) takes_by && is_ready_late_by self.now clock) }
+            || is_sound sample.now && is_some_and (next_by self.now clock) takes_by
+            && is_ready_late_by self.now clock) }
     {
         let is_wrong = sample.has(Lines::TRDY) && self.is_ready_wrongly(clock);
         let is_late = is_sound(sample) && self.takes(clock) && self.is_ready_late(clock);
@@ -322,9 +327,12 @@ impl InFlight {
 
     /// Rule 16, data transfer, where the response is not early.
     pub fn is_data_wrong(&self, clock: u32, sample: &Sample) -> bool
-        ensures { result ≡ (has_line sample.now DRDY && is_none (moving_by self.now clock sample.now)
-            || not (has_line sample.now DBSY) && is_some (after_chunk (moving_by self.now clock sample.now) sample.now)
-            || has_line sample.now DBSY && not (is_some (after_chunk (moving_by self.now clock sample.now) sample.now))) }
+        ensures { result ≡ (has_line sample.now DRDY
+            && is_none (moving_by self.now clock sample.now)
+            || not (has_line sample.now DBSY)
+            && is_some (after_chunk (moving_by self.now clock sample.now) sample.now)
+            || has_line sample.now DBSY
+            && not (is_some (after_chunk (moving_by self.now clock sample.now) sample.now))) }
     {
         let moving = self.moving_with(clock, sample);
         let goes_on = after_chunk(moving, sample).is_some();
@@ -394,10 +402,17 @@ impl InFlight {
     pub fn absorb(&mut self, clock: u32, sample: &Sample, begun: Option<LiveRequest>)
         requires few { queue_len self.old ≤ 8 }
         requires room { is_some begun ≡ true → queue_len self.old < 8 }
-        ensures asking { self.new.asking.items ≡ asking_after self.old.asking.items (has_line sample.now AERR) (is_some (snooped_by self.old clock sample.now)) begun }
-        ensures waiting { self.new.waiting.items ≡ waiting_after self.old.waiting.items (responds sample.now) (snooped_by self.old clock sample.now) }
-        ensures moving { self.new.moving ≡ after_chunk (moving_by self.old clock sample.now) sample.now }
-        ensures last_snoop { self.new.last_snoop ≡ (if is_some (snooped_by self.old clock sample.now) then Some clock else self.old.last_snoop) }
+        ensures asking { self.new.asking.items
+            ≡ asking_after self.old.asking.items (has_line sample.now AERR)
+            (is_some (snooped_by self.old clock sample.now)) begun }
+        ensures waiting { self.new.waiting.items
+            ≡ waiting_after self.old.waiting.items (responds sample.now)
+            (snooped_by self.old clock sample.now) }
+        ensures moving { self.new.moving
+            ≡ after_chunk (moving_by self.old clock sample.now) sample.now }
+        ensures last_snoop { self.new.last_snoop
+            ≡ (if is_some (snooped_by self.old clock sample.now)
+            then Some clock else self.old.last_snoop) }
         ensures ready { self.new.ready ≡ ready_after_by self.old clock sample.now }
     {
         if !self.stays(clock, sample, begun) {
@@ -410,10 +425,17 @@ impl InFlight {
     fn go_on(&mut self, clock: u32, sample: &Sample, begun: Option<LiveRequest>)
         requires few { queue_len self.old ≤ 8 }
         requires room { is_some begun ≡ true → queue_len self.old < 8 }
-        ensures asking { self.new.asking.items ≡ asking_after self.old.asking.items (has_line sample.now AERR) (is_some (snooped_by self.old clock sample.now)) begun }
-        ensures waiting { self.new.waiting.items ≡ waiting_after self.old.waiting.items (responds sample.now) (snooped_by self.old clock sample.now) }
-        ensures moving { self.new.moving ≡ after_chunk (moving_by self.old clock sample.now) sample.now }
-        ensures last_snoop { self.new.last_snoop ≡ (if is_some (snooped_by self.old clock sample.now) then Some clock else self.old.last_snoop) }
+        ensures asking { self.new.asking.items
+            ≡ asking_after self.old.asking.items (has_line sample.now AERR)
+            (is_some (snooped_by self.old clock sample.now)) begun }
+        ensures waiting { self.new.waiting.items
+            ≡ waiting_after self.old.waiting.items (responds sample.now)
+            (snooped_by self.old clock sample.now) }
+        ensures moving { self.new.moving
+            ≡ after_chunk (moving_by self.old clock sample.now) sample.now }
+        ensures last_snoop { self.new.last_snoop
+            ≡ (if is_some (snooped_by self.old clock sample.now)
+            then Some clock else self.old.last_snoop) }
         ensures ready { self.new.ready ≡ ready_after_by self.old clock sample.now }
     {
         let snooped = self.snooped(clock, sample);

@@ -288,7 +288,8 @@ impl Outstanding {
     /// Lets what happens pass over those that are outstanding; at most clocks nothing happens to them.
     #[tactic(auto, using(crate::proofs::QuietClocks::quiet_stays))]
     fn pass(&mut self, happened: &Happened)
-        ensures current { self.new.current.items ≡ filter_map (open_after happened.now) self.old.current.items }
+        ensures current { self.new.current.items
+            ≡ filter_map (open_after happened.now) self.old.current.items }
         ensures before { self.new.before.items ≡ self.old.before.items }
     {
         if !happened.is_quiet() {
@@ -298,10 +299,13 @@ impl Outstanding {
 
     /// Takes what happens with a sample, with which a request begins or does not.
     pub fn absorb(&mut self, happened: &Happened, begins: bool)
-        requires { is_some (option_and_then (λ a. open_begun a) happened.now.begun) ≡ true → length (filter_map (open_after happened.now) self.old.current.items) < 16 }
-        ensures current { self.new.current.items ≡ filter_map (open_after happened.now) self.old.current.items
+        requires { is_some (option_and_then (λ a. open_begun a) happened.now.begun) ≡ true →
+            length (filter_map (open_after happened.now) self.old.current.items) < 16 }
+        ensures current { self.new.current.items
+            ≡ filter_map (open_after happened.now) self.old.current.items
             ++ option_to_list (option_and_then (λ a. open_begun a) happened.now.begun) }
-        ensures before { self.new.before.items ≡ (if begins then self.old.current.items else self.old.before.items) }
+        ensures before { self.new.before.items
+            ≡ (if begins then self.old.current.items else self.old.before.items) }
     {
         if begins {
             self.before = copy_of(self.current.as_slice());

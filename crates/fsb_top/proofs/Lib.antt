@@ -1,3 +1,5 @@
 pub mod LinesAhead
 pub mod PlanFacts
+mod Searches
+mod TenDigits
 mod Verdicts

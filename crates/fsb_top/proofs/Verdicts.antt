@@ -1,6 +1,6 @@
 -- The status of a finding tells the verdict.
 use Rattle.std.proofs.Common.{◌≡◌, List, sym, ◌∙◌}
-use Rattle.fsb_check.specs.declared.finding.Finding.{Finding}
+use Rattle.fsb_check.specs.declared.check.Finding.{Finding}
 use Rattle.fsb_rules.specs.Checker.{as_broken}
 use Rattle.fsb_rules.proofs.Interface.{as_broken-none}
 use Rattle.fsb_signal.specs.declared.marks.Marks.{Marks}
@@ -22,3 +22,4 @@ tells_verdict (statuses.BadDump fault) finding marks w told e = told
 tells_verdict statuses.ReadFault finding marks w told e = told
 tells_verdict statuses.OutOfMemory finding marks w told e = told
 tells_verdict statuses.TooLong finding marks w told e = told
+tells_verdict statuses.NotFound finding marks w told e = told

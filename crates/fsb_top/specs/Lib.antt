@@ -2,6 +2,7 @@ pub mod AccessCount
 pub mod Command
 pub mod Form
 pub mod Outcome
+pub mod Range
 pub mod Reading
 pub mod Refused
 pub mod StatusText

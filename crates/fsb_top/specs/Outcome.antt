@@ -1,10 +1,10 @@
 -- What a call of `bench` leaves behind, by its status.
-use Rattle.std.specs.Prelude.{◌≡◌, ◌≤◌, ◌<◌, ◌-◌, ◌^◌, ◌⊎◌, ℕ, ◌++◌, List, Option, None, Some, length}
+use Rattle.std.specs.Prelude.{◌≡◌, ◌≤◌, ◌<◌, ◌-◌, ◌^◌, ◌⊎◌, ℕ, IsTrue, ◌++◌, List, Option, None, Some, is_some, length}
 use Rattle.fsb_access.specs.Replay.{Served}
 use Rattle.fsb_access.specs.ScriptOrder.{InOrder, script_of}
 use Rattle.fsb_access.specs.declared.log.Done.{Done as Entry}
 use Rattle.fsb_io.specs.Appends.{AppendsPart}
-use Rattle.fsb_check.specs.Found.{IsReadWhole, IsBad, HasManySamples}
+use Rattle.fsb_look.specs.SearchText.{search_text}
 use Rattle.fsb_report.specs.LogText.{log_text}
 use Rattle.fsb_report.specs.VerdictText.{trace_text}
 use Rattle.fsb_rules.specs.Checker.{as_broken}
@@ -18,14 +18,17 @@ use Rattle.fsb_signal.specs.declared.sample.Sample.{Sample}
 use Rattle.fsb_solo.specs.SoloLog.{solo_log}
 use Rattle.fsb_solo.specs.SoloTrace.{solo_trace}
 use Rattle.fsb_trace.specs.Verdict.{verdict}
+use Rattle.fsb_trigger.specs.Match.{least_match}
+use Rattle.fsb_trigger.specs.TriggerSteps.{StepView}
+use Rattle.fsb_watch.specs.Watched.{IsReadWhole, IsBad, HasManySamples}
 use Rattle.vcd_grammar.specs.declared.fault.VcdFault.{VcdFault}
 use Rattle.vcd_grammar.specs.Reading.{Reads}
 use Rattle.fsb_top.specs.AccessCount.{access_count}
-use Rattle.fsb_top.specs.Form.{Form, run, check}
+use Rattle.fsb_top.specs.Form.{Form, run, check, find, wave}
 use Rattle.fsb_top.specs.Reading.{HasRead}
 use Rattle.fsb_top.specs.Writing.{HasDump, HasDumpPart}
 use Rattle.fsb_top.specs.declared.status.Status.{Status}
-use Rattle.fsb_top.specs.declared.status.Status.TheVariants.{Done, Rejected, BadWords, BadBench, BadDump, ReadFault, WriteFault, DumpFault, OutOfMemory, TooLong}
+use Rattle.fsb_top.specs.declared.status.Status.TheVariants.{Done, Rejected, BadWords, BadBench, BadDump, ReadFault, WriteFault, DumpFault, OutOfMemory, TooLong, NotFound}
 
 -- ---- a run
 
@@ -59,6 +62,7 @@ HasRun (BadDump fault) = ⊥
 HasRun ReadFault = ⊥
 HasRun OutOfMemory = ⊥
 HasRun TooLong = ⊥
+HasRun NotFound = Unit {0}
 
 -- a run that was made, or lacked memory
 abbrev pub HasEnded : Status → Type 0
@@ -72,6 +76,7 @@ HasEnded (BadBench fault) = ⊥
 HasEnded (BadDump fault) = ⊥
 HasEnded ReadFault = ⊥
 HasEnded TooLong = ⊥
+HasEnded NotFound = ⊥
 
 -- a call that ended before anything was written
 abbrev pub IsSilent : Status → Type 0
@@ -85,6 +90,7 @@ IsSilent (BadDump fault) = Unit {0}
 IsSilent ReadFault = Unit {0}
 IsSilent OutOfMemory = Unit {0}
 IsSilent TooLong = Unit {0}
+IsSilent NotFound = ⊥
 
 -- the log's sink has the printed log of the plan behind what it held, or a first part of it where it failed
 abbrev pub IsLogged : Status → PlanView → List ℕ → List ℕ → Type 0
@@ -98,6 +104,7 @@ IsLogged (BadDump fault) plan before held = Unit {0}
 IsLogged ReadFault plan before held = Unit {0}
 IsLogged OutOfMemory plan before held = Unit {0}
 IsLogged TooLong plan before held = Unit {0}
+IsLogged NotFound plan before held = Unit {0}
 
 -- the dump's sink, where it has a name, was begun under it and has the dump of the plan's waveform; where it failed it has
 -- a first part of that, or is as it was
@@ -113,6 +120,7 @@ IsDumped (BadDump fault) plan name before was_begun_as held begun_as = Unit {0}
 IsDumped ReadFault plan name before was_begun_as held begun_as = Unit {0}
 IsDumped OutOfMemory plan name before was_begun_as held begun_as = Unit {0}
 IsDumped TooLong plan name before was_begun_as held begun_as = Unit {0}
+IsDumped NotFound plan name before was_begun_as held begun_as = Unit {0}
 
 -- ---- a check
 
@@ -128,6 +136,7 @@ TellsVerdict (BadDump fault) marks w = ⊥
 TellsVerdict ReadFault marks w = ⊥
 TellsVerdict OutOfMemory marks w = ⊥
 TellsVerdict TooLong marks w = ⊥
+TellsVerdict NotFound marks w = ⊥
 
 -- the log's sink has the line of the verdict behind what it held, or a first part of it where it failed
 abbrev pub IsTold : Status → Marks → List Sample → List ℕ → List ℕ → Type 0
@@ -141,6 +150,7 @@ IsTold (BadDump fault) marks w before held = Unit {0}
 IsTold ReadFault marks w before held = Unit {0}
 IsTold OutOfMemory marks w before held = Unit {0}
 IsTold TooLong marks w before held = Unit {0}
+IsTold NotFound marks w before held = Unit {0}
 
 -- a check ends in one of these
 abbrev pub IsOfCheck : Status → Type 0
@@ -154,6 +164,7 @@ IsOfCheck TooLong = Unit {0}
 IsOfCheck DumpFault = ⊥
 IsOfCheck BadWords = ⊥
 IsOfCheck (BadBench fault) = ⊥
+IsOfCheck NotFound = ⊥
 
 -- a run ends in one of these
 abbrev pub IsOfRun : Status → Type 0
@@ -167,6 +178,49 @@ IsOfRun TooLong = Unit {0}
 IsOfRun (Rejected broken) = ⊥
 IsOfRun (BadDump fault) = ⊥
 IsOfRun BadWords = ⊥
+IsOfRun NotFound = ⊥
+
+-- ---- a search, and a wave
+
+-- the status tells whether these steps match in the trace; where the sink failed, it tells nothing
+abbrev pub TellsMatch : List StepView → Status → List Sample → Type 0
+TellsMatch steps Done w = IsTrue (is_some (least_match steps w))
+TellsMatch steps NotFound w = least_match steps w ≡ None
+TellsMatch steps WriteFault w = Unit {0}
+TellsMatch steps _ w = ⊥
+
+-- the status tells nothing of the trace that was drawn
+abbrev pub TellsNothing : Status → List Sample → Type 0
+TellsNothing Done w = Unit {0}
+TellsNothing WriteFault w = Unit {0}
+TellsNothing _ w = ⊥
+
+-- the text of the search of a trace for these steps
+abbrev pub match_text : List StepView → List Sample → List ℕ
+match_text steps w = search_text (least_match steps w) (length w)
+
+-- the log's sink has the text behind what it held, or a first part of it where it failed
+abbrev pub IsWritten : Status → List ℕ → List ℕ → List ℕ → Type 0
+IsWritten Done text before held = held ≡ before ++ text
+IsWritten NotFound text before held = held ≡ before ++ text
+IsWritten WriteFault text before held = AppendsPart text before held
+IsWritten _ text before held = Unit {0}
+
+-- a search ends in one of these
+abbrev pub IsOfFind : Status → Type 0
+IsOfFind Done = Unit {0}
+IsOfFind NotFound = Unit {0}
+IsOfFind (BadDump fault) = Unit {0}
+IsOfFind ReadFault = Unit {0}
+IsOfFind WriteFault = Unit {0}
+IsOfFind OutOfMemory = Unit {0}
+IsOfFind TooLong = Unit {0}
+IsOfFind _ = ⊥
+
+-- a wave ends in one of these
+abbrev pub IsOfWave : Status → Type 0
+IsOfWave NotFound = ⊥
+IsOfWave status = IsOfFind status
 
 -- ---- the whole call
 
@@ -197,6 +251,17 @@ pub record HasVerdict (status : Status) (name held left : List ℕ) (begun_as : 
   pub few : length trace ≤ 2 ^ 32 - 1
   pub told : TellsVerdict status marks trace
 
+-- all of the file under this name was read, it is the dump of this trace of at most 2^32 - 1 samples, and the status tells
+-- of it what it is to tell
+pub record HasLooked (tells : Status → List Sample → Type 0) (status : Status) (name held left : List ℕ) (begun_as : Option (List ℕ)) : Type 0 where
+  pub read : IsReadWhole held left
+  pub named : begun_as ≡ Some name
+  pub marks : Marks
+  pub trace : List Sample
+  pub reads : Reads held marks trace
+  pub few : length trace ≤ 2 ^ 32 - 1
+  pub told : tells status trace
+
 -- all of the file under this name was read, and it is no dump, with this first fault, before which at most 2^32 - 1
 -- samples are decided
 pub record IsBadDump (name held left : List ℕ) (begun_as : Option (List ℕ)) (fault : VcdFault) : Type 0 where
@@ -208,15 +273,17 @@ pub record IsBadDump (name held left : List ℕ) (begun_as : Option (List ℕ)) 
 abbrev pub IsTooLong : Form → List ℕ → Type 0
 IsTooLong (run bench dump) held = 4194304 < length held
 IsTooLong (check dump) held = (2 ^ 40 < length held) ⊎ HasManySamples held
+IsTooLong (find dump steps) held = (2 ^ 40 < length held) ⊎ HasManySamples held
+IsTooLong (wave dump from to) held = (2 ^ 40 < length held) ⊎ HasManySamples held
 
 -- what an answer about the file says, by the form of the words; nothing where they have none
 abbrev pub FromRun : Option Form → (List ℕ → Type 0) → Type 0
-FromRun None P = ⊥
 FromRun (Some (run bench dump)) P = P bench
-FromRun (Some (check dump)) P = ⊥
+FromRun _ P = ⊥
 
--- the same of the words of a check
-abbrev pub FromCheck : Option Form → (List ℕ → Type 0) → Type 0
-FromCheck None P = ⊥
-FromCheck (Some (run bench dump)) P = ⊥
-FromCheck (Some (check dump)) P = P dump
+-- the same of the words of a command that only reads a dump
+abbrev pub FromLook : Option Form → (List ℕ → Type 0) → Type 0
+FromLook (Some (check dump)) P = P dump
+FromLook (Some (find dump steps)) P = P dump
+FromLook (Some (wave dump from to)) P = P dump
+FromLook _ P = ⊥

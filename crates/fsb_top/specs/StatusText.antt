@@ -9,7 +9,7 @@ use Rattle.fsb_signal.specs.Table.{table}
 use Rattle.vcd_grammar.specs.declared.fault.VcdCause.{VcdCause}
 use Rattle.vcd_grammar.specs.declared.fault.VcdCause.TheVariants as causes
 use Rattle.fsb_top.specs.declared.status.Status.{Status}
-use Rattle.fsb_top.specs.declared.status.Status.TheVariants.{Done, Rejected, BadWords, BadBench, BadDump, ReadFault, WriteFault, DumpFault, OutOfMemory, TooLong}
+use Rattle.fsb_top.specs.declared.status.Status.TheVariants.{Done, Rejected, BadWords, BadBench, BadDump, ReadFault, WriteFault, DumpFault, OutOfMemory, TooLong, NotFound}
 
 -- the exit status
 abbrev pub code_of : Status → ℕ
@@ -23,6 +23,7 @@ code_of WriteFault = 6
 code_of DumpFault = 7
 code_of OutOfMemory = 8
 code_of TooLong = 9
+code_of NotFound = 11
 
 -- the printed name of a cause
 abbrev pub cause_name : Cause → List ℕ
@@ -65,3 +66,4 @@ status_text WriteFault = codes "write fault"
 status_text DumpFault = codes "dump fault"
 status_text OutOfMemory = codes "out of memory"
 status_text TooLong = codes "too long"
+status_text NotFound = codes "not found"

@@ -1,10 +1,10 @@
--- The status of a finding, and what is written of it.
-use Rattle.std.specs.Prelude.{◌≡◌, ℕ, List, ◌++◌, Some, None}
-use Rattle.fsb_check.specs.declared.finding.Finding.{Finding}
+-- The status of a finding, of a search and of a wave, and what is written of a finding.
+use Rattle.std.specs.Prelude.{◌≡◌, ℕ, IsTrue, List, ◌++◌, Option, Some, None, is_some}
+use Rattle.fsb_check.specs.declared.check.Finding.{Finding}
 use Rattle.fsb_io.specs.Appends.{AppendsPart}
 use Rattle.fsb_report.specs.VerdictText.{verdict_text}
 use Rattle.fsb_top.specs.declared.status.Status.{Status}
-use Rattle.fsb_top.specs.declared.status.Status.TheVariants.{Done, Rejected, BadWords, BadBench, BadDump, ReadFault, WriteFault, DumpFault, OutOfMemory, TooLong}
+use Rattle.fsb_top.specs.declared.status.Status.TheVariants.{Done, Rejected, BadWords, BadBench, BadDump, ReadFault, WriteFault, DumpFault, OutOfMemory, TooLong, NotFound}
 
 -- the status of a finding whose line was written, or of a sink that failed
 abbrev pub IsFindingTold : Status → Finding → Type 0
@@ -18,6 +18,7 @@ IsFindingTold (BadDump fault) finding = ⊥
 IsFindingTold ReadFault finding = ⊥
 IsFindingTold OutOfMemory finding = ⊥
 IsFindingTold TooLong finding = ⊥
+IsFindingTold NotFound finding = ⊥
 
 -- the sink has the line of the finding behind what it held, or a first part of it where it failed
 abbrev pub IsFindingWritten : Status → Finding → List ℕ → List ℕ → Type 0
@@ -31,3 +32,17 @@ IsFindingWritten (BadDump fault) finding before held = Unit {0}
 IsFindingWritten ReadFault finding before held = Unit {0}
 IsFindingWritten OutOfMemory finding before held = Unit {0}
 IsFindingWritten TooLong finding before held = Unit {0}
+IsFindingWritten NotFound finding before held = Unit {0}
+
+-- the status of a search whose line was written, or of a sink that failed
+abbrev pub IsSearchTold : Status → Option (List ℕ) → Type 0
+IsSearchTold Done found = IsTrue (is_some found)
+IsSearchTold NotFound found = found ≡ None
+IsSearchTold WriteFault found = Unit {0}
+IsSearchTold _ found = ⊥
+
+-- the status of a wave that was written, or of a sink that failed
+abbrev pub IsWaveTold : Status → Type 0
+IsWaveTold Done = Unit {0}
+IsWaveTold WriteFault = Unit {0}
+IsWaveTold _ = ⊥

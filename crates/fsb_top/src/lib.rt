@@ -1,4 +1,5 @@
-//! The top call: from the words of a command line to the printed log and the dump, or to the verdict on a dump.
+//! The top call: from the words of a command line to the printed log and the dump, to the verdict on a
+//! dump, or to what is searched or drawn in it.
 #![tactic(auto)]
 
 pub use status::{Status, code, status_line};
@@ -8,12 +9,15 @@ pub use words::Words;
 mod check;
 mod command;
 mod count;
+mod find;
 mod output;
 mod play;
+mod range;
 mod read;
 mod simulate;
 mod status;
 #[cfg(test)]
 mod tests;
 mod top;
+mod wave;
 mod words;

@@ -11,8 +11,10 @@ use fsb_report::{end_line, log_line};
 /// Writes the log of a run over so many clocks, whose scripts have `of` accesses: one piece per line.
 pub fn write_log<O: Sink>(out: &mut O, clocks: u32, of: u32, log: &[Done]) -> Result<(), Failed>
     requires { length log.now < 2 ^ 32 }
-    ensures whole { IsTrue O.tells → OnOk result (O.holds out.new ≡ O.holds out.old ++ log_text clocks of log.now) }
-    ensures part { IsTrue O.tells → AppendsPart (log_text clocks of log.now) (O.holds out.old) (O.holds out.new) }
+    ensures whole { IsTrue O.tells →
+        OnOk result (O.holds out.new ≡ O.holds out.old ++ log_text clocks of log.now) }
+    ensures part { IsTrue O.tells →
+        AppendsPart (log_text clocks of log.now) (O.holds out.old) (O.holds out.new) }
     ensures name_stays { IsTrue O.tells → O.begun_as out.new ≡ O.begun_as out.old }
     ensures cause { HasCause (O.faults out.old) (O.faults out.new) result }
 {
@@ -24,8 +26,10 @@ pub fn write_log<O: Sink>(out: &mut O, clocks: u32, of: u32, log: &[Done]) -> Re
 
 // Writes the line of one entry.
 fn write_line<O: Sink>(out: &mut O, done: &Done) -> Result<(), Failed>
-    ensures whole { IsTrue O.tells → OnOk result (O.holds out.new ≡ O.holds out.old ++ log_line_text done.now) }
-    ensures part { IsTrue O.tells → AppendsPart (log_line_text done.now) (O.holds out.old) (O.holds out.new) }
+    ensures whole { IsTrue O.tells →
+        OnOk result (O.holds out.new ≡ O.holds out.old ++ log_line_text done.now) }
+    ensures part { IsTrue O.tells →
+        AppendsPart (log_line_text done.now) (O.holds out.old) (O.holds out.new) }
     ensures name_stays { IsTrue O.tells → O.begun_as out.new ≡ O.begun_as out.old }
     ensures cause { HasCause (O.faults out.old) (O.faults out.new) result }
 {
@@ -34,8 +38,10 @@ fn write_line<O: Sink>(out: &mut O, done: &Done) -> Result<(), Failed>
 
 // Writes the last line.
 fn write_end<O: Sink>(out: &mut O, clocks: u32, done: u32, of: u32) -> Result<(), Failed>
-    ensures whole { IsTrue O.tells → OnOk result (O.holds out.new ≡ O.holds out.old ++ end_line_text clocks done of) }
-    ensures part { IsTrue O.tells → AppendsPart (end_line_text clocks done of) (O.holds out.old) (O.holds out.new) }
+    ensures whole { IsTrue O.tells →
+        OnOk result (O.holds out.new ≡ O.holds out.old ++ end_line_text clocks done of) }
+    ensures part { IsTrue O.tells →
+        AppendsPart (end_line_text clocks done of) (O.holds out.old) (O.holds out.new) }
     ensures name_stays { IsTrue O.tells → O.begun_as out.new ≡ O.begun_as out.old }
     ensures cause { HasCause (O.faults out.old) (O.faults out.new) result }
 {

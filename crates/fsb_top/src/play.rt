@@ -59,19 +59,24 @@ pub fn play<O: Sink, D: Sink>(
     ensures dump_named { result ≡ Played.DumpFault → IsTrue (is_some name.entry) }
 
     // The log was written unless its sink failed, and then a prefix of it.
-    ensures log { IsTrue O.tells → result ≢ Played.WriteFault
-        → O.holds out.new ≡ O.holds out.old ++ log_text run.now.clocks run.now.accesses run.now.log.now }
-    ensures log_part { IsTrue O.tells
-        → AppendsPart (log_text run.now.clocks run.now.accesses run.now.log.now) (O.holds out.old) (O.holds out.new) }
+    ensures log { IsTrue O.tells → result ≢ Played.WriteFault →
+        O.holds out.new ≡ O.holds out.old
+        ++ log_text run.now.clocks run.now.accesses run.now.log.now }
+    ensures log_part { IsTrue O.tells →
+        AppendsPart (log_text run.now.clocks run.now.accesses run.now.log.now) (O.holds out.old)
+        (O.holds out.new) }
     ensures out_name { IsTrue O.tells → O.begun_as out.new ≡ O.begun_as out.old }
 
     // The dump is begun only after the log was written, and only where it has a name.
     ensures not_begun { result ≡ Played.WriteFault → dump.new ≡ dump.old }
     ensures no_dump { name.entry ≡ None → dump.new ≡ dump.old }
-    ensures whole_dump { IsTrue D.tells → result ≡ Played.Done
-        → HasDump (dump_text run.now.profile run.now.trace.now) (option_map (λ n. n.now) name.entry) (D.holds dump.new) (D.begun_as dump.new) }
-    ensures dump_part { IsTrue D.tells → result ≡ Played.DumpFault
-        → HasDumpPart (dump_text run.now.profile run.now.trace.now) (option_map (λ n. n.now) name.entry) (D.holds dump.old) (D.begun_as dump.old) (D.holds dump.new) (D.begun_as dump.new) }
+    ensures whole_dump { IsTrue D.tells → result ≡ Played.Done →
+        HasDump (dump_text run.now.profile run.now.trace.now) (option_map (λ n. n.now) name.entry)
+        (D.holds dump.new) (D.begun_as dump.new) }
+    ensures dump_part { IsTrue D.tells → result ≡ Played.DumpFault →
+        HasDumpPart (dump_text run.now.profile run.now.trace.now)
+        (option_map (λ n. n.now) name.entry) (D.holds dump.old) (D.begun_as dump.old)
+        (D.holds dump.new) (D.begun_as dump.new) }
 {
     if write_log(out, run.clocks, run.accesses, run.log).is_err() {
         return Played::WriteFault;
@@ -100,7 +105,8 @@ fn write_dump<D: Sink>(
     ensures whole { IsTrue D.tells → OnOk result (D.holds dump.new ≡ dump_text profile trace.now) }
     ensures named { IsTrue D.tells → OnOk result (D.begun_as dump.new ≡ Some name.now) }
     ensures part { IsTrue D.tells → OnErr result
-        (HasDumpPart (dump_text profile trace.now) (Some name.now) (D.holds dump.old) (D.begun_as dump.old) (D.holds dump.new) (D.begun_as dump.new)) }
+        (HasDumpPart (dump_text profile trace.now) (Some name.now) (D.holds dump.old)
+        (D.begun_as dump.old) (D.holds dump.new) (D.begun_as dump.new)) }
     ensures cause { HasCause (D.faults dump.old) (D.faults dump.new) result }
 {
     dump.begin(name)?;

@@ -29,13 +29,19 @@ pub enum Refusal {
 /// Begins the source under the name, reads it to its end, and reads the bench file that it holds.
 pub fn read_plan<S: Source>(alloc: Global, name: &str, source: &mut S) -> Result<Plan, Refusal>
     requires { length name.now ≤ 4096 }
-    ensures whole { IsTrue S.tells → IfOk result (λ plan. HasRead (S.holds source.old) name.now (S.left source.new) (S.begun_as source.new)) }
-    ensures plan { IsTrue S.tells → IfOk result (λ plan. BenchText (S.holds source.old) (plan_view plan)) }
-    ensures bad { IsTrue S.tells → (f : ScriptFault) → result ≡ Err (Refusal.Bad f) → FirstBad (S.holds source.old) f }
-    ensures bad_whole { IsTrue S.tells → (f : ScriptFault) → result ≡ Err (Refusal.Bad f)
-        → HasRead (S.holds source.old) name.now (S.left source.new) (S.begun_as source.new) }
-    ensures too_long { IsTrue S.tells → result ≡ Err Refusal.TooLong → 4194304 < length (S.holds source.old) }
-    ensures read_fault { result ≡ Err Refusal.ReadFault → Rose (S.faults source.old) (S.faults source.new) }
+    ensures whole { IsTrue S.tells →
+        IfOk result (λ plan. HasRead (S.holds source.old) name.now (S.left source.new)
+        (S.begun_as source.new)) }
+    ensures plan { IsTrue S.tells →
+        IfOk result (λ plan. BenchText (S.holds source.old) (plan_view plan)) }
+    ensures bad { IsTrue S.tells → (f : ScriptFault) → result ≡ Err (Refusal.Bad f) →
+        FirstBad (S.holds source.old) f }
+    ensures bad_whole { IsTrue S.tells → (f : ScriptFault) → result ≡ Err (Refusal.Bad f) →
+        HasRead (S.holds source.old) name.now (S.left source.new) (S.begun_as source.new) }
+    ensures too_long { IsTrue S.tells → result ≡ Err Refusal.TooLong →
+        4194304 < length (S.holds source.old) }
+    ensures read_fault { result ≡ Err Refusal.ReadFault →
+        Rose (S.faults source.old) (S.faults source.new) }
     ensures holds_stays { IsTrue S.tells → S.holds source.new ≡ S.holds source.old }
 {
     if source.begin(name).is_err() {

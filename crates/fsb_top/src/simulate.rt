@@ -17,7 +17,8 @@ use std::alloc::Global;
 
 /// The log of a plan: that of its first agent, on lines of its own.
 pub fn simulate_log(alloc: Global, plan: &Plan) -> Result<Log, Memory>
-    ensures log { IfOk result (λ log. log.entries ≡ solo_log plan.now.clocks plan.now.mem (script_of plan.now.scripts 0)) }
+    ensures log { IfOk result (λ log.
+        log.entries ≡ solo_log plan.now.clocks plan.now.mem (script_of plan.now.scripts 0)) }
     ensures few { IfOk result (λ log. length log.entries ≤ 4096) }
     ensures served { IfOk result (λ log. Served plan.now.mem log.entries) }
     ensures in_order { IfOk result (λ log. InOrder plan.now.scripts log.entries) }
@@ -27,7 +28,8 @@ pub fn simulate_log(alloc: Global, plan: &Plan) -> Result<Log, Memory>
 
 /// The waveform of a plan, one sample a clock.
 pub fn simulate_trace(alloc: Global, plan: &Plan) -> Result<Vec<Sample>, Memory>
-    ensures trace { IfOk result (λ trace. trace.items ≡ solo_trace plan.now.clocks plan.now.mem (script_of plan.now.scripts 0)) }
+    ensures trace { IfOk result (λ trace.
+        trace.items ≡ solo_trace plan.now.clocks plan.now.mem (script_of plan.now.scripts 0)) }
     ensures known { IfOk result (λ trace. IsTrue (is_known_trace trace.items)) }
     ensures no_parity { IfOk result (λ trace. IsTrue (list_all has_no_parity trace.items)) }
     ensures len { IfOk result (λ trace. vec_len trace ≡ plan.now.clocks) }

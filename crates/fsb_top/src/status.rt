@@ -14,7 +14,7 @@ use vcd_read::{VcdCause, VcdFault};
 /// How a call of `bench` ended.
 #[derive(Clone, Copy, Debug, PartialEq, Eq)]
 pub enum Status {
-    /// Everything was read and written; of a check, that the dump breaks no phase rule.
+    /// Everything was read and written; of a check, that the dump breaks no phase rule; of a search, that the trigger matches.
     Done,
     /// The dump breaks a phase rule; this is the first clock with a broken rule and, there, the least rule.
     Rejected(Broken),
@@ -26,7 +26,7 @@ pub enum Status {
     BadDump(VcdFault),
     /// The source failed in this call.
     ReadFault,
-    /// The sink of the log or of the verdict failed in this call; it holds a prefix of its text.
+    /// The sink of the log, or of what is told of a dump, failed in this call; it holds a prefix of its text.
     WriteFault,
     /// The sink of the dump failed in this call; it holds a prefix of its text, or what it held before where it could not
     /// be begun.
@@ -36,6 +36,8 @@ pub enum Status {
     /// The bench file is longer than 4,194,304 bytes; the dump is longer than 2^40 bytes, or has more than 2^32 - 1 samples
     /// before its first fault, or in all of it where it has no fault.
     TooLong,
+    /// The trigger that was searched for matches at no clock of the dump.
+    NotFound,
 }
 
 /// The exit status of the program.
@@ -53,6 +55,7 @@ pub fn code(status: &Status) -> u8
         Status::DumpFault => 7,
         Status::OutOfMemory => 8,
         Status::TooLong => 9,
+        Status::NotFound => 11,
     }
 }
 
@@ -71,6 +74,7 @@ pub fn status_line(status: &Status) -> Line
         Status::DumpFault => text_line("dump fault"),
         Status::OutOfMemory => text_line("out of memory"),
         Status::TooLong => text_line("too long"),
+        Status::NotFound => text_line("not found"),
     }
 }
 

@@ -10,6 +10,7 @@ use vcd_read::{VcdCause, VcdFault};
 mod counts;
 mod faults;
 mod judged;
+mod looked;
 mod texts;
 
 /// A command line that names a bench file and a dump.
@@ -253,6 +254,7 @@ fn exit_codes_and_printed_lines(rt: HostRuntime) {
         (Status::DumpFault, 7, "dump fault"),
         (Status::OutOfMemory, 8, "out of memory"),
         (Status::TooLong, 9, "too long"),
+        (Status::NotFound, 11, "not found"),
     ];
     for (status, exit, text) in table {
         assert_eq!(rt; code(&status), exit);

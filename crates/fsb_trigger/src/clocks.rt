@@ -29,9 +29,10 @@ impl Clocks {
         Clocks { clocks: first }
     }
 
-    /// The clocks.
+    /// The clocks, at most 8.
     pub fn as_slice(&self) -> &[u32]
-        ensures { result.now ≡ self.now }
+        ensures value { result.now ≡ self.now }
+        ensures few { length result.now ≤ 8 }
     {
         self.clocks.as_slice()
     }

@@ -1,7 +1,7 @@
 -- The text of a wave: the control lines drawn over a range of clocks, and the words of its requests and of its data.
 use Rattle.std.specs.Prelude.{ℕ, ◌+◌, ◌-◌, ◌*◌, Bool, false, ◌||◌, if◌then◌else◌, min, List, [], ◌∷◌, ◌++◌, Option, codes, length, map, replicate, slice_get}
 use Rattle.std.specs.Fmt.{decimal}
-use Rattle.std.specs.List.{range_with_len}
+use Rattle.std.specs.List.{flat_map, range_with_len}
 use Rattle.std.specs.Option.{option_map_or}
 use Rattle.fsb_count.specs.Clocks.{all_where}
 use Rattle.fsb_io.specs.NumberText.{hexadecimal}
@@ -118,3 +118,7 @@ lines_over clocks from n all = drawings clocks from n ++ lines_below clocks from
 -- the lines of the wave of a trace over the clocks from `from` to `to`
 abbrev pub wave_lines : List Sample → ℕ → ℕ → List (List ℕ)
 wave_lines w from to = lines_over (slice_get w) from (reached from to (length w)) (length w)
+
+-- the text of the wave of a trace: its lines, one after another
+abbrev pub wave_text : List Sample → ℕ → ℕ → List ℕ
+wave_text w from to = flat_map (λ line. line) (wave_lines w from to)

@@ -6,6 +6,7 @@
 #![tactic(auto)]
 
 pub use laws::equal_waves_show_equal_lines;
+pub use range::ClockRange;
 pub use wave::Wave;
 
 mod laws;

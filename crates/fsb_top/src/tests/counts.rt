@@ -7,8 +7,9 @@ ghost use Rattle.fsb_top.specs.AccessCount.{access_count};
 /// The accesses of a locked item count singly, idle items do not count, and those of all scripts count together.
 fn counted_by_hand()
     ensures none { access_count [] ≡ 0 }
-    ensures of_two_scripts { (x : Access)
-        → access_count ((One x ∷ Locked (x ∷ x ∷ x ∷ []) ∷ Idle 5 ∷ []) ∷ [] ∷ (Idle 7 ∷ One x ∷ []) ∷ []) ≡ 5 }
+    ensures of_two_scripts { (x : Access) →
+        access_count ((One x ∷ Locked (x ∷ x ∷ x ∷ []) ∷ Idle 5 ∷ []) ∷ [] ∷ (Idle 7 ∷ One x ∷ [])
+        ∷ []) ≡ 5 }
 {}
 
 #[test]

@@ -40,7 +40,7 @@ fn has_no_parity(sample: &Sample) -> bool
 }
 
 /// The dump of profile 1 that is written of these clocks.
-fn written(alloc: Global, clocks: &[Clock]) -> Result<MemSink, Memory> {
+pub(crate) fn written(alloc: Global, clocks: &[Clock]) -> Result<MemSink, Memory> {
     let mut samples = Vec::new(alloc);
     for &clock in clocks {
         let sample = sample(clock);

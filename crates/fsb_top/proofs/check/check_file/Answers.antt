@@ -1,4 +1,3 @@
-use Rattle.std.proofs.Common.{arith}
 use Rattle.fsb_top.proofs.Verdicts.{tells_verdict}
 use Rattle.fsb_top.proofs.check.check_file.Goals as goal
 
@@ -11,6 +10,6 @@ returns-in-Ok-clause-judged g c tells run =
       marks = checked.1.marks;
       trace = checked.1.trace;
       reads = checked.1.reads;
-      few = omega (arith, checked.1.clocks, c.tell.ensures.few);
-      told = tells_verdict c.tell.result c.in-Ok.finding checked.1.marks checked.1.trace c.tell.ensures.told checked.1.judged;
+      few = checked.1.few;
+      told = tells_verdict c.tell.result c.in-Ok.finding checked.1.marks checked.1.trace c.tell.ensures.told checked.1.seen_all;
     }

@@ -1,0 +1,2 @@
+mod NextLine
+mod Same
