@@ -1,0 +1,6 @@
+//! The audit of a dump: a source is read in pieces, each parsed as it comes, and its samples are audited one after another.
+#![tactic(auto)]
+
+pub use audit::{Audited, audit_dump};
+
+mod audit;
