@@ -64,11 +64,11 @@ fn foul_of(
 
 impl Audit {
     /// The audit before the first sample of a dump with these marks.
-    pub fn new(alloc: Global, marks: Marks) -> Audit
-        ensures stands { Stands result marks [] }
-        ensures room { is_full result ≡ false }
+    pub fn new(alloc: Global, marks: Marks) -> Result<Audit, Memory>
+        ensures stands { IfOk result (λ audit. Stands audit marks []) }
+        ensures room { IfOk result (λ audit. is_full audit ≡ false) }
     {
-        Audit {
+        Ok(Audit {
             checker: Checker::new(marks),
             found: None,
             is_full: false,
@@ -78,7 +78,7 @@ impl Audit {
             from_memory: false,
             count: 0,
             moved: IndexMap::new(alloc),
-        }
+        })
     }
 
     /// Takes the next sample, and tells what is found first in the samples fed. From the first finding on it is always

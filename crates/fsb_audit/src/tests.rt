@@ -49,7 +49,7 @@ fn audited(
             ap: false,
             rp: false,
         },
-    );
+    )?;
     let mut found = None;
     for clock in 0..clocks.len() {
         let (lines, bits) = extra_at(extras, clock);

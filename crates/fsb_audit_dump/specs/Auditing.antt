@@ -1,13 +1,17 @@
 -- What the auditor of a dump stands for.
-use Rattle.std.specs.Prelude.{◌≡◌, false}
+use Rattle.std.specs.Prelude.{◌≡◌, false, Some}
 use Rattle.fsb_signal.specs.declared.marks.Marks.{Marks}
 use Rattle.fsb_trace.specs.At.{Trace}
+use Rattle.fsb_audit.specs.declared.audit.Audit.{Audit}
 use Rattle.fsb_audit.specs.Fouls.{finding_of}
 use Rattle.fsb_audit.specs.Audit.{Stands, is_full}
+use Rattle.fsb_audit_dump.specs.Audited.{audited_as}
 use Rattle.fsb_audit_dump.specs.declared.audit.Auditor.{Auditor}
 
 -- what is found so far is what is to be found in the samples of this trace, of a dump with these marks
 pub record HasAudited (auditor : Auditor) (marks : Marks) (w : Trace) : Type 0 where
-  pub audit : Stands auditor.audit marks w
-  pub room : is_full auditor.audit ≡ false
-  pub found : auditor.found ≡ finding_of marks w
+  pub audit : Audit
+  pub held : auditor.audit ≡ Some audit
+  pub stands : Stands audit marks w
+  pub room : is_full audit ≡ false
+  pub found : auditor.found ≡ audited_as (finding_of marks w) w

@@ -2,11 +2,7 @@
 ghost use Rattle.std.specs.Prelude.{◌≡◌, ◌≤◌, Err, IsTrue, Some, length};
 ghost use Rattle.fsb_io.specs.Faults.{Rose};
 ghost use Rattle.fsb_watch.specs.Watched.{IsReadAs, HasBegun, IsBegunOrStays};
-ghost use Rattle.fsb_signal.specs.declared.marks.Marks.{Marks};
-ghost use Rattle.fsb_trace.specs.At.{Trace};
-ghost use Rattle.fsb_audit.specs.Fouls.{finding_of};
-ghost use Rattle.fsb_audit_dump.specs.Audited.{IsAudited, audited_as};
-ghost use Rattle.fsb_audit_dump.specs.Auditing.{HasAudited};
+ghost use Rattle.fsb_audit_dump.specs.Audited.{IsAudited};
 
 use fsb_audit::{Audit, Finding};
 use fsb_io::{Memory, Source};
@@ -22,36 +18,22 @@ pub struct Audited {
     pub found: Result<u64, Finding>,
 }
 
-/// The audit of the samples of a dump, and what it said last.
+/// The audit of the samples of a dump, once its marks were told, and what is found in those shown: the first finding or,
+/// where there is none, how many chunks they move.
 #[derive(Drop)]
 pub struct Auditor {
-    audit: Audit,
-    found: Option<Finding>,
+    audit: Option<Audit>,
+    found: Result<u64, Finding>,
     alloc: Global,
 }
 
 impl Auditor {
     // Before the marks of the dump are told.
     fn new(alloc: Global) -> Auditor {
-        let marks = Marks {
-            ap: false,
-            rp: false,
-        };
         Auditor {
-            audit: Audit::new(alloc, marks),
-            found: None,
+            audit: None,
+            found: Ok(0),
             alloc,
-        }
-    }
-
-    // What is found, or how many chunks are moved.
-    fn found(&self) -> Result<u64, Finding>
-        requires { (m : Marks) × (h : Trace) × HasAudited self.now m h }
-        ensures { (m : Marks) (h : Trace) → HasAudited self.now m h → result ≡ audited_as (finding_of m h) h }
-    {
-        match self.found {
-            Some(finding) => Err(finding),
-            None => Ok(self.audit.chunks()),
         }
     }
 }
@@ -64,13 +46,20 @@ impl Watcher for Auditor {
     ghost has_seen = { λ _ now marks h. HasAudited now marks h };
 
     fn begin(&mut self, marks: Marks) -> Result<(), Memory> {
-        self.audit = Audit::new(self.alloc, marks);
-        self.found = None;
+        let audit = Audit::new(self.alloc, marks)?;
+        self.audit = Some(audit);
+        self.found = Ok(0);
         Ok(())
     }
 
     fn see(&mut self, sample: &Sample) -> Result<(), Memory> {
-        self.found = self.audit.feed(sample)?;
+        let Some(audit) = &mut self.audit else {
+            unreachable!();
+        };
+        self.found = match audit.feed(sample)? {
+            Some(finding) => Err(finding),
+            None => Ok(audit.chunks()),
+        };
         Ok(())
     }
 }
@@ -94,7 +83,7 @@ pub fn audit_dump<S: Source>(alloc: Global, name: &str, source: &mut S) -> Resul
     match watch_dump(alloc, name, source, &mut auditor) {
         Ok(clocks) => Ok(Audited {
             clocks,
-            found: auditor.found(),
+            found: auditor.found,
         }),
         Err(stop) => Err(stop),
     }

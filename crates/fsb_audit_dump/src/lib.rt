@@ -2,5 +2,7 @@
 #![tactic(auto)]
 
 pub use audit::{Audited, audit_dump};
+pub use text::{audit_line, foul_line};
 
 mod audit;
+mod text;

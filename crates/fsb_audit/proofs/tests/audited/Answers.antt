@@ -9,7 +9,7 @@ abbrev no_marks : Marks
 no_marks = record { ap = false; rp = false }
 
 pub loop-clock-init : goal.loop-clock-init
-loop-clock-init c = ([], c.new-audit.ensures.stands, refl, c.new-audit.ensures.room, sym (nothing_yet no_marks))
+loop-clock-init c = ([], c.in_ok-audit.ensures.stands, refl, c.in_ok-audit.ensures.room, sym (nothing_yet no_marks))
 
 pub loop-clock-preserved : goal.loop-clock-preserved
 loop-clock-preserved c =

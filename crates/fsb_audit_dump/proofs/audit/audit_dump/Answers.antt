@@ -14,10 +14,10 @@ returns-in-Ok-clause-audited g c tells =
         reads = read.1.reads;
         clocks_are = read.1.clocks_are;
         few = read.1.few;
-        seen_all = c.found.ensures read.1.marks read.1.trace read.1.seen_all;
+        seen_all = read.1.seen_all.found;
       },
     )
 
-pub returns-in-Err-clause-audited : goal.returns-in-Err-clause-audited
-returns-in-Err-clause-audited g c tells =
+pub returns-clause-audited : goal.returns-clause-audited
+returns-clause-audited g c tells =
     refused_alike (IsSeen (λ marks h. HasAudited c.watch_dump.new.watcher marks h)) IsAudited _ _ _ (c.in-Err.ensures.read tells)
