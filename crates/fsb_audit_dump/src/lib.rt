@@ -5,4 +5,6 @@ pub use audit::{Audited, audit_dump};
 pub use text::{audit_line, foul_line};
 
 mod audit;
+#[cfg(test)]
+mod tests;
 mod text;
