@@ -1,5 +1,6 @@
 pub mod LinesAhead
 pub mod PlanFacts
+mod Findings
 mod Searches
 mod TenDigits
 mod Verdicts

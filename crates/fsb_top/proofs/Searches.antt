@@ -21,6 +21,7 @@ tells_match (statuses.BadDump fault) found steps w told e = told
 tells_match statuses.ReadFault found steps w told e = told
 tells_match statuses.OutOfMemory found steps w told e = told
 tells_match statuses.TooLong found steps w told e = told
+tells_match (statuses.Foul foul) found steps w told e = told
 
 pub tells_nothing : (status : Status) (w : List Sample) → IsWaveTold status → TellsNothing status w
 tells_nothing statuses.Done w told = tt
@@ -34,6 +35,7 @@ tells_nothing (statuses.BadDump fault) w told = told
 tells_nothing statuses.ReadFault w told = told
 tells_nothing statuses.OutOfMemory w told = told
 tells_nothing statuses.TooLong w told = told
+tells_nothing (statuses.Foul foul) w told = told
 
 -- the line of a search of a trace is that of its trigger
 pub match_line : (status : Status) (found : Option (List ℕ)) (clocks : ℕ) (steps : List StepView) (w v : List Sample) (before held : List ℕ) → IsWritten status (search_text found clocks) before held → found ≡ least_match steps v → clocks ≡ length v → v ≡ w → IsWritten status (match_text steps w) before held

@@ -22,4 +22,5 @@ tells_verdict (statuses.BadDump fault) finding marks w told e = told
 tells_verdict statuses.ReadFault finding marks w told e = told
 tells_verdict statuses.OutOfMemory finding marks w told e = told
 tells_verdict statuses.TooLong finding marks w told e = told
+tells_verdict (statuses.Foul foul) finding marks w told e = told
 tells_verdict statuses.NotFound finding marks w told e = told

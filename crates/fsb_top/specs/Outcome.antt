@@ -3,6 +3,10 @@ use Rattle.std.specs.Prelude.{◌≡◌, ◌≤◌, ◌<◌, ◌-◌, ◌^◌, �
 use Rattle.fsb_access.specs.Replay.{Served}
 use Rattle.fsb_access.specs.ScriptOrder.{InOrder, script_of}
 use Rattle.fsb_access.specs.declared.log.Done.{Done as Entry}
+use Rattle.fsb_audit.specs.declared.finding.Finding.TheVariants as findings
+use Rattle.fsb_audit.specs.Fouls.{finding_of}
+use Rattle.fsb_audit_dump.specs.Audited.{audited_as}
+use Rattle.fsb_audit_dump.specs.AuditText.{audit_text}
 use Rattle.fsb_io.specs.Appends.{AppendsPart}
 use Rattle.fsb_look.specs.SearchText.{search_text}
 use Rattle.fsb_report.specs.LogText.{log_text}
@@ -24,11 +28,11 @@ use Rattle.fsb_watch.specs.Watched.{IsReadWhole, IsBad, HasManySamples}
 use Rattle.vcd_grammar.specs.declared.fault.VcdFault.{VcdFault}
 use Rattle.vcd_grammar.specs.Reading.{Reads}
 use Rattle.fsb_top.specs.AccessCount.{access_count}
-use Rattle.fsb_top.specs.Form.{Form, run, check, find, wave}
+use Rattle.fsb_top.specs.Form.{Form, run, check, audit, find, wave}
 use Rattle.fsb_top.specs.Reading.{HasRead}
 use Rattle.fsb_top.specs.Writing.{HasDump, HasDumpPart}
 use Rattle.fsb_top.specs.declared.status.Status.{Status}
-use Rattle.fsb_top.specs.declared.status.Status.TheVariants.{Done, Rejected, BadWords, BadBench, BadDump, ReadFault, WriteFault, DumpFault, OutOfMemory, TooLong, NotFound}
+use Rattle.fsb_top.specs.declared.status.Status.TheVariants.{Done, Rejected, BadWords, BadBench, BadDump, ReadFault, WriteFault, DumpFault, OutOfMemory, TooLong, Foul, NotFound}
 
 -- ---- a run
 
@@ -62,6 +66,7 @@ HasRun (BadDump fault) = ⊥
 HasRun ReadFault = ⊥
 HasRun OutOfMemory = ⊥
 HasRun TooLong = ⊥
+HasRun (Foul foul) = Unit {0}
 HasRun NotFound = Unit {0}
 
 -- a run that was made, or lacked memory
@@ -76,6 +81,7 @@ HasEnded (BadBench fault) = ⊥
 HasEnded (BadDump fault) = ⊥
 HasEnded ReadFault = ⊥
 HasEnded TooLong = ⊥
+HasEnded (Foul foul) = ⊥
 HasEnded NotFound = ⊥
 
 -- a call that ended before anything was written
@@ -90,6 +96,7 @@ IsSilent (BadDump fault) = Unit {0}
 IsSilent ReadFault = Unit {0}
 IsSilent OutOfMemory = Unit {0}
 IsSilent TooLong = Unit {0}
+IsSilent (Foul foul) = ⊥
 IsSilent NotFound = ⊥
 
 -- the log's sink has the printed log of the plan behind what it held, or a first part of it where it failed
@@ -104,6 +111,7 @@ IsLogged (BadDump fault) plan before held = Unit {0}
 IsLogged ReadFault plan before held = Unit {0}
 IsLogged OutOfMemory plan before held = Unit {0}
 IsLogged TooLong plan before held = Unit {0}
+IsLogged (Foul foul) plan before held = Unit {0}
 IsLogged NotFound plan before held = Unit {0}
 
 -- the dump's sink, where it has a name, was begun under it and has the dump of the plan's waveform; where it failed it has
@@ -120,6 +128,7 @@ IsDumped (BadDump fault) plan name before was_begun_as held begun_as = Unit {0}
 IsDumped ReadFault plan name before was_begun_as held begun_as = Unit {0}
 IsDumped OutOfMemory plan name before was_begun_as held begun_as = Unit {0}
 IsDumped TooLong plan name before was_begun_as held begun_as = Unit {0}
+IsDumped (Foul foul) plan name before was_begun_as held begun_as = Unit {0}
 IsDumped NotFound plan name before was_begun_as held begun_as = Unit {0}
 
 -- ---- a check
@@ -136,6 +145,7 @@ TellsVerdict (BadDump fault) marks w = ⊥
 TellsVerdict ReadFault marks w = ⊥
 TellsVerdict OutOfMemory marks w = ⊥
 TellsVerdict TooLong marks w = ⊥
+TellsVerdict (Foul foul) marks w = ⊥
 TellsVerdict NotFound marks w = ⊥
 
 -- the log's sink has the line of the verdict behind what it held, or a first part of it where it failed
@@ -150,6 +160,7 @@ IsTold (BadDump fault) marks w before held = Unit {0}
 IsTold ReadFault marks w before held = Unit {0}
 IsTold OutOfMemory marks w before held = Unit {0}
 IsTold TooLong marks w before held = Unit {0}
+IsTold (Foul foul) marks w before held = Unit {0}
 IsTold NotFound marks w before held = Unit {0}
 
 -- a check ends in one of these
@@ -164,6 +175,7 @@ IsOfCheck TooLong = Unit {0}
 IsOfCheck DumpFault = ⊥
 IsOfCheck BadWords = ⊥
 IsOfCheck (BadBench fault) = ⊥
+IsOfCheck (Foul foul) = ⊥
 IsOfCheck NotFound = ⊥
 
 -- a run ends in one of these
@@ -178,9 +190,10 @@ IsOfRun TooLong = Unit {0}
 IsOfRun (Rejected broken) = ⊥
 IsOfRun (BadDump fault) = ⊥
 IsOfRun BadWords = ⊥
+IsOfRun (Foul foul) = ⊥
 IsOfRun NotFound = ⊥
 
--- ---- a search, and a wave
+-- ---- a search, a wave and an audit
 
 -- the status tells whether these steps match in the trace; where the sink failed, it tells nothing
 abbrev pub TellsMatch : List StepView → Status → List Sample → Type 0
@@ -203,6 +216,8 @@ match_text steps w = search_text (least_match steps w) (length w)
 abbrev pub IsWritten : Status → List ℕ → List ℕ → List ℕ → Type 0
 IsWritten Done text before held = held ≡ before ++ text
 IsWritten NotFound text before held = held ≡ before ++ text
+IsWritten (Rejected broken) text before held = held ≡ before ++ text
+IsWritten (Foul foul) text before held = held ≡ before ++ text
 IsWritten WriteFault text before held = AppendsPart text before held
 IsWritten _ text before held = Unit {0}
 
@@ -221,6 +236,31 @@ IsOfFind _ = ⊥
 abbrev pub IsOfWave : Status → Type 0
 IsOfWave NotFound = ⊥
 IsOfWave status = IsOfFind status
+
+-- the status is that of what is found first in the trace, of a dump with these marks; where the sink failed, it tells
+-- nothing
+abbrev pub TellsFinding : Status → Marks → List Sample → Type 0
+TellsFinding Done marks w = finding_of marks w ≡ None
+TellsFinding (Rejected broken) marks w = finding_of marks w ≡ Some (findings.Broken broken)
+TellsFinding (Foul foul) marks w = finding_of marks w ≡ Some (findings.Foul foul)
+TellsFinding WriteFault marks w = Unit {0}
+TellsFinding _ marks w = ⊥
+
+-- the text of the audit of a trace, of a dump with these marks
+abbrev pub finding_text : Marks → List Sample → List ℕ
+finding_text marks w = audit_text (length w) (audited_as (finding_of marks w) w)
+
+-- an audit ends in one of these
+abbrev pub IsOfAudit : Status → Type 0
+IsOfAudit Done = Unit {0}
+IsOfAudit (Rejected broken) = Unit {0}
+IsOfAudit (Foul foul) = Unit {0}
+IsOfAudit (BadDump fault) = Unit {0}
+IsOfAudit ReadFault = Unit {0}
+IsOfAudit WriteFault = Unit {0}
+IsOfAudit OutOfMemory = Unit {0}
+IsOfAudit TooLong = Unit {0}
+IsOfAudit _ = ⊥
 
 -- ---- the whole call
 
@@ -262,6 +302,17 @@ pub record HasLooked (tells : Status → List Sample → Type 0) (status : Statu
   pub few : length trace ≤ 2 ^ 32 - 1
   pub told : tells status trace
 
+-- all of the file under this name was read, it is the dump of this trace of at most 2^32 - 1 samples with these marks, and
+-- the status is that of what is found first in it
+pub record HasFinding (status : Status) (name held left : List ℕ) (begun_as : Option (List ℕ)) : Type 0 where
+  pub read : IsReadWhole held left
+  pub named : begun_as ≡ Some name
+  pub marks : Marks
+  pub trace : List Sample
+  pub reads : Reads held marks trace
+  pub few : length trace ≤ 2 ^ 32 - 1
+  pub told : TellsFinding status marks trace
+
 -- all of the file under this name was read, and it is no dump, with this first fault, before which at most 2^32 - 1
 -- samples are decided
 pub record IsBadDump (name held left : List ℕ) (begun_as : Option (List ℕ)) (fault : VcdFault) : Type 0 where
@@ -273,6 +324,7 @@ pub record IsBadDump (name held left : List ℕ) (begun_as : Option (List ℕ)) 
 abbrev pub IsTooLong : Form → List ℕ → Type 0
 IsTooLong (run bench dump) held = 4194304 < length held
 IsTooLong (check dump) held = (2 ^ 40 < length held) ⊎ HasManySamples held
+IsTooLong (audit dump) held = (2 ^ 40 < length held) ⊎ HasManySamples held
 IsTooLong (find dump steps) held = (2 ^ 40 < length held) ⊎ HasManySamples held
 IsTooLong (wave dump from to) held = (2 ^ 40 < length held) ⊎ HasManySamples held
 
@@ -284,6 +336,7 @@ FromRun _ P = ⊥
 -- the same of the words of a command that only reads a dump
 abbrev pub FromLook : Option Form → (List ℕ → Type 0) → Type 0
 FromLook (Some (check dump)) P = P dump
+FromLook (Some (audit dump)) P = P dump
 FromLook (Some (find dump steps)) P = P dump
 FromLook (Some (wave dump from to)) P = P dump
 FromLook _ P = ⊥

@@ -2,6 +2,7 @@
 use Rattle.std.specs.Prelude.{ℕ, List, [], ◌++◌, codes, slice_get}
 use Rattle.std.specs.Option.{option_map_or}
 use Rattle.std.specs.Fmt.{decimal}
+use Rattle.fsb_audit_dump.specs.AuditText.{foul_text}
 use Rattle.fsb_report.specs.VerdictText.{rejected_text}
 use Rattle.fsb_script.specs.declared.fault.Cause.{Cause}
 use Rattle.fsb_script.specs.declared.fault.Cause.TheVariants.{FirstLine, Word, Number, Range, Align, Outside, LockConflict, LockSize, Missing, After, Unbuilt}
@@ -9,7 +10,7 @@ use Rattle.fsb_signal.specs.Table.{table}
 use Rattle.vcd_grammar.specs.declared.fault.VcdCause.{VcdCause}
 use Rattle.vcd_grammar.specs.declared.fault.VcdCause.TheVariants as causes
 use Rattle.fsb_top.specs.declared.status.Status.{Status}
-use Rattle.fsb_top.specs.declared.status.Status.TheVariants.{Done, Rejected, BadWords, BadBench, BadDump, ReadFault, WriteFault, DumpFault, OutOfMemory, TooLong, NotFound}
+use Rattle.fsb_top.specs.declared.status.Status.TheVariants.{Done, Rejected, BadWords, BadBench, BadDump, ReadFault, WriteFault, DumpFault, OutOfMemory, TooLong, Foul, NotFound}
 
 -- the exit status
 abbrev pub code_of : Status → ℕ
@@ -23,6 +24,7 @@ code_of WriteFault = 6
 code_of DumpFault = 7
 code_of OutOfMemory = 8
 code_of TooLong = 9
+code_of (Foul foul) = 10
 code_of NotFound = 11
 
 -- the printed name of a cause
@@ -66,4 +68,5 @@ status_text WriteFault = codes "write fault"
 status_text DumpFault = codes "dump fault"
 status_text OutOfMemory = codes "out of memory"
 status_text TooLong = codes "too long"
+status_text (Foul foul) = foul_text foul
 status_text NotFound = codes "not found"

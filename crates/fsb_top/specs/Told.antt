@@ -1,10 +1,12 @@
--- The status of a finding, of a search and of a wave, and what is written of a finding.
-use Rattle.std.specs.Prelude.{◌≡◌, ℕ, IsTrue, List, ◌++◌, Option, Some, None, is_some}
+-- The status of a finding, of a search, of a wave and of an audit, and what is written of a finding.
+use Rattle.std.specs.Prelude.{◌≡◌, ℕ, IsTrue, List, ◌++◌, Option, Some, None, is_some, Result, Err, IsOk}
+use Rattle.fsb_audit.specs.declared.finding.Finding.{Finding as AuditFinding}
+use Rattle.fsb_audit.specs.declared.finding.Finding.TheVariants as findings
 use Rattle.fsb_check.specs.declared.check.Finding.{Finding}
 use Rattle.fsb_io.specs.Appends.{AppendsPart}
 use Rattle.fsb_report.specs.VerdictText.{verdict_text}
 use Rattle.fsb_top.specs.declared.status.Status.{Status}
-use Rattle.fsb_top.specs.declared.status.Status.TheVariants.{Done, Rejected, BadWords, BadBench, BadDump, ReadFault, WriteFault, DumpFault, OutOfMemory, TooLong, NotFound}
+use Rattle.fsb_top.specs.declared.status.Status.TheVariants.{Done, Rejected, BadWords, BadBench, BadDump, ReadFault, WriteFault, DumpFault, OutOfMemory, TooLong, Foul, NotFound}
 
 -- the status of a finding whose line was written, or of a sink that failed
 abbrev pub IsFindingTold : Status → Finding → Type 0
@@ -18,6 +20,7 @@ IsFindingTold (BadDump fault) finding = ⊥
 IsFindingTold ReadFault finding = ⊥
 IsFindingTold OutOfMemory finding = ⊥
 IsFindingTold TooLong finding = ⊥
+IsFindingTold (Foul foul) finding = ⊥
 IsFindingTold NotFound finding = ⊥
 
 -- the sink has the line of the finding behind what it held, or a first part of it where it failed
@@ -32,6 +35,7 @@ IsFindingWritten (BadDump fault) finding before held = Unit {0}
 IsFindingWritten ReadFault finding before held = Unit {0}
 IsFindingWritten OutOfMemory finding before held = Unit {0}
 IsFindingWritten TooLong finding before held = Unit {0}
+IsFindingWritten (Foul foul) finding before held = Unit {0}
 IsFindingWritten NotFound finding before held = Unit {0}
 
 -- the status of a search whose line was written, or of a sink that failed
@@ -46,3 +50,11 @@ abbrev pub IsWaveTold : Status → Type 0
 IsWaveTold Done = Unit {0}
 IsWaveTold WriteFault = Unit {0}
 IsWaveTold _ = ⊥
+
+-- the status of an audit whose line was written, or of a sink that failed
+abbrev pub IsAuditTold : Status → Result ℕ AuditFinding → Type 0
+IsAuditTold Done found = IsOk found
+IsAuditTold (Rejected broken) found = found ≡ Err (findings.Broken broken)
+IsAuditTold (Foul foul) found = found ≡ Err (findings.Foul foul)
+IsAuditTold WriteFault found = Unit {0}
+IsAuditTold _ found = ⊥

@@ -22,6 +22,10 @@ pub enum Command<'a> {
     Check {
         dump: &'a str,
     },
+    /// To audit a dump.
+    Audit {
+        dump: &'a str,
+    },
     /// To search a dump for a trigger.
     Find {
         dump: &'a str,
@@ -72,6 +76,7 @@ fn command_on<'a>(verb: &str, name: &'a str) -> Option<Command<'a>>
             dump: None,
         }),
         "check" => Some(Command::Check { dump: name }),
+        "audit" => Some(Command::Audit { dump: name }),
         _ => None,
     }
 }

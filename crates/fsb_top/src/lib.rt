@@ -1,11 +1,12 @@
 //! The top call: from the words of a command line to the printed log and the dump, to the verdict on a
-//! dump, or to what is searched or drawn in it.
+//! dump, or to what is audited, searched or drawn in it.
 #![tactic(auto)]
 
 pub use status::{Status, code, status_line};
 pub use top::bench;
 pub use words::Words;
 
+mod audit;
 mod check;
 mod command;
 mod count;

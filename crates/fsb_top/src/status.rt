@@ -4,6 +4,8 @@ ghost use Rattle.arrayvec.specs.ArrayVec.{array_vec_len};
 ghost use Rattle.fsb_top.specs.StatusText.{code_of, status_text, cause_name, dump_cause_text, line_name};
 
 use arrayvec::ArrayVec;
+use fsb_audit::FoulAt;
+use fsb_audit_dump::foul_line;
 use fsb_io::{Line, put_decimal, put_text};
 use fsb_report::rejected_line;
 use fsb_rules::Broken;
@@ -14,9 +16,11 @@ use vcd_read::{VcdCause, VcdFault};
 /// How a call of `bench` ended.
 #[derive(Clone, Copy, Debug, PartialEq, Eq)]
 pub enum Status {
-    /// Everything was read and written; of a check, that the dump breaks no phase rule; of a search, that the trigger matches.
+    /// Everything was read and written; of a check, that the dump breaks no phase rule; of a search, that the trigger matches;
+    /// of an audit, that the dump breaks no phase rule and has no foul clock.
     Done,
-    /// The dump breaks a phase rule; this is the first clock with a broken rule and, there, the least rule.
+    /// The dump breaks a phase rule; this is the first clock with a broken rule and, there, the least rule. Of an audit, that
+    /// no clock before is foul.
     Rejected(Broken),
     /// The words have no form of a command.
     BadWords,
@@ -36,6 +40,8 @@ pub enum Status {
     /// The bench file is longer than 4,194,304 bytes; the dump is longer than 2^40 bytes, or has more than 2^32 - 1 samples
     /// before its first fault, or in all of it where it has no fault.
     TooLong,
+    /// The dump has a foul clock, and breaks no phase rule up to it; this is the first.
+    Foul(FoulAt),
     /// The trigger that was searched for matches at no clock of the dump.
     NotFound,
 }
@@ -55,6 +61,7 @@ pub fn code(status: &Status) -> u8
         Status::DumpFault => 7,
         Status::OutOfMemory => 8,
         Status::TooLong => 9,
+        Status::Foul(_) => 10,
         Status::NotFound => 11,
     }
 }
@@ -74,6 +81,7 @@ pub fn status_line(status: &Status) -> Line
         Status::DumpFault => text_line("dump fault"),
         Status::OutOfMemory => text_line("out of memory"),
         Status::TooLong => text_line("too long"),
+        Status::Foul(foul) => foul_line(foul),
         Status::NotFound => text_line("not found"),
     }
 }

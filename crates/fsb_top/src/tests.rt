@@ -1,4 +1,5 @@
 use crate::{Status, Words, bench, code, status_line};
+use fsb_audit::FoulAt;
 use fsb_io::{MemSink, MemSource, Memory};
 use fsb_rules::Broken;
 use fsb_script::{Cause, ScriptFault};
@@ -7,6 +8,7 @@ use std::test::Fail;
 use texts::{CLOCKS_ZERO_TO_THREE, HEAD, TAIL};
 use vcd_read::{VcdCause, VcdFault};
 
+mod audited;
 mod counts;
 mod faults;
 mod judged;
@@ -18,6 +20,9 @@ pub(crate) const NAMED: [&str; 3] = ["run", "first.bench", "first.vcd"];
 
 /// A command line that names a dump to be judged.
 pub(crate) const CHECK: [&str; 2] = ["check", "first.vcd"];
+
+/// A command line that names a dump to be audited.
+pub(crate) const AUDIT: [&str; 2] = ["audit", "first.vcd"];
 
 /// A load of a byte that memory has, and a store into its line.
 pub(crate) const FIRST: &str =
@@ -140,7 +145,7 @@ fn empty_run(rt: HostRuntime) -> Result<(), Fail> {
 }
 
 /// Words that ask for nothing.
-const BAD_WORDS: [&[&str]; 17] = [
+const BAD_WORDS: [&[&str]; 20] = [
     &[],
     &["run"],
     &["run", "-x"],
@@ -149,6 +154,9 @@ const BAD_WORDS: [&[&str]; 17] = [
     &["check", "-x"],
     &["check", ""],
     &["check", "first.vcd", "second.vcd"],
+    &["audit"],
+    &["audit", "-x"],
+    &["audit", "first.vcd", "second.vcd"],
     &["judge", "first.vcd"],
     &["runs", "first.bench"],
     &["ru", "first.bench"],
@@ -243,6 +251,10 @@ fn bad_dump(place: u64, cause: VcdCause) -> Status {
 #[test]
 fn exit_codes_and_printed_lines(rt: HostRuntime) {
     let rejected = Status::Rejected(Broken { clock: 4, rule: 2 });
+    let foul = Status::Foul(FoulAt {
+        clock: 12,
+        addr: 0x40,
+    });
     let table = [
         (Status::Done, 0, ""),
         (rejected, 1, "rejected clock=4 rule=2"),
@@ -254,6 +266,7 @@ fn exit_codes_and_printed_lines(rt: HostRuntime) {
         (Status::DumpFault, 7, "dump fault"),
         (Status::OutOfMemory, 8, "out of memory"),
         (Status::TooLong, 9, "too long"),
+        (foul, 10, "foul clock=12 addr=40"),
         (Status::NotFound, 11, "not found"),
     ];
     for (status, exit, text) in table {

@@ -15,10 +15,11 @@ ghost use Rattle.fsb_trigger.specs.TriggerSteps.{StepView};
 ghost use Rattle.fsb_wave.specs.WaveText.{wave_text};
 ghost use Rattle.vcd_grammar.specs.declared.fault.VcdFault.{VcdFault};
 ghost use Rattle.vcd_grammar.specs.Reading.{Reads};
-ghost use Rattle.fsb_top.specs.Form.{Form, form_of, run, check, find, wave, looks_only};
-ghost use Rattle.fsb_top.specs.Outcome.{plan_log, plan_trace, plan_dump, HasRun, HasEnded, IsSilent, IsOfRun, IsOfCheck, IsLogged, IsTold, IsDumped, HasPlan, HasVerdict, IsBadBench, IsBadDump, IsTooLong, FromRun, FromLook, IsOfFind, IsOfWave, HasLooked, TellsMatch, TellsNothing, IsWritten, match_text};
+ghost use Rattle.fsb_top.specs.Form.{Form, form_of, run, check, audit, find, wave, looks_only};
+ghost use Rattle.fsb_top.specs.Outcome.{plan_log, plan_trace, plan_dump, HasRun, HasEnded, IsSilent, IsOfRun, IsOfCheck, IsLogged, IsTold, IsDumped, HasPlan, HasVerdict, IsBadBench, IsBadDump, IsTooLong, FromRun, FromLook, IsOfAudit, IsOfFind, IsOfWave, HasFinding, HasLooked, TellsMatch, TellsNothing, IsWritten, finding_text, match_text};
 ghost use Rattle.fsb_top.specs.Refused.{refusal_status};
 
+use crate::audit::audit_file;
 use crate::check::check_file;
 use crate::command::{Command, read_words};
 use crate::count::access_count;
@@ -35,8 +36,8 @@ use std::alloc::Global;
 use vcd_laws::its_dump_reads_back;
 
 /// Does what the words ask for: runs the bench file in `source`, and writes the log to `out` and the dump, where one is
-/// named, to `dump`; or checks the dump in `source` by its own marks, searches it for a trigger or draws a range of its clocks,
-/// and writes the line of the verdict, the line of the search or the wave to `out`.
+/// named, to `dump`; or checks or audits the dump in `source` by its own marks, searches it for a trigger or draws a range of its
+/// clocks, and writes the line of the verdict, of the audit or of the search, or the wave, to `out`.
 ///
 /// Every status but `OutOfMemory` has its cause: the words, a count of faults that rose in this call, the length of the
 /// file, its first fault, or the verdict. What is said of bytes and names holds for a source and sinks that tell them.
@@ -66,12 +67,13 @@ pub fn bench<S: Source, O: Sink, D: Sink>(
     ensures dump_fault { result ≡ Status.DumpFault → Rose (D.faults dump.old) (D.faults dump.new) }
 
     // What was read: where a run was made, a bench file's plan, whose log one byte memory serves and its scripts order;
-    // where a dump was judged, searched or drawn, the dump of a trace, of which the status tells the verdict or whether the
-    // trigger matches.
+    // where a dump was judged, audited, searched or drawn, the dump of a trace, of which the status tells the verdict, what is
+    // found first, or whether the trigger matches.
     ensures holds_stays { IsTrue S.tells → S.holds source.new ≡ S.holds source.old }
     ensures of_run { (name : List ℕ) (dump : Option (List ℕ)) →
         form_of words.now ≡ Some (run name dump) → IsOfRun result }
     ensures of_check { (name : List ℕ) → form_of words.now ≡ Some (check name) → IsOfCheck result }
+    ensures of_audit { (name : List ℕ) → form_of words.now ≡ Some (audit name) → IsOfAudit result }
     ensures of_find { (name : List ℕ) (steps : List StepView) →
         form_of words.now ≡ Some (find name steps) → IsOfFind result }
     ensures of_wave { (name : List ℕ) (from to : ℕ) → form_of words.now ≡ Some (wave name from to) →
@@ -82,6 +84,9 @@ pub fn bench<S: Source, O: Sink, D: Sink>(
     ensures judged { IsTrue S.tells → (name : List ℕ) → form_of words.now ≡ Some (check name) →
         HasRun result →
         HasVerdict result name (S.holds source.old) (S.left source.new) (S.begun_as source.new) }
+    ensures audited { IsTrue S.tells → (name : List ℕ) → form_of words.now ≡ Some (audit name) →
+        HasRun result →
+        HasFinding result name (S.holds source.old) (S.left source.new) (S.begun_as source.new) }
     ensures searched { IsTrue S.tells → (name : List ℕ) (steps : List StepView) →
         form_of words.now ≡ Some (find name steps) →
         HasRun result →
@@ -103,6 +108,10 @@ pub fn bench<S: Source, O: Sink, D: Sink>(
         Reads (S.holds source.old) m w →
         (name : List ℕ) → form_of words.now ≡ Some (check name) →
         IsTold result m w (O.holds out.old) (O.holds out.new) }
+    ensures audited_text { IsTrue S.tells → IsTrue O.tells → (m : Marks) (w : List Sample) →
+        Reads (S.holds source.old) m w →
+        (name : List ℕ) → form_of words.now ≡ Some (audit name) →
+        IsWritten result (finding_text m w) (O.holds out.old) (O.holds out.new) }
     ensures searched_text { IsTrue S.tells → IsTrue O.tells → (m : Marks) (w : List Sample) →
         Reads (S.holds source.old) m w →
         (name : List ℕ) (steps : List StepView) → form_of words.now ≡ Some (find name steps) →
@@ -128,6 +137,7 @@ pub fn bench<S: Source, O: Sink, D: Sink>(
         None => Status::BadWords,
         Some(Command::Run { bench, dump: name }) => run_file(alloc, bench, name, source, out, dump),
         Some(Command::Check { dump: name }) => check_file(alloc, name, source, out),
+        Some(Command::Audit { dump: name }) => audit_file(alloc, name, source, out),
         Some(
             Command::Find {
                 dump: name,

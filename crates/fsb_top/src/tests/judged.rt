@@ -18,8 +18,21 @@ use vcd_dumps::{
 use vcd_read::{VcdCause, VcdFault};
 use vcd_write::put_dump;
 
-/// The sample of a clock.
-fn sample(clock: Clock) -> Sample
+/// Data that a clock asserts beside what is laid out: the clock, and the data.
+pub(crate) type Data = (usize, u64);
+
+/// The data that are asserted beside what is laid out for this clock.
+fn data_at(data: &[Data], clock: usize) -> u64 {
+    for &(at, bits) in data {
+        if at == clock {
+            return bits;
+        }
+    }
+    0
+}
+
+/// The sample of a clock, with these data.
+fn sample(clock: Clock, bits: u64) -> Sample
     ensures { IsTrue (is_known result) }
 {
     let (lines, req, addr) = clock;
@@ -28,7 +41,7 @@ fn sample(clock: Clock) -> Sample
         unknown: Lines(0),
         req: Word::known(req % (1 << 5)),
         addr: Word::known(addr % (1 << 33)),
-        dbus: Word::known(0),
+        dbus: Word::known(bits),
     }
 }
 
@@ -41,9 +54,18 @@ fn has_no_parity(sample: &Sample) -> bool
 
 /// The dump of profile 1 that is written of these clocks.
 pub(crate) fn written(alloc: Global, clocks: &[Clock]) -> Result<MemSink, Memory> {
+    written_with(alloc, clocks, &[])
+}
+
+/// The dump of profile 1 that is written of these clocks with these data.
+pub(crate) fn written_with(
+    alloc: Global,
+    clocks: &[Clock],
+    data: &[Data],
+) -> Result<MemSink, Memory> {
     let mut samples = Vec::new(alloc);
-    for &clock in clocks {
-        let sample = sample(clock);
+    for at in 0..clocks.len() {
+        let sample = sample(clocks[at], data_at(data, at));
         if has_no_parity(&sample) {
             samples.push(sample)?;
         }

@@ -1,10 +1,10 @@
 //! Dumps that are looked into.
 
-use super::judged::written;
-use super::{Ended, FIRST, Fails, NAMED, NO_FAILS, call_bench};
+use super::judged::{Data, written_with};
+use super::{AUDIT, Ended, FIRST, Fails, NAMED, NO_FAILS, call_bench};
 use crate::Status;
 use fsb_io::{MemSink, Memory};
-use fsb_runs::STORE_HANDED_OVER_BEFORE_ARRIVAL;
+use fsb_runs::{Clock, STORE_HANDED_OVER_BEFORE_ARRIVAL};
 use std::alloc::Global;
 use std::test::Fail;
 use vcd_read::{VcdCause, VcdFault};
@@ -51,14 +51,14 @@ clocks=60
 const WAVE_BEHIND: &str =
     "BREQ0 \nBREQ1 \nBREQ2 \nBREQ3 \nBPRI  \nLOCK  \nBNR   \nADS   \nAERR  \nHIT   \nHITM  \nDEFER \nRS0   \nRS1   \nRS2   \nTRDY  \nDBSY  \nDRDY  \nAP0   \nAP1   \nRP    \nclocks=60\n";
 
-/// The dump of the run of 60 clocks in which a store is handed over before its bytes have come.
-fn handed_over(alloc: Global) -> Result<MemSink, Memory> {
+/// The dump of a run of 60 clocks that begins with these, with these data.
+pub(crate) fn run_of_60(alloc: Global, first: &[Clock], data: &[Data]) -> Result<MemSink, Memory> {
     let mut clocks = Vec::new(alloc);
     for clock in 0..60 {
-        let now = STORE_HANDED_OVER_BEFORE_ARRIVAL.get(clock);
+        let now = first.get(clock);
         clocks.push(now.copied().unwrap_or((0, 0, 0)))?;
     }
-    written(alloc, &clocks)
+    written_with(alloc, &clocks, data)
 }
 
 /// The first run, with its dump.
@@ -68,7 +68,7 @@ fn first_run(alloc: Global) -> Result<Ended, Memory> {
 
 #[test]
 fn find_trigger(rt: HostRuntime) -> Result<(), Fail> {
-    let dump = handed_over(rt.alloc())?;
+    let dump = run_of_60(rt.alloc(), &STORE_HANDED_OVER_BEFORE_ARRIVAL, &[])?;
     let table = [
         (
             "ADS/HITM,!HIT/RS2,RS1,!RS0",
@@ -145,7 +145,7 @@ fn words_that_look_nowhere(rt: HostRuntime) -> Result<(), Fail> {
 fn each_call_of_a_look_fails(rt: HostRuntime) -> Result<(), Fail> {
     let run = first_run(rt.alloc())?;
     let dump = run.dump.holds();
-    let table: [&[&str]; 2] = [&FIND, &WAVE];
+    let table: [&[&str]; 3] = [&FIND, &WAVE, &AUDIT];
     for words in table {
         // The file is begun, read, and read again at its end.
         for call in 0..3 {
