@@ -1,8 +1,9 @@
 -- What an agent is granted, and what is brought to it, is for one of its outstanding requests.
-use Rattle.std.proofs.Common.{ℕ, zero, suc, ◌+◌, ◌/◌, ◌<◌, ◌≤◌, ◌≡◌, Bool, true, false, not, ◌&&◌, ◌||◌, List, [], ◌∷◌, Option, Some, None, length, nat_eq, refl, sym, ap, subst, ◌∙◌, ◌⊎◌, arith, inl, inr}
+use Rattle.std.proofs.Common.{ℕ, zero, suc, ◌+◌, ◌/◌, ◌<◌, ◌≤◌, ◌≡◌, Bool, true, false, not, ◌&&◌, ◌||◌, [], Option, Some, None, length, nat_eq, refl, sym, ap, subst, ◌∙◌, arith, inl, inr}
 use Rattle.std.specs.List.{filter, list_any}
 use Rattle.std.specs.Option.{option_and_then, option_map, option_map_or}
 use Rattle.std.proofs.lemmas.Bool.{and_from, and_parts, cases_Bool, eq-eqb, eqb-true, false_from_ne_true}
+use Rattle.fsb_count.specs.Clocks.{AgreeBelow}
 use Rattle.fsb_count.specs.Options.{is_at, is_before, is_some_and}
 use Rattle.fsb_count.proofs.Interface.{any_where-found, count_where-same, first_where-carried, is_at-some, is_before-parts, nth_where-found, nth_where-one}
 use Rattle.fsb_encode.specs.declared.request.Kind.{Kind}
@@ -17,14 +18,14 @@ use Rattle.fsb_trace.specs.declared.who.Who.TheVariants.{Symmetric, Priority}
 use Rattle.fsb_trace.specs.At.{Trace, request_at, responds_at}
 use Rattle.fsb_trace.specs.Agree.{AgreeTo}
 use Rattle.fsb_trace.specs.Flight.{is_live_reply_to, is_outstanding, is_reply_to, last_clock_of, outstanding, reply_clock_of, reply_end_of, reply_number_of}
-use Rattle.fsb_trace.specs.Outcome.{is_deferral, is_deferred, is_settled_deferred, outcome_by_kind, outcome_of, response_clock_of, settled_by}
+use Rattle.fsb_trace.specs.Outcome.{is_deferral, is_deferred, is_settled_deferred, outcome_by_kind, response_clock_of, settled_by}
 use Rattle.fsb_trace.specs.Requests.{have_same_id, is_live, is_reply, is_reply_kind, line_of, live_clock_of, live_count, live_number_of, live_request_of}
 use Rattle.fsb_trace.specs.Response.{end_of}
 use Rattle.fsb_trace.specs.Snoop.{snoop_end_of}
 use Rattle.fsb_trace.proofs.Interface.{AgreeTo-sym, end_of-response, is_live-agree, line_at-agree, live_clock_of-number, live_clock_of-stays, live_request_of-stays, request_at-agree, response_clock_of-stays, snoop_end_of-clock, snoop_end_of-rises, snoop_end_of-stays, winner_at-agree}
 use Rattle.fsb_laws.proofs.Interface.{deferred_response, end_after_clock, end_of-kept, is_outstanding-end, last_clock_of-deferred, last_clock_of-plain, live_of_reply}
 use Rattle.fsb_timely.specs.Completions.{brings_at, is_brought}
-use Rattle.fsb_timely.specs.Grants.{ended_requests, grant_at, is_end_at, is_granted, snooped_at}
+use Rattle.fsb_timely.specs.Grants.{ended_requests, grant_at, is_end_at, is_granted}
 use Rattle.fsb_timely.specs.Moments.{agent_at, begun_with, claim_at, moment_at, number_of_turn, owing_at, owing_for, requests_ending_at, turns_in}
 use Rattle.fsb_timely.specs.Past.{Claim, Grant, Owing, Past}
 use Rattle.fsb_timely.specs.Runs.{Run, moments_below, past_of, past_with, run_to}
@@ -43,14 +44,29 @@ use Rattle.fsb_lawful.proofs.ResponseCodes.{told-as-settled}
 use Rattle.fsb_lawful.proofs.Served.{IsGrantedBy, Serves, and-then, granted-by, some-and}
 use Rattle.fsb_lawful.proofs.Turns.{turned-at}
 
--- who claims what shows at the first clock
-claim-agree : (n : ℕ) (w v : Trace) (q : ℕ) → AgreeTo n w v → q < n → claim_at w q ≡ claim_at v q
-unfolding claim_at agent_at line_of
-claim-agree n w v q a l =
+agent-agree : (n : ℕ) (w v : Trace) (q : ℕ) → AgreeTo n w v → q < n → agent_at w q ≡ agent_at v q
+unfolding agent_at
+agent-agree n w v q a l =
+    let winner = winner_at-agree n w v q a (omega arith) in
+    λ i. elim (winner i) [ Some who ↦ elim who [ Symmetric b ↦ Some b | Priority ↦ None ] | None ↦ None ]
+
+line-agree : (n : ℕ) (w v : Trace) (q : ℕ) → AgreeTo n w v → q < n → line_of w q ≡ line_of v q
+unfolding line_of
+line-agree n w v q a l =
     let winner = winner_at-agree n w v q a (omega arith) in
     let sample = a.same q l in
-    let agent = ap (λ o. elim o [ Some who ↦ elim who [ Symmetric b ↦ Some b | Priority ↦ None ] | None ↦ None ]) winner in
-    λ i. option_and_then (λ x. option_map (λ y. record { first = q; agent = x; line = y }) (elim (winner i) [ Some who ↦ elim who [ Symmetric b ↦ option_map (λ s. s.addr.bits / 4) (sample i) | Priority ↦ None ] | None ↦ None ])) (agent i)
+    λ i. elim (winner i) [
+      | Some who ↦ elim who [ Symmetric b ↦ option_map (λ s. s.addr.bits / 4) (sample i) | Priority ↦ None ]
+      | None ↦ None
+    ]
+
+-- who claims what shows at the first clock
+claim-agree : (n : ℕ) (w v : Trace) (q : ℕ) → AgreeTo n w v → q < n → claim_at w q ≡ claim_at v q
+unfolding claim_at
+claim-agree n w v q a l =
+    let agent = agent-agree n w v q a l in
+    let line = line-agree n w v q a l in
+    λ i. option_and_then (λ x. option_map (λ y. record { first = q; agent = x; line = y }) (line i)) (agent i)
 
 -- the request of a claim, as its agent knows it
 begun-claim : (r : Run) (q : ℕ) (claim : Claim) → q < length r.trace → line_at ADS r.trace q ≡ true
@@ -66,16 +82,16 @@ begun-claim r q claim l t e =
     (record { claim = claim; did = free_id claim.agent (owed p claim.agent q) }, rw (ads, begun_with, same) refl, refl)
 
 -- live request j, which begins at q, has begun early enough below e, is no reply, and is not finished
-record IsOpen (r : Run) (e j q : ℕ) : Type 0 where
+record IsUnfinished (r : Run) (e j q : ℕ) : Type 0 where
   pub early : q + 3 < e + 1
   pub no_reply : is_reply (request_at (run_to r e).trace q) ≡ false
   pub unfinished : is_before (last_clock_of (run_to r e).trace j) (length (run_to r e).trace) ≡ false
 
 -- it is outstanding
-open-outstanding : (r : Run) (e j q : ℕ) → e < length r.trace → live_clock_of r.trace j ≡ Some q → IsOpen r e j q
+unfinished-outstanding : (r : Run) (e j q : ℕ) → e < length r.trace → live_clock_of r.trace j ≡ Some q → IsUnfinished r e j q
     → is_outstanding (run_to r e).trace (e + 1) q ≡ true
 unfolding live_clock_of live_number_of
-open-outstanding r e j q l clock k =
+unfinished-outstanding r e j q l clock k =
     let v = (run_to r e).trace in
     let size : length v ≡ e + 1 = length-cut r e l in
     let early = k.early in
@@ -85,9 +101,9 @@ open-outstanding r e j q l clock k =
     subst (λ n. is_outstanding v n q ≡ true) size
     (is_outstanding-end v q p.0 ∙ and_from _ _ (and_from _ _ p.1 (ap not k.no_reply)) (ap not unfinished))
 
--- a claim of an agent whose request is open is one that the agent owes
+-- a claim whose request is not finished is one that its agent owes
 owed-line : (r : Run) (e j q : ℕ) (claim : Claim) → suc e < length r.trace → live_clock_of r.trace j ≡ Some q
-    → claim_at r.trace q ≡ Some claim → IsOpen r e j q
+    → claim_at r.trace q ≡ Some claim → IsUnfinished r e j q
     → is_asked_for (owed (past_of r) claim.agent (suc e)) claim.line ≡ true
 unfolding is_asked_for owed outstanding
 owed-line r e j q claim l clock claims k =
@@ -95,15 +111,18 @@ owed-line r e j q claim l clock claims k =
     let early = k.early in
     let give = owing_at (past_with r (moments_below r e) e) v e in
     let begun = begun-claim r q claim (omega arith) (live-ads r.trace j q clock) claims in
+    let t : ℕ → Bool = is_outstanding v (e + 1) in
     let f : Owing → Bool = λ owing. nat_eq owing.claim.agent claim.agent in
     let g : Owing → Bool = λ owing. nat_eq owing.claim.line claim.line in
-    let listed : IsListed (is_outstanding v (e + 1)) give (λ owing. nat_eq owing.claim.agent claim.agent && nat_eq owing.claim.line claim.line) q = record {
-      there = open-outstanding r e j q (omega arith) clock k;
+    let same = begun.2 in
+    let listed : IsListed t give (λ owing. f owing && g owing) q = record {
+      there = unfinished-outstanding r e j q (omega arith) clock k;
       given = begun.0;
       gives = owing-then r e q (omega arith) ∙ begun.1;
-      passes = and_from _ _ (eq-eqb begun.0.claim.agent claim.agent (ap (λ x. x.agent) begun.2)) (eq-eqb begun.0.claim.line claim.line (ap (λ x. x.line) begun.2));
+      passes = and_from _ _ (eq-eqb begun.0.claim.agent claim.agent (ap (λ x. x.agent) same))
+          (eq-eqb begun.0.claim.line claim.line (ap (λ x. x.line) same));
     } in
-    let any = any-listed (is_outstanding v (e + 1)) give (λ owing. nat_eq owing.claim.agent claim.agent && nat_eq owing.claim.line claim.line) (e + 1) q (omega arith) listed in
+    let any = any-listed t give (λ owing. f owing && g owing) (e + 1) q (omega arith) listed in
     ap (λ xs. list_any g (filter f xs)) (outstanding-of r e (omega arith)) ∙ any-kept f g _ any
 
 -- a response shows that the snoop ended
@@ -116,7 +135,8 @@ snooped-so-far r e i t h l f =
     let s : ℕ = told.snoop in
     let within = (snoop_end_of-clock v i s told.is_snoop).within in
     let below : s < e + 1 = omega arith in
-    (s, below, snoop_end_of-stays (e + 1) v r.trace i s (AgreeTo-sym (e + 1) r.trace v (run_to-agrees r e l)) below told.is_snoop)
+    let back = AgreeTo-sym (e + 1) r.trace v (run_to-agrees r e l) in
+    (s, below, snoop_end_of-stays (e + 1) v r.trace i s back below told.is_snoop)
 
 -- live request i has no end so far
 abbrev pub HasNoEnd : Run → ℕ → ℕ → Type 0
@@ -127,9 +147,9 @@ unfolding response_clock_of
 response-within w i t e = (nth_where-found (responds_at w) i (length w) t e).0
 
 -- such a request is not finished
-open-itself : (r : Run) (e i : ℕ) → e < length r.trace → HasNoEnd r e i
+unfinished-itself : (r : Run) (e i : ℕ) → e < length r.trace → HasNoEnd r e i
     → is_before (last_clock_of (run_to r e).trace i) (length (run_to r e).trace) ≡ false
-open-itself r e i l none =
+unfinished-itself r e i l none =
     let v = (run_to r e).trace in
     let size : length v ≡ e + 1 = length-cut r e l in
     false_from_ne_true _ (λ t.
@@ -157,7 +177,8 @@ by-request None = refl
 by-request (Some request) = by-kind request request.kind refl
 
 -- what is kept is not put off
-kept : (w : Trace) (i s : ℕ) (b : Bool) → line_at HITM w s ≡ b → is_deferral (settled_by w (number_of_turn Keep) i s) ≡ false
+kept : (w : Trace) (i s : ℕ) (b : Bool) → line_at HITM w s ≡ b
+    → is_deferral (settled_by w (number_of_turn Keep) i s) ≡ false
 unfolding settled_by number_of_turn is_deferral
 kept w i s true e = rw e refl
 kept w i s false e = rw e (by-request (live_request_of w i))
@@ -187,11 +208,13 @@ never-reply w j s turn None e settled held = refl
 never-reply w j s turn (Some request) e settled held =
     false_from_ne_true _ (λ t.
     let keep = held request e (reply-held request.kind t) in
-    let no : false ≡ true = sym (kept w j s (line_at HITM w s) refl) ∙ ap (λ k. is_deferral (settled_by w (number_of_turn k) j s)) (sym keep) ∙ settled in
+    let not_so = kept w j s (line_at HITM w s) refl in
+    let so = ap (λ k. is_deferral (settled_by w (number_of_turn k) j s)) (sym keep) ∙ settled in
+    let no : false ≡ true = sym not_so ∙ so in
     cc no)
 
-put-off : (r : Run) (e i j t : ℕ) → Timely r → e < length r.trace → t ≤ suc e → snoop_end_of r.trace i ≡ Some t → j < i
-    → is_settled_deferred r.trace (turns_in (past_of r).moments) j ≡ true → IsPutOff r e j
+put-off : (r : Run) (e i j t : ℕ) → Timely r → e < length r.trace → t ≤ suc e
+    → snoop_end_of r.trace i ≡ Some t → j < i → is_settled_deferred r.trace (turns_in (past_of r).moments) j ≡ true → IsPutOff r e j
 unfolding is_settled_deferred is_some_and
 put-off r e i j t h l low snoop less deferred =
     let v = (run_to r e).trace in
@@ -205,14 +228,16 @@ put-off r e i j t h l low snoop less deferred =
     let two = tied.1.there in
     let same : tied.0 ≡ turned.end = cc in
     let told : is_deferral tied.0.outcome ≡ true = sym (ap (λ o. is_some_and o is_deferral) tied.1.outcome) ∙ deferred in
-    let settled = ap (λ o. is_some_and o is_deferral) turned.outcome ∙ ap (λ x. is_deferral x.outcome) (sym same) ∙ told in
+    let settled = ap (λ o. is_some_and o is_deferral) turned.outcome
+    ∙ ap (λ x. is_deferral x.outcome) (sym same) ∙ told in
     record {
       snoop = s;
       below = omega arith;
       is_snoop = there;
       settled = settled;
       no_reply = never-reply v j s turned.end.turn (live_request_of v j) refl
-          (sym (ap (λ o. is_some_and o is_deferral) turned.settled) ∙ settled) (λ request f g. (turned.effective request f).keeps g);
+          (sym (ap (λ o. is_some_and o is_deferral) turned.settled) ∙ settled)
+          (λ request f g. (turned.effective request f).keeps g);
     }
 
 -- what is a live reply shows three clocks after its first clock
@@ -246,16 +271,22 @@ reply-whole r e j i s t x h l low snoop response reply end below =
     let clock : k.0 ≡ q.0 = (let f = k.1 in cc) in
     let early : k.0 + 6 ≤ x = k.2 in
     let near : q.0 + 3 < e + 1 = omega arith in
+    let replies : AgreeBelow (q.0 + 1) (is_live_reply_to v j) (is_live_reply_to r.trace j) = record {
+      same = λ c n. same-reply (e + 1) v r.trace j s t c a low snoop (omega arith) response (omega arith);
+    } in
+    let lives : AgreeBelow q.0 (is_live v) (is_live r.trace) = record {
+      same = λ c n. is_live-agree (e + 1) v r.trace c a (omega arith);
+    } in
     let whole = first_where-carried (is_live_reply_to v j) (is_live_reply_to r.trace j) (length v) (length r.trace) q.0
-    (record { same = λ c n. same-reply (e + 1) v r.trace j s t c a low snoop (omega arith) response (omega arith) }) (omega arith) q.1 in
-    let number = count_where-same (is_live v) (is_live r.trace) q.0 (record { same = λ c n. is_live-agree (e + 1) v r.trace c a (omega arith) }) in
+    replies (omega arith) q.1 in
+    let number = count_where-same (is_live v) (is_live r.trace) q.0 lives in
     ap (option_map (live_number_of r.trace)) whole ∙ ap Some (sym number ∙ q.2)
 
 -- while its reply has no end, a request that was put off is not finished
-open-other : (r : Run) (e i j : ℕ) → Timely r → e < length r.trace → IsPutOff r e j → reply_number_of r.trace j ≡ Some i
+unfinished-other : (r : Run) (e i j : ℕ) → Timely r → e < length r.trace → IsPutOff r e j → reply_number_of r.trace j ≡ Some i
     → HasNoEnd r e i → is_before (last_clock_of (run_to r e).trace j) (length (run_to r e).trace) ≡ false
 unfolding reply_end_of is_deferred
-open-other r e i j h l k reply none =
+unfinished-other r e i j h l k reply none =
     let v = (run_to r e).trace in
     let size : length v ≡ e + 1 = length-cut r e l in
     false_from_ne_true _ (λ t.
@@ -283,12 +314,12 @@ early-itself r e i t q l low snoop clock =
     let above = c.above in
     let same : c.clock ≡ q = cc in omega arith
 
--- the request that is served is open while the one that serves it has no end
-open-served : (r : Run) (e i j t q : ℕ) → Timely r → e < length r.trace → t ≤ suc e → snoop_end_of r.trace i ≡ Some t
+-- the request that is served is not finished while the one that serves it has no end
+unfinished-served : (r : Run) (e i j t q : ℕ) → Timely r → e < length r.trace → t ≤ suc e → snoop_end_of r.trace i ≡ Some t
     → Serves r.trace (turns_in (past_of r).moments) i j → live_clock_of r.trace j ≡ Some q → HasNoEnd r e i
-    → IsOpen r e j q
+    → IsUnfinished r e j q
 unfolding live_request_of
-open-served r e i j t q h l low snoop (inl k) clock none =
+unfinished-served r e i j t q h l low snoop (inl k) clock none =
     let v = (run_to r e).trace in
     let same = k.same in
     let first : live_clock_of r.trace i ≡ Some q = subst (λ n. live_clock_of r.trace n ≡ Some q) same clock in
@@ -296,10 +327,11 @@ open-served r e i j t q h l low snoop (inl k) clock none =
     let request = request_at-agree (e + 1) r.trace v q (run_to-agrees r e l) (omega arith) in
     record {
       early = early;
-      no_reply = ap is_reply (sym request) ∙ sym (ap (λ o. is_reply (option_and_then (request_at r.trace) o)) first) ∙ k.no_reply;
-      unfinished = subst (λ n. is_before (last_clock_of v n) (length v) ≡ false) (sym same) (open-itself r e i l none);
+      no_reply = ap is_reply (sym request)
+          ∙ sym (ap (λ o. is_reply (option_and_then (request_at r.trace) o)) first) ∙ k.no_reply;
+      unfinished = subst (λ n. is_before (last_clock_of v n) (length v) ≡ false) (sym same) (unfinished-itself r e i l none);
     }
-open-served r e i j t q h l low snoop (inr k) clock none =
+unfinished-served r e i j t q h l low snoop (inr k) clock none =
     let v = (run_to r e).trace in
     let p = put-off r e i j t h l low snoop k.before k.deferred in
     let before = snoop_end_of-rises r.trace j i t k.before snoop in
@@ -309,15 +341,15 @@ open-served r e i j t q h l low snoop (inr k) clock none =
     record {
       early = early;
       no_reply = sym (ap (λ o. is_reply (option_and_then (request_at v) o)) there) ∙ p.no_reply;
-      unfinished = open-other r e i j h l p k.reply none;
+      unfinished = unfinished-other r e i j h l p k.reply none;
     }
 
 -- what is granted by a request with no end is owed
 still-asked : (r : Run) (a line t e : ℕ) → Timely r → suc e < length r.trace → t ≤ suc e → (k : IsGrantedBy r a line t)
     → HasNoEnd r e k.number → is_asked_for (owed (past_of r) a (suc e)) line ≡ true
 still-asked r a line t e h l low k none =
-    let open_request = open-served r e k.number k.served t k.begun h (omega arith) low k.is_snoop k.serves k.is_begun none in
-    let owes = owed-line r e k.served k.begun k.claim l k.is_begun k.claims open_request in
+    let unfinished = unfinished-served r e k.number k.served t k.begun h (omega arith) low k.is_snoop k.serves k.is_begun none in
+    let owes = owed-line r e k.served k.begun k.claim l k.is_begun k.claims unfinished in
     ap (λ b. is_asked_for (owed (past_of r) b (suc e)) line) (sym k.agent)
     ∙ ap (is_asked_for (owed (past_of r) k.claim.agent (suc e))) (sym k.names) ∙ owes
 
@@ -360,7 +392,8 @@ same-number r c i j q h l end there whole =
     let clock : k.0 ≡ q = cc in
     let early : k.0 + 6 ≤ c = k.2 in
     let back = AgreeTo-sym (c + 1) r.trace u (run_to-agrees r c l) in
-    nth_where-one (is_live r.trace) i j (length r.trace) q (live_clock_of-stays (c + 1) u r.trace i q back (omega arith) there) whole
+    let stays = live_clock_of-stays (c + 1) u r.trace i q back (omega arith) there in
+    nth_where-one (is_live r.trace) i j (length r.trace) q stays whole
 
 brought-owed : (r : Run) (a c : ℕ) (need : Need) → Timely r → c < length r.trace → is_brought (past_of r) a c need ≡ true
     → is_asked_for (owed (past_of r) a c) need.line ≡ true
@@ -380,13 +413,15 @@ brought-owed r a (suc e) need h l f =
     let low = t.1 in
     let parts = and_parts (is_granted (past_of r) a need.line t.0) _ t.2 in
     let k = granted-by r a need.line t.0 (omega arith) parts.0 in
-    let g = some-and (grant_at (past_of r) t.0) (λ (grant : Grant). is_end_at (past_of r) c grant.first && (grant.owns || not need.alone)) parts.1 in
+    let g = some-and (grant_at (past_of r) t.0)
+    (λ (grant : Grant). is_end_at (past_of r) c grant.first && (grant.owns || not need.alone)) parts.1 in
     let granted = k.granted in
     let also = g.1 in
     let grant : g.0 ≡ k.grant = cc in
     let ends = and_parts (is_end_at (past_of r) c g.0.first) _ g.2 in
     let at = ending r c g.0.first l ends.0 in
-    let same : at.0 ≡ k.number = same-number r c at.0 k.number g.0.first h l at.1 at.2 (k.is_first ∙ ap (λ x. Some x.first) (sym grant)) in
+    let first = k.is_first ∙ ap (λ x. Some x.first) (sym grant) in
+    let same : at.0 ≡ k.number = same-number r c at.0 k.number g.0.first h l at.1 at.2 first in
     let end : end_of u k.number ≡ Some c = subst (λ n. end_of u n ≡ Some c) same at.1 in
     let size : length v ≡ e + 1 = length-cut r e (omega arith) in
     let more = one-more r e l in

@@ -69,8 +69,8 @@ few-listed some t g f (suc n) h =
     ]
 
 -- what is found in the list is what one of its clocks gives
-last-from : {Y : Type 0} (t : ℕ → Bool) (g : ℕ → Option Y) (f : Y → Bool) (q : ℕ) (b : Bool) (o : Option Y) → t q ≡ b → g q ≡ o
-    → list_any f (filter_map g (if t q then q ∷ [] else [])) ≡ true → IsListed t g f q
+last-from : {Y : Type 0} (t : ℕ → Bool) (g : ℕ → Option Y) (f : Y → Bool) (q : ℕ) (b : Bool) (o : Option Y)
+    → t q ≡ b → g q ≡ o → list_any f (filter_map g (if t q then q ∷ [] else [])) ≡ true → IsListed t g f q
 last-from t g f q false o e h k = absurd (let no : ⊥ = (let k' = rw e at k in cc) in no)
 last-from t g f q true None e h k = absurd (let no : ⊥ = (let k' = rw (e, h) at k in cc) in no)
 last-from t g f q true (Some y) e h k =

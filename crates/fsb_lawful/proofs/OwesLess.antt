@@ -1,8 +1,8 @@
 -- Where an agent begins no request, its outstanding requests of the next clock are some of those of this one.
 use Rattle.std.proofs.Common.{ℕ, zero, suc, ◌+◌, ◌<◌, ◌≤◌, ◌≡◌, Bool, true, false, not, ◌&&◌, ◌||◌, List, [], ◌∷◌, ◌++◌, Option, Some, None, length, nat_eq, refl, sym, ap, subst, ◌∙◌, ◌⊎◌, arith, inl, inr, add-one, append-nil, if◌then◌else◌}
 use Rattle.std.specs.List.{filter, filter_map, list_any}
-use Rattle.std.specs.Option.{option_and_then, option_map, option_map_or}
-use Rattle.std.proofs.lemmas.Bool.{and_from, and_parts, cases_Bool, cases_lt, eq-eqb, eqb-true, false_from_ne_true, le-leb, ne_eqb, or_left, or_right}
+use Rattle.std.specs.Option.{option_map, option_map_or}
+use Rattle.std.proofs.lemmas.Bool.{and_from, and_parts, cases_lt, eq-eqb, eqb-true, false_from_ne_true, ne_eqb, or_left, or_right}
 use Rattle.std.proofs.lemmas.List.{length-append}
 use Rattle.std.proofs.lemmas.List.Elements.{filter-append, filter_map-append}
 use Rattle.std.proofs.lemmas.List.Folds.{list_any-append}
@@ -21,7 +21,7 @@ use Rattle.fsb_trace.specs.Outcome.{is_deferred}
 use Rattle.fsb_trace.specs.Requests.{is_live, is_reply, live_number_of, line_of}
 use Rattle.fsb_trace.specs.Winner.{begins_at, is_agent, is_same_agent, winner_at}
 use Rattle.fsb_trace.proofs.Interface.{end_of-response, request_at-agree}
-use Rattle.fsb_laws.specs.OneMore.{OneMore, cancels}
+use Rattle.fsb_laws.specs.OneMore.{OneMore}
 use Rattle.fsb_laws.specs.Orderly.{Orderly}
 use Rattle.fsb_laws.proofs.Interface.{finished-deferred, finished-plain, is_deferred-old, is_live-ads, is_live-more, is_outstanding-end, last_clock_of-plain, live_number_of-more, request_at-last, response_counted}
 use Rattle.fsb_timely.specs.Moments.{agent_at, begun_with, claim_at, moment_at, owing_at, owing_for}

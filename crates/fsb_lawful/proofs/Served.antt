@@ -1,8 +1,7 @@
--- A grant, as the whole trace shows it: the live request whose snoop end makes it, and the one that this request serves.
-use Rattle.std.proofs.Common.{ℕ, ◌+◌, ◌<◌, ◌≤◌, ◌≡◌, Bool, true, false, ◌&&◌, List, Option, Some, None, length, nat_eq, refl, sym, ap, subst, ◌∙◌, ◌⊎◌, arith, inl, inr}
-use Rattle.std.specs.Option.{option_and_then, option_map}
+-- A grant, as the whole trace shows it: the live request whose snoop end makes it, and the one that it serves.
+use Rattle.std.proofs.Common.{ℕ, ◌+◌, ◌<◌, ◌≡◌, Bool, true, false, ◌&&◌, List, Option, Some, None, length, nat_eq, refl, sym, ap, subst, ◌∙◌, ◌⊎◌, arith, inl, inr}
+use Rattle.std.specs.Option.{option_and_then}
 use Rattle.std.proofs.lemmas.Bool.{and_parts, eqb-true}
-use Rattle.fsb_count.specs.Clocks.{first_where}
 use Rattle.fsb_count.specs.Options.{is_at, is_some_and}
 use Rattle.fsb_count.proofs.Interface.{first_where-found, is_at-some}
 use Rattle.fsb_trace.specs.declared.outcome.Outcome.{Outcome}
@@ -63,8 +62,8 @@ serves-by w turns i j true e f =
     inr (record { before = found.0; deferred = a.0; reply = a.1 })
 serves-by w turns i j false e f = inl (record { same = (let f' = rw (e, served_number) at f in cc); no_reply = e })
 
-given-by : (p : Past) (w : Trace) (i q s : ℕ) (outcome : Outcome) (grant : Grant) (b : Bool) → gives_line p w q s outcome ≡ b
-    → grant_of p w i q s outcome ≡ Some grant
+given-by : (p : Past) (w : Trace) (i q s : ℕ) (outcome : Outcome) (grant : Grant) (b : Bool)
+    → gives_line p w q s outcome ≡ b → grant_of p w i q s outcome ≡ Some grant
     → option_and_then (grant_for w q s) (served_number w (turns_in p.moments) i) ≡ Some grant
 unfolding grant_of
 given-by p w i q s outcome grant true e f = let f' = rw (e, grant_of) at f in f'
@@ -72,10 +71,12 @@ given-by p w i q s outcome grant false e f = absurd (let no : ⊥ = (let f' = rw
 
 -- what a grant takes from the claim that it serves
 grant-claim : (w : Trace) (q s j : ℕ) (grant : Grant) → grant_for w q s j ≡ Some grant
-    → (claim : Claim) × (live_claim_of w j ≡ Some claim) × (claim.agent ≡ grant.agent) × (claim.line ≡ grant.line) × (q ≡ grant.first)
+    → (claim : Claim) × (live_claim_of w j ≡ Some claim) × (claim.agent ≡ grant.agent) × (claim.line ≡ grant.line)
+    × (q ≡ grant.first)
 unfolding grant_for grant_to
 grant-claim w q s j grant e =
-    let k = map-some (grant_to q (is_owner_request (live_request_of w j)) (is_shared_at w s)) (live_claim_of w j) grant e in
+    let give = grant_to q (is_owner_request (live_request_of w j)) (is_shared_at w s) in
+    let k = map-some give (live_claim_of w j) grant e in
     (k.0, k.1, ap (λ g. g.agent) k.2, ap (λ g. g.line) k.2, ap (λ g. g.first) k.2)
 
 claim-there : (w : Trace) (j : ℕ) (claim : Claim) → live_claim_of w j ≡ Some claim
@@ -90,7 +91,8 @@ unfolding moment_at snoop_at
 snooped-number r t s l e =
     let u = (run_to r t).trace in
     let shown : (moment_of r t).snooped ≡ Some s = sym (snooped-there r t l) ∙ e in
-    let n = and-then (snoop_end_if_begun (past_with r (moments_below r t) t) (run_to r t).choices u t) (number_snooped_at u t) s shown in
+    let begun = snoop_end_if_begun (past_with r (moments_below r t) t) (run_to r t).choices u t in
+    let n = and-then begun (number_snooped_at u t) s shown in
     let back = AgreeTo-sym (t + 1) r.trace u (run_to-agrees r t l) in
     let end = snoop_end_of-stays (t + 1) u r.trace n.0 t back (omega arith) (number-says u n.0 t n.1) in
     let tied = snoop-tied r n.0 t end in
@@ -126,7 +128,8 @@ granted-by r a line t l e =
     let tied = snooped-number r t s.0 l s.1 in
     let i : ℕ = tied.0 in
     let q : ℕ = s.0.first in
-    let given = given-by (past_of r) r.trace i q t s.0.outcome grant (gives_line (past_of r) r.trace q t s.0.outcome) refl (sym tied.1.grant ∙ s.2) in
+    let gives = gives_line (past_of r) r.trace q t s.0.outcome in
+    let given = given-by (past_of r) r.trace i q t s.0.outcome grant gives refl (sym tied.1.grant ∙ s.2) in
     let j = and-then (grant_for r.trace q t) (served_number r.trace turns i) grant given in
     let c = grant-claim r.trace q t j.0 grant j.2 in
     let b = claim-there r.trace j.0 c.0 c.1 in

@@ -1,4 +1,4 @@
--- What the last rule rests on beside the parts of a timely run.
+-- What rule 12 rests on beside the parts of a timely run.
 use Rattle.std.specs.Prelude.{◌≡◌, ℕ, false, IsTrue, Some}
 use Rattle.fsb_count.specs.Options.{is_some_and}
 use Rattle.fsb_trace.specs.Requests.{is_write_back_kind}

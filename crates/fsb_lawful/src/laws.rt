@@ -1,11 +1,14 @@
 //! Laws over the definitions: no code.
 
-ghost use Rattle.std.specs.Prelude.{◌≤◌, ◌≡◌, ℕ, None, false};
+ghost use Rattle.std.specs.Prelude.{◌+◌, ◌<◌, ◌≤◌, ◌≡◌, ℕ, None, IsTrue, false, is_some, length};
 ghost use Rattle.fsb_signal.specs.declared.marks.Marks.{Marks};
 ghost use Rattle.fsb_signal.specs.Parity.{marks_in};
+ghost use Rattle.fsb_trace.specs.declared.who.Who.TheVariants.{Symmetric};
 ghost use Rattle.fsb_trace.specs.Verdict.{is_foul, verdict};
-ghost use Rattle.fsb_timely.specs.Runs.{Run};
+ghost use Rattle.fsb_trace.specs.Winner.{begins_at};
+ghost use Rattle.fsb_timely.specs.Runs.{Run, past_of, run_to};
 ghost use Rattle.fsb_timely.specs.Timely.{Timely};
+ghost use Rattle.fsb_timely.specs.Wants.{want_of};
 ghost use Rattle.fsb_lawful.specs.Beginning.{KeepsBounds, WantsLawfully};
 ghost use Rattle.fsb_lawful.specs.Keeps.{Keeps};
 ghost use Rattle.fsb_lawful.specs.Owed.{GrantsAreOwed};
@@ -69,6 +72,15 @@ pub fn wants_are_lawful()
 /// its grant, one of its outstanding requests is for the line.
 pub fn grants_are_owed()
     ensures { (r : Run) → Timely r → GrantsAreOwed r }
+{}
+
+/// In a timely run a want stays until its request begins: an agent that wants something at a clock and begins no request
+/// there wants something at the next clock.
+pub fn wants_last()
+    ensures { (r : Run) (a c : ℕ) → Timely r → c < length r.trace →
+        IsTrue (is_some (want_of (past_of r) a c)) →
+        begins_at (run_to r c).trace c (Symmetric a) ≡ false →
+        IsTrue (is_some (want_of (past_of r) a (c + 1))) }
 {}
 
 /// In a timely run an agent asks as it must: its want stays until its request begins, so its request line does, and is
