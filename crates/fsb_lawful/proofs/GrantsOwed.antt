@@ -88,8 +88,8 @@ record IsUnfinished (r : Run) (e j q : ℕ) : Type 0 where
   pub unfinished : is_before (last_clock_of (run_to r e).trace j) (length (run_to r e).trace) ≡ false
 
 -- it is outstanding
-unfinished-outstanding : (r : Run) (e j q : ℕ) → e < length r.trace → live_clock_of r.trace j ≡ Some q → IsUnfinished r e j q
-    → is_outstanding (run_to r e).trace (e + 1) q ≡ true
+unfinished-outstanding : (r : Run) (e j q : ℕ) → e < length r.trace → live_clock_of r.trace j ≡ Some q
+    → IsUnfinished r e j q → is_outstanding (run_to r e).trace (e + 1) q ≡ true
 unfolding live_clock_of live_number_of
 unfinished-outstanding r e j q l clock k =
     let v = (run_to r e).trace in
@@ -214,7 +214,8 @@ never-reply w j s turn (Some request) e settled held =
     cc no)
 
 put-off : (r : Run) (e i j t : ℕ) → Timely r → e < length r.trace → t ≤ suc e
-    → snoop_end_of r.trace i ≡ Some t → j < i → is_settled_deferred r.trace (turns_in (past_of r).moments) j ≡ true → IsPutOff r e j
+    → snoop_end_of r.trace i ≡ Some t → j < i → is_settled_deferred r.trace (turns_in (past_of r).moments) j ≡ true
+    → IsPutOff r e j
 unfolding is_settled_deferred is_some_and
 put-off r e i j t h l low snoop less deferred =
     let v = (run_to r e).trace in
@@ -227,7 +228,8 @@ put-off r e i j t h l low snoop less deferred =
     let one = turned.there in
     let two = tied.1.there in
     let same : tied.0 ≡ turned.end = cc in
-    let told : is_deferral tied.0.outcome ≡ true = sym (ap (λ o. is_some_and o is_deferral) tied.1.outcome) ∙ deferred in
+    let told : is_deferral tied.0.outcome ≡ true =
+    sym (ap (λ o. is_some_and o is_deferral) tied.1.outcome) ∙ deferred in
     let settled = ap (λ o. is_some_and o is_deferral) turned.outcome
     ∙ ap (λ x. is_deferral x.outcome) (sym same) ∙ told in
     record {
@@ -283,8 +285,8 @@ reply-whole r e j i s t x h l low snoop response reply end below =
     ap (option_map (live_number_of r.trace)) whole ∙ ap Some (sym number ∙ q.2)
 
 -- while its reply has no end, a request that was put off is not finished
-unfinished-other : (r : Run) (e i j : ℕ) → Timely r → e < length r.trace → IsPutOff r e j → reply_number_of r.trace j ≡ Some i
-    → HasNoEnd r e i → is_before (last_clock_of (run_to r e).trace j) (length (run_to r e).trace) ≡ false
+unfinished-other : (r : Run) (e i j : ℕ) → Timely r → e < length r.trace → IsPutOff r e j
+    → reply_number_of r.trace j ≡ Some i → HasNoEnd r e i → is_before (last_clock_of (run_to r e).trace j) (length (run_to r e).trace) ≡ false
 unfolding reply_end_of is_deferred
 unfinished-other r e i j h l k reply none =
     let v = (run_to r e).trace in
@@ -315,8 +317,8 @@ early-itself r e i t q l low snoop clock =
     let same : c.clock ≡ q = cc in omega arith
 
 -- the request that is served is not finished while the one that serves it has no end
-unfinished-served : (r : Run) (e i j t q : ℕ) → Timely r → e < length r.trace → t ≤ suc e → snoop_end_of r.trace i ≡ Some t
-    → Serves r.trace (turns_in (past_of r).moments) i j → live_clock_of r.trace j ≡ Some q → HasNoEnd r e i
+unfinished-served : (r : Run) (e i j t q : ℕ) → Timely r → e < length r.trace → t ≤ suc e
+    → snoop_end_of r.trace i ≡ Some t → Serves r.trace (turns_in (past_of r).moments) i j → live_clock_of r.trace j ≡ Some q → HasNoEnd r e i
     → IsUnfinished r e j q
 unfolding live_request_of
 unfinished-served r e i j t q h l low snoop (inl k) clock none =
@@ -329,7 +331,8 @@ unfinished-served r e i j t q h l low snoop (inl k) clock none =
       early = early;
       no_reply = ap is_reply (sym request)
           ∙ sym (ap (λ o. is_reply (option_and_then (request_at r.trace) o)) first) ∙ k.no_reply;
-      unfinished = subst (λ n. is_before (last_clock_of v n) (length v) ≡ false) (sym same) (unfinished-itself r e i l none);
+      unfinished = subst (λ n. is_before (last_clock_of v n) (length v) ≡ false) (sym same)
+          (unfinished-itself r e i l none);
     }
 unfinished-served r e i j t q h l low snoop (inr k) clock none =
     let v = (run_to r e).trace in
@@ -348,7 +351,8 @@ unfinished-served r e i j t q h l low snoop (inr k) clock none =
 still-asked : (r : Run) (a line t e : ℕ) → Timely r → suc e < length r.trace → t ≤ suc e → (k : IsGrantedBy r a line t)
     → HasNoEnd r e k.number → is_asked_for (owed (past_of r) a (suc e)) line ≡ true
 still-asked r a line t e h l low k none =
-    let unfinished = unfinished-served r e k.number k.served t k.begun h (omega arith) low k.is_snoop k.serves k.is_begun none in
+    let unfinished =
+    unfinished-served r e k.number k.served t k.begun h (omega arith) low k.is_snoop k.serves k.is_begun none in
     let owes = owed-line r e k.served k.begun k.claim l k.is_begun k.claims unfinished in
     ap (λ b. is_asked_for (owed (past_of r) b (suc e)) line) (sym k.agent)
     ∙ ap (is_asked_for (owed (past_of r) k.claim.agent (suc e))) (sym k.names) ∙ owes
@@ -377,7 +381,8 @@ ending : (r : Run) (c q : ℕ) → c < length r.trace → is_end_at (past_of r) 
 unfolding is_end_at ended_requests past_of moment_at requests_ending_at
 ending r c q l e =
     let u = (run_to r c).trace in
-    let ended = ap (λ o. list_any (nat_eq q) (option_map_or (λ moment. moment.ended) o [])) (moment-at r (length r.trace) c l) in
+    let ended = ap (λ o. list_any (nat_eq q) (option_map_or (λ moment. moment.ended) o []))
+    (moment-at r (length r.trace) c l) in
     let k = any-from (λ i. is_at (end_of u i) c) (live_clock_of u) (nat_eq q) (live_count u) (sym ended ∙ e) in
     (k.0, is_at-some (end_of u k.0) c k.1.there, k.1.gives ∙ ap Some (sym (eqb-true q k.1.given k.1.passes)))
 
@@ -395,8 +400,8 @@ same-number r c i j q h l end there whole =
     let stays = live_clock_of-stays (c + 1) u r.trace i q back (omega arith) there in
     nth_where-one (is_live r.trace) i j (length r.trace) q stays whole
 
-brought-owed : (r : Run) (a c : ℕ) (need : Need) → Timely r → c < length r.trace → is_brought (past_of r) a c need ≡ true
-    → is_asked_for (owed (past_of r) a c) need.line ≡ true
+brought-owed : (r : Run) (a c : ℕ) (need : Need) → Timely r → c < length r.trace
+    → is_brought (past_of r) a c need ≡ true → is_asked_for (owed (past_of r) a c) need.line ≡ true
 unfolding is_brought brings_at
 brought-owed r a zero need h l f =
     let t = any_where-found (brings_at (past_of r) a zero need) (zero + 1) f in
