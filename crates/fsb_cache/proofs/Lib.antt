@@ -1,3 +1,4 @@
 pub mod LineBytes
 pub mod Places
 pub mod SetMaps
+pub mod Interface

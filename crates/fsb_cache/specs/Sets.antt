@@ -1,14 +1,24 @@
 -- A cache as its sets, and as the map from lines to states and bytes that the sets make.
-use Rattle.std.specs.Prelude.{◌≡◌, ◌==◌, ◌<◌, ◌%◌, ℕ, if◌then◌else◌, List, [], Option, Some, None, IfSome, IsTrue, length, slice_index_or}
+use Rattle.std.specs.Prelude.{◌≡◌, ◌==◌, ◌<◌, ◌/◌, ◌%◌, ℕ, Bool, if◌then◌else◌, List, [], Option, Some, None, IfSome, IsTrue, is_some, length, slice_index_or, slice_set}
 use Rattle.std.specs.Int.{is_power_of_two}
+use Rattle.std.specs.Option.{option_map}
 use Rattle.fsb_line.specs.declared.state.Mesi.{Mesi}
-use Rattle.fsb_line.specs.declared.state.Mesi.TheVariants.{Invalid}
+use Rattle.fsb_line.specs.declared.state.Mesi.TheVariants.{Invalid, Modified, Shared}
 use Rattle.fsb_line.specs.States.{is_held}
 use Rattle.fsb_cache.specs.declared.held.Held.{Held}
+use Rattle.fsb_cache.specs.LineValues.{line_with_value}
 
 -- a cache: the line that each of its sets has, if it has one. A line's set is its number modulo the number of sets
 abbrev pub CacheSets : Type 0
 CacheSets = List (Option Held)
+
+-- what the line's set has
+abbrev pub slot_of : CacheSets → ℕ → Option Held
+slot_of sets line = slice_index_or sets (line % length sets) None
+
+-- the line that the line's set has
+abbrev pub resident_of : CacheSets → ℕ → Option ℕ
+resident_of sets line = option_map (λ held. held.line) (slot_of sets line)
 
 -- what a set has, where it is this line
 abbrev pub only_line : ℕ → Option Held → Option Held
@@ -17,7 +27,7 @@ only_line line (Some held) = if held.line == line then Some held else None
 
 -- what a cache has of a line
 unfoldable pub held_at : CacheSets → ℕ → Option Held
-held_at sets line = only_line line (slice_index_or sets (line % length sets) None)
+held_at sets line = only_line line (slot_of sets line)
 
 -- the state of a line: Invalid where the cache doesn't have it
 abbrev pub state_of_held : Option Held → Mesi
@@ -37,9 +47,43 @@ states sets line = state_of_held (held_at sets line)
 unfoldable pub copies : CacheSets → ℕ → List ℕ
 copies sets line = bytes_of_held (held_at sets line)
 
+-- the sets, where the line's set has this
+abbrev pub with_slot : CacheSets → ℕ → Option Held → CacheSets
+with_slot sets line slot = slice_set sets (line % length sets) slot
+
+-- the sets with the line in this state, with these bytes
+abbrev pub sets_filled : CacheSets → ℕ → Mesi → List ℕ → CacheSets
+sets_filled sets line state bytes = with_slot sets line (Some record { line = line; state = state; bytes = bytes })
+
+-- the sets without the line
+abbrev pub sets_without : CacheSets → ℕ → CacheSets
+sets_without sets line = if is_some (held_at sets line) then with_slot sets line None else sets
+
+-- a line Shared
+abbrev pub held_shared : Held → Held
+held_shared held = record held { state = Shared }
+
+-- the sets with the line Shared
+abbrev pub sets_shared : CacheSets → ℕ → CacheSets
+sets_shared sets line = with_slot sets line (option_map held_shared (slot_of sets line))
+
+-- a line Modified, after a store of so many bytes at an address
+abbrev pub held_stored : ℕ → ℕ → ℕ → Held → Held
+held_stored addr size value held =
+    record held { state = Modified; bytes = line_with_value held.bytes addr size value }
+
+-- the sets after a store of so many bytes at an address
+abbrev pub sets_stored : CacheSets → ℕ → ℕ → ℕ → CacheSets
+sets_stored sets addr size value =
+    with_slot sets (addr / 32) (option_map (held_stored addr size value) (slot_of sets (addr / 32)))
+
 -- the two lines have one set
 abbrev pub InOneSet : CacheSets → ℕ → ℕ → Type 0
 InOneSet sets line other = line % length sets ≡ other % length sets
+
+-- whether the two lines have one set
+abbrev pub is_one_set : CacheSets → ℕ → ℕ → Bool
+is_one_set sets line other = (line % length sets) == (other % length sets)
 
 -- the cache has the line
 abbrev pub Has : CacheSets → ℕ → Type 0

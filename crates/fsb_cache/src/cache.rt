@@ -1,11 +1,11 @@
-ghost use Rattle.std.specs.Prelude.{◌≡◌, ◌<◌, ◌≤◌, ◌%◌, ◌/◌, ◌↔◌, ℕ, [], IfOk, IsTrue, length};
+ghost use Rattle.std.specs.Prelude.{◌≡◌, ◌<◌, ◌≤◌, ◌%◌, ◌/◌, ◌↔◌, ℕ, [], IfOk, IsTrue, length, replicate};
 ghost use Rattle.std.specs.Int.{is_power_of_two};
 ghost use Rattle.std.specs.Option.{option_copied};
 ghost use Rattle.fsb_access.specs.Access.{fits, is_size};
 ghost use Rattle.fsb_line.specs.Line.{put};
 ghost use Rattle.fsb_line.specs.States.{is_held, is_sole};
 ghost use Rattle.fsb_cache.specs.LineValues.{line_with_value, value_in_line};
-ghost use Rattle.fsb_cache.specs.Sets.{Has, HasRoomFor, InOneSet, copies, held_at, states};
+ghost use Rattle.fsb_cache.specs.Sets.{Has, HasRoomFor, InOneSet, copies, held_at, is_one_set, resident_of, sets_filled, sets_shared, sets_stored, sets_without, states};
 
 use crate::held::Held;
 use crate::value::{put_value_in, value_in};
@@ -43,6 +43,7 @@ impl Cache {
         ensures lines { IfOk result (λ cache. length cache ≡ lines) }
         ensures states { IfOk result (λ cache. states cache ≡ (λ _. Mesi.Invalid)) }
         ensures copies { IfOk result (λ cache. copies cache ≡ (λ _. [])) }
+        ensures sets { IfOk result (λ cache. cache ≡ replicate lines None) }
     {
         let sets = vec![in alloc; None; lines as usize]?;
         Ok(Cache { sets })
@@ -61,8 +62,9 @@ impl Cache {
 
     /// The line that the line's set has, if it has one.
     pub fn resident(&self, line: u64) -> Option<u64>
-        ensures { (other : ℕ) →
+        ensures has { (other : ℕ) →
             (result ≡ Some other) ↔ (InOneSet self.now line other × Has self.now other) }
+        ensures sets { result ≡ resident_of self.now line }
     {
         match &self.sets[self.place(line)] {
             Some(held) => Some(held.line),
@@ -78,6 +80,13 @@ impl Cache {
             Some(other) => other == line,
             None => true,
         }
+    }
+
+    /// Whether the two lines have one set.
+    pub fn is_one_set(&self, line: u64, other: u64) -> bool
+        ensures { result ≡ is_one_set self.now line other }
+    {
+        self.place(line) == self.place(other)
     }
 
     /// The number that so many bytes at an address spell.
@@ -105,6 +114,7 @@ impl Cache {
             copies self.new ≡ put (copies self.old) line
             (line_with_value (copies self.old line) addr size value) }
         ensures lines { length self.new ≡ length self.old }
+        ensures sets { self.new ≡ sets_stored self.old addr size value }
     {
         let place = self.place(addr / LINE_BYTES);
         if let Some(held) = &mut self.sets[place] {
@@ -133,6 +143,7 @@ impl Cache {
         ensures states { states self.new ≡ put (states self.old) line state }
         ensures copies { copies self.new ≡ put (copies self.old) line bytes }
         ensures lines { length self.new ≡ length self.old }
+        ensures sets { self.new ≡ sets_filled self.old line state bytes }
     {
         let place = self.place(line);
         self.sets[place] = Some(Held { line, state, bytes });
@@ -143,6 +154,7 @@ impl Cache {
         ensures states { states self.new ≡ put (states self.old) line Mesi.Invalid }
         ensures copies { copies self.new ≡ put (copies self.old) line [] }
         ensures lines { length self.new ≡ length self.old }
+        ensures sets { self.new ≡ sets_without self.old line }
     {
         if self.held(line).is_some() {
             let place = self.place(line);
@@ -156,6 +168,7 @@ impl Cache {
         ensures states { states self.new ≡ put (states self.old) line Mesi.Shared }
         ensures copies { copies self.new ≡ copies self.old }
         ensures lines { length self.new ≡ length self.old }
+        ensures sets { self.new ≡ sets_shared self.old line }
     {
         let place = self.place(line);
         if let Some(held) = &mut self.sets[place] {

@@ -11,7 +11,7 @@ use Rattle.fsb_timely.specs.Runs.{Run}
 use Rattle.fsb_timely.specs.Timely.{Timely}
 use Rattle.fsb_lawful.specs.Beginning.{KeepsBounds}
 use Rattle.fsb_lawful.specs.Keeps.{Keeps}
-use Rattle.fsb_lawful.specs.Premises.{GrantsAreOwed, WritesBackAlone}
+use Rattle.fsb_lawful.specs.Premises.{WritesBackAlone}
 use Rattle.fsb_lawful.proofs.AddressErrors.{keeps-10}
 use Rattle.fsb_lawful.proofs.Answers.{keeps-13, keeps-15}
 use Rattle.fsb_lawful.proofs.Beginnings.{keeps-2, keeps-4, keeps-5, keeps-6}
@@ -36,9 +36,9 @@ none-below : (m : Marks) (w : Trace) (j : ℕ) → j < 0 → Keeps m j w
 none-below m w j l = absurd (omega arith)
 
 -- each rule is kept
-each-rule : (r : Run) → Timely r → KeepsBounds r.plan → GrantsAreOwed r → WritesBackAlone r → (j : ℕ) → j < 21
+each-rule : (r : Run) → Timely r → KeepsBounds r.plan → WritesBackAlone r → (j : ℕ) → j < 21
     → Keeps (marks_in r.plan.profile) j r.trace
-each-rule r h bounds asks alone =
+each-rule r h bounds alone =
     let m : Marks = marks_in r.plan.profile in
     let w : Trace = r.trace in
     let P : ℕ → Type 0 = λ j. Keeps m j w in
@@ -52,7 +52,7 @@ each-rule r h bounds asks alone =
     let b5 = below_more P 5 b4 (keeps-5 m r h) in
     let b6 = below_more P 6 b5 (keeps-6 m r h) in
     let b7 = below_more P 7 b6 (keeps-7 m r h few wants) in
-    let b8 = below_more P 8 b7 (keeps-8 m r h wants asks few) in
+    let b8 = below_more P 8 b7 (keeps-8 m r h wants few) in
     let b9 = below_more P 9 b8 (keeps-9 m r h) in
     let b10 = below_more P 10 b9 (keeps-10 m r h) in
     let b11 = below_more P 11 b10 (keeps-11 m r h) in
@@ -76,11 +76,11 @@ unfolding verdict
 accepted-by m w h = rw (first_where-off (is_foul m w) (length w) (λ c l. h c)) refl
 
 -- no rule is broken at a clock of the run
-pub each-clock : (r : Run) → Timely r → KeepsBounds r.plan → GrantsAreOwed r → WritesBackAlone r → (c : ℕ)
+pub each-clock : (r : Run) → Timely r → KeepsBounds r.plan → WritesBackAlone r → (c : ℕ)
     → is_foul (marks_in r.plan.profile) r.trace c ≡ false
-each-clock r h bounds asks alone c = clean (marks_in r.plan.profile) r.trace c (each-rule r h bounds asks alone)
+each-clock r h bounds alone c = clean (marks_in r.plan.profile) r.trace c (each-rule r h bounds alone)
 
 -- the run is accepted
-pub accepted : (r : Run) → Timely r → KeepsBounds r.plan → GrantsAreOwed r → WritesBackAlone r
+pub accepted : (r : Run) → Timely r → KeepsBounds r.plan → WritesBackAlone r
     → verdict (marks_in r.plan.profile) r.trace ≡ None
-accepted r h bounds asks alone = accepted-by (marks_in r.plan.profile) r.trace (each-clock r h bounds asks alone)
+accepted r h bounds alone = accepted-by (marks_in r.plan.profile) r.trace (each-clock r h bounds alone)

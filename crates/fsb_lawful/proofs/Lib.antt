@@ -16,6 +16,8 @@ pub mod NewRequests
 pub mod RepliesBegun
 pub mod DuesStay
 pub mod OwesLess
+pub mod Served
+pub mod GrantsOwed
 pub mod WantsGoOn
 pub mod RequestLines
 pub mod SnoopResults

@@ -1,5 +1,5 @@
 -- What is listed: of the clocks that pass a test, what each of them gives.
-use Rattle.std.proofs.Common.{ℕ, zero, suc, ◌<◌, ◌≤◌, ◌≡◌, Bool, true, false, ◌&&◌, ◌||◌, List, [], ◌∷◌, Option, Some, length, refl, ap, subst, ◌∙◌, arith, inl, inr, if◌then◌else◌}
+use Rattle.std.proofs.Common.{ℕ, zero, suc, ◌<◌, ◌≤◌, ◌≡◌, Bool, true, false, ◌&&◌, ◌||◌, List, [], ◌∷◌, Option, Some, None, length, refl, sym, ap, subst, ◌∙◌, arith, inl, inr, if◌then◌else◌}
 use Rattle.std.specs.List.{filter, filter_map, list_any}
 use Rattle.std.proofs.lemmas.Bool.{cases_Bool, cases_lt, or_left, or_right}
 use Rattle.std.proofs.lemmas.List.{length-append}
@@ -66,4 +66,28 @@ few-listed some t g f (suc n) h =
     elim (cases_Bool (some n)) [
       | inl found ↦ let one = last-length t g f n (h n (omega arith) found) in rw found (omega arith)
       | inr none ↦ rw none (omega arith)
+    ]
+
+-- what is found in the list is what one of its clocks gives
+last-from : {Y : Type 0} (t : ℕ → Bool) (g : ℕ → Option Y) (f : Y → Bool) (q : ℕ) (b : Bool) (o : Option Y)
+    → t q ≡ b → g q ≡ o → list_any f (filter_map g (if t q then q ∷ [] else [])) ≡ true → IsListed t g f q
+last-from t g f q false o e h k = absurd (let no : ⊥ = (let k' = rw e at k in cc) in no)
+last-from t g f q true None e h k = absurd (let no : ⊥ = (let k' = rw (e, h) at k in cc) in no)
+last-from t g f q true (Some y) e h k =
+    record { there = e; given = y; gives = h; passes = alone (f y) (let k' = rw (e, h) at k in k') }
+  where
+    alone : (b : Bool) → (b || false) ≡ true → b ≡ true
+    alone true e = refl
+    alone false e = absurd (let no : ⊥ = cc in no)
+
+pub any-from : {Y : Type 0} (t : ℕ → Bool) (g : ℕ → Option Y) (f : Y → Bool) (n : ℕ)
+    → list_any f (filter_map g (all_where t n)) ≡ true → (q : ℕ) × IsListed t g f q
+unfolding all_where
+any-from t g f zero e = absurd (let no : ⊥ = cc in no)
+any-from t g f (suc n) e =
+    let parts = sym (list_any-append f (filter_map g (all_where t n)) (filter_map g (if t n then n ∷ [] else [])))
+    ∙ sym (ap (list_any f) (filter_map-append g (all_where t n) (if t n then n ∷ [] else []))) ∙ e in
+    elim (cases_Bool (list_any f (filter_map g (all_where t n)))) [
+      | inl before ↦ any-from t g f n before
+      | inr none ↦ (n, last-from t g f n (t n) (g n) refl refl (rw none at parts))
     ]

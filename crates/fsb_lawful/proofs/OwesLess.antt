@@ -1,8 +1,8 @@
 -- Where an agent begins no request, its outstanding requests of the next clock are some of those of this one.
 use Rattle.std.proofs.Common.{ℕ, zero, suc, ◌+◌, ◌<◌, ◌≤◌, ◌≡◌, Bool, true, false, not, ◌&&◌, ◌||◌, List, [], ◌∷◌, ◌++◌, Option, Some, None, length, nat_eq, refl, sym, ap, subst, ◌∙◌, ◌⊎◌, arith, inl, inr, add-one, append-nil, if◌then◌else◌}
 use Rattle.std.specs.List.{filter, filter_map, list_any}
-use Rattle.std.specs.Option.{option_and_then, option_map, option_map_or}
-use Rattle.std.proofs.lemmas.Bool.{and_from, and_parts, cases_Bool, cases_lt, eq-eqb, eqb-true, false_from_ne_true, le-leb, ne_eqb, or_left, or_right}
+use Rattle.std.specs.Option.{option_map, option_map_or}
+use Rattle.std.proofs.lemmas.Bool.{and_from, and_parts, cases_lt, eq-eqb, eqb-true, false_from_ne_true, ne_eqb, or_left, or_right}
 use Rattle.std.proofs.lemmas.List.{length-append}
 use Rattle.std.proofs.lemmas.List.Elements.{filter-append, filter_map-append}
 use Rattle.std.proofs.lemmas.List.Folds.{list_any-append}
@@ -21,7 +21,7 @@ use Rattle.fsb_trace.specs.Outcome.{is_deferred}
 use Rattle.fsb_trace.specs.Requests.{is_live, is_reply, live_number_of, line_of}
 use Rattle.fsb_trace.specs.Winner.{begins_at, is_agent, is_same_agent, winner_at}
 use Rattle.fsb_trace.proofs.Interface.{end_of-response, request_at-agree}
-use Rattle.fsb_laws.specs.OneMore.{OneMore, cancels}
+use Rattle.fsb_laws.specs.OneMore.{OneMore}
 use Rattle.fsb_laws.specs.Orderly.{Orderly}
 use Rattle.fsb_laws.proofs.Interface.{finished-deferred, finished-plain, is_deferred-old, is_live-ads, is_live-more, is_outstanding-end, last_clock_of-plain, live_number_of-more, request_at-last, response_counted}
 use Rattle.fsb_timely.specs.Moments.{agent_at, begun_with, claim_at, moment_at, owing_at, owing_for}
@@ -78,7 +78,7 @@ listed-less s t g k f (suc n) h =
     let last = tail-less s t g k f n (s n) refl (h n (omega arith)) in
     subst (λ xs. IsLess xs (filter f (filter_map k (all_where t (suc n))))) (sym (listed-more s g f n)) (subst (IsLess (filter f (filter_map g (all_where s n)) ++ tail_of s g f n)) (sym (listed-more t k f n)) (less-append _ _ _ _ before last))
 
-one-more : (r : Run) (e : ℕ) → suc e < length r.trace → (x : Sample) × OneMore (run_to r e).trace x (run_to r (suc e)).trace
+pub one-more : (r : Run) (e : ℕ) → suc e < length r.trace → (x : Sample) × OneMore (run_to r e).trace x (run_to r (suc e)).trace
 one-more r e l =
     let size = length-cut r e (omega arith) in
     let more = length-cut r (suc e) l in
@@ -118,7 +118,7 @@ still-out h x v q m o k l e =
     early (inl k) f = ap (λ o. not (is_reply o)) (request_at-agree (length h) h v q m.agree k) ∙ f
     early (inr k) f = ap (λ o. not (is_reply o)) (request_at-last h q k) ∙ refl
 
-map-some : {A B : Type 0} (f : A → B) (o : Option A) (y : B) → option_map f o ≡ Some y → (x : A) × (o ≡ Some x) × (f x ≡ y)
+pub map-some : {A B : Type 0} (f : A → B) (o : Option A) (y : B) → option_map f o ≡ Some y → (x : A) × (o ≡ Some x) × (f x ≡ y)
 map-some f None y e = absurd (let no : ⊥ = cc in no)
 map-some f (Some x) y e = (x, refl, cc)
 
@@ -156,7 +156,7 @@ tail-none t g f n true None e h none = rw (e, h) refl
 tail-none t g f n true (Some y) e h none = rw (e, h, none y refl) refl
 
 -- what is outstanding behind a clock
-outstanding-of : (r : Run) (e : ℕ) → e < length r.trace → outstanding_at (past_of r) (suc e) ≡ filter_map (owing_at (past_with r (moments_below r e) e) (run_to r e).trace e) (outstanding (run_to r e).trace (e + 1))
+pub outstanding-of : (r : Run) (e : ℕ) → e < length r.trace → outstanding_at (past_of r) (suc e) ≡ filter_map (owing_at (past_with r (moments_below r e) e) (run_to r e).trace e) (outstanding (run_to r e).trace (e + 1))
 unfolding outstanding_at past_of moment_at
 outstanding-of r e l = ap (λ o. option_map_or (λ moment. moment.outstanding) o []) (moment-at r (length r.trace) e l)
 
@@ -164,7 +164,7 @@ owing-now : (r : Run) (c : ℕ) → owing_at (past_with r (moments_below r c) c)
 unfolding owing_at
 owing-now r c = rw (eq-eqb c c refl, owing_at) refl
 
-owing-then : (r : Run) (c q : ℕ) → q < c → owing_at (past_with r (moments_below r c) c) (run_to r c).trace c q ≡ (moment_of r q).begun
+pub owing-then : (r : Run) (c q : ℕ) → q < c → owing_at (past_with r (moments_below r c) c) (run_to r c).trace c q ≡ (moment_of r q).begun
 unfolding owing_at
 owing-then r c q l = rw (ne_eqb q c (λ s. omega arith), owing_at, moment-at r c q l) refl
 

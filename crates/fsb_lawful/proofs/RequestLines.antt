@@ -19,7 +19,6 @@ use Rattle.fsb_timely.specs.Timely.{holds_in, holds_at, Timely}
 use Rattle.fsb_timely.specs.Wants.{want_of}
 use Rattle.fsb_lawful.specs.Beginning.{WantsLawfully}
 use Rattle.fsb_lawful.specs.Keeps.{Keeps}
-use Rattle.fsb_lawful.specs.Premises.{GrantsAreOwed}
 use Rattle.fsb_lawful.proofs.Cuts.{line-to}
 use Rattle.fsb_lawful.proofs.CutRuns.{cuts-agree}
 use Rattle.fsb_lawful.proofs.DuesStay.{dues-stay}
@@ -90,16 +89,16 @@ asked-by : (a b : Bool) → (a && not b) ≡ true → a ≡ true
 asked-by true b e = refl
 asked-by false b e = absurd (let no : ⊥ = cc in no)
 
-symmetric : (r : Run) (d a : ℕ) → Timely r → GrantsAreOwed r → suc d < length r.trace → a < 4
+symmetric : (r : Run) (d a : ℕ) → Timely r → suc d < length r.trace → a < 4
     → is_asked_wrongly (run_to r (suc d)).trace (suc d) (Symmetric a) ≡ false
 unfolding request_line_of
-symmetric r d a h asks l few =
+symmetric r d a h l few =
     let v = run_to r (suc d) in
     let now = bus-at r (suc d) a h l few ∙ ap (λ b. is_some (want_of (past_to (past_of r) (suc d)) a (suc d)) && not b) (began-is v d (Symmetric a)) in
     let before = sym (line-to (bus_request_of a) r d (suc d) (omega arith) l) ∙ bus-at r d a h (omega arith) few in
     after-first v.trace d (Symmetric a)
     ∙ rightly (begins_at v.trace d (Symmetric a)) (is_some (want_of (past_to (past_of r) d) a d)) (is_some (want_of (past_to (past_of r) (suc d)) a (suc d))) (line_at (bus_request_of a) v.trace d) (line_at (bus_request_of a) v.trace (suc d)) now
-    (λ t. asked-by _ _ (sym before ∙ t)) (λ t f. wants-go-on r a d h asks l t (sym (begins-to r d (suc d) (Symmetric a) (omega arith) l) ∙ f))
+    (λ t. asked-by _ _ (sym before ∙ t)) (λ t f. wants-go-on r a d h l t (sym (begins-to r d (suc d) (Symmetric a) (omega arith) l) ∙ f))
 
 priority : (r : Run) (d : ℕ) → Timely r → WantsLawfully r → r.plan.ahead ≤ 4 → suc d < length r.trace
     → is_asked_wrongly (run_to r (suc d)).trace (suc d) Priority ≡ false
@@ -112,17 +111,17 @@ priority r d h wants few l =
     ∙ rightly (begins_at v.trace d Priority) (is_some (due_number (run_to r d) (past_to (past_of r) d) d)) (is_some (due_number v (past_to (past_of r) (suc d)) (suc d))) (line_at BPRI v.trace d) (line_at BPRI v.trace (suc d)) now
     (λ t. asked-by _ _ (sym before ∙ t)) (λ t f. dues-stay r d h wants few l t f)
 
-at-clock : (r : Run) (c : ℕ) → Timely r → WantsLawfully r → GrantsAreOwed r → r.plan.ahead ≤ 4 → c < length r.trace
+at-clock : (r : Run) (c : ℕ) → Timely r → WantsLawfully r → r.plan.ahead ≤ 4 → c < length r.trace
     → is_some_asked_wrongly (run_to r c).trace c ≡ false
 unfolding is_some_asked_wrongly
-at-clock r zero h wants asks few l =
+at-clock r zero h wants few l =
     let v = (run_to r zero).trace in
     or_from _ _ (any_where-off (λ a. is_asked_wrongly v zero (Symmetric a)) 4 (λ a k. at-first v (Symmetric a))) (at-first v Priority)
-at-clock r (suc d) h wants asks few l =
+at-clock r (suc d) h wants few l =
     let v = (run_to r (suc d)).trace in
-    or_from _ _ (any_where-off (λ a. is_asked_wrongly v (suc d) (Symmetric a)) 4 (λ a k. symmetric r d a h asks l k)) (priority r d h wants few l)
+    or_from _ _ (any_where-off (λ a. is_asked_wrongly v (suc d) (Symmetric a)) 4 (λ a k. symmetric r d a h l k)) (priority r d h wants few l)
 
 -- rule 8
-pub keeps-8 : (m : Marks) (r : Run) → Timely r → WantsLawfully r → GrantsAreOwed r → r.plan.ahead ≤ 4 → Keeps m 8 r.trace
+pub keeps-8 : (m : Marks) (r : Run) → Timely r → WantsLawfully r → r.plan.ahead ≤ 4 → Keeps m 8 r.trace
 unfolding run_to
-keeps-8 m r h wants asks few = keeps m 8 r.trace (λ c l. breaks-8 m (take (c + 1) r.trace) c ∙ at-clock r c h wants asks few l)
+keeps-8 m r h wants few = keeps m 8 r.trace (λ c l. breaks-8 m (take (c + 1) r.trace) c ∙ at-clock r c h wants few l)

@@ -1,4 +1,4 @@
--- A want stays until its request begins, where what an agent gets it has asked for.
+-- A want stays until its request begins.
 use Rattle.std.proofs.Common.{ℕ, suc, ◌+◌, ◌<◌, ◌≡◌, true, false, ◌&&◌, List, [], ◌∷◌, ◌++◌, Option, Some, None, is_some, length, nat_le, nat_lt, refl, sym, ap, ◌∙◌, arith, inl, inr, add-one}
 use Rattle.std.specs.List.{list_all}
 use Rattle.std.proofs.lemmas.Bool.{and_from, and_parts, cases_Bool, le-leb, leb-false, leb-true, lt-leb}
@@ -12,8 +12,8 @@ use Rattle.fsb_timely.specs.Staying.{OwesNoMore}
 use Rattle.fsb_timely.specs.Timely.{Timely}
 use Rattle.fsb_timely.specs.Wants.{want_of}
 use Rattle.fsb_timely.proofs.Interface.{below_le, done_below, timely-want-stays, want_of-alike}
-use Rattle.fsb_lawful.specs.Premises.{GrantsAreOwed}
 use Rattle.fsb_lawful.proofs.Cuts.{moments-to}
+use Rattle.fsb_lawful.proofs.GrantsOwed.{grants-are-owed}
 use Rattle.fsb_lawful.proofs.OwesLess.{owes-less}
 
 -- the entries behind a clock
@@ -64,15 +64,31 @@ some-is None e = absurd (let no : ⊥ = cc in no)
 some-is (Some x) e = (x, refl)
 
 -- who begins nothing owes no more
-owes-no-more : (r : Run) (a c : ℕ) → Timely r → GrantsAreOwed r → c < length r.trace → begins_at (run_to r c).trace c (Symmetric a) ≡ false → OwesNoMore (past_of r) a c
-owes-no-more r a c h grants l begins =
+owes-no-more : (r : Run) (a c : ℕ) → Timely r → c < length r.trace
+    → begins_at (run_to r c).trace c (Symmetric a) ≡ false → OwesNoMore (past_of r) a c
+owes-no-more r a c h l begins =
+    let grants = grants-are-owed r h in
     let less = owes-less r a c h l begins in
-    record { among = less.among; fewer = less.fewer; granted = λ line e. grants.granted a c line l e; brought = λ need e. grants.brought a c need l e }
+    record {
+      among = less.among;
+      fewer = less.fewer;
+      granted = λ line e. grants.granted a c line l e;
+      brought = λ need e. grants.brought a c need l e;
+    }
 
 -- a want stays
-pub wants-go-on : (r : Run) (a c : ℕ) → Timely r → GrantsAreOwed r → suc c < length r.trace → is_some (want_of (past_to (past_of r) c) a c) ≡ true → begins_at (run_to r c).trace c (Symmetric a) ≡ false
+pub wants-last : (r : Run) (a c : ℕ) → Timely r → c < length r.trace → is_some (want_of (past_of r) a c) ≡ true
+    → begins_at (run_to r c).trace c (Symmetric a) ≡ false → is_some (want_of (past_of r) a (c + 1)) ≡ true
+wants-last r a c h l some begins =
+    let want = some-is (want_of (past_of r) a c) some in
+    let next = timely-want-stays r a c want.0 h l (owes-no-more r a c h l begins) want.1 in
+    ap (λ o. is_some o) next.1
+
+-- also by the past up to the clock
+pub wants-go-on : (r : Run) (a c : ℕ) → Timely r → suc c < length r.trace
+    → is_some (want_of (past_to (past_of r) c) a c) ≡ true → begins_at (run_to r c).trace c (Symmetric a) ≡ false
     → is_some (want_of (past_to (past_of r) (suc c)) a (suc c)) ≡ true
-wants-go-on r a c h none l some begins =
-    let want = some-is (want_of (past_of r) a c) (ap (λ o. is_some o) (sym (want-same r a c h)) ∙ some) in
-    let next = timely-want-stays r a c want.0 h (omega arith) (owes-no-more r a c h none (omega arith) begins) want.1 in
-    ap (λ o. is_some o) (want-same r a (suc c) h ∙ ap (want_of (past_of r) a) (sym (add-one c)) ∙ next.1)
+wants-go-on r a c h l some begins =
+    let now = ap (λ o. is_some o) (sym (want-same r a c h)) ∙ some in
+    ap (λ o. is_some o) (want-same r a (suc c) h ∙ ap (want_of (past_of r) a) (sym (add-one c)))
+    ∙ wants-last r a c h (omega arith) now begins

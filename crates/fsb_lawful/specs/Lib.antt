@@ -1,3 +1,4 @@
 pub mod Keeps
 pub mod Beginning
 pub mod Premises
+pub mod Owed

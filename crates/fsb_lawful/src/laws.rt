@@ -1,14 +1,18 @@
 //! Laws over the definitions: no code.
 
-ghost use Rattle.std.specs.Prelude.{◌≤◌, ◌≡◌, ℕ, None, false};
+ghost use Rattle.std.specs.Prelude.{◌+◌, ◌<◌, ◌≤◌, ◌≡◌, ℕ, None, IsTrue, false, is_some, length};
 ghost use Rattle.fsb_signal.specs.declared.marks.Marks.{Marks};
 ghost use Rattle.fsb_signal.specs.Parity.{marks_in};
+ghost use Rattle.fsb_trace.specs.declared.who.Who.TheVariants.{Symmetric};
 ghost use Rattle.fsb_trace.specs.Verdict.{is_foul, verdict};
-ghost use Rattle.fsb_timely.specs.Runs.{Run};
+ghost use Rattle.fsb_trace.specs.Winner.{begins_at};
+ghost use Rattle.fsb_timely.specs.Runs.{Run, past_of, run_to};
 ghost use Rattle.fsb_timely.specs.Timely.{Timely};
+ghost use Rattle.fsb_timely.specs.Wants.{want_of};
 ghost use Rattle.fsb_lawful.specs.Beginning.{KeepsBounds, WantsLawfully};
 ghost use Rattle.fsb_lawful.specs.Keeps.{Keeps};
-ghost use Rattle.fsb_lawful.specs.Premises.{GrantsAreOwed, WritesBackAlone};
+ghost use Rattle.fsb_lawful.specs.Owed.{GrantsAreOwed};
+ghost use Rattle.fsb_lawful.specs.Premises.{WritesBackAlone};
 
 /// In a timely run no control line is unknown, and no bit of its data (rules 1 and 17).
 pub fn words_are_known()
@@ -64,11 +68,26 @@ pub fn wants_are_lawful()
     ensures { (r : Run) → KeepsBounds r.plan → WantsLawfully r }
 {}
 
-/// A timely run in which an agent gets what it has asked for alone asks as it must: its want stays until its request begins,
-/// so its request line does, and is released then (rule 8).
+/// In a timely run an agent gets what it has asked for alone: where a line is granted to it, or is brought with the end of
+/// its grant, one of its outstanding requests is for the line.
+pub fn grants_are_owed()
+    ensures { (r : Run) → Timely r → GrantsAreOwed r }
+{}
+
+/// In a timely run a want stays until its request begins: an agent that wants something at a clock and begins no request
+/// there wants something at the next clock.
+pub fn wants_last()
+    ensures { (r : Run) (a c : ℕ) → Timely r → c < length r.trace →
+        IsTrue (is_some (want_of (past_of r) a c)) →
+        begins_at (run_to r c).trace c (Symmetric a) ≡ false →
+        IsTrue (is_some (want_of (past_of r) a (c + 1))) }
+{}
+
+/// In a timely run an agent asks as it must: its want stays until its request begins, so its request line does, and is
+/// released then (rule 8).
 pub fn request_lines_are_held()
-    ensures { (m : Marks) (r : Run) → Timely r → WantsLawfully r → GrantsAreOwed r →
-        r.plan.ahead ≤ 4 → Keeps m 8 r.trace }
+    ensures { (m : Marks) (r : Run) → Timely r → WantsLawfully r → r.plan.ahead ≤ 4 →
+        Keeps m 8 r.trace }
 {}
 
 /// In a timely run in which an agent that writes back has its line alone, nothing is told at the snoop end of a write-back
@@ -106,9 +125,8 @@ pub fn outstanding_requests_are_few()
 
 /// A timely run is accepted, in profile 2 with its parity and in profile 1 without; and no rule is broken at any clock.
 pub fn timely_runs_are_accepted()
-    ensures whole { (r : Run) → Timely r → KeepsBounds r.plan → GrantsAreOwed r → WritesBackAlone r
-        → verdict (marks_in r.plan.profile) r.trace ≡ None }
-    ensures clock { (r : Run) → Timely r → KeepsBounds r.plan → GrantsAreOwed r →
-        WritesBackAlone r → (c : ℕ) →
+    ensures whole { (r : Run) → Timely r → KeepsBounds r.plan → WritesBackAlone r →
+        verdict (marks_in r.plan.profile) r.trace ≡ None }
+    ensures clock { (r : Run) → Timely r → KeepsBounds r.plan → WritesBackAlone r → (c : ℕ) →
         is_foul (marks_in r.plan.profile) r.trace c ≡ false }
 {}

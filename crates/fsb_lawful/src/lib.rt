@@ -7,10 +7,10 @@
 
 pub use laws::{
     address_errors_cancel_requests, answers_come_in_order, codes_are_lawful, data_follow_responses,
-    locks_begin_with_requests, outstanding_requests_are_few, parity_is_even,
+    grants_are_owed, locks_begin_with_requests, outstanding_requests_are_few, parity_is_even,
     request_lines_are_held, requests_are_identified, requests_begin_lawfully, response_codes_fit,
     snoop_lines_have_snoop_clocks, snoop_results_fit, timely_runs_are_accepted, wants_are_lawful,
-    words_are_known,
+    wants_last, words_are_known,
 };
 
 mod laws;

@@ -1,0 +1,5 @@
+pub mod Parts
+pub mod Slots
+pub mod Sounding
+pub mod Beginning
+pub mod Interface

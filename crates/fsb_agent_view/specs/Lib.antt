@@ -1,0 +1,11 @@
+pub mod OwnRequests
+pub mod AgentViews
+pub mod Idling
+pub mod Serving
+pub mod Completing
+pub mod Wanting
+pub mod Snooping
+pub mod Arriving
+pub mod AgentEvents
+pub mod Sound
+pub mod WorkedAgent

@@ -1,0 +1,150 @@
+-- A grant, as the whole trace shows it: the live request whose snoop end makes it, and the one that it serves.
+use Rattle.std.proofs.Common.{ℕ, ◌+◌, ◌<◌, ◌≡◌, Bool, true, false, ◌&&◌, List, Option, Some, None, length, nat_eq, refl, sym, ap, subst, ◌∙◌, ◌⊎◌, arith, inl, inr}
+use Rattle.std.specs.Option.{option_and_then}
+use Rattle.std.proofs.lemmas.Bool.{and_parts, eqb-true}
+use Rattle.fsb_count.specs.Options.{is_at, is_some_and}
+use Rattle.fsb_count.proofs.Interface.{first_where-found, is_at-some}
+use Rattle.fsb_trace.specs.declared.outcome.Outcome.{Outcome}
+use Rattle.fsb_trace.specs.At.{Trace}
+use Rattle.fsb_trace.specs.Flight.{reply_number_of}
+use Rattle.fsb_trace.specs.Outcome.{is_settled_deferred}
+use Rattle.fsb_trace.specs.Requests.{is_reply, live_clock_of, live_request_of}
+use Rattle.fsb_trace.specs.Snoop.{snoop_end_of}
+use Rattle.fsb_trace.proofs.Interface.{AgreeTo-sym, snoop_end_of-stays}
+use Rattle.fsb_timely.specs.Grants.{grant_at, is_granted, snooped_at}
+use Rattle.fsb_timely.specs.Moments.{claim_at, gives_line, grant_for, grant_of, grant_to, is_answered_by, is_owner_request, is_shared_at, live_claim_of, moment_at, number_snooped_at, served_number, snoop_at, snoop_end_if_begun, turns_in}
+use Rattle.fsb_timely.specs.Past.{Claim, Grant, Past, SnoopEnd}
+use Rattle.fsb_timely.specs.Runs.{Run, moments_below, past_of, past_with, run_to}
+use Rattle.fsb_timely.specs.Tied.{IsSnoopOf}
+use Rattle.fsb_timely.proofs.Interface.{moment_of, number-says, snoop-tied, snooped-there}
+use Rattle.fsb_lawful.proofs.Cuts.{run_to-agrees}
+use Rattle.fsb_lawful.proofs.OwesLess.{map-some}
+
+pub some-and : {A : Type 0} (o : Option A) (test : A → Bool) → is_some_and o test ≡ true
+    → (x : A) × (o ≡ Some x) × (test x ≡ true)
+unfolding is_some_and
+some-and None test e = absurd (let no : ⊥ = cc in no)
+some-and (Some x) test e = (x, refl, e)
+
+pub and-then : {A B : Type 0} (f : A → Option B) (o : Option A) (y : B) → option_and_then f o ≡ Some y
+    → (x : A) × (o ≡ Some x) × (f x ≡ Some y)
+and-then f None y e = absurd (let no : ⊥ = cc in no)
+and-then f (Some x) y e = (x, refl, e)
+
+-- live request i is no reply, and serves itself
+pub record ServesItself (w : Trace) (i j : ℕ) : Type 0 where
+  pub same : j ≡ i
+  pub no_reply : is_reply (live_request_of w i) ≡ false
+
+-- live request i is the reply to live request j, which was settled as Deferred
+pub record ServesOther (w : Trace) (turns : List ℕ) (i j : ℕ) : Type 0 where
+  pub before : j < i
+  pub deferred : is_settled_deferred w turns j ≡ true
+  pub reply : reply_number_of w j ≡ Some i
+
+-- live request i serves live request j
+abbrev pub Serves : Trace → List ℕ → ℕ → ℕ → Type 0
+Serves w turns i j = ServesItself w i j ⊎ ServesOther w turns i j
+
+answered-parts : (w : Trace) (turns : List ℕ) (i j : ℕ) → is_answered_by w turns i j ≡ true
+    → (is_settled_deferred w turns j ≡ true) × (reply_number_of w j ≡ Some i)
+unfolding is_answered_by
+answered-parts w turns i j e =
+    let a = and_parts (is_settled_deferred w turns j) (is_at (reply_number_of w j) i) e in
+    (a.0, is_at-some (reply_number_of w j) i a.1)
+
+serves-by : (w : Trace) (turns : List ℕ) (i j : ℕ) (b : Bool) → is_reply (live_request_of w i) ≡ b
+    → served_number w turns i ≡ Some j → Serves w turns i j
+unfolding served_number
+serves-by w turns i j true e f =
+    let found = first_where-found (is_answered_by w turns i) i j (let f' = rw (e, served_number) at f in f') in
+    let a = answered-parts w turns i j found.1 in
+    inr (record { before = found.0; deferred = a.0; reply = a.1 })
+serves-by w turns i j false e f = inl (record { same = (let f' = rw (e, served_number) at f in cc); no_reply = e })
+
+given-by : (p : Past) (w : Trace) (i q s : ℕ) (outcome : Outcome) (grant : Grant) (b : Bool)
+    → gives_line p w q s outcome ≡ b → grant_of p w i q s outcome ≡ Some grant
+    → option_and_then (grant_for w q s) (served_number w (turns_in p.moments) i) ≡ Some grant
+unfolding grant_of
+given-by p w i q s outcome grant true e f = let f' = rw (e, grant_of) at f in f'
+given-by p w i q s outcome grant false e f = absurd (let no : ⊥ = (let f' = rw (e, grant_of) at f in cc) in no)
+
+-- what a grant takes from the claim that it serves
+grant-claim : (w : Trace) (q s j : ℕ) (grant : Grant) → grant_for w q s j ≡ Some grant
+    → (claim : Claim) × (live_claim_of w j ≡ Some claim) × (claim.agent ≡ grant.agent) × (claim.line ≡ grant.line)
+    × (q ≡ grant.first)
+unfolding grant_for grant_to
+grant-claim w q s j grant e =
+    let give = grant_to q (is_owner_request (live_request_of w j)) (is_shared_at w s) in
+    let k = map-some give (live_claim_of w j) grant e in
+    (k.0, k.1, ap (λ g. g.agent) k.2, ap (λ g. g.line) k.2, ap (λ g. g.first) k.2)
+
+claim-there : (w : Trace) (j : ℕ) (claim : Claim) → live_claim_of w j ≡ Some claim
+    → (q : ℕ) × (live_clock_of w j ≡ Some q) × (claim_at w q ≡ Some claim)
+unfolding live_claim_of
+claim-there w j claim e = and-then (claim_at w) (live_clock_of w j) claim e
+
+-- each snoop end of a moment is that of a live request of the whole trace
+snooped-number : (r : Run) (t : ℕ) (s : SnoopEnd) → t < length r.trace → snooped_at (past_of r) t ≡ Some s
+    → (i : ℕ) × IsSnoopOf r i t s
+unfolding moment_at snoop_at
+snooped-number r t s l e =
+    let u = (run_to r t).trace in
+    let shown : (moment_of r t).snooped ≡ Some s = sym (snooped-there r t l) ∙ e in
+    let begun = snoop_end_if_begun (past_with r (moments_below r t) t) (run_to r t).choices u t in
+    let n = and-then begun (number_snooped_at u t) s shown in
+    let back = AgreeTo-sym (t + 1) r.trace u (run_to-agrees r t l) in
+    let end = snoop_end_of-stays (t + 1) u r.trace n.0 t back (omega arith) (number-says u n.0 t n.1) in
+    let tied = snoop-tied r n.0 t end in
+    let there = tied.1.there in
+    let same : tied.0 ≡ s = cc in
+    (n.0, subst (IsSnoopOf r n.0 t) same tied.1)
+
+-- the line is granted to agent a at t, the snoop end of a live request; this one serves a request of a for the line
+pub record IsGrantedBy (r : Run) (a line t : ℕ) : Type 0 where
+  pub number : ℕ
+  pub is_snoop : snoop_end_of r.trace number ≡ Some t
+  pub grant : Grant
+  pub granted : grant_at (past_of r) t ≡ Some grant
+  pub is_first : live_clock_of r.trace number ≡ Some grant.first
+  pub served : ℕ
+  pub serves : Serves r.trace (turns_in (past_of r).moments) number served
+  pub begun : ℕ
+  pub is_begun : live_clock_of r.trace served ≡ Some begun
+  pub claim : Claim
+  pub claims : claim_at r.trace begun ≡ Some claim
+  pub agent : claim.agent ≡ a
+  pub names : claim.line ≡ line
+
+pub granted-by : (r : Run) (a line t : ℕ) → t < length r.trace → is_granted (past_of r) a line t ≡ true
+    → IsGrantedBy r a line t
+unfolding is_granted grant_at
+granted-by r a line t l e =
+    let turns = turns_in (past_of r).moments in
+    let g = some-and (grant_at (past_of r) t) (λ (grant : Grant). nat_eq grant.agent a && nat_eq grant.line line) e in
+    let grant : Grant = g.0 in
+    let names = and_parts (nat_eq grant.agent a) (nat_eq grant.line line) g.2 in
+    let s = and-then (λ (s : SnoopEnd). s.grant) (snooped_at (past_of r) t) grant g.1 in
+    let tied = snooped-number r t s.0 l s.1 in
+    let i : ℕ = tied.0 in
+    let q : ℕ = s.0.first in
+    let gives = gives_line (past_of r) r.trace q t s.0.outcome in
+    let given = given-by (past_of r) r.trace i q t s.0.outcome grant gives refl (sym tied.1.grant ∙ s.2) in
+    let j = and-then (grant_for r.trace q t) (served_number r.trace turns i) grant given in
+    let c = grant-claim r.trace q t j.0 grant j.2 in
+    let b = claim-there r.trace j.0 c.0 c.1 in
+    record {
+      number = i;
+      is_snoop = tied.1.reached;
+      grant = grant;
+      granted = g.1;
+      is_first = tied.1.first ∙ ap Some c.4;
+      served = j.0;
+      serves = serves-by r.trace turns i j.0 (is_reply (live_request_of r.trace i)) refl j.1;
+      begun = b.0;
+      is_begun = b.1;
+      claim = c.0;
+      claims = b.2;
+      agent = c.2 ∙ eqb-true grant.agent a names.0;
+      names = c.3 ∙ eqb-true grant.line line names.1;
+    }
