@@ -29,6 +29,6 @@ returns c begun marks h seen =
         stands = stands;
         room = c.in_ok-finding.ensures.room;
         found = w.self2-is ∙ ap (λ n. Ok n) (w.chunks.ensures marks (h ++ c.args.sample.now ∷ []) stands)
-        ∙ sym (ap (λ f. audited_as f (h ++ c.args.sample.now ∷ [])) (sym found ∙ w.in-None.is));
+            ∙ sym (ap (λ f. audited_as f (h ++ c.args.sample.now ∷ [])) (sym found ∙ w.in-None.is));
       }
     ]
