@@ -1,6 +1,6 @@
 //! The parity of the address and of the request: each rule by its own mark, in both clocks of a request, and at no other.
 
-use crate::laid::{Piece, UNMARKED, RequestWords, expect, first};
+use crate::laid::{Piece, RequestWords, UNMARKED, expect, first};
 use fsb_signal::{Lines, Marks};
 
 /// The lines of parity: AP0#, AP1# and RP#.
