@@ -4,6 +4,6 @@ set -eu
 program=$(realpath -- "${1:-$(dirname "$0")/../crates/p6bench/out/p6bench}")
 cd "$(dirname "$0")/.."
 printf '%-62s %-10s %12s   %s\n' work measured memory 'asked for'
-for script in bench/read_bench.sh bench/run_bench.sh bench/check_dump.sh bench/look_at_dump.sh; do
+for script in bench/read_bench.sh bench/run_bench.sh bench/check_dump.sh bench/look_at_dump.sh bench/show_dump.sh; do
     sh "$script" "$program"
 done

@@ -1,17 +1,16 @@
 -- An agent is sound before any event, and its next item is never an idle one.
-use Rattle.std.proofs.Common.{ℕ, zero, suc, ◌+◌, ◌<◌, ◌≤◌, ◌%◌, ◌≡◌, Bool, true, false, Option, Some, None, List, [], ◌∷◌, length, drop, replicate, get_or, refl, sym, ap, ◌∙◌, arith, zero-add, add-one, add-suc}
+use Rattle.std.proofs.Common.{ℕ, zero, suc, ◌+◌, ◌<◌, ◌≤◌, ◌%◌, ◌≡◌, true, false, Option, None, List, [], ◌∷◌, length, drop, replicate, get_or, refl, ap, ◌∙◌, arith, zero-add, add-one}
 use Rattle.std.specs.List.{slice_get}
 use Rattle.std.specs.Option.{option_map_or}
 use Rattle.std.proofs.lemmas.List.{length-replicate}
 use Rattle.fsb_access.specs.declared.item.Item.{Item}
 use Rattle.fsb_access.specs.declared.item.Item.TheVariants.{One, Locked, Idle}
 use Rattle.fsb_cache.specs.declared.held.Held.{Held}
-use Rattle.fsb_cache.specs.Sets.{slot_of}
 use Rattle.fsb_script.specs.Bounds.{is_lawful_script, is_profile}
 use Rattle.fsb_timely.specs.Scripts.{is_idle}
 use Rattle.fsb_agent_view.specs.AgentEvents.{first_view}
 use Rattle.fsb_agent_view.specs.Idling.{idle_count_in_front, is_idle_item, place_from}
-use Rattle.fsb_agent_view.specs.Sound.{IsSound, is_in_set}
+use Rattle.fsb_agent_view.specs.Sound.{IsSound}
 
 -- behind the idle items in front stands none
 front_busy : (items : List Item) → is_idle_item items (idle_count_in_front items) ≡ false

@@ -2,4 +2,5 @@ pub mod Parts
 pub mod Slots
 pub mod Sounding
 pub mod Beginning
+pub mod Standing
 pub mod Interface

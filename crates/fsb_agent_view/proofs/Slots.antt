@@ -1,10 +1,9 @@
 -- The sets of a cache, of which one has something else: what each line's set has, and which lines are held alone.
-use Rattle.std.proofs.Common.{ℕ, ◌<◌, ◌≡◌, ◌≢◌, ◌%◌, Bool, true, false, cond, not, Option, Some, None, length, length-set, set, get_or, get_or-set_same, get_or-set_other, refl, sym, ap, ◌∙◌, inl, inr, ⊎_elim, arith}
-use Rattle.std.specs.Prelude.{◌==◌, ◌&&◌, ◌||◌, is_none}
-use Rattle.std.proofs.lemmas.Bool.{cases_Bool, cases_eq, ne_eqb, eq-eqb}
+use Rattle.std.proofs.Common.{ℕ, ◌<◌, ◌≡◌, ◌≢◌, ◌%◌, Bool, true, false, Option, Some, None, length, length-set, get_or-set_same, get_or-set_other, refl, sym, ap, ◌∙◌, ⊎_elim, arith}
+use Rattle.std.specs.Prelude.{◌||◌, is_none}
+use Rattle.std.proofs.lemmas.Bool.{cases_eq, ne_eqb}
 use Rattle.fsb_cache.specs.declared.held.Held.{Held}
-use Rattle.fsb_cache.specs.Sets.{CacheSets, held_at, only_line, slot_of, state_of_held, states, with_slot}
-use Rattle.fsb_line.specs.States.{is_sole}
+use Rattle.fsb_cache.specs.Sets.{CacheSets, held_at, only_line, slot_of, states, with_slot}
 use Rattle.fsb_linebuf.specs.declared.entry.Fill.{Fill}
 use Rattle.fsb_agent_view.specs.Sound.{is_lent, is_only}
 

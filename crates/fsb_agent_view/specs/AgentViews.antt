@@ -1,5 +1,5 @@
 -- An agent as its contracts see it, and what it has of a line.
-use Rattle.std.specs.Prelude.{ℕ, Bool, false, if◌then◌else◌, not, ◌&&◌, ◌||◌, ◌==◌, ◌%◌, is_none, is_some, nat_le, nat_lt, List, length, Option, Some, None, slice_get}
+use Rattle.std.specs.Prelude.{ℕ, Bool, false, if◌then◌else◌, not, ◌&&◌, ◌||◌, ◌==◌, is_none, nat_le, nat_lt, List, Option, slice_get}
 use Rattle.std.specs.Option.{option_map_or}
 use Rattle.fsb_access.specs.declared.item.Item.{Item}
 use Rattle.fsb_cache.specs.Sets.{CacheSets, states}

@@ -1,5 +1,5 @@
 -- An agent's outstanding requests, in the order in which they were sent.
-use Rattle.std.specs.Prelude.{ℕ, Bool, true, false, ◌==◌, if◌then◌else◌, List, ◌++◌, map, Option, Some, None}
+use Rattle.std.specs.Prelude.{ℕ, Bool, true, false, ◌==◌, if◌then◌else◌, List, ◌++◌, map, Option, None}
 use Rattle.std.specs.List.{after_first, before_first, find}
 use Rattle.fsb_encode.specs.declared.request.Request.{Request}
 use Rattle.fsb_encode.specs.declared.request.Kind.TheVariants.{Reply}

@@ -1,5 +1,5 @@
 -- What a snoop end does to an agent: that of its own request, and that of another agent's.
-use Rattle.std.specs.Prelude.{ℕ, Bool, true, false, not, ◌+◌, ◌&&◌, is_some, nat_lt, List, [], ◌∷◌, ◌++◌, replicate, length, count_by, Option, Some, None}
+use Rattle.std.specs.Prelude.{ℕ, Bool, true, false, not, ◌+◌, ◌&&◌, is_some, nat_lt, List, [], ◌∷◌, ◌++◌, replicate, length, count_by, Some, None}
 use Rattle.std.specs.Option.{option_map_or}
 use Rattle.fsb_cache.specs.Sets.{CacheSets, copies, sets_filled, sets_shared, sets_without}
 use Rattle.fsb_encode.specs.declared.request.Kind.{Kind}

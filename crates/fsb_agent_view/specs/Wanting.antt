@@ -1,5 +1,5 @@
 -- What an agent wants of the bus, and what it is after it has sent that.
-use Rattle.std.specs.Prelude.{ℕ, ◌+◌, ◌%◌, ◌==◌, ◌&&◌, ◌||◌, Bool, true, false, not, is_none, is_some, nat_le, List, [], ◌∷◌, ◌++◌, drop, length, Option, Some, None, slice_get, if◌then◌else◌}
+use Rattle.std.specs.Prelude.{ℕ, ◌+◌, ◌==◌, ◌&&◌, ◌||◌, Bool, true, false, not, is_none, is_some, nat_le, List, [], ◌∷◌, ◌++◌, drop, length, Option, Some, None, slice_get, if◌then◌else◌}
 use Rattle.std.specs.List.{find, list_any}
 use Rattle.std.specs.Option.{option_map, option_map_or}
 use Rattle.fsb_access.specs.declared.item.Item.{Item}
@@ -11,7 +11,6 @@ use Rattle.fsb_encode.specs.declared.request.Kind.TheVariants.{Invalidate, Read,
 use Rattle.fsb_line.specs.States.{is_held, is_modified}
 use Rattle.fsb_timely.specs.Scripts.{Need, needs_from, window_from}
 use Rattle.fsb_timely.specs.Wants.{id_of, request_of_kind, write_back_of}
-use Rattle.fsb_agent_view.specs.declared.want.OwnRequest.{OwnRequest}
 use Rattle.fsb_agent_view.specs.declared.want.Want.{Want}
 use Rattle.fsb_agent_view.specs.OwnRequests.{new_request, request_numbered}
 use Rattle.fsb_agent_view.specs.AgentViews.{AgentView, is_idle_by, is_met_by, number_by, line_state_by}

@@ -1,5 +1,5 @@
 -- A worked agent: its one store needs a line that is handed over before its bytes have come.
-use Rattle.std.specs.Prelude.{ℕ, Bool, true, false, List, [], ◌∷◌, fold, replicate}
+use Rattle.std.specs.Prelude.{ℕ, true, false, List, [], ◌∷◌, fold, replicate}
 use Rattle.fsb_access.specs.declared.access.Access.{Access}
 use Rattle.fsb_access.specs.declared.access.Access.TheVariants.{Store}
 use Rattle.fsb_access.specs.declared.access.Operand.TheVariants.{Literal}

@@ -1,9 +1,9 @@
 //! What an agent keeps of itself, whatever happens to it: small functions with no code, whose contracts are the laws.
 
-ghost use Rattle.std.specs.Prelude.{◌≡◌, ◌<◌, ◌≤◌, ℕ, List, [], ◌∷◌, replicate, true, false};
+ghost use Rattle.std.specs.Prelude.{◌≡◌, ◌<◌, ◌≤◌, ℕ, List, [], ◌∷◌, ◌++◌, replicate, true, false};
 ghost use Rattle.fsb_access.specs.declared.item.Item.{Item};
 ghost use Rattle.fsb_script.specs.Bounds.{is_lawful_script, is_profile};
-ghost use Rattle.fsb_agent_view.specs.AgentEvents.{first_view};
+ghost use Rattle.fsb_agent_view.specs.AgentEvents.{AgentEvent, Stands, agent_after, first_view};
 ghost use Rattle.fsb_agent_view.specs.AgentViews.{AgentView, answer_by};
 ghost use Rattle.fsb_agent_view.specs.Arriving.{arrived_entries, given_up, hand_by, handed_on, may_give_up};
 ghost use Rattle.fsb_agent_view.specs.Sound.{IsSound};
@@ -20,6 +20,15 @@ pub fn agents_stay_sound()
     ensures handed { (v : AgentView) (number : ℕ) → IsSound v → IsSound (handed_on v number) }
     ensures given_up { (v : AgentView) (number : ℕ) → IsSound v → may_give_up v number ≡ true
         → IsSound (given_up v number) }
+{}
+
+/// An agent before any event stands for none, and one that stands for some events stands, after one more event, for them
+/// and that one.
+pub fn agents_stand_for_their_events()
+    ensures first { (number : ℕ) (items : List Item) (lines ahead profile : ℕ)
+        → Stands (first_view number items lines ahead profile) [] }
+    ensures next { (v : AgentView) (events : List AgentEvent) (event : AgentEvent)
+        → Stands v events → Stands (agent_after v event) (events ++ event ∷ []) }
 {}
 
 /// A store whose line is handed over before its bytes have come is performed when they come, and the bytes that it leaves

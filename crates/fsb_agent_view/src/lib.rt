@@ -7,7 +7,7 @@
 //! the words of a simulated run, so that both sides can be compared word by word.
 #![tactic(auto)]
 
-pub use laws::{agents_stay_sound, handed_over_store};
+pub use laws::{agents_stand_for_their_events, agents_stay_sound, handed_over_store};
 pub use want::{Finished, OwnRequest, Want};
 
 mod laws;

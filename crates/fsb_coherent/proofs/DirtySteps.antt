@@ -7,7 +7,7 @@ use Rattle.fsb_count.proofs.Interface.{nat_lt-more}
 use Rattle.fsb_timely.specs.Past.{Grant, Past}
 use Rattle.fsb_timely.specs.Grants.{grant_at, is_ended, is_exclusive, is_granted, is_lost, is_named_by_other, is_sole_grant, latest_grant}
 use Rattle.fsb_timely.specs.Hits.{is_counted, is_dirty, is_hit, is_store_on, is_stored_since}
-use Rattle.fsb_timely.proofs.Holding.{is_exclusive-more, latest_grant-more}
+use Rattle.fsb_timely.proofs.Interface.{is_exclusive-more, latest_grant-more}
 use Rattle.fsb_coherent.specs.Relation.{is_dirty_below, is_dirty_through, is_dirtying, is_stored_below}
 
 with-hit : (x y b : Bool) → b ≡ true → (x || (y && b)) ≡ (x || y)
@@ -34,11 +34,11 @@ stored-none p a line n q h =
     let counted : (k : ℕ) → (nat_lt k n || (nat_eq k n && is_hit p a n)) ≡ nat_lt k n = λ k. with-none (nat_lt k n) (nat_eq k n) (is_hit p a n) h in
     λ i. list_any (λ done. is_store_on a line done && is_ended p done.clock q && counted done.clock i) p.log
 
-dirty-hit : (p : Past) (a line n : ℕ) → is_hit p a n ≡ true → is_dirty p a line n ≡ is_dirty_through p a line n
+pub dirty-hit : (p : Past) (a line n : ℕ) → is_hit p a n ≡ true → is_dirty p a line n ≡ is_dirty_through p a line n
 unfolding is_dirty is_dirty_through
 dirty-hit p a line n h = λ i. is_exclusive p a line n && is_some_and (latest_grant p a line n) (λ grant. grant.owns || stored-hit p a line n grant.first h i)
 
-dirty-none : (p : Past) (a line n : ℕ) → is_hit p a n ≡ false → is_dirty p a line n ≡ is_dirty_below p a line n
+pub dirty-none : (p : Past) (a line n : ℕ) → is_hit p a n ≡ false → is_dirty p a line n ≡ is_dirty_below p a line n
 unfolding is_dirty is_dirty_below
 dirty-none p a line n h = λ i. is_exclusive p a line n && is_some_and (latest_grant p a line n) (λ grant. grant.owns || stored-none p a line n grant.first h i)
 

@@ -2,7 +2,7 @@
 use Rattle.std.proofs.Common.{ℕ, zero, suc, ◌<◌, ◌≤◌, ◌≡◌, length, ap, refl, arith}
 use Rattle.fsb_timely.specs.Runs.{Run, past_of}
 use Rattle.fsb_timely.specs.Growth.{IsNext, IsWhole}
-use Rattle.fsb_timely.proofs.Next.{past-same}
+use Rattle.fsb_timely.proofs.Interface.{past-same}
 use Rattle.fsb_coherent.specs.LineEvents.{events_of_clock, events_at, events_below}
 
 pub events_at-same : (r s : Run) (line c : ℕ) → IsNext r s → IsWhole r → c < length r.trace

@@ -14,7 +14,7 @@ use Rattle.fsb_timely.specs.Past.{Past}
 use Rattle.fsb_timely.specs.Grants.{begun_at, ended_requests, grant_at, holds_line, is_end_at, is_ended, is_evicted, is_exclusive, is_granted, is_lost, is_named_by_other, is_sole_grant, is_taken_away, is_written_back, latest_grant, snooped_at}
 use Rattle.fsb_timely.specs.Hits.{is_store_on}
 use Rattle.fsb_timely.specs.Runs.{entries_to, past_to}
-use Rattle.fsb_timely.proofs.Holding.{holds_line-more, is_ended-more, is_exclusive-more, latest_grant-more}
+use Rattle.fsb_timely.proofs.Interface.{holds_line-more, is_ended-more, is_exclusive-more, latest_grant-more}
 use Rattle.fsb_coherent.specs.Awaits.{cancelled_in, responded_in}
 use Rattle.fsb_coherent.specs.LineEvents.{begins_on, cancels_on, ends_on, entries_on, events_at, events_of_clock, events_of_ends, hits_on, others_on, responds_on, snoops_on}
 use Rattle.fsb_coherent.specs.KeepsTie.{KeepsTie}
@@ -23,7 +23,7 @@ use Rattle.fsb_coherent.specs.Relation.{IsOpen, Tied, chain_below, deferral_at, 
 use Rattle.fsb_coherent.proofs.Steps.{chain-kept, deferral-more, moved_at-same, open-before, open-kept, responded-more}
 
 -- the past up to n has the same at n
-slice_get-take : {X : Type 0} (n : ℕ) (xs : List X) (k : ℕ) → k < n → slice_get (take n xs) k ≡ slice_get xs k
+pub slice_get-take : {X : Type 0} (n : ℕ) (xs : List X) (k : ℕ) → k < n → slice_get (take n xs) k ≡ slice_get xs k
 slice_get-take zero xs k l = absurd (omega arith)
 slice_get-take (suc n) [] k l = refl
 slice_get-take (suc n) (x ∷ xs) zero l = refl
@@ -33,23 +33,23 @@ moment-to : (p : Past) (n : ℕ) → slice_get (past_to p n).moments n ≡ slice
 unfolding past_to
 moment-to p n = slice_get-take (n + 1) p.moments n (omega arith)
 
-begun-to : (p : Past) (n : ℕ) → begun_at (past_to p n) n ≡ begun_at p n
+pub begun-to : (p : Past) (n : ℕ) → begun_at (past_to p n) n ≡ begun_at p n
 unfolding begun_at
 begun-to p n = ap (λ o. option_map (λ owing. owing.claim) (option_and_then (λ moment. moment.begun) o)) (moment-to p n)
 
-cancelled-to : (p : Past) (n : ℕ) → cancelled_in (past_to p n) n ≡ cancelled_in p n
+pub cancelled-to : (p : Past) (n : ℕ) → cancelled_in (past_to p n) n ≡ cancelled_in p n
 unfolding cancelled_in
 cancelled-to p n = ap (option_and_then (λ moment. moment.cancelled)) (moment-to p n)
 
-snooped-to : (p : Past) (n : ℕ) → snooped_at (past_to p n) n ≡ snooped_at p n
+pub snooped-to : (p : Past) (n : ℕ) → snooped_at (past_to p n) n ≡ snooped_at p n
 unfolding snooped_at
 snooped-to p n = ap (option_and_then (λ moment. moment.snooped)) (moment-to p n)
 
-responded-to : (p : Past) (n : ℕ) → responded_in (past_to p n) n ≡ responded_in p n
+pub responded-to : (p : Past) (n : ℕ) → responded_in (past_to p n) n ≡ responded_in p n
 unfolding responded_in
 responded-to p n = ap (option_and_then (λ moment. moment.responded)) (moment-to p n)
 
-ended-to : (p : Past) (n : ℕ) → ended_requests (past_to p n) n ≡ ended_requests p n
+pub ended-to : (p : Past) (n : ℕ) → ended_requests (past_to p n) n ≡ ended_requests p n
 unfolding ended_requests
 ended-to p n = ap (λ o. option_map_or (λ moment. moment.ended) o []) (moment-to p n)
 

@@ -22,9 +22,7 @@ use Rattle.fsb_timely.specs.Moments.{claim_at, effective_choice, gives_line, gra
 use Rattle.fsb_timely.specs.Past.{Claim, Past, SnoopEnd}
 use Rattle.fsb_timely.specs.Runs.{Run, moments_below, past_of, run_to}
 use Rattle.fsb_timely.specs.Tied.{IsSnoopOf}
-use Rattle.fsb_timely.proofs.Interface.{moment-snooped, snoop_of, snooped-there}
-use Rattle.fsb_timely.proofs.Moments.{run_to-agrees}
-use Rattle.fsb_timely.proofs.TiedMoments.{tied-snoop}
+use Rattle.fsb_timely.proofs.Interface.{moment-snooped, run_to-agrees, snoop_of, snooped-there, tied-snoop}
 use Rattle.fsb_coherent.specs.Settled.{is_always_kept, outcome_by_turn, outcome_under, own_grant}
 
 -- the turn as a number says what the turn says

@@ -22,9 +22,9 @@ use Rattle.fsb_timely.specs.Past.{Past, SnoopEnd}
 use Rattle.fsb_timely.specs.Runs.{past_to}
 use Rattle.fsb_timely.specs.Snoops.{is_held_elsewhere}
 use Rattle.fsb_coherent.specs.Awaits.{owner_at, purpose_of}
-use Rattle.fsb_coherent.specs.Fitting.{IsSnoopOn, fits_getting, fits_kind, fits_upgrade, fits_write_back, is_granted_by, is_lost_by}
+use Rattle.fsb_coherent.specs.Fitting.{IsSnoopOn, IsUncontested, fits_getting, fits_kind, fits_upgrade, fits_write_back, is_granted_by, is_lost_by}
 use Rattle.fsb_coherent.specs.LineEvents.{claimed_events, settled_events, snoop_events}
-use Rattle.fsb_coherent.proofs.SnoopLinks.{end_with, grant_if, grant_with}
+use Rattle.fsb_coherent.proofs.SnoopLinks.{end_with, grant_if, grant_with, whole-end}
 
 or-nothing : (b : Bool) → (b || false) ≡ b
 or-nothing true = refl
@@ -136,10 +136,8 @@ holders p line n first agent _ _ turn won owns shared x b e h o w = absurd (let 
 
 -- an upgrade is won where the agent of the machine holds the line
 pub holders-made : (p : Past) (line n : ℕ) (s : SnoopEnd) (x : MemoryLine) (h : IsSnoopOn p line n s)
-    → h.won ≡ is_held (x.state h.agent) → (b : ℕ)
+    → IsUncontested h.kind s.outcome → h.won ≡ is_held (x.state h.agent) → (b : ℕ)
     → is_held ((run x (snoop_events (past_to p n) line n s)).state b) ≡ (is_granted_by s b line || (is_held (x.state b) && not (is_lost_by s b line)))
-holders-made p line n s x h w b =
-    let whole : end_with s.first h.agent line h.kind s.turn s.outcome (grant_if s.first h.agent line h.kind s.outcome h.won h.owns h.shared) ≡ s =
-    (λ i. record { first = s.first; claim = sym h.claimed i; kind = sym h.known i; turn = s.turn; outcome = s.outcome; grant = sym h.granted i }) in
-    subst (λ t. HeldBy p line n t x b) whole
-    (holders p line n s.first h.agent h.kind s.outcome s.turn h.won h.owns h.shared x b (eq-eqb line line refl) h.fits h.owned w)
+holders-made p line n s x h alone w b =
+    subst (λ t. HeldBy p line n t x b) (whole-end p line n s h)
+    (holders p line n s.first h.agent h.kind s.outcome s.turn h.won h.owns h.shared x b (eq-eqb line line refl) (h.fits alone) h.owned w)

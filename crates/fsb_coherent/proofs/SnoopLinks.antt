@@ -16,7 +16,7 @@ use Rattle.fsb_timely.specs.Moments.{is_got, is_upgraded, makes_grant}
 use Rattle.fsb_timely.specs.Past.{Grant, Past, SnoopEnd}
 use Rattle.fsb_timely.specs.Runs.{past_to}
 use Rattle.fsb_coherent.specs.Awaits.{awaited_by, awaited_by_claim, awaited_by_grant, is_written, owner_at, purpose_of}
-use Rattle.fsb_coherent.specs.Fitting.{IsSnoopOn, fits_getting, fits_kind, fits_upgrade, fits_write_back}
+use Rattle.fsb_coherent.specs.Fitting.{IsSnoopOn, IsUncontested, fits_getting, fits_kind, fits_upgrade, fits_write_back}
 use Rattle.fsb_coherent.specs.LineEvents.{claimed_events, settled_events, snoop_events}
 use Rattle.fsb_coherent.specs.Relation.{deferred_to, giver_at, link_for, purpose_at}
 
@@ -31,6 +31,19 @@ grant_with first agent line owns shared = record { first = first; agent = agent;
 abbrev pub grant_if : ℕ → ℕ → ℕ → Kind → Outcome → Bool → Bool → Bool → Option Grant
 grant_if first agent line kind outcome won owns shared =
     if makes_grant kind outcome || (is_upgraded outcome && won) then Some (grant_with first agent line owns shared) else None
+
+-- a snoop end of a request for the line is that with its parts
+pub whole-end : (p : Past) (line n : ℕ) (s : SnoopEnd) (h : IsSnoopOn p line n s)
+    → end_with s.first h.agent line h.kind s.turn s.outcome (grant_if s.first h.agent line h.kind s.outcome h.won h.owns h.shared) ≡ s
+whole-end p line n s h = λ i.
+    record {
+      first = s.first;
+      claim = sym h.claimed i;
+      kind = sym h.known i;
+      turn = s.turn;
+      outcome = s.outcome;
+      grant = sym h.granted i;
+    }
 
 -- its links, and its deferral
 abbrev LinksOf : Past → ℕ → ℕ → SnoopEnd → MemoryLine → Type 0
@@ -63,13 +76,11 @@ links p line n first agent kinds.WriteBack Written turn won owns shared x e h o 
 links p line n first agent _ _ turn won owns shared x e h o = absurd (let no : ⊥ = cc in no)
 
 -- the snoop end of a request for the line leaves the links of the run
-pub links-made : (p : Past) (line n : ℕ) (s : SnoopEnd) (x : MemoryLine) → IsSnoopOn p line n s
-    → (run x (snoop_events (past_to p n) line n s)).chain ≡ x.chain ++ option_map_or (link_for p line n s) (awaited_by s) []
-links-made p line n s x h =
-    let whole : end_with s.first h.agent line h.kind s.turn s.outcome (grant_if s.first h.agent line h.kind s.outcome h.won h.owns h.shared) ≡ s =
-    (λ i. record { first = s.first; claim = sym h.claimed i; kind = sym h.known i; turn = s.turn; outcome = s.outcome; grant = sym h.granted i }) in
-    subst (λ t. LinksOf p line n t x) whole
-    (links p line n s.first h.agent h.kind s.outcome s.turn h.won h.owns h.shared x (eq-eqb line line refl) h.fits h.owned)
+pub links-made : (p : Past) (line n : ℕ) (s : SnoopEnd) (x : MemoryLine) → (h : IsSnoopOn p line n s)
+    → IsUncontested h.kind s.outcome → (run x (snoop_events (past_to p n) line n s)).chain ≡ x.chain ++ option_map_or (link_for p line n s) (awaited_by s) []
+links-made p line n s x h alone =
+    subst (λ t. LinksOf p line n t x) (whole-end p line n s h)
+    (links p line n s.first h.agent h.kind s.outcome s.turn h.won h.owns h.shared x (eq-eqb line line refl) (h.fits alone) h.owned)
 
 -- the deferral after it: what is deferred, and otherwise the one of before
 abbrev DeferralOf : Past → ℕ → ℕ → ℕ → SnoopEnd → MemoryLine → Type 0
@@ -105,10 +116,8 @@ deferrals p line n first agent _ _ turn won owns shared x e h o = absurd (let no
 
 -- the snoop end of a request for the line leaves the deferral of the run
 pub deferral-made : (p : Past) (line n : ℕ) (s : SnoopEnd) (x : MemoryLine) → (h : IsSnoopOn p line n s)
-    → (run x (snoop_events (past_to p n) line n s)).deferral
+    → IsUncontested h.kind s.outcome → (run x (snoop_events (past_to p n) line n s)).deferral
     ≡ (if is_deferral s.outcome then Some (deferred_to p line n s h.agent) else x.deferral)
-deferral-made p line n s x h =
-    let whole : end_with s.first h.agent line h.kind s.turn s.outcome (grant_if s.first h.agent line h.kind s.outcome h.won h.owns h.shared) ≡ s =
-    (λ i. record { first = s.first; claim = sym h.claimed i; kind = sym h.known i; turn = s.turn; outcome = s.outcome; grant = sym h.granted i }) in
-    subst (λ t. DeferralOf p line n h.agent t x) whole
-    (deferrals p line n s.first h.agent h.kind s.outcome s.turn h.won h.owns h.shared x (eq-eqb line line refl) h.fits h.owned)
+deferral-made p line n s x h alone =
+    subst (λ t. DeferralOf p line n h.agent t x) (whole-end p line n s h)
+    (deferrals p line n s.first h.agent h.kind s.outcome s.turn h.won h.owns h.shared x (eq-eqb line line refl) (h.fits alone) h.owned)

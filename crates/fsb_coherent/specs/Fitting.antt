@@ -1,5 +1,5 @@
 -- Which outcomes a request of a symmetric agent may have, and what its snoop end leaves of a line.
-use Rattle.std.specs.Prelude.{◌≡◌, ℕ, ◌&&◌, ◌||◌, Bool, true, false, nat_eq, is_some, if◌then◌else◌, Some, None}
+use Rattle.std.specs.Prelude.{◌≡◌, ◌≢◌, ℕ, ◌&&◌, ◌||◌, Bool, true, false, nat_eq, is_some, if◌then◌else◌, Some, None}
 use Rattle.fsb_encode.specs.declared.request.Kind.{Kind}
 use Rattle.fsb_encode.specs.declared.request.Kind.TheVariants as kinds
 use Rattle.fsb_trace.specs.declared.outcome.Outcome.{Outcome}
@@ -53,8 +53,13 @@ fits_kind kinds.Read outcome = fits_getting outcome
 fits_kind kinds.WriteBack outcome = fits_write_back outcome
 fits_kind kinds.Upgrade outcome = fits_upgrade outcome
 
+-- a write-back meets no HITM#: that no other agent is dirty on its line is a matter of coherence
+abbrev pub IsUncontested : Kind → Outcome → Type 0
+IsUncontested kind outcome = kind ≡ kinds.WriteBack → outcome ≢ Handed
+
 -- a snoop end of a request for the line as it may be: whose, of which kind, and whether an upgrade is won; the outcome
--- fits the kind, the grant is the one that they make, and a line that is handed over has an owner
+-- fits the kind, unless a write-back meets HITM#; the grant is the one that they make, and a line that is handed over has
+-- an owner
 pub record IsSnoopOn (p : Past) (line n : ℕ) (s : SnoopEnd) : Type 0 where
   pub agent : ℕ
   pub kind : Kind
@@ -63,7 +68,7 @@ pub record IsSnoopOn (p : Past) (line n : ℕ) (s : SnoopEnd) : Type 0 where
   pub shared : Bool
   pub claimed : s.claim ≡ Some (record { first = s.first; agent = agent; line = line })
   pub known : s.kind ≡ Some kind
-  pub fits : fits_kind kind s.outcome ≡ true
+  pub fits : IsUncontested kind s.outcome → fits_kind kind s.outcome ≡ true
   pub granted : s.grant
       ≡ (if makes_grant kind s.outcome || (is_upgraded s.outcome && won)
       then Some (record { first = s.first; agent = agent; line = line; owns = owns; shared = shared }) else None)

@@ -2,6 +2,8 @@ pub mod Awaits
 pub mod LineEvents
 pub mod Relation
 pub mod Fitting
+pub mod Facts
+pub mod BeforeSnoop
 pub mod KeepsTie
 pub mod Quiet
 pub mod Settled

@@ -4,6 +4,7 @@ ghost use Rattle.std.specs.Prelude.{◌≡◌, ◌≢◌, ◌<◌, ◌≤◌, �
 ghost use Rattle.std.specs.Option.{option_map_or};
 ghost use Rattle.fsb_count.specs.Options.{is_at, is_some_and};
 ghost use Rattle.fsb_hazard.specs.declared.choice.Turn.TheVariants.{Keep};
+ghost use Rattle.fsb_line.specs.Coherence.{Ordered, Valued};
 ghost use Rattle.fsb_line.specs.Line.{Bytes, LineDeferral, MemoryLine, OpenRequest, unheld};
 ghost use Rattle.fsb_line.specs.Runs.{MayRun, run};
 ghost use Rattle.fsb_line.specs.States.{is_held};
@@ -19,10 +20,12 @@ ghost use Rattle.fsb_timely.specs.Moments.{is_snoop_of};
 ghost use Rattle.fsb_timely.specs.Runs.{Run, past_of, past_to};
 ghost use Rattle.fsb_timely.specs.Growth.{IsNext, IsWhole};
 ghost use Rattle.fsb_coherent.specs.Awaits.{awaited_by, cancelled_in};
-ghost use Rattle.fsb_coherent.specs.Fitting.{IsSnoopOn, is_granted_by, is_lost_by};
+ghost use Rattle.fsb_coherent.specs.Facts.{ClockFacts};
+ghost use Rattle.fsb_coherent.specs.Fitting.{IsSnoopOn, IsUncontested, is_granted_by, is_lost_by};
 ghost use Rattle.fsb_coherent.specs.LineEvents.{events_at, events_below, snoop_events};
 ghost use Rattle.fsb_coherent.specs.KeepsTie.{IsTiedTo, KeepsTie};
 ghost use Rattle.fsb_coherent.specs.Quiet.{IsQuiet};
+ghost use Rattle.fsb_coherent.specs.BeforeSnoop.{TiedThrough, events_before_snoop, events_from_snoop};
 ghost use Rattle.fsb_coherent.specs.Settled.{is_always_kept, outcome_under, own_grant};
 ghost use Rattle.fsb_coherent.specs.Worked.{worked_events, worked_past};
 ghost use Rattle.fsb_coherent.specs.Relation.{IsOpen, Tied, chain_below, deferred_to, deferral_at, deferral_below, defers_line, is_dirty_below, is_dirty_through, is_dirtying, link_for, link_left, links_left, replies_line};
@@ -85,8 +88,9 @@ pub fn links_and_deferrals_step()
         else (if replies_line p line n then None else deferral_below p line n)) }
 {}
 
-/// Where the line of the machine is in order and is that of a run, an agent that has the line for
-/// itself is its only holder, and nobody has a pending line for itself.
+/// Where the line of the machine is in order, has its bytes where they belong and is that of a run,
+/// an agent that has the line for itself is its only holder, and nobody has a pending line for
+/// itself.
 pub fn tied_lines_have_one_owner()
     ensures alone { (p : Past) (line n : ℕ) (x : MemoryLine) → IsTiedTo p line n x →
         (a b : ℕ) → is_exclusive p a line n ≡ true → b ≢ a → holds_line p b line n ≡ false }
@@ -129,19 +133,50 @@ pub fn dirty_lines_step()
         && (not (is_lost p a line n) && not (is_named_by_other p a line n)))) }
 {}
 
-/// At the snoop end of a request for a line the line of the machine gets the links that the run has
+/// At the snoop end of a request for a line, as it may be, the line of the machine gets the links
+/// that the run has
 /// of it: by its grant, or by its write-back, or none; and the deferral, where it is Deferred.
 /// Where an upgrade is won by an agent that holds the line, those hold it afterwards who get it
-/// there, and who held it and do not lose it.
+/// there, and who held it and do not lose it. A write-back must not have met HITM#.
 pub fn snoop_ends_make_links()
-    ensures links { (p : Past) (line n : ℕ) (s : SnoopEnd) (x : MemoryLine) → IsSnoopOn p line n s →
+    ensures links { (p : Past) (line n : ℕ) (s : SnoopEnd) (x : MemoryLine)
+        (h : IsSnoopOn p line n s) → IsUncontested h.kind s.outcome →
         (run x (snoop_events (past_to p n) line n s)).chain
         ≡ x.chain ++ option_map_or (link_for p line n s) (awaited_by s) [] }
     ensures deferral { (p : Past) (line n : ℕ) (s : SnoopEnd) (x : MemoryLine)
-        (h : IsSnoopOn p line n s) → (run x (snoop_events (past_to p n) line n s)).deferral
+        (h : IsSnoopOn p line n s) → IsUncontested h.kind s.outcome →
+        (run x (snoop_events (past_to p n) line n s)).deferral
         ≡ (if is_deferral s.outcome then Some (deferred_to p line n s h.agent) else x.deferral) }
     ensures holders { (p : Past) (line n : ℕ) (s : SnoopEnd) (x : MemoryLine)
-        (h : IsSnoopOn p line n s) → h.won ≡ is_held (x.state h.agent) → (b : ℕ) →
+        (h : IsSnoopOn p line n s) → IsUncontested h.kind s.outcome →
+        h.won ≡ is_held (x.state h.agent) → (b : ℕ) →
         is_held ((run x (snoop_events (past_to p n) line n s)).state b)
         ≡ (is_granted_by s b line || (is_held (x.state b) && not (is_lost_by s b line))) }
+{}
+
+/// Where the facts of a clock are known, its events are those before its snoop end and those from
+/// it on. The first ones, its response, hits, first clock and cancellation, may happen to a line of
+/// the machine that is that of the run and has its bytes where they belong, and after them it is
+/// that of the run before the snoop end.
+pub fn first_events_keep_ties()
+    ensures parts { (p : Past) (line n : ℕ) → ClockFacts p line n →
+        events_at p line n ≡ events_before_snoop p line n ++ events_from_snoop p line n }
+    ensures tie { (p : Past) (line n : ℕ) (x : MemoryLine) → ClockFacts p line n → Valued x →
+        Tied p line n x → MayRun x (events_before_snoop p line n)
+        × TiedThrough p line n (run x (events_before_snoop p line n)) }
+{}
+
+/// Where the facts of a clock are known, its events from the snoop end on may happen to a line of
+/// the machine that is in order and is that of the run before that snoop end, and after them it is
+/// that of the run one clock on.
+pub fn snoop_ends_keep_ties()
+    ensures { (p : Past) (line n : ℕ) (x : MemoryLine) → ClockFacts p line n → Ordered x →
+        TiedThrough p line n x → MayRun x (events_from_snoop p line n)
+        × Tied p line (n + 1) (run x (events_from_snoop p line n)) }
+{}
+
+/// A clock of which the facts are known keeps the tie of the line: its events may happen to the
+/// line of the machine, and after them it is that of the run one clock on.
+pub fn clock_facts_keep_ties()
+    ensures { (p : Past) (line n : ℕ) → ClockFacts p line n → KeepsTie p line n }
 {}

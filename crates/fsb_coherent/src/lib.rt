@@ -5,8 +5,9 @@
 #![tactic(auto)]
 
 pub use laws::{
-    dirty_lines_step, events_stay, line_is_worked_out, lines_start_tied, links_and_deferrals_step,
-    open_requests_step, quiet_clocks_keep_ties, snoop_ends_are_settled, snoop_ends_make_links,
+    clock_facts_keep_ties, dirty_lines_step, events_stay, first_events_keep_ties,
+    line_is_worked_out, lines_start_tied, links_and_deferrals_step, open_requests_step,
+    quiet_clocks_keep_ties, snoop_ends_are_settled, snoop_ends_keep_ties, snoop_ends_make_links,
     tied_lines_have_one_owner, ties_go_on,
 };
 

@@ -34,3 +34,4 @@ pub mod Codes
 pub mod OwnIds
 pub mod Identity
 pub mod EvenParity
+pub mod Interface

@@ -2,5 +2,6 @@ pub mod LinesAhead
 pub mod PlanFacts
 mod Findings
 mod Searches
+mod Tables
 mod TenDigits
 mod Verdicts

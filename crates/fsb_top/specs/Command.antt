@@ -2,14 +2,15 @@
 use Rattle.std.specs.Prelude.{◌≡◌, Option, None, Some, option_map, MatchOption}
 use Rattle.fsb_trigger.specs.Hunt.{steps_in}
 use Rattle.fsb_top.specs.declared.command.Command.{Command}
-use Rattle.fsb_top.specs.declared.command.Command.TheVariants.{Run, Check, Audit, Find, Wave}
-use Rattle.fsb_top.specs.Form.{Form, run, check, audit, find, wave}
+use Rattle.fsb_top.specs.declared.command.Command.TheVariants.{Run, Check, Audit, Show, Find, Wave}
+use Rattle.fsb_top.specs.Form.{Form, run, check, audit, show, find, wave}
 
 -- the form that a command is
 abbrev pub form_meant : Command → Form
 form_meant (Run bench dump) = run bench.now (option_map (λ name. name.now) dump)
 form_meant (Check dump) = check dump.now
 form_meant (Audit dump) = audit dump.now
+form_meant (Show dump) = show dump.now
 form_meant (Find dump trigger) = find dump.now (steps_in trigger)
 form_meant (Wave dump range) = wave dump.now range.from range.to
 

@@ -15,6 +15,7 @@ use Rattle.fsb_rules.specs.Checker.{as_broken}
 use Rattle.fsb_script.specs.Drafts.{BenchText, FirstBad}
 use Rattle.fsb_script.specs.Plans.{PlanView}
 use Rattle.fsb_script.specs.declared.fault.ScriptFault.{ScriptFault}
+use Rattle.fsb_show.specs.Reading.{IsReadToEnd, IsLongDump}
 use Rattle.fsb_signal.specs.DumpText.{dump_text}
 use Rattle.fsb_signal.specs.Parity.{marks_in}
 use Rattle.fsb_signal.specs.declared.marks.Marks.{Marks}
@@ -26,9 +27,9 @@ use Rattle.fsb_trigger.specs.Match.{least_match}
 use Rattle.fsb_trigger.specs.TriggerSteps.{StepView}
 use Rattle.fsb_watch.specs.Watched.{IsReadWhole, IsBad, HasManySamples}
 use Rattle.vcd_grammar.specs.declared.fault.VcdFault.{VcdFault}
-use Rattle.vcd_grammar.specs.Reading.{Reads}
+use Rattle.vcd_grammar.specs.Reading.{Reads, FirstFault}
 use Rattle.fsb_top.specs.AccessCount.{access_count}
-use Rattle.fsb_top.specs.Form.{Form, run, check, audit, find, wave}
+use Rattle.fsb_top.specs.Form.{Form, run, check, audit, show, find, wave}
 use Rattle.fsb_top.specs.Reading.{HasRead}
 use Rattle.fsb_top.specs.Writing.{HasDump, HasDumpPart}
 use Rattle.fsb_top.specs.declared.status.Status.{Status}
@@ -163,7 +164,7 @@ IsTold TooLong marks w before held = Unit {0}
 IsTold (Foul foul) marks w before held = Unit {0}
 IsTold NotFound marks w before held = Unit {0}
 
--- a check ends in one of these
+-- a check, or the table of a dump, ends in one of these
 abbrev pub IsOfCheck : Status → Type 0
 IsOfCheck Done = Unit {0}
 IsOfCheck (Rejected broken) = Unit {0}
@@ -313,6 +314,23 @@ pub record HasFinding (status : Status) (name held left : List ℕ) (begun_as : 
   pub few : length trace ≤ 2 ^ 32 - 1
   pub told : TellsFinding status marks trace
 
+-- all of the file under this name was read, it is the dump of this trace of at most 200,000 samples with these marks, and
+-- the status is that of its verdict
+pub record HasTable (status : Status) (name held left : List ℕ) (begun_as : Option (List ℕ)) : Type 0 where
+  pub read : IsReadToEnd held left
+  pub named : begun_as ≡ Some name
+  pub marks : Marks
+  pub trace : List Sample
+  pub reads : Reads held marks trace
+  pub few : length trace ≤ 200000
+  pub told : TellsVerdict status marks trace
+
+-- all of the file under this name was read, at most 268,435,456 bytes, and it is no dump, with this first fault
+pub record IsBadTable (name held left : List ℕ) (begun_as : Option (List ℕ)) (fault : VcdFault) : Type 0 where
+  pub read : IsReadToEnd held left
+  pub named : begun_as ≡ Some name
+  pub is_bad : FirstFault held fault
+
 -- all of the file under this name was read, and it is no dump, with this first fault, before which at most 2^32 - 1
 -- samples are decided
 pub record IsBadDump (name held left : List ℕ) (begun_as : Option (List ℕ)) (fault : VcdFault) : Type 0 where
@@ -320,11 +338,13 @@ pub record IsBadDump (name held left : List ℕ) (begun_as : Option (List ℕ)) 
   pub named : begun_as ≡ Some name
   pub is_bad : IsBad held fault
 
--- the file is too long: a bench file has more than 4,194,304 bytes; a dump more than 2^40, or too many samples
+-- the file is too long: a bench file has more than 4,194,304 bytes; a dump that is told as a table more than 268,435,456, or more than
+-- 200,000 samples; another dump more than 2^40, or too many samples
 abbrev pub IsTooLong : Form → List ℕ → Type 0
 IsTooLong (run bench dump) held = 4194304 < length held
 IsTooLong (check dump) held = (2 ^ 40 < length held) ⊎ HasManySamples held
 IsTooLong (audit dump) held = (2 ^ 40 < length held) ⊎ HasManySamples held
+IsTooLong (show dump) held = (268435456 < length held) ⊎ IsLongDump held
 IsTooLong (find dump steps) held = (2 ^ 40 < length held) ⊎ HasManySamples held
 IsTooLong (wave dump from to) held = (2 ^ 40 < length held) ⊎ HasManySamples held
 
@@ -333,10 +353,11 @@ abbrev pub FromRun : Option Form → (List ℕ → Type 0) → Type 0
 FromRun (Some (run bench dump)) P = P bench
 FromRun _ P = ⊥
 
--- the same of the words of a command that only reads a dump
-abbrev pub FromLook : Option Form → (List ℕ → Type 0) → Type 0
-FromLook (Some (check dump)) P = P dump
-FromLook (Some (audit dump)) P = P dump
-FromLook (Some (find dump steps)) P = P dump
-FromLook (Some (wave dump from to)) P = P dump
-FromLook _ P = ⊥
+-- the same of the words of a command that only reads a dump: `P` of one that reads it in pieces, `Q` of one that keeps it whole
+abbrev pub FromLook : Option Form → (List ℕ → Type 0) → (List ℕ → Type 0) → Type 0
+FromLook (Some (check dump)) P Q = P dump
+FromLook (Some (audit dump)) P Q = P dump
+FromLook (Some (show dump)) P Q = Q dump
+FromLook (Some (find dump steps)) P Q = P dump
+FromLook (Some (wave dump from to)) P Q = P dump
+FromLook _ P Q = ⊥

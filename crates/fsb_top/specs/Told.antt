@@ -1,10 +1,11 @@
--- The status of a finding, of a search, of a wave and of an audit, and what is written of a finding.
+-- The status of a finding, of a search, of a wave, of an audit and of a table, and what is written of a finding.
 use Rattle.std.specs.Prelude.{◌≡◌, ℕ, IsTrue, List, ◌++◌, Option, Some, None, is_some, Result, Err, IsOk}
 use Rattle.fsb_audit.specs.declared.finding.Finding.{Finding as AuditFinding}
 use Rattle.fsb_audit.specs.declared.finding.Finding.TheVariants as findings
 use Rattle.fsb_check.specs.declared.check.Finding.{Finding}
 use Rattle.fsb_io.specs.Appends.{AppendsPart}
 use Rattle.fsb_report.specs.VerdictText.{verdict_text}
+use Rattle.fsb_rules.specs.declared.broken.Broken.{Broken}
 use Rattle.fsb_top.specs.declared.status.Status.{Status}
 use Rattle.fsb_top.specs.declared.status.Status.TheVariants.{Done, Rejected, BadWords, BadBench, BadDump, ReadFault, WriteFault, DumpFault, OutOfMemory, TooLong, Foul, NotFound}
 
@@ -58,3 +59,10 @@ IsAuditTold (Rejected broken) found = found ≡ Err (findings.Broken broken)
 IsAuditTold (Foul foul) found = found ≡ Err (findings.Foul foul)
 IsAuditTold WriteFault found = Unit {0}
 IsAuditTold _ found = ⊥
+
+-- the status of a table that was written, of a trace with this broken rule or with none, or of a sink that failed
+abbrev pub IsTableTold : Status → Option Broken → Type 0
+IsTableTold Done broken = broken ≡ None
+IsTableTold (Rejected first) broken = broken ≡ Some first
+IsTableTold WriteFault broken = Unit {0}
+IsTableTold _ broken = ⊥

@@ -26,6 +26,10 @@ pub enum Command<'a> {
     Audit {
         dump: &'a str,
     },
+    /// To tell a dump as a table.
+    Show {
+        dump: &'a str,
+    },
     /// To search a dump for a trigger.
     Find {
         dump: &'a str,
@@ -67,6 +71,7 @@ pub fn read_words(words: &Words) -> Option<Command<'_>>
 }
 
 // The command of a verb and the name of a file.
+#[tactic(auto, unfolding(crate::specs::Form::form_of_two))]
 fn command_on<'a>(verb: &str, name: &'a str) -> Option<Command<'a>>
     ensures { IsCommand (form_of_two verb.now name.now) result }
 {
@@ -77,11 +82,13 @@ fn command_on<'a>(verb: &str, name: &'a str) -> Option<Command<'a>>
         }),
         "check" => Some(Command::Check { dump: name }),
         "audit" => Some(Command::Audit { dump: name }),
+        "show" => Some(Command::Show { dump: name }),
         _ => None,
     }
 }
 
 // The command of a verb, the name of a file and one more word.
+#[tactic(auto, unfolding(crate::specs::Form::form_of_three))]
 fn command_with<'a>(verb: &str, name: &'a str, word: &'a str) -> Option<Command<'a>>
     ensures { IsCommand (form_of_three verb.now name.now word.now) result }
 {
@@ -99,6 +106,7 @@ fn command_with<'a>(verb: &str, name: &'a str, word: &'a str) -> Option<Command<
 }
 
 // The command of a verb, the name of a file and two more words.
+#[tactic(auto, unfolding(crate::specs::Form::form_of_four))]
 fn command_between<'a>(verb: &str, name: &'a str, first: &str, last: &str) -> Option<Command<'a>>
     ensures { IsCommand (form_of_four verb.now name.now first.now last.now) result }
 {

@@ -1,5 +1,5 @@
 //! The top call: from the words of a command line to the printed log and the dump, to the verdict on a
-//! dump, or to what is audited, searched or drawn in it.
+//! dump, or to what is audited, told, searched or drawn in it.
 #![tactic(auto)]
 
 pub use status::{Status, code, status_line};
@@ -15,6 +15,7 @@ mod output;
 mod play;
 mod range;
 mod read;
+mod show;
 mod simulate;
 mod status;
 #[cfg(test)]

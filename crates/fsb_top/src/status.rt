@@ -16,8 +16,9 @@ use vcd_read::{VcdCause, VcdFault};
 /// How a call of `bench` ended.
 #[derive(Clone, Copy, Debug, PartialEq, Eq)]
 pub enum Status {
-    /// Everything was read and written; of a check, that the dump breaks no phase rule; of a search, that the trigger matches;
-    /// of an audit, that the dump breaks no phase rule and has no foul clock.
+    /// Everything was read and written; of a check or a table, that the dump breaks no phase rule; of
+    /// a search, that the trigger matches; of an audit, that the dump breaks no phase rule and has no
+    /// foul clock.
     Done,
     /// The dump breaks a phase rule; this is the first clock with a broken rule and, there, the least rule. Of an audit, that
     /// no clock before is foul.
@@ -38,7 +39,8 @@ pub enum Status {
     /// Memory was lacking; nothing was written.
     OutOfMemory,
     /// The bench file is longer than 4,194,304 bytes; the dump is longer than 2^40 bytes, or has more than 2^32 - 1 samples
-    /// before its first fault, or in all of it where it has no fault.
+    /// before its first fault, or in all of it where it has no fault. Of a table, the dump is longer
+    /// than 268,435,456 bytes, or has no fault and more than 200,000 samples.
     TooLong,
     /// The dump has a foul clock, and breaks no phase rule up to it; this is the first.
     Foul(FoulAt),

@@ -1,6 +1,7 @@
 use crate::{Status, Words, bench, code, status_line};
 use fsb_audit::FoulAt;
 use fsb_io::{MemSink, MemSource, Memory};
+use fsb_probe::Probe;
 use fsb_rules::Broken;
 use fsb_script::{Cause, ScriptFault};
 use std::alloc::{AllocError, Global};
@@ -13,6 +14,7 @@ mod counts;
 mod faults;
 mod judged;
 mod looked;
+mod shown;
 mod texts;
 
 /// A command line that names a bench file and a dump.
@@ -72,18 +74,29 @@ pub(crate) struct Ended {
     pub(crate) dump: MemSink,
 }
 
-/// Calls `bench` on the words and the text of a bench file, with room for all that is written.
+/// Calls `bench` without probes on the words and the text of a bench file, with room for all that is written.
 pub(crate) fn call_bench(
     alloc: Global,
     list: &[&str],
     text: &[u8],
     fails: Fails<'_>,
 ) -> Result<Ended, Memory> {
+    call_with(alloc, list, text, fails, Vec::new(alloc))
+}
+
+/// The same with these probes.
+pub(crate) fn call_with(
+    alloc: Global,
+    list: &[&str],
+    text: &[u8],
+    fails: Fails<'_>,
+    probes: Vec<Box<dyn Probe>>,
+) -> Result<Ended, Memory> {
     let words = words_of(alloc, list)?;
     let mut source = MemSource::new(alloc, text, fails.source)?;
     let mut out = MemSink::new(alloc, 1_000, fails.out)?;
     let mut dump = MemSink::new(alloc, 10_000, fails.dump)?;
-    let status = bench(alloc, &words, &mut source, &mut out, &mut dump);
+    let status = bench(alloc, &words, &mut source, &mut out, &mut dump, probes);
     Ok(Ended {
         status,
         source,
@@ -145,7 +158,7 @@ fn empty_run(rt: HostRuntime) -> Result<(), Fail> {
 }
 
 /// Words that ask for nothing.
-const BAD_WORDS: [&[&str]; 20] = [
+const BAD_WORDS: [&[&str]; 23] = [
     &[],
     &["run"],
     &["run", "-x"],
@@ -157,6 +170,9 @@ const BAD_WORDS: [&[&str]; 20] = [
     &["audit"],
     &["audit", "-x"],
     &["audit", "first.vcd", "second.vcd"],
+    &["show"],
+    &["show", "-x"],
+    &["show", "first.vcd", "second.vcd"],
     &["judge", "first.vcd"],
     &["runs", "first.bench"],
     &["ru", "first.bench"],

@@ -1,5 +1,5 @@
 //! The top call.
-ghost use Rattle.std.specs.Prelude.{◌≡◌, ◌<◌, ◌≤◌, ◌↔◌, IsTrue, Option, None, Some, List, ℕ, length};
+ghost use Rattle.std.specs.Prelude.{◌≡◌, ◌<◌, ◌≤◌, ◌↔◌, IsTrue, Option, None, Some, List, ℕ, length, map};
 ghost use Rattle.std.specs.Option.{option_map, ForSome};
 ghost use Rattle.fsb_access.specs.Replay.{Served};
 ghost use Rattle.fsb_access.specs.ScriptOrder.{InOrder};
@@ -8,6 +8,7 @@ ghost use Rattle.fsb_script.specs.Drafts.{BenchText};
 ghost use Rattle.fsb_script.specs.Plans.{PlanView};
 ghost use Rattle.fsb_script.specs.View.{plan_view};
 ghost use Rattle.fsb_script.specs.declared.fault.ScriptFault.{ScriptFault};
+ghost use Rattle.fsb_show.specs.ShowText.{show_text};
 ghost use Rattle.fsb_signal.specs.Parity.{marks_in};
 ghost use Rattle.fsb_signal.specs.declared.marks.Marks.{Marks};
 ghost use Rattle.fsb_signal.specs.declared.sample.Sample.{Sample};
@@ -15,8 +16,8 @@ ghost use Rattle.fsb_trigger.specs.TriggerSteps.{StepView};
 ghost use Rattle.fsb_wave.specs.WaveText.{wave_text};
 ghost use Rattle.vcd_grammar.specs.declared.fault.VcdFault.{VcdFault};
 ghost use Rattle.vcd_grammar.specs.Reading.{Reads};
-ghost use Rattle.fsb_top.specs.Form.{Form, form_of, run, check, audit, find, wave, looks_only};
-ghost use Rattle.fsb_top.specs.Outcome.{plan_log, plan_trace, plan_dump, HasRun, HasEnded, IsSilent, IsOfRun, IsOfCheck, IsLogged, IsTold, IsDumped, HasPlan, HasVerdict, IsBadBench, IsBadDump, IsTooLong, FromRun, FromLook, IsOfAudit, IsOfFind, IsOfWave, HasFinding, HasLooked, TellsMatch, TellsNothing, IsWritten, finding_text, match_text};
+ghost use Rattle.fsb_top.specs.Form.{Form, form_of, run, check, audit, show, find, wave, looks_only};
+ghost use Rattle.fsb_top.specs.Outcome.{plan_log, plan_trace, plan_dump, HasRun, HasEnded, IsSilent, IsOfRun, IsOfCheck, IsLogged, IsTold, IsDumped, HasPlan, HasVerdict, IsBadBench, IsBadDump, IsTooLong, FromRun, FromLook, IsOfAudit, IsOfFind, IsOfWave, HasFinding, HasTable, IsBadTable, HasLooked, TellsMatch, TellsNothing, IsWritten, finding_text, match_text};
 ghost use Rattle.fsb_top.specs.Refused.{refusal_status};
 
 use crate::audit::audit_file;
@@ -26,27 +27,34 @@ use crate::count::access_count;
 use crate::find::find_file;
 use crate::play::{Played, RunOutput, play};
 use crate::read::{Refusal, read_plan};
+use crate::show::show_file;
 use crate::simulate::{simulate_log, simulate_trace};
 use crate::status::Status;
 use crate::wave::wave_file;
 use crate::words::Words;
 use fsb_io::{Memory, Sink, Source};
+use fsb_probe::Probe;
 use fsb_script::Plan;
 use std::alloc::Global;
 use vcd_laws::its_dump_reads_back;
 
-/// Does what the words ask for: runs the bench file in `source`, and writes the log to `out` and the dump, where one is
-/// named, to `dump`; or checks or audits the dump in `source` by its own marks, searches it for a trigger or draws a range of its
-/// clocks, and writes the line of the verdict, of the audit or of the search, or the wave, to `out`.
+/// Does what the words ask for: runs the bench file in `source`, and writes the log to `out` and
+/// the dump, where one is named, to `dump`; or checks or audits the dump in `source` by its own
+/// marks, tells it as a table with the totals of the probes, searches it for a trigger or draws a
+/// range of its clocks, and writes the line of the verdict, of the audit or of the search, the
+/// table or the wave, to `out`.
 ///
-/// Every status but `OutOfMemory` has its cause: the words, a count of faults that rose in this call, the length of the
-/// file, its first fault, or the verdict. What is said of bytes and names holds for a source and sinks that tell them.
+/// Every status but `OutOfMemory` has its cause: the words, a count of faults that rose in this
+/// call, the length of the file, its first fault, or the verdict. What is said of bytes and names
+/// holds for a source and sinks that tell them.
+#[tactic(auto, unfolding(crate::specs::Form::form_of_two, crate::specs::Form::form_of_three, crate::specs::Form::form_of_four))]
 pub fn bench<S: Source, O: Sink, D: Sink>(
     alloc: Global,
     words: &Words,
     source: &mut S,
     out: &mut O,
     dump: &mut D,
+    probes: Vec<Box<dyn Probe>>,
 ) -> Status
     ensures bad_words { (result ≡ Status.BadWords) ↔ (form_of words.now ≡ None) }
     ensures not_called { form_of words.now ≡ None → source.new ≡ source.old }
@@ -62,18 +70,21 @@ pub fn bench<S: Source, O: Sink, D: Sink>(
     ensures bad_dump { IsTrue S.tells → (fault : VcdFault) → result ≡ Status.BadDump fault →
         FromLook (form_of words.now)
         (λ name. IsBadDump name (S.holds source.old) (S.left source.new) (S.begun_as source.new)
+        fault)
+        (λ name. IsBadTable name (S.holds source.old) (S.left source.new) (S.begun_as source.new)
         fault) }
     ensures write_fault { result ≡ Status.WriteFault → Rose (O.faults out.old) (O.faults out.new) }
     ensures dump_fault { result ≡ Status.DumpFault → Rose (D.faults dump.old) (D.faults dump.new) }
 
     // What was read: where a run was made, a bench file's plan, whose log one byte memory serves and its scripts order;
-    // where a dump was judged, audited, searched or drawn, the dump of a trace, of which the status tells the verdict, what is
+    // where a dump was judged, audited, told, searched or drawn, the dump of a trace, of which the status tells the verdict, what is
     // found first, or whether the trigger matches.
     ensures holds_stays { IsTrue S.tells → S.holds source.new ≡ S.holds source.old }
     ensures of_run { (name : List ℕ) (dump : Option (List ℕ)) →
         form_of words.now ≡ Some (run name dump) → IsOfRun result }
     ensures of_check { (name : List ℕ) → form_of words.now ≡ Some (check name) → IsOfCheck result }
     ensures of_audit { (name : List ℕ) → form_of words.now ≡ Some (audit name) → IsOfAudit result }
+    ensures of_show { (name : List ℕ) → form_of words.now ≡ Some (show name) → IsOfCheck result }
     ensures of_find { (name : List ℕ) (steps : List StepView) →
         form_of words.now ≡ Some (find name steps) → IsOfFind result }
     ensures of_wave { (name : List ℕ) (from to : ℕ) → form_of words.now ≡ Some (wave name from to) →
@@ -87,6 +98,9 @@ pub fn bench<S: Source, O: Sink, D: Sink>(
     ensures audited { IsTrue S.tells → (name : List ℕ) → form_of words.now ≡ Some (audit name) →
         HasRun result →
         HasFinding result name (S.holds source.old) (S.left source.new) (S.begun_as source.new) }
+    ensures tabled { IsTrue S.tells → (name : List ℕ) → form_of words.now ≡ Some (show name) →
+        HasRun result →
+        HasTable result name (S.holds source.old) (S.left source.new) (S.begun_as source.new) }
     ensures searched { IsTrue S.tells → (name : List ℕ) (steps : List StepView) →
         form_of words.now ≡ Some (find name steps) →
         HasRun result →
@@ -112,6 +126,11 @@ pub fn bench<S: Source, O: Sink, D: Sink>(
         Reads (S.holds source.old) m w →
         (name : List ℕ) → form_of words.now ≡ Some (audit name) →
         IsWritten result (finding_text m w) (O.holds out.old) (O.holds out.new) }
+    ensures tabled_text { IsTrue S.tells → IsTrue O.tells → (m : Marks) (w : List Sample) →
+        Reads (S.holds source.old) m w →
+        (name : List ℕ) → form_of words.now ≡ Some (show name) →
+        IsWritten result (show_text (map (λ p. weight p) probes.items) m w) (O.holds out.old)
+        (O.holds out.new) }
     ensures searched_text { IsTrue S.tells → IsTrue O.tells → (m : Marks) (w : List Sample) →
         Reads (S.holds source.old) m w →
         (name : List ℕ) (steps : List StepView) → form_of words.now ≡ Some (find name steps) →
@@ -138,6 +157,10 @@ pub fn bench<S: Source, O: Sink, D: Sink>(
         Some(Command::Run { bench, dump: name }) => run_file(alloc, bench, name, source, out, dump),
         Some(Command::Check { dump: name }) => check_file(alloc, name, source, out),
         Some(Command::Audit { dump: name }) => audit_file(alloc, name, source, out),
+        Some(Command::Show { dump: name }) => {
+            let mut probes = probes;
+            show_file(alloc, name, source, out, &mut probes)
+        }
         Some(
             Command::Find {
                 dump: name,

@@ -1,5 +1,5 @@
 -- The least match, as one sample is added.
-use Rattle.std.proofs.Common.{◌≡◌, ◌+◌, ◌-◌, ℕ, suc, Bool, true, false, cond, Option, Some, None, List, [], ◌∷◌, ◌++◌, length, option_map, refl, sym, ap, ◌∙◌, arith}
+use Rattle.std.proofs.Common.{◌≡◌, ◌-◌, ℕ, suc, Bool, true, false, cond, Option, Some, None, List, [], ◌∷◌, ◌++◌, length, option_map, is_some, take, refl, sym, ap, ◌∙◌, arith}
 use Rattle.std.proofs.lemmas.List.{length_push}
 use Rattle.fsb_count.specs.Clocks.{first_where}
 use Rattle.fsb_count.proofs.Interface.{first_where-same, first_where-found}
@@ -47,7 +47,7 @@ least-stays steps h s xs e =
     ∙ ap Some (chain-before steps h s i p.0 (let k = found.0 in omega (arith, k)) ∙ p.2)
 
 -- the first match is the one at the new sample
-least-new : (steps : List StepView) (h : List Sample) (s : Sample) → least_match steps h ≡ None → least_match steps (h ++ s ∷ []) ≡ newest_match steps (h ++ s ∷ []) (length steps - 1)
+pub least-new : (steps : List StepView) (h : List Sample) (s : Sample) → least_match steps h ≡ None → least_match steps (h ++ s ∷ []) ≡ newest_match steps (h ++ s ∷ []) (length steps - 1)
 unfolding least_match
 least-new steps h s e =
     let v : List Sample = h ++ s ∷ [] in
@@ -62,8 +62,7 @@ least-new steps h s e =
     ∙ map_cond (chain steps v i) (matches steps v i n) n
     ∙ sym (newest_match-is steps h s i)
 
--- what was found at the new sample is the least match
-pub least-from : (steps : List StepView) (h : List Sample) (s : Sample) (k : ℕ) (found : Option (List ℕ)) → k + 1 ≡ length steps → kept (k + 1) found ≡ newest_match steps (h ++ s ∷ []) k → least_match steps h ≡ None → kept (length steps) found ≡ least_match steps (h ++ s ∷ [])
-least-from steps h s k found last is none =
-    let at : k ≡ length steps - 1 = omega (arith, last) in
-    ap (λ m. kept m found) (sym last) ∙ is ∙ ap (newest_match steps (h ++ s ∷ [])) at ∙ sym (least-new steps h s none)
+-- what was found before stays found
+pub found-stays : (steps : List StepView) (h : List Sample) (s : Sample) (n : ℕ) (found : Option (List ℕ)) → is_some found ≡ true → kept n found ≡ least_match steps h → kept n found ≡ least_match steps (h ++ s ∷ [])
+found-stays steps h s n None e is = absurd (let no : ⊥ = cc in no)
+found-stays steps h s n (Some clocks) e is = sym (least-stays steps h s (take n clocks) (sym is))

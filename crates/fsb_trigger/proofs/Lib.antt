@@ -2,6 +2,8 @@ pub mod WorkedRows
 pub mod Last
 pub mod Grows
 pub mod Newest
+pub mod Taken
+pub mod Asks
 pub mod Least
 pub mod Sixteen
 pub mod Cut

@@ -9,7 +9,7 @@ use Rattle.fsb_signal.specs.declared.sample.Sample.{Sample}
 use Rattle.fsb_trigger.specs.declared.trigger.TriggerStep.{TriggerStep}
 use Rattle.fsb_trigger.specs.TriggerSteps.{StepView, view_of, step_holds, keeps_bound}
 use Rattle.fsb_trigger.specs.Match.{matches, chain, newest_match, latest}
-use Rattle.fsb_trigger.specs.Hunt.{KeepsLatest, kept}
+use Rattle.fsb_trigger.specs.Hunt.{KeepsAt, kept}
 use Rattle.fsb_trigger.proofs.Last.{last_where-same, last_where-found}
 use Rattle.fsb_trigger.proofs.Grows.{matches-first, matches-next, matches-before, chain-before}
 
@@ -122,9 +122,9 @@ gone steps h s (suc i) step some e t is =
     sym (newest_match-gone steps h s i step e t (ap (latest steps h) at ∙ is))
 
 -- what is kept of a step
-pub keeps-at : (chains : List (Option (List ℕ))) (steps : List StepView) (h : List Sample) (i : ℕ) → KeepsLatest chains steps h → i < length steps → kept (i + 1) (get_or chains i None) ≡ latest steps h i
-keeps-at chains steps h i k l =
-    let p = some_map (kept (i + 1)) (slice_get chains i) (latest steps h i) (k.each i l) in
+pub keeps-at : (chains : List (Option (List ℕ))) (steps : List StepView) (h : List Sample) (i : ℕ) → KeepsAt chains steps h i → kept (i + 1) (get_or chains i None) ≡ latest steps h i
+keeps-at chains steps h i k =
+    let p = some_map (kept (i + 1)) (slice_get chains i) (latest steps h i) k in
     ap (kept (i + 1)) (get_or_from_slice_get chains i p.0 None p.1) ∙ p.2
 
 -- the step of a number, as the code reads it

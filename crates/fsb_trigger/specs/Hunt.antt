@@ -18,10 +18,17 @@ Chain = Option (List ℕ)
 abbrev pub kept : ℕ → Chain → Chain
 kept n chain = option_map (take n) chain
 
+-- the latest match of the steps up to step i is kept
+abbrev pub KeepsAt : List Chain → List StepView → List Sample → ℕ → Type 0
+KeepsAt chains steps h i = option_map (kept (i + 1)) (slice_get chains i) ≡ Some (latest steps h i)
+
+-- for each of the first n steps the latest match of the steps up to it is kept
+abbrev pub KeepsFirst : ℕ → List Chain → List StepView → List Sample → Type 0
+KeepsFirst n chains steps h = (i : ℕ) → i < n → KeepsAt chains steps h i
+
 -- for each step the latest match of the steps up to it is kept
 pub record KeepsLatest (chains : List Chain) (steps : List StepView) (h : List Sample) : Type 0 where
-  pub each : (i : ℕ) → i < length steps
-      → option_map (kept (i + 1)) (slice_get chains i) ≡ Some (latest steps h i)
+  pub each : KeepsFirst (length steps) chains steps h
 
 -- the hunt searches for these steps and was fed these samples: it found the least match, and as
 -- long as there is none it keeps the latest match of the steps up to each

@@ -1,3 +1,4 @@
+pub mod Asked
 pub mod TriggerSteps
 pub mod Match
 pub mod Grammar

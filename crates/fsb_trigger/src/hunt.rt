@@ -1,10 +1,10 @@
 //! The search for a trigger, sample by sample.
 
-ghost use Rattle.std.specs.Prelude.{◌≡◌, ◌<◌, ◌+◌, ◌^◌, ◌++◌, ◌∷◌, [], ℕ, List, Some, None, ◌-◌, if◌then◌else◌, length, option_map, slice_index, slice_set};
+ghost use Rattle.std.specs.Prelude.{◌≡◌, ◌≢◌, ◌<◌, ◌≤◌, ◌+◌, ◌^◌, ◌++◌, ◌∷◌, [], ℕ, List, Some, None, ◌-◌, if◌then◌else◌, length, option_map, slice_get, slice_index, slice_set};
 ghost use Rattle.fsb_signal.specs.declared.sample.Sample.{Sample};
 ghost use Rattle.fsb_trigger.specs.TriggerSteps.{StepView, keeps_bound, view_of};
-ghost use Rattle.fsb_trigger.specs.Match.{latest, least_match, newest_match};
-ghost use Rattle.fsb_trigger.specs.Hunt.{KeepsLatest, Stands, kept, steps_in};
+ghost use Rattle.fsb_trigger.specs.Match.{least_match, newest_match};
+ghost use Rattle.fsb_trigger.specs.Hunt.{KeepsAt, KeepsFirst, KeepsLatest, Stands, kept, steps_in};
 
 use crate::clocks::{Clocks, Found};
 use crate::trigger::{Trigger, TriggerStep};
@@ -49,26 +49,29 @@ impl Hunt {
         ensures stands { (steps : List StepView) (h : List Sample) → Stands self.old steps h
             → Stands self.new steps (h ++ sample.now ∷ []) }
     {
-        let latest = self.latest_with(sample);
-        let found = self.found_with(sample);
-        self.latest = latest;
-        self.found = found;
+        self.look(sample);
         self.count += 1;
         self.told()
     }
 
-    // What is found, once this sample is fed.
-    fn found_with(&self, sample: &Sample) -> Option<[u32; 8]>
-        requires { self.now.count < 2 ^ 32 }
-        ensures least { (h : List Sample) → Stands self.now (steps_in self.now.trigger) h
-            → kept (length (steps_in self.now.trigger)) result
-            ≡ least_match (steps_in self.now.trigger) (h ++ sample.now ∷ []) }
-        ensures none_before { result ≡ None → self.now.found ≡ None }
+    // Looks for the least match in the sample, as long as there was none before.
+    fn look(&mut self, sample: &Sample)
+        requires { self.old.count < 2 ^ 32 }
+        ensures finds { (h : List Sample) → Stands self.old (steps_in self.old.trigger) h
+            → kept (length (steps_in self.old.trigger)) self.new.found
+            ≡ least_match (steps_in self.old.trigger) (h ++ sample.now ∷ []) }
+        ensures keeps { (h : List Sample) → Stands self.old (steps_in self.old.trigger) h
+            → self.new.found ≡ None
+            → KeepsLatest self.new.latest (steps_in self.old.trigger) (h ++ sample.now ∷ []) }
+        ensures trigger_stays { self.new.trigger ≡ self.old.trigger }
+        ensures count_stays { self.new.count ≡ self.old.count }
     {
-        match self.found {
-            Some(chain) => Some(chain),
-            None => self.chain_to(self.trigger.steps.len() - 1, sample),
+        if self.found.is_some() {
+            return;
         }
+        let clock = self.count as u32;
+        let found = match_at(&self.trigger, &mut self.latest, clock, sample);
+        self.found = found;
     }
 
     // What was found.
@@ -83,55 +86,98 @@ impl Hunt {
             None => None,
         }
     }
+}
 
-    // The latest matches, once this sample is fed.
-    fn latest_with(&self, sample: &Sample) -> [Option<[u32; 8]>; 8]
-        requires { self.now.count < 2 ^ 32 }
-        ensures { (h : List Sample) → self.now.count ≡ length h
-            → KeepsLatest self.now.latest (steps_in self.now.trigger) h
-            → KeepsLatest result (steps_in self.now.trigger) (h ++ sample.now ∷ []) }
-    {
-        let mut latest = self.latest;
-        for i in 0..self.trigger.steps.len() {
-            latest[i] = self.latest_to(i, sample);
-        }
-        latest
+// The clocks of the match of all the steps at the clock, if there is one there. Without one the latest matches of the steps
+// are then those with the sample, which is that of the clock.
+fn match_at(
+    trigger: &Trigger,
+    latest: &mut [Option<[u32; 8]>; 8],
+    clock: u32,
+    sample: &Sample,
+) -> Option<[u32; 8]>
+    ensures newest { (h : List Sample) → clock ≡ length h
+        → KeepsLatest latest.old (steps_in trigger.now) h
+        → kept (length (steps_in trigger.now)) result
+        ≡ newest_match (steps_in trigger.now) (h ++ sample.now ∷ [])
+        (length (steps_in trigger.now) - 1) }
+    ensures keeps { (h : List Sample) → clock ≡ length h
+        → KeepsLatest latest.old (steps_in trigger.now) h → result ≡ None
+        → KeepsLatest latest.new (steps_in trigger.now) (h ++ sample.now ∷ []) }
+{
+    let last = trigger.steps.len() - 1;
+    let found = chain_to(trigger, latest, last, clock, sample);
+    take_below(trigger, latest, last, clock, sample);
+    found
+}
+
+// Takes the sample of the clock into the latest matches of the steps below this one, from the last to the first: each goes
+// on from what the step before it had until then.
+fn take_below(
+    trigger: &Trigger,
+    latest: &mut [Option<[u32; 8]>; 8],
+    end: usize,
+    clock: u32,
+    sample: &Sample,
+)
+    requires { end ≤ length (steps_in trigger.now) }
+    ensures keeps { (h : List Sample) → clock ≡ length h
+        → KeepsFirst end latest.old (steps_in trigger.now) h
+        → KeepsFirst end latest.new (steps_in trigger.now) (h ++ sample.now ∷ []) }
+    ensures rest_stays { (k : ℕ) → end ≤ k
+        → slice_get latest.new k ≡ slice_get latest.old k }
+{
+    let mut i = end;
+    while i > 0 {
+        i -= 1;
+        take_at(trigger, latest, i, clock, sample);
     }
+}
 
-    // The latest match of the steps up to step i, once this sample is fed.
-    fn latest_to(&self, i: usize, sample: &Sample) -> Option<[u32; 8]>
-        requires step { i < length (steps_in self.now.trigger) }
-        requires short { self.now.count < 2 ^ 32 }
-        ensures { (h : List Sample) → self.now.count ≡ length h
-            → KeepsLatest self.now.latest (steps_in self.now.trigger) h
-            → kept (i + 1) result ≡ latest (steps_in self.now.trigger) (h ++ sample.now ∷ []) i }
-    {
-        match self.chain_to(i, sample) {
-            Some(chain) => Some(chain),
-            None => self.latest[i],
-        }
-    }
+// Takes the sample of the clock into the latest match of the steps up to step i.
+fn take_at(
+    trigger: &Trigger,
+    latest: &mut [Option<[u32; 8]>; 8],
+    i: usize,
+    clock: u32,
+    sample: &Sample,
+)
+    requires { i < length (steps_in trigger.now) }
+    ensures keeps { (h : List Sample) → clock ≡ length h
+        → KeepsFirst (i + 1) latest.old (steps_in trigger.now) h
+        → KeepsAt latest.new (steps_in trigger.now) (h ++ sample.now ∷ []) i }
+    ensures rest_stays { (k : ℕ) → k ≢ i
+        → slice_get latest.new k ≡ slice_get latest.old k }
+{
+    let Some(chain) = chain_to(trigger, latest, i, clock, sample) else {
+        return;
+    };
+    latest[i] = Some(chain);
+}
 
-    // The clocks of the match of the steps up to step i at the clock of this sample, if there is one there.
-    fn chain_to(&self, i: usize, sample: &Sample) -> Option<[u32; 8]>
-        requires step { i < length (steps_in self.now.trigger) }
-        requires short { self.now.count < 2 ^ 32 }
-        ensures { (h : List Sample) → self.now.count ≡ length h
-            → KeepsLatest self.now.latest (steps_in self.now.trigger) h
-            → kept (i + 1) result
-            ≡ newest_match (steps_in self.now.trigger) (h ++ sample.now ∷ []) i }
-    {
-        let step = &self.trigger.steps.as_slice()[i];
-        let clock = self.count as u32;
-        if !step.holds(sample) {
-            None
-        } else if i == 0 {
-            Some([clock, 0, 0, 0, 0, 0, 0, 0])
-        } else {
-            match self.latest[i - 1] {
-                Some(before) => chain_behind(&before, i, clock, step),
-                None => None,
-            }
+// The clocks of the match of the steps up to step i at the clock, if there is one there; the sample is that of the clock.
+fn chain_to(
+    trigger: &Trigger,
+    latest: &[Option<[u32; 8]>; 8],
+    i: usize,
+    clock: u32,
+    sample: &Sample,
+) -> Option<[u32; 8]>
+    requires { i < length (steps_in trigger.now) }
+    ensures { (h : List Sample) → clock ≡ length h
+        → KeepsFirst i latest.now (steps_in trigger.now) h
+        → kept (i + 1) result
+        ≡ newest_match (steps_in trigger.now) (h ++ sample.now ∷ []) i }
+{
+    let step = &trigger.steps.as_slice()[i];
+    if !step.holds(sample) {
+        None
+    } else if i == 0 {
+        Some([clock, 0, 0, 0, 0, 0, 0, 0])
+    } else {
+        match &latest[i - 1] {
+            Some(before) => chain_behind(before, i, clock, step),
+            None => None,
         }
     }
 }

@@ -65,10 +65,7 @@ fn read_step(text: &str) -> Option<TriggerStep>
 {
     match behind_first(text, '<') {
         Some(rest) => read_bounded_step(rest),
-        None => Some(TriggerStep {
-            bound: None,
-            tests: read_tests(text)?,
-        }),
+        None => Some(TriggerStep::new(None, read_tests(text)?)),
     }
 }
 
@@ -80,10 +77,7 @@ fn read_bounded_step(text: &str) -> Option<TriggerStep>
     let (digits, tests) = cut(text, ':')?;
     let bound = read_bound(digits)?;
     let tests = read_tests(tests)?;
-    Some(TriggerStep {
-        bound: Some(bound),
-        tests,
-    })
+    Some(TriggerStep::new(Some(bound), tests))
 }
 
 // The tests of a step.

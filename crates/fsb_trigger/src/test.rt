@@ -1,5 +1,6 @@
 //! What a step asks of a sample.
 ghost use Rattle.std.specs.Prelude.{◌≡◌};
+ghost use Rattle.fsb_trigger.specs.Asked.{asked_line};
 ghost use Rattle.fsb_trigger.specs.TriggerSteps.{is_word, test_holds};
 
 use fsb_signal::{Lines, Sample, Word};
@@ -26,6 +27,16 @@ impl Default for Test {
 }
 
 impl Test {
+    /// The lines that it asks to be asserted.
+    pub(crate) fn asked(&self) -> Lines
+        ensures { result.0 ≡ asked_line self.now }
+    {
+        match *self {
+            Test::Asserted(line) => line,
+            _ => Lines(0),
+        }
+    }
+
     /// Whether the sample has it.
     #[tactic(auto, unfolding(crate::specs::TriggerSteps::test_holds))]
     pub fn holds(&self, sample: &Sample) -> bool

@@ -6,7 +6,8 @@ ghost use Rattle.std.specs.Process.{exit_status};
 ghost use Rattle.std.specs.String.{string_bytes};
 ghost use Rattle.fsb_top.specs.StatusText.{code_of};
 
-use fsb_io::{FileSink, FileSource, StdoutSink};
+use fsb_io::{FileSink, FileSource, Memory, StdoutSink};
+use fsb_probe::{DataProbe, LineProbe, Probe};
 use fsb_top::{Status, Words, bench, code, status_line};
 use std::alloc::Global;
 use std::env::Args;
@@ -16,6 +17,11 @@ use std::rt::{Env, Files};
 
 // The place of the word that names the file to read.
 const FILE: usize = 1;
+
+// The numbers of the control lines ADS# and DRDY#.
+const ADS: u8 = 7;
+
+const DRDY: u8 = 17;
 
 fn main(rt: HostRuntime) -> ExitCode {
     let status = run(&rt);
@@ -28,10 +34,22 @@ fn run(rt: &(impl Files + Env + Print + AllocGlobal)) -> Status {
         Ok(words) => words,
         Err(status) => return status,
     };
+    let Ok(probes) = probes(rt.alloc()) else {
+        return Status::OutOfMemory;
+    };
     let mut source = FileSource::new(rt);
     let mut out = StdoutSink::new(rt);
     let mut dump = FileSink::new(rt, words.word(FILE));
-    bench(rt.alloc(), &words, &mut source, &mut out, &mut dump)
+    bench(rt.alloc(), &words, &mut source, &mut out, &mut dump, probes)
+}
+
+// The probes of a table: of ADS#, of DRDY# and of the data.
+fn probes(alloc: Global) -> Result<Vec<Box<dyn Probe>>, Memory> {
+    let mut probes: Vec<Box<dyn Probe>> = Vec::new(alloc);
+    probes.push(Box::new(alloc, LineProbe::new(ADS))?)?;
+    probes.push(Box::new(alloc, LineProbe::new(DRDY))?)?;
+    probes.push(Box::new(alloc, DataProbe::new())?)?;
+    Ok(probes)
 }
 
 // The words that the program was called with.

@@ -1,0 +1,26 @@
+#!/bin/sh
+# Measures how long it takes to show a dump as a table: the dump of check_dump.sh, cut to nearly the 200,000 samples that a table
+# may have, through the built program (crates/p6bench/out/p6bench, made by `rt run` or `rt ci`).
+# Usage: bench/show_dump.sh [PROGRAM]
+set -eu
+program=$(realpath -- "${1:-$(dirname "$0")/../crates/p6bench/out/p6bench}")
+cd "$(dirname "$0")/.."
+[ -x "$program" ] || { echo "no program at $program: build it by 'rt run' in crates/p6bench" >&2; exit 2; }
+folder=$(mktemp -d)
+trap 'rm -rf "$folder"' EXIT
+python3 - "$program" "$folder" <<'PY'
+import subprocess, sys, time
+sys.path.insert(0, "bench")
+from common import large_dump, most_memory, row
+program, folder = sys.argv[1], sys.argv[2]
+large, small, clock = large_dump(program, folder, 5_900_000)
+assert 190_000 < clock <= 200_000, clock
+times = []
+for _ in range(9):
+    begin = time.perf_counter()
+    done = subprocess.run([program, "show", large], stdout=subprocess.PIPE)
+    times.append(time.perf_counter() - begin)
+    lines = done.stdout.decode().splitlines()
+    assert done.returncode == 0 and lines[-1] == f"accepted clocks={clock}", (done.returncode, lines[-1:])
+row(f"showing a dump of {clock} samples and {len(lines) - 4} requests", f"{1000 * min(times):.0f} ms", most_memory([program, "show", large]), "150 ms or less")
+PY

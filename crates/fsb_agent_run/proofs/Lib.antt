@@ -1,0 +1,11 @@
+pub mod StatesTold
+pub mod Places
+pub mod HitsMade
+pub mod VictimsNamed
+pub mod WantsMade
+pub mod QuietViews
+pub mod IdleItems
+pub mod FirstViews
+pub mod LastEntries
+pub mod PlaceSteps
+pub mod BegunWants

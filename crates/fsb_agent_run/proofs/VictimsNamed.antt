@@ -1,0 +1,101 @@
+-- The line that a view has to write back is the one that the run says.
+use Rattle.std.proofs.Common.{ℕ, ◌%◌, ◌≡◌, true, false, not, ◌&&◌, Option, Some, None, length, nat_eq, refl, sym, ap, ◌∙◌, inl, inr}
+use Rattle.std.specs.Prelude.{◌==◌}
+use Rattle.std.specs.List.{slice_index_or}
+use Rattle.std.proofs.lemmas.Bool.{and_from, and_parts, both_ways, cases_Bool, eq-eqb, eqb-true, false_from_ne_true, not-true}
+use Rattle.fsb_cache.specs.declared.held.Held.{Held}
+use Rattle.fsb_cache.specs.Sets.{held_at, only_line, slot_of, state_of_held, states}
+use Rattle.fsb_line.specs.States.{is_modified}
+use Rattle.fsb_timely.specs.Past.{Past}
+use Rattle.fsb_timely.specs.Grants.{holds_line, is_exclusive, is_rival, set_of}
+use Rattle.fsb_timely.specs.Hits.{is_dirty}
+use Rattle.fsb_timely.specs.Wants.{is_same_set, victim_of}
+use Rattle.fsb_tied.proofs.Interface.{a-victim, no-victim, rival-other, rival-set}
+use Rattle.fsb_agent_view.specs.AgentViews.{AgentView, line_state_by}
+use Rattle.fsb_agent_view.specs.Sound.{IsSound}
+use Rattle.fsb_agent_view.specs.Wanting.{dirty_other, victim_by}
+use Rattle.fsb_agent_run.specs.RunViews.{HasLinesOf, IsAgentOf}
+use Rattle.fsb_agent_run.proofs.StatesTold.{dirty-holds, modified-told}
+
+-- a line is Modified where the agent is dirty on it
+modified-by : (p : Past) (a c : ℕ) (v : AgentView) (line : ℕ) → HasLinesOf p a c c (λ line. is_dirty p a line c) v
+    → is_modified (line_state_by v line) ≡ is_dirty p a line c
+modified-by p a c v line h =
+    ap is_modified (h.states line)
+    ∙ modified-told (holds_line p a line c) (is_exclusive p a line c) (is_dirty p a line c)
+    ∙ dirty-holds p a line c
+
+-- a Modified line is what its set has
+resident : (line : ℕ) (slot : Option Held) → is_modified (state_of_held (only_line line slot)) ≡ true
+    → (held : Held) × (slot ≡ Some held) × (held.line ≡ line) × (is_modified held.state ≡ true)
+resident line None e = absurd (let no : ⊥ = cc in no)
+resident line (Some held) e = elim (cases_Bool (held.line == line)) [
+  | inl same ↦ (held, refl, eqb-true held.line line same, (let e' = rw same at e in e'))
+  | inr other ↦ absurd (let no : ⊥ = (let e' = rw other at e in cc) in no)
+]
+
+-- what is another line and Modified
+dirty-other : (line : ℕ) (held : Held) → (held.line == line) ≡ false → is_modified held.state ≡ true
+    → dirty_other line (Some held) ≡ Some held.line
+dirty-other line held apart modified = rw (apart, modified) refl
+
+-- a dirty rival of a line is what the line's set has
+named : (p : Past) (a c : ℕ) (v : AgentView) (line other : ℕ) → IsAgentOf p a v
+    → HasLinesOf p a c c (λ line. is_dirty p a line c) v → is_rival p other line ≡ true → is_dirty p a other c ≡ true
+    → victim_by v line ≡ Some other
+unfolding states held_at is_same_set set_of
+named p a c v line other is h rival dirty =
+    let modified : is_modified (line_state_by v other) ≡ true = modified-by p a c v other h ∙ dirty in
+    let there = resident other (slot_of v.lines other) modified in
+    let set : other % p.plan.cache ≡ line % p.plan.cache =
+    eqb-true (other % p.plan.cache) (line % p.plan.cache) (rival-set p other line rival) in
+    let sets : line % length v.lines ≡ other % length v.lines =
+    ap (λ n. line % n) is.cache ∙ sym set ∙ ap (λ n. other % n) (sym is.cache) in
+    let slot : slot_of v.lines line ≡ Some there.0 = ap (λ k. slice_index_or v.lines k None) sets ∙ there.1 in
+    let apart : (there.0.line == line) ≡ false =
+    false_from_ne_true (there.0.line == line) (λ e.
+    rival-other p other line rival (sym there.2 ∙ eqb-true there.0.line line e)) in
+    ap (dirty_other line) slot ∙ dirty-other line there.0 apart there.3 ∙ ap Some there.2
+
+-- what a set has, and is another line and Modified, is a dirty rival
+unnamed : (p : Past) (a c : ℕ) (v : AgentView) (line : ℕ) (held : Held) → IsSound v → IsAgentOf p a v
+    → HasLinesOf p a c c (λ line. is_dirty p a line c) v → slot_of v.lines line ≡ Some held
+    → (not (held.line == line) && is_modified held.state) ≡ true
+    → (is_rival p line held.line ≡ true) × (is_dirty p a held.line c ≡ true)
+unfolding states held_at is_rival set_of
+unnamed p a c v line held s is h slot e =
+    let parts = and_parts (not (held.line == line)) (is_modified held.state) e in
+    let here : held.line % length v.lines ≡ line % length v.lines = eqb-true _ _ (rw slot at (s.in_sets line)) in
+    let same_slot : slot_of v.lines held.line ≡ Some held = ap (λ k. slice_index_or v.lines k None) here ∙ slot in
+    let state : line_state_by v held.line ≡ held.state = rw (same_slot, eq-eqb held.line held.line refl) refl in
+    let dirty : is_dirty p a held.line c ≡ true = sym (modified-by p a c v held.line h) ∙ ap is_modified state
+    ∙ parts.1 in
+    let set : line % p.plan.cache ≡ held.line % p.plan.cache =
+    ap (λ n. line % n) (sym is.cache) ∙ sym here ∙ ap (λ n. held.line % n) is.cache in
+    let apart : nat_eq line held.line ≡ false = false_from_ne_true (nat_eq line held.line) (λ t.
+    both_ways (held.line == line) (not-true (held.line == line) parts.0)
+    (eq-eqb held.line line (sym (eqb-true line held.line t)))) in (
+      and_from (nat_eq (line % p.plan.cache) (held.line % p.plan.cache)) (not (nat_eq line held.line))
+          (eq-eqb (line % p.plan.cache) (held.line % p.plan.cache) set) (ap not apart),
+      dirty,
+    )
+
+pub victim-by : (p : Past) (a c : ℕ) (v : AgentView) (line : ℕ) → IsSound v → IsAgentOf p a v
+    → HasLinesOf p a c c (λ line. is_dirty p a line c) v → victim_by v line ≡ victim_of p a c line
+victim-by p a c v line s is h = by (victim_of p a c line) refl
+  where
+    clean : victim_of p a c line ≡ None → (slot : Option Held) → slot_of v.lines line ≡ slot
+        → dirty_other line slot ≡ None
+    clean e None f = refl
+    clean e (Some held) f =
+        let none : (not (held.line == line) && is_modified held.state) ≡ false =
+        false_from_ne_true (not (held.line == line) && is_modified held.state) (λ t.
+        let rival = unnamed p a c v line held s is h f t in
+        both_ways (is_dirty p a held.line c) (no-victim p a c line e held.line rival.0) rival.1) in
+        rw none refl
+
+    by : (o : Option ℕ) → victim_of p a c line ≡ o → victim_by v line ≡ o
+    by None e = clean e (slot_of v.lines line) refl
+    by (Some other) e =
+        let victim = a-victim p a c line other e in
+        named p a c v line other is h victim.0 victim.1

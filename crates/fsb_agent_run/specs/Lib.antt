@@ -1,0 +1,2 @@
+pub mod RunViews
+pub mod Stages

@@ -1,0 +1,104 @@
+//! Laws over the definitions: no code.
+
+ghost use Rattle.std.specs.Prelude.{◌≡◌, ◌<◌, ℕ, ◌+◌, ◌&&◌, Some, false, is_some, length, if◌then◌else◌};
+ghost use Rattle.std.specs.Option.{option_map};
+ghost use Rattle.fsb_line.specs.States.{kind_owns};
+ghost use Rattle.fsb_encode.specs.declared.request.Request.{Request};
+ghost use Rattle.fsb_timely.specs.Past.{Claim, Past};
+ghost use Rattle.fsb_timely.specs.Runs.{Run, past_of};
+ghost use Rattle.fsb_timely.specs.Timely.{Timely};
+ghost use Rattle.fsb_lawful.specs.Beginning.{KeepsBounds};
+ghost use Rattle.fsb_timely.specs.Grants.{begun_at, holds_line};
+ghost use Rattle.fsb_timely.specs.Scripts.{Need, completes_at, is_idling, items_of, next_item, window};
+ghost use Rattle.fsb_agent_view.specs.AgentEvents.{first_view};
+ghost use Rattle.fsb_timely.specs.Hits.{is_dirty, is_hit, is_met, is_served};
+ghost use Rattle.fsb_timely.specs.Wants.{want_of};
+ghost use Rattle.fsb_timely.specs.Completions.{is_arrival, is_there};
+ghost use Rattle.fsb_agent_view.specs.declared.want.OwnRequest.{OwnRequest};
+ghost use Rattle.fsb_agent_view.specs.declared.want.Want.{Want};
+ghost use Rattle.fsb_agent_view.specs.AgentViews.{AgentView, answer_by, is_idle_by, is_met_by, is_served_by, next_item_by};
+ghost use Rattle.fsb_agent_view.specs.Arriving.{is_arrival_by};
+ghost use Rattle.fsb_agent_view.specs.Completing.{completed_by, is_hit_by, performed};
+ghost use Rattle.fsb_agent_view.specs.Snooping.{kind_asks};
+ghost use Rattle.fsb_agent_view.specs.Sound.{IsSound};
+ghost use Rattle.fsb_agent_view.specs.Wanting.{want_by, window_by};
+ghost use Rattle.fsb_agent_run.specs.RunViews.{CompletesItem, IsAgentOf, IsComing, IsPlacedIn};
+ghost use Rattle.fsb_agent_run.specs.Stages.{IsViewAfterHit, IsViewAfterSnoop, IsViewOf};
+
+use fsb_line::Answer;
+
+/// The view of an agent before any event is that of the run at its first clock.
+pub fn first_views_are_of_the_run()
+    ensures { (p : Past) (a : ℕ) →
+        IsViewOf p a 0 (first_view a (items_of p a) p.plan.cache p.plan.ahead p.plan.profile) }
+{}
+
+/// A view of an agent has its next item and its window, tells what is met and what is served, and
+/// idles where the agent does, as long as there is a next item: the run has nobody idle behind its
+/// last one.
+pub fn views_go_by_the_run()
+    ensures next { (p : Past) (a c : ℕ) (v : AgentView) → IsViewOf p a c v →
+        next_item_by v ≡ next_item p a c }
+    ensures window { (p : Past) (a c : ℕ) (v : AgentView) → IsViewOf p a c v →
+        window_by v c ≡ window p a c }
+    ensures idling { (p : Past) (a c : ℕ) (v : AgentView) → IsViewOf p a c v →
+        (is_some (next_item_by v) && is_idle_by v c) ≡ is_idling p a c }
+    ensures met { (p : Past) (a c : ℕ) (v : AgentView) (need : Need) → IsViewOf p a c v →
+        is_met_by v need ≡ is_met p a c need }
+    ensures served { (p : Past) (a c : ℕ) (v : AgentView) (need : Need) → IsViewOf p a c v →
+        is_served_by v need ≡ is_served p a c need }
+    ensures there { (p : Past) (a c : ℕ) (v : AgentView) (need : Need) → IsViewAfterSnoop p a c v →
+        is_served_by v need ≡ is_there p a c need }
+{}
+
+/// A view of an agent has a hit exactly where the run has one. After the snoop end it has an
+/// arrival, where a line comes, exactly where the run has one.
+pub fn hits_go_by_the_run()
+    ensures hit { (p : Past) (a c : ℕ) (v : AgentView) → IsViewOf p a c v →
+        is_hit_by v c ≡ is_hit p a c }
+    ensures arrival { (p : Past) (a c : ℕ) (v : AgentView) (out : OwnRequest) →
+        IsViewAfterSnoop p a c v →
+        IsComing p a c out.request.line (kind_owns (kind_asks out.request.kind)) →
+        is_arrival_by v c out ≡ is_arrival p a c }
+{}
+
+/// After its hit a view of an agent wants what the run says: the same request, line, kind and ID,
+/// or nothing.
+pub fn wants_go_by_the_run()
+    ensures { (p : Past) (a c : ℕ) (v : AgentView) → IsSound v → IsViewAfterHit p a c v →
+        option_map (λ (want : Want). want.request) (want_by v c) ≡ want_of p a c }
+{}
+
+/// After its hit a view of an agent answers a snoop as the run does: HITM# where the agent is dirty
+/// on the line, HIT# where it is not and holds it, and neither elsewhere.
+pub fn snoop_answers_go_by_the_run()
+    ensures { (p : Past) (a c line : ℕ) (v : AgentView) → IsViewAfterHit p a c v →
+        answer_by v line
+        ≡ (if is_dirty p a line c then Answer.Modified
+        else (if holds_line p a line c then Answer.Hit else Answer.Clean)) }
+{}
+
+/// At a clock at which the agent has no hit its view stays as it is.
+pub fn quiet_clocks_keep_views()
+    ensures { (p : Past) (a c : ℕ) (v : AgentView) → IsViewOf p a c v → is_hit p a c ≡ false →
+        IsViewAfterHit p a c (performed v c) }
+{}
+
+/// The place of a view in its script by one clock: without an entry it stays, and where the agent
+/// completes its next item the view goes on as the run does, behind the idle items that follow.
+pub fn places_of_views_step()
+    ensures quiet { (p : Past) (a c : ℕ) (v : AgentView) → completes_at p a c ≡ false →
+        IsPlacedIn p a c v → IsPlacedIn p a (c + 1) v }
+    ensures completed { (p : Past) (a c number : ℕ) (v : AgentView) → CompletesItem p a c number →
+        IsAgentOf p a v → IsPlacedIn p a c v → IsPlacedIn p a (c + 1) (completed_by v c) }
+{}
+
+/// In a timely run what begins is what its agent wants there: so the record may keep the whole
+/// request.
+pub fn begun_requests_are_wants()
+    ensures { (r : Run) (n : ℕ) (claim : Claim) → Timely r → KeepsBounds r.plan →
+        n < length r.trace →
+        begun_at (past_of r) n ≡ Some claim →
+        (request : Request) × (want_of (past_of r) claim.agent n ≡ Some request)
+        × (request.line ≡ claim.line) }
+{}

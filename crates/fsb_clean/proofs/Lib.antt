@@ -1,0 +1,14 @@
+pub mod LineChunks
+pub mod Moved
+pub mod Named
+pub mod CarriedChunks
+pub mod Answered
+pub mod MovedLines
+pub mod MovesAwaited
+pub mod PutLines
+pub mod RunsFollow
+pub mod CleanRuns
+pub mod Follows
+pub mod DataWays
+pub mod Between
+pub mod NoFouls

@@ -1,0 +1,15 @@
+pub mod Grown
+pub mod Unanswered
+pub mod HeldEntries
+pub mod ReadyDrive
+pub mod CodeDrive
+pub mod StallDrive
+pub mod RespondsNow
+pub mod OnTheWay
+pub mod MovingEntries
+pub mod DataDrive
+pub mod SnoopedNow
+pub mod EndedNow
+pub mod RespondedNow
+pub mod QueueGoesOn
+pub mod TakenTurns

@@ -1,0 +1,43 @@
+-- The victim of an agent for a line is the rival of the line on which the agent is dirty.
+use Rattle.std.proofs.Common.{ℕ, ◌≡◌, true, false, not, Option, Some, None, nat_eq, refl, ap, inl, inr}
+use Rattle.std.proofs.lemmas.Bool.{and_from, both_ways, cases_Bool, eqb-true}
+use Rattle.fsb_timely.specs.Grants.{is_rival}
+use Rattle.fsb_timely.specs.Hits.{is_dirty}
+use Rattle.fsb_timely.specs.Past.{Past}
+use Rattle.fsb_timely.specs.Runs.{past_of, Run}
+use Rattle.fsb_timely.specs.Wants.{is_same_set, victim_of}
+use Rattle.fsb_tied.proofs.Interface.{a-victim, dirty-held, no-victim, one-slot, rival-set, rival-sym, same-set, same-set-sym}
+use Rattle.fsb_run_laws.specs.Reaches.{Reaches}
+
+-- two rivals of a line that differ are rivals
+rivals : (p : Past) (line w v : ℕ) → is_rival p w line ≡ true → is_rival p v line ≡ true → nat_eq w v ≡ false
+    → is_rival p w v ≡ true
+unfolding is_rival is_same_set
+rivals p line w v e f differs =
+    let one = same-set-sym p w line (rival-set p w line e) in
+    let two = same-set-sym p v line (rival-set p v line f) in
+    and_from _ _ (same-set p line w v one two) (ap not differs)
+
+-- a dirty rival of a line is its victim
+pub victim-from : (r : Run) (a line v n : ℕ) → Reaches r n → is_rival (past_of r) v line ≡ true
+    → is_dirty (past_of r) a v n ≡ true → victim_of (past_of r) a n line ≡ Some v
+victim-from r a line v n h rival dirty = by (victim_of p a n line) refl
+  where
+    p : Past
+    p = past_of r
+
+    same : (w : ℕ) → is_rival p w line ≡ true → is_dirty p a w n ≡ true → w ≡ v
+    same w e f = elim (cases_Bool (nat_eq w v)) [
+      | inl t ↦ eqb-true w v t
+      | inr differs ↦
+          absurd (one-slot r a w v n h.timely h.bounds h.long (rivals p line w v e rival differs)
+          (inl (dirty-held p a w n f)) (inl (dirty-held p a v n dirty)))
+    ]
+
+    by : (o : Option ℕ) → victim_of p a n line ≡ o → o ≡ Some v
+    by None e = absurd (both_ways (is_dirty p a v n) (no-victim p a n line e v (rival-sym p v line rival)) dirty)
+    by (Some w) e = let k = a-victim p a n line w e in ap Some (same w k.0 k.1)
+
+pub victim-says : (r : Run) (a line v n : ℕ) → victim_of (past_of r) a n line ≡ Some v
+    → (is_rival (past_of r) v line ≡ true) × (is_dirty (past_of r) a v n ≡ true)
+victim-says r a line v n e = a-victim (past_of r) a n line v e

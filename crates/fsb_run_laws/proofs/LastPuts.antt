@@ -1,0 +1,51 @@
+-- The last request that put a line into memory, one clock further.
+use Rattle.std.proofs.Common.{ℕ, ◌+◌, ◌≡◌, true, false, Some, arith}
+use Rattle.std.proofs.lemmas.Bool.{and_from, and_parts, both_ways, false_from_ne_true}
+use Rattle.fsb_count.specs.Options.{is_before}
+use Rattle.fsb_count.proofs.Interface.{is_before-from, is_before-parts}
+use Rattle.fsb_trace.specs.Response.{end_of}
+use Rattle.fsb_trace.proofs.Interface.{live_below_count}
+use Rattle.fsb_timely.specs.Runs.{past_of, Run}
+use Rattle.fsb_tied.specs.RunBytes.{is_put_below, number_put_below}
+use Rattle.fsb_tied.proofs.Interface.{ended-before, number-put, number-stays, orderly-whole, takes_line}
+use Rattle.fsb_run_laws.specs.Reaches.{Reaches}
+use Rattle.fsb_run_laws.proofs.LastClocks.{has-end}
+
+-- a request that takes the line, and ends at n, has put it below n + 1
+takes-put : (r : Run) (line n i : ℕ) → end_of r.trace i ≡ Some n → takes_line r line i ≡ true
+    → is_put_below r (past_of r) line (n + 1) i ≡ true
+unfolding is_put_below
+takes-put r line n i e takes =
+    and_from (takes_line r line i) (is_before (end_of r.trace i) (n + 1)) takes
+    (is_before-from (end_of r.trace i) n (n + 1) e (omega arith))
+
+put-takes : (r : Run) (line n i : ℕ) → is_put_below r (past_of r) line (n + 1) i ≡ true → takes_line r line i ≡ true
+unfolding is_put_below
+put-takes r line n i put = (and_parts (takes_line r line i) (is_before (end_of r.trace i) (n + 1)) put).0
+
+pub put-stays : (r : Run) (line n : ℕ)
+    → ((i : ℕ) → end_of r.trace i ≡ Some n → is_put_below r (past_of r) line (n + 1) i ≡ false)
+    → number_put_below r line (n + 1) ≡ number_put_below r line n
+put-stays r line n none =
+    number-stays r line n (λ i e takes.
+    both_ways (is_put_below r (past_of r) line (n + 1) i) (none i e) (takes-put r line n i e takes))
+
+pub put-new : (r : Run) (line n i : ℕ) → Reaches r (n + 1) → end_of r.trace i ≡ Some n
+    → is_put_below r (past_of r) line (n + 1) i ≡ true → number_put_below r line (n + 1) ≡ Some i
+put-new r line n i h e put =
+    let w = r.trace in
+    let long = h.long in
+    let o = orderly-whole r n h.timely (omega arith) in
+    let k = has-end w i n o e in
+    number-put r line (n + 1) i (live_below_count w i k.clock k.is_clock) (put-takes r line n i put)
+    (is_before-from (end_of w i) n (n + 1) e (omega arith))
+    (λ j more. false_from_ne_true (is_before (end_of w j) (n + 1)) (λ t.
+    let x = is_before-parts (end_of w j) (n + 1) t in
+    let below = x.2 in
+    let m = has-end w j x.0 o x.1 in
+    let upto = m.upto in
+    let b = ended-before w i j m.response o more m.is_response in
+    let end = b.1 in
+    let early = b.2 in
+    let same : b.0 ≡ n = cc in
+    omega arith))

@@ -1,0 +1,17 @@
+pub mod LineStates
+pub mod GrantedStates
+pub mod DirtyVictims
+pub mod TurnsGrow
+pub mod ToldAnswers
+pub mod LastEntries
+pub mod NextItems
+pub mod CompletionClocks
+pub mod Lists
+pub mod OpenRequests
+pub mod OpenSteps
+pub mod LastClocks
+pub mod OwedRequests
+pub mod BegunIds
+pub mod BroughtLines
+pub mod LastTold
+pub mod LastPuts

@@ -1,0 +1,76 @@
+-- Lists of what some clocks give.
+use Rattle.std.proofs.Common.{ℕ, zero, suc, ◌+◌, ◌<◌, ◌≡◌, Bool, true, false, ◌&&◌, [], ◌∷◌, ◌++◌, Option, Some, None, if◌then◌else◌, refl, sym, ap, ◌∙◌, arith, add-one}
+use Rattle.std.specs.List.{filter, filter_map}
+use Rattle.std.proofs.lemmas.List.Elements.{filter-append, filter_map-append}
+use Rattle.fsb_count.specs.Clocks.{all_where}
+use Rattle.fsb_run_laws.specs.Steps.{listed}
+
+-- what a clock gives, where it passes
+abbrev pub given : {Y : Type 0} → Bool → Option Y → Option Y
+given b o = if b then o else None
+
+-- what is kept of it
+abbrev pub kept : {Y : Type 0} → (Y → Bool) → Option Y → Option Y
+kept f None = None
+kept f (Some y) = if f y then Some y else None
+
+last-given : {Y : Type 0} (g : ℕ → Option Y) (n : ℕ) (b : Bool) (o : Option Y) → g n ≡ o
+    → filter_map g (if b then n ∷ [] else []) ≡ listed (given b o)
+unfolding listed
+last-given g n false o e = refl
+last-given g n true None e = rw e refl
+last-given g n true (Some y) e = rw e refl
+
+last-kept : {Y : Type 0} (f : Y → Bool) (o : Option Y) → filter f (listed o) ≡ listed (kept f o)
+unfolding listed
+last-kept f None = refl
+last-kept f (Some y) = by (f y) refl
+  where
+    by : (b : Bool) → f y ≡ b → filter f (y ∷ []) ≡ listed (kept f (Some y))
+    by true e = rw e refl
+    by false e = rw e refl
+
+-- the clocks below n, and n
+pub given-more : {Y : Type 0} (t : ℕ → Bool) (g : ℕ → Option Y) (n : ℕ)
+    → filter_map g (all_where t (n + 1)) ≡ filter_map g (all_where t n) ++ listed (given (t n) (g n))
+unfolding all_where
+given-more t g n = rw add-one
+    (filter_map-append g (all_where t n) (if t n then n ∷ [] else [])
+    ∙ ap (λ xs. filter_map g (all_where t n) ++ xs) (last-given g n (t n) (g n) refl))
+
+-- lists of the same clocks
+pub given-alike : {Y : Type 0} (t t' : ℕ → Bool) (g g' : ℕ → Option Y) (n : ℕ)
+    → ((q : ℕ) → q < n → given (t q) (g q) ≡ given (t' q) (g' q))
+    → filter_map g (all_where t n) ≡ filter_map g' (all_where t' n)
+unfolding all_where
+given-alike t t' g g' zero h = refl
+given-alike t t' g g' (suc n) h =
+    sym (ap (λ k. filter_map g (all_where t k)) (add-one n)) ∙ given-more t g n
+    ∙ (λ i. given-alike t t' g g' n (λ q l. h q (omega arith)) i ++ listed (h n (omega arith) i))
+    ∙ sym (given-more t' g' n) ∙ ap (λ k. filter_map g' (all_where t' k)) (add-one n)
+
+-- those of them that are kept
+pub kept-alike : {Y : Type 0} (f : Y → Bool) (t t' : ℕ → Bool) (g g' : ℕ → Option Y) (n : ℕ)
+    → ((q : ℕ) → q < n → kept f (given (t q) (g q)) ≡ given (t' q) (g' q))
+    → filter f (filter_map g (all_where t n)) ≡ filter_map g' (all_where t' n)
+unfolding all_where
+kept-alike f t t' g g' zero h = refl
+kept-alike f t t' g g' (suc n) h =
+    sym (ap (λ k. filter f (filter_map g (all_where t k))) (add-one n)) ∙ ap (filter f) (given-more t g n)
+    ∙ filter-append f (filter_map g (all_where t n)) (listed (given (t n) (g n)))
+    ∙ ap (λ xs. filter f (filter_map g (all_where t n)) ++ xs) (last-kept f (given (t n) (g n)))
+    ∙ (λ i. kept-alike f t t' g g' n (λ q l. h q (omega arith)) i ++ listed (h n (omega arith) i))
+    ∙ sym (given-more t' g' n) ∙ ap (λ k. filter_map g' (all_where t' k)) (add-one n)
+
+-- what passes two tests
+pub all-both : (t f : ℕ → Bool) (n : ℕ) → filter f (all_where t n) ≡ all_where (λ q. t q && f q) n
+unfolding all_where
+all-both t f zero = refl
+all-both t f (suc n) =
+    filter-append f (all_where t n) (if t n then n ∷ [] else [])
+    ∙ (λ i. all-both t f n i ++ by (t n) (f n) refl i)
+  where
+    by : (b c : Bool) → f n ≡ c → filter f (if b then n ∷ [] else []) ≡ (if b && c then n ∷ [] else [])
+    by false c e = refl
+    by true true e = rw e refl
+    by true false e = rw e refl

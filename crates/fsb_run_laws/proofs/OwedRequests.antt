@@ -1,0 +1,174 @@
+-- The outstanding requests of symmetric agents, as the whole trace has them, and one clock further.
+use Rattle.std.proofs.Common.{ℕ, zero, suc, ◌+◌, ◌<◌, ◌≡◌, Bool, true, false, not, ◌&&◌, ◌++◌, Option, Some, None, length, nat_lt, refl, sym, ap, ◌∙◌, inl, inr, arith, add-one}
+use Rattle.std.specs.List.{filter, filter_map}
+use Rattle.std.specs.Option.{option_and_then, option_map}
+use Rattle.std.proofs.lemmas.Bool.{cases_lt, false_from_ne_true, le-ltb, lt-ltb}
+use Rattle.fsb_count.specs.Clocks.{all_where}
+use Rattle.fsb_count.specs.Options.{is_some_and}
+use Rattle.fsb_signal.specs.declared.lines.TheConstants.Lines.{ADS, AERR}
+use Rattle.fsb_signal.specs.Samples.{line_at}
+use Rattle.fsb_trace.specs.Agree.{AgreeTo}
+use Rattle.fsb_trace.specs.At.{Trace, request_at}
+use Rattle.fsb_trace.specs.Flight.{is_dropped, is_finished, is_outstanding, outstanding}
+use Rattle.fsb_trace.specs.Requests.{is_cancelled, is_reply}
+use Rattle.fsb_trace.proofs.Interface.{AgreeTo-sym, line_at-agree}
+use Rattle.fsb_laws.proofs.Interface.{request_at-last}
+use Rattle.fsb_timely.specs.Grants.{begun_at}
+use Rattle.fsb_timely.specs.Growth.{is_last_clock}
+use Rattle.fsb_timely.specs.Moments.{owing_at}
+use Rattle.fsb_timely.specs.Past.{Claim, Owing, Past}
+use Rattle.fsb_timely.specs.Runs.{moments_below, past_of, past_with, Run, run_to}
+use Rattle.fsb_timely.specs.Wants.{outstanding_at}
+use Rattle.fsb_timely.proofs.Interface.{is_outstanding-more, moment-at, moment_of}
+use Rattle.fsb_lawful.proofs.Interface.{length-cut, orderly-at, outstanding-of, run_to-agrees}
+use Rattle.fsb_tied.proofs.Interface.{begun-shown, begun-want, claim-no-reply, clock-facts, orderly-whole, owing-gives, same-both}
+use Rattle.fsb_run_laws.specs.Reaches.{Reaches}
+use Rattle.fsb_run_laws.specs.Steps.{listed, owing_begun}
+use Rattle.fsb_run_laws.proofs.LastClocks.{finished-carried, finished-late}
+use Rattle.fsb_run_laws.proofs.Lists.{given, given-alike, given-more, kept, kept-alike}
+
+-- the claim of the request that begins at q, as its agent knows it
+pub owing-claim : (p : Past) (q : ℕ) (owing : Owing) → owing_begun p q ≡ Some owing → begun_at p q ≡ Some owing.claim
+unfolding begun_at owing_begun
+owing-claim p q owing e = ap (option_map (λ owing. owing.claim)) e
+
+dropped-agree : (n : ℕ) (a b : Trace) (q : ℕ) → AgreeTo n a b → is_dropped a n q ≡ is_dropped b n q
+unfolding is_dropped is_cancelled
+dropped-agree n a b q agree =
+    elim (cases_lt (q + 3) n) [
+      | inl low ↦ ap (λ t. t && nat_lt (q + 3) n) (line_at-agree AERR n a b (q + 3) agree low)
+      | inr high ↦ rw (le-ltb (q + 3) n high) (nothing (line_at AERR a (q + 3)) (line_at AERR b (q + 3)))
+    ]
+  where
+    nothing : (x y : Bool) → (x && false) ≡ (y && false)
+    nothing true true = refl
+    nothing true false = refl
+    nothing false true = refl
+    nothing false false = refl
+
+-- a request of a symmetric agent is no reply, in the whole trace
+no-reply : (r : Run) (q : ℕ) (claim : Claim) (n : ℕ) → Reaches r n → q < n → begun_at (past_of r) q ≡ Some claim
+    → is_reply (request_at r.trace q) ≡ false
+unfolding is_reply is_some_and
+no-reply r q claim n h below begun =
+    let long = h.long in
+    let k = begun-want r q claim h.timely h.bounds (omega arith) begun in
+    elim (cases_lt (q + 1) (length r.trace)) [
+      | inl early ↦ ap is_reply (begun-shown r q claim h.timely h.bounds (omega arith) k) ∙ k.no_reply
+      | inr late ↦ ap is_reply (request_at-last r.trace q late)
+    ]
+
+-- it is outstanding in the samples up to e where it is in the whole trace
+out-same : (r : Run) (e q : ℕ) (claim : Claim) → Reaches r (e + 1) → q < e + 1 → begun_at (past_of r) q ≡ Some claim
+    → is_outstanding (run_to r e).trace (e + 1) q ≡ is_outstanding r.trace (e + 1) q
+unfolding is_outstanding
+out-same r e q claim h below begun =
+    let long = h.long in
+    let l : e < length r.trace = omega arith in
+    let w = r.trace in
+    let u = (run_to r e).trace in
+    let agree = run_to-agrees r e l in
+    let back = AgreeTo-sym (e + 1) w u agree in
+    let size = length-cut r e l in
+    let k = begun-want r q claim h.timely h.bounds (omega arith) begun in
+    let ads = line_at-agree ADS (e + 1) u w q back below in
+    let reply : is_reply (request_at u q) ≡ is_reply (request_at w q) =
+    claim-no-reply r e q claim h.timely h.bounds l below k ∙ sym (no-reply r q claim (e + 1) h below begun) in
+    let dropped = dropped-agree (e + 1) u w q back in
+    let finished = same-both (is_finished u (e + 1) q) (is_finished w (e + 1) q)
+    (finished-carried (e + 1) u w q back (orderly-at r e h.timely l) (omega arith))
+    (finished-carried (e + 1) w u q agree (orderly-whole r e h.timely l) (omega arith)) in
+    λ i. ads i && nat_lt q (e + 1) && not (reply i) && not (dropped i) && not (finished i)
+
+pub begun-field : (r : Run) (q : ℕ) → q < length r.trace → (moment_of r q).begun ≡ owing_begun (past_of r) q
+unfolding owing_begun past_of
+begun-field r q l = sym (ap (option_and_then (λ moment. moment.begun)) (moment-at r (length r.trace) q l))
+
+given-owing : (x y : Bool) (o : Option Owing) → ((owing : Owing) → o ≡ Some owing → x ≡ y) → given x o ≡ given y o
+given-owing true true o h = refl
+given-owing false false o h = refl
+given-owing true false None h = refl
+given-owing false true None h = refl
+given-owing true false (Some owing) h = absurd (let e = h owing refl in let no : ⊥ = cc in no)
+given-owing false true (Some owing) h = absurd (let e = h owing refl in let no : ⊥ = cc in no)
+
+-- the outstanding requests of symmetric agents, as the whole trace has them
+pub owed-told : (r : Run) (n : ℕ) → Reaches r n
+    → outstanding_at (past_of r) n ≡ filter_map (owing_begun (past_of r)) (outstanding r.trace n)
+unfolding outstanding outstanding_at all_where
+owed-told r zero h = refl
+owed-told r (suc e) h =
+    let p = past_of r in
+    let w = r.trace in
+    let u = (run_to r e).trace in
+    let long = h.long in
+    let here : Reaches r (e + 1) = record { timely = h.timely; bounds = h.bounds; long = omega arith } in
+    let give = owing_at (past_with r (moments_below r e) e) u e in
+    outstanding-of r e (omega arith)
+    ∙ given-alike (is_outstanding u (e + 1)) (is_outstanding w (e + 1)) give (owing_begun p) (e + 1)
+    (λ q below.
+    ap (given (is_outstanding u (e + 1) q)) (owing-gives r e q below ∙ begun-field r q (omega arith))
+    ∙ given-owing (is_outstanding u (e + 1) q) (is_outstanding w (e + 1) q) (owing_begun p q)
+    (λ owing k. out-same r e q owing.claim here below (owing-claim p q owing k)))
+    ∙ ap (λ n. filter_map (owing_begun p) (outstanding w n)) (add-one e)
+
+-- a request that begins at n is outstanding one clock on
+out-begun : (r : Run) (n : ℕ) (claim : Claim) → Reaches r (n + 1) → begun_at (past_of r) n ≡ Some claim
+    → is_outstanding r.trace (n + 1) n ≡ true
+unfolding is_outstanding is_dropped
+out-begun r n claim h begun =
+    let long = h.long in
+    let w = r.trace in
+    let k = begun-want r n claim h.timely h.bounds (omega arith) begun in
+    let reply = no-reply r n claim (n + 1) h (omega arith) begun in
+    let agree : AgreeTo (n + 1) w w = record { left = long; right = long; same = λ c l. refl } in
+    let unfinished : is_finished w (n + 1) n ≡ false = false_from_ne_true _ (λ t.
+    let late = finished-late w (n + 1) n agree (orderly-whole r n h.timely (omega arith)) (omega arith) t in
+    omega arith) in
+    rw (k.ads, lt-ltb n (n + 1) (omega arith), reply, le-ltb (n + 3) (n + 1) (omega arith), unfinished)
+    (nothing (is_cancelled w n))
+  where
+    nothing : (b : Bool) → (not (b && false) && true) ≡ true
+    nothing true = refl
+    nothing false = refl
+
+kept-by : (f : Owing → Bool) (b c : Bool) (o : Option Owing) → ((owing : Owing) → o ≡ Some owing → f owing ≡ c)
+    → kept f (given b o) ≡ given (b && c) o
+kept-by f true c None h = by c
+  where
+    by : (b : Bool) → kept f None ≡ given {Y = Owing} b None
+    by true = refl
+    by false = refl
+kept-by f false c o h = refl
+kept-by f true c (Some owing) h = rw (h owing refl) refl
+
+given-begun : (b : Bool) (o : Option Owing) → ((owing : Owing) → o ≡ Some owing → b ≡ true) → given b o ≡ o
+given-begun true o h = refl
+given-begun false None h = refl
+given-begun false (Some owing) h = absurd (let e = h owing refl in let no : ⊥ = cc in no)
+
+-- the outstanding requests, one clock further
+pub owed-step : (r : Run) (n : ℕ) → Reaches r (n + 1) → outstanding_at (past_of r) (n + 1)
+    ≡ filter (λ owing. not (is_last_clock r.trace n owing.claim.first)) (outstanding_at (past_of r) n)
+    ++ listed (owing_begun (past_of r) n)
+unfolding outstanding
+owed-step r n h =
+    let p = past_of r in
+    let w = r.trace in
+    let long = h.long in
+    let early : Reaches r n = record { timely = h.timely; bounds = h.bounds; long = omega arith } in
+    let here : ℕ → Bool = λ q. not (is_last_clock w n q) in
+    let first : (q : ℕ) (owing : Owing) → q < n → owing_begun p q ≡ Some owing → owing.claim.first ≡ q =
+    λ q owing l e.
+    (clock-facts r 0 q h.timely h.bounds (omega arith)).begins.first owing.claim (owing-claim p q owing e) in
+    let before = sym (kept-alike (λ (owing : Owing). here owing.claim.first) (is_outstanding w n)
+    (is_outstanding w (n + 1)) (owing_begun p) (owing_begun p) n
+    (λ q l. kept-by (λ owing. here owing.claim.first) (is_outstanding w n q) (here q) (owing_begun p q)
+    (λ owing e. ap here (first q owing l e))
+    ∙ ap (λ b. given b (owing_begun p q)) (sym (is_outstanding-more w n q l)))) in
+    let fresh = given-begun (is_outstanding w (n + 1) n) (owing_begun p n)
+    (λ owing e. out-begun r n owing.claim h (owing-claim p n owing e)) in
+    owed-told r (n + 1) h ∙ given-more (is_outstanding w (n + 1)) (owing_begun p) n
+    ∙ (λ i. before i ++ listed (fresh i))
+    ∙ ap (λ xs. filter (λ owing. not (is_last_clock w n owing.claim.first)) xs ++ listed (owing_begun p n))
+    (sym (owed-told r n early))

@@ -1,0 +1,130 @@
+-- What the moments of a timely run have of responses and ends is what its whole trace says.
+use Rattle.std.proofs.Common.{ℕ, ◌+◌, ◌<◌, ◌≡◌, Bool, true, false, List, [], ◌∷◌, Option, Some, None, length, nat_eq, refl, sym, ap, ◌∙◌, arith}
+use Rattle.std.specs.List.{list_any}
+use Rattle.std.specs.Option.{option_and_then}
+use Rattle.std.proofs.lemmas.Bool.{eq-eqb, eqb-true}
+use Rattle.fsb_count.specs.Options.{is_at}
+use Rattle.fsb_count.proofs.Interface.{is_at-from, is_at-some, nth_where-at}
+use Rattle.fsb_trace.specs.declared.outcome.Outcome.TheVariants.{Retried}
+use Rattle.fsb_trace.specs.At.{response_code_at, responds_at}
+use Rattle.fsb_trace.specs.Outcome.{response_clock_of, response_code_of}
+use Rattle.fsb_trace.specs.Requests.{live_clock_of, live_count}
+use Rattle.fsb_trace.specs.Response.{end_of}
+use Rattle.fsb_trace.specs.Rules.{next_response}
+use Rattle.fsb_trace.proofs.Interface.{live_below_count, response_code_at-agree}
+use Rattle.fsb_laws.specs.Orderly.{Orderly}
+use Rattle.fsb_timely.specs.Grants.{ended_requests, is_end_at}
+use Rattle.fsb_timely.specs.Moments.{moment_at, requests_ending_at, responded_at, retried_at}
+use Rattle.fsb_timely.specs.Runs.{Run, past_of, run_to}
+use Rattle.fsb_timely.proofs.Interface.{moment-at}
+use Rattle.fsb_lawful.proofs.Interface.{any-from, any-listed, run_to-agrees}
+use Rattle.fsb_coherent.specs.Awaits.{responded_in}
+use Rattle.fsb_tied.proofs.Interface.{Ends, Responds, ended-number, number-ended, number-responded, one-at-end, one-ends, one-listed, orderly-whole, responded-from, responded-number, responded-parts}
+use Rattle.fsb_run_laws.specs.Reaches.{Reaches}
+use Rattle.fsb_run_laws.specs.Steps.{retried_in}
+
+-- two that say the same are the same
+alike : (a b : Option ℕ) → ((q : ℕ) → a ≡ Some q → b ≡ Some q) → ((q : ℕ) → b ≡ Some q → a ≡ Some q) → a ≡ b
+alike None None f g = refl
+alike None (Some q) f g = g q refl
+alike (Some q) b f g = sym (f q refl)
+
+whole-responds : (r : Run) (t q : ℕ) → t < length r.trace → responded_at r.trace t ≡ Some q
+    → (i : ℕ) × Responds r i t q
+unfolding response_clock_of next_response
+whole-responds r t q l e =
+    let parts = responded-parts r.trace t q (responds_at r.trace t) refl e in (
+      next_response r.trace t,
+      record { response = nth_where-at (responds_at r.trace) (length r.trace) t l parts.0; first = parts.1 },
+    )
+
+pub responded-told : (r : Run) (t : ℕ) → Reaches r (t + 1) → responded_in (past_of r) t ≡ responded_at r.trace t
+responded-told r t h =
+    let long = h.long in
+    let there : t < length r.trace = omega arith in
+    alike (responded_in (past_of r) t) (responded_at r.trace t)
+    (λ q e. let k = responded-number r t q h.timely there e in responded-from r.trace k.0 t q k.1.response k.1.first)
+    (λ q e.
+    let k = whole-responds r t q there e in
+    number-responded r k.0 t q there (orderly-whole r t h.timely there) k.1)
+
+retried-there : (r : Run) (t : ℕ) → t < length r.trace → retried_in (past_of r) t ≡ retried_at (run_to r t).trace t
+unfolding retried_in past_of moment_at
+retried-there r t l = ap (option_and_then (λ moment. moment.retried)) (moment-at r (length r.trace) t l)
+
+responded-there : (r : Run) (t : ℕ) → t < length r.trace
+    → responded_in (past_of r) t ≡ responded_at (run_to r t).trace t
+unfolding responded_in past_of moment_at
+responded-there r t l = ap (option_and_then (λ moment. moment.responded)) (moment-at r (length r.trace) t l)
+
+pub retried-told : (r : Run) (t : ℕ) → Reaches r (t + 1) → retried_in (past_of r) t ≡ retried_at r.trace t
+unfolding retried_at
+retried-told r t h =
+    let long = h.long in
+    let there : t < length r.trace = omega arith in
+    let agree = run_to-agrees r t there in
+    let code = response_code_at-agree (t + 1) r.trace (run_to r t).trace t agree (omega arith) in
+    let same : responded_at (run_to r t).trace t ≡ responded_at r.trace t =
+    sym (responded-there r t there) ∙ responded-told r t h in
+    let codes : nat_eq (response_code_at (run_to r t).trace t) (response_code_of Retried)
+    ≡ nat_eq (response_code_at r.trace t) (response_code_of Retried) =
+    ap (λ n. nat_eq n (response_code_of Retried)) (sym code) in
+    retried-there r t there ∙ (λ i. elim (codes i) [ true ↦ same i | false ↦ None ])
+
+-- what is listed as ending at a clock, the whole trace has as such
+whole-ends : (r : Run) (t q : ℕ) → list_any (nat_eq q) (requests_ending_at r.trace t) ≡ true → (i : ℕ) × Ends r i t q
+unfolding requests_ending_at
+whole-ends r t q e =
+    let w = r.trace in
+    let k = any-from (λ i. is_at (end_of w i) t) (live_clock_of w) (nat_eq q) (live_count w) e in (
+      k.0,
+      record {
+        end = is_at-some (end_of w k.0) t k.1.there;
+        first = k.1.gives ∙ ap Some (sym (eqb-true q k.1.given k.1.passes));
+      },
+    )
+
+ends-listed : (r : Run) (i t q : ℕ) → Ends r i t q → list_any (nat_eq q) (requests_ending_at r.trace t) ≡ true
+unfolding requests_ending_at
+ends-listed r i t q k =
+    let w = r.trace in
+    any-listed (λ j. is_at (end_of w j) t) (live_clock_of w) (nat_eq q) (live_count w) i
+    (live_below_count w i q k.first)
+    (record { there = is_at-from (end_of w i) t k.end; given = q; gives = k.first; passes = eq-eqb q q refl })
+
+whole-one : (r : Run) (t q u : ℕ) (qs : List ℕ) → Orderly r.trace → requests_ending_at r.trace t ≡ q ∷ u ∷ qs → ⊥
+unfolding requests_ending_at
+whole-one r t q u qs o e =
+    let w = r.trace in
+    one-listed (λ i. is_at (end_of w i) t) (live_clock_of w) (live_count w) q u qs
+    (λ i j a b. one-ends w i j t o (is_at-some (end_of w i) t a) (is_at-some (end_of w j) t b)) e
+
+-- two lists of one at most that have the same are the same
+short-alike : (xs ys : List ℕ) → ((q u : ℕ) (qs : List ℕ) → xs ≡ q ∷ u ∷ qs → ⊥)
+    → ((q u : ℕ) (qs : List ℕ) → ys ≡ q ∷ u ∷ qs → ⊥)
+    → ((q : ℕ) → list_any (nat_eq q) xs ≡ true → list_any (nat_eq q) ys ≡ true)
+    → ((q : ℕ) → list_any (nat_eq q) ys ≡ true → list_any (nat_eq q) xs ≡ true) → xs ≡ ys
+short-alike [] [] f g there back = refl
+short-alike [] (y ∷ ys) f g there back =
+    absurd (let t = back y (rw (eq-eqb y y refl) refl) in let no : ⊥ = cc in no)
+short-alike (x ∷ xs) [] f g there back =
+    absurd (let t = there x (rw (eq-eqb x x refl) refl) in let no : ⊥ = cc in no)
+short-alike (x ∷ u ∷ xs) ys f g there back = absurd (f x u xs refl)
+short-alike xs (y ∷ u ∷ ys) f g there back = absurd (g y u ys refl)
+short-alike (x ∷ []) (y ∷ []) f g there back =
+    ap (λ z. z ∷ []) (only (nat_eq x y) refl (there x (rw (eq-eqb x x refl) refl)))
+  where
+    only : (b : Bool) → nat_eq x y ≡ b → list_any (nat_eq x) (y ∷ []) ≡ true → x ≡ y
+    only true e t = eqb-true x y e
+    only false e t = absurd (let t' = rw e at t in let no : ⊥ = cc in no)
+
+pub ended-told : (r : Run) (t : ℕ) → Reaches r (t + 1) → ended_requests (past_of r) t ≡ requests_ending_at r.trace t
+unfolding is_end_at
+ended-told r t h =
+    let long = h.long in
+    let there : t < length r.trace = omega arith in
+    let o = orderly-whole r t h.timely there in
+    short-alike (ended_requests (past_of r) t) (requests_ending_at r.trace t)
+    (λ q u qs e. one-at-end r t q u qs h.timely there e) (λ q u qs e. whole-one r t q u qs o e)
+    (λ q e. let k = ended-number r t q h.timely there e in ends-listed r k.0 t q k.1)
+    (λ q e. let k = whole-ends r t q e in number-ended r k.0 t q there o k.1)

@@ -1,0 +1,41 @@
+-- The turns of the snoop ends, with one moment more.
+use Rattle.std.proofs.Common.{◌≡◌, List, [], ◌∷◌, ◌++◌, Option, Some, None, length, slice_get, refl, sym, ap, ◌∙◌, append-nil}
+use Rattle.std.specs.Option.{option_and_then, option_map}
+use Rattle.fsb_count.proofs.Interface.{slice_get-end}
+use Rattle.fsb_timely.specs.Grants.{snooped_at}
+use Rattle.fsb_timely.specs.Growth.{GrowsTo, moment_at_growth}
+use Rattle.fsb_timely.specs.Moments.{number_of_turn, turns_in}
+use Rattle.fsb_timely.specs.Past.{Moment, SnoopEnd}
+use Rattle.fsb_timely.specs.Runs.{past_of, Run}
+use Rattle.fsb_timely.proofs.Interface.{length-moments, moments-grow, turns-quiet, turns-snooped}
+use Rattle.fsb_run_laws.specs.Steps.{listed}
+
+pub turns-more : (moments : List Moment) (moment : Moment)
+    → turns_in (moments ++ moment ∷ [])
+    ≡ turns_in moments ++ listed (option_map (λ s. number_of_turn s.turn) moment.snooped)
+unfolding listed
+turns-more moments moment = by moment.snooped refl
+  where
+    by : (o : Option SnoopEnd) → moment.snooped ≡ o → turns_in (moments ++ moment ∷ [])
+        ≡ turns_in moments ++ listed (option_map (λ s. number_of_turn s.turn) o)
+    by None e = turns-quiet moments moment e ∙ sym (append-nil (turns_in moments))
+    by (Some s) e = turns-snooped moments moment s e
+
+-- the moment of the clock by which a run grows
+moment-there : (r s : Run) → GrowsTo r s
+    → slice_get (past_of s).moments (length r.trace) ≡ Some (moment_at_growth r s)
+unfolding past_of
+moment-there r s grows =
+    ap (λ xs. slice_get xs (length r.trace)) (moments-grow r s grows)
+    ∙ ap (slice_get ((past_of r).moments ++ moment_at_growth r s ∷ [])) (sym (length-moments r (length r.trace)))
+    ∙ slice_get-end (past_of r).moments (moment_at_growth r s)
+
+pub turns-grow : (r s : Run) → GrowsTo r s → turns_in (past_of s).moments
+    ≡ turns_in (past_of r).moments
+    ++ listed (option_map (λ end. number_of_turn end.turn) (snooped_at (past_of s) (length r.trace)))
+unfolding snooped_at
+turns-grow r s grows =
+    ap turns_in (moments-grow r s grows) ∙ turns-more (past_of r).moments (moment_at_growth r s)
+    ∙ ap (λ o. turns_in (past_of r).moments
+    ++ listed (option_map (λ end. number_of_turn end.turn) (option_and_then (λ moment. moment.snooped) o)))
+    (sym (moment-there r s grows))

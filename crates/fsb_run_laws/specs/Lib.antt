@@ -1,0 +1,4 @@
+pub mod Brought
+pub mod Reaches
+pub mod States
+pub mod Steps

@@ -1,0 +1,4 @@
+mod Addresses
+mod Readings
+mod Texts
+mod Traces

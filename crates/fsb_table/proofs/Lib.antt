@@ -1,0 +1,6 @@
+mod FromClock
+mod Snoops
+mod Goes
+mod Outcomes
+mod Requests
+mod Rows

@@ -1,0 +1,217 @@
+-- What begins in a timely run is what its agent wants.
+use Rattle.std.proofs.Common.{ℕ, suc, ◌+◌, ◌/◌, ◌^◌, ◌<◌, ◌≡◌, Bool, true, false, ◌&&◌, Option, Some, None, if◌then◌else◌, length, nat_eq, nat_lt, slice_get, refl, sym, ap, subst, ◌∙◌, arith}
+use Rattle.std.specs.Option.{option_and_then, option_map}
+use Rattle.std.proofs.lemmas.Bool.{and_parts, eqb-true, ltb-true}
+use Rattle.fsb_count.specs.Options.{is_some_and}
+use Rattle.fsb_encode.specs.Decoded.{is_pair}
+use Rattle.fsb_encode.specs.Request.{are_lawful_fields, clocks, is_lawful_request, pairs_of, row_of}
+use Rattle.fsb_encode.specs.declared.request.Kind.{Kind}
+use Rattle.fsb_encode.specs.declared.request.Kind.TheVariants.{Reply, Invalidate, Read, WriteBack, Upgrade}
+use Rattle.fsb_encode.specs.declared.request.Pair.{Pair}
+use Rattle.fsb_encode.specs.declared.request.Request.{Request}
+use Rattle.fsb_signal.specs.declared.lines.TheConstants.Lines.{ADS}
+use Rattle.fsb_signal.specs.declared.sample.Sample.{Sample}
+use Rattle.fsb_signal.specs.Samples.{is_known_word, line_at}
+use Rattle.fsb_trace.specs.declared.who.Who.{Who}
+use Rattle.fsb_trace.specs.declared.who.Who.TheVariants.{Symmetric, Priority}
+use Rattle.fsb_trace.specs.At.{Trace, known_pair, known_pair_at, request_at}
+use Rattle.fsb_trace.specs.Requests.{is_reply_kind, line_of}
+use Rattle.fsb_trace.specs.Winner.{winner_at}
+use Rattle.fsb_trace.proofs.Interface.{line_at-agree, request_at-agree, winner_at-agree}
+use Rattle.fsb_timely.specs.Grants.{begun_at}
+use Rattle.fsb_timely.specs.Moments.{agent_at, claim_at}
+use Rattle.fsb_timely.specs.Past.{Claim, Past}
+use Rattle.fsb_timely.specs.Runs.{Run, past_of, past_to, run_to}
+use Rattle.fsb_timely.specs.Starts.{drives_ads, drives_pair, pair_due, request_begun, starts_requests, would_begin}
+use Rattle.fsb_timely.specs.Timely.{Timely, holds_at, holds_in}
+use Rattle.fsb_timely.specs.Wants.{want_of}
+use Rattle.fsb_timely.proofs.Interface.{begun-told, done_below, past-begins, want_of-alike}
+use Rattle.fsb_lawful.specs.Beginning.{KeepsBounds}
+use Rattle.fsb_lawful.proofs.Interface.{begun-decoded, begun-winner, map-some, run_to-agrees, slice_get-take, want-own, wants-lawfully}
+
+-- what a claim says: its clock, its winner, and its line by the address word
+record IsClaimAt (w : Trace) (q : ℕ) (claim : Claim) : Type 0 where
+  pub first : claim.first ≡ q
+  pub winner : winner_at w q ≡ Some (Symmetric claim.agent)
+  pub sample : Sample
+  pub there : slice_get w q ≡ Some sample
+  pub line : sample.addr.bits / 4 ≡ claim.line
+
+word-by : (w : Trace) (q a line : ℕ) → winner_at w q ≡ Some (Symmetric a) → line_of w q ≡ Some line
+    → option_map (λ s. s.addr.bits / 4) (slice_get w q) ≡ Some line
+unfolding line_of
+word-by w q a line e h = let h' = rw (e, line_of) at h in h'
+
+claimed-by : (w : Trace) (q : ℕ) (claim : Claim) (o : Option Who) → winner_at w q ≡ o → claim_at w q ≡ Some claim
+    → IsClaimAt w q claim
+unfolding claim_at agent_at
+claimed-by w q claim None e h = absurd (let no : ⊥ = (let h' = rw (e, claim_at, agent_at) at h in cc) in no)
+claimed-by w q claim (Some Priority) e h = absurd (let no : ⊥ = (let h' = rw (e, claim_at, agent_at) at h in cc) in no)
+claimed-by w q claim (Some (Symmetric a)) e h =
+    let h' = rw (claim_at, agent_at, e) at h in
+    let k = map-some (λ line. record { first = q; agent = a; line = line }) (line_of w q) claim h' in
+    let s = map-some (λ (s : Sample). s.addr.bits / 4) (slice_get w q) k.0 (word-by w q a k.0 e k.1) in
+    record {
+      first = sym (ap (λ c. c.first) k.2);
+      winner = e ∙ ap (λ b. Some (Symmetric b)) (ap (λ c. c.agent) k.2);
+      sample = s.0;
+      there = s.1;
+      line = s.2 ∙ ap (λ c. c.line) k.2;
+    }
+
+pub claimed : (w : Trace) (q : ℕ) (claim : Claim) → claim_at w q ≡ Some claim
+    → (claim.first ≡ q) × (winner_at w q ≡ Some (Symmetric claim.agent))
+claimed w q claim e = let k = claimed-by w q claim (winner_at w q) refl e in (k.first, k.winner)
+
+same-pair : (p q : Pair) → is_pair p q ≡ true → p ≡ q
+unfolding is_pair
+same-pair p q e =
+    let a = and_parts (nat_eq p.addr q.addr) (nat_eq p.req q.req) e in
+    let addr = eqb-true p.addr q.addr a.0 in
+    let req = eqb-true p.req q.req a.1 in
+    λ i. record { addr = addr i; req = req i }
+
+-- the words of a clock are those of a request that is there
+pair-there : (f : Request → Pair) (o : Option Request) (k : Option Pair)
+    → is_some_and (option_map f o) (λ due. is_some_and k (is_pair due)) ≡ true
+    → (q : Request) × (o ≡ Some q) × (k ≡ Some (f q))
+unfolding is_some_and
+pair-there f None k e = absurd (let no : ⊥ = cc in no)
+pair-there f (Some q) None e = absurd (let no : ⊥ = cc in no)
+pair-there f (Some q) (Some b) e = (q, refl, ap (λ x. Some x) (sym (same-pair (f q) b e)))
+
+-- the first clock of a request has its first words
+first-words : (r : Run) (p : Past) (c : ℕ) → starts_requests r p c ≡ true → line_at ADS r.trace c ≡ true
+    → (q : Request) × (request_begun r p c ≡ Some q) × (known_pair_at r.trace c ≡ Some (pairs_of q).0)
+unfolding starts_requests drives_pair pair_due
+first-words r p c e t =
+    let pair = (and_parts (drives_ads r p c) (drives_pair r p c) e).1 in
+    pair-there (λ request. (pairs_of request).0) (request_begun r p c) (known_pair_at r.trace c)
+    (let e' = rw (drives_pair, pair_due, t) at pair in e')
+
+-- the words that a sample has, where they are known
+word-of : (s : Sample) (b : Bool) (pair : Pair) → (is_known_word s.addr && is_known_word s.req) ≡ b
+    → known_pair s ≡ Some pair → s.addr.bits ≡ pair.addr
+unfolding known_pair
+word-of s false pair e f = absurd (let no : ⊥ = (let f' = rw (e, known_pair) at f in cc) in no)
+word-of s true pair e f =
+    let f' : Some (record { addr = s.addr.bits; req = s.req.bits }) ≡ Some pair = rw (e, known_pair) at f in
+    let same : record { addr = s.addr.bits; req = s.req.bits } ≡ pair = cc in
+    ap (λ x. x.addr) same
+
+sample-word : (w : Trace) (q : ℕ) (s : Sample) (pair : Pair) → slice_get w q ≡ Some s → known_pair_at w q ≡ Some pair
+    → s.addr.bits ≡ pair.addr
+unfolding known_pair_at
+sample-word w q s pair e f =
+    word-of s (is_known_word s.addr && is_known_word s.req) pair refl (sym (ap (option_and_then known_pair) e) ∙ f)
+
+low-chunk : (x : Bool) (chunk : ℕ) (z : Bool) → (x && nat_lt chunk 4 && z) ≡ true → chunk < 4
+low-chunk x chunk z e = ltb-true chunk 4 (and_parts x (nat_lt chunk 4) (and_parts (x && nat_lt chunk 4) z e).0).1
+
+low-upgrade : (x : Bool) (chunk : ℕ) (y z : Bool) → (x && nat_lt chunk 4 && y && z) ≡ true → chunk < 4
+low-upgrade x chunk y z e = low-chunk x chunk y (and_parts (x && nat_lt chunk 4 && y) z e).0
+
+-- the first address word of a request that is no reply names its line
+line-word : (request : Request) (kind : Kind) → request.kind ≡ kind → is_reply_kind request.kind ≡ false
+    → is_lawful_request request ≡ true → (pairs_of request).0.addr / 4 ≡ request.line
+unfolding pairs_of row_of clocks is_lawful_request are_lawful_fields is_reply_kind
+line-word request Reply e f g = absurd (let no : true ≡ false = (let f' = rw e at f in f') in cc no)
+line-word request Invalidate e f g =
+    let low = low-chunk (nat_lt request.line (2 ^ 31)) request.chunk _ (let g' = rw e at g in g') in rw e (omega arith)
+line-word request Read e f g =
+    let low = low-chunk (nat_lt request.line (2 ^ 31)) request.chunk _ (let g' = rw e at g in g') in rw e (omega arith)
+line-word request WriteBack e f g = rw e (omega arith)
+line-word request Upgrade e f g =
+    let low = low-upgrade (nat_lt request.line (2 ^ 31)) request.chunk _ _ (let g' = rw e at g in g') in
+    rw e (omega arith)
+
+-- the request of a symmetric agent that begins at q is what the agent wants there, by the past below q and by all of it
+pub record IsBegunWant (r : Run) (q : ℕ) (claim : Claim) : Type 0 where
+  pub first : claim.first ≡ q
+  pub ads : line_at ADS r.trace q ≡ true
+  pub claims : claim_at r.trace q ≡ Some claim
+  pub winner : winner_at r.trace q ≡ Some (Symmetric claim.agent)
+  pub request : Request
+  pub wanted : want_of (past_to (past_of r) q) claim.agent q ≡ Some request
+  pub want : want_of (past_of r) claim.agent q ≡ Some request
+  pub begins : request_begun (run_to r q) (past_to (past_of r) q) q ≡ Some request
+  pub line : request.line ≡ claim.line
+  pub no_reply : is_reply_kind request.kind ≡ false
+
+begun-claim : (b : Bool) (o : Option Claim) (claim : Claim) → (if b then o else None) ≡ Some claim
+    → (b ≡ true) × (o ≡ Some claim)
+begun-claim true o claim e = (refl, e)
+begun-claim false o claim e = absurd (let no : ⊥ = cc in no)
+
+by-winner : (r : Run) (q a : ℕ) (request : Request) (who : Who) → Some who ≡ Some (Symmetric a)
+    → would_begin (run_to r q) (past_to (past_of r) q) q who ≡ Some request
+    → want_of (past_to (past_of r) q) a q ≡ Some request
+unfolding would_begin
+by-winner r q a request (Symmetric b) e f =
+    let same : b ≡ a = cc in subst (λ k. want_of (past_to (past_of r) q) k q ≡ Some request) same f
+by-winner r q a request Priority e f = absurd (let no : ⊥ = cc in no)
+
+-- a request that is claimed where ADS# is
+claim-want : (r : Run) (q : ℕ) (claim : Claim) → Timely r → KeepsBounds r.plan → q < length r.trace
+    → line_at ADS r.trace q ≡ true → claim_at r.trace q ≡ Some claim → IsBegunWant r q claim
+unfolding holds_at holds_in request_begun known_pair_at run_to past_to past_of
+claim-want r q claim h bounds l t e =
+    let v = (run_to r q).trace in
+    let agree = run_to-agrees r q l in
+    let here : line_at ADS v q ≡ true = sym (line_at-agree ADS (q + 1) r.trace v q agree (omega arith)) ∙ t in
+    let words = first-words (run_to r q) (past_to (past_of r) q) q (h.request_starts.at q l) here in
+    let request : Request = words.0 in
+    let c = claimed-by r.trace q claim (winner_at r.trace q) refl e in
+    let won = begun-winner (would_begin (run_to r q) (past_to (past_of r) q) q) (winner_at v q) request words.1 in
+    let who : Some won.0 ≡ Some (Symmetric claim.agent) =
+    sym won.1 ∙ sym (winner_at-agree (q + 1) r.trace v q agree (omega arith)) ∙ c.winner in
+    let wanted = by-winner r q claim.agent request won.0 who won.2 in
+    let goes = past-begins r q h l in
+    let want = want_of-alike (q + 1) (past_to (past_of r) q) (past_of r) claim.agent q goes (omega arith)
+    (done_below (q + 1) (past_to (past_of r) q) claim.agent q goes.entries (omega arith) goes.at_end) in
+    let lawful = (wants-lawfully r bounds).lawful q request words.1 in
+    let no_reply = (want-own (past_to (past_of r) q) claim.agent q request bounds.few_ahead wanted).0 in
+    let cut = slice_get-take (q + 1) r.trace q (omega arith) in
+    let word = sample-word r.trace q c.sample (pairs_of request).0 c.there
+    (sym (ap (option_and_then known_pair) cut) ∙ words.2) in
+    record {
+      first = c.first;
+      ads = t;
+      claims = e;
+      winner = c.winner;
+      request = request;
+      wanted = wanted;
+      want = sym want ∙ wanted;
+      begins = words.1;
+      line = sym (line-word request request.kind refl no_reply lawful) ∙ ap (λ n. n / 4) (sym word) ∙ c.line;
+      no_reply = no_reply;
+    }
+
+-- where a claim begins there is ADS#
+pub begun-there : (r : Run) (q : ℕ) (claim : Claim) → q < length r.trace → begun_at (past_of r) q ≡ Some claim
+    → (line_at ADS r.trace q ≡ true) × (claim_at r.trace q ≡ Some claim)
+begun-there r q claim l e = begun-claim (line_at ADS r.trace q) (claim_at r.trace q) claim (sym (begun-told r q l) ∙ e)
+
+pub begun-want : (r : Run) (q : ℕ) (claim : Claim) → Timely r → KeepsBounds r.plan → q < length r.trace
+    → begun_at (past_of r) q ≡ Some claim → IsBegunWant r q claim
+begun-want r q claim h bounds l e =
+    let k = begun-there r q claim l e in
+    claim-want r q claim h bounds l k.0 k.1
+
+pub begun-from : (r : Run) (q : ℕ) (claim : Claim) → q < length r.trace → line_at ADS r.trace q ≡ true
+    → claim_at r.trace q ≡ Some claim → begun_at (past_of r) q ≡ Some claim
+begun-from r q claim l t e = begun-told r q l ∙ ap (λ b. if b then claim_at r.trace q else None) t ∙ e
+
+-- once the clock after it is there, it is decoded as that
+pub begun-shown : (r : Run) (q : ℕ) (claim : Claim) → Timely r → KeepsBounds r.plan → suc q < length r.trace
+    → (k : IsBegunWant r q claim) → request_at r.trace q ≡ Some k.request
+begun-shown r q claim h bounds l k =
+    let agree = run_to-agrees r q (omega arith) in
+    let later = run_to-agrees r (suc q) l in
+    let here = sym (line_at-agree ADS (q + 1) r.trace (run_to r q).trace q agree (omega arith)) ∙ k.ads in
+    let b = begun-decoded r q h l here in
+    let shown = b.2 ((wants-lawfully r bounds).lawful q b.0 b.1) in
+    let one = b.1 in
+    let two = k.begins in
+    let same : b.0 ≡ k.request = cc in
+    request_at-agree (suc q + 1) r.trace (run_to r (suc q)).trace q later (omega arith) ∙ shown ∙ ap Some same

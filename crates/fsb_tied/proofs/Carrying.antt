@@ -1,0 +1,161 @@
+-- Where an end is awaited after a snoop end, its link carries data exactly where data are awaited; and then data move.
+use Rattle.std.proofs.Common.{ℕ, ◌≡◌, Bool, true, false, not, ◌&&◌, ◌||◌, Option, Some, None, is_none, is_some, refl, sym, ap, subst, ◌∙◌, inl, inr}
+use Rattle.std.proofs.lemmas.Bool.{cases_Bool}
+use Rattle.std.specs.Option.{option_map}
+use Rattle.fsb_count.specs.Options.{is_some_and}
+use Rattle.fsb_encode.specs.declared.request.Kind.{Kind}
+use Rattle.fsb_encode.specs.declared.request.Kind.TheVariants.{Invalidate, Read, Reply, Upgrade, WriteBack}
+use Rattle.fsb_encode.specs.declared.request.Request.{Request}
+use Rattle.fsb_hazard.specs.declared.choice.Turn.{Turn}
+use Rattle.fsb_hazard.specs.declared.choice.Turn.TheVariants.{Defer, Keep, Retry}
+use Rattle.fsb_line.specs.Links.{carries, upgrades}
+use Rattle.fsb_trace.specs.declared.outcome.Outcome.{Outcome}
+use Rattle.fsb_trace.specs.declared.outcome.Outcome.TheVariants.{Deferred, Failed, Granted, Handed, Replied, Retried, Upgraded, Written}
+use Rattle.fsb_trace.specs.Outcome.{does_move, outcome_by_kind}
+use Rattle.fsb_trace.specs.Requests.{is_upgrade_kind}
+use Rattle.fsb_timely.specs.Moments.{is_got, is_upgraded, makes_grant}
+use Rattle.fsb_timely.specs.Past.{Claim, Grant, Past, SnoopEnd}
+use Rattle.fsb_timely.specs.Runs.{past_to}
+use Rattle.fsb_coherent.specs.Awaits.{Awaited, is_written, owner_at, purpose_of}
+use Rattle.fsb_coherent.specs.Relation.{giver_at, purpose_at, purpose_granted}
+use Rattle.fsb_coherent.specs.Settled.{is_always_kept, outcome_by_turn, outcome_under}
+
+-- the link of agent a after a snoop end at t carries data where it is no upgrade that was won; and then data move
+pub record Carries (p : Past) (line t a : ℕ) (s : SnoopEnd) : Type 0 where
+  pub fits : carries (record { agent = a; kind = purpose_at s; giver = giver_at p line t a s })
+      ≡ not (is_upgraded s.outcome)
+  pub moves : not (is_upgraded s.outcome) ≡ true → does_move s.outcome ≡ true
+
+reply-plain : (grant : Option Grant) → upgrades (purpose_granted grant) ≡ false
+unfolding purpose_granted
+reply-plain grant =
+    elim (cases_Bool (is_some_and grant (λ g. g.owns))) [ inl t ↦ rw t refl | inr f ↦ rw f refl ]
+
+-- the purpose is that of an upgrade where the kind is
+purpose-kind : (s : SnoopEnd) (kind : Kind) → s.kind ≡ Some kind → upgrades (purpose_at s) ≡ is_upgrade_kind kind
+unfolding purpose_at purpose_of is_upgrade_kind
+purpose-kind s Reply e = rw e (reply-plain s.grant)
+purpose-kind s Invalidate e = rw e refl
+purpose-kind s Read e = rw e refl
+purpose-kind s WriteBack e = rw e refl
+purpose-kind s Upgrade e = rw e refl
+
+purpose-none : (s : SnoopEnd) → s.kind ≡ None → upgrades (purpose_at s) ≡ false
+unfolding purpose_at
+purpose-none s e = rw e (reply-plain s.grant)
+
+by-plain : (p : Past) (line t a : ℕ) (s : SnoopEnd) (outcome : Outcome) → s.outcome ≡ outcome
+    → upgrades (purpose_at s) ≡ false → is_upgraded outcome ≡ false → does_move outcome ≡ true → Carries p line t a s
+by-plain p line t a s outcome e plain not_won moves = record {
+  fits = ap (λ b. not (b && is_none (giver_at p line t a s))) plain
+      ∙ sym (ap (λ x. not (is_upgraded x)) e ∙ ap not not_won);
+  moves = λ _. ap does_move e ∙ moves;
+}
+
+without : (x y : Bool) → y ≡ false → not (x && y) ≡ true
+without true y e = ap not e
+without false y e = refl
+
+some-none : (o : Option ℕ) → is_some o ≡ true → is_none o ≡ false
+some-none None e = absurd (let no : ⊥ = cc in no)
+some-none (Some x) e = refl
+
+-- where another agent hands the line over it is known
+by-owner : (p : Past) (line t a : ℕ) (s : SnoopEnd) → s.outcome ≡ Handed
+    → is_some (owner_at (past_to p t) a line t) ≡ true → Carries p line t a s
+unfolding giver_at is_upgraded does_move purpose_at
+by-owner p line t a s e owner = record {
+  fits = rw e (without (upgrades (purpose_at s)) (is_none (owner_at (past_to p t) a line t))
+      (some-none (owner_at (past_to p t) a line t) owner));
+  moves = λ _. rw e refl;
+}
+
+by-upgrade : (p : Past) (line t a : ℕ) (s : SnoopEnd) → s.outcome ≡ Upgraded → upgrades (purpose_at s) ≡ true
+    → Carries p line t a s
+unfolding giver_at is_upgraded purpose_at
+by-upgrade p line t a s e won =
+    record { fits = rw (e, won) refl; moves = λ f. absurd (let no : ⊥ = (let f' = rw e at f in cc) in no) }
+
+-- what makes a grant
+pub record Gives (r : Option Request) (turn : Turn) (outcome : Outcome) : Type 0 where
+  pub gives : (is_some_and r (λ x. makes_grant x.kind outcome) || is_upgraded outcome) ≡ true
+  pub kept : is_always_kept r ≡ true → turn ≡ Keep
+
+-- what is retried or put off makes none
+held-off : (o : Option Request) (turn : Turn) (outcome : Outcome) → Gives o turn outcome → is_got outcome ≡ false
+    → is_upgraded outcome ≡ false → (turn ≡ Keep → ⊥) → ⊥
+unfolding is_some_and makes_grant is_always_kept
+held-off None turn outcome g got won kept = let gives = rw won at g.gives in cc
+held-off (Some request) turn outcome g got won kept = by-kind request.kind refl
+  where
+    by-kind : (kind : Kind) → request.kind ≡ kind → ⊥
+    by-kind Reply e = kept (g.kept (rw e refl))
+    by-kind Invalidate e = let gives = rw (e, won) at g.gives in let no : ⊥ = cc in no
+    by-kind Read e = let gives = rw (e, won) at g.gives in let no : ⊥ = cc in no
+    by-kind WriteBack e = let gives = rw (e, won) at g.gives in let no : ⊥ = cc in no
+    by-kind Upgrade e = let gives = rw (e, won) at g.gives in let no : ⊥ = cc in no
+
+-- a snoop end that makes a grant
+pub settled-carries : (p : Past) (line t a : ℕ) (s : SnoopEnd) (handed : Bool) (turn : Turn) (o : Option Request)
+    → s.outcome ≡ outcome_under handed turn o → s.kind ≡ option_map (λ x. x.kind) o → Gives o turn s.outcome
+    → (s.outcome ≡ Handed → s.kind ≡ Some Upgrade → is_some (owner_at (past_to p t) a line t) ≡ true)
+    → Carries p line t a s
+unfolding outcome_under outcome_by_turn outcome_by_kind is_upgraded does_move is_got is_upgrade_kind
+settled-carries p line t a s true turn None e k g owner = by-plain p line t a s Handed e (purpose-none s k) refl refl
+settled-carries p line t a s true turn (Some request) e k g owner = handed request.kind k
+  where
+    handed : (kind : Kind) → s.kind ≡ Some kind → Carries p line t a s
+    handed Reply f = by-plain p line t a s Handed e (purpose-kind s Reply f) refl refl
+    handed Invalidate f = by-plain p line t a s Handed e (purpose-kind s Invalidate f) refl refl
+    handed Read f = by-plain p line t a s Handed e (purpose-kind s Read f) refl refl
+    handed WriteBack f = by-plain p line t a s Handed e (purpose-kind s WriteBack f) refl refl
+    handed Upgrade f = by-owner p line t a s e (owner e f)
+settled-carries p line t a s false Keep None e k g owner = by-plain p line t a s Granted e (purpose-none s k) refl refl
+settled-carries p line t a s false Keep (Some request) e k g owner = plain request.kind refl
+  where
+    plain : (kind : Kind) → request.kind ≡ kind → Carries p line t a s
+    plain Reply f = by-plain p line t a s Replied (rw f at e) (purpose-kind s Reply (k ∙ ap Some f)) refl refl
+    plain Invalidate f = by-plain p line t a s Granted (rw f at e) (purpose-kind s Invalidate (k ∙ ap Some f)) refl refl
+    plain Read f = by-plain p line t a s Granted (rw f at e) (purpose-kind s Read (k ∙ ap Some f)) refl refl
+    plain WriteBack f = by-plain p line t a s Written (rw f at e) (purpose-kind s WriteBack (k ∙ ap Some f)) refl refl
+    plain Upgrade f = by-upgrade p line t a s (rw f at e) (purpose-kind s Upgrade (k ∙ ap Some f))
+settled-carries p line t a s false Retry o e k g owner =
+    absurd (held-off o Retry Retried (subst (λ x. Gives o Retry x) e g) refl refl (λ same. let no : ⊥ = cc in no))
+settled-carries p line t a s false (Defer later) o e k g owner =
+    absurd (held-off o (Defer later) Deferred (subst (λ x. Gives o (Defer later) x) e g) refl refl
+    (λ same. let no : ⊥ = cc in no))
+
+-- a write-back gives its line itself
+pub by-write-back : (p : Past) (line t a : ℕ) (s : SnoopEnd) → s.outcome ≡ Written → Carries p line t a s
+unfolding giver_at is_upgraded does_move purpose_at
+by-write-back p line t a s e = record {
+  fits = rw e (without (upgrades (purpose_at s)) false refl);
+  moves = λ _. rw e refl;
+}
+
+pub written-is : (outcome : Outcome) → is_written outcome ≡ true → outcome ≡ Written
+unfolding is_written
+written-is Written e = refl
+written-is Granted e = absurd (let no : ⊥ = cc in no)
+written-is Handed e = absurd (let no : ⊥ = cc in no)
+written-is Retried e = absurd (let no : ⊥ = cc in no)
+written-is Deferred e = absurd (let no : ⊥ = cc in no)
+written-is Replied e = absurd (let no : ⊥ = cc in no)
+written-is Failed e = absurd (let no : ⊥ = cc in no)
+written-is Upgraded e = absurd (let no : ⊥ = cc in no)
+
+-- an end is awaited by a grant, or by a write-back
+pub record ByGrant (s : SnoopEnd) (awaited : Awaited) : Type 0 where
+  pub grant : Grant
+  pub granted : s.grant ≡ Some grant
+  pub agent : grant.agent ≡ awaited.agent
+  pub names : grant.line ≡ awaited.line
+  pub carried : not (is_upgraded s.outcome) ≡ awaited.carries
+
+pub record ByWriteBack (s : SnoopEnd) (awaited : Awaited) : Type 0 where
+  pub written : s.outcome ≡ Written
+  pub claim : Claim
+  pub claimed : s.claim ≡ Some claim
+  pub agent : claim.agent ≡ awaited.agent
+  pub names : claim.line ≡ awaited.line
+  pub carried : true ≡ awaited.carries

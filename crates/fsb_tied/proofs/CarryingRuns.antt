@@ -1,0 +1,250 @@
+-- In a timely run the link of a snoop end carries data exactly where the end that is awaited after it brings data.
+use Rattle.std.proofs.Common.{ℕ, ◌≡◌, Bool, true, false, not, ◌&&◌, ◌||◌, if◌then◌else◌, nat_eq, List, Option, Some, None, is_some, refl, sym, ap, ◌∙◌, inl, inr}
+use Rattle.std.proofs.lemmas.Bool.{and_parts, both_ways, cases_Bool, or_left, or_right}
+use Rattle.std.specs.Option.{option_and_then, option_map}
+use Rattle.fsb_count.specs.Options.{is_some_and}
+use Rattle.fsb_count.proofs.Interface.{any_where-found, first_where-none}
+use Rattle.fsb_encode.specs.declared.request.Kind.{Kind}
+use Rattle.fsb_encode.specs.declared.request.Kind.TheVariants.{Invalidate, Read, Reply, Upgrade, WriteBack}
+use Rattle.fsb_encode.specs.declared.request.Request.{Request}
+use Rattle.fsb_hazard.specs.declared.choice.Turn.{Turn}
+use Rattle.fsb_hazard.specs.declared.choice.Turn.TheVariants.{Defer, Keep, Retry}
+use Rattle.fsb_line.specs.Links.{carries}
+use Rattle.fsb_signal.specs.declared.lines.TheConstants.Lines.{HITM}
+use Rattle.fsb_signal.specs.Samples.{line_at}
+use Rattle.fsb_trace.specs.At.{Trace, request_at}
+use Rattle.fsb_trace.specs.declared.outcome.Outcome.{Outcome}
+use Rattle.fsb_trace.specs.declared.outcome.Outcome.TheVariants.{Handed, Written}
+use Rattle.fsb_trace.specs.Outcome.{does_move, outcome_by_kind}
+use Rattle.fsb_trace.specs.Requests.{is_reply, is_reply_kind, live_clock_of, live_request_of}
+use Rattle.fsb_trace.proofs.Interface.{snoop_end_of-clock}
+use Rattle.fsb_timely.specs.Grants.{snooped_at}
+use Rattle.fsb_timely.specs.Hits.{is_dirty}
+use Rattle.fsb_timely.specs.Moments.{claim_at, gives_line, grant_for, grant_of, is_upgraded, live_claim_of, makes_grant, served_number, turns_in, wins_race, grant_to, is_owner_request, is_shared_at}
+use Rattle.fsb_timely.specs.Past.{Claim, Grant, Past, SnoopEnd}
+use Rattle.fsb_timely.specs.Runs.{Run, past_of, past_to}
+use Rattle.fsb_timely.specs.Snoops.{is_dirty_elsewhere}
+use Rattle.fsb_timely.specs.Timely.{Timely}
+use Rattle.fsb_timely.proofs.Interface.{tied-snoop}
+use Rattle.fsb_coherent.specs.Awaits.{Awaited, awaited_by, awaited_by_claim, awaited_by_grant, is_written, owner_at}
+use Rattle.fsb_coherent.specs.Settled.{outcome_by_turn, outcome_under, own_grant}
+use Rattle.fsb_coherent.proofs.Interface.{grant-made, outcome-made, turn-kept}
+use Rattle.fsb_tied.proofs.Carrying.{ByGrant, ByWriteBack, Carries, Gives, by-write-back, settled-carries, written-is}
+use Rattle.fsb_tied.proofs.Chains.{link_of}
+use Rattle.fsb_tied.proofs.SnoopTold.{told-at}
+
+pub granted-await : (s : SnoopEnd) (awaited : Awaited) (grant : Grant) → s.grant ≡ Some grant
+    → awaited_by s ≡ Some awaited
+    → ByGrant s awaited
+unfolding awaited_by awaited_by_grant
+granted-await s awaited grant e h =
+    let h' = rw (e, awaited_by) at h in
+    let same : awaited_by_grant s.outcome grant ≡ awaited = cc in
+    record {
+      grant = grant;
+      granted = e;
+      agent = ap (λ (x : Awaited). x.agent) same;
+      names = ap (λ (x : Awaited). x.line) same;
+      carried = ap (λ (x : Awaited). x.carries) same;
+    }
+
+written-parts : (s : SnoopEnd) (awaited : Awaited) (b : Bool) → is_written s.outcome ≡ b → (o : Option Claim)
+    → s.claim ≡ o
+    → (if b then option_map awaited_by_claim o else None) ≡ Some awaited → ByWriteBack s awaited
+unfolding awaited_by_claim
+written-parts s awaited false e o f h = absurd (let no : ⊥ = cc in no)
+written-parts s awaited true e None f h = absurd (let no : ⊥ = cc in no)
+written-parts s awaited true e (Some claim) f h =
+    let same : awaited_by_claim claim ≡ awaited = cc in
+    record {
+      written = written-is s.outcome e;
+      claim = claim;
+      claimed = f;
+      agent = ap (λ (x : Awaited). x.agent) same;
+      names = ap (λ (x : Awaited). x.line) same;
+      carried = ap (λ (x : Awaited). x.carries) same;
+    }
+
+pub written-await : (s : SnoopEnd) (awaited : Awaited) → s.grant ≡ None → awaited_by s ≡ Some awaited
+    → ByWriteBack s awaited
+unfolding awaited_by
+written-await s awaited e h =
+    written-parts s awaited (is_written s.outcome) refl s.claim refl (let h' = rw (e, awaited_by) at h in h')
+
+gives-by : (p : Past) (w : Trace) (i q t : ℕ) (outcome : Outcome) (grant : Grant) (b : Bool)
+    → gives_line p w q t outcome ≡ b
+    → grant_of p w i q t outcome ≡ Some grant → gives_line p w q t outcome ≡ true
+unfolding grant_of
+gives-by p w i q t outcome grant true e f = e
+gives-by p w i q t outcome grant false e f = absurd (let no : ⊥ = (let f' = rw (e, grant_of) at f in cc) in no)
+
+won-race : (p : Past) (t : ℕ) (outcome : Outcome) (o : Option Claim) → is_some_and o (wins_race p t outcome) ≡ true
+    → is_upgraded outcome ≡ true
+unfolding is_some_and wins_race
+won-race p t outcome None e = absurd (let no : ⊥ = cc in no)
+won-race p t outcome (Some claim) e = (and_parts (is_upgraded outcome) _ e).0
+
+gives-parts : (p : Past) (w : Trace) (q t : ℕ) (outcome : Outcome) → gives_line p w q t outcome ≡ true
+    → (is_some_and (request_at w q) (λ x. makes_grant x.kind outcome) || is_upgraded outcome) ≡ true
+unfolding gives_line
+gives-parts p w q t outcome e =
+    elim (cases_Bool (is_some_and (request_at w q) (λ x. makes_grant x.kind outcome))) [
+      | inl made ↦ or_left (is_some_and (request_at w q) (λ x. makes_grant x.kind outcome)) (is_upgraded outcome) made
+      | inr none ↦
+          or_right (is_some_and (request_at w q) (λ x. makes_grant x.kind outcome)) (is_upgraded outcome)
+          (won-race p t outcome (claim_at w q) (rw none at e))
+    ]
+
+gives-made : (r : Run) (t : ℕ) (s : SnoopEnd) (grant : Grant) → snooped_at (past_of r) t ≡ Some s → s.grant ≡ Some grant
+    → Gives (request_at r.trace s.first) s.turn s.outcome
+gives-made r t s grant e f =
+    let tied = tied-snoop r t s e in
+    let made : grant_of (past_of r) r.trace tied.0 s.first t s.outcome ≡ Some grant = sym tied.1.grant ∙ f in
+    record {
+      gives = gives-parts (past_of r) r.trace s.first t s.outcome
+          (gives-by (past_of r) r.trace tied.0 s.first t s.outcome grant
+          (gives_line (past_of r) r.trace s.first t s.outcome) refl made);
+      kept = λ kept. turn-kept r t s e kept;
+    }
+
+-- a grant of a request that is no reply is to its own claim
+own-parts : (p : Past) (w : Trace) (q t : ℕ) (outcome : Outcome) (claim : Claim) (grant : Grant) (b : Bool)
+    → gives_line p w q t outcome ≡ b → Some grant ≡ own_grant p w q t outcome claim
+    → (claim.agent ≡ grant.agent) × (claim.line ≡ grant.line)
+unfolding own_grant grant_to
+own-parts p w q t outcome claim grant false e f = absurd (let no : ⊥ = (let f' = rw e at f in cc) in no)
+own-parts p w q t outcome claim grant true e f =
+    let f' = rw e at f in
+    let same : grant ≡ grant_to q (is_owner_request (request_at w q)) (is_shared_at w t) claim = cc in
+    (sym (ap (λ (g : Grant). g.agent) same), sym (ap (λ (g : Grant). g.line) same))
+
+unclaimed : (w : Trace) (i q t : ℕ) → live_clock_of w i ≡ Some q → claim_at w q ≡ None → grant_for w q t i ≡ None
+unfolding grant_for live_claim_of
+unclaimed w i q t first none =
+    let claim : option_and_then (claim_at w) (live_clock_of w i) ≡ None = ap (option_and_then (claim_at w)) first
+    ∙ none in
+    ap (option_map (grant_to q (is_owner_request (live_request_of w i)) (is_shared_at w t))) claim
+
+itself : (w : Trace) (turns : List ℕ) (i q : ℕ) → live_clock_of w i ≡ Some q → is_reply (request_at w q) ≡ false
+    → served_number w turns i ≡ Some i
+unfolding served_number live_request_of
+itself w turns i q first plain = rw (first, plain, served_number) refl
+
+no-claim : (p : Past) (w : Trace) (i q t : ℕ) (outcome : Outcome) (grant : Grant) (b : Bool)
+    → gives_line p w q t outcome ≡ b
+    → live_clock_of w i ≡ Some q → claim_at w q ≡ None → is_reply (request_at w q) ≡ false
+    → grant_of p w i q t outcome ≡ Some grant → ⊥
+unfolding grant_of
+no-claim p w i q t outcome grant false e first none plain f = let f' = rw (e, grant_of) at f in cc
+no-claim p w i q t outcome grant true e first none plain f =
+    let f' = rw (e, grant_of, itself w (turns_in p.moments) i q first plain) at f in
+    let g : grant_for w q t i ≡ Some grant = f' in
+    let both : None ≡ Some grant = sym (unclaimed w i q t first none) ∙ g in
+    cc
+
+-- the claim of a request that is granted a line
+pub record ClaimsGrant (s : SnoopEnd) (grant : Grant) : Type 0 where
+  pub claim : Claim
+  pub claimed : s.claim ≡ Some claim
+  pub agent : claim.agent ≡ grant.agent
+  pub names : claim.line ≡ grant.line
+
+pub claims-grant : (r : Run) (t : ℕ) (s : SnoopEnd) (grant : Grant) (o : Option Claim) → s.claim ≡ o
+    → snooped_at (past_of r) t ≡ Some s → s.grant ≡ Some grant → is_reply (request_at r.trace s.first) ≡ false
+    → ClaimsGrant s grant
+claims-grant r t s grant None c e f plain =
+    let tied = tied-snoop r t s e in
+    absurd (no-claim (past_of r) r.trace tied.0 s.first t s.outcome grant
+    (gives_line (past_of r) r.trace s.first t s.outcome) refl tied.1.first (sym tied.1.claim ∙ c) plain
+    (sym tied.1.grant ∙ f))
+claims-grant r t s grant (Some claim) c e f plain =
+    let own = own-parts (past_of r) r.trace s.first t s.outcome claim grant
+    (gives_line (past_of r) r.trace s.first t s.outcome) refl (sym f ∙ grant-made r t s claim e c plain) in
+    record { claim = claim; claimed = c; agent = own.0; names = own.1 }
+
+request-plain : (o : Option Request) (kind : Kind) → option_map (λ (x : Request). x.kind) o ≡ Some kind
+    → is_reply_kind kind ≡ false
+    → is_reply o ≡ false
+unfolding is_reply is_some_and
+request-plain None kind e plain = refl
+request-plain (Some request) kind e plain = let same : request.kind ≡ kind = cc in ap is_reply_kind same ∙ plain
+
+-- a line is handed over with HITM# alone
+by-turn : (turn : Turn) (o : Option Request) → outcome_by_turn turn o ≡ Handed → ⊥
+unfolding outcome_by_turn outcome_by_kind
+by-turn Keep None e = cc
+by-turn Keep (Some request) e = by-kind request.kind refl
+  where
+    by-kind : (kind : Kind) → request.kind ≡ kind → ⊥
+    by-kind Reply f = let e' = rw f at e in cc
+    by-kind Invalidate f = let e' = rw f at e in cc
+    by-kind Read f = let e' = rw f at e in cc
+    by-kind WriteBack f = let e' = rw f at e in cc
+    by-kind Upgrade f = let e' = rw f at e in cc
+by-turn Retry o e = cc
+by-turn (Defer later) o e = cc
+
+with-hitm : (handed : Bool) (turn : Turn) (o : Option Request) → outcome_under handed turn o ≡ Handed → handed ≡ true
+unfolding outcome_under
+with-hitm true turn o e = refl
+with-hitm false turn o e = absurd (by-turn turn o e)
+
+found-owner : (p : Past) (a line c : ℕ) (o : Option ℕ) → owner_at p a line c ≡ o → is_dirty_elsewhere p a line c ≡ true
+    → is_some o ≡ true
+unfolding owner_at is_dirty_elsewhere
+found-owner p a line c (Some b) e dirty = refl
+found-owner p a line c None e dirty =
+    let test : ℕ → Bool = λ b. not (nat_eq b a) && is_dirty p b line c in
+    let k = any_where-found test 4 dirty in
+    absurd (both_ways (test k.0) (first_where-none test 4 e k.0 k.1) k.2)
+
+-- where a line is handed over for an upgrade it has an owner
+owned : (r : Run) (t : ℕ) (s : SnoopEnd) (awaited : Awaited) → Timely r → snooped_at (past_of r) t ≡ Some s
+    → ByGrant s awaited → s.outcome ≡ Handed → s.kind ≡ Some Upgrade
+    → is_some (owner_at (past_to (past_of r) t) awaited.agent awaited.line t) ≡ true
+unfolding is_reply_kind
+owned r t s awaited h e b handed kind =
+    let p : Past = past_to (past_of r) t in
+    let tied = tied-snoop r t s e in
+    let within = (snoop_end_of-clock r.trace tied.0 t tied.1.reached).within in
+    let plain = request-plain (request_at r.trace s.first) Upgrade (sym tied.1.kind ∙ kind) refl in
+    let c = claims-grant r t s b.grant s.claim refl e b.granted plain in
+    let told = told-at r t s c.claim Upgrade h within e c.claimed kind refl in
+    let hitm = with-hitm (line_at HITM r.trace t) s.turn (request_at r.trace s.first)
+    (sym (outcome-made r t s e) ∙ handed) in
+    let agent : c.claim.agent ≡ awaited.agent = c.agent ∙ b.agent in
+    let line : c.claim.line ≡ awaited.line = c.names ∙ b.names in
+    let dirty : is_dirty_elsewhere p awaited.agent awaited.line t ≡ true = sym
+    (λ i. is_dirty_elsewhere p (agent i) (line i) t) ∙ sym told.dirty ∙ hitm in
+    found-owner p awaited.agent awaited.line t (owner_at p awaited.agent awaited.line t) refl dirty
+
+-- the link of a snoop end carries data exactly where data are awaited, and then data move
+pub record CarriesAwaited (p : Past) (t : ℕ) (s : SnoopEnd) (awaited : Awaited) : Type 0 where
+  pub fits : carries (link_of p awaited.line t s awaited) ≡ awaited.carries
+  pub moves : awaited.carries ≡ true → does_move s.outcome ≡ true
+
+carried-by : (p : Past) (t : ℕ) (s : SnoopEnd) (awaited : Awaited) → Carries p awaited.line t awaited.agent s
+    → not (is_upgraded s.outcome) ≡ awaited.carries → CarriesAwaited p t s awaited
+carried-by p t s awaited k e = record { fits = k.fits ∙ e; moves = λ f. k.moves (e ∙ f) }
+
+not-upgraded : (s : SnoopEnd) → s.outcome ≡ Written → not (is_upgraded s.outcome) ≡ true
+unfolding is_upgraded
+not-upgraded s e = rw e refl
+
+carries-by : (r : Run) (t : ℕ) (s : SnoopEnd) (awaited : Awaited) (o : Option Grant) → s.grant ≡ o → Timely r
+    → snooped_at (past_of r) t ≡ Some s → awaited_by s ≡ Some awaited → CarriesAwaited (past_of r) t s awaited
+carries-by r t s awaited None f h e k =
+    let b = written-await s awaited f k in
+    carried-by (past_of r) t s awaited (by-write-back (past_of r) awaited.line t awaited.agent s b.written)
+    (not-upgraded s b.written ∙ b.carried)
+carries-by r t s awaited (Some grant) f h e k =
+    let b = granted-await s awaited grant f k in
+    carried-by (past_of r) t s awaited
+    (settled-carries (past_of r) awaited.line t awaited.agent s (line_at HITM r.trace t) s.turn
+    (request_at r.trace s.first) (outcome-made r t s e) (tied-snoop r t s e).1.kind (gives-made r t s grant e f)
+    (λ handed kind. owned r t s awaited h e b handed kind)) b.carried
+
+pub carries-awaited : (r : Run) (t : ℕ) (s : SnoopEnd) (awaited : Awaited) → Timely r
+    → snooped_at (past_of r) t ≡ Some s
+    → awaited_by s ≡ Some awaited → CarriesAwaited (past_of r) t s awaited
+carries-awaited r t s awaited h e k = carries-by r t s awaited s.grant refl h e k

@@ -1,0 +1,154 @@
+-- What holds of each access that a timely run completes at a clock holds of each entry of its log there.
+use Rattle.std.proofs.Common.{ℕ, ◌+◌, ◌<◌, ◌≡◌, Bool, true, false, not, ◌&&◌, List, [], ◌∷◌, ◌++◌, map, Option, Some, None, length, nat_eq, refl, sym, subst, inl, inr}
+use Rattle.std.specs.Prelude.{⊤}
+use Rattle.std.proofs.lemmas.Bool.{and_from, and_parts, cases_Bool, eqb-true}
+use Rattle.std.specs.List.{filter, list_all}
+use Rattle.std.specs.Option.{option_map_or}
+use Rattle.fsb_access.specs.Access.{accessed_line}
+use Rattle.fsb_access.specs.declared.access.Access.{Access}
+use Rattle.fsb_access.specs.declared.item.Item.{Item}
+use Rattle.fsb_access.specs.declared.item.Item.TheVariants.{Idle, Locked, One}
+use Rattle.fsb_access.specs.declared.log.Done.{Done}
+use Rattle.fsb_access.specs.ScriptOrder.{Step, step_of, steps_from}
+use Rattle.fsb_timely.specs.Completions.{Completed, completed_at, completed_if, completed_of_item, entries_at, is_arrival, next_accesses, of_all_agents}
+use Rattle.fsb_timely.specs.Hits.{is_hit}
+use Rattle.fsb_timely.specs.Past.{Past}
+use Rattle.fsb_timely.specs.Runs.{Run, past_of}
+use Rattle.fsb_timely.specs.Scripts.{Need, is_load, locked_need, needs_after, needs_of, next_item, next_number, plain_need}
+use Rattle.fsb_timely.specs.Timely.{Timely}
+use Rattle.fsb_timely.proofs.Interface.{same-list, whole-completions}
+use Rattle.fsb_coherent.specs.LineEvents.{entries_on}
+
+-- each element is so
+abbrev pub Each : {X : Type 0} → (X → Type 0) → List X → Type 0
+Each so [] = ⊤
+Each so (x ∷ xs) = so x × Each so xs
+
+each-append : {X : Type 0} (so : X → Type 0) (xs ys : List X) → Each so xs → Each so ys → Each so (xs ++ ys)
+each-append so [] ys h k = k
+each-append so (x ∷ xs) ys h k = (h.0, each-append so xs ys h.1 k)
+
+all-agents : (so : Completed → Type 0) (list : ℕ → List Completed) → ((a : ℕ) → Each so (list a))
+    → Each so (of_all_agents list)
+unfolding of_all_agents
+all-agents so list each =
+    each-append so (list 0 ++ list 1 ++ list 2) (list 3)
+    (each-append so (list 0 ++ list 1) (list 2) (each-append so (list 0) (list 1) (each 0) (each 1)) (each 2)) (each 3)
+
+each-if : (so : Completed → Type 0) (p : Past) (c a : ℕ) (b : Bool) → (b ≡ true → Each so (next_accesses p a c))
+    → Each so (completed_if p c b a)
+unfolding completed_if
+each-if so p c a true each = each refl
+each-if so p c a false each = tt
+
+-- what holds of the accesses of each agent's next item, where it has a hit or an arrival, holds of all completed ones
+each-completed : (so : Completed → Type 0) (p : Past) (c : ℕ)
+    → ((a : ℕ) → is_hit p a c ≡ true → Each so (next_accesses p a c))
+    → ((a : ℕ) → is_arrival p a c ≡ true → Each so (next_accesses p a c)) → Each so (completed_at p c)
+unfolding completed_at
+each-completed so p c hit arrival =
+    each-append so (of_all_agents (λ a. completed_if p c (is_hit p a c) a))
+    (of_all_agents (λ a. completed_if p c (is_arrival p a c) a))
+    (all-agents so (λ a. completed_if p c (is_hit p a c) a) (λ a. each-if so p c a (is_hit p a c) (hit a)))
+    (all-agents so (λ a. completed_if p c (is_arrival p a c) a) (λ a. each-if so p c a (is_arrival p a c) (arrival a)))
+
+each-next : (so : Completed → Type 0) (p : Past) (a c : ℕ) (number : Option ℕ) (item : Option Item)
+    → next_number p a c ≡ number
+    → next_item p a c ≡ item → ((n : ℕ) (i : Item) → next_item p a c ≡ Some i → Each so (completed_of_item a n i))
+    → Each so (next_accesses p a c)
+unfolding next_accesses
+each-next so p a c None item e f each =
+    subst (λ o. Each so (option_map_or (λ n. option_map_or (completed_of_item a n) (next_item p a c) []) o []))
+    (sym e) tt
+each-next so p a c (Some n) None e f each =
+    subst (λ o. Each so (option_map_or (λ k. option_map_or (completed_of_item a k) (next_item p a c) []) o [])) (sym e)
+    (subst (λ o. Each so (option_map_or (completed_of_item a n) o [])) (sym f) tt)
+each-next so p a c (Some n) (Some i) e f each =
+    subst (λ o. Each so (option_map_or (λ k. option_map_or (completed_of_item a k) (next_item p a c) []) o [])) (sym e)
+    (subst (λ o. Each so (option_map_or (completed_of_item a n) o [])) (sym f) (each n i f))
+
+-- the need serves the access: it is of its line, and where the line is not needed for itself the access is a load
+pub record NeedOf (need : Need) (access : Access) : Type 0 where
+  pub names : need.line ≡ accessed_line access
+  pub load : need.alone ≡ false → is_load access ≡ true
+
+-- what follows of each access whose need passes
+abbrev Follows : (Completed → Type 0) → (Need → Bool) → ℕ → Type 0
+Follows so test a =
+    (need : Need) (step : Step) → NeedOf need step.access → test need ≡ true → so (record { agent = a; step = step })
+
+not-false : (b : Bool) → not b ≡ false → b ≡ true
+not-false true e = refl
+not-false false e = absurd (let no : ⊥ = cc in no)
+
+each-group : (so : Completed → Type 0) (test : Need → Bool) (a n part : ℕ) (whole group : List Access)
+    → Follows so test a
+    → list_all test (map (locked_need [] whole) group) ≡ true
+    → Each so (map (λ step. record { agent = a; step = step }) (steps_from n part group))
+unfolding locked_need
+each-group so test a n part whole [] follows e = tt
+each-group so test a n part whole (access ∷ group) follows e =
+    let parts = and_parts (test (locked_need [] whole access)) (list_all test (map (locked_need [] whole) group)) e in (
+      follows (locked_need [] whole access) (record { item = n; part = part; access = access })
+          (record { names = refl; load = λ f. absurd (let no : ⊥ = cc in no) }) parts.0,
+      each-group so test a n (part + 1) whole group follows parts.1,
+    )
+
+pub each-of-item : (so : Completed → Type 0) (test : Need → Bool) (a n : ℕ) (item : Item) → Follows so test a
+    → list_all test (needs_of item) ≡ true → Each so (completed_of_item a n item)
+unfolding completed_of_item needs_of needs_after plain_need
+each-of-item so test a n (One access) follows e =
+    let parts = and_parts (test (plain_need [] access)) true e in (
+      follows (plain_need [] access) (record { item = n; part = 0; access = access })
+          (record { names = refl; load = λ f. not-false (is_load access) f }) parts.0,
+      tt,
+    )
+each-of-item so test a n (Locked group) follows e = each-group so test a n 0 group group follows e
+each-of-item so test a n (Idle clocks) follows e = tt
+
+-- an entry, as an access that is completed
+abbrev pub entry_of : Done → Completed
+entry_of done = record { agent = done.agent; step = step_of done }
+
+-- an entry on the line passes where it is so
+abbrev Passes : (Completed → Type 0) → (Done → Bool) → ℕ → Type 0
+Passes so test line = (done : Done) → accessed_line done.access ≡ line → so (entry_of done) → test done ≡ true
+
+entries-all : (so : Completed → Type 0) (test : Done → Bool) (line c : ℕ) (log : List Done) → Passes so test line
+    → Each so (map entry_of (filter (λ done. nat_eq done.clock c) log))
+    → list_all test (filter (λ done. nat_eq done.clock c && nat_eq (accessed_line done.access) line) log) ≡ true
+entries-all so test line c [] says each = refl
+entries-all so test line c (done ∷ log) says each =
+    elim (cases_Bool (nat_eq done.clock c)) [
+      | inr f ↦ rw f (entries-all so test line c log says (rw f at each))
+      | inl t ↦
+          let both = rw t at each in
+          elim (cases_Bool (nat_eq (accessed_line done.access) line)) [
+            | inr f ↦ rw (t, f) (entries-all so test line c log says both.1)
+            | inl names ↦
+                rw (t, names)
+                (and_from (test done)
+                (list_all test (filter (λ x. nat_eq x.clock c && nat_eq (accessed_line x.access) line) log))
+                (says done (eqb-true (accessed_line done.access) line names) both.0)
+                (entries-all so test line c log says both.1))
+          ]
+    ]
+
+-- the accesses of the next item of each agent that completes at n are so
+abbrev NextItems : (Completed → Type 0) → Past → ℕ → (ℕ → Bool) → Type 0
+NextItems so p n completes =
+    (a k : ℕ) (item : Item) → completes a ≡ true → next_item p a n ≡ Some item → Each so (completed_of_item a k item)
+
+-- the entries of a timely run on a line, by what its hits and arrivals complete
+pub entries-pass : (r : Run) (line n : ℕ) (so : Completed → Type 0) (test : Done → Bool) → Timely r → n < length r.trace
+    → Passes so test line → NextItems so (past_of r) n (λ a. is_hit (past_of r) a n)
+    → NextItems so (past_of r) n (λ a. is_arrival (past_of r) a n)
+    → list_all test (entries_on (past_of r) line n) ≡ true
+unfolding entries_on entries_at
+entries-pass r line n so test h l says hit arrival =
+    let p : Past = past_of r in
+    let same = same-list (entries_at p n) (completed_at p n) (whole-completions r n h l) in
+    let completed = each-completed so p n
+    (λ a t. each-next so p a n (next_number p a n) (next_item p a n) refl refl (λ k item e. hit a k item t e))
+    (λ a t. each-next so p a n (next_number p a n) (next_item p a n) refl refl (λ k item e. arrival a k item t e)) in
+    entries-all so test line n p.log says (subst (λ xs. Each so xs) (sym same) completed)

@@ -1,0 +1,189 @@
+-- A write-back begins only where no other agent's request for the line is open.
+use Rattle.std.proofs.Common.{ℕ, zero, suc, ◌+◌, ◌<◌, ◌≤◌, ◌≡◌, Bool, true, false, not, ◌&&◌, if◌then◌else◌, List, [], ◌∷◌, Option, Some, None, length, nat_eq, nat_lt, refl, sym, ap, ◌∙◌, inl, inr, arith}
+use Rattle.std.specs.List.{filter, filter_map, list_any}
+use Rattle.std.specs.Option.{option_map_or}
+use Rattle.std.proofs.lemmas.Bool.{and_from, and_parts, both_ways, cases_Bool, eq-eqb, eqb-true, false_from_ne_true, lt-ltb, ltb-true, not-true, or_from}
+use Rattle.std.proofs.lemmas.List.Folds.{list_any-append}
+use Rattle.fsb_count.specs.Clocks.{all_where}
+use Rattle.fsb_count.specs.Options.{is_before, is_some_and}
+use Rattle.fsb_count.proofs.Interface.{any_where-none, is_before-parts}
+use Rattle.fsb_encode.specs.declared.request.Request.{Request}
+use Rattle.fsb_line.specs.Line.{OpenRequest}
+use Rattle.fsb_signal.specs.declared.lines.TheConstants.Lines.{ADS, AERR, BNR}
+use Rattle.fsb_signal.specs.Samples.{line_at}
+use Rattle.fsb_trace.specs.declared.who.Who.{Who}
+use Rattle.fsb_trace.specs.declared.who.Who.TheVariants.{Symmetric}
+use Rattle.fsb_trace.specs.At.{line_back}
+use Rattle.fsb_trace.specs.Flight.{has_ended, in_flight, is_dropped, is_in_flight}
+use Rattle.fsb_trace.specs.Requests.{is_cancelled, is_live, is_write_back_kind, live_number_of}
+use Rattle.fsb_trace.specs.Response.{end_of}
+use Rattle.fsb_trace.specs.Winner.{winner_at}
+use Rattle.fsb_trace.proofs.Interface.{line_at-agree, live_clock_of-number, winner_at-agree}
+use Rattle.fsb_timely.specs.Grants.{is_claim_of_other, snooped_at}
+use Rattle.fsb_timely.specs.Moments.{claim_at, is_snoop_of, is_snooped_in, is_unsnooped, moment_at, snoop_at}
+use Rattle.fsb_timely.specs.Past.{Claim, Moment, Past}
+use Rattle.fsb_timely.specs.Runs.{Run, moments_below, past_of, past_to, past_with, run_to}
+use Rattle.fsb_timely.specs.Starts.{drives_ads, drives_pair, has_free_winner, has_room, is_kept_back, is_spaced, may_begin, starts_requests}
+use Rattle.fsb_timely.specs.Timely.{Timely, holds_at, holds_in}
+use Rattle.fsb_timely.specs.Wants.{is_held_back, is_open_to_other, unsnooped_at, want_of}
+use Rattle.fsb_timely.proofs.Interface.{claim_at-agree, done_below, is_held_back-alike, moment-at, moment_of, past-begins}
+use Rattle.fsb_timely.proofs.Moments as moments
+use Rattle.fsb_lawful.proofs.Interface.{IsListed, and4, any-listed, length-cut, run_to-agrees, same-beq}
+use Rattle.fsb_coherent.specs.Relation.{IsOpen, is_cancelled_below, is_snooped_below}
+use Rattle.fsb_tied.proofs.Beginnings.{IsBegunWant, begun-there}
+use Rattle.fsb_tied.proofs.Ended.{end-below, ended-snooped}
+use Rattle.fsb_tied.proofs.Owing.{cancelled-below}
+
+-- what is given for the numbers that pass
+given_if : {Y : Type 0} → (ℕ → Option Y) → (ℕ → Bool) → ℕ → Option Y
+given_if give test n = if test n then give n else None
+
+given-step : {Y : Type 0} (give : ℕ → Option Y) (test : ℕ → Bool) (x : ℕ) (xs : List ℕ) (b : Bool) (o : Option Y)
+    → test x ≡ b → give x ≡ o → filter_map give (filter test xs) ≡ filter_map (given_if give test) xs
+    → filter_map give (filter test (x ∷ xs)) ≡ filter_map (given_if give test) (x ∷ xs)
+unfolding given_if
+given-step give test x xs false o e f same = rw e same
+given-step give test x xs true None e f same = rw (e, f) same
+given-step give test x xs true (Some y) e f same = rw (e, f) (ap (λ ys. y ∷ ys) same)
+
+given-passing : {Y : Type 0} (give : ℕ → Option Y) (test : ℕ → Bool) (xs : List ℕ)
+    → filter_map give (filter test xs) ≡ filter_map (given_if give test) xs
+given-passing give test [] = refl
+given-passing give test (x ∷ xs) =
+    given-step give test x xs (test x) (give x) refl refl (given-passing give test xs)
+
+given-there : {Y : Type 0} (give : ℕ → Option Y) (test : ℕ → Bool) (q : ℕ) (y : Y) → test q ≡ true → give q ≡ Some y
+    → given_if give test q ≡ Some y
+unfolding given_if
+given-there give test q y e f = rw e f
+
+-- no snoop end so far is in the moments so far
+none-in : (r : Run) (q m : ℕ)
+    → ((t : ℕ) → t < m → is_some_and (moment_of r t).snooped (is_snoop_of q) ≡ false)
+    → is_snooped_in (moments_below r m) q ≡ false
+unfolding is_snooped_in moments_below
+none-in r q zero none = refl
+none-in r q (suc m) none =
+    let test : Moment → Bool = λ moment. is_some_and moment.snooped (is_snoop_of q) in
+    list_any-append test (moments_below r m) (moment_of r m ∷ [])
+    ∙ or_from _ _ (none-in r q m (λ t l. none t (omega arith))) (or_from _ _ (none m (omega arith)) refl)
+
+snoop-none : (r : Run) (n q t : ℕ) → n ≤ length r.trace → t < n → is_snooped_below (past_of r) n q ≡ false
+    → is_some_and (moment_of r t).snooped (is_snoop_of q) ≡ false
+unfolding is_snooped_below
+snoop-none r n q t l below none =
+    ap (λ o. is_some_and o (is_snoop_of q)) (sym (moments.snooped-there r t (omega arith)))
+    ∙ any_where-none (λ c. is_some_and (snooped_at (past_of r) c) (is_snoop_of q)) n none t below
+
+-- a request that is neither cancelled nor snooped is in flight
+open-flies : (r : Run) (e q : ℕ) → Timely r → e < length r.trace → q < e + 1 → line_at ADS r.trace q ≡ true
+    → is_cancelled_below (past_of r) (suc e) q ≡ false → is_snooped_below (past_of r) (suc e) q ≡ false
+    → is_in_flight (run_to r e).trace (e + 1) q ≡ true
+unfolding is_in_flight is_dropped has_ended is_cancelled
+open-flies r e q h l below asks uncancelled unsnooped =
+    let u = (run_to r e).trace in
+    let agree = run_to-agrees r e l in
+    let size = length-cut r e l in
+    let ads = sym (line_at-agree ADS (e + 1) r.trace u q agree below) ∙ asks in
+    let kept : (line_at AERR u (q + 3) && nat_lt (q + 3) (e + 1)) ≡ false = false_from_ne_true _ (λ t.
+    let parts = and_parts (line_at AERR u (q + 3)) (nat_lt (q + 3) (e + 1)) t in
+    let low = ltb-true (q + 3) (e + 1) parts.1 in
+    both_ways (is_cancelled_below (past_of r) (suc e) q) uncancelled
+    (cancelled-below r (suc e) q (omega arith) (omega arith) asks
+    (line_at-agree AERR (e + 1) r.trace u (q + 3) agree low ∙ parts.0))) in
+    let going : (is_live u q && is_before (end_of u (live_number_of u q)) (e + 1)) ≡ false = false_from_ne_true _ (λ t.
+    let parts = and_parts (is_live u q) _ t in
+    let x = is_before-parts (end_of u (live_number_of u q)) (e + 1) parts.1 in
+    let clock = live_clock_of-number u q (omega arith) parts.0 in
+    let ended = end-below r e (live_number_of u q) x.0 q h l x.1 x.2 clock in
+    both_ways (is_snooped_below (past_of r) (suc e) q) unsnooped (ended-snooped r (suc e) q h (omega arith) ended)) in
+    and_from _ _ (and_from _ _ (and_from _ _ ads (lt-ltb q (e + 1) below)) (ap not kept)) (ap not going)
+
+-- so it is among the open ones that the clock leaves
+open-left : (r : Run) (e q : ℕ) (claim : Claim) (f : Claim → Bool) → Timely r → e < length r.trace → q < e + 1
+    → line_at ADS r.trace q ≡ true → claim_at r.trace q ≡ Some claim → f claim ≡ true
+    → is_cancelled_below (past_of r) (suc e) q ≡ false → is_snooped_below (past_of r) (suc e) q ≡ false
+    → list_any f (unsnooped_at (past_of r) (suc e)) ≡ true
+unfolding unsnooped_at past_of moment_at in_flight is_unsnooped
+open-left r e q claim f h l below asks claims passes uncancelled unsnooped =
+    let u = (run_to r e).trace in
+    let p : Past = past_with r (moments_below r e) e in
+    let snooped = snoop_at p (run_to r e).choices u e in
+    let test : ℕ → Bool = is_unsnooped p snooped in
+    let agree = run_to-agrees r e l in
+    let there = sym (claim_at-agree (e + 1) r.trace u q agree below) ∙ claims in
+    let before = none-in r q e (λ t m. snoop-none r (suc e) q t (omega arith) (omega arith) unsnooped) in
+    let now = snoop-none r (suc e) q e (omega arith) (omega arith) unsnooped in
+    let passing : test q ≡ true = and_from _ _ (ap not before) (ap not now) in
+    let listed : IsListed (is_in_flight u (e + 1)) (given_if (claim_at u) test) f q = record {
+      there = open-flies r e q h l below asks uncancelled unsnooped;
+      given = claim;
+      gives = given-there (claim_at u) test q claim passing there;
+      passes = passes;
+    } in
+    ap (λ o. list_any f (option_map_or (λ moment. moment.unsnooped) o [])) (moment-at r (length r.trace) e l)
+    ∙ ap (list_any f) (given-passing (claim_at u) test (all_where (is_in_flight u (e + 1)) (e + 1)))
+    ∙ any-listed (is_in_flight u (e + 1)) (given_if (claim_at u) test) f (e + 1) q below listed
+
+free-by : (p : Past) (n a : ℕ) (o : Option Who) → o ≡ Some (Symmetric a)
+    → is_some_and o (λ who. not (is_kept_back p n who)) ≡ true → is_held_back p a n ≡ false
+unfolding is_some_and is_kept_back
+free-by p n a o e f = let f' = rw e at f in not-true (is_held_back p a n) f'
+
+free-winner : (r : Run) (p : Past) (n a : ℕ) → starts_requests r p n ≡ true → line_at ADS r.trace n ≡ true
+    → winner_at r.trace n ≡ Some (Symmetric a) → is_held_back p a n ≡ false
+unfolding starts_requests drives_ads may_begin has_free_winner
+free-winner r p n a e ads won =
+    let drives = (and_parts (drives_ads r p n) (drives_pair r p n) e).0 in
+    let begins = sym (same-beq (line_at ADS r.trace n) (may_begin r p n) drives) ∙ ads in
+    let parts = and4 (is_spaced r n) (has_room r n) (not (line_back BNR r.trace n 2)) (has_free_winner r p n) begins in
+    free-by p n a (winner_at r.trace n) won parts.3
+
+-- the agent whose request begins is not held back
+begun-free : (r : Run) (n : ℕ) (claim : Claim) → Timely r → n < length r.trace → IsBegunWant r n claim
+    → is_held_back (past_of r) claim.agent n ≡ false
+unfolding holds_at holds_in
+begun-free r n claim h l k =
+    let u = (run_to r n).trace in
+    let agree = run_to-agrees r n l in
+    let ads = sym (line_at-agree ADS (n + 1) r.trace u n agree (omega arith)) ∙ k.ads in
+    let won = sym (winner_at-agree (n + 1) r.trace u n agree (omega arith)) ∙ k.winner in
+    let goes = past-begins r n h l in
+    let same = is_held_back-alike (n + 1) (past_to (past_of r) n) (past_of r) claim.agent n goes (omega arith)
+    (done_below (n + 1) (past_to (past_of r) n) claim.agent n goes.entries (omega arith) goes.at_end) in
+    sym same ∙ free-winner (run_to r n) (past_to (past_of r) n) n claim.agent (h.request_starts.at n l) ads won
+
+not-open : (p : Past) (a n : ℕ) (request : Request) → want_of p a n ≡ Some request
+    → is_write_back_kind request.kind ≡ true → is_held_back p a n ≡ false → is_open_to_other p a n request.line ≡ false
+unfolding is_held_back is_some_and
+not-open p a n request want kind free = let f = rw (want, kind) at free in f
+
+other-claim : (a b line q : ℕ) → nat_eq b a ≡ false
+    → is_claim_of_other a line (record { first = q; agent = b; line = line }) ≡ true
+unfolding is_claim_of_other
+other-claim a b line q f = and_from _ _ (ap not f) (eq-eqb line line refl)
+
+others-open : (r : Run) (n a b line : ℕ) (request : OpenRequest) → Timely r → n ≤ length r.trace
+    → IsOpen (past_of r) b line n request → nat_eq b a ≡ false → is_open_to_other (past_of r) a n line ≡ true
+unfolding is_open_to_other
+others-open r zero a b line request h l k f = let below = k.before in absurd (omega arith)
+others-open r (suc e) a b line request h l k f =
+    let below = k.before in
+    let claim : Claim = record { first = request.number; agent = b; line = line } in
+    let begun = begun-there r request.number claim (omega arith) k.begun in
+    open-left r e request.number claim (is_claim_of_other a line) h (omega arith) (omega arith) begun.0 begun.1
+    (other-claim a b line request.number f) k.uncancelled k.unsnooped
+
+-- where an agent's write-back of a line begins no other agent has an open request for the line
+pub none-other : (r : Run) (n : ℕ) (claim : Claim) → Timely r → n < length r.trace → (k : IsBegunWant r n claim)
+    → is_write_back_kind k.request.kind ≡ true → (b : ℕ) (request : OpenRequest)
+    → IsOpen (past_of r) b claim.line n request → b ≡ claim.agent
+none-other r n claim h l k kind b request opened =
+    let free = not-open (past_of r) claim.agent n k.request k.want kind (begun-free r n claim h l k) in
+    elim (cases_Bool (nat_eq b claim.agent)) [
+      | inl same ↦ eqb-true b claim.agent same
+      | inr other ↦
+          let open_there = others-open r n claim.agent b claim.line request h (omega arith) opened other in
+          absurd (both_ways (is_open_to_other (past_of r) claim.agent n claim.line)
+          (ap (is_open_to_other (past_of r) claim.agent n) (sym k.line) ∙ free) open_there)
+    ]

@@ -1,0 +1,59 @@
+-- The lemmas of this crate that others draw on; no other name of its proofs is used outside.
+-- Snoop ends, responses and ends of a past that come in the order of its live requests; and those of a timely run do.
+pub use Rattle.fsb_tied.proofs.AnswersInOrder.{answers-in-order}
+-- The end that is awaited after a snoop end is known by its request.
+pub use Rattle.fsb_tied.proofs.Awaiting.{awaits-grant, is-found, none-before}
+-- What the moments of a timely run have of responses and ends is what its whole trace says.
+pub use Rattle.fsb_tied.proofs.Bridge.{Ends, Responds, ended-number, number-ended, number-responded, one-at-end, one-listed, responded-from, responded-number, responded-parts}
+-- In a timely run the link of a snoop end carries data exactly where the end that is awaited after it brings data.
+pub use Rattle.fsb_tied.proofs.CarryingRuns.{granted-await, written-await}
+-- The links of a line that are left, from that of one snoop end on.
+pub use Rattle.fsb_tied.proofs.Chains.{link_of}
+-- Each clock of a timely run has the facts on which the tie of a line rests.
+pub use Rattle.fsb_tied.proofs.ClocksOfRuns.{clock-facts}
+-- The memory has of a line, at each clock, the bytes that were put there last; at the end copies and memory are kept.
+pub use Rattle.fsb_tied.proofs.KeptLines.{memory-below-run}
+-- In a timely run responses and ends come in the order of the links of each line.
+pub use Rattle.fsb_tied.proofs.LinkOrder.{first-link}
+-- A reply answers one request alone: while a Deferred request awaits its reply no other one begins with its ID.
+pub use Rattle.fsb_tied.proofs.OneReply.{deferred-held}
+-- The last live request that put a line into memory, one clock on.
+pub use Rattle.fsb_tied.proofs.PutLines.{number-put, number-stays, takes_line}
+-- A reply that is seen in the samples up to a clock is the reply of the whole run.
+pub use Rattle.fsb_tied.proofs.RepliesSeen.{has-reply, live-request, reply-stays, same-both}
+-- A reply grants the line of the request that it answers.
+pub use Rattle.fsb_tied.proofs.ReplyGrants.{reply-grants}
+-- The machine's line in a timely run whose log is served and follows its scripts: its bytes, and those of the copies.
+pub use Rattle.fsb_tied.proofs.RunValues.{source-below-run}
+-- The request whose snoop end this is.
+pub use Rattle.fsb_tied.proofs.SnoopClaims.{IsSnooped, asked-at, claimed-at, snooped-by}
+-- How a request of a symmetric agent is settled: its outcome fits its kind, and its grant is the one that both make.
+pub use Rattle.fsb_tied.proofs.SnoopOutcomes.{outcome-shown}
+-- What HIT# and HITM# tell at a snoop end, in the words of the run's past.
+pub use Rattle.fsb_tied.proofs.SnoopTold.{told-again}
+-- Where memory takes the data of a request for a line, its end is awaited on the line, and its link has a giver.
+pub use Rattle.fsb_tied.proofs.TakingSnoops.{uncontested, ungiven}
+-- The whole trace of a timely run is orderly: its live requests respond and end one after the other.
+pub use Rattle.fsb_tied.proofs.WholeOrder.{answered, ended-before, one-ends, orderly-whole}
+-- At the snoop end of a write-back of a timely run no other agent holds its line.
+pub use Rattle.fsb_tied.proofs.WrittenAlone.{writes-back-alone}
+-- The request that begins at a clock, and the one that is cancelled there, come in order.
+pub use Rattle.fsb_tied.proofs.BeginFacts.{uncancelled-below, unsnooped-below}
+-- What begins in a timely run is what its agent wants.
+pub use Rattle.fsb_tied.proofs.Beginnings.{begun-shown, begun-want, claimed}
+-- The ends of live requests, in the moments of a run and in its cut traces; what has ended has its snoop end behind it.
+pub use Rattle.fsb_tied.proofs.Ended.{end-below, ended-snooped}
+-- Data that move on a line, and the ends that are awaited there: what it says that they do.
+pub use Rattle.fsb_tied.proofs.Moving.{any-of}
+-- A request that has begun, and is neither cancelled nor ended, is one that its agent owes.
+pub use Rattle.fsb_tied.proofs.Owing.{cancelled-at, cancelled-below, claim-no-reply, owing-gives}
+-- What the snoop end of a reply that grants a line answers: a request that was Deferred on the line, the last one.
+pub use Rattle.fsb_tied.proofs.ReplyEnds.{reply-end-at}
+-- The accesses of a clock of a timely run are served: those of hits, and those that come with the end of another line.
+pub use Rattle.fsb_tied.proofs.ServedAccesses.{grant-first, granted-parts}
+-- An agent has at most one line of a cache set, held or asked for.
+pub use Rattle.fsb_tied.proofs.Slots.{Slot, one-slot}
+-- At the snoop end of a symmetric agent's request that request is open, and no open one is older.
+pub use Rattle.fsb_tied.proofs.SnoopOpen.{cancels, live-at}
+-- Lines of one cache set, and the victim among them.
+pub use Rattle.fsb_tied.proofs.Victims.{a-victim, dirty-held, no-victim, rival-other, rival-set, rival-sym, same-set, same-set-sym}

@@ -1,0 +1,147 @@
+-- The bytes of a line in the replay of a log: what the stores on it make of them.
+use Rattle.std.proofs.Common.{◌≡◌, ℕ, zero, suc, ◌+◌, ◌-◌, ◌*◌, ◌/◌, ◌%◌, ◌<◌, ◌≤◌, true, Bool, ◌&&◌, not, if◌then◌else◌, ◌≢◌, ◌⊎◌, List, [], ◌∷◌, map, fold, slice_index, refl, sym, ap, ◌∙◌, inl, inr, arith, add-zero}
+use Rattle.std.proofs.lemmas.Bool.{and_parts, cases_Bool, cases_lt}
+use Rattle.std.proofs.lemmas.Bool.Decides.{nat_tests}
+use Rattle.std.specs.Prelude.{nat_eq}
+use Rattle.std.specs.List.{filter, list_all}
+use Rattle.fsb_access.specs.Access.{accessed_line, addr_of, is_place, size_of}
+use Rattle.fsb_access.specs.ByteMemory.{ByteMemory, byte_of, bytes_at, put_value}
+use Rattle.fsb_access.specs.declared.access.Access.{Access}
+use Rattle.fsb_access.specs.declared.access.Access.TheVariants.{Load, Store}
+use Rattle.fsb_access.specs.declared.log.Done.{Done}
+use Rattle.fsb_access.specs.Replay.{ReplayState, replay, replayed_values, served_state, served_value}
+use Rattle.fsb_access.proofs.ByteLaws.{bytes_at-beside, place-within_line, put_value-inside, put_value-outside}
+use Rattle.fsb_timely.specs.Scripts.{is_load}
+use Rattle.fsb_coherent.specs.LineEvents.{change_of, changes_of}
+use Rattle.fsb_timely.specs.Kept.{line_bytes}
+
+-- memories that agree on some addresses of theirs have the same bytes there
+bytes_at-shifted : (memory other : ByteMemory) (addr place count : ℕ)
+    → ((k : ℕ) → k < count → memory (addr + k) ≡ other (place + k))
+    → bytes_at memory addr count ≡ bytes_at other place count
+unfolding bytes_at
+bytes_at-shifted memory other addr place zero same = refl
+bytes_at-shifted memory other addr place (suc count) same =
+    let first : memory addr ≡ other place = simp add-zero at (same 0 (omega arith)) in
+    let rest = bytes_at-shifted memory other (addr + 1) (place + 1) count
+    (λ k h. moved k (same (suc k) (omega arith))) in
+    rw (first, rest) refl
+  where
+    moved : (k : ℕ) → memory (addr + suc k) ≡ other (place + suc k) → memory (addr + 1 + k) ≡ other (place + 1 + k)
+    moved k h =
+        let here : addr + 1 + k ≡ addr + suc k = omega arith in
+        let there : place + 1 + k ≡ place + suc k = omega arith in
+        rw (here, there) h
+
+-- the bytes that were read from an address on are those of the memory
+byte-read : (memory : ByteMemory) (addr count k : ℕ) → k < count
+    → slice_index (bytes_at memory addr count) k ≡ memory (addr + k)
+unfolding bytes_at
+byte-read memory addr zero k l = absurd (omega arith)
+byte-read memory addr (suc count) zero l = let same : addr + 0 ≡ addr = add-zero addr in rw same refl
+byte-read memory addr (suc count) (suc k) l =
+    let next : addr + 1 + k ≡ addr + suc k = omega arith in
+    byte-read memory (addr + 1) count k (omega arith) ∙ ap memory next
+
+-- a byte of a line behind a number that is put into it, seen from the line's first byte on
+byte-put : (memory : ByteMemory) (bytes : List ℕ) (addr size value k : ℕ)
+    → slice_index bytes k ≡ memory (addr / 32 * 32 + k)
+    → put_value memory addr size value (addr / 32 * 32 + k) ≡ put_value (slice_index bytes) (addr % 32) size value k
+byte-put memory bytes addr size value k read =
+    elim (cases_lt (addr / 32 * 32 + k) addr) [
+      | inl below ↦
+          put_value-outside memory addr size value (addr / 32 * 32 + k) (inl below)
+          ∙ sym (put_value-outside (slice_index bytes) (addr % 32) size value k (inl (omega arith)) ∙ read)
+      | inr from ↦ elim (cases_lt (addr / 32 * 32 + k) (addr + size)) [
+        | inl within ↦
+            put_value-inside memory addr size value (addr / 32 * 32 + k) (omega arith) within
+            ∙ ap (byte_of value) (place addr k from)
+            ∙ sym (put_value-inside (slice_index bytes) (addr % 32) size value k (omega arith) (omega arith))
+        | inr beyond ↦
+            put_value-outside memory addr size value (addr / 32 * 32 + k) (inr (omega arith))
+            ∙ sym (put_value-outside (slice_index bytes) (addr % 32) size value k (inr (omega arith)) ∙ read)
+      ]
+    ]
+  where
+    place : (addr k : ℕ) → addr ≤ addr / 32 * 32 + k → addr / 32 * 32 + k - addr ≡ k - addr % 32
+    place addr k from = omega arith
+
+-- a number that is put into a line, in the line's bytes
+line-put : (memory : ByteMemory) (addr size value : ℕ)
+    → line_bytes (put_value memory addr size value) (addr / 32)
+    ≡ bytes_at (put_value (slice_index (line_bytes memory (addr / 32))) (addr % 32) size value) 0 32
+unfolding line_bytes
+line-put memory addr size value =
+    bytes_at-shifted (put_value memory addr size value)
+    (put_value (slice_index (bytes_at memory (addr / 32 * 32) 32)) (addr % 32) size value) (addr / 32 * 32) 0 32
+    (λ k l. let same : 0 + k ≡ k = omega arith in rw same
+    (byte-put memory (bytes_at memory (addr / 32 * 32) 32) addr size value k
+    (byte-read memory (addr / 32 * 32) 32 k l)))
+
+-- and in those of another line
+line-beside : (memory : ByteMemory) (addr size value line : ℕ) → addr / 32 ≢ line → addr % 32 + size ≤ 32
+    → line_bytes (put_value memory addr size value) line ≡ line_bytes memory line
+unfolding line_bytes
+line-beside memory addr size value line other within =
+    bytes_at-beside memory addr size value (line * 32) 32 apart
+  where
+    apart : (line * 32 + 32 ≤ addr) ⊎ (addr + size ≤ line * 32)
+    apart = elim (cases_lt (addr / 32) line) [ inl below ↦ inr (omega arith) | inr above ↦ inl (omega (arith, other)) ]
+
+-- the entry stores into the line
+unfoldable pub stores_into : ℕ → Done → Bool
+stores_into line done = not (is_load done.access) && nat_eq (accessed_line done.access) line
+
+-- the entry has bytes within one line
+unfoldable pub is_placed : Done → Bool
+is_placed done = is_place (size_of done.access) (addr_of done.access)
+
+-- what one served access makes of the bytes of a line
+line-served : (state : ReplayState) (agent value line : ℕ) (access : Access)
+    → is_place (size_of access) (addr_of access) ≡ true → value ≡ served_value state agent access
+    → line_bytes (served_state state agent access).memory line
+    ≡ (if not (is_load access) && nat_eq (accessed_line access) line
+    then bytes_at (put_value (slice_index (line_bytes state.memory line)) (addr_of access % 32)
+    (size_of access) value) 0 32
+    else line_bytes state.memory line)
+unfolding is_load
+line-served state agent value line (Load size addr) placed served = refl
+line-served state agent value line (Store size addr operand) placed served =
+    elim (cases_Bool (nat_eq (addr / 32) line)) [
+      | inl here ↦
+          let same : addr / 32 ≡ line = grind (arith, nat_tests) in
+          let put = line-put state.memory addr size value in
+          rw (here, ← served, ← same) put
+      | inr beside ↦
+          let other : addr / 32 ≢ line = grind (arith, nat_tests) in
+          let within = place-within_line size addr placed in
+          rw (beside, ← served) (line-beside state.memory addr size value line other within)
+    ]
+
+-- The bytes of a line after entries are served one after the other: those of before, with the stores on the line made
+-- in their order.
+pub replay-line : (state : ReplayState) (line : ℕ) (log : List Done) → list_all is_placed log ≡ true
+    → map (λ done. done.value) log ≡ replayed_values state log
+    → line_bytes (replay state log).memory line
+    ≡ changes_of (filter (stores_into line) log) (line_bytes state.memory line)
+unfolding changes_of change_of stores_into is_placed
+replay-line state line [] placed values = refl
+replay-line state line (done ∷ log) placed values =
+    let parts = and_parts (is_placed done) (list_all is_placed log) placed in
+    let head : done.value ≡ served_value state done.agent done.access = cc in
+    let tail : map (λ (d : Done). d.value) log ≡ replayed_values (served_state state done.agent done.access) log = cc in
+    let rest = replay-line (served_state state done.agent done.access) line log parts.1 tail in
+    let here = line-served state done.agent done.value line done.access parts.0 head in
+    rest ∙ ap (λ bytes. fold (λ before d. change_of d before) bytes (filter (stores_into line) log)) here
+    ∙ one done log (line_bytes state.memory line)
+  where
+    one : (done : Done) (log : List Done) (bytes : List ℕ)
+        → fold (λ before d. change_of d before)
+        (if not (is_load done.access) && nat_eq (accessed_line done.access) line then bytes_at
+        (put_value (slice_index bytes) (addr_of done.access % 32)
+        (size_of done.access) done.value) 0 32 else bytes) (filter (stores_into line) log)
+        ≡ fold (λ before d. change_of d before) bytes (filter (stores_into line) (done ∷ log))
+    one done log bytes = elim (cases_Bool (not (is_load done.access) && nat_eq (accessed_line done.access) line)) [
+      | inl here ↦ rw here refl
+      | inr beside ↦ rw beside refl
+    ]

@@ -1,0 +1,37 @@
+-- Who has a line for itself in a timely run.
+use Rattle.std.proofs.Common.{ℕ, ◌≤◌, ◌≡◌, ◌≢◌, true, false, [], Some, length}
+use Rattle.fsb_line.specs.Line.{LineDeferral, MemoryLine, unheld}
+use Rattle.fsb_line.specs.Runs.{run}
+use Rattle.fsb_timely.specs.Grants.{holds_line, is_exclusive}
+use Rattle.fsb_timely.specs.Hits.{is_dirty}
+use Rattle.fsb_timely.specs.Runs.{Run, past_of}
+use Rattle.fsb_timely.specs.Timely.{Timely}
+use Rattle.fsb_lawful.specs.Beginning.{KeepsBounds}
+use Rattle.fsb_coherent.specs.KeepsTie.{IsTiedTo}
+use Rattle.fsb_coherent.specs.LineEvents.{events_below}
+use Rattle.fsb_coherent.specs.Relation.{deferral_below}
+use Rattle.fsb_coherent.proofs.Interface.{only_holder, pending_shared}
+use Rattle.fsb_tied.proofs.OneOwner.{one-dirty}
+use Rattle.fsb_tied.proofs.TiedRuns.{events-may-happen}
+
+-- the line of the machine at n
+abbrev line-at : Run → ℕ → ℕ → MemoryLine
+line-at r line n = run (unheld []) (events_below (past_of r) line n)
+
+tied-at : (r : Run) (line n : ℕ) → Timely r → KeepsBounds r.plan → n ≤ length r.trace → IsTiedTo (past_of r) line n (line-at r line n)
+tied-at r line n h bounds l = (events-may-happen r line n [] h bounds l).1
+
+pub alone-in-run : (r : Run) (a b line n : ℕ) → Timely r → KeepsBounds r.plan → n ≤ length r.trace
+    → is_exclusive (past_of r) a line n ≡ true → b ≢ a → holds_line (past_of r) b line n ≡ false
+alone-in-run r a b line n h bounds l sole other =
+    only_holder (past_of r) line n (line-at r line n) (tied-at r line n h bounds l) a b sole other
+
+pub dirty-in-run : (r : Run) (a b line n : ℕ) → Timely r → KeepsBounds r.plan → n ≤ length r.trace
+    → is_dirty (past_of r) a line n ≡ true → is_dirty (past_of r) b line n ≡ true → a ≡ b
+dirty-in-run r a b line n h bounds l dirty other =
+    one-dirty (past_of r) line n a b (line-at r line n) (tied-at r line n h bounds l) dirty other
+
+pub pending-in-run : (r : Run) (a line n : ℕ) (d : LineDeferral) → Timely r → KeepsBounds r.plan → n ≤ length r.trace
+    → deferral_below (past_of r) line n ≡ Some d → is_exclusive (past_of r) a line n ≡ false
+pending-in-run r a line n d h bounds l pends =
+    pending_shared (past_of r) line n (line-at r line n) (tied-at r line n h bounds l) d pends a

@@ -1,0 +1,173 @@
+-- What the events of a clock store into a line: the stores of the entries on it, in their order.
+use Rattle.std.proofs.Common.{◌≡◌, ℕ, Bool, true, false, not, if◌then◌else◌, nat_eq, is_some, List, [], ◌∷◌, ◌++◌, map, fold, Option, Some, None, refl, ◌∙◌, inl, inr}
+use Rattle.std.proofs.lemmas.Bool.{and_parts, cases_Bool}
+use Rattle.std.specs.List.{filter, list_all}
+use Rattle.std.specs.Option.{option_and_then, option_map_or}
+use Rattle.fsb_count.specs.Options.{is_some_and}
+use Rattle.fsb_access.specs.declared.log.Done.{Done}
+use Rattle.fsb_line.specs.declared.purpose.Purpose.{Purpose}
+use Rattle.fsb_line.specs.Events.{Event, after, stored}
+use Rattle.fsb_line.specs.Events.Event.{Begins, Drops, Ends, IsCancelled, IsDeferred, IsGranted, IsHanded, IsLost, IsReplied, IsRetried, IsUpgraded, IsWritten, Loads, Responds, Stores}
+use Rattle.fsb_line.specs.Line.{Bytes, MemoryLine}
+use Rattle.fsb_line.specs.Runs.{run, stored_by_all}
+use Rattle.fsb_trace.specs.declared.outcome.Outcome.{Outcome}
+use Rattle.fsb_trace.specs.declared.outcome.Outcome.TheVariants.{Deferred, Failed, Granted, Handed, Replied, Retried, Upgraded, Written}
+use Rattle.fsb_timely.specs.Past.{Claim, Past, SnoopEnd}
+use Rattle.fsb_timely.specs.Grants.{begun_at, is_rival, snooped_at}
+use Rattle.fsb_timely.specs.Scripts.{is_load}
+use Rattle.fsb_coherent.specs.Awaits.{awaited_at, cancelled_in, owner_at, purpose_of, purpose_wanted, responded_in}
+use Rattle.fsb_coherent.specs.LineEvents.{access_event, begin_events, moves_on, begins_on, cancel_events, cancels_on, change_of, changes_of, claimed_events, responds_on, settled_events, snoop_events, snoops_on}
+
+-- the stores of two lists of events, one after the other
+pub stored-append : (x : MemoryLine) (es fs : List Event) (bytes : Bytes)
+    → stored_by_all x (es ++ fs) bytes ≡ stored_by_all (run x es) fs (stored_by_all x es bytes)
+stored-append x [] fs bytes = refl
+stored-append x (e ∷ es) fs bytes = stored-append (after x e) es fs (stored x e bytes)
+
+-- the event makes no store and moves no data
+abbrev pub is_still : Event → Bool
+is_still (Stores a change) = false
+is_still (Ends change) = false
+is_still (Loads a) = true
+is_still (Drops a) = true
+is_still (Begins a kind number) = true
+is_still (IsCancelled a) = true
+is_still (IsWritten a) = true
+is_still (IsHanded a kind owner) = true
+is_still (IsGranted a kind shared) = true
+is_still (IsUpgraded a) = true
+is_still (IsLost a) = true
+is_still (IsRetried a kind) = true
+is_still (IsDeferred a kind shared) = true
+is_still IsReplied = true
+is_still Responds = false
+
+storeless-one : (x : MemoryLine) (e : Event) (bytes : Bytes) → is_still e ≡ true → stored x e bytes ≡ bytes
+unfolding stored
+storeless-one x (Stores a change) bytes h = absurd (cc)
+storeless-one x (Ends change) bytes h = absurd (cc)
+storeless-one x (Loads a) bytes h = refl
+storeless-one x (Drops a) bytes h = refl
+storeless-one x (Begins a kind number) bytes h = refl
+storeless-one x (IsCancelled a) bytes h = refl
+storeless-one x (IsWritten a) bytes h = refl
+storeless-one x (IsHanded a kind owner) bytes h = refl
+storeless-one x (IsGranted a kind shared) bytes h = refl
+storeless-one x (IsUpgraded a) bytes h = refl
+storeless-one x (IsLost a) bytes h = refl
+storeless-one x (IsRetried a kind) bytes h = refl
+storeless-one x (IsDeferred a kind shared) bytes h = refl
+storeless-one x IsReplied bytes h = refl
+storeless-one x Responds bytes h = absurd (cc)
+
+-- events that make no store
+pub storeless : (x : MemoryLine) (es : List Event) (bytes : Bytes) → list_all is_still es ≡ true
+    → stored_by_all x es bytes ≡ bytes
+storeless x [] bytes h = refl
+storeless x (e ∷ es) bytes h =
+    let parts = and_parts (is_still e) (list_all is_still es) h in
+    storeless (after x e) es (stored x e bytes) parts.1 ∙ storeless-one x e bytes parts.0
+
+-- the accesses of entries store what these entries store
+pub accesses-store : (x : MemoryLine) (entries : List Done) (bytes : Bytes)
+    → stored_by_all x (map access_event entries) bytes
+    ≡ changes_of (filter (λ done. not (is_load done.access)) entries) bytes
+unfolding changes_of
+accesses-store x [] bytes = refl
+accesses-store x (done ∷ entries) bytes =
+    accesses-store (after x (access_event done)) entries (stored x (access_event done) bytes)
+    ∙ step x done entries bytes (is_load done.access) refl
+  where
+    step : (x : MemoryLine) (done : Done) (entries : List Done) (bytes : Bytes) (load : Bool)
+        → is_load done.access ≡ load
+        → fold (λ before d. change_of d before) (stored x (access_event done) bytes)
+        (filter (λ d. not (is_load d.access)) entries)
+        ≡ fold (λ before d. change_of d before) bytes (filter (λ d. not (is_load d.access)) (done ∷ entries))
+    step x done entries bytes true e = unfold access_event stored in rw e refl
+    step x done entries bytes false e = unfold access_event stored in rw e refl
+
+-- the response makes no store
+pub response-storeless : (x : MemoryLine) (p : Past) (line n : ℕ) (bytes : Bytes)
+    → stored_by_all x (responds_on p line n) bytes ≡ bytes
+unfolding responds_on stored
+response-storeless x p line n bytes =
+    elim (cases_Bool (is_some_and (option_and_then (awaited_at p n) (responded_in p n)) (moves_on line))) [
+      | inl e ↦ rw e refl
+      | inr e ↦ rw e refl
+    ]
+
+-- a first clock, a cancellation and a snoop end make no store and move no data
+pub begins-still : (p : Past) (line n : ℕ) → list_all is_still (begins_on p line n) ≡ true
+unfolding begins_on begin_events
+begins-still p line n = one (begun_at p n) refl
+  where
+    wanted : (a : ℕ) (o : Option Purpose) → list_all is_still (option_map_or (λ kind. Begins a kind n ∷ []) o []) ≡ true
+    wanted a None = refl
+    wanted a (Some kind) = refl
+
+    one : (o : Option Claim) → begun_at p n ≡ o → list_all is_still (option_map_or (begin_events p line n) o []) ≡ true
+    one None e = refl
+    one (Some claim) e = elim (cases_Bool (nat_eq claim.line line)) [
+      | inl here ↦ rw here (wanted claim.agent (purpose_wanted p claim.agent n))
+      | inr there ↦ elim (cases_Bool (is_rival p claim.line line)) [
+        | inl f ↦ rw (there, f) refl
+        | inr f ↦ rw (there, f) refl
+      ]
+    ]
+
+pub cancels-still : (p : Past) (line n : ℕ) → list_all is_still (cancels_on p line n) ≡ true
+unfolding cancels_on cancel_events
+cancels-still p line n = one (option_and_then (begun_at p) (cancelled_in p n))
+  where
+    one : (o : Option Claim) → list_all is_still (option_map_or (cancel_events line) o []) ≡ true
+    one None = refl
+    one (Some claim) =
+        elim (cases_Bool (nat_eq claim.line line)) [ inl here ↦ rw here refl | inr there ↦ rw there refl ]
+
+settled-still : (p : Past) (line n : ℕ) (s : SnoopEnd) (a : ℕ) (kind : Purpose) (outcome : Outcome)
+    → s.outcome ≡ outcome
+    → list_all is_still (settled_events p line n s a kind) ≡ true
+unfolding settled_events
+settled-still p line n s a kind Granted e = rw e refl
+settled-still p line n s a kind Handed e = rw e (owned (owner_at p a line n))
+  where
+    owned : (o : Option ℕ) → list_all is_still (option_map_or (λ owner. IsHanded a kind owner ∷ []) o []) ≡ true
+    owned None = refl
+    owned (Some owner) = refl
+settled-still p line n s a kind Retried e = rw e refl
+settled-still p line n s a kind Deferred e = rw e refl
+settled-still p line n s a kind Written e = rw e refl
+settled-still p line n s a kind Replied e = rw e refl
+settled-still p line n s a kind Failed e = rw e refl
+settled-still p line n s a kind Upgraded e =
+    elim (cases_Bool (is_some s.grant)) [ inl f ↦ rw (e, f) refl | inr f ↦ rw (e, f) refl ]
+
+claimed-still : (p : Past) (line n : ℕ) (s : SnoopEnd) (claim : Claim)
+    → list_all is_still (claimed_events p line n s claim) ≡ true
+unfolding claimed_events
+claimed-still p line n s claim = elim (cases_Bool (nat_eq claim.line line)) [
+  | inl here ↦ rw here (kinds (option_and_then purpose_of s.kind))
+  | inr there ↦ rw there refl
+]
+  where
+    kinds : (o : Option Purpose) → list_all is_still (option_map_or (settled_events p line n s claim.agent) o []) ≡ true
+    kinds None = refl
+    kinds (Some kind) = settled-still p line n s claim.agent kind s.outcome refl
+
+pub snoops-still : (p : Past) (line n : ℕ) → list_all is_still (snoops_on p line n) ≡ true
+unfolding snoops_on snoop_events
+snoops-still p line n = one (snooped_at p n)
+  where
+    told : (s : SnoopEnd) (o : Option Claim) → list_all is_still (elim o [
+      | Some claim ↦ claimed_events p line n s claim
+      | None ↦ if is_some_and s.grant (λ grant. nat_eq grant.line line) then IsReplied ∷ [] else []
+    ]) ≡ true
+    told s (Some claim) = claimed-still p line n s claim
+    told s None = elim (cases_Bool (is_some_and s.grant (λ grant. nat_eq grant.line line))) [
+      | inl e ↦ rw e refl
+      | inr e ↦ rw e refl
+    ]
+
+    one : (o : Option SnoopEnd) → list_all is_still (option_map_or (snoop_events p line n) o []) ≡ true
+    one None = refl
+    one (Some s) = told s s.claim

@@ -1,0 +1,127 @@
+-- Where memory takes the data of a request for a line, its end is awaited on the line, and its link has a giver.
+use Rattle.std.proofs.Common.{ℕ, ◌≡◌, Bool, true, false, not, ◌&&◌, ◌||◌, nat_eq, if◌then◌else◌, Option, Some, None, is_some, refl, ◌∙◌}
+use Rattle.std.proofs.lemmas.Bool.{and_from, and_parts, both_ways}
+use Rattle.fsb_count.specs.Clocks.{first_where}
+use Rattle.fsb_count.specs.Options.{is_some_and}
+use Rattle.fsb_count.proofs.Interface.{any_where-at, first_where-found}
+use Rattle.fsb_encode.specs.declared.request.Kind.{Kind}
+use Rattle.fsb_encode.specs.declared.request.Kind.TheVariants.{Invalidate, Read, Reply, Upgrade, WriteBack}
+use Rattle.fsb_trace.specs.declared.outcome.Outcome.{Outcome}
+use Rattle.fsb_trace.specs.declared.outcome.Outcome.TheVariants.{Deferred, Failed, Granted, Handed, Replied, Retried, Upgraded, Written}
+use Rattle.fsb_trace.specs.Outcome.{does_take}
+use Rattle.fsb_trace.specs.Requests.{is_write_back_kind}
+use Rattle.fsb_timely.specs.Grants.{holds_line, is_exclusive, snooped_at}
+use Rattle.fsb_timely.specs.Hits.{is_dirty}
+use Rattle.fsb_timely.specs.Moments.{is_got, is_upgraded, makes_grant}
+use Rattle.fsb_timely.specs.Past.{Grant, Past, SnoopEnd}
+use Rattle.fsb_timely.specs.Runs.{Run, past_of, past_to}
+use Rattle.fsb_timely.specs.Snoops.{is_held_elsewhere, is_held_for}
+use Rattle.fsb_lawful.specs.Premises.{WritesBackAlone}
+use Rattle.fsb_coherent.specs.Awaits.{Awaited, awaited_by, awaited_by_claim, awaited_by_grant, is_written, owner_at}
+use Rattle.fsb_coherent.specs.Fitting.{IsSnoopOn, IsUncontested, fits_kind, fits_write_back}
+use Rattle.fsb_coherent.specs.Relation.{giver_at}
+
+exclusive-holds : (p : Past) (a line n : ℕ) → is_exclusive p a line n ≡ true → holds_line p a line n ≡ true
+unfolding is_exclusive
+exclusive-holds p a line n e = (and_parts (holds_line p a line n) _ (and_parts _ _ e).0).0
+
+dirty-holds : (p : Past) (a line n : ℕ) → is_dirty p a line n ≡ true → holds_line p a line n ≡ true
+unfolding is_dirty
+dirty-holds p a line n e = exclusive-holds p a line n (and_parts (is_exclusive p a line n) _ e).0
+
+-- the owner that hands a line over is another agent that holds it
+owner-holds : (p : Past) (a line t : ℕ) → is_some (owner_at p a line t) ≡ true → is_held_elsewhere p a line t ≡ true
+unfolding owner_at is_held_elsewhere
+owner-holds p a line t e = by-owner (first_where (λ b. not (nat_eq b a) && is_dirty p b line t) 4) refl e
+  where
+    by-owner : (o : Option ℕ) → first_where (λ b. not (nat_eq b a) && is_dirty p b line t) 4 ≡ o → is_some o ≡ true
+        → is_held_elsewhere p a line t ≡ true
+    by-owner None f h = absurd (let no : ⊥ = cc in no)
+    by-owner (Some b) f h =
+        let found = first_where-found (λ c. not (nat_eq c a) && is_dirty p c line t) 4 b f in
+        let parts = and_parts (not (nat_eq b a)) (is_dirty p b line t) found.1 in
+        any_where-at (λ c. not (nat_eq c a) && holds_line p c line t) 4 b found.0
+        (and_from (not (nat_eq b a)) (holds_line p b line t) parts.0 (dirty-holds p b line t parts.1))
+
+-- so a write-back is not handed over
+pub uncontested : (r : Run) (line n : ℕ) (s : SnoopEnd) → WritesBackAlone r → snooped_at (past_of r) n ≡ Some s
+    → (fits : IsSnoopOn (past_of r) line n s) → IsUncontested fits.kind s.outcome
+unfolding is_held_for is_some_and is_write_back_kind
+uncontested r line n s alone there fits kind handed =
+    let p : Past = past_to (past_of r) n in
+    let writes : is_some_and s.kind is_write_back_kind ≡ true = rw (fits.known, kind) refl in
+    let none = alone.alone n s there writes in
+    let here = rw fits.claimed at none in
+    both_ways (is_held_elsewhere p fits.agent line n) here (owner-holds p fits.agent line n (fits.owned handed))
+
+-- an end is awaited on the line, and the link has a giver
+pub record IsTaking (p : Past) (line t : ℕ) (s : SnoopEnd) : Type 0 where
+  pub awaited : Awaited
+  pub awaits : awaited_by s ≡ Some awaited
+  pub names : awaited.line ≡ line
+  pub gives : is_some (giver_at p line t awaited.agent s) ≡ true
+
+written-ungranted : (kind : Kind) (outcome : Outcome) (won : Bool) (grant : Grant) → outcome ≡ Written
+    → fits_kind kind outcome ≡ true
+    → (if makes_grant kind outcome || (is_upgraded outcome && won) then Some grant else None) ≡ None
+unfolding fits_kind fits_write_back makes_grant is_got is_upgraded
+written-ungranted Reply outcome won grant e fits = absurd (let no : ⊥ = cc in no)
+written-ungranted WriteBack outcome won grant e fits = rw e refl
+written-ungranted Invalidate outcome won grant e fits = rw e refl
+written-ungranted Read outcome won grant e fits = rw e refl
+written-ungranted Upgrade outcome won grant e fits = rw e refl
+
+handed-granted : (kind : Kind) (outcome : Outcome) (won : Bool) (grant : Grant) → outcome ≡ Handed
+    → fits_kind kind outcome ≡ true
+    → (if makes_grant kind outcome || (is_upgraded outcome && won) then Some grant else None) ≡ Some grant
+unfolding fits_kind fits_write_back makes_grant is_got is_upgraded
+handed-granted Reply outcome won grant e fits = absurd (let no : ⊥ = cc in no)
+handed-granted WriteBack outcome won grant e fits = absurd (let no : ⊥ = (let f = rw e at fits in cc) in no)
+handed-granted Invalidate outcome won grant e fits = rw e refl
+handed-granted Read outcome won grant e fits = rw e refl
+handed-granted Upgrade outcome won grant e fits = rw e refl
+
+-- a snoop end of a request for the line after which memory takes its data
+pub taking : (p : Past) (line t : ℕ) (s : SnoopEnd) (fits : IsSnoopOn p line t s) → IsUncontested fits.kind s.outcome
+    → does_take s.outcome ≡ true → IsTaking p line t s
+unfolding does_take awaited_by awaited_by_claim awaited_by_grant is_written giver_at
+taking p line t s fits free takes = by-outcome s.outcome refl
+  where
+    by-outcome : (outcome : Outcome) → s.outcome ≡ outcome → IsTaking p line t s
+    by-outcome Written e =
+        let grant = fits.granted ∙ written-ungranted fits.kind s.outcome fits.won _ e (fits.fits free) in
+        record {
+          awaited = record { agent = fits.agent; line = line; carries = true };
+          awaits = rw (grant, e, fits.claimed) refl;
+          names = refl;
+          gives = rw e refl;
+        }
+    by-outcome Handed e =
+        let grant = fits.granted ∙ handed-granted fits.kind s.outcome fits.won _ e (fits.fits free) in
+        record {
+          awaited = record { agent = fits.agent; line = line; carries = not (is_upgraded s.outcome) };
+          awaits = rw grant refl;
+          names = refl;
+          gives = rw e (fits.owned e);
+        }
+    by-outcome Granted e = absurd (let no : ⊥ = (let f = rw e at takes in cc) in no)
+    by-outcome Retried e = absurd (let no : ⊥ = (let f = rw e at takes in cc) in no)
+    by-outcome Deferred e = absurd (let no : ⊥ = (let f = rw e at takes in cc) in no)
+    by-outcome Replied e = absurd (let no : ⊥ = (let f = rw e at takes in cc) in no)
+    by-outcome Failed e = absurd (let no : ⊥ = (let f = rw e at takes in cc) in no)
+    by-outcome Upgraded e = absurd (let no : ⊥ = (let f = rw e at takes in cc) in no)
+
+-- where memory takes no data, the link has no giver
+pub ungiven : (p : Past) (line t a : ℕ) (s : SnoopEnd) → does_take s.outcome ≡ false → giver_at p line t a s ≡ None
+unfolding does_take giver_at
+ungiven p line t a s takes = by-outcome s.outcome refl
+  where
+    by-outcome : (outcome : Outcome) → s.outcome ≡ outcome → giver_at p line t a s ≡ None
+    by-outcome Written e = absurd (let no : ⊥ = (let f = rw e at takes in cc) in no)
+    by-outcome Handed e = absurd (let no : ⊥ = (let f = rw e at takes in cc) in no)
+    by-outcome Granted e = rw e refl
+    by-outcome Retried e = rw e refl
+    by-outcome Deferred e = rw e refl
+    by-outcome Replied e = rw e refl
+    by-outcome Failed e = rw e refl
+    by-outcome Upgraded e = rw e refl
