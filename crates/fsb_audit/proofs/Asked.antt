@@ -24,7 +24,7 @@ use Rattle.fsb_laws.proofs.Interface.{end_past, finished-deferred, finished-plai
 use Rattle.fsb_rules.specs.Checker.{Decoded}
 use Rattle.fsb_rules.specs.Tests.{request_by}
 use Rattle.fsb_rules.proofs.Interface.{decoded_lawful}
-use Rattle.fsb_audit.specs.Registers.{asked_after, asked_with, first_asked}
+use Rattle.fsb_audit.specs.AuditRegisters.{asked_after, asked_with, first_asked}
 use Rattle.fsb_audit.specs.Audit.{HasAsked, first_back}
 
 -- what is not before a number is not before a lesser one

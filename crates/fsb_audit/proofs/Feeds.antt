@@ -24,9 +24,9 @@ use Rattle.fsb_rules.proofs.Interface.{as_broken-none, data_clock-parts, found_n
 use Rattle.fsb_audit.specs.declared.finding.Finding.{Finding}
 use Rattle.fsb_audit.specs.declared.finding.Finding.TheVariants.{Broken as BrokenFirst}
 use Rattle.fsb_audit.specs.declared.audit.Audit.{Audit}
-use Rattle.fsb_audit.specs.Transfers.{is_from_memory, moved_at, moved_count}
+use Rattle.fsb_audit.specs.MovedChunks.{is_from_memory, moved_at, moved_count}
 use Rattle.fsb_audit.specs.Fouls.{broken_at, foul_at, is_foul_clock}
-use Rattle.fsb_audit.specs.Registers.{HasMoved, asked_after, chunk_by, count_after, data_in, first_after, found_after, from_memory_after}
+use Rattle.fsb_audit.specs.AuditRegisters.{HasMoved, asked_after, chunk_by, count_after, data_in, first_after, found_after, from_memory_after}
 use Rattle.fsb_audit.specs.Audit.{BreaksFirst, KeepsUp, FoulsFirst, HasAsked, IsAnswering, IsFoundForGood, Stands, comes_after, is_full, latest_data}
 use Rattle.fsb_audit.proofs.Asked.{asked_goes}
 use Rattle.fsb_audit.proofs.Answering.{answering_goes}

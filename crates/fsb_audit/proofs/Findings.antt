@@ -19,9 +19,9 @@ use Rattle.fsb_audit.specs.declared.finding.Finding.{Finding}
 use Rattle.fsb_audit.specs.declared.finding.FoulAt.{FoulAt}
 use Rattle.fsb_audit.specs.declared.finding.Finding.TheVariants.{Foul as FoulFirst}
 use Rattle.fsb_audit.specs.declared.audit.Audit.{Audit}
-use Rattle.fsb_audit.specs.Transfers.{is_from_memory, moved_at}
+use Rattle.fsb_audit.specs.MovedChunks.{is_from_memory, moved_at}
 use Rattle.fsb_audit.specs.Fouls.{broken_at, finding_of, found_below, found_with, first_foul, foul_at, have_same_data, is_foul_clock, is_stale, latest_move}
-use Rattle.fsb_audit.specs.Registers.{ChunkMap, data_in, foul_by}
+use Rattle.fsb_audit.specs.AuditRegisters.{ChunkMap, data_in, foul_by}
 use Rattle.fsb_audit.specs.Audit.{BreaksFirst, KeepsUp, FoulsFirst, IsFoundForGood, Stands, is_full, latest_data}
 use Rattle.fsb_audit.proofs.Movers.{GoesOnFrom}
 use Rattle.fsb_audit.proofs.Moves.{same_foul, same_foul_at}

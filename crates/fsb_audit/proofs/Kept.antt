@@ -22,9 +22,9 @@ use Rattle.fsb_laws.specs.OneMore.{OneMore, responds}
 use Rattle.fsb_laws.specs.Orderly.{Orderly}
 use Rattle.fsb_laws.specs.Progress.{response_count}
 use Rattle.fsb_laws.proofs.Interface.{line_at-new, next_response-new, responds_at-new, response_clock_of-new, response_code_at-new, response_count-kept, response_count-more, response_there}
-use Rattle.fsb_audit.specs.Transfers.{does_come_from_memory, moved_at, moved_count}
+use Rattle.fsb_audit.specs.MovedChunks.{does_come_from_memory, moved_at, moved_count}
 use Rattle.fsb_audit.specs.Fouls.{latest_move}
-use Rattle.fsb_audit.specs.Registers.{ChunkMap, Puts, data_in, first_after, from_memory_after}
+use Rattle.fsb_audit.specs.AuditRegisters.{ChunkMap, Puts, data_in, first_after, from_memory_after}
 use Rattle.fsb_audit.specs.Audit.{comes_after, first_back, latest_data}
 use Rattle.fsb_audit.proofs.Movers.{GoesOnFrom, Responded, responded, same_outcome}
 use Rattle.fsb_audit.proofs.Moves.{last_where-below, same_data, same_latest, same_moved}

@@ -18,7 +18,7 @@ use Rattle.fsb_laws.specs.Orderly.{Orderly}
 use Rattle.fsb_laws.specs.Progress.{response_count}
 use Rattle.fsb_laws.proofs.Interface.{clear_parts, has_answer, response_counted, response_there}
 use Rattle.fsb_rules.proofs.Interface.{IsDataClock, data_clock-parts, data_clock-from}
-use Rattle.fsb_audit.specs.Transfers.{data_place_at, mover_at}
+use Rattle.fsb_audit.specs.MovedChunks.{data_place_at, mover_at}
 
 -- two tests are the same where each passes with the other
 pub same_Bool : (a b : Bool) → (a ≡ true → b ≡ true) → (b ≡ true → a ≡ true) → a ≡ b

@@ -16,7 +16,7 @@ use Rattle.fsb_trace.specs.Outcome.{outcome_of, is_deferral, is_deferred, respon
 use Rattle.fsb_trace.specs.Flight.{is_reply_to, is_live_reply_to, reply_clock_of, reply_number_of}
 use Rattle.fsb_trace.proofs.Interface.{AgreeTo-sym, is_live-agree, line_at-agree, live_clock_of-number, live_clock_of-stays, request_at-agree, response_clock_of-stays, snoop_end_of-clock}
 use Rattle.fsb_laws.proofs.Interface.{deferred_response, live_of_reply}
-use Rattle.fsb_audit.specs.Transfers.{chunk_moved_at, chunk_moved_by, data_place_at, does_come_from_memory, is_named_by_reply, is_from_memory, moved_at, mover_at, namer_of, nth_chunk}
+use Rattle.fsb_audit.specs.MovedChunks.{chunk_moved_at, chunk_moved_by, data_place_at, does_come_from_memory, is_named_by_reply, is_from_memory, moved_at, mover_at, namer_of, nth_chunk}
 use Rattle.fsb_audit.specs.Fouls.{foul_at, have_same_data, is_foul_clock, is_stale, latest_move}
 use Rattle.fsb_audit.proofs.Movers.{GoesOnFrom, Responded, data_responded, first_where-alike, live_after, live_below, mover_parts, responded, same_mover, same_outcome, same_place, same_request, still_responded}
 

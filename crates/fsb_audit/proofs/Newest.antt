@@ -31,8 +31,8 @@ use Rattle.fsb_rules.specs.declared.coming.Coming.{Coming}
 use Rattle.fsb_rules.specs.Checker.{Deferrable}
 use Rattle.fsb_rules.specs.ComingChunks.{HasData}
 use Rattle.fsb_rules.proofs.Interface.{IsDataClock, data_clock-parts, decoded_lawful}
-use Rattle.fsb_audit.specs.Registers.{chunk_by, first_asked, nth_from}
-use Rattle.fsb_audit.specs.Transfers.{chunk_moved_at, chunk_moved_by, data_place_at, does_come_from_memory, is_named_by_reply, is_from_memory, moved_at, mover_at, namer_of, nth_chunk}
+use Rattle.fsb_audit.specs.AuditRegisters.{chunk_by, first_asked, nth_from}
+use Rattle.fsb_audit.specs.MovedChunks.{chunk_moved_at, chunk_moved_by, data_place_at, does_come_from_memory, is_named_by_reply, is_from_memory, moved_at, mover_at, namer_of, nth_chunk}
 use Rattle.fsb_audit.specs.Audit.{HasAsked, IsAnswering, comes_after}
 use Rattle.fsb_audit.proofs.Movers.{GoesOnFrom, Responded, after_response, before_end, mover_is, no_mover, place_is, responded}
 use Rattle.fsb_audit.proofs.Moves.{Answer, answer_from, answer_live, answer_parts, reply_back, reply_before, same_deferred}

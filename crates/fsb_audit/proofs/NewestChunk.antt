@@ -24,8 +24,8 @@ use Rattle.fsb_laws.proofs.Interface.{clear_parts, deferred_response, has_answer
 use Rattle.fsb_rules.specs.declared.coming.Coming.{Coming}
 use Rattle.fsb_rules.specs.ComingChunks.{HasData}
 use Rattle.fsb_rules.proofs.Interface.{IsDataClock, data_clock-parts, decoded_lawful}
-use Rattle.fsb_audit.specs.Registers.{chunk_by, first_asked, nth_from}
-use Rattle.fsb_audit.specs.Transfers.{chunk_moved_at, chunk_moved_by, does_come_from_memory, is_named_by_reply, is_from_memory, moved_at, mover_at, namer_of, nth_chunk}
+use Rattle.fsb_audit.specs.AuditRegisters.{chunk_by, first_asked, nth_from}
+use Rattle.fsb_audit.specs.MovedChunks.{chunk_moved_at, chunk_moved_by, does_come_from_memory, is_named_by_reply, is_from_memory, moved_at, mover_at, namer_of, nth_chunk}
 use Rattle.fsb_audit.specs.Audit.{HasAsked, IsAnswering, comes_after}
 use Rattle.fsb_audit.proofs.Movers.{Responded, before_end, live_after, mover_is, no_mover, place_is, responded, same_request}
 use Rattle.fsb_audit.proofs.Moves.{Answer, answer_from, answer_live, answer_parts, reply_back, reply_before, reply_forth, same_deferred, same_number}

@@ -28,7 +28,7 @@ use Rattle.fsb_rules.specs.declared.broken.Broken.{Broken}
 use Rattle.fsb_audit.specs.declared.finding.FoulAt.{FoulAt}
 use Rattle.fsb_audit.specs.declared.finding.Finding.{Finding}
 use Rattle.fsb_audit.specs.declared.finding.Finding.TheVariants.{Broken as BrokenFirst, Foul as FoulFirst}
-use Rattle.fsb_audit.specs.Transfers.{data_place_at, mover_at, is_named_by_reply, namer_of, nth_chunk, chunk_moved_by, chunk_moved_at, moved_at, moved_count, does_come_from_memory, is_from_memory}
+use Rattle.fsb_audit.specs.MovedChunks.{data_place_at, mover_at, is_named_by_reply, namer_of, nth_chunk, chunk_moved_by, chunk_moved_at, moved_at, moved_count, does_come_from_memory, is_from_memory}
 use Rattle.fsb_audit.specs.Fouls.{latest_move, have_same_data, is_stale, is_foul_clock, first_foul, foul_at, broken_at, found_below, found_with, finding_of}
 
 -- the bits of some different lines together

@@ -7,9 +7,9 @@ use Rattle.fsb_trace.specs.Verdict.{verdict}
 use Rattle.fsb_laws.proofs.Interface.{response_count-empty}
 use Rattle.fsb_rules.specs.Checker.{Stands as CheckerStands}
 use Rattle.fsb_audit.specs.declared.audit.Audit.{Audit}
-use Rattle.fsb_audit.specs.Transfers.{moved_count}
+use Rattle.fsb_audit.specs.MovedChunks.{moved_count}
 use Rattle.fsb_audit.specs.Fouls.{finding_of, latest_move}
-use Rattle.fsb_audit.specs.Registers.{data_in}
+use Rattle.fsb_audit.specs.AuditRegisters.{data_in}
 use Rattle.fsb_audit.specs.Audit.{KeepsUp, HasAsked, IsAnswering, Stands, comes_after, first_back, latest_data}
 use Rattle.fsb_audit.proofs.Findings.{nothing, stands_following}
 

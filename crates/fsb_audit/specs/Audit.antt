@@ -18,9 +18,9 @@ use Rattle.fsb_laws.specs.Progress.{response_count}
 use Rattle.fsb_rules.specs.Checker.{Stands as CheckerStands}
 use Rattle.fsb_audit.specs.declared.finding.Finding.{Finding}
 use Rattle.fsb_audit.specs.declared.audit.Audit.{Audit}
-use Rattle.fsb_audit.specs.Transfers.{does_come_from_memory, moved_count}
+use Rattle.fsb_audit.specs.MovedChunks.{does_come_from_memory, moved_count}
 use Rattle.fsb_audit.specs.Fouls.{latest_move, is_foul_clock, first_foul, foul_at, broken_at, finding_of}
-use Rattle.fsb_audit.specs.Registers.{first_asked, data_in}
+use Rattle.fsb_audit.specs.AuditRegisters.{first_asked, data_in}
 
 -- memory was lacking in a call
 unfoldable pub is_full : Audit → Bool

@@ -11,7 +11,7 @@ use Rattle.fsb_rules.specs.declared.broken.Broken.{Broken}
 use Rattle.fsb_audit.specs.declared.finding.FoulAt.{FoulAt}
 use Rattle.fsb_audit.specs.declared.finding.Finding.{Finding}
 use Rattle.fsb_audit.specs.declared.finding.Finding.TheVariants.{Broken as BrokenFirst, Foul as FoulFirst}
-use Rattle.fsb_audit.specs.Transfers.{moved_at, is_from_memory}
+use Rattle.fsb_audit.specs.MovedChunks.{moved_at, is_from_memory}
 
 -- the latest clock below c at which the chunk is moved, whichever way
 unfoldable pub latest_move : Trace → ℕ → ℕ → Option ℕ

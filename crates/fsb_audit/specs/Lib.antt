@@ -1,4 +1,4 @@
-pub mod Transfers
+pub mod MovedChunks
 pub mod Fouls
-pub mod Registers
+pub mod AuditRegisters
 pub mod Audit

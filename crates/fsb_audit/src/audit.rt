@@ -4,9 +4,9 @@ ghost use Rattle.std.specs.Prelude.{◌≡◌, ℕ, ◌+◌, ◌*◌, ◌^◌, �
 ghost use Rattle.fsb_signal.specs.declared.marks.Marks.{Marks};
 ghost use Rattle.fsb_trace.specs.At.{Trace};
 ghost use Rattle.fsb_rules.specs.Tests.{request_by};
-ghost use Rattle.fsb_audit.specs.Transfers.{moved_count};
+ghost use Rattle.fsb_audit.specs.MovedChunks.{moved_count};
 ghost use Rattle.fsb_audit.specs.Fouls.{finding_of};
-ghost use Rattle.fsb_audit.specs.Registers.{asked_after, first_after, from_memory_after, foul_by, found_after, count_after, chunk_by, data_in, Puts, HasMoved};
+ghost use Rattle.fsb_audit.specs.AuditRegisters.{asked_after, first_after, from_memory_after, foul_by, found_after, count_after, chunk_by, data_in, Puts, HasMoved};
 ghost use Rattle.fsb_audit.specs.Audit.{Stands, is_full};
 
 use crate::chunks::{first_chunk, nth_chunk};
@@ -42,7 +42,7 @@ pub struct Audit {
 }
 
 /// The foul clock, where data of this chunk come that differ from those before.
-#[tactic(auto, unfolding(crate::specs::Registers::foul_by, fsb_count::specs::Options::is_some_and))]
+#[tactic(auto, unfolding(crate::specs::AuditRegisters::foul_by, fsb_count::specs::Options::is_some_and))]
 fn foul_of(
     from_memory: bool,
     clock: u32,
@@ -146,7 +146,7 @@ impl Audit {
     }
 
     /// Whether the data of the request that responded last, with this sample or before, come from memory.
-    #[tactic(auto, unfolding(crate::specs::Registers::from_memory_after, fsb_laws::specs::OneMore::responds))]
+    #[tactic(auto, unfolding(crate::specs::AuditRegisters::from_memory_after, fsb_laws::specs::OneMore::responds))]
     fn is_from_memory(&self, sample: &Sample) -> bool
         ensures { result ≡ from_memory_after self.now.from_memory sample.now }
     {
@@ -195,7 +195,7 @@ impl Audit {
 
     /// Keeps the chunk for which a request asks first whose second clock is this sample, unless it is a reply, and the
     /// words of one that begins.
-    #[tactic(auto, unfolding(crate::specs::Registers::asked_after, crate::specs::Registers::asked_with, crate::specs::Registers::first_after, fsb_trace::specs::Requests::is_reply_kind))]
+    #[tactic(auto, unfolding(crate::specs::AuditRegisters::asked_after, crate::specs::AuditRegisters::asked_with, crate::specs::AuditRegisters::first_after, fsb_trace::specs::Requests::is_reply_kind))]
     fn note_request(&mut self, sample: &Sample)
         ensures rest { self.new ≡ record self.old {
           first = first_after sample.now;

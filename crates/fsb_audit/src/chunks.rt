@@ -1,7 +1,7 @@
 //! Chunks of memory by their numbers: a chunk is eight bytes, and its number is its address divided by 8.
 
 ghost use Rattle.std.specs.Prelude.{◌≡◌, ◌^◌, ◌<◌};
-ghost use Rattle.fsb_audit.specs.Registers.{first_asked, nth_from};
+ghost use Rattle.fsb_audit.specs.AuditRegisters.{first_asked, nth_from};
 
 use fsb_encode::{Request, chunk_order};
 
@@ -9,7 +9,7 @@ use fsb_encode::{Request, chunk_order};
 const LINES: u64 = 1 << 31;
 
 /// The number of the chunk for which the request asks first.
-#[tactic(auto, unfolding(crate::specs::Registers::first_asked))]
+#[tactic(auto, unfolding(crate::specs::AuditRegisters::first_asked))]
 pub fn first_chunk(request: &Request) -> u64
     ensures { result ≡ first_asked request.now }
 {
@@ -17,7 +17,7 @@ pub fn first_chunk(request: &Request) -> u64
 }
 
 /// The number of the chunk that comes n-th, n from 0 to 3, where this one comes first.
-#[tactic(auto, unfolding(crate::specs::Registers::nth_from))]
+#[tactic(auto, unfolding(crate::specs::AuditRegisters::nth_from))]
 pub fn nth_chunk(first: u64, n: u8) -> u64
     ensures value { result ≡ nth_from first n }
     ensures bound { result < 2 ^ 33 }

@@ -3,7 +3,7 @@ use Rattle.std.specs.Prelude.{◌≡◌, ℕ, List, Option, Some, None, Result, 
 use Rattle.fsb_trace.specs.At.{Trace}
 use Rattle.fsb_watch.specs.Watched.{IsSeen}
 use Rattle.fsb_audit.specs.declared.finding.Finding.{Finding}
-use Rattle.fsb_audit.specs.Transfers.{moved_count}
+use Rattle.fsb_audit.specs.MovedChunks.{moved_count}
 use Rattle.fsb_audit.specs.Fouls.{finding_of}
 use Rattle.fsb_audit_dump.specs.declared.audit.Audited.{Audited}
 

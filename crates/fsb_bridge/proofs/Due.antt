@@ -12,7 +12,7 @@ use Rattle.fsb_trace.specs.Outcome.{is_settled_deferred, response_clock_of}
 use Rattle.fsb_trace.specs.Deferral.{due_at, is_answered, is_due, later_of}
 use Rattle.fsb_bridge.specs.declared.deferral.Waiting.{Waiting}
 use Rattle.fsb_bridge.specs.Deferrals.{due_deferral, is_due_reply}
-use Rattle.fsb_bridge.specs.Standing.{IsThatOf, RespondsInOrder, StandsFor, response_before, waits}
+use Rattle.fsb_bridge.specs.DeferralList.{IsThatOf, RespondsInOrder, StandsFor, response_before, waits}
 use Rattle.fsb_bridge.proofs.Entries.{IsEntryOf, find-StandsFor}
 use Rattle.fsb_bridge.proofs.Waits.{is_answered-ended, is_settled_deferred-ended, is_some_and-parts}
 

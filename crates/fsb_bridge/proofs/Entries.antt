@@ -9,7 +9,7 @@ use Rattle.fsb_trace.specs.Snoop.{line_at_snoop_end}
 use Rattle.fsb_trace.specs.Deferral.{is_answered, later_of}
 use Rattle.fsb_count.specs.Clocks.{first_where}
 use Rattle.fsb_bridge.specs.declared.deferral.Waiting.{Waiting}
-use Rattle.fsb_bridge.specs.Standing.{AreEntriesOf, IsDeferralOf, IsThatOf, StandsFor, live_line_of, request_number_of, response_before, waits, waiting_at}
+use Rattle.fsb_bridge.specs.DeferralList.{AreEntriesOf, IsDeferralOf, IsThatOf, StandsFor, live_line_of, request_number_of, response_before, waits, waiting_at}
 use Rattle.fsb_bridge.proofs.Matched.{Alike, Matched, both-Matched, find-Matched, find-all_where, map-Matched, map-from_Matched}
 
 -- the entry is that of live request i

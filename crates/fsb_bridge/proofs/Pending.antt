@@ -11,7 +11,7 @@ use Rattle.fsb_trace.specs.Outcome.{is_settled_deferred}
 use Rattle.fsb_trace.specs.Deferral.{is_pending, keeps_pending}
 use Rattle.fsb_bridge.specs.declared.deferral.Waiting.{Waiting}
 use Rattle.fsb_bridge.specs.Deferrals.{is_of_line, is_waited_for}
-use Rattle.fsb_bridge.specs.Standing.{StandsFor, live_line_of, waits, waiting_at}
+use Rattle.fsb_bridge.specs.DeferralList.{StandsFor, live_line_of, waits, waiting_at}
 use Rattle.fsb_bridge.proofs.Matched.{map-Matched, list_any-Matched, list_any-all_where}
 
 of_line : (w : Trace) (line : ℕ) (e : Waiting) (i : ℕ) → Some e.deferral.request.line ≡ live_line_of w i → is_of_line line e ≡ is_at (live_line_of w i) line

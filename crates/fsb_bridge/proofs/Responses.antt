@@ -15,7 +15,7 @@ use Rattle.fsb_trace.specs.Response.{is_clear_before}
 use Rattle.fsb_trace.specs.Rules.{breaks, is_response_early, may_answer, next_response}
 use Rattle.fsb_trace.specs.Verdict.{is_broken, verdict}
 use Rattle.fsb_trace.proofs.Interface.{AgreeTo-sym, breaks-13, responds_at-agree, snoop_end_of-stays, verdict-none}
-use Rattle.fsb_bridge.specs.Standing.{RespondsInOrder}
+use Rattle.fsb_bridge.specs.DeferralList.{RespondsInOrder}
 use Rattle.fsb_bridge.proofs.Waits.{is_some_and-parts}
 
 cut : (w : Trace) (n : ℕ) → n ≤ length w → AgreeTo n w (take n w)

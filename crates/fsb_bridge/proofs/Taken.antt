@@ -9,7 +9,7 @@ use Rattle.fsb_trace.specs.Requests.{have_same_id, live_count, live_request_of}
 use Rattle.fsb_trace.specs.Flight.{reply_number_of}
 use Rattle.fsb_bridge.specs.declared.deferral.Waiting.{Waiting}
 use Rattle.fsb_bridge.specs.Deferrals.{deferral_of_id, is_of_id, waiting_without}
-use Rattle.fsb_bridge.specs.Standing.{AreEntriesOf, HaveOwnIds, IsThatOf, StandsFor, first_waiting_with_id, waiting_at, waiting_besides, waits, waits_with_id}
+use Rattle.fsb_bridge.specs.DeferralList.{AreEntriesOf, HaveOwnIds, IsThatOf, StandsFor, first_waiting_with_id, waiting_at, waiting_besides, waits, waits_with_id}
 use Rattle.fsb_bridge.proofs.Entries.{AreEntriesOf-IsEntryOf, IsEntryOf, IsEntryOf-StandsFor, find-StandsFor}
 use Rattle.fsb_bridge.proofs.Rest.{rest-Matched, rest-all_where}
 use Rattle.fsb_bridge.proofs.Waits.{is_some_and-parts, reply_number_of-id, waits-live}

@@ -11,7 +11,7 @@ use Rattle.fsb_trace.specs.Outcome.{is_settled_deferred, settled_outcome_of}
 use Rattle.fsb_trace.specs.Flight.{is_in_flight, is_live_reply_to, is_reply_to, reply_clock_of, reply_number_of}
 use Rattle.fsb_trace.specs.Deferral.{answers, is_answered}
 use Rattle.fsb_trace.proofs.Interface.{live_below_count, live_clock_of-number, snoop_end_of-clock}
-use Rattle.fsb_bridge.specs.Standing.{waits}
+use Rattle.fsb_bridge.specs.DeferralList.{waits}
 
 -- a value that passes a test is there
 pub is_some_and-parts : {A : Type 0} (o : Option A) (test : A → Bool) → is_some_and o test ≡ true → (x : A) × (o ≡ Some x) × (test x ≡ true)

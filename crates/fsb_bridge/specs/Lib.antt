@@ -1,2 +1,2 @@
 pub mod Deferrals
-pub mod Standing
+pub mod DeferralList

@@ -11,7 +11,7 @@ ghost use Rattle.fsb_trace.specs.Deferral.{due_at, is_pending};
 ghost use Rattle.fsb_trace.specs.Verdict.{verdict};
 ghost use Rattle.fsb_bridge.specs.declared.deferral.Waiting.{Waiting};
 ghost use Rattle.fsb_bridge.specs.Deferrals.{deferral_of_id, due_deferral, is_waited_for, waiting_without};
-ghost use Rattle.fsb_bridge.specs.Standing.{AreEntriesOf, HaveOwnIds, IsThatOf, RespondsInOrder, StandsFor, first_waiting_with_id, waiting_besides, waits};
+ghost use Rattle.fsb_bridge.specs.DeferralList.{AreEntriesOf, HaveOwnIds, IsThatOf, RespondsInOrder, StandsFor, first_waiting_with_id, waiting_besides, waits};
 
 /// The lines of the list are the pending lines of the trace.
 pub fn list_has_the_pending_lines()

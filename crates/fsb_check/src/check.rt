@@ -12,7 +12,7 @@ use std::alloc::Global;
 
 /// What a dump is found to be: the trace of so many clocks, and its first broken rule, if it has one.
 #[derive(Clone, Copy, Debug, PartialEq, Eq)]
-pub struct Finding {
+pub struct Judgement {
     pub clocks: u32,
     pub broken: Option<Broken>,
 }
@@ -38,7 +38,7 @@ impl Judge {
 }
 
 impl Watcher for Judge {
-    ghost use Rattle.fsb_check.specs.Judging.{HasJudged};
+    ghost use Rattle.fsb_check.specs.DumpJudge.{HasJudged};
 
     ghost is_ready = { λ _. Unit {0} };
 
@@ -60,7 +60,7 @@ impl Watcher for Judge {
 /// and parses and judges each piece as it comes.
 ///
 /// Each turn takes a byte at least. No trace is kept: the memory that is taken does not grow with the dump.
-pub fn check_dump<S: Source>(alloc: Global, name: &str, source: &mut S) -> Result<Finding, DumpStop>
+pub fn check_dump<S: Source>(alloc: Global, name: &str, source: &mut S) -> Result<Judgement, DumpStop>
     requires { length name.now ≤ 4096 }
     ensures checked { IsTrue S.tells →
         IsReadAs IsFound result (S.holds source.old) (S.left source.new) }
@@ -75,7 +75,7 @@ pub fn check_dump<S: Source>(alloc: Global, name: &str, source: &mut S) -> Resul
 {
     let mut judge = Judge::new();
     match watch_dump(alloc, name, source, &mut judge) {
-        Ok(clocks) => Ok(Finding {
+        Ok(clocks) => Ok(Judgement {
             clocks,
             broken: judge.broken,
         }),

@@ -3,6 +3,6 @@
 //! No trace is kept.
 #![tactic(auto)]
 
-pub use check::{Finding, check_dump};
+pub use check::{Judgement, check_dump};
 
 mod check;

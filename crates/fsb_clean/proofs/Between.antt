@@ -21,7 +21,7 @@ use Rattle.fsb_timely.specs.Carried.{memory_below}
 use Rattle.fsb_timely.specs.Kept.{line_bytes}
 use Rattle.fsb_timely.specs.Runs.{Run}
 use Rattle.fsb_lawful.proofs.Interface.{and-then}
-use Rattle.fsb_audit.specs.Transfers.{moved_at, namer_of, nth_chunk}
+use Rattle.fsb_audit.specs.MovedChunks.{moved_at, namer_of, nth_chunk}
 use Rattle.fsb_audit.proofs.Interface.{after_response, before_end}
 use Rattle.fsb_clean.proofs.DataWays.{puts-else, puts-moves, puts-only}
 use Rattle.fsb_clean.proofs.Follows.{MemoryFollows, gets_data, line_moved_by, puts_data}

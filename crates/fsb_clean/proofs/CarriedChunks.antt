@@ -23,7 +23,7 @@ use Rattle.fsb_timely.specs.Carried.{Carried, carried_value, carries_chunk, carr
 use Rattle.fsb_timely.specs.Runs.{Run, entries_to, past_of, run_to}
 use Rattle.fsb_timely.specs.Timely.{Timely, holds_at, holds_in}
 use Rattle.fsb_lawful.proofs.Interface.{length-cut, orderly-at, past-cut, run_to-agrees}
-use Rattle.fsb_audit.specs.Transfers.{moved_at, namer_of, nth_chunk}
+use Rattle.fsb_audit.specs.MovedChunks.{moved_at, namer_of, nth_chunk}
 use Rattle.fsb_audit.proofs.Interface.{GoesOnFrom, Responded, after_response, data_forth, live_below, responded, same_data, same_moved, same_namer, same_request, still_responded}
 use Rattle.fsb_clean.proofs.Follows.{line_moved_by}
 use Rattle.fsb_clean.proofs.LineChunks.{chunk-few}

@@ -6,7 +6,7 @@ use Rattle.fsb_trace.specs.At.{Trace}
 use Rattle.fsb_trace.specs.declared.outcome.Outcome.{Outcome}
 use Rattle.fsb_trace.specs.declared.outcome.Outcome.TheVariants.{Granted, Handed, Written, Replied}
 use Rattle.fsb_trace.specs.Outcome.{does_move, does_take, moves_data, outcome_of}
-use Rattle.fsb_audit.specs.Transfers.{does_come_from_memory}
+use Rattle.fsb_audit.specs.MovedChunks.{does_come_from_memory}
 use Rattle.fsb_clean.proofs.Follows.{gets_data, puts_data}
 
 take-moves : (o : Outcome) → does_take o ≡ true → does_move o ≡ true

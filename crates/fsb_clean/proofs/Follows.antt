@@ -9,7 +9,7 @@ use Rattle.fsb_trace.specs.Response.{end_of}
 use Rattle.fsb_timely.specs.Carried.{memory_below}
 use Rattle.fsb_timely.specs.Kept.{line_bytes}
 use Rattle.fsb_timely.specs.Runs.{Run}
-use Rattle.fsb_audit.specs.Transfers.{does_come_from_memory, namer_of}
+use Rattle.fsb_audit.specs.MovedChunks.{does_come_from_memory, namer_of}
 
 -- the line of live request i: its own, and for a reply that of the request that it answers
 unfoldable pub line_moved_by : Trace → ℕ → Option ℕ

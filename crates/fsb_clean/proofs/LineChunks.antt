@@ -1,7 +1,7 @@
 -- The chunks of a line: in which place each comes, and that the line's bytes are theirs.
 use Rattle.std.proofs.Common.{ℕ, zero, suc, ◌+◌, ◌*◌, ◌<◌, ◌≡◌, slice_index, refl, sym, ap, ◌∙◌, arith}
 use Rattle.fsb_access.specs.ByteMemory.{ByteMemory, bytes_at, value_of_bytes}
-use Rattle.fsb_access.proofs.ByteLaws.{bytes_at-same}
+use Rattle.fsb_access.proofs.Interface.{bytes_at-same}
 use Rattle.fsb_encode.specs.Burst.{burst_order}
 use Rattle.fsb_timely.specs.Carried.{chunk_value}
 use Rattle.fsb_timely.specs.Kept.{line_bytes}

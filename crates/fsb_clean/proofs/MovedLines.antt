@@ -17,7 +17,7 @@ use Rattle.fsb_timely.proofs.Interface.{length-moments}
 use Rattle.fsb_lawful.specs.Beginning.{KeepsBounds}
 use Rattle.fsb_lawful.proofs.Interface.{and-then, past-cut}
 use Rattle.fsb_coherent.specs.Awaits.{Awaited, awaited_by}
-use Rattle.fsb_audit.specs.Transfers.{namer_of}
+use Rattle.fsb_audit.specs.MovedChunks.{namer_of}
 use Rattle.fsb_audit.proofs.Interface.{Responded, responded}
 use Rattle.fsb_tied.proofs.Interface.{granted-await, orderly-whole, written-await}
 use Rattle.fsb_clean.proofs.Answered.{Answered, answered-run, claim-there, claimed-live, response-below}

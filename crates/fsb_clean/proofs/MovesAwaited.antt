@@ -23,7 +23,7 @@ use Rattle.fsb_lawful.specs.Beginning.{KeepsBounds}
 use Rattle.fsb_lawful.proofs.Interface.{wants-lawfully}
 use Rattle.fsb_coherent.specs.Awaits.{Awaited, awaited_by, awaited_by_claim, awaited_by_grant, is_written}
 use Rattle.fsb_coherent.specs.Fitting.{fits_getting, fits_kind, fits_upgrade, fits_write_back}
-use Rattle.fsb_audit.specs.Transfers.{is_named_by_reply, namer_of}
+use Rattle.fsb_audit.specs.MovedChunks.{is_named_by_reply, namer_of}
 use Rattle.fsb_audit.proofs.Interface.{responded}
 use Rattle.fsb_tied.proofs.Interface.{IsSnooped, asked-at, awaits-grant, clock-facts, deferred-held, live-request, orderly-whole, reply-grants, uncontested, writes-back-alone}
 use Rattle.fsb_clean.proofs.Answered.{Answered, answered-run, plain-claimed, response-below}

@@ -17,7 +17,7 @@ use Rattle.fsb_timely.specs.Runs.{Run, past_of, run_to}
 use Rattle.fsb_timely.specs.Timely.{Timely}
 use Rattle.fsb_timely.specs.Transfers.{settled_of}
 use Rattle.fsb_lawful.proofs.Interface.{orderly-at, told-as-settled}
-use Rattle.fsb_audit.specs.Transfers.{is_named_by_reply, namer_of}
+use Rattle.fsb_audit.specs.MovedChunks.{is_named_by_reply, namer_of}
 use Rattle.fsb_audit.proofs.Interface.{Answer, Responded, answer_live, answer_parts, first_where-alike, live_below, reply_before, responded}
 
 -- what is told of a request that responded is what is settled, so it is told as Deferred where it is settled so

@@ -18,7 +18,7 @@ use Rattle.fsb_timely.specs.Timely.{Timely}
 use Rattle.fsb_timely.proofs.Interface.{last_where-found, last_where-from}
 use Rattle.fsb_lawful.proofs.Interface.{and-then, some-and}
 use Rattle.fsb_audit.specs.Fouls.{have_same_data, is_foul_clock, is_stale, latest_move}
-use Rattle.fsb_audit.specs.Transfers.{does_come_from_memory, is_from_memory, moved_at, mover_at}
+use Rattle.fsb_audit.specs.MovedChunks.{does_come_from_memory, is_from_memory, moved_at, mover_at}
 use Rattle.fsb_audit.proofs.Interface.{after_response, before_end, mover_parts, one_mover}
 use Rattle.fsb_clean.proofs.Between.{same-between}
 use Rattle.fsb_clean.proofs.CarriedChunks.{CarriedChunk, carried-chunk}

@@ -2,8 +2,8 @@
 use Rattle.std.proofs.Common.{ℕ, zero, suc, ◌+◌, ◌<◌, ◌≡◌, List, [], ◌∷◌, ◌++◌, refl, sym, subst, arith, add-one}
 use Rattle.fsb_line.specs.Events.{Event, after}
 use Rattle.fsb_line.specs.Line.{Bytes, MemoryLine, unheld}
-use Rattle.fsb_line.specs.Runs.{MayRun, run}
-use Rattle.fsb_line.proofs.Theorem.{ordered_run, ordered_unheld, valued_run, valued_unheld}
+use Rattle.fsb_line.specs.LineRuns.{MayRun, run}
+use Rattle.fsb_line.proofs.Interface.{ordered_run, ordered_unheld, valued_run, valued_unheld}
 use Rattle.fsb_timely.specs.Past.{Past}
 use Rattle.fsb_coherent.specs.LineEvents.{events_at, events_below}
 use Rattle.fsb_coherent.specs.Relation.{Tied}

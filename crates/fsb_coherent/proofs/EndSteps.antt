@@ -10,7 +10,7 @@ use Rattle.fsb_line.specs.Events.{Event, HasArrived, May, after, arrived, effect
 use Rattle.fsb_line.specs.Events.Event.{Ends}
 use Rattle.fsb_line.specs.Line.{Bytes, MemoryLine, brought, trimmed}
 use Rattle.fsb_line.specs.Links.{carries}
-use Rattle.fsb_line.specs.Runs.{MayRun, run}
+use Rattle.fsb_line.specs.LineRuns.{MayRun, run}
 use Rattle.fsb_line.specs.States.{is_modified}
 use Rattle.fsb_timely.specs.Past.{Past, SnoopEnd}
 use Rattle.fsb_timely.specs.Grants.{ended_requests, snooped_at}

@@ -3,7 +3,7 @@ use Rattle.std.proofs.Common.{ℕ, ◌+◌, ◌++◌, List}
 use Rattle.fsb_line.specs.Coherence.{Valued}
 use Rattle.fsb_line.specs.Events.{Event}
 use Rattle.fsb_line.specs.Line.{MemoryLine, OpenRequest}
-use Rattle.fsb_line.specs.Runs.{MayRun, run}
+use Rattle.fsb_line.specs.LineRuns.{MayRun, run}
 use Rattle.fsb_timely.specs.Past.{Past}
 use Rattle.fsb_coherent.specs.Facts.{ClockFacts}
 use Rattle.fsb_coherent.specs.LineEvents.{begins_on, cancels_on, hits_on, responds_on}

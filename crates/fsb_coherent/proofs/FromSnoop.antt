@@ -3,7 +3,7 @@ use Rattle.std.proofs.Common.{ℕ, ◌+◌, ◌≡◌, ◌||◌, ◌++◌, sym, 
 use Rattle.std.specs.List.{list_any}
 use Rattle.fsb_line.specs.Coherence.{Ordered}
 use Rattle.fsb_line.specs.Line.{MemoryLine}
-use Rattle.fsb_line.specs.Runs.{MayRun, run}
+use Rattle.fsb_line.specs.LineRuns.{MayRun, run}
 use Rattle.fsb_line.specs.States.{is_modified}
 use Rattle.fsb_timely.specs.Past.{Past}
 use Rattle.fsb_coherent.specs.Facts.{ClockFacts}

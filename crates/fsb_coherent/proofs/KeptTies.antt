@@ -3,8 +3,8 @@ use Rattle.std.proofs.Common.{ℕ, ◌+◌, ◌++◌, List, sym, subst}
 use Rattle.fsb_line.specs.Coherence.{Ordered, Valued}
 use Rattle.fsb_line.specs.Events.{Event}
 use Rattle.fsb_line.specs.Line.{MemoryLine}
-use Rattle.fsb_line.specs.Runs.{MayRun, run}
-use Rattle.fsb_line.proofs.Theorem.{ordered_run}
+use Rattle.fsb_line.specs.LineRuns.{MayRun, run}
+use Rattle.fsb_line.proofs.Interface.{ordered_run}
 use Rattle.fsb_timely.specs.Past.{Past}
 use Rattle.fsb_coherent.specs.Facts.{ClockFacts}
 use Rattle.fsb_coherent.specs.KeepsTie.{KeepsTie}

@@ -14,7 +14,7 @@ use Rattle.fsb_line.specs.declared.state.Mesi.{Mesi}
 use Rattle.fsb_line.specs.Events.{IsOldest}
 use Rattle.fsb_line.specs.Line.{MemoryLine, OpenRequest}
 use Rattle.fsb_line.specs.States.{is_held, is_modified, kind_owns}
-use Rattle.fsb_line.proofs.StateFacts.{modified_is_sole}
+use Rattle.fsb_line.proofs.Interface.{modified_is_sole}
 use Rattle.fsb_timely.specs.Past.{Past, SnoopEnd}
 use Rattle.fsb_timely.specs.Grants.{holds_line, is_evicted, is_owning, snooped_at}
 use Rattle.fsb_timely.specs.Hits.{is_dirty}

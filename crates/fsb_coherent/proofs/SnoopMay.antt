@@ -8,7 +8,7 @@ use Rattle.fsb_line.specs.declared.purpose.Purpose.{Purpose}
 use Rattle.fsb_line.specs.declared.purpose.Purpose.TheVariants as purposes
 use Rattle.fsb_line.specs.Events.{IsOldest, May, MaySettle, NobodyElseHolds, NobodyElseModified}
 use Rattle.fsb_line.specs.Line.{MemoryLine}
-use Rattle.fsb_line.specs.Runs.{MayRun}
+use Rattle.fsb_line.specs.LineRuns.{MayRun}
 use Rattle.fsb_line.specs.States.{asks_line, is_held, is_modified}
 use Rattle.fsb_trace.specs.declared.outcome.Outcome.{Outcome}
 use Rattle.fsb_trace.specs.declared.outcome.Outcome.TheVariants.{Granted, Handed, Retried, Deferred, Written, Upgraded}

@@ -12,9 +12,9 @@ use Rattle.fsb_line.specs.declared.state.Mesi.{Mesi}
 use Rattle.fsb_line.specs.Events.{May, after, effect, linked, replied, settled}
 use Rattle.fsb_line.specs.Events.Event.{IsReplied}
 use Rattle.fsb_line.specs.Line.{LineDeferral, MemoryLine, OpenRequest, put, trimmed}
-use Rattle.fsb_line.specs.Runs.{MayRun, run}
+use Rattle.fsb_line.specs.LineRuns.{MayRun, run}
 use Rattle.fsb_line.specs.States.{gets_line, granted, is_held, is_modified, is_sole, kind_owns}
-use Rattle.fsb_line.proofs.StateFacts.{granted_owns}
+use Rattle.fsb_line.proofs.Interface.{granted_owns}
 use Rattle.fsb_trace.specs.Outcome.{is_deferral}
 use Rattle.fsb_timely.specs.Past.{Grant, Past, SnoopEnd}
 use Rattle.fsb_timely.specs.Grants.{grant_at, is_granted, is_named_by_other, is_snooped, is_sole_grant, is_taken_away, is_written_back, snooped_at}

@@ -7,7 +7,7 @@ use Rattle.fsb_hazard.specs.declared.choice.Turn.{Turn}
 use Rattle.fsb_line.specs.declared.purpose.Purpose.{Purpose}
 use Rattle.fsb_line.specs.Events.{after, effect, given, linked, settled}
 use Rattle.fsb_line.specs.Line.{MemoryLine, put, trimmed}
-use Rattle.fsb_line.specs.Runs.{run}
+use Rattle.fsb_line.specs.LineRuns.{run}
 use Rattle.fsb_trace.specs.declared.outcome.Outcome.{Outcome}
 use Rattle.fsb_trace.specs.declared.outcome.Outcome.TheVariants.{Granted, Handed, Retried, Deferred, Written, Upgraded}
 use Rattle.fsb_timely.specs.Moments.{is_got, is_upgraded, makes_grant}

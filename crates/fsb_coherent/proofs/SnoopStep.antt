@@ -8,7 +8,7 @@ use Rattle.fsb_line.specs.Coherence.{Ordered}
 use Rattle.fsb_line.specs.Events.{Event}
 use Rattle.fsb_line.specs.Events.Event.{IsReplied}
 use Rattle.fsb_line.specs.Line.{MemoryLine}
-use Rattle.fsb_line.specs.Runs.{MayRun, run}
+use Rattle.fsb_line.specs.LineRuns.{MayRun, run}
 use Rattle.fsb_timely.specs.Past.{Claim, Grant, Past, SnoopEnd}
 use Rattle.fsb_timely.specs.Grants.{snooped_at}
 use Rattle.fsb_timely.specs.Runs.{past_to}

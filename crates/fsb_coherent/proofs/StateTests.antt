@@ -7,7 +7,7 @@ use Rattle.fsb_line.specs.declared.purpose.Purpose.TheVariants as purposes
 use Rattle.fsb_line.specs.declared.state.Mesi.{Mesi}
 use Rattle.fsb_line.specs.declared.state.Mesi.TheVariants.{Invalid, Modified}
 use Rattle.fsb_line.specs.States.{after_snoop, asks_line, granted, is_held, is_modified, is_sole}
-use Rattle.fsb_line.proofs.StateFacts.{modified_is_sole, snoop_not_sole, sole_is_held}
+use Rattle.fsb_line.proofs.Interface.{modified_is_sole, snoop_not_sole, sole_is_held}
 
 -- a test of states, and what it says of a grant that owns or does not, with the line shared or not: it passes for no
 -- agent but that of the last request, and for that one as its grant says

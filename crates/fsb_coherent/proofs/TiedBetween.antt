@@ -3,7 +3,7 @@ use Rattle.std.proofs.Common.{ℕ, ◌<◌, ◌≡◌, ◌==◌, Bool, false, �
 use Rattle.std.proofs.lemmas.Bool.{cond_both, eq-eqb, eqb-true, true≢false}
 use Rattle.fsb_line.specs.Events.{Event}
 use Rattle.fsb_line.specs.Line.{MemoryLine, OpenRequest, put, trimmed}
-use Rattle.fsb_line.specs.Runs.{MayRun, run}
+use Rattle.fsb_line.specs.LineRuns.{MayRun, run}
 use Rattle.fsb_line.specs.States.{is_held, is_modified, is_sole}
 use Rattle.fsb_timely.specs.Grants.{begun_at}
 use Rattle.fsb_timely.specs.Past.{Past}

@@ -2,7 +2,7 @@
 use Rattle.std.specs.Prelude.{ℕ, ◌+◌}
 use Rattle.fsb_line.specs.Coherence.{Ordered, Valued}
 use Rattle.fsb_line.specs.Line.{MemoryLine}
-use Rattle.fsb_line.specs.Runs.{MayRun, run}
+use Rattle.fsb_line.specs.LineRuns.{MayRun, run}
 use Rattle.fsb_timely.specs.Past.{Past}
 use Rattle.fsb_coherent.specs.LineEvents.{events_at}
 use Rattle.fsb_coherent.specs.Relation.{Tied}

@@ -6,7 +6,7 @@ ghost use Rattle.fsb_count.specs.Options.{is_at, is_some_and};
 ghost use Rattle.fsb_hazard.specs.declared.choice.Turn.TheVariants.{Keep};
 ghost use Rattle.fsb_line.specs.Coherence.{Ordered, Valued};
 ghost use Rattle.fsb_line.specs.Line.{Bytes, LineDeferral, MemoryLine, OpenRequest, unheld};
-ghost use Rattle.fsb_line.specs.Runs.{MayRun, run};
+ghost use Rattle.fsb_line.specs.LineRuns.{MayRun, run};
 ghost use Rattle.fsb_line.specs.States.{is_held};
 ghost use Rattle.fsb_signal.specs.declared.lines.TheConstants.Lines.{HITM};
 ghost use Rattle.fsb_signal.specs.Samples.{line_at};

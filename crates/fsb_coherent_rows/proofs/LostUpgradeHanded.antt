@@ -13,8 +13,8 @@ use Rattle.fsb_line.specs.declared.purpose.Purpose.TheVariants.{Read, Upgrade}
 use Rattle.fsb_line.specs.Events.{May, after, arrived, effect, given, linked, oldest_ended, replied, responded, settled}
 use Rattle.fsb_line.specs.Events.Event.{Begins, Ends, IsGranted, IsHanded, IsUpgraded, Responds}
 use Rattle.fsb_line.specs.Line.{Bytes, put, trimmed, unheld}
-use Rattle.fsb_line.specs.Runs.{MayRun}
-use Rattle.fsb_timely_rows.proofs.LaidOut.{clock, entry, idle, run_of}
+use Rattle.fsb_line.specs.LineRuns.{MayRun}
+use Rattle.fsb_timely_rows.proofs.Interface.{clock, entry, idle, run_of}
 use Rattle.fsb_coherent.specs.LineEvents.{changes_of}
 use Rattle.fsb_coherent_rows.proofs.Dated.{Dated, computed, dated, dated_below, events_of}
 

@@ -20,15 +20,14 @@ use Rattle.fsb_trace.specs.Snoop.{is_every_second_from, ends_snoop, snoop_end_fr
 use Rattle.fsb_trace.specs.Outcome.{does_move, response_code_of, outcome_by_kind, response_clock_of, live_response_of, told_by, outcome_of, moves_data, settled_by, settled_outcome_of}
 use Rattle.fsb_trace.specs.Response.{takes, data_clock_of, end_of, clock_after_snoop, ready_after, ready_clock_of, two_after_snoop, answer_from}
 use Rattle.fsb_trace.specs.Flight.{is_dropped, has_ended, is_in_flight, in_flight}
-use Rattle.fsb_trace.proofs.LaidOut.{clock, idle}
-use Rattle.fsb_trace.proofs.Rows.{two_agents_overlap, store_handed_over_before_arrival, locked_increments, write_back_held_off, stalled_snoop, deferred_and_replied, cancelled_by_address_error}
+use Rattle.fsb_trace.proofs.Interface.{cancelled_by_address_error, clock, deferred_and_replied, idle, locked_increments, stalled_snoop, store_handed_over_before_arrival, two_agents_overlap, write_back_held_off}
 use Rattle.fsb_queue.specs.declared.entry.Entry.{Entry}
 use Rattle.fsb_trace.specs.Timing.{is_stall_from, is_ready_from, is_response_from, chunk_from, is_busy_from}
 use Rattle.fsb_phase.specs.Due.{rank_of, has_snoop, is_stalled, awaits_response, has_ready, has_response, response_to_now, is_moving, due_chunk, keeps_busy}
 use Rattle.fsb_phase.specs.declared.drive.Drive.{Drive}
 use Rattle.fsb_phase.specs.declared.drive.Phased.{Phased}
 use Rattle.fsb_phase.specs.Drive.{settled_code, numbered_chunk, drive_of, ends_snoop_at, has_end_at, phased_at}
-use Rattle.fsb_phase.specs.Flight.{HoldsInFlight}
+use Rattle.fsb_phase.specs.FitQueue.{HoldsInFlight}
 
 -- the request that begins at q, as an entry with this choice, where these are the effective turns
 abbrev pub entry_at : Choice → List ℕ → Trace → ℕ → Entry

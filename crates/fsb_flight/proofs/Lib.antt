@@ -3,3 +3,4 @@ pub mod ListSteps
 pub mod Taken
 pub mod Numbers
 pub mod DrivenRows
+pub mod Interface

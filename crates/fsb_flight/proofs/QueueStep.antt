@@ -19,14 +19,14 @@ use Rattle.fsb_trace.specs.Flight.{in_flight}
 use Rattle.fsb_trace.proofs.Interface.{snoop_end_of-clock, live_request_of-stays, settled_outcome_of-ended}
 use Rattle.fsb_laws.specs.OneMore.{OneMore, stalls}
 use Rattle.fsb_laws.specs.Progress.{SnoopsTo, ends_snoop_of, is_snoop_due}
-use Rattle.fsb_laws.specs.Flight.{leaves}
+use Rattle.fsb_laws.specs.Leaving.{leaves}
 use Rattle.fsb_laws.proofs.Interface.{one_more, line_at-old, in_flight-more, live_clock_of-new, snoop_end_of-above, snoop_end_of-old, snoop_end_of-more}
 use Rattle.fsb_queue.specs.declared.entry.Entry.{Entry}
 use Rattle.fsb_queue.specs.Entries.{with_outcome}
 use Rattle.fsb_phase.specs.declared.phases.Phases.{Phases}
 use Rattle.fsb_phase.specs.Due.{rank_of}
 use Rattle.fsb_phase.specs.Drive.{ends_snoop_at, drive_of}
-use Rattle.fsb_phase.specs.Flight.{HoldsInFlight, is_too_soon}
+use Rattle.fsb_phase.specs.FitQueue.{HoldsInFlight, is_too_soon}
 use Rattle.fsb_phase.specs.Phases.{Stands, MayTake, snooped_count}
 use Rattle.fsb_phase.proofs.Interface.{snoops_count, held, Placed, placed, snoop_at, has_snoop-at, snoop_elsewhere, not_reached_from, ends_entry, number_stays, later_none, Step, step}
 use Rattle.fsb_flight.specs.GoesOn.{settles, stays_in_flight, goes_on, TakesTurn}

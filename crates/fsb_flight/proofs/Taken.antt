@@ -15,7 +15,7 @@ use Rattle.fsb_trace.specs.Requests.{is_live, live_number_of}
 use Rattle.fsb_trace.specs.Response.{end_of}
 use Rattle.fsb_trace.proofs.Interface.{live_clock_of-rises}
 use Rattle.fsb_laws.specs.OneMore.{cancels}
-use Rattle.fsb_laws.specs.Flight.{leaves}
+use Rattle.fsb_laws.specs.Leaving.{leaves}
 use Rattle.fsb_queue.specs.declared.entry.Entry.{Entry}
 use Rattle.fsb_queue.specs.Entries.{with_outcome, settled_at, without}
 use Rattle.fsb_phase.specs.declared.drive.Phased.{Phased}

@@ -9,7 +9,7 @@ use Rattle.fsb_trace.specs.At.{Trace}
 use Rattle.fsb_trace.specs.Requests.{live_request_of, is_write_back}
 use Rattle.fsb_trace.specs.Snoop.{snoop_end_of}
 use Rattle.fsb_trace.specs.Outcome.{settled_by}
-use Rattle.fsb_laws.specs.Flight.{leaves}
+use Rattle.fsb_laws.specs.Leaving.{leaves}
 use Rattle.fsb_queue.specs.declared.entry.Entry.{Entry}
 use Rattle.fsb_queue.specs.Entries.{with_outcome}
 use Rattle.fsb_phase.specs.Drive.{ends_snoop_at}

@@ -6,7 +6,7 @@ ghost use Rattle.fsb_trace.specs.declared.outcome.Outcome.{Outcome};
 ghost use Rattle.fsb_trace.specs.At.{Trace};
 ghost use Rattle.fsb_queue.specs.declared.entry.Entry.{Entry};
 ghost use Rattle.fsb_phase.specs.declared.phases.Phases.{Phases};
-ghost use Rattle.fsb_phase.specs.Flight.{HoldsInFlight};
+ghost use Rattle.fsb_phase.specs.FitQueue.{HoldsInFlight};
 ghost use Rattle.fsb_phase.specs.Phases.{Stands, MayTake};
 ghost use Rattle.fsb_flight.specs.GoesOn.{goes_on, TakesTurn, Rising, IsLater};
 ghost use Rattle.fsb_flight.specs.Steps.{begun_list};

@@ -4,7 +4,7 @@ pub use Rattle.fsb_lawful.proofs.Accepted.{accepted, each-clock}
 -- The request that begins in a timely run is the one that its winner would begin.
 pub use Rattle.fsb_lawful.proofs.Begun.{begun-decoded, begun_of}
 -- A run that is cut at a clock is a run, and its past is the past up to that clock.
-pub use Rattle.fsb_lawful.proofs.CutRuns.{cuts-agree, length-cut, live-ads, past-cut}
+pub use Rattle.fsb_lawful.proofs.CutRuns.{cuts-agree, length-cut, live-ads, live_choice-same, past-cut}
 -- A past that is cut at a clock has the same up to that clock.
 pub use Rattle.fsb_lawful.proofs.Cuts.{run_to-agrees, slice_get-take, snooped-to}
 -- What an agent is granted, and what is brought to it, is for one of its outstanding requests.
@@ -12,7 +12,7 @@ pub use Rattle.fsb_lawful.proofs.GrantsOwed.{grants-are-owed}
 -- Rule 7: a request is identified by its winner.
 pub use Rattle.fsb_lawful.proofs.Identity.{begun-winner}
 -- How a trace keeps a rule: at each clock, over the samples up to it.
-pub use Rattle.fsb_lawful.proofs.Keeping.{and-fails, and4, not-true, same-beq}
+pub use Rattle.fsb_lawful.proofs.Keeping.{and-fails, and4, and5, not-true, same-beq}
 -- The lines that an agent gets, the IDs that it uses, and so all requests of a run whose plan keeps the bounds.
 pub use Rattle.fsb_lawful.proofs.LawfulBeginnings.{wants-lawfully}
 -- What is listed: of the clocks that pass a test, what each of them gives.
@@ -35,3 +35,13 @@ pub use Rattle.fsb_lawful.proofs.Served.{IsGrantedBy, Serves, ServesOther, and-t
 pub use Rattle.fsb_lawful.proofs.Turns.{TurnFits, turned-at}
 -- What begins in a run whose plan keeps the bounds of a bench file is a lawful request.
 pub use Rattle.fsb_lawful.proofs.LawfulWants.{all-at}
+-- The clocks of answers and responses.
+pub use Rattle.fsb_lawful.proofs.AnswerClocks.{answered-before, response-before, takes-stays}
+-- The chunks of a line.
+pub use Rattle.fsb_lawful.proofs.Chunks.{chunk-bounds}
+-- Which data move last.
+pub use Rattle.fsb_lawful.proofs.DataMoves.{keeps-16, last-moves}
+-- A clock has one answer at most.
+pub use Rattle.fsb_lawful.proofs.OneAnswer.{answered-next, one_answer, ready-then}
+-- When a response and TRDY# are due.
+pub use Rattle.fsb_lawful.proofs.Responding.{IsReadyDue, Responding, one-ready, one-response, ready-answer, ready-now, ready-stays, responding-answer, responding-now, responding-stays}

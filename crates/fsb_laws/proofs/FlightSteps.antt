@@ -16,7 +16,7 @@ use Rattle.fsb_trace.proofs.Interface.{snoop_end_of-clock, end_of-response}
 use Rattle.fsb_laws.specs.OneMore.{OneMore, cancels}
 use Rattle.fsb_laws.specs.Orderly.{Orderly}
 use Rattle.fsb_laws.specs.Progress.{EndsTo}
-use Rattle.fsb_laws.specs.Flight.{leaves}
+use Rattle.fsb_laws.specs.Leaving.{leaves}
 use Rattle.fsb_laws.proofs.Clocks.{all_where-same, all_where-filter, all_where-drop, all_where-more}
 use Rattle.fsb_laws.proofs.OneMoreFacts.{line_at-old}
 use Rattle.fsb_laws.proofs.LiveSteps.{is_live-ads, is_cancelled-more, is_cancelled-late, is_live-more, is_live-new, live_number_of-more, not_cancelled}

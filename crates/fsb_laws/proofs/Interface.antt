@@ -25,7 +25,7 @@ pub use Rattle.fsb_laws.proofs.OrderlySteps.{ads_before_end, may_answer-stays, o
 -- Words over a test of a clock: all clocks that pass, and how many.
 pub use Rattle.fsb_laws.proofs.Clocks.{all_where-more, count_where-none}
 -- Requests in flight, one sample on.
-pub use Rattle.fsb_laws.proofs.FlightSteps.{ended_known, in_flight-count, in_flight-live, in_flight-more, in_flight-now}
+pub use Rattle.fsb_laws.proofs.FlightSteps.{ended_known, in_flight-count, in_flight-live, in_flight-more, in_flight-now, is_in_flight-end}
 -- Replies to deferred requests, one sample on.
 pub use Rattle.fsb_laws.proofs.ReplySteps.{live_request_of-old, reply_clock_of-more, request_at-last, request_at-old}
 -- Outstanding requests, one sample on.

@@ -18,7 +18,7 @@ use Rattle.fsb_trace.proofs.Interface.{AgreeTo-sym, snoop_end_of-clock, response
 use Rattle.fsb_laws.specs.OneMore.{OneMore, cancels}
 use Rattle.fsb_laws.specs.Orderly.{Orderly}
 use Rattle.fsb_laws.specs.Progress.{response_count}
-use Rattle.fsb_laws.specs.Flight.{ends_at}
+use Rattle.fsb_laws.specs.Leaving.{ends_at}
 use Rattle.fsb_laws.proofs.LiveSteps.{is_live-ads, is_live-more, live_number_of-more}
 use Rattle.fsb_laws.proofs.ResponseSteps.{has_answer, response_there, response_counted, is_deferred-old}
 use Rattle.fsb_laws.proofs.FlightSteps.{end_before-same, ended_known, dropped_form}

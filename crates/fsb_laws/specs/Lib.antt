@@ -1,4 +1,4 @@
 pub mod OneMore
 pub mod Orderly
 pub mod Progress
-pub mod Flight
+pub mod Leaving

@@ -16,7 +16,7 @@ ghost use Rattle.fsb_trace.specs.Flight.{in_flight, last_clock_of, reply_clock_o
 ghost use Rattle.fsb_laws.specs.OneMore.{OneMore, cancels, responds};
 ghost use Rattle.fsb_laws.specs.Orderly.{Spaced, Orderly};
 ghost use Rattle.fsb_laws.specs.Progress.{SnoopsTo, EndsTo, is_snoop_due, ends_snoop_of, response_count, transfer_of, may_answer_next, chunk_step};
-ghost use Rattle.fsb_laws.specs.Flight.{leaves, ends_at};
+ghost use Rattle.fsb_laws.specs.Leaving.{leaves, ends_at};
 
 /// A live request keeps its number, unless the sample cancels it; one that begins with the sample has the next one.
 pub fn requests_go_on()

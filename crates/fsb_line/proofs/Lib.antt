@@ -13,3 +13,4 @@ pub mod WitnessRuns
 pub mod Flat
 pub mod NeededRuns
 mod WorkedSteps
+pub mod Interface

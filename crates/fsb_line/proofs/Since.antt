@@ -8,7 +8,7 @@ use Rattle.fsb_line.specs.Events.{Event, May, after, arrived, effect, oldest_end
 use Rattle.fsb_line.specs.Events.Event.{Begins, Drops, Ends, IsCancelled, IsDeferred, IsGranted, IsHanded, IsLost, IsReplied, IsRetried, IsUpgraded, IsWritten, Loads, Responds, Stores}
 use Rattle.fsb_line.specs.History.{any_event, gained_and_kept, is_alone_since, ends_alone, is_dirtied, is_dirty_since, is_grant, is_grant_alone, is_held_since, is_loss, replies_alone_to, replies_owned_to, replies_to, state_by}
 use Rattle.fsb_line.specs.Line.{Bytes, LineDeferral, MemoryLine, put, trimmed, unheld}
-use Rattle.fsb_line.specs.Runs.{MayRun, run}
+use Rattle.fsb_line.specs.LineRuns.{MayRun, run}
 use Rattle.fsb_line.specs.States.{after_snoop, asks_line, granted, is_held, is_modified, is_sole, kind_owns}
 use Rattle.fsb_line.specs.declared.purpose.Purpose.{Purpose}
 use Rattle.fsb_line.specs.declared.purpose.Purpose.TheVariants.{Own, Read, Upgrade, WriteBack}

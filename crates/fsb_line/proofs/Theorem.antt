@@ -4,7 +4,7 @@ use Rattle.fsb_line.specs.Coherence.{EndsOldest, IsCoherent, MovesNow, Ordered, 
 use Rattle.fsb_line.specs.Events.{AwaitsResponse, Event, HasArrived, IsDecidedEnd, May, after, arrived, effect, oldest_ended, given, linked, replied, responded, settled, stored, stored_at_end}
 use Rattle.fsb_line.specs.Events.Event.{Begins, Drops, Ends, IsCancelled, IsDeferred, IsGranted, IsHanded, IsLost, IsReplied, IsRetried, IsUpgraded, IsWritten, Loads, Responds, Stores}
 use Rattle.fsb_line.specs.Line.{Bytes, LineDeferral, MemoryLine, brought, has_copy, trimmed, unheld}
-use Rattle.fsb_line.specs.Runs.{MayRun, OwesAll, stored_by_all, run}
+use Rattle.fsb_line.specs.LineRuns.{MayRun, OwesAll, stored_by_all, run}
 use Rattle.fsb_line.specs.States.{asks_line, gets_line, put_off, sent_back, served}
 use Rattle.fsb_line.specs.declared.purpose.Purpose.{Purpose}
 use Rattle.fsb_line.specs.declared.purpose.Purpose.TheVariants.{Own, Read, Upgrade, WriteBack}

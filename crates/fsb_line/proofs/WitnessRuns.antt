@@ -3,7 +3,7 @@ use Rattle.std.proofs.Common.{◌≡◌, [], refl, length, arith}
 use Rattle.std.proofs.lemmas.Bool.Decides.{nat_tests}
 use Rattle.fsb_line.specs.Events.{May, after, arrived, effect, oldest_ended, given, linked, replied, responded, settled}
 use Rattle.fsb_line.specs.Line.{put, trimmed, unheld}
-use Rattle.fsb_line.specs.Runs.{MayRun, run}
+use Rattle.fsb_line.specs.LineRuns.{MayRun, run}
 use Rattle.fsb_line.specs.Witness.{byte, deferral, deliveries, lost_upgrade, promises, sharing, upgrade_race, write_back}
 
 pub promises_may_happen : MayRun (unheld (byte 0)) promises

@@ -4,7 +4,7 @@ use Rattle.fsb_line.specs.declared.purpose.Purpose.TheVariants.{Own, Read}
 use Rattle.fsb_line.specs.Events.{Event, after, arrived, effect, oldest_ended, given, linked, replied, responded, settled}
 use Rattle.fsb_line.specs.Events.Event.{Begins, Ends, IsCancelled, IsGranted, Responds, Stores}
 use Rattle.fsb_line.specs.Line.{put, trimmed, unheld}
-use Rattle.fsb_line.specs.Runs.{run}
+use Rattle.fsb_line.specs.LineRuns.{run}
 use Rattle.fsb_line.specs.Witness.{as_it_is, byte, owned, promises, stores}
 
 -- the first of two owners has stored 5, and the second 7, at the end that brought it the 5

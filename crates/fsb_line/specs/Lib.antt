@@ -3,6 +3,6 @@ pub mod Links
 pub mod Line
 pub mod Events
 pub mod Coherence
-pub mod Runs
+pub mod LineRuns
 pub mod History
 pub mod Witness

@@ -5,7 +5,7 @@ use Rattle.fsb_line.specs.Coherence.{IsCoherent}
 use Rattle.fsb_line.specs.Events.{Event, May, after}
 use Rattle.fsb_line.specs.Events.Event.{Begins, Drops, Ends, IsCancelled, IsDeferred, IsGranted, IsHanded, IsLost, IsReplied, IsRetried, IsUpgraded, IsWritten, Loads, Responds, Stores}
 use Rattle.fsb_line.specs.Line.{Bytes, unheld}
-use Rattle.fsb_line.specs.Runs.{MayRun, run}
+use Rattle.fsb_line.specs.LineRuns.{MayRun, run}
 
 -- a line of one byte is enough to tell stores apart
 abbrev pub byte : ℕ → Bytes

@@ -10,7 +10,7 @@ ghost use Rattle.fsb_line.specs.History.{
   state_by,
 };
 ghost use Rattle.fsb_line.specs.Line.{Bytes, MemoryLine, SameFields, has_copy, unheld};
-ghost use Rattle.fsb_line.specs.Runs.{MayRun, OwesAll, stored_by_all, run};
+ghost use Rattle.fsb_line.specs.LineRuns.{MayRun, OwesAll, stored_by_all, run};
 
 /// A line that nobody holds or asks for is in order, and its bytes are where they belong.
 pub fn starts_in_order()

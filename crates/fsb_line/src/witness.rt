@@ -3,7 +3,7 @@
 
 ghost use Rattle.std.specs.Prelude.{◌≡◌, [], length};
 ghost use Rattle.fsb_line.specs.Line.{unheld};
-ghost use Rattle.fsb_line.specs.Runs.{MayRun, run};
+ghost use Rattle.fsb_line.specs.LineRuns.{MayRun, run};
 ghost use Rattle.fsb_line.specs.Witness.{
   byte,
   deferral,

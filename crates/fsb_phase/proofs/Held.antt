@@ -9,7 +9,7 @@ use Rattle.fsb_trace.specs.Outcome.{settled_by, settled_outcome_of}
 use Rattle.fsb_trace.specs.Flight.{in_flight}
 use Rattle.fsb_queue.specs.declared.entry.Entry.{Entry}
 use Rattle.fsb_phase.specs.Due.{rank_of}
-use Rattle.fsb_phase.specs.Flight.{HoldsInFlight}
+use Rattle.fsb_phase.specs.FitQueue.{HoldsInFlight}
 
 -- the entry's outcome is the one that is settled with this effective turn, where its snoop end is reached
 pub record IsSettled (h : Trace) (e : Entry) (turn : ℕ) : Type 0 where

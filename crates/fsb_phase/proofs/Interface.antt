@@ -3,7 +3,7 @@
 -- The first element of a list that passes, by its place.
 pub use Rattle.fsb_phase.proofs.Finds.{Found, find-cases, find-first, find-off, find-place, none_is}
 -- How many numbers pass a test that all lesser ones pass too; how many snoop ends and ends a history has.
-pub use Rattle.fsb_phase.proofs.Counts.{snoops_count}
+pub use Rattle.fsb_phase.proofs.Counts.{snoops_count, snoops_to}
 -- A queue that holds the requests in flight, entry by entry.
 pub use Rattle.fsb_phase.proofs.Held.{held}
 -- The entries of a queue that holds the requests in flight: their places and their numbers.

@@ -19,7 +19,7 @@ use Rattle.fsb_laws.proofs.Interface.{spaced-more, response_count-more, response
 use Rattle.fsb_queue.specs.declared.entry.Entry.{Entry}
 use Rattle.fsb_phase.specs.declared.phases.Phases.{Phases}
 use Rattle.fsb_phase.specs.Due.{rank_of, is_moving}
-use Rattle.fsb_phase.specs.Flight.{is_too_soon}
+use Rattle.fsb_phase.specs.FitQueue.{is_too_soon}
 use Rattle.fsb_phase.proofs.Held.{Held}
 use Rattle.fsb_phase.specs.Phases.{Stands, value_before, last_response}
 use Rattle.fsb_phase.specs.Registers.{response_to, transfer_to, ready_to, may_answer_at}

@@ -1,5 +1,5 @@
 pub mod Due
-pub mod Flight
+pub mod FitQueue
 pub mod Drive
 pub mod Phases
 pub mod Registers

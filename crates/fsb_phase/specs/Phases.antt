@@ -12,7 +12,7 @@ use Rattle.fsb_laws.specs.Orderly.{Orderly}
 use Rattle.fsb_laws.specs.Progress.{response_count, transfer_of}
 use Rattle.fsb_queue.specs.declared.entry.Entry.{Entry}
 use Rattle.fsb_phase.specs.declared.phases.Phases.{Phases}
-use Rattle.fsb_phase.specs.Flight.{HoldsInFlight, is_too_soon}
+use Rattle.fsb_phase.specs.FitQueue.{HoldsInFlight, is_too_soon}
 use Rattle.fsb_phase.specs.Drive.{drive_of}
 
 -- the value for the number before n, if there is one

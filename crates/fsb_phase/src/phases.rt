@@ -2,7 +2,7 @@ ghost use Rattle.std.specs.Prelude.{◌≡◌, ℕ, List, [], ◌∷◌, ◌++�
 ghost use Rattle.std.specs.Option.{option_and_then};
 ghost use Rattle.fsb_trace.specs.At.{Trace};
 ghost use Rattle.fsb_phase.specs.Drive.{drive_of, phased_at};
-ghost use Rattle.fsb_phase.specs.Flight.{HoldsInFlight};
+ghost use Rattle.fsb_phase.specs.FitQueue.{HoldsInFlight};
 ghost use Rattle.fsb_phase.specs.Phases.{Stands, MayTake};
 ghost use Rattle.fsb_phase.specs.Registers.{start_after, snooping, is_to_stall, gets_ready, gets_response, answered, chunk_at, is_busy, numbered_at, drive_by, entry_snooped, transfer_to, has_answered, ends_by, phased_by, answer_to, from_to, may_answer_at, ready_to, phases_to};
 

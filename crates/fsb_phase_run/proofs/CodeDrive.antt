@@ -20,9 +20,8 @@ use Rattle.fsb_timely.specs.Growth.{GrowsTo}
 use Rattle.fsb_timely.specs.Runs.{Run, past_of}
 use Rattle.fsb_timely.specs.Snoops.{live_choice}
 use Rattle.fsb_timely.specs.Transfers.{code_due, is_response_clock, number_responding, settled_of}
-use Rattle.fsb_timely.proofs.Interface.{snoop-tied}
-use Rattle.fsb_timely.proofs.LastClock.{run-ends}
-use Rattle.fsb_lawful.proofs.Responding.{Responding, responding-answer, responding-now, responding-stays}
+use Rattle.fsb_timely.proofs.Interface.{run-ends, snoop-tied}
+use Rattle.fsb_lawful.proofs.Interface.{Responding, responding-answer, responding-now, responding-stays}
 use Rattle.fsb_phase_run.specs.Holds.{HoldsRequests}
 use Rattle.fsb_phase_run.proofs.Grown.{agree-back, agree-grown, live-same, longer, snooped-same}
 use Rattle.fsb_phase_run.proofs.HeldEntries.{EntryOf, entry-held, number-held}

@@ -22,8 +22,7 @@ use Rattle.fsb_timely.specs.Grants.{ended_requests, is_end_at}
 use Rattle.fsb_timely.specs.Growth.{GrowsTo}
 use Rattle.fsb_timely.specs.Moments.{moment_at, requests_ending_at}
 use Rattle.fsb_timely.specs.Runs.{Run, past_of, requests_below}
-use Rattle.fsb_timely.proofs.Interface.{moment-at}
-use Rattle.fsb_timely.proofs.LastClock.{run-ends}
+use Rattle.fsb_timely.proofs.Interface.{moment-at, run-ends}
 use Rattle.fsb_lawful.proofs.Interface.{any-from, any-listed}
 use Rattle.fsb_tied.proofs.Interface.{one-ends}
 use Rattle.fsb_phase_run.specs.Holds.{HoldsRequests}

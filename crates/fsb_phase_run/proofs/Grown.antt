@@ -18,7 +18,7 @@ use Rattle.fsb_timely.specs.Growth.{GrowsTo}
 use Rattle.fsb_timely.specs.Moments.{choice_at}
 use Rattle.fsb_timely.specs.Runs.{Run, past_of, requests_below, run_to}
 use Rattle.fsb_timely.specs.Snoops.{live_choice}
-use Rattle.fsb_timely.proofs.LastClock.{past-before}
+use Rattle.fsb_timely.proofs.Interface.{past-before}
 use Rattle.fsb_lawful.proofs.Interface.{run_to-agrees, snooped-to}
 
 pub agree-grown : (r s : Run) → GrowsTo r s → AgreeTo (length r.trace) r.trace s.trace

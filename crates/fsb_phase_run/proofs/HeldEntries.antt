@@ -14,7 +14,7 @@ use Rattle.fsb_trace.specs.Outcome.{response_clock_of}
 use Rattle.fsb_trace.specs.Requests.{is_live, live_clock_of, live_number_of}
 use Rattle.fsb_trace.specs.Response.{end_of}
 use Rattle.fsb_trace.proofs.Interface.{end_of-response, live_clock_of-number}
-use Rattle.fsb_laws.proofs.FlightSteps.{is_in_flight-end}
+use Rattle.fsb_laws.proofs.Interface.{is_in_flight-end}
 use Rattle.fsb_queue.specs.declared.entry.Entry.{Entry}
 use Rattle.fsb_phase.specs.Due.{rank_of}
 use Rattle.fsb_timely.specs.Moments.{choice_at}

@@ -15,7 +15,7 @@ use Rattle.fsb_timely.specs.Growth.{GrowsTo}
 use Rattle.fsb_timely.specs.Runs.{Run, past_of}
 use Rattle.fsb_timely.specs.Snoops.{live_choice}
 use Rattle.fsb_timely.specs.Transfers.{has_data_at, is_busy_at, settled_of, settles_to_move}
-use Rattle.fsb_lawful.proofs.Chunks.{chunk-bounds}
+use Rattle.fsb_lawful.proofs.Interface.{chunk-bounds}
 use Rattle.fsb_phase_run.specs.Holds.{HoldsRequests}
 use Rattle.fsb_phase_run.proofs.CodeDrive.{outcome-held, settled-same}
 use Rattle.fsb_phase_run.proofs.Grown.{agree-grown, live-same}

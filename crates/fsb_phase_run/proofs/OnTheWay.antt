@@ -21,9 +21,7 @@ use Rattle.fsb_timely.specs.Runs.{Run, past_of, run_to}
 use Rattle.fsb_timely.specs.Snoops.{live_choice}
 use Rattle.fsb_timely.specs.Timely.{Timely}
 use Rattle.fsb_timely.specs.Transfers.{is_busy_at, settled_of, settles_to_move}
-use Rattle.fsb_lawful.proofs.CutRuns.{live_choice-same}
-use Rattle.fsb_lawful.proofs.DataMoves.{keeps-16, last-moves}
-use Rattle.fsb_lawful.proofs.Interface.{length-cut, orderly-at, past-cut, snooped-to}
+use Rattle.fsb_lawful.proofs.Interface.{keeps-16, last-moves, length-cut, live_choice-same, orderly-at, past-cut, snooped-to}
 use Rattle.fsb_phase_run.proofs.CodeDrive.{settled-from}
 use Rattle.fsb_phase_run.proofs.Grown.{agree-cut}
 

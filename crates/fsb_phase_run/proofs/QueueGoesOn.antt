@@ -11,9 +11,9 @@ use Rattle.fsb_laws.proofs.Interface.{is_live-ads}
 use Rattle.fsb_queue.specs.declared.entry.Entry.{Entry}
 use Rattle.fsb_queue.specs.Entries.{with_outcome}
 use Rattle.fsb_phase.specs.Due.{rank_of}
-use Rattle.fsb_phase.specs.Flight.{HoldsInFlight}
+use Rattle.fsb_phase.specs.FitQueue.{HoldsInFlight}
 use Rattle.fsb_flight.specs.GoesOn.{goes_on, settles, stays_in_flight}
-use Rattle.fsb_flight.proofs.QueueStep.{append_from, filter_from, map_from}
+use Rattle.fsb_flight.proofs.Interface.{append_from, filter_from, map_from}
 use Rattle.fsb_timely.specs.Growth.{GrowsTo}
 use Rattle.fsb_timely.specs.Moments.{choice_at, turns_in}
 use Rattle.fsb_timely.specs.Runs.{Run, past_of, requests_below}

@@ -19,8 +19,8 @@ use Rattle.fsb_timely.specs.Growth.{GrowsTo}
 use Rattle.fsb_timely.specs.Runs.{Run}
 use Rattle.fsb_timely.specs.Snoops.{live_choice}
 use Rattle.fsb_timely.specs.Transfers.{is_ready_due}
-use Rattle.fsb_timely.proofs.LastClock.{run-ends}
-use Rattle.fsb_lawful.proofs.Responding.{IsReadyDue, ready-answer, ready-now, ready-stays}
+use Rattle.fsb_timely.proofs.Interface.{run-ends}
+use Rattle.fsb_lawful.proofs.Interface.{IsReadyDue, ready-answer, ready-now, ready-stays}
 use Rattle.fsb_phase_run.specs.Holds.{HoldsRequests}
 use Rattle.fsb_phase_run.proofs.Grown.{agree-back, agree-grown, live-same, longer}
 use Rattle.fsb_phase_run.proofs.HeldEntries.{EntryOf, entry-held, number-held}

@@ -13,8 +13,7 @@ use Rattle.fsb_phase.proofs.Interface.{find-cases, find-off, find-place}
 use Rattle.fsb_timely.specs.Growth.{GrowsTo}
 use Rattle.fsb_timely.specs.Moments.{moment_at, responded_at, retried_at}
 use Rattle.fsb_timely.specs.Runs.{Run, past_of}
-use Rattle.fsb_timely.proofs.Interface.{moment-at}
-use Rattle.fsb_timely.proofs.LastClock.{run-ends}
+use Rattle.fsb_timely.proofs.Interface.{moment-at, run-ends}
 use Rattle.fsb_coherent.specs.Awaits.{responded_in}
 use Rattle.fsb_tied.proofs.Interface.{responded-from}
 use Rattle.fsb_phase_run.specs.Holds.{HoldsRequests}

@@ -23,8 +23,7 @@ use Rattle.fsb_timely.specs.Runs.{Run, past_of}
 use Rattle.fsb_timely.specs.Snoops.{live_choice}
 use Rattle.fsb_timely.specs.Transfers.{code_due, is_response_clock, number_responding, settled_of}
 use Rattle.fsb_timely.proofs.Interface.{snoop-tied}
-use Rattle.fsb_lawful.proofs.AnswerClocks.{answered-before, response-before}
-use Rattle.fsb_lawful.proofs.Responding.{Responding, responding-answer}
+use Rattle.fsb_lawful.proofs.Interface.{Responding, answered-before, responding-answer, response-before}
 use Rattle.fsb_phase_run.specs.Holds.{HoldsRequests}
 use Rattle.fsb_phase_run.proofs.CodeDrive.{code-drive, entry-responds, number-is, responds-entry, responds-old, settled-same}
 use Rattle.fsb_phase_run.proofs.Grown.{agree-back, agree-grown, longer}

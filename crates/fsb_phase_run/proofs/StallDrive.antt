@@ -22,9 +22,7 @@ use Rattle.fsb_timely.specs.Past.{Past}
 use Rattle.fsb_timely.specs.Runs.{Run, run_to}
 use Rattle.fsb_timely.specs.Snoops.{drives_aerr, drives_bnr, drives_defer, drives_hazards, drives_stalls, is_stall_chosen, keeps_snoop_lines, live_choice}
 use Rattle.fsb_timely.specs.Timely.{Timely, holds_at, holds_in}
-use Rattle.fsb_lawful.proofs.CutRuns.{live_choice-same}
-use Rattle.fsb_lawful.proofs.Interface.{same-beq}
-use Rattle.fsb_lawful.proofs.Keeping.{and5}
+use Rattle.fsb_lawful.proofs.Interface.{and5, live_choice-same, same-beq}
 use Rattle.fsb_phase_run.specs.Holds.{HoldsRequests}
 use Rattle.fsb_phase_run.proofs.Grown.{agree-back, agree-cut, agree-grown, choice-grown}
 use Rattle.fsb_phase_run.proofs.HeldEntries.{EntryOf, entry-held, number-held}

@@ -5,7 +5,7 @@ use Rattle.fsb_trace.specs.Outcome.{settled_by, settled_outcome_of}
 use Rattle.fsb_trace.specs.Snoop.{snoop_end_of}
 use Rattle.fsb_trace.proofs.Interface.{snoop_end_of-stays}
 use Rattle.fsb_phase.specs.Phases.{snooped_count}
-use Rattle.fsb_phase.proofs.Counts.{snoops_to}
+use Rattle.fsb_phase.proofs.Interface.{snoops_to}
 use Rattle.fsb_timely.specs.Grants.{snooped_at}
 use Rattle.fsb_timely.specs.Growth.{GrowsTo}
 use Rattle.fsb_timely.specs.Moments.{number_of_turn, turns_in}

@@ -9,9 +9,7 @@ use Rattle.fsb_trace.proofs.Interface.{responds_at-agree, snoop_end_of-stays}
 use Rattle.fsb_timely.specs.Runs.{Run, run_to}
 use Rattle.fsb_timely.specs.Snoops.{live_choice}
 use Rattle.fsb_timely.specs.Timely.{Timely}
-use Rattle.fsb_lawful.proofs.AnswerClocks.{answered-before, response-before, takes-stays}
-use Rattle.fsb_lawful.proofs.OneAnswer.{answered-next, one_answer, ready-then}
-use Rattle.fsb_lawful.proofs.Responding.{IsReadyDue, Responding, one-ready, one-response, ready-stays, responding-answer, responding-stays}
+use Rattle.fsb_lawful.proofs.Interface.{IsReadyDue, Responding, answered-before, answered-next, one-ready, one-response, one_answer, ready-stays, ready-then, responding-answer, responding-stays, response-before, takes-stays}
 use Rattle.fsb_phase_run.proofs.Grown.{agree-cut}
 
 -- live request i responded at t, as the run up to t shows it

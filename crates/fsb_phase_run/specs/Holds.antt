@@ -1,7 +1,7 @@
 -- A queue that holds the requests in flight of a run.
 use Rattle.std.specs.Prelude.{◌≡◌, ℕ, List, Some, slice_get}
 use Rattle.fsb_queue.specs.declared.entry.Entry.{Entry}
-use Rattle.fsb_phase.specs.Flight.{HoldsInFlight}
+use Rattle.fsb_phase.specs.FitQueue.{HoldsInFlight}
 use Rattle.fsb_timely.specs.Moments.{choice_at, turns_in}
 use Rattle.fsb_timely.specs.Runs.{Run, past_of, requests_below}
 

@@ -20,7 +20,7 @@ use Rattle.fsb_laws.proofs.Interface.{line_at-new, response_code_at-new, respond
 use Rattle.fsb_rules.specs.declared.live.Snooped.{Snooped}
 use Rattle.fsb_rules.specs.declared.checker.Checker.{Checker}
 use Rattle.fsb_rules.specs.Tests.{takes_by, is_code_by, next_by, is_sound, is_ready_wrongly_by, is_ready_late_by}
-use Rattle.fsb_rules.specs.Steps.{is_code_wrong_by, is_target_ready_wrong_by}
+use Rattle.fsb_rules.specs.LeastRule.{is_code_wrong_by, is_target_ready_wrong_by}
 use Rattle.fsb_rules.specs.Checker.{Follows}
 use Rattle.fsb_rules.proofs.QueueFacts.{has_next, no_next, takes_by-takes, is_code_by-code}
 

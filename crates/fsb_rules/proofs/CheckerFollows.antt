@@ -21,7 +21,7 @@ use Rattle.fsb_rules.specs.declared.live.LiveRequest.{LiveRequest}
 use Rattle.fsb_rules.specs.declared.recent.Recent.{Recent}
 use Rattle.fsb_rules.specs.declared.checker.Checker.{Checker}
 use Rattle.fsb_rules.specs.Recent.{RecentStands}
-use Rattle.fsb_rules.specs.Steps.{begun_by}
+use Rattle.fsb_rules.specs.LeastRule.{begun_by}
 use Rattle.fsb_rules.specs.Checker.{Follows, Decoded, Identified, Deferrable, beginner_of}
 use Rattle.fsb_rules.proofs.Lines.{lines_back-first, lines_back-next, words_back-new, line_back-new}
 use Rattle.fsb_rules.proofs.FirstBroken.{identified_now}

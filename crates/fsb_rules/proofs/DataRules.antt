@@ -16,7 +16,7 @@ use Rattle.fsb_rules.specs.declared.live.Moving.{Moving}
 use Rattle.fsb_rules.specs.declared.checker.Checker.{Checker}
 use Rattle.fsb_rules.specs.InFlight.{moving_with, moving_after, moving_of}
 use Rattle.fsb_rules.specs.Tests.{moving_by, moved_by, after_chunk}
-use Rattle.fsb_rules.specs.Steps.{is_data_wrong_by}
+use Rattle.fsb_rules.specs.LeastRule.{is_data_wrong_by}
 use Rattle.fsb_rules.specs.Checker.{Follows, Decoded}
 use Rattle.fsb_rules.proofs.QueueFacts.{known_snooped, live_of-known, has_next, told_of-told}
 use Rattle.fsb_rules.proofs.Transfers.{is_transferring-end, is_transferring-begun, is_transferring-kept}

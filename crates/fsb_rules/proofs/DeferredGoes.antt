@@ -16,7 +16,7 @@ use Rattle.fsb_trace.specs.Flight.{is_reply_to, is_live_reply_to, reply_clock_of
 use Rattle.fsb_trace.proofs.Interface.{live_clock_of-number, live_request_of-at}
 use Rattle.fsb_laws.specs.OneMore.{OneMore, cancels}
 use Rattle.fsb_laws.specs.Progress.{response_count}
-use Rattle.fsb_laws.specs.Flight.{ends_at}
+use Rattle.fsb_laws.specs.Leaving.{ends_at}
 use Rattle.fsb_laws.proofs.Interface.{line_at-old, is_cancelled-late, is_live-more, response_counted, response_there, response_clock_of-old, is_deferred-old, end_of-kept, live_request_of-old, reply_clock_of-more, deferred_response, end_after_clock, finished-deferred, ends_by, live_of_reply, ends_dead}
 use Rattle.fsb_rules.specs.declared.live.LiveRequest.{LiveRequest}
 use Rattle.fsb_rules.specs.declared.live.Ended.{Ended}

@@ -19,7 +19,7 @@ use Rattle.fsb_trace.proofs.Interface.{live_clock_of-number}
 use Rattle.fsb_laws.specs.OneMore.{OneMore, responds}
 use Rattle.fsb_laws.specs.Orderly.{Orderly}
 use Rattle.fsb_laws.specs.Progress.{SnoopsTo, EndsTo, response_count, transfer_of, may_answer_next, chunk_step}
-use Rattle.fsb_laws.specs.Flight.{ends_at}
+use Rattle.fsb_laws.specs.Leaving.{ends_at}
 use Rattle.fsb_laws.proofs.Interface.{response_count-more, response_there, has_answer, outcome_of-new, moves_data-old, response_count-kept, ends_to-still, ends_to-moving, transfer_parts, end_of-old, end_of-kept, transfer_of-begun, may_answer_next-parts, answered_below, deferred_still}
 use Rattle.fsb_rules.specs.declared.live.LiveRequest.{LiveRequest}
 use Rattle.fsb_rules.specs.declared.live.Ended.{Ended}

@@ -23,7 +23,7 @@ use Rattle.fsb_rules.specs.declared.live.LiveRequest.{LiveRequest}
 use Rattle.fsb_rules.specs.Live.{live_at}
 use Rattle.fsb_rules.specs.Tests.{queue_len}
 use Rattle.fsb_rules.specs.OpenTests.{open_after, open_begun}
-use Rattle.fsb_rules.specs.Steps.{begun_by, first_broken, happened_by}
+use Rattle.fsb_rules.specs.LeastRule.{begun_by, first_broken, happened_by}
 use Rattle.fsb_rules.specs.Checker.{Follows, Stands, as_broken}
 use Rattle.fsb_rules.proofs.FirstBroken.{first_is_least}
 use Rattle.fsb_rules.proofs.StartRules.{begun-form}

@@ -21,7 +21,7 @@ use Rattle.fsb_rules.specs.declared.live.LiveRequest.{LiveRequest}
 use Rattle.fsb_rules.specs.declared.checker.Checker.{Checker}
 use Rattle.fsb_rules.specs.Live.{live_from}
 use Rattle.fsb_rules.specs.OpenTests.{is_wrong_among}
-use Rattle.fsb_rules.specs.Steps.{begun_by, is_begun_wrongly_by, parity_broken, later_broken, first_broken}
+use Rattle.fsb_rules.specs.LeastRule.{begun_by, is_begun_wrongly_by, parity_broken, later_broken, first_broken}
 use Rattle.fsb_rules.specs.Checker.{Follows}
 use Rattle.fsb_rules.proofs.Lines.{line_back-new}
 use Rattle.fsb_rules.proofs.StartRules.{rule_1, rule_2, rule_3, rule_4, rule_5, rule_6, rule_7, rule_8, rule_9, rule_10, rule_17, rule_19, rule_20, begun_there, begun-form}

@@ -15,7 +15,7 @@ use Rattle.fsb_trace.specs.Response.{end_of}
 use Rattle.fsb_trace.specs.Flight.{reply_clock_of, last_clock_of, is_outstanding}
 use Rattle.fsb_trace.proofs.Interface.{live_clock_of-number}
 use Rattle.fsb_laws.specs.OneMore.{cancels}
-use Rattle.fsb_laws.specs.Flight.{ends_at}
+use Rattle.fsb_laws.specs.Leaving.{ends_at}
 use Rattle.fsb_laws.proofs.Interface.{is_live-ads, is_live-more, live_number_of-more, end_past, is_outstanding-end, finished-plain, IsNewlyDeferred, newly_deferred, last_clock_of-plain}
 use Rattle.fsb_rules.specs.declared.live.LiveRequest.{LiveRequest}
 use Rattle.fsb_rules.specs.declared.live.Ended.{Ended}
@@ -25,7 +25,7 @@ use Rattle.fsb_rules.specs.declared.outstanding.Happened.{Happened}
 use Rattle.fsb_rules.specs.Tests.{ended_by}
 use Rattle.fsb_rules.specs.OpenTests.{reply_by, reply_after, open_with, open_after_end, open_after}
 use Rattle.fsb_rules.specs.Outstanding.{open_from, open_at}
-use Rattle.fsb_rules.specs.Steps.{happened_by}
+use Rattle.fsb_rules.specs.LeastRule.{happened_by}
 use Rattle.fsb_rules.proofs.Endings.{NoneEnds, EndsAlone, SaysEnded, says_ended, ends_at-none, ends_at-some}
 use Rattle.fsb_rules.proofs.Goes.{Goes}
 

@@ -24,7 +24,7 @@ use Rattle.fsb_rules.specs.declared.outstanding.Outstanding.{Outstanding}
 use Rattle.fsb_rules.specs.Live.{live_from}
 use Rattle.fsb_rules.specs.OpenTests.{open_after, open_begun, is_of_agent, has_id, is_wrong_among}
 use Rattle.fsb_rules.specs.Outstanding.{open_of, OutstandingStands}
-use Rattle.fsb_rules.specs.Steps.{is_begun_wrongly_by}
+use Rattle.fsb_rules.specs.LeastRule.{is_begun_wrongly_by}
 use Rattle.fsb_rules.proofs.Agents.{winner_four, own_agent, own_part}
 use Rattle.fsb_rules.proofs.OpenLists.{count_by-append, one_count}
 use Rattle.fsb_rules.proofs.OpenCounts.{count_left, own_left, is_own, room_for}

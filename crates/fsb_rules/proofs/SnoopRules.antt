@@ -22,7 +22,7 @@ use Rattle.fsb_rules.specs.Live.{live_from, live_of}
 use Rattle.fsb_rules.specs.Tests.{ends_snoop_by, is_unfit_by}
 use Rattle.fsb_rules.specs.Stretch.{Stretch}
 use Rattle.fsb_rules.specs.InFlight.{known_count}
-use Rattle.fsb_rules.specs.Steps.{is_snoop_line_alone_by, is_result_unfit_by}
+use Rattle.fsb_rules.specs.LeastRule.{is_snoop_line_alone_by, is_result_unfit_by}
 use Rattle.fsb_rules.specs.Checker.{Follows, Decoded}
 use Rattle.fsb_rules.proofs.QueueFacts.{IsKnown, is_known, not_known, live_of-known, is_due_by-due}
 

@@ -24,7 +24,7 @@ use Rattle.fsb_rules.specs.declared.live.LiveRequest.{LiveRequest}
 use Rattle.fsb_rules.specs.declared.checker.Checker.{Checker}
 use Rattle.fsb_rules.specs.Live.{live_from, live_at}
 use Rattle.fsb_rules.specs.Tests.{is_among, request_by, queue_len}
-use Rattle.fsb_rules.specs.Steps.{begun_by, is_too_soon_by, is_identified_by, is_identity_wrong_by, is_asked_wrongly_by, is_some_asked_wrongly_by, is_lock_alone_by, has_parity_by, is_address_wrong_by, is_request_wrong_by}
+use Rattle.fsb_rules.specs.LeastRule.{begun_by, is_too_soon_by, is_identified_by, is_identity_wrong_by, is_asked_wrongly_by, is_some_asked_wrongly_by, is_lock_alone_by, has_parity_by, is_address_wrong_by, is_request_wrong_by}
 use Rattle.fsb_rules.specs.Checker.{Follows, beginner_of}
 use Rattle.fsb_rules.proofs.Lines.{is_among-back, line_back-new, request_by-new, line_back-some}
 use Rattle.fsb_rules.proofs.QueueLength.{queue_len-in_flight}

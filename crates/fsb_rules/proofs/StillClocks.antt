@@ -15,7 +15,7 @@ use Rattle.fsb_rules.specs.declared.live.LiveRequest.{LiveRequest}
 use Rattle.fsb_rules.specs.declared.live.Snooped.{Snooped}
 use Rattle.fsb_rules.specs.Still.{is_still, is_quiet_by, stays_by}
 use Rattle.fsb_rules.specs.Tests.{is_due_by, ends_snoop_by, is_unfit_by, is_sound, moving_by, after_chunk, snooped_by, asking_after, without_last, waiting_after, ready_after_by}
-use Rattle.fsb_rules.specs.Steps.{is_snoop_line_alone_by, is_result_unfit_by, is_code_wrong_by, is_target_ready_wrong_by, is_data_wrong_by, is_begun_wrongly_by, later_broken, parity_broken}
+use Rattle.fsb_rules.specs.LeastRule.{is_snoop_line_alone_by, is_result_unfit_by, is_code_wrong_by, is_target_ready_wrong_by, is_data_wrong_by, is_begun_wrongly_by, later_broken, parity_broken}
 
 -- none of the lines is asserted
 record Stillness (x : Sample) : Type 0 where

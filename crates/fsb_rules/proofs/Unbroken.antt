@@ -28,7 +28,7 @@ use Rattle.fsb_laws.specs.Progress.{may_answer_next}
 use Rattle.fsb_laws.proofs.Interface.{line_at-new}
 use Rattle.fsb_rules.specs.declared.checker.Checker.{Checker}
 use Rattle.fsb_rules.specs.Tests.{queue_len, next_by, takes_by, is_ready_wrongly_by}
-use Rattle.fsb_rules.specs.Steps.{begun_by, is_begun_wrongly_by, is_target_ready_wrong_by}
+use Rattle.fsb_rules.specs.LeastRule.{begun_by, is_begun_wrongly_by, is_target_ready_wrong_by}
 use Rattle.fsb_rules.specs.Checker.{Follows}
 use Rattle.fsb_rules.proofs.Lines.{line_back-new}
 use Rattle.fsb_rules.proofs.StartRules.{rule_4, begun_there, begun-form}

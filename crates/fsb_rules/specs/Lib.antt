@@ -2,7 +2,7 @@ pub mod Live
 pub mod Tests
 pub mod OpenTests
 pub mod Still
-pub mod Steps
+pub mod LeastRule
 pub mod Stretch
 pub mod Recent
 pub mod InFlight

@@ -13,7 +13,7 @@ ghost use Rattle.fsb_arbiter.specs.Arbiter.{Stands as ArbiterStands};
 ghost use Rattle.fsb_laws.specs.OneMore.{responds};
 ghost use Rattle.fsb_rules.specs.Tests.{queue_len, snooped_by, asking_after, waiting_after, after_chunk, moving_by, ready_after_by};
 ghost use Rattle.fsb_rules.specs.OpenTests.{open_after, open_begun};
-ghost use Rattle.fsb_rules.specs.Steps.{begun_by, is_too_soon_by, is_identified_by, is_identity_wrong_by, is_asked_wrongly_by, is_some_asked_wrongly_by, is_lock_alone_by, is_snoop_line_alone_by, is_begun_wrongly_by, has_parity_by, is_address_wrong_by, is_request_wrong_by, parity_broken, later_broken, first_broken, happened_by};
+ghost use Rattle.fsb_rules.specs.LeastRule.{begun_by, is_too_soon_by, is_identified_by, is_identity_wrong_by, is_asked_wrongly_by, is_some_asked_wrongly_by, is_lock_alone_by, is_snoop_line_alone_by, is_begun_wrongly_by, has_parity_by, is_address_wrong_by, is_request_wrong_by, parity_broken, later_broken, first_broken, happened_by};
 ghost use Rattle.fsb_trace.specs.Winner.{is_agent, is_same_agent, request_line_of, winner_at};
 ghost use Rattle.fsb_trace.specs.Response.{data_clock_of};
 ghost use Rattle.fsb_rules.specs.Checker.{Stands, as_broken};
@@ -59,7 +59,7 @@ fn is_agent(agent: Option<Who>, who: Who) -> bool
 }
 
 /// Whether the request is a reply of the priority agent, or another one with an ID of its agent's.
-#[tactic(auto, unfolding(crate::specs::Steps::is_identified_by))]
+#[tactic(auto, unfolding(crate::specs::LeastRule::is_identified_by))]
 fn is_identified(beginner: Option<Who>, request: &LiveRequest) -> bool
     ensures { result ≡ is_identified_by beginner request.now }
 {
@@ -161,7 +161,7 @@ impl Checker {
     }
 
     /// The least rule that is broken with this sample.
-    #[tactic(auto, unfolding(crate::specs::Steps::first_broken))]
+    #[tactic(auto, unfolding(crate::specs::LeastRule::first_broken))]
     fn first_broken(
         &self,
         clock: u32,
@@ -210,7 +210,7 @@ impl Checker {
     }
 
     /// The least of the rules from 11 on that is broken with a sample in which anything may happen.
-    #[tactic(auto, unfolding(crate::specs::Steps::later_broken, crate::specs::Steps::is_result_unfit_by, crate::specs::Steps::is_code_wrong_by, crate::specs::Steps::is_target_ready_wrong_by, crate::specs::Steps::is_data_wrong_by))]
+    #[tactic(auto, unfolding(crate::specs::LeastRule::later_broken, crate::specs::LeastRule::is_result_unfit_by, crate::specs::LeastRule::is_code_wrong_by, crate::specs::LeastRule::is_target_ready_wrong_by, crate::specs::LeastRule::is_data_wrong_by))]
     fn busy_broken(&self, clock: u32, sample: &Sample, begun: Option<LiveRequest>) -> Option<u8>
         ensures { result ≡ later_broken self.now clock sample.now begun }
     {
@@ -236,7 +236,7 @@ impl Checker {
     }
 
     /// The least of the two parity rules that is broken with this sample.
-    #[tactic(auto, unfolding(crate::specs::Steps::parity_broken))]
+    #[tactic(auto, unfolding(crate::specs::LeastRule::parity_broken))]
     fn parity_broken(&self, sample: &Sample) -> Option<u8>
         ensures { result ≡ parity_broken self.now sample.now }
     {
@@ -250,7 +250,7 @@ impl Checker {
     }
 
     /// Rule 2, request spacing.
-    #[tactic(auto, unfolding(crate::specs::Steps::is_too_soon_by))]
+    #[tactic(auto, unfolding(crate::specs::LeastRule::is_too_soon_by))]
     fn is_too_soon(&self, clock: u32, sample: &Sample) -> bool
         ensures { result ≡ is_too_soon_by self.now clock sample.now }
     {
@@ -259,7 +259,7 @@ impl Checker {
     }
 
     /// Rule 7, request identity.
-    #[tactic(auto, unfolding(crate::specs::Steps::is_identity_wrong_by, fsb_count::specs::Options::is_some_and))]
+    #[tactic(auto, unfolding(crate::specs::LeastRule::is_identity_wrong_by, fsb_count::specs::Options::is_some_and))]
     fn is_identity_wrong(&self, begun: Option<LiveRequest>) -> bool
         ensures { result ≡ is_identity_wrong_by self.now begun }
     {
@@ -270,7 +270,7 @@ impl Checker {
     }
 
     /// Whether the agent's request line is not held until its request begins, or not released then.
-    #[tactic(auto, unfolding(crate::specs::Steps::is_asked_wrongly_by))]
+    #[tactic(auto, unfolding(crate::specs::LeastRule::is_asked_wrongly_by))]
     fn is_asked_wrongly(&self, sample: &Sample, who: Who, line: Lines) -> bool
         requires { line ≡ request_line_of who }
         ensures { result ≡ is_asked_wrongly_by self.now sample.now who }
@@ -283,7 +283,7 @@ impl Checker {
     }
 
     /// Rule 8, request lines held and released.
-    #[tactic(auto, unfolding(crate::specs::Steps::is_some_asked_wrongly_by, fsb_trace::specs::Winner::request_line_of, fsb_trace::specs::Winner::bus_request_of))]
+    #[tactic(auto, unfolding(crate::specs::LeastRule::is_some_asked_wrongly_by, fsb_trace::specs::Winner::request_line_of, fsb_trace::specs::Winner::bus_request_of))]
     fn is_some_asked_wrongly(&self, sample: &Sample) -> bool
         ensures { result ≡ is_some_asked_wrongly_by self.now sample.now }
     {
@@ -295,7 +295,7 @@ impl Checker {
     }
 
     /// Rule 9, lock begins with a request.
-    #[tactic(auto, unfolding(crate::specs::Steps::is_lock_alone_by))]
+    #[tactic(auto, unfolding(crate::specs::LeastRule::is_lock_alone_by))]
     fn is_lock_alone(&self, sample: &Sample) -> bool
         ensures { result ≡ is_lock_alone_by self.now sample.now }
     {
@@ -303,7 +303,7 @@ impl Checker {
     }
 
     /// Rule 11, snoop lines in snoop clocks.
-    #[tactic(auto, unfolding(crate::specs::Steps::is_snoop_line_alone_by))]
+    #[tactic(auto, unfolding(crate::specs::LeastRule::is_snoop_line_alone_by))]
     fn is_snoop_line_alone(&self, clock: u32, sample: &Sample) -> bool
         ensures { result ≡ is_snoop_line_alone_by self.now clock sample.now }
     {
@@ -312,7 +312,7 @@ impl Checker {
     }
 
     /// Rule 18, deferred IDs and outstanding requests.
-    #[tactic(auto, unfolding(crate::specs::Steps::is_begun_wrongly_by, fsb_count::specs::Options::is_some_and))]
+    #[tactic(auto, unfolding(crate::specs::LeastRule::is_begun_wrongly_by, fsb_count::specs::Options::is_some_and))]
     fn is_begun_wrongly(&self, begun: Option<LiveRequest>) -> bool
         ensures { result ≡ is_begun_wrongly_by self.now begun }
     {
@@ -323,7 +323,7 @@ impl Checker {
     }
 
     /// Whether the sample is one of the two clocks of a request, which have parity.
-    #[tactic(auto, unfolding(crate::specs::Steps::has_parity_by))]
+    #[tactic(auto, unfolding(crate::specs::LeastRule::has_parity_by))]
     fn has_parity(&self, sample: &Sample) -> bool
         ensures { result ≡ has_parity_by self.now sample.now }
     {
@@ -331,7 +331,7 @@ impl Checker {
     }
 
     /// Rule 19, address parity, where the dump declares it.
-    #[tactic(auto, unfolding(crate::specs::Steps::is_address_wrong_by))]
+    #[tactic(auto, unfolding(crate::specs::LeastRule::is_address_wrong_by))]
     fn is_address_wrong(&self, sample: &Sample) -> bool
         ensures { result ≡ is_address_wrong_by self.now sample.now }
     {
@@ -339,7 +339,7 @@ impl Checker {
     }
 
     /// Rule 20, request parity, where the dump declares it.
-    #[tactic(auto, unfolding(crate::specs::Steps::is_request_wrong_by))]
+    #[tactic(auto, unfolding(crate::specs::LeastRule::is_request_wrong_by))]
     fn is_request_wrong(&self, sample: &Sample) -> bool
         ensures { result ≡ is_request_wrong_by self.now sample.now }
     {
@@ -347,7 +347,7 @@ impl Checker {
     }
 
     /// The request that began at the last clock, whose second clock is this one.
-    #[tactic(auto, unfolding(crate::specs::Steps::begun_by))]
+    #[tactic(auto, unfolding(crate::specs::LeastRule::begun_by))]
     fn begun(&self, clock: u32, sample: &Sample) -> Option<LiveRequest>
         ensures { result ≡ begun_by self.now clock sample.now }
     {
@@ -362,7 +362,7 @@ impl Checker {
     }
 
     /// What happens with this sample.
-    #[tactic(auto, unfolding(crate::specs::Steps::happened_by))]
+    #[tactic(auto, unfolding(crate::specs::LeastRule::happened_by))]
     fn happened(&self, clock: u32, sample: &Sample, begun: Option<LiveRequest>) -> Happened
         ensures { result ≡ happened_by self.now clock sample.now begun }
     {
@@ -379,7 +379,7 @@ impl Checker {
     }
 
     /// Takes the next sample, which breaks no rule.
-    #[tactic(auto, unfolding(crate::specs::Steps::happened_by))]
+    #[tactic(auto, unfolding(crate::specs::LeastRule::happened_by))]
     fn absorb(
         &mut self,
         clock: u32,

@@ -12,7 +12,7 @@ use Rattle.fsb_timely.proofs.Interface.{Alike, moment-at, owed-same}
 use Rattle.fsb_lawful.proofs.Interface.{map-some, want-few}
 use Rattle.fsb_tied.proofs.Interface.{begun-want}
 use Rattle.fsb_run_laws.specs.Reaches.{Reaches}
-use Rattle.fsb_run_laws.specs.Steps.{owing_begun}
+use Rattle.fsb_run_laws.specs.RunSteps.{owing_begun}
 use Rattle.fsb_run_laws.proofs.OwedRequests.{begun-field, owing-claim}
 
 -- the past below a clock is that of the whole run so far

@@ -13,7 +13,7 @@ use Rattle.fsb_coherent.specs.Relation.{is_dirty_below, is_dirtying, is_stored_b
 use Rattle.fsb_coherent.proofs.Interface.{dirty-more, ended-later, granted-now, stored-parts}
 use Rattle.fsb_tied.proofs.Interface.{clock-facts}
 use Rattle.fsb_run_laws.specs.Reaches.{Reaches}
-use Rattle.fsb_run_laws.specs.States.{state_below, state_by, state_granted}
+use Rattle.fsb_run_laws.specs.RunStates.{state_below, state_of_tests, state_granted}
 
 -- no store is logged above the end of a grant that is new
 none-stored : (p : Past) (a line n : ℕ) (grant : Grant) → ClockFacts p line n → is_granted p a line n ≡ true
@@ -29,9 +29,9 @@ none-stored p a line n grant h t there = false_from_ne_true _ (λ stored.
     (ap (λ (g : Grant). is_ended p (n + 1) g.first) (sym same) ∙ now.unended) ended)
 
 by-grant : (owns shared : Bool)
-    → state_by true (owns || not shared) ((owns || not shared) && (owns || false))
+    → state_of_tests true (owns || not shared) ((owns || not shared) && (owns || false))
     ≡ (if owns then Modified else (if shared then Shared else Exclusive))
-unfolding state_by
+unfolding state_of_tests
 by-grant true shared = refl
 by-grant false true = refl
 by-grant false false = refl
@@ -49,4 +49,4 @@ state-granted r a line n grant h t there =
     is_exclusive-more p a line n ∙ rw (t, there) refl in
     let dirty : is_dirty_below p a line (n + 1) ≡ ((grant.owns || not grant.shared) && (grant.owns || false)) =
     dirty-more p a line n ∙ rw (t, there, none-stored p a line n grant facts t there) refl in
-    (λ i. state_by (held i) (own i) (dirty i)) ∙ by-grant grant.owns grant.shared
+    (λ i. state_of_tests (held i) (own i) (dirty i)) ∙ by-grant grant.owns grant.shared

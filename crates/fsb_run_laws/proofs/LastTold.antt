@@ -13,8 +13,7 @@ use Rattle.fsb_trace.specs.Outcome.{is_deferral, is_deferred, response_clock_of}
 use Rattle.fsb_trace.specs.Requests.{is_cancelled, is_live, live_clock_of, live_number_of}
 use Rattle.fsb_trace.specs.Response.{end_of}
 use Rattle.fsb_trace.proofs.Interface.{AgreeTo-sym, is_deferred-stays, live_clock_of-number, response_clock_of-stays, snoop_end_of-stays}
-use Rattle.fsb_laws.proofs.Interface.{deferred_response, last_clock_of-plain}
-use Rattle.fsb_laws.proofs.OutstandingSteps.{last_clock_of-deferred}
+use Rattle.fsb_laws.proofs.Interface.{deferred_response, last_clock_of-deferred, last_clock_of-plain}
 use Rattle.fsb_timely.specs.Grants.{begun_at, ended_requests, is_end_at, snooped_at}
 use Rattle.fsb_timely.specs.Growth.{is_last_clock}
 use Rattle.fsb_timely.specs.Moments.{grant_to}

@@ -12,7 +12,7 @@ use Rattle.fsb_timely.specs.Hits.{is_dirty, is_hit, is_store_on, line_state_of}
 use Rattle.fsb_timely.proofs.Interface.{holds_line-more, is_exclusive-more}
 use Rattle.fsb_coherent.specs.Relation.{is_dirty_below, is_dirty_through, is_dirtying, is_stored_below}
 use Rattle.fsb_coherent.proofs.Interface.{dirty-by-hits, dirty-more}
-use Rattle.fsb_run_laws.specs.States.{state_below, state_by, state_read, state_stored, state_through, stores_at}
+use Rattle.fsb_run_laws.specs.RunStates.{state_below, state_of_tests, state_read, state_stored, state_through, stores_at}
 
 -- the state is told by holding, having for itself, and being dirty
 by-tests : (held own dirty : Bool)
@@ -20,15 +20,15 @@ by-tests : (held own dirty : Bool)
       | false ↦ Invalid
       | true ↦ elim own [ false ↦ Shared | true ↦ elim dirty [ true ↦ Modified | false ↦ Exclusive ] ]
     ])
-    ≡ state_by held own dirty
-unfolding state_by
+    ≡ state_of_tests held own dirty
+unfolding state_of_tests
 by-tests false own dirty = refl
 by-tests true false dirty = refl
 by-tests true true false = refl
 by-tests true true true = refl
 
 by-choice : (held own x y b : Bool)
-    → state_by held own (if b then x else y) ≡ (if b then state_by held own x else state_by held own y)
+    → state_of_tests held own (if b then x else y) ≡ (if b then state_of_tests held own x else state_of_tests held own y)
 by-choice held own x y true = refl
 by-choice held own x y false = refl
 
@@ -38,7 +38,7 @@ unfolding line_state_of state_through state_below
 state-by-hits p a line n =
     let held = holds_line p a line n in
     let own = is_exclusive p a line n in
-    by-tests held own (is_dirty p a line n) ∙ ap (state_by held own) (dirty-by-hits p a line n)
+    by-tests held own (is_dirty p a line n) ∙ ap (state_of_tests held own) (dirty-by-hits p a line n)
     ∙ by-choice held own (is_dirty_through p a line n) (is_dirty_below p a line n) (is_hit p a n)
 
 -- what is counted up to a clock is counted below it or is of it
@@ -85,9 +85,9 @@ with-stores (Some x) f g = by x.owns (f x) (g x)
 
 -- what stores make of a state
 by-stores : (held own dirty stored : Bool) → (own ≡ true → held ≡ true)
-    → state_by held own (own && (dirty || stored))
-    ≡ (if stored then state_stored (state_by held own (own && dirty)) else state_by held own (own && dirty))
-unfolding state_by state_stored
+    → state_of_tests held own (own && (dirty || stored))
+    ≡ (if stored then state_stored (state_of_tests held own (own && dirty)) else state_of_tests held own (own && dirty))
+unfolding state_of_tests state_stored
 by-stores false own dirty true h = refl
 by-stores false own dirty false h = refl
 by-stores true false dirty true h = refl
@@ -110,8 +110,8 @@ state-by-stores p a line n =
     let latest = latest_grant p a line n in
     let now : ℕ → Bool =
     λ q. list_any (λ done. is_store_on a line done && is_ended p done.clock q && nat_eq done.clock n) p.log in
-    (λ i. state_by held own (own && is_some_and latest (λ grant. grant.owns || stored-more p a line n grant.first i)))
-    ∙ ap (λ b. state_by held own (own && b))
+    (λ i. state_of_tests held own (own && is_some_and latest (λ grant. grant.owns || stored-more p a line n grant.first i)))
+    ∙ ap (λ b. state_of_tests held own (own && b))
     (with-stores latest (λ grant. is_stored_below p a line n grant.first) (λ grant. now grant.first))
     ∙ by-stores held own (is_some_and latest (λ grant. grant.owns || is_stored_below p a line n grant.first))
     (is_some_and latest (λ grant. now grant.first)) (exclusive-held p a line n)
@@ -138,9 +138,9 @@ dirty-kept p a line n f =
 
 -- the state one clock on, by what of it is lost and named
 by-loss : (held own dirty lost named : Bool)
-    → state_by (held && not lost) (own && (not lost && not named)) (dirty && (not lost && not named))
-    ≡ (if lost then Invalid else (if named then state_read (state_by held own dirty) else state_by held own dirty))
-unfolding state_by state_read
+    → state_of_tests (held && not lost) (own && (not lost && not named)) (dirty && (not lost && not named))
+    ≡ (if lost then Invalid else (if named then state_read (state_of_tests held own dirty) else state_of_tests held own dirty))
+unfolding state_of_tests state_read
 by-loss true own dirty true named = refl
 by-loss false own dirty true named = refl
 by-loss false own dirty false true = refl
@@ -160,7 +160,7 @@ pub state-kept : (p : Past) (a line n : ℕ) → is_granted p a line n ≡ false
     else (if is_named_by_other p a line n then state_read (state_through p a line n) else state_through p a line n))
 unfolding state_below state_through
 state-kept p a line n f =
-    (λ i. state_by (held-kept p a line n f i) (own-kept p a line n f i) (dirty-kept p a line n f i))
+    (λ i. state_of_tests (held-kept p a line n f i) (own-kept p a line n f i) (dirty-kept p a line n f i))
     ∙ by-loss (holds_line p a line n) (is_exclusive p a line n) (is_dirty_through p a line n)
     (is_lost p a line n) (is_named_by_other p a line n)
 

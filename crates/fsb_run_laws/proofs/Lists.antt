@@ -3,7 +3,7 @@ use Rattle.std.proofs.Common.{ℕ, zero, suc, ◌+◌, ◌<◌, ◌≡◌, Bool,
 use Rattle.std.specs.List.{filter, filter_map}
 use Rattle.std.proofs.lemmas.List.Elements.{filter-append, filter_map-append}
 use Rattle.fsb_count.specs.Clocks.{all_where}
-use Rattle.fsb_run_laws.specs.Steps.{listed}
+use Rattle.fsb_run_laws.specs.RunSteps.{listed}
 
 -- what a clock gives, where it passes
 abbrev pub given : {Y : Type 0} → Bool → Option Y → Option Y

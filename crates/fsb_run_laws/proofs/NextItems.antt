@@ -15,7 +15,7 @@ use Rattle.fsb_timely.specs.Scripts.{completes_at, idle_clocks, idle_start, is_i
 use Rattle.fsb_timely.specs.Timely.{Timely}
 use Rattle.fsb_timely.proofs.Interface.{done-before, done-now, is_logged-more, logged-next, logs-item, next_number-same, not-behind}
 use Rattle.fsb_run_laws.specs.Reaches.{Reaches}
-use Rattle.fsb_run_laws.specs.Steps.{is_behind, number_behind}
+use Rattle.fsb_run_laws.specs.RunSteps.{is_behind, next_behind}
 use Rattle.fsb_run_laws.proofs.LastEntries.{last-of, last-stays}
 
 -- the item that an agent completes is its next one
@@ -59,8 +59,8 @@ upto-same p a c m k none upto =
 pub next-behind : (r : Run) (a n m : ℕ) → Reaches r (n + 1) → next_number (past_of r) a n ≡ Some m
     → completes_at (past_of r) a n ≡ true
     → next_number (past_of r) a (n + 1)
-    ≡ number_behind (items_of (past_of r) a) m (length (items_of (past_of r) a))
-unfolding next_number number_behind
+    ≡ next_behind (items_of (past_of r) a) m (length (items_of (past_of r) a))
+unfolding next_number next_behind
 next-behind r a n m h next e =
     let p = past_of r in
     let items = items_of p a in
@@ -106,7 +106,7 @@ number_after-stays p a n e = ap (λ (o : Option Done). option_map_or (λ done. d
 pub idling-behind : (r : Run) (a n m : ℕ) → Reaches r (n + 1) → next_number (past_of r) a n ≡ Some m
     → completes_at (past_of r) a n ≡ true
     → is_idling (past_of r) a (n + 1)
-    ≡ is_some_and (number_behind (items_of (past_of r) a) m (length (items_of (past_of r) a)))
+    ≡ is_some_and (next_behind (items_of (past_of r) a) m (length (items_of (past_of r) a)))
     (λ k. nat_lt (n + 1) (n + 1 + idle_clocks (items_of (past_of r) a) (m + 1) k))
 unfolding is_idling
 idling-behind r a n m h next e =

@@ -24,7 +24,7 @@ use Rattle.fsb_lawful.proofs.Interface.{length-cut, run_to-agrees}
 use Rattle.fsb_coherent.specs.Awaits.{cancelled_in}
 use Rattle.fsb_coherent.specs.Relation.{is_cancelled_below, is_snooped_below}
 use Rattle.fsb_tied.proofs.Interface.{cancelled-below, cancels, end-below, ended-snooped, same-both}
-use Rattle.fsb_run_laws.specs.Steps.{is_open_below, open_claims}
+use Rattle.fsb_run_laws.specs.RunSteps.{is_open_below, open_claims}
 use Rattle.fsb_run_laws.proofs.Lists.{all-both, given, given-alike}
 
 -- the requests that the moment of e leaves open

@@ -13,7 +13,7 @@ use Rattle.fsb_coherent.specs.Awaits.{cancelled_in}
 use Rattle.fsb_coherent.specs.Relation.{is_cancelled_below, is_snooped_below}
 use Rattle.fsb_tied.proofs.Interface.{clock-facts, uncancelled-below, unsnooped-below}
 use Rattle.fsb_run_laws.specs.Reaches.{Reaches}
-use Rattle.fsb_run_laws.specs.Steps.{is_open_below, listed, open_claims, stays_open}
+use Rattle.fsb_run_laws.specs.RunSteps.{is_open_below, listed, open_claims, stays_open}
 use Rattle.fsb_run_laws.proofs.Lists.{given, given-more, kept, kept-alike}
 use Rattle.fsb_run_laws.proofs.OpenRequests.{open-told}
 

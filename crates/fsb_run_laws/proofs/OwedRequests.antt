@@ -23,7 +23,7 @@ use Rattle.fsb_timely.proofs.Interface.{is_outstanding-more, moment-at, moment_o
 use Rattle.fsb_lawful.proofs.Interface.{length-cut, orderly-at, outstanding-of, run_to-agrees}
 use Rattle.fsb_tied.proofs.Interface.{begun-shown, begun-want, claim-no-reply, clock-facts, orderly-whole, owing-gives, same-both}
 use Rattle.fsb_run_laws.specs.Reaches.{Reaches}
-use Rattle.fsb_run_laws.specs.Steps.{listed, owing_begun}
+use Rattle.fsb_run_laws.specs.RunSteps.{listed, owing_begun}
 use Rattle.fsb_run_laws.proofs.LastClocks.{finished-carried, finished-late}
 use Rattle.fsb_run_laws.proofs.Lists.{given, given-alike, given-more, kept, kept-alike}
 

@@ -21,7 +21,7 @@ use Rattle.fsb_lawful.proofs.Interface.{any-from, any-listed, run_to-agrees}
 use Rattle.fsb_coherent.specs.Awaits.{responded_in}
 use Rattle.fsb_tied.proofs.Interface.{Ends, Responds, ended-number, number-ended, number-responded, one-at-end, one-ends, one-listed, orderly-whole, responded-from, responded-number, responded-parts}
 use Rattle.fsb_run_laws.specs.Reaches.{Reaches}
-use Rattle.fsb_run_laws.specs.Steps.{retried_in}
+use Rattle.fsb_run_laws.specs.RunSteps.{retried_in}
 
 -- two that say the same are the same
 alike : (a b : Option ℕ) → ((q : ℕ) → a ≡ Some q → b ≡ Some q) → ((q : ℕ) → b ≡ Some q → a ≡ Some q) → a ≡ b

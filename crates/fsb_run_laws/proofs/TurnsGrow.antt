@@ -8,7 +8,7 @@ use Rattle.fsb_timely.specs.Moments.{number_of_turn, turns_in}
 use Rattle.fsb_timely.specs.Past.{Moment, SnoopEnd}
 use Rattle.fsb_timely.specs.Runs.{past_of, Run}
 use Rattle.fsb_timely.proofs.Interface.{length-moments, moments-grow, turns-quiet, turns-snooped}
-use Rattle.fsb_run_laws.specs.Steps.{listed}
+use Rattle.fsb_run_laws.specs.RunSteps.{listed}
 
 pub turns-more : (moments : List Moment) (moment : Moment)
     → turns_in (moments ++ moment ∷ [])

@@ -1,4 +1,4 @@
 pub mod Brought
 pub mod Reaches
-pub mod States
-pub mod Steps
+pub mod RunStates
+pub mod RunSteps

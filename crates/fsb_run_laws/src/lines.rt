@@ -14,7 +14,7 @@ ghost use Rattle.fsb_timely.specs.Hits.{is_dirty, is_hit, line_state_of};
 ghost use Rattle.fsb_timely.specs.Runs.{Run, past_of};
 ghost use Rattle.fsb_timely.specs.Wants.{victim_of};
 ghost use Rattle.fsb_run_laws.specs.Reaches.{Reaches};
-ghost use Rattle.fsb_run_laws.specs.States.{state_below, state_granted, state_read, state_stored, state_through, stores_at};
+ghost use Rattle.fsb_run_laws.specs.RunStates.{state_below, state_granted, state_read, state_stored, state_through, stores_at};
 ghost use Rattle.fsb_trace.specs.Response.{end_of};
 ghost use Rattle.fsb_tied.specs.RunBytes.{is_put_below, number_put_below};
 

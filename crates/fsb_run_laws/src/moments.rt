@@ -14,7 +14,7 @@ ghost use Rattle.fsb_timely.specs.Runs.{Run, past_of};
 ghost use Rattle.fsb_timely.specs.Wants.{outstanding_at, unsnooped_at, want_of};
 ghost use Rattle.fsb_coherent.specs.Awaits.{cancelled_in, responded_in, snoop_end_below};
 ghost use Rattle.fsb_run_laws.specs.Reaches.{Reaches};
-ghost use Rattle.fsb_run_laws.specs.Steps.{listed, open_claims, owing_begun, retried_in, stays_open};
+ghost use Rattle.fsb_run_laws.specs.RunSteps.{listed, open_claims, owing_begun, retried_in, stays_open};
 
 /// The moment of a clock has the response, the Retry and the ends of that clock as the whole trace
 /// of a timely run has them.

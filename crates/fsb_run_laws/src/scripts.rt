@@ -8,7 +8,7 @@ ghost use Rattle.fsb_timely.specs.Past.{Past};
 ghost use Rattle.fsb_timely.specs.Runs.{Run, past_of};
 ghost use Rattle.fsb_timely.specs.Scripts.{completes_at, idle_clocks, idle_start, is_idling, items_of, next_number, number_after};
 ghost use Rattle.fsb_run_laws.specs.Reaches.{Reaches};
-ghost use Rattle.fsb_run_laws.specs.Steps.{number_behind};
+ghost use Rattle.fsb_run_laws.specs.RunSteps.{next_behind};
 
 /// An agent of a timely run that completes its next item at a clock has as its next one the first
 /// item behind it that is not idle. (Without a completion the next item stays, as fsb_timely's
@@ -17,7 +17,7 @@ pub fn next_items_step()
     ensures { (r : Run) (a n number : ℕ) → Reaches r (n + 1) →
         next_number (past_of r) a n ≡ Some number → completes_at (past_of r) a n ≡ true →
         next_number (past_of r) a (n + 1)
-        ≡ number_behind (items_of (past_of r) a) number (length (items_of (past_of r) a)) }
+        ≡ next_behind (items_of (past_of r) a) number (length (items_of (past_of r) a)) }
 {}
 
 /// An agent idles from the clock behind its completion on, for the clocks of the idle items between
@@ -36,7 +36,7 @@ pub fn idling_starts()
         next_number (past_of r) a n ≡ Some number → completes_at (past_of r) a n ≡ true →
         is_idling (past_of r) a (n + 1)
         ≡ is_some_and
-        (number_behind (items_of (past_of r) a) number (length (items_of (past_of r) a)))
+        (next_behind (items_of (past_of r) a) number (length (items_of (past_of r) a)))
         (λ m. nat_lt (n + 1) (n + 1 + idle_clocks (items_of (past_of r) a) (number + 1) m)) }
     ensures kept_idling { (p : Past) (a n : ℕ) → completes_at p a n ≡ false →
         is_idling p a (n + 1)

@@ -13,7 +13,7 @@ use Rattle.fsb_access.specs.declared.item.Item.TheVariants.{Locked}
 use Rattle.fsb_script.specs.declared.place.Place.{Place}
 use Rattle.fsb_script.specs.declared.place.Place.TheVariants as places
 use Rattle.fsb_script.specs.Drafts.{place_behind}
-use Rattle.fsb_script.specs.Kept.{are_counts, is_fresh, has_all, has_lock_room}
+use Rattle.fsb_script.specs.DraftKept.{are_counts, is_fresh, has_all, has_lock_room}
 
 -- a test of each element, through a push
 pub all_push : {X : Type 0} (p : X → Bool) (xs : List X) (x : X) → list_all p xs ≡ true → p x ≡ true → list_all p (xs ++ x ∷ []) ≡ true

@@ -4,8 +4,8 @@ use Rattle.fsb_script.specs.declared.fault.Cause.{Cause}
 use Rattle.fsb_script.specs.declared.fault.ScriptFault.{ScriptFault}
 use Rattle.fsb_script.specs.declared.fault.LineStop.{LineStop}
 use Rattle.fsb_script.specs.declared.fault.LineStop.TheVariants as stops
-use Rattle.fsb_script.specs.Reading.{◌>>=◌, LineFails, Fails, stop_at}
-use Rattle.fsb_script.specs.Words.{in_front, text_lines, line_len}
+use Rattle.fsb_script.specs.Parsing.{◌>>=◌, LineFails, Fails, stop_at}
+use Rattle.fsb_script.specs.TextWords.{in_front, text_lines, line_len}
 use Rattle.fsb_script.specs.Drafts.{Progress, after_line, on_line, plan_from, said_plan, beginning}
 use Rattle.fsb_script.specs.Plans.{PlanView}
 

@@ -14,8 +14,8 @@ use Rattle.fsb_script.specs.declared.form.LineForm.TheVariants as forms
 use Rattle.fsb_script.specs.declared.place.Place.{Place}
 use Rattle.fsb_script.specs.declared.place.Place.TheVariants as places
 use Rattle.fsb_script.specs.declared.plan.Window.{Window}
-use Rattle.fsb_script.specs.Reading.{◌>>=◌, require}
-use Rattle.fsb_script.specs.Words.{text_lines, skip_blanks, is_empty, is_silent, next_word, line_ended, decimal_word, decimal_within}
+use Rattle.fsb_script.specs.Parsing.{◌>>=◌, require}
+use Rattle.fsb_script.specs.TextWords.{text_lines, skip_blanks, is_empty, is_silent, next_word, line_ended, decimal_word, decimal_within}
 use Rattle.fsb_script.specs.Statements.{keyword, load_of, store_of, idle_of, profile_of, window_of, memory_of, settings_at, agent_of, transaction_of, block_of}
 use Rattle.fsb_script.specs.Forms.{built, built_if}
 use Rattle.fsb_script.specs.Named.{NamedLines, has_other}

@@ -4,7 +4,7 @@ use Rattle.fsb_script.specs.declared.fault.Cause.{Cause}
 use Rattle.fsb_script.specs.declared.fault.Cause.TheVariants.{Unbuilt}
 use Rattle.fsb_script.specs.declared.form.LineForm.{LineForm}
 use Rattle.fsb_script.specs.declared.form.LineForm.TheVariants.{Agents, Ahead, Profile, Bridge, Idle, Lock, Foreign, Evicting, Hazard}
-use Rattle.fsb_script.specs.Reading.{require}
+use Rattle.fsb_script.specs.Parsing.{require}
 
 -- the forms that are built: one agent, which looks ahead by 1, in profile 1
 unfoldable pub is_built : LineForm → Bool

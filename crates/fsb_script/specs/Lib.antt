@@ -1,5 +1,5 @@
-pub mod Reading
-pub mod Words
+pub mod Parsing
+pub mod TextWords
 pub mod Statements
 pub mod Forms
 pub mod Named
@@ -8,6 +8,6 @@ pub mod Plans
 pub mod Bounds
 pub mod Drafts
 pub mod View
-pub mod Kept
+pub mod DraftKept
 pub mod Text
 pub mod Made

@@ -12,8 +12,8 @@ use Rattle.fsb_hazard.specs.declared.line.HazardLine.TheVariants.{Stall, Trdy, R
 use Rattle.fsb_script.specs.declared.fault.Cause.{Cause}
 use Rattle.fsb_script.specs.declared.fault.Cause.TheVariants.{Word, Number, Range, Align, Outside}
 use Rattle.fsb_script.specs.declared.plan.Window.{Window}
-use Rattle.fsb_script.specs.Reading.{◌>>=◌, require}
-use Rattle.fsb_script.specs.Words.{next_word, line_ended, decimal_word, hex_word, decimal_within, address, hex_digit, hex_of}
+use Rattle.fsb_script.specs.Parsing.{◌>>=◌, require}
+use Rattle.fsb_script.specs.TextWords.{next_word, line_ended, decimal_word, hex_word, decimal_within, address, hex_digit, hex_of}
 
 -- what follows a first word that has to be this one
 unfoldable pub keyword : List ℕ → List ℕ → Result (List ℕ) Cause

@@ -2,8 +2,8 @@ ghost use Rattle.std.specs.Prelude.{◌≡◌, ◌<◌, ◌≤◌, ◌+◌, ◌^
 ghost use Rattle.std.specs.List.{list_all};
 ghost use Rattle.fsb_access.specs.Access.{is_lawful_access};
 ghost use Rattle.fsb_script.specs.Bounds.{is_cache, is_profile, is_lawful_script, is_lawful_bridge, is_lawful_setting, is_lawful_hazard, are_lawful_hazards};
-ghost use Rattle.fsb_script.specs.Kept.{are_counts, is_fresh, has_all, has_lock_room};
-ghost use Rattle.fsb_script.specs.Reading.{ReadsAs, LineGives};
+ghost use Rattle.fsb_script.specs.DraftKept.{are_counts, is_fresh, has_all, has_lock_room};
+ghost use Rattle.fsb_script.specs.Parsing.{ReadsAs, LineGives};
 ghost use Rattle.fsb_script.specs.Statements.{settings_at};
 ghost use Rattle.fsb_script.specs.Drafts.{heading_of, ends_heading, place_behind};
 
@@ -111,7 +111,7 @@ impl PlanDraft {
         })
     }
 
-    #[tactic(auto, unfolding(crate::specs::Drafts::first_line, crate::specs::Kept::is_fresh, crate::specs::Kept::has_all, crate::specs::Kept::has_lock_room))]
+    #[tactic(auto, unfolding(crate::specs::Drafts::first_line, crate::specs::DraftKept::is_fresh, crate::specs::DraftKept::has_all, crate::specs::DraftKept::has_lock_room))]
     fn first_line(&mut self, line: &[u8]) -> Result<(), Cause>
         requires { self.old.place ≡ Place.First }
         ensures { ReadsAs (λ _. progress self.new) result
@@ -124,7 +124,7 @@ impl PlanDraft {
         Ok(())
     }
 
-    #[tactic(auto, unfolding(crate::specs::Drafts::agents_line, crate::specs::Words::line_ended, crate::specs::Forms::built, crate::specs::Kept::is_fresh, crate::specs::Kept::has_all, crate::specs::Kept::has_lock_room))]
+    #[tactic(auto, unfolding(crate::specs::Drafts::agents_line, crate::specs::TextWords::line_ended, crate::specs::Forms::built, crate::specs::DraftKept::is_fresh, crate::specs::DraftKept::has_all, crate::specs::DraftKept::has_lock_room))]
     fn agents_line(&mut self, line: &[u8]) -> Result<(), Cause>
         requires { self.old.place ≡ Place.Agents }
         ensures { ReadsAs (λ _. progress self.new) result
@@ -144,7 +144,7 @@ impl PlanDraft {
         Ok(())
     }
 
-    #[tactic(auto, unfolding(crate::specs::Drafts::clocks_line, crate::specs::Words::line_ended, crate::specs::Kept::is_fresh, crate::specs::Kept::has_all, crate::specs::Kept::has_lock_room))]
+    #[tactic(auto, unfolding(crate::specs::Drafts::clocks_line, crate::specs::TextWords::line_ended, crate::specs::DraftKept::is_fresh, crate::specs::DraftKept::has_all, crate::specs::DraftKept::has_lock_room))]
     fn clocks_line(&mut self, line: &[u8]) -> Result<(), Cause>
         requires { self.old.place ≡ Place.Clocks }
         ensures { ReadsAs (λ _. progress self.new) result
@@ -160,7 +160,7 @@ impl PlanDraft {
         Ok(())
     }
 
-    #[tactic(auto, using(crate::proofs::KeptLemmas::script_none, crate::proofs::KeptLemmas::scripts_none), unfolding(crate::specs::Drafts::cache_line, crate::specs::Words::line_ended, crate::specs::Kept::is_fresh, crate::specs::Kept::has_all, crate::specs::Kept::has_lock_room))]
+    #[tactic(auto, using(crate::proofs::KeptLemmas::script_none, crate::proofs::KeptLemmas::scripts_none), unfolding(crate::specs::Drafts::cache_line, crate::specs::TextWords::line_ended, crate::specs::DraftKept::is_fresh, crate::specs::DraftKept::has_all, crate::specs::DraftKept::has_lock_room))]
     fn cache_line(&mut self, line: &[u8]) -> Result<(), Cause>
         requires { self.old.place ≡ Place.Cache }
         ensures { ReadsAs (λ _. progress self.new) result
@@ -179,7 +179,7 @@ impl PlanDraft {
         Ok(())
     }
 
-    #[tactic(auto, unfolding(crate::specs::Drafts::ahead_line, crate::specs::Words::line_ended, crate::specs::Forms::built, crate::specs::Kept::is_fresh, crate::specs::Kept::has_all, crate::specs::Kept::has_lock_room))]
+    #[tactic(auto, unfolding(crate::specs::Drafts::ahead_line, crate::specs::TextWords::line_ended, crate::specs::Forms::built, crate::specs::DraftKept::is_fresh, crate::specs::DraftKept::has_all, crate::specs::DraftKept::has_lock_room))]
     fn ahead_line(&mut self, line: &[u8]) -> Result<(), Cause>
         ensures { ReadsAs (λ _. progress self.new) result
             (ahead_line (progress self.old) line.now) }
@@ -198,7 +198,7 @@ impl PlanDraft {
         Ok(())
     }
 
-    #[tactic(auto, unfolding(crate::specs::Drafts::profile_line, crate::specs::Forms::built, crate::specs::Kept::is_fresh, crate::specs::Kept::has_all, crate::specs::Kept::has_lock_room))]
+    #[tactic(auto, unfolding(crate::specs::Drafts::profile_line, crate::specs::Forms::built, crate::specs::DraftKept::is_fresh, crate::specs::DraftKept::has_all, crate::specs::DraftKept::has_lock_room))]
     fn profile_line(&mut self, line: &[u8]) -> Result<(), Cause>
         ensures { ReadsAs (λ _. progress self.new) result
             (profile_line (progress self.old) line.now) }
@@ -212,7 +212,7 @@ impl PlanDraft {
         Ok(())
     }
 
-    #[tactic(auto, unfolding(crate::specs::Drafts::bridge_line, crate::specs::Forms::built, crate::specs::Kept::is_fresh, crate::specs::Kept::has_all, crate::specs::Kept::has_lock_room))]
+    #[tactic(auto, unfolding(crate::specs::Drafts::bridge_line, crate::specs::Forms::built, crate::specs::DraftKept::is_fresh, crate::specs::DraftKept::has_all, crate::specs::DraftKept::has_lock_room))]
     fn bridge_line(&mut self, line: &[u8]) -> Result<(), Cause>
         ensures { ReadsAs (λ _. progress self.new) result
             (bridge_line (progress self.old) line.now) }
@@ -226,7 +226,7 @@ impl PlanDraft {
         Ok(())
     }
 
-    #[tactic(auto, unfolding(crate::specs::Drafts::mem_line, crate::specs::Kept::is_fresh, crate::specs::Kept::has_all, crate::specs::Kept::has_lock_room))]
+    #[tactic(auto, unfolding(crate::specs::Drafts::mem_line, crate::specs::DraftKept::is_fresh, crate::specs::DraftKept::has_all, crate::specs::DraftKept::has_lock_room))]
     fn mem_line(&mut self, line: &[u8]) -> Result<(), LineStop>
         ensures { LineGives (λ _. progress self.new) result
             (mem_line (progress self.old) line.now) }
@@ -237,7 +237,7 @@ impl PlanDraft {
         Ok(())
     }
 
-    #[tactic(auto, unfolding(crate::specs::Drafts::agent_line, crate::specs::Kept::is_fresh, crate::specs::Kept::has_all, crate::specs::Kept::has_lock_room))]
+    #[tactic(auto, unfolding(crate::specs::Drafts::agent_line, crate::specs::DraftKept::is_fresh, crate::specs::DraftKept::has_all, crate::specs::DraftKept::has_lock_room))]
     fn agent_line(&mut self, alloc: Global, line: &[u8]) -> Result<(), LineStop>
         ensures { LineGives (λ _. progress self.new) result
             (agent_line (progress self.old) line.now) }
@@ -266,7 +266,7 @@ impl PlanDraft {
         Ok(())
     }
 
-    #[tactic(auto, using(crate::proofs::KeptLemmas::script_push), unfolding(crate::specs::Drafts::one_item, crate::specs::Kept::is_fresh, crate::specs::Kept::has_all, crate::specs::Kept::has_lock_room))]
+    #[tactic(auto, using(crate::proofs::KeptLemmas::script_push), unfolding(crate::specs::Drafts::one_item, crate::specs::DraftKept::is_fresh, crate::specs::DraftKept::has_all, crate::specs::DraftKept::has_lock_room))]
     fn one_item(&mut self, access: Access) -> Result<(), LineStop>
         requires lawful { IsTrue (is_lawful_access access) }
         requires room { length self.old.script < 4096 }
@@ -311,7 +311,7 @@ impl PlanDraft {
         self.one_item(access)
     }
 
-    #[tactic(auto, using(crate::proofs::KeptLemmas::script_push), unfolding(crate::specs::Drafts::idle_item, crate::specs::Forms::built, crate::specs::Kept::is_fresh, crate::specs::Kept::has_all, crate::specs::Kept::has_lock_room))]
+    #[tactic(auto, using(crate::proofs::KeptLemmas::script_push), unfolding(crate::specs::Drafts::idle_item, crate::specs::Forms::built, crate::specs::DraftKept::is_fresh, crate::specs::DraftKept::has_all, crate::specs::DraftKept::has_lock_room))]
     fn idle_item(&mut self, line: &[u8]) -> Result<(), LineStop>
         requires { self.old.place ≡ Place.Items }
         ensures { LineGives (λ _. progress self.new) result
@@ -328,7 +328,7 @@ impl PlanDraft {
         Ok(())
     }
 
-    #[tactic(auto, unfolding(crate::specs::Drafts::lock_item, crate::specs::Words::line_ended, crate::specs::Forms::built, crate::specs::Kept::is_fresh, crate::specs::Kept::has_all, crate::specs::Kept::has_lock_room))]
+    #[tactic(auto, unfolding(crate::specs::Drafts::lock_item, crate::specs::TextWords::line_ended, crate::specs::Forms::built, crate::specs::DraftKept::is_fresh, crate::specs::DraftKept::has_all, crate::specs::DraftKept::has_lock_room))]
     fn lock_item(&mut self, alloc: Global, line: &[u8]) -> Result<(), Cause>
         ensures { ReadsAs (λ _. progress self.new) result (lock_item (progress self.old) line.now) }
     {
@@ -346,7 +346,7 @@ impl PlanDraft {
         Ok(())
     }
 
-    #[tactic(auto, using(crate::proofs::KeptLemmas::all_push), unfolding(crate::specs::Drafts::end_line, crate::specs::Words::line_ended, crate::specs::Kept::is_fresh, crate::specs::Kept::has_all, crate::specs::Kept::has_lock_room))]
+    #[tactic(auto, using(crate::proofs::KeptLemmas::all_push), unfolding(crate::specs::Drafts::end_line, crate::specs::TextWords::line_ended, crate::specs::DraftKept::is_fresh, crate::specs::DraftKept::has_all, crate::specs::DraftKept::has_lock_room))]
     fn end_line(&mut self, alloc: Global, line: &[u8]) -> Result<(), LineStop>
         requires { self.old.place ≡ Place.Items }
         ensures { LineGives (λ _. progress self.new) result
@@ -396,7 +396,7 @@ impl PlanDraft {
         Ok(())
     }
 
-    #[tactic(auto, using(crate::proofs::KeptLemmas::script_push, std::proofs::lemmas::Bool::and_from), unfolding(crate::specs::Drafts::unlock_line, crate::specs::Words::line_ended, crate::specs::Kept::is_fresh, crate::specs::Kept::has_all, crate::specs::Kept::has_lock_room))]
+    #[tactic(auto, using(crate::proofs::KeptLemmas::script_push, std::proofs::lemmas::Bool::and_from), unfolding(crate::specs::Drafts::unlock_line, crate::specs::TextWords::line_ended, crate::specs::DraftKept::is_fresh, crate::specs::DraftKept::has_all, crate::specs::DraftKept::has_lock_room))]
     fn unlock_line(&mut self, alloc: Global, line: &[u8]) -> Result<(), LineStop>
         requires { self.old.place ≡ Place.Locked }
         ensures { LineGives (λ _. progress self.new) result

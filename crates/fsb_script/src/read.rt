@@ -1,6 +1,6 @@
 ghost use Rattle.std.specs.Prelude.{◌≡◌, ◌<◌, ◌≤◌, ◌-◌, ◌+◌, ◌^◌, length, take, drop};
-ghost use Rattle.fsb_script.specs.Reading.{Gives, stop_at};
-ghost use Rattle.fsb_script.specs.Words.{line_len};
+ghost use Rattle.fsb_script.specs.Parsing.{Gives, stop_at};
+ghost use Rattle.fsb_script.specs.TextWords.{line_len};
 ghost use Rattle.fsb_script.specs.Drafts.{plan_at_end, said_plan};
 ghost use Rattle.fsb_script.specs.View.{progress, plan_view};
 

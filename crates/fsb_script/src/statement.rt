@@ -1,6 +1,6 @@
 ghost use Rattle.std.specs.Prelude.{◌≡◌, ◌+◌, ◌≤◌, ◌^◌, ◌%◌, length, [], IfOk, IsTrue};
 ghost use Rattle.fsb_access.specs.Access.{is_size, is_place, fits, number_of, is_lawful_access};
-ghost use Rattle.fsb_script.specs.Reading.{ReadsAs};
+ghost use Rattle.fsb_script.specs.Parsing.{ReadsAs};
 ghost use Rattle.fsb_script.specs.Bounds.{is_profile, is_lawful_window, is_lawful_hazard};
 ghost use Rattle.fsb_script.specs.Statements.{keyword, size_at, aligned_at, load_of, is_added, literal_of, operand_of, store_of, idle_of, profile_of, window_of, bytes_from, bytes_of, memory_of, agent_of, count_of, delay_of, turn_of, transaction_of, block_of};
 
@@ -60,7 +60,7 @@ fn aligned_at(size: u8, line: &[u8]) -> Result<(u64, &[u8]), Cause>
 }
 
 /// The load behind `ld`.
-#[tactic(auto, unfolding(crate::specs::Statements::load_of, crate::specs::Words::line_ended))]
+#[tactic(auto, unfolding(crate::specs::Statements::load_of, crate::specs::TextWords::line_ended))]
 pub(crate) fn load_of(line: &[u8]) -> Result<Access, Cause>
     ensures value { ReadsAs (λ x. x) result (load_of line.now) }
     ensures lawful { IfOk result (λ access. IsTrue (is_lawful_access access)) }
@@ -107,7 +107,7 @@ fn operand_of(size: u8, word: &[u8]) -> Result<Operand, Cause>
 }
 
 /// The store behind `st`.
-#[tactic(auto, unfolding(crate::specs::Statements::store_of, crate::specs::Words::line_ended))]
+#[tactic(auto, unfolding(crate::specs::Statements::store_of, crate::specs::TextWords::line_ended))]
 pub(crate) fn store_of(line: &[u8]) -> Result<Access, Cause>
     ensures value { ReadsAs (λ x. x) result (store_of line.now) }
     ensures lawful { IfOk result (λ access. IsTrue (is_lawful_access access)) }
@@ -123,7 +123,7 @@ pub(crate) fn store_of(line: &[u8]) -> Result<Access, Cause>
 }
 
 /// The clocks behind `idle`.
-#[tactic(auto, unfolding(crate::specs::Statements::idle_of, crate::specs::Words::line_ended))]
+#[tactic(auto, unfolding(crate::specs::Statements::idle_of, crate::specs::TextWords::line_ended))]
 pub(crate) fn idle_of(line: &[u8]) -> Result<u32, Cause>
     ensures value { ReadsAs (λ x. x) result (idle_of line.now) }
     ensures least { IfOk result (λ x. 1 ≤ x) }
@@ -137,7 +137,7 @@ pub(crate) fn idle_of(line: &[u8]) -> Result<u32, Cause>
 }
 
 /// The number behind `profile`.
-#[tactic(auto, unfolding(crate::specs::Statements::profile_of, crate::specs::Words::line_ended))]
+#[tactic(auto, unfolding(crate::specs::Statements::profile_of, crate::specs::TextWords::line_ended))]
 pub(crate) fn profile_of(line: &[u8]) -> Result<u8, Cause>
     ensures value { ReadsAs (λ x. x) result (profile_of line.now) }
     ensures lawful { IfOk result (λ x. IsTrue (is_profile x)) }
@@ -150,7 +150,7 @@ pub(crate) fn profile_of(line: &[u8]) -> Result<u8, Cause>
 }
 
 /// The window behind `bridge`.
-#[tactic(auto, unfolding(crate::specs::Statements::window_of, crate::specs::Words::line_ended))]
+#[tactic(auto, unfolding(crate::specs::Statements::window_of, crate::specs::TextWords::line_ended))]
 pub(crate) fn window_of(line: &[u8]) -> Result<Window, Cause>
     ensures value { ReadsAs (λ x. x) result (window_of line.now) }
     ensures lawful { IfOk result (λ x. IsTrue (is_lawful_window x)) }
@@ -203,7 +203,7 @@ fn bytes_of(word: &[u8]) -> Result<ArrayVec<u8, BYTES>, Cause>
 }
 
 /// The address and the bytes behind `mem`.
-#[tactic(auto, unfolding(crate::specs::Statements::memory_of, crate::specs::Words::line_ended))]
+#[tactic(auto, unfolding(crate::specs::Statements::memory_of, crate::specs::TextWords::line_ended))]
 pub(crate) fn memory_of(line: &[u8]) -> Result<(u64, ArrayVec<u8, BYTES>), Cause>
     ensures value { ReadsAs (λ x. (x.0, x.1.items)) result (memory_of line.now) }
     ensures inside { IfOk result (λ x. x.0 + length x.1.items ≤ 2 ^ 36) }
@@ -221,7 +221,7 @@ pub(crate) fn memory_of(line: &[u8]) -> Result<(u64, ArrayVec<u8, BYTES>), Cause
 }
 
 /// The number behind `agent`, which has to be `next`.
-#[tactic(auto, unfolding(crate::specs::Statements::agent_of, crate::specs::Words::line_ended))]
+#[tactic(auto, unfolding(crate::specs::Statements::agent_of, crate::specs::TextWords::line_ended))]
 pub(crate) fn agent_of(next: u64, line: &[u8]) -> Result<u64, Cause>
     ensures { ReadsAs (λ x. x) result (agent_of next line.now) }
 {
@@ -235,7 +235,7 @@ pub(crate) fn agent_of(next: u64, line: &[u8]) -> Result<u64, Cause>
     Ok(number)
 }
 
-#[tactic(auto, unfolding(crate::specs::Statements::count_of, crate::specs::Words::line_ended))]
+#[tactic(auto, unfolding(crate::specs::Statements::count_of, crate::specs::TextWords::line_ended))]
 fn count_of(line: &[u8]) -> Result<u8, Cause>
     ensures value { ReadsAs (λ x. x) result (count_of line.now) }
     ensures some { IfOk result (λ x. 1 ≤ x) }
@@ -247,7 +247,7 @@ fn count_of(line: &[u8]) -> Result<u8, Cause>
     Ok(count as u8)
 }
 
-#[tactic(auto, unfolding(crate::specs::Statements::delay_of, crate::specs::Words::line_ended))]
+#[tactic(auto, unfolding(crate::specs::Statements::delay_of, crate::specs::TextWords::line_ended))]
 fn delay_of(line: &[u8]) -> Result<u16, Cause>
     ensures { ReadsAs (λ x. x) result (delay_of line.now) }
 {
@@ -258,7 +258,7 @@ fn delay_of(line: &[u8]) -> Result<u16, Cause>
     Ok(later as u16)
 }
 
-#[tactic(auto, unfolding(crate::specs::Statements::turn_of, crate::specs::Words::line_ended))]
+#[tactic(auto, unfolding(crate::specs::Statements::turn_of, crate::specs::TextWords::line_ended))]
 fn turn_of(k: u32, word: &[u8], line: &[u8]) -> Result<HazardLine, Cause>
     requires { k ≤ 199999 }
     ensures value { ReadsAs (λ x. x) result (turn_of k word.now line.now) }
@@ -303,7 +303,7 @@ pub(crate) fn transaction_of(line: &[u8]) -> Result<HazardLine, Cause>
 }
 
 /// The clocks behind `bnr`.
-#[tactic(auto, unfolding(crate::specs::Statements::block_of, crate::specs::Words::line_ended))]
+#[tactic(auto, unfolding(crate::specs::Statements::block_of, crate::specs::TextWords::line_ended))]
 pub(crate) fn block_of(line: &[u8]) -> Result<HazardLine, Cause>
     ensures value { ReadsAs (λ x. x) result (block_of line.now) }
     ensures lawful { IfOk result (λ x. IsTrue (is_lawful_hazard x)) }

@@ -1,6 +1,6 @@
 ghost use Rattle.std.specs.Prelude.{◌≡◌, ◌<◌, ◌≤◌, ◌^◌, length, IfOk};
-ghost use Rattle.fsb_script.specs.Reading.{ReadsAs};
-ghost use Rattle.fsb_script.specs.Words.{is_blank, skip_blanks, word_len, is_silent, next_word, is_empty, decimal_from, decimal_of, hex_digit, hex_from, hex_of, decimal_word, hex_word, decimal_within, address};
+ghost use Rattle.fsb_script.specs.Parsing.{ReadsAs};
+ghost use Rattle.fsb_script.specs.TextWords.{is_blank, skip_blanks, word_len, is_silent, next_word, is_empty, decimal_from, decimal_of, hex_digit, hex_from, hex_of, decimal_word, hex_word, decimal_within, address};
 
 use crate::fault::Cause;
 use fsb_access::ADDRESS_LIMIT;
@@ -35,7 +35,7 @@ fn word_len(line: &[u8]) -> usize
 }
 
 /// Whether a line has no words or is a comment.
-#[tactic(auto, unfolding(crate::specs::Words::is_silent))]
+#[tactic(auto, unfolding(crate::specs::TextWords::is_silent))]
 pub(crate) fn is_silent(line: &[u8]) -> bool
     ensures { result ≡ is_silent line.now }
 {
@@ -46,7 +46,7 @@ pub(crate) fn is_silent(line: &[u8]) -> bool
 }
 
 /// The next word and what follows it.
-#[tactic(auto, unfolding(crate::specs::Words::next_word))]
+#[tactic(auto, unfolding(crate::specs::TextWords::next_word))]
 pub(crate) fn next_word(line: &[u8]) -> Result<(&[u8], &[u8]), Cause>
     ensures { ReadsAs (λ x. (x.0.now, x.1.now)) result (next_word line.now) }
 {
@@ -78,7 +78,7 @@ fn decimal_digits(word: &[u8]) -> Result<u64, Cause>
     Ok(number)
 }
 
-#[tactic(auto, unfolding(crate::specs::Words::decimal_of))]
+#[tactic(auto, unfolding(crate::specs::TextWords::decimal_of))]
 fn decimal_of(word: &[u8]) -> Result<u64, Cause>
     ensures { ReadsAs (λ n. n) result (decimal_of word.now) }
 {
@@ -90,7 +90,7 @@ fn decimal_of(word: &[u8]) -> Result<u64, Cause>
 }
 
 /// What a hexadecimal digit stands for.
-#[tactic(auto, unfolding(crate::specs::Words::hex_digit))]
+#[tactic(auto, unfolding(crate::specs::TextWords::hex_digit))]
 pub(crate) fn hex_digit(byte: u8) -> Result<u8, Cause>
     ensures value { ReadsAs (λ digit. digit) result (hex_digit byte) }
     ensures below { IfOk result (λ digit. digit < 16) }
@@ -115,7 +115,7 @@ fn hex_digits(word: &[u8]) -> Result<u64, Cause>
 }
 
 /// A word as a hexadecimal number.
-#[tactic(auto, unfolding(crate::specs::Words::hex_of))]
+#[tactic(auto, unfolding(crate::specs::TextWords::hex_of))]
 pub(crate) fn hex_of(word: &[u8]) -> Result<u64, Cause>
     ensures { ReadsAs (λ n. n) result (hex_of word.now) }
 {
@@ -127,7 +127,7 @@ pub(crate) fn hex_of(word: &[u8]) -> Result<u64, Cause>
 }
 
 /// The next word as a decimal number.
-#[tactic(auto, unfolding(crate::specs::Words::decimal_word))]
+#[tactic(auto, unfolding(crate::specs::TextWords::decimal_word))]
 pub(crate) fn decimal_word(line: &[u8]) -> Result<(u64, &[u8]), Cause>
     ensures { ReadsAs (λ x. (x.0, x.1.now)) result (decimal_word line.now) }
 {
@@ -136,7 +136,7 @@ pub(crate) fn decimal_word(line: &[u8]) -> Result<(u64, &[u8]), Cause>
 }
 
 /// The next word as a hexadecimal number.
-#[tactic(auto, unfolding(crate::specs::Words::hex_word))]
+#[tactic(auto, unfolding(crate::specs::TextWords::hex_word))]
 pub(crate) fn hex_word(line: &[u8]) -> Result<(u64, &[u8]), Cause>
     ensures { ReadsAs (λ x. (x.0, x.1.now)) result (hex_word line.now) }
 {
@@ -145,7 +145,7 @@ pub(crate) fn hex_word(line: &[u8]) -> Result<(u64, &[u8]), Cause>
 }
 
 /// The next word as a decimal number from `low` to `high`.
-#[tactic(auto, unfolding(crate::specs::Words::decimal_within))]
+#[tactic(auto, unfolding(crate::specs::TextWords::decimal_within))]
 pub(crate) fn decimal_within(low: u64, high: u64, line: &[u8]) -> Result<(u64, &[u8]), Cause>
     ensures value { ReadsAs (λ x. (x.0, x.1.now)) result (decimal_within low high line.now) }
     ensures least { IfOk result (λ x. low ≤ x.0) }
@@ -160,7 +160,7 @@ pub(crate) fn decimal_within(low: u64, high: u64, line: &[u8]) -> Result<(u64, &
 }
 
 /// The next word as a byte address.
-#[tactic(auto, unfolding(crate::specs::Words::address))]
+#[tactic(auto, unfolding(crate::specs::TextWords::address))]
 pub(crate) fn address(line: &[u8]) -> Result<(u64, &[u8]), Cause>
     ensures value { ReadsAs (λ x. (x.0, x.1.now)) result (address line.now) }
     ensures below { IfOk result (λ x. x.0 < 2 ^ 36) }

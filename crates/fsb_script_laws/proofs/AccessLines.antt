@@ -12,7 +12,7 @@ use Rattle.fsb_access.specs.declared.access.Access.TheVariants.{Load, Store}
 use Rattle.fsb_access.specs.declared.access.Operand.{Operand}
 use Rattle.fsb_access.specs.declared.access.Operand.TheVariants.{Literal, LastPlus}
 use Rattle.fsb_access.specs.Access.{is_size, is_place, fits, number_of, is_lawful_access}
-use Rattle.fsb_script.specs.Words.{line_ended, address}
+use Rattle.fsb_script.specs.TextWords.{line_ended, address}
 use Rattle.fsb_script.specs.Statements.{size_at, aligned_at, load_of, store_of, operand_of, literal_of, is_added}
 use Rattle.fsb_script.specs.Text.{access_text, operand_text}
 use Rattle.fsb_script_laws.proofs.Numbers.{is_figure, Figures, hex_figures, hex_back}

@@ -15,10 +15,10 @@ use Rattle.fsb_hazard.specs.declared.line.HazardLine.{HazardLine}
 use Rattle.fsb_hazard.specs.declared.line.HazardLine.TheVariants.{Stall, Trdy, Resp, Gap, Retry, Defer, Aerr, Bnr}
 use Rattle.fsb_script.specs.declared.fault.Cause.{Cause}
 use Rattle.fsb_script.specs.declared.plan.Window.{Window}
-use Rattle.fsb_script.specs.Reading.{◌>>=◌}
+use Rattle.fsb_script.specs.Parsing.{◌>>=◌}
 use Rattle.fsb_script.specs.Bounds.{is_lawful_window, is_lawful_setting, is_lawful_hazard}
-use Rattle.fsb_script.specs.Words.{text_lines, next_word, line_ended, decimal_of, decimal_within, address}
-use Rattle.fsb_script.specs.Words.{decimal_word}
+use Rattle.fsb_script.specs.TextWords.{text_lines, next_word, line_ended, decimal_of, decimal_within, address}
+use Rattle.fsb_script.specs.TextWords.{decimal_word}
 use Rattle.fsb_script.specs.Statements.{keyword, memory_of, profile_of, window_of, load_of, store_of, idle_of, transaction_of, turn_of, count_of, delay_of, block_of}
 use Rattle.fsb_script.specs.Text.{setting_text, profile_text, window_text, access_text, idle_text, hazard_text}
 use Rattle.fsb_script_laws.specs.BuiltPlans.{is_byte_setting}

@@ -7,8 +7,8 @@ use Rattle.std.proofs.lemmas.Bool.{le-leb}
 use Rattle.std.proofs.lemmas.List.{append_assoc}
 use Rattle.fsb_access.specs.declared.access.Setting.{Setting}
 use Rattle.fsb_script.specs.declared.fault.Cause.{Cause}
-use Rattle.fsb_script.specs.Words.{is_silent, next_word, line_ended, decimal_of, decimal_within}
-use Rattle.fsb_script.specs.Words.{decimal_word}
+use Rattle.fsb_script.specs.TextWords.{is_silent, next_word, line_ended, decimal_of, decimal_within}
+use Rattle.fsb_script.specs.TextWords.{decimal_word}
 use Rattle.fsb_script.specs.Statements.{keyword}
 use Rattle.fsb_script.specs.Bounds.{is_cache}
 use Rattle.fsb_script.specs.Forms.{is_built, built}

@@ -11,10 +11,10 @@ use Rattle.fsb_access.specs.declared.access.Operand.TheVariants.{Literal, LastPl
 use Rattle.fsb_access.specs.Access.{is_size, is_place, fits, number_of, is_lawful_access}
 use Rattle.fsb_script.specs.declared.fault.Cause.{Cause}
 use Rattle.fsb_script.specs.declared.fault.Cause.TheVariants.{Number, Outside, Unbuilt}
-use Rattle.fsb_script.specs.Reading.{◌>>=◌, require}
+use Rattle.fsb_script.specs.Parsing.{◌>>=◌, require}
 use Rattle.fsb_script.specs.Bounds.{is_lawful_setting}
-use Rattle.fsb_script.specs.Words.{next_word, line_ended, decimal_within, address, hex_of, hex_digit}
-use Rattle.fsb_script.specs.Words.{decimal_word, hex_word}
+use Rattle.fsb_script.specs.TextWords.{next_word, line_ended, decimal_within, address, hex_of, hex_digit}
+use Rattle.fsb_script.specs.TextWords.{decimal_word, hex_word}
 use Rattle.fsb_script.specs.Statements.{size_at, aligned_at, load_of, store_of, literal_of, operand_of, is_added, bytes_from, bytes_of, memory_of, settings_at}
 use Rattle.fsb_script.specs.Drafts.{Progress}
 use Rattle.fsb_script_laws.specs.BuiltPlans.{is_byte_setting}

@@ -6,7 +6,7 @@ use Rattle.std.specs.Fmt.{decimal, digits, digits_onto, digit_glyph}
 use Rattle.std.proofs.lemmas.Bool.{le-leb, leb-true, lt-ltb, ltb-true, ltb-false, eqb-true, eqb-false}
 use Rattle.std.proofs.Math.Nat.{mod-lt, pow-zero, pow-suc, div-lt_iff_lt-mul, div-eq_of_lt}
 use Rattle.fsb_io.specs.NumberText.{hexadecimal}
-use Rattle.fsb_script.specs.Words.{decimal_from, decimal_of, hex_digit, hex_from, hex_of}
+use Rattle.fsb_script.specs.TextWords.{decimal_from, decimal_of, hex_digit, hex_from, hex_of}
 use Rattle.fsb_script.specs.Statements.{bytes_of}
 use Rattle.fsb_script.specs.Text.{digit_text}
 

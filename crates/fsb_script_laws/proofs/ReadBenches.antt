@@ -11,8 +11,8 @@ use Rattle.fsb_access.specs.declared.item.Item.TheVariants.{One}
 use Rattle.fsb_access.specs.Access.{accessed_line}
 use Rattle.fsb_script.specs.declared.fault.Cause.TheVariants.{Word}
 use Rattle.fsb_script.specs.Bounds.{is_lawful_setting}
-use Rattle.fsb_script.specs.Words.{is_silent, next_word, line_ended, decimal_of, decimal_within, hex_digit, hex_of, address}
-use Rattle.fsb_script.specs.Words.{decimal_word, hex_word}
+use Rattle.fsb_script.specs.TextWords.{is_silent, next_word, line_ended, decimal_of, decimal_within, hex_digit, hex_of, address}
+use Rattle.fsb_script.specs.TextWords.{decimal_word, hex_word}
 use Rattle.fsb_script.specs.Statements.{keyword, profile_of, memory_of, bytes_of, settings_at, agent_of}
 use Rattle.fsb_script.specs.Forms.{is_built, built}
 use Rattle.fsb_script.specs.Plans.{PlanView}

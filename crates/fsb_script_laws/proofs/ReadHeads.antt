@@ -8,9 +8,9 @@ use Rattle.fsb_access.specs.declared.item.Item.{Item}
 use Rattle.fsb_script.specs.declared.fault.Cause.TheVariants.{FirstLine, Range}
 use Rattle.fsb_script.specs.Bounds.{is_cache, is_lawful_item, is_lawful_script}
 use Rattle.fsb_script_laws.specs.BuiltPlans.{is_one, has_ones}
-use Rattle.fsb_script.specs.Reading.{require}
-use Rattle.fsb_script.specs.Words.{text_lines, is_silent, next_word, line_ended, decimal_of, decimal_within}
-use Rattle.fsb_script.specs.Words.{decimal_word}
+use Rattle.fsb_script.specs.Parsing.{require}
+use Rattle.fsb_script.specs.TextWords.{text_lines, is_silent, next_word, line_ended, decimal_of, decimal_within}
+use Rattle.fsb_script.specs.TextWords.{decimal_word}
 use Rattle.fsb_script.specs.Statements.{keyword}
 use Rattle.fsb_script.specs.Forms.{is_built, built}
 use Rattle.fsb_script.specs.Plans.{PlanView}

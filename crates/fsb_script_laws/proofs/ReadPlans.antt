@@ -16,8 +16,8 @@ use Rattle.fsb_script.specs.declared.fault.Cause.TheVariants.{Range}
 use Rattle.fsb_script.specs.Bounds.{is_apart, is_lawful_item}
 use Rattle.fsb_script_laws.specs.BuiltPlans.{is_one}
 use Rattle.fsb_script.specs.Named.{first_in, is_other, has_other}
-use Rattle.fsb_script.specs.Reading.{◌>>=◌}
-use Rattle.fsb_script.specs.Words.{is_silent, next_word, line_ended}
+use Rattle.fsb_script.specs.Parsing.{◌>>=◌}
+use Rattle.fsb_script.specs.TextWords.{is_silent, next_word, line_ended}
 use Rattle.fsb_script.specs.Statements.{load_of, store_of}
 use Rattle.fsb_script.specs.Forms.{is_built, built, built_if}
 use Rattle.fsb_script.specs.Plans.{PlanView}

@@ -14,8 +14,8 @@ use Rattle.fsb_access.specs.Access.{accessed_line, is_place, fits, number_of, is
 use Rattle.fsb_script.specs.Bounds.{is_apart, is_lawful_item}
 use Rattle.fsb_script_laws.specs.BuiltPlans.{is_one}
 use Rattle.fsb_script.specs.Named.{first_in, is_other, has_other}
-use Rattle.fsb_script.specs.Words.{is_silent, next_word, line_ended, decimal_of, decimal_within}
-use Rattle.fsb_script.specs.Words.{decimal_word}
+use Rattle.fsb_script.specs.TextWords.{is_silent, next_word, line_ended, decimal_of, decimal_within}
+use Rattle.fsb_script.specs.TextWords.{decimal_word}
 use Rattle.fsb_script.specs.Statements.{keyword, agent_of}
 use Rattle.fsb_script.specs.Forms.{is_built, built, built_if}
 use Rattle.fsb_script.specs.Plans.{PlanView}

@@ -8,8 +8,8 @@ use Rattle.std.proofs.lemmas.List.{append-nil}
 use Rattle.std.proofs.lemmas.List.Folds.{list_all-append}
 use Rattle.std.proofs.Math.Seq.{take-append_seam, drop-append_seam}
 use Rattle.fsb_io.specs.NumberText.{hexadecimal}
-use Rattle.fsb_script.specs.Words.{text_lines, is_blank, word_len, next_word}
-use Rattle.fsb_script.specs.Words.{decimal_word, hex_word}
+use Rattle.fsb_script.specs.TextWords.{text_lines, is_blank, word_len, next_word}
+use Rattle.fsb_script.specs.TextWords.{decimal_word, hex_word}
 use Rattle.fsb_script.specs.declared.fault.Cause.{Cause}
 use Rattle.fsb_script.specs.Text.{digit_text}
 use Rattle.fsb_script.specs.Plans.{PlanView}

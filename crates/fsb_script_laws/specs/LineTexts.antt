@@ -3,8 +3,8 @@ use Rattle.std.specs.Prelude.{◌≡◌, ℕ, List, [], ◌∷◌, Result, Ok, B
 use Rattle.fsb_hazard.specs.declared.line.HazardLine.{HazardLine}
 use Rattle.fsb_hazard.specs.declared.line.HazardLine.TheVariants.{Bnr}
 use Rattle.fsb_script.specs.declared.fault.Cause.{Cause}
-use Rattle.fsb_script.specs.Reading.{◌>>=◌}
-use Rattle.fsb_script.specs.Words.{text_lines}
+use Rattle.fsb_script.specs.Parsing.{◌>>=◌}
+use Rattle.fsb_script.specs.TextWords.{text_lines}
 use Rattle.fsb_script.specs.Statements.{keyword}
 
 -- the text is one line, which begins with a word and of which the rest is read as a value

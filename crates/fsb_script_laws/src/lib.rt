@@ -7,7 +7,7 @@
 ghost use Rattle.std.specs.Prelude.{◌≡◌, ℕ, ◌<◌, ◌≤◌, ◌/◌, ◌%◌, ◌^◌, List, [], ◌∷◌, Ok, IsTrue, codes};
 ghost use Rattle.std.specs.Fmt.{decimal};
 ghost use Rattle.fsb_io.specs.NumberText.{hexadecimal};
-ghost use Rattle.fsb_script.specs.Words.{decimal_of, hex_of};
+ghost use Rattle.fsb_script.specs.TextWords.{decimal_of, hex_of};
 ghost use Rattle.fsb_script.specs.Statements.{bytes_of, memory_of, profile_of, window_of, load_of, store_of, idle_of, transaction_of, block_of};
 ghost use Rattle.fsb_script.specs.Bounds.{is_lawful_setting, is_lawful_window, is_lawful_hazard};
 ghost use Rattle.fsb_script.specs.declared.plan.Window.{Window};

@@ -10,7 +10,7 @@ use Rattle.vcd_read.specs.declared.stop.VcdStop.TheVariants as causes
 use Rattle.vcd_read.specs.Answers.{Answers, stop_of_dump, fault_or, long_or}
 use Rattle.fsb_show.specs.declared.stop.ShowStop.{ShowStop}
 use Rattle.fsb_show.specs.declared.stop.ShowStop.TheVariants as stops
-use Rattle.fsb_show.specs.Reading.{IsLongDump, IsToldAs, IsReadToEnd}
+use Rattle.fsb_show.specs.ShownDump.{IsLongDump, IsToldAs, IsReadToEnd}
 
 -- an answer by what its stop is
 pub answer_is : (X : Type 0) (r s : VcdStop) (stop : Option VcdStop) → r ≡ s → Answers {X = X} (Err r) stop → Answers {X = X} (Err s) stop

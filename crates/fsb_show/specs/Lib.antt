@@ -1,3 +1,3 @@
-pub mod Reading
+pub mod ShownDump
 pub mod Showing
 pub mod ShowText

@@ -26,10 +26,10 @@ number_text None = codes "-"
 number_text (Some n) = decimal n
 
 -- the number of a symmetric agent, or `p` for the priority agent; a dash where none won
-abbrev pub agent_text : Option Who → List ℕ
-agent_text None = codes "-"
-agent_text (Some (Symmetric a)) = decimal a
-agent_text (Some Priority) = codes "p"
+abbrev pub asker_text : Option Who → List ℕ
+asker_text None = codes "-"
+asker_text (Some (Symmetric a)) = decimal a
+asker_text (Some Priority) = codes "p"
 
 -- the word for a kind
 abbrev pub kind_name : Kind → List ℕ
@@ -72,7 +72,7 @@ outcome_text cancelled (Some outcome) = outcome_name outcome
 -- what a row says of the request itself: ` <clock> <agent> <kind> <address>`
 abbrev pub seen_text : Row → List ℕ
 seen_text row =
-    codes " " ++ decimal row.seen.clock ++ codes " " ++ agent_text row.seen.who
+    codes " " ++ decimal row.seen.clock ++ codes " " ++ asker_text row.seen.who
     ++ codes " " ++ kind_text row.seen.request ++ codes " " ++ address_text row.seen.request
 
 -- what a row says of its way: ` <snoop end> <response> <end> <outcome>`

@@ -1,7 +1,7 @@
 //! The lines of a table.
 ghost use Rattle.std.specs.Prelude.{◌≡◌, ◌≤◌, ◌<◌, ◌^◌, ◌+◌, ◌++◌, length};
 ghost use Rattle.arrayvec.specs.ArrayVec.{array_vec_len};
-ghost use Rattle.fsb_show.specs.ShowText.{address_text, agent_text, kind_name, kind_text, line_address, number_text, outcome_name, outcome_text, probe_text, row_text, seen_text, way_text};
+ghost use Rattle.fsb_show.specs.ShowText.{address_text, asker_text, kind_name, kind_text, line_address, number_text, outcome_name, outcome_text, probe_text, row_text, seen_text, way_text};
 
 use arrayvec::ArrayVec;
 use fsb_encode::{Kind, Request};
@@ -86,7 +86,7 @@ fn put_number(line: &mut Line, number: Option<u32>)
 // Appends who began the request.
 fn put_agent(line: &mut Line, who: Option<Who>)
     requires { array_vec_len line.old + 20 ≤ 256 }
-    ensures items { line.new.items ≡ line.old.items ++ agent_text who }
+    ensures items { line.new.items ≡ line.old.items ++ asker_text who }
     ensures len { array_vec_len line.new ≤ array_vec_len line.old + 20 }
 {
     match who {

@@ -3,7 +3,7 @@ ghost use Rattle.std.specs.Prelude.{◌≡◌, ◌≤◌, ◌<◌, ◌^◌, Err,
 ghost use Rattle.fsb_io.specs.Faults.{Rose};
 ghost use Rattle.fsb_rules.specs.Checker.{as_broken};
 ghost use Rattle.fsb_trace.specs.Verdict.{verdict};
-ghost use Rattle.fsb_show.specs.Reading.{IsBegun, IsToldAs, IsTrace};
+ghost use Rattle.fsb_show.specs.ShownDump.{IsBegun, IsToldAs, IsTrace};
 ghost use Rattle.fsb_show.specs.Showing.{IsOfTrace, IsShown};
 
 use crate::stop::ShowStop;

@@ -26,8 +26,7 @@ use Rattle.fsb_timely.specs.Runs.{Run, moments_below, past_of, past_to, past_wit
 use Rattle.fsb_timely.specs.Starts.{drives_ads, drives_pair, has_free_winner, has_room, is_kept_back, is_spaced, may_begin, starts_requests}
 use Rattle.fsb_timely.specs.Timely.{Timely, holds_at, holds_in}
 use Rattle.fsb_timely.specs.Wants.{is_held_back, is_open_to_other, unsnooped_at, want_of}
-use Rattle.fsb_timely.proofs.Interface.{claim_at-agree, done_below, is_held_back-alike, moment-at, moment_of, past-begins}
-use Rattle.fsb_timely.proofs.Moments as moments
+use Rattle.fsb_timely.proofs.Interface.{claim_at-agree, done_below, is_held_back-alike, moment-at, moment_of, past-begins, snooped-there as snooped-in-moments}
 use Rattle.fsb_lawful.proofs.Interface.{IsListed, and4, any-listed, length-cut, run_to-agrees, same-beq}
 use Rattle.fsb_coherent.specs.Relation.{IsOpen, is_cancelled_below, is_snooped_below}
 use Rattle.fsb_tied.proofs.Beginnings.{IsBegunWant, begun-there}
@@ -72,7 +71,7 @@ snoop-none : (r : Run) (n q t : ℕ) → n ≤ length r.trace → t < n → is_s
     → is_some_and (moment_of r t).snooped (is_snoop_of q) ≡ false
 unfolding is_snooped_below
 snoop-none r n q t l below none =
-    ap (λ o. is_some_and o (is_snoop_of q)) (sym (moments.snooped-there r t (omega arith)))
+    ap (λ o. is_some_and o (is_snoop_of q)) (sym (snooped-in-moments r t (omega arith)))
     ∙ any_where-none (λ c. is_some_and (snooped_at (past_of r) c) (is_snoop_of q)) n none t below
 
 -- a request that is neither cancelled nor snooped is in flight

@@ -2,8 +2,8 @@
 use Rattle.std.proofs.Common.{ℕ, ◌<◌, ◌≡◌, ◌++◌, List, length, sym, ap, ◌∙◌, append_assoc}
 use Rattle.fsb_line.specs.Events.{Event}
 use Rattle.fsb_line.specs.Line.{MemoryLine}
-use Rattle.fsb_line.specs.Runs.{run, stored_by_all}
-use Rattle.fsb_line.proofs.Theorem.{ordered_run}
+use Rattle.fsb_line.specs.LineRuns.{run, stored_by_all}
+use Rattle.fsb_line.proofs.Interface.{ordered_run}
 use Rattle.fsb_timely.specs.Past.{Past}
 use Rattle.fsb_timely.specs.Runs.{Run, past_of}
 use Rattle.fsb_timely.specs.Timely.{Timely}

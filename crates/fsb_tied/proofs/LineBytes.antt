@@ -10,7 +10,7 @@ use Rattle.fsb_access.specs.declared.access.Access.{Access}
 use Rattle.fsb_access.specs.declared.access.Access.TheVariants.{Load, Store}
 use Rattle.fsb_access.specs.declared.log.Done.{Done}
 use Rattle.fsb_access.specs.Replay.{ReplayState, replay, replayed_values, served_state, served_value}
-use Rattle.fsb_access.proofs.ByteLaws.{bytes_at-beside, place-within_line, put_value-inside, put_value-outside}
+use Rattle.fsb_access.proofs.Interface.{bytes_at-beside, place-within_line, put_value-inside, put_value-outside}
 use Rattle.fsb_timely.specs.Scripts.{is_load}
 use Rattle.fsb_coherent.specs.LineEvents.{change_of, changes_of}
 use Rattle.fsb_timely.specs.Kept.{line_bytes}

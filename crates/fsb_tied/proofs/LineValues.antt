@@ -7,10 +7,10 @@ use Rattle.fsb_access.specs.Access.{accessed_line}
 use Rattle.fsb_access.specs.declared.log.Done.{Done}
 use Rattle.fsb_access.specs.ByteMemory.{start_memory}
 use Rattle.fsb_access.specs.Replay.{Served, start_of}
-use Rattle.fsb_access.proofs.ReplayLaws.{Served-front}
+use Rattle.fsb_access.proofs.Interface.{Served-front}
 use Rattle.fsb_line.specs.Line.{Bytes, MemoryLine, unheld}
-use Rattle.fsb_line.specs.Runs.{run, stored_by_all}
-use Rattle.fsb_line.proofs.Theorem.{run-now}
+use Rattle.fsb_line.specs.LineRuns.{run, stored_by_all}
+use Rattle.fsb_line.proofs.Interface.{run-now}
 use Rattle.fsb_timely.specs.Carried.{memory_below}
 use Rattle.fsb_timely.specs.Completions.{is_in_time}
 use Rattle.fsb_timely.specs.Kept.{line_bytes}

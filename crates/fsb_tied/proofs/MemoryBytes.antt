@@ -5,7 +5,7 @@ use Rattle.std.proofs.lemmas.Bool.{eq-eqb}
 use Rattle.fsb_line.specs.declared.link.Link.{Link}
 use Rattle.fsb_line.specs.Line.{MemoryLine, brought}
 use Rattle.fsb_line.specs.Links.{carries, feeds_memory}
-use Rattle.fsb_line.specs.Runs.{run}
+use Rattle.fsb_line.specs.LineRuns.{run}
 use Rattle.fsb_trace.specs.Outcome.{does_move, does_take, response_clock_of}
 use Rattle.fsb_trace.specs.declared.outcome.Outcome.{Outcome}
 use Rattle.fsb_trace.specs.declared.outcome.Outcome.TheVariants.{Deferred, Failed, Granted, Handed, Replied, Retried, Upgraded, Written}

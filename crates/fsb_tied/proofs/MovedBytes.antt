@@ -3,7 +3,7 @@ use Rattle.std.proofs.Common.{ℕ, zero, suc, ◌+◌, ◌<◌, ◌≤◌, ◌�
 use Rattle.std.proofs.lemmas.Bool.{and_parts, both_ways, cases_lt, not-true}
 use Rattle.fsb_line.specs.Events.{Event}
 use Rattle.fsb_line.specs.Line.{MemoryLine}
-use Rattle.fsb_line.specs.Runs.{run}
+use Rattle.fsb_line.specs.LineRuns.{run}
 use Rattle.fsb_timely.specs.Grants.{is_ended}
 use Rattle.fsb_timely.specs.Past.{Past}
 use Rattle.fsb_timely.specs.Runs.{Run, past_of}

@@ -5,9 +5,9 @@ use Rattle.fsb_count.specs.Options.{is_some_and}
 use Rattle.fsb_count.proofs.Interface.{any_where-off}
 use Rattle.fsb_line.specs.declared.purpose.Purpose.TheVariants.{WriteBack}
 use Rattle.fsb_line.specs.Line.{MemoryLine, unheld}
-use Rattle.fsb_line.specs.Runs.{run}
+use Rattle.fsb_line.specs.LineRuns.{run}
 use Rattle.fsb_line.specs.States.{is_modified, is_sole}
-use Rattle.fsb_line.proofs.StateFacts.{modified_is_sole}
+use Rattle.fsb_line.proofs.Interface.{modified_is_sole}
 use Rattle.fsb_timely.specs.Past.{Past}
 use Rattle.fsb_timely.specs.Grants.{holds_line, is_exclusive, latest_grant}
 use Rattle.fsb_timely.specs.Hits.{is_dirty, is_stored_since}
@@ -16,8 +16,7 @@ use Rattle.fsb_timely.specs.Snoops.{is_held_elsewhere}
 use Rattle.fsb_coherent.specs.KeepsTie.{IsTiedTo, KeepsTie}
 use Rattle.fsb_coherent.specs.LineEvents.{events_below}
 use Rattle.fsb_coherent.specs.Relation.{IsOpen}
-use Rattle.fsb_coherent.proofs.Interface.{may-below}
-use Rattle.fsb_coherent.proofs.Interface.{only_holder}
+use Rattle.fsb_coherent.proofs.Interface.{may-below, only_holder}
 
 -- each clock of the run keeps the tie of the line
 abbrev pub KeepsTies : Run → ℕ → Type 0

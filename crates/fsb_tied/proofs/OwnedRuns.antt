@@ -1,7 +1,7 @@
 -- Who has a line for itself in a timely run.
 use Rattle.std.proofs.Common.{ℕ, ◌≤◌, ◌≡◌, ◌≢◌, true, false, [], Some, length}
 use Rattle.fsb_line.specs.Line.{LineDeferral, MemoryLine, unheld}
-use Rattle.fsb_line.specs.Runs.{run}
+use Rattle.fsb_line.specs.LineRuns.{run}
 use Rattle.fsb_timely.specs.Grants.{holds_line, is_exclusive}
 use Rattle.fsb_timely.specs.Hits.{is_dirty}
 use Rattle.fsb_timely.specs.Runs.{Run, past_of}

@@ -4,7 +4,7 @@ use Rattle.fsb_access.specs.ByteMemory.{start_memory}
 use Rattle.fsb_line.specs.declared.link.Link.{Link}
 use Rattle.fsb_line.specs.Line.{MemoryLine, source}
 use Rattle.fsb_line.specs.Links.{is_linked}
-use Rattle.fsb_line.proofs.Values.{ready_has_copy}
+use Rattle.fsb_line.proofs.Interface.{ready_has_copy}
 use Rattle.fsb_timely.specs.Grants.{holds_line, is_ready}
 use Rattle.fsb_timely.specs.Kept.{line_bytes}
 use Rattle.fsb_timely.specs.Runs.{Run, past_of}

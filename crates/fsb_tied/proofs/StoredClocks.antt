@@ -9,7 +9,7 @@ use Rattle.fsb_line.specs.Events.{Event, stored}
 use Rattle.fsb_line.specs.Events.Event.{Ends}
 use Rattle.fsb_line.specs.Line.{Bytes, MemoryLine}
 use Rattle.fsb_line.specs.Links.{owns}
-use Rattle.fsb_line.specs.Runs.{run, stored_by_all}
+use Rattle.fsb_line.specs.LineRuns.{run, stored_by_all}
 use Rattle.fsb_timely.specs.Grants.{ended_requests}
 use Rattle.fsb_count.specs.Options.{is_some_and}
 use Rattle.fsb_timely.specs.Hits.{is_hit}

@@ -1,7 +1,7 @@
 -- Each clock of a timely run keeps the tie of each line, so its events may happen, and the machine's line is that of the run.
 use Rattle.std.proofs.Common.{ℕ, ◌<◌, ◌≤◌, length, arith}
 use Rattle.fsb_line.specs.Line.{Bytes, unheld}
-use Rattle.fsb_line.specs.Runs.{MayRun, run}
+use Rattle.fsb_line.specs.LineRuns.{MayRun, run}
 use Rattle.fsb_timely.specs.Runs.{Run, past_of}
 use Rattle.fsb_timely.specs.Timely.{Timely}
 use Rattle.fsb_lawful.specs.Beginning.{KeepsBounds}

@@ -2,7 +2,7 @@
 
 ghost use Rattle.std.specs.Prelude.{◌++◌, ◌≡◌, ◌≢◌, ◌<◌, ◌≤◌, ℕ, Some, None, true, false, length};
 ghost use Rattle.fsb_line.specs.Line.{Bytes, LineDeferral, unheld};
-ghost use Rattle.fsb_line.specs.Runs.{MayRun, run};
+ghost use Rattle.fsb_line.specs.LineRuns.{MayRun, run};
 ghost use Rattle.fsb_signal.specs.Parity.{marks_in};
 ghost use Rattle.fsb_trace.specs.Verdict.{is_foul, verdict};
 ghost use Rattle.fsb_timely.specs.Grants.{holds_line, is_exclusive, is_rival};

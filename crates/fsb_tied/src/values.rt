@@ -3,7 +3,7 @@
 ghost use Rattle.std.specs.Prelude.{◌≡◌, ◌<◌, ◌≤◌, ◌∷◌, ℕ, List, Some, None, true, false, length};
 ghost use Rattle.fsb_line.specs.declared.link.Link.{Link};
 ghost use Rattle.fsb_line.specs.Line.{Bytes, MemoryLine, source};
-ghost use Rattle.fsb_line.specs.Runs.{stored_by_all};
+ghost use Rattle.fsb_line.specs.LineRuns.{stored_by_all};
 ghost use Rattle.fsb_timely.specs.Grants.{holds_line, is_ready};
 ghost use Rattle.fsb_timely.specs.Kept.{bytes_now, bytes_put};
 ghost use Rattle.fsb_timely.specs.Runs.{Run, past_of};

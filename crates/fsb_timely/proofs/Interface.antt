@@ -38,7 +38,7 @@ pub use Rattle.fsb_timely.proofs.WholePast.{past-begins}
 -- Where an agent is in its script, one clock further.
 pub use Rattle.fsb_timely.proofs.Items.{done-same, is_logged-more, next_number-same}
 -- The last clock of a run: up to it the run is itself.
-pub use Rattle.fsb_timely.proofs.LastClock.{moments-grow}
+pub use Rattle.fsb_timely.proofs.LastClock.{moments-grow, past-before, run-ends}
 -- The turns of the snoop ends come in the order of the live requests.
 pub use Rattle.fsb_timely.proofs.TurnOrder.{turns-quiet, turns-snooped}
 -- A want stays where its agent completes its next item: the rest of the window is the first part of the next one.

@@ -98,3 +98,4 @@ mod Mixed25
 mod Mixed26
 mod Mixed27
 mod BrokenRules
+pub mod Interface

@@ -9,8 +9,8 @@ use Rattle.fsb_signal.specs.declared.marks.Marks.{Marks}
 use Rattle.fsb_signal.specs.declared.sample.Sample.{Sample}
 use Rattle.fsb_top.specs.declared.status.Status.{Status}
 use Rattle.fsb_top.specs.declared.status.Status.TheVariants as statuses
-use Rattle.fsb_top.specs.Told.{IsAuditTold}
-use Rattle.fsb_top.specs.Outcome.{TellsFinding, IsWritten, finding_text}
+use Rattle.fsb_top.specs.StatusTold.{IsAuditTold}
+use Rattle.fsb_top.specs.BenchEnds.{TellsFinding, IsWritten, finding_text}
 
 found_nothing : (o : Option Finding) (w : List Sample) → IsOk (audited_as o w) → o ≡ None
 unfolding audited_as

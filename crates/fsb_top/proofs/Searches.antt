@@ -6,8 +6,8 @@ use Rattle.fsb_trigger.specs.Match.{least_match}
 use Rattle.fsb_trigger.specs.TriggerSteps.{StepView}
 use Rattle.fsb_top.specs.declared.status.Status.{Status}
 use Rattle.fsb_top.specs.declared.status.Status.TheVariants as statuses
-use Rattle.fsb_top.specs.Told.{IsSearchTold, IsWaveTold}
-use Rattle.fsb_top.specs.Outcome.{TellsMatch, TellsNothing, IsWritten, match_text}
+use Rattle.fsb_top.specs.StatusTold.{IsSearchTold, IsWaveTold}
+use Rattle.fsb_top.specs.BenchEnds.{TellsMatch, TellsNothing, IsWritten, match_text}
 
 pub tells_match : (status : Status) (found : Option (List ℕ)) (steps : List StepView) (w : List Sample) → IsSearchTold status found → found ≡ least_match steps w → TellsMatch steps status w
 tells_match statuses.Done found steps w told e = subst (λ (f : Option (List ℕ)). IsTrue (is_some f)) e told

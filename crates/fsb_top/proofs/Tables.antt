@@ -14,8 +14,8 @@ use Rattle.fsb_table.specs.Rows.{rows_of}
 use Rattle.fsb_trace.specs.Verdict.{verdict}
 use Rattle.fsb_top.specs.declared.status.Status.{Status}
 use Rattle.fsb_top.specs.declared.status.Status.TheVariants as statuses
-use Rattle.fsb_top.specs.Told.{IsTableTold}
-use Rattle.fsb_top.specs.Outcome.{TellsVerdict, IsWritten}
+use Rattle.fsb_top.specs.StatusTold.{IsTableTold}
+use Rattle.fsb_top.specs.BenchEnds.{TellsVerdict, IsWritten}
 
 pub tells_table : (status : Status) (broken : Option Broken) (marks : Marks) (w : List Sample)
     → IsTableTold status broken → broken ≡ as_broken (verdict marks w) → TellsVerdict status marks w

@@ -1,10 +1,10 @@
 pub mod AccessCount
 pub mod Command
 pub mod Form
-pub mod Outcome
+pub mod BenchEnds
 pub mod Range
-pub mod Reading
+pub mod BenchRead
 pub mod Refused
 pub mod StatusText
-pub mod Told
+pub mod StatusTold
 pub mod Writing

@@ -7,8 +7,8 @@ ghost use Rattle.fsb_signal.specs.declared.sample.Sample.{Sample};
 ghost use Rattle.fsb_watch.specs.Watched.{HasManySamples};
 ghost use Rattle.vcd_grammar.specs.declared.fault.VcdFault.{VcdFault};
 ghost use Rattle.vcd_grammar.specs.Reading.{Reads};
-ghost use Rattle.fsb_top.specs.Outcome.{HasFinding, HasRun, IsBadDump, IsOfAudit, IsSilent, IsWritten, finding_text};
-ghost use Rattle.fsb_top.specs.Told.{IsAuditTold};
+ghost use Rattle.fsb_top.specs.BenchEnds.{HasFinding, HasRun, IsBadDump, IsOfAudit, IsSilent, IsWritten, finding_text};
+ghost use Rattle.fsb_top.specs.StatusTold.{IsAuditTold};
 
 use crate::status::Status;
 use fsb_audit::Finding;

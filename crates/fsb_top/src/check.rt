@@ -6,11 +6,11 @@ ghost use Rattle.fsb_signal.specs.declared.sample.Sample.{Sample};
 ghost use Rattle.fsb_watch.specs.Watched.{HasManySamples};
 ghost use Rattle.vcd_grammar.specs.declared.fault.VcdFault.{VcdFault};
 ghost use Rattle.vcd_grammar.specs.Reading.{Reads};
-ghost use Rattle.fsb_top.specs.Outcome.{HasRun, IsSilent, IsOfCheck, IsTold, HasVerdict, IsBadDump};
-ghost use Rattle.fsb_top.specs.Told.{IsFindingTold, IsFindingWritten};
+ghost use Rattle.fsb_top.specs.BenchEnds.{HasRun, IsSilent, IsOfCheck, IsTold, HasVerdict, IsBadDump};
+ghost use Rattle.fsb_top.specs.StatusTold.{IsFindingTold, IsFindingWritten};
 
 use crate::status::Status;
-use fsb_check::{Finding, check_dump};
+use fsb_check::{Judgement, check_dump};
 use fsb_io::{Failed, Sink, Source, put_all};
 use fsb_report::verdict_line;
 use fsb_watch::DumpStop;
@@ -53,7 +53,7 @@ pub fn check_file<S: Source, O: Sink>(
 }
 
 // Writes the line of a verdict.
-fn tell<O: Sink>(out: &mut O, finding: Finding) -> Status
+fn tell<O: Sink>(out: &mut O, finding: Judgement) -> Status
     ensures told { IsFindingTold result finding }
     ensures few { finding.clocks < 2 ^ 32 }
     ensures text { IsTrue O.tells →

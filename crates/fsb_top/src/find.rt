@@ -8,8 +8,8 @@ ghost use Rattle.fsb_trigger.specs.Hunt.{steps_in};
 ghost use Rattle.fsb_watch.specs.Watched.{HasManySamples};
 ghost use Rattle.vcd_grammar.specs.declared.fault.VcdFault.{VcdFault};
 ghost use Rattle.vcd_grammar.specs.Reading.{Reads};
-ghost use Rattle.fsb_top.specs.Outcome.{HasLooked, HasRun, IsBadDump, IsOfFind, IsSilent, IsWritten, TellsMatch, match_text};
-ghost use Rattle.fsb_top.specs.Told.{IsSearchTold};
+ghost use Rattle.fsb_top.specs.BenchEnds.{HasLooked, HasRun, IsBadDump, IsOfFind, IsSilent, IsWritten, TellsMatch, match_text};
+ghost use Rattle.fsb_top.specs.StatusTold.{IsSearchTold};
 
 use crate::status::Status;
 use fsb_io::{Failed, Sink, Source, put_all};

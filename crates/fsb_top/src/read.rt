@@ -4,7 +4,7 @@ ghost use Rattle.fsb_io.specs.Faults.{Rose};
 ghost use Rattle.fsb_script.specs.Drafts.{BenchText, FirstBad};
 ghost use Rattle.fsb_script.specs.View.{plan_view};
 ghost use Rattle.fsb_script.specs.declared.fault.ScriptFault.{ScriptFault};
-ghost use Rattle.fsb_top.specs.Reading.{HasRead};
+ghost use Rattle.fsb_top.specs.BenchRead.{HasRead};
 
 use fsb_io::{ReadStop, Source, read_all};
 use fsb_script::{Plan, ScriptFault, ScriptStop, read_bench};

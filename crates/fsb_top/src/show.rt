@@ -1,14 +1,14 @@
 //! The table of a dump, with the totals of the probes.
 ghost use Rattle.std.specs.Prelude.{◌≡◌, ◌≤◌, ◌<◌, ◌⊎◌, IsTrue, List, length, map};
 ghost use Rattle.fsb_io.specs.Faults.{Rose};
-ghost use Rattle.fsb_show.specs.Reading.{IsLongDump};
+ghost use Rattle.fsb_show.specs.ShownDump.{IsLongDump};
 ghost use Rattle.fsb_show.specs.ShowText.{show_text, told_text};
 ghost use Rattle.fsb_signal.specs.declared.marks.Marks.{Marks};
 ghost use Rattle.fsb_signal.specs.declared.sample.Sample.{Sample};
 ghost use Rattle.vcd_grammar.specs.declared.fault.VcdFault.{VcdFault};
 ghost use Rattle.vcd_grammar.specs.Reading.{Reads};
-ghost use Rattle.fsb_top.specs.Outcome.{HasRun, HasTable, IsBadTable, IsOfCheck, IsSilent, IsWritten};
-ghost use Rattle.fsb_top.specs.Told.{IsTableTold};
+ghost use Rattle.fsb_top.specs.BenchEnds.{HasRun, HasTable, IsBadTable, IsOfCheck, IsSilent, IsWritten};
+ghost use Rattle.fsb_top.specs.StatusTold.{IsTableTold};
 
 use crate::status::Status;
 use fsb_io::{Failed, Sink, Source};

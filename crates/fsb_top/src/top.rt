@@ -17,7 +17,7 @@ ghost use Rattle.fsb_wave.specs.WaveText.{wave_text};
 ghost use Rattle.vcd_grammar.specs.declared.fault.VcdFault.{VcdFault};
 ghost use Rattle.vcd_grammar.specs.Reading.{Reads};
 ghost use Rattle.fsb_top.specs.Form.{Form, form_of, run, check, audit, show, find, wave, looks_only};
-ghost use Rattle.fsb_top.specs.Outcome.{plan_log, plan_trace, plan_dump, HasRun, HasEnded, IsSilent, IsOfRun, IsOfCheck, IsLogged, IsTold, IsDumped, HasPlan, HasVerdict, IsBadBench, IsBadDump, IsTooLong, FromRun, FromLook, IsOfAudit, IsOfFind, IsOfWave, HasFinding, HasTable, IsBadTable, HasLooked, TellsMatch, TellsNothing, IsWritten, finding_text, match_text};
+ghost use Rattle.fsb_top.specs.BenchEnds.{plan_log, plan_trace, plan_dump, HasRun, HasEnded, IsSilent, IsOfRun, IsOfCheck, IsLogged, IsTold, IsDumped, HasPlan, HasVerdict, IsBadBench, IsBadDump, IsTooLong, FromRun, FromLook, IsOfAudit, IsOfFind, IsOfWave, HasFinding, HasTable, IsBadTable, HasLooked, TellsMatch, TellsNothing, IsWritten, finding_text, match_text};
 ghost use Rattle.fsb_top.specs.Refused.{refusal_status};
 
 use crate::audit::audit_file;

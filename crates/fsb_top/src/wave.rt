@@ -8,8 +8,8 @@ ghost use Rattle.fsb_wave.specs.Wave.{Stands};
 ghost use Rattle.fsb_wave.specs.WaveText.{wave_text};
 ghost use Rattle.vcd_grammar.specs.declared.fault.VcdFault.{VcdFault};
 ghost use Rattle.vcd_grammar.specs.Reading.{Reads};
-ghost use Rattle.fsb_top.specs.Outcome.{HasLooked, HasRun, IsBadDump, IsOfWave, IsSilent, IsWritten, TellsNothing};
-ghost use Rattle.fsb_top.specs.Told.{IsWaveTold};
+ghost use Rattle.fsb_top.specs.BenchEnds.{HasLooked, HasRun, IsBadDump, IsOfWave, IsSilent, IsWritten, TellsNothing};
+ghost use Rattle.fsb_top.specs.StatusTold.{IsWaveTold};
 
 use crate::status::Status;
 use fsb_io::{Failed, Sink, Source};

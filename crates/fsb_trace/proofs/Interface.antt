@@ -18,3 +18,7 @@ pub use Rattle.fsb_trace.proofs.StayEnds.{end_of-answered, end_of-moving, end_of
 pub use Rattle.fsb_trace.proofs.Order.{live_clock_of-rises, snoop_clock-start, snoop_end_of-rises, snoop_start_of-after}
 -- What a verdict says, and that it rests on the samples up to its clock.
 pub use Rattle.fsb_trace.proofs.VerdictLaws.{is_foul-agree, verdict-least, verdict-none, verdict-stays}
+-- Clocks as rows are laid out.
+pub use Rattle.fsb_trace.proofs.LaidOut.{clock, idle}
+-- Worked waveforms.
+pub use Rattle.fsb_trace.proofs.Rows.{cancelled_by_address_error, deferred_and_replied, locked_increments, stalled_snoop, store_handed_over_before_arrival, two_agents_overlap, write_back_held_off}

@@ -8,7 +8,7 @@ use Rattle.std.proofs.lemmas.Bool.{cases_Bool, and_parts, eqb-true}
 use Rattle.std.proofs.lemmas.Nat.Bits.{bit_at_and, bit_at_or, same_from_bits}
 use Rattle.fsb_signal.specs.declared.sample.Sample.{Sample}
 use Rattle.fsb_signal.specs.Samples.{has_line, has_unknown}
-use Rattle.fsb_trigger.specs.Asked.{asked_line, asked_lines}
+use Rattle.fsb_trigger.specs.AskedLines.{asked_line, asked_lines}
 use Rattle.fsb_trigger.specs.TriggerSteps.{test_holds}
 use Rattle.fsb_trigger.specs.declared.test.Test.{Test}
 use Rattle.fsb_trigger.specs.declared.test.Test.TheVariants.{Asserted, NotAsserted, Request, Address, Data}

@@ -1,4 +1,4 @@
-pub mod Asked
+pub mod AskedLines
 pub mod TriggerSteps
 pub mod Match
 pub mod Grammar

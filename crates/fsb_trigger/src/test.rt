@@ -1,6 +1,6 @@
 //! What a step asks of a sample.
 ghost use Rattle.std.specs.Prelude.{◌≡◌};
-ghost use Rattle.fsb_trigger.specs.Asked.{asked_line};
+ghost use Rattle.fsb_trigger.specs.AskedLines.{asked_line};
 ghost use Rattle.fsb_trigger.specs.TriggerSteps.{is_word, test_holds};
 
 use fsb_signal::{Lines, Sample, Word};

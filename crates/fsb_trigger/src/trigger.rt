@@ -1,6 +1,6 @@
 //! Triggers and their steps.
 ghost use Rattle.std.specs.Prelude.{◌≡◌, ◌≤◌, ◌<◌, length};
-ghost use Rattle.fsb_trigger.specs.Asked.{asked_lines};
+ghost use Rattle.fsb_trigger.specs.AskedLines.{asked_lines};
 
 use crate::test::Test;
 use arrayvec::ArrayVec;

@@ -34,22 +34,21 @@ fn run(rt: &(impl Files + Env + Print + AllocGlobal)) -> Status {
         Ok(words) => words,
         Err(status) => return status,
     };
-    let Ok(probes) = probes(rt.alloc()) else {
+    let mut probes: Vec<Box<dyn Probe>> = Vec::new(rt.alloc());
+    if add_probes(rt.alloc(), &mut probes).is_err() {
         return Status::OutOfMemory;
-    };
+    }
     let mut source = FileSource::new(rt);
     let mut out = StdoutSink::new(rt);
     let mut dump = FileSink::new(rt, words.word(FILE));
     bench(rt.alloc(), &words, &mut source, &mut out, &mut dump, probes)
 }
 
-// The probes of a table: of ADS#, of DRDY# and of the data.
-fn probes(alloc: Global) -> Result<Vec<Box<dyn Probe>>, Memory> {
-    let mut probes: Vec<Box<dyn Probe>> = Vec::new(alloc);
+// Adds the probes of a table: of ADS#, of DRDY# and of the data.
+fn add_probes(alloc: Global, probes: &mut Vec<Box<dyn Probe>>) -> Result<(), Memory> {
     probes.push(Box::new(alloc, LineProbe::new(ADS))?)?;
     probes.push(Box::new(alloc, LineProbe::new(DRDY))?)?;
-    probes.push(Box::new(alloc, DataProbe::new())?)?;
-    Ok(probes)
+    probes.push(Box::new(alloc, DataProbe::new())?)
 }
 
 // The words that the program was called with.

@@ -7,7 +7,7 @@ use Rattle.vcd_grammar.specs.Reading.{marks_of, marks_so_far}
 use Rattle.vcd_grammar.specs.declared.fault.VcdFault.{VcdFault}
 use Rattle.vcd_read.specs.declared.scan.Scan.{Scan}
 use Rattle.vcd_read.specs.declared.stop.VcdStop.TheVariants as stops
-use Rattle.vcd_read.specs.View.{known_of}
+use Rattle.vcd_read.specs.ReaderView.{known_of}
 use Rattle.vcd_read.specs.Taking.{Taken, untaken}
 use Rattle.vcd_read.specs.Scanning.{reading, ended_taken}
 use Rattle.vcd_read.specs.Standing.{Scanned}

@@ -1,6 +1,6 @@
 pub mod Lines
 pub mod CodesView
-pub mod View
+pub mod ReaderView
 pub mod Taking
 pub mod Standing
 pub mod Answers

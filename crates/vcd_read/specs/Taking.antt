@@ -5,7 +5,7 @@ use Rattle.vcd_grammar.specs.Tokens.{Token}
 use Rattle.vcd_grammar.specs.Judging.{Known, nothing, TokenTurn, turn}
 use Rattle.vcd_read.specs.declared.machine.Machine.{Machine}
 use Rattle.vcd_read.specs.Lines.{OpenLines, at_start, after_events, decided_in}
-use Rattle.vcd_read.specs.View.{known_of, lines_view}
+use Rattle.vcd_read.specs.ReaderView.{known_of, lines_view}
 
 -- what is known, and the values
 pub record Taken : Type 0 where

@@ -4,7 +4,7 @@ ghost use Rattle.vcd_grammar.specs.Digits.{time_in};
 ghost use Rattle.vcd_grammar.specs.Words.{header_word, value_word, stamp_word, scalar_word, vector_word, is_end};
 ghost use Rattle.vcd_grammar.specs.Judging.{turn, turn_in, stays, goes_to, fails, later, unless_long, drafted, declared, other_declared, line_declared, named, closed, is_declared, missing_from, header_turn, value_turn, scalar_turn, stamped, Variable as in_variable, Pending as in_pending, Beside as in_beside, marks_of_lines, known_marks};
 ghost use Rattle.vcd_grammar.specs.Reading.{or_cut};
-ghost use Rattle.vcd_read.specs.View.{known_of, lines_view, draft_of};
+ghost use Rattle.vcd_read.specs.ReaderView.{known_of, lines_view, draft_of};
 ghost use Rattle.vcd_read.specs.Lines.{rises};
 ghost use Rattle.vcd_read.specs.Taking.{taken, untaken, turned, decided_of, pushed};
 ghost use Rattle.vcd_read.specs.Scanning.{open_samples, open_rises};

@@ -1,5 +1,5 @@
 use Rattle.fsb_check.specs.Found.{IsFound}
-use Rattle.fsb_check.specs.Judging.{HasJudged}
+use Rattle.fsb_check.specs.DumpJudge.{HasJudged}
 use Rattle.fsb_check.proofs.check.check_dump.Goals as goal
 use Rattle.fsb_watch.proofs.Interface.{refused_alike}
 use Rattle.fsb_watch.specs.Watched.{IsSeen}

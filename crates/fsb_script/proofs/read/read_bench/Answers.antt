@@ -1,6 +1,6 @@
 use Rattle.std.proofs.Common.{◌+◌, ◌<◌, length, arith, ◌∙◌, sym, ap, length-drop}
-use Rattle.fsb_script.specs.Reading.{Fails, stop_at}
-use Rattle.fsb_script.specs.Words.{line_len, text_lines}
+use Rattle.fsb_script.specs.Parsing.{Fails, stop_at}
+use Rattle.fsb_script.specs.TextWords.{line_len, text_lines}
 use Rattle.fsb_script.specs.Drafts.{plan_from}
 use Rattle.fsb_script.specs.View.{progress}
 use Rattle.fsb_script.proofs.KeptLemmas.{not_empty}

@@ -1,6 +1,6 @@
 -- The lines that are left go on to what the whole text says.
 use Rattle.std.proofs.Common.{◌≡◌, ◌+◌, ◌≤◌, length}
-use Rattle.fsb_script.specs.Words.{text_lines}
+use Rattle.fsb_script.specs.TextWords.{text_lines}
 use Rattle.fsb_script.specs.Drafts.{plan_from, said_plan}
 use Rattle.fsb_script.specs.View.{progress}
 use Rattle.fsb_script.proofs.read.read_bench.Given as goal

@@ -1,6 +1,6 @@
 -- The digits that are left go on from the number so far, which fits as many digits as were read.
 use Rattle.std.proofs.Common.{◌≡◌, ◌<◌, ◌^◌, drop}
-use Rattle.fsb_script.specs.Words.{hex_from}
+use Rattle.fsb_script.specs.TextWords.{hex_from}
 use Rattle.fsb_script.proofs.word.hex_digits.Given as goal
 
 abbrev pub invariant-loop-byte : goal.invariant-loop-byte

@@ -1,7 +1,7 @@
 use Rattle.std.proofs.Common.{◌≡◌, ◌≤◌, ℕ, List, Some, length, inr, arith, sym, subst, ◌∙◌}
 use Rattle.fsb_signal.specs.declared.sample.Sample.{Sample}
 use Rattle.vcd_grammar.specs.Reading.{first_fault}
-use Rattle.fsb_show.specs.Reading.{IsLongDump}
+use Rattle.fsb_show.specs.ShownDump.{IsLongDump}
 use Rattle.fsb_show.proofs.Readings.{answer_is, bad_text, few_samples, long_text, read_whole}
 use Rattle.fsb_show.proofs.show.read_trace.Goals as goal
 

@@ -1,5 +1,5 @@
 use Rattle.std.proofs.Common.{sym, ap, ◌∙◌}
-use Rattle.fsb_audit.specs.Registers.{chunk_by, count_after, data_in, foul_by, found_after, from_memory_after}
+use Rattle.fsb_audit.specs.AuditRegisters.{chunk_by, count_after, data_in, foul_by, found_after, from_memory_after}
 use Rattle.fsb_audit.proofs.audit.Audit.absorb.Goals.{in-Some+in_ok-take_chunk, in_default}
 use Rattle.fsb_audit.proofs.audit.Audit.absorb.Goals as goal
 

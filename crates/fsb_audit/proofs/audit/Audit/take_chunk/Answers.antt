@@ -1,6 +1,6 @@
 use Rattle.std.proofs.Common.{◌≡◌, Some, cond, ap, ◌∙◌, slice_index, subst}
 use Rattle.std.specs.Prelude.{◌==◌}
-use Rattle.fsb_audit.specs.Registers.{chunk_by, data_in, foul_by, nth_from}
+use Rattle.fsb_audit.specs.AuditRegisters.{chunk_by, data_in, foul_by, nth_from}
 use Rattle.fsb_audit.proofs.audit.Audit.take_chunk.Goals as goal
 
 pub returns-clause-moved : goal.returns-clause-moved

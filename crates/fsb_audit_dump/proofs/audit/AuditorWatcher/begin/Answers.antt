@@ -1,6 +1,6 @@
 use Rattle.std.proofs.Common.{[], refl, sym, ap}
 use Rattle.fsb_count.specs.Clocks.{count_where}
-use Rattle.fsb_audit.specs.Transfers.{moved_count}
+use Rattle.fsb_audit.specs.MovedChunks.{moved_count}
 use Rattle.fsb_audit.proofs.Interface.{nothing_yet}
 use Rattle.fsb_audit_dump.specs.Audited.{audited_as}
 use Rattle.fsb_audit_dump.proofs.audit.AuditorWatcher.begin.Goals as goal

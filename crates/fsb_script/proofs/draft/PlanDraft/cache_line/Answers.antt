@@ -1,6 +1,6 @@
 use Rattle.std.proofs.Common.{◌≡◌, refl, sym, ◌∙◌, true}
 use Rattle.fsb_script.specs.Bounds.{is_cache}
-use Rattle.fsb_script.specs.Kept.{is_fresh, has_all, has_lock_room}
+use Rattle.fsb_script.specs.DraftKept.{is_fresh, has_all, has_lock_room}
 use Rattle.fsb_script.proofs.KeptLemmas.{script_none, scripts_none, cache_none, cache_some}
 use Rattle.fsb_script.proofs.draft.PlanDraft.cache_line.Goals as goal
 

@@ -1,7 +1,7 @@
 use Rattle.std.proofs.Common.{refl, lit<}
 use Rattle.fsb_access.specs.Access.{is_lawful_access}
 use Rattle.fsb_script.specs.Bounds.{is_lawful_setting, is_lawful_script}
-use Rattle.fsb_script.specs.Kept.{has_all, has_lock_room}
+use Rattle.fsb_script.specs.DraftKept.{has_all, has_lock_room}
 use Rattle.fsb_script.proofs.KeptLemmas.{all_none, script_empty, hazards_empty, fresh_empty}
 use Rattle.fsb_script.proofs.draft.PlanDraft.new.Goals as goal
 

@@ -1,7 +1,7 @@
 use Rattle.std.proofs.Common.{◌≡◌, ◌∙◌, sym, refl, true}
 use Rattle.fsb_access.specs.Access.{is_lawful_access}
 use Rattle.fsb_script.specs.Bounds.{is_lock_size, is_lock_apart}
-use Rattle.fsb_script.specs.Kept.{is_fresh, has_all, has_lock_room}
+use Rattle.fsb_script.specs.DraftKept.{is_fresh, has_all, has_lock_room}
 use Rattle.fsb_script.proofs.KeptLemmas.{all_none, script_push, locked_room, locked_lawful}
 use Rattle.fsb_script.proofs.draft.PlanDraft.unlock_line.Goals as goal
 

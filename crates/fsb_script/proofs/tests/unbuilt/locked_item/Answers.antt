@@ -2,7 +2,7 @@ use Rattle.std.proofs.Common.{refl, ap, lit<}
 use Rattle.fsb_access.specs.Access.{is_lawful_access}
 use Rattle.fsb_script.specs.Bounds.{is_lawful_setting, is_lawful_script}
 use Rattle.fsb_script.specs.declared.place.Place.TheVariants as places
-use Rattle.fsb_script.specs.Kept.{is_fresh, has_all, has_lock_room}
+use Rattle.fsb_script.specs.DraftKept.{is_fresh, has_all, has_lock_room}
 use Rattle.fsb_script.proofs.KeptLemmas.{all_none, script_empty, hazards_empty}
 use Rattle.fsb_script.proofs.tests.unbuilt.locked_item.Goals as goal
 

@@ -1,5 +1,5 @@
 use Rattle.std.proofs.Common.{sym, ◌∙◌, ap}
-use Rattle.vcd_read.specs.View.{mode_of}
+use Rattle.vcd_read.specs.ReaderView.{mode_of}
 use Rattle.vcd_read.specs.Taking.{taken}
 use Rattle.vcd_read.proofs.Absorbing.{ok_anyway}
 use Rattle.vcd_read.proofs.Quiet.{silent_variable, silent_closing}

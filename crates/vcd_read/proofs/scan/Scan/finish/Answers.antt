@@ -2,7 +2,7 @@ use Rattle.std.proofs.Common.{◌≡◌, ap, ◌∙◌}
 use Rattle.std.proofs.lemmas.Result.{on_ok_weaker}
 use Rattle.vcd_grammar.specs.Judging.{Known}
 use Rattle.vcd_grammar.specs.Reading.{or_cut}
-use Rattle.vcd_read.specs.View.{lines_view}
+use Rattle.vcd_read.specs.ReaderView.{lines_view}
 use Rattle.vcd_read.specs.Scanning.{Reading, reading, end_fault, ended_taken}
 use Rattle.vcd_read.proofs.Readings.{end_sampled}
 use Rattle.vcd_read.proofs.scan.Scan.finish.Goals as goal

@@ -2,7 +2,7 @@ use Rattle.std.proofs.Common.{◌≡◌, ◌∙◌, sym, ap}
 use Rattle.std.proofs.lemmas.Result.{on_ok_weaker}
 use Rattle.vcd_grammar.specs.Judging.{turn, stamped}
 use Rattle.vcd_read.specs.Taking.{taken, turned, decided_of, pushed}
-use Rattle.vcd_read.specs.View.{known_of}
+use Rattle.vcd_read.specs.ReaderView.{known_of}
 use Rattle.vcd_read.specs.Scanning.{reading}
 use Rattle.vcd_read.proofs.Readings.{token_of, whole_taken, whole_sampled}
 use Rattle.vcd_read.proofs.DirectTokens.{stamp_turns}

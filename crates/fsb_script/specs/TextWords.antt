@@ -1,6 +1,6 @@
 -- The lines of a text, the words of a line, and numbers.
 use Rattle.std.specs.Prelude.{ℕ, ◌+◌, ◌-◌, ◌*◌, ◌^◌, List, [], ◌∷◌, length, take, drop, Result, Ok, Err, Bool, true, false, ◌&&◌, ◌||◌, nat_lt, nat_le, ◌==◌, if◌then◌else◌}
-use Rattle.fsb_script.specs.Reading.{◌>>=◌, require}
+use Rattle.fsb_script.specs.Parsing.{◌>>=◌, require}
 use Rattle.fsb_script.specs.declared.fault.Cause.{Cause}
 use Rattle.fsb_script.specs.declared.fault.Cause.TheVariants.{Number, Range, Missing, After, Outside}
 

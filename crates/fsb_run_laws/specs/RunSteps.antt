@@ -42,5 +42,5 @@ unfoldable pub is_behind : List Item → ℕ → ℕ → Bool
 is_behind items n m = is_some_and (slice_get items m) (λ item. not (is_idle item)) && nat_lt n m
 
 -- the number of the first item behind item n that is not idle
-unfoldable pub number_behind : List Item → ℕ → ℕ → Option ℕ
-number_behind items n count = first_where (is_behind items n) count
+unfoldable pub next_behind : List Item → ℕ → ℕ → Option ℕ
+next_behind items n count = first_where (is_behind items n) count

@@ -10,16 +10,16 @@ use Rattle.fsb_timely.specs.Hits.{is_store_on}
 use Rattle.fsb_coherent.specs.Relation.{is_dirty_below, is_dirty_through}
 
 -- the state of a line, by whether its agent holds it, has it for itself, and is dirty on it
-unfoldable pub state_by : Bool → Bool → Bool → Mesi
-state_by held own dirty = if held then (if own then (if dirty then Modified else Exclusive) else Shared) else Invalid
+unfoldable pub state_of_tests : Bool → Bool → Bool → Mesi
+state_of_tests held own dirty = if held then (if own then (if dirty then Modified else Exclusive) else Shared) else Invalid
 
 -- the state of the line at agent a at n, before the hits of n
 unfoldable pub state_below : Past → ℕ → ℕ → ℕ → Mesi
-state_below p a line n = state_by (holds_line p a line n) (is_exclusive p a line n) (is_dirty_below p a line n)
+state_below p a line n = state_of_tests (holds_line p a line n) (is_exclusive p a line n) (is_dirty_below p a line n)
 
 -- the state of the line at agent a at n, with all stores of n counted and nothing else of it
 unfoldable pub state_through : Past → ℕ → ℕ → ℕ → Mesi
-state_through p a line n = state_by (holds_line p a line n) (is_exclusive p a line n) (is_dirty_through p a line n)
+state_through p a line n = state_of_tests (holds_line p a line n) (is_exclusive p a line n) (is_dirty_through p a line n)
 
 -- a store of agent a on the line is logged at n, above the end of the latest grant of the line to a
 unfoldable pub stores_at : Past → ℕ → ℕ → ℕ → Bool

@@ -15,7 +15,7 @@ use Rattle.fsb_rules.specs.Checker.{as_broken}
 use Rattle.fsb_script.specs.Drafts.{BenchText, FirstBad}
 use Rattle.fsb_script.specs.Plans.{PlanView}
 use Rattle.fsb_script.specs.declared.fault.ScriptFault.{ScriptFault}
-use Rattle.fsb_show.specs.Reading.{IsReadToEnd, IsLongDump}
+use Rattle.fsb_show.specs.ShownDump.{IsReadToEnd, IsLongDump}
 use Rattle.fsb_signal.specs.DumpText.{dump_text}
 use Rattle.fsb_signal.specs.Parity.{marks_in}
 use Rattle.fsb_signal.specs.declared.marks.Marks.{Marks}
@@ -30,7 +30,7 @@ use Rattle.vcd_grammar.specs.declared.fault.VcdFault.{VcdFault}
 use Rattle.vcd_grammar.specs.Reading.{Reads, FirstFault}
 use Rattle.fsb_top.specs.AccessCount.{access_count}
 use Rattle.fsb_top.specs.Form.{Form, run, check, audit, show, find, wave}
-use Rattle.fsb_top.specs.Reading.{HasRead}
+use Rattle.fsb_top.specs.BenchRead.{HasRead}
 use Rattle.fsb_top.specs.Writing.{HasDump, HasDumpPart}
 use Rattle.fsb_top.specs.declared.status.Status.{Status}
 use Rattle.fsb_top.specs.declared.status.Status.TheVariants.{Done, Rejected, BadWords, BadBench, BadDump, ReadFault, WriteFault, DumpFault, OutOfMemory, TooLong, Foul, NotFound}

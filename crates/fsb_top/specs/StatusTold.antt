@@ -2,7 +2,7 @@
 use Rattle.std.specs.Prelude.{◌≡◌, ℕ, IsTrue, List, ◌++◌, Option, Some, None, is_some, Result, Err, IsOk}
 use Rattle.fsb_audit.specs.declared.finding.Finding.{Finding as AuditFinding}
 use Rattle.fsb_audit.specs.declared.finding.Finding.TheVariants as findings
-use Rattle.fsb_check.specs.declared.check.Finding.{Finding}
+use Rattle.fsb_check.specs.declared.check.Judgement.{Judgement}
 use Rattle.fsb_io.specs.Appends.{AppendsPart}
 use Rattle.fsb_report.specs.VerdictText.{verdict_text}
 use Rattle.fsb_rules.specs.declared.broken.Broken.{Broken}
@@ -10,7 +10,7 @@ use Rattle.fsb_top.specs.declared.status.Status.{Status}
 use Rattle.fsb_top.specs.declared.status.Status.TheVariants.{Done, Rejected, BadWords, BadBench, BadDump, ReadFault, WriteFault, DumpFault, OutOfMemory, TooLong, Foul, NotFound}
 
 -- the status of a finding whose line was written, or of a sink that failed
-abbrev pub IsFindingTold : Status → Finding → Type 0
+abbrev pub IsFindingTold : Status → Judgement → Type 0
 IsFindingTold Done finding = finding.broken ≡ None
 IsFindingTold (Rejected broken) finding = finding.broken ≡ Some broken
 IsFindingTold WriteFault finding = Unit {0}
@@ -25,7 +25,7 @@ IsFindingTold (Foul foul) finding = ⊥
 IsFindingTold NotFound finding = ⊥
 
 -- the sink has the line of the finding behind what it held, or a first part of it where it failed
-abbrev pub IsFindingWritten : Status → Finding → List ℕ → List ℕ → Type 0
+abbrev pub IsFindingWritten : Status → Judgement → List ℕ → List ℕ → Type 0
 IsFindingWritten Done finding before held = held ≡ before ++ verdict_text finding.clocks finding.broken
 IsFindingWritten (Rejected broken) finding before held = held ≡ before ++ verdict_text finding.clocks finding.broken
 IsFindingWritten WriteFault finding before held = AppendsPart (verdict_text finding.clocks finding.broken) before held
