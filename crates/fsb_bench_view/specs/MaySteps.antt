@@ -76,7 +76,7 @@ may_end_with first outcomes.Upgraded v = may_end_upgrade v first
 pub record MayEnd (named : ℕ → Bool) (bus : BusView) (ending : Ending) : Type 0 where
   pub known : HasAgent bus ending.served.agent
   pub ends : AgentMay bus ending.served.agent (may_end_with ending.served.first ending.outcome)
-  pub named : does_take ending.outcome ≡ true → named ending.served.request.line ≡ true
+  pub puts : does_take ending.outcome ≡ true → named ending.served.request.line ≡ true
 
 -- the sample may be the next: RS# is what is driven, and the requests keep their distance
 pub record MaySample (v : BenchView) (hold : Bool) : Type 0 where
