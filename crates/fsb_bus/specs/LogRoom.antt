@@ -1,0 +1,24 @@
+-- How many accesses are still to come, and so how much room a log needs.
+use Rattle.std.specs.Prelude.{◌≤◌, ℕ, ◌+◌, List, [], ◌∷◌, drop, length, sum_by}
+use Rattle.fsb_access.specs.LogView.{LogView}
+use Rattle.fsb_access.specs.declared.item.Item.{Item}
+use Rattle.fsb_access.specs.declared.item.Item.TheVariants.{One, Locked, Idle}
+use Rattle.fsb_agent_view.specs.AgentViews.{AgentView}
+
+-- the accesses of an item
+abbrev pub accesses_of_item : Item → ℕ
+accesses_of_item (One access) = 1
+accesses_of_item (Locked group) = length group
+accesses_of_item (Idle clocks) = 0
+
+-- the accesses of an agent's items from its next one on
+abbrev pub accesses_left : AgentView → ℕ
+accesses_left v = sum_by accesses_of_item (drop v.place v.items)
+
+-- those of several agents
+abbrev pub accesses_left_of : List AgentView → ℕ
+accesses_left_of agents = sum_by accesses_left agents
+
+-- the log has room for all accesses that are to come, and for eight entries more
+abbrev pub HasRoomFor : List AgentView → LogView → Type 0
+HasRoomFor agents log = accesses_left_of agents + 8 ≤ log.spare
