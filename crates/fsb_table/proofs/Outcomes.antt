@@ -23,7 +23,7 @@ live_response-is w i q e = rw (lt-ltb i (live_count w) (live_below_count w i q e
 
 told-by : (w : Trace) (i code : ℕ)
     → told_by w i code ≡ told_with (is_handed_by w (snoop_end_of w i)) (live_request_of w i) code
-unfolding told_by told_with is_handed_by line_at_snoop_end
+unfolding told_by told_with line_at_snoop_end
 told-by w i code = refl
 
 -- the outcome that the response tells

@@ -24,7 +24,7 @@ pub record Stands (going : Going) (w : Trace) (i : ℕ) : Type 0 where
   pub response : response_clock_of w i ≡ nth_where (from_clock going.unanswered (responds_at w)) 0 (length w)
 
 -- an owner hands on the line of a request with this snoop end
-unfoldable pub is_handed_by : Trace → Option ℕ → Bool
+abbrev pub is_handed_by : Trace → Option ℕ → Bool
 is_handed_by w snoop = is_some_and snoop (line_at HITM w)
 
 -- what a response with this code tells of a request, whose line an owner hands on, or does not

@@ -48,7 +48,7 @@ fn told_by(handed: bool, request: Option<Request>, code: u8) -> Outcome
 }
 
 /// Whether an owner hands on the line of a request with this snoop end: HITM# is asserted there.
-#[tactic(auto, unfolding(crate::specs::Going::is_handed_by, fsb_count::specs::Options::is_some_and))]
+#[tactic(auto, unfolding(fsb_count::specs::Options::is_some_and))]
 fn is_handed(w: &[Sample], snoop: Option<usize>) -> bool
     ensures { result ≡ is_handed_by w.now snoop }
 {
