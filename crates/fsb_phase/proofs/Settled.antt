@@ -106,7 +106,7 @@ unfolding settled_code
 code_is e o f = rw f refl
 
 moving_is : (e : Entry) (o : Outcome) → e.outcome ≡ Some o → is_moving e ≡ does_move o
-unfolding is_moving is_some_and
+unfolding is_some_and
 moving_is e o f = rw f refl
 
 pub told-is : (h : Trace) (e : Entry) (turn i s code : ℕ) → IsSettled h e turn → rank_of h e ≡ i → snoop_end_of h i ≡ Some s → code ≡ settled_code e → does_move (told_by h i code) ≡ is_moving e
