@@ -8,7 +8,8 @@ ghost use Rattle.fsb_script.specs.Bounds.{is_lawful_item, is_lawful_script};
 use crate::bounds::{ITEMS, is_lock_apart, is_lock_size};
 use fsb_access::{Access, Item};
 
-/// Whether the script is lawful with a cache of so many lines: it has at most 4,096 items, and each of them is lawful.
+/// Whether the script is lawful with a cache of so many lines: it has at most 4,096 items, each of
+/// them lawful.
 #[tactic(auto, unfolding(crate::specs::Bounds::is_lawful_script))]
 pub fn is_lawful_script(cache: u32, items: &[Item]) -> bool
     requires { 0 < cache }

@@ -3,7 +3,7 @@
 ghost use Rattle.std.specs.Prelude.{◌≡◌, ◌<◌, ◌≤◌, ◌^◌, IfSome, length};
 ghost use Rattle.fsb_trigger.specs.Grammar.{decimal_value, number_behind};
 
-/// The number that decimal digits make, or none where not all of the text are such digits; 0 of an empty text.
+/// The number that decimal digits make, 0 where there are none; none where not all are such digits.
 pub fn decimal_digits(digits: &[u8]) -> Option<u64>
     requires { length digits.now ≤ 19 }
     ensures value { result ≡ number_behind 10 decimal_value 0 digits.now }
