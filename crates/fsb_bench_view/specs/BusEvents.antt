@@ -2,7 +2,7 @@
 use Rattle.std.specs.Prelude.{ℕ, ◌==◌, Bool, true, false, ◌||◌, is_none, if◌then◌else◌, List, [], ◌∷◌, ◌++◌, drop, length, map, Option, Some, None, slice_get}
 use Rattle.std.specs.Option.{option_and_then, option_map, option_map_or}
 use Rattle.fsb_access.specs.declared.log.Done.{Done}
-use Rattle.fsb_agent_view.specs.AgentEvents.{AgentEvent, Arrived, Committed, GivenUp, HandedOn, Performed, Sent, UpgradeEnded}
+use Rattle.fsb_agent_view.specs.AgentEvents.{AgentEvent, Arrived, Committed, GivenUp, HandedOn, Performed, Sent, UpgradeEnded, agent_after}
 use Rattle.fsb_agent_view.specs.AgentViews.{AgentView}
 use Rattle.fsb_agent_view.specs.Arriving.{arrived_entries, upgrade_entries}
 use Rattle.fsb_bridge.specs.Deferrals.{new_waiting, waiting_without, with_answer, with_reply}
@@ -180,9 +180,19 @@ entries_of_event v (Arrived clock number bytes) = arrived_entries v clock number
 entries_of_event v (UpgradeEnded clock number) = upgrade_entries v clock number
 entries_of_event v (GivenUp number) = []
 
+-- the agent after the end of its request with this outcome, where these bytes have moved
+abbrev pub agent_ended : ℕ → ℕ → List ℕ → Outcome → AgentView → AgentView
+agent_ended clock first bytes outcome v = option_map_or (agent_after v) (end_event clock first bytes outcome) v
+
+-- the entries of what that completes
+abbrev pub entries_ended : ℕ → ℕ → List ℕ → Outcome → AgentView → List Done
+entries_ended clock first bytes outcome v = option_map_or (entries_of_event v) (end_event clock first bytes outcome) []
+
+-- the entries of what an end completes, of these agents
+abbrev pub end_entries_of : List AgentView → ℕ → List ℕ → Ending → List Done
+end_entries_of agents clock bytes ending =
+    option_map_or (entries_ended clock ending.served.first bytes ending.outcome) (slice_get agents ending.served.agent) []
+
 -- the entries of what an end completes
 abbrev pub end_entries : BusView → ℕ → Ending → List Done
-end_entries bus clock ending =
-    option_map_or
-    (λ event. option_map_or (λ v. entries_of_event v event) (slice_get bus.agents ending.served.agent) [])
-    (end_event clock ending.served.first bus.moved ending.outcome) []
+end_entries bus clock ending = end_entries_of bus.agents clock bus.moved ending
