@@ -1,1 +1,3 @@
-
+pub mod Benches
+pub mod Bringing
+pub mod Machines

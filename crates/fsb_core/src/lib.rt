@@ -1,33 +1,32 @@
 //! The bench: agents with their caches, the bridge and memory on one bus, clock by clock.
 //!
-//! [`Bench::make`] takes all the memory that a run needs. [`Bench::step`] is one clock: it makes
-//! the clock's sample, and adds what the clock brings to the log. It takes no memory, has no
-//! refusal, and costs the same however long the run is already: nothing is looked for in the log,
-//! in a script or in the trace.
+//! [`Bench::make`] takes all the memory that a run needs. A bench lends what came of the plan so
+//! far, the agents' caches and memory, and hazard objects are plugged and unplugged between two
+//! clocks. Contracts see a bench as a record (`BenchState`, `specs/Benches.antt`): the bench's view
+//! (`BenchView`, crate fsb_bench_view), whose run has the plan, the choices, the holds, the trace
+//! and the log, and the objects that stand on it.
 //!
-//! A step goes in this order: what the phases drive, and the bytes that move from a response on;
+//! Promised today: what [`Bench::make`] makes is the first bench of the plan, with its objects
+//! loaded; each lending call gives what the view has; plugging and unplugging change the objects
+//! alone. A clock is `Bench::step`: the new view is `bench_stepped` of the old one, with what the
+//! objects that stand at it answer. It asks that the bench may take the clock (`MayStep`), and is
+//! private as long as no bench carries that by itself: that every bench may take each clock of its
+//! plan is not proved yet, and neither is what a clock's samples and entries say of the run.
+//!
+//! A step takes no memory, has no refusal, and costs the same however long the run is already:
+//! nothing is looked for in the log, in a script or in the trace. It goes in this order: the
+//! objects are asked for BNR#; what the phases drive, and the bytes that move from a response on;
 //! the hits, agent 0 first; what the agents want and what begins; the snoop result; the sample;
-//! then what it brings: the request that begins, the one that an address error cancels, the snoop
-//! end, the response and the end of a request; and last the queue, the arbiter and the bus lock
-//! take the clock. The agents know a request by its first clock.
+//! what the objects choose for the request that begins; then what the clock brings: that request,
+//! the one that an address error cancels, the snoop end, the response and the end of a request; and
+//! last the bus lock, the queue and the arbiter take the clock. The agents know a request by its
+//! first clock.
 #![tactic(auto)]
 
 pub use bench::Bench;
 
-mod agents;
-mod beginning;
+mod asking;
 mod bench;
-mod bus;
-mod decided;
-mod ending;
-mod lines;
-mod lock;
-mod made;
-mod moving;
-mod recording;
-mod sample;
-mod served;
-mod snoop;
-
-#[cfg(test)]
-mod tests;
+mod bringing;
+mod machine;
+mod stepping;

@@ -1,0 +1,3 @@
+mod StayingWork
+mod KeptRests
+mod Brought
