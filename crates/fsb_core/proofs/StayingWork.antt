@@ -32,10 +32,10 @@ told-count events n [] = refl
 told-count events n (v ∷ vs) = ap suc (told-count events (n + 1) vs)
 
 -- what completes nothing leaves an agent as much to do
-StaysAt : AgentEvent → Type 0
+abbrev StaysAt : AgentEvent → Type 0
 StaysAt event = (v : AgentView) → accesses_left (agent_after v event) ≡ accesses_left v
 
-StaysAll : (ℕ → List AgentEvent) → Type 0
+abbrev StaysAll : (ℕ → List AgentEvent) → Type 0
 StaysAll events = (n : ℕ) (v : AgentView) → accesses_left (fold agent_after v (events n)) ≡ accesses_left v
 
 told-left : (events : ℕ → List AgentEvent) → StaysAll events → (n : ℕ) (agents : List AgentView)

@@ -1,3 +1,4 @@
+pub mod BenchSteps
 pub mod Benches
 pub mod Bringing
-pub mod Machines
+pub mod Parts

@@ -5,9 +5,10 @@ ghost use Rattle.fsb_hazard.specs.Told.{told_after};
 ghost use Rattle.fsb_script.specs.View.{plan_view};
 ghost use Rattle.fsb_bench_view.specs.MaySteps.{MayStep};
 ghost use Rattle.fsb_bus.specs.FirstBus.{is_named_line};
-ghost use Rattle.fsb_core.specs.Benches.{IsStepped, first_bench, view_of};
+ghost use Rattle.fsb_core.specs.BenchSteps.{IsStepped, first_bench};
+ghost use Rattle.fsb_core.specs.Parts.{IsFit};
 
-use crate::machine::Machine;
+use crate::parts::Parts;
 use fsb_access::Done;
 use fsb_cache::Cache;
 use fsb_hazard::{Choice, Hazard, load_all};
@@ -16,112 +17,98 @@ use fsb_memory::Controller;
 use fsb_script::Plan;
 use fsb_signal::Sample;
 use std::alloc::Global;
-use std::marker::Model;
 
-/// A plan, run clock by clock, with the hazard objects that stand on it; they are
-/// `Box<dyn Hazard>`, or of one type.
+/// A plan, run clock by clock, with the hazard objects that stand on it.
 #[derive(Drop)]
-pub struct Bench<H> {
-    machine: Machine,
-    objects: Vec<H>,
+pub struct Bench {
+    parts: Parts,
+    hazards: Vec<Box<dyn Hazard>>,
+    ghost fit: { IsFit parts },
 }
 
-impl<H> Model for Bench<H> {
-    ghost use Rattle.fsb_core.specs.Benches.{BenchState};
-    ghost use Rattle.fsb_core.specs.Machines.{IsFit, state_of};
+impl Bench {
+    ghost use Rattle.fsb_core.specs.Benches.{lines_of, objects_of, view_of};
 
-    ghost Value = { BenchState H };
-
-    ghost view = { λ bench. state_of bench.machine bench.objects.items };
-
-    ghost invariant = { λ bench. IsFit bench.machine };
-}
-
-impl<H: Hazard> Bench<H> {
     /// A bench for the plan, before its first clock. Each object is given the plan's hazard lines,
     /// in order. All the memory that the plan's clocks need is taken here. Where there is none, the
     /// plan and the objects are dropped.
-    pub fn make(alloc: Global, plan: Plan, mut hazards: Vec<H>) -> Result<Bench<H>, Memory>
+    pub fn make(alloc: Global, plan: Plan, mut hazards: Vec<Box<dyn Hazard>>) -> Result<Bench, Memory>
         ensures first { IfOk result (λ bench. view_of bench ≡ first_bench (plan_view plan)) }
-        ensures told { IfOk result (λ bench. map H.told bench.objects
-            ≡ map (λ h. told_after (H.is_scripted h) plan.hazards (H.told h)) hazards.items) }
-        ensures kinds { IfOk result (λ bench. map H.is_scripted bench.objects
-            ≡ map H.is_scripted hazards.items) }
+        ensures told { IfOk result (λ bench. map (λ h. told h) (objects_of bench)
+            ≡ map (λ h. told_after (is_scripted h) plan.hazards (told h)) hazards.items) }
+        ensures kinds { IfOk result (λ bench. map (λ h. is_scripted h) (objects_of bench)
+            ≡ map (λ h. is_scripted h) hazards.items) }
     {
         load_all(&mut hazards, plan.hazards.as_slice())?;
-        let machine = Machine::new(alloc, plan)?;
-        Ok(Bench {
-            machine,
-            objects: hazards,
-        })
+        let parts = Parts::new(alloc, plan)?;
+        Ok(Bench { parts, hazards })
     }
 
     /// One clock: the objects that stand at it are asked, and the bench is what the clock makes of
     /// it. It takes no memory and has no refusal.
     pub(crate) fn step(&mut self)
-        requires clocks { length self.old.run.trace < self.old.run.plan.clocks }
+        requires clocks { length (view_of self.old).run.trace < (view_of self.old).run.plan.clocks }
         requires may { (hold : Bool) →
-            MayStep (is_named_line self.old.run.plan.scripts) (view_of self.old) hold }
-        ensures stepped { IsStepped (map H.told self.old.objects) (view_of self.old)
+            MayStep (is_named_line (view_of self.old).run.plan.scripts) (view_of self.old) hold }
+        ensures stepped { IsStepped (map (λ h. told h) (objects_of self.old)) (view_of self.old)
             (view_of self.new) }
-        ensures told_stays { map H.told self.new.objects ≡ map H.told self.old.objects }
-        ensures kinds_stay { map H.is_scripted self.new.objects
-            ≡ map H.is_scripted self.old.objects }
+        ensures told_stays { map (λ h. told h) (objects_of self.new)
+            ≡ map (λ h. told h) (objects_of self.old) }
+        ensures kinds_stay { map (λ h. is_scripted h) (objects_of self.new)
+            ≡ map (λ h. is_scripted h) (objects_of self.old) }
     {
-        self.machine.step(&mut self.objects);
+        self.parts.step(&mut self.hazards);
     }
-}
 
-impl<H> Bench<H> {
     /// The plan that is run.
     pub fn plan(&self) -> &Plan
-        ensures { plan_view result.now ≡ self.now.run.plan }
+        ensures { plan_view result.now ≡ (view_of self.now).run.plan }
     {
-        &self.machine.plan
+        &self.parts.plan
     }
 
     /// The next clock.
     pub fn clock(&self) -> u32
-        ensures { result ≡ length self.now.run.trace }
+        ensures { result ≡ length (view_of self.now).run.trace }
     {
-        self.machine.trace.len() as u32
+        self.parts.trace.len() as u32
     }
 
     /// The samples of the clocks so far.
     pub fn trace(&self) -> &[Sample]
-        ensures { result.now ≡ self.now.run.trace }
+        ensures { result.now ≡ (view_of self.now).run.trace }
     {
-        self.machine.trace.as_slice()
+        self.parts.trace.as_slice()
     }
 
     /// The accesses that were completed so far.
     pub fn log(&self) -> &[Done]
-        ensures { result.now ≡ self.now.run.log }
+        ensures { result.now ≡ (view_of self.now).run.log }
     {
-        self.machine.log.as_slice()
+        self.parts.log.as_slice()
     }
 
     /// What was chosen for each request so far.
     pub fn choices(&self) -> &[Choice]
-        ensures { result.now ≡ self.now.run.choices }
+        ensures { result.now ≡ (view_of self.now).run.choices }
     {
-        self.machine.choices.as_slice()
+        self.parts.choices.as_slice()
     }
 
     /// Of each clock so far whether BNR# was asked for.
     pub fn holds(&self) -> &[bool]
-        ensures { result.now ≡ self.now.run.holds }
+        ensures { result.now ≡ (view_of self.now).run.holds }
     {
-        self.machine.holds.as_slice()
+        self.parts.holds.as_slice()
     }
 
     /// The cache of an agent; none where the plan has no agent of that number.
     pub fn cache(&self, agent: u8) -> Option<&Cache>
         ensures cache { option_map (λ cache. cache.now) result
-            ≡ option_map (λ v. v.lines) (slice_get self.now.agents agent) }
-        ensures none { is_none result ≡ nat_le (length self.now.run.plan.scripts) agent }
+            ≡ option_map (λ v. v.lines) (slice_get (view_of self.now).bus.agents agent) }
+        ensures none { is_none result ≡ nat_le (length (view_of self.now).run.plan.scripts) agent }
     {
-        match self.machine.bus.agents.get(usize::from(agent)) {
+        match self.parts.bus.agents.get(usize::from(agent)) {
             Some(agent) => Some(agent.cache()),
             None => None,
         }
@@ -129,20 +116,20 @@ impl<H> Bench<H> {
 
     /// The memory controller.
     pub fn memory(&self) -> &Controller
-        ensures { result.now ≡ self.now.lines }
+        ensures { result.now ≡ lines_of self.now }
     {
-        &self.machine.bus.memory
+        &self.parts.bus.memory
     }
 
     /// Adds an object as the last one, which is asked from the next step on, and is given no lines.
     /// After a refusal nothing changed, and the object is given back.
-    pub fn plug(&mut self, hazard: H) -> Result<(), (Memory, H)>
-        ensures plugged { OnOk result (
-            self.new ≡ record self.old { objects = self.old.objects ++ hazard ∷ [] }) }
-        ensures refused { OnErr result (self.new ≡ self.old) }
+    pub fn plug(&mut self, hazard: Box<dyn Hazard>) -> Result<(), (Memory, Box<dyn Hazard>)>
+        ensures plugged { OnOk result (objects_of self.new ≡ objects_of self.old ++ hazard ∷ []) }
+        ensures refused { OnErr result (objects_of self.new ≡ objects_of self.old) }
         ensures given_back { IfErr result (λ refused. refused.1 ≡ hazard) }
+        ensures view { view_of self.new ≡ view_of self.old }
     {
-        match self.objects.push(hazard) {
+        match self.hazards.push(hazard) {
             Ok(()) => Ok(()),
             Err(refused) => Err((Memory, refused.value)),
         }
@@ -150,12 +137,13 @@ impl<H> Bench<H> {
 
     /// Takes out the object at this place, and those behind it close up; none where there are no
     /// more than `i`.
-    pub fn unplug(&mut self, i: usize) -> Option<H>
-        ensures object { result ≡ slice_get self.old.objects i }
-        ensures rest { self.new ≡ record self.old { objects = remove self.old.objects i } }
+    pub fn unplug(&mut self, i: usize) -> Option<Box<dyn Hazard>>
+        ensures object { result ≡ slice_get (objects_of self.old) i }
+        ensures objects { objects_of self.new ≡ remove (objects_of self.old) i }
+        ensures view { view_of self.new ≡ view_of self.old }
     {
-        if i < self.objects.len() {
-            Some(self.objects.remove(i))
+        if i < self.hazards.len() {
+            Some(self.hazards.remove(i))
         } else {
             None
         }

@@ -28,5 +28,5 @@ pub use bench::Bench;
 mod asking;
 mod bench;
 mod bringing;
-mod machine;
+mod parts;
 mod stepping;

@@ -11,13 +11,13 @@ ghost use Rattle.fsb_bench_view.specs.ToldAgents.{hit_entries};
 ghost use Rattle.fsb_bus.specs.Buses.{bus_view};
 ghost use Rattle.fsb_bus.specs.FirstBus.{is_named_line};
 ghost use Rattle.fsb_bus.specs.LogRoom.{HasRoomFor};
-ghost use Rattle.fsb_core.specs.Benches.{IsStepped};
+ghost use Rattle.fsb_core.specs.BenchSteps.{IsStepped};
 ghost use Rattle.fsb_core.specs.Bringing.{KeepsRest};
-ghost use Rattle.fsb_core.specs.Machines.{IsFit, machine_view};
+ghost use Rattle.fsb_core.specs.Parts.{IsFit, parts_view};
 
 use crate::asking::{ask_choice, ask_hold};
 use crate::bringing::bring;
-use crate::machine::Machine;
+use crate::parts::Parts;
 use fsb_access::Log;
 use fsb_bench_view::{Decided, Starting};
 use fsb_bus::{Bus, Released};
@@ -28,16 +28,16 @@ use fsb_queue::Entry;
 use fsb_signal::{Lines, Sample};
 use fsb_trace::Outcome;
 
-impl Machine {
+impl Parts {
     /// One clock, at which these objects stand.
     pub fn step<H: Hazard>(&mut self, objects: &mut [H])
         requires fit { IsFit self.old }
         requires clocks { length self.old.trace.items < self.old.plan.clocks }
         requires may { (hold : Bool) →
-            MayStep (is_named_line self.old.plan.scripts) (machine_view self.old) hold }
+            MayStep (is_named_line self.old.plan.scripts) (parts_view self.old) hold }
         ensures fit { IsFit self.new }
-        ensures stepped { IsStepped (map H.told objects.old) (machine_view self.old)
-            (machine_view self.new) }
+        ensures stepped { IsStepped (map H.told objects.old) (parts_view self.old)
+            (parts_view self.new) }
         ensures told_stays { map H.told objects.new ≡ map H.told objects.old }
         ensures kinds_stay { map H.is_scripted objects.new ≡ map H.is_scripted objects.old }
     {
@@ -48,9 +48,8 @@ impl Machine {
         let retried = self.bus.retried(&drive);
         perform(&mut self.bus, clock, &drive, &mut self.log);
         let winner = self.bus.arbiter.winner();
-        let decided = self
-            .bus
-            .decide(winner, clock, drive, hold, self.was_held(clock));
+        let was_held = self.was_held(clock);
+        let decided = self.bus.decide(winner, clock, drive, hold, was_held);
         let sample = self.bus.sample(clock, self.plan.profile, &decided);
         let phased = self.bus.phases.absorb(clock, &sample, &self.bus.queue);
         let number = self.choices.len() as u32;

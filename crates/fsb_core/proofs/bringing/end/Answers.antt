@@ -1,8 +1,9 @@
+use Rattle.std.proofs.Common.{sym, ◌∙◌}
 use Rattle.fsb_core.proofs.KeptRests.{end-keeps}
 use Rattle.fsb_core.proofs.bringing.end.Goals as goal
 
 pub end-requires-clause-may : goal.end-requires-clause-may
-end-requires-clause-may c = c.requires.may c.in-Some.ending ?
+end-requires-clause-may c = c.requires.may c.in-Some.ending (sym c.ending.ensures ∙ c.in-Some.is)
 
 pub returns-in-Some-clause-rest : goal.returns-in-Some-clause-rest
 returns-in-Some-clause-rest c =

@@ -13,7 +13,7 @@ const SPARE: usize = 8;
 
 /// A bench without its objects: a plan, the bus, and what came of the plan so far.
 #[derive(Drop)]
-pub(crate) struct Machine {
+pub(crate) struct Parts {
     pub plan: Plan,
     pub bus: Bus,
     /// One sample for each clock.
@@ -25,16 +25,16 @@ pub(crate) struct Machine {
     pub holds: Vec<bool>,
 }
 
-impl Machine {
+impl Parts {
     ghost use Rattle.fsb_script.specs.View.{plan_view};
     ghost use Rattle.fsb_bench_view.specs.BenchSteps.{was_held_at};
-    ghost use Rattle.fsb_core.specs.Benches.{first_bench};
-    ghost use Rattle.fsb_core.specs.Machines.{IsFit, machine_view};
+    ghost use Rattle.fsb_core.specs.BenchSteps.{first_bench};
+    ghost use Rattle.fsb_core.specs.Parts.{IsFit, parts_view};
 
-    /// The machine of a plan before its first clock, with room for all that its clocks can bring.
-    pub fn new(alloc: Global, plan: Plan) -> Result<Machine, Memory>
-        ensures view { IfOk result (λ machine.
-            machine_view machine ≡ first_bench (plan_view plan)) }
+    /// The parts of a plan before its first clock, with room for all that its clocks can bring.
+    pub fn new(alloc: Global, plan: Plan) -> Result<Parts, Memory>
+        ensures view { IfOk result (λ parts.
+            parts_view parts ≡ first_bench (plan_view plan)) }
         ensures fit { IfOk result IsFit }
     {
         let clocks = plan.clocks as usize;
@@ -43,7 +43,7 @@ impl Machine {
         let log = Log::with_room(alloc, access_count(&plan) as usize + SPARE)?;
         let choices = Vec::with_capacity(alloc, clocks)?;
         let holds = Vec::with_capacity(alloc, clocks)?;
-        Ok(Machine {
+        Ok(Parts {
             plan,
             bus,
             trace,
