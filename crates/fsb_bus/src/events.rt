@@ -4,9 +4,10 @@ ghost use Rattle.std.specs.Prelude.{◌≡◌, ◌<◌, ◌≤◌, ◌==◌, if�
 ghost use Rattle.fsb_count.specs.Options.{is_some_and};
 ghost use Rattle.fsb_encode.specs.Request.{is_lawful_request};
 ghost use Rattle.fsb_trace.specs.Outcome.{is_deferral};
-ghost use Rattle.fsb_bench_view.specs.BusEvents.{answered_by, bus_answered, bus_cancelled, bus_snooped, bus_started, entry_started, waiting_snooped};
+ghost use Rattle.fsb_bench_view.specs.BusEvents.{answered_by, bus_answered, bus_cancelled, bus_snooped, bus_started, entry_started, starting_event, waiting_snooped, waiting_started};
 ghost use Rattle.fsb_bench_view.specs.BusLocking.{is_retry, retried_by};
 ghost use Rattle.fsb_bench_view.specs.MaySteps.{MayCancel, MaySnoop, MayStart};
+ghost use Rattle.fsb_bench_view.specs.ToldAgents.{agents_told};
 ghost use Rattle.fsb_bus.specs.Buses.{bus_view};
 
 use crate::bus::Bus;
@@ -46,10 +47,7 @@ impl Bus {
         } }
         ensures room { vec_capacity self.new.started ≡ vec_capacity self.old.started }
     {
-        match starting.who {
-            Who::Symmetric(agent) => send(self.agents.as_mut_slice(), agent, clock),
-            Who::Priority => self.bridge.begun(starting.request.did),
-        }
+        self.tell_start(clock, starting);
         self.latest = Some(Latest {
             clock,
             who: starting.who,
@@ -59,6 +57,24 @@ impl Bus {
             clock,
             locked: starting.locked,
         });
+    }
+
+    /// The agent or the bridge hears of its request that begins.
+    fn tell_start(&mut self, clock: u32, starting: &Starting)
+        requires { MayStart (bus_view self.old) clock starting.now }
+        ensures agents { self.new.agents.items
+            ≡ agents_told (starting_event clock starting.now.who) 0 self.old.agents.items }
+        ensures bridge { self.new.bridge ≡ record self.old.bridge {
+          waiting =
+              waiting_started starting.now.request.did starting.now.who self.old.bridge.waiting;
+        } }
+        ensures rest { self.new
+            ≡ record self.old { agents = self.new.agents; bridge = self.new.bridge } }
+    {
+        match starting.who {
+            Who::Symmetric(agent) => send(self.agents.as_mut_slice(), agent, clock),
+            Who::Priority => self.bridge.begun(starting.request.did),
+        }
     }
 
     /// An address error cancels the request of this entry.
@@ -85,7 +101,7 @@ impl Bus {
           served = self.new.served;
         } }
     {
-        commit_all(self.agents.as_mut_slice(), 0, snooped);
+        commit_all(self.agents.as_mut_slice(), snooped);
         self.defer(snooped);
         self.served.push(snooped.served);
     }
@@ -99,7 +115,9 @@ impl Bus {
         ensures rest { self.new ≡ record self.old { bridge = self.new.bridge } }
     {
         let Entry {
-            number, request, ..
+            number,
+            request,
+            ..
         } = snooped.entry;
         match (snooped.outcome, snooped.turn) {
             (Outcome::Deferred, Turn::Defer(later)) => {

@@ -8,10 +8,11 @@
 #![tactic(auto)]
 
 pub use bus::{Bus, Lock};
+pub use count::access_count;
 pub use locking::Released;
-pub use made::access_count;
 
 mod bus;
+mod count;
 mod deciding;
 mod ending;
 mod events;
