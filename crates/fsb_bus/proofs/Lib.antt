@@ -5,3 +5,4 @@ pub mod PlanFacts
 pub mod BusSteps
 pub mod FirstAgents
 pub mod NamedLines
+pub mod KeptScripts

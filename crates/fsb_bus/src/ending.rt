@@ -20,7 +20,7 @@ use fsb_trace::Outcome;
 
 impl Bus {
     /// The end of a request that the clock is, if it is one.
-    pub fn ending(&self, phased: &Phased) -> Option<Ending>
+    pub(crate) fn ending(&self, phased: &Phased) -> Option<Ending>
         ensures { result ≡ ending_by (bus_view self.now) phased.now }
     {
         if phased.ended.is_none() {
@@ -39,7 +39,7 @@ impl Bus {
     }
 
     /// The request ends.
-    pub fn end(&mut self, clock: u32, ending: &Ending, log: &mut Log)
+    pub(crate) fn end(&mut self, clock: u32, ending: &Ending, log: &mut Log)
         requires may { MayEnd (is_mapped self.old.memory) (bus_view self.old) ending.now }
         requires served { 0 < length self.old.served.items }
         requires room { HasRoomFor self.old.agents.items log.old }

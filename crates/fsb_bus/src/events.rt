@@ -35,7 +35,7 @@ impl Bus {
     }
 
     /// This request begins at the clock.
-    pub fn start(&mut self, clock: u32, starting: &Starting)
+    pub(crate) fn start(&mut self, clock: u32, starting: &Starting)
         requires may { MayStart (bus_view self.old) clock starting.now }
         requires room { vec_len self.old.started < vec_capacity self.old.started }
         ensures view { bus_view self.new ≡ bus_started (bus_view self.old) clock starting.now }
@@ -78,7 +78,7 @@ impl Bus {
     }
 
     /// An address error cancels the request of this entry.
-    pub fn cancel(&mut self, entry: &Entry)
+    pub(crate) fn cancel(&mut self, entry: &Entry)
         requires { MayCancel (bus_view self.old) entry.now }
         ensures view { bus_view self.new ≡ bus_cancelled (bus_view self.old) entry.now }
         ensures rest { self.new
@@ -91,7 +91,7 @@ impl Bus {
     }
 
     /// A snoop end.
-    pub fn commit(&mut self, snooped: &Snooped)
+    pub(crate) fn commit(&mut self, snooped: &Snooped)
         requires few { length self.old.agents.items < 256 }
         requires may { MaySnoop (bus_view self.old) snooped.now }
         ensures view { bus_view self.new ≡ bus_snooped (bus_view self.old) snooped.now }
@@ -142,7 +142,7 @@ impl Bus {
     }
 
     /// The request whose response Deferred the clock is.
-    pub fn answered(&self, drive: &Drive) -> Option<Entry>
+    pub(crate) fn answered(&self, drive: &Drive) -> Option<Entry>
         ensures { result ≡ answered_by (bus_view self.now) drive.now }
     {
         match self.responding(drive) {
@@ -162,7 +162,7 @@ impl Bus {
     }
 
     /// The response Deferred to the request of this entry.
-    pub fn answer(&mut self, clock: u32, entry: &Entry)
+    pub(crate) fn answer(&mut self, clock: u32, entry: &Entry)
         ensures view { bus_view self.new ≡ bus_answered (bus_view self.old) clock entry.now }
         ensures rest { self.new ≡ record self.old { bridge = self.new.bridge } }
     {

@@ -17,6 +17,7 @@ mod deciding;
 mod ending;
 mod events;
 mod fetching;
+mod hearing;
 mod lines;
 mod locking;
 mod made;
