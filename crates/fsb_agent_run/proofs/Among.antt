@@ -1,5 +1,5 @@
 -- What stands in a list.
-use Rattle.std.proofs.Common.{ℕ, zero, suc, ◌≡◌, ◌⊎◌, Bool, true, false, not, ◌||◌, ◌&&◌, List, [], ◌∷◌, ◌++◌, map, slice_get, Option, Some, None, refl, sym, ap, subst, ◌∙◌, inl, inr}
+use Rattle.std.proofs.Common.{ℕ, zero, suc, ◌≡◌, ◌⊎◌, Bool, true, false, not, ◌||◌, ◌&&◌, cond, List, [], ◌∷◌, ◌++◌, map, slice_get, Option, Some, None, refl, sym, ap, subst, ◌∙◌, inl, inr}
 use Rattle.std.specs.List.{filter, find, list_all, list_any}
 use Rattle.std.proofs.lemmas.Bool.{and_from, and_parts, both_ways, cases_Bool, or_left, or_right}
 
@@ -109,16 +109,14 @@ among-found f x (y ∷ xs) h p = elim (cases_Bool (f y)) [
 -- two tests in a row
 pub filter-swap : {X : Type 0} (f g : X → Bool) (xs : List X) → filter f (filter g xs) ≡ filter g (filter f xs)
 filter-swap f g [] = refl
-filter-swap f g (x ∷ xs) = elim (cases_Bool (f x)) [
-  | inl t ↦ elim (cases_Bool (g x)) [
-    | inl u ↦ rw (t, u) (rw (t, u) (ap (λ ys. x ∷ ys) (filter-swap f g xs)))
-    | inr v ↦ rw (t, v) (rw (t, v) (filter-swap f g xs))
-  ]
-  | inr n ↦ elim (cases_Bool (g x)) [
-    | inl u ↦ rw (n, u) (rw (n, u) (filter-swap f g xs))
-    | inr v ↦ rw (n, v) (filter-swap f g xs)
-  ]
-]
+filter-swap f g (x ∷ xs) = by (f x) (g x) refl refl (filter-swap f g xs)
+  where
+    by : (b c : Bool) → f x ≡ b → g x ≡ c → filter f (filter g xs) ≡ filter g (filter f xs)
+        → filter f (cond c (x ∷ filter g xs) (filter g xs)) ≡ filter g (cond b (x ∷ filter f xs) (filter f xs))
+    by true true e d rest = rw (e, d) (ap (λ ys. x ∷ ys) rest)
+    by true false e d rest = rw d rest
+    by false true e d rest = rw e rest
+    by false false e d rest = rest
 
 -- tests that agree on a list keep the same of it
 pub filter-same : {X : Type 0} (f g : X → Bool) (xs : List X) → ((x : X) → Among x xs → f x ≡ g x)
@@ -140,10 +138,10 @@ filter-all f (x ∷ xs) h =
 
 pub filter-two : {X : Type 0} (f g : X → Bool) (xs : List X) → filter f (filter g xs) ≡ filter (λ x. g x && f x) xs
 filter-two f g [] = refl
-filter-two f g (x ∷ xs) = elim (cases_Bool (g x)) [
-  | inr v ↦ rw v (filter-two f g xs)
-  | inl u ↦ elim (cases_Bool (f x)) [
-    | inl t ↦ rw (u, t) (rw t (ap (λ ys. x ∷ ys) (filter-two f g xs)))
-    | inr n ↦ rw (u, n) (rw n (filter-two f g xs))
-  ]
-]
+filter-two f g (x ∷ xs) = by (g x) (filter-two f g xs)
+  where
+    by : (c : Bool) → filter f (filter g xs) ≡ filter (λ y. g y && f y) xs
+        → filter f (cond c (x ∷ filter g xs) (filter g xs))
+        ≡ cond (c && f x) (x ∷ filter (λ y. g y && f y) xs) (filter (λ y. g y && f y) xs)
+    by false rest = rest
+    by true rest = ap (λ ys. cond (f x) (x ∷ ys) ys) rest

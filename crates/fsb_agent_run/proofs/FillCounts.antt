@@ -1,5 +1,5 @@
 -- How many fills a line has when one is added, promised or ended.
-use Rattle.std.proofs.Common.{ℕ, ◌+◌, ◌≡◌, ◌≢◌, Bool, true, false, cond, not, Option, Some, None, List, [], ◌∷◌, ◌++◌, refl, sym, ap, ◌∙◌, inl, inr, arith, if◌then◌else◌}
+use Rattle.std.proofs.Common.{ℕ, ◌+◌, ◌≡◌, ◌≢◌, Bool, true, false, cond, not, Option, Some, None, List, [], ◌∷◌, ◌++◌, refl, sym, ap, ◌∙◌, inl, inr, arith, zero-add, if◌then◌else◌}
 use Rattle.std.specs.Prelude.{◌==◌, count_by, is_none}
 use Rattle.std.specs.List.{find}
 use Rattle.std.proofs.lemmas.Bool.{cases_Bool, eqb-true, ne_eqb}
@@ -49,7 +49,7 @@ count-without_other line other (f ∷ fills) apart =
       | inl on ↦
           let is : f.line ≡ other = eqb-true f.line other on in
           let off : (f.line == line) ≡ false = ne_eqb f.line line (λ e. apart (sym e ∙ is)) in
-          rw on (sym (count-here line f fills false off))
+          rw on (sym (count-here line f fills false off ∙ zero-add (count_on line fills)))
       | inr off ↦
           rw off
           (count-cons line f (fills_without other fills)
@@ -66,7 +66,9 @@ count-without_this line (f ∷ fills) one =
       | inl on ↦ rw on (omega (arith, one, count-here line f fills true on))
       | inr off ↦
           let rest : count_on line fills ≡ 1 = omega (arith, one, count-here line f fills false off) in
-          rw off (count-here line f (fills_without line fills) false off ∙ count-without_this line fills rest)
+          rw off
+          (count-here line f (fills_without line fills) false off ∙ zero-add (count_on line (fills_without line fills))
+          ∙ count-without_this line fills rest)
     ])
 
 -- none is found where there are none, and one where there is one

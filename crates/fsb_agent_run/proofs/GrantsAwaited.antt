@@ -7,15 +7,12 @@ use Rattle.fsb_count.specs.Clocks.{last_where}
 use Rattle.fsb_count.specs.Options.{is_some_and}
 use Rattle.fsb_count.proofs.Interface.{any_where-found}
 use Rattle.fsb_line.specs.declared.link.Link.{Link}
-use Rattle.fsb_line.specs.Line.{unheld}
-use Rattle.fsb_line.specs.LineRuns.{run}
 use Rattle.fsb_line.specs.Links.{is_linked}
 use Rattle.fsb_timely.specs.Past.{Claim, Grant, Past, SnoopEnd}
 use Rattle.fsb_timely.specs.Grants.{grant_at, is_end_at, is_ended, is_granted, latest_grant, snooped_at}
 use Rattle.fsb_timely.specs.Runs.{Run, past_of}
 use Rattle.fsb_timely.proofs.Interface.{last_where-found, last_where-from}
 use Rattle.fsb_coherent.specs.Awaits.{Awaited, awaited_by, awaited_by_grant}
-use Rattle.fsb_coherent.specs.LineEvents.{events_below}
 use Rattle.fsb_coherent.specs.Relation.{chain_below, link_for, link_left, links_left}
 use Rattle.fsb_coherent.proofs.Interface.{some-there}
 use Rattle.fsb_lawful.proofs.Interface.{and-then}
@@ -77,8 +74,6 @@ granted-unlinked r a line t h granted =
     let g = granted-parts p a line t granted in
     by g.0 g.1 g.2 g.3 g.4 g.5 g.0.claim refl
   where
-    x = run (unheld []) (events_below (past_of r) line t)
-
     by : (s : SnoopEnd) (grant : Grant) → snooped_at (past_of r) t ≡ Some s → s.grant ≡ Some grant → grant.agent ≡ a
         → grant.line ≡ line → (o : Option Claim) → s.claim ≡ o → is_linked a (chain_below (past_of r) line t) ≡ false
     by s grant there grants agent names (Some claim) claims =

@@ -185,11 +185,13 @@ hit-lines r a c number item v line h few view hit next there =
           let held = alone-parts p a c k.0 k.1 k.3 in
           let names : accessed_line k.0 ≡ line = k.2 in
           let arrived : has_arrived p a line c c ≡ true = subst (λ l. has_arrived p a l c c ≡ true) names held.2 in
+          let both : (has_arrived p a line c c && any_stored p a line c) ≡ true =
+          (λ i. arrived i && (logged ∙ on) i) in
           rw on
           (sole-told (holds_line p a line c) (is_exclusive p a line c) (is_dirty_below p a line c)
           (subst (λ l. holds_line p a l c ≡ true) names held.0) (subst (λ l. is_exclusive p a l c ≡ true) names held.1)
           ∙ ap (λ b. state_with b (state_told (holds_line p a line c) (is_exclusive p a line c) (is_dirty_below p a line c)))
-          (sym (rw (arrived, logged) on)))
+          (sym both))
     ])
     ∙ sym (hit-state p a line c hit)
 

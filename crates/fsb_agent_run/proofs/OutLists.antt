@@ -1,5 +1,5 @@
 -- The requests of a view, as its agent's run knows them: without one, and with one granted.
-use Rattle.std.proofs.Common.{ℕ, zero, suc, ◌+◌, ◌≡◌, ◌≢◌, ◌⊎◌, Bool, true, false, not, ◌&&◌, List, [], ◌∷◌, ◌++◌, map, slice_get, Option, Some, None, is_some, nat_eq, refl, sym, ap, subst, ◌∙◌, inl, inr}
+use Rattle.std.proofs.Common.{ℕ, zero, suc, ◌+◌, ◌≡◌, ◌≢◌, ◌⊎◌, Bool, true, false, cond, not, ◌&&◌, List, [], ◌∷◌, ◌++◌, map, slice_get, Option, Some, None, is_some, nat_eq, refl, sym, ap, subst, ◌∙◌, inl, inr}
 use Rattle.std.specs.Prelude.{◌==◌}
 use Rattle.std.specs.List.{filter, find, list_all}
 use Rattle.std.proofs.lemmas.Bool.{and_parts, both_ways, cases_Bool, eq-eqb, eqb-true, false_from_ne_true, ne_eqb}
@@ -77,7 +77,7 @@ pub among-without : (number : ℕ) (out : OwnRequest) (outs : List OwnRequest) �
     → Among out outs
 among-without number out [] k = absurd k
 among-without number out (x ∷ outs) k =
-    let k' : Among out (elim (is_numbered number x) [ true ↦ outs | false ↦ x ∷ requests_without number outs ]) =
+    let k' : Among out (cond (is_numbered number x) outs (x ∷ requests_without number outs)) =
     subst (Among out) (without_first-cons (is_numbered number) x outs) k in
     elim (cases_Bool (is_numbered number x)) [
       | inl on ↦ inr (rw on at k')

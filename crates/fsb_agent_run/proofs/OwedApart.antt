@@ -59,7 +59,7 @@ same-set-flip p x y e = eq-eqb (set_of p y) (set_of p x) (sym (eqb-true (set_of 
 -- the request that begins is apart from those that its agent owes
 begun-apart-from : (r : Run) (a n : ℕ) (y x : Owing) → Reaches r (n + 1) → owing_begun (past_of r) n ≡ Some y
     → y.claim.agent ≡ a → Among x (owed (past_of r) a n) → is_owing_apart (past_of r) x y ≡ true
-unfolding is_owing_apart is_asked_for is_id_used
+unfolding is_owing_apart is_asked_for is_id_used past_of
 begun-apart-from r a n y x h begun mine there =
     let p = past_of r in
     let long = h.long in
