@@ -21,3 +21,4 @@ pub mod OwedApart
 pub mod GrantsAwaited
 pub mod OutLists
 pub mod WonSteps
+pub mod SentViews

@@ -122,7 +122,7 @@ mapped : (f : Owing → Claim) (o : Option Owing) (claim : Claim) → option_map
 mapped f None claim e = absurd (let no : ⊥ = cc in no)
 mapped f (Some owing) claim e = (owing, refl, (let same : f owing ≡ claim = cc in same))
 
-begun-parts : (p : Past) (q : ℕ) (claim : Claim) → begun_at p q ≡ Some claim
+pub begun-parts : (p : Past) (q : ℕ) (claim : Claim) → begun_at p q ≡ Some claim
     → (owing : Owing) × (owing_begun p q ≡ Some owing) × (owing.claim ≡ claim)
 unfolding begun_at owing_begun
 begun-parts p q claim e = mapped (λ (owing : Owing). owing.claim) (owing_begun p q) claim e
