@@ -22,3 +22,4 @@ pub mod GrantsAwaited
 pub mod OutLists
 pub mod WonSteps
 pub mod SentViews
+pub mod SnoopSteps

@@ -121,14 +121,14 @@ uncounted x m hit e = rw e (none x m)
     none false false = refl
 
 -- with a hit the stores of the clock count, and without one they do not
-since-hit : (p : Past) (a line c q : ℕ) → is_hit p a c ≡ true
+pub since-hit : (p : Past) (a line c q : ℕ) → is_hit p a c ≡ true
     → is_stored_since p a line c q ≡ is_stored_below p a line (c + 1) q
 unfolding is_stored_since is_stored_below is_counted
 since-hit p a line c q hit =
     any-alike _ _ p.log (λ done. ap (λ b. (is_store_on a line done && is_ended p done.clock q) && b)
     (counted (nat_lt done.clock c) (nat_eq done.clock c) (is_hit p a c) hit ∙ sym (nat_lt-more done.clock c)))
 
-since-none : (p : Past) (a line c q : ℕ) → is_hit p a c ≡ false
+pub since-none : (p : Past) (a line c q : ℕ) → is_hit p a c ≡ false
     → is_stored_since p a line c q ≡ is_stored_below p a line c q
 unfolding is_stored_since is_stored_below is_counted
 since-none p a line c q none =
