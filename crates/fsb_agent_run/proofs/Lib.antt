@@ -23,3 +23,4 @@ pub mod OutLists
 pub mod WonSteps
 pub mod SentViews
 pub mod SnoopSteps
+pub mod OwnSnoops
