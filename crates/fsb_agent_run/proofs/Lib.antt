@@ -24,3 +24,4 @@ pub mod WonSteps
 pub mod SentViews
 pub mod SnoopSteps
 pub mod OwnSnoops
+pub mod OtherSnoops

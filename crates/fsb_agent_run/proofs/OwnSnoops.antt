@@ -187,12 +187,12 @@ own-kept p a line c s claim kind there claims is mine plain =
     (λ i. own-written p a line c s claim kind there claims is mine i || own-taken p a line c s claim there claims mine i)
     ∙ never-both (nat_eq claim.line line) (is_write_back_kind kind) plain
 
-grant-of-snoop : (p : Past) (c : ℕ) (s : SnoopEnd) → snooped_at p c ≡ Some s → grant_at p c ≡ s.grant
+pub grant-of-snoop : (p : Past) (c : ℕ) (s : SnoopEnd) → snooped_at p c ≡ Some s → grant_at p c ≡ s.grant
 unfolding grant_at
 grant-of-snoop p c s there = ap (option_and_then (λ (x : SnoopEnd). x.grant)) there
 
 -- the requests of the view where one is granted
-own-won : (r : Run) (a c number : ℕ) (kept : Option (List ℕ)) (v : AgentView) (after : OwnRequest)
+pub own-won : (r : Run) (a c number : ℕ) (kept : Option (List ℕ)) (v : AgentView) (after : OwnRequest)
     → HasRequestsOf (past_of r) a c (owed_through (past_of r) a c) v
     → is_some kept ≡ is_won_below (past_of r) (c + 1) number
     → ((out : OwnRequest) → Among out v.outs → out.number ≢ number
