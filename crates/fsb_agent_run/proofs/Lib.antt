@@ -25,3 +25,4 @@ pub mod SentViews
 pub mod SnoopSteps
 pub mod OwnSnoops
 pub mod OtherSnoops
+pub mod EndFacts
