@@ -125,7 +125,7 @@ unfolding number_left number_replied
 replied-left p a c s grant none makes mine = rw (none, makes, eq-eqb grant.agent a mine, number_left) refl
 
 -- an agent's request on a line has a number
-asked-there : (p : Past) (a c line : ℕ) (owing : Owing) → Among owing (owed p a c) → owing.claim.line ≡ line
+pub asked-there : (p : Past) (a c line : ℕ) (owing : Owing) → Among owing (owed p a c) → owing.claim.line ≡ line
     → (number : ℕ) × (number_asked p a c line ≡ Some number)
 unfolding number_asked
 asked-there p a c line owing there on =
@@ -144,7 +144,7 @@ pub record IsLast (r : Run) (a c number : ℕ) : Type 0 where
   pub owns : owing.claim ≡ claim
   pub first : owing.claim.first ≡ number
 
-last-is : (r : Run) (a c q : ℕ) (claim : Claim) → Reaches r (c + 1) → begun_at (past_of r) q ≡ Some claim → claim.agent ≡ a
+pub last-is : (r : Run) (a c q : ℕ) (claim : Claim) → Reaches r (c + 1) → begun_at (past_of r) q ≡ Some claim → claim.agent ≡ a
     → q + 4 ≤ c → is_last_clock r.trace c q ≡ true → IsLast r a c q
 last-is r a c q claim h begun mine early last =
     let p = past_of r in
@@ -364,7 +364,7 @@ owns-told kinds.Read = refl
 owns-told kinds.WriteBack = refl
 owns-told kinds.Upgrade = refl
 
-made-by : (b : Bool) (mine grant : Grant) → (if b then Some mine else None) ≡ Some grant → mine ≡ grant
+pub made-by : (b : Bool) (mine grant : Grant) → (if b then Some mine else None) ≡ Some grant → mine ≡ grant
 made-by true mine grant e = (let same : mine ≡ grant = cc in same)
 made-by false mine grant e = absurd (let no : ⊥ = cc in no)
 
@@ -418,7 +418,7 @@ ended-grant r a c number s grant v h ends makes requests k =
     ]
 
 -- a grant is made at one clock, and its first clock is that of its snoop end
-grant-there : (p : Past) (t : ℕ) (grant : Grant) → grant_at p t ≡ Some grant
+pub grant-there : (p : Past) (t : ℕ) (grant : Grant) → grant_at p t ≡ Some grant
     → (s : SnoopEnd) × (snooped_at p t ≡ Some s) × (s.grant ≡ Some grant)
 unfolding grant_at
 grant-there p t grant e =

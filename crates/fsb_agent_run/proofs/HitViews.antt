@@ -93,11 +93,11 @@ hit-needs p a c item e there =
     (is_some_and (next_item p a c) (λ item. list_all (is_served p a c) (needs_of item))) e in
     rw there at parts.1
 
-sole-told : (held own dirty : Bool) → held ≡ true → own ≡ true → Modified ≡ state_with true (state_told held own dirty)
+pub sole-told : (held own dirty : Bool) → held ≡ true → own ≡ true → Modified ≡ state_with true (state_told held own dirty)
 sole-told held own true h o = rw (h, o) refl
 sole-told held own false h o = rw (h, o) refl
 
-never-with : (b : Bool) (state : Mesi) → b ≡ false → state ≡ state_with b state
+pub never-with : (b : Bool) (state : Mesi) → b ≡ false → state ≡ state_with b state
 never-with b state e = rw e (by state)
   where
     by : (state : Mesi) → state ≡ state_with false state
@@ -106,7 +106,7 @@ never-with b state e = rw e (by state)
     by Exclusive = refl
     by Modified = refl
 
-nothing : (b : Bool) → (b && false) ≡ false
+pub nothing : (b : Bool) → (b && false) ≡ false
 nothing true = refl
 nothing false = refl
 

@@ -26,3 +26,4 @@ pub mod SnoopSteps
 pub mod OwnSnoops
 pub mod OtherSnoops
 pub mod EndFacts
+pub mod EndViews
