@@ -27,3 +27,4 @@ pub mod OwnSnoops
 pub mod OtherSnoops
 pub mod EndFacts
 pub mod EndViews
+pub mod ArrivedViews
