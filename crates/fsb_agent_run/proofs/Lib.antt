@@ -28,3 +28,4 @@ pub mod OtherSnoops
 pub mod EndFacts
 pub mod EndViews
 pub mod ArrivedViews
+pub mod EndEvents
