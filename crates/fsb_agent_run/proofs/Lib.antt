@@ -29,3 +29,4 @@ pub mod EndFacts
 pub mod EndViews
 pub mod ArrivedViews
 pub mod EndEvents
+pub mod ClockEvents

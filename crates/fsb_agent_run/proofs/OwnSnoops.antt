@@ -350,6 +350,15 @@ getting-view r a c s claim out shared outcome v h some there claims mine k e g r
     ∙ sym (state-by r c s claim k))
     view
 
+pub getting-makes : (r : Run) (c : ℕ) (s : SnoopEnd) (claim : Claim) (k : IsSettledAs r c s claim) (outcome : Outcome)
+    → s.outcome ≡ outcome → IsGetting k.request.kind outcome → (grant : Grant) × (s.grant ≡ Some grant)
+unfolding grant-by
+getting-makes r c s claim k outcome e g =
+    let grant = grant-by r c s claim k in
+    (grant, k.granted
+    ∙ ap (λ b. if b || (is_upgraded s.outcome && holds_line (past_of r) claim.agent claim.line c) then Some grant else None)
+    (ap (makes_grant k.request.kind) e ∙ g.makes))
+
 -- where nothing is made of it the view stays
 idle-view : (r : Run) (a c : ℕ) (s : SnoopEnd) (claim : Claim) (v : AgentView) → Reaches r (c + 1)
     → snooped_at (past_of r) c ≡ Some s → s.claim ≡ Some claim → claim.agent ≡ a → (k : IsSettledAs r c s claim)
