@@ -37,10 +37,10 @@ use Rattle.fsb_agent_run.proofs.OwnSnoops.{IsSettledAs, getting-granted, getting
 use Rattle.fsb_agent_run.proofs.SentViews.{cancelled-view, sent-view, uncancelled-view, unsent-view}
 
 -- the agent after some events
-abbrev after : AgentView → List AgentEvent → AgentView
+abbrev pub after : AgentView → List AgentEvent → AgentView
 after v events = fold agent_after v events
 
-handed-all : (p : Past) (a c : ℕ) (v : AgentView) → IsViewOf p a c v → IsViewOf p a c (after v (handed_events p a c))
+pub handed-all : (p : Past) (a c : ℕ) (v : AgentView) → IsViewOf p a c v → IsViewOf p a c (after v (handed_events p a c))
 unfolding handed_events
 handed-all p a c v view = by (responded_in p c)
   where
@@ -53,7 +53,7 @@ handed-all p a c v view = by (responded_in p c)
     by None = view
     by (Some q) = one q (is_at (giver_of p c q) a)
 
-sent-all : (r : Run) (a c : ℕ) (v : AgentView) → Reaches r (c + 1) → IsViewAfterHit (past_of r) a c v
+pub sent-all : (r : Run) (a c : ℕ) (v : AgentView) → Reaches r (c + 1) → IsViewAfterHit (past_of r) a c v
     → IsViewAfterSent (past_of r) a c (after v (sent_events (past_of r) a c))
 unfolding sent_events
 sent-all r a c v h view = by (begun_at (past_of r) c) refl
@@ -72,7 +72,7 @@ sent-all r a c v h view = by (begun_at (past_of r) c) refl
     by None e = unsent-view (past_of r) a c v (λ other f. absurd (let no : ⊥ = cc in no)) view
     by (Some claim) e = one claim e (nat_eq claim.agent a) refl
 
-cancelled-all : (r : Run) (a c : ℕ) (v : AgentView) → Reaches r (c + 1) → IsViewAfterSent (past_of r) a c v
+pub cancelled-all : (r : Run) (a c : ℕ) (v : AgentView) → Reaches r (c + 1) → IsViewAfterSent (past_of r) a c v
     → IsViewBeforeSnoop (past_of r) a c (after v (cancelled_events (past_of r) a c))
 unfolding cancelled_events given_up_events
 cancelled-all r a c v h view = by (cancelled_in (past_of r) c) refl
@@ -141,7 +141,7 @@ asked-wants r b c line number h asked =
           (subst (λ q. want_of p k.0.claim.agent q ≡ Some want.request) first want.want),
     )
 
-snooped-all : (r : Run) (a c : ℕ) (v : AgentView) → Reaches r (c + 1) → 0 < r.plan.cache
+pub snooped-all : (r : Run) (a c : ℕ) (v : AgentView) → Reaches r (c + 1) → 0 < r.plan.cache
     → IsViewBeforeSnoop (past_of r) a c v → IsViewAfterSnoop (past_of r) a c
     (after v (option_map_or (snoop_events_of (past_of r) a c) (snooped_at (past_of r) c) []))
 snooped-all r a c v h some view = by (snooped_at (past_of r) c) refl
@@ -350,7 +350,7 @@ own-end-all r a c q bytes s claim v h some few one snooped claims mine view = by
         ∙ deferred-left (past_of r) a c s claim claims mine (ap is_deferral e)) view
 
 -- what ends at the clock, for the agent
-ended-all : (r : Run) (a c : ℕ) (bytes : ℕ → List ℕ) (v : AgentView) → Reaches r (c + 1) → 0 < r.plan.cache → a < 4
+pub ended-all : (r : Run) (a c : ℕ) (bytes : ℕ → List ℕ) (v : AgentView) → Reaches r (c + 1) → 0 < r.plan.cache → a < 4
     → IsViewAfterSnoop (past_of r) a c v
     → IsViewOf (past_of r) a (c + 1) (after v (flat_map (end_events_of (past_of r) a c bytes) (ended_requests (past_of r) c)))
 ended-all r a c bytes v h some few view = by (ended_requests (past_of r) c) refl
