@@ -10,7 +10,9 @@ pub mod Counts
 pub mod Readings
 pub mod LaneRuns
 pub mod Absorbing
+pub mod BinaryDigits
 pub mod DirectTokens
+pub mod DirectVectors
 pub mod Law
 pub mod Standings
 pub mod Endings
