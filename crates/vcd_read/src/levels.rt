@@ -286,6 +286,19 @@ impl Values {
         }
     }
 
+    /// Gives a line one digit.
+    #[tactic(auto, unfolding(vcd_grammar::specs::Digits::extended))]
+    pub(crate) fn set_digit(&mut self, number: u8, digit: u8)
+        ensures { self.new ≡ with_line self.old number (digit ∷ []) }
+    {
+        if number == 0 {
+            self.levels[0] = level_of_digit(digit);
+            self.clock = digit;
+        } else {
+            self.set_line(number, &[digit]);
+        }
+    }
+
     /// Gives a line what digits say of it.
     pub(crate) fn set_level(&mut self, number: u8, level: Level)
         requires { number < 22 }

@@ -421,7 +421,7 @@ impl Machine {
             return;
         }
         if let Some(number) = self.codes.single(code) {
-            self.block.set_line(number, &[digit]);
+            self.block.set_digit(number, digit);
             return;
         }
         match self.codes.lines(code) {
@@ -435,7 +435,7 @@ impl Machine {
         ensures { taken self.new ≡ turned (taken self.old)
             (scalar_turn (known_of self.old) 0 digit (Some (number ∷ []))) }
     {
-        self.block.set_line(number, &[digit]);
+        self.block.set_digit(number, digit);
     }
 
     /// What digits for a line say of it.

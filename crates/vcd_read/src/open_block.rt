@@ -58,6 +58,16 @@ impl OpenBlock {
         }
     }
 
+    /// Gives a line one digit.
+    pub(crate) fn set_digit(&mut self, number: u8, digit: u8)
+        ensures { self.new ≡ changed_line self.old number (digit ∷ []) }
+    {
+        self.values.set_digit(number, digit);
+        if number != 0 {
+            self.changed = true;
+        }
+    }
+
     /// Gives a line what digits say of it.
     pub(crate) fn set_level(&mut self, number: u8, level: Level)
         requires { number < 22 }
