@@ -2,6 +2,7 @@ pub mod Samples
 pub mod Numbers
 pub mod Bits
 pub mod Widths
+pub mod CodeKeys
 pub mod CodeTables
 pub mod Quiet
 pub mod Entries
