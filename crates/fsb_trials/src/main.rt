@@ -1,7 +1,8 @@
 //! Waveforms, judged twice: by the checker, sample by sample, and by the plain judge of whole traces.
 //!
-//! `fsb_trials <seed> <count> <dump>..` makes so many random waveforms from the seed, and reads the dumps, whole and in pieces of
-//! 1, 7, 113 and 65,536 bytes, which must say the same (else it prints `not read`); of each dump it
+//! `fsb_trials <seed> <count> <dump>..` makes so many random waveforms from the seed, and reads the
+//! dumps, whole and in pieces of 1, 7, 113 and 65,536 bytes, which must say the same, or else it
+//! prints `not read`; of each dump it
 //! also takes every waveform in which one control line is turned over at one clock: a parity line only where the dump
 //! declares one. The random ones have parity lines, and are judged by marks that are drawn. Of the random ones and then of those of
 //! the dumps it prints how many were judged, how many were accepted and how many broke each rule first, and how many were
@@ -100,8 +101,8 @@ fn random(alloc: Global, asked: Asked, tally: &mut Tally) -> Result<(), AllocErr
     Ok(())
 }
 
-/// Judges the waveform of a dump, and each in which one line is turned over at one clock; None where it is not read, or says
-/// something else in pieces than whole.
+/// Judges the waveform of a dump, and each in which one line is turned over at one clock; None
+/// where it is not read, or says something else in pieces than whole.
 fn dump(rt: &(impl Files + AllocGlobal), name: &str, tally: &mut Tally) -> Option<()> {
     if name.len() > 4_096 {
         return None;

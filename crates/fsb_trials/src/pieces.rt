@@ -7,7 +7,8 @@ use vcd_read::{Reader, VcdStop};
 /// How many bytes the pieces have, in which each dump is read again.
 const SIZES: [usize; 4] = [1, 7, 113, 65_536];
 
-/// What a text says that is fed in pieces of so many bytes, but at least one: its marks, if they are told, and its samples.
+/// What a text says that is fed in pieces of so many bytes, but at least one: its marks, if they
+/// are told, and its samples.
 fn read_in_pieces(
     alloc: Global,
     bytes: &[u8],

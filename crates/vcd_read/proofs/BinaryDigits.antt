@@ -135,7 +135,8 @@ widened (suc p) q z h k =
     let more : suc p * q ≡ p * q + q = grind arith in
     rw (one, more) (omega (arith, k))
 
-pub binary_level : (width count low ones some : ℕ) (digits : List ℕ) → count ≤ width → length digits ≡ count → list_all is_binary digits ≡ true → bits_from is_low 0 digits ≡ low
+pub binary_level : (width count low ones some : ℕ) (digits : List ℕ) → count ≤ width → length digits ≡ count → list_all is_binary digits ≡ true
+    → bits_from is_low 0 digits ≡ low
     → ones ≡ 2 ^ width - 1 → some ≡ 2 ^ count - 1 → record { asserted = ones - some + low; unknown = 0 } ≡ level_of (extended width digits)
 unfolding level_of extended
 binary_level width count low ones some digits fits long binary value ones_are some_are =

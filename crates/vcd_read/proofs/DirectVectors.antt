@@ -36,13 +36,15 @@ vector_says : (digits : List ℕ) → 0 < length digits → length digits ≤ 64
 unfolding value_word
 vector_says digits some few are = rw (not_empty digits some, are, take_all 65 digits (omega (arith, few))) refl
 
-digits_turn : (k : Known) (at : ℕ) (digits : List ℕ) → k.fault ≡ None → k.mode ≡ Values → 0 < length digits → length digits ≤ 64 → list_all is_value_digit digits ≡ true
+digits_turn : (k : Known) (at : ℕ) (digits : List ℕ) → k.fault ≡ None → k.mode ≡ Values → 0 < length digits → length digits ≤ 64
+    → list_all is_value_digit digits ≡ true
     → turn k (token_of at (98 ∷ digits)) ≡ goes_to k (Pending at digits)
 digits_turn k at digits sound values some few are =
     turn_between k (token_of at (98 ∷ digits)) sound values (omega (arith, few)) ∙ ap (value_turn k at) (vector_says digits some few are)
 
 -- the code behind them
-code_turn : (k : Known) (at from c number : ℕ) (digits : List ℕ) → k.fault ≡ None → k.mode ≡ Pending from digits → lines_of k.codes (c ∷ []) ≡ Some (number ∷ []) → length digits ≤ width_of number
+code_turn : (k : Known) (at from c number : ℕ) (digits : List ℕ) → k.fault ≡ None → k.mode ≡ Pending from digits
+    → lines_of k.codes (c ∷ []) ≡ Some (number ∷ []) → length digits ≤ width_of number
     → turn k (token_of at (c ∷ [])) ≡ line_changed (record k { mode = Values }) number digits
 unfolding turn
 code_turn k at from c number digits sound pending line fits = rw (sound, pending, line, le-ltb (width_of number) (length digits) fits) refl
@@ -78,7 +80,8 @@ module _ (r : Reading) (bytes : List ℕ) (v : DirectVector) (ready : AwaitsToke
   code_dark : list_all is_dark (v.code ∷ []) ≡ true
   code_dark = rw b.code refl
 
-  pub vector_taken : (now : Taken) → now ≡ turned r.taken (line_changed r.taken.known v.number b.digits) → record { taken = now; at = r.at + (v.count + 4); run = r.run } ≡ after_bytes r (take (v.count + 4) bytes)
+  pub vector_taken : (now : Taken) → now ≡ turned r.taken (line_changed r.taken.known v.number b.digits)
+      → record { taken = now; at = r.at + (v.count + 4); run = r.run } ≡ after_bytes r (take (v.count + 4) bytes)
   vector_taken now h =
       let is_now : now ≡ turned between.taken (turn between.taken.known (token_of between.at (v.code ∷ []))) =
       h ∙ (λ i. turned r.taken (line_changed (record r.taken.known { mode = ready.values i }) v.number b.digits)) ∙ ap (turned between.taken) (sym second_turn) in
@@ -109,7 +112,8 @@ tail_split (suc n) (x ∷ xs) h =
     let two : suc n + 2 ≡ suc (n + 2) = omega arith in
     rw (three, one, two) (ap (λ l. x ∷ l) (tail_split n xs (omega (arith, h))))
 
-pub vector_begins : (codes : List Code) (bytes : List ℕ) (count low code number : ℕ) (level : Level) → 68 ≤ length bytes → slice_index bytes 0 ≡ 98 → BeginsWithBinary (drop 1 bytes) count low → (count ≡ 0 → ⊥)
+pub vector_begins : (codes : List Code) (bytes : List ℕ) (count low code number : ℕ) (level : Level) → 68 ≤ length bytes → slice_index bytes 0 ≡ 98
+    → BeginsWithBinary (drop 1 bytes) count low → (count ≡ 0 → ⊥)
     → is_white (slice_index bytes (count + 1)) ≡ true → code ≡ slice_index bytes (count + 2) → is_white code ≡ false → is_white (slice_index bytes (count + 3)) ≡ true
     → lines_of codes (code ∷ []) ≡ Some (number ∷ []) → (number ≡ 0 → ⊥) → number < 22 → count ≤ width_of number
     → ((digits : List ℕ) → length digits ≡ count → list_all is_binary digits ≡ true → bits_from is_low 0 digits ≡ low → level ≡ level_of (extended (width_of number) digits))

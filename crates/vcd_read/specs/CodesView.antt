@@ -15,21 +15,26 @@ abbrev pub unpacked : ℕ → ℕ → List ℕ
 unpacked zero key = []
 unpacked (suc n) key = if key == 1 then [] else (key % 256) ∷ unpacked n (key / 256)
 
--- the key of a code in a map: the number of a code of seven bytes at most, and 2^63 and the place of another among the long ones
+-- the key of a code in a map: the number of a code of seven bytes at most, and 2^63 and the place of another among the
+-- long ones
 abbrev pub key_of : {A : Type 0} → List (Vec ℕ A) → List ℕ → Option ℕ
-key_of long code = if nat_le (length code) 7 then Some (packed code) else option_map (λ i. 2 ^ 63 + i) (position (λ v. same code v.items) long)
+key_of long code =
+    if nat_le (length code) 7 then Some (packed code)
+    else option_map (λ i. 2 ^ 63 + i) (position (λ v. same code v.items) long)
 
 -- the code that a key stands for
-abbrev pub code_of : {A : Type 0} → List (Vec ℕ A) → ℕ → List ℕ
-code_of long key = if nat_lt key (2 ^ 63) then unpacked 7 key else option_map_or (λ v. v.items) (slice_get long (key - 2 ^ 63)) []
+abbrev pub coded_by : {A : Type 0} → List (Vec ℕ A) → ℕ → List ℕ
+coded_by long key =
+    if nat_lt key (2 ^ 63) then unpacked 7 key
+    else option_map_or (λ v. v.items) (slice_get long (key - 2 ^ 63)) []
 
 -- a number is the key of the code that it stands for
 abbrev pub is_key : {A : Type 0} → List (Vec ℕ A) → ℕ → Bool
-is_key long key = option_map_or (λ k. k == key) (key_of long (code_of long key)) false
+is_key long key = option_map_or (λ k. k == key) (key_of long (coded_by long key)) false
 
 -- the codes of a map's entries
 abbrev pub codes_of : {A : Type 0} → List (Vec ℕ A) → List (ℕ × Vec ℕ A) → List Code
-codes_of long entries = map (λ e. record { code = code_of long e.0; lines = e.1.items }) entries
+codes_of long entries = map (λ e. record { code = coded_by long e.0; lines = e.1.items }) entries
 
 -- each key of a map is one
 abbrev pub are_keys : {A : Type 0} → List (Vec ℕ A) → List (ℕ × Vec ℕ A) → Bool
@@ -40,7 +45,8 @@ pub record Agree (single : List (Option ℕ)) (codes : List Code) : Type 0 where
   pub tells : (byte number : ℕ) → slice_get single byte ≡ Some (Some number) → lines_of codes (byte ∷ []) ≡ Some (number ∷ [])
 
 -- what the tables of the declared codes keep: the one of the codes of one byte tells what is so, and each key is one
-pub record CodesKept {A : Type 0} (single : List (Option ℕ)) (long : List (Vec ℕ A)) (entries : List (ℕ × Vec ℕ A)) : Type 0 where
+pub record CodesKept {A : Type 0} (single : List (Option ℕ)) (long : List (Vec ℕ A)) (entries : List (ℕ × Vec ℕ A))
+    : Type 0 where
   pub agree : Agree single (codes_of long entries)
   pub keys : are_keys long entries ≡ true
 

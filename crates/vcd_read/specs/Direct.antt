@@ -47,8 +47,8 @@ pub record BeginsWithStamp (bytes : List ℕ) (len time : ℕ) : Type 0 where
   pub white : is_white (slice_index bytes len) ≡ true
   pub says : value_word (take len bytes) ≡ Stamp time
 
--- the bytes begin with a vector of digits 0 and 1, which says this level of one line alone, not the clock's, whose code is one byte;
--- white space stands behind either
+-- the bytes begin with a vector of digits 0 and 1, which says this level of one line alone, not the clock's, whose code
+-- is one byte; white space stands behind either
 pub record BeginsWithVector (codes : List Code) (bytes : List ℕ) (v : DirectVector) : Type 0 where
   pub digits : List ℕ
   pub white : ℕ

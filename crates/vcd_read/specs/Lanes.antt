@@ -18,7 +18,8 @@ pub record IsRunOf (test : ℕ → Bool) (bytes : List ℕ) (at run : ℕ) : Typ
   pub passes : (k : ℕ) → at ≤ k → k < at + run → test (slice_index bytes k) ≡ true
   pub stops : run < 16 → test (slice_index bytes (at + run)) ≡ false
 
--- the text begins with so many digits 0 and 1, 64 at most, and this number has a bit for each that is 0, the first one's the highest
+-- the text begins with so many digits 0 and 1, 64 at most, and this number has a bit for each that is 0, the first
+-- one's the highest
 pub record BeginsWithBinary (text : List ℕ) (count low : ℕ) : Type 0 where
   pub few : count ≤ 64
   pub digits : list_all is_binary (take count text) ≡ true

@@ -31,7 +31,8 @@ decided_of s t = decided_in s.lines t.events
 
 -- a line has got some digits
 abbrev pub line_changed : Known → ℕ → List ℕ → TokenTurn
-line_changed k number digits = record { known = k; events = Changed (record { lines = number ∷ []; digits = digits }) ∷ [] }
+line_changed k number digits =
+    record { known = k; events = Changed (record { lines = number ∷ []; digits = digits }) ∷ [] }
 
 -- what a token makes of it
 abbrev pub take_token : Taken → Token → Taken

@@ -1,5 +1,5 @@
-//! What is taken at once: changes of a line whose code is one byte, if all digits of a vector are 0 or 1, and time stamps of
-//! few digits.
+//! What is taken at once: changes of a line whose code is one byte, if all digits of a vector are 0
+//! or 1, and time stamps of few digits.
 
 ghost use Rattle.std.specs.Prelude.{◌≡◌, ◌<◌, ◌≤◌, ◌+◌, ◌^◌, ◌++◌, ℕ, [], ◌∷◌, take, length, List, true, false, Some, IfSome, OnOk, OnErr};
 ghost use Rattle.std.specs.List.{list_all};

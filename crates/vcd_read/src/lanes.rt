@@ -34,7 +34,8 @@ pub(crate) fn dark_run(bytes: &[u8], at: usize) -> usize
     first_set(stops.to_bitmask())
 }
 
-/// The sixteen bytes from a place on as a number, with a bit for each that is 0, the first byte's the highest.
+/// The sixteen bytes from a place on as a number, with a bit for each that is 0, the first byte's
+/// the highest.
 #[inline(always)]
 pub(crate) fn zeros_at(bytes: &[u8], at: usize) -> u64
     requires { at + 16 ≤ length bytes.now }
@@ -55,8 +56,8 @@ pub(crate) fn binary_run(bytes: &[u8], at: usize) -> usize
     first_set(stops.to_bitmask())
 }
 
-/// How many digits 0 and 1 a text begins with, 64 at most, and as a number with a bit for each that is 0, the first one's the
-/// highest.
+/// How many digits 0 and 1 a text begins with, 64 at most, and as a number with a bit for each that
+/// is 0, the first one's the highest.
 #[inline(always)]
 pub(crate) fn binary_before(text: &[u8]) -> (usize, u64)
     requires { 64 ≤ length text.now }

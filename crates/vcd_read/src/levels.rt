@@ -103,7 +103,8 @@ pub(crate) fn width_at(number: u8) -> u8
     signal_at(number).width
 }
 
-/// What so many digits 0 and 1 say, once they are extended to a width; with a bit for each that is 0.
+/// What so many digits 0 and 1 say, once they are extended to a width; with a bit for each that is
+/// 0.
 #[inline(always)]
 pub(crate) fn level_of_binary(width: u8, count: usize, zeros: u64) -> Level
     requires within { width ≤ 64 }

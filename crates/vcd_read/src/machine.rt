@@ -443,7 +443,8 @@ impl Machine {
         requires { number < 22 }
         ensures { (digits : List ℕ) → 0 < number →
             level ≡ level_of (extended (width_of number) digits) →
-            taken self.new ≡ turned (taken self.old) (line_changed (known_of self.old) number digits) }
+            taken self.new
+            ≡ turned (taken self.old) (line_changed (known_of self.old) number digits) }
     {
         self.block.set_level(number, level);
     }
