@@ -1,10 +1,9 @@
 //! Laws over the deferrals of a timely run: no code.
 
-ghost use Rattle.std.specs.Prelude.{◌≡◌, ◌<◌, ◌≤◌, ◌+◌, ℕ, List, [], None, Some, true, is_some, length, take};
+ghost use Rattle.std.specs.Prelude.{◌≡◌, ◌<◌, ◌≤◌, ◌+◌, ℕ, List, [], None, Some, true, false, is_some, if◌then◌else◌, length, take};
 ghost use Rattle.std.specs.Option.{option_map, option_map_or};
 ghost use Rattle.fsb_encode.specs.declared.request.Request.{Request};
 ghost use Rattle.fsb_hazard.specs.Choice.{effective};
-ghost use Rattle.fsb_signal.specs.declared.lines.TheConstants.Lines.{ADS};
 ghost use Rattle.fsb_trace.specs.declared.who.Who.TheVariants.{Priority};
 ghost use Rattle.fsb_trace.specs.At.{request_at};
 ghost use Rattle.fsb_trace.specs.Deferral.{is_pending};
@@ -76,7 +75,8 @@ pub fn pending_lines_are_those_of_the_list()
 {}
 
 /// The least request that is due at a clock is that of the list's first due deferral; so the
-/// priority agent would begin the reply to that one, and where it begins a request, it begins this.
+/// priority agent would begin the reply to that one; and a reply begins exactly where it begins a
+/// request, and is this.
 pub fn due_replies_are_those_of_the_list()
     ensures number { (r : Run) (n : ℕ) (list : List Waiting) → Reaches r (n + 1) →
         FindsDeferrals list r n → IsThatOf (run_to r n).trace (due_deferral n list)
@@ -89,8 +89,9 @@ pub fn due_replies_are_those_of_the_list()
         would_begin (run_to r n) (past_to (past_of r) n) n Priority
         ≡ option_map (λ deferral. reply_to deferral.request) (due_deferral n list) }
     ensures begun { (r : Run) (n : ℕ) (list : List Waiting) → Reaches r (n + 2) →
-        FindsDeferrals list r n → begins_at r.trace n Priority ≡ true → reply_at r.trace n
-        ≡ option_map (λ deferral. reply_to deferral.request) (due_deferral n list) }
+        FindsDeferrals list r n → reply_at r.trace n
+        ≡ (if begins_at r.trace n Priority
+        then option_map (λ deferral. reply_to deferral.request) (due_deferral n list) else None) }
 {}
 
 /// A reply has its snoop end for the deferral that its ID has in the list, and HIT# there is what it
