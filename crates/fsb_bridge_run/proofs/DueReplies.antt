@@ -57,7 +57,7 @@ due-by : (r : Run) (q : ℕ) (who : Who) (request : Request) → r.plan.ahead �
     → would_begin (run_to r q) (past_to (past_of r) q) q who ≡ Some request → is_reply (Some request) ≡ true
     → (x : Request) × (option_and_then (live_request_of (run_to r q).trace)
     (due_number (run_to r q) (past_to (past_of r) q) q) ≡ Some x) × (reply_to x ≡ request)
-unfolding would_begin
+unfolding would_begin past_to past_of
 due-by r q (Symmetric a) request few e reply =
     let own = want-own (past_to (past_of r) q) a q request few e in
     absurd (both_ways (is_reply_kind request.kind) own.0 (sym (is_reply-some request) ∙ reply))

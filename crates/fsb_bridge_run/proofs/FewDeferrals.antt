@@ -27,13 +27,10 @@ count-but : (p t : ℕ → Bool) (n : ℕ)
     → count_where p n ≤ count_where (λ i. p i && not (t i)) n + 1
 unfolding count_where
 count-but p t zero one = omega arith
-count-but p t (suc n) one = by (p n) (t n) refl refl
+count-but p t (suc n) one = by (p n) (t n) refl refl (count-but p t n one)
   where
     q : ℕ → Bool
     q i = p i && not (t i)
-
-    upto : count_where p n ≤ count_where q n + 1
-    upto = count-but p t n one
 
     fails : (b : Bool) → t n ≡ true → p n ≡ true → (k : ℕ) → k < n → p k ≡ b → p k ≡ q k
     fails false at here k less e = rw e refl
@@ -41,13 +38,14 @@ count-but p t (suc n) one = by (p n) (t n) refl refl
         rw e (sym (ap not (false_from_ne_true (t k) (λ u.
         let same = one k n (and_from (p k) (t k) e u) (and_from (p n) (t n) here at) in omega arith))))
 
-    by : (a b : Bool) → p n ≡ a → t n ≡ b → count_where p n + (if p n then 1 else 0)
+    by : (a b : Bool) → p n ≡ a → t n ≡ b → count_where p n ≤ count_where q n + 1
+        → count_where p n + (if p n then 1 else 0)
         ≤ (count_where q n + (if p n && not (t n) then 1 else 0)) + 1
-    by true true e f =
+    by true true e f upto =
         let same = count_where-same p q n (record { same = λ k less. fails (p k) f e k less refl }) in
         rw (e, f) (omega arith)
-    by true false e f = rw (e, f) (omega arith)
-    by false b e f = rw e (omega arith)
+    by true false e f upto = rw (e, f) (omega arith)
+    by false b e f upto = rw e (omega arith)
 
 none-below : (n : ℕ) → n < 0 → ⊥
 none-below n l = omega arith
@@ -90,7 +88,7 @@ pub record HasFewIds (did : ℕ) : Type 0 where
 
 waiting-id : (r : Run) (n c i : ℕ) (x : Request) → Reaches r n → c ≤ n → waits r.trace (turns_of r) c i ≡ true
     → live_request_of r.trace i ≡ Some x → HasFewIds x.did
-unfolding request_begun is_reply is_some_and
+unfolding request_begun is_reply is_some_and past_to past_of
 waiting-id r n c i x h low waiting asks =
     let w = r.trace in
     let a = waits-parts w (turns_of r) c i waiting in

@@ -90,7 +90,7 @@ cut-order : (r : Run) (n : ℕ) → Reaches r (n + 1) → RespondsInOrder (run_t
 unfolding run_to
 cut-order r n h = responds-in-order r (n + 1) h
 
-cut-ids : (r : Run) (n : ℕ) → Reaches r (n + 1) → HaveOwnIds (run_to r n).trace (turns_of r) n
+pub cut-ids : (r : Run) (n : ℕ) → Reaches r (n + 1) → HaveOwnIds (run_to r n).trace (turns_of r) n
 unfolding run_to
 cut-ids r n h = ids-below r (n + 1) n h (omega arith)
 
@@ -183,6 +183,11 @@ would-listed r n list h finds =
     reply-by (run_to r n).trace (due_deferral n list) (due_number (run_to r n) (past_to (past_of r) n) n)
     (due-listed r n list h finds)
 
+agent-is : (who : Who) → is_agent (Some who) Priority ≡ true → who ≡ Priority
+unfolding is_agent is_some_and is_same_agent
+agent-is (Symmetric a) e = absurd (let no : ⊥ = cc in no)
+agent-is Priority e = refl
+
 -- where the priority agent begins a request, it is what the agent would begin
 begun-priority : (r : Run) (n : ℕ) → Reaches r (n + 2) → begins_at r.trace n Priority ≡ true
     → request_at r.trace n ≡ would_begin (run_to r n) (past_to (past_of r) n) n Priority
@@ -199,13 +204,8 @@ begun-priority r n h e =
     ∙ b.2 ((wants-lawfully r h.bounds).lawful n b.0 b.1) in
     let who = begun-winner (would_begin (run_to r n) (past_to (past_of r) n) n) (winner_at (run_to r n).trace n) b.0 b.1 in
     let winner = winner_at-agree (n + 1) w (run_to r n).trace n agree (omega arith) ∙ who.1 in
-    let is : who.0 ≡ Priority = agent-is who.0 (sym (ap (λ o. is_agent o Priority) winner) ∙ parts.1) in
+    let is = agent-is who.0 (sym (ap (λ o. is_agent o Priority) winner) ∙ parts.1) in
     decoded ∙ sym (subst (λ x. would_begin (run_to r n) (past_to (past_of r) n) n x ≡ Some b.0) is who.2)
-  where
-    agent-is : (who : Who) → is_agent (Some who) Priority ≡ true → who ≡ Priority
-    unfolding is_agent is_some_and is_same_agent
-    agent-is (Symmetric a) e = absurd (let no : ⊥ = cc in no)
-    agent-is Priority e = refl
 
 -- a reply begins in the whole trace exactly where the priority agent begins a request
 reply-priority : (r : Run) (n : ℕ) → Reaches r (n + 2)

@@ -55,15 +55,15 @@ pass-more p (m ∷ ns) n h t = (h.0, pass-more p ns n h.1 t)
 pub all_where-pass : (p : ℕ → Bool) (n : ℕ) → AllPass p (all_where p n)
 unfolding all_where
 all_where-pass p zero = tt
-all_where-pass p (suc n) = by (p n) refl
+all_where-pass p (suc n) = by (p n) refl (all_where-pass p n)
   where
-    by : (b : Bool) → p n ≡ b → AllPass p (all_where p (suc n))
-    by true t = rw (all_where, t) (pass-more p (all_where p n) n (all_where-pass p n) t)
-    by false f = rw (all_where, f) (subst (AllPass p) (sym (append-none (all_where p n))) (all_where-pass p n))
-
     append-none : (ns : List ℕ) → ns ++ [] ≡ ns
     append-none [] = refl
     append-none (m ∷ ns) = ap (λ xs. m ∷ xs) (append-none ns)
+
+    by : (b : Bool) → p n ≡ b → AllPass p (all_where p n) → AllPass p (all_where p (suc n))
+    by true t all = rw (all_where, t) (pass-more p (all_where p n) n all t)
+    by false f all = rw (all_where, f) (subst (AllPass p) (sym (append-none (all_where p n))) all)
 
 -- matched lists stay matched in what follows for each pair whose number passes
 pub Matched-into : {X : Type 0} (R S : X → ℕ → Type 0) (p : ℕ → Bool) (xs : List X) (ns : List ℕ) → AllPass p ns

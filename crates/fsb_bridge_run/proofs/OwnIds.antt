@@ -44,12 +44,12 @@ pub record IsDeferredAt (r : Run) (t i : ℕ) : Type 0 where
 
 pub deferred-at : (r : Run) (t i : ℕ) → Timely r → WantsLawfully r → snoop_end_of r.trace i ≡ Some t
     → is_settled_deferred r.trace (turns_of r) i ≡ true → IsDeferredAt r t i
-unfolding is_settled_deferred
+unfolding is_settled_deferred is_some_and
 deferred-at r t i h wants e settled =
     let tied = snoop-tied r i t e in
     let k = snooped-by r t i tied.0 tied.1 in
     let a = asked-at r t i tied.0 h wants k in
-    let deferred : is_deferral tied.0.outcome ≡ true = sym (told tied.1.outcome) ∙ settled in
+    let deferred : is_deferral tied.0.outcome ≡ true = sym (ap (λ o. is_some_and o is_deferral) tied.1.outcome) ∙ settled in
     record {
       end = tied.0;
       snooped = k;
@@ -60,9 +60,6 @@ deferred-at r t i h wants e settled =
       asked = live_request_of-at r.trace i tied.0.first a.request tied.1.first a.decoded;
       plain = held-plain a.request.kind (deferred-held r t i tied.0 a.request h k a.decoded deferred);
     }
-  where
-    told : {o : Option _} {x : _} → o ≡ Some x → is_some_and o is_deferral ≡ is_deferral x
-    told e = ap (λ o. is_some_and o is_deferral) e
 
 -- while no reply to it has its snoop end, a request that was Deferred is not finished
 unfinished : (r : Run) (c n t i : ℕ) → Timely r → c < length r.trace → (d : IsDeferredAt r t i) → d.end.first + 3 ≤ c

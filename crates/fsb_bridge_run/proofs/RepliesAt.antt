@@ -25,11 +25,11 @@ reply_at-parts w q x e =
 pub reply_at-from : (w : Trace) (q : ℕ) → line_at ADS w q ≡ true → is_reply (request_at w q) ≡ true
     → reply_at w q ≡ request_at w q
 unfolding reply_at
-reply_at-from w q ads reply = rw (ads, reply) refl
+reply_at-from w q ads reply = rw (reply_at, ads, reply) refl
 
 pub reply_at-off : (w : Trace) (q : ℕ) → (line_at ADS w q && is_reply (request_at w q)) ≡ false → reply_at w q ≡ None
 unfolding reply_at
-reply_at-off w q off = rw off refl
+reply_at-off w q off = rw (reply_at, off) refl
 
 none-is : is_reply None ≡ false
 unfolding is_reply is_some_and

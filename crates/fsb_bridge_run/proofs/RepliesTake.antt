@@ -31,10 +31,9 @@ use Rattle.fsb_bridge_run.specs.RunDeferrals.{FindsDeferrals, turns_of}
 use Rattle.fsb_bridge_run.proofs.Alike.{SameDeferrals, deferred-same, waits-same}
 use Rattle.fsb_bridge_run.proofs.DueReplies.{IsReplied, cut-same, is-replied}
 use Rattle.fsb_bridge_run.proofs.ListWords.{cut-ids}
-use Rattle.fsb_bridge_run.proofs.OwnIds.{one-id, own-ids, request-waiting, same-dids}
 use Rattle.fsb_bridge_run.proofs.SnoopEntries.{TakesDeferral, takes-deferral}
 use Rattle.fsb_bridge_run.proofs.Waiting.{is_replied, reply-parts, waits-from, waits-parts}
-use Rattle.fsb_bridge_run.proofs.WaitingSteps.{IsSnoopedHere}
+use Rattle.fsb_bridge_run.proofs.WaitingSteps.{IsSnoopedHere, one-taker}
 
 -- the reply whose snoop end is n, in the samples up to n: its number, and the request that it answers
 record TakesThere (r : Run) (n i : ℕ) (reply : Request) : Type 0 where
@@ -115,15 +114,15 @@ no-other r n i k reply h t less e =
     let first = m.first in
     let is_first = t.is_first in
     let clock : m.clock ≡ t.first = cc in
+    let c = snoop_end_of-clock v i n t.reached in
+    let above = c.above in
+    let also = c.is_clock in
+    let same : c.clock ≡ t.first = cc in
     let reply-k = reply-parts v k m.clock m.reply in
     let after = reply-k.after in
     let whole-response = response_clock_of-stays (n + 1) v w k reply-k.response back (omega arith) reply-k.is_response in
     let a = answered w k reply-k.response (orderly-whole r n h.timely l) whole-response in
     let gap = a.before in
-    let c = snoop_end_of-clock v i n t.reached in
-    let above = c.above in
-    let also = c.is_clock in
-    let same : c.clock ≡ t.first = cc in
     let snoop = snoop_end_of-stays (n + 1) w v k a.snoop agree (omega arith) a.is_snoop in
     let settled = deferred-same (n + 1) w v (turns_of r) turns k a.snoop (cut-same r n h.timely l) a.is_snoop (omega arith)
     ∙ parts.0 in
@@ -135,24 +134,13 @@ no-other r n i k reply h t less e =
     let whole : waits w (turns_of r) n k ≡ true =
     waits-same (n + 1) w v (turns_of r) (turns_of r) n k (record { agree = agree; same = λ i t e l. refl }) (omega arith)
     ∙ waiting in
-    let x = request-waiting r (n + 1) n k h whole in
-    let y = request-waiting r (n + 1) n t.takes.number h t.takes.waiting in
     let p = waits-parts w (turns_of r) n k whole in
     let p-below = p.below in
     let p-above = p.above in
-    let two = is-replied w t.takes.number i t.takes.answers in
-    let two-parts = reply-parts w t.takes.number two.clock two.reply in
-    let one = reply-stays (n + 1) v w k i (p.clock) t.first back
+    let one = reply-stays (n + 1) v w k i p.clock t.first back
     (live_clock_of-stays (n + 1) w v k p.clock agree (omega arith) p.is_clock) (omega arith) t.is_first (omega arith)
     number in
-    let mine = is-replied w k i one in
-    let mine-parts = reply-parts w k mine.clock mine.reply in
-    let f = mine.first in
-    let g = two.first in
-    let at : mine.clock ≡ two.clock = cc in
-    let did = same-dids (request_at w mine.clock) (request_at w two.clock) (live_request_of w k)
-    (live_request_of w t.takes.number) x.0 y.0 (ap (request_at w) at) x.1 y.1 mine-parts.same_id two-parts.same_id in
-    let is = one-id r (n + 1) n k t.takes.number x.0 y.0 h (omega arith) whole t.takes.waiting x.1 y.1 did in
+    let is = one-taker r (n + 1) n i k t.takes.number h (omega arith) whole one t.takes.waiting t.takes.answers in
     omega arith
   where
     not-itself : (c : ℕ) → is_before (Some c) c ≡ false

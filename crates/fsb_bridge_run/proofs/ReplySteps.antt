@@ -1,6 +1,7 @@
 -- Whether a reply is under way, one clock on.
 use Rattle.std.proofs.Common.{ℕ, suc, ◌+◌, ◌<◌, ◌≤◌, ◌≡◌, Bool, true, false, not, Option, Some, None, length, take, refl, sym, ap, subst, ◌∙◌, arith, inl, inr}
 use Rattle.std.proofs.lemmas.Bool.{and_from, and_parts, both_ways, cases_lt, cases_order, false_from_ne_true, not-true}
+use Rattle.fsb_count.specs.Options.{is_some_and}
 use Rattle.fsb_encode.specs.declared.request.Request.{Request}
 use Rattle.fsb_signal.specs.declared.lines.TheConstants.Lines.{ADS}
 use Rattle.fsb_signal.specs.Samples.{line_at}

@@ -201,68 +201,6 @@ takes-deferral r c i s reply h here replies =
         let same : c ≡ x.0 = (let e = x.1 in cc) in
         omega arith)
 
-snoop-some : (r : Run) (c : ℕ) (list : List Waiting) (s : SnoopEnd) (request : Request)
-    → snooped_at (past_of r) c ≡ Some s → request_at r.trace s.first ≡ Some request
-    → after_snoop r c list ≡ after_snoop_of r.trace c s request list
-unfolding after_snoop
-after_snoop-some r c list s request e f = rw (after_snoop, e, f) refl
-
-after-reply : (w : Trace) (c : ℕ) (s : SnoopEnd) (request : Request) (list : List Waiting)
-    → is_reply_kind request.kind ≡ true → after_snoop_of w c s request list ≡ waiting_without request.did list
-unfolding after_snoop_of
-after-reply w c s request list e = rw (after_snoop_of, e) refl
-
-after-deferral : (w : Trace) (c : ℕ) (s : SnoopEnd) (request : Request) (list : List Waiting)
-    → is_reply_kind request.kind ≡ false → is_deferral s.outcome ≡ true
-    → after_snoop_of w c s request list ≡ list ++ deferral_made w c s request ∷ []
-unfolding after_snoop_of
-after-deferral w c s request list e f = rw (after_snoop_of, e, f) refl
-
-after-plain : (w : Trace) (c : ℕ) (s : SnoopEnd) (request : Request) (list : List Waiting)
-    → is_reply_kind request.kind ≡ false → is_deferral s.outcome ≡ false → after_snoop_of w c s request list ≡ list
-unfolding after_snoop_of
-after-plain w c s request list e f = rw (after_snoop_of, e, f) refl
-
--- the reply whose snoop end is the clock: which request it answers
-pub record TakesDeferral (r : Run) (c i : ℕ) (reply : Request) : Type 0 where
-  pub number : ℕ
-  pub waiting : waits r.trace (turns_of r) c number ≡ true
-  pub answers : reply_number_of r.trace number ≡ Some i
-  pub is_reply : live_request_of r.trace i ≡ Some reply
-
-pub takes-deferral : (r : Run) (c i : ℕ) (s : SnoopEnd) (reply : Request) → Reaches r (c + 1)
-    → IsSnoopedHere r c i s reply → is_reply_kind reply.kind ≡ true → TakesDeferral r c i reply
-takes-deferral r c i s reply h here replies =
-    let w = r.trace in
-    let k = here.snooped in
-    let q : ℕ = s.first in
-    let above = k.above in
-    let within = k.within in
-    let d = answers-due r q h.timely (wants-lawfully r h.bounds) h.bounds.few_ahead (omega arith) k.ads
-    (ap is_reply here.decoded ∙ is_reply-some reply ∙ replies) in
-    let gap = d.gap in
-    let after = d.after in
-    let live = live-of w i q k.tied.first in
-    let number = due-replied r q d (omega arith) live ∙ ap Some (live-at w i q k.tied.first).number in
-    let reached = ap (option_and_then (snoop_end_of w)) number ∙ k.tied.reached in
-    record {
-      number = d.number;
-      waiting = waits-from w (turns_of r) c d.number d.snoop d.deferred d.is_snoop (omega arith)
-          (ap (λ o. is_before o c) reached ∙ not-itself c);
-      answers = number;
-      is_reply = live_request_of-at w i q reply k.tied.first here.decoded;
-    }
-  where
-    not-itself : (c : ℕ) → is_before (Some c) c ≡ false
-    not-itself c = false_from_ne_true (is_before (Some c) c) (λ t.
-        let x = is_before-parts (Some c) c t in
-        let below = x.2 in
-        let same : c ≡ x.0 = (let e = x.1 in cc) in
-        omega arith)
-
-pub Entries : Run → ℕ → List Waiting → List ℕ → Type 0
-Entries r c list live = Matched (IsEntryOf r.trace (turns_of r) c) list live
-
 snoop-some : (r : Run) (c i : ℕ) (s : SnoopEnd) (request : Request) (list : List Waiting) → Reaches r (c + 1)
     → IsSnoopedHere r c i s request → begun_of r s.first ≡ Some request
     → StandsFor list r.trace (turns_of r) c
@@ -273,7 +211,8 @@ snoop-some r c i s request list h here begun stands =
     let turns = turns_of r in
     let R : Waiting → ℕ → Type 0 = IsEntryOf w turns c in
     let entries = IsEntryOf-StandsFor list w turns c stands in
-    let held = λ deferred. deferred-held r c i s request h.timely here.snooped here.decoded deferred in
+    let held : is_deferral s.outcome ≡ true → is_never_held_up request.kind ≡ false =
+    λ deferred. deferred-held r c i s request h.timely here.snooped here.decoded deferred in
     elim (cases_Bool (is_reply_kind request.kind)) [
       | inl reply ↦
           let t = takes-deferral r c i s request h here reply in

@@ -205,6 +205,25 @@ deferred-waiting r c i s request h here plain deferred =
           ]
         ]
 
+-- a reply answers one of the requests that wait, alone
+pub one-taker : (r : Run) (n c i k j : ℕ) → Reaches r n → c ≤ n → waits r.trace (turns_of r) c k ≡ true
+    → reply_number_of r.trace k ≡ Some i → waits r.trace (turns_of r) c j ≡ true
+    → reply_number_of r.trace j ≡ Some i → k ≡ j
+one-taker r n c i k j h low waiting number also same =
+    let w = r.trace in
+    let one = is-replied w k i number in
+    let two = is-replied w j i same in
+    let first = one.first in
+    let second = two.first in
+    let clock : one.clock ≡ two.clock = cc in
+    let x = request-waiting r n c k h waiting in
+    let y = request-waiting r n c j h also in
+    let x-parts = reply-parts w k one.clock one.reply in
+    let y-parts = reply-parts w j two.clock two.reply in
+    let did = same-dids (request_at w one.clock) (request_at w two.clock) (live_request_of w k)
+    (live_request_of w j) x.0 y.0 (ap (request_at w) clock) x.1 y.1 x-parts.same_id y-parts.same_id in
+    one-id r n c k j x.0 y.0 h low waiting also x.1 y.1 did
+
 -- where it is the reply to one that waits, that one leaves
 pub replied-waiting : (r : Run) (c i j : ℕ) (s : SnoopEnd) (reply : Request) → Reaches r (c + 1)
     → IsSnoopedHere r c i s reply → is_deferral s.outcome ≡ false → waits r.trace (turns_of r) c j ≡ true
@@ -238,16 +257,5 @@ replied-waiting r c i j s reply h here kept waiting number =
         waits-on w (turns_of r) c k parts.0 (λ m other snoop.
         let same = one_end w c m i snoop here.snooped.tied.reached in
         let also : reply_number_of w k ≡ Some i = other ∙ ap Some same in
-        let one = is-replied w k i also in
-        let two = is-replied w j i number in
-        let first = one.first in
-        let second = two.first in
-        let clock : one.clock ≡ two.clock = cc in
-        let x = request-waiting r (c + 1) c k h parts.0 in
-        let y = request-waiting r (c + 1) c j h waiting in
-        let x-parts = reply-parts w k one.clock one.reply in
-        let y-parts = reply-parts w j two.clock two.reply in
-        let did = same-dids (request_at w one.clock) (request_at w two.clock) (live_request_of w k)
-        (live_request_of w j) x.0 y.0 (ap (request_at w) clock) x.1 y.1 x-parts.same_id y-parts.same_id in
-        let number-same = one-id r (c + 1) c k j x.0 y.0 h (omega arith) parts.0 waiting x.1 y.1 did in
+        let number-same = one-taker r (c + 1) c i k j h (omega arith) parts.0 also waiting number in
         both_ways (nat_eq k j) (not-true (nat_eq k j) parts.1) (eq-eqb k j number-same))

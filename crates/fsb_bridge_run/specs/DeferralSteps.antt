@@ -1,5 +1,5 @@
 -- What a clock of a run does to the deferrals.
-use Rattle.std.specs.Prelude.{ℕ, zero, suc, ◌&&◌, true, false, List, [], ◌∷◌, ◌++◌, map, Option, Some, None, if◌then◌else◌}
+use Rattle.std.specs.Prelude.{ℕ, zero, suc, ◌&&◌, Bool, true, false, List, [], ◌∷◌, ◌++◌, map, Option, Some, None, if◌then◌else◌}
 use Rattle.fsb_encode.specs.declared.request.Request.{Request}
 use Rattle.fsb_signal.specs.declared.lines.TheConstants.Lines.{ADS, HIT}
 use Rattle.fsb_signal.specs.Samples.{line_at}
