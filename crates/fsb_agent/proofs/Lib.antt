@@ -1,4 +1,3 @@
-pub mod Places
 pub mod FreeIds
 pub mod Victims
 pub mod Rests
