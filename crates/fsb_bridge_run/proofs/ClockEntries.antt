@@ -1,10 +1,10 @@
 -- The entries of the list after the cancellation and the response of a clock.
-use Rattle.std.proofs.Common.{ℕ, suc, ◌+◌, ◌<◌, ◌≤◌, ◌≡◌, Bool, true, false, cond, not, List, map, Option, Some, None, length, nat_eq, slice_index, refl, sym, ap, subst, ◌∙◌, arith, inl, inr}
+use Rattle.std.proofs.Common.{ℕ, ◌+◌, ◌<◌, ◌≡◌, Bool, true, false, cond, List, map, Option, Some, None, length, nat_eq, slice_index, refl, sym, ap, subst, ◌∙◌, arith, inl, inr}
 use Rattle.std.specs.Option.{option_map}
 use Rattle.std.proofs.lemmas.Bool.{both_ways, cases_Bool, cases_lt, cases_order, eq-eqb, eqb-true, false_from_ne_true}
 use Rattle.fsb_count.specs.Clocks.{count_where}
 use Rattle.fsb_count.specs.Options.{is_before}
-use Rattle.fsb_count.proofs.Interface.{count_where-above, is_before-from, is_before-parts, nth_where-found, nth_where-one}
+use Rattle.fsb_count.proofs.Interface.{count_where-above, is_before-from, is_before-parts, nth_where-one}
 use Rattle.fsb_encode.specs.declared.request.Request.{Request}
 use Rattle.fsb_signal.specs.declared.lines.TheConstants.Lines.{ADS, AERR}
 use Rattle.fsb_signal.specs.Samples.{line_at}
@@ -16,7 +16,7 @@ use Rattle.fsb_trace.specs.Requests.{have_same_id, is_cancelled, is_live, live_c
 use Rattle.fsb_timely.specs.Runs.{Run, past_of, requests_below, run_to}
 use Rattle.fsb_timely.specs.Starts.{reply_to}
 use Rattle.fsb_coherent.specs.Awaits.{cancelled_in, responded_in}
-use Rattle.fsb_lawful.proofs.Interface.{live-ads, run_to-agrees, wants-lawfully}
+use Rattle.fsb_lawful.proofs.Interface.{live-ads, wants-lawfully}
 use Rattle.fsb_tied.proofs.Interface.{Responds, cancelled-at, cancels, number-responded, orderly-whole, responded-number}
 use Rattle.fsb_run_laws.specs.Reaches.{Reaches}
 use Rattle.fsb_bridge.specs.declared.deferral.Waiting.{Waiting}
@@ -25,7 +25,7 @@ use Rattle.fsb_bridge.specs.DeferralList.{IsDeferralOf, live_line_of, request_nu
 use Rattle.fsb_bridge.proofs.Interface.{IsEntryOf, Matched}
 use Rattle.fsb_bridge_run.specs.DeferralSteps.{after_cancellation, after_reply, after_response, reply_at}
 use Rattle.fsb_bridge_run.specs.RunDeferrals.{turns_of}
-use Rattle.fsb_bridge_run.proofs.DueReplies.{AnswersDue, answers-due}
+use Rattle.fsb_bridge_run.proofs.DueReplies.{answers-due}
 use Rattle.fsb_bridge_run.proofs.Listed.{AllPass, Matched-into, Matched-map, all_where-pass}
 use Rattle.fsb_bridge_run.proofs.OwnIds.{ids-of}
 use Rattle.fsb_bridge_run.proofs.RepliesAt.{reply_at-none, reply_at-parts}

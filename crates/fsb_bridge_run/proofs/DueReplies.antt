@@ -1,5 +1,5 @@
 -- A reply that begins in a timely run answers a request that is due.
-use Rattle.std.proofs.Common.{ℕ, suc, ◌+◌, ◌<◌, ◌≤◌, ◌≡◌, Bool, true, false, not, ◌&&◌, List, Option, Some, None, length, nat_le, slice_index, refl, sym, ap, subst, ◌∙◌, arith, inl, inr}
+use Rattle.std.proofs.Common.{ℕ, suc, ◌+◌, ◌<◌, ◌≤◌, ◌≡◌, true, not, ◌&&◌, Option, Some, length, nat_le, slice_index, refl, sym, ap, ◌∙◌, arith, inl, inr}
 use Rattle.std.specs.Option.{option_and_then, option_map}
 use Rattle.std.proofs.lemmas.Bool.{and_from, and_parts, both_ways, cases_lt, eq-eqb, false_from_ne_true, leb-true, not-true}
 use Rattle.fsb_count.specs.Options.{is_before, is_some_and}
@@ -16,21 +16,20 @@ use Rattle.fsb_trace.specs.Snoop.{snoop_end_of}
 use Rattle.fsb_trace.specs.Winner.{winner_at}
 use Rattle.fsb_trace.specs.declared.who.Who.{Who}
 use Rattle.fsb_trace.specs.declared.who.Who.TheVariants.{Symmetric, Priority}
-use Rattle.fsb_trace.proofs.Interface.{AgreeTo-sym, is_live-agree, is_reply-some, line_at-agree, live_clock_of-stays, live_request_of-stays, request_at-agree, response_clock_of-stays, snoop_end_of-clock, snoop_end_of-stays}
+use Rattle.fsb_trace.proofs.Interface.{AgreeTo-sym, is_live-agree, is_reply-some, line_at-agree, live_request_of-stays, request_at-agree, response_clock_of-stays, snoop_end_of-clock, snoop_end_of-stays}
 use Rattle.fsb_timely.specs.Moments.{number_of_turn, turns_in}
 use Rattle.fsb_timely.specs.Runs.{Run, past_of, past_to, run_to}
 use Rattle.fsb_timely.specs.Starts.{due_number, reply_to, request_begun, would_begin}
 use Rattle.fsb_timely.specs.Timely.{Timely}
 use Rattle.fsb_timely.proofs.Interface.{snoop-tied}
 use Rattle.fsb_lawful.specs.Beginning.{WantsLawfully}
-use Rattle.fsb_lawful.proofs.Interface.{and-then, begun-decoded, begun-winner, begun_of, map-some, orderly-at, past-cut, run_to-agrees, some-and, turned-at, want-own, wants-lawfully}
+use Rattle.fsb_lawful.proofs.Interface.{and-then, begun-decoded, begun-winner, map-some, orderly-at, past-cut, run_to-agrees, some-and, turned-at, want-own}
 use Rattle.fsb_tied.proofs.Interface.{answered, has-reply, live-at, orderly-whole}
-use Rattle.fsb_run_laws.specs.Reaches.{Reaches}
 use Rattle.fsb_bridge.specs.DeferralList.{waits}
 use Rattle.fsb_bridge_run.specs.RunDeferrals.{turns_of}
 use Rattle.fsb_bridge_run.proofs.Alike.{SameDeferrals, deferred-same}
 use Rattle.fsb_bridge_run.proofs.UnderWay.{reply-to-kept}
-use Rattle.fsb_bridge_run.proofs.Waiting.{IsReplyTo, IsUnderWay, answered-from, reply-from, reply-parts, waits-from}
+use Rattle.fsb_bridge_run.proofs.Waiting.{answered-from, reply-from, reply-parts, waits-from}
 
 -- the run up to c has the same deferrals so far as the whole run
 pub cut-same : (r : Run) (c : ℕ) → Timely r → c < length r.trace

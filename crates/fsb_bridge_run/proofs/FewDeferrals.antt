@@ -1,15 +1,15 @@
 -- There are sixteen deferrals at most: each has an ID of its own, one of four of each of the four agents.
-use Rattle.std.proofs.Common.{ℕ, zero, suc, ◌+◌, ◌*◌, ◌/◌, ◌%◌, ◌<◌, ◌≤◌, ◌≡◌, Bool, true, false, not, ◌&&◌, List, Option, Some, None, length, nat_eq, if◌then◌else◌, refl, sym, ap, subst, ◌∙◌, arith, inl, inr}
+use Rattle.std.proofs.Common.{ℕ, zero, suc, ◌+◌, ◌*◌, ◌/◌, ◌%◌, ◌<◌, ◌≤◌, ◌≡◌, Bool, true, false, not, ◌&&◌, List, Option, Some, None, length, nat_eq, if◌then◌else◌, refl, sym, ap, subst, ◌∙◌, arith}
 use Rattle.std.specs.Option.{option_map_or}
-use Rattle.std.proofs.lemmas.Bool.{and_from, and_parts, both_ways, cases_Bool, eq-eqb, eqb-false, eqb-true, false_from_ne_true, not-true}
+use Rattle.std.proofs.lemmas.Bool.{and_from, and_parts, eqb-false, eqb-true, false_from_ne_true, not-true}
 use Rattle.fsb_count.specs.Clocks.{count_where, first_where}
 use Rattle.fsb_count.proofs.Interface.{count_where-same, first_where-found, length-all_where}
 use Rattle.fsb_encode.specs.declared.request.Request.{Request}
 use Rattle.fsb_laws.proofs.Interface.{count_where-none}
-use Rattle.fsb_trace.specs.Requests.{is_reply, is_reply_kind, live_count, live_request_of}
+use Rattle.fsb_trace.specs.Requests.{is_reply, live_count, live_request_of}
 use Rattle.fsb_trace.specs.Winner.{winner_at}
 use Rattle.fsb_count.specs.Options.{is_some_and}
-use Rattle.fsb_timely.specs.Past.{Owing, Past}
+use Rattle.fsb_timely.specs.Past.{Owing}
 use Rattle.fsb_timely.specs.Runs.{Run, past_of, past_to, run_to}
 use Rattle.fsb_timely.specs.Starts.{request_begun, would_begin}
 use Rattle.fsb_timely.specs.Wants.{free_id, id_of, is_id_used, owed}

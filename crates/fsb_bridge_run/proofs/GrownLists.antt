@@ -1,33 +1,31 @@
 -- A list that has the deferrals of a run has those of the run that grows from it; and lists are short.
-use Rattle.std.proofs.Common.{ℕ, ◌+◌, ◌-◌, ◌<◌, ◌≤◌, ◌≡◌, true, List, [], ◌∷◌, ◌++◌, Some, length, take, slice_index, refl, sym, ap, subst, ◌∙◌, arith}
+use Rattle.std.proofs.Common.{ℕ, ◌+◌, ◌-◌, ◌<◌, ◌≤◌, ◌≡◌, true, List, [], ◌∷◌, Some, length, take, slice_index, refl, sym, ap, subst, ◌∙◌, arith}
 use Rattle.std.proofs.lemmas.List.{length-append, take_all, take-append-le}
-use Rattle.fsb_encode.specs.declared.request.Request.{Request}
 use Rattle.fsb_trace.specs.Agree.{AgreeTo}
-use Rattle.fsb_trace.specs.At.{Trace, request_at}
 use Rattle.fsb_count.specs.Clocks.{all_where, count_where}
 use Rattle.fsb_trace.specs.Outcome.{is_deferral}
-use Rattle.fsb_trace.specs.Requests.{is_reply_kind, live_count}
+use Rattle.fsb_trace.specs.Requests.{live_count}
 use Rattle.fsb_trace.specs.Snoop.{snoop_end_of}
 use Rattle.fsb_trace.proofs.Interface.{AgreeTo-sym, snoop_end_of-stays}
 use Rattle.fsb_laws.proofs.Interface.{one_more}
 use Rattle.fsb_timely.specs.Grants.{snooped_at}
 use Rattle.fsb_timely.specs.Growth.{GrowsTo}
-use Rattle.fsb_timely.specs.Moments.{number_of_turn, turns_in}
+use Rattle.fsb_timely.specs.Moments.{number_of_turn}
 use Rattle.fsb_timely.specs.Past.{SnoopEnd}
-use Rattle.fsb_timely.specs.Runs.{Run, past_of, run_to}
+use Rattle.fsb_timely.specs.Runs.{Run, past_of}
 use Rattle.fsb_timely.proofs.Interface.{past-before, snoop-tied, tied-snoop}
-use Rattle.fsb_lawful.proofs.Interface.{run_to-agrees, snooped-to, wants-lawfully}
+use Rattle.fsb_lawful.proofs.Interface.{snooped-to, wants-lawfully}
 use Rattle.fsb_tied.proofs.Interface.{asked-at, deferred-held, held-plain, snooped-by}
 use Rattle.fsb_run_laws.specs.Reaches.{Reaches}
 use Rattle.fsb_bridge.specs.declared.deferral.Waiting.{Waiting}
-use Rattle.fsb_bridge.specs.DeferralList.{AreEntriesOf, StandsFor, waiting_at, waits}
+use Rattle.fsb_bridge.specs.DeferralList.{StandsFor, waiting_at}
 use Rattle.fsb_bridge.proofs.Interface.{AreEntriesOf-IsEntryOf, IsEntryOf, IsEntryOf-StandsFor, Matched}
 use Rattle.fsb_bridge_run.specs.RunDeferrals.{FindsDeferrals, HasDeferrals, turns_of}
-use Rattle.fsb_bridge_run.proofs.Alike.{SameDeferrals, stands-kept, waiting_at-same}
+use Rattle.fsb_bridge_run.proofs.Alike.{stands-kept, waiting_at-same}
 use Rattle.fsb_bridge_run.proofs.FewDeferrals.{few-waiting}
 use Rattle.fsb_bridge_run.proofs.Listed.{Matched-length}
 use Rattle.fsb_bridge_run.proofs.RunLists.{found-whole, own-turns, take-agrees}
-use Rattle.fsb_bridge_run.proofs.WaitingSteps.{IsSnoopedHere, deferred-waiting}
+use Rattle.fsb_bridge_run.proofs.WaitingSteps.{deferred-waiting}
 
 agree-grown : (r s : Run) → GrowsTo r s → AgreeTo (length r.trace) r.trace s.trace
 agree-grown r s grows =

@@ -1,15 +1,14 @@
 -- The snoop end of a reply is for the deferral that its ID has in the list.
-use Rattle.std.proofs.Common.{ℕ, ◌+◌, ◌<◌, ◌≤◌, ◌≡◌, Bool, true, false, ◌&&◌, List, Option, Some, None, length, refl, sym, ap, subst, ◌∙◌, arith, inl, inr}
+use Rattle.std.proofs.Common.{ℕ, ◌+◌, ◌<◌, ◌≡◌, true, false, List, Option, Some, None, length, refl, sym, ap, subst, ◌∙◌, arith, inl, inr}
 use Rattle.std.specs.Option.{option_and_then, option_map_or}
 use Rattle.std.proofs.lemmas.Bool.{and_from, and_parts, cases_lt, false_from_ne_true}
 use Rattle.fsb_count.specs.Options.{is_at, is_before, is_some_and}
 use Rattle.fsb_count.proofs.Interface.{first_where-at, is_at-from, is_at-some, is_before-parts}
 use Rattle.fsb_encode.specs.declared.request.Request.{Request}
 use Rattle.fsb_signal.specs.declared.lines.TheConstants.Lines.{HIT}
-use Rattle.fsb_trace.specs.Agree.{AgreeTo}
 use Rattle.fsb_trace.specs.At.{Trace, request_at}
 use Rattle.fsb_trace.specs.Flight.{reply_number_of}
-use Rattle.fsb_trace.specs.Outcome.{is_settled_deferred, response_clock_of}
+use Rattle.fsb_trace.specs.Outcome.{is_settled_deferred}
 use Rattle.fsb_trace.specs.Requests.{is_reply, is_reply_kind, live_clock_of, live_count, live_request_of}
 use Rattle.fsb_trace.specs.Snoop.{line_at_snoop_end, snoop_end_of}
 use Rattle.fsb_trace.proofs.Interface.{AgreeTo-sym, is_reply-some, live_below_count, live_clock_of-rises, live_clock_of-stays, live_request_of-stays, response_clock_of-stays, snoop_end_of-clock, snoop_end_of-stays}
@@ -25,14 +24,14 @@ use Rattle.fsb_run_laws.specs.Reaches.{Reaches}
 use Rattle.fsb_bridge.specs.declared.deferral.Deferral.{Deferral}
 use Rattle.fsb_bridge.specs.declared.deferral.Waiting.{Waiting}
 use Rattle.fsb_bridge.specs.Deferrals.{deferral_of_id}
-use Rattle.fsb_bridge.specs.DeferralList.{HaveOwnIds, IsDeferralOf, IsThatOf, StandsFor, waits}
+use Rattle.fsb_bridge.specs.DeferralList.{IsThatOf, waits}
 use Rattle.fsb_bridge.proofs.Interface.{deferral_of_id-reply}
 use Rattle.fsb_bridge_run.specs.RunDeferrals.{FindsDeferrals, turns_of}
-use Rattle.fsb_bridge_run.proofs.Alike.{SameDeferrals, deferred-same, waits-same}
-use Rattle.fsb_bridge_run.proofs.DueReplies.{IsReplied, cut-same, is-replied}
+use Rattle.fsb_bridge_run.proofs.Alike.{deferred-same, waits-same}
+use Rattle.fsb_bridge_run.proofs.DueReplies.{cut-same, is-replied}
 use Rattle.fsb_bridge_run.proofs.ListWords.{cut-ids}
 use Rattle.fsb_bridge_run.proofs.SnoopEntries.{TakesDeferral, takes-deferral}
-use Rattle.fsb_bridge_run.proofs.Waiting.{is_replied, reply-parts, waits-from, waits-parts}
+use Rattle.fsb_bridge_run.proofs.Waiting.{reply-parts, waits-from, waits-parts}
 use Rattle.fsb_bridge_run.proofs.WaitingSteps.{IsSnoopedHere, one-taker}
 
 -- the reply whose snoop end is n, in the samples up to n: its number, and the request that it answers

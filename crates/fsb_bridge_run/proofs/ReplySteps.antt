@@ -1,5 +1,5 @@
 -- Whether a reply is under way, one clock on.
-use Rattle.std.proofs.Common.{ℕ, suc, ◌+◌, ◌<◌, ◌≤◌, ◌≡◌, Bool, true, false, not, Option, Some, None, length, take, refl, sym, ap, subst, ◌∙◌, arith, inl, inr}
+use Rattle.std.proofs.Common.{ℕ, suc, ◌+◌, ◌<◌, ◌≤◌, ◌≡◌, true, false, not, Some, length, sym, ap, subst, ◌∙◌, arith, inl, inr}
 use Rattle.std.proofs.lemmas.Bool.{and_from, and_parts, both_ways, cases_lt, cases_order, false_from_ne_true, not-true}
 use Rattle.fsb_count.specs.Options.{is_some_and}
 use Rattle.fsb_encode.specs.declared.request.Request.{Request}
@@ -11,18 +11,18 @@ use Rattle.fsb_trace.specs.Deferral.{is_answered}
 use Rattle.fsb_trace.specs.Flight.{is_reply_to}
 use Rattle.fsb_trace.specs.Requests.{is_cancelled, is_live, is_reply, live_request_of}
 use Rattle.fsb_trace.specs.Snoop.{snoop_end_of}
-use Rattle.fsb_trace.proofs.Interface.{AgreeTo-sym, is_cancelled-agree, is_live-agree, line_at-agree, snoop_end_of-stays}
+use Rattle.fsb_trace.proofs.Interface.{AgreeTo-sym, is_cancelled-agree, is_live-agree, snoop_end_of-stays}
 use Rattle.fsb_laws.proofs.Interface.{request_at-last}
-use Rattle.fsb_timely.specs.Runs.{Run, past_of, run_to}
-use Rattle.fsb_lawful.proofs.Interface.{length-cut, run_to-agrees, wants-lawfully}
+use Rattle.fsb_timely.specs.Runs.{Run, run_to}
+use Rattle.fsb_lawful.proofs.Interface.{length-cut, run_to-agrees}
 use Rattle.fsb_tied.proofs.Interface.{orderly-whole, same-both}
 use Rattle.fsb_run_laws.specs.Reaches.{Reaches}
 use Rattle.fsb_bridge.specs.DeferralList.{waits}
 use Rattle.fsb_bridge_run.specs.RunDeferrals.{turns_of}
-use Rattle.fsb_bridge_run.proofs.DueReplies.{AnswersDue, answers-due, due-waits}
+use Rattle.fsb_bridge_run.proofs.DueReplies.{AnswersDue, due-waits}
 use Rattle.fsb_bridge_run.proofs.OwnIds.{one-id}
 use Rattle.fsb_bridge_run.proofs.UnderWay.{reply-to-kept, under-kept}
-use Rattle.fsb_bridge_run.proofs.Waiting.{IsUnderWay, answered-from, answered-parts, reply-parts, waits-parts}
+use Rattle.fsb_bridge_run.proofs.Waiting.{answered-from, answered-parts, reply-parts, waits-parts}
 
 no-reply : (w : Trace) (q : ℕ) → length w ≤ q + 1 → is_reply (request_at w q) ≡ true → ⊥
 unfolding is_reply is_some_and
@@ -121,7 +121,7 @@ begun-stays r c i t h snoop below none =
         | inr late ↦ elim (cases_lt c (q + 3)) [
           | inl more ↦ inr (omega arith)
           | inr same ↦ inl (and_from (line_at ADS v q) (not (is_cancelled v q)) (reply-parts v i q m.reply).asks
-            (ap not (sym (is_cancelled-agree (c + 1) w v q agree (omega arith)) ∙ uncancelled q (omega arith) k.1.reply)))
+              (ap not (sym (is_cancelled-agree (c + 1) w v q agree (omega arith)) ∙ uncancelled q (omega arith) k.1.reply)))
         ]
       ];
     }))

@@ -1,18 +1,15 @@
 -- A list that has the deferrals of a run, as a clock finds it and as it leaves it.
-use Rattle.std.proofs.Common.{ℕ, zero, suc, ◌+◌, ◌<◌, ◌≤◌, ◌≡◌, Bool, true, false, List, [], map, Option, Some, None, length, nat_eq, take, slice_index, refl, sym, ap, subst, ◌∙◌, arith, inl, inr}
+use Rattle.std.proofs.Common.{ℕ, zero, suc, ◌+◌, ◌≤◌, ◌≡◌, Bool, true, false, List, map, Option, Some, None, length, nat_eq, take, refl, sym, ap, subst, ◌∙◌, arith}
 use Rattle.std.proofs.lemmas.Bool.{both_ways, eq-eqb, eqb-true, false_from_ne_true}
-use Rattle.std.proofs.lemmas.List.{length-take-le, take_all}
-use Rattle.std.specs.List.{slice_get}
+use Rattle.std.proofs.lemmas.List.{length-take-le}
 use Rattle.fsb_encode.specs.declared.request.Request.{Request}
-use Rattle.fsb_signal.proofs.Interface.{slice_get-before}
 use Rattle.fsb_trace.specs.Agree.{AgreeTo}
 use Rattle.fsb_trace.specs.At.{Trace, request_at}
 use Rattle.fsb_trace.specs.Deferral.{is_answered}
 use Rattle.fsb_trace.specs.Flight.{is_reply_to}
-use Rattle.fsb_trace.specs.Requests.{have_same_id, live_count, live_request_of}
-use Rattle.fsb_trace.proofs.Interface.{AgreeTo-sym, live_request_of-stays, snoop_end_of-stays}
-use Rattle.fsb_timely.specs.Growth.{GrowsTo}
-use Rattle.fsb_timely.specs.Runs.{Run, past_of, run_to}
+use Rattle.fsb_trace.specs.Requests.{live_count, live_request_of}
+use Rattle.fsb_trace.proofs.Interface.{AgreeTo-sym, live_request_of-stays}
+use Rattle.fsb_timely.specs.Runs.{Run, run_to}
 use Rattle.fsb_timely.specs.Starts.{reply_to}
 use Rattle.fsb_lawful.proofs.Interface.{run_to-agrees, slice_get-take, wants-lawfully}
 use Rattle.fsb_run_laws.specs.Reaches.{Reaches}
@@ -20,11 +17,11 @@ use Rattle.fsb_bridge.specs.declared.deferral.Waiting.{Waiting}
 use Rattle.fsb_bridge.specs.Deferrals.{with_reply}
 use Rattle.fsb_bridge.specs.DeferralList.{StandsFor, waiting_at, waits}
 use Rattle.fsb_bridge.proofs.Interface.{AreEntriesOf-IsEntryOf, IsEntryOf, IsEntryOf-StandsFor, Matched}
-use Rattle.fsb_bridge_run.specs.DeferralSteps.{after_beginning, after_cancellation, after_clock, after_reply, after_response, after_snoop, reply_at}
+use Rattle.fsb_bridge_run.specs.DeferralSteps.{after_beginning, after_cancellation, after_clock, after_reply, after_snoop, reply_at}
 use Rattle.fsb_bridge_run.specs.RunDeferrals.{FindsDeferrals, HasDeferrals, turns_of}
-use Rattle.fsb_bridge_run.proofs.Alike.{SameDeferrals, SameDeferrals-sym, entry-kept, stands-kept, waiting_at-same, waits-same}
-use Rattle.fsb_bridge_run.proofs.ClockEntries.{IsAnsweredTo, IsEntryWith, answered-entries, cancelled-entries}
-use Rattle.fsb_bridge_run.proofs.DueReplies.{AnswersDue, answers-due}
+use Rattle.fsb_bridge_run.proofs.Alike.{SameDeferrals, entry-kept, stands-kept, waiting_at-same, waits-same}
+use Rattle.fsb_bridge_run.proofs.ClockEntries.{IsAnsweredTo, answered-entries, cancelled-entries}
+use Rattle.fsb_bridge_run.proofs.DueReplies.{answers-due}
 use Rattle.fsb_bridge_run.proofs.Listed.{AllPass, Matched-into, Matched-map, all_where-pass}
 use Rattle.fsb_bridge_run.proofs.OwnIds.{ids-of}
 use Rattle.fsb_bridge_run.proofs.RepliesAt.{reply_at-none, reply_at-parts}

@@ -1,7 +1,7 @@
 -- The list of deferrals after the snoop end of a clock.
-use Rattle.std.proofs.Common.{ℕ, suc, ◌+◌, ◌/◌, ◌<◌, ◌≤◌, ◌≡◌, Bool, true, false, List, [], ◌∷◌, ◌++◌, Option, Some, None, length, slice_index, refl, sym, ap, subst, ◌∙◌, arith, inl, inr, if◌then◌else◌}
+use Rattle.std.proofs.Common.{ℕ, ◌+◌, ◌/◌, ◌<◌, ◌≤◌, ◌≡◌, true, false, List, [], ◌∷◌, ◌++◌, Option, Some, None, length, refl, sym, ap, subst, ◌∙◌, arith, inl, inr, if◌then◌else◌}
 use Rattle.std.specs.Option.{option_and_then, option_map}
-use Rattle.std.proofs.lemmas.Bool.{both_ways, cases_Bool, false_from_ne_true}
+use Rattle.std.proofs.lemmas.Bool.{cases_Bool, false_from_ne_true}
 use Rattle.fsb_count.specs.Clocks.{count_where}
 use Rattle.fsb_count.specs.Options.{is_before, is_some_and}
 use Rattle.fsb_count.proofs.Interface.{is_before-parts}
@@ -11,17 +11,16 @@ use Rattle.fsb_encode.specs.declared.request.Request.{Request}
 use Rattle.fsb_hazard.specs.Choice.{is_never_held_up}
 use Rattle.fsb_signal.specs.declared.lines.TheConstants.Lines.{ADS, HIT}
 use Rattle.fsb_signal.specs.Samples.{line_at}
-use Rattle.fsb_trace.specs.declared.who.Who.TheVariants.{Symmetric}
 use Rattle.fsb_trace.specs.At.{Trace, request_at}
 use Rattle.fsb_trace.specs.Deferral.{is_answered, later_of}
 use Rattle.fsb_trace.specs.Flight.{reply_number_of}
 use Rattle.fsb_trace.specs.Outcome.{is_deferral, response_clock_of}
-use Rattle.fsb_trace.specs.Requests.{is_reply, is_reply_kind, line_of, live_clock_of, live_number_of, live_request_of}
+use Rattle.fsb_trace.specs.Requests.{is_reply, is_reply_kind, line_of, live_request_of}
 use Rattle.fsb_trace.specs.Snoop.{line_at_snoop_end, snoop_end_of}
 use Rattle.fsb_trace.specs.Winner.{winner_at}
 use Rattle.fsb_trace.proofs.Interface.{is_reply-some, live_request_of-at, winner_at-agree}
 use Rattle.fsb_timely.specs.Grants.{begun_at, snooped_at}
-use Rattle.fsb_timely.specs.Moments.{agent_at, claim_at, number_of_turn}
+use Rattle.fsb_timely.specs.Moments.{agent_at, claim_at}
 use Rattle.fsb_timely.specs.Past.{Claim, SnoopEnd}
 use Rattle.fsb_timely.specs.Runs.{Run, past_of, past_to, requests_below, run_to}
 use Rattle.fsb_timely.specs.Starts.{request_begun, would_begin}
@@ -31,14 +30,14 @@ use Rattle.fsb_tied.proofs.Interface.{answered, asked-at, begun-want, deferred-h
 use Rattle.fsb_run_laws.specs.Reaches.{Reaches}
 use Rattle.fsb_bridge.specs.declared.deferral.Waiting.{Waiting}
 use Rattle.fsb_bridge.specs.Deferrals.{waiting_without}
-use Rattle.fsb_bridge.specs.DeferralList.{AreEntriesOf, HaveOwnIds, StandsFor, live_line_of, request_number_of, response_before, waiting_at, waiting_besides, waits}
+use Rattle.fsb_bridge.specs.DeferralList.{StandsFor, live_line_of, request_number_of, response_before, waiting_at, waiting_besides, waits}
 use Rattle.fsb_bridge.proofs.Interface.{IsEntryOf, IsEntryOf-AreEntriesOf, IsEntryOf-StandsFor, Matched, waiting_without-reply}
 use Rattle.fsb_bridge_run.specs.DeferralSteps.{after_snoop, after_snoop_of, deferral_made}
 use Rattle.fsb_bridge_run.specs.RunDeferrals.{turns_of}
-use Rattle.fsb_bridge_run.proofs.DueReplies.{AnswersDue, answers-due, due-replied, live-of}
+use Rattle.fsb_bridge_run.proofs.DueReplies.{answers-due, due-replied, live-of}
 use Rattle.fsb_bridge_run.proofs.Listed.{Matched-more}
 use Rattle.fsb_bridge_run.proofs.OwnIds.{own-ids}
-use Rattle.fsb_bridge_run.proofs.Waiting.{answered-parts, is_replied, reply-parts, waits-from}
+use Rattle.fsb_bridge_run.proofs.Waiting.{answered-parts, reply-parts, waits-from}
 use Rattle.fsb_bridge_run.proofs.WaitingSteps.{IsSnoopedHere, deferred-waiting, plain-waiting, quiet-waiting, replied-waiting}
 
 -- the claim of a symmetric agent's request: its line is the one that the first clock shows
