@@ -8,8 +8,10 @@ pub mod WaitingSteps
 pub mod SnoopEntries
 pub mod ReplySteps
 pub mod RepliesAt
+pub mod PriorityReplies
 pub mod ClockEntries
 pub mod RunLists
+pub mod ToldLists
 pub mod FewDeferrals
 pub mod ListWords
 pub mod RepliesTake

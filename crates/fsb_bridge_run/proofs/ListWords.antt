@@ -1,28 +1,23 @@
 -- What a timely run says of its deferrals at a clock is what the list says.
-use Rattle.std.proofs.Common.{ℕ, suc, ◌+◌, ◌<◌, ◌≤◌, ◌≡◌, true, ◌&&◌, List, Option, Some, None, is_some, length, take, if◌then◌else◌, refl, sym, ap, subst, ◌∙◌, arith, inl, inr}
+use Rattle.std.proofs.Common.{ℕ, ◌+◌, ◌<◌, ◌≤◌, ◌≡◌, true, List, Option, Some, None, is_some, length, take, if◌then◌else◌, refl, sym, ap, ◌∙◌, arith}
 use Rattle.std.specs.Option.{option_and_then, option_map}
-use Rattle.std.proofs.lemmas.Bool.{and_parts, cases_Bool}
 use Rattle.std.proofs.lemmas.List.{length-take-le}
-use Rattle.fsb_count.specs.Options.{is_some_and}
 use Rattle.fsb_count.proofs.Interface.{nth_where-found}
 use Rattle.fsb_encode.specs.declared.request.Request.{Request}
 use Rattle.fsb_hazard.specs.Choice.{effective}
 use Rattle.fsb_script.specs.declared.plan.Window.{Window}
-use Rattle.fsb_signal.specs.declared.lines.TheConstants.Lines.{ADS}
-use Rattle.fsb_signal.specs.Samples.{line_at}
 use Rattle.fsb_trace.specs.At.{Trace, request_at, responds_at}
 use Rattle.fsb_trace.specs.Deferral.{is_pending}
 use Rattle.fsb_trace.specs.Outcome.{response_clock_of}
-use Rattle.fsb_trace.specs.Requests.{have_same_id, is_reply, live_request_of}
-use Rattle.fsb_trace.specs.Winner.{begins_at, is_agent, is_same_agent, winner_at}
-use Rattle.fsb_trace.specs.declared.who.Who.{Who}
-use Rattle.fsb_trace.specs.declared.who.Who.TheVariants.{Symmetric, Priority}
-use Rattle.fsb_trace.proofs.Interface.{AgreeTo-sym, line_at-agree, live_request_of-stays, request_at-agree, response_clock_of-stays, snoop_end_of-clock, snoop_end_of-stays, winner_at-agree}
+use Rattle.fsb_trace.specs.Requests.{have_same_id, live_request_of}
+use Rattle.fsb_trace.specs.Winner.{begins_at}
+use Rattle.fsb_trace.specs.declared.who.Who.TheVariants.{Priority}
+use Rattle.fsb_trace.proofs.Interface.{AgreeTo-sym, live_request_of-stays, response_clock_of-stays, snoop_end_of-clock, snoop_end_of-stays}
 use Rattle.fsb_timely.specs.Moments.{choice_at, effective_choice, is_in_window, turns_in}
 use Rattle.fsb_timely.specs.Runs.{Run, moments_below, past_of, past_to, run_to}
-use Rattle.fsb_timely.specs.Starts.{due_number, reply_to, request_begun, would_begin}
+use Rattle.fsb_timely.specs.Starts.{due_number, reply_to, would_begin}
 use Rattle.fsb_timely.proofs.Interface.{snoop-tied}
-use Rattle.fsb_lawful.proofs.Interface.{begun-decoded, begun-winner, reply-before, reply-is, run_to-agrees, wants-lawfully}
+use Rattle.fsb_lawful.proofs.Interface.{run_to-agrees}
 use Rattle.fsb_tied.proofs.Interface.{answered, orderly-whole, snooped-by, turn-so-far}
 use Rattle.fsb_run_laws.specs.Reaches.{Reaches}
 use Rattle.fsb_bridge.specs.declared.deferral.Deferral.{Deferral}
@@ -30,12 +25,12 @@ use Rattle.fsb_bridge.specs.declared.deferral.Waiting.{Waiting}
 use Rattle.fsb_bridge.specs.Deferrals.{due_deferral, is_covered, is_waited_for}
 use Rattle.fsb_bridge.specs.DeferralList.{HaveOwnIds, IsThatOf, RespondsInOrder, StandsFor, waits}
 use Rattle.fsb_bridge.proofs.Interface.{due_deferral-StandsFor, is_waited_for-StandsFor}
-use Rattle.fsb_bridge_run.specs.DeferralSteps.{reply_at}
+use Rattle.fsb_bridge_run.specs.DeferralSteps.{reply_begun}
 use Rattle.fsb_bridge_run.specs.RunDeferrals.{FindsDeferrals, turns_of}
 use Rattle.fsb_bridge_run.proofs.Alike.{SameDeferrals, stands-kept, waits-same}
 use Rattle.fsb_bridge_run.proofs.DueReplies.{cut-same}
 use Rattle.fsb_bridge_run.proofs.OwnIds.{own-ids}
-use Rattle.fsb_bridge_run.proofs.RepliesAt.{reply_at-from, reply_at-off}
+use Rattle.fsb_bridge_run.proofs.PriorityReplies.{begun-if}
 use Rattle.fsb_bridge_run.proofs.RunLists.{own-turns, take-agrees}
 use Rattle.fsb_bridge_run.proofs.Waiting.{waits-parts}
 
@@ -181,57 +176,8 @@ would-listed r n list h finds =
     reply-by (run_to r n).trace (due_deferral n list) (due_number (run_to r n) (past_to (past_of r) n) n)
     (due-listed r n list h finds)
 
-agent-is : (who : Who) → is_agent (Some who) Priority ≡ true → who ≡ Priority
-unfolding is_agent is_some_and is_same_agent
-agent-is (Symmetric a) e = absurd (let no : ⊥ = cc in no)
-agent-is Priority e = refl
-
--- where the priority agent begins a request, it is what the agent would begin
-begun-priority : (r : Run) (n : ℕ) → Reaches r (n + 2) → begins_at r.trace n Priority ≡ true
-    → request_at r.trace n ≡ would_begin (run_to r n) (past_to (past_of r) n) n Priority
-unfolding begins_at request_begun
-begun-priority r n h e =
-    let w = r.trace in
-    let long = h.long in
-    let agree = run_to-agrees r n (omega arith) in
-    let parts = and_parts (line_at ADS w n) (is_agent (winner_at w n) Priority) e in
-    let here = sym (line_at-agree ADS (n + 1) w (run_to r n).trace n agree (omega arith)) ∙ parts.0 in
-    let b = begun-decoded r n h.timely (omega arith) here in
-    let next = run_to-agrees r (suc n) (omega arith) in
-    let decoded = request_at-agree (suc n + 1) w (run_to r (suc n)).trace n next (omega arith)
-    ∙ b.2 ((wants-lawfully r h.bounds).lawful n b.0 b.1) in
-    let who = begun-winner (would_begin (run_to r n) (past_to (past_of r) n) n) (winner_at (run_to r n).trace n) b.0 b.1 in
-    let winner = winner_at-agree (n + 1) w (run_to r n).trace n agree (omega arith) ∙ who.1 in
-    let is = agent-is who.0 (sym (ap (λ o. is_agent o Priority) winner) ∙ parts.1) in
-    decoded ∙ sym (subst (λ x. would_begin (run_to r n) (past_to (past_of r) n) n x ≡ Some b.0) is who.2)
-
--- a reply begins in the whole trace exactly where the priority agent begins a request
-reply-priority : (r : Run) (n : ℕ) → Reaches r (n + 2)
-    → (line_at ADS r.trace n && is_reply (request_at r.trace n)) ≡ begins_at r.trace n Priority
-unfolding begins_at
-reply-priority r n h =
-    let w = r.trace in
-    let v = run_to r (suc n) in
-    let long = h.long in
-    let agree = run_to-agrees r (suc n) (omega arith) in
-    let ads = line_at-agree ADS (suc n + 1) w v.trace n agree (omega arith) in
-    let request = request_at-agree (suc n + 1) w v.trace n agree (omega arith) in
-    let winner = winner_at-agree (suc n + 1) w v.trace n agree (omega arith) in
-    (λ i. ads i && is_reply (request i)) ∙ sym (reply-before v n)
-    ∙ reply-is r n h.timely (wants-lawfully r h.bounds) h.bounds.few_ahead (omega arith)
-    ∙ sym (λ i. ads i && is_agent (winner i) Priority)
-
-pub begun-listed : (r : Run) (n : ℕ) (list : List Waiting) → Reaches r (n + 2) → FindsDeferrals list r n
-    → reply_at r.trace n ≡ (if begins_at r.trace n Priority
+pub begun-listed : (r : Run) (n : ℕ) (list : List Waiting) → Reaches r (n + 1) → FindsDeferrals list r n
+    → reply_begun r n ≡ (if begins_at (run_to r n).trace n Priority
     then option_map (λ deferral. reply_to deferral.request) (due_deferral n list) else None)
 begun-listed r n list h finds =
-    let w = r.trace in
-    let long = h.long in
-    let short : Reaches r (n + 1) = record { timely = h.timely; bounds = h.bounds; long = omega arith } in
-    let same = reply-priority r n h in
-    elim (cases_Bool (begins_at w n Priority)) [
-      | inl t ↦
-          let parts = and_parts (line_at ADS w n) (is_reply (request_at w n)) (same ∙ t) in
-          rw t (reply_at-from w n parts.0 parts.1 ∙ begun-priority r n h t ∙ would-listed r n list short finds)
-      | inr f ↦ rw f (reply_at-off w n (same ∙ f))
-    ]
+    begun-if r n (option_map (λ deferral. reply_to deferral.request) (due_deferral n list)) (would-listed r n list h finds)

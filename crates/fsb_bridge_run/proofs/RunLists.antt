@@ -17,13 +17,14 @@ use Rattle.fsb_bridge.specs.declared.deferral.Waiting.{Waiting}
 use Rattle.fsb_bridge.specs.Deferrals.{with_reply}
 use Rattle.fsb_bridge.specs.DeferralList.{StandsFor, waiting_at, waits}
 use Rattle.fsb_bridge.proofs.Interface.{AreEntriesOf-IsEntryOf, IsEntryOf, IsEntryOf-StandsFor, Matched}
-use Rattle.fsb_bridge_run.specs.DeferralSteps.{after_beginning, after_cancellation, after_clock, after_reply, after_snoop, reply_at}
-use Rattle.fsb_bridge_run.specs.RunDeferrals.{FindsDeferrals, HasDeferrals, turns_of}
+use Rattle.fsb_bridge_run.specs.DeferralSteps.{after_beginning, after_cancellation, after_reply, after_response, after_snoop_end, reply_at, reply_begun}
+use Rattle.fsb_bridge_run.specs.RunDeferrals.{FindsDeferrals, ShowsDeferrals, turns_of}
 use Rattle.fsb_bridge_run.proofs.Alike.{SameDeferrals, entry-kept, stands-kept, waiting_at-same, waits-same}
 use Rattle.fsb_bridge_run.proofs.ClockEntries.{IsAnsweredTo, answered-entries, cancelled-entries}
 use Rattle.fsb_bridge_run.proofs.DueReplies.{answers-due}
 use Rattle.fsb_bridge_run.proofs.Listed.{AllPass, Matched-into, Matched-map, all_where-pass}
 use Rattle.fsb_bridge_run.proofs.OwnIds.{ids-of}
+use Rattle.fsb_bridge_run.proofs.PriorityReplies.{reply-shown}
 use Rattle.fsb_bridge_run.proofs.RepliesAt.{reply_at-none, reply_at-parts}
 use Rattle.fsb_bridge_run.proofs.ReplySteps.{begun-for, begun-kept, begun-now}
 use Rattle.fsb_bridge_run.proofs.SnoopEntries.{snoop-entries}
@@ -73,7 +74,7 @@ found-entries r n list h entries =
     whole-found r n list h (AreEntriesOf-IsEntryOf (waiting_at r.trace (turns_of r) n) list r.trace (turns_of r) n entries)
 
 -- the entries of a list that has the deferrals below n, beside the whole trace
-below-entries : (r : Run) (n : ℕ) (list : List Waiting) → Reaches r n → HasDeferrals list r n
+below-entries : (r : Run) (n : ℕ) (list : List Waiting) → Reaches r n → ShowsDeferrals list r n
     → Matched (IsEntryOf (take n r.trace) (turns_of r) n) list (waiting_at r.trace (turns_of r) n)
 below-entries r n list h has =
     let w = r.trace in
@@ -146,18 +147,18 @@ told-entry r d i reply e h begins waiting entry false other =
     (reply-parts w i d t).same_id in
     both_ways (nat_eq e.deferral.request.did reply.did) other (eq-eqb e.deferral.request.did reply.did (sym did)))))
 
-after-none : (w : Trace) (d : ℕ) (list : List Waiting) → reply_at w d ≡ None → after_beginning w (suc d) list ≡ list
+after-none : (r : Run) (d : ℕ) (list : List Waiting) → reply_begun r d ≡ None → after_beginning r (suc d) list ≡ list
 unfolding after_beginning after_reply
-after-none w d list e = rw (after_beginning, e) refl
+after-none r d list e = rw (after_beginning, e) refl
 
-after-some : (w : Trace) (d : ℕ) (reply : Request) (list : List Waiting) → reply_at w d ≡ Some reply
-    → after_beginning w (suc d) list ≡ map (with_reply reply.did true) list
+after-some : (r : Run) (d : ℕ) (reply : Request) (list : List Waiting) → reply_begun r d ≡ Some reply
+    → after_beginning r (suc d) list ≡ map (with_reply reply.did true) list
 unfolding after_beginning after_reply
-after-some w d reply list e = rw (after_beginning, e) refl
+after-some r d reply list e = rw (after_beginning, e) refl
 
 -- a clock finds the list with the reply that began before it
-pub clock-finds : (r : Run) (n : ℕ) (list : List Waiting) → Reaches r (n + 1) → HasDeferrals list r n
-    → FindsDeferrals (after_beginning r.trace n list) r n
+pub clock-finds : (r : Run) (n : ℕ) (list : List Waiting) → Reaches r (n + 1) → ShowsDeferrals list r n
+    → FindsDeferrals (after_beginning r n list) r n
 unfolding after_beginning waiting_at
 clock-finds r zero list h has =
     let w = r.trace in
@@ -171,7 +172,7 @@ clock-finds r zero list h has =
     let none = a.below in
     absurd (omega arith))
     (below-entries r zero list short has))
-clock-finds r (suc d) list h has = by (reply_at r.trace d) refl
+clock-finds r (suc d) list h has = by (reply_begun r d) refl
   where
     live : List ℕ
     live = waiting_at r.trace (turns_of r) (suc d)
@@ -182,22 +183,25 @@ clock-finds r (suc d) list h has = by (reply_at r.trace d) refl
     below : Matched (IsEntryOf (take (suc d) r.trace) (turns_of r) (suc d)) list live
     below = below-entries r (suc d) list (shorter r (suc d) h) has
 
-    by : (o : Option Request) → reply_at r.trace d ≡ o
-        → FindsDeferrals (after_beginning r.trace (suc d) list) r (suc d)
+    shown : reply_at r.trace d ≡ reply_begun r d
+    shown = reply-shown r d (let long = h.long in record { timely = h.timely; bounds = h.bounds; long = omega arith })
+
+    by : (o : Option Request) → reply_begun r d ≡ o
+        → FindsDeferrals (after_beginning r (suc d) list) r (suc d)
     by None e =
-        subst (λ xs. FindsDeferrals xs r (suc d)) (sym (after-none r.trace d list e))
+        subst (λ xs. FindsDeferrals xs r (suc d)) (sym (after-none r d list e))
         (found-entries r (suc d) list h
         (Matched-into (IsEntryOf (take (suc d) r.trace) (turns_of r) (suc d)) (IsEntryOf r.trace (turns_of r) (suc d))
         (waits r.trace (turns_of r) (suc d)) list live all
         (λ x i waiting entry. same-entry r d i x h waiting entry (false_from_ne_true (is_reply_to r.trace i d) (λ t.
         let parts = reply-parts r.trace i d t in
-        reply_at-none r.trace d e parts.asks parts.replies))) below))
+        reply_at-none r.trace d (shown ∙ e) parts.asks parts.replies))) below))
     by (Some reply) e =
-        subst (λ xs. FindsDeferrals xs r (suc d)) (sym (after-some r.trace d reply list e))
+        subst (λ xs. FindsDeferrals xs r (suc d)) (sym (after-some r d reply list e))
         (found-entries r (suc d) (map (with_reply reply.did true) list) h
         (Matched-map (IsEntryOf (take (suc d) r.trace) (turns_of r) (suc d)) (IsEntryOf r.trace (turns_of r) (suc d))
         (waits r.trace (turns_of r) (suc d)) (with_reply reply.did true) list live all
-        (λ x i waiting entry. told-entry r d i reply x h e waiting entry
+        (λ x i waiting entry. told-entry r d i reply x h (shown ∙ e) waiting entry
         (nat_eq x.deferral.request.did reply.did) refl) below))
 
 left-entry : (r : Run) (n i : ℕ) (e : Waiting) → Reaches r (n + 1) → waits r.trace (turns_of r) (n + 1) i ≡ true
@@ -218,21 +222,22 @@ left-entry r n i e h waiting entry =
 
 -- and leaves it by its snoop end, its cancellation and its response
 pub clock-leaves : (r : Run) (n : ℕ) (list : List Waiting) → Reaches r (n + 1) → FindsDeferrals list r n
-    → HasDeferrals (after_clock r n list) r (n + 1)
-unfolding after_clock waiting_at run_to
+    → ShowsDeferrals (after_response r n (after_cancellation r n (after_snoop_end r n list))) r (n + 1)
+unfolding waiting_at run_to
 clock-leaves r n list h finds =
     let w = r.trace in
     let v = (run_to r n).trace in
     let turns = turns_of r in
     let long = h.long in
+    let left = after_response r n (after_cancellation r n (after_snoop_end r n list)) in
     let whole = found-whole r n list h finds in
     let snooped = snoop-entries r n list h whole in
-    let cancelled = cancelled-entries r n (after_snoop r n list) h snooped in
-    let answered = answered-entries r n (after_cancellation r n (after_snoop r n list)) h cancelled in
-    let left = Matched-into (IsAnsweredTo r n) (IsEntryOf v turns (n + 1)) (waits w turns (n + 1))
-    (after_clock r n list) (waiting_at w turns (n + 1)) (all_where-pass (waits w turns (n + 1)) (live_count w))
+    let cancelled = cancelled-entries r n (after_snoop_end r n list) h snooped in
+    let answered = answered-entries r n (after_cancellation r n (after_snoop_end r n list)) h cancelled in
+    let entries = Matched-into (IsAnsweredTo r n) (IsEntryOf v turns (n + 1)) (waits w turns (n + 1)) left
+    (waiting_at w turns (n + 1)) (all_where-pass (waits w turns (n + 1)) (live_count w))
     (λ e i waiting entry. left-entry r n i e h waiting entry) answered in
     let same = waiting_at-same (n + 1) w v turns turns (n + 1) (own-turns (n + 1) w v turns
     (run_to-agrees r n (omega arith))) (omega arith) in
-    AreEntriesOf-IsEntryOf (waiting_at v turns (n + 1)) (after_clock r n list) v turns (n + 1)
-    (subst (Matched (IsEntryOf v turns (n + 1)) (after_clock r n list)) same left)
+    AreEntriesOf-IsEntryOf (waiting_at v turns (n + 1)) left v turns (n + 1)
+    (subst (Matched (IsEntryOf v turns (n + 1)) left) same entries)

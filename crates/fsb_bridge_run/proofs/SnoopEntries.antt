@@ -32,7 +32,7 @@ use Rattle.fsb_bridge.specs.declared.deferral.Waiting.{Waiting}
 use Rattle.fsb_bridge.specs.Deferrals.{waiting_without}
 use Rattle.fsb_bridge.specs.DeferralList.{StandsFor, live_line_of, request_number_of, response_before, waiting_at, waiting_besides, waits}
 use Rattle.fsb_bridge.proofs.Interface.{IsEntryOf, IsEntryOf-AreEntriesOf, IsEntryOf-StandsFor, Matched, waiting_without-reply}
-use Rattle.fsb_bridge_run.specs.DeferralSteps.{after_snoop, after_snoop_of, deferral_made}
+use Rattle.fsb_bridge_run.specs.DeferralSteps.{after_snoop_end, after_snoop_end_of, deferral_made}
 use Rattle.fsb_bridge_run.specs.RunDeferrals.{turns_of}
 use Rattle.fsb_bridge_run.proofs.DueReplies.{answers-due, due-replied, live-of}
 use Rattle.fsb_bridge_run.proofs.Listed.{Matched-more}
@@ -136,32 +136,37 @@ made-entry r c i s request h here begun plain =
       begun = made-begun r c i h k.tied.reached;
     }
 
-after_snoop-none : (r : Run) (c : ℕ) (list : List Waiting) → snooped_at (past_of r) c ≡ None
-    → after_snoop r c list ≡ list
-unfolding after_snoop
-after_snoop-none r c list e = rw (after_snoop, e) refl
+pub after_snoop_end-none : (r : Run) (c : ℕ) (list : List Waiting) → snooped_at (past_of r) c ≡ None
+    → after_snoop_end r c list ≡ list
+unfolding after_snoop_end
+after_snoop_end-none r c list e = rw (after_snoop_end, e) refl
 
-after_snoop-some : (r : Run) (c : ℕ) (list : List Waiting) (s : SnoopEnd) (request : Request)
+pub after_snoop_end-lost : (r : Run) (c : ℕ) (list : List Waiting) (s : SnoopEnd) → snooped_at (past_of r) c ≡ Some s
+    → request_at r.trace s.first ≡ None → after_snoop_end r c list ≡ list
+unfolding after_snoop_end
+after_snoop_end-lost r c list s e f = rw (after_snoop_end, e, f) refl
+
+pub after_snoop_end-some : (r : Run) (c : ℕ) (list : List Waiting) (s : SnoopEnd) (request : Request)
     → snooped_at (past_of r) c ≡ Some s → request_at r.trace s.first ≡ Some request
-    → after_snoop r c list ≡ after_snoop_of r.trace c s request list
-unfolding after_snoop
-after_snoop-some r c list s request e f = rw (after_snoop, e, f) refl
+    → after_snoop_end r c list ≡ after_snoop_end_of r.trace c s request list
+unfolding after_snoop_end
+after_snoop_end-some r c list s request e f = rw (after_snoop_end, e, f) refl
 
-after-reply : (w : Trace) (c : ℕ) (s : SnoopEnd) (request : Request) (list : List Waiting)
-    → is_reply_kind request.kind ≡ true → after_snoop_of w c s request list ≡ waiting_without request.did list
-unfolding after_snoop_of
-after-reply w c s request list e = rw (after_snoop_of, e) refl
+pub after-reply : (w : Trace) (c : ℕ) (s : SnoopEnd) (request : Request) (list : List Waiting)
+    → is_reply_kind request.kind ≡ true → after_snoop_end_of w c s request list ≡ waiting_without request.did list
+unfolding after_snoop_end_of
+after-reply w c s request list e = rw (after_snoop_end_of, e) refl
 
-after-deferral : (w : Trace) (c : ℕ) (s : SnoopEnd) (request : Request) (list : List Waiting)
+pub after-deferral : (w : Trace) (c : ℕ) (s : SnoopEnd) (request : Request) (list : List Waiting)
     → is_reply_kind request.kind ≡ false → is_deferral s.outcome ≡ true
-    → after_snoop_of w c s request list ≡ list ++ deferral_made w c s request ∷ []
-unfolding after_snoop_of
-after-deferral w c s request list e f = rw (after_snoop_of, e, f) refl
+    → after_snoop_end_of w c s request list ≡ list ++ deferral_made w c s request ∷ []
+unfolding after_snoop_end_of
+after-deferral w c s request list e f = rw (after_snoop_end_of, e, f) refl
 
-after-plain : (w : Trace) (c : ℕ) (s : SnoopEnd) (request : Request) (list : List Waiting)
-    → is_reply_kind request.kind ≡ false → is_deferral s.outcome ≡ false → after_snoop_of w c s request list ≡ list
-unfolding after_snoop_of
-after-plain w c s request list e f = rw (after_snoop_of, e, f) refl
+pub after-plain : (w : Trace) (c : ℕ) (s : SnoopEnd) (request : Request) (list : List Waiting)
+    → is_reply_kind request.kind ≡ false → is_deferral s.outcome ≡ false → after_snoop_end_of w c s request list ≡ list
+unfolding after_snoop_end_of
+after-plain w c s request list e f = rw (after_snoop_end_of, e, f) refl
 
 -- the reply whose snoop end is the clock: which request it answers
 pub record TakesDeferral (r : Run) (c i : ℕ) (reply : Request) : Type 0 where
@@ -203,7 +208,7 @@ takes-deferral r c i s reply h here replies =
 snoop-some : (r : Run) (c i : ℕ) (s : SnoopEnd) (request : Request) (list : List Waiting) → Reaches r (c + 1)
     → IsSnoopedHere r c i s request → begun_of r s.first ≡ Some request
     → StandsFor list r.trace (turns_of r) c
-    → Matched (IsEntryOf r.trace (turns_of r) c) (after_snoop_of r.trace c s request list)
+    → Matched (IsEntryOf r.trace (turns_of r) c) (after_snoop_end_of r.trace c s request list)
     (waiting_at r.trace (turns_of r) (c + 1))
 snoop-some r c i s request list h here begun stands =
     let w = r.trace in
@@ -240,15 +245,15 @@ snoop-some r c i s request list h here begun stands =
 -- after the snoop end each request that waits at the next clock has its entry
 pub snoop-entries : (r : Run) (c : ℕ) (list : List Waiting) → Reaches r (c + 1)
     → StandsFor list r.trace (turns_of r) c
-    → Matched (IsEntryOf r.trace (turns_of r) c) (after_snoop r c list) (waiting_at r.trace (turns_of r) (c + 1))
+    → Matched (IsEntryOf r.trace (turns_of r) c) (after_snoop_end r c list) (waiting_at r.trace (turns_of r) (c + 1))
 snoop-entries r c list h stands = by (snooped_at (past_of r) c) refl
   where
     by : (o : Option SnoopEnd) → snooped_at (past_of r) c ≡ o
-        → Matched (IsEntryOf r.trace (turns_of r) c) (after_snoop r c list)
+        → Matched (IsEntryOf r.trace (turns_of r) c) (after_snoop_end r c list)
         (waiting_at r.trace (turns_of r) (c + 1))
     by None e =
         subst (λ xs. Matched (IsEntryOf r.trace (turns_of r) c) xs (waiting_at r.trace (turns_of r) (c + 1)))
-        (sym (after_snoop-none r c list e))
+        (sym (after_snoop_end-none r c list e))
         (subst (Matched (IsEntryOf r.trace (turns_of r) c) list) (sym (quiet-waiting r c e))
         (IsEntryOf-StandsFor list r.trace (turns_of r) c stands))
     by (Some s) e =
@@ -256,5 +261,5 @@ snoop-entries r c list h stands = by (snooped_at (past_of r) c) refl
         let k = snooped-by r c tied.0 s tied.1 in
         let a = asked-at r c tied.0 s h.timely (wants-lawfully r h.bounds) k in
         subst (λ xs. Matched (IsEntryOf r.trace (turns_of r) c) xs (waiting_at r.trace (turns_of r) (c + 1)))
-        (sym (after_snoop-some r c list s a.request e a.decoded))
+        (sym (after_snoop_end-some r c list s a.request e a.decoded))
         (snoop-some r c tied.0 s a.request list h (record { snooped = k; decoded = a.decoded }) a.begun stands)

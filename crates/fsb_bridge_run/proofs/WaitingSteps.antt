@@ -53,7 +53,7 @@ waits-on w turns c i e none =
     ]))
 
 -- a request that is Deferred at the clock waits from then on
-waits-new : (r : Run) (c i : ℕ) → Reaches r (c + 1) → snoop_end_of r.trace i ≡ Some c
+pub waits-new : (r : Run) (c i : ℕ) → Reaches r (c + 1) → snoop_end_of r.trace i ≡ Some c
     → is_settled_deferred r.trace (turns_of r) i ≡ true → waits r.trace (turns_of r) (c + 1) i ≡ true
 waits-new r c i h e deferred =
     let w = r.trace in
@@ -109,13 +109,13 @@ pub record IsSnoopedHere (r : Run) (c i : ℕ) (s : SnoopEnd) (request : Request
   pub snooped : IsSnooped r c i s
   pub decoded : request_at r.trace s.first ≡ Some request
 
-settled-here : (r : Run) (c i : ℕ) (s : SnoopEnd) → IsSnooped r c i s
+pub settled-here : (r : Run) (c i : ℕ) (s : SnoopEnd) → IsSnooped r c i s
     → is_settled_deferred r.trace (turns_of r) i ≡ is_deferral s.outcome
 unfolding is_settled_deferred is_some_and
 settled-here r c i s k = ap (λ o. is_some_and o is_deferral) k.tied.outcome
 
 -- the snoop end of a request that is no reply ends no wait
-plain-on : (r : Run) (c i k : ℕ) (s : SnoopEnd) (request : Request) → IsSnoopedHere r c i s request
+pub plain-on : (r : Run) (c i k : ℕ) (s : SnoopEnd) (request : Request) → IsSnoopedHere r c i s request
     → is_reply_kind request.kind ≡ false → waits r.trace (turns_of r) c k ≡ true
     → waits r.trace (turns_of r) (c + 1) k ≡ true
 plain-on r c i k s request here plain e =

@@ -21,7 +21,7 @@ ghost use Rattle.fsb_run_laws.specs.Reaches.{Reaches};
 ghost use Rattle.fsb_bridge.specs.declared.deferral.Waiting.{Waiting};
 ghost use Rattle.fsb_bridge.specs.Deferrals.{deferral_of_id, due_deferral, is_covered, is_waited_for};
 ghost use Rattle.fsb_bridge.specs.DeferralList.{HaveOwnIds, IsThatOf, RespondsInOrder};
-ghost use Rattle.fsb_bridge_run.specs.DeferralSteps.{after_beginning, after_clock, reply_at};
+ghost use Rattle.fsb_bridge_run.specs.DeferralSteps.{after_clock, reply_at, reply_begun};
 ghost use Rattle.fsb_bridge_run.specs.RunDeferrals.{FindsDeferrals, HasDeferrals, turns_of};
 
 /// What the bridge's laws ask of a trace, a timely run has at each of its clocks: no request
@@ -40,13 +40,14 @@ pub fn deferrals_start_and_stay()
         HasDeferrals list r (length r.trace) → HasDeferrals list s (length r.trace) }
 {}
 
-/// A clock finds the list with the reply that began at the clock before, and leaves it by its snoop
-/// end, its cancellation and its response.
+/// A list that has the deferrals below a clock is what the clock finds, for its own words; and what
+/// the clock makes of it, by the reply that begins, the cancellation, the snoop end and the
+/// response, has the deferrals below the next clock.
 pub fn clocks_change_the_deferrals()
     ensures found { (r : Run) (n : ℕ) (list : List Waiting) → Reaches r (n + 1) →
-        HasDeferrals list r n → FindsDeferrals (after_beginning r.trace n list) r n }
+        HasDeferrals list r n → FindsDeferrals list r n }
     ensures left { (r : Run) (n : ℕ) (list : List Waiting) → Reaches r (n + 1) →
-        FindsDeferrals list r n → HasDeferrals (after_clock r n list) r (n + 1) }
+        HasDeferrals list r n → HasDeferrals (after_clock r n list) r (n + 1) }
 {}
 
 /// There are sixteen deferrals at most, and where a request is Deferred there is room for one more.
@@ -75,8 +76,7 @@ pub fn pending_lines_are_those_of_the_list()
 {}
 
 /// The least request that is due at a clock is that of the list's first due deferral; so the
-/// priority agent would begin the reply to that one; and a reply begins exactly where it begins a
-/// request, and is this.
+/// priority agent would begin the reply to that one.
 pub fn due_replies_are_those_of_the_list()
     ensures number { (r : Run) (n : ℕ) (list : List Waiting) → Reaches r (n + 1) →
         FindsDeferrals list r n → IsThatOf (run_to r n).trace (due_deferral n list)
@@ -88,10 +88,18 @@ pub fn due_replies_are_those_of_the_list()
         FindsDeferrals list r n →
         would_begin (run_to r n) (past_to (past_of r) n) n Priority
         ≡ option_map (λ deferral. reply_to deferral.request) (due_deferral n list) }
-    ensures begun { (r : Run) (n : ℕ) (list : List Waiting) → Reaches r (n + 2) →
-        FindsDeferrals list r n → reply_at r.trace n
-        ≡ (if begins_at r.trace n Priority
+{}
+
+/// A reply begins exactly where the priority agent begins a request: by the list it is the reply to
+/// the first due deferral, and the two clocks of the request show it as that.
+pub fn replies_begin_as_due()
+    ensures due { (r : Run) (n : ℕ) (list : List Waiting) → Reaches r (n + 1) →
+        FindsDeferrals list r n →
+        reply_begun r n ≡ (if begins_at (run_to r n).trace n Priority
         then option_map (λ deferral. reply_to deferral.request) (due_deferral n list) else None) }
+    ensures shown { (r : Run) (n : ℕ) → Reaches r (n + 2) → reply_at r.trace n ≡ reply_begun r n }
+    ensures requests { (r : Run) (n : ℕ) → Reaches r (n + 2) → reply_at r.trace n
+        ≡ (if begins_at r.trace n Priority then request_at r.trace n else None) }
 {}
 
 /// A reply has its snoop end for the deferral that its ID has in the list, and HIT# there is what it

@@ -15,3 +15,4 @@ pub mod BegunIds
 pub mod BroughtLines
 pub mod LastTold
 pub mod LastPuts
+pub mod Interface
