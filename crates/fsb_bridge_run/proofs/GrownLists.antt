@@ -35,7 +35,7 @@ use Rattle.fsb_bridge_run.proofs.Listed.{Matched-length}
 use Rattle.fsb_bridge_run.proofs.RunLists.{found-whole, own-turns, take-agrees}
 use Rattle.fsb_bridge_run.proofs.WaitingSteps.{deferred-waiting}
 
-agree-grown : (r s : Run) → GrowsTo r s → AgreeTo (length r.trace) r.trace s.trace
+pub agree-grown : (r s : Run) → GrowsTo r s → AgreeTo (length r.trace) r.trace s.trace
 agree-grown r s grows =
     subst (λ w. AgreeTo (length r.trace) r.trace w) (sym grows.next.more_trace)
     (one_more r.trace grows.next.sample).agree
@@ -48,7 +48,7 @@ snooped-grown r s t grows l =
     ap (λ p. snooped_at p t) (sym (past-before r s m grows last)) ∙ snooped-to (past_of s) m t (omega arith)
 
 -- the turns of both runs are the same
-turns-grown : (r s : Run) (i t : ℕ) → GrowsTo r s → snoop_end_of r.trace i ≡ Some t → t < length r.trace
+pub turns-grown : (r s : Run) (i t : ℕ) → GrowsTo r s → snoop_end_of r.trace i ≡ Some t → t < length r.trace
     → slice_index (turns_of r) i ≡ slice_index (turns_of s) i
 turns-grown r s i t grows e l =
     let there = snoop_end_of-stays (length r.trace) r.trace s.trace i t (agree-grown r s grows) l e in
@@ -117,18 +117,6 @@ list-first r = record {
   begun = refl;
 }
 
-shown-most : (r : Run) (n : ℕ) (list : List Waiting) → Reaches r n → ShowsDeferrals list r n → length list ≤ 16
-shown-most r n list h has =
-    let w = r.trace in
-    let v = take n w in
-    let back = AgreeTo-sym n w v (take-agrees w n h.long) in
-    let live = waiting_at-same n v w (turns_of r) (turns_of r) n (own-turns n v w (turns_of r) back) (omega arith) in
-    let size = Matched-length (IsEntryOf v (turns_of r) n) list (waiting_at v (turns_of r) n)
-    (IsEntryOf-StandsFor list v (turns_of r) n has) in
-    let few = few-waiting r n n h (omega arith) in
-    let same = ap length live in
-    omega arith
-
 reply-length : (o : Option Request) (begun : Bool) (list : List Waiting) → length (after_reply o begun list) ≡ length list
 unfolding after_reply
 reply-length None begun list = refl
@@ -139,10 +127,22 @@ unfolding after_beginning
 beginning-length r zero list = refl
 beginning-length r (suc d) list = reply-length (reply_begun r d) true list
 
+-- the list is as long as there are requests that wait
+pub list-length : (r : Run) (n : ℕ) (list : List Waiting) → Reaches r n → HasDeferrals list r n
+    → length list ≡ length (waiting_at r.trace (turns_of r) n)
+list-length r n list h has =
+    let w = r.trace in
+    let v = take n w in
+    let back = AgreeTo-sym n w v (take-agrees w n h.long) in
+    ap length has.begun ∙ beginning-length r n has.shown
+    ∙ Matched-length (IsEntryOf v (turns_of r) n) has.shown (waiting_at v (turns_of r) n)
+    (IsEntryOf-StandsFor has.shown v (turns_of r) n has.shows)
+    ∙ ap length (waiting_at-same n v w (turns_of r) (turns_of r) n (own-turns n v w (turns_of r) back) (omega arith))
+
 pub list-most : (r : Run) (n : ℕ) (list : List Waiting) → Reaches r n → HasDeferrals list r n → length list ≤ 16
 list-most r n list h has =
-    let most = shown-most r n has.shown h has.shows in
-    let size = ap length has.begun ∙ beginning-length r n has.shown in
+    let size = list-length r n list h has in
+    let few = few-waiting r n n h (omega arith) in
     omega arith
 
 -- and one more has room where a request is Deferred

@@ -7,7 +7,7 @@ use Rattle.fsb_encode.specs.declared.request.Request.{Request}
 use Rattle.fsb_hazard.specs.Choice.{effective}
 use Rattle.fsb_script.specs.declared.plan.Window.{Window}
 use Rattle.fsb_trace.specs.At.{Trace, request_at, responds_at}
-use Rattle.fsb_trace.specs.Deferral.{is_pending}
+use Rattle.fsb_trace.specs.Deferral.{due_at, is_pending}
 use Rattle.fsb_trace.specs.Outcome.{response_clock_of}
 use Rattle.fsb_trace.specs.Requests.{have_same_id, live_request_of}
 use Rattle.fsb_trace.specs.Winner.{begins_at}
@@ -31,6 +31,7 @@ use Rattle.fsb_bridge_run.proofs.Alike.{SameDeferrals, stands-kept, waits-same}
 use Rattle.fsb_bridge_run.proofs.DueReplies.{cut-same}
 use Rattle.fsb_bridge_run.proofs.OwnIds.{own-ids}
 use Rattle.fsb_bridge_run.proofs.PriorityReplies.{begun-if}
+use Rattle.fsb_bridge_run.proofs.LaterTraces.{cut-goes-on, trace-order}
 use Rattle.fsb_bridge_run.proofs.RunLists.{own-turns, take-agrees}
 use Rattle.fsb_bridge_run.proofs.Waiting.{waits-parts}
 
@@ -39,9 +40,9 @@ unfolding response_clock_of
 response-within w i x e = (nth_where-found (responds_at w) i (length w) x e).0
 
 -- no request of the samples below n responds before its snoop end
-pub responds-in-order : (r : Run) (n : ℕ) → Reaches r n → RespondsInOrder (take n r.trace)
-responds-in-order r n h = record {
-  after = λ i s x snoop response.
+pub responds-in-order : (r : Run) (n c : ℕ) → Reaches r n → RespondsInOrder (take n r.trace) c
+responds-in-order r n c h = record {
+  after = λ i s x snoop response less.
       let w = r.trace in
       let v = take n w in
       let back = AgreeTo-sym n w v (take-agrees w n h.long) in
@@ -79,14 +80,6 @@ ids-below r n c h low =
           (sym (λ x. have_same_id (request i one x) (request k two x)) ∙ id);
     }
 
-cut-order : (r : Run) (n : ℕ) → Reaches r (n + 1) → RespondsInOrder (run_to r n).trace
-unfolding run_to
-cut-order r n h = responds-in-order r (n + 1) h
-
-pub cut-ids : (r : Run) (n : ℕ) → Reaches r (n + 1) → HaveOwnIds (run_to r n).trace (turns_of r) n
-unfolding run_to
-cut-ids r n h = ids-below r (n + 1) n h (omega arith)
-
 -- the moments below n have the turns of the requests with their snoop ends below n
 below-turns : (r : Run) (n : ℕ) → Reaches r (n + 1)
     → SameDeferrals n (run_to r n).trace (run_to r n).trace (turns_of r) (turns_in (moments_below r n))
@@ -114,7 +107,7 @@ pending-listed r n line list h finds =
     (λ i waiting. refl) finds in
     sym (is_waited_for-StandsFor list v (turns_in (moments_below r n)) n line stands)
 
-covered : (bridge : Option Window) (line : ℕ) → is_in_window bridge line ≡ is_covered bridge line
+pub covered : (bridge : Option Window) (line : ℕ) → is_in_window bridge line ≡ is_covered bridge line
 unfolding is_in_window
 covered None line = refl
 covered (Some window) line = refl
@@ -130,7 +123,7 @@ choice-listed r n q request list h finds e =
     (covered r.plan.bridge request.line i) (pending-listed r n request.line list h finds i))
 
 -- the same list stands with the turns of the run up to n
-finds-cut : (r : Run) (n : ℕ) (list : List Waiting) → Reaches r (n + 1) → FindsDeferrals list r n
+pub finds-cut : (r : Run) (n : ℕ) (list : List Waiting) → Reaches r (n + 1) → FindsDeferrals list r n
     → StandsFor list (run_to r n).trace (turns_in (past_to (past_of r) n).moments) n
 finds-cut r n list h finds =
     let w = r.trace in
@@ -145,14 +138,23 @@ finds-cut r n list h finds =
       same = λ i t e less. same.same i t (snoop_end_of-stays (n + 1) v w i t back (omega arith) e) (omega arith);
     }) (omega arith) (λ i waiting. refl) finds
 
+-- the first due deferral of a list that stands in a trace with the run's deferrals
+pub due-in : (r : Run) (n : ℕ) (w : Trace) (turns : List ℕ) (list : List Waiting) → Reaches r n
+    → SameDeferrals n r.trace w (turns_of r) turns → StandsFor list w turns n
+    → IsThatOf w (due_deferral n list) (due_at w turns n)
+due-in r n w turns list h k stands = due_deferral-StandsFor list w turns n (trace-order r n w turns h k) stands
+
 pub due-listed : (r : Run) (n : ℕ) (list : List Waiting) → Reaches r (n + 1) → FindsDeferrals list r n
     → IsThatOf (run_to r n).trace (due_deferral n list) (due_number (run_to r n) (past_to (past_of r) n) n)
 unfolding due_number
 due-listed r n list h finds =
-    due_deferral-StandsFor list (run_to r n).trace (turns_in (past_to (past_of r) n).moments) n (cut-order r n h)
-    (finds-cut r n list h finds)
+    let long = h.long in
+    let turns = turns_in (past_to (past_of r) n).moments in
+    let short : Reaches r n = record { timely = h.timely; bounds = h.bounds; long = omega arith } in
+    due-in r n (run_to r n).trace turns list short
+    (cut-goes-on r n turns h (cut-same r n h.timely (omega arith))).same (finds-cut r n list h finds)
 
-any-by : (w : Trace) (o : Option Deferral) (p : Option ℕ) → IsThatOf w o p → is_some p ≡ is_some o
+pub any-by : (w : Trace) (o : Option Deferral) (p : Option ℕ) → IsThatOf w o p → is_some p ≡ is_some o
 any-by w None p e = ap is_some e
 any-by w (Some d) p e = ap is_some e.1
 
@@ -162,7 +164,7 @@ any-listed r n list h finds =
     any-by (run_to r n).trace (due_deferral n list) (due_number (run_to r n) (past_to (past_of r) n) n)
     (due-listed r n list h finds)
 
-reply-by : (w : Trace) (o : Option Deferral) (p : Option ℕ) → IsThatOf w o p
+pub reply-by : (w : Trace) (o : Option Deferral) (p : Option ℕ) → IsThatOf w o p
     → option_map reply_to (option_and_then (live_request_of w) p) ≡ option_map (λ d. reply_to d.request) o
 reply-by w None p e = ap (λ x. option_map reply_to (option_and_then (live_request_of w) x)) e
 reply-by w (Some d) p e =

@@ -110,12 +110,12 @@ still-outstanding r c n t i h l d early low none =
     (ap not (and_left _ _ live.kept)))
     (ap not (and_right _ _ (ap (λ x. is_before (last_clock_of v x) n) live.number ∙ awaits)))
 
-same-ids : (a b : Option Request) (x y : Request) → a ≡ Some x → b ≡ Some y → x.did ≡ y.did → have_same_id a b ≡ true
+pub same-ids : (a b : Option Request) (x y : Request) → a ≡ Some x → b ≡ Some y → x.did ≡ y.did → have_same_id a b ≡ true
 unfolding have_same_id is_some_and
 same-ids a b x y e f did = rw (e, f) (eq-eqb x.did y.did did)
 
 -- so no other request begins with its ID
-not-again : (r : Run) (q t i : ℕ) (d : IsDeferredAt r t i) (request : Request) → Timely r → WantsLawfully r
+pub not-again : (r : Run) (q t i : ℕ) (d : IsDeferredAt r t i) (request : Request) → Timely r → WantsLawfully r
     → r.plan.ahead ≤ 4 → begun_of r q ≡ Some request → request_at r.trace q ≡ Some request
     → is_reply_kind request.kind ≡ false → line_at ADS r.trace q ≡ true → suc q < length r.trace → d.end.first < q
     → d.request.did ≡ request.did → is_replied r.trace q i ≡ false → ⊥

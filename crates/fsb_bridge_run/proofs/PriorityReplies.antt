@@ -73,7 +73,7 @@ begins-cut r n h =
 shorter : (r : Run) (n : ℕ) → Reaches r (n + 2) → Reaches r (n + 1)
 shorter r n h = let long = h.long in record { timely = h.timely; bounds = h.bounds; long = omega arith }
 
-begun-off : (r : Run) (n : ℕ) → begins_at (run_to r n).trace n Priority ≡ false → reply_begun r n ≡ None
+pub begun-off : (r : Run) (n : ℕ) → begins_at (run_to r n).trace n Priority ≡ false → reply_begun r n ≡ None
 unfolding reply_begun
 begun-off r n e = rw (reply_begun, e) refl
 

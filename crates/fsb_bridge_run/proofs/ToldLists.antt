@@ -1,40 +1,36 @@
 -- A list that has the deferrals of a run with the reply that began at the clock before, one clock on: what the clock does
 -- to it comes to the same, whether the reply that begins is told before the rest or behind it.
-use Rattle.std.proofs.Common.{ℕ, ◌+◌, ◌<◌, ◌≡◌, Bool, true, false, List, [], ◌∷◌, ◌++◌, map, Option, Some, None, length, nat_eq, refl, sym, ap, subst, ◌∙◌, arith, inl, inr, add-one}
-use Rattle.std.specs.Option.{option_and_then}
+use Rattle.std.proofs.Common.{ℕ, ◌+◌, ◌≡◌, Bool, true, false, List, [], ◌∷◌, ◌++◌, map, Option, Some, None, nat_eq, refl, sym, ap, subst, ◌∙◌, arith, inl, inr, add-one}
 use Rattle.std.proofs.lemmas.Bool.{both_ways, cases_Bool, eq-eqb, eqb-true, false_from_ne_true}
-use Rattle.fsb_count.proofs.Interface.{is_before-parts}
 use Rattle.fsb_encode.specs.declared.request.Request.{Request}
 use Rattle.fsb_trace.specs.At.{Trace, request_at}
 use Rattle.fsb_trace.specs.Deferral.{is_answered}
-use Rattle.fsb_trace.specs.Flight.{reply_number_of}
 use Rattle.fsb_trace.specs.Outcome.{is_deferral}
-use Rattle.fsb_trace.specs.Requests.{is_reply_kind, live_request_of}
+use Rattle.fsb_trace.specs.Requests.{is_reply_kind}
 use Rattle.fsb_trace.specs.Snoop.{snoop_end_of}
-use Rattle.fsb_trace.proofs.Interface.{live_request_of-at, snoop_end_of-clock}
+use Rattle.fsb_trace.proofs.Interface.{live_request_of-at}
 use Rattle.fsb_timely.specs.Grants.{snooped_at}
 use Rattle.fsb_timely.specs.Past.{SnoopEnd}
-use Rattle.fsb_timely.specs.Runs.{Run, past_of, past_to, requests_below, run_to}
-use Rattle.fsb_timely.specs.Starts.{due_number, reply_to, would_begin}
+use Rattle.fsb_timely.specs.Runs.{Run, past_of, requests_below}
+use Rattle.fsb_timely.specs.Starts.{reply_to}
 use Rattle.fsb_timely.proofs.Interface.{tied-snoop}
-use Rattle.fsb_lawful.proofs.Interface.{and-then, map-some, run_to-agrees, wants-lawfully}
+use Rattle.fsb_lawful.proofs.Interface.{wants-lawfully}
 use Rattle.fsb_coherent.specs.Awaits.{cancelled_in, responded_in}
 use Rattle.fsb_tied.proofs.Interface.{cancels, snooped-by}
 use Rattle.fsb_run_laws.specs.Reaches.{Reaches}
 use Rattle.fsb_bridge.specs.declared.deferral.Waiting.{Waiting}
 use Rattle.fsb_bridge.specs.Deferrals.{is_of_id, with_answer, with_reply}
-use Rattle.fsb_bridge.specs.DeferralList.{waits}
 use Rattle.fsb_bridge.proofs.Interface.{rest, rest_found, rest_more}
 use Rattle.fsb_bridge_run.specs.DeferralSteps.{after_beginning, after_cancellation, after_clock, after_reply, after_response, after_snoop_end, after_snoop_end_of, deferral_made, reply_at, reply_begun, was_deferred}
 use Rattle.fsb_bridge_run.specs.RunDeferrals.{FindsDeferrals, HasDeferrals, turns_of}
-use Rattle.fsb_bridge_run.proofs.DueReplies.{answers-due, due-at, due-waits, is-replied}
+use Rattle.fsb_bridge_run.proofs.BegunReplies.{BegunFor, begun-for, begun-waits}
+use Rattle.fsb_bridge_run.proofs.DueReplies.{answers-due, due-waits}
 use Rattle.fsb_bridge_run.proofs.OwnIds.{one-id}
-use Rattle.fsb_bridge_run.proofs.PriorityReplies.{begun-parts}
 use Rattle.fsb_bridge_run.proofs.RepliesAt.{reply_at-parts}
-use Rattle.fsb_bridge_run.proofs.RunLists.{clock-finds, clock-leaves}
+use Rattle.fsb_bridge_run.proofs.LaterTraces.{clock-finds}
+use Rattle.fsb_bridge_run.proofs.RunLists.{clock-leaves}
 use Rattle.fsb_bridge_run.proofs.SnoopEntries.{after-deferral, after-plain, after-reply, after_snoop_end-lost, after_snoop_end-none, after_snoop_end-some}
-use Rattle.fsb_bridge_run.proofs.UnderWay.{answered-same}
-use Rattle.fsb_bridge_run.proofs.Waiting.{answered-from, is_replied, waits-from, waits-parts}
+use Rattle.fsb_bridge_run.proofs.Waiting.{answered-from, waits-parts}
 use Rattle.fsb_bridge_run.proofs.WaitingSteps.{IsSnoopedHere, plain-on, settled-here, waits-new}
 
 map-commutes : {X : Type 0} (f g : X → X) (xs : List X) → ((x : X) → f (g x) ≡ g (f x))
@@ -206,54 +202,6 @@ cancelled-marked r n d list other = by (cancelled_in (past_of r) n) refl
     by None e = rw (after_cancellation, e) refl
     by (Some q) e = by-reply q e (reply_at r.trace q) refl
 
--- the request to which the reply that begins at n is
-record BegunFor (r : Run) (n : ℕ) (reply : Request) : Type 0 where
-  pub number : ℕ
-  pub waiting : waits r.trace (turns_of r) n number ≡ true
-  pub unanswered : is_answered r.trace n number ≡ false
-  pub request : Request
-  pub asked : live_request_of r.trace number ≡ Some request
-  pub did : reply.did ≡ request.did
-
-begun-for-due : (r : Run) (n : ℕ) (reply : Request) → Reaches r (n + 1) → reply_begun r n ≡ Some reply
-    → BegunFor r n reply
-unfolding would_begin reply_to
-begun-for-due r n reply h e =
-    let w = r.trace in
-    let v = (run_to r n).trace in
-    let long = h.long in
-    let l : n < length w = omega arith in
-    let due = due_number (run_to r n) (past_to (past_of r) n) n in
-    let x = map-some reply_to (option_and_then (live_request_of v) due) reply (begun-parts r n reply e) in
-    let j = and-then (live_request_of v) due x.0 x.1 in
-    let i : ℕ = j.0 in
-    let d = due-at r n i h.timely l j.1 in
-    let gap = d.gap in
-    let after = d.after in
-    let agree = run_to-agrees r n l in
-    let off = answered-same (n + 1) w v n i d.snoop agree d.is_snoop (omega arith) (omega arith) ∙ d.unanswered in
-    let o = option_and_then (snoop_end_of w) (reply_number_of w i) in
-    let none : is_replied w n i ≡ false = false_from_ne_true (is_replied w n i) (λ t.
-    let y = is_before-parts o n t in
-    let below = y.2 in
-    let k = and-then (snoop_end_of w) (reply_number_of w i) y.0 y.1 in
-    let m = is-replied w i k.0 k.1 in
-    let c = snoop_end_of-clock w k.0 y.0 k.2 in
-    let above = c.above in
-    let one = c.is_clock in
-    let two = m.first in
-    let same : c.clock ≡ m.clock = cc in
-    both_ways (is_answered w n i) off
-    (answered-from w n i m.clock (record { below = omega arith; reply = m.reply; kept = inl m.live }))) in
-    record {
-      number = i;
-      waiting = waits-from w (turns_of r) n i d.snoop d.deferred d.is_snoop (omega arith) none;
-      unanswered = off;
-      request = x.0;
-      asked = sym d.asked ∙ j.2;
-      did = sym (ap (λ z. z.did) x.2);
-    }
-
 -- it is not the one to which a reply is cancelled
 begun-uncancelled : (r : Run) (n q : ℕ) (reply dropped : Request) → Reaches r (n + 1) → BegunFor r n reply
     → cancelled_in (past_of r) n ≡ Some q → reply_at r.trace q ≡ Some dropped → nat_eq dropped.did reply.did ≡ false
@@ -273,7 +221,10 @@ begun-uncancelled r n q reply dropped h b cancelled begins = false_from_ne_true 
     let did : b.request.did ≡ d.request.did =
     sym b.did ∙ sym (eqb-true dropped.did reply.did t) ∙ sym (ap (λ x. x.did) same) in
     let due = due-waits r q n d (omega arith) (omega arith) in
-    let one = one-id r (n + 1) n b.number d.number b.request d.request h (omega arith) b.waiting due b.asked d.asked did in
+    let first = b.due.gap in
+    let last = b.due.after in
+    let waiting = begun-waits r n n reply b (omega arith) (omega arith) in
+    let one = one-id r (n + 1) n b.number d.number b.request d.request h (omega arith) waiting due b.asked d.asked did in
     both_ways (is_answered w n b.number) b.unanswered
     (subst (λ x. is_answered w n x ≡ true) (sym one)
     (answered-from w n d.number q (record { below = omega arith; reply = d.answers; kept = inr (omega arith) }))))
@@ -289,11 +240,14 @@ begun-earlier r n reply s request h b there decoded plain deferred = false_from_
     let k = snooped-by r n i s tied.1 in
     let here : IsSnoopedHere r n i s request = record { snooped = k; decoded = decoded } in
     let new = waits-new r n i h k.tied.reached (settled-here r n i s k ∙ deferred) in
-    let on = plain-on r n i b.number s request here plain b.waiting in
+    let first = b.due.gap in
+    let last = b.due.after in
+    let waiting = begun-waits r n n reply b (omega arith) (omega arith) in
+    let on = plain-on r n i b.number s request here plain waiting in
     let asked = live_request_of-at w i s.first request k.tied.first decoded in
     let same = one-id r (n + 1) (n + 1) i b.number request b.request h (omega arith) new on asked b.asked
     (eqb-true request.did reply.did t ∙ b.did) in
-    let a = waits-parts w (turns_of r) n b.number b.waiting in
+    let a = waits-parts w (turns_of r) n b.number waiting in
     let below = a.below in
     let reached = subst (λ x. snoop_end_of w x ≡ Some n) same k.tied.reached in
     let is = a.is_snoop in
@@ -315,7 +269,7 @@ clock-told r n list h = by (reply_begun r n) refl
         ≡ after_reply (reply_begun r n) true (after_response r n (after_cancellation r n (after_snoop_end r n list)))
     by None e = rw (after_clock, e) (ap (after_response r n) (cancelled-first r n list))
     by (Some reply) e =
-        let b = begun-for-due r n reply h e in
+        let b = begun-for r n reply h e in
         let g = with_reply reply.did true in
         rw (after_clock, e)
         (ap (λ xs. after_response r n (after_snoop_end r n xs)) (cancelled-marked r n reply.did list

@@ -133,11 +133,11 @@ pub record IsUnderWay (w : Trace) (c i q : ℕ) : Type 0 where
   pub reply : is_reply_to w i q ≡ true
   pub kept : (is_live w q ≡ true) ⊎ (c ≤ q + 3)
 
-either : (a b : Bool) → (a || b) ≡ true → (a ≡ true) ⊎ (b ≡ true)
+pub either : (a b : Bool) → (a || b) ≡ true → (a ≡ true) ⊎ (b ≡ true)
 either true b e = inl refl
 either false b e = inr e
 
-either-from : (a b : Bool) → (a ≡ true) ⊎ (b ≡ true) → (a || b) ≡ true
+pub either-from : (a b : Bool) → (a ≡ true) ⊎ (b ≡ true) → (a || b) ≡ true
 either-from true b h = refl
 either-from false b (inl e) = absurd (let no : ⊥ = cc in no)
 either-from false b (inr e) = e

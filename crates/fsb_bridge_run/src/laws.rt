@@ -17,17 +17,18 @@ ghost use Rattle.fsb_timely.specs.Past.{SnoopEnd};
 ghost use Rattle.fsb_timely.specs.Runs.{Run, moments_below, past_of, past_to, run_to};
 ghost use Rattle.fsb_timely.specs.Snoops.{number_served_at, was_hit_before};
 ghost use Rattle.fsb_timely.specs.Starts.{due_number, reply_to, would_begin};
+ghost use Rattle.fsb_lawful.specs.Beginning.{KeepsBounds};
 ghost use Rattle.fsb_run_laws.specs.Reaches.{Reaches};
 ghost use Rattle.fsb_bridge.specs.declared.deferral.Waiting.{Waiting};
 ghost use Rattle.fsb_bridge.specs.Deferrals.{deferral_of_id, due_deferral, is_covered, is_waited_for};
-ghost use Rattle.fsb_bridge.specs.DeferralList.{HaveOwnIds, IsThatOf, RespondsInOrder};
+ghost use Rattle.fsb_bridge.specs.DeferralList.{HaveOwnIds, IsThatOf, RespondsInOrder, StandsFor};
 ghost use Rattle.fsb_bridge_run.specs.DeferralSteps.{after_clock, reply_at, reply_begun};
-ghost use Rattle.fsb_bridge_run.specs.RunDeferrals.{FindsDeferrals, HasDeferrals, turns_of};
+ghost use Rattle.fsb_bridge_run.specs.RunDeferrals.{FindsDeferrals, HasDeferrals, ShowsBegun, turns_of};
 
 /// What the bridge's laws ask of a trace, a timely run has at each of its clocks: no request
 /// responds before its snoop end, and those that wait for their replies have IDs of their own.
 pub fn runs_have_what_the_list_needs()
-    ensures order { (r : Run) (n : ℕ) → Reaches r n → RespondsInOrder (take n r.trace) }
+    ensures order { (r : Run) (n c : ℕ) → Reaches r n → RespondsInOrder (take n r.trace) c }
     ensures ids { (r : Run) (n c : ℕ) → Reaches r n → c ≤ n →
         HaveOwnIds (take n r.trace) (turns_of r) c }
 {}
@@ -115,4 +116,51 @@ pub fn replies_take_their_deferrals()
         request_at r.trace s.first ≡ Some reply → is_reply_kind reply.kind ≡ true →
         was_hit_before (run_to r n) (past_to (past_of r) n) n
         ≡ option_map_or (λ deferral. deferral.shared) (deferral_of_id reply.did list) false }
+{}
+
+/// What the next clock of a run finds in its list, before it is known that the clock is timely: only
+/// the request that began at the clock before has to show as what it is. The list stands for the
+/// deferrals, and has the pending lines, the due reply, and the deferral of a reply's snoop end; and
+/// there is room where the snoop end is that of any other request.
+pub fn growing_runs_have_the_deferrals()
+    ensures found { (r s : Run) (list : List Waiting) → GrowsTo r s → KeepsBounds r.plan →
+        ShowsBegun r s → HasDeferrals list r (length r.trace) →
+        StandsFor list s.trace (turns_of s) (length r.trace) }
+    ensures pending { (r s : Run) (line : ℕ) (list : List Waiting) → GrowsTo r s →
+        KeepsBounds r.plan → ShowsBegun r s → HasDeferrals list r (length r.trace) →
+        is_pending s.trace (turns_of r) line (length r.trace) ≡ is_waited_for line list }
+    ensures choice { (r s : Run) (q : ℕ) (request : Request) (list : List Waiting) → GrowsTo r s →
+        KeepsBounds r.plan → ShowsBegun r s → HasDeferrals list r (length r.trace) →
+        request_at s.trace q ≡ Some request →
+        effective_choice s.plan.bridge s.choices s.trace (turns_of r) q (length r.trace)
+        ≡ effective (choice_at s.choices s.trace q) request
+        (is_covered s.plan.bridge request.line) (is_waited_for request.line list) }
+    ensures number { (r s : Run) (list : List Waiting) → GrowsTo r s → KeepsBounds r.plan →
+        ShowsBegun r s → HasDeferrals list r (length r.trace) → IsThatOf s.trace
+        (due_deferral (length r.trace) list) (due_number s (past_of s) (length r.trace)) }
+    ensures any { (r s : Run) (list : List Waiting) → GrowsTo r s → KeepsBounds r.plan →
+        ShowsBegun r s → HasDeferrals list r (length r.trace) →
+        is_some (due_number s (past_of s) (length r.trace))
+        ≡ is_some (due_deferral (length r.trace) list) }
+    ensures would { (r s : Run) (list : List Waiting) → GrowsTo r s → KeepsBounds r.plan →
+        ShowsBegun r s → HasDeferrals list r (length r.trace) →
+        would_begin s (past_of s) (length r.trace) Priority ≡ option_map
+        (λ deferral. reply_to deferral.request) (due_deferral (length r.trace) list) }
+    ensures deferral { (r s : Run) (end : SnoopEnd) (reply : Request) (list : List Waiting) →
+        GrowsTo r s → KeepsBounds r.plan → ShowsBegun r s → HasDeferrals list r (length r.trace) →
+        snooped_at (past_of s) (length r.trace) ≡ Some end →
+        request_at s.trace end.first ≡ Some reply → is_reply_kind reply.kind ≡ true →
+        IsThatOf s.trace (deferral_of_id reply.did list)
+        (number_served_at s (past_of s) (length r.trace)) }
+    ensures hit { (r s : Run) (end : SnoopEnd) (reply : Request) (list : List Waiting) →
+        GrowsTo r s → KeepsBounds r.plan → ShowsBegun r s → HasDeferrals list r (length r.trace) →
+        snooped_at (past_of s) (length r.trace) ≡ Some end →
+        request_at s.trace end.first ≡ Some reply → is_reply_kind reply.kind ≡ true →
+        was_hit_before s (past_of s) (length r.trace)
+        ≡ option_map_or (λ deferral. deferral.shared) (deferral_of_id reply.did list) false }
+    ensures room { (r s : Run) (end : SnoopEnd) (request : Request) (list : List Waiting) →
+        GrowsTo r s → KeepsBounds r.plan → HasDeferrals list r (length r.trace) →
+        snooped_at (past_of s) (length r.trace) ≡ Some end →
+        request_at s.trace end.first ≡ Some request → is_reply_kind request.kind ≡ false →
+        length list < 16 }
 {}
