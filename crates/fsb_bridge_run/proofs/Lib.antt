@@ -20,3 +20,4 @@ pub mod ListWords
 pub mod RepliesTake
 pub mod GrownLists
 pub mod GrownWords
+pub mod ShownWords

@@ -16,7 +16,7 @@ ghost use Rattle.fsb_timely.specs.Moments.{choice_at, effective_choice, turns_in
 ghost use Rattle.fsb_timely.specs.Past.{SnoopEnd};
 ghost use Rattle.fsb_timely.specs.Runs.{Run, moments_below, past_of, past_to, run_to};
 ghost use Rattle.fsb_timely.specs.Snoops.{number_served_at, was_hit_before};
-ghost use Rattle.fsb_timely.specs.Starts.{due_number, reply_to, would_begin};
+ghost use Rattle.fsb_timely.specs.Starts.{due_number, reply_to, starts_requests, would_begin};
 ghost use Rattle.fsb_lawful.specs.Beginning.{KeepsBounds};
 ghost use Rattle.fsb_run_laws.specs.Reaches.{Reaches};
 ghost use Rattle.fsb_bridge.specs.declared.deferral.Waiting.{Waiting};
@@ -116,6 +116,13 @@ pub fn replies_take_their_deferrals()
         request_at r.trace s.first ≡ Some reply → is_reply_kind reply.kind ≡ true →
         was_hit_before (run_to r n) (past_to (past_of r) n) n
         ≡ option_map_or (λ deferral. deferral.shared) (deferral_of_id reply.did list) false }
+{}
+
+/// The request that began at the last clock of a run shows as what it is at the next one, where the
+/// requests of that clock start as they must.
+pub fn words_show_what_began()
+    ensures { (r s : Run) → GrowsTo r s → KeepsBounds r.plan →
+        starts_requests s (past_of s) (length r.trace) ≡ true → ShowsBegun r s }
 {}
 
 /// What the next clock of a run finds in its list, before it is known that the clock is timely: only

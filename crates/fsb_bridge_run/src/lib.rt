@@ -12,7 +12,7 @@ pub use laws::{
     clocks_change_the_deferrals, deferrals_are_few, deferrals_start_and_stay,
     due_replies_are_those_of_the_list, growing_runs_have_the_deferrals,
     pending_lines_are_those_of_the_list, replies_begin_as_due, replies_take_their_deferrals,
-    runs_have_what_the_list_needs,
+    runs_have_what_the_list_needs, words_show_what_began,
 };
 
 mod laws;
