@@ -34,8 +34,8 @@ unfoldable pub stays_open : Past → ℕ → Claim → Bool
 stays_open p n claim =
     not (is_at (cancelled_in p n) claim.first) && not (is_some_and (snooped_at p n) (is_snoop_of claim.first))
 
--- the end of a request with this snoop end ends what is outstanding with this claim: it is the end of that request itself,
--- which was not Deferred, or of a reply that granted the claim's line to the claim's agent
+-- the end of a request with this snoop end ends what is outstanding with this claim: it is the end of that request
+-- itself, which was not Deferred, or of a reply that granted the claim's line to the claim's agent
 unfoldable pub ends_claim : Claim → SnoopEnd → Bool
 ends_claim claim s =
     elim s.claim [
@@ -47,7 +47,7 @@ ends_claim claim s =
 unfoldable pub ends_for : Past → ℕ → Claim → ℕ → Bool
 ends_for p n claim q = is_some_and (snoop_end_below p (n + 1) q) (ends_claim claim)
 
--- the request with this claim stays outstanding behind n: it is not cancelled there, and no request that ends there ends it
+-- the request with this claim stays outstanding behind n: it is not cancelled there, and nothing that ends there ends it
 unfoldable pub stays_owed : Past → ℕ → Claim → Bool
 stays_owed p n claim =
     not (is_at (cancelled_in p n) claim.first || list_any (ends_for p n claim) (ended_requests p n))
