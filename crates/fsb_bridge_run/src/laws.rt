@@ -104,8 +104,8 @@ pub fn replies_begin_as_due()
         ≡ (if begins_at r.trace n Priority then request_at r.trace n else None) }
 {}
 
-/// A reply has its snoop end for the deferral that its ID has in the list, and HIT# there is what it
-/// was at the snoop end of the request that was deferred.
+/// A reply has its snoop end for the deferral that its ID has in the list, and HIT# there is what
+/// it was at the snoop end of the request that was deferred.
 pub fn replies_take_their_deferrals()
     ensures deferral { (r : Run) (n : ℕ) (s : SnoopEnd) (reply : Request) (list : List Waiting) →
         Reaches r (n + 1) → FindsDeferrals list r n → snooped_at (past_of r) n ≡ Some s →
@@ -128,8 +128,8 @@ pub fn words_show_what_began()
 
 /// What the next clock of a run finds in its list, before it is known that the clock is timely:
 /// only the request that began at the clock before has to show as what it is. The list stands for
-/// the deferrals, and has the pending lines, the due reply, and the deferral of a reply's snoop end;
-/// and there is room where the snoop end is that of any other request.
+/// the deferrals, and has the pending lines, the due reply, and the deferral of a reply's snoop
+/// end; and there is room where the snoop end is that of any other request.
 pub fn growing_runs_have_the_deferrals()
     ensures found { (r s : Run) (list : List Waiting) → GrowsTo r s → KeepsBounds r.plan →
         ShowsBegun r s → HasDeferrals list r (length r.trace) →
@@ -166,6 +166,11 @@ pub fn growing_runs_have_the_deferrals()
         request_at s.trace end.first ≡ Some reply → is_reply_kind reply.kind ≡ true →
         was_hit_before s (past_of s) (length r.trace)
         ≡ option_map_or (λ deferral. deferral.shared) (deferral_of_id reply.did list) false }
+    ensures taken { (r s : Run) (end : SnoopEnd) (reply : Request) (list : List Waiting) →
+        GrowsTo r s → KeepsBounds r.plan → ShowsBegun r s → HasDeferrals list r (length r.trace) →
+        snooped_at (past_of s) (length r.trace) ≡ Some end →
+        request_at s.trace end.first ≡ Some reply → is_reply_kind reply.kind ≡ true →
+        is_some (deferral_of_id reply.did list) ≡ true }
     ensures room { (r s : Run) (end : SnoopEnd) (request : Request) (list : List Waiting) →
         GrowsTo r s → KeepsBounds r.plan → HasDeferrals list r (length r.trace) →
         snooped_at (past_of s) (length r.trace) ≡ Some end →
