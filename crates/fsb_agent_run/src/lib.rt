@@ -15,7 +15,9 @@ pub use laws::{
     begun_requests_are_wants, first_views_are_of_the_run, hits_go_by_the_run, places_of_views_step,
     snoop_answers_go_by_the_run, views_go_by_the_run, wants_go_by_the_run,
 };
-pub use requests::{agents_owe_few, completions_are_of_items, ends_come_to_agents, requests_are_apart};
+pub use requests::{
+    agents_owe_few, completions_are_of_items, ends_come_to_agents, requests_are_apart,
+};
 pub use stages::{
     begun_requests_lead_on, cancelled_requests_lead_on, ends_lead_on, hits_lead_on,
     own_snoop_ends_lead_on, snoop_ends_of_others_lead_on,

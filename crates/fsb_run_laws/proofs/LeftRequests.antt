@@ -184,7 +184,8 @@ replied-outstanding r n s grant h there none made =
       claims = d.claims;
       agent = ap (λ (g : Grant). g.agent) a.made;
       line = d.names;
-      owns = sym (ap (λ (g : Grant). g.owns) a.made) ∙ ap is_owner_request (live-request w j d.end.first d.snooped.tied.first);
+      owns = sym (ap (λ (g : Grant). g.owns) a.made)
+          ∙ ap is_owner_request (live-request w j d.end.first d.snooped.tied.first);
       begun = begun.0;
       early = omega arith;
       out = live-outstanding w n j d.end.first d.snooped.tied.first (omega arith)
@@ -240,7 +241,8 @@ ending-serves r n q s grant h e below none made =
         claims = d.claims;
         agent = ap (λ (g : Grant). g.agent) a.made;
         line = d.names;
-        owns = sym (ap (λ (g : Grant). g.owns) a.made) ∙ ap is_owner_request (live-request w j d.end.first d.snooped.tied.first);
+        owns = sym (ap (λ (g : Grant). g.owns) a.made)
+            ∙ ap is_owner_request (live-request w j d.end.first d.snooped.tied.first);
         begun = begun.0;
         early = omega arith;
         out = last-outstanding r n d.end.first d.claim h begun.0 (omega arith) ends;
