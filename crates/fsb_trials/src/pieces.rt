@@ -31,10 +31,8 @@ fn read_in_pieces(
 
 /// Whether a text says the same in pieces as it said whole.
 pub(crate) fn says_the_same(alloc: Global, bytes: &[u8], marks: Marks, samples: &[Sample]) -> bool {
-    SIZES
-        .iter()
-        .all(|size| match read_in_pieces(alloc, bytes, *size) {
-            Ok((told, given)) => told == Some(marks) && given.as_slice() == samples,
-            Err(_) => false,
-        })
+    SIZES.iter().all(|size| match read_in_pieces(alloc, bytes, *size) {
+        Ok((told, given)) => told == Some(marks) && given.as_slice() == samples,
+        Err(_) => false,
+    })
 }
