@@ -1,2 +1,5 @@
 pub mod RunViews
 pub mod Stages
+pub mod AgentClocks
+pub mod Ending
+pub mod Owings

@@ -19,7 +19,7 @@ use Rattle.fsb_bench_view.specs.declared.decided.Ending.{Ending}
 use Rattle.fsb_bench_view.specs.BusViews.{BenchView, BusView, clock_of}
 use Rattle.fsb_bench_view.specs.BytesFetched.{bus_fetched, bytes_from}
 use Rattle.fsb_bench_view.specs.BusDecisions.{decided_by}
-use Rattle.fsb_bench_view.specs.BusEvents.{answered_by, bus_answered, bus_cancelled, bus_ended, bus_performed, bus_snooped, bus_started, end_entries, ending_by, entry_started}
+use Rattle.fsb_bench_view.specs.BusEvents.{bus_heard, bus_performed, entry_started, heard_answer, heard_cancel, heard_ending, heard_entries, heard_snoop, heard_start}
 use Rattle.fsb_bench_view.specs.BusLocking.{MayRelease, bus_locked, retried_by}
 use Rattle.fsb_bench_view.specs.BusSample.{sample_by}
 use Rattle.fsb_bench_view.specs.ToldAgents.{hit_entries}
@@ -50,44 +50,39 @@ step_decided v hold =
 abbrev pub step_sample : BenchView → Bool → Sample
 step_sample v hold = sample_by (step_performed v) (clock_of v) v.run.plan.profile (step_decided v hold)
 
--- the bus after what begins, if something does
-abbrev pub step_started : BenchView → Bool → BusView
-step_started v hold =
-    option_map_or (bus_started (step_performed v) (clock_of v)) (step_decided v hold).starting (step_performed v)
-
--- the bus after what is cancelled, if something is
-abbrev pub step_cancelled : BenchView → Bool → BusView
-step_cancelled v hold = option_map_or (bus_cancelled (step_started v hold)) (step_decided v hold).cancelled (step_started v hold)
-
--- the bus after the snoop end, if there is one
-abbrev pub step_snooped : BenchView → Bool → BusView
-step_snooped v hold = option_map_or (bus_snooped (step_cancelled v hold)) (step_decided v hold).snooped (step_cancelled v hold)
-
--- the bus after the response Deferred, if there is one
-abbrev pub step_answered : BenchView → Bool → BusView
-step_answered v hold =
-    let bus = step_snooped v hold in
-    option_map_or (bus_answered bus (clock_of v)) (answered_by bus (step_drive v)) bus
-
 -- what the phases tell of the clock
 abbrev pub step_phased : BenchView → Bool → Phased
 step_phased v hold = phased_at (v.run.trace ++ step_sample v hold ∷ []) (clock_of v) v.bus.queue
 
+-- the bus after what begins, if something does
+abbrev pub step_started : BenchView → Bool → BusView
+step_started v hold = heard_start (step_performed v) (clock_of v) (step_decided v hold)
+
+-- the bus after what is cancelled, if something is
+abbrev pub step_cancelled : BenchView → Bool → BusView
+step_cancelled v hold = heard_cancel (step_performed v) (clock_of v) (step_decided v hold)
+
+-- the bus after the snoop end, if there is one
+abbrev pub step_snooped : BenchView → Bool → BusView
+step_snooped v hold = heard_snoop (step_performed v) (clock_of v) (step_decided v hold)
+
+-- the bus after the response Deferred, if there is one
+abbrev pub step_answered : BenchView → Bool → BusView
+step_answered v hold = heard_answer (step_performed v) (clock_of v) (step_decided v hold)
+
 -- the end of a request, if there is one
 abbrev pub step_ending : BenchView → Bool → Option Ending
-step_ending v hold = ending_by (step_answered v hold) (step_phased v hold)
+step_ending v hold = heard_ending (step_performed v) (clock_of v) (step_decided v hold) (step_phased v hold)
 
 -- the bus after it
 abbrev pub step_ended : BenchView → Bool → BusView
-step_ended v hold =
-    let bus = step_answered v hold in
-    option_map_or (bus_ended bus (clock_of v)) (step_ending v hold) bus
+step_ended v hold = bus_heard (step_performed v) (clock_of v) (step_decided v hold) (step_phased v hold)
 
 -- the entries of the clock: those of the hits, and those of what the end completes
 abbrev pub step_entries : BenchView → Bool → List Done
 step_entries v hold =
     hit_entries (clock_of v) (step_fetched v).agents
-    ++ option_map_or (end_entries (step_answered v hold) (clock_of v)) (step_ending v hold) []
+    ++ heard_entries (step_performed v) (clock_of v) (step_decided v hold) (step_phased v hold)
 
 -- what may be a release
 abbrev pub step_releases : BenchView → Bool → MayRelease

@@ -20,6 +20,7 @@ use Rattle.fsb_trace.specs.declared.outcome.Outcome.TheVariants.{Granted, Handed
 use Rattle.fsb_trace.specs.declared.who.Who.{Who}
 use Rattle.fsb_trace.specs.declared.who.Who.TheVariants.{Symmetric, Priority}
 use Rattle.fsb_bench_view.specs.declared.beginning.Starting.{Starting}
+use Rattle.fsb_bench_view.specs.declared.decided.Decided.{Decided}
 use Rattle.fsb_bench_view.specs.declared.decided.Ending.{Ending}
 use Rattle.fsb_bench_view.specs.declared.snoop.Snooped.{Snooped}
 use Rattle.fsb_bench_view.specs.BusViews.{BusView}
@@ -196,3 +197,40 @@ end_entries_of agents clock bytes ending =
 -- the entries of what an end completes
 abbrev pub end_entries : BusView → ℕ → Ending → List Done
 end_entries bus clock ending = end_entries_of bus.agents clock bus.moved ending
+
+-- the bus after what begins at the clock, if something does
+abbrev pub heard_start : BusView → ℕ → Decided → BusView
+heard_start bus clock decided = option_map_or (bus_started bus clock) decided.starting bus
+
+-- and after what is cancelled, if something is
+abbrev pub heard_cancel : BusView → ℕ → Decided → BusView
+heard_cancel bus clock decided =
+    let before = heard_start bus clock decided in
+    option_map_or (bus_cancelled before) decided.cancelled before
+
+-- and after the snoop end, if there is one
+abbrev pub heard_snoop : BusView → ℕ → Decided → BusView
+heard_snoop bus clock decided =
+    let before = heard_cancel bus clock decided in
+    option_map_or (bus_snooped before) decided.snooped before
+
+-- and after the response Deferred, if there is one
+abbrev pub heard_answer : BusView → ℕ → Decided → BusView
+heard_answer bus clock decided =
+    let before = heard_snoop bus clock decided in
+    option_map_or (bus_answered before clock) (answered_by before decided.drive) before
+
+-- the end of a request that the clock is
+abbrev pub heard_ending : BusView → ℕ → Decided → Phased → Option Ending
+heard_ending bus clock decided phased = ending_by (heard_answer bus clock decided) phased
+
+-- the bus after all that the clock brings: this was decided, and the phases tell this of the clock
+abbrev pub bus_heard : BusView → ℕ → Decided → Phased → BusView
+bus_heard bus clock decided phased =
+    let before = heard_answer bus clock decided in
+    option_map_or (bus_ended before clock) (heard_ending bus clock decided phased) before
+
+-- the entries of what that completes
+abbrev pub heard_entries : BusView → ℕ → Decided → Phased → List Done
+heard_entries bus clock decided phased =
+    option_map_or (end_entries (heard_answer bus clock decided) clock) (heard_ending bus clock decided phased) []

@@ -1,14 +1,13 @@
 -- When a bench may take a clock: what the calls of the step ask for.
-use Rattle.std.specs.Prelude.{◌≡◌, ◌<◌, ◌≤◌, ℕ, ◌==◌, ◌+◌, Bool, true, false, List, ◌∷◌, [], ◌++◌, length, IsTrue, Option, Some, slice_get}
+use Rattle.std.specs.Prelude.{◌≡◌, ◌<◌, ℕ, ◌==◌, Bool, true, false, List, length, Some, slice_get}
 use Rattle.fsb_agent_view.specs.AgentViews.{AgentView}
 use Rattle.fsb_agent_view.specs.Arriving.{may_arrive, may_end_upgrade, may_give_up}
 use Rattle.fsb_agent_view.specs.Snooping.{may_commit}
 use Rattle.fsb_agent_view.specs.Wanting.{may_send}
 use Rattle.fsb_encode.specs.Request.{is_lawful_request}
-use Rattle.fsb_flight.specs.GoesOn.{Rising, TakesTurn}
-use Rattle.fsb_flight.specs.Steps.{begun_list}
-use Rattle.fsb_hazard.specs.declared.choice.Choice.{Choice}
+use Rattle.fsb_flight.specs.GoesOn.{Rising}
 use Rattle.fsb_phase.specs.FitQueue.{HoldsInFlight, is_too_soon}
+use Rattle.fsb_phase.specs.declared.drive.Phased.{Phased}
 use Rattle.fsb_queue.specs.declared.entry.Entry.{Entry}
 use Rattle.fsb_signal.specs.Samples.{response_of}
 use Rattle.fsb_timely.specs.Moments.{turns_in}
@@ -20,11 +19,13 @@ use Rattle.fsb_trace.specs.declared.who.Who.{Who}
 use Rattle.fsb_trace.specs.declared.who.Who.TheVariants.{Symmetric}
 use Rattle.fsb_bench_view.specs.declared.beginning.Latest.{Latest}
 use Rattle.fsb_bench_view.specs.declared.beginning.Starting.{Starting}
+use Rattle.fsb_bench_view.specs.declared.decided.Decided.{Decided}
 use Rattle.fsb_bench_view.specs.declared.decided.Ending.{Ending}
 use Rattle.fsb_bench_view.specs.declared.snoop.Served.{Served}
 use Rattle.fsb_bench_view.specs.declared.snoop.Snooped.{Snooped}
 use Rattle.fsb_bench_view.specs.BusViews.{BenchView, BusView, clock_of}
-use Rattle.fsb_bench_view.specs.BenchSteps.{outcome_snooped, step_answered, step_begun, step_cancelled, step_decided, step_drive, step_ending, step_performed, step_run, step_sample, step_started}
+use Rattle.fsb_bench_view.specs.BenchSteps.{step_decided, step_drive, step_performed, step_phased, step_sample}
+use Rattle.fsb_bench_view.specs.BusEvents.{heard_answer, heard_cancel, heard_ending, heard_start}
 
 -- the turns of a run's live requests, as numbers
 abbrev pub turns_of : Run → List ℕ
@@ -78,6 +79,14 @@ pub record MayEnd (named : ℕ → Bool) (bus : BusView) (ending : Ending) : Typ
   pub ends : AgentMay bus ending.served.agent (may_end_with ending.served.first ending.outcome)
   pub puts : does_take ending.outcome ≡ true → named ending.served.request.line ≡ true
 
+-- the bus may take what the clock brings: this was decided, and the phases tell this of the clock
+pub record MayHear (named : ℕ → Bool) (bus : BusView) (clock : ℕ) (decided : Decided) (phased : Phased) : Type 0 where
+  pub starts : (starting : Starting) → decided.starting ≡ Some starting → MayStart bus clock starting
+  pub cancels : (entry : Entry) → decided.cancelled ≡ Some entry → MayCancel (heard_start bus clock decided) entry
+  pub snoops : (s : Snooped) → decided.snooped ≡ Some s → MaySnoop (heard_cancel bus clock decided) s
+  pub ends : (ending : Ending) → heard_ending bus clock decided phased ≡ Some ending
+      → MayEnd named (heard_answer bus clock decided) ending
+
 -- the sample may be the next: RS# is what is driven, and the requests keep their distance
 pub record MaySample (v : BenchView) (hold : Bool) : Type 0 where
   pub answers : response_of (step_sample v hold) ≡ (step_drive v).rs
@@ -93,10 +102,4 @@ pub record MayStep (named : ℕ → Bool) (v : BenchView) (hold : Bool) : Type 0
   pub flight : HasFlightOf v.bus.queue v.run
   pub words : HasLawfulWords (step_performed v)
   pub sample : MaySample v hold
-  pub starts : (starting : Starting) → (step_decided v hold).starting ≡ Some starting
-      → MayStart (step_performed v) (clock_of v) starting
-  pub cancels : (entry : Entry) → (step_decided v hold).cancelled ≡ Some entry → MayCancel (step_started v hold) entry
-  pub snoops : (s : Snooped) → (step_decided v hold).snooped ≡ Some s → MaySnoop (step_cancelled v hold) s
-  pub ends : (ending : Ending) → step_ending v hold ≡ Some ending → MayEnd named (step_answered v hold) ending
-  pub turns : (choice : Choice) → TakesTurn v.run.trace (step_sample v hold) (turns_of v.run)
-      (turns_of (step_run v hold choice)) (outcome_snooped (step_decided v hold)) (begun_list (step_begun v hold choice))
+  pub hears : MayHear named (step_performed v) (clock_of v) (step_decided v hold) (step_phased v hold)

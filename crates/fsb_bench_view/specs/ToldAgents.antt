@@ -23,10 +23,15 @@ for_one a event n = if n == a then event ∷ [] else []
 abbrev pub for_none : ℕ → List AgentEvent
 for_none n = []
 
+-- of two answers the first one, if it is there
+abbrev pub first_of : Option (List ℕ) → Option (List ℕ) → Option (List ℕ)
+first_of None other = other
+first_of (Some bytes) other = Some bytes
+
 -- the bytes of the first agent that owes them to the transaction of this number
 abbrev pub bytes_owed : ℕ → List AgentView → Option (List ℕ)
 bytes_owed number [] = None
-bytes_owed number (v ∷ vs) = elim (hand_by v number) [ Some bytes ↦ Some bytes | None ↦ bytes_owed number vs ]
+bytes_owed number (v ∷ vs) = first_of (hand_by v number) (bytes_owed number vs)
 
 -- the entries of the agents' hits at a clock, in order
 abbrev pub hit_entries : ℕ → List AgentView → List Done

@@ -1,7 +1,6 @@
 -- What the parts of a bus stand for.
-use Rattle.std.specs.Prelude.{◌≡◌, ◌<◌, ◌≤◌, ℕ, true, length, vec_len, vec_capacity}
 use Rattle.fsb_arbiter.specs.Arbiter as arbiters
-use Rattle.fsb_memory.specs.Controller.{is_mapped, line_in}
+use Rattle.fsb_memory.specs.Controller.{line_in}
 use Rattle.fsb_phase.specs.Phases as phases
 use Rattle.fsb_trace.specs.At.{Trace}
 use Rattle.fsb_bench_view.specs.BusViews.{BusView}

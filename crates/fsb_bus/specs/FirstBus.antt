@@ -1,5 +1,5 @@
 -- The bus before its first clock.
-use Rattle.std.specs.Prelude.{ℕ, ◌+◌, ◌==◌, Bool, false, List, [], ◌∷◌, replicate, sum_by, None}
+use Rattle.std.specs.Prelude.{ℕ, ◌+◌, ◌==◌, Bool, false, List, [], ◌∷◌, replicate, None}
 use Rattle.std.specs.List.{list_any}
 use Rattle.fsb_access.specs.declared.item.Item.{Item}
 use Rattle.fsb_agent_view.specs.AgentEvents.{first_view}
@@ -8,7 +8,6 @@ use Rattle.fsb_memory.specs.Controller.{start_bytes}
 use Rattle.fsb_script.specs.Plans.{PlanView}
 use Rattle.fsb_timely.specs.Kept.{is_named_in}
 use Rattle.fsb_bench_view.specs.BusViews.{BusView}
-use Rattle.fsb_bus.specs.LogRoom.{accesses_of_item}
 
 -- the agents with these scripts, before any event, the first of which has this number
 abbrev pub agents_with : PlanView → ℕ → List (List Item) → List AgentView
@@ -20,13 +19,13 @@ agents_with plan n (items ∷ scripts) =
 abbrev pub first_agents : PlanView → List AgentView
 first_agents plan = agents_with plan 0 plan.scripts
 
+-- the line is one of these
+abbrev pub is_listed : List ℕ → ℕ → Bool
+is_listed lines line = list_any (λ other. other == line) lines
+
 -- the scripts name the line
 abbrev pub is_named_line : List (List Item) → ℕ → Bool
 is_named_line scripts line = list_any (λ items. list_any (is_named_in line) items) scripts
-
--- the accesses of all scripts
-abbrev pub plan_accesses : List (List Item) → ℕ
-plan_accesses scripts = sum_by (λ items. sum_by accesses_of_item items) scripts
 
 -- a quiet bus with the agents and the memory of a plan
 abbrev pub first_bus : PlanView → BusView

@@ -2,3 +2,4 @@ pub mod Buses
 pub mod LogRoom
 pub mod Releases
 pub mod FirstBus
+pub mod AccessCount

@@ -1,19 +1,12 @@
 -- How many accesses are still to come, and so how much room a log needs.
-use Rattle.std.specs.Prelude.{◌≤◌, ℕ, ◌+◌, List, [], ◌∷◌, drop, length, sum_by}
+use Rattle.std.specs.Prelude.{◌≤◌, ℕ, ◌+◌, List, drop, sum_by}
 use Rattle.fsb_access.specs.LogView.{LogView}
-use Rattle.fsb_access.specs.declared.item.Item.{Item}
-use Rattle.fsb_access.specs.declared.item.Item.TheVariants.{One, Locked, Idle}
 use Rattle.fsb_agent_view.specs.AgentViews.{AgentView}
-
--- the accesses of an item
-abbrev pub accesses_of_item : Item → ℕ
-accesses_of_item (One access) = 1
-accesses_of_item (Locked group) = length group
-accesses_of_item (Idle clocks) = 0
+use Rattle.fsb_bus.specs.AccessCount.{script_accesses}
 
 -- the accesses of an agent's items from its next one on
 abbrev pub accesses_left : AgentView → ℕ
-accesses_left v = sum_by accesses_of_item (drop v.place v.items)
+accesses_left v = script_accesses (drop v.place v.items)
 
 -- those of several agents
 abbrev pub accesses_left_of : List AgentView → ℕ

@@ -1,12 +1,12 @@
 //! The end of a request.
 
-ghost use Rattle.std.specs.Prelude.{◌≡◌, ◌++◌, ◌<◌, ◌≤◌, ℕ, Bool, Some, length, slice_get, true};
+ghost use Rattle.std.specs.Prelude.{◌≡◌, ◌+◌, ◌++◌, ◌<◌, ◌≤◌, ℕ, Some, length, slice_get, true};
 ghost use Rattle.fsb_agent_view.specs.AgentViews.{AgentView};
 ghost use Rattle.fsb_memory.specs.Controller.{is_mapped, line_in};
 ghost use Rattle.fsb_bench_view.specs.BusEvents.{agent_ended, bus_ended, end_entries, end_entries_of, ended_event, ending_by, entries_ended, memory_ended};
 ghost use Rattle.fsb_trace.specs.Outcome.{does_take};
 ghost use Rattle.fsb_bench_view.specs.MaySteps.{MayEnd, may_end_with};
-ghost use Rattle.fsb_bench_view.specs.ToldAgents.{agents_told, for_one};
+ghost use Rattle.fsb_bench_view.specs.ToldAgents.{agents_told};
 ghost use Rattle.fsb_bus.specs.Buses.{bus_view};
 ghost use Rattle.fsb_bus.specs.LogRoom.{HasRoomFor, accesses_left};
 
@@ -20,7 +20,7 @@ use fsb_trace::Outcome;
 
 impl Bus {
     /// The end of a request that the clock is, if it is one.
-    pub fn ending(&self, phased: &Phased) -> Option<Ending>
+    pub(crate) fn ending(&self, phased: &Phased) -> Option<Ending>
         ensures { result ≡ ending_by (bus_view self.now) phased.now }
     {
         if phased.ended.is_none() {
@@ -39,7 +39,7 @@ impl Bus {
     }
 
     /// The request ends.
-    pub fn end(&mut self, clock: u32, ending: &Ending, log: &mut Log)
+    pub(crate) fn end(&mut self, clock: u32, ending: &Ending, log: &mut Log)
         requires may { MayEnd (is_mapped self.old.memory) (bus_view self.old) ending.now }
         requires served { 0 < length self.old.served.items }
         requires room { HasRoomFor self.old.agents.items log.old }
@@ -55,13 +55,7 @@ impl Bus {
         } }
     {
         let _ = self.served.remove(0);
-        end_at(
-            self.agents.as_mut_slice(),
-            clock,
-            ending,
-            &self.moved,
-            log,
-        );
+        end_at(self.agents.as_mut_slice(), clock, ending, &self.moved, log);
         put_ended(
             &mut self.memory,
             ending.served.request.line,
@@ -122,6 +116,7 @@ fn end_with(
 }
 
 /// Memory takes the bytes of a line that have moved, where it takes them with this outcome.
+#[tactic(auto, unfolding(fsb_trace::specs::Outcome::does_take))]
 fn put_ended(memory: &mut Controller, line: u64, moved: &[u8; 32], outcome: Outcome)
     requires { does_take outcome ≡ true → is_mapped memory.old line ≡ true }
     ensures bytes { (other : ℕ) → line_in memory.new other

@@ -4,9 +4,10 @@ ghost use Rattle.std.specs.Prelude.{◌≡◌, ◌<◌, ◌≤◌, ◌==◌, if�
 ghost use Rattle.fsb_count.specs.Options.{is_some_and};
 ghost use Rattle.fsb_encode.specs.Request.{is_lawful_request};
 ghost use Rattle.fsb_trace.specs.Outcome.{is_deferral};
-ghost use Rattle.fsb_bench_view.specs.BusEvents.{answered_by, bus_answered, bus_cancelled, bus_snooped, bus_started, entry_started, waiting_snooped};
+ghost use Rattle.fsb_bench_view.specs.BusEvents.{answered_by, bus_answered, bus_cancelled, bus_snooped, bus_started, entry_started, starting_event, waiting_snooped, waiting_started};
 ghost use Rattle.fsb_bench_view.specs.BusLocking.{is_retry, retried_by};
 ghost use Rattle.fsb_bench_view.specs.MaySteps.{MayCancel, MaySnoop, MayStart};
+ghost use Rattle.fsb_bench_view.specs.ToldAgents.{agents_told};
 ghost use Rattle.fsb_bus.specs.Buses.{bus_view};
 
 use crate::bus::Bus;
@@ -34,7 +35,7 @@ impl Bus {
     }
 
     /// This request begins at the clock.
-    pub fn start(&mut self, clock: u32, starting: &Starting)
+    pub(crate) fn start(&mut self, clock: u32, starting: &Starting)
         requires may { MayStart (bus_view self.old) clock starting.now }
         requires room { vec_len self.old.started < vec_capacity self.old.started }
         ensures view { bus_view self.new ≡ bus_started (bus_view self.old) clock starting.now }
@@ -46,10 +47,7 @@ impl Bus {
         } }
         ensures room { vec_capacity self.new.started ≡ vec_capacity self.old.started }
     {
-        match starting.who {
-            Who::Symmetric(agent) => send(self.agents.as_mut_slice(), agent, clock),
-            Who::Priority => self.bridge.begun(starting.request.did),
-        }
+        self.tell_start(clock, starting);
         self.latest = Some(Latest {
             clock,
             who: starting.who,
@@ -61,8 +59,26 @@ impl Bus {
         });
     }
 
+    /// The agent or the bridge hears of its request that begins.
+    fn tell_start(&mut self, clock: u32, starting: &Starting)
+        requires { MayStart (bus_view self.old) clock starting.now }
+        ensures agents { self.new.agents.items
+            ≡ agents_told (starting_event clock starting.now.who) 0 self.old.agents.items }
+        ensures bridge { self.new.bridge ≡ record self.old.bridge {
+          waiting =
+              waiting_started starting.now.request.did starting.now.who self.old.bridge.waiting;
+        } }
+        ensures rest { self.new
+            ≡ record self.old { agents = self.new.agents; bridge = self.new.bridge } }
+    {
+        match starting.who {
+            Who::Symmetric(agent) => send(self.agents.as_mut_slice(), agent, clock),
+            Who::Priority => self.bridge.begun(starting.request.did),
+        }
+    }
+
     /// An address error cancels the request of this entry.
-    pub fn cancel(&mut self, entry: &Entry)
+    pub(crate) fn cancel(&mut self, entry: &Entry)
         requires { MayCancel (bus_view self.old) entry.now }
         ensures view { bus_view self.new ≡ bus_cancelled (bus_view self.old) entry.now }
         ensures rest { self.new
@@ -75,7 +91,7 @@ impl Bus {
     }
 
     /// A snoop end.
-    pub fn commit(&mut self, snooped: &Snooped)
+    pub(crate) fn commit(&mut self, snooped: &Snooped)
         requires few { length self.old.agents.items < 256 }
         requires may { MaySnoop (bus_view self.old) snooped.now }
         ensures view { bus_view self.new ≡ bus_snooped (bus_view self.old) snooped.now }
@@ -85,7 +101,7 @@ impl Bus {
           served = self.new.served;
         } }
     {
-        commit_all(self.agents.as_mut_slice(), 0, snooped);
+        commit_all(self.agents.as_mut_slice(), snooped);
         self.defer(snooped);
         self.served.push(snooped.served);
     }
@@ -99,7 +115,9 @@ impl Bus {
         ensures rest { self.new ≡ record self.old { bridge = self.new.bridge } }
     {
         let Entry {
-            number, request, ..
+            number,
+            request,
+            ..
         } = snooped.entry;
         match (snooped.outcome, snooped.turn) {
             (Outcome::Deferred, Turn::Defer(later)) => {
@@ -124,7 +142,7 @@ impl Bus {
     }
 
     /// The request whose response Deferred the clock is.
-    pub fn answered(&self, drive: &Drive) -> Option<Entry>
+    pub(crate) fn answered(&self, drive: &Drive) -> Option<Entry>
         ensures { result ≡ answered_by (bus_view self.now) drive.now }
     {
         match self.responding(drive) {
@@ -144,7 +162,7 @@ impl Bus {
     }
 
     /// The response Deferred to the request of this entry.
-    pub fn answer(&mut self, clock: u32, entry: &Entry)
+    pub(crate) fn answer(&mut self, clock: u32, entry: &Entry)
         ensures view { bus_view self.new ≡ bus_answered (bus_view self.old) clock entry.now }
         ensures rest { self.new ≡ record self.old { bridge = self.new.bridge } }
     {

@@ -41,7 +41,7 @@ impl Bus {
         }
     }
 
-    /// Fetches the bytes that come from there.
+    /// Fetches the bytes that move from this clock on.
     pub fn fetch(&mut self, from: Option<BytesFrom>)
         ensures view { bus_view self.new ≡ bus_fetched (bus_view self.old) from }
         ensures rest { self.new
@@ -49,8 +49,19 @@ impl Bus {
     {
         match from {
             None => {}
-            Some(BytesFrom::Memory(line)) => self.moved = self.memory.line(line),
-            Some(BytesFrom::Agents(number)) => {
+            Some(from) => self.fetch_from(from),
+        }
+    }
+
+    /// Fetches the bytes that come from there.
+    fn fetch_from(&mut self, from: BytesFrom)
+        ensures view { bus_view self.new ≡ bus_fetched (bus_view self.old) (Some from) }
+        ensures rest { self.new
+            ≡ record self.old { agents = self.new.agents; moved = self.new.moved } }
+    {
+        match from {
+            BytesFrom::Memory(line) => self.moved = self.memory.line(line),
+            BytesFrom::Agents(number) => {
                 if let Some(bytes) = hand_all(self.agents.as_mut_slice(), number) {
                     self.moved = bytes;
                 }

@@ -8,14 +8,16 @@
 #![tactic(auto)]
 
 pub use bus::{Bus, Lock};
+pub use count::access_count;
 pub use locking::Released;
-pub use made::access_count;
 
 mod bus;
+mod count;
 mod deciding;
 mod ending;
 mod events;
 mod fetching;
+mod hearing;
 mod lines;
 mod locking;
 mod made;

@@ -1,7 +1,9 @@
 //! The bus lock.
 
-ghost use Rattle.std.specs.Prelude.{◌≡◌, ◌&&◌, List};
-ghost use Rattle.fsb_access.specs.declared.item.Item.{Item as ItemView};
+ghost use Rattle.std.specs.Prelude.{◌≡◌, slice_get};
+ghost use Rattle.std.specs.List.{list_any};
+ghost use Rattle.fsb_access.specs.ScriptOrder.{script_of};
+ghost use Rattle.fsb_count.specs.Options.{is_some_and};
 ghost use Rattle.fsb_timely.specs.Scripts.{is_locked};
 ghost use Rattle.fsb_bench_view.specs.BusLocking.{MayRelease, bus_locked, completes_lock, is_locked_of, is_locked_start, is_locking, is_of, is_released, keeps_after, keeps_in};
 ghost use Rattle.fsb_bus.specs.Buses.{bus_view};
@@ -68,18 +70,30 @@ impl Bus {
 }
 
 /// Whether the agent makes a release.
+#[tactic(auto, unfolding(fsb_count::specs::Options::is_some_and))]
 fn is_released(scripts: &[Script], started: &[Started], may: &Released, agent: u8) -> bool
     ensures { result ≡ is_released scripts.now started.now (releases_of may.now) agent }
 {
-    may.entries
+    let completes = completes_any(scripts, agent, may.entries);
+    let retried = is_lost(started, agent, &may.retried);
+    let cancelled = is_lost(started, agent, &may.cancelled);
+    completes || (retried || cancelled)
+}
+
+/// Whether one of the entries is of a locked item of the agent.
+fn completes_any(scripts: &[Script], agent: u8, entries: &[Done]) -> bool
+    ensures { result ≡ list_any (completes_lock scripts.now agent) entries.now }
+{
+    entries
         .iter()
         .any(|done| completes_lock(scripts, agent, done))
-        || is_lost(started, agent, &may.retried)
-        || is_lost(started, agent, &may.cancelled)
 }
 
 /// Whether the request, if there is one, is a locked one of the agent.
-fn is_lost(started: &[Started], agent: u8, entry: &Option<Entry>) -> bool {
+#[tactic(auto, unfolding(fsb_count::specs::Options::is_some_and))]
+fn is_lost(started: &[Started], agent: u8, entry: &Option<Entry>) -> bool
+    ensures { result ≡ is_some_and entry.now (is_locked_of started.now agent) }
+{
     match entry {
         Some(entry) => is_of(agent, entry.who) && is_locked_start(started, entry.number),
         None => false,
@@ -87,7 +101,6 @@ fn is_lost(started: &[Started], agent: u8, entry: &Option<Entry>) -> bool {
 }
 
 /// Whether the entry is of a locked item of the agent.
-#[tactic(auto, unfolding(fsb_timely::specs::Scripts::is_locked))]
 fn completes_lock(scripts: &[Script], agent: u8, done: &Done) -> bool
     ensures { result ≡ completes_lock scripts.now agent done.now }
 {
@@ -95,7 +108,9 @@ fn completes_lock(scripts: &[Script], agent: u8, done: &Done) -> bool
 }
 
 /// The items of the agent.
-fn items_of(scripts: &[Script], agent: u8) -> &[Item] {
+fn items_of(scripts: &[Script], agent: u8) -> &[Item]
+    ensures { result.now ≡ script_of scripts.now agent }
+{
     match scripts.get(usize::from(agent)) {
         Some(script) => script.as_slice(),
         None => &[],
@@ -103,7 +118,10 @@ fn items_of(scripts: &[Script], agent: u8) -> &[Item] {
 }
 
 /// Whether the item of this number is a locked one.
-fn is_locked_item(items: &[Item], number: u16) -> bool {
+#[tactic(auto, unfolding(fsb_timely::specs::Scripts::is_locked, fsb_count::specs::Options::is_some_and))]
+fn is_locked_item(items: &[Item], number: u16) -> bool
+    ensures { result ≡ is_some_and (slice_get items.now number) is_locked }
+{
     match items.get(usize::from(number)) {
         Some(item) => matches!(item, Item::Locked(_)),
         None => false,
@@ -111,6 +129,7 @@ fn is_locked_item(items: &[Item], number: u16) -> bool {
 }
 
 /// Whether the agent begins a locked request.
+#[tactic(auto, unfolding(fsb_count::specs::Options::is_some_and))]
 fn is_locking(starting: &Option<Starting>, agent: u8) -> bool
     ensures { result ≡ is_locking starting.now agent }
 {

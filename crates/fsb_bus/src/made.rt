@@ -1,13 +1,14 @@
 //! What is made of a plan before its first clock.
 
-ghost use Rattle.std.specs.Prelude.{◌≡◌, ◌≤◌, ◌<◌, IfOk, IsTrue, ℕ, length, map, true, ◌||◌};
-ghost use Rattle.fsb_agent_view.specs.AgentEvents.{first_view};
-ghost use Rattle.fsb_memory.specs.Controller.{LineMap, is_mapped, line_in, start_bytes};
-ghost use Rattle.fsb_script.specs.Plans.{PlanView};
+ghost use Rattle.std.specs.Prelude.{◌≡◌, ◌==◌, ◌||◌, ℕ, IfOk, OnOk, true};
+ghost use Rattle.std.specs.List.{list_any};
+ghost use Rattle.fsb_access.specs.Access.{accessed_line};
+ghost use Rattle.fsb_memory.specs.Controller.{is_mapped, line_in, start_bytes};
 ghost use Rattle.fsb_script.specs.View.{plan_view};
-ghost use Rattle.fsb_bus.specs.FirstBus.{first_agents, is_named_line, plan_accesses};
+ghost use Rattle.fsb_timely.specs.Kept.{is_named_in};
+ghost use Rattle.fsb_bus.specs.FirstBus.{first_agents, is_listed, is_named_line};
 
-use fsb_access::{Access, Item, Script};
+use fsb_access::{Access, Item};
 use fsb_agent::Agent;
 use fsb_io::Memory;
 use fsb_memory::Controller;
@@ -22,14 +23,7 @@ pub(crate) fn agents_of(alloc: Global, plan: &Plan) -> Result<Vec<Agent>, Memory
     let mut number = 0;
     for script in plan.scripts.as_slice() {
         let script = script.copy(alloc)?;
-        let agent = Agent::new(
-            alloc,
-            number,
-            script,
-            plan.cache,
-            plan.ahead,
-            plan.profile,
-        )?;
+        let agent = Agent::new(alloc, number, script, plan.cache, plan.ahead, plan.profile)?;
         agents.push(agent)?;
         number += 1;
     }
@@ -47,49 +41,52 @@ pub(crate) fn memory_of(alloc: Global, plan: &Plan) -> Result<Controller, Memory
     for script in plan.scripts.as_slice() {
         name_items(&mut lines, script.as_slice())?;
     }
-    Controller::new(alloc, plan.mem.as_slice(), &lines)
+    let memory = Controller::new(alloc, plan.mem.as_slice(), &lines)?;
+    Ok(memory)
 }
 
 /// Adds the lines of a script.
-fn name_items(lines: &mut Vec<u64>, items: &[Item]) -> Result<(), Memory> {
+fn name_items(lines: &mut Vec<u64>, items: &[Item]) -> Result<(), Memory>
+    ensures { OnOk result ((line : ℕ) → is_listed lines.new.items line
+        ≡ (is_listed lines.old.items line || list_any (is_named_in line) items.now)) }
+{
     for item in items {
-        match item {
-            Item::One(access) => lines.push(access.line())?,
-            Item::Locked(group) => name_accesses(lines, group.as_slice())?,
-            Item::Idle(_) => {}
-        }
+        name_item(lines, item)?;
+    }
+    Ok(())
+}
+
+/// Adds the lines of an item.
+#[tactic(auto, using(crate::proofs::NamedLines::named_lines))]
+fn name_item(lines: &mut Vec<u64>, item: &Item) -> Result<(), Memory>
+    ensures { OnOk result ((line : ℕ) → is_listed lines.new.items line
+        ≡ (is_listed lines.old.items line || is_named_in line item.now)) }
+{
+    match item {
+        Item::One(access) => name_line(lines, access.line())?,
+        Item::Locked(group) => name_accesses(lines, group.as_slice())?,
+        Item::Idle(_) => {}
     }
     Ok(())
 }
 
 /// Adds the lines of accesses.
-fn name_accesses(lines: &mut Vec<u64>, accesses: &[Access]) -> Result<(), Memory> {
+fn name_accesses(lines: &mut Vec<u64>, accesses: &[Access]) -> Result<(), Memory>
+    ensures { OnOk result ((line : ℕ) → is_listed lines.new.items line
+        ≡ (is_listed lines.old.items line
+        || list_any (λ access. accessed_line access == line) accesses.now)) }
+{
     for access in accesses {
-        lines.push(access.line())?;
+        name_line(lines, access.line())?;
     }
     Ok(())
 }
 
-/// How many accesses the scripts of a plan have.
-pub fn access_count(plan: &Plan) -> usize
-    ensures { result ≡ plan_accesses plan.now.scripts }
+/// Adds a line.
+fn name_line(lines: &mut Vec<u64>, line: u64) -> Result<(), Memory>
+    ensures { OnOk result ((other : ℕ) → is_listed lines.new.items other
+        ≡ (is_listed lines.old.items other || (line == other))) }
 {
-    let mut count = 0;
-    for script in plan.scripts.as_slice() {
-        count += accesses_in(script.as_slice());
-    }
-    count
-}
-
-/// How many accesses a script has.
-fn accesses_in(items: &[Item]) -> usize {
-    let mut count = 0;
-    for item in items {
-        count += match item {
-            Item::One(_) => 1,
-            Item::Locked(group) => group.as_slice().len(),
-            Item::Idle(_) => 0,
-        };
-    }
-    count
+    lines.push(line)?;
+    Ok(())
 }

@@ -2,6 +2,7 @@
 
 ghost use Rattle.std.specs.Prelude.{◌≡◌, ◌<◌, ◌≤◌, ◌^◌, ◌/◌, ◌%◌, ◌+◌, IfSome, Some, is_some, length, true, not};
 ghost use Rattle.std.specs.Int.RustNames.{count_ones};
+ghost use Rattle.fsb_count.specs.Options.{is_some_and};
 ghost use Rattle.fsb_encode.specs.Request.{is_lawful_request};
 ghost use Rattle.fsb_signal.specs.Parity.{is_even};
 ghost use Rattle.fsb_bench_view.specs.BusSample.{bits_driven, bits_of, drive_bits, is_asking, is_bridge_asking, is_lock_driven, pair_driven, parity_bits, request_bits, sample_by, snoop_bits};
@@ -87,15 +88,23 @@ impl Bus {
     fn is_lock_driven(&self, starting: &Option<Starting>) -> bool
         ensures { result ≡ is_lock_driven (bus_view self.now) starting.now }
     {
-        let begins = match starting {
-            Some(starting) => starting.locked,
-            None => false,
-        };
-        self.lock.kept.iter().any(|kept| *kept) || begins
+        self.lock.kept.iter().any(|kept| *kept) || begins_lock(starting)
+    }
+}
+
+/// Whether a locked request begins.
+#[tactic(auto, unfolding(fsb_count::specs::Options::is_some_and))]
+fn begins_lock(starting: &Option<Starting>) -> bool
+    ensures { result ≡ is_some_and starting.now (λ s. s.locked) }
+{
+    match starting {
+        Some(starting) => starting.locked,
+        None => false,
     }
 }
 
 /// The address and REQ words of the clock.
+#[tactic(auto, using(crate::proofs::RequestWords::request_words), unfolding(fsb_timely::specs::Starts::no_pair))]
 fn pair_driven(latest: &Option<Latest>, clock: u32, starting: &Option<Starting>) -> Pair
     requires latest { (last : LatestView) → latest.now ≡ Some last →
         is_lawful_request last.request ≡ true }
@@ -108,8 +117,14 @@ fn pair_driven(latest: &Option<Latest>, clock: u32, starting: &Option<Starting>)
     match starting {
         Some(starting) => encode(&starting.request).0,
         None => match latest {
-            Some(latest) if is_latest_before(clock, latest) => encode(&latest.request).1,
-            _ => Pair { addr: 0, req: 0 },
+            Some(latest) => {
+                if is_latest_before(clock, latest) {
+                    encode(&latest.request).1
+                } else {
+                    Pair { addr: 0, req: 0 }
+                }
+            }
+            None => Pair { addr: 0, req: 0 },
         },
     }
 }

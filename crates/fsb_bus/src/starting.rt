@@ -93,6 +93,7 @@ impl Bus {
     }
 
     /// Whether this agent began a request at the clock before.
+    #[tactic(auto, unfolding(fsb_count::specs::Options::is_some_and))]
     pub(crate) fn began(&self, clock: u32, who: Who) -> bool
         ensures { result ≡ began_by self.now.latest clock who }
     {

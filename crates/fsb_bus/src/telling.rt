@@ -1,53 +1,54 @@
 //! What is told to all agents, in order, and to one of them.
 
-ghost use Rattle.std.specs.Prelude.{◌≡◌, ◌+◌, ◌==◌, ◌<◌, ◌++◌, ℕ, Some, length, slice_get, true};
-ghost use Rattle.std.specs.Option.{option_and_then};
-ghost use Rattle.fsb_agent_view.specs.AgentEvents.{Arrived, GivenUp, HandedOn, Performed, Sent, UpgradeEnded};
+ghost use Rattle.std.specs.Prelude.{◌≡◌, ◌+◌, ◌==◌, ◌<◌, ◌++◌, ◌||◌, ℕ, Some, length, map, slice_get, true};
+ghost use Rattle.fsb_agent_view.specs.AgentEvents.{GivenUp, Sent};
 ghost use Rattle.fsb_agent_view.specs.AgentViews.{AgentView};
-ghost use Rattle.fsb_agent_view.specs.Arriving.{may_arrive, may_end_upgrade, may_give_up};
+ghost use Rattle.fsb_agent_view.specs.Arriving.{handed_on, may_give_up};
+ghost use Rattle.fsb_agent_view.specs.Completing.{performed};
 ghost use Rattle.fsb_agent_view.specs.Snooping.{may_commit};
 ghost use Rattle.fsb_agent_view.specs.Wanting.{may_send};
 ghost use Rattle.fsb_bench_view.specs.BusDecisions.{want_at};
 ghost use Rattle.fsb_bench_view.specs.BusEvents.{snooped_event};
 ghost use Rattle.fsb_bench_view.specs.BusSnooping.{answer_besides, stronger};
-ghost use Rattle.fsb_bench_view.specs.ToldAgents.{agents_told, bytes_owed, for_all, for_one, hit_entries};
+ghost use Rattle.fsb_bench_view.specs.ToldAgents.{agents_told, bytes_owed, first_of, for_one, hit_entries};
 ghost use Rattle.fsb_bus.specs.LogRoom.{HasRoomFor};
 
 use fsb_access::Log;
 use fsb_agent::{Agent, SnoopAnswer, Want};
 use fsb_bench_view::Snooped;
 
+/// Of two answers the first one, if it is there.
+fn first_of(bytes: Option<[u8; 32]>, other: Option<[u8; 32]>) -> Option<[u8; 32]>
+    ensures { result ≡ first_of bytes other }
+{
+    match bytes {
+        Some(bytes) => Some(bytes),
+        None => other,
+    }
+}
+
 /// All agents hand on the bytes that they owe to this transaction: those of the first that does.
 pub(crate) fn hand_all(agents: &mut [Agent], number: u32) -> Option<[u8; 32]>
     ensures bytes { result ≡ bytes_owed number agents.old }
-    ensures agents { (n : ℕ) → agents.new ≡ agents_told (for_all (HandedOn number)) n agents.old }
+    ensures agents { agents.new ≡ map (λ v. handed_on v number) agents.old }
 {
-    match agents {
-        [] => None,
-        [agent, others @ ..] => {
-            let bytes = agent.hand(number);
-            let others_bytes = hand_all(others, number);
-            match bytes {
-                Some(bytes) => Some(bytes),
-                None => others_bytes,
-            }
-        }
+    let mut bytes = None;
+    for agent in agents {
+        let owed = agent.hand(number);
+        bytes = first_of(bytes, owed);
     }
+    bytes
 }
 
 /// The hits of a clock, agent by agent.
 pub(crate) fn perform_all(agents: &mut [Agent], clock: u32, log: &mut Log)
     requires room { HasRoomFor agents.old log.old }
-    ensures agents { (n : ℕ) → agents.new ≡ agents_told (for_all (Performed clock)) n agents.old }
+    ensures agents { agents.new ≡ map (λ v. performed v clock) agents.old }
     ensures entries { log.new.entries ≡ log.old.entries ++ hit_entries clock agents.old }
     ensures room { HasRoomFor agents.new log.new }
 {
-    match agents {
-        [] => {}
-        [agent, others @ ..] => {
-            agent.perform(clock, log);
-            perform_all(others, clock, log);
-        }
+    for agent in agents {
+        agent.perform(clock, log);
     }
 }
 
@@ -91,26 +92,32 @@ pub(crate) fn answer_besides(agents: &[Agent], number: u8, besides: u8, line: u6
     }
 }
 
-/// Tells a snoop end to the agents, the first of which has this number.
-pub(crate) fn commit_all(agents: &mut [Agent], number: u8, snooped: &Snooped)
-    requires few { number + length agents.old < 256 }
-    requires may { (k : ℕ) (v : AgentView) → slice_get agents.old k ≡ Some v →
-        may_commit v snooped.now.served.first (number + k == snooped.now.served.agent)
-        snooped.now.outcome ≡ true }
-    ensures { agents.new ≡ agents_told (snooped_event snooped.now) number agents.old }
+/// Whether another agent was seen to hold the line.
+fn is_shared(snooped: &Snooped) -> bool
+    ensures { result ≡ (snooped.now.hit || snooped.now.hitm) }
 {
-    match agents {
-        [] => {}
-        [agent, others @ ..] => {
-            agent.commit(
-                snooped.served.first,
-                number == snooped.served.agent,
-                &snooped.served.request,
-                snooped.hit || snooped.hitm,
-                snooped.outcome,
-            );
-            commit_all(others, number + 1, snooped);
-        }
+    snooped.hit || snooped.hitm
+}
+
+/// Tells a snoop end to all agents.
+pub(crate) fn commit_all(agents: &mut [Agent], snooped: &Snooped)
+    requires few { length agents.old < 256 }
+    requires may { (k : ℕ) (v : AgentView) → slice_get agents.old k ≡ Some v →
+        may_commit v snooped.now.served.first (k == snooped.now.served.agent)
+        snooped.now.outcome ≡ true }
+    ensures { agents.new ≡ agents_told (snooped_event snooped.now) 0 agents.old }
+{
+    let shared = is_shared(snooped);
+    let mut number = 0;
+    for agent in agents {
+        agent.commit(
+            snooped.served.first,
+            number == snooped.served.agent,
+            &snooped.served.request,
+            shared,
+            snooped.outcome,
+        );
+        number += 1;
     }
 }
 

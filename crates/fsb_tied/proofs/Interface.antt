@@ -9,6 +9,8 @@ pub use Rattle.fsb_tied.proofs.Bridge.{Ends, Responds, ended-number, number-ende
 pub use Rattle.fsb_tied.proofs.CarryingRuns.{granted-await, written-await}
 -- The links of a line that are left, from that of one snoop end on.
 pub use Rattle.fsb_tied.proofs.Chains.{link_of}
+-- A symmetric winner is one of four agents.
+pub use Rattle.fsb_tied.proofs.FewAgents.{winner-four}
 -- Each clock of a timely run has the facts on which the tie of a line rests.
 pub use Rattle.fsb_tied.proofs.ClocksOfRuns.{clock-facts}
 -- The memory has of a line, at each clock, the bytes that were put there last; at the end copies and memory are kept.
@@ -16,7 +18,7 @@ pub use Rattle.fsb_tied.proofs.KeptLines.{memory-below-run}
 -- In a timely run responses and ends come in the order of the links of each line.
 pub use Rattle.fsb_tied.proofs.LinkOrder.{first-link}
 -- A reply answers one request alone: while a Deferred request awaits its reply no other one begins with its ID.
-pub use Rattle.fsb_tied.proofs.OneReply.{deferred-held}
+pub use Rattle.fsb_tied.proofs.OneReply.{deferred-held, held-plain, told-deferred}
 -- The last live request that put a line into memory, one clock on.
 pub use Rattle.fsb_tied.proofs.PutLines.{number-put, number-stays, takes_line}
 -- A reply that is seen in the samples up to a clock is the reply of the whole run.
@@ -44,7 +46,7 @@ pub use Rattle.fsb_tied.proofs.Beginnings.{begun-shown, begun-want, claimed}
 -- The ends of live requests, in the moments of a run and in its cut traces; what has ended has its snoop end behind it.
 pub use Rattle.fsb_tied.proofs.Ended.{end-below, ended-snooped}
 -- Data that move on a line, and the ends that are awaited there: what it says that they do.
-pub use Rattle.fsb_tied.proofs.Moving.{any-of}
+pub use Rattle.fsb_tied.proofs.Moving.{any-in, any-of}
 -- A request that has begun, and is neither cancelled nor ended, is one that its agent owes.
 pub use Rattle.fsb_tied.proofs.Owing.{cancelled-at, cancelled-below, claim-no-reply, owing-gives}
 -- What the snoop end of a reply that grants a line answers: a request that was Deferred on the line, the last one.
@@ -52,8 +54,12 @@ pub use Rattle.fsb_tied.proofs.ReplyEnds.{reply-end-at}
 -- The accesses of a clock of a timely run are served: those of hits, and those that come with the end of another line.
 pub use Rattle.fsb_tied.proofs.ServedAccesses.{grant-first, granted-parts}
 -- An agent has at most one line of a cache set, held or asked for.
-pub use Rattle.fsb_tied.proofs.Slots.{Slot, one-slot}
+pub use Rattle.fsb_tied.proofs.Slots.{Slot, asked-unevicted, begun-apart, one-slot}
 -- At the snoop end of a symmetric agent's request that request is open, and no open one is older.
 pub use Rattle.fsb_tied.proofs.SnoopOpen.{cancels, live-at}
 -- Lines of one cache set, and the victim among them.
 pub use Rattle.fsb_tied.proofs.Victims.{a-victim, dirty-held, no-victim, rival-other, rival-set, rival-sym, same-set, same-set-sym}
+-- A request that is put off: its snoop end, and its claim; and its turn, as the moments below a clock have it.
+pub use Rattle.fsb_tied.proofs.PendingLines.{IsPutOff, turn-so-far}
+-- The machine's line after the events below a clock, and before the clock's snoop end.
+pub use Rattle.fsb_tied.proofs.TiedRuns.{events-may-happen, tied-through}

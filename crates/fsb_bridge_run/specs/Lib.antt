@@ -1,0 +1,2 @@
+pub mod DeferralSteps
+pub mod RunDeferrals

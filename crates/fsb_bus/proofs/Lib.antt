@@ -1,0 +1,8 @@
+pub mod Told
+pub mod LogRooms
+pub mod RequestWords
+pub mod PlanFacts
+pub mod BusSteps
+pub mod FirstAgents
+pub mod NamedLines
+pub mod KeptScripts
