@@ -17,7 +17,6 @@ use Rattle.fsb_trace.specs.declared.who.Who.TheVariants.{Symmetric, Priority}
 use Rattle.fsb_bench_view.specs.declared.beginning.Latest.{Latest}
 use Rattle.fsb_bench_view.specs.declared.beginning.Starting.{Starting}
 use Rattle.fsb_bench_view.specs.declared.decided.Decided.{Decided}
-use Rattle.fsb_bench_view.specs.declared.snoop.Snooped.{Snooped}
 use Rattle.fsb_bench_view.specs.BusViews.{BusView}
 use Rattle.fsb_bench_view.specs.BytesFetched.{data_driven}
 use Rattle.fsb_bench_view.specs.BusStarting.{want_in}

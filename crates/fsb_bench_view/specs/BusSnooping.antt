@@ -1,11 +1,10 @@
 -- The snoop end that a clock is.
-use Rattle.std.specs.Prelude.{ℕ, ◌+◌, ◌/◌, ◌==◌, ◌&&◌, ◌||◌, Bool, true, false, not, is_none, if◌then◌else◌, List, [], ◌∷◌, Option, Some, None, slice_get}
+use Rattle.std.specs.Prelude.{ℕ, ◌+◌, ◌/◌, ◌==◌, ◌||◌, Bool, true, false, is_none, if◌then◌else◌, List, [], ◌∷◌, Option, Some, None, slice_get}
 use Rattle.std.specs.List.{find}
 use Rattle.std.specs.Option.{option_and_then, option_map}
 use Rattle.fsb_agent_view.specs.AgentViews.{AgentView, answer_by}
 use Rattle.fsb_bridge.specs.Deferrals.{deferral_of_id, is_covered, is_waited_for}
 use Rattle.fsb_bridge.specs.declared.deferral.Deferral.{Deferral}
-use Rattle.fsb_encode.specs.declared.request.Kind.{Kind}
 use Rattle.fsb_encode.specs.declared.request.Request.{Request}
 use Rattle.fsb_hazard.specs.Choice.{effective_turn}
 use Rattle.fsb_hazard.specs.declared.choice.Turn.{Turn}
@@ -20,7 +19,6 @@ use Rattle.fsb_trace.specs.declared.outcome.Outcome.TheVariants.{Handed, Retried
 use Rattle.fsb_trace.specs.declared.who.Who.{Who}
 use Rattle.fsb_trace.specs.declared.who.Who.TheVariants.{Symmetric, Priority}
 use Rattle.fsb_bench_view.specs.declared.beginning.Started.{Started}
-use Rattle.fsb_bench_view.specs.declared.snoop.Served.{Served}
 use Rattle.fsb_bench_view.specs.declared.snoop.Snooped.{Snooped}
 use Rattle.fsb_bench_view.specs.BusViews.{BusView}
 

@@ -1,5 +1,5 @@
 -- Which request begins at a clock.
-use Rattle.std.specs.Prelude.{ℕ, ◌+◌, ◌==◌, ◌&&◌, Bool, true, false, not, is_none, nat_le, nat_lt, if◌then◌else◌, List, length, Option, Some, None, slice_get}
+use Rattle.std.specs.Prelude.{ℕ, ◌+◌, ◌==◌, ◌&&◌, Bool, true, false, not, is_none, nat_le, nat_lt, if◌then◌else◌, length, Option, Some, None, slice_get}
 use Rattle.std.specs.List.{list_any}
 use Rattle.std.specs.Option.{option_and_then, option_map, option_map_or}
 use Rattle.fsb_agent_view.specs.declared.want.Want.{Want}

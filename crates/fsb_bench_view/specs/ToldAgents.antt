@@ -1,7 +1,7 @@
 -- What is told to the agents of a bus.
 use Rattle.std.specs.Prelude.{ℕ, ◌+◌, ◌==◌, if◌then◌else◌, List, [], ◌∷◌, ◌++◌, fold, Option, Some, None}
 use Rattle.fsb_access.specs.declared.log.Done.{Done}
-use Rattle.fsb_agent_view.specs.AgentEvents.{AgentEvent, Performed, agent_after}
+use Rattle.fsb_agent_view.specs.AgentEvents.{AgentEvent, agent_after}
 use Rattle.fsb_agent_view.specs.AgentViews.{AgentView}
 use Rattle.fsb_agent_view.specs.Arriving.{hand_by}
 use Rattle.fsb_agent_view.specs.Completing.{performed_entries}
