@@ -1,3 +1,1 @@
-mod StayingWork
-mod KeptRests
-mod Brought
+mod AgentCounts

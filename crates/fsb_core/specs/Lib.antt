@@ -1,4 +1,3 @@
 pub mod BenchSteps
 pub mod Benches
-pub mod Bringing
 pub mod Parts

@@ -2,7 +2,9 @@
 use Rattle.std.specs.Prelude.{◌≡◌, ◌≤◌, ℕ, true, length, vec_capacity}
 use Rattle.fsb_memory.specs.Controller.{is_mapped}
 use Rattle.fsb_script.specs.View.{plan_view}
-use Rattle.fsb_bench_view.specs.BusViews.{BenchView}
+use Rattle.fsb_phase.specs.declared.drive.Drive.{Drive}
+use Rattle.fsb_bench_view.specs.BusViews.{BenchView, BusView}
+use Rattle.fsb_bench_view.specs.BytesFetched.{bus_fetched, bytes_from}
 use Rattle.fsb_bus.specs.Buses.{StandsFor, bus_view}
 use Rattle.fsb_bus.specs.FirstBus.{is_named_line}
 use Rattle.fsb_bus.specs.LogRoom.{HasRoomFor}
@@ -20,6 +22,10 @@ parts_view m = record {
     log = m.log.entries;
   };
 }
+
+-- the bus with the bytes that move, where this is driven
+abbrev pub fetched_by : BusView → Drive → BusView
+fetched_by bus drive = bus_fetched bus (bytes_from bus drive)
 
 -- the parts fit: the arbiter and the phases stand for the trace, there is an agent for each script and a choice for each
 -- request, memory has each line that the scripts name, and there is room for all that the plan's clocks can bring

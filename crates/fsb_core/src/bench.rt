@@ -32,7 +32,11 @@ impl Bench {
     /// A bench for the plan, before its first clock. Each object is given the plan's hazard lines,
     /// in order. All the memory that the plan's clocks need is taken here. Where there is none, the
     /// plan and the objects are dropped.
-    pub fn make(alloc: Global, plan: Plan, mut hazards: Vec<Box<dyn Hazard>>) -> Result<Bench, Memory>
+    pub fn make(
+        alloc: Global,
+        plan: Plan,
+        mut hazards: Vec<Box<dyn Hazard>>,
+    ) -> Result<Bench, Memory>
         ensures first { IfOk result (λ bench. view_of bench ≡ first_bench (plan_view plan)) }
         ensures told { IfOk result (λ bench. map (λ h. told h) (objects_of bench)
             ≡ map (λ h. told_after (is_scripted h) plan.hazards (told h)) hazards.items) }

@@ -27,6 +27,5 @@ pub use bench::Bench;
 
 mod asking;
 mod bench;
-mod bringing;
 mod parts;
 mod stepping;

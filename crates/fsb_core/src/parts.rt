@@ -1,4 +1,4 @@
-ghost use Rattle.std.specs.Prelude.{◌≡◌, IfOk};
+ghost use Rattle.std.specs.Prelude.{◌≡◌, ◌<◌, IfOk, length};
 
 use fsb_access::Log;
 use fsb_bus::{Bus, access_count};
@@ -51,6 +51,22 @@ impl Parts {
             choices,
             holds,
         })
+    }
+
+    /// The next clock.
+    pub fn clock(&self) -> u32
+        requires { length self.now.trace.items < 4294967296 }
+        ensures { result ≡ length self.now.trace.items }
+    {
+        self.trace.len() as u32
+    }
+
+    /// The number of the next request.
+    pub fn number(&self) -> u32
+        requires { length self.now.choices.items < 4294967296 }
+        ensures { result ≡ length self.now.choices.items }
+    {
+        self.choices.len() as u32
     }
 
     /// Whether BNR# was asked for two clocks before the clock.

@@ -4,7 +4,6 @@ ghost use Rattle.std.specs.Prelude.{◌≡◌, ◌<◌, ◌++◌, [], ◌∷◌,
 ghost use Rattle.std.specs.Option.{option_map, option_map_or};
 ghost use Rattle.fsb_bench_view.specs.BenchSteps.{outcome_snooped};
 ghost use Rattle.fsb_bench_view.specs.BusEvents.{entry_started};
-ghost use Rattle.fsb_bench_view.specs.BytesFetched.{bus_fetched, bytes_from};
 ghost use Rattle.fsb_bench_view.specs.BusEvents.{bus_performed};
 ghost use Rattle.fsb_bench_view.specs.MaySteps.{MayStep};
 ghost use Rattle.fsb_bench_view.specs.ToldAgents.{hit_entries};
@@ -12,11 +11,9 @@ ghost use Rattle.fsb_bus.specs.Buses.{bus_view};
 ghost use Rattle.fsb_bus.specs.FirstBus.{is_named_line};
 ghost use Rattle.fsb_bus.specs.LogRoom.{HasRoomFor};
 ghost use Rattle.fsb_core.specs.BenchSteps.{IsStepped};
-ghost use Rattle.fsb_core.specs.Bringing.{KeepsRest};
-ghost use Rattle.fsb_core.specs.Parts.{IsFit, parts_view};
+ghost use Rattle.fsb_core.specs.Parts.{IsFit, fetched_by, parts_view};
 
 use crate::asking::{ask_choice, ask_hold};
-use crate::bringing::bring;
 use crate::parts::Parts;
 use fsb_access::Log;
 use fsb_bench_view::{Decided, Starting};
@@ -41,7 +38,7 @@ impl Parts {
         ensures told_stays { map H.told objects.new ≡ map H.told objects.old }
         ensures kinds_stay { map H.is_scripted objects.new ≡ map H.is_scripted objects.old }
     {
-        let clock = self.trace.len() as u32;
+        let clock = self.clock();
         let done = self.log.as_slice().len();
         let hold = ask_hold(objects, clock);
         let drive = self.bus.phases.drive(clock, &self.bus.queue);
@@ -52,44 +49,38 @@ impl Parts {
         let decided = self.bus.decide(winner, clock, drive, hold, was_held);
         let sample = self.bus.sample(clock, self.plan.profile, &decided);
         let phased = self.bus.phases.absorb(clock, &sample, &self.bus.queue);
-        let number = self.choices.len() as u32;
+        let number = self.number();
         let choice = ask_choice(objects, number, &decided.starting);
         let begun = begun(&self.bus, clock, &decided.starting, choice);
-        bring(&mut self.bus, clock, &decided, &phased, &mut self.log);
+        self.bus.hear(clock, &decided, &phased, &mut self.log);
+        let entries = &self.log.as_slice()[done..];
+        let scripts = self.plan.scripts.as_slice();
         let released = Released {
-            entries: &self.log.as_slice()[done..],
+            entries,
             retried,
             cancelled: decided.cancelled,
         };
-        self.bus
-            .lock(self.plan.scripts.as_slice(), &decided.starting, &released);
+        self.bus.lock(scripts, &decided.starting, &released);
         let outcome = outcome_snooped(&decided);
         let error = sample.has(Lines::AERR);
         take_clock(&mut self.bus.queue, clock, &phased, outcome, error, begun);
         self.bus.arbiter.absorb(&sample);
-        self.record(sample, hold, &decided.starting, choice);
-    }
-
-    /// The sample of a clock is recorded, whether BNR# was asked for, and what was chosen for the
-    /// request that begins, if one does.
-    fn record(&mut self, sample: Sample, hold: bool, starting: &Option<Starting>, choice: Choice) {
-        self.trace.push_reserved(sample);
-        self.holds.push_reserved(hold);
-        if starting.is_some() {
-            self.choices.push_reserved(choice);
-        }
+        add(&mut self.trace, sample);
+        add(&mut self.holds, hold);
+        add_choice(&mut self.choices, &decided.starting, choice);
     }
 }
 
 /// The bytes that move are fetched, and the hits are made.
 fn perform(bus: &mut Bus, clock: u32, drive: &Drive, log: &mut Log)
     requires { HasRoomFor bus.old.agents.items log.old }
-    ensures view { let fetched = bus_fetched (bus_view bus.old) (bytes_from (bus_view bus.old) drive.now)
-        in bus_view bus.new ≡ bus_performed fetched clock }
-    ensures entries { let fetched = bus_fetched (bus_view bus.old) (bytes_from (bus_view bus.old) drive.now)
-        in log.new.entries ≡ log.old.entries ++ hit_entries clock fetched.agents }
+    ensures view { bus_view bus.new ≡ bus_performed (fetched_by (bus_view bus.old) drive.now) clock }
+    ensures entries { log.new.entries ≡ log.old.entries
+        ++ hit_entries clock (fetched_by (bus_view bus.old) drive.now).agents }
     ensures room { HasRoomFor bus.new.agents.items log.new }
-    ensures rest { KeepsRest bus.old bus.new }
+    ensures count { length bus.new.agents.items ≡ length bus.old.agents.items }
+    ensures rest { bus.new
+        ≡ record bus.old { agents = bus.new.agents; moved = bus.new.moved } }
 {
     let from = bus.bytes_from(drive);
     bus.fetch(from);
@@ -115,5 +106,26 @@ fn outcome_snooped(decided: &Decided) -> Outcome
     match &decided.snooped {
         Some(snooped) => snooped.outcome,
         None => Outcome::Failed,
+    }
+}
+
+/// Adds an item as the last one, in the room that is there.
+fn add<T>(items: &mut Vec<T>, item: T)
+    requires { length items.old.items < vec_capacity items.old }
+    ensures items { items.new.items ≡ items.old.items ++ item ∷ [] }
+    ensures room { vec_capacity items.new ≡ vec_capacity items.old }
+{
+    items.push_reserved(item);
+}
+
+/// Adds what was chosen for the request that begins, if one does.
+fn add_choice(choices: &mut Vec<Choice>, starting: &Option<Starting>, choice: Choice)
+    requires { length choices.old.items < vec_capacity choices.old }
+    ensures items { choices.new.items
+        ≡ choices.old.items ++ option_map_or (λ first. choice ∷ []) starting.now [] }
+    ensures room { vec_capacity choices.new ≡ vec_capacity choices.old }
+{
+    if starting.is_some() {
+        add(choices, choice);
     }
 }
