@@ -1,1 +1,4 @@
 mod AgentCounts
+mod DueChunks
+mod Clocks
+mod StepTaken
