@@ -112,7 +112,6 @@ sample-taken named v hold sample may is =
     let P : Sample → Type 0 = λ x. phases.MayTake (clock_of v) x v.bus.queue (turns_of v.run) v.run.trace in
     subst P (sym is) (record { clock_is = refl; flight = may.flight.flight; answers = may.sample.answers; spaced = may.sample.spaced })
 
-
 pub sampled-is :
     (m : Parts) (b : Bus) (hold : Bool) (clock : ℕ) (decided : Decided) (sample : Sample) (phased : Phased) (after : Phases)
     (named : ℕ → Bool) → IsFit m → MayStep named (parts_view m) hold → IsDecided (parts_view m) hold clock (bus_view b) decided → Moves m.bus b

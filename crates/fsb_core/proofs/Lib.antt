@@ -1,3 +1,4 @@
+mod FirstParts
 mod AgentCounts
 mod DueChunks
 mod Clocks

@@ -8,10 +8,11 @@ ghost use Rattle.fsb_bus.specs.FirstBus.{is_named_line};
 ghost use Rattle.fsb_core.specs.BenchSteps.{IsStepped, first_bench};
 ghost use Rattle.fsb_core.specs.Parts.{IsFit};
 
+use crate::asking::loaded;
 use crate::parts::Parts;
 use fsb_access::Done;
 use fsb_cache::Cache;
-use fsb_hazard::{Choice, Hazard, load_all};
+use fsb_hazard::{Choice, Hazard};
 use fsb_io::Memory;
 use fsb_memory::Controller;
 use fsb_script::Plan;
@@ -32,18 +33,14 @@ impl Bench {
     /// A bench for the plan, before its first clock. Each object is given the plan's hazard lines,
     /// in order. All the memory that the plan's clocks need is taken here. Where there is none, the
     /// plan and the objects are dropped.
-    pub fn make(
-        alloc: Global,
-        plan: Plan,
-        mut hazards: Vec<Box<dyn Hazard>>,
-    ) -> Result<Bench, Memory>
+    pub fn make(alloc: Global, plan: Plan, hazards: Vec<Box<dyn Hazard>>) -> Result<Bench, Memory>
         ensures first { IfOk result (λ bench. view_of bench ≡ first_bench (plan_view plan)) }
         ensures told { IfOk result (λ bench. map (λ h. told h) (objects_of bench)
             ≡ map (λ h. told_after (is_scripted h) plan.hazards (told h)) hazards.items) }
         ensures kinds { IfOk result (λ bench. map (λ h. is_scripted h) (objects_of bench)
             ≡ map (λ h. is_scripted h) hazards.items) }
     {
-        load_all(&mut hazards, plan.hazards.as_slice())?;
+        let hazards = loaded(hazards, plan.hazards.as_slice())?;
         let parts = Parts::new(alloc, plan)?;
         Ok(Bench { parts, hazards })
     }

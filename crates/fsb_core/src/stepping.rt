@@ -1,6 +1,6 @@
 //! One clock of a bench.
 
-ghost use Rattle.std.specs.Prelude.{◌≡◌, ◌<◌, ◌++◌, [], ◌∷◌, Bool, length, map, vec_capacity};
+ghost use Rattle.std.specs.Prelude.{◌≡◌, ◌<◌, ◌≤◌, ◌++◌, [], ◌∷◌, Bool, drop, length, map, vec_capacity};
 ghost use Rattle.std.specs.Option.{option_map, option_map_or};
 ghost use Rattle.fsb_bench_view.specs.BenchSteps.{outcome_snooped};
 ghost use Rattle.fsb_bench_view.specs.BusEvents.{entry_started};
@@ -15,7 +15,7 @@ ghost use Rattle.fsb_core.specs.Parts.{IsFit, fetched_by, parts_view};
 
 use crate::asking::{ask_choice, ask_hold};
 use crate::parts::Parts;
-use fsb_access::Log;
+use fsb_access::{Done, Log};
 use fsb_bench_view::{Decided, Starting};
 use fsb_bus::{Bus, Released};
 use fsb_flight::take_clock;
@@ -53,7 +53,7 @@ impl Parts {
         let choice = ask_choice(objects, number, &decided.starting);
         let begun = begun(&self.bus, clock, &decided.starting, choice);
         self.bus.hear(clock, &decided, &phased, &mut self.log);
-        let entries = &self.log.as_slice()[done..];
+        let entries = entries_since(&self.log, done);
         let scripts = self.plan.scripts.as_slice();
         let released = Released {
             entries,
@@ -85,6 +85,14 @@ fn perform(bus: &mut Bus, clock: u32, drive: &Drive, log: &mut Log)
     let from = bus.bytes_from(drive);
     bus.fetch(from);
     bus.perform(clock, log);
+}
+
+/// The entries of the log from this place on.
+fn entries_since(log: &Log, done: usize) -> &[Done]
+    requires { done ≤ length log.now.entries }
+    ensures { result.now ≡ drop done log.now.entries }
+{
+    &log.as_slice()[done..]
 }
 
 /// The entry of the request that begins, if one does, for which this was chosen.

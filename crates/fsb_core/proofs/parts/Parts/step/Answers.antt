@@ -1,19 +1,24 @@
-use Rattle.std.proofs.Common.{ℕ, ◌≡◌, ◌<◌, ◌≤◌, ◌+◌, ◌++◌, ◌∷◌, [], List, length, vec_capacity, true, sym, subst, ap, ◌∙◌, arith}
+use Rattle.std.proofs.Common.{ℕ, drop, ◌≡◌, ◌<◌, ◌≤◌, ◌+◌, ◌++◌, ◌∷◌, [], List, length, map, Option, vec_capacity, true, sym, subst, ap, ◌∙◌, arith}
+use Rattle.std.proofs.Math.Seq.{drop-append_seam}
 use Rattle.std.proofs.lemmas.List.{length-append}
 use Rattle.std.specs.Option.{option_map_or}
 use Rattle.fsb_access.specs.declared.log.Done.{Done}
 use Rattle.fsb_arbiter.specs.Arbiter as arbiters
 use Rattle.fsb_arbiter.specs.declared.arbiter.Arbiter.{Arbiter}
+use Rattle.fsb_hazard.specs.Told.{Told}
 use Rattle.fsb_memory.specs.Controller.{is_mapped}
 use Rattle.fsb_phase.specs.Phases as phases
 use Rattle.fsb_phase.specs.declared.phases.Phases.{Phases}
 use Rattle.fsb_signal.specs.declared.sample.Sample.{Sample}
+use Rattle.fsb_timely.specs.Asked.{IsChosen, IsHold}
+use Rattle.fsb_bench_view.specs.BenchSteps.{step_entries}
+use Rattle.fsb_bench_view.specs.BusLocking.{retried_by}
 use Rattle.fsb_bus.specs.Buses.{bus_view}
 use Rattle.fsb_bus.specs.LogRoom.{accesses_left_of}
 use Rattle.fsb_core.specs.Parts.{parts_view}
 use Rattle.fsb_core.proofs.AgentCounts.{heard-count, heard-starts}
 use Rattle.fsb_core.proofs.Clocks.{begun-room, decided-is, driven-chunk, hear-may, queue-taken, sampled-is, start-lawful, words-lawful}
-use Rattle.fsb_core.proofs.StepTaken.{log-is, one-choice, stepped-is}
+use Rattle.fsb_core.proofs.StepTaken.{log-is, one-choice, released-are, stepped-is}
 use Rattle.fsb_core.proofs.parts.Parts.step.Goals as goal
 
 pub sample-sample-requires-clause-words : goal.sample-sample-requires-clause-words
@@ -120,4 +125,32 @@ returns-clause-stepped g c =
     let at = decided-is m b c.ask_hold-hold.result c.clock-clock.result c.drive-drive.result c.winner-winner.result c.was_held-was_held.result c.decide-decided.result _ c.requires.fit may c.clock-clock.ensures c.drive-drive.ensures c.perform.ensures.view c.perform.ensures.rest c.winner-winner.ensures c.was_held-was_held.ensures c.decide-decided.ensures in
     let took = sampled-is m b c.ask_hold-hold.result c.clock-clock.result c.decide-decided.result c.sample-sample.result c.absorb-phased.result c.absorb-phased.new.self _ c.requires.fit may at c.perform.ensures.rest c.sample-sample.ensures c.absorb-phased.ensures.result c.absorb-phased.ensures.stands in
     let same_queue = ap (λ x. x.queue) c.lock.ensures.rest ∙ c.hear.ensures.queue ∙ ap (λ x. x.queue) c.perform.ensures.rest in
-    let x : ℕ = c.lock.ensures.view in x
+    let v = parts_view m in
+    let hold = c.ask_hold-hold.result in
+    let choice = c.ask_choice-choice.result in
+    let clock = c.clock-clock.result in
+    let decided = c.decide-decided.result in
+    let drives = ap (λ d. d.drive) c.decide-decided.ensures in
+    let driven = sym drives ∙ ap (λ d. d.drive) at.decided_is in
+    let queue_is = queue-taken m hold clock c.sample-sample.result c.absorb-phased.result c.absorb-phased.new.self c.lock.new.self.queue c.take_clock.new.queue c.outcome_snooped-outcome.result c.has-error.result c.begun-begun.result _ c.requires.fit may c.clock-clock.ensures took same_queue c.has-error.ensures c.take_clock.ensures in
+    let log_is = log-is v hold clock (bus_view b) decided c.drive-drive.result c.sample-sample.result c.absorb-phased.result c.absorb-phased.new.self c.perform.new.log.entries c.hear.new.log.entries at took driven c.perform.ensures.entries c.hear.ensures.entries in
+    let fresh =
+    c.entries_since-entries.ensures
+    ∙ ap (λ n. drop n c.hear.new.log.entries) (ap length c.as_slice-done.ensures)
+    ∙ ap (drop (length m.log.entries)) log_is
+    ∙ drop-append_seam m.log.entries (step_entries v hold) in
+    let asked_again = c.retried-retried.ensures ∙ ap (retried_by (bus_view m.bus)) driven in
+    let lost = ap (λ d. d.cancelled) at.decided_is in
+    let H : ℕ → Type 0 = λ n. IsHold (map g.H.Hazard.told c.args.objects.now) n hold in
+    let T : List (Option Told) → Type 0 = λ objects. IsChosen objects c.number-number.result choice in
+    let N : ℕ → Type 0 = λ n. IsChosen (map g.H.Hazard.told c.args.objects.now) n choice in
+    record {
+      hold = hold;
+      choice = choice;
+      held = subst H c.clock-clock.ensures c.ask_hold-hold.ensures.held;
+      chosen = λ starting begins.
+          subst N c.number-number.ensures
+          (subst T c.ask_hold-hold.ensures.told_stays (c.ask_choice-choice.ensures.chosen starting (ap (λ d. d.starting) at.decided_is ∙ begins)));
+      stepped =
+          stepped-is v hold choice clock (bus_view b) (bus_view c.hear.new.self) (bus_view c.lock.new.self) decided c.sample-sample.result c.absorb-phased.result c.absorb-phased.new.self _ c.outcome_snooped-outcome.result c.begun-begun.result c.take_clock.new.queue c.as_slice-scripts.result.now c.add_choice.new.choices.items c.add-2.new.items.items c.add.new.items.items c.hear.new.log.entries at took c.as_slice-scripts.ensures c.hear.ensures.view c.lock.ensures.view (released-are v hold c.entries_since-entries.result.now c.retried-retried.result decided.cancelled fresh asked_again lost) c.outcome_snooped-outcome.ensures c.begun-begun.ensures queue_is c.add_choice.ensures.items c.add-2.ensures.items c.add.ensures.items log_is;
+    }
