@@ -29,3 +29,5 @@ mod asking;
 mod bench;
 mod parts;
 mod stepping;
+#[cfg(test)]
+mod tests;
