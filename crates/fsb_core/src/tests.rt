@@ -35,17 +35,15 @@ impl Hazard for Stubborn {
     }
 }
 
-/// The plan of a text.
-fn plan_of(rt: &(impl Abort + AllocGlobal), text: &[u8]) -> Plan {
-    read_bench(rt.alloc(), text).expect(rt, "a bench text")
+/// The plan of that text.
+fn plan(rt: &(impl Abort + AllocGlobal)) -> Plan {
+    read_bench(rt.alloc(), LOAD_THEN_STORE).expect(rt, "a bench text")
 }
 
 #[test]
 fn first_bench(rt: HostRuntime) {
     let hazards: Vec<Box<dyn Hazard>> = Vec::new(rt.alloc());
-    let bench = Bench::make(rt.alloc(), plan_of(&rt, LOAD_THEN_STORE), hazards).expect(
-        &rt, "memory",
-    );
+    let bench = Bench::make(rt.alloc(), plan(&rt), hazards).expect(&rt, "memory");
     assert_eq!(rt; bench.plan().clocks, 60);
     assert_eq!(rt; bench.clock(), 0);
     assert!(rt; bench.trace().is_empty());
@@ -62,9 +60,7 @@ fn first_bench(rt: HostRuntime) {
 fn plug_and_unplug(rt: HostRuntime) -> Result<(), Fail> {
     let mut hazards: Vec<Box<dyn Hazard>> = Vec::new(rt.alloc());
     hazards.push(Box::new(rt.alloc(), QuietHazard::new())?)?;
-    let mut bench = Bench::make(rt.alloc(), plan_of(&rt, LOAD_THEN_STORE), hazards).expect(
-        &rt, "memory",
-    );
+    let mut bench = Bench::make(rt.alloc(), plan(&rt), hazards).expect(&rt, "memory");
     let stubborn: Box<dyn Hazard> = Box::new(rt.alloc(), Stubborn)?;
     assert!(rt; bench.plug(stubborn).is_ok());
     assert!(rt; bench.unplug(2).is_none());
