@@ -1,2 +1,5 @@
 pub mod RunViews
 pub mod Stages
+pub mod GrantsTold
+pub mod BytesOwed
+pub mod OwnEvents

@@ -12,4 +12,10 @@ pub use laws::{
     quiet_clocks_keep_views, snoop_answers_go_by_the_run, views_go_by_the_run, wants_go_by_the_run,
 };
 
+pub use owed::{
+    agents_begin_owing_nothing, bytes_are_handed_on, ends_bring_what_is_promised, ends_may_be_seen,
+    few_requests_are_owed, fills_tell_grants, snoop_ends_are_owed, snoop_ends_may_be_seen,
+};
+
 mod laws;
+mod owed;
