@@ -12,8 +12,6 @@ pub mod SlotMaps
 pub mod Lowered
 pub mod Stored
 pub mod Performing
-pub mod Fills
-pub mod Requests
 pub mod SoundPerforming
 pub mod SoundSending
 pub mod SoundWinning

@@ -15,9 +15,8 @@ use Rattle.fsb_agent_view.specs.Arriving.{is_arrival_by, met_by, with_bytes}
 use Rattle.fsb_agent_view.specs.Completing.{completed_by}
 use Rattle.fsb_agent_view.specs.OwnRequests.{request_numbered}
 use Rattle.fsb_agent_view.specs.Sound.{IsSound}
-use Rattle.fsb_agent_view.proofs.Interface.{length-with_slot}
+use Rattle.fsb_agent_view.proofs.Interface.{length-with_slot, promised_count-without}
 use Rattle.fsb_agent.specs.Parts.{IsPerformable}
-use Rattle.fsb_agent.proofs.Fills.{promised_count-without}
 use Rattle.fsb_agent.proofs.Performing.{performable}
 use Rattle.fsb_agent.proofs.Settled.{state-filled}
 use Rattle.fsb_agent.proofs.SoundArriving.{met-arrival}

@@ -20,10 +20,8 @@ use Rattle.fsb_agent_view.specs.AgentViews.{AgentView, line_state_by}
 use Rattle.fsb_agent_view.specs.OwnRequests.{is_numbered, request_numbered, with_grant}
 use Rattle.fsb_agent_view.specs.Snooping.{may_be_settled, may_commit, may_settle, owed_count}
 use Rattle.fsb_agent_view.specs.Sound.{IsSound, is_in_set, is_lent, is_only, is_sound_request}
-use Rattle.fsb_agent_view.proofs.Interface.{both, both_left, both_right, length-with_slot, lent-with_slot, list_all-found, list_all-from_two, slot_of-other, slot_of-same}
+use Rattle.fsb_agent_view.proofs.Interface.{apart-granted, both, both_left, both_right, fill_on-push, fills_apart-push, found-passes, found_own, granted_count-fewer, granted_count-granted, is_one_of, length-with_slot, lent-with_slot, list_all-found, list_all-from_two, none_on, own_and_others, promised_count-push, slot_of-other, slot_of-same}
 use Rattle.fsb_agent.specs.Parts.{IsGrantable, won_by}
-use Rattle.fsb_agent.proofs.Fills.{fill_on-push, fills_apart-push, none_on, promised_count-push}
-use Rattle.fsb_agent.proofs.Requests.{apart-granted, found-passes, found_own, granted_count-fewer, granted_count-granted, is_one_of, own_and_others}
 use Rattle.fsb_agent.proofs.SlotMaps.{only_line-other}
 
 -- what a request tells of its line

@@ -3,4 +3,6 @@ pub mod Slots
 pub mod Sounding
 pub mod Beginning
 pub mod Standing
+pub mod Fills
+pub mod Requests
 pub mod Interface
