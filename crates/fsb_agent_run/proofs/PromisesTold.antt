@@ -15,7 +15,7 @@ use Rattle.fsb_lawful.proofs.Interface.{and-then, some-and}
 use Rattle.fsb_coherent.specs.Awaits.{responded_in}
 use Rattle.fsb_tied.proofs.Interface.{answers-in-order, grant-first, granted-parts}
 use Rattle.fsb_agent_run.specs.BytesOwed.{claim_given_at, given_since, gives_line_at, is_promised, promise_told}
-use Rattle.fsb_agent_run.specs.GrantsTold.{is_awaited}
+use Rattle.fsb_agent_run.specs.RunViews.{is_awaited}
 use Rattle.fsb_agent_run.proofs.GivenBytes.{given, given-ungranted, some-if}
 
 -- the latest grant of a line that an agent awaits

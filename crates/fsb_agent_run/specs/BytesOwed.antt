@@ -10,7 +10,7 @@ use Rattle.fsb_timely.specs.Grants.{begun_at, is_granted, snooped_at}
 use Rattle.fsb_coherent.specs.Relation.{giver_at, is_responded_below}
 use Rattle.fsb_agent_view.specs.AgentViews.{AgentView}
 use Rattle.fsb_agent_view.specs.Snooping.{owed_count}
-use Rattle.fsb_agent_run.specs.GrantsTold.{is_awaited}
+use Rattle.fsb_agent_run.specs.RunViews.{is_awaited}
 
 -- agent a gives the bytes of a request with this claim by its snoop end at t: it hands the line over, or writes it back
 unfoldable pub gives_claim : Past → ℕ → ℕ → SnoopEnd → Claim → Bool

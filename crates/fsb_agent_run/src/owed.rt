@@ -22,7 +22,8 @@ ghost use Rattle.fsb_agent_view.specs.OwnRequests.{request_numbered};
 ghost use Rattle.fsb_agent_view.specs.Snooping.{committed, may_commit};
 ghost use Rattle.fsb_agent_view.specs.Sound.{IsSound};
 ghost use Rattle.fsb_agent_run.specs.BytesOwed.{HasOwedOf, is_given_below, owes_from};
-ghost use Rattle.fsb_agent_run.specs.GrantsTold.{HasFillsOf, is_awaited};
+ghost use Rattle.fsb_agent_run.specs.AwaitedFills.{HasFillsOf};
+ghost use Rattle.fsb_agent_run.specs.RunViews.{is_awaited};
 ghost use Rattle.fsb_agent_run.specs.OwnEvents.{IsOtherSnoopEnd, IsOwnEnd, IsOwnSnoopEnd};
 
 /// An agent owes nothing before any event; and what it owes rests on its buffers alone.
