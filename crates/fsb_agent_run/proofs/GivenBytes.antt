@@ -93,7 +93,7 @@ pub record Given (r : Run) (a t : ℕ) (claim : Claim) : Type 0 where
   pub begun : begun_at (past_of r) claim.first ≡ Some claim
   pub settled : IsSettledOn (past_of r) claim.line t at.end
 
-same-first : (p : Past) (line t : ℕ) (s : SnoopEnd) (claim : Claim) → s.claim ≡ Some claim → (k : IsSnoopOn p line t s)
+pub same-first : (p : Past) (line t : ℕ) (s : SnoopEnd) (claim : Claim) → s.claim ≡ Some claim → (k : IsSnoopOn p line t s)
     → (claim.first ≡ s.first) × (claim.agent ≡ k.agent)
 same-first p line t s claim e k =
     let both : Some claim ≡ Some (record { first = s.first; agent = k.agent; line = line }) = sym e ∙ k.claimed in
@@ -125,7 +125,7 @@ written-ungranted Invalidate outcome won grant e fits = rw e refl
 written-ungranted Read outcome won grant e fits = rw e refl
 written-ungranted Upgrade outcome won grant e fits = rw e refl
 
-granted-if : (b : Bool) (o : Option Grant) (x grant : Grant) → o ≡ (if b then Some x else None) → o ≡ Some grant
+pub granted-if : (b : Bool) (o : Option Grant) (x grant : Grant) → o ≡ (if b then Some x else None) → o ≡ Some grant
     → x ≡ grant
 granted-if true o x grant e f = let both = sym e ∙ f in cc
 granted-if false o x grant e f = absurd (let both = sym e ∙ f in let no : ⊥ = cc in no)

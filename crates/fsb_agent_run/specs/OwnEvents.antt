@@ -1,8 +1,7 @@
 -- The snoop ends and ends of a run that an agent sees as those of its own requests, or as those of others.
 use Rattle.std.specs.Prelude.{◌≡◌, ◌≢◌, ℕ, Bool, true, Some, None, is_some}
 use Rattle.fsb_encode.specs.declared.request.Request.{Request}
-use Rattle.fsb_trace.specs.declared.outcome.Outcome.TheVariants.{Deferred}
-use Rattle.fsb_timely.specs.Past.{Claim, Past, SnoopEnd}
+use Rattle.fsb_timely.specs.Past.{Claim, Grant, Past, SnoopEnd}
 use Rattle.fsb_timely.specs.Grants.{is_claim_of, is_end_at, snooped_at}
 use Rattle.fsb_coherent.specs.Fitting.{is_granted_by}
 use Rattle.fsb_agent_view.specs.declared.want.OwnRequest.{OwnRequest}
@@ -17,14 +16,14 @@ pub record IsOwnSnoopEnd (p : Past) (a t : ℕ) (s : SnoopEnd) (out : OwnRequest
   pub settles : is_settled_for a out.request.line s ≡ true
   pub number : is_some s.claim ≡ true → out.number ≡ s.first
 
--- the snoop end of t is not that of agent a's request: where it is that of another agent's request and no reply, it is that
--- of this one
+-- the snoop end of t is that of another agent's request, and of this one; or it is that of a reply to another agent
 pub record IsOtherSnoopEnd (p : Past) (a t : ℕ) (s : SnoopEnd) (number : ℕ) (request : Request) : Type 0 where
   pub there : snooped_at p t ≡ Some s
   pub other : (claim : Claim) → s.claim ≡ Some claim → claim.agent ≢ a
   pub line : (claim : Claim) → s.claim ≡ Some claim → request.line ≡ claim.line
   pub kind : (claim : Claim) → s.claim ≡ Some claim → s.kind ≡ Some request.kind
   pub number : (claim : Claim) → s.claim ≡ Some claim → number ≡ s.first
+  pub replied : s.claim ≡ None → (grant : Grant) × (s.grant ≡ Some grant) × (grant.agent ≢ a)
 
 -- agent a's own request has its end at c, or the reply that serves it has, after this snoop end
 pub record IsOwnEnd (p : Past) (a c : ℕ) (s : SnoopEnd) (out : OwnRequest) : Type 0 where

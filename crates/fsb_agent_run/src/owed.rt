@@ -56,7 +56,8 @@ pub fn bytes_are_handed_on()
         HasOwedOf (past_of r) a c c c v → HasOwedOf (past_of r) a c (c + 1) c v }
 {}
 
-/// What an agent owes after a snoop end: of its own request, of another agent's, or without one.
+/// What an agent owes after a snoop end: of its own request, of another agent's, or
+/// without one of anybody's request.
 pub fn snoop_ends_are_owed()
     ensures own { (r : Run) (a c : ℕ) (s : SnoopEnd) (out : OwnRequest) (v : AgentView)
         (request : Request) (shared : Bool) → Reaches r (c + 1) →
@@ -73,8 +74,8 @@ pub fn snoop_ends_are_owed()
         HasOwedOf (past_of r) a (c + 1) (c + 1) c
         (committed v number false request shared s.outcome) }
     ensures none { (r : Run) (a c : ℕ) (v : AgentView) → Reaches r (c + 1) →
-        snooped_at (past_of r) c ≡ None → HasOwedOf (past_of r) a c (c + 1) c v →
-        HasOwedOf (past_of r) a (c + 1) (c + 1) c v }
+        ((s : SnoopEnd) → snooped_at (past_of r) c ≡ Some s → s.claim ≡ None) →
+        HasOwedOf (past_of r) a c (c + 1) c v → HasOwedOf (past_of r) a (c + 1) (c + 1) c v }
 {}
 
 /// What an agent owes after the ends of a clock: where a line comes that it has promised, it has

@@ -5,4 +5,5 @@ pub mod Beginning
 pub mod Standing
 pub mod Fills
 pub mod Requests
+pub mod SoundLines
 pub mod Interface
