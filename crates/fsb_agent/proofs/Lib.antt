@@ -1,4 +1,3 @@
-pub mod Places
 pub mod FreeIds
 pub mod Victims
 pub mod Rests
@@ -12,6 +11,8 @@ pub mod SlotMaps
 pub mod Lowered
 pub mod Stored
 pub mod Performing
+pub mod Fills
+pub mod Requests
 pub mod SoundPerforming
 pub mod SoundSending
 pub mod SoundWinning

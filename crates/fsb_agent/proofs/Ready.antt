@@ -15,12 +15,14 @@ use Rattle.fsb_agent_view.specs.Arriving.{is_arrival_by, met_by, with_bytes}
 use Rattle.fsb_agent_view.specs.Completing.{completed_by}
 use Rattle.fsb_agent_view.specs.OwnRequests.{request_numbered}
 use Rattle.fsb_agent_view.specs.Sound.{IsSound}
-use Rattle.fsb_agent_view.proofs.Interface.{fill_out, length-with_slot, promised_count-without}
+use Rattle.fsb_agent_view.proofs.Interface.{length-with_slot}
 use Rattle.fsb_agent.specs.Parts.{IsPerformable}
+use Rattle.fsb_agent.proofs.Fills.{promised_count-without}
 use Rattle.fsb_agent.proofs.Performing.{performable}
 use Rattle.fsb_agent.proofs.Settled.{state-filled}
 use Rattle.fsb_agent.proofs.SoundArriving.{met-arrival}
 use Rattle.fsb_agent.proofs.SoundPerforming.{IsMetOn, alike-next}
+use Rattle.fsb_agent.proofs.SoundWinning.{fill_out}
 
 -- an item that is read stands within the list, and what is read there is the item
 pub at_index : {X : Type 0} (items xs : List X) (n m : ℕ) (x : X) → xs ≡ items → m ≡ n → m < length xs → x ≡ get_or xs m x → slice_get items n ≡ Some x

@@ -22,11 +22,14 @@ use Rattle.fsb_agent_view.specs.OwnRequests.{is_numbered, request_numbered, requ
 use Rattle.fsb_agent_view.specs.Serving.{hand_after_steps}
 use Rattle.fsb_agent_view.specs.Snooping.{kind_asks}
 use Rattle.fsb_agent_view.specs.Sound.{IsPlaced, IsSound, are_fills_apart, is_lent, is_only, is_sound_request}
-use Rattle.fsb_agent_view.proofs.Interface.{apart-without, both_left, both_right, fill_on-without, fill_out, fills_apart-without, found_own, granted-without, length-with_slot, length-without, length-without-found, list_all-from, list_all-from_two, list_all-without, only_out, others_apart, promised_count-without, sound_given_up, sound_out, without_first-cons}
+use Rattle.fsb_agent_view.proofs.Interface.{apart-without, both_left, both_right, granted-without, length-with_slot, length-without, length-without-found, list_all-from, list_all-from_two, list_all-without, sound_given_up, without_first-cons}
+use Rattle.fsb_agent.proofs.Fills.{fill_on-without, fills_apart-without, promised_count-without}
 use Rattle.fsb_agent.proofs.Performing.{holds_need}
+use Rattle.fsb_agent.proofs.Requests.{found_own, others_apart}
 use Rattle.fsb_agent.proofs.Settled.{IsResettled, resettled, state-filled, state-filled_other}
 use Rattle.fsb_agent.proofs.SlotMaps.{is_only-resident}
 use Rattle.fsb_agent.proofs.SoundPerforming.{IsMetOn, alike-next, item_of, placed-completed}
+use Rattle.fsb_agent.proofs.SoundWinning.{fill_out, only_out, sound_out}
 use Rattle.fsb_agent.proofs.Stored.{IsAlike, alike-self}
 
 -- what is needed is held, once the line has come

@@ -19,8 +19,9 @@ use Rattle.fsb_agent_view.specs.AgentViews.{AgentView, is_idle_by, is_met_by}
 use Rattle.fsb_agent_view.specs.OwnRequests.{is_numbered, new_request, request_numbered}
 use Rattle.fsb_agent_view.specs.Sound.{IsSound, is_apart_from, is_in_set, is_only, is_sound_request}
 use Rattle.fsb_agent_view.specs.Wanting.{is_asked_by, is_missing_by, is_silent_by, is_taken_by, may_send, missing_by, sent, sets_cleared_for, want_by, want_for_by, window_by}
-use Rattle.fsb_agent_view.proofs.Interface.{apart-push, both, both_left, both_right, found-passes, granted_count-push, length-with_slot, list_all-from, list_all-from_two, no_fill, none-passes, slot_of-other, slot_of-same}
+use Rattle.fsb_agent_view.proofs.Interface.{both, both_left, both_right, length-with_slot, list_all-from, list_all-from_two, slot_of-other, slot_of-same}
 use Rattle.fsb_agent.proofs.Lowered.{IsLowered, sound-lowered}
+use Rattle.fsb_agent.proofs.Requests.{apart-push, found-passes, granted_count-push, no_fill, none-passes}
 use Rattle.fsb_agent.proofs.SlotMaps.{held_at-apart, held_at-same}
 
 pub lowered-self : (sets : CacheSets) → IsLowered sets sets

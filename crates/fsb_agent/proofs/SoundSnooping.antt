@@ -24,8 +24,10 @@ use Rattle.fsb_agent_view.specs.AgentViews.{AgentView, has_come, line_state_by}
 use Rattle.fsb_agent_view.specs.OwnRequests.{request_numbered}
 use Rattle.fsb_agent_view.specs.Snooping.{buffers_giving, committed, granted_by, is_giver, is_handed, kind_asks, may_be_settled, may_commit, may_settle, no_bytes, other_settled, own_committed, own_settled, owed_count, sets_lowered, state_snooped, upgraded_by, with_push, written_by}
 use Rattle.fsb_agent_view.specs.Sound.{IsSound, is_lent, is_sound_request}
-use Rattle.fsb_agent_view.proofs.Interface.{both_left, both_right, fill_on-promised, fills_apart-promised, found_own, length-with_slot, list_all-from, promised_count-promised, slot_of-other, slot_of-same}
+use Rattle.fsb_agent_view.proofs.Interface.{both_left, both_right, length-with_slot, list_all-from, slot_of-other, slot_of-same}
+use Rattle.fsb_agent.proofs.Fills.{fill_on-promised, fills_apart-promised, promised_count-promised}
 use Rattle.fsb_agent.proofs.Lowered.{IsLowered, sound-lowered}
+use Rattle.fsb_agent.proofs.Requests.{found_own}
 use Rattle.fsb_agent.proofs.SlotMaps.{held_at-apart, held_at-same}
 use Rattle.fsb_agent.proofs.SoundSending.{lowered-self, lowered-without}
 use Rattle.fsb_agent.proofs.SoundWinning.{sound_won}

@@ -20,9 +20,29 @@ use Rattle.fsb_agent_view.specs.AgentViews.{AgentView, line_state_by}
 use Rattle.fsb_agent_view.specs.OwnRequests.{is_numbered, request_numbered, with_grant}
 use Rattle.fsb_agent_view.specs.Snooping.{may_be_settled, may_commit, may_settle, owed_count}
 use Rattle.fsb_agent_view.specs.Sound.{IsSound, is_in_set, is_lent, is_only, is_sound_request}
-use Rattle.fsb_agent_view.proofs.Interface.{apart-granted, both, both_left, both_right, fill_on-push, fill_out, fills_apart-push, found-passes, found_own, granted_count-fewer, granted_count-granted, is_one_of, length-with_slot, lent-with_slot, list_all-found, list_all-from_two, none_on, only_out, own_and_others, promised_count-push, slot_of-other, slot_of-same}
+use Rattle.fsb_agent_view.proofs.Interface.{both, both_left, both_right, length-with_slot, lent-with_slot, list_all-found, list_all-from_two, slot_of-other, slot_of-same}
 use Rattle.fsb_agent.specs.Parts.{IsGrantable, won_by}
+use Rattle.fsb_agent.proofs.Fills.{fill_on-push, fills_apart-push, none_on, promised_count-push}
+use Rattle.fsb_agent.proofs.Requests.{apart-granted, found-passes, found_own, granted_count-fewer, granted_count-granted, is_one_of, own_and_others}
 use Rattle.fsb_agent.proofs.SlotMaps.{only_line-other}
+
+-- what a request tells of its line
+pub sound_out : (v : AgentView) (out : OwnRequest) → IsSound v → request_numbered out.number v.outs ≡ Some out → is_sound_request v.lines v.buffers.fills out ≡ true
+sound_out v out s found = list_all-found (is_sound_request v.lines v.buffers.fills) (is_numbered out.number) v.outs out s.requests found
+
+pub only_out : (v : AgentView) (out : OwnRequest) → IsSound v → request_numbered out.number v.outs ≡ Some out → is_only out.request.line (slot_of v.lines out.request.line) ≡ true
+only_out v out s found =
+    both_left _ (beq (is_some (fill_on out.request.line v.buffers.fills)) out.granted) (both_left _ (out.granted || is_none out.kept) (sound_out v out s found))
+
+same_bool : (a b : Bool) → beq a b ≡ true → a ≡ b
+same_bool true true h = refl
+same_bool true false h = sym h
+same_bool false true h = h
+same_bool false false h = refl
+
+pub fill_out : (v : AgentView) (out : OwnRequest) → IsSound v → request_numbered out.number v.outs ≡ Some out → is_some (fill_on out.request.line v.buffers.fills) ≡ out.granted
+fill_out v out s found =
+    same_bool _ _ (both_right (is_only out.request.line (slot_of v.lines out.request.line)) _ (both_left _ (out.granted || is_none out.kept) (sound_out v out s found)))
 
 pub none_some : {X : Type 0} (o : Option X) → is_some o ≡ false → o ≡ None
 none_some None h = refl
@@ -137,3 +157,25 @@ held-written v number out may found =
     held Shared is = refl
     held Exclusive is = refl
     held Modified is = refl
+
+-- what is held alone is promised to nobody
+pub unpromised : (v : AgentView) (line : ℕ) → IsSound v → is_modified (states v.lines line) ≡ true → promise_on line v.buffers.fills ≡ None
+unpromised v line s modified = go (fill_on line v.buffers.fills) refl
+  where
+    sole : (state : Mesi) → is_modified state ≡ true → is_sole state ≡ true
+    sole Invalid never = never
+    sole Shared never = never
+    sole Exclusive is = refl
+    sole Modified is = refl
+
+    free : (promise : Option ℕ) (alone : Bool) → alone ≡ true → (is_none promise || not alone) ≡ true → promise ≡ None
+    free None alone is lent = refl
+    free (Some to) true is lent = absurd (let x : ⊥ = cc in x)
+    free (Some to) false is lent = absurd (let x : ⊥ = cc in x)
+
+    go : (found : Option Fill) → fill_on line v.buffers.fills ≡ found → promise_on line v.buffers.fills ≡ None
+    go None e = rw e refl
+    go (Some fill) e =
+        let lent : is_lent v.lines fill ≡ true = list_all-found (is_lent v.lines) (is_fill_on line) v.buffers.fills fill s.lent e in
+        let is : fill.line ≡ line = eqb-true fill.line line (found-passes (is_fill_on line) v.buffers.fills fill e) in
+        rw e (free fill.promise (is_sole (states v.lines fill.line)) (ap (λ l. is_sole (states v.lines l)) is ∙ sole (states v.lines line) modified) lent)

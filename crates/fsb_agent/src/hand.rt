@@ -1,13 +1,12 @@
-ghost use Rattle.std.specs.Prelude.{◌≡◌, ◌+◌, ◌≤◌, ◌%◌, ◌*◌, ◌^◌, ◌++◌, ◌∷◌, [], IsTrue, length, true};
+ghost use Rattle.std.specs.Prelude.{◌≡◌, ◌+◌, ◌≤◌, ◌++◌, ◌∷◌, [], length, true};
 ghost use Rattle.std.specs.List.{list_all};
 ghost use Rattle.fsb_access.specs.declared.access.Access.{Access};
-ghost use Rattle.fsb_access.specs.Access.{is_lawful_access, is_size};
-ghost use Rattle.fsb_access.specs.Replay.{put_of};
+ghost use Rattle.fsb_access.specs.Access.{is_lawful_access};
 ghost use Rattle.fsb_access.specs.ScriptOrder.{steps_from, steps_of_item};
 ghost use Rattle.fsb_agent_view.specs.Serving.{entries_at_hand, entry_at_hand, hand_after, hand_after_steps, value_at_hand};
 ghost use Rattle.fsb_agent.specs.Parts.{IsPerformable, accesses_in, at_hand, is_servable};
 
-use fsb_access::{Access, Done, Item, Log, Operand};
+use fsb_access::{Access, Done, Item, Log, number_put};
 use fsb_cache::Cache;
 
 /// What accesses work on.
@@ -110,29 +109,5 @@ impl Hand {
             Item::Locked(group) => self.serve_all(doing, 0, group.as_slice(), log),
             Item::Idle(_) => {}
         }
-    }
-}
-
-/// The number that a store puts, given the last loaded value.
-fn number_put(size: u8, last: u64, value: &Operand) -> u64
-    requires { IsTrue (is_size size) }
-    ensures { result ≡ put_of size last value.now }
-{
-    match value {
-        Operand::Literal(number) => *number,
-        Operand::LastPlus(number) => cut(size, last.wrapping_add(*number)),
-    }
-}
-
-/// A number cut to so many bytes.
-fn cut(size: u8, number: u64) -> u64
-    requires { IsTrue (is_size size) }
-    ensures { result ≡ number % 2 ^ (8 * size) }
-{
-    match size {
-        1 => number % 0x100,
-        2 => number % 0x1_0000,
-        4 => number % 0x1_0000_0000,
-        _ => number,
     }
 }

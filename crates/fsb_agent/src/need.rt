@@ -56,7 +56,7 @@ pub(crate) fn is_load(access: &Access) -> bool
 }
 
 /// The chunk of the first of these accesses to the line.
-#[tactic(auto, using(crate::proofs::Places::found_read, crate::proofs::Places::found_none), unfolding(fsb_timely::specs::Scripts::first_chunk))]
+#[tactic(auto, using(fsb_count::proofs::Interface::find_placed, fsb_count::proofs::Interface::find_none), unfolding(fsb_timely::specs::Scripts::first_chunk))]
 fn first_chunk(accesses: &[Access], line: u64) -> u8
     ensures { result ≡ first_chunk accesses.now line }
 {

@@ -16,7 +16,7 @@ fn place_of(outs: &Outs, number: u32) -> Option<usize>
 }
 
 /// The request with this number, if there is one.
-#[tactic(auto, using(crate::proofs::Places::found_read, crate::proofs::Places::found_none))]
+#[tactic(auto, using(fsb_count::proofs::Interface::find_placed, fsb_count::proofs::Interface::find_none))]
 pub(crate) fn numbered(outs: &Outs, number: u32) -> Option<OwnRequest>
     ensures { result ≡ request_numbered number outs.now.items }
 {

@@ -4,14 +4,15 @@
 use crate::{Agent, SnoopAnswer};
 use fsb_access::{Access, Log, Operand};
 use fsb_encode::{Kind, Request};
+use fsb_script::is_lawful_script;
 use fsb_trace::Outcome;
-use lawful::{Words, is_lawful_script, script_of};
+use scripts::{Words, script_of};
 use std::alloc::Global;
 use std::process::Abort;
 
-mod lawful;
 mod races;
 mod rows;
+mod scripts;
 
 /// A call, with what is expected of it.
 #[derive(Clone, Copy, Debug)]

@@ -3,7 +3,4 @@ pub mod Slots
 pub mod Sounding
 pub mod Beginning
 pub mod Standing
-pub mod Fills
-pub mod Requests
-pub mod SoundLines
 pub mod Interface

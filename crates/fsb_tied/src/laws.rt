@@ -4,7 +4,7 @@ ghost use Rattle.std.specs.Prelude.{◌++◌, ◌≡◌, ◌≢◌, ◌<◌, ◌
 ghost use Rattle.fsb_line.specs.Line.{Bytes, LineDeferral, unheld};
 ghost use Rattle.fsb_line.specs.LineRuns.{MayRun, run};
 ghost use Rattle.fsb_signal.specs.Parity.{marks_in};
-ghost use Rattle.fsb_trace.specs.Verdict.{is_foul, verdict};
+ghost use Rattle.fsb_trace.specs.Verdict.{breaks_a_rule, verdict};
 ghost use Rattle.fsb_timely.specs.Grants.{holds_line, is_exclusive, is_rival};
 ghost use Rattle.fsb_timely.specs.Hits.{is_dirty, line_state_of};
 ghost use Rattle.fsb_timely.specs.Runs.{Run, past_of};
@@ -94,5 +94,5 @@ pub fn timely_runs_break_no_rule()
     ensures whole { (r : Run) → Timely r → KeepsBounds r.plan →
         verdict (marks_in r.plan.profile) r.trace ≡ None }
     ensures clock { (r : Run) → Timely r → KeepsBounds r.plan → (c : ℕ) →
-        is_foul (marks_in r.plan.profile) r.trace c ≡ false }
+        breaks_a_rule (marks_in r.plan.profile) r.trace c ≡ false }
 {}

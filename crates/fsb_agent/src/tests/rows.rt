@@ -1,4 +1,4 @@
-use super::lawful::Words;
+use super::scripts::Words;
 use super::{Call, Row, add, load, play, store};
 use crate::SnoopAnswer;
 use fsb_encode::Kind;

@@ -1,5 +1,5 @@
 use Rattle.std.proofs.Common.{sym, ◌∙◌}
-use Rattle.fsb_agent_view.proofs.Interface.{found_own}
+use Rattle.fsb_agent.proofs.Requests.{found_own}
 use Rattle.fsb_agent.proofs.parts.Parts.arrive.Goals as goal
 
 pub land-requires-clause-found : goal.land-requires-clause-found

@@ -1,6 +1,6 @@
 use Rattle.std.proofs.Common.{sym, ◌∙◌}
-use Rattle.fsb_agent_view.proofs.Interface.{found_own}
 use Rattle.fsb_agent.specs.Parts.{parts_view}
+use Rattle.fsb_agent.proofs.Requests.{found_own}
 use Rattle.fsb_agent.proofs.SoundArriving.{kept_granted}
 use Rattle.fsb_agent.proofs.parts.Parts.end_upgrade.Goals as goal
 

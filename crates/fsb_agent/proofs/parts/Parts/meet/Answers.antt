@@ -6,8 +6,7 @@ use Rattle.fsb_agent.specs.Parts.{IsPerformable, parts_view}
 use Rattle.fsb_agent.proofs.Performing.{few_items}
 use Rattle.fsb_agent.proofs.Ready.{met-ready, within_items}
 use Rattle.fsb_agent.proofs.SoundArriving.{met-arrival}
-use Rattle.fsb_agent_view.proofs.Interface.{only_out}
-use Rattle.fsb_agent.proofs.SoundWinning.{room_only}
+use Rattle.fsb_agent.proofs.SoundWinning.{only_out, room_only}
 use Rattle.fsb_agent_view.specs.Arriving.{with_bytes}
 use Rattle.fsb_agent.proofs.parts.Parts.meet.Goals as goal
 

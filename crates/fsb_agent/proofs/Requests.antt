@@ -10,8 +10,8 @@ use Rattle.fsb_linebuf.specs.Buffers.{fill_on, fills_without, is_fill_on}
 use Rattle.fsb_agent_view.specs.declared.want.OwnRequest.{OwnRequest}
 use Rattle.fsb_agent_view.specs.OwnRequests.{is_numbered, request_numbered, requests_granted, requests_without, with_grant}
 use Rattle.fsb_agent_view.specs.Sound.{are_requests_apart, granted_count, is_apart_from}
-use Rattle.fsb_agent_view.proofs.Parts.{both, both_left, both_right, length-without-found, list_all-found, list_all-from, without_first-cons}
-use Rattle.fsb_agent_view.proofs.Fills.{fill_on-without}
+use Rattle.fsb_agent_view.proofs.Interface.{both, both_left, both_right, length-without-found, list_all-found, list_all-from, without_first-cons}
+use Rattle.fsb_agent.proofs.Fills.{fill_on-without}
 
 -- what is found passes
 pub found-passes : {X : Type 0} (test : X → Bool) (xs : List X) (x : X) → find test xs ≡ Some x → test x ≡ true

@@ -8,7 +8,7 @@ use Rattle.std.proofs.lemmas.List.Sums.{sum_by-cons}
 use Rattle.fsb_linebuf.specs.declared.entry.Fill.{Fill}
 use Rattle.fsb_linebuf.specs.Buffers.{fill_on, fills_without, is_fill_on, promise_on, promised_to, with_promise, without_first}
 use Rattle.fsb_agent_view.specs.Sound.{are_fills_apart}
-use Rattle.fsb_agent_view.proofs.Parts.{both, both_left, both_right, list_all-without, without_first-cons}
+use Rattle.fsb_agent_view.proofs.Interface.{both, both_left, both_right, list_all-without, without_first-cons}
 
 -- a fill behind the others
 pub fill_on-push : (line : ℕ) (fill : Fill) (fills : List Fill) → is_some (fill_on line (fills ++ fill ∷ [])) ≡ (is_some (fill_on line fills) || (fill.line == line))
@@ -97,7 +97,7 @@ fills_apart-without test (f ∷ fills) apart =
 abbrev pub promised_count : List Fill → ℕ
 promised_count fills = count_by (λ fill. is_some fill.promise) fills
 
-pub promised_count-cons : (f : Fill) (fills : List Fill) → promised_count (f ∷ fills) ≡ cond (is_some f.promise) 1 0 + promised_count fills
+promised_count-cons : (f : Fill) (fills : List Fill) → promised_count (f ∷ fills) ≡ cond (is_some f.promise) 1 0 + promised_count fills
 promised_count-cons f fills = sum_by-cons (λ fill. cond (is_some fill.promise) 1 0) f fills
 
 pub promised_count-push : (line number : ℕ) (fills : List Fill) → promised_count (fills ++ record { line = line; number = number; promise = None } ∷ []) ≡ promised_count fills
@@ -107,7 +107,7 @@ promised_count-push line number (f ∷ fills) =
     ∙ sym (promised_count-cons f fills)
 
 -- where none is of the line, nothing is promised
-pub none_promised : (line to : ℕ) (fills : List Fill) → list_all (λ fill. not (fill.line == line)) fills ≡ true → promised_to line to fills ≡ fills
+none_promised : (line to : ℕ) (fills : List Fill) → list_all (λ fill. not (fill.line == line)) fills ≡ true → promised_to line to fills ≡ fills
 none_promised line to [] none = refl
 none_promised line to (f ∷ fills) none =
     elim (cases_Bool (f.line == line)) [
