@@ -1,10 +1,11 @@
-ghost use Rattle.std.specs.Prelude.{◌≡◌, ◌+◌, ◌*◌, ◌%◌, ◌^◌, ◌<◌, ◌≤◌, IsTrue, IfOk, OnOk, OnErr, length, take};
-ghost use Rattle.fsb_access.specs.Access.{is_size, is_place, IsLawfulAccess};
+ghost use Rattle.std.specs.Prelude.{◌≡◌, ◌+◌, ◌%◌, ◌^◌, ◌<◌, ◌≤◌, IsTrue, IfOk, OnOk, OnErr, length, take};
+ghost use Rattle.fsb_access.specs.Access.{is_place, IsLawfulAccess};
 ghost use Rattle.fsb_access.specs.ByteMemory.{value_of_bytes, put_bytes, set_memory};
 ghost use Rattle.fsb_access.specs.FlatView.{chunk_bytes, memory_of_chunks, state_of};
-ghost use Rattle.fsb_access.specs.Replay.{start_of, served_value, served_state, put_of};
+ghost use Rattle.fsb_access.specs.Replay.{start_of, served_value, served_state};
 
 use crate::access::{Access, CHUNK_BYTES, Operand, Setting};
+use crate::put::number_put;
 use fsb_io::Memory;
 use std::alloc::Global;
 use std::collections::BTreeMap;
@@ -135,30 +136,6 @@ impl Flat {
         chunk[start..start + bytes.len()].copy_from_slice(bytes);
         self.chunks.insert(number, chunk)?;
         Ok(())
-    }
-}
-
-/// The number that a store puts, given its agent's last loaded value.
-fn number_put(size: u8, last: u64, value: &Operand) -> u64
-    requires { IsTrue (is_size size) }
-    ensures { result ≡ put_of size last value.now }
-{
-    match value {
-        Operand::Literal(number) => *number,
-        Operand::LastPlus(number) => cut(size, last.wrapping_add(*number)),
-    }
-}
-
-/// A number cut to so many bytes.
-fn cut(size: u8, number: u64) -> u64
-    requires { IsTrue (is_size size) }
-    ensures { result ≡ number % 2 ^ (8 * size) }
-{
-    match size {
-        1 => number % 0x100,
-        2 => number % 0x1_0000,
-        4 => number % 0x1_0000_0000,
-        _ => number,
     }
 }
 

@@ -10,7 +10,8 @@
 //! - `InOrder scripts log` (`specs/ScriptOrder.antt`): each agent's entries are its script's accesses in order, up to
 //!   the end of an item, and the entries of one item are neighbours.
 //!
-//! [`Flat`] is that byte memory as a program: its `serve` is one step of the replay. What these definitions say of loads
+//! [`Flat`] is that byte memory as a program: its `serve` is one step of the replay, and [`number_put`] is what a store puts.
+//! What these definitions say of loads
 //! and stores, and how a log goes on by an entry or by an item, are laws: [`stores_are_loaded`], [`served_logs_go_on`] and
 //! [`orderly_logs_go_on`].
 #![tactic(auto)]
@@ -22,11 +23,13 @@ pub use flat::{Flat, value_of};
 pub use item::{Group, Item, Script};
 pub use laws::{orderly_logs_go_on, served_logs_go_on, stores_are_loaded};
 pub use log::{Done, Log};
+pub use put::{cut, number_put};
 
 mod access;
 mod flat;
 mod item;
 mod laws;
 mod log;
+mod put;
 #[cfg(test)]
 mod tests;

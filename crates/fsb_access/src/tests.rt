@@ -2,6 +2,7 @@ use crate::access::{Access, Operand, Setting};
 use crate::flat::Flat;
 use crate::item::{Group, Item, Script};
 use crate::log::{Done, Log};
+use crate::put::{cut, number_put};
 use std::test::Fail;
 
 const LOAD: Access = Access::Load {
@@ -30,6 +31,13 @@ fn flat_serves_load_and_store(rt: HostRuntime) -> Result<(), Fail> {
     };
     assert_eq!(rt; flat.serve(0, &store), Ok(5));
     Ok(())
+}
+
+#[test]
+fn sums_are_cut_to_the_bytes_put(rt: HostRuntime) {
+    assert_eq!(rt; number_put(2, 0xffff, &Operand::LastPlus(3)), 2);
+    assert_eq!(rt; number_put(2, 0xffff, &Operand::Literal(7)), 7);
+    assert_eq!(rt; cut(1, 0x1ff), 0xff);
 }
 
 #[test]

@@ -121,15 +121,15 @@ id_below r t = ltb-true r.did (2 ^ 8) (and_parts _ _ t).1
 
 -- one that begins puts its chunk under its ID, unless it is a reply
 after_reply : (asked : List ℕ) (first : Option Pair) (x : Sample) (s : Request) → request_by first x ≡ Some s → is_reply_kind s.kind ≡ true → asked_after asked first x ≡ asked
-unfolding asked_after asked_with
+unfolding asked_with
 after_reply asked first x s e t = ap (asked_with asked) e ∙ (rw t refl)
 
 after_plain : (asked : List ℕ) (first : Option Pair) (x : Sample) (s : Request) → request_by first x ≡ Some s → is_reply_kind s.kind ≡ false → asked_after asked first x ≡ slice_set asked s.did (first_asked s)
-unfolding asked_after asked_with
+unfolding asked_with
 after_plain asked first x s e t = ap (asked_with asked) e ∙ (rw t refl)
 
 after_none : (asked : List ℕ) (first : Option Pair) (x : Sample) → request_by first x ≡ None → asked_after asked first x ≡ asked
-unfolding asked_after asked_with
+unfolding asked_with
 after_none asked first x e = ap (asked_with asked) e
 
 first_form : (h : Trace) (b : Bool) → line_back ADS h (length h) 1 ≡ b → first_back h ≡ cond b (known_pair_at h (length h - 1)) None

@@ -22,7 +22,7 @@ use Rattle.fsb_trace.specs.Response.{takes, data_clock_of, end_of, is_clear_befo
 use Rattle.fsb_trace.specs.Flight.{is_dropped, has_ended, is_in_flight, in_flight, is_reply_to, is_live_reply_to, reply_clock_of, reply_number_of, reply_end_of, last_clock_of, is_finished, is_outstanding, outstanding}
 use Rattle.fsb_trace.specs.Deferral.{answers, is_answered, later_of, is_due, due_at, keeps_pending, is_pending}
 use Rattle.fsb_trace.specs.Rules.{has_unknown_line, is_request_too_soon, is_code_unlawful, is_queue_full, is_request_blocked, has_no_winner, is_own_id, is_identified, is_identity_wrong, is_asked_wrongly, is_some_asked_wrongly, is_lock_alone, is_error_alone, is_snoop_line_alone, is_result_unfit_for, is_snoop_result_unfit, next_response, may_answer, is_response_early, has_den, is_code_for, responds_soundly, has_code_at, is_code_wrong, is_ready_in_time, is_ready_wrongly, is_target_ready_wrong, is_transferring_of, is_transferring, is_data_wrong, has_unknown_data, awaits_reply, is_id_taken_by, is_outstanding_of_winner, is_begun_wrongly, is_outstanding_wrong, has_parity_at, is_address_parity_wrong, is_request_parity_wrong, is_marked_address_wrong, is_marked_request_wrong, phase_rules, breaks}
-use Rattle.fsb_trace.specs.Verdict.{is_broken, least_rule, is_foul, verdict}
+use Rattle.fsb_trace.specs.Verdict.{is_broken, least_rule, breaks_a_rule, verdict}
 use Rattle.fsb_encode.specs.Burst.{burst_order}
 use Rattle.fsb_rules.specs.declared.broken.Broken.{Broken}
 use Rattle.fsb_audit.specs.declared.finding.FoulAt.{FoulAt}
@@ -254,7 +254,7 @@ unfolding is_some_and is_before is_at greater_of first_where last_where any_wher
     awaits_reply is_id_taken_by is_outstanding_of_winner is_begun_wrongly is_outstanding_wrong has_parity_at
     is_address_parity_wrong is_request_parity_wrong is_marked_address_wrong is_marked_request_wrong is_address_odd
     is_request_odd ones phase_rules breaks
-    is_broken least_rule is_foul verdict
+    is_broken least_rule breaks_a_rule verdict
     burst_order data_place_at mover_at is_named_by_reply namer_of nth_chunk chunk_moved_by chunk_moved_at moved_at moved_count
     does_come_from_memory is_from_memory latest_move have_same_data is_stale is_foul_clock first_foul foul_at broken_at found_below found_with finding_of
 rows_hold = (refl, refl, refl, refl, refl, refl, refl, refl, refl, refl, refl, refl, refl, refl, refl, refl, refl, refl, refl, refl, refl, refl, refl)

@@ -23,7 +23,7 @@ use Rattle.fsb_audit.specs.Fouls.{latest_move, is_foul_clock, first_foul, foul_a
 use Rattle.fsb_audit.specs.AuditRegisters.{first_asked, data_in}
 
 -- memory was lacking in a call
-unfoldable pub is_full : Audit → Bool
+abbrev pub is_full : Audit → Bool
 is_full audit = audit.is_full
 
 -- the data of the last of so many requests that responded come from memory

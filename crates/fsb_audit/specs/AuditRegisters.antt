@@ -42,7 +42,7 @@ asked_with asked None = asked
 asked_with asked (Some r) = if is_reply_kind r.kind then asked else slice_set asked r.did (first_asked r)
 
 -- the chunks that were asked for, with the one of the request whose second clock the sample is
-unfoldable pub asked_after : List ℕ → Option Pair → Sample → List ℕ
+abbrev pub asked_after : List ℕ → Option Pair → Sample → List ℕ
 asked_after asked first x = asked_with asked (request_by first x)
 
 -- the data of the request that responded last come from memory: its response was normal data

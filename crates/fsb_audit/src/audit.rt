@@ -195,7 +195,7 @@ impl Audit {
 
     /// Keeps the chunk for which a request asks first whose second clock is this sample, unless it is a reply, and the
     /// words of one that begins.
-    #[tactic(auto, unfolding(crate::specs::AuditRegisters::asked_after, crate::specs::AuditRegisters::asked_with, crate::specs::AuditRegisters::first_after, fsb_trace::specs::Requests::is_reply_kind))]
+    #[tactic(auto, unfolding(crate::specs::AuditRegisters::asked_with, crate::specs::AuditRegisters::first_after, fsb_trace::specs::Requests::is_reply_kind))]
     fn note_request(&mut self, sample: &Sample)
         ensures rest { self.new ≡ record self.old {
           first = first_after sample.now;

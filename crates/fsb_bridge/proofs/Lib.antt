@@ -1,4 +1,3 @@
-pub mod Places
 pub mod Matched
 pub mod Rest
 pub mod Pending

@@ -129,7 +129,7 @@ impl Bridge {
 
     /// Tells that the reply with this ID had its snoop end: the first deferral with this ID leaves the list, and is the
     /// answer.
-    #[tactic(auto, using(crate::proofs::Places::found_at, crate::proofs::Places::found_none))]
+    #[tactic(auto, using(fsb_count::proofs::Interface::find_item, fsb_count::proofs::Interface::find_none))]
     pub fn committed(&mut self, did: u8) -> Option<Deferral>
         ensures deferral { result ≡ deferral_of_id did self.old.waiting }
         ensures rest { self.new ≡ record self.old

@@ -3,7 +3,7 @@
 //! A [`Waiting`] deferral comes to the list at the snoop end of its request and leaves it at the snoop end of the reply, so
 //! its line is pending as long as it is there. Contracts see the bridge as its window and a list, in the order in which the
 //! deferrals came (`specs/Deferrals.antt`); laws say what the list tells of a trace for whose deferrals it stands
-//! (`specs/Standing.antt`). No call takes memory.
+//! (`specs/DeferralList.antt`). No call takes memory.
 #![tactic(auto)]
 
 pub use bridge::Bridge;

@@ -16,3 +16,5 @@ pub use Rattle.fsb_count.proofs.Count.{count_where-above, count_where-failed, co
 pub use Rattle.fsb_count.proofs.Nth.{all_where-failed, all_where-passed, length-all_where, nth_where-at, nth_where-carried, nth_where-found, nth_where-one, nth_where-past, nth_where-rises, nth_where-there, slice_get-end, slice_get-push}
 -- What has held since the last gain.
 pub use Rattle.fsb_count.proofs.Since.{holds_since-more, last_where-failed, last_where-passed}
+-- The first item of a list that passes, by its place.
+pub use Rattle.fsb_count.proofs.FirstItem.{find_item, find_none, find_placed}

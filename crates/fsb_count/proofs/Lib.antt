@@ -5,6 +5,7 @@ pub mod Any
 pub mod Each
 pub mod Count
 pub mod Nth
+pub mod FirstItem
 pub mod Since
 pub mod Examples
 pub mod Interface

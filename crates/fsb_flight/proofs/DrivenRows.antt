@@ -23,7 +23,7 @@ use Rattle.fsb_trace.specs.Flight.{is_dropped, has_ended, is_in_flight, in_fligh
 use Rattle.fsb_trace.proofs.Interface.{cancelled_by_address_error, clock, deferred_and_replied, idle, locked_increments, stalled_snoop, store_handed_over_before_arrival, two_agents_overlap, write_back_held_off}
 use Rattle.fsb_queue.specs.declared.entry.Entry.{Entry}
 use Rattle.fsb_trace.specs.Timing.{is_stall_from, is_ready_from, is_response_from, chunk_from, is_busy_from}
-use Rattle.fsb_phase.specs.Due.{rank_of, has_snoop, is_stalled, awaits_response, has_ready, has_response, response_to_now, is_moving, due_chunk, keeps_busy}
+use Rattle.fsb_phase.specs.Due.{rank_of, has_snoop, is_stalled, has_ready, has_response, response_to_now, due_chunk, keeps_busy}
 use Rattle.fsb_phase.specs.declared.drive.Drive.{Drive}
 use Rattle.fsb_phase.specs.declared.drive.Phased.{Phased}
 use Rattle.fsb_phase.specs.Drive.{settled_code, numbered_chunk, drive_of, ends_snoop_at, has_end_at, phased_at}
@@ -67,7 +67,7 @@ pub rows_driven :
     × (any_where (misses quiet_choice [] write_back_held_off) 31 ≡ false)
     × (misses stalled_twice [] two_agents_overlap 6 ≡ true)
     × (misses quiet_choice [] deferred_and_replied 8 ≡ true)
-unfolding is_some_and is_before is_at greater_of first_where any_where count_where all_where nth_where from_clock line_at is_lawful_request are_lawful_fields high_bit den_bit clocks row_of pairs_of req_words kind_of read_off is_pair is_coded_as if_coded_as request_of response_code_at responds_at stalls_at known_pair known_pair_at request_at is_cancelled is_live live_count live_clock_of live_number_of live_request_of is_write_back_kind is_write_back is_every_second_from ends_snoop snoop_end_from snoop_end_if start_after_clock start_after_end snoop_end_of snoop_start_of line_at_snoop_end does_move response_code_of outcome_by_kind response_clock_of live_response_of told_by outcome_of moves_data settled_by settled_outcome_of takes data_clock_of end_of clock_after_snoop ready_after ready_clock_of is_dropped has_ended is_in_flight in_flight is_stall_from is_ready_from is_response_from chunk_from is_busy_from rank_of has_snoop is_stalled two_after_snoop answer_from awaits_response has_ready has_response response_to_now is_moving due_chunk keeps_busy settled_code numbered_chunk drive_of
+unfolding is_some_and is_before is_at greater_of first_where any_where count_where all_where nth_where from_clock line_at is_lawful_request are_lawful_fields high_bit den_bit clocks row_of pairs_of req_words kind_of read_off is_pair is_coded_as if_coded_as request_of response_code_at responds_at stalls_at known_pair known_pair_at request_at is_cancelled is_live live_count live_clock_of live_number_of live_request_of is_write_back_kind is_write_back is_every_second_from ends_snoop snoop_end_from snoop_end_if start_after_clock start_after_end snoop_end_of snoop_start_of line_at_snoop_end does_move response_code_of outcome_by_kind response_clock_of live_response_of told_by outcome_of moves_data settled_by settled_outcome_of takes data_clock_of end_of clock_after_snoop ready_after ready_clock_of is_dropped has_ended is_in_flight in_flight is_stall_from is_ready_from is_response_from chunk_from is_busy_from has_snoop is_stalled two_after_snoop answer_from has_ready has_response response_to_now due_chunk keeps_busy settled_code numbered_chunk drive_of
 rows_driven = (refl, refl, refl, refl, refl, refl, refl, refl, refl)
 
 -- the requests in flight, as entries
@@ -93,7 +93,7 @@ pub rows_numbered :
     × (map (λ c. (happens stalled_twice [] stalled_snoop c).snooped) (6 ∷ 8 ∷ 10 ∷ []) ≡ None ∷ None ∷ Some 0 ∷ [])
     × (map (λ c. (driven quiet_choice [] cancelled_by_address_error c).snoop) (6 ∷ 12 ∷ []) ≡ None ∷ Some 1 ∷ [])
     × (map (λ c. (happens quiet_choice (12 ∷ 1 ∷ 1 ∷ []) deferred_and_replied c).ended) (8 ∷ 11 ∷ 30 ∷ []) ≡ Some 0 ∷ Some 1 ∷ Some 3 ∷ [])
-unfolding is_some_and is_before is_at greater_of first_where any_where count_where all_where nth_where from_clock line_at is_lawful_request are_lawful_fields high_bit den_bit clocks row_of pairs_of req_words kind_of read_off is_pair is_coded_as if_coded_as request_of response_code_at responds_at stalls_at known_pair known_pair_at request_at is_cancelled is_live live_count live_clock_of live_number_of live_request_of is_write_back_kind is_write_back is_every_second_from ends_snoop snoop_end_from snoop_end_if start_after_clock start_after_end snoop_end_of snoop_start_of line_at_snoop_end does_move response_code_of outcome_by_kind response_clock_of live_response_of told_by outcome_of moves_data settled_by settled_outcome_of takes data_clock_of end_of clock_after_snoop ready_after ready_clock_of is_dropped has_ended is_in_flight in_flight is_stall_from is_ready_from is_response_from chunk_from is_busy_from rank_of has_snoop is_stalled two_after_snoop answer_from awaits_response has_ready has_response response_to_now is_moving due_chunk keeps_busy settled_code numbered_chunk drive_of ends_snoop_at has_end_at phased_at
+unfolding is_some_and is_before is_at greater_of first_where any_where count_where all_where nth_where from_clock line_at is_lawful_request are_lawful_fields high_bit den_bit clocks row_of pairs_of req_words kind_of read_off is_pair is_coded_as if_coded_as request_of response_code_at responds_at stalls_at known_pair known_pair_at request_at is_cancelled is_live live_count live_clock_of live_number_of live_request_of is_write_back_kind is_write_back is_every_second_from ends_snoop snoop_end_from snoop_end_if start_after_clock start_after_end snoop_end_of snoop_start_of line_at_snoop_end does_move response_code_of outcome_by_kind response_clock_of live_response_of told_by outcome_of moves_data settled_by settled_outcome_of takes data_clock_of end_of clock_after_snoop ready_after ready_clock_of is_dropped has_ended is_in_flight in_flight is_stall_from is_ready_from is_response_from chunk_from is_busy_from has_snoop is_stalled two_after_snoop answer_from has_ready has_response response_to_now due_chunk keeps_busy settled_code numbered_chunk drive_of ends_snoop_at has_end_at phased_at
 rows_numbered = (refl, refl, refl, refl, refl, refl, refl, refl, refl)
 
 -- two agents load a line and upgrade it: the first keeps it with no data, the second has lost, and is handed it
@@ -138,7 +138,7 @@ pub rows_with_upgrades :
     × (map (λ c. (driven quiet_choice [] upgrade_lost_and_handed c).chunk) (20 ∷ 26 ∷ 29 ∷ []) ≡ None ∷ Some (3, 0) ∷ Some (3, 3) ∷ [])
     × (map (λ c. (happens quiet_choice [] upgrade_lost_and_handed c).snooped) (18 ∷ 22 ∷ []) ≡ Some 2 ∷ Some 3 ∷ [])
     × (map (λ c. (happens quiet_choice [] upgrade_lost_and_handed c).ended) (15 ∷ 20 ∷ 26 ∷ 29 ∷ []) ≡ Some 1 ∷ Some 2 ∷ None ∷ Some 3 ∷ [])
-unfolding is_some_and is_before is_at greater_of first_where any_where count_where all_where nth_where from_clock line_at is_lawful_request are_lawful_fields high_bit den_bit clocks row_of pairs_of req_words kind_of read_off is_pair is_coded_as if_coded_as request_of response_code_at responds_at stalls_at known_pair known_pair_at request_at is_cancelled is_live live_count live_clock_of live_number_of live_request_of is_write_back_kind is_write_back is_every_second_from ends_snoop snoop_end_from snoop_end_if start_after_clock start_after_end snoop_end_of snoop_start_of line_at_snoop_end does_move response_code_of outcome_by_kind response_clock_of live_response_of told_by outcome_of moves_data settled_by settled_outcome_of takes data_clock_of end_of clock_after_snoop ready_after ready_clock_of is_dropped has_ended is_in_flight in_flight is_stall_from is_ready_from is_response_from chunk_from is_busy_from rank_of has_snoop is_stalled two_after_snoop answer_from awaits_response has_ready has_response response_to_now is_moving due_chunk keeps_busy settled_code numbered_chunk drive_of ends_snoop_at has_end_at phased_at
+unfolding is_some_and is_before is_at greater_of first_where any_where count_where all_where nth_where from_clock line_at is_lawful_request are_lawful_fields high_bit den_bit clocks row_of pairs_of req_words kind_of read_off is_pair is_coded_as if_coded_as request_of response_code_at responds_at stalls_at known_pair known_pair_at request_at is_cancelled is_live live_count live_clock_of live_number_of live_request_of is_write_back_kind is_write_back is_every_second_from ends_snoop snoop_end_from snoop_end_if start_after_clock start_after_end snoop_end_of snoop_start_of line_at_snoop_end does_move response_code_of outcome_by_kind response_clock_of live_response_of told_by outcome_of moves_data settled_by settled_outcome_of takes data_clock_of end_of clock_after_snoop ready_after ready_clock_of is_dropped has_ended is_in_flight in_flight is_stall_from is_ready_from is_response_from chunk_from is_busy_from has_snoop is_stalled two_after_snoop answer_from has_ready has_response response_to_now due_chunk keeps_busy settled_code numbered_chunk drive_of ends_snoop_at has_end_at phased_at
 rows_with_upgrades = (refl, refl, refl, refl, refl)
 
 -- a line that is handed on, with waits of two clocks for its target, of three for its response, and of one between its chunks
@@ -192,7 +192,7 @@ read_with_a_wait =
 pub rows_with_waits :
     (any_where (misses (record quiet_choice { trdy = 2; resp = 3; gap = 1 }) [] handed_on_with_waits) 23 ≡ false)
     × (any_where (misses (record quiet_choice { trdy = 9; resp = 2 }) [] read_with_a_wait) 15 ≡ false)
-unfolding is_some_and is_before is_at greater_of first_where any_where count_where all_where nth_where from_clock line_at is_lawful_request are_lawful_fields high_bit den_bit clocks row_of pairs_of req_words kind_of read_off is_pair is_coded_as if_coded_as request_of response_code_at responds_at stalls_at known_pair known_pair_at request_at is_cancelled is_live live_count live_clock_of live_number_of live_request_of is_write_back_kind is_write_back is_every_second_from ends_snoop snoop_end_from snoop_end_if start_after_clock start_after_end snoop_end_of snoop_start_of line_at_snoop_end does_move response_code_of outcome_by_kind response_clock_of live_response_of told_by outcome_of moves_data settled_by settled_outcome_of takes data_clock_of end_of clock_after_snoop ready_after ready_clock_of is_dropped has_ended is_in_flight in_flight is_stall_from is_ready_from is_response_from chunk_from is_busy_from rank_of has_snoop is_stalled two_after_snoop answer_from awaits_response has_ready has_response response_to_now is_moving due_chunk keeps_busy settled_code numbered_chunk drive_of
+unfolding is_some_and is_before is_at greater_of first_where any_where count_where all_where nth_where from_clock line_at is_lawful_request are_lawful_fields high_bit den_bit clocks row_of pairs_of req_words kind_of read_off is_pair is_coded_as if_coded_as request_of response_code_at responds_at stalls_at known_pair known_pair_at request_at is_cancelled is_live live_count live_clock_of live_number_of live_request_of is_write_back_kind is_write_back is_every_second_from ends_snoop snoop_end_from snoop_end_if start_after_clock start_after_end snoop_end_of snoop_start_of line_at_snoop_end does_move response_code_of outcome_by_kind response_clock_of live_response_of told_by outcome_of moves_data settled_by settled_outcome_of takes data_clock_of end_of clock_after_snoop ready_after ready_clock_of is_dropped has_ended is_in_flight in_flight is_stall_from is_ready_from is_response_from chunk_from is_busy_from has_snoop is_stalled two_after_snoop answer_from has_ready has_response response_to_now due_chunk keeps_busy settled_code numbered_chunk drive_of
 rows_with_waits = (refl, refl)
 
 -- for every history there is such a queue, and it holds the requests in flight
@@ -201,7 +201,6 @@ clocks_again choice turns h [] = refl
 clocks_again choice turns h (q ∷ qs) = ap (λ rest. q ∷ rest) (clocks_again choice turns h qs)
 
 settled_again : (choice : Choice) (turns : List ℕ) (h : Trace) (o : Option ℕ) (e : Entry) → option_map (entry_at choice turns h) o ≡ Some e → e.outcome ≡ settled_outcome_of h turns (rank_of h e)
-unfolding rank_of
 settled_again choice turns h None e g = absurd (let none : ⊥ = cc in none)
 settled_again choice turns h (Some q) e g =
     let same : entry_at choice turns h q ≡ e = cc in

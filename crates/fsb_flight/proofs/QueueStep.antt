@@ -189,7 +189,6 @@ not_snooped v i q (Some t) c l e =
     absurd (omega (arith, k.above, k.within))
 
 new_entry : (h : Trace) (x : Sample) (turns later : List ℕ) (outcome : Outcome) (new : List Entry) (k : ℕ) (y : Entry) → TakesTurn h x turns later outcome new → slice_get new k ≡ Some y → y.outcome ≡ settled_outcome_of (h ++ x ∷ []) later (rank_of (h ++ x ∷ []) y)
-unfolding rank_of
 new_entry h x turns later outcome new k y n g =
     let v : Trace = h ++ x ∷ [] in
     let m : OneMore h x v = one_more h x in
@@ -200,7 +199,7 @@ new_entry h x turns later outcome new k y n g =
     n.unsettled k y g ∙ sym (ap (λ q. settled_outcome_of v later (live_number_of v q)) b.1 ∙ no_outcome v later i none)
 
 each_entry : (p : Phases) (h : Trace) (x : Sample) (queue new : List Entry) (turns later : List ℕ) (outcome : Outcome) (e : ℕ) → Step p h x (h ++ x ∷ []) queue e (snooped_count h) → HoldsInFlight queue turns h → TakesTurn h x turns later outcome new → (k : ℕ) (y : Entry) → slice_get (goes_on h x outcome queue ++ new) k ≡ Some y → y.outcome ≡ settled_outcome_of (h ++ x ∷ []) later (rank_of (h ++ x ∷ []) y)
-unfolding goes_on rank_of
+unfolding goes_on
 each_entry p h x queue new turns later outcome e st f n k y g =
     elim (append_from (filter (stays_in_flight h x) (map (settles h x outcome) queue)) new k y g) [
       | inl old ↦

@@ -133,7 +133,7 @@ head_leaves r f (z ∷ zs) c later =
     ]
 
 leave_is : (p : Phases) (h : Trace) (x : Sample) (queue : List Entry) (o : Outcome) (e s : ℕ) → Step p h x (h ++ x ∷ []) queue e s → cond (is_some (find (has_end_at (h ++ x ∷ []) (length h)) queue)) (drop 1 (map (settles h x o) queue)) (map (settles h x o) queue) ≡ filter (λ y. not (ends_clock (h ++ x ∷ []) (length h) y.clock)) (map (settles h x o) queue)
-unfolding has_end_at rank_of
+unfolding has_end_at
 leave_is p h x queue o e s st =
     let v : Trace = h ++ x ∷ [] in
     ap (λ a. cond (is_some a) (drop 1 (map (settles h x o) queue)) (map (settles h x o) queue))

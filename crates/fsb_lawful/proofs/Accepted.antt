@@ -5,7 +5,7 @@ use Rattle.fsb_count.proofs.Interface.{first_where-off}
 use Rattle.fsb_signal.specs.declared.marks.Marks.{Marks}
 use Rattle.fsb_signal.specs.Parity.{marks_in}
 use Rattle.fsb_trace.specs.At.{Trace}
-use Rattle.fsb_trace.specs.Verdict.{is_broken, is_foul, least_rule, verdict}
+use Rattle.fsb_trace.specs.Verdict.{is_broken, breaks_a_rule, least_rule, verdict}
 use Rattle.fsb_trace.proofs.Interface.{breaks-none}
 use Rattle.fsb_timely.specs.Runs.{Run}
 use Rattle.fsb_timely.specs.Timely.{Timely}
@@ -67,17 +67,17 @@ each-rule r h bounds alone =
     below_more P 20 b19 (keeps-20 r h)
 
 -- no clock of a trace that keeps each rule is foul
-clean : (m : Marks) (w : Trace) (c : ℕ) → ((j : ℕ) → j < 21 → Keeps m j w) → is_foul m w c ≡ false
-unfolding is_foul least_rule
+clean : (m : Marks) (w : Trace) (c : ℕ) → ((j : ℕ) → j < 21 → Keeps m j w) → breaks_a_rule m w c ≡ false
+unfolding breaks_a_rule least_rule
 clean m w c kept = ap (λ o. is_some o) (first_where-off (is_broken m w c) 21 (λ j l. (kept j l).unbroken c))
 
-accepted-by : (m : Marks) (w : Trace) → ((c : ℕ) → is_foul m w c ≡ false) → verdict m w ≡ None
+accepted-by : (m : Marks) (w : Trace) → ((c : ℕ) → breaks_a_rule m w c ≡ false) → verdict m w ≡ None
 unfolding verdict
-accepted-by m w h = rw (first_where-off (is_foul m w) (length w) (λ c l. h c)) refl
+accepted-by m w h = rw (first_where-off (breaks_a_rule m w) (length w) (λ c l. h c)) refl
 
 -- no rule is broken at a clock of the run
 pub each-clock : (r : Run) → Timely r → KeepsBounds r.plan → WritesBackAlone r → (c : ℕ)
-    → is_foul (marks_in r.plan.profile) r.trace c ≡ false
+    → breaks_a_rule (marks_in r.plan.profile) r.trace c ≡ false
 each-clock r h bounds alone c = clean (marks_in r.plan.profile) r.trace c (each-rule r h bounds alone)
 
 -- the run is accepted

@@ -4,7 +4,7 @@ ghost use Rattle.std.specs.Prelude.{◌+◌, ◌<◌, ◌≤◌, ◌≡◌, ℕ,
 ghost use Rattle.fsb_signal.specs.declared.marks.Marks.{Marks};
 ghost use Rattle.fsb_signal.specs.Parity.{marks_in};
 ghost use Rattle.fsb_trace.specs.declared.who.Who.TheVariants.{Symmetric};
-ghost use Rattle.fsb_trace.specs.Verdict.{is_foul, verdict};
+ghost use Rattle.fsb_trace.specs.Verdict.{breaks_a_rule, verdict};
 ghost use Rattle.fsb_trace.specs.Winner.{begins_at};
 ghost use Rattle.fsb_timely.specs.Runs.{Run, past_of, run_to};
 ghost use Rattle.fsb_timely.specs.Timely.{Timely};
@@ -128,5 +128,5 @@ pub fn timely_runs_are_accepted()
     ensures whole { (r : Run) → Timely r → KeepsBounds r.plan → WritesBackAlone r →
         verdict (marks_in r.plan.profile) r.trace ≡ None }
     ensures clock { (r : Run) → Timely r → KeepsBounds r.plan → WritesBackAlone r → (c : ℕ) →
-        is_foul (marks_in r.plan.profile) r.trace c ≡ false }
+        breaks_a_rule (marks_in r.plan.profile) r.trace c ≡ false }
 {}

@@ -1,8 +1,8 @@
 //! One-step laws of a trace: how its numbers go on when one sample is added.
 //!
 //! `specs/` says what an orderly trace is and names what one more sample does; `proofs/` has the laws, for machines that
-//! look at each sample once and keep no history. The functions have no code: each one's contract is a law. So there is
-//! no line whose meaning an edit could turn.
+//! look at each sample once and keep no history. The functions have no code: each one's contract is a law. The
+//! must-fail edits turn definitions that the laws rest on.
 #![tactic(auto)]
 
 pub use laws::{

@@ -1,29 +1,12 @@
--- The first item of a list that passes a test, by its place; and lists of fills of which no line has two.
-use Rattle.std.proofs.Common.{ℕ, ◌<◌, ◌≤◌, ◌≡◌, ◌≢◌, Bool, Some, None, List, [], ◌∷◌, ◌++◌, length, take, drop, get_or, refl, sym, ap, ◌∙◌, inl, inr, arith}
-use Rattle.std.specs.List.{find, position, position_or_len, refill, slice_get}
+-- Lists of fills of which no line has two.
+use Rattle.std.proofs.Common.{ℕ, ◌<◌, ◌≤◌, ◌≡◌, ◌≢◌, None, List, [], ◌∷◌, ◌++◌, length, take, drop, get_or, refl, sym, ap, ◌∙◌, inl, inr, arith}
+use Rattle.std.specs.List.{refill}
 use Rattle.std.proofs.lemmas.Bool.{cases_Bool}
 use Rattle.std.proofs.lemmas.Grind.{common_steps}
 use Rattle.std.proofs.lemmas.List.{append-nil, drop_all, get_or-map, length-map, take_all}
-use Rattle.std.proofs.lemmas.List.Folds.{find_at}
-use Rattle.std.proofs.lemmas.List.Quantifiers.{position-Some, all_pairs_push}
-use Rattle.std.proofs.lemmas.Option.{slice_get-get_or, slice_get_past}
+use Rattle.std.proofs.lemmas.List.Quantifiers.{all_pairs_push}
 use Rattle.fsb_linebuf.specs.declared.entry.Fill.{Fill}
 use Rattle.fsb_linebuf.specs.Buffers.{OneALine, fill_on, is_fill_on, promised_to, with_promise}
-
--- the first that passes stands at this place
-pub found_read : {X : Type 0} (p : X → Bool) (xs : List X) (i : ℕ) (d : X) → position p xs ≡ Some i → find p xs ≡ Some (get_or xs i d)
-found_read p xs i d e =
-    let at : position_or_len p xs ≡ i = grind (arith, common_steps) in
-    find_at p xs ∙ ap (slice_get xs) at ∙ slice_get-get_or xs i d (position-Some p xs i d e).0
-
-pub found_at : {X : Type 0} (p : X → Bool) (xs : List X) (i : ℕ) (x : X) → position p xs ≡ Some i → x ≡ get_or xs i x → find p xs ≡ Some x
-found_at p xs i x e h = found_read p xs i x e ∙ sym (ap Some h)
-
--- none passes
-pub found_none : {X : Type 0} (p : X → Bool) (xs : List X) → position p xs ≡ None → find p xs ≡ None
-found_none p xs e =
-    let past : length xs ≤ position_or_len p xs = grind (arith, common_steps) in
-    find_at p xs ∙ slice_get_past xs (position_or_len p xs) past
 
 -- a line that has no fill is no fill's line
 not_on : (line : ℕ) (fills : List Fill) → fill_on line fills ≡ None → (k : ℕ) (d : Fill) → k < length fills → (get_or fills k d).line ≢ line

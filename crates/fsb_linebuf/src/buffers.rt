@@ -53,7 +53,7 @@ impl LineBuffers {
     }
 
     /// The line's fill, if there is one.
-    #[tactic(auto, using(crate::proofs::FillLists::found_read, crate::proofs::FillLists::found_none))]
+    #[tactic(auto, using(fsb_count::proofs::Interface::find_placed, fsb_count::proofs::Interface::find_none))]
     pub fn fill_on(&self, line: u64) -> Option<Fill>
         ensures { result ≡ fill_on line self.now.fills }
     {
@@ -119,7 +119,7 @@ impl LineBuffers {
 
     /// Takes out the first push for the transaction of this number, if there is one, and gives its
     /// bytes.
-    #[tactic(auto, using(crate::proofs::FillLists::found_at, crate::proofs::FillLists::found_none))]
+    #[tactic(auto, using(fsb_count::proofs::Interface::find_item, fsb_count::proofs::Interface::find_none))]
     pub fn take_push(&mut self, number: u32) -> Option<[u8; 32]>
         ensures bytes { result ≡ option_map (λ push. push.bytes) (push_for number self.old.pushes) }
         ensures rest { self.new ≡ record self.old
@@ -138,7 +138,7 @@ impl LineBuffers {
     }
 
     /// Takes out the line's fill, if there is one.
-    #[tactic(auto, using(crate::proofs::FillLists::found_at, crate::proofs::FillLists::found_none))]
+    #[tactic(auto, using(fsb_count::proofs::Interface::find_item, fsb_count::proofs::Interface::find_none))]
     fn take_fill(&mut self, line: u64) -> Option<Fill>
         ensures fill { result ≡ fill_on line self.old.fills }
         ensures rest { self.new ≡ record self.old { fills = fills_without line self.old.fills } }

@@ -27,7 +27,7 @@ pub record Placed (h : Trace) (e k : ℕ) (entry : Entry) : Type 0 where
   pub within : entry.clock < length h
 
 pub placed : (h : Trace) (queue : List Entry) (e k : ℕ) (entry : Entry) → Held queue h → EndsTo h e → slice_get queue k ≡ Some entry → Placed h e k entry
-unfolding live_clock_of rank_of live_number_of nth_where
+unfolding live_clock_of live_number_of nth_where
 placed h queue e k entry f to at =
     let clock : slice_get (all_where (is_live h) (length h)) (e + k) ≡ Some entry.clock =
     sym (dropped e k (all_where (is_live h) (length h))) ∙ ap (λ qs. slice_get qs k) (sym (f.clocks ∙ in_flight-live h e to))

@@ -13,7 +13,7 @@ use Rattle.fsb_laws.proofs.Interface.{response_past}
 use Rattle.fsb_queue.specs.declared.entry.Entry.{Entry}
 use Rattle.fsb_phase.specs.declared.phases.Phases.{Phases}
 use Rattle.fsb_trace.specs.Timing.{is_ready_from, is_response_from, chunk_from, is_busy_from}
-use Rattle.fsb_phase.specs.Due.{rank_of, awaits_response, has_ready, has_response, response_to_now, is_moving, due_chunk, keeps_busy}
+use Rattle.fsb_phase.specs.Due.{rank_of, has_ready, has_response, response_to_now, is_moving, due_chunk, keeps_busy}
 use Rattle.fsb_phase.proofs.Held.{IsSettled, Held}
 use Rattle.fsb_phase.specs.Phases.{Stands, value_before, last_response}
 use Rattle.fsb_phase.specs.Drive.{numbered_chunk}
@@ -71,11 +71,11 @@ response_at h e i =
     && is_response_from (takes h i) (answer_from h i) (ready_clock_of h i) e.choice.resp (length h)
 
 has_ready-at : (h : Trace) (e : Entry) (i : ℕ) → rank_of h e ≡ i → has_ready h e ≡ ready_at h e i
-unfolding has_ready awaits_response
+unfolding has_ready
 has_ready-at h e i f = ap (ready_at h e) f
 
 pub has_response-at : (h : Trace) (e : Entry) (i : ℕ) → rank_of h e ≡ i → has_response h e ≡ response_at h e i
-unfolding has_response awaits_response
+unfolding has_response
 has_response-at h e i f = ap (response_at h e) f
 
 no_ready : (h : Trace) (e : Entry) (i : ℕ) → answer_from h i ≡ None → ready_at h e i ≡ false

@@ -30,10 +30,9 @@ use Rattle.fsb_phase.proofs.Answering.{Answering, may_answer}
 -- a request that is not too soon keeps the distance
 far_enough : (h : Trace) (x : Sample) → is_too_soon h x ≡ false → has_line x ADS ≡ true → (line_back ADS h (length h) 1 ≡ false) × (line_back ADS h (length h) 2 ≡ false)
 unfolding is_too_soon
-far_enough h x f t = or_parts _ _ (go (has_line x ADS) t f) where
-  go : (b : Bool) → b ≡ true → (elim b as (λ z. Bool) [ true ↦ line_back ADS h (length h) 1 || line_back ADS h (length h) 2 | false ↦ false ]) ≡ false → (line_back ADS h (length h) 1 || line_back ADS h (length h) 2) ≡ false
-  go true t f = f
-  go false t f = absurd (let none : ⊥ = cc in none)
+far_enough h x f t =
+    let both : (has_line x ADS && (line_back ADS h (length h) 1 || line_back ADS h (length h) 2)) ≡ false = f in
+    or_parts _ _ (rw t at both)
 
 pub spaced_on : (h : Trace) (x : Sample) (v : Trace) → OneMore h x v → Spaced h → is_too_soon h x ≡ false → Spaced v
 spaced_on h x v m sp f = spaced-more h x v m sp (far_enough h x f)

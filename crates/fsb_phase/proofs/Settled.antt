@@ -64,7 +64,7 @@ outcome_at h e turn i s k f g =
     k.outcome ∙ ap (λ j. option_map (settled_by h turn j) (snoop_end_of h j)) f ∙ ap (option_map (settled_by h turn i)) g
 
 pub taking-is : (h : Trace) (e : Entry) (turn i s : ℕ) → IsSettled h e turn → rank_of h e ≡ i → snoop_end_of h i ≡ Some s → is_taking e ≡ takes h i
-unfolding is_taking is_some_and takes line_at_snoop_end
+unfolding is_some_and takes line_at_snoop_end
 taking-is h e turn i s k f g =
     let kept : is_write_back (live_request_of h i) ≡ true → turn ≡ 0 = subst (λ j. is_write_back (live_request_of h j) ≡ true → turn ≡ 0) f k.kept in
     rw (outcome_at h e turn i s k f g, g) (ap does_take (settled_form h turn i s) ∙ cases_take (line_at HITM h s) turn (live_request_of h i) kept)
@@ -106,7 +106,7 @@ unfolding settled_code
 code_is e o f = rw f refl
 
 moving_is : (e : Entry) (o : Outcome) → e.outcome ≡ Some o → is_moving e ≡ does_move o
-unfolding is_moving is_some_and
+unfolding is_some_and
 moving_is e o f = rw f refl
 
 pub told-is : (h : Trace) (e : Entry) (turn i s code : ℕ) → IsSettled h e turn → rank_of h e ≡ i → snoop_end_of h i ≡ Some s → code ≡ settled_code e → does_move (told_by h i code) ≡ is_moving e

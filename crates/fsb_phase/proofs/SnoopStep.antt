@@ -150,7 +150,6 @@ snoop_late h i q c t = snoop_parts h i (length h) q (snoop_start_of h i) refl c 
 
 -- the number of an entry's request stays
 pub number_stays : (h : Trace) (x : Sample) (v : Trace) (e j : ℕ) (y : Entry) → OneMore h x v → Spaced h → Placed h e j y → rank_of v y ≡ e + j
-unfolding rank_of
 number_stays h x v e j y m sp here =
     sym (live_number_of-more h x v y.clock m sp here.within (is_live-ads h y.clock here.live)) ∙ here.number
 

@@ -11,7 +11,7 @@ use Rattle.fsb_queue.specs.declared.entry.Entry.{Entry}
 use Rattle.fsb_trace.specs.Timing.{is_stall_from, is_ready_from, is_response_from, chunk_from, is_busy_from}
 
 -- the number of the entry's request among the live ones
-unfoldable pub rank_of : Trace → Entry → ℕ
+abbrev pub rank_of : Trace → Entry → ℕ
 rank_of h e = live_number_of h e.clock
 
 -- the request has no snoop end yet, and the next clock is one of its snoop clocks
@@ -25,7 +25,7 @@ unfoldable pub is_stalled : Trace → Entry → Bool
 is_stalled h e = has_snoop h e && is_some_and (snoop_start_of h (rank_of h e)) (is_stall_from e.choice.stall (length h))
 
 -- the request has not responded yet
-unfoldable pub awaits_response : Trace → Entry → Bool
+abbrev pub awaits_response : Trace → Entry → Bool
 awaits_response h e = is_none (response_clock_of h (rank_of h e))
 
 -- the request takes and has not responded, and the next clock is its ready clock
@@ -49,7 +49,7 @@ response_to_now h e =
     ]
 
 -- the request's outcome is settled, and with it data move
-unfoldable pub is_moving : Entry → Bool
+abbrev pub is_moving : Entry → Bool
 is_moving e = is_some_and e.outcome does_move
 
 -- the chunk of the request's data that is due at the next clock, by its place in the burst order

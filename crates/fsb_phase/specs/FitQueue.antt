@@ -1,5 +1,5 @@
 -- What a queue has to hold, and what a sample has to show, for the phases to follow.
-use Rattle.std.specs.Prelude.{◌≡◌, ℕ, Bool, true, false, ◌||◌, List, map, Some, length, slice_get, slice_index}
+use Rattle.std.specs.Prelude.{◌≡◌, ℕ, Bool, true, false, ◌&&◌, ◌||◌, List, map, Some, length, slice_get, slice_index}
 use Rattle.fsb_signal.specs.declared.lines.TheConstants.Lines.{ADS}
 use Rattle.fsb_signal.specs.declared.sample.Sample.{Sample}
 use Rattle.fsb_signal.specs.Samples.{has_line}
@@ -20,4 +20,4 @@ pub record HoldsInFlight (queue : List Entry) (turns : List ℕ) (h : Trace) : T
 
 -- a request begins with the sample as the next of the history, and one began at one of the two clocks before
 unfoldable pub is_too_soon : Trace → Sample → Bool
-is_too_soon h x = elim (has_line x ADS) [ true ↦ line_back ADS h (length h) 1 || line_back ADS h (length h) 2 | false ↦ false ]
+is_too_soon h x = has_line x ADS && (line_back ADS h (length h) 1 || line_back ADS h (length h) 2)

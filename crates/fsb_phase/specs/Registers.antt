@@ -19,7 +19,7 @@ use Rattle.fsb_phase.specs.Due.{is_moving}
 use Rattle.fsb_phase.specs.Drive.{settled_code}
 
 -- the entry's outcome is settled, and with it memory takes data
-unfoldable pub is_taking : Entry → Bool
+abbrev pub is_taking : Entry → Bool
 is_taking e = is_some_and e.outcome does_take
 
 -- the entry, if it passes

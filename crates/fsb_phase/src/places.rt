@@ -9,7 +9,7 @@ use fsb_queue::{Entry, Queue};
 use fsb_trace::{Outcome, code_of};
 
 /// Whether memory takes data with the entry's outcome.
-#[tactic(auto, unfolding(crate::specs::Registers::is_taking, fsb_trace::specs::Outcome::does_take, fsb_count::specs::Options::is_some_and))]
+#[tactic(auto, unfolding(fsb_trace::specs::Outcome::does_take, fsb_count::specs::Options::is_some_and))]
 pub fn is_taking(e: &Entry) -> bool
     ensures { result ≡ is_taking e.now }
 {
@@ -17,7 +17,7 @@ pub fn is_taking(e: &Entry) -> bool
 }
 
 /// Whether data move with the entry's outcome.
-#[tactic(auto, unfolding(crate::specs::Due::is_moving, fsb_count::specs::Options::is_some_and))]
+#[tactic(auto, unfolding(fsb_count::specs::Options::is_some_and))]
 pub fn is_moving(e: &Entry) -> bool
     ensures { result ≡ is_moving e.now }
 {

@@ -12,7 +12,7 @@ use Rattle.fsb_trace.specs.Snoop.{snoop_end_of}
 use Rattle.fsb_trace.specs.Timing.{is_response_from}
 use Rattle.fsb_trace.proofs.Interface.{live_below_count, snoop_end_of-clock, snoop_end_of-stays}
 use Rattle.fsb_queue.specs.declared.entry.Entry.{Entry}
-use Rattle.fsb_phase.specs.Due.{awaits_response, has_response, rank_of}
+use Rattle.fsb_phase.specs.Due.{has_response, rank_of}
 use Rattle.fsb_phase.specs.Drive.{drive_of, settled_code}
 use Rattle.fsb_phase.proofs.Interface.{find-cases, find-off, find-place}
 use Rattle.fsb_timely.specs.Grants.{snooped_at}
@@ -114,7 +114,7 @@ responding_by w wait t i false k e =
 pub entry-responds : (r : Run) (e : Entry) → e.choice ≡ live_choice r (rank_of r.trace e)
     → has_response r.trace e ≡ true
     → Responding r.trace (live_choice r (rank_of r.trace e)).resp (length r.trace) (rank_of r.trace e)
-unfolding has_response awaits_response
+unfolding has_response
 entry-responds r e choice t =
     let i = rank_of r.trace e in
     let here : response_at r i (live_choice r i).resp ≡ true = subst (λ c. response_at r i c.resp ≡ true) choice t in
@@ -123,7 +123,7 @@ entry-responds r e choice t =
 
 pub responds-entry : (r : Run) (queue : List Entry) (i : ℕ) (k : EntryOf r queue i) → response_clock_of r.trace i ≡ None
     → Responding r.trace (live_choice r i).resp (length r.trace) i → has_response r.trace k.entry ≡ true
-unfolding has_response awaits_response
+unfolding has_response
 responds-entry r queue i k none due =
     let wait = (live_choice r i).resp in
     let here : response_at r i wait ≡ true =

@@ -67,7 +67,7 @@ number-ended w n i q k =
 -- the entry of a request whose end is the new clock tells so
 end-told : (r s : Run) (queue : List Entry) (i q : ℕ) (k : EntryOf r queue i) → live_clock_of r.trace i ≡ Some q
     → EndsNow s.trace (length r.trace) i q → has_end_at s.trace (length r.trace) k.entry ≡ true
-unfolding has_end_at rank_of live_number_of live_clock_of
+unfolding has_end_at live_number_of live_clock_of
 end-told r s queue i q k old d =
     let there = k.clock in
     let same : q ≡ k.entry.clock = cc in
@@ -110,7 +110,7 @@ end-entry r s queue i q grows f o d =
 entry-ends : (r s : Run) (queue : List Entry) (k : ℕ) (e : Entry) → GrowsTo r s → HoldsRequests queue r
     → slice_get queue k ≡ Some e → has_end_at s.trace (length r.trace) e ≡ true
     → EndsNow s.trace (length r.trace) (rank_of s.trace e) e.clock × (line_at ADS s.trace e.clock ≡ true)
-unfolding has_end_at rank_of
+unfolding has_end_at
 entry-ends r s queue k e grows f at t =
     let size = longer r s grows in
     let a = and_parts (is_live s.trace e.clock) _ t in

@@ -40,7 +40,7 @@ choice-there r i q e = ap (λ o. option_map_or (choice_at r.choices r.trace) o q
 pub number-held : (r : Run) (queue : List Entry) (k : ℕ) (e : Entry) → HoldsRequests queue r
     → slice_get queue k ≡ Some e
     → (live_clock_of r.trace (rank_of r.trace e) ≡ Some e.clock) × (e.choice ≡ live_choice r (rank_of r.trace e))
-unfolding in_flight nth_where rank_of
+unfolding in_flight nth_where
 number-held r queue k e f at =
     let h = r.trace in
     let there : nth_where (is_in_flight h (length h)) k (length h) ≡ Some e.clock =
@@ -61,7 +61,6 @@ unended h i none = by (end_of h i) refl
 
 held-by : (r : Run) (queue : List Entry) (i q k : ℕ) (o : Option Entry) → HoldsRequests queue r
     → live_number_of r.trace q ≡ i → slice_get queue k ≡ o → option_map (λ x. x.clock) o ≡ Some q → EntryOf r queue i
-unfolding rank_of
 held-by r queue i q k None f number at e = absurd (let no : ⊥ = cc in no)
 held-by r queue i q k (Some x) f number at e =
     let same : x.clock ≡ q = cc in

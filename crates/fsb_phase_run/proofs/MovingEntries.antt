@@ -27,7 +27,7 @@ use Rattle.fsb_phase_run.proofs.Unanswered.{responded-snoop}
 -- where the data of a request move, its entry moves
 moving-same : (r s : Run) (queue : List Entry) (i t : ℕ) (k : EntryOf r queue i) → GrowsTo r s → HoldsRequests queue r
     → CodeShown r s → response_clock_of s.trace i ≡ Some t → is_moving k.entry ≡ settles_to_move s (past_of s) i
-unfolding is_moving settles_to_move
+unfolding settles_to_move
 moving-same r s queue i t k grows f code e =
     let a = shown r s i t grows code e in
     let there = ap (λ j. snoop_end_of r.trace j) k.rank ∙ a.is_snoop in

@@ -12,7 +12,7 @@ use Rattle.fsb_trace.specs.Response.{answer_from, takes}
 use Rattle.fsb_trace.specs.Timing.{is_ready_from}
 use Rattle.fsb_trace.proofs.Interface.{live_below_count, snoop_end_of-clock, snoop_end_of-stays}
 use Rattle.fsb_queue.specs.declared.entry.Entry.{Entry}
-use Rattle.fsb_phase.specs.Due.{awaits_response, has_ready, rank_of}
+use Rattle.fsb_phase.specs.Due.{has_ready, rank_of}
 use Rattle.fsb_phase.specs.Drive.{drive_of}
 use Rattle.fsb_phase.proofs.Interface.{find-cases, find-off, find-place}
 use Rattle.fsb_timely.specs.Growth.{GrowsTo}
@@ -87,7 +87,7 @@ entry-due r e choice t =
 
 due-entry : (r : Run) (queue : List Entry) (i : ℕ) (k : EntryOf r queue i) → response_clock_of r.trace i ≡ None
     → IsReadyDue r.trace (live_choice r i).trdy (length r.trace) i → has_ready r.trace k.entry ≡ true
-unfolding has_ready awaits_response is_ready_from
+unfolding has_ready is_ready_from
 due-entry r queue i k none due =
     let wait = (live_choice r i).trdy in
     let at : option_map (λ f. f + wait) (answer_from r.trace i) ≡ Some (length r.trace) =

@@ -53,7 +53,7 @@ no-snoop r s i (Some t) grows e f =
 snoop-entry : (r s : Run) (queue : List Entry) (i : ℕ) → GrowsTo r s → HoldsRequests queue r
     → snoop_end_of s.trace i ≡ Some (length r.trace)
     → (k : EntryOf r queue i) × (ends_snoop_at s.trace (length r.trace) k.entry ≡ true)
-unfolding ends_snoop_at rank_of live_number_of live_clock_of
+unfolding ends_snoop_at live_number_of live_clock_of
 snoop-entry r s queue i grows f e =
     let n = length r.trace in
     let size = longer r s grows in
@@ -84,7 +84,7 @@ none-snooped r s queue (Some end) grows f g e =
 entry-snooped : (r s : Run) (queue : List Entry) (k : ℕ) (e : Entry) → GrowsTo r s → HoldsRequests queue r
     → slice_get queue k ≡ Some e → ends_snoop_at s.trace (length r.trace) e ≡ true
     → Some e.number ≡ option_map (λ end. requests_below s.trace end.first) (snooped_at (past_of s) (length r.trace))
-unfolding ends_snoop_at rank_of
+unfolding ends_snoop_at
 entry-snooped r s queue k e grows f at t =
     let n = length r.trace in
     let size = longer r s grows in

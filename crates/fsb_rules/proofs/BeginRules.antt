@@ -75,7 +75,7 @@ open_request u h v r p b l t =
 
 -- the ID is taken
 id_form : (u : Trace) (i p did : ℕ) (o : Option Request) (r : Request) → r.did ≡ did → have_same_id o (Some r) ≡ is_some_and (option_map (open_from u i p) o) (has_id did)
-unfolding have_same_id is_some_and has_id open_from
+unfolding have_same_id is_some_and open_from
 id_form u i p did None r e = refl
 id_form u i p did (Some s) r e = rw e refl
 
@@ -103,7 +103,7 @@ unfolding is_identified is_reply is_some_and
 owned winner s t f = own_agent winner s (own_part winner s (is_reply_kind s.kind) f t)
 
 agent_form : (u : Trace) (i p a : ℕ) (s : Request) → is_some_and (Some (Symmetric a)) (is_agent (Some (Symmetric (s.did / 16)))) ≡ is_some_and (option_map (open_from u i p) (Some s)) (is_of_agent a)
-unfolding is_agent is_same_agent is_some_and is_of_agent open_from
+unfolding is_agent is_same_agent is_some_and open_from
 agent_form u i p a s = nat_eq-sym a (s.did / 16)
 
 agent_cases : (u h v : Trace) (r : Request) (p : ℕ) (t : Bool) → Begun u h v r → is_reply_kind r.kind ≡ false → p < length u → is_open u p ≡ t → is_outstanding_of_winner v (length u) p ≡ (is_open u p && is_some_and (open_at u p) (is_of_agent (r.did / 16)))

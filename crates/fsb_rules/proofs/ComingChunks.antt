@@ -114,12 +114,12 @@ live_did q r = refl
 
 -- the request whose data are on the way at the end of the history
 none_moving : (h : Trace) (n : ℕ) → response_count h ≡ n → transfer_of h ≡ None → moving_of h ≡ None
-unfolding moving_of moving_after
+unfolding moving_after
 none_moving h zero e f = rw e refl
 none_moving h (suc i) e f = rw (e, f) refl
 
 some_moving : (h : Trace) (n i : ℕ) → response_count h ≡ suc i → transfer_of h ≡ Some n → (k : IsKnown h i) → moving_of h ≡ Some (record { request = live_from k.clock k.request; chunks = n })
-unfolding moving_of moving_after moving_with
+unfolding moving_after moving_with
 some_moving h n i e f k = rw (e, f, live_of-known h i k) refl
 
 -- the first chunk comes with the response

@@ -51,7 +51,6 @@ kept_cases h (suc i) (Some k) o d e f =
     rw (f, live_of-known h i (known_snooped h i a.snoop d a.is_snoop)) refl
 
 chunks_kept : (h : Trace) → Orderly h → Decoded h → chunks_in (moving_of h) ≡ transfer_of h
-unfolding moving_of
 chunks_kept h o d = kept_cases h (response_count h) (transfer_of h) o d refl refl
 
 -- the transfer that the sample begins

@@ -13,8 +13,8 @@ use Rattle.fsb_trace.specs.declared.who.Who.{Who}
 use Rattle.fsb_trace.specs.At.{Trace, line_back, known_pair}
 use Rattle.fsb_arbiter.specs.Arbiter.{Stands as ArbiterStands}
 use Rattle.fsb_trace.specs.Winner.{winner_at}
-use Rattle.fsb_trace.specs.Verdict.{is_broken, least_rule, is_foul, verdict}
-use Rattle.fsb_trace.proofs.Interface.{AgreeTo-less, is_foul-agree, verdict-least, verdict-none, verdict-stays}
+use Rattle.fsb_trace.specs.Verdict.{is_broken, least_rule, breaks_a_rule, verdict}
+use Rattle.fsb_trace.proofs.Interface.{AgreeTo-less, breaks_a_rule-agree, verdict-least, verdict-none, verdict-stays}
 use Rattle.fsb_laws.specs.OneMore.{OneMore}
 use Rattle.fsb_laws.proofs.Interface.{one_more, first_where-next}
 use Rattle.fsb_rules.specs.declared.broken.Broken.{Broken}
@@ -39,23 +39,23 @@ verdict_kept marks h x v (Some p) m e t =
     let l = (verdict-least marks h p.0 p.1 e).0 in verdict-stays (length h) marks h v p.0 p.1 m.agree l e
 
 -- without one, the new clock decides
-not_foul : (marks : Marks) (h : Trace) (c : ℕ) → verdict marks h ≡ None → is_foul marks h c ≡ false
-unfolding is_foul least_rule
+not_foul : (marks : Marks) (h : Trace) (c : ℕ) → verdict marks h ≡ None → breaks_a_rule marks h c ≡ false
+unfolding breaks_a_rule least_rule
 not_foul marks h c e = ap (λ o. is_some o) (first_where-off (is_broken marks h c) 21 (λ j l. verdict-none marks h e c j l))
 
-foul_next : (marks : Marks) (h : Trace) (x : Sample) (v : Trace) → OneMore h x v → verdict marks h ≡ None → first_where (is_foul marks v) (length v) ≡ cond (is_foul marks v (length h)) (Some (length h)) None
+foul_next : (marks : Marks) (h : Trace) (x : Sample) (v : Trace) → OneMore h x v → verdict marks h ≡ None → first_where (breaks_a_rule marks v) (length v) ≡ cond (breaks_a_rule marks v (length h)) (Some (length h)) None
 foul_next marks h x v m e =
-    let none : first_where (is_foul marks v) (length h) ≡ None =
-    first_where-off (is_foul marks v) (length h) (λ c l. sym (is_foul-agree marks h v c (AgreeTo-less (length h) (c + 1) h v (omega arith) m.agree)) ∙ not_foul marks h c e) in
-    ap (first_where (is_foul marks v)) m.size ∙ first_where-next (is_foul marks v) (length h) none
+    let none : first_where (breaks_a_rule marks v) (length h) ≡ None =
+    first_where-off (breaks_a_rule marks v) (length h) (λ c l. sym (breaks_a_rule-agree marks h v c (AgreeTo-less (length h) (c + 1) h v (omega arith) m.agree)) ∙ not_foul marks h c e) in
+    ap (first_where (breaks_a_rule marks v)) m.size ∙ first_where-next (breaks_a_rule marks v) (length h) none
 
-next_cases : (marks : Marks) (v : Trace) (n : ℕ) (o : Option ℕ) → least_rule marks v n ≡ o → first_where (is_foul marks v) (length v) ≡ cond (is_some o) (Some n) None → verdict marks v ≡ option_map {U = ℕ × ℕ} (λ j. (n, j)) o
+next_cases : (marks : Marks) (v : Trace) (n : ℕ) (o : Option ℕ) → least_rule marks v n ≡ o → first_where (breaks_a_rule marks v) (length v) ≡ cond (is_some o) (Some n) None → verdict marks v ≡ option_map {U = ℕ × ℕ} (λ j. (n, j)) o
 unfolding verdict
 next_cases marks v n None e f = rw f refl
 next_cases marks v n (Some j) e f = rw (f, e) refl
 
-foul_form : (marks : Marks) (v : Trace) (n : ℕ) → cond (is_foul marks v n) (Some n) None ≡ cond (is_some (least_rule marks v n)) (Some n) None
-unfolding is_foul
+foul_form : (marks : Marks) (v : Trace) (n : ℕ) → cond (breaks_a_rule marks v n) (Some n) None ≡ cond (is_some (least_rule marks v n)) (Some n) None
+unfolding breaks_a_rule
 foul_form marks v n = refl
 
 pub verdict_next : (marks : Marks) (h : Trace) (x : Sample) (v : Trace) → OneMore h x v → verdict marks h ≡ None → verdict marks v ≡ option_map {U = ℕ × ℕ} (λ j. (length h, j)) (least_rule marks v (length h))

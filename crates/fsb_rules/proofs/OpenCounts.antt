@@ -45,7 +45,6 @@ pub count_cons : (p : Open → Bool) (o : Open) (xs : List Open) → count_by p 
 count_cons p o xs = count_by-append p (o ∷ []) xs ∙ ap (λ n. n + count_by p xs) (one_count p o (p o) refl)
 
 same_agent : (a : ℕ) (o p : Open) → p.did ≡ o.did → is_of_agent a p ≡ is_of_agent a o
-unfolding is_of_agent
 same_agent a o p e = rw e refl
 
 filter_some : (w : Happened) (o p : Open) (xs : List Open) → open_after w o ≡ Some p → filter_map (open_after w) (o ∷ xs) ≡ p ∷ filter_map (open_after w) xs
@@ -98,7 +97,6 @@ below_four : (d : ℕ) → nat_lt d 64 ≡ true → d / 16 < 4
 below_four d t = let l = ltb-true d 64 t in omega arith
 
 one_agent : (o : Open) → is_own o ≡ true → cond (is_of_agent 0 o) 1 0 + cond (is_of_agent 1 o) 1 0 + cond (is_of_agent 2 o) 1 0 + cond (is_of_agent 3 o) 1 0 ≡ 1
-unfolding is_of_agent
 one_agent o t = four (o.did / 16) (below_four o.did t)
 
 pub by_agents : (xs : List Open) → list_all is_own xs ≡ true → length xs ≡ count_by (is_of_agent 0) xs + count_by (is_of_agent 1) xs + count_by (is_of_agent 2) xs + count_by (is_of_agent 3) xs

@@ -109,7 +109,6 @@ one_most a o =
     let m = cond-most (is_of_agent a o) in omega arith
 
 one_other : (a : ℕ) (o : Open) → (o.did / 16 ≡ a → ⊥) → count_by (is_of_agent a) (o ∷ []) ≡ 0
-unfolding is_of_agent
 one_other a o n = one_count (is_of_agent a) o (is_of_agent a o) refl ∙ ap (λ b. cond {A = ℕ} b 1 0) (ne_eqb (o.did / 16) a n)
 
 few_cases : (k : Checker) (h : Trace) (x : Sample) (v : Trace) (b : Option LiveRequest) (n : Option Open) (a : ℕ) → Goes k h x v b → is_identity_wrong v (length h) ≡ false → is_begun_wrongly_by k b ≡ false → option_and_then (λ c. open_begun c) b ≡ n → count_by (is_of_agent a) (filter_map (open_after (happens k h x b)) k.outstanding.current.items) + count_by (is_of_agent a) (option_to_list n) ≤ 4

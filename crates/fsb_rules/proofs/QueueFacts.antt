@@ -204,7 +204,6 @@ moving_cases h (suc i) (Some k) o d e f =
     rw (f, live_of-known h i (known_snooped h i a.snoop d a.is_snoop)) refl
 
 pub moving-transfer : (h : Trace) → Orderly h → Decoded h → is_none (moving_of h) ≡ is_none (transfer_of h)
-unfolding moving_of
 moving-transfer h o d = moving_cases h (response_count h) (transfer_of h) o d refl refl
 
 -- the request that may respond

@@ -82,7 +82,7 @@ unfolding beginner_of
 no_beginner = rw no_back refl
 
 none_moves : moving_of [] ≡ None
-unfolding moving_of moving_after
+unfolding moving_after
 none_moves = ap (moving_after []) response_count-empty
 
 no_before : snoop_before [] 0 ≡ None

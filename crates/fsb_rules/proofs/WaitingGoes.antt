@@ -138,7 +138,6 @@ kept_request h zero m e = absurd (let no : ⊥ = cc in no)
 kept_request h (suc i) m e = (i, refl, kept_parts h i m (transfer_of h) (live_of h i) refl e)
 
 pub moving_parts : (h : Trace) (m : Moving) → moving_of h ≡ Some m → (i : ℕ) × (response_count h ≡ suc i) × (live_of h i ≡ Some m.request)
-unfolding moving_of
 moving_parts h m e = kept_request h (response_count h) m e
 
 pub snoop_below : (h : Trace) (s i t : ℕ) → SnoopsTo h s → snoop_end_of h i ≡ Some t → i < s
@@ -165,7 +164,6 @@ moving_request k h x v b g false m f e =
     (p.0, same ∙ p.1, sym (live_same k h x v b g p.0 a.snoop (snoop_below h g.follows.queue.snooped p.0 a.snoop g.follows.queue.to a.is_snoop) a.is_snoop) ∙ p.2)
 
 pub moving_goes : (k : Checker) (h : Trace) (x : Sample) (v : Trace) (b : Option LiveRequest) → Goes k h x v b → after_chunk (moving_by k.queue (length h) x) x ≡ moving_of v
-unfolding moving_of
 moving_goes k h x v b g =
     moving_is v (response_count v) (after_chunk (moving_by k.queue (length h) x) x) (chunks_now k h x v (responds x) g.follows g.more g.may refl)
     (λ m e.

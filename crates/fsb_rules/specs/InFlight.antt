@@ -30,7 +30,7 @@ moving_after h zero = None
 moving_after h (suc i) = option_and_then (λ k. option_map (moving_with k) (live_of h i)) (transfer_of h)
 
 -- the live request whose data are on the way
-unfoldable pub moving_of : Trace → Option Moving
+abbrev pub moving_of : Trace → Option Moving
 moving_of h = moving_after h (response_count h)
 
 -- how many live requests began below the last clock, so that they are decoded

@@ -181,7 +181,6 @@ impl Open {
     }
 
     /// Whether it has this ID.
-    #[tactic(auto, unfolding(crate::specs::OpenTests::has_id))]
     fn has_id(&self, did: u8) -> bool
         ensures { result ≡ has_id did self.now }
     {
@@ -189,7 +188,6 @@ impl Open {
     }
 
     /// Whether its ID is of this agent.
-    #[tactic(auto, unfolding(crate::specs::OpenTests::is_of_agent))]
     fn is_of(&self, agent: u8) -> bool
         ensures { result ≡ is_of_agent agent self.now }
     {

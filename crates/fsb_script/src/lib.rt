@@ -2,6 +2,7 @@
 #![tactic(auto)]
 
 pub use fault::{Cause, ScriptFault, ScriptStop};
+pub use lawful::is_lawful_script;
 pub use laws::one_answer;
 pub use made::plan_of;
 pub use plan::{Plan, Scripts, Settings, Window};
@@ -12,6 +13,7 @@ mod bounds;
 mod draft;
 mod fault;
 mod form;
+mod lawful;
 mod laws;
 mod line;
 mod made;

@@ -1,7 +1,6 @@
 //! What ties the reader of bench files to their writer: what is written reads back as what it was written from.
 //! The functions have no code: each one's contract is a law on the words of `fsb_script` in which the contracts of
-//! `read_bench` and `write_bench` are stated. So the crate has no must-fail edits: no line of code here has a meaning
-//! that an edit could turn.
+//! `read_bench` and `write_bench` are stated. The must-fail edits turn definitions that the laws rest on.
 #![tactic(auto)]
 
 ghost use Rattle.std.specs.Prelude.{◌≡◌, ℕ, ◌<◌, ◌≤◌, ◌/◌, ◌%◌, ◌^◌, List, [], ◌∷◌, Ok, IsTrue, codes};

@@ -11,10 +11,10 @@ use Rattle.fsb_trace.specs.declared.outcome.Outcome.{Outcome}
 use Rattle.fsb_trace.specs.At.{Trace, response_code_at}
 use Rattle.fsb_trace.specs.Requests.{live_clock_of, live_count, live_request_of}
 use Rattle.fsb_trace.specs.Snoop.{snoop_end_of, line_at_snoop_end}
-use Rattle.fsb_trace.specs.Outcome.{does_move, live_response_of, moves_data, outcome_of, response_clock_of, told_by}
+use Rattle.fsb_trace.specs.Outcome.{does_move, live_response_of, moves_data, outcome_of, response_clock_of, told_by, told_with}
 use Rattle.fsb_trace.specs.Response.{data_clock_of, end_of}
 use Rattle.fsb_trace.proofs.Interface.{live_below_count}
-use Rattle.fsb_table.specs.Going.{fourth_from, is_handed_by, told_with}
+use Rattle.fsb_table.specs.Going.{fourth_from, is_handed_by}
 
 -- a live request has its response where so many responses are
 pub live_response-is : (w : Trace) (i q : ℕ) → live_clock_of w i ≡ Some q → live_response_of w i ≡ response_clock_of w i
@@ -23,7 +23,7 @@ live_response-is w i q e = rw (lt-ltb i (live_count w) (live_below_count w i q e
 
 told-by : (w : Trace) (i code : ℕ)
     → told_by w i code ≡ told_with (is_handed_by w (snoop_end_of w i)) (live_request_of w i) code
-unfolding told_by told_with is_handed_by line_at_snoop_end
+unfolding told_by line_at_snoop_end
 told-by w i code = refl
 
 -- the outcome that the response tells

@@ -1,16 +1,13 @@
--- How far the live requests of a trace were gone through, and what a response tells by what is at hand.
-use Rattle.std.specs.Prelude.{◌≡◌, ℕ, zero, suc, ◌+◌, Bool, nat_eq, if◌then◌else◌, Option, Some, length}
+-- How far the live requests of a trace were gone through, and what is looked for next.
+use Rattle.std.specs.Prelude.{◌≡◌, ℕ, zero, suc, ◌+◌, Bool, Option, Some, length}
 use Rattle.std.specs.Option.{option_map}
 use Rattle.fsb_count.specs.Options.{is_some_and}
 use Rattle.fsb_count.specs.Clocks.{nth_where, from_clock}
 use Rattle.fsb_signal.specs.declared.lines.TheConstants.Lines.{HITM, DRDY}
 use Rattle.fsb_signal.specs.Samples.{line_at}
-use Rattle.fsb_encode.specs.declared.request.Request.{Request}
-use Rattle.fsb_trace.specs.declared.outcome.Outcome.{Outcome}
-use Rattle.fsb_trace.specs.declared.outcome.Outcome.TheVariants.{Handed, Retried, Deferred, Failed}
 use Rattle.fsb_trace.specs.At.{Trace, responds_at}
 use Rattle.fsb_trace.specs.Snoop.{snoop_end_of}
-use Rattle.fsb_trace.specs.Outcome.{outcome_by_kind, response_clock_of, response_code_of}
+use Rattle.fsb_trace.specs.Outcome.{response_clock_of}
 use Rattle.fsb_table.specs.declared.going.Going.{Going}
 
 -- the clock from which the snoop of live request i may start, by the snoop end before it
@@ -24,17 +21,8 @@ pub record Stands (going : Going) (w : Trace) (i : ℕ) : Type 0 where
   pub response : response_clock_of w i ≡ nth_where (from_clock going.unanswered (responds_at w)) 0 (length w)
 
 -- an owner hands on the line of a request with this snoop end
-unfoldable pub is_handed_by : Trace → Option ℕ → Bool
+abbrev pub is_handed_by : Trace → Option ℕ → Bool
 is_handed_by w snoop = is_some_and snoop (line_at HITM w)
-
--- what a response with this code tells of a request, whose line an owner hands on, or does not
-unfoldable pub told_with : Bool → Option Request → ℕ → Outcome
-told_with handed request code =
-    if nat_eq code (response_code_of Failed) then Failed
-    else (if handed then Handed
-    else (if nat_eq code (response_code_of Retried) then Retried
-    else (if nat_eq code (response_code_of Deferred) then Deferred
-    else outcome_by_kind request)))
 
 -- the fourth clock with data from r on
 unfoldable pub fourth_from : Trace → ℕ → Option ℕ

@@ -9,12 +9,11 @@ ghost use Rattle.fsb_trace.specs.Snoop.{snoop_end_from, snoop_end_of};
 ghost use Rattle.fsb_table.specs.Going.{Stands};
 ghost use Rattle.fsb_table.specs.Rows.{live_row, row_at};
 
-use crate::at::{ends_snoop, responds_at};
 use crate::row::{Row, cancelled_row};
 use crate::search::nth_from;
 use crate::told::{end_clock, told_outcome};
 use fsb_signal::Sample;
-use fsb_trace::Seen;
+use fsb_trace::{Seen, ends_snoop, responds_at};
 
 /// How far the live requests were gone through.
 #[derive(Clone, Copy, Debug, PartialEq, Eq)]

@@ -9,7 +9,6 @@
 pub use one_pass::table;
 pub use row::Row;
 
-mod at;
 mod going;
 mod one_pass;
 mod row;

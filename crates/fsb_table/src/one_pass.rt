@@ -3,12 +3,12 @@ ghost use Rattle.std.specs.Prelude.{◌≡◌, ◌<◌, ◌^◌, None, length, I
 ghost use Rattle.fsb_trace.specs.Verdict.{verdict};
 ghost use Rattle.fsb_table.specs.Rows.{rows_of};
 
-use crate::at::seen_at;
 use crate::going::Going;
 use crate::row::Row;
 use fsb_arbiter::Arbiter;
 use fsb_io::Memory;
 use fsb_signal::{Lines, Marks, Sample};
+use fsb_trace::seen_at;
 use std::alloc::Global;
 
 /// The table of a trace that breaks no rule, of a dump with these marks: a row for each request, in

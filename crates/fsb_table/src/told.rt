@@ -1,54 +1,19 @@
 //! The outcome that a response tells, and the end of its request.
 ghost use Rattle.std.specs.Prelude.{◌≡◌, ℕ, ◌<◌, Some, length, IfSome, option_and_then};
 ghost use Rattle.fsb_count.specs.Options.{is_some_and};
-ghost use Rattle.fsb_trace.specs.Outcome.{does_move, outcome_by_kind, outcome_of, response_clock_of};
+ghost use Rattle.fsb_trace.specs.Outcome.{does_move, outcome_of, response_clock_of};
 ghost use Rattle.fsb_trace.specs.Requests.{live_clock_of, live_request_of};
 ghost use Rattle.fsb_trace.specs.Response.{end_of};
 ghost use Rattle.fsb_trace.specs.Snoop.{snoop_end_of};
-ghost use Rattle.fsb_table.specs.Going.{fourth_from, is_handed_by, told_with};
+ghost use Rattle.fsb_table.specs.Going.{fourth_from, is_handed_by};
 
-use crate::at::response_code_at;
 use crate::search::nth_from;
-use fsb_encode::{Kind, Request};
+use fsb_encode::Request;
 use fsb_signal::{Lines, Sample, line_at};
-use fsb_trace::{Outcome, code_of, moves};
-
-/// The outcome of a request that nothing hands on, retries, defers or fails.
-#[tactic(auto, unfolding(fsb_trace::specs::Outcome::outcome_by_kind))]
-fn outcome_by_kind(request: Option<Request>) -> Outcome
-    ensures { result ≡ outcome_by_kind request }
-{
-    match request {
-        Some(request) => match request.kind {
-            Kind::WriteBack => Outcome::Written,
-            Kind::Upgrade => Outcome::Upgraded,
-            Kind::Reply => Outcome::Replied,
-            Kind::Read | Kind::Invalidate => Outcome::Granted,
-        },
-        None => Outcome::Granted,
-    }
-}
-
-/// What a response with this code tells of the request, whose line an owner hands on, or does not.
-#[tactic(auto, unfolding(crate::specs::Going::told_with))]
-fn told_by(handed: bool, request: Option<Request>, code: u8) -> Outcome
-    ensures { result ≡ told_with handed request code }
-{
-    if code == code_of(Outcome::Failed) {
-        Outcome::Failed
-    } else if handed {
-        Outcome::Handed
-    } else if code == code_of(Outcome::Retried) {
-        Outcome::Retried
-    } else if code == code_of(Outcome::Deferred) {
-        Outcome::Deferred
-    } else {
-        outcome_by_kind(request)
-    }
-}
+use fsb_trace::{Outcome, moves, response_code_at, told_with};
 
 /// Whether an owner hands on the line of a request with this snoop end: HITM# is asserted there.
-#[tactic(auto, unfolding(crate::specs::Going::is_handed_by, fsb_count::specs::Options::is_some_and))]
+#[tactic(auto, unfolding(fsb_count::specs::Options::is_some_and))]
 fn is_handed(w: &[Sample], snoop: Option<usize>) -> bool
     ensures { result ≡ is_handed_by w.now snoop }
 {
@@ -70,7 +35,7 @@ pub fn told_outcome(
         result ≡ outcome_of w.now i }
 {
     match response {
-        Some(r) => Some(told_by(is_handed(w, snoop), request, response_code_at(w, r))),
+        Some(r) => Some(told_with(is_handed(w, snoop), request, response_code_at(w, r))),
         None => None,
     }
 }

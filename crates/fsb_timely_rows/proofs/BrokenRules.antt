@@ -6,7 +6,7 @@ use Rattle.fsb_signal.specs.declared.marks.Marks.{Marks}
 use Rattle.fsb_signal.specs.declared.sample.Sample.{Sample}
 use Rattle.fsb_signal.specs.Parity.{is_address_odd, is_request_odd, marks_in}
 use Rattle.fsb_trace.specs.Rules.{has_unknown_line, is_request_too_soon, is_code_unlawful, is_queue_full, is_request_blocked, has_no_winner, is_own_id, is_identified, is_identity_wrong, is_asked_wrongly, is_some_asked_wrongly, is_lock_alone, is_error_alone, is_snoop_line_alone, is_result_unfit_for, is_snoop_result_unfit, next_response, may_answer, is_response_early, has_den, is_code_for, responds_soundly, has_code_at, is_code_wrong, is_ready_in_time, is_ready_wrongly, is_target_ready_wrong, is_transferring_of, is_transferring, is_data_wrong, has_unknown_data, awaits_reply, is_id_taken_by, is_outstanding_of_winner, is_begun_wrongly, is_outstanding_wrong, has_parity_at, is_address_parity_wrong, is_request_parity_wrong, is_marked_address_wrong, is_marked_request_wrong, phase_rules, breaks}
-use Rattle.fsb_trace.specs.Verdict.{is_broken, is_foul, least_rule, verdict}
+use Rattle.fsb_trace.specs.Verdict.{is_broken, breaks_a_rule, least_rule, verdict}
 use Rattle.fsb_timely_rows.proofs.DirtyVictimWrittenBack.{trace as victim_written_back}
 use Rattle.fsb_timely_rows.proofs.LaidOut.{changed, clock, idle}
 use Rattle.fsb_timely_rows.proofs.LoadThenStoreHit.{trace as load}
@@ -54,7 +54,7 @@ pub computes :
     × (verdict without_parity (changed two_loads 7 (clock [] 0x2 0x2 0x0)) ≡ Some (7, 18))
     × (verdict with_parity (changed load_with_parity 2 (clock (BREQ0 ∷ ADS ∷ RP ∷ []) 0x6 0x8 0x0)) ≡ Some (2, 19))
     × (verdict with_parity (changed load_with_parity 2 (clock (BREQ0 ∷ ADS ∷ AP0 ∷ []) 0x6 0x8 0x0)) ≡ Some (2, 20))
-unfolding opened is_address_odd is_request_odd is_broken is_foul least_rule verdict
+unfolding opened is_address_odd is_request_odd is_broken breaks_a_rule least_rule verdict
     has_unknown_line is_request_too_soon is_code_unlawful is_queue_full is_request_blocked has_no_winner
     is_own_id is_identified is_identity_wrong is_asked_wrongly is_some_asked_wrongly is_lock_alone is_error_alone
     is_snoop_line_alone is_result_unfit_for is_snoop_result_unfit next_response may_answer is_response_early

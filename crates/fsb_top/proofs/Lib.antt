@@ -3,5 +3,4 @@ pub mod PlanFacts
 mod Findings
 mod Searches
 mod Tables
-mod TenDigits
 mod Verdicts

@@ -10,34 +10,34 @@ use Rattle.fsb_top.specs.declared.status.Status.{Status}
 use Rattle.fsb_top.specs.declared.status.Status.TheVariants.{Done, Rejected, BadWords, BadBench, BadDump, ReadFault, WriteFault, DumpFault, OutOfMemory, TooLong, Foul, NotFound}
 
 -- the status of a finding whose line was written, or of a sink that failed
-abbrev pub IsFindingTold : Status → Judgement → Type 0
-IsFindingTold Done finding = finding.broken ≡ None
-IsFindingTold (Rejected broken) finding = finding.broken ≡ Some broken
-IsFindingTold WriteFault finding = Unit {0}
-IsFindingTold DumpFault finding = ⊥
-IsFindingTold BadWords finding = ⊥
-IsFindingTold (BadBench fault) finding = ⊥
-IsFindingTold (BadDump fault) finding = ⊥
-IsFindingTold ReadFault finding = ⊥
-IsFindingTold OutOfMemory finding = ⊥
-IsFindingTold TooLong finding = ⊥
-IsFindingTold (Foul foul) finding = ⊥
-IsFindingTold NotFound finding = ⊥
+abbrev pub IsJudgementTold : Status → Judgement → Type 0
+IsJudgementTold Done finding = finding.broken ≡ None
+IsJudgementTold (Rejected broken) finding = finding.broken ≡ Some broken
+IsJudgementTold WriteFault finding = Unit {0}
+IsJudgementTold DumpFault finding = ⊥
+IsJudgementTold BadWords finding = ⊥
+IsJudgementTold (BadBench fault) finding = ⊥
+IsJudgementTold (BadDump fault) finding = ⊥
+IsJudgementTold ReadFault finding = ⊥
+IsJudgementTold OutOfMemory finding = ⊥
+IsJudgementTold TooLong finding = ⊥
+IsJudgementTold (Foul foul) finding = ⊥
+IsJudgementTold NotFound finding = ⊥
 
 -- the sink has the line of the finding behind what it held, or a first part of it where it failed
-abbrev pub IsFindingWritten : Status → Judgement → List ℕ → List ℕ → Type 0
-IsFindingWritten Done finding before held = held ≡ before ++ verdict_text finding.clocks finding.broken
-IsFindingWritten (Rejected broken) finding before held = held ≡ before ++ verdict_text finding.clocks finding.broken
-IsFindingWritten WriteFault finding before held = AppendsPart (verdict_text finding.clocks finding.broken) before held
-IsFindingWritten DumpFault finding before held = Unit {0}
-IsFindingWritten BadWords finding before held = Unit {0}
-IsFindingWritten (BadBench fault) finding before held = Unit {0}
-IsFindingWritten (BadDump fault) finding before held = Unit {0}
-IsFindingWritten ReadFault finding before held = Unit {0}
-IsFindingWritten OutOfMemory finding before held = Unit {0}
-IsFindingWritten TooLong finding before held = Unit {0}
-IsFindingWritten (Foul foul) finding before held = Unit {0}
-IsFindingWritten NotFound finding before held = Unit {0}
+abbrev pub IsJudgementWritten : Status → Judgement → List ℕ → List ℕ → Type 0
+IsJudgementWritten Done finding before held = held ≡ before ++ verdict_text finding.clocks finding.broken
+IsJudgementWritten (Rejected broken) finding before held = held ≡ before ++ verdict_text finding.clocks finding.broken
+IsJudgementWritten WriteFault finding before held = AppendsPart (verdict_text finding.clocks finding.broken) before held
+IsJudgementWritten DumpFault finding before held = Unit {0}
+IsJudgementWritten BadWords finding before held = Unit {0}
+IsJudgementWritten (BadBench fault) finding before held = Unit {0}
+IsJudgementWritten (BadDump fault) finding before held = Unit {0}
+IsJudgementWritten ReadFault finding before held = Unit {0}
+IsJudgementWritten OutOfMemory finding before held = Unit {0}
+IsJudgementWritten TooLong finding before held = Unit {0}
+IsJudgementWritten (Foul foul) finding before held = Unit {0}
+IsJudgementWritten NotFound finding before held = Unit {0}
 
 -- the status of a search whose line was written, or of a sink that failed
 abbrev pub IsSearchTold : Status → Option (List ℕ) → Type 0

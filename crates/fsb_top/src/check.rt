@@ -7,7 +7,7 @@ ghost use Rattle.fsb_watch.specs.Watched.{HasManySamples};
 ghost use Rattle.vcd_grammar.specs.declared.fault.VcdFault.{VcdFault};
 ghost use Rattle.vcd_grammar.specs.Reading.{Reads};
 ghost use Rattle.fsb_top.specs.BenchEnds.{HasRun, IsSilent, IsOfCheck, IsTold, HasVerdict, IsBadDump};
-ghost use Rattle.fsb_top.specs.StatusTold.{IsFindingTold, IsFindingWritten};
+ghost use Rattle.fsb_top.specs.StatusTold.{IsJudgementTold, IsJudgementWritten};
 
 use crate::status::Status;
 use fsb_check::{Judgement, check_dump};
@@ -54,10 +54,10 @@ pub fn check_file<S: Source, O: Sink>(
 
 // Writes the line of a verdict.
 fn tell<O: Sink>(out: &mut O, finding: Judgement) -> Status
-    ensures told { IsFindingTold result finding }
+    ensures told { IsJudgementTold result finding }
     ensures few { finding.clocks < 2 ^ 32 }
     ensures text { IsTrue O.tells →
-        IsFindingWritten result finding (O.holds out.old) (O.holds out.new) }
+        IsJudgementWritten result finding (O.holds out.old) (O.holds out.new) }
     ensures write_fault { result ≡ Status.WriteFault → Rose (O.faults out.old) (O.faults out.new) }
     ensures log_name { IsTrue O.tells → O.begun_as out.new ≡ O.begun_as out.old }
 {

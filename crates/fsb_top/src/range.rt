@@ -1,8 +1,8 @@
 //! The range of clocks that two words name.
-ghost use Rattle.std.specs.Prelude.{◌≡◌, ◌≤◌, ◌<◌, ◌^◌, IfSome, length, option_map};
-ghost use Rattle.fsb_trigger.specs.Grammar.{decimal_value, number_behind};
+ghost use Rattle.std.specs.Prelude.{◌≡◌, option_map};
 ghost use Rattle.fsb_top.specs.Range.{clock_below, clock_named, range_between, range_of, range_view};
 
+use fsb_trigger::decimal_digits;
 use fsb_wave::ClockRange;
 
 /// The range from the clock of one word to that of another, where there is one.
@@ -48,29 +48,5 @@ fn clock_below(number: u64) -> Option<u32>
         Some(number as u32)
     } else {
         None
-    }
-}
-
-// The number of so many decimal digits.
-fn decimal_digits(digits: &[u8]) -> Option<u64>
-    requires { length digits.now ≤ 10 }
-    ensures { result ≡ number_behind 10 decimal_value 0 digits.now }
-{
-    let mut number: u64 = 0;
-    for digit in digits {
-        number = number * 10 + u64::from(decimal_value(*digit)?);
-    }
-    Some(number)
-}
-
-// The value of a decimal digit.
-#[tactic(auto, unfolding(fsb_trigger::specs::Grammar::decimal_value))]
-fn decimal_value(digit: u8) -> Option<u8>
-    ensures value { result ≡ decimal_value digit }
-    ensures below { IfSome result (λ value. value < 10) }
-{
-    match digit {
-        b'0'..=b'9' => Some(digit - b'0'),
-        _ => None,
     }
 }

@@ -17,7 +17,7 @@ pub use Rattle.fsb_trace.proofs.StayEnds.{end_of-answered, end_of-moving, end_of
 -- How the numbers of a trace lie to one another.
 pub use Rattle.fsb_trace.proofs.Order.{live_clock_of-rises, snoop_clock-start, snoop_end_of-rises, snoop_start_of-after}
 -- What a verdict says, and that it rests on the samples up to its clock.
-pub use Rattle.fsb_trace.proofs.VerdictLaws.{is_foul-agree, verdict-least, verdict-none, verdict-stays}
+pub use Rattle.fsb_trace.proofs.VerdictLaws.{breaks_a_rule-agree, verdict-least, verdict-none, verdict-stays}
 -- Clocks as rows are laid out.
 pub use Rattle.fsb_trace.proofs.LaidOut.{clock, idle}
 -- Worked waveforms.

@@ -72,14 +72,18 @@ response_clock_of w i = nth_where (responds_at w) i (length w)
 unfoldable pub live_response_of : Trace → ℕ → Option ℕ
 live_response_of w i = if nat_lt i (live_count w) then response_clock_of w i else None
 
--- what a response with this code tells of live request i
-unfoldable pub told_by : Trace → ℕ → ℕ → Outcome
-told_by w i code =
+-- what a response with this code tells of a request, whose line an owner hands on, or does not
+abbrev pub told_with : Bool → Option Request → ℕ → Outcome
+told_with handed request code =
     if nat_eq code (response_code_of Failed) then Failed
-    else (if line_at_snoop_end HITM w i then Handed
+    else (if handed then Handed
     else (if nat_eq code (response_code_of Retried) then Retried
     else (if nat_eq code (response_code_of Deferred) then Deferred
-    else outcome_by_kind (live_request_of w i))))
+    else outcome_by_kind request)))
+
+-- what a response with this code tells of live request i
+unfoldable pub told_by : Trace → ℕ → ℕ → Outcome
+told_by w i code = told_with (line_at_snoop_end HITM w i) (live_request_of w i) code
 
 -- the told outcome of live request i, which is read at its response
 unfoldable pub outcome_of : Trace → ℕ → Option Outcome

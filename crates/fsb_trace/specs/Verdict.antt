@@ -15,10 +15,10 @@ unfoldable pub least_rule : Marks → Trace → ℕ → Option ℕ
 least_rule m w c = first_where (is_broken m w c) 21
 
 -- some rule is broken at c
-unfoldable pub is_foul : Marks → Trace → ℕ → Bool
-is_foul m w c = is_some (least_rule m w c)
+unfoldable pub breaks_a_rule : Marks → Trace → ℕ → Bool
+breaks_a_rule m w c = is_some (least_rule m w c)
 
 -- the least clock with a broken rule and, there, the least rule; none where the trace is accepted
 unfoldable pub verdict : Marks → Trace → Option (ℕ × ℕ)
 verdict m w =
-    option_and_then (λ c. option_map {U = ℕ × ℕ} (λ j. (c, j)) (least_rule m w c)) (first_where (is_foul m w) (length w))
+    option_and_then (λ c. option_map {U = ℕ × ℕ} (λ j. (c, j)) (least_rule m w c)) (first_where (breaks_a_rule m w) (length w))

@@ -2,7 +2,7 @@
 
 ghost use Rattle.std.specs.Prelude.{◌≡◌, ◌^◌, ◌<◌, length, IfSome};
 ghost use Rattle.fsb_trace.specs.Rules.{breaks};
-ghost use Rattle.fsb_trace.specs.Verdict.{is_broken, least_rule, is_foul, verdict};
+ghost use Rattle.fsb_trace.specs.Verdict.{is_broken, least_rule, breaks_a_rule, verdict};
 
 use crate::rules::{
     has_no_winner, has_unknown_data, has_unknown_line, is_address_parity_wrong, is_code_unlawful,
@@ -68,11 +68,11 @@ fn least_rule(marks: Marks, w: &[Sample], c: usize) -> Option<usize>
 }
 
 /// Whether some rule is broken at `c`.
-#[tactic(auto, unfolding(crate::specs::Verdict::is_foul))]
-fn is_foul(marks: Marks, w: &[Sample], c: usize) -> bool
+#[tactic(auto, unfolding(crate::specs::Verdict::breaks_a_rule))]
+fn breaks_a_rule(marks: Marks, w: &[Sample], c: usize) -> bool
     requires length { length w.now < 2 ^ 32 }
     requires clock { c < length w.now }
-    ensures { result ≡ is_foul marks w.now c }
+    ensures { result ≡ breaks_a_rule marks w.now c }
 {
     least_rule(marks, w, c).is_some()
 }
@@ -84,7 +84,7 @@ pub fn verdict(marks: Marks, w: &[Sample]) -> Option<(u32, u8)>
     requires { length w.now < 2 ^ 32 }
     ensures { result ≡ verdict marks w.now }
 {
-    match first_where(w.len(), |c| is_foul(marks, w, c)) {
+    match first_where(w.len(), |c| breaks_a_rule(marks, w, c)) {
         Some(c) => match least_rule(marks, w, c) {
             Some(j) => Some((c as u32, j as u8)),
             None => None,

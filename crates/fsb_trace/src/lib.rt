@@ -5,7 +5,7 @@
 //! calls here are their plain, slow form, for tests and for comparison with machines that look at each sample once.
 #![tactic(auto)]
 
-pub use at::known_pair;
+pub use at::{known_pair, request_at, responds_at, response_code_at};
 pub use judge::verdict;
 pub use laws::{
     numbers_stay, one_snoop_at_a_clock, requests_rise, rules_rest_on_the_past, snoop_ends_rise,
@@ -13,9 +13,10 @@ pub use laws::{
 };
 pub use numbers::{end_of, outcome_of, response, snoop_end};
 pub use outcome::{Outcome, code_of, moves};
-pub use request::requests;
+pub use request::{requests, seen_at};
 pub use seen::Seen;
-pub use snoop::is_every_second_from;
+pub use snoop::{ends_snoop, is_every_second_from};
+pub use told::{outcome_by_kind, told_with};
 pub use who::Who;
 pub use winner::{
     agent_in_order, bus_request_of, first_in_order, request_line_of, symmetric_after,

@@ -2,9 +2,11 @@
 
 ghost use Rattle.std.specs.Prelude.{◌≡◌, ◌^◌, ◌<◌, length, IfSome, IfOk};
 ghost use Rattle.fsb_trace.specs.Requests.{is_cancelled, seen_at, requests_of, is_live, live_count, live_clock_of, live_number_of, live_request_of, is_reply, is_write_back, is_upgrade, have_same_id};
+ghost use Rattle.fsb_trace.specs.Winner.{winner_at};
 
 use crate::at::request_at;
 use crate::seen::Seen;
+use crate::who::Who;
 use crate::winner::winner_at;
 use fsb_count::{count_where, nth_where};
 use fsb_encode::{Kind, Request};
@@ -21,15 +23,16 @@ pub fn is_cancelled(w: &[Sample], q: usize) -> bool
     line_at(Lines::AERR, w, q + 3)
 }
 
-/// The request that begins at `q`.
+/// The request that begins at `q`, where this is the winner.
 #[tactic(auto, unfolding(crate::specs::Requests::seen_at))]
-fn seen_at(w: &[Sample], q: usize) -> Seen
-    requires { q < 2 ^ 32 }
+pub fn seen_at(w: &[Sample], q: usize, who: Option<Who>) -> Seen
+    requires early { q < 2 ^ 32 }
+    requires winner { who ≡ winner_at w.now q }
     ensures { result ≡ seen_at w.now q }
 {
     Seen {
         clock: q as u32,
-        who: winner_at(w, q),
+        who,
         request: request_at(w, q),
         cancelled: is_cancelled(w, q),
     }
@@ -44,7 +47,7 @@ pub fn requests(alloc: Global, w: &[Sample]) -> Result<Vec<Seen>, Memory>
     let mut seen = Vec::new(alloc);
     for q in 0..w.len() {
         if line_at(Lines::ADS, w, q) {
-            seen.push(seen_at(w, q))?;
+            seen.push(seen_at(w, q, winner_at(w, q)))?;
         }
     }
     Ok(seen)

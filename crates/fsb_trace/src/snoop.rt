@@ -52,8 +52,9 @@ pub fn is_every_second_from(start: u64, c: u64) -> bool
     start <= c && (c - start) % 2 == 0
 }
 
+/// Whether a snoop that starts at `start` ends at `c`.
 #[tactic(auto, unfolding(crate::specs::Snoop::ends_snoop))]
-fn ends_snoop(w: &[Sample], start: usize, c: usize) -> bool
+pub fn ends_snoop(w: &[Sample], start: usize, c: usize) -> bool
     ensures { result ≡ ends_snoop w.now start c }
 {
     is_every_second_from(start as u64, c as u64) && !stalls_at(w, c)

@@ -1,7 +1,7 @@
 //! Responses, and the outcomes that they tell.
 
 ghost use Rattle.std.specs.Prelude.{◌≡◌, ◌^◌, ◌<◌, length, IfSome};
-ghost use Rattle.fsb_trace.specs.Outcome.{outcome_by_kind, response_clock_of, live_response_of, told_by, outcome_of, moves_data, is_deferred};
+ghost use Rattle.fsb_trace.specs.Outcome.{outcome_by_kind, response_clock_of, live_response_of, told_with, told_by, outcome_of, moves_data, is_deferred};
 
 use crate::at::{responds_at, response_code_at};
 use crate::outcome::{Outcome, code_of, is_deferral, moves};
@@ -13,7 +13,7 @@ use fsb_signal::{Lines, Sample};
 
 /// The outcome of a request that nothing hands on, retries, defers or fails.
 #[tactic(auto, unfolding(crate::specs::Outcome::outcome_by_kind))]
-fn outcome_by_kind(request: Option<Request>) -> Outcome
+pub fn outcome_by_kind(request: Option<Request>) -> Outcome
     ensures { result ≡ outcome_by_kind request }
 {
     match request {
@@ -24,6 +24,23 @@ fn outcome_by_kind(request: Option<Request>) -> Outcome
             Kind::Read | Kind::Invalidate => Outcome::Granted,
         },
         None => Outcome::Granted,
+    }
+}
+
+/// What a response with this code tells of the request, whose line an owner hands on, or does not.
+pub fn told_with(handed: bool, request: Option<Request>, code: u8) -> Outcome
+    ensures { result ≡ told_with handed request code }
+{
+    if code == code_of(Outcome::Failed) {
+        Outcome::Failed
+    } else if handed {
+        Outcome::Handed
+    } else if code == code_of(Outcome::Retried) {
+        Outcome::Retried
+    } else if code == code_of(Outcome::Deferred) {
+        Outcome::Deferred
+    } else {
+        outcome_by_kind(request)
     }
 }
 
@@ -56,17 +73,11 @@ fn told_by(w: &[Sample], i: usize, code: u8) -> Outcome
     requires { length w.now < 2 ^ 32 }
     ensures { result ≡ told_by w.now i code }
 {
-    if code == code_of(Outcome::Failed) {
-        Outcome::Failed
-    } else if line_at_snoop_end(Lines::HITM, w, i) {
-        Outcome::Handed
-    } else if code == code_of(Outcome::Retried) {
-        Outcome::Retried
-    } else if code == code_of(Outcome::Deferred) {
-        Outcome::Deferred
-    } else {
-        outcome_by_kind(live_request_of(w, i))
-    }
+    told_with(
+        line_at_snoop_end(Lines::HITM, w, i),
+        live_request_of(w, i),
+        code,
+    )
 }
 
 /// The told outcome of live request `i`.

@@ -6,5 +6,6 @@ pub mod Taken
 pub mod Asks
 pub mod Least
 pub mod Sixteen
+pub mod Decimals
 pub mod Cut
 pub mod Behind

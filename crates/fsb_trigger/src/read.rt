@@ -1,10 +1,11 @@
 //! A trigger, read from a word.
 
 ghost use Rattle.std.specs.Prelude.{◌≡◌, ◌<◌, ◌≤◌, IfSome, length, map, option_map};
-ghost use Rattle.fsb_trigger.specs.Grammar.{address_test, bound_of, bounded_step, behind_first, cut_of, decimal_value, hex_number, hex_value, next_of, number_behind, plain_test, request_test, short_number, step_read, steps_read, test_of, tests_of, trigger_of, word_test};
+ghost use Rattle.fsb_trigger.specs.Grammar.{address_test, bound_of, bounded_step, behind_first, cut_of, hex_number, hex_value, next_of, number_behind, plain_test, request_test, short_number, step_read, steps_read, test_of, tests_of, trigger_of, word_test};
 ghost use Rattle.fsb_trigger.specs.Hunt.{steps_in};
 ghost use Rattle.fsb_trigger.specs.TriggerSteps.{view_of};
 
+use crate::decimal::decimal_digits;
 use crate::test::Test;
 use crate::trigger::{Trigger, TriggerStep};
 use arrayvec::ArrayVec;
@@ -177,31 +178,15 @@ fn read_bound(text: &str) -> Option<u32>
 }
 
 // A number of 1 to 6 decimal digits.
-#[tactic(auto, unfolding(crate::specs::Grammar::short_number))]
+#[tactic(auto, using(crate::proofs::Decimals::short_room), unfolding(crate::specs::Grammar::short_number))]
 fn read_short(digits: &[u8]) -> Option<u32>
     ensures { result ≡ short_number digits.now }
 {
     if 1 <= digits.len() && digits.len() <= 6 {
-        decimal_digits(digits)
+        Some(decimal_digits(digits)? as u32)
     } else {
         None
     }
-}
-
-// The number of so many decimal digits.
-#[tactic(auto, unfolding(crate::specs::Grammar::decimal_value))]
-fn decimal_digits(digits: &[u8]) -> Option<u32>
-    requires { length digits.now ≤ 6 }
-    ensures { result ≡ number_behind 10 decimal_value 0 digits.now }
-{
-    let mut number: u32 = 0;
-    for digit in digits {
-        if *digit < b'0' || *digit > b'9' {
-            return None;
-        }
-        number = number * 10 + u32::from(*digit - b'0');
-    }
-    Some(number)
 }
 
 // A number of 1 to 16 hexadecimal digits of either case.

@@ -1,4 +1,4 @@
-use crate::{Found, Hunt, Test, Trigger};
+use crate::{Found, Hunt, Test, Trigger, decimal_digits};
 use fsb_runs::STORE_HANDED_OVER_BEFORE_ARRIVAL;
 use fsb_signal::{Lines, Sample, idle_sample};
 use std::process::Abort;
@@ -97,4 +97,14 @@ fn words_that_are_no_trigger(rt: HostRuntime) {
         assert_eq!(rt; Trigger::read(word).is_some(), true);
     }
     assert_eq!(rt; Test::Asserted(Lines::ADS).holds(&idle_sample()), false);
+}
+
+#[test]
+fn decimal_digits_make_a_number(rt: HostRuntime) {
+    assert_eq!(rt; decimal_digits(b"0042".as_slice()), Some(42));
+    assert_eq!(rt; decimal_digits(b"4a".as_slice()), None);
+    assert_eq!(rt;
+        decimal_digits(b"9999999999999999999".as_slice()),
+        Some(9_999_999_999_999_999_999)
+    );
 }

@@ -6,7 +6,7 @@ ghost use Rattle.std.specs.Process.{exit_status};
 ghost use Rattle.std.specs.String.{string_bytes};
 ghost use Rattle.fsb_top.specs.StatusText.{code_of};
 
-use fsb_io::{FileSink, FileSource, Memory, StdoutSink};
+use fsb_io::{FileSink, FileSource, StdoutSink};
 use fsb_probe::{DataProbe, LineProbe, Probe};
 use fsb_top::{Status, Words, bench, code, status_line};
 use std::alloc::Global;
@@ -34,21 +34,22 @@ fn run(rt: &(impl Files + Env + Print + AllocGlobal)) -> Status {
         Ok(words) => words,
         Err(status) => return status,
     };
-    let mut probes: Vec<Box<dyn Probe>> = Vec::new(rt.alloc());
-    if add_probes(rt.alloc(), &mut probes).is_err() {
+    let alloc = rt.alloc();
+    let mut probes: Vec<Box<dyn Probe>> = Vec::new(alloc);
+    let (Ok(ads), Ok(drdy), Ok(data)) = (
+        Box::new(alloc, LineProbe::new(ADS)),
+        Box::new(alloc, LineProbe::new(DRDY)),
+        Box::new(alloc, DataProbe::new()),
+    ) else {
+        return Status::OutOfMemory;
+    };
+    if probes.push(ads).is_err() || probes.push(drdy).is_err() || probes.push(data).is_err() {
         return Status::OutOfMemory;
     }
     let mut source = FileSource::new(rt);
     let mut out = StdoutSink::new(rt);
     let mut dump = FileSink::new(rt, words.word(FILE));
-    bench(rt.alloc(), &words, &mut source, &mut out, &mut dump, probes)
-}
-
-// Adds the probes of a table: of ADS#, of DRDY# and of the data.
-fn add_probes(alloc: Global, probes: &mut Vec<Box<dyn Probe>>) -> Result<(), Memory> {
-    probes.push(Box::new(alloc, LineProbe::new(ADS))?)?;
-    probes.push(Box::new(alloc, LineProbe::new(DRDY))?)?;
-    probes.push(Box::new(alloc, DataProbe::new())?)
+    bench(alloc, &words, &mut source, &mut out, &mut dump, probes)
 }
 
 // The words that the program was called with.

@@ -1,6 +1,6 @@
 //! What ties the reader of dumps to their writer: what is written of a trace reads back as that trace. The contracts are
 //! laws on the words of `fsb_signal` and `vcd_grammar` in which the contracts of the writer and of the reader are stated.
-//! No line of code here has a meaning that an edit could turn, so the crate has no must-fail edits.
+//! The must-fail edits turn definitions that the laws rest on.
 #![tactic(auto)]
 
 ghost use Rattle.std.specs.Prelude.{◌≡◌, ℕ, ◌<◌, ◌≤◌, ◌^◌, ◌⊎◌, List, IsTrue, All, length};

@@ -5,53 +5,44 @@ use Rattle.fsb_signal.specs.declared.marks.Marks.{Marks}
 use Rattle.fsb_trace.specs.At.{Trace}
 use Rattle.fsb_trace.specs.Verdict.{verdict}
 use Rattle.fsb_rules.specs.Checker.{Stands as CheckerStands}
-use Rattle.fsb_audit.specs.Audit.{Stands, is_full}
+use Rattle.fsb_audit.specs.Audit.{Stands}
 use Rattle.fsb_audit.proofs.Findings.{stands_full}
 use Rattle.fsb_audit.proofs.Feeds.{absorb_stands, broken_stands, count_below, err_anyway, follows_now, found_stands, no_verdict, told_of}
 use Rattle.fsb_audit.proofs.audit.Audit.feed.Goals.{then-is_none+in-Some, then-is_none+in-None+in_ok-absorb-in-None, else-is_none}
 use Rattle.fsb_audit.proofs.audit.Audit.feed.Goals as goal
 
 pub returns-then-self-clause-stands : goal.returns-then-self-clause-stands
-unfolding is_full
 returns-then-self-clause-stands c = λ m h s. stands_full m c.args.self.now (h ++ c.args.sample.now ∷ []) c.if-self.true
 
 pub returns-then-self-clause-full : goal.returns-then-self-clause-full
-unfolding is_full
 returns-then-self-clause-full c = c.if-self.true
 
 pub coming-coming-requires : goal.coming-coming-requires
-unfolding is_full
 coming-coming-requires c =
     (c.requires.0, c.requires.1, (follows_now c.requires.0 c.args.self.now c.requires.1 c.requires.2 c.if-self.false c.if-is_none.ensures).checker, c.requires.3)
 
 pub feed-requires : goal.feed-requires
-unfolding is_full
 feed-requires c =
     (c.requires.0, c.requires.1, (follows_now c.requires.0 c.args.self.now c.requires.1 c.requires.2 c.if-self.false c.if-is_none.ensures).checker, c.requires.3)
 
 pub overflow_cast-self : goal.overflow_cast-self
-unfolding is_full
 overflow_cast-self c =
     let clock = (follows_now c.requires.0 c.args.self.now c.requires.1 c.requires.2 c.if-self.false c.if-is_none.ensures).clock in
     let few = c.requires.3 in
     omega arith
 
 pub absorb-requires : goal.absorb-requires
-unfolding is_full
 absorb-requires c =
     count_below c.requires.0 c.args.self.now c.requires.1 (follows_now c.requires.0 c.args.self.now c.requires.1 c.requires.2 c.if-self.false c.if-is_none.ensures) c.requires.3
 
 pub returns-in_err-absorb-in-None-clause-stands : goal.returns-in_err-absorb-in-None-clause-stands
-unfolding is_full
 returns-in_err-absorb-in-None-clause-stands c = λ m h s.
     stands_full m c.absorb.new.self (h ++ c.args.sample.now ∷ []) c.in_err-absorb-in-None.ensures.full
 
 pub returns-in_err-absorb-in-None-clause-full : goal.returns-in_err-absorb-in-None-clause-full
-unfolding is_full
 returns-in_err-absorb-in-None-clause-full c = err_anyway c.from_residual.result c.in_err-absorb-in-None.ensures.full
 
 stands : (c : goal.After-result-1) (m : Marks) (h : Trace) → Stands c.args.self.now m h → Stands c.if-is_none.self m (h ++ c.args.sample.now ∷ [])
-unfolding is_full
 stands c m h s =
     elim c.if-is_none.branch [
       | then-is_none+in-Some w ↦
@@ -90,16 +81,13 @@ room c =
     ]
 
 pub returns-clause-found : goal.returns-clause-found
-unfolding is_full
 returns-clause-found c = λ m h s. (stands c m h s).found (room c)
 
 pub returns-clause-stands : goal.returns-clause-stands
 returns-clause-stands c = stands c
 
 pub returns-clause-memory : goal.returns-clause-memory
-unfolding is_full
 returns-clause-memory c = λ full. absurd (both_ways c.args.self.now.is_full c.if-self.false full)
 
 pub returns-clause-room : goal.returns-clause-room
-unfolding is_full
 returns-clause-room c = room c

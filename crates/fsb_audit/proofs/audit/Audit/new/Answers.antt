@@ -1,6 +1,5 @@
 use Rattle.std.proofs.Common.{refl}
 use Rattle.std.proofs.lemmas.List.{length-replicate}
-use Rattle.fsb_audit.specs.Audit.{is_full}
 use Rattle.fsb_audit.proofs.Starts.{new_stands}
 use Rattle.fsb_audit.proofs.audit.Audit.new.Goals as goal
 
@@ -17,5 +16,4 @@ returns-clause-stands c = new_stands _ c.args.marks (record {
 })
 
 pub returns-clause-room : goal.returns-clause-room
-unfolding is_full
 returns-clause-room c = refl
