@@ -9,7 +9,8 @@ use Rattle.fsb_linebuf.specs.declared.entry.Fill.{Fill}
 use Rattle.fsb_linebuf.specs.declared.entry.Push.{Push}
 use Rattle.fsb_linebuf.specs.Buffers.{fill_on, fills_without, is_fill_on, is_push_for, promise_on, promised_to, push_for, pushed_to, pushes_without}
 use Rattle.fsb_agent_view.specs.Sound.{are_fills_apart}
-use Rattle.fsb_agent_view.proofs.Interface.{both_left, both_right, fill_on-without, none_promised, promised_count, promised_count-cons, without_first-cons}
+use Rattle.fsb_agent_view.proofs.Interface.{both_left, both_right, without_first-cons}
+use Rattle.fsb_agent_run.proofs.FillsTold.{fill_on-without, none_promised, promised_count, promised_count-cons}
 
 -- how many pushes are for the request
 abbrev pub push_count : ℕ → List Push → ℕ
@@ -46,7 +47,7 @@ push_count-without q number (push ∷ pushes) =
           without_first-cons (is_push_for number) push pushes
           ∙ ap (λ b. cond b pushes (push ∷ pushes_without number pushes)) on in
           let found : push_for number (push ∷ pushes) ≡ Some push = rw on refl in
-          let here : cond (is_some (push_for number (push ∷ pushes)) && (number == q)) 1 0 ≡ cond (push.number == q) 1 0 =
+          let here : ◌≡◌ {A = ℕ} (cond (is_some (push_for number (push ∷ pushes)) && (number == q)) 1 0) (cond (push.number == q) 1 0) =
           rw (found, is) refl in
           omega (arith, ap (push_count q) rest, push_count-cons q push pushes, here)
       | inr off ↦
@@ -86,8 +87,8 @@ pub promise_on-promised : (line to : ℕ) (fills : List Fill) → is_some (fill_
 promise_on-promised line to [] some = absurd (let no : ⊥ = cc in no)
 promise_on-promised line to (f ∷ fills) some =
     elim (cases_Bool (f.line == line)) [
-      | inl on ↦ rw on refl
-      | inr off ↦ rw off (promise_on-promised line to fills (rw off at some))
+      | inl on ↦ rw (on, on) refl
+      | inr off ↦ rw (off, off) (promise_on-promised line to fills (rw off at some))
     ]
 
 -- those of other lines stay
@@ -100,13 +101,13 @@ promise_on-other line other to (f ∷ fills) apart =
           let is : f.line ≡ other = eqb-true f.line other on in
           let not_here : (f.line == line) ≡ false = ne_eqb f.line line (λ e. apart (sym e ∙ is)) in
           rw (on, not_here) (promise_on-other line other to fills apart)
-      | inr off ↦ rw off (kept (f.line == line) refl)
+      | inr off ↦ rw off (kept (f.line == line) refl (promise_on-other line other to fills apart))
     ]
   where
-    kept : (b : Bool) → (f.line == line) ≡ b
+    kept : (b : Bool) → (f.line == line) ≡ b → promise_on line (promised_to other to fills) ≡ promise_on line fills
         → promise_on line (f ∷ promised_to other to fills) ≡ promise_on line (f ∷ fills)
-    kept true e = rw e refl
-    kept false e = rw e (promise_on-other line other to fills apart)
+    kept true e rest = rw e refl
+    kept false e rest = rw e rest
 
 pub promise_on-without : (line other : ℕ) (fills : List Fill) → line ≢ other
     → promise_on line (fills_without other fills) ≡ promise_on line fills
@@ -134,7 +135,7 @@ fill_on-gone line (f ∷ fills) apart =
       | inl on ↦
           let is : f.line ≡ line = eqb-true f.line line on in
           rw on (none-from line fills (rw is at first))
-      | inr off ↦ rw off (fill_on-gone line fills others)
+      | inr off ↦ rw (off, off) (fill_on-gone line fills others)
     ])
 
 -- one more is promised

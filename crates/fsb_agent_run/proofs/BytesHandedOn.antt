@@ -20,9 +20,10 @@ use Rattle.fsb_tied.proofs.Interface.{answers-in-order}
 use Rattle.fsb_agent_view.specs.AgentViews.{AgentView}
 use Rattle.fsb_agent_view.specs.Arriving.{hand_by, handed_on}
 use Rattle.fsb_agent_view.specs.Snooping.{owed_count}
-use Rattle.fsb_agent_view.proofs.Interface.{length-without-found, promised_count}
+use Rattle.fsb_agent_view.proofs.Interface.{length-without-found}
 use Rattle.fsb_agent_run.specs.BytesOwed.{HasOwedOf, claim_given_at, is_given_below, is_promised, is_pushed, owes_from}
 use Rattle.fsb_agent_run.proofs.BufferCounts.{push-there, push_count, push_count-without}
+use Rattle.fsb_agent_run.proofs.FillsTold.{promised_count}
 use Rattle.fsb_agent_run.proofs.GivenBytes.{given}
 use Rattle.fsb_agent_run.proofs.PromisesTold.{responded-unpromised}
 
@@ -98,6 +99,19 @@ count-less f g (suc n) t l on off same =
           rw here (omega (arith, below))
     ]
 
+-- by what an agent owes from a snoop end
+owes-from : (p : Past) (a t : ℕ) (claim : Claim) (n : ℕ) → claim_given_at p a t ≡ Some claim
+    → owes_from p a n t ≡ not (is_responded_below p n claim.first)
+unfolding owes_from is_some_and
+owes-from p a t claim n there = rw there refl
+
+owes-kept : (p : Past) (a c u : ℕ) (o : Option Claim) → claim_given_at p a u ≡ o
+    → ((claim : Claim) → claim_given_at p a u ≡ Some claim → is_at (responded_in p c) claim.first ≡ false)
+    → owes_from p a (c + 1) u ≡ owes_from p a c u
+unfolding owes_from is_some_and
+owes-kept p a c u None there off = rw there refl
+owes-kept p a c u (Some claim) there off = rw there (ap not (unresponded-now p c claim.first (off claim there)))
+
 -- the given request that begins at q, by its snoop end
 owes-less : (r : Run) (a c q : ℕ) → Timely r → KeepsBounds r.plan → c < length r.trace
     → responded_in (past_of r) c ≡ Some q → is_given_below (past_of r) a c q ≡ true
@@ -112,30 +126,13 @@ owes-less r a c q h bounds l e gives =
     let first : x.0.first ≡ q = eqb-true x.0.first q x.2 in
     let k = given r a t.0 x.0 h bounds (omega arith) x.1 in
     count-less (owes_from p a c) (owes_from p a (c + 1)) c t.0 low
-    (owes p t.0 x.0 c x.1 (ap (is_responded_below p c) first ∙ first-response r c q h l e))
-    (gone p t.0 x.0 (c + 1) x.1 (ap (is_responded_below p (c + 1)) first ∙ responded-now p c q e))
-    (λ u below apart. same p u (claim_given_at p a u) refl (λ other there.
+    (owes-from p a t.0 x.0 c x.1 ∙ ap not (ap (is_responded_below p c) first ∙ first-response r c q h l e))
+    (owes-from p a t.0 x.0 (c + 1) x.1 ∙ ap not (ap (is_responded_below p (c + 1)) first ∙ responded-now p c q e))
+    (λ u below apart. owes-kept p a c u (claim_given_at p a u) refl (λ other there.
     let j = given r a u other h bounds (omega arith) there in
     others-unresponded p c q other.first e (λ is.
     let ends : j.at.end.first ≡ k.at.end.first = sym j.first ∙ is ∙ sym first ∙ k.first in
     apart (order.one_snoop u t.0 j.at.end k.at.end j.at.there k.at.there ends))))
-  where
-    owes : (p : Past) (t : ℕ) (claim : Claim) (n : ℕ) → claim_given_at p a t ≡ Some claim
-        → is_responded_below p n claim.first ≡ false → owes_from p a n t ≡ true
-    unfolding owes_from is_some_and
-    owes p t claim n there off = rw (there, off) refl
-
-    gone : (p : Past) (t : ℕ) (claim : Claim) (n : ℕ) → claim_given_at p a t ≡ Some claim
-        → is_responded_below p n claim.first ≡ true → owes_from p a n t ≡ false
-    unfolding owes_from is_some_and
-    gone p t claim n there on = rw (there, on) refl
-
-    same : (p : Past) (u : ℕ) (o : Option Claim) → claim_given_at p a u ≡ o
-        → ((claim : Claim) → claim_given_at p a u ≡ Some claim → is_at (responded_in p c) claim.first ≡ false)
-        → owes_from p a (c + 1) u ≡ owes_from p a c u
-    unfolding owes_from is_some_and
-    same p u None there off = rw there refl
-    same p u (Some claim) there off = rw there (ap not (unresponded-now p c claim.first (off claim there)))
 
 is_some-map : (o : Option Push) → is_some (option_map (λ (push : Push). push.bytes) o) ≡ is_some o
 is_some-map None = refl
@@ -171,7 +168,7 @@ handed-owed r a c q v h bounds l e gives k = record {
     at-same other same =
         let one : push_count other v.buffers.pushes ≡ 1 = ap (λ x. push_count x v.buffers.pushes) same ∙ one-push r a c q v h bounds l e gives k in
         let less = push_count-without other q v.buffers.pushes in
-        let here : cond (is_some (push_for q v.buffers.pushes) && (q == other)) 1 0 ≡ 1 = rw (there, eq-eqb q other (sym same)) refl in
+        let here : ◌≡◌ {A = ℕ} (cond (is_some (push_for q v.buffers.pushes) && (q == other)) 1 0) 1 = rw (there, eq-eqb q other (sym same)) refl in
         let none : push_count other (pushes_without q v.buffers.pushes) ≡ 0 = omega (arith, less, here, one) in
         none ∙ sym (ap (λ b. if b then 1 else 0) (ap (is_pushed (past_of r) a c (c + 1) c) same ∙ pushed-after (past_of r) a c c q e))
 
@@ -179,7 +176,7 @@ handed-owed r a c q v h bounds l e gives k = record {
         → push_count other (pushes_without q v.buffers.pushes) ≡ (if is_pushed (past_of r) a c (c + 1) c other then 1 else 0)
     at-other other apart =
         let less = push_count-without other q v.buffers.pushes in
-        let here : cond (is_some (push_for q v.buffers.pushes) && (q == other)) 1 0 ≡ 0 =
+        let here : ◌≡◌ {A = ℕ} (cond (is_some (push_for q v.buffers.pushes) && (q == other)) 1 0) 0 =
         rw (there, ne_eqb q other (λ is. apart (sym is))) refl in
         let same : push_count other (pushes_without q v.buffers.pushes) ≡ push_count other v.buffers.pushes = omega (arith, less, here) in
         same ∙ k.pushes other
@@ -196,14 +193,22 @@ handed-owed r a c q v h bounds l e gives k = record {
         ≡ count_where (owes_from (past_of r) a (c + 1)) c = omega (arith, less, before, after) in
         sum
 
+gives-from : (p : Past) (a c t : ℕ) (claim : Claim) → t < c → claim_given_at p a t ≡ Some claim
+    → is_given_below p a c claim.first ≡ true
+unfolding is_given_below is_some_and
+gives-from p a c t claim low there =
+    any_where-at (λ u. is_some_and (claim_given_at p a u) (λ x. nat_eq x.first claim.first)) c t low
+    (rw there (eq-eqb claim.first claim.first refl))
+
 -- what is owed stays where the agent gives nothing for the request that responds
 pub kept-at-response : (p : Past) (a c : ℕ) (v : AgentView)
     → ((q : ℕ) → responded_in p c ≡ Some q → is_given_below p a c q ≡ false)
     → HasOwedOf p a c c c v → HasOwedOf p a c (c + 1) c v
+unfolding is_pushed
 kept-at-response p a c v none k = record {
   pushes = λ q. k.pushes q ∙ sym (ap (λ b. if b then 1 else 0) (same-pushed q (is_given_below p a c q) refl));
   promises = k.promises;
-  count = k.count ∙ sym (count_where-same (owes_from p a (c + 1)) (owes_from p a c) c (record { same = λ t low. same-owes t low (claim_given_at p a t) refl }));
+  count = k.count ∙ sym (count_where-same (owes_from p a (c + 1)) (owes_from p a c) c (record { same = λ t low. same-owes t low }));
 }
   where
     not-now : (q : ℕ) → is_given_below p a c q ≡ true → is_at (responded_in p c) q ≡ false
@@ -211,14 +216,9 @@ kept-at-response p a c v none k = record {
         both_ways (is_given_below p a c q) (none q (is_at-some (responded_in p c) q t)) gives)
 
     same-pushed : (q : ℕ) (b : Bool) → is_given_below p a c q ≡ b → is_pushed p a c (c + 1) c q ≡ is_pushed p a c c c q
-    unfolding is_pushed
     same-pushed q true gives = pushed-kept p a c c q (not-now q gives)
     same-pushed q false gives = rw gives refl
 
-    same-owes : (t : ℕ) → t < c → (o : Option Claim) → claim_given_at p a t ≡ o → owes_from p a (c + 1) t ≡ owes_from p a c t
-    unfolding owes_from is_some_and is_given_below
-    same-owes t low None there = rw there refl
-    same-owes t low (Some claim) there =
-        let gives : is_given_below p a c claim.first ≡ true =
-        any_where-at (λ u. is_some_and (claim_given_at p a u) (λ x. nat_eq x.first claim.first)) c t low (rw there (eq-eqb claim.first claim.first refl)) in
-        rw there (ap not (unresponded-now p c claim.first (not-now claim.first gives)))
+    same-owes : (t : ℕ) → t < c → owes_from p a (c + 1) t ≡ owes_from p a c t
+    same-owes t low =
+        owes-kept p a c t (claim_given_at p a t) refl (λ claim there. not-now claim.first (gives-from p a c t claim low there))

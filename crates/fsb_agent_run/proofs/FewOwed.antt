@@ -114,7 +114,7 @@ open-from r n t e =
     record {
       end = s.0;
       there = s.1;
-      first = rw s.1 refl;
+      first = ap (λ o. option_map_or (λ (x : SnoopEnd). x.first) o 0) s.1;
       unresponded = not-true (is_responded_below (past_of r) n s.0.first) s.2;
       number = tied.0;
       reached = tied.1.reached;
@@ -171,6 +171,20 @@ count-into f g to (suc n) m into rises =
           rw off (omega (arith, below))
     ]
 
+flying : (v : Trace) (q : ℕ) → length (in_flight v q) ≡ count_where (is_in_flight v q) q
+unfolding in_flight
+flying v q = length-all_where (is_in_flight v q) q
+
+responded-less : (p : Past) (k n q : ℕ) → k ≤ n → is_responded_below p n q ≡ false → is_responded_below p k q ≡ false
+unfolding is_responded_below
+responded-less p k n q l none = any_where-off (λ t. is_at (responded_in p t) q) k (λ t low.
+    any_where-none (λ t. is_at (responded_in p t) q) n none t (omega arith))
+
+open-there : (p : Past) (n t : ℕ) (s : SnoopEnd) → snooped_at p t ≡ Some s → is_responded_below p n s.first ≡ false
+    → is_open_from p n t ≡ true
+unfolding is_open_from is_some_and
+open-there p n t s there none = rw (there, none) refl
+
 -- so at most eight snoop ends are those of requests whose responses are still to come
 few-open : (r : Run) (n m : ℕ) → Timely r → m ≤ n + 1 → m ≤ length r.trace
     → count_where (is_open_from (past_of r) n) m ≤ 8
@@ -200,15 +214,6 @@ few-open r n (suc m) h l k =
           rw on (omega (arith, many, size, room))
       | inr off ↦ rw off (omega (arith, few-open r n m h (omega arith) (omega arith)))
     ]
-  where
-    flying : (v : Trace) (q : ℕ) → length (in_flight v q) ≡ count_where (is_in_flight v q) q
-    unfolding in_flight
-    flying v q = length-all_where (is_in_flight v q) q
-
-    responded-less : (p : Past) (k n q : ℕ) → k ≤ n → is_responded_below p n q ≡ false → is_responded_below p k q ≡ false
-    unfolding is_responded_below
-    responded-less p k n q l none = any_where-off (λ t. is_at (responded_in p t) q) k (λ t low.
-        any_where-none (λ t. is_at (responded_in p t) q) n none t (omega arith))
 
 -- fewer clocks pass a test that passes less
 count-fewer : (f g : ℕ → Bool) (n : ℕ) → ((t : ℕ) → t < n → f t ≡ true → g t ≡ true) → count_where f n ≤ count_where g n
@@ -224,16 +229,12 @@ count-fewer f g (suc n) less =
 -- what an agent owes has its snoop end, and no response yet
 owes-open : (r : Run) (a n m t : ℕ) → Timely r → KeepsBounds r.plan → m ≤ length r.trace → t < m
     → owes_from (past_of r) a n t ≡ true → is_open_from (past_of r) n t ≡ true
-unfolding owes_from is_open_from
+unfolding owes_from
 owes-open r a n m t h bounds l low e =
     let c = some-and (claim_given_at (past_of r) a t) (λ (claim : Claim). not (is_responded_below (past_of r) n claim.first)) e in
     let k = given r a t c.0 h bounds (omega arith) c.1 in
-    there k.at.end k.at.there (ap (λ q. not (is_responded_below (past_of r) n q)) (sym k.first) ∙ c.2)
-  where
-    there : (s : SnoopEnd) → snooped_at (past_of r) t ≡ Some s → not (is_responded_below (past_of r) n s.first) ≡ true
-        → is_some_and (snooped_at (past_of r) t) (λ s. not (is_responded_below (past_of r) n s.first)) ≡ true
-    unfolding is_some_and
-    there s e f = rw e f
+    open-there (past_of r) n t k.at.end k.at.there
+    (ap (is_responded_below (past_of r) n) (sym k.first) ∙ not-true (is_responded_below (past_of r) n c.0.first) c.2)
 
 pub most-owed : (r : Run) (a n : ℕ) → Timely r → KeepsBounds r.plan → n ≤ length r.trace
     → count_where (owes_from (past_of r) a n) n ≤ 8
@@ -247,12 +248,12 @@ pub owed-before : (r : Run) (a c : ℕ) (s : SnoopEnd) → Timely r → KeepsBou
     → snooped_at (past_of r) c ≡ Some s → count_where (owes_from (past_of r) a (c + 1)) c < 8
 owed-before r a c s h bounds l there =
     let few = few-open r (c + 1) (c + 1) h (omega arith) (omega arith) in
-    let here : is_open_from (past_of r) (c + 1) c ≡ true = opens (unresponded r c (c + 1) s h (omega arith) (omega arith) there) in
+    let here : is_open_from (past_of r) (c + 1) c ≡ true = open-there (past_of r) (c + 1) c s there (unresponded r c (c + 1) s h (omega arith) (omega arith) there) in
     let one = count_where-passed (is_open_from (past_of r) (c + 1)) c here in
     let less = count-fewer (owes_from (past_of r) a (c + 1)) (is_open_from (past_of r) (c + 1)) c
     (λ t low e. owes-open r a (c + 1) c t h bounds (omega arith) low e) in
     omega (arith, few, one, less)
-  where
-    opens : is_responded_below (past_of r) (c + 1) s.first ≡ false → is_open_from (past_of r) (c + 1) c ≡ true
-    unfolding is_open_from is_some_and
-    opens none = rw (there, none) refl
+
+-- the clock of a run that reaches the next one
+pub within : (r : Run) (c : ℕ) → c + 1 ≤ length r.trace → c < length r.trace
+within r c l = omega arith

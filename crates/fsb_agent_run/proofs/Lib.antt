@@ -9,3 +9,17 @@ pub mod FirstViews
 pub mod LastEntries
 pub mod PlaceSteps
 pub mod BegunWants
+pub mod FillsTold
+pub mod BufferCounts
+pub mod GivenBytes
+pub mod PromisesTold
+pub mod PromiseSteps
+pub mod BytesHandedOn
+pub mod OwnLines
+pub mod OwedSnoops
+pub mod OwedSnoopEnds
+pub mod OwedEnds
+pub mod FewOwed
+pub mod OwnEnds
+pub mod HandSteps
+pub mod SlotStates

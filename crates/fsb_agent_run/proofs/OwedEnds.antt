@@ -2,7 +2,8 @@
 use Rattle.std.proofs.Common.{ℕ, ◌+◌, ◌<◌, ◌≤◌, ◌≡◌, ◌≢◌, Bool, true, false, cond, not, ◌&&◌, ◌||◌, if◌then◌else◌, List, [], ◌∷◌, ◌++◌, Option, Some, None, length, length-append, nat_eq, refl, sym, ap, subst, ◌∙◌, inl, inr, arith}
 use Rattle.std.specs.Prelude.{◌==◌, is_some}
 use Rattle.std.proofs.lemmas.Bool.{both_ways, cases_Bool, cases_eq, eq-eqb, false_from_ne_true, ne_eqb, not-true}
-use Rattle.fsb_count.specs.Clocks.{count_where}
+use Rattle.std.specs.Option.{option_and_then}
+use Rattle.fsb_count.specs.Clocks.{count_where, last_where}
 use Rattle.fsb_count.specs.Options.{is_at, is_some_and}
 use Rattle.fsb_count.proofs.Interface.{any_where-at, any_where-off, is_at-some}
 use Rattle.fsb_cache.specs.Sets.{copies}
@@ -21,11 +22,11 @@ use Rattle.fsb_agent_view.specs.Arriving.{arrived_for, buffers_landed, ended_for
 use Rattle.fsb_agent_view.specs.OwnRequests.{request_numbered}
 use Rattle.fsb_agent_view.specs.Snooping.{owed_count}
 use Rattle.fsb_agent_view.specs.Sound.{IsSound, are_fills_apart}
-use Rattle.fsb_agent_view.proofs.Interface.{fill_on-without, promised_count, promised_count-without}
 use Rattle.fsb_agent_run.specs.AwaitedFills.{HasFillsOf}
-use Rattle.fsb_agent_run.specs.BytesOwed.{HasOwedOf, claim_given_at, given_since, is_given_below, is_promised, is_pushed, owes_from, promise_told}
+use Rattle.fsb_agent_run.specs.BytesOwed.{HasOwedOf, claim_given_at, given_since, gives_line_at, is_given_below, is_promised, is_pushed, owes_from, promise_told}
 use Rattle.fsb_agent_run.specs.RunViews.{is_awaited}
 use Rattle.fsb_agent_run.proofs.BufferCounts.{fill_on-gone, promise_on-without, push_count, push_count-pushed}
+use Rattle.fsb_agent_run.proofs.FillsTold.{fill_on-without, promised_count, promised_count-without}
 use Rattle.fsb_agent_run.proofs.GivenBytes.{given}
 use Rattle.fsb_agent_run.proofs.OwedSnoops.{SameOwed, owed-on, same-debts}
 use Rattle.fsb_agent_run.proofs.PromiseSteps.{promised-same, unawaited-unpromised}
@@ -35,7 +36,8 @@ use Rattle.fsb_agent_run.proofs.PromisesTold.{promised-at, promised-unresponded}
 told-same : (p : Past) (a line n c d : ℕ) → is_awaited p a line n d ≡ is_awaited p a line n c
     → promise_told p a line n d ≡ promise_told p a line n c
 unfolding promise_told
-told-same p a line n c d same = λ i. if same i then _ else None
+told-same p a line n c d same =
+    λ i. if same i then option_and_then (given_since p a line n) (last_where (gives_line_at p a line) n) else None
 
 -- where no line comes, nothing that is owed changes
 pub ends-kept : (p : Past) (a n r c d : ℕ) (v w : AgentView) → w.buffers ≡ v.buffers → HasFillsOf p a n c v
@@ -94,12 +96,11 @@ told-kept r a c line bytes v w k other apart =
 promised-kept : (r : Run) (a c line : ℕ) (bytes : List ℕ) (v w : AgentView) → Lands r a c line bytes v w → (q : ℕ)
     → is_at (promise_told (past_of r) a line (c + 1) c) q ≡ false
     → is_promised (past_of r) a (c + 1) (c + 1) q ≡ is_promised (past_of r) a (c + 1) c q
-unfolding is_promised
+unfolding is_promised is_some_and is_at
 promised-kept r a c line bytes v w k q free = by (begun_at (past_of r) q)
   where
     by : (o : Option Claim) → is_some_and o (λ claim. is_at (promise_told (past_of r) a claim.line (c + 1) (c + 1)) q)
         ≡ is_some_and o (λ claim. is_at (promise_told (past_of r) a claim.line (c + 1) c) q)
-    unfolding is_some_and is_at
     by None = refl
     by (Some x) =
         elim (cases_eq x.line line) [

@@ -26,20 +26,20 @@ use Rattle.fsb_lawful.proofs.Interface.{some-and}
 use Rattle.fsb_coherent.specs.Awaits.{owner_at}
 use Rattle.fsb_coherent.specs.Fitting.{IsSnoopOn, fits_getting, fits_kind, fits_upgrade, fits_write_back, is_granted_by}
 use Rattle.fsb_coherent.specs.Relation.{giver_at}
-use Rattle.fsb_tied.proofs.Interface.{clock-facts, one-dirty, uncontested, writes-back-alone}
+use Rattle.fsb_tied.proofs.Interface.{clock-facts, uncontested, writes-back-alone}
 use Rattle.fsb_agent_view.specs.declared.want.OwnRequest.{OwnRequest}
 use Rattle.fsb_agent_view.specs.AgentViews.{AgentView, has_come, line_state_by}
 use Rattle.fsb_agent_view.specs.OwnRequests.{request_numbered}
 use Rattle.fsb_agent_view.specs.Snooping.{buffers_giving, committed, granted_by, is_giver, is_handed, kind_asks, other_settled, own_settled, upgraded_by, with_fill}
 use Rattle.fsb_agent_view.specs.Sound.{IsSound}
-use Rattle.fsb_agent_view.proofs.Interface.{unpromised}
 use Rattle.fsb_agent_run.specs.AwaitedFills.{HasFillsOf}
 use Rattle.fsb_agent_run.specs.BytesOwed.{HasOwedOf, claim_given_at, gives_claim}
 use Rattle.fsb_agent_run.specs.OwnEvents.{IsOtherSnoopEnd, IsOwnSnoopEnd, is_settled_for}
 use Rattle.fsb_agent_run.specs.RunViews.{is_awaited}
+use Rattle.fsb_agent_run.proofs.FillsTold.{unpromised}
 use Rattle.fsb_agent_run.proofs.GivenBytes.{claim-given, gives-by, none-claimed, none-snooped, same-first}
 use Rattle.fsb_agent_run.proofs.OwedSnoops.{SameDebts, filled-debts, gives-now, owed-on, promised-owed, pushed-owed, quiet-owed, same-debts}
-use Rattle.fsb_agent_run.proofs.OwnLines.{machine_at, settled-unawaited, tied-at}
+use Rattle.fsb_agent_run.proofs.OwnLines.{one-dirty, settled-unawaited}
 
 -- whose claim an own snoop end has
 pub own-claim : (a line : ℕ) (s : SnoopEnd) (claim : Claim) → s.claim ≡ Some claim → is_settled_for a line s ≡ true
@@ -170,7 +170,7 @@ owner-found r a b line c h bounds l few other on =
     and_from (not (nat_eq a b)) (is_dirty (past_to p c) a line c) (ap not (ne_eqb a b other)) (dirty-at r line c h bounds l a ∙ on) in
     let alone : (x : ℕ) → x < a → test x ≡ false = λ x below. false_from_ne_true (test x) (λ t.
     let dirty = sym (dirty-at r line c h bounds l x) ∙ (and_parts (not (nat_eq x b)) (is_dirty (past_to p c) x line c) t).1 in
-    let is : x ≡ a = one-dirty p line c x a (machine_at r line c) (tied-at r line c h bounds (omega arith)) dirty on in
+    let is : x ≡ a = one-dirty r x a line c h bounds (omega arith) dirty on in
     omega arith) in
     is_at-from (first_where test 4) a (first_where-at test 4 a few mine alone)
 
@@ -228,7 +228,6 @@ giver-same r a c number s claim v request h bounds l few k e dirty =
     elim (handed-or-not s.outcome) [ inl handed ↦ when-handed handed | inr off ↦ otherwise off ]
   where
     when-handed : s.outcome ≡ Handed → is_giver v request s.outcome ≡ is_at (giver_at (past_of r) claim.line c claim.agent s) a
-    unfolding giver_at
     when-handed handed =
         let p : Past = past_of r in
         let fits = ((clock-facts r claim.line c h bounds l).settles.settled s claim k.there e refl).fits in
@@ -269,7 +268,7 @@ other-owed-after r a c number s v request shared h bounds l few k sound dirty fi
     quiet none off =
         owed-on (past_of r) a c (c + 1) c (c + 1) (c + 1) c v (other_settled v number request s.outcome)
         (quiet-owed r a c h bounds l none)
-        (same-debts v.buffers (other_settled v number request s.outcome).buffers (rw off refl)) owed
+        (same-debts v.buffers (other_settled v number request s.outcome).buffers (rw (off, other_settled) refl)) owed
 
     gives : (claim : Claim) → s.claim ≡ Some claim → claim_given_at (past_of r) a c ≡ Some claim
         → is_giver v request s.outcome ≡ true
@@ -277,7 +276,7 @@ other-owed-after r a c number s v request shared h bounds l few k sound dirty fi
     gives claim e given on =
         let line : request.line ≡ claim.line = k.line claim e in
         let fits = ((clock-facts r claim.line c h bounds l).settles.settled s claim k.there e refl).fits in
-        let first : number ≡ claim.first = k.number claim e ∙ sym (same-first (past_of r) claim.line c s claim e fits).0 in
+        let first : number ≡ claim.first = k.first claim e ∙ sym (same-first (past_of r) claim.line c s claim e fits).0 in
         let now = gives-now r a c claim h bounds l given in
         let modified : is_modified (line_state_by v request.line) ≡ true = (and_parts (is_modified (line_state_by v request.line)) _ (and-first _ _ _ on)).0 in
         elim (cases_Bool (is_awaited (past_of r) a claim.line c c)) [
@@ -285,7 +284,7 @@ other-owed-after r a c number s v request shared h bounds l few k sound dirty fi
               let come : has_come v request.line ≡ true =
               come-from (fill_on request.line v.buffers.fills) (fills.fills request.line ∙ ap (λ x. is_awaited (past_of r) a x c c) line ∙ here) in
               pushed-owed r a c claim (copies v.lines request.line) v (other_settled v number request s.outcome) now here
-              (rw (on, come, buffers_giving)
+              (rw (on, other_settled, come, buffers_giving)
               (ap (λ n. record v.buffers { pushes = v.buffers.pushes ++ record { number = n; bytes = copies v.lines request.line } ∷ [] }) first))
               owed
           | inl awaited ↦
@@ -295,7 +294,7 @@ other-owed-after r a c number s v request shared h bounds l few k sound dirty fi
               let free : promise_on claim.line v.buffers.fills ≡ None =
               unpromised v claim.line sound (ap (λ x. is_modified (line_state_by v x)) (sym line) ∙ modified) in
               promised-owed r a c claim v (other_settled v number request s.outcome) now awaited some free sound.one_a_line
-              (rw (on, coming, buffers_giving) (λ i. record v.buffers { fills = promised_to (line i) (first i) v.buffers.fills }))
+              (rw (on, other_settled, coming, buffers_giving) (λ i. record v.buffers { fills = promised_to (line i) (first i) v.buffers.fills }))
               owed
         ]
       where

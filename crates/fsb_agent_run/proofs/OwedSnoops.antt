@@ -15,11 +15,11 @@ use Rattle.fsb_coherent.specs.Relation.{is_responded_below}
 use Rattle.fsb_agent_view.specs.AgentViews.{AgentView}
 use Rattle.fsb_agent_view.specs.Snooping.{owed_count, with_fill, with_push}
 use Rattle.fsb_agent_view.specs.Sound.{are_fills_apart}
-use Rattle.fsb_agent_view.proofs.Interface.{promised_count, promised_count-push}
 use Rattle.fsb_agent_run.specs.AwaitedFills.{HasFillsOf}
 use Rattle.fsb_agent_run.specs.BytesOwed.{HasOwedOf, claim_given_at, gives_line_at, is_given_below, is_promised, is_pushed, owes_from, promise_told}
 use Rattle.fsb_agent_run.specs.RunViews.{is_awaited}
 use Rattle.fsb_agent_run.proofs.BufferCounts.{promise_on-other, promise_on-promised, promise_on-push, promised_count-more, push_count, push_count-push}
+use Rattle.fsb_agent_run.proofs.FillsTold.{promised_count, promised_count-push}
 use Rattle.fsb_agent_run.proofs.GivenBytes.{given, given-ungranted, not-given-before, unresponded}
 use Rattle.fsb_agent_run.proofs.OwnLines.{granted-unawaited}
 use Rattle.fsb_agent_run.proofs.PromiseSteps.{promise-granted, promise-kept, promise-made, promise-unawaited, promised-same, unawaited-unpromised}
@@ -162,6 +162,7 @@ promised-on p a n c q claim e = rw e refl
 pub pushed-owed : (r : Run) (a c : ℕ) (claim : Claim) (bytes : List ℕ) (v w : AgentView) → GivesNow r a c claim
     → is_awaited (past_of r) a claim.line c c ≡ false → w.buffers ≡ with_push v.buffers claim.first bytes
     → HasOwedOf (past_of r) a c (c + 1) c v → HasOwedOf (past_of r) a (c + 1) (c + 1) c w
+unfolding is_pushed is_at is_some_and
 pushed-owed r a c claim bytes v w k unawaited e h =
     let p : Past = past_of r in
     let promises : (line : ℕ) → promise_told p a line (c + 1) c ≡ promise_told p a line c c =
@@ -190,7 +191,6 @@ pushed-owed r a c claim bytes v w k unawaited e h =
     new : Promises → (q : ℕ) → q ≡ claim.first
         → push_count q v.buffers.pushes + cond (claim.first == q) 1 0
         ≡ (if is_pushed (past_of r) a (c + 1) (c + 1) c q then 1 else 0)
-    unfolding is_pushed
     new promises q same =
         let p : Past = past_of r in
         let before : is_pushed p a c (c + 1) c claim.first ≡ false = rw k.not_before refl in
@@ -208,13 +208,11 @@ pushed-owed r a c claim bytes v w k unawaited e h =
         ≡ (if is_pushed p a (c + 1) (c + 1) c x then 1 else 0)) (sym same) here
       where
         at-none : (q : ℕ) (o : Option ℕ) → o ≡ None → is_at o q ≡ false
-        unfolding is_at is_some_and
         at-none q o none = rw none refl
 
     old : Promises → (q : ℕ) → (q ≡ claim.first → ⊥)
         → push_count q v.buffers.pushes + cond (claim.first == q) 1 0
         ≡ (if is_pushed (past_of r) a (c + 1) (c + 1) c q then 1 else 0)
-    unfolding is_pushed
     old promises q apart =
         let p : Past = past_of r in
         let given = other-given p a c q claim k.gives apart in
@@ -236,6 +234,7 @@ pub promised-owed : (r : Run) (a c : ℕ) (claim : Claim) (v w : AgentView) → 
     → promise_on claim.line v.buffers.fills ≡ None → are_fills_apart v.buffers.fills ≡ true
     → w.buffers ≡ record v.buffers { fills = promised_to claim.line claim.first v.buffers.fills }
     → HasOwedOf (past_of r) a c (c + 1) c v → HasOwedOf (past_of r) a (c + 1) (c + 1) c w
+unfolding is_pushed is_promised is_at is_some_and
 promised-owed r a c claim v w k awaited filled free apart e h = record {
   pushes = λ q.
       ap (λ b. push_count q b.pushes) e ∙ h.pushes q
@@ -270,7 +269,6 @@ promised-owed r a c claim v w k awaited filled free apart e h = record {
         promise_on-other line claim.line claim.first v.buffers.fills other ∙ h.promises line ∙ sym (kept line other)
 
     new : (q : ℕ) → q ≡ claim.first → is_pushed (past_of r) a (c + 1) (c + 1) c q ≡ is_pushed (past_of r) a c (c + 1) c q
-    unfolding is_pushed is_at is_some_and
     new q same =
         let p : Past = past_of r in
         let told : is_promised p a (c + 1) c claim.first ≡ true =
@@ -287,7 +285,6 @@ promised-owed r a c claim v w k awaited filled free apart e h = record {
 
     promised-kept : (q : ℕ) → (q ≡ claim.first → ⊥) → (o : Option Claim) → begun_at (past_of r) q ≡ o
         → is_promised (past_of r) a (c + 1) c q ≡ is_promised (past_of r) a c c q
-    unfolding is_promised is_at is_some_and
     promised-kept q other None begun = rw begun refl
     promised-kept q other (Some x) begun =
         elim (cases_eq x.line claim.line) [
@@ -303,7 +300,6 @@ promised-owed r a c claim v w k awaited filled free apart e h = record {
 
     old : (q : ℕ) → (q ≡ claim.first → ⊥)
         → is_pushed (past_of r) a (c + 1) (c + 1) c q ≡ is_pushed (past_of r) a c (c + 1) c q
-    unfolding is_pushed
     old q other =
         let p : Past = past_of r in
         let given = other-given p a c q claim k.gives other in

@@ -65,7 +65,7 @@ promise-granted p a line c ungiven granted =
     ∙ by (last_where (gives_line_at p a line) c) refl in
     ap (λ o. if is_awaited p a line (c + 1) c then o else None) told ∙ either (is_awaited p a line (c + 1) c)
   where
-    either : (b : Bool) → (if b then None {A = ℕ} else None) ≡ None
+    either : (b : Bool) → ◌≡◌ {A = Option ℕ} (if b then None else None) None
     either true = refl
     either false = refl
 
@@ -101,11 +101,10 @@ promise-unawaited p a line c ungranted none =
 -- where each promise is the same, so is what is promised to a request
 pub promised-same : (p : Past) (a n c m d q : ℕ) → ((line : ℕ) → promise_told p a line m d ≡ promise_told p a line n c)
     → is_promised p a m d q ≡ is_promised p a n c q
-unfolding is_promised
+unfolding is_promised is_some_and
 promised-same p a n c m d q same = by (begun_at p q)
   where
     by : (o : Option Claim) → is_some_and o (λ claim. is_at (promise_told p a claim.line m d) q)
         ≡ is_some_and o (λ claim. is_at (promise_told p a claim.line n c) q)
-    unfolding is_some_and
     by None = refl
     by (Some claim) = ap (λ o. is_at o q) (same claim.line)

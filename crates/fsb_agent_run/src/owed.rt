@@ -61,8 +61,7 @@ pub fn bytes_are_handed_on()
 pub fn snoop_ends_are_owed()
     ensures own { (r : Run) (a c : ℕ) (s : SnoopEnd) (out : OwnRequest) (v : AgentView)
         (request : Request) (shared : Bool) → Reaches r (c + 1) →
-        IsOwnSnoopEnd (past_of r) a c s out → IsSound v →
-        request_numbered out.number v.outs ≡ Some out → HasFillsOf (past_of r) a c c v →
+        IsOwnSnoopEnd (past_of r) a c s out → request_numbered out.number v.outs ≡ Some out →
         HasOwedOf (past_of r) a c (c + 1) c v →
         HasOwedOf (past_of r) a (c + 1) (c + 1) c
         (committed v out.number true request shared s.outcome) }
