@@ -23,3 +23,5 @@ pub mod FewOwed
 pub mod OwnEnds
 pub mod HandSteps
 pub mod SlotStates
+pub mod MayCalls
+pub mod FirstOwed

@@ -278,7 +278,9 @@ other-owed-after r a c number s v request shared h bounds l few k sound dirty fi
         let fits = ((clock-facts r claim.line c h bounds l).settles.settled s claim k.there e refl).fits in
         let first : number ≡ claim.first = k.first claim e ∙ sym (same-first (past_of r) claim.line c s claim e fits).0 in
         let now = gives-now r a c claim h bounds l given in
-        let modified : is_modified (line_state_by v request.line) ≡ true = (and_parts (is_modified (line_state_by v request.line)) _ (and-first _ _ _ on)).0 in
+        let modified : is_modified (line_state_by v request.line) ≡ true = 
+        (and_parts (is_modified (line_state_by v request.line)) (is_handed s.outcome)
+        (and-first (is_modified (line_state_by v request.line)) (is_handed s.outcome) (asks_line (kind_asks request.kind)) on)).0 in
         elim (cases_Bool (is_awaited (past_of r) a claim.line c c)) [
           | inr here ↦
               let come : has_come v request.line ≡ true =
