@@ -52,8 +52,12 @@ pub use Rattle.fsb_tied.proofs.ReplyEnds.{reply-end-at}
 -- The accesses of a clock of a timely run are served: those of hits, and those that come with the end of another line.
 pub use Rattle.fsb_tied.proofs.ServedAccesses.{grant-first, granted-parts}
 -- An agent has at most one line of a cache set, held or asked for.
-pub use Rattle.fsb_tied.proofs.Slots.{Slot, one-slot}
+pub use Rattle.fsb_tied.proofs.Slots.{Slot, asked-unevicted, begun-apart, one-slot}
 -- At the snoop end of a symmetric agent's request that request is open, and no open one is older.
 pub use Rattle.fsb_tied.proofs.SnoopOpen.{cancels, live-at}
 -- Lines of one cache set, and the victim among them.
 pub use Rattle.fsb_tied.proofs.Victims.{a-victim, dirty-held, no-victim, rival-other, rival-set, rival-sym, same-set, same-set-sym}
+-- A request that is put off: its snoop end, and its claim.
+pub use Rattle.fsb_tied.proofs.PendingLines.{IsPutOff}
+-- The machine's line after the events below a clock, and before the clock's snoop end.
+pub use Rattle.fsb_tied.proofs.TiedRuns.{events-may-happen, tied-through}
