@@ -42,15 +42,6 @@ promised_count-push line number (f ∷ fills) =
     promised_count-cons f (fills ++ record { line = line; number = number; promise = None } ∷ []) ∙ ap (λ n. cond (is_some f.promise) 1 0 + n) (promised_count-push line number fills)
     ∙ sym (promised_count-cons f fills)
 
--- where none is of the line, nothing is promised
-pub none_promised : (line to : ℕ) (fills : List Fill) → list_all (λ fill. not (fill.line == line)) fills ≡ true → promised_to line to fills ≡ fills
-none_promised line to [] none = refl
-none_promised line to (f ∷ fills) none =
-    elim (cases_Bool (f.line == line)) [
-      | inl on ↦ absurd (let never : false ≡ true = rw on at none in (let h : ⊥ = cc in h))
-      | inr off ↦ rw off (ap (λ rest. f ∷ rest) (none_promised line to fills (both_right (not (f.line == line)) _ none)))
-    ]
-
 -- what was promised of a fill that has ended
 pub promised_count-without : (line : ℕ) (fills : List Fill) → promised_count (fills_without line fills) + cond (is_some (promise_on line fills)) 1 0 ≡ promised_count fills
 promised_count-without line [] = refl
@@ -92,25 +83,3 @@ same_bool false false h = refl
 pub fill_out : (v : AgentView) (out : OwnRequest) → IsSound v → request_numbered out.number v.outs ≡ Some out → is_some (fill_on out.request.line v.buffers.fills) ≡ out.granted
 fill_out v out s found =
     same_bool _ _ (both_right (is_only out.request.line (slot_of v.lines out.request.line)) _ (both_left _ (out.granted || is_none out.kept) (sound_out v out s found)))
-
--- what is held alone is promised to nobody
-pub unpromised : (v : AgentView) (line : ℕ) → IsSound v → is_modified (states v.lines line) ≡ true → promise_on line v.buffers.fills ≡ None
-unpromised v line s modified = go (fill_on line v.buffers.fills) refl
-  where
-    sole : (state : Mesi) → is_modified state ≡ true → is_sole state ≡ true
-    sole Invalid never = never
-    sole Shared never = never
-    sole Exclusive is = refl
-    sole Modified is = refl
-
-    free : (promise : Option ℕ) (alone : Bool) → alone ≡ true → (is_none promise || not alone) ≡ true → promise ≡ None
-    free None alone is lent = refl
-    free (Some to) true is lent = absurd (let x : ⊥ = cc in x)
-    free (Some to) false is lent = absurd (let x : ⊥ = cc in x)
-
-    go : (found : Option Fill) → fill_on line v.buffers.fills ≡ found → promise_on line v.buffers.fills ≡ None
-    go None e = rw e refl
-    go (Some fill) e =
-        let lent : is_lent v.lines fill ≡ true = list_all-found (is_lent v.lines) (is_fill_on line) v.buffers.fills fill s.lent e in
-        let is : fill.line ≡ line = eqb-true fill.line line (found-passes (is_fill_on line) v.buffers.fills fill e) in
-        rw e (free fill.promise (is_sole (states v.lines fill.line)) (ap (λ l. is_sole (states v.lines l)) is ∙ sole (states v.lines line) modified) lent)

@@ -114,8 +114,17 @@ given r a t claim h bounds l e =
       settled = settled;
     }
 
+-- what is written back is a write-back
+pub written-kind : (kind : Kind) (outcome : Outcome) → outcome ≡ Written → fits_kind kind outcome ≡ true → kind ≡ WriteBack
+unfolding fits_kind fits_getting fits_upgrade fits_write_back
+written-kind Reply outcome e fits = absurd (let no : ⊥ = cc in no)
+written-kind WriteBack outcome e fits = refl
+written-kind Invalidate outcome e fits = absurd (let no : ⊥ = (let f = rw e at fits in cc) in no)
+written-kind Read outcome e fits = absurd (let no : ⊥ = (let f = rw e at fits in cc) in no)
+written-kind Upgrade outcome e fits = absurd (let no : ⊥ = (let f = rw e at fits in cc) in no)
+
 -- what is written back makes no grant
-written-ungranted : (kind : Kind) (outcome : Outcome) (won : Bool) (grant : Grant) → outcome ≡ Written
+pub written-ungranted : (kind : Kind) (outcome : Outcome) (won : Bool) (grant : Grant) → outcome ≡ Written
     → fits_kind kind outcome ≡ true
     → (if makes_grant kind outcome || (is_upgraded outcome && won) then Some grant else None) ≡ None
 unfolding fits_kind fits_getting fits_upgrade fits_write_back makes_grant is_got is_upgraded

@@ -37,3 +37,5 @@ pub mod OutLists
 pub mod WonSteps
 pub mod SentViews
 pub mod SnoopSteps
+pub mod PromisesFree
+pub mod GiversNamed

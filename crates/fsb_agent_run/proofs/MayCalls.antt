@@ -27,16 +27,18 @@ use Rattle.fsb_agent_run.specs.AwaitedFills.{HasFillsOf}
 use Rattle.fsb_agent_run.specs.BytesOwed.{HasOwedOf}
 use Rattle.fsb_agent_run.specs.OwnEvents.{IsOwnEnd, IsOwnSnoopEnd}
 use Rattle.fsb_agent_run.specs.RunViews.{is_awaited}
+use Rattle.fsb_agent_run.proofs.BufferCounts.{fill-counted}
 use Rattle.fsb_agent_run.proofs.FewOwed.{owed-before}
 use Rattle.fsb_agent_run.proofs.FillsTold.{fill_out}
 use Rattle.fsb_agent_run.proofs.GivenBytes.{granted-if, same-first}
-use Rattle.fsb_agent_run.proofs.OwedSnoopEnds.{own-claim, own-grant}
 use Rattle.fsb_agent_run.proofs.OwnEnds.{awaited-at-end, snooped-before, ungranted-unawaited, written-dirty}
-use Rattle.fsb_agent_run.proofs.OwnLines.{open-unawaited, settled-unawaited}
+use Rattle.fsb_agent_run.proofs.OwnLines.{open-unawaited, own-claim, own-grant, settled-unawaited}
 
-granted-as : (p : Past) (a n c : ℕ) (v : AgentView) (out : OwnRequest) → IsSound v → HasFillsOf p a n c v
+pub granted-as : (p : Past) (a n c : ℕ) (v : AgentView) (out : OwnRequest) → IsSound v → HasFillsOf p a n c v
     → request_numbered out.number v.outs ≡ Some out → out.granted ≡ is_awaited p a out.request.line n c
-granted-as p a n c v out sound fills found = sym (fill_out v out sound found) ∙ fills.fills out.request.line
+granted-as p a n c v out sound fills found =
+    sym (fill_out v out sound found)
+    ∙ fill-counted out.request.line v.buffers.fills (is_awaited p a out.request.line n c) (fills.fills out.request.line)
 
 few-owed : (r : Run) (a c : ℕ) (s : SnoopEnd) (v : AgentView) → Timely r → KeepsBounds r.plan → c < length r.trace
     → snooped_at (past_of r) c ≡ Some s → HasOwedOf (past_of r) a c (c + 1) c v → nat_lt (owed_count v.buffers) 8 ≡ true

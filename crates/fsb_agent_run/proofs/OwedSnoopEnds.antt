@@ -26,39 +26,20 @@ use Rattle.fsb_lawful.proofs.Interface.{some-and}
 use Rattle.fsb_coherent.specs.Awaits.{owner_at}
 use Rattle.fsb_coherent.specs.Fitting.{IsSnoopOn, fits_getting, fits_kind, fits_upgrade, fits_write_back, is_granted_by}
 use Rattle.fsb_coherent.specs.Relation.{giver_at}
-use Rattle.fsb_tied.proofs.Interface.{clock-facts, uncontested, writes-back-alone}
+use Rattle.fsb_tied.proofs.Interface.{clock-facts, one-dirty, uncontested, writes-back-alone}
 use Rattle.fsb_agent_view.specs.declared.want.OwnRequest.{OwnRequest}
 use Rattle.fsb_agent_view.specs.AgentViews.{AgentView, has_come, line_state_by}
 use Rattle.fsb_agent_view.specs.OwnRequests.{request_numbered}
 use Rattle.fsb_agent_view.specs.Snooping.{buffers_giving, committed, granted_by, is_giver, is_handed, kind_asks, other_settled, own_settled, upgraded_by, with_fill}
-use Rattle.fsb_agent_view.specs.Sound.{IsSound}
 use Rattle.fsb_agent_run.specs.AwaitedFills.{HasFillsOf}
 use Rattle.fsb_agent_run.specs.BytesOwed.{HasOwedOf, claim_given_at, gives_claim}
 use Rattle.fsb_agent_run.specs.OwnEvents.{IsOtherSnoopEnd, IsOwnSnoopEnd, is_settled_for}
-use Rattle.fsb_agent_run.specs.RunViews.{is_awaited}
-use Rattle.fsb_agent_run.proofs.FillsTold.{unpromised}
+use Rattle.fsb_agent_run.specs.RunViews.{is_awaited, one_if}
+use Rattle.fsb_agent_run.proofs.FillCounts.{come-count, count_on}
 use Rattle.fsb_agent_run.proofs.GivenBytes.{claim-given, gives-by, none-claimed, none-snooped, same-first}
 use Rattle.fsb_agent_run.proofs.OwedSnoops.{SameDebts, filled-debts, gives-now, owed-on, promised-owed, pushed-owed, quiet-owed, same-debts}
-use Rattle.fsb_agent_run.proofs.OwnLines.{one-dirty, settled-unawaited}
-
--- whose claim an own snoop end has
-pub own-claim : (a line : ℕ) (s : SnoopEnd) (claim : Claim) → s.claim ≡ Some claim → is_settled_for a line s ≡ true
-    → (claim.agent ≡ a) × (claim.line ≡ line)
-unfolding is_settled_for is_claim_of
-own-claim a line s claim claims settles =
-    let e : (nat_eq claim.agent a && nat_eq claim.line line) ≡ true = rw claims at settles in
-    let names = and_parts (nat_eq claim.agent a) (nat_eq claim.line line) e in
-    (eqb-true claim.agent a names.0, eqb-true claim.line line names.1)
-
--- or, of a reply, whose grant
-pub own-grant : (a line : ℕ) (s : SnoopEnd) → s.claim ≡ None → is_settled_for a line s ≡ true
-    → (grant : Grant) × (s.grant ≡ Some grant) × (grant.agent ≡ a) × (grant.line ≡ line)
-unfolding is_settled_for is_granted_by
-own-grant a line s none settles =
-    let e : is_some_and s.grant (λ grant. nat_eq grant.agent a && nat_eq grant.line line) ≡ true = rw none at settles in
-    let g = some-and s.grant (λ (grant : Grant). nat_eq grant.agent a && nat_eq grant.line line) e in
-    let names = and_parts (nat_eq g.0.agent a) (nat_eq g.0.line line) g.2 in
-    (g.0, g.1, eqb-true g.0.agent a names.0, eqb-true g.0.line line names.1)
+use Rattle.fsb_agent_run.proofs.OwnLines.{machine_at, own-claim, own-grant, settled-unawaited, tied-at}
+use Rattle.fsb_agent_run.proofs.PromisesFree.{dirty-unpromised}
 
 -- at a snoop end of its own an agent gives nothing, unless it writes a line back
 own-ungiven : (p : Past) (a c : ℕ) (s : SnoopEnd) (out : OwnRequest) → IsOwnSnoopEnd p a c s out → s.outcome ≢ Written
@@ -170,7 +151,7 @@ owner-found r a b line c h bounds l few other on =
     and_from (not (nat_eq a b)) (is_dirty (past_to p c) a line c) (ap not (ne_eqb a b other)) (dirty-at r line c h bounds l a ∙ on) in
     let alone : (x : ℕ) → x < a → test x ≡ false = λ x below. false_from_ne_true (test x) (λ t.
     let dirty = sym (dirty-at r line c h bounds l x) ∙ (and_parts (not (nat_eq x b)) (is_dirty (past_to p c) x line c) t).1 in
-    let is : x ≡ a = one-dirty r x a line c h bounds (omega arith) dirty on in
+    let is : x ≡ a = one-dirty p line c x a (machine_at r line c) (tied-at r line c h bounds (omega arith)) dirty on in
     omega arith) in
     is_at-from (first_where test 4) a (first_where-at test 4 a few mine alone)
 
@@ -258,10 +239,10 @@ giver-same r a c number s claim v request h bounds l few k e dirty =
 -- what an agent owes after another agent's snoop end
 pub other-owed-after : (r : Run) (a c number : ℕ) (s : SnoopEnd) (v : AgentView) (request : Request) (shared : Bool)
     → Timely r → KeepsBounds r.plan → c < length r.trace → a < 4 → IsOtherSnoopEnd (past_of r) a c s number request
-    → IsSound v → is_modified (line_state_by v request.line) ≡ is_dirty (past_of r) a request.line c
+    → is_modified (line_state_by v request.line) ≡ is_dirty (past_of r) a request.line c
     → HasFillsOf (past_of r) a c c v → HasOwedOf (past_of r) a c (c + 1) c v
     → HasOwedOf (past_of r) a (c + 1) (c + 1) c (committed v number false request shared s.outcome)
-other-owed-after r a c number s v request shared h bounds l few k sound dirty fills owed = by s.claim refl
+other-owed-after r a c number s v request shared h bounds l few k dirty fills owed = by s.claim refl
   where
     quiet : claim_given_at (past_of r) a c ≡ None → is_giver v request s.outcome ≡ false
         → HasOwedOf (past_of r) a (c + 1) (c + 1) c (other_settled v number request s.outcome)
@@ -284,18 +265,21 @@ other-owed-after r a c number s v request shared h bounds l few k sound dirty fi
         elim (cases_Bool (is_awaited (past_of r) a claim.line c c)) [
           | inr here ↦
               let come : has_come v request.line ≡ true =
-              come-from (fill_on request.line v.buffers.fills) (fills.fills request.line ∙ ap (λ x. is_awaited (past_of r) a x c c) line ∙ here) in
+              come-count request.line v.buffers.fills false
+              (fills.fills request.line ∙ ap (λ x. one_if (is_awaited (past_of r) a x c c)) line ∙ ap one_if here) in
               pushed-owed r a c claim (copies v.lines request.line) v (other_settled v number request s.outcome) now here
               (rw (on, other_settled, come, buffers_giving)
               (ap (λ n. record v.buffers { pushes = v.buffers.pushes ++ record { number = n; bytes = copies v.lines request.line } ∷ [] }) first))
               owed
           | inl awaited ↦
-              let some : is_some (fill_on claim.line v.buffers.fills) ≡ true = fills.fills claim.line ∙ awaited in
+              let one : count_on claim.line v.buffers.fills ≡ 1 = fills.fills claim.line ∙ ap one_if awaited in
               let coming : has_come v request.line ≡ false =
-              coming-from (fill_on request.line v.buffers.fills) (ap (λ x. is_some (fill_on x v.buffers.fills)) line ∙ some) in
+              come-count request.line v.buffers.fills true (ap (λ x. count_on x v.buffers.fills) line ∙ one) in
               let free : promise_on claim.line v.buffers.fills ≡ None =
-              unpromised v claim.line sound (ap (λ x. is_modified (line_state_by v x)) (sym line) ∙ modified) in
-              promised-owed r a c claim v (other_settled v number request s.outcome) now awaited some free sound.one_a_line
+              owed.promises claim.line
+              ∙ dirty-unpromised r a claim.line c h bounds (omega arith)
+              (ap (λ x. is_dirty (past_of r) a x c) (sym line) ∙ sym dirty ∙ modified) in
+              promised-owed r a c claim v (other_settled v number request s.outcome) now awaited one free
               (rw (on, other_settled, coming, buffers_giving) (λ i. record v.buffers { fills = promised_to (line i) (first i) v.buffers.fills }))
               owed
         ]
@@ -304,14 +288,6 @@ other-owed-after r a c number s v request shared h bounds l few k sound dirty fi
         and-first true true z t = refl
         and-first true false z t = t
         and-first false y z t = t
-
-        come-from : (o : Option Fill) → is_some o ≡ false → is_none o ≡ true
-        come-from None f = refl
-        come-from (Some fill) f = absurd (let no : ⊥ = cc in no)
-
-        coming-from : (o : Option Fill) → is_some o ≡ true → is_none o ≡ false
-        coming-from None f = absurd (let no : ⊥ = cc in no)
-        coming-from (Some fill) f = refl
 
     by : (o : Option Claim) → s.claim ≡ o
         → HasOwedOf (past_of r) a (c + 1) (c + 1) c (other_settled v number request s.outcome)

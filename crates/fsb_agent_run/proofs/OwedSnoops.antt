@@ -14,14 +14,13 @@ use Rattle.fsb_lawful.specs.Beginning.{KeepsBounds}
 use Rattle.fsb_coherent.specs.Relation.{is_responded_below}
 use Rattle.fsb_agent_view.specs.AgentViews.{AgentView}
 use Rattle.fsb_agent_view.specs.Snooping.{owed_count, with_fill, with_push}
-use Rattle.fsb_agent_view.specs.Sound.{are_fills_apart}
-use Rattle.fsb_agent_run.specs.AwaitedFills.{HasFillsOf}
 use Rattle.fsb_agent_run.specs.BytesOwed.{HasOwedOf, claim_given_at, gives_line_at, is_given_below, is_promised, is_pushed, owes_from, promise_told}
 use Rattle.fsb_agent_run.specs.RunViews.{is_awaited}
-use Rattle.fsb_agent_run.proofs.BufferCounts.{promise_on-other, promise_on-promised, promise_on-push, promised_count-more, push_count, push_count-push}
+use Rattle.fsb_agent_run.proofs.BufferCounts.{fill-counted, promise_on-other, promise_on-promised, promise_on-push, promised_count-more, push_count, push_count-push}
+use Rattle.fsb_agent_run.proofs.FillCounts.{count_on}
 use Rattle.fsb_agent_run.proofs.FillsTold.{promised_count, promised_count-push}
 use Rattle.fsb_agent_run.proofs.GivenBytes.{given, given-ungranted, not-given-before, unresponded}
-use Rattle.fsb_agent_run.proofs.OwnLines.{granted-unawaited}
+use Rattle.fsb_agent_run.proofs.GrantsAwaited.{granted-unawaited}
 use Rattle.fsb_agent_run.proofs.PromiseSteps.{promise-granted, promise-kept, promise-made, promise-unawaited, promised-same, unawaited-unpromised}
 
 -- buffers with the same pushes and promises
@@ -91,7 +90,7 @@ quiet-owed r a c h bounds l none =
     let promises : (line : ℕ) → promise_told p a line (c + 1) c ≡ promise_told p a line c c =
     λ line. elim (cases_Bool (is_granted p a line c)) [
       | inl on ↦ promise-granted p a line c (ungiven-line p a line c none) on
-          ∙ sym (unawaited-unpromised p a line c c (granted-unawaited r a line c h bounds l on))
+          ∙ sym (unawaited-unpromised p a line c c (granted-unawaited r a line c (record { timely = h; bounds = bounds; long = omega arith }) on))
       | inr off ↦ promise-kept p a line c (ungiven-line p a line c none) off
     ] in
     let given : (q : ℕ) → is_given_below p a (c + 1) q ≡ is_given_below p a c q =
@@ -230,12 +229,12 @@ pushed-owed r a c claim bytes v w k unawaited e h =
 
 -- it gives bytes that have not come: they are promised
 pub promised-owed : (r : Run) (a c : ℕ) (claim : Claim) (v w : AgentView) → GivesNow r a c claim
-    → is_awaited (past_of r) a claim.line c c ≡ true → is_some (fill_on claim.line v.buffers.fills) ≡ true
-    → promise_on claim.line v.buffers.fills ≡ None → are_fills_apart v.buffers.fills ≡ true
+    → is_awaited (past_of r) a claim.line c c ≡ true → count_on claim.line v.buffers.fills ≡ 1
+    → promise_on claim.line v.buffers.fills ≡ None
     → w.buffers ≡ record v.buffers { fills = promised_to claim.line claim.first v.buffers.fills }
     → HasOwedOf (past_of r) a c (c + 1) c v → HasOwedOf (past_of r) a (c + 1) (c + 1) c w
 unfolding is_pushed is_promised is_at is_some_and
-promised-owed r a c claim v w k awaited filled free apart e h = record {
+promised-owed r a c claim v w k awaited one free e h = record {
   pushes = λ q.
       ap (λ b. push_count q b.pushes) e ∙ h.pushes q
       ∙ sym (ap (λ b. if b then 1 else 0)
@@ -245,7 +244,7 @@ promised-owed r a c claim v w k awaited filled free apart e h = record {
       ∙ elim (cases_eq line claim.line) [ inl same ↦ here line same | inr other ↦ elsewhere line other ];
   count =
       ap owed_count e
-      ∙ counted (promised_count-more claim.line claim.first v.buffers.fills apart filled free) h.count;
+      ∙ counted (promised_count-more claim.line claim.first v.buffers.fills one free) h.count;
 }
   where
     made : promise_told (past_of r) a claim.line (c + 1) c ≡ Some claim.first
@@ -261,7 +260,7 @@ promised-owed r a c claim v w k awaited filled free apart e h = record {
         → promise_on line (promised_to claim.line claim.first v.buffers.fills) ≡ promise_told (past_of r) a line (c + 1) c
     here line same =
         subst (λ x. promise_on x (promised_to claim.line claim.first v.buffers.fills) ≡ promise_told (past_of r) a x (c + 1) c)
-        (sym same) (promise_on-promised claim.line claim.first v.buffers.fills filled ∙ sym made)
+        (sym same) (promise_on-promised claim.line claim.first v.buffers.fills (fill-counted claim.line v.buffers.fills true one) ∙ sym made)
 
     elsewhere : (line : ℕ) → line ≢ claim.line
         → promise_on line (promised_to claim.line claim.first v.buffers.fills) ≡ promise_told (past_of r) a line (c + 1) c

@@ -33,14 +33,12 @@ use Rattle.fsb_coherent.specs.Facts.{IsSettledOn}
 use Rattle.fsb_coherent.specs.Fitting.{fits_getting, fits_kind, fits_upgrade, fits_write_back}
 use Rattle.fsb_coherent.specs.Relation.{IsOpen, deferral_at, deferral_below, deferred_to, defers_line, is_cancelled_below, is_dirty_below, is_dirty_through, is_snooped_below, is_stored_below, replies_line}
 use Rattle.fsb_coherent.proofs.Interface.{dirty-by-hits}
-use Rattle.fsb_tied.proofs.Interface.{answers-in-order, begun-want, cancels, clock-facts, grant-first, granted-parts, live-at}
-use Rattle.fsb_tied.proofs.Owing.{own-owed}
+use Rattle.fsb_tied.proofs.Interface.{answers-in-order, begun-want, cancels, clock-facts, grant-first, granted-parts, live-at, own-owed}
 use Rattle.fsb_agent_view.specs.declared.want.OwnRequest.{OwnRequest}
 use Rattle.fsb_agent_run.specs.OwnEvents.{IsOwnEnd, IsOwnSnoopEnd, is_settled_for}
 use Rattle.fsb_agent_run.specs.RunViews.{is_awaited}
-use Rattle.fsb_agent_run.proofs.GivenBytes.{same-first}
-use Rattle.fsb_agent_run.proofs.OwedSnoopEnds.{own-claim, own-grant}
-use Rattle.fsb_agent_run.proofs.OwnLines.{granted-settled, machine_at, settled-unawaited, tied-at}
+use Rattle.fsb_agent_run.proofs.GivenBytes.{same-first, written-kind}
+use Rattle.fsb_agent_run.proofs.OwnLines.{granted-settled, machine_at, own-claim, own-grant, settled-unawaited, tied-at}
 use Rattle.fsb_agent_run.proofs.PromisesTold.{AwaitsBy, awaits-by}
 
 -- a request whose end is c has its snoop end two clocks before at least
@@ -111,15 +109,6 @@ awaited-at-end r a line c t s h l there granted ends =
       | inr apart ↦ later-unended r c t u s g.0 h l there g.2 (omega arith) (ended-once r c c s.first h l (omega arith) ends)
     ] in
     awaited-from p a line (c + 1) c u g.0 g.1 last.1 g.2 g.3 (ap (is_ended p c) first ∙ unended)
-
--- what is written back is a write-back
-written-kind : (kind : Kind) (outcome : Outcome) → outcome ≡ Written → fits_kind kind outcome ≡ true → kind ≡ WriteBack
-unfolding fits_kind fits_getting fits_upgrade fits_write_back
-written-kind Reply outcome e fits = absurd (let no : ⊥ = cc in no)
-written-kind WriteBack outcome e fits = refl
-written-kind Invalidate outcome e fits = absurd (let no : ⊥ = (let f = rw e at fits in cc) in no)
-written-kind Read outcome e fits = absurd (let no : ⊥ = (let f = rw e at fits in cc) in no)
-written-kind Upgrade outcome e fits = absurd (let no : ⊥ = (let f = rw e at fits in cc) in no)
 
 stored-more : (p : Past) (a line n q : ℕ) (log : List Done)
     → list_any (λ done. is_store_on a line done && is_ended p done.clock q && nat_lt done.clock n) log ≡ true

@@ -18,8 +18,7 @@ use Rattle.fsb_line.specs.States.{is_modified}
 use Rattle.fsb_trace.specs.declared.outcome.Outcome.{Outcome}
 use Rattle.fsb_trace.specs.declared.outcome.Outcome.TheVariants.{Written}
 use Rattle.fsb_timely.specs.Past.{Claim, Grant, Past, SnoopEnd}
-use Rattle.fsb_timely.specs.Grants.{holds_line, is_claim_of, is_ended, is_exclusive, is_granted, latest_grant, snooped_at}
-use Rattle.fsb_timely.specs.Hits.{is_dirty, is_stored_since}
+use Rattle.fsb_timely.specs.Grants.{is_claim_of, is_ended, is_granted, snooped_at}
 use Rattle.fsb_timely.specs.Moments.{is_upgraded, makes_grant}
 use Rattle.fsb_timely.specs.Runs.{Run, past_of}
 use Rattle.fsb_timely.specs.Timely.{Timely}
@@ -31,7 +30,7 @@ use Rattle.fsb_coherent.specs.Fitting.{is_granted_by}
 use Rattle.fsb_coherent.specs.KeepsTie.{IsTiedTo}
 use Rattle.fsb_coherent.specs.LineEvents.{events_below}
 use Rattle.fsb_coherent.specs.Relation.{IsOpen, chain_below, deferral_below, link_for, link_left, links_left}
-use Rattle.fsb_coherent.proofs.Interface.{facts-keep-ties, may-below, only_holder}
+use Rattle.fsb_coherent.proofs.Interface.{facts-keep-ties, may-below}
 use Rattle.fsb_tied.proofs.Interface.{awaits-grant, clock-facts, grant-first, granted-parts}
 use Rattle.fsb_agent_run.specs.OwnEvents.{is_settled_for}
 use Rattle.fsb_agent_run.specs.RunViews.{is_awaited}
@@ -117,6 +116,26 @@ deferred-unawaited r line n d h bounds l pending =
     both_ways (is_linked d.agent (chain_below (past_of r) line n)) (ap (is_linked d.agent) (sym tied.tied.chain) ∙ apart)
     (awaited-linked r d.agent line n l e))
 
+-- whose claim an own snoop end has
+pub own-claim : (a line : ℕ) (s : SnoopEnd) (claim : Claim) → s.claim ≡ Some claim → is_settled_for a line s ≡ true
+    → (claim.agent ≡ a) × (claim.line ≡ line)
+unfolding is_settled_for is_claim_of
+own-claim a line s claim claims settles =
+    let e : (nat_eq claim.agent a && nat_eq claim.line line) ≡ true = rw claims at settles in
+    let names = and_parts (nat_eq claim.agent a) (nat_eq claim.line line) e in
+    (eqb-true claim.agent a names.0, eqb-true claim.line line names.1)
+
+-- or, of a reply, whose grant
+pub own-grant : (a line : ℕ) (s : SnoopEnd) → s.claim ≡ None → is_settled_for a line s ≡ true
+    → (grant : Grant) × (s.grant ≡ Some grant) × (grant.agent ≡ a) × (grant.line ≡ line)
+unfolding is_settled_for is_granted_by
+own-grant a line s none settles =
+    let e : is_some_and s.grant (λ grant. nat_eq grant.agent a && nat_eq grant.line line) ≡ true = rw none at settles in
+    let g = some-and s.grant (λ (grant : Grant). nat_eq grant.agent a && nat_eq grant.line line) e in
+    let names = and_parts (nat_eq g.0.agent a) (nat_eq g.0.line line) g.2 in
+    (g.0, g.1, eqb-true g.0.agent a names.0, eqb-true g.0.line line names.1)
+
+-- the snoop end of an agent's request for a line, by its claim or by its grant
 settled-by : (r : Run) (a line c : ℕ) (s : SnoopEnd) (o : Option Claim) → s.claim ≡ o → Timely r → KeepsBounds r.plan
     → c < length r.trace → snooped_at (past_of r) c ≡ Some s → is_settled_for a line s ≡ true
     → is_awaited (past_of r) a line c c ≡ false
@@ -164,28 +183,3 @@ pub granted-settled : (r : Run) (a line c : ℕ) → Timely r → KeepsBounds r.
 granted-settled r a line c h bounds l e =
     let g = granted-parts (past_of r) a line c e in
     (g.0, g.2, granted-by r a line c g.0 g.1 g.0.claim refl h bounds l g.2 g.3 g.4 g.5)
-
--- a line is granted to an agent only where the agent awaits nothing on it
-pub granted-unawaited : (r : Run) (a line c : ℕ) → Timely r → KeepsBounds r.plan → c < length r.trace
-    → is_granted (past_of r) a line c ≡ true → is_awaited (past_of r) a line c c ≡ false
-granted-unawaited r a line c h bounds l e =
-    let g = granted-settled r a line c h bounds l e in settled-unawaited r a line c g.0 h bounds l g.1 g.2
-
--- one agent at most is dirty on a line
-pub one-dirty : (r : Run) (a b line n : ℕ) → Timely r → KeepsBounds r.plan → n ≤ length r.trace
-    → is_dirty (past_of r) a line n ≡ true → is_dirty (past_of r) b line n ≡ true → a ≡ b
-unfolding is_dirty is_exclusive
-one-dirty r a b line n h bounds l dirty other =
-    let p : Past = past_of r in
-    let alone = and_parts (is_exclusive p a line n) (is_some_and (latest_grant p a line n) (λ grant. grant.owns || is_stored_since p a line n grant.first)) dirty in
-    let second = and_parts (is_exclusive p b line n) (is_some_and (latest_grant p b line n) (λ grant. grant.owns || is_stored_since p b line n grant.first)) other in
-    elim (cases_eq a b) [
-      | inl same ↦ same
-      | inr apart ↦
-          let unheld : holds_line p b line n ≡ false =
-          only_holder p line n (machine_at r line n) (tied-at r line n h bounds l) a b alone.0 (λ e. apart (sym e)) in
-          absurd (unheld-not-sole p b line n unheld second.0)
-    ]
-  where
-    unheld-not-sole : (p : Past) (b line n : ℕ) → holds_line p b line n ≡ false → is_exclusive p b line n ≡ true → ⊥
-    unheld-not-sole p b line n e f = let no : ⊥ = (let f' = rw e at f in cc) in no

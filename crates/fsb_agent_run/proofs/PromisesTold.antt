@@ -113,6 +113,29 @@ ended-on p u c q l e =
     let low : v.0 < u = v.1 in
     any_where-at (λ t. is_end_at p t q) c v.0 (omega arith) v.2
 
+-- a promise is made behind the latest grant
+pub promised-later : (r : Run) (a line n c q : ℕ) → Timely r → KeepsBounds r.plan → n ≤ length r.trace
+    → (k : IsPromisedAt (past_of r) a line n c q) (w : AwaitsBy (past_of r) a line n c) → w.at < k.at
+promised-later r a line n c q h bounds l k w = order-of w.at k.at not-later not-then
+  where
+    order-of : (x y : ℕ) → (y < x → ⊥) → (x ≡ y → ⊥) → x < y
+    order-of x y f g = elim (cases_lt x y) [
+      | inl l ↦ l
+      | inr m ↦ elim (cases_eq x y) [ inl e ↦ absurd (g e) | inr ne ↦ absurd (f (omega arith)) ]
+    ]
+
+    not-later : k.at < w.at → ⊥
+    not-later late =
+        both_ways (is_granted (past_of r) a line w.at)
+        (none-from (is_granted (past_of r) a line) (k.at + 1) n w.at k.since (omega arith) w.below) w.granted
+
+    not-then : w.at ≡ k.at → ⊥
+    not-then same =
+        let k_below : k.at < n = k.below in
+        both_ways (is_granted (past_of r) a line k.at)
+        (given-ungranted r a k.at line k.claim (given r a k.at k.claim h bounds (omega arith) k.given))
+        (subst (λ t. is_granted (past_of r) a line t ≡ true) same w.granted)
+
 -- a request that is promised the bytes of a line has no response while they are awaited
 pub promised-unresponded : (r : Run) (a line n c q u : ℕ) → Timely r → KeepsBounds r.plan → n ≤ length r.trace
     → u ≤ c → u < length r.trace → promise_told (past_of r) a line n c ≡ Some q → responded_in (past_of r) u ≡ Some q → ⊥
@@ -124,22 +147,12 @@ promised-unresponded r a line n c q u h bounds l before within told responds =
     let w_below : w.at < n = w.below in
     let g = given r a k.at k.claim h bounds (omega arith) k.given in
     let order = answers-in-order r h in
-    let not_later : k.at < w.at → ⊥ = λ late.
-    both_ways (is_granted p a line w.at) (none-from (is_granted p a line) (k.at + 1) n w.at k.since (omega arith) w_below) w.granted in
-    let not_then : w.at ≡ k.at → ⊥ = λ same.
-    both_ways (is_granted p a line k.at) (given-ungranted r a k.at line k.claim g) (subst (λ t. is_granted p a line t ≡ true) same w.granted) in
-    let earlier : w.at < k.at = order-of w.at k.at not_later not_then in
+    let earlier : w.at < k.at = promised-later r a line n c q h bounds l k w in
     let first : g.at.end.first ≡ q = sym g.first ∙ k.first in
     let ended = order.in_turn w.at k.at u w.end g.at.end w.there g.at.there earlier within (responds ∙ ap Some (sym first)) in
     let grant_first = grant-first r a line w.at w.end w.grant (omega arith) w.there w.made w.granted in
     both_ways (is_ended p c w.grant.first) w.unended
     (ended-on p u c w.grant.first before (subst (λ x. is_ended p u x ≡ true) (sym grant_first) ended))
-  where
-    order-of : (x y : ℕ) → (y < x → ⊥) → (x ≡ y → ⊥) → x < y
-    order-of x y f g = elim (cases_lt x y) [
-      | inl l ↦ l
-      | inr m ↦ elim (cases_eq x y) [ inl e ↦ absurd (g e) | inr ne ↦ absurd (f (omega arith)) ]
-    ]
 
 -- so it is not promised where it responds
 pub responded-unpromised : (r : Run) (a n c q u : ℕ) → Timely r → KeepsBounds r.plan → n ≤ length r.trace

@@ -17,7 +17,8 @@ pub use laws::{
 };
 pub use owed::{
     agents_begin_owing_nothing, bytes_are_handed_on, ends_bring_what_is_promised, ends_may_be_seen,
-    few_requests_are_owed, fills_tell_grants, snoop_ends_are_owed, snoop_ends_may_be_seen,
+    few_requests_are_owed, fills_tell_grants, givers_give_the_bytes, snoop_ends_are_owed,
+    snoop_ends_may_be_seen,
 };
 pub use requests::{agents_owe_few, completions_are_of_items, ends_come_to_agents, requests_are_apart};
 pub use stages::{

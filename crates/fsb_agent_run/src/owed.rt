@@ -2,6 +2,7 @@
 
 ghost use Rattle.std.specs.Prelude.{◌≡◌, ◌<◌, ◌≤◌, ℕ, ◌+◌, List, Bool, None, Some, false, is_some, length, true};
 ghost use Rattle.fsb_count.specs.Clocks.{count_where};
+ghost use Rattle.fsb_count.specs.Options.{is_at};
 ghost use Rattle.fsb_encode.specs.declared.request.Request.{Request};
 ghost use Rattle.fsb_linebuf.specs.Buffers.{promise_on};
 ghost use Rattle.fsb_line.specs.States.{is_modified};
@@ -21,6 +22,7 @@ ghost use Rattle.fsb_agent_view.specs.Arriving.{hand_by, handed_on, line_arrived
 ghost use Rattle.fsb_agent_view.specs.OwnRequests.{request_numbered};
 ghost use Rattle.fsb_agent_view.specs.Snooping.{committed, may_commit};
 ghost use Rattle.fsb_agent_view.specs.Sound.{IsSound};
+ghost use Rattle.fsb_agent_run.specs.AgentClocks.{giver_of};
 ghost use Rattle.fsb_agent_run.specs.BytesOwed.{HasOwedOf, is_given_below, owes_from};
 ghost use Rattle.fsb_agent_run.specs.AwaitedFills.{HasFillsOf};
 ghost use Rattle.fsb_agent_run.specs.RunViews.{is_awaited};
@@ -40,6 +42,13 @@ pub fn fills_tell_grants()
     ensures { (p : Past) (a n c number : ℕ) (v : AgentView) (out : OwnRequest) → IsSound v →
         HasFillsOf p a n c v → request_numbered number v.outs ≡ Some out →
         out.granted ≡ is_awaited p a out.request.line n c }
+{}
+
+/// At the response of a request an agent gives its bytes exactly where it is named as the giver of
+/// what is awaited after the request's snoop end.
+pub fn givers_give_the_bytes()
+    ensures { (r : Run) (a c q : ℕ) → Reaches r (c + 1) → responded_in (past_of r) c ≡ Some q →
+        is_given_below (past_of r) a c q ≡ is_at (giver_of (past_of r) c q) a }
 {}
 
 /// At the response of a request whose bytes an agent gives its view has them, and hands them on.
@@ -67,7 +76,7 @@ pub fn snoop_ends_are_owed()
         (committed v out.number true request shared s.outcome) }
     ensures other { (r : Run) (a c number : ℕ) (s : SnoopEnd) (v : AgentView)
         (request : Request) (shared : Bool) → Reaches r (c + 1) → a < 4 →
-        IsOtherSnoopEnd (past_of r) a c s number request → IsSound v →
+        IsOtherSnoopEnd (past_of r) a c s number request →
         is_modified (line_state_by v request.line) ≡ is_dirty (past_of r) a request.line c →
         HasFillsOf (past_of r) a c c v → HasOwedOf (past_of r) a c (c + 1) c v →
         HasOwedOf (past_of r) a (c + 1) (c + 1) c
@@ -81,14 +90,12 @@ pub fn snoop_ends_are_owed()
 /// the bytes from there on; and without a line that comes what it owes stays.
 pub fn ends_bring_what_is_promised()
     ensures arrived { (r : Run) (a c number : ℕ) (bytes : List ℕ) (v : AgentView) →
-        Reaches r (c + 1) → IsSound v → may_arrive v number ≡ true →
-        HasFillsOf (past_of r) a (c + 1) c v →
+        Reaches r (c + 1) → HasFillsOf (past_of r) a (c + 1) c v →
         HasFillsOf (past_of r) a (c + 1) (c + 1) (line_arrived v c number bytes) →
         HasOwedOf (past_of r) a (c + 1) (c + 1) c v →
         HasOwedOf (past_of r) a (c + 1) (c + 1) (c + 1) (line_arrived v c number bytes) }
     ensures upgraded { (r : Run) (a c number : ℕ) (v : AgentView) →
-        Reaches r (c + 1) → IsSound v → may_end_upgrade v number ≡ true →
-        HasFillsOf (past_of r) a (c + 1) c v →
+        Reaches r (c + 1) → HasFillsOf (past_of r) a (c + 1) c v →
         HasFillsOf (past_of r) a (c + 1) (c + 1) (upgrade_ended v c number) →
         HasOwedOf (past_of r) a (c + 1) (c + 1) c v →
         HasOwedOf (past_of r) a (c + 1) (c + 1) (c + 1) (upgrade_ended v c number) }

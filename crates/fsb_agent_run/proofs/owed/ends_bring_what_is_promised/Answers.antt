@@ -5,13 +5,13 @@ use Rattle.fsb_agent_run.proofs.owed.ends_bring_what_is_promised.Goals as goal
 
 pub returns-clause-arrived : goal.returns-clause-arrived
 returns-clause-arrived c =
-    λ r a d number bytes v h sound may before after owed.
-    line-owed r a d number bytes v h.timely h.bounds (within r d h.long) sound may before after owed
+    λ r a d number bytes v h before after owed.
+    line-owed r a d number bytes v h.timely h.bounds (within r d h.long) before after owed
 
 pub returns-clause-upgraded : goal.returns-clause-upgraded
 returns-clause-upgraded c =
-    λ r a d number v h sound may before after owed.
-    upgrade-owed r a d number v h.timely h.bounds (within r d h.long) sound may before after owed
+    λ r a d number v h before after owed.
+    upgrade-owed r a d number v h.timely h.bounds (within r d h.long) before after owed
 
 pub returns-clause-kept : goal.returns-clause-kept
 returns-clause-kept c =

@@ -9,8 +9,8 @@ returns-clause-own c =
 
 pub returns-clause-other : goal.returns-clause-other
 returns-clause-other c =
-    λ r a d number s v request shared h few k sound dirty fills owed.
-    other-owed-after r a d number s v request shared h.timely h.bounds (within r d h.long) few k sound dirty fills owed
+    λ r a d number s v request shared h few k dirty fills owed.
+    other-owed-after r a d number s v request shared h.timely h.bounds (within r d h.long) few k dirty fills owed
 
 pub returns-clause-none : goal.returns-clause-none
 returns-clause-none c = λ r a d v h none owed. unsettled-owed-after r a d v h.timely h.bounds (within r d h.long) none owed
