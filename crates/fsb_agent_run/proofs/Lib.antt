@@ -39,3 +39,5 @@ pub mod SentViews
 pub mod SnoopSteps
 pub mod PromisesFree
 pub mod GiversNamed
+pub mod OwnSnoops
+pub mod OtherSnoops

@@ -15,7 +15,7 @@ use Rattle.fsb_coherent.proofs.Interface.{some-there}
 use Rattle.fsb_agent_run.specs.RunViews.{HasLinesOf, is_awaited, state_told}
 use Rattle.fsb_agent_run.proofs.FillCounts.{come-count}
 
-held-told : (held alone dirty : Bool) → is_held (state_told held alone dirty) ≡ held
+pub held-told : (held alone dirty : Bool) → is_held (state_told held alone dirty) ≡ held
 held-told false alone dirty = refl
 held-told true false dirty = refl
 held-told true true false = refl
