@@ -41,3 +41,7 @@ pub mod PromisesFree
 pub mod GiversNamed
 pub mod OwnSnoops
 pub mod OtherSnoops
+pub mod AwaitedFills
+pub mod OwnEvents
+pub mod OwedStages
+pub mod CallsAtStages

@@ -22,7 +22,7 @@ use Rattle.fsb_agent_view.specs.AgentViews.{AgentView}
 use Rattle.fsb_agent_view.specs.Arriving.{arrived_for, buffers_landed, ended_for, given_up, is_arrival_by, line_arrived, met_by, upgrade_ended}
 use Rattle.fsb_agent_view.specs.OwnRequests.{request_numbered}
 use Rattle.fsb_agent_view.specs.Snooping.{owed_count}
-use Rattle.fsb_agent_run.specs.AwaitedFills.{HasFillsOf}
+use Rattle.fsb_agent_run.proofs.AwaitedFills.{HasFillsOf}
 use Rattle.fsb_agent_run.specs.BytesOwed.{HasOwedOf, claim_given_at, given_since, gives_line_at, is_given_below, is_promised, is_pushed, owes_from, promise_told}
 use Rattle.fsb_agent_run.specs.RunViews.{is_awaited, one_if}
 use Rattle.fsb_agent_run.proofs.BufferCounts.{promise_on-none, promise_on-without, push_count, push_count-pushed}

@@ -31,9 +31,9 @@ use Rattle.fsb_agent_view.specs.declared.want.OwnRequest.{OwnRequest}
 use Rattle.fsb_agent_view.specs.AgentViews.{AgentView, has_come, line_state_by}
 use Rattle.fsb_agent_view.specs.OwnRequests.{request_numbered}
 use Rattle.fsb_agent_view.specs.Snooping.{buffers_giving, committed, granted_by, is_giver, is_handed, kind_asks, other_settled, own_settled, upgraded_by, with_fill}
-use Rattle.fsb_agent_run.specs.AwaitedFills.{HasFillsOf}
+use Rattle.fsb_agent_run.proofs.AwaitedFills.{HasFillsOf}
 use Rattle.fsb_agent_run.specs.BytesOwed.{HasOwedOf, claim_given_at, gives_claim}
-use Rattle.fsb_agent_run.specs.OwnEvents.{IsOtherSnoopEnd, IsOwnSnoopEnd, is_settled_for}
+use Rattle.fsb_agent_run.proofs.OwnEvents.{IsOtherSnoopEnd, IsOwnSnoopEnd, is_settled_for}
 use Rattle.fsb_agent_run.specs.RunViews.{is_awaited, one_if}
 use Rattle.fsb_agent_run.proofs.FillCounts.{come-count, count_on}
 use Rattle.fsb_agent_run.proofs.GivenBytes.{claim-given, gives-by, none-claimed, none-snooped, same-first}
@@ -236,6 +236,20 @@ giver-same r a c number s claim v request h bounds l few k e dirty =
           | inr written ↦ k.other claim e written.1
         ]))
 
+-- what an agent owes after the snoop end of a reply to another agent
+pub replied-owed-after : (r : Run) (a c number : ℕ) (s : SnoopEnd) (grant : Grant) (v : AgentView) (request : Request)
+    (shared : Bool) → Timely r → KeepsBounds r.plan → c < length r.trace → snooped_at (past_of r) c ≡ Some s
+    → s.claim ≡ None → s.grant ≡ Some grant → HasOwedOf (past_of r) a c (c + 1) c v
+    → HasOwedOf (past_of r) a (c + 1) (c + 1) c (committed v number false request shared s.outcome)
+replied-owed-after r a c number s grant v request shared h bounds l there none made owed =
+    let replied = (clock-facts r grant.line c h bounds l).settles.replied s grant there none made refl in
+    let off : is_giver v request s.outcome ≡ false =
+    unhanded (is_modified (line_state_by v request.line)) (asks_line (kind_asks request.kind)) s.outcome
+    (ap is_handed replied.replied) in
+    owed-on (past_of r) a c (c + 1) c (c + 1) (c + 1) c v (other_settled v number request s.outcome)
+    (quiet-owed r a c h bounds l (none-claimed (past_of r) a c s there none))
+    (same-debts v.buffers (other_settled v number request s.outcome).buffers (rw (off, other_settled) refl)) owed
+
 -- what an agent owes after another agent's snoop end
 pub other-owed-after : (r : Run) (a c number : ℕ) (s : SnoopEnd) (v : AgentView) (request : Request) (shared : Bool)
     → Timely r → KeepsBounds r.plan → c < length r.trace → a < 4 → IsOtherSnoopEnd (past_of r) a c s number request
@@ -293,10 +307,7 @@ other-owed-after r a c number s v request shared h bounds l few k dirty fills ow
         → HasOwedOf (past_of r) a (c + 1) (c + 1) c (other_settled v number request s.outcome)
     by None e =
         let g = k.replied e in
-        let replied = (clock-facts r g.0.line c h bounds l).settles.replied s g.0 k.there e g.1 refl in
-        quiet (none-claimed (past_of r) a c s k.there e)
-        (unhanded (is_modified (line_state_by v request.line)) (asks_line (kind_asks request.kind)) s.outcome
-        (ap is_handed replied.replied))
+        replied-owed-after r a c number s g.0 v request shared h bounds l k.there e g.1 owed
     by (Some claim) e =
         let same = giver-same r a c number s claim v request h bounds l few k e dirty in
         elim (cases_Bool (gives_claim (past_of r) a c s claim)) [

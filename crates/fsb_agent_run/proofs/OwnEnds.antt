@@ -35,7 +35,7 @@ use Rattle.fsb_coherent.specs.Relation.{IsOpen, deferral_at, deferral_below, def
 use Rattle.fsb_coherent.proofs.Interface.{dirty-by-hits}
 use Rattle.fsb_tied.proofs.Interface.{answers-in-order, begun-want, cancels, clock-facts, grant-first, granted-parts, live-at, own-owed}
 use Rattle.fsb_agent_view.specs.declared.want.OwnRequest.{OwnRequest}
-use Rattle.fsb_agent_run.specs.OwnEvents.{IsOwnEnd, IsOwnSnoopEnd, is_settled_for}
+use Rattle.fsb_agent_run.proofs.OwnEvents.{IsOwnEnd, IsOwnSnoopEnd, is_settled_for}
 use Rattle.fsb_agent_run.specs.RunViews.{is_awaited}
 use Rattle.fsb_agent_run.proofs.GivenBytes.{same-first, written-kind}
 use Rattle.fsb_agent_run.proofs.OwnLines.{granted-settled, machine_at, own-claim, own-grant, settled-unawaited, tied-at}

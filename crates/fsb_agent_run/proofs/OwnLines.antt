@@ -32,7 +32,7 @@ use Rattle.fsb_coherent.specs.LineEvents.{events_below}
 use Rattle.fsb_coherent.specs.Relation.{IsOpen, chain_below, deferral_below, link_for, link_left, links_left}
 use Rattle.fsb_coherent.proofs.Interface.{facts-keep-ties, may-below}
 use Rattle.fsb_tied.proofs.Interface.{awaits-grant, clock-facts, grant-first, granted-parts}
-use Rattle.fsb_agent_run.specs.OwnEvents.{is_settled_for}
+use Rattle.fsb_agent_run.proofs.OwnEvents.{is_settled_for}
 use Rattle.fsb_agent_run.specs.RunViews.{is_awaited}
 use Rattle.fsb_agent_run.proofs.GivenBytes.{granted-if, same-first}
 use Rattle.fsb_agent_run.proofs.PromisesTold.{AwaitsBy, awaits-by}

@@ -10,15 +10,18 @@
 //! is the agent as the next clock finds it.
 #![tactic(auto)]
 
+pub use calls::{
+    requests_may_begin_and_be_cancelled, requests_tell_grants, snoop_ends_may_be_seen,
+};
 pub use clocks::{clocks_keep_views, views_of_runs_are_their_events};
 pub use laws::{
     begun_requests_are_wants, first_views_are_of_the_run, hits_go_by_the_run, places_of_views_step,
     snoop_answers_go_by_the_run, views_go_by_the_run, wants_go_by_the_run,
 };
 pub use owed::{
-    agents_begin_owing_nothing, bytes_are_handed_on, ends_bring_what_is_promised, ends_may_be_seen,
-    few_requests_are_owed, fills_tell_grants, givers_give_the_bytes, snoop_ends_are_owed,
-    snoop_ends_may_be_seen,
+    agents_begin_owing_nothing, bytes_are_handed_on, ends_bring_what_is_promised,
+    few_requests_are_owed, givers_give_the_bytes, own_snoop_ends_are_owed,
+    snoop_ends_of_others_are_owed,
 };
 pub use requests::{agents_owe_few, completions_are_of_items, ends_come_to_agents, requests_are_apart};
 pub use stages::{
@@ -26,6 +29,7 @@ pub use stages::{
     own_snoop_ends_lead_on, snoop_ends_of_others_lead_on,
 };
 
+mod calls;
 mod clocks;
 mod laws;
 mod owed;
