@@ -17,7 +17,6 @@ use Rattle.fsb_timely.specs.Grants.{has_arrived, holds_line, is_exclusive, is_re
 use Rattle.fsb_timely.specs.Hits.{is_dirty, is_hit, is_met, is_served}
 use Rattle.fsb_timely.specs.Runs.{Run, past_of}
 use Rattle.fsb_timely.specs.Scripts.{Need, is_idling, is_load, items_of, needs_of, next_item, next_number}
-use Rattle.fsb_timely.proofs.Interface.{at, steps-completed}
 use Rattle.fsb_coherent.specs.Relation.{is_dirty_below}
 use Rattle.fsb_coherent.proofs.Interface.{dirty-none}
 use Rattle.fsb_run_laws.specs.Reaches.{Reaches}
@@ -25,11 +24,11 @@ use Rattle.fsb_agent_view.specs.AgentViews.{AgentView, line_state_by}
 use Rattle.fsb_agent_view.specs.Arriving.{handed_on}
 use Rattle.fsb_agent_view.specs.Serving.{hand_after_steps}
 use Rattle.fsb_agent_view.specs.Completing.{completed_by, hand_of, is_hit_by, next_steps, performed}
-use Rattle.fsb_agent_run.specs.RunViews.{CompletesItem, HasLinesOf, IsAgentOf, IsAtItem, IsPlacedIn, place_of, state_told}
+use Rattle.fsb_agent_run.specs.RunViews.{CompletesItem, HasLinesOf, IsAgentOf, IsAtItem, IsPlacedIn, LogsItem, place_of, state_told}
 use Rattle.fsb_agent_run.specs.Stages.{IsPlacedThrough, IsViewAfterHit, IsViewOf}
 use Rattle.fsb_agent_run.proofs.HandSteps.{in_sets-after, length-after, may_store, state-after, stores_into}
 use Rattle.fsb_agent_run.proofs.HitsMade.{hit-by}
-use Rattle.fsb_agent_run.proofs.ItemsCompleted.{IsNeedOf, any-stores, completes-item, item-there, steps-need, stores-by-steps}
+use Rattle.fsb_agent_run.proofs.ItemsCompleted.{IsNeedOf, any-stores, logged-there, steps-need, stores-by-steps}
 use Rattle.fsb_agent_run.proofs.Places.{next-by, placed-at}
 use Rattle.fsb_agent_run.proofs.PlaceSteps.{place-completed}
 use Rattle.fsb_agent_run.proofs.StatesTold.{held-by}
@@ -94,11 +93,11 @@ hit-needs p a c item e there =
     (is_some_and (next_item p a c) (λ item. list_all (is_served p a c) (needs_of item))) e in
     rw there at parts.1
 
-sole-told : (held own dirty : Bool) → held ≡ true → own ≡ true → Modified ≡ state_with true (state_told held own dirty)
+pub sole-told : (held own dirty : Bool) → held ≡ true → own ≡ true → Modified ≡ state_with true (state_told held own dirty)
 sole-told held own true h o = rw (h, o) refl
 sole-told held own false h o = rw (h, o) refl
 
-never-with : (b : Bool) (state : Mesi) → b ≡ false → state ≡ state_with b state
+pub never-with : (b : Bool) (state : Mesi) → b ≡ false → state ≡ state_with b state
 never-with b state e = rw e (by state)
   where
     by : (state : Mesi) → state ≡ state_with false state
@@ -107,7 +106,7 @@ never-with b state e = rw e (by state)
     by Exclusive = refl
     by Modified = refl
 
-nothing : (b : Bool) → (b && false) ≡ false
+pub nothing : (b : Bool) → (b && false) ≡ false
 nothing true = refl
 nothing false = refl
 
@@ -148,27 +147,22 @@ alone-parts p a c access load e =
     let inner = and_parts (holds_line p a line c) (is_exclusive p a line c) outer.0 in
     (inner.0, inner.1, outer.1)
 
-hit-lines : (r : Run) (a c number : ℕ) (item : Item) (v : AgentView) (line : ℕ) → Reaches r (c + 1) → a < 4
-    → IsViewOf (past_of r) a c v → is_hit (past_of r) a c ≡ true → next_number (past_of r) a c ≡ Some number
-    → next_item (past_of r) a c ≡ Some item
-    → line_state_by (completed_by v c) line
-    ≡ state_told (holds_line (past_of r) a line c) (is_exclusive (past_of r) a line c) (is_dirty (past_of r) a line c)
-unfolding past_of
-hit-lines r a c number item v line h few view hit next there =
-    let p = past_of r in
-    let long = h.long in
+hit-lines : (p : Past) (a c : ℕ) (v : AgentView) (line : ℕ) → IsViewOf p a c v → is_hit p a c ≡ true
+    → (k : LogsItem p a c) → line_state_by (completed_by v c) line
+    ≡ state_told (holds_line p a line c) (is_exclusive p a line c) (is_dirty p a line c)
+hit-lines p a c v line view hit k =
     let dirty : ℕ → Bool = λ line. is_dirty_below p a line c in
-    let steps = next-steps p a c number item v view.agent view.placed next there in
-    let needs = hit-needs p a c item hit there in
+    let number : ℕ = k.number in
+    let item : Item = k.item in
+    let steps = next-steps p a c number item v view.agent view.placed k.completes.next k.next in
+    let needs = hit-needs p a c item hit k.next in
     let may : list_all (λ (step : Step). may_store v.lines step.access) (steps_of_item number item) ≡ true =
     steps-need (is_served p a c) (may_store v.lines) number item (λ need access of served.
     may-held v access (ap (λ l. is_held (line_state_by v l)) (sym of.line) ∙ held-by p a c c dirty v need.line view.lines
     ∙ (served-parts p a c need served).0)) needs in
     let any = list_any (λ (step : Step). stores_into line step.access) (steps_of_item number item) in
     let logged : any_stored p a line c ≡ any =
-    stores-by-steps a line c r.log
-    ∙ ap (list_any (λ (step : Step). stores_into line step.access))
-    (steps-completed r a c number item h.timely (omega arith) few next there (inl hit)) in
+    stores-by-steps a line c p.log ∙ ap (list_any (λ (step : Step). stores_into line step.access)) k.steps in
     ap (λ s. states (hand_after_steps (hand_of v) s).lines line) steps
     ∙ state-after (hand_of v) (steps_of_item number item) line may
     ∙ (elim (cases_Bool any) [
@@ -195,45 +189,46 @@ hit-lines r a c number item v line h few view hit next there =
     ])
     ∙ sym (hit-state p a line c hit)
 
-pub hit-view : (r : Run) (a c : ℕ) (v : AgentView) → Reaches r (c + 1) → a < 4 → IsViewOf (past_of r) a c v
-    → is_hit (past_of r) a c ≡ true → IsViewAfterHit (past_of r) a c (completed_by v c)
-hit-view r a c v h few view hit =
-    let p = past_of r in
-    let k = completes-item r a c h few (inl hit) in
-    let item = item-there p a c (inl hit) in
-    record {
-      agent = record {
-        number = view.agent.number;
-        items = view.agent.items;
-        ahead = view.agent.ahead;
-        profile = view.agent.profile;
-        cache = length-after (hand_of v) (next_steps v) ∙ view.agent.cache;
-      };
-      placed = record {
-        item = subst (λ b. IsAtItem p a c b (completed_by v c)) (sym hit)
-            (placed-hit p a c k.0 v k.1 view.agent view.placed);
-        before = λ none. absurd (both_ways (is_hit p a c) none hit);
-        behind = λ _. place-completed p a c k.0 v k.1 view.agent view.placed;
-      };
-      lines = record {
-        states = λ line. hit-lines r a c k.0 item.0 v line h few view hit k.1.next item.1;
-        fills = view.lines.fills;
-        in_sets = in_sets-after (hand_of v) (next_steps v) view.lines.in_sets;
-      };
-      requests = record { owed = view.requests.owed; wanted = view.requests.wanted; kept = view.requests.kept };
-    }
+pub hit-view : (p : Past) (a c : ℕ) (v : AgentView) → IsViewOf p a c v → is_hit p a c ≡ true → LogsItem p a c
+    → IsViewAfterHit p a c (completed_by v c)
+hit-view p a c v view hit k = record {
+  agent = record {
+    number = view.agent.number;
+    items = view.agent.items;
+    ahead = view.agent.ahead;
+    profile = view.agent.profile;
+    cache = length-after (hand_of v) (next_steps v) ∙ view.agent.cache;
+  };
+  placed = record {
+    item = subst (λ b. IsAtItem p a c b (completed_by v c)) (sym hit)
+        (placed-hit p a c k.number v k.completes view.agent view.placed);
+    before = λ none. absurd (both_ways (is_hit p a c) none hit);
+    behind = λ _. place-completed p a c k.number v k.completes view.agent view.placed;
+  };
+  lines = record {
+    states = λ line. hit-lines p a c v line view hit k;
+    fills = view.lines.fills;
+    in_sets = in_sets-after (hand_of v) (next_steps v) view.lines.in_sets;
+  };
+  requests = record { owed = view.requests.owed; wanted = view.requests.wanted; kept = view.requests.kept };
+}
 
-pub performed-view : (r : Run) (a c : ℕ) (v : AgentView) → Reaches r (c + 1) → a < 4 → IsViewOf (past_of r) a c v
-    → IsViewAfterHit (past_of r) a c (performed v c)
-performed-view r a c v h few view =
-    let p = past_of r in
+-- after the hit, where it is logged
+pub performed-logged : (p : Past) (a c : ℕ) (v : AgentView) → IsViewOf p a c v → (is_hit p a c ≡ true → LogsItem p a c)
+    → IsViewAfterHit p a c (performed v c)
+performed-logged p a c v view logs =
     let same = hit-by p a c (λ line. is_dirty_below p a line c) v view.agent (placed-at p a c v view.placed) view.lines in
     elim (cases_Bool (is_hit p a c)) [
       | inr none ↦
           subst (IsViewAfterHit p a c) (sym (performed-by v c false (same ∙ none))) (after-none p a c v view none)
       | inl hit ↦
-          subst (IsViewAfterHit p a c) (sym (performed-by v c true (same ∙ hit))) (hit-view r a c v h few view hit)
+          subst (IsViewAfterHit p a c) (sym (performed-by v c true (same ∙ hit))) (hit-view p a c v view hit (logs hit))
     ]
+
+pub performed-view : (r : Run) (a c : ℕ) (v : AgentView) → Reaches r (c + 1) → a < 4 → IsViewOf (past_of r) a c v
+    → IsViewAfterHit (past_of r) a c (performed v c)
+performed-view r a c v h few view =
+    performed-logged (past_of r) a c v view (λ hit. logged-there r a c h few (inl hit))
 
 -- bytes that are handed on are nothing to lines, requests and place
 pub handed-view : (p : Past) (a c number : ℕ) (v : AgentView) → IsViewOf p a c v → IsViewOf p a c (handed_on v number)

@@ -21,7 +21,7 @@ use Rattle.fsb_timely.proofs.Interface.{at, logged-next, logs-item, not-behind, 
 use Rattle.fsb_lawful.proofs.Interface.{some-and}
 use Rattle.fsb_run_laws.specs.Reaches.{Reaches}
 use Rattle.fsb_run_laws.proofs.Interface.{completes-exactly, last-of}
-use Rattle.fsb_agent_run.specs.RunViews.{CompletesItem}
+use Rattle.fsb_agent_run.specs.RunViews.{CompletesItem, LogsItem}
 use Rattle.fsb_agent_run.proofs.HandSteps.{may_store, stores_into}
 
 pub completes-there : (r : Run) (a c : ℕ) → Reaches r (c + 1) → a < 4
@@ -71,6 +71,23 @@ item-there p a c (inr e) =
     let k = some-and (next_item p a c) (λ item. list_any (completes_by p a c (needs_of item)) (needs_of item))
     (and_parts (not (is_idling p a c) && not (is_hit p a c)) _ e).1 in
     (k.0, k.1)
+
+-- in a timely run it is logged
+pub logged-there : (r : Run) (a c : ℕ) → Reaches r (c + 1) → a < 4
+    → (is_hit (past_of r) a c ≡ true) ⊎ (is_arrival (past_of r) a c ≡ true) → LogsItem (past_of r) a c
+unfolding past_of
+logged-there r a c h few which =
+    let p = past_of r in
+    let long = h.long in
+    let k = completes-item r a c h few which in
+    let item = item-there p a c which in
+    record {
+      number = k.0;
+      item = item.0;
+      completes = k.1;
+      next = item.1;
+      steps = steps-completed r a c k.0 item.0 h.timely (omega arith) few k.1.next item.1 which;
+    }
 
 -- whether an agent's entries of a clock store into a line, by their accesses
 pub stores-by-steps : (a line c : ℕ) (log : List Done)

@@ -45,3 +45,5 @@ pub mod AwaitedFills
 pub mod OwnEvents
 pub mod OwedStages
 pub mod CallsAtStages
+pub mod EndFacts
+pub mod EndViews

@@ -157,7 +157,7 @@ writes-alone r a c s claim h there claims kind other =
 abbrev told_by : Kind → Mesi → Mesi
 told_by kind state = if is_owning kind then Invalid else state_read state
 
-unheld-invalid : (state : Mesi) → is_held state ≡ false → state ≡ Invalid
+pub unheld-invalid : (state : Mesi) → is_held state ≡ false → state ≡ Invalid
 unheld-invalid Invalid e = refl
 unheld-invalid Shared e = absurd (let no : ⊥ = cc in no)
 unheld-invalid Exclusive e = absurd (let no : ⊥ = cc in no)

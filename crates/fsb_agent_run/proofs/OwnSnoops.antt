@@ -238,8 +238,8 @@ got-view r a c s claim grant out shared v h some there claims mine k makes agent
 -- a kind that gets its line with an outcome, and the state in which it gets it
 record IsGetting (kind : Kind) (outcome : Outcome) : Type 0 where
   makes : makes_grant kind outcome ≡ true
-  plain : is_upgraded outcome ≡ false
-  kept : is_write_back_kind kind ≡ false
+  pub plain : is_upgraded outcome ≡ false
+  pub kept : is_write_back_kind kind ≡ false
   asks : asks_line (kind_asks kind) ≡ true
   state : (shared : Bool) → granted (kind_asks kind) shared
       ≡ (if kind_owns (kind_asks kind) then Modified else (if shared then Shared else Exclusive))
@@ -264,10 +264,10 @@ getting-handed kinds.Upgrade e =
     record { makes = refl; plain = refl; kept = refl; asks = refl; state = λ shared. refl }
 
 -- a kind that gets nothing with an outcome, and asks for no write-back
-record IsIdle (kind : Kind) (outcome : Outcome) : Type 0 where
-  makes : makes_grant kind outcome ≡ false
-  plain : is_upgraded outcome ≡ false
-  kept : is_write_back_kind kind ≡ false
+pub record IsIdle (kind : Kind) (outcome : Outcome) : Type 0 where
+  pub makes : makes_grant kind outcome ≡ false
+  pub plain : is_upgraded outcome ≡ false
+  pub kept : is_write_back_kind kind ≡ false
 
 idle-retried : (kind : Kind) → fits_kind kind Retried ≡ true → IsIdle kind Retried
 unfolding fits_kind fits_getting fits_upgrade fits_write_back makes_grant is_got is_upgraded is_write_back_kind
@@ -277,7 +277,7 @@ idle-retried kinds.Read e = record { makes = refl; plain = refl; kept = refl }
 idle-retried kinds.WriteBack e = absurd (let no : ⊥ = cc in no)
 idle-retried kinds.Upgrade e = record { makes = refl; plain = refl; kept = refl }
 
-idle-deferred : (kind : Kind) → fits_kind kind Deferred ≡ true → IsIdle kind Deferred
+pub idle-deferred : (kind : Kind) → fits_kind kind Deferred ≡ true → IsIdle kind Deferred
 unfolding fits_kind fits_getting fits_upgrade fits_write_back makes_grant is_got is_upgraded is_write_back_kind
 idle-deferred kinds.Reply e = absurd (let no : ⊥ = cc in no)
 idle-deferred kinds.Invalidate e = record { makes = refl; plain = refl; kept = refl }
@@ -495,7 +495,7 @@ upgraded-view r a c s claim out v h some there claims mine k e request number vi
     whole false = refl
 
 -- no grant is made
-unmade : (r : Run) (c : ℕ) (s : SnoopEnd) (claim : Claim) (k : IsSettledAs r c s claim) (outcome : Outcome)
+pub unmade : (r : Run) (c : ℕ) (s : SnoopEnd) (claim : Claim) (k : IsSettledAs r c s claim) (outcome : Outcome)
     → s.outcome ≡ outcome → makes_grant k.request.kind outcome ≡ false → is_upgraded outcome ≡ false → s.grant ≡ None
 unmade r c s claim k outcome e makes plain =
     none-made _ s.grant _

@@ -3,7 +3,7 @@ use Rattle.std.proofs.Common.{ℕ, ◌+◌, ◌<◌, ◌≤◌, ◌≡◌, ◌�
 use Rattle.std.specs.Option.{option_and_then}
 use Rattle.std.proofs.lemmas.Bool.{and_parts, both_ways, cases_Bool, cases_lt, eqb-true, false_from_ne_true, le-ltb, lt-ltb, or_cases}
 use Rattle.fsb_count.specs.Options.{is_at, is_before}
-use Rattle.fsb_count.proofs.Interface.{is_at-some, is_before-parts}
+use Rattle.fsb_count.proofs.Interface.{is_at-from, is_at-some, is_before-parts}
 use Rattle.fsb_signal.specs.declared.lines.TheConstants.Lines.{ADS, AERR}
 use Rattle.fsb_signal.specs.Samples.{line_at}
 use Rattle.fsb_trace.specs.At.{Trace, request_at}
@@ -27,7 +27,7 @@ use Rattle.fsb_tied.proofs.Interface.{IsPutOff, IsSnooped, begun-want, cancelled
 use Rattle.fsb_run_laws.specs.Reaches.{Reaches}
 use Rattle.fsb_run_laws.proofs.BroughtLines.{snoop-below}
 use Rattle.fsb_run_laws.proofs.LastClocks.{has-end}
-use Rattle.fsb_run_laws.proofs.LastTold.{told-same}
+use Rattle.fsb_run_laws.proofs.LastTold.{ends-with, last-live, told-same}
 use Rattle.fsb_run_laws.proofs.OwedRequests.{no-reply}
 
 -- a live request that is no reply, and whose last clock does not lie before, is outstanding
@@ -188,6 +188,61 @@ replied-outstanding r n s grant h there none made =
       out = live-outstanding w n j d.end.first d.snooped.tied.first (omega arith)
           (no-reply r d.end.first d.claim (n + 1) h (omega arith) begun.0) (not-before (last_clock_of w j) n late);
     }
+
+-- what a reply serves that ends at n is outstanding there for the last time
+pub ending-serves : (r : Run) (n q : ℕ) (s : SnoopEnd) (grant : Grant) → Reaches r (n + 1)
+    → is_end_at (past_of r) n q ≡ true → snoop_end_below (past_of r) (n + 1) q ≡ Some s → s.claim ≡ None
+    → s.grant ≡ Some grant
+    → (k : ServesOutstanding r n grant) × (is_last_clock r.trace n k.end.first ≡ true)
+unfolding grant_to reply_end_of
+ending-serves r n q s grant h e below none made =
+    let w = r.trace in
+    let long = h.long in
+    let o = orderly-whole r n h.timely (omega arith) in
+    let k = ends-with r n q s h e below in
+    let a = reply-end-at r grant.line k.clock s grant k.snooped.tied.there none made refl in
+    let number = one_end w k.clock a.number k.number a.snooped.tied.reached k.snooped.tied.reached in
+    let j = a.served in
+    let d = a.put_off in
+    let reply = has-reply w j a.number a.reply in
+    let first = reply.first in
+    let after = reply.after in
+    let m = has-end w k.number n o k.end in
+    let early = m.early in
+    let there : live_clock_of w k.number ≡ Some reply.clock =
+    subst (λ x. live_clock_of w x ≡ Some reply.clock) number first in
+    let is = m.is_clock in
+    let clock : m.clock ≡ reply.clock = cc in
+    let snoops = m.is_snoop in
+    let reached = k.snooped.tied.reached in
+    let at : m.snoop ≡ k.clock = cc in
+    let before = m.before in
+    let upto = m.upto in
+    let earlier = a.before in
+    let deferred = told-same r n a.clock j reply.response d.end h d.snooped reply.is_response (omega arith)
+    ∙ d.deferred in
+    let last : last_clock_of w j ≡ Some n =
+    last_clock_of-deferred w j deferred ∙ ap (option_and_then (end_of w)) a.reply ∙ ap (end_of w) number ∙ k.end in
+    let lower : Reaches r (a.clock + 1) = record { timely = h.timely; bounds = h.bounds; long = omega arith } in
+    let begun = snooped-outstanding r a.clock d.end d.claim lower d.snooped.tied.there d.claims in
+    let less = begun.1 in
+    let ends = last-live w n j d.end.first d.snooped.tied.first ∙ is_at-from (last_clock_of w j) n last in
+    (record {
+      claim = d.claim;
+      end = d.end;
+      clock = a.clock;
+      number = j;
+      before = omega arith;
+      snooped = d.snooped;
+      deferred = d.deferred;
+      claims = d.claims;
+      agent = ap (λ (g : Grant). g.agent) a.made;
+      line = d.names;
+      owns = sym (ap (λ (g : Grant). g.owns) a.made) ∙ ap is_owner_request (live-request w j d.end.first d.snooped.tied.first);
+      begun = begun.0;
+      early = omega arith;
+      out = last-outstanding r n d.end.first d.claim h begun.0 (omega arith) ends;
+    }, ends)
 
 -- a request stops being outstanding by its own end, for it is not Deferred
 pub record LeftByOwn (s : SnoopEnd) (claim : Claim) : Type 0 where
