@@ -47,3 +47,4 @@ pub mod OwedStages
 pub mod CallsAtStages
 pub mod EndFacts
 pub mod EndViews
+pub mod EndsAtStages

@@ -57,3 +57,19 @@ pub fn snoop_ends_may_be_seen()
         Reaches r (c + 1) → snooped_at (past_of r) c ≡ Some s →
         HasOwedOf (past_of r) a c (c + 1) c v → may_commit v number false s.outcome ≡ true }
 {}
+
+/// The record of an agent may see each end of its own requests in a timely run: bytes come for one
+/// that was granted; an upgrade for which no data moved ends, won or lost; and one that was retried
+/// or written back is given up.
+pub fn ends_may_be_seen()
+    ensures arrives { (r : Run) (a c number : ℕ) (s : SnoopEnd) (grant : Grant) (v : AgentView) →
+        Reaches r (c + 1) → EndsFor (past_of r) a c number s → s.grant ≡ Some grant → IsSound v →
+        IsViewAfterSnoop (past_of r) a c v → may_arrive v number ≡ true }
+    ensures upgraded { (r : Run) (a c number : ℕ) (s : SnoopEnd) (v : AgentView) →
+        Reaches r (c + 1) → EndsFor (past_of r) a c number s → s.outcome ≡ Upgraded → IsSound v →
+        IsViewAfterSnoop (past_of r) a c v → may_end_upgrade v number ≡ true }
+    ensures given_up { (r : Run) (a c number : ℕ) (s : SnoopEnd) (v : AgentView) →
+        Reaches r (c + 1) → EndsFor (past_of r) a c number s →
+        (s.outcome ≡ Retried) ⊎ (s.outcome ≡ Written) → IsSound v →
+        IsViewAfterSnoop (past_of r) a c v → may_give_up v number ≡ true }
+{}

@@ -11,7 +11,7 @@
 #![tactic(auto)]
 
 pub use calls::{
-    requests_may_begin_and_be_cancelled, requests_tell_grants, snoop_ends_may_be_seen,
+    ends_may_be_seen, requests_may_begin_and_be_cancelled, requests_tell_grants, snoop_ends_may_be_seen,
 };
 pub use clocks::{clocks_keep_views, views_of_runs_are_their_events};
 pub use laws::{
