@@ -48,3 +48,4 @@ pub mod CallsAtStages
 pub mod EndFacts
 pub mod EndViews
 pub mod EndsAtStages
+pub mod ClockOwed

@@ -85,7 +85,7 @@ writes-back r a c s out h bounds l k written = by s.claim refl
           first = (same-first (past_of r) claim.line c s claim e settled.fits).0 ∙ sym (k.number (rw e refl));
         }
 
-granted-debts : (v : AgentView) (out : OwnRequest) (shared : Bool) → SameDebts v.buffers (granted_by v out shared).buffers
+pub granted-debts : (v : AgentView) (out : OwnRequest) (shared : Bool) → SameDebts v.buffers (granted_by v out shared).buffers
 granted-debts v out shared =
     elim (cases_Bool (asks_line (kind_asks out.request.kind))) [
       | inl on ↦ rw (on, granted_by) (filled-debts v.buffers out.request.line out.number)

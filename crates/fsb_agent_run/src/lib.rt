@@ -19,8 +19,8 @@ pub use laws::{
     snoop_answers_go_by_the_run, views_go_by_the_run, wants_go_by_the_run,
 };
 pub use owed::{
-    agents_begin_owing_nothing, bytes_are_handed_on, ends_bring_what_is_promised,
-    few_requests_are_owed, givers_give_the_bytes, own_snoop_ends_are_owed,
+    agents_begin_owing_nothing, bytes_are_handed_on, clocks_keep_what_is_owed,
+    ends_bring_what_is_promised, few_requests_are_owed, givers_give_the_bytes, own_snoop_ends_are_owed,
     snoop_ends_of_others_are_owed,
 };
 pub use requests::{agents_owe_few, completions_are_of_items, ends_come_to_agents, requests_are_apart};

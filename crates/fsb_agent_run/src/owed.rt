@@ -1,6 +1,6 @@
 //! Laws over what an agent owes: no code.
 
-ghost use Rattle.std.specs.Prelude.{◌≡◌, ◌≢◌, ◌<◌, ◌≤◌, ℕ, ◌+◌, Bool, List, None, Some, false, is_some, true};
+ghost use Rattle.std.specs.Prelude.{◌≡◌, ◌≢◌, ◌<◌, ◌≤◌, ℕ, ◌+◌, Bool, List, None, Some, false, fold, is_some, true};
 ghost use Rattle.fsb_count.specs.Clocks.{count_where};
 ghost use Rattle.fsb_count.specs.Options.{is_at};
 ghost use Rattle.fsb_encode.specs.declared.request.Request.{Request};
@@ -11,11 +11,11 @@ ghost use Rattle.fsb_timely.specs.Scripts.{items_of};
 ghost use Rattle.fsb_timely.specs.Wants.{want_of};
 ghost use Rattle.fsb_coherent.specs.Awaits.{responded_in};
 ghost use Rattle.fsb_run_laws.specs.Reaches.{Reaches};
-ghost use Rattle.fsb_agent_view.specs.AgentEvents.{first_view};
+ghost use Rattle.fsb_agent_view.specs.AgentEvents.{agent_after, first_view};
 ghost use Rattle.fsb_agent_view.specs.AgentViews.{AgentView};
 ghost use Rattle.fsb_agent_view.specs.Arriving.{hand_by, handed_on, line_arrived, upgrade_ended};
 ghost use Rattle.fsb_agent_view.specs.Snooping.{committed};
-ghost use Rattle.fsb_agent_run.specs.AgentClocks.{giver_of, number_asked};
+ghost use Rattle.fsb_agent_run.specs.AgentClocks.{events_of_agent, events_of_agent_below, giver_of, number_asked};
 ghost use Rattle.fsb_agent_run.specs.BytesOwed.{HasOwedOf, is_given_below, owes_from};
 ghost use Rattle.fsb_agent_run.specs.Stages.{IsViewAfterSnoop, IsViewBeforeSnoop, IsViewOf};
 
@@ -114,4 +114,17 @@ pub fn few_requests_are_owed()
         snooped_at (past_of r) c ≡ Some s → count_where (owes_from (past_of r) a (c + 1)) c < 8 }
     ensures most { (r : Run) (a n : ℕ) → Reaches r n →
         count_where (owes_from (past_of r) a n) n ≤ 8 }
+{}
+
+/// What an agent owes goes on by its events at a clock, whatever bytes come; so after its events
+/// below a clock of a timely run its record tells what it owes there.
+pub fn clocks_keep_what_is_owed()
+    ensures clock { (r : Run) (a c : ℕ) (bytes : ℕ → List ℕ) (v : AgentView) → Reaches r (c + 1) →
+        0 < r.plan.cache → a < 4 → IsViewOf (past_of r) a c v → HasOwedOf (past_of r) a c c c v →
+        HasOwedOf (past_of r) a (c + 1) (c + 1) (c + 1)
+        (fold agent_after v (events_of_agent (past_of r) a c bytes)) }
+    ensures below { (r : Run) (a n : ℕ) (bytes : ℕ → List ℕ) → Reaches r n → 0 < r.plan.cache →
+        a < 4 → HasOwedOf (past_of r) a n n n (fold agent_after
+        (first_view a (items_of (past_of r) a) r.plan.cache r.plan.ahead r.plan.profile)
+        (events_of_agent_below (past_of r) a n bytes)) }
 {}
