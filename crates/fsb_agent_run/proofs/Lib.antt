@@ -49,3 +49,6 @@ pub mod EndFacts
 pub mod EndViews
 pub mod EndsAtStages
 pub mod ClockOwed
+pub mod ArrivedViews
+pub mod EndEvents
+pub mod ClockEvents

@@ -236,15 +236,15 @@ got-view r a c s claim grant out shared v h some there claims mine k makes agent
     (λ x among. own-won r a c out.number None v x view.requests none still among) view))
 
 -- a kind that gets its line with an outcome, and the state in which it gets it
-record IsGetting (kind : Kind) (outcome : Outcome) : Type 0 where
-  makes : makes_grant kind outcome ≡ true
+pub record IsGetting (kind : Kind) (outcome : Outcome) : Type 0 where
+  pub makes : makes_grant kind outcome ≡ true
   pub plain : is_upgraded outcome ≡ false
   pub kept : is_write_back_kind kind ≡ false
   asks : asks_line (kind_asks kind) ≡ true
   state : (shared : Bool) → granted (kind_asks kind) shared
       ≡ (if kind_owns (kind_asks kind) then Modified else (if shared then Shared else Exclusive))
 
-getting-granted : (kind : Kind) → fits_kind kind Granted ≡ true → IsGetting kind Granted
+pub getting-granted : (kind : Kind) → fits_kind kind Granted ≡ true → IsGetting kind Granted
 unfolding fits_kind fits_getting fits_upgrade fits_write_back makes_grant is_got is_upgraded is_write_back_kind
 getting-granted kinds.Reply e = absurd (let no : ⊥ = cc in no)
 getting-granted kinds.Invalidate e =
@@ -253,7 +253,7 @@ getting-granted kinds.Read e = record { makes = refl; plain = refl; kept = refl;
 getting-granted kinds.WriteBack e = absurd (let no : ⊥ = cc in no)
 getting-granted kinds.Upgrade e = absurd (let no : ⊥ = cc in no)
 
-getting-handed : (kind : Kind) → fits_kind kind Handed ≡ true → IsGetting kind Handed
+pub getting-handed : (kind : Kind) → fits_kind kind Handed ≡ true → IsGetting kind Handed
 unfolding fits_kind fits_getting fits_upgrade fits_write_back makes_grant is_got is_upgraded is_write_back_kind
 getting-handed kinds.Reply e = absurd (let no : ⊥ = cc in no)
 getting-handed kinds.Invalidate e =
@@ -269,7 +269,7 @@ pub record IsIdle (kind : Kind) (outcome : Outcome) : Type 0 where
   pub plain : is_upgraded outcome ≡ false
   pub kept : is_write_back_kind kind ≡ false
 
-idle-retried : (kind : Kind) → fits_kind kind Retried ≡ true → IsIdle kind Retried
+pub idle-retried : (kind : Kind) → fits_kind kind Retried ≡ true → IsIdle kind Retried
 unfolding fits_kind fits_getting fits_upgrade fits_write_back makes_grant is_got is_upgraded is_write_back_kind
 idle-retried kinds.Reply e = absurd (let no : ⊥ = cc in no)
 idle-retried kinds.Invalidate e = record { makes = refl; plain = refl; kept = refl }
@@ -285,7 +285,7 @@ idle-deferred kinds.Read e = record { makes = refl; plain = refl; kept = refl }
 idle-deferred kinds.WriteBack e = absurd (let no : ⊥ = cc in no)
 idle-deferred kinds.Upgrade e = absurd (let no : ⊥ = cc in no)
 
-written-kind : (kind : Kind) → fits_kind kind Written ≡ true → kind ≡ kinds.WriteBack
+pub written-kind : (kind : Kind) → fits_kind kind Written ≡ true → kind ≡ kinds.WriteBack
 unfolding fits_kind fits_getting fits_upgrade fits_write_back
 written-kind kinds.Reply e = absurd (let no : ⊥ = cc in no)
 written-kind kinds.Invalidate e = absurd (let no : ⊥ = cc in no)
@@ -301,7 +301,7 @@ upgraded-kind kinds.Read e = absurd (let no : ⊥ = cc in no)
 upgraded-kind kinds.WriteBack e = absurd (let no : ⊥ = cc in no)
 upgraded-kind kinds.Upgrade e = refl
 
-never-fits : (kind : Kind) (outcome : Outcome) → (outcome ≡ Replied) ⊎ (outcome ≡ Failed)
+pub never-fits : (kind : Kind) (outcome : Outcome) → (outcome ≡ Replied) ⊎ (outcome ≡ Failed)
     → fits_kind kind outcome ≡ true → ⊥
 unfolding fits_kind fits_getting fits_upgrade fits_write_back
 never-fits kinds.Reply outcome which e = cc
@@ -349,6 +349,15 @@ getting-view r a c s claim out shared outcome v h some there claims mine k e g r
     ∙ ap (λ b. if kind_owns (kind_asks k.request.kind) then Modified else (if b then Shared else Exclusive)) seen
     ∙ sym (state-by r c s claim k))
     view
+
+pub getting-makes : (r : Run) (c : ℕ) (s : SnoopEnd) (claim : Claim) (k : IsSettledAs r c s claim) (outcome : Outcome)
+    → s.outcome ≡ outcome → IsGetting k.request.kind outcome → (grant : Grant) × (s.grant ≡ Some grant)
+unfolding grant-by
+getting-makes r c s claim k outcome e g =
+    let grant = grant-by r c s claim k in
+    (grant, k.granted
+    ∙ ap (λ b. if b || (is_upgraded s.outcome && holds_line (past_of r) claim.agent claim.line c) then Some grant else None)
+    (ap (makes_grant k.request.kind) e ∙ g.makes))
 
 -- where nothing is made of it the view stays
 idle-view : (r : Run) (a c : ℕ) (s : SnoopEnd) (claim : Claim) (v : AgentView) → Reaches r (c + 1)

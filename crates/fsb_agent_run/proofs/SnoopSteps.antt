@@ -147,7 +147,7 @@ new-unstored p a line c q none = elim (cases_Bool (is_hit p a c)) [
 ]
 
 -- the line of the grant
-granted-is : (p : Past) (a line c : ℕ) (grant : Grant) → grant_at p c ≡ Some grant → grant.agent ≡ a
+pub granted-is : (p : Past) (a line c : ℕ) (grant : Grant) → grant_at p c ≡ Some grant → grant.agent ≡ a
     → is_granted p a line c ≡ nat_eq grant.line line
 unfolding is_granted is_some_and
 granted-is p a line c grant there mine = rw (there, eq-eqb grant.agent a mine) refl
@@ -163,7 +163,7 @@ granted-to-other p a line c other = by (grant_at p c) refl
     by (Some grant) e = rw (ne_eqb grant.agent a (other grant e)) refl
 
 -- the rivals of a line that is granted are not held
-rival-unheld : (r : Run) (a line other c : ℕ) → Reaches r (c + 1) → is_asked_for (owed (past_of r) a c) line ≡ true
+pub rival-unheld : (r : Run) (a line other c : ℕ) → Reaches r (c + 1) → is_asked_for (owed (past_of r) a c) line ≡ true
     → other ≢ line → other % r.plan.cache ≡ line % r.plan.cache → holds_line (past_of r) a other c ≡ false
 unfolding is_rival set_of past_of
 rival-unheld r a line other c h asked apart same = false_from_ne_true (holds_line (past_of r) a other c) (λ held.

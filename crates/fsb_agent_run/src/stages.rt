@@ -102,7 +102,7 @@ pub fn snoop_ends_of_others_lead_on()
 pub fn ends_lead_on()
     ensures arrived { (r : Run) (a c number : ℕ) (s : SnoopEnd) (grant : Grant) (bytes : List ℕ)
         (v : AgentView) → Reaches r (c + 1) → 0 < r.plan.cache → a < 4 →
-        EndsFor (past_of r) a c number s → s.grant ≡ Some grant → s.outcome ≢ Upgraded →
+        EndsFor (past_of r) a c number s → s.grant ≡ Some grant →
         IsViewAfterSnoop (past_of r) a c v →
         IsViewOf (past_of r) a (c + 1) (line_arrived v c number bytes) }
     ensures upgraded { (r : Run) (a c number : ℕ) (s : SnoopEnd) (v : AgentView) →
