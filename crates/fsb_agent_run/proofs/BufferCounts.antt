@@ -1,12 +1,12 @@
 -- The pushes and promises of an agent's buffers, one by one and all together.
-use Rattle.std.proofs.Common.{ℕ, ◌+◌, ◌≡◌, ◌≢◌, Bool, true, false, cond, not, Option, Some, None, List, [], ◌∷◌, ◌++◌, length, refl, sym, ap, ◌∙◌, inl, inr, arith}
+use Rattle.std.proofs.Common.{ℕ, ◌+◌, ◌≡◌, ◌≢◌, Bool, true, false, cond, not, Option, Some, None, List, [], ◌∷◌, ◌++◌, refl, sym, ap, ◌∙◌, inl, inr, arith}
 use Rattle.std.specs.Prelude.{◌==◌, ◌&&◌, count_by, is_none, is_some}
 use Rattle.std.specs.Option.{option_and_then}
 use Rattle.std.proofs.lemmas.Bool.{cases_Bool, eqb-true, ne_eqb}
 use Rattle.std.proofs.lemmas.List.Sums.{sum_by-cons, sum_by_push}
 use Rattle.fsb_linebuf.specs.declared.entry.Fill.{Fill}
 use Rattle.fsb_linebuf.specs.declared.entry.Push.{Push}
-use Rattle.fsb_linebuf.specs.Buffers.{fill_on, fills_without, is_fill_on, is_push_for, promise_on, promised_to, push_for, pushed_to, pushes_without}
+use Rattle.fsb_linebuf.specs.Buffers.{fill_on, fills_without, is_push_for, promise_on, promised_to, push_for, pushed_to, pushes_without}
 use Rattle.fsb_agent_view.proofs.Interface.{without_first-cons}
 use Rattle.fsb_agent_run.specs.RunViews.{one_if}
 use Rattle.fsb_agent_run.proofs.FillCounts.{come-count, count-here, count_on}
@@ -55,10 +55,14 @@ push_count-without q number (push ∷ pushes) =
           without_first-cons (is_push_for number) push pushes
           ∙ ap (λ b. cond b pushes (push ∷ pushes_without number pushes)) off in
           let found : push_for number (push ∷ pushes) ≡ push_for number pushes = rw off refl in
-          omega (arith, ap (push_count q) rest,
-          ap {B = ℕ} (λ o. cond (is_some o && (number == q)) 1 0) found,
-          push_count-cons q push (pushes_without number pushes), push_count-cons q push pushes,
-          push_count-without q number pushes)
+          omega (
+            arith,
+            ap (push_count q) rest,
+            ap {B = ℕ} (λ o. cond (is_some o && (number == q)) 1 0) found,
+            push_count-cons q push (pushes_without number pushes),
+            push_count-cons q push pushes,
+            push_count-without q number pushes,
+          )
     ]
 
 -- where a push is counted one is found
@@ -160,12 +164,22 @@ promised_count-more line to (f ∷ fills) one none =
           let rest : promised_to line to fills ≡ fills = none_promised line to fills left in
           let here : promised_to line to (f ∷ fills) ≡ record f { promise = Some to } ∷ promised_to line to fills = rw on refl in
           let free : f.promise ≡ None = rw on at none in
-          omega (arith, ap promised_count here,
-          promised_count-cons (record f { promise = Some to }) (promised_to line to fills),
-          promised_count-cons f fills, ap promised_count rest, ap {B = ℕ} (λ o. cond (is_some o) 1 0) free)
+          omega (
+            arith,
+            ap promised_count here,
+            promised_count-cons (record f { promise = Some to }) (promised_to line to fills),
+            promised_count-cons f fills,
+            ap promised_count rest,
+            ap {B = ℕ} (λ o. cond (is_some o) 1 0) free,
+          )
       | inr off ↦
           let left : count_on line fills ≡ 1 = omega (arith, one, count-here line f fills false off) in
           let here : promised_to line to (f ∷ fills) ≡ f ∷ promised_to line to fills = rw off refl in
-          omega (arith, ap promised_count here, promised_count-cons f (promised_to line to fills), promised_count-cons f fills,
-          promised_count-more line to fills left (rw off at none))
+          omega (
+            arith,
+            ap promised_count here,
+            promised_count-cons f (promised_to line to fills),
+            promised_count-cons f fills,
+            promised_count-more line to fills left (rw off at none),
+          )
     ]

@@ -1,8 +1,7 @@
 -- When the calls of an agent may come, by its record at the stages of a clock.
-use Rattle.std.proofs.Common.{ℕ, ◌+◌, ◌<◌, ◌≤◌, ◌≡◌, ◌≢◌, Bool, true, false, not, ◌&&◌, ◌||◌, List, map, Option, Some, None, length, nat_eq, refl, sym, ap, subst, ◌∙◌, inl, inr, arith}
-use Rattle.std.specs.Prelude.{is_none, is_some}
-use Rattle.fsb_timely.specs.Past.{Claim, Grant, Owing, Past, SnoopEnd}
-use Rattle.fsb_timely.specs.Grants.{begun_at, snooped_at}
+use Rattle.std.proofs.Common.{ℕ, ◌+◌, ◌<◌, ◌≡◌, Bool, true, map, Option, Some, None, refl, sym, ap, subst, ◌∙◌, arith}
+use Rattle.fsb_timely.specs.Past.{Claim, Owing, Past, SnoopEnd}
+use Rattle.fsb_timely.specs.Grants.{begun_at}
 use Rattle.fsb_timely.specs.Runs.{Run, past_of}
 use Rattle.fsb_timely.specs.Wants.{owed}
 use Rattle.fsb_trace.specs.Flight.{is_outstanding}
@@ -11,15 +10,15 @@ use Rattle.fsb_tied.proofs.Interface.{begun-want, cancels}
 use Rattle.fsb_run_laws.specs.Reaches.{Reaches}
 use Rattle.fsb_run_laws.proofs.Interface.{cancelled-last, last-outstanding}
 use Rattle.fsb_agent_view.specs.declared.want.OwnRequest.{OwnRequest}
-use Rattle.fsb_agent_view.specs.AgentViews.{AgentView, line_state_by}
+use Rattle.fsb_agent_view.specs.AgentViews.{AgentView}
 use Rattle.fsb_agent_view.specs.Arriving.{may_give_up}
 use Rattle.fsb_agent_view.specs.OwnRequests.{request_numbered}
 use Rattle.fsb_agent_view.specs.Snooping.{may_commit}
 use Rattle.fsb_agent_view.specs.Sound.{IsSound}
 use Rattle.fsb_agent_view.specs.Wanting.{may_send}
-use Rattle.fsb_agent_run.specs.BytesOwed.{HasOwedOf}
+use Rattle.fsb_agent_run.specs.BytesOwed.{HasBytesOwed}
 use Rattle.fsb_agent_run.specs.Owings.{are_owings_apart}
-use Rattle.fsb_agent_run.specs.RunViews.{HasLines, HasRequestsOf, owing_by}
+use Rattle.fsb_agent_run.specs.RunViews.{HasLines, owing_by}
 use Rattle.fsb_agent_run.specs.Stages.{IsViewAfterHit, IsViewAfterSent, IsViewBeforeSnoop, owed_sent}
 use Rattle.fsb_agent_run.proofs.Among.{Among, among-left}
 use Rattle.fsb_agent_run.proofs.AwaitedFills.{HasFillsOf}
@@ -65,7 +64,7 @@ send-may r a c claim v h begun mine view =
 
 pub own-seen : (r : Run) (a c number : ℕ) (s : SnoopEnd) (v : AgentView) → Reaches r (c + 1)
     → IsOwnAt (past_of r) a c number s v → IsSound v → IsViewBeforeSnoop (past_of r) a c v
-    → HasOwedOf (past_of r) a c (c + 1) c v → may_commit v number true s.outcome ≡ true
+    → HasBytesOwed (past_of r) a c (c + 1) c v → may_commit v number true s.outcome ≡ true
 own-seen r a c number s v h k sound view owed =
     ap (λ q. may_commit v q true s.outcome) (sym k.numbered)
     ∙ own-may r a c s k.out v h.timely h.bounds (within r c h.long) k.own sound k.found
@@ -89,9 +88,12 @@ sent-out r a c q claim v h begun mine below out view =
     let apart : are_owings_apart p (map (owing_by a) v.outs) ≡ true =
     ap (are_owings_apart p) view.requests.owed ∙ sent-apart r a c h in
     let first : found.0.number ≡ q =
-    ap (λ (o : Owing). o.claim.first) found.2 ∙ ap (λ (x : Claim). x.first) owing.2 ∙ want.first in
-    (found.0, first, find-number p a found.0 v.outs apart found.1,
-    ap (λ (o : Owing). o.claim.line) found.2 ∙ ap (λ (x : Claim). x.line) owing.2)
+    ap (λ (o : Owing). o.claim.first) found.2 ∙ ap (λ (x : Claim). x.first) owing.2 ∙ want.first in (
+      found.0,
+      first,
+      find-number p a found.0 v.outs apart found.1,
+      ap (λ (o : Owing). o.claim.line) found.2 ∙ ap (λ (x : Claim). x.line) owing.2,
+    )
 
 pub cancelled-seen : (r : Run) (a c q : ℕ) (claim : Claim) (v : AgentView) → Reaches r (c + 1)
     → cancelled_in (past_of r) c ≡ Some q → begun_at (past_of r) q ≡ Some claim → claim.agent ≡ a → IsSound v

@@ -1,12 +1,12 @@
 -- The events of an agent at a clock lead from its view as the clock finds it to that of the next clock.
-use Rattle.std.proofs.Common.{ℕ, zero, suc, ◌+◌, ◌<◌, ◌≤◌, ◌≡◌, ◌≢◌, ◌⊎◌, Bool, true, false, not, ◌&&◌, ◌||◌, List, [], ◌∷◌, ◌++◌, Option, Some, None, fold, length, nat_eq, refl, sym, ap, subst, ◌∙◌, inl, inr, add-one, arith, append-nil, if◌then◌else◌}
+use Rattle.std.proofs.Common.{ℕ, zero, suc, ◌+◌, ◌<◌, ◌≡◌, ◌⊎◌, Bool, true, false, ◌||◌, List, [], ◌∷◌, ◌++◌, Option, Some, None, fold, nat_eq, refl, sym, ap, subst, ◌∙◌, inl, inr, add-one, arith, append-nil, if◌then◌else◌}
 use Rattle.std.specs.List.{flat_map, list_any}
-use Rattle.std.specs.Option.{option_and_then, option_map_or}
-use Rattle.std.proofs.lemmas.Bool.{cases_Bool, eq-eqb, eqb-true, ne_eqb, both_ways, or_cases}
+use Rattle.std.specs.Option.{option_map_or}
+use Rattle.std.proofs.lemmas.Bool.{cases_Bool, eq-eqb, eqb-true, both_ways, or_cases}
 use Rattle.std.proofs.lemmas.List.Sums.{fold-append}
 use Rattle.fsb_count.specs.Options.{is_at, is_some_and}
 use Rattle.fsb_encode.specs.declared.request.Request.{Request}
-use Rattle.fsb_timely.specs.Past.{Claim, Grant, Owing, Past, SnoopEnd}
+use Rattle.fsb_timely.specs.Past.{Claim, Grant, Past, SnoopEnd}
 use Rattle.fsb_timely.specs.Grants.{begun_at, ended_requests, is_end_at, snooped_at}
 use Rattle.fsb_timely.specs.Runs.{Run, past_of}
 use Rattle.fsb_timely.specs.Scripts.{items_of}
@@ -23,7 +23,7 @@ use Rattle.fsb_agent_view.specs.AgentEvents.{AgentEvent, Arrived, Committed, Giv
 use Rattle.fsb_agent_view.specs.AgentViews.{AgentView}
 use Rattle.fsb_agent_view.specs.Completing.{performed}
 use Rattle.fsb_agent_run.specs.AgentClocks.{cancelled_events, committed_events, end_events_of, ended_events, events_of_agent, events_of_agent_below, given_up_events, giver_of, handed_events, is_seen_shared, number_asked, own_end_events, replied_events, reply_end_events, sent_events, snoop_events_of}
-use Rattle.fsb_agent_run.specs.Ending.{EndsFor, NothingEndsFor, number_claimed, number_left, number_replied}
+use Rattle.fsb_agent_run.specs.Ending.{EndsFor, number_claimed, number_left, number_replied}
 use Rattle.fsb_agent_run.specs.Stages.{IsViewAfterHit, IsViewAfterSent, IsViewAfterSnoop, IsViewBeforeSnoop, IsViewOf}
 use Rattle.fsb_agent_run.proofs.Among.{Among}
 use Rattle.fsb_agent_run.proofs.EndEvents.{given-up-view, line-view, upgrade-view}
@@ -135,9 +135,11 @@ asked-wants r b c line number h asked =
     let is = owing-is r b c k.0 (reaches-less r c (c + 1) (omega arith) h) k.1 in
     let before = is.before in
     let first = k.3 in
-    let want = begun-want r k.0.claim.first k.0.claim h.timely h.bounds (omega arith) is.claimed in
-    (want.request, subst (λ x. want_of p x number ≡ Some want.request) is.agent
-      (subst (λ q. want_of p k.0.claim.agent q ≡ Some want.request) first want.want))
+    let want = begun-want r k.0.claim.first k.0.claim h.timely h.bounds (omega arith) is.claimed in (
+      want.request,
+      subst (λ x. want_of p x number ≡ Some want.request) is.agent
+          (subst (λ q. want_of p k.0.claim.agent q ≡ Some want.request) first want.want),
+    )
 
 pub snooped-all : (r : Run) (a c : ℕ) (v : AgentView) → Reaches r (c + 1) → 0 < r.plan.cache
     → IsViewBeforeSnoop (past_of r) a c v → IsViewAfterSnoop (past_of r) a c

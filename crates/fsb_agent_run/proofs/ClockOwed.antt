@@ -1,8 +1,8 @@
 -- What an agent owes goes on by the events of the agent at a clock.
-use Rattle.std.proofs.Common.{ℕ, zero, suc, ◌+◌, ◌<◌, ◌≤◌, ◌≡◌, ◌≢◌, Bool, true, false, not, ◌&&◌, ◌||◌, if◌then◌else◌, List, [], ◌∷◌, ◌++◌, fold, Option, Some, None, length, nat_eq, refl, sym, ap, subst, ◌∙◌, inl, inr, add-one, arith}
+use Rattle.std.proofs.Common.{ℕ, zero, suc, ◌+◌, ◌<◌, ◌≡◌, Bool, true, false, if◌then◌else◌, List, [], ◌∷◌, ◌++◌, fold, Option, Some, None, nat_eq, refl, sym, ap, subst, ◌∙◌, add-one, arith}
 use Rattle.std.specs.List.{flat_map}
 use Rattle.std.specs.Option.{option_map_or}
-use Rattle.std.proofs.lemmas.Bool.{cases_Bool, eqb-false, eqb-true}
+use Rattle.std.proofs.lemmas.Bool.{eqb-false, eqb-true}
 use Rattle.fsb_count.specs.Options.{is_at}
 use Rattle.fsb_encode.specs.declared.request.Request.{Request}
 use Rattle.fsb_trace.specs.declared.outcome.Outcome.{Outcome}
@@ -22,10 +22,10 @@ use Rattle.fsb_agent_view.specs.AgentViews.{AgentView}
 use Rattle.fsb_agent_view.specs.Arriving.{given_up, line_arrived, upgrade_ended}
 use Rattle.fsb_agent_view.specs.Completing.{is_hit_by, performed}
 use Rattle.fsb_agent_view.specs.OwnRequests.{request_numbered}
-use Rattle.fsb_agent_view.specs.Snooping.{committed, granted_by, own_settled}
+use Rattle.fsb_agent_view.specs.Snooping.{committed, own_settled}
 use Rattle.fsb_agent_view.specs.Wanting.{sent, want_by}
 use Rattle.fsb_agent_run.specs.AgentClocks.{events_of_agent, events_of_agent_below, cancelled_events, committed_events, end_events_of, ended_events, given_up_events, giver_of, handed_events, is_seen_shared, number_asked, own_end_events, replied_events, reply_end_events, sent_events, snoop_events_of}
-use Rattle.fsb_agent_run.specs.BytesOwed.{HasOwedOf, is_given_below}
+use Rattle.fsb_agent_run.specs.BytesOwed.{HasBytesOwed, is_given_below}
 use Rattle.fsb_agent_run.specs.Stages.{IsViewAfterSnoop, IsViewBeforeSnoop, IsViewOf}
 use Rattle.fsb_agent_run.proofs.BytesHandedOn.{handed-owed, kept-at-response}
 use Rattle.fsb_agent_run.proofs.ClockEvents.{after, cancelled-all, clocks-view, ended-all, handed-all, sent-all, snooped-all}
@@ -48,13 +48,13 @@ fold-both v [] ys = refl
 fold-both v (x ∷ xs) ys = fold-both (agent_after v x) xs ys
 
 -- bytes that are handed on
-pub handed-part : (r : Run) (a c : ℕ) (v : AgentView) → Reaches r (c + 1) → HasOwedOf (past_of r) a c c c v
-    → HasOwedOf (past_of r) a c (c + 1) c (fold agent_after v (handed_events (past_of r) a c))
+pub handed-part : (r : Run) (a c : ℕ) (v : AgentView) → Reaches r (c + 1) → HasBytesOwed (past_of r) a c c c v
+    → HasBytesOwed (past_of r) a c (c + 1) c (fold agent_after v (handed_events (past_of r) a c))
 unfolding handed_events
 handed-part r a c v h owed = by (responded_in (past_of r) c) refl
   where
     named : (q : ℕ) → responded_in (past_of r) c ≡ Some q → (b : Bool) → is_at (giver_of (past_of r) c q) a ≡ b
-        → HasOwedOf (past_of r) a c (c + 1) c
+        → HasBytesOwed (past_of r) a c (c + 1) c
         (fold agent_after v (if is_at (giver_of (past_of r) c q) a then HandedOn q ∷ [] else []))
     named q e true on =
         rw on (handed-owed r a c q v h.timely h.bounds (within r c h.long) e
@@ -67,7 +67,7 @@ handed-part r a c v h owed = by (responded_in (past_of r) c) refl
         ∙ given-named r a c q h.timely h.bounds (within r c h.long) e ∙ off) owed)
 
     by : (o : Option ℕ) → responded_in (past_of r) c ≡ o
-        → HasOwedOf (past_of r) a c (c + 1) c (fold agent_after v (handed_events (past_of r) a c))
+        → HasBytesOwed (past_of r) a c (c + 1) c (fold agent_after v (handed_events (past_of r) a c))
     by None e =
         rw (e, handed_events)
         (kept-at-response (past_of r) a c v (λ x f. absurd (let both = sym e ∙ f in let no : ⊥ = cc in no)) owed)
@@ -117,8 +117,8 @@ cancelled-keep p a c v = by (cancelled_in p c) refl
     by (Some q) e = rw (e, cancelled_events) (given q (begun_at p q) refl)
 
 -- the hit, what begins and what is cancelled
-pub middle-part : (p : Past) (a c n r : ℕ) (v : AgentView) → HasOwedOf p a n r c v
-    → HasOwedOf p a n r c
+pub middle-part : (p : Past) (a c n r : ℕ) (v : AgentView) → HasBytesOwed p a n r c v
+    → HasBytesOwed p a n r c
     (fold agent_after (fold agent_after (performed v c) (sent_events p a c)) (cancelled_events p a c))
 middle-part p a c n r v owed =
     let after : AgentView = fold agent_after (performed v c) (sent_events p a c) in
@@ -128,11 +128,11 @@ middle-part p a c n r v owed =
 -- a reply leaves what is owed as it is, whoever's it is
 own-replied-owed : (r : Run) (a c number : ℕ) (s : SnoopEnd) (grant : Grant) (request : Request) (shared : Bool)
     (v : AgentView) → Reaches r (c + 1) → snooped_at (past_of r) c ≡ Some s → s.claim ≡ None → s.grant ≡ Some grant
-    → HasOwedOf (past_of r) a c (c + 1) c v
-    → HasOwedOf (past_of r) a (c + 1) (c + 1) c (committed v number true request shared s.outcome)
+    → HasBytesOwed (past_of r) a c (c + 1) c v
+    → HasBytesOwed (past_of r) a (c + 1) (c + 1) c (committed v number true request shared s.outcome)
 own-replied-owed r a c number s grant request shared v h there none made owed = by (request_numbered number v.outs) refl
   where
-    quiet : (w : AgentView) → SameDebts v.buffers w.buffers → HasOwedOf (past_of r) a (c + 1) (c + 1) c w
+    quiet : (w : AgentView) → SameDebts v.buffers w.buffers → HasBytesOwed (past_of r) a (c + 1) (c + 1) c w
     quiet w debts =
         owed-on (past_of r) a c (c + 1) c (c + 1) (c + 1) c v w
         (quiet-owed r a c h.timely h.bounds (within r c h.long) (none-claimed (past_of r) a c s there none)) debts owed
@@ -153,12 +153,12 @@ own-replied-owed r a c number s grant request shared v h there none made owed = 
     settled out Upgraded e = absurd (let no : ⊥ = cc in no)
 
     by : (o : Option OwnRequest) → request_numbered number v.outs ≡ o
-        → HasOwedOf (past_of r) a (c + 1) (c + 1) c (committed v number true request shared s.outcome)
+        → HasBytesOwed (past_of r) a (c + 1) (c + 1) c (committed v number true request shared s.outcome)
     by None e = rw e (quiet v (same-debts v.buffers v.buffers refl))
     by (Some out) e = rw e (quiet (own_settled v out shared s.outcome) (settled out s.outcome replied))
 
 unclaimed-owed : (r : Run) (a c : ℕ) (s : SnoopEnd) (v : AgentView) → Reaches r (c + 1) → snooped_at (past_of r) c ≡ Some s
-    → s.claim ≡ None → HasOwedOf (past_of r) a c (c + 1) c v → HasOwedOf (past_of r) a (c + 1) (c + 1) c v
+    → s.claim ≡ None → HasBytesOwed (past_of r) a c (c + 1) c v → HasBytesOwed (past_of r) a (c + 1) (c + 1) c v
 unclaimed-owed r a c s v h there none owed =
     unsettled-owed-after r a c v h.timely h.bounds (within r c h.long)
     (λ x f. let both : Some s ≡ Some x = sym there ∙ f in
@@ -167,25 +167,25 @@ unclaimed-owed r a c s v h there none owed =
     owed
 
 reply-owed : (r : Run) (a c number b : ℕ) (s : SnoopEnd) (grant : Grant) (v : AgentView) → Reaches r (c + 1)
-    → snooped_at (past_of r) c ≡ Some s → s.claim ≡ None → s.grant ≡ Some grant → HasOwedOf (past_of r) a c (c + 1) c v
-    → HasOwedOf (past_of r) a (c + 1) (c + 1) c (fold agent_after v (committed_events (past_of r) a s b number))
+    → snooped_at (past_of r) c ≡ Some s → s.claim ≡ None → s.grant ≡ Some grant → HasBytesOwed (past_of r) a c (c + 1) c v
+    → HasBytesOwed (past_of r) a (c + 1) (c + 1) c (fold agent_after v (committed_events (past_of r) a s b number))
 unfolding committed_events
 reply-owed r a c number b s grant v h there none made owed = by (want_of (past_of r) b number) refl
   where
-    named : (mine : Bool) (request : Request) → HasOwedOf (past_of r) a (c + 1) (c + 1) c
+    named : (mine : Bool) (request : Request) → HasBytesOwed (past_of r) a (c + 1) (c + 1) c
         (fold agent_after v (Committed number mine request (is_seen_shared s) s.outcome ∷ []))
     named true request = own-replied-owed r a c number s grant request (is_seen_shared s) v h there none made owed
     named false request =
         replied-owed-after r a c number s grant v request (is_seen_shared s) h.timely h.bounds (within r c h.long) there none made owed
 
     by : (o : Option Request) → want_of (past_of r) b number ≡ o
-        → HasOwedOf (past_of r) a (c + 1) (c + 1) c (fold agent_after v (committed_events (past_of r) a s b number))
+        → HasBytesOwed (past_of r) a (c + 1) (c + 1) c (fold agent_after v (committed_events (past_of r) a s b number))
     by None e = rw (e, committed_events) (unclaimed-owed r a c s v h there none owed)
     by (Some request) e = rw (e, committed_events) (named (nat_eq b a) request)
 
 replies-owed : (r : Run) (a c : ℕ) (s : SnoopEnd) (v : AgentView) → Reaches r (c + 1) → snooped_at (past_of r) c ≡ Some s
-    → s.claim ≡ None → HasOwedOf (past_of r) a c (c + 1) c v → (o : Option Grant) → s.grant ≡ o
-    → HasOwedOf (past_of r) a (c + 1) (c + 1) c
+    → s.claim ≡ None → HasBytesOwed (past_of r) a c (c + 1) c v → (o : Option Grant) → s.grant ≡ o
+    → HasBytesOwed (past_of r) a (c + 1) (c + 1) c
     (fold agent_after v (option_map_or (replied_events (past_of r) a c s) o []))
 unfolding replied_events
 replies-owed r a c s v h there none owed None made = unclaimed-owed r a c s v h there none owed
@@ -193,14 +193,14 @@ replies-owed r a c s v h there none owed (Some grant) made =
     by (number_asked (past_of r) grant.agent c grant.line) refl
   where
     by : (o : Option ℕ) → number_asked (past_of r) grant.agent c grant.line ≡ o
-        → HasOwedOf (past_of r) a (c + 1) (c + 1) c (fold agent_after v (replied_events (past_of r) a c s grant))
+        → HasBytesOwed (past_of r) a (c + 1) (c + 1) c (fold agent_after v (replied_events (past_of r) a c s grant))
     by None e = rw (e, replied_events) (unclaimed-owed r a c s v h there none owed)
     by (Some number) e = rw (e, replied_events) (reply-owed r a c number grant.agent s grant v h there none made owed)
 
 claimed-owed : (r : Run) (a c : ℕ) (s : SnoopEnd) (claim : Claim) (v : AgentView) → Reaches r (c + 1) → a < 4
     → snooped_at (past_of r) c ≡ Some s → s.claim ≡ Some claim → IsViewBeforeSnoop (past_of r) a c v
-    → HasOwedOf (past_of r) a c (c + 1) c v
-    → HasOwedOf (past_of r) a (c + 1) (c + 1) c
+    → HasBytesOwed (past_of r) a c (c + 1) c v
+    → HasBytesOwed (past_of r) a (c + 1) (c + 1) c
     (fold agent_after v (committed_events (past_of r) a s claim.agent s.first))
 unfolding committed_events
 claimed-owed r a c s claim v h few there claims view owed =
@@ -208,7 +208,7 @@ claimed-owed r a c s claim v h few there claims view owed =
     rw (k.want, committed_events) (by k.request k.want (nat_eq claim.agent a) refl)
   where
     by : (request : Request) → want_of (past_of r) claim.agent s.first ≡ Some request → (mine : Bool)
-        → nat_eq claim.agent a ≡ mine → HasOwedOf (past_of r) a (c + 1) (c + 1) c
+        → nat_eq claim.agent a ≡ mine → HasBytesOwed (past_of r) a (c + 1) (c + 1) c
         (fold agent_after v (Committed s.first (nat_eq claim.agent a) request (is_seen_shared s) s.outcome ∷ []))
     by request want true e =
         rw e (own-owed-then r a c s.first s v request (is_seen_shared s) h
@@ -219,21 +219,21 @@ claimed-owed r a c s claim v h few there claims view owed =
 
 -- the snoop end
 pub snoop-part : (r : Run) (a c : ℕ) (v : AgentView) → Reaches r (c + 1) → a < 4 → IsViewBeforeSnoop (past_of r) a c v
-    → HasOwedOf (past_of r) a c (c + 1) c v
-    → HasOwedOf (past_of r) a (c + 1) (c + 1) c
+    → HasBytesOwed (past_of r) a c (c + 1) c v
+    → HasBytesOwed (past_of r) a (c + 1) (c + 1) c
     (fold agent_after v (option_map_or (snoop_events_of (past_of r) a c) (snooped_at (past_of r) c) []))
 unfolding snoop_events_of
 snoop-part r a c v h few view owed = by (snooped_at (past_of r) c) refl
   where
     of-claim : (s : SnoopEnd) → snooped_at (past_of r) c ≡ Some s → (o : Option Claim) → s.claim ≡ o
-        → HasOwedOf (past_of r) a (c + 1) (c + 1) c (fold agent_after v (snoop_events_of (past_of r) a c s))
+        → HasBytesOwed (past_of r) a (c + 1) (c + 1) c (fold agent_after v (snoop_events_of (past_of r) a c s))
     of-claim s there (Some claim) claims =
         rw (claims, snoop_events_of) (claimed-owed r a c s claim v h few there claims view owed)
     of-claim s there None none =
         rw (none, snoop_events_of) (replies-owed r a c s v h there none owed s.grant refl)
 
     by : (o : Option SnoopEnd) → snooped_at (past_of r) c ≡ o
-        → HasOwedOf (past_of r) a (c + 1) (c + 1) c
+        → HasBytesOwed (past_of r) a (c + 1) (c + 1) c
         (fold agent_after v (option_map_or (snoop_events_of (past_of r) a c) (snooped_at (past_of r) c) []))
     by None e =
         rw e (unsettled-owed-after r a c v h.timely h.bounds (within r c h.long)
@@ -249,25 +249,25 @@ pub data SeesEnd (c : ℕ) (events : List AgentEvent) : Type 0 where
 
 pub end-part : (r : Run) (a c : ℕ) (v : AgentView) (events : List AgentEvent) → Reaches r (c + 1) → SeesEnd c events
     → IsViewAfterSnoop (past_of r) a c v → IsViewOf (past_of r) a (c + 1) (fold agent_after v events)
-    → HasOwedOf (past_of r) a (c + 1) (c + 1) c v
-    → HasOwedOf (past_of r) a (c + 1) (c + 1) (c + 1) (fold agent_after v events)
+    → HasBytesOwed (past_of r) a (c + 1) (c + 1) c v
+    → HasBytesOwed (past_of r) a (c + 1) (c + 1) (c + 1) (fold agent_after v events)
 end-part r a c v events h sees before after owed = by sees
   where
     turned : (list : List AgentEvent) → events ≡ list
         → (IsViewOf (past_of r) a (c + 1) (fold agent_after v list)
-        → HasOwedOf (past_of r) a (c + 1) (c + 1) (c + 1) (fold agent_after v list))
-        → HasOwedOf (past_of r) a (c + 1) (c + 1) (c + 1) (fold agent_after v events)
+        → HasBytesOwed (past_of r) a (c + 1) (c + 1) (c + 1) (fold agent_after v list))
+        → HasBytesOwed (past_of r) a (c + 1) (c + 1) (c + 1) (fold agent_after v events)
     turned list e behind =
-        subst (λ xs. HasOwedOf (past_of r) a (c + 1) (c + 1) (c + 1) (fold agent_after v xs)) (sym e)
+        subst (λ xs. HasBytesOwed (past_of r) a (c + 1) (c + 1) (c + 1) (fold agent_after v xs)) (sym e)
         (behind (subst (λ xs. IsViewOf (past_of r) a (c + 1) (fold agent_after v xs)) e after))
 
     kept : (w : AgentView) → w.buffers ≡ v.buffers → IsViewOf (past_of r) a (c + 1) w
-        → HasOwedOf (past_of r) a (c + 1) (c + 1) (c + 1) w
+        → HasBytesOwed (past_of r) a (c + 1) (c + 1) (c + 1) w
     kept w same behind =
         ends-kept (past_of r) a (c + 1) (c + 1) c (c + 1) v w same (fills-after (past_of r) a c v before)
         (fills-then (past_of r) a (c + 1) w behind) owed
 
-    by : SeesEnd c events → HasOwedOf (past_of r) a (c + 1) (c + 1) (c + 1) (fold agent_after v events)
+    by : SeesEnd c events → HasBytesOwed (past_of r) a (c + 1) (c + 1) (c + 1) (fold agent_after v events)
     by (Nothing e) = turned [] e (λ behind. kept v refl behind)
     by (Comes number bytes e) =
         turned (Arrived c number bytes ∷ []) e (λ behind.
@@ -339,8 +339,8 @@ ends-seen r a c bytes h = by (ended_requests (past_of r) c) refl
 
 -- the whole clock
 pub clock-owed : (r : Run) (a c : ℕ) (bytes : ℕ → List ℕ) (v : AgentView) → Reaches r (c + 1) → 0 < r.plan.cache → a < 4
-    → IsViewOf (past_of r) a c v → HasOwedOf (past_of r) a c c c v
-    → HasOwedOf (past_of r) a (c + 1) (c + 1) (c + 1) (fold agent_after v (events_of_agent (past_of r) a c bytes))
+    → IsViewOf (past_of r) a c v → HasBytesOwed (past_of r) a c c c v
+    → HasBytesOwed (past_of r) a (c + 1) (c + 1) (c + 1) (fold agent_after v (events_of_agent (past_of r) a c bytes))
 unfolding events_of_agent
 clock-owed r a c bytes v h some few view owed =
     let p : Past = past_of r in
@@ -357,7 +357,7 @@ clock-owed r a c bytes v h some few view owed =
     let owed4 = middle-part p a c c (c + 1) v1 (handed-part r a c v h owed) in
     let owed5 = snoop-part r a c v4 h few stage4 owed4 in
     let owed6 = end-part r a c v5 ends h (ends-seen r a c bytes h) stage5 (ended-all r a c bytes v5 h some few stage5) owed5 in
-    subst (HasOwedOf p a (c + 1) (c + 1) (c + 1))
+    subst (HasBytesOwed p a (c + 1) (c + 1) (c + 1))
     (sym (fold-both v (handed_events p a c)
     (Performed c ∷ (sent_events p a c ++ (cancelled_events p a c ++ (snoops ++ ends))))
     ∙ fold-both v2 (sent_events p a c) (cancelled_events p a c ++ (snoops ++ ends))
@@ -367,7 +367,7 @@ clock-owed r a c bytes v h some few view owed =
 
 -- all clocks below one
 pub clocks-owed : (r : Run) (a n : ℕ) (bytes : ℕ → List ℕ) → Reaches r n → 0 < r.plan.cache → a < 4
-    → HasOwedOf (past_of r) a n n n (fold agent_after
+    → HasBytesOwed (past_of r) a n n n (fold agent_after
     (first_view a (items_of (past_of r) a) r.plan.cache r.plan.ahead r.plan.profile)
     (events_of_agent_below (past_of r) a n bytes))
 unfolding events_of_agent_below past_of
@@ -381,6 +381,6 @@ clocks-owed r a (suc n) bytes h some few =
     let then_view : AgentView = fold agent_after first (events_of_agent_below p a n bytes) in
     let next = clock-owed r a n bytes then_view more some few (clocks-view r a n bytes less some few)
     (clocks-owed r a n bytes less some few) in
-    subst (λ m. HasOwedOf p a m m m (fold agent_after first (events_of_agent_below p a (suc n) bytes))) (add-one n)
-    (subst (HasOwedOf p a (n + 1) (n + 1) (n + 1))
+    subst (λ m. HasBytesOwed p a m m m (fold agent_after first (events_of_agent_below p a (suc n) bytes))) (add-one n)
+    (subst (HasBytesOwed p a (n + 1) (n + 1) (n + 1))
     (sym (fold-both first (events_of_agent_below p a n bytes) (events_of_agent p a n bytes))) next)

@@ -1,8 +1,8 @@
 -- What ends for an agent at a clock: which request of its is not outstanding any more, and what comes.
-use Rattle.std.proofs.Common.{ℕ, ◌+◌, ◌<◌, ◌≤◌, ◌≡◌, ◌≢◌, ◌⊎◌, Bool, true, false, not, ◌&&◌, ◌||◌, List, [], ◌∷◌, ◌++◌, map, length, Option, Some, None, is_some, nat_eq, refl, sym, ap, subst, ◌∙◌, inl, inr, arith, if◌then◌else◌}
-use Rattle.std.specs.List.{filter, find, list_any}
-use Rattle.std.specs.Option.{option_and_then, option_map}
-use Rattle.std.proofs.lemmas.Bool.{and_from, and_parts, both_ways, cases_Bool, eq-eqb, eqb-true, false_from_ne_true, ne_eqb, or_cases, or_left, or_right}
+use Rattle.std.proofs.Common.{ℕ, ◌+◌, ◌<◌, ◌≤◌, ◌≡◌, ◌⊎◌, Bool, true, false, not, ◌&&◌, ◌||◌, ◌++◌, length, Option, Some, None, nat_eq, refl, sym, ap, subst, ◌∙◌, inl, inr, arith, if◌then◌else◌}
+use Rattle.std.specs.List.{filter}
+use Rattle.std.specs.Option.{option_map}
+use Rattle.std.proofs.lemmas.Bool.{and_from, eq-eqb, eqb-true, false_from_ne_true, ne_eqb, or_cases, or_left, or_right}
 use Rattle.std.proofs.lemmas.List.Elements.{filter-append}
 use Rattle.fsb_count.specs.Clocks.{first_where}
 use Rattle.fsb_count.specs.Options.{is_at, is_some_and}
@@ -14,17 +14,16 @@ use Rattle.fsb_line.specs.States.{kind_owns}
 use Rattle.fsb_timely.specs.Past.{Claim, Grant, Owing, Past, SnoopEnd}
 use Rattle.fsb_timely.specs.Grants.{begun_at, grant_at, is_end_at, is_granted, is_owning, snooped_at}
 use Rattle.fsb_timely.specs.Growth.{is_last_clock}
-use Rattle.fsb_timely.specs.Moments.{is_snoop_of, is_upgraded}
+use Rattle.fsb_timely.specs.Moments.{is_snoop_of}
 use Rattle.fsb_timely.specs.Runs.{Run, past_of}
 use Rattle.fsb_timely.specs.Wants.{owed, want_of}
 use Rattle.fsb_trace.specs.Outcome.{is_deferral}
 use Rattle.fsb_coherent.specs.Awaits.{cancelled_in, snoop_end_below}
-use Rattle.fsb_coherent.proofs.Interface.{some-there}
-use Rattle.fsb_lawful.proofs.Interface.{and-then, map-some}
+use Rattle.fsb_lawful.proofs.Interface.{and-then}
 use Rattle.fsb_tied.proofs.Interface.{answers-in-order, begun-want, cancels, ended-number, grant-first, one-ends, orderly-whole, same-both, snooped-by}
 use Rattle.fsb_timely.proofs.Interface.{tied-snoop}
 use Rattle.fsb_run_laws.specs.Reaches.{Reaches}
-use Rattle.fsb_run_laws.proofs.Interface.{LeavesByEnd, LeftByOwn, LeftByReply, ServesOutstanding, cancelled-last, ending-serves, ends-last, last-outstanding, last-says, snooped-outstanding}
+use Rattle.fsb_run_laws.proofs.Interface.{cancelled-last, ending-serves, ends-last, last-outstanding, last-says, snooped-outstanding}
 use Rattle.fsb_agent_view.specs.declared.want.OwnRequest.{OwnRequest}
 use Rattle.fsb_agent_view.specs.AgentViews.{AgentView}
 use Rattle.fsb_agent_view.specs.OwnRequests.{request_numbered}
@@ -34,12 +33,11 @@ use Rattle.fsb_agent_run.specs.Ending.{EndsFor, NothingEndsFor, number_claimed, 
 use Rattle.fsb_agent_run.specs.RunViews.{HasRequestsOf, IsComing, owing_by}
 use Rattle.fsb_agent_run.specs.Stages.{begun_by, is_uncancelled, owed_sent, owed_through}
 use Rattle.fsb_agent_run.proofs.Among.{Among, among-found, among-left, filter-all, filter-among, filter-same, filter-two}
-use Rattle.fsb_agent_run.proofs.GrantsAwaited.{end-once}
-use Rattle.fsb_agent_run.proofs.OtherSnoops.{IsServed, asked-number, served-out}
+use Rattle.fsb_agent_run.proofs.OtherSnoops.{asked-number, served-out}
 use Rattle.fsb_agent_run.proofs.OutLists.{find-number, out-there, wanted-of}
-use Rattle.fsb_agent_run.proofs.OwedApart.{one-first, one-line, owed-apart}
-use Rattle.fsb_agent_run.proofs.OwedSteps.{begun-is, begun-owing, owed-more, owed-there, owing-is, reaches-less, stays_out}
-use Rattle.fsb_agent_run.proofs.OwnSnoops.{IsSettledAs, grant-of-snoop, settled-as}
+use Rattle.fsb_agent_run.proofs.OwedApart.{one-line, owed-apart}
+use Rattle.fsb_agent_run.proofs.OwedSteps.{begun-is, owed-more, owed-there, owing-is, reaches-less, stays_out}
+use Rattle.fsb_agent_run.proofs.OwnSnoops.{grant-of-snoop, settled-as}
 use Rattle.fsb_agent_run.proofs.SnoopSteps.{outs-apart}
 
 -- the snoop end of a request below a clock

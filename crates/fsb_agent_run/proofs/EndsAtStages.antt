@@ -1,10 +1,8 @@
 -- When an agent may see the ends of its requests, by its record after the snoop end of the clock.
-use Rattle.std.proofs.Common.{ℕ, ◌+◌, ◌<◌, ◌≤◌, ◌≡◌, ◌≢◌, ◌⊎◌, Bool, true, false, not, ◌&&◌, ◌||◌, if◌then◌else◌, List, Option, Some, None, length, nat_eq, refl, sym, ap, subst, ◌∙◌, inl, inr, arith}
+use Rattle.std.proofs.Common.{ℕ, ◌+◌, ◌<◌, ◌≡◌, ◌≢◌, ◌⊎◌, Bool, true, false, ◌&&◌, ◌||◌, if◌then◌else◌, Some, None, refl, sym, ap, ◌∙◌, inl, inr, arith}
 use Rattle.std.specs.Prelude.{is_some}
-use Rattle.fsb_count.specs.Options.{is_some_and}
 use Rattle.fsb_encode.specs.declared.request.Kind.{Kind}
 use Rattle.fsb_encode.specs.declared.request.Kind.TheVariants.{Invalidate, Read, Reply, Upgrade, WriteBack}
-use Rattle.fsb_encode.specs.declared.request.Request.{Request}
 use Rattle.fsb_line.specs.States.{kind_owns}
 use Rattle.fsb_trace.specs.declared.outcome.Outcome.{Outcome}
 use Rattle.fsb_trace.specs.declared.outcome.Outcome.TheVariants.{Deferred, Replied, Retried, Upgraded, Written}
@@ -25,14 +23,14 @@ use Rattle.fsb_agent_view.specs.Sound.{IsSound}
 use Rattle.fsb_agent_run.specs.Ending.{EndsFor}
 use Rattle.fsb_agent_run.specs.RunViews.{is_won_below, owing_by}
 use Rattle.fsb_agent_run.specs.Stages.{IsViewAfterSnoop, owed_through}
-use Rattle.fsb_agent_run.proofs.EndFacts.{IsEnded, IsLast, LeavesAsOwn, LeavesAsReplied, below-says, ended-grant, ended-out, left-last, left-says}
+use Rattle.fsb_agent_run.proofs.EndFacts.{IsEnded, IsLast, below-says, ended-grant, ended-out, left-last, left-says}
 use Rattle.fsb_agent_run.proofs.FewOwed.{within}
 use Rattle.fsb_agent_run.proofs.MayCalls.{arrives-may, given-up-may, upgrade-may}
 use Rattle.fsb_agent_run.proofs.OutLists.{kept-of}
 use Rattle.fsb_agent_run.proofs.OwedApart.{one-first, owed-apart}
 use Rattle.fsb_agent_run.proofs.OwedStages.{fills-after, settled-claimed, settled-replied, unclaimed-number}
 use Rattle.fsb_agent_run.proofs.OwedSteps.{reaches-less}
-use Rattle.fsb_agent_run.proofs.OwnEvents.{IsOwnEnd, IsOwnSnoopEnd}
+use Rattle.fsb_agent_run.proofs.OwnEvents.{IsOwnEnd}
 use Rattle.fsb_agent_run.proofs.OwnSnoops.{settled-as}
 use Rattle.fsb_agent_run.proofs.WonSteps.{won-known}
 

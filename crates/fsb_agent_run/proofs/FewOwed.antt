@@ -1,5 +1,5 @@
 -- A request that has its snoop end, and no response yet, is in flight: so there are eight of them at most.
-use Rattle.std.proofs.Common.{ℕ, zero, suc, ◌+◌, ◌-◌, ◌<◌, ◌≤◌, ◌≡◌, Bool, true, false, not, ◌&&◌, if◌then◌else◌, Option, Some, None, length, nat_lt, refl, sym, ap, subst, ◌∙◌, inl, inr, arith}
+use Rattle.std.proofs.Common.{ℕ, zero, suc, ◌+◌, ◌<◌, ◌≤◌, ◌≡◌, Bool, true, false, not, ◌&&◌, Some, length, refl, sym, ap, subst, ◌∙◌, inl, inr, arith}
 use Rattle.std.specs.Option.{option_map_or}
 use Rattle.std.proofs.lemmas.Bool.{and_parts, both_ways, cases_Bool, cases_eq, cases_lt, false_from_ne_true, le-ltb, lt-ltb, ltb-true, not-true}
 use Rattle.fsb_count.specs.Clocks.{count_where}
@@ -12,7 +12,7 @@ use Rattle.fsb_trace.specs.Flight.{has_ended, in_flight, is_dropped, is_in_fligh
 use Rattle.fsb_trace.specs.Requests.{is_cancelled, is_live, live_clock_of, live_number_of}
 use Rattle.fsb_trace.specs.Response.{end_of}
 use Rattle.fsb_trace.specs.Snoop.{snoop_end_of}
-use Rattle.fsb_trace.proofs.Interface.{is_cancelled-agree, line_at-agree, live_clock_of-number, live_clock_of-rises, snoop_end_of-clock, snoop_end_of-rises}
+use Rattle.fsb_trace.proofs.Interface.{line_at-agree, live_clock_of-number, live_clock_of-rises, snoop_end_of-clock, snoop_end_of-rises}
 use Rattle.fsb_timely.specs.Grants.{is_end_at, is_ended, snooped_at}
 use Rattle.fsb_timely.specs.Past.{Claim, Past, SnoopEnd}
 use Rattle.fsb_timely.specs.Runs.{Run, past_of, past_to, run_to}
@@ -24,7 +24,7 @@ use Rattle.fsb_lawful.proofs.Interface.{and4, length-cut, run_to-agrees, same-be
 use Rattle.fsb_coherent.specs.Awaits.{responded_in}
 use Rattle.fsb_coherent.specs.Relation.{is_responded_below}
 use Rattle.fsb_tied.proofs.Interface.{answers-in-order, end-below, live-at}
-use Rattle.fsb_agent_run.specs.BytesOwed.{claim_given_at, owes_from}
+use Rattle.fsb_agent_run.specs.BytesOwed.{claim_given_at, owes_bytes_from}
 use Rattle.fsb_agent_run.proofs.GivenBytes.{given, unresponded}
 
 -- where a request begins there is room for it
@@ -228,8 +228,8 @@ count-fewer f g (suc n) less =
 
 -- what an agent owes has its snoop end, and no response yet
 owes-open : (r : Run) (a n m t : ℕ) → Timely r → KeepsBounds r.plan → m ≤ length r.trace → t < m
-    → owes_from (past_of r) a n t ≡ true → is_open_from (past_of r) n t ≡ true
-unfolding owes_from
+    → owes_bytes_from (past_of r) a n t ≡ true → is_open_from (past_of r) n t ≡ true
+unfolding owes_bytes_from
 owes-open r a n m t h bounds l low e =
     let c = some-and (claim_given_at (past_of r) a t) (λ (claim : Claim). not (is_responded_below (past_of r) n claim.first)) e in
     let k = given r a t c.0 h bounds (omega arith) c.1 in
@@ -237,20 +237,20 @@ owes-open r a n m t h bounds l low e =
     (ap (is_responded_below (past_of r) n) (sym k.first) ∙ not-true (is_responded_below (past_of r) n c.0.first) c.2)
 
 pub most-owed : (r : Run) (a n : ℕ) → Timely r → KeepsBounds r.plan → n ≤ length r.trace
-    → count_where (owes_from (past_of r) a n) n ≤ 8
+    → count_where (owes_bytes_from (past_of r) a n) n ≤ 8
 most-owed r a n h bounds l =
     let few = few-open r n n h (omega arith) l in
-    let less = count-fewer (owes_from (past_of r) a n) (is_open_from (past_of r) n) n (λ t low e. owes-open r a n n t h bounds l low e) in
+    let less = count-fewer (owes_bytes_from (past_of r) a n) (is_open_from (past_of r) n) n (λ t low e. owes-open r a n n t h bounds l low e) in
     omega (arith, few, less)
 
 -- and one less before a snoop end, whose request is one of the eight
 pub owed-before : (r : Run) (a c : ℕ) (s : SnoopEnd) → Timely r → KeepsBounds r.plan → c < length r.trace
-    → snooped_at (past_of r) c ≡ Some s → count_where (owes_from (past_of r) a (c + 1)) c < 8
+    → snooped_at (past_of r) c ≡ Some s → count_where (owes_bytes_from (past_of r) a (c + 1)) c < 8
 owed-before r a c s h bounds l there =
     let few = few-open r (c + 1) (c + 1) h (omega arith) (omega arith) in
     let here : is_open_from (past_of r) (c + 1) c ≡ true = open-there (past_of r) (c + 1) c s there (unresponded r c (c + 1) s h (omega arith) (omega arith) there) in
     let one = count_where-passed (is_open_from (past_of r) (c + 1)) c here in
-    let less = count-fewer (owes_from (past_of r) a (c + 1)) (is_open_from (past_of r) (c + 1)) c
+    let less = count-fewer (owes_bytes_from (past_of r) a (c + 1)) (is_open_from (past_of r) (c + 1)) c
     (λ t low e. owes-open r a (c + 1) c t h bounds (omega arith) low e) in
     omega (arith, few, one, less)
 

@@ -1,20 +1,17 @@
 -- Fills of an agent's buffers, and what a sound agent tells by them of its requests and lines.
-use Rattle.std.proofs.Common.{ℕ, ◌+◌, ◌≡◌, ◌≢◌, Bool, true, false, cond, not, Option, Some, None, List, [], ◌∷◌, ◌++◌, refl, sym, ap, ◌∙◌, inl, inr, arith}
-use Rattle.std.specs.Prelude.{◌==◌, ◌&&◌, ◌||◌, count_by, is_none, is_some}
+use Rattle.std.proofs.Common.{ℕ, ◌+◌, ◌≡◌, ◌≢◌, Bool, true, false, cond, Some, None, List, [], ◌∷◌, ◌++◌, refl, sym, ap, ◌∙◌, inl, inr, arith}
+use Rattle.std.specs.Prelude.{◌==◌, ◌||◌, count_by, is_none, is_some}
 use Rattle.std.specs.Bool.{beq}
-use Rattle.std.specs.List.{find, list_all}
-use Rattle.std.proofs.lemmas.Bool.{cases_Bool, eq-eqb, eqb-true, ne_eqb}
+use Rattle.std.specs.List.{find}
+use Rattle.std.proofs.lemmas.Bool.{cases_Bool, eqb-true, ne_eqb}
 use Rattle.std.proofs.lemmas.List.Sums.{sum_by-cons}
-use Rattle.fsb_cache.specs.Sets.{slot_of, states}
-use Rattle.fsb_line.specs.declared.state.Mesi.{Mesi}
-use Rattle.fsb_line.specs.declared.state.Mesi.TheVariants.{Exclusive, Invalid, Modified, Shared}
-use Rattle.fsb_line.specs.States.{is_modified, is_sole}
+use Rattle.fsb_cache.specs.Sets.{slot_of}
 use Rattle.fsb_linebuf.specs.declared.entry.Fill.{Fill}
-use Rattle.fsb_linebuf.specs.Buffers.{fill_on, fills_without, is_fill_on, promise_on, promised_to}
+use Rattle.fsb_linebuf.specs.Buffers.{fill_on, fills_without, is_fill_on, promise_on}
 use Rattle.fsb_agent_view.specs.declared.want.OwnRequest.{OwnRequest}
 use Rattle.fsb_agent_view.specs.AgentViews.{AgentView}
 use Rattle.fsb_agent_view.specs.OwnRequests.{is_numbered, request_numbered}
-use Rattle.fsb_agent_view.specs.Sound.{IsSound, is_lent, is_only, is_sound_request}
+use Rattle.fsb_agent_view.specs.Sound.{IsSound, is_only, is_sound_request}
 use Rattle.fsb_agent_view.proofs.Interface.{both_left, both_right, list_all-found, without_first-cons}
 
 -- the fill of another line when one has ended

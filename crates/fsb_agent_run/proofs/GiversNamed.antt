@@ -1,6 +1,6 @@
 -- An agent gives the bytes of the request that responds exactly where it is named as the giver of what is awaited after
 -- the request's snoop end.
-use Rattle.std.proofs.Common.{ℕ, ◌+◌, ◌<◌, ◌≤◌, ◌≡◌, ◌≢◌, Bool, true, false, not, ◌&&◌, ◌||◌, if◌then◌else◌, Option, Some, None, length, nat_eq, refl, sym, ap, subst, ◌∙◌, inl, inr, arith}
+use Rattle.std.proofs.Common.{ℕ, ◌+◌, ◌<◌, ◌≤◌, ◌≡◌, Bool, true, false, ◌&&◌, ◌||◌, if◌then◌else◌, Option, Some, None, length, nat_eq, refl, sym, ap, subst, ◌∙◌, arith}
 use Rattle.std.specs.Option.{option_and_then}
 use Rattle.std.proofs.lemmas.Bool.{both_ways, eq-eqb, eqb-true, false_from_ne_true}
 use Rattle.fsb_count.specs.Clocks.{first_where}
@@ -18,7 +18,7 @@ use Rattle.fsb_timely.specs.Timely.{Timely}
 use Rattle.fsb_lawful.specs.Beginning.{KeepsBounds}
 use Rattle.fsb_lawful.proofs.Interface.{some-and}
 use Rattle.fsb_coherent.specs.Awaits.{Awaited, awaited_by, awaited_by_claim, awaited_by_grant, is_written, responded_in}
-use Rattle.fsb_coherent.specs.Fitting.{IsSnoopOn, fits_kind, fits_write_back}
+use Rattle.fsb_coherent.specs.Fitting.{fits_kind, fits_write_back}
 use Rattle.fsb_coherent.specs.Relation.{giver_at}
 use Rattle.fsb_tied.proofs.Interface.{answers-in-order, awaits-grant, clock-facts, is-found, none-before, uncontested, writes-back-alone}
 use Rattle.fsb_agent_run.specs.AgentClocks.{giver_after_snoop, giver_of}
@@ -188,8 +188,10 @@ given-there : (r : Run) (a c q : ℕ) → Timely r → KeepsBounds r.plan → c 
 unfolding is_some_and is_at gives_claim
 given-there r a c q h bounds l k None claims =
     let before : k.at + 2 ≤ c = k.before in
-    rw (none-claimed (past_of r) a k.at k.end k.there claims,
-    replied-giver r k.at k.end h bounds (omega arith) k.there claims) refl
+    rw (
+      none-claimed (past_of r) a k.at k.end k.there claims,
+      replied-giver r k.at k.end h bounds (omega arith) k.there claims,
+    ) refl
 given-there r a c q h bounds l k (Some claim) claims =
     let before : k.at + 2 ≤ c = k.before in
     let fits = ((clock-facts r claim.line k.at h bounds (omega arith)).settles.settled k.end claim k.there claims refl).fits in

@@ -1,11 +1,10 @@
 -- A view of an agent may see the snoop ends and ends of a timely run.
-use Rattle.std.proofs.Common.{ℕ, ◌+◌, ◌<◌, ◌≤◌, ◌≡◌, ◌≢◌, Bool, true, false, not, ◌&&◌, ◌||◌, if◌then◌else◌, Option, Some, None, length, nat_eq, nat_lt, refl, sym, ap, subst, ◌∙◌, inl, inr, arith}
+use Rattle.std.proofs.Common.{ℕ, ◌+◌, ◌<◌, ◌≡◌, ◌≢◌, Bool, true, false, not, ◌&&◌, ◌||◌, Option, Some, None, length, nat_lt, refl, sym, ap, ◌∙◌, arith}
 use Rattle.std.specs.Prelude.{is_some}
 use Rattle.std.proofs.lemmas.Bool.{eq-eqb, lt-ltb}
 use Rattle.fsb_count.specs.Options.{is_some_and}
 use Rattle.fsb_line.specs.declared.state.Mesi.{Mesi}
 use Rattle.fsb_line.specs.States.{is_modified}
-use Rattle.fsb_linebuf.specs.Buffers.{fill_on}
 use Rattle.fsb_trace.specs.declared.outcome.Outcome.{Outcome}
 use Rattle.fsb_trace.specs.declared.outcome.Outcome.TheVariants.{Granted, Handed, Retried, Deferred, Written, Replied, Failed, Upgraded}
 use Rattle.fsb_timely.specs.Past.{Claim, Grant, Past, SnoopEnd}
@@ -21,10 +20,10 @@ use Rattle.fsb_agent_view.specs.declared.want.OwnRequest.{OwnRequest}
 use Rattle.fsb_agent_view.specs.AgentViews.{AgentView, line_state_by}
 use Rattle.fsb_agent_view.specs.Arriving.{may_arrive, may_end_upgrade, may_give_up}
 use Rattle.fsb_agent_view.specs.OwnRequests.{request_numbered}
-use Rattle.fsb_agent_view.specs.Snooping.{may_be_settled, may_commit, may_settle, owed_count}
+use Rattle.fsb_agent_view.specs.Snooping.{may_be_settled, may_commit, owed_count}
 use Rattle.fsb_agent_view.specs.Sound.{IsSound}
 use Rattle.fsb_agent_run.proofs.AwaitedFills.{HasFillsOf}
-use Rattle.fsb_agent_run.specs.BytesOwed.{HasOwedOf}
+use Rattle.fsb_agent_run.specs.BytesOwed.{HasBytesOwed}
 use Rattle.fsb_agent_run.proofs.OwnEvents.{IsOwnEnd, IsOwnSnoopEnd}
 use Rattle.fsb_agent_run.specs.RunViews.{is_awaited}
 use Rattle.fsb_agent_run.proofs.BufferCounts.{fill-counted}
@@ -41,7 +40,7 @@ granted-as p a n c v out sound fills found =
     ∙ fill-counted out.request.line v.buffers.fills (is_awaited p a out.request.line n c) (fills.fills out.request.line)
 
 few-owed : (r : Run) (a c : ℕ) (s : SnoopEnd) (v : AgentView) → Timely r → KeepsBounds r.plan → c < length r.trace
-    → snooped_at (past_of r) c ≡ Some s → HasOwedOf (past_of r) a c (c + 1) c v → nat_lt (owed_count v.buffers) 8 ≡ true
+    → snooped_at (past_of r) c ≡ Some s → HasBytesOwed (past_of r) a c (c + 1) c v → nat_lt (owed_count v.buffers) 8 ≡ true
 few-owed r a c s v h bounds l there owed =
     let few = owed-before r a c s h bounds l there in
     lt-ltb (owed_count v.buffers) 8 (omega (arith, few, owed.count))
@@ -74,7 +73,7 @@ settled-as r a c s out state h bounds l k dirty = by s.outcome refl
 pub own-may : (r : Run) (a c : ℕ) (s : SnoopEnd) (out : OwnRequest) (v : AgentView) → Timely r → KeepsBounds r.plan
     → c < length r.trace → IsOwnSnoopEnd (past_of r) a c s out → IsSound v → request_numbered out.number v.outs ≡ Some out
     → is_modified (line_state_by v out.request.line) ≡ is_dirty (past_of r) a out.request.line c
-    → HasFillsOf (past_of r) a c c v → HasOwedOf (past_of r) a c (c + 1) c v
+    → HasFillsOf (past_of r) a c c v → HasBytesOwed (past_of r) a c (c + 1) c v
     → may_commit v out.number true s.outcome ≡ true
 own-may r a c s out v h bounds l k sound found dirty fills owed =
     let few = few-owed r a c s v h bounds l k.there owed in
@@ -85,7 +84,7 @@ own-may r a c s out v h bounds l k sound found dirty fills owed =
     rw (few, found, open_one, settles) refl
 
 pub other-may : (r : Run) (a c number : ℕ) (s : SnoopEnd) (v : AgentView) → Timely r → KeepsBounds r.plan
-    → c < length r.trace → snooped_at (past_of r) c ≡ Some s → HasOwedOf (past_of r) a c (c + 1) c v
+    → c < length r.trace → snooped_at (past_of r) c ≡ Some s → HasBytesOwed (past_of r) a c (c + 1) c v
     → may_commit v number false s.outcome ≡ true
 other-may r a c number s v h bounds l there owed = few-owed r a c s v h bounds l there owed
 

@@ -1,9 +1,8 @@
 -- The requests of a view, as its agent's run knows them: without one, and with one granted.
-use Rattle.std.proofs.Common.{ℕ, zero, suc, ◌+◌, ◌≡◌, ◌≢◌, ◌⊎◌, Bool, true, false, cond, not, ◌&&◌, List, [], ◌∷◌, ◌++◌, map, slice_get, Option, Some, None, is_some, nat_eq, refl, sym, ap, subst, ◌∙◌, inl, inr}
+use Rattle.std.proofs.Common.{ℕ, ◌≡◌, ◌≢◌, ◌⊎◌, true, false, cond, not, List, [], ◌∷◌, map, Option, Some, is_some, nat_eq, refl, sym, ap, subst, ◌∙◌, inl, inr}
 use Rattle.std.specs.Prelude.{◌==◌}
-use Rattle.std.specs.List.{filter, find, list_all}
+use Rattle.std.specs.List.{filter, list_all}
 use Rattle.std.proofs.lemmas.Bool.{and_parts, both_ways, cases_Bool, eq-eqb, eqb-true, false_from_ne_true, ne_eqb}
-use Rattle.fsb_linebuf.specs.Buffers.{without_first}
 use Rattle.fsb_timely.specs.Past.{Owing, Past}
 use Rattle.fsb_timely.specs.Wants.{want_of}
 use Rattle.fsb_agent_view.specs.declared.want.OwnRequest.{OwnRequest}
@@ -12,7 +11,7 @@ use Rattle.fsb_agent_view.specs.OwnRequests.{is_numbered, request_numbered, requ
 use Rattle.fsb_agent_view.proofs.Interface.{without_first-cons}
 use Rattle.fsb_agent_run.specs.Owings.{are_owings_apart, is_owing_apart}
 use Rattle.fsb_agent_run.specs.RunViews.{HasRequestsOf, is_won_below, owing_by}
-use Rattle.fsb_agent_run.proofs.Among.{Among, all-among, among-found, among-get, among-map, filter-all, found-among, get-among, map-among}
+use Rattle.fsb_agent_run.proofs.Among.{Among, all-among, among-get, among-map, filter-all, found-among, get-among, map-among}
 
 -- what is said of each request of a view
 pub wanted-of : (p : Past) (a n : ℕ) (owings : List Owing) (v : AgentView) (out : OwnRequest) → HasRequestsOf p a n owings v

@@ -1,10 +1,10 @@
 -- The outstanding requests of an agent are apart from each other, and few.
-use Rattle.std.proofs.Common.{ℕ, zero, suc, ◌+◌, ◌<◌, ◌≤◌, ◌≡◌, ◌⊎◌, Bool, true, false, not, ◌&&◌, List, [], ◌∷◌, ◌++◌, Option, Some, None, length, nat_eq, refl, sym, ap, subst, ◌∙◌, inl, inr, add-one, append-nil, arith, length-append}
-use Rattle.std.specs.List.{count_by, filter, list_all}
-use Rattle.std.proofs.lemmas.Bool.{and_from, and_parts, both_ways, cases_Bool, eq-eqb, eqb-true, false_from_ne_true, ne_eqb, not-true}
+use Rattle.std.proofs.Common.{ℕ, zero, suc, ◌+◌, ◌≤◌, ◌≡◌, ◌⊎◌, Bool, true, false, not, ◌&&◌, List, [], ◌∷◌, ◌++◌, Option, Some, None, length, nat_eq, refl, sym, ap, subst, ◌∙◌, inl, inr, add-one, append-nil, arith, length-append}
+use Rattle.std.specs.List.{filter, list_all}
+use Rattle.std.proofs.lemmas.Bool.{and_from, and_parts, both_ways, cases_Bool, eq-eqb, eqb-true, false_from_ne_true, ne_eqb}
 use Rattle.std.proofs.lemmas.List.Sums.{count_by-le-length, length-filter}
-use Rattle.fsb_timely.specs.Past.{Claim, Owing, Past}
-use Rattle.fsb_timely.specs.Grants.{begun_at, set_of}
+use Rattle.fsb_timely.specs.Past.{Owing, Past}
+use Rattle.fsb_timely.specs.Grants.{set_of}
 use Rattle.fsb_timely.specs.Runs.{Run, past_of}
 use Rattle.fsb_timely.specs.Wants.{is_asked_for, is_id_used, is_same_set, owed}
 use Rattle.fsb_lawful.proofs.Interface.{want-few}

@@ -1,14 +1,14 @@
 -- What an agent owes after the ends of a clock: where a line comes whose bytes are promised, they are there.
-use Rattle.std.proofs.Common.{ℕ, ◌+◌, ◌<◌, ◌≤◌, ◌≡◌, ◌≢◌, Bool, true, false, cond, not, ◌&&◌, ◌||◌, if◌then◌else◌, List, [], ◌∷◌, ◌++◌, Option, Some, None, length, length-append, nat_eq, refl, sym, ap, subst, ◌∙◌, inl, inr, arith}
+use Rattle.std.proofs.Common.{ℕ, ◌+◌, ◌<◌, ◌≡◌, ◌≢◌, Bool, true, false, cond, not, ◌&&◌, ◌||◌, if◌then◌else◌, List, [], ◌∷◌, Option, Some, None, length, length-append, nat_eq, refl, sym, ap, subst, ◌∙◌, inl, inr, arith}
 use Rattle.std.specs.Prelude.{◌==◌, is_some}
-use Rattle.std.proofs.lemmas.Bool.{both_ways, cases_Bool, cases_eq, eq-eqb, false_from_ne_true, ne_eqb, not-true}
+use Rattle.std.proofs.lemmas.Bool.{cases_eq, eq-eqb, false_from_ne_true}
 use Rattle.std.specs.Option.{option_and_then}
 use Rattle.fsb_count.specs.Clocks.{count_where, last_where}
 use Rattle.fsb_count.specs.Options.{is_at, is_some_and}
 use Rattle.fsb_count.proofs.Interface.{any_where-at, any_where-off, is_at-some}
 use Rattle.fsb_cache.specs.Sets.{copies}
 use Rattle.fsb_linebuf.specs.declared.entry.Push.{Push}
-use Rattle.fsb_linebuf.specs.Buffers.{Buffered, fill_on, fills_without, promise_on, pushed_to}
+use Rattle.fsb_linebuf.specs.Buffers.{fills_without, promise_on, pushed_to}
 use Rattle.fsb_timely.specs.Past.{Claim, Grant, Past}
 use Rattle.fsb_timely.specs.Grants.{begun_at, is_end_at, is_ended, latest_grant}
 use Rattle.fsb_timely.specs.Runs.{Run, past_of}
@@ -23,13 +23,13 @@ use Rattle.fsb_agent_view.specs.Arriving.{arrived_for, buffers_landed, ended_for
 use Rattle.fsb_agent_view.specs.OwnRequests.{request_numbered}
 use Rattle.fsb_agent_view.specs.Snooping.{owed_count}
 use Rattle.fsb_agent_run.proofs.AwaitedFills.{HasFillsOf}
-use Rattle.fsb_agent_run.specs.BytesOwed.{HasOwedOf, claim_given_at, given_since, gives_line_at, is_given_below, is_promised, is_pushed, owes_from, promise_told}
+use Rattle.fsb_agent_run.specs.BytesOwed.{HasBytesOwed, claim_given_at, given_since, gives_line_at, is_given_below, is_promised, is_pushed, owes_bytes_from, promise_told}
 use Rattle.fsb_agent_run.specs.RunViews.{is_awaited, one_if}
 use Rattle.fsb_agent_run.proofs.BufferCounts.{promise_on-none, promise_on-without, push_count, push_count-pushed}
 use Rattle.fsb_agent_run.proofs.FillCounts.{count-without_other, count-without_this, count_on}
 use Rattle.fsb_agent_run.proofs.FillsTold.{promised_count, promised_count-without}
 use Rattle.fsb_agent_run.proofs.GivenBytes.{given}
-use Rattle.fsb_agent_run.proofs.OwedSnoops.{SameOwed, owed-on, same-debts}
+use Rattle.fsb_agent_run.proofs.OwedSnoops.{owed-on, same-debts}
 use Rattle.fsb_agent_run.proofs.PromiseSteps.{promised-same, unawaited-unpromised}
 use Rattle.fsb_agent_run.proofs.PromisesTold.{promised-at, promised-unresponded}
 
@@ -48,7 +48,7 @@ one-same false false e = refl
 
 -- where no line comes, nothing that is owed changes
 pub ends-kept : (p : Past) (a n r c d : ℕ) (v w : AgentView) → w.buffers ≡ v.buffers → HasFillsOf p a n c v
-    → HasFillsOf p a n d w → HasOwedOf p a n r c v → HasOwedOf p a n r d w
+    → HasFillsOf p a n d w → HasBytesOwed p a n r c v → HasBytesOwed p a n r d w
 unfolding is_pushed
 ends-kept p a n r c d v w e before after owed =
     let awaited : (line : ℕ) → is_awaited p a line n d ≡ is_awaited p a line n c =
@@ -80,7 +80,7 @@ record Lands (r : Run) (a c line : ℕ) (bytes : List ℕ) (v w : AgentView) : T
   landed : w.buffers ≡ buffers_landed v.buffers line bytes
   before : HasFillsOf (past_of r) a (c + 1) c v
   after : HasFillsOf (past_of r) a (c + 1) (c + 1) w
-  owed : HasOwedOf (past_of r) a (c + 1) (c + 1) c v
+  owed : HasBytesOwed (past_of r) a (c + 1) (c + 1) c v
 
 awaited-later : (p : Past) (a line n c : ℕ) → is_awaited p a line n c ≡ false → is_awaited p a line n (c + 1) ≡ false
 unfolding is_awaited is_some_and
@@ -210,7 +210,7 @@ landed-pushes r a c line bytes v w h bounds l k q false e =
     here ∙ k.owed.pushes q ∙ sym (ap (λ b. if b then 1 else 0) same)
 
 landed-owed : (r : Run) (a c line : ℕ) (bytes : List ℕ) (v w : AgentView) → Timely r → KeepsBounds r.plan
-    → c < length r.trace → Lands r a c line bytes v w → HasOwedOf (past_of r) a (c + 1) (c + 1) (c + 1) w
+    → c < length r.trace → Lands r a c line bytes v w → HasBytesOwed (past_of r) a (c + 1) (c + 1) (c + 1) w
 landed-owed r a c line bytes v w h bounds l k = record {
   pushes = λ q.
       ap (λ b. push_count q b.pushes) k.landed ∙ push_count-pushed q (promise_on line v.buffers.fills) bytes v.buffers.pushes
@@ -243,8 +243,8 @@ landed-owed r a c line bytes v w h bounds l k = record {
         ≡ length v.buffers.pushes + cond (is_some (promise_on line v.buffers.fills)) 1 0
         → promised_count (fills_without line v.buffers.fills) + cond (is_some (promise_on line v.buffers.fills)) 1 0
         ≡ promised_count v.buffers.fills
-        → owed_count v.buffers ≡ count_where (owes_from (past_of r) a (c + 1)) (c + 1)
-        → owed_count (buffers_landed v.buffers line bytes) ≡ count_where (owes_from (past_of r) a (c + 1)) (c + 1)
+        → owed_count v.buffers ≡ count_where (owes_bytes_from (past_of r) a (c + 1)) (c + 1)
+        → owed_count (buffers_landed v.buffers line bytes) ≡ count_where (owes_bytes_from (past_of r) a (c + 1)) (c + 1)
     counted longer fewer before = omega (arith, longer, fewer, before)
 
 met-kept : (v : AgentView) (clock : ℕ) (out : OwnRequest) (bytes : List ℕ) → (met_by v clock out bytes).buffers ≡ v.buffers
@@ -256,8 +256,8 @@ met-kept v clock out bytes = by (is_arrival_by v clock out) refl
 
 arrived-owed : (r : Run) (a c : ℕ) (out : OwnRequest) (bytes : List ℕ) (v : AgentView) → Timely r → KeepsBounds r.plan
     → c < length r.trace → HasFillsOf (past_of r) a (c + 1) c v
-    → HasFillsOf (past_of r) a (c + 1) (c + 1) (arrived_for v c out bytes) → HasOwedOf (past_of r) a (c + 1) (c + 1) c v
-    → HasOwedOf (past_of r) a (c + 1) (c + 1) (c + 1) (arrived_for v c out bytes)
+    → HasFillsOf (past_of r) a (c + 1) (c + 1) (arrived_for v c out bytes) → HasBytesOwed (past_of r) a (c + 1) (c + 1) c v
+    → HasBytesOwed (past_of r) a (c + 1) (c + 1) (c + 1) (arrived_for v c out bytes)
 arrived-owed r a c out bytes v h bounds l before after owed =
     let come : List ℕ = copies (met_by v c out bytes).lines out.request.line in
     landed-owed r a c out.request.line come v (arrived_for v c out bytes) h bounds l
@@ -271,12 +271,12 @@ arrived-owed r a c out bytes v h bounds l before after owed =
 pub line-owed : (r : Run) (a c number : ℕ) (bytes : List ℕ) (v : AgentView) → Timely r → KeepsBounds r.plan
     → c < length r.trace → HasFillsOf (past_of r) a (c + 1) c v
     → HasFillsOf (past_of r) a (c + 1) (c + 1) (line_arrived v c number bytes)
-    → HasOwedOf (past_of r) a (c + 1) (c + 1) c v
-    → HasOwedOf (past_of r) a (c + 1) (c + 1) (c + 1) (line_arrived v c number bytes)
+    → HasBytesOwed (past_of r) a (c + 1) (c + 1) c v
+    → HasBytesOwed (past_of r) a (c + 1) (c + 1) (c + 1) (line_arrived v c number bytes)
 line-owed r a c number bytes v h bounds l before after owed = go (request_numbered number v.outs) refl
   where
     go : (found : Option OwnRequest) → request_numbered number v.outs ≡ found
-        → HasOwedOf (past_of r) a (c + 1) (c + 1) (c + 1) (line_arrived v c number bytes)
+        → HasBytesOwed (past_of r) a (c + 1) (c + 1) (c + 1) (line_arrived v c number bytes)
     go None e = rw e (ends-kept (past_of r) a (c + 1) (c + 1) c (c + 1) v v refl before (rw e at after) owed)
     go (Some out) e =
         rw e (arrived-owed r a c out bytes v h bounds l before (rw e at after) owed)
@@ -284,13 +284,13 @@ line-owed r a c number bytes v h bounds l before after owed = go (request_number
 pub upgrade-owed : (r : Run) (a c number : ℕ) (v : AgentView) → Timely r → KeepsBounds r.plan
     → c < length r.trace → HasFillsOf (past_of r) a (c + 1) c v
     → HasFillsOf (past_of r) a (c + 1) (c + 1) (upgrade_ended v c number)
-    → HasOwedOf (past_of r) a (c + 1) (c + 1) c v
-    → HasOwedOf (past_of r) a (c + 1) (c + 1) (c + 1) (upgrade_ended v c number)
+    → HasBytesOwed (past_of r) a (c + 1) (c + 1) c v
+    → HasBytesOwed (past_of r) a (c + 1) (c + 1) (c + 1) (upgrade_ended v c number)
 upgrade-owed r a c number v h bounds l before after owed = go (request_numbered number v.outs) refl
   where
     kept : (out : OwnRequest) (bytes : Option (List ℕ)) → out.kept ≡ bytes
         → HasFillsOf (past_of r) a (c + 1) (c + 1) (ended_for v c out)
-        → HasOwedOf (past_of r) a (c + 1) (c + 1) (c + 1) (ended_for v c out)
+        → HasBytesOwed (past_of r) a (c + 1) (c + 1) (c + 1) (ended_for v c out)
     kept out None e fills =
         let fills' = rw (e, ended_for) at fills in
         rw (e, ended_for)
@@ -300,6 +300,6 @@ upgrade-owed r a c number v h bounds l before after owed = go (request_numbered 
         rw (e, ended_for) (arrived-owed r a c out bytes v h bounds l before fills' owed)
 
     go : (found : Option OwnRequest) → request_numbered number v.outs ≡ found
-        → HasOwedOf (past_of r) a (c + 1) (c + 1) (c + 1) (upgrade_ended v c number)
+        → HasBytesOwed (past_of r) a (c + 1) (c + 1) (c + 1) (upgrade_ended v c number)
     go None e = rw e (ends-kept (past_of r) a (c + 1) (c + 1) c (c + 1) v v refl before (rw e at after) owed)
     go (Some out) e = rw e (kept out out.kept refl (rw e at after))

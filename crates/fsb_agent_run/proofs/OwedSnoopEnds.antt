@@ -1,7 +1,6 @@
 -- What an agent owes after a snoop end of its own request, of another agent's, and after a clock without one.
-use Rattle.std.proofs.Common.{ℕ, ◌+◌, ◌<◌, ◌≤◌, ◌≡◌, ◌≢◌, ◌⊎◌, Bool, true, false, not, ◌&&◌, if◌then◌else◌, List, [], ◌∷◌, ◌++◌, Option, Some, None, length, nat_eq, refl, sym, ap, subst, ◌∙◌, inl, inr, arith}
-use Rattle.std.specs.Prelude.{is_none, is_some}
-use Rattle.std.proofs.lemmas.Bool.{and_from, and_parts, both_ways, cases_Bool, cases_eq, eq-eqb, eqb-true, false_from_ne_true, ne_eqb}
+use Rattle.std.proofs.Common.{ℕ, ◌+◌, ◌<◌, ◌≡◌, ◌≢◌, ◌⊎◌, Bool, true, false, not, ◌&&◌, [], ◌∷◌, ◌++◌, Option, Some, None, length, nat_eq, refl, sym, ap, subst, ◌∙◌, inl, inr, arith}
+use Rattle.std.proofs.lemmas.Bool.{and_from, and_parts, both_ways, cases_Bool, eq-eqb, false_from_ne_true, ne_eqb}
 use Rattle.fsb_cache.specs.Sets.{copies}
 use Rattle.fsb_count.specs.Clocks.{first_where}
 use Rattle.fsb_count.specs.Options.{is_at, is_some_and}
@@ -10,30 +9,28 @@ use Rattle.fsb_encode.specs.declared.request.Kind.{Kind}
 use Rattle.fsb_encode.specs.declared.request.Kind.TheVariants.{Invalidate, Read, Reply, Upgrade, WriteBack}
 use Rattle.fsb_encode.specs.declared.request.Request.{Request}
 use Rattle.fsb_line.specs.States.{asks_line, is_held, is_modified}
-use Rattle.fsb_linebuf.specs.declared.entry.Fill.{Fill}
-use Rattle.fsb_linebuf.specs.Buffers.{fill_on, promise_on, promised_to}
+use Rattle.fsb_linebuf.specs.Buffers.{promise_on, promised_to}
 use Rattle.fsb_trace.specs.declared.outcome.Outcome.{Outcome}
 use Rattle.fsb_trace.specs.declared.outcome.Outcome.TheVariants.{Granted, Handed, Retried, Deferred, Written, Replied, Failed, Upgraded}
 use Rattle.fsb_timely.specs.Growth.{GoesOn}
 use Rattle.fsb_timely.specs.Past.{Claim, Grant, Past, SnoopEnd}
-use Rattle.fsb_timely.specs.Grants.{is_claim_of, snooped_at}
+use Rattle.fsb_timely.specs.Grants.{snooped_at}
 use Rattle.fsb_timely.specs.Hits.{is_dirty}
 use Rattle.fsb_timely.specs.Runs.{Run, past_of, past_to}
 use Rattle.fsb_timely.specs.Timely.{Timely}
 use Rattle.fsb_timely.proofs.Interface.{below_le, done_below, is_dirty-alike}
 use Rattle.fsb_lawful.specs.Beginning.{KeepsBounds}
-use Rattle.fsb_lawful.proofs.Interface.{some-and}
 use Rattle.fsb_coherent.specs.Awaits.{owner_at}
-use Rattle.fsb_coherent.specs.Fitting.{IsSnoopOn, fits_getting, fits_kind, fits_upgrade, fits_write_back, is_granted_by}
+use Rattle.fsb_coherent.specs.Fitting.{fits_kind}
 use Rattle.fsb_coherent.specs.Relation.{giver_at}
 use Rattle.fsb_tied.proofs.Interface.{clock-facts, one-dirty, uncontested, writes-back-alone}
 use Rattle.fsb_agent_view.specs.declared.want.OwnRequest.{OwnRequest}
 use Rattle.fsb_agent_view.specs.AgentViews.{AgentView, has_come, line_state_by}
 use Rattle.fsb_agent_view.specs.OwnRequests.{request_numbered}
-use Rattle.fsb_agent_view.specs.Snooping.{buffers_giving, committed, granted_by, is_giver, is_handed, kind_asks, other_settled, own_settled, upgraded_by, with_fill}
+use Rattle.fsb_agent_view.specs.Snooping.{buffers_giving, committed, granted_by, is_giver, is_handed, kind_asks, other_settled, own_settled, upgraded_by}
 use Rattle.fsb_agent_run.proofs.AwaitedFills.{HasFillsOf}
-use Rattle.fsb_agent_run.specs.BytesOwed.{HasOwedOf, claim_given_at, gives_claim}
-use Rattle.fsb_agent_run.proofs.OwnEvents.{IsOtherSnoopEnd, IsOwnSnoopEnd, is_settled_for}
+use Rattle.fsb_agent_run.specs.BytesOwed.{HasBytesOwed, claim_given_at, gives_claim}
+use Rattle.fsb_agent_run.proofs.OwnEvents.{IsOtherSnoopEnd, IsOwnSnoopEnd}
 use Rattle.fsb_agent_run.specs.RunViews.{is_awaited, one_if}
 use Rattle.fsb_agent_run.proofs.FillCounts.{come-count, count_on}
 use Rattle.fsb_agent_run.proofs.GivenBytes.{claim-given, gives-by, none-claimed, none-snooped, same-first}
@@ -101,18 +98,18 @@ upgraded-debts v out =
 
 pub own-owed-after : (r : Run) (a c : ℕ) (s : SnoopEnd) (out : OwnRequest) (v : AgentView) (request : Request)
     (shared : Bool) → Timely r → KeepsBounds r.plan → c < length r.trace → IsOwnSnoopEnd (past_of r) a c s out
-    → request_numbered out.number v.outs ≡ Some out → HasOwedOf (past_of r) a c (c + 1) c v
-    → HasOwedOf (past_of r) a (c + 1) (c + 1) c (committed v out.number true request shared s.outcome)
+    → request_numbered out.number v.outs ≡ Some out → HasBytesOwed (past_of r) a c (c + 1) c v
+    → HasBytesOwed (past_of r) a (c + 1) (c + 1) c (committed v out.number true request shared s.outcome)
 own-owed-after r a c s out v request shared h bounds l k found owed = rw found (by s.outcome refl)
   where
     quiet : (w : AgentView) → s.outcome ≢ Written → SameDebts v.buffers w.buffers
-        → HasOwedOf (past_of r) a (c + 1) (c + 1) c w
+        → HasBytesOwed (past_of r) a (c + 1) (c + 1) c w
     quiet w unwritten debts =
         owed-on (past_of r) a c (c + 1) c (c + 1) (c + 1) c v w
         (quiet-owed r a c h bounds l (own-ungiven (past_of r) a c s out k unwritten)) debts owed
 
     by : (outcome : Outcome) → s.outcome ≡ outcome
-        → HasOwedOf (past_of r) a (c + 1) (c + 1) c (own_settled v out shared outcome)
+        → HasBytesOwed (past_of r) a (c + 1) (c + 1) c (own_settled v out shared outcome)
     by Granted e = quiet _ (λ f. let both = sym e ∙ f in let no : ⊥ = cc in no) (granted-debts v out shared)
     by Handed e = quiet _ (λ f. let both = sym e ∙ f in let no : ⊥ = cc in no) (granted-debts v out true)
     by Retried e = quiet v (λ f. let both = sym e ∙ f in let no : ⊥ = cc in no) (same-debts v.buffers v.buffers refl)
@@ -239,8 +236,8 @@ giver-same r a c number s claim v request h bounds l few k e dirty =
 -- what an agent owes after the snoop end of a reply to another agent
 pub replied-owed-after : (r : Run) (a c number : ℕ) (s : SnoopEnd) (grant : Grant) (v : AgentView) (request : Request)
     (shared : Bool) → Timely r → KeepsBounds r.plan → c < length r.trace → snooped_at (past_of r) c ≡ Some s
-    → s.claim ≡ None → s.grant ≡ Some grant → HasOwedOf (past_of r) a c (c + 1) c v
-    → HasOwedOf (past_of r) a (c + 1) (c + 1) c (committed v number false request shared s.outcome)
+    → s.claim ≡ None → s.grant ≡ Some grant → HasBytesOwed (past_of r) a c (c + 1) c v
+    → HasBytesOwed (past_of r) a (c + 1) (c + 1) c (committed v number false request shared s.outcome)
 replied-owed-after r a c number s grant v request shared h bounds l there none made owed =
     let replied = (clock-facts r grant.line c h bounds l).settles.replied s grant there none made refl in
     let off : is_giver v request s.outcome ≡ false =
@@ -254,12 +251,12 @@ replied-owed-after r a c number s grant v request shared h bounds l there none m
 pub other-owed-after : (r : Run) (a c number : ℕ) (s : SnoopEnd) (v : AgentView) (request : Request) (shared : Bool)
     → Timely r → KeepsBounds r.plan → c < length r.trace → a < 4 → IsOtherSnoopEnd (past_of r) a c s number request
     → is_modified (line_state_by v request.line) ≡ is_dirty (past_of r) a request.line c
-    → HasFillsOf (past_of r) a c c v → HasOwedOf (past_of r) a c (c + 1) c v
-    → HasOwedOf (past_of r) a (c + 1) (c + 1) c (committed v number false request shared s.outcome)
+    → HasFillsOf (past_of r) a c c v → HasBytesOwed (past_of r) a c (c + 1) c v
+    → HasBytesOwed (past_of r) a (c + 1) (c + 1) c (committed v number false request shared s.outcome)
 other-owed-after r a c number s v request shared h bounds l few k dirty fills owed = by s.claim refl
   where
     quiet : claim_given_at (past_of r) a c ≡ None → is_giver v request s.outcome ≡ false
-        → HasOwedOf (past_of r) a (c + 1) (c + 1) c (other_settled v number request s.outcome)
+        → HasBytesOwed (past_of r) a (c + 1) (c + 1) c (other_settled v number request s.outcome)
     quiet none off =
         owed-on (past_of r) a c (c + 1) c (c + 1) (c + 1) c v (other_settled v number request s.outcome)
         (quiet-owed r a c h bounds l none)
@@ -267,13 +264,13 @@ other-owed-after r a c number s v request shared h bounds l few k dirty fills ow
 
     gives : (claim : Claim) → s.claim ≡ Some claim → claim_given_at (past_of r) a c ≡ Some claim
         → is_giver v request s.outcome ≡ true
-        → HasOwedOf (past_of r) a (c + 1) (c + 1) c (other_settled v number request s.outcome)
+        → HasBytesOwed (past_of r) a (c + 1) (c + 1) c (other_settled v number request s.outcome)
     gives claim e given on =
         let line : request.line ≡ claim.line = k.line claim e in
         let fits = ((clock-facts r claim.line c h bounds l).settles.settled s claim k.there e refl).fits in
         let first : number ≡ claim.first = k.first claim e ∙ sym (same-first (past_of r) claim.line c s claim e fits).0 in
         let now = gives-now r a c claim h bounds l given in
-        let modified : is_modified (line_state_by v request.line) ≡ true = 
+        let modified : is_modified (line_state_by v request.line) ≡ true =
         (and_parts (is_modified (line_state_by v request.line)) (is_handed s.outcome)
         (and-first (is_modified (line_state_by v request.line)) (is_handed s.outcome) (asks_line (kind_asks request.kind)) on)).0 in
         elim (cases_Bool (is_awaited (past_of r) a claim.line c c)) [
@@ -304,7 +301,7 @@ other-owed-after r a c number s v request shared h bounds l few k dirty fills ow
         and-first false y z t = t
 
     by : (o : Option Claim) → s.claim ≡ o
-        → HasOwedOf (past_of r) a (c + 1) (c + 1) c (other_settled v number request s.outcome)
+        → HasBytesOwed (past_of r) a (c + 1) (c + 1) c (other_settled v number request s.outcome)
     by None e =
         let g = k.replied e in
         replied-owed-after r a c number s g.0 v request shared h bounds l k.there e g.1 owed
@@ -318,7 +315,7 @@ other-owed-after r a c number s v request shared h bounds l few k dirty fills ow
 -- and after a clock at which no request of anybody is settled
 pub unsettled-owed-after : (r : Run) (a c : ℕ) (v : AgentView) → Timely r → KeepsBounds r.plan → c < length r.trace
     → ((s : SnoopEnd) → snooped_at (past_of r) c ≡ Some s → s.claim ≡ None)
-    → HasOwedOf (past_of r) a c (c + 1) c v → HasOwedOf (past_of r) a (c + 1) (c + 1) c v
+    → HasBytesOwed (past_of r) a c (c + 1) c v → HasBytesOwed (past_of r) a (c + 1) (c + 1) c v
 unsettled-owed-after r a c v h bounds l none owed =
     owed-on (past_of r) a c (c + 1) c (c + 1) (c + 1) c v v (quiet-owed r a c h bounds l (by (snooped_at (past_of r) c) refl))
     (same-debts v.buffers v.buffers refl) owed

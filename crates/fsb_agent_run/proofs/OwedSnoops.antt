@@ -1,20 +1,20 @@
 -- What an agent owes after a snoop end at which it gives no bytes, and after one at which it does.
-use Rattle.std.proofs.Common.{ℕ, ◌+◌, ◌<◌, ◌≤◌, ◌≡◌, ◌≢◌, Bool, true, false, cond, not, ◌&&◌, ◌||◌, if◌then◌else◌, Option, Some, None, List, [], ◌∷◌, ◌++◌, length, length-append, nat_eq, refl, sym, ap, subst, ◌∙◌, inl, inr, arith}
-use Rattle.std.specs.Prelude.{◌==◌, is_some}
-use Rattle.std.proofs.lemmas.Bool.{both_ways, cases_Bool, cases_eq, eq-eqb, eqb-true, false_from_ne_true, ne_eqb}
+use Rattle.std.proofs.Common.{ℕ, ◌+◌, ◌<◌, ◌≡◌, ◌≢◌, Bool, true, false, cond, not, ◌&&◌, ◌||◌, if◌then◌else◌, Option, Some, None, List, [], ◌∷◌, ◌++◌, length, length-append, nat_eq, refl, sym, ap, subst, ◌∙◌, inl, inr, arith}
+use Rattle.std.specs.Prelude.{◌==◌}
+use Rattle.std.proofs.lemmas.Bool.{cases_Bool, cases_eq, eq-eqb, ne_eqb}
 use Rattle.fsb_count.specs.Clocks.{count_where}
 use Rattle.fsb_count.specs.Options.{is_at, is_some_and}
 use Rattle.fsb_count.proofs.Interface.{any_where-more, count_where-failed, count_where-passed}
-use Rattle.fsb_linebuf.specs.Buffers.{Buffered, fill_on, is_push_for, promise_on, promised_to}
+use Rattle.fsb_linebuf.specs.Buffers.{Buffered, promise_on, promised_to}
 use Rattle.fsb_timely.specs.Past.{Claim, Past}
-use Rattle.fsb_timely.specs.Grants.{begun_at, is_granted, snooped_at}
+use Rattle.fsb_timely.specs.Grants.{begun_at, is_granted}
 use Rattle.fsb_timely.specs.Runs.{Run, past_of}
 use Rattle.fsb_timely.specs.Timely.{Timely}
 use Rattle.fsb_lawful.specs.Beginning.{KeepsBounds}
 use Rattle.fsb_coherent.specs.Relation.{is_responded_below}
 use Rattle.fsb_agent_view.specs.AgentViews.{AgentView}
 use Rattle.fsb_agent_view.specs.Snooping.{owed_count, with_fill, with_push}
-use Rattle.fsb_agent_run.specs.BytesOwed.{HasOwedOf, claim_given_at, gives_line_at, is_given_below, is_promised, is_pushed, owes_from, promise_told}
+use Rattle.fsb_agent_run.specs.BytesOwed.{HasBytesOwed, claim_given_at, gives_line_at, is_given_below, is_promised, is_pushed, owes_bytes_from, promise_told}
 use Rattle.fsb_agent_run.specs.RunViews.{is_awaited}
 use Rattle.fsb_agent_run.proofs.BufferCounts.{fill-counted, promise_on-other, promise_on-promised, promise_on-push, promised_count-more, push_count, push_count-push}
 use Rattle.fsb_agent_run.proofs.FillCounts.{count_on}
@@ -48,18 +48,18 @@ filled-debts b line number = record {
 pub record SameOwed (p : Past) (a n r c m s d : ℕ) : Type 0 where
   pub pushes : (q : ℕ) → is_pushed p a m s d q ≡ is_pushed p a n r c q
   pub promises : (line : ℕ) → promise_told p a line m d ≡ promise_told p a line n c
-  pub count : count_where (owes_from p a s) m ≡ count_where (owes_from p a r) n
+  pub count : count_where (owes_bytes_from p a s) m ≡ count_where (owes_bytes_from p a r) n
 
 pub owed-on : (p : Past) (a n r c m s d : ℕ) (v w : AgentView) → SameOwed p a n r c m s d → SameDebts v.buffers w.buffers
-    → HasOwedOf p a n r c v → HasOwedOf p a m s d w
+    → HasBytesOwed p a n r c v → HasBytesOwed p a m s d w
 owed-on p a n r c m s d v w same debts h = record {
   pushes = λ q. debts.pushes q ∙ h.pushes q ∙ sym (ap (λ b. if b then 1 else 0) (same.pushes q));
   promises = λ line. debts.promises line ∙ h.promises line ∙ sym (same.promises line);
   count = debts.count ∙ h.count ∙ sym same.count;
 }
 
-pub owed-same : (p : Past) (a n r c : ℕ) (v w : AgentView) → w.buffers ≡ v.buffers → HasOwedOf p a n r c v
-    → HasOwedOf p a n r c w
+pub owed-same : (p : Past) (a n r c : ℕ) (v w : AgentView) → w.buffers ≡ v.buffers → HasBytesOwed p a n r c v
+    → HasBytesOwed p a n r c w
 owed-same p a n r c v w e h =
     owed-on p a n r c n r c v w (record { pushes = λ q. refl; promises = λ line. refl; count = refl })
     (same-debts v.buffers w.buffers e) h
@@ -84,7 +84,7 @@ given-kept p a c q none = given-more p a c q ∙ or-none (is_given_below p a c q
 -- a snoop end at which an agent gives nothing leaves what it owes as it was
 pub quiet-owed : (r : Run) (a c : ℕ) → Timely r → KeepsBounds r.plan → c < length r.trace
     → claim_given_at (past_of r) a c ≡ None → SameOwed (past_of r) a c (c + 1) c (c + 1) (c + 1) c
-unfolding is_pushed owes_from is_some_and
+unfolding is_pushed owes_bytes_from is_some_and
 quiet-owed r a c h bounds l none =
     let p : Past = past_of r in
     let promises : (line : ℕ) → promise_told p a line (c + 1) c ≡ promise_told p a line c c =
@@ -100,7 +100,7 @@ quiet-owed r a c h bounds l none =
     record {
       pushes = λ q. λ i. given q i && not (is_responded_below p (c + 1) q) && not (promised q i);
       promises = promises;
-      count = count_where-failed (owes_from p a (c + 1)) c (rw none refl);
+      count = count_where-failed (owes_bytes_from p a (c + 1)) c (rw none refl);
     }
 
 -- the request whose bytes an agent gives at a snoop end, and what is known of it there
@@ -130,10 +130,10 @@ unfolding gives_line_at is_some_and
 other-line p a c line claim gives apart = rw gives (ne_eqb claim.line line (λ e. apart (sym e)))
 
 owes-more : (r : Run) (a c : ℕ) (claim : Claim) → GivesNow r a c claim
-    → count_where (owes_from (past_of r) a (c + 1)) (c + 1) ≡ count_where (owes_from (past_of r) a (c + 1)) c + 1
-unfolding owes_from is_some_and
+    → count_where (owes_bytes_from (past_of r) a (c + 1)) (c + 1) ≡ count_where (owes_bytes_from (past_of r) a (c + 1)) c + 1
+unfolding owes_bytes_from is_some_and
 owes-more r a c claim k =
-    count_where-passed (owes_from (past_of r) a (c + 1)) c (rw (k.gives, k.unresponded) refl)
+    count_where-passed (owes_bytes_from (past_of r) a (c + 1)) c (rw (k.gives, k.unresponded) refl)
 
 -- another request's bytes are given as before
 other-given : (p : Past) (a c q : ℕ) (claim : Claim) → claim_given_at p a c ≡ Some claim → (q ≡ claim.first → ⊥)
@@ -160,7 +160,7 @@ promised-on p a n c q claim e = rw e refl
 -- it gives bytes that have come: there is one push more
 pub pushed-owed : (r : Run) (a c : ℕ) (claim : Claim) (bytes : List ℕ) (v w : AgentView) → GivesNow r a c claim
     → is_awaited (past_of r) a claim.line c c ≡ false → w.buffers ≡ with_push v.buffers claim.first bytes
-    → HasOwedOf (past_of r) a c (c + 1) c v → HasOwedOf (past_of r) a (c + 1) (c + 1) c w
+    → HasBytesOwed (past_of r) a c (c + 1) c v → HasBytesOwed (past_of r) a (c + 1) (c + 1) c w
 unfolding is_pushed is_at is_some_and
 pushed-owed r a c claim bytes v w k unawaited e h =
     let p : Past = past_of r in
@@ -223,8 +223,8 @@ pushed-owed r a c claim bytes v w k unawaited e h =
         here ∙ h.pushes q ∙ sym (ap (λ b. if b then 1 else 0) same)
 
     counted : length (v.buffers.pushes ++ record { number = claim.first; bytes = bytes } ∷ []) ≡ length v.buffers.pushes + 1
-        → owed_count v.buffers ≡ count_where (owes_from (past_of r) a (c + 1)) c
-        → owed_count (with_push v.buffers claim.first bytes) ≡ count_where (owes_from (past_of r) a (c + 1)) (c + 1)
+        → owed_count v.buffers ≡ count_where (owes_bytes_from (past_of r) a (c + 1)) c
+        → owed_count (with_push v.buffers claim.first bytes) ≡ count_where (owes_bytes_from (past_of r) a (c + 1)) (c + 1)
     counted more before = omega (arith, more, before, owes-more r a c claim k)
 
 -- it gives bytes that have not come: they are promised
@@ -232,7 +232,7 @@ pub promised-owed : (r : Run) (a c : ℕ) (claim : Claim) (v w : AgentView) → 
     → is_awaited (past_of r) a claim.line c c ≡ true → count_on claim.line v.buffers.fills ≡ 1
     → promise_on claim.line v.buffers.fills ≡ None
     → w.buffers ≡ record v.buffers { fills = promised_to claim.line claim.first v.buffers.fills }
-    → HasOwedOf (past_of r) a c (c + 1) c v → HasOwedOf (past_of r) a (c + 1) (c + 1) c w
+    → HasBytesOwed (past_of r) a c (c + 1) c v → HasBytesOwed (past_of r) a (c + 1) (c + 1) c w
 unfolding is_pushed is_promised is_at is_some_and
 promised-owed r a c claim v w k awaited one free e h = record {
   pushes = λ q.
@@ -306,7 +306,7 @@ promised-owed r a c claim v w k awaited one free e h = record {
         λ i. given i && not (is_responded_below p (c + 1) q) && not (promised i)
 
     counted : promised_count (promised_to claim.line claim.first v.buffers.fills) ≡ promised_count v.buffers.fills + 1
-        → owed_count v.buffers ≡ count_where (owes_from (past_of r) a (c + 1)) c
+        → owed_count v.buffers ≡ count_where (owes_bytes_from (past_of r) a (c + 1)) c
         → owed_count (record v.buffers { fills = promised_to claim.line claim.first v.buffers.fills })
-        ≡ count_where (owes_from (past_of r) a (c + 1)) (c + 1)
+        ≡ count_where (owes_bytes_from (past_of r) a (c + 1)) (c + 1)
     counted more before = omega (arith, more, before, owes-more r a c claim k)

@@ -1,7 +1,7 @@
 -- What an agent owes after the snoop ends and ends of a clock, by its record at the stages of the clock.
-use Rattle.std.proofs.Common.{ℕ, ◌+◌, ◌<◌, ◌≤◌, ◌≡◌, ◌≢◌, Bool, true, false, not, ◌&&◌, ◌||◌, List, Option, Some, None, length, nat_eq, refl, sym, ap, subst, ◌∙◌, inl, inr, arith}
+use Rattle.std.proofs.Common.{ℕ, ◌+◌, ◌<◌, ◌≡◌, ◌≢◌, Bool, true, false, not, ◌&&◌, ◌||◌, Some, None, nat_eq, refl, sym, ap, subst, ◌∙◌}
 use Rattle.std.specs.Prelude.{is_some}
-use Rattle.std.proofs.lemmas.Bool.{and_parts, both_ways, cases_Bool, eq-eqb, eqb-true, false_from_ne_true}
+use Rattle.std.proofs.lemmas.Bool.{and_parts, both_ways, eq-eqb, eqb-true, false_from_ne_true}
 use Rattle.fsb_count.specs.Options.{is_some_and}
 use Rattle.fsb_encode.specs.declared.request.Request.{Request}
 use Rattle.fsb_line.specs.States.{is_modified}
@@ -20,13 +20,13 @@ use Rattle.fsb_agent_view.specs.AgentViews.{AgentView, line_state_by}
 use Rattle.fsb_agent_view.specs.OwnRequests.{request_numbered}
 use Rattle.fsb_agent_view.specs.Snooping.{committed}
 use Rattle.fsb_agent_run.specs.AgentClocks.{number_asked}
-use Rattle.fsb_agent_run.specs.BytesOwed.{HasOwedOf}
+use Rattle.fsb_agent_run.specs.BytesOwed.{HasBytesOwed}
 use Rattle.fsb_agent_run.specs.Stages.{IsViewAfterSnoop, IsViewBeforeSnoop, IsViewOf}
 use Rattle.fsb_agent_run.proofs.AwaitedFills.{HasFillsOf}
 use Rattle.fsb_agent_run.proofs.FewOwed.{within}
 use Rattle.fsb_agent_run.proofs.OtherSnoops.{served-out}
 use Rattle.fsb_agent_run.proofs.OwedSnoopEnds.{other-owed-after, own-owed-after}
-use Rattle.fsb_agent_run.proofs.OwnEvents.{IsOtherSnoopEnd, IsOwnSnoopEnd, is_settled_for}
+use Rattle.fsb_agent_run.proofs.OwnEvents.{IsOwnSnoopEnd, is_settled_for}
 use Rattle.fsb_agent_run.proofs.OwnSnoops.{own-out, settled-as}
 use Rattle.fsb_agent_run.proofs.StatesTold.{modified-told}
 
@@ -144,17 +144,17 @@ replied-out r a c number s grant v h there none made mine asked view =
 
 -- what it owes behind it
 pub own-owed-then : (r : Run) (a c number : ℕ) (s : SnoopEnd) (v : AgentView) (request : Request) (shared : Bool)
-    → Reaches r (c + 1) → IsOwnAt (past_of r) a c number s v → HasOwedOf (past_of r) a c (c + 1) c v
-    → HasOwedOf (past_of r) a (c + 1) (c + 1) c (committed v number true request shared s.outcome)
+    → Reaches r (c + 1) → IsOwnAt (past_of r) a c number s v → HasBytesOwed (past_of r) a c (c + 1) c v
+    → HasBytesOwed (past_of r) a (c + 1) (c + 1) c (committed v number true request shared s.outcome)
 own-owed-then r a c number s v request shared h k owed =
-    subst (λ q. HasOwedOf (past_of r) a (c + 1) (c + 1) c (committed v q true request shared s.outcome)) k.numbered
+    subst (λ q. HasBytesOwed (past_of r) a (c + 1) (c + 1) c (committed v q true request shared s.outcome)) k.numbered
     (own-owed-after r a c s k.out v request shared h.timely h.bounds (within r c h.long) k.own k.found owed)
 
 pub other-claimed-owed : (r : Run) (a c : ℕ) (s : SnoopEnd) (claim : Claim) (request : Request) (shared : Bool)
     (v : AgentView) → Reaches r (c + 1) → a < 4 → snooped_at (past_of r) c ≡ Some s → s.claim ≡ Some claim
     → claim.agent ≢ a → want_of (past_of r) claim.agent s.first ≡ Some request → IsViewBeforeSnoop (past_of r) a c v
-    → HasOwedOf (past_of r) a c (c + 1) c v
-    → HasOwedOf (past_of r) a (c + 1) (c + 1) c (committed v s.first false request shared s.outcome)
+    → HasBytesOwed (past_of r) a c (c + 1) c v
+    → HasBytesOwed (past_of r) a (c + 1) (c + 1) c (committed v s.first false request shared s.outcome)
 other-claimed-owed r a c s claim request shared v h few there claims other want view owed =
     let k = settled-as r c s claim h there claims in
     let wanted = k.want in

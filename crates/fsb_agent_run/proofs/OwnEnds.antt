@@ -1,15 +1,14 @@
 -- At the end of its own request an agent awaits the line where the request was granted, and nothing on the line where it was
 -- not; and at the snoop end of its write-back it is dirty on the line.
-use Rattle.std.proofs.Common.{ℕ, zero, suc, ◌+◌, ◌<◌, ◌≤◌, ◌≡◌, ◌≢◌, Bool, true, false, not, ◌&&◌, ◌||◌, if◌then◌else◌, List, [], ◌∷◌, Option, Some, None, length, nat_eq, nat_lt, refl, sym, ap, subst, ◌∙◌, inl, inr, arith}
+use Rattle.std.proofs.Common.{ℕ, ◌+◌, ◌<◌, ◌≤◌, ◌≡◌, ◌≢◌, Bool, true, false, ◌&&◌, ◌||◌, if◌then◌else◌, List, [], ◌∷◌, Option, Some, None, length, nat_eq, nat_lt, refl, sym, ap, subst, ◌∙◌, inl, inr, arith}
 use Rattle.std.specs.List.{list_any}
 use Rattle.std.specs.Option.{option_map_or}
-use Rattle.std.proofs.lemmas.Bool.{and_from, and_parts, both_ways, cases_Bool, cases_eq, cases_lt, eq-eqb, eqb-true, false_from_ne_true, lt-ltb, ltb-true, or_left, or_right, or_cases}
+use Rattle.std.proofs.lemmas.Bool.{and_from, and_parts, both_ways, cases_eq, cases_lt, eqb-true, false_from_ne_true, lt-ltb, ltb-true, or_left, or_right, or_cases}
 use Rattle.fsb_count.specs.Clocks.{any_where, from_clock, last_where}
 use Rattle.fsb_count.specs.Options.{is_at, is_some_and}
-use Rattle.fsb_count.proofs.Interface.{any_where-at, any_where-found, any_where-none, any_where-off, is_at-some}
+use Rattle.fsb_count.proofs.Interface.{any_where-found, any_where-none, any_where-off, is_at-some}
 use Rattle.fsb_access.specs.declared.log.Done.{Done}
-use Rattle.fsb_encode.specs.declared.request.Kind.{Kind}
-use Rattle.fsb_encode.specs.declared.request.Kind.TheVariants.{Invalidate, Read, Reply, Upgrade, WriteBack}
+use Rattle.fsb_encode.specs.declared.request.Kind.TheVariants.{WriteBack}
 use Rattle.fsb_signal.specs.declared.lines.TheConstants.Lines.{AERR}
 use Rattle.fsb_signal.specs.Samples.{line_at}
 use Rattle.fsb_line.specs.declared.purpose.Purpose.{Purpose}
@@ -28,18 +27,16 @@ use Rattle.fsb_timely.specs.Wants.{is_asked_for, owed}
 use Rattle.fsb_timely.proofs.Interface.{last_where-found, last_where-from, tied-snoop, want_of-new}
 use Rattle.fsb_lawful.specs.Beginning.{KeepsBounds}
 use Rattle.fsb_lawful.proofs.Interface.{some-and}
-use Rattle.fsb_coherent.specs.Awaits.{cancelled_in, purpose_of, responded_in}
-use Rattle.fsb_coherent.specs.Facts.{IsSettledOn}
-use Rattle.fsb_coherent.specs.Fitting.{fits_getting, fits_kind, fits_upgrade, fits_write_back}
+use Rattle.fsb_coherent.specs.Awaits.{cancelled_in, purpose_of}
 use Rattle.fsb_coherent.specs.Relation.{IsOpen, deferral_at, deferral_below, deferred_to, defers_line, is_cancelled_below, is_dirty_below, is_dirty_through, is_snooped_below, is_stored_below, replies_line}
 use Rattle.fsb_coherent.proofs.Interface.{dirty-by-hits}
 use Rattle.fsb_tied.proofs.Interface.{answers-in-order, begun-want, cancels, clock-facts, grant-first, granted-parts, live-at, own-owed}
 use Rattle.fsb_agent_view.specs.declared.want.OwnRequest.{OwnRequest}
-use Rattle.fsb_agent_run.proofs.OwnEvents.{IsOwnEnd, IsOwnSnoopEnd, is_settled_for}
+use Rattle.fsb_agent_run.proofs.OwnEvents.{IsOwnEnd, is_settled_for}
 use Rattle.fsb_agent_run.specs.RunViews.{is_awaited}
 use Rattle.fsb_agent_run.proofs.GivenBytes.{same-first, written-kind}
 use Rattle.fsb_agent_run.proofs.OwnLines.{granted-settled, machine_at, own-claim, own-grant, settled-unawaited, tied-at}
-use Rattle.fsb_agent_run.proofs.PromisesTold.{AwaitsBy, awaits-by}
+use Rattle.fsb_agent_run.proofs.PromisesTold.{awaits-by}
 
 -- a request whose end is c has its snoop end two clocks before at least
 pub snooped-before : (r : Run) (c t : ℕ) (s : SnoopEnd) → Timely r → c < length r.trace → snooped_at (past_of r) t ≡ Some s
@@ -192,9 +189,10 @@ own-open : (r : Run) (a line t : ℕ) (s : SnoopEnd) (claim : Claim) → Timely 
     → (kind : Purpose) × IsOpen (past_of r) a line t (record { kind = kind; number = s.first })
 own-open r a line t s claim h bounds l there claims agent names =
     let settled = (clock-facts r line t h bounds l).settles.settled s claim there claims names in
-    let whose : settled.fits.agent ≡ a = sym (same-first (past_of r) line t s claim claims settled.fits).1 ∙ agent in
-    (settled.purpose,
-    subst (λ b. IsOpen (past_of r) b line t (record { kind = settled.purpose; number = s.first })) whose settled.opened)
+    let whose : settled.fits.agent ≡ a = sym (same-first (past_of r) line t s claim claims settled.fits).1 ∙ agent in (
+      settled.purpose,
+      subst (λ b. IsOpen (past_of r) b line t (record { kind = settled.purpose; number = s.first })) whose settled.opened,
+    )
 
 live-uncancelled : (r : Run) (n t : ℕ) (s : SnoopEnd) → n ≤ length r.trace → snooped_at (past_of r) t ≡ Some s
     → is_cancelled_below (past_of r) n s.first ≡ false

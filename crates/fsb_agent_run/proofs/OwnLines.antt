@@ -1,22 +1,14 @@
 -- A line of which an agent has an open or deferred request is not awaited by it: at a snoop end of its own request it awaits
 -- nothing on the line.
-use Rattle.std.proofs.Common.{ℕ, zero, suc, ◌+◌, ◌<◌, ◌≤◌, ◌≡◌, ◌≢◌, Bool, true, false, not, ◌&&◌, ◌||◌, if◌then◌else◌, List, [], ◌∷◌, ◌++◌, Option, Some, None, length, nat_eq, refl, sym, ap, subst, ◌∙◌, inl, inr, arith}
+use Rattle.std.proofs.Common.{ℕ, zero, suc, ◌<◌, ◌≤◌, ◌≡◌, Bool, true, false, ◌&&◌, ◌||◌, List, [], ◌∷◌, ◌++◌, Option, Some, None, length, nat_eq, refl, sym, ap, subst, ◌∙◌, inl, inr, arith}
 use Rattle.std.specs.Prelude.{◌==◌}
 use Rattle.std.specs.Option.{option_map_or}
-use Rattle.std.proofs.lemmas.Bool.{and_from, and_parts, both_ways, cases_Bool, cases_eq, cases_lt, eq-eqb, eqb-true, false_from_ne_true, le-leb, or_left, or_right}
-use Rattle.std.specs.List.{list_any}
+use Rattle.std.proofs.lemmas.Bool.{and_parts, both_ways, cases_eq, eq-eqb, eqb-true, false_from_ne_true, or_left, or_right}
 use Rattle.fsb_count.specs.Options.{is_some_and}
-use Rattle.fsb_encode.specs.declared.request.Kind.{Kind}
-use Rattle.fsb_encode.specs.declared.request.Kind.TheVariants as kinds
 use Rattle.fsb_line.specs.declared.link.Link.{Link}
-use Rattle.fsb_line.specs.declared.purpose.Purpose.{Purpose}
-use Rattle.fsb_line.specs.declared.purpose.Purpose.TheVariants.{WriteBack}
 use Rattle.fsb_line.specs.Line.{LineDeferral, MemoryLine, OpenRequest, unheld}
 use Rattle.fsb_line.specs.LineRuns.{run}
 use Rattle.fsb_line.specs.Links.{is_linked}
-use Rattle.fsb_line.specs.States.{is_modified}
-use Rattle.fsb_trace.specs.declared.outcome.Outcome.{Outcome}
-use Rattle.fsb_trace.specs.declared.outcome.Outcome.TheVariants.{Written}
 use Rattle.fsb_timely.specs.Past.{Claim, Grant, Past, SnoopEnd}
 use Rattle.fsb_timely.specs.Grants.{is_claim_of, is_ended, is_granted, snooped_at}
 use Rattle.fsb_timely.specs.Moments.{is_upgraded, makes_grant}
@@ -24,8 +16,7 @@ use Rattle.fsb_timely.specs.Runs.{Run, past_of}
 use Rattle.fsb_timely.specs.Timely.{Timely}
 use Rattle.fsb_lawful.specs.Beginning.{KeepsBounds}
 use Rattle.fsb_lawful.proofs.Interface.{some-and}
-use Rattle.fsb_coherent.specs.Awaits.{Awaited, awaited_by, awaited_by_grant}
-use Rattle.fsb_coherent.specs.Facts.{IsRepliedOn, IsSettledOn}
+use Rattle.fsb_coherent.specs.Awaits.{awaited_by_grant}
 use Rattle.fsb_coherent.specs.Fitting.{is_granted_by}
 use Rattle.fsb_coherent.specs.KeepsTie.{IsTiedTo}
 use Rattle.fsb_coherent.specs.LineEvents.{events_below}
@@ -35,7 +26,7 @@ use Rattle.fsb_tied.proofs.Interface.{awaits-grant, clock-facts, grant-first, gr
 use Rattle.fsb_agent_run.proofs.OwnEvents.{is_settled_for}
 use Rattle.fsb_agent_run.specs.RunViews.{is_awaited}
 use Rattle.fsb_agent_run.proofs.GivenBytes.{granted-if, same-first}
-use Rattle.fsb_agent_run.proofs.PromisesTold.{AwaitsBy, awaits-by}
+use Rattle.fsb_agent_run.proofs.PromisesTold.{awaits-by}
 
 -- the line of the machine at a clock, whatever its bytes
 abbrev pub machine_at : Run → ℕ → ℕ → MemoryLine

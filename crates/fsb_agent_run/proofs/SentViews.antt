@@ -1,16 +1,15 @@
 -- What an agent begins at a clock, and what is cancelled there, in its view.
-use Rattle.std.proofs.Common.{ℕ, ◌+◌, ◌<◌, ◌≡◌, ◌≢◌, ◌⊎◌, ◌%◌, Bool, true, false, not, ◌&&◌, ◌||◌, List, [], ◌∷◌, ◌++◌, map, length, Option, Some, None, is_some, nat_eq, refl, sym, ap, subst, ◌∙◌, inl, inr, append-nil, arith, if◌then◌else◌}
+use Rattle.std.proofs.Common.{ℕ, ◌+◌, ◌≡◌, ◌≢◌, ◌⊎◌, ◌%◌, Bool, true, false, not, ◌&&◌, [], ◌∷◌, ◌++◌, map, length, Option, Some, None, is_some, nat_eq, refl, sym, ap, subst, ◌∙◌, inl, inr, append-nil, arith, if◌then◌else◌}
 use Rattle.std.specs.Prelude.{◌==◌}
 use Rattle.std.specs.List.{filter}
 use Rattle.std.specs.Option.{option_map}
 use Rattle.std.proofs.lemmas.Bool.{and_from, and_parts, both_ways, cases_Bool, eq-eqb, eqb-true, false_from_ne_true, ne_eqb}
 use Rattle.std.proofs.lemmas.List.{map-append}
 use Rattle.fsb_cache.specs.declared.held.Held.{Held}
-use Rattle.fsb_cache.specs.Sets.{CacheSets, sets_without, slot_of, states}
+use Rattle.fsb_cache.specs.Sets.{CacheSets, slot_of, states}
 use Rattle.fsb_count.specs.Options.{is_at, is_some_and}
 use Rattle.fsb_count.proofs.Interface.{is_at-some, nat_eq-sym}
 use Rattle.fsb_encode.specs.declared.request.Request.{Request}
-use Rattle.fsb_line.specs.declared.state.Mesi.{Mesi}
 use Rattle.fsb_line.specs.declared.state.Mesi.TheVariants.{Invalid}
 use Rattle.fsb_timely.specs.Past.{Claim, Owing, Past}
 use Rattle.fsb_timely.specs.Grants.{begun_at, holds_line, is_evicted, is_exclusive, is_rival, set_of}
@@ -25,12 +24,11 @@ use Rattle.fsb_run_laws.specs.RunSteps.{listed, owing_begun}
 use Rattle.fsb_run_laws.proofs.Interface.{begun-wanted}
 use Rattle.fsb_agent_view.specs.declared.want.OwnRequest.{OwnRequest}
 use Rattle.fsb_agent_view.specs.declared.want.Want.{Want}
-use Rattle.fsb_agent_view.specs.AgentViews.{AgentView, is_finished_at, line_state_by, number_at}
+use Rattle.fsb_agent_view.specs.AgentViews.{AgentView, is_finished_at, number_at}
 use Rattle.fsb_agent_view.specs.Arriving.{given_up}
 use Rattle.fsb_agent_view.specs.OwnRequests.{new_request}
-use Rattle.fsb_agent_view.specs.Sound.{is_in_set}
 use Rattle.fsb_agent_view.specs.Wanting.{sent, sets_cleared_for, want_by}
-use Rattle.fsb_agent_run.specs.RunViews.{HasLinesKept, HasLinesOf, HasRequestsOf, IsAgentOf, is_awaited, is_won_below, owing_by, state_told}
+use Rattle.fsb_agent_run.specs.RunViews.{HasRequestsOf, is_won_below, owing_by, state_told}
 use Rattle.fsb_agent_run.specs.Owings.{are_owings_apart}
 use Rattle.fsb_agent_run.specs.Stages.{IsPlacedThrough, IsViewAfterHit, IsViewAfterSent, IsViewBeforeSnoop, begun_by, is_uncancelled, owed_sent, owed_through}
 use Rattle.fsb_agent_run.proofs.Among.{Among, among-either, filter-all, filter-same}
@@ -72,9 +70,10 @@ state-cleared sets line other in_sets = by (slot_of sets line) refl
 
     rival-parts : rival ≡ true → (other % length sets ≡ line % length sets) × (other ≢ line)
     rival-parts t =
-        let parts = and_parts (line % length sets == other % length sets) (not (line == other)) t in
-        (sym (eqb-true (line % length sets) (other % length sets) parts.0),
-          λ e. (let f = rw (eq-eqb line other (sym e)) at parts.1 in let no : ⊥ = cc in no))
+        let parts = and_parts (line % length sets == other % length sets) (not (line == other)) t in (
+          sym (eqb-true (line % length sets) (other % length sets) parts.0),
+          λ e. (let f = rw (eq-eqb line other (sym e)) at parts.1 in let no : ⊥ = cc in no),
+        )
 
     -- what is no rival stays where only one line is dropped that is one
     gone : rival ≡ true → states sets other ≡ Invalid → states sets other ≡ (if rival then Invalid else states sets other)
@@ -211,8 +210,13 @@ wanted-there r a c claim v h begun mine view =
     let same : want.0.request ≡ b.0 = want.2 in
     let did = b.2 in
     let line = b.3 in
-    let first = b.4 in
-    (want.0, want.1, wants ∙ ap Some (sym same), owing, o.1, o.2,
+    let first = b.4 in (
+      want.0,
+      want.1,
+      wants ∙ ap Some (sym same),
+      owing,
+      o.1,
+      o.2,
       λ i. record {
         claim = record {
           first = sym first i;
@@ -220,7 +224,8 @@ wanted-there r a c claim v h begun mine view =
           line = (ap (λ (q : Request). q.line) same ∙ sym line) i;
         };
         did = (ap (λ (q : Request). q.did) same ∙ sym did) i;
-      })
+      },
+    )
 
 sent-as : (v : AgentView) (c number : ℕ) (want : Want) → want_by v c ≡ Some want
     → sent v c number ≡ record v {

@@ -1,14 +1,11 @@
 -- From before the snoop end of a clock to behind it: where the agent is granted a line, and where it is granted none.
-use Rattle.std.proofs.Common.{ℕ, ◌+◌, ◌<◌, ◌≤◌, ◌≡◌, ◌≢◌, ◌⊎◌, ◌%◌, Bool, true, false, cond, not, ◌&&◌, ◌||◌, List, [], ◌∷◌, ◌++◌, map, length, Option, Some, None, is_some, nat_eq, refl, sym, ap, subst, ◌∙◌, inl, inr, arith, ⊎_elim, if◌then◌else◌}
-use Rattle.std.specs.Prelude.{◌==◌}
-use Rattle.std.specs.List.{filter}
-use Rattle.std.specs.Option.{option_and_then}
-use Rattle.std.proofs.lemmas.Bool.{and_from, and_parts, both_ways, cases_Bool, cases_eq, eq-eqb, eqb-true, false_from_ne_true, ne_eqb, or_parts}
-use Rattle.fsb_cache.specs.Sets.{CacheSets, sets_filled, states}
-use Rattle.fsb_count.specs.Options.{is_at, is_some_and}
+use Rattle.std.proofs.Common.{ℕ, ◌+◌, ◌<◌, ◌≡◌, ◌≢◌, ◌%◌, true, false, not, ◌&&◌, ◌||◌, List, map, length, Option, Some, None, is_some, nat_eq, refl, sym, ap, subst, ◌∙◌, inl, inr, arith, ⊎_elim, if◌then◌else◌}
+use Rattle.std.proofs.lemmas.Bool.{and_from, both_ways, cases_Bool, cases_eq, eq-eqb, false_from_ne_true, ne_eqb, or_parts}
+use Rattle.fsb_cache.specs.Sets.{sets_filled}
+use Rattle.fsb_count.specs.Options.{is_some_and}
 use Rattle.fsb_line.specs.declared.state.Mesi.{Mesi}
 use Rattle.fsb_line.specs.declared.state.Mesi.TheVariants.{Invalid}
-use Rattle.fsb_timely.specs.Past.{Claim, Grant, Owing, Past, SnoopEnd}
+use Rattle.fsb_timely.specs.Past.{Claim, Grant, Past, SnoopEnd}
 use Rattle.fsb_timely.specs.Grants.{begun_at, grant_at, holds_line, is_ended, is_evicted, is_exclusive, is_granted, is_named_by_other, is_rival, is_taken_away, is_written_back, latest_grant, set_of, snooped_at}
 use Rattle.fsb_timely.specs.Hits.{is_dirty, is_hit, is_stored_since}
 use Rattle.fsb_timely.specs.Runs.{Run, past_of}
@@ -28,7 +25,7 @@ use Rattle.fsb_agent_view.specs.Snooping.{with_fill}
 use Rattle.fsb_agent_view.proofs.Interface.{length-with_slot}
 use Rattle.fsb_agent_run.specs.Owings.{are_owings_apart}
 use Rattle.fsb_agent_run.specs.RunViews.{HasRequestsOf, fill_count, is_awaited, is_won_below, one_if, owing_by, state_told}
-use Rattle.fsb_agent_run.specs.Stages.{IsViewAfterSnoop, IsViewBeforeSnoop, is_dirty_snooped, is_uncancelled, owed_sent, owed_through}
+use Rattle.fsb_agent_run.specs.Stages.{IsViewAfterSnoop, IsViewBeforeSnoop, is_uncancelled, owed_sent, owed_through}
 use Rattle.fsb_agent_run.proofs.Among.{Among, among-filter}
 use Rattle.fsb_agent_run.proofs.FillCounts.{count-push}
 use Rattle.fsb_agent_run.proofs.GrantsAwaited.{granted-unawaited}
@@ -39,7 +36,6 @@ use Rattle.fsb_agent_run.proofs.SentViews.{same-place}
 use Rattle.fsb_agent_run.proofs.SlotStates.{InSets, in_sets-filled, state-filled}
 use Rattle.fsb_agent_run.proofs.StoresTold.{any_stored, since-hit, since-none, stored-more}
 use Rattle.fsb_agent_run.proofs.ToldStates.{snooped-granted, snooped-kept, state_kept, state_snooped_at}
-use Rattle.fsb_agent_run.proofs.WonSteps.{won-still}
 
 -- the requests of a view before the snoop end are apart
 pub through-apart : (r : Run) (a c : ℕ) → Reaches r (c + 1)

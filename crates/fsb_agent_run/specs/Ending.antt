@@ -1,5 +1,5 @@
 -- What ends for an agent at a clock.
-use Rattle.std.specs.Prelude.{◌≡◌, ◌≢◌, ℕ, ◌+◌, true, false, nat_eq, if◌then◌else◌, Option, Some, None}
+use Rattle.std.specs.Prelude.{◌≡◌, ℕ, ◌+◌, true, nat_eq, if◌then◌else◌, Option, Some, None}
 use Rattle.std.specs.Option.{option_and_then}
 use Rattle.fsb_trace.specs.Outcome.{is_deferral}
 use Rattle.fsb_timely.specs.Past.{Claim, Grant, Past, SnoopEnd}

@@ -1,5 +1,5 @@
 -- Requests of an agent that are apart.
-use Rattle.std.specs.Prelude.{ℕ, ◌&&◌, Bool, true, not, nat_eq, List, [], ◌∷◌}
+use Rattle.std.specs.Prelude.{◌&&◌, Bool, true, not, nat_eq, List, [], ◌∷◌}
 use Rattle.std.specs.List.{list_all}
 use Rattle.fsb_timely.specs.Past.{Owing, Past}
 use Rattle.fsb_timely.specs.Wants.{is_same_set}

@@ -15,7 +15,7 @@ ghost use Rattle.fsb_agent_view.specs.Snooping.{may_commit};
 ghost use Rattle.fsb_agent_view.specs.Sound.{IsSound};
 ghost use Rattle.fsb_agent_view.specs.Wanting.{may_send};
 ghost use Rattle.fsb_agent_run.specs.AgentClocks.{number_asked};
-ghost use Rattle.fsb_agent_run.specs.BytesOwed.{HasOwedOf};
+ghost use Rattle.fsb_agent_run.specs.BytesOwed.{HasBytesOwed};
 ghost use Rattle.fsb_agent_run.specs.Ending.{EndsFor};
 ghost use Rattle.fsb_agent_run.specs.RunViews.{HasLines};
 ghost use Rattle.fsb_agent_run.specs.Stages.{IsViewAfterHit, IsViewAfterSent, IsViewAfterSnoop, IsViewBeforeSnoop};
@@ -46,16 +46,16 @@ pub fn snoop_ends_may_be_seen()
     ensures claimed { (r : Run) (a c : ℕ) (s : SnoopEnd) (claim : Claim) (v : AgentView) →
         Reaches r (c + 1) → snooped_at (past_of r) c ≡ Some s → s.claim ≡ Some claim →
         claim.agent ≡ a → IsSound v → IsViewBeforeSnoop (past_of r) a c v →
-        HasOwedOf (past_of r) a c (c + 1) c v → may_commit v s.first true s.outcome ≡ true }
+        HasBytesOwed (past_of r) a c (c + 1) c v → may_commit v s.first true s.outcome ≡ true }
     ensures replied { (r : Run) (a c number : ℕ) (s : SnoopEnd) (grant : Grant) (v : AgentView) →
         Reaches r (c + 1) → snooped_at (past_of r) c ≡ Some s → s.claim ≡ None →
         s.grant ≡ Some grant → grant.agent ≡ a →
         number_asked (past_of r) a c grant.line ≡ Some number → IsSound v →
-        IsViewBeforeSnoop (past_of r) a c v → HasOwedOf (past_of r) a c (c + 1) c v →
+        IsViewBeforeSnoop (past_of r) a c v → HasBytesOwed (past_of r) a c (c + 1) c v →
         may_commit v number true s.outcome ≡ true }
     ensures others { (r : Run) (a c number : ℕ) (s : SnoopEnd) (v : AgentView) →
         Reaches r (c + 1) → snooped_at (past_of r) c ≡ Some s →
-        HasOwedOf (past_of r) a c (c + 1) c v → may_commit v number false s.outcome ≡ true }
+        HasBytesOwed (past_of r) a c (c + 1) c v → may_commit v number false s.outcome ≡ true }
 {}
 
 /// The record of an agent may see each end of its own requests in a timely run: bytes come for one

@@ -11,7 +11,8 @@
 #![tactic(auto)]
 
 pub use calls::{
-    ends_may_be_seen, requests_may_begin_and_be_cancelled, requests_tell_grants, snoop_ends_may_be_seen,
+    ends_may_be_seen, requests_may_begin_and_be_cancelled, requests_tell_grants,
+    snoop_ends_may_be_seen,
 };
 pub use clocks::{clocks_keep_views, views_of_runs_are_their_events};
 pub use laws::{
@@ -19,11 +20,13 @@ pub use laws::{
     snoop_answers_go_by_the_run, views_go_by_the_run, wants_go_by_the_run,
 };
 pub use owed::{
-    agents_begin_owing_nothing, bytes_are_handed_on, clocks_keep_what_is_owed,
-    ends_bring_what_is_promised, few_requests_are_owed, givers_give_the_bytes, own_snoop_ends_are_owed,
-    snoop_ends_of_others_are_owed,
+    agents_begin_owing_no_bytes, bytes_are_handed_on, bytes_are_owed_to_few,
+    clocks_keep_bytes_owed, ends_bring_what_is_promised, givers_give_the_bytes,
+    own_snoop_ends_leave_bytes_owed, snoop_ends_of_others_leave_bytes_owed,
 };
-pub use requests::{agents_owe_few, completions_are_of_items, ends_come_to_agents, requests_are_apart};
+pub use requests::{
+    agents_owe_few, completions_are_of_items, ends_come_to_agents, requests_are_apart,
+};
 pub use stages::{
     begun_requests_lead_on, cancelled_requests_lead_on, ends_lead_on, hits_lead_on,
     own_snoop_ends_lead_on, snoop_ends_of_others_lead_on,

@@ -1,7 +1,7 @@
 use Rattle.fsb_agent_run.proofs.FewOwed.{within}
 use Rattle.fsb_agent_run.proofs.OwedSnoopEnds.{replied-owed-after, unsettled-owed-after}
 use Rattle.fsb_agent_run.proofs.OwedStages.{other-claimed-owed}
-use Rattle.fsb_agent_run.proofs.owed.snoop_ends_of_others_are_owed.Goals as goal
+use Rattle.fsb_agent_run.proofs.owed.snoop_ends_of_others_leave_bytes_owed.Goals as goal
 
 pub returns-clause-claimed : goal.returns-clause-claimed
 returns-clause-claimed c =

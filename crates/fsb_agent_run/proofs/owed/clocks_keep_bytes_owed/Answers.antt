@@ -1,5 +1,5 @@
 use Rattle.fsb_agent_run.proofs.ClockOwed.{clock-owed, clocks-owed}
-use Rattle.fsb_agent_run.proofs.owed.clocks_keep_what_is_owed.Goals as goal
+use Rattle.fsb_agent_run.proofs.owed.clocks_keep_bytes_owed.Goals as goal
 
 pub returns-clause-clock : goal.returns-clause-clock
 returns-clause-clock c = λ r a d bytes v h some few view owed. clock-owed r a d bytes v h some few view owed

@@ -1,5 +1,5 @@
 use Rattle.fsb_agent_run.proofs.FewOwed.{most-owed, owed-before, within}
-use Rattle.fsb_agent_run.proofs.owed.few_requests_are_owed.Goals as goal
+use Rattle.fsb_agent_run.proofs.owed.bytes_are_owed_to_few.Goals as goal
 
 pub returns-clause-before : goal.returns-clause-before
 returns-clause-before c = λ r a d s h there. owed-before r a d s h.timely h.bounds (within r d h.long) there

@@ -1,5 +1,5 @@
 use Rattle.fsb_agent_run.proofs.OwedStages.{claimed-out, own-owed-then, replied-out}
-use Rattle.fsb_agent_run.proofs.owed.own_snoop_ends_are_owed.Goals as goal
+use Rattle.fsb_agent_run.proofs.owed.own_snoop_ends_leave_bytes_owed.Goals as goal
 
 pub returns-clause-claimed : goal.returns-clause-claimed
 returns-clause-claimed c =
