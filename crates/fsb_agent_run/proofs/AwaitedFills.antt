@@ -4,6 +4,7 @@ use Rattle.fsb_timely.specs.Past.{Past}
 use Rattle.fsb_agent_view.specs.AgentViews.{AgentView}
 use Rattle.fsb_agent_run.specs.RunViews.{fill_count, is_awaited, one_if}
 
--- there is one fill of each line that agent a awaits, by the snoop ends below n and the ends below c, and none of another
+-- there is one fill of each line that agent a awaits, by the snoop ends below n and the ends below c, and none
+-- of another
 pub record HasFillsOf (p : Past) (a n c : ℕ) (v : AgentView) : Type 0 where
   pub fills : (line : ℕ) → fill_count v line ≡ one_if (is_awaited p a line n c)

@@ -1,4 +1,5 @@
--- At the response of a request its giver hands on the bytes that it has for it; at any other response what it owes stays.
+-- At the response of a request its giver hands on the bytes that it has for it; at any other response what it
+-- owes stays.
 use Rattle.std.proofs.Common.{ℕ, zero, suc, ◌+◌, ◌<◌, ◌≡◌, Bool, true, false, cond, not, ◌&&◌, ◌||◌, if◌then◌else◌, Option, Some, None, length, nat_eq, refl, sym, ap, subst, ◌∙◌, inl, inr, arith}
 use Rattle.std.specs.Prelude.{◌==◌, is_some}
 use Rattle.std.specs.Option.{option_map}
@@ -62,10 +63,12 @@ first-response r c q h l e =
 
 -- so its giver has the bytes
 pushed-before : (r : Run) (a c q : ℕ) → Timely r → KeepsBounds r.plan → c < length r.trace
-    → responded_in (past_of r) c ≡ Some q → is_given_below (past_of r) a c q ≡ true → is_pushed (past_of r) a c c c q ≡ true
+    → responded_in (past_of r) c ≡ Some q → is_given_below (past_of r) a c q ≡ true
+    → is_pushed (past_of r) a c c c q ≡ true
 unfolding is_pushed
 pushed-before r a c q h bounds l e gives =
-    rw (gives, first-response r c q h l e, responded-unpromised r a c c q c h bounds (omega arith) (omega arith) l e) refl
+    rw (gives, first-response r c q h l e, responded-unpromised r a c c q c h bounds (omega arith)
+    (omega arith) l e) refl
 
 pushed-after : (p : Past) (a n c q : ℕ) → responded_in p c ≡ Some q → is_pushed p a n (c + 1) c q ≡ false
 unfolding is_pushed
@@ -75,7 +78,8 @@ pushed-after p a n c q e = rw (responded-now p c q e) (last (is_given_below p a 
     last true y = refl
     last false y = refl
 
-pushed-kept : (p : Past) (a n c q : ℕ) → is_at (responded_in p c) q ≡ false → is_pushed p a n (c + 1) c q ≡ is_pushed p a n c c q
+pushed-kept : (p : Past) (a n c q : ℕ) → is_at (responded_in p c) q ≡ false
+    → is_pushed p a n (c + 1) c q ≡ is_pushed p a n c c q
 unfolding is_pushed
 pushed-kept p a n c q e =
     let same = unresponded-now p c q e in λ i. is_given_below p a n q && not (same i) && not (is_promised p a n c q)
@@ -88,7 +92,8 @@ count-less f g zero t l on off same = absurd (omega arith)
 count-less f g (suc n) t l on off same =
     elim (cases_eq t n) [
       | inl is ↦
-          let below : count_where g n ≡ count_where f n = count_where-same g f n (record { same = λ u low. same u (omega arith) (λ e. omega arith) }) in
+          let below : count_where g n ≡ count_where f n =
+          count_where-same g f n (record { same = λ u low. same u (omega arith) (λ e. omega arith) }) in
           let here : f n ≡ true = subst (λ k. f k ≡ true) is on in
           let gone : g n ≡ false = subst (λ k. g k ≡ false) is off in
           rw (here, gone) (omega (arith, below))
@@ -163,30 +168,38 @@ handed-owed r a c q v h bounds l e gives k = record {
     there = push-there q v.buffers.pushes (one-push r a c q v h bounds l e gives k)
 
     at-same : (other : ℕ) → other ≡ q
-        → push_count other (pushes_without q v.buffers.pushes) ≡ (if is_pushed (past_of r) a c (c + 1) c other then 1 else 0)
+        → push_count other (pushes_without q v.buffers.pushes)
+        ≡ (if is_pushed (past_of r) a c (c + 1) c other then 1 else 0)
     at-same other same =
-        let one : push_count other v.buffers.pushes ≡ 1 = ap (λ x. push_count x v.buffers.pushes) same ∙ one-push r a c q v h bounds l e gives k in
+        let one : push_count other v.buffers.pushes ≡ 1 =
+        ap (λ x. push_count x v.buffers.pushes) same ∙ one-push r a c q v h bounds l e gives k in
         let less = push_count-without other q v.buffers.pushes in
-        let here : ◌≡◌ {A = ℕ} (cond (is_some (push_for q v.buffers.pushes) && (q == other)) 1 0) 1 = rw (there, eq-eqb q other (sym same)) refl in
+        let here : ◌≡◌ {A = ℕ} (cond (is_some (push_for q v.buffers.pushes) && (q == other)) 1 0) 1 = rw
+        (there, eq-eqb q other (sym same)) refl in
         let none : push_count other (pushes_without q v.buffers.pushes) ≡ 0 = omega (arith, less, here, one) in
-        none ∙ sym (ap (λ b. if b then 1 else 0) (ap (is_pushed (past_of r) a c (c + 1) c) same ∙ pushed-after (past_of r) a c c q e))
+        none ∙ sym (ap (λ b. if b then 1 else 0) (ap (is_pushed (past_of r) a c (c + 1) c) same
+        ∙ pushed-after (past_of r) a c c q e))
 
     at-other : (other : ℕ) → (other ≡ q → ⊥)
-        → push_count other (pushes_without q v.buffers.pushes) ≡ (if is_pushed (past_of r) a c (c + 1) c other then 1 else 0)
+        → push_count other (pushes_without q v.buffers.pushes)
+        ≡ (if is_pushed (past_of r) a c (c + 1) c other then 1 else 0)
     at-other other apart =
         let less = push_count-without other q v.buffers.pushes in
         let here : ◌≡◌ {A = ℕ} (cond (is_some (push_for q v.buffers.pushes) && (q == other)) 1 0) 0 =
         rw (there, ne_eqb q other (λ is. apart (sym is))) refl in
-        let same : push_count other (pushes_without q v.buffers.pushes) ≡ push_count other v.buffers.pushes = omega (arith, less, here) in
+        let same : push_count other (pushes_without q v.buffers.pushes) ≡ push_count other v.buffers.pushes =
+        omega (arith, less, here) in
         same ∙ k.pushes other
-        ∙ sym (ap (λ b. if b then 1 else 0) (pushed-kept (past_of r) a c c other (others-unresponded (past_of r) c q other e apart)))
+        ∙ sym (ap (λ b. if b then 1 else 0) (pushed-kept (past_of r) a c c other (others-unresponded
+        (past_of r) c q other e apart)))
 
     counted : (o : Option Push) → push_for q v.buffers.pushes ≡ o
         → owed_count (handed_on v q).buffers ≡ count_where (owes_bytes_from (past_of r) a (c + 1)) c
     counted None none = absurd (let no : ⊥ = (let t = rw none at there in cc) in no)
     counted (Some push) found =
         let less = length-without-found (is_push_for q) v.buffers.pushes push found in
-        let before : length v.buffers.pushes + promised_count v.buffers.fills ≡ count_where (owes_bytes_from (past_of r) a c) c = k.count in
+        let before : length v.buffers.pushes + promised_count v.buffers.fills
+        ≡ count_where (owes_bytes_from (past_of r) a c) c = k.count in
         let after = owes-less r a c q h bounds l e gives in
         let sum : length (pushes_without q v.buffers.pushes) + promised_count v.buffers.fills
         ≡ count_where (owes_bytes_from (past_of r) a (c + 1)) c = omega (arith, less, before, after) in
@@ -207,7 +220,8 @@ unfolding is_pushed
 kept-at-response p a c v none k = record {
   pushes = λ q. k.pushes q ∙ sym (ap (λ b. if b then 1 else 0) (same-pushed q (is_given_below p a c q) refl));
   promises = k.promises;
-  count = k.count ∙ sym (count_where-same (owes_bytes_from p a (c + 1)) (owes_bytes_from p a c) c (record { same = λ t low. same-owes t low }));
+  count = k.count ∙ sym (count_where-same (owes_bytes_from p a (c + 1)) (owes_bytes_from p a c) c
+      (record { same = λ t low. same-owes t low }));
 }
   where
     not-now : (q : ℕ) → is_given_below p a c q ≡ true → is_at (responded_in p c) q ≡ false
@@ -220,4 +234,5 @@ kept-at-response p a c v none k = record {
 
     same-owes : (t : ℕ) → t < c → owes_bytes_from p a (c + 1) t ≡ owes_bytes_from p a c t
     same-owes t low =
-        owes-kept p a c t (claim_given_at p a t) refl (λ claim there. not-now claim.first (gives-from p a c t claim low there))
+        owes-kept p a c t (claim_given_at p a t) refl (λ claim there. not-now claim.first
+        (gives-from p a c t claim low there))

@@ -105,7 +105,8 @@ cancelled-seen r a c q claim v h cancelled begun mine sound view =
     let clock : c ≡ q + 3 = at.0 in
     let want = begun-want r q claim h.timely h.bounds (omega arith) begun in
     let last = cancelled-last r c q h cancelled in
-    let o = sent-out r a c q claim v h begun mine (omega arith) (last-outstanding r c q claim h begun (omega arith) last) view in
+    let o = sent-out r a c q claim v h begun mine (omega arith) (last-outstanding r c q claim h begun
+    (omega arith) last) view in
     let fills : HasFillsOf p a c c v = record { fills = view.lines.fills } in
     ap (may_give_up v) (sym o.1)
     ∙ cancelled-may r a c claim o.0 v h.timely h.bounds (within r c h.long) (cancelled ∙ ap Some (sym want.first)) mine

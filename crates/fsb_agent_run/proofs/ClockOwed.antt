@@ -99,7 +99,8 @@ sent-keep p a c v = by (begun_at p c) refl
     by None e = rw (e, sent_events) refl
     by (Some claim) e = rw (e, sent_events) (mine (nat_eq claim.agent a))
 
-cancelled-keep : (p : Past) (a c : ℕ) (v : AgentView) → (fold agent_after v (cancelled_events p a c)).buffers ≡ v.buffers
+cancelled-keep : (p : Past) (a c : ℕ) (v : AgentView)
+    → (fold agent_after v (cancelled_events p a c)).buffers ≡ v.buffers
 unfolding cancelled_events given_up_events
 cancelled-keep p a c v = by (cancelled_in p c) refl
   where
@@ -139,7 +140,8 @@ own-replied-owed r a c number s grant request shared v h there none made owed = 
 
     replied : s.outcome ≡ Replied
     replied =
-        ((clock-facts r grant.line c h.timely h.bounds (within r c h.long)).settles.replied s grant there none made refl).replied
+        ((clock-facts r grant.line c h.timely h.bounds
+        (within r c h.long)).settles.replied s grant there none made refl).replied
 
     settled : (out : OwnRequest) (outcome : Outcome) → outcome ≡ Replied
         → SameDebts v.buffers (own_settled v out shared outcome).buffers
@@ -157,7 +159,8 @@ own-replied-owed r a c number s grant request shared v h there none made owed = 
     by None e = rw e (quiet v (same-debts v.buffers v.buffers refl))
     by (Some out) e = rw e (quiet (own_settled v out shared s.outcome) (settled out s.outcome replied))
 
-unclaimed-owed : (r : Run) (a c : ℕ) (s : SnoopEnd) (v : AgentView) → Reaches r (c + 1) → snooped_at (past_of r) c ≡ Some s
+unclaimed-owed : (r : Run) (a c : ℕ) (s : SnoopEnd) (v : AgentView) → Reaches r (c + 1)
+    → snooped_at (past_of r) c ≡ Some s
     → s.claim ≡ None → HasBytesOwed (past_of r) a c (c + 1) c v → HasBytesOwed (past_of r) a (c + 1) (c + 1) c v
 unclaimed-owed r a c s v h there none owed =
     unsettled-owed-after r a c v h.timely h.bounds (within r c h.long)
@@ -167,7 +170,8 @@ unclaimed-owed r a c s v h there none owed =
     owed
 
 reply-owed : (r : Run) (a c number b : ℕ) (s : SnoopEnd) (grant : Grant) (v : AgentView) → Reaches r (c + 1)
-    → snooped_at (past_of r) c ≡ Some s → s.claim ≡ None → s.grant ≡ Some grant → HasBytesOwed (past_of r) a c (c + 1) c v
+    → snooped_at (past_of r) c ≡ Some s → s.claim ≡ None → s.grant ≡ Some grant
+    → HasBytesOwed (past_of r) a c (c + 1) c v
     → HasBytesOwed (past_of r) a (c + 1) (c + 1) c (fold agent_after v (committed_events (past_of r) a s b number))
 unfolding committed_events
 reply-owed r a c number b s grant v h there none made owed = by (want_of (past_of r) b number) refl
@@ -176,14 +180,16 @@ reply-owed r a c number b s grant v h there none made owed = by (want_of (past_o
         (fold agent_after v (Committed number mine request (is_seen_shared s) s.outcome ∷ []))
     named true request = own-replied-owed r a c number s grant request (is_seen_shared s) v h there none made owed
     named false request =
-        replied-owed-after r a c number s grant v request (is_seen_shared s) h.timely h.bounds (within r c h.long) there none made owed
+        replied-owed-after r a c number s grant v request (is_seen_shared s) h.timely h.bounds
+        (within r c h.long) there none made owed
 
     by : (o : Option Request) → want_of (past_of r) b number ≡ o
         → HasBytesOwed (past_of r) a (c + 1) (c + 1) c (fold agent_after v (committed_events (past_of r) a s b number))
     by None e = rw (e, committed_events) (unclaimed-owed r a c s v h there none owed)
     by (Some request) e = rw (e, committed_events) (named (nat_eq b a) request)
 
-replies-owed : (r : Run) (a c : ℕ) (s : SnoopEnd) (v : AgentView) → Reaches r (c + 1) → snooped_at (past_of r) c ≡ Some s
+replies-owed : (r : Run) (a c : ℕ) (s : SnoopEnd) (v : AgentView) → Reaches r (c + 1)
+    → snooped_at (past_of r) c ≡ Some s
     → s.claim ≡ None → HasBytesOwed (past_of r) a c (c + 1) c v → (o : Option Grant) → s.grant ≡ o
     → HasBytesOwed (past_of r) a (c + 1) (c + 1) c
     (fold agent_after v (option_map_or (replied_events (past_of r) a c s) o []))
@@ -214,7 +220,8 @@ claimed-owed r a c s claim v h few there claims view owed =
         rw e (own-owed-then r a c s.first s v request (is_seen_shared s) h
         (claimed-out r a c s claim v h there claims (eqb-true claim.agent a e) view) owed)
     by request want false e =
-        rw e (other-claimed-owed r a c s claim request (is_seen_shared s) v h few there claims (eqb-false claim.agent a e)
+        rw e (other-claimed-owed r a c s claim request (is_seen_shared s) v h few there claims
+        (eqb-false claim.agent a e)
         want view owed)
 
 -- the snoop end
@@ -356,7 +363,8 @@ clock-owed r a c bytes v h some few view owed =
     let stage5 = snooped-all r a c v4 h some stage4 in
     let owed4 = middle-part p a c c (c + 1) v1 (handed-part r a c v h owed) in
     let owed5 = snoop-part r a c v4 h few stage4 owed4 in
-    let owed6 = end-part r a c v5 ends h (ends-seen r a c bytes h) stage5 (ended-all r a c bytes v5 h some few stage5) owed5 in
+    let owed6 = end-part r a c v5 ends h (ends-seen r a c bytes h) stage5
+    (ended-all r a c bytes v5 h some few stage5) owed5 in
     subst (HasBytesOwed p a (c + 1) (c + 1) (c + 1))
     (sym (fold-both v (handed_events p a c)
     (Performed c ∷ (sent_events p a c ++ (cancelled_events p a c ++ (snoops ++ ends))))

@@ -46,7 +46,8 @@ line-ended : (r : Run) (a c number : ℕ) (v : AgentView) → Reaches r (c + 1) 
     → (k : IsEnded r a c number v) → k.out.request.line ≡ last.claim.line
 line-ended r a c number v h last k =
     let early = reaches-less r c (c + 1) (omega arith) h in
-    let same = one-first (past_of r) (owed (past_of r) a c) (owing_by a k.out) last.owing (owed-apart r a c early) k.owing
+    let same = one-first (past_of r) (owed (past_of r) a c) (owing_by a k.out) last.owing
+    (owed-apart r a c early) k.owing
     last.among (k.numbered ∙ sym last.first) in
     ap (λ (o : Owing). o.claim.line) same ∙ ap (λ (x : Claim). x.line) last.owns
 
@@ -93,7 +94,8 @@ own-ended r a c number s v h ends view =
               at = below.0;
               snooped = record {
                 there = below.2;
-                settles = settled-replied a k.out.request.line s reply.grant reply.unclaimed reply.grants reply.agent g.line;
+                settles = settled-replied a k.out.request.line s reply.grant reply.unclaimed reply.grants reply.agent
+                    g.line;
                 number = λ some. unclaimed-number s k.out.number s.first reply.unclaimed some;
               };
               ends = ended;
@@ -147,7 +149,8 @@ upgrade-seen r a c number s v h ends upgraded sound view =
     ap (λ q. request_numbered q v.outs) (sym k.numbered) ∙ k.found in
     let both : Some e.out ≡ Some k.out = sym e.found ∙ one in
     let same : e.out ≡ k.out = cc in
-    let kept = ap (λ (o : OwnRequest). is_some o.kept) (sym same) ∙ upgrade-kept r a c number s v h ends upgraded view e in
+    let kept = ap (λ (o : OwnRequest). is_some o.kept)
+    (sym same) ∙ upgrade-kept r a c number s v h ends upgraded view e in
     ap (may_end_upgrade v) (sym k.numbered)
     ∙ upgrade-may r a c s k.out v h.timely h.bounds (within r c h.long) k.own upgraded sound k.found
     (fills-after (past_of r) a c v view) kept

@@ -35,8 +35,10 @@ room-at r q h l ads =
     let v : Run = run_to r q in
     let p : Past = past_to (past_of r) q in
     let e : starts_requests v p q ≡ true = h.request_starts.at q l in
-    let same = same-beq (line_at ADS v.trace q) (may_begin v p q) (and_parts (drives_ads v p q) (drives_pair v p q) e).0 in
-    let parts = and4 (is_spaced v q) (has_room v q) (not (line_back BNR v.trace q 2)) (has_free_winner v p q) (sym same ∙ ads) in
+    let same = same-beq (line_at ADS v.trace q) (may_begin v p q) (and_parts (drives_ads v p q)
+    (drives_pair v p q) e).0 in
+    let parts = and4 (is_spaced v q) (has_room v q) (not (line_back BNR v.trace q 2)) (has_free_winner v p q)
+    (sym same ∙ ads) in
     ltb-true (length (in_flight v.trace q)) 8 parts.1
 
 -- a live request that has no response up to c is in flight there
@@ -48,7 +50,8 @@ undropped r c q i l clock =
       | inl early ↦
           let kept = (live-at r.trace i q clock).kept in
           let none : line_at AERR (run_to r c).trace (q + 3) ≡ false =
-          sym (line_at-agree AERR (c + 1) r.trace (run_to r c).trace (q + 3) (run_to-agrees r c l) (omega arith)) ∙ kept in
+          sym (line_at-agree AERR (c + 1) r.trace (run_to r c).trace (q + 3) (run_to-agrees r c l) (omega arith))
+          ∙ kept in
           rw none refl
       | inr late ↦ rw (le-ltb (q + 3) c late) (last (line_at AERR (run_to r c).trace (q + 3)))
     ]
@@ -75,14 +78,16 @@ unended r c q h l before none =
     let k = order.responded at.0 q (omega arith) at.2 in
     let early : k.at ≤ at.0 = k.before in
     both_ways (is_responded_below (past_of r) (c + 1) q) none
-    (any_where-at (λ u. is_at (responded_in (past_of r) u) q) (c + 1) k.at (omega arith) (is_at-from (responded_in (past_of r) k.at) q k.there)))
+    (any_where-at (λ u. is_at (responded_in (past_of r) u) q) (c + 1) k.at (omega arith) (is_at-from (responded_in
+    (past_of r) k.at) q k.there)))
 
 still-in-flight : (r : Run) (c q i : ℕ) → Timely r → c < length r.trace → q < c → live_clock_of r.trace i ≡ Some q
     → is_responded_below (past_of r) (c + 1) q ≡ false → is_in_flight (run_to r c).trace c q ≡ true
 unfolding is_in_flight
 still-in-flight r c q i h l before clock none =
     let asks : line_at ADS (run_to r c).trace q ≡ true =
-    sym (line_at-agree ADS (c + 1) r.trace (run_to r c).trace q (run_to-agrees r c l) (omega arith)) ∙ (live-at r.trace i q clock).asks in
+    sym (line_at-agree ADS (c + 1) r.trace (run_to r c).trace q (run_to-agrees r c l) (omega arith))
+    ∙ (live-at r.trace i q clock).asks in
     rw (asks, lt-ltb q c before, undropped r c q i l clock, unended r c q h l before none) refl
 
 -- the snoop end at t is that of a request whose response is not below n
@@ -167,7 +172,8 @@ count-into f g to (suc n) m into rises =
           let more = count_where-above g (to n) m here.0 here.1 in
           rw on (omega (arith, below, more))
       | inr off ↦
-          let below = count-into f g to n m (λ t l e. into t (omega arith) e) (λ t u l k e d. rises t u l (omega arith) e d) in
+          let below = count-into f g to n m (λ t l e. into t (omega arith) e) (λ t u l k e d. rises t u l
+          (omega arith) e d) in
           rw off (omega (arith, below))
     ]
 
@@ -199,14 +205,16 @@ few-open r n (suc m) h l k =
           let q : ℕ = x.end.first in
           let v : Trace = (run_to r q).trace in
           let asks : line_at ADS v q ≡ true =
-          sym (line_at-agree ADS (q + 1) r.trace v q (run_to-agrees r q (omega arith)) (omega arith)) ∙ (live-at r.trace x.number q x.clock).asks in
+          sym (line_at-agree ADS (q + 1) r.trace v q (run_to-agrees r q (omega arith)) (omega arith))
+          ∙ (live-at r.trace x.number q x.clock).asks in
           let room : length (in_flight v q) < 8 = room-at r q h (omega arith) asks in
           let many = count-into (is_open_from p n) (is_in_flight v q) (first_of_snoop p) m q
           (λ t below e.
           let y = open-from r n t e in
           let less : first_of_snoop p t < first_of_snoop p m = rises r n t m below y x in
           let low : y.end.first < q = (let a = y.first in let b = x.first in omega arith) in
-          let none : is_responded_below p (q + 1) y.end.first ≡ false = responded-less p (q + 1) n y.end.first (omega arith) y.unresponded in
+          let none : is_responded_below p (q + 1) y.end.first ≡ false =
+          responded-less p (q + 1) n y.end.first (omega arith) y.unresponded in
           let flies = still-in-flight r q y.end.first y.number h (omega arith) low y.clock none in
           (subst (λ z. z < q) (sym y.first) low, subst (λ z. is_in_flight v q z ≡ true) (sym y.first) flies))
           (λ t u below within e d. rises r n t u below (open-from r n t e) (open-from r n u d)) in
@@ -231,7 +239,8 @@ owes-open : (r : Run) (a n m t : ℕ) → Timely r → KeepsBounds r.plan → m 
     → owes_bytes_from (past_of r) a n t ≡ true → is_open_from (past_of r) n t ≡ true
 unfolding owes_bytes_from
 owes-open r a n m t h bounds l low e =
-    let c = some-and (claim_given_at (past_of r) a t) (λ (claim : Claim). not (is_responded_below (past_of r) n claim.first)) e in
+    let c = some-and (claim_given_at (past_of r) a t) (λ (claim : Claim). not (is_responded_below
+    (past_of r) n claim.first)) e in
     let k = given r a t c.0 h bounds (omega arith) c.1 in
     open-there (past_of r) n t k.at.end k.at.there
     (ap (is_responded_below (past_of r) n) (sym k.first) ∙ not-true (is_responded_below (past_of r) n c.0.first) c.2)
@@ -240,7 +249,8 @@ pub most-owed : (r : Run) (a n : ℕ) → Timely r → KeepsBounds r.plan → n 
     → count_where (owes_bytes_from (past_of r) a n) n ≤ 8
 most-owed r a n h bounds l =
     let few = few-open r n n h (omega arith) l in
-    let less = count-fewer (owes_bytes_from (past_of r) a n) (is_open_from (past_of r) n) n (λ t low e. owes-open r a n n t h bounds l low e) in
+    let less = count-fewer (owes_bytes_from (past_of r) a n) (is_open_from (past_of r) n) n
+    (λ t low e. owes-open r a n n t h bounds l low e) in
     omega (arith, few, less)
 
 -- and one less before a snoop end, whose request is one of the eight
@@ -248,7 +258,8 @@ pub owed-before : (r : Run) (a c : ℕ) (s : SnoopEnd) → Timely r → KeepsBou
     → snooped_at (past_of r) c ≡ Some s → count_where (owes_bytes_from (past_of r) a (c + 1)) c < 8
 owed-before r a c s h bounds l there =
     let few = few-open r (c + 1) (c + 1) h (omega arith) (omega arith) in
-    let here : is_open_from (past_of r) (c + 1) c ≡ true = open-there (past_of r) (c + 1) c s there (unresponded r c (c + 1) s h (omega arith) (omega arith) there) in
+    let here : is_open_from (past_of r) (c + 1) c ≡ true =
+    open-there (past_of r) (c + 1) c s there (unresponded r c (c + 1) s h (omega arith) (omega arith) there) in
     let one = count_where-passed (is_open_from (past_of r) (c + 1)) c here in
     let less = count-fewer (owes_bytes_from (past_of r) a (c + 1)) (is_open_from (past_of r) (c + 1)) c
     (λ t low e. owes-open r a (c + 1) c t h bounds (omega arith) low e) in

@@ -92,7 +92,8 @@ pub record Given (r : Run) (a t : ℕ) (claim : Claim) : Type 0 where
   pub begun : begun_at (past_of r) claim.first ≡ Some claim
   pub settled : IsSettledOn (past_of r) claim.line t at.end
 
-pub same-first : (p : Past) (line t : ℕ) (s : SnoopEnd) (claim : Claim) → s.claim ≡ Some claim → (k : IsSnoopOn p line t s)
+pub same-first : (p : Past) (line t : ℕ) (s : SnoopEnd) (claim : Claim) → s.claim ≡ Some claim
+    → (k : IsSnoopOn p line t s)
     → (claim.first ≡ s.first) × (claim.agent ≡ k.agent)
 same-first p line t s claim e k =
     let both : Some claim ≡ Some (record { first = s.first; agent = k.agent; line = line }) = sym e ∙ k.claimed in
@@ -114,7 +115,8 @@ given r a t claim h bounds l e =
     }
 
 -- what is written back is a write-back
-pub written-kind : (kind : Kind) (outcome : Outcome) → outcome ≡ Written → fits_kind kind outcome ≡ true → kind ≡ WriteBack
+pub written-kind : (kind : Kind) (outcome : Outcome) → outcome ≡ Written → fits_kind kind outcome ≡ true
+    → kind ≡ WriteBack
 unfolding fits_kind fits_getting fits_upgrade fits_write_back
 written-kind Reply outcome e fits = absurd (let no : ⊥ = cc in no)
 written-kind WriteBack outcome e fits = refl
@@ -154,13 +156,17 @@ given-ungranted r a t line claim k = false_from_ne_true (is_granted (past_of r) 
         let made : s.grant ≡ Some g.1 = ap (λ (x : SnoopEnd). x.grant) (sym same) ∙ g.3 in
         elim (gives-by p a t s claim k.at.gives).way [
           | inl handed ↦
-              let x : Grant = record { first = s.first; agent = fits.agent; line = claim.line; owns = fits.owns; shared = fits.shared } in
-              let is : x ≡ g.1 = granted-if (makes_grant fits.kind s.outcome || (is_upgraded s.outcome && fits.won)) s.grant x g.1 fits.granted made in
+              let x : Grant =
+              record { first = s.first; agent = fits.agent; line = claim.line; owns = fits.owns; shared = fits.shared
+                  } in
+              let is : x ≡ g.1 = granted-if (makes_grant fits.kind s.outcome ||
+              (is_upgraded s.outcome && fits.won)) s.grant x g.1 fits.granted made in
               let agent : fits.agent ≡ a = ap (λ (y : Grant). y.agent) is ∙ g.4 in
               handed.1 (sym agent ∙ sym (same-first p claim.line t s claim k.at.claimed fits).1)
           | inr written ↦
               let none = fits.granted
-              ∙ written-ungranted fits.kind s.outcome fits.won _ written.0 (fits.fits (λ kind handed. let no : ⊥ = (let both = sym written.0 ∙ handed in cc) in no)) in
+              ∙ written-ungranted fits.kind s.outcome fits.won _ written.0 (fits.fits (λ kind handed. let no : ⊥ =
+              (let both = sym written.0 ∙ handed in cc) in no)) in
               (let no : ⊥ = (let both = sym none ∙ made in cc) in no)
         ]
 

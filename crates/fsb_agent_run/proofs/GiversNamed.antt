@@ -1,5 +1,5 @@
--- An agent gives the bytes of the request that responds exactly where it is named as the giver of what is awaited after
--- the request's snoop end.
+-- An agent gives the bytes of the request that responds exactly where it is named as the giver of what is
+-- awaited after the request's snoop end.
 use Rattle.std.proofs.Common.{ℕ, ◌+◌, ◌<◌, ◌≤◌, ◌≡◌, Bool, true, false, ◌&&◌, ◌||◌, if◌then◌else◌, Option, Some, None, length, nat_eq, refl, sym, ap, subst, ◌∙◌, arith}
 use Rattle.std.specs.Option.{option_and_then}
 use Rattle.std.proofs.lemmas.Bool.{both_ways, eq-eqb, eqb-true, false_from_ne_true}
@@ -55,7 +55,8 @@ by-grant : (outcome : Outcome) (grant : Grant) → ((awaited_by_grant outcome gr
 unfolding awaited_by_grant
 by-grant outcome grant = (refl, refl)
 
-by-claim : (claim : Claim) → ((awaited_by_claim claim).line ≡ claim.line) × ((awaited_by_claim claim).agent ≡ claim.agent)
+by-claim : (claim : Claim)
+    → ((awaited_by_claim claim).line ≡ claim.line) × ((awaited_by_claim claim).agent ≡ claim.agent)
 unfolding awaited_by_claim
 by-claim claim = (refl, refl)
 
@@ -75,7 +76,8 @@ named-giver r t s claim h bounds l there claims = by s.outcome refl
         → giver_after_snoop (past_of r) t s ≡ giver_at (past_of r) claim.line t claim.agent s
     nobody none = unnamed (past_of r) t s none ∙ sym (none claim.agent claim.line)
 
-    awaiting : (awaited : Awaited) → awaited_by s ≡ Some awaited → awaited.line ≡ claim.line → awaited.agent ≡ claim.agent
+    awaiting : (awaited : Awaited) → awaited_by s ≡ Some awaited → awaited.line ≡ claim.line
+        → awaited.agent ≡ claim.agent
         → giver_after_snoop (past_of r) t s ≡ giver_at (past_of r) claim.line t claim.agent s
     awaiting awaited e names agent =
         awaits (past_of r) t s awaited e ∙ (λ i. giver_at (past_of r) (names i) t (agent i) s)
@@ -136,7 +138,8 @@ record RespondsTo (r : Run) (c q : ℕ) : Type 0 where
   first : end.first ≡ q
   before : at + 2 ≤ c
 
-responds-to : (r : Run) (c q : ℕ) → Timely r → c < length r.trace → responded_in (past_of r) c ≡ Some q → RespondsTo r c q
+responds-to : (r : Run) (c q : ℕ) → Timely r → c < length r.trace → responded_in (past_of r) c ≡ Some q
+    → RespondsTo r c q
 responds-to r c q h l e =
     let k = (answers-in-order r h).snooped c q l e in
     record { at = k.at; end = k.end; there = k.there; first = k.first; before = k.before }
@@ -194,10 +197,12 @@ given-there r a c q h bounds l k None claims =
     ) refl
 given-there r a c q h bounds l k (Some claim) claims =
     let before : k.at + 2 ≤ c = k.before in
-    let fits = ((clock-facts r claim.line k.at h bounds (omega arith)).settles.settled k.end claim k.there claims refl).fits in
+    let fits = ((clock-facts r claim.line k.at h bounds
+    (omega arith)).settles.settled k.end claim k.there claims refl).fits in
     let first : nat_eq claim.first q ≡ true =
     eq-eqb claim.first q ((same-first (past_of r) claim.line k.at k.end claim claims fits).0 ∙ k.first) in
-    ap (λ o. is_some_and o (λ (x : Claim). nat_eq x.first q)) (claim-given (past_of r) a k.at k.end claim k.there claims)
+    ap (λ o. is_some_and o (λ (x : Claim). nat_eq x.first q)) (claim-given
+    (past_of r) a k.at k.end claim k.there claims)
     ∙ either (gives_claim (past_of r) a k.at k.end claim) first
     ∙ ap (λ o. is_at o a) (sym (named-giver r k.at k.end claim h bounds (omega arith) k.there claims))
   where

@@ -40,7 +40,8 @@ granted-as p a n c v out sound fills found =
     ∙ fill-counted out.request.line v.buffers.fills (is_awaited p a out.request.line n c) (fills.fills out.request.line)
 
 few-owed : (r : Run) (a c : ℕ) (s : SnoopEnd) (v : AgentView) → Timely r → KeepsBounds r.plan → c < length r.trace
-    → snooped_at (past_of r) c ≡ Some s → HasBytesOwed (past_of r) a c (c + 1) c v → nat_lt (owed_count v.buffers) 8 ≡ true
+    → snooped_at (past_of r) c ≡ Some s → HasBytesOwed (past_of r) a c (c + 1) c v
+    → nat_lt (owed_count v.buffers) 8 ≡ true
 few-owed r a c s v h bounds l there owed =
     let few = owed-before r a c s h bounds l there in
     lt-ltb (owed_count v.buffers) 8 (omega (arith, few, owed.count))
@@ -71,7 +72,8 @@ settled-as r a c s out state h bounds l k dirty = by s.outcome refl
     by Upgraded e = refl
 
 pub own-may : (r : Run) (a c : ℕ) (s : SnoopEnd) (out : OwnRequest) (v : AgentView) → Timely r → KeepsBounds r.plan
-    → c < length r.trace → IsOwnSnoopEnd (past_of r) a c s out → IsSound v → request_numbered out.number v.outs ≡ Some out
+    → c < length r.trace → IsOwnSnoopEnd (past_of r) a c s out → IsSound v
+    → request_numbered out.number v.outs ≡ Some out
     → is_modified (line_state_by v out.request.line) ≡ is_dirty (past_of r) a out.request.line c
     → HasFillsOf (past_of r) a c c v → HasBytesOwed (past_of r) a c (c + 1) c v
     → may_commit v out.number true s.outcome ≡ true
@@ -89,7 +91,8 @@ pub other-may : (r : Run) (a c number : ℕ) (s : SnoopEnd) (v : AgentView) → 
 other-may r a c number s v h bounds l there owed = few-owed r a c s v h bounds l there owed
 
 -- an own snoop end that makes a grant grants the line to the agent
-settled-granted : (r : Run) (a line t : ℕ) (s : SnoopEnd) (grant : Grant) (out : OwnRequest) → Timely r → KeepsBounds r.plan
+settled-granted : (r : Run) (a line t : ℕ) (s : SnoopEnd) (grant : Grant) (out : OwnRequest) → Timely r
+    → KeepsBounds r.plan
     → t < length r.trace → IsOwnSnoopEnd (past_of r) a t s out → s.grant ≡ Some grant
     → is_granted (past_of r) a out.request.line t ≡ true
 unfolding is_granted grant_at is_some_and
@@ -108,10 +111,13 @@ settled-granted r a line t s grant out h bounds l k made = by s.claim refl
         let own = own-claim a out.request.line s claim claims k.settles in
         let facts = clock-facts r claim.line t h bounds l in
         let fits = (facts.settles.settled s claim k.there claims refl).fits in
-        let x : Grant = record { first = s.first; agent = fits.agent; line = claim.line; owns = fits.owns; shared = fits.shared } in
+        let x : Grant =
+        record { first = s.first; agent = fits.agent; line = claim.line; owns = fits.owns; shared = fits.shared } in
         let is : x ≡ grant =
-        granted-if (makes_grant fits.kind s.outcome || (is_upgraded s.outcome && fits.won)) s.grant x grant fits.granted made in
-        from (ap (λ (y : Grant). y.agent) (sym is) ∙ sym (same-first (past_of r) claim.line t s claim claims fits).1 ∙ own.0)
+        granted-if (makes_grant fits.kind s.outcome ||
+        (is_upgraded s.outcome && fits.won)) s.grant x grant fits.granted made in
+        from (ap (λ (y : Grant). y.agent) (sym is)
+        ∙ sym (same-first (past_of r) claim.line t s claim claims fits).1 ∙ own.0)
         (ap (λ (y : Grant). y.line) (sym is) ∙ own.1)
 
 granted-at-end : (r : Run) (a c : ℕ) (s : SnoopEnd) (grant : Grant) (out : OwnRequest) (v : AgentView) → Timely r
@@ -138,7 +144,8 @@ arrives-may r a c s out v h bounds l k some sound found fills =
 
 ungranted-at-end : (r : Run) (a c : ℕ) (s : SnoopEnd) (out : OwnRequest) (v : AgentView) → Timely r
     → KeepsBounds r.plan → c < length r.trace → IsOwnEnd (past_of r) a c s out → s.grant ≡ None → s.outcome ≢ Deferred
-    → IsSound v → request_numbered out.number v.outs ≡ Some out → HasFillsOf (past_of r) a (c + 1) c v → out.granted ≡ false
+    → IsSound v → request_numbered out.number v.outs ≡ Some out → HasFillsOf (past_of r) a (c + 1) c v
+    → out.granted ≡ false
 ungranted-at-end r a c s out v h bounds l k none plain sound found fills =
     granted-as (past_of r) a (c + 1) c v out sound fills found ∙ ungranted-unawaited r a c s out h bounds l k none plain
 
@@ -154,7 +161,8 @@ upgrade-may r a c s out v h bounds l k upgraded sound found fills kept = rw foun
 
     by : (o : Option Grant) → s.grant ≡ o → (not out.granted || is_some out.kept) ≡ true
     by None none =
-        let open_one = ungranted-at-end r a c s out v h bounds l k none (λ e. let both = sym upgraded ∙ e in let no : ⊥ = cc in no) sound found fills in
+        let open_one = ungranted-at-end r a c s out v h bounds l k none
+        (λ e. let both = sym upgraded ∙ e in let no : ⊥ = cc in no) sound found fills in
         rw open_one refl
     by (Some grant) made =
         let has : is_some out.kept ≡ true = kept ∙ ap is_some made in
@@ -167,7 +175,8 @@ pub given-up-may : (r : Run) (a c : ℕ) (s : SnoopEnd) (out : OwnRequest) (v : 
 given-up-may r a c s out v h bounds l k none plain sound found fills =
     rw found (ap not (ungranted-at-end r a c s out v h bounds l k none plain sound found fills))
 
-pub cancelled-may : (r : Run) (a c : ℕ) (claim : Claim) (out : OwnRequest) (v : AgentView) → Timely r → KeepsBounds r.plan
+pub cancelled-may : (r : Run) (a c : ℕ) (claim : Claim) (out : OwnRequest) (v : AgentView) → Timely r
+    → KeepsBounds r.plan
     → c < length r.trace → cancelled_in (past_of r) c ≡ Some claim.first → claim.agent ≡ a
     → claim.line ≡ out.request.line → IsSound v → begun_at (past_of r) claim.first ≡ Some claim
     → request_numbered out.number v.outs ≡ Some out → HasFillsOf (past_of r) a c c v → may_give_up v out.number ≡ true

@@ -56,7 +56,8 @@ ends-kept p a n r c d v w e before after owed =
     (sym (after.fills line) ∙ ap (λ b. count_on line b.fills) e ∙ before.fills line) in
     let promises : (line : ℕ) → promise_told p a line n d ≡ promise_told p a line n c =
     λ line. told-same p a line n c d (awaited line) in
-    let promised : (q : ℕ) → is_promised p a n d q ≡ is_promised p a n c q = λ q. promised-same p a n c n d q promises in
+    let promised : (q : ℕ) → is_promised p a n d q ≡ is_promised p a n c q =
+    λ q. promised-same p a n c n d q promises in
     owed-on p a n r c n r d v w
     (record {
       pushes = λ q. λ i. is_given_below p a n q && not (is_responded_below p r q) && not (promised q i);
@@ -93,19 +94,22 @@ awaited-later p a line n c none = by (latest_grant p a line n) none
     by : (o : Option Grant) → is_some_and o (λ grant. not (is_ended p c grant.first)) ≡ false
         → is_some_and o (λ grant. not (is_ended p (c + 1) grant.first)) ≡ false
     by None e = e
-    by (Some grant) e = rw (is_ended-more p c grant.first) (more (is_ended p c grant.first) (is_end_at p c grant.first) e)
+    by (Some grant) e = rw (is_ended-more p c grant.first) (more (is_ended p c grant.first)
+        (is_end_at p c grant.first) e)
 
 -- it is awaited no more, and none of its fills is left
 gone : (r : Run) (a c line : ℕ) (bytes : List ℕ) (v w : AgentView) → Lands r a c line bytes v w
     → is_awaited (past_of r) a line (c + 1) (c + 1) ≡ false
 gone r a c line bytes v w k = by (is_awaited (past_of r) a line (c + 1) c) refl
   where
-    by : (b : Bool) → is_awaited (past_of r) a line (c + 1) c ≡ b → is_awaited (past_of r) a line (c + 1) (c + 1) ≡ false
+    by : (b : Bool) → is_awaited (past_of r) a line (c + 1) c ≡ b
+        → is_awaited (past_of r) a line (c + 1) (c + 1) ≡ false
     by false e = awaited-later (past_of r) a line (c + 1) c e
     by true e =
         let one : count_on line v.buffers.fills ≡ 1 = k.before.fills line ∙ ap one_if e in
         one-same (is_awaited (past_of r) a line (c + 1) (c + 1)) false
-        (sym (k.after.fills line) ∙ ap (λ b. count_on line b.fills) k.landed ∙ count-without_this line v.buffers.fills one)
+        (sym (k.after.fills line) ∙ ap (λ b. count_on line b.fills) k.landed
+        ∙ count-without_this line v.buffers.fills one)
 
 none-left : (r : Run) (a c line : ℕ) (bytes : List ℕ) (v w : AgentView) → Lands r a c line bytes v w
     → count_on line (fills_without line v.buffers.fills) ≡ 0
@@ -141,7 +145,8 @@ promised-kept r a c line bytes v w k q free = by (begun_at (past_of r) q)
         elim (cases_eq x.line line) [
           | inl same ↦
               let after : is_at (promise_told (past_of r) a x.line (c + 1) (c + 1)) q ≡ false =
-              ap (λ y. is_at (promise_told (past_of r) a y (c + 1) (c + 1)) q) same ∙ rw (told-none r a c line bytes v w k) refl in
+              ap (λ y. is_at (promise_told (past_of r) a y (c + 1) (c + 1)) q) same
+              ∙ rw (told-none r a c line bytes v w k) refl in
               after ∙ sym (ap (λ y. is_at (promise_told (past_of r) a y (c + 1) c) q) same ∙ free)
           | inr apart ↦ ap (λ o. is_at o q) (told-kept r a c line bytes v w k x.line apart)
         ]
@@ -191,7 +196,8 @@ unfolding is_pushed is_promised is_some_and is_at
 pushed-new r a c line bytes v w k q told m =
     let p : Past = past_of r in
     let before : is_promised p a (c + 1) c q ≡ true = rw (m.begun, m.names, told) (eq-eqb q q refl) in
-    let after : is_promised p a (c + 1) (c + 1) q ≡ false = rw (m.begun, m.names, told-none r a c line bytes v w k) refl in
+    let after : is_promised p a (c + 1) (c + 1) q ≡ false =
+    rw (m.begun, m.names, told-none r a c line bytes v w k) refl in
     (rw (before, m.given, m.unresponded) refl, rw (after, m.given, m.unresponded) refl)
 
 -- the line comes: what was promised is pushed
@@ -213,7 +219,8 @@ landed-owed : (r : Run) (a c line : ℕ) (bytes : List ℕ) (v w : AgentView) �
     → c < length r.trace → Lands r a c line bytes v w → HasBytesOwed (past_of r) a (c + 1) (c + 1) (c + 1) w
 landed-owed r a c line bytes v w h bounds l k = record {
   pushes = λ q.
-      ap (λ b. push_count q b.pushes) k.landed ∙ push_count-pushed q (promise_on line v.buffers.fills) bytes v.buffers.pushes
+      ap (λ b. push_count q b.pushes) k.landed
+      ∙ push_count-pushed q (promise_on line v.buffers.fills) bytes v.buffers.pushes
       ∙ ap (λ b. push_count q v.buffers.pushes + cond b 1 0)
       (is_for-at q (promise_on line v.buffers.fills) ∙ ap (λ o. is_at o q) (k.owed.promises line))
       ∙ landed-pushes r a c line bytes v w h bounds l k q (is_at (promise_told (past_of r) a line (c + 1) c) q) refl;
@@ -229,7 +236,8 @@ landed-owed r a c line bytes v w h bounds l k = record {
     here : (other : ℕ) → other ≡ line
         → promise_on other (fills_without line v.buffers.fills) ≡ promise_told (past_of r) a other (c + 1) (c + 1)
     here other same =
-        subst (λ x. promise_on x (fills_without line v.buffers.fills) ≡ promise_told (past_of r) a x (c + 1) (c + 1)) (sym same)
+        subst (λ x. promise_on x (fills_without line v.buffers.fills)
+        ≡ promise_told (past_of r) a x (c + 1) (c + 1)) (sym same)
         (promise_on-none line (fills_without line v.buffers.fills) (none-left r a c line bytes v w k)
         ∙ sym (told-none r a c line bytes v w k))
 
@@ -247,7 +255,8 @@ landed-owed r a c line bytes v w h bounds l k = record {
         → owed_count (buffers_landed v.buffers line bytes) ≡ count_where (owes_bytes_from (past_of r) a (c + 1)) (c + 1)
     counted longer fewer before = omega (arith, longer, fewer, before)
 
-met-kept : (v : AgentView) (clock : ℕ) (out : OwnRequest) (bytes : List ℕ) → (met_by v clock out bytes).buffers ≡ v.buffers
+met-kept : (v : AgentView) (clock : ℕ) (out : OwnRequest) (bytes : List ℕ)
+    → (met_by v clock out bytes).buffers ≡ v.buffers
 met-kept v clock out bytes = by (is_arrival_by v clock out) refl
   where
     by : (b : Bool) → is_arrival_by v clock out ≡ b → (met_by v clock out bytes).buffers ≡ v.buffers
@@ -256,7 +265,8 @@ met-kept v clock out bytes = by (is_arrival_by v clock out) refl
 
 arrived-owed : (r : Run) (a c : ℕ) (out : OwnRequest) (bytes : List ℕ) (v : AgentView) → Timely r → KeepsBounds r.plan
     → c < length r.trace → HasFillsOf (past_of r) a (c + 1) c v
-    → HasFillsOf (past_of r) a (c + 1) (c + 1) (arrived_for v c out bytes) → HasBytesOwed (past_of r) a (c + 1) (c + 1) c v
+    → HasFillsOf (past_of r) a (c + 1) (c + 1) (arrived_for v c out bytes)
+    → HasBytesOwed (past_of r) a (c + 1) (c + 1) c v
     → HasBytesOwed (past_of r) a (c + 1) (c + 1) (c + 1) (arrived_for v c out bytes)
 arrived-owed r a c out bytes v h bounds l before after owed =
     let come : List ℕ = copies (met_by v c out bytes).lines out.request.line in

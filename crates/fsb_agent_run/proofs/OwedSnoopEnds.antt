@@ -82,7 +82,8 @@ writes-back r a c s out h bounds l k written = by s.claim refl
           first = (same-first (past_of r) claim.line c s claim e settled.fits).0 ∙ sym (k.number (rw e refl));
         }
 
-pub granted-debts : (v : AgentView) (out : OwnRequest) (shared : Bool) → SameDebts v.buffers (granted_by v out shared).buffers
+pub granted-debts : (v : AgentView) (out : OwnRequest) (shared : Bool)
+    → SameDebts v.buffers (granted_by v out shared).buffers
 granted-debts v out shared =
     elim (cases_Bool (asks_line (kind_asks out.request.kind))) [
       | inl on ↦ rw (on, granted_by) (filled-debts v.buffers out.request.line out.number)
@@ -121,7 +122,8 @@ own-owed-after r a c s out v request shared h bounds l k found owed = rw found (
         ∙ settled-unawaited r a out.request.line c s h bounds l k.there k.settles in
         pushed-owed r a c w.claim (copies v.lines out.request.line) v (own_settled v out shared Written)
         (gives-now r a c w.claim h bounds l w.gives) unawaited
-        (ap (λ n. record v.buffers { pushes = v.buffers.pushes ++ record { number = n; bytes = copies v.lines out.request.line } ∷ [] }) (sym w.first))
+        (ap (λ n. record v.buffers { pushes = v.buffers.pushes ++ record { number = n; bytes = copies v.lines
+        out.request.line } ∷ [] }) (sym w.first))
         owed
     by Replied e = quiet _ (λ f. let both = sym e ∙ f in let no : ⊥ = cc in no) (granted-debts v out shared)
     by Failed e = quiet v (λ f. let both = sym e ∙ f in let no : ⊥ = cc in no) (same-debts v.buffers v.buffers refl)
@@ -145,9 +147,11 @@ owner-found r a b line c h bounds l few other on =
     let p : Past = past_of r in
     let test : ℕ → Bool = λ x. not (nat_eq x b) && is_dirty (past_to p c) x line c in
     let mine : test a ≡ true =
-    and_from (not (nat_eq a b)) (is_dirty (past_to p c) a line c) (ap not (ne_eqb a b other)) (dirty-at r line c h bounds l a ∙ on) in
+    and_from (not (nat_eq a b)) (is_dirty (past_to p c) a line c) (ap not (ne_eqb a b other))
+    (dirty-at r line c h bounds l a ∙ on) in
     let alone : (x : ℕ) → x < a → test x ≡ false = λ x below. false_from_ne_true (test x) (λ t.
-    let dirty = sym (dirty-at r line c h bounds l x) ∙ (and_parts (not (nat_eq x b)) (is_dirty (past_to p c) x line c) t).1 in
+    let dirty = sym (dirty-at r line c h bounds l x) ∙ (and_parts (not (nat_eq x b)) (is_dirty
+    (past_to p c) x line c) t).1 in
     let is : x ≡ a = one-dirty p line c x a (machine_at r line c) (tied-at r line c h bounds (omega arith)) dirty on in
     omega arith) in
     is_at-from (first_where test 4) a (first_where-at test 4 a few mine alone)
@@ -205,7 +209,8 @@ unfolding gives_claim giver_at
 giver-same r a c number s claim v request h bounds l few k e dirty =
     elim (handed-or-not s.outcome) [ inl handed ↦ when-handed handed | inr off ↦ otherwise off ]
   where
-    when-handed : s.outcome ≡ Handed → is_giver v request s.outcome ≡ is_at (giver_at (past_of r) claim.line c claim.agent s) a
+    when-handed : s.outcome ≡ Handed
+        → is_giver v request s.outcome ≡ is_at (giver_at (past_of r) claim.line c claim.agent s) a
     when-handed handed =
         let p : Past = past_of r in
         let fits = ((clock-facts r claim.line c h bounds l).settles.settled s claim k.there e refl).fits in
@@ -213,7 +218,8 @@ giver-same r a c number s claim v request h bounds l few k e dirty =
         let known : Some fits.kind ≡ Some request.kind = sym fits.known ∙ k.kind claim e in
         let same : fits.kind ≡ request.kind = cc in
         let asks : asks_line (kind_asks request.kind) ≡ true =
-        subst (λ kind. asks_line (kind_asks kind) ≡ true) same (handed-asks fits.kind s.outcome handed free (fits.fits free)) in
+        subst (λ kind. asks_line (kind_asks kind)
+        ≡ true) same (handed-asks fits.kind s.outcome handed free (fits.fits free)) in
         let other : a ≢ claim.agent = λ is. k.other claim e (sym is) in
         let mine : is_giver v request s.outcome ≡ is_dirty p a request.line c =
         rw (handed, asks, dirty) (whole (is_dirty p a request.line c)) in
@@ -224,7 +230,8 @@ giver-same r a c number s claim v request h bounds l few k e dirty =
         whole true = refl
         whole false = refl
 
-    otherwise : is_handed s.outcome ≡ false → is_giver v request s.outcome ≡ is_at (giver_at (past_of r) claim.line c claim.agent s) a
+    otherwise : is_handed s.outcome ≡ false
+        → is_giver v request s.outcome ≡ is_at (giver_at (past_of r) claim.line c claim.agent s) a
     otherwise off =
         unhanded (is_modified (line_state_by v request.line)) (asks_line (kind_asks request.kind)) s.outcome off
         ∙ sym (false_from_ne_true (is_at (giver_at (past_of r) claim.line c claim.agent s) a) (λ t.
@@ -268,19 +275,23 @@ other-owed-after r a c number s v request shared h bounds l few k dirty fills ow
     gives claim e given on =
         let line : request.line ≡ claim.line = k.line claim e in
         let fits = ((clock-facts r claim.line c h bounds l).settles.settled s claim k.there e refl).fits in
-        let first : number ≡ claim.first = k.first claim e ∙ sym (same-first (past_of r) claim.line c s claim e fits).0 in
+        let first : number ≡ claim.first =
+        k.first claim e ∙ sym (same-first (past_of r) claim.line c s claim e fits).0 in
         let now = gives-now r a c claim h bounds l given in
         let modified : is_modified (line_state_by v request.line) ≡ true =
         (and_parts (is_modified (line_state_by v request.line)) (is_handed s.outcome)
-        (and-first (is_modified (line_state_by v request.line)) (is_handed s.outcome) (asks_line (kind_asks request.kind)) on)).0 in
+        (and-first (is_modified (line_state_by v request.line)) (is_handed s.outcome) (asks_line
+        (kind_asks request.kind)) on)).0 in
         elim (cases_Bool (is_awaited (past_of r) a claim.line c c)) [
           | inr here ↦
               let come : has_come v request.line ≡ true =
               come-count request.line v.buffers.fills false
               (fills.fills request.line ∙ ap (λ x. one_if (is_awaited (past_of r) a x c c)) line ∙ ap one_if here) in
-              pushed-owed r a c claim (copies v.lines request.line) v (other_settled v number request s.outcome) now here
+              pushed-owed r a c claim (copies v.lines request.line) v
+              (other_settled v number request s.outcome) now here
               (rw (on, other_settled, come, buffers_giving)
-              (ap (λ n. record v.buffers { pushes = v.buffers.pushes ++ record { number = n; bytes = copies v.lines request.line } ∷ [] }) first))
+              (ap (λ n. record v.buffers { pushes = v.buffers.pushes ++ record { number = n; bytes = copies v.lines
+              request.line } ∷ [] }) first))
               owed
           | inl awaited ↦
               let one : count_on claim.line v.buffers.fills ≡ 1 = fills.fills claim.line ∙ ap one_if awaited in
@@ -291,7 +302,8 @@ other-owed-after r a c number s v request shared h bounds l few k dirty fills ow
               ∙ dirty-unpromised r a claim.line c h bounds (omega arith)
               (ap (λ x. is_dirty (past_of r) a x c) (sym line) ∙ sym dirty ∙ modified) in
               promised-owed r a c claim v (other_settled v number request s.outcome) now awaited one free
-              (rw (on, other_settled, coming, buffers_giving) (λ i. record v.buffers { fills = promised_to (line i) (first i) v.buffers.fills }))
+              (rw (on, other_settled, coming, buffers_giving) (λ i. record v.buffers { fills = promised_to (line i)
+              (first i) v.buffers.fills }))
               owed
         ]
       where
@@ -317,7 +329,8 @@ pub unsettled-owed-after : (r : Run) (a c : ℕ) (v : AgentView) → Timely r �
     → ((s : SnoopEnd) → snooped_at (past_of r) c ≡ Some s → s.claim ≡ None)
     → HasBytesOwed (past_of r) a c (c + 1) c v → HasBytesOwed (past_of r) a (c + 1) (c + 1) c v
 unsettled-owed-after r a c v h bounds l none owed =
-    owed-on (past_of r) a c (c + 1) c (c + 1) (c + 1) c v v (quiet-owed r a c h bounds l (by (snooped_at (past_of r) c) refl))
+    owed-on (past_of r) a c (c + 1) c (c + 1) (c + 1) c v v (quiet-owed r a c h bounds l (by (snooped_at
+    (past_of r) c) refl))
     (same-debts v.buffers v.buffers refl) owed
   where
     by : (o : Option SnoopEnd) → snooped_at (past_of r) c ≡ o → claim_given_at (past_of r) a c ≡ None

@@ -50,7 +50,8 @@ pub record SameOwed (p : Past) (a n r c m s d : ℕ) : Type 0 where
   pub promises : (line : ℕ) → promise_told p a line m d ≡ promise_told p a line n c
   pub count : count_where (owes_bytes_from p a s) m ≡ count_where (owes_bytes_from p a r) n
 
-pub owed-on : (p : Past) (a n r c m s d : ℕ) (v w : AgentView) → SameOwed p a n r c m s d → SameDebts v.buffers w.buffers
+pub owed-on : (p : Past) (a n r c m s d : ℕ) (v w : AgentView) → SameOwed p a n r c m s d
+    → SameDebts v.buffers w.buffers
     → HasBytesOwed p a n r c v → HasBytesOwed p a m s d w
 owed-on p a n r c m s d v w same debts h = record {
   pushes = λ q. debts.pushes q ∙ h.pushes q ∙ sym (ap (λ b. if b then 1 else 0) (same.pushes q));
@@ -90,7 +91,8 @@ quiet-owed r a c h bounds l none =
     let promises : (line : ℕ) → promise_told p a line (c + 1) c ≡ promise_told p a line c c =
     λ line. elim (cases_Bool (is_granted p a line c)) [
       | inl on ↦ promise-granted p a line c (ungiven-line p a line c none) on
-          ∙ sym (unawaited-unpromised p a line c c (granted-unawaited r a line c (record { timely = h; bounds = bounds; long = omega arith }) on))
+          ∙ sym (unawaited-unpromised p a line c c (granted-unawaited r a line c
+          (record { timely = h; bounds = bounds; long = omega arith }) on))
       | inr off ↦ promise-kept p a line c (ungiven-line p a line c none) off
     ] in
     let given : (q : ℕ) → is_given_below p a (c + 1) q ≡ is_given_below p a c q =
@@ -130,7 +132,8 @@ unfolding gives_line_at is_some_and
 other-line p a c line claim gives apart = rw gives (ne_eqb claim.line line (λ e. apart (sym e)))
 
 owes-more : (r : Run) (a c : ℕ) (claim : Claim) → GivesNow r a c claim
-    → count_where (owes_bytes_from (past_of r) a (c + 1)) (c + 1) ≡ count_where (owes_bytes_from (past_of r) a (c + 1)) c + 1
+    → count_where (owes_bytes_from (past_of r) a (c + 1)) (c + 1)
+    ≡ count_where (owes_bytes_from (past_of r) a (c + 1)) c + 1
 unfolding owes_bytes_from is_some_and
 owes-more r a c claim k =
     count_where-passed (owes_bytes_from (past_of r) a (c + 1)) c (rw (k.gives, k.unresponded) refl)
@@ -146,7 +149,8 @@ now-given : (p : Past) (a c : ℕ) (claim : Claim) → claim_given_at p a c ≡ 
     → is_given_below p a (c + 1) claim.first ≡ true
 unfolding is_some_and
 now-given p a c claim gives =
-    given-more p a c claim.first ∙ rw (gives, eq-eqb claim.first claim.first refl) (last (is_given_below p a c claim.first))
+    given-more p a c claim.first
+    ∙ rw (gives, eq-eqb claim.first claim.first refl) (last (is_given_below p a c claim.first))
   where
     last : (b : Bool) → (b || true) ≡ true
     last true = refl
@@ -179,10 +183,13 @@ pushed-owed r a c claim bytes v w k unawaited e h =
           ∙ counted (length-append v.buffers.pushes (record { number = claim.first; bytes = bytes } ∷ [])) h.count;
     }
   where
-    here : (line : ℕ) → line ≡ claim.line → promise_told (past_of r) a line (c + 1) c ≡ promise_told (past_of r) a line c c
+    here : (line : ℕ) → line ≡ claim.line
+        → promise_told (past_of r) a line (c + 1) c ≡ promise_told (past_of r) a line c c
     here line same =
-        let none : is_awaited (past_of r) a line c c ≡ false = ap (λ x. is_awaited (past_of r) a x c c) same ∙ unawaited in
-        promise-unawaited (past_of r) a line c (k.ungranted line) none ∙ sym (unawaited-unpromised (past_of r) a line c c none)
+        let none : is_awaited (past_of r) a line c c ≡ false =
+        ap (λ x. is_awaited (past_of r) a x c c) same ∙ unawaited in
+        promise-unawaited (past_of r) a line c (k.ungranted line) none
+        ∙ sym (unawaited-unpromised (past_of r) a line c c none)
 
     Promises : Type 0
     Promises = (line : ℕ) → promise_told (past_of r) a line (c + 1) c ≡ promise_told (past_of r) a line c c
@@ -193,11 +200,13 @@ pushed-owed r a c claim bytes v w k unawaited e h =
     new promises q same =
         let p : Past = past_of r in
         let before : is_pushed p a c (c + 1) c claim.first ≡ false = rw k.not_before refl in
-        let none : push_count claim.first v.buffers.pushes ≡ 0 = h.pushes claim.first ∙ ap (λ b. if b then 1 else 0) before in
+        let none : push_count claim.first v.buffers.pushes ≡ 0 =
+        h.pushes claim.first ∙ ap (λ b. if b then 1 else 0) before in
         let unpromised : promise_told p a claim.line (c + 1) c ≡ None =
         promise-unawaited p a claim.line c (k.ungranted claim.line) unawaited in
         let free : is_promised p a (c + 1) c claim.first ≡ false =
-        promised-on p a (c + 1) c claim.first claim k.begun ∙ at-none claim.first (promise_told p a claim.line (c + 1) c) unpromised in
+        promised-on p a (c + 1) c claim.first claim k.begun
+        ∙ at-none claim.first (promise_told p a claim.line (c + 1) c) unpromised in
         let after : is_pushed p a (c + 1) (c + 1) c claim.first ≡ true =
         rw (now-given p a c claim k.gives, k.unresponded, free) refl in
         let here : push_count claim.first v.buffers.pushes + cond (claim.first == claim.first) 1 0
@@ -218,13 +227,17 @@ pushed-owed r a c claim bytes v w k unawaited e h =
         let promised = promised-same p a c c (c + 1) c q promises in
         let same : is_pushed p a (c + 1) (c + 1) c q ≡ is_pushed p a c (c + 1) c q =
         λ i. given i && not (is_responded_below p (c + 1) q) && not (promised i) in
-        let none : cond (claim.first == q) 1 0 ≡ 0 = ap {B = ℕ} (λ b. cond b 1 0) (ne_eqb claim.first q (λ is. apart (sym is))) in
-        let here : push_count q v.buffers.pushes + cond (claim.first == q) 1 0 ≡ push_count q v.buffers.pushes = omega (arith, none) in
+        let none : cond (claim.first == q) 1 0 ≡ 0 =
+        ap {B = ℕ} (λ b. cond b 1 0) (ne_eqb claim.first q (λ is. apart (sym is))) in
+        let here : push_count q v.buffers.pushes + cond (claim.first == q) 1 0 ≡ push_count q v.buffers.pushes =
+        omega (arith, none) in
         here ∙ h.pushes q ∙ sym (ap (λ b. if b then 1 else 0) same)
 
-    counted : length (v.buffers.pushes ++ record { number = claim.first; bytes = bytes } ∷ []) ≡ length v.buffers.pushes + 1
+    counted : length (v.buffers.pushes ++ record { number = claim.first; bytes = bytes } ∷ [])
+        ≡ length v.buffers.pushes + 1
         → owed_count v.buffers ≡ count_where (owes_bytes_from (past_of r) a (c + 1)) c
-        → owed_count (with_push v.buffers claim.first bytes) ≡ count_where (owes_bytes_from (past_of r) a (c + 1)) (c + 1)
+        → owed_count (with_push v.buffers claim.first bytes)
+        ≡ count_where (owes_bytes_from (past_of r) a (c + 1)) (c + 1)
     counted more before = omega (arith, more, before, owes-more r a c claim k)
 
 -- it gives bytes that have not come: they are promised
@@ -253,21 +266,28 @@ promised-owed r a c claim v w k awaited one free e h = record {
     unmade : promise_told (past_of r) a claim.line c c ≡ None
     unmade = sym (h.promises claim.line) ∙ free
 
-    kept : (line : ℕ) → line ≢ claim.line → promise_told (past_of r) a line (c + 1) c ≡ promise_told (past_of r) a line c c
-    kept line other = promise-kept (past_of r) a line c (other-line (past_of r) a c line claim k.gives other) (k.ungranted line)
+    kept : (line : ℕ) → line ≢ claim.line
+        → promise_told (past_of r) a line (c + 1) c ≡ promise_told (past_of r) a line c c
+    kept line other = promise-kept (past_of r) a line c (other-line (past_of r) a c line claim k.gives other)
+        (k.ungranted line)
 
     here : (line : ℕ) → line ≡ claim.line
-        → promise_on line (promised_to claim.line claim.first v.buffers.fills) ≡ promise_told (past_of r) a line (c + 1) c
+        → promise_on line (promised_to claim.line claim.first v.buffers.fills)
+        ≡ promise_told (past_of r) a line (c + 1) c
     here line same =
-        subst (λ x. promise_on x (promised_to claim.line claim.first v.buffers.fills) ≡ promise_told (past_of r) a x (c + 1) c)
-        (sym same) (promise_on-promised claim.line claim.first v.buffers.fills (fill-counted claim.line v.buffers.fills true one) ∙ sym made)
+        subst (λ x. promise_on x (promised_to claim.line claim.first v.buffers.fills)
+        ≡ promise_told (past_of r) a x (c + 1) c)
+        (sym same) (promise_on-promised claim.line claim.first v.buffers.fills
+        (fill-counted claim.line v.buffers.fills true one) ∙ sym made)
 
     elsewhere : (line : ℕ) → line ≢ claim.line
-        → promise_on line (promised_to claim.line claim.first v.buffers.fills) ≡ promise_told (past_of r) a line (c + 1) c
+        → promise_on line (promised_to claim.line claim.first v.buffers.fills)
+        ≡ promise_told (past_of r) a line (c + 1) c
     elsewhere line other =
         promise_on-other line claim.line claim.first v.buffers.fills other ∙ h.promises line ∙ sym (kept line other)
 
-    new : (q : ℕ) → q ≡ claim.first → is_pushed (past_of r) a (c + 1) (c + 1) c q ≡ is_pushed (past_of r) a c (c + 1) c q
+    new : (q : ℕ) → q ≡ claim.first
+        → is_pushed (past_of r) a (c + 1) (c + 1) c q ≡ is_pushed (past_of r) a c (c + 1) c q
     new q same =
         let p : Past = past_of r in
         let told : is_promised p a (c + 1) c claim.first ≡ true =

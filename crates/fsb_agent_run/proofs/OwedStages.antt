@@ -75,7 +75,8 @@ modified-kept r a c line v h view =
 
     by : (b : Bool) → is_dirty (past_of r) a line c ≡ b
         → ((holds_line (past_of r) a line c && not (is_evicted (past_of r) a line c))
-        && ((is_exclusive (past_of r) a line c && not (is_evicted (past_of r) a line c)) && is_dirty (past_of r) a line c))
+        && ((is_exclusive (past_of r) a line c && not (is_evicted (past_of r) a line c)) && is_dirty
+        (past_of r) a line c))
         ≡ is_dirty (past_of r) a line c
     by true dirty =
         let k = dirty-held (past_of r) a line c dirty in
@@ -130,7 +131,8 @@ pub replied-out : (r : Run) (a c number : ℕ) (s : SnoopEnd) (grant : Grant) (v
     → number_asked (past_of r) a c grant.line ≡ Some number → IsViewBeforeSnoop (past_of r) a c v
     → IsOwnAt (past_of r) a c number s v
 replied-out r a c number s grant v h there none made mine asked view =
-    let k = served-out r a c c number grant v h (replied-outstanding r c s grant h there none made) mine asked view.requests in
+    let k = served-out r a c c number grant v h
+    (replied-outstanding r c s grant h there none made) mine asked view.requests in
     record {
       out = k.out;
       numbered = k.numbered;

@@ -1,5 +1,5 @@
--- At the end of its own request an agent awaits the line where the request was granted, and nothing on the line where it was
--- not; and at the snoop end of its write-back it is dirty on the line.
+-- At the end of its own request an agent awaits the line where the request was granted, and nothing on the line
+-- where it was not; and at the snoop end of its write-back it is dirty on the line.
 use Rattle.std.proofs.Common.{ℕ, ◌+◌, ◌<◌, ◌≤◌, ◌≡◌, ◌≢◌, Bool, true, false, ◌&&◌, ◌||◌, if◌then◌else◌, List, [], ◌∷◌, Option, Some, None, length, nat_eq, nat_lt, refl, sym, ap, subst, ◌∙◌, inl, inr, arith}
 use Rattle.std.specs.List.{list_any}
 use Rattle.std.specs.Option.{option_map_or}
@@ -39,7 +39,8 @@ use Rattle.fsb_agent_run.proofs.OwnLines.{granted-settled, machine_at, own-claim
 use Rattle.fsb_agent_run.proofs.PromisesTold.{awaits-by}
 
 -- a request whose end is c has its snoop end two clocks before at least
-pub snooped-before : (r : Run) (c t : ℕ) (s : SnoopEnd) → Timely r → c < length r.trace → snooped_at (past_of r) t ≡ Some s
+pub snooped-before : (r : Run) (c t : ℕ) (s : SnoopEnd) → Timely r → c < length r.trace
+    → snooped_at (past_of r) t ≡ Some s
     → is_end_at (past_of r) c s.first ≡ true → t + 2 ≤ c
 snooped-before r c t s h l there ends =
     let order = answers-in-order r h in
@@ -60,8 +61,10 @@ ended-once r c n q h l low ends =
     let same : t ≡ c = order.one_end t c q (omega arith) l e ends in omega arith))
 
 -- where a request has not ended, no later one has
-later-unended : (r : Run) (c t u : ℕ) (s e : SnoopEnd) → Timely r → c < length r.trace → snooped_at (past_of r) t ≡ Some s
-    → snooped_at (past_of r) u ≡ Some e → t < u → is_ended (past_of r) c s.first ≡ false → is_ended (past_of r) c e.first ≡ false
+later-unended : (r : Run) (c t u : ℕ) (s e : SnoopEnd) → Timely r → c < length r.trace
+    → snooped_at (past_of r) t ≡ Some s
+    → snooped_at (past_of r) u ≡ Some e → t < u → is_ended (past_of r) c s.first ≡ false
+    → is_ended (past_of r) c e.first ≡ false
 unfolding is_ended
 later-unended r c t u s e h l there later less unended =
     let p : Past = past_of r in
@@ -73,7 +76,8 @@ later-unended r c t u s e h l there later less unended =
     let earlier = order.in_turn t u k.at s e there later less (omega arith) k.there in
     let at = any_where-found (λ w. is_end_at p w s.first) k.at earlier in
     let low : at.0 < k.at = at.1 in
-    both_ways (is_end_at p at.0 s.first) (any_where-none (λ w. is_end_at p w s.first) c unended at.0 (omega arith)) at.2))
+    both_ways (is_end_at p at.0 s.first) (any_where-none (λ w. is_end_at p w s.first) c unended at.0
+    (omega arith)) at.2))
 
 -- an agent awaits a line by its latest grant
 awaited-from : (p : Past) (a line n c u : ℕ) (e : SnoopEnd) (grant : Grant)
@@ -103,7 +107,8 @@ awaited-at-end r a line c t s h l there granted ends =
           let both : Some s ≡ Some g.0 = sym there ∙ ap (snooped_at p) same ∙ g.2 in
           let is : s ≡ g.0 = cc in
           ap (λ (x : SnoopEnd). is_ended p c x.first) (sym is) ∙ ended-once r c c s.first h l (omega arith) ends
-      | inr apart ↦ later-unended r c t u s g.0 h l there g.2 (omega arith) (ended-once r c c s.first h l (omega arith) ends)
+      | inr apart ↦ later-unended r c t u s g.0 h l there g.2 (omega arith) (ended-once r c c s.first h l
+          (omega arith) ends)
     ] in
     awaited-from p a line (c + 1) c u g.0 g.1 last.1 g.2 g.3 (ap (is_ended p c) first ∙ unended)
 
@@ -118,7 +123,8 @@ stored-more p a line n q (done ∷ log) e =
           let low = ltb-true done.clock n parts.1 in
           or_left _ _ (and_from (is_store_on a line done && is_ended p done.clock q) (nat_lt done.clock (n + 1)) parts.0
           (lt-ltb done.clock (n + 1) (omega arith)))
-      | inr there ↦ or_right (is_store_on a line done && is_ended p done.clock q && nat_lt done.clock (n + 1)) _ (stored-more p a line n q log there)
+      | inr there ↦ or_right (is_store_on a line done && is_ended p done.clock q && nat_lt done.clock (n + 1)) _
+          (stored-more p a line n q log there)
     ]
 
 -- who is dirty on a line below the hits of a clock is dirty with them
@@ -126,9 +132,11 @@ dirty-with-hits : (p : Past) (a line n : ℕ) → is_dirty_below p a line n ≡ 
 unfolding is_dirty_below is_dirty_through is_stored_below is_some_and
 dirty-with-hits p a line n e =
     let test : Grant → Bool = λ grant.
-    grant.owns || list_any (λ done. is_store_on a line done && is_ended p done.clock grant.first && nat_lt done.clock n) p.log in
+    grant.owns || list_any
+    (λ done. is_store_on a line done && is_ended p done.clock grant.first && nat_lt done.clock n) p.log in
     let more : Grant → Bool = λ grant.
-    grant.owns || list_any (λ done. is_store_on a line done && is_ended p done.clock grant.first && nat_lt done.clock (n + 1)) p.log in
+    grant.owns || list_any
+    (λ done. is_store_on a line done && is_ended p done.clock grant.first && nat_lt done.clock (n + 1)) p.log in
     let parts = and_parts (is_exclusive p a line n) (is_some_and (latest_grant p a line n) test) e in
     let through : is_dirty_through p a line n ≡ true =
     and_from (is_exclusive p a line n) (is_some_and (latest_grant p a line n) more) parts.0
@@ -150,14 +158,16 @@ dirty-with-hits p a line n e =
 
 -- at the snoop end of its write-back an agent is dirty on the line
 pub written-dirty : (r : Run) (a line c : ℕ) (s : SnoopEnd) (claim : Claim) → Timely r → KeepsBounds r.plan
-    → c < length r.trace → snooped_at (past_of r) c ≡ Some s → s.claim ≡ Some claim → claim.agent ≡ a → claim.line ≡ line
+    → c < length r.trace → snooped_at (past_of r) c ≡ Some s → s.claim ≡ Some claim → claim.agent ≡ a
+    → claim.line ≡ line
     → s.outcome ≡ Written → is_dirty (past_of r) a line c ≡ true
 unfolding purpose_of
 written-dirty r a line c s claim h bounds l there claims agent names written =
     let settled = (clock-facts r line c h bounds l).settles.settled s claim there claims names in
     let fits = settled.fits in
     let kind : fits.kind ≡ WriteBack =
-    written-kind fits.kind s.outcome written (fits.fits (λ k handed. let both = sym written ∙ handed in let no : ⊥ = cc in no)) in
+    written-kind fits.kind s.outcome written (fits.fits (λ k handed. let both = sym written
+        ∙ handed in let no : ⊥ = cc in no)) in
     let known : Some purposes.WriteBack ≡ Some settled.purpose = (let e = rw kind at settled.known in e) in
     let purpose : settled.purpose ≡ purposes.WriteBack = cc in
     let tied = tied-at r line c h bounds (omega arith) in
@@ -171,7 +181,8 @@ written-dirty r a line c s claim h bounds l there claims agent names written =
     dirty-with-hits (past_of r) a line c below
 
 -- an open request was open before, where it had begun
-open-earlier : (p : Past) (a line n t : ℕ) (request : OpenRequest) → t ≤ n → request.number < t → IsOpen p a line n request
+open-earlier : (p : Past) (a line n t : ℕ) (request : OpenRequest) → t ≤ n → request.number < t
+    → IsOpen p a line n request
     → IsOpen p a line t request
 unfolding is_cancelled_below is_snooped_below
 open-earlier p a line n t request l begun k = record {
@@ -191,7 +202,8 @@ own-open r a line t s claim h bounds l there claims agent names =
     let settled = (clock-facts r line t h bounds l).settles.settled s claim there claims names in
     let whose : settled.fits.agent ≡ a = sym (same-first (past_of r) line t s claim claims settled.fits).1 ∙ agent in (
       settled.purpose,
-      subst (λ b. IsOpen (past_of r) b line t (record { kind = settled.purpose; number = s.first })) whose settled.opened,
+      subst (λ b. IsOpen (past_of r) b line t
+          (record { kind = settled.purpose; number = s.first })) whose settled.opened,
     )
 
 live-uncancelled : (r : Run) (n t : ℕ) (s : SnoopEnd) → n ≤ length r.trace → snooped_at (past_of r) t ≡ Some s
@@ -206,7 +218,8 @@ live-uncancelled r n t s l there =
     both_ways (line_at AERR r.trace (s.first + 3)) kept (subst (λ x. line_at AERR r.trace x ≡ true) k.0 k.1)))
 
 -- a request whose first clock lies behind the snoop end of another on the line does not begin while that has no end
-not-begun : (r : Run) (a line c t q : ℕ) (s : SnoopEnd) (claim : Claim) → Timely r → KeepsBounds r.plan → c < length r.trace
+not-begun : (r : Run) (a line c t q : ℕ) (s : SnoopEnd) (claim : Claim) → Timely r → KeepsBounds r.plan
+    → c < length r.trace
     → snooped_at (past_of r) t ≡ Some s → s.claim ≡ Some claim → claim.agent ≡ a → claim.line ≡ line
     → is_end_at (past_of r) c s.first ≡ true → t ≤ q → q ≤ c
     → begun_at (past_of r) q ≡ Some (record { first = q; agent = a; line = line }) → ⊥
@@ -218,16 +231,20 @@ not-begun r a line c t q s claim h bounds l there claims agent names ends late l
     let k = begun-want r q (record { first = q; agent = a; line = line }) h bounds (omega arith) begun in
     let free : is_asked_for (owed p a q) line ≡ false =
     ap (is_asked_for (owed p a q)) (sym k.line) ∙ want_of-new p a q k.request k.want in
-    let taken = own-owed r q s.first (record { first = s.first; agent = a; line = line }) h bounds (omega arith) (omega arith)
+    let taken = own-owed r q s.first (record { first = s.first; agent = a; line = line }) h bounds (omega arith)
+    (omega arith)
     mine.1.begun (live-uncancelled r q t s (omega arith) there) (ended-once r c q s.first h l low ends) in
     both_ways (is_asked_for (owed p a q) line) free taken
 
 -- no two requests of an agent on a line have their snoop ends before the first of them has its end
 no-second : (r : Run) (a line c t u : ℕ) (s e : SnoopEnd) (claim other : Claim) → Timely r → KeepsBounds r.plan
-    → c < length r.trace → snooped_at (past_of r) t ≡ Some s → s.claim ≡ Some claim → claim.agent ≡ a → claim.line ≡ line
-    → is_end_at (past_of r) c s.first ≡ true → snooped_at (past_of r) u ≡ Some e → e.claim ≡ Some other → other.agent ≡ a
+    → c < length r.trace → snooped_at (past_of r) t ≡ Some s → s.claim ≡ Some claim → claim.agent ≡ a
+    → claim.line ≡ line
+    → is_end_at (past_of r) c s.first ≡ true → snooped_at (past_of r) u ≡ Some e → e.claim ≡ Some other
+    → other.agent ≡ a
     → other.line ≡ line → t < u → u ≤ c → ⊥
-no-second r a line c t u s e claim other h bounds l there claims agent names ends later others other_agent other_names less low =
+no-second r a line c t u s e claim other h bounds l there claims agent names ends later others other_agent
+    other_names less low =
     let p : Past = past_of r in
     let mine = own-open r a line t s claim h bounds (omega arith) there claims agent names in
     let second = own-open r a line u e other h bounds (omega arith) later others other_agent other_names in
@@ -238,12 +255,14 @@ no-second r a line c t u s e claim other h bounds l there claims agent names end
           let again : OpenRequest = record { kind = second.0; number = e.first } in
           let open_then = open-earlier p a line u t again (omega arith) early second.1 in
           let tied = tied-at r line t h bounds (omega arith) in
-          let both : Some request ≡ Some again = sym (tied.tied.opened a request mine.1) ∙ tied.tied.opened a again open_then in
+          let both : Some request ≡ Some again =
+          sym (tied.tied.opened a request mine.1) ∙ tied.tied.opened a again open_then in
           let same : request ≡ again = cc in
           let first : s.first ≡ e.first = ap (λ (x : OpenRequest). x.number) same in
           let clock : t ≡ u = (answers-in-order r h).one_snoop t u s e there later first in
           omega arith
-      | inr late ↦ not-begun r a line c t e.first s claim h bounds l there claims agent names ends late (omega arith) second.1.begun
+      | inr late ↦ not-begun r a line c t e.first s claim h bounds l there claims agent names ends late
+          (omega arith) second.1.begun
     ]
 
 -- what a deferral was made by
@@ -280,7 +299,8 @@ deferred-at p line n d e = by (last_where (defers_line p line) n) refl
     by : (o : Option ℕ) → last_where (defers_line p line) n ≡ o → DeferredAt p line n d
     by None f = absurd (let no : ⊥ = (let e' = rw (f, deferral_below) at e in cc) in no)
     by (Some t) f =
-        let k = if-since (any_where (from_clock (t + 1) (replies_line p line)) n) (deferral_at p line t) (rw (f, deferral_below) at e) in
+        let k = if-since (any_where (from_clock (t + 1) (replies_line p line)) n) (deferral_at p line t) (rw
+        (f, deferral_below) at e) in
         let found = last_where-found (defers_line p line) n t f in
         let s = some-and (snooped_at p t) (λ (x : SnoopEnd).
         is_deferral x.outcome && is_some_and x.claim (λ claim. nat_eq claim.line line)) found.1 in
@@ -338,10 +358,11 @@ deferral-is Replied e = absurd (let no : ⊥ = cc in no)
 deferral-is Failed e = absurd (let no : ⊥ = cc in no)
 deferral-is Upgraded e = absurd (let no : ⊥ = cc in no)
 
--- behind the snoop end of a request that is neither granted nor deferred nothing of its line is granted to its agent until
--- it has its end
+-- behind the snoop end of a request that is neither granted nor deferred nothing of its line is granted to its
+-- agent until it has its end
 not-granted-later : (r : Run) (a line c t u : ℕ) (s : SnoopEnd) (claim : Claim) → Timely r → KeepsBounds r.plan
-    → c < length r.trace → snooped_at (past_of r) t ≡ Some s → s.claim ≡ Some claim → claim.agent ≡ a → claim.line ≡ line
+    → c < length r.trace → snooped_at (past_of r) t ≡ Some s → s.claim ≡ Some claim → claim.agent ≡ a
+    → claim.line ≡ line
     → is_end_at (past_of r) c s.first ≡ true → s.outcome ≢ Deferred → t < u → u ≤ c
     → is_granted (past_of r) a line u ≡ true → ⊥
 not-granted-later r a line c t u s claim h bounds l there claims agent names ends plain less low granted =
@@ -352,18 +373,21 @@ not-granted-later r a line c t u s claim h bounds l there claims agent names end
         → e.claim ≡ o → ⊥
     by e later settles (Some other) others =
         let own = own-claim a line e other others settles in
-        no-second r a line c t u s e claim other h bounds l there claims agent names ends later others own.0 own.1 less low
+        no-second r a line c t u s e claim other h bounds l there claims agent names ends later others own.0 own.1
+        less low
     by e later settles None others =
         let p : Past = past_of r in
         let grant = own-grant a line e others settles in
-        let replied = (clock-facts r line u h bounds (omega arith)).settles.replied e grant.0 later others grant.1 grant.3 in
+        let replied = (clock-facts r line u h bounds
+        (omega arith)).settles.replied e grant.0 later others grant.1 grant.3 in
         let d : LineDeferral = replied.deferral in
         let k = deferred-at p line u d replied.pending in
         let k_below : k.at < u = k.below in
         let whose : d.agent ≡ a = sym replied.agent ∙ grant.2 in
         elim (cases_lt t k.at) [
           | inl after ↦
-              no-second r a line c t k.at s k.end claim k.claim h bounds l there claims agent names ends k.there k.claims
+              no-second r a line c t k.at s k.end claim k.claim h bounds l there claims agent names ends k.there
+              k.claims
               (k.agent ∙ whose) k.names after (omega arith)
           | inr not_after ↦ elim (cases_eq t k.at) [
             | inl same ↦
@@ -375,7 +399,8 @@ not-granted-later r a line c t u s claim h bounds l there claims agent names end
                 let tied = tied-at r line t h bounds (omega arith) in
                 let pending = deferral-then p line u t d (omega arith) k (omega arith) in
                 let none : (machine_at r line t).ask a ≡ None =
-                ap (λ b. (machine_at r line t).ask b) (sym whose) ∙ (tied.ordered.pending d (tied.tied.deferral ∙ pending)).no_ask in
+                ap (λ b. (machine_at r line t).ask b) (sym whose) ∙ (tied.ordered.pending d (tied.tied.deferral
+                ∙ pending)).no_ask in
                 let both = sym none ∙ tied.tied.opened a (record { kind = mine.0; number = s.first }) mine.1 in
                 (let no : ⊥ = cc in no)
           ]
@@ -406,7 +431,8 @@ ungranted-unawaited r a c s out h bounds l k none plain = by s.claim refl
         let w_below : w.at < c + 1 = w.below in
         elim (cases_lt k.at w.at) [
           | inl after ↦
-              not-granted-later r a line c k.at w.at s claim h bounds l k.snooped.there claims own.0 own.1 k.ends plain after
+              not-granted-later r a line c k.at w.at s claim h bounds l k.snooped.there claims own.0 own.1 k.ends
+              plain after
               (omega arith) w.granted
           | inr not_after ↦ elim (cases_eq k.at w.at) [
             | inl same ↦
@@ -416,7 +442,8 @@ ungranted-unawaited r a c s out h bounds l k none plain = by s.claim refl
                 (let no : ⊥ = cc in no)
             | inr apart ↦
                 let last = last-cut (is_granted p a line) (c + 1) k.at w.at (omega arith) (omega arith) w.last in
-                let unended : is_ended p k.at w.grant.first ≡ false = unended-before p k.at c w.grant.first (omega arith) w.unended in
+                let unended : is_ended p k.at w.grant.first ≡ false =
+                unended-before p k.at c w.grant.first (omega arith) w.unended in
                 both_ways (is_awaited p a line k.at k.at)
                 (settled-unawaited r a line k.at s h bounds (omega arith) k.snooped.there k.snooped.settles)
                 (awaited-from p a line k.at k.at w.at w.end w.grant last w.there w.made unended)

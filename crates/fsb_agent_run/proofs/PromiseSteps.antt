@@ -20,7 +20,8 @@ awaited-kept p a line c none =
     (latest_grant-more p a line c ∙ rw none refl)
 
 -- a line that is not awaited is not promised
-pub unawaited-unpromised : (p : Past) (a line n c : ℕ) → is_awaited p a line n c ≡ false → promise_told p a line n c ≡ None
+pub unawaited-unpromised : (p : Past) (a line n c : ℕ) → is_awaited p a line n c ≡ false
+    → promise_told p a line n c ≡ None
 unfolding promise_told
 unawaited-unpromised p a line n c none = rw none refl
 
@@ -28,7 +29,8 @@ since-kept : (p : Past) (a line c t : ℕ) → is_granted p a line c ≡ false
     → given_since p a line (c + 1) t ≡ given_since p a line c t
 unfolding given_since from_clock
 since-kept p a line c t none =
-    let same : any_where (from_clock (t + 1) (is_granted p a line)) (c + 1) ≡ any_where (from_clock (t + 1) (is_granted p a line)) c =
+    let same : any_where (from_clock (t + 1) (is_granted p a line)) (c + 1)
+    ≡ any_where (from_clock (t + 1) (is_granted p a line)) c =
     any_where-more (from_clock (t + 1) (is_granted p a line)) c
     ∙ rw none (nothing (any_where (from_clock (t + 1) (is_granted p a line)) c) (nat_le (t + 1) c)) in
     ap (λ b. if b then None else option_map (λ (claim : Claim). claim.first) (claim_given_at p a t)) same
@@ -69,7 +71,8 @@ promise-granted p a line c ungiven granted =
     either true = refl
     either false = refl
 
-    by : (o : Option ℕ) → last_where (gives_line_at p a line) c ≡ o → option_and_then (given_since p a line (c + 1)) o ≡ None
+    by : (o : Option ℕ) → last_where (gives_line_at p a line) c ≡ o
+        → option_and_then (given_since p a line (c + 1)) o ≡ None
     by None e = refl
     by (Some t) e =
         let below = (last_where-found (gives_line_at p a line) c t e).0 in
@@ -87,7 +90,8 @@ promise-made p a c claim gives ungranted awaits =
     let line : ℕ = claim.line in
     let awaited : is_awaited p a line (c + 1) c ≡ true = awaited-kept p a line c ungranted ∙ awaits in
     let here : gives_line_at p a line c ≡ true = rw gives (eq-eqb line line refl) in
-    let last : last_where (gives_line_at p a line) (c + 1) ≡ Some c = rw add-one (last_where-passed (gives_line_at p a line) c here) in
+    let last : last_where (gives_line_at p a line) (c + 1) ≡ Some c =
+    rw add-one (last_where-passed (gives_line_at p a line) c here) in
     let none : any_where (from_clock (c + 1) (is_granted p a line)) (c + 1) ≡ false =
     any_where-off (from_clock (c + 1) (is_granted p a line)) (c + 1) (λ t low. rw (lt-leb (c + 1) t low) refl) in
     rw (awaited, last, none, gives) refl

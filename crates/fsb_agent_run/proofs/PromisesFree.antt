@@ -63,7 +63,8 @@ not-promised r a line c q h bounds l exclusive told =
           let kind = written-kind fits.kind s.outcome written.0
           (fits.fits (λ write handed. let both = sym written.0 ∙ handed in let no : ⊥ = cc in no)) in
           lost-since (is_granted p a line) (is_lost p a line) c w.at k.at w.last late below
-          (lost-by p a line k.at s k.claim g.at.there g.at.claimed written.1 k.names (fits.known ∙ ap Some kind)) inner.0
+          (lost-by p a line k.at s k.claim g.at.there g.at.claimed written.1 k.names (fits.known
+          ∙ ap Some kind)) inner.0
     ]
 
 pub dirty-unpromised : (r : Run) (a line c : ℕ) → Timely r → KeepsBounds r.plan → c ≤ length r.trace
@@ -76,5 +77,6 @@ dirty-unpromised r a line c h bounds l dirty = by (promise_told (past_of r) a li
     by (Some q) e =
         absurd (not-promised r a line c q h bounds l
         (and_parts (is_exclusive (past_of r) a line c)
-        (is_some_and (latest_grant (past_of r) a line c) (λ grant. grant.owns || is_stored_since (past_of r) a line c grant.first))
+        (is_some_and (latest_grant (past_of r) a line c) (λ grant. grant.owns || is_stored_since
+        (past_of r) a line c grant.first))
         dirty).0 e)

@@ -66,10 +66,12 @@ pub record IsPromisedAt (p : Past) (a line n c q : ℕ) : Type 0 where
   pub first : claim.first ≡ q
   pub since : any_where (from_clock (at + 1) (is_granted p a line)) n ≡ false
 
-given-first : (o : Option Claim) (claim : Claim) (q : ℕ) → o ≡ Some claim → option_map (λ (x : Claim). x.first) o ≡ Some q
+given-first : (o : Option Claim) (claim : Claim) (q : ℕ) → o ≡ Some claim
+    → option_map (λ (x : Claim). x.first) o ≡ Some q
     → claim.first ≡ q
 given-first None claim q e f = absurd (let no : ⊥ = cc in no)
-given-first (Some x) claim q e f = let same : x ≡ claim = cc in let first : x.first ≡ q = cc in ap (λ (y : Claim). y.first) (sym same) ∙ first
+given-first (Some x) claim q e f = let same : x ≡ claim = cc in let first : x.first
+    ≡ q = cc in ap (λ (y : Claim). y.first) (sym same) ∙ first
 
 pub promised-at : (p : Past) (a line n c q : ℕ) → promise_told p a line n c ≡ Some q → IsPromisedAt p a line n c q
 unfolding promise_told given_since gives_line_at
@@ -85,11 +87,13 @@ promised-at p a line n c q e = by (is_awaited p a line n c) refl
 
     by : (b : Bool) → is_awaited p a line n c ≡ b → IsPromisedAt p a line n c q
     by b f =
-        let told = if-told (is_awaited p a line n c) (option_and_then (given_since p a line n) (last_where (gives_line_at p a line) n)) e in
+        let told = if-told (is_awaited p a line n c) (option_and_then (given_since p a line n) (last_where
+        (gives_line_at p a line) n)) e in
         let t = and-then (given_since p a line n) (last_where (gives_line_at p a line) n) q told.1 in
         let found = last_where-found (gives_line_at p a line) n t.0 t.1 in
         let g = some-and (claim_given_at p a t.0) (λ (claim : Claim). nat_eq claim.line line) found.1 in
-        let s = if-since (any_where (from_clock (t.0 + 1) (is_granted p a line)) n) (option_map (λ (claim : Claim). claim.first) (claim_given_at p a t.0)) t.2 in
+        let s = if-since (any_where (from_clock (t.0 + 1) (is_granted p a line)) n) (option_map (λ
+        (claim : Claim). claim.first) (claim_given_at p a t.0)) t.2 in
         record {
           awaited = told.0;
           at = t.0;
@@ -138,7 +142,8 @@ promised-later r a line n c q h bounds l k w = order-of w.at k.at not-later not-
 
 -- a request that is promised the bytes of a line has no response while they are awaited
 pub promised-unresponded : (r : Run) (a line n c q u : ℕ) → Timely r → KeepsBounds r.plan → n ≤ length r.trace
-    → u ≤ c → u < length r.trace → promise_told (past_of r) a line n c ≡ Some q → responded_in (past_of r) u ≡ Some q → ⊥
+    → u ≤ c → u < length r.trace → promise_told (past_of r) a line n c ≡ Some q
+    → responded_in (past_of r) u ≡ Some q → ⊥
 promised-unresponded r a line n c q u h bounds l before within told responds =
     let p : Past = past_of r in
     let k = promised-at p a line n c q told in
@@ -149,7 +154,8 @@ promised-unresponded r a line n c q u h bounds l before within told responds =
     let order = answers-in-order r h in
     let earlier : w.at < k.at = promised-later r a line n c q h bounds l k w in
     let first : g.at.end.first ≡ q = sym g.first ∙ k.first in
-    let ended = order.in_turn w.at k.at u w.end g.at.end w.there g.at.there earlier within (responds ∙ ap Some (sym first)) in
+    let ended = order.in_turn w.at k.at u w.end g.at.end w.there g.at.there earlier within (responds ∙ ap Some
+    (sym first)) in
     let grant_first = grant-first r a line w.at w.end w.grant (omega arith) w.there w.made w.granted in
     both_ways (is_ended p c w.grant.first) w.unended
     (ended-on p u c w.grant.first before (subst (λ x. is_ended p u x ≡ true) (sym grant_first) ended))
@@ -159,7 +165,9 @@ pub responded-unpromised : (r : Run) (a n c q u : ℕ) → Timely r → KeepsBou
     → u ≤ c → u < length r.trace → responded_in (past_of r) u ≡ Some q → is_promised (past_of r) a n c q ≡ false
 unfolding is_promised
 responded-unpromised r a n c q u h bounds l before within responds =
-    false_from_ne_true (is_some_and (begun_at (past_of r) q) (λ claim. is_at (promise_told (past_of r) a claim.line n c) q)) (λ e.
-    let k = some-and (begun_at (past_of r) q) (λ (claim : Claim). is_at (promise_told (past_of r) a claim.line n c) q) e in
+    false_from_ne_true (is_some_and (begun_at (past_of r) q) (λ claim. is_at (promise_told
+    (past_of r) a claim.line n c) q)) (λ e.
+    let k = some-and (begun_at (past_of r) q) (λ (claim : Claim). is_at (promise_told
+    (past_of r) a claim.line n c) q) e in
     promised-unresponded r a k.0.line n c q u h bounds l before within
     (is_at-some (promise_told (past_of r) a k.0.line n c) q k.2) responds)

@@ -23,8 +23,8 @@ ghost use Rattle.fsb_agent_run.specs.Stages.{IsViewAfterHit, IsViewAfterSent, Is
 /// A sound agent whose record has its lines tells of each of its requests whether it was granted:
 /// exactly where the line's bytes are awaited.
 pub fn requests_tell_grants()
-    ensures { (held alone dirty awaited : ℕ → Bool) (number : ℕ) (v : AgentView) (out : OwnRequest) →
-        IsSound v → HasLines held alone dirty awaited v →
+    ensures { (held alone dirty awaited : ℕ → Bool) (number : ℕ) (v : AgentView)
+        (out : OwnRequest) → IsSound v → HasLines held alone dirty awaited v →
         request_numbered number v.outs ≡ Some out → out.granted ≡ awaited out.request.line }
 {}
 
@@ -40,8 +40,8 @@ pub fn requests_may_begin_and_be_cancelled()
         may_give_up v q ≡ true }
 {}
 
-/// The record of an agent may see each snoop end of a timely run: that of its own request, that of a
-/// reply to it, and that of another agent's.
+/// The record of an agent may see each snoop end of a timely run: that of its own request, that of
+/// a reply to it, and that of another agent's.
 pub fn snoop_ends_may_be_seen()
     ensures claimed { (r : Run) (a c : ℕ) (s : SnoopEnd) (claim : Claim) (v : AgentView) →
         Reaches r (c + 1) → snooped_at (past_of r) c ≡ Some s → s.claim ≡ Some claim →

@@ -8,6 +8,10 @@
 //! these is what the run has there, and that each event of the clock leads from one to the next.
 //! `specs/AgentClocks.antt` lists the events of an agent at a clock of a run: after them the record
 //! is the agent as the next clock finds it.
+//!
+//! `specs/BytesOwed.antt` says to which requests an agent owes bytes in a run, and how its record
+//! has them. The laws lead that too from one moment to the next, and they say that each call of an
+//! agent may come where the run has its event.
 #![tactic(auto)]
 
 pub use calls::{

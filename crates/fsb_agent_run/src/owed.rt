@@ -23,7 +23,8 @@ ghost use Rattle.fsb_agent_run.specs.Stages.{IsViewAfterSnoop, IsViewBeforeSnoop
 /// alone.
 pub fn agents_begin_owing_no_bytes()
     ensures first { (p : Past) (a : ℕ) →
-        HasBytesOwed p a 0 0 0 (first_view a (items_of p a) p.plan.cache p.plan.ahead p.plan.profile) }
+        HasBytesOwed p a 0 0 0
+        (first_view a (items_of p a) p.plan.cache p.plan.ahead p.plan.profile) }
     ensures same { (p : Past) (a n r c : ℕ) (v w : AgentView) → w.buffers ≡ v.buffers →
         HasBytesOwed p a n r c v → HasBytesOwed p a n r c w }
 {}
@@ -43,7 +44,8 @@ pub fn bytes_are_handed_on()
         HasBytesOwed (past_of r) a c c c v → is_some (hand_by v q) ≡ true }
     ensures handed { (r : Run) (a c q : ℕ) (v : AgentView) → Reaches r (c + 1) →
         responded_in (past_of r) c ≡ Some q → is_given_below (past_of r) a c q ≡ true →
-        HasBytesOwed (past_of r) a c c c v → HasBytesOwed (past_of r) a c (c + 1) c (handed_on v q) }
+        HasBytesOwed (past_of r) a c c c v →
+        HasBytesOwed (past_of r) a c (c + 1) c (handed_on v q) }
     ensures kept { (r : Run) (a c : ℕ) (v : AgentView) → Reaches r (c + 1) →
         ((q : ℕ) → responded_in (past_of r) c ≡ Some q → is_given_below (past_of r) a c q ≡ false) →
         HasBytesOwed (past_of r) a c c c v → HasBytesOwed (past_of r) a c (c + 1) c v }
@@ -67,9 +69,9 @@ pub fn own_snoop_ends_leave_bytes_owed()
         (committed v number true request shared s.outcome) }
 {}
 
-/// What an agent owes after the snoop end of another agent's request, by its first clock and as what
-/// that agent wanted; of a reply to another agent, whatever is named; and after a clock without a
-/// snoop end, or with one that is of nobody's request.
+/// What an agent owes after the snoop end of another agent's request, by its first clock and as
+/// what that agent wanted; of a reply to another agent, whatever is named; and after a clock without
+/// a snoop end, or with one that is of nobody's request.
 pub fn snoop_ends_of_others_leave_bytes_owed()
     ensures claimed { (r : Run) (a c : ℕ) (s : SnoopEnd) (claim : Claim) (request : Request)
         (shared : Bool) (v : AgentView) → Reaches r (c + 1) → a < 4 →
@@ -111,7 +113,8 @@ pub fn ends_bring_what_is_promised()
 /// seven before a snoop end, since that request is in flight too.
 pub fn bytes_are_owed_to_few()
     ensures before { (r : Run) (a c : ℕ) (s : SnoopEnd) → Reaches r (c + 1) →
-        snooped_at (past_of r) c ≡ Some s → count_where (owes_bytes_from (past_of r) a (c + 1)) c < 8 }
+        snooped_at (past_of r) c ≡ Some s →
+        count_where (owes_bytes_from (past_of r) a (c + 1)) c < 8 }
     ensures most { (r : Run) (a n : ℕ) → Reaches r n →
         count_where (owes_bytes_from (past_of r) a n) n ≤ 8 }
 {}
