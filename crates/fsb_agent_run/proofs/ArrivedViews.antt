@@ -137,7 +137,8 @@ ending-there r a c number s grant v h ends makes view k =
           apart (sym l.4 ∙ ap (λ (g : Grant). g.line) two ∙ own.line));
     }
   where
-    granted-so : (p : Past) (a line t : ℕ) (s : SnoopEnd) (grant : Grant) → snooped_at p t ≡ Some s → s.grant ≡ Some grant
+    granted-so : (p : Past) (a line t : ℕ) (s : SnoopEnd) (grant : Grant) → snooped_at p t ≡ Some s
+        → s.grant ≡ Some grant
         → grant.agent ≡ a → grant.line ≡ line → is_granted p a line t ≡ true
     granted-so p a line t s grant there makes mine on =
         granted-is p a line t grant (grant-of-snoop p t s there ∙ makes) mine ∙ eq-eqb grant.line line on
@@ -360,7 +361,8 @@ met-arrival r a c line owns bytes v h some few view k comes arrival =
         → is_held (line_state_by v need.line) ≡ holds_line p a need.line (c + 1)
     view-held p need w = held-by p a (c + 1) c (λ l. is_dirty_snooped p a l c) v need.line w.lines
 
-    held-there : (p : Past) (need : Need) → Told → is_held (line_state_by v need.line) ≡ holds_line p a need.line (c + 1)
+    held-there : (p : Past) (need : Need) → Told
+        → is_held (line_state_by v need.line) ≡ holds_line p a need.line (c + 1)
         → there_at p a c line need ≡ true → is_held (states (with_bytes v line bytes).lines need.line) ≡ true
     held-there p need told same met = ap is_held (told need.line) ∙ (elim (cases_Bool (nat_eq need.line line)) [
       | inl on ↦ rw on refl

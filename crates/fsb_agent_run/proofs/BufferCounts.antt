@@ -84,8 +84,11 @@ pub promise_on-push : (line other number : ℕ) (fills : List Fill)
 promise_on-push line other number [] =
     elim (cases_Bool (other == line)) [ inl on ↦ rw on refl | inr off ↦ rw off refl ]
 promise_on-push line other number (f ∷ fills) =
-    elim (cases_Bool (f.line == line)) [ inl on ↦ rw on refl | inr off ↦ rw off
-    (promise_on-push line other number fills) ]
+    elim (cases_Bool (f.line == line)) [
+      | inl on ↦ rw on refl
+      | inr off ↦ rw off
+          (promise_on-push line other number fills)
+    ]
 
 -- the fill of a line is promised
 pub promise_on-promised : (line to : ℕ) (fills : List Fill) → is_some (fill_on line fills) ≡ true
@@ -164,8 +167,10 @@ promised_count-more line to (f ∷ fills) one none =
       | inl on ↦
           let left : count_on line fills ≡ 0 = omega (arith, one, count-here line f fills true on) in
           let rest : promised_to line to fills ≡ fills = none_promised line to fills left in
-          let here : promised_to line to (f ∷ fills) ≡ record f { promise =
-          Some to } ∷ promised_to line to fills = rw on refl in
+          let here : promised_to line to (f ∷ fills) ≡ record f {
+            promise =
+                Some to;
+          } ∷ promised_to line to fills = rw on refl in
           let free : f.promise ≡ None = rw on at none in
           omega (
             arith,

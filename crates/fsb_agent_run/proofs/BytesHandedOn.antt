@@ -67,8 +67,12 @@ pushed-before : (r : Run) (a c q : ℕ) → Timely r → KeepsBounds r.plan → 
     → is_pushed (past_of r) a c c c q ≡ true
 unfolding is_pushed
 pushed-before r a c q h bounds l e gives =
-    rw (gives, first-response r c q h l e, responded-unpromised r a c c q c h bounds (omega arith)
-    (omega arith) l e) refl
+    rw (
+      gives,
+      first-response r c q h l e,
+      responded-unpromised r a c c q c h bounds (omega arith)
+          (omega arith) l e,
+    ) refl
 
 pushed-after : (p : Past) (a n c q : ℕ) → responded_in p c ≡ Some q → is_pushed p a n (c + 1) c q ≡ false
 unfolding is_pushed

@@ -261,7 +261,8 @@ unfolding end_events_of
 unended p a c q bytes e = rw e refl
 
 reply-mine : (p : Past) (a c number : ℕ) (bytes : ℕ → List ℕ) (grant : Grant) → nat_eq grant.agent a ≡ true
-    → number_asked p a c grant.line ≡ Some number → reply_end_events p a c bytes grant ≡ Arrived c number (bytes number) ∷ []
+    → number_asked p a c grant.line ≡ Some number
+    → reply_end_events p a c bytes grant ≡ Arrived c number (bytes number) ∷ []
 unfolding reply_end_events
 reply-mine p a c number bytes grant mine asked = rw (mine, asked) refl
 
@@ -293,7 +294,8 @@ quiet-end r a c q v h few one none view =
     }) view
 
 -- the end of the agent's own request
-own-end-all : (r : Run) (a c q : ℕ) (bytes : ℕ → List ℕ) (s : SnoopEnd) (claim : Claim) (v : AgentView) → Reaches r (c + 1)
+own-end-all : (r : Run) (a c q : ℕ) (bytes : ℕ → List ℕ) (s : SnoopEnd) (claim : Claim) (v : AgentView)
+    → Reaches r (c + 1)
     → 0 < r.plan.cache → a < 4 → ended_requests (past_of r) c ≡ q ∷ [] → snoop_end_below (past_of r) (c + 1) q ≡ Some s
     → s.claim ≡ Some claim → claim.agent ≡ a → IsViewAfterSnoop (past_of r) a c v
     → IsViewOf (past_of r) a (c + 1) (after v (own_end_events c s bytes))
@@ -344,7 +346,8 @@ own-end-all r a c q bytes s claim v h some few one snooped claims mine view = by
     by Deferred e =
         quiet-end r a c q v h few one (λ other f.
         let same : s ≡ other = cc in
-        sym (ap (number_left (past_of r) a c) same) ∙ deferred-left (past_of r) a c s claim claims mine (ap is_deferral e)) view
+        sym (ap (number_left (past_of r) a c) same)
+        ∙ deferred-left (past_of r) a c s claim claims mine (ap is_deferral e)) view
 
 -- what ends at the clock, for the agent
 pub ended-all : (r : Run) (a c : ℕ) (bytes : ℕ → List ℕ) (v : AgentView) → Reaches r (c + 1) → 0 < r.plan.cache → a < 4
@@ -388,7 +391,8 @@ ended-all r a c bytes v h some few view = by (ended_requests (past_of r) c) refl
         unasked q s grant one snooped none makes (inl m)
 
     known : (q : ℕ) (s : SnoopEnd) → ended_requests (past_of r) c ≡ q ∷ []
-        → snoop_end_below (past_of r) (c + 1) q ≡ Some s → (o : Option Claim) → s.claim ≡ o → (g : Option Grant) → s.grant ≡ g
+        → snoop_end_below (past_of r) (c + 1) q ≡ Some s → (o : Option Claim) → s.claim ≡ o → (g : Option Grant)
+        → s.grant ≡ g
         → Goal (ended_events (past_of r) a c bytes s)
     known q s one snooped (Some claim) claims g makes = elim (cases_Bool (nat_eq claim.agent a)) [
       | inl mine ↦
@@ -428,7 +432,8 @@ ended-all r a c bytes v h some few view = by (ended_requests (past_of r) c) refl
 
 -- the whole clock
 pub clock-view : (r : Run) (a c : ℕ) (bytes : ℕ → List ℕ) (v : AgentView) → Reaches r (c + 1) → 0 < r.plan.cache → a < 4
-    → IsViewOf (past_of r) a c v → IsViewOf (past_of r) a (c + 1) (fold agent_after v (events_of_agent (past_of r) a c bytes))
+    → IsViewOf (past_of r) a c v
+    → IsViewOf (past_of r) a (c + 1) (fold agent_after v (events_of_agent (past_of r) a c bytes))
 unfolding events_of_agent
 clock-view r a c bytes v h some few view =
     let p = past_of r in

@@ -28,7 +28,8 @@ use Rattle.fsb_agent_run.proofs.OwedSteps.{reaches-less}
 use Rattle.fsb_agent_run.proofs.OwnSnoops.{idle-retried, settled-as, unmade, written-kind}
 use Rattle.fsb_agent_run.proofs.WonSteps.{won-known}
 
-ended-here : (r : Run) (a c number : ℕ) (s : SnoopEnd) (v : AgentView) → Reaches r (c + 1) → EndsFor (past_of r) a c number s
+ended-here : (r : Run) (a c number : ℕ) (s : SnoopEnd) (v : AgentView) → Reaches r (c + 1)
+    → EndsFor (past_of r) a c number s
     → IsViewAfterSnoop (past_of r) a c v → IsEnded r a c number v
 ended-here r a c number s v h ends view = ended-out r a c number v h (left-last r a c number s h ends) view.requests
 
@@ -58,7 +59,8 @@ own-number r a c number s h ends other =
 -- an upgrade ends
 kept-cases : (r : Run) (a c number : ℕ) (s : SnoopEnd) (v : AgentView) (out : OwnRequest) → (kept : Option (List ℕ))
     → out.kept ≡ kept → (made : Option Grant) → s.grant ≡ made → is_some kept ≡ is_some made
-    → ((bytes : List ℕ) (grant : Grant) → s.grant ≡ Some grant → IsViewOf (past_of r) a (c + 1) (arrived_for v c out bytes))
+    → ((bytes : List ℕ) (grant : Grant) → s.grant ≡ Some grant
+    → IsViewOf (past_of r) a (c + 1) (arrived_for v c out bytes))
     → (s.grant ≡ None → IsViewOf (past_of r) a (c + 1) (given_up v out.number))
     → IsViewOf (past_of r) a (c + 1) (ended_for v c out)
 kept-cases r a c number s v out None e None f same come gone = rw e (gone f)
@@ -69,7 +71,8 @@ kept-cases r a c number s v out (Some bytes) e (Some grant) f same come gone = r
 never-replied : (outcome : Outcome) → outcome ≡ Upgraded → outcome ≢ Replied
 never-replied outcome e f = cc
 
-pub upgrade-view : (r : Run) (a c number : ℕ) (s : SnoopEnd) (v : AgentView) → Reaches r (c + 1) → 0 < r.plan.cache → a < 4
+pub upgrade-view : (r : Run) (a c number : ℕ) (s : SnoopEnd) (v : AgentView) → Reaches r (c + 1) → 0 < r.plan.cache
+    → a < 4
     → EndsFor (past_of r) a c number s → s.outcome ≡ Upgraded → IsViewAfterSnoop (past_of r) a c v
     → IsViewOf (past_of r) a (c + 1) (upgrade_ended v c number)
 unfolding is_upgraded
@@ -114,7 +117,8 @@ ungranted r a c number s h ends which =
     ]
 
 pub given-up-view : (r : Run) (a c number : ℕ) (s : SnoopEnd) (v : AgentView) → Reaches r (c + 1) → a < 4
-    → EndsFor (past_of r) a c number s → (s.outcome ≡ Retried) ⊎ (s.outcome ≡ Written) → IsViewAfterSnoop (past_of r) a c v
+    → EndsFor (past_of r) a c number s → (s.outcome ≡ Retried) ⊎ (s.outcome ≡ Written)
+    → IsViewAfterSnoop (past_of r) a c v
     → IsViewOf (past_of r) a (c + 1) (given_up v number)
 given-up-view r a c number s v h few ends which view =
     left-view r a c number s v h few ends (ungranted r a c number s h ends which) view

@@ -259,7 +259,8 @@ pub left-requests : (r : Run) (a c number : ℕ) (s : SnoopEnd) (v w : AgentView
 left-requests r a c number s v w h ends same requests =
     let p = past_of r in
     let list = map-without p a number v.outs (outs-apart r a c (c + 1) v h requests)
-    ∙ ap (filter (λ owing. not (nat_eq owing.claim.first number))) requests.owed ∙ sym (owed-left r a c number s h ends) in
+    ∙ ap (filter (λ owing. not (nat_eq owing.claim.first number))) requests.owed
+    ∙ sym (owed-left r a c number s h ends) in
     requests-from p a (c + 1) (owed p a (c + 1)) w (ap (map (owing_by a)) same ∙ list)
     (λ out there. wanted-of p a (c + 1) (owed_through p a c) v out requests
     (among-without number out v.outs (subst (Among out) same there)))

@@ -28,7 +28,8 @@ count-push line fill (f ∷ fills) =
     omega (arith, count-cons line f (fills ++ fill ∷ []), count-cons line f fills, count-push line fill fills)
 
 -- one is promised
-pub count-promised : (line other to : ℕ) (fills : List Fill) → count_on line (promised_to other to fills) ≡ count_on line fills
+pub count-promised : (line other to : ℕ) (fills : List Fill)
+    → count_on line (promised_to other to fills) ≡ count_on line fills
 count-promised line other to [] = refl
 count-promised line other to (f ∷ fills) =
     count-cons line (with_promise other to f) (promised_to other to fills)

@@ -40,7 +40,7 @@ pub promised_count-push : (line number : ℕ) (fills : List Fill)
 promised_count-push line number [] = refl
 promised_count-push line number (f ∷ fills) =
     promised_count-cons f (fills ++ record { line = line; number = number; promise = None } ∷ [])
-        ∙ ap (λ n. cond (is_some f.promise) 1 0 + n) (promised_count-push line number fills)
+    ∙ ap (λ n. cond (is_some f.promise) 1 0 + n) (promised_count-push line number fills)
     ∙ sym (promised_count-cons f fills)
 
 -- what was promised of a fill that has ended
@@ -53,15 +53,27 @@ promised_count-without line (f ∷ fills) =
           let rest : fills_without line (f ∷ fills) ≡ fills =
           without_first-cons (is_fill_on line) f fills ∙ ap (λ b. cond b fills (f ∷ fills_without line fills)) on in
           let promise : promise_on line (f ∷ fills) ≡ f.promise = rw on refl in
-          omega (arith, ap promised_count rest, ap {B = ℕ} (λ o. cond
-              (is_some o) 1 0) promise, promised_count-cons f fills)
+          omega (
+            arith,
+            ap promised_count rest,
+            ap {B = ℕ} (λ o. cond
+                (is_some o) 1 0) promise,
+            promised_count-cons f fills,
+          )
       | inr off ↦
           let rest : fills_without line (f ∷ fills) ≡ f ∷ fills_without line fills =
           without_first-cons (is_fill_on line) f fills ∙ ap (λ b. cond b fills (f ∷ fills_without line fills)) off in
           let promise : promise_on line (f ∷ fills) ≡ promise_on line fills = rw off refl in
-          omega (arith, ap promised_count rest, ap {B = ℕ} (λ o. cond
-              (is_some o) 1 0) promise, promised_count-cons f
-              (fills_without line fills), promised_count-cons f fills, promised_count-without line fills)
+          omega (
+            arith,
+            ap promised_count rest,
+            ap {B = ℕ} (λ o. cond
+                (is_some o) 1 0) promise,
+            promised_count-cons f
+                (fills_without line fills),
+            promised_count-cons f fills,
+            promised_count-without line fills,
+          )
     ]
 
 -- what is found passes

@@ -157,8 +157,13 @@ given-ungranted r a t line claim k = false_from_ne_true (is_granted (past_of r) 
         elim (gives-by p a t s claim k.at.gives).way [
           | inl handed ↦
               let x : Grant =
-              record { first = s.first; agent = fits.agent; line = claim.line; owns = fits.owns; shared = fits.shared
-                  } in
+              record {
+                first = s.first;
+                agent = fits.agent;
+                line = claim.line;
+                owns = fits.owns;
+                shared = fits.shared;
+              } in
               let is : x ≡ g.1 = granted-if (makes_grant fits.kind s.outcome ||
               (is_upgraded s.outcome && fits.won)) s.grant x g.1 fits.granted made in
               let agent : fits.agent ≡ a = ap (λ (y : Grant). y.agent) is ∙ g.4 in

@@ -93,7 +93,8 @@ hit-needs p a c item e there =
     (is_some_and (next_item p a c) (λ item. list_all (is_served p a c) (needs_of item))) e in
     rw there at parts.1
 
-pub sole-told : (held own dirty : Bool) → held ≡ true → own ≡ true → Modified ≡ state_with true (state_told held own dirty)
+pub sole-told : (held own dirty : Bool) → held ≡ true → own ≡ true
+    → Modified ≡ state_with true (state_told held own dirty)
 sole-told held own true h o = rw (h, o) refl
 sole-told held own false h o = rw (h, o) refl
 

@@ -98,7 +98,8 @@ stores-by-steps a line c (done ∷ log) =
     let here = not (is_load done.access) && nat_eq (accessed_line done.access) line in
     elim (cases_Bool (nat_eq done.clock c)) [
       | inr off ↦ rw off (ap (λ b. b || list_any (λ d. is_store_on a line d && nat_eq d.clock c) log)
-          (no-clock (nat_eq done.agent a && not (is_load done.access)) (nat_eq (accessed_line done.access) line)) ∙ rest)
+          (no-clock (nat_eq done.agent a && not (is_load done.access)) (nat_eq (accessed_line done.access) line))
+          ∙ rest)
       | inl on ↦ elim (cases_Bool (nat_eq done.agent a)) [
         | inr other ↦ rw (on, other) rest
         | inl own ↦
@@ -147,7 +148,8 @@ steps-need f g n (Locked group) each all =
 steps-need f g n (Idle clocks) each all = refl
 
 -- what passes in each access passes in one that stores into a line
-pub any-stores : (g : Access → Bool) (line : ℕ) (steps : List Step) → list_all (λ (step : Step). g step.access) steps ≡ true
+pub any-stores : (g : Access → Bool) (line : ℕ) (steps : List Step)
+    → list_all (λ (step : Step). g step.access) steps ≡ true
     → list_any (λ (step : Step). stores_into line step.access) steps ≡ true
     → (access : Access) × (is_load access ≡ false) × (accessed_line access ≡ line) × (g access ≡ true)
 unfolding stores_into

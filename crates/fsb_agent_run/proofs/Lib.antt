@@ -52,3 +52,4 @@ pub mod ClockOwed
 pub mod ArrivedViews
 pub mod EndEvents
 pub mod ClockEvents
+pub mod Interface

@@ -64,7 +64,8 @@ other-taken : (p : Past) (a line c : ℕ) (s : SnoopEnd) (claim : Claim) (kind :
 unfolding is_taken_away is_snooped is_claim_of_other is_some_and
 other-taken p a line c s claim kind there claims is other = rw (there, claims, is, ne_eqb claim.agent a other) refl
 
-other-written : (p : Past) (a line c : ℕ) (s : SnoopEnd) (claim : Claim) → snooped_at p c ≡ Some s → s.claim ≡ Some claim
+other-written : (p : Past) (a line c : ℕ) (s : SnoopEnd) (claim : Claim) → snooped_at p c ≡ Some s
+    → s.claim ≡ Some claim
     → claim.agent ≢ a → is_written_back p a line c ≡ false
 unfolding is_written_back is_snooped is_claim_of is_some_and
 other-written p a line c s claim there claims other = rw (there, claims, ne_eqb claim.agent a other) refl
@@ -112,7 +113,8 @@ same-there sets line other state e = elim (cases_Bool (other == line)) [
 pub lowered-same : (sets : CacheSets) (line other : ℕ) (state : Mesi) → states sets line ≡ state
     → states (sets_lowered sets line state) other ≡ states sets other
 lowered-same sets line other Invalid e = state-without sets line other ∙ same-there sets line other Invalid e
-lowered-same sets line other Shared e = state-shared sets line other (ap is_held e) ∙ same-there sets line other Shared e
+lowered-same sets line other Shared e = state-shared sets line other (ap is_held e)
+    ∙ same-there sets line other Shared e
 lowered-same sets line other Exclusive e = refl
 lowered-same sets line other Modified e = refl
 
@@ -127,8 +129,10 @@ fills-giving v line number other true = elim (cases_Bool (has_come v line)) [
 ]
 
 -- a write-back's line is held by nobody else
-writes-alone : (r : Run) (a c : ℕ) (s : SnoopEnd) (claim : Claim) → Reaches r (c + 1) → snooped_at (past_of r) c ≡ Some s
-    → s.claim ≡ Some claim → s.kind ≡ Some kinds.WriteBack → claim.agent ≢ a → holds_line (past_of r) a claim.line c ≡ false
+writes-alone : (r : Run) (a c : ℕ) (s : SnoopEnd) (claim : Claim) → Reaches r (c + 1)
+    → snooped_at (past_of r) c ≡ Some s
+    → s.claim ≡ Some claim → s.kind ≡ Some kinds.WriteBack → claim.agent ≢ a
+    → holds_line (past_of r) a claim.line c ≡ false
 unfolding purpose_of
 writes-alone r a c s claim h there claims kind other =
     let p = past_of r in
@@ -316,7 +320,8 @@ pub unclaimed-view : (r : Run) (a c : ℕ) (v w : AgentView) → Reaches r (c + 
     → ((line : ℕ) → is_granted (past_of r) a line c ≡ false)
     → ((line : ℕ) → ((is_written_back (past_of r) a line c || is_taken_away (past_of r) a line c) ≡ false)
     × (is_named_by_other (past_of r) a line c ≡ false))
-    → ((out : OwnRequest) → Among out v.outs → is_won_below (past_of r) (c + 1) out.number ≡ is_won_below (past_of r) c out.number)
+    → ((out : OwnRequest) → Among out v.outs
+    → is_won_below (past_of r) (c + 1) out.number ≡ is_won_below (past_of r) c out.number)
     → ((line : ℕ) → line_state_by w line ≡ line_state_by v line) → ((line : ℕ) → fill_count w line ≡ fill_count v line)
     → InSets w.lines → length w.lines ≡ length v.lines → w ≡ record v { lines = w.lines; buffers = w.buffers }
     → IsViewBeforeSnoop (past_of r) a c v → IsViewAfterSnoop (past_of r) a c w

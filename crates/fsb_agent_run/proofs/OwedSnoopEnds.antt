@@ -122,8 +122,13 @@ own-owed-after r a c s out v request shared h bounds l k found owed = rw found (
         ∙ settled-unawaited r a out.request.line c s h bounds l k.there k.settles in
         pushed-owed r a c w.claim (copies v.lines out.request.line) v (own_settled v out shared Written)
         (gives-now r a c w.claim h bounds l w.gives) unawaited
-        (ap (λ n. record v.buffers { pushes = v.buffers.pushes ++ record { number = n; bytes = copies v.lines
-        out.request.line } ∷ [] }) (sym w.first))
+        (ap (λ n. record v.buffers {
+          pushes = v.buffers.pushes ++ record {
+            number = n;
+            bytes = copies v.lines
+                out.request.line;
+          } ∷ [];
+        }) (sym w.first))
         owed
     by Replied e = quiet _ (λ f. let both = sym e ∙ f in let no : ⊥ = cc in no) (granted-debts v out shared)
     by Failed e = quiet v (λ f. let both = sym e ∙ f in let no : ⊥ = cc in no) (same-debts v.buffers v.buffers refl)
@@ -290,8 +295,13 @@ other-owed-after r a c number s v request shared h bounds l few k dirty fills ow
               pushed-owed r a c claim (copies v.lines request.line) v
               (other_settled v number request s.outcome) now here
               (rw (on, other_settled, come, buffers_giving)
-              (ap (λ n. record v.buffers { pushes = v.buffers.pushes ++ record { number = n; bytes = copies v.lines
-              request.line } ∷ [] }) first))
+              (ap (λ n. record v.buffers {
+                pushes = v.buffers.pushes ++ record {
+                  number = n;
+                  bytes = copies v.lines
+                      request.line;
+                } ∷ [];
+              }) first))
               owed
           | inl awaited ↦
               let one : count_on claim.line v.buffers.fills ≡ 1 = fills.fills claim.line ∙ ap one_if awaited in
@@ -302,8 +312,10 @@ other-owed-after r a c number s v request shared h bounds l few k dirty fills ow
               ∙ dirty-unpromised r a claim.line c h bounds (omega arith)
               (ap (λ x. is_dirty (past_of r) a x c) (sym line) ∙ sym dirty ∙ modified) in
               promised-owed r a c claim v (other_settled v number request s.outcome) now awaited one free
-              (rw (on, other_settled, coming, buffers_giving) (λ i. record v.buffers { fills = promised_to (line i)
-              (first i) v.buffers.fills }))
+              (rw (on, other_settled, coming, buffers_giving) (λ i. record v.buffers {
+                fills = promised_to (line i)
+                    (first i) v.buffers.fills;
+              }))
               owed
         ]
       where

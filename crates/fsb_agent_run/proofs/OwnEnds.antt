@@ -167,7 +167,7 @@ written-dirty r a line c s claim h bounds l there claims agent names written =
     let fits = settled.fits in
     let kind : fits.kind ≡ WriteBack =
     written-kind fits.kind s.outcome written (fits.fits (λ k handed. let both = sym written
-        ∙ handed in let no : ⊥ = cc in no)) in
+    ∙ handed in let no : ⊥ = cc in no)) in
     let known : Some purposes.WriteBack ≡ Some settled.purpose = (let e = rw kind at settled.known in e) in
     let purpose : settled.purpose ≡ purposes.WriteBack = cc in
     let tied = tied-at r line c h bounds (omega arith) in

@@ -66,7 +66,8 @@ pub record IsSettledAs (r : Run) (c : ℕ) (s : SnoopEnd) (claim : Claim) : Type
         shared = shared;
       }) else None)
 
-owns-by : (kind : Kind) (purpose : Purpose) → purpose_of kind ≡ Some purpose → kind_owns purpose ≡ kind_owns (kind_asks kind)
+owns-by : (kind : Kind) (purpose : Purpose) → purpose_of kind ≡ Some purpose
+    → kind_owns purpose ≡ kind_owns (kind_asks kind)
 unfolding purpose_of
 owns-by kinds.Reply purpose e = absurd (let no : ⊥ = cc in no)
 owns-by kinds.Invalidate purpose e = (let same : Rattle.fsb_line.specs.declared.purpose.Purpose.TheVariants.Own ≡ purpose = cc in ap kind_owns (sym same))
@@ -74,7 +75,8 @@ owns-by kinds.Read purpose e = (let same : Rattle.fsb_line.specs.declared.purpos
 owns-by kinds.WriteBack purpose e = (let same : Rattle.fsb_line.specs.declared.purpose.Purpose.TheVariants.WriteBack ≡ purpose = cc in ap kind_owns (sym same))
 owns-by kinds.Upgrade purpose e = (let same : Rattle.fsb_line.specs.declared.purpose.Purpose.TheVariants.Upgrade ≡ purpose = cc in ap kind_owns (sym same))
 
-pub settled-as : (r : Run) (c : ℕ) (s : SnoopEnd) (claim : Claim) → Reaches r (c + 1) → snooped_at (past_of r) c ≡ Some s
+pub settled-as : (r : Run) (c : ℕ) (s : SnoopEnd) (claim : Claim) → Reaches r (c + 1)
+    → snooped_at (past_of r) c ≡ Some s
     → s.claim ≡ Some claim → IsSettledAs r c s claim
 settled-as r c s claim h there claims =
     let p = past_of r in
@@ -98,7 +100,8 @@ settled-as r c s claim h there claims =
     let alone = uncontested r claim.line c s (writes-back-alone r h.timely h.bounds) there fits in
     let owns : fits.owns ≡ kind_owns (kind_asks want.request.kind) =
     settled.owns ∙ owns-by fits.kind settled.purpose settled.known ∙ ap (λ x. kind_owns (kind_asks x)) kind in
-    let won : fits.won ≡ holds_line p claim.agent claim.line c = settled.won ∙ ap (λ a. holds_line p a claim.line c) (sym agent) in
+    let won : fits.won ≡ holds_line p claim.agent claim.line c = settled.won
+    ∙ ap (λ a. holds_line p a claim.line c) (sym agent) in
     record {
       request = want.request;
       want = want.want;
@@ -316,7 +319,8 @@ grant-by r c s claim k = record {
   shared = k.shared;
 }
 
-state-by : (r : Run) (c : ℕ) (s : SnoopEnd) (claim : Claim) (k : IsSettledAs r c s claim) → state_granted (grant-by r c s claim k)
+state-by : (r : Run) (c : ℕ) (s : SnoopEnd) (claim : Claim) (k : IsSettledAs r c s claim)
+    → state_granted (grant-by r c s claim k)
     ≡ (if kind_owns (kind_asks k.request.kind) then Modified else (if k.shared then Shared else Exclusive))
 unfolding state_granted grant-by
 state-by r c s claim k = refl
@@ -444,7 +448,8 @@ written-view r a c s claim out v h there claims mine k e request view =
     whole false state = refl
 
 -- an upgrade without data is won where the agent still holds the line
-upgraded-view : (r : Run) (a c : ℕ) (s : SnoopEnd) (claim : Claim) (out : OwnRequest) (v : AgentView) → Reaches r (c + 1)
+upgraded-view : (r : Run) (a c : ℕ) (s : SnoopEnd) (claim : Claim) (out : OwnRequest) (v : AgentView)
+    → Reaches r (c + 1)
     → 0 < r.plan.cache → snooped_at (past_of r) c ≡ Some s → s.claim ≡ Some claim → claim.agent ≡ a
     → (k : IsSettledAs r c s claim) → s.outcome ≡ Upgraded → out.request ≡ k.request → out.number ≡ s.first
     → IsViewBeforeSnoop (past_of r) a c v → IsViewAfterSnoop (past_of r) a c (upgraded_by v out)
@@ -533,7 +538,8 @@ own-claimed r a c s claim request shared v h some there claims mine seen view =
     (by k out.0 out.2 out.4 s.outcome refl)
   where
     by : (k : IsSettledAs r c s claim) (out : OwnRequest) → out.number ≡ s.first → out.request ≡ k.request
-        → (outcome : Outcome) → s.outcome ≡ outcome → IsViewAfterSnoop (past_of r) a c (own_settled v out shared outcome)
+        → (outcome : Outcome) → s.outcome ≡ outcome
+        → IsViewAfterSnoop (past_of r) a c (own_settled v out shared outcome)
     by k out number same Granted e =
         let g = getting-granted k.request.kind (ap (fits_kind k.request.kind) (sym e) ∙ k.fits) in
         getting-view r a c s claim out shared Granted v h some there claims mine k e g same number

@@ -30,7 +30,7 @@ use Rattle.fsb_agent_view.specs.OwnRequests.{new_request}
 use Rattle.fsb_agent_view.specs.Wanting.{sent, sets_cleared_for, want_by}
 use Rattle.fsb_agent_run.specs.RunViews.{HasRequestsOf, is_won_below, owing_by, state_told}
 use Rattle.fsb_agent_run.specs.Owings.{are_owings_apart}
-use Rattle.fsb_agent_run.specs.Stages.{IsPlacedThrough, IsViewAfterHit, IsViewAfterSent, IsViewBeforeSnoop, begun_by, is_uncancelled, owed_sent, owed_through}
+use Rattle.fsb_agent_run.specs.Stages.{IsPlacedThrough, IsViewAfterHit, IsViewAfterSent, IsViewBeforeSnoop, owings_begun, is_uncancelled, owed_sent, owed_through}
 use Rattle.fsb_agent_run.proofs.Among.{Among, among-either, filter-all, filter-same}
 use Rattle.fsb_agent_run.proofs.OutLists.{among-without, kept-of, map-without, requests-from, wanted-of}
 use Rattle.fsb_agent_run.proofs.OwedApart.{sent-apart}
@@ -76,7 +76,8 @@ state-cleared sets line other in_sets = by (slot_of sets line) refl
         )
 
     -- what is no rival stays where only one line is dropped that is one
-    gone : rival ≡ true → states sets other ≡ Invalid → states sets other ≡ (if rival then Invalid else states sets other)
+    gone : rival ≡ true → states sets other ≡ Invalid
+        → states sets other ≡ (if rival then Invalid else states sets other)
     gone t e = rw t e
 
     stays : rival ≡ false → states sets other ≡ (if rival then Invalid else states sets other)
@@ -179,12 +180,13 @@ dropped-told held own dirty false = λ i. state_told (sym (all held) i) (sym (al
 
 -- what begins, as a list
 begun-one : (p : Past) (a c : ℕ) (owing : Owing) → owing_begun p c ≡ Some owing → owing.claim.agent ≡ a
-    → begun_by p a c ≡ owing ∷ []
-unfolding begun_by listed
+    → owings_begun p a c ≡ owing ∷ []
+unfolding owings_begun listed
 begun-one p a c owing e mine = rw (e, eq-eqb owing.claim.agent a mine) refl
 
-begun-none : (p : Past) (a c : ℕ) → ((claim : Claim) → begun_at p c ≡ Some claim → claim.agent ≢ a) → begun_by p a c ≡ []
-unfolding begun_by listed begun_at owing_begun
+begun-none : (p : Past) (a c : ℕ) → ((claim : Claim) → begun_at p c ≡ Some claim → claim.agent ≢ a)
+    → owings_begun p a c ≡ []
+unfolding owings_begun listed begun_at owing_begun
 begun-none p a c other = by (owing_begun p c) refl
   where
     by : (o : Option Owing) → owing_begun p c ≡ o → filter (is_own a) (listed o) ≡ []
@@ -278,7 +280,7 @@ sent-view r a c claim v h begun mine view =
         fills = view.lines.fills;
         in_sets = in_sets-cleared sets want.request.line view.lines.in_sets;
       };
-      requests = requests-from p a c (owed p a c ++ begun_by p a c) w
+      requests = requests-from p a c (owed p a c ++ owings_begun p a c) w
           (map-append (owing_by a) v.outs (fresh ∷ [])
           ∙ (λ i. view.requests.owed i
           ++ (sym (begun-one p a c (owing_by a fresh) own refl) i)))
@@ -302,7 +304,8 @@ pub unsent-view : (p : Past) (a c : ℕ) (v : AgentView)
 unfolding owed_sent
 unsent-view p a c v other view =
     let none = begun-none p a c other in
-    let list : owed p a c ++ begun_by p a c ≡ owed p a c = ap (λ xs. owed p a c ++ xs) none ∙ append-nil (owed p a c) in
+    let list : owed p a c ++ owings_begun p a c ≡ owed p a c = ap (λ xs. owed p a c ++ xs) none
+    ∙ append-nil (owed p a c) in
     record {
       agent = view.agent;
       placed = view.placed;
@@ -349,7 +352,8 @@ cancelled-view r a c q v h cancels view =
     }
 
 pub uncancelled-view : (r : Run) (a c : ℕ) (v : AgentView) → Reaches r (c + 1)
-    → ((q : ℕ) (claim : Claim) → cancelled_in (past_of r) c ≡ Some q → begun_at (past_of r) q ≡ Some claim → claim.agent ≢ a)
+    → ((q : ℕ) (claim : Claim) → cancelled_in (past_of r) c ≡ Some q → begun_at (past_of r) q ≡ Some claim
+    → claim.agent ≢ a)
     → IsViewAfterSent (past_of r) a c v → IsViewBeforeSnoop (past_of r) a c v
 unfolding owed_through is_uncancelled
 uncancelled-view r a c v h other view =

@@ -14,7 +14,8 @@ use Rattle.fsb_agent_view.proofs.Interface.{length-with_slot, slot_of-other, slo
 
 -- a line of that set
 pub state-same : (sets : CacheSets) (line other : ℕ) (slot : Option Held) → 0 < length sets
-    → other % length sets ≡ line % length sets → states (with_slot sets line slot) other ≡ state_of_held (only_line other slot)
+    → other % length sets ≡ line % length sets
+    → states (with_slot sets line slot) other ≡ state_of_held (only_line other slot)
 unfolding states held_at
 state-same sets line other slot some same = ap (λ s. state_of_held (only_line other s)) (slot_of-same sets line other slot some same)
 
@@ -85,11 +86,13 @@ state-filled sets line other state bytes some empty =
     (cases_eq other line)
 
 -- what a set has, by its line
-pub state-of-slot : (line : ℕ) (held : Held) → state_of_held (only_line line (Some held)) ≡ (if held.line == line then held.state else Invalid)
+pub state-of-slot : (line : ℕ) (held : Held)
+    → state_of_held (only_line line (Some held)) ≡ (if held.line == line then held.state else Invalid)
 state-of-slot line held = elim (cases_Bool (held.line == line)) [ inl on ↦ rw on refl | inr off ↦ rw off refl ]
 
 -- the line whose set has it is changed as it stands, and no other
-pub kept-line : (sets : CacheSets) (line other : ℕ) (held after : Held) → 0 < length sets → slot_of sets line ≡ Some held
+pub kept-line : (sets : CacheSets) (line other : ℕ) (held after : Held) → 0 < length sets
+    → slot_of sets line ≡ Some held
     → held.line ≡ line → after.line ≡ held.line
     → states (with_slot sets line (Some after)) other ≡ (if other == line then after.state else states sets other)
 kept-line sets line other held after some e is keeps =

@@ -76,7 +76,8 @@ number-other r a c n s v out h there other requests among same =
 
 -- the requests stay, where nothing is won at the clock
 pub requests-still : (r : Run) (a c : ℕ) (v w : AgentView) → w.outs ≡ v.outs
-    → ((out : OwnRequest) → Among out v.outs → is_won_below (past_of r) (c + 1) out.number ≡ is_won_below (past_of r) c out.number)
+    → ((out : OwnRequest) → Among out v.outs
+    → is_won_below (past_of r) (c + 1) out.number ≡ is_won_below (past_of r) c out.number)
     → HasRequestsOf (past_of r) a c (owed_through (past_of r) a c) v
     → HasRequestsOf (past_of r) a (c + 1) (owed_through (past_of r) a c) w
 requests-still r a c v w same won requests =
@@ -96,7 +97,8 @@ pub record LowersLines (p : Past) (a c : ℕ) (v w : AgentView) : Type 0 where
   pub in_sets : InSets w.lines
   pub size : length w.lines ≡ length v.lines
 
-awaited-kept : (p : Past) (a line c : ℕ) → is_granted p a line c ≡ false → is_awaited p a line (c + 1) c ≡ is_awaited p a line c c
+awaited-kept : (p : Past) (a line c : ℕ) → is_granted p a line c ≡ false
+    → is_awaited p a line (c + 1) c ≡ is_awaited p a line c c
 unfolding is_awaited
 awaited-kept p a line c none =
     ap (λ o. is_some_and o (λ grant. not (is_ended p c grant.first)))
@@ -126,14 +128,16 @@ lowered-view r a c v w none lowers same requests view =
             ∙ (λ i. if is_written_back p a line c || is_taken_away p a line c then Invalid
             else (if is_named_by_other p a line c then state_read (view.lines.states line i) else view.lines.states line i))
             ∙ sym (snooped-kept p a line c (none line));
-        fills = λ line. lowers.fills line ∙ view.lines.fills line ∙ ap one_if (sym (awaited-kept p a line c (none line)));
+        fills = λ line. lowers.fills line ∙ view.lines.fills line
+            ∙ ap one_if (sym (awaited-kept p a line c (none line)));
         in_sets = lowers.in_sets;
       };
       requests = requests;
     }
 
 -- no store counts above the end of a new grant
-new-unstored : (p : Past) (a line c q : ℕ) → is_stored_below p a line (c + 1) q ≡ false → is_stored_since p a line c q ≡ false
+new-unstored : (p : Past) (a line c q : ℕ) → is_stored_below p a line (c + 1) q ≡ false
+    → is_stored_since p a line c q ≡ false
 new-unstored p a line c q none = elim (cases_Bool (is_hit p a c)) [
   | inl hit ↦ since-hit p a line c q hit ∙ none
   | inr off ↦
@@ -173,7 +177,8 @@ rival-unheld r a line other c h asked apart same = false_from_ne_true (holds_lin
 pub granted-view : (r : Run) (a c number : ℕ) (grant : Grant) (state : Mesi) (bytes : List ℕ) (kept : Option (List ℕ))
     (v : AgentView) → Reaches r (c + 1) → 0 < r.plan.cache → grant_at (past_of r) c ≡ Some grant → grant.agent ≡ a
     → state ≡ state_granted grant
-    → ((line : ℕ) → line ≢ grant.line → (is_written_back (past_of r) a line c || is_taken_away (past_of r) a line c) ≡ false)
+    → ((line : ℕ) → line ≢ grant.line
+    → (is_written_back (past_of r) a line c || is_taken_away (past_of r) a line c) ≡ false)
     → ((line : ℕ) → is_named_by_other (past_of r) a line c ≡ false)
     → ((out : OwnRequest) → Among out (requests_granted number kept v.outs)
     → is_some out.kept ≡ is_won_below (past_of r) (c + 1) out.number)

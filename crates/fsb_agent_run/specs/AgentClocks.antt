@@ -13,7 +13,7 @@ use Rattle.fsb_coherent.specs.Awaits.{awaited_by, cancelled_in, responded_in, sn
 use Rattle.fsb_coherent.specs.Relation.{giver_at}
 use Rattle.fsb_agent_view.specs.AgentEvents.{AgentEvent, Arrived, Committed, GivenUp, HandedOn, Performed, Sent, UpgradeEnded}
 
--- the first clock of agent a's outstanding request on the line: the number of what a reply with a grant of the line serves
+-- the first clock of agent a's outstanding request on the line: by that number a reply that grants the line serves it
 unfoldable pub number_asked : Past → ℕ → ℕ → ℕ → Option ℕ
 number_asked p a c line =
     option_map (λ owing. owing.claim.first) (find (λ owing. nat_eq owing.claim.line line) (owed p a c))
@@ -98,15 +98,16 @@ ended_events p a c bytes s = elim s.claim [
 unfoldable pub end_events_of : Past → ℕ → ℕ → (ℕ → List ℕ) → ℕ → List AgentEvent
 end_events_of p a c bytes q = option_map_or (ended_events p a c bytes) (snoop_end_below p (c + 1) q) []
 
--- what happens to agent a at c of a run, in order: it hands on bytes, performs its hit, sends its request, and gives up one
--- that is cancelled; it sees the clock's snoop end; and something ends for it. What its lines bring are these bytes, by the
--- numbers of their requests
+-- what happens to agent a at c of a run, in order: it hands on bytes, performs its hit, sends its request, and gives up
+-- one that is cancelled; it sees the clock's snoop end; and something ends for it. What its lines bring are these bytes,
+-- by the numbers of their requests
 unfoldable pub events_of_agent : Past → ℕ → ℕ → (ℕ → List ℕ) → List AgentEvent
 events_of_agent p a c bytes =
     handed_events p a c
     ++ (Performed c ∷ (sent_events p a c
     ++ (cancelled_events p a c
-    ++ (option_map_or (snoop_events_of p a c) (snooped_at p c) [] ++ flat_map (end_events_of p a c bytes) (ended_requests p c)))))
+    ++ (option_map_or (snoop_events_of p a c) (snooped_at p c) []
+    ++ flat_map (end_events_of p a c bytes) (ended_requests p c)))))
 
 -- what happens to agent a below clock n of a run, in order
 unfoldable pub events_of_agent_below : Past → ℕ → ℕ → (ℕ → List ℕ) → List AgentEvent
