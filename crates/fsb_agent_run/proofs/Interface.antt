@@ -29,6 +29,7 @@ pub use Rattle.fsb_agent_run.proofs.OwedSnoopEnds.{other-owed-after, unsettled-o
 pub use Rattle.fsb_agent_run.proofs.OwedEnds.{line-owed, upgrade-owed}
 pub use Rattle.fsb_agent_run.proofs.FewOwed.{most-owed, owed-before}
 pub use Rattle.fsb_agent_run.proofs.ClockOwed.{clock-owed, clocks-owed}
+pub use Rattle.fsb_agent_run.proofs.GrownOwed.{owed-grown}
 -- That the calls of an agent may come.
 pub use Rattle.fsb_agent_run.proofs.MayCalls.{other-may}
 pub use Rattle.fsb_agent_run.proofs.CallsAtStages.{cancelled-seen, own-seen, send-may, tells-grants}

@@ -49,6 +49,7 @@ pub mod EndFacts
 pub mod EndViews
 pub mod EndsAtStages
 pub mod ClockOwed
+pub mod GrownOwed
 pub mod ArrivedViews
 pub mod EndEvents
 pub mod ClockEvents

@@ -43,8 +43,8 @@ given_since p a line n t =
     if any_where (from_clock (t + 1) (is_granted p a line)) n then None
     else option_map (λ claim. claim.first) (claim_given_at p a t)
 
--- the request to which the bytes of a line are promised that agent a awaits: the last one for which a gave the line, where
--- that was after a's latest grant of it
+-- the request to which the bytes of a line are promised that agent a awaits: the last one for which a gave the line,
+-- where that was after a's latest grant of it
 unfoldable pub promise_told : Past → ℕ → ℕ → ℕ → ℕ → Option ℕ
 promise_told p a line n c =
     if is_awaited p a line n c
@@ -61,9 +61,9 @@ unfoldable pub is_pushed : Past → ℕ → ℕ → ℕ → ℕ → ℕ → Bool
 is_pushed p a n r c q =
     is_given_below p a n q && not (is_responded_below p r q) && not (is_promised p a n c q)
 
--- the record has what agent a owes by the snoop ends below n, whose responses are not below r, where the ends below c have
--- brought their bytes: one push for each request for which a has the bytes, and no other push; of each line the promise
--- that a made; and as many of both as there are requests to which a owes bytes
+-- the record has what agent a owes by the snoop ends below n, whose responses are not below r, where the ends below c
+-- have brought their bytes: one push for each request for which a has the bytes, and no other push; of each line the
+-- promise that a made; and as many of both as there are requests to which a owes bytes
 pub record HasBytesOwed (p : Past) (a n r c : ℕ) (v : AgentView) : Type 0 where
   pub pushes : (q : ℕ) → count_by (is_push_for q) v.buffers.pushes ≡ (if is_pushed p a n r c q then 1 else 0)
   pub promises : (line : ℕ) → promise_on line v.buffers.fills ≡ promise_told p a line n c

@@ -25,8 +25,8 @@ pub use laws::{
 };
 pub use owed::{
     agents_begin_owing_no_bytes, bytes_are_handed_on, bytes_are_owed_to_few,
-    clocks_keep_bytes_owed, ends_bring_what_is_promised, givers_give_the_bytes,
-    own_snoop_ends_leave_bytes_owed, snoop_ends_of_others_leave_bytes_owed,
+    bytes_owed_stay_as_runs_grow, clocks_keep_bytes_owed, ends_bring_what_is_promised,
+    givers_give_the_bytes, own_snoop_ends_leave_bytes_owed, snoop_ends_of_others_leave_bytes_owed,
 };
 pub use requests::{
     agents_owe_few, completions_are_of_items, ends_come_to_agents, requests_are_apart,

@@ -6,6 +6,7 @@ ghost use Rattle.fsb_count.specs.Options.{is_at};
 ghost use Rattle.fsb_encode.specs.declared.request.Request.{Request};
 ghost use Rattle.fsb_timely.specs.Past.{Claim, Grant, Past, SnoopEnd};
 ghost use Rattle.fsb_timely.specs.Grants.{snooped_at};
+ghost use Rattle.fsb_timely.specs.Growth.{GrowsTo};
 ghost use Rattle.fsb_timely.specs.Runs.{Run, past_of};
 ghost use Rattle.fsb_timely.specs.Scripts.{items_of};
 ghost use Rattle.fsb_timely.specs.Wants.{want_of};
@@ -70,8 +71,8 @@ pub fn own_snoop_ends_leave_bytes_owed()
 {}
 
 /// What an agent owes after the snoop end of another agent's request, by its first clock and as
-/// what that agent wanted; of a reply to another agent, whatever is named; and after a clock without
-/// a snoop end, or with one that is of nobody's request.
+/// what that agent wanted; of a reply to another agent, whatever is named; and after a clock
+/// without a snoop end, or with one that is of nobody's request.
 pub fn snoop_ends_of_others_leave_bytes_owed()
     ensures claimed { (r : Run) (a c : ℕ) (s : SnoopEnd) (claim : Claim) (request : Request)
         (shared : Bool) (v : AgentView) → Reaches r (c + 1) → a < 4 →
@@ -130,4 +131,11 @@ pub fn clocks_keep_bytes_owed()
         a < 4 → HasBytesOwed (past_of r) a n n n (fold agent_after
         (first_view a (items_of (past_of r) a) r.plan.cache r.plan.ahead r.plan.profile)
         (events_of_agent_below (past_of r) a n bytes)) }
+{}
+
+/// What an agent's record tells of the bytes that it owes in a run stays true where the run grows
+/// by a clock, whatever comes at that clock.
+pub fn bytes_owed_stay_as_runs_grow()
+    ensures { (r s : Run) (a n : ℕ) (v : AgentView) → GrowsTo r s → Reaches r n →
+        HasBytesOwed (past_of r) a n n n v → HasBytesOwed (past_of s) a n n n v }
 {}

@@ -6,4 +6,5 @@ returns-clause-begun c = λ r a d claim v h begun mine view. send-may r a d clai
 
 pub returns-clause-cancelled : goal.returns-clause-cancelled
 returns-clause-cancelled c =
-    λ r a d q claim v h cancelled begun mine sound view. cancelled-seen r a d q claim v h cancelled begun mine sound view
+    λ r a d q claim v h cancelled begun mine sound view.
+    cancelled-seen r a d q claim v h cancelled begun mine sound view
