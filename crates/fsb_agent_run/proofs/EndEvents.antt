@@ -6,6 +6,7 @@ use Rattle.fsb_encode.specs.declared.request.Kind.TheVariants as kinds
 use Rattle.fsb_line.specs.States.{kind_owns}
 use Rattle.fsb_timely.specs.Past.{Claim, Grant, SnoopEnd}
 use Rattle.fsb_timely.specs.Moments.{is_upgraded, makes_grant}
+use Rattle.fsb_timely.specs.Completions.{is_arrival}
 use Rattle.fsb_timely.specs.Runs.{Run, past_of}
 use Rattle.fsb_trace.specs.declared.outcome.Outcome.{Outcome}
 use Rattle.fsb_trace.specs.declared.outcome.Outcome.TheVariants.{Replied, Retried, Upgraded, Written}
@@ -14,15 +15,16 @@ use Rattle.fsb_run_laws.specs.Reaches.{Reaches}
 use Rattle.fsb_run_laws.proofs.Interface.{replied-on}
 use Rattle.fsb_agent_view.specs.declared.want.OwnRequest.{OwnRequest}
 use Rattle.fsb_agent_view.specs.AgentViews.{AgentView}
-use Rattle.fsb_agent_view.specs.Arriving.{arrived_for, ended_for, given_up, line_arrived, upgrade_ended}
+use Rattle.fsb_agent_view.specs.Arriving.{arrived_for, ended_for, given_up, is_arrival_by, line_arrived, upgrade_ended}
 use Rattle.fsb_agent_view.specs.OwnRequests.{request_numbered}
 use Rattle.fsb_agent_view.specs.Snooping.{kind_asks}
 use Rattle.fsb_agent_run.specs.Ending.{EndsFor}
 use Rattle.fsb_agent_run.specs.RunViews.{IsComing, is_won_below}
-use Rattle.fsb_agent_run.specs.Stages.{IsViewAfterSnoop, IsViewOf, owed_through}
+use Rattle.fsb_agent_run.specs.Stages.{IsViewAfterSnoop, IsViewOf, is_dirty_snooped, owed_through}
 use Rattle.fsb_agent_run.proofs.ArrivedViews.{arrived-view}
 use Rattle.fsb_agent_run.proofs.EndFacts.{IsEnded, below-says, ended-comes, ended-out, left-last, left-says}
 use Rattle.fsb_agent_run.proofs.EndViews.{left-view}
+use Rattle.fsb_agent_run.proofs.HitsMade.{arrival-by}
 use Rattle.fsb_agent_run.proofs.OutLists.{kept-of}
 use Rattle.fsb_agent_run.proofs.OwedSteps.{reaches-less}
 use Rattle.fsb_agent_run.proofs.OwnSnoops.{idle-retried, settled-as, unmade, written-kind}
@@ -134,3 +136,11 @@ comes-to r a c number s grant out v h ends makes view found =
     let same : k.out ≡ out = cc in
     subst (λ (o : OwnRequest). IsComing (past_of r) a c o.request.line (kind_owns (kind_asks o.request.kind))) same
     (ended-comes r a c number s grant v h ends makes view.requests k)
+
+-- and what it completes is what the run says
+pub arrives-by : (r : Run) (a c number : ℕ) (s : SnoopEnd) (grant : Grant) (out : OwnRequest) (v : AgentView)
+    → Reaches r (c + 1) → EndsFor (past_of r) a c number s → s.grant ≡ Some grant → IsViewAfterSnoop (past_of r) a c v
+    → request_numbered number v.outs ≡ Some out → is_arrival_by v c out ≡ is_arrival (past_of r) a c
+arrives-by r a c number s grant out v h ends makes view found =
+    arrival-by (past_of r) a c (λ line. is_dirty_snooped (past_of r) a line c) v out view.agent view.placed.item view.lines
+    (comes-to r a c number s grant out v h ends makes view found)

@@ -2,7 +2,7 @@
 
 -- The record before any event, its place, and what it answers.
 pub use Rattle.fsb_agent_run.proofs.FirstViews.{first-of}
-pub use Rattle.fsb_agent_run.proofs.HitsMade.{arrival-by, hit-by}
+pub use Rattle.fsb_agent_run.proofs.HitsMade.{hit-by}
 pub use Rattle.fsb_agent_run.proofs.Places.{placed-at}
 pub use Rattle.fsb_agent_run.proofs.StatesTold.{answer-by, come-by, held-by, sole-by}
 pub use Rattle.fsb_agent_run.proofs.WantsMade.{want-by}
@@ -11,7 +11,7 @@ pub use Rattle.fsb_agent_run.proofs.HitViews.{handed-view, performed-logged, per
 pub use Rattle.fsb_agent_run.proofs.SentViews.{cancelled-view, sent-view, uncancelled-view, unsent-view}
 pub use Rattle.fsb_agent_run.proofs.OwnSnoops.{own-claimed}
 pub use Rattle.fsb_agent_run.proofs.OtherSnoops.{other-claimed, other-replied, own-replied, quiet-view}
-pub use Rattle.fsb_agent_run.proofs.EndEvents.{comes-to, given-up-view, line-view, upgrade-view}
+pub use Rattle.fsb_agent_run.proofs.EndEvents.{arrives-by, comes-to, given-up-view, line-view, upgrade-view}
 pub use Rattle.fsb_agent_run.proofs.EndViews.{quiet-end-view}
 pub use Rattle.fsb_agent_run.proofs.ClockEvents.{clock-view, clocks-view}
 -- What an agent completes, and what it owes.
