@@ -243,11 +243,13 @@ own-end-may r a c q bytes s claim v h one snooped claims mine sound view = by s.
           | Upgraded ↦ UpgradeEnded c s.first ∷ []
         ]) ≡ true
     by Granted e =
-        let makes = getting-makes r below.0 s claim settled Granted e (getting-granted settled.request.kind (fits Granted e)) in
+        let getting = getting-granted settled.request.kind (fits Granted e) in
+        let makes = getting-makes r below.0 s claim settled Granted e getting in
         see-one v (Arrived c s.first (bytes s.first))
         (arrives-seen r a c s.first s makes.0 v h (ending (ap is_deferral e)) makes.1 sound view)
     by Handed e =
-        let makes = getting-makes r below.0 s claim settled Handed e (getting-handed settled.request.kind (fits Handed e)) in
+        let getting = getting-handed settled.request.kind (fits Handed e) in
+        let makes = getting-makes r below.0 s claim settled Handed e getting in
         see-one v (Arrived c s.first (bytes s.first))
         (arrives-seen r a c s.first s makes.0 v h (ending (ap is_deferral e)) makes.1 sound view)
     by Retried e =
@@ -293,7 +295,8 @@ ends-may r a c bytes v h sound view = by (ended_requests (past_of r) c) refl
         → may_see_all v (option_map_or (reply_end_events (past_of r) a c bytes) o []) ≡ true
     granted q s one snooped none None makes = see-none v
     granted q s one snooped none (Some grant) makes =
-        reply q s grant one snooped none makes (nat_eq grant.agent a) refl (number_asked (past_of r) a c grant.line) refl
+        reply q s grant one snooped none makes (nat_eq grant.agent a) refl
+        (number_asked (past_of r) a c grant.line) refl
 
     known : (q : ℕ) (s : SnoopEnd) → ended_requests (past_of r) c ≡ q ∷ []
         → snoop_end_below (past_of r) (c + 1) q ≡ Some s → (o : Option Claim) → s.claim ≡ o
