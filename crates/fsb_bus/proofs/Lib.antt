@@ -3,6 +3,5 @@ pub mod LogRooms
 pub mod RequestWords
 pub mod PlanFacts
 pub mod BusSteps
-pub mod FirstAgents
 pub mod NamedLines
 pub mod KeptScripts
