@@ -1,7 +1,9 @@
 -- A bench as its contracts see it: its view, and the hazard objects that stand on it.
-use Rattle.std.specs.Prelude.{List}
+use Rattle.std.specs.Prelude.{ℕ, nat_lt, if◌then◌else◌, List, length, Option, None, slice_get}
+use Rattle.std.specs.Option.{option_map}
 use Rattle.std.specs.declared.alloc.Global.{Global}
 use Rattle.std.specs.declared.dyn_box.DynBox.{DynBox}
+use Rattle.fsb_cache.specs.Sets.{CacheSets}
 use Rattle.fsb_memory.specs.Controller.{LineMap}
 use Rattle.fsb_bench_view.specs.BusViews.{BenchView}
 use Rattle.fsb_core.specs.declared.bench.Bench.{Bench}
@@ -18,3 +20,8 @@ lines_of bench = bench.parts.bus.memory
 -- the hazard objects that stand on a bench, in order
 abbrev pub objects_of : {X : Type 0} {F : X → Type 0} → Bench X F → List (DynBox X Global F)
 objects_of bench = bench.hazards.items
+
+-- the cache of the agent of this number; there is none where the plan has no such agent
+abbrev pub cache_of : BenchView → ℕ → Option CacheSets
+cache_of v agent =
+    if nat_lt agent (length v.run.plan.scripts) then option_map (λ a. a.lines) (slice_get v.bus.agents agent) else None

@@ -28,7 +28,7 @@ pub struct Bench {
 }
 
 impl Bench {
-    ghost use Rattle.fsb_core.specs.Benches.{lines_of, objects_of, view_of};
+    ghost use Rattle.fsb_core.specs.Benches.{cache_of, lines_of, objects_of, view_of};
 
     /// A bench for the plan, before its first clock. Each object is given the plan's hazard lines,
     /// in order. All the memory that the plan's clocks need is taken here. Where there is none, the
@@ -105,13 +105,18 @@ impl Bench {
 
     /// The cache of an agent; none where the plan has no agent of that number.
     pub fn cache(&self, agent: u8) -> Option<&Cache>
-        ensures cache { option_map (λ cache. cache.now) result
-            ≡ option_map (λ v. v.lines) (slice_get (view_of self.now).bus.agents agent) }
-        ensures none { is_none result ≡ nat_le (length (view_of self.now).run.plan.scripts) agent }
+        ensures cache { option_map (λ cache. cache.now) result ≡ cache_of (view_of self.now) agent }
+        ensures none { is_none result
+            ≡ nat_le (length (view_of self.now).run.plan.scripts) agent }
     {
-        match self.parts.bus.agents.get(usize::from(agent)) {
-            Some(agent) => Some(agent.cache()),
-            None => None,
+        let number = usize::from(agent);
+        if number < self.parts.plan.scripts.as_slice().len() {
+            match self.parts.bus.agents.get(number) {
+                Some(agent) => Some(agent.cache()),
+                None => None,
+            }
+        } else {
+            None
         }
     }
 

@@ -5,7 +5,7 @@ use Rattle.fsb_bus.specs.AccessCount.{access_count}
 use Rattle.fsb_bus.specs.Buses.{StandsFor}
 use Rattle.fsb_bus.specs.FirstBus.{first_agents}
 use Rattle.fsb_bus.specs.LogRoom.{accesses_left_of}
-use Rattle.fsb_core.proofs.FirstParts.{first-count, first-left}
+use Rattle.fsb_core.proofs.FirstParts.{first-left}
 use Rattle.fsb_core.proofs.parts.Parts.new.Goals as goal
 
 pub returns-clause-fit : goal.returns-clause-fit
@@ -20,10 +20,10 @@ returns-clause-fit c =
     let left : accesses_left_of bus.agents.items ≤ access_count plan.scripts =
     let same : accesses_left_of bus.agents.items ≡ accesses_left_of (first_agents (plan_view plan)) =
     ap (λ b. accesses_left_of b.agents) c.in_ok-bus.ensures.view in
-    omega (arith, same, first-left (plan_view plan) 0 plan.scripts) in
+    omega (arith, same, first-left (plan_view plan)) in
     record {
       stands = subst S (sym c.in_ok-trace.ensures.items) c.in_ok-bus.ensures.stands;
-      agents = ap (λ b. length b.agents) c.in_ok-bus.ensures.view ∙ first-count (plan_view plan) 0 plan.scripts;
+      agents = ap (λ b. length b.agents) c.in_ok-bus.ensures.view;
       started = no_starts ∙ sym no_choices;
       named = c.in_ok-bus.ensures.named;
       clocks = omega (arith, no_trace);
