@@ -25,7 +25,7 @@ use Rattle.fsb_trace.specs.Winner.{winner_at}
 use Rattle.fsb_trace.specs.declared.outcome.Outcome.{Outcome}
 use Rattle.fsb_trace.specs.declared.who.Who.{Who}
 use Rattle.fsb_bench_view.specs.BenchSteps.{step_decided, step_drive, step_performed, step_phased, step_sample, was_held_at}
-use Rattle.fsb_bench_view.specs.BusDecisions.{asked_by, decided_by}
+use Rattle.fsb_bench_view.specs.BusDecisions.{decided_by}
 use Rattle.fsb_bench_view.specs.BusEvents.{bus_performed, entry_started}
 use Rattle.fsb_bench_view.specs.BusSample.{sample_by}
 use Rattle.fsb_bench_view.specs.BusStarting.{is_spaced_by, may_start}

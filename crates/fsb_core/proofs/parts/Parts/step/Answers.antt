@@ -1,8 +1,7 @@
-use Rattle.std.proofs.Common.{ℕ, drop, ◌≡◌, ◌<◌, ◌≤◌, ◌+◌, ◌++◌, ◌∷◌, [], List, length, map, Option, vec_capacity, true, sym, subst, ap, ◌∙◌, arith}
+use Rattle.std.proofs.Common.{ℕ, drop, ◌≡◌, ◌+◌, ◌++◌, ◌∷◌, [], List, length, map, Option, vec_capacity, sym, subst, ap, ◌∙◌, arith}
 use Rattle.std.proofs.Math.Seq.{drop-append_seam}
 use Rattle.std.proofs.lemmas.List.{length-append}
 use Rattle.std.specs.Option.{option_map_or}
-use Rattle.fsb_access.specs.declared.log.Done.{Done}
 use Rattle.fsb_arbiter.specs.Arbiter as arbiters
 use Rattle.fsb_arbiter.specs.declared.arbiter.Arbiter.{Arbiter}
 use Rattle.fsb_hazard.specs.Told.{Told}
