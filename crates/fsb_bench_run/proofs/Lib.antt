@@ -1,0 +1,2 @@
+pub mod SampleBits
+pub mod DrivenLines

@@ -1,0 +1,4 @@
+//! The theory of a bench's step.
+#![tactic(auto)]
+
+mod starts;
