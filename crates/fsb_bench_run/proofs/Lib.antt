@@ -1,2 +1,0 @@
-pub mod SampleBits
-pub mod DrivenLines

@@ -1,4 +1,0 @@
-//! The theory of a bench's step.
-#![tactic(auto)]
-
-mod starts;
