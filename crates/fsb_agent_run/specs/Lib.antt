@@ -1,2 +1,8 @@
 pub mod RunViews
 pub mod Stages
+pub mod AgentClocks
+pub mod Ending
+pub mod Owings
+pub mod AwaitedFills
+pub mod BytesOwed
+pub mod OwnEvents

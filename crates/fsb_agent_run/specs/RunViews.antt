@@ -1,17 +1,24 @@
 -- What an agent's record has of a run: of its script, of its lines, and of its requests.
-use Rattle.std.specs.Prelude.{◌≡◌, ◌<◌, ◌≤◌, ℕ, ◌+◌, Bool, true, false, List, length, map, Option, Some, slice_get}
+use Rattle.std.specs.Prelude.{◌≡◌, ◌<◌, ◌≤◌, ℕ, ◌+◌, ◌&&◌, Bool, true, false, not, if◌then◌else◌, List, length, map, count_by, Option, Some, is_some, slice_get}
 use Rattle.std.specs.Option.{option_map, option_map_or}
 use Rattle.fsb_access.specs.declared.item.Item.{Item}
 use Rattle.fsb_access.specs.declared.log.Done.{Done}
+use Rattle.fsb_cache.specs.Sets.{slot_of}
+use Rattle.fsb_count.specs.Options.{is_some_and}
 use Rattle.fsb_line.specs.declared.state.Mesi.{Mesi}
 use Rattle.fsb_line.specs.declared.state.Mesi.TheVariants.{Invalid, Shared, Exclusive, Modified}
+use Rattle.fsb_linebuf.specs.Buffers.{is_fill_on}
 use Rattle.fsb_timely.specs.Past.{Grant, Owing, Past}
-use Rattle.fsb_timely.specs.Grants.{grant_at, has_arrived, holds_line, is_end_at, is_exclusive}
+use Rattle.fsb_timely.specs.Grants.{grant_at, holds_line, is_end_at, is_ended, is_evicted, is_exclusive, latest_grant}
+use Rattle.fsb_timely.specs.Hits.{is_dirty}
+use Rattle.fsb_timely.specs.Moments.{is_upgraded}
 use Rattle.fsb_timely.specs.Scripts.{idle_clocks, idle_start, is_logged, is_logged_at, items_of, last_done, next_number, number_after}
-use Rattle.fsb_timely.specs.Wants.{owed, want_of}
+use Rattle.fsb_timely.specs.Wants.{want_of}
+use Rattle.fsb_coherent.specs.Awaits.{snoop_end_below}
 use Rattle.fsb_agent_view.specs.declared.want.Finished.{Finished}
 use Rattle.fsb_agent_view.specs.declared.want.OwnRequest.{OwnRequest}
-use Rattle.fsb_agent_view.specs.AgentViews.{AgentView, has_come, is_finished_at, line_state_by, number_by}
+use Rattle.fsb_agent_view.specs.AgentViews.{AgentView, is_finished_at, line_state_by, number_by}
+use Rattle.fsb_agent_view.specs.Sound.{is_in_set}
 
 -- the state of a line that is held or not, held alone or not, and dirty or not
 abbrev pub state_told : Bool → Bool → Bool → Mesi
@@ -62,17 +69,47 @@ pub record IsAtItem (p : Past) (a c : ℕ) (completed : Bool) (v : AgentView) : 
   pub finished : is_finished_at v.finished c ≡ completed
   pub idle_to : completed ≡ false → v.idle_to ≡ idle_end p a c
 
--- the record has each line in the state of agent a at n, where these lines are dirty; and of a line that is held the
--- bytes have come exactly where the end of its latest grant is below c
-pub record HasLinesOf (p : Past) (a n c : ℕ) (dirty : ℕ → Bool) (v : AgentView) : Type 0 where
-  pub states : (line : ℕ)
-      → line_state_by v line ≡ state_told (holds_line p a line n) (is_exclusive p a line n) (dirty line)
-  pub come : (line : ℕ) → holds_line p a line n ≡ true → has_come v line ≡ has_arrived p a line n c
+-- how many fills of the line are under way
+abbrev pub fill_count : AgentView → ℕ → ℕ
+fill_count v line = count_by (is_fill_on line) v.buffers.fills
 
--- the record has the outstanding requests of agent a at c, in order, each as what a wanted when it began
-pub record HasRequestsOf (p : Past) (a c : ℕ) (v : AgentView) : Type 0 where
-  pub owed : map (owing_by a) v.outs ≡ owed p a c
+-- one where it is so, else none
+abbrev pub one_if : Bool → ℕ
+one_if b = if b then 1 else 0
+
+-- agent a awaits the bytes of the line: the end of its latest grant to a below n is not below c
+unfoldable pub is_awaited : Past → ℕ → ℕ → ℕ → ℕ → Bool
+is_awaited p a line n c = is_some_and (latest_grant p a line n) (λ grant. not (is_ended p c grant.first))
+
+-- the record has the lines so: each is in the state of one that is held or not, held alone or not, and dirty or not; it has
+-- one fill where its bytes are awaited, and none elsewhere; and what a set has is a line of that set
+pub record HasLines (held alone dirty awaited : ℕ → Bool) (v : AgentView) : Type 0 where
+  pub states : (line : ℕ) → line_state_by v line ≡ state_told (held line) (alone line) (dirty line)
+  pub fills : (line : ℕ) → fill_count v line ≡ one_if (awaited line)
+  pub in_sets : (line : ℕ) → is_in_set (length v.lines) line (slot_of v.lines line) ≡ true
+
+-- the record has the lines as agent a has them at n, where these are dirty, and the ends below c have come
+abbrev pub HasLinesOf : Past → ℕ → ℕ → ℕ → (ℕ → Bool) → AgentView → Type 0
+HasLinesOf p a n c dirty v =
+    HasLines (λ line. holds_line p a line n) (λ line. is_exclusive p a line n) dirty (λ line. is_awaited p a line n c) v
+
+-- the record has the lines as agent a has them at c with its hits, without those that it drops for what it begins there
+abbrev pub HasLinesKept : Past → ℕ → ℕ → AgentView → Type 0
+HasLinesKept p a c v =
+    HasLines (λ line. holds_line p a line c && not (is_evicted p a line c))
+    (λ line. is_exclusive p a line c && not (is_evicted p a line c))
+    (λ line. is_dirty p a line c) (λ line. is_awaited p a line c c) v
+
+-- an upgrade is won that begins at q: its snoop end lies below n, and makes a grant without data
+unfoldable pub is_won_below : Past → ℕ → ℕ → Bool
+is_won_below p n q = is_some_and (snoop_end_below p n q) (λ s. is_upgraded s.outcome && is_some s.grant)
+
+-- the record has these outstanding requests of agent a, in order, each as what a wanted when it began; and it keeps bytes for
+-- the upgrades that were won below n
+pub record HasRequestsOf (p : Past) (a n : ℕ) (owings : List Owing) (v : AgentView) : Type 0 where
+  pub owed : map (owing_by a) v.outs ≡ owings
   pub wanted : (k : ℕ) (out : OwnRequest) → slice_get v.outs k ≡ Some out → want_of p a out.number ≡ Some out.request
+  pub kept : (k : ℕ) (out : OwnRequest) → slice_get v.outs k ≡ Some out → is_some out.kept ≡ is_won_below p n out.number
 
 -- agent a completes the item of this number at c, its next one, and nothing else there: no item behind it was logged
 -- before, and a's last entry of c is of this item

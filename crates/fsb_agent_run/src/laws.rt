@@ -18,9 +18,8 @@ ghost use Rattle.fsb_agent_view.specs.declared.want.OwnRequest.{OwnRequest};
 ghost use Rattle.fsb_agent_view.specs.declared.want.Want.{Want};
 ghost use Rattle.fsb_agent_view.specs.AgentViews.{AgentView, answer_by, is_idle_by, is_met_by, is_served_by, next_item_by};
 ghost use Rattle.fsb_agent_view.specs.Arriving.{is_arrival_by};
-ghost use Rattle.fsb_agent_view.specs.Completing.{completed_by, is_hit_by, performed};
+ghost use Rattle.fsb_agent_view.specs.Completing.{completed_by, is_hit_by};
 ghost use Rattle.fsb_agent_view.specs.Snooping.{kind_asks};
-ghost use Rattle.fsb_agent_view.specs.Sound.{IsSound};
 ghost use Rattle.fsb_agent_view.specs.Wanting.{want_by, window_by};
 ghost use Rattle.fsb_agent_run.specs.RunViews.{CompletesItem, IsAgentOf, IsComing, IsPlacedIn};
 ghost use Rattle.fsb_agent_run.specs.Stages.{IsViewAfterHit, IsViewAfterSnoop, IsViewOf};
@@ -65,7 +64,7 @@ pub fn hits_go_by_the_run()
 /// After its hit a view of an agent wants what the run says: the same request, line, kind and ID,
 /// or nothing.
 pub fn wants_go_by_the_run()
-    ensures { (p : Past) (a c : ℕ) (v : AgentView) → IsSound v → IsViewAfterHit p a c v →
+    ensures { (p : Past) (a c : ℕ) (v : AgentView) → IsViewAfterHit p a c v →
         option_map (λ (want : Want). want.request) (want_by v c) ≡ want_of p a c }
 {}
 
@@ -76,12 +75,6 @@ pub fn snoop_answers_go_by_the_run()
         answer_by v line
         ≡ (if is_dirty p a line c then Answer.Modified
         else (if holds_line p a line c then Answer.Hit else Answer.Clean)) }
-{}
-
-/// At a clock at which the agent has no hit its view stays as it is.
-pub fn quiet_clocks_keep_views()
-    ensures { (p : Past) (a c : ℕ) (v : AgentView) → IsViewOf p a c v → is_hit p a c ≡ false →
-        IsViewAfterHit p a c (performed v c) }
 {}
 
 /// The place of a view in its script by one clock: without an entry it stays, and where the agent

@@ -23,17 +23,16 @@ pub record IsEntryOf (w : Trace) (turns : List ℕ) (c : ℕ) (e : Waiting) (i :
 pair-Matched : {X Y : Type 0} (R S : X → Y → Type 0) (xs : List X) (ys : List Y) → Matched R xs ys → Matched S xs ys → Matched (λ x y. R x y × S x y) xs ys
 pair-Matched R S xs ys = both-Matched R S (λ x y. R x y × S x y) xs ys (λ x y h k. (h, k))
 
-pub IsEntryOf-StandsFor : (list : List Waiting) (w : Trace) (turns : List ℕ) (c : ℕ) → StandsFor list w turns c → Matched (IsEntryOf w turns c) list (waiting_at w turns c)
-IsEntryOf-StandsFor list w turns c h =
-    let all : List ℕ = waiting_at w turns c in
-    let numbers = map-Matched (λ e. Some e.deferral.number) (request_number_of w) list all h.numbers in
-    let requests = map-Matched (λ e. Some e.deferral.request) (live_request_of w) list all h.requests in
-    let lines = map-Matched (λ e. Some e.deferral.request.line) (live_line_of w) list all h.lines in
-    let shared = map-Matched (λ e. e.deferral.shared) (line_at_snoop_end HIT w) list all h.shared in
-    let later = map-Matched (λ e. e.later) (λ i. later_of (slice_index turns i)) list all h.later in
-    let answered = map-Matched (λ e. e.answered) (response_before w c) list all h.answered in
-    let begun = map-Matched (λ e. e.begun) (is_answered w c) list all h.begun in
-    both-Matched _ _ (IsEntryOf w turns c) list all
+pub IsEntryOf-AreEntriesOf : (live : List ℕ) (list : List Waiting) (w : Trace) (turns : List ℕ) (c : ℕ) → AreEntriesOf live list w turns c → Matched (IsEntryOf w turns c) list live
+IsEntryOf-AreEntriesOf live list w turns c h =
+    let numbers = map-Matched (λ e. Some e.deferral.number) (request_number_of w) list live h.numbers in
+    let requests = map-Matched (λ e. Some e.deferral.request) (live_request_of w) list live h.requests in
+    let lines = map-Matched (λ e. Some e.deferral.request.line) (live_line_of w) list live h.lines in
+    let shared = map-Matched (λ e. e.deferral.shared) (line_at_snoop_end HIT w) list live h.shared in
+    let later = map-Matched (λ e. e.later) (λ i. later_of (slice_index turns i)) list live h.later in
+    let answered = map-Matched (λ e. e.answered) (response_before w c) list live h.answered in
+    let begun = map-Matched (λ e. e.begun) (is_answered w c) list live h.begun in
+    both-Matched _ _ (IsEntryOf w turns c) list live
     (λ e i a b. record {
       deferral = record { number = sym a.0.0; request = sym a.0.1; shared = a.1 };
       line = b.0.0.0;
@@ -41,8 +40,11 @@ IsEntryOf-StandsFor list w turns c h =
       answered = b.0.1;
       begun = b.1;
     })
-    (pair-Matched _ _ list all (pair-Matched _ _ list all numbers requests) shared)
-    (pair-Matched _ _ list all (pair-Matched _ _ list all (pair-Matched _ _ list all lines later) answered) begun)
+    (pair-Matched _ _ list live (pair-Matched _ _ list live numbers requests) shared)
+    (pair-Matched _ _ list live (pair-Matched _ _ list live (pair-Matched _ _ list live lines later) answered) begun)
+
+pub IsEntryOf-StandsFor : (list : List Waiting) (w : Trace) (turns : List ℕ) (c : ℕ) → StandsFor list w turns c → Matched (IsEntryOf w turns c) list (waiting_at w turns c)
+IsEntryOf-StandsFor list w turns c h = IsEntryOf-AreEntriesOf (waiting_at w turns c) list w turns c h
 
 -- and a list whose entries are those of live requests is such a list
 pub AreEntriesOf-IsEntryOf : (live : List ℕ) (list : List Waiting) (w : Trace) (turns : List ℕ) (c : ℕ) → Matched (IsEntryOf w turns c) list live → AreEntriesOf live list w turns c

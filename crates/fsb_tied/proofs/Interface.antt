@@ -9,6 +9,8 @@ pub use Rattle.fsb_tied.proofs.Bridge.{Ends, Responds, ended-number, number-ende
 pub use Rattle.fsb_tied.proofs.CarryingRuns.{granted-await, written-await}
 -- The links of a line that are left, from that of one snoop end on.
 pub use Rattle.fsb_tied.proofs.Chains.{link_of}
+-- A symmetric winner is one of four agents.
+pub use Rattle.fsb_tied.proofs.FewAgents.{winner-four}
 -- Each clock of a timely run has the facts on which the tie of a line rests.
 pub use Rattle.fsb_tied.proofs.ClocksOfRuns.{clock-facts}
 -- The memory has of a line, at each clock, the bytes that were put there last; at the end copies and memory are kept.
@@ -16,9 +18,11 @@ pub use Rattle.fsb_tied.proofs.KeptLines.{memory-below-run}
 -- In a timely run responses and ends come in the order of the links of each line.
 pub use Rattle.fsb_tied.proofs.LinkOrder.{first-link}
 -- A reply answers one request alone: while a Deferred request awaits its reply no other one begins with its ID.
-pub use Rattle.fsb_tied.proofs.OneReply.{deferred-held}
+pub use Rattle.fsb_tied.proofs.OneReply.{deferred-held, held-plain, told-deferred}
 -- The last live request that put a line into memory, one clock on.
 pub use Rattle.fsb_tied.proofs.PutLines.{number-put, number-stays, takes_line}
+-- What a line with a deferral is: pending; and the turns that the moments below a clock have.
+pub use Rattle.fsb_tied.proofs.PendingLines.{turn-so-far}
 -- A reply that is seen in the samples up to a clock is the reply of the whole run.
 pub use Rattle.fsb_tied.proofs.RepliesSeen.{has-reply, live-request, reply-stays, same-both}
 -- A reply grants the line of the request that it answers.

@@ -51,7 +51,7 @@ deferred-held r t j s request h k e deferred =
     let made = outcome-shown r t j s request k e ∙ ap (λ x. outcome_under handed x (Some request)) keep in
     both_ways (is_deferral s.outcome) (ap is_deferral made ∙ kept-plain handed request request.kind refl) deferred)
 
-held-plain : (kind : Kind) → is_never_held_up kind ≡ false → is_reply_kind kind ≡ false
+pub held-plain : (kind : Kind) → is_never_held_up kind ≡ false → is_reply_kind kind ≡ false
 unfolding is_reply_kind
 held-plain Reply e = absurd (let no : ⊥ = cc in no)
 held-plain Invalidate e = refl

@@ -1,0 +1,117 @@
+-- The lines of a cache after the accesses of an item: what is stored into is Modified, and all else stays.
+use Rattle.std.proofs.Common.{ℕ, ◌<◌, ◌≡◌, ◌/◌, Bool, true, false, not, ◌&&◌, ◌||◌, List, [], ◌∷◌, length, refl, sym, ap, ◌∙◌, inl, inr, if◌then◌else◌, nat_eq}
+use Rattle.std.specs.Prelude.{◌==◌}
+use Rattle.std.specs.List.{list_all, list_any}
+use Rattle.std.proofs.lemmas.Bool.{and_parts, cases_Bool, eqb-true, or_left}
+use Rattle.fsb_access.specs.declared.access.Access.{Access}
+use Rattle.fsb_access.specs.declared.access.Access.TheVariants.{Load, Store}
+use Rattle.fsb_access.specs.Access.{accessed_line}
+use Rattle.fsb_access.specs.Replay.{put_of}
+use Rattle.fsb_access.specs.ScriptOrder.{Step}
+use Rattle.fsb_cache.specs.Sets.{CacheSets, held_stored, slot_of, states}
+use Rattle.fsb_line.specs.declared.state.Mesi.{Mesi}
+use Rattle.fsb_line.specs.declared.state.Mesi.TheVariants.{Modified}
+use Rattle.fsb_line.specs.States.{is_held}
+use Rattle.fsb_timely.specs.Scripts.{is_load}
+use Rattle.fsb_agent_view.specs.Serving.{AtHand, hand_after, hand_after_steps}
+use Rattle.fsb_agent_view.proofs.Interface.{length-with_slot, list_all-from}
+use Rattle.fsb_agent_run.proofs.SlotStates.{InSets, in_sets-mapped, state-stored}
+
+-- the access is a store into the line
+unfoldable pub stores_into : ℕ → Access → Bool
+stores_into line access = not (is_load access) && nat_eq (accessed_line access) line
+
+-- what is stored into is held
+unfoldable pub may_store : CacheSets → Access → Bool
+may_store lines access = is_load access || is_held (states lines (accessed_line access))
+
+held-still : (line target : ℕ) (state : Mesi) → is_held state ≡ true
+    → is_held (if line == target then Modified else state) ≡ true
+held-still line target state h = by (line == target)
+  where
+    by : (b : Bool) → is_held (if b then Modified else state) ≡ true
+    by true = refl
+    by false = h
+
+still : (lines after : CacheSets) (target : ℕ) (access : Access)
+    → ((other : ℕ) → states after other ≡ (if other == target then Modified else states lines other))
+    → may_store lines access ≡ true → may_store after access ≡ true
+unfolding may_store
+still lines after target access told may = by (is_load access) may
+  where
+    by : (load : Bool) → (load || is_held (states lines (accessed_line access))) ≡ true
+        → (load || is_held (states after (accessed_line access))) ≡ true
+    by true m = refl
+    by false m =
+        ap is_held (told (accessed_line access))
+        ∙ held-still (accessed_line access) target (states lines (accessed_line access)) m
+
+flip : (line target : ℕ) (x y : Mesi) → (if line == target then x else y) ≡ (if target == line then x else y)
+flip line target x y = elim (cases_Bool (line == target)) [
+  | inl on ↦ let e = eqb-true line target on in grind arith
+  | inr off ↦ grind arith
+]
+
+joined : (here later : Bool) (state : Mesi)
+    → (if later then Modified else (if here then Modified else state)) ≡ (if here || later then Modified else state)
+joined true true state = refl
+joined true false state = refl
+joined false later state = refl
+
+pub state-after : (hand : AtHand) (steps : List Step) (line : ℕ)
+    → list_all (λ (step : Step). may_store hand.lines step.access) steps ≡ true
+    → states (hand_after_steps hand steps).lines line
+    ≡ (if list_any (λ (step : Step). stores_into line step.access) steps then Modified else states hand.lines line)
+state-after hand [] line may = refl
+state-after hand (step ∷ steps) line may = by step.access refl
+  where
+    parts : (may_store hand.lines step.access ≡ true)
+        × (list_all (λ (s : Step). may_store hand.lines s.access) steps ≡ true)
+    parts = and_parts _ _ may
+
+    whole : Bool → Mesi
+    whole here =
+        if here || list_any (λ (s : Step). stores_into line s.access) steps then Modified else states hand.lines line
+
+    by : (access : Access) → step.access ≡ access
+        → states (hand_after_steps (hand_after hand step.access) steps).lines line
+        ≡ whole (stores_into line step.access)
+    unfolding is_load stores_into may_store
+    by (Load size addr) e =
+        ap (λ a. states (hand_after_steps (hand_after hand a) steps).lines line) e
+        ∙ state-after (hand_after hand (Load size addr)) steps line parts.1
+        ∙ sym (ap (λ (a : Access). whole (stores_into line a)) e)
+    by (Store size addr value) e =
+        let after = hand_after hand (Store size addr value) in
+        let held : is_held (states hand.lines (addr / 32)) ≡ true = rw e at parts.0 in
+        let told : (other : ℕ)
+        → states after.lines other ≡ (if other == addr / 32 then Modified else states hand.lines other) =
+        λ other. state-stored hand.lines addr size (put_of size hand.last value) other held in
+        let rest = list_all-from (λ (s : Step). may_store hand.lines s.access)
+        (λ (s : Step). may_store after.lines s.access) steps
+        (λ s m. still hand.lines after.lines (addr / 32) s.access told m) parts.1 in
+        let later = list_any (λ (s : Step). stores_into line s.access) steps in
+        ap (λ a. states (hand_after_steps (hand_after hand a) steps).lines line) e
+        ∙ state-after after steps line rest
+        ∙ ap (λ m. if later then Modified else m) (told line ∙ flip line (addr / 32) Modified (states hand.lines line))
+        ∙ joined (addr / 32 == line) later (states hand.lines line)
+        ∙ sym (ap (λ (a : Access). whole (stores_into line a)) e)
+
+-- the sets stay as many, and each with a line of its own
+pub length-after : (hand : AtHand) (steps : List Step) → length (hand_after_steps hand steps).lines ≡ length hand.lines
+length-after hand [] = refl
+length-after hand (step ∷ steps) = length-after (hand_after hand step.access) steps ∙ one step.access
+  where
+    one : (access : Access) → length (hand_after hand access).lines ≡ length hand.lines
+    one (Load size addr) = refl
+    one (Store size addr value) = length-with_slot hand.lines _ _
+
+pub in_sets-after : (hand : AtHand) (steps : List Step) → InSets hand.lines → InSets (hand_after_steps hand steps).lines
+in_sets-after hand [] in_sets = in_sets
+in_sets-after hand (step ∷ steps) in_sets =
+    in_sets-after (hand_after hand step.access) steps (one step.access)
+  where
+    one : (access : Access) → InSets (hand_after hand access).lines
+    one (Load size addr) = in_sets
+    one (Store size addr value) =
+        in_sets-mapped hand.lines (addr / 32) (held_stored addr size (put_of size hand.last value)) (λ held. refl) in_sets

@@ -1,0 +1,2 @@
+pub mod BenchOf
+pub mod LocksHeld

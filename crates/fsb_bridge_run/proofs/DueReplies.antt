@@ -1,0 +1,213 @@
+-- A reply that begins in a timely run answers a request that is due.
+use Rattle.std.proofs.Common.{ℕ, suc, ◌+◌, ◌<◌, ◌≤◌, ◌≡◌, Bool, true, false, not, ◌&&◌, List, Option, Some, None, length, nat_le, slice_index, refl, sym, ap, subst, ◌∙◌, arith, inl, inr}
+use Rattle.std.specs.Option.{option_and_then, option_map}
+use Rattle.std.proofs.lemmas.Bool.{and_from, and_parts, both_ways, cases_lt, eq-eqb, false_from_ne_true, leb-true, not-true}
+use Rattle.fsb_count.specs.Options.{is_before, is_some_and}
+use Rattle.fsb_count.proofs.Interface.{first_where-at, first_where-found, is_before-parts}
+use Rattle.fsb_encode.specs.declared.request.Request.{Request}
+use Rattle.fsb_signal.specs.declared.lines.TheConstants.Lines.{ADS}
+use Rattle.fsb_signal.specs.Samples.{line_at}
+use Rattle.fsb_trace.specs.At.{Trace, request_at}
+use Rattle.fsb_trace.specs.Deferral.{due_at, is_answered, is_due, later_of}
+use Rattle.fsb_trace.specs.Flight.{is_live_reply_to, is_reply_to, reply_clock_of, reply_number_of}
+use Rattle.fsb_trace.specs.Outcome.{is_settled_deferred, response_clock_of}
+use Rattle.fsb_trace.specs.Requests.{have_same_id, is_cancelled, is_live, is_reply, is_reply_kind, live_clock_of, live_count, live_number_of, live_request_of}
+use Rattle.fsb_trace.specs.Snoop.{snoop_end_of}
+use Rattle.fsb_trace.specs.Winner.{winner_at}
+use Rattle.fsb_trace.specs.declared.who.Who.{Who}
+use Rattle.fsb_trace.specs.declared.who.Who.TheVariants.{Symmetric, Priority}
+use Rattle.fsb_trace.proofs.Interface.{AgreeTo-sym, is_live-agree, is_reply-some, line_at-agree, live_clock_of-stays, live_request_of-stays, request_at-agree, response_clock_of-stays, snoop_end_of-clock, snoop_end_of-stays}
+use Rattle.fsb_timely.specs.Moments.{number_of_turn, turns_in}
+use Rattle.fsb_timely.specs.Runs.{Run, past_of, past_to, run_to}
+use Rattle.fsb_timely.specs.Starts.{due_number, reply_to, request_begun, would_begin}
+use Rattle.fsb_timely.specs.Timely.{Timely}
+use Rattle.fsb_timely.proofs.Interface.{snoop-tied}
+use Rattle.fsb_lawful.specs.Beginning.{WantsLawfully}
+use Rattle.fsb_lawful.proofs.Interface.{and-then, begun-decoded, begun-winner, begun_of, map-some, orderly-at, past-cut, run_to-agrees, some-and, turned-at, want-own, wants-lawfully}
+use Rattle.fsb_tied.proofs.Interface.{answered, has-reply, live-at, orderly-whole}
+use Rattle.fsb_run_laws.specs.Reaches.{Reaches}
+use Rattle.fsb_bridge.specs.DeferralList.{waits}
+use Rattle.fsb_bridge_run.specs.RunDeferrals.{turns_of}
+use Rattle.fsb_bridge_run.proofs.Alike.{SameDeferrals, deferred-same}
+use Rattle.fsb_bridge_run.proofs.UnderWay.{reply-to-kept}
+use Rattle.fsb_bridge_run.proofs.Waiting.{IsReplyTo, IsUnderWay, answered-from, reply-from, reply-parts, waits-from}
+
+-- the run up to c has the same deferrals so far as the whole run
+pub cut-same : (r : Run) (c : ℕ) → Timely r → c < length r.trace
+    → SameDeferrals (c + 1) r.trace (run_to r c).trace (turns_of r) (turns_in (past_to (past_of r) c).moments)
+cut-same r c h l =
+    let w = r.trace in
+    let v = (run_to r c).trace in
+    let agree = run_to-agrees r c l in
+    record {
+      agree = agree;
+      same = λ i t e less.
+          let there = snoop_end_of-stays (c + 1) w v i t agree less e in
+          let turned = turned-at r c i t h l there in
+          let tied = snoop-tied r i t e in
+          let one = turned.there in
+          let two = tied.1.there in
+          let same : tied.0 ≡ turned.end = cc in
+          let cut = ap (λ p. slice_index (turns_in p.moments) i) (past-cut r c l) in
+          tied.1.turn ∙ ap (λ x. number_of_turn x.turn) same ∙ sym turned.number ∙ cut;
+    }
+
+-- what the priority agent begins is the reply to what is due; no other agent begins a reply
+due-by : (r : Run) (q : ℕ) (who : Who) (request : Request) → r.plan.ahead ≤ 4
+    → would_begin (run_to r q) (past_to (past_of r) q) q who ≡ Some request → is_reply (Some request) ≡ true
+    → (x : Request) × (option_and_then (live_request_of (run_to r q).trace)
+    (due_number (run_to r q) (past_to (past_of r) q) q) ≡ Some x) × (reply_to x ≡ request)
+unfolding would_begin past_to past_of
+due-by r q (Symmetric a) request few e reply =
+    let own = want-own (past_to (past_of r) q) a q request few e in
+    absurd (both_ways (is_reply_kind request.kind) own.0 (sym (is_reply-some request) ∙ reply))
+due-by r q Priority request few e reply =
+    map-some reply_to (option_and_then (live_request_of (run_to r q).trace)
+    (due_number (run_to r q) (past_to (past_of r) q) q)) request e
+
+-- the live request that the reply that begins at q answers: it is Deferred, responded before q, and no live reply to it
+-- began before
+pub record AnswersDue (r : Run) (q : ℕ) : Type 0 where
+  pub number : ℕ
+  pub snoop : ℕ
+  pub is_snoop : snoop_end_of r.trace number ≡ Some snoop
+  pub deferred : is_settled_deferred r.trace (turns_of r) number ≡ true
+  pub response : ℕ
+  pub is_response : response_clock_of r.trace number ≡ Some response
+  pub gap : snoop + 2 ≤ response
+  pub after : response < q
+  pub request : Request
+  pub asked : live_request_of r.trace number ≡ Some request
+  pub shown : request_at r.trace q ≡ Some (reply_to request)
+  pub answers : is_reply_to r.trace number q ≡ true
+  pub unanswered : (u : ℕ) → u < q → is_reply_to r.trace number u ≡ true → is_live r.trace u ≡ true → ⊥
+
+same-as : (a b : Option Request) (x : Request) → a ≡ Some (reply_to x) → b ≡ Some x → have_same_id a b ≡ true
+unfolding have_same_id is_some_and reply_to
+same-as a b x e f = rw (e, f) (eq-eqb x.did x.did refl)
+
+pub answers-due : (r : Run) (q : ℕ) → Timely r → WantsLawfully r → r.plan.ahead ≤ 4 → suc q < length r.trace
+    → line_at ADS r.trace q ≡ true → is_reply (request_at r.trace q) ≡ true → AnswersDue r q
+unfolding request_begun due_number due_at is_due
+answers-due r q h wants few l ads replies =
+    let w = r.trace in
+    let v = (run_to r q).trace in
+    let long : q < length w = omega arith in
+    let agree = run_to-agrees r q long in
+    let back = AgreeTo-sym (q + 1) w v agree in
+    let here = sym (line_at-agree ADS (q + 1) w v q agree (omega arith)) ∙ ads in
+    let b = begun-decoded r q h l here in
+    let next = run_to-agrees r (suc q) l in
+    let decoded = request_at-agree (suc q + 1) w (run_to r (suc q)).trace q next (omega arith)
+    ∙ b.2 (wants.lawful q b.0 b.1) in
+    let turns = turns_in (past_to (past_of r) q).moments in
+    let who = begun-winner (would_begin (run_to r q) (past_to (past_of r) q) q) (winner_at v q) b.0 b.1 in
+    let due = due-by r q who.0 b.0 few who.2 (sym (ap is_reply decoded) ∙ replies) in
+    let x : Request = due.0 in
+    let j = and-then (live_request_of v) (due_number (run_to r q) (past_to (past_of r) q) q) x due.1 in
+    let i : ℕ = j.0 in
+    let found = first_where-found (is_due v turns q) (live_count v) i j.1 in
+    let parts = and_parts (is_settled_deferred v turns i && is_some_and (response_clock_of v i)
+    (λ r. nat_le (r + 1 + later_of (slice_index turns i)) q)) (not (is_answered v q i)) found.1 in
+    let both = and_parts (is_settled_deferred v turns i) _ parts.0 in
+    let response = some-and (response_clock_of v i) (λ r. nat_le (r + 1 + later_of (slice_index turns i)) q) both.1 in
+    let after = leb-true (response.0 + 1 + later_of (slice_index turns i)) q response.2 in
+    let a = answered v i response.0 (orderly-at r q h long) response.1 in
+    let gap = a.before in
+    let snoop = snoop_end_of-stays (q + 1) v w i a.snoop back (omega arith) a.is_snoop in
+    let asked = sym (live_request_of-stays (q + 1) v w i a.snoop back (omega arith) a.is_snoop) ∙ j.2 in
+    let settled = deferred-same (q + 1) w v (turns_of r) turns i a.snoop (cut-same r q h long) snoop (omega arith) in
+    let shown = decoded ∙ ap Some (sym due.2) in
+    let responds = response_clock_of-stays (q + 1) v w i response.0 back (omega arith) response.1 in
+    record {
+      number = i;
+      snoop = a.snoop;
+      is_snoop = snoop;
+      deferred = settled ∙ both.0;
+      response = response.0;
+      is_response = responds;
+      gap = gap;
+      after = omega arith;
+      request = x;
+      asked = asked;
+      shown = shown;
+      answers = reply-from w i q (record {
+        asks = ads;
+        replies = replies;
+        same_id = same-as (request_at w q) (live_request_of w i) x shown asked;
+        response = response.0;
+        is_response = responds;
+        after = omega arith;
+      });
+      unanswered = λ u less reply live.
+          let kept = reply-to-kept (q + 1) w v i a.snoop u agree snoop (omega arith) (omega arith) reply in
+          let asks = (reply-parts w i u reply).asks in
+          let apart = (orderly-whole r q h long).spaced.apart u q less asks ads in
+          both_ways (is_answered v q i) (not-true (is_answered v q i) parts.1)
+          (answered-from v q i u (record {
+            below = less;
+            reply = kept;
+            kept = inl (sym (is_live-agree (q + 1) w v u agree (omega arith)) ∙ live);
+          }));
+    }
+
+pub live-of : (w : Trace) (i q : ℕ) → live_clock_of w i ≡ Some q → is_live w q ≡ true
+unfolding is_live is_cancelled
+live-of w i q e = let k = live-at w i q e in and_from _ _ k.asks (ap not k.kept)
+
+-- the live reply to a request, by its number: where it begins
+pub record IsReplied (w : Trace) (i j : ℕ) : Type 0 where
+  pub clock : ℕ
+  pub first : live_clock_of w j ≡ Some clock
+  pub live : is_live w clock ≡ true
+  pub reply : is_reply_to w i clock ≡ true
+
+pub is-replied : (w : Trace) (i j : ℕ) → reply_number_of w i ≡ Some j → IsReplied w i j
+is-replied w i j e =
+    let k = has-reply w i j e in
+    record {
+      clock = k.clock;
+      first = k.first;
+      live = live-of w j k.clock k.first;
+      reply = reply-from w i k.clock (record {
+        asks = k.ads;
+        replies = k.replies;
+        same_id = k.same_id;
+        response = k.response;
+        is_response = k.is_response;
+        after = k.after;
+      });
+    }
+
+-- that request waits up to the least clock at which the reply may have its snoop end
+pub due-waits : (r : Run) (q c : ℕ) (d : AnswersDue r q) → d.snoop < c → c ≤ q + 4
+    → waits r.trace (turns_of r) c d.number ≡ true
+due-waits r q c d below low =
+    let w = r.trace in
+    waits-from w (turns_of r) c d.number d.snoop d.deferred d.is_snoop below
+    (false_from_ne_true (is_before (option_and_then (snoop_end_of w) (reply_number_of w d.number)) c) (λ t.
+    let x = is_before-parts (option_and_then (snoop_end_of w) (reply_number_of w d.number)) c t in
+    let less = x.2 in
+    let j = and-then (snoop_end_of w) (reply_number_of w d.number) x.0 x.1 in
+    let k = is-replied w d.number j.0 j.1 in
+    let m = snoop_end_of-clock w j.0 x.0 j.2 in
+    let above = m.above in
+    let one = m.is_clock in
+    let two = k.first in
+    let same : m.clock ≡ k.clock = cc in
+    elim (cases_lt k.clock q) [
+      | inl early ↦ d.unanswered k.clock early k.reply k.live
+      | inr late ↦ omega arith
+    ]))
+
+-- and a live one that begins at q is the reply to it
+pub due-replied : (r : Run) (q : ℕ) (d : AnswersDue r q) → q < length r.trace → is_live r.trace q ≡ true
+    → reply_number_of r.trace d.number ≡ Some (live_number_of r.trace q)
+unfolding reply_number_of reply_clock_of is_live_reply_to
+due-replied r q d l live =
+    let w = r.trace in
+    ap (option_map (live_number_of w))
+    (first_where-at (is_live_reply_to w d.number) (length w) q l (and_from _ _ live d.answers)
+    (λ u less. false_from_ne_true _ (λ t.
+    let parts = and_parts (is_live w u) (is_reply_to w d.number u) t in
+    d.unanswered u less parts.1 parts.0)))

@@ -1,0 +1,106 @@
+-- A list that has the deferrals of a run has those of the run that grows from it; and lists are short.
+use Rattle.std.proofs.Common.{ℕ, ◌+◌, ◌-◌, ◌<◌, ◌≤◌, ◌≡◌, true, List, [], ◌∷◌, ◌++◌, Some, length, take, slice_index, refl, sym, ap, subst, ◌∙◌, arith}
+use Rattle.std.proofs.lemmas.List.{length-append, take_all, take-append-le}
+use Rattle.fsb_encode.specs.declared.request.Request.{Request}
+use Rattle.fsb_trace.specs.Agree.{AgreeTo}
+use Rattle.fsb_trace.specs.At.{Trace, request_at}
+use Rattle.fsb_count.specs.Clocks.{all_where, count_where}
+use Rattle.fsb_trace.specs.Outcome.{is_deferral}
+use Rattle.fsb_trace.specs.Requests.{is_reply_kind, live_count}
+use Rattle.fsb_trace.specs.Snoop.{snoop_end_of}
+use Rattle.fsb_trace.proofs.Interface.{AgreeTo-sym, snoop_end_of-stays}
+use Rattle.fsb_laws.proofs.Interface.{one_more}
+use Rattle.fsb_timely.specs.Grants.{snooped_at}
+use Rattle.fsb_timely.specs.Growth.{GrowsTo}
+use Rattle.fsb_timely.specs.Moments.{number_of_turn, turns_in}
+use Rattle.fsb_timely.specs.Past.{SnoopEnd}
+use Rattle.fsb_timely.specs.Runs.{Run, past_of, run_to}
+use Rattle.fsb_timely.proofs.Interface.{past-before, snoop-tied, tied-snoop}
+use Rattle.fsb_lawful.proofs.Interface.{run_to-agrees, snooped-to, wants-lawfully}
+use Rattle.fsb_tied.proofs.Interface.{asked-at, deferred-held, held-plain, snooped-by}
+use Rattle.fsb_run_laws.specs.Reaches.{Reaches}
+use Rattle.fsb_bridge.specs.declared.deferral.Waiting.{Waiting}
+use Rattle.fsb_bridge.specs.DeferralList.{AreEntriesOf, StandsFor, waiting_at, waits}
+use Rattle.fsb_bridge.proofs.Interface.{AreEntriesOf-IsEntryOf, IsEntryOf, IsEntryOf-StandsFor, Matched}
+use Rattle.fsb_bridge_run.specs.RunDeferrals.{FindsDeferrals, HasDeferrals, turns_of}
+use Rattle.fsb_bridge_run.proofs.Alike.{SameDeferrals, stands-kept, waiting_at-same}
+use Rattle.fsb_bridge_run.proofs.FewDeferrals.{few-waiting}
+use Rattle.fsb_bridge_run.proofs.Listed.{Matched-length}
+use Rattle.fsb_bridge_run.proofs.RunLists.{found-whole, own-turns, take-agrees}
+use Rattle.fsb_bridge_run.proofs.WaitingSteps.{IsSnoopedHere, deferred-waiting}
+
+agree-grown : (r s : Run) → GrowsTo r s → AgreeTo (length r.trace) r.trace s.trace
+agree-grown r s grows =
+    subst (λ w. AgreeTo (length r.trace) r.trace w) (sym grows.next.more_trace)
+    (one_more r.trace grows.next.sample).agree
+
+snooped-grown : (r s : Run) (t : ℕ) → GrowsTo r s → t < length r.trace
+    → snooped_at (past_of r) t ≡ snooped_at (past_of s) t
+snooped-grown r s t grows l =
+    let m : ℕ = length r.trace - 1 in
+    let last : m + 1 ≡ length r.trace = omega arith in
+    ap (λ p. snooped_at p t) (sym (past-before r s m grows last)) ∙ snooped-to (past_of s) m t (omega arith)
+
+-- the turns of both runs are the same
+turns-grown : (r s : Run) (i t : ℕ) → GrowsTo r s → snoop_end_of r.trace i ≡ Some t → t < length r.trace
+    → slice_index (turns_of r) i ≡ slice_index (turns_of s) i
+turns-grown r s i t grows e l =
+    let there = snoop_end_of-stays (length r.trace) r.trace s.trace i t (agree-grown r s grows) l e in
+    let old = snoop-tied r i t e in
+    let new = snoop-tied s i t there in
+    let one : Some old.0 ≡ Some new.0 = sym old.1.there ∙ snooped-grown r s t grows l ∙ new.1.there in
+    let same : old.0 ≡ new.0 = cc in
+    old.1.turn ∙ ap (λ end. number_of_turn end.turn) same ∙ sym new.1.turn
+
+pub list-grown : (r s : Run) (list : List Waiting) → GrowsTo r s → HasDeferrals list r (length r.trace)
+    → HasDeferrals list s (length r.trace)
+list-grown r s list grows has =
+    let n = length r.trace in
+    let whole : take n r.trace ≡ r.trace = take_all n r.trace (omega arith) in
+    let cut : take n s.trace ≡ r.trace =
+    ap (take n) grows.next.more_trace ∙ take-append-le n r.trace _ (omega arith) ∙ whole in
+    let here : StandsFor list r.trace (turns_of r) n = subst (λ w. StandsFor list w (turns_of r) n) whole has in
+    subst (λ w. StandsFor list w (turns_of s) n) (sym cut)
+    (stands-kept n r.trace r.trace (turns_of r) (turns_of s) n list
+    (record {
+      agree = record { left = omega arith; right = omega arith; same = λ c m. refl };
+      same = λ i t e l. turns-grown r s i t grows e l;
+    }) (omega arith) (λ i waiting. refl) here)
+
+-- before the first clock nothing waits
+none-waits : (turns : List ℕ) → waiting_at [] turns 0 ≡ []
+unfolding waiting_at live_count count_where all_where
+none-waits turns = refl
+
+pub list-first : (r : Run) → HasDeferrals [] r 0
+list-first r =
+    AreEntriesOf-IsEntryOf (waiting_at [] (turns_of r) 0) [] [] (turns_of r) 0
+    (subst (Matched (IsEntryOf [] (turns_of r) 0) []) (sym (none-waits (turns_of r))) tt)
+
+pub list-most : (r : Run) (n : ℕ) (list : List Waiting) → Reaches r n → HasDeferrals list r n → length list ≤ 16
+list-most r n list h has =
+    let w = r.trace in
+    let v = take n w in
+    let back = AgreeTo-sym n w v (take-agrees w n h.long) in
+    let live = waiting_at-same n v w (turns_of r) (turns_of r) n (own-turns n v w (turns_of r) back) (omega arith) in
+    let size = Matched-length (IsEntryOf v (turns_of r) n) list (waiting_at v (turns_of r) n)
+    (IsEntryOf-StandsFor list v (turns_of r) n has) in
+    let few = few-waiting r n n h (omega arith) in
+    let same = ap length live in
+    omega arith
+
+-- and one more has room where a request is Deferred
+pub list-room : (r : Run) (n : ℕ) (s : SnoopEnd) (list : List Waiting) → Reaches r (n + 1) → FindsDeferrals list r n
+    → snooped_at (past_of r) n ≡ Some s → is_deferral s.outcome ≡ true → length list < 16
+list-room r n s list h finds there deferred =
+    let w = r.trace in
+    let tied = tied-snoop r n s there in
+    let k = snooped-by r n tied.0 s tied.1 in
+    let a = asked-at r n tied.0 s h.timely (wants-lawfully r h.bounds) k in
+    let plain = held-plain a.request.kind (deferred-held r n tied.0 s a.request h.timely k a.decoded deferred) in
+    let more = deferred-waiting r n tied.0 s a.request h (record { snooped = k; decoded = a.decoded }) plain deferred in
+    let few = few-waiting r (n + 1) (n + 1) h (omega arith) in
+    let size = Matched-length (IsEntryOf w (turns_of r) n) list (waiting_at w (turns_of r) n)
+    (IsEntryOf-StandsFor list w (turns_of r) n (found-whole r n list h finds)) in
+    let longer = ap length more ∙ length-append (waiting_at w (turns_of r) n) (tied.0 ∷ []) in
+    omega arith

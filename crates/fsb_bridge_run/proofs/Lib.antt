@@ -1,0 +1,16 @@
+pub mod Listed
+pub mod Waiting
+pub mod Alike
+pub mod UnderWay
+pub mod OwnIds
+pub mod DueReplies
+pub mod WaitingSteps
+pub mod SnoopEntries
+pub mod ReplySteps
+pub mod RepliesAt
+pub mod ClockEntries
+pub mod RunLists
+pub mod FewDeferrals
+pub mod ListWords
+pub mod RepliesTake
+pub mod GrownLists

@@ -1,0 +1,261 @@
+-- The list of deferrals after the snoop end of a clock.
+use Rattle.std.proofs.Common.{ℕ, suc, ◌+◌, ◌/◌, ◌<◌, ◌≤◌, ◌≡◌, Bool, true, false, List, [], ◌∷◌, ◌++◌, Option, Some, None, length, slice_index, refl, sym, ap, subst, ◌∙◌, arith, inl, inr, if◌then◌else◌}
+use Rattle.std.specs.Option.{option_and_then, option_map}
+use Rattle.std.proofs.lemmas.Bool.{both_ways, cases_Bool, false_from_ne_true}
+use Rattle.fsb_count.specs.Clocks.{count_where}
+use Rattle.fsb_count.specs.Options.{is_before, is_some_and}
+use Rattle.fsb_count.proofs.Interface.{is_before-parts}
+use Rattle.fsb_encode.specs.declared.request.Kind.{Kind}
+use Rattle.fsb_encode.specs.declared.request.Kind.TheVariants.{Reply, Invalidate, Read, WriteBack, Upgrade}
+use Rattle.fsb_encode.specs.declared.request.Request.{Request}
+use Rattle.fsb_hazard.specs.Choice.{is_never_held_up}
+use Rattle.fsb_signal.specs.declared.lines.TheConstants.Lines.{ADS, HIT}
+use Rattle.fsb_signal.specs.Samples.{line_at}
+use Rattle.fsb_trace.specs.declared.who.Who.TheVariants.{Symmetric}
+use Rattle.fsb_trace.specs.At.{Trace, request_at}
+use Rattle.fsb_trace.specs.Deferral.{is_answered, later_of}
+use Rattle.fsb_trace.specs.Flight.{reply_number_of}
+use Rattle.fsb_trace.specs.Outcome.{is_deferral, response_clock_of}
+use Rattle.fsb_trace.specs.Requests.{is_reply, is_reply_kind, line_of, live_clock_of, live_number_of, live_request_of}
+use Rattle.fsb_trace.specs.Snoop.{line_at_snoop_end, snoop_end_of}
+use Rattle.fsb_trace.specs.Winner.{winner_at}
+use Rattle.fsb_trace.proofs.Interface.{is_reply-some, live_request_of-at, winner_at-agree}
+use Rattle.fsb_timely.specs.Grants.{begun_at, snooped_at}
+use Rattle.fsb_timely.specs.Moments.{agent_at, claim_at, number_of_turn}
+use Rattle.fsb_timely.specs.Past.{Claim, SnoopEnd}
+use Rattle.fsb_timely.specs.Runs.{Run, past_of, past_to, requests_below, run_to}
+use Rattle.fsb_timely.specs.Starts.{request_begun, would_begin}
+use Rattle.fsb_timely.proofs.Interface.{begun-told, tied-snoop}
+use Rattle.fsb_lawful.proofs.Interface.{begun-winner, begun_of, get-there, run_to-agrees, wanted-by, wants-lawfully}
+use Rattle.fsb_tied.proofs.Interface.{answered, asked-at, begun-want, deferred-held, live-at, orderly-whole, snooped-by}
+use Rattle.fsb_run_laws.specs.Reaches.{Reaches}
+use Rattle.fsb_bridge.specs.declared.deferral.Waiting.{Waiting}
+use Rattle.fsb_bridge.specs.Deferrals.{waiting_without}
+use Rattle.fsb_bridge.specs.DeferralList.{AreEntriesOf, HaveOwnIds, StandsFor, live_line_of, request_number_of, response_before, waiting_at, waiting_besides, waits}
+use Rattle.fsb_bridge.proofs.Interface.{IsEntryOf, IsEntryOf-AreEntriesOf, IsEntryOf-StandsFor, Matched, waiting_without-reply}
+use Rattle.fsb_bridge_run.specs.DeferralSteps.{after_snoop, after_snoop_of, deferral_made}
+use Rattle.fsb_bridge_run.specs.RunDeferrals.{turns_of}
+use Rattle.fsb_bridge_run.proofs.DueReplies.{AnswersDue, answers-due, due-replied, live-of}
+use Rattle.fsb_bridge_run.proofs.Listed.{Matched-more}
+use Rattle.fsb_bridge_run.proofs.OwnIds.{own-ids}
+use Rattle.fsb_bridge_run.proofs.Waiting.{answered-parts, is_replied, reply-parts, waits-from}
+use Rattle.fsb_bridge_run.proofs.WaitingSteps.{IsSnoopedHere, deferred-waiting, plain-waiting, quiet-waiting, replied-waiting}
+
+-- the claim of a symmetric agent's request: its line is the one that the first clock shows
+record IsClaimedAt (r : Run) (q : ℕ) (request : Request) : Type 0 where
+  pub line : Some request.line ≡ line_of r.trace q
+
+claimed-line : (r : Run) (q : ℕ) (request : Request) → Reaches r (q + 1) → begun_of r q ≡ Some request
+    → is_reply_kind request.kind ≡ false → line_at ADS r.trace q ≡ true → IsClaimedAt r q request
+unfolding request_begun is_reply is_some_and claim_at agent_at line_of
+claimed-line r q request h begun plain ads =
+    let w = r.trace in
+    let long = h.long in
+    let l : q < length w = omega arith in
+    let past = past_to (past_of r) q in
+    let who = begun-winner (would_begin (run_to r q) past q) (winner_at (run_to r q).trace q) request begun in
+    let want = wanted-by r q who.0 request who.2 plain in
+    let winner = winner_at-agree (q + 1) w (run_to r q).trace q (run_to-agrees r q l) (omega arith) ∙ who.1
+    ∙ ap Some want.1 in
+    let s = get-there w q l in
+    let claim : Claim = record { first = q; agent = want.0; line = s.0.addr.bits / 4 } in
+    let claims : claim_at w q ≡ Some claim = rw (claim_at, agent_at, winner, line_of, s.1) refl in
+    let there : begun_at (past_of r) q ≡ Some claim =
+    begun-told r q l ∙ ap (λ b. if b then claim_at w q else None) ads ∙ claims in
+    let k = begun-want r q claim h.timely h.bounds l there in
+    let one = k.begins in
+    let same : k.request ≡ request = cc in
+    let named : line_of w q ≡ Some claim.line = rw (winner, line_of, s.1) refl in
+    record { line = ap (λ x. Some x.line) (sym same) ∙ ap Some k.line ∙ sym named }
+
+-- a request that is Deferred is no reply
+deferred-plain : (kind : Kind) → is_never_held_up kind ≡ false → is_reply_kind kind ≡ true → ⊥
+unfolding is_reply_kind
+deferred-plain Reply e f = let no : ⊥ = cc in no
+deferred-plain Invalidate e f = let no : ⊥ = cc in no
+deferred-plain Read e f = let no : ⊥ = cc in no
+deferred-plain WriteBack e f = let no : ⊥ = cc in no
+deferred-plain Upgrade e f = let no : ⊥ = cc in no
+
+-- the request whose snoop end is the clock responds later, and has no reply yet
+late-response : (r : Run) (c i x : ℕ) → Reaches r (c + 1) → snoop_end_of r.trace i ≡ Some c
+    → response_clock_of r.trace i ≡ Some x → c + 2 ≤ x
+late-response r c i x h snoop response =
+    let long = h.long in
+    let a = answered r.trace i x (orderly-whole r c h.timely (omega arith)) response in
+    let gap = a.before in
+    let is_snoop = a.is_snoop in
+    let same : a.snoop ≡ c = cc in
+    omega arith
+
+no-answer : (a : Option ℕ) (c : ℕ) → is_before a c ≡ false → None ≡ (if is_before a c then a else None)
+no-answer a c off = rw off refl
+
+made-answered : (r : Run) (c i : ℕ) → Reaches r (c + 1) → snoop_end_of r.trace i ≡ Some c
+    → None ≡ response_before r.trace c i
+unfolding response_before
+made-answered r c i h snoop =
+    no-answer (response_clock_of r.trace i) c (false_from_ne_true (is_before (response_clock_of r.trace i) c) (λ t.
+    let x = is_before-parts (response_clock_of r.trace i) c t in
+    let below = x.2 in
+    let late = late-response r c i x.0 h snoop x.1 in
+    omega arith))
+
+made-begun : (r : Run) (c i : ℕ) → Reaches r (c + 1) → snoop_end_of r.trace i ≡ Some c
+    → false ≡ is_answered r.trace c i
+made-begun r c i h snoop =
+    sym (false_from_ne_true (is_answered r.trace c i) (λ t.
+    let k = answered-parts r.trace c i t in
+    let below = k.1.below in
+    let reply = reply-parts r.trace i k.0 k.1.reply in
+    let after = reply.after in
+    let late = late-response r c i reply.response h snoop reply.is_response in
+    omega arith))
+
+-- so the deferral that is made is its entry
+made-entry : (r : Run) (c i : ℕ) (s : SnoopEnd) (request : Request) → Reaches r (c + 1)
+    → IsSnoopedHere r c i s request → begun_of r s.first ≡ Some request → is_reply_kind request.kind ≡ false
+    → IsEntryOf r.trace (turns_of r) c (deferral_made r.trace c s request) i
+unfolding deferral_made request_number_of requests_below line_at_snoop_end is_some_and live_line_of
+made-entry r c i s request h here begun plain =
+    let w = r.trace in
+    let k = here.snooped in
+    let first = k.tied.first in
+    let above = k.above in
+    let long = h.long in
+    let claimed = claimed-line r s.first request
+    (record { timely = h.timely; bounds = h.bounds; long = omega arith }) begun plain k.ads in
+    record {
+      deferral = record {
+        number = ap (option_map (count_where (line_at ADS w))) first;
+        request = live_request_of-at w i s.first request first here.decoded;
+        shared = sym (ap (λ o. is_some_and o (line_at HIT w)) k.tied.reached);
+      };
+      line = claimed.line ∙ sym (ap (option_and_then (line_of w)) first);
+      later = sym (ap later_of k.tied.turn);
+      answered = made-answered r c i h k.tied.reached;
+      begun = made-begun r c i h k.tied.reached;
+    }
+
+after_snoop-none : (r : Run) (c : ℕ) (list : List Waiting) → snooped_at (past_of r) c ≡ None
+    → after_snoop r c list ≡ list
+unfolding after_snoop
+after_snoop-none r c list e = rw (after_snoop, e) refl
+
+after_snoop-some : (r : Run) (c : ℕ) (list : List Waiting) (s : SnoopEnd) (request : Request)
+    → snooped_at (past_of r) c ≡ Some s → request_at r.trace s.first ≡ Some request
+    → after_snoop r c list ≡ after_snoop_of r.trace c s request list
+unfolding after_snoop
+after_snoop-some r c list s request e f = rw (after_snoop, e, f) refl
+
+after-reply : (w : Trace) (c : ℕ) (s : SnoopEnd) (request : Request) (list : List Waiting)
+    → is_reply_kind request.kind ≡ true → after_snoop_of w c s request list ≡ waiting_without request.did list
+unfolding after_snoop_of
+after-reply w c s request list e = rw (after_snoop_of, e) refl
+
+after-deferral : (w : Trace) (c : ℕ) (s : SnoopEnd) (request : Request) (list : List Waiting)
+    → is_reply_kind request.kind ≡ false → is_deferral s.outcome ≡ true
+    → after_snoop_of w c s request list ≡ list ++ deferral_made w c s request ∷ []
+unfolding after_snoop_of
+after-deferral w c s request list e f = rw (after_snoop_of, e, f) refl
+
+after-plain : (w : Trace) (c : ℕ) (s : SnoopEnd) (request : Request) (list : List Waiting)
+    → is_reply_kind request.kind ≡ false → is_deferral s.outcome ≡ false → after_snoop_of w c s request list ≡ list
+unfolding after_snoop_of
+after-plain w c s request list e f = rw (after_snoop_of, e, f) refl
+
+-- the reply whose snoop end is the clock: which request it answers
+pub record TakesDeferral (r : Run) (c i : ℕ) (reply : Request) : Type 0 where
+  pub number : ℕ
+  pub waiting : waits r.trace (turns_of r) c number ≡ true
+  pub answers : reply_number_of r.trace number ≡ Some i
+  pub is_reply : live_request_of r.trace i ≡ Some reply
+
+pub takes-deferral : (r : Run) (c i : ℕ) (s : SnoopEnd) (reply : Request) → Reaches r (c + 1)
+    → IsSnoopedHere r c i s reply → is_reply_kind reply.kind ≡ true → TakesDeferral r c i reply
+takes-deferral r c i s reply h here replies =
+    let w = r.trace in
+    let k = here.snooped in
+    let q : ℕ = s.first in
+    let above = k.above in
+    let within = k.within in
+    let d = answers-due r q h.timely (wants-lawfully r h.bounds) h.bounds.few_ahead (omega arith) k.ads
+    (ap is_reply here.decoded ∙ is_reply-some reply ∙ replies) in
+    let gap = d.gap in
+    let after = d.after in
+    let live = live-of w i q k.tied.first in
+    let number = due-replied r q d (omega arith) live ∙ ap Some (live-at w i q k.tied.first).number in
+    let reached = ap (option_and_then (snoop_end_of w)) number ∙ k.tied.reached in
+    record {
+      number = d.number;
+      waiting = waits-from w (turns_of r) c d.number d.snoop d.deferred d.is_snoop (omega arith)
+          (ap (λ o. is_before o c) reached ∙ not-itself c);
+      answers = number;
+      is_reply = live_request_of-at w i q reply k.tied.first here.decoded;
+    }
+  where
+    not-itself : (c : ℕ) → is_before (Some c) c ≡ false
+    not-itself c = false_from_ne_true (is_before (Some c) c) (λ t.
+        let x = is_before-parts (Some c) c t in
+        let below = x.2 in
+        let same : c ≡ x.0 = (let e = x.1 in cc) in
+        omega arith)
+
+snoop-some : (r : Run) (c i : ℕ) (s : SnoopEnd) (request : Request) (list : List Waiting) → Reaches r (c + 1)
+    → IsSnoopedHere r c i s request → begun_of r s.first ≡ Some request
+    → StandsFor list r.trace (turns_of r) c
+    → Matched (IsEntryOf r.trace (turns_of r) c) (after_snoop_of r.trace c s request list)
+    (waiting_at r.trace (turns_of r) (c + 1))
+snoop-some r c i s request list h here begun stands =
+    let w = r.trace in
+    let turns = turns_of r in
+    let R : Waiting → ℕ → Type 0 = IsEntryOf w turns c in
+    let entries = IsEntryOf-StandsFor list w turns c stands in
+    let held : is_deferral s.outcome ≡ true → is_never_held_up request.kind ≡ false =
+    λ deferred. deferred-held r c i s request h.timely here.snooped here.decoded deferred in
+    elim (cases_Bool (is_reply_kind request.kind)) [
+      | inl reply ↦
+          let t = takes-deferral r c i s request h here reply in
+          let left = waiting_without-reply list w turns c t.number i request (own-ids r (c + 1) c h (omega arith))
+          stands t.waiting t.answers t.is_reply in
+          let kept : is_deferral s.outcome ≡ false = false_from_ne_true (is_deferral s.outcome) (λ deferred.
+          deferred-plain request.kind (held deferred) reply) in
+          subst (λ xs. Matched R xs (waiting_at w turns (c + 1))) (sym (after-reply w c s request list reply))
+          (subst (Matched R (waiting_without request.did list))
+          (sym (replied-waiting r c i t.number s request h here kept t.waiting t.answers))
+          (IsEntryOf-AreEntriesOf (waiting_besides w turns c t.number) (waiting_without request.did list) w turns c left))
+      | inr plain ↦ elim (cases_Bool (is_deferral s.outcome)) [
+        | inl deferred ↦
+            let made = made-entry r c i s request h here begun plain in
+            subst (λ xs. Matched R xs (waiting_at w turns (c + 1)))
+            (sym (after-deferral w c s request list plain deferred))
+            (subst (Matched R (list ++ deferral_made w c s request ∷ []))
+            (sym (deferred-waiting r c i s request h here plain deferred))
+            (Matched-more R list (waiting_at w turns c) (deferral_made w c s request) i entries made))
+        | inr kept ↦
+            subst (λ xs. Matched R xs (waiting_at w turns (c + 1))) (sym (after-plain w c s request list plain kept))
+            (subst (Matched R list) (sym (plain-waiting r c i s request here plain kept)) entries)
+      ]
+    ]
+
+-- after the snoop end each request that waits at the next clock has its entry
+pub snoop-entries : (r : Run) (c : ℕ) (list : List Waiting) → Reaches r (c + 1)
+    → StandsFor list r.trace (turns_of r) c
+    → Matched (IsEntryOf r.trace (turns_of r) c) (after_snoop r c list) (waiting_at r.trace (turns_of r) (c + 1))
+snoop-entries r c list h stands = by (snooped_at (past_of r) c) refl
+  where
+    by : (o : Option SnoopEnd) → snooped_at (past_of r) c ≡ o
+        → Matched (IsEntryOf r.trace (turns_of r) c) (after_snoop r c list)
+        (waiting_at r.trace (turns_of r) (c + 1))
+    by None e =
+        subst (λ xs. Matched (IsEntryOf r.trace (turns_of r) c) xs (waiting_at r.trace (turns_of r) (c + 1)))
+        (sym (after_snoop-none r c list e))
+        (subst (Matched (IsEntryOf r.trace (turns_of r) c) list) (sym (quiet-waiting r c e))
+        (IsEntryOf-StandsFor list r.trace (turns_of r) c stands))
+    by (Some s) e =
+        let tied = tied-snoop r c s e in
+        let k = snooped-by r c tied.0 s tied.1 in
+        let a = asked-at r c tied.0 s h.timely (wants-lawfully r h.bounds) k in
+        subst (λ xs. Matched (IsEntryOf r.trace (turns_of r) c) xs (waiting_at r.trace (turns_of r) (c + 1)))
+        (sym (after_snoop-some r c list s a.request e a.decoded))
+        (snoop-some r c tied.0 s a.request list h (record { snooped = k; decoded = a.decoded }) a.begun stands)

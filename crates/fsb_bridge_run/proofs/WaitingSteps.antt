@@ -1,0 +1,261 @@
+-- Which requests wait for their replies, one clock on.
+use Rattle.std.proofs.Common.{ℕ, ◌+◌, ◌<◌, ◌≤◌, ◌≡◌, ◌≢◌, Bool, true, false, not, ◌&&◌, List, [], ◌∷◌, ◌++◌, Option, Some, None, length, nat_eq, refl, sym, ap, subst, ◌∙◌, arith, inl, inr}
+use Rattle.std.specs.Option.{option_and_then}
+use Rattle.std.proofs.lemmas.Bool.{and_from, and_parts, both_ways, cases_lt, cases_order, eq-eqb, false_from_ne_true, ne_eqb, not-true}
+use Rattle.fsb_count.specs.Options.{is_before, is_some_and}
+use Rattle.fsb_count.proofs.Interface.{is_before-from, is_before-none, is_before-parts}
+use Rattle.fsb_encode.specs.declared.request.Request.{Request}
+use Rattle.fsb_trace.specs.At.{Trace, request_at}
+use Rattle.fsb_trace.specs.Flight.{is_reply_to, reply_number_of}
+use Rattle.fsb_trace.specs.Outcome.{is_deferral, is_settled_deferred, response_clock_of}
+use Rattle.fsb_trace.specs.Requests.{is_reply, is_reply_kind, live_clock_of, live_count, live_request_of}
+use Rattle.fsb_trace.specs.Snoop.{snoop_end_of}
+use Rattle.fsb_trace.proofs.Interface.{is_reply-some, live_below_count, snoop_end_of-clock, snoop_end_of-rises}
+use Rattle.fsb_timely.specs.Grants.{snooped_at}
+use Rattle.fsb_timely.specs.Past.{SnoopEnd}
+use Rattle.fsb_timely.specs.Runs.{Run, past_of}
+use Rattle.fsb_timely.proofs.Interface.{one_end, snoop-tied}
+use Rattle.fsb_lawful.proofs.Interface.{and-then, wants-lawfully}
+use Rattle.fsb_tied.proofs.Interface.{IsSnooped, answered, orderly-whole, same-both}
+use Rattle.fsb_run_laws.specs.Reaches.{Reaches}
+use Rattle.fsb_bridge.specs.DeferralList.{waiting_at, waiting_besides, waits}
+use Rattle.fsb_bridge_run.specs.RunDeferrals.{turns_of}
+use Rattle.fsb_bridge_run.proofs.DueReplies.{AnswersDue, IsReplied, is-replied}
+use Rattle.fsb_bridge_run.proofs.Listed.{all_where-added, all_where-below}
+use Rattle.fsb_bridge_run.proofs.OwnIds.{one-id, request-waiting, same-dids}
+use Rattle.fsb_bridge_run.proofs.Waiting.{earlier, is_replied, reply-parts, waits-from, waits-live, waits-parts}
+
+-- a request that waits at the next clock waits already, if its snoop end lies below
+waits-before : (w : Trace) (turns : List ℕ) (c i t : ℕ) → waits w turns (c + 1) i ≡ true → snoop_end_of w i ≡ Some t
+    → t < c → waits w turns c i ≡ true
+waits-before w turns c i t e snoop l =
+    let a = waits-parts w turns (c + 1) i e in
+    waits-from w turns c i t a.deferred snoop l
+    (earlier (option_and_then (snoop_end_of w) (reply_number_of w i)) c (c + 1) (omega arith) a.unreplied)
+
+-- one that waits goes on, if its reply has its snoop end elsewhere
+waits-on : (w : Trace) (turns : List ℕ) (c i : ℕ) → waits w turns c i ≡ true
+    → ((j : ℕ) → reply_number_of w i ≡ Some j → snoop_end_of w j ≡ Some c → ⊥) → waits w turns (c + 1) i ≡ true
+waits-on w turns c i e none =
+    let a = waits-parts w turns c i e in
+    let o = option_and_then (snoop_end_of w) (reply_number_of w i) in
+    let below = a.below in
+    waits-from w turns (c + 1) i a.snoop a.deferred a.is_snoop (omega arith) (false_from_ne_true (is_before o (c + 1))
+    (λ t.
+    let x = is_before-parts o (c + 1) t in
+    let upto = x.2 in
+    let j = and-then (snoop_end_of w) (reply_number_of w i) x.0 x.1 in
+    elim (cases_lt x.0 c) [
+      | inl less ↦ both_ways (is_before o c) a.unreplied (is_before-from o x.0 c x.1 less)
+      | inr more ↦
+          let same : x.0 ≡ c = omega arith in
+          none j.0 j.1 (subst (λ k. snoop_end_of w j.0 ≡ Some k) same j.2)
+    ]))
+
+-- a request that is Deferred at the clock waits from then on
+waits-new : (r : Run) (c i : ℕ) → Reaches r (c + 1) → snoop_end_of r.trace i ≡ Some c
+    → is_settled_deferred r.trace (turns_of r) i ≡ true → waits r.trace (turns_of r) (c + 1) i ≡ true
+waits-new r c i h e deferred =
+    let w = r.trace in
+    let long = h.long in
+    let o = option_and_then (snoop_end_of w) (reply_number_of w i) in
+    waits-from w (turns_of r) (c + 1) i c deferred e (omega arith) (false_from_ne_true (is_before o (c + 1)) (λ t.
+    let x = is_before-parts o (c + 1) t in
+    let upto = x.2 in
+    let j = and-then (snoop_end_of w) (reply_number_of w i) x.0 x.1 in
+    let k = is-replied w i j.0 j.1 in
+    let reply = reply-parts w i k.clock k.reply in
+    let after = reply.after in
+    let a = answered w i reply.response (orderly-whole r c h.timely (omega arith)) reply.is_response in
+    let gap = a.before in
+    let is_snoop = a.is_snoop in
+    let here : a.snoop ≡ c = cc in
+    let m = snoop_end_of-clock w j.0 x.0 j.2 in
+    let above = m.above in
+    let one = m.is_clock in
+    let two = k.first in
+    let there : m.clock ≡ k.clock = cc in
+    omega arith))
+
+-- where the clock is no snoop end, the same wait
+pub quiet-waiting : (r : Run) (c : ℕ) → snooped_at (past_of r) c ≡ None
+    → waiting_at r.trace (turns_of r) (c + 1) ≡ waiting_at r.trace (turns_of r) c
+unfolding waiting_at
+quiet-waiting r c quiet =
+    let w = r.trace in
+    let turns = turns_of r in
+    all_where-below (waits w turns (c + 1)) (waits w turns c) (live_count w) (λ i l.
+    same-both (waits w turns (c + 1) i) (waits w turns c i)
+    (λ e.
+    let a = waits-parts w turns (c + 1) i e in
+    let upto = a.below in
+    elim (cases_lt a.snoop c) [
+      | inl less ↦ waits-before w turns c i a.snoop e a.is_snoop less
+      | inr more ↦
+          let same : a.snoop ≡ c = omega arith in
+          absurd (none i (subst (λ k. snoop_end_of w i ≡ Some k) same a.is_snoop))
+    ])
+    (λ e. waits-on w turns c i e (λ j f g. none j g)))
+  where
+    none : (j : ℕ) → snoop_end_of r.trace j ≡ Some c → ⊥
+    none j e =
+        let tied = snoop-tied r j c e in
+        let there = tied.1.there in
+        let no : None ≡ Some tied.0 = sym quiet ∙ there in
+        cc
+
+-- live request i, whose snoop end is the clock, and its request
+pub record IsSnoopedHere (r : Run) (c i : ℕ) (s : SnoopEnd) (request : Request) : Type 0 where
+  pub snooped : IsSnooped r c i s
+  pub decoded : request_at r.trace s.first ≡ Some request
+
+settled-here : (r : Run) (c i : ℕ) (s : SnoopEnd) → IsSnooped r c i s
+    → is_settled_deferred r.trace (turns_of r) i ≡ is_deferral s.outcome
+unfolding is_settled_deferred is_some_and
+settled-here r c i s k = ap (λ o. is_some_and o is_deferral) k.tied.outcome
+
+-- the snoop end of a request that is no reply ends no wait
+plain-on : (r : Run) (c i k : ℕ) (s : SnoopEnd) (request : Request) → IsSnoopedHere r c i s request
+    → is_reply_kind request.kind ≡ false → waits r.trace (turns_of r) c k ≡ true
+    → waits r.trace (turns_of r) (c + 1) k ≡ true
+plain-on r c i k s request here plain e =
+    let w = r.trace in
+    waits-on w (turns_of r) c k e (λ j number snoop.
+    let reply = is-replied w k j number in
+    let parts = reply-parts w k reply.clock reply.reply in
+    let same = one_end w c j i snoop here.snooped.tied.reached in
+    let first : live_clock_of w i ≡ Some reply.clock = subst (λ x. live_clock_of w x ≡ Some reply.clock) same reply.first in
+    let is = here.snooped.tied.first in
+    let clock : reply.clock ≡ s.first = cc in
+    let replies = subst (λ x. is_reply (request_at w x) ≡ true) clock parts.replies in
+    both_ways (is_reply_kind request.kind) plain
+    (sym (ap is_reply here.decoded ∙ is_reply-some request) ∙ replies))
+
+-- what waits at the next clock, and is not the request whose snoop end this is, waits already
+other-before : (r : Run) (c i k : ℕ) (s : SnoopEnd) → IsSnooped r c i s → k ≢ i
+    → waits r.trace (turns_of r) (c + 1) k ≡ true → waits r.trace (turns_of r) c k ≡ true
+other-before r c i k s here other e =
+    let w = r.trace in
+    let a = waits-parts w (turns_of r) (c + 1) k e in
+    let upto = a.below in
+    elim (cases_lt a.snoop c) [
+      | inl less ↦ waits-before w (turns_of r) c k a.snoop e a.is_snoop less
+      | inr more ↦
+          let same : a.snoop ≡ c = omega arith in
+          absurd (other (one_end w c k i (subst (λ x. snoop_end_of w k ≡ Some x) same a.is_snoop) here.tied.reached))
+    ]
+
+-- that one waits only if it is Deferred
+itself-deferred : (r : Run) (c i k : ℕ) (s : SnoopEnd) → IsSnooped r c i s → k ≡ i
+    → waits r.trace (turns_of r) (c + 1) k ≡ true → is_deferral s.outcome ≡ true
+itself-deferred r c i k s here same e =
+    let a = waits-parts r.trace (turns_of r) (c + 1) k e in
+    sym (settled-here r c i s here)
+    ∙ subst (λ x. is_settled_deferred r.trace (turns_of r) x ≡ true) same a.deferred
+
+-- where it is neither a reply nor Deferred, the same wait
+pub plain-waiting : (r : Run) (c i : ℕ) (s : SnoopEnd) (request : Request) → IsSnoopedHere r c i s request
+    → is_reply_kind request.kind ≡ false → is_deferral s.outcome ≡ false
+    → waiting_at r.trace (turns_of r) (c + 1) ≡ waiting_at r.trace (turns_of r) c
+unfolding waiting_at
+plain-waiting r c i s request here plain kept =
+    let w = r.trace in
+    let turns = turns_of r in
+    all_where-below (waits w turns (c + 1)) (waits w turns c) (live_count w) (λ k l.
+    same-both (waits w turns (c + 1) k) (waits w turns c k)
+    (λ e. other-before r c i k s here.snooped
+    (λ same. both_ways (is_deferral s.outcome) kept (itself-deferred r c i k s here.snooped same e)) e)
+    (λ e. plain-on r c i k s request here plain e))
+
+-- where it is Deferred, it comes behind those that wait
+pub deferred-waiting : (r : Run) (c i : ℕ) (s : SnoopEnd) (request : Request) → Reaches r (c + 1)
+    → IsSnoopedHere r c i s request → is_reply_kind request.kind ≡ false → is_deferral s.outcome ≡ true
+    → waiting_at r.trace (turns_of r) (c + 1) ≡ waiting_at r.trace (turns_of r) c ++ i ∷ []
+unfolding waiting_at
+deferred-waiting r c i s request h here plain deferred =
+    let w = r.trace in
+    let turns = turns_of r in
+    let reached = here.snooped.tied.reached in
+    all_where-added (waits w turns c) (waits w turns (c + 1)) (live_count w) i
+    (live_below_count w i s.first here.snooped.tied.first)
+    (λ k e. low k e)
+    (waits-new r c i h reached (settled-here r c i s here.snooped ∙ deferred))
+    (λ k other. same-both (waits w turns (c + 1) k) (waits w turns c k)
+    (other-before r c i k s here.snooped other) (plain-on r c i k s request here plain))
+  where
+    low : (k : ℕ) → waits r.trace (turns_of r) c k ≡ true → k < i
+    low k e =
+        let a = waits-parts r.trace (turns_of r) c k e in
+        let below = a.below in
+        let snoop = a.is_snoop in
+        let reached = here.snooped.tied.reached in
+        elim (cases_order k i) [
+          | inl same ↦
+              let there : snoop_end_of r.trace i ≡ Some a.snoop = subst (λ x. snoop_end_of r.trace x ≡ Some a.snoop) same snoop in
+              let at : a.snoop ≡ c = cc in
+              absurd (omega arith)
+          | inr other ↦ elim other [
+            | inl less ↦ less
+            | inr more ↦
+                let rise = snoop_end_of-rises r.trace i k a.snoop more snoop in
+                let there = rise.1 in
+                let at : rise.0 ≡ c = cc in
+                let gap = rise.2 in
+                absurd (omega arith)
+          ]
+        ]
+
+-- a reply answers one of the requests that wait, alone
+pub one-taker : (r : Run) (n c i k j : ℕ) → Reaches r n → c ≤ n → waits r.trace (turns_of r) c k ≡ true
+    → reply_number_of r.trace k ≡ Some i → waits r.trace (turns_of r) c j ≡ true
+    → reply_number_of r.trace j ≡ Some i → k ≡ j
+one-taker r n c i k j h low waiting number also same =
+    let w = r.trace in
+    let one = is-replied w k i number in
+    let two = is-replied w j i same in
+    let first = one.first in
+    let second = two.first in
+    let clock : one.clock ≡ two.clock = cc in
+    let x = request-waiting r n c k h waiting in
+    let y = request-waiting r n c j h also in
+    let x-parts = reply-parts w k one.clock one.reply in
+    let y-parts = reply-parts w j two.clock two.reply in
+    let did = same-dids (request_at w one.clock) (request_at w two.clock) (live_request_of w k)
+    (live_request_of w j) x.0 y.0 (ap (request_at w) clock) x.1 y.1 x-parts.same_id y-parts.same_id in
+    one-id r n c k j x.0 y.0 h low waiting also x.1 y.1 did
+
+-- where it is the reply to one that waits, that one leaves
+pub replied-waiting : (r : Run) (c i j : ℕ) (s : SnoopEnd) (reply : Request) → Reaches r (c + 1)
+    → IsSnoopedHere r c i s reply → is_deferral s.outcome ≡ false → waits r.trace (turns_of r) c j ≡ true
+    → reply_number_of r.trace j ≡ Some i
+    → waiting_at r.trace (turns_of r) (c + 1) ≡ waiting_besides r.trace (turns_of r) c j
+unfolding waiting_at waiting_besides
+replied-waiting r c i j s reply h here kept waiting number =
+    let w = r.trace in
+    let turns = turns_of r in
+    all_where-below (waits w turns (c + 1)) (λ k. waits w turns c k && not (nat_eq k j)) (live_count w) (λ k l.
+    same-both (waits w turns (c + 1) k) (waits w turns c k && not (nat_eq k j)) (there k) (back k))
+  where
+    there : (k : ℕ) → waits r.trace (turns_of r) (c + 1) k ≡ true
+        → (waits r.trace (turns_of r) c k && not (nat_eq k j)) ≡ true
+    there k e =
+        let w = r.trace in
+        let before = other-before r c i k s here.snooped
+        (λ same. both_ways (is_deferral s.outcome) kept (itself-deferred r c i k s here.snooped same e)) e in
+        let a = waits-parts w (turns_of r) (c + 1) k e in
+        and_from _ _ before (ap not (ne_eqb k j (λ same.
+        let mine : reply_number_of w k ≡ Some i = subst (λ x. reply_number_of w x ≡ Some i) (sym same) number in
+        both_ways (is_replied w (c + 1) k) a.unreplied
+        (is_before-from (option_and_then (snoop_end_of w) (reply_number_of w k)) c (c + 1)
+        (ap (option_and_then (snoop_end_of w)) mine ∙ here.snooped.tied.reached) (omega arith)))))
+
+    back : (k : ℕ) → (waits r.trace (turns_of r) c k && not (nat_eq k j)) ≡ true
+        → waits r.trace (turns_of r) (c + 1) k ≡ true
+    back k e =
+        let w = r.trace in
+        let parts = and_parts (waits w (turns_of r) c k) (not (nat_eq k j)) e in
+        waits-on w (turns_of r) c k parts.0 (λ m other snoop.
+        let same = one_end w c m i snoop here.snooped.tied.reached in
+        let also : reply_number_of w k ≡ Some i = other ∙ ap Some same in
+        let number-same = one-taker r (c + 1) c i k j h (omega arith) parts.0 also waiting number in
+        both_ways (nat_eq k j) (not-true (nat_eq k j) parts.1) (eq-eqb k j number-same))

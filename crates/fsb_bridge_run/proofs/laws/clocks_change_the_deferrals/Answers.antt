@@ -1,0 +1,8 @@
+use Rattle.fsb_bridge_run.proofs.RunLists.{clock-finds, clock-leaves}
+use Rattle.fsb_bridge_run.proofs.laws.clocks_change_the_deferrals.Goals as goal
+
+pub returns-clause-found : goal.returns-clause-found
+returns-clause-found c = clock-finds
+
+pub returns-clause-left : goal.returns-clause-left
+returns-clause-left c = clock-leaves

@@ -1,0 +1,2 @@
+pub mod RunDeferrals
+pub mod DeferralSteps
