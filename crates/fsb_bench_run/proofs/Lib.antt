@@ -1,0 +1,5 @@
+pub mod SampleBits
+pub mod DrivenLines
+pub mod NextRun
+pub mod BegunStays
+pub mod StepFields
