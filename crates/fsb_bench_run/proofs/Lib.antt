@@ -1,0 +1,5 @@
+pub mod SampleBits
+pub mod DrivenLines
+pub mod ThisClock
+pub mod ResponsesDriven
+pub mod SnoopEntry
