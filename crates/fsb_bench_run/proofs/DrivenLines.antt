@@ -1,11 +1,13 @@
 -- The lines of the sample that a bench makes.
 use Rattle.std.proofs.Common.{ℕ, ◌+◌, ◌*◌, ◌/◌, ◌%◌, ◌^◌, ◌<◌, ◌≤◌, ◌≡◌, ◌&&◌, Bool, true, false, not, Option, Some, None, List, [], ◌∷◌, ◌++◌, length, is_some, if◌then◌else◌, eqb, refl, sym, ap, ◌∙◌, arith, subst}
+use Rattle.std.specs.Int.RustNames.{bit_and}
+use Rattle.std.proofs.lemmas.Bool.{eqb-false, eqb-true}
 use Rattle.fsb_encode.specs.declared.request.Pair.{Pair}
 use Rattle.fsb_laws.proofs.Interface.{line_at-new, one_more}
 use Rattle.fsb_phase.specs.declared.drive.Drive.{Drive}
 use Rattle.fsb_signal.specs.Samples.{has_line, line_at, response_of}
 use Rattle.fsb_signal.specs.declared.lines.Lines.{Lines}
-use Rattle.fsb_signal.specs.declared.lines.TheConstants.Lines.{ADS, AERR, AP0, AP1, BNR, BPRI, BREQ0, BREQ1, BREQ2, BREQ3, DBSY, DEFER, DRDY, HIT, HITM, LOCK, RP, TRDY}
+use Rattle.fsb_signal.specs.declared.lines.TheConstants.Lines.{ADS, AERR, AP0, AP1, BNR, BPRI, BREQ0, BREQ1, BREQ2, BREQ3, DBSY, DEFER, DRDY, HIT, HITM, LOCK, RP, RS0, RS1, RS2, TRDY}
 use Rattle.fsb_hazard.specs.declared.choice.Choice.{Choice}
 use Rattle.fsb_timely.specs.Snoops.{is_keep}
 use Rattle.fsb_trace.specs.declared.who.Who.TheVariants.{Symmetric, Priority}
@@ -76,7 +78,7 @@ abbrev pub pair_of_clock : BusView → ℕ → Decided → Pair
 pair_of_clock bus clock decided = pair_driven bus.latest clock decided.starting
 
 bit-driven : (bus : BusView) (clock profile : ℕ) (decided : Decided) (pair : Pair) (k : ℕ)
-    → eqb (Rattle.std.specs.Int.RustNames.bit_and (bits_of (bits_driven bus clock profile decided pair) % 2 ^ 21) (2 ^ k)) (2 ^ k)
+    → eqb (bit_and (bits_of (bits_driven bus clock profile decided pair) % 2 ^ 21) (2 ^ k)) (2 ^ k)
     ≡ bit_in (driven bus clock profile decided pair) k
 bit-driven bus clock profile decided pair k =
     let all = all-driven bus clock profile decided pair in
@@ -165,8 +167,23 @@ rp-driven bus clock profile decided = bit-driven bus clock profile decided (pair
 -- the three bits of a code make the code
 eight : (n : ℕ) (b0 b1 b2 : Bool) → n < 8 → eqb (n % 2) 1 ≡ b0 → eqb (n / 2 % 2) 1 ≡ b1 → eqb (n / 4 % 2) 1 ≡ b2
     → 4 * (if b2 then 1 else 0) + 2 * (if b1 then 1 else 0) + (if b0 then 1 else 0) ≡ n
-eight n b0 b1 b2 l e0 e1 e2 = ?
+eight n b0 b1 b2 l e0 e1 e2 =
+    let low = one-bit (n % 2) b0 (omega arith) e0 in
+    let mid = one-bit (n / 2 % 2) b1 (omega arith) e1 in
+    let high = one-bit (n / 4 % 2) b2 (omega arith) e2 in
+    rw (low, mid, high) (omega arith)
+  where
+    one-bit : (k : ℕ) (b : Bool) → k < 2 → eqb k 1 ≡ b → (if b then 1 else 0) ≡ k
+    one-bit k true m e = sym (eqb-true k 1 e)
+    one-bit k false m e =
+        let not_one = eqb-false k 1 e in omega arith
 
 pub code-driven : (bus : BusView) (clock profile : ℕ) (decided : Decided) → decided.drive.rs < 8
     → response_of (sample_by bus clock profile decided) ≡ decided.drive.rs
-code-driven bus clock profile decided l = ?
+code-driven bus clock profile decided l =
+    let pair = pair_of_clock bus clock decided in
+    let x = sample_by bus clock profile decided in
+    let low : has_line x RS0 ≡ eqb (decided.drive.rs % 2) 1 = bit-driven bus clock profile decided pair 12 in
+    let mid : has_line x RS1 ≡ eqb (decided.drive.rs / 2 % 2) 1 = bit-driven bus clock profile decided pair 13 in
+    let high : has_line x RS2 ≡ eqb (decided.drive.rs / 4 % 2) 1 = bit-driven bus clock profile decided pair 14 in
+    eight decided.drive.rs (has_line x RS0) (has_line x RS1) (has_line x RS2) l (sym low) (sym mid) (sym high)

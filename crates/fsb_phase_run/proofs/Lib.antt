@@ -13,3 +13,4 @@ pub mod EndedNow
 pub mod RespondedNow
 pub mod QueueGoesOn
 pub mod TakenTurns
+pub mod Interface
