@@ -6,3 +6,8 @@ pub mod StepFields
 pub mod ThisClock
 pub mod ResponsesDriven
 pub mod SnoopEntry
+pub mod AskedNow
+pub mod StartingNow
+pub mod LatestNext
+pub mod LockedStarts
+pub mod StartedNext
