@@ -11,3 +11,5 @@ pub mod StartingNow
 pub mod LatestNext
 pub mod LockedStarts
 pub mod StartedNext
+pub mod LocksStay
+pub mod LockNow
