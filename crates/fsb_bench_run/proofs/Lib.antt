@@ -13,3 +13,4 @@ pub mod LockedStarts
 pub mod StartedNext
 pub mod LocksStay
 pub mod LockNow
+pub mod PairNow
