@@ -14,3 +14,4 @@ pub mod StartedNext
 pub mod LocksStay
 pub mod LockNow
 pub mod PairNow
+pub mod ParityNow
