@@ -14,3 +14,4 @@ pub mod RespondedNow
 pub mod QueueGoesOn
 pub mod TakenTurns
 pub mod Interface
+pub mod KeptTurns

@@ -8,6 +8,7 @@ ghost use Rattle.fsb_signal.specs.Samples.{line_at, response_of};
 ghost use Rattle.fsb_laws.specs.Orderly.{Orderly};
 ghost use Rattle.fsb_trace.specs.declared.outcome.Outcome.{Outcome};
 ghost use Rattle.fsb_trace.specs.Outcome.{settled_by};
+ghost use Rattle.fsb_trace.specs.Requests.{is_write_back, live_request_of};
 ghost use Rattle.fsb_trace.specs.Snoop.{snoop_end_of};
 ghost use Rattle.fsb_queue.specs.declared.entry.Entry.{Entry};
 ghost use Rattle.fsb_phase.specs.Drive.{drive_of, phased_at};
@@ -67,7 +68,8 @@ pub fn queues_go_on()
 {}
 
 /// The turns of the requests with their snoop end stay as a run grows, and the outcome that the new
-/// moment has of a snoop end is the one that is settled by the turn of its request.
+/// moment has of a snoop end is the one that is settled by the turn of its request. A write-back is
+/// kept.
 pub fn turns_are_taken()
     ensures same { (r s : Run) (i : ℕ) → GrowsTo r s → i < snooped_count r.trace →
         slice_index (turns_in (past_of s).moments) i
@@ -76,4 +78,6 @@ pub fn turns_are_taken()
         snooped_at (past_of s) (length r.trace) ≡ Some end →
         snoop_end_of s.trace i ≡ Some (length r.trace) → end.outcome
         ≡ settled_by s.trace (slice_index (turns_in (past_of s).moments) i) i (length r.trace) }
+    ensures kept { (r : Run) (i : ℕ) → is_write_back (live_request_of r.trace i) ≡ true →
+        slice_index (turns_in (past_of r).moments) i ≡ 0 }
 {}

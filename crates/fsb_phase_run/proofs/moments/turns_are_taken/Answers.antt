@@ -1,3 +1,4 @@
+use Rattle.fsb_phase_run.proofs.KeptTurns.{write-back-kept}
 use Rattle.fsb_phase_run.proofs.TakenTurns.{outcome-settled, turn-same}
 use Rattle.fsb_phase_run.proofs.moments.turns_are_taken.Goals as goal
 
@@ -6,3 +7,6 @@ returns-clause-same c = turn-same
 
 pub returns-clause-outcome : goal.returns-clause-outcome
 returns-clause-outcome c = outcome-settled
+
+pub returns-clause-kept : goal.returns-clause-kept
+returns-clause-kept c = write-back-kept
