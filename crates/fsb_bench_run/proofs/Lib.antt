@@ -3,3 +3,9 @@ pub mod DrivenLines
 pub mod ThisClock
 pub mod ResponsesDriven
 pub mod SnoopEntry
+pub mod BegunRequests
+pub mod SameBus
+pub mod SnoopDriven
+pub mod SnoopCases
+pub mod TurnCounted
+pub mod HazardsDriven
