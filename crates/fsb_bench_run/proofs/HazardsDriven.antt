@@ -3,16 +3,14 @@ use Rattle.std.proofs.Common.{ℕ, zero, suc, ◌+◌, ◌-◌, ◌<◌, ◌≤�
 use Rattle.std.specs.Bool.{beq}
 use Rattle.std.specs.List.{find, slice_get}
 use Rattle.std.specs.Option.{option_and_then, option_map, option_map_or}
-use Rattle.std.proofs.Math.Seq.{take-length}
 use Rattle.std.proofs.lemmas.Bool.{and_from, and_left, and_parts, and_right, both_ways, cases_Bool, eq-eqb, eqb-true, false_from_ne_true, le-leb, leb-true}
 use Rattle.fsb_count.specs.Clocks.{any_where}
 use Rattle.fsb_count.specs.Options.{is_some_and}
 use Rattle.fsb_count.proofs.Interface.{nth_where-found, slice_get-end}
 use Rattle.fsb_bridge.specs.Deferrals.{Bridged, deferral_of_id, is_covered, is_waited_for}
 use Rattle.fsb_bridge.specs.declared.deferral.Deferral.{Deferral}
-use Rattle.fsb_bridge.specs.DeferralList.{StandsFor}
-use Rattle.fsb_bridge.proofs.Interface.{is_waited_for-StandsFor}
 use Rattle.fsb_hazard.specs.Choice.{effective_turn}
+use Rattle.fsb_access.specs.declared.log.Done.{Done}
 use Rattle.fsb_hazard.specs.declared.choice.Choice.{Choice}
 use Rattle.fsb_hazard.specs.declared.choice.Turn.{Turn}
 use Rattle.fsb_hazard.specs.declared.choice.Turn.TheVariants.{Keep, Retry, Defer}
@@ -47,38 +45,40 @@ use Rattle.fsb_phase_run.specs.Holds.{HoldsRequests}
 use Rattle.fsb_phase_run.proofs.Interface.{EntryOf, agree-grown, choice-same, entry-held, longer, snoops-first, stall-drive}
 use Rattle.fsb_bench_view.specs.declared.beginning.Started.{Started}
 use Rattle.fsb_bench_view.specs.declared.snoop.Snooped.{Snooped}
-use Rattle.fsb_bench_view.specs.BenchSteps.{step_decided, step_drive, step_performed, step_run, step_sample}
+use Rattle.fsb_bench_view.specs.BenchSteps.{step_decided, step_drive, step_performed, step_sample}
 use Rattle.fsb_bench_view.specs.BusDecisions.{cancelled_by, is_cancelled_by}
 use Rattle.fsb_bench_view.specs.BusSnooping.{snooped_entry, snooped_for, snooped_of, snooped_reply, turn_counted}
 use Rattle.fsb_bench_view.specs.BusViews.{BenchView, BusView, clock_of}
 use Rattle.fsb_bench_run.specs.BenchOf.{HasBegun, HasBridgeOf, IsBegunAt, IsBenchOf}
+use Rattle.fsb_bench_run.proofs.RunWith.{run_with}
 use Rattle.fsb_bench_run.proofs.BegunRequests.{begun-request, request-grown}
-use Rattle.fsb_bench_run.proofs.DrivenLines.{aerr-driven, bnr-driven, defer-driven, defer_driven, hit-driven, hit_driven, hitm-driven, hitm_driven, line-new}
+use Rattle.fsb_bench_run.proofs.DeferralsTold.{DeferralsTold}
+use Rattle.fsb_bench_run.proofs.DrivenLines.{aerr-driven, bnr-driven, defer-driven, defer_driven, hit-driven, hit_driven, hitm-driven, hitm_driven, line-with}
 use Rattle.fsb_bench_run.proofs.ResponsesDriven.{all5, beq-from}
 use Rattle.fsb_bench_run.proofs.SameBus.{same-performed}
 use Rattle.fsb_bench_run.proofs.SnoopCases.{SnoopsHere, SnoopsNone, snoop-cases}
 use Rattle.fsb_bench_run.proofs.SnoopDriven.{no-snoop, no-stall, snooped-shut, stalls-driven}
 use Rattle.fsb_bench_run.proofs.SnoopEntry.{IsHeldHere, held-here, snoop-rank, spaced-here}
 use Rattle.fsb_bench_run.proofs.ThisClock.{holds-now}
-use Rattle.fsb_bench_run.proofs.TurnCounted.{begun-line, begun-reply, end-turn, kept-turn, window-same}
+use Rattle.fsb_bench_run.proofs.TurnCounted.{begun-reply, end-turn, kept-turn, window-same}
 
 -- BNR#
-bnr-now : (v : BenchView) (hold : Bool) (choice : Choice) → Timely v.run
-    → line_at BNR (step_run v hold choice).trace (clock_of v) ≡ is_bnr_chosen (step_run v hold choice) (clock_of v)
+bnr-now : (v : BenchView) (hold : Bool) (choice : Choice) (entries : List Done) → Timely v.run
+    → line_at BNR (run_with v hold choice entries).trace (clock_of v) ≡ is_bnr_chosen (run_with v hold choice entries) (clock_of v)
 unfolding is_bnr_chosen
-bnr-now v hold choice timely =
+bnr-now v hold choice entries timely =
     let there = ap (slice_get (v.run.holds ++ hold ∷ [])) (sym timely.one_hold) ∙ slice_get-end v.run.holds hold in
-    line-new v hold choice BNR ∙ bnr-driven (step_performed v) (clock_of v) v.run.plan.profile (step_decided v hold)
+    line-with v hold choice entries BNR ∙ bnr-driven (step_performed v) (clock_of v) v.run.plan.profile (step_decided v hold)
     ∙ sym (ap (λ o. option_map_or (λ (b : Bool). b) o false) there)
 
 -- AERR#: an entry that began three clocks before, and is to be cancelled, is the request that began there
-entry-error : (v : BenchView) (hold : Bool) (choice : Choice) (k : ℕ) (e : Entry)
-    → GrowsTo v.run (step_run v hold choice) → HoldsRequests v.bus.queue v.run → slice_get v.bus.queue k ≡ Some e
-    → is_cancelled_by (clock_of v) e ≡ true → is_error_chosen (step_run v hold choice) (clock_of v) ≡ true
+entry-error : (v : BenchView) (hold : Bool) (choice : Choice) (entries : List Done) (k : ℕ) (e : Entry)
+    → GrowsTo v.run (run_with v hold choice entries) → HoldsRequests v.bus.queue v.run → slice_get v.bus.queue k ≡ Some e
+    → is_cancelled_by (clock_of v) e ≡ true → is_error_chosen (run_with v hold choice entries) (clock_of v) ≡ true
 unfolding is_error_chosen
-entry-error v hold choice k e grows f at t =
+entry-error v hold choice entries k e grows f at t =
     let r = v.run in
-    let s = step_run v hold choice in
+    let s = run_with v hold choice entries in
     let n = clock_of v in
     let a = and_parts e.choice.aerr (nat_eq (e.clock + 3) n) t in
     let place : e.clock + 3 ≡ n = eqb-true (e.clock + 3) n a.1 in
@@ -92,14 +92,14 @@ entry-error v hold choice k e grows f at t =
     and_from _ _ (and_from _ _ (le-leb 3 n (omega arith)) line) error
 
 -- and the request that began there has an entry
-error-entry : (v : BenchView) (hold : Bool) (choice : Choice)
-    → GrowsTo v.run (step_run v hold choice) → HoldsRequests v.bus.queue v.run
-    → is_error_chosen (step_run v hold choice) (clock_of v) ≡ true
+error-entry : (v : BenchView) (hold : Bool) (choice : Choice) (entries : List Done)
+    → GrowsTo v.run (run_with v hold choice entries) → HoldsRequests v.bus.queue v.run
+    → is_error_chosen (run_with v hold choice entries) (clock_of v) ≡ true
     → (k : ℕ) × (e : Entry) × (slice_get v.bus.queue k ≡ Some e) × (is_cancelled_by (clock_of v) e ≡ true)
 unfolding is_error_chosen is_live is_cancelled
-error-entry v hold choice grows f t =
+error-entry v hold choice entries grows f t =
     let r = v.run in
-    let s = step_run v hold choice in
+    let s = run_with v hold choice entries in
     let n = clock_of v in
     let q : ℕ = n - 3 in
     let a = and_parts (nat_le 3 n && line_at ADS s.trace q) _ t in
@@ -128,50 +128,44 @@ error-entry v hold choice grows f t =
         let within = k.within in
         let same : k.clock ≡ q = one k.clock q (sym k.is_clock ∙ c) in absurd (omega arith)
 
-aerr-now : (v : BenchView) (hold : Bool) (choice : Choice)
-    → GrowsTo v.run (step_run v hold choice) → HoldsRequests v.bus.queue v.run
-    → line_at AERR (step_run v hold choice).trace (clock_of v) ≡ is_error_chosen (step_run v hold choice) (clock_of v)
-aerr-now v hold choice grows f =
-    let s = step_run v hold choice in
+aerr-now : (v : BenchView) (hold : Bool) (choice : Choice) (entries : List Done)
+    → GrowsTo v.run (run_with v hold choice entries) → HoldsRequests v.bus.queue v.run
+    → line_at AERR (run_with v hold choice entries).trace (clock_of v) ≡ is_error_chosen (run_with v hold choice entries) (clock_of v)
+aerr-now v hold choice entries grows f =
+    let s = run_with v hold choice entries in
     let n = clock_of v in
     let queue = v.bus.queue in
     let same = same-performed v in
-    line-new v hold choice AERR ∙ aerr-driven (step_performed v) n v.run.plan.profile (step_decided v hold)
+    line-with v hold choice entries AERR ∙ aerr-driven (step_performed v) n v.run.plan.profile (step_decided v hold)
     ∙ ap (λ q. is_some (find (is_cancelled_by n) q)) same.queue
     ∙ elim (find-cases (is_cancelled_by n) queue) [
       | inl k ↦
           ap is_some (find-place (is_cancelled_by n) queue k.place k.item k.at k.passes k.before)
-          ∙ sym (entry-error v hold choice k.place k.item grows f k.at k.passes)
+          ∙ sym (entry-error v hold choice entries k.place k.item grows f k.at k.passes)
       | inr g ↦
           ap is_some (find-off (is_cancelled_by n) queue g)
           ∙ sym (false_from_ne_true (is_error_chosen s n)
-          (λ t. let k = error-entry v hold choice grows f t in both_ways _ (g k.0 k.1 k.2) k.3))
+          (λ t. let k = error-entry v hold choice entries grows f t in both_ways _ (g k.0 k.1 k.2) k.3))
     ]
 
 -- the stalls
-stalls-now : (v : BenchView) (hold : Bool) (choice : Choice)
-    → GrowsTo v.run (step_run v hold choice) → HoldsRequests v.bus.queue v.run
-    → stalls_at (step_run v hold choice).trace (clock_of v)
-    ≡ any_where (is_stall_chosen (step_run v hold choice) (clock_of v)) (live_count (step_run v hold choice).trace)
+stalls-now : (v : BenchView) (hold : Bool) (choice : Choice) (entries : List Done)
+    → GrowsTo v.run (run_with v hold choice entries) → HoldsRequests v.bus.queue v.run
+    → stalls_at (run_with v hold choice entries).trace (clock_of v)
+    ≡ any_where (is_stall_chosen (run_with v hold choice entries) (clock_of v)) (live_count (run_with v hold choice entries).trace)
 unfolding stalls_at stalls
-stalls-now v hold choice grows f =
-    let hit = line-new v hold choice HIT in
-    let hitm = line-new v hold choice HITM in
-    (λ i. hit i && hitm i) ∙ stalls-driven v hold ∙ stall-drive v.run (step_run v hold choice) v.bus.queue grows f
-
--- a line that is pending at the new clock is pending by the samples before
-pub pending-grown : (r s : Run) (line : ℕ) → GrowsTo r s
-    → is_pending s.trace (turns_in (past_of r).moments) line (length r.trace)
-    ≡ is_pending r.trace (turns_in (past_of r).moments) line (length r.trace)
-pending-grown r s line grows = ?
+stalls-now v hold choice entries grows f =
+    let hit = line-with v hold choice entries HIT in
+    let hitm = line-with v hold choice entries HITM in
+    (λ i. hit i && hitm i) ∙ stalls-driven v hold ∙ stall-drive v.run (run_with v hold choice entries) v.bus.queue grows f
 
 -- the request whose snoop ends is decoded
-pub decoded-now : (v : BenchView) (hold : Bool) (choice : Choice) → IsBenchOf v
-    → (grows : GrowsTo v.run (step_run v hold choice)) → (k : SnoopsHere v hold choice)
-    → request_at (step_run v hold choice).trace k.now.entry.clock ≡ Some k.now.entry.request
-decoded-now v hold choice b grows k =
+pub decoded-now : (v : BenchView) (hold : Bool) (choice : Choice) (entries : List Done) → IsBenchOf v
+    → (grows : GrowsTo v.run (run_with v hold choice entries)) → (k : SnoopsHere v hold choice entries)
+    → request_at (run_with v hold choice entries).trace k.now.entry.clock ≡ Some k.now.entry.request
+decoded-now v hold choice entries b grows k =
     let r = v.run in
-    let s = step_run v hold choice in
+    let s = run_with v hold choice entries in
     let e = k.now.entry in
     let c = snoop_end_of-clock s.trace (rank_of s.trace e) (clock_of v) k.told.is_end.reached in
     let above = c.above in
@@ -183,12 +177,13 @@ decoded-now v hold choice b grows k =
     one x y e = cc
 
 -- the turn that counts is that of the moment
-pub turn-now : (v : BenchView) (hold : Bool) (choice : Choice) → IsBenchOf v
-    → (grows : GrowsTo v.run (step_run v hold choice)) → (k : SnoopsHere v hold choice)
+pub turn-now : (v : BenchView) (hold : Bool) (choice : Choice) (entries : List Done) → IsBenchOf v
+    → DeferralsTold v (run_with v hold choice entries)
+    → (grows : GrowsTo v.run (run_with v hold choice entries)) → (k : SnoopsHere v hold choice entries)
     → k.told.end.turn ≡ turn_counted (step_performed v) k.now.entry
-turn-now v hold choice b grows k =
+turn-now v hold choice entries b told grows k =
     let r = v.run in
-    let s = step_run v hold choice in
+    let s = run_with v hold choice entries in
     let n = clock_of v in
     let e = k.now.entry in
     let same = same-performed v in
@@ -200,16 +195,13 @@ turn-now v hold choice b grows k =
     sym (f.entries.chosen k.now.place e k.now.at ∙ choice-same r s e.clock grows here.within ads) in
     let window = sym (window-same r.plan.bridge line)
     ∙ ap (λ w. is_covered w line) (sym (ap (λ (x : Bridged). x.window) same.bridge ∙ b.bridge.window)) in
-    let stands = subst (λ w. StandsFor b.bridge.before w (turns_in (past_of r).moments) n) (take-length r.trace) b.bridge.deferrals in
-    let pending = pending-grown r s line grows
-    ∙ sym (is_waited_for-StandsFor b.bridge.before r.trace (turns_in (past_of r).moments) n line stands)
-    ∙ sym (ap (λ (x : Bridged). is_waited_for line x.waiting) same.bridge
-    ∙ ap (is_waited_for line) b.bridge.waiting ∙ begun-line v.bus.latest n line b.bridge.before) in
-    end-turn r s e grows k.told (decoded-now v hold choice b grows k)
+    let pending = told.pending line ∙ ap (λ (x : Bridged). is_waited_for line x.waiting) (sym same.bridge) in
+    end-turn r s e grows k.told (decoded-now v hold choice entries b grows k)
     ∙ (λ i. effective_turn (choice_is i).turn e.request (window i) (pending i))
 
 -- DEFER#
 begun-keeps : (y : Entry) (d : Deferral) (o : Option Started) → defer_driven (option_map (snooped_reply y d) o) ≡ false
+unfolding is_keep
 begun-keeps y d None = refl
 begun-keeps y d (Some begun) = refl
 
@@ -218,33 +210,37 @@ reply-keeps : (bus : BusView) (y : Entry) (o : Option Deferral)
 reply-keeps bus y None = refl
 reply-keeps bus y (Some d) = begun-keeps y d (slice_get bus.started d.number)
 
-put-off-by : (v : BenchView) (hold : Bool) (choice : Choice) → IsBenchOf v
-    → (grows : GrowsTo v.run (step_run v hold choice)) → (k : SnoopsHere v hold choice) (who : Who)
+put-off-by : (v : BenchView) (hold : Bool) (choice : Choice) (entries : List Done) → IsBenchOf v
+    → DeferralsTold v (run_with v hold choice entries)
+    → (grows : GrowsTo v.run (run_with v hold choice entries)) → (k : SnoopsHere v hold choice entries) (who : Who)
     → k.now.entry.who ≡ who
     → defer_driven (snooped_entry (step_performed v) k.now.entry who) ≡ not (is_keep k.told.end.turn)
-put-off-by v hold choice b grows k (Symmetric agent) e = ap (λ t. not (is_keep t)) (sym (turn-now v hold choice b grows k))
-put-off-by v hold choice b grows k Priority e =
+unfolding is_keep
+put-off-by v hold choice entries b told grows k (Symmetric agent) e = ap (λ t. not (is_keep t)) (sym (turn-now v hold choice entries b told grows k))
+put-off-by v hold choice entries b told grows k Priority e =
     let r = v.run in
-    let s = step_run v hold choice in
+    let s = run_with v hold choice entries in
     let y = k.now.entry in
     let begun = subst (λ w. IsBegunAt r y.clock w y.request) e (b.entries.begun k.now.place y k.now.at) in
-    let kept = end-turn r s y grows k.told (decoded-now v hold choice b grows k)
-    ∙ kept-turn _ y.request _ _ (begun-reply r y.clock y.request begun) in
+    let kept = end-turn r s y grows k.told (decoded-now v hold choice entries b grows k)
+    ∙ kept-turn (choice_at s.choices s.trace y.clock).turn y.request (is_in_window s.plan.bridge y.request.line)
+    (is_pending s.trace (turns_in (past_of r).moments) y.request.line (clock_of v)) (begun-reply r y.clock y.request begun) in
     reply-keeps (step_performed v) y (deferral_of_id y.request.did (step_performed v).bridge.waiting)
     ∙ sym (ap (λ t. not (is_keep t)) kept)
 
-defer-now : (v : BenchView) (hold : Bool) (choice : Choice) → IsBenchOf v
-    → GrowsTo v.run (step_run v hold choice)
-    → line_at DEFER (step_run v hold choice).trace (clock_of v) ≡ is_put_off (past_of (step_run v hold choice)) (clock_of v)
+defer-now : (v : BenchView) (hold : Bool) (choice : Choice) (entries : List Done) → IsBenchOf v
+    → DeferralsTold v (run_with v hold choice entries)
+    → GrowsTo v.run (run_with v hold choice entries)
+    → line_at DEFER (run_with v hold choice entries).trace (clock_of v) ≡ is_put_off (past_of (run_with v hold choice entries)) (clock_of v)
 unfolding is_put_off is_some_and
-defer-now v hold choice b grows =
-    let s = step_run v hold choice in
+defer-now v hold choice entries b told grows =
+    let s = run_with v hold choice entries in
     let n = clock_of v in
-    line-new v hold choice DEFER ∙ defer-driven (step_performed v) n v.run.plan.profile (step_decided v hold)
-    ∙ elim (snoop-cases v hold choice grows b.requests) [
+    line-with v hold choice entries DEFER ∙ defer-driven (step_performed v) n v.run.plan.profile (step_decided v hold)
+    ∙ elim (snoop-cases v hold choice entries grows b.requests) [
       | inr g ↦ ap defer_driven g.none ∙ sym (ap (λ o. is_some_and o (λ (x : SnoopEnd). not (is_keep x.turn))) g.quiet)
       | inl k ↦
-          ap defer_driven k.decided ∙ put-off-by v hold choice b grows k k.now.entry.who refl
+          ap defer_driven k.decided ∙ put-off-by v hold choice entries b told grows k k.now.entry.who refl
           ∙ sym (ap (λ o. is_some_and o (λ (x : SnoopEnd). not (is_keep x.turn))) k.told.is_end.there)
     ]
 
@@ -262,13 +258,13 @@ due-now r e t =
     (sym (snoop-rank r e t)) ∙ due-here r e t
 
 -- snoop lines are at snoop clocks alone
-pub lines-kept : (v : BenchView) (hold : Bool) (choice : Choice)
-    → GrowsTo v.run (step_run v hold choice) → HoldsRequests v.bus.queue v.run
-    → keeps_snoop_lines (step_run v hold choice) (clock_of v) ≡ true
+pub lines-kept : (v : BenchView) (hold : Bool) (choice : Choice) (entries : List Done)
+    → GrowsTo v.run (run_with v hold choice entries) → HoldsRequests v.bus.queue v.run
+    → keeps_snoop_lines (run_with v hold choice entries) (clock_of v) ≡ true
 unfolding keeps_snoop_lines
-lines-kept v hold choice grows f =
+lines-kept v hold choice entries grows f =
     let r = v.run in
-    let s = step_run v hold choice in
+    let s = run_with v hold choice entries in
     let n = clock_of v in
     let queue = v.bus.queue in
     let x = step_sample v hold in
@@ -285,9 +281,9 @@ lines-kept v hold choice grows f =
           let none = snooped-shut bus drive
           (ap (λ b. drive.stall || b) (no-snoop r.trace queue g) ∙ or-true drive.stall) in
           let off = no-stall r.trace queue g in
-          let hit = line-new v hold choice HIT ∙ hit-driven bus n r.plan.profile d
+          let hit = line-with v hold choice entries HIT ∙ hit-driven bus n r.plan.profile d
           ∙ (λ i. hit_driven (none i) (off i)) in
-          let hitm = line-new v hold choice HITM ∙ hitm-driven bus n r.plan.profile d
+          let hitm = line-with v hold choice entries HITM ∙ hitm-driven bus n r.plan.profile d
           ∙ (λ i. hitm_driven (none i) (off i)) in
           ap (λ b. is_snoop_clock s.trace n || not b) (λ i. hit i || hitm i) ∙ or-true (is_snoop_clock s.trace n)
     ]
@@ -296,24 +292,26 @@ lines-kept v hold choice grows f =
     or-true true = refl
     or-true false = refl
 
-pub hazards-now : (v : BenchView) (hold : Bool) (choice : Choice) → IsBenchOf v
-    → GrowsTo v.run (step_run v hold choice)
-    → drives_hazards (step_run v hold choice) (past_of (step_run v hold choice)) (clock_of v) ≡ true
+pub hazards-now : (v : BenchView) (hold : Bool) (choice : Choice) (entries : List Done) → IsBenchOf v
+    → DeferralsTold v (run_with v hold choice entries)
+    → GrowsTo v.run (run_with v hold choice entries)
+    → drives_hazards (run_with v hold choice entries) (past_of (run_with v hold choice entries)) (clock_of v) ≡ true
 unfolding drives_hazards drives_bnr drives_aerr drives_stalls drives_defer
-hazards-now v hold choice b grows =
-    let s = step_run v hold choice in
+hazards-now v hold choice entries b told grows =
+    let s = run_with v hold choice entries in
     let n = clock_of v in
     let f = b.requests in
     all5 (beq (line_at BNR s.trace n) (is_bnr_chosen s n)) (beq (line_at AERR s.trace n) (is_error_chosen s n))
     (beq (stalls_at s.trace n) (any_where (is_stall_chosen s n) (live_count s.trace)))
     (beq (line_at DEFER s.trace n) (is_put_off (past_of s) n)) (keeps_snoop_lines s n)
-    (beq-from _ _ (bnr-now v hold choice b.timely)) (beq-from _ _ (aerr-now v hold choice grows f))
-    (beq-from _ _ (stalls-now v hold choice grows f)) (beq-from _ _ (defer-now v hold choice b grows))
-    (lines-kept v hold choice grows f)
+    (beq-from _ _ (bnr-now v hold choice entries b.timely)) (beq-from _ _ (aerr-now v hold choice entries grows f))
+    (beq-from _ _ (stalls-now v hold choice entries grows f)) (beq-from _ _ (defer-now v hold choice entries b told grows))
+    (lines-kept v hold choice entries grows f)
 
 -- the hazard lines at the clock
-pub drives-hazards : (v : BenchView) (hold : Bool) (choice : Choice) → IsBenchOf v
-    → GrowsTo v.run (step_run v hold choice)
-    → holds_at drives_hazards (step_run v hold choice) (clock_of v) ≡ true
-drives-hazards v hold choice b grows =
-    holds-now drives_hazards v.run (step_run v hold choice) grows (hazards-now v hold choice b grows)
+pub drives-hazards : (v : BenchView) (hold : Bool) (choice : Choice) (entries : List Done) → IsBenchOf v
+    → DeferralsTold v (run_with v hold choice entries)
+    → GrowsTo v.run (run_with v hold choice entries)
+    → holds_at drives_hazards (run_with v hold choice entries) (clock_of v) ≡ true
+drives-hazards v hold choice entries b told grows =
+    holds-now drives_hazards v.run (run_with v hold choice entries) grows (hazards-now v hold choice entries b told grows)

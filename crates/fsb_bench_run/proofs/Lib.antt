@@ -1,4 +1,5 @@
 pub mod SampleBits
+pub mod RunWith
 pub mod DrivenLines
 pub mod ThisClock
 pub mod ResponsesDriven
@@ -8,4 +9,7 @@ pub mod SameBus
 pub mod SnoopDriven
 pub mod SnoopCases
 pub mod TurnCounted
+pub mod DeferralsTold
 pub mod HazardsDriven
+pub mod SnoopAnswers
+pub mod SnoopResult

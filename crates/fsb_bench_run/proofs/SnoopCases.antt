@@ -2,6 +2,7 @@
 use Rattle.std.proofs.Common.{ℕ, ◌≡◌, ◌&&◌, ◌||◌, Bool, true, false, not, Option, Some, None, List, length, is_none, refl, sym, ap, ◌∙◌, ◌⊎◌, inl, inr}
 use Rattle.std.specs.List.{slice_get}
 use Rattle.std.proofs.lemmas.Bool.{and_left, and_right, cases_Bool}
+use Rattle.fsb_access.specs.declared.log.Done.{Done}
 use Rattle.fsb_hazard.specs.declared.choice.Choice.{Choice}
 use Rattle.fsb_laws.specs.OneMore.{stalls}
 use Rattle.fsb_phase.specs.Due.{has_snoop}
@@ -12,32 +13,33 @@ use Rattle.fsb_timely.specs.Grants.{snooped_at}
 use Rattle.fsb_timely.specs.Growth.{GrowsTo}
 use Rattle.fsb_timely.specs.Runs.{past_of}
 use Rattle.fsb_phase_run.specs.Holds.{HoldsRequests}
-use Rattle.fsb_bench_view.specs.BenchSteps.{step_decided, step_drive, step_performed, step_run, step_sample}
+use Rattle.fsb_bench_view.specs.BenchSteps.{step_decided, step_drive, step_performed, step_sample}
 use Rattle.fsb_bench_view.specs.BusSnooping.{first_open, snooped_entry}
 use Rattle.fsb_bench_view.specs.BusViews.{BenchView, clock_of}
+use Rattle.fsb_bench_run.proofs.RunWith.{run_with}
 use Rattle.fsb_bench_run.proofs.SameBus.{same-performed}
 use Rattle.fsb_bench_run.proofs.SnoopDriven.{no-snoop, no-stall, snooped-open, snooped-shut, some-snoop, stalls-driven}
 use Rattle.fsb_bench_run.proofs.SnoopEntry.{IsSnoopedNow, SnoopsNow, ends-here, ends-told, no-end-told, snoops-now}
 
 -- the clock is the snoop end of the oldest entry without one
-pub record SnoopsHere (v : BenchView) (hold : Bool) (choice : Choice) : Type 0 where
+pub record SnoopsHere (v : BenchView) (hold : Bool) (choice : Choice) (entries : List Done) : Type 0 where
   pub now : SnoopsNow v.run v.bus.queue
   pub calm : (step_drive v).stall ≡ false
-  pub ends : ends_snoop_at (step_run v hold choice).trace (clock_of v) now.entry ≡ true
-  pub told : IsSnoopedNow (step_run v hold choice) (clock_of v) now.entry
+  pub ends : ends_snoop_at (run_with v hold choice entries).trace (clock_of v) now.entry ≡ true
+  pub told : IsSnoopedNow (run_with v hold choice entries) (clock_of v) now.entry
   pub decided : (step_decided v hold).snooped ≡ snooped_entry (step_performed v) now.entry now.entry.who
 
 -- the clock is no snoop end
-pub record SnoopsNone (v : BenchView) (hold : Bool) (choice : Choice) : Type 0 where
+pub record SnoopsNone (v : BenchView) (hold : Bool) (choice : Choice) (entries : List Done) : Type 0 where
   pub none : (step_decided v hold).snooped ≡ None
-  pub quiet : snooped_at (past_of (step_run v hold choice)) (clock_of v) ≡ None
+  pub quiet : snooped_at (past_of (run_with v hold choice entries)) (clock_of v) ≡ None
 
-pub snoop-cases : (v : BenchView) (hold : Bool) (choice : Choice)
-    (grows : GrowsTo v.run (step_run v hold choice)) → HoldsRequests v.bus.queue v.run
-    → SnoopsHere v hold choice ⊎ SnoopsNone v hold choice
-snoop-cases v hold choice grows f =
+pub snoop-cases : (v : BenchView) (hold : Bool) (choice : Choice) (entries : List Done)
+    (grows : GrowsTo v.run (run_with v hold choice entries)) → HoldsRequests v.bus.queue v.run
+    → SnoopsHere v hold choice entries ⊎ SnoopsNone v hold choice entries
+snoop-cases v hold choice entries grows f =
     let r = v.run in
-    let s = step_run v hold choice in
+    let s = run_with v hold choice entries in
     let n = clock_of v in
     let queue = v.bus.queue in
     let x = step_sample v hold in

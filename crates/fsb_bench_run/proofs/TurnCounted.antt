@@ -114,28 +114,3 @@ pub window-same : (o : Option Window) (line : ℕ) → is_covered o line ≡ is_
 unfolding is_in_window
 window-same None line = refl
 window-same (Some window) line = refl
-
--- a reply under way does not change whether a line is waited for
-with-reply-line : (did line : ℕ) (begun : Bool) (w : Waiting) → is_of_line line (with_reply did begun w) ≡ is_of_line line w
-with-reply-line did line begun w = elim (cases_Bool (is_of_id did w)) [ inl t ↦ rw t refl | inr f ↦ rw f refl ]
-
-mapped-line : (did line : ℕ) (begun : Bool) (list : List Waiting)
-    → is_waited_for line (map (with_reply did begun) list) ≡ is_waited_for line list
-mapped-line did line begun [] = refl
-mapped-line did line begun (w ∷ list) =
-    let head = with-reply-line did line begun w in
-    let rest = mapped-line did line begun list in λ i. head i || rest i
-
-started-line : (did line : ℕ) (who : Who) (list : List Waiting)
-    → is_waited_for line (waiting_started did who list) ≡ is_waited_for line list
-started-line did line (Symmetric a) list = refl
-started-line did line Priority list = mapped-line did line true list
-
-pub begun-line : (latest : Option Latest) (clock line : ℕ) (list : List Waiting)
-    → is_waited_for line (waiting_begun latest clock list) ≡ is_waited_for line list
-begun-line None clock line list = refl
-begun-line (Some last) clock line list =
-    elim (cases_Bool (is_latest_before clock last)) [
-      | inl t ↦ rw t (started-line last.request.did line last.who list)
-      | inr f ↦ rw f refl
-    ]
