@@ -1,6 +1,9 @@
 pub mod SampleBits
 pub mod RunWith
 pub mod DrivenLines
+pub mod NextRun
+pub mod BegunStays
+pub mod StepFields
 pub mod ThisClock
 pub mod ResponsesDriven
 pub mod SnoopEntry
@@ -13,3 +16,8 @@ pub mod DeferralsTold
 pub mod HazardsDriven
 pub mod SnoopAnswers
 pub mod SnoopResult
+pub mod AskedNow
+pub mod StartingNow
+pub mod LatestNext
+pub mod LockedStarts
+pub mod StartedNext
