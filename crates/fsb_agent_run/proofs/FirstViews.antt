@@ -1,5 +1,5 @@
 -- The view of an agent before any event is that of the run at its first clock.
-use Rattle.std.proofs.Common.{ℕ, zero, suc, ◌+◌, ◌≡◌, Bool, true, false, not, ◌&&◌, List, [], ◌∷◌, Option, Some, None, replicate, get_or, nat_eq, nat_lt, refl, sym, ap, ◌∙◌, arith}
+use Rattle.std.proofs.Common.{ℕ, zero, suc, ◌+◌, ◌≡◌, Bool, true, false, not, ◌&&◌, List, [], ◌∷◌, Option, Some, None, replicate, get_or, nat_eq, nat_lt, ◌%◌, length, refl, sym, ap, ◌∙◌, arith}
 use Rattle.std.specs.List.{list_any, slice_get}
 use Rattle.std.specs.Option.{option_map, option_map_or}
 use Rattle.std.proofs.lemmas.Bool.{and_right, le-ltb}
@@ -11,14 +11,14 @@ use Rattle.fsb_cache.specs.declared.held.Held.{Held}
 use Rattle.fsb_cache.specs.Sets.{held_at, states}
 use Rattle.fsb_line.specs.declared.state.Mesi.TheVariants.{Invalid}
 use Rattle.fsb_timely.specs.Past.{Past}
-use Rattle.fsb_timely.specs.Grants.{holds_line, is_exclusive}
+use Rattle.fsb_timely.specs.Grants.{holds_line, is_exclusive, latest_grant}
 use Rattle.fsb_timely.specs.Scripts.{idle_clocks, idle_start, is_done_by, is_idle, is_logged, is_to_do, items_of, last_done, next_number, number_after}
 use Rattle.fsb_timely.specs.Wants.{outstanding_at, owed}
 use Rattle.fsb_coherent.specs.Relation.{is_dirty_below}
 use Rattle.fsb_agent_view.specs.AgentEvents.{first_view}
 use Rattle.fsb_agent_view.specs.AgentViews.{AgentView, line_state_by}
 use Rattle.fsb_agent_view.specs.Idling.{idle_from, place_from}
-use Rattle.fsb_agent_run.specs.RunViews.{finished_by, idle_end, place_of, state_told}
+use Rattle.fsb_agent_run.specs.RunViews.{finished_by, idle_end, is_awaited, one_if, place_of, state_told}
 use Rattle.fsb_agent_run.specs.Stages.{IsViewOf}
 use Rattle.fsb_agent_run.proofs.IdleItems.{idles-from, next-from}
 use Rattle.fsb_agent_run.proofs.Places.{done-before}
@@ -83,6 +83,10 @@ invalid : (p : Past) (a line : ℕ) → line_state_by (first_of p a) line ≡ In
 unfolding states held_at
 invalid p a line = rw (none-in p.plan.cache _) refl
 
+unawaited : (p : Past) (a line : ℕ) → is_awaited p a line 0 0 ≡ false
+unfolding is_awaited latest_grant last_where is_some_and
+unawaited p a line = refl
+
 none-owed : (p : Past) (a : ℕ) → owed p a 0 ≡ []
 unfolding owed outstanding_at
 none-owed p a = refl
@@ -105,10 +109,12 @@ first-of p a = record {
     states = λ line.
         invalid p a line
         ∙ ap (λ b. state_told b (is_exclusive p a line 0) (is_dirty_below p a line 0)) (sym (unheld p a line));
-    come = λ line held. absurd (let e = sym (unheld p a line) ∙ held in cc e);
+    fills = λ line. ap one_if (sym (unawaited p a line));
+    in_sets = λ line. rw (none-in p.plan.cache (line % length (replicate {A = Option Held} p.plan.cache None))) refl;
   };
   requests = record {
     owed = sym (none-owed p a);
     wanted = λ k out e. absurd (let no : ⊥ = cc in no);
+    kept = λ k out e. absurd (let no : ⊥ = cc in no);
   };
 }

@@ -1,5 +1,5 @@
 -- The lines of a cache after the accesses of an item: what is stored into is Modified, and all else stays.
-use Rattle.std.proofs.Common.{ℕ, ◌<◌, ◌≡◌, ◌/◌, Bool, true, false, not, ◌&&◌, ◌||◌, List, [], ◌∷◌, length, refl, sym, ap, ◌∙◌, inl, inr, if◌then◌else◌, nat_eq}
+use Rattle.std.proofs.Common.{ℕ, ◌<◌, ◌≡◌, ◌/◌, Bool, true, false, not, ◌&&◌, ◌||◌, List, [], ◌∷◌, length, refl, sym, ap, ◌∙◌, inl, inr, if◌then◌else◌, nat_eq, arith}
 use Rattle.std.specs.Prelude.{◌==◌}
 use Rattle.std.specs.List.{list_all, list_any}
 use Rattle.std.proofs.lemmas.Bool.{and_parts, cases_Bool, eqb-true, or_left}
@@ -62,9 +62,16 @@ pub state-after : (hand : AtHand) (steps : List Step) (line : ℕ)
     → list_all (λ (step : Step). may_store hand.lines step.access) steps ≡ true
     → states (hand_after_steps hand steps).lines line
     ≡ (if list_any (λ (step : Step). stores_into line step.access) steps then Modified else states hand.lines line)
+unfolding is_load stores_into may_store
 state-after hand [] line may = refl
-state-after hand (step ∷ steps) line may = by step.access refl
+state-after hand (step ∷ steps) line may = by step.access refl (λ next rest. state-after next steps line rest)
   where
+    Rest : Type 0
+    Rest =
+        (next : AtHand) → list_all (λ (s : Step). may_store next.lines s.access) steps ≡ true
+        → states (hand_after_steps next steps).lines line
+        ≡ (if list_any (λ (s : Step). stores_into line s.access) steps then Modified else states next.lines line)
+
     parts : (may_store hand.lines step.access ≡ true)
         × (list_all (λ (s : Step). may_store hand.lines s.access) steps ≡ true)
     parts = and_parts _ _ may
@@ -73,15 +80,14 @@ state-after hand (step ∷ steps) line may = by step.access refl
     whole here =
         if here || list_any (λ (s : Step). stores_into line s.access) steps then Modified else states hand.lines line
 
-    by : (access : Access) → step.access ≡ access
+    by : (access : Access) → step.access ≡ access → Rest
         → states (hand_after_steps (hand_after hand step.access) steps).lines line
         ≡ whole (stores_into line step.access)
-    unfolding is_load stores_into may_store
-    by (Load size addr) e =
+    by (Load size addr) e go =
         ap (λ a. states (hand_after_steps (hand_after hand a) steps).lines line) e
-        ∙ state-after (hand_after hand (Load size addr)) steps line parts.1
+        ∙ go (hand_after hand (Load size addr)) parts.1
         ∙ sym (ap (λ (a : Access). whole (stores_into line a)) e)
-    by (Store size addr value) e =
+    by (Store size addr value) e go =
         let after = hand_after hand (Store size addr value) in
         let held : is_held (states hand.lines (addr / 32)) ≡ true = rw e at parts.0 in
         let told : (other : ℕ)
@@ -92,7 +98,7 @@ state-after hand (step ∷ steps) line may = by step.access refl
         (λ s m. still hand.lines after.lines (addr / 32) s.access told m) parts.1 in
         let later = list_any (λ (s : Step). stores_into line s.access) steps in
         ap (λ a. states (hand_after_steps (hand_after hand a) steps).lines line) e
-        ∙ state-after after steps line rest
+        ∙ go after rest
         ∙ ap (λ m. if later then Modified else m) (told line ∙ flip line (addr / 32) Modified (states hand.lines line))
         ∙ joined (addr / 32 == line) later (states hand.lines line)
         ∙ sym (ap (λ (a : Access). whole (stores_into line a)) e)

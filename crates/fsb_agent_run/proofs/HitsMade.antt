@@ -79,7 +79,7 @@ brings-here p a c line owns need t k l e =
     ap (λ b. b || not need.alone) (sym (ap (λ (g : Grant). g.owns) same ∙ k.owning)) ∙ ends.1 in
     and_from (nat_eq need.line line) (owns || not need.alone) (eq-eqb need.line line of_line) owning
 
-brought-by : (p : Past) (a c line : ℕ) (owns : Bool) (need : Need) → IsComing p a c line owns
+pub brought-by : (p : Past) (a c line : ℕ) (owns : Bool) (need : Need) → IsComing p a c line owns
     → is_brought p a c need ≡ is_brought_by line owns need
 unfolding is_brought
 brought-by p a c line owns need k = elim (cases_Bool (is_brought_by line owns need)) [

@@ -89,7 +89,7 @@ pub state-of-slot : (line : ℕ) (held : Held) → state_of_held (only_line line
 state-of-slot line held = elim (cases_Bool (held.line == line)) [ inl on ↦ rw on refl | inr off ↦ rw off refl ]
 
 -- the line whose set has it is changed as it stands, and no other
-kept-line : (sets : CacheSets) (line other : ℕ) (held after : Held) → 0 < length sets → slot_of sets line ≡ Some held
+pub kept-line : (sets : CacheSets) (line other : ℕ) (held after : Held) → 0 < length sets → slot_of sets line ≡ Some held
     → held.line ≡ line → after.line ≡ held.line
     → states (with_slot sets line (Some after)) other ≡ (if other == line then after.state else states sets other)
 kept-line sets line other held after some e is keeps =

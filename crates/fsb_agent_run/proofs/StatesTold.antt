@@ -1,16 +1,21 @@
 -- What a view tells of a line: whether the agent holds it, has it alone, is dirty on it, and what it answers.
-use Rattle.std.proofs.Common.{ℕ, ◌+◌, ◌≡◌, Bool, true, false, not, ◌&&◌, ◌||◌, refl, ap, ◌∙◌, if◌then◌else◌}
+use Rattle.std.proofs.Common.{ℕ, ◌+◌, ◌≡◌, Bool, true, false, not, ◌&&◌, ◌||◌, Some, nat_eq, refl, sym, ap, ◌∙◌, if◌then◌else◌}
+use Rattle.std.specs.Option.{option_and_then}
+use Rattle.fsb_count.specs.Options.{is_some_and}
 use Rattle.fsb_line.specs.declared.state.Answer.TheVariants as answers
 use Rattle.fsb_line.specs.States.{answer_of, is_held, is_modified, is_sole}
-use Rattle.fsb_timely.specs.Past.{Past}
-use Rattle.fsb_timely.specs.Grants.{has_arrived, holds_line, is_exclusive, is_ready}
+use Rattle.fsb_timely.specs.Past.{Grant, Past}
+use Rattle.fsb_timely.specs.Grants.{grant_at, has_arrived, holds_line, is_ended, is_exclusive, is_granted, is_ready, latest_grant}
 use Rattle.fsb_timely.specs.Scripts.{Need}
 use Rattle.fsb_timely.specs.Hits.{is_dirty, is_met, is_served}
 use Rattle.fsb_timely.specs.Completions.{is_there}
 use Rattle.fsb_agent_view.specs.AgentViews.{AgentView, answer_by, has_come, is_met_by, is_served_by, line_state_by}
-use Rattle.fsb_agent_run.specs.RunViews.{HasLinesOf, state_told}
+use Rattle.fsb_timely.proofs.Interface.{holds_line-says, last_where-found, last_where-from}
+use Rattle.fsb_coherent.proofs.Interface.{some-there}
+use Rattle.fsb_agent_run.specs.RunViews.{HasLinesOf, is_awaited, state_told}
+use Rattle.fsb_agent_run.proofs.FillCounts.{come-count}
 
-held-told : (held alone dirty : Bool) → is_held (state_told held alone dirty) ≡ held
+pub held-told : (held alone dirty : Bool) → is_held (state_told held alone dirty) ≡ held
 held-told false alone dirty = refl
 held-told true false dirty = refl
 held-told true true false = refl
@@ -73,6 +78,26 @@ met-by p a n c dirty v need h =
     let sole = sole-by p a n c dirty v need.line h in
     λ i. held i && (not need.alone || sole i)
 
+-- of a line that is held the bytes have come where the end of its latest grant has
+not-twice : (b : Bool) → not (not b) ≡ b
+not-twice true = refl
+not-twice false = refl
+
+pub come-by : (p : Past) (a n c : ℕ) (dirty : ℕ → Bool) (v : AgentView) (line : ℕ) → HasLinesOf p a n c dirty v
+    → holds_line p a line n ≡ true → has_come v line ≡ has_arrived p a line n c
+unfolding is_awaited has_arrived latest_grant is_granted is_some_and
+come-by p a n c dirty v line h held =
+    let since = holds_line-says p a line n held in
+    let last = last_where-from (is_granted p a line) n since.at since.before since.granted in
+    let passes = (last_where-found (is_granted p a line) n last.0 last.1).1 in
+    let grant = some-there (grant_at p last.0)
+    (λ (g : Grant). nat_eq g.agent a && nat_eq g.line line) passes in
+    let latest : latest_grant p a line n ≡ Some grant.0 = ap (option_and_then (grant_at p)) last.1 ∙ grant.1 in
+    come-count line v.buffers.fills (is_awaited p a line n c) (h.fills line)
+    ∙ ap (λ o. not (is_some_and o (λ g. not (is_ended p c g.first)))) latest
+    ∙ not-twice (is_ended p c grant.0.first)
+    ∙ sym (ap (λ o. is_some_and o (λ g. is_ended p c g.first)) latest)
+
 -- and it serves, where no bytes are on their way
 served-when : (x y come arrived : Bool) → (x ≡ true → come ≡ arrived) → ((x && y) && come) ≡ ((x && y) && arrived)
 served-when false y come arrived h = refl
@@ -86,7 +111,7 @@ served-at p a n c dirty v need h =
     let met = met-by p a n c dirty v need h in
     (λ i. met i && has_come v need.line)
     ∙ served-when (holds_line p a need.line n) _ (has_come v need.line) (has_arrived p a need.line n c)
-    (h.come need.line)
+    (come-by p a n c dirty v need.line h)
 
 pub served-by : (p : Past) (a c : ℕ) (dirty : ℕ → Bool) (v : AgentView) (need : Need) → HasLinesOf p a c c dirty v
     → is_served_by v need ≡ is_served p a c need

@@ -12,7 +12,6 @@ use Rattle.fsb_timely.specs.Hits.{is_dirty}
 use Rattle.fsb_timely.specs.Wants.{is_same_set, victim_of}
 use Rattle.fsb_tied.proofs.Interface.{a-victim, no-victim, rival-other, rival-set}
 use Rattle.fsb_agent_view.specs.AgentViews.{AgentView, line_state_by}
-use Rattle.fsb_agent_view.specs.Sound.{IsSound}
 use Rattle.fsb_agent_view.specs.Wanting.{dirty_other, victim_by}
 use Rattle.fsb_agent_run.specs.RunViews.{HasLinesOf, IsAgentOf}
 use Rattle.fsb_agent_run.proofs.StatesTold.{dirty-holds, modified-told}
@@ -58,14 +57,14 @@ named p a c v line other is h rival dirty =
     ap (dirty_other line) slot ∙ dirty-other line there.0 apart there.3 ∙ ap Some there.2
 
 -- what a set has, and is another line and Modified, is a dirty rival
-unnamed : (p : Past) (a c : ℕ) (v : AgentView) (line : ℕ) (held : Held) → IsSound v → IsAgentOf p a v
+unnamed : (p : Past) (a c : ℕ) (v : AgentView) (line : ℕ) (held : Held) → IsAgentOf p a v
     → HasLinesOf p a c c (λ line. is_dirty p a line c) v → slot_of v.lines line ≡ Some held
     → (not (held.line == line) && is_modified held.state) ≡ true
     → (is_rival p line held.line ≡ true) × (is_dirty p a held.line c ≡ true)
 unfolding states held_at is_rival set_of
-unnamed p a c v line held s is h slot e =
+unnamed p a c v line held is h slot e =
     let parts = and_parts (not (held.line == line)) (is_modified held.state) e in
-    let here : held.line % length v.lines ≡ line % length v.lines = eqb-true _ _ (rw slot at (s.in_sets line)) in
+    let here : held.line % length v.lines ≡ line % length v.lines = eqb-true _ _ (rw slot at (h.in_sets line)) in
     let same_slot : slot_of v.lines held.line ≡ Some held = ap (λ k. slice_index_or v.lines k None) here ∙ slot in
     let state : line_state_by v held.line ≡ held.state = rw (same_slot, eq-eqb held.line held.line refl) refl in
     let dirty : is_dirty p a held.line c ≡ true = sym (modified-by p a c v held.line h) ∙ ap is_modified state
@@ -80,9 +79,9 @@ unnamed p a c v line held s is h slot e =
       dirty,
     )
 
-pub victim-by : (p : Past) (a c : ℕ) (v : AgentView) (line : ℕ) → IsSound v → IsAgentOf p a v
+pub victim-by : (p : Past) (a c : ℕ) (v : AgentView) (line : ℕ) → IsAgentOf p a v
     → HasLinesOf p a c c (λ line. is_dirty p a line c) v → victim_by v line ≡ victim_of p a c line
-victim-by p a c v line s is h = by (victim_of p a c line) refl
+victim-by p a c v line is h = by (victim_of p a c line) refl
   where
     clean : victim_of p a c line ≡ None → (slot : Option Held) → slot_of v.lines line ≡ slot
         → dirty_other line slot ≡ None
@@ -90,7 +89,7 @@ victim-by p a c v line s is h = by (victim_of p a c line) refl
     clean e (Some held) f =
         let none : (not (held.line == line) && is_modified held.state) ≡ false =
         false_from_ne_true (not (held.line == line) && is_modified held.state) (λ t.
-        let rival = unnamed p a c v line held s is h f t in
+        let rival = unnamed p a c v line held is h f t in
         both_ways (is_dirty p a held.line c) (no-victim p a c line e held.line rival.0) rival.1) in
         rw none refl
 

@@ -16,7 +16,6 @@ use Rattle.fsb_timely.specs.Wants.{free_id, id_of, is_asked_for, is_id_used, is_
 use Rattle.fsb_agent_view.specs.declared.want.OwnRequest.{OwnRequest}
 use Rattle.fsb_agent_view.specs.declared.want.Want.{Want}
 use Rattle.fsb_agent_view.specs.AgentViews.{AgentView, is_idle_by}
-use Rattle.fsb_agent_view.specs.Sound.{IsSound}
 use Rattle.fsb_agent_view.specs.Wanting.{free_id_by, is_id_used_by, is_missing_by, is_silent_by, is_taken_by, kind_by, missing_by, victim_by, want_by, want_for_by}
 use Rattle.fsb_agent_run.specs.RunViews.{HasLinesOf, HasRequestsOf, IsAgentOf, owing_by}
 use Rattle.fsb_agent_run.specs.Stages.{IsViewAfterHit}
@@ -30,15 +29,15 @@ any-mapped : (a : ℕ) (f : Owing → Bool) (outs : List OwnRequest)
 any-mapped a f [] = refl
 any-mapped a f (out ∷ outs) = ap (λ b. f (owing_by a out) || b) (any-mapped a f outs)
 
-any-owed : (p : Past) (a c : ℕ) (v : AgentView) (f : Owing → Bool) → HasRequestsOf p a c v
+any-owed : (p : Past) (a c : ℕ) (v : AgentView) (f : Owing → Bool) → HasRequestsOf p a c (owed p a c) v
     → list_any (λ out. f (owing_by a out)) v.outs ≡ list_any f (owed p a c)
 any-owed p a c v f h = any-mapped a f v.outs ∙ ap (list_any f) h.owed
 
-length-owed : (p : Past) (a c : ℕ) (v : AgentView) → HasRequestsOf p a c v → length v.outs ≡ length (owed p a c)
+length-owed : (p : Past) (a c : ℕ) (v : AgentView) → HasRequestsOf p a c (owed p a c) v → length v.outs ≡ length (owed p a c)
 length-owed p a c v h = sym (length-map v.outs (owing_by a)) ∙ ap length h.owed
 
 -- the set of a line is taken
-taken-by : (p : Past) (a c : ℕ) (v : AgentView) (lines : List ℕ) (line : ℕ) → IsAgentOf p a v → HasRequestsOf p a c v
+taken-by : (p : Past) (a c : ℕ) (v : AgentView) (lines : List ℕ) (line : ℕ) → IsAgentOf p a v → HasRequestsOf p a c (owed p a c) v
     → is_taken_by v lines line ≡ is_set_taken p (owed p a c) lines line
 unfolding is_set_taken is_same_set set_of
 taken-by p a c v lines line is h =
@@ -50,7 +49,7 @@ taken-by p a c v lines line is h =
 
 -- a line may be asked for
 missing-of : (p : Past) (a c : ℕ) (dirty : ℕ → Bool) (v : AgentView) (need : Need) → IsAgentOf p a v
-    → HasLinesOf p a c c dirty v → HasRequestsOf p a c v
+    → HasLinesOf p a c c dirty v → HasRequestsOf p a c (owed p a c) v
     → is_missing_by v need ≡ is_missing p a c (owed p a c) need
 unfolding is_missing is_asked_for
 missing-of p a c dirty v need is lines h =
@@ -60,7 +59,7 @@ missing-of p a c dirty v need is lines h =
     λ i. not (met i) && not (asked i) && not (taken i)
 
 -- the ID
-free-id : (p : Past) (a c : ℕ) (v : AgentView) → IsAgentOf p a v → HasRequestsOf p a c v
+free-id : (p : Past) (a c : ℕ) (v : AgentView) → IsAgentOf p a v → HasRequestsOf p a c (owed p a c) v
     → free_id_by v ≡ free_id a (owed p a c)
 unfolding free_id is_id_used
 free-id p a c v is h =
@@ -97,12 +96,12 @@ request-for : (victim : Option ℕ) (v : AgentView) (need : Need)
 request-for None v need = refl
 request-for (Some victim) v need = refl
 
-want-for : (p : Past) (a c : ℕ) (v : AgentView) (need : Need) → IsSound v → IsAgentOf p a v
-    → HasLinesOf p a c c (λ line. is_dirty p a line c) v → HasRequestsOf p a c v
+want-for : (p : Past) (a c : ℕ) (v : AgentView) (need : Need) → IsAgentOf p a v
+    → HasLinesOf p a c c (λ line. is_dirty p a line c) v → HasRequestsOf p a c (owed p a c) v
     → (want_for_by v need).request ≡ want_for p a c (owed p a c) need
 unfolding want_for
-want-for p a c v need s is lines h =
-    let victim = victim-by p a c v need.line s is lines in
+want-for p a c v need is lines h =
+    let victim = victim-by p a c v need.line is lines in
     let kind = kind-of p a c (λ line. is_dirty p a line c) v need is lines in
     let did = free-id p a c v is h in
     request-for (victim_by v need.line) v need
@@ -144,19 +143,19 @@ hit-busy : (p : Past) (a c : ℕ) → is_hit p a c ≡ true → is_idling p a c 
 unfolding is_hit
 hit-busy p a c e = not-true (is_idling p a c) (and_parts (not (is_idling p a c)) _ e).0
 
-pub want-by : (p : Past) (a c : ℕ) (v : AgentView) → IsSound v → IsViewAfterHit p a c v
+pub want-by : (p : Past) (a c : ℕ) (v : AgentView) → IsViewAfterHit p a c v
     → option_map (λ (want : Want). want.request) (want_by v c) ≡ want_of p a c
 unfolding want_of window
-want-by p a c v s h =
+want-by p a c v h =
     let dirty : ℕ → Bool = λ line. is_dirty p a line c in
-    let items = window-by p a c (is_hit p a c) v h.agent h.placed in
-    let idle = idle-by p a c (is_hit p a c) v h.placed (hit-busy p a c) in
+    let items = window-by p a c (is_hit p a c) v h.agent h.placed.item in
+    let idle = idle-by p a c (is_hit p a c) v h.placed.item (hit-busy p a c) in
     let ahead = h.agent.ahead in
     let size = length-owed p a c v h.requests in
     let missing : (need : Need) → is_missing_by v need ≡ is_missing p a c (owed p a c) need =
     λ need. missing-of p a c dirty v need h.agent h.lines h.requests in
     let want : (need : Need) → (want_for_by v need).request ≡ want_for p a c (owed p a c) need =
-    λ need. want-for p a c v need s h.agent h.lines h.requests in
+    λ need. want-for p a c v need h.agent h.lines h.requests in
     request-if (is_silent_by v c) (missing_by v c) (want_for_by v)
     ∙ (λ i. elim (is_idle_by v c || nat_le (ahead i) (size i)) [
       | true ↦ None

@@ -104,9 +104,10 @@ end_events_of p a c bytes q = option_map_or (ended_events p a c bytes) (snoop_en
 -- numbers of their requests
 unfoldable pub events_of_agent : Past → ℕ → ℕ → (ℕ → List ℕ) → List AgentEvent
 events_of_agent p a c bytes =
-    handed_events p a c ++ Performed c ∷ [] ++ sent_events p a c ++ cancelled_events p a c
-    ++ option_map_or (snoop_events_of p a c) (snooped_at p c) []
-    ++ flat_map (end_events_of p a c bytes) (ended_requests p c)
+    handed_events p a c
+    ++ (Performed c ∷ (sent_events p a c
+    ++ (cancelled_events p a c
+    ++ (option_map_or (snoop_events_of p a c) (snooped_at p c) [] ++ flat_map (end_events_of p a c bytes) (ended_requests p c)))))
 
 -- what happens to agent a below clock n of a run, in order
 unfoldable pub events_of_agent_below : Past → ℕ → ℕ → (ℕ → List ℕ) → List AgentEvent

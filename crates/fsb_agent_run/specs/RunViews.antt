@@ -1,8 +1,10 @@
 -- What an agent's record has of a run: of its script, of its lines, and of its requests.
-use Rattle.std.specs.Prelude.{◌≡◌, ◌<◌, ◌≤◌, ℕ, ◌+◌, ◌&&◌, Bool, true, false, not, if◌then◌else◌, List, length, map, count_by, Option, Some, is_some, slice_get}
+use Rattle.std.specs.Prelude.{◌≡◌, ◌<◌, ◌≤◌, ℕ, ◌+◌, ◌&&◌, Bool, true, false, not, if◌then◌else◌, List, length, map, count_by, Option, Some, is_some, nat_eq, slice_get}
+use Rattle.std.specs.List.{filter}
 use Rattle.std.specs.Option.{option_map, option_map_or}
 use Rattle.fsb_access.specs.declared.item.Item.{Item}
 use Rattle.fsb_access.specs.declared.log.Done.{Done}
+use Rattle.fsb_access.specs.ScriptOrder.{steps_of, steps_of_item}
 use Rattle.fsb_cache.specs.Sets.{slot_of}
 use Rattle.fsb_count.specs.Options.{is_some_and}
 use Rattle.fsb_line.specs.declared.state.Mesi.{Mesi}
@@ -12,7 +14,7 @@ use Rattle.fsb_timely.specs.Past.{Grant, Owing, Past}
 use Rattle.fsb_timely.specs.Grants.{grant_at, holds_line, is_end_at, is_ended, is_evicted, is_exclusive, latest_grant}
 use Rattle.fsb_timely.specs.Hits.{is_dirty}
 use Rattle.fsb_timely.specs.Moments.{is_upgraded}
-use Rattle.fsb_timely.specs.Scripts.{idle_clocks, idle_start, is_logged, is_logged_at, items_of, last_done, next_number, number_after}
+use Rattle.fsb_timely.specs.Scripts.{idle_clocks, idle_start, is_logged, is_logged_at, items_of, last_done, next_item, next_number, number_after}
 use Rattle.fsb_timely.specs.Wants.{want_of}
 use Rattle.fsb_coherent.specs.Awaits.{snoop_end_below}
 use Rattle.fsb_agent_view.specs.declared.want.Finished.{Finished}
@@ -136,3 +138,11 @@ pub record IsComing (p : Past) (a c line : ℕ) (owns : Bool) : Type 0 where
   pub ends : is_end_at p c grant.first ≡ true
   pub only : (t : ℕ) (other : Grant) → t ≤ c → grant_at p t ≡ Some other → other.agent ≡ a
       → is_end_at p c other.first ≡ true → t ≡ at
+
+-- agent a completes its next item at c, and its entries of c are the accesses of that item
+pub record LogsItem (p : Past) (a c : ℕ) : Type 0 where
+  pub number : ℕ
+  pub item : Item
+  pub completes : CompletesItem p a c number
+  pub next : next_item p a c ≡ Some item
+  pub steps : steps_of a (filter (λ done. nat_eq done.clock c) p.log) ≡ steps_of_item number item

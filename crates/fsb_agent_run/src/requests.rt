@@ -4,10 +4,8 @@ ghost use Rattle.std.specs.Prelude.{◌≡◌, ◌<◌, ◌≤◌, ◌⊎◌, �
 ghost use Rattle.fsb_line.specs.States.{kind_owns};
 ghost use Rattle.fsb_timely.specs.Completions.{is_arrival};
 ghost use Rattle.fsb_timely.specs.Hits.{is_hit};
-ghost use Rattle.fsb_timely.specs.Past.{Grant, Owing, SnoopEnd};
-ghost use Rattle.fsb_timely.specs.Grants.{grant_at, is_ended};
+ghost use Rattle.fsb_timely.specs.Past.{Grant, SnoopEnd};
 ghost use Rattle.fsb_timely.specs.Runs.{Run, past_of};
-ghost use Rattle.fsb_timely.specs.Scripts.{next_number};
 ghost use Rattle.fsb_timely.specs.Wants.{owed};
 ghost use Rattle.fsb_run_laws.specs.Reaches.{Reaches};
 ghost use Rattle.fsb_agent_view.specs.AgentViews.{AgentView};
@@ -16,7 +14,7 @@ ghost use Rattle.fsb_agent_view.specs.OwnRequests.{request_numbered};
 ghost use Rattle.fsb_agent_view.specs.Snooping.{kind_asks};
 ghost use Rattle.fsb_agent_run.specs.Ending.{EndsFor};
 ghost use Rattle.fsb_agent_run.specs.Owings.{are_owings_apart};
-ghost use Rattle.fsb_agent_run.specs.RunViews.{CompletesItem, IsComing};
+ghost use Rattle.fsb_agent_run.specs.RunViews.{IsComing, LogsItem};
 ghost use Rattle.fsb_agent_run.specs.Stages.{IsViewAfterSnoop, owed_sent};
 
 /// Each two outstanding requests of an agent of a timely run have different first clocks, different
@@ -34,11 +32,12 @@ pub fn agents_owe_few()
         length (owed (past_of r) a n) ≤ r.plan.ahead }
 {}
 
-/// An agent of a timely run that has a hit or an arrival at a clock completes its next item there.
+/// An agent of a timely run that has a hit or an arrival at a clock completes its next item there,
+/// and its entries of the clock are the accesses of that item.
 pub fn completions_are_of_items()
     ensures { (r : Run) (a c : ℕ) → Reaches r (c + 1) → a < 4 →
         (is_hit (past_of r) a c ≡ true) ⊎ (is_arrival (past_of r) a c ≡ true) →
-        (number : ℕ) × CompletesItem (past_of r) a c number }
+        LogsItem (past_of r) a c }
 {}
 
 /// Where a request of an agent ends at a clock of a timely run, and it was granted, its line comes

@@ -3,7 +3,8 @@
 ghost use Rattle.std.specs.Prelude.{◌≡◌, ◌≢◌, ◌<◌, ◌⊎◌, ℕ, ◌+◌, Bool, List, [], None, Some, false, true};
 ghost use Rattle.fsb_encode.specs.declared.request.Request.{Request};
 ghost use Rattle.fsb_trace.specs.declared.outcome.Outcome.TheVariants.{Deferred, Retried, Upgraded, Written};
-ghost use Rattle.fsb_timely.specs.Past.{Claim, Grant, SnoopEnd};
+ghost use Rattle.fsb_timely.specs.Hits.{is_hit};
+ghost use Rattle.fsb_timely.specs.Past.{Claim, Grant, Past, SnoopEnd};
 ghost use Rattle.fsb_timely.specs.Grants.{begun_at, ended_requests, is_end_at, snooped_at};
 ghost use Rattle.fsb_timely.specs.Runs.{Run, past_of};
 ghost use Rattle.fsb_timely.specs.Wants.{want_of};
@@ -16,13 +17,17 @@ ghost use Rattle.fsb_agent_view.specs.Snooping.{committed};
 ghost use Rattle.fsb_agent_view.specs.Wanting.{sent};
 ghost use Rattle.fsb_agent_run.specs.AgentClocks.{number_asked};
 ghost use Rattle.fsb_agent_run.specs.Ending.{EndsFor, NothingEndsFor};
+ghost use Rattle.fsb_agent_run.specs.RunViews.{LogsItem};
 ghost use Rattle.fsb_agent_run.specs.Stages.{IsViewAfterHit, IsViewAfterSent, IsViewAfterSnoop, IsViewBeforeSnoop, IsViewOf};
 
 /// A clock finds an agent as before where the agent hands on bytes there; and with the agent's hit,
-/// if it has one, the view is that after the hits.
+/// if it has one, the view is that after the hits. Of the clock itself no more has to be known than
+/// that the entries of a hit are those of the next item, as they are in a timely run.
 pub fn hits_lead_on()
     ensures handed { (r : Run) (a c number : ℕ) (v : AgentView) → IsViewOf (past_of r) a c v →
         IsViewOf (past_of r) a c (handed_on v number) }
+    ensures logged { (p : Past) (a c : ℕ) (v : AgentView) → IsViewOf p a c v →
+        (is_hit p a c ≡ true → LogsItem p a c) → IsViewAfterHit p a c (performed v c) }
     ensures hit { (r : Run) (a c : ℕ) (v : AgentView) → Reaches r (c + 1) → a < 4 →
         IsViewOf (past_of r) a c v → IsViewAfterHit (past_of r) a c (performed v c) }
 {}
@@ -97,7 +102,7 @@ pub fn snoop_ends_of_others_lead_on()
 pub fn ends_lead_on()
     ensures arrived { (r : Run) (a c number : ℕ) (s : SnoopEnd) (grant : Grant) (bytes : List ℕ)
         (v : AgentView) → Reaches r (c + 1) → 0 < r.plan.cache → a < 4 →
-        EndsFor (past_of r) a c number s → s.grant ≡ Some grant → s.outcome ≢ Upgraded →
+        EndsFor (past_of r) a c number s → s.grant ≡ Some grant →
         IsViewAfterSnoop (past_of r) a c v →
         IsViewOf (past_of r) a (c + 1) (line_arrived v c number bytes) }
     ensures upgraded { (r : Run) (a c number : ℕ) (s : SnoopEnd) (v : AgentView) →

@@ -42,14 +42,14 @@ agree true false d e f h = refl
 agree true true false e f h = refl
 agree true true true e f h = let k = h refl refl refl in rw (k.0, k.1) refl
 
-ended : (w : Trace) (turns : List ℕ) (c i : ℕ) → RespondsInOrder w → is_settled_deferred w turns i ≡ true → is_over w turns c i ≡ true → is_before (snoop_end_of w i) c ≡ true
+ended : (w : Trace) (turns : List ℕ) (c i : ℕ) → RespondsInOrder w c → is_settled_deferred w turns i ≡ true → is_over w turns c i ≡ true → is_before (snoop_end_of w i) c ≡ true
 ended w turns c i o a b =
     let end = is_settled_deferred-ended w turns i a in
     let s : ℕ = end.0 in
     let response = is_some_and-parts (response_clock_of w i) _ b in
     let r : ℕ = response.0 in
     let wait : r + 1 + later_of (slice_index turns i) ≤ c = leb-true _ c response.2 in
-    let order : s ≤ r = o.after i s r end.1 response.1 in
+    let order : s ≤ r = o.after i s r end.1 response.1 (omega arith) in
     is_before-from (snoop_end_of w i) s c end.1 (omega arith)
 
 unanswered : (w : Trace) (c i : ℕ) → not (is_answered w c i) ≡ true → not (is_before (option_and_then (snoop_end_of w) (reply_number_of w i)) c) ≡ true
@@ -59,14 +59,14 @@ unanswered w c i d =
       | inr f ↦ rw f refl
     ]
 
-due_waits : (w : Trace) (turns : List ℕ) (c i : ℕ) → RespondsInOrder w → ((is_over w turns c i && not (is_answered w c i)) && waits w turns c i) ≡ is_due w turns c i
+due_waits : (w : Trace) (turns : List ℕ) (c i : ℕ) → RespondsInOrder w c → ((is_over w turns c i && not (is_answered w c i)) && waits w turns c i) ≡ is_due w turns c i
 unfolding is_due waits
 due_waits w turns c i o =
     agree (is_settled_deferred w turns i) (is_over w turns c i) (not (is_answered w c i)) (is_before (snoop_end_of w i) c)
     (not (is_before (option_and_then (snoop_end_of w) (reply_number_of w i)) c))
     (λ a b d. (ended w turns c i o a b, unanswered w c i d))
 
-pub due_deferral-StandsFor : (list : List Waiting) (w : Trace) (turns : List ℕ) (c : ℕ) → RespondsInOrder w → StandsFor list w turns c → IsThatOf w (due_deferral c list) (due_at w turns c)
+pub due_deferral-StandsFor : (list : List Waiting) (w : Trace) (turns : List ℕ) (c : ℕ) → RespondsInOrder w c → StandsFor list w turns c → IsThatOf w (due_deferral c list) (due_at w turns c)
 unfolding due_at
 due_deferral-StandsFor list w turns c o h =
     find-StandsFor list w turns c (is_due_reply c) (λ i. is_over w turns c i && not (is_answered w c i)) (due_at w turns c) h

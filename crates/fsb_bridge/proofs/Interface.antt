@@ -3,6 +3,8 @@
 -- Each entry of a list that stands for the deferrals of a trace, and a list of such entries.
 pub use Rattle.fsb_bridge.proofs.Entries.{AreEntriesOf-IsEntryOf, IsEntryOf, IsEntryOf-AreEntriesOf, IsEntryOf-StandsFor}
 pub use Rattle.fsb_bridge.proofs.Matched.{Matched, both-Matched, map-Matched}
+-- What is left of a list without its first element that passes a test.
+pub use Rattle.fsb_bridge.proofs.Rest.{rest, rest_found, rest_more}
 -- What such a list tells of the trace.
 pub use Rattle.fsb_bridge.proofs.Pending.{is_waited_for-StandsFor}
 pub use Rattle.fsb_bridge.proofs.Due.{due_deferral-StandsFor}

@@ -71,5 +71,5 @@ responds-after m w i s r e f g =
     let same : s ≡ k.0 = let a = sym f ∙ there in cc in
     omega arith
 
-pub RespondsInOrder-accepted : (m : Marks) (w : Trace) → verdict m w ≡ None → RespondsInOrder w
-RespondsInOrder-accepted m w e = record { after = λ i s r f g. responds-after m w i s r e f g }
+pub RespondsInOrder-accepted : (m : Marks) (w : Trace) (c : ℕ) → verdict m w ≡ None → RespondsInOrder w c
+RespondsInOrder-accepted m w c e = record { after = λ i s r f g l. responds-after m w i s r e f g }

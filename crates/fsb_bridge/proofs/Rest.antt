@@ -9,7 +9,7 @@ use Rattle.fsb_bridge.proofs.Matched.{Matched, list_any-all_where}
 abbrev pub rest : {X : Type 0} → (X → Bool) → List X → List X
 rest p xs = before_first p xs ++ after_first p xs
 
-rest_found : {X : Type 0} (p : X → Bool) (x : X) (xs : List X) → p x ≡ true → rest p (x ∷ xs) ≡ xs
+pub rest_found : {X : Type 0} (p : X → Bool) (x : X) (xs : List X) → p x ≡ true → rest p (x ∷ xs) ≡ xs
 rest_found p x xs e = rw e refl
 
 one_on : {X : Type 0} (m : ℕ) (x : X) (xs : List X) → take (1 + m) (x ∷ xs) ++ drop (1 + m + 1) (x ∷ xs) ≡ x ∷ (take m xs ++ drop (m + 1) xs)
@@ -18,7 +18,7 @@ one_on m x xs =
     let d : 1 + m + 1 ≡ suc (m + 1) = omega arith in
     ap (λ k. take k (x ∷ xs) ++ drop (1 + m + 1) (x ∷ xs)) e ∙ ap (λ k. take (suc m) (x ∷ xs) ++ drop k (x ∷ xs)) d
 
-rest_more : {X : Type 0} (p : X → Bool) (x : X) (xs : List X) → p x ≡ false → rest p (x ∷ xs) ≡ x ∷ rest p xs
+pub rest_more : {X : Type 0} (p : X → Bool) (x : X) (xs : List X) → p x ≡ false → rest p (x ∷ xs) ≡ x ∷ rest p xs
 rest_more p x xs e = rw e (one_on (position_or_len p xs) x xs)
 
 -- what is left of lists that are matched, after tests that give the same for related elements

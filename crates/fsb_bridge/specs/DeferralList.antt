@@ -1,5 +1,5 @@
 -- A list of deferrals that stands for those of a trace, and what is asked of a trace for the list to answer as it does.
-use Rattle.std.specs.Prelude.{◌≡◌, ℕ, ◌≤◌, Bool, true, not, ◌&&◌, ◌==◌, if◌then◌else◌, List, map, Option, Some, None, slice_index}
+use Rattle.std.specs.Prelude.{◌≡◌, ℕ, ◌<◌, ◌≤◌, Bool, true, not, ◌&&◌, ◌==◌, if◌then◌else◌, List, map, Option, Some, None, slice_index}
 use Rattle.std.specs.Option.{option_map, option_and_then}
 use Rattle.fsb_count.specs.Options.{is_some_and, is_before}
 use Rattle.fsb_count.specs.Clocks.{count_where, all_where, first_where}
@@ -69,9 +69,9 @@ abbrev pub IsThatOf : Trace → Option Deferral → Option ℕ → Type 0
 IsThatOf w None request = request ≡ None
 IsThatOf w (Some deferral) request = (i : ℕ) × (request ≡ Some i) × IsDeferralOf w deferral i
 
--- no request responds before its snoop end
-pub record RespondsInOrder (w : Trace) : Type 0 where
-  pub after : (i s r : ℕ) → snoop_end_of w i ≡ Some s → response_clock_of w i ≡ Some r → s ≤ r
+-- no request that responds below c does so before its snoop end
+pub record RespondsInOrder (w : Trace) (c : ℕ) : Type 0 where
+  pub after : (i s r : ℕ) → snoop_end_of w i ≡ Some s → response_clock_of w i ≡ Some r → r < c → s ≤ r
 
 -- the requests that wait for their replies at c have IDs of their own
 pub record HaveOwnIds (w : Trace) (turns : List ℕ) (c : ℕ) : Type 0 where

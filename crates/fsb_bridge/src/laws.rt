@@ -22,14 +22,14 @@ pub fn list_has_the_pending_lines()
 
 /// In a trace that breaks no phase rule, no request responds before its snoop end.
 pub fn accepted_traces_respond_in_order()
-    ensures { (m : Marks) (w : Trace) → verdict m w ≡ None → RespondsInOrder w }
+    ensures { (m : Marks) (w : Trace) (c : ℕ) → verdict m w ≡ None → RespondsInOrder w c }
 {}
 
 /// The first deferral of the list whose reply is due is that of the least request that is due in the trace, and there is
-/// none where none is due. No request may respond before its snoop end.
+/// none where none is due. No request may respond before its snoop end, below the clock.
 pub fn list_has_the_due_deferral()
     ensures { (list : List Waiting) (w : Trace) (turns : List ℕ) (c : ℕ) →
-        RespondsInOrder w → StandsFor list w turns c →
+        RespondsInOrder w c → StandsFor list w turns c →
         IsThatOf w (due_deferral c list) (due_at w turns c) }
 {}
 

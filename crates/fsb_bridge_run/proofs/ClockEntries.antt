@@ -1,33 +1,34 @@
 -- The entries of the list after the cancellation and the response of a clock.
-use Rattle.std.proofs.Common.{ℕ, suc, ◌+◌, ◌<◌, ◌≤◌, ◌≡◌, Bool, true, false, cond, not, List, map, Option, Some, None, length, nat_eq, slice_index, refl, sym, ap, subst, ◌∙◌, arith, inl, inr}
+use Rattle.std.proofs.Common.{ℕ, ◌+◌, ◌<◌, ◌≡◌, Bool, true, false, cond, List, map, Option, Some, None, length, nat_eq, slice_index, refl, sym, ap, subst, ◌∙◌, arith, inl, inr}
 use Rattle.std.specs.Option.{option_map}
 use Rattle.std.proofs.lemmas.Bool.{both_ways, cases_Bool, cases_lt, cases_order, eq-eqb, eqb-true, false_from_ne_true}
 use Rattle.fsb_count.specs.Clocks.{count_where}
-use Rattle.fsb_count.specs.Options.{is_before}
-use Rattle.fsb_count.proofs.Interface.{count_where-above, is_before-from, is_before-parts, nth_where-found, nth_where-one}
+use Rattle.fsb_count.specs.Options.{is_before, is_some_and}
+use Rattle.fsb_count.proofs.Interface.{count_where-above, is_before-from, is_before-parts, nth_where-one}
 use Rattle.fsb_encode.specs.declared.request.Request.{Request}
 use Rattle.fsb_signal.specs.declared.lines.TheConstants.Lines.{ADS, AERR}
 use Rattle.fsb_signal.specs.Samples.{line_at}
 use Rattle.fsb_trace.specs.At.{Trace, request_at, responds_at}
 use Rattle.fsb_trace.specs.Deferral.{is_answered, later_of}
 use Rattle.fsb_trace.specs.Flight.{is_reply_to}
-use Rattle.fsb_trace.specs.Outcome.{response_clock_of}
+use Rattle.fsb_trace.specs.Outcome.{is_deferral, response_clock_of}
 use Rattle.fsb_trace.specs.Requests.{have_same_id, is_cancelled, is_live, live_clock_of, live_count, live_request_of}
 use Rattle.fsb_timely.specs.Runs.{Run, past_of, requests_below, run_to}
 use Rattle.fsb_timely.specs.Starts.{reply_to}
-use Rattle.fsb_coherent.specs.Awaits.{cancelled_in, responded_in}
-use Rattle.fsb_lawful.proofs.Interface.{live-ads, run_to-agrees, wants-lawfully}
+use Rattle.fsb_coherent.specs.Awaits.{cancelled_in, responded_in, snoop_end_below}
+use Rattle.fsb_lawful.proofs.Interface.{live-ads, wants-lawfully}
 use Rattle.fsb_tied.proofs.Interface.{Responds, cancelled-at, cancels, number-responded, orderly-whole, responded-number}
 use Rattle.fsb_run_laws.specs.Reaches.{Reaches}
+use Rattle.fsb_run_laws.proofs.Interface.{snoop-below}
 use Rattle.fsb_bridge.specs.declared.deferral.Waiting.{Waiting}
 use Rattle.fsb_bridge.specs.Deferrals.{with_answer, with_reply}
 use Rattle.fsb_bridge.specs.DeferralList.{IsDeferralOf, live_line_of, request_number_of, response_before, waiting_at, waits}
 use Rattle.fsb_bridge.proofs.Interface.{IsEntryOf, Matched}
-use Rattle.fsb_bridge_run.specs.DeferralSteps.{after_cancellation, after_reply, after_response, reply_at}
+use Rattle.fsb_bridge_run.specs.DeferralSteps.{after_cancellation, after_reply, after_response, reply_at, was_deferred}
 use Rattle.fsb_bridge_run.specs.RunDeferrals.{turns_of}
-use Rattle.fsb_bridge_run.proofs.DueReplies.{AnswersDue, answers-due}
+use Rattle.fsb_bridge_run.proofs.DueReplies.{answers-due}
 use Rattle.fsb_bridge_run.proofs.Listed.{AllPass, Matched-into, Matched-map, all_where-pass}
-use Rattle.fsb_bridge_run.proofs.OwnIds.{ids-of}
+use Rattle.fsb_bridge_run.proofs.OwnIds.{deferred-at, ids-of}
 use Rattle.fsb_bridge_run.proofs.RepliesAt.{reply_at-none, reply_at-parts}
 use Rattle.fsb_bridge_run.proofs.ReplySteps.{begun-dropped, begun-stays}
 use Rattle.fsb_bridge_run.proofs.Waiting.{reply-parts, waits-parts}
@@ -169,9 +170,15 @@ unfolding after_response
 after-no-response r c list e = rw (after_response, e) refl
 
 after-answer : (r : Run) (c q : ℕ) (list : List Waiting) → responded_in (past_of r) c ≡ Some q
+    → was_deferred (past_of r) c q ≡ true
     → after_response r c list ≡ map (with_answer (requests_below r.trace q) c) list
 unfolding after_response
-after-answer r c q list e = rw (after_response, e) refl
+after-answer r c q list e f = rw (after_response, e, f) refl
+
+after-others : (r : Run) (c q : ℕ) (list : List Waiting) → responded_in (past_of r) c ≡ Some q
+    → was_deferred (past_of r) c q ≡ false → after_response r c list ≡ list
+unfolding after_response
+after-others r c q list e f = rw (after_response, e, f) refl
 
 -- a response at c is one below the next clock
 response-now : (w : Trace) (c i : ℕ) → response_clock_of w i ≡ Some c → response_before w (c + 1) i ≡ Some c
@@ -275,6 +282,20 @@ answered-entry r c k q i e responds waiting entry false other =
     both_ways (nat_eq e.deferral.number (requests_below w q)) other
     (eq-eqb e.deferral.number (requests_below w q) (number ∙ ap (requests_below w) same))))
 
+-- what responds and waits was Deferred
+waits-deferred : (r : Run) (c i q : ℕ) → Reaches r (c + 1) → waits r.trace (turns_of r) (c + 1) i ≡ true
+    → live_clock_of r.trace i ≡ Some q → was_deferred (past_of r) c q ≡ true
+unfolding was_deferred is_some_and
+waits-deferred r c i q h waiting first =
+    let a = waits-parts r.trace (turns_of r) (c + 1) i waiting in
+    let below = a.below in
+    let d = deferred-at r a.snoop i h.timely (wants-lawfully r h.bounds) a.is_snoop a.deferred in
+    let there = snoop-below r c a.snoop d.end h (omega arith) d.snooped.tied.there in
+    let is = d.snooped.tied.first in
+    let same : d.end.first ≡ q = cc in
+    ap (λ x. is_some_and (snoop_end_below (past_of r) (c + 1) x) (λ s. is_deferral s.outcome)) (sym same)
+    ∙ ap (λ o. is_some_and o (λ s. is_deferral s.outcome)) there ∙ d.deferred
+
 pub answered-entries : (r : Run) (c : ℕ) (list : List Waiting) → Reaches r (c + 1)
     → Matched (IsCancelledTo r c) list (waiting_at r.trace (turns_of r) (c + 1))
     → Matched (IsAnsweredTo r c) (after_response r c list) (waiting_at r.trace (turns_of r) (c + 1))
@@ -287,6 +308,12 @@ answered-entries r c list h entries = by (responded_in (past_of r) c) refl
     all : AllPass (waits r.trace (turns_of r) (c + 1)) live
     all = all_where-pass (waits r.trace (turns_of r) (c + 1)) (live_count r.trace)
 
+    kept : ((i : ℕ) → waits r.trace (turns_of r) (c + 1) i ≡ true → response_clock_of r.trace i ≡ Some c → ⊥)
+        → Matched (IsAnsweredTo r c) list live
+    kept none =
+        Matched-into (IsCancelledTo r c) (IsAnsweredTo r c) (waits r.trace (turns_of r) (c + 1)) list live all
+        (λ x i waiting entry. unanswered-entry r c i x entry (none i waiting)) entries
+
     silent : responded_in (past_of r) c ≡ None → (i : ℕ) → waits r.trace (turns_of r) (c + 1) i ≡ true
         → response_clock_of r.trace i ≡ Some c → ⊥
     silent none i waiting response =
@@ -298,16 +325,27 @@ answered-entries r c list h entries = by (responded_in (past_of r) c) refl
         let no : None ≡ Some a.clock = sym none ∙ there in
         cc
 
+    others : (q k : ℕ) → Responds r k c q → was_deferred (past_of r) c q ≡ false → (i : ℕ)
+        → waits r.trace (turns_of r) (c + 1) i ≡ true → response_clock_of r.trace i ≡ Some c → ⊥
+    others q k responds off i waiting response =
+        let is = one-response r.trace i k c response responds.response in
+        let first = subst (λ x. live_clock_of r.trace x ≡ Some q) (sym is) responds.first in
+        both_ways (was_deferred (past_of r) c q) off (waits-deferred r c i q h waiting first)
+
     by : (o : Option ℕ) → responded_in (past_of r) c ≡ o → Matched (IsAnsweredTo r c) (after_response r c list) live
     by None e =
-        subst (λ xs. Matched (IsAnsweredTo r c) xs live) (sym (after-no-response r c list e))
-        (Matched-into (IsCancelledTo r c) (IsAnsweredTo r c) (waits r.trace (turns_of r) (c + 1)) list live all
-        (λ x i waiting entry. unanswered-entry r c i x entry (silent e i waiting)) entries)
+        subst (λ xs. Matched (IsAnsweredTo r c) xs live) (sym (after-no-response r c list e)) (kept (silent e))
     by (Some q) e =
         let long = h.long in
         let k = responded-number r c q h.timely (omega arith) e in
-        subst (λ xs. Matched (IsAnsweredTo r c) xs live) (sym (after-answer r c q list e))
-        (Matched-map (IsCancelledTo r c) (IsAnsweredTo r c) (waits r.trace (turns_of r) (c + 1))
-        (with_answer (requests_below r.trace q) c) list live all
-        (λ x i waiting entry. answered-entry r c k.0 q i x k.1 waiting entry
-        (nat_eq x.deferral.number (requests_below r.trace q)) refl) entries)
+        elim (cases_Bool (was_deferred (past_of r) c q)) [
+          | inl t ↦
+              subst (λ xs. Matched (IsAnsweredTo r c) xs live) (sym (after-answer r c q list e t))
+              (Matched-map (IsCancelledTo r c) (IsAnsweredTo r c) (waits r.trace (turns_of r) (c + 1))
+              (with_answer (requests_below r.trace q) c) list live all
+              (λ x i waiting entry. answered-entry r c k.0 q i x k.1 waiting entry
+              (nat_eq x.deferral.number (requests_below r.trace q)) refl) entries)
+          | inr f ↦
+              subst (λ xs. Matched (IsAnsweredTo r c) xs live) (sym (after-others r c q list e f))
+              (kept (others q k.0 k.1 f))
+        ]

@@ -1,5 +1,5 @@
 -- A reply that begins in a timely run answers a request that is due.
-use Rattle.std.proofs.Common.{ℕ, suc, ◌+◌, ◌<◌, ◌≤◌, ◌≡◌, Bool, true, false, not, ◌&&◌, List, Option, Some, None, length, nat_le, slice_index, refl, sym, ap, subst, ◌∙◌, arith, inl, inr}
+use Rattle.std.proofs.Common.{ℕ, suc, ◌+◌, ◌<◌, ◌≤◌, ◌≡◌, true, false, not, ◌&&◌, Option, Some, length, nat_le, slice_index, refl, sym, ap, ◌∙◌, arith, inl, inr}
 use Rattle.std.specs.Option.{option_and_then, option_map}
 use Rattle.std.proofs.lemmas.Bool.{and_from, and_parts, both_ways, cases_lt, eq-eqb, false_from_ne_true, leb-true, not-true}
 use Rattle.fsb_count.specs.Options.{is_before, is_some_and}
@@ -16,21 +16,20 @@ use Rattle.fsb_trace.specs.Snoop.{snoop_end_of}
 use Rattle.fsb_trace.specs.Winner.{winner_at}
 use Rattle.fsb_trace.specs.declared.who.Who.{Who}
 use Rattle.fsb_trace.specs.declared.who.Who.TheVariants.{Symmetric, Priority}
-use Rattle.fsb_trace.proofs.Interface.{AgreeTo-sym, is_live-agree, is_reply-some, line_at-agree, live_clock_of-stays, live_request_of-stays, request_at-agree, response_clock_of-stays, snoop_end_of-clock, snoop_end_of-stays}
+use Rattle.fsb_trace.proofs.Interface.{AgreeTo-sym, is_live-agree, is_reply-some, line_at-agree, live_request_of-stays, request_at-agree, response_clock_of-stays, snoop_end_of-clock, snoop_end_of-stays}
 use Rattle.fsb_timely.specs.Moments.{number_of_turn, turns_in}
 use Rattle.fsb_timely.specs.Runs.{Run, past_of, past_to, run_to}
 use Rattle.fsb_timely.specs.Starts.{due_number, reply_to, request_begun, would_begin}
 use Rattle.fsb_timely.specs.Timely.{Timely}
 use Rattle.fsb_timely.proofs.Interface.{snoop-tied}
 use Rattle.fsb_lawful.specs.Beginning.{WantsLawfully}
-use Rattle.fsb_lawful.proofs.Interface.{and-then, begun-decoded, begun-winner, begun_of, map-some, orderly-at, past-cut, run_to-agrees, some-and, turned-at, want-own, wants-lawfully}
+use Rattle.fsb_lawful.proofs.Interface.{and-then, begun-decoded, begun-winner, map-some, orderly-at, past-cut, run_to-agrees, some-and, turned-at, want-own}
 use Rattle.fsb_tied.proofs.Interface.{answered, has-reply, live-at, orderly-whole}
-use Rattle.fsb_run_laws.specs.Reaches.{Reaches}
 use Rattle.fsb_bridge.specs.DeferralList.{waits}
 use Rattle.fsb_bridge_run.specs.RunDeferrals.{turns_of}
 use Rattle.fsb_bridge_run.proofs.Alike.{SameDeferrals, deferred-same}
 use Rattle.fsb_bridge_run.proofs.UnderWay.{reply-to-kept}
-use Rattle.fsb_bridge_run.proofs.Waiting.{IsReplyTo, IsUnderWay, answered-from, reply-from, reply-parts, waits-from}
+use Rattle.fsb_bridge_run.proofs.Waiting.{answered-from, reply-from, reply-parts, waits-from}
 
 -- the run up to c has the same deferrals so far as the whole run
 pub cut-same : (r : Run) (c : ℕ) → Timely r → c < length r.trace
@@ -65,6 +64,48 @@ due-by r q Priority request few e reply =
     map-some reply_to (option_and_then (live_request_of (run_to r q).trace)
     (due_number (run_to r q) (past_to (past_of r) q) q)) request e
 
+-- the live request that is due at q: it is Deferred, responded before q, and no reply to it is under way
+pub record IsDueAt (r : Run) (q i : ℕ) : Type 0 where
+  pub snoop : ℕ
+  pub is_snoop : snoop_end_of r.trace i ≡ Some snoop
+  pub deferred : is_settled_deferred r.trace (turns_of r) i ≡ true
+  pub response : ℕ
+  pub is_response : response_clock_of r.trace i ≡ Some response
+  pub gap : snoop + 2 ≤ response
+  pub after : response < q
+  pub unanswered : is_answered (run_to r q).trace q i ≡ false
+  pub asked : live_request_of (run_to r q).trace i ≡ live_request_of r.trace i
+
+pub due-at : (r : Run) (q i : ℕ) → Timely r → q < length r.trace
+    → due_number (run_to r q) (past_to (past_of r) q) q ≡ Some i → IsDueAt r q i
+unfolding due_number due_at is_due
+due-at r q i h long due =
+    let w = r.trace in
+    let v = (run_to r q).trace in
+    let back = AgreeTo-sym (q + 1) w v (run_to-agrees r q long) in
+    let turns = turns_in (past_to (past_of r) q).moments in
+    let found = first_where-found (is_due v turns q) (live_count v) i due in
+    let parts = and_parts (is_settled_deferred v turns i && is_some_and (response_clock_of v i)
+    (λ r. nat_le (r + 1 + later_of (slice_index turns i)) q)) (not (is_answered v q i)) found.1 in
+    let both = and_parts (is_settled_deferred v turns i) _ parts.0 in
+    let response = some-and (response_clock_of v i) (λ r. nat_le (r + 1 + later_of (slice_index turns i)) q) both.1 in
+    let after = leb-true (response.0 + 1 + later_of (slice_index turns i)) q response.2 in
+    let a = answered v i response.0 (orderly-at r q h long) response.1 in
+    let gap = a.before in
+    let snoop = snoop_end_of-stays (q + 1) v w i a.snoop back (omega arith) a.is_snoop in
+    let settled = deferred-same (q + 1) w v (turns_of r) turns i a.snoop (cut-same r q h long) snoop (omega arith) in
+    record {
+      snoop = a.snoop;
+      is_snoop = snoop;
+      deferred = settled ∙ both.0;
+      response = response.0;
+      is_response = response_clock_of-stays (q + 1) v w i response.0 back (omega arith) response.1;
+      gap = gap;
+      after = omega arith;
+      unanswered = not-true (is_answered v q i) parts.1;
+      asked = live_request_of-stays (q + 1) v w i a.snoop back (omega arith) a.is_snoop;
+    }
+
 -- the live request that the reply that begins at q answers: it is Deferred, responded before q, and no live reply to it
 -- began before
 pub record AnswersDue (r : Run) (q : ℕ) : Type 0 where
@@ -88,46 +129,36 @@ same-as a b x e f = rw (e, f) (eq-eqb x.did x.did refl)
 
 pub answers-due : (r : Run) (q : ℕ) → Timely r → WantsLawfully r → r.plan.ahead ≤ 4 → suc q < length r.trace
     → line_at ADS r.trace q ≡ true → is_reply (request_at r.trace q) ≡ true → AnswersDue r q
-unfolding request_begun due_number due_at is_due
+unfolding request_begun
 answers-due r q h wants few l ads replies =
     let w = r.trace in
     let v = (run_to r q).trace in
     let long : q < length w = omega arith in
     let agree = run_to-agrees r q long in
-    let back = AgreeTo-sym (q + 1) w v agree in
     let here = sym (line_at-agree ADS (q + 1) w v q agree (omega arith)) ∙ ads in
     let b = begun-decoded r q h l here in
     let next = run_to-agrees r (suc q) l in
     let decoded = request_at-agree (suc q + 1) w (run_to r (suc q)).trace q next (omega arith)
     ∙ b.2 (wants.lawful q b.0 b.1) in
-    let turns = turns_in (past_to (past_of r) q).moments in
     let who = begun-winner (would_begin (run_to r q) (past_to (past_of r) q) q) (winner_at v q) b.0 b.1 in
     let due = due-by r q who.0 b.0 few who.2 (sym (ap is_reply decoded) ∙ replies) in
     let x : Request = due.0 in
     let j = and-then (live_request_of v) (due_number (run_to r q) (past_to (past_of r) q) q) x due.1 in
     let i : ℕ = j.0 in
-    let found = first_where-found (is_due v turns q) (live_count v) i j.1 in
-    let parts = and_parts (is_settled_deferred v turns i && is_some_and (response_clock_of v i)
-    (λ r. nat_le (r + 1 + later_of (slice_index turns i)) q)) (not (is_answered v q i)) found.1 in
-    let both = and_parts (is_settled_deferred v turns i) _ parts.0 in
-    let response = some-and (response_clock_of v i) (λ r. nat_le (r + 1 + later_of (slice_index turns i)) q) both.1 in
-    let after = leb-true (response.0 + 1 + later_of (slice_index turns i)) q response.2 in
-    let a = answered v i response.0 (orderly-at r q h long) response.1 in
-    let gap = a.before in
-    let snoop = snoop_end_of-stays (q + 1) v w i a.snoop back (omega arith) a.is_snoop in
-    let asked = sym (live_request_of-stays (q + 1) v w i a.snoop back (omega arith) a.is_snoop) ∙ j.2 in
-    let settled = deferred-same (q + 1) w v (turns_of r) turns i a.snoop (cut-same r q h long) snoop (omega arith) in
+    let d = due-at r q i h long j.1 in
+    let gap = d.gap in
+    let after = d.after in
+    let asked = sym d.asked ∙ j.2 in
     let shown = decoded ∙ ap Some (sym due.2) in
-    let responds = response_clock_of-stays (q + 1) v w i response.0 back (omega arith) response.1 in
     record {
       number = i;
-      snoop = a.snoop;
-      is_snoop = snoop;
-      deferred = settled ∙ both.0;
-      response = response.0;
-      is_response = responds;
+      snoop = d.snoop;
+      is_snoop = d.is_snoop;
+      deferred = d.deferred;
+      response = d.response;
+      is_response = d.is_response;
       gap = gap;
-      after = omega arith;
+      after = after;
       request = x;
       asked = asked;
       shown = shown;
@@ -135,15 +166,15 @@ answers-due r q h wants few l ads replies =
         asks = ads;
         replies = replies;
         same_id = same-as (request_at w q) (live_request_of w i) x shown asked;
-        response = response.0;
-        is_response = responds;
-        after = omega arith;
+        response = d.response;
+        is_response = d.is_response;
+        after = after;
       });
       unanswered = λ u less reply live.
-          let kept = reply-to-kept (q + 1) w v i a.snoop u agree snoop (omega arith) (omega arith) reply in
+          let kept = reply-to-kept (q + 1) w v i d.snoop u agree d.is_snoop (omega arith) (omega arith) reply in
           let asks = (reply-parts w i u reply).asks in
           let apart = (orderly-whole r q h long).spaced.apart u q less asks ads in
-          both_ways (is_answered v q i) (not-true (is_answered v q i) parts.1)
+          both_ways (is_answered v q i) d.unanswered
           (answered-from v q i u (record {
             below = less;
             reply = kept;

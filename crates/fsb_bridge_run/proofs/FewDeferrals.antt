@@ -1,25 +1,35 @@
 -- There are sixteen deferrals at most: each has an ID of its own, one of four of each of the four agents.
-use Rattle.std.proofs.Common.{ℕ, zero, suc, ◌+◌, ◌*◌, ◌/◌, ◌%◌, ◌<◌, ◌≤◌, ◌≡◌, Bool, true, false, not, ◌&&◌, List, Option, Some, None, length, nat_eq, if◌then◌else◌, refl, sym, ap, subst, ◌∙◌, arith, inl, inr}
-use Rattle.std.specs.Option.{option_map_or}
-use Rattle.std.proofs.lemmas.Bool.{and_from, and_parts, both_ways, cases_Bool, eq-eqb, eqb-false, eqb-true, false_from_ne_true, not-true}
-use Rattle.fsb_count.specs.Clocks.{count_where, first_where}
+use Rattle.std.proofs.Common.{ℕ, zero, suc, ◌+◌, ◌*◌, ◌/◌, ◌%◌, ◌<◌, ◌≤◌, ◌≡◌, Bool, true, false, not, ◌&&◌, ◌||◌, List, [], ◌∷◌, Option, Some, None, length, nat_eq, if◌then◌else◌, refl, sym, ap, subst, ◌∙◌, arith, inl, inr}
+use Rattle.std.specs.Option.{option_and_then, option_map_or}
+use Rattle.std.proofs.lemmas.Bool.{and_from, and_parts, cases_order, eq-eqb, eqb-false, eqb-true, false_from_ne_true, ne_eqb, not-true}
+use Rattle.fsb_count.specs.Clocks.{all_where, count_where, first_where}
 use Rattle.fsb_count.proofs.Interface.{count_where-same, first_where-found, length-all_where}
 use Rattle.fsb_encode.specs.declared.request.Request.{Request}
 use Rattle.fsb_laws.proofs.Interface.{count_where-none}
-use Rattle.fsb_trace.specs.Requests.{is_reply, is_reply_kind, live_count, live_request_of}
+use Rattle.fsb_trace.specs.Requests.{is_reply, is_reply_kind, live_clock_of, live_count, live_request_of}
 use Rattle.fsb_trace.specs.Winner.{winner_at}
 use Rattle.fsb_count.specs.Options.{is_some_and}
-use Rattle.fsb_timely.specs.Past.{Owing, Past}
+use Rattle.fsb_timely.specs.Past.{Owing}
 use Rattle.fsb_timely.specs.Runs.{Run, past_of, past_to, run_to}
 use Rattle.fsb_timely.specs.Starts.{request_begun, would_begin}
 use Rattle.fsb_timely.specs.Wants.{free_id, id_of, is_id_used, owed}
-use Rattle.fsb_lawful.proofs.Interface.{begun-winner, want-few, want-own, wanted-by, wants-lawfully}
+use Rattle.fsb_lawful.proofs.Interface.{begun-decoded, begun-winner, begun_of, live-ads, run_to-agrees, want-few, want-own, wanted-by, wants-lawfully}
 use Rattle.fsb_tied.proofs.Interface.{winner-four}
 use Rattle.fsb_run_laws.specs.Reaches.{Reaches}
 use Rattle.fsb_bridge.specs.DeferralList.{waiting_at, waits}
 use Rattle.fsb_bridge_run.specs.RunDeferrals.{turns_of}
-use Rattle.fsb_bridge_run.proofs.OwnIds.{deferred-at, one-id, request-waiting}
-use Rattle.fsb_bridge_run.proofs.Waiting.{waits-parts}
+use Rattle.fsb_bridge_run.proofs.OwnIds.{deferred-at, not-again, one-id, request-waiting}
+use Rattle.fsb_bridge_run.proofs.Waiting.{earlier, either, either-from, waits-parts}
+use Rattle.fsb_bridge_run.proofs.Alike.{SameDeferrals}
+use Rattle.fsb_bridge_run.proofs.Listed.{all_where-added}
+use Rattle.fsb_trace.specs.Agree.{AgreeTo}
+use Rattle.fsb_trace.specs.At.{Trace, request_at}
+use Rattle.fsb_trace.specs.Flight.{reply_number_of}
+use Rattle.fsb_trace.specs.Snoop.{snoop_end_of}
+use Rattle.fsb_trace.proofs.Interface.{AgreeTo-sym, line_at-agree, live_below_count, live_clock_of-rises, live_clock_of-stays, live_request_of-at, request_at-agree, snoop_end_of-clock, snoop_end_of-rises, snoop_end_of-stays}
+use Rattle.fsb_signal.specs.declared.lines.TheConstants.Lines.{ADS}
+use Rattle.fsb_signal.specs.Samples.{line_at}
+use Rattle.std.proofs.lemmas.List.{length-append}
 
 -- how many pass, without those that pass a second test, which one passes at most
 count-but : (p t : ℕ → Bool) (n : ℕ)
@@ -86,30 +96,32 @@ pub record HasFewIds (did : ℕ) : Type 0 where
   pub agent : did / 16 < 4
   pub place : did % 16 < 4
 
-waiting-id : (r : Run) (n c i : ℕ) (x : Request) → Reaches r n → c ≤ n → waits r.trace (turns_of r) c i ≡ true
-    → live_request_of r.trace i ≡ Some x → HasFewIds x.did
+begun-id : (r : Run) (q : ℕ) (request : Request) → r.plan.ahead ≤ 4 → begun_of r q ≡ Some request
+    → is_reply_kind request.kind ≡ false → HasFewIds request.did
 unfolding request_begun is_reply is_some_and past_to past_of
-waiting-id r n c i x h low waiting asks =
-    let w = r.trace in
-    let a = waits-parts w (turns_of r) c i waiting in
-    let d = deferred-at r a.snoop i h.timely (wants-lawfully r h.bounds) a.is_snoop a.deferred in
-    let q : ℕ = d.end.first in
+begun-id r q request ahead begun plain =
     let past = past_to (past_of r) q in
-    let who = begun-winner (would_begin (run_to r q) past q) (winner_at (run_to r q).trace q) d.request d.begun in
-    let want = wanted-by r q who.0 d.request who.2 d.plain in
-    let few = want-few past want.0 q d.request h.bounds.few_ahead want.2 in
-    let own = want-own past want.0 q d.request h.bounds.few_ahead want.2 in
+    let who = begun-winner (would_begin (run_to r q) past q) (winner_at (run_to r q).trace q) request begun in
+    let want = wanted-by r q who.0 request who.2 plain in
+    let few = want-few past want.0 q request ahead want.2 in
+    let own = want-own past want.0 q request ahead want.2 in
     let four = winner-four (run_to r q).trace q want.0 (who.1 ∙ ap Some want.1) in
-    let ahead = h.bounds.few_ahead in
     let short = few.0 in
     let free = free-low want.0 (owed past want.0 q)
     (first_where (λ n. not (is_id_used (owed past want.0 q) (id_of want.0 n))) (length (owed past want.0 q) + 1))
     (omega arith) refl in
     let is = few.1 in
     let named = own.1 in
+    record { agent = omega arith; place = rw is free }
+
+waiting-id : (r : Run) (n c i : ℕ) (x : Request) → Reaches r n → c ≤ n → waits r.trace (turns_of r) c i ≡ true
+    → live_request_of r.trace i ≡ Some x → HasFewIds x.did
+waiting-id r n c i x h low waiting asks =
+    let a = waits-parts r.trace (turns_of r) c i waiting in
+    let d = deferred-at r a.snoop i h.timely (wants-lawfully r h.bounds) a.is_snoop a.deferred in
     let first = d.asked in
     let same : d.request ≡ x = cc in
-    subst (λ y. HasFewIds y.did) same (record { agent = omega arith; place = rw is free })
+    subst (λ y. HasFewIds y.did) same (begun-id r d.end.first d.request h.bounds.few_ahead d.begun d.plain)
 
 -- a number below sixteen for each such ID
 code_of : Option Request → ℕ
@@ -119,31 +131,177 @@ code-is : (o : Option Request) (x : Request) → o ≡ Some x → code_of o ≡ 
 unfolding code_of
 code-is o x e = rw e refl
 
+same-code : (a b : ℕ) → a % 16 < 4 → b % 16 < 4 → a / 16 * 4 + a % 16 ≡ b / 16 * 4 + b % 16 → a ≡ b
+same-code a b l m e = omega arith
+
+-- live requests of which each has a request with such an ID, and one of its own
+record HasCodes (w : Trace) (p : ℕ → Bool) : Type 0 where
+  pub coded : (i : ℕ) → p i ≡ true → (x : Request) × (live_request_of w i ≡ Some x) × HasFewIds x.did
+  pub own : (i k : ℕ) (x y : Request) → p i ≡ true → p k ≡ true → live_request_of w i ≡ Some x
+      → live_request_of w k ≡ Some y → x.did ≡ y.did → i ≡ k
+
+few-coded : (w : Trace) (p : ℕ → Bool) (n : ℕ) → HasCodes w p → count_where p n ≤ 16
+few-coded w p n h =
+    few-values 16 p (λ i. code_of (live_request_of w i)) n
+    (λ i t.
+    let x = h.coded i t in
+    let agent = x.2.agent in
+    let place = x.2.place in
+    let is = code-is (live_request_of w i) x.0 x.1 in
+    omega arith)
+    (λ i k t u same.
+    let x = h.coded i t in
+    let y = h.coded k u in
+    let is = code-is (live_request_of w i) x.0 x.1 in
+    let also = code-is (live_request_of w k) y.0 y.1 in
+    h.own i k x.0 y.0 t u x.1 y.1 (same-code x.0.did y.0.did x.2.place y.2.place (sym is ∙ same ∙ also)))
+
+waiting-coded : (r : Run) (n c i : ℕ) → Reaches r n → c ≤ n → waits r.trace (turns_of r) c i ≡ true
+    → (x : Request) × (live_request_of r.trace i ≡ Some x) × HasFewIds x.did
+waiting-coded r n c i h low t =
+    let x = request-waiting r n c i h t in
+    (x.0, x.1, waiting-id r n c i x.0 h low t x.1)
+
 pub few-waiting : (r : Run) (n c : ℕ) → Reaches r n → c ≤ n → length (waiting_at r.trace (turns_of r) c) ≤ 16
 unfolding waiting_at
 few-waiting r n c h low =
     let w = r.trace in
     let p : ℕ → Bool = waits w (turns_of r) c in
-    let few = few-values 16 p (λ i. code_of (live_request_of w i)) (live_count w)
-    (λ i t.
-    let x = request-waiting r n c i h t in
-    let ids = waiting-id r n c i x.0 h low t x.1 in
-    let agent = ids.agent in
-    let place = ids.place in
-    let is = code-is (live_request_of w i) x.0 x.1 in
-    omega arith)
-    (λ i k t u same.
-    let x = request-waiting r n c i h t in
-    let y = request-waiting r n c k h u in
-    let one = waiting-id r n c i x.0 h low t x.1 in
-    let two = waiting-id r n c k y.0 h low u y.1 in
-    let first = one.place in
-    let second = two.place in
-    let is = code-is (live_request_of w i) x.0 x.1 in
-    let also = code-is (live_request_of w k) y.0 y.1 in
-    one-id r n c i k x.0 y.0 h low t u x.1 y.1 (same-code x.0.did y.0.did first second (sym is ∙ same ∙ also))) in
+    let few = few-coded w p (live_count w) (record {
+      coded = λ i t. waiting-coded r n c i h low t;
+      own = λ i k x y t u asks also did. one-id r n c i k x y h low t u asks also did;
+    }) in
     let size = length-all_where p (live_count w) in
     omega arith
+
+other : (a b : Bool) → b ≡ false → (a || b) ≡ a
+other true b e = refl
+other false b e = e
+
+-- one more has room: a request that is no reply, whose snoop end is n, has an ID of its own beside those that wait
+pub room-for : (r : Run) (n i q : ℕ) (w : Trace) (turns : List ℕ) (request : Request) → Reaches r n
+    → SameDeferrals n r.trace w (turns_of r) turns → snoop_end_of w i ≡ Some n → live_clock_of w i ≡ Some q
+    → request_at w q ≡ Some request → is_reply_kind request.kind ≡ false
+    → length (waiting_at r.trace (turns_of r) n) < 16
+unfolding waiting_at
+room-for r n i q w turns request h same reached first decoded plain =
+    let long = h.long in
+    let few = few-coded r.trace all (live_count r.trace) (record { coded = coded; own = own }) in
+    let added = all_where-added waiting all (live_count r.trace) i (live_below_count r.trace i q clock) low (here i refl)
+    (λ k differs. other (waiting k) (nat_eq k i) (ne_eqb k i differs)) in
+    let size = length-all_where all (live_count r.trace) in
+    let more = ap length added ∙ length-append (all_where waiting (live_count r.trace)) (i ∷ []) in
+    omega arith
   where
-    same-code : (a b : ℕ) → a % 16 < 4 → b % 16 < 4 → a / 16 * 4 + a % 16 ≡ b / 16 * 4 + b % 16 → a ≡ b
-    same-code a b l m e = omega arith
+    waiting : ℕ → Bool
+    waiting k = waits r.trace (turns_of r) n k
+
+    all : ℕ → Bool
+    all k = waiting k || nat_eq k i
+
+    here : (k : ℕ) → k ≡ i → all k ≡ true
+    here k e = either-from (waiting k) (nat_eq k i) (inr (eq-eqb k i e))
+
+    above : q + 4 ≤ n
+    above =
+        let c = snoop_end_of-clock w i n reached in
+        let m = c.above in
+        let one = c.is_clock in
+        let same : c.clock ≡ q = cc in
+        omega arith
+
+    back : AgreeTo n w r.trace
+    back = AgreeTo-sym n r.trace w same.agree
+
+    clock : live_clock_of r.trace i ≡ Some q
+    clock = let gap = above in live_clock_of-stays n w r.trace i q back (omega arith) first
+
+    shown : request_at r.trace q ≡ Some request
+    shown = let gap = above in request_at-agree n r.trace w q same.agree (omega arith) ∙ decoded
+
+    asks : live_request_of r.trace i ≡ Some request
+    asks = live_request_of-at r.trace i q request clock shown
+
+    ads : line_at ADS r.trace q ≡ true
+    ads = live-ads r.trace i q clock
+
+    begun : begun_of r q ≡ Some request
+    begun =
+        let long = h.long in
+        let gap = above in
+        let agree = run_to-agrees r q (omega arith) in
+        let b = begun-decoded r q h.timely (omega arith)
+        (sym (line_at-agree ADS (q + 1) r.trace (run_to r q).trace q agree (omega arith)) ∙ ads) in
+        let next = run_to-agrees r (suc q) (omega arith) in
+        let there = request_at-agree (suc q + 1) r.trace (run_to r (suc q)).trace q next (omega arith)
+        ∙ b.2 ((wants-lawfully r h.bounds).lawful q b.0 b.1) in
+        let is : b.0 ≡ request = (let e = sym there ∙ shown in cc) in
+        b.1 ∙ ap Some is
+
+    low : (k : ℕ) → waiting k ≡ true → k < i
+    low k e =
+        let a = waits-parts r.trace (turns_of r) n k e in
+        let below = a.below in
+        let there = snoop_end_of-stays n r.trace w k a.snoop same.agree below a.is_snoop in
+        elim (cases_order k i) [
+          | inl one ↦
+              let here : snoop_end_of w i ≡ Some a.snoop = subst (λ x. snoop_end_of w x ≡ Some a.snoop) one there in
+              let at : a.snoop ≡ n = cc in
+              absurd (omega arith)
+          | inr differs ↦ elim differs [
+            | inl less ↦ less
+            | inr more ↦
+                let rise = snoop_end_of-rises w i k a.snoop more there in
+                let first = rise.1 in
+                let at : rise.0 ≡ n = cc in
+                let gap = rise.2 in
+                absurd (omega arith)
+          ]
+        ]
+
+    -- no request that waits has its ID
+    apart : (k : ℕ) (x : Request) → waiting k ≡ true → live_request_of r.trace k ≡ Some x → x.did ≡ request.did → ⊥
+    apart k x e asked did =
+        let long = h.long in
+        let gap = above in
+        let a = waits-parts r.trace (turns_of r) n k e in
+        let d = deferred-at r a.snoop k h.timely (wants-lawfully r h.bounds) a.is_snoop a.deferred in
+        let one = d.asked in
+        let is : d.request ≡ x = cc in
+        let rise = live_clock_of-rises r.trace k i d.end.first q (low k e) d.snooped.tied.first clock in
+        not-again r q a.snoop k d request h.timely (wants-lawfully r h.bounds) h.bounds.few_ahead begun shown plain ads
+        (omega arith) rise (ap (λ z. z.did) is ∙ did)
+        (earlier (option_and_then (snoop_end_of r.trace) (reply_number_of r.trace k)) q n (omega arith) a.unreplied)
+
+    coded : (k : ℕ) → all k ≡ true → (x : Request) × (live_request_of r.trace k ≡ Some x) × HasFewIds x.did
+    coded k e =
+        elim (either (waiting k) (nat_eq k i) e) [
+          | inl t ↦ waiting-coded r n n k h (omega arith) t
+          | inr t ↦
+              let one : k ≡ i = eqb-true k i t in (
+                request,
+                subst (λ y. live_request_of r.trace y ≡ Some request) (sym one) asks,
+                begun-id r q request h.bounds.few_ahead begun plain,
+              )
+        ]
+
+    itself : (k : ℕ) (x : Request) → nat_eq k i ≡ true → live_request_of r.trace k ≡ Some x → x ≡ request
+    itself k x t asked =
+        let one : k ≡ i = eqb-true k i t in
+        let there : live_request_of r.trace i ≡ Some x = subst (λ y. live_request_of r.trace y ≡ Some x) one asked in
+        let mine = asks in
+        cc
+
+    own : (k m : ℕ) (x y : Request) → all k ≡ true → all m ≡ true → live_request_of r.trace k ≡ Some x
+        → live_request_of r.trace m ≡ Some y → x.did ≡ y.did → k ≡ m
+    own k m x y t u asked also did =
+        elim (either (waiting k) (nat_eq k i) t) [
+          | inl a ↦ elim (either (waiting m) (nat_eq m i) u) [
+            | inl b ↦ one-id r n n k m x y h (omega arith) a b asked also did
+            | inr b ↦ absurd (apart k x a asked (did ∙ ap (λ z. z.did) (itself m y b also)))
+          ]
+          | inr a ↦ elim (either (waiting m) (nat_eq m i) u) [
+            | inl b ↦ absurd (apart m y b also (sym did ∙ ap (λ z. z.did) (itself k x a asked)))
+            | inr b ↦ eqb-true k i a ∙ sym (eqb-true m i b)
+          ]
+        ]

@@ -1,12 +1,17 @@
 -- A list that has the deferrals of a run has those of the run that grows from it; and lists are short.
-use Rattle.std.proofs.Common.{ℕ, ◌+◌, ◌-◌, ◌<◌, ◌≤◌, ◌≡◌, true, List, [], ◌∷◌, ◌++◌, Some, length, take, slice_index, refl, sym, ap, subst, ◌∙◌, arith}
-use Rattle.std.proofs.lemmas.List.{length-append, take_all, take-append-le}
+use Rattle.std.proofs.Common.{ℕ, zero, suc, ◌+◌, ◌-◌, ◌<◌, ◌≤◌, ◌≡◌, Bool, true, false, List, [], ◌∷◌, Option, Some, None, length, take, slice_index, refl, sym, ap, subst, ◌∙◌, arith}
+use Rattle.std.proofs.lemmas.List.{length-append, length-map, take_all, take-append-le}
+use Rattle.std.specs.Option.{option_and_then, option_map}
 use Rattle.fsb_encode.specs.declared.request.Request.{Request}
+use Rattle.fsb_trace.specs.Deferral.{due_at}
+use Rattle.fsb_trace.specs.Winner.{begins_at}
+use Rattle.fsb_trace.specs.declared.who.Who.TheVariants.{Priority}
+use Rattle.fsb_timely.specs.Starts.{due_number, reply_to, would_begin}
+use Rattle.fsb_bridge.specs.Deferrals.{with_reply}
 use Rattle.fsb_trace.specs.Agree.{AgreeTo}
-use Rattle.fsb_trace.specs.At.{Trace, request_at}
 use Rattle.fsb_count.specs.Clocks.{all_where, count_where}
 use Rattle.fsb_trace.specs.Outcome.{is_deferral}
-use Rattle.fsb_trace.specs.Requests.{is_reply_kind, live_count}
+use Rattle.fsb_trace.specs.Requests.{live_count, live_request_of}
 use Rattle.fsb_trace.specs.Snoop.{snoop_end_of}
 use Rattle.fsb_trace.proofs.Interface.{AgreeTo-sym, snoop_end_of-stays}
 use Rattle.fsb_laws.proofs.Interface.{one_more}
@@ -14,22 +19,23 @@ use Rattle.fsb_timely.specs.Grants.{snooped_at}
 use Rattle.fsb_timely.specs.Growth.{GrowsTo}
 use Rattle.fsb_timely.specs.Moments.{number_of_turn, turns_in}
 use Rattle.fsb_timely.specs.Past.{SnoopEnd}
-use Rattle.fsb_timely.specs.Runs.{Run, past_of, run_to}
-use Rattle.fsb_timely.proofs.Interface.{past-before, snoop-tied, tied-snoop}
-use Rattle.fsb_lawful.proofs.Interface.{run_to-agrees, snooped-to, wants-lawfully}
+use Rattle.fsb_timely.specs.Runs.{Run, past_of, past_to, run_to}
+use Rattle.fsb_timely.proofs.Interface.{length-moments, moments-grow, past-before, snoop-tied, tied-snoop}
+use Rattle.fsb_lawful.proofs.Interface.{snooped-to, wants-lawfully}
 use Rattle.fsb_tied.proofs.Interface.{asked-at, deferred-held, held-plain, snooped-by}
 use Rattle.fsb_run_laws.specs.Reaches.{Reaches}
 use Rattle.fsb_bridge.specs.declared.deferral.Waiting.{Waiting}
-use Rattle.fsb_bridge.specs.DeferralList.{AreEntriesOf, StandsFor, waiting_at, waits}
+use Rattle.fsb_bridge.specs.DeferralList.{StandsFor, waiting_at}
 use Rattle.fsb_bridge.proofs.Interface.{AreEntriesOf-IsEntryOf, IsEntryOf, IsEntryOf-StandsFor, Matched}
-use Rattle.fsb_bridge_run.specs.RunDeferrals.{FindsDeferrals, HasDeferrals, turns_of}
-use Rattle.fsb_bridge_run.proofs.Alike.{SameDeferrals, stands-kept, waiting_at-same}
+use Rattle.fsb_bridge_run.specs.DeferralSteps.{after_beginning, after_reply, reply_begun}
+use Rattle.fsb_bridge_run.specs.RunDeferrals.{FindsDeferrals, HasDeferrals, ShowsDeferrals, turns_of}
+use Rattle.fsb_bridge_run.proofs.Alike.{stands-kept, waiting_at-same}
 use Rattle.fsb_bridge_run.proofs.FewDeferrals.{few-waiting}
 use Rattle.fsb_bridge_run.proofs.Listed.{Matched-length}
 use Rattle.fsb_bridge_run.proofs.RunLists.{found-whole, own-turns, take-agrees}
-use Rattle.fsb_bridge_run.proofs.WaitingSteps.{IsSnoopedHere, deferred-waiting}
+use Rattle.fsb_bridge_run.proofs.WaitingSteps.{deferred-waiting}
 
-agree-grown : (r s : Run) → GrowsTo r s → AgreeTo (length r.trace) r.trace s.trace
+pub agree-grown : (r s : Run) → GrowsTo r s → AgreeTo (length r.trace) r.trace s.trace
 agree-grown r s grows =
     subst (λ w. AgreeTo (length r.trace) r.trace w) (sym grows.next.more_trace)
     (one_more r.trace grows.next.sample).agree
@@ -42,7 +48,7 @@ snooped-grown r s t grows l =
     ap (λ p. snooped_at p t) (sym (past-before r s m grows last)) ∙ snooped-to (past_of s) m t (omega arith)
 
 -- the turns of both runs are the same
-turns-grown : (r s : Run) (i t : ℕ) → GrowsTo r s → snoop_end_of r.trace i ≡ Some t → t < length r.trace
+pub turns-grown : (r s : Run) (i t : ℕ) → GrowsTo r s → snoop_end_of r.trace i ≡ Some t → t < length r.trace
     → slice_index (turns_of r) i ≡ slice_index (turns_of s) i
 turns-grown r s i t grows e l =
     let there = snoop_end_of-stays (length r.trace) r.trace s.trace i t (agree-grown r s grows) l e in
@@ -52,9 +58,9 @@ turns-grown r s i t grows e l =
     let same : old.0 ≡ new.0 = cc in
     old.1.turn ∙ ap (λ end. number_of_turn end.turn) same ∙ sym new.1.turn
 
-pub list-grown : (r s : Run) (list : List Waiting) → GrowsTo r s → HasDeferrals list r (length r.trace)
-    → HasDeferrals list s (length r.trace)
-list-grown r s list grows has =
+shown-grown : (r s : Run) (list : List Waiting) → GrowsTo r s → ShowsDeferrals list r (length r.trace)
+    → ShowsDeferrals list s (length r.trace)
+shown-grown r s list grows has =
     let n = length r.trace in
     let whole : take n r.trace ≡ r.trace = take_all n r.trace (omega arith) in
     let cut : take n s.trace ≡ r.trace =
@@ -67,26 +73,76 @@ list-grown r s list grows has =
       same = λ i t e l. turns-grown r s i t grows e l;
     }) (omega arith) (λ i waiting. refl) here)
 
+-- the reply that began at a clock of both runs
+begun-grown : (r s : Run) (d : ℕ) → GrowsTo r s → d + 1 ≡ length r.trace → reply_begun r d ≡ reply_begun s d
+unfolding reply_begun would_begin due_number run_to past_to past_of
+begun-grown r s d grows last =
+    let trace : take (d + 1) r.trace ≡ take (d + 1) s.trace =
+    sym (ap (take (d + 1)) grows.next.more_trace ∙ take-append-le (d + 1) r.trace _ (omega arith)) in
+    let size = length-moments r (length r.trace) in
+    let moments : take (d + 1) (past_of r).moments ≡ take (d + 1) (past_of s).moments =
+    sym (ap (take (d + 1)) (moments-grow r s grows) ∙ take-append-le (d + 1) (past_of r).moments _ (omega arith)) in
+    λ i. elim (begins_at (trace i) d Priority) [
+      | true ↦ option_map reply_to (option_and_then (live_request_of (trace i))
+          (due_at (trace i) (turns_in (moments i)) d))
+      | false ↦ None
+    ]
+
+after-grown : (r s : Run) (n : ℕ) (list : List Waiting) → GrowsTo r s → n ≡ length r.trace
+    → after_beginning r n list ≡ after_beginning s n list
+unfolding after_beginning
+after-grown r s zero list grows last = refl
+after-grown r s (suc d) list grows last =
+    ap (λ o. after_reply o true list) (begun-grown r s d grows (omega arith))
+
+pub list-grown : (r s : Run) (list : List Waiting) → GrowsTo r s → HasDeferrals list r (length r.trace)
+    → HasDeferrals list s (length r.trace)
+list-grown r s list grows has = record {
+  shown = has.shown;
+  shows = shown-grown r s has.shown grows has.shows;
+  begun = has.begun ∙ after-grown r s (length r.trace) has.shown grows refl;
+}
+
 -- before the first clock nothing waits
 none-waits : (turns : List ℕ) → waiting_at [] turns 0 ≡ []
 unfolding waiting_at live_count count_where all_where
 none-waits turns = refl
 
 pub list-first : (r : Run) → HasDeferrals [] r 0
-list-first r =
-    AreEntriesOf-IsEntryOf (waiting_at [] (turns_of r) 0) [] [] (turns_of r) 0
-    (subst (Matched (IsEntryOf [] (turns_of r) 0) []) (sym (none-waits (turns_of r))) tt)
+unfolding after_beginning
+list-first r = record {
+  shown = [];
+  shows = AreEntriesOf-IsEntryOf (waiting_at [] (turns_of r) 0) [] [] (turns_of r) 0
+      (subst (Matched (IsEntryOf [] (turns_of r) 0) []) (sym (none-waits (turns_of r))) tt);
+  begun = refl;
+}
 
-pub list-most : (r : Run) (n : ℕ) (list : List Waiting) → Reaches r n → HasDeferrals list r n → length list ≤ 16
-list-most r n list h has =
+reply-length : (o : Option Request) (begun : Bool) (list : List Waiting) → length (after_reply o begun list) ≡ length list
+unfolding after_reply
+reply-length None begun list = refl
+reply-length (Some reply) begun list = length-map list (with_reply reply.did begun)
+
+beginning-length : (r : Run) (n : ℕ) (list : List Waiting) → length (after_beginning r n list) ≡ length list
+unfolding after_beginning
+beginning-length r zero list = refl
+beginning-length r (suc d) list = reply-length (reply_begun r d) true list
+
+-- the list is as long as there are requests that wait
+pub list-length : (r : Run) (n : ℕ) (list : List Waiting) → Reaches r n → HasDeferrals list r n
+    → length list ≡ length (waiting_at r.trace (turns_of r) n)
+list-length r n list h has =
     let w = r.trace in
     let v = take n w in
     let back = AgreeTo-sym n w v (take-agrees w n h.long) in
-    let live = waiting_at-same n v w (turns_of r) (turns_of r) n (own-turns n v w (turns_of r) back) (omega arith) in
-    let size = Matched-length (IsEntryOf v (turns_of r) n) list (waiting_at v (turns_of r) n)
-    (IsEntryOf-StandsFor list v (turns_of r) n has) in
+    ap length has.begun ∙ beginning-length r n has.shown
+    ∙ Matched-length (IsEntryOf v (turns_of r) n) has.shown (waiting_at v (turns_of r) n)
+    (IsEntryOf-StandsFor has.shown v (turns_of r) n has.shows)
+    ∙ ap length (waiting_at-same n v w (turns_of r) (turns_of r) n (own-turns n v w (turns_of r) back) (omega arith))
+
+pub list-most : (r : Run) (n : ℕ) (list : List Waiting) → Reaches r n → HasDeferrals list r n → length list ≤ 16
+list-most r n list h has =
+    let size = list-length r n list h has in
     let few = few-waiting r n n h (omega arith) in
-    let same = ap length live in
     omega arith
 
 -- and one more has room where a request is Deferred

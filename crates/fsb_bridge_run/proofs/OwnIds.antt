@@ -1,5 +1,5 @@
 -- In a timely run the requests that wait for their replies have IDs of their own.
-use Rattle.std.proofs.Common.{ℕ, zero, suc, ◌+◌, ◌<◌, ◌≤◌, ◌≡◌, Bool, true, false, not, Option, Some, None, length, nat_lt, refl, sym, ap, ◌∙◌, arith, inl, inr}
+use Rattle.std.proofs.Common.{ℕ, zero, suc, ◌+◌, ◌<◌, ◌≤◌, ◌≡◌, true, false, not, Option, Some, None, length, sym, ap, ◌∙◌, arith, inl, inr}
 use Rattle.std.specs.Option.{option_and_then}
 use Rattle.std.proofs.lemmas.Bool.{and_from, and_left, and_right, both_ways, cases_Bool, cases_order, eq-eqb, eqb-true, false_from_ne_true, lt-ltb}
 use Rattle.fsb_count.specs.Options.{is_before, is_some_and}
@@ -8,10 +8,10 @@ use Rattle.fsb_encode.specs.declared.request.Request.{Request}
 use Rattle.fsb_signal.specs.declared.lines.TheConstants.Lines.{ADS}
 use Rattle.fsb_signal.specs.Samples.{line_at}
 use Rattle.fsb_trace.specs.Winner.{winner_at}
-use Rattle.fsb_trace.specs.At.{Trace, request_at}
+use Rattle.fsb_trace.specs.At.{request_at}
 use Rattle.fsb_trace.specs.Flight.{is_dropped, is_finished, is_outstanding, last_clock_of, reply_end_of, reply_number_of}
 use Rattle.fsb_trace.specs.Outcome.{is_deferral, is_deferred, is_settled_deferred}
-use Rattle.fsb_trace.specs.Requests.{have_same_id, is_cancelled, is_live, is_reply, is_reply_kind, live_clock_of, live_request_of}
+use Rattle.fsb_trace.specs.Requests.{have_same_id, is_cancelled, is_live, is_reply, is_reply_kind, live_request_of}
 use Rattle.fsb_trace.specs.Response.{end_of}
 use Rattle.fsb_trace.specs.Rules.{is_id_taken_by}
 use Rattle.fsb_trace.specs.Snoop.{snoop_end_of}
@@ -110,12 +110,12 @@ still-outstanding r c n t i h l d early low none =
     (ap not (and_left _ _ live.kept)))
     (ap not (and_right _ _ (ap (λ x. is_before (last_clock_of v x) n) live.number ∙ awaits)))
 
-same-ids : (a b : Option Request) (x y : Request) → a ≡ Some x → b ≡ Some y → x.did ≡ y.did → have_same_id a b ≡ true
+pub same-ids : (a b : Option Request) (x y : Request) → a ≡ Some x → b ≡ Some y → x.did ≡ y.did → have_same_id a b ≡ true
 unfolding have_same_id is_some_and
 same-ids a b x y e f did = rw (e, f) (eq-eqb x.did y.did did)
 
 -- so no other request begins with its ID
-not-again : (r : Run) (q t i : ℕ) (d : IsDeferredAt r t i) (request : Request) → Timely r → WantsLawfully r
+pub not-again : (r : Run) (q t i : ℕ) (d : IsDeferredAt r t i) (request : Request) → Timely r → WantsLawfully r
     → r.plan.ahead ≤ 4 → begun_of r q ≡ Some request → request_at r.trace q ≡ Some request
     → is_reply_kind request.kind ≡ false → line_at ADS r.trace q ≡ true → suc q < length r.trace → d.end.first < q
     → d.request.did ≡ request.did → is_replied r.trace q i ≡ false → ⊥

@@ -1,11 +1,13 @@
 -- The reply that begins at a clock.
-use Rattle.std.proofs.Common.{ℕ, ◌≡◌, Bool, true, false, ◌&&◌, Option, Some, None, refl, ap, ◌∙◌}
-use Rattle.std.proofs.lemmas.Bool.{and_from, and_parts, both_ways}
+use Rattle.std.proofs.Common.{ℕ, ◌+◌, ◌<◌, arith, ◌≡◌, Bool, true, false, ◌&&◌, Option, Some, None, refl, ap, ◌∙◌}
+use Rattle.std.proofs.lemmas.Bool.{and_parts, both_ways}
 use Rattle.fsb_count.specs.Options.{is_some_and}
 use Rattle.fsb_encode.specs.declared.request.Request.{Request}
 use Rattle.fsb_signal.specs.declared.lines.TheConstants.Lines.{ADS}
 use Rattle.fsb_signal.specs.Samples.{line_at}
+use Rattle.fsb_trace.specs.Agree.{AgreeTo}
 use Rattle.fsb_trace.specs.At.{Trace, request_at}
+use Rattle.fsb_trace.proofs.Interface.{line_at-agree, request_at-agree}
 use Rattle.fsb_trace.specs.Requests.{is_reply}
 use Rattle.fsb_bridge_run.specs.DeferralSteps.{reply_at}
 
@@ -41,3 +43,10 @@ reply_at-none w q e ads reply =
     let there = reply_at-from w q ads reply in
     let none : request_at w q ≡ None = cc in
     both_ways (is_reply (request_at w q)) (ap is_reply none ∙ none-is) reply
+
+pub reply_at-agree : (n : ℕ) (w v : Trace) (q : ℕ) → AgreeTo n w v → q + 1 < n → reply_at w q ≡ reply_at v q
+unfolding reply_at
+reply_at-agree n w v q a l =
+    let ads = line_at-agree ADS n w v q a (omega arith) in
+    let request = request_at-agree n w v q a l in
+    λ i. elim (ads i && is_reply (request i)) [ true ↦ request i | false ↦ None ]

@@ -1,5 +1,5 @@
 -- Whether a reply is under way, one clock on.
-use Rattle.std.proofs.Common.{ℕ, suc, ◌+◌, ◌<◌, ◌≤◌, ◌≡◌, Bool, true, false, not, Option, Some, None, length, take, refl, sym, ap, subst, ◌∙◌, arith, inl, inr}
+use Rattle.std.proofs.Common.{ℕ, suc, ◌+◌, ◌<◌, ◌≤◌, ◌≡◌, true, false, not, Some, length, sym, ap, subst, ◌∙◌, arith, inl, inr}
 use Rattle.std.proofs.lemmas.Bool.{and_from, and_parts, both_ways, cases_lt, cases_order, false_from_ne_true, not-true}
 use Rattle.fsb_count.specs.Options.{is_some_and}
 use Rattle.fsb_encode.specs.declared.request.Request.{Request}
@@ -11,18 +11,18 @@ use Rattle.fsb_trace.specs.Deferral.{is_answered}
 use Rattle.fsb_trace.specs.Flight.{is_reply_to}
 use Rattle.fsb_trace.specs.Requests.{is_cancelled, is_live, is_reply, live_request_of}
 use Rattle.fsb_trace.specs.Snoop.{snoop_end_of}
-use Rattle.fsb_trace.proofs.Interface.{AgreeTo-sym, is_cancelled-agree, is_live-agree, line_at-agree, snoop_end_of-stays}
+use Rattle.fsb_trace.proofs.Interface.{AgreeTo-sym, is_cancelled-agree, is_live-agree, snoop_end_of-stays}
 use Rattle.fsb_laws.proofs.Interface.{request_at-last}
-use Rattle.fsb_timely.specs.Runs.{Run, past_of, run_to}
-use Rattle.fsb_lawful.proofs.Interface.{length-cut, run_to-agrees, wants-lawfully}
+use Rattle.fsb_timely.specs.Runs.{Run, run_to}
+use Rattle.fsb_lawful.proofs.Interface.{length-cut, run_to-agrees}
 use Rattle.fsb_tied.proofs.Interface.{orderly-whole, same-both}
 use Rattle.fsb_run_laws.specs.Reaches.{Reaches}
 use Rattle.fsb_bridge.specs.DeferralList.{waits}
 use Rattle.fsb_bridge_run.specs.RunDeferrals.{turns_of}
-use Rattle.fsb_bridge_run.proofs.DueReplies.{AnswersDue, answers-due, due-waits}
+use Rattle.fsb_bridge_run.proofs.DueReplies.{AnswersDue, due-waits}
 use Rattle.fsb_bridge_run.proofs.OwnIds.{one-id}
 use Rattle.fsb_bridge_run.proofs.UnderWay.{reply-to-kept, under-kept}
-use Rattle.fsb_bridge_run.proofs.Waiting.{IsUnderWay, answered-from, answered-parts, reply-parts, waits-parts}
+use Rattle.fsb_bridge_run.proofs.Waiting.{answered-from, answered-parts, reply-parts, waits-parts}
 
 no-reply : (w : Trace) (q : ℕ) → length w ≤ q + 1 → is_reply (request_at w q) ≡ true → ⊥
 unfolding is_reply is_some_and
@@ -39,7 +39,7 @@ within w i q e =
     ]
 
 -- where two traces agree up to d, of which the first ends there, and a reply begins at d - 1 in the other alone
-answered-before : (d : ℕ) (w v : Trace) (i t : ℕ) → AgreeTo (suc d) w v → length v ≡ suc d → snoop_end_of w i ≡ Some t
+pub answered-before : (d : ℕ) (w v : Trace) (i t : ℕ) → AgreeTo (suc d) w v → length v ≡ suc d → snoop_end_of w i ≡ Some t
     → t < suc d → is_reply_to w i d ≡ false → is_answered w (suc d) i ≡ is_answered v (suc d) i
 answered-before d w v i t a size snoop l none =
     let back = AgreeTo-sym (suc d) w v a in
@@ -60,28 +60,9 @@ answered-before d w v i t a size snoop l none =
     let shows = within v i k.0 k.1.reply in
     answered-from w (suc d) i k.0 (under-kept (suc d) v w (suc d) i t k.0 back there l (omega arith) (omega arith) k.1))
 
--- a clock before the samples end, no reply to a request is under way but those that show
-pub begun-kept : (r : Run) (d i : ℕ) → Reaches r (suc d + 1) → waits r.trace (turns_of r) (suc d) i ≡ true
-    → (v : Trace) → AgreeTo (suc d) r.trace v → length v ≡ suc d → is_reply_to r.trace i d ≡ false
-    → is_answered r.trace (suc d) i ≡ is_answered v (suc d) i
-begun-kept r d i h waiting v agree size none =
-    let a = waits-parts r.trace (turns_of r) (suc d) i waiting in
-    answered-before d r.trace v i a.snoop agree size a.is_snoop a.below none
-
 -- a reply that begins at d is under way at the next clock
 pub begun-now : (w : Trace) (d i : ℕ) → is_reply_to w i d ≡ true → is_answered w (suc d) i ≡ true
 begun-now w d i reply = answered-from w (suc d) i d (record { below = omega arith; reply = reply; kept = inr (omega arith) })
-
--- a reply that begins at d is one to the request that waits with its ID
-pub begun-for : (r : Run) (d i : ℕ) (x : Request) → Reaches r (suc d + 1) → (a : AnswersDue r d)
-    → waits r.trace (turns_of r) (suc d) i ≡ true → live_request_of r.trace i ≡ Some x → x.did ≡ a.request.did
-    → is_reply_to r.trace i d ≡ true
-begun-for r d i x h a waiting asks did =
-    let gap = a.gap in
-    let after = a.after in
-    let due = due-waits r d (suc d) a (omega arith) (omega arith) in
-    let same = one-id r (suc d + 1) (suc d) i a.number x a.request h (omega arith) waiting due asks a.asked did in
-    subst (λ k. is_reply_to r.trace k d ≡ true) (sym same) a.answers
 
 -- with no cancellation of a reply to it, a request has a reply under way after the clock c where it had one before
 pub begun-stays : (r : Run) (c i t : ℕ) → Reaches r (c + 1) → snoop_end_of r.trace i ≡ Some t → t < c + 1
@@ -121,7 +102,7 @@ begun-stays r c i t h snoop below none =
         | inr late ↦ elim (cases_lt c (q + 3)) [
           | inl more ↦ inr (omega arith)
           | inr same ↦ inl (and_from (line_at ADS v q) (not (is_cancelled v q)) (reply-parts v i q m.reply).asks
-            (ap not (sym (is_cancelled-agree (c + 1) w v q agree (omega arith)) ∙ uncancelled q (omega arith) k.1.reply)))
+              (ap not (sym (is_cancelled-agree (c + 1) w v q agree (omega arith)) ∙ uncancelled q (omega arith) k.1.reply)))
         ]
       ];
     }))

@@ -1,7 +1,7 @@
 -- The list of deferrals after the snoop end of a clock.
-use Rattle.std.proofs.Common.{ℕ, suc, ◌+◌, ◌/◌, ◌<◌, ◌≤◌, ◌≡◌, Bool, true, false, List, [], ◌∷◌, ◌++◌, Option, Some, None, length, slice_index, refl, sym, ap, subst, ◌∙◌, arith, inl, inr, if◌then◌else◌}
+use Rattle.std.proofs.Common.{ℕ, ◌+◌, ◌/◌, ◌<◌, ◌≤◌, ◌≡◌, true, false, List, [], ◌∷◌, ◌++◌, Option, Some, None, length, refl, sym, ap, subst, ◌∙◌, arith, inl, inr, if◌then◌else◌}
 use Rattle.std.specs.Option.{option_and_then, option_map}
-use Rattle.std.proofs.lemmas.Bool.{both_ways, cases_Bool, false_from_ne_true}
+use Rattle.std.proofs.lemmas.Bool.{cases_Bool, false_from_ne_true}
 use Rattle.fsb_count.specs.Clocks.{count_where}
 use Rattle.fsb_count.specs.Options.{is_before, is_some_and}
 use Rattle.fsb_count.proofs.Interface.{is_before-parts}
@@ -11,34 +11,33 @@ use Rattle.fsb_encode.specs.declared.request.Request.{Request}
 use Rattle.fsb_hazard.specs.Choice.{is_never_held_up}
 use Rattle.fsb_signal.specs.declared.lines.TheConstants.Lines.{ADS, HIT}
 use Rattle.fsb_signal.specs.Samples.{line_at}
-use Rattle.fsb_trace.specs.declared.who.Who.TheVariants.{Symmetric}
+use Rattle.fsb_trace.specs.Agree.{AgreeTo}
 use Rattle.fsb_trace.specs.At.{Trace, request_at}
 use Rattle.fsb_trace.specs.Deferral.{is_answered, later_of}
-use Rattle.fsb_trace.specs.Flight.{reply_number_of}
 use Rattle.fsb_trace.specs.Outcome.{is_deferral, response_clock_of}
-use Rattle.fsb_trace.specs.Requests.{is_reply, is_reply_kind, line_of, live_clock_of, live_number_of, live_request_of}
+use Rattle.fsb_trace.specs.Requests.{is_reply, is_reply_kind, line_of}
 use Rattle.fsb_trace.specs.Snoop.{line_at_snoop_end, snoop_end_of}
 use Rattle.fsb_trace.specs.Winner.{winner_at}
-use Rattle.fsb_trace.proofs.Interface.{is_reply-some, live_request_of-at, winner_at-agree}
+use Rattle.fsb_trace.proofs.Interface.{live_request_of-at, winner_at-agree}
 use Rattle.fsb_timely.specs.Grants.{begun_at, snooped_at}
-use Rattle.fsb_timely.specs.Moments.{agent_at, claim_at, number_of_turn}
+use Rattle.fsb_timely.specs.Moments.{agent_at, claim_at}
 use Rattle.fsb_timely.specs.Past.{Claim, SnoopEnd}
 use Rattle.fsb_timely.specs.Runs.{Run, past_of, past_to, requests_below, run_to}
 use Rattle.fsb_timely.specs.Starts.{request_begun, would_begin}
 use Rattle.fsb_timely.proofs.Interface.{begun-told, tied-snoop}
 use Rattle.fsb_lawful.proofs.Interface.{begun-winner, begun_of, get-there, run_to-agrees, wanted-by, wants-lawfully}
-use Rattle.fsb_tied.proofs.Interface.{answered, asked-at, begun-want, deferred-held, live-at, orderly-whole, snooped-by}
+use Rattle.fsb_tied.proofs.Interface.{answered, asked-at, begun-want, deferred-held, orderly-whole, snooped-by}
 use Rattle.fsb_run_laws.specs.Reaches.{Reaches}
 use Rattle.fsb_bridge.specs.declared.deferral.Waiting.{Waiting}
 use Rattle.fsb_bridge.specs.Deferrals.{waiting_without}
-use Rattle.fsb_bridge.specs.DeferralList.{AreEntriesOf, HaveOwnIds, StandsFor, live_line_of, request_number_of, response_before, waiting_at, waiting_besides, waits}
+use Rattle.fsb_bridge.specs.DeferralList.{StandsFor, live_line_of, request_number_of, response_before, waiting_at, waiting_besides}
 use Rattle.fsb_bridge.proofs.Interface.{IsEntryOf, IsEntryOf-AreEntriesOf, IsEntryOf-StandsFor, Matched, waiting_without-reply}
-use Rattle.fsb_bridge_run.specs.DeferralSteps.{after_snoop, after_snoop_of, deferral_made}
+use Rattle.fsb_bridge_run.specs.DeferralSteps.{after_snoop_end, after_snoop_end_of, deferral_made}
 use Rattle.fsb_bridge_run.specs.RunDeferrals.{turns_of}
-use Rattle.fsb_bridge_run.proofs.DueReplies.{AnswersDue, answers-due, due-replied, live-of}
 use Rattle.fsb_bridge_run.proofs.Listed.{Matched-more}
 use Rattle.fsb_bridge_run.proofs.OwnIds.{own-ids}
-use Rattle.fsb_bridge_run.proofs.Waiting.{answered-parts, is_replied, reply-parts, waits-from}
+use Rattle.fsb_bridge_run.proofs.RepliesIn.{TakesDeferral, takes-in}
+use Rattle.fsb_bridge_run.proofs.Waiting.{answered-parts, reply-parts}
 use Rattle.fsb_bridge_run.proofs.WaitingSteps.{IsSnoopedHere, deferred-waiting, plain-waiting, quiet-waiting, replied-waiting}
 
 -- the claim of a symmetric agent's request: its line is the one that the first clock shows
@@ -137,74 +136,58 @@ made-entry r c i s request h here begun plain =
       begun = made-begun r c i h k.tied.reached;
     }
 
-after_snoop-none : (r : Run) (c : ℕ) (list : List Waiting) → snooped_at (past_of r) c ≡ None
-    → after_snoop r c list ≡ list
-unfolding after_snoop
-after_snoop-none r c list e = rw (after_snoop, e) refl
+pub after_snoop_end-none : (r : Run) (c : ℕ) (list : List Waiting) → snooped_at (past_of r) c ≡ None
+    → after_snoop_end r c list ≡ list
+unfolding after_snoop_end
+after_snoop_end-none r c list e = rw (after_snoop_end, e) refl
 
-after_snoop-some : (r : Run) (c : ℕ) (list : List Waiting) (s : SnoopEnd) (request : Request)
+pub after_snoop_end-lost : (r : Run) (c : ℕ) (list : List Waiting) (s : SnoopEnd) → snooped_at (past_of r) c ≡ Some s
+    → request_at r.trace s.first ≡ None → after_snoop_end r c list ≡ list
+unfolding after_snoop_end
+after_snoop_end-lost r c list s e f = rw (after_snoop_end, e, f) refl
+
+pub after_snoop_end-some : (r : Run) (c : ℕ) (list : List Waiting) (s : SnoopEnd) (request : Request)
     → snooped_at (past_of r) c ≡ Some s → request_at r.trace s.first ≡ Some request
-    → after_snoop r c list ≡ after_snoop_of r.trace c s request list
-unfolding after_snoop
-after_snoop-some r c list s request e f = rw (after_snoop, e, f) refl
+    → after_snoop_end r c list ≡ after_snoop_end_of r.trace c s request list
+unfolding after_snoop_end
+after_snoop_end-some r c list s request e f = rw (after_snoop_end, e, f) refl
 
-after-reply : (w : Trace) (c : ℕ) (s : SnoopEnd) (request : Request) (list : List Waiting)
-    → is_reply_kind request.kind ≡ true → after_snoop_of w c s request list ≡ waiting_without request.did list
-unfolding after_snoop_of
-after-reply w c s request list e = rw (after_snoop_of, e) refl
+pub after-reply : (w : Trace) (c : ℕ) (s : SnoopEnd) (request : Request) (list : List Waiting)
+    → is_reply_kind request.kind ≡ true → after_snoop_end_of w c s request list ≡ waiting_without request.did list
+unfolding after_snoop_end_of
+after-reply w c s request list e = rw (after_snoop_end_of, e) refl
 
-after-deferral : (w : Trace) (c : ℕ) (s : SnoopEnd) (request : Request) (list : List Waiting)
+pub after-deferral : (w : Trace) (c : ℕ) (s : SnoopEnd) (request : Request) (list : List Waiting)
     → is_reply_kind request.kind ≡ false → is_deferral s.outcome ≡ true
-    → after_snoop_of w c s request list ≡ list ++ deferral_made w c s request ∷ []
-unfolding after_snoop_of
-after-deferral w c s request list e f = rw (after_snoop_of, e, f) refl
+    → after_snoop_end_of w c s request list ≡ list ++ deferral_made w c s request ∷ []
+unfolding after_snoop_end_of
+after-deferral w c s request list e f = rw (after_snoop_end_of, e, f) refl
 
-after-plain : (w : Trace) (c : ℕ) (s : SnoopEnd) (request : Request) (list : List Waiting)
-    → is_reply_kind request.kind ≡ false → is_deferral s.outcome ≡ false → after_snoop_of w c s request list ≡ list
-unfolding after_snoop_of
-after-plain w c s request list e f = rw (after_snoop_of, e, f) refl
+pub after-plain : (w : Trace) (c : ℕ) (s : SnoopEnd) (request : Request) (list : List Waiting)
+    → is_reply_kind request.kind ≡ false → is_deferral s.outcome ≡ false → after_snoop_end_of w c s request list ≡ list
+unfolding after_snoop_end_of
+after-plain w c s request list e f = rw (after_snoop_end_of, e, f) refl
 
 -- the reply whose snoop end is the clock: which request it answers
-pub record TakesDeferral (r : Run) (c i : ℕ) (reply : Request) : Type 0 where
-  pub number : ℕ
-  pub waiting : waits r.trace (turns_of r) c number ≡ true
-  pub answers : reply_number_of r.trace number ≡ Some i
-  pub is_reply : live_request_of r.trace i ≡ Some reply
-
-pub takes-deferral : (r : Run) (c i : ℕ) (s : SnoopEnd) (reply : Request) → Reaches r (c + 1)
-    → IsSnoopedHere r c i s reply → is_reply_kind reply.kind ≡ true → TakesDeferral r c i reply
+takes-deferral : (r : Run) (c i : ℕ) (s : SnoopEnd) (reply : Request) → Reaches r (c + 1) → IsSnoopedHere r c i s reply
+    → is_reply_kind reply.kind ≡ true → TakesDeferral r.trace (turns_of r) c i reply
 takes-deferral r c i s reply h here replies =
-    let w = r.trace in
-    let k = here.snooped in
-    let q : ℕ = s.first in
-    let above = k.above in
-    let within = k.within in
-    let d = answers-due r q h.timely (wants-lawfully r h.bounds) h.bounds.few_ahead (omega arith) k.ads
-    (ap is_reply here.decoded ∙ is_reply-some reply ∙ replies) in
-    let gap = d.gap in
-    let after = d.after in
-    let live = live-of w i q k.tied.first in
-    let number = due-replied r q d (omega arith) live ∙ ap Some (live-at w i q k.tied.first).number in
-    let reached = ap (option_and_then (snoop_end_of w)) number ∙ k.tied.reached in
-    record {
-      number = d.number;
-      waiting = waits-from w (turns_of r) c d.number d.snoop d.deferred d.is_snoop (omega arith)
-          (ap (λ o. is_before o c) reached ∙ not-itself c);
-      answers = number;
-      is_reply = live_request_of-at w i q reply k.tied.first here.decoded;
-    }
-  where
-    not-itself : (c : ℕ) → is_before (Some c) c ≡ false
-    not-itself c = false_from_ne_true (is_before (Some c) c) (λ t.
-        let x = is_before-parts (Some c) c t in
-        let below = x.2 in
-        let same : c ≡ x.0 = (let e = x.1 in cc) in
-        omega arith)
+    let long = h.long in
+    let short : Reaches r c = record { timely = h.timely; bounds = h.bounds; long = omega arith } in
+    let itself : AgreeTo c r.trace r.trace = record { left = omega arith; right = omega arith; same = λ d l. refl } in
+    takes-in r c i s.first r.trace (turns_of r) reply short
+    (record { agree = itself; same = λ k t e l. refl })
+    (record {
+      reached = here.snooped.tied.reached;
+      first = here.snooped.tied.first;
+      decoded = here.decoded;
+      replies = replies;
+    })
 
 snoop-some : (r : Run) (c i : ℕ) (s : SnoopEnd) (request : Request) (list : List Waiting) → Reaches r (c + 1)
     → IsSnoopedHere r c i s request → begun_of r s.first ≡ Some request
     → StandsFor list r.trace (turns_of r) c
-    → Matched (IsEntryOf r.trace (turns_of r) c) (after_snoop_of r.trace c s request list)
+    → Matched (IsEntryOf r.trace (turns_of r) c) (after_snoop_end_of r.trace c s request list)
     (waiting_at r.trace (turns_of r) (c + 1))
 snoop-some r c i s request list h here begun stands =
     let w = r.trace in
@@ -217,7 +200,7 @@ snoop-some r c i s request list h here begun stands =
       | inl reply ↦
           let t = takes-deferral r c i s request h here reply in
           let left = waiting_without-reply list w turns c t.number i request (own-ids r (c + 1) c h (omega arith))
-          stands t.waiting t.answers t.is_reply in
+          stands t.waiting t.answers t.asked in
           let kept : is_deferral s.outcome ≡ false = false_from_ne_true (is_deferral s.outcome) (λ deferred.
           deferred-plain request.kind (held deferred) reply) in
           subst (λ xs. Matched R xs (waiting_at w turns (c + 1))) (sym (after-reply w c s request list reply))
@@ -241,15 +224,15 @@ snoop-some r c i s request list h here begun stands =
 -- after the snoop end each request that waits at the next clock has its entry
 pub snoop-entries : (r : Run) (c : ℕ) (list : List Waiting) → Reaches r (c + 1)
     → StandsFor list r.trace (turns_of r) c
-    → Matched (IsEntryOf r.trace (turns_of r) c) (after_snoop r c list) (waiting_at r.trace (turns_of r) (c + 1))
+    → Matched (IsEntryOf r.trace (turns_of r) c) (after_snoop_end r c list) (waiting_at r.trace (turns_of r) (c + 1))
 snoop-entries r c list h stands = by (snooped_at (past_of r) c) refl
   where
     by : (o : Option SnoopEnd) → snooped_at (past_of r) c ≡ o
-        → Matched (IsEntryOf r.trace (turns_of r) c) (after_snoop r c list)
+        → Matched (IsEntryOf r.trace (turns_of r) c) (after_snoop_end r c list)
         (waiting_at r.trace (turns_of r) (c + 1))
     by None e =
         subst (λ xs. Matched (IsEntryOf r.trace (turns_of r) c) xs (waiting_at r.trace (turns_of r) (c + 1)))
-        (sym (after_snoop-none r c list e))
+        (sym (after_snoop_end-none r c list e))
         (subst (Matched (IsEntryOf r.trace (turns_of r) c) list) (sym (quiet-waiting r c e))
         (IsEntryOf-StandsFor list r.trace (turns_of r) c stands))
     by (Some s) e =
@@ -257,5 +240,5 @@ snoop-entries r c list h stands = by (snooped_at (past_of r) c) refl
         let k = snooped-by r c tied.0 s tied.1 in
         let a = asked-at r c tied.0 s h.timely (wants-lawfully r h.bounds) k in
         subst (λ xs. Matched (IsEntryOf r.trace (turns_of r) c) xs (waiting_at r.trace (turns_of r) (c + 1)))
-        (sym (after_snoop-some r c list s a.request e a.decoded))
+        (sym (after_snoop_end-some r c list s a.request e a.decoded))
         (snoop-some r c tied.0 s a.request list h (record { snooped = k; decoded = a.decoded }) a.begun stands)

@@ -1,7 +1,7 @@
 -- What it says that a live request waits for its reply, and that a reply to it is under way.
 use Rattle.std.proofs.Common.{ℕ, ◌+◌, ◌<◌, ◌≤◌, ◌≡◌, Bool, true, false, not, ◌&&◌, ◌||◌, List, Some, nat_le, nat_lt, refl, sym, ap, ◌∙◌, ◌⊎◌, Option, arith, inl, inr}
 use Rattle.std.specs.Option.{option_and_then}
-use Rattle.std.proofs.lemmas.Bool.{and_from, and_parts, both_ways, cases_Bool, cases_lt, false_from_ne_true, le-leb, leb-true, lt-leb, lt-ltb, ltb-false, ltb-true, le-ltb, not-true}
+use Rattle.std.proofs.lemmas.Bool.{and_from, and_parts, both_ways, cases_lt, false_from_ne_true, le-leb, leb-true, lt-leb, lt-ltb, le-ltb, not-true}
 use Rattle.fsb_count.specs.Options.{is_before}
 use Rattle.fsb_count.proofs.Interface.{any_where-at, any_where-found, is_before-from, is_before-parts}
 use Rattle.fsb_signal.specs.declared.lines.TheConstants.Lines.{ADS}
@@ -133,11 +133,11 @@ pub record IsUnderWay (w : Trace) (c i q : ℕ) : Type 0 where
   pub reply : is_reply_to w i q ≡ true
   pub kept : (is_live w q ≡ true) ⊎ (c ≤ q + 3)
 
-either : (a b : Bool) → (a || b) ≡ true → (a ≡ true) ⊎ (b ≡ true)
+pub either : (a b : Bool) → (a || b) ≡ true → (a ≡ true) ⊎ (b ≡ true)
 either true b e = inl refl
 either false b e = inr e
 
-either-from : (a b : Bool) → (a ≡ true) ⊎ (b ≡ true) → (a || b) ≡ true
+pub either-from : (a b : Bool) → (a ≡ true) ⊎ (b ≡ true) → (a || b) ≡ true
 either-from true b h = refl
 either-from false b (inl e) = absurd (let no : ⊥ = cc in no)
 either-from false b (inr e) = e
@@ -147,15 +147,17 @@ unfolding is_answered under_way
 answered-parts w c i e =
     let a = any_where-found (answers w c i) c e in
     let q : ℕ = a.0 in
-    let b = and_parts (is_reply_to w i q) (is_live w q || nat_le c (q + 3)) (sym (answers-form w c i q a.1) ∙ a.2) in
-    (q, record {
-      below = a.1;
-      reply = b.0;
-      kept = elim (either (is_live w q) (nat_le c (q + 3)) b.1) [
-        | inl t ↦ inl t
-        | inr t ↦ inr (leb-true c (q + 3) t)
-      ];
-    })
+    let b = and_parts (is_reply_to w i q) (is_live w q || nat_le c (q + 3)) (sym (answers-form w c i q a.1) ∙ a.2) in (
+      q,
+      record {
+        below = a.1;
+        reply = b.0;
+        kept = elim (either (is_live w q) (nat_le c (q + 3)) b.1) [
+          | inl t ↦ inl t
+          | inr t ↦ inr (leb-true c (q + 3) t)
+        ];
+      },
+    )
 
 pub answered-from : (w : Trace) (c i q : ℕ) → IsUnderWay w c i q → is_answered w c i ≡ true
 unfolding is_answered under_way

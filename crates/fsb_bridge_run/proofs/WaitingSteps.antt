@@ -1,13 +1,13 @@
 -- Which requests wait for their replies, one clock on.
-use Rattle.std.proofs.Common.{ℕ, ◌+◌, ◌<◌, ◌≤◌, ◌≡◌, ◌≢◌, Bool, true, false, not, ◌&&◌, List, [], ◌∷◌, ◌++◌, Option, Some, None, length, nat_eq, refl, sym, ap, subst, ◌∙◌, arith, inl, inr}
+use Rattle.std.proofs.Common.{ℕ, ◌+◌, ◌<◌, ◌≤◌, ◌≡◌, ◌≢◌, true, false, not, ◌&&◌, List, [], ◌∷◌, ◌++◌, Some, None, nat_eq, sym, ap, subst, ◌∙◌, arith, inl, inr}
 use Rattle.std.specs.Option.{option_and_then}
 use Rattle.std.proofs.lemmas.Bool.{and_from, and_parts, both_ways, cases_lt, cases_order, eq-eqb, false_from_ne_true, ne_eqb, not-true}
 use Rattle.fsb_count.specs.Options.{is_before, is_some_and}
-use Rattle.fsb_count.proofs.Interface.{is_before-from, is_before-none, is_before-parts}
+use Rattle.fsb_count.proofs.Interface.{is_before-from, is_before-parts}
 use Rattle.fsb_encode.specs.declared.request.Request.{Request}
 use Rattle.fsb_trace.specs.At.{Trace, request_at}
-use Rattle.fsb_trace.specs.Flight.{is_reply_to, reply_number_of}
-use Rattle.fsb_trace.specs.Outcome.{is_deferral, is_settled_deferred, response_clock_of}
+use Rattle.fsb_trace.specs.Flight.{reply_number_of}
+use Rattle.fsb_trace.specs.Outcome.{is_deferral, is_settled_deferred}
 use Rattle.fsb_trace.specs.Requests.{is_reply, is_reply_kind, live_clock_of, live_count, live_request_of}
 use Rattle.fsb_trace.specs.Snoop.{snoop_end_of}
 use Rattle.fsb_trace.proofs.Interface.{is_reply-some, live_below_count, snoop_end_of-clock, snoop_end_of-rises}
@@ -15,15 +15,15 @@ use Rattle.fsb_timely.specs.Grants.{snooped_at}
 use Rattle.fsb_timely.specs.Past.{SnoopEnd}
 use Rattle.fsb_timely.specs.Runs.{Run, past_of}
 use Rattle.fsb_timely.proofs.Interface.{one_end, snoop-tied}
-use Rattle.fsb_lawful.proofs.Interface.{and-then, wants-lawfully}
+use Rattle.fsb_lawful.proofs.Interface.{and-then}
 use Rattle.fsb_tied.proofs.Interface.{IsSnooped, answered, orderly-whole, same-both}
 use Rattle.fsb_run_laws.specs.Reaches.{Reaches}
 use Rattle.fsb_bridge.specs.DeferralList.{waiting_at, waiting_besides, waits}
 use Rattle.fsb_bridge_run.specs.RunDeferrals.{turns_of}
-use Rattle.fsb_bridge_run.proofs.DueReplies.{AnswersDue, IsReplied, is-replied}
+use Rattle.fsb_bridge_run.proofs.DueReplies.{is-replied}
 use Rattle.fsb_bridge_run.proofs.Listed.{all_where-added, all_where-below}
 use Rattle.fsb_bridge_run.proofs.OwnIds.{one-id, request-waiting, same-dids}
-use Rattle.fsb_bridge_run.proofs.Waiting.{earlier, is_replied, reply-parts, waits-from, waits-live, waits-parts}
+use Rattle.fsb_bridge_run.proofs.Waiting.{earlier, is_replied, reply-parts, waits-from, waits-parts}
 
 -- a request that waits at the next clock waits already, if its snoop end lies below
 waits-before : (w : Trace) (turns : List ℕ) (c i t : ℕ) → waits w turns (c + 1) i ≡ true → snoop_end_of w i ≡ Some t
@@ -53,7 +53,7 @@ waits-on w turns c i e none =
     ]))
 
 -- a request that is Deferred at the clock waits from then on
-waits-new : (r : Run) (c i : ℕ) → Reaches r (c + 1) → snoop_end_of r.trace i ≡ Some c
+pub waits-new : (r : Run) (c i : ℕ) → Reaches r (c + 1) → snoop_end_of r.trace i ≡ Some c
     → is_settled_deferred r.trace (turns_of r) i ≡ true → waits r.trace (turns_of r) (c + 1) i ≡ true
 waits-new r c i h e deferred =
     let w = r.trace in
@@ -109,13 +109,13 @@ pub record IsSnoopedHere (r : Run) (c i : ℕ) (s : SnoopEnd) (request : Request
   pub snooped : IsSnooped r c i s
   pub decoded : request_at r.trace s.first ≡ Some request
 
-settled-here : (r : Run) (c i : ℕ) (s : SnoopEnd) → IsSnooped r c i s
+pub settled-here : (r : Run) (c i : ℕ) (s : SnoopEnd) → IsSnooped r c i s
     → is_settled_deferred r.trace (turns_of r) i ≡ is_deferral s.outcome
 unfolding is_settled_deferred is_some_and
 settled-here r c i s k = ap (λ o. is_some_and o is_deferral) k.tied.outcome
 
 -- the snoop end of a request that is no reply ends no wait
-plain-on : (r : Run) (c i k : ℕ) (s : SnoopEnd) (request : Request) → IsSnoopedHere r c i s request
+pub plain-on : (r : Run) (c i k : ℕ) (s : SnoopEnd) (request : Request) → IsSnoopedHere r c i s request
     → is_reply_kind request.kind ≡ false → waits r.trace (turns_of r) c k ≡ true
     → waits r.trace (turns_of r) (c + 1) k ≡ true
 plain-on r c i k s request here plain e =

@@ -1,2 +1,2 @@
-pub mod RunDeferrals
 pub mod DeferralSteps
+pub mod RunDeferrals

@@ -16,7 +16,7 @@ use Rattle.fsb_run_laws.specs.Reaches.{Reaches}
 use Rattle.fsb_run_laws.specs.RunStates.{state_below, state_of_tests, state_granted}
 
 -- no store is logged above the end of a grant that is new
-none-stored : (p : Past) (a line n : ℕ) (grant : Grant) → ClockFacts p line n → is_granted p a line n ≡ true
+pub none-stored : (p : Past) (a line n : ℕ) (grant : Grant) → ClockFacts p line n → is_granted p a line n ≡ true
     → grant_at p n ≡ Some grant → is_stored_below p a line (n + 1) grant.first ≡ false
 none-stored p a line n grant h t there = false_from_ne_true _ (λ stored.
     let now = granted-now p a line n h t in

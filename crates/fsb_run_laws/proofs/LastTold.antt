@@ -28,7 +28,7 @@ use Rattle.fsb_run_laws.proofs.BroughtLines.{snoop-below}
 use Rattle.fsb_run_laws.proofs.LastClocks.{has-end}
 
 -- a request that has responded is Deferred as told where it is so as settled
-told-same : (r : Run) (n t k x : ℕ) (s : SnoopEnd) → Reaches r (n + 1) → IsSnooped r t k s
+pub told-same : (r : Run) (n t k x : ℕ) (s : SnoopEnd) → Reaches r (n + 1) → IsSnooped r t k s
     → response_clock_of r.trace k ≡ Some x → x ≤ n → is_deferred r.trace k ≡ is_deferral s.outcome
 unfolding is_deferred is_some_and
 told-same r n t k x s h snooped e low =
@@ -57,14 +57,14 @@ told-same r n t k x s h snooped e low =
     ∙ ap (λ o. is_some_and o is_deferral) (told.outcome ∙ turned.outcome) ∙ ap (λ x. is_deferral x.outcome) end
 
 -- the last clock of a live request
-last-live : (w : Trace) (n i q : ℕ) → live_clock_of w i ≡ Some q → is_last_clock w n q ≡ is_at (last_clock_of w i) n
+pub last-live : (w : Trace) (n i q : ℕ) → live_clock_of w i ≡ Some q → is_last_clock w n q ≡ is_at (last_clock_of w i) n
 unfolding is_last_clock is_live is_cancelled
 last-live w n i q e =
     let k = live-at w i q e in
     rw (k.kept, k.asks, k.number) refl
 
 -- what ends at n, with its snoop end
-record EndsWith (r : Run) (n q : ℕ) (s : SnoopEnd) : Type 0 where
+pub record EndsWith (r : Run) (n q : ℕ) (s : SnoopEnd) : Type 0 where
   pub number : ℕ
   pub end : end_of r.trace number ≡ Some n
   pub first : live_clock_of r.trace number ≡ Some q
@@ -74,7 +74,7 @@ record EndsWith (r : Run) (n q : ℕ) (s : SnoopEnd) : Type 0 where
   pub clock : ℕ
   pub snooped : IsSnooped r clock number s
 
-ends-with : (r : Run) (n q : ℕ) (s : SnoopEnd) → Reaches r (n + 1) → is_end_at (past_of r) n q ≡ true
+pub ends-with : (r : Run) (n q : ℕ) (s : SnoopEnd) → Reaches r (n + 1) → is_end_at (past_of r) n q ≡ true
     → snoop_end_below (past_of r) (n + 1) q ≡ Some s → EndsWith r n q s
 ends-with r n q s h e below =
     let w = r.trace in

@@ -15,3 +15,5 @@ pub mod BegunIds
 pub mod BroughtLines
 pub mod LastTold
 pub mod LastPuts
+pub mod LeftRequests
+pub mod Interface

@@ -47,7 +47,7 @@ dropped-agree n a b q agree =
     nothing false false = refl
 
 -- a request of a symmetric agent is no reply, in the whole trace
-no-reply : (r : Run) (q : ℕ) (claim : Claim) (n : ℕ) → Reaches r n → q < n → begun_at (past_of r) q ≡ Some claim
+pub no-reply : (r : Run) (q : ℕ) (claim : Claim) (n : ℕ) → Reaches r n → q < n → begun_at (past_of r) q ≡ Some claim
     → is_reply (request_at r.trace q) ≡ false
 unfolding is_reply is_some_and
 no-reply r q claim n h below begun =

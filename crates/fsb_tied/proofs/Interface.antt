@@ -21,8 +21,6 @@ pub use Rattle.fsb_tied.proofs.LinkOrder.{first-link}
 pub use Rattle.fsb_tied.proofs.OneReply.{deferred-held, held-plain, told-deferred}
 -- The last live request that put a line into memory, one clock on.
 pub use Rattle.fsb_tied.proofs.PutLines.{number-put, number-stays, takes_line}
--- What a line with a deferral is: pending; and the turns that the moments below a clock have.
-pub use Rattle.fsb_tied.proofs.PendingLines.{turn-so-far}
 -- A reply that is seen in the samples up to a clock is the reply of the whole run.
 pub use Rattle.fsb_tied.proofs.RepliesSeen.{has-reply, live-request, reply-stays, same-both}
 -- A reply grants the line of the request that it answers.
@@ -56,8 +54,12 @@ pub use Rattle.fsb_tied.proofs.ReplyEnds.{reply-end-at}
 -- The accesses of a clock of a timely run are served: those of hits, and those that come with the end of another line.
 pub use Rattle.fsb_tied.proofs.ServedAccesses.{grant-first, granted-parts}
 -- An agent has at most one line of a cache set, held or asked for.
-pub use Rattle.fsb_tied.proofs.Slots.{Slot, one-slot}
+pub use Rattle.fsb_tied.proofs.Slots.{Slot, asked-unevicted, begun-apart, one-slot}
 -- At the snoop end of a symmetric agent's request that request is open, and no open one is older.
 pub use Rattle.fsb_tied.proofs.SnoopOpen.{cancels, live-at}
 -- Lines of one cache set, and the victim among them.
 pub use Rattle.fsb_tied.proofs.Victims.{a-victim, dirty-held, no-victim, rival-other, rival-set, rival-sym, same-set, same-set-sym}
+-- A request that is put off: its snoop end, and its claim; and its turn, as the moments below a clock have it.
+pub use Rattle.fsb_tied.proofs.PendingLines.{IsPutOff, turn-so-far}
+-- The machine's line after the events below a clock, and before the clock's snoop end.
+pub use Rattle.fsb_tied.proofs.TiedRuns.{events-may-happen, tied-through}

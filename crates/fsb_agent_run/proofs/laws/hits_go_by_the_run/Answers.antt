@@ -10,4 +10,4 @@ returns-clause-hit c =
 
 pub returns-clause-arrival : goal.returns-clause-arrival
 returns-clause-arrival c =
-    λ p a d v out h k. arrival-by p a d (λ line. is_dirty_snooped p a line d) v out h.agent h.placed h.lines k
+    λ p a d v out h k. arrival-by p a d (λ line. is_dirty_snooped p a line d) v out h.agent h.placed.item h.lines k

@@ -1,4 +1,4 @@
-use Rattle.fsb_bridge_run.proofs.ListWords.{any-listed, begun-listed, due-listed, would-listed}
+use Rattle.fsb_bridge_run.proofs.ListWords.{any-listed, due-listed, would-listed}
 use Rattle.fsb_bridge_run.proofs.laws.due_replies_are_those_of_the_list.Goals as goal
 
 pub returns-clause-number : goal.returns-clause-number
@@ -9,6 +9,3 @@ returns-clause-any c = any-listed
 
 pub returns-clause-would : goal.returns-clause-would
 returns-clause-would c = would-listed
-
-pub returns-clause-begun : goal.returns-clause-begun
-returns-clause-begun c = begun-listed

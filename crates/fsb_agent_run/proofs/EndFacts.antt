@@ -1,0 +1,466 @@
+-- What ends for an agent at a clock: which request of its is not outstanding any more, and what comes.
+use Rattle.std.proofs.Common.{ℕ, ◌+◌, ◌<◌, ◌≤◌, ◌≡◌, ◌≢◌, ◌⊎◌, Bool, true, false, not, ◌&&◌, ◌||◌, List, [], ◌∷◌, ◌++◌, map, length, Option, Some, None, is_some, nat_eq, refl, sym, ap, subst, ◌∙◌, inl, inr, arith, if◌then◌else◌}
+use Rattle.std.specs.List.{filter, find, list_any}
+use Rattle.std.specs.Option.{option_and_then, option_map}
+use Rattle.std.proofs.lemmas.Bool.{and_from, and_parts, both_ways, cases_Bool, eq-eqb, eqb-true, false_from_ne_true, ne_eqb, or_cases, or_left, or_right}
+use Rattle.std.proofs.lemmas.List.Elements.{filter-append}
+use Rattle.fsb_count.specs.Clocks.{first_where}
+use Rattle.fsb_count.specs.Options.{is_at, is_some_and}
+use Rattle.fsb_count.proofs.Interface.{first_where-found, is_at-from, is_at-some}
+use Rattle.fsb_encode.specs.declared.request.Kind.{Kind}
+use Rattle.fsb_encode.specs.declared.request.Kind.TheVariants as kinds
+use Rattle.fsb_encode.specs.declared.request.Request.{Request}
+use Rattle.fsb_line.specs.States.{kind_owns}
+use Rattle.fsb_timely.specs.Past.{Claim, Grant, Owing, Past, SnoopEnd}
+use Rattle.fsb_timely.specs.Grants.{begun_at, grant_at, is_end_at, is_granted, is_owning, snooped_at}
+use Rattle.fsb_timely.specs.Growth.{is_last_clock}
+use Rattle.fsb_timely.specs.Moments.{is_snoop_of, is_upgraded}
+use Rattle.fsb_timely.specs.Runs.{Run, past_of}
+use Rattle.fsb_timely.specs.Wants.{owed, want_of}
+use Rattle.fsb_trace.specs.Outcome.{is_deferral}
+use Rattle.fsb_coherent.specs.Awaits.{cancelled_in, snoop_end_below}
+use Rattle.fsb_coherent.proofs.Interface.{some-there}
+use Rattle.fsb_lawful.proofs.Interface.{and-then, map-some}
+use Rattle.fsb_tied.proofs.Interface.{answers-in-order, begun-want, cancels, ended-number, grant-first, one-ends, orderly-whole, same-both, snooped-by}
+use Rattle.fsb_timely.proofs.Interface.{tied-snoop}
+use Rattle.fsb_run_laws.specs.Reaches.{Reaches}
+use Rattle.fsb_run_laws.proofs.Interface.{LeavesByEnd, LeftByOwn, LeftByReply, ServesOutstanding, cancelled-last, ending-serves, ends-last, last-outstanding, last-says, snooped-outstanding}
+use Rattle.fsb_agent_view.specs.declared.want.OwnRequest.{OwnRequest}
+use Rattle.fsb_agent_view.specs.AgentViews.{AgentView}
+use Rattle.fsb_agent_view.specs.OwnRequests.{request_numbered}
+use Rattle.fsb_agent_view.specs.Snooping.{kind_asks}
+use Rattle.fsb_agent_run.specs.AgentClocks.{number_asked}
+use Rattle.fsb_agent_run.specs.Ending.{EndsFor, NothingEndsFor, number_claimed, number_left, number_replied}
+use Rattle.fsb_agent_run.specs.RunViews.{HasRequestsOf, IsComing, owing_by}
+use Rattle.fsb_agent_run.specs.Stages.{begun_by, is_uncancelled, owed_sent, owed_through}
+use Rattle.fsb_agent_run.proofs.Among.{Among, among-found, among-left, filter-all, filter-among, filter-same, filter-two}
+use Rattle.fsb_agent_run.proofs.GrantsAwaited.{end-once}
+use Rattle.fsb_agent_run.proofs.OtherSnoops.{IsServed, asked-number, served-out}
+use Rattle.fsb_agent_run.proofs.OutLists.{find-number, out-there, wanted-of}
+use Rattle.fsb_agent_run.proofs.OwedApart.{one-first, one-line, owed-apart}
+use Rattle.fsb_agent_run.proofs.OwedSteps.{begun-is, begun-owing, owed-more, owed-there, owing-is, reaches-less, stays_out}
+use Rattle.fsb_agent_run.proofs.OwnSnoops.{IsSettledAs, grant-of-snoop, settled-as}
+use Rattle.fsb_agent_run.proofs.SnoopSteps.{outs-apart}
+
+-- the snoop end of a request below a clock
+pub below-says : (p : Past) (n q : ℕ) (s : SnoopEnd) → snoop_end_below p n q ≡ Some s
+    → (t : ℕ) × (t < n) × (snooped_at p t ≡ Some s) × (s.first ≡ q)
+unfolding snoop_end_below is_snoop_of is_some_and
+below-says p n q s e =
+    let test : ℕ → Bool = λ t. is_some_and (snooped_at p t) (is_snoop_of q) in
+    let k = and-then (snooped_at p) (first_where test n) s e in
+    let found = first_where-found test n k.0 k.1 in
+    (k.0, found.0, k.2, eqb-true s.first q (let f = rw (k.2) at found.1 in f))
+
+-- one request ends at a clock
+pub one-ended : (r : Run) (c q u : ℕ) → Reaches r (c + 1) → is_end_at (past_of r) c q ≡ true
+    → is_end_at (past_of r) c u ≡ true → q ≡ u
+one-ended r c q u h first second =
+    let long = h.long in
+    let i = ended-number r c q h.timely (omega arith) first in
+    let j = ended-number r c u h.timely (omega arith) second in
+    let same : i.0 ≡ j.0 = one-ends r.trace i.0 j.0 c (orderly-whole r c h.timely (omega arith)) i.1.end j.1.end in
+    let here = i.1.first in
+    let there = j.1.first in
+    cc
+
+-- the agent's own request leaves
+pub record LeavesAsOwn (a number : ℕ) (s : SnoopEnd) : Type 0 where
+  pub claim : Claim
+  pub claims : s.claim ≡ Some claim
+  pub agent : claim.agent ≡ a
+  pub kept : is_deferral s.outcome ≡ false
+  pub first : s.first ≡ number
+
+-- or the one to which a reply ends
+pub record LeavesAsReplied (p : Past) (a c number : ℕ) (s : SnoopEnd) : Type 0 where
+  pub unclaimed : s.claim ≡ None
+  pub grant : Grant
+  pub grants : s.grant ≡ Some grant
+  pub agent : grant.agent ≡ a
+  pub asked : number_asked p a c grant.line ≡ Some number
+
+pub left-says : (p : Past) (a c number : ℕ) (s : SnoopEnd) → number_left p a c s ≡ Some number
+    → LeavesAsOwn a number s ⊎ LeavesAsReplied p a c number s
+unfolding number_left number_claimed number_replied
+left-says p a c number s e = by s.claim refl
+  where
+    own : (claim : Claim) → s.claim ≡ Some claim → (mine deferred : Bool) → nat_eq claim.agent a ≡ mine
+        → is_deferral s.outcome ≡ deferred
+        → (if mine then (if deferred then None else Some s.first) else None) ≡ Some number → LeavesAsOwn a number s
+    own claim claims true false m d f = record {
+      claim = claim;
+      claims = claims;
+      agent = eqb-true claim.agent a m;
+      kept = d;
+      first = (let same : s.first ≡ number = cc in same);
+    }
+    own claim claims true true m d f = absurd (let no : ⊥ = cc in no)
+    own claim claims false d m e f = absurd (let no : ⊥ = cc in no)
+
+    reply : (grant : Grant) → s.claim ≡ None → s.grant ≡ Some grant → (mine : Bool) → nat_eq grant.agent a ≡ mine
+        → (if mine then number_asked p a c grant.line else None) ≡ Some number → LeavesAsReplied p a c number s
+    reply grant none makes true m f =
+        record { unclaimed = none; grant = grant; grants = makes; agent = eqb-true grant.agent a m; asked = f }
+    reply grant none makes false m f = absurd (let no : ⊥ = cc in no)
+
+    by : (o : Option Claim) → s.claim ≡ o → LeavesAsOwn a number s ⊎ LeavesAsReplied p a c number s
+    by (Some claim) claims =
+        inl (own claim claims (nat_eq claim.agent a) (is_deferral s.outcome) refl refl
+        (let f = rw (claims, number_left) at e in f))
+    by None none =
+        let f = rw (none, number_left) at e in
+        let k = and-then (λ (grant : Grant). if nat_eq grant.agent a then number_asked p a c grant.line else None) s.grant
+        number f in
+        inr (reply k.0 none k.1 (nat_eq k.0.agent a) refl k.2)
+
+pub own-left : (p : Past) (a c : ℕ) (s : SnoopEnd) (claim : Claim) → s.claim ≡ Some claim → claim.agent ≡ a
+    → is_deferral s.outcome ≡ false → number_left p a c s ≡ Some s.first
+unfolding number_left number_claimed
+own-left p a c s claim claims mine kept = rw (claims, eq-eqb claim.agent a mine, kept, number_left) refl
+
+pub replied-left : (p : Past) (a c : ℕ) (s : SnoopEnd) (grant : Grant) → s.claim ≡ None → s.grant ≡ Some grant
+    → grant.agent ≡ a → number_left p a c s ≡ number_asked p a c grant.line
+unfolding number_left number_replied
+replied-left p a c s grant none makes mine = rw (none, makes, eq-eqb grant.agent a mine, number_left) refl
+
+-- an agent's request on a line has a number
+pub asked-there : (p : Past) (a c line : ℕ) (owing : Owing) → Among owing (owed p a c) → owing.claim.line ≡ line
+    → (number : ℕ) × (number_asked p a c line ≡ Some number)
+unfolding number_asked
+asked-there p a c line owing there on =
+    let k = among-found (λ (o : Owing). nat_eq o.claim.line line) owing (owed p a c) there (eq-eqb owing.claim.line line on) in
+    (k.0.claim.first, ap (option_map (λ (o : Owing). o.claim.first)) k.1)
+
+-- the number that leaves is that of a request that the agent owes
+pub record IsLast (r : Run) (a c number : ℕ) : Type 0 where
+  pub claim : Claim
+  pub begun : begun_at (past_of r) number ≡ Some claim
+  pub agent : claim.agent ≡ a
+  pub early : number + 4 ≤ c
+  pub last : is_last_clock r.trace c number ≡ true
+  pub owing : Owing
+  pub among : Among owing (owed (past_of r) a c)
+  pub owns : owing.claim ≡ claim
+  pub first : owing.claim.first ≡ number
+
+pub last-is : (r : Run) (a c q : ℕ) (claim : Claim) → Reaches r (c + 1) → begun_at (past_of r) q ≡ Some claim → claim.agent ≡ a
+    → q + 4 ≤ c → is_last_clock r.trace c q ≡ true → IsLast r a c q
+last-is r a c q claim h begun mine early last =
+    let p = past_of r in
+    let long = h.long in
+    let out = last-outstanding r c q claim h begun (omega arith) last in
+    let owing = owed-there r c q claim (reaches-less r c (c + 1) (omega arith) h) begun (omega arith) out in
+    let want = begun-want r q claim h.timely h.bounds (omega arith) begun in
+    record {
+      claim = claim;
+      begun = begun;
+      agent = mine;
+      early = early;
+      last = last;
+      owing = owing.0;
+      among = subst (λ b. Among owing.0 (owed p b c)) mine owing.1;
+      owns = owing.2;
+      first = ap (λ (x : Claim). x.first) owing.2 ∙ want.first;
+    }
+
+pub left-last : (r : Run) (a c number : ℕ) (s : SnoopEnd) → Reaches r (c + 1) → EndsFor (past_of r) a c number s
+    → IsLast r a c number
+left-last r a c number s h ends =
+    let p = past_of r in
+    let long = h.long in
+    let below = below-says p (c + 1) ends.first s ends.snooped in
+    let low = below.1 in
+    elim (left-says p a c number s ends.left) [
+      | inl own ↦
+          let at : Reaches r (below.0 + 1) = reaches-less r (below.0 + 1) (c + 1) (omega arith) h in
+          let out = snooped-outstanding r below.0 s own.claim at below.2 own.claims in
+          let tied = tied-snoop r below.0 s below.2 in
+          let above = (snooped-by r below.0 tied.0 s tied.1).above in
+          let last : is_last_clock r.trace c s.first ≡ true =
+          ap (is_last_clock r.trace c) below.3 ∙ ends-last r c ends.first s h ends.ends ends.snooped ∙ ap not own.kept in
+          subst (IsLast r a c) own.first (last-is r a c s.first own.claim h out.0 own.agent (omega arith) last)
+      | inr reply ↦
+          let k = ending-serves r c ends.first s reply.grant h ends.ends ends.snooped reply.unclaimed reply.grants in
+          let serves = k.0 in
+          let above = serves.snooped.above in
+          let before = serves.before in
+          let agent : serves.claim.agent ≡ a = serves.agent ∙ reply.agent in
+          let last = last-is r a c serves.end.first serves.claim h serves.begun agent (omega arith) k.1 in
+          let one = last.begun in
+          let two = serves.begun in
+          let claims : last.claim ≡ serves.claim = cc in
+          let line : last.owing.claim.line ≡ reply.grant.line =
+          ap (λ (x : Claim). x.line) (last.owns ∙ claims) ∙ serves.line in
+          let other = asked-number p a c reply.grant.line number reply.asked in
+          let same : other.0 ≡ last.owing =
+          one-line p (owed p a c) other.0 last.owing (owed-apart r a c (reaches-less r c (c + 1) (omega arith) h))
+          other.1 last.among (other.2 ∙ sym line) in
+          let is : serves.end.first ≡ number =
+          sym last.first ∙ sym (ap (λ (o : Owing). o.claim.first) same) ∙ other.3 in
+          subst (IsLast r a c) is last
+    ]
+
+-- which request of those that an agent owes has its last clock at c
+last-by-left : (r : Run) (a c number : ℕ) (s : SnoopEnd) (owing : Owing) → Reaches r (c + 1)
+    → EndsFor (past_of r) a c number s → Among owing (owed (past_of r) a c) → is_last_clock r.trace c owing.claim.first ≡ true
+    → (is_at (cancelled_in (past_of r) c) owing.claim.first || nat_eq owing.claim.first number) ≡ true
+last-by-left r a c number s owing h ends there last =
+    let p = past_of r in
+    let early = reaches-less r c (c + 1) (omega arith) h in
+    let k = owing-is r a c owing early there in
+    elim (last-says r c owing.claim.first owing.claim h k.claimed k.before last) [
+      | inl cancelled ↦ or_left (is_at (cancelled_in p c) owing.claim.first) (nat_eq owing.claim.first number)
+          (is_at-from (cancelled_in p c) owing.claim.first cancelled)
+      | inr leaves ↦
+          let one = one-ended r c leaves.first ends.first h leaves.ends ends.ends in
+          let snooped = subst (λ q. snoop_end_below p (c + 1) q ≡ Some leaves.end) one leaves.snooped in
+          let known = ends.snooped in
+          let end : leaves.end ≡ s = cc in
+          let first : owing.claim.first ≡ number = elim leaves.how [
+            | inl own ↦
+                let left = own-left p a c leaves.end owing.claim own.claimed k.agent own.kept in
+                let both : Some leaves.end.first ≡ Some number = sym left ∙ ap (number_left p a c) end ∙ ends.left in
+                sym own.first ∙ (let same : leaves.end.first ≡ number = cc in same)
+            | inr reply ↦
+                let left = replied-left p a c leaves.end reply.grant reply.unclaimed reply.grants (reply.agent ∙ k.agent) in
+                let asked : number_asked p a c reply.grant.line ≡ Some number =
+                sym left ∙ ap (number_left p a c) end ∙ ends.left in
+                let other = asked-number p a c reply.grant.line number asked in
+                let same : other.0 ≡ owing =
+                one-line p (owed p a c) other.0 owing (owed-apart r a c early) other.1 there (other.2 ∙ reply.line) in
+                sym (ap (λ (o : Owing). o.claim.first) same) ∙ other.3
+          ] in
+          or_right (is_at (cancelled_in p c) owing.claim.first) (nat_eq owing.claim.first number)
+          (eq-eqb owing.claim.first number first)
+    ]
+
+left-by-last : (r : Run) (a c number : ℕ) (s : SnoopEnd) (owing : Owing) → Reaches r (c + 1)
+    → EndsFor (past_of r) a c number s
+    → (is_at (cancelled_in (past_of r) c) owing.claim.first || nat_eq owing.claim.first number) ≡ true
+    → is_last_clock r.trace c owing.claim.first ≡ true
+left-by-last r a c number s owing h ends e =
+    let p = past_of r in
+    elim (or_cases (is_at (cancelled_in p c) owing.claim.first) (nat_eq owing.claim.first number) e) [
+      | inl t ↦ cancelled-last r c owing.claim.first h (is_at-some (cancelled_in p c) owing.claim.first t)
+      | inr t ↦ ap (is_last_clock r.trace c) (eqb-true owing.claim.first number t) ∙ (left-last r a c number s h ends).last
+    ]
+
+-- what begins at c is neither cancelled there nor of a number below c
+begun-uncancelled : (r : Run) (a c : ℕ) (owing : Owing) → Reaches r (c + 1) → Among owing (begun_by (past_of r) a c)
+    → is_uncancelled (past_of r) c owing ≡ true
+unfolding is_uncancelled
+begun-uncancelled r a c owing h there =
+    let p = past_of r in
+    let long = h.long in
+    let b = begun-is r a c owing h there in
+    ap not (false_from_ne_true (is_at (cancelled_in p c) owing.claim.first) (λ t.
+    let at = cancels r c c (omega arith) (is_at-some (cancelled_in p c) owing.claim.first t ∙ ap Some b.2) in
+    let late = at.0 in
+    omega arith))
+
+negated : (x y z : Bool) → x ≡ (y || z) → not x ≡ (not y && not z)
+negated x true z e = ap not e
+negated x false z e = ap not e
+
+-- the requests without the one that has ended
+pub owed-left : (r : Run) (a c number : ℕ) (s : SnoopEnd) → Reaches r (c + 1) → EndsFor (past_of r) a c number s
+    → owed (past_of r) a (c + 1)
+    ≡ filter (λ owing. not (nat_eq owing.claim.first number)) (owed_through (past_of r) a c)
+unfolding owed_through owed_sent is_uncancelled
+owed-left r a c number s h ends =
+    let p = past_of r in
+    let f : Owing → Bool = λ owing. not (nat_eq owing.claim.first number) in
+    let g : Owing → Bool = is_uncancelled p c in
+    let both : Owing → Bool = λ owing. g owing && f owing in
+    let last = left-last r a c number s h ends in
+    let early = last.early in
+    let before : filter (stays_out r c) (owed p a c) ≡ filter both (owed p a c) =
+    filter-same (stays_out r c) both (owed p a c) (λ owing there.
+    negated (is_last_clock r.trace c owing.claim.first) (is_at (cancelled_in p c) owing.claim.first)
+    (nat_eq owing.claim.first number)
+    (same-both (is_last_clock r.trace c owing.claim.first)
+    (is_at (cancelled_in p c) owing.claim.first || nat_eq owing.claim.first number)
+    (λ t. last-by-left r a c number s owing h ends there t) (λ t. left-by-last r a c number s owing h ends t))) in
+    let fresh : filter both (begun_by p a c) ≡ begun_by p a c =
+    filter-all both (begun_by p a c) (λ owing there.
+    let b = begun-is r a c owing h there in
+    let now = b.2 in
+    and_from (g owing) (f owing) (begun-uncancelled r a c owing h there)
+    (ap not (ne_eqb owing.claim.first number (λ e. omega (arith, e))))) in
+    owed-more r a c h ∙ (λ i. before i ++ sym fresh i) ∙ sym (filter-append both (owed p a c) (begun_by p a c))
+    ∙ sym (filter-two f g (owed p a c ++ begun_by p a c))
+
+-- where nothing ends for the agent
+pub owed-kept : (r : Run) (a c : ℕ) → Reaches r (c + 1) → NothingEndsFor (past_of r) a c
+    → owed (past_of r) a (c + 1) ≡ owed_through (past_of r) a c
+unfolding owed_through owed_sent is_uncancelled
+owed-kept r a c h nothing =
+    let p = past_of r in
+    let early = reaches-less r c (c + 1) (omega arith) h in
+    let g : Owing → Bool = is_uncancelled p c in
+    let before : filter (stays_out r c) (owed p a c) ≡ filter g (owed p a c) =
+    filter-same (stays_out r c) g (owed p a c) (λ owing there.
+    let k = owing-is r a c owing early there in
+    ap not (same-both (is_last_clock r.trace c owing.claim.first) (is_at (cancelled_in p c) owing.claim.first)
+    (λ t. elim (last-says r c owing.claim.first owing.claim h k.claimed k.before t) [
+      | inl cancelled ↦ is_at-from (cancelled_in p c) owing.claim.first cancelled
+      | inr leaves ↦
+          let none = nothing.none leaves.first leaves.end leaves.ends leaves.snooped in
+          elim leaves.how [
+            | inl own ↦
+                let left = own-left p a c leaves.end owing.claim own.claimed k.agent own.kept in
+                absurd (let no : ⊥ = cc in no)
+            | inr reply ↦
+                let left = replied-left p a c leaves.end reply.grant reply.unclaimed reply.grants (reply.agent ∙ k.agent) in
+                let asked = asked-there p a c reply.grant.line owing there (sym reply.line) in
+                let number = asked.1 in
+                absurd (let no : ⊥ = cc in no)
+          ]
+    ])
+    (λ t. cancelled-last r c owing.claim.first h (is_at-some (cancelled_in p c) owing.claim.first t)))) in
+    let fresh : filter g (begun_by p a c) ≡ begun_by p a c =
+    filter-all g (begun_by p a c) (λ owing there. begun-uncancelled r a c owing h there) in
+    owed-more r a c h ∙ (λ i. before i ++ sym fresh i) ∙ sym (filter-append g (owed p a c) (begun_by p a c))
+
+-- what ends is one of the view's requests
+pub record IsEnded (r : Run) (a c number : ℕ) (v : AgentView) : Type 0 where
+  pub out : OwnRequest
+  pub among : Among out v.outs
+  pub numbered : out.number ≡ number
+  pub found : request_numbered number v.outs ≡ Some out
+  pub owing : Among (owing_by a out) (owed (past_of r) a c)
+
+pub ended-out : (r : Run) (a c number : ℕ) (v : AgentView) → Reaches r (c + 1) → IsLast r a c number
+    → HasRequestsOf (past_of r) a (c + 1) (owed_through (past_of r) a c) v → IsEnded r a c number v
+unfolding owed_through owed_sent is_uncancelled
+ended-out r a c number v h last requests =
+    let p = past_of r in
+    let long = h.long in
+    let early = last.early in
+    let kept : is_at (cancelled_in p c) last.owing.claim.first ≡ false =
+    false_from_ne_true (is_at (cancelled_in p c) last.owing.claim.first) (λ t.
+    let at = cancels r c number (omega arith) (is_at-some (cancelled_in p c) last.owing.claim.first t ∙ ap Some last.first) in
+    let late = at.0 in
+    omega arith) in
+    let through : Among last.owing (owed_through p a c) = filter-among (is_uncancelled p c) last.owing (owed_sent p a c)
+    (among-left last.owing (owed p a c) _ last.among) (ap not kept) in
+    let found = out-there p a (c + 1) (owed_through p a c) v last.owing requests through in
+    let numbered : found.0.number ≡ number = ap (λ (o : Owing). o.claim.first) found.2 ∙ last.first in
+    record {
+      out = found.0;
+      among = found.1;
+      numbered = numbered;
+      found = subst (λ m. request_numbered m v.outs ≡ Some found.0) numbered
+          (find-number p a found.0 v.outs (outs-apart r a c (c + 1) v h requests) found.1);
+      owing = subst (λ o. Among o (owed p a c)) (sym found.2) last.among;
+    }
+
+owns-told : (kind : Kind) → is_owning kind ≡ kind_owns (kind_asks kind)
+unfolding is_owning
+owns-told kinds.Reply = refl
+owns-told kinds.Invalidate = refl
+owns-told kinds.Read = refl
+owns-told kinds.WriteBack = refl
+owns-told kinds.Upgrade = refl
+
+pub made-by : (b : Bool) (mine grant : Grant) → (if b then Some mine else None) ≡ Some grant → mine ≡ grant
+made-by true mine grant e = (let same : mine ≡ grant = cc in same)
+made-by false mine grant e = absurd (let no : ⊥ = cc in no)
+
+-- the grant of a request that ends is to its agent, for its line, owned or not as it asks
+pub record IsGrantOf (a : ℕ) (grant : Grant) (out : OwnRequest) : Type 0 where
+  pub agent : grant.agent ≡ a
+  pub line : grant.line ≡ out.request.line
+  pub owns : grant.owns ≡ kind_owns (kind_asks out.request.kind)
+
+pub ended-grant : (r : Run) (a c number : ℕ) (s : SnoopEnd) (grant : Grant) (v : AgentView) → Reaches r (c + 1)
+    → EndsFor (past_of r) a c number s → s.grant ≡ Some grant
+    → HasRequestsOf (past_of r) a (c + 1) (owed_through (past_of r) a c) v → (k : IsEnded r a c number v)
+    → IsGrantOf a grant k.out
+ended-grant r a c number s grant v h ends makes requests k =
+    let p = past_of r in
+    let below = below-says p (c + 1) ends.first s ends.snooped in
+    let low = below.1 in
+    elim (left-says p a c number s ends.left) [
+      | inl own ↦
+          let at : Reaches r (below.0 + 1) = reaches-less r (below.0 + 1) (c + 1) (omega arith) h in
+          let settled = settled-as r below.0 s own.claim at below.2 own.claims in
+          let made = made-by _ _ grant (sym settled.granted ∙ makes) in
+          let wanted = wanted-of p a (c + 1) (owed_through p a c) v k.out requests k.among in
+          let mine : want_of p a s.first ≡ Some settled.request =
+          subst (λ b. want_of p b s.first ≡ Some settled.request) own.agent settled.want in
+          let told : want_of p a s.first ≡ Some k.out.request =
+          ap (want_of p a) (own.first ∙ sym k.numbered) ∙ wanted in
+          let request : k.out.request ≡ settled.request = (let e = sym told ∙ mine in cc) in
+          record {
+            agent = sym (ap (λ (g : Grant). g.agent) made) ∙ own.agent;
+            line = sym (ap (λ (g : Grant). g.line) made) ∙ sym settled.line
+                ∙ sym (ap (λ (q : Request). q.line) request);
+            owns = sym (ap (λ (g : Grant). g.owns) made)
+                ∙ sym (ap (λ (q : Request). kind_owns (kind_asks q.kind)) request);
+          }
+      | inr reply ↦
+          let granted = reply.grants in
+          let same : reply.grant ≡ grant = cc in
+          let serves = (ending-serves r c ends.first s reply.grant h ends.ends ends.snooped reply.unclaimed reply.grants).0 in
+          let out = served-out r a c (c + 1) number reply.grant v h serves reply.agent reply.asked requests in
+          let one = out.found in
+          let two = k.found in
+          let is : out.out ≡ k.out = cc in
+          record {
+            agent = sym (ap (λ (g : Grant). g.agent) same) ∙ reply.agent;
+            line = sym (ap (λ (g : Grant). g.line) same) ∙ sym out.line
+                ∙ ap (λ (o : OwnRequest). o.request.line) is;
+            owns = sym (ap (λ (g : Grant). g.owns) same) ∙ out.owns ∙ owns-told out.out.request.kind
+                ∙ ap (λ (o : OwnRequest). kind_owns (kind_asks o.request.kind)) is;
+          }
+    ]
+
+-- a grant is made at one clock, and its first clock is that of its snoop end
+pub grant-there : (p : Past) (t : ℕ) (grant : Grant) → grant_at p t ≡ Some grant
+    → (s : SnoopEnd) × (snooped_at p t ≡ Some s) × (s.grant ≡ Some grant)
+unfolding grant_at
+grant-there p t grant e =
+    let k = and-then (λ (x : SnoopEnd). x.grant) (snooped_at p t) grant e in (k.0, k.1, k.2)
+
+granted-there : (p : Past) (t : ℕ) (grant : Grant) → grant_at p t ≡ Some grant
+    → is_granted p grant.agent grant.line t ≡ true
+unfolding is_granted is_some_and
+granted-there p t grant e = rw (e, eq-eqb grant.agent grant.agent refl) (eq-eqb grant.line grant.line refl)
+
+pub first-of-grant : (r : Run) (t : ℕ) (s : SnoopEnd) (grant : Grant) → t < length r.trace → snooped_at (past_of r) t ≡ Some s
+    → s.grant ≡ Some grant → grant.first ≡ s.first
+first-of-grant r t s grant l there makes =
+    let p = past_of r in
+    grant-first r grant.agent grant.line t s grant l there makes
+    (granted-there p t grant (grant-of-snoop p t s there ∙ makes))
+
+-- its line comes
+pub ended-comes : (r : Run) (a c number : ℕ) (s : SnoopEnd) (grant : Grant) (v : AgentView) → Reaches r (c + 1)
+    → EndsFor (past_of r) a c number s → s.grant ≡ Some grant
+    → HasRequestsOf (past_of r) a (c + 1) (owed_through (past_of r) a c) v → (k : IsEnded r a c number v)
+    → IsComing (past_of r) a c k.out.request.line (kind_owns (kind_asks k.out.request.kind))
+ended-comes r a c number s grant v h ends makes requests k =
+    let p = past_of r in
+    let long = h.long in
+    let below = below-says p (c + 1) ends.first s ends.snooped in
+    let low = below.1 in
+    let own = ended-grant r a c number s grant v h ends makes requests k in
+    let first = first-of-grant r below.0 s grant (omega arith) below.2 makes in
+    record {
+      at = below.0;
+      grant = grant;
+      before = omega arith;
+      granted = grant-of-snoop p below.0 s below.2 ∙ makes;
+      to = own.agent;
+      of_line = own.line;
+      owning = own.owns;
+      ends = ap (is_end_at p c) (first ∙ below.3) ∙ ends.ends;
+      only = λ t other l granted mine ending.
+          let there = grant-there p t other granted in
+          let again = first-of-grant r t there.0 other (omega arith) there.1 there.2 in
+          let same : other.first ≡ ends.first = one-ended r c other.first ends.first h ending ends.ends in
+          let snoop : there.0.first ≡ s.first = sym again ∙ same ∙ sym below.3 in
+          (answers-in-order r h.timely).one_snoop t below.0 there.0 s there.1 below.2 snoop;
+    }

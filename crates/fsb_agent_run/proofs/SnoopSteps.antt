@@ -1,0 +1,265 @@
+-- From before the snoop end of a clock to behind it: where the agent is granted a line, and where it is granted none.
+use Rattle.std.proofs.Common.{ℕ, ◌+◌, ◌<◌, ◌≤◌, ◌≡◌, ◌≢◌, ◌⊎◌, ◌%◌, Bool, true, false, cond, not, ◌&&◌, ◌||◌, List, [], ◌∷◌, ◌++◌, map, length, Option, Some, None, is_some, nat_eq, refl, sym, ap, subst, ◌∙◌, inl, inr, arith, ⊎_elim, if◌then◌else◌}
+use Rattle.std.specs.Prelude.{◌==◌}
+use Rattle.std.specs.List.{filter}
+use Rattle.std.specs.Option.{option_and_then}
+use Rattle.std.proofs.lemmas.Bool.{and_from, and_parts, both_ways, cases_Bool, cases_eq, eq-eqb, eqb-true, false_from_ne_true, ne_eqb, or_parts}
+use Rattle.fsb_cache.specs.Sets.{CacheSets, sets_filled, states}
+use Rattle.fsb_count.specs.Options.{is_at, is_some_and}
+use Rattle.fsb_line.specs.declared.state.Mesi.{Mesi}
+use Rattle.fsb_line.specs.declared.state.Mesi.TheVariants.{Invalid}
+use Rattle.fsb_timely.specs.Past.{Claim, Grant, Owing, Past, SnoopEnd}
+use Rattle.fsb_timely.specs.Grants.{begun_at, grant_at, holds_line, is_ended, is_evicted, is_exclusive, is_granted, is_named_by_other, is_rival, is_taken_away, is_written_back, latest_grant, set_of, snooped_at}
+use Rattle.fsb_timely.specs.Hits.{is_dirty, is_hit, is_stored_since}
+use Rattle.fsb_timely.specs.Runs.{Run, past_of}
+use Rattle.fsb_timely.specs.Wants.{is_asked_for, owed, want_of}
+use Rattle.fsb_timely.proofs.Interface.{latest_grant-more}
+use Rattle.fsb_coherent.specs.Relation.{is_stored_below}
+use Rattle.fsb_coherent.proofs.Interface.{ended-later, granted-now}
+use Rattle.fsb_lawful.proofs.Interface.{grants-are-owed}
+use Rattle.fsb_tied.proofs.Interface.{clock-facts, one-slot}
+use Rattle.fsb_run_laws.specs.Reaches.{Reaches}
+use Rattle.fsb_run_laws.specs.RunStates.{state_granted, state_read}
+use Rattle.fsb_run_laws.proofs.Interface.{none-stored}
+use Rattle.fsb_agent_view.specs.declared.want.OwnRequest.{OwnRequest}
+use Rattle.fsb_agent_view.specs.AgentViews.{AgentView, line_state_by}
+use Rattle.fsb_agent_view.specs.OwnRequests.{requests_granted}
+use Rattle.fsb_agent_view.specs.Snooping.{with_fill}
+use Rattle.fsb_agent_view.proofs.Interface.{length-with_slot}
+use Rattle.fsb_agent_run.specs.Owings.{are_owings_apart}
+use Rattle.fsb_agent_run.specs.RunViews.{HasRequestsOf, fill_count, is_awaited, is_won_below, one_if, owing_by, state_told}
+use Rattle.fsb_agent_run.specs.Stages.{IsViewAfterSnoop, IsViewBeforeSnoop, is_dirty_snooped, is_uncancelled, owed_sent, owed_through}
+use Rattle.fsb_agent_run.proofs.Among.{Among, among-filter}
+use Rattle.fsb_agent_run.proofs.FillCounts.{count-push}
+use Rattle.fsb_agent_run.proofs.GrantsAwaited.{granted-unawaited}
+use Rattle.fsb_agent_run.proofs.OutLists.{among-granted, kept-of, map-granted, owing-there, requests-from, wanted-of}
+use Rattle.fsb_agent_run.proofs.OwedApart.{apart-filter, sent-apart}
+use Rattle.fsb_agent_run.proofs.OwedSteps.{sent-is}
+use Rattle.fsb_agent_run.proofs.SentViews.{same-place}
+use Rattle.fsb_agent_run.proofs.SlotStates.{InSets, in_sets-filled, state-filled}
+use Rattle.fsb_agent_run.proofs.StoresTold.{any_stored, since-hit, since-none, stored-more}
+use Rattle.fsb_agent_run.proofs.ToldStates.{snooped-granted, snooped-kept, state_kept, state_snooped_at}
+use Rattle.fsb_agent_run.proofs.WonSteps.{won-still}
+
+-- the requests of a view before the snoop end are apart
+pub through-apart : (r : Run) (a c : ℕ) → Reaches r (c + 1)
+    → are_owings_apart (past_of r) (owed_through (past_of r) a c) ≡ true
+unfolding owed_through
+through-apart r a c h =
+    let p = past_of r in apart-filter p (is_uncancelled p c) (owed_sent p a c) (sent-apart r a c h)
+
+pub outs-apart : (r : Run) (a c n : ℕ) (v : AgentView) → Reaches r (c + 1)
+    → HasRequestsOf (past_of r) a n (owed_through (past_of r) a c) v
+    → are_owings_apart (past_of r) (map (owing_by a) v.outs) ≡ true
+outs-apart r a c n v h requests =
+    ap (are_owings_apart (past_of r)) requests.owed ∙ through-apart r a c h
+
+-- each of them began as a request of the agent
+pub out-begun : (r : Run) (a c n : ℕ) (v : AgentView) (out : OwnRequest) → Reaches r (c + 1)
+    → HasRequestsOf (past_of r) a n (owed_through (past_of r) a c) v → Among out v.outs
+    → (claim : Claim) × (begun_at (past_of r) out.number ≡ Some claim) × (claim.agent ≡ a)
+unfolding owed_through
+out-begun r a c n v out h requests there =
+    let p = past_of r in
+    let owing = owing-there p a n (owed_through p a c) v out requests there in
+    let sent = (among-filter (is_uncancelled p c) (owing_by a out) (owed_sent p a c) owing).0 in
+    let k = sent-is r a c (owing_by a out) h sent in
+    ((owing_by a out).claim, k.claimed, k.agent)
+
+-- a snoop end that is not the agent's own is of none of them
+pub number-other : (r : Run) (a c n : ℕ) (s : SnoopEnd) (v : AgentView) (out : OwnRequest) → Reaches r (c + 1)
+    → snooped_at (past_of r) c ≡ Some s → ((claim : Claim) → s.claim ≡ Some claim → claim.agent ≢ a)
+    → HasRequestsOf (past_of r) a n (owed_through (past_of r) a c) v → Among out v.outs → s.first ≢ out.number
+number-other r a c n s v out h there other requests among same =
+    let p = past_of r in
+    let long = h.long in
+    let k = out-begun r a c n v out h requests among in
+    let settles = (clock-facts r 0 c h.timely h.bounds (omega arith)).settles in
+    let claims : s.claim ≡ Some k.0 = settles.claimed s there ∙ ap (begun_at p) same ∙ k.1 in
+    other k.0 claims k.2
+
+-- the requests stay, where nothing is won at the clock
+pub requests-still : (r : Run) (a c : ℕ) (v w : AgentView) → w.outs ≡ v.outs
+    → ((out : OwnRequest) → Among out v.outs → is_won_below (past_of r) (c + 1) out.number ≡ is_won_below (past_of r) c out.number)
+    → HasRequestsOf (past_of r) a c (owed_through (past_of r) a c) v
+    → HasRequestsOf (past_of r) a (c + 1) (owed_through (past_of r) a c) w
+requests-still r a c v w same won requests =
+    let p = past_of r in
+    requests-from p a (c + 1) (owed_through p a c) w (ap (map (owing_by a)) same ∙ requests.owed)
+    (λ out there. wanted-of p a c (owed_through p a c) v out requests (subst (Among out) same there))
+    (λ out there.
+    let before = subst (Among out) same there in
+    kept-of p a c (owed_through p a c) v out requests before ∙ sym (won out before))
+
+-- no line is granted to the agent: what its lines become
+pub record LowersLines (p : Past) (a c : ℕ) (v w : AgentView) : Type 0 where
+  pub states : (line : ℕ) → line_state_by w line
+      ≡ (if is_written_back p a line c || is_taken_away p a line c then Invalid
+      else (if is_named_by_other p a line c then state_read (line_state_by v line) else line_state_by v line))
+  pub fills : (line : ℕ) → fill_count w line ≡ fill_count v line
+  pub in_sets : InSets w.lines
+  pub size : length w.lines ≡ length v.lines
+
+awaited-kept : (p : Past) (a line c : ℕ) → is_granted p a line c ≡ false → is_awaited p a line (c + 1) c ≡ is_awaited p a line c c
+unfolding is_awaited
+awaited-kept p a line c none =
+    ap (λ o. is_some_and o (λ grant. not (is_ended p c grant.first)))
+    (latest_grant-more p a line c ∙ ap (λ b. if b then grant_at p c else latest_grant p a line c) none)
+
+-- where the agent is granted no line
+pub lowered-view : (r : Run) (a c : ℕ) (v w : AgentView) → ((line : ℕ) → is_granted (past_of r) a line c ≡ false)
+    → LowersLines (past_of r) a c v w
+    → w ≡ record v { lines = w.lines; buffers = w.buffers }
+    → HasRequestsOf (past_of r) a (c + 1) (owed_through (past_of r) a c) w
+    → IsViewBeforeSnoop (past_of r) a c v → IsViewAfterSnoop (past_of r) a c w
+lowered-view r a c v w none lowers same requests view =
+    let p = past_of r in
+    record {
+      agent = record {
+        number = ap (λ (x : AgentView). x.number) same ∙ view.agent.number;
+        items = ap (λ (x : AgentView). x.items) same ∙ view.agent.items;
+        ahead = ap (λ (x : AgentView). x.ahead) same ∙ view.agent.ahead;
+        profile = ap (λ (x : AgentView). x.profile) same ∙ view.agent.profile;
+        cache = lowers.size ∙ view.agent.cache;
+      };
+      placed = same-place p a c v w (ap (λ (x : AgentView). x.place) same) (ap (λ (x : AgentView). x.idle_to) same)
+          (ap (λ (x : AgentView). x.finished) same) view.placed;
+      lines = record {
+        states = λ line.
+            lowers.states line
+            ∙ (λ i. if is_written_back p a line c || is_taken_away p a line c then Invalid
+            else (if is_named_by_other p a line c then state_read (view.lines.states line i) else view.lines.states line i))
+            ∙ sym (snooped-kept p a line c (none line));
+        fills = λ line. lowers.fills line ∙ view.lines.fills line ∙ ap one_if (sym (awaited-kept p a line c (none line)));
+        in_sets = lowers.in_sets;
+      };
+      requests = requests;
+    }
+
+-- no store counts above the end of a new grant
+new-unstored : (p : Past) (a line c q : ℕ) → is_stored_below p a line (c + 1) q ≡ false → is_stored_since p a line c q ≡ false
+new-unstored p a line c q none = elim (cases_Bool (is_hit p a c)) [
+  | inl hit ↦ since-hit p a line c q hit ∙ none
+  | inr off ↦
+      since-none p a line c q off
+      ∙ (or_parts (is_stored_below p a line c q) (is_ended p c q && any_stored p a line c)
+      (sym (stored-more p a line c q) ∙ none)).0
+]
+
+-- the line of the grant
+pub granted-is : (p : Past) (a line c : ℕ) (grant : Grant) → grant_at p c ≡ Some grant → grant.agent ≡ a
+    → is_granted p a line c ≡ nat_eq grant.line line
+unfolding is_granted is_some_and
+granted-is p a line c grant there mine = rw (there, eq-eqb grant.agent a mine) refl
+
+pub granted-to-other : (p : Past) (a line c : ℕ) → ((grant : Grant) → grant_at p c ≡ Some grant → grant.agent ≢ a)
+    → is_granted p a line c ≡ false
+unfolding is_granted is_some_and
+granted-to-other p a line c other = by (grant_at p c) refl
+  where
+    by : (o : Option Grant) → grant_at p c ≡ o
+        → is_some_and o (λ grant. nat_eq grant.agent a && nat_eq grant.line line) ≡ false
+    by None e = refl
+    by (Some grant) e = rw (ne_eqb grant.agent a (other grant e)) refl
+
+-- the rivals of a line that is granted are not held
+pub rival-unheld : (r : Run) (a line other c : ℕ) → Reaches r (c + 1) → is_asked_for (owed (past_of r) a c) line ≡ true
+    → other ≢ line → other % r.plan.cache ≡ line % r.plan.cache → holds_line (past_of r) a other c ≡ false
+unfolding is_rival set_of past_of
+rival-unheld r a line other c h asked apart same = false_from_ne_true (holds_line (past_of r) a other c) (λ held.
+    let long = h.long in
+    one-slot r a other line c h.timely h.bounds (omega arith)
+    (and_from (nat_eq (other % r.plan.cache) (line % r.plan.cache)) (not (nat_eq other line))
+    (eq-eqb (other % r.plan.cache) (line % r.plan.cache) same) (ap not (ne_eqb other line apart)))
+    (inl held) (inr asked))
+
+-- where the agent is granted a line, on which nothing else happens at the snoop end
+pub granted-view : (r : Run) (a c number : ℕ) (grant : Grant) (state : Mesi) (bytes : List ℕ) (kept : Option (List ℕ))
+    (v : AgentView) → Reaches r (c + 1) → 0 < r.plan.cache → grant_at (past_of r) c ≡ Some grant → grant.agent ≡ a
+    → state ≡ state_granted grant
+    → ((line : ℕ) → line ≢ grant.line → (is_written_back (past_of r) a line c || is_taken_away (past_of r) a line c) ≡ false)
+    → ((line : ℕ) → is_named_by_other (past_of r) a line c ≡ false)
+    → ((out : OwnRequest) → Among out (requests_granted number kept v.outs)
+    → is_some out.kept ≡ is_won_below (past_of r) (c + 1) out.number)
+    → IsViewBeforeSnoop (past_of r) a c v
+    → IsViewAfterSnoop (past_of r) a c (record v {
+      lines = sets_filled v.lines grant.line state bytes;
+      buffers = with_fill v.buffers grant.line number;
+      outs = requests_granted number kept v.outs;
+    })
+unfolding past_of is_awaited is_some_and
+granted-view r a c number grant state bytes kept v h some there mine is lost named won view =
+    let p = past_of r in
+    let long = h.long in
+    let line : ℕ = grant.line in
+    let w : AgentView = record v {
+      lines = sets_filled v.lines line state bytes;
+      buffers = with_fill v.buffers line number;
+      outs = requests_granted number kept v.outs;
+    } in
+    let sets : 0 < length v.lines = subst (λ n. 0 < n) (sym view.agent.cache) some in
+    let here : is_granted p a line c ≡ true = granted-is p a line c grant there mine ∙ eq-eqb line line refl in
+    let facts = clock-facts r line c h.timely h.bounds (omega arith) in
+    let unstored = new-unstored p a line c grant.first (none-stored p a line c grant facts here there) in
+    let asked = (grants-are-owed r h.timely).granted a c line (omega arith) here in
+    let now = granted-now p a line c facts here in
+    let first : now.grant ≡ grant = (let e = now.there in cc) in
+    let unended : is_ended p c grant.first ≡ false = false_from_ne_true (is_ended p c grant.first) (λ t.
+    both_ways (is_ended p (c + 1) now.grant.first) now.unended
+    (ended-later p c (c + 1) now.grant.first (omega arith) (ap (λ (g : Grant). is_ended p c g.first) first ∙ t))) in
+    let elsewhere : (other : ℕ) → other ≢ line → is_granted p a other c ≡ false =
+    λ other apart. granted-is p a other c grant there mine ∙ ne_eqb line other (λ e. apart (sym e)) in
+    let empty : (other : ℕ) → other ≢ line → other % length v.lines ≡ line % length v.lines → line_state_by v other ≡ Invalid =
+    λ other apart same.
+    let unheld = rival-unheld r a line other c h asked apart
+    (ap (λ n. other % n) (sym view.agent.cache) ∙ same ∙ ap (λ n. line % n) view.agent.cache) in
+    view.lines.states other
+    ∙ (λ i. state_told (unheld i && not (is_evicted p a other c))
+    (is_exclusive p a other c && not (is_evicted p a other c)) (is_dirty p a other c)) in
+    record {
+      agent = record {
+        number = view.agent.number;
+        items = view.agent.items;
+        ahead = view.agent.ahead;
+        profile = view.agent.profile;
+        cache = length-with_slot v.lines line _ ∙ view.agent.cache;
+      };
+      placed = same-place p a c v w refl refl refl view.placed;
+      lines = record {
+        states = λ other.
+            state-filled v.lines line other state bytes sets (empty other)
+            ∙ ⊎_elim
+            (λ (same : other ≡ line).
+            rw (eq-eqb other line same)
+            (is ∙ sym (snooped-granted p a line c grant here there unstored)
+            ∙ ap (λ l. state_snooped_at p a l c) (sym same)))
+            (λ (apart : other ≢ line).
+            rw (ne_eqb other line apart)
+            (view.lines.states other
+            ∙ (λ i. if sym (lost other apart) i then Invalid
+            else (if sym (named other) i then state_read (state_kept p a other c) else state_kept p a other c))
+            ∙ sym (snooped-kept p a other c (elsewhere other apart))))
+            (cases_eq other line);
+        fills = λ other.
+            count-push other (record { line = line; number = number; promise = None }) v.buffers.fills
+            ∙ ⊎_elim
+            (λ (same : other ≡ line).
+            let before : fill_count v other ≡ 0 = view.lines.fills other ∙ ap (λ l. one_if (is_awaited p a l c c)) same
+            ∙ ap one_if (granted-unawaited r a line c h here) in
+            let latest : latest_grant p a other (c + 1) ≡ Some grant = latest_grant-more p a other c
+            ∙ ap (λ l. if is_granted p a l c then grant_at p c else latest_grant p a l c) same ∙ rw here there in
+            rw (eq-eqb line other (sym same), latest, unended) (omega (arith, before)))
+            (λ (apart : other ≢ line).
+            let before = view.lines.fills other ∙ ap one_if (sym (awaited-kept p a other c (elsewhere other apart))) in
+            rw (ne_eqb line other (λ e. apart (sym e))) (omega (arith, before)))
+            (cases_eq other line);
+        in_sets = in_sets-filled v.lines line state bytes sets view.lines.in_sets;
+      };
+      requests = requests-from p a (c + 1) (owed_through p a c) w
+          (map-granted a number kept v.outs ∙ view.requests.owed)
+          (λ out among.
+          let k = among-granted number kept out v.outs among in
+          ap (want_of p a) k.2.number_same ∙ wanted-of p a c (owed_through p a c) v k.0 view.requests k.1
+          ∙ ap Some (sym k.2.request_same))
+          (λ out among. won out among);
+    }

@@ -1,0 +1,162 @@
+-- The request that began at the last clock of a run shows at the next one, where its words are as they must.
+use Rattle.std.proofs.Common.{ℕ, ◌+◌, ◌-◌, ◌<◌, ◌≡◌, true, false, not, List, [], ◌∷◌, Option, Some, None, length, nat_eq, nat_le, take, take-take, refl, sym, ap, ◌∙◌, arith, inl, inr}
+use Rattle.std.specs.Option.{option_and_then, option_map}
+use Rattle.std.proofs.lemmas.Bool.{and_parts, both_ways, cases_Bool, eqb-true, false_from_ne_true, le-leb, not-true}
+use Rattle.std.proofs.lemmas.List.{take-append-le}
+use Rattle.fsb_access.specs.declared.log.Done.{Done}
+use Rattle.fsb_count.specs.Options.{is_some_and}
+use Rattle.fsb_encode.specs.Decoded.{is_pair}
+use Rattle.fsb_encode.specs.declared.request.Pair.{Pair}
+use Rattle.fsb_encode.specs.declared.request.Request.{Request}
+use Rattle.fsb_encode.specs.Request.{is_lawful_request, pairs_of}
+use Rattle.fsb_encode.proofs.Interface.{request_of_coded}
+use Rattle.fsb_signal.specs.declared.lines.TheConstants.Lines.{ADS}
+use Rattle.fsb_signal.specs.Samples.{line_at}
+use Rattle.fsb_trace.specs.Agree.{AgreeTo}
+use Rattle.fsb_trace.specs.At.{Trace, known_pair, known_pair_at, line_back, request_at}
+use Rattle.fsb_trace.specs.Deferral.{due_at}
+use Rattle.fsb_trace.specs.Requests.{live_request_of}
+use Rattle.fsb_trace.specs.Winner.{winner_at}
+use Rattle.fsb_trace.specs.declared.who.Who.{Who}
+use Rattle.fsb_trace.specs.declared.who.Who.TheVariants.{Symmetric, Priority}
+use Rattle.fsb_trace.proofs.Interface.{line_at-agree}
+use Rattle.fsb_timely.specs.Growth.{GrowsTo}
+use Rattle.fsb_timely.specs.Moments.{turns_in}
+use Rattle.fsb_timely.specs.Past.{Past}
+use Rattle.fsb_timely.specs.Runs.{Run, entries_to, past_of, past_to, run_to}
+use Rattle.fsb_timely.specs.Starts.{drives_ads, drives_pair, due_number, has_free_winner, has_room, is_spaced, may_begin, pair_due, reply_to, request_begun, request_begun_before, starts_requests, would_begin}
+use Rattle.fsb_timely.specs.Timely.{holds_at, holds_in}
+use Rattle.fsb_timely.proofs.Interface.{past-before}
+use Rattle.fsb_lawful.specs.Beginning.{KeepsBounds}
+use Rattle.fsb_lawful.proofs.Interface.{run_to-agrees, same-beq, wants-lawfully}
+use Rattle.fsb_bridge_run.specs.RunDeferrals.{ShowsBegun}
+use Rattle.fsb_bridge_run.proofs.GrownLists.{agree-grown}
+
+same-pair : (p q : Pair) → is_pair p q ≡ true → p ≡ q
+unfolding is_pair
+same-pair p q e =
+    let a = and_parts (nat_eq p.addr q.addr) (nat_eq p.req q.req) e in
+    let addr = eqb-true p.addr q.addr a.0 in
+    let req = eqb-true p.req q.req a.1 in
+    λ i. record { addr = addr i; req = req i }
+
+-- the words of a clock are those of a request that is there
+pair-there : (f : Request → Pair) (o : Option Request) (k : Option Pair)
+    → is_some_and (option_map f o) (λ due. is_some_and k (is_pair due)) ≡ true
+    → (q : Request) × (o ≡ Some q) × (k ≡ Some (f q))
+unfolding is_some_and
+pair-there f None k e = absurd (let no : ⊥ = cc in no)
+pair-there f (Some q) None e = absurd (let no : ⊥ = cc in no)
+pair-there f (Some q) (Some b) e = (q, refl, ap (λ x. Some x) (sym (same-pair (f q) b e)))
+
+first-words : (r : Run) (p : Past) (c : ℕ) → drives_pair r p c ≡ true → line_at ADS r.trace c ≡ true
+    → (q : Request) × (request_begun r p c ≡ Some q) × (known_pair_at r.trace c ≡ Some (pairs_of q).0)
+unfolding drives_pair pair_due
+first-words r p c e t =
+    pair-there (λ request. (pairs_of request).0) (request_begun r p c) (known_pair_at r.trace c)
+    (let e' = rw (drives_pair, pair_due, t) at e in e')
+
+second-words : (r : Run) (p : Past) (c : ℕ) → drives_pair r p c ≡ true → line_at ADS r.trace c ≡ false
+    → line_back ADS r.trace c 1 ≡ true
+    → (q : Request) × (request_begun_before r p c ≡ Some q) × (known_pair_at r.trace c ≡ Some (pairs_of q).1)
+unfolding drives_pair pair_due
+second-words r p c e f t =
+    pair-there (λ request. (pairs_of request).1) (request_begun_before r p c) (known_pair_at r.trace c)
+    (let e' = rw (drives_pair, pair_due, f, t) at e in e')
+
+-- no request begins in the second clock of another
+quiet-second : (r : Run) (p : Past) (c : ℕ) → drives_ads r p c ≡ true → line_back ADS r.trace c 1 ≡ true
+    → line_at ADS r.trace c ≡ false
+unfolding drives_ads may_begin is_spaced
+quiet-second r p c e t =
+    false_from_ne_true (line_at ADS r.trace c) (λ u.
+    let begins = sym (same-beq (line_at ADS r.trace c) (may_begin r p c) e) ∙ u in
+    let free = and_parts _ (has_free_winner r p c) begins in
+    let unblocked = and_parts _ _ free.0 in
+    let room = and_parts (is_spaced r c) (has_room r c) unblocked.0 in
+    let apart = and_parts (not (line_back ADS r.trace c 1)) _ room.0 in
+    both_ways (line_back ADS r.trace c 1) (not-true (line_back ADS r.trace c 1) apart.0) t)
+
+entries-again : (c : ℕ) (log : List Done) → entries_to c (entries_to c log) ≡ entries_to c log
+unfolding entries_to
+entries-again c [] = refl
+entries-again c (done ∷ log) =
+    elim (cases_Bool (nat_le done.clock c)) [
+      | inl t ↦ rw (t, t) (ap (λ xs. done ∷ xs) (entries-again c log))
+      | inr f ↦ rw f (entries-again c log)
+    ]
+
+past-again : (p : Past) (c : ℕ) → past_to (past_to p c) c ≡ past_to p c
+unfolding past_to
+past-again p c =
+    let moments = take-again (c + 1) p.moments in
+    let log = entries-again c p.log in
+    λ i. record { plan = p.plan; moments = moments i; log = log i }
+  where
+    take-again : {X : Type 0} (n : ℕ) (xs : List X) → take n (take n xs) ≡ take n xs
+    take-again n xs = take-take n n xs (omega arith)
+
+would-same : (a b : Run) (p q : Past) (c : ℕ) (who : Who) → a.trace ≡ b.trace → p ≡ q
+    → would_begin a p c who ≡ would_begin b q c who
+unfolding would_begin due_number
+would-same a b p q c (Symmetric x) e f = λ i. would_begin a (f i) c (Symmetric x)
+would-same a b p q c Priority e f =
+    λ i. option_map reply_to (option_and_then (live_request_of (e i)) (due_at (e i) (turns_in (f i).moments) c))
+
+begun-same : (a b : Run) (p q : Past) (c : ℕ) → a.trace ≡ b.trace → p ≡ q
+    → request_begun a p c ≡ request_begun b q c
+unfolding request_begun
+begun-same a b p q c e f =
+    ap (option_and_then (would_begin a p c)) (ap (λ w. winner_at w c) e) ∙ each (winner_at b.trace c)
+  where
+    each : (o : Option Who) → option_and_then (would_begin a p c) o ≡ option_and_then (would_begin b q c) o
+    each None = refl
+    each (Some who) = would-same a b p q c who e f
+
+decoded-from : (w : Trace) (d : ℕ) (q : Request) → is_lawful_request q ≡ true
+    → known_pair_at w d ≡ Some (pairs_of q).0 → known_pair_at w (d + 1) ≡ Some (pairs_of q).1
+    → request_at w d ≡ Some q
+unfolding request_at
+decoded-from w d q lawful e f =
+    rw (e, f) (request_of_coded q (pairs_of q).0 (pairs_of q).1 (record { lawful = lawful; clocks = refl }))
+
+words-agree : (n : ℕ) (w v : Trace) (c : ℕ) → AgreeTo n w v → c < n → known_pair_at w c ≡ known_pair_at v c
+unfolding known_pair_at
+words-agree n w v c a l = ap (option_and_then known_pair) (a.same c l)
+
+-- so a request shows as what it is
+pub shows-begun : (r s : Run) → GrowsTo r s → KeepsBounds r.plan
+    → starts_requests s (past_of s) (length r.trace) ≡ true → ShowsBegun r s
+unfolding starts_requests request_begun_before holds_at holds_in run_to line_back
+shows-begun r s grows bounds starts = record {
+  shown = λ d at ads.
+      let n = length r.trace in
+      let agree = agree-grown r s grows in
+      let parts = and_parts (drives_ads s (past_of s) n) (drives_pair s (past_of s) n) starts in
+      let back : n - 1 ≡ d = omega arith in
+      let long = line_at-agree ADS n r.trace s.trace d agree (omega arith) in
+      let before : line_back ADS s.trace n 1 ≡ true =
+      rw (le-leb 1 n (omega arith), back) (sym long ∙ ads) in
+      let quiet = quiet-second s (past_of s) n parts.0 before in
+      let second = second-words s (past_of s) n parts.1 quiet before in
+      let cut = run_to-agrees r d (omega arith) in
+      let here = sym (line_at-agree ADS (d + 1) r.trace (run_to r d).trace d cut (omega arith)) ∙ ads in
+      let own = and_parts (drives_ads (run_to r d) (past_to (past_of r) d) d)
+      (drives_pair (run_to r d) (past_to (past_of r) d) d) (grows.timely.request_starts.at d (omega arith)) in
+      let first = first-words (run_to r d) (past_to (past_of r) d) d own.1 here in
+      let trace : take (d + 1) s.trace ≡ take (d + 1) r.trace =
+      ap (take (d + 1)) grows.next.more_trace ∙ take-append-le (d + 1) r.trace _ (omega arith) in
+      let past : past_to (past_of s) d ≡ past_to (past_of r) d =
+      sym (past-again (past_of s) d) ∙ ap (λ p. past_to p d) (past-before r s d grows at) in
+      let same = begun-same (run_to s d) (run_to r d) (past_to (past_of s) d) (past_to (past_of r) d) d trace past in
+      let one = second.1 in
+      let two : request_begun_before s (past_of s) n ≡ Some first.0 =
+      ap (λ k. request_begun (run_to s k) (past_to (past_of s) k) k) back ∙ same ∙ first.1 in
+      let is : second.0 ≡ first.0 = cc in
+      let words = words-agree (d + 1) r.trace (run_to r d).trace d cut (omega arith) in
+      let lawful = (wants-lawfully r bounds).lawful d first.0 first.1 in
+      decoded-from s.trace d first.0 lawful
+      (sym (words-agree n r.trace s.trace d agree (omega arith)) ∙ words ∙ first.2)
+      (ap (known_pair_at s.trace) at ∙ second.2 ∙ ap (λ q. Some (pairs_of q).1) is)
+      ∙ sym first.1;
+}
