@@ -8,6 +8,7 @@ use Rattle.fsb_phase.specs.declared.drive.Drive.{Drive}
 use Rattle.fsb_signal.specs.Samples.{has_line, line_at, response_of}
 use Rattle.fsb_signal.specs.declared.lines.Lines.{Lines}
 use Rattle.fsb_signal.specs.declared.lines.TheConstants.Lines.{ADS, AERR, AP0, AP1, BNR, BPRI, BREQ0, BREQ1, BREQ2, BREQ3, DBSY, DEFER, DRDY, HIT, HITM, LOCK, RP, RS0, RS1, RS2, TRDY}
+use Rattle.fsb_access.specs.declared.log.Done.{Done}
 use Rattle.fsb_hazard.specs.declared.choice.Choice.{Choice}
 use Rattle.fsb_timely.specs.Snoops.{is_keep}
 use Rattle.fsb_trace.specs.declared.who.Who.TheVariants.{Symmetric, Priority}
@@ -16,6 +17,7 @@ use Rattle.fsb_bench_view.specs.declared.snoop.Snooped.{Snooped}
 use Rattle.fsb_bench_view.specs.BenchSteps.{step_run, step_sample}
 use Rattle.fsb_bench_view.specs.BusSample.{bits_driven, bits_of, drive_bits, is_asking, is_bridge_asking, is_lock_driven, pair_driven, parity_bits, request_bits, sample_by, snoop_bits}
 use Rattle.fsb_bench_view.specs.BusViews.{BenchView, BusView, clock_of}
+use Rattle.fsb_bench_run.proofs.RunWith.{run_with}
 use Rattle.fsb_bench_run.proofs.SampleBits.{bit_in, line-bit}
 
 -- HIT#, HITM# and DEFER# of a clock that is this snoop end, or none, where a snoop is stalled or not
@@ -84,6 +86,11 @@ bit-driven bus clock profile decided pair k =
     let all = all-driven bus clock profile decided pair in
     line-bit (bits_driven bus clock profile decided pair) k
     (subst (λ bits. length bits ≤ 21) (sym all) (omega arith)) ∙ ap (λ bits. bit_in bits k) all
+
+pub line-with : (v : BenchView) (hold : Bool) (choice : Choice) (entries : List Done) (line : Lines)
+    → line_at line (run_with v hold choice entries).trace (clock_of v) ≡ has_line (step_sample v hold) line
+line-with v hold choice entries line =
+    line_at-new line v.run.trace (step_sample v hold) _ (one_more v.run.trace (step_sample v hold))
 
 pub line-new : (v : BenchView) (hold : Bool) (choice : Choice) (line : Lines)
     → line_at line (step_run v hold choice).trace (clock_of v) ≡ has_line (step_sample v hold) line

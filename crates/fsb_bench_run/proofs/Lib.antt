@@ -1,4 +1,5 @@
 pub mod SampleBits
+pub mod RunWith
 pub mod DrivenLines
 pub mod NextRun
 pub mod BegunStays
@@ -6,6 +7,15 @@ pub mod StepFields
 pub mod ThisClock
 pub mod ResponsesDriven
 pub mod SnoopEntry
+pub mod BegunRequests
+pub mod SameBus
+pub mod SnoopDriven
+pub mod SnoopCases
+pub mod TurnCounted
+pub mod DeferralsTold
+pub mod HazardsDriven
+pub mod SnoopAnswers
+pub mod SnoopResult
 pub mod AskedNow
 pub mod StartingNow
 pub mod LatestNext

@@ -5,6 +5,7 @@ use Rattle.std.specs.Option.{option_map_or}
 use Rattle.std.specs.List.{find, slice_get}
 use Rattle.std.proofs.lemmas.Bool.{and_from, eq-eqb}
 use Rattle.fsb_count.specs.Clocks.{any_where}
+use Rattle.fsb_access.specs.declared.log.Done.{Done}
 use Rattle.fsb_hazard.specs.declared.choice.Choice.{Choice}
 use Rattle.fsb_laws.proofs.Interface.{one_more, response_code_at-new}
 use Rattle.fsb_phase.specs.Due.{has_response}
@@ -25,10 +26,11 @@ use Rattle.fsb_timely.specs.Runs.{Run, past_of}
 use Rattle.fsb_timely.specs.Transfers.{code_due, drives_code, drives_data_busy, drives_data_ready, drives_ready, drives_responses, has_data_at, is_busy_at, is_ready_due, keeps_data_quiet}
 use Rattle.fsb_phase_run.specs.Holds.{HoldsRequests}
 use Rattle.fsb_phase_run.proofs.Interface.{busy-drive, chunk-drive, code-drive, code-shown, ready-drive}
-use Rattle.fsb_bench_view.specs.BenchSteps.{step_decided, step_drive, step_performed, step_run, step_sample}
+use Rattle.fsb_bench_view.specs.BenchSteps.{step_decided, step_drive, step_performed, step_sample}
 use Rattle.fsb_bench_view.specs.BusViews.{BenchView, BusView, clock_of}
 use Rattle.fsb_bench_view.specs.BytesFetched.{data_driven}
-use Rattle.fsb_bench_run.proofs.DrivenLines.{code-driven, dbsy-driven, drdy-driven, line-new, trdy-driven}
+use Rattle.fsb_bench_run.proofs.RunWith.{run_with}
+use Rattle.fsb_bench_run.proofs.DrivenLines.{code-driven, dbsy-driven, drdy-driven, line-with, trdy-driven}
 use Rattle.fsb_bench_run.proofs.ThisClock.{holds-now}
 
 pub beq-from : (a b : Bool) → a ≡ b → beq a b ≡ true
@@ -69,9 +71,9 @@ pub code-now : (v : BenchView) (hold : Bool) → response_of (step_sample v hold
 code-now v hold =
     code-driven (step_performed v) (clock_of v) v.run.plan.profile (step_decided v hold) (code-small v.run.trace v.bus.queue)
 
-pub sample-grown : (v : BenchView) (hold : Bool) (choice : Choice)
-    (grows : GrowsTo v.run (step_run v hold choice)) → grows.next.sample ≡ step_sample v hold
-sample-grown v hold choice grows =
+pub sample-grown : (v : BenchView) (hold : Bool) (choice : Choice) (entries : List Done)
+    (grows : GrowsTo v.run (run_with v hold choice entries)) → grows.next.sample ≡ step_sample v hold
+sample-grown v hold choice entries grows =
     let e = grows.next.more_trace in last v.run.trace _ _ (sym e)
   where
     last : (h : Trace) (x y : Sample) → h ++ x ∷ [] ≡ h ++ y ∷ [] → x ≡ y
@@ -87,55 +89,55 @@ quiet-by : (drive : Drive) (o : Option (ℕ × ℕ)) (bus : BusView) → drive.c
 quiet-by drive None bus e = rw e refl
 quiet-by drive (Some c) bus e = refl
 
-abbrev quiet_now : BenchView → Bool → Choice → Type 0
-quiet_now v hold choice = keeps_data_quiet (step_run v hold choice) (clock_of v) ≡ true
+abbrev quiet_now : BenchView → Bool → Choice → List Done → Type 0
+quiet_now v hold choice entries = keeps_data_quiet (run_with v hold choice entries) (clock_of v) ≡ true
 
-data-new : (v : BenchView) (hold : Bool) (choice : Choice)
-    → (data_at (step_run v hold choice).trace (clock_of v)).bits ≡ data_driven (step_performed v) (step_drive v)
-data-new v hold choice =
+data-new : (v : BenchView) (hold : Bool) (choice : Choice) (entries : List Done)
+    → (data_at (run_with v hold choice entries).trace (clock_of v)).bits ≡ data_driven (step_performed v) (step_drive v)
+data-new v hold choice entries =
     let more = one_more v.run.trace (step_sample v hold) in
     ap (λ o. (option_map_or (λ (s : Sample). s.dbus) o (known_word 0)).bits) more.last
 
-quiet-now : (v : BenchView) (hold : Bool) (choice : Choice) → quiet_now v hold choice
+quiet-now : (v : BenchView) (hold : Bool) (choice : Choice) (entries : List Done) → quiet_now v hold choice entries
 unfolding keeps_data_quiet
-quiet-now v hold choice =
+quiet-now v hold choice entries =
     let n = clock_of v in
-    let s = step_run v hold choice in
-    let line = line-new v hold choice DRDY ∙ drdy-driven (step_performed v) n v.run.plan.profile (step_decided v hold) in
-    let word = data-new v hold choice in
+    let s = run_with v hold choice entries in
+    let line = line-with v hold choice entries DRDY ∙ drdy-driven (step_performed v) n v.run.plan.profile (step_decided v hold) in
+    let word = data-new v hold choice entries in
     ap (λ b. b || nat_eq (data_at s.trace n).bits 0) line
     ∙ ap (λ k. is_some (step_drive v).chunk || nat_eq k 0) word
     ∙ quiet-by (step_drive v) (step_drive v).chunk (step_performed v) refl
 
-pub responses-now : (v : BenchView) (hold : Bool) (choice : Choice)
-    (grows : GrowsTo v.run (step_run v hold choice)) → HoldsRequests v.bus.queue v.run
-    → drives_responses (step_run v hold choice) (past_of (step_run v hold choice)) (clock_of v) ≡ true
+pub responses-now : (v : BenchView) (hold : Bool) (choice : Choice) (entries : List Done)
+    (grows : GrowsTo v.run (run_with v hold choice entries)) → HoldsRequests v.bus.queue v.run
+    → drives_responses (run_with v hold choice entries) (past_of (run_with v hold choice entries)) (clock_of v) ≡ true
 unfolding drives_responses drives_ready drives_code drives_data_ready drives_data_busy
-responses-now v hold choice grows f =
+responses-now v hold choice entries grows f =
     let r = v.run in
-    let s = step_run v hold choice in
+    let s = run_with v hold choice entries in
     let n = clock_of v in
     let queue = v.bus.queue in
     let d = step_decided v hold in
     let bus = step_performed v in
     let profile = r.plan.profile in
-    let shown = ap response_of (sample-grown v hold choice grows) ∙ code-now v hold in
+    let shown = ap response_of (sample-grown v hold choice entries grows) ∙ code-now v hold in
     let code = code-shown r s queue grows f shown in
-    let trdy = line-new v hold choice TRDY ∙ trdy-driven bus n profile d ∙ ready-drive r s queue grows f in
+    let trdy = line-with v hold choice entries TRDY ∙ trdy-driven bus n profile d ∙ ready-drive r s queue grows f in
     let rs = response_code_at-new r.trace (step_sample v hold) s.trace (one_more r.trace (step_sample v hold))
     ∙ code-now v hold ∙ code-drive r s queue grows f in
-    let drdy = line-new v hold choice DRDY ∙ drdy-driven bus n profile d ∙ chunk-drive r s queue grows f code in
-    let dbsy = line-new v hold choice DBSY ∙ dbsy-driven bus n profile d ∙ busy-drive r s queue grows f code in
+    let drdy = line-with v hold choice entries DRDY ∙ drdy-driven bus n profile d ∙ chunk-drive r s queue grows f code in
+    let dbsy = line-with v hold choice entries DBSY ∙ dbsy-driven bus n profile d ∙ busy-drive r s queue grows f code in
     all5 (beq (line_at TRDY s.trace n) (any_where (is_ready_due s n) (live_count s.trace)))
     (nat_eq (response_code_at s.trace n) (code_due s (past_of s) n))
     (beq (line_at DRDY s.trace n) (any_where (has_data_at s (past_of s) n) (live_count s.trace)))
     (beq (line_at DBSY s.trace n) (any_where (is_busy_at s (past_of s) n) (live_count s.trace)))
     (keeps_data_quiet s n)
-    (beq-from _ _ trdy) (eq-eqb _ _ rs) (beq-from _ _ drdy) (beq-from _ _ dbsy) (quiet-now v hold choice)
+    (beq-from _ _ trdy) (eq-eqb _ _ rs) (beq-from _ _ drdy) (beq-from _ _ dbsy) (quiet-now v hold choice entries)
 
 -- responses and data at the clock
-pub drives-responses : (v : BenchView) (hold : Bool) (choice : Choice)
-    (grows : GrowsTo v.run (step_run v hold choice)) → HoldsRequests v.bus.queue v.run
-    → Rattle.fsb_timely.specs.Timely.holds_at drives_responses (step_run v hold choice) (clock_of v) ≡ true
-drives-responses v hold choice grows f =
-    holds-now drives_responses v.run (step_run v hold choice) grows (responses-now v hold choice grows f)
+pub drives-responses : (v : BenchView) (hold : Bool) (choice : Choice) (entries : List Done)
+    (grows : GrowsTo v.run (run_with v hold choice entries)) → HoldsRequests v.bus.queue v.run
+    → Rattle.fsb_timely.specs.Timely.holds_at drives_responses (run_with v hold choice entries) (clock_of v) ≡ true
+drives-responses v hold choice entries grows f =
+    holds-now drives_responses v.run (run_with v hold choice entries) grows (responses-now v hold choice entries grows f)

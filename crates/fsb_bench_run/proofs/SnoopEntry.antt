@@ -81,7 +81,7 @@ pub record SnoopsNow (r : Run) (queue : List Entry) : Type 0 where
   pub first : first_open queue ≡ Some entry
   pub search : find (has_snoop r.trace) queue ≡ Some entry
 
-snoop-rank : (r : Run) (e : Entry) → has_snoop r.trace e ≡ true → rank_of r.trace e ≡ snooped_count r.trace
+pub snoop-rank : (r : Run) (e : Entry) → has_snoop r.trace e ≡ true → rank_of r.trace e ≡ snooped_count r.trace
 snoop-rank r e t =
     let h = r.trace in
     let i = rank_of h e in
@@ -117,7 +117,7 @@ snoops-now r queue f k =
     }
 
 -- the requests of a timely run keep their distance, where there is one
-spaced-here : (r : Run) (e : Entry) → Timely r → IsHeldHere r e → Spaced r.trace
+pub spaced-here : (r : Run) (e : Entry) → Timely r → IsHeldHere r e → Spaced r.trace
 spaced-here r e timely k = let within = k.within in (orderly-whole r e.clock timely within).spaced
 
 -- a snoop ends with the next sample exactly where the entry has a snoop clock there, and none is stalled
