@@ -30,3 +30,4 @@ pub mod EndViews
 pub mod ArrivedViews
 pub mod EndEvents
 pub mod ClockEvents
+pub mod Interface

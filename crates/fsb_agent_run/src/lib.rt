@@ -15,11 +15,9 @@ pub use laws::{
     begun_requests_are_wants, first_views_are_of_the_run, hits_go_by_the_run, places_of_views_step,
     snoop_answers_go_by_the_run, views_go_by_the_run, wants_go_by_the_run,
 };
-pub use owed::{
-    agents_begin_owing_nothing, bytes_are_handed_on, ends_bring_what_is_promised, ends_may_be_seen,
-    few_requests_are_owed, fills_tell_grants, snoop_ends_are_owed, snoop_ends_may_be_seen,
+pub use requests::{
+    agents_owe_few, completions_are_of_items, ends_come_to_agents, requests_are_apart,
 };
-pub use requests::{agents_owe_few, completions_are_of_items, ends_come_to_agents, requests_are_apart};
 pub use stages::{
     begun_requests_lead_on, cancelled_requests_lead_on, ends_lead_on, hits_lead_on,
     own_snoop_ends_lead_on, snoop_ends_of_others_lead_on,
@@ -27,6 +25,5 @@ pub use stages::{
 
 mod clocks;
 mod laws;
-mod owed;
 mod requests;
 mod stages;

@@ -46,7 +46,7 @@ pub use Rattle.fsb_tied.proofs.Beginnings.{begun-shown, begun-want, claimed}
 -- The ends of live requests, in the moments of a run and in its cut traces; what has ended has its snoop end behind it.
 pub use Rattle.fsb_tied.proofs.Ended.{end-below, ended-snooped}
 -- Data that move on a line, and the ends that are awaited there: what it says that they do.
-pub use Rattle.fsb_tied.proofs.Moving.{any-of}
+pub use Rattle.fsb_tied.proofs.Moving.{any-in, any-of}
 -- A request that has begun, and is neither cancelled nor ended, is one that its agent owes.
 pub use Rattle.fsb_tied.proofs.Owing.{cancelled-at, cancelled-below, claim-no-reply, owing-gives}
 -- What the snoop end of a reply that grants a line answers: a request that was Deferred on the line, the last one.
