@@ -25,17 +25,21 @@ use Rattle.fsb_timely.specs.Starts.{due_number, request_begun_before}
 use Rattle.fsb_timely.specs.Wants.{want_of}
 use Rattle.fsb_trace.specs.At.{known_pair_at}
 use Rattle.fsb_trace.specs.declared.who.Who.{Who}
-use Rattle.fsb_agent_run.specs.Stages.{IsViewAfterHit}
-use Rattle.fsb_agent_run.proofs.Interface.{want-by}
+use Rattle.fsb_agent_run.specs.RunViews.{LogsItem}
+use Rattle.fsb_agent_run.specs.Stages.{IsViewAfterHit, IsViewOf}
+use Rattle.fsb_agent_run.proofs.Interface.{performed-logged, want-by}
+use Rattle.fsb_lawful.proofs.Interface.{get-there}
+use Rattle.fsb_timely.specs.Hits.{is_hit}
 use Rattle.fsb_bench_view.specs.declared.beginning.Latest.{Latest}
 use Rattle.fsb_bench_view.specs.declared.beginning.Starting.{Starting}
-use Rattle.fsb_bench_view.specs.BenchSteps.{step_decided, step_performed, was_held_at}
+use Rattle.fsb_bench_view.specs.BenchSteps.{step_decided, step_fetched, step_performed, was_held_at}
 use Rattle.fsb_bench_view.specs.BusDecisions.{want_at}
 use Rattle.fsb_bench_view.specs.BusSample.{is_latest_before, pair_driven}
 use Rattle.fsb_bench_view.specs.BusStarting.{is_spaced_by, may_start, starting_for, want_in}
 use Rattle.fsb_bench_view.specs.BusViews.{BenchView, BusView, clock_of}
 use Rattle.fsb_bench_run.specs.BenchOf.{IsBegunAt, IsBenchOf, IsLatestOf}
 use Rattle.fsb_bench_run.proofs.AdsGrown.{last-below}
+use Rattle.fsb_bench_run.proofs.AgentsTold.{fetched-from, performed-from, performed-there}
 use Rattle.fsb_bench_run.proofs.BegunStays.{begun-lawful, begun-request, begun-stays}
 use Rattle.fsb_bench_run.proofs.PairWords.{begun-before, lawful-fits, last-at, pair-shown, step_pair}
 use Rattle.fsb_bench_run.proofs.RunWith.{run_with}
@@ -44,15 +48,37 @@ use Rattle.fsb_bench_run.proofs.StepFields.{performed-begun}
 use Rattle.fsb_bench_run.proofs.StepWith.{IsStepWith}
 use Rattle.fsb_phase_run.proofs.Interface.{longer}
 
--- (left open: by views' law of logged hits, and that views stay as a run grows)
+-- (left open: views stay as a run grows)
+view-grown : (r s : Run) (a : ℕ) (v : AgentView) → GrowsTo r s → IsViewOf (past_of r) a (length r.trace) v
+    → IsViewOf (past_of s) a (length r.trace) v
+view-grown r s a v grows h = ?
+
+-- (left open: the entries of a hit are those of the agent's next item)
+logs-hit : (v : BenchView) (hold : Bool) (choice : Choice) (entries : List Done) (a : ℕ) (w : AgentView)
+    → IsStepWith v hold choice entries → slice_get (step_fetched v).agents a ≡ Some w
+    → is_hit (past_of (run_with v hold choice entries)) a (clock_of v) ≡ true
+    → LogsItem (past_of (run_with v hold choice entries)) a (clock_of v)
+logs-hit v hold choice entries a w b at hit = ?
+
+-- after its hit a view is that after the hits of the clock
 pub after-hits : (v : BenchView) (hold : Bool) (choice : Choice) (entries : List Done) (a : ℕ) (w : AgentView)
     → IsStepWith v hold choice entries → slice_get (step_performed v).agents a ≡ Some w
     → IsViewAfterHit (past_of (run_with v hold choice entries)) a (clock_of v) w
-after-hits v hold choice entries a w b at = ?
+after-hits v hold choice entries a w b at =
+    let s = run_with v hold choice entries in
+    let n = clock_of v in
+    let k = performed-from v a w at in
+    let f = fetched-from v a k.0 k.1 in
+    let old = (b.bench.agents.each a f.before f.at).view in
+    let view = f.view (past_of s) n (view-grown v.run s a f.before b.grows old) in
+    subst (λ w. IsViewAfterHit (past_of s) a n w) (sym k.2)
+    (performed-logged (past_of s) a n k.0 view (logs-hit v hold choice entries a k.0 b k.1))
 
--- (left open: the bench has four agents after the hits too)
 agent-there : (v : BenchView) (a : ℕ) → IsBenchOf v → a < 4 → (w : AgentView) × (slice_get (step_performed v).agents a ≡ Some w)
-agent-there v a b few = ?
+agent-there v a b few =
+    let four = b.agents.four in
+    let u = get-there v.bus.agents a (omega arith) in
+    performed-there v a u.0 u.1
 
 want-found : (agents : List AgentView) (clock a : ℕ) (w : AgentView) → a < 4 → slice_get agents a ≡ Some w
     → option_map_or (λ (want : Option Want). want) (slice_get (want_at agents clock 0 ∷ (want_at agents clock 1

@@ -20,6 +20,7 @@ pub mod AdsGrown
 pub mod PairWords
 pub mod StepWith
 pub mod StepEntries
+pub mod AgentsTold
 pub mod AskedNow
 pub mod StartingNow
 pub mod LatestNext
