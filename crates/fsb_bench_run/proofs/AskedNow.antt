@@ -41,6 +41,7 @@ use Rattle.fsb_bench_run.specs.BenchOf.{IsBegunAt, IsBenchOf, IsLatestOf}
 use Rattle.fsb_bench_run.proofs.AdsGrown.{last-below}
 use Rattle.fsb_bench_run.proofs.AgentsTold.{fetched-from, performed-from, performed-there}
 use Rattle.fsb_bench_run.proofs.BegunStays.{begun-lawful, begun-request, begun-stays}
+use Rattle.fsb_bench_run.proofs.LockedWants.{locked-by}
 use Rattle.fsb_bench_run.proofs.PairWords.{begun-before, lawful-fits, last-at, pair-shown, step_pair}
 use Rattle.fsb_bench_run.proofs.RunWith.{run_with}
 use Rattle.fsb_bench_run.proofs.SameBus.{same-performed}
@@ -98,11 +99,6 @@ wants-told v hold choice entries a b few =
     let view = after-hits v hold choice entries a there.0 b there.1 in
     ap (option_map (λ (want : Want). want.request)) (want-found (step_performed v).agents (clock_of v) a there.0 few there.1)
     ∙ want-by (past_of (run_with v hold choice entries)) a (clock_of v) there.0 view
-
--- (left open: the first need of a window is a locked one exactly where the next item is)
-pub locked-by : (p : Past) (a c : ℕ) (w : AgentView) (want : Want) → IsViewAfterHit p a c w → want_by w c ≡ Some want
-    → want.locked ≡ wants_lock p a c
-locked-by p a c w want view e = ?
 
 pub locked-told : (v : BenchView) (hold : Bool) (choice : Choice) (entries : List Done) (a : ℕ) (want : Want)
     → IsStepWith v hold choice entries → a < 4
