@@ -71,6 +71,7 @@ fetched-there bus (Some (Agents number)) a u e =
 pub performed-there : (v : BenchView) (a : ℕ) (u : AgentView) → slice_get v.bus.agents a ≡ Some u
     → (w : AgentView) × (slice_get (step_performed v).agents a ≡ Some w)
 performed-there v a u e =
-    let k = fetched-there v.bus (bytes_from v.bus (step_drive v)) a u e in
-    (performed k.0 (clock_of v),
-    told-at (for_all (Performed (clock_of v))) 0 (step_fetched v).agents a ∙ ap (option_map (λ v'. performed v' (clock_of v))) k.1)
+    let k = fetched-there v.bus (bytes_from v.bus (step_drive v)) a u e in (
+      performed k.0 (clock_of v),
+      told-at (for_all (Performed (clock_of v))) 0 (step_fetched v).agents a ∙ ap (option_map (λ v'. performed v' (clock_of v))) k.1,
+    )

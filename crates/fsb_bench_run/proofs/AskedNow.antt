@@ -25,11 +25,9 @@ use Rattle.fsb_timely.specs.Starts.{due_number, request_begun_before}
 use Rattle.fsb_timely.specs.Wants.{want_of}
 use Rattle.fsb_trace.specs.At.{known_pair_at}
 use Rattle.fsb_trace.specs.declared.who.Who.{Who}
-use Rattle.fsb_agent_run.specs.RunViews.{LogsItem}
-use Rattle.fsb_agent_run.specs.Stages.{IsViewAfterHit, IsViewOf}
-use Rattle.fsb_agent_run.proofs.Interface.{performed-logged, want-by}
+use Rattle.fsb_agent_run.specs.Stages.{IsViewAfterHit}
+use Rattle.fsb_agent_run.proofs.Interface.{want-by}
 use Rattle.fsb_lawful.proofs.Interface.{get-there}
-use Rattle.fsb_timely.specs.Hits.{is_hit}
 use Rattle.fsb_bench_view.specs.declared.beginning.Latest.{Latest}
 use Rattle.fsb_bench_view.specs.declared.beginning.Starting.{Starting}
 use Rattle.fsb_bench_view.specs.BenchSteps.{step_decided, step_fetched, step_performed, was_held_at}
@@ -39,7 +37,7 @@ use Rattle.fsb_bench_view.specs.BusStarting.{is_spaced_by, may_start, starting_f
 use Rattle.fsb_bench_view.specs.BusViews.{BenchView, BusView, clock_of}
 use Rattle.fsb_bench_run.specs.BenchOf.{IsBegunAt, IsBenchOf, IsLatestOf}
 use Rattle.fsb_bench_run.proofs.AdsGrown.{last-below}
-use Rattle.fsb_bench_run.proofs.AgentsTold.{fetched-from, performed-from, performed-there}
+use Rattle.fsb_bench_run.proofs.AgentsTold.{performed-there}
 use Rattle.fsb_bench_run.proofs.BegunStays.{begun-lawful, begun-request, begun-stays}
 use Rattle.fsb_bench_run.proofs.LockedWants.{locked-by}
 use Rattle.fsb_bench_run.proofs.PairWords.{begun-before, lawful-fits, last-at, pair-shown, step_pair}
@@ -48,32 +46,6 @@ use Rattle.fsb_bench_run.proofs.SameBus.{same-performed}
 use Rattle.fsb_bench_run.proofs.StepFields.{performed-begun}
 use Rattle.fsb_bench_run.proofs.StepWith.{IsStepWith}
 use Rattle.fsb_phase_run.proofs.Interface.{longer}
-
--- (left open: views stay as a run grows)
-view-grown : (r s : Run) (a : ℕ) (v : AgentView) → GrowsTo r s → IsViewOf (past_of r) a (length r.trace) v
-    → IsViewOf (past_of s) a (length r.trace) v
-view-grown r s a v grows h = ?
-
--- (left open: the entries of a hit are those of the agent's next item)
-logs-hit : (v : BenchView) (hold : Bool) (choice : Choice) (entries : List Done) (a : ℕ) (w : AgentView)
-    → IsStepWith v hold choice entries → slice_get (step_fetched v).agents a ≡ Some w
-    → is_hit (past_of (run_with v hold choice entries)) a (clock_of v) ≡ true
-    → LogsItem (past_of (run_with v hold choice entries)) a (clock_of v)
-logs-hit v hold choice entries a w b at hit = ?
-
--- after its hit a view is that after the hits of the clock
-pub after-hits : (v : BenchView) (hold : Bool) (choice : Choice) (entries : List Done) (a : ℕ) (w : AgentView)
-    → IsStepWith v hold choice entries → slice_get (step_performed v).agents a ≡ Some w
-    → IsViewAfterHit (past_of (run_with v hold choice entries)) a (clock_of v) w
-after-hits v hold choice entries a w b at =
-    let s = run_with v hold choice entries in
-    let n = clock_of v in
-    let k = performed-from v a w at in
-    let f = fetched-from v a k.0 k.1 in
-    let old = (b.bench.agents.each a f.before f.at).view in
-    let view = f.view (past_of s) n (view-grown v.run s a f.before b.grows old) in
-    subst (λ w. IsViewAfterHit (past_of s) a n w) (sym k.2)
-    (performed-logged (past_of s) a n k.0 view (logs-hit v hold choice entries a k.0 b k.1))
 
 agent-there : (v : BenchView) (a : ℕ) → IsBenchOf v → a < 4 → (w : AgentView) × (slice_get (step_performed v).agents a ≡ Some w)
 agent-there v a b few =
@@ -96,7 +68,7 @@ pub wants-told : (v : BenchView) (hold : Bool) (choice : Choice) (entries : List
     ≡ want_of (past_of (run_with v hold choice entries)) a (clock_of v)
 wants-told v hold choice entries a b few =
     let there = agent-there v a b.bench few in
-    let view = after-hits v hold choice entries a there.0 b there.1 in
+    let view = b.hits.after a there.0 there.1 in
     ap (option_map (λ (want : Want). want.request)) (want-found (step_performed v).agents (clock_of v) a there.0 few there.1)
     ∙ want-by (past_of (run_with v hold choice entries)) a (clock_of v) there.0 view
 
@@ -106,7 +78,7 @@ pub locked-told : (v : BenchView) (hold : Bool) (choice : Choice) (entries : Lis
     → want.locked ≡ wants_lock (past_of (run_with v hold choice entries)) a (clock_of v)
 locked-told v hold choice entries a want b few at =
     let there = agent-there v a b.bench few in
-    let view = after-hits v hold choice entries a there.0 b there.1 in
+    let view = b.hits.after a there.0 there.1 in
     locked-by (past_of (run_with v hold choice entries)) a (clock_of v) there.0 want view
     (sym (want-found (step_performed v).agents (clock_of v) a there.0 few there.1) ∙ at)
 
@@ -149,9 +121,11 @@ shows-now v hold choice entries b =
     let kept = (performed-begun v).latest in
     let off = none-starts (step_performed v) _ n (was_held_at r.holds n) (starting_for (step_performed v) (step_decided v hold).asked)
     (spaced-off (step_performed v).latest last n (kept ∙ l.1) before) in
-    let pair = second-pair (step_performed v).latest (step_decided v hold).starting last n (kept ∙ l.1) off before in
-    (last.request, begun-before s n last.clock last.request before request,
-    pair-shown v hold choice entries (pairs_of last.request).1 (lawful-fits last.request lawful).1 pair))
+    let pair = second-pair (step_performed v).latest (step_decided v hold).starting last n (kept ∙ l.1) off before in (
+      last.request,
+      begun-before s n last.clock last.request before request,
+      pair-shown v hold choice entries (pairs_of last.request).1 (lawful-fits last.request lawful).1 pair,
+    ))
   where
     latest-there : (o : Option Latest) (d : ℕ) → option_map (λ (last : Latest). last.clock) o ≡ Some d
         → (last : Latest) × (o ≡ Some last) × (last.clock ≡ d)

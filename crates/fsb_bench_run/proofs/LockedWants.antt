@@ -94,10 +94,13 @@ need-locked : (ahead : ℕ) (items : List Item) (n : ℕ) (f : Need → Bool) (n
     → (item : Item) × (o ≡ Some item) × (need.locked ≡ is_locked item)
 unfolding needs_from
 need-locked ahead items n f need None at e = absurd (let no : ⊥ = cc in no)
-need-locked ahead items n f need (Some item) at e =
-    (item, refl, so-same (is_locked item) need
-    (all-found (is_locked_so (is_locked item)) f (needs_from [] (window_from ahead item (drop (n + 1) items))) need
-    (window-locked ahead item (drop (n + 1) items)) e))
+need-locked ahead items n f need (Some item) at e = (
+  item,
+  refl,
+  so-same (is_locked item) need
+      (all-found (is_locked_so (is_locked item)) f (needs_from [] (window_from ahead item (drop (n + 1) items))) need
+      (window-locked ahead item (drop (n + 1) items)) e),
+)
 
 -- the item at the place of a view is the next item
 next-there : (p : Past) (a c n : ℕ) (item : Item) (o : Option ℕ) → next_number p a c ≡ o → n ≡ place_of (items_of p a) o
