@@ -31,3 +31,4 @@ pub mod LocksStay
 pub mod LockNow
 pub mod PairNow
 pub mod ParityNow
+pub mod AsksNow
