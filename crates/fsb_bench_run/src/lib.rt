@@ -5,7 +5,7 @@
 #![tactic(auto)]
 
 pub use frame::clocks_add_to_runs;
-pub use lines::{locks_and_parity_are_driven, words_are_due};
+pub use lines::{locks_and_parity_are_driven, request_lines_are_driven, words_are_due};
 pub use standing::beginnings_are_of_the_run;
 
 mod frame;
