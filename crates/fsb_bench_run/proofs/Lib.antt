@@ -25,3 +25,5 @@ pub mod LocksStay
 pub mod LockNow
 pub mod PairNow
 pub mod ParityNow
+pub mod SnoopTold
+pub mod QueueNext

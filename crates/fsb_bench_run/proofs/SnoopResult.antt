@@ -232,14 +232,14 @@ end-kind v hold choice entries b grows k =
     ∙ ap (option_map (λ (z : Request). z.kind)) (decoded-now v hold choice entries b grows k))
 
 -- HIT# and HITM# at the snoop end
-hit-now : (v : BenchView) (hold : Bool) (choice : Choice) (entries : List Done) (k : SnoopsHere v hold choice entries)
+pub hit-now : (v : BenchView) (hold : Bool) (choice : Choice) (entries : List Done) (k : SnoopsHere v hold choice entries)
     (who : Who) → k.now.entry.who ≡ who → line_at HIT (run_with v hold choice entries).trace (clock_of v)
     ≡ hit_driven (snooped_entry (step_performed v) k.now.entry who) false
 hit-now v hold choice entries k who e =
     line-with v hold choice entries HIT ∙ hit-driven (step_performed v) (clock_of v) v.run.plan.profile (step_decided v hold)
     ∙ (λ i. hit_driven ((k.decided ∙ ap (snooped_entry (step_performed v) k.now.entry) e) i) (k.calm i))
 
-hitm-now : (v : BenchView) (hold : Bool) (choice : Choice) (entries : List Done) (k : SnoopsHere v hold choice entries)
+pub hitm-now : (v : BenchView) (hold : Bool) (choice : Choice) (entries : List Done) (k : SnoopsHere v hold choice entries)
     (who : Who) → k.now.entry.who ≡ who → line_at HITM (run_with v hold choice entries).trace (clock_of v)
     ≡ hitm_driven (snooped_entry (step_performed v) k.now.entry who) false
 hitm-now v hold choice entries k who e =
@@ -263,7 +263,7 @@ reply-begun None request e = absurd (let no : ⊥ = cc in no)
 reply-begun (Some x) request e =
     let same : reply_to x ≡ request = cc in ap (λ (y : Request). is_reply_kind y.kind) (sym same)
 
-begun-reply-kind : (r : Run) (q : ℕ) (request : Request) → IsBegunAt r q Priority request
+pub begun-reply-kind : (r : Run) (q : ℕ) (request : Request) → IsBegunAt r q Priority request
     → is_reply_kind request.kind ≡ true
 unfolding would_begin
 begun-reply-kind r q request k = reply-begun _ request k.wanted
