@@ -27,3 +27,4 @@ pub mod PairNow
 pub mod ParityNow
 pub mod SnoopTold
 pub mod QueueNext
+pub mod EntriesNow
