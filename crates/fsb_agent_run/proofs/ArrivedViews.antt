@@ -1,21 +1,19 @@
 -- From behind the snoop end of a clock to the next clock, where a line comes to the agent.
-use Rattle.std.proofs.Common.{ℕ, ◌+◌, ◌<◌, ◌≤◌, ◌≡◌, ◌≢◌, ◌⊎◌, ◌%◌, Bool, true, false, not, ◌&&◌, ◌||◌, List, [], ◌∷◌, map, length, Option, Some, None, is_some, nat_eq, refl, sym, ap, subst, ◌∙◌, inl, inr, arith, ⊎_elim, if◌then◌else◌}
+use Rattle.std.proofs.Common.{ℕ, ◌+◌, ◌<◌, ◌≡◌, ◌≢◌, ◌⊎◌, ◌%◌, Bool, true, false, not, ◌&&◌, ◌||◌, List, length, Some, nat_eq, refl, sym, ap, subst, ◌∙◌, inl, inr, arith, ⊎_elim, if◌then◌else◌}
 use Rattle.std.specs.Prelude.{◌==◌}
 use Rattle.std.specs.List.{list_all, list_any}
-use Rattle.std.specs.Option.{option_map_or}
-use Rattle.std.proofs.lemmas.Bool.{and_from, and_parts, both_ways, cases_Bool, cases_eq, eq-eqb, eqb-true, false_from_ne_true, ne_eqb, not-true, or_left, or_right}
+use Rattle.std.proofs.lemmas.Bool.{and_from, and_parts, cases_Bool, cases_eq, eq-eqb, eqb-true, false_from_ne_true, ne_eqb, not-true, or_right}
 use Rattle.fsb_access.specs.declared.access.Access.{Access}
 use Rattle.fsb_access.specs.declared.item.Item.{Item}
 use Rattle.fsb_access.specs.Access.{accessed_line}
 use Rattle.fsb_access.specs.ScriptOrder.{Step, steps_of_item}
-use Rattle.fsb_cache.specs.declared.held.Held.{Held}
-use Rattle.fsb_cache.specs.Sets.{CacheSets, copies, sets_filled, states}
+use Rattle.fsb_cache.specs.Sets.{CacheSets, copies, states}
 use Rattle.fsb_count.specs.Options.{is_some_and}
 use Rattle.fsb_linebuf.specs.Buffers.{Buffered, fills_without}
 use Rattle.fsb_line.specs.declared.state.Mesi.{Mesi}
-use Rattle.fsb_line.specs.declared.state.Mesi.TheVariants.{Exclusive, Invalid, Modified, Shared}
+use Rattle.fsb_line.specs.declared.state.Mesi.TheVariants.{Modified}
 use Rattle.fsb_line.specs.States.{is_held, kind_owns}
-use Rattle.fsb_timely.specs.Past.{Claim, Grant, Owing, Past, SnoopEnd}
+use Rattle.fsb_timely.specs.Past.{Grant, Owing, Past, SnoopEnd}
 use Rattle.fsb_timely.specs.Completions.{completes_by, is_arrival, is_brought, is_there}
 use Rattle.fsb_timely.specs.Grants.{has_arrived, holds_line, is_end_at, is_ended, is_exclusive, is_granted, is_lost, is_rival, latest_grant, set_of, snooped_at}
 use Rattle.fsb_timely.specs.Hits.{is_hit, is_met}
@@ -30,17 +28,17 @@ use Rattle.fsb_tied.proofs.Interface.{one-slot}
 use Rattle.fsb_run_laws.specs.Reaches.{Reaches}
 use Rattle.fsb_agent_view.specs.declared.want.OwnRequest.{OwnRequest}
 use Rattle.fsb_agent_view.specs.AgentViews.{AgentView, line_state_by}
-use Rattle.fsb_agent_view.specs.Arriving.{arrived_for, buffers_landed, is_arrival_by, is_brought_by, landed, met_by, sets_settled, with_bytes}
+use Rattle.fsb_agent_view.specs.Arriving.{arrived_for, is_arrival_by, landed, met_by, sets_settled, with_bytes}
 use Rattle.fsb_agent_view.specs.Completing.{completed_by, hand_of, next_steps}
 use Rattle.fsb_agent_view.specs.OwnRequests.{requests_without}
 use Rattle.fsb_agent_view.specs.Serving.{hand_after_steps}
 use Rattle.fsb_agent_view.specs.Snooping.{kind_asks}
 use Rattle.fsb_agent_view.proofs.Interface.{length-with_slot}
 use Rattle.fsb_agent_run.specs.Ending.{EndsFor}
-use Rattle.fsb_agent_run.specs.RunViews.{HasLinesOf, IsAgentOf, IsComing, IsPlacedIn, LogsItem, fill_count, is_awaited, one_if, owing_by, state_told}
+use Rattle.fsb_agent_run.specs.RunViews.{IsAgentOf, IsComing, IsPlacedIn, LogsItem, is_awaited, one_if, owing_by, state_told}
 use Rattle.fsb_agent_run.specs.Stages.{IsViewAfterSnoop, IsViewOf, is_dirty_snooped}
-use Rattle.fsb_agent_run.proofs.Among.{Among, among-any, any-among}
-use Rattle.fsb_agent_run.proofs.EndFacts.{IsEnded, IsGrantOf, below-says, ended-comes, ended-grant, ended-out, first-of-grant, left-last, one-ended}
+use Rattle.fsb_agent_run.proofs.Among.{among-any, any-among}
+use Rattle.fsb_agent_run.proofs.EndFacts.{IsEnded, below-says, ended-comes, ended-grant, first-of-grant, one-ended}
 use Rattle.fsb_agent_run.proofs.EndViews.{awaited-still, end-lines, end-placed, latest-snooped, left-requests}
 use Rattle.fsb_agent_run.proofs.FillCounts.{count_on, count-without_other, count-without_this}
 use Rattle.fsb_agent_run.proofs.GrantsAwaited.{latest-ends, not-ended}
@@ -139,7 +137,8 @@ ending-there r a c number s grant v h ends makes view k =
           apart (sym l.4 ∙ ap (λ (g : Grant). g.line) two ∙ own.line));
     }
   where
-    granted-so : (p : Past) (a line t : ℕ) (s : SnoopEnd) (grant : Grant) → snooped_at p t ≡ Some s → s.grant ≡ Some grant
+    granted-so : (p : Past) (a line t : ℕ) (s : SnoopEnd) (grant : Grant) → snooped_at p t ≡ Some s
+        → s.grant ≡ Some grant
         → grant.agent ≡ a → grant.line ≡ line → is_granted p a line t ≡ true
     granted-so p a line t s grant there makes mine on =
         granted-is p a line t grant (grant-of-snoop p t s there ∙ makes) mine ∙ eq-eqb grant.line line on
@@ -362,7 +361,8 @@ met-arrival r a c line owns bytes v h some few view k comes arrival =
         → is_held (line_state_by v need.line) ≡ holds_line p a need.line (c + 1)
     view-held p need w = held-by p a (c + 1) c (λ l. is_dirty_snooped p a l c) v need.line w.lines
 
-    held-there : (p : Past) (need : Need) → Told → is_held (line_state_by v need.line) ≡ holds_line p a need.line (c + 1)
+    held-there : (p : Past) (need : Need) → Told
+        → is_held (line_state_by v need.line) ≡ holds_line p a need.line (c + 1)
         → there_at p a c line need ≡ true → is_held (states (with_bytes v line bytes).lines need.line) ≡ true
     held-there p need told same met = ap is_held (told need.line) ∙ (elim (cases_Bool (nat_eq need.line line)) [
       | inl on ↦ rw on refl

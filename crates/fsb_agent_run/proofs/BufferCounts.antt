@@ -1,15 +1,16 @@
 -- The pushes and promises of an agent's buffers, one by one and all together.
-use Rattle.std.proofs.Common.{ℕ, ◌+◌, ◌≡◌, ◌≢◌, Bool, true, false, cond, not, Option, Some, None, List, [], ◌∷◌, ◌++◌, length, refl, sym, ap, ◌∙◌, inl, inr, arith}
-use Rattle.std.specs.Prelude.{◌==◌, ◌&&◌, count_by, is_some}
-use Rattle.std.specs.List.{list_all}
+use Rattle.std.proofs.Common.{ℕ, ◌+◌, ◌≡◌, ◌≢◌, Bool, true, false, cond, not, Option, Some, None, List, [], ◌∷◌, ◌++◌, refl, sym, ap, ◌∙◌, inl, inr, arith}
+use Rattle.std.specs.Prelude.{◌==◌, ◌&&◌, count_by, is_none, is_some}
 use Rattle.std.specs.Option.{option_and_then}
 use Rattle.std.proofs.lemmas.Bool.{cases_Bool, eqb-true, ne_eqb}
 use Rattle.std.proofs.lemmas.List.Sums.{sum_by-cons, sum_by_push}
 use Rattle.fsb_linebuf.specs.declared.entry.Fill.{Fill}
 use Rattle.fsb_linebuf.specs.declared.entry.Push.{Push}
-use Rattle.fsb_linebuf.specs.Buffers.{fill_on, fills_without, is_fill_on, is_push_for, promise_on, promised_to, push_for, pushed_to, pushes_without}
-use Rattle.fsb_agent_view.specs.Sound.{are_fills_apart}
-use Rattle.fsb_agent_view.proofs.Interface.{both_left, both_right, fill_on-without, none_promised, promised_count, promised_count-cons, without_first-cons}
+use Rattle.fsb_linebuf.specs.Buffers.{fill_on, fills_without, is_push_for, promise_on, promised_to, push_for, pushed_to, pushes_without}
+use Rattle.fsb_agent_view.proofs.Interface.{without_first-cons}
+use Rattle.fsb_agent_run.specs.RunViews.{one_if}
+use Rattle.fsb_agent_run.proofs.FillCounts.{come-count, count-here, count_on}
+use Rattle.fsb_agent_run.proofs.FillsTold.{fill_on-without, promised_count, promised_count-cons}
 
 -- how many pushes are for the request
 abbrev pub push_count : ℕ → List Push → ℕ
@@ -46,7 +47,8 @@ push_count-without q number (push ∷ pushes) =
           without_first-cons (is_push_for number) push pushes
           ∙ ap (λ b. cond b pushes (push ∷ pushes_without number pushes)) on in
           let found : push_for number (push ∷ pushes) ≡ Some push = rw on refl in
-          let here : cond (is_some (push_for number (push ∷ pushes)) && (number == q)) 1 0 ≡ cond (push.number == q) 1 0 =
+          let here : ◌≡◌ {A = ℕ} (cond (is_some (push_for number (push ∷ pushes)) && (number == q)) 1 0) (cond
+          (push.number == q) 1 0) =
           rw (found, is) refl in
           omega (arith, ap (push_count q) rest, push_count-cons q push pushes, here)
       | inr off ↦
@@ -54,10 +56,14 @@ push_count-without q number (push ∷ pushes) =
           without_first-cons (is_push_for number) push pushes
           ∙ ap (λ b. cond b pushes (push ∷ pushes_without number pushes)) off in
           let found : push_for number (push ∷ pushes) ≡ push_for number pushes = rw off refl in
-          omega (arith, ap (push_count q) rest,
-          ap {B = ℕ} (λ o. cond (is_some o && (number == q)) 1 0) found,
-          push_count-cons q push (pushes_without number pushes), push_count-cons q push pushes,
-          push_count-without q number pushes)
+          omega (
+            arith,
+            ap (push_count q) rest,
+            ap {B = ℕ} (λ o. cond (is_some o && (number == q)) 1 0) found,
+            push_count-cons q push (pushes_without number pushes),
+            push_count-cons q push pushes,
+            push_count-without q number pushes,
+          )
     ]
 
 -- where a push is counted one is found
@@ -78,7 +84,11 @@ pub promise_on-push : (line other number : ℕ) (fills : List Fill)
 promise_on-push line other number [] =
     elim (cases_Bool (other == line)) [ inl on ↦ rw on refl | inr off ↦ rw off refl ]
 promise_on-push line other number (f ∷ fills) =
-    elim (cases_Bool (f.line == line)) [ inl on ↦ rw on refl | inr off ↦ rw off (promise_on-push line other number fills) ]
+    elim (cases_Bool (f.line == line)) [
+      | inl on ↦ rw on refl
+      | inr off ↦ rw off
+          (promise_on-push line other number fills)
+    ]
 
 -- the fill of a line is promised
 pub promise_on-promised : (line to : ℕ) (fills : List Fill) → is_some (fill_on line fills) ≡ true
@@ -86,8 +96,8 @@ pub promise_on-promised : (line to : ℕ) (fills : List Fill) → is_some (fill_
 promise_on-promised line to [] some = absurd (let no : ⊥ = cc in no)
 promise_on-promised line to (f ∷ fills) some =
     elim (cases_Bool (f.line == line)) [
-      | inl on ↦ rw on refl
-      | inr off ↦ rw off (promise_on-promised line to fills (rw off at some))
+      | inl on ↦ rw (on, on) refl
+      | inr off ↦ rw (off, off) (promise_on-promised line to fills (rw off at some))
     ]
 
 -- those of other lines stay
@@ -100,62 +110,84 @@ promise_on-other line other to (f ∷ fills) apart =
           let is : f.line ≡ other = eqb-true f.line other on in
           let not_here : (f.line == line) ≡ false = ne_eqb f.line line (λ e. apart (sym e ∙ is)) in
           rw (on, not_here) (promise_on-other line other to fills apart)
-      | inr off ↦ rw off (kept (f.line == line) refl)
+      | inr off ↦ rw off (kept (f.line == line) refl (promise_on-other line other to fills apart))
     ]
   where
-    kept : (b : Bool) → (f.line == line) ≡ b
+    kept : (b : Bool) → (f.line == line) ≡ b → promise_on line (promised_to other to fills) ≡ promise_on line fills
         → promise_on line (f ∷ promised_to other to fills) ≡ promise_on line (f ∷ fills)
-    kept true e = rw e refl
-    kept false e = rw e (promise_on-other line other to fills apart)
+    kept true e rest = rw e refl
+    kept false e rest = rw e rest
 
 pub promise_on-without : (line other : ℕ) (fills : List Fill) → line ≢ other
     → promise_on line (fills_without other fills) ≡ promise_on line fills
 promise_on-without line other fills apart =
     ap (option_and_then (λ (fill : Fill). fill.promise)) (fill_on-without line other fills apart)
 
-none-from : (line : ℕ) (fills : List Fill) → list_all (λ fill. not (fill.line == line)) fills ≡ true
-    → fill_on line fills ≡ None
-none-from line [] none = refl
-none-from line (f ∷ fills) none =
+-- a line without a fill is not promised
+pub promise_on-none : (line : ℕ) (fills : List Fill) → count_on line fills ≡ 0 → promise_on line fills ≡ None
+promise_on-none line fills none = by (fill_on line fills) refl (come-count line fills false none)
+  where
+    by : (o : Option Fill) → fill_on line fills ≡ o → is_none (fill_on line fills) ≡ true → promise_on line fills ≡ None
+    by None e come = rw e refl
+    by (Some fill) e come = absurd (let never : false ≡ true = rw e at come in (let no : ⊥ = cc in no))
+
+-- whether a line has a fill, by how many it has
+pub fill-counted : (line : ℕ) (fills : List Fill) (b : Bool) → count_on line fills ≡ one_if b
+    → is_some (fill_on line fills) ≡ b
+fill-counted line fills b e = by (fill_on line fills) (come-count line fills b e)
+  where
+    by : (o : Option Fill) → is_none o ≡ not b → is_some o ≡ b
+    by None come = flipped b come
+      where
+        flipped : (x : Bool) → true ≡ not x → false ≡ x
+        flipped true h = absurd (let no : ⊥ = cc in no)
+        flipped false h = refl
+    by (Some fill) come = flipped b come
+      where
+        flipped : (x : Bool) → false ≡ not x → true ≡ x
+        flipped true h = refl
+        flipped false h = absurd (let no : ⊥ = cc in no)
+
+none_promised : (line to : ℕ) (fills : List Fill) → count_on line fills ≡ 0 → promised_to line to fills ≡ fills
+none_promised line to [] none = refl
+none_promised line to (f ∷ fills) none =
     elim (cases_Bool (f.line == line)) [
-      | inl on ↦ absurd (let never : false ≡ true = rw on at none in (let no : ⊥ = cc in no))
-      | inr off ↦ rw off (none-from line fills (both_right (not (f.line == line)) _ none))
+      | inl on ↦ absurd (omega (arith, none, count-here line f fills true on))
+      | inr off ↦
+          let rest : count_on line fills ≡ 0 = omega (arith, none, count-here line f fills false off) in
+          rw off (ap (λ (xs : List Fill). f ∷ xs) (none_promised line to fills rest))
     ]
 
--- where no line has two fills, none is left of a line whose fill has ended
-pub fill_on-gone : (line : ℕ) (fills : List Fill) → are_fills_apart fills ≡ true
-    → fill_on line (fills_without line fills) ≡ None
-fill_on-gone line [] apart = refl
-fill_on-gone line (f ∷ fills) apart =
-    let others = both_right (list_all (λ later. not (later.line == f.line)) fills) (are_fills_apart fills) apart in
-    let first = both_left (list_all (λ later. not (later.line == f.line)) fills) (are_fills_apart fills) apart in
-    rw (without_first-cons (is_fill_on line) f fills)
-    (elim (cases_Bool (f.line == line)) [
-      | inl on ↦
-          let is : f.line ≡ line = eqb-true f.line line on in
-          rw on (none-from line fills (rw is at first))
-      | inr off ↦ rw off (fill_on-gone line fills others)
-    ])
-
 -- one more is promised
-pub promised_count-more : (line to : ℕ) (fills : List Fill) → are_fills_apart fills ≡ true
-    → is_some (fill_on line fills) ≡ true → promise_on line fills ≡ None
+pub promised_count-more : (line to : ℕ) (fills : List Fill) → count_on line fills ≡ 1 → promise_on line fills ≡ None
     → promised_count (promised_to line to fills) ≡ promised_count fills + 1
-promised_count-more line to [] apart some none = absurd (let no : ⊥ = cc in no)
-promised_count-more line to (f ∷ fills) apart some none =
-    let others = both_right (list_all (λ later. not (later.line == f.line)) fills) (are_fills_apart fills) apart in
-    let first = both_left (list_all (λ later. not (later.line == f.line)) fills) (are_fills_apart fills) apart in
+promised_count-more line to [] one none = absurd (omega (arith, one))
+promised_count-more line to (f ∷ fills) one none =
     elim (cases_Bool (f.line == line)) [
       | inl on ↦
-          let is : f.line ≡ line = eqb-true f.line line on in
-          let rest : promised_to line to fills ≡ fills = none_promised line to fills (rw is at first) in
-          let here : promised_to line to (f ∷ fills) ≡ record f { promise = Some to } ∷ promised_to line to fills = rw on refl in
+          let left : count_on line fills ≡ 0 = omega (arith, one, count-here line f fills true on) in
+          let rest : promised_to line to fills ≡ fills = none_promised line to fills left in
+          let here : promised_to line to (f ∷ fills) ≡ record f {
+            promise =
+                Some to;
+          } ∷ promised_to line to fills = rw on refl in
           let free : f.promise ≡ None = rw on at none in
-          omega (arith, ap promised_count here,
-          promised_count-cons (record f { promise = Some to }) (promised_to line to fills),
-          promised_count-cons f fills, ap promised_count rest, ap {B = ℕ} (λ o. cond (is_some o) 1 0) free)
+          omega (
+            arith,
+            ap promised_count here,
+            promised_count-cons (record f { promise = Some to }) (promised_to line to fills),
+            promised_count-cons f fills,
+            ap promised_count rest,
+            ap {B = ℕ} (λ o. cond (is_some o) 1 0) free,
+          )
       | inr off ↦
+          let left : count_on line fills ≡ 1 = omega (arith, one, count-here line f fills false off) in
           let here : promised_to line to (f ∷ fills) ≡ f ∷ promised_to line to fills = rw off refl in
-          omega (arith, ap promised_count here, promised_count-cons f (promised_to line to fills), promised_count-cons f fills,
-          promised_count-more line to fills others (rw off at some) (rw off at none))
+          omega (
+            arith,
+            ap promised_count here,
+            promised_count-cons f (promised_to line to fills),
+            promised_count-cons f fills,
+            promised_count-more line to fills left (rw off at none),
+          )
     ]

@@ -1,12 +1,12 @@
 -- The events of an agent at a clock lead from its view as the clock finds it to that of the next clock.
-use Rattle.std.proofs.Common.{ℕ, zero, suc, ◌+◌, ◌<◌, ◌≤◌, ◌≡◌, ◌≢◌, ◌⊎◌, Bool, true, false, not, ◌&&◌, ◌||◌, List, [], ◌∷◌, ◌++◌, Option, Some, None, fold, length, nat_eq, refl, sym, ap, subst, ◌∙◌, inl, inr, add-one, arith, append-nil, if◌then◌else◌}
+use Rattle.std.proofs.Common.{ℕ, zero, suc, ◌+◌, ◌<◌, ◌≡◌, ◌⊎◌, Bool, true, false, ◌||◌, List, [], ◌∷◌, ◌++◌, Option, Some, None, fold, nat_eq, refl, sym, ap, subst, ◌∙◌, inl, inr, add-one, arith, append-nil, if◌then◌else◌}
 use Rattle.std.specs.List.{flat_map, list_any}
-use Rattle.std.specs.Option.{option_and_then, option_map_or}
-use Rattle.std.proofs.lemmas.Bool.{cases_Bool, eq-eqb, eqb-true, ne_eqb, both_ways, or_cases}
+use Rattle.std.specs.Option.{option_map_or}
+use Rattle.std.proofs.lemmas.Bool.{cases_Bool, eq-eqb, eqb-true, both_ways, or_cases}
 use Rattle.std.proofs.lemmas.List.Sums.{fold-append}
 use Rattle.fsb_count.specs.Options.{is_at, is_some_and}
 use Rattle.fsb_encode.specs.declared.request.Request.{Request}
-use Rattle.fsb_timely.specs.Past.{Claim, Grant, Owing, Past, SnoopEnd}
+use Rattle.fsb_timely.specs.Past.{Claim, Grant, Past, SnoopEnd}
 use Rattle.fsb_timely.specs.Grants.{begun_at, ended_requests, is_end_at, snooped_at}
 use Rattle.fsb_timely.specs.Runs.{Run, past_of}
 use Rattle.fsb_timely.specs.Scripts.{items_of}
@@ -23,7 +23,7 @@ use Rattle.fsb_agent_view.specs.AgentEvents.{AgentEvent, Arrived, Committed, Giv
 use Rattle.fsb_agent_view.specs.AgentViews.{AgentView}
 use Rattle.fsb_agent_view.specs.Completing.{performed}
 use Rattle.fsb_agent_run.specs.AgentClocks.{cancelled_events, committed_events, end_events_of, ended_events, events_of_agent, events_of_agent_below, given_up_events, giver_of, handed_events, is_seen_shared, number_asked, own_end_events, replied_events, reply_end_events, sent_events, snoop_events_of}
-use Rattle.fsb_agent_run.specs.Ending.{EndsFor, NothingEndsFor, number_claimed, number_left, number_replied}
+use Rattle.fsb_agent_run.specs.Ending.{EndsFor, number_claimed, number_left, number_replied}
 use Rattle.fsb_agent_run.specs.Stages.{IsViewAfterHit, IsViewAfterSent, IsViewAfterSnoop, IsViewBeforeSnoop, IsViewOf}
 use Rattle.fsb_agent_run.proofs.Among.{Among}
 use Rattle.fsb_agent_run.proofs.EndEvents.{given-up-view, line-view, upgrade-view}
@@ -37,10 +37,10 @@ use Rattle.fsb_agent_run.proofs.OwnSnoops.{IsSettledAs, getting-granted, getting
 use Rattle.fsb_agent_run.proofs.SentViews.{cancelled-view, sent-view, uncancelled-view, unsent-view}
 
 -- the agent after some events
-abbrev after : AgentView → List AgentEvent → AgentView
+abbrev pub after : AgentView → List AgentEvent → AgentView
 after v events = fold agent_after v events
 
-handed-all : (p : Past) (a c : ℕ) (v : AgentView) → IsViewOf p a c v → IsViewOf p a c (after v (handed_events p a c))
+pub handed-all : (p : Past) (a c : ℕ) (v : AgentView) → IsViewOf p a c v → IsViewOf p a c (after v (handed_events p a c))
 unfolding handed_events
 handed-all p a c v view = by (responded_in p c)
   where
@@ -53,7 +53,7 @@ handed-all p a c v view = by (responded_in p c)
     by None = view
     by (Some q) = one q (is_at (giver_of p c q) a)
 
-sent-all : (r : Run) (a c : ℕ) (v : AgentView) → Reaches r (c + 1) → IsViewAfterHit (past_of r) a c v
+pub sent-all : (r : Run) (a c : ℕ) (v : AgentView) → Reaches r (c + 1) → IsViewAfterHit (past_of r) a c v
     → IsViewAfterSent (past_of r) a c (after v (sent_events (past_of r) a c))
 unfolding sent_events
 sent-all r a c v h view = by (begun_at (past_of r) c) refl
@@ -72,7 +72,7 @@ sent-all r a c v h view = by (begun_at (past_of r) c) refl
     by None e = unsent-view (past_of r) a c v (λ other f. absurd (let no : ⊥ = cc in no)) view
     by (Some claim) e = one claim e (nat_eq claim.agent a) refl
 
-cancelled-all : (r : Run) (a c : ℕ) (v : AgentView) → Reaches r (c + 1) → IsViewAfterSent (past_of r) a c v
+pub cancelled-all : (r : Run) (a c : ℕ) (v : AgentView) → Reaches r (c + 1) → IsViewAfterSent (past_of r) a c v
     → IsViewBeforeSnoop (past_of r) a c (after v (cancelled_events (past_of r) a c))
 unfolding cancelled_events given_up_events
 cancelled-all r a c v h view = by (cancelled_in (past_of r) c) refl
@@ -135,11 +135,13 @@ asked-wants r b c line number h asked =
     let is = owing-is r b c k.0 (reaches-less r c (c + 1) (omega arith) h) k.1 in
     let before = is.before in
     let first = k.3 in
-    let want = begun-want r k.0.claim.first k.0.claim h.timely h.bounds (omega arith) is.claimed in
-    (want.request, subst (λ x. want_of p x number ≡ Some want.request) is.agent
-      (subst (λ q. want_of p k.0.claim.agent q ≡ Some want.request) first want.want))
+    let want = begun-want r k.0.claim.first k.0.claim h.timely h.bounds (omega arith) is.claimed in (
+      want.request,
+      subst (λ x. want_of p x number ≡ Some want.request) is.agent
+          (subst (λ q. want_of p k.0.claim.agent q ≡ Some want.request) first want.want),
+    )
 
-snooped-all : (r : Run) (a c : ℕ) (v : AgentView) → Reaches r (c + 1) → 0 < r.plan.cache
+pub snooped-all : (r : Run) (a c : ℕ) (v : AgentView) → Reaches r (c + 1) → 0 < r.plan.cache
     → IsViewBeforeSnoop (past_of r) a c v → IsViewAfterSnoop (past_of r) a c
     (after v (option_map_or (snoop_events_of (past_of r) a c) (snooped_at (past_of r) c) []))
 snooped-all r a c v h some view = by (snooped_at (past_of r) c) refl
@@ -259,7 +261,8 @@ unfolding end_events_of
 unended p a c q bytes e = rw e refl
 
 reply-mine : (p : Past) (a c number : ℕ) (bytes : ℕ → List ℕ) (grant : Grant) → nat_eq grant.agent a ≡ true
-    → number_asked p a c grant.line ≡ Some number → reply_end_events p a c bytes grant ≡ Arrived c number (bytes number) ∷ []
+    → number_asked p a c grant.line ≡ Some number
+    → reply_end_events p a c bytes grant ≡ Arrived c number (bytes number) ∷ []
 unfolding reply_end_events
 reply-mine p a c number bytes grant mine asked = rw (mine, asked) refl
 
@@ -291,7 +294,8 @@ quiet-end r a c q v h few one none view =
     }) view
 
 -- the end of the agent's own request
-own-end-all : (r : Run) (a c q : ℕ) (bytes : ℕ → List ℕ) (s : SnoopEnd) (claim : Claim) (v : AgentView) → Reaches r (c + 1)
+own-end-all : (r : Run) (a c q : ℕ) (bytes : ℕ → List ℕ) (s : SnoopEnd) (claim : Claim) (v : AgentView)
+    → Reaches r (c + 1)
     → 0 < r.plan.cache → a < 4 → ended_requests (past_of r) c ≡ q ∷ [] → snoop_end_below (past_of r) (c + 1) q ≡ Some s
     → s.claim ≡ Some claim → claim.agent ≡ a → IsViewAfterSnoop (past_of r) a c v
     → IsViewOf (past_of r) a (c + 1) (after v (own_end_events c s bytes))
@@ -342,10 +346,11 @@ own-end-all r a c q bytes s claim v h some few one snooped claims mine view = by
     by Deferred e =
         quiet-end r a c q v h few one (λ other f.
         let same : s ≡ other = cc in
-        sym (ap (number_left (past_of r) a c) same) ∙ deferred-left (past_of r) a c s claim claims mine (ap is_deferral e)) view
+        sym (ap (number_left (past_of r) a c) same)
+        ∙ deferred-left (past_of r) a c s claim claims mine (ap is_deferral e)) view
 
 -- what ends at the clock, for the agent
-ended-all : (r : Run) (a c : ℕ) (bytes : ℕ → List ℕ) (v : AgentView) → Reaches r (c + 1) → 0 < r.plan.cache → a < 4
+pub ended-all : (r : Run) (a c : ℕ) (bytes : ℕ → List ℕ) (v : AgentView) → Reaches r (c + 1) → 0 < r.plan.cache → a < 4
     → IsViewAfterSnoop (past_of r) a c v
     → IsViewOf (past_of r) a (c + 1) (after v (flat_map (end_events_of (past_of r) a c bytes) (ended_requests (past_of r) c)))
 ended-all r a c bytes v h some few view = by (ended_requests (past_of r) c) refl
@@ -386,7 +391,8 @@ ended-all r a c bytes v h some few view = by (ended_requests (past_of r) c) refl
         unasked q s grant one snooped none makes (inl m)
 
     known : (q : ℕ) (s : SnoopEnd) → ended_requests (past_of r) c ≡ q ∷ []
-        → snoop_end_below (past_of r) (c + 1) q ≡ Some s → (o : Option Claim) → s.claim ≡ o → (g : Option Grant) → s.grant ≡ g
+        → snoop_end_below (past_of r) (c + 1) q ≡ Some s → (o : Option Claim) → s.claim ≡ o → (g : Option Grant)
+        → s.grant ≡ g
         → Goal (ended_events (past_of r) a c bytes s)
     known q s one snooped (Some claim) claims g makes = elim (cases_Bool (nat_eq claim.agent a)) [
       | inl mine ↦
@@ -426,7 +432,8 @@ ended-all r a c bytes v h some few view = by (ended_requests (past_of r) c) refl
 
 -- the whole clock
 pub clock-view : (r : Run) (a c : ℕ) (bytes : ℕ → List ℕ) (v : AgentView) → Reaches r (c + 1) → 0 < r.plan.cache → a < 4
-    → IsViewOf (past_of r) a c v → IsViewOf (past_of r) a (c + 1) (fold agent_after v (events_of_agent (past_of r) a c bytes))
+    → IsViewOf (past_of r) a c v
+    → IsViewOf (past_of r) a (c + 1) (fold agent_after v (events_of_agent (past_of r) a c bytes))
 unfolding events_of_agent
 clock-view r a c bytes v h some few view =
     let p = past_of r in

@@ -1,11 +1,12 @@
 -- The events by which a request of an agent ends.
-use Rattle.std.proofs.Common.{ℕ, ◌+◌, ◌<◌, ◌≤◌, ◌≡◌, ◌≢◌, ◌⊎◌, Bool, true, false, not, ◌&&◌, ◌||◌, List, [], ◌∷◌, Option, Some, None, is_some, nat_eq, refl, sym, ap, subst, ◌∙◌, inl, inr, arith}
+use Rattle.std.proofs.Common.{ℕ, ◌+◌, ◌<◌, ◌≡◌, ◌≢◌, ◌⊎◌, false, ◌&&◌, List, Option, Some, None, is_some, refl, sym, ap, subst, ◌∙◌, inl, inr, arith}
 use Rattle.std.specs.Option.{option_map_or}
 use Rattle.fsb_encode.specs.declared.request.Kind.{Kind}
 use Rattle.fsb_encode.specs.declared.request.Kind.TheVariants as kinds
 use Rattle.fsb_line.specs.States.{kind_owns}
-use Rattle.fsb_timely.specs.Past.{Claim, Grant, Past, SnoopEnd}
-use Rattle.fsb_timely.specs.Moments.{is_got, is_upgraded, makes_grant}
+use Rattle.fsb_timely.specs.Past.{Claim, Grant, SnoopEnd}
+use Rattle.fsb_timely.specs.Moments.{is_upgraded, makes_grant}
+use Rattle.fsb_timely.specs.Completions.{is_arrival}
 use Rattle.fsb_timely.specs.Runs.{Run, past_of}
 use Rattle.fsb_trace.specs.declared.outcome.Outcome.{Outcome}
 use Rattle.fsb_trace.specs.declared.outcome.Outcome.TheVariants.{Replied, Retried, Upgraded, Written}
@@ -14,21 +15,23 @@ use Rattle.fsb_run_laws.specs.Reaches.{Reaches}
 use Rattle.fsb_run_laws.proofs.Interface.{replied-on}
 use Rattle.fsb_agent_view.specs.declared.want.OwnRequest.{OwnRequest}
 use Rattle.fsb_agent_view.specs.AgentViews.{AgentView}
-use Rattle.fsb_agent_view.specs.Arriving.{arrived_for, ended_for, given_up, line_arrived, upgrade_ended}
+use Rattle.fsb_agent_view.specs.Arriving.{arrived_for, ended_for, given_up, is_arrival_by, line_arrived, upgrade_ended}
 use Rattle.fsb_agent_view.specs.OwnRequests.{request_numbered}
 use Rattle.fsb_agent_view.specs.Snooping.{kind_asks}
 use Rattle.fsb_agent_run.specs.Ending.{EndsFor}
 use Rattle.fsb_agent_run.specs.RunViews.{IsComing, is_won_below}
-use Rattle.fsb_agent_run.specs.Stages.{IsViewAfterSnoop, IsViewOf, owed_through}
+use Rattle.fsb_agent_run.specs.Stages.{IsViewAfterSnoop, IsViewOf, is_dirty_snooped, owed_through}
 use Rattle.fsb_agent_run.proofs.ArrivedViews.{arrived-view}
 use Rattle.fsb_agent_run.proofs.EndFacts.{IsEnded, below-says, ended-comes, ended-out, left-last, left-says}
 use Rattle.fsb_agent_run.proofs.EndViews.{left-view}
+use Rattle.fsb_agent_run.proofs.HitsMade.{arrival-by}
 use Rattle.fsb_agent_run.proofs.OutLists.{kept-of}
 use Rattle.fsb_agent_run.proofs.OwedSteps.{reaches-less}
 use Rattle.fsb_agent_run.proofs.OwnSnoops.{idle-retried, settled-as, unmade, written-kind}
 use Rattle.fsb_agent_run.proofs.WonSteps.{won-known}
 
-ended-here : (r : Run) (a c number : ℕ) (s : SnoopEnd) (v : AgentView) → Reaches r (c + 1) → EndsFor (past_of r) a c number s
+ended-here : (r : Run) (a c number : ℕ) (s : SnoopEnd) (v : AgentView) → Reaches r (c + 1)
+    → EndsFor (past_of r) a c number s
     → IsViewAfterSnoop (past_of r) a c v → IsEnded r a c number v
 ended-here r a c number s v h ends view = ended-out r a c number v h (left-last r a c number s h ends) view.requests
 
@@ -58,7 +61,8 @@ own-number r a c number s h ends other =
 -- an upgrade ends
 kept-cases : (r : Run) (a c number : ℕ) (s : SnoopEnd) (v : AgentView) (out : OwnRequest) → (kept : Option (List ℕ))
     → out.kept ≡ kept → (made : Option Grant) → s.grant ≡ made → is_some kept ≡ is_some made
-    → ((bytes : List ℕ) (grant : Grant) → s.grant ≡ Some grant → IsViewOf (past_of r) a (c + 1) (arrived_for v c out bytes))
+    → ((bytes : List ℕ) (grant : Grant) → s.grant ≡ Some grant
+    → IsViewOf (past_of r) a (c + 1) (arrived_for v c out bytes))
     → (s.grant ≡ None → IsViewOf (past_of r) a (c + 1) (given_up v out.number))
     → IsViewOf (past_of r) a (c + 1) (ended_for v c out)
 kept-cases r a c number s v out None e None f same come gone = rw e (gone f)
@@ -69,7 +73,8 @@ kept-cases r a c number s v out (Some bytes) e (Some grant) f same come gone = r
 never-replied : (outcome : Outcome) → outcome ≡ Upgraded → outcome ≢ Replied
 never-replied outcome e f = cc
 
-pub upgrade-view : (r : Run) (a c number : ℕ) (s : SnoopEnd) (v : AgentView) → Reaches r (c + 1) → 0 < r.plan.cache → a < 4
+pub upgrade-view : (r : Run) (a c number : ℕ) (s : SnoopEnd) (v : AgentView) → Reaches r (c + 1) → 0 < r.plan.cache
+    → a < 4
     → EndsFor (past_of r) a c number s → s.outcome ≡ Upgraded → IsViewAfterSnoop (past_of r) a c v
     → IsViewOf (past_of r) a (c + 1) (upgrade_ended v c number)
 unfolding is_upgraded
@@ -114,7 +119,8 @@ ungranted r a c number s h ends which =
     ]
 
 pub given-up-view : (r : Run) (a c number : ℕ) (s : SnoopEnd) (v : AgentView) → Reaches r (c + 1) → a < 4
-    → EndsFor (past_of r) a c number s → (s.outcome ≡ Retried) ⊎ (s.outcome ≡ Written) → IsViewAfterSnoop (past_of r) a c v
+    → EndsFor (past_of r) a c number s → (s.outcome ≡ Retried) ⊎ (s.outcome ≡ Written)
+    → IsViewAfterSnoop (past_of r) a c v
     → IsViewOf (past_of r) a (c + 1) (given_up v number)
 given-up-view r a c number s v h few ends which view =
     left-view r a c number s v h few ends (ungranted r a c number s h ends which) view
@@ -130,3 +136,11 @@ comes-to r a c number s grant out v h ends makes view found =
     let same : k.out ≡ out = cc in
     subst (λ (o : OwnRequest). IsComing (past_of r) a c o.request.line (kind_owns (kind_asks o.request.kind))) same
     (ended-comes r a c number s grant v h ends makes view.requests k)
+
+-- and what it completes is what the run says
+pub arrives-by : (r : Run) (a c number : ℕ) (s : SnoopEnd) (grant : Grant) (out : OwnRequest) (v : AgentView)
+    → Reaches r (c + 1) → EndsFor (past_of r) a c number s → s.grant ≡ Some grant → IsViewAfterSnoop (past_of r) a c v
+    → request_numbered number v.outs ≡ Some out → is_arrival_by v c out ≡ is_arrival (past_of r) a c
+arrives-by r a c number s grant out v h ends makes view found =
+    arrival-by (past_of r) a c (λ line. is_dirty_snooped (past_of r) a line c) v out view.agent view.placed.item view.lines
+    (comes-to r a c number s grant out v h ends makes view found)

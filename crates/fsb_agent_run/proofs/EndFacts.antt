@@ -1,8 +1,8 @@
 -- What ends for an agent at a clock: which request of its is not outstanding any more, and what comes.
-use Rattle.std.proofs.Common.{ℕ, ◌+◌, ◌<◌, ◌≤◌, ◌≡◌, ◌≢◌, ◌⊎◌, Bool, true, false, not, ◌&&◌, ◌||◌, List, [], ◌∷◌, ◌++◌, map, length, Option, Some, None, is_some, nat_eq, refl, sym, ap, subst, ◌∙◌, inl, inr, arith, if◌then◌else◌}
-use Rattle.std.specs.List.{filter, find, list_any}
-use Rattle.std.specs.Option.{option_and_then, option_map}
-use Rattle.std.proofs.lemmas.Bool.{and_from, and_parts, both_ways, cases_Bool, eq-eqb, eqb-true, false_from_ne_true, ne_eqb, or_cases, or_left, or_right}
+use Rattle.std.proofs.Common.{ℕ, ◌+◌, ◌<◌, ◌≤◌, ◌≡◌, ◌⊎◌, Bool, true, false, not, ◌&&◌, ◌||◌, ◌++◌, length, Option, Some, None, nat_eq, refl, sym, ap, subst, ◌∙◌, inl, inr, arith, if◌then◌else◌}
+use Rattle.std.specs.List.{filter}
+use Rattle.std.specs.Option.{option_map}
+use Rattle.std.proofs.lemmas.Bool.{and_from, eq-eqb, eqb-true, false_from_ne_true, ne_eqb, or_cases, or_left, or_right}
 use Rattle.std.proofs.lemmas.List.Elements.{filter-append}
 use Rattle.fsb_count.specs.Clocks.{first_where}
 use Rattle.fsb_count.specs.Options.{is_at, is_some_and}
@@ -14,17 +14,16 @@ use Rattle.fsb_line.specs.States.{kind_owns}
 use Rattle.fsb_timely.specs.Past.{Claim, Grant, Owing, Past, SnoopEnd}
 use Rattle.fsb_timely.specs.Grants.{begun_at, grant_at, is_end_at, is_granted, is_owning, snooped_at}
 use Rattle.fsb_timely.specs.Growth.{is_last_clock}
-use Rattle.fsb_timely.specs.Moments.{is_snoop_of, is_upgraded}
+use Rattle.fsb_timely.specs.Moments.{is_snoop_of}
 use Rattle.fsb_timely.specs.Runs.{Run, past_of}
 use Rattle.fsb_timely.specs.Wants.{owed, want_of}
 use Rattle.fsb_trace.specs.Outcome.{is_deferral}
 use Rattle.fsb_coherent.specs.Awaits.{cancelled_in, snoop_end_below}
-use Rattle.fsb_coherent.proofs.Interface.{some-there}
-use Rattle.fsb_lawful.proofs.Interface.{and-then, map-some}
+use Rattle.fsb_lawful.proofs.Interface.{and-then}
 use Rattle.fsb_tied.proofs.Interface.{answers-in-order, begun-want, cancels, ended-number, grant-first, one-ends, orderly-whole, same-both, snooped-by}
 use Rattle.fsb_timely.proofs.Interface.{tied-snoop}
 use Rattle.fsb_run_laws.specs.Reaches.{Reaches}
-use Rattle.fsb_run_laws.proofs.Interface.{LeavesByEnd, LeftByOwn, LeftByReply, ServesOutstanding, cancelled-last, ending-serves, ends-last, last-outstanding, last-says, snooped-outstanding}
+use Rattle.fsb_run_laws.proofs.Interface.{cancelled-last, ending-serves, ends-last, last-outstanding, last-says, snooped-outstanding}
 use Rattle.fsb_agent_view.specs.declared.want.OwnRequest.{OwnRequest}
 use Rattle.fsb_agent_view.specs.AgentViews.{AgentView}
 use Rattle.fsb_agent_view.specs.OwnRequests.{request_numbered}
@@ -32,14 +31,13 @@ use Rattle.fsb_agent_view.specs.Snooping.{kind_asks}
 use Rattle.fsb_agent_run.specs.AgentClocks.{number_asked}
 use Rattle.fsb_agent_run.specs.Ending.{EndsFor, NothingEndsFor, number_claimed, number_left, number_replied}
 use Rattle.fsb_agent_run.specs.RunViews.{HasRequestsOf, IsComing, owing_by}
-use Rattle.fsb_agent_run.specs.Stages.{begun_by, is_uncancelled, owed_sent, owed_through}
+use Rattle.fsb_agent_run.specs.Stages.{owings_begun, is_uncancelled, owed_sent, owed_through}
 use Rattle.fsb_agent_run.proofs.Among.{Among, among-found, among-left, filter-all, filter-among, filter-same, filter-two}
-use Rattle.fsb_agent_run.proofs.GrantsAwaited.{end-once}
-use Rattle.fsb_agent_run.proofs.OtherSnoops.{IsServed, asked-number, served-out}
+use Rattle.fsb_agent_run.proofs.OtherSnoops.{asked-number, served-out}
 use Rattle.fsb_agent_run.proofs.OutLists.{find-number, out-there, wanted-of}
-use Rattle.fsb_agent_run.proofs.OwedApart.{one-first, one-line, owed-apart}
-use Rattle.fsb_agent_run.proofs.OwedSteps.{begun-is, begun-owing, owed-more, owed-there, owing-is, reaches-less, stays_out}
-use Rattle.fsb_agent_run.proofs.OwnSnoops.{IsSettledAs, grant-of-snoop, settled-as}
+use Rattle.fsb_agent_run.proofs.OwedApart.{one-line, owed-apart}
+use Rattle.fsb_agent_run.proofs.OwedSteps.{begun-is, owed-more, owed-there, owing-is, reaches-less, stays_out}
+use Rattle.fsb_agent_run.proofs.OwnSnoops.{grant-of-snoop, settled-as}
 use Rattle.fsb_agent_run.proofs.SnoopSteps.{outs-apart}
 
 -- the snoop end of a request below a clock
@@ -144,7 +142,8 @@ pub record IsLast (r : Run) (a c number : ℕ) : Type 0 where
   pub owns : owing.claim ≡ claim
   pub first : owing.claim.first ≡ number
 
-pub last-is : (r : Run) (a c q : ℕ) (claim : Claim) → Reaches r (c + 1) → begun_at (past_of r) q ≡ Some claim → claim.agent ≡ a
+pub last-is : (r : Run) (a c q : ℕ) (claim : Claim) → Reaches r (c + 1) → begun_at (past_of r) q ≡ Some claim
+    → claim.agent ≡ a
     → q + 4 ≤ c → is_last_clock r.trace c q ≡ true → IsLast r a c q
 last-is r a c q claim h begun mine early last =
     let p = past_of r in
@@ -178,7 +177,8 @@ left-last r a c number s h ends =
           let tied = tied-snoop r below.0 s below.2 in
           let above = (snooped-by r below.0 tied.0 s tied.1).above in
           let last : is_last_clock r.trace c s.first ≡ true =
-          ap (is_last_clock r.trace c) below.3 ∙ ends-last r c ends.first s h ends.ends ends.snooped ∙ ap not own.kept in
+          ap (is_last_clock r.trace c) below.3 ∙ ends-last r c ends.first s h ends.ends ends.snooped
+          ∙ ap not own.kept in
           subst (IsLast r a c) own.first (last-is r a c s.first own.claim h out.0 own.agent (omega arith) last)
       | inr reply ↦
           let k = ending-serves r c ends.first s reply.grant h ends.ends ends.snooped reply.unclaimed reply.grants in
@@ -203,7 +203,8 @@ left-last r a c number s h ends =
 
 -- which request of those that an agent owes has its last clock at c
 last-by-left : (r : Run) (a c number : ℕ) (s : SnoopEnd) (owing : Owing) → Reaches r (c + 1)
-    → EndsFor (past_of r) a c number s → Among owing (owed (past_of r) a c) → is_last_clock r.trace c owing.claim.first ≡ true
+    → EndsFor (past_of r) a c number s → Among owing (owed (past_of r) a c)
+    → is_last_clock r.trace c owing.claim.first ≡ true
     → (is_at (cancelled_in (past_of r) c) owing.claim.first || nat_eq owing.claim.first number) ≡ true
 last-by-left r a c number s owing h ends there last =
     let p = past_of r in
@@ -243,11 +244,12 @@ left-by-last r a c number s owing h ends e =
     let p = past_of r in
     elim (or_cases (is_at (cancelled_in p c) owing.claim.first) (nat_eq owing.claim.first number) e) [
       | inl t ↦ cancelled-last r c owing.claim.first h (is_at-some (cancelled_in p c) owing.claim.first t)
-      | inr t ↦ ap (is_last_clock r.trace c) (eqb-true owing.claim.first number t) ∙ (left-last r a c number s h ends).last
+      | inr t ↦ ap (is_last_clock r.trace c) (eqb-true owing.claim.first number t)
+          ∙ (left-last r a c number s h ends).last
     ]
 
 -- what begins at c is neither cancelled there nor of a number below c
-begun-uncancelled : (r : Run) (a c : ℕ) (owing : Owing) → Reaches r (c + 1) → Among owing (begun_by (past_of r) a c)
+begun-uncancelled : (r : Run) (a c : ℕ) (owing : Owing) → Reaches r (c + 1) → Among owing (owings_begun (past_of r) a c)
     → is_uncancelled (past_of r) c owing ≡ true
 unfolding is_uncancelled
 begun-uncancelled r a c owing h there =
@@ -282,14 +284,14 @@ owed-left r a c number s h ends =
     (same-both (is_last_clock r.trace c owing.claim.first)
     (is_at (cancelled_in p c) owing.claim.first || nat_eq owing.claim.first number)
     (λ t. last-by-left r a c number s owing h ends there t) (λ t. left-by-last r a c number s owing h ends t))) in
-    let fresh : filter both (begun_by p a c) ≡ begun_by p a c =
-    filter-all both (begun_by p a c) (λ owing there.
+    let fresh : filter both (owings_begun p a c) ≡ owings_begun p a c =
+    filter-all both (owings_begun p a c) (λ owing there.
     let b = begun-is r a c owing h there in
     let now = b.2 in
     and_from (g owing) (f owing) (begun-uncancelled r a c owing h there)
     (ap not (ne_eqb owing.claim.first number (λ e. omega (arith, e))))) in
-    owed-more r a c h ∙ (λ i. before i ++ sym fresh i) ∙ sym (filter-append both (owed p a c) (begun_by p a c))
-    ∙ sym (filter-two f g (owed p a c ++ begun_by p a c))
+    owed-more r a c h ∙ (λ i. before i ++ sym fresh i) ∙ sym (filter-append both (owed p a c) (owings_begun p a c))
+    ∙ sym (filter-two f g (owed p a c ++ owings_begun p a c))
 
 -- where nothing ends for the agent
 pub owed-kept : (r : Run) (a c : ℕ) → Reaches r (c + 1) → NothingEndsFor (past_of r) a c
@@ -319,9 +321,9 @@ owed-kept r a c h nothing =
           ]
     ])
     (λ t. cancelled-last r c owing.claim.first h (is_at-some (cancelled_in p c) owing.claim.first t)))) in
-    let fresh : filter g (begun_by p a c) ≡ begun_by p a c =
-    filter-all g (begun_by p a c) (λ owing there. begun-uncancelled r a c owing h there) in
-    owed-more r a c h ∙ (λ i. before i ++ sym fresh i) ∙ sym (filter-append g (owed p a c) (begun_by p a c))
+    let fresh : filter g (owings_begun p a c) ≡ owings_begun p a c =
+    filter-all g (owings_begun p a c) (λ owing there. begun-uncancelled r a c owing h there) in
+    owed-more r a c h ∙ (λ i. before i ++ sym fresh i) ∙ sym (filter-append g (owed p a c) (owings_begun p a c))
 
 -- what ends is one of the view's requests
 pub record IsEnded (r : Run) (a c number : ℕ) (v : AgentView) : Type 0 where
@@ -429,7 +431,8 @@ granted-there : (p : Past) (t : ℕ) (grant : Grant) → grant_at p t ≡ Some g
 unfolding is_granted is_some_and
 granted-there p t grant e = rw (e, eq-eqb grant.agent grant.agent refl) (eq-eqb grant.line grant.line refl)
 
-pub first-of-grant : (r : Run) (t : ℕ) (s : SnoopEnd) (grant : Grant) → t < length r.trace → snooped_at (past_of r) t ≡ Some s
+pub first-of-grant : (r : Run) (t : ℕ) (s : SnoopEnd) (grant : Grant) → t < length r.trace
+    → snooped_at (past_of r) t ≡ Some s
     → s.grant ≡ Some grant → grant.first ≡ s.first
 first-of-grant r t s grant l there makes =
     let p = past_of r in

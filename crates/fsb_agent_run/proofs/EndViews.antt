@@ -1,15 +1,15 @@
 -- From behind the snoop end of a clock to the next clock, where no line comes to the agent.
-use Rattle.std.proofs.Common.{ℕ, ◌+◌, ◌<◌, ◌≤◌, ◌≡◌, ◌≢◌, ◌⊎◌, Bool, true, false, not, ◌&&◌, ◌||◌, List, [], ◌∷◌, map, length, Option, Some, None, nat_eq, refl, sym, ap, subst, ◌∙◌, inl, inr, arith}
-use Rattle.std.specs.List.{filter, list_all, list_any}
+use Rattle.std.proofs.Common.{ℕ, ◌+◌, ◌<◌, ◌≡◌, Bool, true, false, not, ◌&&◌, ◌||◌, map, Option, Some, None, nat_eq, refl, sym, ap, subst, ◌∙◌, inl, inr, arith}
+use Rattle.std.specs.List.{filter, list_any}
 use Rattle.std.specs.Option.{option_and_then}
 use Rattle.std.proofs.lemmas.Bool.{and_from, and_parts, both_ways, cases_Bool, eq-eqb, eqb-true, false_from_ne_true}
 use Rattle.fsb_access.specs.declared.item.Item.{Item}
 use Rattle.fsb_access.specs.declared.log.Done.{Done}
 use Rattle.fsb_access.specs.Access.{accessed_line}
 use Rattle.fsb_count.specs.Options.{is_some_and}
-use Rattle.fsb_timely.specs.Past.{Claim, Grant, Owing, Past, SnoopEnd}
+use Rattle.fsb_timely.specs.Past.{Claim, Grant, Past, SnoopEnd}
 use Rattle.fsb_timely.specs.Completions.{completes_by, is_arrival, is_brought}
-use Rattle.fsb_timely.specs.Grants.{ended_requests, grant_at, has_arrived, holds_line, is_end_at, is_ended, is_exclusive, is_granted, latest_grant, snooped_at}
+use Rattle.fsb_timely.specs.Grants.{ended_requests, grant_at, has_arrived, holds_line, is_end_at, is_ended, is_exclusive, is_granted, latest_grant}
 use Rattle.fsb_timely.specs.Hits.{is_hit, is_store_on}
 use Rattle.fsb_timely.specs.Runs.{Run, past_of}
 use Rattle.fsb_timely.specs.Scripts.{Need, completes_at, is_done_at, is_idling, is_load, needs_of, next_item}
@@ -25,15 +25,14 @@ use Rattle.fsb_coherent.proofs.Interface.{some-there}
 use Rattle.fsb_lawful.proofs.Interface.{and-then, some-and}
 use Rattle.fsb_run_laws.specs.Brought.{brings, is_bringing}
 use Rattle.fsb_run_laws.specs.Reaches.{Reaches}
-use Rattle.fsb_run_laws.proofs.Interface.{brought-told, ending-serves, last-stays, snoop-below}
+use Rattle.fsb_run_laws.proofs.Interface.{brought-told, ending-serves, snoop-below}
 use Rattle.fsb_agent_view.specs.AgentViews.{AgentView}
 use Rattle.fsb_agent_view.specs.Arriving.{given_up}
-use Rattle.fsb_agent_run.specs.AgentClocks.{number_asked}
-use Rattle.fsb_agent_run.specs.Ending.{EndsFor, NothingEndsFor, number_left}
+use Rattle.fsb_agent_run.specs.Ending.{EndsFor, NothingEndsFor}
 use Rattle.fsb_agent_run.specs.RunViews.{HasLinesOf, HasRequestsOf, IsAgentOf, IsPlacedIn, is_awaited, one_if, owing_by, state_told}
 use Rattle.fsb_agent_run.specs.Stages.{IsPlacedThrough, IsViewAfterSnoop, IsViewOf, is_dirty_snooped, owed_through}
 use Rattle.fsb_agent_run.proofs.Among.{Among, among-any, any-among}
-use Rattle.fsb_agent_run.proofs.EndFacts.{IsLast, asked-there, below-says, first-of-grant, grant-there, last-is, left-last, made-by, one-ended, own-left, owed-kept, owed-left, replied-left}
+use Rattle.fsb_agent_run.proofs.EndFacts.{asked-there, below-says, first-of-grant, grant-there, last-is, made-by, one-ended, own-left, owed-kept, owed-left, replied-left}
 use Rattle.fsb_agent_run.proofs.GrantsAwaited.{latest-says}
 use Rattle.fsb_agent_run.proofs.HitViews.{never-with, nothing}
 use Rattle.fsb_agent_run.proofs.ItemsCompleted.{completes-not}
@@ -116,10 +115,13 @@ latest-snooped r a line c grant h e =
     let there = t.3 in
     let here = g.1 in
     let same : g.0 ≡ grant = cc in
-    let parts = and_parts (nat_eq g.0.agent a) (nat_eq g.0.line line) g.2 in
-    (s.0, subst (λ q. snoop_end_below p (c + 1) q ≡ Some s.0) (sym first) below, s.2,
+    let parts = and_parts (nat_eq g.0.agent a) (nat_eq g.0.line line) g.2 in (
+      s.0,
+      subst (λ q. snoop_end_below p (c + 1) q ≡ Some s.0) (sym first) below,
+      s.2,
       sym (ap (λ (x : Grant). x.agent) same) ∙ eqb-true g.0.agent a parts.0,
-      sym (ap (λ (x : Grant). x.line) same) ∙ eqb-true g.0.line line parts.1)
+      sym (ap (λ (x : Grant). x.line) same) ∙ eqb-true g.0.line line parts.1,
+    )
 
 latest-unended : (r : Run) (a line c : ℕ) (grant : Grant) → Reaches r (c + 1) → NoGrantEnds (past_of r) a c
     → latest_grant (past_of r) a line (c + 1) ≡ Some grant → is_end_at (past_of r) c grant.first ≡ false
@@ -257,7 +259,8 @@ pub left-requests : (r : Run) (a c number : ℕ) (s : SnoopEnd) (v w : AgentView
 left-requests r a c number s v w h ends same requests =
     let p = past_of r in
     let list = map-without p a number v.outs (outs-apart r a c (c + 1) v h requests)
-    ∙ ap (filter (λ owing. not (nat_eq owing.claim.first number))) requests.owed ∙ sym (owed-left r a c number s h ends) in
+    ∙ ap (filter (λ owing. not (nat_eq owing.claim.first number))) requests.owed
+    ∙ sym (owed-left r a c number s h ends) in
     requests-from p a (c + 1) (owed p a (c + 1)) w (ap (map (owing_by a)) same ∙ list)
     (λ out there. wanted-of p a (c + 1) (owed_through p a c) v out requests
     (among-without number out v.outs (subst (Among out) same there)))

@@ -1,5 +1,5 @@
 -- How many fills a line has when one is added, promised or ended.
-use Rattle.std.proofs.Common.{ℕ, ◌+◌, ◌≡◌, ◌≢◌, Bool, true, false, cond, not, Option, Some, None, List, [], ◌∷◌, ◌++◌, refl, sym, ap, ◌∙◌, inl, inr, arith, zero-add, if◌then◌else◌}
+use Rattle.std.proofs.Common.{ℕ, ◌+◌, ◌≡◌, ◌≢◌, Bool, true, false, cond, not, List, [], ◌∷◌, ◌++◌, refl, sym, ap, ◌∙◌, inl, inr, arith, zero-add}
 use Rattle.std.specs.Prelude.{◌==◌, count_by, is_none}
 use Rattle.std.specs.List.{find}
 use Rattle.std.proofs.lemmas.Bool.{cases_Bool, eqb-true, ne_eqb}
@@ -16,7 +16,7 @@ count-cons : (line : ℕ) (f : Fill) (fills : List Fill)
     → count_on line (f ∷ fills) ≡ cond (f.line == line) 1 0 + count_on line fills
 count-cons line f fills = sum_by-cons (λ fill. cond (is_fill_on line fill) 1 0) f fills
 
-count-here : (line : ℕ) (f : Fill) (fills : List Fill) (b : Bool) → (f.line == line) ≡ b
+pub count-here : (line : ℕ) (f : Fill) (fills : List Fill) (b : Bool) → (f.line == line) ≡ b
     → count_on line (f ∷ fills) ≡ cond b 1 0 + count_on line fills
 count-here line f fills b e = count-cons line f fills ∙ ap (λ x. cond x 1 0 + count_on line fills) e
 
@@ -28,7 +28,8 @@ count-push line fill (f ∷ fills) =
     omega (arith, count-cons line f (fills ++ fill ∷ []), count-cons line f fills, count-push line fill fills)
 
 -- one is promised
-pub count-promised : (line other to : ℕ) (fills : List Fill) → count_on line (promised_to other to fills) ≡ count_on line fills
+pub count-promised : (line other to : ℕ) (fills : List Fill)
+    → count_on line (promised_to other to fills) ≡ count_on line fills
 count-promised line other to [] = refl
 count-promised line other to (f ∷ fills) =
     count-cons line (with_promise other to f) (promised_to other to fills)

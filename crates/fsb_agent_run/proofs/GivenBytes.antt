@@ -1,7 +1,6 @@
 -- The requests whose bytes an agent gives in a timely run.
 use Rattle.std.proofs.Common.{ℕ, ◌+◌, ◌<◌, ◌≤◌, ◌≡◌, ◌≢◌, ◌⊎◌, Bool, true, false, not, ◌&&◌, ◌||◌, if◌then◌else◌, Option, Some, None, length, nat_eq, refl, sym, ap, subst, ◌∙◌, inl, inr, arith}
-use Rattle.std.specs.Option.{option_and_then}
-use Rattle.std.proofs.lemmas.Bool.{and_parts, both_ways, eqb-false, eqb-true, false_from_ne_true, ne_eqb, not-true}
+use Rattle.std.proofs.lemmas.Bool.{and_parts, eqb-false, eqb-true, false_from_ne_true, not-true}
 use Rattle.fsb_count.specs.Options.{is_at, is_some_and}
 use Rattle.fsb_count.proofs.Interface.{any_where-off, first_where-found, is_at-some}
 use Rattle.fsb_encode.specs.declared.request.Kind.{Kind}
@@ -9,7 +8,7 @@ use Rattle.fsb_encode.specs.declared.request.Kind.TheVariants.{Invalidate, Read,
 use Rattle.fsb_trace.specs.declared.outcome.Outcome.{Outcome}
 use Rattle.fsb_trace.specs.declared.outcome.Outcome.TheVariants.{Granted, Handed, Retried, Deferred, Written, Replied, Failed, Upgraded}
 use Rattle.fsb_timely.specs.Past.{Claim, Grant, Past, SnoopEnd}
-use Rattle.fsb_timely.specs.Grants.{begun_at, grant_at, is_granted, snooped_at}
+use Rattle.fsb_timely.specs.Grants.{begun_at, is_granted, snooped_at}
 use Rattle.fsb_timely.specs.Hits.{is_dirty}
 use Rattle.fsb_timely.specs.Moments.{is_got, is_upgraded, makes_grant}
 use Rattle.fsb_timely.specs.Runs.{Run, past_of, past_to}
@@ -93,7 +92,8 @@ pub record Given (r : Run) (a t : ℕ) (claim : Claim) : Type 0 where
   pub begun : begun_at (past_of r) claim.first ≡ Some claim
   pub settled : IsSettledOn (past_of r) claim.line t at.end
 
-pub same-first : (p : Past) (line t : ℕ) (s : SnoopEnd) (claim : Claim) → s.claim ≡ Some claim → (k : IsSnoopOn p line t s)
+pub same-first : (p : Past) (line t : ℕ) (s : SnoopEnd) (claim : Claim) → s.claim ≡ Some claim
+    → (k : IsSnoopOn p line t s)
     → (claim.first ≡ s.first) × (claim.agent ≡ k.agent)
 same-first p line t s claim e k =
     let both : Some claim ≡ Some (record { first = s.first; agent = k.agent; line = line }) = sym e ∙ k.claimed in
@@ -114,8 +114,18 @@ given r a t claim h bounds l e =
       settled = settled;
     }
 
+-- what is written back is a write-back
+pub written-kind : (kind : Kind) (outcome : Outcome) → outcome ≡ Written → fits_kind kind outcome ≡ true
+    → kind ≡ WriteBack
+unfolding fits_kind fits_getting fits_upgrade fits_write_back
+written-kind Reply outcome e fits = absurd (let no : ⊥ = cc in no)
+written-kind WriteBack outcome e fits = refl
+written-kind Invalidate outcome e fits = absurd (let no : ⊥ = (let f = rw e at fits in cc) in no)
+written-kind Read outcome e fits = absurd (let no : ⊥ = (let f = rw e at fits in cc) in no)
+written-kind Upgrade outcome e fits = absurd (let no : ⊥ = (let f = rw e at fits in cc) in no)
+
 -- what is written back makes no grant
-written-ungranted : (kind : Kind) (outcome : Outcome) (won : Bool) (grant : Grant) → outcome ≡ Written
+pub written-ungranted : (kind : Kind) (outcome : Outcome) (won : Bool) (grant : Grant) → outcome ≡ Written
     → fits_kind kind outcome ≡ true
     → (if makes_grant kind outcome || (is_upgraded outcome && won) then Some grant else None) ≡ None
 unfolding fits_kind fits_getting fits_upgrade fits_write_back makes_grant is_got is_upgraded
@@ -146,13 +156,22 @@ given-ungranted r a t line claim k = false_from_ne_true (is_granted (past_of r) 
         let made : s.grant ≡ Some g.1 = ap (λ (x : SnoopEnd). x.grant) (sym same) ∙ g.3 in
         elim (gives-by p a t s claim k.at.gives).way [
           | inl handed ↦
-              let x : Grant = record { first = s.first; agent = fits.agent; line = claim.line; owns = fits.owns; shared = fits.shared } in
-              let is : x ≡ g.1 = granted-if (makes_grant fits.kind s.outcome || (is_upgraded s.outcome && fits.won)) s.grant x g.1 fits.granted made in
+              let x : Grant =
+              record {
+                first = s.first;
+                agent = fits.agent;
+                line = claim.line;
+                owns = fits.owns;
+                shared = fits.shared;
+              } in
+              let is : x ≡ g.1 = granted-if (makes_grant fits.kind s.outcome ||
+              (is_upgraded s.outcome && fits.won)) s.grant x g.1 fits.granted made in
               let agent : fits.agent ≡ a = ap (λ (y : Grant). y.agent) is ∙ g.4 in
               handed.1 (sym agent ∙ sym (same-first p claim.line t s claim k.at.claimed fits).1)
           | inr written ↦
               let none = fits.granted
-              ∙ written-ungranted fits.kind s.outcome fits.won _ written.0 (fits.fits (λ kind handed. let no : ⊥ = (let both = sym written.0 ∙ handed in cc) in no)) in
+              ∙ written-ungranted fits.kind s.outcome fits.won _ written.0 (fits.fits (λ kind handed. let no : ⊥ =
+              (let both = sym written.0 ∙ handed in cc) in no)) in
               (let no : ⊥ = (let both = sym none ∙ made in cc) in no)
         ]
 

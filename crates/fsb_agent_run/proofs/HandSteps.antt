@@ -1,14 +1,14 @@
 -- The lines of a cache after the accesses of an item: what is stored into is Modified, and all else stays.
-use Rattle.std.proofs.Common.{ℕ, ◌<◌, ◌≡◌, ◌/◌, Bool, true, false, not, ◌&&◌, ◌||◌, List, [], ◌∷◌, length, refl, sym, ap, ◌∙◌, inl, inr, if◌then◌else◌, nat_eq, arith}
+use Rattle.std.proofs.Common.{ℕ, ◌≡◌, ◌/◌, Bool, true, false, not, ◌&&◌, ◌||◌, List, [], ◌∷◌, length, refl, sym, ap, ◌∙◌, inl, inr, if◌then◌else◌, nat_eq, arith}
 use Rattle.std.specs.Prelude.{◌==◌}
 use Rattle.std.specs.List.{list_all, list_any}
-use Rattle.std.proofs.lemmas.Bool.{and_parts, cases_Bool, eqb-true, or_left}
+use Rattle.std.proofs.lemmas.Bool.{and_parts, cases_Bool, eqb-true}
 use Rattle.fsb_access.specs.declared.access.Access.{Access}
 use Rattle.fsb_access.specs.declared.access.Access.TheVariants.{Load, Store}
 use Rattle.fsb_access.specs.Access.{accessed_line}
 use Rattle.fsb_access.specs.Replay.{put_of}
 use Rattle.fsb_access.specs.ScriptOrder.{Step}
-use Rattle.fsb_cache.specs.Sets.{CacheSets, held_stored, slot_of, states}
+use Rattle.fsb_cache.specs.Sets.{CacheSets, held_stored, states}
 use Rattle.fsb_line.specs.declared.state.Mesi.{Mesi}
 use Rattle.fsb_line.specs.declared.state.Mesi.TheVariants.{Modified}
 use Rattle.fsb_line.specs.States.{is_held}

@@ -1,6 +1,6 @@
 -- After its hit, if it has one, a view is that after the hits.
-use Rattle.std.proofs.Common.{ℕ, ◌+◌, ◌<◌, ◌≡◌, Bool, true, false, not, ◌&&◌, ◌||◌, List, [], length, Option, Some, None, nat_eq, refl, sym, ap, subst, ◌∙◌, inl, inr, arith, if◌then◌else◌}
-use Rattle.std.specs.List.{list_all, list_any, slice_get}
+use Rattle.std.proofs.Common.{ℕ, ◌+◌, ◌<◌, ◌≡◌, Bool, true, false, not, ◌&&◌, ◌||◌, [], Some, refl, sym, ap, subst, ◌∙◌, inl, inr}
+use Rattle.std.specs.List.{list_all, list_any}
 use Rattle.std.specs.Option.{option_map_or}
 use Rattle.std.proofs.lemmas.Bool.{and_parts, both_ways, cases_Bool, eq-eqb, or_right}
 use Rattle.fsb_access.specs.declared.access.Access.{Access}
@@ -10,7 +10,7 @@ use Rattle.fsb_access.specs.ScriptOrder.{Step, steps_of_item}
 use Rattle.fsb_cache.specs.Sets.{states}
 use Rattle.fsb_line.specs.declared.state.Mesi.{Mesi}
 use Rattle.fsb_line.specs.declared.state.Mesi.TheVariants.{Exclusive, Invalid, Modified, Shared}
-use Rattle.fsb_line.specs.States.{is_held, is_sole}
+use Rattle.fsb_line.specs.States.{is_held}
 use Rattle.fsb_count.specs.Options.{is_some_and}
 use Rattle.fsb_timely.specs.Past.{Past}
 use Rattle.fsb_timely.specs.Grants.{has_arrived, holds_line, is_exclusive, is_ready}
@@ -24,8 +24,8 @@ use Rattle.fsb_agent_view.specs.AgentViews.{AgentView, line_state_by}
 use Rattle.fsb_agent_view.specs.Arriving.{handed_on}
 use Rattle.fsb_agent_view.specs.Serving.{hand_after_steps}
 use Rattle.fsb_agent_view.specs.Completing.{completed_by, hand_of, is_hit_by, next_steps, performed}
-use Rattle.fsb_agent_run.specs.RunViews.{CompletesItem, HasLinesOf, IsAgentOf, IsAtItem, IsPlacedIn, LogsItem, place_of, state_told}
-use Rattle.fsb_agent_run.specs.Stages.{IsPlacedThrough, IsViewAfterHit, IsViewOf}
+use Rattle.fsb_agent_run.specs.RunViews.{CompletesItem, IsAgentOf, IsAtItem, IsPlacedIn, LogsItem, place_of, state_told}
+use Rattle.fsb_agent_run.specs.Stages.{IsViewAfterHit, IsViewOf}
 use Rattle.fsb_agent_run.proofs.HandSteps.{in_sets-after, length-after, may_store, state-after, stores_into}
 use Rattle.fsb_agent_run.proofs.HitsMade.{hit-by}
 use Rattle.fsb_agent_run.proofs.ItemsCompleted.{IsNeedOf, any-stores, logged-there, steps-need, stores-by-steps}
@@ -93,7 +93,8 @@ hit-needs p a c item e there =
     (is_some_and (next_item p a c) (λ item. list_all (is_served p a c) (needs_of item))) e in
     rw there at parts.1
 
-pub sole-told : (held own dirty : Bool) → held ≡ true → own ≡ true → Modified ≡ state_with true (state_told held own dirty)
+pub sole-told : (held own dirty : Bool) → held ≡ true → own ≡ true
+    → Modified ≡ state_with true (state_told held own dirty)
 sole-told held own true h o = rw (h, o) refl
 sole-told held own false h o = rw (h, o) refl
 

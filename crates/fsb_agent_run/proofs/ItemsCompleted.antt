@@ -1,28 +1,24 @@
 -- An agent that has a hit or an arrival completes its next item: its entries of the clock are the item's accesses.
-use Rattle.std.proofs.Common.{ℕ, zero, suc, ◌+◌, ◌<◌, ◌≤◌, ◌≡◌, ◌⊎◌, Bool, true, false, not, ◌&&◌, ◌||◌, List, [], ◌∷◌, map, Option, Some, None, length, nat_eq, refl, sym, ap, subst, ◌∙◌, inl, inr, arith}
-use Rattle.std.specs.List.{filter, list_all, list_any, slice_get}
-use Rattle.std.specs.Option.{option_map_or}
-use Rattle.std.proofs.lemmas.Bool.{and_from, and_parts, cases_Bool, eqb-true, or_left, or_right, or_parts}
-use Rattle.fsb_count.specs.Options.{is_some_and}
+use Rattle.std.proofs.Common.{ℕ, ◌+◌, ◌<◌, ◌≡◌, ◌⊎◌, Bool, true, false, not, ◌&&◌, ◌||◌, List, [], ◌∷◌, map, Some, length, nat_eq, refl, ap, ◌∙◌, inl, inr, arith}
+use Rattle.std.specs.List.{list_all, list_any}
+use Rattle.std.proofs.lemmas.Bool.{and_from, and_parts, cases_Bool, eqb-true, or_left, or_right}
 use Rattle.fsb_access.specs.declared.access.Access.{Access}
 use Rattle.fsb_access.specs.declared.item.Item.{Item}
 use Rattle.fsb_access.specs.declared.item.Item.TheVariants.{One, Locked, Idle}
 use Rattle.fsb_access.specs.declared.log.Done.{Done}
 use Rattle.fsb_access.specs.Access.{accessed_line}
-use Rattle.fsb_access.specs.ScriptOrder.{Step, step_of, steps_from, steps_of, steps_of_item}
-use Rattle.fsb_cache.specs.Sets.{CacheSets, states}
-use Rattle.fsb_line.specs.States.{is_held}
+use Rattle.fsb_access.specs.ScriptOrder.{Step, steps_from, steps_of, steps_of_item}
 use Rattle.fsb_timely.specs.Completions.{completes_by, is_arrival}
 use Rattle.fsb_timely.specs.Hits.{is_hit, is_served, is_store_on}
 use Rattle.fsb_timely.specs.Past.{Past}
 use Rattle.fsb_timely.specs.Runs.{Run, past_of}
-use Rattle.fsb_timely.specs.Scripts.{Need, completes_at, is_idling, is_load, is_logged, is_logged_at, items_of, locked_need, needs_after, needs_of, next_item, next_number, plain_need}
+use Rattle.fsb_timely.specs.Scripts.{Need, completes_at, is_idling, is_load, locked_need, needs_after, needs_of, next_item, plain_need}
 use Rattle.fsb_timely.proofs.Interface.{at, logged-next, logs-item, not-behind, steps-completed}
 use Rattle.fsb_lawful.proofs.Interface.{some-and}
 use Rattle.fsb_run_laws.specs.Reaches.{Reaches}
 use Rattle.fsb_run_laws.proofs.Interface.{completes-exactly, last-of}
 use Rattle.fsb_agent_run.specs.RunViews.{CompletesItem, LogsItem}
-use Rattle.fsb_agent_run.proofs.HandSteps.{may_store, stores_into}
+use Rattle.fsb_agent_run.proofs.HandSteps.{stores_into}
 
 pub completes-there : (r : Run) (a c : ℕ) → Reaches r (c + 1) → a < 4
     → (is_hit (past_of r) a c ≡ true) ⊎ (is_arrival (past_of r) a c ≡ true) → completes_at (past_of r) a c ≡ true
@@ -47,17 +43,19 @@ completes-item r a c h few which =
     let completes = completes-there r a c h few which in
     let m = logs-item p a c completes in
     let next = (logged-next r a c m.0 h.timely l m.1).0 in
-    let last = last-of r a c m.0 h.timely l next completes in
-    (m.0, record {
-      next = next;
-      logged = m.1;
-      alone = λ other e. (let there = (logged-next r a c other h.timely l e).0 in let same : other ≡ m.0 = cc in same);
-      behind = λ other k. not-behind r a c m.0 other h.timely (omega arith) next k;
-      last = last.last;
-      is_last = last.there;
-      last_clock = last.clock;
-      last_item = last.item;
-    })
+    let last = last-of r a c m.0 h.timely l next completes in (
+      m.0,
+      record {
+        next = next;
+        logged = m.1;
+        alone = λ other e. (let there = (logged-next r a c other h.timely l e).0 in let same : other ≡ m.0 = cc in same);
+        behind = λ other k. not-behind r a c m.0 other h.timely (omega arith) next k;
+        last = last.last;
+        is_last = last.there;
+        last_clock = last.clock;
+        last_item = last.item;
+      },
+    )
 
 -- there is such an item
 pub item-there : (p : Past) (a c : ℕ) → (is_hit p a c ≡ true) ⊎ (is_arrival p a c ≡ true)
@@ -100,7 +98,8 @@ stores-by-steps a line c (done ∷ log) =
     let here = not (is_load done.access) && nat_eq (accessed_line done.access) line in
     elim (cases_Bool (nat_eq done.clock c)) [
       | inr off ↦ rw off (ap (λ b. b || list_any (λ d. is_store_on a line d && nat_eq d.clock c) log)
-          (no-clock (nat_eq done.agent a && not (is_load done.access)) (nat_eq (accessed_line done.access) line)) ∙ rest)
+          (no-clock (nat_eq done.agent a && not (is_load done.access)) (nat_eq (accessed_line done.access) line))
+          ∙ rest)
       | inl on ↦ elim (cases_Bool (nat_eq done.agent a)) [
         | inr other ↦ rw (on, other) rest
         | inl own ↦
@@ -149,7 +148,8 @@ steps-need f g n (Locked group) each all =
 steps-need f g n (Idle clocks) each all = refl
 
 -- what passes in each access passes in one that stores into a line
-pub any-stores : (g : Access → Bool) (line : ℕ) (steps : List Step) → list_all (λ (step : Step). g step.access) steps ≡ true
+pub any-stores : (g : Access → Bool) (line : ℕ) (steps : List Step)
+    → list_all (λ (step : Step). g step.access) steps ≡ true
     → list_any (λ (step : Step). stores_into line step.access) steps ≡ true
     → (access : Access) × (is_load access ≡ false) × (accessed_line access ≡ line) × (g access ≡ true)
 unfolding stores_into

@@ -1,30 +1,28 @@
 -- The snoop end of another agent's request, of a reply, and a clock without one, in an agent's view.
-use Rattle.std.proofs.Common.{ℕ, ◌+◌, ◌<◌, ◌≤◌, ◌≡◌, ◌≢◌, ◌⊎◌, Bool, true, false, cond, not, ◌&&◌, ◌||◌, List, [], ◌∷◌, map, length, Option, Some, None, is_some, nat_eq, refl, sym, ap, subst, ◌∙◌, inl, inr, arith, if◌then◌else◌}
+use Rattle.std.proofs.Common.{ℕ, ◌+◌, ◌<◌, ◌≡◌, ◌≢◌, ◌⊎◌, Bool, true, false, cond, not, ◌&&◌, ◌||◌, [], length, Option, Some, None, is_some, nat_eq, refl, sym, ap, subst, ◌∙◌, inl, inr, arith, if◌then◌else◌}
 use Rattle.std.specs.Prelude.{◌==◌}
 use Rattle.std.specs.List.{find}
-use Rattle.std.specs.Option.{option_map, option_map_or}
-use Rattle.std.proofs.lemmas.Bool.{both_ways, cases_Bool, eq-eqb, eqb-true, false_from_ne_true, ne_eqb}
-use Rattle.fsb_cache.specs.Sets.{CacheSets, held_shared, sets_filled, slot_of, states}
+use Rattle.std.specs.Option.{option_map_or}
+use Rattle.std.proofs.lemmas.Bool.{cases_Bool, eqb-true, false_from_ne_true, ne_eqb}
+use Rattle.fsb_cache.specs.Sets.{CacheSets, held_shared, sets_filled, states}
 use Rattle.fsb_count.specs.Options.{is_at, is_some_and}
 use Rattle.fsb_count.proofs.Interface.{is_at-some, nat_eq-sym}
 use Rattle.fsb_encode.specs.declared.request.Kind.{Kind}
 use Rattle.fsb_encode.specs.declared.request.Kind.TheVariants as kinds
 use Rattle.fsb_encode.specs.declared.request.Request.{Request}
 use Rattle.fsb_hazard.specs.Choice.{is_never_held_up}
-use Rattle.fsb_line.specs.declared.purpose.Purpose.{Purpose}
 use Rattle.fsb_line.specs.declared.purpose.Purpose.TheVariants as purposes
 use Rattle.fsb_line.specs.declared.state.Mesi.{Mesi}
 use Rattle.fsb_line.specs.declared.state.Mesi.TheVariants.{Exclusive, Invalid, Modified, Shared}
-use Rattle.fsb_line.specs.States.{after_snoop, asks_line, granted, is_held, is_modified, kind_owns}
+use Rattle.fsb_line.specs.States.{after_snoop, asks_line, granted, is_held}
 use Rattle.fsb_line.proofs.Interface.{modified_is_sole}
 use Rattle.fsb_linebuf.specs.Buffers.{Buffered}
 use Rattle.fsb_timely.specs.Past.{Claim, Grant, Owing, Past, SnoopEnd}
-use Rattle.fsb_timely.specs.Grants.{begun_at, grant_at, holds_line, is_claim_of, is_claim_of_other, is_evicted, is_exclusive, is_granted, is_named_by_other, is_owning, is_snooped, is_taken_away, is_written_back, snooped_at}
+use Rattle.fsb_timely.specs.Grants.{grant_at, holds_line, is_claim_of, is_claim_of_other, is_evicted, is_exclusive, is_granted, is_named_by_other, is_owning, is_snooped, is_taken_away, is_written_back, snooped_at}
 use Rattle.fsb_timely.specs.Hits.{is_dirty}
 use Rattle.fsb_timely.specs.Moments.{is_owner_request, is_upgraded}
 use Rattle.fsb_timely.specs.Runs.{Run, past_of}
 use Rattle.fsb_timely.specs.Wants.{owed, want_of}
-use Rattle.fsb_trace.specs.At.{request_at}
 use Rattle.fsb_trace.specs.Outcome.{is_deferral}
 use Rattle.fsb_trace.specs.Requests.{is_write_back_kind}
 use Rattle.fsb_trace.specs.declared.outcome.Outcome.{Outcome}
@@ -42,17 +40,16 @@ use Rattle.fsb_agent_view.specs.OwnRequests.{request_numbered, requests_granted}
 use Rattle.fsb_agent_view.specs.Snooping.{buffers_giving, committed, granted_by, is_giver, kind_asks, no_bytes, other_settled, own_settled, sets_lowered, state_snooped, with_fill}
 use Rattle.fsb_agent_view.proofs.Interface.{length-with_slot}
 use Rattle.fsb_agent_run.specs.AgentClocks.{number_asked}
-use Rattle.fsb_agent_run.specs.RunViews.{HasRequestsOf, fill_count, is_won_below, owing_by, state_told}
+use Rattle.fsb_agent_run.specs.RunViews.{HasRequestsOf, fill_count, is_won_below, state_told}
 use Rattle.fsb_agent_run.specs.Stages.{IsViewAfterSnoop, IsViewBeforeSnoop, is_uncancelled, owed_sent, owed_through}
 use Rattle.fsb_agent_run.proofs.Among.{Among, among-left, filter-among, found-among}
 use Rattle.fsb_agent_run.proofs.FillCounts.{count_on, count-promised}
 use Rattle.fsb_agent_run.proofs.OutLists.{find-number, out-there, wanted-of}
 use Rattle.fsb_agent_run.proofs.OwedApart.{one-line, owed-apart}
-use Rattle.fsb_agent_run.proofs.OwedSteps.{owed-there, owing-is, reaches-less}
+use Rattle.fsb_agent_run.proofs.OwedSteps.{owed-there, reaches-less}
 use Rattle.fsb_agent_run.proofs.OwnSnoops.{grant-of-snoop, own-won, settled-as}
 use Rattle.fsb_agent_run.proofs.SlotStates.{InSets, in_sets-mapped, in_sets-without, length-without, state-shared, state-without}
-use Rattle.fsb_agent_run.proofs.SnoopSteps.{LowersLines, granted-to-other, granted-view, lowered-view, number-other, outs-apart, requests-still}
-use Rattle.fsb_agent_run.proofs.StatesTold.{held-told}
+use Rattle.fsb_agent_run.proofs.SnoopSteps.{granted-to-other, granted-view, lowered-view, number-other, outs-apart, requests-still}
 use Rattle.fsb_agent_run.proofs.WonSteps.{no-snoop, other-snoop, won-known, won-still}
 
 -- what the snoop end of another agent's request says of the lines of an agent
@@ -67,7 +64,8 @@ other-taken : (p : Past) (a line c : ℕ) (s : SnoopEnd) (claim : Claim) (kind :
 unfolding is_taken_away is_snooped is_claim_of_other is_some_and
 other-taken p a line c s claim kind there claims is other = rw (there, claims, is, ne_eqb claim.agent a other) refl
 
-other-written : (p : Past) (a line c : ℕ) (s : SnoopEnd) (claim : Claim) → snooped_at p c ≡ Some s → s.claim ≡ Some claim
+other-written : (p : Past) (a line c : ℕ) (s : SnoopEnd) (claim : Claim) → snooped_at p c ≡ Some s
+    → s.claim ≡ Some claim
     → claim.agent ≢ a → is_written_back p a line c ≡ false
 unfolding is_written_back is_snooped is_claim_of is_some_and
 other-written p a line c s claim there claims other = rw (there, claims, ne_eqb claim.agent a other) refl
@@ -115,7 +113,8 @@ same-there sets line other state e = elim (cases_Bool (other == line)) [
 pub lowered-same : (sets : CacheSets) (line other : ℕ) (state : Mesi) → states sets line ≡ state
     → states (sets_lowered sets line state) other ≡ states sets other
 lowered-same sets line other Invalid e = state-without sets line other ∙ same-there sets line other Invalid e
-lowered-same sets line other Shared e = state-shared sets line other (ap is_held e) ∙ same-there sets line other Shared e
+lowered-same sets line other Shared e = state-shared sets line other (ap is_held e)
+    ∙ same-there sets line other Shared e
 lowered-same sets line other Exclusive e = refl
 lowered-same sets line other Modified e = refl
 
@@ -130,8 +129,10 @@ fills-giving v line number other true = elim (cases_Bool (has_come v line)) [
 ]
 
 -- a write-back's line is held by nobody else
-writes-alone : (r : Run) (a c : ℕ) (s : SnoopEnd) (claim : Claim) → Reaches r (c + 1) → snooped_at (past_of r) c ≡ Some s
-    → s.claim ≡ Some claim → s.kind ≡ Some kinds.WriteBack → claim.agent ≢ a → holds_line (past_of r) a claim.line c ≡ false
+writes-alone : (r : Run) (a c : ℕ) (s : SnoopEnd) (claim : Claim) → Reaches r (c + 1)
+    → snooped_at (past_of r) c ≡ Some s
+    → s.claim ≡ Some claim → s.kind ≡ Some kinds.WriteBack → claim.agent ≢ a
+    → holds_line (past_of r) a claim.line c ≡ false
 unfolding purpose_of
 writes-alone r a c s claim h there claims kind other =
     let p = past_of r in
@@ -319,7 +320,8 @@ pub unclaimed-view : (r : Run) (a c : ℕ) (v w : AgentView) → Reaches r (c + 
     → ((line : ℕ) → is_granted (past_of r) a line c ≡ false)
     → ((line : ℕ) → ((is_written_back (past_of r) a line c || is_taken_away (past_of r) a line c) ≡ false)
     × (is_named_by_other (past_of r) a line c ≡ false))
-    → ((out : OwnRequest) → Among out v.outs → is_won_below (past_of r) (c + 1) out.number ≡ is_won_below (past_of r) c out.number)
+    → ((out : OwnRequest) → Among out v.outs
+    → is_won_below (past_of r) (c + 1) out.number ≡ is_won_below (past_of r) c out.number)
     → ((line : ℕ) → line_state_by w line ≡ line_state_by v line) → ((line : ℕ) → fill_count w line ≡ fill_count v line)
     → InSets w.lines → length w.lines ≡ length v.lines → w ≡ record v { lines = w.lines; buffers = w.buffers }
     → IsViewBeforeSnoop (past_of r) a c v → IsViewAfterSnoop (past_of r) a c w

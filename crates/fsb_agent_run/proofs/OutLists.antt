@@ -1,9 +1,8 @@
 -- The requests of a view, as its agent's run knows them: without one, and with one granted.
-use Rattle.std.proofs.Common.{ℕ, zero, suc, ◌+◌, ◌≡◌, ◌≢◌, ◌⊎◌, Bool, true, false, cond, not, ◌&&◌, List, [], ◌∷◌, ◌++◌, map, slice_get, Option, Some, None, is_some, nat_eq, refl, sym, ap, subst, ◌∙◌, inl, inr}
+use Rattle.std.proofs.Common.{ℕ, ◌≡◌, ◌≢◌, ◌⊎◌, true, false, cond, not, List, [], ◌∷◌, map, Option, Some, is_some, nat_eq, refl, sym, ap, subst, ◌∙◌, inl, inr}
 use Rattle.std.specs.Prelude.{◌==◌}
-use Rattle.std.specs.List.{filter, find, list_all}
+use Rattle.std.specs.List.{filter, list_all}
 use Rattle.std.proofs.lemmas.Bool.{and_parts, both_ways, cases_Bool, eq-eqb, eqb-true, false_from_ne_true, ne_eqb}
-use Rattle.fsb_linebuf.specs.Buffers.{without_first}
 use Rattle.fsb_timely.specs.Past.{Owing, Past}
 use Rattle.fsb_timely.specs.Wants.{want_of}
 use Rattle.fsb_agent_view.specs.declared.want.OwnRequest.{OwnRequest}
@@ -12,14 +11,16 @@ use Rattle.fsb_agent_view.specs.OwnRequests.{is_numbered, request_numbered, requ
 use Rattle.fsb_agent_view.proofs.Interface.{without_first-cons}
 use Rattle.fsb_agent_run.specs.Owings.{are_owings_apart, is_owing_apart}
 use Rattle.fsb_agent_run.specs.RunViews.{HasRequestsOf, is_won_below, owing_by}
-use Rattle.fsb_agent_run.proofs.Among.{Among, all-among, among-found, among-get, among-map, filter-all, found-among, get-among, map-among}
+use Rattle.fsb_agent_run.proofs.Among.{Among, all-among, among-get, among-map, filter-all, found-among, get-among, map-among}
 
 -- what is said of each request of a view
-pub wanted-of : (p : Past) (a n : ℕ) (owings : List Owing) (v : AgentView) (out : OwnRequest) → HasRequestsOf p a n owings v
+pub wanted-of : (p : Past) (a n : ℕ) (owings : List Owing) (v : AgentView) (out : OwnRequest)
+    → HasRequestsOf p a n owings v
     → Among out v.outs → want_of p a out.number ≡ Some out.request
 wanted-of p a n owings v out h k = let at = among-get out v.outs k in h.wanted at.0 out at.1
 
-pub kept-of : (p : Past) (a n : ℕ) (owings : List Owing) (v : AgentView) (out : OwnRequest) → HasRequestsOf p a n owings v
+pub kept-of : (p : Past) (a n : ℕ) (owings : List Owing) (v : AgentView) (out : OwnRequest)
+    → HasRequestsOf p a n owings v
     → Among out v.outs → is_some out.kept ≡ is_won_below p n out.number
 kept-of p a n owings v out h k = let at = among-get out v.outs k in h.kept at.0 out at.1
 
@@ -34,11 +35,13 @@ requests-from p a n owings v owed wanted kept = record {
 }
 
 -- a request of the run is one of the view
-pub out-there : (p : Past) (a n : ℕ) (owings : List Owing) (v : AgentView) (owing : Owing) → HasRequestsOf p a n owings v
+pub out-there : (p : Past) (a n : ℕ) (owings : List Owing) (v : AgentView) (owing : Owing)
+    → HasRequestsOf p a n owings v
     → Among owing owings → (out : OwnRequest) × Among out v.outs × (owing_by a out ≡ owing)
 out-there p a n owings v owing h k = map-among (owing_by a) owing v.outs (subst (Among owing) (sym h.owed) k)
 
-pub owing-there : (p : Past) (a n : ℕ) (owings : List Owing) (v : AgentView) (out : OwnRequest) → HasRequestsOf p a n owings v
+pub owing-there : (p : Past) (a n : ℕ) (owings : List Owing) (v : AgentView) (out : OwnRequest)
+    → HasRequestsOf p a n owings v
     → Among out v.outs → Among (owing_by a out) owings
 owing-there p a n owings v out h k = subst (Among (owing_by a out)) h.owed (among-map (owing_by a) out v.outs k)
 
@@ -126,7 +129,8 @@ pub record IsGrantedAs (number : ℕ) (kept : Option (List ℕ)) (out after : Ow
   pub request_same : after.request ≡ out.request
   pub how : ((out.number ≡ number) × (after.kept ≡ kept)) ⊎ ((out.number ≢ number) × (after.kept ≡ out.kept))
 
-grant-parts : (number : ℕ) (kept : Option (List ℕ)) (out : OwnRequest) → IsGrantedAs number kept out (with_grant number kept out)
+grant-parts : (number : ℕ) (kept : Option (List ℕ)) (out : OwnRequest)
+    → IsGrantedAs number kept out (with_grant number kept out)
 grant-parts number kept out = elim (cases_Bool (is_numbered number out)) [
   | inl on ↦ record {
     number_same = rw on refl;
@@ -141,7 +145,8 @@ grant-parts number kept out = elim (cases_Bool (is_numbered number out)) [
 ]
 
 pub among-granted : (number : ℕ) (kept : Option (List ℕ)) (after : OwnRequest) (outs : List OwnRequest)
-    → Among after (requests_granted number kept outs) → (out : OwnRequest) × Among out outs × IsGrantedAs number kept out after
+    → Among after (requests_granted number kept outs)
+    → (out : OwnRequest) × Among out outs × IsGrantedAs number kept out after
 among-granted number kept after outs k =
     let there = map-among (with_grant number kept) after outs k in
     (there.0, there.1, subst (IsGrantedAs number kept there.0) there.2 (grant-parts number kept there.0))

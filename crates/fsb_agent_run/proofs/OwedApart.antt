@@ -1,10 +1,10 @@
 -- The outstanding requests of an agent are apart from each other, and few.
-use Rattle.std.proofs.Common.{ℕ, zero, suc, ◌+◌, ◌<◌, ◌≤◌, ◌≡◌, ◌⊎◌, Bool, true, false, not, ◌&&◌, List, [], ◌∷◌, ◌++◌, Option, Some, None, length, nat_eq, refl, sym, ap, subst, ◌∙◌, inl, inr, add-one, append-nil, arith, length-append}
-use Rattle.std.specs.List.{count_by, filter, list_all}
-use Rattle.std.proofs.lemmas.Bool.{and_from, and_parts, both_ways, cases_Bool, eq-eqb, eqb-true, false_from_ne_true, ne_eqb, not-true}
+use Rattle.std.proofs.Common.{ℕ, zero, suc, ◌+◌, ◌≤◌, ◌≡◌, ◌⊎◌, Bool, true, false, not, ◌&&◌, List, [], ◌∷◌, ◌++◌, Option, Some, None, length, nat_eq, refl, sym, ap, subst, ◌∙◌, inl, inr, add-one, append-nil, arith, length-append}
+use Rattle.std.specs.List.{filter, list_all}
+use Rattle.std.proofs.lemmas.Bool.{and_from, and_parts, both_ways, cases_Bool, eq-eqb, eqb-true, false_from_ne_true, ne_eqb}
 use Rattle.std.proofs.lemmas.List.Sums.{count_by-le-length, length-filter}
-use Rattle.fsb_timely.specs.Past.{Claim, Owing, Past}
-use Rattle.fsb_timely.specs.Grants.{begun_at, set_of}
+use Rattle.fsb_timely.specs.Past.{Owing, Past}
+use Rattle.fsb_timely.specs.Grants.{set_of}
 use Rattle.fsb_timely.specs.Runs.{Run, past_of}
 use Rattle.fsb_timely.specs.Wants.{is_asked_for, is_id_used, is_same_set, owed}
 use Rattle.fsb_lawful.proofs.Interface.{want-few}
@@ -13,7 +13,7 @@ use Rattle.fsb_run_laws.specs.Reaches.{Reaches}
 use Rattle.fsb_run_laws.specs.RunSteps.{listed, owing_begun}
 use Rattle.fsb_run_laws.proofs.Interface.{begun-wanted, owing-claim}
 use Rattle.fsb_agent_run.specs.Owings.{are_owings_apart, is_owing_apart}
-use Rattle.fsb_agent_run.specs.Stages.{begun_by, owed_sent}
+use Rattle.fsb_agent_run.specs.Stages.{owings_begun, owed_sent}
 use Rattle.fsb_agent_run.proofs.Among.{Among, all-among, among-all, among-any, among-filter}
 use Rattle.fsb_agent_run.proofs.OwedSteps.{is_own, none-owed, owed-more, owing-is, reaches-less, stays_out}
 
@@ -84,9 +84,9 @@ begun-apart-from r a n y x h begun mine there =
     (eq-eqb x.claim.line x.claim.line refl))) in
     rw (firsts, ids, sets) refl
 
-begun-list : (p : Past) (a n : ℕ) → (begun_by p a n ≡ [])
-    ⊎ ((y : Owing) × (begun_by p a n ≡ y ∷ []) × (owing_begun p n ≡ Some y) × (y.claim.agent ≡ a))
-unfolding begun_by listed
+begun-list : (p : Past) (a n : ℕ) → (owings_begun p a n ≡ [])
+    ⊎ ((y : Owing) × (owings_begun p a n ≡ y ∷ []) × (owing_begun p n ≡ Some y) × (y.claim.agent ≡ a))
+unfolding owings_begun listed
 begun-list p a n = by (owing_begun p n) refl
   where
     by : (o : Option Owing) → owing_begun p n ≡ o → (filter (is_own a) (listed o) ≡ [])
@@ -100,7 +100,7 @@ begun-list p a n = by (owing_begun p n) refl
 -- with the one that begins they are apart where they were so before
 apart-begun : (r : Run) (a n : ℕ) (f : Owing → Bool) → Reaches r (n + 1)
     → are_owings_apart (past_of r) (owed (past_of r) a n) ≡ true
-    → are_owings_apart (past_of r) (filter f (owed (past_of r) a n) ++ begun_by (past_of r) a n) ≡ true
+    → are_owings_apart (past_of r) (filter f (owed (past_of r) a n) ++ owings_begun (past_of r) a n) ≡ true
 apart-begun r a n f h apart =
     let p = past_of r in
     let kept = apart-filter p f (owed p a n) apart in
@@ -136,7 +136,7 @@ sent-apart r a n h =
 
 -- no more are owed than the plan says
 few-more : (r : Run) (a n : ℕ) → Reaches r (n + 1) → length (owed (past_of r) a n) ≤ r.plan.ahead
-    → length (filter (stays_out r n) (owed (past_of r) a n) ++ begun_by (past_of r) a n) ≤ r.plan.ahead
+    → length (filter (stays_out r n) (owed (past_of r) a n) ++ owings_begun (past_of r) a n) ≤ r.plan.ahead
 unfolding past_of
 few-more r a n h few =
     let p = past_of r in

@@ -1,7 +1,6 @@
 -- What an agent owes after a snoop end of its own request, of another agent's, and after a clock without one.
-use Rattle.std.proofs.Common.{ℕ, ◌+◌, ◌<◌, ◌≤◌, ◌≡◌, ◌≢◌, ◌⊎◌, Bool, true, false, not, ◌&&◌, if◌then◌else◌, List, [], ◌∷◌, ◌++◌, Option, Some, None, length, nat_eq, refl, sym, ap, subst, ◌∙◌, inl, inr, arith}
-use Rattle.std.specs.Prelude.{is_none, is_some}
-use Rattle.std.proofs.lemmas.Bool.{and_from, and_parts, both_ways, cases_Bool, cases_eq, eq-eqb, eqb-true, false_from_ne_true, ne_eqb}
+use Rattle.std.proofs.Common.{ℕ, ◌+◌, ◌<◌, ◌≡◌, ◌≢◌, ◌⊎◌, Bool, true, false, not, ◌&&◌, [], ◌∷◌, ◌++◌, Option, Some, None, length, nat_eq, refl, sym, ap, subst, ◌∙◌, inl, inr, arith}
+use Rattle.std.proofs.lemmas.Bool.{and_from, and_parts, both_ways, cases_Bool, eq-eqb, false_from_ne_true, ne_eqb}
 use Rattle.fsb_cache.specs.Sets.{copies}
 use Rattle.fsb_count.specs.Clocks.{first_where}
 use Rattle.fsb_count.specs.Options.{is_at, is_some_and}
@@ -10,55 +9,34 @@ use Rattle.fsb_encode.specs.declared.request.Kind.{Kind}
 use Rattle.fsb_encode.specs.declared.request.Kind.TheVariants.{Invalidate, Read, Reply, Upgrade, WriteBack}
 use Rattle.fsb_encode.specs.declared.request.Request.{Request}
 use Rattle.fsb_line.specs.States.{asks_line, is_held, is_modified}
-use Rattle.fsb_linebuf.specs.declared.entry.Fill.{Fill}
-use Rattle.fsb_linebuf.specs.Buffers.{fill_on, promise_on, promised_to}
+use Rattle.fsb_linebuf.specs.Buffers.{promise_on, promised_to}
 use Rattle.fsb_trace.specs.declared.outcome.Outcome.{Outcome}
 use Rattle.fsb_trace.specs.declared.outcome.Outcome.TheVariants.{Granted, Handed, Retried, Deferred, Written, Replied, Failed, Upgraded}
 use Rattle.fsb_timely.specs.Growth.{GoesOn}
 use Rattle.fsb_timely.specs.Past.{Claim, Grant, Past, SnoopEnd}
-use Rattle.fsb_timely.specs.Grants.{is_claim_of, snooped_at}
+use Rattle.fsb_timely.specs.Grants.{snooped_at}
 use Rattle.fsb_timely.specs.Hits.{is_dirty}
 use Rattle.fsb_timely.specs.Runs.{Run, past_of, past_to}
 use Rattle.fsb_timely.specs.Timely.{Timely}
 use Rattle.fsb_timely.proofs.Interface.{below_le, done_below, is_dirty-alike}
 use Rattle.fsb_lawful.specs.Beginning.{KeepsBounds}
-use Rattle.fsb_lawful.proofs.Interface.{some-and}
 use Rattle.fsb_coherent.specs.Awaits.{owner_at}
-use Rattle.fsb_coherent.specs.Fitting.{IsSnoopOn, fits_getting, fits_kind, fits_upgrade, fits_write_back, is_granted_by}
+use Rattle.fsb_coherent.specs.Fitting.{fits_kind}
 use Rattle.fsb_coherent.specs.Relation.{giver_at}
 use Rattle.fsb_tied.proofs.Interface.{clock-facts, one-dirty, uncontested, writes-back-alone}
 use Rattle.fsb_agent_view.specs.declared.want.OwnRequest.{OwnRequest}
 use Rattle.fsb_agent_view.specs.AgentViews.{AgentView, has_come, line_state_by}
 use Rattle.fsb_agent_view.specs.OwnRequests.{request_numbered}
-use Rattle.fsb_agent_view.specs.Snooping.{buffers_giving, committed, granted_by, is_giver, is_handed, kind_asks, other_settled, own_settled, upgraded_by, with_fill}
-use Rattle.fsb_agent_view.specs.Sound.{IsSound}
-use Rattle.fsb_agent_view.proofs.Interface.{unpromised}
-use Rattle.fsb_agent_run.specs.AwaitedFills.{HasFillsOf}
-use Rattle.fsb_agent_run.specs.BytesOwed.{HasOwedOf, claim_given_at, gives_claim}
-use Rattle.fsb_agent_run.specs.OwnEvents.{IsOtherSnoopEnd, IsOwnSnoopEnd, is_settled_for}
-use Rattle.fsb_agent_run.specs.RunViews.{is_awaited}
+use Rattle.fsb_agent_view.specs.Snooping.{buffers_giving, committed, granted_by, is_giver, is_handed, kind_asks, other_settled, own_settled, upgraded_by}
+use Rattle.fsb_agent_run.proofs.AwaitedFills.{HasFillsOf}
+use Rattle.fsb_agent_run.specs.BytesOwed.{HasBytesOwed, claim_given_at, gives_claim}
+use Rattle.fsb_agent_run.proofs.OwnEvents.{IsOtherSnoopEnd, IsOwnSnoopEnd}
+use Rattle.fsb_agent_run.specs.RunViews.{is_awaited, one_if}
+use Rattle.fsb_agent_run.proofs.FillCounts.{come-count, count_on}
 use Rattle.fsb_agent_run.proofs.GivenBytes.{claim-given, gives-by, none-claimed, none-snooped, same-first}
 use Rattle.fsb_agent_run.proofs.OwedSnoops.{SameDebts, filled-debts, gives-now, owed-on, promised-owed, pushed-owed, quiet-owed, same-debts}
-use Rattle.fsb_agent_run.proofs.OwnLines.{machine_at, settled-unawaited, tied-at}
-
--- whose claim an own snoop end has
-pub own-claim : (a line : ℕ) (s : SnoopEnd) (claim : Claim) → s.claim ≡ Some claim → is_settled_for a line s ≡ true
-    → (claim.agent ≡ a) × (claim.line ≡ line)
-unfolding is_settled_for is_claim_of
-own-claim a line s claim claims settles =
-    let e : (nat_eq claim.agent a && nat_eq claim.line line) ≡ true = rw claims at settles in
-    let names = and_parts (nat_eq claim.agent a) (nat_eq claim.line line) e in
-    (eqb-true claim.agent a names.0, eqb-true claim.line line names.1)
-
--- or, of a reply, whose grant
-pub own-grant : (a line : ℕ) (s : SnoopEnd) → s.claim ≡ None → is_settled_for a line s ≡ true
-    → (grant : Grant) × (s.grant ≡ Some grant) × (grant.agent ≡ a) × (grant.line ≡ line)
-unfolding is_settled_for is_granted_by
-own-grant a line s none settles =
-    let e : is_some_and s.grant (λ grant. nat_eq grant.agent a && nat_eq grant.line line) ≡ true = rw none at settles in
-    let g = some-and s.grant (λ (grant : Grant). nat_eq grant.agent a && nat_eq grant.line line) e in
-    let names = and_parts (nat_eq g.0.agent a) (nat_eq g.0.line line) g.2 in
-    (g.0, g.1, eqb-true g.0.agent a names.0, eqb-true g.0.line line names.1)
+use Rattle.fsb_agent_run.proofs.OwnLines.{machine_at, own-claim, own-grant, settled-unawaited, tied-at}
+use Rattle.fsb_agent_run.proofs.PromisesFree.{dirty-unpromised}
 
 -- at a snoop end of its own an agent gives nothing, unless it writes a line back
 own-ungiven : (p : Past) (a c : ℕ) (s : SnoopEnd) (out : OwnRequest) → IsOwnSnoopEnd p a c s out → s.outcome ≢ Written
@@ -104,7 +82,8 @@ writes-back r a c s out h bounds l k written = by s.claim refl
           first = (same-first (past_of r) claim.line c s claim e settled.fits).0 ∙ sym (k.number (rw e refl));
         }
 
-granted-debts : (v : AgentView) (out : OwnRequest) (shared : Bool) → SameDebts v.buffers (granted_by v out shared).buffers
+pub granted-debts : (v : AgentView) (out : OwnRequest) (shared : Bool)
+    → SameDebts v.buffers (granted_by v out shared).buffers
 granted-debts v out shared =
     elim (cases_Bool (asks_line (kind_asks out.request.kind))) [
       | inl on ↦ rw (on, granted_by) (filled-debts v.buffers out.request.line out.number)
@@ -120,18 +99,18 @@ upgraded-debts v out =
 
 pub own-owed-after : (r : Run) (a c : ℕ) (s : SnoopEnd) (out : OwnRequest) (v : AgentView) (request : Request)
     (shared : Bool) → Timely r → KeepsBounds r.plan → c < length r.trace → IsOwnSnoopEnd (past_of r) a c s out
-    → request_numbered out.number v.outs ≡ Some out → HasOwedOf (past_of r) a c (c + 1) c v
-    → HasOwedOf (past_of r) a (c + 1) (c + 1) c (committed v out.number true request shared s.outcome)
+    → request_numbered out.number v.outs ≡ Some out → HasBytesOwed (past_of r) a c (c + 1) c v
+    → HasBytesOwed (past_of r) a (c + 1) (c + 1) c (committed v out.number true request shared s.outcome)
 own-owed-after r a c s out v request shared h bounds l k found owed = rw found (by s.outcome refl)
   where
     quiet : (w : AgentView) → s.outcome ≢ Written → SameDebts v.buffers w.buffers
-        → HasOwedOf (past_of r) a (c + 1) (c + 1) c w
+        → HasBytesOwed (past_of r) a (c + 1) (c + 1) c w
     quiet w unwritten debts =
         owed-on (past_of r) a c (c + 1) c (c + 1) (c + 1) c v w
         (quiet-owed r a c h bounds l (own-ungiven (past_of r) a c s out k unwritten)) debts owed
 
     by : (outcome : Outcome) → s.outcome ≡ outcome
-        → HasOwedOf (past_of r) a (c + 1) (c + 1) c (own_settled v out shared outcome)
+        → HasBytesOwed (past_of r) a (c + 1) (c + 1) c (own_settled v out shared outcome)
     by Granted e = quiet _ (λ f. let both = sym e ∙ f in let no : ⊥ = cc in no) (granted-debts v out shared)
     by Handed e = quiet _ (λ f. let both = sym e ∙ f in let no : ⊥ = cc in no) (granted-debts v out true)
     by Retried e = quiet v (λ f. let both = sym e ∙ f in let no : ⊥ = cc in no) (same-debts v.buffers v.buffers refl)
@@ -143,7 +122,13 @@ own-owed-after r a c s out v request shared h bounds l k found owed = rw found (
         ∙ settled-unawaited r a out.request.line c s h bounds l k.there k.settles in
         pushed-owed r a c w.claim (copies v.lines out.request.line) v (own_settled v out shared Written)
         (gives-now r a c w.claim h bounds l w.gives) unawaited
-        (ap (λ n. record v.buffers { pushes = v.buffers.pushes ++ record { number = n; bytes = copies v.lines out.request.line } ∷ [] }) (sym w.first))
+        (ap (λ n. record v.buffers {
+          pushes = v.buffers.pushes ++ record {
+            number = n;
+            bytes = copies v.lines
+                out.request.line;
+          } ∷ [];
+        }) (sym w.first))
         owed
     by Replied e = quiet _ (λ f. let both = sym e ∙ f in let no : ⊥ = cc in no) (granted-debts v out shared)
     by Failed e = quiet v (λ f. let both = sym e ∙ f in let no : ⊥ = cc in no) (same-debts v.buffers v.buffers refl)
@@ -167,9 +152,11 @@ owner-found r a b line c h bounds l few other on =
     let p : Past = past_of r in
     let test : ℕ → Bool = λ x. not (nat_eq x b) && is_dirty (past_to p c) x line c in
     let mine : test a ≡ true =
-    and_from (not (nat_eq a b)) (is_dirty (past_to p c) a line c) (ap not (ne_eqb a b other)) (dirty-at r line c h bounds l a ∙ on) in
+    and_from (not (nat_eq a b)) (is_dirty (past_to p c) a line c) (ap not (ne_eqb a b other))
+    (dirty-at r line c h bounds l a ∙ on) in
     let alone : (x : ℕ) → x < a → test x ≡ false = λ x below. false_from_ne_true (test x) (λ t.
-    let dirty = sym (dirty-at r line c h bounds l x) ∙ (and_parts (not (nat_eq x b)) (is_dirty (past_to p c) x line c) t).1 in
+    let dirty = sym (dirty-at r line c h bounds l x) ∙ (and_parts (not (nat_eq x b)) (is_dirty
+    (past_to p c) x line c) t).1 in
     let is : x ≡ a = one-dirty p line c x a (machine_at r line c) (tied-at r line c h bounds (omega arith)) dirty on in
     omega arith) in
     is_at-from (first_where test 4) a (first_where-at test 4 a few mine alone)
@@ -227,8 +214,8 @@ unfolding gives_claim giver_at
 giver-same r a c number s claim v request h bounds l few k e dirty =
     elim (handed-or-not s.outcome) [ inl handed ↦ when-handed handed | inr off ↦ otherwise off ]
   where
-    when-handed : s.outcome ≡ Handed → is_giver v request s.outcome ≡ is_at (giver_at (past_of r) claim.line c claim.agent s) a
-    unfolding giver_at
+    when-handed : s.outcome ≡ Handed
+        → is_giver v request s.outcome ≡ is_at (giver_at (past_of r) claim.line c claim.agent s) a
     when-handed handed =
         let p : Past = past_of r in
         let fits = ((clock-facts r claim.line c h bounds l).settles.settled s claim k.there e refl).fits in
@@ -236,7 +223,8 @@ giver-same r a c number s claim v request h bounds l few k e dirty =
         let known : Some fits.kind ≡ Some request.kind = sym fits.known ∙ k.kind claim e in
         let same : fits.kind ≡ request.kind = cc in
         let asks : asks_line (kind_asks request.kind) ≡ true =
-        subst (λ kind. asks_line (kind_asks kind) ≡ true) same (handed-asks fits.kind s.outcome handed free (fits.fits free)) in
+        subst (λ kind. asks_line (kind_asks kind)
+        ≡ true) same (handed-asks fits.kind s.outcome handed free (fits.fits free)) in
         let other : a ≢ claim.agent = λ is. k.other claim e (sym is) in
         let mine : is_giver v request s.outcome ≡ is_dirty p a request.line c =
         rw (handed, asks, dirty) (whole (is_dirty p a request.line c)) in
@@ -247,7 +235,8 @@ giver-same r a c number s claim v request h bounds l few k e dirty =
         whole true = refl
         whole false = refl
 
-    otherwise : is_handed s.outcome ≡ false → is_giver v request s.outcome ≡ is_at (giver_at (past_of r) claim.line c claim.agent s) a
+    otherwise : is_handed s.outcome ≡ false
+        → is_giver v request s.outcome ≡ is_at (giver_at (past_of r) claim.line c claim.agent s) a
     otherwise off =
         unhanded (is_modified (line_state_by v request.line)) (asks_line (kind_asks request.kind)) s.outcome off
         ∙ sym (false_from_ne_true (is_at (giver_at (past_of r) claim.line c claim.agent s) a) (λ t.
@@ -256,46 +245,77 @@ giver-same r a c number s claim v request h bounds l few k e dirty =
           | inr written ↦ k.other claim e written.1
         ]))
 
+-- what an agent owes after the snoop end of a reply to another agent
+pub replied-owed-after : (r : Run) (a c number : ℕ) (s : SnoopEnd) (grant : Grant) (v : AgentView) (request : Request)
+    (shared : Bool) → Timely r → KeepsBounds r.plan → c < length r.trace → snooped_at (past_of r) c ≡ Some s
+    → s.claim ≡ None → s.grant ≡ Some grant → HasBytesOwed (past_of r) a c (c + 1) c v
+    → HasBytesOwed (past_of r) a (c + 1) (c + 1) c (committed v number false request shared s.outcome)
+replied-owed-after r a c number s grant v request shared h bounds l there none made owed =
+    let replied = (clock-facts r grant.line c h bounds l).settles.replied s grant there none made refl in
+    let off : is_giver v request s.outcome ≡ false =
+    unhanded (is_modified (line_state_by v request.line)) (asks_line (kind_asks request.kind)) s.outcome
+    (ap is_handed replied.replied) in
+    owed-on (past_of r) a c (c + 1) c (c + 1) (c + 1) c v (other_settled v number request s.outcome)
+    (quiet-owed r a c h bounds l (none-claimed (past_of r) a c s there none))
+    (same-debts v.buffers (other_settled v number request s.outcome).buffers (rw (off, other_settled) refl)) owed
+
 -- what an agent owes after another agent's snoop end
 pub other-owed-after : (r : Run) (a c number : ℕ) (s : SnoopEnd) (v : AgentView) (request : Request) (shared : Bool)
     → Timely r → KeepsBounds r.plan → c < length r.trace → a < 4 → IsOtherSnoopEnd (past_of r) a c s number request
-    → IsSound v → is_modified (line_state_by v request.line) ≡ is_dirty (past_of r) a request.line c
-    → HasFillsOf (past_of r) a c c v → HasOwedOf (past_of r) a c (c + 1) c v
-    → HasOwedOf (past_of r) a (c + 1) (c + 1) c (committed v number false request shared s.outcome)
-other-owed-after r a c number s v request shared h bounds l few k sound dirty fills owed = by s.claim refl
+    → is_modified (line_state_by v request.line) ≡ is_dirty (past_of r) a request.line c
+    → HasFillsOf (past_of r) a c c v → HasBytesOwed (past_of r) a c (c + 1) c v
+    → HasBytesOwed (past_of r) a (c + 1) (c + 1) c (committed v number false request shared s.outcome)
+other-owed-after r a c number s v request shared h bounds l few k dirty fills owed = by s.claim refl
   where
     quiet : claim_given_at (past_of r) a c ≡ None → is_giver v request s.outcome ≡ false
-        → HasOwedOf (past_of r) a (c + 1) (c + 1) c (other_settled v number request s.outcome)
+        → HasBytesOwed (past_of r) a (c + 1) (c + 1) c (other_settled v number request s.outcome)
     quiet none off =
         owed-on (past_of r) a c (c + 1) c (c + 1) (c + 1) c v (other_settled v number request s.outcome)
         (quiet-owed r a c h bounds l none)
-        (same-debts v.buffers (other_settled v number request s.outcome).buffers (rw off refl)) owed
+        (same-debts v.buffers (other_settled v number request s.outcome).buffers (rw (off, other_settled) refl)) owed
 
     gives : (claim : Claim) → s.claim ≡ Some claim → claim_given_at (past_of r) a c ≡ Some claim
         → is_giver v request s.outcome ≡ true
-        → HasOwedOf (past_of r) a (c + 1) (c + 1) c (other_settled v number request s.outcome)
+        → HasBytesOwed (past_of r) a (c + 1) (c + 1) c (other_settled v number request s.outcome)
     gives claim e given on =
         let line : request.line ≡ claim.line = k.line claim e in
         let fits = ((clock-facts r claim.line c h bounds l).settles.settled s claim k.there e refl).fits in
-        let first : number ≡ claim.first = k.number claim e ∙ sym (same-first (past_of r) claim.line c s claim e fits).0 in
+        let first : number ≡ claim.first =
+        k.first claim e ∙ sym (same-first (past_of r) claim.line c s claim e fits).0 in
         let now = gives-now r a c claim h bounds l given in
-        let modified : is_modified (line_state_by v request.line) ≡ true = (and_parts (is_modified (line_state_by v request.line)) _ (and-first _ _ _ on)).0 in
+        let modified : is_modified (line_state_by v request.line) ≡ true =
+        (and_parts (is_modified (line_state_by v request.line)) (is_handed s.outcome)
+        (and-first (is_modified (line_state_by v request.line)) (is_handed s.outcome) (asks_line
+        (kind_asks request.kind)) on)).0 in
         elim (cases_Bool (is_awaited (past_of r) a claim.line c c)) [
           | inr here ↦
               let come : has_come v request.line ≡ true =
-              come-from (fill_on request.line v.buffers.fills) (fills.fills request.line ∙ ap (λ x. is_awaited (past_of r) a x c c) line ∙ here) in
-              pushed-owed r a c claim (copies v.lines request.line) v (other_settled v number request s.outcome) now here
-              (rw (on, come, buffers_giving)
-              (ap (λ n. record v.buffers { pushes = v.buffers.pushes ++ record { number = n; bytes = copies v.lines request.line } ∷ [] }) first))
+              come-count request.line v.buffers.fills false
+              (fills.fills request.line ∙ ap (λ x. one_if (is_awaited (past_of r) a x c c)) line ∙ ap one_if here) in
+              pushed-owed r a c claim (copies v.lines request.line) v
+              (other_settled v number request s.outcome) now here
+              (rw (on, other_settled, come, buffers_giving)
+              (ap (λ n. record v.buffers {
+                pushes = v.buffers.pushes ++ record {
+                  number = n;
+                  bytes = copies v.lines
+                      request.line;
+                } ∷ [];
+              }) first))
               owed
           | inl awaited ↦
-              let some : is_some (fill_on claim.line v.buffers.fills) ≡ true = fills.fills claim.line ∙ awaited in
+              let one : count_on claim.line v.buffers.fills ≡ 1 = fills.fills claim.line ∙ ap one_if awaited in
               let coming : has_come v request.line ≡ false =
-              coming-from (fill_on request.line v.buffers.fills) (ap (λ x. is_some (fill_on x v.buffers.fills)) line ∙ some) in
+              come-count request.line v.buffers.fills true (ap (λ x. count_on x v.buffers.fills) line ∙ one) in
               let free : promise_on claim.line v.buffers.fills ≡ None =
-              unpromised v claim.line sound (ap (λ x. is_modified (line_state_by v x)) (sym line) ∙ modified) in
-              promised-owed r a c claim v (other_settled v number request s.outcome) now awaited some free sound.one_a_line
-              (rw (on, coming, buffers_giving) (λ i. record v.buffers { fills = promised_to (line i) (first i) v.buffers.fills }))
+              owed.promises claim.line
+              ∙ dirty-unpromised r a claim.line c h bounds (omega arith)
+              (ap (λ x. is_dirty (past_of r) a x c) (sym line) ∙ sym dirty ∙ modified) in
+              promised-owed r a c claim v (other_settled v number request s.outcome) now awaited one free
+              (rw (on, other_settled, coming, buffers_giving) (λ i. record v.buffers {
+                fills = promised_to (line i)
+                    (first i) v.buffers.fills;
+              }))
               owed
         ]
       where
@@ -304,22 +324,11 @@ other-owed-after r a c number s v request shared h bounds l few k sound dirty fi
         and-first true false z t = t
         and-first false y z t = t
 
-        come-from : (o : Option Fill) → is_some o ≡ false → is_none o ≡ true
-        come-from None f = refl
-        come-from (Some fill) f = absurd (let no : ⊥ = cc in no)
-
-        coming-from : (o : Option Fill) → is_some o ≡ true → is_none o ≡ false
-        coming-from None f = absurd (let no : ⊥ = cc in no)
-        coming-from (Some fill) f = refl
-
     by : (o : Option Claim) → s.claim ≡ o
-        → HasOwedOf (past_of r) a (c + 1) (c + 1) c (other_settled v number request s.outcome)
+        → HasBytesOwed (past_of r) a (c + 1) (c + 1) c (other_settled v number request s.outcome)
     by None e =
         let g = k.replied e in
-        let replied = (clock-facts r g.0.line c h bounds l).settles.replied s g.0 k.there e g.1 refl in
-        quiet (none-claimed (past_of r) a c s k.there e)
-        (unhanded (is_modified (line_state_by v request.line)) (asks_line (kind_asks request.kind)) s.outcome
-        (ap is_handed replied.replied))
+        replied-owed-after r a c number s g.0 v request shared h bounds l k.there e g.1 owed
     by (Some claim) e =
         let same = giver-same r a c number s claim v request h bounds l few k e dirty in
         elim (cases_Bool (gives_claim (past_of r) a c s claim)) [
@@ -330,9 +339,10 @@ other-owed-after r a c number s v request shared h bounds l few k sound dirty fi
 -- and after a clock at which no request of anybody is settled
 pub unsettled-owed-after : (r : Run) (a c : ℕ) (v : AgentView) → Timely r → KeepsBounds r.plan → c < length r.trace
     → ((s : SnoopEnd) → snooped_at (past_of r) c ≡ Some s → s.claim ≡ None)
-    → HasOwedOf (past_of r) a c (c + 1) c v → HasOwedOf (past_of r) a (c + 1) (c + 1) c v
+    → HasBytesOwed (past_of r) a c (c + 1) c v → HasBytesOwed (past_of r) a (c + 1) (c + 1) c v
 unsettled-owed-after r a c v h bounds l none owed =
-    owed-on (past_of r) a c (c + 1) c (c + 1) (c + 1) c v v (quiet-owed r a c h bounds l (by (snooped_at (past_of r) c) refl))
+    owed-on (past_of r) a c (c + 1) c (c + 1) (c + 1) c v v (quiet-owed r a c h bounds l (by (snooped_at
+    (past_of r) c) refl))
     (same-debts v.buffers v.buffers refl) owed
   where
     by : (o : Option SnoopEnd) → snooped_at (past_of r) c ≡ o → claim_given_at (past_of r) a c ≡ None

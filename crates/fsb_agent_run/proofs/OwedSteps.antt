@@ -1,7 +1,7 @@
 -- The outstanding requests of an agent: what each of them is, and how they go on by a clock.
-use Rattle.std.proofs.Common.{ℕ, zero, suc, ◌+◌, ◌<◌, ◌≤◌, ◌≡◌, ◌⊎◌, Bool, true, false, not, ◌&&◌, List, [], ◌∷◌, ◌++◌, Option, Some, None, length, nat_eq, refl, sym, ap, subst, ◌∙◌, inl, inr, add-one, arith}
-use Rattle.std.specs.List.{filter, filter_map, list_any}
-use Rattle.std.specs.Option.{option_map, option_map_or}
+use Rattle.std.proofs.Common.{ℕ, zero, suc, ◌+◌, ◌<◌, ◌≤◌, ◌≡◌, Bool, true, not, ◌&&◌, [], ◌++◌, Option, Some, None, nat_eq, refl, sym, ap, subst, ◌∙◌, inl, inr, add-one, arith}
+use Rattle.std.specs.List.{filter, list_any}
+use Rattle.std.specs.Option.{option_map}
 use Rattle.std.proofs.lemmas.Bool.{and_from, and_parts, eq-eqb, eqb-true}
 use Rattle.std.proofs.lemmas.List.Elements.{filter-append}
 use Rattle.fsb_trace.specs.Flight.{is_outstanding, outstanding}
@@ -14,7 +14,7 @@ use Rattle.fsb_lawful.proofs.Interface.{IsListed, any-listed}
 use Rattle.fsb_run_laws.specs.Reaches.{Reaches}
 use Rattle.fsb_run_laws.specs.RunSteps.{listed, owing_begun}
 use Rattle.fsb_run_laws.proofs.Interface.{begun-wanted, owed-step, owed-told, owing-claim}
-use Rattle.fsb_agent_run.specs.Stages.{begun_by, owed_sent}
+use Rattle.fsb_agent_run.specs.Stages.{owings_begun, owed_sent}
 use Rattle.fsb_agent_run.proofs.Among.{Among, among-either, among-filter, any-among, filter-among, filter-swap}
 
 -- the request is agent a's
@@ -31,8 +31,8 @@ reaches-less r m n l h =
 
 -- one clock further
 pub owed-more : (r : Run) (a n : ℕ) → Reaches r (n + 1)
-    → owed (past_of r) a (n + 1) ≡ filter (stays_out r n) (owed (past_of r) a n) ++ begun_by (past_of r) a n
-unfolding owed begun_by
+    → owed (past_of r) a (n + 1) ≡ filter (stays_out r n) (owed (past_of r) a n) ++ owings_begun (past_of r) a n
+unfolding owed owings_begun
 owed-more r a n h =
     let p = past_of r in
     ap (filter (is_own a)) (owed-step r n h)
@@ -58,16 +58,16 @@ listed-is (Some x) owing (inl e) = ap Some e
 listed-is (Some x) owing (inr h) = absurd h
 
 -- what begins at n
-pub begun-is : (r : Run) (a n : ℕ) (owing : Owing) → Reaches r (n + 1) → Among owing (begun_by (past_of r) a n)
+pub begun-is : (r : Run) (a n : ℕ) (owing : Owing) → Reaches r (n + 1) → Among owing (owings_begun (past_of r) a n)
     → (owing_begun (past_of r) n ≡ Some owing) × (owing.claim.agent ≡ a) × (owing.claim.first ≡ n)
-unfolding begun_by
+unfolding owings_begun
 begun-is r a n owing h k =
     let p = past_of r in
     let parts = among-filter (is_own a) owing (listed (owing_begun p n)) k in
     let begun = listed-is (owing_begun p n) owing parts.0 in
     (begun, eqb-true owing.claim.agent a parts.1, (begun-wanted r n owing h begun).4)
 
-pub begun-owing : (r : Run) (a n : ℕ) (owing : Owing) → Reaches r (n + 1) → Among owing (begun_by (past_of r) a n)
+pub begun-owing : (r : Run) (a n : ℕ) (owing : Owing) → Reaches r (n + 1) → Among owing (owings_begun (past_of r) a n)
     → IsOwing (past_of r) a (n + 1) owing
 begun-owing r a n owing h k =
     let p = past_of r in
@@ -94,10 +94,10 @@ owing-is r a (suc n) owing h k =
     let p = past_of r in
     let long = h.long in
     let more : Reaches r (n + 1) = record { timely = h.timely; bounds = h.bounds; long = omega arith } in
-    let there : Among owing (filter (stays_out r n) (owed p a n) ++ begun_by p a n) =
+    let there : Among owing (filter (stays_out r n) (owed p a n) ++ owings_begun p a n) =
     subst (Among owing) (sym (ap (owed p a) (add-one n)) ∙ owed-more r a n more) k in
     subst (λ m. IsOwing p a m owing) (add-one n)
-    (elim (among-either owing (filter (stays_out r n) (owed p a n)) (begun_by p a n) there) [
+    (elim (among-either owing (filter (stays_out r n) (owed p a n)) (owings_begun p a n) there) [
       | inl before ↦
           owing-later p a n (n + 1) owing (omega arith)
           (owing-is r a n owing (reaches-less r n (n + 1) (omega arith) more)
@@ -110,7 +110,7 @@ pub sent-is : (r : Run) (a n : ℕ) (owing : Owing) → Reaches r (n + 1) → Am
 unfolding owed_sent
 sent-is r a n owing h k =
     let p = past_of r in
-    elim (among-either owing (owed p a n) (begun_by p a n) k) [
+    elim (among-either owing (owed p a n) (owings_begun p a n) k) [
       | inl before ↦
           owing-later p a n (n + 1) owing (omega arith)
           (owing-is r a n owing (reaches-less r n (n + 1) (omega arith) h) before)

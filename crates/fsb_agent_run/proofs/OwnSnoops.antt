@@ -1,9 +1,8 @@
 -- The snoop end of an agent's own request, and of the reply to its deferred one, in its view.
-use Rattle.std.proofs.Common.{ℕ, ◌+◌, ◌<◌, ◌≤◌, ◌≡◌, ◌≢◌, ◌⊎◌, Bool, true, false, cond, not, ◌&&◌, ◌||◌, List, [], ◌∷◌, map, length, Option, Some, None, is_some, nat_eq, refl, sym, ap, subst, ◌∙◌, inl, inr, arith, if◌then◌else◌}
+use Rattle.std.proofs.Common.{ℕ, ◌+◌, ◌<◌, ◌≡◌, ◌≢◌, ◌⊎◌, Bool, true, false, not, ◌&&◌, ◌||◌, List, Option, Some, None, is_some, nat_eq, refl, sym, ap, subst, ◌∙◌, inl, inr, arith, if◌then◌else◌}
 use Rattle.std.specs.Prelude.{◌==◌}
-use Rattle.std.specs.List.{find}
-use Rattle.std.specs.Option.{option_and_then, option_map, option_map_or}
-use Rattle.std.proofs.lemmas.Bool.{and_parts, both_ways, cases_Bool, eq-eqb, eqb-true, false_from_ne_true, ne_eqb}
+use Rattle.std.specs.Option.{option_and_then, option_map_or}
+use Rattle.std.proofs.lemmas.Bool.{both_ways, cases_Bool, eq-eqb, eqb-true}
 use Rattle.fsb_cache.specs.Sets.{copies, sets_filled}
 use Rattle.fsb_count.specs.Options.{is_at, is_some_and}
 use Rattle.fsb_count.proofs.Interface.{nat_eq-sym}
@@ -15,40 +14,33 @@ use Rattle.fsb_line.specs.declared.state.Mesi.{Mesi}
 use Rattle.fsb_line.specs.declared.state.Mesi.TheVariants.{Exclusive, Invalid, Modified, Shared}
 use Rattle.fsb_line.specs.States.{asks_line, granted, is_held, kind_owns}
 use Rattle.fsb_timely.specs.Past.{Claim, Grant, Owing, Past, SnoopEnd}
-use Rattle.fsb_timely.specs.Grants.{begun_at, grant_at, holds_line, is_claim_of, is_claim_of_other, is_evicted, is_exclusive, is_granted, is_named_by_other, is_owning, is_snooped, is_taken_away, is_written_back, snooped_at}
-use Rattle.fsb_timely.specs.Hits.{is_dirty}
-use Rattle.fsb_timely.specs.Moments.{is_got, is_owner_request, is_upgraded, makes_grant}
+use Rattle.fsb_timely.specs.Grants.{begun_at, grant_at, holds_line, is_claim_of, is_claim_of_other, is_evicted, is_named_by_other, is_snooped, is_taken_away, is_written_back, snooped_at}
+use Rattle.fsb_timely.specs.Moments.{is_got, is_upgraded, makes_grant}
 use Rattle.fsb_timely.specs.Runs.{Run, past_of}
 use Rattle.fsb_timely.specs.Wants.{owed, want_of}
-use Rattle.fsb_trace.specs.At.{request_at}
-use Rattle.fsb_trace.specs.Outcome.{is_deferral}
 use Rattle.fsb_trace.specs.Requests.{is_write_back_kind}
 use Rattle.fsb_trace.specs.declared.outcome.Outcome.{Outcome}
 use Rattle.fsb_trace.specs.declared.outcome.Outcome.TheVariants.{Granted, Handed, Retried, Deferred, Written, Replied, Failed, Upgraded}
 use Rattle.fsb_coherent.specs.Awaits.{cancelled_in, purpose_of}
-use Rattle.fsb_coherent.specs.Facts.{IsRepliedOn, IsSettledOn}
-use Rattle.fsb_coherent.specs.Fitting.{IsSnoopOn, fits_getting, fits_kind, fits_upgrade, fits_write_back}
-use Rattle.fsb_lawful.proofs.Interface.{grants-are-owed}
+use Rattle.fsb_coherent.specs.Fitting.{fits_getting, fits_kind, fits_upgrade, fits_write_back}
 use Rattle.fsb_tied.proofs.Interface.{begun-shown, begun-want, claimed-at, clock-facts, snooped-by, uncontested, writes-back-alone}
 use Rattle.fsb_timely.proofs.Interface.{tied-snoop}
 use Rattle.fsb_run_laws.specs.Reaches.{Reaches}
 use Rattle.fsb_run_laws.specs.RunStates.{state_granted, state_read}
-use Rattle.fsb_run_laws.proofs.Interface.{replied-outstanding, snooped-outstanding}
+use Rattle.fsb_run_laws.proofs.Interface.{snooped-outstanding}
 use Rattle.fsb_agent_view.specs.declared.want.OwnRequest.{OwnRequest}
 use Rattle.fsb_agent_view.specs.AgentViews.{AgentView, line_state_by}
 use Rattle.fsb_agent_view.specs.OwnRequests.{request_numbered, requests_granted}
 use Rattle.fsb_agent_view.specs.Snooping.{committed, granted_by, kind_asks, no_bytes, own_settled, upgraded_by, with_fill, written_by}
-use Rattle.fsb_agent_run.specs.AgentClocks.{number_asked}
-use Rattle.fsb_agent_run.specs.RunViews.{HasRequestsOf, is_won_below, owing_by, state_told}
+use Rattle.fsb_agent_run.specs.RunViews.{HasRequestsOf, is_won_below}
 use Rattle.fsb_agent_run.specs.Stages.{IsViewAfterSnoop, IsViewBeforeSnoop, is_uncancelled, owed_sent, owed_through}
-use Rattle.fsb_agent_run.proofs.Among.{Among, among-found, among-left, filter-among, found-among}
+use Rattle.fsb_agent_run.proofs.Among.{Among, among-left, filter-among}
 use Rattle.fsb_agent_run.proofs.OutLists.{among-granted, find-number, kept-of, out-there, wanted-of}
-use Rattle.fsb_agent_run.proofs.OwedApart.{one-line, owed-apart}
-use Rattle.fsb_agent_run.proofs.OwedSteps.{owed-there, owing-is, reaches-less}
+use Rattle.fsb_agent_run.proofs.OwedSteps.{owed-there, reaches-less}
 use Rattle.fsb_agent_run.proofs.SlotStates.{in_sets-without, length-without, state-without}
-use Rattle.fsb_agent_run.proofs.SnoopSteps.{LowersLines, granted-to-other, granted-view, lowered-view, number-other, out-begun, outs-apart, requests-still}
+use Rattle.fsb_agent_run.proofs.SnoopSteps.{granted-to-other, granted-view, lowered-view, outs-apart, requests-still}
 use Rattle.fsb_agent_run.proofs.StatesTold.{held-told}
-use Rattle.fsb_agent_run.proofs.WonSteps.{no-snoop, other-snoop, won-before, won-known, won-now, won-still}
+use Rattle.fsb_agent_run.proofs.WonSteps.{other-snoop, won-before, won-now, won-still}
 
 -- the snoop end of a symmetric agent's request: what its agent wanted, and how it is settled
 pub record IsSettledAs (r : Run) (c : ℕ) (s : SnoopEnd) (claim : Claim) : Type 0 where
@@ -74,7 +66,8 @@ pub record IsSettledAs (r : Run) (c : ℕ) (s : SnoopEnd) (claim : Claim) : Type
         shared = shared;
       }) else None)
 
-owns-by : (kind : Kind) (purpose : Purpose) → purpose_of kind ≡ Some purpose → kind_owns purpose ≡ kind_owns (kind_asks kind)
+owns-by : (kind : Kind) (purpose : Purpose) → purpose_of kind ≡ Some purpose
+    → kind_owns purpose ≡ kind_owns (kind_asks kind)
 unfolding purpose_of
 owns-by kinds.Reply purpose e = absurd (let no : ⊥ = cc in no)
 owns-by kinds.Invalidate purpose e = (let same : Rattle.fsb_line.specs.declared.purpose.Purpose.TheVariants.Own ≡ purpose = cc in ap kind_owns (sym same))
@@ -82,7 +75,8 @@ owns-by kinds.Read purpose e = (let same : Rattle.fsb_line.specs.declared.purpos
 owns-by kinds.WriteBack purpose e = (let same : Rattle.fsb_line.specs.declared.purpose.Purpose.TheVariants.WriteBack ≡ purpose = cc in ap kind_owns (sym same))
 owns-by kinds.Upgrade purpose e = (let same : Rattle.fsb_line.specs.declared.purpose.Purpose.TheVariants.Upgrade ≡ purpose = cc in ap kind_owns (sym same))
 
-pub settled-as : (r : Run) (c : ℕ) (s : SnoopEnd) (claim : Claim) → Reaches r (c + 1) → snooped_at (past_of r) c ≡ Some s
+pub settled-as : (r : Run) (c : ℕ) (s : SnoopEnd) (claim : Claim) → Reaches r (c + 1)
+    → snooped_at (past_of r) c ≡ Some s
     → s.claim ≡ Some claim → IsSettledAs r c s claim
 settled-as r c s claim h there claims =
     let p = past_of r in
@@ -106,7 +100,8 @@ settled-as r c s claim h there claims =
     let alone = uncontested r claim.line c s (writes-back-alone r h.timely h.bounds) there fits in
     let owns : fits.owns ≡ kind_owns (kind_asks want.request.kind) =
     settled.owns ∙ owns-by fits.kind settled.purpose settled.known ∙ ap (λ x. kind_owns (kind_asks x)) kind in
-    let won : fits.won ≡ holds_line p claim.agent claim.line c = settled.won ∙ ap (λ a. holds_line p a claim.line c) (sym agent) in
+    let won : fits.won ≡ holds_line p claim.agent claim.line c = settled.won
+    ∙ ap (λ a. holds_line p a claim.line c) (sym agent) in
     record {
       request = want.request;
       want = want.want;
@@ -324,7 +319,8 @@ grant-by r c s claim k = record {
   shared = k.shared;
 }
 
-state-by : (r : Run) (c : ℕ) (s : SnoopEnd) (claim : Claim) (k : IsSettledAs r c s claim) → state_granted (grant-by r c s claim k)
+state-by : (r : Run) (c : ℕ) (s : SnoopEnd) (claim : Claim) (k : IsSettledAs r c s claim)
+    → state_granted (grant-by r c s claim k)
     ≡ (if kind_owns (kind_asks k.request.kind) then Modified else (if k.shared then Shared else Exclusive))
 unfolding state_granted grant-by
 state-by r c s claim k = refl
@@ -354,10 +350,12 @@ pub getting-makes : (r : Run) (c : ℕ) (s : SnoopEnd) (claim : Claim) (k : IsSe
     → s.outcome ≡ outcome → IsGetting k.request.kind outcome → (grant : Grant) × (s.grant ≡ Some grant)
 unfolding grant-by
 getting-makes r c s claim k outcome e g =
-    let grant = grant-by r c s claim k in
-    (grant, k.granted
-    ∙ ap (λ b. if b || (is_upgraded s.outcome && holds_line (past_of r) claim.agent claim.line c) then Some grant else None)
-    (ap (makes_grant k.request.kind) e ∙ g.makes))
+    let grant = grant-by r c s claim k in (
+      grant,
+      k.granted
+          ∙ ap (λ b. if b || (is_upgraded s.outcome && holds_line (past_of r) claim.agent claim.line c) then Some grant else None)
+          (ap (makes_grant k.request.kind) e ∙ g.makes),
+    )
 
 -- where nothing is made of it the view stays
 idle-view : (r : Run) (a c : ℕ) (s : SnoopEnd) (claim : Claim) (v : AgentView) → Reaches r (c + 1)
@@ -373,8 +371,10 @@ idle-view r a c s claim v h there claims mine k none kept view =
     (λ line. granted-to-other p a line c (λ grant e. absurd (let no : ⊥ = cc in no)))
     (record {
       states = λ line.
-          rw (own-kept p a line c s claim k.request.kind there claims k.kind mine kept,
-          own-named p a line c s claim there claims mine) refl;
+          rw (
+            own-kept p a line c s claim k.request.kind there claims k.kind mine kept,
+            own-named p a line c s claim there claims mine,
+          ) refl;
       fills = λ line. refl;
       in_sets = view.lines.in_sets;
       size = refl;
@@ -448,7 +448,8 @@ written-view r a c s claim out v h there claims mine k e request view =
     whole false state = refl
 
 -- an upgrade without data is won where the agent still holds the line
-upgraded-view : (r : Run) (a c : ℕ) (s : SnoopEnd) (claim : Claim) (out : OwnRequest) (v : AgentView) → Reaches r (c + 1)
+upgraded-view : (r : Run) (a c : ℕ) (s : SnoopEnd) (claim : Claim) (out : OwnRequest) (v : AgentView)
+    → Reaches r (c + 1)
     → 0 < r.plan.cache → snooped_at (past_of r) c ≡ Some s → s.claim ≡ Some claim → claim.agent ≡ a
     → (k : IsSettledAs r c s claim) → s.outcome ≡ Upgraded → out.request ≡ k.request → out.number ≡ s.first
     → IsViewBeforeSnoop (past_of r) a c v → IsViewAfterSnoop (past_of r) a c (upgraded_by v out)
@@ -537,7 +538,8 @@ own-claimed r a c s claim request shared v h some there claims mine seen view =
     (by k out.0 out.2 out.4 s.outcome refl)
   where
     by : (k : IsSettledAs r c s claim) (out : OwnRequest) → out.number ≡ s.first → out.request ≡ k.request
-        → (outcome : Outcome) → s.outcome ≡ outcome → IsViewAfterSnoop (past_of r) a c (own_settled v out shared outcome)
+        → (outcome : Outcome) → s.outcome ≡ outcome
+        → IsViewAfterSnoop (past_of r) a c (own_settled v out shared outcome)
     by k out number same Granted e =
         let g = getting-granted k.request.kind (ap (fits_kind k.request.kind) (sym e) ∙ k.fits) in
         getting-view r a c s claim out shared Granted v h some there claims mine k e g same number

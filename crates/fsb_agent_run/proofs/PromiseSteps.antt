@@ -1,12 +1,12 @@
 -- What is promised of a line, one snoop end further.
-use Rattle.std.proofs.Common.{ℕ, suc, ◌+◌, ◌<◌, ◌≤◌, ◌≡◌, Bool, true, false, not, ◌&&◌, ◌||◌, if◌then◌else◌, Option, Some, None, nat_eq, nat_le, refl, sym, ap, ◌∙◌, inl, inr, arith, add-one}
+use Rattle.std.proofs.Common.{ℕ, ◌+◌, ◌≡◌, Bool, true, false, not, ◌&&◌, ◌||◌, if◌then◌else◌, Option, Some, None, nat_le, refl, ap, ◌∙◌, arith, add-one}
 use Rattle.std.specs.Option.{option_and_then, option_map}
-use Rattle.std.proofs.lemmas.Bool.{cases_Bool, eq-eqb, le-leb, lt-leb}
+use Rattle.std.proofs.lemmas.Bool.{eq-eqb, le-leb, lt-leb}
 use Rattle.fsb_count.specs.Clocks.{any_where, from_clock, last_where}
 use Rattle.fsb_count.specs.Options.{is_at, is_some_and}
 use Rattle.fsb_count.proofs.Interface.{any_where-at, any_where-more, any_where-off, last_where-failed, last_where-passed}
 use Rattle.fsb_timely.specs.Past.{Claim, Grant, Past}
-use Rattle.fsb_timely.specs.Grants.{begun_at, is_ended, is_granted, latest_grant}
+use Rattle.fsb_timely.specs.Grants.{begun_at, is_ended, is_granted}
 use Rattle.fsb_timely.proofs.Interface.{last_where-found, latest_grant-more}
 use Rattle.fsb_agent_run.specs.BytesOwed.{claim_given_at, given_since, gives_line_at, is_promised, promise_told}
 use Rattle.fsb_agent_run.specs.RunViews.{is_awaited}
@@ -20,7 +20,8 @@ awaited-kept p a line c none =
     (latest_grant-more p a line c ∙ rw none refl)
 
 -- a line that is not awaited is not promised
-pub unawaited-unpromised : (p : Past) (a line n c : ℕ) → is_awaited p a line n c ≡ false → promise_told p a line n c ≡ None
+pub unawaited-unpromised : (p : Past) (a line n c : ℕ) → is_awaited p a line n c ≡ false
+    → promise_told p a line n c ≡ None
 unfolding promise_told
 unawaited-unpromised p a line n c none = rw none refl
 
@@ -28,7 +29,8 @@ since-kept : (p : Past) (a line c t : ℕ) → is_granted p a line c ≡ false
     → given_since p a line (c + 1) t ≡ given_since p a line c t
 unfolding given_since from_clock
 since-kept p a line c t none =
-    let same : any_where (from_clock (t + 1) (is_granted p a line)) (c + 1) ≡ any_where (from_clock (t + 1) (is_granted p a line)) c =
+    let same : any_where (from_clock (t + 1) (is_granted p a line)) (c + 1)
+    ≡ any_where (from_clock (t + 1) (is_granted p a line)) c =
     any_where-more (from_clock (t + 1) (is_granted p a line)) c
     ∙ rw none (nothing (any_where (from_clock (t + 1) (is_granted p a line)) c) (nat_le (t + 1) c)) in
     ap (λ b. if b then None else option_map (λ (claim : Claim). claim.first) (claim_given_at p a t)) same
@@ -65,11 +67,12 @@ promise-granted p a line c ungiven granted =
     ∙ by (last_where (gives_line_at p a line) c) refl in
     ap (λ o. if is_awaited p a line (c + 1) c then o else None) told ∙ either (is_awaited p a line (c + 1) c)
   where
-    either : (b : Bool) → (if b then None {A = ℕ} else None) ≡ None
+    either : (b : Bool) → ◌≡◌ {A = Option ℕ} (if b then None else None) None
     either true = refl
     either false = refl
 
-    by : (o : Option ℕ) → last_where (gives_line_at p a line) c ≡ o → option_and_then (given_since p a line (c + 1)) o ≡ None
+    by : (o : Option ℕ) → last_where (gives_line_at p a line) c ≡ o
+        → option_and_then (given_since p a line (c + 1)) o ≡ None
     by None e = refl
     by (Some t) e =
         let below = (last_where-found (gives_line_at p a line) c t e).0 in
@@ -87,7 +90,8 @@ promise-made p a c claim gives ungranted awaits =
     let line : ℕ = claim.line in
     let awaited : is_awaited p a line (c + 1) c ≡ true = awaited-kept p a line c ungranted ∙ awaits in
     let here : gives_line_at p a line c ≡ true = rw gives (eq-eqb line line refl) in
-    let last : last_where (gives_line_at p a line) (c + 1) ≡ Some c = rw add-one (last_where-passed (gives_line_at p a line) c here) in
+    let last : last_where (gives_line_at p a line) (c + 1) ≡ Some c =
+    rw add-one (last_where-passed (gives_line_at p a line) c here) in
     let none : any_where (from_clock (c + 1) (is_granted p a line)) (c + 1) ≡ false =
     any_where-off (from_clock (c + 1) (is_granted p a line)) (c + 1) (λ t low. rw (lt-leb (c + 1) t low) refl) in
     rw (awaited, last, none, gives) refl
@@ -101,11 +105,10 @@ promise-unawaited p a line c ungranted none =
 -- where each promise is the same, so is what is promised to a request
 pub promised-same : (p : Past) (a n c m d q : ℕ) → ((line : ℕ) → promise_told p a line m d ≡ promise_told p a line n c)
     → is_promised p a m d q ≡ is_promised p a n c q
-unfolding is_promised
+unfolding is_promised is_some_and
 promised-same p a n c m d q same = by (begun_at p q)
   where
     by : (o : Option Claim) → is_some_and o (λ claim. is_at (promise_told p a claim.line m d) q)
         ≡ is_some_and o (λ claim. is_at (promise_told p a claim.line n c) q)
-    unfolding is_some_and
     by None = refl
     by (Some claim) = ap (λ o. is_at o q) (same claim.line)

@@ -1,7 +1,7 @@
 -- What is promised in a timely run: to whom, and that it has no response as long as the promise stands.
-use Rattle.std.proofs.Common.{ℕ, ◌+◌, ◌<◌, ◌≤◌, ◌≡◌, ◌≢◌, Bool, true, false, not, ◌&&◌, if◌then◌else◌, Option, Some, None, length, nat_eq, refl, sym, ap, subst, ◌∙◌, inl, inr, arith}
+use Rattle.std.proofs.Common.{ℕ, ◌+◌, ◌<◌, ◌≤◌, ◌≡◌, Bool, true, false, not, ◌&&◌, if◌then◌else◌, Option, Some, None, length, nat_eq, refl, sym, ap, subst, ◌∙◌, inl, inr, arith}
 use Rattle.std.specs.Option.{option_and_then, option_map}
-use Rattle.std.proofs.lemmas.Bool.{both_ways, cases_Bool, cases_eq, cases_lt, eqb-true, false_from_ne_true, le-leb, not-true}
+use Rattle.std.proofs.lemmas.Bool.{both_ways, cases_eq, cases_lt, eqb-true, false_from_ne_true, le-leb, not-true}
 use Rattle.fsb_count.specs.Clocks.{any_where, from_clock, last_where}
 use Rattle.fsb_count.specs.Options.{is_at, is_some_and}
 use Rattle.fsb_count.proofs.Interface.{any_where-at, any_where-found, any_where-none, is_at-some}
@@ -16,7 +16,7 @@ use Rattle.fsb_coherent.specs.Awaits.{responded_in}
 use Rattle.fsb_tied.proofs.Interface.{answers-in-order, grant-first, granted-parts}
 use Rattle.fsb_agent_run.specs.BytesOwed.{claim_given_at, given_since, gives_line_at, is_promised, promise_told}
 use Rattle.fsb_agent_run.specs.RunViews.{is_awaited}
-use Rattle.fsb_agent_run.proofs.GivenBytes.{given, given-ungranted, some-if}
+use Rattle.fsb_agent_run.proofs.GivenBytes.{given, given-ungranted}
 
 -- the latest grant of a line that an agent awaits
 pub record AwaitsBy (p : Past) (a line n c : ℕ) : Type 0 where
@@ -66,10 +66,12 @@ pub record IsPromisedAt (p : Past) (a line n c q : ℕ) : Type 0 where
   pub first : claim.first ≡ q
   pub since : any_where (from_clock (at + 1) (is_granted p a line)) n ≡ false
 
-given-first : (o : Option Claim) (claim : Claim) (q : ℕ) → o ≡ Some claim → option_map (λ (x : Claim). x.first) o ≡ Some q
+given-first : (o : Option Claim) (claim : Claim) (q : ℕ) → o ≡ Some claim
+    → option_map (λ (x : Claim). x.first) o ≡ Some q
     → claim.first ≡ q
 given-first None claim q e f = absurd (let no : ⊥ = cc in no)
-given-first (Some x) claim q e f = let same : x ≡ claim = cc in let first : x.first ≡ q = cc in ap (λ (y : Claim). y.first) (sym same) ∙ first
+given-first (Some x) claim q e f = let same : x ≡ claim = cc in let first : x.first
+    ≡ q = cc in ap (λ (y : Claim). y.first) (sym same) ∙ first
 
 pub promised-at : (p : Past) (a line n c q : ℕ) → promise_told p a line n c ≡ Some q → IsPromisedAt p a line n c q
 unfolding promise_told given_since gives_line_at
@@ -85,11 +87,13 @@ promised-at p a line n c q e = by (is_awaited p a line n c) refl
 
     by : (b : Bool) → is_awaited p a line n c ≡ b → IsPromisedAt p a line n c q
     by b f =
-        let told = if-told (is_awaited p a line n c) (option_and_then (given_since p a line n) (last_where (gives_line_at p a line) n)) e in
+        let told = if-told (is_awaited p a line n c) (option_and_then (given_since p a line n) (last_where
+        (gives_line_at p a line) n)) e in
         let t = and-then (given_since p a line n) (last_where (gives_line_at p a line) n) q told.1 in
         let found = last_where-found (gives_line_at p a line) n t.0 t.1 in
         let g = some-and (claim_given_at p a t.0) (λ (claim : Claim). nat_eq claim.line line) found.1 in
-        let s = if-since (any_where (from_clock (t.0 + 1) (is_granted p a line)) n) (option_map (λ (claim : Claim). claim.first) (claim_given_at p a t.0)) t.2 in
+        let s = if-since (any_where (from_clock (t.0 + 1) (is_granted p a line)) n) (option_map (λ
+        (claim : Claim). claim.first) (claim_given_at p a t.0)) t.2 in
         record {
           awaited = told.0;
           at = t.0;
@@ -113,9 +117,33 @@ ended-on p u c q l e =
     let low : v.0 < u = v.1 in
     any_where-at (λ t. is_end_at p t q) c v.0 (omega arith) v.2
 
+-- a promise is made behind the latest grant
+pub promised-later : (r : Run) (a line n c q : ℕ) → Timely r → KeepsBounds r.plan → n ≤ length r.trace
+    → (k : IsPromisedAt (past_of r) a line n c q) (w : AwaitsBy (past_of r) a line n c) → w.at < k.at
+promised-later r a line n c q h bounds l k w = order-of w.at k.at not-later not-then
+  where
+    order-of : (x y : ℕ) → (y < x → ⊥) → (x ≡ y → ⊥) → x < y
+    order-of x y f g = elim (cases_lt x y) [
+      | inl l ↦ l
+      | inr m ↦ elim (cases_eq x y) [ inl e ↦ absurd (g e) | inr ne ↦ absurd (f (omega arith)) ]
+    ]
+
+    not-later : k.at < w.at → ⊥
+    not-later late =
+        both_ways (is_granted (past_of r) a line w.at)
+        (none-from (is_granted (past_of r) a line) (k.at + 1) n w.at k.since (omega arith) w.below) w.granted
+
+    not-then : w.at ≡ k.at → ⊥
+    not-then same =
+        let k_below : k.at < n = k.below in
+        both_ways (is_granted (past_of r) a line k.at)
+        (given-ungranted r a k.at line k.claim (given r a k.at k.claim h bounds (omega arith) k.given))
+        (subst (λ t. is_granted (past_of r) a line t ≡ true) same w.granted)
+
 -- a request that is promised the bytes of a line has no response while they are awaited
 pub promised-unresponded : (r : Run) (a line n c q u : ℕ) → Timely r → KeepsBounds r.plan → n ≤ length r.trace
-    → u ≤ c → u < length r.trace → promise_told (past_of r) a line n c ≡ Some q → responded_in (past_of r) u ≡ Some q → ⊥
+    → u ≤ c → u < length r.trace → promise_told (past_of r) a line n c ≡ Some q
+    → responded_in (past_of r) u ≡ Some q → ⊥
 promised-unresponded r a line n c q u h bounds l before within told responds =
     let p : Past = past_of r in
     let k = promised-at p a line n c q told in
@@ -124,29 +152,22 @@ promised-unresponded r a line n c q u h bounds l before within told responds =
     let w_below : w.at < n = w.below in
     let g = given r a k.at k.claim h bounds (omega arith) k.given in
     let order = answers-in-order r h in
-    let not_later : k.at < w.at → ⊥ = λ late.
-    both_ways (is_granted p a line w.at) (none-from (is_granted p a line) (k.at + 1) n w.at k.since (omega arith) w_below) w.granted in
-    let not_then : w.at ≡ k.at → ⊥ = λ same.
-    both_ways (is_granted p a line k.at) (given-ungranted r a k.at line k.claim g) (subst (λ t. is_granted p a line t ≡ true) same w.granted) in
-    let earlier : w.at < k.at = order-of w.at k.at not_later not_then in
+    let earlier : w.at < k.at = promised-later r a line n c q h bounds l k w in
     let first : g.at.end.first ≡ q = sym g.first ∙ k.first in
-    let ended = order.in_turn w.at k.at u w.end g.at.end w.there g.at.there earlier within (responds ∙ ap Some (sym first)) in
+    let ended = order.in_turn w.at k.at u w.end g.at.end w.there g.at.there earlier within (responds ∙ ap Some
+    (sym first)) in
     let grant_first = grant-first r a line w.at w.end w.grant (omega arith) w.there w.made w.granted in
     both_ways (is_ended p c w.grant.first) w.unended
     (ended-on p u c w.grant.first before (subst (λ x. is_ended p u x ≡ true) (sym grant_first) ended))
-  where
-    order-of : (x y : ℕ) → (y < x → ⊥) → (x ≡ y → ⊥) → x < y
-    order-of x y f g = elim (cases_lt x y) [
-      | inl l ↦ l
-      | inr m ↦ elim (cases_eq x y) [ inl e ↦ absurd (g e) | inr ne ↦ absurd (f (omega arith)) ]
-    ]
 
 -- so it is not promised where it responds
 pub responded-unpromised : (r : Run) (a n c q u : ℕ) → Timely r → KeepsBounds r.plan → n ≤ length r.trace
     → u ≤ c → u < length r.trace → responded_in (past_of r) u ≡ Some q → is_promised (past_of r) a n c q ≡ false
 unfolding is_promised
 responded-unpromised r a n c q u h bounds l before within responds =
-    false_from_ne_true (is_some_and (begun_at (past_of r) q) (λ claim. is_at (promise_told (past_of r) a claim.line n c) q)) (λ e.
-    let k = some-and (begun_at (past_of r) q) (λ (claim : Claim). is_at (promise_told (past_of r) a claim.line n c) q) e in
+    false_from_ne_true (is_some_and (begun_at (past_of r) q) (λ claim. is_at (promise_told
+    (past_of r) a claim.line n c) q)) (λ e.
+    let k = some-and (begun_at (past_of r) q) (λ (claim : Claim). is_at (promise_told
+    (past_of r) a claim.line n c) q) e in
     promised-unresponded r a k.0.line n c q u h bounds l before within
     (is_at-some (promise_told (past_of r) a k.0.line n c) q k.2) responds)

@@ -1,16 +1,15 @@
 -- What an agent begins at a clock, and what is cancelled there, in its view.
-use Rattle.std.proofs.Common.{ℕ, ◌+◌, ◌<◌, ◌≡◌, ◌≢◌, ◌⊎◌, ◌%◌, Bool, true, false, not, ◌&&◌, ◌||◌, List, [], ◌∷◌, ◌++◌, map, length, Option, Some, None, is_some, nat_eq, refl, sym, ap, subst, ◌∙◌, inl, inr, append-nil, arith, if◌then◌else◌}
+use Rattle.std.proofs.Common.{ℕ, ◌+◌, ◌≡◌, ◌≢◌, ◌⊎◌, ◌%◌, Bool, true, false, not, ◌&&◌, [], ◌∷◌, ◌++◌, map, length, Option, Some, None, is_some, nat_eq, refl, sym, ap, subst, ◌∙◌, inl, inr, append-nil, arith, if◌then◌else◌}
 use Rattle.std.specs.Prelude.{◌==◌}
 use Rattle.std.specs.List.{filter}
 use Rattle.std.specs.Option.{option_map}
 use Rattle.std.proofs.lemmas.Bool.{and_from, and_parts, both_ways, cases_Bool, eq-eqb, eqb-true, false_from_ne_true, ne_eqb}
 use Rattle.std.proofs.lemmas.List.{map-append}
 use Rattle.fsb_cache.specs.declared.held.Held.{Held}
-use Rattle.fsb_cache.specs.Sets.{CacheSets, sets_without, slot_of, states}
+use Rattle.fsb_cache.specs.Sets.{CacheSets, slot_of, states}
 use Rattle.fsb_count.specs.Options.{is_at, is_some_and}
 use Rattle.fsb_count.proofs.Interface.{is_at-some, nat_eq-sym}
 use Rattle.fsb_encode.specs.declared.request.Request.{Request}
-use Rattle.fsb_line.specs.declared.state.Mesi.{Mesi}
 use Rattle.fsb_line.specs.declared.state.Mesi.TheVariants.{Invalid}
 use Rattle.fsb_timely.specs.Past.{Claim, Owing, Past}
 use Rattle.fsb_timely.specs.Grants.{begun_at, holds_line, is_evicted, is_exclusive, is_rival, set_of}
@@ -25,14 +24,13 @@ use Rattle.fsb_run_laws.specs.RunSteps.{listed, owing_begun}
 use Rattle.fsb_run_laws.proofs.Interface.{begun-wanted}
 use Rattle.fsb_agent_view.specs.declared.want.OwnRequest.{OwnRequest}
 use Rattle.fsb_agent_view.specs.declared.want.Want.{Want}
-use Rattle.fsb_agent_view.specs.AgentViews.{AgentView, is_finished_at, line_state_by, number_at}
+use Rattle.fsb_agent_view.specs.AgentViews.{AgentView, is_finished_at, number_at}
 use Rattle.fsb_agent_view.specs.Arriving.{given_up}
 use Rattle.fsb_agent_view.specs.OwnRequests.{new_request}
-use Rattle.fsb_agent_view.specs.Sound.{is_in_set}
 use Rattle.fsb_agent_view.specs.Wanting.{sent, sets_cleared_for, want_by}
-use Rattle.fsb_agent_run.specs.RunViews.{HasLinesKept, HasLinesOf, HasRequestsOf, IsAgentOf, is_awaited, is_won_below, owing_by, state_told}
+use Rattle.fsb_agent_run.specs.RunViews.{HasRequestsOf, is_won_below, owing_by, state_told}
 use Rattle.fsb_agent_run.specs.Owings.{are_owings_apart}
-use Rattle.fsb_agent_run.specs.Stages.{IsPlacedThrough, IsViewAfterHit, IsViewAfterSent, IsViewBeforeSnoop, begun_by, is_uncancelled, owed_sent, owed_through}
+use Rattle.fsb_agent_run.specs.Stages.{IsPlacedThrough, IsViewAfterHit, IsViewAfterSent, IsViewBeforeSnoop, owings_begun, is_uncancelled, owed_sent, owed_through}
 use Rattle.fsb_agent_run.proofs.Among.{Among, among-either, filter-all, filter-same}
 use Rattle.fsb_agent_run.proofs.OutLists.{among-without, kept-of, map-without, requests-from, wanted-of}
 use Rattle.fsb_agent_run.proofs.OwedApart.{sent-apart}
@@ -72,12 +70,14 @@ state-cleared sets line other in_sets = by (slot_of sets line) refl
 
     rival-parts : rival ≡ true → (other % length sets ≡ line % length sets) × (other ≢ line)
     rival-parts t =
-        let parts = and_parts (line % length sets == other % length sets) (not (line == other)) t in
-        (sym (eqb-true (line % length sets) (other % length sets) parts.0),
-          λ e. (let f = rw (eq-eqb line other (sym e)) at parts.1 in let no : ⊥ = cc in no))
+        let parts = and_parts (line % length sets == other % length sets) (not (line == other)) t in (
+          sym (eqb-true (line % length sets) (other % length sets) parts.0),
+          λ e. (let f = rw (eq-eqb line other (sym e)) at parts.1 in let no : ⊥ = cc in no),
+        )
 
     -- what is no rival stays where only one line is dropped that is one
-    gone : rival ≡ true → states sets other ≡ Invalid → states sets other ≡ (if rival then Invalid else states sets other)
+    gone : rival ≡ true → states sets other ≡ Invalid
+        → states sets other ≡ (if rival then Invalid else states sets other)
     gone t e = rw t e
 
     stays : rival ≡ false → states sets other ≡ (if rival then Invalid else states sets other)
@@ -180,12 +180,13 @@ dropped-told held own dirty false = λ i. state_told (sym (all held) i) (sym (al
 
 -- what begins, as a list
 begun-one : (p : Past) (a c : ℕ) (owing : Owing) → owing_begun p c ≡ Some owing → owing.claim.agent ≡ a
-    → begun_by p a c ≡ owing ∷ []
-unfolding begun_by listed
+    → owings_begun p a c ≡ owing ∷ []
+unfolding owings_begun listed
 begun-one p a c owing e mine = rw (e, eq-eqb owing.claim.agent a mine) refl
 
-begun-none : (p : Past) (a c : ℕ) → ((claim : Claim) → begun_at p c ≡ Some claim → claim.agent ≢ a) → begun_by p a c ≡ []
-unfolding begun_by listed begun_at owing_begun
+begun-none : (p : Past) (a c : ℕ) → ((claim : Claim) → begun_at p c ≡ Some claim → claim.agent ≢ a)
+    → owings_begun p a c ≡ []
+unfolding owings_begun listed begun_at owing_begun
 begun-none p a c other = by (owing_begun p c) refl
   where
     by : (o : Option Owing) → owing_begun p c ≡ o → filter (is_own a) (listed o) ≡ []
@@ -211,8 +212,13 @@ wanted-there r a c claim v h begun mine view =
     let same : want.0.request ≡ b.0 = want.2 in
     let did = b.2 in
     let line = b.3 in
-    let first = b.4 in
-    (want.0, want.1, wants ∙ ap Some (sym same), owing, o.1, o.2,
+    let first = b.4 in (
+      want.0,
+      want.1,
+      wants ∙ ap Some (sym same),
+      owing,
+      o.1,
+      o.2,
       λ i. record {
         claim = record {
           first = sym first i;
@@ -220,7 +226,8 @@ wanted-there r a c claim v h begun mine view =
           line = (ap (λ (q : Request). q.line) same ∙ sym line) i;
         };
         did = (ap (λ (q : Request). q.did) same ∙ sym did) i;
-      })
+      },
+    )
 
 sent-as : (v : AgentView) (c number : ℕ) (want : Want) → want_by v c ≡ Some want
     → sent v c number ≡ record v {
@@ -273,7 +280,7 @@ sent-view r a c claim v h begun mine view =
         fills = view.lines.fills;
         in_sets = in_sets-cleared sets want.request.line view.lines.in_sets;
       };
-      requests = requests-from p a c (owed p a c ++ begun_by p a c) w
+      requests = requests-from p a c (owed p a c ++ owings_begun p a c) w
           (map-append (owing_by a) v.outs (fresh ∷ [])
           ∙ (λ i. view.requests.owed i
           ++ (sym (begun-one p a c (owing_by a fresh) own refl) i)))
@@ -297,7 +304,8 @@ pub unsent-view : (p : Past) (a c : ℕ) (v : AgentView)
 unfolding owed_sent
 unsent-view p a c v other view =
     let none = begun-none p a c other in
-    let list : owed p a c ++ begun_by p a c ≡ owed p a c = ap (λ xs. owed p a c ++ xs) none ∙ append-nil (owed p a c) in
+    let list : owed p a c ++ owings_begun p a c ≡ owed p a c = ap (λ xs. owed p a c ++ xs) none
+    ∙ append-nil (owed p a c) in
     record {
       agent = view.agent;
       placed = view.placed;
@@ -344,7 +352,8 @@ cancelled-view r a c q v h cancels view =
     }
 
 pub uncancelled-view : (r : Run) (a c : ℕ) (v : AgentView) → Reaches r (c + 1)
-    → ((q : ℕ) (claim : Claim) → cancelled_in (past_of r) c ≡ Some q → begun_at (past_of r) q ≡ Some claim → claim.agent ≢ a)
+    → ((q : ℕ) (claim : Claim) → cancelled_in (past_of r) c ≡ Some q → begun_at (past_of r) q ≡ Some claim
+    → claim.agent ≢ a)
     → IsViewAfterSent (past_of r) a c v → IsViewBeforeSnoop (past_of r) a c v
 unfolding owed_through is_uncancelled
 uncancelled-view r a c v h other view =

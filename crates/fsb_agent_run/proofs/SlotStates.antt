@@ -1,20 +1,21 @@
 -- The state of each line of a cache of which one set has something else, and that each set has a line of its own.
-use Rattle.std.proofs.Common.{ℕ, ◌+◌, ◌<◌, ◌≡◌, ◌≢◌, ◌%◌, ◌/◌, Bool, true, false, Option, Some, None, List, [], ◌∷◌, length, refl, sym, ap, subst, ◌∙◌, inl, inr, ⊎_elim, arith, if◌then◌else◌}
+use Rattle.std.proofs.Common.{ℕ, ◌<◌, ◌≡◌, ◌≢◌, ◌%◌, ◌/◌, true, false, Option, Some, None, List, [], ◌∷◌, length, refl, sym, ap, ◌∙◌, inl, inr, ⊎_elim, arith, if◌then◌else◌}
 use Rattle.std.specs.Prelude.{◌==◌, is_some}
 use Rattle.std.specs.List.{slice_index_or}
 use Rattle.std.specs.Option.{option_map, option_map_or}
-use Rattle.std.proofs.lemmas.Bool.{both_ways, cases_Bool, cases_eq, eq-eqb, eqb-true, ne_eqb}
+use Rattle.std.proofs.lemmas.Bool.{cases_Bool, cases_eq, eq-eqb, eqb-true, ne_eqb}
 use Rattle.fsb_cache.specs.declared.held.Held.{Held}
 use Rattle.fsb_cache.specs.Sets.{CacheSets, held_at, held_shared, held_stored, only_line, sets_filled, sets_shared, sets_stored, sets_without, slot_of, state_of_held, states, with_slot}
 use Rattle.fsb_line.specs.declared.state.Mesi.{Mesi}
-use Rattle.fsb_line.specs.declared.state.Mesi.TheVariants.{Exclusive, Invalid, Modified, Shared}
+use Rattle.fsb_line.specs.declared.state.Mesi.TheVariants.{Invalid, Modified, Shared}
 use Rattle.fsb_line.specs.States.{is_held}
 use Rattle.fsb_agent_view.specs.Sound.{is_in_set}
 use Rattle.fsb_agent_view.proofs.Interface.{length-with_slot, slot_of-other, slot_of-same}
 
 -- a line of that set
 pub state-same : (sets : CacheSets) (line other : ℕ) (slot : Option Held) → 0 < length sets
-    → other % length sets ≡ line % length sets → states (with_slot sets line slot) other ≡ state_of_held (only_line other slot)
+    → other % length sets ≡ line % length sets
+    → states (with_slot sets line slot) other ≡ state_of_held (only_line other slot)
 unfolding states held_at
 state-same sets line other slot some same = ap (λ s. state_of_held (only_line other s)) (slot_of-same sets line other slot some same)
 
@@ -85,11 +86,13 @@ state-filled sets line other state bytes some empty =
     (cases_eq other line)
 
 -- what a set has, by its line
-pub state-of-slot : (line : ℕ) (held : Held) → state_of_held (only_line line (Some held)) ≡ (if held.line == line then held.state else Invalid)
+pub state-of-slot : (line : ℕ) (held : Held)
+    → state_of_held (only_line line (Some held)) ≡ (if held.line == line then held.state else Invalid)
 state-of-slot line held = elim (cases_Bool (held.line == line)) [ inl on ↦ rw on refl | inr off ↦ rw off refl ]
 
 -- the line whose set has it is changed as it stands, and no other
-pub kept-line : (sets : CacheSets) (line other : ℕ) (held after : Held) → 0 < length sets → slot_of sets line ≡ Some held
+pub kept-line : (sets : CacheSets) (line other : ℕ) (held after : Held) → 0 < length sets
+    → slot_of sets line ≡ Some held
     → held.line ≡ line → after.line ≡ held.line
     → states (with_slot sets line (Some after)) other ≡ (if other == line then after.state else states sets other)
 kept-line sets line other held after some e is keeps =

@@ -1,14 +1,11 @@
 -- From before the snoop end of a clock to behind it: where the agent is granted a line, and where it is granted none.
-use Rattle.std.proofs.Common.{ℕ, ◌+◌, ◌<◌, ◌≤◌, ◌≡◌, ◌≢◌, ◌⊎◌, ◌%◌, Bool, true, false, cond, not, ◌&&◌, ◌||◌, List, [], ◌∷◌, ◌++◌, map, length, Option, Some, None, is_some, nat_eq, refl, sym, ap, subst, ◌∙◌, inl, inr, arith, ⊎_elim, if◌then◌else◌}
-use Rattle.std.specs.Prelude.{◌==◌}
-use Rattle.std.specs.List.{filter}
-use Rattle.std.specs.Option.{option_and_then}
-use Rattle.std.proofs.lemmas.Bool.{and_from, and_parts, both_ways, cases_Bool, cases_eq, eq-eqb, eqb-true, false_from_ne_true, ne_eqb, or_parts}
-use Rattle.fsb_cache.specs.Sets.{CacheSets, sets_filled, states}
-use Rattle.fsb_count.specs.Options.{is_at, is_some_and}
+use Rattle.std.proofs.Common.{ℕ, ◌+◌, ◌<◌, ◌≡◌, ◌≢◌, ◌%◌, true, false, not, ◌&&◌, ◌||◌, List, map, length, Option, Some, None, is_some, nat_eq, refl, sym, ap, subst, ◌∙◌, inl, inr, arith, ⊎_elim, if◌then◌else◌}
+use Rattle.std.proofs.lemmas.Bool.{and_from, both_ways, cases_Bool, cases_eq, eq-eqb, false_from_ne_true, ne_eqb, or_parts}
+use Rattle.fsb_cache.specs.Sets.{sets_filled}
+use Rattle.fsb_count.specs.Options.{is_some_and}
 use Rattle.fsb_line.specs.declared.state.Mesi.{Mesi}
 use Rattle.fsb_line.specs.declared.state.Mesi.TheVariants.{Invalid}
-use Rattle.fsb_timely.specs.Past.{Claim, Grant, Owing, Past, SnoopEnd}
+use Rattle.fsb_timely.specs.Past.{Claim, Grant, Past, SnoopEnd}
 use Rattle.fsb_timely.specs.Grants.{begun_at, grant_at, holds_line, is_ended, is_evicted, is_exclusive, is_granted, is_named_by_other, is_rival, is_taken_away, is_written_back, latest_grant, set_of, snooped_at}
 use Rattle.fsb_timely.specs.Hits.{is_dirty, is_hit, is_stored_since}
 use Rattle.fsb_timely.specs.Runs.{Run, past_of}
@@ -28,7 +25,7 @@ use Rattle.fsb_agent_view.specs.Snooping.{with_fill}
 use Rattle.fsb_agent_view.proofs.Interface.{length-with_slot}
 use Rattle.fsb_agent_run.specs.Owings.{are_owings_apart}
 use Rattle.fsb_agent_run.specs.RunViews.{HasRequestsOf, fill_count, is_awaited, is_won_below, one_if, owing_by, state_told}
-use Rattle.fsb_agent_run.specs.Stages.{IsViewAfterSnoop, IsViewBeforeSnoop, is_dirty_snooped, is_uncancelled, owed_sent, owed_through}
+use Rattle.fsb_agent_run.specs.Stages.{IsViewAfterSnoop, IsViewBeforeSnoop, is_uncancelled, owed_sent, owed_through}
 use Rattle.fsb_agent_run.proofs.Among.{Among, among-filter}
 use Rattle.fsb_agent_run.proofs.FillCounts.{count-push}
 use Rattle.fsb_agent_run.proofs.GrantsAwaited.{granted-unawaited}
@@ -39,7 +36,6 @@ use Rattle.fsb_agent_run.proofs.SentViews.{same-place}
 use Rattle.fsb_agent_run.proofs.SlotStates.{InSets, in_sets-filled, state-filled}
 use Rattle.fsb_agent_run.proofs.StoresTold.{any_stored, since-hit, since-none, stored-more}
 use Rattle.fsb_agent_run.proofs.ToldStates.{snooped-granted, snooped-kept, state_kept, state_snooped_at}
-use Rattle.fsb_agent_run.proofs.WonSteps.{won-still}
 
 -- the requests of a view before the snoop end are apart
 pub through-apart : (r : Run) (a c : ℕ) → Reaches r (c + 1)
@@ -80,7 +76,8 @@ number-other r a c n s v out h there other requests among same =
 
 -- the requests stay, where nothing is won at the clock
 pub requests-still : (r : Run) (a c : ℕ) (v w : AgentView) → w.outs ≡ v.outs
-    → ((out : OwnRequest) → Among out v.outs → is_won_below (past_of r) (c + 1) out.number ≡ is_won_below (past_of r) c out.number)
+    → ((out : OwnRequest) → Among out v.outs
+    → is_won_below (past_of r) (c + 1) out.number ≡ is_won_below (past_of r) c out.number)
     → HasRequestsOf (past_of r) a c (owed_through (past_of r) a c) v
     → HasRequestsOf (past_of r) a (c + 1) (owed_through (past_of r) a c) w
 requests-still r a c v w same won requests =
@@ -100,7 +97,8 @@ pub record LowersLines (p : Past) (a c : ℕ) (v w : AgentView) : Type 0 where
   pub in_sets : InSets w.lines
   pub size : length w.lines ≡ length v.lines
 
-awaited-kept : (p : Past) (a line c : ℕ) → is_granted p a line c ≡ false → is_awaited p a line (c + 1) c ≡ is_awaited p a line c c
+awaited-kept : (p : Past) (a line c : ℕ) → is_granted p a line c ≡ false
+    → is_awaited p a line (c + 1) c ≡ is_awaited p a line c c
 unfolding is_awaited
 awaited-kept p a line c none =
     ap (λ o. is_some_and o (λ grant. not (is_ended p c grant.first)))
@@ -130,14 +128,16 @@ lowered-view r a c v w none lowers same requests view =
             ∙ (λ i. if is_written_back p a line c || is_taken_away p a line c then Invalid
             else (if is_named_by_other p a line c then state_read (view.lines.states line i) else view.lines.states line i))
             ∙ sym (snooped-kept p a line c (none line));
-        fills = λ line. lowers.fills line ∙ view.lines.fills line ∙ ap one_if (sym (awaited-kept p a line c (none line)));
+        fills = λ line. lowers.fills line ∙ view.lines.fills line
+            ∙ ap one_if (sym (awaited-kept p a line c (none line)));
         in_sets = lowers.in_sets;
       };
       requests = requests;
     }
 
 -- no store counts above the end of a new grant
-new-unstored : (p : Past) (a line c q : ℕ) → is_stored_below p a line (c + 1) q ≡ false → is_stored_since p a line c q ≡ false
+new-unstored : (p : Past) (a line c q : ℕ) → is_stored_below p a line (c + 1) q ≡ false
+    → is_stored_since p a line c q ≡ false
 new-unstored p a line c q none = elim (cases_Bool (is_hit p a c)) [
   | inl hit ↦ since-hit p a line c q hit ∙ none
   | inr off ↦
@@ -177,7 +177,8 @@ rival-unheld r a line other c h asked apart same = false_from_ne_true (holds_lin
 pub granted-view : (r : Run) (a c number : ℕ) (grant : Grant) (state : Mesi) (bytes : List ℕ) (kept : Option (List ℕ))
     (v : AgentView) → Reaches r (c + 1) → 0 < r.plan.cache → grant_at (past_of r) c ≡ Some grant → grant.agent ≡ a
     → state ≡ state_granted grant
-    → ((line : ℕ) → line ≢ grant.line → (is_written_back (past_of r) a line c || is_taken_away (past_of r) a line c) ≡ false)
+    → ((line : ℕ) → line ≢ grant.line
+    → (is_written_back (past_of r) a line c || is_taken_away (past_of r) a line c) ≡ false)
     → ((line : ℕ) → is_named_by_other (past_of r) a line c ≡ false)
     → ((out : OwnRequest) → Among out (requests_granted number kept v.outs)
     → is_some out.kept ≡ is_won_below (past_of r) (c + 1) out.number)

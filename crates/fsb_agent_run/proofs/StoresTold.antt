@@ -1,7 +1,7 @@
 -- What the stores of a clock make of the states of an agent's lines: those of a hit, and those of an arrival.
-use Rattle.std.proofs.Common.{ℕ, zero, suc, ◌+◌, ◌<◌, ◌≤◌, ◌≡◌, Bool, true, false, not, ◌&&◌, ◌||◌, List, [], ◌∷◌, Option, Some, None, nat_eq, nat_lt, refl, sym, ap, subst, ◌∙◌, inl, inr, arith, if◌then◌else◌}
+use Rattle.std.proofs.Common.{ℕ, ◌+◌, ◌≡◌, Bool, true, false, ◌&&◌, ◌||◌, List, [], ◌∷◌, Option, Some, None, nat_eq, nat_lt, refl, sym, ap, ◌∙◌}
 use Rattle.std.specs.List.{list_any}
-use Rattle.std.proofs.lemmas.Bool.{and_parts, cases_Bool, eqb-true}
+use Rattle.std.proofs.lemmas.Bool.{eqb-true}
 use Rattle.fsb_access.specs.declared.log.Done.{Done}
 use Rattle.fsb_count.specs.Options.{is_some_and}
 use Rattle.fsb_count.proofs.Interface.{nat_lt-more}
@@ -10,10 +10,8 @@ use Rattle.fsb_line.specs.declared.state.Mesi.TheVariants.{Exclusive, Invalid, M
 use Rattle.fsb_timely.specs.Past.{Grant, Past}
 use Rattle.fsb_timely.specs.Grants.{has_arrived, holds_line, is_ended, is_exclusive, latest_grant}
 use Rattle.fsb_timely.specs.Hits.{is_counted, is_dirty, is_hit, is_store_on, is_stored_since}
-use Rattle.fsb_coherent.specs.Relation.{is_dirty_below, is_dirty_through, is_stored_below}
-use Rattle.fsb_coherent.proofs.Interface.{dirty-by-hits}
+use Rattle.fsb_coherent.specs.Relation.{is_dirty_below, is_stored_below}
 use Rattle.fsb_agent_run.specs.RunViews.{state_told}
-use Rattle.fsb_agent_run.specs.Stages.{is_dirty_snooped}
 use Rattle.fsb_agent_run.proofs.ToldStates.{state_snooped_at}
 
 -- agent a's entries of c store into the line

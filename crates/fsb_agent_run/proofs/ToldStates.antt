@@ -1,10 +1,10 @@
 -- The states that a run tells, in the words of agents and of runs, and by what a snoop end makes of them.
-use Rattle.std.proofs.Common.{ℕ, ◌+◌, ◌≡◌, Bool, true, false, not, ◌&&◌, ◌||◌, Option, Some, None, refl, sym, ap, ◌∙◌, if◌then◌else◌}
+use Rattle.std.proofs.Common.{ℕ, ◌+◌, ◌≡◌, Bool, true, false, not, ◌&&◌, ◌||◌, Some, refl, ap, ◌∙◌, if◌then◌else◌}
 use Rattle.fsb_count.specs.Options.{is_some_and}
 use Rattle.fsb_line.specs.declared.state.Mesi.{Mesi}
 use Rattle.fsb_line.specs.declared.state.Mesi.TheVariants.{Exclusive, Invalid, Modified, Shared}
 use Rattle.fsb_timely.specs.Past.{Grant, Past}
-use Rattle.fsb_timely.specs.Grants.{grant_at, holds_line, is_ended, is_evicted, is_exclusive, is_granted, is_lost, is_named_by_other, is_sole_grant, is_taken_away, is_written_back, latest_grant}
+use Rattle.fsb_timely.specs.Grants.{grant_at, holds_line, is_evicted, is_exclusive, is_granted, is_lost, is_named_by_other, is_sole_grant, is_taken_away, is_written_back, latest_grant}
 use Rattle.fsb_timely.specs.Hits.{is_dirty, is_stored_since}
 use Rattle.fsb_timely.proofs.Interface.{holds_line-more, is_exclusive-more, latest_grant-more}
 use Rattle.fsb_run_laws.specs.RunStates.{state_granted, state_of_tests, state_read}

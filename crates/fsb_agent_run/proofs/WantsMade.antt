@@ -33,11 +33,13 @@ any-owed : (p : Past) (a c : ℕ) (v : AgentView) (f : Owing → Bool) → HasRe
     → list_any (λ out. f (owing_by a out)) v.outs ≡ list_any f (owed p a c)
 any-owed p a c v f h = any-mapped a f v.outs ∙ ap (list_any f) h.owed
 
-length-owed : (p : Past) (a c : ℕ) (v : AgentView) → HasRequestsOf p a c (owed p a c) v → length v.outs ≡ length (owed p a c)
+length-owed : (p : Past) (a c : ℕ) (v : AgentView) → HasRequestsOf p a c (owed p a c) v
+    → length v.outs ≡ length (owed p a c)
 length-owed p a c v h = sym (length-map v.outs (owing_by a)) ∙ ap length h.owed
 
 -- the set of a line is taken
-taken-by : (p : Past) (a c : ℕ) (v : AgentView) (lines : List ℕ) (line : ℕ) → IsAgentOf p a v → HasRequestsOf p a c (owed p a c) v
+taken-by : (p : Past) (a c : ℕ) (v : AgentView) (lines : List ℕ) (line : ℕ) → IsAgentOf p a v
+    → HasRequestsOf p a c (owed p a c) v
     → is_taken_by v lines line ≡ is_set_taken p (owed p a c) lines line
 unfolding is_set_taken is_same_set set_of
 taken-by p a c v lines line is h =

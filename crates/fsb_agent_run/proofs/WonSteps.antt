@@ -1,8 +1,8 @@
 -- Which upgrades were won below a clock, one clock further.
-use Rattle.std.proofs.Common.{ℕ, zero, suc, ◌+◌, ◌<◌, ◌≤◌, ◌≡◌, ◌≢◌, Bool, true, false, not, ◌&&◌, Option, Some, None, is_some, length, nat_eq, refl, sym, ap, subst, ◌∙◌, inl, inr, arith}
+use Rattle.std.proofs.Common.{ℕ, ◌+◌, ◌<◌, ◌≤◌, ◌≡◌, ◌≢◌, Bool, false, ◌&&◌, Option, Some, None, is_some, length, refl, sym, ap, subst, ◌∙◌, inl, inr, arith}
 use Rattle.std.specs.Option.{option_and_then}
 use Rattle.std.proofs.lemmas.Bool.{cases_lt, eqb-true, false_from_ne_true}
-use Rattle.fsb_count.specs.Clocks.{any_where, first_where}
+use Rattle.fsb_count.specs.Clocks.{first_where}
 use Rattle.fsb_count.specs.Options.{is_some_and}
 use Rattle.fsb_count.proofs.Interface.{any_where-none, first_where-at, first_where-found, first_where-none, first_where-off}
 use Rattle.fsb_timely.specs.Past.{Past, SnoopEnd}

@@ -1,12 +1,11 @@
 -- What happens to an agent at a clock of a run, as its events.
-use Rattle.std.specs.Prelude.{ℕ, zero, suc, ◌+◌, Bool, true, false, nat_eq, if◌then◌else◌, List, [], ◌∷◌, ◌++◌, Option, Some, None}
+use Rattle.std.specs.Prelude.{ℕ, zero, suc, ◌+◌, Bool, nat_eq, if◌then◌else◌, List, [], ◌∷◌, ◌++◌, Option, Some, None}
 use Rattle.std.specs.List.{find, flat_map}
 use Rattle.std.specs.Option.{option_and_then, option_map, option_map_or}
 use Rattle.fsb_count.specs.Clocks.{first_where}
 use Rattle.fsb_count.specs.Options.{is_at, is_some_and}
-use Rattle.fsb_encode.specs.declared.request.Request.{Request}
 use Rattle.fsb_trace.specs.declared.outcome.Outcome.TheVariants as outcomes
-use Rattle.fsb_timely.specs.Past.{Claim, Grant, Past, SnoopEnd}
+use Rattle.fsb_timely.specs.Past.{Grant, Past, SnoopEnd}
 use Rattle.fsb_timely.specs.Grants.{begun_at, ended_requests, snooped_at}
 use Rattle.fsb_timely.specs.Moments.{is_snoop_of}
 use Rattle.fsb_timely.specs.Wants.{owed, want_of}
@@ -14,7 +13,7 @@ use Rattle.fsb_coherent.specs.Awaits.{awaited_by, cancelled_in, responded_in, sn
 use Rattle.fsb_coherent.specs.Relation.{giver_at}
 use Rattle.fsb_agent_view.specs.AgentEvents.{AgentEvent, Arrived, Committed, GivenUp, HandedOn, Performed, Sent, UpgradeEnded}
 
--- the first clock of agent a's outstanding request on the line: the number of what a reply with a grant of the line serves
+-- the first clock of agent a's outstanding request on the line: by that number a reply that grants the line serves it
 unfoldable pub number_asked : Past → ℕ → ℕ → ℕ → Option ℕ
 number_asked p a c line =
     option_map (λ owing. owing.claim.first) (find (λ owing. nat_eq owing.claim.line line) (owed p a c))
@@ -99,15 +98,16 @@ ended_events p a c bytes s = elim s.claim [
 unfoldable pub end_events_of : Past → ℕ → ℕ → (ℕ → List ℕ) → ℕ → List AgentEvent
 end_events_of p a c bytes q = option_map_or (ended_events p a c bytes) (snoop_end_below p (c + 1) q) []
 
--- what happens to agent a at c of a run, in order: it hands on bytes, performs its hit, sends its request, and gives up one
--- that is cancelled; it sees the clock's snoop end; and something ends for it. What its lines bring are these bytes, by the
--- numbers of their requests
+-- what happens to agent a at c of a run, in order: it hands on bytes, performs its hit, sends its request, and gives up
+-- one that is cancelled; it sees the clock's snoop end; and something ends for it. What its lines bring are these bytes,
+-- by the numbers of their requests
 unfoldable pub events_of_agent : Past → ℕ → ℕ → (ℕ → List ℕ) → List AgentEvent
 events_of_agent p a c bytes =
     handed_events p a c
     ++ (Performed c ∷ (sent_events p a c
     ++ (cancelled_events p a c
-    ++ (option_map_or (snoop_events_of p a c) (snooped_at p c) [] ++ flat_map (end_events_of p a c bytes) (ended_requests p c)))))
+    ++ (option_map_or (snoop_events_of p a c) (snooped_at p c) []
+    ++ flat_map (end_events_of p a c bytes) (ended_requests p c)))))
 
 -- what happens to agent a below clock n of a run, in order
 unfoldable pub events_of_agent_below : Past → ℕ → ℕ → (ℕ → List ℕ) → List AgentEvent

@@ -30,8 +30,8 @@ unfoldable pub is_given_below : Past → ℕ → ℕ → ℕ → Bool
 is_given_below p a n q = any_where (λ t. is_some_and (claim_given_at p a t) (λ claim. nat_eq claim.first q)) n
 
 -- agent a gives bytes by the snoop end at t, and they are not on the bus yet: the response is not below r
-unfoldable pub owes_from : Past → ℕ → ℕ → ℕ → Bool
-owes_from p a r t = is_some_and (claim_given_at p a t) (λ claim. not (is_responded_below p r claim.first))
+unfoldable pub owes_bytes_from : Past → ℕ → ℕ → ℕ → Bool
+owes_bytes_from p a r t = is_some_and (claim_given_at p a t) (λ claim. not (is_responded_below p r claim.first))
 
 -- agent a gives the line by the snoop end at t
 unfoldable pub gives_line_at : Past → ℕ → ℕ → ℕ → Bool
@@ -43,8 +43,8 @@ given_since p a line n t =
     if any_where (from_clock (t + 1) (is_granted p a line)) n then None
     else option_map (λ claim. claim.first) (claim_given_at p a t)
 
--- the request to which the bytes of a line are promised that agent a awaits: the last one for which a gave the line, where
--- that was after a's latest grant of it
+-- the request to which the bytes of a line are promised that agent a awaits: the last one for which a gave the line,
+-- where that was after a's latest grant of it
 unfoldable pub promise_told : Past → ℕ → ℕ → ℕ → ℕ → Option ℕ
 promise_told p a line n c =
     if is_awaited p a line n c
@@ -61,10 +61,10 @@ unfoldable pub is_pushed : Past → ℕ → ℕ → ℕ → ℕ → ℕ → Bool
 is_pushed p a n r c q =
     is_given_below p a n q && not (is_responded_below p r q) && not (is_promised p a n c q)
 
--- the record has what agent a owes by the snoop ends below n, whose responses are not below r, where the ends below c have
--- brought their bytes: one push for each request for which a has the bytes, and no other push; of each line the promise
--- that a made; and as many of both as there are requests to which a owes bytes
-pub record HasOwedOf (p : Past) (a n r c : ℕ) (v : AgentView) : Type 0 where
+-- the record has what agent a owes by the snoop ends below n, whose responses are not below r, where the ends below c
+-- have brought their bytes: one push for each request for which a has the bytes, and no other push; of each line the
+-- promise that a made; and as many of both as there are requests to which a owes bytes
+pub record HasBytesOwed (p : Past) (a n r c : ℕ) (v : AgentView) : Type 0 where
   pub pushes : (q : ℕ) → count_by (is_push_for q) v.buffers.pushes ≡ (if is_pushed p a n r c q then 1 else 0)
   pub promises : (line : ℕ) → promise_on line v.buffers.fills ≡ promise_told p a line n c
-  pub count : owed_count v.buffers ≡ count_where (owes_from p a r) n
+  pub count : owed_count v.buffers ≡ count_where (owes_bytes_from p a r) n

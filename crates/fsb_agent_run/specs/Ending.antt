@@ -1,5 +1,5 @@
 -- What ends for an agent at a clock.
-use Rattle.std.specs.Prelude.{◌≡◌, ◌≢◌, ℕ, ◌+◌, true, false, nat_eq, if◌then◌else◌, Option, Some, None}
+use Rattle.std.specs.Prelude.{◌≡◌, ℕ, ◌+◌, true, nat_eq, if◌then◌else◌, Option, Some, None}
 use Rattle.std.specs.Option.{option_and_then}
 use Rattle.fsb_trace.specs.Outcome.{is_deferral}
 use Rattle.fsb_timely.specs.Past.{Claim, Grant, Past, SnoopEnd}
@@ -7,8 +7,8 @@ use Rattle.fsb_timely.specs.Grants.{is_end_at}
 use Rattle.fsb_coherent.specs.Awaits.{snoop_end_below}
 use Rattle.fsb_agent_run.specs.AgentClocks.{number_asked}
 
--- the number of agent a's request that is not outstanding any more after the end at c of the request with this claim, first
--- clock and outcome: its own one, unless it is Deferred
+-- the number of agent a's request that is outstanding no more after the end of the request with this claim and snoop end:
+-- that of its own, unless it is Deferred
 unfoldable pub number_claimed : ℕ → SnoopEnd → Claim → Option ℕ
 number_claimed a s claim =
     if nat_eq claim.agent a then (if is_deferral s.outcome then None else Some s.first) else None
@@ -17,7 +17,7 @@ number_claimed a s claim =
 unfoldable pub number_replied : Past → ℕ → ℕ → Grant → Option ℕ
 number_replied p a c grant = if nat_eq grant.agent a then number_asked p a c grant.line else None
 
--- the number of agent a's request that is not outstanding any more after the end at c of the request with this snoop end
+-- the number of agent a's request that is outstanding no more after the end at c of the request with this snoop end
 unfoldable pub number_left : Past → ℕ → ℕ → SnoopEnd → Option ℕ
 number_left p a c s = elim s.claim [
   | Some claim ↦ number_claimed a s claim

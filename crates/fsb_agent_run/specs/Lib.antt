@@ -3,6 +3,4 @@ pub mod Stages
 pub mod AgentClocks
 pub mod Ending
 pub mod Owings
-pub mod AwaitedFills
 pub mod BytesOwed
-pub mod OwnEvents

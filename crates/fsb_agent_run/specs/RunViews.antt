@@ -83,8 +83,8 @@ one_if b = if b then 1 else 0
 unfoldable pub is_awaited : Past → ℕ → ℕ → ℕ → ℕ → Bool
 is_awaited p a line n c = is_some_and (latest_grant p a line n) (λ grant. not (is_ended p c grant.first))
 
--- the record has the lines so: each is in the state of one that is held or not, held alone or not, and dirty or not; it has
--- one fill where its bytes are awaited, and none elsewhere; and what a set has is a line of that set
+-- the record has the lines so: each is in the state of one that is held or not, held alone or not, and dirty or not; it
+-- has one fill where its bytes are awaited, and none elsewhere; and what a set has is a line of that set
 pub record HasLines (held alone dirty awaited : ℕ → Bool) (v : AgentView) : Type 0 where
   pub states : (line : ℕ) → line_state_by v line ≡ state_told (held line) (alone line) (dirty line)
   pub fills : (line : ℕ) → fill_count v line ≡ one_if (awaited line)
@@ -106,8 +106,8 @@ HasLinesKept p a c v =
 unfoldable pub is_won_below : Past → ℕ → ℕ → Bool
 is_won_below p n q = is_some_and (snoop_end_below p n q) (λ s. is_upgraded s.outcome && is_some s.grant)
 
--- the record has these outstanding requests of agent a, in order, each as what a wanted when it began; and it keeps bytes for
--- the upgrades that were won below n
+-- the record has these outstanding requests of agent a, in order, each as what a wanted when it began; and it keeps bytes
+-- for the upgrades that were won below n
 pub record HasRequestsOf (p : Past) (a n : ℕ) (owings : List Owing) (v : AgentView) : Type 0 where
   pub owed : map (owing_by a) v.outs ≡ owings
   pub wanted : (k : ℕ) (out : OwnRequest) → slice_get v.outs k ≡ Some out → want_of p a out.number ≡ Some out.request

@@ -1,5 +1,5 @@
--- The view of an agent in a run at a clock: before its hit, after its hit, after it has sent its request, before the clock's
--- snoop end, and after it.
+-- The view of an agent in a run at a clock: before its hit, after its hit, after it has sent its request, before the
+-- clock's snoop end, and after it.
 use Rattle.std.specs.Prelude.{◌≡◌, ℕ, ◌+◌, ◌++◌, ◌&&◌, ◌||◌, Bool, true, false, not, nat_eq, List}
 use Rattle.std.specs.List.{filter}
 use Rattle.fsb_count.specs.Options.{is_at, is_some_and}
@@ -21,8 +21,8 @@ is_dirty_snooped p a line c =
     && is_some_and (latest_grant p a line (c + 1)) (λ grant. grant.owns || is_stored_since p a line c grant.first)
 
 -- the request that agent a begins at c, as a list
-unfoldable pub begun_by : Past → ℕ → ℕ → List Owing
-begun_by p a c = filter (λ owing. nat_eq owing.claim.agent a) (listed (owing_begun p c))
+unfoldable pub owings_begun : Past → ℕ → ℕ → List Owing
+owings_begun p a c = filter (λ owing. nat_eq owing.claim.agent a) (listed (owing_begun p c))
 
 -- the request is not cancelled at c
 unfoldable pub is_uncancelled : Past → ℕ → Owing → Bool
@@ -30,14 +30,14 @@ is_uncancelled p c owing = not (is_at (cancelled_in p c) owing.claim.first)
 
 -- the outstanding requests of agent a at c, with the one that it begins there
 unfoldable pub owed_sent : Past → ℕ → ℕ → List Owing
-owed_sent p a c = owed p a c ++ begun_by p a c
+owed_sent p a c = owed p a c ++ owings_begun p a c
 
 -- the same, without the one that is cancelled there
 unfoldable pub owed_through : Past → ℕ → ℕ → List Owing
 owed_through p a c = filter (is_uncancelled p c) (owed_sent p a c)
 
--- the record is where agent a is in its script at c with its hit: where c finds it if it has none, and else where the next
--- clock finds it
+-- the record is where agent a is in its script at c with its hit: where c finds it if it has none, and else where the
+-- next clock finds it
 pub record IsPlacedThrough (p : Past) (a c : ℕ) (v : AgentView) : Type 0 where
   pub item : IsAtItem p a c (is_hit p a c) v
   pub before : is_hit p a c ≡ false → IsPlacedIn p a c v

@@ -14,7 +14,8 @@ ghost use Rattle.fsb_agent_run.specs.Stages.{IsViewOf};
 pub fn clocks_keep_views()
     ensures { (r : Run) (a c : ℕ) (bytes : ℕ → List ℕ) (v : AgentView) → Reaches r (c + 1) →
         0 < r.plan.cache → a < 4 → IsViewOf (past_of r) a c v →
-        IsViewOf (past_of r) a (c + 1) (fold agent_after v (events_of_agent (past_of r) a c bytes)) }
+        IsViewOf (past_of r) a (c + 1)
+        (fold agent_after v (events_of_agent (past_of r) a c bytes)) }
 {}
 
 /// An agent after its events below a clock of a timely run is as the run says.

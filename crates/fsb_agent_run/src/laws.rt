@@ -1,10 +1,9 @@
 //! Laws over the definitions: no code.
 
-ghost use Rattle.std.specs.Prelude.{◌≡◌, ◌<◌, ℕ, ◌+◌, ◌&&◌, Some, false, is_some, length, if◌then◌else◌};
+ghost use Rattle.std.specs.Prelude.{◌≡◌, ◌<◌, ◌⊎◌, ℕ, ◌+◌, ◌&&◌, Some, false, is_some, length, true, if◌then◌else◌};
 ghost use Rattle.std.specs.Option.{option_map};
-ghost use Rattle.fsb_line.specs.States.{kind_owns};
 ghost use Rattle.fsb_encode.specs.declared.request.Request.{Request};
-ghost use Rattle.fsb_timely.specs.Past.{Claim, Past};
+ghost use Rattle.fsb_timely.specs.Past.{Claim, Grant, Past, SnoopEnd};
 ghost use Rattle.fsb_timely.specs.Runs.{Run, past_of};
 ghost use Rattle.fsb_timely.specs.Timely.{Timely};
 ghost use Rattle.fsb_lawful.specs.Beginning.{KeepsBounds};
@@ -19,9 +18,11 @@ ghost use Rattle.fsb_agent_view.specs.declared.want.Want.{Want};
 ghost use Rattle.fsb_agent_view.specs.AgentViews.{AgentView, answer_by, is_idle_by, is_met_by, is_served_by, next_item_by};
 ghost use Rattle.fsb_agent_view.specs.Arriving.{is_arrival_by};
 ghost use Rattle.fsb_agent_view.specs.Completing.{completed_by, is_hit_by};
-ghost use Rattle.fsb_agent_view.specs.Snooping.{kind_asks};
+ghost use Rattle.fsb_agent_view.specs.OwnRequests.{request_numbered};
 ghost use Rattle.fsb_agent_view.specs.Wanting.{want_by, window_by};
-ghost use Rattle.fsb_agent_run.specs.RunViews.{CompletesItem, IsAgentOf, IsComing, IsPlacedIn};
+ghost use Rattle.fsb_run_laws.specs.Reaches.{Reaches};
+ghost use Rattle.fsb_agent_run.specs.Ending.{EndsFor};
+ghost use Rattle.fsb_agent_run.specs.RunViews.{IsAgentOf, IsPlacedIn};
 ghost use Rattle.fsb_agent_run.specs.Stages.{IsViewAfterHit, IsViewAfterSnoop, IsViewOf};
 
 use fsb_line::Answer;
@@ -51,14 +52,15 @@ pub fn views_go_by_the_run()
 {}
 
 /// A view of an agent has a hit exactly where the run has one. After the snoop end it has an
-/// arrival, where a line comes, exactly where the run has one.
+/// arrival, where a request of the agent ends that was granted, exactly where the run has one.
 pub fn hits_go_by_the_run()
     ensures hit { (p : Past) (a c : ℕ) (v : AgentView) → IsViewOf p a c v →
         is_hit_by v c ≡ is_hit p a c }
-    ensures arrival { (p : Past) (a c : ℕ) (v : AgentView) (out : OwnRequest) →
-        IsViewAfterSnoop p a c v →
-        IsComing p a c out.request.line (kind_owns (kind_asks out.request.kind)) →
-        is_arrival_by v c out ≡ is_arrival p a c }
+    ensures arrival { (r : Run) (a c number : ℕ) (s : SnoopEnd) (grant : Grant) (out : OwnRequest)
+        (v : AgentView) → Reaches r (c + 1) → EndsFor (past_of r) a c number s →
+        s.grant ≡ Some grant → IsViewAfterSnoop (past_of r) a c v →
+        request_numbered number v.outs ≡ Some out →
+        is_arrival_by v c out ≡ is_arrival (past_of r) a c }
 {}
 
 /// After its hit a view of an agent wants what the run says: the same request, line, kind and ID,
@@ -78,12 +80,15 @@ pub fn snoop_answers_go_by_the_run()
 {}
 
 /// The place of a view in its script by one clock: without an entry it stays, and where the agent
-/// completes its next item the view goes on as the run does, behind the idle items that follow.
+/// of a timely run has a hit or an arrival the view goes on behind the item that it completes, and
+/// behind the idle items that follow.
 pub fn places_of_views_step()
     ensures quiet { (p : Past) (a c : ℕ) (v : AgentView) → completes_at p a c ≡ false →
         IsPlacedIn p a c v → IsPlacedIn p a (c + 1) v }
-    ensures completed { (p : Past) (a c number : ℕ) (v : AgentView) → CompletesItem p a c number →
-        IsAgentOf p a v → IsPlacedIn p a c v → IsPlacedIn p a (c + 1) (completed_by v c) }
+    ensures completed { (r : Run) (a c : ℕ) (v : AgentView) → Reaches r (c + 1) → a < 4 →
+        (is_hit (past_of r) a c ≡ true) ⊎ (is_arrival (past_of r) a c ≡ true) →
+        IsAgentOf (past_of r) a v → IsPlacedIn (past_of r) a c v →
+        IsPlacedIn (past_of r) a (c + 1) (completed_by v c) }
 {}
 
 /// In a timely run what begins is what its agent wants there: so the record may keep the whole

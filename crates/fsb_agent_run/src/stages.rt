@@ -1,14 +1,14 @@
 //! Laws over the events of a clock: each leads from one moment of the clock to the next. No code.
 
-ghost use Rattle.std.specs.Prelude.{◌≡◌, ◌≢◌, ◌<◌, ◌⊎◌, ℕ, ◌+◌, Bool, List, [], None, Some, false, true};
+ghost use Rattle.std.specs.Prelude.{◌≡◌, ◌≢◌, ◌<◌, ◌⊎◌, ℕ, ◌+◌, Bool, List, None, Some, false, true};
 ghost use Rattle.fsb_encode.specs.declared.request.Request.{Request};
-ghost use Rattle.fsb_trace.specs.declared.outcome.Outcome.TheVariants.{Deferred, Retried, Upgraded, Written};
+ghost use Rattle.fsb_trace.specs.declared.outcome.Outcome.TheVariants.{Retried, Upgraded, Written};
 ghost use Rattle.fsb_timely.specs.Hits.{is_hit};
 ghost use Rattle.fsb_timely.specs.Past.{Claim, Grant, Past, SnoopEnd};
-ghost use Rattle.fsb_timely.specs.Grants.{begun_at, ended_requests, is_end_at, snooped_at};
+ghost use Rattle.fsb_timely.specs.Grants.{begun_at, snooped_at};
 ghost use Rattle.fsb_timely.specs.Runs.{Run, past_of};
 ghost use Rattle.fsb_timely.specs.Wants.{want_of};
-ghost use Rattle.fsb_coherent.specs.Awaits.{cancelled_in, snoop_end_below};
+ghost use Rattle.fsb_coherent.specs.Awaits.{cancelled_in};
 ghost use Rattle.fsb_run_laws.specs.Reaches.{Reaches};
 ghost use Rattle.fsb_agent_view.specs.AgentViews.{AgentView};
 ghost use Rattle.fsb_agent_view.specs.Arriving.{given_up, handed_on, line_arrived, upgrade_ended};
@@ -56,8 +56,8 @@ pub fn cancelled_requests_lead_on()
 {}
 
 /// The snoop end of an agent's own request leads to its view after the snoop end; so does that of a
-/// reply to its deferred request. That another agent was seen to hold the line is as the grant says;
-/// the request that is named besides the number is nothing to the agent whose own it is.
+/// reply to its deferred request. Whether another agent was seen to hold the line is as the grant
+/// says; the request that is named beside the number is nothing to the agent whose own it is.
 pub fn own_snoop_ends_lead_on()
     ensures claimed { (r : Run) (a c : ℕ) (s : SnoopEnd) (claim : Claim) (request : Request)
         (shared : Bool) (v : AgentView) → Reaches r (c + 1) → 0 < r.plan.cache →
@@ -74,9 +74,10 @@ pub fn own_snoop_ends_lead_on()
         (committed v number true request grant.shared s.outcome) }
 {}
 
-/// The snoop end of another agent's request leads to the view after the snoop end, where the request
-/// is what that agent wanted when it began it; that of a reply to another agent whatever is named;
-/// and without a snoop end, or with one that makes nothing of anybody's request, the view stays.
+/// The snoop end of another agent's request leads to the view after the snoop end, where the named
+/// request is what that agent wanted when it began it; that of a reply to another agent does so
+/// whatever is named; and without a snoop end, or with one that neither is of a claim nor makes a
+/// grant, the view stays.
 pub fn snoop_ends_of_others_lead_on()
     ensures claimed { (r : Run) (a c number : ℕ) (s : SnoopEnd) (claim : Claim) (request : Request)
         (shared : Bool) (v : AgentView) → Reaches r (c + 1) →
@@ -97,8 +98,8 @@ pub fn snoop_ends_of_others_lead_on()
 
 /// What ends for an agent at a clock leads from its view after the snoop end to the one that the
 /// next clock finds: a line comes for a request that was granted, whatever its bytes; an upgrade
-/// ends; a request was retried, or a write-back has ended. Where nothing ends for the agent its view
-/// stays.
+/// ends; a request was retried, or a write-back has ended. Where nothing ends for the agent, its
+/// view stays.
 pub fn ends_lead_on()
     ensures arrived { (r : Run) (a c number : ℕ) (s : SnoopEnd) (grant : Grant) (bytes : List ℕ)
         (v : AgentView) → Reaches r (c + 1) → 0 < r.plan.cache → a < 4 →

@@ -16,6 +16,10 @@ pub mod DeferralsTold
 pub mod HazardsDriven
 pub mod SnoopAnswers
 pub mod SnoopResult
+pub mod AdsGrown
+pub mod PairWords
+pub mod StepWith
+pub mod StepEntries
 pub mod AskedNow
 pub mod StartingNow
 pub mod LatestNext

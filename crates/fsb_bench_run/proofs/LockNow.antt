@@ -29,20 +29,22 @@ use Rattle.fsb_trace.specs.declared.who.Who.{Who}
 use Rattle.fsb_trace.specs.declared.who.Who.TheVariants.{Symmetric, Priority}
 use Rattle.fsb_encode.specs.declared.request.Request.{Request}
 use Rattle.fsb_bench_view.specs.declared.beginning.Starting.{Starting}
-use Rattle.fsb_bench_view.specs.BenchSteps.{step_decided, step_performed, step_run, was_held_at}
+use Rattle.fsb_bench_view.specs.BenchSteps.{step_decided, step_performed, was_held_at}
 use Rattle.fsb_bench_view.specs.BusDecisions.{asked_by}
 use Rattle.fsb_bench_view.specs.BusSample.{is_lock_driven}
 use Rattle.fsb_bench_view.specs.BusStarting.{starting_for, starting_reply, want_in}
 use Rattle.fsb_bench_view.specs.BusViews.{BenchView, clock_of}
 use Rattle.fsb_bench_run.specs.BenchOf.{IsBegunAt, IsBenchOf}
 use Rattle.fsb_bench_run.specs.LocksHeld.{keeps_into, kept_into}
-use Rattle.fsb_bench_run.proofs.DrivenLines.{line-new, lock-driven}
+use Rattle.fsb_bench_run.proofs.DrivenLines.{line-with, lock-driven}
 use Rattle.fsb_bench_run.proofs.LockedStarts.{locked-start}
 use Rattle.fsb_bench_run.proofs.LocksStay.{keeps_into-grown}
-use Rattle.fsb_bench_run.proofs.NextRun.{begins-now, grows-to}
 use Rattle.fsb_bench_run.proofs.StartingNow.{mapped-some, starting-begins, starting-parts, wanted-parts, winner-grown}
 use Rattle.fsb_bench_run.proofs.StepFields.{performed-begun}
 use Rattle.fsb_bench_run.proofs.ThisClock.{holds-now}
+use Rattle.fsb_access.specs.declared.log.Done.{Done}
+use Rattle.fsb_bench_run.proofs.RunWith.{run_with}
+use Rattle.fsb_bench_run.proofs.StepWith.{IsStepWith, begins-with}
 
 -- two tests are the same where each passes with the other
 pub same-bools : (a b : Bool) → (a ≡ true → b ≡ true) → (b ≡ true → a ≡ true) → a ≡ b
@@ -164,53 +166,53 @@ some-there None e = absurd (let no : ⊥ = cc in no)
 some-there (Some s) e = (s, refl)
 
 -- a locked request begins exactly where the run has one of an agent
-pub locked-now : (v : BenchView) (hold : Bool) (choice : Choice) → IsBenchOf v
+pub locked-now : (v : BenchView) (hold : Bool) (choice : Choice) (entries : List Done) → IsStepWith v hold choice entries
     → is_some_and (step_decided v hold).starting (λ (s : Starting). s.locked) ≡ true
-    → (a : ℕ) × (a < 4) × (is_locked_request (past_of (step_run v hold choice)) a (clock_of v) ≡ true)
-locked-now v hold choice b e =
+    → (a : ℕ) × (a < 4) × (is_locked_request (past_of (run_with v hold choice entries)) a (clock_of v) ≡ true)
+locked-now v hold choice entries b e =
     let r = v.run in
-    let s = step_run v hold choice in
-    let grows = grows-to v hold choice b in
+    let s = run_with v hold choice entries in
+    let grows = b.grows in
     let size = longer r s grows in
     let some = some-locked (step_decided v hold).starting e in
     let parts = starting-parts (step_performed v) (winner_at r.trace (clock_of v)) (clock_of v)
     (asked_by (step_performed v) (clock_of v)) (was_held_at r.holds (clock_of v)) some.0 some.1 in
     let k = locked-agent v hold some.0 parts.1 parts.3 some.2 in
-    let begins = starting-begins v hold choice some.0 b some.1 in
+    let begins = starting-begins v hold choice entries some.0 b some.1 in
     let mine = subst (λ w. IsBegunAt s (clock_of v) w some.0.request) k.2 begins in
     let begun = agent-begins s (clock_of v) k.0 some.0.request (omega arith) mine in
     let won = parts.2 ∙ ap Some k.1 in
-    (k.0, winner-four r.trace (clock_of v) k.0 won, sym (locked-start v hold choice some.0 k.0 b some.1 begun) ∙ some.2)
+    (k.0, winner-four r.trace (clock_of v) k.0 won, sym (locked-start v hold choice entries some.0 k.0 b some.1 begun) ∙ some.2)
 
-pub locking-now : (v : BenchView) (hold : Bool) (choice : Choice) (a : ℕ) → IsBenchOf v
-    → is_locked_request (past_of (step_run v hold choice)) a (clock_of v) ≡ true
+pub locking-now : (v : BenchView) (hold : Bool) (choice : Choice) (entries : List Done) (a : ℕ) → IsStepWith v hold choice entries
+    → is_locked_request (past_of (run_with v hold choice entries)) a (clock_of v) ≡ true
     → is_some_and (step_decided v hold).starting (λ (s : Starting). s.locked) ≡ true
-locking-now v hold choice a b e =
+locking-now v hold choice entries a b e =
     let r = v.run in
-    let s = step_run v hold choice in
-    let grows = grows-to v hold choice b in
+    let s = run_with v hold choice entries in
+    let grows = b.grows in
     let size = longer r s grows in
     let begun = locked-begins (past_of s) a (clock_of v) e in
     let ads = begun-ads s a (clock_of v) (omega arith) begun in
-    let some = some-there (step_decided v hold).starting (sym (begins-now v hold choice) ∙ ads) in
-    locked-some (step_decided v hold).starting some.0 some.1 (locked-start v hold choice some.0 a b some.1 begun ∙ e)
+    let some = some-there (step_decided v hold).starting (sym (begins-with v hold choice entries) ∙ ads) in
+    locked-some (step_decided v hold).starting some.0 some.1 (locked-start v hold choice entries some.0 a b some.1 begun ∙ e)
 
 kept-same : (v : BenchView) → IsBenchOf v → (step_performed v).kept ≡ kept_into (past_of v.run) (clock_of v)
 kept-same v b = (performed-begun v).kept ∙ b.kept
 
-pub lock-now : (v : BenchView) (hold : Bool) (choice : Choice) → IsBenchOf v
+pub lock-now : (v : BenchView) (hold : Bool) (choice : Choice) (entries : List Done) → IsStepWith v hold choice entries
     → is_lock_driven (step_performed v) (step_decided v hold).starting
-    ≡ any_where (keeps_lock (past_of (step_run v hold choice)) (clock_of v)) 4
-lock-now v hold choice b =
+    ≡ any_where (keeps_lock (past_of (run_with v hold choice entries)) (clock_of v)) 4
+lock-now v hold choice entries b =
     let r = v.run in
-    let s = step_run v hold choice in
+    let s = run_with v hold choice entries in
     let p = past_of s in
     let n = clock_of v in
-    let grows = grows-to v hold choice b in
+    let grows = b.grows in
     let locked = is_some_and (step_decided v hold).starting (λ (s : Starting). s.locked) in
     let kept = list_any (λ (kept : Bool). kept) (kept_into (past_of r) n) in
     let same : (list_any (λ (kept : Bool). kept) (step_performed v).kept || locked) ≡ (kept || locked) =
-    ap (λ xs. list_any (λ (kept : Bool). kept) xs || locked) (kept-same v b) in
+    ap (λ xs. list_any (λ (kept : Bool). kept) xs || locked) (kept-same v b.bench) in
     same ∙ same-bools (kept || locked) (any_where (keeps_lock p n) 4) (λ e.
     elim (or_cases kept locked e) [
       | inl t ↦
@@ -218,13 +220,13 @@ lock-now v hold choice b =
           any_where-at (keeps_lock p n) 4 k.0 k.1
           (keeps_lock-into p n k.0 ∙ or_right (is_locked_request p k.0 n) (keeps_into p n k.0) (keeps_into-grown r s k.0 grows ∙ k.2))
       | inr t ↦
-          let k = locked-now v hold choice b t in
+          let k = locked-now v hold choice entries b t in
           any_where-at (keeps_lock p n) 4 k.0 k.1
           (keeps_lock-into p n k.0 ∙ or_left (is_locked_request p k.0 n) (keeps_into p n k.0) k.2)
     ]) (λ e.
     let k = any_where-found (keeps_lock p n) 4 e in
     elim (or_cases (is_locked_request p k.0 n) (keeps_into p n k.0) (sym (keeps_lock-into p n k.0) ∙ k.2)) [
-      | inl t ↦ or_right kept locked (locking-now v hold choice k.0 b t)
+      | inl t ↦ or_right kept locked (locking-now v hold choice entries k.0 b t)
       | inr t ↦ or_left kept locked (kept-there (past_of r) n k.0 k.1 (sym (keeps_into-grown r s k.0 grows) ∙ t))
     ])
 
@@ -233,12 +235,12 @@ same-beq true b e = rw (sym e) refl
 same-beq false b e = rw (sym e) refl
 
 -- LOCK# is as it must
-pub lock-driven-now : (v : BenchView) (hold : Bool) (choice : Choice) → IsBenchOf v
-    → holds_at drives_lock (step_run v hold choice) (clock_of v) ≡ true
+pub lock-driven-now : (v : BenchView) (hold : Bool) (choice : Choice) (entries : List Done) → IsStepWith v hold choice entries
+    → holds_at drives_lock (run_with v hold choice entries) (clock_of v) ≡ true
 unfolding drives_lock
-lock-driven-now v hold choice b =
-    let s = step_run v hold choice in
-    holds-now drives_lock v.run s (grows-to v hold choice b)
+lock-driven-now v hold choice entries b =
+    let s = run_with v hold choice entries in
+    holds-now drives_lock v.run s b.grows
     (same-beq (line_at LOCK s.trace (clock_of v)) (any_where (keeps_lock (past_of s) (clock_of v)) 4)
-    (line-new v hold choice LOCK ∙ lock-driven (step_performed v) (clock_of v) v.run.plan.profile (step_decided v hold)
-    ∙ lock-now v hold choice b))
+    (line-with v hold choice entries LOCK ∙ lock-driven (step_performed v) (clock_of v) v.run.plan.profile (step_decided v hold)
+    ∙ lock-now v hold choice entries b))

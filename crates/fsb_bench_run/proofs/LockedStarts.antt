@@ -1,5 +1,5 @@
 -- The request that begins at the clock is a locked one exactly where the run says so.
-use Rattle.std.proofs.Common.{ℕ, ◌+◌, ◌<◌, ◌≤◌, ◌≡◌, Bool, true, false, nat_eq, Option, Some, None, is_some, length, if◌then◌else◌, slice_get, refl, sym, ap, subst, ◌∙◌, arith, inl, inr}
+use Rattle.std.proofs.Common.{ℕ, ◌+◌, ◌<◌, ◌≤◌, ◌≡◌, Bool, true, false, nat_eq, Option, Some, None, is_some, length, if◌then◌else◌, slice_get, refl, sym, ap, subst, ◌∙◌, arith, inl, inr, List}
 use Rattle.std.specs.Option.{option_and_then, option_map}
 use Rattle.std.proofs.lemmas.Bool.{cases_Bool, eqb-true}
 use Rattle.fsb_agent_view.specs.declared.want.Want.{Want}
@@ -23,15 +23,16 @@ use Rattle.fsb_trace.specs.declared.who.Who.{Who}
 use Rattle.fsb_trace.specs.declared.who.Who.TheVariants.{Symmetric, Priority}
 use Rattle.fsb_bench_view.specs.declared.beginning.Starting.{Starting}
 use Rattle.fsb_bench_view.specs.declared.decided.Asked.{Asked}
-use Rattle.fsb_bench_view.specs.BenchSteps.{step_decided, step_performed, step_run, was_held_at}
+use Rattle.fsb_bench_view.specs.BenchSteps.{step_decided, step_performed, was_held_at}
 use Rattle.fsb_bench_view.specs.BusDecisions.{asked_by}
 use Rattle.fsb_bench_view.specs.BusStarting.{starting_for, starting_reply, want_in}
 use Rattle.fsb_bench_view.specs.BusViews.{BenchView, clock_of}
-use Rattle.fsb_bench_run.specs.BenchOf.{IsBenchOf}
 use Rattle.fsb_bench_run.proofs.AskedNow.{locked-told}
-use Rattle.fsb_bench_run.proofs.NextRun.{begins-now, grows-to}
 use Rattle.fsb_bench_run.proofs.StartingNow.{and-some, mapped-some, starting-parts, wanted-parts, winner-grown}
 use Rattle.fsb_bench_run.proofs.ThisClock.{past-now}
+use Rattle.fsb_access.specs.declared.log.Done.{Done}
+use Rattle.fsb_bench_run.proofs.RunWith.{run_with}
+use Rattle.fsb_bench_run.proofs.StepWith.{IsStepWith, begins-with}
 
 -- the winner's claim is that of the agent
 agent-won : (w : Trace) (q a : ℕ) (o : Option Who) → winner_at w q ≡ o → agent_at w q ≡ Some a → o ≡ Some (Symmetric a)
@@ -75,32 +76,32 @@ unfolding is_locked_request
 locked-if p q a c begun e = rw (begun, is_locked_request) (ap (λ p. wants_lock p a c) e)
 
 -- what begins is a locked request of its agent exactly where the run says so
-locked-for : (v : BenchView) (hold : Bool) (choice : Choice) (starting : Starting) (a : ℕ) (who : Who) → IsBenchOf v
+locked-for : (v : BenchView) (hold : Bool) (choice : Choice) (entries : List Done) (starting : Starting) (a : ℕ) (who : Who) → IsStepWith v hold choice entries
     → winner_at v.run.trace (clock_of v) ≡ Some who → who ≡ Symmetric a
     → starting_for (step_performed v) (step_decided v hold).asked who ≡ Some starting
-    → starting.locked ≡ wants_lock (past_of (step_run v hold choice)) a (clock_of v)
-locked-for v hold choice starting a Priority b win e f = absurd (let no : ⊥ = cc in no)
-locked-for v hold choice starting a (Symmetric x) b win e f =
+    → starting.locked ≡ wants_lock (past_of (run_with v hold choice entries)) a (clock_of v)
+locked-for v hold choice entries starting a Priority b win e f = absurd (let no : ⊥ = cc in no)
+locked-for v hold choice entries starting a (Symmetric x) b win e f =
     let same : x ≡ a = cc in
     let parts = wanted-parts (step_performed v) x (want_in (step_decided v hold).asked x) starting f in
     let want : Want = parts.0 in
     let few = winner-four v.run.trace (clock_of v) x win in
-    sym (ap (λ (s : Starting). s.locked) parts.3) ∙ locked-told v hold choice x want b few parts.1
-    ∙ ap (λ a. wants_lock (past_of (step_run v hold choice)) a (clock_of v)) same
+    sym (ap (λ (s : Starting). s.locked) parts.3) ∙ locked-told v hold choice entries x want b few parts.1
+    ∙ ap (λ a. wants_lock (past_of (run_with v hold choice entries)) a (clock_of v)) same
 
-pub locked-start : (v : BenchView) (hold : Bool) (choice : Choice) (starting : Starting) (a : ℕ) → IsBenchOf v
+pub locked-start : (v : BenchView) (hold : Bool) (choice : Choice) (entries : List Done) (starting : Starting) (a : ℕ) → IsStepWith v hold choice entries
     → (step_decided v hold).starting ≡ Some starting
-    → is_begun_by (past_of (step_run v hold choice)) a (clock_of v) ≡ true
-    → starting.locked ≡ is_locked_request (past_of (step_run v hold choice)) a (clock_of v)
-locked-start v hold choice starting a b e begun =
+    → is_begun_by (past_of (run_with v hold choice entries)) a (clock_of v) ≡ true
+    → starting.locked ≡ is_locked_request (past_of (run_with v hold choice entries)) a (clock_of v)
+locked-start v hold choice entries starting a b e begun =
     let r = v.run in
-    let s = step_run v hold choice in
-    let grows = grows-to v hold choice b in
+    let s = run_with v hold choice entries in
+    let grows = b.grows in
     let size = longer r s grows in
     let parts = starting-parts (step_performed v) (winner_at r.trace (clock_of v)) (clock_of v)
     (asked_by (step_performed v) (clock_of v)) (was_held_at r.holds (clock_of v)) starting e in
     let win = begun-by-agent s a (clock_of v) (omega arith) begun in
     let one : Some parts.1 ≡ Some (Symmetric a) = sym parts.2 ∙ sym (winner-grown r s grows) ∙ win in
     let same : parts.1 ≡ Symmetric a = cc in
-    locked-for v hold choice starting a parts.1 b parts.2 same parts.3
+    locked-for v hold choice entries starting a parts.1 b parts.2 same parts.3
     ∙ sym (locked-if (past_of s) (past_of s) a (clock_of v) begun (past-now r s grows))

@@ -23,7 +23,7 @@ use Rattle.fsb_trace.specs.Outcome.{response_code_of}
 use Rattle.fsb_trace.specs.declared.outcome.Outcome.TheVariants.{Retried}
 use Rattle.fsb_trace.specs.Requests.{is_live, live_clock_of}
 use Rattle.fsb_bench_run.specs.LocksHeld.{keeps_into}
-use Rattle.fsb_bench_run.proofs.LatestNext.{last-same}
+use Rattle.fsb_bench_run.proofs.AdsGrown.{last-same}
 use Rattle.fsb_bench_run.proofs.StartedNext.{locked-same}
 
 -- the moments of the run are those of the longer one

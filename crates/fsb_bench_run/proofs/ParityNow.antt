@@ -14,15 +14,17 @@ use Rattle.fsb_signal.specs.Samples.{bit_of, has_line}
 use Rattle.fsb_timely.specs.ParityLines.{drives_parity, is_even_sample}
 use Rattle.fsb_timely.specs.Runs.{Run, past_of}
 use Rattle.fsb_timely.specs.Timely.{holds_at}
-use Rattle.fsb_bench_view.specs.BenchSteps.{step_decided, step_performed, step_run, step_sample}
+use Rattle.fsb_bench_view.specs.BenchSteps.{step_decided, step_performed, step_sample}
 use Rattle.fsb_bench_view.specs.BusSample.{parity_bits}
 use Rattle.fsb_bench_view.specs.BusViews.{BenchView, clock_of}
-use Rattle.fsb_bench_run.specs.BenchOf.{IsBenchOf}
 use Rattle.fsb_bench_run.proofs.DrivenLines.{ads-driven, ap0-driven, ap1-driven, parity_driven, rp-driven}
-use Rattle.fsb_bench_run.proofs.NextRun.{grows-to}
-use Rattle.fsb_bench_run.proofs.PairNow.{FitsWords, pair-due-now, step_pair}
+use Rattle.fsb_bench_run.proofs.PairNow.{pair-due-now}
+use Rattle.fsb_bench_run.proofs.PairWords.{step_pair}
 use Rattle.fsb_bench_run.proofs.SampleBits.{bit_in}
 use Rattle.fsb_bench_run.proofs.ThisClock.{holds-now}
+use Rattle.fsb_access.specs.declared.log.Done.{Done}
+use Rattle.fsb_bench_run.proofs.RunWith.{run_with}
+use Rattle.fsb_bench_run.proofs.StepWith.{IsStepWith, begins-with}
 
 -- a count is made even by one more where it is not
 evens : (k : ℕ) (b : Bool) → b ≡ not (is_even k) → is_even ((if b then 1 else 0) + k) ≡ true
@@ -88,18 +90,18 @@ unfolding drives_parity is_some_and
 parity-shown s n x at e = rw (at, is_some_and) e
 
 -- the parity lines are as they must
-pub parity-now : (v : BenchView) (hold : Bool) (choice : Choice) → IsBenchOf v
-    → holds_at drives_parity (step_run v hold choice) (clock_of v) ≡ true
-parity-now v hold choice b =
-    let s = step_run v hold choice in
+pub parity-now : (v : BenchView) (hold : Bool) (choice : Choice) (entries : List Done) → IsStepWith v hold choice entries
+    → holds_at drives_parity (run_with v hold choice entries) (clock_of v) ≡ true
+parity-now v hold choice entries b =
+    let s = run_with v hold choice entries in
     let n = clock_of v in
     let x = step_sample v hold in
     let d = step_decided v hold in
     let bus = step_performed v in
     let profile = v.run.plan.profile in
     let pair = step_pair v hold in
-    let fits = (pair-due-now v hold choice b).fits in
-    holds-now drives_parity v.run s (grows-to v hold choice b)
+    let fits = (pair-due-now v hold choice entries b).fits in
+    holds-now drives_parity v.run s b.grows
     (parity-shown s n x (one_more v.run.trace x).last
     (parity-by x pair (is_some d.starting) profile (mod-eq_of_lt fits.addr) (mod-eq_of_lt fits.req)
     (ads-driven bus n profile d) (ap0-driven bus n profile d) (ap1-driven bus n profile d) (rp-driven bus n profile d)))

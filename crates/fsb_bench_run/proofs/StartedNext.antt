@@ -23,13 +23,14 @@ use Rattle.fsb_trace.specs.declared.who.Who.{Who}
 use Rattle.fsb_trace.specs.declared.who.Who.TheVariants.{Symmetric, Priority}
 use Rattle.fsb_bench_view.specs.declared.beginning.Started.{Started}
 use Rattle.fsb_bench_view.specs.declared.beginning.Starting.{Starting}
-use Rattle.fsb_bench_view.specs.BenchSteps.{bench_stepped, step_decided, step_run}
+use Rattle.fsb_bench_view.specs.BenchSteps.{bench_stepped, step_decided, step_entries, step_run}
 use Rattle.fsb_bench_view.specs.BusViews.{BenchView, clock_of}
 use Rattle.fsb_bench_run.specs.BenchOf.{HasStarted, IsBegunAt, IsBenchOf}
 use Rattle.fsb_bench_run.proofs.BegunStays.{before-growth}
-use Rattle.fsb_bench_run.proofs.LatestNext.{ads-old, all-more}
+use Rattle.fsb_bench_run.proofs.AdsGrown.{all-more}
 use Rattle.fsb_bench_run.proofs.LockedStarts.{begun-by-agent, locked-start}
 use Rattle.fsb_bench_run.proofs.NextRun.{begins-now, grows-to}
+use Rattle.fsb_bench_run.proofs.StepEntries.{step-with}
 use Rattle.fsb_bench_run.proofs.StepFields.{started-stepped, started_after}
 use Rattle.fsb_phase_run.proofs.Interface.{agree-grown, longer}
 
@@ -109,4 +110,4 @@ pub started-next : (v : BenchView) (hold : Bool) (choice : Choice) → IsBenchOf
 started-next v hold choice b =
     subst (λ started. HasStarted started (step_run v hold choice)) (sym (started-stepped v hold choice))
     (started-by v.run (step_run v hold choice) v.bus.started (step_decided v hold).starting (grows-to v hold choice b) b.started
-    (begins-now v hold choice) (λ starting a e begun. locked-start v hold choice starting a b e begun))
+    (begins-now v hold choice) (λ starting a e begun. locked-start v hold choice (step_entries v hold) starting a (step-with v hold choice b) e begun))

@@ -1,5 +1,5 @@
 -- What begins at the clock is what the winner of the run would begin there.
-use Rattle.std.proofs.Common.{ℕ, ◌+◌, ◌<◌, ◌≤◌, ◌≡◌, Bool, true, false, not, Option, Some, None, is_some, length, if◌then◌else◌, slice_get, refl, sym, ap, subst, ◌∙◌, arith, inl, inr}
+use Rattle.std.proofs.Common.{ℕ, ◌+◌, ◌<◌, ◌≤◌, ◌≡◌, Bool, true, false, not, Option, Some, None, is_some, length, if◌then◌else◌, slice_get, refl, sym, ap, subst, ◌∙◌, arith, inl, inr, List}
 use Rattle.std.specs.Option.{option_and_then, option_map, option_map_or}
 use Rattle.std.proofs.lemmas.Bool.{cases_Bool}
 use Rattle.fsb_agent_view.specs.declared.want.Want.{Want}
@@ -23,14 +23,16 @@ use Rattle.fsb_trace.specs.declared.who.Who.TheVariants.{Symmetric, Priority}
 use Rattle.fsb_trace.proofs.Interface.{winner_at-agree}
 use Rattle.fsb_bench_view.specs.declared.beginning.Starting.{Starting}
 use Rattle.fsb_bench_view.specs.declared.decided.Asked.{Asked}
-use Rattle.fsb_bench_view.specs.BenchSteps.{step_decided, step_performed, step_run, was_held_at}
+use Rattle.fsb_bench_view.specs.BenchSteps.{step_decided, step_performed, was_held_at}
 use Rattle.fsb_bench_view.specs.BusDecisions.{asked_by}
 use Rattle.fsb_bench_view.specs.BusStarting.{is_kept_from, may_start, starting_by, starting_for, starting_reply, starting_want, want_in}
 use Rattle.fsb_bench_view.specs.BusViews.{BenchView, BusView, clock_of}
-use Rattle.fsb_bench_run.specs.BenchOf.{IsBegunAt, IsBenchOf}
+use Rattle.fsb_bench_run.specs.BenchOf.{IsBegunAt}
 use Rattle.fsb_bench_run.proofs.AskedNow.{due-told, wants-told}
-use Rattle.fsb_bench_run.proofs.NextRun.{begins-now, grows-to}
 use Rattle.fsb_bench_run.proofs.ThisClock.{past-now}
+use Rattle.fsb_access.specs.declared.log.Done.{Done}
+use Rattle.fsb_bench_run.proofs.RunWith.{run_with}
+use Rattle.fsb_bench_run.proofs.StepWith.{IsStepWith, begins-with}
 
 pub and-some : {X Y : Type 0} (f : X → Option Y) (o : Option X) (y : Y) → option_and_then f o ≡ Some y
     → (x : X) × (o ≡ Some x) × (f x ≡ Some y)
@@ -98,51 +100,51 @@ would-priority r s i deferral grows e k =
     ∙ ap (option_map reply_to) k.request
 
 -- the bench's due deferral is that of this request
-due-of : (v : BenchView) (hold : Bool) (choice : Choice) (deferral : Deferral) → IsBenchOf v
+due-of : (v : BenchView) (hold : Bool) (choice : Choice) (entries : List Done) (deferral : Deferral) → IsStepWith v hold choice entries
     → (step_decided v hold).asked.due ≡ Some deferral
-    → (i : ℕ) × (due_number (step_run v hold choice) (past_of (step_run v hold choice)) (clock_of v) ≡ Some i)
-    × IsDeferralOf (step_run v hold choice).trace deferral i
-due-of v hold choice deferral b e =
-    subst (λ o. IsThatOf (step_run v hold choice).trace o
-    (due_number (step_run v hold choice) (past_of (step_run v hold choice)) (clock_of v))) e (due-told v hold choice b)
+    → (i : ℕ) × (due_number (run_with v hold choice entries) (past_of (run_with v hold choice entries)) (clock_of v) ≡ Some i)
+    × IsDeferralOf (run_with v hold choice entries).trace deferral i
+due-of v hold choice entries deferral b e =
+    subst (λ o. IsThatOf (run_with v hold choice entries).trace o
+    (due_number (run_with v hold choice entries) (past_of (run_with v hold choice entries)) (clock_of v))) e (due-told v hold choice entries b)
 
-abbrev begun_now : BenchView → Bool → Choice → Starting → Type 0
-begun_now v hold choice starting = IsBegunAt (step_run v hold choice) (clock_of v) starting.who starting.request
+abbrev begun_now : BenchView → Bool → Choice → List Done → Starting → Type 0
+begun_now v hold choice entries starting = IsBegunAt (run_with v hold choice entries) (clock_of v) starting.who starting.request
 
-begun-for : (v : BenchView) (hold : Bool) (choice : Choice) (starting : Starting) (who : Who) → IsBenchOf v
+begun-for : (v : BenchView) (hold : Bool) (choice : Choice) (entries : List Done) (starting : Starting) (who : Who) → IsStepWith v hold choice entries
     → (step_decided v hold).starting ≡ Some starting → winner_at v.run.trace (clock_of v) ≡ Some who
-    → starting_for (step_performed v) (step_decided v hold).asked who ≡ Some starting → begun_now v hold choice starting
-begun-for v hold choice starting (Symmetric a) b e win f =
+    → starting_for (step_performed v) (step_decided v hold).asked who ≡ Some starting → begun_now v hold choice entries starting
+begun-for v hold choice entries starting (Symmetric a) b e win f =
     let r = v.run in
-    let s = step_run v hold choice in
-    let grows = grows-to v hold choice b in
+    let s = run_with v hold choice entries in
+    let grows = b.grows in
     let parts = wanted-parts (step_performed v) a (want_in (step_decided v hold).asked a) starting f in
     let want : Want = parts.0 in
     let few = winner-four r.trace (clock_of v) a win in
-    let told = sym (wants-told v hold choice a b few) ∙ ap (option_map (λ (want : Want). want.request)) parts.1 in
+    let told = sym (wants-told v hold choice entries a b few) ∙ ap (option_map (λ (want : Want). want.request)) parts.1 in
     let who = ap (λ (x : Starting). x.who) parts.3 in
     let request = ap (λ (x : Starting). x.request) parts.3 in
-    subst (λ x. begun_now v hold choice x) parts.3 (record {
-      begins = begins-now v hold choice ∙ ap is_some e;
+    subst (λ x. begun_now v hold choice entries x) parts.3 (record {
+      begins = begins-with v hold choice entries ∙ ap is_some e;
       winner = winner-grown r s grows ∙ win;
       wanted = would-symmetric r s a want.request grows told;
     })
-begun-for v hold choice starting Priority b e win f =
+begun-for v hold choice entries starting Priority b e win f =
     let r = v.run in
-    let s = step_run v hold choice in
-    let grows = grows-to v hold choice b in
+    let s = run_with v hold choice entries in
+    let grows = b.grows in
     let parts = mapped-some starting_reply (step_decided v hold).asked.due starting f in
     let deferral : Deferral = parts.0 in
-    let due = due-of v hold choice deferral b parts.1 in
-    subst (λ x. begun_now v hold choice x) parts.2 (record {
-      begins = begins-now v hold choice ∙ ap is_some e;
+    let due = due-of v hold choice entries deferral b parts.1 in
+    subst (λ x. begun_now v hold choice entries x) parts.2 (record {
+      begins = begins-with v hold choice entries ∙ ap is_some e;
       winner = winner-grown r s grows ∙ win;
       wanted = would-priority r s due.0 deferral grows due.1 due.2;
     })
 
-pub starting-begins : (v : BenchView) (hold : Bool) (choice : Choice) (starting : Starting) → IsBenchOf v
-    → (step_decided v hold).starting ≡ Some starting → IsBegunAt (step_run v hold choice) (clock_of v) starting.who starting.request
-starting-begins v hold choice starting b e =
+pub starting-begins : (v : BenchView) (hold : Bool) (choice : Choice) (entries : List Done) (starting : Starting) → IsStepWith v hold choice entries
+    → (step_decided v hold).starting ≡ Some starting → IsBegunAt (run_with v hold choice entries) (clock_of v) starting.who starting.request
+starting-begins v hold choice entries starting b e =
     let parts = starting-parts (step_performed v) (winner_at v.run.trace (clock_of v)) (clock_of v)
     (asked_by (step_performed v) (clock_of v)) (was_held_at v.run.holds (clock_of v)) starting e in
-    begun-for v hold choice starting parts.1 b e parts.2 parts.3
+    begun-for v hold choice entries starting parts.1 b e parts.2 parts.3

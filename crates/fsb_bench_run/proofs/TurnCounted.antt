@@ -33,7 +33,7 @@ use Rattle.fsb_phase_run.proofs.Interface.{longer}
 use Rattle.fsb_bench_view.specs.declared.beginning.Latest.{Latest}
 use Rattle.fsb_bench_view.specs.BusEvents.{waiting_started}
 use Rattle.fsb_bench_view.specs.BusSample.{is_latest_before}
-use Rattle.fsb_bench_run.specs.BenchOf.{IsBegunAt, waiting_begun}
+use Rattle.fsb_bench_run.specs.BenchOf.{IsBegunAt}
 use Rattle.fsb_bench_run.proofs.SnoopEntry.{IsSnoopedNow}
 
 -- the moments below the new clock are those of the run before

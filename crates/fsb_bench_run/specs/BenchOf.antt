@@ -1,7 +1,7 @@
 -- The bench that stands for its run.
-use Rattle.std.specs.Prelude.{◌≡◌, ℕ, true, if◌then◌else◌, is_some, List, length, map, Option, Some, slice_get}
+use Rattle.std.specs.Prelude.{◌≡◌, ℕ, true, is_some, List, length, map, Option, Some, slice_get}
 use Rattle.std.specs.List.{filter}
-use Rattle.std.specs.Option.{option_and_then, option_map, option_map_or}
+use Rattle.std.specs.Option.{option_and_then, option_map}
 use Rattle.fsb_count.specs.Clocks.{all_where, last_where}
 use Rattle.fsb_encode.specs.declared.request.Request.{Request}
 use Rattle.fsb_signal.specs.declared.lines.TheConstants.Lines.{ADS}
@@ -18,18 +18,15 @@ use Rattle.fsb_timely.specs.Starts.{would_begin}
 use Rattle.fsb_timely.specs.Timely.{Timely}
 use Rattle.fsb_lawful.specs.Beginning.{KeepsBounds}
 use Rattle.fsb_phase_run.specs.Holds.{HoldsRequests}
-use Rattle.fsb_bridge.specs.declared.deferral.Waiting.{Waiting}
 use Rattle.fsb_bridge.specs.Deferrals.{Bridged}
 use Rattle.fsb_bridge_run.specs.RunDeferrals.{HasDeferrals}
 use Rattle.fsb_agent_view.specs.AgentViews.{AgentView}
 use Rattle.fsb_agent_view.specs.Sound.{IsSound}
-use Rattle.fsb_agent_run.specs.BytesOwed.{HasOwedOf}
+use Rattle.fsb_agent_run.specs.BytesOwed.{HasBytesOwed}
 use Rattle.fsb_agent_run.specs.Stages.{IsViewOf}
 use Rattle.fsb_bench_view.specs.declared.beginning.Latest.{Latest}
 use Rattle.fsb_bench_view.specs.declared.beginning.Started.{Started}
 use Rattle.fsb_bench_view.specs.declared.snoop.Served.{Served}
-use Rattle.fsb_bench_view.specs.BusEvents.{waiting_started}
-use Rattle.fsb_bench_view.specs.BusSample.{is_latest_before}
 use Rattle.fsb_bench_view.specs.BusViews.{BenchView}
 use Rattle.fsb_bench_view.specs.MaySteps.{HasFlightOf, turns_of}
 use Rattle.fsb_bench_run.specs.LocksHeld.{kept_into}
@@ -44,7 +41,7 @@ pub record IsBegunAt (r : Run) (q : ℕ) (who : Who) (request : Request) : Type 
 pub record IsAgentNext (r : Run) (a : ℕ) (v : AgentView) : Type 0 where
   pub view : IsViewOf (past_of r) a (length r.trace) v
   pub sound : IsSound v
-  pub owed : HasOwedOf (past_of r) a (length r.trace) (length r.trace) (length r.trace) v
+  pub owed : HasBytesOwed (past_of r) a (length r.trace) (length r.trace) (length r.trace) v
 
 -- the four agents of the run, by their numbers
 pub record HasAgentsOf (agents : List AgentView) (r : Run) : Type 0 where
@@ -55,20 +52,10 @@ pub record HasAgentsOf (agents : List AgentView) (r : Run) : Type 0 where
 pub record HasBegun (queue : List Entry) (r : Run) : Type 0 where
   pub begun : (k : ℕ) (e : Entry) → slice_get queue k ≡ Some e → IsBegunAt r e.clock e.who e.request
 
--- these deferrals, with the reply that began at the clock before, if one did
-abbrev pub waiting_begun : Option Latest → ℕ → List Waiting → List Waiting
-waiting_begun latest clock waiting =
-    option_map_or
-    (λ last. if is_latest_before clock last then waiting_started last.request.did last.who waiting else waiting)
-    latest waiting
-
--- the bridge has the plan's window and the deferrals of the run that wait for their replies: the reply that began last is
--- under way, though the trace does not show its second clock yet
-pub record HasBridgeOf (bridge : Bridged) (latest : Option Latest) (r : Run) : Type 0 where
+-- the bridge has the plan's window and the deferrals of the run that wait for their replies at the next clock
+pub record HasBridgeOf (bridge : Bridged) (r : Run) : Type 0 where
   pub window : bridge.window ≡ r.plan.bridge
-  pub before : List Waiting
-  pub deferrals : HasDeferrals before r (length r.trace)
-  pub waiting : bridge.waiting ≡ waiting_begun latest (length r.trace) before
+  pub deferrals : HasDeferrals bridge.waiting r (length r.trace)
 
 -- the request that began last is the last one of the run
 pub record IsLatestOf (latest : Option Latest) (r : Run) : Type 0 where
@@ -110,7 +97,7 @@ pub record IsBenchOf (v : BenchView) : Type 0 where
   pub flight : HasFlightOf v.bus.queue v.run
   pub requests : HoldsRequests v.bus.queue v.run
   pub entries : HasBegun v.bus.queue v.run
-  pub bridge : HasBridgeOf v.bus.bridge v.bus.latest v.run
+  pub bridge : HasBridgeOf v.bus.bridge v.run
   pub latest : IsLatestOf v.bus.latest v.run
   pub started : HasStarted v.bus.started v.run
   pub served : HasServed v.bus.served v.bus.queue v.run

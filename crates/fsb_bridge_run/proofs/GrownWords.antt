@@ -39,7 +39,7 @@ use Rattle.fsb_bridge_run.proofs.LaterTraces.{GoesOnFrom, trace-finds}
 use Rattle.fsb_bridge_run.proofs.ListWords.{any-by, covered, due-in, reply-by}
 use Rattle.fsb_bridge_run.proofs.PriorityReplies.{begun-off, begun-on}
 use Rattle.fsb_bridge_run.proofs.RepliesAt.{reply_at-from, reply_at-off}
-use Rattle.fsb_bridge_run.proofs.RepliesTake.{hit-by, taken-in}
+use Rattle.fsb_bridge_run.proofs.RepliesTake.{hit-by, taken-in, there-in}
 
 whole : (r : Run) → (s : Run) → GrowsTo r s → KeepsBounds r.plan → Reaches r (length r.trace)
 whole r s grows bounds = record { timely = grows.timely; bounds = bounds; long = omega arith }
@@ -212,6 +212,17 @@ unfolding was_hit_before
 grown-hit r s end reply list grows bounds shows has there decoded replies =
     hit-by s.trace (deferral_of_id reply.did list) (number_served_at s (past_of s) (length r.trace))
     (grown-taken r s end reply list grows bounds shows has there decoded replies)
+
+pub grown-there : (r s : Run) (end : SnoopEnd) (reply : Request) (list : List Waiting) → GrowsTo r s
+    → KeepsBounds r.plan → ShowsBegun r s → HasDeferrals list r (length r.trace)
+    → snooped_at (past_of s) (length r.trace) ≡ Some end → request_at s.trace end.first ≡ Some reply
+    → is_reply_kind reply.kind ≡ true → is_some (deferral_of_id reply.did list) ≡ true
+grown-there r s end reply list grows bounds shows has there decoded replies =
+    let n = length r.trace in
+    let tied = tied-snoop s n end there in
+    there-in r n tied.0 end.first s.trace (turns_of s) reply list (whole r s grows bounds) (grown-same r s grows)
+    (record { reached = tied.1.reached; first = tied.1.first; decoded = decoded; replies = replies })
+    (grown-finds r s list grows bounds shows has)
 
 -- a request that is no reply finds room where its snoop end is
 pub grown-room : (r s : Run) (end : SnoopEnd) (request : Request) (list : List Waiting) → GrowsTo r s

@@ -21,3 +21,4 @@ pub mod RepliesTake
 pub mod GrownLists
 pub mod GrownWords
 pub mod ShownWords
+pub mod Interface

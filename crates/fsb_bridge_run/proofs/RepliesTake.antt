@@ -1,5 +1,5 @@
 -- The snoop end of a reply is for the deferral that its ID has in the list.
-use Rattle.std.proofs.Common.{ℕ, ◌+◌, ◌<◌, ◌≡◌, true, false, List, Option, Some, None, refl, sym, ap, subst, ◌∙◌, arith}
+use Rattle.std.proofs.Common.{ℕ, ◌+◌, ◌<◌, ◌≡◌, true, false, List, Option, Some, None, is_some, refl, sym, ap, subst, ◌∙◌, arith}
 use Rattle.std.specs.Option.{option_and_then, option_map_or}
 use Rattle.std.proofs.lemmas.Bool.{and_from, and_parts, eq-eqb, eqb-true, false_from_ne_true}
 use Rattle.fsb_count.specs.Options.{is_at, is_before, is_some_and}
@@ -114,6 +114,19 @@ pub taken-in : (r : Run) (n i q : ℕ) (w : Trace) (turns : List ℕ) (reply : R
 taken-in r n i q w turns reply list h s ends stands =
     let t = takes-in r n i q w turns reply h s ends in
     subst (IsThatOf w (deferral_of_id reply.did list)) (sym (served r n i q w turns reply h s ends t))
+    (deferral_of_id-reply list w turns n t.number i reply (trace-ids r n w turns h s) stands t.waiting t.answers t.asked)
+
+there-by : (w : Trace) (o : Option Deferral) (i : ℕ) → IsThatOf w o (Some i) → is_some o ≡ true
+there-by w None i e = absurd (let no : ⊥ = cc in no)
+there-by w (Some d) i e = refl
+
+-- which is there
+pub there-in : (r : Run) (n i q : ℕ) (w : Trace) (turns : List ℕ) (reply : Request) (list : List Waiting) → Reaches r n
+    → SameDeferrals n r.trace w (turns_of r) turns → ReplyEnds w n i q reply → StandsFor list w turns n
+    → is_some (deferral_of_id reply.did list) ≡ true
+there-in r n i q w turns reply list h s ends stands =
+    let t = takes-in r n i q w turns reply h s ends in
+    there-by w (deferral_of_id reply.did list) t.number
     (deferral_of_id-reply list w turns n t.number i reply (trace-ids r n w turns h s) stands t.waiting t.answers t.asked)
 
 pub hit-by : (w : Trace) (o : Option Deferral) (p : Option ℕ) → IsThatOf w o p

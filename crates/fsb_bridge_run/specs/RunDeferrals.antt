@@ -14,8 +14,8 @@ use Rattle.fsb_bridge_run.specs.DeferralSteps.{after_beginning}
 abbrev pub turns_of : Run → List ℕ
 turns_of r = turns_in (past_of r).moments
 
--- the list stands for the deferrals of the run that wait for their replies at n, as its first n samples show them: a reply
--- shows from its second clock on
+-- the list stands for the deferrals of the run that wait for their replies at n, as its first n samples show them: a
+-- reply shows from its second clock on
 abbrev pub ShowsDeferrals : List Waiting → Run → ℕ → Type 0
 ShowsDeferrals list r n = StandsFor list (take n r.trace) (turns_of r) n
 

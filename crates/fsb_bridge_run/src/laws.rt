@@ -33,8 +33,8 @@ pub fn runs_have_what_the_list_needs()
         HaveOwnIds (take n r.trace) (turns_of r) c }
 {}
 
-/// Before the first clock there is no deferral; and a list that has the deferrals of a run has those
-/// of the run that grows from it.
+/// Before the first clock there is no deferral; and a list that has the deferrals of a run has
+/// those of the run that grows from it.
 pub fn deferrals_start_and_stay()
     ensures first { (r : Run) → HasDeferrals [] r 0 }
     ensures grown { (r s : Run) (list : List Waiting) → GrowsTo r s →
@@ -60,8 +60,9 @@ pub fn deferrals_are_few()
         is_deferral s.outcome ≡ true → length list < 16 }
 {}
 
-/// A line is pending at a clock, for the words of the clock, exactly where the list waits for it; so
-/// the effective choice of a request whose snoop end may be there rests on the window and the list.
+/// A line is pending at a clock, for the words of the clock, exactly where the list waits for it;
+/// so the effective choice of a request whose snoop end may be there rests on the window and the
+/// list.
 pub fn pending_lines_are_those_of_the_list()
     ensures pending { (r : Run) (n line : ℕ) (list : List Waiting) → Reaches r (n + 1) →
         FindsDeferrals list r n →
@@ -103,8 +104,8 @@ pub fn replies_begin_as_due()
         ≡ (if begins_at r.trace n Priority then request_at r.trace n else None) }
 {}
 
-/// A reply has its snoop end for the deferral that its ID has in the list, and HIT# there is what it
-/// was at the snoop end of the request that was deferred.
+/// A reply has its snoop end for the deferral that its ID has in the list, and HIT# there is what
+/// it was at the snoop end of the request that was deferred.
 pub fn replies_take_their_deferrals()
     ensures deferral { (r : Run) (n : ℕ) (s : SnoopEnd) (reply : Request) (list : List Waiting) →
         Reaches r (n + 1) → FindsDeferrals list r n → snooped_at (past_of r) n ≡ Some s →
@@ -125,10 +126,10 @@ pub fn words_show_what_began()
         starts_requests s (past_of s) (length r.trace) ≡ true → ShowsBegun r s }
 {}
 
-/// What the next clock of a run finds in its list, before it is known that the clock is timely: only
-/// the request that began at the clock before has to show as what it is. The list stands for the
-/// deferrals, and has the pending lines, the due reply, and the deferral of a reply's snoop end; and
-/// there is room where the snoop end is that of any other request.
+/// What the next clock of a run finds in its list, before it is known that the clock is timely:
+/// only the request that began at the clock before has to show as what it is. The list stands for
+/// the deferrals, and has the pending lines, the due reply, and the deferral of a reply's snoop
+/// end; and there is room where the snoop end is that of any other request.
 pub fn growing_runs_have_the_deferrals()
     ensures found { (r s : Run) (list : List Waiting) → GrowsTo r s → KeepsBounds r.plan →
         ShowsBegun r s → HasDeferrals list r (length r.trace) →
@@ -165,6 +166,11 @@ pub fn growing_runs_have_the_deferrals()
         request_at s.trace end.first ≡ Some reply → is_reply_kind reply.kind ≡ true →
         was_hit_before s (past_of s) (length r.trace)
         ≡ option_map_or (λ deferral. deferral.shared) (deferral_of_id reply.did list) false }
+    ensures taken { (r s : Run) (end : SnoopEnd) (reply : Request) (list : List Waiting) →
+        GrowsTo r s → KeepsBounds r.plan → ShowsBegun r s → HasDeferrals list r (length r.trace) →
+        snooped_at (past_of s) (length r.trace) ≡ Some end →
+        request_at s.trace end.first ≡ Some reply → is_reply_kind reply.kind ≡ true →
+        is_some (deferral_of_id reply.did list) ≡ true }
     ensures room { (r s : Run) (end : SnoopEnd) (request : Request) (list : List Waiting) →
         GrowsTo r s → KeepsBounds r.plan → HasDeferrals list r (length r.trace) →
         snooped_at (past_of s) (length r.trace) ≡ Some end →

@@ -3,9 +3,9 @@
 //!
 //! A list has the deferrals of the run below a clock, where a reply is under way from its first
 //! clock on. The clock finds them so, and changes them by what happens at it: a reply begins, a
-//! reply is cancelled, a snoop end comes, a Deferred request responds. Each of these is a call of the
-//! bridge. What a timely run says of pending lines, of due replies and of replies' snoop ends is what
-//! the list says.
+//! reply is cancelled, a snoop end comes, a Deferred request responds. Each of these is a call of
+//! the bridge. What a timely run says of pending lines, of due replies and of replies' snoop ends
+//! is what the list says.
 #![tactic(auto)]
 
 pub use laws::{

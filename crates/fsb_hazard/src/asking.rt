@@ -9,48 +9,29 @@ use crate::line::HazardLine;
 use fsb_io::Memory;
 
 /// Asks each object in order, and joins the answers.
-pub fn ask_all(hazards: &mut [Box<dyn Hazard>], ask: &Ask) -> Choice
-    ensures joined { IsJoined (map (λ h. told h) hazards.old) ask.now result }
-    ensures told_stays { map (λ h. told h) hazards.new ≡ map (λ h. told h) hazards.old }
-    ensures kinds_stay { map (λ h. is_scripted h) hazards.new
-        ≡ map (λ h. is_scripted h) hazards.old }
+pub fn ask_all<H: Hazard>(hazards: &mut [H], ask: &Ask) -> Choice
+    ensures joined { IsJoined (map H.told hazards.old) ask.now result }
+    ensures told_stays { map H.told hazards.new ≡ map H.told hazards.old }
+    ensures kinds_stay { map H.is_scripted hazards.new
+        ≡ map H.is_scripted hazards.old }
 {
     let mut choice = quiet_choice();
     for hazard in hazards {
-        let answer = ask_one(hazard, ask);
+        let answer = hazard.choose(ask);
         choice = join(&choice, &answer);
     }
     choice
 }
 
 /// Gives each object the hazard lines, in order.
-pub fn load_all(hazards: &mut [Box<dyn Hazard>], lines: &[HazardLine]) -> Result<(), Memory>
-    ensures loaded { OnOk result (map (λ h. told h) hazards.new
-        ≡ map (λ h. told_after (is_scripted h) lines.now (told h)) hazards.old) }
-    ensures kinds_stay { map (λ h. is_scripted h) hazards.new
-        ≡ map (λ h. is_scripted h) hazards.old }
+pub fn load_all<H: Hazard>(hazards: &mut [H], lines: &[HazardLine]) -> Result<(), Memory>
+    ensures loaded { OnOk result (map H.told hazards.new
+        ≡ map (λ h. told_after (H.is_scripted h) lines.now (H.told h)) hazards.old) }
+    ensures kinds_stay { map H.is_scripted hazards.new
+        ≡ map H.is_scripted hazards.old }
 {
     for hazard in hazards {
-        load_one(hazard, lines)?;
+        hazard.load(lines)?;
     }
     Ok(())
-}
-
-/// Asks one object.
-fn ask_one(hazard: &mut Box<dyn Hazard>, ask: &Ask) -> Choice
-    ensures answer { IsAnswer (told hazard.old) ask.now result }
-    ensures told_stays { told hazard.new ≡ told hazard.old }
-    ensures kind_stays { is_scripted hazard.new ≡ is_scripted hazard.old }
-{
-    hazard.choose(ask)
-}
-
-/// Gives one object the hazard lines.
-fn load_one(hazard: &mut Box<dyn Hazard>, lines: &[HazardLine]) -> Result<(), Memory>
-    ensures loaded { OnOk result (
-        told hazard.new ≡ told_after (is_scripted hazard.old) lines.now (told hazard.old)) }
-    ensures told_stays { OnErr result (told hazard.new ≡ told hazard.old) }
-    ensures kind_stays { is_scripted hazard.new ≡ is_scripted hazard.old }
-{
-    hazard.load(lines)
 }

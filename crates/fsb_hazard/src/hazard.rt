@@ -29,3 +29,18 @@ pub trait Hazard: Drop {
         ensures told_stays { told self.new ≡ told self.old }
         ensures kind_stays { is_scripted self.new ≡ is_scripted self.old };
 }
+
+/// A box of an object is one: it tells what the object inside tells.
+impl Hazard for Box<dyn Hazard> {
+    ghost told = { λ b. (Hazard-box b).told b.value };
+
+    ghost is_scripted = { λ b. (Hazard-box b).is_scripted b.value };
+
+    fn load(&mut self, lines: &[HazardLine]) -> Result<(), Memory> {
+        (**self).load(lines)
+    }
+
+    fn choose(&mut self, ask: &Ask) -> Choice {
+        (**self).choose(ask)
+    }
+}

@@ -113,10 +113,12 @@ snooped-outstanding r n s claim h there claims =
     let k = snooped-by r n tied.0 s tied.1 in
     let above = k.above in
     let settles = (clock-facts r 0 n h.timely h.bounds (omega arith)).settles in
-    let begun = sym (settles.claimed s there) ∙ claims in
-    (begun, omega arith,
+    let begun = sym (settles.claimed s there) ∙ claims in (
+      begun,
+      omega arith,
       live-outstanding w n tied.0 s.first k.tied.first (omega arith) (no-reply r s.first claim (n + 1) h (omega arith) begun)
-      (not-before (last_clock_of w tied.0) n (λ x e. last-late w tied.0 x n (orderly-whole r n h.timely (omega arith)) k.tied.reached e)))
+          (not-before (last_clock_of w tied.0) n (λ x e. last-late w tied.0 x n (orderly-whole r n h.timely (omega arith)) k.tied.reached e)),
+    )
 
 -- what a reply serves that grants a line at n: a request that was Deferred before, and is outstanding at n
 pub record ServesOutstanding (r : Run) (n : ℕ) (grant : Grant) : Type 0 where
@@ -182,7 +184,8 @@ replied-outstanding r n s grant h there none made =
       claims = d.claims;
       agent = ap (λ (g : Grant). g.agent) a.made;
       line = d.names;
-      owns = sym (ap (λ (g : Grant). g.owns) a.made) ∙ ap is_owner_request (live-request w j d.end.first d.snooped.tied.first);
+      owns = sym (ap (λ (g : Grant). g.owns) a.made)
+          ∙ ap is_owner_request (live-request w j d.end.first d.snooped.tied.first);
       begun = begun.0;
       early = omega arith;
       out = live-outstanding w n j d.end.first d.snooped.tied.first (omega arith)
@@ -226,23 +229,26 @@ ending-serves r n q s grant h e below none made =
     let lower : Reaches r (a.clock + 1) = record { timely = h.timely; bounds = h.bounds; long = omega arith } in
     let begun = snooped-outstanding r a.clock d.end d.claim lower d.snooped.tied.there d.claims in
     let less = begun.1 in
-    let ends = last-live w n j d.end.first d.snooped.tied.first ∙ is_at-from (last_clock_of w j) n last in
-    (record {
-      claim = d.claim;
-      end = d.end;
-      clock = a.clock;
-      number = j;
-      before = omega arith;
-      snooped = d.snooped;
-      deferred = d.deferred;
-      claims = d.claims;
-      agent = ap (λ (g : Grant). g.agent) a.made;
-      line = d.names;
-      owns = sym (ap (λ (g : Grant). g.owns) a.made) ∙ ap is_owner_request (live-request w j d.end.first d.snooped.tied.first);
-      begun = begun.0;
-      early = omega arith;
-      out = last-outstanding r n d.end.first d.claim h begun.0 (omega arith) ends;
-    }, ends)
+    let ends = last-live w n j d.end.first d.snooped.tied.first ∙ is_at-from (last_clock_of w j) n last in (
+      record {
+        claim = d.claim;
+        end = d.end;
+        clock = a.clock;
+        number = j;
+        before = omega arith;
+        snooped = d.snooped;
+        deferred = d.deferred;
+        claims = d.claims;
+        agent = ap (λ (g : Grant). g.agent) a.made;
+        line = d.names;
+        owns = sym (ap (λ (g : Grant). g.owns) a.made)
+            ∙ ap is_owner_request (live-request w j d.end.first d.snooped.tied.first);
+        begun = begun.0;
+        early = omega arith;
+        out = last-outstanding r n d.end.first d.claim h begun.0 (omega arith) ends;
+      },
+      ends,
+    )
 
 -- a request stops being outstanding by its own end, for it is not Deferred
 pub record LeftByOwn (s : SnoopEnd) (claim : Claim) : Type 0 where

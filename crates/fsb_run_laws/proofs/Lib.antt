@@ -16,4 +16,5 @@ pub mod BroughtLines
 pub mod LastTold
 pub mod LastPuts
 pub mod LeftRequests
+pub mod StillOwed
 pub mod Interface

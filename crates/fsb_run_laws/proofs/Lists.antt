@@ -74,3 +74,24 @@ all-both t f (suc n) =
     by false c e = refl
     by true true e = rw e refl
     by true false e = rw e refl
+
+-- tests that give the same of what the clocks give
+pub filter-alike : {Y : Type 0} (f h : Y → Bool) (t : ℕ → Bool) (g : ℕ → Option Y) (n : ℕ)
+    → ((q : ℕ) (y : Y) → q < n → t q ≡ true → g q ≡ Some y → f y ≡ h y)
+    → filter f (filter_map g (all_where t n)) ≡ filter h (filter_map g (all_where t n))
+unfolding all_where listed
+filter-alike f h t g zero same = refl
+filter-alike {Y = Y} f h t g (suc n) same =
+    ap (filter f) more ∙ filter-append f (filter_map g (all_where t n)) (listed (given (t n) (g n)))
+    ∙ (λ i. filter-alike f h t g n (λ q y l. same q y (omega arith)) i ++ last (t n) (g n) refl refl i)
+    ∙ sym (filter-append h (filter_map g (all_where t n)) (listed (given (t n) (g n)))) ∙ sym (ap (filter h) more)
+  where
+    more : filter_map g (all_where t (suc n)) ≡ filter_map g (all_where t n) ++ listed (given (t n) (g n))
+    more = sym (ap (λ k. filter_map g (all_where t k)) (add-one n)) ∙ given-more t g n
+
+    last : (b : Bool) (o : Option Y) → t n ≡ b → g n ≡ o → filter f (listed (given b o)) ≡ filter h (listed (given b o))
+    last false o e d = refl
+    last true None e d = refl
+    last true (Some y) e d =
+        last-kept f (Some y) ∙ ap (λ c. listed (if c then Some y else None)) (same n y (omega arith) e d)
+        ∙ sym (last-kept h (Some y))

@@ -14,7 +14,7 @@ ghost use Rattle.fsb_timely.specs.Runs.{Run, past_of};
 ghost use Rattle.fsb_timely.specs.Wants.{outstanding_at, unsnooped_at, want_of};
 ghost use Rattle.fsb_coherent.specs.Awaits.{cancelled_in, responded_in, snoop_end_below};
 ghost use Rattle.fsb_run_laws.specs.Reaches.{Reaches};
-ghost use Rattle.fsb_run_laws.specs.RunSteps.{listed, open_claims, owing_begun, retried_in, stays_open};
+ghost use Rattle.fsb_run_laws.specs.RunSteps.{listed, open_claims, owing_begun, retried_in, stays_open, stays_owed};
 
 /// The moment of a clock has the response, the Retry and the ends of that clock as the whole trace
 /// of a timely run has them.
@@ -50,11 +50,16 @@ pub fn outstanding_lists_are_told()
 {}
 
 /// The outstanding requests one clock on: without those of which the clock is the last one as such,
-/// and with the one that begins. That one has the ID of what its agent wants at the clock.
+/// and with the one that begins. The moment tells which those are: the one that is cancelled, those
+/// that end and were not Deferred, and those whose replies end. The one that begins has the ID of
+/// what its agent wants at the clock.
 pub fn outstanding_lists_step()
     ensures list { (r : Run) (n : ℕ) → Reaches r (n + 1) → outstanding_at (past_of r) (n + 1)
         ≡ filter (λ owing. not (is_last_clock r.trace n owing.claim.first))
         (outstanding_at (past_of r) n) ++ listed (owing_begun (past_of r) n) }
+    ensures told { (r : Run) (n : ℕ) → Reaches r (n + 1) → outstanding_at (past_of r) (n + 1)
+        ≡ filter (λ owing. stays_owed (past_of r) n owing.claim) (outstanding_at (past_of r) n)
+        ++ listed (owing_begun (past_of r) n) }
     ensures begun { (r : Run) (n : ℕ) (owing : Owing) → Reaches r (n + 1) →
         owing_begun (past_of r) n ≡ Some owing →
         (request : Request) × (want_of (past_of r) owing.claim.agent n ≡ Some request)

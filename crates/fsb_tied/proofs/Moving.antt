@@ -108,7 +108,7 @@ any-of test q (x ∷ qs) e t =
       | inr other ↦ or_right (test x) (list_any test qs) (any-of test q qs (rw other at e) t)
     ]
 
-any-in : (test : ℕ → Bool) (qs : List ℕ) → list_any test qs ≡ true
+pub any-in : (test : ℕ → Bool) (qs : List ℕ) → list_any test qs ≡ true
     → (q : ℕ) × (list_any (nat_eq q) qs ≡ true) × (test q ≡ true)
 any-in test [] e = absurd (let no : ⊥ = cc in no)
 any-in test (x ∷ qs) e =

@@ -1,4 +1,4 @@
-use Rattle.fsb_bridge_run.proofs.GrownWords.{grown-any, grown-choice, grown-due, grown-finds, grown-hit, grown-pending, grown-room, grown-taken, grown-would}
+use Rattle.fsb_bridge_run.proofs.GrownWords.{grown-any, grown-choice, grown-due, grown-finds, grown-hit, grown-pending, grown-room, grown-taken, grown-there, grown-would}
 use Rattle.fsb_bridge_run.proofs.laws.growing_runs_have_the_deferrals.Goals as goal
 
 pub returns-clause-found : goal.returns-clause-found
@@ -27,3 +27,6 @@ returns-clause-hit c = grown-hit
 
 pub returns-clause-room : goal.returns-clause-room
 returns-clause-room c = grown-room
+
+pub returns-clause-taken : goal.returns-clause-taken
+returns-clause-taken c = grown-there

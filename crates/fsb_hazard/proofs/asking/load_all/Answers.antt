@@ -3,18 +3,18 @@ use Rattle.std.proofs.Math.Seq.{map-set_same}
 use Rattle.fsb_hazard.proofs.LoadedObjects.{loaded_at}
 use Rattle.fsb_hazard.proofs.asking.load_all.Goals as goal
 
-pub returns-in_err-load_one-clause-kinds_stay : goal.returns-in_err-load_one-clause-kinds_stay
-returns-in_err-load_one-clause-kinds_stay g c =
+pub returns-in_err-load-clause-kinds_stay : goal.returns-in_err-load-clause-kinds_stay
+returns-in_err-load-clause-kinds_stay g c =
     let l = c.loop-hazard in
-    map-set_same _ l.hazard-items l.hazard-index c.load_one.new.hazard c.hazard-item.result c.load_one.ensures.kind_stays ∙ l.invariant.kinds_stay
+    map-set_same _ l.hazard-items l.hazard-index c.load.new.self c.hazard-item.result c.load.ensures.kind_stays ∙ l.invariant.kinds_stay
 
 pub loop-hazard-preserved : goal.loop-hazard-preserved
 loop-hazard-preserved g c =
     let l = c.loop-hazard in
     let item = c.hazard-item.result in
-    let new = c.load_one.new.hazard in
+    let new = c.load.new.self in
     let within : l.hazard-index < length c.args.hazards.now = omega (arith, c.loop-hazard-test.true) in
     record {
-      loaded = loaded_at _ _ c.args.lines.now l.hazard-items c.args.hazards.now l.hazard-index item new within l.invariant.kinds_stay l.invariant.loaded c.in_ok-load_one.ensures.loaded;
-      kinds_stay = map-set_same _ l.hazard-items l.hazard-index new item c.load_one.ensures.kind_stays ∙ l.invariant.kinds_stay;
+      loaded = loaded_at _ _ c.args.lines.now l.hazard-items c.args.hazards.now l.hazard-index item new within l.invariant.kinds_stay l.invariant.loaded c.in_ok-load.ensures.loaded;
+      kinds_stay = map-set_same _ l.hazard-items l.hazard-index new item c.load.ensures.kind_stays ∙ l.invariant.kinds_stay;
     }

@@ -22,7 +22,7 @@ pub record IsOtherSnoopEnd (p : Past) (a t : ℕ) (s : SnoopEnd) (number : ℕ) 
   pub other : (claim : Claim) → s.claim ≡ Some claim → claim.agent ≢ a
   pub line : (claim : Claim) → s.claim ≡ Some claim → request.line ≡ claim.line
   pub kind : (claim : Claim) → s.claim ≡ Some claim → s.kind ≡ Some request.kind
-  pub number : (claim : Claim) → s.claim ≡ Some claim → number ≡ s.first
+  pub first : (claim : Claim) → s.claim ≡ Some claim → number ≡ s.first
   pub replied : s.claim ≡ None → (grant : Grant) × (s.grant ≡ Some grant) × (grant.agent ≢ a)
 
 -- agent a's own request has its end at c, or the reply that serves it has, after this snoop end
