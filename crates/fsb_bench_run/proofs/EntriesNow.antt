@@ -3,7 +3,7 @@ use Rattle.std.proofs.Common.{ℕ, zero, suc, ◌+◌, ◌<◌, ◌≤◌, ◌�
 use Rattle.std.specs.List.{filter, list_all, slice_get}
 use Rattle.std.specs.Option.{option_map_or}
 use Rattle.std.proofs.lemmas.Bool.{and_from, and_parts, cases_Bool, eqb-true, ltb-true, ne_eqb, eq-eqb}
-use Rattle.std.proofs.lemmas.List.{map-append}
+use Rattle.std.proofs.lemmas.Option.{slice_get_past}
 use Rattle.std.proofs.lemmas.List.Elements.{filter-append}
 use Rattle.fsb_access.specs.declared.access.Access.{Access}
 use Rattle.fsb_access.specs.declared.access.Access.TheVariants.{Load, Store}
@@ -82,24 +82,29 @@ all-completed (x ∷ xs) = and_from _ _ (completed-same x) (all-completed xs)
 pub completed-from : (xs ys : List Completed) → xs ≡ ys → are_completed xs ys ≡ true
 completed-from xs ys e = subst (λ zs. are_completed xs zs ≡ true) e (all-completed xs)
 
+-- these steps of an agent, as what it completes
+abbrev pub steps_completed : ℕ → List Step → List Completed
+steps_completed a steps = map {B = Completed} (λ step. record { agent = a; step = step }) steps
+
 -- the entries of steps are what the steps complete
 hand-completed : (a clock : ℕ) (hand : AtHand) (steps : List Step)
-    → map completed_of (entries_at_hand a clock hand steps) ≡ map (λ step. record { agent = a; step = step }) steps
+    → map completed_of (entries_at_hand a clock hand steps) ≡ steps_completed a steps
 hand-completed a clock hand [] = refl
 hand-completed a clock hand (step ∷ steps) =
     let rest = hand-completed a clock (hand_after hand step.access) steps in
-    ap (λ xs. record { agent = a; step = step } ∷ xs) rest
+    let first : Completed = record { agent = a; step = step } in ap (λ xs. first ∷ xs) rest
 
 -- what an agent completes with its next item
 next-by : (items : List Item) (a : ℕ) (number : Option ℕ)
-    → map (λ step. record { agent = a; step = step }) (steps_at items (place_of items number))
+    → steps_completed a (steps_at items (place_of items number))
     ≡ option_map_or (λ n. option_map_or (completed_of_item a n) (Rattle.std.specs.Option.option_and_then (slice_get items) number) []) number []
 unfolding completed_of_item
-next-by items a None = ?
+next-by items a None =
+    ap (λ o. steps_completed a (option_map_or (steps_of_item (length items)) o [])) (slice_get_past items (length items) (omega arith))
 next-by items a (Some n) = by (slice_get items n)
   where
-    by : (o : Option Item) → map (λ step. record { agent = a; step = step }) (option_map_or (steps_of_item n) o [])
-        ≡ option_map_or (λ item. map (λ step. record { agent = a; step = step }) (steps_of_item n item)) o []
+    by : (o : Option Item) → steps_completed a (option_map_or (steps_of_item n) o [])
+        ≡ option_map_or (λ item. steps_completed a (steps_of_item n item)) o []
     by None = refl
     by (Some item) = refl
 
@@ -111,7 +116,7 @@ completes-next p a n clock w k =
     let items = k.agent.items in
     let place = k.placed.place in
     hand-completed w.number clock (hand_of w) (next_steps w)
-    ∙ (λ i. map (λ step. record { agent = number i; step = step }) (steps_at (items i) (place i)))
+    ∙ (λ i. steps_completed (number i) (steps_at (items i) (place i)))
     ∙ next-by (items_of p a) a (next_number p a n)
 
 -- the entries of an agent's hit are what it completes by it

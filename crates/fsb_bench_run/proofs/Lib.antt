@@ -32,3 +32,4 @@ pub mod ParityNow
 pub mod SnoopTold
 pub mod QueueNext
 pub mod EntriesNow
+pub mod DeferralsNow
