@@ -33,3 +33,6 @@ pub mod SnoopTold
 pub mod QueueNext
 pub mod EntriesNow
 pub mod DeferralsNow
+pub mod AgentsNow
+pub mod HitsCompleted
+pub mod CompletionsNow

@@ -131,14 +131,14 @@ some-four a dirty held =
     ∙ (λ i. four-any d i || four-any h i)
 
 -- a list of four
-record IsFour (vs : List AgentView) : Type 0 where
+pub record IsFour (vs : List AgentView) : Type 0 where
   pub first : AgentView
   pub second : AgentView
   pub third : AgentView
   pub fourth : AgentView
   pub same : vs ≡ first ∷ (second ∷ (third ∷ (fourth ∷ [])))
 
-is-four : (vs : List AgentView) → length vs ≡ 4 → IsFour vs
+pub is-four : (vs : List AgentView) → length vs ≡ 4 → IsFour vs
 is-four [] e = absurd (omega arith)
 is-four (a ∷ []) e = absurd (omega arith)
 is-four (a ∷ (b ∷ [])) e = absurd (omega arith)

@@ -4,6 +4,12 @@
 //! one more clock of the bench is timely, and that the bench after the clock stands for it.
 #![tactic(auto)]
 
+pub use flight::queues_of_benches_go_on;
 pub use frame::clocks_add_to_runs;
+pub use responses::responses_are_driven;
+pub use snoops::snoops_are_driven;
 
+mod flight;
 mod frame;
+mod responses;
+mod snoops;
