@@ -36,7 +36,6 @@ unfolding run_to
 trace-to r s q grows l =
     ap (take (q + 1)) grows.next.more_trace ∙ take-append-le (q + 1) r.trace (grows.next.sample ∷ []) (omega arith)
 
-
 -- what an agent would begin rests on the samples and the past
 pub would-same : (r s : Run) (p : Past) (q : ℕ) (who : Who) → s.trace ≡ r.trace → would_begin s p q who ≡ would_begin r p q who
 unfolding would_begin due_number

@@ -119,6 +119,7 @@ error-entry v hold choice entries grows f t =
   where
     one : (a b : ℕ) → Some a ≡ Some b → a ≡ b
     one a b e = cc
+
     no-end : (i q : ℕ) (o : Option ℕ) → snoop_end_of v.run.trace i ≡ o → live_clock_of v.run.trace i ≡ Some q
         → length v.run.trace < q + 4 → snoop_end_of v.run.trace i ≡ None
     no-end i q None e c l = e

@@ -20,6 +20,8 @@ pub mod AdsGrown
 pub mod PairWords
 pub mod StepWith
 pub mod StepEntries
+pub mod AgentsTold
+pub mod LockedWants
 pub mod AskedNow
 pub mod StartingNow
 pub mod LatestNext
@@ -36,3 +38,4 @@ pub mod DeferralsNow
 pub mod AgentsNow
 pub mod HitsCompleted
 pub mod CompletionsNow
+pub mod AsksNow

@@ -230,7 +230,7 @@ lock-now v hold choice entries b =
       | inr t ↦ or_left kept locked (kept-there (past_of r) n k.0 k.1 (sym (keeps_into-grown r s k.0 grows) ∙ t))
     ])
 
-same-beq : (a b : Bool) → a ≡ b → beq a b ≡ true
+pub same-beq : (a b : Bool) → a ≡ b → beq a b ≡ true
 same-beq true b e = rw (sym e) refl
 same-beq false b e = rw (sym e) refl
 

@@ -141,7 +141,7 @@ back-parts s n e =
     let p = and_parts (nat_le 1 n) (line_at ADS s.trace (n - 1)) e in
     (leb-true 1 n p.0, p.1)
 
-begun-before : (s : Run) (n q : ℕ) (request : Request) → q + 1 ≡ n
+pub begun-before : (s : Run) (n q : ℕ) (request : Request) → q + 1 ≡ n
     → request_begun (run_to s q) (past_to (past_of s) q) q ≡ Some request → request_begun_before s (past_of s) n ≡ Some request
 unfolding request_begun_before
 begun-before s n q request e f =
@@ -149,7 +149,7 @@ begun-before s n q request e f =
     ap (λ k. request_begun (run_to s k) (past_to (past_of s) k) k) one ∙ f
 
 -- the last clock of a test, where a later one passes
-last-at : (p : ℕ → Bool) (n : ℕ) → p n ≡ true → last_where p (suc n) ≡ Some n
+pub last-at : (p : ℕ → Bool) (n : ℕ) → p n ≡ true → last_where p (suc n) ≡ Some n
 unfolding last_where
 last-at p n e = rw (e, last_where) refl
 

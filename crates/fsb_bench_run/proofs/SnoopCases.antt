@@ -50,7 +50,7 @@ snoop-cases v hold choice entries grows f =
       | inr g ↦ inr (record {
         none = snooped-shut bus drive (ap (λ b. drive.stall || b) (no-snoop r.trace queue g) ∙ or-true drive.stall);
         quiet = no-end-told r s queue grows f
-        (λ j y at. ends-here r queue x j y grows.timely f at ∙ and_left _ _ (g j y at));
+            (λ j y at. ends-here r queue x j y grows.timely f at ∙ and_left _ _ (g j y at));
       })
       | inl k ↦
           let now = snoops-now r queue f k in
@@ -58,7 +58,7 @@ snoop-cases v hold choice entries grows f =
             | inl t ↦ inr (record {
               none = snooped-shut bus drive (ap (λ b. b || is_none drive.snoop) t);
               quiet = no-end-told r s queue grows f
-              (λ j y at. ends-here r queue x j y grows.timely f at ∙ and_right _ _ (ap not (stall ∙ t)));
+                  (λ j y at. ends-here r queue x j y grows.timely f at ∙ and_right _ _ (ap not (stall ∙ t)));
             })
             | inr calm ↦
                 let ends = ends-here r queue x now.place now.entry grows.timely f now.at
@@ -70,7 +70,7 @@ snoop-cases v hold choice entries grows f =
                   ends = ends;
                   told = ends-told r s queue now.place now.entry grows f now.at ends;
                   decided = snooped-open bus drive now.entry calm (some-snoop r.trace queue now.entry now.search)
-                  (ap first_open same.queue ∙ now.first);
+                      (ap first_open same.queue ∙ now.first);
                 })
           ]
     ]

@@ -97,6 +97,7 @@ claimed-by v hold choice entries b grows k agent e =
   where
     same-request : (x y : Request) → Some x ≡ Some y → x ≡ y
     same-request x y e = cc
+
     some-at : (w : Trace) (c : ℕ) → c < length w → (x : Sample) × (slice_get w c ≡ Some x)
     some-at w c l = elim ((slice_get_cases w c).1) [
       | inr past ↦ absurd (let q : length w ≤ c = past.0 in omega arith)
@@ -306,7 +307,7 @@ result-by v hold choice entries b told answer grows k Priority e =
     let list : deferral_of_id did bus.bridge.waiting ≡ deferral_of_id did v.bus.bridge.waiting =
     ap (λ (x : Bridged). deferral_of_id did x.waiting) same.bridge in
     let started : (d : Deferral) → deferral_of_id did bus.bridge.waiting ≡ Some d
-        → (begun : Started) × (slice_get bus.started d.number ≡ Some begun) = λ d f.
+    → (begun : Started) × (slice_get bus.started d.number ≡ Some begun) = λ d f.
     let one = subst (λ o. IsThatOf s.trace o (number_served_at s p n)) (sym list ∙ f) that in
     let at = deferral-started v hold choice entries b grows k d one.0 one.1 one.2 in
     (at.0, ap (λ xs. slice_get xs d.number) same.started ∙ at.1) in

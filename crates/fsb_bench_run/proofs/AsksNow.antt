@@ -1,0 +1,135 @@
+-- The request lines of the clock are as they must.
+use Rattle.std.proofs.Common.{ℕ, zero, suc, ◌+◌, ◌-◌, ◌<◌, ◌≤◌, ◌≡◌, ◌&&◌, ◌==◌, Bool, true, false, not, is_some, nat_eq, nat_le, Option, Some, None, List, length, slice_get, if◌then◌else◌, refl, sym, ap, subst, ◌∙◌, arith, inl, inr}
+use Rattle.std.specs.Bool.{beq}
+use Rattle.std.specs.Option.{option_and_then, option_map, option_map_or}
+use Rattle.std.proofs.lemmas.Bool.{and_from, and_parts, and_right, both_ways, cases_Bool, eq-eqb, eqb-false, eqb-true, false_from_ne_true, le-leb, leb-true}
+use Rattle.fsb_access.specs.declared.log.Done.{Done}
+use Rattle.fsb_agent_view.specs.declared.want.Want.{Want}
+use Rattle.fsb_bridge.specs.declared.deferral.Deferral.{Deferral}
+use Rattle.fsb_bridge.specs.DeferralList.{IsThatOf}
+use Rattle.fsb_count.specs.Clocks.{each_where, last_where}
+use Rattle.fsb_count.specs.Options.{is_some_and}
+use Rattle.fsb_count.proofs.Interface.{each_where-all, nat_eq-sym}
+use Rattle.fsb_hazard.specs.declared.choice.Choice.{Choice}
+use Rattle.fsb_phase_run.proofs.Interface.{longer}
+use Rattle.fsb_signal.specs.declared.lines.TheConstants.Lines.{ADS, BREQ0, BREQ1, BREQ2, BREQ3}
+use Rattle.fsb_signal.specs.Samples.{line_at}
+use Rattle.fsb_timely.specs.Growth.{GrowsTo}
+use Rattle.fsb_timely.specs.Runs.{Run, past_of}
+use Rattle.fsb_timely.specs.Starts.{asks_for_bus, began_before}
+use Rattle.fsb_timely.specs.Wants.{want_of}
+use Rattle.fsb_trace.specs.Winner.{begins_at, bus_request_of, is_agent, is_same_agent, winner_at}
+use Rattle.fsb_trace.specs.declared.who.Who.{Who}
+use Rattle.fsb_trace.specs.declared.who.Who.TheVariants.{Symmetric, Priority}
+use Rattle.fsb_bench_view.specs.declared.beginning.Latest.{Latest}
+use Rattle.fsb_bench_view.specs.declared.decided.Decided.{Decided}
+use Rattle.fsb_bench_view.specs.BenchSteps.{step_decided, step_performed}
+use Rattle.fsb_bench_view.specs.BusSample.{began_by, is_asking, is_latest_before, is_same_who}
+use Rattle.fsb_bench_view.specs.BusStarting.{want_in}
+use Rattle.fsb_bench_view.specs.BusViews.{BenchView, BusView, clock_of}
+use Rattle.fsb_bench_run.specs.BenchOf.{IsBegunAt, IsLatestOf}
+use Rattle.fsb_bench_run.proofs.AdsGrown.{ads-old, last-below}
+use Rattle.fsb_bench_run.proofs.AskedNow.{wants-told}
+use Rattle.fsb_bench_run.proofs.BegunStays.{begun-stays}
+use Rattle.fsb_bench_run.proofs.DrivenLines.{breq0-driven, breq1-driven, breq2-driven, breq3-driven, line-with}
+use Rattle.fsb_bench_run.proofs.LockNow.{same-beq}
+use Rattle.fsb_bench_run.proofs.PairWords.{last-at}
+use Rattle.fsb_bench_run.proofs.RunWith.{run_with}
+use Rattle.fsb_bench_run.proofs.StepFields.{performed-begun}
+use Rattle.fsb_bench_run.proofs.StepWith.{IsStepWith}
+
+same-agents : (a b : Who) → is_same_agent b a ≡ is_same_who a b
+unfolding is_same_agent
+same-agents (Symmetric a) (Symmetric b) = nat_eq-sym b a
+same-agents (Symmetric a) Priority = refl
+same-agents Priority (Symmetric b) = refl
+same-agents Priority Priority = refl
+
+before-parts : (s : Run) (n : ℕ) (who : Who) → began_before s n who ≡ true → (1 ≤ n) × (line_at ADS s.trace (n - 1) ≡ true)
+unfolding began_before begins_at
+before-parts s n who e =
+    let p = and_parts (nat_le 1 n) (line_at ADS s.trace (n - 1) && is_agent (winner_at s.trace (n - 1)) who) e in
+    let q = and_parts (line_at ADS s.trace (n - 1)) (is_agent (winner_at s.trace (n - 1)) who) p.1 in
+    (leb-true 1 n p.0, q.0)
+
+before-off : (s : Run) (n : ℕ) (who : Who) → ((1 ≤ n) → line_at ADS s.trace (n - 1) ≡ true → ⊥) → began_before s n who ≡ false
+before-off s n who off =
+    false_from_ne_true (began_before s n who) (λ t. let p = before-parts s n who t in off p.0 p.1)
+
+before-on : (s : Run) (n q : ℕ) (last who : Who) → q + 1 ≡ n → line_at ADS s.trace q ≡ true → winner_at s.trace q ≡ Some last
+    → began_before s n who ≡ is_same_who last who
+unfolding began_before begins_at is_agent is_some_and
+before-on s n q last who e ads won =
+    let one : n - 1 ≡ q = omega arith in
+    rw (le-leb 1 n (omega arith), one, ads, won, begins_at, is_agent, is_some_and) (same-agents last who)
+
+began-latest : (r s : Run) (o : Option Latest) (who : Who) → GrowsTo r s → IsLatestOf o r
+    → began_by o (length r.trace) who ≡ began_before s (length r.trace) who
+unfolding is_some_and
+began-latest r s None who grows k =
+    let n = length r.trace in
+    sym (before-off s n who (λ low ads.
+    let old = sym (ads-old r s grows (n - 1) (omega arith)) ∙ ads in
+    let there = last-at (line_at ADS r.trace) (n - 1) old in
+    let size : suc (n - 1) ≡ n = omega arith in
+    let found = k.clock ∙ sym (ap (last_where (line_at ADS r.trace)) size) ∙ there in
+    let bad : ⊥ = cc in bad))
+began-latest r s (Some l) who grows k = by (l.clock + 1 == length r.trace) refl
+  where
+    by : (b : Bool) → (l.clock + 1 == length r.trace) ≡ b
+        → ((l.clock + 1 == length r.trace) && is_same_who l.who who) ≡ began_before s (length r.trace) who
+    by true e =
+        let n = length r.trace in
+        let before : l.clock + 1 ≡ n = eqb-true (l.clock + 1) n e in
+        let b = begun-stays r s l.clock l.who l.request grows (omega arith) (k.begun l refl) in
+        rw e (sym (before-on s n l.clock l.who who before b.begins b.winner))
+    by false e =
+        let n = length r.trace in
+        let apart = eqb-false (l.clock + 1) n e in
+        rw e (sym (before-off s n who (λ low ads.
+        let old = sym (ads-old r s grows (n - 1) (omega arith)) ∙ ads in
+        let there = last-at (line_at ADS r.trace) (n - 1) old in
+        let size : suc (n - 1) ≡ n = omega arith in
+        let found : Some l.clock ≡ Some (n - 1) = k.clock ∙ sym (ap (last_where (line_at ADS r.trace)) size) ∙ there in
+        let same : l.clock ≡ n - 1 = cc in
+        apart (omega arith))))
+
+some-mapped : (o : Option Want) → is_some o ≡ is_some (option_map (λ (want : Want). want.request) o)
+some-mapped None = refl
+some-mapped (Some w) = refl
+
+-- an agent asks for the bus as it must
+pub asking-now : (v : BenchView) (hold : Bool) (choice : Choice) (entries : List Done) (a : ℕ)
+    → IsStepWith v hold choice entries → a < 4
+    → is_asking (step_performed v) (clock_of v) (step_decided v hold) a
+    ≡ (is_some (want_of (past_of (run_with v hold choice entries)) a (clock_of v))
+    && not (began_before (run_with v hold choice entries) (clock_of v) (Symmetric a)))
+asking-now v hold choice entries a b few =
+    let s = run_with v hold choice entries in
+    let n = clock_of v in
+    let want = some-mapped (want_in (step_decided v hold).asked a) ∙ ap (λ o. is_some o) (wants-told v hold choice entries a b few) in
+    let latest = ap (λ o. began_by o n (Symmetric a)) (performed-begun v).latest
+    ∙ began-latest v.run s v.bus.latest (Symmetric a) b.grows b.bench.latest in
+    λ i. want i && not (latest i)
+
+bus-line : (v : BenchView) (hold : Bool) (choice : Choice) (entries : List Done) (a : ℕ) → a < 4
+    → line_at (bus_request_of a) (run_with v hold choice entries).trace (clock_of v)
+    ≡ is_asking (step_performed v) (clock_of v) (step_decided v hold) a
+unfolding bus_request_of
+bus-line v hold choice entries zero few =
+    line-with v hold choice entries BREQ0 ∙ breq0-driven (step_performed v) (clock_of v) v.run.plan.profile (step_decided v hold)
+bus-line v hold choice entries (suc zero) few =
+    line-with v hold choice entries BREQ1 ∙ breq1-driven (step_performed v) (clock_of v) v.run.plan.profile (step_decided v hold)
+bus-line v hold choice entries (suc (suc zero)) few =
+    line-with v hold choice entries BREQ2 ∙ breq2-driven (step_performed v) (clock_of v) v.run.plan.profile (step_decided v hold)
+bus-line v hold choice entries (suc (suc (suc zero))) few =
+    line-with v hold choice entries BREQ3 ∙ breq3-driven (step_performed v) (clock_of v) v.run.plan.profile (step_decided v hold)
+bus-line v hold choice entries (suc (suc (suc (suc a)))) few = absurd (omega arith)
+
+-- so BREQ# of each agent is as it must
+pub asks-now : (v : BenchView) (hold : Bool) (choice : Choice) (entries : List Done) (a : ℕ)
+    → IsStepWith v hold choice entries → a < 4
+    → asks_for_bus (run_with v hold choice entries) (past_of (run_with v hold choice entries)) (clock_of v) a ≡ true
+unfolding asks_for_bus
+asks-now v hold choice entries a b few =
+    same-beq _ _ (bus-line v hold choice entries a few ∙ asking-now v hold choice entries a b few)
