@@ -14,7 +14,6 @@ use Rattle.fsb_bench_view.specs.BenchSteps.{step_drive, step_fetched, step_perfo
 use Rattle.fsb_bench_view.specs.BusViews.{BenchView, BusView, clock_of}
 use Rattle.fsb_bench_view.specs.BytesFetched.{bus_fetched, bytes_from}
 use Rattle.fsb_bench_view.specs.ToldAgents.{agents_told, for_all}
-use Rattle.fsb_bench_run.proofs.AskedNow.{after-hits}
 use Rattle.fsb_bench_run.proofs.RunWith.{run_with}
 use Rattle.fsb_bench_run.proofs.SnoopAnswers.{AgentsAnswer}
 use Rattle.fsb_bench_run.proofs.StepWith.{IsStepWith}
@@ -38,5 +37,5 @@ pub agents-answer : (v : BenchView) (hold : Bool) (choice : Choice) (entries : L
 agents-answer v hold choice entries k = record {
   four = length-told (for_all (Performed (clock_of v))) 0 (step_fetched v).agents ∙ fetched-four v k.bench.agents.four;
   answers = λ b line w at.
-      answer-by (past_of (run_with v hold choice entries)) b (clock_of v) line w (after-hits v hold choice entries b w k at).lines;
+      answer-by (past_of (run_with v hold choice entries)) b (clock_of v) line w (k.hits.after b w at).lines;
 }

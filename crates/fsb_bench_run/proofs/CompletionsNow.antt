@@ -28,28 +28,30 @@ arrivals_at p n = of_all_agents (λ a. completed_if p n (is_arrival p a n) a)
 
 -- the entries of a clock are what is completed there, where those beside the hits' are what arrivals complete
 pub completions-now : (v : BenchView) (hold : Bool) (choice : Choice) (entries : List Done)
-    (k : IsStepWith v hold choice entries) → AgentsFound v (run_with v hold choice entries)
+    (others : List Done) → IsStepWith v hold choice entries → AgentsFound v (run_with v hold choice entries)
+    → entries ≡ hit_entries (clock_of v) (step_fetched v).agents ++ others
     → list_all (λ (done : Done). nat_eq done.clock (clock_of v)) entries ≡ true
-    → map completed_of k.others ≡ arrivals_at (past_of (run_with v hold choice entries)) (clock_of v)
+    → map completed_of others ≡ arrivals_at (past_of (run_with v hold choice entries)) (clock_of v)
     → logs_completions (run_with v hold choice entries) (past_of (run_with v hold choice entries)) (clock_of v) ≡ true
 unfolding logs_completions completed_at past_of
-completions-now v hold choice entries k found at others =
+completions-now v hold choice entries others k found split at told =
     let s = run_with v hold choice entries in
     let p = past_of s in
     let n = clock_of v in
     let hits = hits-completed v s found in
     completed-from (entries_at p n) (completed_at p n)
     (entries-there p n v.run.log entries refl k.bench.timely.in_time at
-    ∙ ap (map completed_of) k.split ∙ map-append completed_of (hit_entries n (step_fetched v).agents) k.others
-    ∙ (λ i. hits i ++ others i))
+    ∙ ap (map completed_of) split ∙ map-append completed_of (hit_entries n (step_fetched v).agents) others
+    ∙ (λ i. hits i ++ told i))
 
 pub logs-completions : (v : BenchView) (hold : Bool) (choice : Choice) (entries : List Done)
-    (k : IsStepWith v hold choice entries) → AgentsFound v (run_with v hold choice entries)
+    (others : List Done) → IsStepWith v hold choice entries → AgentsFound v (run_with v hold choice entries)
+    → entries ≡ hit_entries (clock_of v) (step_fetched v).agents ++ others
     → list_all (λ (done : Done). nat_eq done.clock (clock_of v)) entries ≡ true
-    → map completed_of k.others ≡ arrivals_at (past_of (run_with v hold choice entries)) (clock_of v)
+    → map completed_of others ≡ arrivals_at (past_of (run_with v hold choice entries)) (clock_of v)
     → holds_at logs_completions (run_with v hold choice entries) (clock_of v) ≡ true
-logs-completions v hold choice entries k found at others =
-    holds-now logs_completions v.run (run_with v hold choice entries) k.grows (completions-now v hold choice entries k found at others)
+logs-completions v hold choice entries others k found split at told =
+    holds-now logs_completions v.run (run_with v hold choice entries) k.grows (completions-now v hold choice entries others k found split at told)
 
 -- an entry at a clock of what is completed there, of value 0
 abbrev pub entry_at : ℕ → Completed → Done
@@ -65,10 +67,3 @@ entry_at n x = record {
 pub completed-entries : (n : ℕ) (xs : List Completed) → map completed_of (map (entry_at n) xs) ≡ xs
 completed-entries n [] = refl
 completed-entries n (x ∷ xs) = ap (λ ys. x ∷ ys) (completed-entries n xs)
-
--- (open) which entries are logged at the clock is nothing to what arrivals complete there
-pub arrivals-same : (v : BenchView) (hold : Bool) (choice : Choice) (entries others : List Done)
-    → IsStepWith v hold choice entries → IsStepWith v hold choice others
-    → arrivals_at (past_of (run_with v hold choice entries)) (clock_of v)
-    ≡ arrivals_at (past_of (run_with v hold choice others)) (clock_of v)
-arrivals-same v hold choice entries others k l = ?
