@@ -1,16 +1,14 @@
 -- The agents of a bench at its next clock: before the hits, and what they answer after them.
-use Rattle.std.proofs.Common.{ℕ, zero, suc, ◌+◌, ◌≡◌, Bool, Option, Some, None, List, [], ◌∷◌, length, refl, sym, ap, ◌∙◌, arith}
-use Rattle.std.specs.List.{slice_get}
+use Rattle.std.proofs.Common.{ℕ, suc, ◌+◌, ◌≡◌, Bool, Option, Some, None, List, [], ◌∷◌, length, refl, ap, ◌∙◌}
 use Rattle.fsb_access.specs.declared.log.Done.{Done}
 use Rattle.fsb_agent_view.specs.AgentEvents.{AgentEvent, HandedOn, Performed}
 use Rattle.fsb_agent_view.specs.AgentViews.{AgentView}
-use Rattle.fsb_agent_run.specs.Stages.{IsViewAfterHit, IsViewOf}
 use Rattle.fsb_agent_run.proofs.Interface.{answer-by}
 use Rattle.fsb_hazard.specs.declared.choice.Choice.{Choice}
-use Rattle.fsb_timely.specs.Runs.{Run, past_of}
+use Rattle.fsb_timely.specs.Runs.{past_of}
 use Rattle.fsb_bench_view.specs.declared.decided.BytesFrom.{BytesFrom}
 use Rattle.fsb_bench_view.specs.declared.decided.BytesFrom.TheVariants.{Memory, Agents}
-use Rattle.fsb_bench_view.specs.BenchSteps.{step_drive, step_fetched, step_performed}
+use Rattle.fsb_bench_view.specs.BenchSteps.{step_drive, step_fetched}
 use Rattle.fsb_bench_view.specs.BusViews.{BenchView, BusView, clock_of}
 use Rattle.fsb_bench_view.specs.BytesFetched.{bus_fetched, bytes_from}
 use Rattle.fsb_bench_view.specs.ToldAgents.{agents_told, for_all}

@@ -1,18 +1,14 @@
 -- Completions at a bench's next clock: the entries of the hits are those that the run completes by hits; what is left is
 -- that the others are those of the arrival.
-use Rattle.std.proofs.Common.{ℕ, ◌≡◌, ◌+◌, Bool, true, false, Option, Some, List, [], ◌∷◌, ◌++◌, length, map, nat_eq, refl, sym, ap, ◌∙◌, subst}
+use Rattle.std.proofs.Common.{ℕ, ◌≡◌, Bool, true, List, [], ◌∷◌, ◌++◌, map, nat_eq, refl, ap, ◌∙◌}
 use Rattle.std.specs.List.{list_all}
 use Rattle.std.proofs.lemmas.List.{map-append}
 use Rattle.fsb_access.specs.declared.log.Done.{Done}
 use Rattle.fsb_hazard.specs.declared.choice.Choice.{Choice}
-use Rattle.fsb_timely.specs.Completions.{Completed, completed_at, completed_if, entries_at, is_arrival, is_brought, is_there, logs_completions, of_all_agents}
-use Rattle.fsb_timely.specs.Growth.{GrowsTo}
-use Rattle.fsb_timely.specs.Hits.{is_hit}
-use Rattle.fsb_timely.specs.Past.{Moment, Past}
-use Rattle.fsb_timely.specs.Runs.{Run, past_of}
-use Rattle.fsb_timely.specs.Scripts.{Need}
+use Rattle.fsb_timely.specs.Completions.{Completed, completed_at, completed_if, entries_at, is_arrival, logs_completions, of_all_agents}
+use Rattle.fsb_timely.specs.Past.{Past}
+use Rattle.fsb_timely.specs.Runs.{past_of}
 use Rattle.fsb_timely.specs.Timely.{holds_at}
-use Rattle.fsb_script.specs.Plans.{PlanView}
 use Rattle.fsb_bench_view.specs.BenchSteps.{step_fetched}
 use Rattle.fsb_bench_view.specs.BusViews.{BenchView, clock_of}
 use Rattle.fsb_bench_view.specs.ToldAgents.{hit_entries}

@@ -1,5 +1,5 @@
 -- The list of deferrals of a bench tells of the next clock of its run what that has.
-use Rattle.std.proofs.Common.{ℕ, ◌≡◌, Bool, List, length}
+use Rattle.std.proofs.Common.{Bool, List}
 use Rattle.fsb_access.specs.declared.log.Done.{Done}
 use Rattle.fsb_bridge_run.specs.RunDeferrals.{ShowsBegun}
 use Rattle.fsb_bridge_run.proofs.Interface.{grown-hit, grown-pending, grown-taken, grown-there}

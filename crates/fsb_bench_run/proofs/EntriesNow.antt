@@ -1,8 +1,8 @@
 -- The entries of a clock, as what is completed there.
-use Rattle.std.proofs.Common.{ℕ, zero, suc, ◌+◌, ◌<◌, ◌≤◌, ◌≡◌, ◌&&◌, Bool, true, false, not, Option, Some, None, List, [], ◌∷◌, ◌++◌, length, map, nat_eq, nat_le, nat_lt, is_some, refl, sym, ap, ◌∙◌, arith, inl, inr, subst}
+use Rattle.std.proofs.Common.{ℕ, ◌<◌, ◌≡◌, ◌&&◌, Bool, true, false, Option, Some, None, List, [], ◌∷◌, ◌++◌, length, map, nat_eq, nat_le, nat_lt, refl, ap, ◌∙◌, arith, subst}
 use Rattle.std.specs.List.{filter, list_all, slice_get}
 use Rattle.std.specs.Option.{option_map_or}
-use Rattle.std.proofs.lemmas.Bool.{and_from, and_parts, cases_Bool, eqb-true, ltb-true, ne_eqb, eq-eqb}
+use Rattle.std.proofs.lemmas.Bool.{and_from, and_parts, ltb-true, ne_eqb, eq-eqb}
 use Rattle.std.proofs.lemmas.Option.{slice_get_past}
 use Rattle.std.proofs.lemmas.List.Elements.{filter-append}
 use Rattle.fsb_access.specs.declared.access.Access.{Access}
@@ -20,7 +20,6 @@ use Rattle.fsb_agent_run.specs.Stages.{IsViewOf}
 use Rattle.fsb_timely.specs.Completions.{Completed, are_completed, completed_if, completed_of_item, entries_at, is_access, is_completed, is_in_time, is_operand, next_accesses}
 use Rattle.fsb_timely.specs.Hits.{is_hit}
 use Rattle.fsb_timely.specs.Past.{Past}
-use Rattle.fsb_timely.specs.Runs.{Run, past_of}
 use Rattle.fsb_timely.specs.Scripts.{items_of, next_item, next_number}
 
 -- an entry without its clock and its value

@@ -1,25 +1,21 @@
 -- The hazard lines of a clock are as they must be.
-use Rattle.std.proofs.Common.{ℕ, zero, suc, ◌+◌, ◌-◌, ◌<◌, ◌≤◌, ◌≡◌, ◌&&◌, ◌||◌, Bool, true, false, not, Option, Some, None, List, [], ◌∷◌, ◌++◌, length, is_none, is_some, nat_eq, nat_le, take, refl, sym, ap, ◌∙◌, arith, inl, inr, ◌⊎◌, subst}
+use Rattle.std.proofs.Common.{ℕ, ◌+◌, ◌-◌, ◌<◌, ◌≤◌, ◌≡◌, ◌&&◌, ◌||◌, Bool, true, false, not, Option, Some, None, List, [], ◌∷◌, ◌++◌, length, is_none, is_some, nat_eq, nat_le, refl, sym, ap, ◌∙◌, arith, inl, inr, subst}
 use Rattle.std.specs.Bool.{beq}
 use Rattle.std.specs.List.{find, slice_get}
 use Rattle.std.specs.Option.{option_and_then, option_map, option_map_or}
-use Rattle.std.proofs.lemmas.Bool.{and_from, and_left, and_parts, and_right, both_ways, cases_Bool, eq-eqb, eqb-true, false_from_ne_true, le-leb, leb-true}
+use Rattle.std.proofs.lemmas.Bool.{and_from, and_parts, both_ways, eq-eqb, eqb-true, false_from_ne_true, le-leb, leb-true}
 use Rattle.fsb_count.specs.Clocks.{any_where}
 use Rattle.fsb_count.specs.Options.{is_some_and}
-use Rattle.fsb_count.proofs.Interface.{nth_where-found, slice_get-end}
+use Rattle.fsb_count.proofs.Interface.{slice_get-end}
 use Rattle.fsb_bridge.specs.Deferrals.{Bridged, deferral_of_id, is_covered, is_waited_for}
 use Rattle.fsb_bridge.specs.declared.deferral.Deferral.{Deferral}
 use Rattle.fsb_hazard.specs.Choice.{effective_turn}
 use Rattle.fsb_access.specs.declared.log.Done.{Done}
 use Rattle.fsb_hazard.specs.declared.choice.Choice.{Choice}
-use Rattle.fsb_hazard.specs.declared.choice.Turn.{Turn}
-use Rattle.fsb_hazard.specs.declared.choice.Turn.TheVariants.{Keep, Retry, Defer}
 use Rattle.fsb_laws.specs.OneMore.{stalls}
 use Rattle.fsb_laws.specs.Progress.{is_snoop_due}
 use Rattle.fsb_laws.proofs.Interface.{is_live-ads, is_snoop_clock-more, one_more}
-use Rattle.fsb_lawful.specs.Beginning.{KeepsBounds}
 use Rattle.fsb_phase.specs.Due.{has_snoop, rank_of}
-use Rattle.fsb_phase.specs.Drive.{drive_of}
 use Rattle.fsb_phase.specs.Phases.{snooped_count}
 use Rattle.fsb_phase.proofs.Interface.{find-cases, find-off, find-place, snoops_to}
 use Rattle.fsb_queue.specs.declared.entry.Entry.{Entry}
@@ -30,11 +26,9 @@ use Rattle.fsb_trace.specs.At.{request_at, stalls_at}
 use Rattle.fsb_trace.specs.Deferral.{is_pending}
 use Rattle.fsb_trace.specs.Requests.{is_cancelled, is_live, live_clock_of, live_count, live_number_of}
 use Rattle.fsb_trace.specs.Snoop.{is_every_second_from, is_snoop_clock, snoop_end_of, snoop_start_of}
-use Rattle.fsb_trace.specs.Winner.{winner_at}
 use Rattle.fsb_trace.specs.declared.who.Who.{Who}
 use Rattle.fsb_trace.specs.declared.who.Who.TheVariants.{Symmetric, Priority}
 use Rattle.fsb_trace.proofs.Interface.{line_at-agree, live_clock_of-number, snoop_end_of-clock}
-use Rattle.fsb_timely.specs.Grants.{snooped_at}
 use Rattle.fsb_timely.specs.Growth.{GrowsTo}
 use Rattle.fsb_timely.specs.Moments.{choice_at, is_in_window, turns_in}
 use Rattle.fsb_timely.specs.Past.{SnoopEnd}
@@ -42,23 +36,22 @@ use Rattle.fsb_timely.specs.Runs.{Run, past_of}
 use Rattle.fsb_timely.specs.Snoops.{drives_aerr, drives_bnr, drives_defer, drives_hazards, drives_stalls, is_bnr_chosen, is_error_chosen, is_keep, is_put_off, is_stall_chosen, keeps_snoop_lines}
 use Rattle.fsb_timely.specs.Timely.{Timely, holds_at}
 use Rattle.fsb_phase_run.specs.Holds.{HoldsRequests}
-use Rattle.fsb_phase_run.proofs.Interface.{EntryOf, agree-grown, choice-same, entry-held, longer, snoops-first, stall-drive}
+use Rattle.fsb_phase_run.proofs.Interface.{agree-grown, choice-same, entry-held, snoops-first, stall-drive}
 use Rattle.fsb_bench_view.specs.declared.beginning.Started.{Started}
-use Rattle.fsb_bench_view.specs.declared.snoop.Snooped.{Snooped}
 use Rattle.fsb_bench_view.specs.BenchSteps.{step_decided, step_drive, step_performed, step_sample}
-use Rattle.fsb_bench_view.specs.BusDecisions.{cancelled_by, is_cancelled_by}
-use Rattle.fsb_bench_view.specs.BusSnooping.{snooped_entry, snooped_for, snooped_of, snooped_reply, turn_counted}
+use Rattle.fsb_bench_view.specs.BusDecisions.{is_cancelled_by}
+use Rattle.fsb_bench_view.specs.BusSnooping.{snooped_entry, snooped_for, snooped_reply, turn_counted}
 use Rattle.fsb_bench_view.specs.BusViews.{BenchView, BusView, clock_of}
-use Rattle.fsb_bench_run.specs.BenchOf.{HasBegun, HasBridgeOf, IsBegunAt, IsBenchOf}
+use Rattle.fsb_bench_run.specs.BenchOf.{IsBegunAt, IsBenchOf}
 use Rattle.fsb_bench_run.proofs.RunWith.{run_with}
 use Rattle.fsb_bench_run.proofs.BegunRequests.{begun-request, request-grown}
 use Rattle.fsb_bench_run.proofs.DeferralsTold.{DeferralsTold}
 use Rattle.fsb_bench_run.proofs.DrivenLines.{aerr-driven, bnr-driven, defer-driven, defer_driven, hit-driven, hit_driven, hitm-driven, hitm_driven, line-with}
 use Rattle.fsb_bench_run.proofs.ResponsesDriven.{all5, beq-from}
 use Rattle.fsb_bench_run.proofs.SameBus.{same-performed}
-use Rattle.fsb_bench_run.proofs.SnoopCases.{SnoopsHere, SnoopsNone, snoop-cases}
+use Rattle.fsb_bench_run.proofs.SnoopCases.{SnoopsHere, snoop-cases}
 use Rattle.fsb_bench_run.proofs.SnoopDriven.{no-snoop, no-stall, snooped-shut, stalls-driven}
-use Rattle.fsb_bench_run.proofs.SnoopEntry.{IsHeldHere, held-here, snoop-rank, spaced-here}
+use Rattle.fsb_bench_run.proofs.SnoopEntry.{held-here, snoop-rank, spaced-here}
 use Rattle.fsb_bench_run.proofs.ThisClock.{holds-now}
 use Rattle.fsb_bench_run.proofs.TurnCounted.{begun-reply, end-turn, kept-turn, window-same}
 

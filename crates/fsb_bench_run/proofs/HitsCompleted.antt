@@ -1,5 +1,5 @@
 -- The entries of a clock's hits are what the run completes by them there.
-use Rattle.std.proofs.Common.{ℕ, ◌≡◌, ◌+◌, Bool, true, false, Option, Some, List, [], ◌∷◌, ◌++◌, length, map, append-nil, append_assoc, refl, sym, ap, ◌∙◌}
+use Rattle.std.proofs.Common.{ℕ, ◌≡◌, Some, List, [], ◌++◌, length, map, append-nil, append_assoc, ap, ◌∙◌}
 use Rattle.std.specs.List.{slice_get}
 use Rattle.std.proofs.lemmas.List.{map-append}
 use Rattle.fsb_access.specs.declared.log.Done.{Done}
@@ -10,13 +10,12 @@ use Rattle.fsb_agent_run.proofs.Interface.{hit-by, placed-at}
 use Rattle.fsb_coherent.specs.Relation.{is_dirty_below}
 use Rattle.fsb_timely.specs.Completions.{Completed, completed_if, of_all_agents}
 use Rattle.fsb_timely.specs.Hits.{is_hit}
-use Rattle.fsb_timely.specs.Past.{Past}
 use Rattle.fsb_timely.specs.Runs.{Run, past_of}
 use Rattle.fsb_bench_view.specs.BenchSteps.{step_fetched}
 use Rattle.fsb_bench_view.specs.BusViews.{BenchView, clock_of}
 use Rattle.fsb_bench_view.specs.ToldAgents.{hit_entries}
 use Rattle.fsb_bench_run.proofs.EntriesNow.{completed_of, hit-completes}
-use Rattle.fsb_bench_run.proofs.SnoopAnswers.{IsFour, is-four}
+use Rattle.fsb_bench_run.proofs.SnoopAnswers.{is-four}
 
 -- the agents before the hits are as the run says that the next clock finds them
 pub record AgentsFound (v : BenchView) (s : Run) : Type 0 where

@@ -1,12 +1,11 @@
 -- The queue after a clock of a bench.
-use Rattle.std.proofs.Common.{ℕ, zero, suc, ◌+◌, ◌<◌, ◌≤◌, ◌≡◌, ◌&&◌, ◌||◌, Bool, true, false, not, Option, Some, None, List, [], ◌∷◌, ◌++◌, length, map, is_some, if◌then◌else◌, refl, sym, ap, ◌∙◌, arith, inl, inr, subst}
+use Rattle.std.proofs.Common.{ℕ, zero, suc, ◌≡◌, Bool, Option, Some, None, List, [], ◌∷◌, ◌++◌, length, map, is_some, if◌then◌else◌, refl, sym, ap, ◌∙◌, arith, inl, inr, subst}
 use Rattle.std.specs.List.{slice_get}
 use Rattle.std.specs.Option.{option_map, option_map_or}
 use Rattle.std.proofs.lemmas.List.{length-map}
-use Rattle.fsb_access.specs.declared.log.Done.{Done}
-use Rattle.fsb_count.specs.Clocks.{all_where, count_where}
+use Rattle.fsb_count.specs.Clocks.{count_where}
 use Rattle.fsb_count.proofs.Interface.{count_where-above, count_where-same, length-all_where, slice_get-end}
-use Rattle.fsb_flight.specs.GoesOn.{IsLater, Rising, TakesTurn, goes_on}
+use Rattle.fsb_flight.specs.GoesOn.{IsLater, TakesTurn, goes_on}
 use Rattle.fsb_flight.specs.Steps.{begun_list}
 use Rattle.fsb_flight.proofs.Interface.{goes_on-holds, rising-goes_on}
 use Rattle.fsb_hazard.specs.Choice.{quiet_choice}
@@ -19,13 +18,9 @@ use Rattle.fsb_phase.specs.declared.phases.Phases.{Phases}
 use Rattle.fsb_laws.specs.Progress.{response_count, transfer_of}
 use Rattle.fsb_queue.specs.declared.entry.Entry.{Entry}
 use Rattle.fsb_signal.specs.declared.lines.TheConstants.Lines.{ADS}
-use Rattle.fsb_signal.specs.declared.sample.Sample.{Sample}
-use Rattle.fsb_signal.specs.Samples.{has_line, line_at}
+use Rattle.fsb_signal.specs.Samples.{line_at}
 use Rattle.fsb_trace.specs.At.{Trace}
-use Rattle.fsb_trace.specs.Outcome.{settled_by}
 use Rattle.fsb_trace.specs.Response.{answer_from, ready_clock_of}
-use Rattle.fsb_trace.specs.Snoop.{snoop_end_of}
-use Rattle.fsb_trace.specs.declared.outcome.Outcome.{Outcome}
 use Rattle.fsb_trace.specs.declared.outcome.Outcome.TheVariants.{Failed}
 use Rattle.fsb_trace.proofs.Interface.{line_at-agree}
 use Rattle.fsb_timely.specs.Grants.{snooped_at}
@@ -43,14 +38,13 @@ use Rattle.fsb_bench_view.specs.declared.snoop.Snooped.{Snooped}
 use Rattle.fsb_bench_view.specs.BenchSteps.{outcome_snooped, step_begun, step_decided, step_performed, step_queue, step_run, step_sample}
 use Rattle.fsb_bench_view.specs.BusEvents.{entry_started}
 use Rattle.fsb_bench_view.specs.BusViews.{BenchView, BusView, clock_of}
-use Rattle.fsb_bench_view.specs.MaySteps.{HasFlightOf, MaySample, turns_of}
+use Rattle.fsb_bench_view.specs.MaySteps.{HasFlightOf, MaySample}
 use Rattle.fsb_bench_run.specs.BenchOf.{IsBenchOf}
 use Rattle.fsb_bench_run.proofs.DeferralsTold.{DeferralsTold}
-use Rattle.fsb_bench_run.proofs.DrivenLines.{ads-driven, line-with}
+use Rattle.fsb_bench_run.proofs.DrivenLines.{ads-driven}
 use Rattle.fsb_bench_run.proofs.ResponsesDriven.{code-now, sample-grown}
-use Rattle.fsb_bench_run.proofs.RunWith.{run_with}
 use Rattle.fsb_bench_run.proofs.SameBus.{same-performed}
-use Rattle.fsb_bench_run.proofs.SnoopCases.{SnoopsHere, SnoopsNone, snoop-cases}
+use Rattle.fsb_bench_run.proofs.SnoopCases.{snoop-cases}
 use Rattle.fsb_bench_run.proofs.SnoopEntry.{held-here}
 use Rattle.fsb_bench_run.proofs.SnoopTold.{snoop-told}
 

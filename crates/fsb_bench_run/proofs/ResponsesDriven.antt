@@ -1,9 +1,9 @@
 -- Responses and data of a clock are as they are due.
-use Rattle.std.proofs.Common.{ℕ, zero, suc, ◌+◌, ◌<◌, ◌≤◌, ◌≡◌, ◌&&◌, ◌||◌, Bool, true, false, Option, Some, None, List, [], ◌∷◌, ◌++◌, length, is_some, nat_eq, lit<, refl, sym, ap, ◌∙◌, arith, inl, inr, subst}
+use Rattle.std.proofs.Common.{ℕ, ◌<◌, ◌≡◌, ◌&&◌, ◌||◌, Bool, true, false, Option, Some, None, List, [], ◌∷◌, ◌++◌, is_some, nat_eq, lit<, refl, sym, ap, ◌∙◌}
 use Rattle.std.specs.Bool.{beq}
 use Rattle.std.specs.Option.{option_map_or}
-use Rattle.std.specs.List.{find, slice_get}
-use Rattle.std.proofs.lemmas.Bool.{and_from, eq-eqb}
+use Rattle.std.specs.List.{find}
+use Rattle.std.proofs.lemmas.Bool.{eq-eqb}
 use Rattle.fsb_count.specs.Clocks.{any_where}
 use Rattle.fsb_access.specs.declared.log.Done.{Done}
 use Rattle.fsb_hazard.specs.declared.choice.Choice.{Choice}
@@ -11,7 +11,6 @@ use Rattle.fsb_laws.proofs.Interface.{one_more, response_code_at-new}
 use Rattle.fsb_phase.specs.Due.{has_response}
 use Rattle.fsb_phase.specs.Drive.{drive_of, settled_code}
 use Rattle.fsb_phase.specs.declared.drive.Drive.{Drive}
-use Rattle.fsb_phase.proofs.Interface.{find-cases}
 use Rattle.fsb_queue.specs.declared.entry.Entry.{Entry}
 use Rattle.fsb_signal.specs.declared.lines.TheConstants.Lines.{DBSY, DRDY, TRDY}
 use Rattle.fsb_signal.specs.declared.sample.Sample.{Sample}
@@ -22,7 +21,7 @@ use Rattle.fsb_trace.specs.Requests.{live_count}
 use Rattle.fsb_trace.specs.declared.outcome.Outcome.{Outcome}
 use Rattle.fsb_trace.specs.declared.outcome.Outcome.TheVariants.{Granted, Handed, Retried, Deferred, Written, Replied, Failed, Upgraded}
 use Rattle.fsb_timely.specs.Growth.{GrowsTo}
-use Rattle.fsb_timely.specs.Runs.{Run, past_of}
+use Rattle.fsb_timely.specs.Runs.{past_of}
 use Rattle.fsb_timely.specs.Transfers.{code_due, drives_code, drives_data_busy, drives_data_ready, drives_ready, drives_responses, has_data_at, is_busy_at, is_ready_due, keeps_data_quiet}
 use Rattle.fsb_phase_run.specs.Holds.{HoldsRequests}
 use Rattle.fsb_phase_run.proofs.Interface.{busy-drive, chunk-drive, code-drive, code-shown, ready-drive}

@@ -1,5 +1,5 @@
 -- What four agents answer together at a snoop end.
-use Rattle.std.proofs.Common.{ℕ, ◌+◌, ◌≡◌, ◌&&◌, ◌||◌, Bool, true, false, not, Option, Some, None, List, [], ◌∷◌, length, nat_eq, if◌then◌else◌, refl, sym, ap, ◌∙◌, arith}
+use Rattle.std.proofs.Common.{ℕ, ◌≡◌, ◌&&◌, ◌||◌, Bool, true, false, not, Some, List, [], ◌∷◌, length, nat_eq, if◌then◌else◌, refl, sym, ap, ◌∙◌, arith}
 use Rattle.std.specs.List.{slice_get}
 use Rattle.fsb_agent_view.specs.AgentViews.{AgentView, answer_by}
 use Rattle.fsb_count.specs.Clocks.{any_where}
@@ -8,7 +8,6 @@ use Rattle.fsb_line.specs.declared.state.Answer.{Answer}
 use Rattle.fsb_line.specs.declared.state.Answer.TheVariants as answers
 use Rattle.fsb_timely.specs.Grants.{holds_line}
 use Rattle.fsb_timely.specs.Hits.{is_dirty}
-use Rattle.fsb_timely.specs.Past.{Past}
 use Rattle.fsb_timely.specs.Runs.{Run, past_of}
 use Rattle.fsb_timely.specs.Snoops.{is_dirty_elsewhere, is_held_elsewhere}
 use Rattle.fsb_bench_view.specs.BenchSteps.{step_performed}

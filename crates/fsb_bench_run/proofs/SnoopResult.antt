@@ -1,15 +1,14 @@
 -- The result of the snoop end of a clock is right.
-use Rattle.std.proofs.Common.{ℕ, suc, ◌+◌, ◌/◌, ◌<◌, ◌≤◌, ◌≡◌, ◌&&◌, ◌||◌, Bool, true, false, not, Option, Some, None, List, [], ◌∷◌, ◌++◌, length, map, if◌then◌else◌, refl, sym, ap, ◌∙◌, arith, inl, inr, ◌⊎◌, subst}
-use Rattle.std.specs.Bool.{beq}
+use Rattle.std.proofs.Common.{ℕ, ◌/◌, ◌<◌, ◌≤◌, ◌≡◌, ◌&&◌, Bool, true, false, not, Option, Some, None, List, length, if◌then◌else◌, refl, sym, ap, ◌∙◌, arith, inl, inr, subst}
 use Rattle.std.specs.List.{slice_get}
 use Rattle.std.specs.Option.{option_and_then, option_map, option_map_or}
-use Rattle.std.proofs.lemmas.Bool.{and_from, and_parts, cases_lt}
+use Rattle.std.proofs.lemmas.Bool.{and_from, cases_lt}
 use Rattle.std.proofs.lemmas.Option.{slice_get-map, slice_get_cases}
 use Rattle.fsb_access.specs.declared.log.Done.{Done}
 use Rattle.fsb_bridge.specs.Deferrals.{Bridged, deferral_of_id}
 use Rattle.fsb_bridge.specs.DeferralList.{IsDeferralOf, IsThatOf, request_number_of}
 use Rattle.fsb_bridge.specs.declared.deferral.Deferral.{Deferral}
-use Rattle.fsb_count.specs.Clocks.{all_where, count_where, first_where, nth_where}
+use Rattle.fsb_count.specs.Clocks.{count_where, first_where, nth_where}
 use Rattle.fsb_count.specs.Options.{is_some_and}
 use Rattle.fsb_count.proofs.Interface.{count_where-same, first_where-found, nth_where-at, nth_where-found}
 use Rattle.fsb_encode.specs.declared.request.Request.{Request}
@@ -28,7 +27,7 @@ use Rattle.fsb_trace.specs.declared.who.Who.TheVariants.{Symmetric, Priority}
 use Rattle.fsb_trace.proofs.Interface.{line_at-agree, live_clock_of-rises, snoop_end_of-clock}
 use Rattle.fsb_timely.specs.Grants.{snooped_at}
 use Rattle.fsb_timely.specs.Growth.{GrowsTo}
-use Rattle.fsb_timely.specs.Moments.{agent_at, claim_at, is_answered_by, number_snooped_at, served_number, turns_in}
+use Rattle.fsb_timely.specs.Moments.{agent_at, claim_at, is_answered_by, served_number, turns_in}
 use Rattle.fsb_timely.specs.Past.{Claim, Past, SnoopEnd}
 use Rattle.fsb_timely.specs.Starts.{reply_to, would_begin}
 use Rattle.fsb_timely.specs.Runs.{Run, past_of}
@@ -38,9 +37,8 @@ use Rattle.fsb_timely.proofs.Interface.{begun-told, claim_at-agree, number-found
 use Rattle.fsb_tied.proofs.Interface.{begun-want}
 use Rattle.fsb_phase_run.proofs.Interface.{agree-grown}
 use Rattle.fsb_bench_view.specs.declared.beginning.Started.{Started}
-use Rattle.fsb_bench_view.specs.declared.snoop.Snooped.{Snooped}
-use Rattle.fsb_bench_view.specs.BenchSteps.{step_decided, step_drive, step_performed}
-use Rattle.fsb_bench_view.specs.BusSnooping.{answer_besides, is_hit_answer, is_modified_answer, snooped_entry, snooped_for, snooped_of, snooped_reply}
+use Rattle.fsb_bench_view.specs.BenchSteps.{step_decided, step_performed}
+use Rattle.fsb_bench_view.specs.BusSnooping.{snooped_entry, snooped_for, snooped_reply}
 use Rattle.fsb_bench_view.specs.BusViews.{BenchView, BusView, clock_of}
 use Rattle.fsb_bench_run.specs.BenchOf.{IsBegunAt, IsBenchOf}
 use Rattle.fsb_bench_run.proofs.BegunRequests.{begun-is}
@@ -51,7 +49,7 @@ use Rattle.fsb_bench_run.proofs.ResponsesDriven.{beq-from}
 use Rattle.fsb_bench_run.proofs.RunWith.{run_with}
 use Rattle.fsb_bench_run.proofs.SameBus.{same-performed}
 use Rattle.fsb_bench_run.proofs.SnoopAnswers.{AgentsAnswer, besides-told}
-use Rattle.fsb_bench_run.proofs.SnoopCases.{SnoopsHere, SnoopsNone, snoop-cases}
+use Rattle.fsb_bench_run.proofs.SnoopCases.{SnoopsHere, snoop-cases}
 use Rattle.fsb_bench_run.proofs.SnoopEntry.{held-here}
 use Rattle.fsb_bench_run.proofs.ThisClock.{holds-now}
 

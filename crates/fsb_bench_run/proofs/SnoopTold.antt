@@ -1,5 +1,5 @@
 -- The snoop end that a bench decides is the one that the moment of the clock has.
-use Rattle.std.proofs.Common.{ℕ, ◌≡◌, Bool, true, false, not, Option, Some, None, List, is_some, refl, sym, ap, ◌∙◌, inl, inr, subst}
+use Rattle.std.proofs.Common.{◌≡◌, Bool, true, false, Option, Some, None, List, is_some, refl, ap, ◌∙◌, subst}
 use Rattle.std.specs.List.{slice_get}
 use Rattle.std.specs.Option.{option_and_then, option_map}
 use Rattle.fsb_access.specs.declared.log.Done.{Done}
@@ -14,22 +14,19 @@ use Rattle.fsb_encode.specs.declared.request.Request.{Request}
 use Rattle.fsb_hazard.specs.declared.choice.Choice.{Choice}
 use Rattle.fsb_hazard.specs.declared.choice.Turn.{Turn}
 use Rattle.fsb_hazard.specs.declared.choice.Turn.TheVariants.{Keep, Retry, Defer}
-use Rattle.fsb_queue.specs.declared.entry.Entry.{Entry}
 use Rattle.fsb_signal.specs.declared.lines.TheConstants.Lines.{HITM}
 use Rattle.fsb_signal.specs.Samples.{line_at}
 use Rattle.fsb_trace.specs.At.{request_at}
 use Rattle.fsb_trace.specs.Outcome.{outcome_by_kind}
-use Rattle.fsb_trace.specs.Requests.{is_reply_kind, live_clock_of}
-use Rattle.fsb_trace.specs.declared.outcome.Outcome.{Outcome}
+use Rattle.fsb_trace.specs.Requests.{is_reply_kind}
 use Rattle.fsb_trace.specs.declared.outcome.Outcome.TheVariants.{Replied}
 use Rattle.fsb_trace.specs.declared.who.Who.{Who}
 use Rattle.fsb_trace.specs.declared.who.Who.TheVariants.{Symmetric, Priority}
 use Rattle.fsb_timely.specs.Growth.{GrowsTo}
 use Rattle.fsb_timely.specs.Moments.{choice_at, is_in_window, turns_in}
-use Rattle.fsb_timely.specs.Runs.{Run, past_of}
+use Rattle.fsb_timely.specs.Runs.{past_of}
 use Rattle.fsb_timely.specs.Snoops.{number_served_at}
 use Rattle.fsb_trace.specs.Deferral.{is_pending}
-use Rattle.fsb_bench_view.specs.declared.beginning.Started.{Started}
 use Rattle.fsb_bench_view.specs.declared.snoop.Snooped.{Snooped}
 use Rattle.fsb_bench_view.specs.BenchSteps.{step_decided, step_performed}
 use Rattle.fsb_bench_view.specs.BusSnooping.{answer_besides, is_modified_answer, settled_as, snooped_entry, snooped_for, snooped_of, snooped_reply}
