@@ -17,7 +17,8 @@ use Rattle.fsb_bench_run.proofs.SnoopAnswers.{AgentsAnswer}
 use Rattle.fsb_bench_run.proofs.StepWith.{IsStepWith}
 
 -- telling changes no number of agents
-pub length-told : (events : ℕ → List AgentEvent) (n : ℕ) (vs : List AgentView) → length (agents_told events n vs) ≡ length vs
+pub length-told : (events : ℕ → List AgentEvent) (n : ℕ) (vs : List AgentView)
+    → length (agents_told events n vs) ≡ length vs
 length-told events n [] = refl
 length-told events n (v ∷ vs) = ap suc (length-told events (n + 1) vs)
 
@@ -30,7 +31,8 @@ pub fetched-four : (v : BenchView) → length v.bus.agents ≡ 4 → length (ste
 fetched-four v four = length-fetched v.bus (bytes_from v.bus (step_drive v)) ∙ four
 
 -- the agents answer as the run says
-pub agents-answer : (v : BenchView) (hold : Bool) (choice : Choice) (entries : List Done) → IsStepWith v hold choice entries
+pub agents-answer : (v : BenchView) (hold : Bool) (choice : Choice) (entries : List Done)
+    → IsStepWith v hold choice entries
     → AgentsAnswer v (run_with v hold choice entries)
 agents-answer v hold choice entries k = record {
   four = length-told (for_all (Performed (clock_of v))) 0 (step_fetched v).agents ∙ fetched-four v k.bench.agents.four;

@@ -47,7 +47,8 @@ pub logs-completions : (v : BenchView) (hold : Bool) (choice : Choice) (entries 
     → map completed_of others ≡ arrivals_at (past_of (run_with v hold choice entries)) (clock_of v)
     → holds_at logs_completions (run_with v hold choice entries) (clock_of v) ≡ true
 logs-completions v hold choice entries others k found split at told =
-    holds-now logs_completions v.run (run_with v hold choice entries) k.grows (completions-now v hold choice entries others k found split at told)
+    holds-now logs_completions v.run (run_with v hold choice entries) k.grows
+    (completions-now v hold choice entries others k found split at told)
 
 -- an entry at a clock of what is completed there, of value 0
 abbrev pub entry_at : ℕ → Completed → Done

@@ -70,7 +70,8 @@ all-driven bus clock profile decided pair =
     ++ (xs ++ (drive_bits decided.drive ++ parity_bits profile pair (is_some decided.starting))))
     (snooped-bits decided.snooped decided.drive.stall)
     ∙ ap (λ xs. request_bits bus clock decided ++ ((hit_driven decided.snooped decided.drive.stall
-    ∷ (hitm_driven decided.snooped decided.drive.stall ∷ (defer_driven decided.snooped ∷ []))) ++ (drive_bits decided.drive ++ xs)))
+    ∷ (hitm_driven decided.snooped decided.drive.stall ∷ (defer_driven decided.snooped ∷ []))) ++
+    (drive_bits decided.drive ++ xs)))
     (parity-bits profile pair (is_some decided.starting))
 
 -- a line of the sample by the place of its bit
@@ -92,7 +93,8 @@ line-with v hold choice entries line =
 
 pub line-new : (v : BenchView) (hold : Bool) (choice : Choice) (line : Lines)
     → line_at line (step_run v hold choice).trace (clock_of v) ≡ has_line (step_sample v hold) line
-line-new v hold choice line = line_at-new line v.run.trace (step_sample v hold) _ (one_more v.run.trace (step_sample v hold))
+line-new v hold choice line = line_at-new line v.run.trace (step_sample v hold) _ (one_more v.run.trace
+    (step_sample v hold))
 
 pub bnr-driven : (bus : BusView) (clock profile : ℕ) (decided : Decided)
     → has_line (sample_by bus clock profile decided) BNR ≡ decided.hold

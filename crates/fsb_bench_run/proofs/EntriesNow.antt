@@ -96,10 +96,12 @@ hand-completed a clock hand (step ∷ steps) =
 -- what an agent completes with its next item
 next-by : (items : List Item) (a : ℕ) (number : Option ℕ)
     → steps_completed a (steps_at items (place_of items number))
-    ≡ option_map_or (λ n. option_map_or (completed_of_item a n) (Rattle.std.specs.Option.option_and_then (slice_get items) number) []) number []
+    ≡ option_map_or (λ n. option_map_or (completed_of_item a n) (Rattle.std.specs.Option.option_and_then
+    (slice_get items) number) []) number []
 unfolding completed_of_item
 next-by items a None =
-    ap (λ o. steps_completed a (option_map_or (steps_of_item (length items)) o [])) (slice_get_past items (length items) (omega arith))
+    ap (λ o. steps_completed a (option_map_or (steps_of_item (length items)) o [])) (slice_get_past items
+    (length items) (omega arith))
 next-by items a (Some n) = by (slice_get items n)
   where
     by : (o : Option Item) → steps_completed a (option_map_or (steps_of_item n) o [])

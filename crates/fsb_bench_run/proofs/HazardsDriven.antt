@@ -57,16 +57,19 @@ use Rattle.fsb_bench_run.proofs.TurnCounted.{begun-reply, end-turn, kept-turn, w
 
 -- BNR#
 bnr-now : (v : BenchView) (hold : Bool) (choice : Choice) (entries : List Done) → Timely v.run
-    → line_at BNR (run_with v hold choice entries).trace (clock_of v) ≡ is_bnr_chosen (run_with v hold choice entries) (clock_of v)
+    → line_at BNR (run_with v hold choice entries).trace (clock_of v) ≡ is_bnr_chosen
+    (run_with v hold choice entries) (clock_of v)
 unfolding is_bnr_chosen
 bnr-now v hold choice entries timely =
     let there = ap (slice_get (v.run.holds ++ hold ∷ [])) (sym timely.one_hold) ∙ slice_get-end v.run.holds hold in
-    line-with v hold choice entries BNR ∙ bnr-driven (step_performed v) (clock_of v) v.run.plan.profile (step_decided v hold)
+    line-with v hold choice entries BNR
+    ∙ bnr-driven (step_performed v) (clock_of v) v.run.plan.profile (step_decided v hold)
     ∙ sym (ap (λ o. option_map_or (λ (b : Bool). b) o false) there)
 
 -- AERR#: an entry that began three clocks before, and is to be cancelled, is the request that began there
 entry-error : (v : BenchView) (hold : Bool) (choice : Choice) (entries : List Done) (k : ℕ) (e : Entry)
-    → GrowsTo v.run (run_with v hold choice entries) → HoldsRequests v.bus.queue v.run → slice_get v.bus.queue k ≡ Some e
+    → GrowsTo v.run (run_with v hold choice entries) → HoldsRequests v.bus.queue v.run
+    → slice_get v.bus.queue k ≡ Some e
     → is_cancelled_by (clock_of v) e ≡ true → is_error_chosen (run_with v hold choice entries) (clock_of v) ≡ true
 unfolding is_error_chosen
 entry-error v hold choice entries k e grows f at t =
@@ -81,7 +84,8 @@ entry-error v hold choice entries k e grows f at t =
     let line = ap (line_at ADS s.trace) back
     ∙ sym (line_at-agree ADS n r.trace s.trace e.clock (agree-grown r s grows) here.within) ∙ ads in
     let choice_is = f.entries.chosen k e at ∙ choice-same r s e.clock grows here.within ads in
-    let error = ap (λ q. (choice_at s.choices s.trace q).aerr) back ∙ sym (ap (λ (c : Choice). c.aerr) choice_is) ∙ a.0 in
+    let error = ap (λ q. (choice_at s.choices s.trace q).aerr) back ∙ sym (ap (λ (c : Choice). c.aerr) choice_is)
+    ∙ a.0 in
     and_from _ _ (and_from _ _ (le-leb 3 n (omega arith)) line) error
 
 -- and the request that began there has an entry
@@ -107,8 +111,13 @@ error-entry v hold choice entries grows f t =
     let k = entry-held r v.bus.queue i q f clock (snoops-first r i grows.timely none) in
     let same : q ≡ k.entry.clock = one q k.entry.clock (sym clock ∙ k.clock) in
     let choice_is = f.entries.chosen k.place k.entry k.at ∙ ap (choice_at r.choices r.trace) (sym same)
-    ∙ choice-same r s q grows (omega arith) ads in
-    (k.place, k.entry, k.at, and_from _ _ (ap (λ (c : Choice). c.aerr) choice_is ∙ a.1) (eq-eqb (k.entry.clock + 3) n (omega arith)))
+    ∙ choice-same r s q grows (omega arith) ads in (
+      k.place,
+      k.entry,
+      k.at,
+      and_from _ _ (ap (λ (c : Choice). c.aerr) choice_is
+          ∙ a.1) (eq-eqb (k.entry.clock + 3) n (omega arith)),
+    )
   where
     one : (a b : ℕ) → Some a ≡ Some b → a ≡ b
     one a b e = cc
@@ -124,7 +133,8 @@ error-entry v hold choice entries grows f t =
 
 aerr-now : (v : BenchView) (hold : Bool) (choice : Choice) (entries : List Done)
     → GrowsTo v.run (run_with v hold choice entries) → HoldsRequests v.bus.queue v.run
-    → line_at AERR (run_with v hold choice entries).trace (clock_of v) ≡ is_error_chosen (run_with v hold choice entries) (clock_of v)
+    → line_at AERR (run_with v hold choice entries).trace (clock_of v) ≡ is_error_chosen
+    (run_with v hold choice entries) (clock_of v)
 aerr-now v hold choice entries grows f =
     let s = run_with v hold choice entries in
     let n = clock_of v in
@@ -146,12 +156,14 @@ aerr-now v hold choice entries grows f =
 stalls-now : (v : BenchView) (hold : Bool) (choice : Choice) (entries : List Done)
     → GrowsTo v.run (run_with v hold choice entries) → HoldsRequests v.bus.queue v.run
     → stalls_at (run_with v hold choice entries).trace (clock_of v)
-    ≡ any_where (is_stall_chosen (run_with v hold choice entries) (clock_of v)) (live_count (run_with v hold choice entries).trace)
+    ≡ any_where (is_stall_chosen (run_with v hold choice entries) (clock_of v)) (live_count
+    (run_with v hold choice entries).trace)
 unfolding stalls_at stalls
 stalls-now v hold choice entries grows f =
     let hit = line-with v hold choice entries HIT in
     let hitm = line-with v hold choice entries HITM in
-    (λ i. hit i && hitm i) ∙ stalls-driven v hold ∙ stall-drive v.run (run_with v hold choice entries) v.bus.queue grows f
+    (λ i. hit i && hitm i) ∙ stalls-driven v hold
+    ∙ stall-drive v.run (run_with v hold choice entries) v.bus.queue grows f
 
 -- the request whose snoop ends is decoded
 pub decoded-now : (v : BenchView) (hold : Bool) (choice : Choice) (entries : List Done) → IsBenchOf v
@@ -163,7 +175,8 @@ decoded-now v hold choice entries b grows k =
     let e = k.now.entry in
     let c = snoop_end_of-clock s.trace (rank_of s.trace e) (clock_of v) k.told.is_end.reached in
     let above = c.above in
-    let first : c.clock ≡ e.clock = one c.clock e.clock (sym c.is_clock ∙ k.told.is_end.first ∙ ap (λ q. Some q) k.told.first) in
+    let first : c.clock ≡ e.clock = one c.clock e.clock (sym c.is_clock ∙ k.told.is_end.first
+    ∙ ap (λ q. Some q) k.told.first) in
     request-grown r s e.clock grows (omega arith)
     ∙ begun-request r e.clock e.who e.request b.timely b.bounds (omega arith) (b.entries.begun k.now.place e k.now.at)
   where
@@ -210,7 +223,8 @@ put-off-by : (v : BenchView) (hold : Bool) (choice : Choice) (entries : List Don
     → k.now.entry.who ≡ who
     → defer_driven (snooped_entry (step_performed v) k.now.entry who) ≡ not (is_keep k.told.end.turn)
 unfolding is_keep
-put-off-by v hold choice entries b told grows k (Symmetric agent) e = ap (λ t. not (is_keep t)) (sym (turn-now v hold choice entries b told grows k))
+put-off-by v hold choice entries b told grows k (Symmetric agent) e = ap (λ t. not (is_keep t)) (sym
+    (turn-now v hold choice entries b told grows k))
 put-off-by v hold choice entries b told grows k Priority e =
     let r = v.run in
     let s = run_with v hold choice entries in
@@ -218,14 +232,16 @@ put-off-by v hold choice entries b told grows k Priority e =
     let begun = subst (λ w. IsBegunAt r y.clock w y.request) e (b.entries.begun k.now.place y k.now.at) in
     let kept = end-turn r s y grows k.told (decoded-now v hold choice entries b grows k)
     ∙ kept-turn (choice_at s.choices s.trace y.clock).turn y.request (is_in_window s.plan.bridge y.request.line)
-    (is_pending s.trace (turns_in (past_of r).moments) y.request.line (clock_of v)) (begun-reply r y.clock y.request begun) in
+    (is_pending s.trace (turns_in (past_of r).moments) y.request.line (clock_of v))
+    (begun-reply r y.clock y.request begun) in
     reply-keeps (step_performed v) y (deferral_of_id y.request.did (step_performed v).bridge.waiting)
     ∙ sym (ap (λ t. not (is_keep t)) kept)
 
 defer-now : (v : BenchView) (hold : Bool) (choice : Choice) (entries : List Done) → IsBenchOf v
     → DeferralsTold v (run_with v hold choice entries)
     → GrowsTo v.run (run_with v hold choice entries)
-    → line_at DEFER (run_with v hold choice entries).trace (clock_of v) ≡ is_put_off (past_of (run_with v hold choice entries)) (clock_of v)
+    → line_at DEFER (run_with v hold choice entries).trace (clock_of v) ≡ is_put_off (past_of
+    (run_with v hold choice entries)) (clock_of v)
 unfolding is_put_off is_some_and
 defer-now v hold choice entries b told grows =
     let s = run_with v hold choice entries in
@@ -240,7 +256,8 @@ defer-now v hold choice entries b told grows =
 
 -- a snoop clock of an entry is a snoop clock of the run
 due-here : (r : Run) (e : Entry) → has_snoop r.trace e ≡ true
-    → is_some_and (snoop_start_of r.trace (rank_of r.trace e)) (λ start. is_every_second_from start (length r.trace)) ≡ true
+    → is_some_and (snoop_start_of r.trace (rank_of r.trace e)) (λ start. is_every_second_from start
+    (length r.trace)) ≡ true
 unfolding has_snoop
 due-here r e t = (and_parts (is_none (snoop_end_of r.trace (rank_of r.trace e))) _ t).1
 
@@ -299,7 +316,8 @@ hazards-now v hold choice entries b told grows =
     (beq (stalls_at s.trace n) (any_where (is_stall_chosen s n) (live_count s.trace)))
     (beq (line_at DEFER s.trace n) (is_put_off (past_of s) n)) (keeps_snoop_lines s n)
     (beq-from _ _ (bnr-now v hold choice entries b.timely)) (beq-from _ _ (aerr-now v hold choice entries grows f))
-    (beq-from _ _ (stalls-now v hold choice entries grows f)) (beq-from _ _ (defer-now v hold choice entries b told grows))
+    (beq-from _ _ (stalls-now v hold choice entries grows f)) (beq-from _ _
+    (defer-now v hold choice entries b told grows))
     (lines-kept v hold choice entries grows f)
 
 -- the hazard lines at the clock
@@ -308,4 +326,5 @@ pub drives-hazards : (v : BenchView) (hold : Bool) (choice : Choice) (entries : 
     → GrowsTo v.run (run_with v hold choice entries)
     → holds_at drives_hazards (run_with v hold choice entries) (clock_of v) ≡ true
 drives-hazards v hold choice entries b told grows =
-    holds-now drives_hazards v.run (run_with v hold choice entries) grows (hazards-now v hold choice entries b told grows)
+    holds-now drives_hazards v.run (run_with v hold choice entries) grows
+    (hazards-now v hold choice entries b told grows)

@@ -20,17 +20,20 @@ use Rattle.fsb_bench_run.proofs.SnoopAnswers.{is-four}
 -- the agents before the hits are as the run says that the next clock finds them
 pub record AgentsFound (v : BenchView) (s : Run) : Type 0 where
   pub four : length (step_fetched v).agents ≡ 4
-  pub views : (a : ℕ) (w : AgentView) → slice_get (step_fetched v).agents a ≡ Some w → IsViewOf (past_of s) a (clock_of v) w
+  pub views : (a : ℕ) (w : AgentView) → slice_get (step_fetched v).agents a ≡ Some w
+      → IsViewOf (past_of s) a (clock_of v) w
 
 -- what one agent completes by its hit
-one-completes : (v : BenchView) (s : Run) (a : ℕ) (w : AgentView) → AgentsFound v s → slice_get (step_fetched v).agents a ≡ Some w
+one-completes : (v : BenchView) (s : Run) (a : ℕ) (w : AgentView) → AgentsFound v s
+    → slice_get (step_fetched v).agents a ≡ Some w
     → map completed_of (performed_entries w (clock_of v))
     ≡ completed_if (past_of s) (clock_of v) (is_hit (past_of s) a (clock_of v)) a
 one-completes v s a w k at =
     let p = past_of s in
     let n = clock_of v in
     let view = k.views a w at in
-    hit-completes p a n w view (hit-by p a n (λ line. is_dirty_below p a line n) w view.agent (placed-at p a n w view.placed) view.lines)
+    hit-completes p a n w view (hit-by p a n (λ line. is_dirty_below p a line n) w view.agent
+    (placed-at p a n w view.placed) view.lines)
 
 four-mapped : (w0 w1 w2 w3 : List Done)
     → map completed_of (w0 ++ (w1 ++ (w2 ++ (w3 ++ []))))
@@ -57,7 +60,8 @@ hits-completed v s k =
     let e2 = one-completes v s 2 q.third k (ap (λ xs. slice_get xs 2) q.same) in
     let e3 = one-completes v s 3 q.fourth k (ap (λ xs. slice_get xs 3) q.same) in
     ap (λ xs. map completed_of (hit_entries n xs)) q.same
-    ∙ four-mapped (performed_entries q.first n) (performed_entries q.second n) (performed_entries q.third n) (performed_entries q.fourth n)
+    ∙ four-mapped (performed_entries q.first n) (performed_entries q.second n) (performed_entries q.third n)
+    (performed_entries q.fourth n)
     ∙ left-four (map completed_of (performed_entries q.first n)) (map completed_of (performed_entries q.second n))
     (map completed_of (performed_entries q.third n)) (map completed_of (performed_entries q.fourth n))
     ∙ (λ i. ((e0 i ++ e1 i) ++ e2 i) ++ e3 i)

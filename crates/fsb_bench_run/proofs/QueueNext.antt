@@ -26,6 +26,7 @@ use Rattle.fsb_trace.proofs.Interface.{line_at-agree}
 use Rattle.fsb_timely.specs.Grants.{snooped_at}
 use Rattle.fsb_timely.specs.Growth.{GrowsTo}
 use Rattle.fsb_timely.specs.Moments.{choice_at, turns_in}
+use Rattle.fsb_timely.specs.Past.{SnoopEnd}
 use Rattle.fsb_timely.specs.Runs.{Run, past_of, requests_below}
 use Rattle.fsb_timely.specs.Timely.{Timely}
 use Rattle.fsb_timely.proofs.Interface.{snoop-tied}
@@ -35,7 +36,7 @@ use Rattle.fsb_phase_run.proofs.Interface.{agree-grown, outcome-settled, queue-g
 use Rattle.fsb_bench_view.specs.declared.beginning.Starting.{Starting}
 use Rattle.fsb_bench_view.specs.declared.beginning.Started.{Started}
 use Rattle.fsb_bench_view.specs.declared.snoop.Snooped.{Snooped}
-use Rattle.fsb_bench_view.specs.BenchSteps.{outcome_snooped, step_begun, step_decided, step_performed, step_queue, step_run, step_sample}
+use Rattle.fsb_bench_view.specs.BenchSteps.{outcome_snooped, step_begun, step_decided, step_entries, step_performed, step_queue, step_run, step_sample}
 use Rattle.fsb_bench_view.specs.BusEvents.{entry_started}
 use Rattle.fsb_bench_view.specs.BusViews.{BenchView, BusView, clock_of}
 use Rattle.fsb_bench_view.specs.MaySteps.{HasFlightOf, MaySample}
@@ -87,23 +88,30 @@ begun-entry : (bus : BusView) (clock : ℕ) (choice : Choice) (o : Option Starti
 unfolding begun_list
 begun-entry bus clock choice None k e f = absurd (let no : ⊥ = cc in no)
 begun-entry bus clock choice (Some starting) zero e f =
-    record { starting = starting; some = refl; same = sym (let same : entry_started bus clock starting choice ≡ e = cc in same) }
+    record {
+      starting = starting;
+      some = refl;
+      same = sym
+          (let same : entry_started bus clock starting choice ≡ e = cc in same);
+    }
 begun-entry bus clock choice (Some starting) (suc k) e f = absurd (let no : ⊥ = cc in no)
 
 -- the turns go on
 turns-taken : (v : BenchView) (hold : Bool) (choice : Choice) → IsBenchOf v → DeferralsTold v (step_run v hold choice)
     → (grows : GrowsTo v.run (step_run v hold choice))
     → TakesTurn v.run.trace (step_sample v hold) (turns_in (past_of v.run).moments)
-    (turns_in (past_of (step_run v hold choice)).moments) (outcome_snooped (step_decided v hold)) (begun_list (step_begun v hold choice))
+    (turns_in (past_of (step_run v hold choice)).moments) (outcome_snooped (step_decided v hold)) (begun_list
+    (step_begun v hold choice))
 turns-taken v hold choice b told grows =
     let r = v.run in
     let s = step_run v hold choice in
     let n = clock_of v in
-    let entries = Rattle.fsb_bench_view.specs.BenchSteps.step_entries v hold in
+    let entries = step_entries v hold in
     record {
       same = λ i l. turn-same r s i grows l;
       outcome_is = λ e. elim (snoop-cases v hold choice entries grows b.requests) [
-        | inr g ↦ let tied = snoop-tied s (snooped_count r.trace) n e in none-some (snooped_at (past_of s) n) tied.0 g.quiet tied.1.there
+        | inr g ↦ let tied = snoop-tied s (snooped_count r.trace) n e in none-some (snooped_at
+            (past_of s) n) tied.0 g.quiet tied.1.there
         | inl k ↦
             let t = snoop-told v hold choice entries b told grows k in
             ap (λ o. option_map_or (λ (x : Snooped). x.outcome) o Failed) t.decided ∙ sym t.outcome
@@ -111,17 +119,19 @@ turns-taken v hold choice b told grows =
       ];
       kept = λ i e. write-back-kept s i e;
       begun = begun-clocks (step_performed v) n choice (step_decided v hold).starting
-          ∙ ap (λ c. if c then n ∷ [] else []) (sym (ads-driven (step_performed v) n r.plan.profile (step_decided v hold)));
+          ∙ ap (λ c. if c then n ∷ [] else []) (sym (ads-driven (step_performed v) n r.plan.profile
+          (step_decided v hold)));
       unsettled = λ k e f.
-          ap (λ (x : Entry). x.outcome) (begun-entry (step_performed v) n choice (step_decided v hold).starting k e f).same;
+          ap (λ (x : Entry). x.outcome) (begun-entry (step_performed v) n choice
+          (step_decided v hold).starting k e f).same;
     }
   where
-    none-some : (o : Option Rattle.fsb_timely.specs.Past.SnoopEnd) (x : Rattle.fsb_timely.specs.Past.SnoopEnd) → o ≡ None → o ≡ Some x
-        → {A : Type 0} → A
+    none-some : (o : Option SnoopEnd) (x : SnoopEnd) → o ≡ None → o ≡ Some x → {A : Type 0} → A
     none-some o x e f = absurd (let no : ⊥ = cc in no)
 
 -- how many requests began below the new clock
-count-grown : (r s : Run) → GrowsTo r s → requests_below s.trace (length r.trace) ≡ requests_below r.trace (length r.trace)
+count-grown : (r s : Run) → GrowsTo r s
+    → requests_below s.trace (length r.trace) ≡ requests_below r.trace (length r.trace)
 unfolding requests_below
 count-grown r s grows =
     sym (count_where-same (line_at ADS r.trace) (line_at ADS s.trace) (length r.trace)
@@ -145,7 +155,8 @@ choice-added choices choice o starting w q e f =
 
 -- the entry that begins has its choice and its number
 new-requests : (v : BenchView) (hold : Bool) (choice : Choice) → IsBenchOf v
-    → GrowsTo v.run (step_run v hold choice) → AreRequestsOf (begun_list (step_begun v hold choice)) (step_run v hold choice)
+    → GrowsTo v.run (step_run v hold choice)
+    → AreRequestsOf (begun_list (step_begun v hold choice)) (step_run v hold choice)
 unfolding requests_below
 new-requests v hold choice b grows =
     let r = v.run in
@@ -169,7 +180,8 @@ new-requests v hold choice b grows =
     }
 
 -- its number is greater than those of the queue
-new-later : (v : BenchView) (hold : Bool) (choice : Choice) → IsBenchOf v → IsLater (step_begun v hold choice) v.bus.queue
+new-later : (v : BenchView) (hold : Bool) (choice : Choice) → IsBenchOf v
+    → IsLater (step_begun v hold choice) v.bus.queue
 unfolding requests_below begun_list
 new-later v hold choice b =
     let r = v.run in
@@ -181,14 +193,16 @@ new-later v hold choice b =
       later = λ e f j new at.
           let first = begun-entry bus n choice o 0 e (ap (λ x. slice_get (begun_list x) 0) new) in
           let here = held-here r v.bus.queue j f b.requests at in
-          let less = count_where-above (line_at ADS r.trace) f.clock n here.within (is_live-ads r.trace f.clock here.live) in
+          let less = count_where-above (line_at ADS r.trace) f.clock n here.within
+          (is_live-ads r.trace f.clock here.live) in
           let number = b.requests.entries.numbered j f at in
           let mine : e.number ≡ count_where (line_at ADS r.trace) n =
           ap (λ (x : Entry). x.number) first.same ∙ ap length same.started ∙ started-count v b in
           omega arith;
     }
 
-pub queue-next : (v : BenchView) (hold : Bool) (choice : Choice) → IsBenchOf v → DeferralsTold v (step_run v hold choice)
+pub queue-next : (v : BenchView) (hold : Bool) (choice : Choice) → IsBenchOf v
+    → DeferralsTold v (step_run v hold choice)
     → MaySample v hold → GrowsTo v.run (step_run v hold choice)
     → HoldsRequests (step_queue v hold choice) (step_run v hold choice)
 queue-next v hold choice b told may grows =
@@ -201,13 +215,15 @@ queue-next v hold choice b told may grows =
     record { clock_is = refl; flight = b.requests.flight; answers = code-now v hold; spaced = may.spaced } in
     let flight = goes_on-holds (phases-of r.trace) r.trace (clock_of v) x v.bus.queue new (turns_in (past_of r).moments)
     (turns_in (past_of s).moments) outcome (phases-stand r b.timely) takes (turns-taken v hold choice b told grows) in
-    let same = sample-grown v hold choice (Rattle.fsb_bench_view.specs.BenchSteps.step_entries v hold) grows in
+    let same = sample-grown v hold choice (step_entries v hold) grows in
     subst (λ y. HoldsRequests (goes_on r.trace y outcome v.bus.queue ++ new) s) same
     (queue-goes-on r s v.bus.queue new outcome grows b.requests (new-requests v hold choice b grows)
-    (subst (λ y. HoldsInFlight (goes_on r.trace y outcome v.bus.queue ++ new) (turns_in (past_of s).moments) s.trace) (sym same) flight))
+    (subst (λ y. HoldsInFlight (goes_on r.trace y outcome v.bus.queue ++ new) (turns_in
+    (past_of s).moments) s.trace) (sym same) flight))
 
 -- its numbers rise
-pub flight-next : (v : BenchView) (hold : Bool) (choice : Choice) → IsBenchOf v → DeferralsTold v (step_run v hold choice)
+pub flight-next : (v : BenchView) (hold : Bool) (choice : Choice) → IsBenchOf v
+    → DeferralsTold v (step_run v hold choice)
     → MaySample v hold → GrowsTo v.run (step_run v hold choice)
     → HasFlightOf (step_queue v hold choice) (step_run v hold choice)
 flight-next v hold choice b told may grows = record {

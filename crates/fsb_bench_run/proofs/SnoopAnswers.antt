@@ -22,7 +22,8 @@ answer_told dirty held = if dirty then answers.Modified else (if held then answe
 pub record AgentsAnswer (v : BenchView) (s : Run) : Type 0 where
   pub four : length (step_performed v).agents ≡ 4
   pub answers : (b line : ℕ) (w : AgentView) → slice_get (step_performed v).agents b ≡ Some w
-      → answer_by w line ≡ answer_told (is_dirty (past_of s) b line (clock_of v)) (holds_line (past_of s) b line (clock_of v))
+      → answer_by w line ≡ answer_told (is_dirty (past_of s) b line (clock_of v)) (holds_line (past_of s) b line
+      (clock_of v))
 
 -- the answer is not that the line is not there
 abbrev is_some_answer : Answer → Bool
@@ -51,7 +52,8 @@ modified-joined false false false answers.Hit = refl
 modified-joined false false false answers.Modified = refl
 
 some-joined : (skip dirty held : Bool) (rest : Answer)
-    → is_some_answer (joined skip (answer_told dirty held) rest) ≡ (((not skip && dirty) || (not skip && held)) || is_some_answer rest)
+    → is_some_answer (joined skip (answer_told dirty held) rest) ≡ (((not skip && dirty) ||
+    (not skip && held)) || is_some_answer rest)
 some-joined true dirty held rest = refl
 some-joined false true held rest = refl
 some-joined false false true answers.Clean = refl
@@ -93,17 +95,21 @@ besides-four : (a line : ℕ) (w0 w1 w2 w3 : AgentView) (dirty held : ℕ → Bo
     → tells dirty held line 0 w0 → tells dirty held line 1 w1 → tells dirty held line 2 w2 → tells dirty held line 3 w3
     → answer_besides a line 0 (w0 ∷ (w1 ∷ (w2 ∷ (w3 ∷ []))))
     ≡ joined (nat_eq 0 a) (answer_told (dirty 0) (held 0)) (joined (nat_eq 1 a) (answer_told (dirty 1) (held 1))
-    (joined (nat_eq 2 a) (answer_told (dirty 2) (held 2)) (joined (nat_eq 3 a) (answer_told (dirty 3) (held 3)) answers.Clean)))
+    (joined (nat_eq 2 a) (answer_told (dirty 2) (held 2)) (joined (nat_eq 3 a) (answer_told (dirty 3)
+    (held 3)) answers.Clean)))
 besides-four a line w0 w1 w2 w3 dirty held t0 t1 t2 t3 =
-    λ i. joined (nat_eq 0 a) (t0 i) (joined (nat_eq 1 a) (t1 i) (joined (nat_eq 2 a) (t2 i) (joined (nat_eq 3 a) (t3 i) answers.Clean)))
+    λ i. joined (nat_eq 0 a) (t0 i) (joined (nat_eq 1 a) (t1 i) (joined (nat_eq 2 a) (t2 i) (joined (nat_eq 3 a)
+    (t3 i) answers.Clean)))
 
 -- another than a passes the test
 abbrev elsewhere : ℕ → (ℕ → Bool) → ℕ → Bool
 elsewhere a test b = not (nat_eq b a) && test b
 
 modified-four : (a : ℕ) (dirty held : ℕ → Bool)
-    → is_modified_answer (joined (nat_eq 0 a) (answer_told (dirty 0) (held 0)) (joined (nat_eq 1 a) (answer_told (dirty 1) (held 1))
-    (joined (nat_eq 2 a) (answer_told (dirty 2) (held 2)) (joined (nat_eq 3 a) (answer_told (dirty 3) (held 3)) answers.Clean))))
+    → is_modified_answer (joined (nat_eq 0 a) (answer_told (dirty 0) (held 0)) (joined (nat_eq 1 a) (answer_told
+    (dirty 1) (held 1))
+    (joined (nat_eq 2 a) (answer_told (dirty 2) (held 2)) (joined (nat_eq 3 a) (answer_told (dirty 3)
+    (held 3)) answers.Clean))))
     ≡ any_where (elsewhere a dirty) 4
 modified-four a dirty held =
     modified-joined (nat_eq 0 a) (dirty 0) (held 0) _
@@ -113,8 +119,10 @@ modified-four a dirty held =
     ∙ four-any (elsewhere a dirty)
 
 some-four : (a : ℕ) (dirty held : ℕ → Bool)
-    → is_some_answer (joined (nat_eq 0 a) (answer_told (dirty 0) (held 0)) (joined (nat_eq 1 a) (answer_told (dirty 1) (held 1))
-    (joined (nat_eq 2 a) (answer_told (dirty 2) (held 2)) (joined (nat_eq 3 a) (answer_told (dirty 3) (held 3)) answers.Clean))))
+    → is_some_answer (joined (nat_eq 0 a) (answer_told (dirty 0) (held 0)) (joined (nat_eq 1 a) (answer_told
+    (dirty 1) (held 1))
+    (joined (nat_eq 2 a) (answer_told (dirty 2) (held 2)) (joined (nat_eq 3 a) (answer_told (dirty 3)
+    (held 3)) answers.Clean))))
     ≡ (any_where (elsewhere a dirty) 4 || any_where (elsewhere a held) 4)
 some-four a dirty held =
     let d = elsewhere a dirty in

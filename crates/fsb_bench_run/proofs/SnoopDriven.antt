@@ -38,7 +38,12 @@ reply-snoop : (entry : Entry) (deferral : Deferral) (o : Option Started) (s : Sn
     → option_map (snooped_reply entry deferral) o ≡ Some s → IsReplySnoop entry s
 reply-snoop entry deferral None s e = absurd (let no : ⊥ = cc in no)
 reply-snoop entry deferral (Some begun) s e =
-    record { deferral = deferral; begun = begun; same = sym (let same : snooped_reply entry deferral begun ≡ s = cc in same) }
+    record {
+      deferral = deferral;
+      begun = begun;
+      same = sym
+          (let same : snooped_reply entry deferral begun ≡ s = cc in same);
+    }
 
 reply-snooped : (bus : BusView) (entry : Entry) (o : Option Deferral) (s : Snooped)
     → option_and_then (snooped_for bus entry) o ≡ Some s → IsReplySnoop entry s
@@ -111,7 +116,8 @@ unfolding drive_of is_stalled
 no-stall h queue g = ap is_some (find-off (is_stalled h) queue (λ j y at. and_left _ _ (g j y at)))
 
 pub no-snoop : (h : Trace) (queue : List Entry)
-    → ((j : ℕ) (y : Entry) → slice_get queue j ≡ Some y → has_snoop h y ≡ false) → is_none (drive_of h queue).snoop ≡ true
+    → ((j : ℕ) (y : Entry) → slice_get queue j ≡ Some y → has_snoop h y ≡ false)
+    → is_none (drive_of h queue).snoop ≡ true
 unfolding drive_of
 no-snoop h queue g = ap (λ o. is_none (option_map (λ (e : Entry). e.number) o)) (find-off (has_snoop h) queue g)
 

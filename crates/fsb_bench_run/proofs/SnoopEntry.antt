@@ -88,7 +88,11 @@ snoop-rank r e t =
     elim (cases_order i s) [
       | inl same ↦ same
       | inr other ↦
-          let apart : i ≡ s → ⊥ = (λ (g : i ≡ s). elim other [ inl less ↦ omega (arith, less, g) | inr more ↦ omega (arith, more, g) ]) in
+          let apart : i ≡ s → ⊥ = (λ (g : i ≡ s). elim other [
+            | inl less ↦ omega (arith, less, g)
+            | inr more ↦ omega
+                (arith, more, g)
+          ]) in
           absurd (both_ways _ (snoop_elsewhere h s i (snoops_to h) apart) here)
     ]
 
@@ -133,7 +137,8 @@ ends-here r queue x k e timely f at =
       live = here.live;
       within = here.within;
     } in
-    ends_entry h x (h ++ x ∷ []) i (snooped_count h) 0 e (one_more h x) (spaced-here r e timely here) (snoops_to h) place
+    ends_entry h x (h ++ x ∷ []) i (snooped_count h) 0 e (one_more h x) (spaced-here r e timely here)
+    (snoops_to h) place
 
 -- what the moment of the next clock has of the snoop end of an entry
 pub record IsSnoopedNow (s : Run) (n : ℕ) (e : Entry) : Type 0 where

@@ -150,7 +150,8 @@ clock-le w i k q c l e f =
     ]
 
 pub deferral-started : (v : BenchView) (hold : Bool) (choice : Choice) (entries : List Done) → IsBenchOf v
-    → (grows : GrowsTo v.run (run_with v hold choice entries)) → (k : SnoopsHere v hold choice entries) (d : Deferral) (i : ℕ)
+    → (grows : GrowsTo v.run (run_with v hold choice entries))
+    → (k : SnoopsHere v hold choice entries) (d : Deferral) (i : ℕ)
     → number_served_at (run_with v hold choice entries) (past_of (run_with v hold choice entries)) (clock_of v) ≡ Some i
     → IsDeferralOf (run_with v hold choice entries).trace d i
     → (begun : Started) × (slice_get v.bus.started d.number ≡ Some begun)
@@ -204,7 +205,8 @@ right-reply r p c s e hit hitm =
     rw (has_right_result, e) (and_from _ _ (beq-from _ _ hit) (ap not hitm))
 
 right-other : (r : Run) (p : Past) (c : ℕ) (s : SnoopEnd) → is_reply_end s ≡ false
-    → line_at HITM r.trace c ≡ is_dirty_for p c s → line_at HIT r.trace c ≡ (not (is_dirty_for p c s) && is_held_for p c s)
+    → line_at HITM r.trace c ≡ is_dirty_for p c s
+    → line_at HIT r.trace c ≡ (not (is_dirty_for p c s) && is_held_for p c s)
     → has_right_result r p c s ≡ true
 unfolding has_right_result
 right-other r p c s e hitm hit =
@@ -231,18 +233,22 @@ end-kind v hold choice entries b grows k =
     ∙ ap (option_map (λ (z : Request). z.kind)) (decoded-now v hold choice entries b grows k))
 
 -- HIT# and HITM# at the snoop end
-pub hit-now : (v : BenchView) (hold : Bool) (choice : Choice) (entries : List Done) (k : SnoopsHere v hold choice entries)
+pub hit-now : (v : BenchView) (hold : Bool) (choice : Choice) (entries : List Done)
+    (k : SnoopsHere v hold choice entries)
     (who : Who) → k.now.entry.who ≡ who → line_at HIT (run_with v hold choice entries).trace (clock_of v)
     ≡ hit_driven (snooped_entry (step_performed v) k.now.entry who) false
 hit-now v hold choice entries k who e =
-    line-with v hold choice entries HIT ∙ hit-driven (step_performed v) (clock_of v) v.run.plan.profile (step_decided v hold)
+    line-with v hold choice entries HIT
+    ∙ hit-driven (step_performed v) (clock_of v) v.run.plan.profile (step_decided v hold)
     ∙ (λ i. hit_driven ((k.decided ∙ ap (snooped_entry (step_performed v) k.now.entry) e) i) (k.calm i))
 
-pub hitm-now : (v : BenchView) (hold : Bool) (choice : Choice) (entries : List Done) (k : SnoopsHere v hold choice entries)
+pub hitm-now : (v : BenchView) (hold : Bool) (choice : Choice) (entries : List Done)
+    (k : SnoopsHere v hold choice entries)
     (who : Who) → k.now.entry.who ≡ who → line_at HITM (run_with v hold choice entries).trace (clock_of v)
     ≡ hitm_driven (snooped_entry (step_performed v) k.now.entry who) false
 hitm-now v hold choice entries k who e =
-    line-with v hold choice entries HITM ∙ hitm-driven (step_performed v) (clock_of v) v.run.plan.profile (step_decided v hold)
+    line-with v hold choice entries HITM
+    ∙ hitm-driven (step_performed v) (clock_of v) v.run.plan.profile (step_decided v hold)
     ∙ (λ i. hitm_driven ((k.decided ∙ ap (snooped_entry (step_performed v) k.now.entry) e) i) (k.calm i))
 
 dirty-by : (p : Past) (c : ℕ) (s : SnoopEnd) (claim : Claim) → s.claim ≡ Some claim
@@ -271,7 +277,8 @@ result-by : (v : BenchView) (hold : Bool) (choice : Choice) (entries : List Done
     → DeferralsTold v (run_with v hold choice entries) → AgentsAnswer v (run_with v hold choice entries)
     → (grows : GrowsTo v.run (run_with v hold choice entries)) → (k : SnoopsHere v hold choice entries) (who : Who)
     → k.now.entry.who ≡ who
-    → has_right_result (run_with v hold choice entries) (past_of (run_with v hold choice entries)) (clock_of v) k.told.end ≡ true
+    → has_right_result (run_with v hold choice entries) (past_of (run_with v hold choice entries))
+    (clock_of v) k.told.end ≡ true
 result-by v hold choice entries b told answer grows k (Symmetric agent) e =
     let s = run_with v hold choice entries in
     let p = past_of s in
@@ -334,4 +341,5 @@ pub snoop-result : (v : BenchView) (hold : Bool) (choice : Choice) (entries : Li
     → GrowsTo v.run (run_with v hold choice entries)
     → holds_at has_snoop_result (run_with v hold choice entries) (clock_of v) ≡ true
 snoop-result v hold choice entries b told answer grows =
-    holds-now has_snoop_result v.run (run_with v hold choice entries) grows (result-now v hold choice entries b told answer grows)
+    holds-now has_snoop_result v.run (run_with v hold choice entries) grows
+    (result-now v hold choice entries b told answer grows)

@@ -71,7 +71,8 @@ reply-settled Upgrade request e f = absurd (let no : ⊥ = cc in no)
 outcome-told : (v : BenchView) (hold : Bool) (choice : Choice) (entries : List Done) → IsBenchOf v
     → (grows : GrowsTo v.run (run_with v hold choice entries)) → (k : SnoopsHere v hold choice entries)
     → k.told.end.outcome
-    ≡ outcome_under (line_at HITM (run_with v hold choice entries).trace (clock_of v)) k.told.end.turn (Some k.now.entry.request)
+    ≡ outcome_under (line_at HITM (run_with v hold choice entries).trace (clock_of v)) k.told.end.turn
+    (Some k.now.entry.request)
 outcome-told v hold choice entries b grows k =
     let s = run_with v hold choice entries in
     let n = clock_of v in
@@ -116,7 +117,8 @@ snoop-by v hold choice entries b told grows k Priority e =
     let kind = begun-reply-kind r y.clock y.request begun in
     let decoded = ap (request_at s.trace) k.told.first ∙ decoded-now v hold choice entries b grows k in
     let there = k.told.is_end.there in
-    let some = some-there (deferral_of_id did v.bus.bridge.waiting) (told.taken k.told.end y.request there decoded kind) in
+    let some = some-there (deferral_of_id did v.bus.bridge.waiting)
+    (told.taken k.told.end y.request there decoded kind) in
     let d : Deferral = some.0 in
     let that = told.deferral k.told.end y.request there decoded kind in
     let one = subst (λ o. IsThatOf s.trace o (number_served_at s p n)) some.1 that in

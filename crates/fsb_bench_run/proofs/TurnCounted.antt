@@ -63,7 +63,8 @@ end-as r s e grows told =
 effective-of : (bridge : Option Window) (choices : List Choice) (w : Trace) (turns : List ℕ) (q n : ℕ)
     (request : Request) → request_at w q ≡ Some request
     → (effective_choice bridge choices w turns q n).turn
-    ≡ effective_turn (choice_at choices w q).turn request (is_in_window bridge request.line) (is_pending w turns request.line n)
+    ≡ effective_turn (choice_at choices w q).turn request (is_in_window bridge request.line)
+    (is_pending w turns request.line n)
 unfolding effective_choice
 effective-of bridge choices w turns q n request e = rw (e, effective_choice) refl
 
@@ -71,14 +72,16 @@ effective-of bridge choices w turns q n request e = rw (e, effective_choice) ref
 pub end-turn : (r s : Run) (e : Entry) → GrowsTo r s → (told : IsSnoopedNow s (length r.trace) e)
     → request_at s.trace e.clock ≡ Some e.request
     → told.end.turn ≡ effective_turn (choice_at s.choices s.trace e.clock).turn e.request
-    (is_in_window s.plan.bridge e.request.line) (is_pending s.trace (turns_in (past_of r).moments) e.request.line (length r.trace))
+    (is_in_window s.plan.bridge e.request.line) (is_pending s.trace (turns_in (past_of r).moments) e.request.line
+    (length r.trace))
 unfolding snoop_end_with
 end-turn r s e grows told decoded =
     let n = length r.trace in
     ap (λ (x : SnoopEnd). x.turn) (end-as r s e grows told)
     ∙ ap (λ (u : Run). (effective_choice s.plan.bridge u.choices u.trace (turns_in (moments_below s n)) e.clock n).turn)
     (run-ends r s grows)
-    ∙ ap (λ ms. (effective_choice s.plan.bridge s.choices s.trace (turns_in ms) e.clock n).turn) (moments-before r s grows)
+    ∙ ap (λ ms. (effective_choice s.plan.bridge s.choices s.trace (turns_in ms) e.clock n).turn)
+    (moments-before r s grows)
     ∙ effective-of s.plan.bridge s.choices s.trace (turns_in (past_of r).moments) e.clock n e.request decoded
 
 -- a reply is kept
