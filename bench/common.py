@@ -37,8 +37,8 @@ def most_memory(words):
 
 
 def row(work, measured, memory, asked):
-    """Prints one line of the table."""
-    print("%-62s %-10s %8.1f MiB   %s" % (work, measured, memory, asked))
+    """Prints one line of the table; the memory is None where it was not measured."""
+    print("%-62s %-10s %12s   %s" % (work, measured, "" if memory is None else "%.1f MiB" % memory, asked))
 
 
 def large_dump(program, folder, size):

@@ -215,7 +215,8 @@ pushed-same n r q a x h shares =
           rw (none, sym given ∙ none) refl
     ]
 
-owes-same : (n : ℕ) (p q : Past) (a t : ℕ) → SharesBelow n p q → t < n → owes_bytes_from p a n t ≡ owes_bytes_from q a n t
+owes-same : (n : ℕ) (p q : Past) (a t : ℕ) → SharesBelow n p q → t < n
+    → owes_bytes_from p a n t ≡ owes_bytes_from q a n t
 unfolding owes_bytes_from
 owes-same n p q a t h l =
     let given = given-same n p q a t h l in

@@ -34,3 +34,5 @@ pub use Rattle.fsb_agent_run.proofs.GrownOwed.{owed-grown}
 pub use Rattle.fsb_agent_run.proofs.MayCalls.{other-may}
 pub use Rattle.fsb_agent_run.proofs.CallsAtStages.{cancelled-seen, own-seen, send-may, tells-grants}
 pub use Rattle.fsb_agent_run.proofs.EndsAtStages.{arrives-seen, given-up-seen, upgrade-seen}
+-- An agent may see its events of a clock, and stays sound.
+pub use Rattle.fsb_agent_run.proofs.SoundEvents.{clock-seen, sound-all, sound-clock}

@@ -53,4 +53,5 @@ pub mod GrownOwed
 pub mod ArrivedViews
 pub mod EndEvents
 pub mod ClockEvents
+pub mod SoundEvents
 pub mod Interface

@@ -4,3 +4,4 @@ pub mod AgentClocks
 pub mod Ending
 pub mod Owings
 pub mod BytesOwed
+pub mod EventsSeen

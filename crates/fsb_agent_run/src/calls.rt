@@ -1,6 +1,6 @@
 //! Laws over when the calls of an agent may come: no code.
 
-ghost use Rattle.std.specs.Prelude.{◌≡◌, ◌≢◌, ◌⊎◌, ℕ, ◌+◌, Bool, None, Some, false, true};
+ghost use Rattle.std.specs.Prelude.{◌≡◌, ◌≢◌, ◌<◌, ◌⊎◌, ℕ, ◌+◌, Bool, List, None, Some, false, fold, true};
 ghost use Rattle.fsb_trace.specs.declared.outcome.Outcome.TheVariants.{Retried, Upgraded, Written};
 ghost use Rattle.fsb_timely.specs.Past.{Claim, Grant, Past, SnoopEnd};
 ghost use Rattle.fsb_timely.specs.Grants.{begun_at, snooped_at};
@@ -8,17 +8,19 @@ ghost use Rattle.fsb_timely.specs.Runs.{Run, past_of};
 ghost use Rattle.fsb_coherent.specs.Awaits.{cancelled_in};
 ghost use Rattle.fsb_run_laws.specs.Reaches.{Reaches};
 ghost use Rattle.fsb_agent_view.specs.declared.want.OwnRequest.{OwnRequest};
+ghost use Rattle.fsb_agent_view.specs.AgentEvents.{agent_after};
 ghost use Rattle.fsb_agent_view.specs.AgentViews.{AgentView};
 ghost use Rattle.fsb_agent_view.specs.Arriving.{may_arrive, may_end_upgrade, may_give_up};
 ghost use Rattle.fsb_agent_view.specs.OwnRequests.{request_numbered};
 ghost use Rattle.fsb_agent_view.specs.Snooping.{may_commit};
 ghost use Rattle.fsb_agent_view.specs.Sound.{IsSound};
 ghost use Rattle.fsb_agent_view.specs.Wanting.{may_send};
-ghost use Rattle.fsb_agent_run.specs.AgentClocks.{number_asked};
+ghost use Rattle.fsb_agent_run.specs.AgentClocks.{events_of_agent, number_asked};
 ghost use Rattle.fsb_agent_run.specs.BytesOwed.{HasBytesOwed};
 ghost use Rattle.fsb_agent_run.specs.Ending.{EndsFor};
+ghost use Rattle.fsb_agent_run.specs.EventsSeen.{may_see_all};
 ghost use Rattle.fsb_agent_run.specs.RunViews.{HasLines};
-ghost use Rattle.fsb_agent_run.specs.Stages.{IsViewAfterHit, IsViewAfterSent, IsViewAfterSnoop, IsViewBeforeSnoop};
+ghost use Rattle.fsb_agent_run.specs.Stages.{IsViewAfterHit, IsViewAfterSent, IsViewAfterSnoop, IsViewBeforeSnoop, IsViewOf};
 
 /// A sound agent whose record has its lines tells of each of its requests whether it was granted:
 /// exactly where the line's bytes are awaited.
@@ -72,4 +74,17 @@ pub fn ends_may_be_seen()
         Reaches r (c + 1) → EndsFor (past_of r) a c number s →
         (s.outcome ≡ Retried) ⊎ (s.outcome ≡ Written) → IsSound v →
         IsViewAfterSnoop (past_of r) a c v → may_give_up v number ≡ true }
+{}
+
+/// The record of a sound agent may see each of its events at a clock of a timely run behind those
+/// before it, whatever bytes come; so the agent is sound at the next clock too.
+pub fn clocks_keep_agents_sound()
+    ensures seen { (r : Run) (a c : ℕ) (bytes : ℕ → List ℕ) (v : AgentView) → Reaches r (c + 1) →
+        0 < r.plan.cache → a < 4 → IsSound v → IsViewOf (past_of r) a c v →
+        HasBytesOwed (past_of r) a c c c v →
+        may_see_all v (events_of_agent (past_of r) a c bytes) ≡ true }
+    ensures sound { (r : Run) (a c : ℕ) (bytes : ℕ → List ℕ) (v : AgentView) → Reaches r (c + 1) →
+        0 < r.plan.cache → a < 4 → IsSound v → IsViewOf (past_of r) a c v →
+        HasBytesOwed (past_of r) a c c c v →
+        IsSound (fold agent_after v (events_of_agent (past_of r) a c bytes)) }
 {}

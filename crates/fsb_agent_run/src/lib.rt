@@ -11,12 +11,13 @@
 //!
 //! `specs/BytesOwed.antt` says to which requests an agent owes bytes in a run, and how its record
 //! has them. The laws lead that too from one moment to the next, and they say that each call of an
-//! agent may come where the run has its event.
+//! agent may come where the run has its event: so a sound agent may see all its events of a clock
+//! (`specs/EventsSeen.antt`), and stays sound.
 #![tactic(auto)]
 
 pub use calls::{
-    ends_may_be_seen, requests_may_begin_and_be_cancelled, requests_tell_grants,
-    snoop_ends_may_be_seen,
+    clocks_keep_agents_sound, ends_may_be_seen, requests_may_begin_and_be_cancelled,
+    requests_tell_grants, snoop_ends_may_be_seen,
 };
 pub use clocks::{clocks_keep_views, views_of_runs_are_their_events};
 pub use laws::{

@@ -60,7 +60,11 @@ impl Watcher for Judge {
 /// and parses and judges each piece as it comes.
 ///
 /// Each turn takes a byte at least. No trace is kept: the memory that is taken does not grow with the dump.
-pub fn check_dump<S: Source>(alloc: Global, name: &str, source: &mut S) -> Result<Judgement, DumpStop>
+pub fn check_dump<S: Source>(
+    alloc: Global,
+    name: &str,
+    source: &mut S,
+) -> Result<Judgement, DumpStop>
     requires { length name.now ≤ 4096 }
     ensures checked { IsTrue S.tells →
         IsReadAs IsFound result (S.holds source.old) (S.left source.new) }

@@ -1,6 +1,8 @@
 //! Waveforms, judged twice: by the checker, sample by sample, and by the plain judge of whole traces.
 //!
-//! `fsb_trials <seed> <count> <dump>..` makes so many random waveforms from the seed, and reads the dumps; of each dump it
+//! `fsb_trials <seed> <count> <dump>..` makes so many random waveforms from the seed, and reads the
+//! dumps, whole and in pieces of 1, 7, 113 and 65,536 bytes, which must say the same, or else it
+//! prints `not read`; of each dump it
 //! also takes every waveform in which one control line is turned over at one clock: a parity line only where the dump
 //! declares one. The random ones have parity lines, and are judged by marks that are drawn. Of the random ones and then of those of
 //! the dumps it prints how many were judged, how many were accepted and how many broke each rule first, and how many were
@@ -14,12 +16,14 @@ use fsb_io::{FileSource, Source, read_all};
 use fsb_rules::{Broken, Checker};
 use fsb_signal::{Marks, Sample};
 use fsb_trace::verdict;
+use pieces::says_the_same;
 use std::alloc::{AllocError, Global};
 use std::rt::{Env, Files};
 use vcd_read::read_dump;
 use waveform::{turned_over, waveform};
 
 mod draws;
+mod pieces;
 mod waveform;
 
 fn main(rt: HostRuntime) {
@@ -97,7 +101,8 @@ fn random(alloc: Global, asked: Asked, tally: &mut Tally) -> Result<(), AllocErr
     Ok(())
 }
 
-/// Judges the waveform of a dump, and each in which one line is turned over at one clock; None where it is not read.
+/// Judges the waveform of a dump, and each in which one line is turned over at one clock; None
+/// where it is not read, or says something else in pieces than whole.
 fn dump(rt: &(impl Files + AllocGlobal), name: &str, tally: &mut Tally) -> Option<()> {
     if name.len() > 4_096 {
         return None;
@@ -106,7 +111,7 @@ fn dump(rt: &(impl Files + AllocGlobal), name: &str, tally: &mut Tally) -> Optio
     source.begin(name).ok()?;
     let text = read_all(rt.alloc(), &mut source, 1 << 20).ok()?;
     let (marks, mut w) = read_dump(rt.alloc(), &text).ok()?;
-    if w.len() > 200_000 {
+    if w.len() > 200_000 || !says_the_same(rt.alloc(), &text, marks, &w) {
         return None;
     }
     let lines = if marks.ap || marks.rp { 21 } else { 18 };

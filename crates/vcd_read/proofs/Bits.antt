@@ -14,7 +14,7 @@ none_more : (n p : ℕ) → (2 * n + 0) * p ≡ n * (2 * p)
 none_more n p = grind arith
 
 -- digits that pass, before others
-ones_before : (test : ℕ → Bool) (p m n : ℕ) (ds : List ℕ) → test p ≡ true → bits_from test n (replicate m p ++ ds) ≡ bits_from test ((n + 1) * 2 ^ m - 1) ds
+pub ones_before : (test : ℕ → Bool) (p m n : ℕ) (ds : List ℕ) → test p ≡ true → bits_from test n (replicate m p ++ ds) ≡ bits_from test ((n + 1) * 2 ^ m - 1) ds
 ones_before test p zero n ds h = ap (λ k. bits_from test k ds) (omega arith)
 ones_before test p (suc m) n ds h =
     ap (λ b. bits_from test (2 * n + cond b 1 0) (replicate m p ++ ds)) h
@@ -22,7 +22,7 @@ ones_before test p (suc m) n ds h =
     ∙ ap (λ k. bits_from test k ds) (one_more n (2 ^ m) ∙ ap (λ q. (n + 1) * q - 1) (sym (pow-succ' 2 m)))
 
 -- digits that do not, before others
-none_before : (test : ℕ → Bool) (p m n : ℕ) (ds : List ℕ) → test p ≡ false → bits_from test n (replicate m p ++ ds) ≡ bits_from test (n * 2 ^ m) ds
+pub none_before : (test : ℕ → Bool) (p m n : ℕ) (ds : List ℕ) → test p ≡ false → bits_from test n (replicate m p ++ ds) ≡ bits_from test (n * 2 ^ m) ds
 none_before test p zero n ds h = ap (λ k. bits_from test k ds) (omega arith)
 none_before test p (suc m) n ds h =
     ap (λ b. bits_from test (2 * n + cond b 1 0) (replicate m p ++ ds)) h

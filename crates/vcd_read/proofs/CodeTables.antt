@@ -1,42 +1,16 @@
 -- The map of the declared codes, and the table of those of one byte.
-use Rattle.std.proofs.Common.{◌≡◌, ℕ, Bool, true, false, List, [], ◌∷◌, ◌++◌, length, ◌==◌, Option, Some, None, option_map, slice_get, slice_set, replicate, nat_eq, cond, refl, sym, ap, subst, ◌∙◌, arith, suc, zero, Vec}
-use Rattle.std.specs.Cmp.Lexicographic.{pointwise, same_text, other_text, nat_list_eq_equiv}
-use Rattle.std.specs.Map.{lookup}
+use Rattle.std.proofs.Common.{◌≡◌, ℕ, Bool, true, false, List, [], ◌∷◌, ◌++◌, length, ◌==◌, Option, Some, None, slice_get, slice_set, replicate, cond, refl, sym, ap, subst, ◌∙◌, arith, suc, zero}
+use Rattle.std.specs.Cmp.Lexicographic.{same_text, other_text, nat_list_eq_equiv}
 use Rattle.std.proofs.lemmas.Bool.{ne_eqb}
-use Rattle.indexmap.specs.IndexMap.{insert_entry}
 use Rattle.vcd_grammar.specs.Words.{same}
 use Rattle.vcd_grammar.specs.Codes.{Code, lines_of, with_code}
-use Rattle.vcd_read.specs.CodesView.{codes_of, Agree, lines_or_none, only_of, with_single}
-
--- what the map finds are the lines of the code
-pub found : {A : Type 0} (code : List ℕ) (es : List (Vec ℕ A × Vec ℕ A)) → option_map (λ v. v.items) (lookup (λ k. pointwise nat_eq code k.items) es) ≡ lines_of (codes_of es) code
-found code [] = refl
-found code (e ∷ es) = by (same code e.0.items) refl (found code es)
-  where
-    by : (b : Bool) → same code e.0.items ≡ b → option_map (λ v. v.items) (lookup (λ k. pointwise nat_eq code k.items) es) ≡ lines_of (codes_of es) code
-        → option_map (λ v. v.items) (lookup (λ k. pointwise nat_eq code k.items) (e ∷ es)) ≡ lines_of (codes_of (e ∷ es)) code
-    by true h rest = rw h refl
-    by false h rest = rw h rest
+use Rattle.vcd_read.specs.CodesView.{Agree, lines_or_none, only_of, with_single}
 
 -- no table of nothing tells a line
 pub none_single : (n byte number : ℕ) → slice_get (replicate n None) byte ≡ Some (Some number) → ⊥
 none_single zero byte number h = cc
 none_single (suc n) zero number h = cc
 none_single (suc n) (suc byte) number h = none_single n byte number h
-
--- the entries of the map, once the code has got the lines that it had and one more variable's
-pub inserted : {A : Type 0} (eq : Vec ℕ A → Vec ℕ A → Bool) (key lines : Vec ℕ A) (line : List ℕ) (es : List (Vec ℕ A × Vec ℕ A))
-    → ((k : Vec ℕ A) → eq key k ≡ same key.items k.items)
-    → lines.items ≡ lines_or_none (lines_of (codes_of es) key.items) ++ line
-    → codes_of (insert_entry eq es key lines) ≡ with_code (codes_of es) key.items line
-inserted eq key lines line [] is h = λ i. record { code = key.items; lines = h i } ∷ []
-inserted {A} eq key lines line (e ∷ es) is h = by (same key.items e.0.items) refl (λ k. inserted eq key lines line es is k)
-  where
-    by : (b : Bool) → same key.items e.0.items ≡ b
-        → (lines.items ≡ lines_or_none (lines_of (codes_of es) key.items) ++ line → codes_of (insert_entry eq es key lines) ≡ with_code (codes_of es) key.items line)
-        → codes_of (insert_entry eq (e ∷ es) key lines) ≡ with_code (codes_of (e ∷ es)) key.items line
-    by true t rest = rw (is e.0, t) (let k = rw t at h in λ i. record { code = e.0.items; lines = k i } ∷ codes_of es)
-    by false t rest = rw (is e.0, t) (ap (λ cs. record { code = e.0.items; lines = e.1.items } ∷ cs) (rest (rw t at h)))
 
 -- a code is itself
 same-self : (code : List ℕ) → same code code ≡ true

@@ -2,7 +2,8 @@
 use Rattle.std.proofs.Common.{◌≡◌, ℕ, ◌+◌, ◌-◌, ◌^◌, ◌<◌, ◌≤◌, ◌==◌, true, false, None, Some, List, [], ◌∷◌, length, take, drop, slice_index, nat_le, suc, refl, sym, ap, ◌∙◌, subst, arith, inl, inr}
 use Rattle.std.specs.List.{list_all}
 use Rattle.std.proofs.lemmas.Bool.{and_parts, and_from, and_right, ne_eqb, le-leb, lt-leb, le-ltb, leb-true, cases_lt, false≢true, both_ways}
-use Rattle.std.proofs.lemmas.List.{length-take-le}
+use Rattle.std.proofs.Math.Nat.{min-le_left, min-le_right}
+use Rattle.std.proofs.lemmas.List.{length-take, length-take-le, take-take}
 use Rattle.fsb_signal.specs.declared.sample.Sample.{Sample}
 use Rattle.vcd_grammar.specs.Tokens.{Token, is_white, longest}
 use Rattle.vcd_grammar.specs.Digits.{is_digit, number_from, number_up_to, time_in, is_value_digit}
@@ -31,7 +32,7 @@ not_digit b h =
       ne_eqb b 90 (λ e. omega (arith, e, h)),
     ) refl
 
-value_digit_dark : (b : ℕ) → is_value_digit b ≡ true → is_dark b ≡ true
+pub value_digit_dark : (b : ℕ) → is_value_digit b ≡ true → is_dark b ≡ true
 value_digit_dark b t =
     elim (cases_lt b 33) [ inl l ↦ absurd (both_ways _ (not_digit b l) t) | inr l ↦ dark_above b l ]
 
@@ -43,7 +44,7 @@ digits_dark (b ∷ bs) t =
     and_from _ _ (dark_above b (omega (arith, leb-true 48 b digit.0))) (digits_dark bs p.1)
 
 -- a token between values
-turn_between : (k : Known) (t : Token) → k.fault ≡ None → k.mode ≡ Values → length t.word ≤ longest → turn k t ≡ value_turn k t.place (value_word t.word)
+pub turn_between : (k : Known) (t : Token) → k.fault ≡ None → k.mode ≡ Values → length t.word ≤ longest → turn k t ≡ value_turn k t.place (value_word t.word)
 unfolding turn
 turn_between k t sound values short = rw (sound, values, le-ltb longest (length t.word) short) refl
 
@@ -87,6 +88,19 @@ time_is digits time some few are value small =
 pub stamp_says : (digits : List ℕ) (time : ℕ) → time_in digits ≡ Some time → value_word (35 ∷ digits) ≡ Stamp time
 unfolding value_word
 stamp_says digits time h = rw h refl
+
+pub number_longer : (n : ℕ) (text : List ℕ) (len number : ℕ) → BeginsWithNumber (take n text) len number → BeginsWithNumber text len number
+number_longer n text len number begins =
+    let size = length-take n text in
+    let within : len < length text = omega (arith, begins.within, size, min-le_right n (length text)) in
+    let same : take len (take n text) ≡ take len text = take-take len n text (omega (arith, begins.within, size, min-le_left n (length text))) in
+    record {
+      within = within;
+      few = begins.few;
+      digits = sym (ap (list_all is_digit) same) ∙ begins.digits;
+      value = sym (ap (number_from 0) same) ∙ begins.value;
+      fits = begins.fits;
+    }
 
 pub stamp_begins : (bytes : List ℕ) (len time : ℕ) → 0 < length bytes → slice_index bytes 0 ≡ 35 → BeginsWithNumber (drop 1 bytes) len time → (len ≡ 0 → ⊥) → is_white (slice_index (drop 1 bytes) len) ≡ true
     → BeginsWithStamp bytes (len + 1) time

@@ -2,6 +2,7 @@ pub mod Samples
 pub mod Numbers
 pub mod Bits
 pub mod Widths
+pub mod CodeKeys
 pub mod CodeTables
 pub mod Quiet
 pub mod Entries
@@ -10,7 +11,9 @@ pub mod Counts
 pub mod Readings
 pub mod LaneRuns
 pub mod Absorbing
+pub mod BinaryDigits
 pub mod DirectTokens
+pub mod DirectVectors
 pub mod Law
 pub mod Standings
 pub mod Endings

@@ -1,14 +1,59 @@
 -- The declared codes, as the reader's map has them.
-use Rattle.std.specs.Prelude.{◌≡◌, ℕ, List, [], ◌∷◌, Option, Some, None, slice_get, slice_set, slice_index, map, length, ◌==◌, if◌then◌else◌, Vec}
+use Rattle.std.specs.Prelude.{◌≡◌, ℕ, ◌+◌, ◌-◌, ◌*◌, ◌/◌, ◌%◌, ◌^◌, Bool, true, false, nat_le, nat_lt, List, [], ◌∷◌, ◌++◌, Option, Some, None, option_map, slice_get, slice_set, slice_index, map, length, ◌==◌, if◌then◌else◌, Vec, suc, zero}
+use Rattle.std.specs.List.{list_all, position}
+use Rattle.std.specs.Option.{option_map_or}
+use Rattle.vcd_grammar.specs.Words.{same}
 use Rattle.vcd_grammar.specs.Codes.{Code, lines_of}
 
+-- a code as a number: its first byte is the lowest, and a 1 stands behind its last
+abbrev pub packed : List ℕ → ℕ
+packed [] = 1
+packed (b ∷ bs) = b + 256 * packed bs
+
+-- the bytes of such a number, of which there are so many at most
+abbrev pub unpacked : ℕ → ℕ → List ℕ
+unpacked zero key = []
+unpacked (suc n) key = if key == 1 then [] else (key % 256) ∷ unpacked n (key / 256)
+
+-- the key of a code in a map: the number of a code of seven bytes at most, and 2^63 and the place of another among the
+-- long ones
+abbrev pub key_of : {A : Type 0} → List (Vec ℕ A) → List ℕ → Option ℕ
+key_of long code =
+    if nat_le (length code) 7 then Some (packed code)
+    else option_map (λ i. 2 ^ 63 + i) (position (λ v. same code v.items) long)
+
+-- the code that a key stands for
+abbrev pub coded_by : {A : Type 0} → List (Vec ℕ A) → ℕ → List ℕ
+coded_by long key =
+    if nat_lt key (2 ^ 63) then unpacked 7 key
+    else option_map_or (λ v. v.items) (slice_get long (key - 2 ^ 63)) []
+
+-- a number is the key of the code that it stands for
+abbrev pub is_key : {A : Type 0} → List (Vec ℕ A) → ℕ → Bool
+is_key long key = option_map_or (λ k. k == key) (key_of long (coded_by long key)) false
+
 -- the codes of a map's entries
-abbrev pub codes_of : {A : Type 0} → List (Vec ℕ A × Vec ℕ A) → List Code
-codes_of entries = map (λ e. record { code = e.0.items; lines = e.1.items }) entries
+abbrev pub codes_of : {A : Type 0} → List (Vec ℕ A) → List (ℕ × Vec ℕ A) → List Code
+codes_of long entries = map (λ e. record { code = coded_by long e.0; lines = e.1.items }) entries
+
+-- each key of a map is one
+abbrev pub are_keys : {A : Type 0} → List (Vec ℕ A) → List (ℕ × Vec ℕ A) → Bool
+are_keys long entries = list_all (λ e. is_key long e.0) entries
 
 -- a table of the codes of one byte tells a line only where the code has that line alone
 pub record Agree (single : List (Option ℕ)) (codes : List Code) : Type 0 where
   pub tells : (byte number : ℕ) → slice_get single byte ≡ Some (Some number) → lines_of codes (byte ∷ []) ≡ Some (number ∷ [])
+
+-- what the tables of the declared codes keep: the one of the codes of one byte tells what is so, and each key is one
+pub record CodesKept {A : Type 0} (single : List (Option ℕ)) (long : List (Vec ℕ A)) (entries : List (ℕ × Vec ℕ A))
+    : Type 0 where
+  pub agree : Agree single (codes_of long entries)
+  pub keys : are_keys long entries ≡ true
+
+-- long codes stay where they are
+pub record KeepsLong {A : Type 0} (old new : List (Vec ℕ A)) : Type 0 where
+  pub added : List (Vec ℕ A)
+  pub appended : new ≡ old ++ added
 
 -- the lines, and none where the code was not declared
 abbrev pub lines_or_none : Option (List ℕ) → List ℕ

@@ -1,12 +1,17 @@
 -- Tokens that are taken at once.
-use Rattle.std.specs.Prelude.{◌≡◌, ◌<◌, ◌≤◌, ◌^◌, ℕ, true, false, None, Some, List, [], ◌∷◌, length, take, slice_index}
+use Rattle.std.specs.Prelude.{◌≡◌, ◌<◌, ◌≤◌, ◌+◌, ◌^◌, ℕ, true, false, None, Some, List, [], ◌∷◌, ◌++◌, length, take, slice_index}
 use Rattle.std.specs.List.{list_all}
 use Rattle.vcd_grammar.specs.Tokens.{is_white}
 use Rattle.vcd_grammar.specs.Digits.{is_digit, number_from, is_value_digit}
 use Rattle.vcd_grammar.specs.Codes.{Code, lines_of}
 use Rattle.vcd_grammar.specs.Words.{value_word, Stamp}
 use Rattle.vcd_grammar.specs.Judging.{Values}
+use Rattle.fsb_signal.specs.DumpText.{width_of}
+use Rattle.vcd_grammar.specs.Digits.{extended}
+use Rattle.vcd_grammar.specs.Levels.{level_of}
+use Rattle.vcd_read.specs.Lanes.{is_binary}
 use Rattle.vcd_read.specs.declared.direct.DirectScalar.{DirectScalar}
+use Rattle.vcd_read.specs.declared.direct.DirectVector.{DirectVector}
 use Rattle.vcd_read.specs.Scanning.{Reading, is_dark}
 
 -- no token is begun, and the next one stands between values, with no fault before it
@@ -41,3 +46,24 @@ pub record BeginsWithStamp (bytes : List ℕ) (len time : ℕ) : Type 0 where
   pub dark : list_all is_dark (take len bytes) ≡ true
   pub white : is_white (slice_index bytes len) ≡ true
   pub says : value_word (take len bytes) ≡ Stamp time
+
+-- the bytes begin with a vector of digits 0 and 1, which says this level of one line alone, not the clock's, whose code
+-- is one byte; white space stands behind either
+pub record BeginsWithVector (codes : List Code) (bytes : List ℕ) (v : DirectVector) : Type 0 where
+  pub digits : List ℕ
+  pub white : ℕ
+  pub last : ℕ
+  pub begins : take (v.count + 4) bytes ≡ (98 ∷ digits ++ white ∷ []) ++ v.code ∷ last ∷ []
+  pub enough : v.count + 4 ≤ length bytes
+  pub long : length digits ≡ v.count
+  pub some : 0 < v.count
+  pub few : v.count ≤ 64
+  pub binary : list_all is_binary digits ≡ true
+  pub code : is_white v.code ≡ false
+  pub between : is_white white ≡ true
+  pub behind : is_white last ≡ true
+  pub line : lines_of codes (v.code ∷ []) ≡ Some (v.number ∷ [])
+  pub other : 0 < v.number
+  pub known : v.number < 22
+  pub fits : v.count ≤ width_of v.number
+  pub level : v.level ≡ level_of (extended (width_of v.number) digits)

@@ -2,6 +2,7 @@
 use Rattle.std.specs.Prelude.{ℕ, ◌+◌, List, [], ◌∷◌, ◌++◌, nat_lt, if◌then◌else◌}
 use Rattle.fsb_signal.specs.declared.sample.Sample.{Sample}
 use Rattle.vcd_grammar.specs.Tokens.{Token}
+use Rattle.vcd_grammar.specs.Blocks.{Changed}
 use Rattle.vcd_grammar.specs.Judging.{Known, nothing, TokenTurn, turn}
 use Rattle.vcd_read.specs.declared.machine.Machine.{Machine}
 use Rattle.vcd_read.specs.Lines.{OpenLines, at_start, after_events, decided_in}
@@ -27,6 +28,11 @@ turned s t = record { known = t.known; lines = after_events s.lines t.events }
 -- the samples that a token's turn decides
 abbrev pub decided_of : Taken → TokenTurn → List Sample
 decided_of s t = decided_in s.lines t.events
+
+-- a line has got some digits
+abbrev pub line_changed : Known → ℕ → List ℕ → TokenTurn
+line_changed k number digits =
+    record { known = k; events = Changed (record { lines = number ∷ []; digits = digits }) ∷ [] }
 
 -- what a token makes of it
 abbrev pub take_token : Taken → Token → Taken

@@ -1,10 +1,16 @@
-ghost use Rattle.std.specs.Prelude.{◌≡◌, [], ◌∷◌, ◌++◌, Some, option_map, IfSome, IfOk, OnOk};
+ghost use Rattle.std.specs.Prelude.{◌≡◌, ◌≤◌, ◌<◌, ◌+◌, ◌*◌, ◌^◌, [], ◌∷◌, ◌++◌, length, Some, option_map, IfSome, IfOk, OnOk};
 ghost use Rattle.vcd_grammar.specs.Codes.{lines_of, with_code};
-ghost use Rattle.vcd_read.specs.CodesView.{lines_or_none, only_of, with_single};
+ghost use Rattle.vcd_read.specs.CodesView.{lines_or_none, only_of, with_single, packed, key_of, KeepsLong};
 
-use indexmap::IndexMap;
+use indexmap::{IndexMap, IndexSet};
 use std::alloc::{AllocError, Global};
 use std::marker::Model;
+
+/// A code of more bytes is kept as it is, and another one as a number.
+const SHORT: usize = 7;
+
+/// The key of the first long code.
+const LONG: u64 = 1 << 63;
 
 /// The codes that were declared, each with the lines that have it.
 #[derive(Drop)]
@@ -12,19 +18,22 @@ pub(crate) struct Codes {
     alloc: Global,
     /// The line of a code that is this one byte, where it has exactly one.
     single: [Option<u8>; 128],
-    all: IndexMap<Vec<u8>, Vec<u8>>,
+    /// The long codes.
+    long: IndexSet<Vec<u8>>,
+    /// The lines of each code, by its key.
+    all: IndexMap<u64, Vec<u8>>,
 }
 
 impl Model for Codes {
     ghost use Rattle.std.specs.Prelude.{List};
     ghost use Rattle.vcd_grammar.specs.Codes.{Code};
-    ghost use Rattle.vcd_read.specs.CodesView.{codes_of, Agree};
+    ghost use Rattle.vcd_read.specs.CodesView.{codes_of, CodesKept};
 
     ghost Value = { List Code };
 
-    ghost view = { λ c. codes_of c.all.entries };
+    ghost view = { λ c. codes_of c.long.keys c.all.entries };
 
-    ghost invariant = { λ c. Agree c.single (codes_of c.all.entries) };
+    ghost invariant = { λ c. CodesKept c.single c.long.keys c.all.entries };
 }
 
 impl Codes {
@@ -35,6 +44,7 @@ impl Codes {
         Codes {
             alloc,
             single: [None; 128],
+            long: IndexSet::new(alloc),
             all: IndexMap::new(alloc),
         }
     }
@@ -56,7 +66,8 @@ impl Codes {
     pub(crate) fn lines(&self, code: &[u8]) -> Option<&[u8]>
         ensures { option_map (λ lines. lines.now) result ≡ lines_of self.now code.now }
     {
-        match self.all.get(code) {
+        let key = key_of(&self.long, code)?;
+        match self.all.get(&key) {
             Some(lines) => Some(lines.as_slice()),
             None => None,
         }
@@ -81,11 +92,56 @@ impl Codes {
     {
         let lines = self.joined(code, line)?;
         let only = only_of(lines.as_slice());
-        let key = copy_of(self.alloc, code)?;
+        let Some(key) = key_for(&mut self.long, self.alloc, code)? else {
+            return Err(AllocError);
+        };
         self.all.insert(key, lines)?;
         set_single(&mut self.single, code, only);
         Ok(())
     }
+}
+
+/// A code as a number.
+fn packed(code: &[u8]) -> u64
+    requires { length code.now ≤ 7 }
+    ensures { result ≡ packed code.now }
+{
+    let mut key: u64 = 1;
+    let mut left = code.len();
+    while 0 < left {
+        left -= 1;
+        key = u64::from(code[left]) + 256 * key;
+    }
+    key
+}
+
+/// The key of a code, where it was declared or may be.
+fn key_of(long: &IndexSet<Vec<u8>>, code: &[u8]) -> Option<u64>
+    ensures { result ≡ key_of long.now.keys code.now }
+{
+    if code.len() <= SHORT {
+        return Some(packed(code));
+    }
+    match long.get_index_of(code) {
+        Some(place) if place < long.len() => Some(LONG + place as u64),
+        _ => None,
+    }
+}
+
+/// The key of a code, which is put among the long ones if it is one.
+fn key_for(
+    long: &mut IndexSet<Vec<u8>>,
+    alloc: Global,
+    code: &[u8],
+) -> Result<Option<u64>, AllocError>
+    ensures key { IfOk result (λ key. key ≡ key_of long.new.keys code.now) }
+    ensures long { KeepsLong long.old.keys long.new.keys }
+{
+    if SHORT < code.len() {
+        let word = copy_of(alloc, code)?;
+        long.insert(word)?;
+    }
+    Ok(key_of(long, code))
 }
 
 /// The same bytes.

@@ -1,8 +1,9 @@
 //! Sixteen bytes at a time.
 
-ghost use Rattle.std.specs.Prelude.{◌≡◌, ◌+◌, ◌≤◌, length};
+ghost use Rattle.std.specs.Prelude.{◌≡◌, ◌+◌, ◌≤◌, length, take, drop};
+ghost use Rattle.vcd_grammar.specs.Levels.{bits_from, is_low};
 ghost use Rattle.vcd_read.specs.Scanning.{is_dark};
-ghost use Rattle.vcd_read.specs.Lanes.{first_set, is_binary, IsRunOf};
+ghost use Rattle.vcd_read.specs.Lanes.{first_set, is_binary, IsRunOf, BeginsWithBinary};
 
 use std::simd::prelude::*;
 
@@ -33,6 +34,17 @@ pub(crate) fn dark_run(bytes: &[u8], at: usize) -> usize
     first_set(stops.to_bitmask())
 }
 
+/// The sixteen bytes from a place on as a number, with a bit for each that is 0, the first byte's
+/// the highest.
+#[inline(always)]
+pub(crate) fn zeros_at(bytes: &[u8], at: usize) -> u64
+    requires { at + 16 ≤ length bytes.now }
+    ensures { result ≡ bits_from is_low 0 (take 16 (drop at bytes.now)) }
+{
+    let v = u8x16::from_slice(&bytes[at..]).reverse();
+    v.simd_eq(u8x16::splat(b'0')).to_bitmask()
+}
+
 /// How many of the sixteen bytes from a place on stand before the first that is neither 0 nor 1.
 #[inline(always)]
 pub(crate) fn binary_run(bytes: &[u8], at: usize) -> usize
@@ -42,4 +54,24 @@ pub(crate) fn binary_run(bytes: &[u8], at: usize) -> usize
     let v = u8x16::from_slice(&bytes[at..]);
     let stops = v.simd_ne(u8x16::splat(b'0')) & v.simd_ne(u8x16::splat(b'1'));
     first_set(stops.to_bitmask())
+}
+
+/// How many digits 0 and 1 a text begins with, 64 at most, and as a number with a bit for each that
+/// is 0, the first one's the highest.
+#[inline(always)]
+pub(crate) fn binary_before(text: &[u8]) -> (usize, u64)
+    requires { 64 ≤ length text.now }
+    ensures { BeginsWithBinary text.now result.0 result.1 }
+{
+    let mut zeros: u64 = 0;
+    for block in 0..4 {
+        let at = LANES * block;
+        let run = binary_run(text, at);
+        let bits = zeros_at(text, at);
+        if run < LANES {
+            return (at + run, (zeros << run) + (bits >> (LANES - run)));
+        }
+        zeros = zeros * 65536 + bits;
+    }
+    (64, zeros)
 }

@@ -1,9 +1,11 @@
-ghost use Rattle.std.specs.Prelude.{◌≡◌, ◌<◌, ◌≤◌, ◌-◌, ◌^◌, [], ◌∷◌, length, slice_index, false, if◌then◌else◌};
+ghost use Rattle.std.specs.Prelude.{◌≡◌, ◌<◌, ◌≤◌, ◌-◌, ◌^◌, ℕ, List, [], ◌∷◌, length, slice_index, true, false, if◌then◌else◌};
+ghost use Rattle.std.specs.List.{list_all};
 ghost use Rattle.vcd_grammar.specs.Digits.{extended, pad_of};
-ghost use Rattle.vcd_grammar.specs.Levels.{level_of, control_of, asserted_at, unknown_at};
+ghost use Rattle.vcd_grammar.specs.Levels.{bits_from, is_low, level_of, control_of, asserted_at, unknown_at};
 ghost use Rattle.vcd_grammar.specs.Values.{sample_at, word_of};
 ghost use Rattle.vcd_grammar.specs.Judging.{is_too_wide};
 ghost use Rattle.fsb_signal.specs.DumpText.{width_of};
+ghost use Rattle.vcd_read.specs.Lanes.{is_binary};
 ghost use Rattle.vcd_read.specs.Lines.{with_line, with_lines, nothing_set};
 
 use crate::digits::{is_unknown, pad_of};
@@ -99,6 +101,22 @@ pub(crate) fn width_at(number: u8) -> u8
     ensures most { result ≤ 64 }
 {
     signal_at(number).width
+}
+
+/// What so many digits 0 and 1 say, once they are extended to a width; with a bit for each that is
+/// 0.
+#[inline(always)]
+pub(crate) fn level_of_binary(width: u8, count: usize, zeros: u64) -> Level
+    requires within { width ≤ 64 }
+    requires fits { count ≤ width }
+    requires small { zeros < 2 ^ count }
+    ensures { (digits : List ℕ) → length digits ≡ count → list_all is_binary digits ≡ true →
+        bits_from is_low 0 digits ≡ zeros → result ≡ level_of (extended width digits) }
+{
+    Level {
+        asserted: ones(width as usize) - ones(count) + zeros,
+        unknown: 0,
+    }
 }
 
 /// The width of the line of this number, and 0 past the table.
@@ -267,6 +285,29 @@ impl Values {
                 self.clock = clock_digit(digits);
             }
         }
+    }
+
+    /// Gives a line one digit.
+    #[tactic(auto, unfolding(vcd_grammar::specs::Digits::extended))]
+    pub(crate) fn set_digit(&mut self, number: u8, digit: u8)
+        ensures { self.new ≡ with_line self.old number (digit ∷ []) }
+    {
+        if number == 0 {
+            self.levels[0] = level_of_digit(digit);
+            self.clock = digit;
+        } else {
+            self.set_line(number, &[digit]);
+        }
+    }
+
+    /// Gives a line what digits say of it.
+    pub(crate) fn set_level(&mut self, number: u8, level: Level)
+        requires { number < 22 }
+        ensures { (digits : List ℕ) → 0 < number →
+            level ≡ level_of (extended (width_of number) digits) →
+            self.new ≡ with_line self.old number digits }
+    {
+        self.levels[number as usize] = level;
     }
 
     /// Gives some lines some digits.

@@ -1,12 +1,14 @@
 ghost use Rattle.std.specs.Prelude.{◌≡◌, ℕ, true, None, [], ◌∷◌, ◌==◌, ◌&&◌, not, slice_get, ◌<◌, ◌+◌, ◌^◌, List, take, length, ◌≤◌, Some, IfOk, OnOk, OnErr, if◌then◌else◌};
 ghost use Rattle.fsb_signal.specs.Table.{TableEntry, table};
-ghost use Rattle.vcd_grammar.specs.Digits.{time_in};
+ghost use Rattle.fsb_signal.specs.DumpText.{width_of};
+ghost use Rattle.vcd_grammar.specs.Digits.{time_in, extended};
+ghost use Rattle.vcd_grammar.specs.Levels.{level_of};
 ghost use Rattle.vcd_grammar.specs.Words.{header_word, value_word, stamp_word, scalar_word, vector_word, is_end};
 ghost use Rattle.vcd_grammar.specs.Judging.{turn, turn_in, stays, goes_to, fails, later, unless_long, drafted, declared, other_declared, line_declared, named, closed, is_declared, missing_from, header_turn, value_turn, scalar_turn, stamped, Variable as in_variable, Pending as in_pending, Beside as in_beside, marks_of_lines, known_marks};
 ghost use Rattle.vcd_grammar.specs.Reading.{or_cut};
 ghost use Rattle.vcd_read.specs.ReaderView.{known_of, lines_view, draft_of};
 ghost use Rattle.vcd_read.specs.Lines.{rises};
-ghost use Rattle.vcd_read.specs.Taking.{taken, untaken, turned, decided_of, pushed};
+ghost use Rattle.vcd_read.specs.Taking.{taken, untaken, turned, decided_of, pushed, line_changed};
 ghost use Rattle.vcd_read.specs.Scanning.{open_samples, open_rises};
 
 use crate::codes::Codes;
@@ -20,7 +22,7 @@ use crate::words::{
 use arrayvec::ArrayVec;
 use fsb_signal::{Marks, Sample, signal_at};
 use std::alloc::{AllocError, Global};
-use vcd_grammar::{VcdCause, VcdFault};
+use vcd_grammar::{Level, VcdCause, VcdFault};
 
 /// What is known behind the tokens so far.
 #[derive(Drop)]
@@ -419,7 +421,7 @@ impl Machine {
             return;
         }
         if let Some(number) = self.codes.single(code) {
-            self.block.set_line(number, &[digit]);
+            self.block.set_digit(number, digit);
             return;
         }
         match self.codes.lines(code) {
@@ -433,7 +435,18 @@ impl Machine {
         ensures { taken self.new ≡ turned (taken self.old)
             (scalar_turn (known_of self.old) 0 digit (Some (number ∷ []))) }
     {
-        self.block.set_line(number, &[digit]);
+        self.block.set_digit(number, digit);
+    }
+
+    /// What digits for a line say of it.
+    pub(crate) fn set_level(&mut self, number: u8, level: Level)
+        requires { number < 22 }
+        ensures { (digits : List ℕ) → 0 < number →
+            level ≡ level_of (extended (width_of number) digits) →
+            taken self.new
+            ≡ turned (taken self.old) (line_changed (known_of self.old) number digits) }
+    {
+        self.block.set_level(number, level);
     }
 
     /// A vector, of which `digits` stand behind the `b`.

@@ -1,10 +1,14 @@
-ghost use Rattle.std.specs.Prelude.{◌≡◌, ◌<◌, [], ◌∷◌, false};
+ghost use Rattle.std.specs.Prelude.{◌≡◌, ◌<◌, ℕ, List, [], ◌∷◌, false};
+ghost use Rattle.fsb_signal.specs.DumpText.{width_of};
+ghost use Rattle.vcd_grammar.specs.Digits.{extended};
+ghost use Rattle.vcd_grammar.specs.Levels.{level_of};
 ghost use Rattle.vcd_grammar.specs.Judging.{is_too_wide};
 ghost use Rattle.vcd_read.specs.Lines.{nothing_changed, changed_line, changed_lines, next_block, block_rises};
 
 use crate::levels::Values;
 use fsb_signal::Sample;
 use std::marker::Model;
+use vcd_grammar::Level;
 
 /// The block that stands open: the values in it, and of those before it the digit of the clock and the sample.
 ///
@@ -52,6 +56,27 @@ impl OpenBlock {
         if number != 0 {
             self.changed = true;
         }
+    }
+
+    /// Gives a line one digit.
+    pub(crate) fn set_digit(&mut self, number: u8, digit: u8)
+        ensures { self.new ≡ changed_line self.old number (digit ∷ []) }
+    {
+        self.values.set_digit(number, digit);
+        if number != 0 {
+            self.changed = true;
+        }
+    }
+
+    /// Gives a line what digits say of it.
+    pub(crate) fn set_level(&mut self, number: u8, level: Level)
+        requires { number < 22 }
+        ensures { (digits : List ℕ) → 0 < number →
+            level ≡ level_of (extended (width_of number) digits) →
+            self.new ≡ changed_line self.old number digits }
+    {
+        self.values.set_level(number, level);
+        self.changed = true;
     }
 
     /// Gives some lines some digits.

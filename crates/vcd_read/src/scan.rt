@@ -83,6 +83,10 @@ impl Scan {
                 self.stamp(&bytes[..len], time, limit, to)?;
                 return Ok(len + 1);
             }
+            if let Some(change) = self.vector_in(bytes) {
+                self.vector(change);
+                return Ok(change.count + 4);
+            }
         }
         self.any_span(bytes, limit, to)
     }

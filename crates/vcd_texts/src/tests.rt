@@ -169,13 +169,14 @@ enum Way {
     Pieces(usize),
 }
 
-const WAYS: [Way; 6] = [
+const WAYS: [Way; 7] = [
     Way::Whole,
     Way::Pieces(1),
     Way::Pieces(2),
     Way::Pieces(3),
     Way::Pieces(7),
     Way::Pieces(64),
+    Way::Pieces(113),
 ];
 
 /// What a text says: its marks, if they are told, and its samples.

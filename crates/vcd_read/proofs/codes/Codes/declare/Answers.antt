@@ -1,25 +1,43 @@
-use Rattle.std.proofs.Common.{◌≡◌, ◌++◌, ap, sym, ◌∙◌, refl, subst}
+use Rattle.std.proofs.Common.{◌≡◌, ◌++◌, Some, ap, sym, ◌∙◌, subst}
 use Rattle.vcd_grammar.specs.Codes.{lines_of, with_code}
-use Rattle.vcd_read.specs.CodesView.{codes_of, Agree, lines_or_none, only_of}
-use Rattle.vcd_read.proofs.CodeTables.{inserted, agree_more}
+use Rattle.vcd_read.specs.CodesView.{key_of, codes_of, CodesKept, only_of, lines_or_none}
+use Rattle.vcd_read.proofs.CodeKeys.{inserted, kept_long, codes_long, kept_declared}
 use Rattle.vcd_read.proofs.codes.Codes.declare.Goals as goal
 
--- the codes that the map has now
-after : (c : goal.After-set_single) → codes_of c.insert.new.self.entries ≡ with_code c.args.self.now c.args.code.now c.args.line.now
-after c =
-    let code = c.args.code.now in
-    let key : c.in_ok-key.key.items ≡ code = c.in_ok-key.ensures in
-    let lines : c.in_ok-lines.lines.items ≡ lines_or_none (lines_of (codes_of c.self.inside.all.entries) c.in_ok-key.key.items) ++ c.args.line.now =
-    c.in_ok-lines.ensures ∙ (λ i. lines_or_none (lines_of (sym c.self.view_is i) (sym key i)) ++ c.args.line.now) in
-    ap codes_of c.in_ok-insert.ensures.entries
-    ∙ inserted _ c.in_ok-key.key c.in_ok-lines.lines c.args.line.now c.self.inside.all.entries (λ k. refl) lines
-    ∙ (λ i. with_code (c.self.view_is i) (key i) c.args.line.now)
+pub invariant_of-self : goal.invariant_of-self
+invariant_of-self c = kept_long c.self.inside.single c.self.inside.long.keys c.key_for.new.long.keys c.self.inside.all.entries c.self.invariant c.key_for.ensures.long
+
+pub invariant_of-self-in_default : goal.invariant_of-self-in_default
+invariant_of-self-in_default c = kept_long c.self.inside.single c.self.inside.long.keys c.key_for.new.long.keys c.self.inside.all.entries c.self.invariant c.key_for.ensures.long
+
+pub invariant_of-self-in_err-insert : goal.invariant_of-self-in_err-insert
+invariant_of-self-in_err-insert c =
+    subst (λ es. CodesKept c.self.inside.single c.key_for.new.long.keys es) (sym c.in_err-insert.ensures.err)
+    (kept_long c.self.inside.single c.self.inside.long.keys c.key_for.new.long.keys c.self.inside.all.entries c.self.invariant c.key_for.ensures.long)
+
+-- the codes before the declaration, the key, and the lines
+before : (c : goal.After-set_single) → codes_of c.key_for.new.long.keys c.self.inside.all.entries ≡ c.args.self.now
+before c = codes_long c.self.inside.long.keys c.key_for.new.long.keys c.self.inside.all.entries c.self.invariant.keys c.key_for.ensures.long ∙ c.self.view_is
+
+key_is : (c : goal.After-set_single) → key_of c.key_for.new.long.keys c.args.code.now ≡ Some c.in-Some.key
+key_is c = sym c.in_ok-key.ensures.key ∙ c.in-Some.is
+
+lines_are : (c : goal.After-set_single) → c.in_ok-lines.lines.items ≡ lines_or_none (lines_of (codes_of c.key_for.new.long.keys c.self.inside.all.entries) c.args.code.now) ++ c.args.line.now
+lines_are c = c.in_ok-lines.ensures ∙ (λ i. lines_or_none (lines_of (sym (before c) i) c.args.code.now) ++ c.args.line.now)
+
+kept : (c : goal.After-set_single) → CodesKept c.self.inside.single c.key_for.new.long.keys c.self.inside.all.entries
+kept c = kept_long c.self.inside.single c.self.inside.long.keys c.key_for.new.long.keys c.self.inside.all.entries c.self.invariant c.key_for.ensures.long
 
 pub invariant_of-self-2 : goal.invariant_of-self-2
 invariant_of-self-2 c =
-    let agree : Agree c.self.inside.single c.args.self.now = subst (λ cs. Agree c.self.inside.single cs) c.self.view_is c.self.invariant in
-    rw (c.set_single.ensures, after c)
-    (agree_more c.self.inside.single c.args.self.now c.args.code.now c.args.line.now c.in_ok-lines.lines.items _ agree c.in_ok-lines.ensures (c.only_of-only.ensures ∙ ap only_of c.as_slice.ensures.value))
+    rw (c.set_single.ensures, c.in_ok-insert.ensures.entries)
+    (kept_declared c.self.inside.single c.key_for.new.long.keys c.self.inside.all.entries c.args.code.now c.args.line.now c.in-Some.key c.in_ok-lines.lines _ c.type_inv.code (key_is c) (kept c) (lines_are c)
+    (c.only_of-only.ensures ∙ ap only_of c.as_slice.ensures.value))
 
 pub returns : goal.returns
-returns c = after c
+returns c =
+    let long = c.key_for.new.long.keys in
+    let code = c.args.code.now in
+    ap (λ es. codes_of long es) c.in_ok-insert.ensures.entries
+    ∙ inserted long code c.in-Some.key c.in_ok-lines.lines c.args.line.now c.self.inside.all.entries c.type_inv.code (key_is c) (kept c).keys (lines_are c)
+    ∙ ap (λ cs. with_code cs code c.args.line.now) (before c)
