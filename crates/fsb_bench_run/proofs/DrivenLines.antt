@@ -1,21 +1,19 @@
 -- The lines of the sample that a bench makes.
-use Rattle.std.proofs.Common.{ℕ, ◌+◌, ◌*◌, ◌/◌, ◌%◌, ◌^◌, ◌<◌, ◌≤◌, ◌≡◌, ◌&&◌, Bool, true, false, not, Option, Some, None, List, [], ◌∷◌, ◌++◌, length, is_some, if◌then◌else◌, eqb, refl, sym, ap, ◌∙◌, arith, subst}
+use Rattle.std.proofs.Common.{ℕ, ◌+◌, ◌*◌, ◌/◌, ◌%◌, ◌^◌, ◌<◌, ◌≤◌, ◌≡◌, Bool, true, false, not, Option, Some, None, List, [], ◌∷◌, ◌++◌, length, is_some, if◌then◌else◌, eqb, refl, sym, ap, ◌∙◌, arith, subst}
 use Rattle.std.specs.Int.RustNames.{bit_and}
 use Rattle.std.proofs.lemmas.Bool.{eqb-false, eqb-true}
 use Rattle.fsb_encode.specs.declared.request.Pair.{Pair}
 use Rattle.fsb_laws.proofs.Interface.{line_at-new, one_more}
-use Rattle.fsb_phase.specs.declared.drive.Drive.{Drive}
 use Rattle.fsb_signal.specs.Samples.{has_line, line_at, response_of}
 use Rattle.fsb_signal.specs.declared.lines.Lines.{Lines}
 use Rattle.fsb_signal.specs.declared.lines.TheConstants.Lines.{ADS, AERR, AP0, AP1, BNR, BPRI, BREQ0, BREQ1, BREQ2, BREQ3, DBSY, DEFER, DRDY, HIT, HITM, LOCK, RP, RS0, RS1, RS2, TRDY}
 use Rattle.fsb_access.specs.declared.log.Done.{Done}
 use Rattle.fsb_hazard.specs.declared.choice.Choice.{Choice}
 use Rattle.fsb_timely.specs.Snoops.{is_keep}
-use Rattle.fsb_trace.specs.declared.who.Who.TheVariants.{Symmetric, Priority}
 use Rattle.fsb_bench_view.specs.declared.decided.Decided.{Decided}
 use Rattle.fsb_bench_view.specs.declared.snoop.Snooped.{Snooped}
 use Rattle.fsb_bench_view.specs.BenchSteps.{step_run, step_sample}
-use Rattle.fsb_bench_view.specs.BusSample.{bits_driven, bits_of, drive_bits, is_asking, is_bridge_asking, is_lock_driven, pair_driven, parity_bits, request_bits, sample_by, snoop_bits}
+use Rattle.fsb_bench_view.specs.BusSample.{bits_driven, bits_of, drive_bits, is_asking, is_bridge_asking, is_lock_driven, pair_driven, parity_bits, request_bits, sample_by}
 use Rattle.fsb_bench_view.specs.BusViews.{BenchView, BusView, clock_of}
 use Rattle.fsb_bench_run.proofs.RunWith.{run_with}
 use Rattle.fsb_bench_run.proofs.SampleBits.{bit_in, line-bit}
@@ -72,7 +70,8 @@ all-driven bus clock profile decided pair =
     ++ (xs ++ (drive_bits decided.drive ++ parity_bits profile pair (is_some decided.starting))))
     (snooped-bits decided.snooped decided.drive.stall)
     ∙ ap (λ xs. request_bits bus clock decided ++ ((hit_driven decided.snooped decided.drive.stall
-    ∷ (hitm_driven decided.snooped decided.drive.stall ∷ (defer_driven decided.snooped ∷ []))) ++ (drive_bits decided.drive ++ xs)))
+    ∷ (hitm_driven decided.snooped decided.drive.stall ∷ (defer_driven decided.snooped ∷ []))) ++
+    (drive_bits decided.drive ++ xs)))
     (parity-bits profile pair (is_some decided.starting))
 
 -- a line of the sample by the place of its bit
@@ -94,7 +93,8 @@ line-with v hold choice entries line =
 
 pub line-new : (v : BenchView) (hold : Bool) (choice : Choice) (line : Lines)
     → line_at line (step_run v hold choice).trace (clock_of v) ≡ has_line (step_sample v hold) line
-line-new v hold choice line = line_at-new line v.run.trace (step_sample v hold) _ (one_more v.run.trace (step_sample v hold))
+line-new v hold choice line = line_at-new line v.run.trace (step_sample v hold) _ (one_more v.run.trace
+    (step_sample v hold))
 
 pub bnr-driven : (bus : BusView) (clock profile : ℕ) (decided : Decided)
     → has_line (sample_by bus clock profile decided) BNR ≡ decided.hold

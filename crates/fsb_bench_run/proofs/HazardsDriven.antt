@@ -1,25 +1,21 @@
 -- The hazard lines of a clock are as they must be.
-use Rattle.std.proofs.Common.{ℕ, zero, suc, ◌+◌, ◌-◌, ◌<◌, ◌≤◌, ◌≡◌, ◌&&◌, ◌||◌, Bool, true, false, not, Option, Some, None, List, [], ◌∷◌, ◌++◌, length, is_none, is_some, nat_eq, nat_le, take, refl, sym, ap, ◌∙◌, arith, inl, inr, ◌⊎◌, subst}
+use Rattle.std.proofs.Common.{ℕ, ◌+◌, ◌-◌, ◌<◌, ◌≤◌, ◌≡◌, ◌&&◌, ◌||◌, Bool, true, false, not, Option, Some, None, List, [], ◌∷◌, ◌++◌, length, is_none, is_some, nat_eq, nat_le, refl, sym, ap, ◌∙◌, arith, inl, inr, subst}
 use Rattle.std.specs.Bool.{beq}
 use Rattle.std.specs.List.{find, slice_get}
 use Rattle.std.specs.Option.{option_and_then, option_map, option_map_or}
-use Rattle.std.proofs.lemmas.Bool.{and_from, and_left, and_parts, and_right, both_ways, cases_Bool, eq-eqb, eqb-true, false_from_ne_true, le-leb, leb-true}
+use Rattle.std.proofs.lemmas.Bool.{and_from, and_parts, both_ways, eq-eqb, eqb-true, false_from_ne_true, le-leb, leb-true}
 use Rattle.fsb_count.specs.Clocks.{any_where}
 use Rattle.fsb_count.specs.Options.{is_some_and}
-use Rattle.fsb_count.proofs.Interface.{nth_where-found, slice_get-end}
+use Rattle.fsb_count.proofs.Interface.{slice_get-end}
 use Rattle.fsb_bridge.specs.Deferrals.{Bridged, deferral_of_id, is_covered, is_waited_for}
 use Rattle.fsb_bridge.specs.declared.deferral.Deferral.{Deferral}
 use Rattle.fsb_hazard.specs.Choice.{effective_turn}
 use Rattle.fsb_access.specs.declared.log.Done.{Done}
 use Rattle.fsb_hazard.specs.declared.choice.Choice.{Choice}
-use Rattle.fsb_hazard.specs.declared.choice.Turn.{Turn}
-use Rattle.fsb_hazard.specs.declared.choice.Turn.TheVariants.{Keep, Retry, Defer}
 use Rattle.fsb_laws.specs.OneMore.{stalls}
 use Rattle.fsb_laws.specs.Progress.{is_snoop_due}
 use Rattle.fsb_laws.proofs.Interface.{is_live-ads, is_snoop_clock-more, one_more}
-use Rattle.fsb_lawful.specs.Beginning.{KeepsBounds}
 use Rattle.fsb_phase.specs.Due.{has_snoop, rank_of}
-use Rattle.fsb_phase.specs.Drive.{drive_of}
 use Rattle.fsb_phase.specs.Phases.{snooped_count}
 use Rattle.fsb_phase.proofs.Interface.{find-cases, find-off, find-place, snoops_to}
 use Rattle.fsb_queue.specs.declared.entry.Entry.{Entry}
@@ -30,11 +26,9 @@ use Rattle.fsb_trace.specs.At.{request_at, stalls_at}
 use Rattle.fsb_trace.specs.Deferral.{is_pending}
 use Rattle.fsb_trace.specs.Requests.{is_cancelled, is_live, live_clock_of, live_count, live_number_of}
 use Rattle.fsb_trace.specs.Snoop.{is_every_second_from, is_snoop_clock, snoop_end_of, snoop_start_of}
-use Rattle.fsb_trace.specs.Winner.{winner_at}
 use Rattle.fsb_trace.specs.declared.who.Who.{Who}
 use Rattle.fsb_trace.specs.declared.who.Who.TheVariants.{Symmetric, Priority}
 use Rattle.fsb_trace.proofs.Interface.{line_at-agree, live_clock_of-number, snoop_end_of-clock}
-use Rattle.fsb_timely.specs.Grants.{snooped_at}
 use Rattle.fsb_timely.specs.Growth.{GrowsTo}
 use Rattle.fsb_timely.specs.Moments.{choice_at, is_in_window, turns_in}
 use Rattle.fsb_timely.specs.Past.{SnoopEnd}
@@ -42,38 +36,40 @@ use Rattle.fsb_timely.specs.Runs.{Run, past_of}
 use Rattle.fsb_timely.specs.Snoops.{drives_aerr, drives_bnr, drives_defer, drives_hazards, drives_stalls, is_bnr_chosen, is_error_chosen, is_keep, is_put_off, is_stall_chosen, keeps_snoop_lines}
 use Rattle.fsb_timely.specs.Timely.{Timely, holds_at}
 use Rattle.fsb_phase_run.specs.Holds.{HoldsRequests}
-use Rattle.fsb_phase_run.proofs.Interface.{EntryOf, agree-grown, choice-same, entry-held, longer, snoops-first, stall-drive}
+use Rattle.fsb_phase_run.proofs.Interface.{agree-grown, choice-same, entry-held, snoops-first, stall-drive}
 use Rattle.fsb_bench_view.specs.declared.beginning.Started.{Started}
-use Rattle.fsb_bench_view.specs.declared.snoop.Snooped.{Snooped}
 use Rattle.fsb_bench_view.specs.BenchSteps.{step_decided, step_drive, step_performed, step_sample}
-use Rattle.fsb_bench_view.specs.BusDecisions.{cancelled_by, is_cancelled_by}
-use Rattle.fsb_bench_view.specs.BusSnooping.{snooped_entry, snooped_for, snooped_of, snooped_reply, turn_counted}
+use Rattle.fsb_bench_view.specs.BusDecisions.{is_cancelled_by}
+use Rattle.fsb_bench_view.specs.BusSnooping.{snooped_entry, snooped_for, snooped_reply, turn_counted}
 use Rattle.fsb_bench_view.specs.BusViews.{BenchView, BusView, clock_of}
-use Rattle.fsb_bench_run.specs.BenchOf.{HasBegun, HasBridgeOf, IsBegunAt, IsBenchOf}
+use Rattle.fsb_bench_run.specs.BenchOf.{IsBegunAt, IsBenchOf}
 use Rattle.fsb_bench_run.proofs.RunWith.{run_with}
 use Rattle.fsb_bench_run.proofs.BegunRequests.{begun-request, request-grown}
 use Rattle.fsb_bench_run.proofs.DeferralsTold.{DeferralsTold}
 use Rattle.fsb_bench_run.proofs.DrivenLines.{aerr-driven, bnr-driven, defer-driven, defer_driven, hit-driven, hit_driven, hitm-driven, hitm_driven, line-with}
 use Rattle.fsb_bench_run.proofs.ResponsesDriven.{all5, beq-from}
 use Rattle.fsb_bench_run.proofs.SameBus.{same-performed}
-use Rattle.fsb_bench_run.proofs.SnoopCases.{SnoopsHere, SnoopsNone, snoop-cases}
+use Rattle.fsb_bench_run.proofs.SnoopCases.{SnoopsHere, snoop-cases}
 use Rattle.fsb_bench_run.proofs.SnoopDriven.{no-snoop, no-stall, snooped-shut, stalls-driven}
-use Rattle.fsb_bench_run.proofs.SnoopEntry.{IsHeldHere, held-here, snoop-rank, spaced-here}
+use Rattle.fsb_bench_run.proofs.SnoopEntry.{held-here, snoop-rank, spaced-here}
 use Rattle.fsb_bench_run.proofs.ThisClock.{holds-now}
 use Rattle.fsb_bench_run.proofs.TurnCounted.{begun-reply, end-turn, kept-turn, window-same}
 
 -- BNR#
 bnr-now : (v : BenchView) (hold : Bool) (choice : Choice) (entries : List Done) → Timely v.run
-    → line_at BNR (run_with v hold choice entries).trace (clock_of v) ≡ is_bnr_chosen (run_with v hold choice entries) (clock_of v)
+    → line_at BNR (run_with v hold choice entries).trace (clock_of v) ≡ is_bnr_chosen
+    (run_with v hold choice entries) (clock_of v)
 unfolding is_bnr_chosen
 bnr-now v hold choice entries timely =
     let there = ap (slice_get (v.run.holds ++ hold ∷ [])) (sym timely.one_hold) ∙ slice_get-end v.run.holds hold in
-    line-with v hold choice entries BNR ∙ bnr-driven (step_performed v) (clock_of v) v.run.plan.profile (step_decided v hold)
+    line-with v hold choice entries BNR
+    ∙ bnr-driven (step_performed v) (clock_of v) v.run.plan.profile (step_decided v hold)
     ∙ sym (ap (λ o. option_map_or (λ (b : Bool). b) o false) there)
 
 -- AERR#: an entry that began three clocks before, and is to be cancelled, is the request that began there
 entry-error : (v : BenchView) (hold : Bool) (choice : Choice) (entries : List Done) (k : ℕ) (e : Entry)
-    → GrowsTo v.run (run_with v hold choice entries) → HoldsRequests v.bus.queue v.run → slice_get v.bus.queue k ≡ Some e
+    → GrowsTo v.run (run_with v hold choice entries) → HoldsRequests v.bus.queue v.run
+    → slice_get v.bus.queue k ≡ Some e
     → is_cancelled_by (clock_of v) e ≡ true → is_error_chosen (run_with v hold choice entries) (clock_of v) ≡ true
 unfolding is_error_chosen
 entry-error v hold choice entries k e grows f at t =
@@ -88,7 +84,8 @@ entry-error v hold choice entries k e grows f at t =
     let line = ap (line_at ADS s.trace) back
     ∙ sym (line_at-agree ADS n r.trace s.trace e.clock (agree-grown r s grows) here.within) ∙ ads in
     let choice_is = f.entries.chosen k e at ∙ choice-same r s e.clock grows here.within ads in
-    let error = ap (λ q. (choice_at s.choices s.trace q).aerr) back ∙ sym (ap (λ (c : Choice). c.aerr) choice_is) ∙ a.0 in
+    let error = ap (λ q. (choice_at s.choices s.trace q).aerr) back ∙ sym (ap (λ (c : Choice). c.aerr) choice_is)
+    ∙ a.0 in
     and_from _ _ (and_from _ _ (le-leb 3 n (omega arith)) line) error
 
 -- and the request that began there has an entry
@@ -114,8 +111,13 @@ error-entry v hold choice entries grows f t =
     let k = entry-held r v.bus.queue i q f clock (snoops-first r i grows.timely none) in
     let same : q ≡ k.entry.clock = one q k.entry.clock (sym clock ∙ k.clock) in
     let choice_is = f.entries.chosen k.place k.entry k.at ∙ ap (choice_at r.choices r.trace) (sym same)
-    ∙ choice-same r s q grows (omega arith) ads in
-    (k.place, k.entry, k.at, and_from _ _ (ap (λ (c : Choice). c.aerr) choice_is ∙ a.1) (eq-eqb (k.entry.clock + 3) n (omega arith)))
+    ∙ choice-same r s q grows (omega arith) ads in (
+      k.place,
+      k.entry,
+      k.at,
+      and_from _ _ (ap (λ (c : Choice). c.aerr) choice_is
+          ∙ a.1) (eq-eqb (k.entry.clock + 3) n (omega arith)),
+    )
   where
     one : (a b : ℕ) → Some a ≡ Some b → a ≡ b
     one a b e = cc
@@ -131,7 +133,8 @@ error-entry v hold choice entries grows f t =
 
 aerr-now : (v : BenchView) (hold : Bool) (choice : Choice) (entries : List Done)
     → GrowsTo v.run (run_with v hold choice entries) → HoldsRequests v.bus.queue v.run
-    → line_at AERR (run_with v hold choice entries).trace (clock_of v) ≡ is_error_chosen (run_with v hold choice entries) (clock_of v)
+    → line_at AERR (run_with v hold choice entries).trace (clock_of v) ≡ is_error_chosen
+    (run_with v hold choice entries) (clock_of v)
 aerr-now v hold choice entries grows f =
     let s = run_with v hold choice entries in
     let n = clock_of v in
@@ -153,12 +156,14 @@ aerr-now v hold choice entries grows f =
 stalls-now : (v : BenchView) (hold : Bool) (choice : Choice) (entries : List Done)
     → GrowsTo v.run (run_with v hold choice entries) → HoldsRequests v.bus.queue v.run
     → stalls_at (run_with v hold choice entries).trace (clock_of v)
-    ≡ any_where (is_stall_chosen (run_with v hold choice entries) (clock_of v)) (live_count (run_with v hold choice entries).trace)
+    ≡ any_where (is_stall_chosen (run_with v hold choice entries) (clock_of v)) (live_count
+    (run_with v hold choice entries).trace)
 unfolding stalls_at stalls
 stalls-now v hold choice entries grows f =
     let hit = line-with v hold choice entries HIT in
     let hitm = line-with v hold choice entries HITM in
-    (λ i. hit i && hitm i) ∙ stalls-driven v hold ∙ stall-drive v.run (run_with v hold choice entries) v.bus.queue grows f
+    (λ i. hit i && hitm i) ∙ stalls-driven v hold
+    ∙ stall-drive v.run (run_with v hold choice entries) v.bus.queue grows f
 
 -- the request whose snoop ends is decoded
 pub decoded-now : (v : BenchView) (hold : Bool) (choice : Choice) (entries : List Done) → IsBenchOf v
@@ -170,7 +175,8 @@ decoded-now v hold choice entries b grows k =
     let e = k.now.entry in
     let c = snoop_end_of-clock s.trace (rank_of s.trace e) (clock_of v) k.told.is_end.reached in
     let above = c.above in
-    let first : c.clock ≡ e.clock = one c.clock e.clock (sym c.is_clock ∙ k.told.is_end.first ∙ ap (λ q. Some q) k.told.first) in
+    let first : c.clock ≡ e.clock = one c.clock e.clock (sym c.is_clock ∙ k.told.is_end.first
+    ∙ ap (λ q. Some q) k.told.first) in
     request-grown r s e.clock grows (omega arith)
     ∙ begun-request r e.clock e.who e.request b.timely b.bounds (omega arith) (b.entries.begun k.now.place e k.now.at)
   where
@@ -217,7 +223,8 @@ put-off-by : (v : BenchView) (hold : Bool) (choice : Choice) (entries : List Don
     → k.now.entry.who ≡ who
     → defer_driven (snooped_entry (step_performed v) k.now.entry who) ≡ not (is_keep k.told.end.turn)
 unfolding is_keep
-put-off-by v hold choice entries b told grows k (Symmetric agent) e = ap (λ t. not (is_keep t)) (sym (turn-now v hold choice entries b told grows k))
+put-off-by v hold choice entries b told grows k (Symmetric agent) e = ap (λ t. not (is_keep t)) (sym
+    (turn-now v hold choice entries b told grows k))
 put-off-by v hold choice entries b told grows k Priority e =
     let r = v.run in
     let s = run_with v hold choice entries in
@@ -225,14 +232,16 @@ put-off-by v hold choice entries b told grows k Priority e =
     let begun = subst (λ w. IsBegunAt r y.clock w y.request) e (b.entries.begun k.now.place y k.now.at) in
     let kept = end-turn r s y grows k.told (decoded-now v hold choice entries b grows k)
     ∙ kept-turn (choice_at s.choices s.trace y.clock).turn y.request (is_in_window s.plan.bridge y.request.line)
-    (is_pending s.trace (turns_in (past_of r).moments) y.request.line (clock_of v)) (begun-reply r y.clock y.request begun) in
+    (is_pending s.trace (turns_in (past_of r).moments) y.request.line (clock_of v))
+    (begun-reply r y.clock y.request begun) in
     reply-keeps (step_performed v) y (deferral_of_id y.request.did (step_performed v).bridge.waiting)
     ∙ sym (ap (λ t. not (is_keep t)) kept)
 
 defer-now : (v : BenchView) (hold : Bool) (choice : Choice) (entries : List Done) → IsBenchOf v
     → DeferralsTold v (run_with v hold choice entries)
     → GrowsTo v.run (run_with v hold choice entries)
-    → line_at DEFER (run_with v hold choice entries).trace (clock_of v) ≡ is_put_off (past_of (run_with v hold choice entries)) (clock_of v)
+    → line_at DEFER (run_with v hold choice entries).trace (clock_of v) ≡ is_put_off (past_of
+    (run_with v hold choice entries)) (clock_of v)
 unfolding is_put_off is_some_and
 defer-now v hold choice entries b told grows =
     let s = run_with v hold choice entries in
@@ -247,7 +256,8 @@ defer-now v hold choice entries b told grows =
 
 -- a snoop clock of an entry is a snoop clock of the run
 due-here : (r : Run) (e : Entry) → has_snoop r.trace e ≡ true
-    → is_some_and (snoop_start_of r.trace (rank_of r.trace e)) (λ start. is_every_second_from start (length r.trace)) ≡ true
+    → is_some_and (snoop_start_of r.trace (rank_of r.trace e)) (λ start. is_every_second_from start
+    (length r.trace)) ≡ true
 unfolding has_snoop
 due-here r e t = (and_parts (is_none (snoop_end_of r.trace (rank_of r.trace e))) _ t).1
 
@@ -306,7 +316,8 @@ hazards-now v hold choice entries b told grows =
     (beq (stalls_at s.trace n) (any_where (is_stall_chosen s n) (live_count s.trace)))
     (beq (line_at DEFER s.trace n) (is_put_off (past_of s) n)) (keeps_snoop_lines s n)
     (beq-from _ _ (bnr-now v hold choice entries b.timely)) (beq-from _ _ (aerr-now v hold choice entries grows f))
-    (beq-from _ _ (stalls-now v hold choice entries grows f)) (beq-from _ _ (defer-now v hold choice entries b told grows))
+    (beq-from _ _ (stalls-now v hold choice entries grows f)) (beq-from _ _
+    (defer-now v hold choice entries b told grows))
     (lines-kept v hold choice entries grows f)
 
 -- the hazard lines at the clock
@@ -315,4 +326,5 @@ pub drives-hazards : (v : BenchView) (hold : Bool) (choice : Choice) (entries : 
     → GrowsTo v.run (run_with v hold choice entries)
     → holds_at drives_hazards (run_with v hold choice entries) (clock_of v) ≡ true
 drives-hazards v hold choice entries b told grows =
-    holds-now drives_hazards v.run (run_with v hold choice entries) grows (hazards-now v hold choice entries b told grows)
+    holds-now drives_hazards v.run (run_with v hold choice entries) grows
+    (hazards-now v hold choice entries b told grows)

@@ -31,4 +31,11 @@ pub mod LocksStay
 pub mod LockNow
 pub mod PairNow
 pub mod ParityNow
+pub mod SnoopTold
+pub mod QueueNext
+pub mod EntriesNow
+pub mod DeferralsNow
+pub mod AgentsNow
+pub mod HitsCompleted
+pub mod CompletionsNow
 pub mod AsksNow

@@ -1,9 +1,9 @@
 -- Responses and data of a clock are as they are due.
-use Rattle.std.proofs.Common.{ℕ, zero, suc, ◌+◌, ◌<◌, ◌≤◌, ◌≡◌, ◌&&◌, ◌||◌, Bool, true, false, Option, Some, None, List, [], ◌∷◌, ◌++◌, length, is_some, nat_eq, lit<, refl, sym, ap, ◌∙◌, arith, inl, inr, subst}
+use Rattle.std.proofs.Common.{ℕ, ◌<◌, ◌≡◌, ◌&&◌, ◌||◌, Bool, true, false, Option, Some, None, List, [], ◌∷◌, ◌++◌, is_some, nat_eq, lit<, refl, sym, ap, ◌∙◌}
 use Rattle.std.specs.Bool.{beq}
 use Rattle.std.specs.Option.{option_map_or}
-use Rattle.std.specs.List.{find, slice_get}
-use Rattle.std.proofs.lemmas.Bool.{and_from, eq-eqb}
+use Rattle.std.specs.List.{find}
+use Rattle.std.proofs.lemmas.Bool.{eq-eqb}
 use Rattle.fsb_count.specs.Clocks.{any_where}
 use Rattle.fsb_access.specs.declared.log.Done.{Done}
 use Rattle.fsb_hazard.specs.declared.choice.Choice.{Choice}
@@ -11,7 +11,6 @@ use Rattle.fsb_laws.proofs.Interface.{one_more, response_code_at-new}
 use Rattle.fsb_phase.specs.Due.{has_response}
 use Rattle.fsb_phase.specs.Drive.{drive_of, settled_code}
 use Rattle.fsb_phase.specs.declared.drive.Drive.{Drive}
-use Rattle.fsb_phase.proofs.Interface.{find-cases}
 use Rattle.fsb_queue.specs.declared.entry.Entry.{Entry}
 use Rattle.fsb_signal.specs.declared.lines.TheConstants.Lines.{DBSY, DRDY, TRDY}
 use Rattle.fsb_signal.specs.declared.sample.Sample.{Sample}
@@ -22,7 +21,7 @@ use Rattle.fsb_trace.specs.Requests.{live_count}
 use Rattle.fsb_trace.specs.declared.outcome.Outcome.{Outcome}
 use Rattle.fsb_trace.specs.declared.outcome.Outcome.TheVariants.{Granted, Handed, Retried, Deferred, Written, Replied, Failed, Upgraded}
 use Rattle.fsb_timely.specs.Growth.{GrowsTo}
-use Rattle.fsb_timely.specs.Runs.{Run, past_of}
+use Rattle.fsb_timely.specs.Runs.{past_of}
 use Rattle.fsb_timely.specs.Transfers.{code_due, drives_code, drives_data_busy, drives_data_ready, drives_ready, drives_responses, has_data_at, is_busy_at, is_ready_due, keeps_data_quiet}
 use Rattle.fsb_phase_run.specs.Holds.{HoldsRequests}
 use Rattle.fsb_phase_run.proofs.Interface.{busy-drive, chunk-drive, code-drive, code-shown, ready-drive}
@@ -69,7 +68,8 @@ code-small h queue = entry-code (find (has_response h) queue)
 -- the sample shows the code that is driven
 pub code-now : (v : BenchView) (hold : Bool) → response_of (step_sample v hold) ≡ (step_drive v).rs
 code-now v hold =
-    code-driven (step_performed v) (clock_of v) v.run.plan.profile (step_decided v hold) (code-small v.run.trace v.bus.queue)
+    code-driven (step_performed v) (clock_of v) v.run.plan.profile (step_decided v hold)
+    (code-small v.run.trace v.bus.queue)
 
 pub sample-grown : (v : BenchView) (hold : Bool) (choice : Choice) (entries : List Done)
     (grows : GrowsTo v.run (run_with v hold choice entries)) → grows.next.sample ≡ step_sample v hold
@@ -103,7 +103,8 @@ unfolding keeps_data_quiet
 quiet-now v hold choice entries =
     let n = clock_of v in
     let s = run_with v hold choice entries in
-    let line = line-with v hold choice entries DRDY ∙ drdy-driven (step_performed v) n v.run.plan.profile (step_decided v hold) in
+    let line = line-with v hold choice entries DRDY
+    ∙ drdy-driven (step_performed v) n v.run.plan.profile (step_decided v hold) in
     let word = data-new v hold choice entries in
     ap (λ b. b || nat_eq (data_at s.trace n).bits 0) line
     ∙ ap (λ k. is_some (step_drive v).chunk || nat_eq k 0) word
@@ -126,7 +127,8 @@ responses-now v hold choice entries grows f =
     let trdy = line-with v hold choice entries TRDY ∙ trdy-driven bus n profile d ∙ ready-drive r s queue grows f in
     let rs = response_code_at-new r.trace (step_sample v hold) s.trace (one_more r.trace (step_sample v hold))
     ∙ code-now v hold ∙ code-drive r s queue grows f in
-    let drdy = line-with v hold choice entries DRDY ∙ drdy-driven bus n profile d ∙ chunk-drive r s queue grows f code in
+    let drdy = line-with v hold choice entries DRDY ∙ drdy-driven bus n profile d
+    ∙ chunk-drive r s queue grows f code in
     let dbsy = line-with v hold choice entries DBSY ∙ dbsy-driven bus n profile d ∙ busy-drive r s queue grows f code in
     all5 (beq (line_at TRDY s.trace n) (any_where (is_ready_due s n) (live_count s.trace)))
     (nat_eq (response_code_at s.trace n) (code_due s (past_of s) n))
@@ -140,4 +142,5 @@ pub drives-responses : (v : BenchView) (hold : Bool) (choice : Choice) (entries 
     (grows : GrowsTo v.run (run_with v hold choice entries)) → HoldsRequests v.bus.queue v.run
     → Rattle.fsb_timely.specs.Timely.holds_at drives_responses (run_with v hold choice entries) (clock_of v) ≡ true
 drives-responses v hold choice entries grows f =
-    holds-now drives_responses v.run (run_with v hold choice entries) grows (responses-now v hold choice entries grows f)
+    holds-now drives_responses v.run (run_with v hold choice entries) grows
+    (responses-now v hold choice entries grows f)

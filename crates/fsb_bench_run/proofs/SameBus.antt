@@ -1,12 +1,10 @@
 -- What the hits of a clock leave as it is on the bus.
-use Rattle.std.proofs.Common.{ℕ, ◌≡◌, List, Option, Some, None, refl}
-use Rattle.fsb_bridge.specs.Deferrals.{Bridged}
-use Rattle.fsb_queue.specs.declared.entry.Entry.{Entry}
+use Rattle.std.proofs.Common.{◌≡◌, Option, Some, None, refl}
 use Rattle.fsb_bench_view.specs.declared.decided.BytesFrom.{BytesFrom}
 use Rattle.fsb_bench_view.specs.declared.decided.BytesFrom.TheVariants.{Memory, Agents}
 use Rattle.fsb_bench_view.specs.BusViews.{BenchView, BusView}
 use Rattle.fsb_bench_view.specs.BytesFetched.{bus_fetched, bytes_from}
-use Rattle.fsb_bench_view.specs.BenchSteps.{step_drive, step_fetched, step_performed}
+use Rattle.fsb_bench_view.specs.BenchSteps.{step_drive, step_performed}
 
 -- a bus has the same as another one beside its agents and its bytes
 pub record IsSameBus (bus other : BusView) : Type 0 where

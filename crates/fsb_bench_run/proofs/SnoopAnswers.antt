@@ -1,5 +1,5 @@
 -- What four agents answer together at a snoop end.
-use Rattle.std.proofs.Common.{ℕ, ◌+◌, ◌≡◌, ◌&&◌, ◌||◌, Bool, true, false, not, Option, Some, None, List, [], ◌∷◌, length, nat_eq, if◌then◌else◌, refl, sym, ap, ◌∙◌, arith}
+use Rattle.std.proofs.Common.{ℕ, ◌≡◌, ◌&&◌, ◌||◌, Bool, true, false, not, Some, List, [], ◌∷◌, length, nat_eq, if◌then◌else◌, refl, sym, ap, ◌∙◌, arith}
 use Rattle.std.specs.List.{slice_get}
 use Rattle.fsb_agent_view.specs.AgentViews.{AgentView, answer_by}
 use Rattle.fsb_count.specs.Clocks.{any_where}
@@ -8,7 +8,6 @@ use Rattle.fsb_line.specs.declared.state.Answer.{Answer}
 use Rattle.fsb_line.specs.declared.state.Answer.TheVariants as answers
 use Rattle.fsb_timely.specs.Grants.{holds_line}
 use Rattle.fsb_timely.specs.Hits.{is_dirty}
-use Rattle.fsb_timely.specs.Past.{Past}
 use Rattle.fsb_timely.specs.Runs.{Run, past_of}
 use Rattle.fsb_timely.specs.Snoops.{is_dirty_elsewhere, is_held_elsewhere}
 use Rattle.fsb_bench_view.specs.BenchSteps.{step_performed}
@@ -23,7 +22,8 @@ answer_told dirty held = if dirty then answers.Modified else (if held then answe
 pub record AgentsAnswer (v : BenchView) (s : Run) : Type 0 where
   pub four : length (step_performed v).agents ≡ 4
   pub answers : (b line : ℕ) (w : AgentView) → slice_get (step_performed v).agents b ≡ Some w
-      → answer_by w line ≡ answer_told (is_dirty (past_of s) b line (clock_of v)) (holds_line (past_of s) b line (clock_of v))
+      → answer_by w line ≡ answer_told (is_dirty (past_of s) b line (clock_of v)) (holds_line (past_of s) b line
+      (clock_of v))
 
 -- the answer is not that the line is not there
 abbrev is_some_answer : Answer → Bool
@@ -52,7 +52,8 @@ modified-joined false false false answers.Hit = refl
 modified-joined false false false answers.Modified = refl
 
 some-joined : (skip dirty held : Bool) (rest : Answer)
-    → is_some_answer (joined skip (answer_told dirty held) rest) ≡ (((not skip && dirty) || (not skip && held)) || is_some_answer rest)
+    → is_some_answer (joined skip (answer_told dirty held) rest) ≡ (((not skip && dirty) ||
+    (not skip && held)) || is_some_answer rest)
 some-joined true dirty held rest = refl
 some-joined false true held rest = refl
 some-joined false false true answers.Clean = refl
@@ -94,17 +95,21 @@ besides-four : (a line : ℕ) (w0 w1 w2 w3 : AgentView) (dirty held : ℕ → Bo
     → tells dirty held line 0 w0 → tells dirty held line 1 w1 → tells dirty held line 2 w2 → tells dirty held line 3 w3
     → answer_besides a line 0 (w0 ∷ (w1 ∷ (w2 ∷ (w3 ∷ []))))
     ≡ joined (nat_eq 0 a) (answer_told (dirty 0) (held 0)) (joined (nat_eq 1 a) (answer_told (dirty 1) (held 1))
-    (joined (nat_eq 2 a) (answer_told (dirty 2) (held 2)) (joined (nat_eq 3 a) (answer_told (dirty 3) (held 3)) answers.Clean)))
+    (joined (nat_eq 2 a) (answer_told (dirty 2) (held 2)) (joined (nat_eq 3 a) (answer_told (dirty 3)
+    (held 3)) answers.Clean)))
 besides-four a line w0 w1 w2 w3 dirty held t0 t1 t2 t3 =
-    λ i. joined (nat_eq 0 a) (t0 i) (joined (nat_eq 1 a) (t1 i) (joined (nat_eq 2 a) (t2 i) (joined (nat_eq 3 a) (t3 i) answers.Clean)))
+    λ i. joined (nat_eq 0 a) (t0 i) (joined (nat_eq 1 a) (t1 i) (joined (nat_eq 2 a) (t2 i) (joined (nat_eq 3 a)
+    (t3 i) answers.Clean)))
 
 -- another than a passes the test
 abbrev elsewhere : ℕ → (ℕ → Bool) → ℕ → Bool
 elsewhere a test b = not (nat_eq b a) && test b
 
 modified-four : (a : ℕ) (dirty held : ℕ → Bool)
-    → is_modified_answer (joined (nat_eq 0 a) (answer_told (dirty 0) (held 0)) (joined (nat_eq 1 a) (answer_told (dirty 1) (held 1))
-    (joined (nat_eq 2 a) (answer_told (dirty 2) (held 2)) (joined (nat_eq 3 a) (answer_told (dirty 3) (held 3)) answers.Clean))))
+    → is_modified_answer (joined (nat_eq 0 a) (answer_told (dirty 0) (held 0)) (joined (nat_eq 1 a) (answer_told
+    (dirty 1) (held 1))
+    (joined (nat_eq 2 a) (answer_told (dirty 2) (held 2)) (joined (nat_eq 3 a) (answer_told (dirty 3)
+    (held 3)) answers.Clean))))
     ≡ any_where (elsewhere a dirty) 4
 modified-four a dirty held =
     modified-joined (nat_eq 0 a) (dirty 0) (held 0) _
@@ -114,8 +119,10 @@ modified-four a dirty held =
     ∙ four-any (elsewhere a dirty)
 
 some-four : (a : ℕ) (dirty held : ℕ → Bool)
-    → is_some_answer (joined (nat_eq 0 a) (answer_told (dirty 0) (held 0)) (joined (nat_eq 1 a) (answer_told (dirty 1) (held 1))
-    (joined (nat_eq 2 a) (answer_told (dirty 2) (held 2)) (joined (nat_eq 3 a) (answer_told (dirty 3) (held 3)) answers.Clean))))
+    → is_some_answer (joined (nat_eq 0 a) (answer_told (dirty 0) (held 0)) (joined (nat_eq 1 a) (answer_told
+    (dirty 1) (held 1))
+    (joined (nat_eq 2 a) (answer_told (dirty 2) (held 2)) (joined (nat_eq 3 a) (answer_told (dirty 3)
+    (held 3)) answers.Clean))))
     ≡ (any_where (elsewhere a dirty) 4 || any_where (elsewhere a held) 4)
 some-four a dirty held =
     let d = elsewhere a dirty in
@@ -131,14 +138,14 @@ some-four a dirty held =
     ∙ (λ i. four-any d i || four-any h i)
 
 -- a list of four
-record IsFour (vs : List AgentView) : Type 0 where
+pub record IsFour (vs : List AgentView) : Type 0 where
   pub first : AgentView
   pub second : AgentView
   pub third : AgentView
   pub fourth : AgentView
   pub same : vs ≡ first ∷ (second ∷ (third ∷ (fourth ∷ [])))
 
-is-four : (vs : List AgentView) → length vs ≡ 4 → IsFour vs
+pub is-four : (vs : List AgentView) → length vs ≡ 4 → IsFour vs
 is-four [] e = absurd (omega arith)
 is-four (a ∷ []) e = absurd (omega arith)
 is-four (a ∷ (b ∷ [])) e = absurd (omega arith)

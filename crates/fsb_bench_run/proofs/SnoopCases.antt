@@ -1,14 +1,11 @@
 -- The snoop end of a clock, as the bench decides it and as the moment of the run has it.
-use Rattle.std.proofs.Common.{ℕ, ◌≡◌, ◌&&◌, ◌||◌, Bool, true, false, not, Option, Some, None, List, length, is_none, refl, sym, ap, ◌∙◌, ◌⊎◌, inl, inr}
-use Rattle.std.specs.List.{slice_get}
+use Rattle.std.proofs.Common.{◌≡◌, ◌&&◌, ◌||◌, Bool, true, false, not, None, List, is_none, refl, ap, ◌∙◌, ◌⊎◌, inl, inr}
 use Rattle.std.proofs.lemmas.Bool.{and_left, and_right, cases_Bool}
 use Rattle.fsb_access.specs.declared.log.Done.{Done}
 use Rattle.fsb_hazard.specs.declared.choice.Choice.{Choice}
-use Rattle.fsb_laws.specs.OneMore.{stalls}
 use Rattle.fsb_phase.specs.Due.{has_snoop}
 use Rattle.fsb_phase.specs.Drive.{ends_snoop_at}
 use Rattle.fsb_phase.proofs.Interface.{find-cases}
-use Rattle.fsb_queue.specs.declared.entry.Entry.{Entry}
 use Rattle.fsb_timely.specs.Grants.{snooped_at}
 use Rattle.fsb_timely.specs.Growth.{GrowsTo}
 use Rattle.fsb_timely.specs.Runs.{past_of}
@@ -18,7 +15,7 @@ use Rattle.fsb_bench_view.specs.BusSnooping.{first_open, snooped_entry}
 use Rattle.fsb_bench_view.specs.BusViews.{BenchView, clock_of}
 use Rattle.fsb_bench_run.proofs.RunWith.{run_with}
 use Rattle.fsb_bench_run.proofs.SameBus.{same-performed}
-use Rattle.fsb_bench_run.proofs.SnoopDriven.{no-snoop, no-stall, snooped-open, snooped-shut, some-snoop, stalls-driven}
+use Rattle.fsb_bench_run.proofs.SnoopDriven.{no-snoop, snooped-open, snooped-shut, some-snoop, stalls-driven}
 use Rattle.fsb_bench_run.proofs.SnoopEntry.{IsSnoopedNow, SnoopsNow, ends-here, ends-told, no-end-told, snoops-now}
 
 -- the clock is the snoop end of the oldest entry without one

@@ -1,13 +1,10 @@
 -- What a bench decides of the snoop end of a clock.
-use Rattle.std.proofs.Common.{ℕ, ◌+◌, ◌<◌, ◌≡◌, ◌&&◌, ◌||◌, Bool, true, false, not, Option, Some, None, List, length, is_some, is_none, if◌then◌else◌, refl, sym, ap, ◌∙◌, inl, inr, subst}
+use Rattle.std.proofs.Common.{ℕ, ◌≡◌, ◌&&◌, ◌||◌, Bool, true, false, Option, Some, None, List, is_some, is_none, if◌then◌else◌, refl, sym, ap, ◌∙◌}
 use Rattle.std.specs.Option.{option_and_then, option_map}
 use Rattle.std.specs.List.{find, slice_get}
-use Rattle.std.proofs.lemmas.Bool.{and_left, and_right, cases_Bool}
+use Rattle.std.proofs.lemmas.Bool.{and_left, and_right}
 use Rattle.fsb_bridge.specs.Deferrals.{deferral_of_id}
 use Rattle.fsb_bridge.specs.declared.deferral.Deferral.{Deferral}
-use Rattle.fsb_hazard.specs.declared.choice.Choice.{Choice}
-use Rattle.fsb_hazard.specs.declared.choice.Turn.{Turn}
-use Rattle.fsb_hazard.specs.declared.choice.Turn.TheVariants.{Keep, Retry, Defer}
 use Rattle.fsb_laws.specs.OneMore.{stalls}
 use Rattle.fsb_line.specs.declared.state.Answer.{Answer}
 use Rattle.fsb_line.specs.declared.state.Answer.TheVariants as answers
@@ -16,16 +13,12 @@ use Rattle.fsb_phase.specs.Drive.{drive_of}
 use Rattle.fsb_phase.specs.declared.drive.Drive.{Drive}
 use Rattle.fsb_phase.proofs.Interface.{find-off}
 use Rattle.fsb_queue.specs.declared.entry.Entry.{Entry}
-use Rattle.fsb_signal.specs.declared.lines.TheConstants.Lines.{HIT, HITM}
-use Rattle.fsb_signal.specs.Samples.{has_line}
-use Rattle.fsb_timely.specs.Runs.{Run}
-use Rattle.fsb_timely.specs.Snoops.{is_keep}
 use Rattle.fsb_trace.specs.At.{Trace}
 use Rattle.fsb_trace.specs.declared.who.Who.{Who}
 use Rattle.fsb_trace.specs.declared.who.Who.TheVariants.{Symmetric, Priority}
 use Rattle.fsb_bench_view.specs.declared.beginning.Started.{Started}
 use Rattle.fsb_bench_view.specs.declared.snoop.Snooped.{Snooped}
-use Rattle.fsb_bench_view.specs.BenchSteps.{step_decided, step_drive, step_performed, step_run, step_sample}
+use Rattle.fsb_bench_view.specs.BenchSteps.{step_decided, step_drive, step_performed, step_sample}
 use Rattle.fsb_bench_view.specs.BusSnooping.{answer_besides, first_open, is_hit_answer, is_modified_answer, snooped_by, snooped_entry, snooped_for, snooped_of, snooped_reply}
 use Rattle.fsb_bench_view.specs.BusViews.{BenchView, BusView, clock_of}
 use Rattle.fsb_bench_run.proofs.DrivenLines.{hit-driven, hit_driven, hitm-driven, hitm_driven}
@@ -45,7 +38,12 @@ reply-snoop : (entry : Entry) (deferral : Deferral) (o : Option Started) (s : Sn
     → option_map (snooped_reply entry deferral) o ≡ Some s → IsReplySnoop entry s
 reply-snoop entry deferral None s e = absurd (let no : ⊥ = cc in no)
 reply-snoop entry deferral (Some begun) s e =
-    record { deferral = deferral; begun = begun; same = sym (let same : snooped_reply entry deferral begun ≡ s = cc in same) }
+    record {
+      deferral = deferral;
+      begun = begun;
+      same = sym
+          (let same : snooped_reply entry deferral begun ≡ s = cc in same);
+    }
 
 reply-snooped : (bus : BusView) (entry : Entry) (o : Option Deferral) (s : Snooped)
     → option_and_then (snooped_for bus entry) o ≡ Some s → IsReplySnoop entry s
@@ -118,7 +116,8 @@ unfolding drive_of is_stalled
 no-stall h queue g = ap is_some (find-off (is_stalled h) queue (λ j y at. and_left _ _ (g j y at)))
 
 pub no-snoop : (h : Trace) (queue : List Entry)
-    → ((j : ℕ) (y : Entry) → slice_get queue j ≡ Some y → has_snoop h y ≡ false) → is_none (drive_of h queue).snoop ≡ true
+    → ((j : ℕ) (y : Entry) → slice_get queue j ≡ Some y → has_snoop h y ≡ false)
+    → is_none (drive_of h queue).snoop ≡ true
 unfolding drive_of
 no-snoop h queue g = ap (λ o. is_none (option_map (λ (e : Entry). e.number) o)) (find-off (has_snoop h) queue g)
 

@@ -1,22 +1,20 @@
 -- The entry whose snoop clock the next clock is: the oldest one without a snoop end.
-use Rattle.std.proofs.Common.{ℕ, zero, suc, ◌+◌, ◌<◌, ◌≤◌, ◌≡◌, ◌&&◌, ◌||◌, Bool, true, false, not, Option, Some, None, List, [], ◌∷◌, ◌++◌, length, is_some, is_none, refl, sym, ap, ◌∙◌, arith, inl, inr, subst}
+use Rattle.std.proofs.Common.{ℕ, ◌+◌, ◌<◌, ◌≡◌, ◌&&◌, true, false, not, Option, Some, None, List, [], ◌∷◌, ◌++◌, length, is_none, refl, sym, ap, ◌∙◌, arith, inl, inr}
 use Rattle.std.specs.List.{find, slice_get}
 use Rattle.std.specs.Option.{option_map}
-use Rattle.std.proofs.lemmas.Bool.{and_from, and_left, and_parts, and_right, both_ways, cases_Bool, cases_order}
+use Rattle.std.proofs.lemmas.Bool.{and_parts, both_ways, cases_order}
 use Rattle.std.proofs.lemmas.Option.{slice_get-map}
 use Rattle.fsb_count.specs.Clocks.{count_where}
 use Rattle.fsb_count.proofs.Interface.{count_where-above, is_at-some, nth_where-found, nth_where-rises}
-use Rattle.fsb_laws.specs.OneMore.{OneMore, stalls}
+use Rattle.fsb_laws.specs.OneMore.{stalls}
 use Rattle.fsb_laws.specs.Orderly.{Spaced}
 use Rattle.fsb_laws.proofs.Interface.{one_more}
 use Rattle.fsb_queue.specs.declared.entry.Entry.{Entry}
-use Rattle.fsb_phase.specs.Due.{has_snoop, is_stalled, rank_of}
-use Rattle.fsb_phase.specs.Drive.{drive_of, ends_snoop_at, phased_at}
+use Rattle.fsb_phase.specs.Due.{has_snoop, rank_of}
+use Rattle.fsb_phase.specs.Drive.{ends_snoop_at, phased_at}
 use Rattle.fsb_phase.specs.Phases.{snooped_count}
-use Rattle.fsb_phase.proofs.Interface.{Found, Placed, ends_entry, find-cases, find-off, find-place, has_snoop-at, held, not_reached_from, outcome_reached, reached_before, snoop_at, snoop_elsewhere, snoops_to}
-use Rattle.fsb_hazard.specs.declared.choice.Choice.{Choice}
+use Rattle.fsb_phase.proofs.Interface.{Found, Placed, ends_entry, find-off, find-place, has_snoop-at, held, not_reached_from, outcome_reached, reached_before, snoop_at, snoop_elsewhere, snoops_to}
 use Rattle.fsb_signal.specs.declared.sample.Sample.{Sample}
-use Rattle.fsb_trace.specs.At.{Trace}
 use Rattle.fsb_trace.specs.Flight.{in_flight, is_in_flight}
 use Rattle.fsb_trace.specs.Requests.{is_live, live_clock_of, live_number_of}
 use Rattle.fsb_trace.specs.Snoop.{snoop_end_of}
@@ -30,7 +28,7 @@ use Rattle.fsb_timely.specs.Timely.{Timely}
 use Rattle.fsb_timely.proofs.Interface.{snoop-tied}
 use Rattle.fsb_tied.proofs.Interface.{orderly-whole}
 use Rattle.fsb_phase_run.specs.Holds.{HoldsRequests}
-use Rattle.fsb_phase_run.proofs.Interface.{longer, number-grown, number-held, snooped-now}
+use Rattle.fsb_phase_run.proofs.Interface.{longer, number-held, snooped-now}
 use Rattle.fsb_bench_view.specs.BusSnooping.{first_open}
 
 -- the clock of each entry
@@ -90,7 +88,11 @@ snoop-rank r e t =
     elim (cases_order i s) [
       | inl same ↦ same
       | inr other ↦
-          let apart : i ≡ s → ⊥ = (λ (g : i ≡ s). elim other [ inl less ↦ omega (arith, less, g) | inr more ↦ omega (arith, more, g) ]) in
+          let apart : i ≡ s → ⊥ = (λ (g : i ≡ s). elim other [
+            | inl less ↦ omega (arith, less, g)
+            | inr more ↦ omega
+                (arith, more, g)
+          ]) in
           absurd (both_ways _ (snoop_elsewhere h s i (snoops_to h) apart) here)
     ]
 
@@ -135,7 +137,8 @@ ends-here r queue x k e timely f at =
       live = here.live;
       within = here.within;
     } in
-    ends_entry h x (h ++ x ∷ []) i (snooped_count h) 0 e (one_more h x) (spaced-here r e timely here) (snoops_to h) place
+    ends_entry h x (h ++ x ∷ []) i (snooped_count h) 0 e (one_more h x) (spaced-here r e timely here)
+    (snoops_to h) place
 
 -- what the moment of the next clock has of the snoop end of an entry
 pub record IsSnoopedNow (s : Run) (n : ℕ) (e : Entry) : Type 0 where

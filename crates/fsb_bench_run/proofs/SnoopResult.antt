@@ -1,15 +1,14 @@
 -- The result of the snoop end of a clock is right.
-use Rattle.std.proofs.Common.{ℕ, suc, ◌+◌, ◌/◌, ◌<◌, ◌≤◌, ◌≡◌, ◌&&◌, ◌||◌, Bool, true, false, not, Option, Some, None, List, [], ◌∷◌, ◌++◌, length, map, if◌then◌else◌, refl, sym, ap, ◌∙◌, arith, inl, inr, ◌⊎◌, subst}
-use Rattle.std.specs.Bool.{beq}
+use Rattle.std.proofs.Common.{ℕ, ◌/◌, ◌<◌, ◌≤◌, ◌≡◌, ◌&&◌, Bool, true, false, not, Option, Some, None, List, length, if◌then◌else◌, refl, sym, ap, ◌∙◌, arith, inl, inr, subst}
 use Rattle.std.specs.List.{slice_get}
 use Rattle.std.specs.Option.{option_and_then, option_map, option_map_or}
-use Rattle.std.proofs.lemmas.Bool.{and_from, and_parts, cases_lt}
+use Rattle.std.proofs.lemmas.Bool.{and_from, cases_lt}
 use Rattle.std.proofs.lemmas.Option.{slice_get-map, slice_get_cases}
 use Rattle.fsb_access.specs.declared.log.Done.{Done}
 use Rattle.fsb_bridge.specs.Deferrals.{Bridged, deferral_of_id}
 use Rattle.fsb_bridge.specs.DeferralList.{IsDeferralOf, IsThatOf, request_number_of}
 use Rattle.fsb_bridge.specs.declared.deferral.Deferral.{Deferral}
-use Rattle.fsb_count.specs.Clocks.{all_where, count_where, first_where, nth_where}
+use Rattle.fsb_count.specs.Clocks.{count_where, first_where, nth_where}
 use Rattle.fsb_count.specs.Options.{is_some_and}
 use Rattle.fsb_count.proofs.Interface.{count_where-same, first_where-found, nth_where-at, nth_where-found}
 use Rattle.fsb_encode.specs.declared.request.Request.{Request}
@@ -28,7 +27,7 @@ use Rattle.fsb_trace.specs.declared.who.Who.TheVariants.{Symmetric, Priority}
 use Rattle.fsb_trace.proofs.Interface.{line_at-agree, live_clock_of-rises, snoop_end_of-clock}
 use Rattle.fsb_timely.specs.Grants.{snooped_at}
 use Rattle.fsb_timely.specs.Growth.{GrowsTo}
-use Rattle.fsb_timely.specs.Moments.{agent_at, claim_at, is_answered_by, number_snooped_at, served_number, turns_in}
+use Rattle.fsb_timely.specs.Moments.{agent_at, claim_at, is_answered_by, served_number, turns_in}
 use Rattle.fsb_timely.specs.Past.{Claim, Past, SnoopEnd}
 use Rattle.fsb_timely.specs.Starts.{reply_to, would_begin}
 use Rattle.fsb_timely.specs.Runs.{Run, past_of}
@@ -38,9 +37,8 @@ use Rattle.fsb_timely.proofs.Interface.{begun-told, claim_at-agree, number-found
 use Rattle.fsb_tied.proofs.Interface.{begun-want}
 use Rattle.fsb_phase_run.proofs.Interface.{agree-grown}
 use Rattle.fsb_bench_view.specs.declared.beginning.Started.{Started}
-use Rattle.fsb_bench_view.specs.declared.snoop.Snooped.{Snooped}
-use Rattle.fsb_bench_view.specs.BenchSteps.{step_decided, step_drive, step_performed}
-use Rattle.fsb_bench_view.specs.BusSnooping.{answer_besides, is_hit_answer, is_modified_answer, snooped_entry, snooped_for, snooped_of, snooped_reply}
+use Rattle.fsb_bench_view.specs.BenchSteps.{step_decided, step_performed}
+use Rattle.fsb_bench_view.specs.BusSnooping.{snooped_entry, snooped_for, snooped_reply}
 use Rattle.fsb_bench_view.specs.BusViews.{BenchView, BusView, clock_of}
 use Rattle.fsb_bench_run.specs.BenchOf.{IsBegunAt, IsBenchOf}
 use Rattle.fsb_bench_run.proofs.BegunRequests.{begun-is}
@@ -51,7 +49,7 @@ use Rattle.fsb_bench_run.proofs.ResponsesDriven.{beq-from}
 use Rattle.fsb_bench_run.proofs.RunWith.{run_with}
 use Rattle.fsb_bench_run.proofs.SameBus.{same-performed}
 use Rattle.fsb_bench_run.proofs.SnoopAnswers.{AgentsAnswer, besides-told}
-use Rattle.fsb_bench_run.proofs.SnoopCases.{SnoopsHere, SnoopsNone, snoop-cases}
+use Rattle.fsb_bench_run.proofs.SnoopCases.{SnoopsHere, snoop-cases}
 use Rattle.fsb_bench_run.proofs.SnoopEntry.{held-here}
 use Rattle.fsb_bench_run.proofs.ThisClock.{holds-now}
 
@@ -152,7 +150,8 @@ clock-le w i k q c l e f =
     ]
 
 pub deferral-started : (v : BenchView) (hold : Bool) (choice : Choice) (entries : List Done) → IsBenchOf v
-    → (grows : GrowsTo v.run (run_with v hold choice entries)) → (k : SnoopsHere v hold choice entries) (d : Deferral) (i : ℕ)
+    → (grows : GrowsTo v.run (run_with v hold choice entries))
+    → (k : SnoopsHere v hold choice entries) (d : Deferral) (i : ℕ)
     → number_served_at (run_with v hold choice entries) (past_of (run_with v hold choice entries)) (clock_of v) ≡ Some i
     → IsDeferralOf (run_with v hold choice entries).trace d i
     → (begun : Started) × (slice_get v.bus.started d.number ≡ Some begun)
@@ -206,7 +205,8 @@ right-reply r p c s e hit hitm =
     rw (has_right_result, e) (and_from _ _ (beq-from _ _ hit) (ap not hitm))
 
 right-other : (r : Run) (p : Past) (c : ℕ) (s : SnoopEnd) → is_reply_end s ≡ false
-    → line_at HITM r.trace c ≡ is_dirty_for p c s → line_at HIT r.trace c ≡ (not (is_dirty_for p c s) && is_held_for p c s)
+    → line_at HITM r.trace c ≡ is_dirty_for p c s
+    → line_at HIT r.trace c ≡ (not (is_dirty_for p c s) && is_held_for p c s)
     → has_right_result r p c s ≡ true
 unfolding has_right_result
 right-other r p c s e hitm hit =
@@ -233,18 +233,22 @@ end-kind v hold choice entries b grows k =
     ∙ ap (option_map (λ (z : Request). z.kind)) (decoded-now v hold choice entries b grows k))
 
 -- HIT# and HITM# at the snoop end
-hit-now : (v : BenchView) (hold : Bool) (choice : Choice) (entries : List Done) (k : SnoopsHere v hold choice entries)
+pub hit-now : (v : BenchView) (hold : Bool) (choice : Choice) (entries : List Done)
+    (k : SnoopsHere v hold choice entries)
     (who : Who) → k.now.entry.who ≡ who → line_at HIT (run_with v hold choice entries).trace (clock_of v)
     ≡ hit_driven (snooped_entry (step_performed v) k.now.entry who) false
 hit-now v hold choice entries k who e =
-    line-with v hold choice entries HIT ∙ hit-driven (step_performed v) (clock_of v) v.run.plan.profile (step_decided v hold)
+    line-with v hold choice entries HIT
+    ∙ hit-driven (step_performed v) (clock_of v) v.run.plan.profile (step_decided v hold)
     ∙ (λ i. hit_driven ((k.decided ∙ ap (snooped_entry (step_performed v) k.now.entry) e) i) (k.calm i))
 
-hitm-now : (v : BenchView) (hold : Bool) (choice : Choice) (entries : List Done) (k : SnoopsHere v hold choice entries)
+pub hitm-now : (v : BenchView) (hold : Bool) (choice : Choice) (entries : List Done)
+    (k : SnoopsHere v hold choice entries)
     (who : Who) → k.now.entry.who ≡ who → line_at HITM (run_with v hold choice entries).trace (clock_of v)
     ≡ hitm_driven (snooped_entry (step_performed v) k.now.entry who) false
 hitm-now v hold choice entries k who e =
-    line-with v hold choice entries HITM ∙ hitm-driven (step_performed v) (clock_of v) v.run.plan.profile (step_decided v hold)
+    line-with v hold choice entries HITM
+    ∙ hitm-driven (step_performed v) (clock_of v) v.run.plan.profile (step_decided v hold)
     ∙ (λ i. hitm_driven ((k.decided ∙ ap (snooped_entry (step_performed v) k.now.entry) e) i) (k.calm i))
 
 dirty-by : (p : Past) (c : ℕ) (s : SnoopEnd) (claim : Claim) → s.claim ≡ Some claim
@@ -264,7 +268,7 @@ reply-begun None request e = absurd (let no : ⊥ = cc in no)
 reply-begun (Some x) request e =
     let same : reply_to x ≡ request = cc in ap (λ (y : Request). is_reply_kind y.kind) (sym same)
 
-begun-reply-kind : (r : Run) (q : ℕ) (request : Request) → IsBegunAt r q Priority request
+pub begun-reply-kind : (r : Run) (q : ℕ) (request : Request) → IsBegunAt r q Priority request
     → is_reply_kind request.kind ≡ true
 unfolding would_begin
 begun-reply-kind r q request k = reply-begun _ request k.wanted
@@ -273,7 +277,8 @@ result-by : (v : BenchView) (hold : Bool) (choice : Choice) (entries : List Done
     → DeferralsTold v (run_with v hold choice entries) → AgentsAnswer v (run_with v hold choice entries)
     → (grows : GrowsTo v.run (run_with v hold choice entries)) → (k : SnoopsHere v hold choice entries) (who : Who)
     → k.now.entry.who ≡ who
-    → has_right_result (run_with v hold choice entries) (past_of (run_with v hold choice entries)) (clock_of v) k.told.end ≡ true
+    → has_right_result (run_with v hold choice entries) (past_of (run_with v hold choice entries))
+    (clock_of v) k.told.end ≡ true
 result-by v hold choice entries b told answer grows k (Symmetric agent) e =
     let s = run_with v hold choice entries in
     let p = past_of s in
@@ -336,4 +341,5 @@ pub snoop-result : (v : BenchView) (hold : Bool) (choice : Choice) (entries : Li
     → GrowsTo v.run (run_with v hold choice entries)
     → holds_at has_snoop_result (run_with v hold choice entries) (clock_of v) ≡ true
 snoop-result v hold choice entries b told answer grows =
-    holds-now has_snoop_result v.run (run_with v hold choice entries) grows (result-now v hold choice entries b told answer grows)
+    holds-now has_snoop_result v.run (run_with v hold choice entries) grows
+    (result-now v hold choice entries b told answer grows)

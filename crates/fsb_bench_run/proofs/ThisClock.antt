@@ -1,13 +1,12 @@
 -- The last clock of a run that has grown by it: what is said of it is said of the whole run.
-use Rattle.std.proofs.Common.{ℕ, ◌+◌, ◌<◌, ◌≤◌, ◌≡◌, ◌&&◌, Bool, true, List, [], ◌∷◌, ◌++◌, length, nat_eq, nat_le, nat_lt, take, refl, sym, ap, ◌∙◌, arith, subst}
-use Rattle.std.specs.List.{filter, list_all}
+use Rattle.std.proofs.Common.{ℕ, ◌+◌, ◌<◌, ◌≡◌, ◌&&◌, true, List, [], ◌∷◌, ◌++◌, length, nat_eq, nat_le, nat_lt, refl, sym, ap, ◌∙◌, arith}
+use Rattle.std.specs.List.{list_all}
 use Rattle.std.proofs.lemmas.Bool.{and_parts, eqb-true, le-leb, ltb-true}
-use Rattle.std.proofs.lemmas.List.{length-append, take_all}
+use Rattle.std.proofs.lemmas.List.{take_all}
 use Rattle.std.proofs.lemmas.List.Elements.{filter-append}
 use Rattle.fsb_access.specs.declared.log.Done.{Done}
 use Rattle.fsb_timely.specs.Completions.{is_in_time}
 use Rattle.fsb_timely.specs.Growth.{GrowsTo}
-use Rattle.fsb_timely.specs.Past.{Past}
 use Rattle.fsb_timely.specs.Runs.{Run, entries_to, moments_below, past_of, past_to}
 use Rattle.fsb_timely.specs.Timely.{Part, holds_at, holds_in}
 use Rattle.fsb_timely.proofs.Interface.{length-moments, run-ends}

@@ -1,38 +1,27 @@
 -- The turn that counts at the snoop end of a clock.
-use Rattle.std.proofs.Common.{ℕ, zero, suc, ◌+◌, ◌<◌, ◌≤◌, ◌≡◌, ◌&&◌, Bool, true, false, not, Option, Some, None, List, [], ◌∷◌, ◌++◌, length, map, take, refl, sym, ap, ◌∙◌, arith, inl, inr, ◌||◌, subst}
-use Rattle.std.specs.List.{list_any, slice_get}
-use Rattle.std.specs.Option.{option_map, option_map_or}
-use Rattle.std.proofs.Math.Seq.{take-length}
-use Rattle.std.proofs.lemmas.Bool.{cases_Bool}
+use Rattle.std.proofs.Common.{ℕ, suc, ◌+◌, ◌≡◌, Bool, true, Option, Some, None, List, [], ◌∷◌, ◌++◌, length, refl, sym, ap, ◌∙◌, arith}
+use Rattle.std.specs.Option.{option_map}
 use Rattle.std.proofs.lemmas.List.{length-append}
-use Rattle.fsb_bridge.specs.Deferrals.{is_covered, is_of_id, is_of_line, is_waited_for, with_reply}
-use Rattle.fsb_bridge.specs.declared.deferral.Waiting.{Waiting}
-use Rattle.fsb_bridge.proofs.Interface.{is_waited_for-StandsFor}
-use Rattle.fsb_encode.specs.declared.request.Kind.TheVariants.{Reply}
+use Rattle.fsb_bridge.specs.Deferrals.{is_covered}
 use Rattle.fsb_encode.specs.declared.request.Request.{Request}
 use Rattle.fsb_hazard.specs.Choice.{effective_turn, is_never_held_up}
 use Rattle.fsb_hazard.specs.declared.choice.Choice.{Choice}
 use Rattle.fsb_hazard.specs.declared.choice.Turn.{Turn}
-use Rattle.fsb_hazard.specs.declared.choice.Turn.TheVariants.{Keep, Retry, Defer}
+use Rattle.fsb_hazard.specs.declared.choice.Turn.TheVariants.{Keep}
 use Rattle.fsb_phase.specs.Due.{rank_of}
 use Rattle.fsb_queue.specs.declared.entry.Entry.{Entry}
 use Rattle.fsb_script.specs.declared.plan.Window.{Window}
 use Rattle.fsb_trace.specs.At.{Trace, request_at}
 use Rattle.fsb_trace.specs.Deferral.{is_pending}
 use Rattle.fsb_trace.specs.Requests.{live_clock_of}
-use Rattle.fsb_trace.specs.Snoop.{snoop_end_of}
-use Rattle.fsb_trace.specs.declared.who.Who.{Who}
-use Rattle.fsb_trace.specs.declared.who.Who.TheVariants.{Symmetric, Priority}
+use Rattle.fsb_trace.specs.declared.who.Who.TheVariants.{Priority}
 use Rattle.fsb_timely.specs.Growth.{GrowsTo}
 use Rattle.fsb_timely.specs.Moments.{choice_at, effective_choice, is_in_window, snoop_end_with, turns_in}
-use Rattle.fsb_timely.specs.Past.{Moment, SnoopEnd}
-use Rattle.fsb_timely.specs.Runs.{Run, moments_below, next_moment, past_of, run_to}
+use Rattle.fsb_timely.specs.Past.{SnoopEnd}
+use Rattle.fsb_timely.specs.Runs.{Run, moments_below, next_moment, past_of}
 use Rattle.fsb_timely.specs.Starts.{reply_to, would_begin}
 use Rattle.fsb_timely.proofs.Interface.{moment-snooped, moments-grow, run-ends, snoop_of, snooped-there}
 use Rattle.fsb_phase_run.proofs.Interface.{longer}
-use Rattle.fsb_bench_view.specs.declared.beginning.Latest.{Latest}
-use Rattle.fsb_bench_view.specs.BusEvents.{waiting_started}
-use Rattle.fsb_bench_view.specs.BusSample.{is_latest_before}
 use Rattle.fsb_bench_run.specs.BenchOf.{IsBegunAt}
 use Rattle.fsb_bench_run.proofs.SnoopEntry.{IsSnoopedNow}
 
@@ -74,7 +63,8 @@ end-as r s e grows told =
 effective-of : (bridge : Option Window) (choices : List Choice) (w : Trace) (turns : List ℕ) (q n : ℕ)
     (request : Request) → request_at w q ≡ Some request
     → (effective_choice bridge choices w turns q n).turn
-    ≡ effective_turn (choice_at choices w q).turn request (is_in_window bridge request.line) (is_pending w turns request.line n)
+    ≡ effective_turn (choice_at choices w q).turn request (is_in_window bridge request.line)
+    (is_pending w turns request.line n)
 unfolding effective_choice
 effective-of bridge choices w turns q n request e = rw (e, effective_choice) refl
 
@@ -82,14 +72,16 @@ effective-of bridge choices w turns q n request e = rw (e, effective_choice) ref
 pub end-turn : (r s : Run) (e : Entry) → GrowsTo r s → (told : IsSnoopedNow s (length r.trace) e)
     → request_at s.trace e.clock ≡ Some e.request
     → told.end.turn ≡ effective_turn (choice_at s.choices s.trace e.clock).turn e.request
-    (is_in_window s.plan.bridge e.request.line) (is_pending s.trace (turns_in (past_of r).moments) e.request.line (length r.trace))
+    (is_in_window s.plan.bridge e.request.line) (is_pending s.trace (turns_in (past_of r).moments) e.request.line
+    (length r.trace))
 unfolding snoop_end_with
 end-turn r s e grows told decoded =
     let n = length r.trace in
     ap (λ (x : SnoopEnd). x.turn) (end-as r s e grows told)
     ∙ ap (λ (u : Run). (effective_choice s.plan.bridge u.choices u.trace (turns_in (moments_below s n)) e.clock n).turn)
     (run-ends r s grows)
-    ∙ ap (λ ms. (effective_choice s.plan.bridge s.choices s.trace (turns_in ms) e.clock n).turn) (moments-before r s grows)
+    ∙ ap (λ ms. (effective_choice s.plan.bridge s.choices s.trace (turns_in ms) e.clock n).turn)
+    (moments-before r s grows)
     ∙ effective-of s.plan.bridge s.choices s.trace (turns_in (past_of r).moments) e.clock n e.request decoded
 
 -- a reply is kept

@@ -19,3 +19,4 @@ pub use Rattle.fsb_phase_run.proofs.RespondedNow.{responded-now, retried-now}
 -- The queue after the clock, and the turns of the longer run.
 pub use Rattle.fsb_phase_run.proofs.QueueGoesOn.{queue-goes-on}
 pub use Rattle.fsb_phase_run.proofs.TakenTurns.{outcome-settled, turn-same}
+pub use Rattle.fsb_phase_run.proofs.KeptTurns.{write-back-kept}
