@@ -9,8 +9,8 @@ use Rattle.fsb_timely.specs.Runs.{past_of}
 use Rattle.fsb_bench_view.specs.declared.decided.BytesFrom.{BytesFrom}
 use Rattle.fsb_bench_view.specs.declared.decided.BytesFrom.TheVariants.{Memory, Agents}
 use Rattle.fsb_bench_view.specs.BenchSteps.{step_drive, step_fetched}
-use Rattle.fsb_bench_view.specs.BusViews.{BenchView, BusView, clock_of}
-use Rattle.fsb_bench_view.specs.BytesFetched.{bus_fetched, bytes_from}
+use Rattle.fsb_bench_view.specs.BusViews.{BenchView, BusView, next_clock_of}
+use Rattle.fsb_bench_view.specs.BytesFetched.{bus_fetched, bytes_source}
 use Rattle.fsb_bench_view.specs.ToldAgents.{agents_told, for_all}
 use Rattle.fsb_bench_run.proofs.RunWith.{run_with}
 use Rattle.fsb_bench_run.proofs.SnoopAnswers.{AgentsAnswer}
@@ -28,14 +28,14 @@ length-fetched bus (Some (Memory line)) = refl
 length-fetched bus (Some (Agents number)) = length-told (for_all (HandedOn number)) 0 bus.agents
 
 pub fetched-four : (v : BenchView) → length v.bus.agents ≡ 4 → length (step_fetched v).agents ≡ 4
-fetched-four v four = length-fetched v.bus (bytes_from v.bus (step_drive v)) ∙ four
+fetched-four v four = length-fetched v.bus (bytes_source v.bus (step_drive v)) ∙ four
 
 -- the agents answer as the run says
 pub agents-answer : (v : BenchView) (hold : Bool) (choice : Choice) (entries : List Done)
     → IsStepWith v hold choice entries
     → AgentsAnswer v (run_with v hold choice entries)
 agents-answer v hold choice entries k = record {
-  four = length-told (for_all (Performed (clock_of v))) 0 (step_fetched v).agents ∙ fetched-four v k.bench.agents.four;
+  four = length-told (for_all (Performed (next_clock_of v))) 0 (step_fetched v).agents ∙ fetched-four v k.bench.agents.four;
   answers = λ b line w at.
-      answer-by (past_of (run_with v hold choice entries)) b (clock_of v) line w (k.hits.after b w at).lines;
+      answer-by (past_of (run_with v hold choice entries)) b (next_clock_of v) line w (k.hits.after b w at).lines;
 }

@@ -11,8 +11,8 @@ use Rattle.fsb_timely.specs.Past.{Past}
 use Rattle.fsb_bench_view.specs.declared.decided.BytesFrom.{BytesFrom}
 use Rattle.fsb_bench_view.specs.declared.decided.BytesFrom.TheVariants.{Memory, Agents}
 use Rattle.fsb_bench_view.specs.BenchSteps.{step_drive, step_fetched, step_performed}
-use Rattle.fsb_bench_view.specs.BusViews.{BenchView, BusView, clock_of}
-use Rattle.fsb_bench_view.specs.BytesFetched.{bus_fetched, bytes_from}
+use Rattle.fsb_bench_view.specs.BusViews.{BenchView, BusView, next_clock_of}
+use Rattle.fsb_bench_view.specs.BytesFetched.{bus_fetched, bytes_source}
 use Rattle.fsb_bench_view.specs.ToldAgents.{agents_told, for_all}
 
 -- an agent after its events
@@ -51,14 +51,14 @@ fetched-by bus (Some (Agents number)) a w e =
     }
 
 pub fetched-from : (v : BenchView) (a : ℕ) (w : AgentView) → slice_get (step_fetched v).agents a ≡ Some w → IsFetchedFrom v.bus.agents a w
-fetched-from v a w e = fetched-by v.bus (bytes_from v.bus (step_drive v)) a w e
+fetched-from v a w e = fetched-by v.bus (bytes_source v.bus (step_drive v)) a w e
 
 -- and before its hit
 pub performed-from : (v : BenchView) (a : ℕ) (w : AgentView) → slice_get (step_performed v).agents a ≡ Some w
-    → (u : AgentView) × (slice_get (step_fetched v).agents a ≡ Some u) × (w ≡ performed u (clock_of v))
+    → (u : AgentView) × (slice_get (step_fetched v).agents a ≡ Some u) × (w ≡ performed u (next_clock_of v))
 performed-from v a w e =
-    some-of (λ v'. performed v' (clock_of v)) (slice_get (step_fetched v).agents a) w
-    (sym (told-at (for_all (Performed (clock_of v))) 0 (step_fetched v).agents a) ∙ e)
+    some-of (λ v'. performed v' (next_clock_of v)) (slice_get (step_fetched v).agents a) w
+    (sym (told-at (for_all (Performed (next_clock_of v))) 0 (step_fetched v).agents a) ∙ e)
 
 fetched-there : (bus : BusView) (o : Option BytesFrom) (a : ℕ) (u : AgentView) → slice_get bus.agents a ≡ Some u
     → (w : AgentView) × (slice_get (bus_fetched bus o).agents a ≡ Some w)
@@ -71,7 +71,7 @@ fetched-there bus (Some (Agents number)) a u e =
 pub performed-there : (v : BenchView) (a : ℕ) (u : AgentView) → slice_get v.bus.agents a ≡ Some u
     → (w : AgentView) × (slice_get (step_performed v).agents a ≡ Some w)
 performed-there v a u e =
-    let k = fetched-there v.bus (bytes_from v.bus (step_drive v)) a u e in (
-      performed k.0 (clock_of v),
-      told-at (for_all (Performed (clock_of v))) 0 (step_fetched v).agents a ∙ ap (option_map (λ v'. performed v' (clock_of v))) k.1,
+    let k = fetched-there v.bus (bytes_source v.bus (step_drive v)) a u e in (
+      performed k.0 (next_clock_of v),
+      told-at (for_all (Performed (next_clock_of v))) 0 (step_fetched v).agents a ∙ ap (option_map (λ v'. performed v' (next_clock_of v))) k.1,
     )

@@ -34,7 +34,7 @@ use Rattle.fsb_bench_view.specs.BenchSteps.{step_decided, step_fetched, step_per
 use Rattle.fsb_bench_view.specs.BusDecisions.{want_at}
 use Rattle.fsb_bench_view.specs.BusSample.{is_latest_before, pair_driven}
 use Rattle.fsb_bench_view.specs.BusStarting.{is_spaced_by, may_start, starting_for, want_in}
-use Rattle.fsb_bench_view.specs.BusViews.{BenchView, BusView, clock_of}
+use Rattle.fsb_bench_view.specs.BusViews.{BenchView, BusView, next_clock_of}
 use Rattle.fsb_bench_run.specs.BenchOf.{IsBegunAt, IsBenchOf, IsLatestOf}
 use Rattle.fsb_bench_run.proofs.AdsGrown.{last-below}
 use Rattle.fsb_bench_run.proofs.AgentsTold.{performed-there}
@@ -65,22 +65,22 @@ want-found agents clock (suc (suc (suc (suc a)))) w few at = absurd (omega arith
 pub wants-told : (v : BenchView) (hold : Bool) (choice : Choice) (entries : List Done) (a : ℕ)
     → IsStepWith v hold choice entries → a < 4
     → option_map (λ (want : Want). want.request) (want_in (step_decided v hold).asked a)
-    ≡ want_of (past_of (run_with v hold choice entries)) a (clock_of v)
+    ≡ want_of (past_of (run_with v hold choice entries)) a (next_clock_of v)
 wants-told v hold choice entries a b few =
     let there = agent-there v a b.bench few in
     let view = b.hits.after a there.0 there.1 in
-    ap (option_map (λ (want : Want). want.request)) (want-found (step_performed v).agents (clock_of v) a there.0 few there.1)
-    ∙ want-by (past_of (run_with v hold choice entries)) a (clock_of v) there.0 view
+    ap (option_map (λ (want : Want). want.request)) (want-found (step_performed v).agents (next_clock_of v) a there.0 few there.1)
+    ∙ want-by (past_of (run_with v hold choice entries)) a (next_clock_of v) there.0 view
 
 pub locked-told : (v : BenchView) (hold : Bool) (choice : Choice) (entries : List Done) (a : ℕ) (want : Want)
     → IsStepWith v hold choice entries → a < 4
     → want_in (step_decided v hold).asked a ≡ Some want
-    → want.locked ≡ wants_lock (past_of (run_with v hold choice entries)) a (clock_of v)
+    → want.locked ≡ wants_lock (past_of (run_with v hold choice entries)) a (next_clock_of v)
 locked-told v hold choice entries a want b few at =
     let there = agent-there v a b.bench few in
     let view = b.hits.after a there.0 there.1 in
-    locked-by (past_of (run_with v hold choice entries)) a (clock_of v) there.0 want view
-    (sym (want-found (step_performed v).agents (clock_of v) a there.0 few there.1) ∙ at)
+    locked-by (past_of (run_with v hold choice entries)) a (next_clock_of v) there.0 want view
+    (sym (want-found (step_performed v).agents (next_clock_of v) a there.0 few there.1) ∙ at)
 
 -- nothing begins in the clock after a beginning
 spaced-off : (latest : Option Latest) (last : Latest) (clock : ℕ) → latest ≡ Some last → last.clock + 1 ≡ clock → is_spaced_by latest clock ≡ false
@@ -105,7 +105,7 @@ pub shows-now : (v : BenchView) (hold : Bool) (choice : Choice) (entries : List 
 shows-now v hold choice entries b =
     let r = v.run in
     let s = run_with v hold choice entries in
-    let n = clock_of v in
+    let n = next_clock_of v in
     shows-second r s b.grows b.bench.bounds (λ d at ads.
     let size = longer r s b.grows in
     let suc-d : suc d ≡ n = omega arith in
@@ -134,9 +134,9 @@ shows-now v hold choice entries b =
 
 pub due-told : (v : BenchView) (hold : Bool) (choice : Choice) (entries : List Done) → IsStepWith v hold choice entries
     → IsThatOf (run_with v hold choice entries).trace (step_decided v hold).asked.due
-    (due_number (run_with v hold choice entries) (past_of (run_with v hold choice entries)) (clock_of v))
+    (due_number (run_with v hold choice entries) (past_of (run_with v hold choice entries)) (next_clock_of v))
 due-told v hold choice entries b =
     let s = run_with v hold choice entries in
-    subst (λ waiting. IsThatOf s.trace (due_deferral (clock_of v) waiting) (due_number s (past_of s) (clock_of v)))
+    subst (λ waiting. IsThatOf s.trace (due_deferral (next_clock_of v) waiting) (due_number s (past_of s) (next_clock_of v)))
     (sym (ap (λ (bridge : Bridged). bridge.waiting) (same-performed v).bridge))
     (grown-due v.run s v.bus.bridge.waiting b.grows b.bench.bounds (shows-now v hold choice entries b) b.bench.bridge.deferrals)

@@ -33,7 +33,7 @@ use Rattle.fsb_bench_view.specs.declared.decided.Decided.{Decided}
 use Rattle.fsb_bench_view.specs.BenchSteps.{step_decided, step_performed}
 use Rattle.fsb_bench_view.specs.BusSample.{began_by, is_asking, is_bridge_asking, is_latest_before, is_same_who}
 use Rattle.fsb_bench_view.specs.BusStarting.{want_in}
-use Rattle.fsb_bench_view.specs.BusViews.{BenchView, BusView, clock_of}
+use Rattle.fsb_bench_view.specs.BusViews.{BenchView, BusView, next_clock_of}
 use Rattle.fsb_bench_run.specs.BenchOf.{IsBegunAt, IsLatestOf}
 use Rattle.fsb_bench_run.proofs.AdsGrown.{ads-old, last-below}
 use Rattle.fsb_bench_run.proofs.AskedNow.{due-told, shows-now, wants-told}
@@ -110,35 +110,35 @@ some-mapped (Some w) = refl
 -- an agent asks for the bus as it must
 pub asking-now : (v : BenchView) (hold : Bool) (choice : Choice) (entries : List Done) (a : ℕ)
     → IsStepWith v hold choice entries → a < 4
-    → is_asking (step_performed v) (clock_of v) (step_decided v hold) a
-    ≡ (is_some (want_of (past_of (run_with v hold choice entries)) a (clock_of v))
-    && not (began_before (run_with v hold choice entries) (clock_of v) (Symmetric a)))
+    → is_asking (step_performed v) (next_clock_of v) (step_decided v hold) a
+    ≡ (is_some (want_of (past_of (run_with v hold choice entries)) a (next_clock_of v))
+    && not (began_before (run_with v hold choice entries) (next_clock_of v) (Symmetric a)))
 asking-now v hold choice entries a b few =
     let s = run_with v hold choice entries in
-    let n = clock_of v in
+    let n = next_clock_of v in
     let want = some-mapped (want_in (step_decided v hold).asked a) ∙ ap (λ o. is_some o) (wants-told v hold choice entries a b few) in
     let latest = ap (λ o. began_by o n (Symmetric a)) (performed-begun v).latest
     ∙ began-latest v.run s v.bus.latest (Symmetric a) b.grows b.bench.latest in
     λ i. want i && not (latest i)
 
 bus-line : (v : BenchView) (hold : Bool) (choice : Choice) (entries : List Done) (a : ℕ) → a < 4
-    → line_at (bus_request_of a) (run_with v hold choice entries).trace (clock_of v)
-    ≡ is_asking (step_performed v) (clock_of v) (step_decided v hold) a
+    → line_at (bus_request_of a) (run_with v hold choice entries).trace (next_clock_of v)
+    ≡ is_asking (step_performed v) (next_clock_of v) (step_decided v hold) a
 unfolding bus_request_of
 bus-line v hold choice entries zero few =
-    line-with v hold choice entries BREQ0 ∙ breq0-driven (step_performed v) (clock_of v) v.run.plan.profile (step_decided v hold)
+    line-with v hold choice entries BREQ0 ∙ breq0-driven (step_performed v) (next_clock_of v) v.run.plan.profile (step_decided v hold)
 bus-line v hold choice entries (suc zero) few =
-    line-with v hold choice entries BREQ1 ∙ breq1-driven (step_performed v) (clock_of v) v.run.plan.profile (step_decided v hold)
+    line-with v hold choice entries BREQ1 ∙ breq1-driven (step_performed v) (next_clock_of v) v.run.plan.profile (step_decided v hold)
 bus-line v hold choice entries (suc (suc zero)) few =
-    line-with v hold choice entries BREQ2 ∙ breq2-driven (step_performed v) (clock_of v) v.run.plan.profile (step_decided v hold)
+    line-with v hold choice entries BREQ2 ∙ breq2-driven (step_performed v) (next_clock_of v) v.run.plan.profile (step_decided v hold)
 bus-line v hold choice entries (suc (suc (suc zero))) few =
-    line-with v hold choice entries BREQ3 ∙ breq3-driven (step_performed v) (clock_of v) v.run.plan.profile (step_decided v hold)
+    line-with v hold choice entries BREQ3 ∙ breq3-driven (step_performed v) (next_clock_of v) v.run.plan.profile (step_decided v hold)
 bus-line v hold choice entries (suc (suc (suc (suc a)))) few = absurd (omega arith)
 
 -- so BREQ# of each agent is as it must
 pub asks-now : (v : BenchView) (hold : Bool) (choice : Choice) (entries : List Done) (a : ℕ)
     → IsStepWith v hold choice entries → a < 4
-    → asks_for_bus (run_with v hold choice entries) (past_of (run_with v hold choice entries)) (clock_of v) a ≡ true
+    → asks_for_bus (run_with v hold choice entries) (past_of (run_with v hold choice entries)) (next_clock_of v) a ≡ true
 unfolding asks_for_bus
 asks-now v hold choice entries a b few =
     same-beq _ _ (bus-line v hold choice entries a few ∙ asking-now v hold choice entries a b few)
@@ -208,11 +208,11 @@ due-some w (Some deferral) request e = ap (λ o. is_some o) (sym e.1)
 
 -- the bridge asks for the bus as it must
 pub asks-priority-now : (v : BenchView) (hold : Bool) (choice : Choice) (entries : List Done) → IsStepWith v hold choice entries
-    → asks_for_priority (run_with v hold choice entries) (past_of (run_with v hold choice entries)) (clock_of v) ≡ true
+    → asks_for_priority (run_with v hold choice entries) (past_of (run_with v hold choice entries)) (next_clock_of v) ≡ true
 unfolding asks_for_priority
 asks-priority-now v hold choice entries b =
     let s = run_with v hold choice entries in
-    let n = clock_of v in
+    let n = next_clock_of v in
     let due = due-some s.trace (step_decided v hold).asked.due (due_number s (past_of s) n) (due-told v hold choice entries b) in
     let latest = ap (λ o. began_by o n Priority) (performed-begun v).latest
     ∙ reply-latest v.run s v.bus.latest b.bench.bounds b.grows (shows-now v hold choice entries b) b.bench.latest in
@@ -222,11 +222,11 @@ asks-priority-now v hold choice entries b =
 
 -- the request lines are as they must
 pub request-lines-now : (v : BenchView) (hold : Bool) (choice : Choice) (entries : List Done) → IsStepWith v hold choice entries
-    → holds_at drives_request_lines (run_with v hold choice entries) (clock_of v) ≡ true
+    → holds_at drives_request_lines (run_with v hold choice entries) (next_clock_of v) ≡ true
 unfolding drives_request_lines
 request-lines-now v hold choice entries b =
     let s = run_with v hold choice entries in
     holds-now drives_request_lines v.run s b.grows
-    (and_from (each_where (asks_for_bus s (past_of s) (clock_of v)) 4) (asks_for_priority s (past_of s) (clock_of v))
-    (each_where-all (asks_for_bus s (past_of s) (clock_of v)) 4 (λ a few. asks-now v hold choice entries a b few))
+    (and_from (each_where (asks_for_bus s (past_of s) (next_clock_of v)) 4) (asks_for_priority s (past_of s) (next_clock_of v))
+    (each_where-all (asks_for_bus s (past_of s) (next_clock_of v)) 4 (λ a few. asks-now v hold choice entries a b few))
     (asks-priority-now v hold choice entries b))

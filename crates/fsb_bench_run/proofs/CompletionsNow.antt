@@ -10,7 +10,7 @@ use Rattle.fsb_timely.specs.Past.{Past}
 use Rattle.fsb_timely.specs.Runs.{past_of}
 use Rattle.fsb_timely.specs.Timely.{holds_at}
 use Rattle.fsb_bench_view.specs.BenchSteps.{step_fetched}
-use Rattle.fsb_bench_view.specs.BusViews.{BenchView, clock_of}
+use Rattle.fsb_bench_view.specs.BusViews.{BenchView, next_clock_of}
 use Rattle.fsb_bench_view.specs.ToldAgents.{hit_entries}
 use Rattle.fsb_bench_run.proofs.EntriesNow.{completed-from, completed_of, entries-there}
 use Rattle.fsb_bench_run.proofs.HitsCompleted.{AgentsFound, hits-completed}
@@ -25,15 +25,15 @@ arrivals_at p n = of_all_agents (λ a. completed_if p n (is_arrival p a n) a)
 -- the entries of a clock are what is completed there, where those beside the hits' are what arrivals complete
 pub completions-now : (v : BenchView) (hold : Bool) (choice : Choice) (entries : List Done)
     (others : List Done) → IsStepWith v hold choice entries → AgentsFound v (run_with v hold choice entries)
-    → entries ≡ hit_entries (clock_of v) (step_fetched v).agents ++ others
-    → list_all (λ (done : Done). nat_eq done.clock (clock_of v)) entries ≡ true
-    → map completed_of others ≡ arrivals_at (past_of (run_with v hold choice entries)) (clock_of v)
-    → logs_completions (run_with v hold choice entries) (past_of (run_with v hold choice entries)) (clock_of v) ≡ true
+    → entries ≡ hit_entries (next_clock_of v) (step_fetched v).agents ++ others
+    → list_all (λ (done : Done). nat_eq done.clock (next_clock_of v)) entries ≡ true
+    → map completed_of others ≡ arrivals_at (past_of (run_with v hold choice entries)) (next_clock_of v)
+    → logs_completions (run_with v hold choice entries) (past_of (run_with v hold choice entries)) (next_clock_of v) ≡ true
 unfolding logs_completions completed_at past_of
 completions-now v hold choice entries others k found split at told =
     let s = run_with v hold choice entries in
     let p = past_of s in
-    let n = clock_of v in
+    let n = next_clock_of v in
     let hits = hits-completed v s found in
     completed-from (entries_at p n) (completed_at p n)
     (entries-there p n v.run.log entries refl k.bench.timely.in_time at
@@ -42,10 +42,10 @@ completions-now v hold choice entries others k found split at told =
 
 pub logs-completions : (v : BenchView) (hold : Bool) (choice : Choice) (entries : List Done)
     (others : List Done) → IsStepWith v hold choice entries → AgentsFound v (run_with v hold choice entries)
-    → entries ≡ hit_entries (clock_of v) (step_fetched v).agents ++ others
-    → list_all (λ (done : Done). nat_eq done.clock (clock_of v)) entries ≡ true
-    → map completed_of others ≡ arrivals_at (past_of (run_with v hold choice entries)) (clock_of v)
-    → holds_at logs_completions (run_with v hold choice entries) (clock_of v) ≡ true
+    → entries ≡ hit_entries (next_clock_of v) (step_fetched v).agents ++ others
+    → list_all (λ (done : Done). nat_eq done.clock (next_clock_of v)) entries ≡ true
+    → map completed_of others ≡ arrivals_at (past_of (run_with v hold choice entries)) (next_clock_of v)
+    → holds_at logs_completions (run_with v hold choice entries) (next_clock_of v) ≡ true
 logs-completions v hold choice entries others k found split at told =
     holds-now logs_completions v.run (run_with v hold choice entries) k.grows
     (completions-now v hold choice entries others k found split at told)

@@ -11,23 +11,23 @@ use Rattle.fsb_access.specs.declared.log.Done.{Done}
 use Rattle.fsb_hazard.specs.declared.choice.Choice.{Choice}
 use Rattle.fsb_timely.specs.Snoops.{is_keep}
 use Rattle.fsb_bench_view.specs.declared.decided.Decided.{Decided}
-use Rattle.fsb_bench_view.specs.declared.snoop.Snooped.{Snooped}
+use Rattle.fsb_bench_view.specs.declared.snoop.SnoopSettled.{SnoopSettled}
 use Rattle.fsb_bench_view.specs.BenchSteps.{step_run, step_sample}
 use Rattle.fsb_bench_view.specs.BusSample.{bits_driven, bits_of, drive_bits, is_asking, is_bridge_asking, is_lock_driven, pair_driven, parity_bits, request_bits, sample_by}
-use Rattle.fsb_bench_view.specs.BusViews.{BenchView, BusView, clock_of}
+use Rattle.fsb_bench_view.specs.BusViews.{BenchView, BusView, next_clock_of}
 use Rattle.fsb_bench_run.proofs.RunWith.{run_with}
 use Rattle.fsb_bench_run.proofs.SampleBits.{bit_in, line-bit}
 
 -- HIT#, HITM# and DEFER# of a clock that is this snoop end, or none, where a snoop is stalled or not
-abbrev pub hit_driven : Option Snooped → Bool → Bool
+abbrev pub hit_driven : Option SnoopSettled → Bool → Bool
 hit_driven None stall = stall
 hit_driven (Some s) stall = s.hit
 
-abbrev pub hitm_driven : Option Snooped → Bool → Bool
+abbrev pub hitm_driven : Option SnoopSettled → Bool → Bool
 hitm_driven None stall = stall
 hitm_driven (Some s) stall = s.hitm
 
-abbrev pub defer_driven : Option Snooped → Bool
+abbrev pub defer_driven : Option SnoopSettled → Bool
 defer_driven None = false
 defer_driven (Some s) = not (is_keep s.turn)
 
@@ -35,7 +35,7 @@ defer_driven (Some s) = not (is_keep s.turn)
 abbrev pub parity_driven : ℕ → Pair → Bool → ℕ → Bool
 parity_driven profile pair ads k = bit_in (parity_bits profile pair ads) k
 
-snooped-bits : (o : Option Snooped) (stall : Bool)
+snooped-bits : (o : Option SnoopSettled) (stall : Bool)
     → (elim o [ Some s ↦ s.hit ∷ (s.hitm ∷ (not (is_keep s.turn) ∷ [])) | None ↦ stall ∷ (stall ∷ (false ∷ [])) ])
     ≡ hit_driven o stall ∷ (hitm_driven o stall ∷ (defer_driven o ∷ []))
 snooped-bits None stall = refl
@@ -87,12 +87,12 @@ bit-driven bus clock profile decided pair k =
     (subst (λ bits. length bits ≤ 21) (sym all) (omega arith)) ∙ ap (λ bits. bit_in bits k) all
 
 pub line-with : (v : BenchView) (hold : Bool) (choice : Choice) (entries : List Done) (line : Lines)
-    → line_at line (run_with v hold choice entries).trace (clock_of v) ≡ has_line (step_sample v hold) line
+    → line_at line (run_with v hold choice entries).trace (next_clock_of v) ≡ has_line (step_sample v hold) line
 line-with v hold choice entries line =
     line_at-new line v.run.trace (step_sample v hold) _ (one_more v.run.trace (step_sample v hold))
 
 pub line-new : (v : BenchView) (hold : Bool) (choice : Choice) (line : Lines)
-    → line_at line (step_run v hold choice).trace (clock_of v) ≡ has_line (step_sample v hold) line
+    → line_at line (step_run v hold choice).trace (next_clock_of v) ≡ has_line (step_sample v hold) line
 line-new v hold choice line = line_at-new line v.run.trace (step_sample v hold) _ (one_more v.run.trace
     (step_sample v hold))
 

@@ -41,7 +41,7 @@ use Rattle.fsb_bench_view.specs.declared.beginning.Started.{Started}
 use Rattle.fsb_bench_view.specs.BenchSteps.{step_decided, step_drive, step_performed, step_sample}
 use Rattle.fsb_bench_view.specs.BusDecisions.{is_cancelled_by}
 use Rattle.fsb_bench_view.specs.BusSnooping.{snooped_entry, snooped_for, snooped_reply, turn_counted}
-use Rattle.fsb_bench_view.specs.BusViews.{BenchView, BusView, clock_of}
+use Rattle.fsb_bench_view.specs.BusViews.{BenchView, BusView, next_clock_of}
 use Rattle.fsb_bench_run.specs.BenchOf.{IsBegunAt, IsBenchOf}
 use Rattle.fsb_bench_run.proofs.RunWith.{run_with}
 use Rattle.fsb_bench_run.proofs.BegunRequests.{begun-request, request-grown}
@@ -57,25 +57,25 @@ use Rattle.fsb_bench_run.proofs.TurnCounted.{begun-reply, end-turn, kept-turn, w
 
 -- BNR#
 bnr-now : (v : BenchView) (hold : Bool) (choice : Choice) (entries : List Done) → Timely v.run
-    → line_at BNR (run_with v hold choice entries).trace (clock_of v) ≡ is_bnr_chosen
-    (run_with v hold choice entries) (clock_of v)
+    → line_at BNR (run_with v hold choice entries).trace (next_clock_of v) ≡ is_bnr_chosen
+    (run_with v hold choice entries) (next_clock_of v)
 unfolding is_bnr_chosen
 bnr-now v hold choice entries timely =
     let there = ap (slice_get (v.run.holds ++ hold ∷ [])) (sym timely.one_hold) ∙ slice_get-end v.run.holds hold in
     line-with v hold choice entries BNR
-    ∙ bnr-driven (step_performed v) (clock_of v) v.run.plan.profile (step_decided v hold)
+    ∙ bnr-driven (step_performed v) (next_clock_of v) v.run.plan.profile (step_decided v hold)
     ∙ sym (ap (λ o. option_map_or (λ (b : Bool). b) o false) there)
 
 -- AERR#: an entry that began three clocks before, and is to be cancelled, is the request that began there
 entry-error : (v : BenchView) (hold : Bool) (choice : Choice) (entries : List Done) (k : ℕ) (e : Entry)
     → GrowsTo v.run (run_with v hold choice entries) → HoldsRequests v.bus.queue v.run
     → slice_get v.bus.queue k ≡ Some e
-    → is_cancelled_by (clock_of v) e ≡ true → is_error_chosen (run_with v hold choice entries) (clock_of v) ≡ true
+    → is_cancelled_by (next_clock_of v) e ≡ true → is_error_chosen (run_with v hold choice entries) (next_clock_of v) ≡ true
 unfolding is_error_chosen
 entry-error v hold choice entries k e grows f at t =
     let r = v.run in
     let s = run_with v hold choice entries in
-    let n = clock_of v in
+    let n = next_clock_of v in
     let a = and_parts e.choice.aerr (nat_eq (e.clock + 3) n) t in
     let place : e.clock + 3 ≡ n = eqb-true (e.clock + 3) n a.1 in
     let here = held-here r v.bus.queue k e f at in
@@ -91,13 +91,13 @@ entry-error v hold choice entries k e grows f at t =
 -- and the request that began there has an entry
 error-entry : (v : BenchView) (hold : Bool) (choice : Choice) (entries : List Done)
     → GrowsTo v.run (run_with v hold choice entries) → HoldsRequests v.bus.queue v.run
-    → is_error_chosen (run_with v hold choice entries) (clock_of v) ≡ true
-    → (k : ℕ) × (e : Entry) × (slice_get v.bus.queue k ≡ Some e) × (is_cancelled_by (clock_of v) e ≡ true)
+    → is_error_chosen (run_with v hold choice entries) (next_clock_of v) ≡ true
+    → (k : ℕ) × (e : Entry) × (slice_get v.bus.queue k ≡ Some e) × (is_cancelled_by (next_clock_of v) e ≡ true)
 unfolding is_error_chosen is_live is_cancelled
 error-entry v hold choice entries grows f t =
     let r = v.run in
     let s = run_with v hold choice entries in
-    let n = clock_of v in
+    let n = next_clock_of v in
     let q : ℕ = n - 3 in
     let a = and_parts (nat_le 3 n && line_at ADS s.trace q) _ t in
     let b = and_parts (nat_le 3 n) (line_at ADS s.trace q) a.0 in
@@ -133,11 +133,11 @@ error-entry v hold choice entries grows f t =
 
 aerr-now : (v : BenchView) (hold : Bool) (choice : Choice) (entries : List Done)
     → GrowsTo v.run (run_with v hold choice entries) → HoldsRequests v.bus.queue v.run
-    → line_at AERR (run_with v hold choice entries).trace (clock_of v) ≡ is_error_chosen
-    (run_with v hold choice entries) (clock_of v)
+    → line_at AERR (run_with v hold choice entries).trace (next_clock_of v) ≡ is_error_chosen
+    (run_with v hold choice entries) (next_clock_of v)
 aerr-now v hold choice entries grows f =
     let s = run_with v hold choice entries in
-    let n = clock_of v in
+    let n = next_clock_of v in
     let queue = v.bus.queue in
     let same = same-performed v in
     line-with v hold choice entries AERR ∙ aerr-driven (step_performed v) n v.run.plan.profile (step_decided v hold)
@@ -155,8 +155,8 @@ aerr-now v hold choice entries grows f =
 -- the stalls
 stalls-now : (v : BenchView) (hold : Bool) (choice : Choice) (entries : List Done)
     → GrowsTo v.run (run_with v hold choice entries) → HoldsRequests v.bus.queue v.run
-    → stalls_at (run_with v hold choice entries).trace (clock_of v)
-    ≡ any_where (is_stall_chosen (run_with v hold choice entries) (clock_of v)) (live_count
+    → stalls_at (run_with v hold choice entries).trace (next_clock_of v)
+    ≡ any_where (is_stall_chosen (run_with v hold choice entries) (next_clock_of v)) (live_count
     (run_with v hold choice entries).trace)
 unfolding stalls_at stalls
 stalls-now v hold choice entries grows f =
@@ -173,7 +173,7 @@ decoded-now v hold choice entries b grows k =
     let r = v.run in
     let s = run_with v hold choice entries in
     let e = k.now.entry in
-    let c = snoop_end_of-clock s.trace (rank_of s.trace e) (clock_of v) k.told.is_end.reached in
+    let c = snoop_end_of-clock s.trace (rank_of s.trace e) (next_clock_of v) k.told.is_end.reached in
     let above = c.above in
     let first : c.clock ≡ e.clock = one c.clock e.clock (sym c.is_clock ∙ k.told.is_end.first
     ∙ ap (λ q. Some q) k.told.first) in
@@ -191,7 +191,7 @@ pub turn-now : (v : BenchView) (hold : Bool) (choice : Choice) (entries : List D
 turn-now v hold choice entries b told grows k =
     let r = v.run in
     let s = run_with v hold choice entries in
-    let n = clock_of v in
+    let n = next_clock_of v in
     let e = k.now.entry in
     let same = same-performed v in
     let f = b.requests in
@@ -232,7 +232,7 @@ put-off-by v hold choice entries b told grows k Priority e =
     let begun = subst (λ w. IsBegunAt r y.clock w y.request) e (b.entries.begun k.now.place y k.now.at) in
     let kept = end-turn r s y grows k.told (decoded-now v hold choice entries b grows k)
     ∙ kept-turn (choice_at s.choices s.trace y.clock).turn y.request (is_in_window s.plan.bridge y.request.line)
-    (is_pending s.trace (turns_in (past_of r).moments) y.request.line (clock_of v))
+    (is_pending s.trace (turns_in (past_of r).moments) y.request.line (next_clock_of v))
     (begun-reply r y.clock y.request begun) in
     reply-keeps (step_performed v) y (deferral_of_id y.request.did (step_performed v).bridge.waiting)
     ∙ sym (ap (λ t. not (is_keep t)) kept)
@@ -240,12 +240,12 @@ put-off-by v hold choice entries b told grows k Priority e =
 defer-now : (v : BenchView) (hold : Bool) (choice : Choice) (entries : List Done) → IsBenchOf v
     → DeferralsTold v (run_with v hold choice entries)
     → GrowsTo v.run (run_with v hold choice entries)
-    → line_at DEFER (run_with v hold choice entries).trace (clock_of v) ≡ is_put_off (past_of
-    (run_with v hold choice entries)) (clock_of v)
+    → line_at DEFER (run_with v hold choice entries).trace (next_clock_of v) ≡ is_put_off (past_of
+    (run_with v hold choice entries)) (next_clock_of v)
 unfolding is_put_off is_some_and
 defer-now v hold choice entries b told grows =
     let s = run_with v hold choice entries in
-    let n = clock_of v in
+    let n = next_clock_of v in
     line-with v hold choice entries DEFER ∙ defer-driven (step_performed v) n v.run.plan.profile (step_decided v hold)
     ∙ elim (snoop-cases v hold choice entries grows b.requests) [
       | inr g ↦ ap defer_driven g.none ∙ sym (ap (λ o. is_some_and o (λ (x : SnoopEnd). not (is_keep x.turn))) g.quiet)
@@ -271,12 +271,12 @@ due-now r e t =
 -- snoop lines are at snoop clocks alone
 pub lines-kept : (v : BenchView) (hold : Bool) (choice : Choice) (entries : List Done)
     → GrowsTo v.run (run_with v hold choice entries) → HoldsRequests v.bus.queue v.run
-    → keeps_snoop_lines (run_with v hold choice entries) (clock_of v) ≡ true
+    → keeps_snoop_lines (run_with v hold choice entries) (next_clock_of v) ≡ true
 unfolding keeps_snoop_lines
 lines-kept v hold choice entries grows f =
     let r = v.run in
     let s = run_with v hold choice entries in
-    let n = clock_of v in
+    let n = next_clock_of v in
     let queue = v.bus.queue in
     let x = step_sample v hold in
     let bus = step_performed v in
@@ -306,11 +306,11 @@ lines-kept v hold choice entries grows f =
 pub hazards-now : (v : BenchView) (hold : Bool) (choice : Choice) (entries : List Done) → IsBenchOf v
     → DeferralsTold v (run_with v hold choice entries)
     → GrowsTo v.run (run_with v hold choice entries)
-    → drives_hazards (run_with v hold choice entries) (past_of (run_with v hold choice entries)) (clock_of v) ≡ true
+    → drives_hazards (run_with v hold choice entries) (past_of (run_with v hold choice entries)) (next_clock_of v) ≡ true
 unfolding drives_hazards drives_bnr drives_aerr drives_stalls drives_defer
 hazards-now v hold choice entries b told grows =
     let s = run_with v hold choice entries in
-    let n = clock_of v in
+    let n = next_clock_of v in
     let f = b.requests in
     all5 (beq (line_at BNR s.trace n) (is_bnr_chosen s n)) (beq (line_at AERR s.trace n) (is_error_chosen s n))
     (beq (stalls_at s.trace n) (any_where (is_stall_chosen s n) (live_count s.trace)))
@@ -324,7 +324,7 @@ hazards-now v hold choice entries b told grows =
 pub drives-hazards : (v : BenchView) (hold : Bool) (choice : Choice) (entries : List Done) → IsBenchOf v
     → DeferralsTold v (run_with v hold choice entries)
     → GrowsTo v.run (run_with v hold choice entries)
-    → holds_at drives_hazards (run_with v hold choice entries) (clock_of v) ≡ true
+    → holds_at drives_hazards (run_with v hold choice entries) (next_clock_of v) ≡ true
 drives-hazards v hold choice entries b told grows =
     holds-now drives_hazards v.run (run_with v hold choice entries) grows
     (hazards-now v hold choice entries b told grows)

@@ -12,7 +12,7 @@ use Rattle.fsb_timely.specs.Completions.{Completed, completed_if, of_all_agents}
 use Rattle.fsb_timely.specs.Hits.{is_hit}
 use Rattle.fsb_timely.specs.Runs.{Run, past_of}
 use Rattle.fsb_bench_view.specs.BenchSteps.{step_fetched}
-use Rattle.fsb_bench_view.specs.BusViews.{BenchView, clock_of}
+use Rattle.fsb_bench_view.specs.BusViews.{BenchView, next_clock_of}
 use Rattle.fsb_bench_view.specs.ToldAgents.{hit_entries}
 use Rattle.fsb_bench_run.proofs.EntriesNow.{completed_of, hit-completes}
 use Rattle.fsb_bench_run.proofs.SnoopAnswers.{is-four}
@@ -21,16 +21,16 @@ use Rattle.fsb_bench_run.proofs.SnoopAnswers.{is-four}
 pub record AgentsFound (v : BenchView) (s : Run) : Type 0 where
   pub four : length (step_fetched v).agents ≡ 4
   pub views : (a : ℕ) (w : AgentView) → slice_get (step_fetched v).agents a ≡ Some w
-      → IsViewOf (past_of s) a (clock_of v) w
+      → IsViewOf (past_of s) a (next_clock_of v) w
 
 -- what one agent completes by its hit
 one-completes : (v : BenchView) (s : Run) (a : ℕ) (w : AgentView) → AgentsFound v s
     → slice_get (step_fetched v).agents a ≡ Some w
-    → map completed_of (performed_entries w (clock_of v))
-    ≡ completed_if (past_of s) (clock_of v) (is_hit (past_of s) a (clock_of v)) a
+    → map completed_of (performed_entries w (next_clock_of v))
+    ≡ completed_if (past_of s) (next_clock_of v) (is_hit (past_of s) a (next_clock_of v)) a
 one-completes v s a w k at =
     let p = past_of s in
-    let n = clock_of v in
+    let n = next_clock_of v in
     let view = k.views a w at in
     hit-completes p a n w view (hit-by p a n (λ line. is_dirty_below p a line n) w view.agent
     (placed-at p a n w view.placed) view.lines)
@@ -48,11 +48,11 @@ left-four : (a b c d : List Completed) → a ++ (b ++ (c ++ d)) ≡ ((a ++ b) ++
 left-four a b c d = simp append_assoc
 
 pub hits-completed : (v : BenchView) (s : Run) → AgentsFound v s
-    → map completed_of (hit_entries (clock_of v) (step_fetched v).agents)
-    ≡ of_all_agents (λ a. completed_if (past_of s) (clock_of v) (is_hit (past_of s) a (clock_of v)) a)
+    → map completed_of (hit_entries (next_clock_of v) (step_fetched v).agents)
+    ≡ of_all_agents (λ a. completed_if (past_of s) (next_clock_of v) (is_hit (past_of s) a (next_clock_of v)) a)
 unfolding of_all_agents
 hits-completed v s k =
-    let n = clock_of v in
+    let n = next_clock_of v in
     let vs = (step_fetched v).agents in
     let q = is-four vs k.four in
     let e0 = one-completes v s 0 q.first k (ap (λ xs. slice_get xs 0) q.same) in

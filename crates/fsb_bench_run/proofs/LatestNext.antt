@@ -18,7 +18,7 @@ use Rattle.fsb_bench_view.specs.declared.beginning.Latest.{Latest}
 use Rattle.fsb_bench_view.specs.declared.beginning.Started.{Started}
 use Rattle.fsb_bench_view.specs.declared.beginning.Starting.{Starting}
 use Rattle.fsb_bench_view.specs.BenchSteps.{bench_stepped, step_decided, step_entries, step_run}
-use Rattle.fsb_bench_view.specs.BusViews.{BenchView, clock_of}
+use Rattle.fsb_bench_view.specs.BusViews.{BenchView, next_clock_of}
 use Rattle.fsb_bench_run.specs.BenchOf.{HasStarted, IsBegunAt, IsBenchOf, IsLatestOf}
 use Rattle.fsb_bench_run.specs.HitsTold.{HasHitsOf}
 use Rattle.fsb_bench_run.proofs.AdsGrown.{ads-old, last-below, last-more}

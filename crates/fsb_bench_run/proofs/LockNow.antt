@@ -33,7 +33,7 @@ use Rattle.fsb_bench_view.specs.BenchSteps.{step_decided, step_performed, was_he
 use Rattle.fsb_bench_view.specs.BusDecisions.{asked_by}
 use Rattle.fsb_bench_view.specs.BusSample.{is_lock_driven}
 use Rattle.fsb_bench_view.specs.BusStarting.{starting_for, starting_reply, want_in}
-use Rattle.fsb_bench_view.specs.BusViews.{BenchView, clock_of}
+use Rattle.fsb_bench_view.specs.BusViews.{BenchView, next_clock_of}
 use Rattle.fsb_bench_run.specs.BenchOf.{IsBegunAt, IsBenchOf}
 use Rattle.fsb_bench_run.specs.LocksHeld.{keeps_into, kept_into}
 use Rattle.fsb_bench_run.proofs.DrivenLines.{line-with, lock-driven}
@@ -168,46 +168,46 @@ some-there (Some s) e = (s, refl)
 -- a locked request begins exactly where the run has one of an agent
 pub locked-now : (v : BenchView) (hold : Bool) (choice : Choice) (entries : List Done) → IsStepWith v hold choice entries
     → is_some_and (step_decided v hold).starting (λ (s : Starting). s.locked) ≡ true
-    → (a : ℕ) × (a < 4) × (is_locked_request (past_of (run_with v hold choice entries)) a (clock_of v) ≡ true)
+    → (a : ℕ) × (a < 4) × (is_locked_request (past_of (run_with v hold choice entries)) a (next_clock_of v) ≡ true)
 locked-now v hold choice entries b e =
     let r = v.run in
     let s = run_with v hold choice entries in
     let grows = b.grows in
     let size = longer r s grows in
     let some = some-locked (step_decided v hold).starting e in
-    let parts = starting-parts (step_performed v) (winner_at r.trace (clock_of v)) (clock_of v)
-    (asked_by (step_performed v) (clock_of v)) (was_held_at r.holds (clock_of v)) some.0 some.1 in
+    let parts = starting-parts (step_performed v) (winner_at r.trace (next_clock_of v)) (next_clock_of v)
+    (asked_by (step_performed v) (next_clock_of v)) (was_held_at r.holds (next_clock_of v)) some.0 some.1 in
     let k = locked-agent v hold some.0 parts.1 parts.3 some.2 in
     let begins = starting-begins v hold choice entries some.0 b some.1 in
-    let mine = subst (λ w. IsBegunAt s (clock_of v) w some.0.request) k.2 begins in
-    let begun = agent-begins s (clock_of v) k.0 some.0.request (omega arith) mine in
+    let mine = subst (λ w. IsBegunAt s (next_clock_of v) w some.0.request) k.2 begins in
+    let begun = agent-begins s (next_clock_of v) k.0 some.0.request (omega arith) mine in
     let won = parts.2 ∙ ap Some k.1 in
-    (k.0, winner-four r.trace (clock_of v) k.0 won, sym (locked-start v hold choice entries some.0 k.0 b some.1 begun) ∙ some.2)
+    (k.0, winner-four r.trace (next_clock_of v) k.0 won, sym (locked-start v hold choice entries some.0 k.0 b some.1 begun) ∙ some.2)
 
 pub locking-now : (v : BenchView) (hold : Bool) (choice : Choice) (entries : List Done) (a : ℕ) → IsStepWith v hold choice entries
-    → is_locked_request (past_of (run_with v hold choice entries)) a (clock_of v) ≡ true
+    → is_locked_request (past_of (run_with v hold choice entries)) a (next_clock_of v) ≡ true
     → is_some_and (step_decided v hold).starting (λ (s : Starting). s.locked) ≡ true
 locking-now v hold choice entries a b e =
     let r = v.run in
     let s = run_with v hold choice entries in
     let grows = b.grows in
     let size = longer r s grows in
-    let begun = locked-begins (past_of s) a (clock_of v) e in
-    let ads = begun-ads s a (clock_of v) (omega arith) begun in
+    let begun = locked-begins (past_of s) a (next_clock_of v) e in
+    let ads = begun-ads s a (next_clock_of v) (omega arith) begun in
     let some = some-there (step_decided v hold).starting (sym (begins-with v hold choice entries) ∙ ads) in
     locked-some (step_decided v hold).starting some.0 some.1 (locked-start v hold choice entries some.0 a b some.1 begun ∙ e)
 
-kept-same : (v : BenchView) → IsBenchOf v → (step_performed v).kept ≡ kept_into (past_of v.run) (clock_of v)
+kept-same : (v : BenchView) → IsBenchOf v → (step_performed v).kept ≡ kept_into (past_of v.run) (next_clock_of v)
 kept-same v b = (performed-begun v).kept ∙ b.kept
 
 pub lock-now : (v : BenchView) (hold : Bool) (choice : Choice) (entries : List Done) → IsStepWith v hold choice entries
     → is_lock_driven (step_performed v) (step_decided v hold).starting
-    ≡ any_where (keeps_lock (past_of (run_with v hold choice entries)) (clock_of v)) 4
+    ≡ any_where (keeps_lock (past_of (run_with v hold choice entries)) (next_clock_of v)) 4
 lock-now v hold choice entries b =
     let r = v.run in
     let s = run_with v hold choice entries in
     let p = past_of s in
-    let n = clock_of v in
+    let n = next_clock_of v in
     let grows = b.grows in
     let locked = is_some_and (step_decided v hold).starting (λ (s : Starting). s.locked) in
     let kept = list_any (λ (kept : Bool). kept) (kept_into (past_of r) n) in
@@ -236,11 +236,11 @@ same-beq false b e = rw (sym e) refl
 
 -- LOCK# is as it must
 pub lock-driven-now : (v : BenchView) (hold : Bool) (choice : Choice) (entries : List Done) → IsStepWith v hold choice entries
-    → holds_at drives_lock (run_with v hold choice entries) (clock_of v) ≡ true
+    → holds_at drives_lock (run_with v hold choice entries) (next_clock_of v) ≡ true
 unfolding drives_lock
 lock-driven-now v hold choice entries b =
     let s = run_with v hold choice entries in
     holds-now drives_lock v.run s b.grows
-    (same-beq (line_at LOCK s.trace (clock_of v)) (any_where (keeps_lock (past_of s) (clock_of v)) 4)
-    (line-with v hold choice entries LOCK ∙ lock-driven (step_performed v) (clock_of v) v.run.plan.profile (step_decided v hold)
+    (same-beq (line_at LOCK s.trace (next_clock_of v)) (any_where (keeps_lock (past_of s) (next_clock_of v)) 4)
+    (line-with v hold choice entries LOCK ∙ lock-driven (step_performed v) (next_clock_of v) v.run.plan.profile (step_decided v hold)
     ∙ lock-now v hold choice entries b))

@@ -22,11 +22,11 @@ use Rattle.fsb_trace.specs.Winner.{winner_at}
 use Rattle.fsb_trace.specs.declared.who.Who.{Who}
 use Rattle.fsb_trace.specs.declared.who.Who.TheVariants.{Symmetric, Priority}
 use Rattle.fsb_bench_view.specs.declared.beginning.Starting.{Starting}
-use Rattle.fsb_bench_view.specs.declared.decided.Asked.{Asked}
+use Rattle.fsb_bench_view.specs.declared.decided.AskedFor.{AskedFor}
 use Rattle.fsb_bench_view.specs.BenchSteps.{step_decided, step_performed, was_held_at}
 use Rattle.fsb_bench_view.specs.BusDecisions.{asked_by}
 use Rattle.fsb_bench_view.specs.BusStarting.{starting_for, starting_reply, want_in}
-use Rattle.fsb_bench_view.specs.BusViews.{BenchView, clock_of}
+use Rattle.fsb_bench_view.specs.BusViews.{BenchView, next_clock_of}
 use Rattle.fsb_bench_run.proofs.AskedNow.{locked-told}
 use Rattle.fsb_bench_run.proofs.StartingNow.{and-some, mapped-some, starting-parts, wanted-parts, winner-grown}
 use Rattle.fsb_bench_run.proofs.ThisClock.{past-now}
@@ -77,31 +77,31 @@ locked-if p q a c begun e = rw (begun, is_locked_request) (ap (λ p. wants_lock 
 
 -- what begins is a locked request of its agent exactly where the run says so
 locked-for : (v : BenchView) (hold : Bool) (choice : Choice) (entries : List Done) (starting : Starting) (a : ℕ) (who : Who) → IsStepWith v hold choice entries
-    → winner_at v.run.trace (clock_of v) ≡ Some who → who ≡ Symmetric a
+    → winner_at v.run.trace (next_clock_of v) ≡ Some who → who ≡ Symmetric a
     → starting_for (step_performed v) (step_decided v hold).asked who ≡ Some starting
-    → starting.locked ≡ wants_lock (past_of (run_with v hold choice entries)) a (clock_of v)
+    → starting.locked ≡ wants_lock (past_of (run_with v hold choice entries)) a (next_clock_of v)
 locked-for v hold choice entries starting a Priority b win e f = absurd (let no : ⊥ = cc in no)
 locked-for v hold choice entries starting a (Symmetric x) b win e f =
     let same : x ≡ a = cc in
     let parts = wanted-parts (step_performed v) x (want_in (step_decided v hold).asked x) starting f in
     let want : Want = parts.0 in
-    let few = winner-four v.run.trace (clock_of v) x win in
+    let few = winner-four v.run.trace (next_clock_of v) x win in
     sym (ap (λ (s : Starting). s.locked) parts.3) ∙ locked-told v hold choice entries x want b few parts.1
-    ∙ ap (λ a. wants_lock (past_of (run_with v hold choice entries)) a (clock_of v)) same
+    ∙ ap (λ a. wants_lock (past_of (run_with v hold choice entries)) a (next_clock_of v)) same
 
 pub locked-start : (v : BenchView) (hold : Bool) (choice : Choice) (entries : List Done) (starting : Starting) (a : ℕ) → IsStepWith v hold choice entries
     → (step_decided v hold).starting ≡ Some starting
-    → is_begun_by (past_of (run_with v hold choice entries)) a (clock_of v) ≡ true
-    → starting.locked ≡ is_locked_request (past_of (run_with v hold choice entries)) a (clock_of v)
+    → is_begun_by (past_of (run_with v hold choice entries)) a (next_clock_of v) ≡ true
+    → starting.locked ≡ is_locked_request (past_of (run_with v hold choice entries)) a (next_clock_of v)
 locked-start v hold choice entries starting a b e begun =
     let r = v.run in
     let s = run_with v hold choice entries in
     let grows = b.grows in
     let size = longer r s grows in
-    let parts = starting-parts (step_performed v) (winner_at r.trace (clock_of v)) (clock_of v)
-    (asked_by (step_performed v) (clock_of v)) (was_held_at r.holds (clock_of v)) starting e in
-    let win = begun-by-agent s a (clock_of v) (omega arith) begun in
+    let parts = starting-parts (step_performed v) (winner_at r.trace (next_clock_of v)) (next_clock_of v)
+    (asked_by (step_performed v) (next_clock_of v)) (was_held_at r.holds (next_clock_of v)) starting e in
+    let win = begun-by-agent s a (next_clock_of v) (omega arith) begun in
     let one : Some parts.1 ≡ Some (Symmetric a) = sym parts.2 ∙ sym (winner-grown r s grows) ∙ win in
     let same : parts.1 ≡ Symmetric a = cc in
     locked-for v hold choice entries starting a parts.1 b parts.2 same parts.3
-    ∙ sym (locked-if (past_of s) (past_of s) a (clock_of v) begun (past-now r s grows))
+    ∙ sym (locked-if (past_of s) (past_of s) a (next_clock_of v) begun (past-now r s grows))

@@ -28,7 +28,7 @@ use Rattle.fsb_bench_view.specs.declared.beginning.Starting.{Starting}
 use Rattle.fsb_bench_view.specs.declared.decided.Ending.{Ending}
 use Rattle.fsb_bench_view.specs.BenchSteps.{step_answered, step_decided, step_ending, step_entries, step_fetched, step_performed, step_run, step_sample}
 use Rattle.fsb_bench_view.specs.BusEvents.{end_entries, end_event, entries_of_event}
-use Rattle.fsb_bench_view.specs.BusViews.{BenchView, BusView, clock_of}
+use Rattle.fsb_bench_view.specs.BusViews.{BenchView, BusView, next_clock_of}
 use Rattle.fsb_bench_view.specs.ToldAgents.{hit_entries}
 use Rattle.fsb_bench_run.specs.BenchOf.{IsBenchOf}
 use Rattle.fsb_bench_run.proofs.DrivenLines.{ads-driven, line-new}
@@ -111,11 +111,11 @@ of-ending : (bus : BusView) (clock : ℕ) (o : Option Ending) → AreOfClock clo
 of-ending bus clock None = refl
 of-ending bus clock (Some ending) = of-end bus clock ending (slice_get bus.agents ending.served.agent)
 
-pub entries-now : (v : BenchView) (hold : Bool) → AreOfClock (clock_of v) (step_entries v hold)
+pub entries-now : (v : BenchView) (hold : Bool) → AreOfClock (next_clock_of v) (step_entries v hold)
 entries-now v hold =
-    of-both (clock_of v) (hit_entries (clock_of v) (step_fetched v).agents)
-    (option_map_or (end_entries (step_answered v hold) (clock_of v)) (step_ending v hold) [])
-    (of-hits (clock_of v) (step_fetched v).agents) (of-ending (step_answered v hold) (clock_of v) (step_ending v hold))
+    of-both (next_clock_of v) (hit_entries (next_clock_of v) (step_fetched v).agents)
+    (option_map_or (end_entries (step_answered v hold) (next_clock_of v)) (step_ending v hold) [])
+    (of-hits (next_clock_of v) (step_fetched v).agents) (of-ending (step_answered v hold) (next_clock_of v) (step_ending v hold))
 
 pub next-run : (v : BenchView) (hold : Bool) (choice : Choice) → IsNext v.run (step_run v hold choice)
 next-run v hold choice = record {
@@ -145,16 +145,16 @@ counted w n false e = count_where-failed (line_at ADS w) n e
 
 -- what begins shows on ADS#
 pub begins-now : (v : BenchView) (hold : Bool) (choice : Choice)
-    → line_at ADS (step_run v hold choice).trace (clock_of v) ≡ is_some (step_decided v hold).starting
+    → line_at ADS (step_run v hold choice).trace (next_clock_of v) ≡ is_some (step_decided v hold).starting
 begins-now v hold choice =
-    line-new v hold choice ADS ∙ ads-driven (step_performed v) (clock_of v) v.run.plan.profile (step_decided v hold)
+    line-new v hold choice ADS ∙ ads-driven (step_performed v) (next_clock_of v) v.run.plan.profile (step_decided v hold)
 
 pub whole-run : (v : BenchView) (hold : Bool) (choice : Choice) → IsBenchOf v → IsWhole (step_run v hold choice)
 unfolding requests_below
 whole-run v hold choice b =
     let r = v.run in
     let s = step_run v hold choice in
-    let n = clock_of v in
+    let n = next_clock_of v in
     let x = step_sample v hold in
     let size : length s.trace ≡ n + 1 = length-append r.trace (x ∷ []) in
     let holds : length s.holds ≡ length r.holds + 1 = length-append r.holds (hold ∷ []) in

@@ -29,7 +29,7 @@ use Rattle.fsb_bench_view.specs.declared.beginning.Latest.{Latest}
 use Rattle.fsb_bench_view.specs.declared.beginning.Starting.{Starting}
 use Rattle.fsb_bench_view.specs.BenchSteps.{step_decided, step_performed, step_sample}
 use Rattle.fsb_bench_view.specs.BusSample.{is_latest_before, pair_driven}
-use Rattle.fsb_bench_view.specs.BusViews.{BenchView, BusView, clock_of}
+use Rattle.fsb_bench_view.specs.BusViews.{BenchView, BusView, next_clock_of}
 use Rattle.fsb_bench_run.specs.BenchOf.{IsBegunAt, IsLatestOf}
 use Rattle.fsb_bench_run.proofs.BegunStays.{begun-lawful, begun-request, begun-stays}
 use Rattle.fsb_bench_run.proofs.PairWords.{IsPairDue, pair-due-by, pair-shown, step_pair}
@@ -41,9 +41,9 @@ use Rattle.fsb_bench_run.proofs.RunWith.{run_with}
 use Rattle.fsb_bench_run.proofs.StepWith.{IsStepWith, begins-with}
 
 pub pair-due-now : (v : BenchView) (hold : Bool) (choice : Choice) (entries : List Done) → IsStepWith v hold choice entries
-    → IsPairDue (run_with v hold choice entries) (clock_of v) (step_pair v hold)
+    → IsPairDue (run_with v hold choice entries) (next_clock_of v) (step_pair v hold)
 pair-due-now v hold choice entries b =
-    subst (λ latest. IsPairDue (run_with v hold choice entries) (clock_of v) (pair_driven latest (clock_of v) (step_decided v hold).starting))
+    subst (λ latest. IsPairDue (run_with v hold choice entries) (next_clock_of v) (pair_driven latest (next_clock_of v) (step_decided v hold).starting))
     (sym (performed-begun v).latest)
     (pair-due-by v.run (run_with v hold choice entries) v.bus.latest (step_decided v hold).starting b.bench.bounds b.grows b.bench.latest
     (begins-with v hold choice entries) (λ starting e. starting-begins v hold choice entries starting b e))
@@ -56,8 +56,8 @@ due-shown s n pair e f = rw (e, f, is_some_and, is_pair) (and_from (nat_eq pair.
 
 -- the words are as they must be
 pub drives-pair-now : (v : BenchView) (hold : Bool) (choice : Choice) (entries : List Done) → IsStepWith v hold choice entries
-    → drives_pair (run_with v hold choice entries) (past_of (run_with v hold choice entries)) (clock_of v) ≡ true
+    → drives_pair (run_with v hold choice entries) (past_of (run_with v hold choice entries)) (next_clock_of v) ≡ true
 drives-pair-now v hold choice entries b =
     let k = pair-due-now v hold choice entries b in
-    due-shown (run_with v hold choice entries) (clock_of v) (step_pair v hold) k.due
+    due-shown (run_with v hold choice entries) (next_clock_of v) (step_pair v hold) k.due
     (pair-shown v hold choice entries (step_pair v hold) k.fits refl)

@@ -29,7 +29,7 @@ use Rattle.fsb_bench_view.specs.declared.beginning.Latest.{Latest}
 use Rattle.fsb_bench_view.specs.declared.beginning.Starting.{Starting}
 use Rattle.fsb_bench_view.specs.BenchSteps.{step_decided, step_performed, step_sample}
 use Rattle.fsb_bench_view.specs.BusSample.{is_latest_before, pair_driven}
-use Rattle.fsb_bench_view.specs.BusViews.{BenchView, BusView, clock_of}
+use Rattle.fsb_bench_view.specs.BusViews.{BenchView, BusView, next_clock_of}
 use Rattle.fsb_bench_run.specs.BenchOf.{IsBegunAt, IsLatestOf}
 use Rattle.fsb_bench_run.proofs.BegunStays.{begun-lawful, begun-request, begun-stays}
 use Rattle.fsb_bench_run.proofs.AdsGrown.{ads-old, last-below}
@@ -213,7 +213,7 @@ pair-due-by r s latest (Some x) bounds grows k ads begins =
 
 -- the words of a clock of a bench
 abbrev pub step_pair : BenchView → Bool → Pair
-step_pair v hold = pair_driven (step_performed v).latest (clock_of v) (step_decided v hold).starting
+step_pair v hold = pair_driven (step_performed v).latest (next_clock_of v) (step_decided v hold).starting
 
 -- the words that the sample shows
 shown-pair : (x : Sample) (pair : Pair) → x.addr.bits ≡ pair.addr → x.req.bits ≡ pair.req → x.addr.unknown ≡ 0 → x.req.unknown ≡ 0
@@ -224,7 +224,7 @@ shown-pair x pair a q u w =
     rw (known, known_pair) (λ i. Some (record { addr = a i; req = q i }))
 
 pub pair-shown : (v : BenchView) (hold : Bool) (choice : Choice) (entries : List Done) (pair : Pair) → FitsWords pair → step_pair v hold ≡ pair
-    → known_pair_at (run_with v hold choice entries).trace (clock_of v) ≡ Some pair
+    → known_pair_at (run_with v hold choice entries).trace (next_clock_of v) ≡ Some pair
 unfolding known_pair_at
 pair-shown v hold choice entries pair fits e =
     let x = step_sample v hold in

@@ -16,7 +16,7 @@ use Rattle.fsb_timely.specs.Runs.{Run, past_of}
 use Rattle.fsb_timely.specs.Timely.{holds_at}
 use Rattle.fsb_bench_view.specs.BenchSteps.{step_decided, step_performed, step_sample}
 use Rattle.fsb_bench_view.specs.BusSample.{parity_bits}
-use Rattle.fsb_bench_view.specs.BusViews.{BenchView, clock_of}
+use Rattle.fsb_bench_view.specs.BusViews.{BenchView, next_clock_of}
 use Rattle.fsb_bench_run.proofs.DrivenLines.{ads-driven, ap0-driven, ap1-driven, parity_driven, rp-driven}
 use Rattle.fsb_bench_run.proofs.PairNow.{pair-due-now}
 use Rattle.fsb_bench_run.proofs.PairWords.{step_pair}
@@ -91,10 +91,10 @@ parity-shown s n x at e = rw (at, is_some_and) e
 
 -- the parity lines are as they must
 pub parity-now : (v : BenchView) (hold : Bool) (choice : Choice) (entries : List Done) → IsStepWith v hold choice entries
-    → holds_at drives_parity (run_with v hold choice entries) (clock_of v) ≡ true
+    → holds_at drives_parity (run_with v hold choice entries) (next_clock_of v) ≡ true
 parity-now v hold choice entries b =
     let s = run_with v hold choice entries in
-    let n = clock_of v in
+    let n = next_clock_of v in
     let x = step_sample v hold in
     let d = step_decided v hold in
     let bus = step_performed v in

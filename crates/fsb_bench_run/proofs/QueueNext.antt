@@ -35,10 +35,10 @@ use Rattle.fsb_phase_run.specs.Holds.{AreRequestsOf, HoldsRequests}
 use Rattle.fsb_phase_run.proofs.Interface.{agree-grown, outcome-settled, queue-goes-on, turn-same, write-back-kept}
 use Rattle.fsb_bench_view.specs.declared.beginning.Starting.{Starting}
 use Rattle.fsb_bench_view.specs.declared.beginning.Started.{Started}
-use Rattle.fsb_bench_view.specs.declared.snoop.Snooped.{Snooped}
+use Rattle.fsb_bench_view.specs.declared.snoop.SnoopSettled.{SnoopSettled}
 use Rattle.fsb_bench_view.specs.BenchSteps.{outcome_snooped, step_begun, step_decided, step_entries, step_performed, step_queue, step_run, step_sample}
 use Rattle.fsb_bench_view.specs.BusEvents.{entry_started}
-use Rattle.fsb_bench_view.specs.BusViews.{BenchView, BusView, clock_of}
+use Rattle.fsb_bench_view.specs.BusViews.{BenchView, BusView, next_clock_of}
 use Rattle.fsb_bench_view.specs.MaySteps.{HasFlightOf, MaySample}
 use Rattle.fsb_bench_run.specs.BenchOf.{IsBenchOf}
 use Rattle.fsb_bench_run.proofs.DeferralsTold.{DeferralsTold}
@@ -105,7 +105,7 @@ turns-taken : (v : BenchView) (hold : Bool) (choice : Choice) → IsBenchOf v �
 turns-taken v hold choice b told grows =
     let r = v.run in
     let s = step_run v hold choice in
-    let n = clock_of v in
+    let n = next_clock_of v in
     let entries = step_entries v hold in
     record {
       same = λ i l. turn-same r s i grows l;
@@ -114,7 +114,7 @@ turns-taken v hold choice b told grows =
             (past_of s) n) tied.0 g.quiet tied.1.there
         | inl k ↦
             let t = snoop-told v hold choice entries b told grows k in
-            ap (λ o. option_map_or (λ (x : Snooped). x.outcome) o Failed) t.decided ∙ sym t.outcome
+            ap (λ o. option_map_or (λ (x : SnoopSettled). x.outcome) o Failed) t.decided ∙ sym t.outcome
             ∙ outcome-settled r s (snooped_count r.trace) k.told.end k.told.is_end.there e
       ];
       kept = λ i e. write-back-kept s i e;
@@ -137,11 +137,11 @@ count-grown r s grows =
     sym (count_where-same (line_at ADS r.trace) (line_at ADS s.trace) (length r.trace)
     (record { same = λ t l. line_at-agree ADS (length r.trace) r.trace s.trace t (agree-grown r s grows) l }))
 
-started-count : (v : BenchView) → IsBenchOf v → length v.bus.started ≡ requests_below v.run.trace (clock_of v)
+started-count : (v : BenchView) → IsBenchOf v → length v.bus.started ≡ requests_below v.run.trace (next_clock_of v)
 unfolding requests_below
 started-count v b =
     sym (length-map v.bus.started (λ (x : Started). x.clock)) ∙ ap length b.started.clocks
-    ∙ length-all_where (line_at ADS v.run.trace) (clock_of v)
+    ∙ length-all_where (line_at ADS v.run.trace) (next_clock_of v)
 
 choice-added : (choices : List Choice) (choice : Choice) (o : Option Starting) (starting : Starting) (w : Trace) (q : ℕ)
     → o ≡ Some starting → count_where (line_at ADS w) q ≡ length choices
@@ -161,7 +161,7 @@ unfolding requests_below
 new-requests v hold choice b grows =
     let r = v.run in
     let s = step_run v hold choice in
-    let n = clock_of v in
+    let n = next_clock_of v in
     let bus = step_performed v in
     let o = (step_decided v hold).starting in
     let count = count-grown r s grows in
@@ -185,7 +185,7 @@ new-later : (v : BenchView) (hold : Bool) (choice : Choice) → IsBenchOf v
 unfolding requests_below begun_list
 new-later v hold choice b =
     let r = v.run in
-    let n = clock_of v in
+    let n = next_clock_of v in
     let bus = step_performed v in
     let o = (step_decided v hold).starting in
     let same = same-performed v in
@@ -211,9 +211,9 @@ queue-next v hold choice b told may grows =
     let x = step_sample v hold in
     let new = begun_list (step_begun v hold choice) in
     let outcome = outcome_snooped (step_decided v hold) in
-    let takes : MayTake (clock_of v) x v.bus.queue (turns_in (past_of r).moments) r.trace =
+    let takes : MayTake (next_clock_of v) x v.bus.queue (turns_in (past_of r).moments) r.trace =
     record { clock_is = refl; flight = b.requests.flight; answers = code-now v hold; spaced = may.spaced } in
-    let flight = goes_on-holds (phases-of r.trace) r.trace (clock_of v) x v.bus.queue new (turns_in (past_of r).moments)
+    let flight = goes_on-holds (phases-of r.trace) r.trace (next_clock_of v) x v.bus.queue new (turns_in (past_of r).moments)
     (turns_in (past_of s).moments) outcome (phases-stand r b.timely) takes (turns-taken v hold choice b told grows) in
     let same = sample-grown v hold choice (step_entries v hold) grows in
     subst (λ y. HoldsRequests (goes_on r.trace y outcome v.bus.queue ++ new) s) same

@@ -26,7 +26,7 @@ use Rattle.fsb_timely.specs.Transfers.{code_due, drives_code, drives_data_busy, 
 use Rattle.fsb_phase_run.specs.Holds.{HoldsRequests}
 use Rattle.fsb_phase_run.proofs.Interface.{busy-drive, chunk-drive, code-drive, code-shown, ready-drive}
 use Rattle.fsb_bench_view.specs.BenchSteps.{step_decided, step_drive, step_performed, step_sample}
-use Rattle.fsb_bench_view.specs.BusViews.{BenchView, BusView, clock_of}
+use Rattle.fsb_bench_view.specs.BusViews.{BenchView, BusView, next_clock_of}
 use Rattle.fsb_bench_view.specs.BytesFetched.{data_driven}
 use Rattle.fsb_bench_run.proofs.RunWith.{run_with}
 use Rattle.fsb_bench_run.proofs.DrivenLines.{code-driven, dbsy-driven, drdy-driven, line-with, trdy-driven}
@@ -68,7 +68,7 @@ code-small h queue = entry-code (find (has_response h) queue)
 -- the sample shows the code that is driven
 pub code-now : (v : BenchView) (hold : Bool) → response_of (step_sample v hold) ≡ (step_drive v).rs
 code-now v hold =
-    code-driven (step_performed v) (clock_of v) v.run.plan.profile (step_decided v hold)
+    code-driven (step_performed v) (next_clock_of v) v.run.plan.profile (step_decided v hold)
     (code-small v.run.trace v.bus.queue)
 
 pub sample-grown : (v : BenchView) (hold : Bool) (choice : Choice) (entries : List Done)
@@ -90,10 +90,10 @@ quiet-by drive None bus e = rw e refl
 quiet-by drive (Some c) bus e = refl
 
 abbrev quiet_now : BenchView → Bool → Choice → List Done → Type 0
-quiet_now v hold choice entries = keeps_data_quiet (run_with v hold choice entries) (clock_of v) ≡ true
+quiet_now v hold choice entries = keeps_data_quiet (run_with v hold choice entries) (next_clock_of v) ≡ true
 
 data-new : (v : BenchView) (hold : Bool) (choice : Choice) (entries : List Done)
-    → (data_at (run_with v hold choice entries).trace (clock_of v)).bits ≡ data_driven (step_performed v) (step_drive v)
+    → (data_at (run_with v hold choice entries).trace (next_clock_of v)).bits ≡ data_driven (step_performed v) (step_drive v)
 data-new v hold choice entries =
     let more = one_more v.run.trace (step_sample v hold) in
     ap (λ o. (option_map_or (λ (s : Sample). s.dbus) o (known_word 0)).bits) more.last
@@ -101,7 +101,7 @@ data-new v hold choice entries =
 quiet-now : (v : BenchView) (hold : Bool) (choice : Choice) (entries : List Done) → quiet_now v hold choice entries
 unfolding keeps_data_quiet
 quiet-now v hold choice entries =
-    let n = clock_of v in
+    let n = next_clock_of v in
     let s = run_with v hold choice entries in
     let line = line-with v hold choice entries DRDY
     ∙ drdy-driven (step_performed v) n v.run.plan.profile (step_decided v hold) in
@@ -112,12 +112,12 @@ quiet-now v hold choice entries =
 
 pub responses-now : (v : BenchView) (hold : Bool) (choice : Choice) (entries : List Done)
     (grows : GrowsTo v.run (run_with v hold choice entries)) → HoldsRequests v.bus.queue v.run
-    → drives_responses (run_with v hold choice entries) (past_of (run_with v hold choice entries)) (clock_of v) ≡ true
+    → drives_responses (run_with v hold choice entries) (past_of (run_with v hold choice entries)) (next_clock_of v) ≡ true
 unfolding drives_responses drives_ready drives_code drives_data_ready drives_data_busy
 responses-now v hold choice entries grows f =
     let r = v.run in
     let s = run_with v hold choice entries in
-    let n = clock_of v in
+    let n = next_clock_of v in
     let queue = v.bus.queue in
     let d = step_decided v hold in
     let bus = step_performed v in
@@ -140,7 +140,7 @@ responses-now v hold choice entries grows f =
 -- responses and data at the clock
 pub drives-responses : (v : BenchView) (hold : Bool) (choice : Choice) (entries : List Done)
     (grows : GrowsTo v.run (run_with v hold choice entries)) → HoldsRequests v.bus.queue v.run
-    → Rattle.fsb_timely.specs.Timely.holds_at drives_responses (run_with v hold choice entries) (clock_of v) ≡ true
+    → Rattle.fsb_timely.specs.Timely.holds_at drives_responses (run_with v hold choice entries) (next_clock_of v) ≡ true
 drives-responses v hold choice entries grows f =
     holds-now drives_responses v.run (run_with v hold choice entries) grows
     (responses-now v hold choice entries grows f)

@@ -3,7 +3,7 @@ use Rattle.std.proofs.Common.{◌≡◌, Option, Some, None, refl}
 use Rattle.fsb_bench_view.specs.declared.decided.BytesFrom.{BytesFrom}
 use Rattle.fsb_bench_view.specs.declared.decided.BytesFrom.TheVariants.{Memory, Agents}
 use Rattle.fsb_bench_view.specs.BusViews.{BenchView, BusView}
-use Rattle.fsb_bench_view.specs.BytesFetched.{bus_fetched, bytes_from}
+use Rattle.fsb_bench_view.specs.BytesFetched.{bus_fetched, bytes_source}
 use Rattle.fsb_bench_view.specs.BenchSteps.{step_drive, step_performed}
 
 -- a bus has the same as another one beside its agents and its bytes
@@ -22,5 +22,5 @@ fetched bus (Some (Agents number)) = record { queue = refl; bridge = refl; serve
 
 pub same-performed : (v : BenchView) → IsSameBus (step_performed v) v.bus
 same-performed v =
-    let k = fetched v.bus (bytes_from v.bus (step_drive v)) in
+    let k = fetched v.bus (bytes_source v.bus (step_drive v)) in
     record { queue = k.queue; bridge = k.bridge; served = k.served; latest = k.latest; started = k.started; kept = k.kept }

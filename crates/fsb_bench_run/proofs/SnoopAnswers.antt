@@ -12,7 +12,7 @@ use Rattle.fsb_timely.specs.Runs.{Run, past_of}
 use Rattle.fsb_timely.specs.Snoops.{is_dirty_elsewhere, is_held_elsewhere}
 use Rattle.fsb_bench_view.specs.BenchSteps.{step_performed}
 use Rattle.fsb_bench_view.specs.BusSnooping.{answer_besides, is_hit_answer, is_modified_answer, stronger}
-use Rattle.fsb_bench_view.specs.BusViews.{BenchView, clock_of}
+use Rattle.fsb_bench_view.specs.BusViews.{BenchView, next_clock_of}
 
 -- the answer of an agent that is dirty on a line or not, and holds it or not
 abbrev pub answer_told : Bool → Bool → Answer
@@ -22,8 +22,8 @@ answer_told dirty held = if dirty then answers.Modified else (if held then answe
 pub record AgentsAnswer (v : BenchView) (s : Run) : Type 0 where
   pub four : length (step_performed v).agents ≡ 4
   pub answers : (b line : ℕ) (w : AgentView) → slice_get (step_performed v).agents b ≡ Some w
-      → answer_by w line ≡ answer_told (is_dirty (past_of s) b line (clock_of v)) (holds_line (past_of s) b line
-      (clock_of v))
+      → answer_by w line ≡ answer_told (is_dirty (past_of s) b line (next_clock_of v)) (holds_line (past_of s) b line
+      (next_clock_of v))
 
 -- the answer is not that the line is not there
 abbrev is_some_answer : Answer → Bool
@@ -157,14 +157,14 @@ is-four (a ∷ (b ∷ (c ∷ (d ∷ (f ∷ vs))))) e = absurd (omega arith)
 -- another one holds it
 pub record BesidesTold (v : BenchView) (s : Run) (a line : ℕ) : Type 0 where
   pub modified : is_modified_answer (answer_besides a line 0 (step_performed v).agents)
-      ≡ is_dirty_elsewhere (past_of s) a line (clock_of v)
+      ≡ is_dirty_elsewhere (past_of s) a line (next_clock_of v)
   pub hit : is_hit_answer (answer_besides a line 0 (step_performed v).agents)
-      ≡ (not (is_dirty_elsewhere (past_of s) a line (clock_of v)) && is_held_elsewhere (past_of s) a line (clock_of v))
+      ≡ (not (is_dirty_elsewhere (past_of s) a line (next_clock_of v)) && is_held_elsewhere (past_of s) a line (next_clock_of v))
 
 pub besides-told : (v : BenchView) (s : Run) (a line : ℕ) → AgentsAnswer v s → BesidesTold v s a line
 unfolding is_dirty_elsewhere is_held_elsewhere
 besides-told v s a line k =
-    let n = clock_of v in
+    let n = next_clock_of v in
     let p = past_of s in
     let vs = (step_performed v).agents in
     let q = is-four vs k.four in

@@ -12,7 +12,7 @@ use Rattle.fsb_timely.specs.Runs.{past_of}
 use Rattle.fsb_phase_run.specs.Holds.{HoldsRequests}
 use Rattle.fsb_bench_view.specs.BenchSteps.{step_decided, step_drive, step_performed, step_sample}
 use Rattle.fsb_bench_view.specs.BusSnooping.{first_open, snooped_entry}
-use Rattle.fsb_bench_view.specs.BusViews.{BenchView, clock_of}
+use Rattle.fsb_bench_view.specs.BusViews.{BenchView, next_clock_of}
 use Rattle.fsb_bench_run.proofs.RunWith.{run_with}
 use Rattle.fsb_bench_run.proofs.SameBus.{same-performed}
 use Rattle.fsb_bench_run.proofs.SnoopDriven.{no-snoop, snooped-open, snooped-shut, some-snoop, stalls-driven}
@@ -22,14 +22,14 @@ use Rattle.fsb_bench_run.proofs.SnoopEntry.{IsSnoopedNow, SnoopsNow, ends-here, 
 pub record SnoopsHere (v : BenchView) (hold : Bool) (choice : Choice) (entries : List Done) : Type 0 where
   pub now : SnoopsNow v.run v.bus.queue
   pub calm : (step_drive v).stall ≡ false
-  pub ends : ends_snoop_at (run_with v hold choice entries).trace (clock_of v) now.entry ≡ true
-  pub told : IsSnoopedNow (run_with v hold choice entries) (clock_of v) now.entry
+  pub ends : ends_snoop_at (run_with v hold choice entries).trace (next_clock_of v) now.entry ≡ true
+  pub told : IsSnoopedNow (run_with v hold choice entries) (next_clock_of v) now.entry
   pub decided : (step_decided v hold).snooped ≡ snooped_entry (step_performed v) now.entry now.entry.who
 
 -- the clock is no snoop end
 pub record SnoopsNone (v : BenchView) (hold : Bool) (choice : Choice) (entries : List Done) : Type 0 where
   pub none : (step_decided v hold).snooped ≡ None
-  pub quiet : snooped_at (past_of (run_with v hold choice entries)) (clock_of v) ≡ None
+  pub quiet : snooped_at (past_of (run_with v hold choice entries)) (next_clock_of v) ≡ None
 
 pub snoop-cases : (v : BenchView) (hold : Bool) (choice : Choice) (entries : List Done)
     (grows : GrowsTo v.run (run_with v hold choice entries)) → HoldsRequests v.bus.queue v.run
@@ -37,7 +37,7 @@ pub snoop-cases : (v : BenchView) (hold : Bool) (choice : Choice) (entries : Lis
 snoop-cases v hold choice entries grows f =
     let r = v.run in
     let s = run_with v hold choice entries in
-    let n = clock_of v in
+    let n = next_clock_of v in
     let queue = v.bus.queue in
     let x = step_sample v hold in
     let bus = step_performed v in

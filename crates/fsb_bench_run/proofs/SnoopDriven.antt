@@ -17,10 +17,10 @@ use Rattle.fsb_trace.specs.At.{Trace}
 use Rattle.fsb_trace.specs.declared.who.Who.{Who}
 use Rattle.fsb_trace.specs.declared.who.Who.TheVariants.{Symmetric, Priority}
 use Rattle.fsb_bench_view.specs.declared.beginning.Started.{Started}
-use Rattle.fsb_bench_view.specs.declared.snoop.Snooped.{Snooped}
+use Rattle.fsb_bench_view.specs.declared.snoop.SnoopSettled.{SnoopSettled}
 use Rattle.fsb_bench_view.specs.BenchSteps.{step_decided, step_drive, step_performed, step_sample}
-use Rattle.fsb_bench_view.specs.BusSnooping.{answer_besides, first_open, is_hit_answer, is_modified_answer, snooped_by, snooped_entry, snooped_for, snooped_of, snooped_reply}
-use Rattle.fsb_bench_view.specs.BusViews.{BenchView, BusView, clock_of}
+use Rattle.fsb_bench_view.specs.BusSnooping.{answer_besides, first_open, is_hit_answer, is_modified_answer, snooping_by, snooped_entry, snooped_for, snooping_of, snooped_reply}
+use Rattle.fsb_bench_view.specs.BusViews.{BenchView, BusView, next_clock_of}
 use Rattle.fsb_bench_run.proofs.DrivenLines.{hit-driven, hit_driven, hitm-driven, hitm_driven}
 
 -- HIT# and HITM# are not both decided
@@ -29,12 +29,12 @@ answers-apart answers.Clean = refl
 answers-apart answers.Hit = refl
 answers-apart answers.Modified = refl
 
-record IsReplySnoop (entry : Entry) (s : Snooped) : Type 0 where
+record IsReplySnoop (entry : Entry) (s : SnoopSettled) : Type 0 where
   pub deferral : Deferral
   pub begun : Started
   pub same : s ≡ snooped_reply entry deferral begun
 
-reply-snoop : (entry : Entry) (deferral : Deferral) (o : Option Started) (s : Snooped)
+reply-snoop : (entry : Entry) (deferral : Deferral) (o : Option Started) (s : SnoopSettled)
     → option_map (snooped_reply entry deferral) o ≡ Some s → IsReplySnoop entry s
 reply-snoop entry deferral None s e = absurd (let no : ⊥ = cc in no)
 reply-snoop entry deferral (Some begun) s e =
@@ -45,44 +45,44 @@ reply-snoop entry deferral (Some begun) s e =
           (let same : snooped_reply entry deferral begun ≡ s = cc in same);
     }
 
-reply-snooped : (bus : BusView) (entry : Entry) (o : Option Deferral) (s : Snooped)
+reply-snooped : (bus : BusView) (entry : Entry) (o : Option Deferral) (s : SnoopSettled)
     → option_and_then (snooped_for bus entry) o ≡ Some s → IsReplySnoop entry s
 reply-snooped bus entry None s e = absurd (let no : ⊥ = cc in no)
 reply-snooped bus entry (Some deferral) s e = reply-snoop entry deferral (slice_get bus.started deferral.number) s e
 
-same-some : (a b : Snooped) → Some a ≡ Some b → a ≡ b
+same-some : (a b : SnoopSettled) → Some a ≡ Some b → a ≡ b
 same-some a b e = cc
 
-pub lines-apart : (bus : BusView) (entry : Entry) (who : Who) (s : Snooped) → snooped_entry bus entry who ≡ Some s
+pub lines-apart : (bus : BusView) (entry : Entry) (who : Who) (s : SnoopSettled) → snooped_entry bus entry who ≡ Some s
     → (s.hit && s.hitm) ≡ false
 lines-apart bus entry (Symmetric agent) s e =
-    ap (λ (x : Snooped). x.hit && x.hitm) (sym (same-some (snooped_of bus agent entry) s e))
+    ap (λ (x : SnoopSettled). x.hit && x.hitm) (sym (same-some (snooping_of bus agent entry) s e))
     ∙ answers-apart (answer_besides agent entry.request.line 0 bus.agents)
 lines-apart bus entry Priority s e =
     let k = reply-snooped bus entry (deferral_of_id entry.request.did bus.bridge.waiting) s e in
-    ap (λ (x : Snooped). x.hit && x.hitm) k.same ∙ and_right k.deferral.shared false refl
+    ap (λ (x : SnoopSettled). x.hit && x.hitm) k.same ∙ and_right k.deferral.shared false refl
 
 -- a bench decides a snoop end only of the oldest entry without one, where no snoop is stalled
-pub record IsDecidedSnoop (bus : BusView) (drive : Drive) (s : Snooped) : Type 0 where
+pub record IsDecidedSnoop (bus : BusView) (drive : Drive) (s : SnoopSettled) : Type 0 where
   pub calm : drive.stall ≡ false
   pub some : is_none drive.snoop ≡ false
   pub entry : Entry
   pub first : first_open bus.queue ≡ Some entry
   pub snooped : snooped_entry bus entry entry.who ≡ Some s
 
-opened : (bus : BusView) (o : Option Entry) (s : Snooped)
+opened : (bus : BusView) (o : Option Entry) (s : SnoopSettled)
     → option_and_then (λ (entry : Entry). snooped_entry bus entry entry.who) o ≡ Some s
     → (entry : Entry) × (o ≡ Some entry) × (snooped_entry bus entry entry.who ≡ Some s)
 opened bus None s e = absurd (let no : ⊥ = cc in no)
 opened bus (Some entry) s e = (entry, refl, e)
 
-decided-by : (stall none : Bool) (o : Option Snooped) (s : Snooped)
+decided-by : (stall none : Bool) (o : Option SnoopSettled) (s : SnoopSettled)
     → (if stall || none then None else o) ≡ Some s → (stall ≡ false) × (none ≡ false) × (o ≡ Some s)
 decided-by true none o s e = absurd (let no : ⊥ = cc in no)
 decided-by false true o s e = absurd (let no : ⊥ = cc in no)
 decided-by false false o s e = (refl, refl, e)
 
-pub decided-snoop : (bus : BusView) (drive : Drive) (s : Snooped) → snooped_by bus drive ≡ Some s
+pub decided-snoop : (bus : BusView) (drive : Drive) (s : SnoopSettled) → snooping_by bus drive ≡ Some s
     → IsDecidedSnoop bus drive s
 decided-snoop bus drive s e =
     let d = decided-by drive.stall (is_none drive.snoop) _ s e in
@@ -90,8 +90,8 @@ decided-snoop bus drive s e =
     record { calm = d.0; some = d.1; entry = k.0; first = k.1; snooped = k.2 }
 
 -- so the sample stalls exactly where a stall is driven
-stalled-by : (o : Option Snooped) (stall : Bool)
-    → ((s : Snooped) → o ≡ Some s → (stall ≡ false) × ((s.hit && s.hitm) ≡ false))
+stalled-by : (o : Option SnoopSettled) (stall : Bool)
+    → ((s : SnoopSettled) → o ≡ Some s → (stall ≡ false) × ((s.hit && s.hitm) ≡ false))
     → (hit_driven o stall && hitm_driven o stall) ≡ stall
 stalled-by None true f = refl
 stalled-by None false f = refl
@@ -103,10 +103,10 @@ stalls-driven v hold =
     let bus = step_performed v in
     let d = step_decided v hold in
     let profile = v.run.plan.profile in
-    let hit = hit-driven bus (clock_of v) profile d in
-    let hitm = hitm-driven bus (clock_of v) profile d in
+    let hit = hit-driven bus (next_clock_of v) profile d in
+    let hitm = hitm-driven bus (next_clock_of v) profile d in
     (λ i. hit i && hitm i) ∙ stalled-by d.snooped d.drive.stall
-    (λ (s : Snooped) (e : d.snooped ≡ Some s).
+    (λ (s : SnoopSettled) (e : d.snooped ≡ Some s).
     let k = decided-snoop bus d.drive s e in (k.calm, lines-apart bus k.entry k.entry.who s k.snooped))
 
 -- where no entry has a snoop clock no stall is driven
@@ -128,9 +128,9 @@ some-snoop h queue e found = ap (λ o. is_none (option_map (λ (e : Entry). e.nu
 
 -- what is decided where a snoop ends, and where none does
 pub snooped-open : (bus : BusView) (drive : Drive) (e : Entry) → drive.stall ≡ false → is_none drive.snoop ≡ false
-    → first_open bus.queue ≡ Some e → snooped_by bus drive ≡ snooped_entry bus e e.who
+    → first_open bus.queue ≡ Some e → snooping_by bus drive ≡ snooped_entry bus e e.who
 snooped-open bus drive e calm some first = rw (calm, some, first) refl
 
 pub snooped-shut : (bus : BusView) (drive : Drive) → (drive.stall || is_none drive.snoop) ≡ true
-    → snooped_by bus drive ≡ None
+    → snooping_by bus drive ≡ None
 snooped-shut bus drive shut = rw shut refl

@@ -39,7 +39,7 @@ use Rattle.fsb_phase_run.proofs.Interface.{agree-grown}
 use Rattle.fsb_bench_view.specs.declared.beginning.Started.{Started}
 use Rattle.fsb_bench_view.specs.BenchSteps.{step_decided, step_performed}
 use Rattle.fsb_bench_view.specs.BusSnooping.{snooped_entry, snooped_for, snooped_reply}
-use Rattle.fsb_bench_view.specs.BusViews.{BenchView, BusView, clock_of}
+use Rattle.fsb_bench_view.specs.BusViews.{BenchView, BusView, next_clock_of}
 use Rattle.fsb_bench_run.specs.BenchOf.{IsBegunAt, IsBenchOf}
 use Rattle.fsb_bench_run.proofs.BegunRequests.{begun-is}
 use Rattle.fsb_bench_run.proofs.DeferralsTold.{DeferralsTold}
@@ -113,7 +113,7 @@ pub started-there : (v : BenchView) (q : ℕ) → IsBenchOf v → line_at ADS v.
     × (begun.clock ≡ q)
 unfolding nth_where
 started-there v q b ads l =
-    let n = clock_of v in
+    let n = next_clock_of v in
     let p = line_at ADS v.run.trace in
     let k : ℕ = count_where p q in
     started-by (slice_get v.bus.started k) q
@@ -152,7 +152,7 @@ clock-le w i k q c l e f =
 pub deferral-started : (v : BenchView) (hold : Bool) (choice : Choice) (entries : List Done) → IsBenchOf v
     → (grows : GrowsTo v.run (run_with v hold choice entries))
     → (k : SnoopsHere v hold choice entries) (d : Deferral) (i : ℕ)
-    → number_served_at (run_with v hold choice entries) (past_of (run_with v hold choice entries)) (clock_of v) ≡ Some i
+    → number_served_at (run_with v hold choice entries) (past_of (run_with v hold choice entries)) (next_clock_of v) ≡ Some i
     → IsDeferralOf (run_with v hold choice entries).trace d i
     → (begun : Started) × (slice_get v.bus.started d.number ≡ Some begun)
     × (live_clock_of (run_with v hold choice entries).trace i ≡ Some begun.clock)
@@ -160,7 +160,7 @@ unfolding number_served_at request_number_of
 deferral-started v hold choice entries b grows k d i e that =
     let r = v.run in
     let s = run_with v hold choice entries in
-    let n = clock_of v in
+    let n = next_clock_of v in
     let m = rank_of s.trace k.now.entry in
     let turns = turns_in (past_of s).moments in
     let number = number-found s.trace m n k.told.is_end.reached in
@@ -235,20 +235,20 @@ end-kind v hold choice entries b grows k =
 -- HIT# and HITM# at the snoop end
 pub hit-now : (v : BenchView) (hold : Bool) (choice : Choice) (entries : List Done)
     (k : SnoopsHere v hold choice entries)
-    (who : Who) → k.now.entry.who ≡ who → line_at HIT (run_with v hold choice entries).trace (clock_of v)
+    (who : Who) → k.now.entry.who ≡ who → line_at HIT (run_with v hold choice entries).trace (next_clock_of v)
     ≡ hit_driven (snooped_entry (step_performed v) k.now.entry who) false
 hit-now v hold choice entries k who e =
     line-with v hold choice entries HIT
-    ∙ hit-driven (step_performed v) (clock_of v) v.run.plan.profile (step_decided v hold)
+    ∙ hit-driven (step_performed v) (next_clock_of v) v.run.plan.profile (step_decided v hold)
     ∙ (λ i. hit_driven ((k.decided ∙ ap (snooped_entry (step_performed v) k.now.entry) e) i) (k.calm i))
 
 pub hitm-now : (v : BenchView) (hold : Bool) (choice : Choice) (entries : List Done)
     (k : SnoopsHere v hold choice entries)
-    (who : Who) → k.now.entry.who ≡ who → line_at HITM (run_with v hold choice entries).trace (clock_of v)
+    (who : Who) → k.now.entry.who ≡ who → line_at HITM (run_with v hold choice entries).trace (next_clock_of v)
     ≡ hitm_driven (snooped_entry (step_performed v) k.now.entry who) false
 hitm-now v hold choice entries k who e =
     line-with v hold choice entries HITM
-    ∙ hitm-driven (step_performed v) (clock_of v) v.run.plan.profile (step_decided v hold)
+    ∙ hitm-driven (step_performed v) (next_clock_of v) v.run.plan.profile (step_decided v hold)
     ∙ (λ i. hitm_driven ((k.decided ∙ ap (snooped_entry (step_performed v) k.now.entry) e) i) (k.calm i))
 
 dirty-by : (p : Past) (c : ℕ) (s : SnoopEnd) (claim : Claim) → s.claim ≡ Some claim
@@ -278,11 +278,11 @@ result-by : (v : BenchView) (hold : Bool) (choice : Choice) (entries : List Done
     → (grows : GrowsTo v.run (run_with v hold choice entries)) → (k : SnoopsHere v hold choice entries) (who : Who)
     → k.now.entry.who ≡ who
     → has_right_result (run_with v hold choice entries) (past_of (run_with v hold choice entries))
-    (clock_of v) k.told.end ≡ true
+    (next_clock_of v) k.told.end ≡ true
 result-by v hold choice entries b told answer grows k (Symmetric agent) e =
     let s = run_with v hold choice entries in
     let p = past_of s in
-    let n = clock_of v in
+    let n = next_clock_of v in
     let y = k.now.entry in
     let c = claimed-by v hold choice entries b grows k agent e in
     let claim = k.told.is_end.claim ∙ ap (claim_at s.trace) k.told.first ∙ c.is_claim in
@@ -298,7 +298,7 @@ result-by v hold choice entries b told answer grows k Priority e =
     let r = v.run in
     let s = run_with v hold choice entries in
     let p = past_of s in
-    let n = clock_of v in
+    let n = next_clock_of v in
     let y = k.now.entry in
     let bus = step_performed v in
     let did = y.request.did in
@@ -324,10 +324,10 @@ result-by v hold choice entries b told answer grows k Priority e =
 pub result-now : (v : BenchView) (hold : Bool) (choice : Choice) (entries : List Done) → IsBenchOf v
     → DeferralsTold v (run_with v hold choice entries) → AgentsAnswer v (run_with v hold choice entries)
     → GrowsTo v.run (run_with v hold choice entries)
-    → has_snoop_result (run_with v hold choice entries) (past_of (run_with v hold choice entries)) (clock_of v) ≡ true
+    → has_snoop_result (run_with v hold choice entries) (past_of (run_with v hold choice entries)) (next_clock_of v) ≡ true
 result-now v hold choice entries b told answer grows =
     let s = run_with v hold choice entries in
-    let n = clock_of v in
+    let n = next_clock_of v in
     elim (snoop-cases v hold choice entries grows b.requests) [
       | inr g ↦ result-none s (past_of s) n g.quiet
       | inl k ↦
@@ -339,7 +339,7 @@ result-now v hold choice entries b told answer grows =
 pub snoop-result : (v : BenchView) (hold : Bool) (choice : Choice) (entries : List Done) → IsBenchOf v
     → DeferralsTold v (run_with v hold choice entries) → AgentsAnswer v (run_with v hold choice entries)
     → GrowsTo v.run (run_with v hold choice entries)
-    → holds_at has_snoop_result (run_with v hold choice entries) (clock_of v) ≡ true
+    → holds_at has_snoop_result (run_with v hold choice entries) (next_clock_of v) ≡ true
 snoop-result v hold choice entries b told answer grows =
     holds-now has_snoop_result v.run (run_with v hold choice entries) grows
     (result-now v hold choice entries b told answer grows)

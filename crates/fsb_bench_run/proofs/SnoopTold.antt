@@ -27,10 +27,10 @@ use Rattle.fsb_timely.specs.Moments.{choice_at, is_in_window, turns_in}
 use Rattle.fsb_timely.specs.Runs.{past_of}
 use Rattle.fsb_timely.specs.Snoops.{number_served_at}
 use Rattle.fsb_trace.specs.Deferral.{is_pending}
-use Rattle.fsb_bench_view.specs.declared.snoop.Snooped.{Snooped}
+use Rattle.fsb_bench_view.specs.declared.snoop.SnoopSettled.{SnoopSettled}
 use Rattle.fsb_bench_view.specs.BenchSteps.{step_decided, step_performed}
-use Rattle.fsb_bench_view.specs.BusSnooping.{answer_besides, is_modified_answer, settled_as, snooped_entry, snooped_for, snooped_of, snooped_reply}
-use Rattle.fsb_bench_view.specs.BusViews.{BenchView, clock_of}
+use Rattle.fsb_bench_view.specs.BusSnooping.{answer_besides, is_modified_answer, snoop_outcome, snooped_entry, snooped_for, snooping_of, snooped_reply}
+use Rattle.fsb_bench_view.specs.BusViews.{BenchView, next_clock_of}
 use Rattle.fsb_bench_run.specs.BenchOf.{IsBegunAt, IsBenchOf}
 use Rattle.fsb_bench_run.proofs.DeferralsTold.{DeferralsTold}
 use Rattle.fsb_bench_run.proofs.DrivenLines.{hitm_driven}
@@ -44,14 +44,14 @@ use Rattle.fsb_bench_run.proofs.TurnCounted.{begun-reply, end-turn, kept-turn}
 -- what the bench decides of the snoop end: the entry, its turn and its outcome
 pub record IsSnoopTold (v : BenchView) (hold : Bool) (choice : Choice) (entries : List Done)
     (k : SnoopsHere v hold choice entries) : Type 0 where
-  pub snooped : Snooped
+  pub snooped : SnoopSettled
   pub decided : (step_decided v hold).snooped ≡ Some snooped
   pub entry : snooped.entry ≡ k.now.entry
   pub turn : k.told.end.turn ≡ snooped.turn
   pub outcome : k.told.end.outcome ≡ snooped.outcome
 
 settled-under : (handed : Bool) (turn : Turn) (request : Request)
-    → outcome_under handed turn (Some request) ≡ settled_as handed turn request
+    → outcome_under handed turn (Some request) ≡ snoop_outcome handed turn request
 unfolding outcome_under outcome_by_turn
 settled-under true turn request = refl
 settled-under false Keep request = refl
@@ -71,11 +71,11 @@ reply-settled Upgrade request e f = absurd (let no : ⊥ = cc in no)
 outcome-told : (v : BenchView) (hold : Bool) (choice : Choice) (entries : List Done) → IsBenchOf v
     → (grows : GrowsTo v.run (run_with v hold choice entries)) → (k : SnoopsHere v hold choice entries)
     → k.told.end.outcome
-    ≡ outcome_under (line_at HITM (run_with v hold choice entries).trace (clock_of v)) k.told.end.turn
+    ≡ outcome_under (line_at HITM (run_with v hold choice entries).trace (next_clock_of v)) k.told.end.turn
     (Some k.now.entry.request)
 outcome-told v hold choice entries b grows k =
     let s = run_with v hold choice entries in
-    let n = clock_of v in
+    let n = next_clock_of v in
     outcome-made s n k.told.end k.told.is_end.there
     ∙ ap (λ q. outcome_under (line_at HITM s.trace n) k.told.end.turn (request_at s.trace q)) k.told.first
     ∙ ap (outcome_under (line_at HITM s.trace n) k.told.end.turn) (decoded-now v hold choice entries b grows k)
@@ -96,19 +96,19 @@ snoop-by v hold choice entries b told grows k (Symmetric agent) e =
     let handed = hitm-now v hold choice entries k (Symmetric agent) e in
     let answer = is_modified_answer (answer_besides agent y.request.line 0 bus.agents) in
     record {
-      snooped = snooped_of bus agent y;
+      snooped = snooping_of bus agent y;
       decided = k.decided ∙ ap (snooped_entry bus y) e;
       entry = refl;
       turn = turn;
       outcome = outcome-told v hold choice entries b grows k
           ∙ (λ i. outcome_under (handed i) (turn i) (Some y.request))
-          ∙ settled-under answer (snooped_of bus agent y).turn y.request;
+          ∙ settled-under answer (snooping_of bus agent y).turn y.request;
     }
 snoop-by v hold choice entries b told grows k Priority e =
     let r = v.run in
     let s = run_with v hold choice entries in
     let p = past_of s in
-    let n = clock_of v in
+    let n = next_clock_of v in
     let bus = step_performed v in
     let y = k.now.entry in
     let did = y.request.did in

@@ -24,7 +24,7 @@ use Rattle.fsb_trace.specs.declared.who.Who.TheVariants.{Symmetric, Priority}
 use Rattle.fsb_bench_view.specs.declared.beginning.Started.{Started}
 use Rattle.fsb_bench_view.specs.declared.beginning.Starting.{Starting}
 use Rattle.fsb_bench_view.specs.BenchSteps.{bench_stepped, step_decided, step_entries, step_run}
-use Rattle.fsb_bench_view.specs.BusViews.{BenchView, clock_of}
+use Rattle.fsb_bench_view.specs.BusViews.{BenchView, next_clock_of}
 use Rattle.fsb_bench_run.specs.BenchOf.{HasStarted, IsBegunAt, IsBenchOf}
 use Rattle.fsb_bench_run.proofs.BegunStays.{before-growth}
 use Rattle.fsb_bench_run.specs.HitsTold.{HasHitsOf}

@@ -22,11 +22,11 @@ use Rattle.fsb_trace.specs.declared.who.Who.{Who}
 use Rattle.fsb_trace.specs.declared.who.Who.TheVariants.{Symmetric, Priority}
 use Rattle.fsb_trace.proofs.Interface.{winner_at-agree}
 use Rattle.fsb_bench_view.specs.declared.beginning.Starting.{Starting}
-use Rattle.fsb_bench_view.specs.declared.decided.Asked.{Asked}
+use Rattle.fsb_bench_view.specs.declared.decided.AskedFor.{AskedFor}
 use Rattle.fsb_bench_view.specs.BenchSteps.{step_decided, step_performed, was_held_at}
 use Rattle.fsb_bench_view.specs.BusDecisions.{asked_by}
 use Rattle.fsb_bench_view.specs.BusStarting.{is_kept_from, may_start, starting_by, starting_for, starting_reply, starting_want, want_in}
-use Rattle.fsb_bench_view.specs.BusViews.{BenchView, BusView, clock_of}
+use Rattle.fsb_bench_view.specs.BusViews.{BenchView, BusView, next_clock_of}
 use Rattle.fsb_bench_run.specs.BenchOf.{IsBegunAt}
 use Rattle.fsb_bench_run.proofs.AskedNow.{due-told, wants-told}
 use Rattle.fsb_bench_run.proofs.ThisClock.{past-now}
@@ -45,7 +45,7 @@ mapped-some f None y e = absurd (let no : ⊥ = cc in no)
 mapped-some f (Some x) y e = (x, refl, (let same : f x ≡ y = cc in same))
 
 -- it begins only where it may, and there is a winner
-pub starting-parts : (bus : BusView) (winner : Option Who) (clock : ℕ) (asked : Asked) (held : Bool) (starting : Starting)
+pub starting-parts : (bus : BusView) (winner : Option Who) (clock : ℕ) (asked : AskedFor) (held : Bool) (starting : Starting)
     → starting_by bus winner clock asked held ≡ Some starting
     → (may_start bus clock held ≡ true) × (who : Who) × (winner ≡ Some who) × (starting_for bus asked who ≡ Some starting)
 starting-parts bus winner clock asked held starting e = by (may_start bus clock held) refl e
@@ -102,17 +102,17 @@ would-priority r s i deferral grows e k =
 -- the bench's due deferral is that of this request
 due-of : (v : BenchView) (hold : Bool) (choice : Choice) (entries : List Done) (deferral : Deferral) → IsStepWith v hold choice entries
     → (step_decided v hold).asked.due ≡ Some deferral
-    → (i : ℕ) × (due_number (run_with v hold choice entries) (past_of (run_with v hold choice entries)) (clock_of v) ≡ Some i)
+    → (i : ℕ) × (due_number (run_with v hold choice entries) (past_of (run_with v hold choice entries)) (next_clock_of v) ≡ Some i)
     × IsDeferralOf (run_with v hold choice entries).trace deferral i
 due-of v hold choice entries deferral b e =
     subst (λ o. IsThatOf (run_with v hold choice entries).trace o
-    (due_number (run_with v hold choice entries) (past_of (run_with v hold choice entries)) (clock_of v))) e (due-told v hold choice entries b)
+    (due_number (run_with v hold choice entries) (past_of (run_with v hold choice entries)) (next_clock_of v))) e (due-told v hold choice entries b)
 
 abbrev begun_now : BenchView → Bool → Choice → List Done → Starting → Type 0
-begun_now v hold choice entries starting = IsBegunAt (run_with v hold choice entries) (clock_of v) starting.who starting.request
+begun_now v hold choice entries starting = IsBegunAt (run_with v hold choice entries) (next_clock_of v) starting.who starting.request
 
 begun-for : (v : BenchView) (hold : Bool) (choice : Choice) (entries : List Done) (starting : Starting) (who : Who) → IsStepWith v hold choice entries
-    → (step_decided v hold).starting ≡ Some starting → winner_at v.run.trace (clock_of v) ≡ Some who
+    → (step_decided v hold).starting ≡ Some starting → winner_at v.run.trace (next_clock_of v) ≡ Some who
     → starting_for (step_performed v) (step_decided v hold).asked who ≡ Some starting → begun_now v hold choice entries starting
 begun-for v hold choice entries starting (Symmetric a) b e win f =
     let r = v.run in
@@ -120,7 +120,7 @@ begun-for v hold choice entries starting (Symmetric a) b e win f =
     let grows = b.grows in
     let parts = wanted-parts (step_performed v) a (want_in (step_decided v hold).asked a) starting f in
     let want : Want = parts.0 in
-    let few = winner-four r.trace (clock_of v) a win in
+    let few = winner-four r.trace (next_clock_of v) a win in
     let told = sym (wants-told v hold choice entries a b few) ∙ ap (option_map (λ (want : Want). want.request)) parts.1 in
     let who = ap (λ (x : Starting). x.who) parts.3 in
     let request = ap (λ (x : Starting). x.request) parts.3 in
@@ -143,8 +143,8 @@ begun-for v hold choice entries starting Priority b e win f =
     })
 
 pub starting-begins : (v : BenchView) (hold : Bool) (choice : Choice) (entries : List Done) (starting : Starting) → IsStepWith v hold choice entries
-    → (step_decided v hold).starting ≡ Some starting → IsBegunAt (run_with v hold choice entries) (clock_of v) starting.who starting.request
+    → (step_decided v hold).starting ≡ Some starting → IsBegunAt (run_with v hold choice entries) (next_clock_of v) starting.who starting.request
 starting-begins v hold choice entries starting b e =
-    let parts = starting-parts (step_performed v) (winner_at v.run.trace (clock_of v)) (clock_of v)
-    (asked_by (step_performed v) (clock_of v)) (was_held_at v.run.holds (clock_of v)) starting e in
+    let parts = starting-parts (step_performed v) (winner_at v.run.trace (next_clock_of v)) (next_clock_of v)
+    (asked_by (step_performed v) (next_clock_of v)) (was_held_at v.run.holds (next_clock_of v)) starting e in
     begun-for v hold choice entries starting parts.1 b e parts.2 parts.3

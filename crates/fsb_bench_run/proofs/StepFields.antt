@@ -10,11 +10,11 @@ use Rattle.fsb_bench_view.specs.declared.beginning.Starting.{Starting}
 use Rattle.fsb_bench_view.specs.declared.decided.BytesFrom.{BytesFrom}
 use Rattle.fsb_bench_view.specs.declared.decided.BytesFrom.TheVariants.{Memory, Agents}
 use Rattle.fsb_bench_view.specs.declared.decided.Ending.{Ending}
-use Rattle.fsb_bench_view.specs.declared.snoop.Snooped.{Snooped}
+use Rattle.fsb_bench_view.specs.declared.snoop.SnoopSettled.{SnoopSettled}
 use Rattle.fsb_bench_view.specs.BenchSteps.{bench_stepped, step_answered, step_cancelled, step_decided, step_drive, step_ended, step_ending, step_fetched, step_performed, step_snooped, step_started}
 use Rattle.fsb_bench_view.specs.BusEvents.{answered_by, bus_answered, bus_cancelled, bus_ended, bus_snooped, bus_started}
-use Rattle.fsb_bench_view.specs.BusViews.{BenchView, BusView, clock_of}
-use Rattle.fsb_bench_view.specs.BytesFetched.{bus_fetched, bytes_from}
+use Rattle.fsb_bench_view.specs.BusViews.{BenchView, BusView, next_clock_of}
+use Rattle.fsb_bench_view.specs.BytesFetched.{bus_fetched, bytes_source}
 
 -- the request that began last, after this one began, if one did
 abbrev pub latest_after : ℕ → Option Starting → Option Latest → Option Latest
@@ -53,7 +53,7 @@ cancelled-same : (bus : BusView) (o : Option Entry) → HasSameBegun (option_map
 cancelled-same bus None = same bus
 cancelled-same bus (Some e) = record { latest = refl; started = refl; kept = refl; queue = refl }
 
-snooped-same : (bus : BusView) (o : Option Snooped) → HasSameBegun (option_map_or (bus_snooped bus) o bus) bus
+snooped-same : (bus : BusView) (o : Option SnoopSettled) → HasSameBegun (option_map_or (bus_snooped bus) o bus) bus
 snooped-same bus None = same bus
 snooped-same bus (Some s) = record { latest = refl; started = refl; kept = refl; queue = refl }
 
@@ -68,16 +68,16 @@ ended-same bus clock (Some e) = record { latest = refl; started = refl; kept = r
 -- the hits change nothing of it
 pub performed-begun : (v : BenchView) → HasSameBegun (step_performed v) v.bus
 performed-begun v =
-    let k = fetched-same v.bus (bytes_from v.bus (step_drive v)) in
+    let k = fetched-same v.bus (bytes_source v.bus (step_drive v)) in
     record { latest = k.latest; started = k.started; kept = k.kept; queue = k.queue }
 
 -- nor does what comes after the request that begins
 pub ended-begun : (v : BenchView) (hold : Bool) → HasSameBegun (step_ended v hold) (step_started v hold)
 ended-begun v hold =
     begun-then (step_ended v hold) (step_answered v hold) (step_started v hold)
-    (ended-same (step_answered v hold) (clock_of v) (step_ending v hold))
+    (ended-same (step_answered v hold) (next_clock_of v) (step_ending v hold))
     (begun-then (step_answered v hold) (step_snooped v hold) (step_started v hold)
-    (answered-same (step_snooped v hold) (clock_of v) (answered_by (step_snooped v hold) (step_drive v)))
+    (answered-same (step_snooped v hold) (next_clock_of v) (answered_by (step_snooped v hold) (step_drive v)))
     (begun-then (step_snooped v hold) (step_cancelled v hold) (step_started v hold)
     (snooped-same (step_cancelled v hold) (step_decided v hold).snooped)
     (cancelled-same (step_started v hold) (step_decided v hold).cancelled)))
@@ -99,26 +99,26 @@ started-kept bus clock (Some s) = refl
 
 -- the request that began last, after the clock
 pub latest-stepped : (v : BenchView) (hold : Bool) (choice : Choice)
-    → (bench_stepped v hold choice).bus.latest ≡ latest_after (clock_of v) (step_decided v hold).starting v.bus.latest
+    → (bench_stepped v hold choice).bus.latest ≡ latest_after (next_clock_of v) (step_decided v hold).starting v.bus.latest
 latest-stepped v hold choice =
     (ended-begun v hold).latest
-    ∙ started-latest (step_performed v) (clock_of v) (step_decided v hold).starting
-    ∙ ap (latest_after (clock_of v) (step_decided v hold).starting) (performed-begun v).latest
+    ∙ started-latest (step_performed v) (next_clock_of v) (step_decided v hold).starting
+    ∙ ap (latest_after (next_clock_of v) (step_decided v hold).starting) (performed-begun v).latest
 
 -- those that have begun, after the clock
 pub started-ended : (v : BenchView) (hold : Bool)
-    → (step_ended v hold).started ≡ started_after (clock_of v) (step_decided v hold).starting v.bus.started
+    → (step_ended v hold).started ≡ started_after (next_clock_of v) (step_decided v hold).starting v.bus.started
 started-ended v hold =
     (ended-begun v hold).started
-    ∙ started-started (step_performed v) (clock_of v) (step_decided v hold).starting
-    ∙ ap (started_after (clock_of v) (step_decided v hold).starting) (performed-begun v).started
+    ∙ started-started (step_performed v) (next_clock_of v) (step_decided v hold).starting
+    ∙ ap (started_after (next_clock_of v) (step_decided v hold).starting) (performed-begun v).started
 
 pub started-stepped : (v : BenchView) (hold : Bool) (choice : Choice)
-    → (bench_stepped v hold choice).bus.started ≡ started_after (clock_of v) (step_decided v hold).starting v.bus.started
+    → (bench_stepped v hold choice).bus.started ≡ started_after (next_clock_of v) (step_decided v hold).starting v.bus.started
 started-stepped v hold choice = started-ended v hold
 
 -- the locks, before they take the clock
 pub kept-ended : (v : BenchView) (hold : Bool) → (step_ended v hold).kept ≡ v.bus.kept
 kept-ended v hold =
-    (ended-begun v hold).kept ∙ started-kept (step_performed v) (clock_of v) (step_decided v hold).starting
+    (ended-begun v hold).kept ∙ started-kept (step_performed v) (next_clock_of v) (step_decided v hold).starting
     ∙ (performed-begun v).kept

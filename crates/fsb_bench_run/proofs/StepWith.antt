@@ -6,7 +6,7 @@ use Rattle.fsb_signal.specs.declared.lines.TheConstants.Lines.{ADS}
 use Rattle.fsb_signal.specs.Samples.{line_at}
 use Rattle.fsb_timely.specs.Growth.{GrowsTo}
 use Rattle.fsb_bench_view.specs.BenchSteps.{step_decided, step_performed}
-use Rattle.fsb_bench_view.specs.BusViews.{BenchView, clock_of}
+use Rattle.fsb_bench_view.specs.BusViews.{BenchView, next_clock_of}
 use Rattle.fsb_bench_run.specs.BenchOf.{IsBenchOf}
 use Rattle.fsb_bench_run.specs.HitsTold.{HasHitsOf}
 use Rattle.fsb_bench_run.proofs.DrivenLines.{ads-driven, line-with}
@@ -20,6 +20,6 @@ pub record IsStepWith (v : BenchView) (hold : Bool) (choice : Choice) (entries :
 
 -- what begins shows on ADS#
 pub begins-with : (v : BenchView) (hold : Bool) (choice : Choice) (entries : List Done)
-    → line_at ADS (run_with v hold choice entries).trace (clock_of v) ≡ is_some (step_decided v hold).starting
+    → line_at ADS (run_with v hold choice entries).trace (next_clock_of v) ≡ is_some (step_decided v hold).starting
 begins-with v hold choice entries =
-    line-with v hold choice entries ADS ∙ ads-driven (step_performed v) (clock_of v) v.run.plan.profile (step_decided v hold)
+    line-with v hold choice entries ADS ∙ ads-driven (step_performed v) (next_clock_of v) v.run.plan.profile (step_decided v hold)

@@ -28,7 +28,7 @@ use Rattle.fsb_bench_view.specs.declared.beginning.Latest.{Latest}
 use Rattle.fsb_bench_view.specs.declared.beginning.Started.{Started}
 use Rattle.fsb_bench_view.specs.declared.snoop.Served.{Served}
 use Rattle.fsb_bench_view.specs.BusViews.{BenchView}
-use Rattle.fsb_bench_view.specs.MaySteps.{HasFlightOf, turns_of}
+use Rattle.fsb_bench_view.specs.MaySteps.{HasFlightOf, run_turns}
 use Rattle.fsb_bench_run.specs.LocksHeld.{kept_into}
 
 -- the agent begins this request at q: a request begins there, the agent is the winner, and this is what it would begin
@@ -71,7 +71,7 @@ pub record HasStarted (started : List Started) (r : Run) : Type 0 where
 -- the live request that the one beginning at q serves, by its first clock
 abbrev pub clock_served : Run → ℕ → Option ℕ
 clock_served r q =
-    option_and_then (live_clock_of r.trace) (served_number r.trace (turns_of r) (live_number_of r.trace q))
+    option_and_then (live_clock_of r.trace) (served_number r.trace (run_turns r) (live_number_of r.trace q))
 
 -- the request of this entry serves this one: itself, or for a reply the deferred one, which an agent began
 pub record IsServed (r : Run) (e : Entry) (served : Served) : Type 0 where

@@ -11,7 +11,7 @@ use Rattle.fsb_access.specs.Access.{is_lawful_access}
 use Rattle.fsb_access.specs.declared.item.Item.{Item}
 use Rattle.fsb_access.specs.declared.item.Item.TheVariants.{One, Locked, Idle}
 use Rattle.fsb_script.specs.Bounds.{is_lawful_script, is_lawful_item, is_lock_size, is_lock_apart, line_count}
-use Rattle.fsb_bus.specs.AccessCount.{has_few_accesses, script_accesses, access_count}
+use Rattle.fsb_plan_size.specs.AccessCount.{has_few_accesses, script_accesses, access_count}
 
 -- what all elements pass, the one at an index passes
 pub all_at : {X : Type 0} (p : X → Bool) (xs : List X) (i : ℕ) (d : X) → i < length xs → list_all p xs ≡ true → p (get_or xs i d) ≡ true

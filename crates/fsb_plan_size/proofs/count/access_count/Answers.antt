@@ -1,9 +1,9 @@
 use Rattle.std.proofs.Common.{arith, ◌≡◌, ◌≤◌, length, ◌+◌, take, true, subst, sym, ap, ◌∙◌}
 use Rattle.std.specs.List.{list_all}
 use Rattle.fsb_script.specs.Bounds.{is_lawful_script}
-use Rattle.fsb_top.specs.AccessCount.{access_count}
-use Rattle.fsb_top.proofs.PlanFacts.{script_at, few_items, lawful_items, all_few, count_next}
-use Rattle.fsb_top.proofs.count.access_count.Goals as goal
+use Rattle.fsb_plan_size.specs.AccessCount.{access_count}
+use Rattle.fsb_plan_size.proofs.PlanFacts.{script_at, few_items, lawful_items, all_few, count_next}
+use Rattle.fsb_plan_size.proofs.count.access_count.Goals as goal
 
 lawful : (c : goal.After-as_slice) → is_lawful_script c.args.plan.now.cache c.as_slice.result.now ≡ true
 lawful c = script_at _ c.as_slice-script-items.result.now _ c.script-item.result _ c.loop-script-test.true c.as_slice.ensures c.script-item.is

@@ -2,7 +2,7 @@
 ghost use Rattle.std.specs.Prelude.{◌≡◌, [], ◌∷◌};
 ghost use Rattle.fsb_access.specs.declared.access.Access.{Access};
 ghost use Rattle.fsb_access.specs.declared.item.Item.TheVariants.{One, Locked, Idle};
-ghost use Rattle.fsb_top.specs.AccessCount.{access_count};
+ghost use Rattle.fsb_plan_size.specs.AccessCount.{access_count};
 
 /// The accesses of a locked item count singly, idle items do not count, and those of all scripts count together.
 fn counted_by_hand()

@@ -1,7 +1,7 @@
 //! How many accesses a plan has.
 ghost use Rattle.std.specs.Prelude.{◌≡◌, ◌≤◌, ◌*◌, IsTrue, length};
 ghost use Rattle.std.specs.List.{list_all};
-ghost use Rattle.fsb_top.specs.AccessCount.{item_accesses, has_few_accesses, script_accesses, access_count};
+ghost use Rattle.fsb_plan_size.specs.AccessCount.{item_accesses, has_few_accesses, script_accesses, access_count};
 
 use fsb_access::Item;
 use fsb_script::Plan;
