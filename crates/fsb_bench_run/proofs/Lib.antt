@@ -39,3 +39,4 @@ pub mod AgentsNow
 pub mod HitsCompleted
 pub mod CompletionsNow
 pub mod AsksNow
+pub mod SampleSpaced
