@@ -14,7 +14,7 @@ use Rattle.fsb_bench_view.specs.declared.beginning.Latest.{Latest}
 use Rattle.fsb_bench_view.specs.declared.beginning.Starting.{Starting}
 use Rattle.fsb_bench_view.specs.BenchSteps.{step_decided, step_performed, step_sample, was_held_at}
 use Rattle.fsb_bench_view.specs.BusStarting.{is_spaced_by}
-use Rattle.fsb_bench_view.specs.BusViews.{BenchView, clock_of}
+use Rattle.fsb_bench_view.specs.BusViews.{BenchView, next_clock_of}
 use Rattle.fsb_bench_view.specs.MaySteps.{MaySample}
 use Rattle.fsb_bench_run.specs.BenchOf.{IsBenchOf, IsLatestOf}
 use Rattle.fsb_bench_run.proofs.DrivenLines.{ads-driven}
@@ -54,10 +54,10 @@ not-soon w latest e spaced =
 
 -- a request begins only where it may
 spaced-here : (v : BenchView) (hold : Bool) (starting : Starting) → (step_decided v hold).starting ≡ Some starting
-    → is_spaced_by v.bus.latest (clock_of v) ≡ true
+    → is_spaced_by v.bus.latest (next_clock_of v) ≡ true
 spaced-here v hold starting e =
     let bus = step_performed v in
-    let n = clock_of v in
+    let n = next_clock_of v in
     let held = was_held_at v.run.holds n in
     let k = starting-parts bus (winner_at v.run.trace n) n (step_decided v hold).asked held starting e in
     let same = same-performed v in
@@ -65,7 +65,7 @@ spaced-here v hold starting e =
     ap (λ l. is_spaced_by l n) (sym same.latest) ∙ (and_parts (is_spaced_by bus.latest n) (nat_lt (length bus.queue) 8) room.1).0
 
 soon-by : (v : BenchView) (hold : Bool) (o : Option Starting) → IsBenchOf v → (step_decided v hold).starting ≡ o
-    → (is_some o && (line_back ADS v.run.trace (clock_of v) 1 || line_back ADS v.run.trace (clock_of v) 2)) ≡ false
+    → (is_some o && (line_back ADS v.run.trace (next_clock_of v) 1 || line_back ADS v.run.trace (next_clock_of v) 2)) ≡ false
 soon-by v hold None b e = refl
 soon-by v hold (Some starting) b e = not-soon v.run.trace v.bus.latest b.latest.clock (spaced-here v hold starting e)
 
@@ -74,7 +74,7 @@ unfolding is_too_soon
 may-sample v hold b = record {
   answers = code-now v hold;
   spaced =
-      ap (λ c. c && (line_back ADS v.run.trace (clock_of v) 1 || line_back ADS v.run.trace (clock_of v) 2))
-      (ads-driven (step_performed v) (clock_of v) v.run.plan.profile (step_decided v hold))
+      ap (λ c. c && (line_back ADS v.run.trace (next_clock_of v) 1 || line_back ADS v.run.trace (next_clock_of v) 2))
+      (ads-driven (step_performed v) (next_clock_of v) v.run.plan.profile (step_decided v hold))
       ∙ soon-by v hold (step_decided v hold).starting b refl;
 }
