@@ -19,3 +19,4 @@ pub mod SoundWinning
 pub mod SoundSnooping
 pub mod Settled
 pub mod SoundArriving
+pub mod Interface

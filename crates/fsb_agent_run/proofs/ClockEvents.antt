@@ -215,7 +215,7 @@ one-end p c q first e ends =
     let any : (nat_eq first q || false) ≡ true = sym (ap (list_any (nat_eq first)) e) ∙ ends in
     elim (or_cases (nat_eq first q) false any) [ inl t ↦ eqb-true first q t | inr t ↦ absurd (let no : ⊥ = cc in no) ]
 
-end-there : (p : Past) (c q : ℕ) → ended_requests p c ≡ q ∷ [] → is_end_at p c q ≡ true
+pub end-there : (p : Past) (c q : ℕ) → ended_requests p c ≡ q ∷ [] → is_end_at p c q ≡ true
 unfolding is_end_at
 end-there p c q e = ap (list_any (nat_eq q)) e ∙ rw (eq-eqb q q refl) refl
 

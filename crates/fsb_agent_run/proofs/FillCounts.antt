@@ -16,7 +16,7 @@ count-cons : (line : ℕ) (f : Fill) (fills : List Fill)
     → count_on line (f ∷ fills) ≡ cond (f.line == line) 1 0 + count_on line fills
 count-cons line f fills = sum_by-cons (λ fill. cond (is_fill_on line fill) 1 0) f fills
 
-count-here : (line : ℕ) (f : Fill) (fills : List Fill) (b : Bool) → (f.line == line) ≡ b
+pub count-here : (line : ℕ) (f : Fill) (fills : List Fill) (b : Bool) → (f.line == line) ≡ b
     → count_on line (f ∷ fills) ≡ cond b 1 0 + count_on line fills
 count-here line f fills b e = count-cons line f fills ∙ ap (λ x. cond x 1 0 + count_on line fills) e
 

@@ -20,3 +20,19 @@ pub use Rattle.fsb_agent_run.proofs.OwedApart.{owed-apart, owed-few, sent-apart}
 -- How a request of a symmetric agent is settled, and who awaits what.
 pub use Rattle.fsb_agent_run.proofs.OwnSnoops.{IsSettledAs, settled-as}
 pub use Rattle.fsb_agent_run.proofs.GrantsAwaited.{granted-unawaited, latest-ends, latest-says}
+-- The bytes that an agent owes, from one moment of a clock to the next, and over its clocks.
+pub use Rattle.fsb_agent_run.proofs.FirstOwed.{first-owed}
+pub use Rattle.fsb_agent_run.proofs.GiversNamed.{given-named}
+pub use Rattle.fsb_agent_run.proofs.BytesHandedOn.{hand-there, handed-owed, kept-at-response}
+pub use Rattle.fsb_agent_run.proofs.OwedStages.{claimed-out, other-claimed-owed, own-owed-then, replied-out}
+pub use Rattle.fsb_agent_run.proofs.OwedSnoopEnds.{other-owed-after, unsettled-owed-after}
+pub use Rattle.fsb_agent_run.proofs.OwedEnds.{line-owed, upgrade-owed}
+pub use Rattle.fsb_agent_run.proofs.FewOwed.{most-owed, owed-before}
+pub use Rattle.fsb_agent_run.proofs.ClockOwed.{clock-owed, clocks-owed}
+pub use Rattle.fsb_agent_run.proofs.GrownOwed.{owed-grown}
+-- That the calls of an agent may come.
+pub use Rattle.fsb_agent_run.proofs.MayCalls.{other-may}
+pub use Rattle.fsb_agent_run.proofs.CallsAtStages.{cancelled-seen, own-seen, send-may, tells-grants}
+pub use Rattle.fsb_agent_run.proofs.EndsAtStages.{arrives-seen, given-up-seen, upgrade-seen}
+-- An agent may see its events of a clock, and stays sound.
+pub use Rattle.fsb_agent_run.proofs.SoundEvents.{clock-seen, sound-all, sound-clock}

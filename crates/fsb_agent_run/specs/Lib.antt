@@ -3,3 +3,5 @@ pub mod Stages
 pub mod AgentClocks
 pub mod Ending
 pub mod Owings
+pub mod BytesOwed
+pub mod EventsSeen

@@ -48,7 +48,7 @@ pub use Rattle.fsb_tied.proofs.Ended.{end-below, ended-snooped}
 -- Data that move on a line, and the ends that are awaited there: what it says that they do.
 pub use Rattle.fsb_tied.proofs.Moving.{any-in, any-of}
 -- A request that has begun, and is neither cancelled nor ended, is one that its agent owes.
-pub use Rattle.fsb_tied.proofs.Owing.{cancelled-at, cancelled-below, claim-no-reply, owing-gives}
+pub use Rattle.fsb_tied.proofs.Owing.{cancelled-at, cancelled-below, claim-no-reply, own-owed, owing-gives}
 -- What the snoop end of a reply that grants a line answers: a request that was Deferred on the line, the last one.
 pub use Rattle.fsb_tied.proofs.ReplyEnds.{reply-end-at}
 -- The accesses of a clock of a timely run are served: those of hits, and those that come with the end of another line.
@@ -63,3 +63,5 @@ pub use Rattle.fsb_tied.proofs.Victims.{a-victim, dirty-held, no-victim, rival-o
 pub use Rattle.fsb_tied.proofs.PendingLines.{IsPutOff, turn-so-far}
 -- The machine's line after the events below a clock, and before the clock's snoop end.
 pub use Rattle.fsb_tied.proofs.TiedRuns.{events-may-happen, tied-through}
+-- One agent at most is dirty on a line.
+pub use Rattle.fsb_tied.proofs.OneOwner.{one-dirty}

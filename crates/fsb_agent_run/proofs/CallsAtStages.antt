@@ -1,0 +1,113 @@
+-- When the calls of an agent may come, by its record at the stages of a clock.
+use Rattle.std.proofs.Common.{ℕ, ◌+◌, ◌<◌, ◌≡◌, Bool, true, map, Option, Some, None, refl, sym, ap, subst, ◌∙◌, arith}
+use Rattle.fsb_timely.specs.Past.{Claim, Owing, Past, SnoopEnd}
+use Rattle.fsb_timely.specs.Grants.{begun_at}
+use Rattle.fsb_timely.specs.Runs.{Run, past_of}
+use Rattle.fsb_timely.specs.Wants.{owed}
+use Rattle.fsb_trace.specs.Flight.{is_outstanding}
+use Rattle.fsb_coherent.specs.Awaits.{cancelled_in}
+use Rattle.fsb_tied.proofs.Interface.{begun-want, cancels}
+use Rattle.fsb_run_laws.specs.Reaches.{Reaches}
+use Rattle.fsb_run_laws.proofs.Interface.{cancelled-last, last-outstanding}
+use Rattle.fsb_agent_view.specs.declared.want.OwnRequest.{OwnRequest}
+use Rattle.fsb_agent_view.specs.AgentViews.{AgentView}
+use Rattle.fsb_agent_view.specs.Arriving.{may_give_up}
+use Rattle.fsb_agent_view.specs.OwnRequests.{request_numbered}
+use Rattle.fsb_agent_view.specs.Snooping.{may_commit}
+use Rattle.fsb_agent_view.specs.Sound.{IsSound}
+use Rattle.fsb_agent_view.specs.Wanting.{may_send}
+use Rattle.fsb_agent_run.specs.BytesOwed.{HasBytesOwed}
+use Rattle.fsb_agent_run.specs.Owings.{are_owings_apart}
+use Rattle.fsb_agent_run.specs.RunViews.{HasLines, owing_by}
+use Rattle.fsb_agent_run.specs.Stages.{IsViewAfterHit, IsViewAfterSent, IsViewBeforeSnoop, owed_sent}
+use Rattle.fsb_agent_run.proofs.Among.{Among, among-left}
+use Rattle.fsb_agent_run.proofs.AwaitedFills.{HasFillsOf}
+use Rattle.fsb_agent_run.proofs.BufferCounts.{fill-counted}
+use Rattle.fsb_agent_run.proofs.FewOwed.{within}
+use Rattle.fsb_agent_run.proofs.FillsTold.{fill_out, found_number}
+use Rattle.fsb_agent_run.proofs.MayCalls.{cancelled-may, own-may}
+use Rattle.fsb_agent_run.proofs.OutLists.{find-number, numbered-among, out-there, owing-there}
+use Rattle.fsb_agent_run.proofs.OwedApart.{sent-apart}
+use Rattle.fsb_agent_run.proofs.OwedStages.{IsOwnAt, fills-before, modified-kept}
+use Rattle.fsb_agent_run.proofs.OwedSteps.{owed-there, owing-is, reaches-less}
+use Rattle.fsb_agent_run.proofs.SentViews.{wanted-there}
+
+pub tells-grants : (held alone dirty awaited : ℕ → Bool) (number : ℕ) (v : AgentView) (out : OwnRequest) → IsSound v
+    → HasLines held alone dirty awaited v → request_numbered number v.outs ≡ Some out
+    → out.granted ≡ awaited out.request.line
+tells-grants held alone dirty awaited number v out sound lines found =
+    let line : ℕ = out.request.line in
+    let own = ap (λ k. request_numbered k v.outs) (found_number number v.outs out found) ∙ found in
+    sym (fill_out v out sound own) ∙ fill-counted line v.buffers.fills (awaited line) (lines.fills line)
+
+-- no outstanding request has a number that is still to come
+none-numbered : (r : Run) (a c : ℕ) (v : AgentView) → Reaches r (c + 1) → IsViewAfterHit (past_of r) a c v
+    → request_numbered c v.outs ≡ None
+none-numbered r a c v h view = by (request_numbered c v.outs) refl
+  where
+    by : (o : Option OwnRequest) → request_numbered c v.outs ≡ o → request_numbered c v.outs ≡ None
+    by None e = e
+    by (Some out) e =
+        let k = numbered-among c out v.outs e in
+        let there = owing-there (past_of r) a c (owed (past_of r) a c) v out view.requests k.0 in
+        let is = owing-is r a c (owing_by a out) (reaches-less r c (c + 1) (omega arith) h) there in
+        let before : out.number < c = is.before in
+        let same : out.number ≡ c = k.1 in
+        absurd (omega arith)
+
+pub send-may : (r : Run) (a c : ℕ) (claim : Claim) (v : AgentView) → Reaches r (c + 1)
+    → begun_at (past_of r) c ≡ Some claim → claim.agent ≡ a → IsViewAfterHit (past_of r) a c v → may_send v c c ≡ true
+send-may r a c claim v h begun mine view =
+    let want = wanted-there r a c claim v h begun mine view in
+    let none = none-numbered r a c v h view in
+    rw (want.1, none) refl
+
+pub own-seen : (r : Run) (a c number : ℕ) (s : SnoopEnd) (v : AgentView) → Reaches r (c + 1)
+    → IsOwnAt (past_of r) a c number s v → IsSound v → IsViewBeforeSnoop (past_of r) a c v
+    → HasBytesOwed (past_of r) a c (c + 1) c v → may_commit v number true s.outcome ≡ true
+own-seen r a c number s v h k sound view owed =
+    ap (λ q. may_commit v q true s.outcome) (sym k.numbered)
+    ∙ own-may r a c s k.out v h.timely h.bounds (within r c h.long) k.own sound k.found
+    (modified-kept r a c k.out.request.line v h view) (fills-before (past_of r) a c v view) owed
+
+-- a request of the agent's that is outstanding before the clock's cancellation is one of the record's
+sent-out : (r : Run) (a c q : ℕ) (claim : Claim) (v : AgentView) → Reaches r (c + 1)
+    → begun_at (past_of r) q ≡ Some claim → claim.agent ≡ a → q < c → is_outstanding r.trace c q ≡ true
+    → IsViewAfterSent (past_of r) a c v
+    → (out : OwnRequest) × (out.number ≡ q) × (request_numbered out.number v.outs ≡ Some out)
+    × (out.request.line ≡ claim.line)
+unfolding owed_sent
+sent-out r a c q claim v h begun mine below out view =
+    let p : Past = past_of r in
+    let long = h.long in
+    let want = begun-want r q claim h.timely h.bounds (omega arith) begun in
+    let owing = owed-there r c q claim (reaches-less r c (c + 1) (omega arith) h) begun below out in
+    let among : Among owing.0 (owed p a c) = subst (λ b. Among owing.0 (owed p b c)) mine owing.1 in
+    let sent : Among owing.0 (owed_sent p a c) = among-left owing.0 (owed p a c) _ among in
+    let found = out-there p a c (owed_sent p a c) v owing.0 view.requests sent in
+    let apart : are_owings_apart p (map (owing_by a) v.outs) ≡ true =
+    ap (are_owings_apart p) view.requests.owed ∙ sent-apart r a c h in
+    let first : found.0.number ≡ q =
+    ap (λ (o : Owing). o.claim.first) found.2 ∙ ap (λ (x : Claim). x.first) owing.2 ∙ want.first in (
+      found.0,
+      first,
+      find-number p a found.0 v.outs apart found.1,
+      ap (λ (o : Owing). o.claim.line) found.2 ∙ ap (λ (x : Claim). x.line) owing.2,
+    )
+
+pub cancelled-seen : (r : Run) (a c q : ℕ) (claim : Claim) (v : AgentView) → Reaches r (c + 1)
+    → cancelled_in (past_of r) c ≡ Some q → begun_at (past_of r) q ≡ Some claim → claim.agent ≡ a → IsSound v
+    → IsViewAfterSent (past_of r) a c v → may_give_up v q ≡ true
+cancelled-seen r a c q claim v h cancelled begun mine sound view =
+    let p : Past = past_of r in
+    let long = h.long in
+    let at = cancels r c q (omega arith) cancelled in
+    let clock : c ≡ q + 3 = at.0 in
+    let want = begun-want r q claim h.timely h.bounds (omega arith) begun in
+    let last = cancelled-last r c q h cancelled in
+    let o = sent-out r a c q claim v h begun mine (omega arith) (last-outstanding r c q claim h begun
+    (omega arith) last) view in
+    let fills : HasFillsOf p a c c v = record { fills = view.lines.fills } in
+    ap (may_give_up v) (sym o.1)
+    ∙ cancelled-may r a c claim o.0 v h.timely h.bounds (within r c h.long) (cancelled ∙ ap Some (sym want.first)) mine
+    (sym o.3) sound (ap (begun_at p) want.first ∙ begun) o.2 fills

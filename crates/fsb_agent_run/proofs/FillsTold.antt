@@ -1,0 +1,109 @@
+-- Fills of an agent's buffers, and what a sound agent tells by them of its requests and lines.
+use Rattle.std.proofs.Common.{ℕ, ◌+◌, ◌≡◌, ◌≢◌, Bool, true, false, cond, Some, None, List, [], ◌∷◌, ◌++◌, refl, sym, ap, ◌∙◌, inl, inr, arith}
+use Rattle.std.specs.Prelude.{◌==◌, ◌||◌, count_by, is_none, is_some}
+use Rattle.std.specs.Bool.{beq}
+use Rattle.std.specs.List.{find}
+use Rattle.std.proofs.lemmas.Bool.{cases_Bool, eqb-true, ne_eqb}
+use Rattle.std.proofs.lemmas.List.Sums.{sum_by-cons}
+use Rattle.fsb_cache.specs.Sets.{slot_of}
+use Rattle.fsb_linebuf.specs.declared.entry.Fill.{Fill}
+use Rattle.fsb_linebuf.specs.Buffers.{fill_on, fills_without, is_fill_on, promise_on}
+use Rattle.fsb_agent_view.specs.declared.want.OwnRequest.{OwnRequest}
+use Rattle.fsb_agent_view.specs.AgentViews.{AgentView}
+use Rattle.fsb_agent_view.specs.OwnRequests.{is_numbered, request_numbered}
+use Rattle.fsb_agent_view.specs.Sound.{IsSound, is_only, is_sound_request}
+use Rattle.fsb_agent_view.proofs.Interface.{both_left, both_right, list_all-found, without_first-cons}
+
+-- the fill of another line when one has ended
+pub fill_on-without : (line other : ℕ) (fills : List Fill) → line ≢ other
+    → fill_on line (fills_without other fills) ≡ fill_on line fills
+fill_on-without line other [] apart = refl
+fill_on-without line other (f ∷ fills) apart =
+    rw (without_first-cons (is_fill_on other) f fills)
+    (elim (cases_Bool (f.line == other)) [
+      | inl on ↦
+          let is : f.line ≡ other = grind arith in
+          rw (on, ne_eqb f.line line (λ e. apart (sym e ∙ is))) refl
+      | inr off ↦ rw off (ap (λ rest. cond (f.line == line) (Some f) rest) (fill_on-without line other fills apart))
+    ])
+
+-- how many are promised
+abbrev pub promised_count : List Fill → ℕ
+promised_count fills = count_by (λ fill. is_some fill.promise) fills
+
+pub promised_count-cons : (f : Fill) (fills : List Fill)
+    → promised_count (f ∷ fills) ≡ cond (is_some f.promise) 1 0 + promised_count fills
+promised_count-cons f fills = sum_by-cons (λ fill. cond (is_some fill.promise) 1 0) f fills
+
+pub promised_count-push : (line number : ℕ) (fills : List Fill)
+    → promised_count (fills ++ record { line = line; number = number; promise = None } ∷ []) ≡ promised_count fills
+promised_count-push line number [] = refl
+promised_count-push line number (f ∷ fills) =
+    promised_count-cons f (fills ++ record { line = line; number = number; promise = None } ∷ [])
+    ∙ ap (λ n. cond (is_some f.promise) 1 0 + n) (promised_count-push line number fills)
+    ∙ sym (promised_count-cons f fills)
+
+-- what was promised of a fill that has ended
+pub promised_count-without : (line : ℕ) (fills : List Fill)
+    → promised_count (fills_without line fills) + cond (is_some (promise_on line fills)) 1 0 ≡ promised_count fills
+promised_count-without line [] = refl
+promised_count-without line (f ∷ fills) =
+    elim (cases_Bool (f.line == line)) [
+      | inl on ↦
+          let rest : fills_without line (f ∷ fills) ≡ fills =
+          without_first-cons (is_fill_on line) f fills ∙ ap (λ b. cond b fills (f ∷ fills_without line fills)) on in
+          let promise : promise_on line (f ∷ fills) ≡ f.promise = rw on refl in
+          omega (
+            arith,
+            ap promised_count rest,
+            ap {B = ℕ} (λ o. cond
+                (is_some o) 1 0) promise,
+            promised_count-cons f fills,
+          )
+      | inr off ↦
+          let rest : fills_without line (f ∷ fills) ≡ f ∷ fills_without line fills =
+          without_first-cons (is_fill_on line) f fills ∙ ap (λ b. cond b fills (f ∷ fills_without line fills)) off in
+          let promise : promise_on line (f ∷ fills) ≡ promise_on line fills = rw off refl in
+          omega (
+            arith,
+            ap promised_count rest,
+            ap {B = ℕ} (λ o. cond
+                (is_some o) 1 0) promise,
+            promised_count-cons f
+                (fills_without line fills),
+            promised_count-cons f fills,
+            promised_count-without line fills,
+          )
+    ]
+
+-- what is found passes
+pub found-passes : {X : Type 0} (test : X → Bool) (xs : List X) (x : X) → find test xs ≡ Some x → test x ≡ true
+found-passes test [] x found = absurd (let h : ⊥ = cc in h)
+found-passes test (y ∷ ys) x found =
+    elim (cases_Bool (test y)) [
+      | inl on ↦ let same : Some y ≡ Some x = rw on at found in (let is : y ≡ x = cc in ap test (sym is) ∙ on)
+      | inr off ↦ found-passes test ys x (rw off at found)
+    ]
+
+-- a request that is found has that number, and is found by it
+pub found_number : (number : ℕ) (outs : List OwnRequest) (out : OwnRequest)
+    → request_numbered number outs ≡ Some out → out.number ≡ number
+found_number number outs out found = eqb-true out.number number (found-passes (is_numbered number) outs out found)
+
+-- what a request tells of its line
+pub sound_out : (v : AgentView) (out : OwnRequest) → IsSound v → request_numbered out.number v.outs ≡ Some out
+    → is_sound_request v.lines v.buffers.fills out ≡ true
+sound_out v out s found = list_all-found (is_sound_request v.lines v.buffers.fills)
+    (is_numbered out.number) v.outs out s.requests found
+
+same_bool : (a b : Bool) → beq a b ≡ true → a ≡ b
+same_bool true true h = refl
+same_bool true false h = sym h
+same_bool false true h = h
+same_bool false false h = refl
+
+pub fill_out : (v : AgentView) (out : OwnRequest) → IsSound v → request_numbered out.number v.outs ≡ Some out
+    → is_some (fill_on out.request.line v.buffers.fills) ≡ out.granted
+fill_out v out s found =
+    same_bool _ _ (both_right (is_only out.request.line (slot_of v.lines out.request.line)) _ (both_left _
+    (out.granted || is_none out.kept) (sound_out v out s found)))

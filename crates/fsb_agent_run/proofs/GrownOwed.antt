@@ -1,0 +1,246 @@
+-- What an agent owes stays as it is where the run grows by a clock.
+use Rattle.std.proofs.Common.{ℕ, zero, suc, ◌+◌, ◌<◌, ◌≤◌, ◌≡◌, Bool, false, not, ◌&&◌, if◌then◌else◌, nat_eq, List, [], ◌∷◌, nat_le, take, slice_get, length, Option, Some, None, refl, sym, ap, ◌∙◌, inl, inr, arith}
+use Rattle.std.proofs.lemmas.Bool.{cases_lt, eqb-true, false_from_ne_true}
+use Rattle.std.specs.List.{list_any}
+use Rattle.std.specs.Option.{option_and_then, option_map, option_map_or}
+use Rattle.fsb_count.specs.Clocks.{AgreeBelow, from_clock, last_where}
+use Rattle.fsb_count.specs.Options.{is_at, is_some_and}
+use Rattle.fsb_count.proofs.Interface.{any_where-off, any_where-same, count_where-same}
+use Rattle.fsb_trace.specs.declared.outcome.Outcome.TheVariants as outcomes
+use Rattle.fsb_timely.specs.Grants.{begun_at, ended_requests, grant_at, is_end_at, is_ended, is_granted, latest_grant, snooped_at}
+use Rattle.fsb_timely.specs.Growth.{GrowsTo, IsWhole}
+use Rattle.fsb_timely.specs.Past.{Claim, Grant, Moment, Past, SnoopEnd}
+use Rattle.fsb_timely.specs.Runs.{Run, past_of, past_to}
+use Rattle.fsb_timely.proofs.Interface.{last-same, last_where-found, past-same, tied-snoop}
+use Rattle.fsb_lawful.proofs.Interface.{some-and}
+use Rattle.fsb_coherent.specs.Awaits.{owner_at, responded_in}
+use Rattle.fsb_coherent.specs.Relation.{giver_at, is_responded_below}
+use Rattle.fsb_tied.proofs.Interface.{snooped-by}
+use Rattle.fsb_run_laws.specs.Reaches.{Reaches}
+use Rattle.fsb_agent_view.specs.AgentViews.{AgentView}
+use Rattle.fsb_agent_run.specs.BytesOwed.{HasBytesOwed, claim_given_at, claim_given_by, given_since, gives_claim, gives_line_at, is_given_below, is_promised, is_pushed, owes_bytes_from, promise_told}
+use Rattle.fsb_agent_run.specs.RunViews.{is_awaited}
+use Rattle.fsb_agent_run.proofs.GivenBytes.{given}
+
+-- two pasts have the same moments below n, and are the same up to each clock below n
+pub record SharesBelow (n : ℕ) (p q : Past) : Type 0 where
+  pub moments : (t : ℕ) → t < n → slice_get p.moments t ≡ slice_get q.moments t
+  pub pasts : (t : ℕ) → t < n → past_to p t ≡ past_to q t
+
+get-cut : {X : Type 0} (n : ℕ) (xs : List X) (k : ℕ) → k < n → slice_get (take n xs) k ≡ slice_get xs k
+get-cut zero xs k l = absurd (omega arith)
+get-cut (suc n) [] k l = refl
+get-cut (suc n) (x ∷ xs) zero l = refl
+get-cut (suc n) (x ∷ xs) (suc k) l = get-cut n xs k (omega arith)
+
+cut-moments : (p : Past) (t : ℕ) → slice_get (past_to p t).moments t ≡ slice_get p.moments t
+unfolding past_to
+cut-moments p t = get-cut (t + 1) p.moments t (omega arith)
+
+pub shares-grown : (r s : Run) → GrowsTo r s → SharesBelow (length r.trace) (past_of r) (past_of s)
+shares-grown r s h =
+    let old : IsWhole r = record { one_hold = h.timely.one_hold; one_choice = h.timely.one_choice } in
+    let pasts : (t : ℕ) → t < length r.trace → past_to (past_of r) t ≡ past_to (past_of s) t =
+    λ t l. sym (past-same r s t h.next old l) in
+    record {
+      moments = λ t l.
+          sym (cut-moments (past_of r) t)
+          ∙ ap (λ (p : Past). slice_get p.moments t) (pasts t l)
+          ∙ cut-moments (past_of s) t;
+      pasts = pasts;
+    }
+
+-- what is at a clock
+snooped-same : (n : ℕ) (p q : Past) (t : ℕ) → SharesBelow n p q → t < n → snooped_at p t ≡ snooped_at q t
+unfolding snooped_at
+snooped-same n p q t h l = ap (option_and_then (λ (m : Moment). m.snooped)) (h.moments t l)
+
+begun-same : (n : ℕ) (p q : Past) (t : ℕ) → SharesBelow n p q → t < n → begun_at p t ≡ begun_at q t
+unfolding begun_at
+begun-same n p q t h l =
+    ap (λ o. option_map (λ owing. owing.claim) (option_and_then (λ (m : Moment). m.begun) o)) (h.moments t l)
+
+responded-same : (n : ℕ) (p q : Past) (t : ℕ) → SharesBelow n p q → t < n → responded_in p t ≡ responded_in q t
+unfolding responded_in
+responded-same n p q t h l = ap (option_and_then (λ (m : Moment). m.responded)) (h.moments t l)
+
+end-same : (n : ℕ) (p q : Past) (t x : ℕ) → SharesBelow n p q → t < n → is_end_at p t x ≡ is_end_at q t x
+unfolding is_end_at ended_requests
+end-same n p q t x h l =
+    ap (λ o. list_any (nat_eq x) (option_map_or (λ (m : Moment). m.ended) o [])) (h.moments t l)
+
+grant-same : (n : ℕ) (p q : Past) (t : ℕ) → SharesBelow n p q → t < n → grant_at p t ≡ grant_at q t
+unfolding grant_at
+grant-same n p q t h l = ap (option_and_then (λ (s : SnoopEnd). s.grant)) (snooped-same n p q t h l)
+
+granted-same : (n : ℕ) (p q : Past) (a line t : ℕ) → SharesBelow n p q → t < n
+    → is_granted p a line t ≡ is_granted q a line t
+unfolding is_granted
+granted-same n p q a line t h l =
+    ap (λ o. is_some_and o (λ (grant : Grant). nat_eq grant.agent a && nat_eq grant.line line)) (grant-same n p q t h l)
+
+giver-same : (n : ℕ) (p q : Past) (line t a : ℕ) (s : SnoopEnd) → SharesBelow n p q → t < n
+    → giver_at p line t a s ≡ giver_at q line t a s
+unfolding giver_at
+giver-same n p q line t a s h l =
+    let past = h.pasts t l in
+    λ i. elim s.outcome [
+      | outcomes.Granted ↦ None
+      | outcomes.Handed ↦ owner_at (past i) a line t
+      | outcomes.Retried ↦ None
+      | outcomes.Deferred ↦ None
+      | outcomes.Written ↦ Some a
+      | outcomes.Replied ↦ None
+      | outcomes.Failed ↦ None
+      | outcomes.Upgraded ↦ None
+    ]
+
+pub given-same : (n : ℕ) (p q : Past) (a t : ℕ) → SharesBelow n p q → t < n
+    → claim_given_at p a t ≡ claim_given_at q a t
+unfolding claim_given_at claim_given_by gives_claim
+given-same n p q a t h l =
+    let snooped = snooped-same n p q t h l in
+    let giver : (s : SnoopEnd) (claim : Claim)
+    → giver_at p claim.line t claim.agent s ≡ giver_at q claim.line t claim.agent s =
+    λ s claim. giver-same n p q claim.line t claim.agent s h l in
+    λ i.
+    option_and_then (λ (s : SnoopEnd). option_and_then (λ (claim : Claim).
+    if is_at (giver s claim i) a then Some claim else None) s.claim) (snooped i)
+
+-- what is below a clock
+given-below-same : (n : ℕ) (p q : Past) (a x : ℕ) → SharesBelow n p q → is_given_below p a n x ≡ is_given_below q a n x
+unfolding is_given_below
+given-below-same n p q a x h =
+    any_where-same (λ t. is_some_and (claim_given_at p a t) (λ claim. nat_eq claim.first x))
+    (λ t. is_some_and (claim_given_at q a t) (λ claim. nat_eq claim.first x)) n (record {
+      same = λ t l. ap (λ o. is_some_and o (λ (claim : Claim). nat_eq claim.first x)) (given-same n p q a t h l);
+    })
+
+responded-below-same : (n : ℕ) (p q : Past) (x : ℕ) → SharesBelow n p q
+    → is_responded_below p n x ≡ is_responded_below q n x
+unfolding is_responded_below
+responded-below-same n p q x h =
+    any_where-same (λ t. is_at (responded_in p t) x) (λ t. is_at (responded_in q t) x) n (record {
+      same = λ t l. ap (λ o. is_at o x) (responded-same n p q t h l);
+    })
+
+ended-same : (n : ℕ) (p q : Past) (x : ℕ) → SharesBelow n p q → is_ended p n x ≡ is_ended q n x
+unfolding is_ended
+ended-same n p q x h =
+    any_where-same (λ t. is_end_at p t x) (λ t. is_end_at q t x) n (record { same = λ t l. end-same n p q t x h l })
+
+-- the last clock that passes a test, and what there is at it
+at-last : {X : Type 0} (f : ℕ → Bool) (g k : ℕ → Option X) (n : ℕ) → ((t : ℕ) → t < n → g t ≡ k t)
+    → (o : Option ℕ) → last_where f n ≡ o → option_and_then g o ≡ option_and_then k o
+at-last f g k n same None e = refl
+at-last f g k n same (Some t) e = same t (last_where-found f n t e).0
+
+latest-same : (n : ℕ) (p q : Past) (a line : ℕ) → SharesBelow n p q → latest_grant p a line n ≡ latest_grant q a line n
+unfolding latest_grant
+latest-same n p q a line h =
+    let tests : AgreeBelow n (is_granted p a line) (is_granted q a line) =
+    record { same = λ t l. granted-same n p q a line t h l } in
+    at-last (is_granted p a line) (grant_at p) (grant_at q) n (λ t l. grant-same n p q t h l)
+    (last_where (is_granted p a line) n) refl
+    ∙ ap (option_and_then (grant_at q)) (last-same (is_granted p a line) (is_granted q a line) n tests)
+
+awaited-same : (n : ℕ) (p q : Past) (a line : ℕ) → SharesBelow n p q → is_awaited p a line n n ≡ is_awaited q a line n n
+unfolding is_awaited
+awaited-same n p q a line h =
+    let latest = latest-same n p q a line h in
+    let ended : (x : ℕ) → is_ended p n x ≡ is_ended q n x = λ x. ended-same n p q x h in
+    λ i. is_some_and (latest i) (λ (grant : Grant). not (ended grant.first i))
+
+since-same : (n : ℕ) (p q : Past) (a line t : ℕ) → SharesBelow n p q → t < n
+    → given_since p a line n t ≡ given_since q a line n t
+unfolding given_since from_clock
+since-same n p q a line t h l =
+    let granted = any_where-same (from_clock (t + 1) (is_granted p a line)) (from_clock (t + 1) (is_granted q a line)) n
+    (record { same = λ u k. ap (λ b. nat_le (t + 1) u && b) (granted-same n p q a line u h k) }) in
+    let claim = given-same n p q a t h l in
+    λ i. if granted i then None else option_map (λ (c : Claim). c.first) (claim i)
+
+promise-same : (n : ℕ) (p q : Past) (a line : ℕ) → SharesBelow n p q
+    → promise_told p a line n n ≡ promise_told q a line n n
+unfolding promise_told gives_line_at
+promise-same n p q a line h =
+    let f : ℕ → Bool = λ t. is_some_and (claim_given_at p a t) (λ (claim : Claim). nat_eq claim.line line) in
+    let g : ℕ → Bool = λ t. is_some_and (claim_given_at q a t) (λ (claim : Claim). nat_eq claim.line line) in
+    let tests : AgreeBelow n f g = record {
+      same = λ t l. ap (λ o. is_some_and o (λ (claim : Claim). nat_eq claim.line line)) (given-same n p q a t h l);
+    } in
+    let awaited = awaited-same n p q a line h in
+    let last =
+    at-last f (given_since p a line n) (given_since q a line n) n (λ t l. since-same n p q a line t h l)
+    (last_where f n) refl
+    ∙ ap (option_and_then (given_since q a line n)) (last-same f g n tests) in
+    λ i. if awaited i then last i else None
+
+promised-same : (n : ℕ) (p q : Past) (a x : ℕ) → SharesBelow n p q → x < n
+    → is_promised p a n n x ≡ is_promised q a n n x
+unfolding is_promised
+promised-same n p q a x h l =
+    let begun = begun-same n p q x h l in
+    let promise : (line : ℕ) → promise_told p a line n n ≡ promise_told q a line n n =
+    λ line. promise-same n p q a line h in
+    λ i. is_some_and (begun i) (λ (claim : Claim). is_at (promise claim.line i) x)
+
+-- an agent gives bytes below a clock only for what began below it
+given-early : (r : Run) (a n x : ℕ) → Reaches r n → n ≤ x → is_given_below (past_of r) a n x ≡ false
+unfolding is_given_below
+given-early r a n x h late =
+    any_where-off (λ t. is_some_and (claim_given_at (past_of r) a t) (λ claim. nat_eq claim.first x)) n (λ t low.
+    false_from_ne_true _ (λ e.
+    let g = some-and (claim_given_at (past_of r) a t) (λ (claim : Claim). nat_eq claim.first x) e in
+    let long = h.long in
+    let k = given r a t g.0 h.timely h.bounds (omega arith) g.1 in
+    let tied = tied-snoop r t k.at.end k.at.there in
+    let above : k.at.end.first + 4 ≤ t = (snooped-by r t tied.0 k.at.end tied.1).above in
+    let first : g.0.first ≡ k.at.end.first = k.first in
+    let same : g.0.first ≡ x = eqb-true g.0.first x g.2 in
+    omega arith))
+
+pushed-same : (n : ℕ) (r : Run) (q : Past) (a x : ℕ) → Reaches r n → SharesBelow n (past_of r) q
+    → is_pushed (past_of r) a n n n x ≡ is_pushed q a n n n x
+unfolding is_pushed
+pushed-same n r q a x h shares =
+    let given = given-below-same n (past_of r) q a x shares in
+    let responded = responded-below-same n (past_of r) q x shares in
+    elim (cases_lt x n) [
+      | inl low ↦
+          let promised = promised-same n (past_of r) q a x shares low in
+          λ i. given i && not (responded i) && not (promised i)
+      | inr late ↦
+          let none = given-early r a n x h late in
+          rw (none, sym given ∙ none) refl
+    ]
+
+owes-same : (n : ℕ) (p q : Past) (a t : ℕ) → SharesBelow n p q → t < n
+    → owes_bytes_from p a n t ≡ owes_bytes_from q a n t
+unfolding owes_bytes_from
+owes-same n p q a t h l =
+    let given = given-same n p q a t h l in
+    let responded : (x : ℕ) → is_responded_below p n x ≡ is_responded_below q n x =
+    λ x. responded-below-same n p q x h in
+    λ i. is_some_and (given i) (λ (claim : Claim). not (responded claim.first i))
+
+less-shared : (n m : ℕ) (p q : Past) → n ≤ m → SharesBelow m p q → SharesBelow n p q
+less-shared n m p q l h = record {
+  moments = λ t k. h.moments t (omega arith);
+  pasts = λ t k. h.pasts t (omega arith);
+}
+
+-- the record of an agent has what it owes in the run that has grown
+pub owed-grown : (r s : Run) (a n : ℕ) (v : AgentView) → GrowsTo r s → Reaches r n
+    → HasBytesOwed (past_of r) a n n n v → HasBytesOwed (past_of s) a n n n v
+owed-grown r s a n v grows h has =
+    let p : Past = past_of r in
+    let q : Past = past_of s in
+    let shares = less-shared n (length r.trace) p q h.long (shares-grown r s grows) in
+    record {
+      pushes = λ x. has.pushes x ∙ ap (λ b. if b then 1 else 0) (pushed-same n r q a x h shares);
+      promises = λ line. has.promises line ∙ promise-same n p q a line shares;
+      count = has.count
+          ∙ count_where-same (owes_bytes_from p a n) (owes_bytes_from q a n) n
+          (record { same = λ t l. owes-same n p q a t shares l });
+    }

@@ -1,0 +1,114 @@
+-- What is promised of a line, one snoop end further.
+use Rattle.std.proofs.Common.{ℕ, ◌+◌, ◌≡◌, Bool, true, false, not, ◌&&◌, ◌||◌, if◌then◌else◌, Option, Some, None, nat_le, refl, ap, ◌∙◌, arith, add-one}
+use Rattle.std.specs.Option.{option_and_then, option_map}
+use Rattle.std.proofs.lemmas.Bool.{eq-eqb, le-leb, lt-leb}
+use Rattle.fsb_count.specs.Clocks.{any_where, from_clock, last_where}
+use Rattle.fsb_count.specs.Options.{is_at, is_some_and}
+use Rattle.fsb_count.proofs.Interface.{any_where-at, any_where-more, any_where-off, last_where-failed, last_where-passed}
+use Rattle.fsb_timely.specs.Past.{Claim, Grant, Past}
+use Rattle.fsb_timely.specs.Grants.{begun_at, is_ended, is_granted}
+use Rattle.fsb_timely.proofs.Interface.{last_where-found, latest_grant-more}
+use Rattle.fsb_agent_run.specs.BytesOwed.{claim_given_at, given_since, gives_line_at, is_promised, promise_told}
+use Rattle.fsb_agent_run.specs.RunViews.{is_awaited}
+
+-- a line that is not granted is awaited as before
+pub awaited-kept : (p : Past) (a line c : ℕ) → is_granted p a line c ≡ false
+    → is_awaited p a line (c + 1) c ≡ is_awaited p a line c c
+unfolding is_awaited
+awaited-kept p a line c none =
+    ap (λ o. is_some_and o (λ (grant : Grant). not (is_ended p c grant.first)))
+    (latest_grant-more p a line c ∙ rw none refl)
+
+-- a line that is not awaited is not promised
+pub unawaited-unpromised : (p : Past) (a line n c : ℕ) → is_awaited p a line n c ≡ false
+    → promise_told p a line n c ≡ None
+unfolding promise_told
+unawaited-unpromised p a line n c none = rw none refl
+
+since-kept : (p : Past) (a line c t : ℕ) → is_granted p a line c ≡ false
+    → given_since p a line (c + 1) t ≡ given_since p a line c t
+unfolding given_since from_clock
+since-kept p a line c t none =
+    let same : any_where (from_clock (t + 1) (is_granted p a line)) (c + 1)
+    ≡ any_where (from_clock (t + 1) (is_granted p a line)) c =
+    any_where-more (from_clock (t + 1) (is_granted p a line)) c
+    ∙ rw none (nothing (any_where (from_clock (t + 1) (is_granted p a line)) c) (nat_le (t + 1) c)) in
+    ap (λ b. if b then None else option_map (λ (claim : Claim). claim.first) (claim_given_at p a t)) same
+  where
+    nothing : (x y : Bool) → (x || (y && false)) ≡ x
+    nothing true y = refl
+    nothing false true = refl
+    nothing false false = refl
+
+last-kept : (p : Past) (a line c : ℕ) → gives_line_at p a line c ≡ false
+    → last_where (gives_line_at p a line) (c + 1) ≡ last_where (gives_line_at p a line) c
+last-kept p a line c none = rw add-one (last_where-failed (gives_line_at p a line) c none)
+
+-- where the line is neither given nor granted, its promise stays
+pub promise-kept : (p : Past) (a line c : ℕ) → gives_line_at p a line c ≡ false → is_granted p a line c ≡ false
+    → promise_told p a line (c + 1) c ≡ promise_told p a line c c
+unfolding promise_told
+promise-kept p a line c ungiven ungranted =
+    let awaited = awaited-kept p a line c ungranted in
+    let last = last-kept p a line c ungiven in
+    let told = ap (option_and_then (given_since p a line (c + 1))) last ∙ by (last_where (gives_line_at p a line) c) in
+    λ i. if awaited i then told i else None
+  where
+    by : (o : Option ℕ) → option_and_then (given_since p a line (c + 1)) o ≡ option_and_then (given_since p a line c) o
+    by None = refl
+    by (Some t) = since-kept p a line c t ungranted
+
+-- where it is granted, nothing is promised of it
+pub promise-granted : (p : Past) (a line c : ℕ) → gives_line_at p a line c ≡ false → is_granted p a line c ≡ true
+    → promise_told p a line (c + 1) c ≡ None
+unfolding promise_told given_since from_clock
+promise-granted p a line c ungiven granted =
+    let told = ap (option_and_then (given_since p a line (c + 1))) (last-kept p a line c ungiven)
+    ∙ by (last_where (gives_line_at p a line) c) refl in
+    ap (λ o. if is_awaited p a line (c + 1) c then o else None) told ∙ either (is_awaited p a line (c + 1) c)
+  where
+    either : (b : Bool) → ◌≡◌ {A = Option ℕ} (if b then None else None) None
+    either true = refl
+    either false = refl
+
+    by : (o : Option ℕ) → last_where (gives_line_at p a line) c ≡ o
+        → option_and_then (given_since p a line (c + 1)) o ≡ None
+    by None e = refl
+    by (Some t) e =
+        let below = (last_where-found (gives_line_at p a line) c t e).0 in
+        let since : any_where (from_clock (t + 1) (is_granted p a line)) (c + 1) ≡ true =
+        any_where-at (from_clock (t + 1) (is_granted p a line)) (c + 1) c (omega arith)
+        (rw (le-leb (t + 1) c (omega arith)) granted) in
+        rw since refl
+
+-- where it is given and awaited, it is promised
+pub promise-made : (p : Past) (a c : ℕ) (claim : Claim) → claim_given_at p a c ≡ Some claim
+    → is_granted p a claim.line c ≡ false → is_awaited p a claim.line c c ≡ true
+    → promise_told p a claim.line (c + 1) c ≡ Some claim.first
+unfolding promise_told given_since from_clock gives_line_at is_some_and
+promise-made p a c claim gives ungranted awaits =
+    let line : ℕ = claim.line in
+    let awaited : is_awaited p a line (c + 1) c ≡ true = awaited-kept p a line c ungranted ∙ awaits in
+    let here : gives_line_at p a line c ≡ true = rw gives (eq-eqb line line refl) in
+    let last : last_where (gives_line_at p a line) (c + 1) ≡ Some c =
+    rw add-one (last_where-passed (gives_line_at p a line) c here) in
+    let none : any_where (from_clock (c + 1) (is_granted p a line)) (c + 1) ≡ false =
+    any_where-off (from_clock (c + 1) (is_granted p a line)) (c + 1) (λ t low. rw (lt-leb (c + 1) t low) refl) in
+    rw (awaited, last, none, gives) refl
+
+-- and where it is given and not awaited, nothing is promised of it
+pub promise-unawaited : (p : Past) (a line c : ℕ) → is_granted p a line c ≡ false → is_awaited p a line c c ≡ false
+    → promise_told p a line (c + 1) c ≡ None
+promise-unawaited p a line c ungranted none =
+    unawaited-unpromised p a line (c + 1) c (awaited-kept p a line c ungranted ∙ none)
+
+-- where each promise is the same, so is what is promised to a request
+pub promised-same : (p : Past) (a n c m d q : ℕ) → ((line : ℕ) → promise_told p a line m d ≡ promise_told p a line n c)
+    → is_promised p a m d q ≡ is_promised p a n c q
+unfolding is_promised is_some_and
+promised-same p a n c m d q same = by (begun_at p q)
+  where
+    by : (o : Option Claim) → is_some_and o (λ claim. is_at (promise_told p a claim.line m d) q)
+        ≡ is_some_and o (λ claim. is_at (promise_told p a claim.line n c) q)
+    by None = refl
+    by (Some claim) = ap (λ o. is_at o q) (same claim.line)

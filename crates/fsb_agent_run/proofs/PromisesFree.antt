@@ -1,0 +1,82 @@
+-- A line on which an agent is dirty is promised to nobody.
+use Rattle.std.proofs.Common.{ℕ, ◌+◌, ◌<◌, ◌≤◌, ◌≡◌, ◌≢◌, Bool, true, not, ◌&&◌, ◌||◌, Option, Some, None, length, refl, sym, ap, ◌∙◌, inl, inr, arith}
+use Rattle.std.proofs.lemmas.Bool.{and_parts, both_ways, eq-eqb, le-leb, ne_eqb, not-true, or_left, or_right}
+use Rattle.fsb_count.specs.Clocks.{any_where, from_clock, holds_since, last_where}
+use Rattle.fsb_count.specs.Options.{is_some_and}
+use Rattle.fsb_count.proofs.Interface.{any_where-at}
+use Rattle.fsb_encode.specs.declared.request.Kind.TheVariants.{WriteBack}
+use Rattle.fsb_trace.specs.Requests.{is_write_back_kind}
+use Rattle.fsb_timely.specs.Past.{Claim, Past, SnoopEnd}
+use Rattle.fsb_timely.specs.Grants.{holds_line, is_claim_of, is_claim_of_other, is_evicted, is_exclusive, is_granted, is_lost, is_named_by_other, is_snooped, is_sole_grant, is_taken_away, is_written_back, latest_grant, snooped_at}
+use Rattle.fsb_timely.specs.Hits.{is_dirty, is_stored_since}
+use Rattle.fsb_timely.specs.Runs.{Run, past_of}
+use Rattle.fsb_timely.specs.Timely.{Timely}
+use Rattle.fsb_lawful.specs.Beginning.{KeepsBounds}
+use Rattle.fsb_agent_run.specs.BytesOwed.{promise_told}
+use Rattle.fsb_agent_run.proofs.GivenBytes.{given, gives-by, written-kind}
+use Rattle.fsb_agent_run.proofs.PromisesTold.{awaits-by, promised-at, promised-later}
+
+-- where something has been lost since the last gain it has not held since
+lost-since : (gain loss : ℕ → Bool) (n c t : ℕ) → last_where gain n ≡ Some c → c < t → t < n → loss t ≡ true
+    → holds_since gain loss n ≡ true → ⊥
+unfolding holds_since from_clock
+lost-since gain loss n c t last late below lost holds =
+    let kept : not (any_where (from_clock (c + 1) loss) n) ≡ true = rw (last, holds_since) at holds in
+    both_ways (any_where (from_clock (c + 1) loss) n) (not-true (any_where (from_clock (c + 1) loss) n) kept)
+    (any_where-at (from_clock (c + 1) loss) n t below (rw (le-leb (c + 1) t (omega arith)) lost))
+
+named-by : (p : Past) (a line t : ℕ) (s : SnoopEnd) (claim : Claim) → snooped_at p t ≡ Some s → s.claim ≡ Some claim
+    → a ≢ claim.agent → claim.line ≡ line → is_named_by_other p a line t ≡ true
+unfolding is_named_by_other is_claim_of_other is_some_and
+named-by p a line t s claim there claims other names =
+    rw (there, claims, ne_eqb claim.agent a (λ e. other (sym e)), eq-eqb claim.line line names) refl
+
+lost-by : (p : Past) (a line t : ℕ) (s : SnoopEnd) (claim : Claim) → snooped_at p t ≡ Some s → s.claim ≡ Some claim
+    → claim.agent ≡ a → claim.line ≡ line → s.kind ≡ Some WriteBack → is_lost p a line t ≡ true
+unfolding is_lost is_written_back is_snooped is_claim_of is_write_back_kind is_some_and
+lost-by p a line t s claim there claims agent names kind =
+    let here : is_written_back p a line t ≡ true =
+    rw (there, claims, kind, eq-eqb claim.agent a agent, eq-eqb claim.line line names) refl in
+    or_left (is_evicted p a line t || is_written_back p a line t) (is_taken_away p a line t)
+    (or_right (is_evicted p a line t) (is_written_back p a line t) here)
+
+not-promised : (r : Run) (a line c q : ℕ) → Timely r → KeepsBounds r.plan → c ≤ length r.trace
+    → is_exclusive (past_of r) a line c ≡ true → promise_told (past_of r) a line c c ≡ Some q → ⊥
+unfolding is_exclusive holds_line
+not-promised r a line c q h bounds l exclusive told =
+    let p : Past = past_of r in
+    let k = promised-at p a line c c q told in
+    let w = awaits-by p a line c c k.awaited in
+    let below : k.at < c = k.below in
+    let late : w.at < k.at = promised-later r a line c c q h bounds l k w in
+    let g = given r a k.at k.claim h bounds (omega arith) k.given in
+    let s : SnoopEnd = g.at.end in
+    let outer = and_parts (holds_line p a line c && is_some_and (latest_grant p a line c) is_sole_grant)
+    (holds_since (is_granted p a line) (is_named_by_other p a line) c) exclusive in
+    let inner = and_parts (holds_line p a line c) (is_some_and (latest_grant p a line c) is_sole_grant) outer.0 in
+    elim (gives-by p a k.at s k.claim g.at.gives).way [
+      | inl handed ↦
+          lost-since (is_granted p a line) (is_named_by_other p a line) c w.at k.at w.last late below
+          (named-by p a line k.at s k.claim g.at.there g.at.claimed handed.1 k.names) outer.1
+      | inr written ↦
+          let fits = g.settled.fits in
+          let kind = written-kind fits.kind s.outcome written.0
+          (fits.fits (λ write handed. let both = sym written.0 ∙ handed in let no : ⊥ = cc in no)) in
+          lost-since (is_granted p a line) (is_lost p a line) c w.at k.at w.last late below
+          (lost-by p a line k.at s k.claim g.at.there g.at.claimed written.1 k.names (fits.known
+          ∙ ap Some kind)) inner.0
+    ]
+
+pub dirty-unpromised : (r : Run) (a line c : ℕ) → Timely r → KeepsBounds r.plan → c ≤ length r.trace
+    → is_dirty (past_of r) a line c ≡ true → promise_told (past_of r) a line c c ≡ None
+unfolding is_dirty
+dirty-unpromised r a line c h bounds l dirty = by (promise_told (past_of r) a line c c) refl
+  where
+    by : (o : Option ℕ) → promise_told (past_of r) a line c c ≡ o → promise_told (past_of r) a line c c ≡ None
+    by None e = e
+    by (Some q) e =
+        absurd (not-promised r a line c q h bounds l
+        (and_parts (is_exclusive (past_of r) a line c)
+        (is_some_and (latest_grant (past_of r) a line c) (λ grant. grant.owns || is_stored_since
+        (past_of r) a line c grant.first))
+        dirty).0 e)
