@@ -1,0 +1,11 @@
+pub mod BusViews
+pub mod ToldAgents
+pub mod BytesFetched
+pub mod BusStarting
+pub mod BusSnooping
+pub mod BusDecisions
+pub mod BusSample
+pub mod BusEvents
+pub mod BusLocking
+pub mod BenchSteps
+pub mod MaySteps

@@ -1,0 +1,7 @@
+pub mod Told
+pub mod LogRooms
+pub mod RequestWords
+pub mod BusSteps
+pub mod FirstAgents
+pub mod NamedLines
+pub mod KeptScripts

@@ -1,0 +1,42 @@
+-- The bus before its first clock.
+use Rattle.std.specs.Prelude.{ℕ, ◌+◌, ◌==◌, Bool, false, List, [], ◌∷◌, replicate, None}
+use Rattle.std.specs.List.{list_any}
+use Rattle.fsb_access.specs.declared.item.Item.{Item}
+use Rattle.fsb_agent_view.specs.AgentEvents.{first_view}
+use Rattle.fsb_agent_view.specs.AgentViews.{AgentView}
+use Rattle.fsb_memory.specs.Controller.{start_bytes}
+use Rattle.fsb_script.specs.Plans.{PlanView}
+use Rattle.fsb_timely.specs.Kept.{is_named_in}
+use Rattle.fsb_bench_view.specs.BusViews.{BusView}
+
+-- the agents with these scripts, before any event, the first of which has this number
+abbrev pub agents_with : PlanView → ℕ → List (List Item) → List AgentView
+agents_with plan n [] = []
+agents_with plan n (items ∷ scripts) =
+    first_view n items plan.cache plan.ahead plan.profile ∷ agents_with plan (n + 1) scripts
+
+-- the agents of a plan, before any event
+abbrev pub first_agents : PlanView → List AgentView
+first_agents plan = agents_with plan 0 plan.scripts
+
+-- the line is one of these
+abbrev pub is_listed : List ℕ → ℕ → Bool
+is_listed lines line = list_any (λ other. other == line) lines
+
+-- the scripts name the line
+abbrev pub is_named_line : List (List Item) → ℕ → Bool
+is_named_line scripts line = list_any (λ items. list_any (is_named_in line) items) scripts
+
+-- a quiet bus with the agents and the memory of a plan
+abbrev pub first_bus : PlanView → BusView
+first_bus plan = record {
+  agents = first_agents plan;
+  queue = [];
+  bridge = record { window = plan.bridge; waiting = [] };
+  served = [];
+  moved = replicate 32 0;
+  memory = start_bytes plan.mem;
+  latest = None;
+  started = [];
+  kept = replicate 4 false;
+}
