@@ -13,7 +13,7 @@ use Rattle.fsb_line.specs.declared.state.Mesi.TheVariants.{Exclusive, Invalid, M
 use Rattle.fsb_line.specs.States.{is_held}
 use Rattle.fsb_count.specs.Options.{is_some_and}
 use Rattle.fsb_timely.specs.Past.{Past}
-use Rattle.fsb_timely.specs.Grants.{has_arrived, holds_line, is_exclusive, is_ready}
+use Rattle.fsb_timely.specs.Grants.{has_arrived, holds_line, is_exclusive}
 use Rattle.fsb_timely.specs.Hits.{is_dirty, is_hit, is_met, is_served}
 use Rattle.fsb_timely.specs.Runs.{Run, past_of}
 use Rattle.fsb_timely.specs.Scripts.{Need, is_idling, is_load, items_of, needs_of, next_item, next_number}
@@ -78,7 +78,7 @@ placed-hit p a c number v k is at = record {
 served-parts : (p : Past) (a c : ℕ) (need : Need) → is_served p a c need ≡ true
     → (holds_line p a need.line c ≡ true) × (need.alone ≡ true → is_exclusive p a need.line c ≡ true)
     × (has_arrived p a need.line c c ≡ true)
-unfolding is_served is_met is_ready
+unfolding is_served is_met
 served-parts p a c need e =
     let parts = and_parts (holds_line p a need.line c && (not need.alone || is_exclusive p a need.line c))
     (has_arrived p a need.line c c) e in

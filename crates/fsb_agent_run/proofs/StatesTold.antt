@@ -5,7 +5,7 @@ use Rattle.fsb_count.specs.Options.{is_some_and}
 use Rattle.fsb_line.specs.declared.state.Answer.TheVariants as answers
 use Rattle.fsb_line.specs.States.{answer_of, is_held, is_modified, is_sole}
 use Rattle.fsb_timely.specs.Past.{Grant, Past}
-use Rattle.fsb_timely.specs.Grants.{grant_at, has_arrived, holds_line, is_ended, is_exclusive, is_granted, is_ready, latest_grant}
+use Rattle.fsb_timely.specs.Grants.{grant_at, has_arrived, holds_line, is_ended, is_exclusive, is_granted, latest_grant}
 use Rattle.fsb_timely.specs.Scripts.{Need}
 use Rattle.fsb_timely.specs.Hits.{is_dirty, is_met, is_served}
 use Rattle.fsb_timely.specs.Completions.{is_there}
@@ -115,7 +115,7 @@ served-at p a n c dirty v need h =
 
 pub served-by : (p : Past) (a c : ℕ) (dirty : ℕ → Bool) (v : AgentView) (need : Need) → HasLinesOf p a c c dirty v
     → is_served_by v need ≡ is_served p a c need
-unfolding is_served is_ready
+unfolding is_served
 served-by p a c dirty v need h = served-at p a c c dirty v need h
 
 pub there-by : (p : Past) (a c : ℕ) (dirty : ℕ → Bool) (v : AgentView) (need : Need) → HasLinesOf p a (c + 1) c dirty v

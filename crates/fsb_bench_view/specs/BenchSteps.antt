@@ -16,9 +16,9 @@ use Rattle.fsb_trace.specs.declared.outcome.Outcome.{Outcome}
 use Rattle.fsb_trace.specs.declared.outcome.Outcome.TheVariants.{Failed}
 use Rattle.fsb_bench_view.specs.declared.decided.Decided.{Decided}
 use Rattle.fsb_bench_view.specs.declared.decided.Ending.{Ending}
-use Rattle.fsb_bench_view.specs.BusViews.{BenchView, BusView, clock_of}
-use Rattle.fsb_bench_view.specs.BytesFetched.{bus_fetched, bytes_from}
-use Rattle.fsb_bench_view.specs.BusDecisions.{decided_by}
+use Rattle.fsb_bench_view.specs.BusViews.{BenchView, BusView, next_clock_of}
+use Rattle.fsb_bench_view.specs.BytesFetched.{bus_fetched, bytes_source}
+use Rattle.fsb_bench_view.specs.BusDecisions.{bus_decided}
 use Rattle.fsb_bench_view.specs.BusEvents.{bus_heard, bus_performed, entry_started, heard_answer, heard_cancel, heard_ending, heard_entries, heard_snoop, heard_start}
 use Rattle.fsb_bench_view.specs.BusLocking.{MayRelease, bus_locked, retried_by}
 use Rattle.fsb_bench_view.specs.BusSample.{sample_by}
@@ -30,11 +30,11 @@ step_drive v = drive_of v.run.trace v.bus.queue
 
 -- the bus with the bytes that move
 abbrev pub step_fetched : BenchView → BusView
-step_fetched v = bus_fetched v.bus (bytes_from v.bus (step_drive v))
+step_fetched v = bus_fetched v.bus (bytes_source v.bus (step_drive v))
 
 -- the bus after the hits
 abbrev pub step_performed : BenchView → BusView
-step_performed v = bus_performed (step_fetched v) (clock_of v)
+step_performed v = bus_performed (step_fetched v) (next_clock_of v)
 
 -- BNR# was asked for two clocks before
 abbrev pub was_held_at : List Bool → ℕ → Bool
@@ -43,46 +43,46 @@ was_held_at holds clock = nat_le 2 clock && option_map_or (λ hold. hold) (slice
 -- what is decided, where BNR# is asked for or not
 abbrev pub step_decided : BenchView → Bool → Decided
 step_decided v hold =
-    decided_by (step_performed v) (winner_at v.run.trace (clock_of v)) (clock_of v) (step_drive v) hold
-    (was_held_at v.run.holds (clock_of v))
+    bus_decided (step_performed v) (winner_at v.run.trace (next_clock_of v)) (next_clock_of v) (step_drive v) hold
+    (was_held_at v.run.holds (next_clock_of v))
 
 -- the sample
 abbrev pub step_sample : BenchView → Bool → Sample
-step_sample v hold = sample_by (step_performed v) (clock_of v) v.run.plan.profile (step_decided v hold)
+step_sample v hold = sample_by (step_performed v) (next_clock_of v) v.run.plan.profile (step_decided v hold)
 
 -- what the phases tell of the clock
 abbrev pub step_phased : BenchView → Bool → Phased
-step_phased v hold = phased_at (v.run.trace ++ step_sample v hold ∷ []) (clock_of v) v.bus.queue
+step_phased v hold = phased_at (v.run.trace ++ step_sample v hold ∷ []) (next_clock_of v) v.bus.queue
 
 -- the bus after what begins, if something does
 abbrev pub step_started : BenchView → Bool → BusView
-step_started v hold = heard_start (step_performed v) (clock_of v) (step_decided v hold)
+step_started v hold = heard_start (step_performed v) (next_clock_of v) (step_decided v hold)
 
 -- the bus after what is cancelled, if something is
 abbrev pub step_cancelled : BenchView → Bool → BusView
-step_cancelled v hold = heard_cancel (step_performed v) (clock_of v) (step_decided v hold)
+step_cancelled v hold = heard_cancel (step_performed v) (next_clock_of v) (step_decided v hold)
 
 -- the bus after the snoop end, if there is one
 abbrev pub step_snooped : BenchView → Bool → BusView
-step_snooped v hold = heard_snoop (step_performed v) (clock_of v) (step_decided v hold)
+step_snooped v hold = heard_snoop (step_performed v) (next_clock_of v) (step_decided v hold)
 
 -- the bus after the response Deferred, if there is one
 abbrev pub step_answered : BenchView → Bool → BusView
-step_answered v hold = heard_answer (step_performed v) (clock_of v) (step_decided v hold)
+step_answered v hold = heard_answer (step_performed v) (next_clock_of v) (step_decided v hold)
 
 -- the end of a request, if there is one
 abbrev pub step_ending : BenchView → Bool → Option Ending
-step_ending v hold = heard_ending (step_performed v) (clock_of v) (step_decided v hold) (step_phased v hold)
+step_ending v hold = heard_ending (step_performed v) (next_clock_of v) (step_decided v hold) (step_phased v hold)
 
 -- the bus after it
 abbrev pub step_ended : BenchView → Bool → BusView
-step_ended v hold = bus_heard (step_performed v) (clock_of v) (step_decided v hold) (step_phased v hold)
+step_ended v hold = bus_heard (step_performed v) (next_clock_of v) (step_decided v hold) (step_phased v hold)
 
 -- the entries of the clock: those of the hits, and those of what the end completes
 abbrev pub step_entries : BenchView → Bool → List Done
 step_entries v hold =
-    hit_entries (clock_of v) (step_fetched v).agents
-    ++ heard_entries (step_performed v) (clock_of v) (step_decided v hold) (step_phased v hold)
+    hit_entries (next_clock_of v) (step_fetched v).agents
+    ++ heard_entries (step_performed v) (next_clock_of v) (step_decided v hold) (step_phased v hold)
 
 -- what may be a release
 abbrev pub step_releases : BenchView → Bool → MayRelease
@@ -104,7 +104,7 @@ outcome_snooped decided = option_map_or (λ snooped. snooped.outcome) decided.sn
 -- the entry of the request that begins, if one does, for which this was chosen
 abbrev pub step_begun : BenchView → Bool → Choice → Option Entry
 step_begun v hold choice =
-    option_map (λ starting. entry_started (step_performed v) (clock_of v) starting choice) (step_decided v hold).starting
+    option_map (λ starting. entry_started (step_performed v) (next_clock_of v) starting choice) (step_decided v hold).starting
 
 -- the requests in flight after the clock
 abbrev pub step_queue : BenchView → Bool → Choice → List Entry

@@ -9,18 +9,18 @@ use Rattle.fsb_bridge.specs.Deferrals.{due_deferral}
 use Rattle.fsb_phase.specs.declared.drive.Drive.{Drive}
 use Rattle.fsb_queue.specs.declared.entry.Entry.{Entry}
 use Rattle.fsb_trace.specs.declared.who.Who.{Who}
-use Rattle.fsb_bench_view.specs.declared.decided.Asked.{Asked}
+use Rattle.fsb_bench_view.specs.declared.decided.AskedFor.{AskedFor}
 use Rattle.fsb_bench_view.specs.declared.decided.Decided.{Decided}
 use Rattle.fsb_bench_view.specs.BusViews.{BusView}
 use Rattle.fsb_bench_view.specs.BusStarting.{starting_by}
-use Rattle.fsb_bench_view.specs.BusSnooping.{snooped_by}
+use Rattle.fsb_bench_view.specs.BusSnooping.{snooping_by}
 
 -- what the agent of this number wants at a clock, if there is one
 abbrev pub want_at : List AgentView → ℕ → ℕ → Option Want
 want_at agents clock n = option_and_then (λ v. want_by v clock) (slice_get agents n)
 
 -- what is asked for at a clock
-abbrev pub asked_by : BusView → ℕ → Asked
+abbrev pub asked_by : BusView → ℕ → AskedFor
 asked_by bus clock = record {
   wants =
       want_at bus.agents clock 0 ∷ (want_at bus.agents clock 1
@@ -38,12 +38,12 @@ cancelled_by bus clock = find (is_cancelled_by clock) bus.queue
 
 -- what is decided at the clock after the hits: this is the winner, this is driven, BNR# is asked for or not, and was two
 -- clocks before or not
-abbrev pub decided_by : BusView → Option Who → ℕ → Drive → Bool → Bool → Decided
-decided_by bus winner clock drive hold was_held = record {
+abbrev pub bus_decided : BusView → Option Who → ℕ → Drive → Bool → Bool → Decided
+bus_decided bus winner clock drive hold was_held = record {
   hold = hold;
   drive = drive;
   asked = asked_by bus clock;
   starting = starting_by bus winner clock (asked_by bus clock) was_held;
   cancelled = cancelled_by bus clock;
-  snooped = snooped_by bus drive;
+  snooped = snooping_by bus drive;
 }

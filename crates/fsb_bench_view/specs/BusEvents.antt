@@ -22,7 +22,7 @@ use Rattle.fsb_trace.specs.declared.who.Who.TheVariants.{Symmetric, Priority}
 use Rattle.fsb_bench_view.specs.declared.beginning.Starting.{Starting}
 use Rattle.fsb_bench_view.specs.declared.decided.Decided.{Decided}
 use Rattle.fsb_bench_view.specs.declared.decided.Ending.{Ending}
-use Rattle.fsb_bench_view.specs.declared.snoop.Snooped.{Snooped}
+use Rattle.fsb_bench_view.specs.declared.snoop.SnoopSettled.{SnoopSettled}
 use Rattle.fsb_bench_view.specs.BusViews.{BusView}
 use Rattle.fsb_bench_view.specs.BytesFetched.{head_outcome}
 use Rattle.fsb_bench_view.specs.ToldAgents.{agents_told, for_all, for_none, for_one}
@@ -83,17 +83,17 @@ bus_cancelled bus entry = record bus {
 }
 
 -- what the agents hear of a snoop end: every agent hears it, and one of them has asked
-abbrev pub snooped_event : Snooped → ℕ → List AgentEvent
+abbrev pub snooped_event : SnoopSettled → ℕ → List AgentEvent
 snooped_event s n = Committed s.served.first (n == s.served.agent) s.served.request (s.hit || s.hitm) s.outcome ∷ []
 
 -- the deferrals with that of a request whose turn this is
-abbrev pub waiting_with : Snooped → Turn → List Waiting → List Waiting
+abbrev pub waiting_with : SnoopSettled → Turn → List Waiting → List Waiting
 waiting_with s Keep waiting = waiting
 waiting_with s Retry waiting = waiting
 waiting_with s (Defer later) waiting = waiting ++ new_waiting s.entry.number s.entry.request s.hit later ∷ []
 
 -- the deferrals after a snoop end with this outcome
-abbrev pub waiting_snooped : Snooped → Outcome → List Waiting → List Waiting
+abbrev pub waiting_snooped : SnoopSettled → Outcome → List Waiting → List Waiting
 waiting_snooped s Granted waiting = waiting
 waiting_snooped s Handed waiting = waiting
 waiting_snooped s Retried waiting = waiting
@@ -104,7 +104,7 @@ waiting_snooped s Failed waiting = waiting
 waiting_snooped s Upgraded waiting = waiting
 
 -- the bus after a snoop end
-abbrev pub bus_snooped : BusView → Snooped → BusView
+abbrev pub bus_snooped : BusView → SnoopSettled → BusView
 bus_snooped bus s = record bus {
   agents = agents_told (snooped_event s) 0 bus.agents;
   bridge = record bus.bridge { waiting = waiting_snooped s s.outcome bus.bridge.waiting };

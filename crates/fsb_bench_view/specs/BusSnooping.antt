@@ -19,7 +19,7 @@ use Rattle.fsb_trace.specs.declared.outcome.Outcome.TheVariants.{Handed, Retried
 use Rattle.fsb_trace.specs.declared.who.Who.{Who}
 use Rattle.fsb_trace.specs.declared.who.Who.TheVariants.{Symmetric, Priority}
 use Rattle.fsb_bench_view.specs.declared.beginning.Started.{Started}
-use Rattle.fsb_bench_view.specs.declared.snoop.Snooped.{Snooped}
+use Rattle.fsb_bench_view.specs.declared.snoop.SnoopSettled.{SnoopSettled}
 use Rattle.fsb_bench_view.specs.BusViews.{BusView}
 
 -- of two answers the stronger one
@@ -51,11 +51,11 @@ is_hit_answer answers.Hit = true
 is_hit_answer answers.Modified = false
 
 -- how a request is settled: handed over at HITM#, else by its turn, else by its kind
-abbrev pub settled_as : Bool → Turn → Request → Outcome
-settled_as true turn request = Handed
-settled_as false Keep request = outcome_by_kind (Some request)
-settled_as false Retry request = Retried
-settled_as false (Defer later) request = Deferred
+abbrev pub snoop_outcome : Bool → Turn → Request → Outcome
+snoop_outcome true turn request = Handed
+snoop_outcome false Keep request = outcome_by_kind (Some request)
+snoop_outcome false Retry request = Retried
+snoop_outcome false (Defer later) request = Deferred
 
 -- the turn of a request that counts
 abbrev pub turn_counted : BusView → Entry → Turn
@@ -64,23 +64,23 @@ turn_counted bus entry =
     effective_turn entry.choice.turn entry.request (is_covered bus.bridge.window line) (is_waited_for line bus.bridge.waiting)
 
 -- the snoop end of this agent's request, where the others answer this
-abbrev pub snooped_with : ℕ → Entry → Turn → Answer → Snooped
-snooped_with agent entry turn answer = record {
+abbrev pub snooping_with : ℕ → Entry → Turn → Answer → SnoopSettled
+snooping_with agent entry turn answer = record {
   entry = entry;
   served = record { first = entry.clock; agent = agent; request = entry.request };
   hit = is_hit_answer answer;
   hitm = is_modified_answer answer;
   turn = turn;
-  outcome = settled_as (is_modified_answer answer) turn entry.request;
+  outcome = snoop_outcome (is_modified_answer answer) turn entry.request;
 }
 
 -- the snoop end of this agent's request
-abbrev pub snooped_of : BusView → ℕ → Entry → Snooped
-snooped_of bus agent entry =
-    snooped_with agent entry (turn_counted bus entry) (answer_besides agent entry.request.line 0 bus.agents)
+abbrev pub snooping_of : BusView → ℕ → Entry → SnoopSettled
+snooping_of bus agent entry =
+    snooping_with agent entry (turn_counted bus entry) (answer_besides agent entry.request.line 0 bus.agents)
 
 -- the snoop end of a reply to this deferral, where the deferred request has begun so
-abbrev pub snooped_reply : Entry → Deferral → Started → Snooped
+abbrev pub snooped_reply : Entry → Deferral → Started → SnoopSettled
 snooped_reply entry deferral begun = record {
   entry = entry;
   served = record { first = begun.clock; agent = deferral.request.did / 16; request = deferral.request };
@@ -91,12 +91,12 @@ snooped_reply entry deferral begun = record {
 }
 
 -- the snoop end of a reply to this deferral
-abbrev pub snooped_for : BusView → Entry → Deferral → Option Snooped
+abbrev pub snooped_for : BusView → Entry → Deferral → Option SnoopSettled
 snooped_for bus entry deferral = option_map (snooped_reply entry deferral) (slice_get bus.started deferral.number)
 
 -- the snoop end of the request of an entry
-abbrev pub snooped_entry : BusView → Entry → Who → Option Snooped
-snooped_entry bus entry (Symmetric agent) = Some (snooped_of bus agent entry)
+abbrev pub snooped_entry : BusView → Entry → Who → Option SnoopSettled
+snooped_entry bus entry (Symmetric agent) = Some (snooping_of bus agent entry)
 snooped_entry bus entry Priority =
     option_and_then (snooped_for bus entry) (deferral_of_id entry.request.did bus.bridge.waiting)
 
@@ -105,7 +105,7 @@ abbrev pub first_open : List Entry → Option Entry
 first_open queue = find (λ entry. is_none entry.outcome) queue
 
 -- the snoop end that the clock is
-abbrev pub snooped_by : BusView → Drive → Option Snooped
-snooped_by bus drive =
+abbrev pub snooping_by : BusView → Drive → Option SnoopSettled
+snooping_by bus drive =
     if drive.stall || is_none drive.snoop then None
     else option_and_then (λ entry. snooped_entry bus entry entry.who) (first_open bus.queue)

@@ -11,11 +11,11 @@ use Rattle.fsb_trace.specs.declared.who.Who.{Who}
 use Rattle.fsb_trace.specs.declared.who.Who.TheVariants.{Symmetric, Priority}
 use Rattle.fsb_bench_view.specs.declared.beginning.Latest.{Latest}
 use Rattle.fsb_bench_view.specs.declared.beginning.Starting.{Starting}
-use Rattle.fsb_bench_view.specs.declared.decided.Asked.{Asked}
+use Rattle.fsb_bench_view.specs.declared.decided.AskedFor.{AskedFor}
 use Rattle.fsb_bench_view.specs.BusViews.{BusView}
 
 -- what the agent of this number wants
-abbrev pub want_in : Asked → ℕ → Option Want
+abbrev pub want_in : AskedFor → ℕ → Option Want
 want_in asked n = option_map_or (λ want. want) (slice_get asked.wants n) None
 
 -- no request began at one of the two clocks before
@@ -52,11 +52,11 @@ abbrev pub starting_reply : Deferral → Starting
 starting_reply deferral = record { who = Priority; request = reply_to deferral.request; locked = false }
 
 -- what begins where this agent has won: its want, or the reply that is due
-abbrev pub starting_for : BusView → Asked → Who → Option Starting
+abbrev pub starting_for : BusView → AskedFor → Who → Option Starting
 starting_for bus asked (Symmetric agent) = option_and_then (starting_want bus agent) (want_in asked agent)
 starting_for bus asked Priority = option_map starting_reply asked.due
 
 -- what begins at the clock, where this is the winner
-abbrev pub starting_by : BusView → Option Who → ℕ → Asked → Bool → Option Starting
+abbrev pub starting_by : BusView → Option Who → ℕ → AskedFor → Bool → Option Starting
 starting_by bus winner clock asked was_held =
     if may_start bus clock was_held then option_and_then (starting_for bus asked) winner else None

@@ -36,8 +36,8 @@ pub record BenchView : Type 0 where
   pub run : Run
 
 -- the next clock of a bench
-abbrev pub clock_of : BenchView → ℕ
-clock_of v = length v.run.trace
+abbrev pub next_clock_of : BenchView → ℕ
+next_clock_of v = length v.run.trace
 
 -- one that stands where no request is served
 abbrev pub no_served : Served

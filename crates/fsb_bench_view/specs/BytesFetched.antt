@@ -29,8 +29,8 @@ from_for served Failed = None
 from_for served Upgraded = None
 
 -- where the bytes come from that move from this clock on, if it is a response with data
-abbrev pub bytes_from : BusView → Drive → Option BytesFrom
-bytes_from bus drive =
+abbrev pub bytes_source : BusView → Drive → Option BytesFrom
+bytes_source bus drive =
     if drive.rs == 0 then None
     else option_and_then (λ served. option_and_then (from_for served) (head_outcome bus)) (slice_get bus.served 0)
 

@@ -21,14 +21,14 @@ use Rattle.fsb_bench_view.specs.declared.beginning.Starting.{Starting}
 use Rattle.fsb_bench_view.specs.declared.decided.Decided.{Decided}
 use Rattle.fsb_bench_view.specs.declared.decided.Ending.{Ending}
 use Rattle.fsb_bench_view.specs.declared.snoop.Served.{Served}
-use Rattle.fsb_bench_view.specs.declared.snoop.Snooped.{Snooped}
-use Rattle.fsb_bench_view.specs.BusViews.{BenchView, BusView, clock_of}
+use Rattle.fsb_bench_view.specs.declared.snoop.SnoopSettled.{SnoopSettled}
+use Rattle.fsb_bench_view.specs.BusViews.{BenchView, BusView, next_clock_of}
 use Rattle.fsb_bench_view.specs.BenchSteps.{step_decided, step_drive, step_performed, step_phased, step_sample}
 use Rattle.fsb_bench_view.specs.BusEvents.{heard_answer, heard_cancel, heard_ending, heard_start}
 
 -- the turns of a run's live requests, as numbers
-abbrev pub turns_of : Run → List ℕ
-turns_of run = turns_in (past_of run).moments
+abbrev pub run_turns : Run → List ℕ
+run_turns run = turns_in (past_of run).moments
 
 -- there is an agent of this number
 abbrev pub HasAgent : BusView → ℕ → Type 0
@@ -55,7 +55,7 @@ pub record MayCancel (bus : BusView) (entry : Entry) : Type 0 where
   pub gives_up : (agent : ℕ) → entry.who ≡ Symmetric agent → AgentMay bus agent (λ v. may_give_up v entry.clock)
 
 -- the bus may take the snoop end: each agent may see it, and there is room for the deferral and for what is served
-pub record MaySnoop (bus : BusView) (s : Snooped) : Type 0 where
+pub record MaySnoop (bus : BusView) (s : SnoopSettled) : Type 0 where
   pub commits : (n : ℕ) → AgentMay bus n (λ v. may_commit v s.served.first (n == s.served.agent) s.outcome)
   pub deferrals : s.outcome ≡ outcomes.Deferred → length bus.bridge.waiting < 16
   pub served : length bus.served < 8
@@ -82,7 +82,7 @@ pub record MayEnd (named : ℕ → Bool) (bus : BusView) (ending : Ending) : Typ
 pub record MayHear (named : ℕ → Bool) (bus : BusView) (clock : ℕ) (decided : Decided) (phased : Phased) : Type 0 where
   pub starts : (starting : Starting) → decided.starting ≡ Some starting → MayStart bus clock starting
   pub cancels : (entry : Entry) → decided.cancelled ≡ Some entry → MayCancel (heard_start bus clock decided) entry
-  pub snoops : (s : Snooped) → decided.snooped ≡ Some s → MaySnoop (heard_cancel bus clock decided) s
+  pub snoops : (s : SnoopSettled) → decided.snooped ≡ Some s → MaySnoop (heard_cancel bus clock decided) s
   pub ends : (ending : Ending) → heard_ending bus clock decided phased ≡ Some ending
       → MayEnd named (heard_answer bus clock decided) ending
 
@@ -93,7 +93,7 @@ pub record MaySample (v : BenchView) (hold : Bool) : Type 0 where
 
 -- the queue holds the requests in flight of the run, and their numbers rise
 pub record HasFlightOf (queue : List Entry) (run : Run) : Type 0 where
-  pub flight : HoldsInFlight queue (turns_of run) run.trace
+  pub flight : HoldsInFlight queue (run_turns run) run.trace
   pub rising : Rising queue
 
 -- the bench may take a clock, where BNR# is asked for or not
@@ -101,4 +101,4 @@ pub record MayStep (named : ℕ → Bool) (v : BenchView) (hold : Bool) : Type 0
   pub flight : HasFlightOf v.bus.queue v.run
   pub words : HasLawfulWords (step_performed v)
   pub sample : MaySample v hold
-  pub hears : MayHear named (step_performed v) (clock_of v) (step_decided v hold) (step_phased v hold)
+  pub hears : MayHear named (step_performed v) (next_clock_of v) (step_decided v hold) (step_phased v hold)

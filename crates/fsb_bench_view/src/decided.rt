@@ -1,5 +1,5 @@
 use crate::beginning::Starting;
-use crate::snoop::{Served, Snooped};
+use crate::snoop::{Served, SnoopSettled};
 use fsb_agent_view::Want;
 use fsb_bridge::Deferral;
 use fsb_phase::Drive;
@@ -17,7 +17,7 @@ pub enum BytesFrom {
 
 /// What is asked for at a clock.
 #[derive(Clone, Copy, Debug, PartialEq, Eq)]
-pub struct Asked {
+pub struct AskedFor {
     /// What each agent wants.
     pub wants: [Option<Want>; 4],
     /// The first deferral whose reply is due.
@@ -31,13 +31,13 @@ pub struct Decided {
     pub hold: bool,
     /// What the phases drive.
     pub drive: Drive,
-    pub asked: Asked,
+    pub asked: AskedFor,
     /// The request that begins.
     pub starting: Option<Starting>,
     /// The request that an address error cancels.
     pub cancelled: Option<Entry>,
     /// The snoop end that the clock is.
-    pub snooped: Option<Snooped>,
+    pub snooped: Option<SnoopSettled>,
 }
 
 /// The end of the oldest request in flight.

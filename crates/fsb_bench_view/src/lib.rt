@@ -9,8 +9,8 @@
 #![tactic(auto)]
 
 pub use beginning::{Latest, Started, Starting};
-pub use decided::{Asked, BytesFrom, Decided, Ending};
-pub use snoop::{Served, Snooped};
+pub use decided::{AskedFor, BytesFrom, Decided, Ending};
+pub use snoop::{Served, SnoopSettled};
 
 mod beginning;
 mod decided;

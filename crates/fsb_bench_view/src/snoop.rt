@@ -14,7 +14,7 @@ pub struct Served {
 
 /// The snoop end of a request.
 #[derive(Clone, Copy, Debug, PartialEq, Eq)]
-pub struct Snooped {
+pub struct SnoopSettled {
     pub entry: Entry,
     pub served: Served,
     /// HIT#.

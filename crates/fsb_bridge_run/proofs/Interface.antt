@@ -6,7 +6,7 @@ pub use Rattle.fsb_bridge_run.proofs.ToldLists.{finds, leaves-list}
 -- What the next clock of a run finds in it, before it is known to be timely.
 pub use Rattle.fsb_bridge_run.proofs.GrownWords.{grown-any, grown-choice, grown-due, grown-finds, grown-hit, grown-pending, grown-room, grown-taken, grown-there, grown-would}
 -- The request that began shows as what it is; and replies are what the priority agent begins.
-pub use Rattle.fsb_bridge_run.proofs.ShownWords.{shows-begun}
+pub use Rattle.fsb_bridge_run.proofs.ShownWords.{shows-begun, shows-second}
 pub use Rattle.fsb_bridge_run.proofs.PriorityReplies.{reply-request, reply-shown}
 -- What the words of a clock of a timely run say, by the list.
 pub use Rattle.fsb_bridge_run.proofs.ListWords.{any-listed, begun-listed, choice-listed, due-listed, ids-below, pending-listed, responds-in-order, would-listed}

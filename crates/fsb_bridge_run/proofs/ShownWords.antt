@@ -124,21 +124,18 @@ words-agree : (n : ℕ) (w v : Trace) (c : ℕ) → AgreeTo n w v → c < n → 
 unfolding known_pair_at
 words-agree n w v c a l = ap (option_and_then known_pair) (a.same c l)
 
--- so a request shows as what it is
-pub shows-begun : (r s : Run) → GrowsTo r s → KeepsBounds r.plan
-    → starts_requests s (past_of s) (length r.trace) ≡ true → ShowsBegun r s
-unfolding starts_requests request_begun_before holds_at holds_in run_to line_back
-shows-begun r s grows bounds starts = record {
+-- so a request shows as what it is, where the next clock has its second words
+pub shows-second : (r s : Run) → GrowsTo r s → KeepsBounds r.plan
+    → ((d : ℕ) → d + 1 ≡ length r.trace → line_at ADS r.trace d ≡ true
+    → (q : Request) × (request_begun_before s (past_of s) (length r.trace) ≡ Some q)
+    × (known_pair_at s.trace (length r.trace) ≡ Some (pairs_of q).1)) → ShowsBegun r s
+unfolding starts_requests request_begun_before holds_at holds_in run_to
+shows-second r s grows bounds there = record {
   shown = λ d at ads.
       let n = length r.trace in
       let agree = agree-grown r s grows in
-      let parts = and_parts (drives_ads s (past_of s) n) (drives_pair s (past_of s) n) starts in
       let back : n - 1 ≡ d = omega arith in
-      let long = line_at-agree ADS n r.trace s.trace d agree (omega arith) in
-      let before : line_back ADS s.trace n 1 ≡ true =
-      rw (le-leb 1 n (omega arith), back) (sym long ∙ ads) in
-      let quiet = quiet-second s (past_of s) n parts.0 before in
-      let second = second-words s (past_of s) n parts.1 quiet before in
+      let second = there d at ads in
       let cut = run_to-agrees r d (omega arith) in
       let here = sym (line_at-agree ADS (d + 1) r.trace (run_to r d).trace d cut (omega arith)) ∙ ads in
       let own = and_parts (drives_ads (run_to r d) (past_to (past_of r) d) d)
@@ -160,3 +157,15 @@ shows-begun r s grows bounds starts = record {
       (ap (known_pair_at s.trace) at ∙ second.2 ∙ ap (λ q. Some (pairs_of q).1) is)
       ∙ sym first.1;
 }
+
+pub shows-begun : (r s : Run) → GrowsTo r s → KeepsBounds r.plan
+    → starts_requests s (past_of s) (length r.trace) ≡ true → ShowsBegun r s
+unfolding starts_requests line_back
+shows-begun r s grows bounds starts =
+    let n = length r.trace in
+    let parts = and_parts (drives_ads s (past_of s) n) (drives_pair s (past_of s) n) starts in
+    shows-second r s grows bounds (λ d at ads.
+    let back : n - 1 ≡ d = omega arith in
+    let long = line_at-agree ADS n r.trace s.trace d (agree-grown r s grows) (omega arith) in
+    let before : line_back ADS s.trace n 1 ≡ true = rw (le-leb 1 n (omega arith), back) (sym long ∙ ads) in
+    second-words s (past_of s) n parts.1 (quiet-second s (past_of s) n parts.0 before) before)

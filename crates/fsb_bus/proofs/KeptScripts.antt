@@ -20,7 +20,7 @@ use Rattle.fsb_trace.specs.declared.who.Who.{Who}
 use Rattle.fsb_trace.specs.declared.who.Who.TheVariants.{Symmetric, Priority}
 use Rattle.fsb_bench_view.specs.declared.beginning.Starting.{Starting}
 use Rattle.fsb_bench_view.specs.declared.decided.Decided.{Decided}
-use Rattle.fsb_bench_view.specs.declared.snoop.Snooped.{Snooped}
+use Rattle.fsb_bench_view.specs.declared.snoop.SnoopSettled.{SnoopSettled}
 use Rattle.fsb_bench_view.specs.BusEvents.{answered_by, bus_answered, bus_cancelled, bus_snooped, bus_started, cancelled_event, heard_answer, heard_cancel, heard_snoop, heard_start, snooped_event, starting_event}
 use Rattle.fsb_bench_view.specs.BusViews.{BusView}
 use Rattle.fsb_bench_view.specs.ToldAgents.{agents_told, for_one}
@@ -132,7 +132,7 @@ unfolding KeepScripts
 cancelled-keeps first (Symmetric agent) = one-keeps agent (GivenUp first) (λ v. refl)
 cancelled-keeps first Priority = λ n v. refl
 
-snooped-keeps : (s : Snooped) → KeepScripts (snooped_event s)
+snooped-keeps : (s : SnoopSettled) → KeepScripts (snooped_event s)
 unfolding KeepScripts
 snooped-keeps s n v = left-committed v s.served.first (n == s.served.agent) s.served.request (s.hit || s.hitm) s.outcome
 
@@ -155,7 +155,7 @@ cancelled-kept bus (Some entry) = record {
   count = told-count (cancelled_event entry.clock entry.who) 0 bus.agents;
 }
 
-snooped-kept : (bus : BusView) (s : Option Snooped) → KeepsAgents bus (option_map_or (bus_snooped bus) s bus)
+snooped-kept : (bus : BusView) (s : Option SnoopSettled) → KeepsAgents bus (option_map_or (bus_snooped bus) s bus)
 snooped-kept bus None = record { left = refl; count = refl }
 snooped-kept bus (Some s) = record {
   left = told-left (snooped_event s) 0 bus.agents (snooped-keeps s);

@@ -1,7 +1,6 @@
 pub mod Told
 pub mod LogRooms
 pub mod RequestWords
-pub mod PlanFacts
 pub mod BusSteps
 pub mod NamedLines
 pub mod KeptScripts

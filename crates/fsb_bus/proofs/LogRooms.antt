@@ -16,7 +16,7 @@ use Rattle.fsb_agent_view.specs.Completing.{completed_by, completed_entries, han
 use Rattle.fsb_agent_view.specs.Idling.{place_from}
 use Rattle.fsb_agent_view.specs.OwnRequests.{request_numbered}
 use Rattle.fsb_agent_view.specs.Serving.{AtHand, entries_at_hand, hand_after}
-use Rattle.fsb_bus.specs.AccessCount.{item_accesses, script_accesses}
+use Rattle.fsb_plan_size.specs.AccessCount.{item_accesses, script_accesses}
 use Rattle.fsb_bus.specs.LogRoom.{accesses_left}
 
 entries-count : (agent clock : ℕ) (hand : AtHand) (steps : List Step) → length (entries_at_hand agent clock hand steps) ≡ length steps

@@ -2,4 +2,3 @@ pub mod Buses
 pub mod LogRoom
 pub mod Releases
 pub mod FirstBus
-pub mod AccessCount

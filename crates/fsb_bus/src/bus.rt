@@ -49,7 +49,7 @@ impl Bus {
     ghost use Rattle.fsb_script.specs.View.{plan_view};
     ghost use Rattle.fsb_bus.specs.Buses.{StandsFor, bus_view};
     ghost use Rattle.fsb_bus.specs.FirstBus.{first_bus, is_named_line};
-    ghost use Rattle.fsb_bus.specs.LogRoom.{HasRoomFor};
+    ghost use Rattle.fsb_bus.specs.LogRoom.{HasLogRoom};
 
     /// A quiet bus with the agents and the memory of a plan, and room for so many requests.
     pub fn new(alloc: Global, plan: &Plan, requests: usize) -> Result<Bus, Memory>
@@ -76,11 +76,11 @@ impl Bus {
 
     /// The hits of the clock, agent 0 first.
     pub fn perform(&mut self, clock: u32, log: &mut Log)
-        requires room { HasRoomFor self.old.agents.items log.old }
+        requires room { HasLogRoom self.old.agents.items log.old }
         ensures view { bus_view self.new ≡ bus_performed (bus_view self.old) clock }
         ensures entries { log.new.entries
             ≡ log.old.entries ++ hit_entries clock self.old.agents.items }
-        ensures room { HasRoomFor self.new.agents.items log.new }
+        ensures room { HasLogRoom self.new.agents.items log.new }
         ensures rest { self.new ≡ record self.old { agents = self.new.agents } }
     {
         perform_all(self.agents.as_mut_slice(), clock, log);

@@ -1,12 +1,12 @@
 //! What is decided at a clock before its sample is made.
 
 ghost use Rattle.std.specs.Prelude.{◌≡◌, ◌<◌, length};
-ghost use Rattle.fsb_bench_view.specs.BusDecisions.{asked_by, cancelled_by, decided_by, is_cancelled_by};
+ghost use Rattle.fsb_bench_view.specs.BusDecisions.{asked_by, cancelled_by, bus_decided, is_cancelled_by};
 ghost use Rattle.fsb_bus.specs.Buses.{bus_view};
 
 use crate::bus::Bus;
 use crate::telling::want_at;
-use fsb_bench_view::{Asked, Decided};
+use fsb_bench_view::{AskedFor, Decided};
 use fsb_phase::Drive;
 use fsb_queue::Entry;
 use fsb_trace::Who;
@@ -23,7 +23,7 @@ impl Bus {
         was_held: bool,
     ) -> Decided
         requires { length self.now.agents.items < 256 }
-        ensures { result ≡ decided_by (bus_view self.now) winner clock drive hold was_held }
+        ensures { result ≡ bus_decided (bus_view self.now) winner clock drive hold was_held }
     {
         let asked = self.asked(clock);
         Decided {
@@ -37,11 +37,11 @@ impl Bus {
     }
 
     /// What is asked for at the clock.
-    fn asked(&self, clock: u32) -> Asked
+    fn asked(&self, clock: u32) -> AskedFor
         ensures { result ≡ asked_by (bus_view self.now) clock }
     {
         let agents = self.agents.as_slice();
-        Asked {
+        AskedFor {
             wants: [
                 want_at(agents, 0, clock),
                 want_at(agents, 1, clock),

@@ -8,7 +8,7 @@ ghost use Rattle.fsb_trace.specs.Outcome.{does_take};
 ghost use Rattle.fsb_bench_view.specs.MaySteps.{MayEnd, may_end_with};
 ghost use Rattle.fsb_bench_view.specs.ToldAgents.{agents_told};
 ghost use Rattle.fsb_bus.specs.Buses.{bus_view};
-ghost use Rattle.fsb_bus.specs.LogRoom.{HasRoomFor, accesses_left};
+ghost use Rattle.fsb_bus.specs.LogRoom.{HasLogRoom, accesses_left};
 
 use crate::bus::Bus;
 use fsb_access::Log;
@@ -42,11 +42,11 @@ impl Bus {
     pub(crate) fn end(&mut self, clock: u32, ending: &Ending, log: &mut Log)
         requires may { MayEnd (is_mapped self.old.memory) (bus_view self.old) ending.now }
         requires served { 0 < length self.old.served.items }
-        requires room { HasRoomFor self.old.agents.items log.old }
+        requires room { HasLogRoom self.old.agents.items log.old }
         ensures view { bus_view self.new ≡ bus_ended (bus_view self.old) clock ending.now }
         ensures entries { log.new.entries
             ≡ log.old.entries ++ end_entries (bus_view self.old) clock ending.now }
-        ensures room { HasRoomFor self.new.agents.items log.new }
+        ensures room { HasLogRoom self.new.agents.items log.new }
         ensures named { (line : ℕ) → is_mapped self.new.memory line ≡ is_mapped self.old.memory line }
         ensures rest { self.new ≡ record self.old {
           agents = self.new.agents;
@@ -70,12 +70,12 @@ fn end_at(agents: &mut [Agent], clock: u32, ending: &Ending, moved: &[u8; 32], l
     requires known { ending.now.served.agent < length agents.old }
     requires may { (v : AgentView) → slice_get agents.old ending.now.served.agent ≡ Some v →
         may_end_with ending.now.served.first ending.now.outcome v ≡ true }
-    requires room { HasRoomFor agents.old log.old }
+    requires room { HasLogRoom agents.old log.old }
     ensures agents { agents.new
         ≡ agents_told (ended_event clock moved.now ending.now) 0 agents.old }
     ensures entries { log.new.entries
         ≡ log.old.entries ++ end_entries_of agents.old clock moved.now ending.now }
-    ensures room { HasRoomFor agents.new log.new }
+    ensures room { HasLogRoom agents.new log.new }
 {
     let Served { first, agent, .. } = ending.served;
     end_with(

@@ -12,7 +12,7 @@ ghost use Rattle.fsb_bus.specs.Buses.{bus_view};
 
 use crate::bus::Bus;
 use crate::telling::{commit_all, give_up, send};
-use fsb_bench_view::{Latest, Snooped, Started, Starting};
+use fsb_bench_view::{Latest, SnoopSettled, Started, Starting};
 use fsb_hazard::{Choice, Turn};
 use fsb_phase::Drive;
 use fsb_queue::Entry;
@@ -91,7 +91,7 @@ impl Bus {
     }
 
     /// A snoop end.
-    pub(crate) fn commit(&mut self, snooped: &Snooped)
+    pub(crate) fn commit(&mut self, snooped: &SnoopSettled)
         requires few { length self.old.agents.items < 256 }
         requires may { MaySnoop (bus_view self.old) snooped.now }
         ensures view { bus_view self.new ≡ bus_snooped (bus_view self.old) snooped.now }
@@ -107,7 +107,7 @@ impl Bus {
     }
 
     /// The bridge hears of a snoop end.
-    fn defer(&mut self, snooped: &Snooped)
+    fn defer(&mut self, snooped: &SnoopSettled)
         requires { snooped.now.outcome ≡ Outcome.Deferred → length self.old.bridge.waiting < 16 }
         ensures view { self.new.bridge.waiting
             ≡ waiting_snooped snooped.now snooped.now.outcome self.old.bridge.waiting }

@@ -2,7 +2,7 @@
 
 ghost use Rattle.std.specs.Prelude.{◌≡◌, ◌<◌, ◌≤◌, ◌+◌, ◌*◌, IfSome, Some, length, slice_get};
 ghost use Rattle.fsb_bench_view.specs.BusViews.{BusView};
-ghost use Rattle.fsb_bench_view.specs.BytesFetched.{bus_fetched, bytes_from, chunk_in, chunk_moved, data_driven, from_for, head_outcome};
+ghost use Rattle.fsb_bench_view.specs.BytesFetched.{bus_fetched, bytes_source, chunk_in, chunk_moved, data_driven, from_for, head_outcome};
 ghost use Rattle.fsb_bench_view.specs.declared.snoop.Served.{Served as ServedView};
 ghost use Rattle.fsb_bus.specs.Buses.{bus_view};
 
@@ -26,8 +26,8 @@ impl Bus {
     }
 
     /// Where the bytes come from that move from this clock on, if it is a response with data.
-    pub fn bytes_from(&self, drive: &Drive) -> Option<BytesFrom>
-        ensures { result ≡ bytes_from (bus_view self.now) drive.now }
+    pub fn bytes_source(&self, drive: &Drive) -> Option<BytesFrom>
+        ensures { result ≡ bytes_source (bus_view self.now) drive.now }
     {
         if drive.rs == 0 {
             return None;

@@ -7,14 +7,14 @@ ghost use Rattle.fsb_bench_view.specs.BusEvents.{answered_by, bus_answered, bus_
 ghost use Rattle.fsb_bench_view.specs.MaySteps.{MayCancel, MayEnd, MayHear, MaySnoop, MayStart};
 ghost use Rattle.fsb_bench_view.specs.declared.beginning.Starting.{Starting as StartingView};
 ghost use Rattle.fsb_bench_view.specs.declared.decided.Ending.{Ending as EndingView};
-ghost use Rattle.fsb_bench_view.specs.declared.snoop.Snooped.{Snooped as SnoopedView};
+ghost use Rattle.fsb_bench_view.specs.declared.snoop.SnoopSettled.{SnoopSettled as SnoopedView};
 ghost use Rattle.fsb_queue.specs.declared.entry.Entry.{Entry as EntryView};
 ghost use Rattle.fsb_bus.specs.Buses.{bus_view};
-ghost use Rattle.fsb_bus.specs.LogRoom.{HasRoomFor};
+ghost use Rattle.fsb_bus.specs.LogRoom.{HasLogRoom};
 
 use crate::bus::Bus;
 use fsb_access::Log;
-use fsb_bench_view::{Decided, Ending, Snooped, Starting};
+use fsb_bench_view::{Decided, Ending, SnoopSettled, Starting};
 use fsb_phase::{Drive, Phased};
 use fsb_queue::Entry;
 
@@ -26,12 +26,12 @@ impl Bus {
         requires may { MayHear (is_mapped self.old.memory) (bus_view self.old) clock decided.now
             phased.now }
         requires started { vec_len self.old.started < vec_capacity self.old.started }
-        requires room { HasRoomFor self.old.agents.items log.old }
+        requires room { HasLogRoom self.old.agents.items log.old }
         ensures view { bus_view self.new
             ≡ bus_heard (bus_view self.old) clock decided.now phased.now }
         ensures entries { log.new.entries ≡ log.old.entries
             ++ heard_entries (bus_view self.old) clock decided.now phased.now }
-        ensures room { HasRoomFor self.new.agents.items log.new }
+        ensures room { HasLogRoom self.new.agents.items log.new }
         ensures named { (line : ℕ) → is_mapped self.new.memory line ≡ is_mapped self.old.memory line }
         ensures started { vec_capacity self.new.started ≡ vec_capacity self.old.started }
         ensures queue { self.new.queue ≡ self.old.queue }
@@ -82,7 +82,7 @@ impl Bus {
     }
 
     /// A snoop ends, if one does.
-    fn hear_snoop(&mut self, snooped: &Option<Snooped>)
+    fn hear_snoop(&mut self, snooped: &Option<SnoopSettled>)
         requires few { length self.old.agents.items < 256 }
         requires may { (s : SnoopedView) → snooped.now ≡ Some s → MaySnoop (bus_view self.old) s }
         ensures view { bus_view self.new
@@ -115,12 +115,12 @@ impl Bus {
             MayEnd (is_mapped self.old.memory) (bus_view self.old) e }
         requires served { (e : EndingView) → ending.now ≡ Some e →
             0 < length self.old.served.items }
-        requires room { HasRoomFor self.old.agents.items log.old }
+        requires room { HasLogRoom self.old.agents.items log.old }
         ensures view { bus_view self.new
             ≡ option_map_or (bus_ended (bus_view self.old) clock) ending.now (bus_view self.old) }
         ensures entries { log.new.entries ≡ log.old.entries
             ++ option_map_or (end_entries (bus_view self.old) clock) ending.now [] }
-        ensures room { HasRoomFor self.new.agents.items log.new }
+        ensures room { HasLogRoom self.new.agents.items log.new }
         ensures named { (line : ℕ) → is_mapped self.new.memory line ≡ is_mapped self.old.memory line }
         ensures rest { self.new ≡ record self.old {
           agents = self.new.agents;

@@ -8,11 +8,9 @@
 #![tactic(auto)]
 
 pub use bus::{Bus, Lock};
-pub use count::access_count;
 pub use locking::Released;
 
 mod bus;
-mod count;
 mod deciding;
 mod ending;
 mod events;

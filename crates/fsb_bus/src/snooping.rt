@@ -2,13 +2,13 @@
 
 ghost use Rattle.std.specs.Prelude.{◌≡◌, ◌<◌, length};
 ghost use Rattle.fsb_bridge.specs.Deferrals.{deferral_of_id};
-ghost use Rattle.fsb_bench_view.specs.BusSnooping.{first_open, is_hit_answer, is_modified_answer, settled_as, snooped_by, snooped_entry, snooped_for, snooped_of, snooped_reply, snooped_with, turn_counted};
+ghost use Rattle.fsb_bench_view.specs.BusSnooping.{first_open, is_hit_answer, is_modified_answer, snoop_outcome, snooping_by, snooped_entry, snooped_for, snooping_of, snooped_reply, snooping_with, turn_counted};
 ghost use Rattle.fsb_bus.specs.Buses.{bus_view};
 
 use crate::bus::Bus;
 use crate::telling::answer_besides;
 use fsb_agent::SnoopAnswer;
-use fsb_bench_view::{Served, Snooped, Started};
+use fsb_bench_view::{Served, SnoopSettled, Started};
 use fsb_bridge::Deferral;
 use fsb_encode::Request;
 use fsb_hazard::{Turn, effective};
@@ -18,9 +18,9 @@ use fsb_trace::{Outcome, Who, outcome_by_kind};
 
 impl Bus {
     /// The snoop end that the clock is, if it is one.
-    pub(crate) fn snooped(&self, drive: &Drive) -> Option<Snooped>
+    pub(crate) fn snooped(&self, drive: &Drive) -> Option<SnoopSettled>
         requires { length self.now.agents.items < 256 }
-        ensures { result ≡ snooped_by (bus_view self.now) drive.now }
+        ensures { result ≡ snooping_by (bus_view self.now) drive.now }
     {
         if drive.stall || drive.snoop.is_none() {
             return None;
@@ -42,12 +42,12 @@ impl Bus {
     }
 
     /// The snoop end of the request of an entry.
-    fn snooped_entry(&self, entry: &Entry) -> Option<Snooped>
+    fn snooped_entry(&self, entry: &Entry) -> Option<SnoopSettled>
         requires { length self.now.agents.items < 256 }
         ensures { result ≡ snooped_entry (bus_view self.now) entry.now entry.now.who }
     {
         match entry.who {
-            Who::Symmetric(agent) => Some(self.snooped_of(agent, entry)),
+            Who::Symmetric(agent) => Some(self.snooping_of(agent, entry)),
             Who::Priority => match self.deferral_with(entry.request.did) {
                 Some(deferral) => self.snooped_for(entry, &deferral),
                 None => None,
@@ -56,12 +56,12 @@ impl Bus {
     }
 
     /// The snoop end of this agent's request.
-    fn snooped_of(&self, agent: u8, entry: &Entry) -> Snooped
+    fn snooping_of(&self, agent: u8, entry: &Entry) -> SnoopSettled
         requires { length self.now.agents.items < 256 }
-        ensures { result ≡ snooped_of (bus_view self.now) agent entry.now }
+        ensures { result ≡ snooping_of (bus_view self.now) agent entry.now }
     {
         let answer = answer_besides(self.agents.as_slice(), 0, agent, entry.request.line);
-        snooped_with(agent, entry, self.turn_counted(entry), answer)
+        snooping_with(agent, entry, self.turn_counted(entry), answer)
     }
 
     /// The turn of a request that counts.
@@ -86,7 +86,7 @@ impl Bus {
     }
 
     /// The snoop end of a reply to this deferral.
-    fn snooped_for(&self, entry: &Entry, deferral: &Deferral) -> Option<Snooped>
+    fn snooped_for(&self, entry: &Entry, deferral: &Deferral) -> Option<SnoopSettled>
         ensures { result ≡ snooped_for (bus_view self.now) entry.now deferral.now }
     {
         match self.started.get(deferral.number as usize) {
@@ -97,11 +97,11 @@ impl Bus {
 }
 
 /// The snoop end of this agent's request, where the others answer this.
-fn snooped_with(agent: u8, entry: &Entry, turn: Turn, answer: SnoopAnswer) -> Snooped
-    ensures { result ≡ snooped_with agent entry.now turn answer }
+fn snooping_with(agent: u8, entry: &Entry, turn: Turn, answer: SnoopAnswer) -> SnoopSettled
+    ensures { result ≡ snooping_with agent entry.now turn answer }
 {
     let hitm = is_modified_answer(answer);
-    Snooped {
+    SnoopSettled {
         entry: *entry,
         served: Served {
             first: entry.clock,
@@ -111,15 +111,15 @@ fn snooped_with(agent: u8, entry: &Entry, turn: Turn, answer: SnoopAnswer) -> Sn
         hit: is_hit_answer(answer),
         hitm,
         turn,
-        outcome: settled_as(hitm, turn, entry.request),
+        outcome: snoop_outcome(hitm, turn, entry.request),
     }
 }
 
 /// The snoop end of a reply to this deferral, where the deferred request has begun so.
-fn snooped_reply(entry: &Entry, deferral: &Deferral, begun: &Started) -> Snooped
+fn snooped_reply(entry: &Entry, deferral: &Deferral, begun: &Started) -> SnoopSettled
     ensures { result ≡ snooped_reply entry.now deferral.now begun.now }
 {
-    Snooped {
+    SnoopSettled {
         entry: *entry,
         served: Served {
             first: begun.clock,
@@ -148,8 +148,8 @@ fn is_hit_answer(answer: SnoopAnswer) -> bool
 }
 
 /// How a request is settled: handed over at HITM#, else by its turn, else by its kind.
-fn settled_as(hitm: bool, turn: Turn, request: Request) -> Outcome
-    ensures { result ≡ settled_as hitm turn request }
+fn snoop_outcome(hitm: bool, turn: Turn, request: Request) -> Outcome
+    ensures { result ≡ snoop_outcome hitm turn request }
 {
     match (hitm, turn) {
         (true, _) => Outcome::Handed,

@@ -10,7 +10,7 @@ ghost use Rattle.fsb_bus.specs.Buses.{bus_view};
 
 use crate::bus::Bus;
 use fsb_agent::Want;
-use fsb_bench_view::{Asked, Latest, Starting};
+use fsb_bench_view::{AskedFor, Latest, Starting};
 use fsb_bridge::Deferral;
 use fsb_encode::{Kind, Request};
 use fsb_queue::Entry;
@@ -22,7 +22,7 @@ impl Bus {
         &self,
         winner: Option<Who>,
         clock: u32,
-        asked: &Asked,
+        asked: &AskedFor,
         was_held: bool,
     ) -> Option<Starting>
         ensures { result ≡ starting_by (bus_view self.now) winner clock asked.now was_held }
@@ -45,7 +45,7 @@ impl Bus {
     }
 
     /// What begins where this agent has won.
-    fn starting_for(&self, asked: &Asked, who: Who) -> Option<Starting>
+    fn starting_for(&self, asked: &AskedFor, who: Who) -> Option<Starting>
         ensures { result ≡ starting_for (bus_view self.now) asked.now who }
     {
         match who {
@@ -105,7 +105,7 @@ impl Bus {
 }
 
 /// What the agent of this number wants.
-pub(crate) fn want_in(asked: &Asked, agent: u8) -> Option<Want>
+pub(crate) fn want_in(asked: &AskedFor, agent: u8) -> Option<Want>
     ensures { result ≡ want_in asked.now agent }
 {
     match asked.wants.get(usize::from(agent)) {

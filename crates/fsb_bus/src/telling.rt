@@ -11,11 +11,11 @@ ghost use Rattle.fsb_bench_view.specs.BusDecisions.{want_at};
 ghost use Rattle.fsb_bench_view.specs.BusEvents.{snooped_event};
 ghost use Rattle.fsb_bench_view.specs.BusSnooping.{answer_besides, stronger};
 ghost use Rattle.fsb_bench_view.specs.ToldAgents.{agents_told, bytes_owed, first_of, for_one, hit_entries};
-ghost use Rattle.fsb_bus.specs.LogRoom.{HasRoomFor};
+ghost use Rattle.fsb_bus.specs.LogRoom.{HasLogRoom};
 
 use fsb_access::Log;
 use fsb_agent::{Agent, SnoopAnswer, Want};
-use fsb_bench_view::Snooped;
+use fsb_bench_view::SnoopSettled;
 
 /// Of two answers the first one, if it is there.
 fn first_of(bytes: Option<[u8; 32]>, other: Option<[u8; 32]>) -> Option<[u8; 32]>
@@ -42,10 +42,10 @@ pub(crate) fn hand_all(agents: &mut [Agent], number: u32) -> Option<[u8; 32]>
 
 /// The hits of a clock, agent by agent.
 pub(crate) fn perform_all(agents: &mut [Agent], clock: u32, log: &mut Log)
-    requires room { HasRoomFor agents.old log.old }
+    requires room { HasLogRoom agents.old log.old }
     ensures agents { agents.new ≡ map (λ v. performed v clock) agents.old }
     ensures entries { log.new.entries ≡ log.old.entries ++ hit_entries clock agents.old }
-    ensures room { HasRoomFor agents.new log.new }
+    ensures room { HasLogRoom agents.new log.new }
 {
     for agent in agents {
         agent.perform(clock, log);
@@ -93,14 +93,14 @@ pub(crate) fn answer_besides(agents: &[Agent], number: u8, besides: u8, line: u6
 }
 
 /// Whether another agent was seen to hold the line.
-fn is_shared(snooped: &Snooped) -> bool
+fn is_shared(snooped: &SnoopSettled) -> bool
     ensures { result ≡ (snooped.now.hit || snooped.now.hitm) }
 {
     snooped.hit || snooped.hitm
 }
 
 /// Tells a snoop end to all agents.
-pub(crate) fn commit_all(agents: &mut [Agent], snooped: &Snooped)
+pub(crate) fn commit_all(agents: &mut [Agent], snooped: &SnoopSettled)
     requires few { length agents.old < 256 }
     requires may { (k : ℕ) (v : AgentView) → slice_get agents.old k ≡ Some v →
         may_commit v snooped.now.served.first (k == snooped.now.served.agent)

@@ -54,7 +54,7 @@ by-other : (p : Past) (a line n : ℕ) (grant : Grant) → ClockFacts p line n �
     → latest_grant p a line n ≡ Some grant
     → (s : IsStoredAt p a line n grant.first) → nat_eq s.done.clock n ≡ true → is_hit p a n ≡ false
     → list_any (is_store_by a) (others_of p line n) ≡ true
-unfolding is_of_other_line is_ready has_arrived is_some_and is_brought_to
+unfolding is_of_other_line has_arrived is_some_and is_brought_to
 by-other p a line n grant h ex latest s clock miss =
     let done : Done = s.done in
     let ended : is_ended p n grant.first ≡ true = ap (λ c. is_ended p c grant.first)

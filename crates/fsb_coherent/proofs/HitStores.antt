@@ -152,7 +152,7 @@ stored-more p a line n q hit =
 
 ready-grant : (p : Past) (a line n : ℕ) (o : Option Grant) → latest_grant p a line n ≡ o → is_ready p a line n ≡ true
     → is_some_and o (λ grant. is_ended p n grant.first) ≡ true
-unfolding is_ready has_arrived
+unfolding has_arrived
 ready-grant p a line n o e ready = sym (ap (λ g. is_some_and g (λ grant. is_ended p n grant.first)) e) ∙ ready
 
 dirty-storer : (p : Past) (a line n : ℕ) → is_hit p a n ≡ true → stores p a line n ≡ true

@@ -3,7 +3,7 @@ use Rattle.std.proofs.Common.{◌≡◌, ◌∷◌, [], refl}
 use Rattle.fsb_count.specs.Clocks.{first_where, last_where, any_where, from_clock, holds_since}
 use Rattle.fsb_count.specs.Options.{is_some_and}
 use Rattle.fsb_trace.specs.Requests.{is_upgrade_kind, is_write_back_kind}
-use Rattle.fsb_timely.specs.Grants.{begun_at, snooped_at, ended_requests, is_end_at, grant_at, set_of, is_rival, is_owning, is_claim_of, is_claim_of_other, is_granted, is_evicted, is_snooped, is_written_back, is_taken_away, is_lost, holds_line, latest_grant, is_ended, has_arrived, is_ready, is_named_by_other, is_sole_grant, is_exclusive, line_granted_at, lines_granted}
+use Rattle.fsb_timely.specs.Grants.{begun_at, snooped_at, ended_requests, is_end_at, grant_at, set_of, is_rival, is_owning, is_claim_of, is_claim_of_other, is_granted, is_evicted, is_snooped, is_written_back, is_taken_away, is_lost, holds_line, latest_grant, is_ended, has_arrived, is_named_by_other, is_sole_grant, is_exclusive, line_granted_at, lines_granted}
 use Rattle.fsb_timely.specs.Scripts.{is_idle, is_locked, idle_count, is_load, items_of, is_done_by, is_done_at, completes_at, is_logged, is_logged_at, is_to_do, next_number, next_item, last_done, idle_clocks, idle_start, number_after, is_idling, plain_items, window_from, window_at, window, first_chunk, locked_need, plain_need, needs_after, needs_of, needs_from}
 use Rattle.fsb_timely.specs.Hits.{is_met, is_served, is_hit, is_store_on, is_counted, is_stored_since, is_dirty}
 use Rattle.fsb_timely.specs.Wants.{outstanding_at, unsnooped_at, owed, is_asked_for, is_same_set, is_set_taken, is_missing, least_of, victim_of, id_of, is_id_used, free_id, may_upgrade, kind_needed, request_of_kind, write_back_of, want_for, want_of}
@@ -18,7 +18,7 @@ pub worked-out : (events_at worked_past 2 3 ∷ events_at worked_past 2 4 ∷ ev
 unfolding
     first_where last_where any_where from_clock holds_since is_some_and is_upgrade_kind is_write_back_kind begun_at snooped_at ended_requests
     is_end_at grant_at set_of is_rival is_owning is_claim_of is_claim_of_other is_granted is_evicted is_snooped is_written_back
-    is_taken_away is_lost holds_line latest_grant is_ended has_arrived is_ready is_named_by_other is_sole_grant
+    is_taken_away is_lost holds_line latest_grant is_ended has_arrived is_named_by_other is_sole_grant
     is_exclusive line_granted_at lines_granted is_idle is_locked idle_count is_load items_of is_done_by is_done_at
     completes_at is_logged is_logged_at is_to_do next_number next_item last_done idle_clocks idle_start number_after
     is_idling plain_items window_from window_at window first_chunk locked_need plain_need needs_after needs_of

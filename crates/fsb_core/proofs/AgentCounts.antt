@@ -15,7 +15,7 @@ use Rattle.fsb_bench_view.specs.declared.decided.BytesFrom.{BytesFrom}
 use Rattle.fsb_bench_view.specs.declared.decided.BytesFrom.TheVariants.{Memory, Agents}
 use Rattle.fsb_bench_view.specs.declared.decided.Decided.{Decided}
 use Rattle.fsb_bench_view.specs.declared.decided.Ending.{Ending}
-use Rattle.fsb_bench_view.specs.declared.snoop.Snooped.{Snooped}
+use Rattle.fsb_bench_view.specs.declared.snoop.SnoopSettled.{SnoopSettled}
 use Rattle.fsb_hazard.specs.declared.choice.Choice.{Choice}
 use Rattle.fsb_phase.specs.declared.drive.Phased.{Phased}
 use Rattle.fsb_queue.specs.declared.entry.Entry.{Entry}
@@ -55,7 +55,7 @@ cancel-count : (bus : BusView) (cancelled : Option Entry)
 cancel-count bus None = refl
 cancel-count bus (Some e) = told-count (cancelled_event e.clock e.who) 0 bus.agents
 
-snoop-count : (bus : BusView) (snooped : Option Snooped)
+snoop-count : (bus : BusView) (snooped : Option SnoopSettled)
     → length (option_map_or (bus_snooped bus) snooped bus).agents ≡ length bus.agents
 snoop-count bus None = refl
 snoop-count bus (Some s) = told-count (snooped_event s) 0 bus.agents
@@ -90,7 +90,7 @@ cancel-starts : (bus : BusView) (cancelled : Option Entry)
 cancel-starts bus None = refl
 cancel-starts bus (Some e) = refl
 
-snoop-starts : (bus : BusView) (snooped : Option Snooped)
+snoop-starts : (bus : BusView) (snooped : Option SnoopSettled)
     → (option_map_or (bus_snooped bus) snooped bus).started ≡ bus.started
 snoop-starts bus None = refl
 snoop-starts bus (Some s) = refl

@@ -25,13 +25,13 @@ use Rattle.fsb_trace.specs.Winner.{winner_at}
 use Rattle.fsb_trace.specs.declared.outcome.Outcome.{Outcome}
 use Rattle.fsb_trace.specs.declared.who.Who.{Who}
 use Rattle.fsb_bench_view.specs.BenchSteps.{step_decided, step_drive, step_performed, step_phased, step_sample, was_held_at}
-use Rattle.fsb_bench_view.specs.BusDecisions.{decided_by}
+use Rattle.fsb_bench_view.specs.BusDecisions.{bus_decided}
 use Rattle.fsb_bench_view.specs.BusEvents.{bus_performed, entry_started}
 use Rattle.fsb_bench_view.specs.BusSample.{sample_by}
 use Rattle.fsb_bench_view.specs.BusStarting.{is_spaced_by, may_start}
-use Rattle.fsb_bench_view.specs.BusViews.{BenchView, BusView, clock_of}
-use Rattle.fsb_bench_view.specs.BytesFetched.{bus_fetched, bytes_from}
-use Rattle.fsb_bench_view.specs.MaySteps.{HasLawfulWords, MayHear, MayStep, turns_of}
+use Rattle.fsb_bench_view.specs.BusViews.{BenchView, BusView, next_clock_of}
+use Rattle.fsb_bench_view.specs.BytesFetched.{bus_fetched, bytes_source}
+use Rattle.fsb_bench_view.specs.MaySteps.{HasLawfulWords, MayHear, MayStep, run_turns}
 use Rattle.fsb_bench_view.specs.declared.beginning.Starting.{Starting}
 use Rattle.fsb_bench_view.specs.declared.decided.BytesFrom.{BytesFrom}
 use Rattle.fsb_bench_view.specs.declared.decided.BytesFrom.TheVariants.{Memory, Agents}
@@ -44,7 +44,7 @@ use Rattle.fsb_core.proofs.DueChunks.{chunk-below}
 
 -- what is decided at the clock, on the bus after the hits
 pub record IsDecided (v : BenchView) (hold : Bool) (clock : ℕ) (p : BusView) (decided : Decided) : Type 0 where
-  pub clock_is : clock ≡ clock_of v
+  pub clock_is : clock ≡ next_clock_of v
   pub performed : p ≡ step_performed v
   pub decided_is : decided ≡ step_decided v hold
 
@@ -59,12 +59,12 @@ pub decided-is :
     → bus_view b ≡ bus_performed (fetched_by (bus_view m.bus) drive) clock → Moves m.bus b
     → ((h : Trace) → arbiters.Stands b.arbiter h → winner ≡ winner_at h (length h))
     → held ≡ was_held_at m.holds.items clock
-    → decided ≡ decided_by (bus_view b) winner clock drive hold held
+    → decided ≡ bus_decided (bus_view b) winner clock drive hold held
     → IsDecided (parts_view m) hold clock (bus_view b) decided
 decided-is m b hold clock drive winner held decided named fit may clock_is drives performs moves wins was decides =
     let v = parts_view m in
     let h = m.trace.items in
-    let e_drive : drive ≡ step_drive v = drives h (turns_of v.run) fit.stands.phases clock_is may.flight.flight in
+    let e_drive : drive ≡ step_drive v = drives h (run_turns v.run) fit.stands.phases clock_is may.flight.flight in
     let P : Rattle.fsb_arbiter.specs.declared.arbiter.Arbiter.Arbiter → Type 0 = λ a. arbiters.Stands a h in
     let e_winner : winner ≡ winner_at h (length h) = wins h (subst P (sym (ap (λ x. x.arbiter) moves)) fit.stands.arbiter) in
     let e_performed : bus_view b ≡ step_performed v =
@@ -74,11 +74,11 @@ decided-is m b hold clock drive winner held decided named fit may clock_is drive
       performed = e_performed;
       decided_is =
           decides
-          ∙ ap (λ p. decided_by p winner clock drive hold held) e_performed
-          ∙ ap (λ w. decided_by (step_performed v) w clock drive hold held) e_winner
-          ∙ ap (λ d. decided_by (step_performed v) (winner_at h (length h)) clock d hold held) e_drive
-          ∙ ap (λ x. decided_by (step_performed v) (winner_at h (length h)) clock (step_drive v) hold x) was
-          ∙ ap (λ n. decided_by (step_performed v) (winner_at h (length h)) n (step_drive v) hold (was_held_at v.run.holds n)) clock_is;
+          ∙ ap (λ p. bus_decided p winner clock drive hold held) e_performed
+          ∙ ap (λ w. bus_decided (step_performed v) w clock drive hold held) e_winner
+          ∙ ap (λ d. bus_decided (step_performed v) (winner_at h (length h)) clock d hold held) e_drive
+          ∙ ap (λ x. bus_decided (step_performed v) (winner_at h (length h)) clock (step_drive v) hold x) was
+          ∙ ap (λ n. bus_decided (step_performed v) (winner_at h (length h)) n (step_drive v) hold (was_held_at v.run.holds n)) clock_is;
     }
 
 -- the words of the clock come from lawful requests
@@ -103,13 +103,13 @@ driven-chunk v hold clock p decided at =
 pub record IsSampled (v : BenchView) (hold : Bool) (sample : Sample) (phased : Phased) (after : Phases) : Type 0 where
   pub sample_is : sample ≡ step_sample v hold
   pub phased_is : phased ≡ step_phased v hold
-  pub may_take : phases.MayTake (clock_of v) sample v.bus.queue (turns_of v.run) v.run.trace
+  pub may_take : phases.MayTake (next_clock_of v) sample v.bus.queue (run_turns v.run) v.run.trace
   pub stands : phases.Stands after (v.run.trace ++ sample ∷ [])
 
 sample-taken : (named : ℕ → Bool) (v : BenchView) (hold : Bool) (sample : Sample) → MayStep named v hold → sample ≡ step_sample v hold
-    → phases.MayTake (clock_of v) sample v.bus.queue (turns_of v.run) v.run.trace
+    → phases.MayTake (next_clock_of v) sample v.bus.queue (run_turns v.run) v.run.trace
 sample-taken named v hold sample may is =
-    let P : Sample → Type 0 = λ x. phases.MayTake (clock_of v) x v.bus.queue (turns_of v.run) v.run.trace in
+    let P : Sample → Type 0 = λ x. phases.MayTake (next_clock_of v) x v.bus.queue (run_turns v.run) v.run.trace in
     subst P (sym is) (record { clock_is = refl; flight = may.flight.flight; answers = may.sample.answers; spaced = may.sample.spaced })
 
 pub sampled-is :
@@ -126,23 +126,23 @@ sampled-is m b hold clock decided sample phased after named fit may at moves sam
     samples
     ∙ ap (λ p. sample_by p clock m.plan.profile decided) at.performed
     ∙ ap (λ n. sample_by (step_performed v) n m.plan.profile decided) at.clock_is
-    ∙ ap (sample_by (step_performed v) (clock_of v) m.plan.profile) at.decided_is in
+    ∙ ap (sample_by (step_performed v) (next_clock_of v) m.plan.profile) at.decided_is in
     let take = sample-taken named v hold sample may e_sample in
-    let Q : List Entry → Type 0 = λ q. phases.MayTake clock sample q (turns_of v.run) h in
-    let N : ℕ → Type 0 = λ n. phases.MayTake n sample m.bus.queue (turns_of v.run) h in
+    let Q : List Entry → Type 0 = λ q. phases.MayTake clock sample q (run_turns v.run) h in
+    let N : ℕ → Type 0 = λ n. phases.MayTake n sample m.bus.queue (run_turns v.run) h in
     let S : Phases → Type 0 = λ x. phases.Stands x h in
-    let here : phases.MayTake clock sample b.queue (turns_of v.run) h =
+    let here : phases.MayTake clock sample b.queue (run_turns v.run) h =
     subst Q (sym (ap (λ x. x.queue) moves)) (subst N (sym at.clock_is) take) in
     let stood : phases.Stands b.phases h = subst S (sym (ap (λ x. x.phases) moves)) fit.stands.phases in
     record {
       sample_is = e_sample;
       phased_is =
-          tells h (turns_of v.run) stood here
+          tells h (run_turns v.run) stood here
           ∙ ap (λ q. phased_at (h ++ sample ∷ []) clock q) (ap (λ x. x.queue) moves)
           ∙ ap (λ n. phased_at (h ++ sample ∷ []) n m.bus.queue) at.clock_is
-          ∙ ap (λ x. phased_at (h ++ x ∷ []) (clock_of v) m.bus.queue) e_sample;
+          ∙ ap (λ x. phased_at (h ++ x ∷ []) (next_clock_of v) m.bus.queue) e_sample;
       may_take = take;
-      stands = stands h (turns_of v.run) stood here;
+      stands = stands h (run_turns v.run) stood here;
     }
 
 hear-more : (named mapped : ℕ → Bool) (p : BusView) (clock : ℕ) (decided : Decided) (phased : Phased)
@@ -165,7 +165,7 @@ pub hear-may :
     → ((line : ℕ) → named line ≡ true → mapped line ≡ true) → MayHear mapped p clock decided phased
 hear-may named mapped v hold clock p decided sample phased after at took may more =
     rw (at.performed, at.clock_is, at.decided_is, took.phased_is)
-    (hear-more named mapped (step_performed v) (clock_of v) (step_decided v hold) (step_phased v hold) more may.hears)
+    (hear-more named mapped (step_performed v) (next_clock_of v) (step_decided v hold) (step_phased v hold) more may.hears)
 
 fetched-queue : (bus : BusView) (from : Option BytesFrom) → (bus_fetched bus from).queue ≡ bus.queue
 fetched-queue bus None = refl
@@ -194,11 +194,11 @@ pub begun-room :
 begun-room v hold clock p decided choice begun queue at is begins =
     let says : (first : Starting) → decided.starting ≡ Some first → length queue < 8 = λ first starts.
     let performed = step_performed v in
-    let held = was_held_at v.run.holds (clock_of v) in
-    let passes = passed-if (may_start performed (clock_of v) held) _ first (ap (λ d. d.starting) (sym at.decided_is) ∙ starts) in
-    let room = below-eight held (is_spaced_by performed.latest (clock_of v)) (length performed.queue) passes in
+    let held = was_held_at v.run.holds (next_clock_of v) in
+    let passes = passed-if (may_start performed (next_clock_of v) held) _ first (ap (λ d. d.starting) (sym at.decided_is) ∙ starts) in
+    let room = below-eight held (is_spaced_by performed.latest (next_clock_of v)) (length performed.queue) passes in
     let same : length queue ≡ length performed.queue =
-    ap length (is ∙ sym (fetched-queue v.bus (bytes_from v.bus (step_drive v)))) in
+    ap length (is ∙ sym (fetched-queue v.bus (bytes_source v.bus (step_drive v)))) in
     omega (arith, room, same) in
     let P : Option Entry → Type 0 = λ o. IfSome o (λ e. length queue < 8) in
     subst P (sym begins) (if-begun (λ first. entry_started p clock first choice) decided.starting (length queue < 8) says)
@@ -215,14 +215,14 @@ pub queue-taken :
 queue-taken m hold clock sample phased after queue new outcome error begun named fit may clock_is took is cancels takes =
     let v = parts_view m in
     let h = m.trace.items in
-    let Q : List Entry → Type 0 = λ q. phases.MayTake clock sample q (turns_of v.run) h in
-    let N : ℕ → Type 0 = λ n. phases.MayTake n sample m.bus.queue (turns_of v.run) h in
+    let Q : List Entry → Type 0 = λ q. phases.MayTake clock sample q (run_turns v.run) h in
+    let N : ℕ → Type 0 = λ n. phases.MayTake n sample m.bus.queue (run_turns v.run) h in
     let R : List Entry → Type 0 = Rising in
     let e_phased : phased ≡ phased_at (h ++ sample ∷ []) clock queue =
     took.phased_is
-    ∙ ap (λ x. phased_at (h ++ x ∷ []) (clock_of v) m.bus.queue) (sym took.sample_is)
+    ∙ ap (λ x. phased_at (h ++ x ∷ []) (next_clock_of v) m.bus.queue) (sym took.sample_is)
     ∙ ap (λ n. phased_at (h ++ sample ∷ []) n m.bus.queue) (sym clock_is)
     ∙ ap (λ q. phased_at (h ++ sample ∷ []) clock q) (sym is) in
-    takes m.bus.phases h sample (turns_of v.run) fit.stands.phases
+    takes m.bus.phases h sample (run_turns v.run) fit.stands.phases
     (subst Q (sym is) (subst N (sym clock_is) took.may_take)) (subst R (sym is) may.flight.rising) e_phased cancels
     ∙ ap (λ q. goes_on h sample outcome q ++ begun_list begun) is

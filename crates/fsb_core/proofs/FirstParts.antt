@@ -6,7 +6,7 @@ use Rattle.fsb_access.specs.declared.item.Item.{Item}
 use Rattle.fsb_agent_view.specs.AgentViews.{AgentView}
 use Rattle.fsb_agent_view.specs.Idling.{place_from}
 use Rattle.fsb_script.specs.Plans.{PlanView}
-use Rattle.fsb_bus.specs.AccessCount.{access_count, item_accesses, script_accesses}
+use Rattle.fsb_plan_size.specs.AccessCount.{access_count, item_accesses, script_accesses}
 use Rattle.fsb_bus.specs.FirstBus.{first_agent, first_agents}
 use Rattle.fsb_bus.specs.LogRoom.{accesses_left, accesses_left_of}
 

@@ -6,7 +6,7 @@ use Rattle.fsb_script.specs.Plans.{PlanView}
 use Rattle.fsb_timely.specs.Asked.{IsChosen, IsHold}
 use Rattle.fsb_bench_view.specs.declared.beginning.Starting.{Starting}
 use Rattle.fsb_bench_view.specs.BenchSteps.{bench_stepped, step_decided}
-use Rattle.fsb_bench_view.specs.BusViews.{BenchView, clock_of}
+use Rattle.fsb_bench_view.specs.BusViews.{BenchView, next_clock_of}
 use Rattle.fsb_bus.specs.FirstBus.{first_bus}
 
 -- the bench of a plan before its first clock: a quiet bus, and an empty run
@@ -21,7 +21,7 @@ first_bench plan = record {
 pub record IsStepped (told : List (Option Told)) (old new : BenchView) : Type 0 where
   pub hold : Bool
   pub choice : Choice
-  pub held : IsHold told (clock_of old) hold
+  pub held : IsHold told (next_clock_of old) hold
   pub chosen : (starting : Starting) → (step_decided old hold).starting ≡ Some starting
       → IsChosen told (length old.run.choices) choice
   pub stepped : new ≡ bench_stepped old hold choice

@@ -4,10 +4,10 @@ use Rattle.fsb_memory.specs.Controller.{is_mapped}
 use Rattle.fsb_script.specs.View.{plan_view}
 use Rattle.fsb_phase.specs.declared.drive.Drive.{Drive}
 use Rattle.fsb_bench_view.specs.BusViews.{BenchView, BusView}
-use Rattle.fsb_bench_view.specs.BytesFetched.{bus_fetched, bytes_from}
+use Rattle.fsb_bench_view.specs.BytesFetched.{bus_fetched, bytes_source}
 use Rattle.fsb_bus.specs.Buses.{StandsFor, bus_view}
 use Rattle.fsb_bus.specs.FirstBus.{is_named_line}
-use Rattle.fsb_bus.specs.LogRoom.{HasRoomFor}
+use Rattle.fsb_bus.specs.LogRoom.{HasLogRoom}
 use Rattle.fsb_core.specs.declared.parts.Parts.{Parts}
 
 -- the bench that has these parts
@@ -25,7 +25,7 @@ parts_view m = record {
 
 -- the bus with the bytes that move, where this is driven
 abbrev pub fetched_by : BusView → Drive → BusView
-fetched_by bus drive = bus_fetched bus (bytes_from bus drive)
+fetched_by bus drive = bus_fetched bus (bytes_source bus drive)
 
 -- the parts fit: the arbiter and the phases stand for the trace, there are four agents and a choice for each
 -- request, memory has each line that the scripts name, and there is room for all that the plan's clocks can bring
@@ -37,7 +37,7 @@ pub record IsFit (m : Parts) : Type 0 where
   pub clocks : length m.trace.items ≤ m.plan.clocks
   pub holds : length m.holds.items ≡ length m.trace.items
   pub choices : length m.choices.items ≤ length m.trace.items
-  pub log_room : HasRoomFor m.bus.agents.items m.log
+  pub log_room : HasLogRoom m.bus.agents.items m.log
   pub trace_room : m.plan.clocks ≤ vec_capacity m.trace
   pub choice_room : m.plan.clocks ≤ vec_capacity m.choices
   pub hold_room : m.plan.clocks ≤ vec_capacity m.holds

@@ -1,9 +1,10 @@
 ghost use Rattle.std.specs.Prelude.{◌≡◌, ◌<◌, IfOk, length};
 
 use fsb_access::Log;
-use fsb_bus::{Bus, access_count};
+use fsb_bus::Bus;
 use fsb_hazard::Choice;
 use fsb_io::Memory;
+use fsb_plan_size::access_count;
 use fsb_script::Plan;
 use fsb_signal::Sample;
 use std::alloc::Global;

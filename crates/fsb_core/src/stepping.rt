@@ -9,7 +9,7 @@ ghost use Rattle.fsb_bench_view.specs.MaySteps.{MayStep};
 ghost use Rattle.fsb_bench_view.specs.ToldAgents.{hit_entries};
 ghost use Rattle.fsb_bus.specs.Buses.{bus_view};
 ghost use Rattle.fsb_bus.specs.FirstBus.{is_named_line};
-ghost use Rattle.fsb_bus.specs.LogRoom.{HasRoomFor};
+ghost use Rattle.fsb_bus.specs.LogRoom.{HasLogRoom};
 ghost use Rattle.fsb_core.specs.BenchSteps.{IsStepped};
 ghost use Rattle.fsb_core.specs.Parts.{IsFit, fetched_by, parts_view};
 
@@ -73,16 +73,16 @@ impl Parts {
 
 /// The bytes that move are fetched, and the hits are made.
 fn perform(bus: &mut Bus, clock: u32, drive: &Drive, log: &mut Log)
-    requires { HasRoomFor bus.old.agents.items log.old }
+    requires { HasLogRoom bus.old.agents.items log.old }
     ensures view { bus_view bus.new ≡ bus_performed (fetched_by (bus_view bus.old) drive.now) clock }
     ensures entries { log.new.entries ≡ log.old.entries
         ++ hit_entries clock (fetched_by (bus_view bus.old) drive.now).agents }
-    ensures room { HasRoomFor bus.new.agents.items log.new }
+    ensures room { HasLogRoom bus.new.agents.items log.new }
     ensures count { length bus.new.agents.items ≡ length bus.old.agents.items }
     ensures rest { bus.new
         ≡ record bus.old { agents = bus.new.agents; moved = bus.new.moved } }
 {
-    let from = bus.bytes_from(drive);
+    let from = bus.bytes_source(drive);
     bus.fetch(from);
     bus.perform(clock, log);
 }

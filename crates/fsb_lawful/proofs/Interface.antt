@@ -1,4 +1,5 @@
 -- The lemmas of this crate that others draw on; no other name of its proofs is used outside.
+
 -- A timely run whose plan keeps the bounds is accepted: no rule is broken at any of its clocks.
 pub use Rattle.fsb_lawful.proofs.Accepted.{accepted, each-clock}
 -- The request that begins in a timely run is the one that its winner would begin.

@@ -13,4 +13,5 @@ pub mod EndedNow
 pub mod RespondedNow
 pub mod QueueGoesOn
 pub mod TakenTurns
+pub mod Interface
 pub mod KeptTurns

@@ -1,4 +1,5 @@
 -- The lemmas of this crate that others draw on; no other name of its proofs is used outside.
+
 -- Snoop ends, responses and ends of a past that come in the order of its live requests; and those of a timely run do.
 pub use Rattle.fsb_tied.proofs.AnswersInOrder.{answers-in-order}
 -- The end that is awaited after a snoop end is known by its request.

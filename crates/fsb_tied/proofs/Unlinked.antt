@@ -102,7 +102,7 @@ unfolding grant_at
 same-grant p t s grant e f = sym (ap (option_and_then (λ (x : SnoopEnd). x.grant)) e) ∙ f
 
 ready-parts : (p : Past) (a line m : ℕ) → is_ready p a line m ≡ true → IsReady p a line m
-unfolding is_ready has_arrived latest_grant
+unfolding has_arrived latest_grant
 ready-parts p a line m e =
     let g = some-and (option_and_then (grant_at p) (last_where (is_granted p a line) m))
     (λ (x : Grant). is_ended p m x.first) e in
@@ -248,7 +248,7 @@ unlinked r a line m h l holds ready =
 
 -- so it does where its latest grant ended before
 pub arrived-ready : (p : Past) (a line m c : ℕ) → c ≤ m → has_arrived p a line m c ≡ true → is_ready p a line m ≡ true
-unfolding is_ready has_arrived is_some_and
+unfolding has_arrived is_some_and
 arrived-ready p a line m c l e =
     let g = some-and (latest_grant p a line m) (λ (x : Grant). is_ended p c x.first) e in
     ap (λ o. is_some_and o (λ (x : Grant). is_ended p m x.first)) g.1 ∙ ended-later p c m g.0.first l g.2

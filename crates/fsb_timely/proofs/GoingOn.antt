@@ -101,7 +101,7 @@ ended-same n p q c first h l =
     any_where-same (λ t. is_end_at p t first) (λ t. is_end_at q t first) c (record { same = λ t m. ap (list_any (nat_eq first)) (ends-same n p q t h (omega arith)) })
 
 pub is_ready-same : (n : ℕ) (p q : Past) (a line c : ℕ) → Alike n p q → c ≤ n → is_ready p a line c ≡ is_ready q a line c
-unfolding is_ready has_arrived
+unfolding has_arrived
 is_ready-same n p q a line c h l =
     let latest = latest_grant-same n p q a line c h l in
     let ended : (first : ℕ) → is_ended p c first ≡ is_ended q c first = λ first. ended-same n p q c first h l in

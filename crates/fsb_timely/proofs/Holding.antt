@@ -66,7 +66,7 @@ is_ended-more p c q = any_where-more (λ t. is_end_at p t q) c
 -- the request of the latest grant has ended, or ends at c
 pub is_ready-more : (p : Past) (a line c : ℕ) → is_ready p a line (c + 1)
     ≡ is_some_and (if is_granted p a line c then grant_at p c else latest_grant p a line c) (λ grant. is_ended p c grant.first || is_end_at p c grant.first)
-unfolding is_ready has_arrived
+unfolding has_arrived
 is_ready-more p a line c =
     let latest = latest_grant-more p a line c in
     let ended : (q : ℕ) → is_ended p (c + 1) q ≡ (is_ended p c q || is_end_at p c q) = λ q. is_ended-more p c q in

@@ -102,7 +102,7 @@ unfoldable pub has_arrived : Past → ℕ → ℕ → ℕ → ℕ → Bool
 has_arrived p a line n c = is_some_and (latest_grant p a line n) (λ grant. is_ended p c grant.first)
 
 -- the line is ready for agent a at c: the end of its latest grant is below c
-unfoldable pub is_ready : Past → ℕ → ℕ → ℕ → Bool
+abbrev pub is_ready : Past → ℕ → ℕ → ℕ → Bool
 is_ready p a line c = has_arrived p a line c c
 
 -- t is the snoop end of a live request of another agent that names the line

@@ -17,7 +17,7 @@ use Rattle.fsb_trace.specs.Response.{takes, data_clock_of, end_of, is_clear_befo
 use Rattle.fsb_trace.specs.Snoop.{is_every_second_from, ends_snoop, snoop_end_from, snoop_end_if, start_after_clock, start_after_end, snoop_end_of, snoop_start_of, is_snoop_clock_of, is_snoop_clock, line_at_snoop_end}
 use Rattle.fsb_trace.specs.Timing.{is_stall_from, is_ready_from, is_response_from, chunk_from, is_busy_from}
 use Rattle.fsb_trace.specs.Winner.{bus_request_of, request_line_of, is_same_agent, is_agent, no_requesters, symmetric_after, then_begun, first_in_order, agent_in_order, asks_in_order, first_asking, last_if_asking, winner_by, winner_after, requesters_before, winner_at, last_agent, last_symmetric, begins_at}
-use Rattle.fsb_timely.specs.Grants.{begun_at, snooped_at, ended_requests, is_end_at, grant_at, set_of, is_rival, is_owning, is_claim_of, is_claim_of_other, is_granted, is_evicted, is_snooped, is_written_back, is_taken_away, is_lost, holds_line, latest_grant, is_ended, has_arrived, is_ready, is_named_by_other, is_sole_grant, is_exclusive, line_granted_at, lines_granted}
+use Rattle.fsb_timely.specs.Grants.{begun_at, snooped_at, ended_requests, is_end_at, grant_at, set_of, is_rival, is_owning, is_claim_of, is_claim_of_other, is_granted, is_evicted, is_snooped, is_written_back, is_taken_away, is_lost, holds_line, latest_grant, is_ended, has_arrived, is_named_by_other, is_sole_grant, is_exclusive, line_granted_at, lines_granted}
 use Rattle.fsb_timely.specs.Scripts.{is_idle, is_locked, idle_count, is_load, items_of, is_done_by, is_done_at, completes_at, is_logged, is_logged_at, is_to_do, next_number, next_item, last_done, idle_clocks, idle_start, number_after, is_idling, plain_items, window_from, window_at, window, first_chunk, locked_need, plain_need, needs_after, needs_of, needs_from}
 use Rattle.fsb_timely.specs.Hits.{is_met, is_served, is_hit, is_store_on, is_counted, is_stored_since, is_dirty, line_state_of}
 use Rattle.fsb_timely.specs.Wants.{outstanding_at, unsnooped_at, owed, is_asked_for, is_same_set, is_set_taken, is_missing, least_of, victim_of, id_of, is_id_used, free_id, may_upgrade, kind_needed, request_of_kind, write_back_of, want_for, want_of, is_open_to_other, is_held_back}
@@ -52,7 +52,7 @@ unfolding
     then_begun first_in_order agent_in_order asks_in_order first_asking last_if_asking winner_by winner_after
     requesters_before winner_at last_agent last_symmetric begins_at begun_at snooped_at ended_requests is_end_at
     grant_at set_of is_rival is_owning is_claim_of is_claim_of_other is_granted is_evicted is_snooped is_written_back
-    is_taken_away is_lost holds_line latest_grant is_ended has_arrived is_ready is_named_by_other is_sole_grant
+    is_taken_away is_lost holds_line latest_grant is_ended has_arrived is_named_by_other is_sole_grant
     is_exclusive line_granted_at lines_granted is_idle is_locked idle_count is_load items_of is_done_by is_done_at
     completes_at is_logged is_logged_at is_to_do next_number next_item last_done idle_clocks idle_start number_after
     is_idling plain_items window_from window_at window first_chunk locked_need plain_need needs_after needs_of

@@ -28,7 +28,7 @@ use Rattle.fsb_trigger.specs.TriggerSteps.{StepView}
 use Rattle.fsb_watch.specs.Watched.{IsReadWhole, IsBad, HasManySamples}
 use Rattle.vcd_grammar.specs.declared.fault.VcdFault.{VcdFault}
 use Rattle.vcd_grammar.specs.Reading.{Reads, FirstFault}
-use Rattle.fsb_top.specs.AccessCount.{access_count}
+use Rattle.fsb_plan_size.specs.AccessCount.{access_count}
 use Rattle.fsb_top.specs.Form.{Form, run, check, audit, show, find, wave}
 use Rattle.fsb_top.specs.BenchRead.{HasRead}
 use Rattle.fsb_top.specs.Writing.{HasDump, HasDumpPart}

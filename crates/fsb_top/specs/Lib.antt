@@ -1,4 +1,3 @@
-pub mod AccessCount
 pub mod Command
 pub mod Form
 pub mod BenchEnds

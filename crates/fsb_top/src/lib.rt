@@ -9,7 +9,6 @@ pub use words::Words;
 mod audit;
 mod check;
 mod command;
-mod count;
 mod find;
 mod output;
 mod play;

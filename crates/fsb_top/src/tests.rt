@@ -10,7 +10,6 @@ use texts::{CLOCKS_ZERO_TO_THREE, HEAD, TAIL};
 use vcd_read::{VcdCause, VcdFault};
 
 mod audited;
-mod counts;
 mod faults;
 mod judged;
 mod looked;

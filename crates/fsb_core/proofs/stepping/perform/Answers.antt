@@ -16,7 +16,7 @@ moved-on old mid new first second =
 
 pub perform-requires : goal.perform-requires
 perform-requires c = record {
-  room = let same = ap (λ b. accesses_left_of b.agents) c.fetch.ensures.view ∙ fetch-left (bus_view c.args.bus.now) c.bytes_from-from.result in omega (arith, same, c.requires);
+  room = let same = ap (λ b. accesses_left_of b.agents) c.fetch.ensures.view ∙ fetch-left (bus_view c.args.bus.now) c.bytes_source-from.result in omega (arith, same, c.requires);
 }
 
 pub returns-clause-count : goal.returns-clause-count
@@ -24,7 +24,7 @@ returns-clause-count c =
     ap (λ b. length b.agents) c.perform.ensures.view
     ∙ told-count (for_all (Performed c.args.clock)) 0 c.fetch.new.self.agents.items
     ∙ ap (λ b. length b.agents) c.fetch.ensures.view
-    ∙ fetch-count (bus_view c.args.bus.now) c.bytes_from-from.result
+    ∙ fetch-count (bus_view c.args.bus.now) c.bytes_source-from.result
 
 pub returns-clause-rest : goal.returns-clause-rest
 returns-clause-rest c = moved-on c.args.bus.now c.fetch.new.self c.perform.new.self c.fetch.ensures.rest c.perform.ensures.rest

@@ -1,7 +1,8 @@
 use Rattle.std.proofs.Common.{◌≡◌, sym, subst, true}
 use Rattle.std.specs.List.{list_all}
 use Rattle.fsb_script.specs.Bounds.{is_lawful_script}
-use Rattle.fsb_top.proofs.PlanFacts.{first_lawful, few_items, lawful_items, are_lawful}
+use Rattle.fsb_plan_size.proofs.Interface.{few_items, lawful_items}
+use Rattle.fsb_top.proofs.PlanFacts.{first_lawful, are_lawful}
 use Rattle.fsb_top.proofs.simulate.first_script.Goals as goal
 
 lawful : (c : goal.After-as_slice-in-Some) → is_lawful_script c.args.plan.now.cache c.as_slice-in-Some.result.now ≡ true

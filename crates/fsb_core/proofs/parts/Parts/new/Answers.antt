@@ -1,7 +1,7 @@
 use Rattle.std.proofs.Common.{◌≡◌, ◌≤◌, List, length, sym, subst, ap, ◌∙◌, arith}
 use Rattle.fsb_script.specs.View.{plan_view}
 use Rattle.fsb_signal.specs.declared.sample.Sample.{Sample}
-use Rattle.fsb_bus.specs.AccessCount.{access_count}
+use Rattle.fsb_plan_size.specs.AccessCount.{access_count}
 use Rattle.fsb_bus.specs.Buses.{StandsFor}
 use Rattle.fsb_bus.specs.FirstBus.{first_agents}
 use Rattle.fsb_bus.specs.LogRoom.{accesses_left_of}

@@ -1,0 +1,60 @@
+-- The request that began last, and those that have begun, after the clock.
+use Rattle.std.proofs.Common.{ℕ, zero, suc, ◌+◌, ◌<◌, ◌≤◌, ◌≡◌, ◌⊎◌, Bool, true, false, not, Option, Some, None, List, [], ◌∷◌, ◌++◌, is_some, length, map, slice_get, if◌then◌else◌, add-one, append-nil, refl, sym, ap, subst, ◌∙◌, arith, inl, inr}
+use Rattle.std.specs.Option.{option_and_then, option_map, option_map_or}
+use Rattle.std.proofs.lemmas.Bool.{cases_Bool, both_ways}
+use Rattle.std.proofs.lemmas.List.{length-append}
+use Rattle.std.proofs.lemmas.Option.{slice_get-map}
+use Rattle.fsb_count.specs.Clocks.{AgreeBelow, all_where, last_where}
+use Rattle.fsb_count.proofs.Interface.{all_where-failed, all_where-passed, last_where-failed, last_where-passed, nth_where-found, slice_get-push}
+use Rattle.fsb_hazard.specs.declared.choice.Choice.{Choice}
+use Rattle.fsb_phase_run.proofs.Interface.{agree-grown, longer}
+use Rattle.fsb_signal.specs.declared.lines.TheConstants.Lines.{ADS}
+use Rattle.fsb_signal.specs.Samples.{line_at}
+use Rattle.fsb_timely.specs.BusLock.{is_begun_by, is_locked_request}
+use Rattle.fsb_timely.specs.Growth.{GrowsTo}
+use Rattle.fsb_timely.specs.Runs.{Run, past_of}
+use Rattle.fsb_trace.proofs.Interface.{AgreeTo-sym, line_at-agree}
+use Rattle.fsb_bench_view.specs.declared.beginning.Latest.{Latest}
+use Rattle.fsb_bench_view.specs.declared.beginning.Started.{Started}
+use Rattle.fsb_bench_view.specs.declared.beginning.Starting.{Starting}
+use Rattle.fsb_bench_view.specs.BenchSteps.{bench_stepped, step_decided, step_entries, step_run}
+use Rattle.fsb_bench_view.specs.BusViews.{BenchView, next_clock_of}
+use Rattle.fsb_bench_run.specs.BenchOf.{HasStarted, IsBegunAt, IsBenchOf, IsLatestOf}
+use Rattle.fsb_bench_run.specs.HitsTold.{HasHitsOf}
+use Rattle.fsb_bench_run.proofs.AdsGrown.{ads-old, last-below, last-more}
+use Rattle.fsb_bench_run.proofs.BegunStays.{begun-stays}
+use Rattle.fsb_bench_run.proofs.NextRun.{begins-now, grows-to}
+use Rattle.fsb_bench_run.proofs.StartingNow.{starting-begins}
+use Rattle.fsb_bench_run.proofs.StepEntries.{step-with}
+use Rattle.fsb_bench_run.proofs.StepFields.{latest-stepped, latest_after, started-stepped, started_after}
+
+-- the request that began last is the last one of the longer run
+latest-by : (r s : Run) (latest : Option Latest) (o : Option Starting) → GrowsTo r s → IsLatestOf latest r
+    → line_at ADS s.trace (length r.trace) ≡ is_some o
+    → ((starting : Starting) → o ≡ Some starting → IsBegunAt s (length r.trace) starting.who starting.request)
+    → IsLatestOf (latest_after (length r.trace) o latest) s
+latest-by r s latest (Some x) grows k ads begins = record {
+  clock = sym (last-more r s true grows ads);
+  begun = λ last e.
+      let clock : length r.trace ≡ last.clock = cc in
+      let who : x.who ≡ last.who = cc in
+      let request : x.request ≡ last.request = cc in
+      let b = begins x refl in
+      let one = subst (λ c. IsBegunAt s c x.who x.request) clock b in
+      let two = subst (λ w. IsBegunAt s last.clock w x.request) who one in
+      subst (λ q. IsBegunAt s last.clock last.who q) request two;
+}
+latest-by r s latest None grows k ads begins = record {
+  clock = k.clock ∙ sym (last-more r s false grows ads);
+  begun = λ last e.
+      let there : last_where (line_at ADS r.trace) (length r.trace) ≡ Some last.clock = sym k.clock ∙ ap (option_map (λ (last : Latest). last.clock)) e in
+      begun-stays r s last.clock last.who last.request grows (last-below (line_at ADS r.trace) (length r.trace) last.clock there)
+      (k.begun last e);
+}
+
+pub latest-next : (v : BenchView) (hold : Bool) (choice : Choice) → IsBenchOf v → HasHitsOf v (step_run v hold choice)
+    → IsLatestOf (bench_stepped v hold choice).bus.latest (step_run v hold choice)
+latest-next v hold choice b hits =
+    subst (λ latest. IsLatestOf latest (step_run v hold choice)) (sym (latest-stepped v hold choice))
+    (latest-by v.run (step_run v hold choice) v.bus.latest (step_decided v hold).starting (grows-to v hold choice b) b.latest
+    (begins-now v hold choice) (λ starting e. starting-begins v hold choice (step_entries v hold) starting (step-with v hold choice b hits) e))

@@ -1,0 +1,107 @@
+-- The request that begins at the clock is a locked one exactly where the run says so.
+use Rattle.std.proofs.Common.{ℕ, ◌+◌, ◌<◌, ◌≤◌, ◌≡◌, Bool, true, false, nat_eq, Option, Some, None, is_some, length, if◌then◌else◌, slice_get, refl, sym, ap, subst, ◌∙◌, arith, inl, inr, List}
+use Rattle.std.specs.Option.{option_and_then, option_map}
+use Rattle.std.proofs.lemmas.Bool.{cases_Bool, eqb-true}
+use Rattle.fsb_agent_view.specs.declared.want.Want.{Want}
+use Rattle.fsb_count.specs.Options.{is_some_and}
+use Rattle.fsb_hazard.specs.declared.choice.Choice.{Choice}
+use Rattle.fsb_phase_run.proofs.Interface.{longer}
+use Rattle.fsb_signal.specs.declared.lines.TheConstants.Lines.{ADS}
+use Rattle.fsb_signal.specs.Samples.{line_at}
+use Rattle.fsb_tied.proofs.Interface.{winner-four}
+use Rattle.fsb_timely.specs.BusLock.{is_begun_by, is_locked_request, wants_lock}
+use Rattle.fsb_timely.specs.Grants.{begun_at}
+use Rattle.fsb_timely.specs.Growth.{GrowsTo}
+use Rattle.fsb_timely.specs.Moments.{agent_at, claim_at}
+use Rattle.fsb_timely.specs.Past.{Claim, Past}
+use Rattle.fsb_timely.specs.Runs.{Run, past_of, past_to}
+use Rattle.fsb_timely.proofs.Interface.{begun-told}
+use Rattle.fsb_trace.specs.At.{Trace}
+use Rattle.fsb_trace.specs.Requests.{line_of}
+use Rattle.fsb_trace.specs.Winner.{winner_at}
+use Rattle.fsb_trace.specs.declared.who.Who.{Who}
+use Rattle.fsb_trace.specs.declared.who.Who.TheVariants.{Symmetric, Priority}
+use Rattle.fsb_bench_view.specs.declared.beginning.Starting.{Starting}
+use Rattle.fsb_bench_view.specs.declared.decided.AskedFor.{AskedFor}
+use Rattle.fsb_bench_view.specs.BenchSteps.{step_decided, step_performed, was_held_at}
+use Rattle.fsb_bench_view.specs.BusDecisions.{asked_by}
+use Rattle.fsb_bench_view.specs.BusStarting.{starting_for, starting_reply, want_in}
+use Rattle.fsb_bench_view.specs.BusViews.{BenchView, next_clock_of}
+use Rattle.fsb_bench_run.proofs.AskedNow.{locked-told}
+use Rattle.fsb_bench_run.proofs.StartingNow.{and-some, mapped-some, starting-parts, wanted-parts, winner-grown}
+use Rattle.fsb_bench_run.proofs.ThisClock.{past-now}
+use Rattle.fsb_access.specs.declared.log.Done.{Done}
+use Rattle.fsb_bench_run.proofs.RunWith.{run_with}
+use Rattle.fsb_bench_run.proofs.StepWith.{IsStepWith, begins-with}
+
+-- the winner's claim is that of the agent
+agent-won : (w : Trace) (q a : ℕ) (o : Option Who) → winner_at w q ≡ o → agent_at w q ≡ Some a → o ≡ Some (Symmetric a)
+unfolding agent_at
+agent-won w q a None e f = absurd (let g = rw (e, agent_at) at f in let no : ⊥ = cc in no)
+agent-won w q a (Some Priority) e f = absurd (let g = rw (e, agent_at) at f in let no : ⊥ = cc in no)
+agent-won w q a (Some (Symmetric x)) e f =
+    let g = rw (e, agent_at) at f in
+    let same : x ≡ a = cc in
+    ap (λ x. Some (Symmetric x)) same
+
+claimed-by : (w : Trace) (q : ℕ) (claim : Claim) → claim_at w q ≡ Some claim → winner_at w q ≡ Some (Symmetric claim.agent)
+unfolding claim_at
+claimed-by w q claim e =
+    let k = and-some (λ a. option_map (λ line. record { first = q; agent = a; line = line }) (line_of w q)) (agent_at w q) claim e in
+    let m = mapped-some (λ line. record { first = q; agent = k.0; line = line }) (line_of w q) claim k.2 in
+    let same : k.0 ≡ claim.agent = ap (λ (claim : Claim). claim.agent) m.2 in
+    agent-won w q k.0 (winner_at w q) refl k.1 ∙ ap (λ x. Some (Symmetric x)) same
+
+claim-there : (w : Trace) (q : ℕ) (claim : Claim) (b : Bool) → (if b then claim_at w q else None) ≡ Some claim
+    → claim_at w q ≡ Some claim
+claim-there w q claim true e = e
+claim-there w q claim false e = absurd (let no : ⊥ = cc in no)
+
+winner-of : (w : Trace) (q a : ℕ) (o : Option Claim) → o ≡ (if line_at ADS w q then claim_at w q else None)
+    → is_some_and o (λ (claim : Claim). nat_eq claim.agent a) ≡ true → winner_at w q ≡ Some (Symmetric a)
+unfolding is_some_and
+winner-of w q a None f e = absurd (let no : ⊥ = cc in no)
+winner-of w q a (Some claim) f e =
+    let same : claim.agent ≡ a = eqb-true claim.agent a e in
+    claimed-by w q claim (claim-there w q claim (line_at ADS w q) (sym f)) ∙ ap (λ x. Some (Symmetric x)) same
+
+-- an agent that begins a request is the winner
+pub begun-by-agent : (r : Run) (a q : ℕ) → q < length r.trace → is_begun_by (past_of r) a q ≡ true
+    → winner_at r.trace q ≡ Some (Symmetric a)
+unfolding is_begun_by
+begun-by-agent r a q l e = winner-of r.trace q a (begun_at (past_of r) q) (begun-told r q l) e
+
+locked-if : (p q : Past) (a c : ℕ) → is_begun_by p a c ≡ true → past_to p c ≡ q → is_locked_request p a c ≡ wants_lock q a c
+unfolding is_locked_request
+locked-if p q a c begun e = rw (begun, is_locked_request) (ap (λ p. wants_lock p a c) e)
+
+-- what begins is a locked request of its agent exactly where the run says so
+locked-for : (v : BenchView) (hold : Bool) (choice : Choice) (entries : List Done) (starting : Starting) (a : ℕ) (who : Who) → IsStepWith v hold choice entries
+    → winner_at v.run.trace (next_clock_of v) ≡ Some who → who ≡ Symmetric a
+    → starting_for (step_performed v) (step_decided v hold).asked who ≡ Some starting
+    → starting.locked ≡ wants_lock (past_of (run_with v hold choice entries)) a (next_clock_of v)
+locked-for v hold choice entries starting a Priority b win e f = absurd (let no : ⊥ = cc in no)
+locked-for v hold choice entries starting a (Symmetric x) b win e f =
+    let same : x ≡ a = cc in
+    let parts = wanted-parts (step_performed v) x (want_in (step_decided v hold).asked x) starting f in
+    let want : Want = parts.0 in
+    let few = winner-four v.run.trace (next_clock_of v) x win in
+    sym (ap (λ (s : Starting). s.locked) parts.3) ∙ locked-told v hold choice entries x want b few parts.1
+    ∙ ap (λ a. wants_lock (past_of (run_with v hold choice entries)) a (next_clock_of v)) same
+
+pub locked-start : (v : BenchView) (hold : Bool) (choice : Choice) (entries : List Done) (starting : Starting) (a : ℕ) → IsStepWith v hold choice entries
+    → (step_decided v hold).starting ≡ Some starting
+    → is_begun_by (past_of (run_with v hold choice entries)) a (next_clock_of v) ≡ true
+    → starting.locked ≡ is_locked_request (past_of (run_with v hold choice entries)) a (next_clock_of v)
+locked-start v hold choice entries starting a b e begun =
+    let r = v.run in
+    let s = run_with v hold choice entries in
+    let grows = b.grows in
+    let size = longer r s grows in
+    let parts = starting-parts (step_performed v) (winner_at r.trace (next_clock_of v)) (next_clock_of v)
+    (asked_by (step_performed v) (next_clock_of v)) (was_held_at r.holds (next_clock_of v)) starting e in
+    let win = begun-by-agent s a (next_clock_of v) (omega arith) begun in
+    let one : Some parts.1 ≡ Some (Symmetric a) = sym parts.2 ∙ sym (winner-grown r s grows) ∙ win in
+    let same : parts.1 ≡ Symmetric a = cc in
+    locked-for v hold choice entries starting a parts.1 b parts.2 same parts.3
+    ∙ sym (locked-if (past_of s) (past_of s) a (next_clock_of v) begun (past-now r s grows))

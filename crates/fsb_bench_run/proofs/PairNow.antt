@@ -1,0 +1,63 @@
+-- The address and REQ words of the clock are those that are due.
+use Rattle.std.proofs.Common.{ℕ, zero, suc, ◌+◌, ◌-◌, ◌*◌, ◌%◌, ◌^◌, ◌<◌, ◌≤◌, ◌≡◌, ◌⊎◌, ◌&&◌, ◌==◌, Bool, true, false, not, nat_eq, nat_le, nat_lt, Option, Some, None, List, [], ◌∷◌, ◌++◌, is_some, length, if◌then◌else◌, slice_get, refl, sym, ap, subst, ◌∙◌, arith, inl, inr}
+use Rattle.std.specs.Option.{option_and_then, option_map, option_map_or}
+use Rattle.std.proofs.lemmas.Bool.{and_from, and_parts, both_ways, cases_Bool, eq-eqb, eqb-false, eqb-true, false_from_ne_true, le-leb, leb-true, ltb-true}
+use Rattle.std.proofs.Math.Nat.{mod-eq_of_lt}
+use Rattle.fsb_count.specs.Clocks.{last_where}
+use Rattle.fsb_count.specs.Options.{is_some_and}
+use Rattle.fsb_encode.specs.Decoded.{is_pair}
+use Rattle.fsb_encode.specs.Request.{are_lawful_fields, clocks, den_bit, high_bit, is_lawful_request, pairs_of, row_of}
+use Rattle.fsb_encode.specs.declared.request.Kind.{Kind}
+use Rattle.fsb_encode.specs.declared.request.Kind.TheVariants.{Reply, Invalidate, Read, WriteBack, Upgrade}
+use Rattle.fsb_encode.specs.declared.request.Pair.{Pair}
+use Rattle.fsb_encode.specs.declared.request.Request.{Request}
+use Rattle.fsb_encode.specs.declared.request.TheConstants.{A4, A5, A16}
+use Rattle.fsb_lawful.specs.Beginning.{KeepsBounds}
+use Rattle.fsb_hazard.specs.declared.choice.Choice.{Choice}
+use Rattle.fsb_laws.proofs.Interface.{one_more}
+use Rattle.fsb_phase_run.proofs.Interface.{longer}
+use Rattle.fsb_signal.specs.declared.lines.TheConstants.Lines.{ADS}
+use Rattle.fsb_signal.specs.declared.sample.Sample.{Sample}
+use Rattle.fsb_signal.specs.Samples.{line_at}
+use Rattle.fsb_timely.specs.Growth.{GrowsTo}
+use Rattle.fsb_timely.specs.Past.{Past}
+use Rattle.fsb_timely.specs.Runs.{Run, past_of, past_to, run_to}
+use Rattle.fsb_timely.specs.Starts.{drives_pair, no_pair, pair_due, request_begun, request_begun_before}
+use Rattle.fsb_timely.proofs.Interface.{run-ends}
+use Rattle.fsb_trace.specs.At.{known_pair, known_pair_at, line_back}
+use Rattle.fsb_bench_view.specs.declared.beginning.Latest.{Latest}
+use Rattle.fsb_bench_view.specs.declared.beginning.Starting.{Starting}
+use Rattle.fsb_bench_view.specs.BenchSteps.{step_decided, step_performed, step_sample}
+use Rattle.fsb_bench_view.specs.BusSample.{is_latest_before, pair_driven}
+use Rattle.fsb_bench_view.specs.BusViews.{BenchView, BusView, next_clock_of}
+use Rattle.fsb_bench_run.specs.BenchOf.{IsBegunAt, IsLatestOf}
+use Rattle.fsb_bench_run.proofs.BegunStays.{begun-lawful, begun-request, begun-stays}
+use Rattle.fsb_bench_run.proofs.PairWords.{IsPairDue, pair-due-by, pair-shown, step_pair}
+use Rattle.fsb_bench_run.proofs.StartingNow.{starting-begins}
+use Rattle.fsb_bench_run.proofs.StepFields.{performed-begun}
+use Rattle.fsb_bench_run.proofs.ThisClock.{past-now}
+use Rattle.fsb_access.specs.declared.log.Done.{Done}
+use Rattle.fsb_bench_run.proofs.RunWith.{run_with}
+use Rattle.fsb_bench_run.proofs.StepWith.{IsStepWith, begins-with}
+
+pub pair-due-now : (v : BenchView) (hold : Bool) (choice : Choice) (entries : List Done) → IsStepWith v hold choice entries
+    → IsPairDue (run_with v hold choice entries) (next_clock_of v) (step_pair v hold)
+pair-due-now v hold choice entries b =
+    subst (λ latest. IsPairDue (run_with v hold choice entries) (next_clock_of v) (pair_driven latest (next_clock_of v) (step_decided v hold).starting))
+    (sym (performed-begun v).latest)
+    (pair-due-by v.run (run_with v hold choice entries) v.bus.latest (step_decided v hold).starting b.bench.bounds b.grows b.bench.latest
+    (begins-with v hold choice entries) (λ starting e. starting-begins v hold choice entries starting b e))
+
+due-shown : (s : Run) (n : ℕ) (pair : Pair) → pair_due s (past_of s) n ≡ Some pair
+    → known_pair_at s.trace n ≡ Some pair → drives_pair s (past_of s) n ≡ true
+unfolding drives_pair is_some_and is_pair
+due-shown s n pair e f = rw (e, f, is_some_and, is_pair) (and_from (nat_eq pair.addr pair.addr) (nat_eq pair.req pair.req) (eq-eqb pair.addr pair.addr refl)
+    (eq-eqb pair.req pair.req refl))
+
+-- the words are as they must be
+pub drives-pair-now : (v : BenchView) (hold : Bool) (choice : Choice) (entries : List Done) → IsStepWith v hold choice entries
+    → drives_pair (run_with v hold choice entries) (past_of (run_with v hold choice entries)) (next_clock_of v) ≡ true
+drives-pair-now v hold choice entries b =
+    let k = pair-due-now v hold choice entries b in
+    due-shown (run_with v hold choice entries) (next_clock_of v) (step_pair v hold) k.due
+    (pair-shown v hold choice entries (step_pair v hold) k.fits refl)

@@ -1,0 +1,107 @@
+-- The parity lines of the clock are as they must.
+use Rattle.std.proofs.Common.{ℕ, ◌+◌, ◌/◌, ◌%◌, ◌^◌, ◌<◌, ◌≡◌, ◌&&◌, ◌||◌, ◌==◌, Bool, true, false, not, nat_eq, Option, Some, None, List, [], ◌∷◌, is_some, length, if◌then◌else◌, slice_get, refl, sym, ap, subst, ◌∙◌, arith, inl, inr}
+use Rattle.std.specs.Int.RustNames.{count_ones}
+use Rattle.std.proofs.lemmas.Bool.{and_from, cases_Bool, eq-eqb, eqb-false, eqb-true}
+use Rattle.std.proofs.Math.Nat.{mod-eq_of_lt}
+use Rattle.fsb_count.specs.Options.{is_some_and}
+use Rattle.fsb_encode.specs.declared.request.Pair.{Pair}
+use Rattle.fsb_hazard.specs.declared.choice.Choice.{Choice}
+use Rattle.fsb_laws.proofs.Interface.{one_more}
+use Rattle.fsb_signal.specs.declared.lines.TheConstants.Lines.{ADS, AP0, AP1, RP}
+use Rattle.fsb_signal.specs.declared.sample.Sample.{Sample}
+use Rattle.fsb_signal.specs.Parity.{has_no_parity, is_even, is_high_address_even, is_low_address_even, is_request_even}
+use Rattle.fsb_signal.specs.Samples.{bit_of, has_line}
+use Rattle.fsb_timely.specs.ParityLines.{drives_parity, is_even_sample}
+use Rattle.fsb_timely.specs.Runs.{Run, past_of}
+use Rattle.fsb_timely.specs.Timely.{holds_at}
+use Rattle.fsb_bench_view.specs.BenchSteps.{step_decided, step_performed, step_sample}
+use Rattle.fsb_bench_view.specs.BusSample.{parity_bits}
+use Rattle.fsb_bench_view.specs.BusViews.{BenchView, next_clock_of}
+use Rattle.fsb_bench_run.proofs.DrivenLines.{ads-driven, ap0-driven, ap1-driven, parity_driven, rp-driven}
+use Rattle.fsb_bench_run.proofs.PairNow.{pair-due-now}
+use Rattle.fsb_bench_run.proofs.PairWords.{step_pair}
+use Rattle.fsb_bench_run.proofs.SampleBits.{bit_in}
+use Rattle.fsb_bench_run.proofs.ThisClock.{holds-now}
+use Rattle.fsb_access.specs.declared.log.Done.{Done}
+use Rattle.fsb_bench_run.proofs.RunWith.{run_with}
+use Rattle.fsb_bench_run.proofs.StepWith.{IsStepWith, begins-with}
+
+-- a count is made even by one more where it is not
+evens : (k : ℕ) (b : Bool) → b ≡ not (is_even k) → is_even ((if b then 1 else 0) + k) ≡ true
+evens k true e = by (nat_eq (k % 2) 0) refl e
+  where
+    by : (c : Bool) → nat_eq (k % 2) 0 ≡ c → true ≡ not (nat_eq (k % 2) 0) → nat_eq ((1 + k) % 2) 0 ≡ true
+    by true f e = absurd (let g = rw f at e in let no : ⊥ = cc in no)
+    by false f e = let odd = eqb-false (k % 2) 0 f in eq-eqb ((1 + k) % 2) 0 (omega arith)
+evens k false e = by (nat_eq (k % 2) 0) refl e
+  where
+    by : (c : Bool) → nat_eq (k % 2) 0 ≡ c → false ≡ not (nat_eq (k % 2) 0) → nat_eq ((0 + k) % 2) 0 ≡ true
+    by true f e = let even = eqb-true (k % 2) 0 f in eq-eqb ((0 + k) % 2) 0 (omega arith)
+    by false f e = absurd (let g = rw f at e in let no : ⊥ = cc in no)
+
+evens-two : (j k : ℕ) (b : Bool) → b ≡ not (is_even (j + k)) → is_even ((if b then 1 else 0) + j + k) ≡ true
+evens-two j k b e =
+    let same : (if b then 1 else 0) + j + k ≡ (if b then 1 else 0) + (j + k) = omega arith in
+    ap (λ n. is_even n) same ∙ evens (j + k) b e
+
+-- in profile 2
+even-by : (x : Sample) (pair : Pair) (ads : Bool) → x.addr.bits ≡ pair.addr → x.req.bits ≡ pair.req → has_line x ADS ≡ ads
+    → has_line x AP0 ≡ not (is_even (count_ones (pair.addr % 2 ^ 21)))
+    → has_line x AP1 ≡ not (is_even (count_ones (pair.addr / 2 ^ 21)))
+    → has_line x RP ≡ not (is_even ((if ads then 1 else 0) + count_ones pair.req)) → is_even_sample x ≡ true
+unfolding is_even_sample
+even-by x pair ads a q s low high req =
+    let one : is_low_address_even x ≡ true =
+    evens (count_ones (x.addr.bits % 2 ^ 21)) (has_line x AP0) (low ∙ ap (λ n. not (is_even (count_ones (n % 2 ^ 21)))) (sym a)) in
+    let two : is_high_address_even x ≡ true =
+    evens (count_ones (x.addr.bits / 2 ^ 21)) (has_line x AP1) (high ∙ ap (λ n. not (is_even (count_ones (n / 2 ^ 21)))) (sym a)) in
+    let three : is_request_even x ≡ true =
+    evens-two (bit_of x ADS) (count_ones x.req.bits) (has_line x RP)
+    (req ∙ (λ i. not (is_even ((if sym s i then 1 else 0) + count_ones (sym q i))))) in
+    and_from (is_low_address_even x && is_high_address_even x) (is_request_even x)
+    (and_from (is_low_address_even x) (is_high_address_even x) one two) three
+
+none-by : (x : Sample) → has_line x AP0 ≡ false → has_line x AP1 ≡ false → has_line x RP ≡ false → has_no_parity x ≡ true
+none-by x a b c = λ i. not (a i || b i || c i)
+
+parity-by : (x : Sample) (pair : Pair) (ads : Bool) (profile : ℕ) → x.addr.bits ≡ pair.addr → x.req.bits ≡ pair.req
+    → has_line x ADS ≡ ads → has_line x AP0 ≡ bit_in (parity_bits profile pair ads) 0
+    → has_line x AP1 ≡ bit_in (parity_bits profile pair ads) 1 → has_line x RP ≡ bit_in (parity_bits profile pair ads) 2
+    → (if nat_eq profile 2 then is_even_sample else has_no_parity) x ≡ true
+parity-by x pair ads profile a q s low high req = by (nat_eq profile 2) refl low high req
+  where
+    by : (b : Bool) → nat_eq profile 2 ≡ b → has_line x AP0 ≡ bit_in (parity_bits profile pair ads) 0
+        → has_line x AP1 ≡ bit_in (parity_bits profile pair ads) 1 → has_line x RP ≡ bit_in (parity_bits profile pair ads) 2
+        → (if nat_eq profile 2 then is_even_sample else has_no_parity) x ≡ true
+    by true e low high req =
+        let l = rw e at low in
+        let h = rw e at high in
+        let r = rw e at req in
+        rw e (even-by x pair ads a q s l h r)
+    by false e low high req =
+        let l = rw e at low in
+        let h = rw e at high in
+        let r = rw e at req in
+        rw e (none-by x l h r)
+
+parity-shown : (s : Run) (n : ℕ) (x : Sample) → slice_get s.trace n ≡ Some x
+    → (if nat_eq s.plan.profile 2 then is_even_sample else has_no_parity) x ≡ true → drives_parity s (past_of s) n ≡ true
+unfolding drives_parity is_some_and
+parity-shown s n x at e = rw (at, is_some_and) e
+
+-- the parity lines are as they must
+pub parity-now : (v : BenchView) (hold : Bool) (choice : Choice) (entries : List Done) → IsStepWith v hold choice entries
+    → holds_at drives_parity (run_with v hold choice entries) (next_clock_of v) ≡ true
+parity-now v hold choice entries b =
+    let s = run_with v hold choice entries in
+    let n = next_clock_of v in
+    let x = step_sample v hold in
+    let d = step_decided v hold in
+    let bus = step_performed v in
+    let profile = v.run.plan.profile in
+    let pair = step_pair v hold in
+    let fits = (pair-due-now v hold choice entries b).fits in
+    holds-now drives_parity v.run s b.grows
+    (parity-shown s n x (one_more v.run.trace x).last
+    (parity-by x pair (is_some d.starting) profile (mod-eq_of_lt fits.addr) (mod-eq_of_lt fits.req)
+    (ads-driven bus n profile d) (ap0-driven bus n profile d) (ap1-driven bus n profile d) (rp-driven bus n profile d)))

@@ -1,0 +1,233 @@
+-- The queue after a clock of a bench.
+use Rattle.std.proofs.Common.{ℕ, zero, suc, ◌≡◌, Bool, Option, Some, None, List, [], ◌∷◌, ◌++◌, length, map, is_some, if◌then◌else◌, refl, sym, ap, ◌∙◌, arith, inl, inr, subst}
+use Rattle.std.specs.List.{slice_get}
+use Rattle.std.specs.Option.{option_map, option_map_or}
+use Rattle.std.proofs.lemmas.List.{length-map}
+use Rattle.fsb_count.specs.Clocks.{count_where}
+use Rattle.fsb_count.proofs.Interface.{count_where-above, count_where-same, length-all_where, slice_get-end}
+use Rattle.fsb_flight.specs.GoesOn.{IsLater, TakesTurn, goes_on}
+use Rattle.fsb_flight.specs.Steps.{begun_list}
+use Rattle.fsb_flight.proofs.Interface.{goes_on-holds, rising-goes_on}
+use Rattle.fsb_hazard.specs.Choice.{quiet_choice}
+use Rattle.fsb_hazard.specs.declared.choice.Choice.{Choice}
+use Rattle.fsb_laws.specs.Orderly.{Orderly}
+use Rattle.fsb_laws.proofs.Interface.{is_live-ads, orderly-empty}
+use Rattle.fsb_phase.specs.FitQueue.{HoldsInFlight}
+use Rattle.fsb_phase.specs.Phases.{MayTake, Stands, last_response, last_snoop_end, snooped_count}
+use Rattle.fsb_phase.specs.declared.phases.Phases.{Phases}
+use Rattle.fsb_laws.specs.Progress.{response_count, transfer_of}
+use Rattle.fsb_queue.specs.declared.entry.Entry.{Entry}
+use Rattle.fsb_signal.specs.declared.lines.TheConstants.Lines.{ADS}
+use Rattle.fsb_signal.specs.Samples.{line_at}
+use Rattle.fsb_trace.specs.At.{Trace}
+use Rattle.fsb_trace.specs.Response.{answer_from, ready_clock_of}
+use Rattle.fsb_trace.specs.declared.outcome.Outcome.TheVariants.{Failed}
+use Rattle.fsb_trace.proofs.Interface.{line_at-agree}
+use Rattle.fsb_timely.specs.Grants.{snooped_at}
+use Rattle.fsb_timely.specs.Growth.{GrowsTo}
+use Rattle.fsb_timely.specs.Moments.{choice_at, turns_in}
+use Rattle.fsb_timely.specs.Past.{SnoopEnd}
+use Rattle.fsb_timely.specs.Runs.{Run, past_of, requests_below}
+use Rattle.fsb_timely.specs.Timely.{Timely}
+use Rattle.fsb_timely.proofs.Interface.{snoop-tied}
+use Rattle.fsb_tied.proofs.Interface.{orderly-whole}
+use Rattle.fsb_phase_run.specs.Holds.{AreRequestsOf, HoldsRequests}
+use Rattle.fsb_phase_run.proofs.Interface.{agree-grown, outcome-settled, queue-goes-on, turn-same, write-back-kept}
+use Rattle.fsb_bench_view.specs.declared.beginning.Starting.{Starting}
+use Rattle.fsb_bench_view.specs.declared.beginning.Started.{Started}
+use Rattle.fsb_bench_view.specs.declared.snoop.SnoopSettled.{SnoopSettled}
+use Rattle.fsb_bench_view.specs.BenchSteps.{outcome_snooped, step_begun, step_decided, step_entries, step_performed, step_queue, step_run, step_sample}
+use Rattle.fsb_bench_view.specs.BusEvents.{entry_started}
+use Rattle.fsb_bench_view.specs.BusViews.{BenchView, BusView, next_clock_of}
+use Rattle.fsb_bench_view.specs.MaySteps.{HasFlightOf, MaySample}
+use Rattle.fsb_bench_run.specs.BenchOf.{IsBenchOf}
+use Rattle.fsb_bench_run.proofs.DeferralsTold.{DeferralsTold}
+use Rattle.fsb_bench_run.proofs.DrivenLines.{ads-driven}
+use Rattle.fsb_bench_run.proofs.ResponsesDriven.{code-now, sample-grown}
+use Rattle.fsb_bench_run.proofs.SameBus.{same-performed}
+use Rattle.fsb_bench_run.proofs.SnoopCases.{snoop-cases}
+use Rattle.fsb_bench_run.proofs.SnoopEntry.{held-here}
+use Rattle.fsb_bench_run.proofs.SnoopTold.{snoop-told}
+
+-- phases that stand for a trace
+phases-of : Trace → Phases
+phases-of h = record {
+  snooped = last_snoop_end h;
+  from = answer_from h (response_count h);
+  ready = ready_clock_of h (response_count h);
+  response = last_response h;
+  transfer = transfer_of h;
+}
+
+pub orderly-run : (r : Run) → Timely r → Orderly r.trace
+orderly-run r timely = by r.trace refl
+  where
+    by : (h : Trace) → r.trace ≡ h → Orderly r.trace
+    by [] e = subst Orderly (sym e) orderly-empty
+    by (x ∷ h) e = let size = ap length e in orderly-whole r 0 timely (omega (arith, size))
+
+phases-stand : (r : Run) → Timely r → Stands (phases-of r.trace) r.trace
+unfolding phases-of
+phases-stand r timely = record { snooped = refl; from = refl; ready = refl; response = refl; transfer = refl; orderly = orderly-run r timely }
+
+begun-clocks : (bus : BusView) (clock : ℕ) (choice : Choice) (o : Option Starting)
+    → map (λ (e : Entry). e.clock) (begun_list (option_map (λ starting. entry_started bus clock starting choice) o))
+    ≡ (if is_some o then clock ∷ [] else [])
+unfolding begun_list
+begun-clocks bus clock choice None = refl
+begun-clocks bus clock choice (Some starting) = refl
+
+record IsNewEntry (bus : BusView) (clock : ℕ) (choice : Choice) (o : Option Starting) (e : Entry) : Type 0 where
+  pub starting : Starting
+  pub some : o ≡ Some starting
+  pub same : e ≡ entry_started bus clock starting choice
+
+begun-entry : (bus : BusView) (clock : ℕ) (choice : Choice) (o : Option Starting) (k : ℕ) (e : Entry)
+    → slice_get (begun_list (option_map (λ starting. entry_started bus clock starting choice) o)) k ≡ Some e
+    → IsNewEntry bus clock choice o e
+unfolding begun_list
+begun-entry bus clock choice None k e f = absurd (let no : ⊥ = cc in no)
+begun-entry bus clock choice (Some starting) zero e f =
+    record {
+      starting = starting;
+      some = refl;
+      same = sym
+          (let same : entry_started bus clock starting choice ≡ e = cc in same);
+    }
+begun-entry bus clock choice (Some starting) (suc k) e f = absurd (let no : ⊥ = cc in no)
+
+-- the turns go on
+turns-taken : (v : BenchView) (hold : Bool) (choice : Choice) → IsBenchOf v → DeferralsTold v (step_run v hold choice)
+    → (grows : GrowsTo v.run (step_run v hold choice))
+    → TakesTurn v.run.trace (step_sample v hold) (turns_in (past_of v.run).moments)
+    (turns_in (past_of (step_run v hold choice)).moments) (outcome_snooped (step_decided v hold)) (begun_list
+    (step_begun v hold choice))
+turns-taken v hold choice b told grows =
+    let r = v.run in
+    let s = step_run v hold choice in
+    let n = next_clock_of v in
+    let entries = step_entries v hold in
+    record {
+      same = λ i l. turn-same r s i grows l;
+      outcome_is = λ e. elim (snoop-cases v hold choice entries grows b.requests) [
+        | inr g ↦ let tied = snoop-tied s (snooped_count r.trace) n e in none-some (snooped_at
+            (past_of s) n) tied.0 g.quiet tied.1.there
+        | inl k ↦
+            let t = snoop-told v hold choice entries b told grows k in
+            ap (λ o. option_map_or (λ (x : SnoopSettled). x.outcome) o Failed) t.decided ∙ sym t.outcome
+            ∙ outcome-settled r s (snooped_count r.trace) k.told.end k.told.is_end.there e
+      ];
+      kept = λ i e. write-back-kept s i e;
+      begun = begun-clocks (step_performed v) n choice (step_decided v hold).starting
+          ∙ ap (λ c. if c then n ∷ [] else []) (sym (ads-driven (step_performed v) n r.plan.profile
+          (step_decided v hold)));
+      unsettled = λ k e f.
+          ap (λ (x : Entry). x.outcome) (begun-entry (step_performed v) n choice
+          (step_decided v hold).starting k e f).same;
+    }
+  where
+    none-some : (o : Option SnoopEnd) (x : SnoopEnd) → o ≡ None → o ≡ Some x → {A : Type 0} → A
+    none-some o x e f = absurd (let no : ⊥ = cc in no)
+
+-- how many requests began below the new clock
+count-grown : (r s : Run) → GrowsTo r s
+    → requests_below s.trace (length r.trace) ≡ requests_below r.trace (length r.trace)
+unfolding requests_below
+count-grown r s grows =
+    sym (count_where-same (line_at ADS r.trace) (line_at ADS s.trace) (length r.trace)
+    (record { same = λ t l. line_at-agree ADS (length r.trace) r.trace s.trace t (agree-grown r s grows) l }))
+
+started-count : (v : BenchView) → IsBenchOf v → length v.bus.started ≡ requests_below v.run.trace (next_clock_of v)
+unfolding requests_below
+started-count v b =
+    sym (length-map v.bus.started (λ (x : Started). x.clock)) ∙ ap length b.started.clocks
+    ∙ length-all_where (line_at ADS v.run.trace) (next_clock_of v)
+
+choice-added : (choices : List Choice) (choice : Choice) (o : Option Starting) (starting : Starting) (w : Trace) (q : ℕ)
+    → o ≡ Some starting → count_where (line_at ADS w) q ≡ length choices
+    → choice ≡ choice_at (choices ++ option_map_or (λ (x : Starting). choice ∷ []) o []) w q
+unfolding choice_at
+choice-added choices choice o starting w q e f =
+    sym (ap (λ xs. option_map_or (λ (c : Choice). c) (slice_get xs (count_where (line_at ADS w) q)) quiet_choice)
+    (ap (λ x. choices ++ option_map_or (λ (y : Starting). choice ∷ []) x []) e)
+    ∙ ap (λ k. option_map_or (λ (c : Choice). c) (slice_get (choices ++ choice ∷ []) k) quiet_choice) f
+    ∙ ap (λ x. option_map_or (λ (c : Choice). c) x quiet_choice) (slice_get-end choices choice))
+
+-- the entry that begins has its choice and its number
+new-requests : (v : BenchView) (hold : Bool) (choice : Choice) → IsBenchOf v
+    → GrowsTo v.run (step_run v hold choice)
+    → AreRequestsOf (begun_list (step_begun v hold choice)) (step_run v hold choice)
+unfolding requests_below
+new-requests v hold choice b grows =
+    let r = v.run in
+    let s = step_run v hold choice in
+    let n = next_clock_of v in
+    let bus = step_performed v in
+    let o = (step_decided v hold).starting in
+    let count = count-grown r s grows in
+    let one = sym b.timely.one_choice in
+    let same = same-performed v in
+    record {
+      chosen = λ k e f.
+          let new = begun-entry bus n choice o k e f in
+          ap (λ (x : Entry). x.choice) new.same
+          ∙ choice-added r.choices choice o new.starting s.trace n new.some (count ∙ one)
+          ∙ sym (ap (λ (x : Entry). choice_at s.choices s.trace x.clock) new.same);
+      numbered = λ k e f.
+          let new = begun-entry bus n choice o k e f in
+          ap (λ (x : Entry). x.number) new.same ∙ ap length same.started ∙ started-count v b ∙ sym count
+          ∙ sym (ap (λ (x : Entry). requests_below s.trace x.clock) new.same);
+    }
+
+-- its number is greater than those of the queue
+new-later : (v : BenchView) (hold : Bool) (choice : Choice) → IsBenchOf v
+    → IsLater (step_begun v hold choice) v.bus.queue
+unfolding requests_below begun_list
+new-later v hold choice b =
+    let r = v.run in
+    let n = next_clock_of v in
+    let bus = step_performed v in
+    let o = (step_decided v hold).starting in
+    let same = same-performed v in
+    record {
+      later = λ e f j new at.
+          let first = begun-entry bus n choice o 0 e (ap (λ x. slice_get (begun_list x) 0) new) in
+          let here = held-here r v.bus.queue j f b.requests at in
+          let less = count_where-above (line_at ADS r.trace) f.clock n here.within
+          (is_live-ads r.trace f.clock here.live) in
+          let number = b.requests.entries.numbered j f at in
+          let mine : e.number ≡ count_where (line_at ADS r.trace) n =
+          ap (λ (x : Entry). x.number) first.same ∙ ap length same.started ∙ started-count v b in
+          omega arith;
+    }
+
+pub queue-next : (v : BenchView) (hold : Bool) (choice : Choice) → IsBenchOf v
+    → DeferralsTold v (step_run v hold choice)
+    → MaySample v hold → GrowsTo v.run (step_run v hold choice)
+    → HoldsRequests (step_queue v hold choice) (step_run v hold choice)
+queue-next v hold choice b told may grows =
+    let r = v.run in
+    let s = step_run v hold choice in
+    let x = step_sample v hold in
+    let new = begun_list (step_begun v hold choice) in
+    let outcome = outcome_snooped (step_decided v hold) in
+    let takes : MayTake (next_clock_of v) x v.bus.queue (turns_in (past_of r).moments) r.trace =
+    record { clock_is = refl; flight = b.requests.flight; answers = code-now v hold; spaced = may.spaced } in
+    let flight = goes_on-holds (phases-of r.trace) r.trace (next_clock_of v) x v.bus.queue new (turns_in (past_of r).moments)
+    (turns_in (past_of s).moments) outcome (phases-stand r b.timely) takes (turns-taken v hold choice b told grows) in
+    let same = sample-grown v hold choice (step_entries v hold) grows in
+    subst (λ y. HoldsRequests (goes_on r.trace y outcome v.bus.queue ++ new) s) same
+    (queue-goes-on r s v.bus.queue new outcome grows b.requests (new-requests v hold choice b grows)
+    (subst (λ y. HoldsInFlight (goes_on r.trace y outcome v.bus.queue ++ new) (turns_in
+    (past_of s).moments) s.trace) (sym same) flight))
+
+-- its numbers rise
+pub flight-next : (v : BenchView) (hold : Bool) (choice : Choice) → IsBenchOf v
+    → DeferralsTold v (step_run v hold choice)
+    → MaySample v hold → GrowsTo v.run (step_run v hold choice)
+    → HasFlightOf (step_queue v hold choice) (step_run v hold choice)
+flight-next v hold choice b told may grows = record {
+  flight = (queue-next v hold choice b told may grows).flight;
+  rising = rising-goes_on v.run.trace (step_sample v hold) (outcome_snooped (step_decided v hold))
+      (step_begun v hold choice) v.bus.queue b.flight.rising (new-later v hold choice b);
+}

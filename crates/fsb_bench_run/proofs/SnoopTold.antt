@@ -1,0 +1,150 @@
+-- The snoop end that a bench decides is the one that the moment of the clock has.
+use Rattle.std.proofs.Common.{◌≡◌, Bool, true, false, Option, Some, None, List, is_some, refl, ap, ◌∙◌, subst}
+use Rattle.std.specs.List.{slice_get}
+use Rattle.std.specs.Option.{option_and_then, option_map}
+use Rattle.fsb_access.specs.declared.log.Done.{Done}
+use Rattle.fsb_bridge.specs.Deferrals.{Bridged, deferral_of_id}
+use Rattle.fsb_bridge.specs.DeferralList.{IsThatOf}
+use Rattle.fsb_bridge.specs.declared.deferral.Deferral.{Deferral}
+use Rattle.fsb_coherent.specs.Settled.{outcome_by_turn, outcome_under}
+use Rattle.fsb_coherent.proofs.Interface.{outcome-made}
+use Rattle.fsb_encode.specs.declared.request.Kind.{Kind}
+use Rattle.fsb_encode.specs.declared.request.Kind.TheVariants.{Reply, Invalidate, Read, WriteBack, Upgrade}
+use Rattle.fsb_encode.specs.declared.request.Request.{Request}
+use Rattle.fsb_hazard.specs.declared.choice.Choice.{Choice}
+use Rattle.fsb_hazard.specs.declared.choice.Turn.{Turn}
+use Rattle.fsb_hazard.specs.declared.choice.Turn.TheVariants.{Keep, Retry, Defer}
+use Rattle.fsb_signal.specs.declared.lines.TheConstants.Lines.{HITM}
+use Rattle.fsb_signal.specs.Samples.{line_at}
+use Rattle.fsb_trace.specs.At.{request_at}
+use Rattle.fsb_trace.specs.Outcome.{outcome_by_kind}
+use Rattle.fsb_trace.specs.Requests.{is_reply_kind}
+use Rattle.fsb_trace.specs.declared.outcome.Outcome.TheVariants.{Replied}
+use Rattle.fsb_trace.specs.declared.who.Who.{Who}
+use Rattle.fsb_trace.specs.declared.who.Who.TheVariants.{Symmetric, Priority}
+use Rattle.fsb_timely.specs.Growth.{GrowsTo}
+use Rattle.fsb_timely.specs.Moments.{choice_at, is_in_window, turns_in}
+use Rattle.fsb_timely.specs.Runs.{past_of}
+use Rattle.fsb_timely.specs.Snoops.{number_served_at}
+use Rattle.fsb_trace.specs.Deferral.{is_pending}
+use Rattle.fsb_bench_view.specs.declared.snoop.SnoopSettled.{SnoopSettled}
+use Rattle.fsb_bench_view.specs.BenchSteps.{step_decided, step_performed}
+use Rattle.fsb_bench_view.specs.BusSnooping.{answer_besides, is_modified_answer, snoop_outcome, snooped_entry, snooped_for, snooping_of, snooped_reply}
+use Rattle.fsb_bench_view.specs.BusViews.{BenchView, next_clock_of}
+use Rattle.fsb_bench_run.specs.BenchOf.{IsBegunAt, IsBenchOf}
+use Rattle.fsb_bench_run.proofs.DeferralsTold.{DeferralsTold}
+use Rattle.fsb_bench_run.proofs.DrivenLines.{hitm_driven}
+use Rattle.fsb_bench_run.proofs.HazardsDriven.{decoded-now, turn-now}
+use Rattle.fsb_bench_run.proofs.RunWith.{run_with}
+use Rattle.fsb_bench_run.proofs.SameBus.{same-performed}
+use Rattle.fsb_bench_run.proofs.SnoopCases.{SnoopsHere}
+use Rattle.fsb_bench_run.proofs.SnoopResult.{begun-reply-kind, deferral-started, hitm-now}
+use Rattle.fsb_bench_run.proofs.TurnCounted.{begun-reply, end-turn, kept-turn}
+
+-- what the bench decides of the snoop end: the entry, its turn and its outcome
+pub record IsSnoopTold (v : BenchView) (hold : Bool) (choice : Choice) (entries : List Done)
+    (k : SnoopsHere v hold choice entries) : Type 0 where
+  pub snooped : SnoopSettled
+  pub decided : (step_decided v hold).snooped ≡ Some snooped
+  pub entry : snooped.entry ≡ k.now.entry
+  pub turn : k.told.end.turn ≡ snooped.turn
+  pub outcome : k.told.end.outcome ≡ snooped.outcome
+
+settled-under : (handed : Bool) (turn : Turn) (request : Request)
+    → outcome_under handed turn (Some request) ≡ snoop_outcome handed turn request
+unfolding outcome_under outcome_by_turn
+settled-under true turn request = refl
+settled-under false Keep request = refl
+settled-under false Retry request = refl
+settled-under false (Defer later) request = refl
+
+reply-settled : (kind : Kind) (request : Request) → request.kind ≡ kind → is_reply_kind kind ≡ true
+    → outcome_under false Keep (Some request) ≡ Replied
+unfolding outcome_under outcome_by_turn outcome_by_kind is_reply_kind
+reply-settled Reply request e f = rw (e, outcome_by_kind) refl
+reply-settled Invalidate request e f = absurd (let no : ⊥ = cc in no)
+reply-settled Read request e f = absurd (let no : ⊥ = cc in no)
+reply-settled WriteBack request e f = absurd (let no : ⊥ = cc in no)
+reply-settled Upgrade request e f = absurd (let no : ⊥ = cc in no)
+
+-- the outcome of the snoop end
+outcome-told : (v : BenchView) (hold : Bool) (choice : Choice) (entries : List Done) → IsBenchOf v
+    → (grows : GrowsTo v.run (run_with v hold choice entries)) → (k : SnoopsHere v hold choice entries)
+    → k.told.end.outcome
+    ≡ outcome_under (line_at HITM (run_with v hold choice entries).trace (next_clock_of v)) k.told.end.turn
+    (Some k.now.entry.request)
+outcome-told v hold choice entries b grows k =
+    let s = run_with v hold choice entries in
+    let n = next_clock_of v in
+    outcome-made s n k.told.end k.told.is_end.there
+    ∙ ap (λ q. outcome_under (line_at HITM s.trace n) k.told.end.turn (request_at s.trace q)) k.told.first
+    ∙ ap (outcome_under (line_at HITM s.trace n) k.told.end.turn) (decoded-now v hold choice entries b grows k)
+
+some-there : {X : Type 0} (o : Option X) → is_some o ≡ true → (x : X) × (o ≡ Some x)
+some-there None e = absurd (let no : ⊥ = cc in no)
+some-there (Some x) e = (x, refl)
+
+snoop-by : (v : BenchView) (hold : Bool) (choice : Choice) (entries : List Done) → IsBenchOf v
+    → DeferralsTold v (run_with v hold choice entries)
+    → (grows : GrowsTo v.run (run_with v hold choice entries)) → (k : SnoopsHere v hold choice entries) (who : Who)
+    → k.now.entry.who ≡ who → IsSnoopTold v hold choice entries k
+snoop-by v hold choice entries b told grows k (Symmetric agent) e =
+    let s = run_with v hold choice entries in
+    let bus = step_performed v in
+    let y = k.now.entry in
+    let turn = turn-now v hold choice entries b told grows k in
+    let handed = hitm-now v hold choice entries k (Symmetric agent) e in
+    let answer = is_modified_answer (answer_besides agent y.request.line 0 bus.agents) in
+    record {
+      snooped = snooping_of bus agent y;
+      decided = k.decided ∙ ap (snooped_entry bus y) e;
+      entry = refl;
+      turn = turn;
+      outcome = outcome-told v hold choice entries b grows k
+          ∙ (λ i. outcome_under (handed i) (turn i) (Some y.request))
+          ∙ settled-under answer (snooping_of bus agent y).turn y.request;
+    }
+snoop-by v hold choice entries b told grows k Priority e =
+    let r = v.run in
+    let s = run_with v hold choice entries in
+    let p = past_of s in
+    let n = next_clock_of v in
+    let bus = step_performed v in
+    let y = k.now.entry in
+    let did = y.request.did in
+    let same = same-performed v in
+    let begun = subst (λ w. IsBegunAt r y.clock w y.request) e (b.entries.begun k.now.place y k.now.at) in
+    let kind = begun-reply-kind r y.clock y.request begun in
+    let decoded = ap (request_at s.trace) k.told.first ∙ decoded-now v hold choice entries b grows k in
+    let there = k.told.is_end.there in
+    let some = some-there (deferral_of_id did v.bus.bridge.waiting)
+    (told.taken k.told.end y.request there decoded kind) in
+    let d : Deferral = some.0 in
+    let that = told.deferral k.told.end y.request there decoded kind in
+    let one = subst (λ o. IsThatOf s.trace o (number_served_at s p n)) some.1 that in
+    let at = deferral-started v hold choice entries b grows k d one.0 one.1 one.2 in
+    let list = ap (λ (x : Bridged). deferral_of_id did x.waiting) same.bridge ∙ some.1 in
+    let started = ap (λ xs. slice_get xs d.number) same.started ∙ at.1 in
+    let turn = end-turn r s y grows k.told (decoded-now v hold choice entries b grows k)
+    ∙ kept-turn (choice_at s.choices s.trace y.clock).turn y.request (is_in_window s.plan.bridge y.request.line)
+    (is_pending s.trace (turns_in (past_of r).moments) y.request.line n) (begun-reply r y.clock y.request begun) in
+    let handed = hitm-now v hold choice entries k Priority e
+    ∙ (λ i. hitm_driven (option_and_then (snooped_for bus y) (list i)) false)
+    ∙ (λ i. hitm_driven (option_map (snooped_reply y d) (started i)) false) in
+    record {
+      snooped = snooped_reply y d at.0;
+      decided = k.decided ∙ ap (snooped_entry bus y) e ∙ ap (option_and_then (snooped_for bus y)) list
+          ∙ ap (option_map (snooped_reply y d)) started;
+      entry = refl;
+      turn = turn;
+      outcome = outcome-told v hold choice entries b grows k
+          ∙ (λ i. outcome_under (handed i) (turn i) (Some y.request))
+          ∙ reply-settled y.request.kind y.request refl kind;
+    }
+
+pub snoop-told : (v : BenchView) (hold : Bool) (choice : Choice) (entries : List Done) → IsBenchOf v
+    → DeferralsTold v (run_with v hold choice entries)
+    → (grows : GrowsTo v.run (run_with v hold choice entries)) → (k : SnoopsHere v hold choice entries)
+    → IsSnoopTold v hold choice entries k
+snoop-told v hold choice entries b told grows k =
+    snoop-by v hold choice entries b told grows k k.now.entry.who refl

@@ -1,0 +1,114 @@
+-- The requests that have begun, after the clock.
+use Rattle.std.proofs.Common.{ℕ, zero, suc, ◌+◌, ◌<◌, ◌≤◌, ◌≡◌, ◌⊎◌, Bool, true, false, not, Option, Some, None, List, [], ◌∷◌, ◌++◌, is_some, length, map, slice_get, nat_eq, if◌then◌else◌, append-nil, refl, sym, ap, subst, ◌∙◌, arith, inl, inr}
+use Rattle.std.specs.Option.{option_and_then, option_map, option_map_or}
+use Rattle.std.proofs.lemmas.Option.{slice_get-map}
+use Rattle.fsb_count.specs.Clocks.{all_where, nth_where}
+use Rattle.fsb_count.proofs.Interface.{nth_where-found, slice_get-push}
+use Rattle.fsb_count.specs.Options.{is_some_and}
+use Rattle.fsb_hazard.specs.declared.choice.Choice.{Choice}
+use Rattle.fsb_signal.specs.declared.lines.TheConstants.Lines.{ADS}
+use Rattle.fsb_signal.specs.Samples.{line_at}
+use Rattle.fsb_timely.specs.BusLock.{is_begun_by, is_locked_request, wants_lock}
+use Rattle.fsb_timely.specs.Grants.{begun_at}
+use Rattle.fsb_timely.specs.Growth.{GrowsTo}
+use Rattle.fsb_timely.specs.Moments.{agent_at, claim_at}
+use Rattle.fsb_timely.specs.Past.{Claim, Past}
+use Rattle.fsb_timely.specs.Runs.{Run, past_of, past_to}
+use Rattle.fsb_timely.proofs.Interface.{begun-told, claim_at-agree, past-same}
+use Rattle.fsb_trace.specs.Agree.{AgreeTo}
+use Rattle.fsb_trace.specs.At.{Trace}
+use Rattle.fsb_trace.proofs.Interface.{line_at-agree}
+use Rattle.fsb_trace.specs.Winner.{winner_at}
+use Rattle.fsb_trace.specs.declared.who.Who.{Who}
+use Rattle.fsb_trace.specs.declared.who.Who.TheVariants.{Symmetric, Priority}
+use Rattle.fsb_bench_view.specs.declared.beginning.Started.{Started}
+use Rattle.fsb_bench_view.specs.declared.beginning.Starting.{Starting}
+use Rattle.fsb_bench_view.specs.BenchSteps.{bench_stepped, step_decided, step_entries, step_run}
+use Rattle.fsb_bench_view.specs.BusViews.{BenchView, next_clock_of}
+use Rattle.fsb_bench_run.specs.BenchOf.{HasStarted, IsBegunAt, IsBenchOf}
+use Rattle.fsb_bench_run.proofs.BegunStays.{before-growth}
+use Rattle.fsb_bench_run.specs.HitsTold.{HasHitsOf}
+use Rattle.fsb_bench_run.proofs.AdsGrown.{all-more}
+use Rattle.fsb_bench_run.proofs.LockedStarts.{begun-by-agent, locked-start}
+use Rattle.fsb_bench_run.proofs.NextRun.{begins-now, grows-to}
+use Rattle.fsb_bench_run.proofs.StepEntries.{step-with}
+use Rattle.fsb_bench_run.proofs.StepFields.{started-stepped, started_after}
+use Rattle.fsb_phase_run.proofs.Interface.{agree-grown, longer}
+
+claim-same : (w v : Trace) (n q : ℕ) → AgreeTo n w v → q < n
+    → (if line_at ADS w q then claim_at w q else None) ≡ (if line_at ADS v q then claim_at v q else None)
+claim-same w v n q agree l =
+    let line = line_at-agree ADS n w v q agree l in
+    let claim = claim_at-agree n w v q agree l in
+    λ i. if line i then claim i else None
+
+-- what begins at a clock stays as a run grows
+pub begun-same : (r s : Run) (q : ℕ) → GrowsTo r s → q < length r.trace → begun_at (past_of s) q ≡ begun_at (past_of r) q
+begun-same r s q grows l =
+    let size = longer r s grows in
+    begun-told s q (omega arith)
+    ∙ sym (claim-same r.trace s.trace (length r.trace) q (agree-grown r s grows) l) ∙ sym (begun-told r q l)
+
+-- whether a request is a locked one stays as a run grows
+begun_by-same : (r s : Run) (a q : ℕ) → GrowsTo r s → q < length r.trace
+    → is_begun_by (past_of s) a q ≡ is_begun_by (past_of r) a q
+unfolding is_begun_by
+begun_by-same r s a q grows l = ap (λ o. is_some_and o (λ (claim : Claim). nat_eq claim.agent a)) (begun-same r s q grows l)
+
+pub locked-same : (r s : Run) (a q : ℕ) → GrowsTo r s → q < length r.trace
+    → is_locked_request (past_of s) a q ≡ is_locked_request (past_of r) a q
+unfolding is_locked_request
+locked-same r s a q grows l =
+    let begun = begun_by-same r s a q grows l in
+    let past = past-same r s q grows.next (before-growth r s grows) l in
+    λ i. elim (begun i) [ true ↦ wants_lock (past i) a q | false ↦ false ]
+
+-- those that have begun have their clocks below the next one
+started-below : (started : List Started) (r : Run) (k : ℕ) (start : Started) → HasStarted started r
+    → slice_get started k ≡ Some start → start.clock < length r.trace
+unfolding nth_where
+started-below started r k start h at =
+    let there : nth_where (line_at ADS r.trace) k (length r.trace) ≡ Some start.clock =
+    ap (λ qs. slice_get qs k) (sym h.clocks) ∙ slice_get-map (λ (start : Started). start.clock) started k
+    ∙ ap (option_map (λ (start : Started). start.clock)) at in
+    (nth_where-found (line_at ADS r.trace) k (length r.trace) start.clock there).0
+
+map-push : {X Y : Type 0} (f : X → Y) (xs : List X) (x : X) → map f (xs ++ x ∷ []) ≡ map f xs ++ f x ∷ []
+map-push f [] x = refl
+map-push f (y ∷ xs) x = ap (λ ys. f y ∷ ys) (map-push f xs x)
+
+started-by : (r s : Run) (started : List Started) (o : Option Starting) → GrowsTo r s → HasStarted started r
+    → line_at ADS s.trace (length r.trace) ≡ is_some o
+    → ((starting : Starting) (a : ℕ) → o ≡ Some starting → is_begun_by (past_of s) a (length r.trace) ≡ true
+    → starting.locked ≡ is_locked_request (past_of s) a (length r.trace))
+    → HasStarted (started_after (length r.trace) o started) s
+started-by r s started (Some x) grows h ads locks =
+    let n = length r.trace in
+    let new : Started = record { clock = n; locked = x.locked } in
+    record {
+      clocks = map-push (λ (start : Started). start.clock) started new ∙ ap (λ xs. xs ++ n ∷ []) h.clocks ∙ sym (all-more r s true grows ads);
+      locked = λ k a start at begun.
+          elim (slice_get-push started new k start at) [
+            | inl old ↦
+                let l = started-below started r k start h old in
+                let was = sym (begun_by-same r s a start.clock grows l) ∙ begun in
+                h.locked k a start old was ∙ sym (locked-same r s a start.clock grows l)
+            | inr now ↦
+                subst (λ (start : Started). is_begun_by (past_of s) a start.clock ≡ true → start.locked ≡ is_locked_request (past_of s) a start.clock)
+                now.1 (locks x a refl) begun
+          ];
+    }
+started-by r s started None grows h ads locks = record {
+  clocks = h.clocks ∙ sym (append-nil _) ∙ sym (all-more r s false grows ads);
+  locked = λ k a start at begun.
+      let l = started-below started r k start h at in
+      let was = sym (begun_by-same r s a start.clock grows l) ∙ begun in
+      h.locked k a start at was ∙ sym (locked-same r s a start.clock grows l);
+}
+
+pub started-next : (v : BenchView) (hold : Bool) (choice : Choice) → IsBenchOf v → HasHitsOf v (step_run v hold choice)
+    → HasStarted (bench_stepped v hold choice).bus.started (step_run v hold choice)
+started-next v hold choice b hits =
+    subst (λ started. HasStarted started (step_run v hold choice)) (sym (started-stepped v hold choice))
+    (started-by v.run (step_run v hold choice) v.bus.started (step_decided v hold).starting (grows-to v hold choice b) b.started
+    (begins-now v hold choice) (λ starting a e begun. locked-start v hold choice (step_entries v hold) starting a (step-with v hold choice b hits) e begun))

@@ -1,0 +1,124 @@
+-- What a clock leaves of the request that began last, and of those that have begun.
+use Rattle.std.proofs.Common.{ℕ, ◌≡◌, Bool, Option, Some, None, List, [], ◌∷◌, ◌++◌, append-nil, refl, sym, ap, ◌∙◌}
+use Rattle.std.specs.Option.{option_map_or}
+use Rattle.fsb_access.specs.declared.item.Item.{Item}
+use Rattle.fsb_hazard.specs.declared.choice.Choice.{Choice}
+use Rattle.fsb_queue.specs.declared.entry.Entry.{Entry}
+use Rattle.fsb_bench_view.specs.declared.beginning.Latest.{Latest}
+use Rattle.fsb_bench_view.specs.declared.beginning.Started.{Started}
+use Rattle.fsb_bench_view.specs.declared.beginning.Starting.{Starting}
+use Rattle.fsb_bench_view.specs.declared.decided.BytesFrom.{BytesFrom}
+use Rattle.fsb_bench_view.specs.declared.decided.BytesFrom.TheVariants.{Memory, Agents}
+use Rattle.fsb_bench_view.specs.declared.decided.Ending.{Ending}
+use Rattle.fsb_bench_view.specs.declared.snoop.SnoopSettled.{SnoopSettled}
+use Rattle.fsb_bench_view.specs.BenchSteps.{bench_stepped, step_answered, step_cancelled, step_decided, step_drive, step_ended, step_ending, step_fetched, step_performed, step_snooped, step_started}
+use Rattle.fsb_bench_view.specs.BusEvents.{answered_by, bus_answered, bus_cancelled, bus_ended, bus_snooped, bus_started}
+use Rattle.fsb_bench_view.specs.BusViews.{BenchView, BusView, next_clock_of}
+use Rattle.fsb_bench_view.specs.BytesFetched.{bus_fetched, bytes_source}
+
+-- the request that began last, after this one began, if one did
+abbrev pub latest_after : ℕ → Option Starting → Option Latest → Option Latest
+latest_after clock starting latest =
+    option_map_or (λ (s : Starting). Some (record { clock = clock; who = s.who; request = s.request })) starting latest
+
+-- those that have begun, with this one, if one did
+abbrev pub started_after : ℕ → Option Starting → List Started → List Started
+started_after clock starting started =
+    option_map_or (λ (s : Starting). started ++ record { clock = clock; locked = s.locked } ∷ []) starting started
+
+-- two buses with the same requests begun, and the same locks
+pub record HasSameBegun (a b : BusView) : Type 0 where
+  pub latest : a.latest ≡ b.latest
+  pub started : a.started ≡ b.started
+  pub kept : a.kept ≡ b.kept
+  pub queue : a.queue ≡ b.queue
+
+begun-then : (a b c : BusView) → HasSameBegun a b → HasSameBegun b c → HasSameBegun a c
+begun-then a b c h k = record {
+  latest = h.latest ∙ k.latest;
+  started = h.started ∙ k.started;
+  kept = h.kept ∙ k.kept;
+  queue = h.queue ∙ k.queue;
+}
+
+same : (a : BusView) → HasSameBegun a a
+same a = record { latest = refl; started = refl; kept = refl; queue = refl }
+
+fetched-same : (bus : BusView) (o : Option BytesFrom) → HasSameBegun (bus_fetched bus o) bus
+fetched-same bus None = same bus
+fetched-same bus (Some (Memory line)) = record { latest = refl; started = refl; kept = refl; queue = refl }
+fetched-same bus (Some (Agents number)) = record { latest = refl; started = refl; kept = refl; queue = refl }
+
+cancelled-same : (bus : BusView) (o : Option Entry) → HasSameBegun (option_map_or (bus_cancelled bus) o bus) bus
+cancelled-same bus None = same bus
+cancelled-same bus (Some e) = record { latest = refl; started = refl; kept = refl; queue = refl }
+
+snooped-same : (bus : BusView) (o : Option SnoopSettled) → HasSameBegun (option_map_or (bus_snooped bus) o bus) bus
+snooped-same bus None = same bus
+snooped-same bus (Some s) = record { latest = refl; started = refl; kept = refl; queue = refl }
+
+answered-same : (bus : BusView) (clock : ℕ) (o : Option Entry) → HasSameBegun (option_map_or (bus_answered bus clock) o bus) bus
+answered-same bus clock None = same bus
+answered-same bus clock (Some e) = record { latest = refl; started = refl; kept = refl; queue = refl }
+
+ended-same : (bus : BusView) (clock : ℕ) (o : Option Ending) → HasSameBegun (option_map_or (bus_ended bus clock) o bus) bus
+ended-same bus clock None = same bus
+ended-same bus clock (Some e) = record { latest = refl; started = refl; kept = refl; queue = refl }
+
+-- the hits change nothing of it
+pub performed-begun : (v : BenchView) → HasSameBegun (step_performed v) v.bus
+performed-begun v =
+    let k = fetched-same v.bus (bytes_source v.bus (step_drive v)) in
+    record { latest = k.latest; started = k.started; kept = k.kept; queue = k.queue }
+
+-- nor does what comes after the request that begins
+pub ended-begun : (v : BenchView) (hold : Bool) → HasSameBegun (step_ended v hold) (step_started v hold)
+ended-begun v hold =
+    begun-then (step_ended v hold) (step_answered v hold) (step_started v hold)
+    (ended-same (step_answered v hold) (next_clock_of v) (step_ending v hold))
+    (begun-then (step_answered v hold) (step_snooped v hold) (step_started v hold)
+    (answered-same (step_snooped v hold) (next_clock_of v) (answered_by (step_snooped v hold) (step_drive v)))
+    (begun-then (step_snooped v hold) (step_cancelled v hold) (step_started v hold)
+    (snooped-same (step_cancelled v hold) (step_decided v hold).snooped)
+    (cancelled-same (step_started v hold) (step_decided v hold).cancelled)))
+
+started-latest : (bus : BusView) (clock : ℕ) (o : Option Starting)
+    → (option_map_or (bus_started bus clock) o bus).latest ≡ latest_after clock o bus.latest
+started-latest bus clock None = refl
+started-latest bus clock (Some s) = refl
+
+started-started : (bus : BusView) (clock : ℕ) (o : Option Starting)
+    → (option_map_or (bus_started bus clock) o bus).started ≡ started_after clock o bus.started
+started-started bus clock None = refl
+started-started bus clock (Some s) = refl
+
+started-kept : (bus : BusView) (clock : ℕ) (o : Option Starting)
+    → (option_map_or (bus_started bus clock) o bus).kept ≡ bus.kept
+started-kept bus clock None = refl
+started-kept bus clock (Some s) = refl
+
+-- the request that began last, after the clock
+pub latest-stepped : (v : BenchView) (hold : Bool) (choice : Choice)
+    → (bench_stepped v hold choice).bus.latest ≡ latest_after (next_clock_of v) (step_decided v hold).starting v.bus.latest
+latest-stepped v hold choice =
+    (ended-begun v hold).latest
+    ∙ started-latest (step_performed v) (next_clock_of v) (step_decided v hold).starting
+    ∙ ap (latest_after (next_clock_of v) (step_decided v hold).starting) (performed-begun v).latest
+
+-- those that have begun, after the clock
+pub started-ended : (v : BenchView) (hold : Bool)
+    → (step_ended v hold).started ≡ started_after (next_clock_of v) (step_decided v hold).starting v.bus.started
+started-ended v hold =
+    (ended-begun v hold).started
+    ∙ started-started (step_performed v) (next_clock_of v) (step_decided v hold).starting
+    ∙ ap (started_after (next_clock_of v) (step_decided v hold).starting) (performed-begun v).started
+
+pub started-stepped : (v : BenchView) (hold : Bool) (choice : Choice)
+    → (bench_stepped v hold choice).bus.started ≡ started_after (next_clock_of v) (step_decided v hold).starting v.bus.started
+started-stepped v hold choice = started-ended v hold
+
+-- the locks, before they take the clock
+pub kept-ended : (v : BenchView) (hold : Bool) → (step_ended v hold).kept ≡ v.bus.kept
+kept-ended v hold =
+    (ended-begun v hold).kept ∙ started-kept (step_performed v) (next_clock_of v) (step_decided v hold).starting
+    ∙ (performed-begun v).kept

@@ -1,0 +1,108 @@
+-- The turn that counts at the snoop end of a clock.
+use Rattle.std.proofs.Common.{ℕ, suc, ◌+◌, ◌≡◌, Bool, true, Option, Some, None, List, [], ◌∷◌, ◌++◌, length, refl, sym, ap, ◌∙◌, arith}
+use Rattle.std.specs.Option.{option_map}
+use Rattle.std.proofs.lemmas.List.{length-append}
+use Rattle.fsb_bridge.specs.Deferrals.{is_covered}
+use Rattle.fsb_encode.specs.declared.request.Request.{Request}
+use Rattle.fsb_hazard.specs.Choice.{effective_turn, is_never_held_up}
+use Rattle.fsb_hazard.specs.declared.choice.Choice.{Choice}
+use Rattle.fsb_hazard.specs.declared.choice.Turn.{Turn}
+use Rattle.fsb_hazard.specs.declared.choice.Turn.TheVariants.{Keep}
+use Rattle.fsb_phase.specs.Due.{rank_of}
+use Rattle.fsb_queue.specs.declared.entry.Entry.{Entry}
+use Rattle.fsb_script.specs.declared.plan.Window.{Window}
+use Rattle.fsb_trace.specs.At.{Trace, request_at}
+use Rattle.fsb_trace.specs.Deferral.{is_pending}
+use Rattle.fsb_trace.specs.Requests.{live_clock_of}
+use Rattle.fsb_trace.specs.declared.who.Who.TheVariants.{Priority}
+use Rattle.fsb_timely.specs.Growth.{GrowsTo}
+use Rattle.fsb_timely.specs.Moments.{choice_at, effective_choice, is_in_window, snoop_end_with, turns_in}
+use Rattle.fsb_timely.specs.Past.{SnoopEnd}
+use Rattle.fsb_timely.specs.Runs.{Run, moments_below, next_moment, past_of}
+use Rattle.fsb_timely.specs.Starts.{reply_to, would_begin}
+use Rattle.fsb_timely.proofs.Interface.{moment-snooped, moments-grow, run-ends, snoop_of, snooped-there}
+use Rattle.fsb_phase_run.proofs.Interface.{longer}
+use Rattle.fsb_bench_run.specs.BenchOf.{IsBegunAt}
+use Rattle.fsb_bench_run.proofs.SnoopEntry.{IsSnoopedNow}
+
+-- the moments below the new clock are those of the run before
+pub front-same : {X : Type 0} (xs ys : List X) (x y : X) → xs ++ x ∷ [] ≡ ys ++ y ∷ [] → xs ≡ ys
+front-same [] [] x y e = refl
+front-same [] (z ∷ ys) x y e =
+    let size = ap length e in absurd (omega (arith, length-append ys (y ∷ []), size))
+front-same (z ∷ xs) [] x y e =
+    let size = ap length e in absurd (omega (arith, length-append xs (x ∷ []), size))
+front-same (z ∷ xs) (w ∷ ys) x y e =
+    let rest = front-same xs ys x y (let behind : xs ++ x ∷ [] ≡ ys ++ y ∷ [] = cc in behind) in
+    let head : z ≡ w = cc in λ i. head i ∷ rest i
+
+pub moments-before : (r s : Run) → GrowsTo r s → moments_below s (length r.trace) ≡ (past_of r).moments
+unfolding past_of moments_below
+moments-before r s grows =
+    let n = length r.trace in
+    let size : length s.trace ≡ suc n = longer r s grows ∙ (let one : n + 1 ≡ suc n = omega arith in one) in
+    let grown = moments-grow r s grows in
+    front-same (moments_below s n) (moments_below r n) (next_moment s (moments_below s n) n) _
+    (sym (ap (moments_below s) size) ∙ grown)
+
+-- the snoop end of an entry is what the moment makes of it
+end-as : (r s : Run) (e : Entry) → GrowsTo r s → (told : IsSnoopedNow s (length r.trace) e)
+    → told.end ≡ snoop_of s (length r.trace) (rank_of s.trace e) e.clock
+end-as r s e grows told =
+    let n = length r.trace in
+    let size = longer r s grows in
+    let i = rank_of s.trace e in
+    let first : live_clock_of s.trace i ≡ Some e.clock = told.is_end.first ∙ ap (λ q. Some q) told.first in
+    let made = sym told.is_end.there ∙ snooped-there s n (omega arith)
+    ∙ moment-snooped s i n e.clock told.is_end.reached first in
+    same-end told.end (snoop_of s n i e.clock) made
+  where
+    same-end : (a b : SnoopEnd) → Some a ≡ Some b → a ≡ b
+    same-end a b f = cc
+
+effective-of : (bridge : Option Window) (choices : List Choice) (w : Trace) (turns : List ℕ) (q n : ℕ)
+    (request : Request) → request_at w q ≡ Some request
+    → (effective_choice bridge choices w turns q n).turn
+    ≡ effective_turn (choice_at choices w q).turn request (is_in_window bridge request.line)
+    (is_pending w turns request.line n)
+unfolding effective_choice
+effective-of bridge choices w turns q n request e = rw (e, effective_choice) refl
+
+-- its turn is the effective one
+pub end-turn : (r s : Run) (e : Entry) → GrowsTo r s → (told : IsSnoopedNow s (length r.trace) e)
+    → request_at s.trace e.clock ≡ Some e.request
+    → told.end.turn ≡ effective_turn (choice_at s.choices s.trace e.clock).turn e.request
+    (is_in_window s.plan.bridge e.request.line) (is_pending s.trace (turns_in (past_of r).moments) e.request.line
+    (length r.trace))
+unfolding snoop_end_with
+end-turn r s e grows told decoded =
+    let n = length r.trace in
+    ap (λ (x : SnoopEnd). x.turn) (end-as r s e grows told)
+    ∙ ap (λ (u : Run). (effective_choice s.plan.bridge u.choices u.trace (turns_in (moments_below s n)) e.clock n).turn)
+    (run-ends r s grows)
+    ∙ ap (λ ms. (effective_choice s.plan.bridge s.choices s.trace (turns_in ms) e.clock n).turn)
+    (moments-before r s grows)
+    ∙ effective-of s.plan.bridge s.choices s.trace (turns_in (past_of r).moments) e.clock n e.request decoded
+
+-- a reply is kept
+pub kept-turn : (turn : Turn) (request : Request) (inside pending : Bool) → is_never_held_up request.kind ≡ true
+    → effective_turn turn request inside pending ≡ Keep
+kept-turn turn request inside pending e = rw e refl
+
+reply-kind : (o : Option Request) (request : Request) → option_map reply_to o ≡ Some request
+    → is_never_held_up request.kind ≡ true
+unfolding reply_to
+reply-kind None request e = absurd (let no : ⊥ = cc in no)
+reply-kind (Some x) request e =
+    let same : reply_to x ≡ request = cc in ap (λ (y : Request). is_never_held_up y.kind) (sym same)
+
+pub begun-reply : (r : Run) (q : ℕ) (request : Request) → IsBegunAt r q Priority request
+    → is_never_held_up request.kind ≡ true
+unfolding would_begin
+begun-reply r q request k = reply-kind _ request k.wanted
+
+-- the window
+pub window-same : (o : Option Window) (line : ℕ) → is_covered o line ≡ is_in_window o line
+unfolding is_in_window
+window-same None line = refl
+window-same (Some window) line = refl

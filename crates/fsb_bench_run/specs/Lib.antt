@@ -1,0 +1,3 @@
+pub mod BenchOf
+pub mod LocksHeld
+pub mod HitsTold

@@ -1,0 +1,19 @@
+//! Laws over the run with one more clock: no code.
+
+ghost use Rattle.std.specs.Prelude.{◌+◌, Bool};
+ghost use Rattle.fsb_hazard.specs.declared.choice.Choice.{Choice};
+ghost use Rattle.fsb_timely.specs.Growth.{GrowsTo, IsNext, IsWhole};
+ghost use Rattle.fsb_bench_view.specs.BenchSteps.{step_run};
+ghost use Rattle.fsb_bench_view.specs.BusViews.{BenchView};
+ghost use Rattle.fsb_bench_run.specs.BenchOf.{IsBenchOf};
+
+/// The run with one more clock of the bench is the run with one more sample and hold, with a choice
+/// where a request begins, and with entries of that clock alone; so a timely run grows to it.
+pub fn clocks_add_to_runs()
+    ensures next { (v : BenchView) (hold : Bool) (choice : Choice) →
+        IsNext v.run (step_run v hold choice) }
+    ensures whole { (v : BenchView) (hold : Bool) (choice : Choice) → IsBenchOf v →
+        IsWhole (step_run v hold choice) }
+    ensures grows { (v : BenchView) (hold : Bool) (choice : Choice) → IsBenchOf v →
+        GrowsTo v.run (step_run v hold choice) }
+{}
