@@ -1,3 +1,3 @@
-pub mod BenchSteps
+pub mod Stepping
 pub mod Benches
-pub mod Parts
+pub mod BareBenches

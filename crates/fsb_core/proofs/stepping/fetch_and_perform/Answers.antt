@@ -5,7 +5,7 @@ use Rattle.fsb_bus.specs.Buses.{bus_view}
 use Rattle.fsb_bus.specs.LogRoom.{accesses_left_of}
 use Rattle.fsb_bus.specs.declared.bus.Bus.{Bus}
 use Rattle.fsb_core.proofs.AgentCounts.{fetch-count, fetch-left, told-count}
-use Rattle.fsb_core.proofs.stepping.perform.Goals as goal
+use Rattle.fsb_core.proofs.stepping.fetch_and_perform.Goals as goal
 
 moved-on : (old mid new : Bus) → mid ≡ record old { agents = mid.agents; moved = mid.moved } → new ≡ record mid { agents = new.agents }
     → new ≡ record old { agents = new.agents; moved = new.moved }
