@@ -27,13 +27,15 @@ bare_view m = record {
 abbrev pub fetched_by : BusView → Drive → BusView
 fetched_by bus drive = bus_fetched bus (bytes_source bus drive)
 
--- its parts fit together: the arbiter and the phases stand for the trace, there are four agents and a choice for each
--- request, memory has each line that the scripts name, and there is room for all that the plan's clocks can bring
+-- its parts fit together: the arbiter and the phases stand for the trace, there are four agents and
+-- a choice for each request, memory has each line that the scripts name, and there is room for all
+-- that the plan's clocks can bring
 pub record IsFit (m : BareBench) : Type 0 where
   pub stands : StandsFor m.bus m.trace.items
   pub agents : length m.bus.agents.items ≡ 4
   pub started : length m.bus.started.items ≡ length m.choices.items
-  pub named : (line : ℕ) → is_named_line m.plan.scripts line ≡ true → is_mapped m.bus.memory line ≡ true
+  pub named : (line : ℕ) → is_named_line m.plan.scripts line ≡ true
+      → is_mapped m.bus.memory line ≡ true
   pub clocks : length m.trace.items ≤ m.plan.clocks
   pub holds : length m.holds.items ≡ length m.trace.items
   pub choices : length m.choices.items ≤ length m.trace.items

@@ -24,4 +24,6 @@ objects_of bench = bench.hazards.items
 -- the cache of the agent of this number; there is none where the plan has no such agent
 abbrev pub cache_of : BenchView → ℕ → Option CacheSets
 cache_of v agent =
-    if nat_lt agent (length v.run.plan.scripts) then option_map (λ a. a.lines) (slice_get v.bus.agents agent) else None
+    if nat_lt agent (length v.run.plan.scripts)
+    then option_map (λ a. a.lines) (slice_get v.bus.agents agent)
+    else None

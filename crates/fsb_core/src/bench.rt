@@ -3,9 +3,7 @@ ghost use Rattle.std.specs.List.{remove};
 ghost use Rattle.std.specs.Option.{option_map};
 ghost use Rattle.fsb_hazard.specs.Told.{told_after};
 ghost use Rattle.fsb_script.specs.View.{plan_view};
-ghost use Rattle.fsb_bench_view.specs.MaySteps.{MayStep};
-ghost use Rattle.fsb_bus.specs.FirstBus.{is_named_line};
-ghost use Rattle.fsb_core.specs.Stepping.{IsStepped, first_bench};
+ghost use Rattle.fsb_core.specs.Stepping.{HasClockLeft, IsStepped, MayGoOn, first_bench};
 ghost use Rattle.fsb_core.specs.BareBenches.{IsFit};
 
 use crate::asking::loaded;
@@ -48,9 +46,8 @@ impl Bench {
     /// One clock: the objects that stand at it are asked, and the bench is what the clock makes of
     /// it. It takes no memory and has no refusal.
     pub(crate) fn step(&mut self)
-        requires clocks { length (bench_view self.old).run.trace < (bench_view self.old).run.plan.clocks }
-        requires may { (hold : Bool) →
-            MayStep (is_named_line (bench_view self.old).run.plan.scripts) (bench_view self.old) hold }
+        requires clocks { HasClockLeft (bench_view self.old) }
+        requires may { MayGoOn (bench_view self.old) }
         ensures stepped { IsStepped (map (λ h. told h) (objects_of self.old)) (bench_view self.old)
             (bench_view self.new) }
         ensures told_stays { map (λ h. told h) (objects_of self.new)
@@ -105,7 +102,8 @@ impl Bench {
 
     /// The cache of an agent; none where the plan has no agent of that number.
     pub fn cache(&self, agent: u8) -> Option<&Cache>
-        ensures cache { option_map (λ cache. cache.now) result ≡ cache_of (bench_view self.now) agent }
+        ensures cache { option_map (λ cache. cache.now) result
+            ≡ cache_of (bench_view self.now) agent }
         ensures none { is_none result
             ≡ nat_le (length (bench_view self.now).run.plan.scripts) agent }
     {

@@ -5,12 +5,10 @@ ghost use Rattle.std.specs.Option.{option_map, option_map_or};
 ghost use Rattle.fsb_bench_view.specs.BenchSteps.{outcome_snooped};
 ghost use Rattle.fsb_bench_view.specs.BusEvents.{entry_started};
 ghost use Rattle.fsb_bench_view.specs.BusEvents.{bus_performed};
-ghost use Rattle.fsb_bench_view.specs.MaySteps.{MayStep};
 ghost use Rattle.fsb_bench_view.specs.ToldAgents.{hit_entries};
 ghost use Rattle.fsb_bus.specs.Buses.{bus_view};
-ghost use Rattle.fsb_bus.specs.FirstBus.{is_named_line};
 ghost use Rattle.fsb_bus.specs.LogRoom.{HasLogRoom};
-ghost use Rattle.fsb_core.specs.Stepping.{IsStepped};
+ghost use Rattle.fsb_core.specs.Stepping.{HasClockLeft, IsStepped, MayGoOn};
 ghost use Rattle.fsb_core.specs.BareBenches.{IsFit, fetched_by, bare_view};
 
 use crate::asking::{ask_choice, ask_hold};
@@ -29,9 +27,8 @@ impl BareBench {
     /// One clock, at which these objects stand.
     pub fn advance<H: Hazard>(&mut self, objects: &mut [H])
         requires fit { IsFit self.old }
-        requires clocks { length self.old.trace.items < self.old.plan.clocks }
-        requires may { (hold : Bool) →
-            MayStep (is_named_line self.old.plan.scripts) (bare_view self.old) hold }
+        requires clocks { HasClockLeft (bare_view self.old) }
+        requires may { MayGoOn (bare_view self.old) }
         ensures fit { IsFit self.new }
         ensures stepped { IsStepped (map H.told objects.old) (bare_view self.old)
             (bare_view self.new) }
@@ -74,7 +71,8 @@ impl BareBench {
 /// The bytes that move are fetched, and the hits are made.
 fn fetch_and_perform(bus: &mut Bus, clock: u32, drive: &Drive, log: &mut Log)
     requires { HasLogRoom bus.old.agents.items log.old }
-    ensures view { bus_view bus.new ≡ bus_performed (fetched_by (bus_view bus.old) drive.now) clock }
+    ensures view { bus_view bus.new
+        ≡ bus_performed (fetched_by (bus_view bus.old) drive.now) clock }
     ensures entries { log.new.entries ≡ log.old.entries
         ++ hit_entries clock (fetched_by (bus_view bus.old) drive.now).agents }
     ensures room { HasLogRoom bus.new.agents.items log.new }
