@@ -20,7 +20,8 @@ use Rattle.fsb_agent_view.specs.Arriving.{arrived_entries, ended_entries_for, is
 use Rattle.fsb_agent_view.specs.Completing.{completed_entries, hand_of, is_hit_by, next_steps, performed_entries, steps_at}
 use Rattle.fsb_agent_view.specs.Serving.{AtHand, entries_at_hand, hand_after}
 use Rattle.fsb_agent_run.specs.Ending.{EndsFor}
-use Rattle.fsb_agent_run.specs.RunViews.{LogsAccesses, logged_access, place_of}
+use Rattle.fsb_agent_run.specs.EntriesMade.{LogsAccesses, logged_access}
+use Rattle.fsb_agent_run.specs.RunViews.{place_of}
 use Rattle.fsb_agent_run.specs.Stages.{IsViewAfterSnoop, IsViewOf}
 use Rattle.fsb_agent_run.proofs.ArrivedViews.{arrival-unhit}
 use Rattle.fsb_agent_run.proofs.EndEvents.{arrives-by, ended-here, kept-made}

@@ -18,6 +18,7 @@ pub use Rattle.fsb_agent_run.proofs.ClockEvents.{clock-view, clocks-view}
 -- What an agent completes, and what it owes.
 pub use Rattle.fsb_agent_run.proofs.ItemsCompleted.{logged-there}
 pub use Rattle.fsb_agent_run.proofs.EntriesLogged.{arrived-entries, performed-entries, upgrade-entries}
+pub use Rattle.fsb_agent_run.proofs.LoggedSteps.{entries-logged}
 pub use Rattle.fsb_agent_run.proofs.OwedApart.{owed-apart, owed-few, sent-apart}
 -- How a request of a symmetric agent is settled, and who awaits what.
 pub use Rattle.fsb_agent_run.proofs.OwnSnoops.{IsSettledAs, settled-as}

@@ -54,6 +54,7 @@ pub mod GrownOwed
 pub mod ArrivedViews
 pub mod EndEvents
 pub mod EntriesLogged
+pub mod LoggedSteps
 pub mod ClockEvents
 pub mod SoundEvents
 pub mod Interface

@@ -1,26 +1,21 @@
 -- What an agent's record has of a run: of its script, of its lines, and of its requests.
 use Rattle.std.specs.Prelude.{◌≡◌, ◌<◌, ◌≤◌, ℕ, ◌+◌, ◌&&◌, Bool, true, false, not, if◌then◌else◌, List, length, map, count_by, Option, Some, is_some, nat_eq, slice_get}
-use Rattle.std.specs.List.{filter, list_all}
+use Rattle.std.specs.List.{filter}
 use Rattle.std.specs.Option.{option_map, option_map_or}
 use Rattle.fsb_access.specs.declared.item.Item.{Item}
 use Rattle.fsb_access.specs.declared.log.Done.{Done}
-use Rattle.fsb_access.specs.ScriptOrder.{step_of, steps_of, steps_of_item}
+use Rattle.fsb_access.specs.ScriptOrder.{steps_of, steps_of_item}
 use Rattle.fsb_cache.specs.Sets.{slot_of}
 use Rattle.fsb_count.specs.Options.{is_some_and}
-use Rattle.fsb_encode.specs.declared.request.Request.{Request}
 use Rattle.fsb_line.specs.declared.state.Mesi.{Mesi}
 use Rattle.fsb_line.specs.declared.state.Mesi.TheVariants.{Invalid, Shared, Exclusive, Modified}
 use Rattle.fsb_linebuf.specs.Buffers.{is_fill_on}
-use Rattle.fsb_timely.specs.Completions.{Completed}
-use Rattle.fsb_timely.specs.Past.{Claim, Grant, Owing, Past}
+use Rattle.fsb_timely.specs.Past.{Grant, Owing, Past}
 use Rattle.fsb_timely.specs.Grants.{grant_at, holds_line, is_end_at, is_ended, is_evicted, is_exclusive, latest_grant}
 use Rattle.fsb_timely.specs.Hits.{is_dirty}
 use Rattle.fsb_timely.specs.Moments.{is_upgraded}
-use Rattle.fsb_timely.specs.Runs.{Run, past_of, past_to, run_to}
 use Rattle.fsb_timely.specs.Scripts.{idle_clocks, idle_start, is_logged, is_logged_at, items_of, last_done, next_item, next_number, number_after}
-use Rattle.fsb_timely.specs.Starts.{request_begun}
 use Rattle.fsb_timely.specs.Wants.{want_of}
-use Rattle.fsb_trace.specs.At.{request_at}
 use Rattle.fsb_coherent.specs.Awaits.{snoop_end_below}
 use Rattle.fsb_agent_view.specs.declared.want.Finished.{Finished}
 use Rattle.fsb_agent_view.specs.declared.want.OwnRequest.{OwnRequest}
@@ -151,21 +146,3 @@ pub record LogsItem (p : Past) (a c : ℕ) : Type 0 where
   pub completes : CompletesItem p a c number
   pub next : next_item p a c ≡ Some item
   pub steps : steps_of a (filter (λ done. nat_eq done.clock c) p.log) ≡ steps_of_item number item
-
--- the access that an entry logs: whose it is, and what it is in the script
-abbrev pub logged_access : Done → Completed
-logged_access done = record { agent = done.agent; step = step_of done }
-
--- these entries are all of clock c, and log these accesses, in order
-pub record LogsAccesses (c : ℕ) (accesses : List Completed) (entries : List Done) : Type 0 where
-  pub clocks : list_all (λ (done : Done). nat_eq done.clock c) entries ≡ true
-  pub accessed : map logged_access entries ≡ accesses
-
--- what begins at n with this claim is what the claim's agent wants there: by the samples and the past up to n it is what
--- the winner begins, it is for the claim's line, and as soon as its second clock is there the two show it
-pub record BeginsAsWanted (r : Run) (n : ℕ) (claim : Claim) : Type 0 where
-  pub request : Request
-  pub want : want_of (past_of r) claim.agent n ≡ Some request
-  pub begins : request_begun (run_to r n) (past_to (past_of r) n) n ≡ Some request
-  pub line : request.line ≡ claim.line
-  pub shown : n + 1 < length r.trace → request_at r.trace n ≡ Some request

@@ -1,7 +1,12 @@
 //! Laws over the definitions: no code.
 
-ghost use Rattle.std.specs.Prelude.{◌≡◌, ◌<◌, ◌⊎◌, ℕ, ◌+◌, ◌&&◌, List, None, Some, false, is_some, length, true, if◌then◌else◌};
+ghost use Rattle.std.specs.Prelude.{◌≡◌, ◌<◌, ◌⊎◌, ℕ, ◌+◌, ◌&&◌, ◌++◌, List, None, Some, false, is_some, length, map, nat_eq, true, if◌then◌else◌};
+ghost use Rattle.std.specs.List.{filter};
 ghost use Rattle.std.specs.Option.{option_map};
+ghost use Rattle.fsb_access.specs.declared.log.Done.{Done};
+ghost use Rattle.fsb_access.specs.ScriptOrder.{step_of, steps_of};
+ghost use Rattle.fsb_trace.specs.declared.outcome.Outcome.TheVariants.{Upgraded};
+ghost use Rattle.fsb_timely.specs.BusLock.{wants_lock};
 ghost use Rattle.fsb_timely.specs.Past.{Claim, Grant, Past, SnoopEnd};
 ghost use Rattle.fsb_timely.specs.Runs.{Run, past_of};
 ghost use Rattle.fsb_timely.specs.Timely.{Timely};
@@ -11,9 +16,7 @@ ghost use Rattle.fsb_timely.specs.Scripts.{Need, completes_at, is_idling, items_
 ghost use Rattle.fsb_agent_view.specs.AgentEvents.{first_view};
 ghost use Rattle.fsb_timely.specs.Hits.{is_dirty, is_hit, is_met, is_served};
 ghost use Rattle.fsb_timely.specs.Wants.{want_of};
-ghost use Rattle.fsb_timely.specs.BusLock.{wants_lock};
 ghost use Rattle.fsb_timely.specs.Completions.{completed_if, is_arrival, is_there};
-ghost use Rattle.fsb_trace.specs.declared.outcome.Outcome.TheVariants.{Upgraded};
 ghost use Rattle.fsb_agent_view.specs.declared.want.OwnRequest.{OwnRequest};
 ghost use Rattle.fsb_agent_view.specs.declared.want.Want.{Want};
 ghost use Rattle.fsb_agent_view.specs.AgentViews.{AgentView, answer_by, is_idle_by, is_met_by, is_served_by, next_item_by};
@@ -23,7 +26,9 @@ ghost use Rattle.fsb_agent_view.specs.OwnRequests.{request_numbered};
 ghost use Rattle.fsb_agent_view.specs.Wanting.{want_by, window_by};
 ghost use Rattle.fsb_run_laws.specs.Reaches.{Reaches};
 ghost use Rattle.fsb_agent_run.specs.Ending.{EndsFor, NothingEndsFor};
-ghost use Rattle.fsb_agent_run.specs.RunViews.{BeginsAsWanted, IsAgentOf, IsPlacedIn, LogsAccesses};
+ghost use Rattle.fsb_agent_run.specs.BegunAsWanted.{BeginsAsWanted};
+ghost use Rattle.fsb_agent_run.specs.EntriesMade.{LogsAccesses};
+ghost use Rattle.fsb_agent_run.specs.RunViews.{IsAgentOf, IsPlacedIn};
 ghost use Rattle.fsb_agent_run.specs.Stages.{IsViewAfterHit, IsViewAfterSnoop, IsViewOf};
 
 use fsb_line::Answer;
@@ -72,6 +77,8 @@ pub fn hits_go_by_the_run()
 /// The entries that a view makes at a clock, by its hit, by a line that comes or by an upgrade that
 /// ends, are of that clock, and they log the accesses that the run completes there for the agent,
 /// in order: those of its next item where the run has the hit or the arrival, and none elsewhere.
+/// Those of the hit and those of the arrival together have the steps that a timely run logs of the
+/// agent at the clock.
 pub fn entries_go_by_the_run()
     ensures performed { (p : Past) (a c : ℕ) (v : AgentView) → IsViewOf p a c v →
         LogsAccesses c (completed_if p c (is_hit p a c) a) (performed_entries v c) }
@@ -85,6 +92,11 @@ pub fn entries_go_by_the_run()
         IsViewAfterSnoop (past_of r) a c v →
         LogsAccesses c (completed_if (past_of r) c (is_arrival (past_of r) a c) a)
         (upgrade_entries v c number) }
+    ensures logged { (r : Run) (a c : ℕ) (hits arrivals : List Done) → Reaches r (c + 1) → a < 4 →
+        LogsAccesses c (completed_if (past_of r) c (is_hit (past_of r) a c) a) hits →
+        LogsAccesses c (completed_if (past_of r) c (is_arrival (past_of r) a c) a) arrivals →
+        map step_of (hits ++ arrivals)
+        ≡ steps_of a (filter (λ (done : Done). nat_eq done.clock c) r.log) }
 {}
 
 /// After its hit a view of an agent wants what the run says: the same request, line, kind and ID,

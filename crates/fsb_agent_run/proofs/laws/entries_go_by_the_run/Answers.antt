@@ -1,4 +1,5 @@
 use Rattle.fsb_agent_run.proofs.EntriesLogged.{arrived-entries, performed-entries, upgrade-entries}
+use Rattle.fsb_agent_run.proofs.LoggedSteps.{entries-logged}
 use Rattle.fsb_agent_run.proofs.laws.entries_go_by_the_run.Goals as goal
 
 pub returns-clause-performed : goal.returns-clause-performed
@@ -10,3 +11,6 @@ returns-clause-arrived c =
 
 pub returns-clause-upgraded : goal.returns-clause-upgraded
 returns-clause-upgraded c = λ r a d number s v h ends upgraded view. upgrade-entries r a d number s v h ends upgraded view
+
+pub returns-clause-logged : goal.returns-clause-logged
+returns-clause-logged c = λ r a d hits arrivals h few hit arrival. entries-logged r a d hits arrivals h few hit arrival
