@@ -106,7 +106,7 @@ written-makes : (kind : Kind) → kind ≡ kinds.WriteBack → makes_grant kind 
 unfolding makes_grant
 written-makes kind e = rw e refl
 
-ungranted : (r : Run) (a c number : ℕ) (s : SnoopEnd) → Reaches r (c + 1) → EndsFor (past_of r) a c number s
+pub ungranted : (r : Run) (a c number : ℕ) (s : SnoopEnd) → Reaches r (c + 1) → EndsFor (past_of r) a c number s
     → (s.outcome ≡ Retried) ⊎ (s.outcome ≡ Written) → s.grant ≡ None
 unfolding is_upgraded
 ungranted r a c number s h ends which =

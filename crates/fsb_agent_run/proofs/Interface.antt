@@ -12,7 +12,7 @@ pub use Rattle.fsb_agent_run.proofs.HitViews.{handed-view, performed-logged, per
 pub use Rattle.fsb_agent_run.proofs.SentViews.{cancelled-view, sent-view, uncancelled-view, unsent-view}
 pub use Rattle.fsb_agent_run.proofs.OwnSnoops.{own-claimed}
 pub use Rattle.fsb_agent_run.proofs.OtherSnoops.{other-claimed, other-replied, own-replied, quiet-view}
-pub use Rattle.fsb_agent_run.proofs.EndEvents.{arrives-by, comes-to, given-up-view, line-view, upgrade-view}
+pub use Rattle.fsb_agent_run.proofs.EndEvents.{arrives-by, comes-to, given-up-view, line-view, ungranted, upgrade-view}
 pub use Rattle.fsb_agent_run.proofs.EndViews.{quiet-arrival, quiet-end-view, ungranted-arrival}
 pub use Rattle.fsb_agent_run.proofs.ClockEvents.{clock-view, clocks-view}
 -- What an agent completes, and what it owes.
