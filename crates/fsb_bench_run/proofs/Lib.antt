@@ -41,3 +41,5 @@ pub mod CompletionsNow
 pub mod AsksNow
 pub mod SampleSpaced
 pub mod LogsApart
+pub mod GrownPlaces
+pub mod GrownViews
