@@ -40,3 +40,5 @@ pub mod CompletionsNow
 pub mod AsksNow
 pub mod SampleSpaced
 pub mod LogsApart
+pub mod GrownPlaces
+pub mod GrownViews
