@@ -21,7 +21,6 @@ pub mod PairWords
 pub mod StepWith
 pub mod StepEntries
 pub mod AgentsTold
-pub mod LockedWants
 pub mod AskedNow
 pub mod StartingNow
 pub mod LatestNext
@@ -41,3 +40,5 @@ pub mod CompletionsNow
 pub mod AsksNow
 pub mod SampleSpaced
 pub mod LogsApart
+pub mod GrownPlaces
+pub mod GrownViews
