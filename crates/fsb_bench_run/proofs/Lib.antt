@@ -43,3 +43,4 @@ pub mod SampleSpaced
 pub mod LogsApart
 pub mod GrownPlaces
 pub mod GrownViews
+pub mod HitEntries
