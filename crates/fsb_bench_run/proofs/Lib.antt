@@ -44,3 +44,4 @@ pub mod LogsApart
 pub mod GrownPlaces
 pub mod GrownViews
 pub mod HitEntries
+pub mod FirstEntries
