@@ -42,3 +42,5 @@ pub mod SampleSpaced
 pub mod LogsApart
 pub mod GrownPlaces
 pub mod GrownViews
+pub mod HitEntries
+pub mod FirstEntries
