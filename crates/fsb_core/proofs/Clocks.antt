@@ -38,8 +38,8 @@ use Rattle.fsb_bench_view.specs.declared.decided.BytesFrom.TheVariants.{Memory, 
 use Rattle.fsb_bench_view.specs.declared.decided.Decided.{Decided}
 use Rattle.fsb_bus.specs.Buses.{bus_view}
 use Rattle.fsb_bus.specs.declared.bus.Bus.{Bus}
-use Rattle.fsb_core.specs.Parts.{IsFit, fetched_by, parts_view}
-use Rattle.fsb_core.specs.declared.parts.Parts.{Parts}
+use Rattle.fsb_core.specs.BenchParts.{IsFit, fetched_by, view_of_parts}
+use Rattle.fsb_core.specs.declared.parts.BenchParts.{BenchParts}
 use Rattle.fsb_core.proofs.DueChunks.{chunk-below}
 
 -- what is decided at the clock, on the bus after the hits
@@ -53,16 +53,16 @@ abbrev pub Moves : Bus → Bus → Type 0
 Moves old new = new ≡ record old { agents = new.agents; moved = new.moved }
 
 pub decided-is :
-    (m : Parts) (b : Bus) (hold : Bool) (clock : ℕ) (drive : Drive) (winner : Option Who) (held : Bool) (decided : Decided)
-    (named : ℕ → Bool) → IsFit m → MayStep named (parts_view m) hold → clock ≡ length m.trace.items
+    (m : BenchParts) (b : Bus) (hold : Bool) (clock : ℕ) (drive : Drive) (winner : Option Who) (held : Bool) (decided : Decided)
+    (named : ℕ → Bool) → IsFit m → MayStep named (view_of_parts m) hold → clock ≡ length m.trace.items
     → ((h : Trace) (turns : List ℕ) → phases.Stands m.bus.phases h → clock ≡ length h → HoldsInFlight m.bus.queue turns h → drive ≡ drive_of h m.bus.queue)
     → bus_view b ≡ bus_performed (fetched_by (bus_view m.bus) drive) clock → Moves m.bus b
     → ((h : Trace) → arbiters.Stands b.arbiter h → winner ≡ winner_at h (length h))
     → held ≡ was_held_at m.holds.items clock
     → decided ≡ bus_decided (bus_view b) winner clock drive hold held
-    → IsDecided (parts_view m) hold clock (bus_view b) decided
+    → IsDecided (view_of_parts m) hold clock (bus_view b) decided
 decided-is m b hold clock drive winner held decided named fit may clock_is drives performs moves wins was decides =
-    let v = parts_view m in
+    let v = view_of_parts m in
     let h = m.trace.items in
     let e_drive : drive ≡ step_drive v = drives h (run_turns v.run) fit.stands.phases clock_is may.flight.flight in
     let P : Rattle.fsb_arbiter.specs.declared.arbiter.Arbiter.Arbiter → Type 0 = λ a. arbiters.Stands a h in
@@ -113,14 +113,14 @@ sample-taken named v hold sample may is =
     subst P (sym is) (record { clock_is = refl; flight = may.flight.flight; answers = may.sample.answers; spaced = may.sample.spaced })
 
 pub sampled-is :
-    (m : Parts) (b : Bus) (hold : Bool) (clock : ℕ) (decided : Decided) (sample : Sample) (phased : Phased) (after : Phases)
-    (named : ℕ → Bool) → IsFit m → MayStep named (parts_view m) hold → IsDecided (parts_view m) hold clock (bus_view b) decided → Moves m.bus b
+    (m : BenchParts) (b : Bus) (hold : Bool) (clock : ℕ) (decided : Decided) (sample : Sample) (phased : Phased) (after : Phases)
+    (named : ℕ → Bool) → IsFit m → MayStep named (view_of_parts m) hold → IsDecided (view_of_parts m) hold clock (bus_view b) decided → Moves m.bus b
     → sample ≡ sample_by (bus_view b) clock m.plan.profile decided
     → ((h : Trace) (turns : List ℕ) → phases.Stands b.phases h → phases.MayTake clock sample b.queue turns h → phased ≡ phased_at (h ++ sample ∷ []) clock b.queue)
     → ((h : Trace) (turns : List ℕ) → phases.Stands b.phases h → phases.MayTake clock sample b.queue turns h → phases.Stands after (h ++ sample ∷ []))
-    → IsSampled (parts_view m) hold sample phased after
+    → IsSampled (view_of_parts m) hold sample phased after
 sampled-is m b hold clock decided sample phased after named fit may at moves samples tells stands =
-    let v = parts_view m in
+    let v = view_of_parts m in
     let h = m.trace.items in
     let e_sample : sample ≡ step_sample v hold =
     samples
@@ -205,15 +205,15 @@ begun-room v hold clock p decided choice begun queue at is begins =
 
 -- the queue after the clock
 pub queue-taken :
-    (m : Parts) (hold : Bool) (clock : ℕ) (sample : Sample) (phased : Phased) (after : Phases) (queue new : List Entry) (outcome : Outcome) (error : Bool)
+    (m : BenchParts) (hold : Bool) (clock : ℕ) (sample : Sample) (phased : Phased) (after : Phases) (queue new : List Entry) (outcome : Outcome) (error : Bool)
     (begun : Option Entry) (named : ℕ → Bool)
-    → IsFit m → MayStep named (parts_view m) hold → clock ≡ length m.trace.items → IsSampled (parts_view m) hold sample phased after
+    → IsFit m → MayStep named (view_of_parts m) hold → clock ≡ length m.trace.items → IsSampled (view_of_parts m) hold sample phased after
     → queue ≡ m.bus.queue → error ≡ has_line sample AERR
     → ((p : Phases) (h : Trace) (x : Sample) (turns : List ℕ) → phases.Stands p h → phases.MayTake clock x queue turns h → Rising queue
     → phased ≡ phased_at (h ++ x ∷ []) clock queue → error ≡ has_line x AERR → new ≡ goes_on h x outcome queue ++ begun_list begun)
     → new ≡ goes_on m.trace.items sample outcome m.bus.queue ++ begun_list begun
 queue-taken m hold clock sample phased after queue new outcome error begun named fit may clock_is took is cancels takes =
-    let v = parts_view m in
+    let v = view_of_parts m in
     let h = m.trace.items in
     let Q : List Entry → Type 0 = λ q. phases.MayTake clock sample q (run_turns v.run) h in
     let N : ℕ → Type 0 = λ n. phases.MayTake n sample m.bus.queue (run_turns v.run) h in

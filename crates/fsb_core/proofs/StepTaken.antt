@@ -19,7 +19,7 @@ use Rattle.fsb_bench_view.specs.BusViews.{BenchView, BusView}
 use Rattle.fsb_bench_view.specs.ToldAgents.{hit_entries}
 use Rattle.fsb_bench_view.specs.declared.beginning.Starting.{Starting}
 use Rattle.fsb_bench_view.specs.declared.decided.Decided.{Decided}
-use Rattle.fsb_core.specs.Parts.{fetched_by}
+use Rattle.fsb_core.specs.BenchParts.{fetched_by}
 use Rattle.fsb_core.proofs.Clocks.{IsDecided, IsSampled}
 
 -- the entries of the clock

@@ -7,15 +7,15 @@ use Rattle.fsb_cache.specs.Sets.{CacheSets}
 use Rattle.fsb_memory.specs.Controller.{LineMap}
 use Rattle.fsb_bench_view.specs.BusViews.{BenchView}
 use Rattle.fsb_core.specs.declared.bench.Bench.{Bench}
-use Rattle.fsb_core.specs.Parts.{parts_view}
+use Rattle.fsb_core.specs.BenchParts.{view_of_parts}
 
 -- the bench as a record: its bus, and the run so far
-abbrev pub view_of : {X : Type 0} {F : X → Type 0} → Bench X F → BenchView
-view_of bench = parts_view bench.parts
+abbrev pub view_of_bench : {X : Type 0} {F : X → Type 0} → Bench X F → BenchView
+view_of_bench bench = view_of_parts bench.parts
 
 -- the memory of a bench, as a map of lines
-abbrev pub lines_of : {X : Type 0} {F : X → Type 0} → Bench X F → LineMap
-lines_of bench = bench.parts.bus.memory
+abbrev pub lines_loaded : {X : Type 0} {F : X → Type 0} → Bench X F → LineMap
+lines_loaded bench = bench.parts.bus.memory
 
 -- the hazard objects that stand on a bench, in order
 abbrev pub objects_of : {X : Type 0} {F : X → Type 0} → Bench X F → List (DynBox X Global F)

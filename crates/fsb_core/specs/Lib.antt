@@ -1,3 +1,3 @@
-pub mod BenchSteps
+pub mod SteppedBench
 pub mod Benches
-pub mod Parts
+pub mod BenchParts

@@ -2,9 +2,9 @@
 //!
 //! [`Bench::make`] takes all the memory that a run needs. A bench lends what came of the plan so
 //! far, the agents' caches and memory, and hazard objects are plugged and unplugged between two
-//! clocks. Contracts see a bench as a record (`BenchState`, `specs/Benches.antt`): the bench's view
-//! (`BenchView`, crate fsb_bench_view), whose run has the plan, the choices, the holds, the trace
-//! and the log, and the objects that stand on it.
+//! clocks. Contracts see a bench by its view (`BenchView`, crate fsb_bench_view), whose run has the
+//! plan, the choices, the holds, the trace and the log, and by the objects that stand on it
+//! (`specs/Benches.antt`).
 //!
 //! Promised today: what [`Bench::make`] makes is the first bench of the plan, with its objects
 //! loaded; each lending call gives what the view has; plugging and unplugging change the objects

@@ -14,7 +14,7 @@ const SPARE: usize = 8;
 
 /// A bench without its objects: a plan, the bus, and what came of the plan so far.
 #[derive(Drop)]
-pub(crate) struct Parts {
+pub(crate) struct BenchParts {
     pub plan: Plan,
     pub bus: Bus,
     /// One sample for each clock.
@@ -26,16 +26,16 @@ pub(crate) struct Parts {
     pub holds: Vec<bool>,
 }
 
-impl Parts {
+impl BenchParts {
     ghost use Rattle.fsb_script.specs.View.{plan_view};
     ghost use Rattle.fsb_bench_view.specs.BenchSteps.{was_held_at};
-    ghost use Rattle.fsb_core.specs.BenchSteps.{first_bench};
-    ghost use Rattle.fsb_core.specs.Parts.{IsFit, parts_view};
+    ghost use Rattle.fsb_core.specs.SteppedBench.{first_bench};
+    ghost use Rattle.fsb_core.specs.BenchParts.{IsFit, view_of_parts};
 
     /// The parts of a plan before its first clock, with room for all that its clocks can bring.
-    pub fn new(alloc: Global, plan: Plan) -> Result<Parts, Memory>
+    pub fn new(alloc: Global, plan: Plan) -> Result<BenchParts, Memory>
         ensures view { IfOk result (λ parts.
-            parts_view parts ≡ first_bench (plan_view plan)) }
+            view_of_parts parts ≡ first_bench (plan_view plan)) }
         ensures fit { IfOk result IsFit }
     {
         let clocks = plan.clocks as usize;
@@ -44,7 +44,7 @@ impl Parts {
         let log = Log::with_room(alloc, access_count(&plan) as usize + SPARE)?;
         let choices = Vec::with_capacity(alloc, clocks)?;
         let holds = Vec::with_capacity(alloc, clocks)?;
-        Ok(Parts {
+        Ok(BenchParts {
             plan,
             bus,
             trace,

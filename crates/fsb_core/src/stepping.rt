@@ -10,11 +10,11 @@ ghost use Rattle.fsb_bench_view.specs.ToldAgents.{hit_entries};
 ghost use Rattle.fsb_bus.specs.Buses.{bus_view};
 ghost use Rattle.fsb_bus.specs.FirstBus.{is_named_line};
 ghost use Rattle.fsb_bus.specs.LogRoom.{HasLogRoom};
-ghost use Rattle.fsb_core.specs.BenchSteps.{IsStepped};
-ghost use Rattle.fsb_core.specs.Parts.{IsFit, fetched_by, parts_view};
+ghost use Rattle.fsb_core.specs.SteppedBench.{IsStepped};
+ghost use Rattle.fsb_core.specs.BenchParts.{IsFit, fetched_by, view_of_parts};
 
 use crate::asking::{ask_choice, ask_hold};
-use crate::parts::Parts;
+use crate::parts::BenchParts;
 use fsb_access::{Done, Log};
 use fsb_bench_view::{Decided, Starting};
 use fsb_bus::{Bus, Released};
@@ -25,16 +25,16 @@ use fsb_queue::Entry;
 use fsb_signal::{Lines, Sample};
 use fsb_trace::Outcome;
 
-impl Parts {
+impl BenchParts {
     /// One clock, at which these objects stand.
     pub fn step<H: Hazard>(&mut self, objects: &mut [H])
         requires fit { IsFit self.old }
         requires clocks { length self.old.trace.items < self.old.plan.clocks }
         requires may { (hold : Bool) →
-            MayStep (is_named_line self.old.plan.scripts) (parts_view self.old) hold }
+            MayStep (is_named_line self.old.plan.scripts) (view_of_parts self.old) hold }
         ensures fit { IsFit self.new }
-        ensures stepped { IsStepped (map H.told objects.old) (parts_view self.old)
-            (parts_view self.new) }
+        ensures stepped { IsStepped (map H.told objects.old) (view_of_parts self.old)
+            (view_of_parts self.new) }
         ensures told_stays { map H.told objects.new ≡ map H.told objects.old }
         ensures kinds_stay { map H.is_scripted objects.new ≡ map H.is_scripted objects.old }
     {

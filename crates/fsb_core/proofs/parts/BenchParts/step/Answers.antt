@@ -14,11 +14,11 @@ use Rattle.fsb_bench_view.specs.BenchSteps.{step_entries}
 use Rattle.fsb_bench_view.specs.BusLocking.{retried_by}
 use Rattle.fsb_bus.specs.Buses.{bus_view}
 use Rattle.fsb_bus.specs.LogRoom.{accesses_left_of}
-use Rattle.fsb_core.specs.Parts.{parts_view}
+use Rattle.fsb_core.specs.BenchParts.{view_of_parts}
 use Rattle.fsb_core.proofs.AgentCounts.{heard-count, heard-starts}
 use Rattle.fsb_core.proofs.Clocks.{begun-room, decided-is, driven-chunk, hear-may, queue-taken, sampled-is, start-lawful, words-lawful}
 use Rattle.fsb_core.proofs.StepTaken.{log-is, one-choice, released-are, stepped-is}
-use Rattle.fsb_core.proofs.parts.Parts.step.Goals as goal
+use Rattle.fsb_core.proofs.parts.BenchParts.step.Goals as goal
 
 pub sample-sample-requires-clause-words : goal.sample-sample-requires-clause-words
 sample-sample-requires-clause-words g c =
@@ -124,7 +124,7 @@ returns-clause-stepped g c =
     let at = decided-is m b c.ask_hold-hold.result c.clock-clock.result c.drive-drive.result c.winner-winner.result c.was_held-was_held.result c.decide-decided.result _ c.requires.fit may c.clock-clock.ensures c.drive-drive.ensures c.perform.ensures.view c.perform.ensures.rest c.winner-winner.ensures c.was_held-was_held.ensures c.decide-decided.ensures in
     let took = sampled-is m b c.ask_hold-hold.result c.clock-clock.result c.decide-decided.result c.sample-sample.result c.absorb-phased.result c.absorb-phased.new.self _ c.requires.fit may at c.perform.ensures.rest c.sample-sample.ensures c.absorb-phased.ensures.result c.absorb-phased.ensures.stands in
     let same_queue = ap (λ x. x.queue) c.lock.ensures.rest ∙ c.hear.ensures.queue ∙ ap (λ x. x.queue) c.perform.ensures.rest in
-    let v = parts_view m in
+    let v = view_of_parts m in
     let hold = c.ask_hold-hold.result in
     let choice = c.ask_choice-choice.result in
     let clock = c.clock-clock.result in

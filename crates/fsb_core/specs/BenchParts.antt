@@ -8,11 +8,11 @@ use Rattle.fsb_bench_view.specs.BytesFetched.{bus_fetched, bytes_source}
 use Rattle.fsb_bus.specs.Buses.{StandsFor, bus_view}
 use Rattle.fsb_bus.specs.FirstBus.{is_named_line}
 use Rattle.fsb_bus.specs.LogRoom.{HasLogRoom}
-use Rattle.fsb_core.specs.declared.parts.Parts.{Parts}
+use Rattle.fsb_core.specs.declared.parts.BenchParts.{BenchParts}
 
 -- the bench that has these parts
-abbrev pub parts_view : Parts → BenchView
-parts_view m = record {
+abbrev pub view_of_parts : BenchParts → BenchView
+view_of_parts m = record {
   bus = bus_view m.bus;
   run = record {
     plan = plan_view m.plan;
@@ -29,7 +29,7 @@ fetched_by bus drive = bus_fetched bus (bytes_source bus drive)
 
 -- the parts fit: the arbiter and the phases stand for the trace, there are four agents and a choice for each
 -- request, memory has each line that the scripts name, and there is room for all that the plan's clocks can bring
-pub record IsFit (m : Parts) : Type 0 where
+pub record IsFit (m : BenchParts) : Type 0 where
   pub stands : StandsFor m.bus m.trace.items
   pub agents : length m.bus.agents.items ≡ 4
   pub started : length m.bus.started.items ≡ length m.choices.items
