@@ -40,7 +40,8 @@ handed-left number n (v ∷ vs) =
     ∙ ap (λ x. accesses_left v + x) (handed-left number (n + 1) vs)
     ∙ sym (sum_by-cons accesses_left v vs)
 
-pub fetch-left : (bus : BusView) (from : Option BytesFrom) → accesses_left_of (bus_fetched bus from).agents ≡ accesses_left_of bus.agents
+pub fetch-left : (bus : BusView) (from : Option BytesFrom)
+    → accesses_left_of (bus_fetched bus from).agents ≡ accesses_left_of bus.agents
 fetch-left bus None = refl
 fetch-left bus (Some (Memory line)) = refl
 fetch-left bus (Some (Agents number)) = handed-left number 0 bus.agents

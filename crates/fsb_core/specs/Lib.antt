@@ -1,3 +1,3 @@
-pub mod SteppedBench
+pub mod Stepping
 pub mod Benches
-pub mod BenchParts
+pub mod BareBenches

@@ -2,16 +2,17 @@
 //!
 //! [`Bench::make`] takes all the memory that a run needs. A bench lends what came of the plan so
 //! far, the agents' caches and memory, and hazard objects are plugged and unplugged between two
-//! clocks. Contracts see a bench by its view (`BenchView`, crate fsb_bench_view), whose run has the
-//! plan, the choices, the holds, the trace and the log, and by the objects that stand on it
-//! (`specs/Benches.antt`).
+//! clocks. Contracts see a bench as its view (`bench_view`, `specs/Benches.antt`): a `BenchView` of
+//! the crate fsb_bench_view, whose run has the plan, the choices, the holds, the trace and the log;
+//! and as the objects that stand on it (`objects_of`).
 //!
 //! Promised today: what [`Bench::make`] makes is the first bench of the plan, with its objects
 //! loaded; each lending call gives what the view has; plugging and unplugging change the objects
-//! alone. A clock is `Bench::step`: the new view is `bench_stepped` of the old one, with what the
-//! objects that stand at it answer. It asks that the bench may take the clock (`MayStep`), and is
-//! private as long as no bench carries that by itself: that every bench may take each clock of its
-//! plan is not proved yet, and neither is what a clock's samples and entries say of the run.
+//! alone. A clock is `Bench::step`: the new view is `bench_stepped` of the old one, for what the
+//! objects that stand at the clock answer together (`IsStepped`, `specs/Stepping.antt`). It asks
+//! that the bench may take the clock (`MayStep`), and is private as long as a bench does not carry
+//! its run: that each bench may take each clock of its plan, and that what its clocks add up to is
+//! a simulated run, is not promised here yet.
 //!
 //! A step takes no memory, has no refusal, and costs the same however long the run is already:
 //! nothing is looked for in the log, in a script or in the trace. It goes in this order: the
@@ -26,8 +27,8 @@
 pub use bench::Bench;
 
 mod asking;
+mod bare;
 mod bench;
-mod parts;
 mod stepping;
 #[cfg(test)]
 mod tests;

@@ -5,16 +5,14 @@ ghost use Rattle.std.specs.Option.{option_map, option_map_or};
 ghost use Rattle.fsb_bench_view.specs.BenchSteps.{outcome_snooped};
 ghost use Rattle.fsb_bench_view.specs.BusEvents.{entry_started};
 ghost use Rattle.fsb_bench_view.specs.BusEvents.{bus_performed};
-ghost use Rattle.fsb_bench_view.specs.MaySteps.{MayStep};
 ghost use Rattle.fsb_bench_view.specs.ToldAgents.{hit_entries};
 ghost use Rattle.fsb_bus.specs.Buses.{bus_view};
-ghost use Rattle.fsb_bus.specs.FirstBus.{is_named_line};
 ghost use Rattle.fsb_bus.specs.LogRoom.{HasLogRoom};
-ghost use Rattle.fsb_core.specs.SteppedBench.{IsStepped};
-ghost use Rattle.fsb_core.specs.BenchParts.{IsFit, fetched_by, view_of_parts};
+ghost use Rattle.fsb_core.specs.Stepping.{HasClockLeft, IsStepped, MayGoOn};
+ghost use Rattle.fsb_core.specs.BareBenches.{IsFit, fetched_by, bare_view};
 
 use crate::asking::{ask_choice, ask_hold};
-use crate::parts::BenchParts;
+use crate::bare::BareBench;
 use fsb_access::{Done, Log};
 use fsb_bench_view::{Decided, Starting};
 use fsb_bus::{Bus, Released};
@@ -25,16 +23,15 @@ use fsb_queue::Entry;
 use fsb_signal::{Lines, Sample};
 use fsb_trace::Outcome;
 
-impl BenchParts {
+impl BareBench {
     /// One clock, at which these objects stand.
-    pub fn step<H: Hazard>(&mut self, objects: &mut [H])
+    pub fn advance<H: Hazard>(&mut self, objects: &mut [H])
         requires fit { IsFit self.old }
-        requires clocks { length self.old.trace.items < self.old.plan.clocks }
-        requires may { (hold : Bool) →
-            MayStep (is_named_line self.old.plan.scripts) (view_of_parts self.old) hold }
+        requires clocks { HasClockLeft (bare_view self.old) }
+        requires may { MayGoOn (bare_view self.old) }
         ensures fit { IsFit self.new }
-        ensures stepped { IsStepped (map H.told objects.old) (view_of_parts self.old)
-            (view_of_parts self.new) }
+        ensures stepped { IsStepped (map H.told objects.old) (bare_view self.old)
+            (bare_view self.new) }
         ensures told_stays { map H.told objects.new ≡ map H.told objects.old }
         ensures kinds_stay { map H.is_scripted objects.new ≡ map H.is_scripted objects.old }
     {
@@ -43,15 +40,15 @@ impl BenchParts {
         let hold = ask_hold(objects, clock);
         let drive = self.bus.phases.drive(clock, &self.bus.queue);
         let retried = self.bus.retried(&drive);
-        perform(&mut self.bus, clock, &drive, &mut self.log);
+        fetch_and_perform(&mut self.bus, clock, &drive, &mut self.log);
         let winner = self.bus.arbiter.winner();
         let was_held = self.was_held(clock);
         let decided = self.bus.decide(winner, clock, drive, hold, was_held);
         let sample = self.bus.sample(clock, self.plan.profile, &decided);
         let phased = self.bus.phases.absorb(clock, &sample, &self.bus.queue);
-        let number = self.number();
+        let number = self.request_number();
         let choice = ask_choice(objects, number, &decided.starting);
-        let begun = begun(&self.bus, clock, &decided.starting, choice);
+        let begun = entry_begun(&self.bus, clock, &decided.starting, choice);
         self.bus.hear(clock, &decided, &phased, &mut self.log);
         let entries = entries_since(&self.log, done);
         let scripts = self.plan.scripts.as_slice();
@@ -65,16 +62,17 @@ impl BenchParts {
         let error = sample.has(Lines::AERR);
         take_clock(&mut self.bus.queue, clock, &phased, outcome, error, begun);
         self.bus.arbiter.absorb(&sample);
-        add(&mut self.trace, sample);
-        add(&mut self.holds, hold);
+        append(&mut self.trace, sample);
+        append(&mut self.holds, hold);
         add_choice(&mut self.choices, &decided.starting, choice);
     }
 }
 
 /// The bytes that move are fetched, and the hits are made.
-fn perform(bus: &mut Bus, clock: u32, drive: &Drive, log: &mut Log)
+fn fetch_and_perform(bus: &mut Bus, clock: u32, drive: &Drive, log: &mut Log)
     requires { HasLogRoom bus.old.agents.items log.old }
-    ensures view { bus_view bus.new ≡ bus_performed (fetched_by (bus_view bus.old) drive.now) clock }
+    ensures view { bus_view bus.new
+        ≡ bus_performed (fetched_by (bus_view bus.old) drive.now) clock }
     ensures entries { log.new.entries ≡ log.old.entries
         ++ hit_entries clock (fetched_by (bus_view bus.old) drive.now).agents }
     ensures room { HasLogRoom bus.new.agents.items log.new }
@@ -96,7 +94,7 @@ fn entries_since(log: &Log, done: usize) -> &[Done]
 }
 
 /// The entry of the request that begins, if one does, for which this was chosen.
-fn begun(bus: &Bus, clock: u32, starting: &Option<Starting>, choice: Choice) -> Option<Entry>
+fn entry_begun(bus: &Bus, clock: u32, starting: &Option<Starting>, choice: Choice) -> Option<Entry>
     requires { length bus.now.started.items < 4294967296 }
     ensures { result
         ≡ option_map (λ first. entry_started (bus_view bus.now) clock first choice) starting.now }
@@ -118,7 +116,7 @@ fn outcome_snooped(decided: &Decided) -> Outcome
 }
 
 /// Adds an item as the last one, in the room that is there.
-fn add<T>(items: &mut Vec<T>, item: T)
+fn append<T>(items: &mut Vec<T>, item: T)
     requires { length items.old.items < vec_capacity items.old }
     ensures items { items.new.items ≡ items.old.items ++ item ∷ [] }
     ensures room { vec_capacity items.new ≡ vec_capacity items.old }
@@ -134,6 +132,6 @@ fn add_choice(choices: &mut Vec<Choice>, starting: &Option<Starting>, choice: Ch
     ensures room { vec_capacity choices.new ≡ vec_capacity choices.old }
 {
     if starting.is_some() {
-        add(choices, choice);
+        append(choices, choice);
     }
 }

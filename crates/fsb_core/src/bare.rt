@@ -14,7 +14,7 @@ const SPARE: usize = 8;
 
 /// A bench without its objects: a plan, the bus, and what came of the plan so far.
 #[derive(Drop)]
-pub(crate) struct BenchParts {
+pub(crate) struct BareBench {
     pub plan: Plan,
     pub bus: Bus,
     /// One sample for each clock.
@@ -26,16 +26,16 @@ pub(crate) struct BenchParts {
     pub holds: Vec<bool>,
 }
 
-impl BenchParts {
+impl BareBench {
     ghost use Rattle.fsb_script.specs.View.{plan_view};
     ghost use Rattle.fsb_bench_view.specs.BenchSteps.{was_held_at};
-    ghost use Rattle.fsb_core.specs.SteppedBench.{first_bench};
-    ghost use Rattle.fsb_core.specs.BenchParts.{IsFit, view_of_parts};
+    ghost use Rattle.fsb_core.specs.Stepping.{first_bench};
+    ghost use Rattle.fsb_core.specs.BareBenches.{IsFit, bare_view};
 
-    /// The parts of a plan before its first clock, with room for all that its clocks can bring.
-    pub fn new(alloc: Global, plan: Plan) -> Result<BenchParts, Memory>
-        ensures view { IfOk result (λ parts.
-            view_of_parts parts ≡ first_bench (plan_view plan)) }
+    /// The bench of a plan before its first clock, with room for all that its clocks can bring.
+    pub fn new(alloc: Global, plan: Plan) -> Result<BareBench, Memory>
+        ensures view { IfOk result (λ bare.
+            bare_view bare ≡ first_bench (plan_view plan)) }
         ensures fit { IfOk result IsFit }
     {
         let clocks = plan.clocks as usize;
@@ -44,7 +44,7 @@ impl BenchParts {
         let log = Log::with_room(alloc, access_count(&plan) as usize + SPARE)?;
         let choices = Vec::with_capacity(alloc, clocks)?;
         let holds = Vec::with_capacity(alloc, clocks)?;
-        Ok(BenchParts {
+        Ok(BareBench {
             plan,
             bus,
             trace,
@@ -63,7 +63,7 @@ impl BenchParts {
     }
 
     /// The number of the next request.
-    pub fn number(&self) -> u32
+    pub fn request_number(&self) -> u32
         requires { length self.now.choices.items < 4294967296 }
         ensures { result ≡ length self.now.choices.items }
     {

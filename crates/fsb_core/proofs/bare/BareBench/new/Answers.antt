@@ -6,7 +6,7 @@ use Rattle.fsb_bus.specs.Buses.{StandsFor}
 use Rattle.fsb_bus.specs.FirstBus.{first_agents}
 use Rattle.fsb_bus.specs.LogRoom.{accesses_left_of}
 use Rattle.fsb_core.proofs.FirstParts.{first-left}
-use Rattle.fsb_core.proofs.parts.BenchParts.new.Goals as goal
+use Rattle.fsb_core.proofs.bare.BareBench.new.Goals as goal
 
 pub returns-clause-fit : goal.returns-clause-fit
 returns-clause-fit c =

@@ -5,9 +5,10 @@ use Rattle.fsb_bus.specs.Buses.{bus_view}
 use Rattle.fsb_bus.specs.LogRoom.{accesses_left_of}
 use Rattle.fsb_bus.specs.declared.bus.Bus.{Bus}
 use Rattle.fsb_core.proofs.AgentCounts.{fetch-count, fetch-left, told-count}
-use Rattle.fsb_core.proofs.stepping.perform.Goals as goal
+use Rattle.fsb_core.proofs.stepping.fetch_and_perform.Goals as goal
 
-moved-on : (old mid new : Bus) → mid ≡ record old { agents = mid.agents; moved = mid.moved } → new ≡ record mid { agents = new.agents }
+moved-on : (old mid new : Bus) → mid ≡ record old { agents = mid.agents; moved = mid.moved }
+    → new ≡ record mid { agents = new.agents }
     → new ≡ record old { agents = new.agents; moved = new.moved }
 moved-on old mid new first second =
     let with_agents : Bus → Bus = λ b. record b { agents = new.agents } in
@@ -16,7 +17,8 @@ moved-on old mid new first second =
 
 pub perform-requires : goal.perform-requires
 perform-requires c = record {
-  room = let same = ap (λ b. accesses_left_of b.agents) c.fetch.ensures.view ∙ fetch-left (bus_view c.args.bus.now) c.bytes_source-from.result in omega (arith, same, c.requires);
+  room = let same = ap (λ b. accesses_left_of b.agents) c.fetch.ensures.view
+      ∙ fetch-left (bus_view c.args.bus.now) c.bytes_source-from.result in omega (arith, same, c.requires);
 }
 
 pub returns-clause-count : goal.returns-clause-count
@@ -27,4 +29,5 @@ returns-clause-count c =
     ∙ fetch-count (bus_view c.args.bus.now) c.bytes_source-from.result
 
 pub returns-clause-rest : goal.returns-clause-rest
-returns-clause-rest c = moved-on c.args.bus.now c.fetch.new.self c.perform.new.self c.fetch.ensures.rest c.perform.ensures.rest
+returns-clause-rest c = moved-on c.args.bus.now c.fetch.new.self c.perform.new.self c.fetch.ensures.rest
+    c.perform.ensures.rest
