@@ -44,3 +44,8 @@ pub mod GrownPlaces
 pub mod GrownViews
 pub mod HitEntries
 pub mod FirstEntries
+pub mod SpacedNow
+pub mod WinnersAsk
+pub mod DueNow
+pub mod OpenNow
+pub mod StartsNow
