@@ -26,7 +26,7 @@ use Rattle.fsb_timely.specs.Wants.{want_of}
 use Rattle.fsb_trace.specs.At.{known_pair_at}
 use Rattle.fsb_trace.specs.declared.who.Who.{Who}
 use Rattle.fsb_agent_run.specs.Stages.{IsViewAfterHit}
-use Rattle.fsb_agent_run.proofs.Interface.{want-by}
+use Rattle.fsb_agent_run.proofs.Interface.{locked-by, want-by}
 use Rattle.fsb_lawful.proofs.Interface.{get-there}
 use Rattle.fsb_bench_view.specs.declared.beginning.Latest.{Latest}
 use Rattle.fsb_bench_view.specs.declared.beginning.Starting.{Starting}
@@ -39,7 +39,6 @@ use Rattle.fsb_bench_run.specs.BenchOf.{IsBegunAt, IsBenchOf, IsLatestOf}
 use Rattle.fsb_bench_run.proofs.AdsGrown.{last-below}
 use Rattle.fsb_bench_run.proofs.AgentsTold.{performed-there}
 use Rattle.fsb_bench_run.proofs.BegunStays.{begun-lawful, begun-request, begun-stays}
-use Rattle.fsb_bench_run.proofs.LockedWants.{locked-by}
 use Rattle.fsb_bench_run.proofs.PairWords.{begun-before, lawful-fits, last-at, pair-shown, step_pair}
 use Rattle.fsb_bench_run.proofs.RunWith.{run_with}
 use Rattle.fsb_bench_run.proofs.SameBus.{same-performed}

@@ -21,7 +21,6 @@ pub mod PairWords
 pub mod StepWith
 pub mod StepEntries
 pub mod AgentsTold
-pub mod LockedWants
 pub mod AskedNow
 pub mod StartingNow
 pub mod LatestNext
@@ -41,3 +40,12 @@ pub mod CompletionsNow
 pub mod AsksNow
 pub mod SampleSpaced
 pub mod LogsApart
+pub mod GrownPlaces
+pub mod GrownViews
+pub mod HitEntries
+pub mod FirstEntries
+pub mod SpacedNow
+pub mod WinnersAsk
+pub mod DueNow
+pub mod OpenNow
+pub mod StartsNow
