@@ -3,7 +3,7 @@ use Rattle.std.specs.Prelude.{◌≡◌, ◌<◌, Bool, List, [], Option, Some, 
 use Rattle.fsb_hazard.specs.Told.{Told}
 use Rattle.fsb_hazard.specs.declared.choice.Choice.{Choice}
 use Rattle.fsb_script.specs.Plans.{PlanView}
-use Rattle.fsb_timely.specs.AskedFor.{IsChosen, IsHold}
+use Rattle.fsb_timely.specs.Asked.{IsChosen, IsHold}
 use Rattle.fsb_bench_view.specs.declared.beginning.Starting.{Starting}
 use Rattle.fsb_bench_view.specs.BenchSteps.{bench_stepped, step_decided}
 use Rattle.fsb_bench_view.specs.BusViews.{BenchView, next_clock_of}

@@ -3,7 +3,7 @@
 ghost use Rattle.std.specs.Prelude.{◌≡◌, Some, IfOk, map};
 ghost use Rattle.fsb_bench_view.specs.declared.beginning.Starting.{Starting as StartingView};
 ghost use Rattle.fsb_hazard.specs.Told.{told_after};
-ghost use Rattle.fsb_timely.specs.AskedFor.{IsChosen, IsHold};
+ghost use Rattle.fsb_timely.specs.Asked.{IsChosen, IsHold};
 
 use fsb_bench_view::Starting;
 use fsb_hazard::{Ask, Choice, Hazard, HazardLine, ask_all, load_all, quiet_choice};

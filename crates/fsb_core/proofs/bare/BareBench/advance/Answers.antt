@@ -9,7 +9,7 @@ use Rattle.fsb_memory.specs.Controller.{is_mapped}
 use Rattle.fsb_phase.specs.Phases as phases
 use Rattle.fsb_phase.specs.declared.phases.Phases.{Phases}
 use Rattle.fsb_signal.specs.declared.sample.Sample.{Sample}
-use Rattle.fsb_timely.specs.AskedFor.{IsChosen, IsHold}
+use Rattle.fsb_timely.specs.Asked.{IsChosen, IsHold}
 use Rattle.fsb_bench_view.specs.BenchSteps.{step_entries}
 use Rattle.fsb_bench_view.specs.BusLocking.{retried_by}
 use Rattle.fsb_bus.specs.Buses.{bus_view}
