@@ -50,3 +50,4 @@ pub mod WinnersAsk
 pub mod DueNow
 pub mod OpenNow
 pub mod StartsNow
+pub mod TimelyNext
