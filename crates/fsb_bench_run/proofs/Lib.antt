@@ -51,3 +51,5 @@ pub mod DueNow
 pub mod OpenNow
 pub mod StartsNow
 pub mod TimelyNext
+pub mod RespondsFirst
+pub mod KeptNext
