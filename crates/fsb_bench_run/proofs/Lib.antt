@@ -40,3 +40,4 @@ pub mod HitsCompleted
 pub mod CompletionsNow
 pub mod AsksNow
 pub mod SampleSpaced
+pub mod LogsApart

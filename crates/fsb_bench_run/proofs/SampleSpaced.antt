@@ -1,22 +1,21 @@
 -- The sample of a bench's clock may be the next: RS# is what is driven, and requests keep their distance.
-use Rattle.std.proofs.Common.{ℕ, ◌+◌, ◌-◌, ◌<◌, ◌≤◌, ◌≡◌, ◌&&◌, ◌||◌, Bool, true, false, not, Option, Some, None, List, is_some, length, nat_le, nat_lt, refl, sym, ap, ◌∙◌, arith, inl, inr, subst}
-use Rattle.std.specs.Option.{option_map, option_map_or}
-use Rattle.std.proofs.lemmas.Bool.{and_left, and_parts, cases_Bool, false_from_ne_true, leb-true}
+use Rattle.std.proofs.Common.{ℕ, ◌+◌, ◌-◌, ◌<◌, ◌≤◌, ◌≡◌, ◌&&◌, ◌||◌, Bool, true, false, not, Option, Some, None, is_some, length, nat_le, nat_lt, refl, sym, ap, ◌∙◌, arith}
+use Rattle.std.specs.Option.{option_map}
+use Rattle.std.proofs.lemmas.Bool.{and_parts, false_from_ne_true, leb-true}
 use Rattle.fsb_count.specs.Clocks.{last_where}
 use Rattle.fsb_phase.specs.FitQueue.{is_too_soon}
 use Rattle.fsb_signal.specs.declared.lines.TheConstants.Lines.{ADS}
-use Rattle.fsb_signal.specs.Samples.{has_line, line_at}
-use Rattle.fsb_timely.specs.Runs.{Run}
+use Rattle.fsb_signal.specs.Samples.{line_at}
 use Rattle.fsb_timely.proofs.Interface.{last_where-from}
 use Rattle.fsb_trace.specs.At.{Trace, line_back}
 use Rattle.fsb_trace.specs.Winner.{winner_at}
 use Rattle.fsb_bench_view.specs.declared.beginning.Latest.{Latest}
 use Rattle.fsb_bench_view.specs.declared.beginning.Starting.{Starting}
-use Rattle.fsb_bench_view.specs.BenchSteps.{step_decided, step_performed, step_sample, was_held_at}
+use Rattle.fsb_bench_view.specs.BenchSteps.{step_decided, step_performed, was_held_at}
 use Rattle.fsb_bench_view.specs.BusStarting.{is_spaced_by}
 use Rattle.fsb_bench_view.specs.BusViews.{BenchView, next_clock_of}
 use Rattle.fsb_bench_view.specs.MaySteps.{MaySample}
-use Rattle.fsb_bench_run.specs.BenchOf.{IsBenchOf, IsLatestOf}
+use Rattle.fsb_bench_run.specs.BenchOf.{IsBenchOf}
 use Rattle.fsb_bench_run.proofs.DrivenLines.{ads-driven}
 use Rattle.fsb_bench_run.proofs.ResponsesDriven.{code-now}
 use Rattle.fsb_bench_run.proofs.SameBus.{same-performed}
