@@ -49,3 +49,6 @@ pub mod WinnersAsk
 pub mod DueNow
 pub mod OpenNow
 pub mod StartsNow
+pub mod TimelyNext
+pub mod RespondsFirst
+pub mod KeptNext

@@ -144,7 +144,7 @@ kept-there p c (suc (suc (suc zero))) l e =
     or_right (keeps_into p c 0) _ (or_right (keeps_into p c 1) _ (or_right (keeps_into p c 2) _ (or_left (keeps_into p c 3) _ e)))
 kept-there p c (suc (suc (suc (suc a)))) l e = absurd (omega arith)
 
-locked-begins : (p : Past) (a c : ℕ) → is_locked_request p a c ≡ true → is_begun_by p a c ≡ true
+pub locked-begins : (p : Past) (a c : ℕ) → is_locked_request p a c ≡ true → is_begun_by p a c ≡ true
 unfolding is_locked_request
 locked-begins p a c e = by (is_begun_by p a c) refl e
   where
@@ -152,7 +152,7 @@ locked-begins p a c e = by (is_begun_by p a c) refl e
     by true f e = refl
     by false f e = absurd (let g = rw (f, is_locked_request) at e in let no : ⊥ = cc in no)
 
-begun-ads : (r : Run) (a q : ℕ) → q < length r.trace → is_begun_by (past_of r) a q ≡ true → line_at ADS r.trace q ≡ true
+pub begun-ads : (r : Run) (a q : ℕ) → q < length r.trace → is_begun_by (past_of r) a q ≡ true → line_at ADS r.trace q ≡ true
 unfolding is_begun_by is_some_and
 begun-ads r a q l e = by (line_at ADS r.trace q) (begun-told r q l) e
   where
@@ -161,7 +161,7 @@ begun-ads r a q l e = by (line_at ADS r.trace q) (begun-told r q l) e
     by true f e = refl
     by false f e = absurd (let g = rw (f, is_begun_by, is_some_and) at e in let no : ⊥ = cc in no)
 
-some-there : (o : Option Starting) → is_some o ≡ true → (s : Starting) × (o ≡ Some s)
+pub some-there : (o : Option Starting) → is_some o ≡ true → (s : Starting) × (o ≡ Some s)
 some-there None e = absurd (let no : ⊥ = cc in no)
 some-there (Some s) e = (s, refl)
 

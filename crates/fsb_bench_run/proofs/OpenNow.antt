@@ -76,7 +76,7 @@ any-over g t f h (x ∷ queue) each =
         rw e (λ i. one i || rest i)
 
 -- two numbers of one clock are one
-one-number : (w : Trace) (i j q : ℕ) → live_clock_of w i ≡ Some q → live_clock_of w j ≡ Some q → i ≡ j
+pub one-number : (w : Trace) (i j q : ℕ) → live_clock_of w i ≡ Some q → live_clock_of w j ≡ Some q → i ≡ j
 unfolding live_clock_of
 one-number w i j q e f =
     sym (nth_where-found (is_live w) i (length w) q e).2 ∙ (nth_where-found (is_live w) j (length w) q f).2
