@@ -53,3 +53,4 @@ pub mod StartsNow
 pub mod TimelyNext
 pub mod RespondsFirst
 pub mod KeptNext
+pub mod EntriesNext
