@@ -54,3 +54,4 @@ pub mod TimelyNext
 pub mod RespondsFirst
 pub mod KeptNext
 pub mod EntriesNext
+pub mod BenchNext

@@ -14,7 +14,7 @@ pub use lines::{
 };
 pub use responses::responses_are_driven;
 pub use snoops::snoops_are_driven;
-pub use standing::{beginnings_are_of_the_run, locks_of_benches_go_on};
+pub use standing::{beginnings_are_of_the_run, benches_go_on, locks_of_benches_go_on};
 
 mod flight;
 mod frame;
