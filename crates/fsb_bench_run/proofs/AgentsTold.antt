@@ -25,7 +25,7 @@ told-at events n (v ∷ vs) (suc k) =
     let same : n + 1 + k ≡ n + suc k = omega arith in
     told-at events (n + 1) vs k ∙ ap (λ m. option_map (λ v. fold agent_after v (events m)) (slice_get vs k)) same
 
-some-of : {X Y : Type 0} (f : X → Y) (o : Option X) (y : Y) → option_map f o ≡ Some y → (x : X) × (o ≡ Some x) × (y ≡ f x)
+pub some-of : {X Y : Type 0} (f : X → Y) (o : Option X) (y : Y) → option_map f o ≡ Some y → (x : X) × (o ≡ Some x) × (y ≡ f x)
 some-of f None y e = absurd (let no : ⊥ = cc in no)
 some-of f (Some x) y e = (x, refl, (let same : y ≡ f x = cc in same))
 

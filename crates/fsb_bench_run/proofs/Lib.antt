@@ -41,3 +41,4 @@ pub mod CompletionsNow
 pub mod AsksNow
 pub mod SampleSpaced
 pub mod LogsApart
+pub mod BegunEvents
