@@ -42,3 +42,5 @@ pub mod AsksNow
 pub mod SampleSpaced
 pub mod LogsApart
 pub mod BegunEvents
+pub mod GrownPlaces
+pub mod GrownViews

@@ -6,7 +6,7 @@ use Rattle.std.proofs.lemmas.Bool.{and_from, and_parts, eq-eqb}
 use Rattle.std.proofs.lemmas.List.{length-append}
 use Rattle.fsb_access.specs.ScriptOrder.{Step}
 use Rattle.fsb_access.specs.declared.log.Done.{Done}
-use Rattle.fsb_agent_view.specs.AgentEvents.{AgentEvent, Arrived, Committed, GivenUp, HandedOn, Performed, Sent, UpgradeEnded}
+use Rattle.fsb_agent_view.specs.AgentEvents.{Arrived, Committed, GivenUp, HandedOn, Performed, Sent, UpgradeEnded}
 use Rattle.fsb_agent_view.specs.AgentViews.{AgentView}
 use Rattle.fsb_agent_view.specs.Arriving.{arrived_entries, ended_entries_for, is_arrival_by, met_entries, upgrade_entries, with_bytes}
 use Rattle.fsb_agent_view.specs.Completing.{completed_entries, is_hit_by, performed_entries}
@@ -27,7 +27,7 @@ use Rattle.fsb_trace.specs.declared.outcome.Outcome.TheVariants as outcomes
 use Rattle.fsb_bench_view.specs.declared.beginning.Starting.{Starting}
 use Rattle.fsb_bench_view.specs.declared.decided.Ending.{Ending}
 use Rattle.fsb_bench_view.specs.BenchSteps.{step_answered, step_decided, step_ending, step_entries, step_fetched, step_performed, step_run, step_sample}
-use Rattle.fsb_bench_view.specs.BusEvents.{end_entries, end_event, entries_of_event}
+use Rattle.fsb_bench_view.specs.BusEvents.{end_entries, end_event, entries_ended, entries_of_event}
 use Rattle.fsb_bench_view.specs.BusViews.{BenchView, BusView, next_clock_of}
 use Rattle.fsb_bench_view.specs.ToldAgents.{hit_entries}
 use Rattle.fsb_bench_run.specs.BenchOf.{IsBenchOf}
@@ -88,28 +88,15 @@ of-outcome v clock first bytes outcomes.Replied = of-arrived v clock bytes (requ
 of-outcome v clock first bytes outcomes.Failed = refl
 of-outcome v clock first bytes outcomes.Upgraded = of-upgraded v clock (request_numbered first v.outs)
 
-of-event-none : (clock : ℕ) (e : Option AgentEvent)
-    → AreOfClock clock (option_map_or (λ event. option_map_or (λ (v : AgentView). entries_of_event v event) None []) e [])
-of-event-none clock None = refl
-of-event-none clock (Some e) = refl
-
-of-event-some : (v : AgentView) (clock : ℕ) (e : Option AgentEvent)
-    → AreOfClock clock (option_map_or (entries_of_event v) e [])
-    → AreOfClock clock (option_map_or (λ event. option_map_or (λ (v : AgentView). entries_of_event v event) (Some v) []) e [])
-of-event-some v clock None h = refl
-of-event-some v clock (Some e) h = h
-
-of-end : (bus : BusView) (clock : ℕ) (ending : Ending) (o : Option AgentView)
-    → AreOfClock clock (option_map_or (λ event. option_map_or (λ (v : AgentView). entries_of_event v event) o [])
-    (end_event clock ending.served.first bus.moved ending.outcome) [])
-of-end bus clock ending None = of-event-none clock (end_event clock ending.served.first bus.moved ending.outcome)
-of-end bus clock ending (Some v) =
-    of-event-some v clock (end_event clock ending.served.first bus.moved ending.outcome)
-    (of-outcome v clock ending.served.first bus.moved ending.outcome)
+of-end : (clock first : ℕ) (bytes : List ℕ) (outcome : Outcome) (o : Option AgentView)
+    → AreOfClock clock (option_map_or (entries_ended clock first bytes outcome) o [])
+of-end clock first bytes outcome None = refl
+of-end clock first bytes outcome (Some v) = of-outcome v clock first bytes outcome
 
 of-ending : (bus : BusView) (clock : ℕ) (o : Option Ending) → AreOfClock clock (option_map_or (end_entries bus clock) o [])
 of-ending bus clock None = refl
-of-ending bus clock (Some ending) = of-end bus clock ending (slice_get bus.agents ending.served.agent)
+of-ending bus clock (Some ending) =
+    of-end clock ending.served.first bus.moved ending.outcome (slice_get bus.agents ending.served.agent)
 
 pub entries-now : (v : BenchView) (hold : Bool) → AreOfClock (next_clock_of v) (step_entries v hold)
 entries-now v hold =

@@ -1,7 +1,10 @@
 //! A bench and its run, clock by clock: laws over the definitions, and no code.
 //!
-//! `specs/BenchOf.antt` says which bench stands for its timely run. The laws say that the run with
-//! one more clock of the bench is timely, and that the bench after the clock stands for it.
+//! `specs/BenchOf.antt` says which bench stands for its timely run. The laws say of the run with one
+//! more clock of the bench that it is as a timely run must be at that clock, part by part, and of the
+//! bench after the clock that it stands for it, field by field: as far as they go today. ADS# and the
+//! completions are open, and so is the premise `HasHitsOf` of most laws, that the agents after their
+//! hits are those of the longer run.
 #![tactic(auto)]
 
 pub use flight::queues_of_benches_go_on;

@@ -2,7 +2,7 @@
 use Rattle.std.proofs.Common.{◌≡◌, ℕ, ◌+◌, Bool, true, false, List, [], ◌∷◌, ◌++◌, ◌==◌, ◌||◌, if◌then◌else◌, length, Option, Some, None, suc, refl, sym, ap, ◌∙◌, fold}
 use Rattle.std.proofs.lemmas.List.Sums.{sum_by-cons}
 use Rattle.std.specs.Option.{option_map_or}
-use Rattle.fsb_agent_view.specs.AgentEvents.{AgentEvent, Committed, GivenUp, Sent, agent_after}
+use Rattle.fsb_agent_view.specs.AgentEvents.{AgentEvent, GivenUp, Sent, agent_after}
 use Rattle.fsb_agent_view.specs.AgentViews.{AgentView, line_state_by}
 use Rattle.fsb_agent_view.specs.OwnRequests.{new_request, request_numbered, requests_granted}
 use Rattle.fsb_agent_view.specs.Snooping.{committed, granted_by, kind_asks, no_bytes, own_settled, upgraded_by, with_fill}

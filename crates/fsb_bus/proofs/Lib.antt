@@ -2,6 +2,5 @@ pub mod Told
 pub mod LogRooms
 pub mod RequestWords
 pub mod BusSteps
-pub mod FirstAgents
 pub mod NamedLines
 pub mod KeptScripts

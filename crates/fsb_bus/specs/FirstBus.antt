@@ -1,6 +1,7 @@
 -- The bus before its first clock.
-use Rattle.std.specs.Prelude.{ℕ, ◌+◌, ◌==◌, Bool, false, List, [], ◌∷◌, replicate, None}
+use Rattle.std.specs.Prelude.{ℕ, ◌==◌, Bool, false, List, [], ◌∷◌, replicate, None}
 use Rattle.std.specs.List.{list_any}
+use Rattle.fsb_access.specs.ScriptOrder.{script_of}
 use Rattle.fsb_access.specs.declared.item.Item.{Item}
 use Rattle.fsb_agent_view.specs.AgentEvents.{first_view}
 use Rattle.fsb_agent_view.specs.AgentViews.{AgentView}
@@ -9,15 +10,13 @@ use Rattle.fsb_script.specs.Plans.{PlanView}
 use Rattle.fsb_timely.specs.Kept.{is_named_in}
 use Rattle.fsb_bench_view.specs.BusViews.{BusView}
 
--- the agents with these scripts, before any event, the first of which has this number
-abbrev pub agents_with : PlanView → ℕ → List (List Item) → List AgentView
-agents_with plan n [] = []
-agents_with plan n (items ∷ scripts) =
-    first_view n items plan.cache plan.ahead plan.profile ∷ agents_with plan (n + 1) scripts
+-- the agent of this number, before any event; its script is empty where the plan has none for it
+abbrev pub first_agent : PlanView → ℕ → AgentView
+first_agent plan n = first_view n (script_of plan.scripts n) plan.cache plan.ahead plan.profile
 
--- the agents of a plan, before any event
+-- the four agents of a plan, before any event
 abbrev pub first_agents : PlanView → List AgentView
-first_agents plan = agents_with plan 0 plan.scripts
+first_agents plan = first_agent plan 0 ∷ first_agent plan 1 ∷ first_agent plan 2 ∷ first_agent plan 3 ∷ []
 
 -- the line is one of these
 abbrev pub is_listed : List ℕ → ℕ → Bool

@@ -1,33 +1,50 @@
 //! What is made of a plan before its first clock.
 
-ghost use Rattle.std.specs.Prelude.{◌≡◌, ◌==◌, ◌||◌, ℕ, IfOk, OnOk, true};
+ghost use Rattle.std.specs.Prelude.{◌≡◌, ◌==◌, ◌||◌, ◌<◌, ℕ, IfOk, OnOk, true};
 ghost use Rattle.std.specs.List.{list_any};
 ghost use Rattle.fsb_access.specs.Access.{accessed_line};
+ghost use Rattle.fsb_access.specs.ScriptOrder.{script_of};
 ghost use Rattle.fsb_memory.specs.Controller.{is_mapped, line_in, start_bytes};
 ghost use Rattle.fsb_script.specs.View.{plan_view};
 ghost use Rattle.fsb_timely.specs.Kept.{is_named_in};
-ghost use Rattle.fsb_bus.specs.FirstBus.{first_agents, is_listed, is_named_line};
+ghost use Rattle.fsb_bus.specs.FirstBus.{first_agent, first_agents, is_listed, is_named_line};
 
-use fsb_access::{Access, Item};
+use fsb_access::{Access, Item, Script};
 use fsb_agent::Agent;
 use fsb_io::Memory;
 use fsb_memory::Controller;
 use fsb_script::Plan;
 use std::alloc::Global;
 
-/// The agents of a plan, each with its script.
+/// The four agents of a bus, each with its script.
 pub(crate) fn agents_of(alloc: Global, plan: &Plan) -> Result<Vec<Agent>, Memory>
     ensures { IfOk result (λ agents. agents.items ≡ first_agents (plan_view plan.now)) }
 {
     let mut agents = Vec::new(alloc);
-    let mut number = 0;
-    for script in plan.scripts.as_slice() {
-        let script = script.copy(alloc)?;
-        let agent = Agent::new(alloc, number, script, plan.cache, plan.ahead, plan.profile)?;
-        agents.push(agent)?;
-        number += 1;
-    }
+    agents.push(agent_of(alloc, plan, 0)?)?;
+    agents.push(agent_of(alloc, plan, 1)?)?;
+    agents.push(agent_of(alloc, plan, 2)?)?;
+    agents.push(agent_of(alloc, plan, 3)?)?;
     Ok(agents)
+}
+
+/// The agent of this number.
+fn agent_of(alloc: Global, plan: &Plan, number: u8) -> Result<Agent, Memory>
+    requires { number < 4 }
+    ensures { IfOk result (λ agent. agent ≡ first_agent (plan_view plan.now) number) }
+{
+    let script = script_of(alloc, plan.scripts.as_slice(), number)?;
+    Agent::new(alloc, number, script, plan.cache, plan.ahead, plan.profile)
+}
+
+/// The script of the agent of this number; an empty one where there are not so many.
+fn script_of(alloc: Global, scripts: &[Script], number: u8) -> Result<Script, Memory>
+    ensures { IfOk result (λ script. script ≡ script_of scripts.now number) }
+{
+    match scripts.get(usize::from(number)) {
+        Some(script) => script.copy(alloc),
+        None => Ok(Script::new(alloc)),
+    }
 }
 
 /// The memory that the settings of a plan make, with each line that its scripts name.

@@ -1,5 +1,5 @@
 -- What a plan's own facts say of its scripts.
-use Rattle.std.proofs.Common.{◌≡◌, ℕ, ◌+◌, ◌<◌, ◌≤◌, arith, Bool, true, nat_le, ◌&&◌, List, [], ◌∷◌, length, take, get_or, sum_by, refl, sym, ap, ◌∙◌, subst, ◌++◌, add-one}
+use Rattle.std.proofs.Common.{◌≡◌, ℕ, zero, suc, ◌+◌, ◌<◌, ◌≤◌, arith, Bool, true, nat_le, ◌&&◌, List, [], ◌∷◌, length, take, get_or, sum_by, refl, sym, ap, ◌∙◌, subst, ◌++◌, add-one}
 use Rattle.std.proofs.Math.Seq.{take-suc}
 use Rattle.std.proofs.lemmas.List.Sums.{sum_by-append}
 use Rattle.std.proofs.Math.Logic.{⊎_elim}
@@ -8,6 +8,7 @@ use Rattle.std.proofs.lemmas.Grind.{common_steps}
 use Rattle.std.proofs.lemmas.List.Folds.{list_all_at}
 use Rattle.std.specs.List.{list_all}
 use Rattle.fsb_access.specs.Access.{is_lawful_access}
+use Rattle.fsb_access.specs.ScriptOrder.{script_of}
 use Rattle.fsb_access.specs.declared.item.Item.{Item}
 use Rattle.fsb_access.specs.declared.item.Item.TheVariants.{One, Locked, Idle}
 use Rattle.fsb_script.specs.Bounds.{is_lawful_script, is_lawful_item, is_lock_size, is_lock_apart, line_count}
@@ -49,6 +50,15 @@ pub script_at : (cache : ℕ) (scripts : List (List Item)) (i : ℕ) (script ite
     → list_all (is_lawful_script cache) scripts ≡ true → is_lawful_script cache items ≡ true
 script_at cache scripts i script items h e at all =
     subst (λ l. is_lawful_script cache l ≡ true) (sym (e ∙ at)) (all_at (is_lawful_script cache) scripts i script h all)
+
+-- the script of an agent is lawful, also where there is none
+pub lawful_script_of : (cache : ℕ) (scripts : List (List Item)) (n : ℕ)
+    → list_all (is_lawful_script cache) scripts ≡ true → is_lawful_script cache (script_of scripts n) ≡ true
+unfolding is_lawful_script
+lawful_script_of cache [] n e = refl
+lawful_script_of cache (items ∷ scripts) zero e = (and_parts (is_lawful_script cache items) (list_all (is_lawful_script cache) scripts) e).0
+lawful_script_of cache (items ∷ scripts) (suc n) e =
+    lawful_script_of cache scripts n (and_parts (is_lawful_script cache items) (list_all (is_lawful_script cache) scripts) e).1
 
 -- the accesses up to the next script
 pub count_next : (scripts : List (List Item)) (i : ℕ) (script items : List Item)
