@@ -136,7 +136,7 @@ cancels w c q e error ads =
 
 cancels-none : (w : Trace) (c : ℕ) → line_at AERR w c ≡ false → cancelled_at w c ≡ None
 unfolding cancelled_at
-cancels-none w c error = rw error (by (nat_le 3 c) (line_at ADS w (c - 3)))
+cancels-none w c error = rw (error, cancelled_at) (by (nat_le 3 c) (line_at ADS w (c - 3)))
   where
     by : (b d : Bool) → ◌≡◌ {A = Option ℕ} (elim (b && false && d) [ true ↦ Some (c - 3) | false ↦ None ]) None
     by true d = refl
