@@ -20,6 +20,10 @@ pub use Rattle.fsb_agent_run.proofs.OwedApart.{owed-apart, owed-few, sent-apart}
 -- How a request of a symmetric agent is settled, and who awaits what.
 pub use Rattle.fsb_agent_run.proofs.OwnSnoops.{IsSettledAs, settled-as}
 pub use Rattle.fsb_agent_run.proofs.GrantsAwaited.{granted-unawaited, latest-ends, latest-says}
+-- What a reply serves is the request that its agent has outstanding on the line; and no grant, no arrival.
+pub use Rattle.fsb_agent_run.proofs.AskedNumbers.{served-number}
+pub use Rattle.fsb_agent_run.proofs.EndFacts.{own-left, replied-left}
+pub use Rattle.fsb_agent_run.proofs.EndViews.{NoGrantEnds, no-arrival, nothing-granted}
 -- The bytes that an agent owes, from one moment of a clock to the next, and over its clocks.
 pub use Rattle.fsb_agent_run.proofs.FirstOwed.{first-owed}
 pub use Rattle.fsb_agent_run.proofs.GiversNamed.{given-named}

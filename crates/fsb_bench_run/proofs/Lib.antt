@@ -44,3 +44,5 @@ pub mod LogsApart
 pub mod BegunEvents
 pub mod GrownPlaces
 pub mod GrownViews
+pub mod DeferredBegun
+pub mod SnoopHeard
