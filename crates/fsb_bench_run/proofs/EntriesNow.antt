@@ -27,7 +27,7 @@ abbrev pub completed_of : Done → Completed
 completed_of done = record { agent = done.agent; step = step_of done }
 
 -- old entries are of no new clock
-old-off : (first n : ℕ) (log : List Done) → is_in_time first n log ≡ true
+pub old-off : (first n : ℕ) (log : List Done) → is_in_time first n log ≡ true
     → filter (λ (done : Done). nat_eq done.clock n) log ≡ []
 unfolding is_in_time
 old-off first n [] e = refl
@@ -37,7 +37,7 @@ old-off first n (done ∷ log) e =
     let below : done.clock < n = ltb-true done.clock n rest.0 in
     rw (ne_eqb done.clock n (λ f. omega arith)) (old-off done.clock n log rest.1)
 
-new-on : (n : ℕ) (log : List Done) → list_all (λ (done : Done). nat_eq done.clock n) log ≡ true
+pub new-on : (n : ℕ) (log : List Done) → list_all (λ (done : Done). nat_eq done.clock n) log ≡ true
     → filter (λ (done : Done). nat_eq done.clock n) log ≡ log
 new-on n [] e = refl
 new-on n (done ∷ log) e =

@@ -20,7 +20,6 @@ use Rattle.fsb_bench_view.specs.declared.beginning.Starting.{Starting}
 use Rattle.fsb_bench_view.specs.BenchSteps.{bench_stepped, step_decided, step_entries, step_run}
 use Rattle.fsb_bench_view.specs.BusViews.{BenchView, next_clock_of}
 use Rattle.fsb_bench_run.specs.BenchOf.{HasStarted, IsBegunAt, IsBenchOf, IsLatestOf}
-use Rattle.fsb_bench_run.specs.HitsTold.{HasHitsOf}
 use Rattle.fsb_bench_run.proofs.AdsGrown.{ads-old, last-below, last-more}
 use Rattle.fsb_bench_run.proofs.BegunStays.{begun-stays}
 use Rattle.fsb_bench_run.proofs.NextRun.{begins-now, grows-to}
@@ -52,9 +51,9 @@ latest-by r s latest None grows k ads begins = record {
       (k.begun last e);
 }
 
-pub latest-next : (v : BenchView) (hold : Bool) (choice : Choice) → IsBenchOf v → HasHitsOf v (step_run v hold choice)
+pub latest-next : (v : BenchView) (hold : Bool) (choice : Choice) → IsBenchOf v
     → IsLatestOf (bench_stepped v hold choice).bus.latest (step_run v hold choice)
-latest-next v hold choice b hits =
+latest-next v hold choice b =
     subst (λ latest. IsLatestOf latest (step_run v hold choice)) (sym (latest-stepped v hold choice))
     (latest-by v.run (step_run v hold choice) v.bus.latest (step_decided v hold).starting (grows-to v hold choice b) b.latest
-    (begins-now v hold choice) (λ starting e. starting-begins v hold choice (step_entries v hold) starting (step-with v hold choice b hits) e))
+    (begins-now v hold choice) (λ starting e. starting-begins v hold choice (step_entries v hold) starting (step-with v hold choice b) e))

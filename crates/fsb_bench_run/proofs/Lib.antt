@@ -46,3 +46,6 @@ pub mod GrownPlaces
 pub mod GrownViews
 pub mod DeferredBegun
 pub mod SnoopHeard
+pub mod HitEntries
+pub mod FirstEntries
+pub mod SnoopViews

@@ -27,7 +27,6 @@ use Rattle.fsb_bench_view.specs.BenchSteps.{bench_stepped, step_decided, step_en
 use Rattle.fsb_bench_view.specs.BusViews.{BenchView, next_clock_of}
 use Rattle.fsb_bench_run.specs.BenchOf.{HasStarted, IsBegunAt, IsBenchOf}
 use Rattle.fsb_bench_run.proofs.BegunStays.{before-growth}
-use Rattle.fsb_bench_run.specs.HitsTold.{HasHitsOf}
 use Rattle.fsb_bench_run.proofs.AdsGrown.{all-more}
 use Rattle.fsb_bench_run.proofs.LockedStarts.{begun-by-agent, locked-start}
 use Rattle.fsb_bench_run.proofs.NextRun.{begins-now, grows-to}
@@ -106,9 +105,9 @@ started-by r s started None grows h ads locks = record {
       h.locked k a start at was ∙ sym (locked-same r s a start.clock grows l);
 }
 
-pub started-next : (v : BenchView) (hold : Bool) (choice : Choice) → IsBenchOf v → HasHitsOf v (step_run v hold choice)
+pub started-next : (v : BenchView) (hold : Bool) (choice : Choice) → IsBenchOf v
     → HasStarted (bench_stepped v hold choice).bus.started (step_run v hold choice)
-started-next v hold choice b hits =
+started-next v hold choice b =
     subst (λ started. HasStarted started (step_run v hold choice)) (sym (started-stepped v hold choice))
     (started-by v.run (step_run v hold choice) v.bus.started (step_decided v hold).starting (grows-to v hold choice b) b.started
-    (begins-now v hold choice) (λ starting a e begun. locked-start v hold choice (step_entries v hold) starting a (step-with v hold choice b hits) e begun))
+    (begins-now v hold choice) (λ starting a e begun. locked-start v hold choice (step_entries v hold) starting a (step-with v hold choice b) e begun))

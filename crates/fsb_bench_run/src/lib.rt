@@ -3,12 +3,12 @@
 //! `specs/BenchOf.antt` says which bench stands for its timely run. The laws say of the run with one
 //! more clock of the bench that it is as a timely run must be at that clock, part by part, and of the
 //! bench after the clock that it stands for it, field by field: as far as they go today. ADS# and the
-//! completions are open, and so is the premise `HasHitsOf` of most laws, that the agents after their
-//! hits are those of the longer run.
+//! completions are open.
 #![tactic(auto)]
 
 pub use flight::queues_of_benches_go_on;
 pub use frame::clocks_add_to_runs;
+pub use hits::agents_have_their_hits;
 pub use lines::{locks_and_parity_are_driven, request_lines_are_driven, words_are_due};
 pub use responses::responses_are_driven;
 pub use snoops::snoops_are_driven;
@@ -16,6 +16,7 @@ pub use standing::beginnings_are_of_the_run;
 
 mod flight;
 mod frame;
+mod hits;
 mod lines;
 mod responses;
 mod snoops;

@@ -10,29 +10,23 @@ ghost use Rattle.fsb_timely.specs.Timely.{holds_at};
 ghost use Rattle.fsb_bench_view.specs.BenchSteps.{step_run};
 ghost use Rattle.fsb_bench_view.specs.BusViews.{BenchView, next_clock_of};
 ghost use Rattle.fsb_bench_run.specs.BenchOf.{IsBenchOf};
-ghost use Rattle.fsb_bench_run.specs.HitsTold.{HasHitsOf};
 
-/// The address and REQ words of a bench's clock are those that are due in its run, where the agents
-/// of the bench after the hits are those of the run.
+/// The address and REQ words of a bench's clock are those that are due in its run.
 pub fn words_are_due()
-    ensures { (v : BenchView) (hold : Bool) (choice : Choice) → IsBenchOf v →
-        HasHitsOf v (step_run v hold choice) → IsTrue
+    ensures { (v : BenchView) (hold : Bool) (choice : Choice) → IsBenchOf v → IsTrue
         (drives_pair (step_run v hold choice) (past_of (step_run v hold choice)) (next_clock_of v)) }
 {}
 
 /// BREQ# of each agent and BPRI# are at a bench's clock as they must be in its run.
 pub fn request_lines_are_driven()
     ensures { (v : BenchView) (hold : Bool) (choice : Choice) → IsBenchOf v →
-        HasHitsOf v (step_run v hold choice) →
         IsTrue (holds_at drives_request_lines (step_run v hold choice) (next_clock_of v)) }
 {}
 
 /// LOCK# and the parity lines of a bench's clock are as they must be in its run.
 pub fn locks_and_parity_are_driven()
     ensures lock { (v : BenchView) (hold : Bool) (choice : Choice) → IsBenchOf v →
-        HasHitsOf v (step_run v hold choice) →
         IsTrue (holds_at drives_lock (step_run v hold choice) (next_clock_of v)) }
     ensures parity { (v : BenchView) (hold : Bool) (choice : Choice) → IsBenchOf v →
-        HasHitsOf v (step_run v hold choice) →
         IsTrue (holds_at drives_parity (step_run v hold choice) (next_clock_of v)) }
 {}

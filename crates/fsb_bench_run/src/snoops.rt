@@ -7,16 +7,12 @@ ghost use Rattle.fsb_timely.specs.Timely.{holds_at};
 ghost use Rattle.fsb_bench_view.specs.BenchSteps.{step_run};
 ghost use Rattle.fsb_bench_view.specs.BusViews.{BenchView, next_clock_of};
 ghost use Rattle.fsb_bench_run.specs.BenchOf.{IsBenchOf};
-ghost use Rattle.fsb_bench_run.specs.HitsTold.{HasHitsOf};
 
-/// Where the agents have their hits of the clock, BNR#, AERR#, the stalls and DEFER# of the clock are
-/// as they are chosen, and HIT# and HITM# are at snoop clocks alone; and where the clock is a snoop
-/// end, its result is right.
+/// BNR#, AERR#, the stalls and DEFER# of the clock are as they are chosen, and HIT# and HITM# are at
+/// snoop clocks alone; and where the clock is a snoop end, its result is right.
 pub fn snoops_are_driven()
     ensures hazards { (v : BenchView) (hold : Bool) (choice : Choice) → IsBenchOf v →
-        HasHitsOf v (step_run v hold choice) →
         IsTrue (holds_at drives_hazards (step_run v hold choice) (next_clock_of v)) }
     ensures result { (v : BenchView) (hold : Bool) (choice : Choice) → IsBenchOf v →
-        HasHitsOf v (step_run v hold choice) →
         IsTrue (holds_at has_snoop_result (step_run v hold choice) (next_clock_of v)) }
 {}

@@ -6,19 +6,16 @@ ghost use Rattle.fsb_bench_view.specs.declared.beginning.Starting.{Starting};
 ghost use Rattle.fsb_bench_view.specs.BenchSteps.{bench_stepped, step_decided, step_run};
 ghost use Rattle.fsb_bench_view.specs.BusViews.{BenchView, next_clock_of};
 ghost use Rattle.fsb_bench_run.specs.BenchOf.{HasStarted, IsBegunAt, IsBenchOf, IsLatestOf};
-ghost use Rattle.fsb_bench_run.specs.HitsTold.{HasHitsOf};
 
 /// What a bench begins at a clock is what the winner of its run would begin there; so after the clock
 /// the bench has the request that began last, and all that have begun, of the longer run.
 pub fn beginnings_are_of_the_run()
     ensures begun { (v : BenchView) (hold : Bool) (choice : Choice) (starting : Starting) →
-        IsBenchOf v → HasHitsOf v (step_run v hold choice) →
+        IsBenchOf v →
         (step_decided v hold).starting ≡ Some starting →
         IsBegunAt (step_run v hold choice) (next_clock_of v) starting.who starting.request }
     ensures latest { (v : BenchView) (hold : Bool) (choice : Choice) → IsBenchOf v →
-        HasHitsOf v (step_run v hold choice) →
         IsLatestOf (bench_stepped v hold choice).bus.latest (step_run v hold choice) }
     ensures started { (v : BenchView) (hold : Bool) (choice : Choice) → IsBenchOf v →
-        HasHitsOf v (step_run v hold choice) →
         HasStarted (bench_stepped v hold choice).bus.started (step_run v hold choice) }
 {}

@@ -4,4 +4,4 @@ use Rattle.fsb_bench_run.proofs.StepEntries.{step-with}
 use Rattle.fsb_bench_run.proofs.lines.words_are_due.Goals as goal
 
 pub returns : goal.returns
-returns c v hold choice b hits = drives-pair-now v hold choice (step_entries v hold) (step-with v hold choice b hits)
+returns c v hold choice b = drives-pair-now v hold choice (step_entries v hold) (step-with v hold choice b)
