@@ -30,7 +30,7 @@ winner-of r q request l ads e =
     let agree = run_to-agrees r q l in
     (k.0, record { begins = ads; winner = winner_at-agree (q + 1) r.trace (run_to r q).trace q agree (omega arith) ∙ k.1; wanted = k.2 })
 
-would-own : (r : Run) (q a : ℕ) (request : Request) → KeepsBounds r.plan → IsBegunAt r q (Symmetric a) request
+pub would-own : (r : Run) (q a : ℕ) (request : Request) → KeepsBounds r.plan → IsBegunAt r q (Symmetric a) request
     → request.did / 16 ≡ a
 unfolding would_begin past_to past_of
 would-own r q a request bounds k = (want-own (past_to (past_of r) q) a q request bounds.few_ahead k.wanted).1

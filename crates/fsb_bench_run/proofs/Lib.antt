@@ -49,3 +49,5 @@ pub mod SnoopHeard
 pub mod HitEntries
 pub mod FirstEntries
 pub mod SnoopViews
+pub mod EndPlaces
+pub mod EndHeard

@@ -115,7 +115,7 @@ some-there : {X : Type 0} (o : Option X) → is_some o ≡ true → (x : X) × (
 some-there None e = absurd (let no : ⊥ = cc in no)
 some-there (Some x) e = (x, refl)
 
-claim-told : (s : Run) (q : ℕ) (claim : Claim) → q < length s.trace → line_at ADS s.trace q ≡ true
+pub claim-told : (s : Run) (q : ℕ) (claim : Claim) → q < length s.trace → line_at ADS s.trace q ≡ true
     → begun_at (past_of s) q ≡ Some claim → claim_at s.trace q ≡ Some claim
 claim-told s q claim l ads e =
     sym (begun-told s q l ∙ ap (λ b. if b then claim_at s.trace q else None) ads) ∙ e
@@ -130,7 +130,7 @@ pub record IsReplyServed (s : Run) (n q : ℕ) (end : SnoopEnd) (request : Reque
   pub shared : grant.shared ≡ is_shared_at s.trace n
   pub begun : IsBegunAt s q (Symmetric (request.did / 16)) request
 
-answered-of : (w : Trace) (turns : List ℕ) (m j : ℕ) → is_reply (live_request_of w m) ≡ true
+pub answered-of : (w : Trace) (turns : List ℕ) (m j : ℕ) → is_reply (live_request_of w m) ≡ true
     → served_number w turns m ≡ Some j
     → (j < m) × (is_settled_deferred w turns j ≡ true) × (reply_number_of w j ≡ Some m)
 unfolding served_number is_answered_by

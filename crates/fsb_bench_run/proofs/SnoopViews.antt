@@ -12,17 +12,20 @@ use Rattle.fsb_agent_view.specs.AgentViews.{AgentView}
 use Rattle.fsb_agent_view.specs.Snooping.{committed}
 use Rattle.fsb_hazard.specs.declared.choice.Choice.{Choice}
 use Rattle.fsb_lawful.proofs.Interface.{get-there}
+use Rattle.fsb_phase_run.proofs.Interface.{longer}
 use Rattle.fsb_queue.specs.declared.entry.Entry.{Entry}
 use Rattle.fsb_run_laws.specs.Reaches.{Reaches}
 use Rattle.fsb_timely.specs.Grants.{snooped_at}
 use Rattle.fsb_timely.specs.Past.{SnoopEnd}
 use Rattle.fsb_timely.specs.Runs.{Run, past_of}
+use Rattle.fsb_timely.specs.Timely.{Timely}
 use Rattle.fsb_trace.specs.declared.outcome.Outcome.{Outcome}
+use Rattle.fsb_trace.specs.declared.who.Who.TheVariants.{Symmetric}
 use Rattle.fsb_bench_view.specs.declared.snoop.SnoopSettled.{SnoopSettled}
 use Rattle.fsb_bench_view.specs.BenchSteps.{step_answered, step_cancelled, step_decided, step_drive, step_snooped}
 use Rattle.fsb_bench_view.specs.BusEvents.{answered_by, bus_answered, bus_snooped, snooped_event}
 use Rattle.fsb_bench_view.specs.BusViews.{BenchView, BusView, next_clock_of}
-use Rattle.fsb_bench_run.specs.BenchOf.{IsBenchOf}
+use Rattle.fsb_bench_run.specs.BenchOf.{IsBegunAt, IsBenchOf}
 use Rattle.fsb_bench_run.proofs.BegunEvents.{AgentsAre, told-each, views-cancelled}
 use Rattle.fsb_bench_run.proofs.RunWith.{run_with}
 use Rattle.fsb_bench_run.proofs.SnoopCases.{snoop-cases}
@@ -124,3 +127,32 @@ views-answered v hold choice entries k h =
     subst (λ agents. AgentsAre (λ a w. IsViewAfterSnoop (past_of s) a n w) agents)
     (sym (answered-agents (step_snooped v hold) n (answered_by (step_snooped v hold) (step_drive v))))
     (views-snooped v hold choice entries k h)
+
+-- the longer run reaches the clock after its last
+pub reaches-now : (v : BenchView) (hold : Bool) (choice : Choice) (entries : List Done)
+    → IsStepWith v hold choice entries → Timely (run_with v hold choice entries)
+    → Reaches (run_with v hold choice entries) (next_clock_of v + 1)
+reaches-now v hold choice entries k timely =
+    let size = longer v.run (run_with v hold choice entries) k.grows in
+    record { timely = timely; bounds = k.bench.bounds; long = omega (arith, size) }
+
+-- what a request serves whose snoop end the clock is
+pub snoop-begun : (v : BenchView) (hold : Bool) (choice : Choice) (entries : List Done) (x : SnoopSettled)
+    → IsStepWith v hold choice entries → Reaches (run_with v hold choice entries) (next_clock_of v + 1)
+    → (step_decided v hold).snooped ≡ Some x
+    → IsBegunAt (run_with v hold choice entries) x.served.first (Symmetric x.served.agent) x.served.request
+snoop-begun v hold choice entries x k h e =
+    let s = run_with v hold choice entries in
+    elim (snoop-cases v hold choice entries k.grows k.bench.requests) [
+      | inl c ↦
+          let d = hears-snoop v hold choice entries k h c in
+          subst (λ (y : SnoopSettled). IsBegunAt s y.served.first (Symmetric y.served.agent) y.served.request)
+          (one d.snooped x (sym d.decided ∙ e)) d.heard.begun
+      | inr g ↦ absurd (none (step_decided v hold).snooped x g.none e)
+    ]
+  where
+    one : (a b : SnoopSettled) → Some a ≡ Some b → a ≡ b
+    one a b e = cc
+
+    none : (o : Option SnoopSettled) (x : SnoopSettled) → o ≡ None → o ≡ Some x → ⊥
+    none o x e f = cc

@@ -6,6 +6,7 @@
 //! completions are open.
 #![tactic(auto)]
 
+pub use agents::agents_hear_snoop_ends;
 pub use flight::queues_of_benches_go_on;
 pub use frame::clocks_add_to_runs;
 pub use hits::agents_have_their_hits;
@@ -14,6 +15,7 @@ pub use responses::responses_are_driven;
 pub use snoops::snoops_are_driven;
 pub use standing::beginnings_are_of_the_run;
 
+mod agents;
 mod flight;
 mod frame;
 mod hits;
