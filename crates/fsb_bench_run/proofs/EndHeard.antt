@@ -23,7 +23,7 @@ use Rattle.fsb_timely.specs.Runs.{Run, past_of}
 use Rattle.fsb_timely.specs.Tied.{IsSnoopOf}
 use Rattle.fsb_timely.proofs.Interface.{going-alike, owed-same, past-goes_on, snoop-tied}
 use Rattle.fsb_trace.specs.At.{Trace, request_at}
-use Rattle.fsb_trace.specs.Outcome.{is_deferral}
+use Rattle.fsb_trace.specs.Outcome.{is_deferral, settled_outcome_of}
 use Rattle.fsb_trace.specs.Requests.{is_reply, is_reply_kind, live_clock_of, live_number_of, live_request_of}
 use Rattle.fsb_trace.specs.declared.outcome.Outcome.{Outcome}
 use Rattle.fsb_trace.specs.declared.who.Who.{Who}
@@ -40,9 +40,10 @@ use Rattle.fsb_bench_run.proofs.SnoopHeard.{answered-of, claim-told, reply-serve
 use Rattle.fsb_bench_run.proofs.SnoopResult.{begun-reply-kind}
 use Rattle.fsb_bench_run.proofs.StartingNow.{and-some}
 
--- the end that comes at n to what is served
-pub record IsEndHeard (s : Run) (n : ℕ) (served : Served) : Type 0 where
+-- the end that comes at n to what is served, where the request that ends was settled so
+pub record IsEndHeard (s : Run) (n : ℕ) (served : Served) (settled : Option Outcome) : Type 0 where
   pub end : SnoopEnd
+  pub outcome : settled ≡ Some end.outcome
   pub first : ℕ
   pub ends : is_end_at (past_of s) n first ≡ true
   pub snooped : snoop_end_below (past_of s) (n + 1) first ≡ Some end
@@ -117,10 +118,11 @@ its-snoop r s e grows h d =
     }
 
 end-by : (r s : Run) (e : Entry) (served : Served) (who : Who) → GrowsTo r s → Reaches s (length r.trace + 1)
-    → KeepsBounds r.plan → (d : IsEnding r s e) → IsBegunAt r e.clock who e.request → IsServed r e served
-    → IsEndHeard s (length r.trace) served
+    → KeepsBounds r.plan → (d : IsEnding r s e)
+    → e.outcome ≡ settled_outcome_of r.trace (turns_in (past_of r).moments) d.number
+    → IsBegunAt r e.clock who e.request → IsServed r e served → IsEndHeard s (length r.trace) served e.outcome
 unfolding is_reply is_some_and
-end-by r s e served (Symmetric agent) grows h bounds d begun is =
+end-by r s e served (Symmetric agent) grows h bounds d told begun is =
     let n = length r.trace in
     let p = past_of s in
     let q : ℕ = e.clock in
@@ -142,6 +144,7 @@ end-by r s e served (Symmetric agent) grows h bounds d begun is =
     let mine : b.0.agent ≡ served.agent = b.2 ∙ one-agent agent served.agent (sym begun.winner ∙ won.winner) in
     record {
       end = k.end;
+      outcome = told ∙ k.tied.outcome;
       first = q;
       ends = k.ends;
       snooped = k.snooped;
@@ -149,7 +152,7 @@ end-by r s e served (Symmetric agent) grows h bounds d begun is =
       others = λ a off. claimed-other p a n k.end b.0 claims (λ same. off (sym same ∙ mine));
       put_off = λ deferred a. claimed-deferred p a n k.end b.0 claims deferred;
     }
-end-by r s e served Priority grows h bounds d begun is =
+end-by r s e served Priority grows h bounds d told begun is =
     let n = length r.trace in
     let p = past_of s in
     let w = r.trace in
@@ -195,6 +198,7 @@ end-by r s e served Priority grows h bounds d begun is =
     subst (λ b. number_asked p b n grant.line ≡ Some served.first) mine (new_asked ∙ same) in
     record {
       end = k.end;
+      outcome = told ∙ k.tied.outcome;
       first = q;
       ends = k.ends;
       snooped = k.snooped;
@@ -208,6 +212,7 @@ end-by r s e served Priority grows h bounds d begun is =
 
 -- the end that a request in flight has at the next clock, where this is what it serves
 pub end-heard : (r s : Run) (e : Entry) (served : Served) → GrowsTo r s → Reaches s (length r.trace + 1)
-    → KeepsBounds r.plan → IsEnding r s e → IsBegunAt r e.clock e.who e.request → IsServed r e served
-    → IsEndHeard s (length r.trace) served
-end-heard r s e served grows h bounds d begun is = end-by r s e served e.who grows h bounds d begun is
+    → KeepsBounds r.plan → (d : IsEnding r s e)
+    → e.outcome ≡ settled_outcome_of r.trace (turns_in (past_of r).moments) d.number
+    → IsBegunAt r e.clock e.who e.request → IsServed r e served → IsEndHeard s (length r.trace) served e.outcome
+end-heard r s e served grows h bounds d told begun is = end-by r s e served e.who grows h bounds d told begun is

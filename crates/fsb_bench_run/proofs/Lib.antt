@@ -51,3 +51,4 @@ pub mod FirstEntries
 pub mod SnoopViews
 pub mod EndPlaces
 pub mod EndHeard
+pub mod EndCases

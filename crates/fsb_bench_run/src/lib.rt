@@ -6,7 +6,7 @@
 //! completions are open.
 #![tactic(auto)]
 
-pub use agents::agents_hear_snoop_ends;
+pub use agents::{agents_hear_snoop_ends, requests_of_benches_end};
 pub use flight::queues_of_benches_go_on;
 pub use frame::clocks_add_to_runs;
 pub use hits::agents_have_their_hits;
