@@ -202,7 +202,7 @@ reply-latest r s (Some l) bounds grows shows k = by (l.clock + 1 == length r.tra
         let same : l.clock ≡ n - 1 = cc in
         apart (omega arith))))
 
-due-some : (w : Trace) (o : Option Deferral) (request : Option ℕ) → IsThatOf w o request → is_some o ≡ is_some request
+pub due-some : (w : Trace) (o : Option Deferral) (request : Option ℕ) → IsThatOf w o request → is_some o ≡ is_some request
 due-some w None request e = ap (λ o. is_some o) (sym e)
 due-some w (Some deferral) request e = ap (λ o. is_some o) (sym e.1)
 

@@ -5,7 +5,7 @@ use Rattle.std.specs.Option.{option_and_then, option_map, option_map_or}
 use Rattle.std.proofs.lemmas.Bool.{both_ways}
 use Rattle.fsb_access.specs.declared.log.Done.{Done}
 use Rattle.fsb_agent_run.specs.Ending.{EndsFor, NothingEndsFor}
-use Rattle.fsb_count.specs.Options.{is_at}
+use Rattle.fsb_count.specs.Options.{is_at, is_some_and}
 use Rattle.fsb_hazard.specs.declared.choice.Choice.{Choice}
 use Rattle.fsb_lawful.proofs.Interface.{get-there}
 use Rattle.fsb_phase.specs.Drive.{has_end_at, phased_at}
@@ -155,7 +155,7 @@ ends-here v hold choice entries e o has head settled some heard =
 nothing-ends : (r s : Run) (queue : List Entry) (a : ℕ) → GrowsTo r s → Reaches s (length r.trace + 1)
     → HoldsRequests queue r → find (has_end_at s.trace (length r.trace)) queue ≡ None
     → NothingEndsFor (past_of s) a (length r.trace)
-unfolding phased_at is_at
+unfolding phased_at is_at is_some_and
 nothing-ends r s queue a grows h f off =
     let n = length r.trace in
     let long = h.long in

@@ -52,3 +52,10 @@ pub mod SnoopViews
 pub mod EndPlaces
 pub mod EndHeard
 pub mod EndCases
+pub mod SpacedNow
+pub mod WinnersAsk
+pub mod DueNow
+pub mod OpenNow
+pub mod StartsNow
+pub mod TimelyNext
+pub mod ArrivalsNow

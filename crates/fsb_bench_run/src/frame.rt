@@ -1,10 +1,12 @@
 //! Laws over the run with one more clock: no code.
 
-ghost use Rattle.std.specs.Prelude.{◌+◌, Bool};
+ghost use Rattle.std.specs.Prelude.{◌+◌, Bool, IsTrue};
 ghost use Rattle.fsb_hazard.specs.declared.choice.Choice.{Choice};
 ghost use Rattle.fsb_timely.specs.Growth.{GrowsTo, IsNext, IsWhole};
+ghost use Rattle.fsb_timely.specs.Completions.{logs_completions};
+ghost use Rattle.fsb_timely.specs.Timely.{Timely, holds_at};
 ghost use Rattle.fsb_bench_view.specs.BenchSteps.{step_run};
-ghost use Rattle.fsb_bench_view.specs.BusViews.{BenchView};
+ghost use Rattle.fsb_bench_view.specs.BusViews.{BenchView, next_clock_of};
 ghost use Rattle.fsb_bench_run.specs.BenchOf.{IsBenchOf};
 
 /// The run with one more clock of the bench is the run with one more sample and hold, with a choice
@@ -16,4 +18,11 @@ pub fn clocks_add_to_runs()
         IsWhole (step_run v hold choice) }
     ensures grows { (v : BenchView) (hold : Bool) (choice : Choice) → IsBenchOf v →
         GrowsTo v.run (step_run v hold choice) }
+{}
+
+/// Where the log of the clock has what is completed there, the run with one more clock is timely.
+pub fn clocks_keep_runs_timely()
+    ensures { (v : BenchView) (hold : Bool) (choice : Choice) → IsBenchOf v →
+        IsTrue (holds_at logs_completions (step_run v hold choice) (next_clock_of v)) →
+        Timely (step_run v hold choice) }
 {}

@@ -2,15 +2,17 @@
 //!
 //! `specs/BenchOf.antt` says which bench stands for its timely run. The laws say of the run with one
 //! more clock of the bench that it is as a timely run must be at that clock, part by part, and of the
-//! bench after the clock that it stands for it, field by field: as far as they go today. ADS# and the
-//! completions are open.
+//! bench after the clock that it stands for it, field by field: as far as they go today. That the log
+//! of the clock has what is completed there is a premise where the longer run is to be timely.
 #![tactic(auto)]
 
 pub use agents::{agents_hear_snoop_ends, requests_of_benches_end};
 pub use flight::queues_of_benches_go_on;
-pub use frame::clocks_add_to_runs;
+pub use frame::{clocks_add_to_runs, clocks_keep_runs_timely};
 pub use hits::agents_have_their_hits;
-pub use lines::{locks_and_parity_are_driven, request_lines_are_driven, words_are_due};
+pub use lines::{
+    locks_and_parity_are_driven, request_lines_are_driven, requests_start_in_runs, words_are_due,
+};
 pub use responses::responses_are_driven;
 pub use snoops::snoops_are_driven;
 pub use standing::beginnings_are_of_the_run;

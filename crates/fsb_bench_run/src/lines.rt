@@ -5,7 +5,7 @@ ghost use Rattle.fsb_hazard.specs.declared.choice.Choice.{Choice};
 ghost use Rattle.fsb_timely.specs.BusLock.{drives_lock};
 ghost use Rattle.fsb_timely.specs.ParityLines.{drives_parity};
 ghost use Rattle.fsb_timely.specs.Runs.{past_of};
-ghost use Rattle.fsb_timely.specs.Starts.{drives_pair, drives_request_lines};
+ghost use Rattle.fsb_timely.specs.Starts.{drives_pair, drives_request_lines, starts_requests};
 ghost use Rattle.fsb_timely.specs.Timely.{holds_at};
 ghost use Rattle.fsb_bench_view.specs.BenchSteps.{step_run};
 ghost use Rattle.fsb_bench_view.specs.BusViews.{BenchView, next_clock_of};
@@ -15,6 +15,13 @@ ghost use Rattle.fsb_bench_run.specs.BenchOf.{IsBenchOf};
 pub fn words_are_due()
     ensures { (v : BenchView) (hold : Bool) (choice : Choice) → IsBenchOf v → IsTrue
         (drives_pair (step_run v hold choice) (past_of (step_run v hold choice)) (next_clock_of v)) }
+{}
+
+/// ADS# is at a bench's clock exactly where a request may begin in its run, and the words are those
+/// that are due.
+pub fn requests_start_in_runs()
+    ensures { (v : BenchView) (hold : Bool) (choice : Choice) → IsBenchOf v →
+        IsTrue (holds_at starts_requests (step_run v hold choice) (next_clock_of v)) }
 {}
 
 /// BREQ# of each agent and BPRI# are at a bench's clock as they must be in its run.

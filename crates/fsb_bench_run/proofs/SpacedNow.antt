@@ -1,0 +1,152 @@
+-- Whether a request may begin at a bench's clock: the distance, the room in the queue, and BNR# two clocks before.
+use Rattle.std.proofs.Common.{ℕ, ◌+◌, ◌-◌, ◌<◌, ◌≤◌, ◌≡◌, ◌&&◌, ◌||◌, Bool, true, false, not, List, Option, Some, None, length, map, nat_le, nat_lt, slice_get, take, refl, sym, ap, ◌∙◌, inl, inr, arith}
+use Rattle.std.specs.Option.{option_map, option_map_or}
+use Rattle.std.proofs.lemmas.Bool.{and_parts, cases_Bool, cases_lt, le-leb, leb-false, leb-true, lt-leb, or_parts}
+use Rattle.std.proofs.lemmas.List.{length-map}
+use Rattle.fsb_access.specs.declared.log.Done.{Done}
+use Rattle.fsb_count.specs.Clocks.{last_where}
+use Rattle.fsb_hazard.specs.declared.choice.Choice.{Choice}
+use Rattle.fsb_lawful.proofs.Interface as lawful
+use Rattle.fsb_laws.proofs.Interface.{in_flight-now, one_more}
+use Rattle.fsb_phase_run.proofs.Interface.{agree-back}
+use Rattle.fsb_queue.specs.declared.entry.Entry.{Entry}
+use Rattle.fsb_signal.specs.declared.lines.Lines.{Lines}
+use Rattle.fsb_signal.specs.declared.lines.TheConstants.Lines.{ADS, BNR}
+use Rattle.fsb_signal.specs.Samples.{line_at}
+use Rattle.fsb_timely.specs.Growth.{GrowsTo}
+use Rattle.fsb_timely.specs.Runs.{Run, past_of, past_to, run_to}
+use Rattle.fsb_timely.specs.Snoops.{drives_aerr, drives_bnr, drives_defer, drives_hazards, drives_stalls, is_bnr_chosen, keeps_snoop_lines}
+use Rattle.fsb_timely.specs.Starts.{has_room, is_spaced}
+use Rattle.fsb_timely.specs.Timely.{Timely, holds_at, holds_in}
+use Rattle.fsb_timely.proofs.Interface.{last_where-found, run_to-agrees}
+use Rattle.fsb_trace.specs.At.{Trace, line_back}
+use Rattle.fsb_trace.specs.Flight.{in_flight}
+use Rattle.fsb_trace.proofs.Interface.{line_at-agree}
+use Rattle.fsb_bench_view.specs.declared.beginning.Latest.{Latest}
+use Rattle.fsb_bench_view.specs.BenchSteps.{step_performed, step_sample, was_held_at}
+use Rattle.fsb_bench_view.specs.BusStarting.{is_spaced_by}
+use Rattle.fsb_bench_view.specs.BusViews.{BenchView, next_clock_of}
+use Rattle.fsb_bench_run.proofs.QueueNext.{orderly-run}
+use Rattle.fsb_bench_run.proofs.RunWith.{run_with}
+use Rattle.fsb_bench_run.proofs.SameBus.{same-performed}
+use Rattle.fsb_bench_run.proofs.SampleSpaced.{not-soon}
+use Rattle.fsb_bench_run.proofs.StepWith.{IsStepWith}
+
+and-when : (b x y : Bool) → (b ≡ true → x ≡ y) → (b && x) ≡ (b && y)
+and-when true x y f = f refl
+and-when false x y f = refl
+
+-- a line some clocks before the next one is that of the run
+pub back-old : (line : Lines) (r s : Run) (d : ℕ) → GrowsTo r s → 0 < d
+    → line_back line s.trace (length r.trace) d ≡ line_back line r.trace (length r.trace) d
+unfolding line_back
+back-old line r s d grows some =
+    let n = length r.trace in
+    and-when (nat_le d n) (line_at line s.trace (n - d)) (line_at line r.trace (n - d)) (λ e.
+    let low : d ≤ n = leb-true d n e in
+    line_at-agree line n s.trace r.trace (n - d) (agree-back r s grows) (omega arith))
+
+-- where the request that began last is near, one began one or two clocks before
+near-back : (w : Trace) (n q : ℕ) → q < n → n < q + 3 → line_at ADS w q ≡ true
+    → (not (line_back ADS w n 1) && not (line_back ADS w n 2)) ≡ false
+unfolding line_back
+near-back w n q below near ads = elim (cases_lt (q + 1) n) [
+  | inl far ↦
+      let two : n - 2 ≡ q = omega arith in
+      ap (λ b. not (line_back ADS w n 1) && not (b && line_at ADS w (n - 2))) (le-leb 2 n (omega arith))
+      ∙ ap (λ k. not (line_back ADS w n 1) && not (line_at ADS w k)) two
+      ∙ ap (λ b. not (line_back ADS w n 1) && not b) ads
+      ∙ never (not (line_back ADS w n 1))
+  | inr next ↦
+      let one : n - 1 ≡ q = omega arith in
+      ap (λ b. not (b && line_at ADS w (n - 1)) && not (line_back ADS w n 2)) (le-leb 1 n (omega arith))
+      ∙ ap (λ k. not (line_at ADS w k) && not (line_back ADS w n 2)) one
+      ∙ ap (λ b. not b && not (line_back ADS w n 2)) ads
+]
+  where
+    never : (b : Bool) → (b && false) ≡ false
+    never true = refl
+    never false = refl
+
+spaced-by : (w : Trace) (o : Option Latest)
+    → option_map (λ (last : Latest). last.clock) o ≡ last_where (line_at ADS w) (length w)
+    → (not (line_back ADS w (length w) 1) && not (line_back ADS w (length w) 2)) ≡ is_spaced_by o (length w)
+spaced-by w o e = by (is_spaced_by o (length w)) refl
+  where
+    far : is_spaced_by o (length w) ≡ true
+        → (not (line_back ADS w (length w) 1) && not (line_back ADS w (length w) 2)) ≡ true
+    far t =
+        let parts = or_parts (line_back ADS w (length w) 1) (line_back ADS w (length w) 2) (not-soon w o e t) in
+        rw (parts.0, parts.1) refl
+
+    near : (o : Option Latest) → option_map (λ (last : Latest). last.clock) o ≡ last_where (line_at ADS w) (length w)
+        → is_spaced_by o (length w) ≡ false
+        → (not (line_back ADS w (length w) 1) && not (line_back ADS w (length w) 2)) ≡ false
+    near None e t = absurd (let no : ⊥ = cc in no)
+    near (Some last) e t =
+        let found = last_where-found (line_at ADS w) (length w) last.clock (sym e) in
+        let below : last.clock < length w = found.0 in
+        let close : length w < last.clock + 3 = leb-false (last.clock + 3) (length w) t in
+        near-back w (length w) last.clock below close found.1
+
+    by : (b : Bool) → is_spaced_by o (length w) ≡ b
+        → (not (line_back ADS w (length w) 1) && not (line_back ADS w (length w) 2)) ≡ is_spaced_by o (length w)
+    by true t = far t ∙ sym t
+    by false t = near o e t ∙ sym t
+
+-- the distance, by the request that began last
+pub spaced-told : (v : BenchView) (hold : Bool) (choice : Choice) (entries : List Done) → IsStepWith v hold choice entries
+    → is_spaced (run_with v hold choice entries) (next_clock_of v)
+    ≡ is_spaced_by (step_performed v).latest (next_clock_of v)
+unfolding is_spaced
+spaced-told v hold choice entries b =
+    let r = v.run in
+    let s = run_with v hold choice entries in
+    let n = next_clock_of v in
+    let one = back-old ADS r s 1 b.grows (omega arith) in
+    let two = back-old ADS r s 2 b.grows (omega arith) in
+    (λ i. not (one i) && not (two i))
+    ∙ spaced-by r.trace v.bus.latest b.bench.latest.clock
+    ∙ ap (λ o. is_spaced_by o n) (sym (same-performed v).latest)
+
+-- the room in the queue: what is in flight at the clock shows below it
+pub room-told : (v : BenchView) (hold : Bool) (choice : Choice) (entries : List Done) → IsStepWith v hold choice entries
+    → has_room (run_with v hold choice entries) (next_clock_of v) ≡ nat_lt (length (step_performed v).queue) 8
+unfolding has_room
+room-told v hold choice entries b =
+    let r = v.run in
+    let s = run_with v hold choice entries in
+    let n = next_clock_of v in
+    let more = one_more r.trace (step_sample v hold) in
+    let now = in_flight-now r.trace (step_sample v hold) s.trace more (orderly-run r b.bench.timely) in
+    let size : length (in_flight s.trace n) ≡ length v.bus.queue =
+    ap length now ∙ sym (ap length b.bench.requests.flight.clocks) ∙ length-map v.bus.queue (λ (x : Entry). x.clock) in
+    ap (λ k. nat_lt k 8) (size ∙ sym (ap length (same-performed v).queue))
+
+chosen-held : (r : Run) (c : ℕ) → Timely r → c < length r.trace
+    → line_at BNR r.trace c ≡ option_map_or (λ (hold : Bool). hold) (slice_get r.holds c) false
+unfolding holds_at holds_in drives_hazards drives_bnr is_bnr_chosen run_to
+chosen-held r c h l =
+    let u = run_to r c in
+    let p = past_to (past_of r) c in
+    let e = h.hazard_lines.at c l in
+    let four = and_parts (drives_bnr u c && drives_aerr u c && drives_stalls u c && drives_defer u p c)
+    (keeps_snoop_lines u c) e in
+    let three = and_parts (drives_bnr u c && drives_aerr u c && drives_stalls u c) (drives_defer u p c) four.0 in
+    let two = and_parts (drives_bnr u c && drives_aerr u c) (drives_stalls u c) three.0 in
+    let one = and_parts (drives_bnr u c) (drives_aerr u c) two.0 in
+    line_at-agree BNR (c + 1) r.trace u.trace c (run_to-agrees r c l) (omega arith)
+    ∙ lawful.same-beq (line_at BNR u.trace c) (is_bnr_chosen u c) one.0
+    ∙ ap (λ o. option_map_or (λ (hold : Bool). hold) o false) (lawful.slice_get-take (c + 1) r.holds c (omega arith))
+
+-- BNR# two clocks before, by the holds
+pub held-told : (v : BenchView) (hold : Bool) (choice : Choice) (entries : List Done) → IsStepWith v hold choice entries
+    → line_back BNR (run_with v hold choice entries).trace (next_clock_of v) 2 ≡ was_held_at v.run.holds (next_clock_of v)
+unfolding line_back
+held-told v hold choice entries b =
+    let r = v.run in
+    let n = next_clock_of v in
+    back-old BNR r (run_with v hold choice entries) 2 b.grows (omega arith)
+    ∙ and-when (nat_le 2 n) (line_at BNR r.trace (n - 2))
+    (option_map_or (λ (hold : Bool). hold) (slice_get r.holds (n - 2)) false) (λ e.
+    let low : 2 ≤ n = leb-true 2 n e in chosen-held r (n - 2) b.bench.timely (omega arith))
