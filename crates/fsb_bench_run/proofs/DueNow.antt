@@ -164,9 +164,9 @@ due-stays r s d i grows l quiet due =
     let clock = snoop_end_of-clock w i e there in (
       live_below_count w i clock.clock clock.is_clock,
       due-from w (turns_in (past_of s).moments) n i (ap (λ o. is_some_and o is_deferral) settled ∙ a.0)
-      (still-late (response_clock_of w i) t.0 (later_of (slice_index old i))
-      (later_of (slice_index (turns_in (past_of s).moments) i)) n response later (omega arith))
-      (unanswered d n u w i e t.0 agree size l told.is_snoop t.1 (omega arith) (omega arith) quiet a.2),
+          (still-late (response_clock_of w i) t.0 (later_of (slice_index old i))
+          (later_of (slice_index (turns_in (past_of s).moments) i)) n response later (omega arith))
+          (unanswered d n u w i e t.0 agree size l told.is_snoop t.1 (omega arith) (omega arith) quiet a.2),
     )
 
 some-due : (w : Trace) (turns : List ℕ) (c : ℕ) (o : Option ℕ) → due_at w turns c ≡ o → is_some o ≡ true

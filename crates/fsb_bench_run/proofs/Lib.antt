@@ -59,3 +59,5 @@ pub mod OpenNow
 pub mod StartsNow
 pub mod TimelyNext
 pub mod ArrivalsNow
+pub mod StartsMay
+pub mod ArrivalMade

@@ -167,9 +167,9 @@ unfolding want_of
 wants-missing p a c = by (is_idling p a c || nat_le p.plan.ahead (length (owed p a c)))
   where
     by : (b : Bool) → is_some (elim b [
-          | true ↦ None
-          | false ↦ option_map (want_for p a c (owed p a c)) (find (is_missing p a c (owed p a c)) (needs_from [] (window p a c)))
-        ])
+      | true ↦ None
+      | false ↦ option_map (want_for p a c (owed p a c)) (find (is_missing p a c (owed p a c)) (needs_from [] (window p a c)))
+    ])
         ≡ (elim b [ true ↦ false | false ↦ is_some (find (is_missing p a c (owed p a c)) (needs_from [] (window p a c))) ])
     by true = refl
     by false = some-mapped (want_for p a c (owed p a c)) (find (is_missing p a c (owed p a c)) (needs_from [] (window p a c)))

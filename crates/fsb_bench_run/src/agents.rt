@@ -10,10 +10,12 @@ ghost use Rattle.fsb_timely.specs.Runs.{past_of};
 ghost use Rattle.fsb_timely.specs.Timely.{Timely};
 ghost use Rattle.fsb_trace.specs.Outcome.{is_deferral};
 ghost use Rattle.fsb_trace.specs.declared.who.Who.TheVariants.{Symmetric};
+ghost use Rattle.fsb_bench_view.specs.declared.beginning.Starting.{Starting};
 ghost use Rattle.fsb_bench_view.specs.declared.decided.Ending.{Ending};
 ghost use Rattle.fsb_bench_view.specs.declared.snoop.SnoopSettled.{SnoopSettled};
-ghost use Rattle.fsb_bench_view.specs.BenchSteps.{step_answered, step_cancelled, step_decided, step_ending, step_run};
+ghost use Rattle.fsb_bench_view.specs.BenchSteps.{step_answered, step_cancelled, step_decided, step_ending, step_performed, step_run};
 ghost use Rattle.fsb_bench_view.specs.BusViews.{BenchView, next_clock_of};
+ghost use Rattle.fsb_bench_view.specs.MaySteps.{MayStart};
 ghost use Rattle.fsb_bench_run.specs.BenchOf.{IsBegunAt, IsBenchOf};
 
 /// Where the run with one more clock is timely, each agent of the bench is as the run says before
@@ -48,4 +50,13 @@ pub fn requests_of_benches_end()
     ensures nothing { (v : BenchView) (hold : Bool) (choice : Choice) (a : ℕ) → IsBenchOf v →
         Timely (step_run v hold choice) → step_ending v hold ≡ None →
         NothingEndsFor (past_of (step_run v hold choice)) a (next_clock_of v) }
+{}
+
+/// Where the run with one more clock is timely, what a bench begins at the clock may begin: it is a
+/// lawful request, and its agent may send it.
+pub fn requests_of_benches_may_begin()
+    ensures { (v : BenchView) (hold : Bool) (choice : Choice) (starting : Starting) →
+        IsBenchOf v → Timely (step_run v hold choice) →
+        (step_decided v hold).starting ≡ Some starting →
+        MayStart (step_performed v) (next_clock_of v) starting }
 {}
