@@ -61,3 +61,5 @@ pub mod TimelyNext
 pub mod ArrivalsNow
 pub mod StartsMay
 pub mod ArrivalMade
+pub mod RespondsFirst
+pub mod KeptNext

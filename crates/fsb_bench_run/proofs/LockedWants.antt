@@ -1,17 +1,16 @@
 -- A want is a locked one exactly where the agent's next item is, and the want is no write-back.
-use Rattle.std.proofs.Common.{ℕ, zero, suc, ◌+◌, ◌-◌, ◌<◌, ◌≤◌, ◌≡◌, ◌&&◌, ◌==◌, Bool, true, false, not, Option, Some, None, List, [], ◌∷◌, ◌++◌, map, drop, length, slice_get, if◌then◌else◌, append-nil, refl, sym, ap, subst, ◌∙◌, arith, inl, inr}
+use Rattle.std.proofs.Common.{ℕ, zero, suc, ◌+◌, ◌-◌, ◌≡◌, ◌&&◌, Bool, true, false, not, Option, Some, None, List, [], ◌∷◌, ◌++◌, map, drop, slice_get, if◌then◌else◌, refl, sym, ap, ◌∙◌, arith, inl, inr}
 use Rattle.std.specs.List.{find, list_all}
 use Rattle.std.specs.Option.{option_and_then, option_map, option_map_or}
 use Rattle.std.proofs.lemmas.Bool.{and_from, and_parts, cases_Bool}
-use Rattle.std.proofs.lemmas.Option.{slice_get_past, slice_get_within}
+use Rattle.std.proofs.lemmas.Option.{slice_get_within}
 use Rattle.fsb_access.specs.declared.access.Access.{Access}
 use Rattle.fsb_access.specs.declared.item.Item.{Item}
 use Rattle.fsb_access.specs.declared.item.Item.TheVariants.{One, Locked, Idle}
 use Rattle.fsb_agent_view.specs.AgentViews.{AgentView, number_by}
-use Rattle.fsb_agent_view.specs.Wanting.{free_id_by, is_missing_by, is_silent_by, kind_by, missing_by, victim_by, want_by, want_for_by, window_beginning, window_by}
+use Rattle.fsb_agent_view.specs.Wanting.{free_id_by, is_missing_by, is_silent_by, kind_by, missing_by, victim_by, want_by, want_for_by}
 use Rattle.fsb_agent_view.specs.declared.want.Want.{Want}
 use Rattle.fsb_count.specs.Options.{is_some_and}
-use Rattle.fsb_encode.specs.declared.request.Kind.{Kind}
 use Rattle.fsb_encode.specs.declared.request.Kind.TheVariants.{Invalidate, Read, Upgrade}
 use Rattle.fsb_encode.specs.declared.request.Request.{Request}
 use Rattle.fsb_timely.specs.BusLock.{wants_lock}
@@ -19,7 +18,7 @@ use Rattle.fsb_timely.specs.Past.{Past}
 use Rattle.fsb_timely.specs.Scripts.{Need, is_locked, items_of, locked_need, needs_after, needs_from, needs_of, next_item, next_number, plain_items, plain_need, window_from}
 use Rattle.fsb_timely.specs.Wants.{request_of_kind, want_of, write_back_of}
 use Rattle.fsb_trace.specs.Requests.{is_write_back, is_write_back_kind}
-use Rattle.fsb_agent_run.specs.RunViews.{IsAgentOf, place_of}
+use Rattle.fsb_agent_run.specs.RunViews.{place_of}
 use Rattle.fsb_agent_run.specs.Stages.{IsViewAfterHit}
 use Rattle.fsb_agent_run.proofs.Interface.{want-by}
 

@@ -32,7 +32,7 @@ use Rattle.fsb_phase_run.proofs.Interface.{longer, number-held, snooped-now}
 use Rattle.fsb_bench_view.specs.BusSnooping.{first_open}
 
 -- the clock of each entry
-clock-there : (r : Run) (queue : List Entry) (k : ℕ) (e : Entry) → HoldsRequests queue r → slice_get queue k ≡ Some e
+pub clock-there : (r : Run) (queue : List Entry) (k : ℕ) (e : Entry) → HoldsRequests queue r → slice_get queue k ≡ Some e
     → Rattle.fsb_count.specs.Clocks.nth_where (is_in_flight r.trace (length r.trace)) k (length r.trace) ≡ Some e.clock
 unfolding in_flight Rattle.fsb_count.specs.Clocks.nth_where
 clock-there r queue k e f at =

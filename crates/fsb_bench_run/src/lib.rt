@@ -15,7 +15,7 @@ pub use lines::{
 };
 pub use responses::responses_are_driven;
 pub use snoops::snoops_are_driven;
-pub use standing::beginnings_are_of_the_run;
+pub use standing::{beginnings_are_of_the_run, locks_of_benches_go_on};
 
 mod agents;
 mod flight;

@@ -1,11 +1,14 @@
 //! Laws over the bench after a clock: it stands for the longer run. No code.
 
-ghost use Rattle.std.specs.Prelude.{Bool, Some, ◌≡◌};
+ghost use Rattle.std.specs.Prelude.{Bool, Some, length, ◌≡◌};
 ghost use Rattle.fsb_hazard.specs.declared.choice.Choice.{Choice};
+ghost use Rattle.fsb_timely.specs.Runs.{past_of};
+ghost use Rattle.fsb_timely.specs.Timely.{Timely};
 ghost use Rattle.fsb_bench_view.specs.declared.beginning.Starting.{Starting};
 ghost use Rattle.fsb_bench_view.specs.BenchSteps.{bench_stepped, step_decided, step_run};
 ghost use Rattle.fsb_bench_view.specs.BusViews.{BenchView, next_clock_of};
 ghost use Rattle.fsb_bench_run.specs.BenchOf.{HasStarted, IsBegunAt, IsBenchOf, IsLatestOf};
+ghost use Rattle.fsb_bench_run.specs.LocksHeld.{kept_into};
 
 /// What a bench begins at a clock is what the winner of its run would begin there; so after the clock
 /// the bench has the request that began last, and all that have begun, of the longer run.
@@ -18,4 +21,13 @@ pub fn beginnings_are_of_the_run()
         IsLatestOf (bench_stepped v hold choice).bus.latest (step_run v hold choice) }
     ensures started { (v : BenchView) (hold : Bool) (choice : Choice) → IsBenchOf v →
         HasStarted (bench_stepped v hold choice).bus.started (step_run v hold choice) }
+{}
+
+/// Where the longer run is timely, the agents that keep the bus locked after the clock are those of
+/// that run.
+pub fn locks_of_benches_go_on()
+    ensures { (v : BenchView) (hold : Bool) (choice : Choice) → IsBenchOf v →
+        Timely (step_run v hold choice) →
+        (bench_stepped v hold choice).bus.kept ≡ kept_into (past_of (step_run v hold choice))
+        (length (step_run v hold choice).trace) }
 {}

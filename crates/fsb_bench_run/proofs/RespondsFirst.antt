@@ -1,0 +1,147 @@
+-- The request that responds at a clock of a timely run is the oldest one in flight.
+use Rattle.std.proofs.Common.{ℕ, zero, suc, ◌<◌, ◌≡◌, Bool, true, false, not, if◌then◌else◌, nat_eq, List, Option, Some, None, length, slice_get, refl, sym, ap, ◌∙◌, inl, inr, arith}
+use Rattle.std.specs.List.{find}
+use Rattle.std.specs.Option.{option_and_then, option_map, option_map_or}
+use Rattle.std.proofs.lemmas.Bool.{and_parts, both_ways, lt-ltb}
+use Rattle.std.proofs.lemmas.Option.{slice_get_within}
+use Rattle.fsb_count.specs.Options.{is_before, is_some_and}
+use Rattle.fsb_count.proofs.Interface.{nth_where-found, nth_where-rises}
+use Rattle.fsb_coherent.specs.Awaits.{responded_in}
+use Rattle.fsb_lawful.proofs.Interface.{get-there, not-true}
+use Rattle.fsb_laws.proofs.Interface.{is_in_flight-end}
+use Rattle.fsb_phase.specs.Due.{has_response, rank_of}
+use Rattle.fsb_phase.specs.Drive.{drive_of, settled_code}
+use Rattle.fsb_phase.proofs.Interface.{find-cases, find-off, find-place}
+use Rattle.fsb_phase_run.specs.Holds.{HoldsRequests}
+use Rattle.fsb_phase_run.specs.Responding.{retried_of}
+use Rattle.fsb_phase_run.proofs.Interface.{agree-back, agree-grown, longer}
+use Rattle.fsb_queue.specs.declared.entry.Entry.{Entry}
+use Rattle.fsb_tied.proofs.Interface.{answered, ended-before, responded-number}
+use Rattle.fsb_timely.specs.Growth.{GrowsTo}
+use Rattle.fsb_timely.specs.Runs.{Run, past_of}
+use Rattle.fsb_timely.specs.Timely.{Timely}
+use Rattle.fsb_trace.specs.At.{Trace}
+use Rattle.fsb_trace.specs.Flight.{is_in_flight}
+use Rattle.fsb_trace.specs.Outcome.{response_code_of}
+use Rattle.fsb_trace.specs.Requests.{is_live, live_number_of}
+use Rattle.fsb_trace.specs.Response.{end_of}
+use Rattle.fsb_trace.specs.declared.outcome.Outcome.{Outcome}
+use Rattle.fsb_trace.specs.declared.outcome.Outcome.TheVariants as outcomes
+use Rattle.fsb_trace.proofs.Interface.{end_of-response, end_of-stays, live_clock_of-stays, snoop_end_of-clock}
+use Rattle.fsb_bench_view.specs.BusLocking.{is_retry}
+use Rattle.fsb_bench_run.proofs.OpenNow.{one-number}
+use Rattle.fsb_bench_run.proofs.QueueNext.{orderly-run}
+use Rattle.fsb_bench_run.proofs.SnoopEntry.{clock-there, held-here, rank-rises}
+
+-- a request in flight has not ended
+flying : (r : Run) (queue : List Entry) (k : ℕ) (e : Entry) (end : ℕ) → HoldsRequests queue r
+    → slice_get queue k ≡ Some e
+    → end_of r.trace (rank_of r.trace e) ≡ Some end → end < length r.trace → {A : Type 0} → A
+unfolding is_before is_some_and
+flying r queue k e end f at ended low =
+    let n = length r.trace in
+    let there = nth_where-found (is_in_flight r.trace n) k n e.clock (clock-there r queue k e f at) in
+    let parts = and_parts (is_live r.trace e.clock)
+    (not (is_before (end_of r.trace (live_number_of r.trace e.clock)) n))
+    (sym (is_in_flight-end r.trace e.clock there.0) ∙ there.1) in
+    let before = before-by (end_of r.trace (rank_of r.trace e)) end n ended low in
+    absurd (both_ways (is_before (end_of r.trace (rank_of r.trace e)) n)
+    (not-true (is_before (end_of r.trace (rank_of r.trace e)) n) parts.1) before)
+  where
+    before-by : (o : Option ℕ) (end n : ℕ) → o ≡ Some end → end < n → is_before o n ≡ true
+    before-by o end n e l = ap (λ o. is_before o n) e ∙ lt-ltb end n l
+
+-- the entry that responds is the first one
+pub responds-first : (r s : Run) (queue : List Entry) (k : ℕ) (e : Entry) → GrowsTo r s → Timely s
+    → HoldsRequests queue r
+    → slice_get queue k ≡ Some e → responded_in (past_of s) (length r.trace) ≡ Some e.clock → k ≡ 0
+responds-first r s queue zero e grows timely f at responds = refl
+responds-first r s queue (suc k) e grows timely f at responds =
+    let n = length r.trace in
+    let size = longer r s grows in
+    let orderly = orderly-run s timely in
+    let m = responded-number s n e.clock timely (omega arith) responds in
+    let i : ℕ = m.0 in
+    let a = answered s.trace i n orderly m.1.response in
+    let before = a.before in
+    let c = snoop_end_of-clock s.trace i a.snoop a.is_snoop in
+    let above = c.above in
+    let one : Some c.clock ≡ Some e.clock = sym c.is_clock ∙ m.1.first in
+    let same : c.clock ≡ e.clock = cc in
+    let within = slice_get_within queue (suc k) e at in
+    let first = get-there queue 0 (omega arith) in
+    let y : Entry = first.0 in
+    let rises : y.clock < e.clock = nth_where-rises (is_in_flight r.trace n) 0 (suc k) n y.clock e.clock (omega arith)
+    (clock-there r queue 0 y f first.1) (clock-there r queue (suc k) e f at) in
+    let agree = agree-grown r s grows in
+    let here = held-here r queue 0 y f first.1 in
+    let mine = held-here r queue (suc k) e f at in
+    let old = live_clock_of-stays n r.trace s.trace (rank_of r.trace y) y.clock agree (omega (arith, same, rises))
+    here.first in
+    let now = live_clock_of-stays n r.trace s.trace (rank_of r.trace e) e.clock agree (omega (arith, same))
+    mine.first in
+    let number : i ≡ rank_of r.trace e = one-number s.trace i (rank_of r.trace e) e.clock m.1.first now in
+    let less : rank_of r.trace y < rank_of r.trace e =
+    rank-rises r queue 0 (suc k) y e f (omega arith) first.1 at in
+    let ended = ended-before s.trace (rank_of r.trace y) i n orderly (omega (arith, number, less)) m.1.response in
+    let response = end_of-response s.trace (rank_of r.trace y) ended.0 ended.1 in
+    let early = response.2 in
+    let b = answered s.trace (rank_of r.trace y) response.0 orderly response.1 in
+    let soon = b.before in
+    let low : ended.0 < n = ended.2 in
+    let back = end_of-stays n s.trace r.trace (rank_of r.trace y) b.snoop ended.0 (agree-back r s grows) (omega arith)
+    b.is_snoop low ended.1 in
+    flying r queue 0 y ended.0 f first.1 back low
+
+-- of an outcome that is known the code tells whether it is Retried
+code-retried : (e : Entry) (code : ℕ) (o : Option Outcome) → e.outcome ≡ o → code ≡ option_map_or response_code_of o 0
+    → option_map (λ (x : Entry). x.clock)
+    (if nat_eq code 0 then None else (if is_some_and e.outcome is_retry then Some e else None))
+    ≡ (elim (nat_eq code (response_code_of outcomes.Retried)) [ true ↦ Some e.clock | false ↦ None ])
+unfolding response_code_of is_some_and
+code-retried e code None f g = rw g refl
+code-retried e code (Some outcomes.Granted) f g = rw g (rw f refl)
+code-retried e code (Some outcomes.Handed) f g = rw g (rw f refl)
+code-retried e code (Some outcomes.Retried) f g = rw g (rw f refl)
+code-retried e code (Some outcomes.Deferred) f g = rw g (rw f refl)
+code-retried e code (Some outcomes.Written) f g = rw g (rw f refl)
+code-retried e code (Some outcomes.Replied) f g = rw g (rw f refl)
+code-retried e code (Some outcomes.Failed) f g = rw g (rw f refl)
+code-retried e code (Some outcomes.Upgraded) f g = rw g (rw f refl)
+
+-- the request that is retried is the one of the first entry
+pub retried-first : (h : Trace) (queue : List Entry)
+    → ((k : ℕ) (e : Entry) → slice_get queue k ≡ Some e → find (has_response h) queue ≡ Some e → k ≡ 0)
+    → option_map (λ (x : Entry). x.clock) (if nat_eq (drive_of h queue).rs 0 then None
+    else option_and_then (λ (entry : Entry). if is_some_and entry.outcome is_retry then Some entry else None)
+    (slice_get queue 0))
+    ≡ retried_of h queue
+unfolding retried_of drive_of settled_code
+retried-first h queue first = elim (find-cases (has_response h) queue) [
+  | inr g ↦
+      let none = find-off (has_response h) queue g in
+      let retry : Entry → Option Entry = λ entry. if is_some_and entry.outcome is_retry then Some entry else None in
+      (λ i. option_map (λ (x : Entry). x.clock) (if nat_eq (option_map_or settled_code (none i) 0) 0 then None
+      else option_and_then retry (slice_get queue 0)))
+      ∙ either (nat_eq 0 (response_code_of outcomes.Retried))
+      ∙ sym (λ i. elim (nat_eq (option_map_or settled_code (none i) 0) (response_code_of outcomes.Retried)) [
+        | true ↦ option_map (λ (x : Entry). x.clock) (none i)
+        | false ↦ None
+      ])
+  | inl k ↦
+      let found = find-place (has_response h) queue k.place k.item k.at k.passes k.before in
+      let place = first k.place k.item k.at found in
+      let head : slice_get queue 0 ≡ Some k.item = ap (slice_get queue) (sym place) ∙ k.at in
+      let retry : Entry → Option Entry = λ entry. if is_some_and entry.outcome is_retry then Some entry else None in
+      (λ i. option_map (λ (x : Entry). x.clock) (if nat_eq (option_map_or settled_code (found i) 0) 0 then None
+      else option_and_then retry (head i)))
+      ∙ code-retried k.item (option_map_or response_code_of k.item.outcome 0) k.item.outcome refl refl
+      ∙ sym (λ i. elim (nat_eq (option_map_or settled_code (found i) 0) (response_code_of outcomes.Retried)) [
+        | true ↦ option_map (λ (x : Entry). x.clock) (found i)
+        | false ↦ None
+      ])
+]
+  where
+    either : (b : Bool) → None ≡ (elim b as (λ z. Option ℕ) [ true ↦ None | false ↦ None ])
+    either true = refl
+    either false = refl

@@ -1,0 +1,5 @@
+use Rattle.fsb_bench_run.proofs.KeptNext.{kept-next}
+use Rattle.fsb_bench_run.proofs.standing.locks_of_benches_go_on.Goals as goal
+
+pub returns : goal.returns
+returns c = kept-next
