@@ -55,3 +55,4 @@ pub mod EndEvents
 pub mod ClockEvents
 pub mod SoundEvents
 pub mod Interface
+pub mod AskedNumbers
