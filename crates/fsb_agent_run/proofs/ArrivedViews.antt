@@ -302,7 +302,8 @@ may-there : (lines : CacheSets) (access : Access) → is_held (states lines (acc
 unfolding may_store
 may-there lines access e = or_right (is_load access) (is_held (states lines (accessed_line access))) e
 
-arrival-unhit : (p : Past) (a c : ℕ) → is_arrival p a c ≡ true → is_hit p a c ≡ false
+-- an arrival is no hit
+pub arrival-unhit : (p : Past) (a c : ℕ) → is_arrival p a c ≡ true → is_hit p a c ≡ false
 unfolding is_arrival
 arrival-unhit p a c e =
     let outer = and_parts (not (is_idling p a c) && not (is_hit p a c)) _ e in

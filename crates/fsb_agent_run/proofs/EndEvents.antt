@@ -30,7 +30,8 @@ use Rattle.fsb_agent_run.proofs.OwedSteps.{reaches-less}
 use Rattle.fsb_agent_run.proofs.OwnSnoops.{idle-retried, settled-as, unmade, written-kind}
 use Rattle.fsb_agent_run.proofs.WonSteps.{won-known}
 
-ended-here : (r : Run) (a c number : ℕ) (s : SnoopEnd) (v : AgentView) → Reaches r (c + 1)
+-- what ends is one of the requests of the view after the snoop end
+pub ended-here : (r : Run) (a c number : ℕ) (s : SnoopEnd) (v : AgentView) → Reaches r (c + 1)
     → EndsFor (past_of r) a c number s
     → IsViewAfterSnoop (past_of r) a c v → IsEnded r a c number v
 ended-here r a c number s v h ends view = ended-out r a c number v h (left-last r a c number s h ends) view.requests
@@ -73,21 +74,28 @@ kept-cases r a c number s v out (Some bytes) e (Some grant) f same come gone = r
 never-replied : (outcome : Outcome) → outcome ≡ Upgraded → outcome ≢ Replied
 never-replied outcome e f = cc
 
+-- bytes are kept for an upgrade that ends exactly where it was won
+pub kept-made : (r : Run) (a c number : ℕ) (s : SnoopEnd) (v : AgentView) → Reaches r (c + 1)
+    → EndsFor (past_of r) a c number s → s.outcome ≡ Upgraded → IsViewAfterSnoop (past_of r) a c v
+    → (k : IsEnded r a c number v) → is_some k.out.kept ≡ is_some s.grant
+unfolding is_upgraded
+kept-made r a c number s v h ends upgraded view k =
+    let p = past_of r in
+    let own = own-number r a c number s h ends (never-replied s.outcome upgraded) in
+    let below = below-says p (c + 1) ends.first s ends.snooped in
+    let first : ends.first ≡ number = sym below.3 ∙ own.2 in
+    kept-of p a (c + 1) (owed_through p a c) v k.out view.requests k.among
+    ∙ ap (is_won_below p (c + 1)) (k.numbered ∙ sym first) ∙ won-known p (c + 1) ends.first s ends.snooped
+    ∙ ap (λ o. is_upgraded o && is_some s.grant) upgraded
+
 pub upgrade-view : (r : Run) (a c number : ℕ) (s : SnoopEnd) (v : AgentView) → Reaches r (c + 1) → 0 < r.plan.cache
     → a < 4
     → EndsFor (past_of r) a c number s → s.outcome ≡ Upgraded → IsViewAfterSnoop (past_of r) a c v
     → IsViewOf (past_of r) a (c + 1) (upgrade_ended v c number)
-unfolding is_upgraded
 upgrade-view r a c number s v h some few ends upgraded view =
     let p = past_of r in
     let k = ended-here r a c number s v h ends view in
-    let own = own-number r a c number s h ends (never-replied s.outcome upgraded) in
-    let below = below-says p (c + 1) ends.first s ends.snooped in
-    let first : ends.first ≡ number = sym below.3 ∙ own.2 in
-    let kept : is_some k.out.kept ≡ is_some s.grant =
-    kept-of p a (c + 1) (owed_through p a c) v k.out view.requests k.among
-    ∙ ap (is_won_below p (c + 1)) (k.numbered ∙ sym first) ∙ won-known p (c + 1) ends.first s ends.snooped
-    ∙ ap (λ o. is_upgraded o && is_some s.grant) upgraded in
+    let kept = kept-made r a c number s v h ends upgraded view k in
     subst (IsViewOf p a (c + 1)) (sym (ap (λ o. option_map_or (ended_for v c) o v) k.found))
     (kept-cases r a c number s v k.out k.out.kept refl s.grant refl kept
     (λ bytes grant makes. arrived-view r a c number s grant bytes v h some few ends makes view k)
@@ -98,7 +106,7 @@ written-makes : (kind : Kind) → kind ≡ kinds.WriteBack → makes_grant kind 
 unfolding makes_grant
 written-makes kind e = rw e refl
 
-ungranted : (r : Run) (a c number : ℕ) (s : SnoopEnd) → Reaches r (c + 1) → EndsFor (past_of r) a c number s
+pub ungranted : (r : Run) (a c number : ℕ) (s : SnoopEnd) → Reaches r (c + 1) → EndsFor (past_of r) a c number s
     → (s.outcome ≡ Retried) ⊎ (s.outcome ≡ Written) → s.grant ≡ None
 unfolding is_upgraded
 ungranted r a c number s h ends which =

@@ -267,6 +267,29 @@ left-requests r a c number s v w h ends same requests =
     (λ out there. kept-of p a (c + 1) (owed_through p a c) v out requests
     (among-without number out v.outs (subst (Among out) same there)))
 
+-- where a request ends for the agent that was granted nothing, no line comes to it
+nothing-made : (r : Run) (a c number : ℕ) (s : SnoopEnd) → Reaches r (c + 1) → EndsFor (past_of r) a c number s
+    → s.grant ≡ None → NoGrantEnds (past_of r) a c
+nothing-made r a c number s h ends none = record {
+  none = λ first other grant ending snooped makes mine.
+      let p = past_of r in
+      let one = one-ended r c first ends.first h ending ends.ends in
+      let there = subst (λ q. snoop_end_below p (c + 1) q ≡ Some other) one snooped in
+      let here = ends.snooped in
+      let same : other ≡ s = cc in
+      let gives : s.grant ≡ Some grant = sym (ap (λ (x : SnoopEnd). x.grant) same) ∙ makes in
+      cc;
+}
+
+-- so there the agent has no arrival
+pub quiet-arrival : (r : Run) (a c : ℕ) → Reaches r (c + 1) → NothingEndsFor (past_of r) a c
+    → is_arrival (past_of r) a c ≡ false
+quiet-arrival r a c h quiet = no-arrival r a c h (nothing-granted r a c h quiet)
+
+pub ungranted-arrival : (r : Run) (a c number : ℕ) (s : SnoopEnd) → Reaches r (c + 1)
+    → EndsFor (past_of r) a c number s → s.grant ≡ None → is_arrival (past_of r) a c ≡ false
+ungranted-arrival r a c number s h ends none = no-arrival r a c h (nothing-made r a c number s h ends none)
+
 -- a request that was granted nothing is given up
 pub left-view : (r : Run) (a c number : ℕ) (s : SnoopEnd) (v : AgentView) → Reaches r (c + 1) → a < 4
     → EndsFor (past_of r) a c number s → s.grant ≡ None → IsViewAfterSnoop (past_of r) a c v
@@ -274,15 +297,7 @@ pub left-view : (r : Run) (a c number : ℕ) (s : SnoopEnd) (v : AgentView) → 
 left-view r a c number s v h few ends none view =
     let p = past_of r in
     let w : AgentView = given_up v number in
-    let no_grant : NoGrantEnds p a c = record {
-      none = λ first other grant ending snooped makes mine.
-          let one = one-ended r c first ends.first h ending ends.ends in
-          let there = subst (λ q. snoop_end_below p (c + 1) q ≡ Some other) one snooped in
-          let here = ends.snooped in
-          let same : other ≡ s = cc in
-          let gives : s.grant ≡ Some grant = sym (ap (λ (x : SnoopEnd). x.grant) same) ∙ makes in
-          cc;
-    } in
+    let no_grant = nothing-made r a c number s h ends none in
     still-view r a c w h few no_grant (left-requests r a c number s v w h ends refl view.requests)
     (record {
       number = view.agent.number;

@@ -6,16 +6,25 @@ pub use Rattle.fsb_agent_run.proofs.HitsMade.{hit-by}
 pub use Rattle.fsb_agent_run.proofs.Places.{placed-at}
 pub use Rattle.fsb_agent_run.proofs.StatesTold.{answer-by, come-by, held-by, sole-by}
 pub use Rattle.fsb_agent_run.proofs.WantsMade.{want-by}
+pub use Rattle.fsb_agent_run.proofs.LockedWants.{locked-by}
 -- Each event of a clock leads on.
 pub use Rattle.fsb_agent_run.proofs.HitViews.{handed-view, performed-logged, performed-view}
 pub use Rattle.fsb_agent_run.proofs.SentViews.{cancelled-view, sent-view, uncancelled-view, unsent-view}
 pub use Rattle.fsb_agent_run.proofs.OwnSnoops.{own-claimed}
 pub use Rattle.fsb_agent_run.proofs.OtherSnoops.{other-claimed, other-replied, own-replied, quiet-view}
+<<<<<<< HEAD
 pub use Rattle.fsb_agent_run.proofs.EndEvents.{arrives-by, comes-to, given-up-view, line-view, upgrade-view}
 pub use Rattle.fsb_agent_run.proofs.EndViews.{quiet-end-view}
 pub use Rattle.fsb_agent_run.proofs.ClockEvents.{cancelled-all, clock-view, clocks-view, ended-all, handed-all, sent-all, snooped-all}
+=======
+pub use Rattle.fsb_agent_run.proofs.EndEvents.{arrives-by, comes-to, given-up-view, line-view, ungranted, upgrade-view}
+pub use Rattle.fsb_agent_run.proofs.EndViews.{quiet-arrival, quiet-end-view, ungranted-arrival}
+pub use Rattle.fsb_agent_run.proofs.ClockEvents.{clock-view, clocks-view}
+>>>>>>> 73d279c3ea97951fca363c2c13941ced14eea365
 -- What an agent completes, and what it owes.
 pub use Rattle.fsb_agent_run.proofs.ItemsCompleted.{logged-there}
+pub use Rattle.fsb_agent_run.proofs.EntriesLogged.{arrived-entries, performed-entries, upgrade-entries}
+pub use Rattle.fsb_agent_run.proofs.LoggedSteps.{entries-logged}
 pub use Rattle.fsb_agent_run.proofs.OwedApart.{owed-apart, owed-few, sent-apart}
 -- How a request of a symmetric agent is settled, and who awaits what.
 pub use Rattle.fsb_agent_run.proofs.OwnSnoops.{IsSettledAs, settled-as}

@@ -7,6 +7,7 @@ pub mod Places
 pub mod HitsMade
 pub mod VictimsNamed
 pub mod WantsMade
+pub mod LockedWants
 pub mod IdleItems
 pub mod FirstViews
 pub mod LastEntries
@@ -52,6 +53,8 @@ pub mod ClockOwed
 pub mod GrownOwed
 pub mod ArrivedViews
 pub mod EndEvents
+pub mod EntriesLogged
+pub mod LoggedSteps
 pub mod ClockEvents
 pub mod SoundEvents
 pub mod Interface

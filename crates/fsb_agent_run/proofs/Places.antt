@@ -23,7 +23,7 @@ slice_get-length [] = refl
 slice_get-length (item ∷ items) = slice_get-length items
 
 -- the item at the place of a number is that of the number
-item-at : (items : List Item) (next : Option ℕ)
+pub item-at : (items : List Item) (next : Option ℕ)
     → slice_get items (place_of items next) ≡ option_and_then (slice_get items) next
 item-at items None = slice_get-length items
 item-at items (Some n) = refl

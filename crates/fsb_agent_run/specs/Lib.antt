@@ -5,3 +5,5 @@ pub mod Ending
 pub mod Owings
 pub mod BytesOwed
 pub mod EventsSeen
+pub mod EntriesMade
+pub mod BegunAsWanted

@@ -1,5 +1,7 @@
 //! The view of an agent in a run: what its record has of a simulated run at a clock, beside the
-//! definitions of runs. Laws over the definitions, and no code.
+//! definitions of runs. Laws over the definitions, and no code. They say nothing of values: not of
+//! the bytes that are in a line, kept for an upgrade or pushed, not of the value that was loaded
+//! last, and not of the values of entries.
 //!
 //! `specs/RunViews.antt` says what a record has of a run: of its script, of its lines, of its
 //! requests. `specs/Stages.antt` puts them together for the moments of a clock between which
@@ -21,8 +23,9 @@ pub use calls::{
 };
 pub use clocks::{clocks_keep_views, views_of_runs_are_their_events};
 pub use laws::{
-    begun_requests_are_wants, first_views_are_of_the_run, hits_go_by_the_run, places_of_views_step,
-    snoop_answers_go_by_the_run, views_go_by_the_run, wants_go_by_the_run,
+    begun_requests_are_wants, entries_go_by_the_run, first_views_are_of_the_run,
+    hits_go_by_the_run, places_of_views_step, snoop_answers_go_by_the_run, views_go_by_the_run,
+    wants_go_by_the_run,
 };
 pub use owed::{
     agents_begin_owing_no_bytes, bytes_are_handed_on, bytes_are_owed_to_few,

@@ -21,7 +21,6 @@ pub mod PairWords
 pub mod StepWith
 pub mod StepEntries
 pub mod AgentsTold
-pub mod LockedWants
 pub mod AskedNow
 pub mod StartingNow
 pub mod LatestNext

@@ -1,4 +1,5 @@
 use Rattle.fsb_agent_run.proofs.EndEvents.{arrives-by}
+use Rattle.fsb_agent_run.proofs.EndViews.{quiet-arrival, ungranted-arrival}
 use Rattle.fsb_agent_run.proofs.HitsMade.{hit-by}
 use Rattle.fsb_agent_run.proofs.Places.{placed-at}
 use Rattle.fsb_coherent.specs.Relation.{is_dirty_below}
@@ -11,3 +12,9 @@ returns-clause-hit c =
 pub returns-clause-arrival : goal.returns-clause-arrival
 returns-clause-arrival c =
     λ r a d number s grant out v h ends makes view found. arrives-by r a d number s grant out v h ends makes view found
+
+pub returns-clause-quiet : goal.returns-clause-quiet
+returns-clause-quiet c = λ r a d h quiet. quiet-arrival r a d h quiet
+
+pub returns-clause-ungranted : goal.returns-clause-ungranted
+returns-clause-ungranted c = λ r a d number s h ends none. ungranted-arrival r a d number s h ends none

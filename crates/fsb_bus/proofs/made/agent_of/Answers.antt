@@ -1,7 +1,7 @@
 use Rattle.std.proofs.Common.{◌≡◌, true, sym, ap, ◌∙◌, subst}
 use Rattle.fsb_access.specs.ScriptOrder.{script_of}
 use Rattle.fsb_script.specs.Bounds.{is_lawful_script}
-use Rattle.fsb_bus.proofs.PlanFacts.{lawful_script_of}
+use Rattle.fsb_plan_size.proofs.Interface.{lawful_script_of}
 use Rattle.fsb_bus.proofs.made.agent_of.Goals as goal
 
 pub new-requires-clause-script : goal.new-requires-clause-script

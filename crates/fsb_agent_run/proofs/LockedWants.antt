@@ -20,7 +20,7 @@ use Rattle.fsb_timely.specs.Wants.{request_of_kind, want_of, write_back_of}
 use Rattle.fsb_trace.specs.Requests.{is_write_back, is_write_back_kind}
 use Rattle.fsb_agent_run.specs.RunViews.{place_of}
 use Rattle.fsb_agent_run.specs.Stages.{IsViewAfterHit}
-use Rattle.fsb_agent_run.proofs.Interface.{want-by}
+use Rattle.fsb_agent_run.proofs.WantsMade.{want-by}
 
 -- the need is locked so
 abbrev is_locked_so : Bool → Need → Bool

@@ -1,0 +1,5 @@
+mod FirstParts
+mod AgentCounts
+mod DueChunks
+mod Clocks
+mod StepTaken

@@ -1,0 +1,34 @@
+//! The bench: agents with their caches, the bridge and memory on one bus, clock by clock.
+//!
+//! [`Bench::make`] takes all the memory that a run needs. A bench lends what came of the plan so
+//! far, the agents' caches and memory, and hazard objects are plugged and unplugged between two
+//! clocks. Contracts see a bench as its view (`bench_view`, `specs/Benches.antt`): a `BenchView` of
+//! the crate fsb_bench_view, whose run has the plan, the choices, the holds, the trace and the log;
+//! and as the objects that stand on it (`objects_of`).
+//!
+//! Promised today: what [`Bench::make`] makes is the first bench of the plan, with its objects
+//! loaded; each lending call gives what the view has; plugging and unplugging change the objects
+//! alone. A clock is `Bench::step`: the new view is `bench_stepped` of the old one, for what the
+//! objects that stand at the clock answer together (`IsStepped`, `specs/Stepping.antt`). It asks
+//! that the bench may take the clock (`MayStep`), and is private as long as a bench does not carry
+//! its run: that each bench may take each clock of its plan, and that what its clocks add up to is
+//! a simulated run, is not promised here yet.
+//!
+//! A step takes no memory, has no refusal, and costs the same however long the run is already:
+//! nothing is looked for in the log, in a script or in the trace. It goes in this order: the
+//! objects are asked for BNR#; what the phases drive, and the bytes that move from a response on;
+//! the hits, agent 0 first; what the agents want and what begins; the snoop result; the sample;
+//! what the objects choose for the request that begins; then what the clock brings: that request,
+//! the one that an address error cancels, the snoop end, the response and the end of a request; and
+//! last the bus lock, the queue and the arbiter take the clock. The agents know a request by its
+//! first clock.
+#![tactic(auto)]
+
+pub use bench::Bench;
+
+mod asking;
+mod bare;
+mod bench;
+mod stepping;
+#[cfg(test)]
+mod tests;
