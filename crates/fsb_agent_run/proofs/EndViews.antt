@@ -201,7 +201,7 @@ is-deferred Failed e = absurd (let no : ⊥ = cc in no)
 is-deferred Upgraded e = absurd (let no : ⊥ = cc in no)
 
 -- where nothing ends for the agent no line comes to it
-nothing-granted : (r : Run) (a c : ℕ) → Reaches r (c + 1) → NothingEndsFor (past_of r) a c → NoGrantEnds (past_of r) a c
+pub nothing-granted : (r : Run) (a c : ℕ) → Reaches r (c + 1) → NothingEndsFor (past_of r) a c → NoGrantEnds (past_of r) a c
 nothing-granted r a c h quiet = record {
   none = λ first s grant ends snooped makes mine. by first s grant ends snooped makes mine s.claim refl;
 }

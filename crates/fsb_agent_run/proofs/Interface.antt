@@ -12,9 +12,15 @@ pub use Rattle.fsb_agent_run.proofs.HitViews.{handed-view, performed-logged, per
 pub use Rattle.fsb_agent_run.proofs.SentViews.{cancelled-view, sent-view, uncancelled-view, unsent-view}
 pub use Rattle.fsb_agent_run.proofs.OwnSnoops.{own-claimed}
 pub use Rattle.fsb_agent_run.proofs.OtherSnoops.{other-claimed, other-replied, own-replied, quiet-view}
+<<<<<<< HEAD
+pub use Rattle.fsb_agent_run.proofs.EndEvents.{arrives-by, comes-to, given-up-view, line-view, upgrade-view}
+pub use Rattle.fsb_agent_run.proofs.EndViews.{quiet-end-view}
+pub use Rattle.fsb_agent_run.proofs.ClockEvents.{cancelled-all, clock-view, clocks-view, ended-all, handed-all, sent-all, snooped-all}
+=======
 pub use Rattle.fsb_agent_run.proofs.EndEvents.{arrives-by, comes-to, given-up-view, line-view, ungranted, upgrade-view}
 pub use Rattle.fsb_agent_run.proofs.EndViews.{quiet-arrival, quiet-end-view, ungranted-arrival}
 pub use Rattle.fsb_agent_run.proofs.ClockEvents.{clock-view, clocks-view}
+>>>>>>> 73d279c3ea97951fca363c2c13941ced14eea365
 -- What an agent completes, and what it owes.
 pub use Rattle.fsb_agent_run.proofs.ItemsCompleted.{logged-there}
 pub use Rattle.fsb_agent_run.proofs.EntriesLogged.{arrived-entries, performed-entries, upgrade-entries}
@@ -23,6 +29,10 @@ pub use Rattle.fsb_agent_run.proofs.OwedApart.{owed-apart, owed-few, sent-apart}
 -- How a request of a symmetric agent is settled, and who awaits what.
 pub use Rattle.fsb_agent_run.proofs.OwnSnoops.{IsSettledAs, settled-as}
 pub use Rattle.fsb_agent_run.proofs.GrantsAwaited.{granted-unawaited, latest-ends, latest-says}
+-- What a reply serves is the request that its agent has outstanding on the line; and no grant, no arrival.
+pub use Rattle.fsb_agent_run.proofs.AskedNumbers.{served-number}
+pub use Rattle.fsb_agent_run.proofs.EndFacts.{own-left, replied-left}
+pub use Rattle.fsb_agent_run.proofs.EndViews.{NoGrantEnds, no-arrival, nothing-granted}
 -- The bytes that an agent owes, from one moment of a clock to the next, and over its clocks.
 pub use Rattle.fsb_agent_run.proofs.FirstOwed.{first-owed}
 pub use Rattle.fsb_agent_run.proofs.GiversNamed.{given-named}

@@ -58,3 +58,4 @@ pub mod LoggedSteps
 pub mod ClockEvents
 pub mod SoundEvents
 pub mod Interface
+pub mod AskedNumbers

@@ -1,5 +1,5 @@
 -- At which clocks of a run requests begin, as the run grows.
-use Rattle.std.proofs.Common.{ℕ, zero, suc, ◌+◌, ◌<◌, ◌≤◌, ◌≡◌, Bool, true, false, Option, Some, None, List, [], ◌∷◌, ◌++◌, length, if◌then◌else◌, add-one, append-nil, refl, sym, ap, ◌∙◌, arith}
+use Rattle.std.proofs.Common.{ℕ, zero, suc, ◌<◌, ◌≡◌, Bool, true, false, Some, [], ◌∷◌, ◌++◌, length, if◌then◌else◌, add-one, append-nil, refl, sym, ap, ◌∙◌, arith}
 use Rattle.fsb_count.specs.Clocks.{all_where, last_where}
 use Rattle.fsb_count.proofs.Interface.{all_where-failed, all_where-passed, last_where-failed, last_where-passed}
 use Rattle.fsb_phase_run.proofs.Interface.{agree-grown, longer}

@@ -1,5 +1,5 @@
 -- The agents of a bench after what is told to them.
-use Rattle.std.proofs.Common.{ℕ, zero, suc, ◌+◌, ◌<◌, ◌≡◌, Option, Some, None, List, [], ◌∷◌, fold, length, slice_get, refl, sym, ap, subst, ◌∙◌, arith}
+use Rattle.std.proofs.Common.{ℕ, zero, suc, ◌+◌, ◌≡◌, Option, Some, None, List, [], ◌∷◌, fold, slice_get, refl, sym, ap, subst, ◌∙◌, arith}
 use Rattle.std.specs.Option.{option_map}
 use Rattle.fsb_agent_view.specs.AgentEvents.{AgentEvent, HandedOn, Performed, agent_after}
 use Rattle.fsb_agent_view.specs.AgentViews.{AgentView}

@@ -1,7 +1,7 @@
 -- What is asked for at the clock: the wants of the agents after their hits, and the reply that is due.
-use Rattle.std.proofs.Common.{ℕ, zero, suc, ◌+◌, ◌-◌, ◌<◌, ◌≤◌, ◌≡◌, ◌&&◌, ◌==◌, Bool, true, false, not, is_some, nat_le, nat_lt, Option, Some, None, List, [], ◌∷◌, length, slice_get, if◌then◌else◌, refl, sym, ap, subst, ◌∙◌, arith}
+use Rattle.std.proofs.Common.{ℕ, zero, suc, ◌+◌, ◌<◌, ◌≡◌, ◌&&◌, Bool, true, false, not, nat_lt, Option, Some, None, List, [], ◌∷◌, length, slice_get, if◌then◌else◌, refl, sym, ap, subst, ◌∙◌, arith}
 use Rattle.std.specs.Option.{option_and_then, option_map, option_map_or}
-use Rattle.std.proofs.lemmas.Bool.{and_parts, both_ways, eq-eqb, leb-true, lt-leb}
+use Rattle.std.proofs.lemmas.Bool.{eq-eqb, lt-leb}
 use Rattle.fsb_access.specs.declared.log.Done.{Done}
 use Rattle.fsb_agent_view.specs.AgentViews.{AgentView}
 use Rattle.fsb_agent_view.specs.Wanting.{want_by}
@@ -12,34 +12,37 @@ use Rattle.fsb_bridge_run.specs.RunDeferrals.{ShowsBegun}
 use Rattle.fsb_bridge_run.proofs.Interface.{grown-due, shows-second}
 use Rattle.fsb_count.specs.Clocks.{last_where}
 use Rattle.fsb_encode.specs.Request.{pairs_of}
-use Rattle.fsb_encode.specs.declared.request.Pair.{Pair}
-use Rattle.fsb_encode.specs.declared.request.Request.{Request}
 use Rattle.fsb_hazard.specs.declared.choice.Choice.{Choice}
 use Rattle.fsb_signal.specs.declared.lines.TheConstants.Lines.{ADS}
 use Rattle.fsb_signal.specs.Samples.{line_at}
 use Rattle.fsb_timely.specs.BusLock.{wants_lock}
-use Rattle.fsb_timely.specs.Growth.{GrowsTo}
-use Rattle.fsb_timely.specs.Past.{Past}
-use Rattle.fsb_timely.specs.Runs.{Run, past_of}
-use Rattle.fsb_timely.specs.Starts.{due_number, request_begun_before}
+use Rattle.fsb_timely.specs.Runs.{past_of}
+use Rattle.fsb_timely.specs.Starts.{due_number}
 use Rattle.fsb_timely.specs.Wants.{want_of}
-use Rattle.fsb_trace.specs.At.{known_pair_at}
 use Rattle.fsb_trace.specs.declared.who.Who.{Who}
+<<<<<<< HEAD
+use Rattle.fsb_agent_run.proofs.Interface.{want-by}
+=======
 use Rattle.fsb_agent_run.specs.Stages.{IsViewAfterHit}
 use Rattle.fsb_agent_run.proofs.Interface.{locked-by, want-by}
+>>>>>>> 73d279c3ea97951fca363c2c13941ced14eea365
 use Rattle.fsb_lawful.proofs.Interface.{get-there}
 use Rattle.fsb_bench_view.specs.declared.beginning.Latest.{Latest}
 use Rattle.fsb_bench_view.specs.declared.beginning.Starting.{Starting}
-use Rattle.fsb_bench_view.specs.BenchSteps.{step_decided, step_fetched, step_performed, was_held_at}
+use Rattle.fsb_bench_view.specs.BenchSteps.{step_decided, step_performed, was_held_at}
 use Rattle.fsb_bench_view.specs.BusDecisions.{want_at}
-use Rattle.fsb_bench_view.specs.BusSample.{is_latest_before, pair_driven}
+use Rattle.fsb_bench_view.specs.BusSample.{pair_driven}
 use Rattle.fsb_bench_view.specs.BusStarting.{is_spaced_by, may_start, starting_for, want_in}
 use Rattle.fsb_bench_view.specs.BusViews.{BenchView, BusView, next_clock_of}
-use Rattle.fsb_bench_run.specs.BenchOf.{IsBegunAt, IsBenchOf, IsLatestOf}
-use Rattle.fsb_bench_run.proofs.AdsGrown.{last-below}
+use Rattle.fsb_bench_run.specs.BenchOf.{IsBenchOf}
 use Rattle.fsb_bench_run.proofs.AgentsTold.{performed-there}
 use Rattle.fsb_bench_run.proofs.BegunStays.{begun-lawful, begun-request, begun-stays}
+<<<<<<< HEAD
+use Rattle.fsb_bench_run.proofs.LockedWants.{locked-by}
+use Rattle.fsb_bench_run.proofs.PairWords.{begun-before, lawful-fits, last-at, pair-shown}
+=======
 use Rattle.fsb_bench_run.proofs.PairWords.{begun-before, lawful-fits, last-at, pair-shown, step_pair}
+>>>>>>> 73d279c3ea97951fca363c2c13941ced14eea365
 use Rattle.fsb_bench_run.proofs.RunWith.{run_with}
 use Rattle.fsb_bench_run.proofs.SameBus.{same-performed}
 use Rattle.fsb_bench_run.proofs.StepFields.{performed-begun}

@@ -1,8 +1,7 @@
 -- The request lines of the clock are as they must.
-use Rattle.std.proofs.Common.{ℕ, zero, suc, ◌+◌, ◌-◌, ◌<◌, ◌≤◌, ◌≡◌, ◌&&◌, ◌==◌, Bool, true, false, not, is_some, nat_eq, nat_le, Option, Some, None, List, length, slice_get, if◌then◌else◌, refl, sym, ap, subst, ◌∙◌, arith, inl, inr}
-use Rattle.std.specs.Bool.{beq}
-use Rattle.std.specs.Option.{option_and_then, option_map, option_map_or}
-use Rattle.std.proofs.lemmas.Bool.{and_from, and_parts, and_right, both_ways, cases_Bool, eq-eqb, eqb-false, eqb-true, false_from_ne_true, le-leb, leb-true}
+use Rattle.std.proofs.Common.{ℕ, zero, suc, ◌+◌, ◌-◌, ◌<◌, ◌≤◌, ◌≡◌, ◌&&◌, ◌==◌, Bool, true, false, not, is_some, nat_le, Option, Some, None, List, length, refl, sym, ap, ◌∙◌, arith}
+use Rattle.std.specs.Option.{option_and_then, option_map}
+use Rattle.std.proofs.lemmas.Bool.{and_from, and_parts, eqb-false, eqb-true, false_from_ne_true, le-leb, leb-true}
 use Rattle.fsb_access.specs.declared.log.Done.{Done}
 use Rattle.fsb_agent_view.specs.declared.want.Want.{Want}
 use Rattle.fsb_bridge.specs.declared.deferral.Deferral.{Deferral}
@@ -15,7 +14,6 @@ use Rattle.fsb_encode.specs.declared.request.Request.{Request}
 use Rattle.fsb_lawful.specs.Beginning.{KeepsBounds}
 use Rattle.fsb_lawful.proofs.Interface.{want-own}
 use Rattle.fsb_hazard.specs.declared.choice.Choice.{Choice}
-use Rattle.fsb_phase_run.proofs.Interface.{longer}
 use Rattle.fsb_signal.specs.declared.lines.TheConstants.Lines.{ADS, BPRI, BREQ0, BREQ1, BREQ2, BREQ3}
 use Rattle.fsb_signal.specs.Samples.{line_at}
 use Rattle.fsb_timely.specs.Growth.{GrowsTo}
@@ -29,13 +27,12 @@ use Rattle.fsb_trace.specs.Winner.{begins_at, bus_request_of, is_agent, is_same_
 use Rattle.fsb_trace.specs.declared.who.Who.{Who}
 use Rattle.fsb_trace.specs.declared.who.Who.TheVariants.{Symmetric, Priority}
 use Rattle.fsb_bench_view.specs.declared.beginning.Latest.{Latest}
-use Rattle.fsb_bench_view.specs.declared.decided.Decided.{Decided}
 use Rattle.fsb_bench_view.specs.BenchSteps.{step_decided, step_performed}
-use Rattle.fsb_bench_view.specs.BusSample.{began_by, is_asking, is_bridge_asking, is_latest_before, is_same_who}
+use Rattle.fsb_bench_view.specs.BusSample.{began_by, is_asking, is_bridge_asking, is_same_who}
 use Rattle.fsb_bench_view.specs.BusStarting.{want_in}
-use Rattle.fsb_bench_view.specs.BusViews.{BenchView, BusView, next_clock_of}
+use Rattle.fsb_bench_view.specs.BusViews.{BenchView, next_clock_of}
 use Rattle.fsb_bench_run.specs.BenchOf.{IsBegunAt, IsLatestOf}
-use Rattle.fsb_bench_run.proofs.AdsGrown.{ads-old, last-below}
+use Rattle.fsb_bench_run.proofs.AdsGrown.{ads-old}
 use Rattle.fsb_bench_run.proofs.AskedNow.{due-told, shows-now, wants-told}
 use Rattle.fsb_bench_run.proofs.BegunStays.{begun-request, begun-stays}
 use Rattle.fsb_bench_run.proofs.DrivenLines.{bpri-driven, breq0-driven, breq1-driven, breq2-driven, breq3-driven, line-with}

@@ -1,5 +1,5 @@
 -- A request that has begun stays as a run grows, and is lawful.
-use Rattle.std.proofs.Common.{ℕ, ◌+◌, ◌<◌, ◌≤◌, ◌≡◌, true, Option, Some, None, List, [], ◌∷◌, length, slice_get, take, refl, sym, ap, subst, ◌∙◌, arith}
+use Rattle.std.proofs.Common.{ℕ, ◌+◌, ◌<◌, ◌≡◌, true, Some, List, [], ◌∷◌, length, slice_get, take, refl, ap, ◌∙◌, arith}
 use Rattle.std.specs.Option.{option_and_then, option_map}
 use Rattle.std.proofs.lemmas.List.{take-append-le}
 use Rattle.fsb_encode.specs.declared.request.Request.{Request}
@@ -9,18 +9,14 @@ use Rattle.fsb_lawful.proofs.Interface.{wants-lawfully}
 use Rattle.fsb_phase_run.proofs.Interface.{agree-grown}
 use Rattle.fsb_queue.specs.declared.entry.Entry.{Entry}
 use Rattle.fsb_signal.specs.declared.lines.TheConstants.Lines.{ADS}
-use Rattle.fsb_signal.specs.Samples.{line_at}
 use Rattle.fsb_timely.specs.Growth.{GrowsTo, IsWhole}
 use Rattle.fsb_timely.specs.Moments.{turns_in}
 use Rattle.fsb_timely.specs.Past.{Past}
 use Rattle.fsb_timely.specs.Runs.{Run, past_of, past_to, run_to}
 use Rattle.fsb_timely.specs.Starts.{due_number, reply_to, request_begun, would_begin}
-use Rattle.fsb_timely.specs.Wants.{want_of}
 use Rattle.fsb_timely.proofs.Interface.{past-same}
-use Rattle.fsb_trace.specs.At.{Trace}
 use Rattle.fsb_trace.specs.Deferral.{due_at}
 use Rattle.fsb_trace.specs.Requests.{live_request_of}
-use Rattle.fsb_trace.specs.Winner.{winner_at}
 use Rattle.fsb_trace.specs.declared.who.Who.{Who}
 use Rattle.fsb_trace.specs.declared.who.Who.TheVariants.{Symmetric, Priority}
 use Rattle.fsb_trace.proofs.Interface.{AgreeTo-sym, line_at-agree, winner_at-agree}

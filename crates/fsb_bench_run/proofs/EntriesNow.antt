@@ -109,16 +109,18 @@ next-by items a (Some n) = by (slice_get items n)
     by None = refl
     by (Some item) = refl
 
-pub completes-next : (p : Past) (a n clock : ℕ) (w : AgentView) → IsViewOf p a n w
+pub completes-by : (p : Past) (a n clock : ℕ) (w : AgentView) → w.number ≡ a → w.items ≡ items_of p a
+    → w.place ≡ place_of (items_of p a) (next_number p a n)
     → map completed_of (completed_entries w clock) ≡ next_accesses p a n
 unfolding next_accesses next_item
-completes-next p a n clock w k =
-    let number = k.agent.number in
-    let items = k.agent.items in
-    let place = k.placed.place in
+completes-by p a n clock w number items place =
     hand-completed w.number clock (hand_of w) (next_steps w)
     ∙ (λ i. steps_completed (number i) (steps_at (items i) (place i)))
     ∙ next-by (items_of p a) a (next_number p a n)
+
+pub completes-next : (p : Past) (a n clock : ℕ) (w : AgentView) → IsViewOf p a n w
+    → map completed_of (completed_entries w clock) ≡ next_accesses p a n
+completes-next p a n clock w k = completes-by p a n clock w k.agent.number k.agent.items k.placed.place
 
 -- the entries of an agent's hit are what it completes by it
 pub hit-completes : (p : Past) (a n : ℕ) (w : AgentView) → IsViewOf p a n w → is_hit_by w n ≡ is_hit p a n

@@ -1,18 +1,18 @@
--- The entries of a bench's clock begin with those of the hits, and an agent with a hit has no other ones: it has completed its
+-- The entries of a bench's clock begin with those of the hits, and an agent with a hit has no other ones: it has
+-- completed its
 -- item there, so what ends completes nothing more.
-use Rattle.std.proofs.Common.{ℕ, ◌+◌, ◌≡◌, ◌⊎◌, Bool, true, false, not, ◌&&◌, ◌||◌, if◌then◌else◌, nat_eq, Option, Some, None, List, [], ◌∷◌, ◌++◌, fold, slice_get, refl, sym, ap, subst, ◌∙◌, inl, inr, arith}
+use Rattle.std.proofs.Common.{ℕ, ◌+◌, ◌≡◌, ◌⊎◌, Bool, true, false, ◌||◌, if◌then◌else◌, nat_eq, Option, Some, None, List, [], ◌∷◌, fold, slice_get, refl, sym, ap, subst, ◌∙◌, inl, inr}
 use Rattle.std.specs.List.{list_any}
 use Rattle.std.specs.Option.{option_map_or}
-use Rattle.std.proofs.lemmas.Bool.{cases_Bool, eq-eqb, eqb-true, false_from_ne_true}
-use Rattle.fsb_access.specs.declared.log.Done.{Done}
+use Rattle.std.proofs.lemmas.Bool.{cases_Bool, eq-eqb, eqb-true}
 use Rattle.fsb_access.specs.ScriptOrder.{Step}
-use Rattle.fsb_agent_view.specs.AgentEvents.{AgentEvent, Arrived, Committed, GivenUp, Performed, Sent, UpgradeEnded, agent_after}
+use Rattle.fsb_agent_view.specs.AgentEvents.{AgentEvent, GivenUp, Sent, agent_after}
 use Rattle.fsb_agent_view.specs.AgentViews.{AgentView, is_finished_at, line_state_by}
 use Rattle.fsb_agent_view.specs.Arriving.{ended_entries_for, is_arrival_by, met_entries, with_bytes}
 use Rattle.fsb_agent_view.specs.Completing.{completed_by, completed_entries, hand_of, is_hit_by, next_steps, performed}
-use Rattle.fsb_agent_view.specs.OwnRequests.{new_request, request_numbered}
+use Rattle.fsb_agent_view.specs.OwnRequests.{request_numbered}
 use Rattle.fsb_agent_view.specs.Serving.{AtHand, entries_at_hand, hand_after}
-use Rattle.fsb_agent_view.specs.Snooping.{committed, granted_by, kind_asks, own_settled, upgraded_by, with_fill}
+use Rattle.fsb_agent_view.specs.Snooping.{committed, granted_by, kind_asks, own_settled, upgraded_by}
 use Rattle.fsb_agent_view.specs.Wanting.{sent, want_by}
 use Rattle.fsb_agent_view.specs.declared.want.OwnRequest.{OwnRequest}
 use Rattle.fsb_agent_view.specs.declared.want.Want.{Want}
@@ -34,7 +34,7 @@ use Rattle.fsb_bench_view.specs.declared.decided.Decided.{Decided}
 use Rattle.fsb_bench_view.specs.declared.decided.Ending.{Ending}
 use Rattle.fsb_bench_view.specs.declared.snoop.SnoopSettled.{SnoopSettled}
 use Rattle.fsb_bench_view.specs.BenchSteps.{step_answered, step_decided, step_ending, step_entries, step_performed, step_phased, step_run}
-use Rattle.fsb_bench_view.specs.BusEvents.{answered_by, bus_answered, bus_cancelled, bus_snooped, bus_started, cancelled_event, end_entries, end_event, entries_ended, entries_of_event, heard_answer, heard_cancel, heard_entries, heard_snoop, heard_start, snooped_event, starting_event}
+use Rattle.fsb_bench_view.specs.BusEvents.{answered_by, bus_answered, bus_cancelled, bus_snooped, bus_started, cancelled_event, end_entries, entries_ended, heard_answer, heard_cancel, heard_entries, heard_snoop, heard_start, snooped_event, starting_event}
 use Rattle.fsb_bench_view.specs.BusViews.{BenchView, BusView, next_clock_of}
 use Rattle.fsb_bench_view.specs.ToldAgents.{agents_told, for_none, for_one}
 use Rattle.fsb_bench_run.specs.BenchOf.{IsBenchOf}
@@ -50,7 +50,8 @@ record KeepsPlace (u w : AgentView) : Type 0 where
 
 -- each of the agents does
 record KeepsPlaces (us ws : List AgentView) : Type 0 where
-  pub each : (a : ℕ) (w : AgentView) → slice_get ws a ≡ Some w → (u : AgentView) × (slice_get us a ≡ Some u) × KeepsPlace u w
+  pub each : (a : ℕ) (w : AgentView) → slice_get ws a ≡ Some w
+      → (u : AgentView) × (slice_get us a ≡ Some u) × KeepsPlace u w
 
 all-kept : (us : List AgentView) → KeepsPlaces us us
 all-kept us = record { each = λ a w e. (w, e, record { number = refl; finished = refl }) }
@@ -67,7 +68,8 @@ kept-twice us vs ws h k = record {
 }
 
 told-kept : (events : ℕ → List AgentEvent) (us : List AgentView)
-    → ((j : ℕ) (u : AgentView) → KeepsPlace u (fold agent_after u (events j))) → KeepsPlaces us (agents_told events 0 us)
+    → ((j : ℕ) (u : AgentView) → KeepsPlace u (fold agent_after u (events j)))
+    → KeepsPlaces us (agents_told events 0 us)
 told-kept events us keeps = record {
   each = λ a w e.
       let k = some-of (λ u. fold agent_after u (events (0 + a))) (slice_get us a) w (sym (told-at events 0 us a) ∙ e) in
@@ -82,7 +84,8 @@ sent-kept u clock number = by (want_by u clock) refl
     by None e = rw (e, sent) (record { number = refl; finished = refl })
     by (Some want) e = rw (e, sent) (record { number = refl; finished = refl })
 
-one-kept : (a : ℕ) (event : AgentEvent) → ((u : AgentView) → KeepsPlace u (agent_after u event)) → (j : ℕ) (u : AgentView)
+one-kept : (a : ℕ) (event : AgentEvent) → ((u : AgentView) → KeepsPlace u (agent_after u event))
+    → (j : ℕ) (u : AgentView)
     → KeepsPlace u (fold agent_after u (for_one a event j))
 one-kept a event keeps j u = by (nat_eq j a)
   where
@@ -118,7 +121,8 @@ upgraded-kept u out = by (is_held (line_state_by u out.request.line)) refl
     by true e = rw (e, upgraded_by) (record { number = refl; finished = refl })
     by false e = rw (e, upgraded_by) (record { number = refl; finished = refl })
 
-settled-kept : (u : AgentView) (out : OwnRequest) (shared : Bool) (o : Outcome) → KeepsPlace u (own_settled u out shared o)
+settled-kept : (u : AgentView) (out : OwnRequest) (shared : Bool) (o : Outcome)
+    → KeepsPlace u (own_settled u out shared o)
 settled-kept u out shared outcomes.Granted = granted-kept u out shared
 settled-kept u out shared outcomes.Handed = granted-kept u out true
 settled-kept u out shared outcomes.Retried = record { number = refl; finished = refl }
@@ -144,7 +148,8 @@ start-kept : (bus : BusView) (clock : ℕ) (o : Option Starting)
 start-kept bus clock None = all-kept bus.agents
 start-kept bus clock (Some starting) = starting-kept clock starting.who bus.agents
 
-cancel-kept : (bus : BusView) (o : Option Entry) → KeepsPlaces bus.agents (option_map_or (bus_cancelled bus) o bus).agents
+cancel-kept : (bus : BusView) (o : Option Entry)
+    → KeepsPlaces bus.agents (option_map_or (bus_cancelled bus) o bus).agents
 cancel-kept bus None = all-kept bus.agents
 cancel-kept bus (Some entry) = cancelled-kept entry.clock entry.who bus.agents
 
@@ -160,7 +165,8 @@ answer-kept : (bus : BusView) (clock : ℕ) (o : Option Entry)
 answer-kept bus clock None = all-kept bus.agents
 answer-kept bus clock (Some entry) = all-kept bus.agents
 
-heard-kept : (bus : BusView) (clock : ℕ) (decided : Decided) → KeepsPlaces bus.agents (heard_answer bus clock decided).agents
+heard-kept : (bus : BusView) (clock : ℕ) (decided : Decided)
+    → KeepsPlaces bus.agents (heard_answer bus clock decided).agents
 heard-kept bus clock decided =
     let started = heard_start bus clock decided in
     let cancelled = heard_cancel bus clock decided in
@@ -289,4 +295,5 @@ first-entries v hold b = record {
 
 -- so they are those of the bench's own longer run
 pub bench-hits : (v : BenchView) (hold : Bool) (choice : Choice) → IsBenchOf v → HasHitsOf v (step_run v hold choice)
-bench-hits v hold choice b = hits-told v hold choice (step_entries v hold) b (grows-to v hold choice b) (first-entries v hold b)
+bench-hits v hold choice b = hits-told v hold choice (step_entries v hold) b (grows-to v hold choice b)
+    (first-entries v hold b)

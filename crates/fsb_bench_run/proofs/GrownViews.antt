@@ -1,34 +1,34 @@
 -- The record of an agent is that of the agent also in the run that has grown by a clock.
-use Rattle.std.proofs.Common.{ℕ, zero, suc, ◌+◌, ◌<◌, ◌≤◌, ◌≡◌, Bool, true, false, not, ◌&&◌, ◌||◌, nat_eq, nat_lt, nat_le, List, [], ◌∷◌, ◌++◌, map, length, Option, Some, None, is_some, slice_get, refl, sym, ap, subst, ◌∙◌, inl, inr, arith}
+use Rattle.std.proofs.Common.{ℕ, zero, suc, ◌+◌, ◌<◌, ◌≤◌, ◌≡◌, Bool, true, false, not, ◌&&◌, ◌||◌, nat_eq, nat_lt, nat_le, List, [], ◌∷◌, map, length, Option, Some, None, is_some, slice_get, refl, sym, ap, subst, ◌∙◌, inl, inr, arith}
 use Rattle.std.proofs.Math.Bool.{and-false, or-false}
-use Rattle.std.proofs.lemmas.Bool.{and_parts, cases_Bool, cases_lt, eq-eqb, eqb-true, le-ltb, leb-true, or_parts, ltb-true}
+use Rattle.std.proofs.lemmas.Bool.{and_parts, cases_Bool, cases_lt, eq-eqb, eqb-true, le-ltb, leb-true, ltb-true}
 use Rattle.std.proofs.lemmas.List.Folds.{list_any-append}
-use Rattle.std.specs.List.{filter, filter_map, list_all, list_any}
+use Rattle.std.specs.List.{filter, list_all, list_any}
 use Rattle.std.specs.Option.{option_and_then, option_map_or}
 use Rattle.fsb_access.specs.ScriptOrder.{script_of}
 use Rattle.fsb_access.specs.declared.log.Done.{Done}
-use Rattle.fsb_agent_run.specs.RunViews.{HasLinesOf, HasRequestsOf, IsAgentOf, is_awaited, is_won_below, one_if, owing_by, state_told}
+use Rattle.fsb_agent_run.specs.RunViews.{is_awaited, is_won_below, one_if, owing_by, state_told}
 use Rattle.fsb_agent_run.specs.Stages.{IsViewOf}
 use Rattle.fsb_agent_view.specs.AgentViews.{AgentView}
 use Rattle.fsb_agent_view.specs.declared.want.OwnRequest.{OwnRequest}
 use Rattle.fsb_coherent.specs.Awaits.{snoop_end_below}
 use Rattle.fsb_coherent.specs.Relation.{is_dirty_below, is_stored_below}
 use Rattle.fsb_coherent.proofs.Interface as coherent
-use Rattle.fsb_count.specs.Clocks.{AgreeBelow, any_where, first_where}
+use Rattle.fsb_count.specs.Clocks.{AgreeBelow, first_where}
 use Rattle.fsb_count.specs.Options.{is_some_and}
 use Rattle.fsb_count.proofs.Interface.{any_where-same, first_where-found, first_where-same}
 use Rattle.fsb_lawful.proofs.Interface as lawful
 use Rattle.fsb_run_laws.specs.Reaches.{Reaches}
 use Rattle.fsb_run_laws.specs.RunSteps.{owing_begun}
 use Rattle.fsb_run_laws.proofs.Interface.{begun-wanted, owed-told}
-use Rattle.fsb_timely.specs.Grants.{ended_requests, is_end_at, is_ended, is_exclusive, latest_grant, snooped_at}
+use Rattle.fsb_timely.specs.Grants.{ended_requests, is_end_at, is_ended, snooped_at}
 use Rattle.fsb_timely.specs.Growth.{GoesOn, GrowsTo}
 use Rattle.fsb_timely.specs.Hits.{is_store_on}
 use Rattle.fsb_timely.specs.Moments.{is_snoop_of, is_upgraded}
 use Rattle.fsb_timely.specs.Past.{Grant, Moment, Owing, Past, SnoopEnd}
 use Rattle.fsb_timely.specs.Runs.{Run, past_of}
 use Rattle.fsb_timely.specs.Scripts.{items_of}
-use Rattle.fsb_timely.specs.Wants.{outstanding_at, owed, want_of}
+use Rattle.fsb_timely.specs.Wants.{outstanding_at, owed}
 use Rattle.fsb_timely.proofs.Interface.{Alike, done_below, going-alike, holds_line-same, is_exclusive-same, latest_grant-same, owed-same, past-goes_on, want_of-alike}
 use Rattle.fsb_trace.specs.At.{Trace}
 use Rattle.fsb_trace.specs.Flight.{is_outstanding, outstanding}
@@ -181,7 +181,8 @@ out-below r a v k out h list at =
     let same = eqb-true k.1.given.claim.first out.number k.1.passes in
     omega (arith, first, same)
 
--- a view stays that of its agent as the run grows by a clock: all that it says rests on the moments and entries below it
+-- a view stays that of its agent as the run grows by a clock: all that it says rests on the moments and entries
+-- below it
 pub view-grown : (r s : Run) (a : ℕ) (v : AgentView) → GrowsTo r s → Reaches r (length r.trace)
     → IsViewOf (past_of r) a (length r.trace) v → IsViewOf (past_of s) a (length r.trace) v
 unfolding items_of

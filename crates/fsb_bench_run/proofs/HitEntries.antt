@@ -1,13 +1,12 @@
--- The entries of a clock that begin with those of the hits: each agent with a hit has the accesses of its next item there,
+-- The entries of a clock that begin with those of the hits: each agent with a hit has the accesses of its next item
+-- there,
 -- and so the agents of the bench after the hits are those of the longer run.
-use Rattle.std.proofs.Common.{ℕ, zero, suc, ◌+◌, ◌-◌, ◌<◌, ◌≤◌, ◌≡◌, ◌⊎◌, Bool, true, false, not, ◌&&◌, ◌||◌, nat_eq, nat_lt, Option, Some, None, List, [], ◌∷◌, ◌++◌, map, length, slice_get, refl, sym, ap, subst, ◌∙◌, inl, inr, arith, append-nil}
-use Rattle.std.specs.List.{filter, list_all, list_any}
+use Rattle.std.proofs.Common.{ℕ, zero, suc, ◌+◌, ◌-◌, ◌<◌, ◌≤◌, ◌≡◌, Bool, true, false, not, ◌&&◌, ◌||◌, nat_eq, nat_lt, Option, Some, None, List, [], ◌∷◌, ◌++◌, map, length, slice_get, refl, sym, ap, subst, ◌∙◌, inl, inr, arith, append-nil}
+use Rattle.std.specs.List.{list_all, list_any}
 use Rattle.std.specs.Option.{option_and_then, option_map_or}
-use Rattle.std.proofs.Math.Bool.{and-false}
-use Rattle.std.proofs.lemmas.Bool.{and_from, and_parts, both_ways, cases_Bool, cases_lt, eq-eqb, eqb-true, lt-ltb, ne_eqb, not-true, or_cases, or_parts}
-use Rattle.std.proofs.lemmas.List.{length-append, map-append}
+use Rattle.std.proofs.lemmas.Bool.{and_parts, both_ways, cases_Bool, eq-eqb, eqb-true, lt-ltb, ne_eqb, not-true, or_cases, or_parts}
+use Rattle.std.proofs.lemmas.List.{map-append}
 use Rattle.std.proofs.lemmas.List.Elements.{filter-append}
-use Rattle.std.proofs.lemmas.List.Folds.{list_any-append}
 use Rattle.std.proofs.lemmas.Option.{slice_get_within}
 use Rattle.fsb_access.specs.declared.access.Access.{Access}
 use Rattle.fsb_access.specs.declared.item.Item.{Item}
@@ -17,26 +16,24 @@ use Rattle.fsb_access.specs.ScriptOrder.{Step, script_of, step_of, steps_from, s
 use Rattle.fsb_agent_view.specs.AgentViews.{AgentView}
 use Rattle.fsb_agent_view.specs.Completing.{completed_entries, hand_of, is_hit_by, next_steps, performed_entries, steps_at}
 use Rattle.fsb_agent_view.specs.Serving.{AtHand, entries_at_hand, hand_after}
-use Rattle.fsb_agent_run.specs.RunViews.{CompletesItem, LogsItem, place_of}
+use Rattle.fsb_agent_run.specs.RunViews.{LogsItem, place_of}
 use Rattle.fsb_agent_run.specs.Stages.{IsViewAfterHit, IsViewOf}
 use Rattle.fsb_agent_run.proofs.Interface.{hit-by, performed-logged, placed-at}
 use Rattle.fsb_coherent.specs.Relation.{is_dirty_below}
 use Rattle.fsb_coherent.proofs.Interface.{any-from, any-there, some-there}
-use Rattle.fsb_count.specs.Clocks.{last_where}
 use Rattle.fsb_count.specs.Options.{is_some_and}
 use Rattle.fsb_count.proofs.Interface.{first_where-found}
 use Rattle.fsb_hazard.specs.declared.choice.Choice.{Choice}
 use Rattle.fsb_lawful.proofs.Interface.{all-at, and-then, some-and}
 use Rattle.fsb_run_laws.specs.Reaches.{Reaches}
 use Rattle.fsb_script.specs.Bounds.{is_lawful_item, is_lawful_script, is_lock_size}
-use Rattle.fsb_timely.specs.Completions.{is_in_time}
 use Rattle.fsb_timely.specs.Growth.{GoesOn, GrowsTo}
 use Rattle.fsb_timely.specs.Hits.{is_hit, is_served}
 use Rattle.fsb_timely.specs.Past.{Past}
 use Rattle.fsb_timely.specs.Runs.{Run, past_of}
 use Rattle.fsb_timely.specs.Scripts.{is_done_at, is_done_by, is_idle, is_idling, is_logged, is_logged_at, is_to_do, items_of, last_done, needs_of, next_item, next_number}
 use Rattle.fsb_timely.proofs.Interface.{at, is_hit-alike, last_where-found, last_where-from, next_number-alike, not-behind, past-goes_on}
-use Rattle.fsb_bench_view.specs.BenchSteps.{step_fetched, step_performed}
+use Rattle.fsb_bench_view.specs.BenchSteps.{step_fetched}
 use Rattle.fsb_bench_view.specs.BusViews.{BenchView, next_clock_of}
 use Rattle.fsb_bench_view.specs.ToldAgents.{hit_entries}
 use Rattle.fsb_bench_run.specs.BenchOf.{IsBenchOf}
@@ -47,7 +44,7 @@ use Rattle.fsb_bench_run.proofs.EntriesNow.{new-on, old-off}
 use Rattle.fsb_bench_run.proofs.GrownPlaces.{get-behind, logged-alike}
 use Rattle.fsb_bench_run.proofs.GrownViews.{view-grown}
 use Rattle.fsb_bench_run.proofs.HitsCompleted.{AgentsFound}
-use Rattle.fsb_bench_run.proofs.NextRun.{AreOfClock, of-both}
+use Rattle.fsb_bench_run.proofs.NextRun.{AreOfClock}
 use Rattle.fsb_bench_run.proofs.RunWith.{run_with}
 
 -- the entries are those of the hits, and others of the clock, of agents without a hit
@@ -236,7 +233,8 @@ last-comes : (p : Past) (a n m : ℕ) (old new : List Done) → p.log ≡ old ++
 unfolding last_done is_logged_at is_done_by is_done_at is_some_and
 last-comes p a n m old new split now e =
     let some = any-there (λ (done : Done). is_done_at a n done && nat_eq done.item m) new e in
-    let parts = and_parts (nat_eq some.entry.agent a && nat_eq some.entry.clock n) (nat_eq some.entry.item m) some.passes in
+    let parts = and_parts (nat_eq some.entry.agent a && nat_eq some.entry.clock n) (nat_eq some.entry.item m)
+    some.passes in
     let mine = and_parts (nat_eq some.entry.agent a) (nat_eq some.entry.clock n) parts.0 in
     let clock : some.entry.clock ≡ n = eqb-true some.entry.clock n mine.1 in
     let place : ℕ = length old + some.place in
@@ -306,10 +304,12 @@ logs-hit v hold choice entries a w b grows first there hit =
     let before : is_hit (past_of r) a n ≡ true = hit-alike goes ∙ hit in
     let k = hit-next p a n hit in
     let numbers : AreNumbered 0 vs = λ j u e. (found.views j u e).agent.number ∙ omega arith in
-    let of_hits = own-hits a 0 a n vs w numbers there (omega arith) ∙ performed-own a n w view.agent.number (by_view ∙ hit)
+    let of_hits = own-hits a 0 a n vs w numbers there (omega arith)
+    ∙ performed-own a n w view.agent.number (by_view ∙ hit)
     ∙ next-told p a n w view k in
     let now : AreOfClock n (hit_entries n vs ++ first.others) = subst (AreOfClock n) first.split first.now in
-    let of_others = no-steps a n first.others (later-half n (hit_entries n vs) first.others now) (first.apart a before) in
+    let of_others = no-steps a n first.others (later-half n (hit_entries n vs) first.others now)
+    (first.apart a before) in
     let of_entries : steps_of a entries ≡ steps_of_item k.number k.item =
     ap (steps_of a) first.split ∙ steps-append a (hit_entries n vs) first.others ∙ (λ i. of_hits i ++ of_others i)
     ∙ append-nil (steps_of_item k.number k.item) in
@@ -317,11 +317,13 @@ logs-hit v hold choice entries a w b grows first there hit =
     let off = old-off 0 n r.log b.timely.in_time in
     let at_now : at n (r.log ++ entries) ≡ entries =
     filter-append (λ (done : Done). nat_eq done.clock n) r.log entries ∙ (λ i. off i ++ on i) in
-    let steps : steps_of a (at n (r.log ++ entries)) ≡ steps_of_item k.number k.item = ap (steps_of a) at_now ∙ of_entries in
+    let steps : steps_of a (at n (r.log ++ entries))
+    ≡ steps_of_item k.number k.item = ap (steps_of a) at_now ∙ of_entries in
     let whole : (m : ℕ) → is_logged_at p a n m
     ≡ list_any (λ (step : Step). nat_eq step.item m) (steps_of_item k.number k.item) =
     λ m. logged-steps a n m (r.log ++ entries) ∙ ap (list_any (λ (step : Step). nat_eq step.item m)) steps in
-    let lawful = script-lawful s.plan.scripts s.plan.cache a (slice_get s.plan.scripts a) refl b.bounds.lawful_scripts in
+    let lawful = script-lawful s.plan.scripts s.plan.cache a (slice_get s.plan.scripts a) refl
+    b.bounds.lawful_scripts in
     let item = all-at (is_lawful_item s.plan.cache) (items_of p a) k.number k.item lawful k.there in
     let some = has-access s.plan.cache k.number k.item item k.active in
     let alone : (m : ℕ) → is_logged_at p a n m ≡ true → m ≡ k.number =
@@ -353,7 +355,8 @@ logs-hit v hold choice entries a w b grows first there hit =
     }
   where
     hit-alike : GoesOn (next_clock_of v) (past_of v.run) (past_of (run_with v hold choice entries))
-        → is_hit (past_of v.run) a (next_clock_of v) ≡ is_hit (past_of (run_with v hold choice entries)) a (next_clock_of v)
+        → is_hit (past_of v.run) a (next_clock_of v)
+        ≡ is_hit (past_of (run_with v hold choice entries)) a (next_clock_of v)
     hit-alike goes = is_hit-alike (next_clock_of v) (past_of v.run) (past_of (run_with v hold choice entries)) a
         (next_clock_of v) goes (omega arith)
 

@@ -1,23 +1,18 @@
 -- Which agents keep the bus locked after a bench's clock, where its longer run is timely.
-use Rattle.std.proofs.Common.{ℕ, zero, suc, ◌+◌, ◌-◌, ◌<◌, ◌≤◌, ◌≡◌, ◌&&◌, ◌||◌, Bool, true, false, not, if◌then◌else◌, is_some, nat_eq, nat_le, nat_lt, List, [], ◌∷◌, ◌++◌, Option, Some, None, length, map, slice_get, refl, sym, ap, subst, ◌∙◌, inl, inr, arith}
+use Rattle.std.proofs.Common.{ℕ, zero, suc, ◌+◌, ◌-◌, ◌<◌, ◌≡◌, ◌&&◌, ◌||◌, Bool, true, false, not, if◌then◌else◌, is_some, nat_eq, nat_le, nat_lt, List, [], ◌∷◌, Option, Some, None, length, slice_get, refl, sym, ap, subst, ◌∙◌, inl, inr, arith}
 use Rattle.std.specs.List.{find, list_all, list_any}
 use Rattle.std.specs.Option.{option_and_then, option_map, option_map_or}
-use Rattle.std.proofs.lemmas.Bool.{and_from, and_parts, both_ways, cases_Bool, eq-eqb, eqb-true, false_from_ne_true, le-leb, ne_eqb, ltb-true}
+use Rattle.std.proofs.lemmas.Bool.{and_parts, both_ways, cases_Bool, eq-eqb, eqb-true, false_from_ne_true, le-leb, ne_eqb, ltb-true}
 use Rattle.std.proofs.lemmas.List.Folds.{list_any-append}
 use Rattle.std.proofs.lemmas.Option.{slice_get-map, slice_get_within}
 use Rattle.fsb_access.specs.ScriptOrder.{script_of}
-use Rattle.fsb_access.specs.declared.item.Item.{Item}
 use Rattle.fsb_access.specs.declared.log.Done.{Done}
-use Rattle.fsb_coherent.specs.Awaits.{responded_in}
 use Rattle.fsb_count.specs.Clocks.{all_where, count_where, nth_where}
 use Rattle.fsb_count.specs.Options.{is_some_and}
 use Rattle.fsb_count.proofs.Interface.{nth_where-at}
 use Rattle.fsb_encode.specs.declared.request.Request.{Request}
 use Rattle.fsb_hazard.specs.declared.choice.Choice.{Choice}
-use Rattle.fsb_phase.specs.Due.{has_response}
-use Rattle.fsb_phase.specs.Drive.{drive_of}
 use Rattle.fsb_phase.proofs.Interface.{find-cases, find-off, find-place}
-use Rattle.fsb_phase_run.specs.Responding.{responding_of}
 use Rattle.fsb_phase_run.proofs.Interface.{code-shown, longer, responded-now, retried-now}
 use Rattle.fsb_queue.specs.declared.entry.Entry.{Entry}
 use Rattle.fsb_signal.specs.declared.lines.TheConstants.Lines.{ADS, AERR}
@@ -25,29 +20,27 @@ use Rattle.fsb_signal.specs.Samples.{line_at, response_of}
 use Rattle.fsb_signal.proofs.Interface.{slice_get-before}
 use Rattle.fsb_timely.specs.BusLock.{ends_locked_item, is_begun_by, is_lock_cancelled, is_lock_retried, is_locked_request, is_release, keeps_lock}
 use Rattle.fsb_timely.specs.Completions.{is_in_time}
-use Rattle.fsb_timely.specs.Growth.{GrowsTo}
 use Rattle.fsb_timely.specs.Moments.{cancelled_at}
-use Rattle.fsb_timely.specs.Past.{Moment, Past}
+use Rattle.fsb_timely.specs.Past.{Past}
 use Rattle.fsb_timely.specs.Runs.{Run, past_of, requests_below}
 use Rattle.fsb_timely.specs.Scripts.{is_locked, items_of}
 use Rattle.fsb_timely.specs.Timely.{Timely}
 use Rattle.fsb_timely.proofs.Interface.{cancelled-told}
 use Rattle.fsb_trace.specs.At.{Trace}
-use Rattle.fsb_trace.specs.Winner.{winner_at}
 use Rattle.fsb_trace.specs.declared.who.Who.{Who}
 use Rattle.fsb_trace.specs.declared.who.Who.TheVariants.{Symmetric, Priority}
 use Rattle.fsb_bench_view.specs.declared.beginning.Started.{Started}
 use Rattle.fsb_bench_view.specs.declared.beginning.Starting.{Starting}
-use Rattle.fsb_bench_view.specs.BenchSteps.{bench_stepped, step_decided, step_drive, step_ended, step_entries, step_performed, step_releases, step_run, step_sample}
+use Rattle.fsb_bench_view.specs.BenchSteps.{bench_stepped, step_decided, step_drive, step_ended, step_entries, step_performed, step_releases, step_run}
 use Rattle.fsb_bench_view.specs.BusDecisions.{is_cancelled_by}
 use Rattle.fsb_bench_view.specs.BusLocking.{completes_lock, is_locked_of, is_locked_start, is_locking, is_of, is_released, is_retry, keeps_after, keeps_in, retried_by}
 use Rattle.fsb_bench_view.specs.BusViews.{BenchView, next_clock_of}
-use Rattle.fsb_bench_run.specs.BenchOf.{HasStarted, IsBegunAt, IsBenchOf}
+use Rattle.fsb_bench_run.specs.BenchOf.{IsBegunAt, IsBenchOf}
 use Rattle.fsb_bench_run.specs.LocksHeld.{keeps_into, kept_into}
 use Rattle.fsb_bench_run.proofs.AdsGrown.{ads-old, size-suc}
 use Rattle.fsb_bench_run.proofs.BegunStays.{begun-stays}
 use Rattle.fsb_bench_run.proofs.DrivenLines.{aerr-driven, line-with}
-use Rattle.fsb_bench_run.proofs.LockNow.{agent-begins, begun-ads, keeps_lock-into, locked-begins, same-bools, some-there}
+use Rattle.fsb_bench_run.proofs.LockNow.{agent-begins, begun-ads, keeps_lock-into, locked-begins}
 use Rattle.fsb_bench_run.proofs.LockedStarts.{begun-by-agent, locked-start}
 use Rattle.fsb_bench_run.proofs.LocksStay.{keeps_into-grown}
 use Rattle.fsb_bench_run.proofs.NextRun.{AreOfClock, entries-now, grows-to}
@@ -73,7 +66,8 @@ is-own a Priority e = absurd (let no : ⊥ = cc in no)
 own-is : (a : ℕ) → is_of a (Symmetric a) ≡ true
 own-is a = eq-eqb a a refl
 
-unowned : (s : Run) (a q : ℕ) (who : Who) (request : Request) → q < length s.trace → is_of a who ≡ false → IsBegunAt s q who request
+unowned : (s : Run) (a q : ℕ) (who : Who) (request : Request) → q < length s.trace → is_of a who ≡ false
+    → IsBegunAt s q who request
     → is_locked_request (past_of s) a q ≡ false
 unowned s a q who request l off begun =
     false_from_ne_true (is_locked_request (past_of s) a q) (λ t.
@@ -84,7 +78,8 @@ unowned s a q who request l off begun =
 
 -- an agent begins a locked request exactly where the run says so
 locking-told : (v : BenchView) (hold : Bool) (choice : Choice) (a : ℕ) → IsBenchOf v
-    → is_locking (step_decided v hold).starting a ≡ is_locked_request (past_of (step_run v hold choice)) a (next_clock_of v)
+    → is_locking (step_decided v hold).starting a
+    ≡ is_locked_request (past_of (step_run v hold choice)) a (next_clock_of v)
 unfolding is_some_and
 locking-told v hold choice a b =
     let s = step_run v hold choice in
@@ -95,7 +90,8 @@ locking-told v hold choice a b =
   where
     by : (o : Option Starting) → (step_decided v hold).starting ≡ o → IsStepWith v hold choice (step_entries v hold)
         → is_locking o a ≡ is_locked_request (past_of (step_run v hold choice)) a (next_clock_of v)
-    by None e k = sym (false_from_ne_true (is_locked_request (past_of (step_run v hold choice)) a (next_clock_of v)) (λ t.
+    by None e k = sym
+        (false_from_ne_true (is_locked_request (past_of (step_run v hold choice)) a (next_clock_of v)) (λ t.
         let s = step_run v hold choice in
         let size = longer v.run s k.grows in
         let ads = begun-ads s a (next_clock_of v) (omega arith) (locked-begins (past_of s) a (next_clock_of v) t) in
@@ -136,7 +132,8 @@ locked-entry v hold choice a k e b at =
     let within : e.clock < n = here.within in
     let begun = b.entries.begun k e at in
     let number : e.number ≡ count_where (line_at ADS r.trace) e.clock = b.requests.entries.numbered k e at in
-    let there : slice_get (all_where (line_at ADS r.trace) n) (count_where (line_at ADS r.trace) e.clock) ≡ Some e.clock =
+    let there : slice_get (all_where (line_at ADS r.trace) n) (count_where (line_at ADS r.trace) e.clock)
+    ≡ Some e.clock =
     nth_where-at (line_at ADS r.trace) n e.clock within begun.begins in
     let clocks : option_map (λ (x : Started). x.clock) (slice_get v.bus.started e.number) ≡ Some e.clock =
     sym (slice_get-map (λ (x : Started). x.clock) v.bus.started e.number)
@@ -170,7 +167,8 @@ some-told (Some e) f g same = same e refl
 -- what is retried
 retried-at : (rs : ℕ) (o : Option Entry) (e : Entry)
     → (if nat_eq rs 0 then None
-    else option_and_then (λ (entry : Entry). if is_some_and entry.outcome is_retry then Some entry else None) o) ≡ Some e
+    else option_and_then (λ (entry : Entry). if is_some_and entry.outcome is_retry then Some entry else None)
+    o) ≡ Some e
     → o ≡ Some e
 retried-at rs o e f = by (nat_eq rs 0) o f
   where
@@ -179,7 +177,8 @@ retried-at rs o e f = by (nat_eq rs 0) o f
     kept false x g = absurd (let no : ⊥ = cc in no)
 
     by : (b : Bool) (o : Option Entry) → (if b then None
-        else option_and_then (λ (entry : Entry). if is_some_and entry.outcome is_retry then Some entry else None) o) ≡ Some e
+        else option_and_then (λ (entry : Entry). if is_some_and entry.outcome is_retry then Some entry else None)
+        o) ≡ Some e
         → o ≡ Some e
     by true o g = absurd (let no : ⊥ = cc in no)
     by false None g = absurd (let no : ⊥ = cc in no)
@@ -202,7 +201,8 @@ retried-told v hold choice a b timely =
     responds-first r s queue k e grows timely b.requests at
     (responds ∙ ap (option_map (λ (x : Entry). x.clock)) found)) in
     let moment = retried-now r s queue grows b.requests code in
-    some-told (retried_by v.bus (step_drive v)) (is_locked_of (step_ended v hold).started a) (is_locked_request (past_of s) a)
+    some-told (retried_by v.bus (step_drive v)) (is_locked_of (step_ended v hold).started a)
+    (is_locked_request (past_of s) a)
     (λ e is. locked-entry v hold choice a 0 e b (retried-at (step_drive v).rs (slice_get queue 0) e is))
     ∙ ap (λ o. is_some_and o (is_locked_request (past_of s) a)) (first ∙ sym moment)
 
@@ -225,7 +225,8 @@ cancelled-none w n e =
     by false = refl
 
 cancelled-is : (v : BenchView) (hold : Bool) (choice : Choice) → IsBenchOf v
-    → option_map (λ (x : Entry). x.clock) (step_decided v hold).cancelled ≡ cancelled_at (step_run v hold choice).trace (next_clock_of v)
+    → option_map (λ (x : Entry). x.clock) (step_decided v hold).cancelled
+    ≡ cancelled_at (step_run v hold choice).trace (next_clock_of v)
 cancelled-is v hold choice b =
     let r = v.run in
     let s = step_run v hold choice in
@@ -272,7 +273,8 @@ lock-cancelled v hold choice a b =
     let s = step_run v hold choice in
     let n = next_clock_of v in
     let size = longer v.run s (grows-to v hold choice b) in
-    some-told (step_decided v hold).cancelled (is_locked_of (step_ended v hold).started a) (is_locked_request (past_of s) a)
+    some-told (step_decided v hold).cancelled (is_locked_of (step_ended v hold).started a)
+    (is_locked_request (past_of s) a)
     (λ e is. let at = cancelled-entry v hold e is in locked-entry v hold choice a at.0 e b at.1)
     ∙ ap (λ o. is_some_and o (is_locked_request (past_of s) a))
     (cancelled-is v hold choice b ∙ sym (cancelled-told s n (omega arith)))
@@ -295,11 +297,13 @@ ends-there p a n [] e = refl
 ends-there p a n (done ∷ entries) e =
     let parts = and_parts (nat_eq done.clock n) (list_all (λ (d : Done). nat_eq d.clock n) entries) e in
     let rest = ends-there p a n entries parts.1 in
-    rw (parts.0, ends_locked_item) (λ i. (nat_eq done.agent a && is_some_and (slice_get (script_of p.plan.scripts a) done.item) is_locked) || rest i)
+    rw (parts.0, ends_locked_item)
+    (λ i. (nat_eq done.agent a && is_some_and (slice_get (script_of p.plan.scripts a) done.item) is_locked) || rest i)
 
 lock-completed : (v : BenchView) (hold : Bool) (choice : Choice) (a : ℕ) → IsBenchOf v
     → list_any (completes_lock v.run.plan.scripts a) (step_entries v hold)
-    ≡ list_any (ends_locked_item (past_of (step_run v hold choice)) a (next_clock_of v)) (past_of (step_run v hold choice)).log
+    ≡ list_any (ends_locked_item (past_of (step_run v hold choice)) a (next_clock_of v))
+    (past_of (step_run v hold choice)).log
 unfolding past_of
 lock-completed v hold choice a b =
     let p = past_of (step_run v hold choice) in
@@ -340,7 +344,8 @@ or-swap false true = refl
 or-swap false false = refl
 
 -- an agent keeps the bus locked after the clock exactly where it does in the longer run
-keeps-next : (v : BenchView) (hold : Bool) (choice : Choice) (a : ℕ) → a < 4 → IsBenchOf v → Timely (step_run v hold choice)
+keeps-next : (v : BenchView) (hold : Bool) (choice : Choice) (a : ℕ) → a < 4 → IsBenchOf v
+    → Timely (step_run v hold choice)
     → keeps_after v.run.plan.scripts (step_ended v hold) (step_decided v hold).starting (step_releases v hold) a
     ≡ keeps_into (past_of (step_run v hold choice)) (suc (next_clock_of v)) a
 keeps-next v hold choice a few b timely =
@@ -354,7 +359,8 @@ keeps-next v hold choice a few b timely =
     let locking = locking-told v hold choice a b in
     let released = released-told v hold choice a b timely in
     (λ i. (kept i || locking i) && not (released i))
-    ∙ ap (λ b. b && not (is_release p a n)) (or-swap (keeps_into p n a) (is_locked_request p a n) ∙ sym (keeps_lock-into p n a))
+    ∙ ap (λ b. b && not (is_release p a n))
+    (or-swap (keeps_into p n a) (is_locked_request p a n) ∙ sym (keeps_lock-into p n a))
     ∙ sym (into-next p n a)
 
 -- so the locks of the bench after the clock are those of the longer run

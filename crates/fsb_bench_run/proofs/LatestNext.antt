@@ -1,31 +1,23 @@
 -- The request that began last, and those that have begun, after the clock.
-use Rattle.std.proofs.Common.{ℕ, zero, suc, ◌+◌, ◌<◌, ◌≤◌, ◌≡◌, ◌⊎◌, Bool, true, false, not, Option, Some, None, List, [], ◌∷◌, ◌++◌, is_some, length, map, slice_get, if◌then◌else◌, add-one, append-nil, refl, sym, ap, subst, ◌∙◌, arith, inl, inr}
-use Rattle.std.specs.Option.{option_and_then, option_map, option_map_or}
-use Rattle.std.proofs.lemmas.Bool.{cases_Bool, both_ways}
-use Rattle.std.proofs.lemmas.List.{length-append}
-use Rattle.std.proofs.lemmas.Option.{slice_get-map}
-use Rattle.fsb_count.specs.Clocks.{AgreeBelow, all_where, last_where}
-use Rattle.fsb_count.proofs.Interface.{all_where-failed, all_where-passed, last_where-failed, last_where-passed, nth_where-found, slice_get-push}
+use Rattle.std.proofs.Common.{◌≡◌, Bool, true, false, Option, Some, None, is_some, length, refl, sym, ap, subst, ◌∙◌}
+use Rattle.std.specs.Option.{option_map}
+use Rattle.fsb_count.specs.Clocks.{last_where}
 use Rattle.fsb_hazard.specs.declared.choice.Choice.{Choice}
-use Rattle.fsb_phase_run.proofs.Interface.{agree-grown, longer}
 use Rattle.fsb_signal.specs.declared.lines.TheConstants.Lines.{ADS}
 use Rattle.fsb_signal.specs.Samples.{line_at}
-use Rattle.fsb_timely.specs.BusLock.{is_begun_by, is_locked_request}
 use Rattle.fsb_timely.specs.Growth.{GrowsTo}
-use Rattle.fsb_timely.specs.Runs.{Run, past_of}
-use Rattle.fsb_trace.proofs.Interface.{AgreeTo-sym, line_at-agree}
+use Rattle.fsb_timely.specs.Runs.{Run}
 use Rattle.fsb_bench_view.specs.declared.beginning.Latest.{Latest}
-use Rattle.fsb_bench_view.specs.declared.beginning.Started.{Started}
 use Rattle.fsb_bench_view.specs.declared.beginning.Starting.{Starting}
 use Rattle.fsb_bench_view.specs.BenchSteps.{bench_stepped, step_decided, step_entries, step_run}
-use Rattle.fsb_bench_view.specs.BusViews.{BenchView, next_clock_of}
-use Rattle.fsb_bench_run.specs.BenchOf.{HasStarted, IsBegunAt, IsBenchOf, IsLatestOf}
-use Rattle.fsb_bench_run.proofs.AdsGrown.{ads-old, last-below, last-more}
+use Rattle.fsb_bench_view.specs.BusViews.{BenchView}
+use Rattle.fsb_bench_run.specs.BenchOf.{IsBegunAt, IsBenchOf, IsLatestOf}
+use Rattle.fsb_bench_run.proofs.AdsGrown.{last-below, last-more}
 use Rattle.fsb_bench_run.proofs.BegunStays.{begun-stays}
 use Rattle.fsb_bench_run.proofs.NextRun.{begins-now, grows-to}
 use Rattle.fsb_bench_run.proofs.StartingNow.{starting-begins}
 use Rattle.fsb_bench_run.proofs.StepEntries.{step-with}
-use Rattle.fsb_bench_run.proofs.StepFields.{latest-stepped, latest_after, started-stepped, started_after}
+use Rattle.fsb_bench_run.proofs.StepFields.{latest-stepped, latest_after}
 
 -- the request that began last is the last one of the longer run
 latest-by : (r s : Run) (latest : Option Latest) (o : Option Starting) → GrowsTo r s → IsLatestOf latest r

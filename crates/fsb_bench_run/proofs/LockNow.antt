@@ -1,13 +1,11 @@
 -- LOCK# of the clock, and which agents keep the bus locked into it.
-use Rattle.std.proofs.Common.{ℕ, zero, suc, ◌+◌, ◌-◌, ◌<◌, ◌≤◌, ◌≡◌, ◌⊎◌, ◌&&◌, ◌||◌, Bool, true, false, not, nat_eq, nat_le, Option, Some, None, List, [], ◌∷◌, ◌++◌, is_some, length, if◌then◌else◌, slice_get, add-one, refl, sym, ap, subst, ◌∙◌, arith, inl, inr}
+use Rattle.std.proofs.Common.{ℕ, zero, suc, ◌+◌, ◌-◌, ◌<◌, ◌≡◌, ◌&&◌, ◌||◌, Bool, true, false, not, Option, Some, None, List, is_some, length, if◌then◌else◌, refl, sym, ap, subst, ◌∙◌, arith, inl, inr}
 use Rattle.std.specs.Bool.{beq}
 use Rattle.std.specs.List.{list_any}
-use Rattle.std.specs.Option.{option_and_then, option_map}
-use Rattle.std.proofs.lemmas.Bool.{both_ways, cases_Bool, eq-eqb, le-leb, or_cases, or_left, or_right}
+use Rattle.std.proofs.lemmas.Bool.{both_ways, eq-eqb, le-leb, or_cases, or_left, or_right}
 use Rattle.fsb_count.specs.Clocks.{any_where, holds_since, last_where}
 use Rattle.fsb_count.specs.Options.{is_some_and}
 use Rattle.fsb_count.proofs.Interface.{any_where-at, any_where-found, holds_since-more}
-use Rattle.fsb_bridge.specs.declared.deferral.Deferral.{Deferral}
 use Rattle.fsb_hazard.specs.declared.choice.Choice.{Choice}
 use Rattle.fsb_lawful.proofs.Interface.{get-there}
 use Rattle.fsb_phase_run.proofs.Interface.{longer}
@@ -16,13 +14,11 @@ use Rattle.fsb_signal.specs.Samples.{line_at}
 use Rattle.fsb_tied.proofs.Interface.{winner-four}
 use Rattle.fsb_timely.specs.BusLock.{drives_lock, is_begun_by, is_locked_request, is_release, is_released_before, keeps_lock}
 use Rattle.fsb_timely.specs.Grants.{begun_at}
-use Rattle.fsb_timely.specs.Growth.{GrowsTo}
 use Rattle.fsb_timely.specs.Moments.{agent_at, claim_at}
-use Rattle.fsb_timely.specs.Past.{Claim, Past}
+use Rattle.fsb_timely.specs.Past.{Past}
 use Rattle.fsb_timely.specs.Runs.{Run, past_of}
 use Rattle.fsb_timely.specs.Timely.{holds_at}
 use Rattle.fsb_timely.proofs.Interface.{begun-told}
-use Rattle.fsb_trace.specs.At.{Trace}
 use Rattle.fsb_trace.specs.Requests.{line_of}
 use Rattle.fsb_trace.specs.Winner.{winner_at}
 use Rattle.fsb_trace.specs.declared.who.Who.{Who}
@@ -39,7 +35,7 @@ use Rattle.fsb_bench_run.specs.LocksHeld.{keeps_into, kept_into}
 use Rattle.fsb_bench_run.proofs.DrivenLines.{line-with, lock-driven}
 use Rattle.fsb_bench_run.proofs.LockedStarts.{locked-start}
 use Rattle.fsb_bench_run.proofs.LocksStay.{keeps_into-grown}
-use Rattle.fsb_bench_run.proofs.StartingNow.{mapped-some, starting-begins, starting-parts, wanted-parts, winner-grown}
+use Rattle.fsb_bench_run.proofs.StartingNow.{mapped-some, starting-begins, starting-parts, wanted-parts}
 use Rattle.fsb_bench_run.proofs.StepFields.{performed-begun}
 use Rattle.fsb_bench_run.proofs.ThisClock.{holds-now}
 use Rattle.fsb_access.specs.declared.log.Done.{Done}

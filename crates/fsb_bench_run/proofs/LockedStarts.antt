@@ -1,7 +1,7 @@
 -- The request that begins at the clock is a locked one exactly where the run says so.
-use Rattle.std.proofs.Common.{ℕ, ◌+◌, ◌<◌, ◌≤◌, ◌≡◌, Bool, true, false, nat_eq, Option, Some, None, is_some, length, if◌then◌else◌, slice_get, refl, sym, ap, subst, ◌∙◌, arith, inl, inr, List}
-use Rattle.std.specs.Option.{option_and_then, option_map}
-use Rattle.std.proofs.lemmas.Bool.{cases_Bool, eqb-true}
+use Rattle.std.proofs.Common.{ℕ, ◌<◌, ◌≡◌, Bool, true, false, nat_eq, Option, Some, None, length, if◌then◌else◌, refl, sym, ap, ◌∙◌, arith, List}
+use Rattle.std.specs.Option.{option_map}
+use Rattle.std.proofs.lemmas.Bool.{eqb-true}
 use Rattle.fsb_agent_view.specs.declared.want.Want.{Want}
 use Rattle.fsb_count.specs.Options.{is_some_and}
 use Rattle.fsb_hazard.specs.declared.choice.Choice.{Choice}
@@ -11,7 +11,6 @@ use Rattle.fsb_signal.specs.Samples.{line_at}
 use Rattle.fsb_tied.proofs.Interface.{winner-four}
 use Rattle.fsb_timely.specs.BusLock.{is_begun_by, is_locked_request, wants_lock}
 use Rattle.fsb_timely.specs.Grants.{begun_at}
-use Rattle.fsb_timely.specs.Growth.{GrowsTo}
 use Rattle.fsb_timely.specs.Moments.{agent_at, claim_at}
 use Rattle.fsb_timely.specs.Past.{Claim, Past}
 use Rattle.fsb_timely.specs.Runs.{Run, past_of, past_to}
@@ -22,17 +21,16 @@ use Rattle.fsb_trace.specs.Winner.{winner_at}
 use Rattle.fsb_trace.specs.declared.who.Who.{Who}
 use Rattle.fsb_trace.specs.declared.who.Who.TheVariants.{Symmetric, Priority}
 use Rattle.fsb_bench_view.specs.declared.beginning.Starting.{Starting}
-use Rattle.fsb_bench_view.specs.declared.decided.AskedFor.{AskedFor}
 use Rattle.fsb_bench_view.specs.BenchSteps.{step_decided, step_performed, was_held_at}
 use Rattle.fsb_bench_view.specs.BusDecisions.{asked_by}
-use Rattle.fsb_bench_view.specs.BusStarting.{starting_for, starting_reply, want_in}
+use Rattle.fsb_bench_view.specs.BusStarting.{starting_for, want_in}
 use Rattle.fsb_bench_view.specs.BusViews.{BenchView, next_clock_of}
 use Rattle.fsb_bench_run.proofs.AskedNow.{locked-told}
 use Rattle.fsb_bench_run.proofs.StartingNow.{and-some, mapped-some, starting-parts, wanted-parts, winner-grown}
 use Rattle.fsb_bench_run.proofs.ThisClock.{past-now}
 use Rattle.fsb_access.specs.declared.log.Done.{Done}
 use Rattle.fsb_bench_run.proofs.RunWith.{run_with}
-use Rattle.fsb_bench_run.proofs.StepWith.{IsStepWith, begins-with}
+use Rattle.fsb_bench_run.proofs.StepWith.{IsStepWith}
 
 -- the winner's claim is that of the agent
 agent-won : (w : Trace) (q a : ℕ) (o : Option Who) → winner_at w q ≡ o → agent_at w q ≡ Some a → o ≡ Some (Symmetric a)

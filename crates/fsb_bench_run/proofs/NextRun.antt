@@ -1,14 +1,13 @@
 -- The run with one more clock of a bench goes on from the run.
-use Rattle.std.proofs.Common.{ℕ, suc, slice_get, if◌then◌else◌, ◌+◌, ◌<◌, ◌≡◌, Bool, true, false, nat_eq, is_some, Option, Some, None, List, [], ◌∷◌, ◌++◌, length, refl, sym, ap, ◌∙◌, arith}
+use Rattle.std.proofs.Common.{ℕ, slice_get, if◌then◌else◌, ◌+◌, ◌≡◌, Bool, true, false, nat_eq, is_some, Option, Some, None, List, [], ◌∷◌, ◌++◌, length, refl, sym, ap, ◌∙◌, arith}
 use Rattle.std.specs.List.{list_all}
 use Rattle.std.specs.Option.{option_map_or}
 use Rattle.std.proofs.lemmas.Bool.{and_from, and_parts, eq-eqb}
 use Rattle.std.proofs.lemmas.List.{length-append}
 use Rattle.fsb_access.specs.ScriptOrder.{Step}
 use Rattle.fsb_access.specs.declared.log.Done.{Done}
-use Rattle.fsb_agent_view.specs.AgentEvents.{Arrived, Committed, GivenUp, HandedOn, Performed, Sent, UpgradeEnded}
 use Rattle.fsb_agent_view.specs.AgentViews.{AgentView}
-use Rattle.fsb_agent_view.specs.Arriving.{arrived_entries, ended_entries_for, is_arrival_by, met_entries, upgrade_entries, with_bytes}
+use Rattle.fsb_agent_view.specs.Arriving.{ended_entries_for, is_arrival_by, met_entries, with_bytes}
 use Rattle.fsb_agent_view.specs.Completing.{completed_entries, is_hit_by, performed_entries}
 use Rattle.fsb_agent_view.specs.OwnRequests.{request_numbered}
 use Rattle.fsb_agent_view.specs.Serving.{AtHand, entries_at_hand, hand_after}

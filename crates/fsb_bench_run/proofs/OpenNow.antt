@@ -1,5 +1,5 @@
 -- Which requests of others are open at a bench's clock: those of the queue that have no outcome.
-use Rattle.std.proofs.Common.{ℕ, zero, suc, ◌+◌, ◌/◌, ◌<◌, ◌≤◌, ◌≡◌, ◌&&◌, ◌||◌, Bool, true, false, not, if◌then◌else◌, is_none, is_some, nat_eq, List, [], ◌∷◌, ◌++◌, Option, Some, None, length, map, slice_get, take, refl, sym, ap, subst, ◌∙◌, arith, inl, inr, add-one}
+use Rattle.std.proofs.Common.{ℕ, zero, suc, ◌+◌, ◌/◌, ◌<◌, ◌≤◌, ◌≡◌, ◌&&◌, ◌||◌, Bool, true, false, not, if◌then◌else◌, is_none, is_some, nat_eq, List, [], ◌∷◌, Option, Some, None, length, map, slice_get, take, refl, sym, ap, ◌∙◌, arith, inl, inr}
 use Rattle.std.specs.List.{filter, filter_map, list_any}
 use Rattle.std.specs.Option.{option_and_then, option_map, option_map_or}
 use Rattle.std.proofs.lemmas.Bool.{cases_Bool, eq-eqb, eqb-true}
@@ -19,15 +19,12 @@ use Rattle.fsb_queue.specs.declared.entry.Entry.{Entry}
 use Rattle.fsb_run_laws.specs.Reaches.{Reaches}
 use Rattle.fsb_run_laws.specs.RunSteps.{owing_begun}
 use Rattle.fsb_run_laws.proofs.Interface.{begun-wanted}
-use Rattle.fsb_signal.specs.declared.lines.TheConstants.Lines.{ADS}
-use Rattle.fsb_signal.specs.Samples.{line_at}
 use Rattle.fsb_timely.specs.Grants.{begun_at, is_claim_of_other, snooped_at}
 use Rattle.fsb_timely.specs.Growth.{GrowsTo}
 use Rattle.fsb_timely.specs.Moments.{agent_at, claim_at, is_snoop_of, is_snooped_in, is_unsnooped, moment_at}
 use Rattle.fsb_timely.specs.Past.{Claim, Moment, Owing, Past, SnoopEnd}
 use Rattle.fsb_timely.specs.Runs.{Run, moments_below, past_of, past_to, run_to}
 use Rattle.fsb_timely.specs.Starts.{would_begin}
-use Rattle.fsb_timely.specs.Tied.{IsSnoopOf}
 use Rattle.fsb_timely.specs.Wants.{is_open_to_other, unsnooped_at, want_of}
 use Rattle.fsb_timely.proofs.Interface.{begun-told, below_le, done_below, moment-at, moment_of, past-begins, snoop-tied, tied-snoop, want_of-alike}
 use Rattle.fsb_trace.specs.At.{Trace}
@@ -40,7 +37,7 @@ use Rattle.fsb_trace.specs.declared.who.Who.TheVariants.{Symmetric, Priority}
 use Rattle.fsb_bench_view.specs.BenchSteps.{step_performed}
 use Rattle.fsb_bench_view.specs.BusStarting.{is_of_other, is_open_of_other}
 use Rattle.fsb_bench_view.specs.BusViews.{BenchView, next_clock_of}
-use Rattle.fsb_bench_run.specs.BenchOf.{IsBegunAt, IsBenchOf}
+use Rattle.fsb_bench_run.specs.BenchOf.{IsBegunAt}
 use Rattle.fsb_bench_run.proofs.LocksStay.{moments-old}
 use Rattle.fsb_bench_run.proofs.RunWith.{run_with}
 use Rattle.fsb_bench_run.proofs.SameBus.{same-performed}
@@ -67,7 +64,8 @@ any-over g t f h (x ∷ queue) each =
   where
     by : (o : Option Claim) → g x.clock ≡ o → is_some_and (g x.clock) f ≡ h x
         → list_any f (filter_map g (filter t (map (λ (x : Entry). x.clock) queue))) ≡ list_any h queue
-        → list_any f (filter_map g (x.clock ∷ filter t (map (λ (x : Entry). x.clock) queue))) ≡ (h x || list_any h queue)
+        → list_any f (filter_map g (x.clock ∷ filter t (map (λ (x : Entry). x.clock) queue)))
+        ≡ (h x || list_any h queue)
     by None e some rest =
         let off : false ≡ h x = sym (ap (λ o. is_some_and o f) e) ∙ some in
         rw e (rest ∙ (λ i. off i || list_any h queue))
@@ -185,11 +183,13 @@ other-told r q a line (Symmetric b) request h k =
     let agent = claim.2 in
     let same = claim-line r q b request claim.0 h k claim.1 in
     rw claim.1 (λ i. not (nat_eq (agent i) a) && nat_eq (same i) line)
-other-told r q a line Priority request h k = ap (λ o. is_some_and o (is_claim_of_other a line)) (no-claim r.trace q k.winner)
+other-told r q a line Priority request h k = ap (λ o. is_some_and o (is_claim_of_other a line))
+    (no-claim r.trace q k.winner)
 
 -- the open requests as the clock before left them
 open-list : (r : Run) (c : ℕ) → suc c ≡ length r.trace → unsnooped_at (past_of r) (suc c)
-    ≡ filter_map (claim_at r.trace) (filter (λ q. not (is_snooped_in (past_of r).moments q)) (in_flight r.trace (length r.trace)))
+    ≡ filter_map (claim_at r.trace)
+    (filter (λ q. not (is_snooped_in (past_of r).moments q)) (in_flight r.trace (length r.trace)))
 unfolding unsnooped_at past_of moment_at is_unsnooped run_to moments_below is_snooped_in
 open-list r c e =
     let n = length r.trace in
@@ -231,7 +231,8 @@ open-at : (r : Run) (a line n : ℕ) (queue : List Entry) → n ≡ length r.tra
 open-at r a line zero queue size h holds begun = empty-open r a line queue size holds.flight.clocks
 open-at r a line (suc c) queue size h holds begun =
     let t : ℕ → Bool = λ q. not (is_snooped_in (past_of r).moments q) in
-    ap (list_any (is_claim_of_other a line)) (open-list r c size ∙ ap (λ qs. filter_map (claim_at r.trace) (filter t qs)) (sym holds.flight.clocks))
+    ap (list_any (is_claim_of_other a line))
+    (open-list r c size ∙ ap (λ qs. filter_map (claim_at r.trace) (filter t qs)) (sym holds.flight.clocks))
     ∙ any-over (claim_at r.trace) t (is_claim_of_other a line) (is_open_of_other a line) queue (λ k e at.
     let here = held-here r queue k e holds at in
     let within = here.within in
@@ -249,7 +250,8 @@ open-at r a line (suc c) queue size h holds begun =
     swap false true false = refl
     swap false false z = refl
 
-unsnooped-old : (r s : Run) (n : ℕ) → GrowsTo r s → n ≤ length r.trace → unsnooped_at (past_of s) n ≡ unsnooped_at (past_of r) n
+unsnooped-old : (r s : Run) (n : ℕ) → GrowsTo r s → n ≤ length r.trace
+    → unsnooped_at (past_of s) n ≡ unsnooped_at (past_of r) n
 unfolding unsnooped_at
 unsnooped-old r s zero grows l = refl
 unsnooped-old r s (suc c) grows l =

@@ -1,41 +1,19 @@
 -- The address and REQ words of the clock are those that are due.
-use Rattle.std.proofs.Common.{ℕ, zero, suc, ◌+◌, ◌-◌, ◌*◌, ◌%◌, ◌^◌, ◌<◌, ◌≤◌, ◌≡◌, ◌⊎◌, ◌&&◌, ◌==◌, Bool, true, false, not, nat_eq, nat_le, nat_lt, Option, Some, None, List, [], ◌∷◌, ◌++◌, is_some, length, if◌then◌else◌, slice_get, refl, sym, ap, subst, ◌∙◌, arith, inl, inr}
-use Rattle.std.specs.Option.{option_and_then, option_map, option_map_or}
-use Rattle.std.proofs.lemmas.Bool.{and_from, and_parts, both_ways, cases_Bool, eq-eqb, eqb-false, eqb-true, false_from_ne_true, le-leb, leb-true, ltb-true}
-use Rattle.std.proofs.Math.Nat.{mod-eq_of_lt}
-use Rattle.fsb_count.specs.Clocks.{last_where}
+use Rattle.std.proofs.Common.{ℕ, ◌≡◌, Bool, true, nat_eq, Some, List, refl, sym, subst}
+use Rattle.std.proofs.lemmas.Bool.{and_from, eq-eqb}
 use Rattle.fsb_count.specs.Options.{is_some_and}
 use Rattle.fsb_encode.specs.Decoded.{is_pair}
-use Rattle.fsb_encode.specs.Request.{are_lawful_fields, clocks, den_bit, high_bit, is_lawful_request, pairs_of, row_of}
-use Rattle.fsb_encode.specs.declared.request.Kind.{Kind}
-use Rattle.fsb_encode.specs.declared.request.Kind.TheVariants.{Reply, Invalidate, Read, WriteBack, Upgrade}
 use Rattle.fsb_encode.specs.declared.request.Pair.{Pair}
-use Rattle.fsb_encode.specs.declared.request.Request.{Request}
-use Rattle.fsb_encode.specs.declared.request.TheConstants.{A4, A5, A16}
-use Rattle.fsb_lawful.specs.Beginning.{KeepsBounds}
 use Rattle.fsb_hazard.specs.declared.choice.Choice.{Choice}
-use Rattle.fsb_laws.proofs.Interface.{one_more}
-use Rattle.fsb_phase_run.proofs.Interface.{longer}
-use Rattle.fsb_signal.specs.declared.lines.TheConstants.Lines.{ADS}
-use Rattle.fsb_signal.specs.declared.sample.Sample.{Sample}
-use Rattle.fsb_signal.specs.Samples.{line_at}
-use Rattle.fsb_timely.specs.Growth.{GrowsTo}
-use Rattle.fsb_timely.specs.Past.{Past}
-use Rattle.fsb_timely.specs.Runs.{Run, past_of, past_to, run_to}
-use Rattle.fsb_timely.specs.Starts.{drives_pair, no_pair, pair_due, request_begun, request_begun_before}
-use Rattle.fsb_timely.proofs.Interface.{run-ends}
-use Rattle.fsb_trace.specs.At.{known_pair, known_pair_at, line_back}
-use Rattle.fsb_bench_view.specs.declared.beginning.Latest.{Latest}
-use Rattle.fsb_bench_view.specs.declared.beginning.Starting.{Starting}
-use Rattle.fsb_bench_view.specs.BenchSteps.{step_decided, step_performed, step_sample}
-use Rattle.fsb_bench_view.specs.BusSample.{is_latest_before, pair_driven}
-use Rattle.fsb_bench_view.specs.BusViews.{BenchView, BusView, next_clock_of}
-use Rattle.fsb_bench_run.specs.BenchOf.{IsBegunAt, IsLatestOf}
-use Rattle.fsb_bench_run.proofs.BegunStays.{begun-lawful, begun-request, begun-stays}
+use Rattle.fsb_timely.specs.Runs.{Run, past_of}
+use Rattle.fsb_timely.specs.Starts.{drives_pair, pair_due}
+use Rattle.fsb_trace.specs.At.{known_pair_at}
+use Rattle.fsb_bench_view.specs.BenchSteps.{step_decided}
+use Rattle.fsb_bench_view.specs.BusSample.{pair_driven}
+use Rattle.fsb_bench_view.specs.BusViews.{BenchView, next_clock_of}
 use Rattle.fsb_bench_run.proofs.PairWords.{IsPairDue, pair-due-by, pair-shown, step_pair}
 use Rattle.fsb_bench_run.proofs.StartingNow.{starting-begins}
 use Rattle.fsb_bench_run.proofs.StepFields.{performed-begun}
-use Rattle.fsb_bench_run.proofs.ThisClock.{past-now}
 use Rattle.fsb_access.specs.declared.log.Done.{Done}
 use Rattle.fsb_bench_run.proofs.RunWith.{run_with}
 use Rattle.fsb_bench_run.proofs.StepWith.{IsStepWith, begins-with}

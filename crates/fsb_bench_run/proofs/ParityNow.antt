@@ -1,7 +1,7 @@
 -- The parity lines of the clock are as they must.
-use Rattle.std.proofs.Common.{ℕ, ◌+◌, ◌/◌, ◌%◌, ◌^◌, ◌<◌, ◌≡◌, ◌&&◌, ◌||◌, ◌==◌, Bool, true, false, not, nat_eq, Option, Some, None, List, [], ◌∷◌, is_some, length, if◌then◌else◌, slice_get, refl, sym, ap, subst, ◌∙◌, arith, inl, inr}
+use Rattle.std.proofs.Common.{ℕ, ◌+◌, ◌/◌, ◌%◌, ◌^◌, ◌≡◌, ◌&&◌, ◌||◌, Bool, true, false, not, nat_eq, Some, List, is_some, if◌then◌else◌, slice_get, refl, sym, ap, ◌∙◌, arith}
 use Rattle.std.specs.Int.RustNames.{count_ones}
-use Rattle.std.proofs.lemmas.Bool.{and_from, cases_Bool, eq-eqb, eqb-false, eqb-true}
+use Rattle.std.proofs.lemmas.Bool.{and_from, eq-eqb, eqb-false, eqb-true}
 use Rattle.std.proofs.Math.Nat.{mod-eq_of_lt}
 use Rattle.fsb_count.specs.Options.{is_some_and}
 use Rattle.fsb_encode.specs.declared.request.Pair.{Pair}
@@ -17,14 +17,14 @@ use Rattle.fsb_timely.specs.Timely.{holds_at}
 use Rattle.fsb_bench_view.specs.BenchSteps.{step_decided, step_performed, step_sample}
 use Rattle.fsb_bench_view.specs.BusSample.{parity_bits}
 use Rattle.fsb_bench_view.specs.BusViews.{BenchView, next_clock_of}
-use Rattle.fsb_bench_run.proofs.DrivenLines.{ads-driven, ap0-driven, ap1-driven, parity_driven, rp-driven}
+use Rattle.fsb_bench_run.proofs.DrivenLines.{ads-driven, ap0-driven, ap1-driven, rp-driven}
 use Rattle.fsb_bench_run.proofs.PairNow.{pair-due-now}
 use Rattle.fsb_bench_run.proofs.PairWords.{step_pair}
 use Rattle.fsb_bench_run.proofs.SampleBits.{bit_in}
 use Rattle.fsb_bench_run.proofs.ThisClock.{holds-now}
 use Rattle.fsb_access.specs.declared.log.Done.{Done}
 use Rattle.fsb_bench_run.proofs.RunWith.{run_with}
-use Rattle.fsb_bench_run.proofs.StepWith.{IsStepWith, begins-with}
+use Rattle.fsb_bench_run.proofs.StepWith.{IsStepWith}
 
 -- a count is made even by one more where it is not
 evens : (k : ℕ) (b : Bool) → b ≡ not (is_even k) → is_even ((if b then 1 else 0) + k) ≡ true

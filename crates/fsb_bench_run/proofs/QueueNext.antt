@@ -77,12 +77,12 @@ unfolding begun_list
 begun-clocks bus clock choice None = refl
 begun-clocks bus clock choice (Some starting) = refl
 
-record IsNewEntry (bus : BusView) (clock : ℕ) (choice : Choice) (o : Option Starting) (e : Entry) : Type 0 where
+pub record IsNewEntry (bus : BusView) (clock : ℕ) (choice : Choice) (o : Option Starting) (e : Entry) : Type 0 where
   pub starting : Starting
   pub some : o ≡ Some starting
   pub same : e ≡ entry_started bus clock starting choice
 
-begun-entry : (bus : BusView) (clock : ℕ) (choice : Choice) (o : Option Starting) (k : ℕ) (e : Entry)
+pub begun-entry : (bus : BusView) (clock : ℕ) (choice : Choice) (o : Option Starting) (k : ℕ) (e : Entry)
     → slice_get (begun_list (option_map (λ starting. entry_started bus clock starting choice) o)) k ≡ Some e
     → IsNewEntry bus clock choice o e
 unfolding begun_list

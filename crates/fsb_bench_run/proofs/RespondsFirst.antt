@@ -1,5 +1,5 @@
 -- The request that responds at a clock of a timely run is the oldest one in flight.
-use Rattle.std.proofs.Common.{ℕ, zero, suc, ◌+◌, ◌<◌, ◌≤◌, ◌≡◌, ◌&&◌, Bool, true, false, not, if◌then◌else◌, nat_eq, nat_lt, List, Option, Some, None, length, slice_get, refl, sym, ap, subst, ◌∙◌, inl, inr, arith}
+use Rattle.std.proofs.Common.{ℕ, zero, suc, ◌<◌, ◌≡◌, Bool, true, false, not, if◌then◌else◌, nat_eq, List, Option, Some, None, length, slice_get, refl, sym, ap, ◌∙◌, inl, inr, arith}
 use Rattle.std.specs.List.{find}
 use Rattle.std.specs.Option.{option_and_then, option_map, option_map_or}
 use Rattle.std.proofs.lemmas.Bool.{and_parts, both_ways, lt-ltb}
@@ -34,13 +34,15 @@ use Rattle.fsb_bench_run.proofs.QueueNext.{orderly-run}
 use Rattle.fsb_bench_run.proofs.SnoopEntry.{clock-there, held-here, rank-rises}
 
 -- a request in flight has not ended
-flying : (r : Run) (queue : List Entry) (k : ℕ) (e : Entry) (end : ℕ) → HoldsRequests queue r → slice_get queue k ≡ Some e
+flying : (r : Run) (queue : List Entry) (k : ℕ) (e : Entry) (end : ℕ) → HoldsRequests queue r
+    → slice_get queue k ≡ Some e
     → end_of r.trace (rank_of r.trace e) ≡ Some end → end < length r.trace → {A : Type 0} → A
 unfolding is_before is_some_and
 flying r queue k e end f at ended low =
     let n = length r.trace in
     let there = nth_where-found (is_in_flight r.trace n) k n e.clock (clock-there r queue k e f at) in
-    let parts = and_parts (is_live r.trace e.clock) (not (is_before (end_of r.trace (live_number_of r.trace e.clock)) n))
+    let parts = and_parts (is_live r.trace e.clock)
+    (not (is_before (end_of r.trace (live_number_of r.trace e.clock)) n))
     (sym (is_in_flight-end r.trace e.clock there.0) ∙ there.1) in
     let before = before-by (end_of r.trace (rank_of r.trace e)) end n ended low in
     absurd (both_ways (is_before (end_of r.trace (rank_of r.trace e)) n)
@@ -50,7 +52,8 @@ flying r queue k e end f at ended low =
     before-by o end n e l = ap (λ o. is_before o n) e ∙ lt-ltb end n l
 
 -- the entry that responds is the first one
-pub responds-first : (r s : Run) (queue : List Entry) (k : ℕ) (e : Entry) → GrowsTo r s → Timely s → HoldsRequests queue r
+pub responds-first : (r s : Run) (queue : List Entry) (k : ℕ) (e : Entry) → GrowsTo r s → Timely s
+    → HoldsRequests queue r
     → slice_get queue k ≡ Some e → responded_in (past_of s) (length r.trace) ≡ Some e.clock → k ≡ 0
 responds-first r s queue zero e grows timely f at responds = refl
 responds-first r s queue (suc k) e grows timely f at responds =
@@ -73,8 +76,10 @@ responds-first r s queue (suc k) e grows timely f at responds =
     let agree = agree-grown r s grows in
     let here = held-here r queue 0 y f first.1 in
     let mine = held-here r queue (suc k) e f at in
-    let old = live_clock_of-stays n r.trace s.trace (rank_of r.trace y) y.clock agree (omega (arith, same, rises)) here.first in
-    let now = live_clock_of-stays n r.trace s.trace (rank_of r.trace e) e.clock agree (omega (arith, same)) mine.first in
+    let old = live_clock_of-stays n r.trace s.trace (rank_of r.trace y) y.clock agree (omega (arith, same, rises))
+    here.first in
+    let now = live_clock_of-stays n r.trace s.trace (rank_of r.trace e) e.clock agree (omega (arith, same))
+    mine.first in
     let number : i ≡ rank_of r.trace e = one-number s.trace i (rank_of r.trace e) e.clock m.1.first now in
     let less : rank_of r.trace y < rank_of r.trace e =
     rank-rises r queue 0 (suc k) y e f (omega arith) first.1 at in
@@ -90,7 +95,8 @@ responds-first r s queue (suc k) e grows timely f at responds =
 
 -- of an outcome that is known the code tells whether it is Retried
 code-retried : (e : Entry) (code : ℕ) (o : Option Outcome) → e.outcome ≡ o → code ≡ option_map_or response_code_of o 0
-    → option_map (λ (x : Entry). x.clock) (if nat_eq code 0 then None else (if is_some_and e.outcome is_retry then Some e else None))
+    → option_map (λ (x : Entry). x.clock)
+    (if nat_eq code 0 then None else (if is_some_and e.outcome is_retry then Some e else None))
     ≡ (elim (nat_eq code (response_code_of outcomes.Retried)) [ true ↦ Some e.clock | false ↦ None ])
 unfolding response_code_of is_some_and
 code-retried e code None f g = rw g refl
@@ -107,7 +113,8 @@ code-retried e code (Some outcomes.Upgraded) f g = rw g (rw f refl)
 pub retried-first : (h : Trace) (queue : List Entry)
     → ((k : ℕ) (e : Entry) → slice_get queue k ≡ Some e → find (has_response h) queue ≡ Some e → k ≡ 0)
     → option_map (λ (x : Entry). x.clock) (if nat_eq (drive_of h queue).rs 0 then None
-    else option_and_then (λ (entry : Entry). if is_some_and entry.outcome is_retry then Some entry else None) (slice_get queue 0))
+    else option_and_then (λ (entry : Entry). if is_some_and entry.outcome is_retry then Some entry else None)
+    (slice_get queue 0))
     ≡ retried_of h queue
 unfolding retried_of drive_of settled_code
 retried-first h queue first = elim (find-cases (has_response h) queue) [

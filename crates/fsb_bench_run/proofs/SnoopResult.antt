@@ -61,7 +61,7 @@ pub record IsClaimedBy (s : Run) (e : Entry) (agent : ℕ) : Type 0 where
   pub of_line : claim.line ≡ e.request.line
   pub no_reply : is_reply_kind e.request.kind ≡ false
 
-claim-there : (w : Trace) (q a : ℕ) (x : Sample) → winner_at w q ≡ Some (Symmetric a) → slice_get w q ≡ Some x
+pub claim-there : (w : Trace) (q a : ℕ) (x : Sample) → winner_at w q ≡ Some (Symmetric a) → slice_get w q ≡ Some x
     → claim_at w q ≡ Some (record { first = q; agent = a; line = x.addr.bits / 4 })
 unfolding claim_at agent_at line_of
 claim-there w q a x e there = rw (claim_at, agent_at, e, line_of, there) refl

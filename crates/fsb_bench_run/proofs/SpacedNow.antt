@@ -1,7 +1,7 @@
 -- Whether a request may begin at a bench's clock: the distance, the room in the queue, and BNR# two clocks before.
-use Rattle.std.proofs.Common.{ℕ, ◌+◌, ◌-◌, ◌<◌, ◌≤◌, ◌≡◌, ◌&&◌, ◌||◌, Bool, true, false, not, List, Option, Some, None, length, map, nat_le, nat_lt, slice_get, take, refl, sym, ap, ◌∙◌, inl, inr, arith}
+use Rattle.std.proofs.Common.{ℕ, ◌+◌, ◌-◌, ◌<◌, ◌≤◌, ◌≡◌, ◌&&◌, Bool, true, false, not, List, Option, Some, None, length, nat_le, nat_lt, slice_get, refl, sym, ap, ◌∙◌, inl, inr, arith}
 use Rattle.std.specs.Option.{option_map, option_map_or}
-use Rattle.std.proofs.lemmas.Bool.{and_parts, cases_Bool, cases_lt, le-leb, leb-false, leb-true, lt-leb, or_parts}
+use Rattle.std.proofs.lemmas.Bool.{and_parts, cases_lt, le-leb, leb-false, leb-true, or_parts}
 use Rattle.std.proofs.lemmas.List.{length-map}
 use Rattle.fsb_access.specs.declared.log.Done.{Done}
 use Rattle.fsb_count.specs.Clocks.{last_where}
@@ -95,7 +95,8 @@ spaced-by w o e = by (is_spaced_by o (length w)) refl
     by false t = near o e t ∙ sym t
 
 -- the distance, by the request that began last
-pub spaced-told : (v : BenchView) (hold : Bool) (choice : Choice) (entries : List Done) → IsStepWith v hold choice entries
+pub spaced-told : (v : BenchView) (hold : Bool) (choice : Choice) (entries : List Done)
+    → IsStepWith v hold choice entries
     → is_spaced (run_with v hold choice entries) (next_clock_of v)
     ≡ is_spaced_by (step_performed v).latest (next_clock_of v)
 unfolding is_spaced
@@ -141,7 +142,8 @@ chosen-held r c h l =
 
 -- BNR# two clocks before, by the holds
 pub held-told : (v : BenchView) (hold : Bool) (choice : Choice) (entries : List Done) → IsStepWith v hold choice entries
-    → line_back BNR (run_with v hold choice entries).trace (next_clock_of v) 2 ≡ was_held_at v.run.holds (next_clock_of v)
+    → line_back BNR (run_with v hold choice entries).trace (next_clock_of v) 2
+    ≡ was_held_at v.run.holds (next_clock_of v)
 unfolding line_back
 held-told v hold choice entries b =
     let r = v.run in

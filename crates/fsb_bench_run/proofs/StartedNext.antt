@@ -1,8 +1,8 @@
 -- The requests that have begun, after the clock.
-use Rattle.std.proofs.Common.{ℕ, zero, suc, ◌+◌, ◌<◌, ◌≤◌, ◌≡◌, ◌⊎◌, Bool, true, false, not, Option, Some, None, List, [], ◌∷◌, ◌++◌, is_some, length, map, slice_get, nat_eq, if◌then◌else◌, append-nil, refl, sym, ap, subst, ◌∙◌, arith, inl, inr}
-use Rattle.std.specs.Option.{option_and_then, option_map, option_map_or}
+use Rattle.std.proofs.Common.{ℕ, ◌<◌, ◌≡◌, Bool, true, false, Option, Some, None, List, [], ◌∷◌, ◌++◌, is_some, length, map, slice_get, nat_eq, if◌then◌else◌, append-nil, refl, sym, ap, subst, ◌∙◌, arith, inl, inr}
+use Rattle.std.specs.Option.{option_map}
 use Rattle.std.proofs.lemmas.Option.{slice_get-map}
-use Rattle.fsb_count.specs.Clocks.{all_where, nth_where}
+use Rattle.fsb_count.specs.Clocks.{nth_where}
 use Rattle.fsb_count.proofs.Interface.{nth_where-found, slice_get-push}
 use Rattle.fsb_count.specs.Options.{is_some_and}
 use Rattle.fsb_hazard.specs.declared.choice.Choice.{Choice}
@@ -11,24 +11,21 @@ use Rattle.fsb_signal.specs.Samples.{line_at}
 use Rattle.fsb_timely.specs.BusLock.{is_begun_by, is_locked_request, wants_lock}
 use Rattle.fsb_timely.specs.Grants.{begun_at}
 use Rattle.fsb_timely.specs.Growth.{GrowsTo}
-use Rattle.fsb_timely.specs.Moments.{agent_at, claim_at}
-use Rattle.fsb_timely.specs.Past.{Claim, Past}
-use Rattle.fsb_timely.specs.Runs.{Run, past_of, past_to}
+use Rattle.fsb_timely.specs.Moments.{claim_at}
+use Rattle.fsb_timely.specs.Past.{Claim}
+use Rattle.fsb_timely.specs.Runs.{Run, past_of}
 use Rattle.fsb_timely.proofs.Interface.{begun-told, claim_at-agree, past-same}
 use Rattle.fsb_trace.specs.Agree.{AgreeTo}
 use Rattle.fsb_trace.specs.At.{Trace}
 use Rattle.fsb_trace.proofs.Interface.{line_at-agree}
-use Rattle.fsb_trace.specs.Winner.{winner_at}
-use Rattle.fsb_trace.specs.declared.who.Who.{Who}
-use Rattle.fsb_trace.specs.declared.who.Who.TheVariants.{Symmetric, Priority}
 use Rattle.fsb_bench_view.specs.declared.beginning.Started.{Started}
 use Rattle.fsb_bench_view.specs.declared.beginning.Starting.{Starting}
 use Rattle.fsb_bench_view.specs.BenchSteps.{bench_stepped, step_decided, step_entries, step_run}
-use Rattle.fsb_bench_view.specs.BusViews.{BenchView, next_clock_of}
-use Rattle.fsb_bench_run.specs.BenchOf.{HasStarted, IsBegunAt, IsBenchOf}
+use Rattle.fsb_bench_view.specs.BusViews.{BenchView}
+use Rattle.fsb_bench_run.specs.BenchOf.{HasStarted, IsBenchOf}
 use Rattle.fsb_bench_run.proofs.BegunStays.{before-growth}
 use Rattle.fsb_bench_run.proofs.AdsGrown.{all-more}
-use Rattle.fsb_bench_run.proofs.LockedStarts.{begun-by-agent, locked-start}
+use Rattle.fsb_bench_run.proofs.LockedStarts.{locked-start}
 use Rattle.fsb_bench_run.proofs.NextRun.{begins-now, grows-to}
 use Rattle.fsb_bench_run.proofs.StepEntries.{step-with}
 use Rattle.fsb_bench_run.proofs.StepFields.{started-stepped, started_after}

@@ -1,12 +1,10 @@
 -- ADS# is at a bench's clock exactly where a request may begin.
-use Rattle.std.proofs.Common.{ℕ, ◌+◌, ◌-◌, ◌<◌, ◌≤◌, ◌≡◌, ◌&&◌, ◌||◌, Bool, true, false, not, is_some, if◌then◌else◌, nat_le, nat_lt, Option, Some, None, List, length, refl, sym, ap, ◌∙◌, inl, inr, arith}
-use Rattle.std.specs.List.{list_any}
+use Rattle.std.proofs.Common.{ℕ, ◌+◌, ◌-◌, ◌<◌, ◌≤◌, ◌≡◌, ◌&&◌, ◌||◌, Bool, true, false, not, is_some, if◌then◌else◌, nat_lt, Option, Some, None, List, length, refl, sym, ap, ◌∙◌, inl, inr, arith}
 use Rattle.std.specs.Option.{option_and_then, option_map}
 use Rattle.std.proofs.lemmas.Bool.{and_from, cases_lt, le-leb, or_parts}
 use Rattle.fsb_access.specs.declared.log.Done.{Done}
 use Rattle.fsb_agent_view.specs.declared.want.Want.{Want}
 use Rattle.fsb_bridge.specs.declared.deferral.Deferral.{Deferral}
-use Rattle.fsb_count.specs.Clocks.{last_where}
 use Rattle.fsb_count.specs.Options.{is_some_and}
 use Rattle.fsb_encode.specs.declared.request.Request.{Request}
 use Rattle.fsb_hazard.specs.declared.choice.Choice.{Choice}
@@ -14,7 +12,7 @@ use Rattle.fsb_signal.specs.declared.lines.TheConstants.Lines.{ADS, BNR}
 use Rattle.fsb_signal.specs.Samples.{line_at}
 use Rattle.fsb_tied.proofs.Interface.{winner-four}
 use Rattle.fsb_timely.specs.Growth.{GoesOn}
-use Rattle.fsb_timely.specs.Runs.{Run, past_of}
+use Rattle.fsb_timely.specs.Runs.{past_of}
 use Rattle.fsb_timely.specs.Starts.{drives_ads, drives_pair, due_number, has_free_winner, has_room, is_kept_back, is_spaced, may_begin, starts_requests}
 use Rattle.fsb_timely.specs.Timely.{holds_at}
 use Rattle.fsb_timely.specs.Wants.{is_held_back, is_open_to_other, want_of}
@@ -24,10 +22,9 @@ use Rattle.fsb_trace.specs.Requests.{is_write_back_kind}
 use Rattle.fsb_trace.specs.Winner.{winner_at}
 use Rattle.fsb_trace.specs.declared.who.Who.{Who}
 use Rattle.fsb_trace.specs.declared.who.Who.TheVariants.{Symmetric, Priority}
-use Rattle.fsb_bench_view.specs.declared.beginning.Latest.{Latest}
 use Rattle.fsb_bench_view.specs.declared.beginning.Starting.{Starting}
 use Rattle.fsb_bench_view.specs.BenchSteps.{step_decided, step_performed, was_held_at}
-use Rattle.fsb_bench_view.specs.BusStarting.{is_kept_from, is_open_of_other, is_spaced_by, may_start, starting_for, starting_reply, starting_want, want_in}
+use Rattle.fsb_bench_view.specs.BusStarting.{is_kept_from, is_spaced_by, starting_for, starting_reply, starting_want, want_in}
 use Rattle.fsb_bench_view.specs.BusViews.{BenchView, next_clock_of}
 use Rattle.fsb_bench_run.proofs.AdsGrown.{ads-old}
 use Rattle.fsb_bench_run.proofs.AskedNow.{due-told, wants-told}
@@ -61,12 +58,14 @@ quiet-by w q e above below =
           sym (ap (λ b. b && line_at ADS w (n - 1)) (le-leb 1 n (omega arith)) ∙ ap (line_at ADS w) one) ∙ parts.0
     ]
 
-pub quiet-before : (v : BenchView) (hold : Bool) (choice : Choice) (entries : List Done) (q : ℕ) → IsStepWith v hold choice entries
+pub quiet-before : (v : BenchView) (hold : Bool) (choice : Choice) (entries : List Done) (q : ℕ)
+    → IsStepWith v hold choice entries
     → is_spaced_by (step_performed v).latest (next_clock_of v) ≡ true → next_clock_of v ≤ q + 2 → q < next_clock_of v
     → line_at ADS v.run.trace q ≡ false
 quiet-before v hold choice entries q b spaced above below =
     let n = next_clock_of v in
-    let far : is_spaced_by v.bus.latest n ≡ true = ap (λ o. is_spaced_by o n) (sym (same-performed v).latest) ∙ spaced in
+    let far : is_spaced_by v.bus.latest n
+    ≡ true = ap (λ o. is_spaced_by o n) (sym (same-performed v).latest) ∙ spaced in
     quiet-by v.run.trace q (not-soon v.run.trace v.bus.latest b.bench.latest.clock far) above below
 
 unless : (b : Bool) (x : Starting) → is_some (if b then None else Some x) ≡ not b
@@ -74,13 +73,15 @@ unless true x = refl
 unless false x = refl
 
 -- what an agent wants begins unless the agent is held back
-want-free : (v : BenchView) (hold : Bool) (choice : Choice) (entries : List Done) (a : ℕ) → IsStepWith v hold choice entries
+want-free : (v : BenchView) (hold : Bool) (choice : Choice) (entries : List Done) (a : ℕ)
+    → IsStepWith v hold choice entries
     → (o : Option Want) → option_map (λ (want : Want). want.request) o ≡ want_of (past_of (run_with v hold choice entries)) a (next_clock_of v)
     → is_some (want_of (past_of (run_with v hold choice entries)) a (next_clock_of v)) ≡ true
     → is_some (option_and_then (starting_want (step_performed v) a) o)
     ≡ not (is_held_back (past_of (run_with v hold choice entries)) a (next_clock_of v))
 unfolding is_held_back is_some_and
-want-free v hold choice entries a b None told wants = absurd (let e = ap (λ o. is_some o) told ∙ wants in let no : ⊥ = cc in no)
+want-free v hold choice entries a b None told wants = absurd
+    (let e = ap (λ o. is_some o) told ∙ wants in let no : ⊥ = cc in no)
 want-free v hold choice entries a b (Some want) told wants =
     let s = run_with v hold choice entries in
     let p = past_of s in
@@ -115,7 +116,8 @@ free-winner v hold choice entries b spaced (Some (Symmetric a)) won =
     (record { one_hold = b.grows.timely.one_hold; one_choice = b.grows.timely.one_choice }) in
     let wants = winner-wants r s a b.grows goes few won
     (λ q above below. quiet-before v hold choice entries q b spaced above below) in
-    want-free v hold choice entries a b (want_in (step_decided v hold).asked a) (wants-told v hold choice entries a b few) wants
+    want-free v hold choice entries a b (want_in (step_decided v hold).asked a)
+    (wants-told v hold choice entries a b few) wants
 free-winner v hold choice entries b spaced (Some Priority) won =
     let r = v.run in
     let s = run_with v hold choice entries in
@@ -163,7 +165,8 @@ ads-now v hold choice entries b =
     ∙ (λ i. sym spaced i && sym room i && not (sym held i) && is_some_and (winner_at s.trace n) test))
 
 -- and requests start as they must
-pub starts-now : (v : BenchView) (hold : Bool) (choice : Choice) (entries : List Done) → IsStepWith v hold choice entries
+pub starts-now : (v : BenchView) (hold : Bool) (choice : Choice) (entries : List Done)
+    → IsStepWith v hold choice entries
     → holds_at starts_requests (run_with v hold choice entries) (next_clock_of v) ≡ true
 unfolding starts_requests
 starts-now v hold choice entries b =

@@ -1,7 +1,6 @@
 -- What a clock leaves of the request that began last, and of those that have begun.
-use Rattle.std.proofs.Common.{ℕ, ◌≡◌, Bool, Option, Some, None, List, [], ◌∷◌, ◌++◌, append-nil, refl, sym, ap, ◌∙◌}
+use Rattle.std.proofs.Common.{ℕ, ◌≡◌, Bool, Option, Some, None, List, [], ◌∷◌, ◌++◌, refl, ap, ◌∙◌}
 use Rattle.std.specs.Option.{option_map_or}
-use Rattle.fsb_access.specs.declared.item.Item.{Item}
 use Rattle.fsb_hazard.specs.declared.choice.Choice.{Choice}
 use Rattle.fsb_queue.specs.declared.entry.Entry.{Entry}
 use Rattle.fsb_bench_view.specs.declared.beginning.Latest.{Latest}
@@ -11,7 +10,7 @@ use Rattle.fsb_bench_view.specs.declared.decided.BytesFrom.{BytesFrom}
 use Rattle.fsb_bench_view.specs.declared.decided.BytesFrom.TheVariants.{Memory, Agents}
 use Rattle.fsb_bench_view.specs.declared.decided.Ending.{Ending}
 use Rattle.fsb_bench_view.specs.declared.snoop.SnoopSettled.{SnoopSettled}
-use Rattle.fsb_bench_view.specs.BenchSteps.{bench_stepped, step_answered, step_cancelled, step_decided, step_drive, step_ended, step_ending, step_fetched, step_performed, step_snooped, step_started}
+use Rattle.fsb_bench_view.specs.BenchSteps.{bench_stepped, step_answered, step_cancelled, step_decided, step_drive, step_ended, step_ending, step_performed, step_snooped, step_started}
 use Rattle.fsb_bench_view.specs.BusEvents.{answered_by, bus_answered, bus_cancelled, bus_ended, bus_snooped, bus_started}
 use Rattle.fsb_bench_view.specs.BusViews.{BenchView, BusView, next_clock_of}
 use Rattle.fsb_bench_view.specs.BytesFetched.{bus_fetched, bytes_source}

@@ -1,5 +1,5 @@
 -- The run with one more clock of a bench that stands for its run, where some entries are logged there, and the hits are told.
-use Rattle.std.proofs.Common.{ℕ, ◌≡◌, Bool, List, is_some, ◌∙◌}
+use Rattle.std.proofs.Common.{◌≡◌, Bool, List, is_some, ◌∙◌}
 use Rattle.fsb_access.specs.declared.log.Done.{Done}
 use Rattle.fsb_hazard.specs.declared.choice.Choice.{Choice}
 use Rattle.fsb_signal.specs.declared.lines.TheConstants.Lines.{ADS}

@@ -1,5 +1,5 @@
 -- The run with one more clock of a bench is timely, where its log has the completions of the clock.
-use Rattle.std.proofs.Common.{ℕ, ◌≡◌, ◌&&◌, Bool, true, List, [], ◌∷◌, ◌++◌, IsTrue, length, refl}
+use Rattle.std.proofs.Common.{◌≡◌, Bool, true, List, [], ◌∷◌, ◌++◌, refl}
 use Rattle.std.specs.List.{list_all}
 use Rattle.std.proofs.lemmas.Bool.{and_from, and_parts}
 use Rattle.fsb_access.specs.declared.log.Done.{Done}
@@ -36,7 +36,8 @@ known-more (y ∷ w) x e f =
 known-sample : (v : BenchView) (hold : Bool) → is_known (step_sample v hold) ≡ true
 known-sample v hold = refl
 
-pub known-next : (v : BenchView) (hold : Bool) (choice : Choice) (entries : List Done) → IsStepWith v hold choice entries
+pub known-next : (v : BenchView) (hold : Bool) (choice : Choice) (entries : List Done)
+    → IsStepWith v hold choice entries
     → is_known_trace (run_with v hold choice entries).trace ≡ true
 known-next v hold choice entries b =
     known-more v.run.trace (step_sample v hold) b.bench.timely.known (known-sample v hold)
@@ -59,7 +60,8 @@ timely-at v hold choice entries b logged =
     }
 
 -- so the longer run is timely
-pub timely-next : (v : BenchView) (hold : Bool) (choice : Choice) (entries : List Done) → IsStepWith v hold choice entries
+pub timely-next : (v : BenchView) (hold : Bool) (choice : Choice) (entries : List Done)
+    → IsStepWith v hold choice entries
     → holds_at logs_completions (run_with v hold choice entries) (next_clock_of v) ≡ true
     → Timely (run_with v hold choice entries)
 timely-next v hold choice entries b logged =

@@ -1,43 +1,29 @@
--- Who wins the bus two clocks after nothing began has something to begin: it asked two clocks before, and still wants it.
-use Rattle.std.proofs.Common.{ℕ, suc, ◌+◌, ◌-◌, ◌%◌, ◌<◌, ◌≤◌, ◌≡◌, ◌&&◌, ◌||◌, Bool, true, false, not, List, [], Option, Some, None, is_some, if◌then◌else◌, length, nat_eq, nat_le, nat_lt, slice_index, refl, sym, ap, subst, ◌∙◌, arith, inl, inr}
+-- Who wins the bus two clocks after nothing began has something to begin: it asked two clocks before, and still
+-- wants it.
+use Rattle.std.proofs.Common.{ℕ, ◌+◌, ◌-◌, ◌%◌, ◌<◌, ◌≤◌, ◌≡◌, ◌&&◌, ◌||◌, Bool, true, false, not, List, [], Option, Some, None, is_some, if◌then◌else◌, length, nat_eq, nat_le, nat_lt, refl, sym, ap, subst, ◌∙◌, arith}
 use Rattle.std.specs.List.{find, list_any}
-use Rattle.std.specs.Option.{option_and_then, option_map}
-use Rattle.std.proofs.lemmas.Bool.{and_from, and_parts, cases_Bool, cases_lt, false_from_ne_true, le-leb, leb-true, lt-ltb, ltb-false, not-true, or_right}
+use Rattle.std.specs.Option.{option_map}
+use Rattle.std.proofs.lemmas.Bool.{and_parts, ltb-false}
 use Rattle.fsb_count.specs.Clocks.{each_where, first_where}
-use Rattle.fsb_count.specs.Options.{is_before, is_some_and}
-use Rattle.fsb_count.proofs.Interface.{any_where-at, any_where-off, each_where-at, first_where-found, first_where-none}
-use Rattle.fsb_lawful.specs.Beginning.{KeepsBounds}
+use Rattle.fsb_count.proofs.Interface.{each_where-at, first_where-found}
 use Rattle.fsb_lawful.proofs.Interface as lawful
-use Rattle.fsb_laws.proofs.Interface.{response_counted}
-use Rattle.fsb_phase_run.proofs.Interface.{agree-grown, snooped-same}
-use Rattle.fsb_signal.specs.declared.lines.TheConstants.Lines.{ADS, AERR, BPRI, LOCK}
+use Rattle.fsb_signal.specs.declared.lines.TheConstants.Lines.{ADS, BPRI, LOCK}
 use Rattle.fsb_signal.specs.Samples.{line_at}
-use Rattle.fsb_signal.proofs.Interface.{line_at-past}
 use Rattle.fsb_timely.specs.Growth.{GoesOn, GrowsTo}
-use Rattle.fsb_timely.specs.Hits.{is_met}
-use Rattle.fsb_timely.specs.Moments.{number_of_turn, turns_in}
 use Rattle.fsb_timely.specs.Past.{Owing, Past}
 use Rattle.fsb_timely.specs.Runs.{Run, past_of, past_to, run_to}
 use Rattle.fsb_timely.specs.Scripts.{Need, is_idling, needs_from, window}
 use Rattle.fsb_timely.specs.Starts.{asks_for_bus, asks_for_priority, began_before, drives_request_lines, due_number, reply_before}
 use Rattle.fsb_timely.specs.Staying.{OwesNoMore}
-use Rattle.fsb_timely.specs.Tied.{IsSnoopOf}
 use Rattle.fsb_timely.specs.Timely.{Timely, holds_at, holds_in}
-use Rattle.fsb_timely.specs.Transfers.{settled_of}
 use Rattle.fsb_timely.specs.Wants.{is_asked_for, is_missing, is_same_set, is_set_taken, owed, want_for, want_of}
 use Rattle.fsb_timely.specs.Grants.{set_of}
-use Rattle.fsb_timely.proofs.Interface.{below_le, done_below, going-alike, is_idling-alike, is_met-alike, owed-same, past-begins, run_to-agrees, snoop-tied, timely-want-stays, want_of-alike, window-alike}
-use Rattle.fsb_trace.specs.Agree.{AgreeTo}
-use Rattle.fsb_trace.specs.At.{Trace, request_at}
-use Rattle.fsb_trace.specs.Deferral.{answers, due_at, is_answered, is_due, later_of}
-use Rattle.fsb_trace.specs.Flight.{has_ended, is_dropped, is_in_flight, is_reply_to}
-use Rattle.fsb_trace.specs.Outcome.{is_deferral, is_settled_deferred, response_clock_of}
-use Rattle.fsb_trace.specs.Requests.{have_same_id, is_cancelled, is_live, is_reply, live_count, live_request_of}
-use Rattle.fsb_trace.specs.Snoop.{snoop_end_of}
+use Rattle.fsb_timely.proofs.Interface.{below_le, done_below, going-alike, is_idling-alike, is_met-alike, owed-same, past-begins, run_to-agrees, timely-want-stays, want_of-alike, window-alike}
+use Rattle.fsb_trace.specs.At.{Trace}
 use Rattle.fsb_trace.specs.Winner.{Requesters, agent_in_order, asks_in_order, begins_at, bus_request_of, first_asking, first_in_order, is_agent, last_if_asking, request_line_of, requesters_before, winner_after, winner_at, winner_by}
 use Rattle.fsb_trace.specs.declared.who.Who.{Who}
 use Rattle.fsb_trace.specs.declared.who.Who.TheVariants.{Symmetric, Priority}
-use Rattle.fsb_trace.proofs.Interface.{AgreeTo-sym, line_at-agree, live_below_count, live_request_of-stays, request_at-agree, response_clock_of-stays, snoop_end_of-clock, snoop_end_of-stays}
+use Rattle.fsb_trace.proofs.Interface.{line_at-agree}
 
 -- the winner's request line is there two clocks before
 last-asks : (w : Trace) (d : ℕ) (o : Option Who) (who : Who) → last_if_asking w d o ≡ Some who
@@ -168,11 +154,13 @@ wants-missing p a c = by (is_idling p a c || nat_le p.plan.ahead (length (owed p
   where
     by : (b : Bool) → is_some (elim b [
       | true ↦ None
-      | false ↦ option_map (want_for p a c (owed p a c)) (find (is_missing p a c (owed p a c)) (needs_from [] (window p a c)))
+      | false ↦ option_map (want_for p a c (owed p a c))
+          (find (is_missing p a c (owed p a c)) (needs_from [] (window p a c)))
     ])
         ≡ (elim b [ true ↦ false | false ↦ is_some (find (is_missing p a c (owed p a c)) (needs_from [] (window p a c))) ])
     by true = refl
-    by false = some-mapped (want_for p a c (owed p a c)) (find (is_missing p a c (owed p a c)) (needs_from [] (window p a c)))
+    by false = some-mapped (want_for p a c (owed p a c))
+        (find (is_missing p a c (owed p a c)) (needs_from [] (window p a c)))
 
 taken-alike : (n : ℕ) (p q : Past) (owings : List Owing) (lines : List ℕ) (line : ℕ) → GoesOn n p q
     → is_set_taken p owings lines line ≡ is_set_taken q owings lines line

@@ -6,6 +6,7 @@
 //! of the clock has what is completed there is a premise where the longer run is to be timely.
 #![tactic(auto)]
 
+pub use agents::{agents_hear_snoop_ends, requests_of_benches_end, requests_of_benches_may_begin};
 pub use flight::queues_of_benches_go_on;
 pub use frame::{clocks_add_to_runs, clocks_keep_runs_timely};
 pub use hits::agents_have_their_hits;
@@ -14,8 +15,9 @@ pub use lines::{
 };
 pub use responses::responses_are_driven;
 pub use snoops::snoops_are_driven;
-pub use standing::{beginnings_are_of_the_run, locks_of_benches_go_on};
+pub use standing::{beginnings_are_of_the_run, benches_go_on, locks_of_benches_go_on};
 
+mod agents;
 mod flight;
 mod frame;
 mod hits;

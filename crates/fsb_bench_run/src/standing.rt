@@ -1,13 +1,27 @@
 //! Laws over the bench after a clock: it stands for the longer run. No code.
 
-ghost use Rattle.std.specs.Prelude.{Bool, Some, length, ◌≡◌};
+ghost use Rattle.std.specs.Prelude.{Bool, IsTrue, Some, length, ◌≡◌};
 ghost use Rattle.fsb_hazard.specs.declared.choice.Choice.{Choice};
+ghost use Rattle.fsb_timely.specs.Completions.{logs_completions};
 ghost use Rattle.fsb_timely.specs.Runs.{past_of};
-ghost use Rattle.fsb_timely.specs.Timely.{Timely};
+ghost use Rattle.fsb_timely.specs.Timely.{Timely, holds_at};
 ghost use Rattle.fsb_bench_view.specs.declared.beginning.Starting.{Starting};
-ghost use Rattle.fsb_bench_view.specs.BenchSteps.{bench_stepped, step_decided, step_run};
+ghost use Rattle.fsb_bench_view.specs.BenchSteps.{
+  bench_stepped,
+  step_decided,
+  step_queue,
+  step_run,
+};
 ghost use Rattle.fsb_bench_view.specs.BusViews.{BenchView, next_clock_of};
-ghost use Rattle.fsb_bench_run.specs.BenchOf.{HasStarted, IsBegunAt, IsBenchOf, IsLatestOf};
+ghost use Rattle.fsb_bench_run.specs.BenchOf.{
+  HasAgentsOf,
+  HasBridgeOf,
+  HasServed,
+  HasStarted,
+  IsBegunAt,
+  IsBenchOf,
+  IsLatestOf,
+};
 ghost use Rattle.fsb_bench_run.specs.LocksHeld.{kept_into};
 
 /// What a bench begins at a clock is what the winner of its run would begin there; so after the clock
@@ -30,4 +44,15 @@ pub fn locks_of_benches_go_on()
         Timely (step_run v hold choice) →
         (bench_stepped v hold choice).bus.kept ≡ kept_into (past_of (step_run v hold choice))
         (length (step_run v hold choice).trace) }
+{}
+
+/// Where the log has what is completed at the clock, and the agents, the bridge and what is served are
+/// after the clock those of the longer run, the bench after the clock stands for that run.
+pub fn benches_go_on()
+    ensures { (v : BenchView) (hold : Bool) (choice : Choice) → IsBenchOf v →
+        IsTrue (holds_at logs_completions (step_run v hold choice) (next_clock_of v)) →
+        HasAgentsOf (bench_stepped v hold choice).bus.agents (step_run v hold choice) →
+        HasBridgeOf (bench_stepped v hold choice).bus.bridge (step_run v hold choice) →
+        HasServed (bench_stepped v hold choice).bus.served (step_queue v hold choice)
+        (step_run v hold choice) → IsBenchOf (bench_stepped v hold choice) }
 {}

@@ -11,3 +11,5 @@ pub use Rattle.fsb_bridge_run.proofs.PriorityReplies.{reply-request, reply-shown
 -- What the words of a clock of a timely run say, by the list.
 pub use Rattle.fsb_bridge_run.proofs.ListWords.{any-listed, begun-listed, choice-listed, due-listed, ids-below, pending-listed, responds-in-order, would-listed}
 pub use Rattle.fsb_bridge_run.proofs.RepliesTake.{hit-taken, reply-takes}
+-- A request that is Deferred: its snoop end, and what it is.
+pub use Rattle.fsb_bridge_run.proofs.OwnIds.{IsDeferredAt, deferred-at}

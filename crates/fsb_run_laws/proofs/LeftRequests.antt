@@ -17,7 +17,7 @@ use Rattle.fsb_laws.specs.Orderly.{Orderly}
 use Rattle.fsb_laws.proofs.Interface.{deferred_response, last_clock_of-deferred, last_clock_of-plain}
 use Rattle.fsb_timely.specs.Grants.{begun_at, is_end_at, snooped_at}
 use Rattle.fsb_timely.specs.Growth.{is_last_clock}
-use Rattle.fsb_timely.specs.Moments.{claim_at, grant_to, is_owner_request}
+use Rattle.fsb_timely.specs.Moments.{claim_at, grant_to, is_owner_request, served_number, turns_in}
 use Rattle.fsb_timely.specs.Past.{Claim, Grant, SnoopEnd}
 use Rattle.fsb_timely.specs.Runs.{past_of, Run}
 use Rattle.fsb_timely.proofs.Interface.{one_end, snoop-tied, tied-snoop}
@@ -192,6 +192,21 @@ replied-outstanding r n s grant h there none made =
           (no-reply r d.end.first d.claim (n + 1) h (omega arith) begun.0) (not-before (last_clock_of w j) n late);
     }
 
+-- it is the live request that the reply serves
+pub replied-served : (r : Run) (n i : ℕ) (s : SnoopEnd) (grant : Grant) (h : Reaches r (n + 1))
+    (there : snooped_at (past_of r) n ≡ Some s) (none : s.claim ≡ None) (made : s.grant ≡ Some grant)
+    → snoop_end_of r.trace i ≡ Some n
+    → option_and_then (live_clock_of r.trace) (served_number r.trace (turns_in (past_of r).moments) i)
+    ≡ Some (replied-outstanding r n s grant h there none made).end.first
+unfolding replied-outstanding
+replied-served r n i s grant h there none made reached =
+    let w = r.trace in
+    let a = reply-end-at r grant.line n s grant there none made refl in
+    let number = one_end w n a.number i a.snooped.tied.reached reached in
+    ap (option_and_then (live_clock_of w))
+    (subst (λ x. served_number w (turns_in (past_of r).moments) x ≡ Some a.served) number a.serves)
+    ∙ a.put_off.snooped.tied.first
+
 -- what a reply serves that ends at n is outstanding there for the last time
 pub ending-serves : (r : Run) (n q : ℕ) (s : SnoopEnd) (grant : Grant) → Reaches r (n + 1)
     → is_end_at (past_of r) n q ≡ true → snoop_end_below (past_of r) (n + 1) q ≡ Some s → s.claim ≡ None
@@ -249,6 +264,25 @@ ending-serves r n q s grant h e below none made =
       },
       ends,
     )
+
+-- it is the live request that the reply serves
+pub ending-served : (r : Run) (n q : ℕ) (s : SnoopEnd) (grant : Grant) (h : Reaches r (n + 1))
+    (e : is_end_at (past_of r) n q ≡ true) (below : snoop_end_below (past_of r) (n + 1) q ≡ Some s)
+    (none : s.claim ≡ None) (made : s.grant ≡ Some grant)
+    → option_and_then (live_clock_of r.trace)
+    (served_number r.trace (turns_in (past_of r).moments) (live_number_of r.trace q))
+    ≡ Some (ending-serves r n q s grant h e below none made).0.end.first
+unfolding ending-serves
+ending-served r n q s grant h e below none made =
+    let w = r.trace in
+    let turns = turns_in (past_of r).moments in
+    let k = ends-with r n q s h e below in
+    let a = reply-end-at r grant.line k.clock s grant k.snooped.tied.there none made refl in
+    let number = one_end w k.clock a.number k.number a.snooped.tied.reached k.snooped.tied.reached in
+    let is = live-at w k.number q k.first in
+    ap (option_and_then (live_clock_of w))
+    (ap (served_number w turns) is.number ∙ subst (λ x. served_number w turns x ≡ Some a.served) number a.serves)
+    ∙ a.put_off.snooped.tied.first
 
 -- a request stops being outstanding by its own end, for it is not Deferred
 pub record LeftByOwn (s : SnoopEnd) (claim : Claim) : Type 0 where

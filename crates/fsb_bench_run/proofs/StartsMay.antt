@@ -1,0 +1,52 @@
+-- What a bench begins may begin: it is a lawful request, and its agent may send it.
+use Rattle.std.proofs.Common.{ℕ, ◌+◌, ◌<◌, ◌≡◌, Bool, Some, List, length, refl, sym, ap, subst, ◌∙◌, arith}
+use Rattle.std.specs.List.{slice_get}
+use Rattle.fsb_access.specs.declared.log.Done.{Done}
+use Rattle.fsb_agent_run.proofs.Interface.{send-may}
+use Rattle.fsb_agent_view.specs.AgentEvents.{Performed}
+use Rattle.fsb_encode.specs.declared.request.Request.{Request}
+use Rattle.fsb_hazard.specs.declared.choice.Choice.{Choice}
+use Rattle.fsb_run_laws.specs.Reaches.{Reaches}
+use Rattle.fsb_tied.proofs.Interface.{winner-four}
+use Rattle.fsb_timely.specs.Runs.{Run}
+use Rattle.fsb_trace.specs.declared.who.Who.{Who}
+use Rattle.fsb_trace.specs.declared.who.Who.TheVariants.{Symmetric}
+use Rattle.fsb_bench_view.specs.declared.beginning.Starting.{Starting}
+use Rattle.fsb_bench_view.specs.BenchSteps.{step_decided, step_fetched, step_performed}
+use Rattle.fsb_bench_view.specs.BusViews.{BenchView, next_clock_of}
+use Rattle.fsb_bench_view.specs.MaySteps.{MayStart}
+use Rattle.fsb_bench_view.specs.ToldAgents.{for_all}
+use Rattle.fsb_bench_run.specs.BenchOf.{IsBegunAt, IsBenchOf}
+use Rattle.fsb_bench_run.proofs.AgentsNow.{fetched-four, length-told}
+use Rattle.fsb_bench_run.proofs.BegunEvents.{begun-claim}
+use Rattle.fsb_bench_run.proofs.BegunStays.{begun-lawful}
+use Rattle.fsb_bench_run.proofs.RunWith.{run_with}
+use Rattle.fsb_bench_run.proofs.StartingNow.{starting-begins}
+use Rattle.fsb_bench_run.proofs.StepWith.{IsStepWith}
+
+performed-four : (v : BenchView) → IsBenchOf v → length (step_performed v).agents ≡ 4
+performed-four v b =
+    length-told (for_all (Performed (next_clock_of v))) 0 (step_fetched v).agents ∙ fetched-four v b.agents.four
+
+own-begun : (s : Run) (n a : ℕ) (who : Who) (request : Request) → who ≡ Symmetric a → IsBegunAt s n who request
+    → IsBegunAt s n (Symmetric a) request
+own-begun s n a who request e k = subst (λ w. IsBegunAt s n w request) e k
+
+pub start-may : (v : BenchView) (hold : Bool) (choice : Choice) (entries : List Done) (x : Starting)
+    → IsStepWith v hold choice entries → Reaches (run_with v hold choice entries) (next_clock_of v + 1)
+    → (step_decided v hold).starting ≡ Some x → MayStart (step_performed v) (next_clock_of v) x
+start-may v hold choice entries x k h e =
+    let s = run_with v hold choice entries in
+    let n = next_clock_of v in
+    let long = h.long in
+    let begun = starting-begins v hold choice entries x k e in
+    let four = performed-four v k.bench in
+    record {
+      lawful = begun-lawful s n x.who x.request h.bounds (omega arith) begun;
+      known = λ agent own.
+          let few = winner-four s.trace n agent (own-begun s n agent x.who x.request own begun).winner in
+          omega (arith, few, four);
+      sends = λ agent own w at.
+          let c = begun-claim s n agent x.request (omega arith) (own-begun s n agent x.who x.request own begun) in
+          send-may s agent n c.0 w h c.1 c.2 (k.hits.after agent w at);
+    }
