@@ -12,15 +12,9 @@ pub use Rattle.fsb_agent_run.proofs.HitViews.{handed-view, performed-logged, per
 pub use Rattle.fsb_agent_run.proofs.SentViews.{cancelled-view, sent-view, uncancelled-view, unsent-view}
 pub use Rattle.fsb_agent_run.proofs.OwnSnoops.{own-claimed}
 pub use Rattle.fsb_agent_run.proofs.OtherSnoops.{other-claimed, other-replied, own-replied, quiet-view}
-<<<<<<< HEAD
-pub use Rattle.fsb_agent_run.proofs.EndEvents.{arrives-by, comes-to, given-up-view, line-view, upgrade-view}
-pub use Rattle.fsb_agent_run.proofs.EndViews.{quiet-end-view}
-pub use Rattle.fsb_agent_run.proofs.ClockEvents.{cancelled-all, clock-view, clocks-view, ended-all, handed-all, sent-all, snooped-all}
-=======
 pub use Rattle.fsb_agent_run.proofs.EndEvents.{arrives-by, comes-to, given-up-view, line-view, ungranted, upgrade-view}
 pub use Rattle.fsb_agent_run.proofs.EndViews.{quiet-arrival, quiet-end-view, ungranted-arrival}
-pub use Rattle.fsb_agent_run.proofs.ClockEvents.{clock-view, clocks-view}
->>>>>>> 73d279c3ea97951fca363c2c13941ced14eea365
+pub use Rattle.fsb_agent_run.proofs.ClockEvents.{cancelled-all, clock-view, clocks-view, ended-all, handed-all, sent-all, snooped-all}
 -- What an agent completes, and what it owes.
 pub use Rattle.fsb_agent_run.proofs.ItemsCompleted.{logged-there}
 pub use Rattle.fsb_agent_run.proofs.EntriesLogged.{arrived-entries, performed-entries, upgrade-entries}

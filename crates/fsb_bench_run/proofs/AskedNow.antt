@@ -20,12 +20,7 @@ use Rattle.fsb_timely.specs.Runs.{past_of}
 use Rattle.fsb_timely.specs.Starts.{due_number}
 use Rattle.fsb_timely.specs.Wants.{want_of}
 use Rattle.fsb_trace.specs.declared.who.Who.{Who}
-<<<<<<< HEAD
-use Rattle.fsb_agent_run.proofs.Interface.{want-by}
-=======
-use Rattle.fsb_agent_run.specs.Stages.{IsViewAfterHit}
 use Rattle.fsb_agent_run.proofs.Interface.{locked-by, want-by}
->>>>>>> 73d279c3ea97951fca363c2c13941ced14eea365
 use Rattle.fsb_lawful.proofs.Interface.{get-there}
 use Rattle.fsb_bench_view.specs.declared.beginning.Latest.{Latest}
 use Rattle.fsb_bench_view.specs.declared.beginning.Starting.{Starting}
@@ -37,12 +32,7 @@ use Rattle.fsb_bench_view.specs.BusViews.{BenchView, BusView, next_clock_of}
 use Rattle.fsb_bench_run.specs.BenchOf.{IsBenchOf}
 use Rattle.fsb_bench_run.proofs.AgentsTold.{performed-there}
 use Rattle.fsb_bench_run.proofs.BegunStays.{begun-lawful, begun-request, begun-stays}
-<<<<<<< HEAD
-use Rattle.fsb_bench_run.proofs.LockedWants.{locked-by}
 use Rattle.fsb_bench_run.proofs.PairWords.{begun-before, lawful-fits, last-at, pair-shown}
-=======
-use Rattle.fsb_bench_run.proofs.PairWords.{begun-before, lawful-fits, last-at, pair-shown, step_pair}
->>>>>>> 73d279c3ea97951fca363c2c13941ced14eea365
 use Rattle.fsb_bench_run.proofs.RunWith.{run_with}
 use Rattle.fsb_bench_run.proofs.SameBus.{same-performed}
 use Rattle.fsb_bench_run.proofs.StepFields.{performed-begun}
