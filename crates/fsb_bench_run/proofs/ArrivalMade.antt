@@ -14,7 +14,7 @@ use Rattle.fsb_timely.specs.Scripts.{is_idling, next_item}
 use Rattle.fsb_bench_run.proofs.EntriesNow.{completed_of, completes-by}
 
 -- an arrival is no hit
-arrival-unhit : (p : Past) (a n : ℕ) → is_arrival p a n ≡ true → is_hit p a n ≡ false
+pub arrival-unhit : (p : Past) (a n : ℕ) → is_arrival p a n ≡ true → is_hit p a n ≡ false
 unfolding is_arrival
 arrival-unhit p a n e =
     let one = and_parts (not (is_idling p a n) && not (is_hit p a n)) _ e in

@@ -1,37 +1,34 @@
--- The bench after a clock stands for its longer run, where its log has the completions of the clock, and the agents, the
--- bridge and what is served are those of that run.
-use Rattle.std.proofs.Common.{◌≡◌, Bool, true}
+-- The bench after a clock stands for its longer run, where the agents, the bridge and what is served are those of that
+-- run.
+use Rattle.std.proofs.Common.{Bool}
 use Rattle.fsb_hazard.specs.declared.choice.Choice.{Choice}
-use Rattle.fsb_timely.specs.Completions.{logs_completions}
-use Rattle.fsb_timely.specs.Timely.{holds_at}
 use Rattle.fsb_bench_view.specs.BenchSteps.{bench_stepped, step_entries, step_queue, step_run}
-use Rattle.fsb_bench_view.specs.BusViews.{BenchView, next_clock_of}
+use Rattle.fsb_bench_view.specs.BusViews.{BenchView}
 use Rattle.fsb_bench_run.specs.BenchOf.{HasAgentsOf, HasBridgeOf, HasServed, IsBenchOf}
 use Rattle.fsb_bench_run.proofs.AskedNow.{shows-now}
 use Rattle.fsb_bench_run.proofs.DeferralsNow.{deferrals-now}
 use Rattle.fsb_bench_run.proofs.EntriesNext.{entries-next}
 use Rattle.fsb_bench_run.proofs.KeptNext.{kept-next}
 use Rattle.fsb_bench_run.proofs.LatestNext.{latest-next}
+use Rattle.fsb_bench_run.proofs.LogsNow.{timely-now}
 use Rattle.fsb_bench_run.proofs.NextRun.{grows-to}
 use Rattle.fsb_bench_run.proofs.QueueNext.{flight-next, queue-next}
 use Rattle.fsb_bench_run.proofs.SampleSpaced.{may-sample}
 use Rattle.fsb_bench_run.proofs.StartedNext.{started-next}
 use Rattle.fsb_bench_run.proofs.StepEntries.{step-with}
-use Rattle.fsb_bench_run.proofs.TimelyNext.{timely-next}
 
 pub bench-next : (v : BenchView) (hold : Bool) (choice : Choice) → IsBenchOf v
-    → holds_at logs_completions (step_run v hold choice) (next_clock_of v) ≡ true
     → HasAgentsOf (bench_stepped v hold choice).bus.agents (step_run v hold choice)
     → HasBridgeOf (bench_stepped v hold choice).bus.bridge (step_run v hold choice)
     → HasServed (bench_stepped v hold choice).bus.served (step_queue v hold choice) (step_run v hold choice)
     → IsBenchOf (bench_stepped v hold choice)
-bench-next v hold choice b logged agents bridge served =
+bench-next v hold choice b agents bridge served =
     let entries = step_entries v hold in
     let k = step-with v hold choice b in
     let grows = grows-to v hold choice b in
     let told = deferrals-now v hold choice entries b grows (shows-now v hold choice entries k) in
     let sample = may-sample v hold b in
-    let timely = timely-next v hold choice entries k logged in
+    let timely = timely-now v hold choice b in
     record {
       timely = timely;
       bounds = b.bounds;

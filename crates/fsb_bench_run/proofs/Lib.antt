@@ -63,4 +63,8 @@ pub mod ArrivalMade
 pub mod RespondsFirst
 pub mod KeptNext
 pub mod EntriesNext
+pub mod ArrivalsAlike
+pub mod OwnCompletes
+pub mod ArrivalsTold
+pub mod LogsNow
 pub mod BenchNext

@@ -24,7 +24,7 @@ use Rattle.fsb_bench_run.proofs.RunWith.{run_with}
 use Rattle.fsb_bench_run.proofs.StartingNow.{starting-begins}
 use Rattle.fsb_bench_run.proofs.StepWith.{IsStepWith}
 
-performed-four : (v : BenchView) → IsBenchOf v → length (step_performed v).agents ≡ 4
+pub performed-four : (v : BenchView) → IsBenchOf v → length (step_performed v).agents ≡ 4
 performed-four v b =
     length-told (for_all (Performed (next_clock_of v))) 0 (step_fetched v).agents ∙ fetched-four v b.agents.four
 

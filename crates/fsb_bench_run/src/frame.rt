@@ -20,9 +20,15 @@ pub fn clocks_add_to_runs()
         GrowsTo v.run (step_run v hold choice) }
 {}
 
-/// Where the log of the clock has what is completed there, the run with one more clock is timely.
+/// The log of the clock has what is completed there: by hits, and by the arrival of the line whose
+/// request ends.
+pub fn completions_are_logged()
+    ensures { (v : BenchView) (hold : Bool) (choice : Choice) → IsBenchOf v →
+        IsTrue (holds_at logs_completions (step_run v hold choice) (next_clock_of v)) }
+{}
+
+/// The run with one more clock of the bench is timely.
 pub fn clocks_keep_runs_timely()
     ensures { (v : BenchView) (hold : Bool) (choice : Choice) → IsBenchOf v →
-        IsTrue (holds_at logs_completions (step_run v hold choice) (next_clock_of v)) →
         Timely (step_run v hold choice) }
 {}

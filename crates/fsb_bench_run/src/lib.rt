@@ -8,7 +8,7 @@
 
 pub use agents::{agents_hear_snoop_ends, requests_of_benches_end, requests_of_benches_may_begin};
 pub use flight::queues_of_benches_go_on;
-pub use frame::{clocks_add_to_runs, clocks_keep_runs_timely};
+pub use frame::{clocks_add_to_runs, clocks_keep_runs_timely, completions_are_logged};
 pub use hits::agents_have_their_hits;
 pub use lines::{
     locks_and_parity_are_driven, request_lines_are_driven, requests_start_in_runs, words_are_due,

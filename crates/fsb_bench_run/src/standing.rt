@@ -1,10 +1,9 @@
 //! Laws over the bench after a clock: it stands for the longer run. No code.
 
-ghost use Rattle.std.specs.Prelude.{Bool, IsTrue, Some, length, ◌≡◌};
+ghost use Rattle.std.specs.Prelude.{Bool, Some, length, ◌≡◌};
 ghost use Rattle.fsb_hazard.specs.declared.choice.Choice.{Choice};
-ghost use Rattle.fsb_timely.specs.Completions.{logs_completions};
 ghost use Rattle.fsb_timely.specs.Runs.{past_of};
-ghost use Rattle.fsb_timely.specs.Timely.{Timely, holds_at};
+ghost use Rattle.fsb_timely.specs.Timely.{Timely};
 ghost use Rattle.fsb_bench_view.specs.declared.beginning.Starting.{Starting};
 ghost use Rattle.fsb_bench_view.specs.BenchSteps.{
   bench_stepped,
@@ -46,11 +45,10 @@ pub fn locks_of_benches_go_on()
         (length (step_run v hold choice).trace) }
 {}
 
-/// Where the log has what is completed at the clock, and the agents, the bridge and what is served are
-/// after the clock those of the longer run, the bench after the clock stands for that run.
+/// Where the agents, the bridge and what is served are after the clock those of the longer run, the
+/// bench after the clock stands for that run.
 pub fn benches_go_on()
     ensures { (v : BenchView) (hold : Bool) (choice : Choice) → IsBenchOf v →
-        IsTrue (holds_at logs_completions (step_run v hold choice) (next_clock_of v)) →
         HasAgentsOf (bench_stepped v hold choice).bus.agents (step_run v hold choice) →
         HasBridgeOf (bench_stepped v hold choice).bus.bridge (step_run v hold choice) →
         HasServed (bench_stepped v hold choice).bus.served (step_queue v hold choice)
