@@ -10,6 +10,7 @@ use Rattle.fsb_access.specs.declared.item.Item.{Item}
 use Rattle.fsb_access.specs.declared.log.Done.{Done}
 use Rattle.fsb_access.specs.ScriptOrder.{Step, steps_of_item}
 use Rattle.fsb_hazard.specs.declared.choice.Choice.{Choice}
+use Rattle.fsb_run_laws.specs.Reaches.{Reaches}
 use Rattle.fsb_timely.specs.Completions.{Completed, completed_if, completed_of_item, is_arrival, logs_completions, next_accesses, of_all_agents}
 use Rattle.fsb_timely.specs.Growth.{GrowsTo}
 use Rattle.fsb_timely.specs.Hits.{is_hit}
@@ -201,3 +202,8 @@ logs-now v hold choice b =
 pub timely-now : (v : BenchView) (hold : Bool) (choice : Choice) → IsBenchOf v → Timely (step_run v hold choice)
 timely-now v hold choice b =
     timely-next v hold choice (step_entries v hold) (step-with v hold choice b) (logs-now v hold choice b)
+
+pub reaches-step : (v : BenchView) (hold : Bool) (choice : Choice) → IsBenchOf v
+    → Reaches (step_run v hold choice) (next_clock_of v + 1)
+reaches-step v hold choice b =
+    reaches-now v hold choice (step_entries v hold) (step-with v hold choice b) (timely-now v hold choice b)

@@ -1,9 +1,8 @@
 //! A bench and its run, clock by clock: laws over the definitions, and no code.
 //!
 //! `specs/BenchOf.antt` says which bench stands for its timely run. The laws say of the run with one
-//! more clock of the bench that it is as a timely run must be at that clock, part by part, and of the
-//! bench after the clock that it stands for it, field by field: as far as they go today. That the log
-//! of the clock has what is completed there is a premise where the longer run is to be timely.
+//! more clock of the bench that it is timely, part by part, and of the bench after the clock that it
+//! stands for that run, field by field: as far as they go today.
 #![tactic(auto)]
 
 pub use agents::{agents_hear_snoop_ends, requests_of_benches_end, requests_of_benches_may_begin};

@@ -3,7 +3,6 @@
 ghost use Rattle.std.specs.Prelude.{Bool, Some, length, ◌≡◌};
 ghost use Rattle.fsb_hazard.specs.declared.choice.Choice.{Choice};
 ghost use Rattle.fsb_timely.specs.Runs.{past_of};
-ghost use Rattle.fsb_timely.specs.Timely.{Timely};
 ghost use Rattle.fsb_bench_view.specs.declared.beginning.Starting.{Starting};
 ghost use Rattle.fsb_bench_view.specs.BenchSteps.{
   bench_stepped,
@@ -36,11 +35,9 @@ pub fn beginnings_are_of_the_run()
         HasStarted (bench_stepped v hold choice).bus.started (step_run v hold choice) }
 {}
 
-/// Where the longer run is timely, the agents that keep the bus locked after the clock are those of
-/// that run.
+/// The agents that keep the bus locked after the clock are those of the longer run.
 pub fn locks_of_benches_go_on()
     ensures { (v : BenchView) (hold : Bool) (choice : Choice) → IsBenchOf v →
-        Timely (step_run v hold choice) →
         (bench_stepped v hold choice).bus.kept ≡ kept_into (past_of (step_run v hold choice))
         (length (step_run v hold choice).trace) }
 {}
