@@ -1,16 +1,15 @@
 -- What an agent completes where its line comes is what the run completes by an arrival there.
-use Rattle.std.proofs.Common.{ℕ, ◌+◌, ◌≡◌, ◌&&◌, Bool, true, false, not, Some, List, [], map, is_some, refl, sym, ap, ◌∙◌}
-use Rattle.std.proofs.lemmas.Bool.{and_parts, both_ways, cases_Bool}
-use Rattle.fsb_access.specs.declared.log.Done.{Done}
+use Rattle.std.proofs.Common.{ℕ, ◌≡◌, ◌&&◌, Bool, true, false, not, List, [], map, refl}
+use Rattle.std.proofs.lemmas.Bool.{and_parts}
 use Rattle.fsb_agent_run.specs.Stages.{IsViewAfterSnoop}
 use Rattle.fsb_agent_view.specs.declared.want.OwnRequest.{OwnRequest}
 use Rattle.fsb_agent_view.specs.AgentViews.{AgentView}
 use Rattle.fsb_agent_view.specs.Arriving.{is_arrival_by, met_entries, with_bytes}
 use Rattle.fsb_agent_view.specs.Completing.{completed_entries}
-use Rattle.fsb_timely.specs.Completions.{Completed, completed_if, is_arrival, next_accesses}
+use Rattle.fsb_timely.specs.Completions.{completed_if, is_arrival, next_accesses}
 use Rattle.fsb_timely.specs.Hits.{is_hit}
 use Rattle.fsb_timely.specs.Past.{Past}
-use Rattle.fsb_timely.specs.Scripts.{is_idling, next_item}
+use Rattle.fsb_timely.specs.Scripts.{is_idling}
 use Rattle.fsb_bench_run.proofs.EntriesNow.{completed_of, completes-by}
 
 -- an arrival is no hit

@@ -1,15 +1,10 @@
 -- What arrivals complete at a bench's clock: nothing where nothing ends, and of the agent whose request ends alone.
-use Rattle.std.proofs.Common.{ℕ, zero, suc, ◌+◌, ◌<◌, ◌≡◌, ◌≢◌, Bool, true, false, Option, Some, None, List, [], ◌++◌, append-nil, nat_eq, refl, sym, ap, subst, ◌∙◌, arith}
-use Rattle.fsb_access.specs.declared.log.Done.{Done}
-use Rattle.fsb_agent_run.specs.Ending.{NothingEndsFor, number_left}
+use Rattle.std.proofs.Common.{ℕ, zero, suc, ◌+◌, ◌<◌, ◌≡◌, ◌≢◌, List, [], ◌++◌, append-nil, refl, ◌∙◌, arith}
+use Rattle.fsb_agent_run.specs.Ending.{NothingEndsFor}
 use Rattle.fsb_agent_run.proofs.Interface.{no-arrival, nothing-granted}
-use Rattle.fsb_hazard.specs.declared.choice.Choice.{Choice}
 use Rattle.fsb_run_laws.specs.Reaches.{Reaches}
 use Rattle.fsb_timely.specs.Completions.{Completed, completed_if, is_arrival, of_all_agents}
-use Rattle.fsb_timely.specs.Past.{Past}
 use Rattle.fsb_timely.specs.Runs.{Run, past_of}
-use Rattle.fsb_bench_view.specs.BusViews.{BenchView, next_clock_of}
-use Rattle.fsb_bench_view.specs.BenchSteps.{step_ending}
 use Rattle.fsb_bench_run.proofs.CompletionsNow.{arrivals_at}
 
 -- an agent for which nothing ends completes nothing by an arrival

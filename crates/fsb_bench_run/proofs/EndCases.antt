@@ -1,6 +1,6 @@
 -- The end that a bench hears at its clock, if there is one, is that of its run.
-use Rattle.std.proofs.Common.{ℕ, zero, suc, ◌+◌, ◌<◌, ◌≡◌, ◌⊎◌, Bool, true, false, Option, Some, None, List, [], ◌∷◌, ◌++◌, is_none, is_some, length, refl, sym, ap, subst, ◌∙◌, arith, inl, inr, if◌then◌else◌}
-use Rattle.std.specs.List.{filter, find, slice_get}
+use Rattle.std.proofs.Common.{ℕ, ◌+◌, ◌<◌, ◌≡◌, ◌⊎◌, Bool, true, false, Option, Some, None, List, [], ◌∷◌, ◌++◌, is_none, is_some, length, refl, sym, ap, subst, ◌∙◌, arith, inl, inr}
+use Rattle.std.specs.List.{find, slice_get}
 use Rattle.std.specs.Option.{option_and_then, option_map, option_map_or}
 use Rattle.std.proofs.lemmas.Bool.{both_ways}
 use Rattle.fsb_access.specs.declared.log.Done.{Done}
@@ -11,7 +11,7 @@ use Rattle.fsb_lawful.proofs.Interface.{get-there}
 use Rattle.fsb_phase.specs.Drive.{has_end_at, phased_at}
 use Rattle.fsb_phase.specs.declared.drive.Phased.{Phased}
 use Rattle.fsb_phase.proofs.Interface.{find-cases, find-off, find-place}
-use Rattle.fsb_phase_run.proofs.Interface.{ended-now, longer}
+use Rattle.fsb_phase_run.proofs.Interface.{ended-now}
 use Rattle.fsb_queue.specs.declared.entry.Entry.{Entry}
 use Rattle.fsb_run_laws.specs.Reaches.{Reaches}
 use Rattle.fsb_tied.proofs.Interface.{ended-number, live-at, orderly-whole}
@@ -34,7 +34,7 @@ use Rattle.fsb_bench_view.specs.BusViews.{BenchView, BusView, next_clock_of}
 use Rattle.fsb_bench_view.specs.BytesFetched.{head_outcome}
 use Rattle.fsb_bench_run.specs.BenchOf.{HasServed, IsServed, settled_entries}
 use Rattle.fsb_bench_run.proofs.EndHeard.{IsEndHeard, end-heard}
-use Rattle.fsb_bench_run.proofs.EndPlaces.{IsEnding, ending-of, head-ends}
+use Rattle.fsb_bench_run.proofs.EndPlaces.{ending-of, head-ends}
 use Rattle.fsb_bench_run.proofs.RunWith.{run_with}
 use Rattle.fsb_bench_run.proofs.SameBus.{same-performed}
 use Rattle.fsb_bench_run.proofs.StepWith.{IsStepWith}

@@ -1,16 +1,15 @@
 -- The end of a request that a bench tells its agents is that of its run.
-use Rattle.std.proofs.Common.{ℕ, suc, ◌+◌, ◌/◌, ◌<◌, ◌≤◌, ◌≡◌, ◌≢◌, Bool, true, false, Option, Some, None, List, length, nat_eq, refl, sym, ap, subst, ◌∙◌, arith, inl, inr, if◌then◌else◌}
-use Rattle.std.specs.List.{filter, find, slice_get}
+use Rattle.std.proofs.Common.{ℕ, ◌+◌, ◌≡◌, ◌≢◌, Bool, true, false, Option, Some, None, List, length, nat_eq, refl, sym, ap, subst, ◌∙◌, arith, if◌then◌else◌}
+use Rattle.std.specs.List.{find}
 use Rattle.std.specs.Option.{option_and_then, option_map}
 use Rattle.std.proofs.lemmas.Bool.{both_ways, ne_eqb}
 use Rattle.fsb_agent_run.specs.AgentClocks.{number_asked}
-use Rattle.fsb_agent_run.specs.Ending.{EndsFor, NothingEndsFor, number_claimed, number_left, number_replied}
+use Rattle.fsb_agent_run.specs.Ending.{number_claimed, number_left, number_replied}
 use Rattle.fsb_agent_run.proofs.Interface.{own-left, replied-left, served-number}
 use Rattle.fsb_coherent.specs.Awaits.{snoop_end_below}
 use Rattle.fsb_count.specs.Options.{is_some_and}
-use Rattle.fsb_encode.specs.declared.request.Request.{Request}
 use Rattle.fsb_lawful.specs.Beginning.{KeepsBounds}
-use Rattle.fsb_phase_run.proofs.Interface.{longer, snooped-same}
+use Rattle.fsb_phase_run.proofs.Interface.{snooped-same}
 use Rattle.fsb_queue.specs.declared.entry.Entry.{Entry}
 use Rattle.fsb_run_laws.specs.Reaches.{Reaches}
 use Rattle.fsb_run_laws.proofs.Interface.{ending-served, ending-serves, replied-outstanding, replied-served, snoop-below}
@@ -24,7 +23,7 @@ use Rattle.fsb_timely.specs.Tied.{IsSnoopOf}
 use Rattle.fsb_timely.proofs.Interface.{going-alike, owed-same, past-goes_on, snoop-tied}
 use Rattle.fsb_trace.specs.At.{Trace, request_at}
 use Rattle.fsb_trace.specs.Outcome.{is_deferral, settled_outcome_of}
-use Rattle.fsb_trace.specs.Requests.{is_reply, is_reply_kind, live_clock_of, live_number_of, live_request_of}
+use Rattle.fsb_trace.specs.Requests.{is_reply, live_clock_of, live_number_of, live_request_of}
 use Rattle.fsb_trace.specs.declared.outcome.Outcome.{Outcome}
 use Rattle.fsb_trace.specs.declared.who.Who.{Who}
 use Rattle.fsb_trace.specs.declared.who.Who.TheVariants.{Symmetric, Priority}

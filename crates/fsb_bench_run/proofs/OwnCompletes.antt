@@ -1,7 +1,5 @@
 -- What an agent completes where its request ends is what the run completes by an arrival there.
 use Rattle.std.proofs.Common.{ℕ, ◌+◌, ◌<◌, ◌≡◌, ◌≢◌, ◌⊎◌, Bool, true, false, ◌||◌, ◌&&◌, if◌then◌else◌, Option, Some, None, List, [], map, refl, sym, ap, subst, ◌∙◌, arith, inl, inr}
-use Rattle.std.specs.Option.{option_and_then}
-use Rattle.std.proofs.lemmas.Bool.{eqb-true}
 use Rattle.fsb_agent_run.specs.Ending.{EndsFor, NothingEndsFor, number_left, number_replied}
 use Rattle.fsb_agent_run.specs.Stages.{IsViewAfterSnoop}
 use Rattle.fsb_agent_run.proofs.Interface.{IsSettledAs, arrived-entries, settled-as, ungranted, ungranted-arrival, upgrade-entries}
@@ -20,7 +18,7 @@ use Rattle.fsb_line.specs.States.{kind_owns}
 use Rattle.fsb_run_laws.specs.Reaches.{Reaches}
 use Rattle.fsb_run_laws.proofs.Interface.{replied-on}
 use Rattle.fsb_tied.proofs.Interface.{ended-number, one-ends, orderly-whole}
-use Rattle.fsb_timely.specs.Completions.{Completed, completed_if, is_arrival}
+use Rattle.fsb_timely.specs.Completions.{completed_if, is_arrival}
 use Rattle.fsb_timely.specs.Grants.{holds_line, is_end_at, snooped_at}
 use Rattle.fsb_timely.specs.Moments.{is_got, is_snoop_of, is_upgraded, makes_grant}
 use Rattle.fsb_timely.specs.Past.{Claim, Grant, Past, SnoopEnd}

@@ -1,5 +1,5 @@
 -- The snoop end that a bench tells its agents is that of its run.
-use Rattle.std.proofs.Common.{ℕ, ◌+◌, ◌/◌, ◌<◌, ◌≡◌, ◌||◌, ◌⊎◌, Bool, true, false, Option, Some, None, List, length, is_some, nat_eq, if◌then◌else◌, refl, sym, ap, subst, ◌∙◌, arith, inl, inr}
+use Rattle.std.proofs.Common.{ℕ, ◌+◌, ◌/◌, ◌<◌, ◌≡◌, ◌||◌, ◌⊎◌, Bool, true, false, Option, Some, None, List, length, is_some, if◌then◌else◌, refl, sym, ap, subst, ◌∙◌, arith, inl, inr}
 use Rattle.std.specs.List.{slice_get}
 use Rattle.std.specs.Option.{option_and_then, option_map}
 use Rattle.std.proofs.lemmas.Bool.{and_parts}
@@ -7,10 +7,9 @@ use Rattle.fsb_access.specs.declared.log.Done.{Done}
 use Rattle.fsb_agent_run.specs.AgentClocks.{number_asked}
 use Rattle.fsb_agent_run.proofs.Interface.{served-number}
 use Rattle.fsb_bridge.specs.Deferrals.{Bridged, deferral_of_id}
-use Rattle.fsb_bridge.specs.DeferralList.{IsDeferralOf, IsThatOf}
+use Rattle.fsb_bridge.specs.DeferralList.{IsThatOf}
 use Rattle.fsb_bridge.specs.declared.deferral.Deferral.{Deferral}
-use Rattle.fsb_bridge_run.proofs.Interface.{IsDeferredAt, deferred-at}
-use Rattle.fsb_count.specs.Clocks.{first_where}
+use Rattle.fsb_bridge_run.proofs.Interface.{deferred-at}
 use Rattle.fsb_count.specs.Options.{is_at, is_some_and}
 use Rattle.fsb_count.proofs.Interface.{first_where-found, is_at-some}
 use Rattle.fsb_encode.specs.declared.request.Request.{Request}
@@ -20,7 +19,7 @@ use Rattle.fsb_phase.specs.Due.{rank_of}
 use Rattle.fsb_phase_run.proofs.Interface.{longer}
 use Rattle.fsb_run_laws.specs.Reaches.{Reaches}
 use Rattle.fsb_run_laws.proofs.Interface.{replied-outstanding, replied-served}
-use Rattle.fsb_signal.specs.declared.lines.TheConstants.Lines.{ADS, HIT, HITM}
+use Rattle.fsb_signal.specs.declared.lines.TheConstants.Lines.{ADS, HIT}
 use Rattle.fsb_signal.specs.Samples.{line_at}
 use Rattle.fsb_tied.proofs.Interface.{IsPutOff, begun-want, live-request, reply-grants}
 use Rattle.fsb_timely.specs.Grants.{begun_at, snooped_at}
@@ -49,7 +48,6 @@ use Rattle.fsb_bench_run.proofs.BegunRequests.{begun-is}
 use Rattle.fsb_bench_run.proofs.BegunStays.{begun-stays}
 use Rattle.fsb_bench_run.proofs.AskedNow.{shows-now}
 use Rattle.fsb_bench_run.proofs.DeferralsNow.{deferrals-now}
-use Rattle.fsb_bench_run.proofs.DeferralsTold.{DeferralsTold}
 use Rattle.fsb_bench_run.proofs.DeferredBegun.{deferred-begun}
 use Rattle.fsb_bench_run.proofs.DrivenLines.{hit_driven, hitm_driven}
 use Rattle.fsb_bench_run.proofs.HazardsDriven.{decoded-now}
@@ -57,7 +55,7 @@ use Rattle.fsb_bench_run.proofs.RunWith.{run_with}
 use Rattle.fsb_bench_run.proofs.SameBus.{same-performed}
 use Rattle.fsb_bench_run.proofs.SnoopCases.{SnoopsHere}
 use Rattle.fsb_bench_run.proofs.SnoopEntry.{held-here}
-use Rattle.fsb_bench_run.proofs.SnoopResult.{begun-reply-kind, claimed-by, deferral-started, hit-now, hitm-now}
+use Rattle.fsb_bench_run.proofs.SnoopResult.{begun-reply-kind, deferral-started, hit-now, hitm-now}
 use Rattle.fsb_bench_run.proofs.SnoopTold.{snoop-told}
 use Rattle.fsb_bench_run.proofs.StartingNow.{and-some, mapped-some}
 use Rattle.fsb_bench_run.proofs.StepWith.{IsStepWith}

@@ -1,6 +1,5 @@
 -- What a bench begins may begin: it is a lawful request, and its agent may send it.
-use Rattle.std.proofs.Common.{ℕ, ◌+◌, ◌<◌, ◌≡◌, Bool, Some, List, length, refl, sym, ap, subst, ◌∙◌, arith}
-use Rattle.std.specs.List.{slice_get}
+use Rattle.std.proofs.Common.{ℕ, ◌+◌, ◌≡◌, Bool, Some, List, length, subst, ◌∙◌, arith}
 use Rattle.fsb_access.specs.declared.log.Done.{Done}
 use Rattle.fsb_agent_run.proofs.Interface.{send-may}
 use Rattle.fsb_agent_view.specs.AgentEvents.{Performed}
