@@ -44,7 +44,8 @@ unfolding is_arrival completes_by
 arrival-now n p q a k =
     let idling = sym (is_idling-alike n k.before p a n k.first (omega arith))
     ∙ is_idling-alike n k.before q a n k.second (omega arith) in
-    let hit = sym (is_hit-alike n k.before p a n k.first (omega arith)) ∙ is_hit-alike n k.before q a n k.second (omega arith) in
+    let hit = sym (is_hit-alike n k.before p a n k.first (omega arith))
+    ∙ is_hit-alike n k.before q a n k.second (omega arith) in
     let item = sym (next_item-alike n k.before p a n k.first (omega arith))
     ∙ next_item-alike n k.before q a n k.second (omega arith) in
     let brought : (need : Need) → is_brought p a n need ≡ is_brought q a n need = λ need. brought-now n p q a need k in

@@ -1,5 +1,5 @@
--- The log of a bench's clock has what is completed there. What the end of the clock completes is told of a timely run: so
--- of the run with the accesses of the arrivals as its entries, in which the end is the same, and so are the arrivals.
+-- The log of a bench's clock has what is completed there. What the end of the clock completes is told of a timely run:
+-- so of the run with the accesses of the arrivals as its entries, in which the end is the same, and so are the arrivals.
 use Rattle.std.proofs.Common.{ℕ, ◌+◌, ◌≡◌, ◌||◌, Bool, true, false, nat_eq, Option, Some, None, List, [], ◌∷◌, ◌++◌, map, refl, sym, ap, ◌∙◌, inl, inr, arith}
 use Rattle.std.specs.List.{list_all, list_any}
 use Rattle.std.specs.Option.{option_map_or}
@@ -54,7 +54,8 @@ made-of-clock n (x ∷ xs) =
 
 -- and of their agents
 none-of-steps : (a b n : ℕ) (steps : List Step) → nat_eq b a ≡ false
-    → list_any (is_done_at a n) (map (entry_at n) (map {B = Completed} (λ step. record { agent = b; step = step }) steps)) ≡ false
+    → list_any (is_done_at a n) (map (entry_at n)
+    (map {B = Completed} (λ step. record { agent = b; step = step }) steps)) ≡ false
 unfolding is_done_at
 none-of-steps a b n [] other = refl
 none-of-steps a b n (step ∷ steps) other = rw other (none-of-steps a b n steps other)
@@ -130,7 +131,8 @@ told-first v hold choice b =
       others = arrived_entries_at v hold choice;
       split = refl;
       now = of-both n hits (arrived_entries_at v hold choice)
-          (first-of-clock n hits (option_map_or (end_entries (step_answered v hold) n) (step_ending v hold) []) (entries-now v hold))
+          (first-of-clock n hits (option_map_or (end_entries (step_answered v hold) n) (step_ending v hold) [])
+          (entries-now v hold))
           (made-of-clock n (arrivals_at p n));
       apart = λ a hit.
           let same = is_hit-alike n (past_of v.run) p a n (past-goes_on v.run r grows.next (whole-before v b.timely))

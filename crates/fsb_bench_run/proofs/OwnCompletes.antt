@@ -153,7 +153,8 @@ never-so kinds.Upgrade outcome (inr f) e = let e' = rw f at e in cc
 made-by : (s : Run) (end : SnoopEnd) (o : Outcome) → end.outcome ≡ o → (is_got o ≡ true) ⊎ (o ≡ Replied)
     → IsOwnSettled s end ⊎ IsRepliedGrant end → (grant : Grant) × (end.grant ≡ Some grant)
 made-by s end o e which (inr reply) = (reply.grant, reply.grants)
-made-by s end o e (inr replied) (inl own) = absurd (never-so own.settled.request.kind end.outcome (inl (e ∙ replied)) own.settled.fits)
+made-by s end o e (inr replied) (inl own) =
+    absurd (never-so own.settled.request.kind end.outcome (inl (e ∙ replied)) own.settled.fits)
 made-by s end o e (inl got) (inl own) =
     let k = own.settled in
     let claim = own.claim in
@@ -167,7 +168,8 @@ made-by s end o e (inl got) (inl own) =
     let makes = got-makes k.request.kind end.outcome (ap is_got e ∙ got) k.fits in (
       grant,
       k.granted
-          ∙ ap (λ b. if b || (is_upgraded end.outcome && holds_line (past_of s) claim.agent claim.line own.clock) then Some grant else None)
+          ∙ ap (λ b. if b || (is_upgraded end.outcome && holds_line (past_of s) claim.agent claim.line own.clock)
+          then Some grant else None)
           makes,
     )
 
@@ -188,7 +190,8 @@ pub own-completes : (s : Run) (n : ℕ) (served : Served) (settled : Option Outc
 unfolding is_deferral is_got
 own-completes s n served settled bytes w h k view = by k.end.outcome refl
   where
-    ends : (o : Outcome) → k.end.outcome ≡ o → is_deferral o ≡ false → EndsFor (past_of s) served.agent n served.first k.end
+    ends : (o : Outcome) → k.end.outcome ≡ o → is_deferral o ≡ false
+        → EndsFor (past_of s) served.agent n served.first k.end
     ends o e kept = record {
       first = k.first;
       ends = k.ends;
