@@ -4,11 +4,7 @@
 # The nearest to the reader alone is a wave of clocks that the dump does not reach: nothing is kept of its samples.
 # Usage: bench/look_at_dump.sh [PROGRAM [MEGABYTES]]
 set -eu
-program=$(realpath -- "${1:-$(dirname "$0")/../crates/p6bench/out/p6bench}")
-cd "$(dirname "$0")/.."
-[ -x "$program" ] || { echo "no program at $program: build it by 'rt run' in crates/p6bench" >&2; exit 2; }
-folder=$(mktemp -d)
-trap 'rm -rf "$folder"' EXIT
+. "$(dirname "$0")/program.sh"
 python3 - "$program" "$folder" "${2:-200}" <<'PY'
 import os, subprocess, sys, time
 sys.path.insert(0, "bench")

@@ -2,11 +2,7 @@
 # Measures how long it takes to judge a dump whose header declares a million variables, twenty of which are the lines of the bus.
 # Usage: bench/many_codes.sh [PROGRAM [VARIABLES]]
 set -eu
-program=$(realpath -- "${1:-$(dirname "$0")/../crates/p6bench/out/p6bench}")
-cd "$(dirname "$0")/.."
-[ -x "$program" ] || { echo "no program at $program: build it by 'rt run' in crates/p6bench" >&2; exit 2; }
-folder=$(mktemp -d)
-trap 'rm -rf "$folder"' EXIT
+. "$(dirname "$0")/program.sh"
 python3 - "$program" "$folder" "${2:-1000000}" <<'PY'
 import os, subprocess, sys, time
 sys.path.insert(0, "bench")

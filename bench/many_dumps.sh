@@ -3,11 +3,7 @@
 # fiftieth is cut off, one at a time and then as many at a time as there are processors. Both must give the same lines.
 # Usage: bench/many_dumps.sh [PROGRAM [DUMPS [MEGABYTES OF EACH]]]
 set -eu
-program=$(realpath -- "${1:-$(dirname "$0")/../crates/p6bench/out/p6bench}")
-cd "$(dirname "$0")/.."
-[ -x "$program" ] || { echo "no program at $program: build it by 'rt run' in crates/p6bench" >&2; exit 2; }
-folder=$(mktemp -d)
-trap 'rm -rf "$folder"' EXIT
+. "$(dirname "$0")/program.sh"
 python3 - "$program" "$folder" "${2:-200}" "${3:-4}" <<'PY'
 import collections, os, subprocess, sys, time
 sys.path.insert(0, "bench")

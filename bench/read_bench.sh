@@ -4,11 +4,7 @@
 # nothing is run.
 # Usage: bench/read_bench.sh [PROGRAM]
 set -eu
-program=$(realpath -- "${1:-$(dirname "$0")/../crates/p6bench/out/p6bench}")
-cd "$(dirname "$0")/.."
-[ -x "$program" ] || { echo "no program at $program: build it by 'rt run' in crates/p6bench" >&2; exit 2; }
-folder=$(mktemp -d)
-trap 'rm -rf "$folder"' EXIT
+. "$(dirname "$0")/program.sh"
 python3 - "$folder/large.bench" "$folder/small.bench" <<'PY'
 import sys
 head = "p6bench 1\nagents 1\nclocks 0\ncache 64\nahead 1\n"

@@ -3,11 +3,7 @@
 # may have, through the built program (crates/p6bench/out/p6bench, made by `rt run` or `rt ci`).
 # Usage: bench/show_dump.sh [PROGRAM]
 set -eu
-program=$(realpath -- "${1:-$(dirname "$0")/../crates/p6bench/out/p6bench}")
-cd "$(dirname "$0")/.."
-[ -x "$program" ] || { echo "no program at $program: build it by 'rt run' in crates/p6bench" >&2; exit 2; }
-folder=$(mktemp -d)
-trap 'rm -rf "$folder"' EXIT
+. "$(dirname "$0")/program.sh"
 python3 - "$program" "$folder" <<'PY'
 import subprocess, sys, time
 sys.path.insert(0, "bench")
