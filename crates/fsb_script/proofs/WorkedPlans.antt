@@ -32,7 +32,8 @@ abbrev pub each_kind : PlanView
 each_kind = record {
   scripts =
       (One (Load 2 0x3e2) ∷ One (Load 1 0x22d) ∷ One (Load 2 0x388) ∷ One (Store 4 0x10c (Literal 0xa8)) ∷ [])
-      ∷ (Locked (Load 1 0x0 ∷ Store 1 0x0 (LastPlus 0x1) ∷ []) ∷ One (Load 1 0x3fa) ∷ Idle 2 ∷ Locked (Load 1 0x0 ∷ Store 1 0x0 (LastPlus 0x1) ∷ []) ∷ [])
+      ∷ (Locked (Load 1 0x0 ∷ Store 1 0x0 (LastPlus 0x1) ∷ []) ∷ One (Load 1 0x3fa) ∷ Idle 2 ∷ Locked
+      (Load 1 0x0 ∷ Store 1 0x0 (LastPlus 0x1) ∷ []) ∷ [])
       ∷ [];
   clocks = 320;
   cache = 16;

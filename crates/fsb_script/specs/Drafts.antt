@@ -1,6 +1,5 @@
 -- A bench file line by line: where the reading stands, and what each line adds.
 use Rattle.std.specs.Prelude.{◌≡◌, ℕ, ◌+◌, List, [], ◌∷◌, ◌++◌, length, Option, Some, None, Result, Ok, Err, Bool, false, nat_lt, ◌==◌, if◌then◌else◌, codes}
-use Rattle.std.specs.List.{list_any}
 use Rattle.std.specs.Str.{bytes_eq}
 use Rattle.fsb_access.specs.declared.access.Access.{Access}
 use Rattle.fsb_access.specs.declared.access.Setting.{Setting}
@@ -10,17 +9,13 @@ use Rattle.fsb_hazard.specs.declared.line.HazardLine.{HazardLine}
 use Rattle.fsb_script.specs.declared.fault.Cause.{Cause}
 use Rattle.fsb_script.specs.declared.fault.Cause.TheVariants.{FirstLine, Word, Range, Missing, LockSize, LockConflict}
 use Rattle.fsb_script.specs.declared.fault.ScriptFault.{ScriptFault}
-use Rattle.fsb_script.specs.declared.form.LineForm.TheVariants as forms
 use Rattle.fsb_script.specs.declared.place.Place.{Place}
 use Rattle.fsb_script.specs.declared.place.Place.TheVariants as places
 use Rattle.fsb_script.specs.declared.plan.Window.{Window}
 use Rattle.fsb_script.specs.Parsing.{◌>>=◌, require}
 use Rattle.fsb_script.specs.TextWords.{text_lines, skip_blanks, is_empty, is_silent, next_word, line_ended, decimal_word, decimal_within}
 use Rattle.fsb_script.specs.Statements.{keyword, load_of, store_of, idle_of, profile_of, window_of, memory_of, settings_at, agent_of, transaction_of, block_of}
-use Rattle.fsb_script.specs.Forms.{built, built_if}
-use Rattle.fsb_script.specs.Named.{NamedLines, has_other}
 use Rattle.fsb_script.specs.Bounds.{is_cache, is_lock_size, is_lock_apart}
-use Rattle.fsb_access.specs.Access.{accessed_line}
 use Rattle.fsb_script.specs.Plans.{PlanView}
 
 -- what the lines so far have said, and which lines may stand next
@@ -36,8 +31,6 @@ pub record Progress : Type 0 where
   pub scripts : List (List Item)
   pub script : List Item
   pub group : List Access
-  pub named : NamedLines
-  pub earlier : List ℕ
   pub hazards : List HazardLine
 
 -- before the first line
@@ -54,8 +47,6 @@ beginning = record {
   scripts = [];
   script = [];
   group = [];
-  named = record { cache = 1; lines = [] };
-  earlier = [];
   hazards = [];
 }
 
@@ -81,8 +72,7 @@ unfoldable pub agents_line : Progress → List ℕ → Result Progress Cause
 agents_line d line = do
   rest ← keyword (codes "agents") line
   n ← decimal_within 1 4 rest
-  count ← line_ended n.0 n.1
-  agents ← built (forms.Agents count) count
+  agents ← line_ended n.0 n.1
   Ok (record d { agents = agents; place = places.Clocks })
 
 -- `clocks N`
@@ -107,8 +97,7 @@ unfoldable pub ahead_line : Progress → List ℕ → Result Progress Cause
 ahead_line d line = do
   rest ← keyword (codes "ahead") line
   n ← decimal_within 1 4 rest
-  count ← line_ended n.0 n.1
-  ahead ← built (forms.Ahead count) count
+  ahead ← line_ended n.0 n.1
   Ok (record d { ahead = ahead; place = places.Profile })
 
 -- ---- the profile, the bridge, memory, and the beginning of a script
@@ -116,15 +105,13 @@ ahead_line d line = do
 -- `profile N`
 unfoldable pub profile_line : Progress → List ℕ → Result Progress Cause
 profile_line d line = do
-  n ← profile_of line
-  profile ← built (forms.Profile n) n
+  profile ← profile_of line
   Ok (record d { profile = profile; place = places.Bridge })
 
 -- `bridge BASE SIZE`
 unfoldable pub bridge_line : Progress → List ℕ → Result Progress Cause
 bridge_line d line = do
-  window ← window_of line
-  bridge ← built forms.Bridge window
+  bridge ← window_of line
   Ok (record d { bridge = Some bridge; place = places.Memory })
 
 -- `mem ADDRESS BYTES`
@@ -137,55 +124,44 @@ mem_line d line = do
 unfoldable pub agent_line : Progress → List ℕ → Result Progress Cause
 agent_line d line = do
   n ← agent_of (length d.scripts) line
-  Ok (record d { named = record { cache = d.cache; lines = [] }; place = places.Items })
+  Ok (record d { place = places.Items })
 
 -- ---- a script
-
--- an access to a line
-unfoldable pub named_line : Progress → ℕ → Result Progress Cause
-named_line d line = do
-  own ← built_if (list_any (λ other. other == line) d.earlier) forms.Foreign d
-  alone ← built_if (has_other d.named line) forms.Evicting own
-  Ok (record d { named = record { cache = d.named.cache; lines = d.named.lines ++ line ∷ [] } })
 
 -- room for one item more
 abbrev pub room : Progress → Result Progress Cause
 room d = require (nat_lt (length d.script) 4096) Range d
 
--- an access by itself
-unfoldable pub one_item : Progress → Access → Result Progress Cause
-one_item d access = do
-  e ← named_line d (accessed_line access)
-  Ok (record e { script = e.script ++ One access ∷ [] })
+-- one item more
+unfoldable pub add_item : Progress → Item → Result Progress Cause
+add_item d item = Ok (record d { script = d.script ++ item ∷ [] })
 
 -- `ld SIZE ADDRESS`, an item by itself
 unfoldable pub load_item : Progress → List ℕ → Result Progress Cause
 load_item d line = do
   e ← room d
   access ← load_of line
-  one_item d access
+  add_item d (One access)
 
 -- `st SIZE ADDRESS VALUE`, an item by itself
 unfoldable pub store_item : Progress → List ℕ → Result Progress Cause
 store_item d line = do
   e ← room d
   access ← store_of line
-  one_item d access
+  add_item d (One access)
 
 -- `idle CLOCKS`
 unfoldable pub idle_item : Progress → List ℕ → Result Progress Cause
 idle_item d line = do
   e ← room d
-  n ← idle_of line
-  clocks ← built forms.Idle n
-  Ok (record d { script = d.script ++ Idle clocks ∷ [] })
+  clocks ← idle_of line
+  add_item d (Idle clocks)
 
 -- a locked item begins
 unfoldable pub lock_item : Progress → List ℕ → Result Progress Cause
 lock_item d line = do
   e ← room d
   f ← line_ended d line
-  g ← built forms.Lock d
   Ok (record d { group = []; place = places.Locked })
 
 -- where the lines go on behind a script
@@ -199,7 +175,6 @@ end_line d line = do
   Ok (record d {
     scripts = d.scripts ++ d.script ∷ [];
     script = [];
-    earlier = d.earlier ++ d.named.lines;
     place = place_behind (length (d.scripts ++ d.script ∷ [])) d.agents;
   })
 
@@ -215,9 +190,7 @@ item_line d word line =
 
 -- an access of a locked item
 unfoldable pub locked_access : Progress → Access → Result Progress Cause
-locked_access d access = do
-  e ← named_line d (accessed_line access)
-  Ok (record e { group = e.group ++ access ∷ [] })
+locked_access d access = Ok (record d { group = d.group ++ access ∷ [] })
 
 -- a locked item ends
 unfoldable pub unlock_line : Progress → List ℕ → Result Progress Cause
@@ -241,11 +214,9 @@ locked_line d word line =
 abbrev pub hazard_room : Progress → Result Progress Cause
 hazard_room d = require (nat_lt (length d.hazards) 4096) Range d
 
--- one more hazard line, where its form is built
+-- one more hazard line
 unfoldable pub add_hazard : Progress → HazardLine → Result Progress Cause
-add_hazard d line = do
-  hazard ← built (forms.Hazard line) line
-  Ok (record d { hazards = d.hazards ++ hazard ∷ [] })
+add_hazard d line = Ok (record d { hazards = d.hazards ++ line ∷ [] })
 
 -- `tx REQUEST HAZARD ..`
 unfoldable pub transaction_line : Progress → List ℕ → Result Progress Cause

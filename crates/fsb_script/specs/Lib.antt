@@ -1,10 +1,8 @@
 pub mod Parsing
 pub mod TextWords
 pub mod Statements
-pub mod Forms
-pub mod Named
-pub mod NamedTable
 pub mod Plans
+pub mod Places
 pub mod Bounds
 pub mod Drafts
 pub mod View

@@ -18,8 +18,6 @@ progress d = record {
   scripts = d.scripts;
   script = d.script;
   group = d.group;
-  named = d.named;
-  earlier = d.earlier;
   hazards = d.hazards;
 }
 

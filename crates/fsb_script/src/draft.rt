@@ -1,7 +1,7 @@
 ghost use Rattle.std.specs.Prelude.{◌≡◌, ◌<◌, ◌≤◌, ◌+◌, ◌^◌, ◌++◌, length, nat_lt, IsTrue, IfOk, OnOk};
 ghost use Rattle.std.specs.List.{list_all};
 ghost use Rattle.fsb_access.specs.Access.{is_lawful_access};
-ghost use Rattle.fsb_script.specs.Bounds.{is_cache, is_profile, is_lawful_script, is_lawful_bridge, is_lawful_setting, is_lawful_hazard, are_lawful_hazards};
+ghost use Rattle.fsb_script.specs.Bounds.{is_cache, is_profile, is_lawful_item, is_lawful_script, is_lawful_bridge, is_lawful_setting, is_lawful_hazard, are_lawful_hazards};
 ghost use Rattle.fsb_script.specs.DraftKept.{are_counts, is_fresh, has_all, has_lock_room};
 ghost use Rattle.fsb_script.specs.Parsing.{ReadsAs, LineGives};
 ghost use Rattle.fsb_script.specs.Statements.{settings_at};
@@ -9,8 +9,6 @@ ghost use Rattle.fsb_script.specs.Drafts.{heading_of, ends_heading, place_behind
 
 use crate::bounds::{ITEMS, is_cache, is_lock_apart, is_lock_size};
 use crate::fault::{Cause, LineStop};
-use crate::form::LineForm;
-use crate::named::{Earlier, Named};
 use crate::place::Place;
 use crate::plan::{Scripts, Settings, Window};
 use crate::statement::{
@@ -21,7 +19,7 @@ use crate::word::{decimal_within, decimal_word, is_ended, is_silent, next_word};
 use fsb_access::{Access, Group, Item, Script, Setting};
 use fsb_hazard::{HazardLine, HazardLines};
 use fsb_io::Memory;
-use std::alloc::{AllocError, Global};
+use std::alloc::Global;
 use std::mem;
 
 /// What the lines so far have said, and which lines may stand next.
@@ -38,8 +36,6 @@ pub(crate) struct PlanDraft {
     pub(crate) scripts: Scripts,
     pub(crate) script: Script,
     pub(crate) group: Group,
-    pub(crate) named: Named,
-    pub(crate) earlier: Earlier,
     pub(crate) hazards: HazardLines,
     ghost some_cache: { 0 < cache },
     ghost lawful_cache: { IsTrue (is_cache cache) },
@@ -87,13 +83,13 @@ fn place_behind(scripts: usize, agents: u8) -> Place
 
 impl PlanDraft {
     ghost use Rattle.fsb_script.specs.View.{progress};
-    ghost use Rattle.fsb_script.specs.Drafts.{beginning, first_line, agents_line, clocks_line, cache_line, ahead_line, profile_line, bridge_line, mem_line, agent_line, named_line, one_item, load_item, store_item, idle_item, lock_item, end_line, item_line, locked_access, unlock_line, locked_line, add_hazard, transaction_line, block_line, hazard_line, memory_line, body_line, front_line, next_agent_line, choice_line, placed_line, is_past, after_line};
+    ghost use Rattle.fsb_script.specs.Drafts.{beginning, first_line, agents_line, clocks_line, cache_line, ahead_line, profile_line, bridge_line, mem_line, agent_line, add_item, load_item, store_item, idle_item, lock_item, end_line, item_line, locked_access, unlock_line, locked_line, add_hazard, transaction_line, block_line, hazard_line, memory_line, body_line, front_line, next_agent_line, choice_line, placed_line, is_past, after_line};
 
     /// Before the first line.
-    pub(crate) fn new(alloc: Global) -> Result<Self, AllocError>
-        ensures { IfOk result (λ d. progress d ≡ beginning) }
+    pub(crate) fn new(alloc: Global) -> Self
+        ensures { progress result ≡ beginning }
     {
-        Ok(PlanDraft {
+        PlanDraft {
             place: Place::First,
             agents: 1,
             clocks: 0,
@@ -105,10 +101,8 @@ impl PlanDraft {
             scripts: Scripts::new(alloc),
             script: Script::new(alloc),
             group: Group::new(alloc),
-            named: Named::new(alloc, 1)?,
-            earlier: Earlier::new(alloc),
             hazards: HazardLines::new(alloc),
-        })
+        }
     }
 
     #[tactic(auto, unfolding(crate::specs::Drafts::first_line, crate::specs::DraftKept::is_fresh, crate::specs::DraftKept::has_all, crate::specs::DraftKept::has_lock_room))]
@@ -124,7 +118,7 @@ impl PlanDraft {
         Ok(())
     }
 
-    #[tactic(auto, unfolding(crate::specs::Drafts::agents_line, crate::specs::TextWords::line_ended, crate::specs::Forms::built, crate::specs::DraftKept::is_fresh, crate::specs::DraftKept::has_all, crate::specs::DraftKept::has_lock_room))]
+    #[tactic(auto, unfolding(crate::specs::Drafts::agents_line, crate::specs::TextWords::line_ended, crate::specs::DraftKept::is_fresh, crate::specs::DraftKept::has_all, crate::specs::DraftKept::has_lock_room))]
     fn agents_line(&mut self, line: &[u8]) -> Result<(), Cause>
         requires { self.old.place ≡ Place.Agents }
         ensures { ReadsAs (λ _. progress self.new) result
@@ -135,11 +129,7 @@ impl PlanDraft {
         if !is_ended(rest) {
             return Err(Cause::After);
         }
-        let agents = count as u8;
-        if !LineForm::Agents(agents).is_built() {
-            return Err(Cause::Unbuilt);
-        }
-        self.agents = agents;
+        self.agents = count as u8;
         self.place = Place::Clocks;
         Ok(())
     }
@@ -179,7 +169,7 @@ impl PlanDraft {
         Ok(())
     }
 
-    #[tactic(auto, unfolding(crate::specs::Drafts::ahead_line, crate::specs::TextWords::line_ended, crate::specs::Forms::built, crate::specs::DraftKept::is_fresh, crate::specs::DraftKept::has_all, crate::specs::DraftKept::has_lock_room))]
+    #[tactic(auto, unfolding(crate::specs::Drafts::ahead_line, crate::specs::TextWords::line_ended, crate::specs::DraftKept::is_fresh, crate::specs::DraftKept::has_all, crate::specs::DraftKept::has_lock_room))]
     fn ahead_line(&mut self, line: &[u8]) -> Result<(), Cause>
         ensures { ReadsAs (λ _. progress self.new) result
             (ahead_line (progress self.old) line.now) }
@@ -189,39 +179,27 @@ impl PlanDraft {
         if !is_ended(rest) {
             return Err(Cause::After);
         }
-        let ahead = count as u8;
-        if !LineForm::Ahead(ahead).is_built() {
-            return Err(Cause::Unbuilt);
-        }
-        self.ahead = ahead;
+        self.ahead = count as u8;
         self.place = Place::Profile;
         Ok(())
     }
 
-    #[tactic(auto, unfolding(crate::specs::Drafts::profile_line, crate::specs::Forms::built, crate::specs::DraftKept::is_fresh, crate::specs::DraftKept::has_all, crate::specs::DraftKept::has_lock_room))]
+    #[tactic(auto, unfolding(crate::specs::Drafts::profile_line, crate::specs::DraftKept::is_fresh, crate::specs::DraftKept::has_all, crate::specs::DraftKept::has_lock_room))]
     fn profile_line(&mut self, line: &[u8]) -> Result<(), Cause>
         ensures { ReadsAs (λ _. progress self.new) result
             (profile_line (progress self.old) line.now) }
     {
-        let profile = profile_of(line)?;
-        if !LineForm::Profile(profile).is_built() {
-            return Err(Cause::Unbuilt);
-        }
-        self.profile = profile;
+        self.profile = profile_of(line)?;
         self.place = Place::Bridge;
         Ok(())
     }
 
-    #[tactic(auto, unfolding(crate::specs::Drafts::bridge_line, crate::specs::Forms::built, crate::specs::DraftKept::is_fresh, crate::specs::DraftKept::has_all, crate::specs::DraftKept::has_lock_room))]
+    #[tactic(auto, unfolding(crate::specs::Drafts::bridge_line, crate::specs::DraftKept::is_fresh, crate::specs::DraftKept::has_all, crate::specs::DraftKept::has_lock_room))]
     fn bridge_line(&mut self, line: &[u8]) -> Result<(), Cause>
         ensures { ReadsAs (λ _. progress self.new) result
             (bridge_line (progress self.old) line.now) }
     {
-        let window = window_of(line)?;
-        if !LineForm::Bridge.is_built() {
-            return Err(Cause::Unbuilt);
-        }
-        self.bridge = Some(window);
+        self.bridge = Some(window_of(line)?);
         self.place = Place::Memory;
         Ok(())
     }
@@ -232,49 +210,29 @@ impl PlanDraft {
             (mem_line (progress self.old) line.now) }
     {
         let (addr, bytes) = memory_of(line)?;
-        add_settings(&mut self.mem, addr, bytes.as_slice())?;
+        self.mem.push_run(addr, bytes.as_slice())?;
         self.place = Place::Memory;
         Ok(())
     }
 
     #[tactic(auto, unfolding(crate::specs::Drafts::agent_line, crate::specs::DraftKept::is_fresh, crate::specs::DraftKept::has_all, crate::specs::DraftKept::has_lock_room))]
-    fn agent_line(&mut self, alloc: Global, line: &[u8]) -> Result<(), LineStop>
-        ensures { LineGives (λ _. progress self.new) result
+    fn agent_line(&mut self, line: &[u8]) -> Result<(), Cause>
+        ensures { ReadsAs (λ _. progress self.new) result
             (agent_line (progress self.old) line.now) }
     {
         let _number = agent_of(self.scripts.as_slice().len() as u64, line)?;
-        self.named = Named::new(alloc, self.cache)?;
         self.place = Place::Items;
         Ok(())
     }
 
-    /// Names the line of an access.
-    #[tactic(auto, unfolding(crate::specs::Drafts::named_line, crate::specs::Forms::built_if, crate::specs::Forms::built))]
-    fn named_line(&mut self, line: u64) -> Result<(), LineStop>
-        ensures value { LineGives (λ _. progress self.new) result
-            (named_line (progress self.old) line) }
-        ensures kept { self.new.script ≡ self.old.script }
-        ensures same { self.new.place ≡ self.old.place }
-    {
-        if self.earlier.contains(line) && !LineForm::Foreign.is_built() {
-            return Err(LineStop::Bad(Cause::Unbuilt));
-        }
-        if self.named.has_other(line) && !LineForm::Evicting.is_built() {
-            return Err(LineStop::Bad(Cause::Unbuilt));
-        }
-        self.named.push(line)?;
-        Ok(())
-    }
-
-    #[tactic(auto, using(crate::proofs::KeptLemmas::script_push), unfolding(crate::specs::Drafts::one_item, crate::specs::DraftKept::is_fresh, crate::specs::DraftKept::has_all, crate::specs::DraftKept::has_lock_room))]
-    fn one_item(&mut self, access: Access) -> Result<(), LineStop>
-        requires lawful { IsTrue (is_lawful_access access) }
+    #[tactic(auto, using(crate::proofs::KeptLemmas::script_push), unfolding(crate::specs::Drafts::add_item, crate::specs::DraftKept::is_fresh, crate::specs::DraftKept::has_all, crate::specs::DraftKept::has_lock_room))]
+    fn add_item(&mut self, item: Item) -> Result<(), LineStop>
+        requires lawful { IsTrue (is_lawful_item self.old.cache item) }
         requires room { length self.old.script < 4096 }
         requires place { self.old.place ≡ Place.Items }
-        ensures { LineGives (λ _. progress self.new) result (one_item (progress self.old) access) }
+        ensures { LineGives (λ _. progress self.new) result (add_item (progress self.old) item) }
     {
-        self.named_line(access.line())?;
-        self.script.push(Item::One(access))?;
+        self.script.push(item)?;
         Ok(())
     }
 
@@ -295,7 +253,7 @@ impl PlanDraft {
             return Err(LineStop::Bad(Cause::Range));
         }
         let access = load_of(line)?;
-        self.one_item(access)
+        self.add_item(Item::One(access))
     }
 
     #[tactic(auto, unfolding(crate::specs::Drafts::store_item))]
@@ -308,10 +266,10 @@ impl PlanDraft {
             return Err(LineStop::Bad(Cause::Range));
         }
         let access = store_of(line)?;
-        self.one_item(access)
+        self.add_item(Item::One(access))
     }
 
-    #[tactic(auto, using(crate::proofs::KeptLemmas::script_push), unfolding(crate::specs::Drafts::idle_item, crate::specs::Forms::built, crate::specs::DraftKept::is_fresh, crate::specs::DraftKept::has_all, crate::specs::DraftKept::has_lock_room))]
+    #[tactic(auto, using(crate::proofs::KeptLemmas::idle_lawful), unfolding(crate::specs::Drafts::idle_item))]
     fn idle_item(&mut self, line: &[u8]) -> Result<(), LineStop>
         requires { self.old.place ≡ Place.Items }
         ensures { LineGives (λ _. progress self.new) result
@@ -321,14 +279,10 @@ impl PlanDraft {
             return Err(LineStop::Bad(Cause::Range));
         }
         let clocks = idle_of(line)?;
-        if !LineForm::Idle.is_built() {
-            return Err(LineStop::Bad(Cause::Unbuilt));
-        }
-        self.script.push(Item::Idle(clocks))?;
-        Ok(())
+        self.add_item(Item::Idle(clocks))
     }
 
-    #[tactic(auto, unfolding(crate::specs::Drafts::lock_item, crate::specs::TextWords::line_ended, crate::specs::Forms::built, crate::specs::DraftKept::is_fresh, crate::specs::DraftKept::has_all, crate::specs::DraftKept::has_lock_room))]
+    #[tactic(auto, unfolding(crate::specs::Drafts::lock_item, crate::specs::TextWords::line_ended, crate::specs::DraftKept::is_fresh, crate::specs::DraftKept::has_all, crate::specs::DraftKept::has_lock_room))]
     fn lock_item(&mut self, alloc: Global, line: &[u8]) -> Result<(), Cause>
         ensures { ReadsAs (λ _. progress self.new) result (lock_item (progress self.old) line.now) }
     {
@@ -337,9 +291,6 @@ impl PlanDraft {
         }
         if !is_ended(line) {
             return Err(Cause::After);
-        }
-        if !LineForm::Lock.is_built() {
-            return Err(Cause::Unbuilt);
         }
         self.group = Group::new(alloc);
         self.place = Place::Locked;
@@ -355,7 +306,6 @@ impl PlanDraft {
         if !is_ended(line) {
             return Err(LineStop::Bad(Cause::After));
         }
-        self.earlier.extend(self.named.lines())?;
         let script = mem::replace(&mut self.script, Script::new(alloc));
         self.scripts.push(script)?;
         self.place = place_behind(self.scripts.as_slice().len(), self.agents);
@@ -391,7 +341,6 @@ impl PlanDraft {
         ensures { LineGives (λ _. progress self.new) result
             (locked_access (progress self.old) access) }
     {
-        self.named_line(access.line())?;
         self.group.push(access)?;
         Ok(())
     }
@@ -437,16 +386,13 @@ impl PlanDraft {
         }
     }
 
-    #[tactic(auto, using(crate::proofs::KeptLemmas::hazard_push), unfolding(crate::specs::Drafts::add_hazard, crate::specs::Forms::built))]
+    #[tactic(auto, using(crate::proofs::KeptLemmas::hazard_push), unfolding(crate::specs::Drafts::add_hazard))]
     fn add_hazard(&mut self, hazard: HazardLine) -> Result<(), LineStop>
         requires lawful { IsTrue (is_lawful_hazard hazard) }
         requires room { length self.old.hazards < 4096 }
         ensures { LineGives (λ _. progress self.new) result
             (add_hazard (progress self.old) hazard) }
     {
-        if !LineForm::Hazard(hazard).is_built() {
-            return Err(LineStop::Bad(Cause::Unbuilt));
-        }
         self.hazards.push(hazard)?;
         Ok(())
     }
@@ -498,21 +444,22 @@ impl PlanDraft {
     }
 
     #[tactic(auto, unfolding(crate::specs::Drafts::memory_line))]
-    fn memory_line(&mut self, alloc: Global, word: &[u8], line: &[u8]) -> Result<(), LineStop>
+    fn memory_line(&mut self, word: &[u8], line: &[u8]) -> Result<(), LineStop>
         ensures { LineGives (λ _. progress self.new) result
             (memory_line (progress self.old) word.now line.now) }
     {
         if word == b"mem".as_slice() {
             self.mem_line(line)
         } else if word == b"agent".as_slice() {
-            self.agent_line(alloc, line)
+            self.agent_line(line)?;
+            Ok(())
         } else {
             Err(LineStop::Bad(Cause::Word))
         }
     }
 
     #[tactic(auto, unfolding(crate::specs::Drafts::body_line))]
-    fn body_line(&mut self, alloc: Global, word: &[u8], line: &[u8]) -> Result<(), LineStop>
+    fn body_line(&mut self, word: &[u8], line: &[u8]) -> Result<(), LineStop>
         ensures { LineGives (λ _. progress self.new) result
             (body_line (progress self.old) word.now line.now) }
     {
@@ -520,12 +467,12 @@ impl PlanDraft {
             self.bridge_line(line)?;
             Ok(())
         } else {
-            self.memory_line(alloc, word, line)
+            self.memory_line(word, line)
         }
     }
 
     #[tactic(auto, unfolding(crate::specs::Drafts::front_line))]
-    fn front_line(&mut self, alloc: Global, word: &[u8], line: &[u8]) -> Result<(), LineStop>
+    fn front_line(&mut self, word: &[u8], line: &[u8]) -> Result<(), LineStop>
         ensures { LineGives (λ _. progress self.new) result
             (front_line (progress self.old) word.now line.now) }
     {
@@ -533,19 +480,19 @@ impl PlanDraft {
             self.profile_line(line)?;
             Ok(())
         } else {
-            self.body_line(alloc, word, line)
+            self.body_line(word, line)
         }
     }
 
     #[tactic(auto, unfolding(crate::specs::Drafts::next_agent_line))]
-    fn next_agent_line(&mut self, alloc: Global, word: &[u8], line: &[u8]) -> Result<(), LineStop>
-        ensures { LineGives (λ _. progress self.new) result
+    fn next_agent_line(&mut self, word: &[u8], line: &[u8]) -> Result<(), Cause>
+        ensures { ReadsAs (λ _. progress self.new) result
             (next_agent_line (progress self.old) word.now line.now) }
     {
         if word == b"agent".as_slice() {
-            self.agent_line(alloc, line)
+            self.agent_line(line)
         } else {
-            Err(LineStop::Bad(Cause::Word))
+            Err(Cause::Word)
         }
     }
 
@@ -557,10 +504,10 @@ impl PlanDraft {
     {
         let (word, rest) = next_word(line)?;
         match self.place {
-            Place::Profile => self.front_line(alloc, word, rest),
-            Place::Bridge => self.body_line(alloc, word, rest),
-            Place::Memory => self.memory_line(alloc, word, rest),
-            Place::Agent => self.next_agent_line(alloc, word, rest),
+            Place::Profile => self.front_line(word, rest),
+            Place::Bridge => self.body_line(word, rest),
+            Place::Memory => self.memory_line(word, rest),
+            Place::Agent => Ok(self.next_agent_line(word, rest)?),
             Place::Items => self.item_line(alloc, word, rest),
             Place::Locked => self.locked_line(alloc, word, rest),
             _ => self.hazard_line(word, rest),
@@ -604,20 +551,4 @@ impl PlanDraft {
         }
         self.fixed_line(alloc, line)
     }
-}
-
-/// Adds a setting for each byte, from an address on.
-fn add_settings(mem: &mut Settings, addr: u64, bytes: &[u8]) -> Result<(), Memory>
-    requires { addr + length bytes.now ≤ 2 ^ 36 }
-    ensures lawful { IsTrue (list_all is_lawful_setting mem.old) →
-        IsTrue (list_all is_lawful_setting mem.new) }
-    ensures ok { OnOk result (mem.new ≡ mem.old ++ settings_at addr bytes.now) }
-{
-    for (i, byte) in bytes.iter().enumerate() {
-        mem.push(Setting {
-            addr: addr + i as u64,
-            byte: *byte,
-        })?;
-    }
-    Ok(())
 }

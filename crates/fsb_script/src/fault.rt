@@ -27,8 +27,6 @@ pub enum Cause {
     Missing,
     /// A line has a further word.
     After,
-    /// A lawful line of a form that is not built yet.
-    Unbuilt,
 }
 
 /// The first bad line of a text, counted from 1 over all lines, and its cause.

@@ -1,6 +1,7 @@
-ghost use Rattle.std.specs.Prelude.{◌≡◌, ◌≤◌, List, [], ◌∷◌, ◌++◌, length, IsTrue, OnOk, OnErr};
+ghost use Rattle.std.specs.Prelude.{◌≡◌, ◌≤◌, ◌+◌, ◌^◌, List, [], ◌∷◌, ◌++◌, length, IsTrue, OnOk, OnErr};
 ghost use Rattle.std.specs.List.{list_all};
 ghost use Rattle.fsb_script.specs.Bounds.{is_cache, is_profile, is_lawful_script, is_lawful_bridge, is_lawful_setting, are_lawful_hazards};
+ghost use Rattle.fsb_script.specs.Statements.{settings_at};
 
 use fsb_access::{Script, Setting};
 use fsb_hazard::HazardLines;
@@ -80,6 +81,23 @@ impl Settings {
         ensures err { OnErr result (self.new ≡ self.old) }
     {
         self.settings.push(setting)?;
+        Ok(())
+    }
+
+    /// Adds a setting for each byte, from an address on.
+    pub(crate) fn push_run(&mut self, addr: u64, bytes: &[u8]) -> Result<(), Memory>
+        requires { addr + length bytes.now ≤ 2 ^ 36 }
+        ensures lawful { IsTrue (list_all is_lawful_setting self.old) →
+            IsTrue (list_all is_lawful_setting self.new) }
+        ensures ok { OnOk result (self.new ≡ self.old ++ settings_at addr bytes.now) }
+    {
+        self.settings.reserve(bytes.len())?;
+        for (i, byte) in bytes.iter().enumerate() {
+            self.settings.push_reserved(Setting {
+                addr: addr + i as u64,
+                byte: *byte,
+            });
+        }
         Ok(())
     }
 

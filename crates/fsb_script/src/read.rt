@@ -8,6 +8,7 @@ use crate::draft::PlanDraft;
 use crate::fault::{Cause, LineStop, ScriptFault, ScriptStop};
 use crate::place::Place;
 use crate::plan::Plan;
+use memchr::memchr;
 use std::alloc::Global;
 
 /// Reads a bench file: its plan, or its first bad line and that line's first cause from left to right.
@@ -15,10 +16,7 @@ pub fn read_bench(alloc: Global, text: &[u8]) -> Result<Plan, ScriptStop>
     requires { length text.now < 2 ^ 32 - 1 }
     ensures { Gives plan_view result (said_plan text.now) }
 {
-    let mut draft = match PlanDraft::new(alloc) {
-        Ok(draft) => draft,
-        Err(_) => return Err(ScriptStop::Memory),
-    };
+    let mut draft = PlanDraft::new(alloc);
     let mut number: u32 = 1;
     let mut rest = text;
     while !rest.is_empty() {
@@ -38,12 +36,7 @@ fn line_len(text: &[u8]) -> usize
     ensures value { result ≡ line_len text.now }
     ensures within { result ≤ length text.now }
 {
-    for (i, byte) in text.iter().enumerate() {
-        if *byte == b'\n' {
-            return i;
-        }
-    }
-    text.len()
+    memchr(b'\n', text).unwrap_or(text.len())
 }
 
 /// The first line, and what follows its line feed.

@@ -4,10 +4,9 @@ use std::process::Abort;
 use std::test::Fail;
 use table::{BAD, GOOD};
 
-mod hazard_room;
+mod forms;
 mod made;
 mod table;
-mod unbuilt;
 
 /// What stands before the text of a row.
 #[derive(Clone, Copy, Debug)]
@@ -20,6 +19,10 @@ pub(crate) enum Start {
     Items,
     /// A head and the script of a load: eight lines.
     Tail,
+    /// A head and the lines `agent 0` and `lock`.
+    Lock,
+    /// The five lines of a head of two agents.
+    Two,
 }
 
 impl Start {
@@ -31,6 +34,8 @@ impl Start {
             Start::Tail => {
                 "p6bench 1\nagents 1\nclocks 60\ncache 64\nahead 1\nagent 0\nld 1 40\nend\n"
             }
+            Start::Lock => { "p6bench 1\nagents 1\nclocks 60\ncache 64\nahead 1\nagent 0\nlock\n" }
+            Start::Two => "p6bench 1\nagents 2\nclocks 60\ncache 64\nahead 1\n",
         }
     }
 }
@@ -119,18 +124,17 @@ fn misaligned_load(rt: HostRuntime) -> Result<(), Fail> {
     Ok(())
 }
 
-/// Locked items are not built yet, so the line of `lock` is bad, and not that of `unlock`.
 #[test]
-fn lock_is_not_built(rt: HostRuntime) -> Result<(), Fail> {
+fn lock_conflict(rt: HostRuntime) -> Result<(), Fail> {
     let text =
         "p6bench 1\nagents 1\nclocks 60\ncache 1\nahead 1\nagent 0\nlock\nld 1 40\nst 1 80 1\nunlock\nend\n";
-    expect_whole(&rt, rt.alloc(), text, 7, Cause::Unbuilt)?;
+    expect_whole(&rt, rt.alloc(), text, 10, Cause::LockConflict)?;
     Ok(())
 }
 
-/// The script's first 4,096 items and a line behind them.
-fn behind_4096_items(alloc: Global, line: &str) -> Result<String, AllocError> {
-    let mut text = "ld 1 40\n".repeat(alloc, 4_096)?;
+/// A line 4,096 times, and a line behind them.
+fn behind_4096(alloc: Global, repeated: &str, line: &str) -> Result<String, AllocError> {
+    let mut text = repeated.repeat(alloc, 4_096)?;
     text.push_str(line)?;
     Ok(text)
 }
@@ -138,12 +142,78 @@ fn behind_4096_items(alloc: Global, line: &str) -> Result<String, AllocError> {
 /// A script has at most 4,096 items; the first word comes before that, and every other cause after.
 #[test]
 fn item_4097(rt: HostRuntime) -> Result<(), Fail> {
-    let ended = behind_4096_items(rt.alloc(), "end\n")?;
+    let ended = behind_4096(rt.alloc(), "ld 1 40\n", "end\n")?;
     expect_read(&rt, rt.alloc(), Start::Items, &ended)?;
-    for (line, cause) in [("ld x\n", Cause::Range), ("tx x\n", Cause::Word)] {
-        let longer = behind_4096_items(rt.alloc(), line)?;
+    let rows = [
+        ("ld x\n", Cause::Range),
+        ("idle x\n", Cause::Range),
+        ("lock x\n", Cause::Range),
+        ("tx x\n", Cause::Word),
+    ];
+    for (line, cause) in rows {
+        let longer = behind_4096(rt.alloc(), "ld 1 40\n", line)?;
         expect_fault(&rt, rt.alloc(), Start::Items, &longer, 4_103, cause)?;
     }
+    Ok(())
+}
+
+/// A file has at most 4,096 hazard lines; the first word comes before that, and every other cause after.
+#[test]
+fn hazard_line_4097(rt: HostRuntime) -> Result<(), Fail> {
+    let all = behind_4096(rt.alloc(), "tx 0 retry\n", "")?;
+    expect_read(&rt, rt.alloc(), Start::Tail, &all)?;
+    let rows = [
+        ("tx x\n", Cause::Range),
+        ("bnr 0 0\n", Cause::Range),
+        ("ld 1 40\n", Cause::Word),
+    ];
+    for (line, cause) in rows {
+        let longer = behind_4096(rt.alloc(), "tx 0 retry\n", line)?;
+        expect_fault(&rt, rt.alloc(), Start::Tail, &longer, 4_105, cause)?;
+    }
+    Ok(())
+}
+
+/// A plan with a line of each form, in its canonical text.
+const EACH_FORM: &[u8] = b"\
+p6bench 1
+agents 2
+clocks 200000
+cache 1024
+ahead 4
+profile 2
+bridge 1000 20
+mem 40 07
+mem fffffffff ff
+agent 0
+idle 11
+lock
+ld 1 40
+st 1 40 r+1
+unlock
+st 8 ffffffff8 fedcba9876543210
+end
+agent 1
+end
+tx 0 stall 1
+tx 1 trdy 255
+tx 2 resp 3
+tx 3 data 4
+tx 199999 retry
+tx 5 defer 65535
+tx 6 defer 0
+tx 7 aerr
+bnr 0 199999
+";
+
+/// What is read of a canonical text is written as that text.
+#[test]
+fn each_form_read_and_written(rt: HostRuntime) -> Result<(), Fail> {
+    let written = match read_bench(rt.alloc(), EACH_FORM) {
+        Ok(plan) => write_bench(rt.alloc(), &plan)?,
+        Err(_) => Vec::new(rt.alloc()),
+    };
+    assert_eq!(rt; written.as_slice(), EACH_FORM);
     Ok(())
 }
 

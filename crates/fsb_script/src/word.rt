@@ -4,6 +4,22 @@ ghost use Rattle.fsb_script.specs.TextWords.{is_blank, skip_blanks, word_len, is
 
 use crate::fault::Cause;
 use fsb_access::ADDRESS_LIMIT;
+use memchr::memchr3;
+
+/// What each byte stands for as a hexadecimal digit; 16 where it is none.
+pub(crate) static DIGITS: [u8; 256] = [
+    16, 16, 16, 16, 16, 16, 16, 16, 16, 16, 16, 16, 16, 16, 16, 16, 16, 16, 16, 16, 16, 16, 16, 16,
+    16, 16, 16, 16, 16, 16, 16, 16, 16, 16, 16, 16, 16, 16, 16, 16, 16, 16, 16, 16, 16, 16, 16, 16,
+    0, 1, 2, 3, 4, 5, 6, 7, 8, 9, 16, 16, 16, 16, 16, 16, 16, 10, 11, 12, 13, 14, 15, 16, 16, 16,
+    16, 16, 16, 16, 16, 16, 16, 16, 16, 16, 16, 16, 16, 16, 16, 16, 16, 16, 16, 16, 16, 16, 16, 10,
+    11, 12, 13, 14, 15, 16, 16, 16, 16, 16, 16, 16, 16, 16, 16, 16, 16, 16, 16, 16, 16, 16, 16, 16,
+    16, 16, 16, 16, 16, 16, 16, 16, 16, 16, 16, 16, 16, 16, 16, 16, 16, 16, 16, 16, 16, 16, 16, 16,
+    16, 16, 16, 16, 16, 16, 16, 16, 16, 16, 16, 16, 16, 16, 16, 16, 16, 16, 16, 16, 16, 16, 16, 16,
+    16, 16, 16, 16, 16, 16, 16, 16, 16, 16, 16, 16, 16, 16, 16, 16, 16, 16, 16, 16, 16, 16, 16, 16,
+    16, 16, 16, 16, 16, 16, 16, 16, 16, 16, 16, 16, 16, 16, 16, 16, 16, 16, 16, 16, 16, 16, 16, 16,
+    16, 16, 16, 16, 16, 16, 16, 16, 16, 16, 16, 16, 16, 16, 16, 16, 16, 16, 16, 16, 16, 16, 16, 16,
+    16, 16, 16, 16, 16, 16, 16, 16, 16, 16, 16, 16, 16, 16,
+];
 
 fn is_blank(byte: u8) -> bool
     ensures { result ≡ is_blank byte }
@@ -26,12 +42,7 @@ fn word_len(line: &[u8]) -> usize
     ensures value { result ≡ word_len line.now }
     ensures within { result ≤ length line.now }
 {
-    for (i, byte) in line.iter().enumerate() {
-        if is_blank(*byte) {
-            return i;
-        }
-    }
-    line.len()
+    memchr3(b' ', b'\t', b'\r', line).unwrap_or(line.len())
 }
 
 /// Whether a line has no words or is a comment.
@@ -95,11 +106,11 @@ pub(crate) fn hex_digit(byte: u8) -> Result<u8, Cause>
     ensures value { ReadsAs (λ digit. digit) result (hex_digit byte) }
     ensures below { IfOk result (λ digit. digit < 16) }
 {
-    match byte {
-        b'0'..=b'9' => Ok(byte - b'0'),
-        b'a'..=b'f' => Ok(byte - b'a' + 10),
-        b'A'..=b'F' => Ok(byte - b'A' + 10),
-        _ => Err(Cause::Number),
+    let digit = DIGITS[byte as usize];
+    if digit < 16 {
+        Ok(digit)
+    } else {
+        Err(Cause::Number)
     }
 }
 

@@ -189,7 +189,7 @@ bnr 0 199999
 ";
 
     #[test]
-    fn lines_of_forms_that_are_not_built(rt: HostRuntime) -> Result<(), Fail> {
+    fn lines_of_scripts_and_hazards(rt: HostRuntime) -> Result<(), Fail> {
         let mut text = Vec::new(rt.alloc());
         put_scripts(&mut text, two_scripts(rt.alloc())?.as_slice())?;
         assert_eq!(rt; text.as_slice(), SCRIPTS.as_bytes());

@@ -19,7 +19,13 @@ use Rattle.fsb_script_laws.proofs.Numbers.{is_figure, Figures, hex_figures, hex_
 use Rattle.fsb_script_laws.proofs.Split.{is_inner, Word, plain_inner, figures_word, decimal_next, hex_next, hex_last, hex_inner, next_behind, decimal_inner, inner_append}
 
 above : (n : ℕ) → 8 < n → is_size n ≡ false
-above n h = rw (ne_eqb n 1 (λ e. omega arith), ne_eqb n 2 (λ e. omega arith), ne_eqb n 4 (λ e. omega arith), ne_eqb n 8 (λ e. omega arith)) refl
+above n h = rw (
+  ne_eqb n 1 (λ e. omega arith),
+  ne_eqb n 2 (λ e. omega arith),
+  ne_eqb n 4
+      (λ e. omega arith),
+  ne_eqb n 8 (λ e. omega arith),
+) refl
 
 pub size_small : (n : ℕ) → is_size n ≡ true → n ≤ 8
 size_small n size = by (nat_le n 8) refl
@@ -37,7 +43,8 @@ pub record Place (size addr : ℕ) : Type 0 where
 
 pub place_is : (size addr : ℕ) → is_place size addr ≡ true → Place size addr
 place_is size addr h =
-    let two : (is_size size && nat_lt addr (2 ^ 36)) ≡ true = (and_parts (is_size size && nat_lt addr (2 ^ 36)) (eqb (addr % size) 0) h).0 in
+    let two : (is_size size && nat_lt addr (2 ^ 36)) ≡ true =
+    (and_parts (is_size size && nat_lt addr (2 ^ 36)) (eqb (addr % size) 0) h).0 in
     let size_is : is_size size ≡ true = (and_parts (is_size size) (nat_lt addr (2 ^ 36)) two).0 in
     record {
       size_is = size_is;
@@ -83,19 +90,23 @@ not_added (b ∷ bs) all =
     let high : b ≤ 102 = leb-true b 102 (and_parts (nat_le 48 b) (nat_le b 102) here).1 in
     rw (ne_eqb b 114 (λ e. omega arith)) (no_first (nat_le 2 (length (b ∷ bs))) (eqb (slice_index (b ∷ bs) 1) 43))
 
-operand_back : (size : ℕ) (value : Operand) → size ≤ 8 → fits size (number_of value) ≡ true → operand_of size (operand_text value) ≡ Ok value
+operand_back : (size : ℕ) (value : Operand) → size ≤ 8 → fits size (number_of value) ≡ true
+    → operand_of size (operand_text value) ≡ Ok value
 unfolding operand_of
 operand_back size (Literal number) small fit =
     let figures : Figures 16 (hexadecimal number) = hex_figures 15 number (lit< tt) (fits_wide size number small fit) in
     rw (not_added (hexadecimal number) figures.all) (rw (literal_back size number small fit) refl)
 operand_back size (LastPlus number) small fit =
-    let two : nat_le 2 (length (114 ∷ (43 ∷ hexadecimal number))) ≡ true = le-leb 2 (length (114 ∷ (43 ∷ hexadecimal number))) (omega arith) in
+    let two : nat_le 2 (length (114 ∷ (43 ∷ hexadecimal number))) ≡ true =
+    le-leb 2 (length (114 ∷ (43 ∷ hexadecimal number))) (omega arith) in
     rw two (rw (literal_back size number small fit) refl)
 
 operand_word : (size : ℕ) (value : Operand) → size ≤ 8 → fits size (number_of value) ≡ true → Word (operand_text value)
-operand_word size (Literal number) small fit = figures_word 16 (hexadecimal number) (hex_figures 15 number (lit< tt) (fits_wide size number small fit))
+operand_word size (Literal number) small fit =
+    figures_word 16 (hexadecimal number) (hex_figures 15 number (lit< tt) (fits_wide size number small fit))
 operand_word size (LastPlus number) small fit =
-    let w : Word (hexadecimal number) = figures_word 16 (hexadecimal number) (hex_figures 15 number (lit< tt) (fits_wide size number small fit)) in
+    let w : Word (hexadecimal number) = figures_word 16 (hexadecimal number)
+    (hex_figures 15 number (lit< tt) (fits_wide size number small fit)) in
     record { some = omega arith; plain = w.plain }
 
 -- ---- stores
@@ -103,14 +114,17 @@ operand_word size (LastPlus number) small fit =
 abbrev pub store_words : ℕ → ℕ → Operand → List ℕ
 store_words size addr value = decimal size ++ (32 ∷ (hexadecimal addr ++ (32 ∷ operand_text value)))
 
-pub store_back : (size addr : ℕ) (value : Operand) → Place size addr → fits size (number_of value) ≡ true → store_of (32 ∷ store_words size addr value) ≡ Ok (Store size addr value)
+pub store_back : (size addr : ℕ) (value : Operand) → Place size addr → fits size (number_of value) ≡ true
+    → store_of (32 ∷ store_words size addr value) ≡ Ok (Store size addr value)
 unfolding store_of size_at aligned_at address line_ended
 store_back size addr value at fit =
     let small : size < 10 ^ 18 = omega (arith, at.small) in
     let wide : addr < 16 ^ 16 = omega (arith, at.below) in
     rw (decimal_next size (32 ∷ (hexadecimal addr ++ (32 ∷ operand_text value))) small refl)
-    (rw (at.size_is) (rw (hex_next addr (32 ∷ operand_text value) wide refl) (rw (lt-ltb addr (2 ^ 36) at.below) (rw (at.aligned)
-    (rw (rw append-nil at (next_behind (operand_text value) [] (operand_word size value at.small fit) refl)) (rw (operand_back size value at.small fit) refl))))))
+    (rw (at.size_is) (rw (hex_next addr (32 ∷ operand_text value) wide refl)
+    (rw (lt-ltb addr (2 ^ 36) at.below) (rw (at.aligned)
+    (rw (rw append-nil at (next_behind (operand_text value) [] (operand_word size value at.small fit) refl))
+    (rw (operand_back size value at.small fit) refl))))))
 
 -- ---- the lines
 
@@ -124,17 +138,23 @@ unfolding access_text
 access_line_is (Load size addr) rest = simp append_assoc
 access_line_is (Store size addr value) rest = simp append_assoc
 
-place_inner : (size addr : ℕ) (rest : List ℕ) → Place size addr → list_all is_inner rest ≡ true → list_all is_inner (decimal size ++ (32 ∷ (hexadecimal addr ++ rest))) ≡ true
+place_inner : (size addr : ℕ) (rest : List ℕ) → Place size addr → list_all is_inner rest ≡ true
+    → list_all is_inner (decimal size ++ (32 ∷ (hexadecimal addr ++ rest))) ≡ true
 place_inner size addr rest at inner =
     let small : size < 10 ^ 18 = omega (arith, at.small) in
     let wide : addr < 16 ^ 16 = omega (arith, at.below) in
-    inner_append (decimal size) (32 ∷ (hexadecimal addr ++ rest)) (decimal_inner size small) (inner_append (hexadecimal addr) rest (hex_inner addr wide) inner)
+    inner_append (decimal size) (32 ∷ (hexadecimal addr ++ rest)) (decimal_inner size small)
+    (inner_append (hexadecimal addr) rest (hex_inner addr wide) inner)
 
 pub access_inner : (access : Access) → is_lawful_access access ≡ true → list_all is_inner (access_line access) ≡ true
 access_inner (Load size addr) lawful =
     let whole = place_inner size addr [] (place_is size addr lawful) refl in
     inner_append (codes "ld ") (load_words size addr) refl (rw append-nil at whole)
 access_inner (Store size addr value) lawful =
-    let at : Place size addr = place_is size addr (and_parts (is_place size addr) (fits size (number_of value)) lawful).0 in
-    let fit : fits size (number_of value) ≡ true = (and_parts (is_place size addr) (fits size (number_of value)) lawful).1 in
-    inner_append (codes "st ") (store_words size addr value) refl (place_inner size addr (32 ∷ operand_text value) at (plain_inner (operand_text value) (operand_word size value at.small fit).plain))
+    let at : Place size addr = place_is size addr
+    (and_parts (is_place size addr) (fits size (number_of value)) lawful).0 in
+    let fit : fits size (number_of value) ≡ true =
+    (and_parts (is_place size addr) (fits size (number_of value)) lawful).1 in
+    inner_append (codes "st ") (store_words size addr value) refl
+    (place_inner size addr (32 ∷ operand_text value) at
+    (plain_inner (operand_text value) (operand_word size value at.small fit).plain))

@@ -70,8 +70,10 @@ hex_step m d ds small = rw (hex_glyph d small) refl
 -- ---- all digits
 
 onto_step : (base k n : ℕ) (ds : List ℕ) (t : Bool) → eqb (n / base) 0 ≡ t
-    → digits_onto (suc k) base false n ds ≡ cond t (digit_glyph false (n % base) ∷ ds) (digits_onto k base false (n / base) (digit_glyph false (n % base) ∷ ds))
-onto_step base k n ds t e = ap (λ (b : Bool). cond b (digit_glyph false (n % base) ∷ ds) (digits_onto k base false (n / base) (digit_glyph false (n % base) ∷ ds))) e
+    → digits_onto (suc k) base false n ds ≡ cond t (digit_glyph false (n % base) ∷ ds)
+    (digits_onto k base false (n / base) (digit_glyph false (n % base) ∷ ds))
+onto_step base k n ds t e = ap (λ (b : Bool). cond b (digit_glyph false (n % base) ∷ ds)
+    (digits_onto k base false (n / base) (digit_glyph false (n % base) ∷ ds))) e
 
 fewer : (base d n : ℕ) → 0 < base → n < base ^ suc (suc d) → n / base < base ^ suc d
 fewer base d n some below = (div-lt_iff_lt-mul some).1 (rw (pow-suc base (suc d)) at below)
@@ -82,34 +84,45 @@ small_div base n some below =
     let less : n < base = omega (arith, one) in
     div-eq_of_lt less
 
-dec_onto : (k d n : ℕ) (ds : List ℕ) → d < k → n < 10 ^ suc d → decimal_from 0 (digits_onto k 10 false n ds) ≡ decimal_from n ds
+dec_onto : (k d n : ℕ) (ds : List ℕ) → d < k → n < 10 ^ suc d
+    → decimal_from 0 (digits_onto k 10 false n ds) ≡ decimal_from n ds
 dec_onto zero d n ds few below = absurd (omega arith)
-dec_onto (suc k) d n ds few below = by (λ e small less. dec_onto k e (n / 10) (digit_glyph false (n % 10) ∷ ds) small less) d few below (eqb (n / 10) 0) refl
+dec_onto (suc k) d n ds few below = by (λ e small less. dec_onto k e (n / 10)
+    (digit_glyph false (n % 10) ∷ ds) small less) d few below (eqb (n / 10) 0) refl
   where
     digit : n % 10 < 10
     digit = mod-lt n (omega arith)
 
-    by : ((e : ℕ) → e < k → n / 10 < 10 ^ suc e → decimal_from 0 (digits_onto k 10 false (n / 10) (digit_glyph false (n % 10) ∷ ds)) ≡ decimal_from (n / 10) (digit_glyph false (n % 10) ∷ ds))
-        → (d : ℕ) → d < suc k → n < 10 ^ suc d → (t : Bool) → eqb (n / 10) 0 ≡ t → decimal_from 0 (digits_onto (suc k) 10 false n ds) ≡ decimal_from n ds
+    by : ((e : ℕ) → e < k → n / 10 < 10 ^ suc e → decimal_from 0
+        (digits_onto k 10 false (n / 10) (digit_glyph false (n % 10) ∷ ds)) ≡ decimal_from (n / 10)
+        (digit_glyph false (n % 10) ∷ ds))
+        → (d : ℕ) → d < suc k → n < 10 ^ suc d → (t : Bool) → eqb (n / 10) 0 ≡ t
+        → decimal_from 0 (digits_onto (suc k) 10 false n ds) ≡ decimal_from n ds
     by again d few below true e =
         let none : n / 10 ≡ 0 = eqb-true _ _ e in
         let whole : 0 * 10 + n % 10 ≡ n = omega arith in
-        ap (decimal_from 0) (onto_step 10 k n ds true e) ∙ dec_digit 0 (n % 10) ds digit ∙ ap (λ m. decimal_from m ds) whole
+        ap (decimal_from 0) (onto_step 10 k n ds true e) ∙ dec_digit 0 (n % 10) ds digit
+        ∙ ap (λ m. decimal_from m ds) whole
     by again zero few below false e = absurd (eqb-false _ _ e (omega arith))
     by again (suc d) few below false e =
         let whole : n / 10 * 10 + n % 10 ≡ n = omega arith in
         let less : n / 10 < 10 ^ suc d = omega (arith, pow-suc 10 (suc d)) in
-        ap (decimal_from 0) (onto_step 10 k n ds false e) ∙ again d (omega arith) less ∙ dec_digit (n / 10) (n % 10) ds digit ∙ ap (λ m. decimal_from m ds) whole
+        ap (decimal_from 0) (onto_step 10 k n ds false e) ∙ again d (omega arith) less
+        ∙ dec_digit (n / 10) (n % 10) ds digit ∙ ap (λ m. decimal_from m ds) whole
 
 hex_onto : (k d n : ℕ) (ds : List ℕ) → d < k → n < 16 ^ suc d → hex_from 0 (digits_onto k 16 false n ds) ≡ hex_from n ds
 hex_onto zero d n ds few below = absurd (omega arith)
-hex_onto (suc k) d n ds few below = by (λ e small less. hex_onto k e (n / 16) (digit_glyph false (n % 16) ∷ ds) small less) d few below (eqb (n / 16) 0) refl
+hex_onto (suc k) d n ds few below = by (λ e small less. hex_onto k e (n / 16)
+    (digit_glyph false (n % 16) ∷ ds) small less) d few below (eqb (n / 16) 0) refl
   where
     digit : n % 16 < 16
     digit = mod-lt n (omega arith)
 
-    by : ((e : ℕ) → e < k → n / 16 < 16 ^ suc e → hex_from 0 (digits_onto k 16 false (n / 16) (digit_glyph false (n % 16) ∷ ds)) ≡ hex_from (n / 16) (digit_glyph false (n % 16) ∷ ds))
-        → (d : ℕ) → d < suc k → n < 16 ^ suc d → (t : Bool) → eqb (n / 16) 0 ≡ t → hex_from 0 (digits_onto (suc k) 16 false n ds) ≡ hex_from n ds
+    by : ((e : ℕ) → e < k → n / 16 < 16 ^ suc e → hex_from 0
+        (digits_onto k 16 false (n / 16) (digit_glyph false (n % 16) ∷ ds)) ≡ hex_from (n / 16)
+        (digit_glyph false (n % 16) ∷ ds))
+        → (d : ℕ) → d < suc k → n < 16 ^ suc d → (t : Bool) → eqb (n / 16) 0 ≡ t
+        → hex_from 0 (digits_onto (suc k) 16 false n ds) ≡ hex_from n ds
     by again d few below true e =
         let none : n / 16 ≡ 0 = eqb-true _ _ e in
         let whole : 0 * 16 + n % 16 ≡ n = omega arith in
@@ -118,7 +131,8 @@ hex_onto (suc k) d n ds few below = by (λ e small less. hex_onto k e (n / 16) (
     by again (suc d) few below false e =
         let whole : n / 16 * 16 + n % 16 ≡ n = omega arith in
         let less : n / 16 < 16 ^ suc d = omega (arith, pow-suc 16 (suc d)) in
-        ap (hex_from 0) (onto_step 16 k n ds false e) ∙ again d (omega arith) less ∙ hex_step (n / 16) (n % 16) ds digit ∙ ap (λ m. hex_from m ds) whole
+        ap (hex_from 0) (onto_step 16 k n ds false e) ∙ again d (omega arith) less
+        ∙ hex_step (n / 16) (n % 16) ds digit ∙ ap (λ m. hex_from m ds) whole
 
 -- ---- what the digits are
 
@@ -133,8 +147,10 @@ figure d small = by (nat_lt d 10) refl
     within b low high = rw (le-leb 48 b low, le-leb b 102 high) refl
 
     by : (t : Bool) → nat_lt d 10 ≡ t → is_figure (digit_glyph false d) ≡ true
-    by true e = let low : d < 10 = ltb-true d 10 e in within (digit_glyph false d) (omega (arith, glyph_low d low)) (omega (arith, glyph_low d low))
-    by false e = let high : 10 ≤ d = ltb-false d 10 e in within (digit_glyph false d) (omega (arith, glyph_high d high)) (omega (arith, glyph_high d high))
+    by true e = let low : d < 10 = ltb-true d 10 e in within (digit_glyph false d) (omega (arith, glyph_low d low))
+        (omega (arith, glyph_low d low))
+    by false e = let high : 10 ≤ d = ltb-false d 10 e in within (digit_glyph false d)
+        (omega (arith, glyph_high d high)) (omega (arith, glyph_high d high))
 
 -- the text of a number: figures, at least one and at most this many
 pub record Figures (most : ℕ) (word : List ℕ) : Type 0 where
@@ -142,9 +158,12 @@ pub record Figures (most : ℕ) (word : List ℕ) : Type 0 where
   pub few : length word ≤ most
   pub all : list_all is_figure word ≡ true
 
-onto_figures : (base k d n : ℕ) (ds : List ℕ) → 0 < base → base ≤ 16 → d < k → n < base ^ suc d → list_all is_figure ds ≡ true → Figures (suc d + length ds) (digits_onto k base false n ds)
+onto_figures : (base k d n : ℕ) (ds : List ℕ) → 0 < base → base ≤ 16 → d < k → n < base ^ suc d
+    → list_all is_figure ds ≡ true → Figures (suc d + length ds) (digits_onto k base false n ds)
 onto_figures base zero d n ds some high few below all = absurd (omega arith)
-onto_figures base (suc k) d n ds some high few below all = by (λ e small less. onto_figures base k e (n / base) (digit_glyph false (n % base) ∷ ds) some high small less more) d few below (eqb (n / base) 0) refl
+onto_figures base (suc k) d n ds some high few below all =
+    by (λ e small less. onto_figures base k e (n / base)
+    (digit_glyph false (n % base) ∷ ds) some high small less more) d few below (eqb (n / base) 0) refl
   where
     digit : n % base < base
     digit = mod-lt n some
@@ -152,13 +171,18 @@ onto_figures base (suc k) d n ds some high few below all = by (λ e small less. 
     more : list_all is_figure (digit_glyph false (n % base) ∷ ds) ≡ true
     more = rw (figure (n % base) (omega (arith, digit)), all) refl
 
-    by : ((e : ℕ) → e < k → n / base < base ^ suc e → Figures (suc e + length (digit_glyph false (n % base) ∷ ds)) (digits_onto k base false (n / base) (digit_glyph false (n % base) ∷ ds)))
-        → (d : ℕ) → d < suc k → n < base ^ suc d → (t : Bool) → eqb (n / base) 0 ≡ t → Figures (suc d + length ds) (digits_onto (suc k) base false n ds)
-    by again d few below true e = rw (onto_step base k n ds true e) (record { some = omega arith; few = omega arith; all = more })
+    by : ((e : ℕ) → e < k → n / base < base ^ suc e
+        → Figures (suc e + length (digit_glyph false (n % base) ∷ ds))
+        (digits_onto k base false (n / base) (digit_glyph false (n % base) ∷ ds)))
+        → (d : ℕ) → d < suc k → n < base ^ suc d → (t : Bool) → eqb (n / base) 0 ≡ t
+        → Figures (suc d + length ds) (digits_onto (suc k) base false n ds)
+    by again d few below true e = rw (onto_step base k n ds true e)
+        (record { some = omega arith; few = omega arith; all = more })
     by again zero few below false e = absurd (eqb-false _ _ e (small_div base n some below))
     by again (suc d) few below false e =
         let less : n / base < base ^ suc d = fewer base d n some below in
-        let h : Figures (suc d + length (digit_glyph false (n % base) ∷ ds)) (digits_onto k base false (n / base) (digit_glyph false (n % base) ∷ ds)) = again d (omega arith) less in
+        let h : Figures (suc d + length (digit_glyph false (n % base) ∷ ds))
+        (digits_onto k base false (n / base) (digit_glyph false (n % base) ∷ ds)) = again d (omega arith) less in
         rw (onto_step base k n ds false e) (record { some = h.some; few = omega (arith, h.few); all = h.all })
 
 -- ---- the texts of numbers
@@ -193,7 +217,8 @@ pub hex_back : (n : ℕ) → n < 16 ^ 16 → hex_of (hexadecimal n) ≡ Ok n
 unfolding hex_of
 hex_back n below =
     let h : Figures 16 (hexadecimal n) = hex_figures 15 n (omega arith) below in
-    rw (le-leb 1 (length (hexadecimal n)) h.some, le-leb (length (hexadecimal n)) 16 h.few) (hex_value 15 n (omega arith) below)
+    rw (le-leb 1 (length (hexadecimal n)) h.some, le-leb (length (hexadecimal n)) 16 h.few)
+    (hex_value 15 n (omega arith) below)
 
 pub byte_back : (n : ℕ) → n < 256 → bytes_of (digit_text (n / 16) ∷ digit_text (n % 16) ∷ []) ≡ Ok (n ∷ [])
 unfolding bytes_of

@@ -1,190 +1,233 @@
--- A plan that was read is built: the states of the reading, from the first line on.
-use Rattle.std.proofs.Common.{◌≡◌, ℕ, ◌+◌, ◌%◌, ◌<◌, ◌≤◌, Bool, true, false, cond, eqb, List, [], ◌∷◌, ◌++◌, length, Some, Result, Ok, Err, ◌⊎◌, inl, inr, refl, sym, ap, subst, ◌∙◌, arith, length-append}
-use Rattle.std.proofs.Math.Bool.{or-true}
-use Rattle.std.specs.Prelude.{◌&&◌, nat_lt}
-use Rattle.std.specs.List.{list_all}
-use Rattle.std.proofs.lemmas.Bool.{ltb-true, eqb-true, eq-eqb, ne_eqb, eqb-false, and_from, and_parts, not-false}
-use Rattle.std.proofs.lemmas.List.{append_assoc}
-use Rattle.std.proofs.lemmas.List.Folds.{list_all-append}
-use Rattle.fsb_access.specs.declared.access.Access.{Access}
-use Rattle.fsb_access.specs.declared.access.Setting.{Setting}
-use Rattle.fsb_access.specs.declared.item.Item.{Item}
-use Rattle.fsb_access.specs.declared.item.Item.TheVariants.{One, Locked, Idle}
-use Rattle.fsb_access.specs.Access.{accessed_line, is_lawful_access}
+-- A plan that was read is lawful.
+use Rattle.std.proofs.Common.{◌≡◌, ℕ, ◌+◌, ◌≤◌, Bool, true, false, cond, List, [], ◌∷◌, Result, Ok, Err, length, refl, sym, subst}
+use Rattle.std.specs.Prelude.{◌&&◌, nat_le, codes}
+use Rattle.std.specs.Str.{bytes_eq}
+use Rattle.std.proofs.lemmas.Bool.{leb-true, eqb-true, and_parts}
 use Rattle.fsb_script.specs.declared.fault.Cause.{Cause}
-use Rattle.fsb_script.specs.declared.fault.Cause.TheVariants.{Range}
-use Rattle.fsb_script.specs.Bounds.{is_apart, is_lawful_item}
-use Rattle.fsb_script_laws.specs.BuiltPlans.{is_one}
-use Rattle.fsb_script.specs.Named.{first_in, is_other, has_other}
+use Rattle.fsb_script.specs.declared.fault.Cause.TheVariants.{Word}
+use Rattle.fsb_script.specs.declared.fault.ScriptFault.{ScriptFault}
+use Rattle.fsb_script.specs.Places.{ReadingPlace, at_agents, at_clocks, at_cache, at_ahead, at_profile, at_bridge, at_memory, at_agent, at_items, at_locked, at_hazards}
 use Rattle.fsb_script.specs.Parsing.{◌>>=◌}
-use Rattle.fsb_script.specs.TextWords.{is_silent, next_word, line_ended}
+use Rattle.fsb_script.specs.Bounds.{is_lawful_script, are_lawful_hazards}
+use Rattle.fsb_script.specs.DraftKept.{is_fresh, has_all, has_lock_room}
+use Rattle.fsb_script.specs.TextWords.{text_lines, is_silent, next_word}
 use Rattle.fsb_script.specs.Statements.{load_of, store_of}
-use Rattle.fsb_script.specs.Forms.{is_built, built, built_if}
 use Rattle.fsb_script.specs.Plans.{PlanView}
-use Rattle.fsb_script.specs.Drafts.{Progress, after_line, choice_line, room, load_item, store_item, idle_item, lock_item, one_item, named_line, end_line, place_behind, hazard_line, transaction_line, block_line, add_hazard, plan_at_end, on_line, plan_from}
-use Rattle.fsb_script_laws.specs.BuiltPlans.{lines_of_item, lines_named, are_apart}
-use Rattle.fsb_script_laws.proofs.MemoryLines.{item_state}
-use Rattle.fsb_script_laws.proofs.Scripts.{plan_with}
-use Rattle.fsb_script_laws.proofs.Inverted.{bind_ok, require_ok, ok_same, state_is, load_is, store_is}
+use Rattle.fsb_script.specs.Drafts.{Progress, beginning, after_line, choice_line, line_by_word, front_line, body_line, memory_line, next_agent_line, item_line, locked_line, hazard_line, profile_line, bridge_line, mem_line, agent_line, load_item, store_item, idle_item, lock_item, end_line, locked_access, unlock_line, transaction_line, block_line, on_line, plan_from, plan_at_end, plan_so_far, end_at, said_plan, BenchText}
+use Rattle.fsb_script.proofs.Interface.{AtEach, at_every}
+use Rattle.fsb_script_laws.specs.LawfulPlans.{IsLawfulPlan}
+use Rattle.fsb_script_laws.proofs.Inverted.{bind_ok, load_is, store_is}
+use Rattle.fsb_script_laws.proofs.Sound.{IsSound, Gives, at, first_sound, agents_sound, clocks_sound, cache_sound, ahead_sound, profile_sound, bridge_sound, mem_sound, agent_sound, load_sound, store_sound, idle_sound, lock_sound, end_sound, locked_sound, unlock_sound, transaction_sound, block_sound}
 
--- ---- one line
+-- ---- by the first word
 
-from_line : (n : ℕ) (r : Result Progress Cause) (lines : List (List ℕ)) (p : PlanView) → (on_line n r >>= (λ e. plan_from (n + 1) e lines)) ≡ Ok p → (e : Progress) × ((r ≡ Ok e) × (plan_from (n + 1) e lines ≡ Ok p))
-from_line n (Ok e) lines p h = (e, (refl, h))
-from_line n (Err c) lines p h = absurd cc
+-- a choice of two sound lines is sound
+either : (t : Bool) (a b : Result Progress Cause) → Gives a → Gives b → Gives (cond t a b)
+either true a b left right = left
+either false a b left right = right
 
-pub next_line : (n : ℕ) (d : Progress) (line : List ℕ) (lines : List (List ℕ)) (p : PlanView) → plan_from n d (line ∷ lines) ≡ Ok p → (e : Progress) × ((after_line d line ≡ Ok e) × (plan_from (n + 1) e lines ≡ Ok p))
-next_line n d line lines p h = from_line n (after_line d line) lines p h
+none : Gives (Err Word)
+none e h = absurd cc
 
-pub past_or : (t : Bool) (d e : Progress) (r : Result Progress Cause) → cond t (Ok d) r ≡ Ok e → (d ≡ e) ⊎ (r ≡ Ok e)
-past_or true d e r h = inl (ok_same d e (Ok d) refl h)
-past_or false d e r h = inr h
+memory_by_word : (d : Progress) (word line : List ℕ) → IsSound d → Gives (memory_line d word line)
+unfolding memory_line
+memory_by_word d word line s =
+    either (bytes_eq word (codes "mem")) (mem_line d line)
+    (cond (bytes_eq word (codes "agent")) (agent_line d line) (Err Word)) (mem_sound d line s)
+    (either (bytes_eq word (codes "agent")) (agent_line d line) (Err Word) (agent_sound d line s) none)
 
--- ---- behind the script
+body_by_word : (d : Progress) (word line : List ℕ) → IsSound d → Gives (body_line d word line)
+unfolding body_line
+body_by_word d word line s = either (bytes_eq word (codes "bridge")) (bridge_line d line) (memory_line d word line)
+    (bridge_sound d line s) (memory_by_word d word line s)
 
-abbrev pub final_state : ℕ → ℕ → List Setting → List Item → List ℕ → Progress
-final_state clocks cache mem script lines = record (item_state clocks cache mem [] lines) { place = place_behind 1 1; scripts = script ∷ []; earlier = lines }
+front_by_word : (d : Progress) (word line : List ℕ) → IsSound d → Gives (front_line d word line)
+unfolding front_line
+front_by_word d word line s = either (bytes_eq word (codes "profile")) (profile_line d line) (body_line d word line)
+    (profile_sound d line s) (body_by_word d word line s)
 
-no_hazard_line : (d : Progress) (word rest : List ℕ) (e : Progress) → hazard_line d word rest ≡ Ok e → ⊥
-unfolding hazard_line transaction_line block_line add_hazard built is_built
-no_hazard_line d word rest e h = grind arith
+agent_by_word : (d : Progress) (word line : List ℕ) → IsSound d → Gives (next_agent_line d word line)
+unfolding next_agent_line
+agent_by_word d word line s = either (bytes_eq word (codes "agent")) (agent_line d line) (Err Word)
+    (agent_sound d line s) none
 
-final_inv : (clocks cache : ℕ) (mem : List Setting) (script : List Item) (lines line : List ℕ) (e : Progress) → after_line (final_state clocks cache mem script lines) line ≡ Ok e → final_state clocks cache mem script lines ≡ e
-unfolding after_line choice_line
-final_inv clocks cache mem script lines line e h = by (past_or (is_silent line) (final_state clocks cache mem script lines) e (choice_line (final_state clocks cache mem script lines) line) h)
-  where
-    by : (final_state clocks cache mem script lines ≡ e) ⊎ (choice_line (final_state clocks cache mem script lines) line ≡ Ok e) → final_state clocks cache mem script lines ≡ e
-    by (inl same) = same
-    by (inr g) = let a = bind_ok (next_word line) _ e g in absurd (no_hazard_line (final_state clocks cache mem script lines) a.0.0 a.0.1 e a.1.1)
+item_by_word : (d : Progress) (word line : List ℕ) → IsSound (at at_items d)
+    → Gives (item_line (at at_items d) word line)
+unfolding item_line
+item_by_word d word line s =
+    either (bytes_eq word (codes "ld")) (load_item (at at_items d) line) _ (load_sound d line s)
+    (either (bytes_eq word (codes "st")) (store_item (at at_items d) line) _ (store_sound d line s)
+    (either (bytes_eq word (codes "idle")) (idle_item (at at_items d) line) _ (idle_sound d line s)
+    (either (bytes_eq word (codes "lock")) (lock_item (at at_items d) line) _ (lock_sound d line s)
+    (either (bytes_eq word (codes "end")) (end_line (at at_items d) line) (Err Word) (end_sound d line s) none))))
 
-pub from_final : (texts : List (List ℕ)) (n clocks cache : ℕ) (mem : List Setting) (script : List Item) (lines : List ℕ) (p : PlanView) → plan_from n (final_state clocks cache mem script lines) texts ≡ Ok p → plan_with clocks cache mem script ≡ p
-unfolding plan_at_end
-from_final [] n clocks cache mem script lines p h = ok_same (plan_with clocks cache mem script) p (plan_at_end n (final_state clocks cache mem script lines)) refl h
-from_final (line ∷ texts) n clocks cache mem script lines p h =
-    let a = next_line n (final_state clocks cache mem script lines) line texts p h in
-    from_final texts (n + 1) clocks cache mem script lines p (subst (λ (d : Progress). plan_from (n + 1) d texts ≡ Ok p) (sym (final_inv clocks cache mem script lines line a.0 a.1.0)) a.1.1)
+locked_load : (d : Progress) (line : List ℕ) → IsSound (at at_locked d)
+    → Gives (load_of line >>= (λ access. locked_access (at at_locked d) access))
+locked_load d line s e h = let a = bind_ok (load_of line)
+    (λ access. locked_access (at at_locked d) access) e h in locked_sound d a.0 s (load_is line a.0 a.1.0) e a.1.1
 
--- ---- the lines of the cache
+locked_store : (d : Progress) (line : List ℕ) → IsSound (at at_locked d)
+    → Gives (store_of line >>= (λ access. locked_access (at at_locked d) access))
+locked_store d line s e h = let a = bind_ok (store_of line)
+    (λ access. locked_access (at at_locked d) access) e h in locked_sound d a.0 s (store_is line a.0 a.1.0) e a.1.1
 
-named_free : (clocks cache : ℕ) (mem : List Setting) (script : List Item) (lines : List ℕ) (line : ℕ) (e : Progress) → named_line (item_state clocks cache mem script lines) line ≡ Ok e → has_other (record { cache = cache; lines = lines }) line ≡ false
-unfolding named_line built_if built is_built
-named_free clocks cache mem script lines line e h = grind arith
+locked_by_word : (d : Progress) (word line : List ℕ) → IsSound (at at_locked d)
+    → Gives (locked_line (at at_locked d) word line)
+unfolding locked_line
+locked_by_word d word line s =
+    either (bytes_eq word (codes "ld")) (load_of line >>= (λ access. locked_access (at at_locked d) access)) _
+    (locked_load d line s)
+    (either (bytes_eq word (codes "st")) (store_of line >>= (λ access. locked_access (at at_locked d) access)) _
+    (locked_store d line s)
+    (either (bytes_eq word (codes "unlock")) (unlock_line (at at_locked d) line) (Err Word)
+    (unlock_sound d line s) none))
 
-named_same : (clocks cache : ℕ) (mem : List Setting) (script : List Item) (lines : List ℕ) (line : ℕ) (e : Progress) → named_line (item_state clocks cache mem script lines) line ≡ Ok e → item_state clocks cache mem script (lines ++ line ∷ []) ≡ e
-unfolding named_line built_if built is_built
-named_same clocks cache mem script lines line e h = grind arith
+hazard_by_word : (d : Progress) (word line : List ℕ) → IsSound d → Gives (hazard_line d word line)
+unfolding hazard_line
+hazard_by_word d word line s =
+    either (bytes_eq word (codes "tx")) (transaction_line d line) _ (transaction_sound d line s)
+    (either (bytes_eq word (codes "bnr")) (block_line d line) (Err Word) (block_sound d line s) none)
 
-same_eqb : (a b : ℕ) (t : Bool) → eqb a b ≡ t → eqb b a ≡ t
-same_eqb a b true h = eq-eqb b a (sym (eqb-true a b h))
-same_eqb a b false h = ne_eqb b a (λ e. eqb-false a b h (sym e))
+-- ---- every line
 
-apart_turn : (cache a b : ℕ) → is_apart cache a b ≡ true → is_apart cache b a ≡ true
-apart_turn cache a b h = rw (same_eqb a b (eqb a b) refl, same_eqb (a % cache) (b % cache) (eqb (a % cache) (b % cache)) refl) h
+-- a line that is read past leaves all as it is
+past : (t : Bool) (d : Progress) (r : Result Progress Cause) → IsSound d → Gives r → Gives (cond t (Ok d) r)
+past true d r s gives e h = let same : d ≡ e = cc in subst (λ (x : Progress). IsSound x) same s
+past false d r s gives e h = gives e h
 
-apart_turn_all : (cache line : ℕ) (lines : List ℕ) → list_all (is_apart cache line) lines ≡ true → list_all (λ other. is_apart cache other line) lines ≡ true
-apart_turn_all cache line [] h = refl
-apart_turn_all cache line (x ∷ xs) h = and_from (is_apart cache x line) (list_all (λ other. is_apart cache other line) xs) (apart_turn cache line x (and_parts (is_apart cache line x) (list_all (is_apart cache line) xs) h).0) (apart_turn_all cache line xs (and_parts (is_apart cache line x) (list_all (is_apart cache line) xs) h).1)
+-- a line by its first word
+by_word : (d : Progress) (line : List ℕ) → ((word rest : List ℕ) → Gives (line_by_word d.place d word rest))
+    → Gives (choice_line d line)
+unfolding choice_line
+by_word d line each e h = let a = bind_ok (next_word line)
+    (λ w. line_by_word d.place d w.0 w.1) e h in each a.0.0 a.0.1 e a.1.1
 
--- a line whose cache set no other line has is apart from all
-all_apart : (cache line : ℕ) (lines : List ℕ) → are_apart cache lines ≡ true → is_other line (first_in cache (line % cache) lines) ≡ false → list_all (λ other. is_apart cache other line) lines ≡ true
-all_apart cache line [] apart free = refl
-all_apart cache line (x ∷ xs) apart free = by (λ f. all_apart cache line xs (and_parts (list_all (is_apart cache x) xs) (are_apart cache xs) apart).1 f) (eqb (x % cache) (line % cache)) refl free
-  where
-    here : list_all (is_apart cache x) xs ≡ true
-    here = (and_parts (list_all (is_apart cache x) xs) (are_apart cache xs) apart).0
+-- a line at a place, where the lines so far are sound
+abbrev KeptAt : ReadingPlace → Type 0
+KeptAt place = (d : Progress) (line : List ℕ) → IsSound (at place d) → Gives (after_line (at place d) line)
 
-    by : (is_other line (first_in cache (line % cache) xs) ≡ false → list_all (λ other. is_apart cache other line) xs ≡ true)
-        → (t : Bool) → eqb (x % cache) (line % cache) ≡ t → is_other line (cond t (Some x) (first_in cache (line % cache) xs)) ≡ false → list_all (λ other. is_apart cache other line) (x ∷ xs) ≡ true
-    by again true e f =
-        let same : line ≡ x = eqb-true line x (not-false (eqb line x) f) in
-        let first : is_apart cache x line ≡ true = rw (eq-eqb x line (sym same)) refl in
-        and_from (is_apart cache x line) (list_all (λ other. is_apart cache other line) xs) first (subst (λ (l : ℕ). list_all (λ other. is_apart cache other l) xs ≡ true) (sym same) (apart_turn_all cache x xs here))
-    by again false e f =
-        let first : is_apart cache x line ≡ true = rw e (or-true (eqb x line)) in
-        and_from (is_apart cache x line) (list_all (λ other. is_apart cache other line) xs) first (again f)
-
-apart_push : (cache line : ℕ) (lines : List ℕ) → are_apart cache lines ≡ true → list_all (λ other. is_apart cache other line) lines ≡ true → are_apart cache (lines ++ line ∷ []) ≡ true
-apart_push cache line [] apart all = refl
-apart_push cache line (x ∷ xs) apart all =
-    let here : is_apart cache x line ≡ true = (and_parts (is_apart cache x line) (list_all (λ other. is_apart cache other line) xs) all).0 in
-    let known : list_all (is_apart cache x) xs ≡ true = (and_parts (list_all (is_apart cache x) xs) (are_apart cache xs) apart).0 in
-    and_from (list_all (is_apart cache x) (xs ++ line ∷ [])) (are_apart cache (xs ++ line ∷ []))
-    (list_all-append (is_apart cache x) xs (line ∷ []) ∙ and_from (list_all (is_apart cache x) xs) (is_apart cache x line && true) known (and_from (is_apart cache x line) true here refl))
-    (apart_push cache line xs (and_parts (list_all (is_apart cache x) xs) (are_apart cache xs) apart).1 (and_parts (is_apart cache x line) (list_all (λ other. is_apart cache other line) xs) all).1)
-
-named_push : (script : List Item) (access : Access) → lines_named (script ++ One access ∷ []) ≡ lines_named script ++ accessed_line access ∷ []
-named_push [] access = refl
-named_push (One a ∷ items) access = ap (λ (ls : List ℕ). accessed_line a ∷ ls) (named_push items access)
-named_push (Locked accesses ∷ items) access = ap (λ (ls : List ℕ). lines_of_item (Locked accesses) ++ ls) (named_push items access) ∙ sym (append_assoc (lines_of_item (Locked accesses)) (lines_named items) (accessed_line access ∷ []))
-named_push (Idle n ∷ items) access = named_push items access
-
--- ---- the script
-
--- what is known of the items so far and the lines that they name
-pub record Script (cache : ℕ) (script : List Item) (lines : List ℕ) : Type 0 where
-  pub ones : list_all is_one script ≡ true
-  pub lawful : list_all (is_lawful_item cache) script ≡ true
-  pub few : length script ≤ 4096
-  pub named : lines_named script ≡ lines
-  pub apart : are_apart cache lines ≡ true
-
-pub script_push : (cache : ℕ) (script : List Item) (lines : List ℕ) (access : Access) → Script cache script lines → is_lawful_access access ≡ true → length script < 4096 → has_other (record { cache = cache; lines = lines }) (accessed_line access) ≡ false → Script cache (script ++ One access ∷ []) (lines ++ accessed_line access ∷ [])
-unfolding has_other
-script_push cache script lines access s lawful room free = record {
-  ones = list_all-append is_one script (One access ∷ []) ∙ and_from (list_all is_one script) true s.ones refl;
-  lawful = list_all-append (is_lawful_item cache) script (One access ∷ []) ∙ and_from (list_all (is_lawful_item cache) script) (is_lawful_access access && true) s.lawful (and_from (is_lawful_access access) true lawful refl);
-  few = omega (arith, length-append script (One access ∷ []));
-  named = named_push script access ∙ ap (λ (ls : List ℕ). ls ++ accessed_line access ∷ []) s.named;
-  apart = apart_push cache (accessed_line access) lines s.apart (all_apart cache (accessed_line access) lines s.apart free);
+kept_at_each : AtEach KeptAt
+unfolding after_line
+kept_at_each = record {
+  first = λ d line s. first_sound d line s;
+  agents = λ d line s. past (is_silent line) (at at_agents d) _ s (agents_sound d line s);
+  clocks = λ d line s. past (is_silent line) (at at_clocks d) _ s (clocks_sound d line s);
+  cache = λ d line s. past (is_silent line) (at at_cache d) _ s (cache_sound d line s);
+  ahead = λ d line s. past (is_silent line) (at at_ahead d) _ s (ahead_sound d line s);
+  profile = λ d line s. past (is_silent line) (at at_profile d) _ s
+      (by_word (at at_profile d) line (λ word rest. front_by_word (at at_profile d) word rest s));
+  bridge = λ d line s. past (is_silent line) (at at_bridge d) _ s
+      (by_word (at at_bridge d) line (λ word rest. body_by_word (at at_bridge d) word rest s));
+  memory = λ d line s. past (is_silent line) (at at_memory d) _ s
+      (by_word (at at_memory d) line (λ word rest. memory_by_word (at at_memory d) word rest s));
+  agent = λ d line s. past (is_silent line) (at at_agent d) _ s
+      (by_word (at at_agent d) line (λ word rest. agent_by_word (at at_agent d) word rest s));
+  items = λ d line s. past (is_silent line) (at at_items d) _ s
+      (by_word (at at_items d) line (λ word rest. item_by_word d word rest s));
+  locked = λ d line s. past (is_silent line) (at at_locked d) _ s
+      (by_word (at at_locked d) line (λ word rest. locked_by_word d word rest s));
+  hazards = λ d line s. past (is_silent line) (at at_hazards d) _ s
+      (by_word (at at_hazards d) line (λ word rest. hazard_by_word (at at_hazards d) word rest s));
 }
 
--- an item's line adds an access
-pub record Added (clocks cache : ℕ) (mem : List Setting) (script : List Item) (lines : List ℕ) (e : Progress) : Type 0 where
-  pub access : Access
-  pub lawful : is_lawful_access access ≡ true
-  pub room : length script < 4096
-  pub free : has_other (record { cache = cache; lines = lines }) (accessed_line access) ≡ false
-  pub state : item_state clocks cache mem (script ++ One access ∷ []) (lines ++ accessed_line access ∷ []) ≡ e
+after_sound : (d : Progress) (line : List ℕ) → IsSound d → Gives (after_line d line)
+after_sound d line s = at_every KeptAt kept_at_each d.place d line s
 
-one_inv : (clocks cache : ℕ) (mem : List Setting) (script : List Item) (lines : List ℕ) (access : Access) (e : Progress) → is_lawful_access access ≡ true → length script < 4096 → one_item (item_state clocks cache mem script lines) access ≡ Ok e → Added clocks cache mem script lines e
-unfolding one_item
-one_inv clocks cache mem script lines access e lawful room h =
-    let a = bind_ok (named_line (item_state clocks cache mem script lines) (accessed_line access)) (λ e. Ok (record e { script = e.script ++ One access ∷ [] })) e h in
-    let same : item_state clocks cache mem script (lines ++ accessed_line access ∷ []) ≡ a.0 = named_same clocks cache mem script lines (accessed_line access) a.0 a.1.0 in
+-- ---- the whole text
+
+begins_sound : IsSound beginning
+unfolding is_lawful_script are_lawful_hazards is_fresh has_all has_lock_room
+begins_sound = record {
+  counts = refl;
+  cache = refl;
+  profile = refl;
+  bridge = refl;
+  mem = refl;
+  bytes =
+      refl;
+  hazards = refl;
+  scripts = refl;
+  script = refl;
+  group = refl;
+  fresh = refl;
+  all = refl;
+  room = refl;
+}
+
+-- the plan at the end of the last script is lawful
+so_far : (d : Progress) → IsSound (at at_hazards d) → IsLawfulPlan (plan_so_far d)
+unfolding has_all
+so_far d s =
+    let agents_two : (nat_le 1 d.agents && nat_le d.agents 4) ≡ true =
+    (and_parts (nat_le 1 d.agents && nat_le d.agents 4)
+    (nat_le d.clocks 200000 && (nat_le 1 d.ahead && nat_le d.ahead 4)) s.counts).0 in
+    let others : (nat_le d.clocks 200000 && (nat_le 1 d.ahead && nat_le d.ahead 4)) ≡ true =
+    (and_parts (nat_le 1 d.agents && nat_le d.agents 4)
+    (nat_le d.clocks 200000 && (nat_le 1 d.ahead && nat_le d.ahead 4)) s.counts).1 in
+    let ahead_two : (nat_le 1 d.ahead && nat_le d.ahead 4) ≡ true =
+    (and_parts (nat_le d.clocks 200000) (nat_le 1 d.ahead && nat_le d.ahead 4) others).1 in
+    let count : d.agents ≡ length d.scripts = sym (eqb-true (length d.scripts) d.agents s.all) in
     record {
-      access = access;
-      lawful = lawful;
-      room = room;
-      free = named_free clocks cache mem script lines (accessed_line access) a.0 a.1.0;
-      state = ap (λ (x : Progress). record x { script = x.script ++ One access ∷ [] }) same ∙ state_is (record a.0 { script = a.0.script ++ One access ∷ [] }) e a.1.1;
+      some_agents = subst (λ (n : ℕ). 1 ≤ n) count (leb-true 1 d.agents
+          (and_parts (nat_le 1 d.agents) (nat_le d.agents 4) agents_two).0);
+      few_agents = subst (λ (n : ℕ). n ≤ 4) count (leb-true d.agents 4
+          (and_parts (nat_le 1 d.agents) (nat_le d.agents 4) agents_two).1);
+      few_clocks = leb-true d.clocks 200000 (and_parts (nat_le d.clocks 200000)
+          (nat_le 1 d.ahead && nat_le d.ahead 4) others).0;
+      lawful_cache = s.cache;
+      some_ahead = leb-true 1 d.ahead (and_parts (nat_le 1 d.ahead) (nat_le d.ahead 4) ahead_two).0;
+      few_ahead = leb-true d.ahead 4 (and_parts (nat_le 1 d.ahead) (nat_le d.ahead 4) ahead_two).1;
+      lawful_profile = s.profile;
+      lawful_bridge = s.bridge;
+      lawful_mem = s.mem;
+      byte_mem = s.bytes;
+      lawful_scripts = s.scripts;
+      lawful_hazards = s.hazards;
     }
 
-pub load_inv : (clocks cache : ℕ) (mem : List Setting) (script : List Item) (lines rest : List ℕ) (e : Progress) → load_item (item_state clocks cache mem script lines) rest ≡ Ok e → Added clocks cache mem script lines e
-unfolding load_item
-load_inv clocks cache mem script lines rest e h =
-    let a = bind_ok (room (item_state clocks cache mem script lines)) _ e h in
-    let r = require_ok (nat_lt (length script) 4096) Range (item_state clocks cache mem script lines) a.0 a.1.0 in
-    let b = bind_ok (load_of rest) _ e a.1.1 in
-    one_inv clocks cache mem script lines b.0 e (load_is rest b.0 b.1.0) (ltb-true (length script) 4096 r.0) b.1.1
+-- a plan, as an answer
+abbrev the_plan : PlanView → Result PlanView ScriptFault
+the_plan q = Ok q
 
-pub store_inv : (clocks cache : ℕ) (mem : List Setting) (script : List Item) (lines rest : List ℕ) (e : Progress) → store_item (item_state clocks cache mem script lines) rest ≡ Ok e → Added clocks cache mem script lines e
-unfolding store_item
-store_inv clocks cache mem script lines rest e h =
-    let a = bind_ok (room (item_state clocks cache mem script lines)) _ e h in
-    let r = require_ok (nat_lt (length script) 4096) Range (item_state clocks cache mem script lines) a.0 a.1.0 in
-    let b = bind_ok (store_of rest) _ e a.1.1 in
-    one_inv clocks cache mem script lines b.0 e (store_is rest b.0 b.1.0) (ltb-true (length script) 4096 r.0) b.1.1
+plan_is : (q p : PlanView) → IsLawfulPlan q → the_plan q ≡ Ok p → IsLawfulPlan p
+plan_is q p lawful h = let same : q ≡ p = cc in subst (λ (x : PlanView). IsLawfulPlan x) same lawful
 
-pub no_idle : (d : Progress) (rest : List ℕ) (e : Progress) → idle_item d rest ≡ Ok e → ⊥
-unfolding idle_item built is_built
-no_idle d rest e h = grind arith
+-- the end of a text there, where the lines so far are sound
+abbrev LawfulAt : ReadingPlace → Type 0
+LawfulAt place = (number : ℕ) (d : Progress) (p : PlanView) → IsSound (at place d) → end_at number d place ≡ Ok p
+    → IsLawfulPlan p
 
-pub no_lock : (d : Progress) (rest : List ℕ) (e : Progress) → lock_item d rest ≡ Ok e → ⊥
-unfolding lock_item built is_built
-no_lock d rest e h = grind arith
+no_plan : (fault : ScriptFault) (p : PlanView) → Err fault ≡ Ok p → ⊥
+no_plan fault p h = absurd cc
 
-pub end_inv : (clocks cache : ℕ) (mem : List Setting) (script : List Item) (lines rest : List ℕ) (e : Progress) → end_line (item_state clocks cache mem script lines) rest ≡ Ok e → final_state clocks cache mem script lines ≡ e
-unfolding end_line
-end_inv clocks cache mem script lines rest e h =
-    let a = bind_ok (line_ended (item_state clocks cache mem script lines) rest) _ e h in
-    state_is (final_state clocks cache mem script lines) e a.1.1
+lawful_at_each : AtEach LawfulAt
+lawful_at_each = record {
+  first = λ number d p s h. absurd (no_plan _ p h);
+  agents = λ number d p s h. absurd (no_plan _ p h);
+  clocks = λ number d p s h. absurd (no_plan _ p h);
+  cache = λ number d p s h. absurd (no_plan _ p h);
+  ahead = λ number d p s h. absurd (no_plan _ p h);
+  profile = λ number d p s h. absurd (no_plan _ p h);
+  bridge = λ number d p s h. absurd (no_plan _ p h);
+  memory = λ number d p s h. absurd (no_plan _ p h);
+  agent = λ number d p s h. absurd (no_plan _ p h);
+  items = λ number d p s h. absurd (no_plan _ p h);
+  locked = λ number d p s h. absurd (no_plan _ p h);
+  hazards = λ number d p s h. plan_is (plan_so_far d) p (so_far d s) h;
+}
+
+line_of : (number : ℕ) (r : Result Progress Cause) (e : Progress) → on_line number r ≡ Ok e → r ≡ Ok e
+line_of number (Ok d) e h = cc
+line_of number (Err cause) e h = absurd cc
+
+from_lawful : (texts : List (List ℕ)) (number : ℕ) (d : Progress) (p : PlanView) → IsSound d
+    → plan_from number d texts ≡ Ok p → IsLawfulPlan p
+unfolding plan_at_end
+from_lawful [] number d p s h = at_every LawfulAt lawful_at_each d.place number d p s h
+from_lawful (line ∷ texts) number d p s h =
+    let a = bind_ok (on_line number (after_line d line)) (λ e. plan_from (number + 1) e texts) p h in
+    from_lawful texts (number + 1) a.0 p (after_sound d line s a.0 (line_of number (after_line d line) a.0 a.1.0)) a.1.1
+
+pub read_is_lawful : (text : List ℕ) (p : PlanView) → BenchText text p → IsLawfulPlan p
+unfolding said_plan
+read_is_lawful text p h = from_lawful (text_lines text) 1 beginning p begins_sound h

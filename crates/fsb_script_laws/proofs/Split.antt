@@ -38,11 +38,13 @@ not_blank b plain =
     let h : 32 < b = ltb-true 32 b plain in
     rw (ne_eqb b 32 (λ e. omega arith), ne_eqb b 9 (λ e. omega arith), ne_eqb b 13 (λ e. omega arith)) refl
 
-word_len_of : (word rest : List ℕ) → list_all is_plain word ≡ true → stops rest ≡ true → word_len (word ++ rest) ≡ length word
+word_len_of : (word rest : List ℕ) → list_all is_plain word ≡ true → stops rest ≡ true
+    → word_len (word ++ rest) ≡ length word
 word_len_of [] [] plain stop = refl
 word_len_of [] (b ∷ bs) plain stop = rw stop refl
 word_len_of (b ∷ bs) rest plain stop =
-    let again : word_len (bs ++ rest) ≡ length bs = word_len_of bs rest (and_parts (is_plain b) (list_all is_plain bs) plain).1 stop in
+    let again : word_len (bs ++ rest) ≡ length bs =
+    word_len_of bs rest (and_parts (is_plain b) (list_all is_plain bs) plain).1 stop in
     let one : 1 + length bs ≡ suc (length bs) = omega arith in
     rw (not_blank b (and_parts (is_plain b) (list_all is_plain bs) plain).0) (rw again one)
 
@@ -57,12 +59,16 @@ next_is (b ∷ bs) rest w stop =
     let len : word_len ((b ∷ bs) ++ rest) ≡ length (b ∷ bs) = word_len_of (b ∷ bs) rest w.plain stop in
     let front : take (length (b ∷ bs)) ((b ∷ bs) ++ rest) ≡ b ∷ bs = take-append_seam (b ∷ bs) rest in
     let back : drop (length (b ∷ bs)) ((b ∷ bs) ++ rest) ≡ rest = drop-append_seam (b ∷ bs) rest in
-    rw (not_blank b (and_parts (is_plain b) (list_all is_plain bs) w.plain).0) (cut (word_len ((b ∷ bs) ++ rest)) len front back)
+    rw (not_blank b (and_parts (is_plain b) (list_all is_plain bs) w.plain).0)
+    (cut (word_len ((b ∷ bs) ++ rest)) len front back)
   where
-    cut : (n : ℕ) → n ≡ length (b ∷ bs) → take (length (b ∷ bs)) ((b ∷ bs) ++ rest) ≡ b ∷ bs → drop (length (b ∷ bs)) ((b ∷ bs) ++ rest) ≡ rest → Split (Ok (take n ((b ∷ bs) ++ rest), drop n ((b ∷ bs) ++ rest))) (b ∷ bs) rest
+    cut : (n : ℕ) → n ≡ length (b ∷ bs) → take (length (b ∷ bs)) ((b ∷ bs) ++ rest) ≡ b ∷ bs
+        → drop (length (b ∷ bs)) ((b ∷ bs) ++ rest) ≡ rest
+        → Split (Ok (take n ((b ∷ bs) ++ rest), drop n ((b ∷ bs) ++ rest))) (b ∷ bs) rest
     cut n e front back = rw e (rw front (rw back refl))
 
-pub next_behind : (word rest : List ℕ) → Word word → stops rest ≡ true → next_word (32 ∷ (word ++ rest)) ≡ Ok (word, rest)
+pub next_behind : (word rest : List ℕ) → Word word → stops rest ≡ true
+    → next_word (32 ∷ (word ++ rest)) ≡ Ok (word, rest)
 unfolding next_word
 next_behind word rest w stop = next_is word rest w stop
 
@@ -79,13 +85,17 @@ pub figures_word : (most : ℕ) (word : List ℕ) → Figures most word → Word
 figures_word most word f = record { some = f.some; plain = figures_plain word f.all }
 
 -- a number behind a space
-pub decimal_next : (n : ℕ) (rest : List ℕ) → n < 10 ^ 18 → stops rest ≡ true → decimal_word (32 ∷ (decimal n ++ rest)) ≡ Ok (n, rest)
+pub decimal_next : (n : ℕ) (rest : List ℕ) → n < 10 ^ 18 → stops rest ≡ true
+    → decimal_word (32 ∷ (decimal n ++ rest)) ≡ Ok (n, rest)
 unfolding decimal_word
-decimal_next n rest below stop = rw (next_behind (decimal n) rest (figures_word 18 (decimal n) (decimal_figures 17 n (omega arith) below)) stop) (rw (decimal_back n below) refl)
+decimal_next n rest below stop = rw (next_behind (decimal n) rest
+    (figures_word 18 (decimal n) (decimal_figures 17 n (omega arith) below)) stop) (rw (decimal_back n below) refl)
 
-pub hex_next : (n : ℕ) (rest : List ℕ) → n < 16 ^ 16 → stops rest ≡ true → hex_word (32 ∷ (hexadecimal n ++ rest)) ≡ Ok (n, rest)
+pub hex_next : (n : ℕ) (rest : List ℕ) → n < 16 ^ 16 → stops rest ≡ true
+    → hex_word (32 ∷ (hexadecimal n ++ rest)) ≡ Ok (n, rest)
 unfolding hex_word
-hex_next n rest below stop = rw (next_behind (hexadecimal n) rest (figures_word 16 (hexadecimal n) (hex_figures 15 n (omega arith) below)) stop) (rw (hex_back n below) refl)
+hex_next n rest below stop = rw (next_behind (hexadecimal n) rest
+    (figures_word 16 (hexadecimal n) (hex_figures 15 n (omega arith) below)) stop) (rw (hex_back n below) refl)
 
 -- a number at the line's end
 pub decimal_last : (n : ℕ) → n < 10 ^ 18 → decimal_word (32 ∷ decimal n) ≡ Ok (n, [])
@@ -102,28 +112,40 @@ plain_inner (b ∷ bs) plain =
     let here : 32 < b = ltb-true 32 b (and_parts (is_plain b) (list_all is_plain bs) plain).0 in
     and_from _ _ (lt-ltb 31 b (omega arith)) (plain_inner bs (and_parts (is_plain b) (list_all is_plain bs) plain).1)
 
-pub inner_append : (a b : List ℕ) → list_all is_inner a ≡ true → list_all is_inner b ≡ true → list_all is_inner (a ++ b) ≡ true
+pub inner_append : (a b : List ℕ) → list_all is_inner a ≡ true → list_all is_inner b ≡ true
+    → list_all is_inner (a ++ b) ≡ true
 inner_append a b p q = list_all-append is_inner a b ∙ and_from _ _ p q
 
 pub decimal_inner : (n : ℕ) → n < 10 ^ 18 → list_all is_inner (decimal n) ≡ true
-decimal_inner n below = plain_inner (decimal n) (figures_plain (decimal n) (decimal_figures 17 n (omega arith) below).all)
+decimal_inner n below = plain_inner (decimal n)
+    (figures_plain (decimal n) (decimal_figures 17 n (omega arith) below).all)
 
 pub hex_inner : (n : ℕ) → n < 16 ^ 16 → list_all is_inner (hexadecimal n) ≡ true
-hex_inner n below = plain_inner (hexadecimal n) (figures_plain (hexadecimal n) (hex_figures 15 n (omega arith) below).all)
+hex_inner n below = plain_inner (hexadecimal n)
+    (figures_plain (hexadecimal n) (hex_figures 15 n (omega arith) below).all)
 
-pub first_line_is : (line rest : List ℕ) → list_all is_inner line ≡ true → text_lines (line ++ (10 ∷ rest)) ≡ line ∷ text_lines rest
+pub first_line_is : (line rest : List ℕ) → list_all is_inner line ≡ true
+    → text_lines (line ++ (10 ∷ rest)) ≡ line ∷ text_lines rest
 first_line_is [] rest inner = refl
 first_line_is (b ∷ bs) rest inner =
     let here : 31 < b = ltb-true 31 b (and_parts (is_inner b) (list_all is_inner bs) inner).0 in
-    rw (first_line_is bs rest (and_parts (is_inner b) (list_all is_inner bs) inner).1) (rw (ne_eqb b 10 (λ e. omega arith)) refl)
+    rw (first_line_is bs rest (and_parts (is_inner b) (list_all is_inner bs) inner).1)
+    (rw (ne_eqb b 10 (λ e. omega arith)) refl)
 
 -- the text goes on from there to the plan, whatever its first line's number
 abbrev pub GoesOn : Progress → List ℕ → PlanView → Type 0
 GoesOn d text p = (number : ℕ) → plan_from number d (text_lines text) ≡ Ok p
 
-pub goes_on : (d e : Progress) (line rest : List ℕ) (p : PlanView) → list_all is_inner line ≡ true → after_line d line ≡ Ok e → GoesOn e rest p → GoesOn d (line ++ (10 ∷ rest)) p
+pub goes_on : (d e : Progress) (line rest : List ℕ) (p : PlanView) → list_all is_inner line ≡ true
+    → after_line d line ≡ Ok e → GoesOn e rest p → GoesOn d (line ++ (10 ∷ rest)) p
 goes_on d e line rest p inner taken then_ number = rw (first_line_is line rest inner) (rw taken (then_ (number + 1)))
 
 -- the two digits of a byte
 pub byte_word : (high low : ℕ) → high < 16 → low < 16 → Word (digit_text high ∷ digit_text low ∷ [])
-byte_word high low h l = record { some = omega arith; plain = figures_plain (digit_text high ∷ digit_text low ∷ []) (and_from (is_figure (digit_text high)) _ (figure high h) (and_from (is_figure (digit_text low)) true (figure low l) refl)) }
+byte_word high low h l = record {
+  some = omega arith;
+  plain =
+      figures_plain (digit_text high ∷ digit_text low ∷ [])
+      (and_from (is_figure (digit_text high)) _ (figure high h)
+      (and_from (is_figure (digit_text low)) true (figure low l) refl));
+}

@@ -1,27 +1,40 @@
--- The canonical text of a built plan reads back to that plan.
-use Rattle.std.proofs.Common.{◌≡◌, ℕ, ◌+◌, ◌<◌, ◌≤◌, Bool, true, false, List, [], ◌∷◌, ◌++◌, length, Option, None, Result, Ok, refl, sym, ap, subst, ◌∙◌, arith}
-use Rattle.std.specs.Prelude.{codes, nat_le}
+-- The canonical text of a lawful plan reads back to that plan.
+use Rattle.std.proofs.Common.{◌≡◌, ℕ, ◌+◌, ◌<◌, ◌≤◌, Bool, true, false, List, [], ◌∷◌, ◌++◌, length, Result, Ok, refl, sym, subst, arith}
+use Rattle.std.specs.Prelude.{nat_le}
 use Rattle.std.specs.List.{list_all}
 use Rattle.std.proofs.lemmas.Bool.{leb-true, leb-false, ne_eqb, and_parts}
 use Rattle.std.proofs.lemmas.List.{append-nil, append_assoc}
-use Rattle.fsb_access.specs.declared.access.Setting.{Setting}
 use Rattle.fsb_access.specs.declared.item.Item.{Item}
-use Rattle.fsb_hazard.specs.declared.line.HazardLine.{HazardLine}
 use Rattle.fsb_script.specs.declared.fault.ScriptFault.{ScriptFault}
-use Rattle.fsb_script.specs.declared.plan.Window.{Window}
-use Rattle.fsb_script.specs.Bounds.{is_cache, is_lawful_setting, is_lawful_item, is_lawful_script}
-use Rattle.fsb_script_laws.specs.BuiltPlans.{has_ones}
+use Rattle.fsb_script.specs.Places.{at_hazards}
+use Rattle.fsb_script.specs.Bounds.{is_cache, is_lawful_script, is_lawful_hazard, are_lawful_hazards}
 use Rattle.fsb_script.specs.Plans.{PlanView}
-use Rattle.fsb_script.specs.Drafts.{beginning, said_plan, BenchText}
-use Rattle.fsb_script.specs.Text.{head_text, settings_text, agent_text, items_text, script_text, bench_text}
-use Rattle.fsb_script_laws.specs.BuiltPlans.{has_lines_apart, is_byte_setting, IsBuiltPlan}
+use Rattle.fsb_script.specs.Drafts.{beginning, said_plan, plan_at_end, BenchText}
+use Rattle.fsb_script.specs.Text.{head_text, profile_text, bridge_text, settings_text, scripts_text, hazards_text, bench_text}
+use Rattle.fsb_script_laws.specs.LawfulPlans.{IsLawfulPlan}
 use Rattle.fsb_script_laws.proofs.Split.{GoesOn}
-use Rattle.fsb_script_laws.proofs.HeadLines.{head_goes_on}
-use Rattle.fsb_script_laws.proofs.MemoryLines.{OnlyHead, settings_go_on, agent_goes_on}
-use Rattle.fsb_script_laws.proofs.Scripts.{items_go_on, plan_with, script_ends}
+use Rattle.fsb_script_laws.proofs.States.{state, Before, before_place, Opening}
+use Rattle.fsb_script_laws.proofs.HeadLines.{head_plan, head_goes_on, profile_goes_on, bridge_goes_on, settings_go_on}
+use Rattle.fsb_script_laws.proofs.Scripts.{scripts_go_on}
+use Rattle.fsb_script_laws.proofs.HazardLines.{hazards_go_on}
 
 above : (n : ℕ) → 1024 < n → is_cache n ≡ false
-above n h = rw (ne_eqb n 1 (λ e. omega arith), ne_eqb n 2 (λ e. omega arith), ne_eqb n 4 (λ e. omega arith), ne_eqb n 8 (λ e. omega arith), ne_eqb n 16 (λ e. omega arith), ne_eqb n 32 (λ e. omega arith), ne_eqb n 64 (λ e. omega arith), ne_eqb n 128 (λ e. omega arith), ne_eqb n 256 (λ e. omega arith), ne_eqb n 512 (λ e. omega arith), ne_eqb n 1024 (λ e. omega arith)) refl
+above n h = rw (
+  ne_eqb n 1 (λ e. omega arith),
+  ne_eqb n 2 (λ e. omega arith),
+  ne_eqb n 4
+      (λ e. omega arith),
+  ne_eqb n 8 (λ e. omega arith),
+  ne_eqb n 16 (λ e. omega arith),
+  ne_eqb n 32
+      (λ e. omega arith),
+  ne_eqb n 64 (λ e. omega arith),
+  ne_eqb n 128 (λ e. omega arith),
+  ne_eqb n 256
+      (λ e. omega arith),
+  ne_eqb n 512 (λ e. omega arith),
+  ne_eqb n 1024 (λ e. omega arith),
+) refl
 
 cache_small : (n : ℕ) → is_cache n ≡ true → n ≤ 1024
 cache_small n lawful = by (nat_le n 1024) refl
@@ -30,56 +43,70 @@ cache_small n lawful = by (nat_le n 1024) refl
     by true e = leb-true n 1024 e
     by false e = let off : is_cache n ≡ false = above n (leb-false n 1024 e) in absurd cc
 
-text_is : (clocks cache : ℕ) (mem : List Setting) (script : List Item) → bench_text (plan_with clocks cache mem script) ≡ head_text 1 clocks cache 1 ++ (settings_text mem ++ (agent_text 0 ++ (items_text script ++ (codes "end" ++ (10 ∷ [])))))
-unfolding bench_text script_text
-text_is clocks cache mem script = simp (append-nil, append_assoc)
+-- what stands behind the settings, which ends the text
+ends : (p : PlanView) → GoesOn (state at_hazards (length p.scripts) p [] []) [] p
+unfolding plan_at_end
+ends p number = refl
 
-script_reads : (clocks cache : ℕ) (mem : List Setting) (script : List Item) → clocks ≤ 200000 → is_cache cache ≡ true → list_all is_lawful_setting mem ≡ true → list_all is_byte_setting mem ≡ true
-    → is_lawful_script cache script ≡ true → has_ones script ≡ true → has_lines_apart cache script ≡ true
-    → GoesOn beginning (bench_text (plan_with clocks cache mem script)) (plan_with clocks cache mem script)
-unfolding is_lawful_script has_ones
-script_reads clocks cache mem script few lawful_cache lawful_mem bytes lawful ones apart =
-    let p : PlanView = plan_with clocks cache mem script in
-    let last : List ℕ = codes "end" ++ (10 ∷ []) in
-    let short : length script ≤ 4096 = leb-true (length script) 4096 (and_parts (nat_le (length script) 4096) (list_all (is_lawful_item cache) script) lawful).0 in
-    let short_all : 0 + length script ≤ 4096 = omega arith in
-    let lawful_items : list_all (is_lawful_item cache) script ≡ true = (and_parts (nat_le (length script) 4096) (list_all (is_lawful_item cache) script) lawful).1 in
-    subst (λ text. GoesOn beginning text (plan_with clocks cache mem script)) (sym (text_is clocks cache mem script))
-    (head_goes_on clocks cache (settings_text mem ++ (agent_text 0 ++ (items_text script ++ (codes "end" ++ (10 ∷ []))))) (plan_with clocks cache mem script) few (cache_small cache lawful_cache) lawful_cache
-    (settings_go_on mem OnlyHead clocks cache [] (agent_text 0 ++ (items_text script ++ (codes "end" ++ (10 ∷ [])))) (plan_with clocks cache mem script) lawful_mem bytes
-    (λ set. agent_goes_on set clocks cache mem (items_text script ++ (codes "end" ++ (10 ∷ []))) (plan_with clocks cache mem script)
-    (items_go_on script clocks cache mem [] [] (codes "end" ++ (10 ∷ [])) (plan_with clocks cache mem script) ones lawful_items short_all apart refl
-    (λ all. script_ends clocks cache mem script all)))))
+hazards_end : (p : PlanView) → IsLawfulPlan p
+    → GoesOn (state at_hazards (length p.scripts) (record p { hazards = [] }) [] []) (hazards_text p.hazards ++ []) p
+unfolding are_lawful_hazards
+hazards_end p lawful =
+    let short : length p.hazards ≤ 4096 = leb-true (length p.hazards) 4096
+    (and_parts (nat_le (length p.hazards) 4096) (list_all is_lawful_hazard p.hazards) lawful.lawful_hazards).0 in
+    let few : 0 + length p.hazards ≤ 4096 = omega arith in
+    hazards_go_on p.hazards (length p.scripts) (record p { hazards = [] }) [] p
+    (and_parts (nat_le (length p.hazards) 4096) (list_all is_lawful_hazard p.hazards) lawful.lawful_hazards).1 few
+    (ends p)
 
-one_script : (scripts : List (List Item)) (clocks cache : ℕ) (mem : List Setting)
-    → IsBuiltPlan (record { scripts = scripts; clocks = clocks; cache = cache; ahead = 1; profile = 1; bridge = None; mem = mem; hazards = [] })
-    → BenchText (bench_text (record { scripts = scripts; clocks = clocks; cache = cache; ahead = 1; profile = 1; bridge = None; mem = mem; hazards = [] })) (record { scripts = scripts; clocks = clocks; cache = cache; ahead = 1; profile = 1; bridge = None; mem = mem; hazards = [] })
+-- the scripts of a plan, of which there is one at least
+scripts_end : (p : PlanView) (scripts : List (List Item)) (before : Before) (rest : List ℕ) → 1 ≤ length scripts
+    → length scripts ≤ 4 → list_all (is_lawful_script p.cache) scripts ≡ true
+    → GoesOn (state at_hazards (length scripts) (record p { scripts = scripts; hazards = [] }) [] []) rest
+    (record p { scripts = scripts })
+    → GoesOn (state (before_place before) (length scripts) (record p { scripts = []; hazards = [] }) [] [])
+    (scripts_text 0 scripts ++ rest) (record p { scripts = scripts })
+scripts_end p [] before rest some few lawful then_ = absurd (omega arith)
+scripts_end p (script ∷ scripts) before rest some few lawful then_ =
+    scripts_go_on script scripts (Opening before) (length (script ∷ scripts))
+    (record p { scripts = []; hazards = [] }) rest (record p { scripts = script ∷ scripts }) (omega arith) few
+    (and_parts (is_lawful_script p.cache script) (list_all (is_lawful_script p.cache) scripts) lawful).0
+    (and_parts (is_lawful_script p.cache script) (list_all (is_lawful_script p.cache) scripts) lawful).1
+    then_
+
+text_is : (p : PlanView) → bench_text p ≡ head_text
+    (length p.scripts) p.clocks p.cache p.ahead ++
+    (profile_text p.profile ++ (bridge_text p.bridge
+    ++ (settings_text p.mem ++ (scripts_text 0 p.scripts ++ (hazards_text p.hazards ++ [])))))
+unfolding bench_text
+text_is p = simp (append-nil, append_assoc)
+
+pub plan_reads_back : (p : PlanView) → IsLawfulPlan p → BenchText (bench_text p) p
 unfolding said_plan
-one_script [] clocks cache mem b = absurd (omega (arith, b.one_script))
-one_script (script ∷ []) clocks cache mem b =
-    script_reads clocks cache mem script b.few_clocks b.lawful_cache b.lawful_mem b.byte_mem (and_parts (is_lawful_script cache script) true b.lawful_scripts).0 (and_parts (has_ones script) true b.single_accesses).0 (and_parts (has_lines_apart cache script) true b.lines_apart).0 1
-one_script (script ∷ (other ∷ others)) clocks cache mem b = absurd (omega (arith, b.one_script))
-
--- the plan with these four, which are all that the forms fix
-abbrev with_forms : PlanView → ℕ → ℕ → Option Window → List HazardLine → PlanView
-with_forms p ahead profile bridge hazards = record p { ahead = ahead; profile = profile; bridge = bridge; hazards = hazards }
-
-same_forms : (p : PlanView) → IsBuiltPlan p → p ≡ with_forms p 1 1 None []
-same_forms p b =
-    ap (λ (n : ℕ). with_forms p n p.profile p.bridge p.hazards) b.ahead_by_one
-    ∙ ap (λ (n : ℕ). with_forms p 1 n p.bridge p.hazards) b.first_profile
-    ∙ ap (λ (w : Option Window). with_forms p 1 1 w p.hazards) b.no_bridge
-    ∙ ap (λ (h : List HazardLine). with_forms p 1 1 None h) b.no_hazards
-
-pub built_reads_back : (p : PlanView) → IsBuiltPlan p → BenchText (bench_text p) p
-built_reads_back p b =
-    let e : p ≡ with_forms p 1 1 None [] = same_forms p b in
-    let fixed : IsBuiltPlan (with_forms p 1 1 None []) = subst (λ (q : PlanView). IsBuiltPlan q) e b in
-    subst (λ (q : PlanView). BenchText (bench_text q) q) (sym e) (one_script p.scripts p.clocks p.cache p.mem fixed)
+plan_reads_back p lawful =
+    let last : List ℕ = hazards_text p.hazards ++ [] in
+    let scripts : List ℕ = scripts_text 0 p.scripts ++ last in
+    let memory : List ℕ = settings_text p.mem ++ scripts in
+    let bridge : List ℕ = bridge_text p.bridge ++ memory in
+    let profile : List ℕ = profile_text p.profile ++ bridge in
+    let agents : ℕ = length p.scripts in
+    let headed : PlanView = head_plan p.clocks p.cache p.ahead in
+    let profiled : PlanView = record headed { profile = p.profile } in
+    let bridged : PlanView = record profiled { bridge = p.bridge } in
+    let whole : GoesOn beginning (head_text agents p.clocks p.cache p.ahead ++ profile) p =
+    head_goes_on agents p.clocks p.cache p.ahead profile p lawful.some_agents lawful.few_agents lawful.few_clocks
+    (cache_small p.cache lawful.lawful_cache) lawful.lawful_cache lawful.some_ahead lawful.few_ahead
+    (profile_goes_on agents headed p.profile bridge p refl lawful.lawful_profile
+    (λ head. bridge_goes_on head agents profiled p.bridge memory p refl lawful.lawful_bridge
+    (λ before. settings_go_on p.mem before agents bridged scripts p lawful.lawful_mem lawful.byte_mem
+    (λ b. scripts_end p p.scripts b last lawful.some_agents lawful.few_agents lawful.lawful_scripts
+    (hazards_end p lawful))))) in
+    subst (λ text. GoesOn beginning text p) (sym (text_is p)) whole 1
 
 ok_same : (p q : PlanView) (r : Result PlanView ScriptFault) → r ≡ Ok p → r ≡ Ok q → p ≡ q
 ok_same p q r a b = cc
 
 -- a text says one plan
-pub own_text : (p q : PlanView) → IsBuiltPlan p → IsBuiltPlan q → bench_text p ≡ bench_text q → p ≡ q
-own_text p q a b same = ok_same p q (said_plan (bench_text q)) (subst (λ text. BenchText text p) same (built_reads_back p a)) (built_reads_back q b)
+pub own_text : (p q : PlanView) → IsLawfulPlan p → IsLawfulPlan q → bench_text p ≡ bench_text q → p ≡ q
+own_text p q a b same = ok_same p q (said_plan (bench_text q))
+    (subst (λ text. BenchText text p) same (plan_reads_back p a)) (plan_reads_back q b)

@@ -1,2 +1,2 @@
-pub mod BuiltPlans
+pub mod LawfulPlans
 pub mod LineTexts

@@ -1,9 +1,10 @@
-//! What ties the reader of bench files to their writer: what is written reads back as what it was written from.
-//! The functions have no code: each one's contract is a law on the words of `fsb_script` in which the contracts of
-//! `read_bench` and `write_bench` are stated. The must-fail edits turn definitions that the laws rest on.
+//! What ties the reader of bench files to their writer: what is written reads back as what it was
+//! written from. Nothing is done by the functions: each one's contract is a law on the words of
+//! `fsb_script` in which the contracts of `read_bench` and `write_bench` are stated. The
+//! must-fail edits turn definitions that the laws rest on.
 #![tactic(auto)]
 
-ghost use Rattle.std.specs.Prelude.{◌≡◌, ℕ, ◌<◌, ◌≤◌, ◌/◌, ◌%◌, ◌^◌, List, [], ◌∷◌, Ok, IsTrue, codes};
+ghost use Rattle.std.specs.Prelude.{◌≡◌, ℕ, ◌<◌, ◌≤◌, ◌/◌, ◌%◌, ◌^◌, List, [], ◌∷◌, Ok, IsTrue, nat_lt, codes};
 ghost use Rattle.std.specs.Fmt.{decimal};
 ghost use Rattle.fsb_io.specs.NumberText.{hexadecimal};
 ghost use Rattle.fsb_script.specs.TextWords.{decimal_of, hex_of};
@@ -19,10 +20,16 @@ ghost use Rattle.fsb_hazard.specs.declared.line.HazardLine.TheVariants.{Bnr};
 ghost use Rattle.fsb_script.specs.Text.{digit_text, setting_text, profile_text, window_text, access_text, idle_text, hazard_text, bench_text};
 ghost use Rattle.fsb_script.specs.Plans.{PlanView};
 ghost use Rattle.fsb_script.specs.Drafts.{BenchText};
-ghost use Rattle.fsb_script_laws.specs.BuiltPlans.{IsBuiltPlan, is_byte_setting};
+ghost use Rattle.fsb_script.specs.View.{plan_view};
+ghost use Rattle.std.specs.List.{list_all};
+ghost use Rattle.fsb_script_laws.specs.LawfulPlans.{IsLawfulPlan, is_byte_setting};
 ghost use Rattle.fsb_script_laws.specs.LineTexts.{IsLineOf, is_of_one_request};
 
-/// Numbers read back: decimals below 10^18, hexadecimals below 2^64, and the two digits of a byte of memory.
+use fsb_access::Setting;
+use fsb_script::Plan;
+
+/// Numbers read back: decimals below 10^18, hexadecimals below 2^64, and the two digits of a byte
+/// of memory.
 pub fn numbers_read_back()
     ensures decimals { (n : ℕ) → n < 10 ^ 18 → decimal_of (decimal n) ≡ Ok n }
     ensures hexadecimals { (n : ℕ) → n < 2 ^ 64 → hex_of (hexadecimal n) ≡ Ok n }
@@ -30,8 +37,8 @@ pub fn numbers_read_back()
         bytes_of (digit_text (n / 16) ∷ digit_text (n % 16) ∷ []) ≡ Ok (n ∷ []) }
 {}
 
-/// Each line reads back, within the bounds of its numbers, whether or not its form is built: memory, the
-/// profile, the bridge, loads, stores, idle clocks, and hazards of a request and of a span of clocks.
+/// Each line reads back, within the bounds of its numbers: memory, the profile, the bridge,
+/// loads, stores, idle clocks, and hazards of a request and of a span of clocks.
 pub fn lines_read_back()
     ensures memory { (s : Setting) → IsTrue (is_lawful_setting s) → IsTrue (is_byte_setting s) →
         IsLineOf (codes "mem") memory_of (setting_text s) (s.addr, s.byte ∷ []) }
@@ -52,18 +59,39 @@ pub fn lines_read_back()
         IsLineOf (codes "bnr") block_of (hazard_text (Bnr from to)) (Bnr from to) }
 {}
 
-/// The canonical text of a plan of built forms is a bench file that says this plan. So no two such plans have one text.
+/// The canonical text of each lawful plan is a bench file that says this plan. So no two lawful
+/// plans have one text.
 pub fn canonical_text_reads_back()
-    ensures same_plan { (p : PlanView) → IsBuiltPlan p → BenchText (bench_text p) p }
-    ensures own_text { (p q : PlanView) → IsBuiltPlan p → IsBuiltPlan q →
+    ensures same_plan { (p : PlanView) → IsLawfulPlan p → BenchText (bench_text p) p }
+    ensures own_text { (p q : PlanView) → IsLawfulPlan p → IsLawfulPlan q →
         bench_text p ≡ bench_text q → p ≡ q }
 {}
 
-/// Each plan that a bench file says is one of built forms within the bounds: one script, looking ahead by 1, profile 1, no bridge,
-/// no hazard lines, single accesses alone, and no two of a script's lines in one cache set. So reading and writing any
-/// bench file gives a text of the same plan.
-pub fn plans_that_were_read_are_built()
-    ensures built { (text : List ℕ) (p : PlanView) → BenchText text p → IsBuiltPlan p }
+/// Each plan that a bench file says is lawful. So reading and writing any bench file gives a text
+/// of the same plan.
+pub fn plans_that_were_read_are_lawful()
+    ensures lawful { (text : List ℕ) (p : PlanView) → BenchText text p → IsLawfulPlan p }
     ensures written_again { (text : List ℕ) (p : PlanView) → BenchText text p →
         BenchText (bench_text p) p }
 {}
+
+/// A byte is below 256.
+fn is_byte(byte: u8)
+    ensures { IsTrue (nat_lt byte 256) }
+{}
+
+/// Memory is set to bytes.
+fn are_bytes(settings: &[Setting])
+    ensures { IsTrue (list_all is_byte_setting settings.now) }
+{
+    for setting in settings {
+        is_byte(setting.byte);
+    }
+}
+
+/// The canonical text of every plan is a bench file that says this plan.
+pub fn every_plan_reads_back(plan: &Plan)
+    ensures { BenchText (bench_text (plan_view plan.now)) (plan_view plan.now) }
+{
+    are_bytes(plan.mem.as_slice());
+}

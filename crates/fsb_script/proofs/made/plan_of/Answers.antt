@@ -9,9 +9,12 @@ pub invariant_of-result : goal.invariant_of-result
 invariant_of-result c =
     let few : c.min.result ≤ 4096 = rw c.min.ensures (min-le_right (c.args.agents * c.args.items) 4096) in
     record {
-      some_agents = rw c.in_ok-scripts.ensures (rw (count_scripts c.args.items c.args.agents c.args.seed) c.requires.some_agents);
-      few_agents = rw c.in_ok-scripts.ensures (rw (count_scripts c.args.items c.args.agents c.args.seed) c.requires.few_agents);
-      lawful_scripts = rw c.in_ok-scripts.ensures (made_scripts c.args.items c.args.agents c.args.seed c.requires.few_items);
+      some_agents = rw c.in_ok-scripts.ensures (rw (count_scripts c.args.items c.args.agents c.args.seed)
+          c.requires.some_agents);
+      few_agents = rw c.in_ok-scripts.ensures (rw (count_scripts c.args.items c.args.agents c.args.seed)
+          c.requires.few_agents);
+      lawful_scripts = rw c.in_ok-scripts.ensures (made_scripts c.args.items c.args.agents c.args.seed
+          c.requires.few_items);
       few_clocks = rw c.min-2.ensures (min-le_right (40 * (c.args.agents * c.args.items)) 200000);
       lawful_cache = refl;
       some_ahead = lit≤ tt;

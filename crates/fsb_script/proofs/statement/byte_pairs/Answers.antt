@@ -6,6 +6,7 @@ pub loop-i-preserved : goal.loop-i-preserved
 loop-i-preserved c =
     let inside : 2 * c.loop-i.i + 1 < length c.args.word.now = omega arith in
     record {
-      rest = rw c.push.ensures.items (rw (byte_more c.loop-i.bytes.items c.args.word.now c.loop-i.i _ _ inside c.in_ok-high.ensures.value c.in_ok-low.ensures.value) c.loop-i.invariant.rest);
+      rest = rw c.push.ensures.items (rw (byte_more c.loop-i.bytes.items c.args.word.now c.loop-i.i _ _ inside
+          c.in_ok-high.ensures.value c.in_ok-low.ensures.value) c.loop-i.invariant.rest);
       len = omega (arith, c.push.ensures.len, c.loop-i.invariant.len);
     }

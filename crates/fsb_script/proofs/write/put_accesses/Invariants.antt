@@ -4,4 +4,5 @@ use Rattle.fsb_script.specs.Text.{accesses_text}
 use Rattle.fsb_script.proofs.write.put_accesses.Given as goal
 
 abbrev pub invariant-loop-access : goal.invariant-loop-access
-invariant-loop-access l = l.text.items ++ accesses_text (drop l.access-index l.accesses) ≡ l.initial.text.items ++ accesses_text l.accesses
+invariant-loop-access l = l.text.items ++ accesses_text
+    (drop l.access-index l.accesses) ≡ l.initial.text.items ++ accesses_text l.accesses

@@ -4,4 +4,5 @@ use Rattle.fsb_script.specs.Text.{hazards_text}
 use Rattle.fsb_script.proofs.write.put_hazards.Given as goal
 
 abbrev pub invariant-loop-hazard : goal.invariant-loop-hazard
-invariant-loop-hazard l = l.text.items ++ hazards_text (drop l.hazard-index l.hazards) ≡ l.initial.text.items ++ hazards_text l.hazards
+invariant-loop-hazard l = l.text.items ++ hazards_text
+    (drop l.hazard-index l.hazards) ≡ l.initial.text.items ++ hazards_text l.hazards

@@ -4,4 +4,5 @@ use Rattle.fsb_script.specs.Text.{items_text}
 use Rattle.fsb_script.proofs.write.put_items.Given as goal
 
 abbrev pub invariant-loop-item : goal.invariant-loop-item
-invariant-loop-item l = l.text.items ++ items_text (drop l.item-index l.items) ≡ l.initial.text.items ++ items_text l.items
+invariant-loop-item l = l.text.items ++ items_text
+    (drop l.item-index l.items) ≡ l.initial.text.items ++ items_text l.items

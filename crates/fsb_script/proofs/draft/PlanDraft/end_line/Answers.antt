@@ -3,8 +3,8 @@ use Rattle.fsb_script.specs.Bounds.{is_lawful_script}
 use Rattle.fsb_script.proofs.KeptLemmas.{all_push, script_empty, items_fresh, items_all, items_room, behind_fresh, behind_all, behind_room}
 use Rattle.fsb_script.proofs.draft.PlanDraft.end_line.Goals as goal
 
-pub invariant_of-self-in-Break-branch-2 : goal.invariant_of-self-in-Break-branch-2
-invariant_of-self-in-Break-branch-2 c =
+pub invariant_of-self : goal.invariant_of-self
+invariant_of-self c =
     let s = c.args.self.now in
     record {
       some_cache = s.some_cache;
@@ -34,7 +34,8 @@ invariant_of-self-2 c =
       lawful_bridge = s.lawful_bridge;
       lawful_mem = s.lawful_mem;
       lawful_hazards = s.lawful_hazards;
-      lawful_scripts = rw c.in_ok-push.ensures.ok (all_push (is_lawful_script s.cache) s.scripts _ s.lawful_scripts (rw c.replace-script.ensures.value s.lawful_script));
+      lawful_scripts = rw c.in_ok-push.ensures.ok (all_push (is_lawful_script s.cache) s.scripts _ s.lawful_scripts
+          (rw c.replace-script.ensures.value s.lawful_script));
       lawful_script = script_empty s.cache _ (c.replace-script.ensures.after ∙ c.new.ensures);
       lawful_group = s.lawful_group;
       fresh = behind_fresh c.place_behind-self.result _ s.agents _ _ behind;
