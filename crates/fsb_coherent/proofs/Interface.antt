@@ -8,7 +8,7 @@ pub use Rattle.fsb_coherent.proofs.CoherentRuns.{only_holder, pending_shared}
 pub use Rattle.fsb_coherent.proofs.FirstEvents.{first-events}
 pub use Rattle.fsb_coherent.proofs.KeptTies.{facts-keep-ties}
 -- The words of a clock over the past up to it.
-pub use Rattle.fsb_coherent.proofs.WordsTo.{GoesOnAt, holds-to}
+pub use Rattle.fsb_coherent.proofs.WordsTo.{GoesOnAt, dirty-to, holds-to}
 -- How a request is settled at its snoop end, and which grant it makes.
 pub use Rattle.fsb_coherent.proofs.SnoopEnds.{grant-made, outcome-made, turn-kept}
 pub use Rattle.fsb_coherent.proofs.SnoopLinks.{grant_if}
@@ -28,3 +28,5 @@ pub use Rattle.fsb_coherent.proofs.DirtyParts.{ended-later, granted-now, some-th
 pub use Rattle.fsb_coherent.proofs.DirtySteps.{dirty-by-hits, dirty-more, dirty-none}
 -- Tests of the entries of a list.
 pub use Rattle.fsb_coherent.proofs.Entries.{any-from, any-there}
+-- The events of a line stay when the run goes on.
+pub use Rattle.fsb_coherent.proofs.EventsStay.{events_below-same}

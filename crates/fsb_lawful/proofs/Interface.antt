@@ -39,9 +39,9 @@ pub use Rattle.fsb_lawful.proofs.LawfulWants.{all-at}
 -- The clocks of answers and responses.
 pub use Rattle.fsb_lawful.proofs.AnswerClocks.{answered-before, response-before, takes-stays}
 -- The chunks of a line.
-pub use Rattle.fsb_lawful.proofs.Chunks.{chunk-bounds}
+pub use Rattle.fsb_lawful.proofs.Chunks.{chunk-bounds, chunks-few, is_chunk}
 -- Which data move last.
-pub use Rattle.fsb_lawful.proofs.DataMoves.{keeps-16, last-moves}
+pub use Rattle.fsb_lawful.proofs.DataMoves.{LastMoves, keeps-16, last-moves}
 -- A clock has one answer at most.
 pub use Rattle.fsb_lawful.proofs.OneAnswer.{answered-next, one_answer, ready-then}
 -- When a response and TRDY# are due.

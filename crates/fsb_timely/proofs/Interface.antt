@@ -6,7 +6,7 @@ pub use Rattle.fsb_timely.proofs.EachClock.{keeps-at, keeps-all}
 pub use Rattle.fsb_timely.proofs.GoingOn.{Alike, going-alike, holds_line-same, is_exclusive-same, last-same, latest_grant-same, rival-same}
 -- The moments of a run, and what the whole trace says.
 pub use Rattle.fsb_timely.proofs.Moments.{moment-at, moment-snooped, moment_of, number-found, number-says, run_to-agrees, snoop_of, snooped-there}
-pub use Rattle.fsb_timely.proofs.Next.{length-moments, past-goes_on, past-same, timely-more}
+pub use Rattle.fsb_timely.proofs.Next.{each_clock-more, length-moments, past-goes_on, past-same, timely-more}
 -- The snoop ends of a run, in its moments and in its whole trace.
 pub use Rattle.fsb_timely.proofs.TiedMoments.{snoop-tied, tied-snoop}
 -- What an agent wants at a clock rests on the past up to that clock, and stays where it owes no more.
@@ -43,3 +43,5 @@ pub use Rattle.fsb_timely.proofs.LastClock.{moments-grow, past-before, run-ends}
 pub use Rattle.fsb_timely.proofs.TurnOrder.{turns-quiet, turns-snooped}
 -- A want stays where its agent completes its next item: the rest of the window is the first part of the next one.
 pub use Rattle.fsb_timely.proofs.WindowSteps.{done-before, done-now}
+-- Below each clock an agent's entries are the accesses of its script up to its next item there.
+pub use Rattle.fsb_timely.proofs.ScriptPlaces.{follows-script}
