@@ -27,12 +27,12 @@ use Rattle.fsb_bench_run.proofs.StartsMay.{performed-four}
 use Rattle.fsb_bench_run.proofs.StepWith.{IsStepWith}
 
 -- the agents before the end are four
-started-many : (bus : BusView) (clock : ℕ) (o : Option Starting)
+pub started-many : (bus : BusView) (clock : ℕ) (o : Option Starting)
     → length (option_map_or (bus_started bus clock) o bus).agents ≡ length bus.agents
 started-many bus clock None = refl
 started-many bus clock (Some x) = length-told (starting_event clock x.who) 0 bus.agents
 
-cancelled-many : (bus : BusView) (o : Option Entry)
+pub cancelled-many : (bus : BusView) (o : Option Entry)
     → length (option_map_or (bus_cancelled bus) o bus).agents ≡ length bus.agents
 cancelled-many bus None = refl
 cancelled-many bus (Some e) = length-told (cancelled_event e.clock e.who) 0 bus.agents
@@ -47,7 +47,7 @@ answered-many : (bus : BusView) (clock : ℕ) (o : Option Entry)
 answered-many bus clock None = refl
 answered-many bus clock (Some e) = refl
 
-answered-four : (v : BenchView) (hold : Bool) → IsBenchOf v → length (step_answered v hold).agents ≡ 4
+pub answered-four : (v : BenchView) (hold : Bool) → IsBenchOf v → length (step_answered v hold).agents ≡ 4
 answered-four v hold b =
     answered-many (step_snooped v hold) (next_clock_of v) (answered_by (step_snooped v hold) (step_drive v))
     ∙ snooped-many (step_cancelled v hold) (step_decided v hold).snooped

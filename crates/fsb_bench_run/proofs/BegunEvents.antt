@@ -196,7 +196,7 @@ cancelled-entry v hold choice entries e k is =
     ]
 
 -- the views after what begins
-started-views : (s : Run) (n : ℕ) (bus : BusView) (o : Option Starting) → Reaches s (n + 1)
+pub started-views : (s : Run) (n : ℕ) (bus : BusView) (o : Option Starting) → Reaches s (n + 1)
     → (o ≡ None → begun_at (past_of s) n ≡ None)
     → ((x : Starting) → o ≡ Some x → IsBegunAt s n x.who x.request)
     → AgentsAre (λ a w. IsViewAfterHit (past_of s) a n w) bus.agents

@@ -56,12 +56,16 @@ answered-queue : (bus : BusView) (clock : ℕ) (o : Option Entry) → (option_ma
 answered-queue bus clock None = refl
 answered-queue bus clock (Some x) = refl
 
+pub queue-snooped : (v : BenchView) (hold : Bool) → (step_snooped v hold).queue ≡ v.bus.queue
+queue-snooped v hold =
+    snooped-queue (step_cancelled v hold) (step_decided v hold).snooped
+    ∙ cancelled-queue (step_started v hold) (step_decided v hold).cancelled
+    ∙ started-queue (step_performed v) (next_clock_of v) (step_decided v hold).starting ∙ (same-performed v).queue
+
 pub queue-answered : (v : BenchView) (hold : Bool) → (step_answered v hold).queue ≡ v.bus.queue
 queue-answered v hold =
     answered-queue (step_snooped v hold) (next_clock_of v) (answered_by (step_snooped v hold) (step_drive v))
-    ∙ snooped-queue (step_cancelled v hold) (step_decided v hold).snooped
-    ∙ cancelled-queue (step_started v hold) (step_decided v hold).cancelled
-    ∙ started-queue (step_performed v) (next_clock_of v) (step_decided v hold).starting ∙ (same-performed v).queue
+    ∙ queue-snooped v hold
 
 -- what is served before an end: what was, and that of the snoop end
 started-served : (bus : BusView) (clock : ℕ) (o : Option Starting) → (option_map_or (bus_started bus clock) o bus).served ≡ bus.served
@@ -85,14 +89,21 @@ answered-served : (bus : BusView) (clock : ℕ) (o : Option Entry) → (option_m
 answered-served bus clock None = refl
 answered-served bus clock (Some x) = refl
 
+pub served-cancelled : (v : BenchView) (hold : Bool) → (step_cancelled v hold).served ≡ v.bus.served
+served-cancelled v hold =
+    cancelled-served (step_started v hold) (step_decided v hold).cancelled
+    ∙ started-served (step_performed v) (next_clock_of v) (step_decided v hold).starting ∙ (same-performed v).served
+
+pub served-unanswered : (v : BenchView) (hold : Bool) → (step_answered v hold).served ≡ (step_snooped v hold).served
+served-unanswered v hold =
+    answered-served (step_snooped v hold) (next_clock_of v) (answered_by (step_snooped v hold) (step_drive v))
+
 served-answered : (v : BenchView) (hold : Bool) (x : Served) → slice_get v.bus.served 0 ≡ Some x
     → slice_get (step_answered v hold).served 0 ≡ Some x
 served-answered v hold x e =
-    let before = cancelled-served (step_started v hold) (step_decided v hold).cancelled
-    ∙ started-served (step_performed v) (next_clock_of v) (step_decided v hold).starting ∙ (same-performed v).served in
-    ap (λ xs. slice_get xs 0)
-    (answered-served (step_snooped v hold) (next_clock_of v) (answered_by (step_snooped v hold) (step_drive v)))
-    ∙ snooped-served (step_cancelled v hold) x (step_decided v hold).snooped (ap (λ xs. slice_get xs 0) before ∙ e)
+    ap (λ xs. slice_get xs 0) (served-unanswered v hold)
+    ∙ snooped-served (step_cancelled v hold) x (step_decided v hold).snooped
+    (ap (λ xs. slice_get xs 0) (served-cancelled v hold) ∙ e)
 
 ending-there : (bus : BusView) (phased : Phased) (served : Served) (outcome : Outcome) → is_none phased.ended ≡ false
     → slice_get bus.served 0 ≡ Some served → head_outcome bus ≡ Some outcome
@@ -102,7 +113,7 @@ ending-there bus phased served outcome some first head = rw (some, first, head) 
 ending-none : (bus : BusView) (phased : Phased) → is_none phased.ended ≡ true → ending_by bus phased ≡ None
 ending-none bus phased none = rw none refl
 
-head-settled : (queue : List Entry) (e : Entry) (o : Outcome) → slice_get queue 0 ≡ Some e → e.outcome ≡ Some o
+pub head-settled : (queue : List Entry) (e : Entry) (o : Outcome) → slice_get queue 0 ≡ Some e → e.outcome ≡ Some o
     → (slice_get (settled_entries queue) 0 ≡ Some e) × (0 < length (settled_entries queue))
 head-settled [] e o at settled = absurd (let no : ⊥ = cc in no)
 head-settled (y ∷ queue) e o at settled =
@@ -115,6 +126,7 @@ head-settled (y ∷ queue) e o at settled =
 pub record EndsHere (v : BenchView) (hold : Bool) (choice : Choice) (entries : List Done) : Type 0 where
   pub entry : Entry
   pub oldest : slice_get v.bus.queue 0 ≡ Some entry
+  pub ends : has_end_at (run_with v hold choice entries).trace (next_clock_of v) entry ≡ true
   pub served : Served
   pub serves : IsServed v.run entry served
   pub heard : IsEndHeard (run_with v hold choice entries) (next_clock_of v) served entry.outcome
@@ -123,16 +135,19 @@ pub record EndsHere (v : BenchView) (hold : Bool) (choice : Choice) (entries : L
 -- none does
 pub record EndsNone (v : BenchView) (hold : Bool) (choice : Choice) (entries : List Done) : Type 0 where
   pub ending : step_ending v hold ≡ None
+  pub off : (k : ℕ) (e : Entry) → slice_get v.bus.queue k ≡ Some e
+      → has_end_at (run_with v hold choice entries).trace (next_clock_of v) e ≡ false
   pub nothing : (a : ℕ) → NothingEndsFor (past_of (run_with v hold choice entries)) a (next_clock_of v)
 
 -- the record of the end of the oldest request, which was settled so
 ends-here : (v : BenchView) (hold : Bool) (choice : Choice) (entries : List Done) (e : Entry) (o : Outcome)
     → HasServed v.bus.served v.bus.queue v.run
     → slice_get v.bus.queue 0 ≡ Some e → e.outcome ≡ Some o → is_none (step_phased v hold).ended ≡ false
+    → has_end_at (run_with v hold choice entries).trace (next_clock_of v) e ≡ true
     → ((served : Served) → IsServed v.run e served
     → IsEndHeard (run_with v hold choice entries) (next_clock_of v) served e.outcome)
     → EndsHere v hold choice entries
-ends-here v hold choice entries e o has head settled some heard =
+ends-here v hold choice entries e o has head settled some ends heard =
     let first = head-settled v.bus.queue e o head settled in
     let low = first.1 in
     let count = has.count in
@@ -144,6 +159,7 @@ ends-here v hold choice entries e o has head settled some heard =
     record {
       entry = e;
       oldest = head;
+      ends = ends;
       served = x.0;
       serves = is;
       heard = k;
@@ -191,12 +207,13 @@ end-cases v hold choice entries k h =
           end-heard r s e served k.grows h k.bench.bounds d told (k.bench.entries.begun c.place e c.at) is in
           let tied = snoop-tied r d.number d.snoop d.settled in
           inl (ends-here v hold choice entries e tied.0.outcome k.bench.served head (told ∙ tied.1.outcome)
-          (ap (λ o. is_none (option_map (λ (x : Entry). x.number) o)) found) heard)
+          (ap (λ o. is_none (option_map (λ (x : Entry). x.number) o)) found) c.passes heard)
       | inr g ↦
           let off = find-off (has_end_at s.trace n) queue g in
           inr (record {
             ending = ending-none (step_answered v hold) (step_phased v hold)
                 (ap (λ o. is_none (option_map (λ (x : Entry). x.number) o)) off);
+            off = g;
             nothing = λ a. nothing-ends r s queue a k.grows h f off;
           })
     ]

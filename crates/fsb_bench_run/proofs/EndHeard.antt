@@ -70,12 +70,12 @@ replied-other : (p : Past) (a n : ℕ) (s : SnoopEnd) (grant : Grant) → s.clai
 unfolding number_left number_replied
 replied-other p a n s grant none makes other = rw (none, makes, ne_eqb grant.agent a other, number_left) refl
 
-itself-served : (w : Trace) (turns : List ℕ) (i : ℕ) → is_reply (live_request_of w i) ≡ false
+pub itself-served : (w : Trace) (turns : List ℕ) (i : ℕ) → is_reply (live_request_of w i) ≡ false
     → served_number w turns i ≡ Some i
 unfolding served_number
 itself-served w turns i plain = rw (plain, served_number) refl
 
-asked-same : (p q : Past) (a c line : ℕ) → Rattle.fsb_timely.specs.Wants.owed p a c ≡ Rattle.fsb_timely.specs.Wants.owed q a c
+pub asked-same : (p q : Past) (a c line : ℕ) → Rattle.fsb_timely.specs.Wants.owed p a c ≡ Rattle.fsb_timely.specs.Wants.owed q a c
     → number_asked p a c line ≡ number_asked q a c line
 unfolding number_asked
 asked-same p q a c line e = λ i. option_map (λ owing. owing.claim.first) (find (λ owing. nat_eq owing.claim.line line) (e i))

@@ -45,7 +45,7 @@ one-ended s n q u h first second =
     cc
 
 -- of each agent for which the request that ends leaves nothing, nothing ends
-quiet-end : (s : Run) (n a : ℕ) (served : Served) (settled : Option Outcome) → Reaches s (n + 1)
+pub quiet-end : (s : Run) (n a : ℕ) (served : Served) (settled : Option Outcome) → Reaches s (n + 1)
     → (k : IsEndHeard s n served settled) → number_left (past_of s) a n k.end ≡ None → NothingEndsFor (past_of s) a n
 quiet-end s n a served settled h k leaves = record {
   none = λ first end ends below.
@@ -86,17 +86,17 @@ claims-or-grants p a n number end e = by end.claim refl
         inr (k.0, none, k.1)
 
 -- the own request that ends was settled so, or its reply is
-record IsOwnSettled (s : Run) (end : SnoopEnd) : Type 0 where
+pub record IsOwnSettled (s : Run) (end : SnoopEnd) : Type 0 where
   clock : ℕ
   claim : Claim
   settled : IsSettledAs s clock end claim
 
-record IsRepliedGrant (end : SnoopEnd) : Type 0 where
+pub record IsRepliedGrant (end : SnoopEnd) : Type 0 where
   grant : Grant
   grants : end.grant ≡ Some grant
   replied : end.outcome ≡ Replied
 
-settled-or-replied : (s : Run) (a n number : ℕ) (end : SnoopEnd) → Reaches s (n + 1) → EndsFor (past_of s) a n number end
+pub settled-or-replied : (s : Run) (a n number : ℕ) (end : SnoopEnd) → Reaches s (n + 1) → EndsFor (past_of s) a n number end
     → IsOwnSettled s end ⊎ IsRepliedGrant end
 settled-or-replied s a n number end h ends =
     let below = snooped-when (past_of s) (n + 1) ends.first end ends.snooped in
@@ -150,7 +150,7 @@ never-so kinds.Upgrade outcome (inl f) e = let e' = rw f at e in cc
 never-so kinds.Upgrade outcome (inr f) e = let e' = rw f at e in cc
 
 -- the grant of a request whose bytes come
-made-by : (s : Run) (end : SnoopEnd) (o : Outcome) → end.outcome ≡ o → (is_got o ≡ true) ⊎ (o ≡ Replied)
+pub made-by : (s : Run) (end : SnoopEnd) (o : Outcome) → end.outcome ≡ o → (is_got o ≡ true) ⊎ (o ≡ Replied)
     → IsOwnSettled s end ⊎ IsRepliedGrant end → (grant : Grant) × (end.grant ≡ Some grant)
 made-by s end o e which (inr reply) = (reply.grant, reply.grants)
 made-by s end o e (inr replied) (inl own) =
@@ -174,7 +174,7 @@ made-by s end o e (inl got) (inl own) =
     )
 
 -- an end that fails is none of an agent's request
-never-failed : (s : Run) (end : SnoopEnd) → end.outcome ≡ Failed → IsOwnSettled s end ⊎ IsRepliedGrant end → ⊥
+pub never-failed : (s : Run) (end : SnoopEnd) → end.outcome ≡ Failed → IsOwnSettled s end ⊎ IsRepliedGrant end → ⊥
 never-failed s end e (inl own) = never-so own.settled.request.kind end.outcome (inr e) own.settled.fits
 never-failed s end e (inr reply) = let both = sym reply.replied ∙ e in cc
 

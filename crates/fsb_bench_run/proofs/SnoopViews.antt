@@ -110,7 +110,7 @@ views-snooped v hold choice entries k h =
     none-some : (o : Option SnoopEnd) (x : SnoopEnd) → o ≡ None → o ≡ Some x → ⊥
     none-some o x e f = cc
 
-answered-agents : (bus : BusView) (clock : ℕ) (o : Option Entry) → (option_map_or (bus_answered bus clock) o bus).agents ≡ bus.agents
+pub answered-agents : (bus : BusView) (clock : ℕ) (o : Option Entry) → (option_map_or (bus_answered bus clock) o bus).agents ≡ bus.agents
 answered-agents bus clock None = refl
 answered-agents bus clock (Some e) = refl
 

@@ -27,7 +27,7 @@ pub performed-four : (v : BenchView) → IsBenchOf v → length (step_performed 
 performed-four v b =
     length-told (for_all (Performed (next_clock_of v))) 0 (step_fetched v).agents ∙ fetched-four v b.agents.four
 
-own-begun : (s : Run) (n a : ℕ) (who : Who) (request : Request) → who ≡ Symmetric a → IsBegunAt s n who request
+pub own-begun : (s : Run) (n a : ℕ) (who : Who) (request : Request) → who ≡ Symmetric a → IsBegunAt s n who request
     → IsBegunAt s n (Symmetric a) request
 own-begun s n a who request e k = subst (λ w. IsBegunAt s n w request) e k
 

@@ -1,3 +1,4 @@
 pub mod BenchOf
 pub mod LocksHeld
 pub mod HitsTold
+pub mod BenchPlans

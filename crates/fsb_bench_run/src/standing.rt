@@ -4,17 +4,10 @@ ghost use Rattle.std.specs.Prelude.{Bool, Some, length, ◌≡◌};
 ghost use Rattle.fsb_hazard.specs.declared.choice.Choice.{Choice};
 ghost use Rattle.fsb_timely.specs.Runs.{past_of};
 ghost use Rattle.fsb_bench_view.specs.declared.beginning.Starting.{Starting};
-ghost use Rattle.fsb_bench_view.specs.BenchSteps.{
-  bench_stepped,
-  step_decided,
-  step_queue,
-  step_run,
-};
+ghost use Rattle.fsb_bench_view.specs.BenchSteps.{bench_stepped, step_decided, step_run};
 ghost use Rattle.fsb_bench_view.specs.BusViews.{BenchView, next_clock_of};
 ghost use Rattle.fsb_bench_run.specs.BenchOf.{
   HasAgentsOf,
-  HasBridgeOf,
-  HasServed,
   HasStarted,
   IsBegunAt,
   IsBenchOf,
@@ -42,12 +35,14 @@ pub fn locks_of_benches_go_on()
         (length (step_run v hold choice).trace) }
 {}
 
-/// Where the agents, the bridge and what is served are after the clock those of the longer run, the
-/// bench after the clock stands for that run.
+/// The agents of the bench are after the clock those of the longer run: sound, and with what they owe.
+pub fn agents_of_benches_go_on()
+    ensures { (v : BenchView) (hold : Bool) (choice : Choice) → IsBenchOf v →
+        HasAgentsOf (bench_stepped v hold choice).bus.agents (step_run v hold choice) }
+{}
+
+/// The bench after a clock stands for the longer run.
 pub fn benches_go_on()
     ensures { (v : BenchView) (hold : Bool) (choice : Choice) → IsBenchOf v →
-        HasAgentsOf (bench_stepped v hold choice).bus.agents (step_run v hold choice) →
-        HasBridgeOf (bench_stepped v hold choice).bus.bridge (step_run v hold choice) →
-        HasServed (bench_stepped v hold choice).bus.served (step_queue v hold choice)
-        (step_run v hold choice) → IsBenchOf (bench_stepped v hold choice) }
+        IsBenchOf (bench_stepped v hold choice) }
 {}

@@ -9,3 +9,4 @@ pub mod BusEvents
 pub mod BusLocking
 pub mod BenchSteps
 pub mod MaySteps
+pub mod FirstBench

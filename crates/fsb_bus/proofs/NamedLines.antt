@@ -9,7 +9,7 @@ use Rattle.fsb_access.specs.declared.access.Access.{Access}
 use Rattle.fsb_access.specs.declared.item.Item.{Item}
 use Rattle.fsb_access.specs.declared.item.Item.TheVariants.{One, Locked, Idle}
 use Rattle.fsb_timely.specs.Kept.{is_named_in}
-use Rattle.fsb_bus.specs.FirstBus.{is_named_line}
+use Rattle.fsb_bench_view.specs.FirstBench.{is_named_line}
 use Rattle.fsb_timely.specs.Scripts.{Need, locked_need, needs_after, needs_of, plain_need}
 
 or_false : (b : Bool) → (b || false) ≡ b

@@ -1,4 +1,4 @@
 pub mod Buses
 pub mod LogRoom
 pub mod Releases
-pub mod FirstBus
+pub mod ListedLines

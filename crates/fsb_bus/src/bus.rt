@@ -44,11 +44,11 @@ pub struct Bus {
 
 impl Bus {
     ghost use Rattle.fsb_bench_view.specs.BusEvents.{bus_performed};
+    ghost use Rattle.fsb_bench_view.specs.FirstBench.{first_bus, is_named_line};
     ghost use Rattle.fsb_bench_view.specs.ToldAgents.{hit_entries};
     ghost use Rattle.fsb_memory.specs.Controller.{is_mapped};
     ghost use Rattle.fsb_script.specs.View.{plan_view};
     ghost use Rattle.fsb_bus.specs.Buses.{StandsFor, bus_view};
-    ghost use Rattle.fsb_bus.specs.FirstBus.{first_bus, is_named_line};
     ghost use Rattle.fsb_bus.specs.LogRoom.{HasLogRoom};
 
     /// A quiet bus with the agents and the memory of a plan, and room for so many requests.

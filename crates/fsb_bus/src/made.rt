@@ -7,7 +7,8 @@ ghost use Rattle.fsb_access.specs.ScriptOrder.{script_of};
 ghost use Rattle.fsb_memory.specs.Controller.{is_mapped, line_in, start_bytes};
 ghost use Rattle.fsb_script.specs.View.{plan_view};
 ghost use Rattle.fsb_timely.specs.Kept.{is_named_in};
-ghost use Rattle.fsb_bus.specs.FirstBus.{first_agent, first_agents, is_listed, is_named_line};
+ghost use Rattle.fsb_bench_view.specs.FirstBench.{first_agent, first_agents, is_named_line};
+ghost use Rattle.fsb_bus.specs.ListedLines.{is_listed};
 
 use fsb_access::{Access, Item, Script};
 use fsb_agent::Agent;

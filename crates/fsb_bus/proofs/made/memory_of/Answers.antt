@@ -3,7 +3,8 @@ use Rattle.std.proofs.lemmas.List.{take_all}
 use Rattle.std.specs.List.{list_any}
 use Rattle.fsb_memory.specs.Controller.{is_in_line}
 use Rattle.fsb_timely.specs.Kept.{is_named_in}
-use Rattle.fsb_bus.specs.FirstBus.{is_listed, is_named_line}
+use Rattle.fsb_bench_view.specs.FirstBench.{is_named_line}
+use Rattle.fsb_bus.specs.ListedLines.{is_listed}
 use Rattle.fsb_bus.proofs.NamedLines.{or_true, scripts-more}
 use Rattle.fsb_bus.proofs.made.memory_of.Goals as goal
 

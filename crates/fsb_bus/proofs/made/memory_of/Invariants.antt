@@ -1,5 +1,6 @@
 use Rattle.std.proofs.Common.{◌≡◌, ℕ, take}
-use Rattle.fsb_bus.specs.FirstBus.{is_listed, is_named_line}
+use Rattle.fsb_bench_view.specs.FirstBench.{is_named_line}
+use Rattle.fsb_bus.specs.ListedLines.{is_listed}
 use Rattle.fsb_bus.proofs.made.memory_of.Given as goal
 
 -- the lines are those that the scripts before the place name

@@ -1,7 +1,7 @@
 use Rattle.std.proofs.Common.{◌≡◌, ◌==◌, ◌||◌, ℕ, take}
 use Rattle.std.specs.List.{list_any}
 use Rattle.fsb_access.specs.Access.{accessed_line}
-use Rattle.fsb_bus.specs.FirstBus.{is_listed}
+use Rattle.fsb_bus.specs.ListedLines.{is_listed}
 use Rattle.fsb_bus.proofs.made.name_accesses.Given as goal
 
 abbrev pub invariant-loop-access : goal.invariant-loop-access

@@ -1,5 +1,5 @@
--- The bus before its first clock.
-use Rattle.std.specs.Prelude.{ℕ, ◌==◌, Bool, false, List, [], ◌∷◌, replicate, None}
+-- The bench of a plan before its first clock.
+use Rattle.std.specs.Prelude.{ℕ, Bool, false, List, [], ◌∷◌, replicate, None}
 use Rattle.std.specs.List.{list_any}
 use Rattle.fsb_access.specs.ScriptOrder.{script_of}
 use Rattle.fsb_access.specs.declared.item.Item.{Item}
@@ -8,7 +8,7 @@ use Rattle.fsb_agent_view.specs.AgentViews.{AgentView}
 use Rattle.fsb_memory.specs.Controller.{start_bytes}
 use Rattle.fsb_script.specs.Plans.{PlanView}
 use Rattle.fsb_timely.specs.Kept.{is_named_in}
-use Rattle.fsb_bench_view.specs.BusViews.{BusView}
+use Rattle.fsb_bench_view.specs.BusViews.{BenchView, BusView}
 
 -- the agent of this number, before any event; its script is empty where the plan has none for it
 abbrev pub first_agent : PlanView → ℕ → AgentView
@@ -17,10 +17,6 @@ first_agent plan n = first_view n (script_of plan.scripts n) plan.cache plan.ahe
 -- the four agents of a plan, before any event
 abbrev pub first_agents : PlanView → List AgentView
 first_agents plan = first_agent plan 0 ∷ first_agent plan 1 ∷ first_agent plan 2 ∷ first_agent plan 3 ∷ []
-
--- the line is one of these
-abbrev pub is_listed : List ℕ → ℕ → Bool
-is_listed lines line = list_any (λ other. other == line) lines
 
 -- the scripts name the line
 abbrev pub is_named_line : List (List Item) → ℕ → Bool
@@ -38,4 +34,11 @@ first_bus plan = record {
   latest = None;
   started = [];
   kept = replicate 4 false;
+}
+
+-- a quiet bus, and an empty run
+abbrev pub first_bench : PlanView → BenchView
+first_bench plan = record {
+  bus = first_bus plan;
+  run = record { plan = plan; choices = []; holds = []; trace = []; log = [] };
 }

@@ -1,0 +1,133 @@
+-- The first bench of a plan stands for its run, which is empty.
+use Rattle.std.proofs.Common.{ℕ, zero, suc, ◌<◌, ◌≡◌, true, List, [], Option, Some, None, refl, subst, arith}
+use Rattle.std.specs.List.{list_all, slice_get}
+use Rattle.std.proofs.lemmas.List.{get_or_past}
+use Rattle.fsb_access.specs.ScriptOrder.{script_of}
+use Rattle.fsb_access.specs.declared.item.Item.{Item}
+use Rattle.fsb_agent_run.proofs.Interface.{first-of, first-owed}
+use Rattle.fsb_agent_view.specs.AgentViews.{AgentView}
+use Rattle.fsb_agent_view.proofs.Interface.{sound_first}
+use Rattle.fsb_bridge_run.proofs.Interface.{list-first}
+use Rattle.fsb_count.specs.Clocks.{all_where, count_where, last_where}
+use Rattle.fsb_lawful.proofs.Interface.{all-at}
+use Rattle.fsb_script.specs.Bounds.{is_cache, is_lawful_script}
+use Rattle.fsb_script.specs.Plans.{PlanView}
+use Rattle.fsb_script.specs.View.{plan_view}
+use Rattle.fsb_script.specs.declared.plan.Plan.{Plan}
+use Rattle.fsb_timely.specs.Completions.{is_in_time}
+use Rattle.fsb_timely.specs.Moments.{turns_in}
+use Rattle.fsb_timely.specs.Runs.{Run, moments_below, past_of, requests_below}
+use Rattle.fsb_timely.specs.Scripts.{items_of}
+use Rattle.fsb_timely.specs.Timely.{AtEachClock, Part, Timely}
+use Rattle.fsb_trace.specs.Flight.{in_flight}
+use Rattle.fsb_bench_view.specs.FirstBench.{first_agent, first_agents, first_bench}
+use Rattle.fsb_bench_run.specs.BenchOf.{IsAgentNext, IsBenchOf}
+use Rattle.fsb_bench_run.specs.BenchPlans.{IsBenchPlan}
+use Rattle.fsb_bench_run.specs.LocksHeld.{keeps_into}
+
+-- the run of no clock
+abbrev empty : PlanView → Run
+empty plan = record { plan = plan; choices = []; holds = []; trace = []; log = [] }
+
+at-no-clock : (part : Part) (plan : PlanView) → AtEachClock part (empty plan)
+at-no-clock part plan = record { at = λ c l. absurd (omega (arith, l)) }
+
+empty-timely : (plan : PlanView) → Timely (empty plan)
+unfolding requests_below count_where is_in_time
+empty-timely plan = record {
+  known = refl;
+  one_hold = refl;
+  one_choice = refl;
+  in_time = refl;
+  request_starts = at-no-clock _ plan;
+  request_lines = at-no-clock _ plan;
+  hazard_lines = at-no-clock _ plan;
+  snoop_results = at-no-clock _ plan;
+  responses_and_data = at-no-clock _ plan;
+  completions = at-no-clock _ plan;
+  bus_lock = at-no-clock _ plan;
+  parity = at-no-clock _ plan;
+}
+
+-- each script is lawful, and so is the empty one of an agent that has none
+lawful-script : (plan : PlanView) (a : ℕ) (o : Option (List Item))
+    → list_all (is_lawful_script plan.cache) plan.scripts ≡ true → slice_get plan.scripts a ≡ o
+    → is_lawful_script plan.cache (script_of plan.scripts a) ≡ true
+unfolding is_lawful_script
+lawful-script plan a None all e = rw e refl
+lawful-script plan a (Some items) all e = rw e (all-at (is_lawful_script plan.cache) plan.scripts a items all e)
+
+-- an agent before any event
+first-next : (plan : PlanView) (a : ℕ) → IsBenchPlan plan → a < 4 → IsAgentNext (empty plan) a (first_agent plan a)
+unfolding items_of past_of
+first-next plan a k few = record {
+  view = first-of (past_of (empty plan)) a;
+  sound = sound_first a (script_of plan.scripts a) plan.cache plan.ahead plan.profile few k.some_lines
+      (lawful-script plan a (slice_get plan.scripts a) k.bounds.lawful_scripts refl) k.some_ahead k.bounds.few_ahead
+      k.profile;
+  owed = first-owed (past_of (empty plan)) a;
+}
+
+-- the agents of a first bench, by their numbers
+pub first-is : (plan : PlanView) (a : ℕ) (v : AgentView) → slice_get (first_agents plan) a ≡ Some v
+    → (a < 4) × (first_agent plan a ≡ v)
+first-is plan zero v e = (omega arith, cc)
+first-is plan (suc zero) v e = (omega arith, cc)
+first-is plan (suc (suc zero)) v e = (omega arith, cc)
+first-is plan (suc (suc (suc zero))) v e = (omega arith, cc)
+first-is plan (suc (suc (suc (suc a)))) v e = absurd (let no : ⊥ = cc in no)
+
+first-each : (plan : PlanView) (a : ℕ) (v : AgentView) → IsBenchPlan plan → slice_get (first_agents plan) a ≡ Some v
+    → IsAgentNext (empty plan) a v
+first-each plan a v k e =
+    let is = first-is plan a v e in
+    subst (λ w. IsAgentNext (empty plan) a w) is.1 (first-next plan a k is.0)
+
+none-first : {X : Type 0} (k : ℕ) (x : X) → slice_get [] k ≡ Some x → ⊥
+none-first k x e = cc
+
+pub first-stands : (plan : PlanView) → IsBenchPlan plan → IsBenchOf (first_bench plan)
+unfolding in_flight all_where last_where keeps_into past_of moments_below turns_in
+first-stands plan k = record {
+  timely = empty-timely plan;
+  bounds = k.bounds;
+  agents = record { four = refl; each = λ a v e. first-each plan a v k e };
+  flight = record {
+    flight = record {
+      clocks = refl;
+      settled = λ j e at. absurd (none-first j e at);
+      kept = λ i e. get_or_past [] i 0 (omega arith);
+    };
+    rising = record { rise = λ i j e f l at more. absurd (none-first i e at) };
+  };
+  requests = record {
+    flight = record {
+      clocks = refl;
+      settled = λ j e at. absurd (none-first j e at);
+      kept = λ i e. get_or_past [] i 0 (omega arith);
+    };
+    entries = record {
+      chosen = λ j e at. absurd (none-first j e at);
+      numbered = λ j e at. absurd (none-first j e at);
+    };
+  };
+  entries = record { begun = λ j e at. absurd (none-first j e at) };
+  bridge = record { window = refl; deferrals = list-first (empty plan) };
+  latest = record { clock = refl; begun = λ last e. absurd (let no : ⊥ = cc in no) };
+  started = record { clocks = refl; locked = λ j a start at. absurd (none-first j start at) };
+  served = record { count = refl; each = λ j e s at. absurd (none-first j e at) };
+  kept = refl;
+}
+
+-- what is read from a bench file keeps the bounds
+some-lines : (n : ℕ) → is_cache n ≡ true → 0 < n
+some-lines zero e = absurd (let no : ⊥ = cc in no)
+some-lines (suc n) e = omega arith
+
+pub plan-keeps : (plan : Plan) → IsBenchPlan (plan_view plan)
+plan-keeps plan = record {
+  bounds = record { lawful_scripts = plan.lawful_scripts; few_ahead = plan.few_ahead };
+  some_lines = some-lines plan.cache plan.lawful_cache;
+  some_ahead = plan.some_ahead;
+  profile = plan.lawful_profile;
+}

@@ -1,0 +1,65 @@
+-- The words that a bench has for its next clock come from lawful requests.
+use Rattle.std.proofs.Common.{ℕ, ◌^◌, ◌<◌, ◌≡◌, ◌&&◌, Bool, true, not, Some, nat_eq, nat_lt, slice_get, sym, ap, ◌∙◌, arith}
+use Rattle.std.proofs.lemmas.Bool.{and_parts, eqb-true, ltb-true}
+use Rattle.std.proofs.lemmas.Option.{slice_get_within}
+use Rattle.fsb_encode.specs.declared.request.Kind.{Kind}
+use Rattle.fsb_encode.specs.declared.request.Kind.TheVariants.{Invalidate, Read, Reply, Upgrade, WriteBack}
+use Rattle.fsb_encode.specs.declared.request.Request.{Request}
+use Rattle.fsb_encode.specs.Request.{are_lawful_fields, is_lawful_request}
+use Rattle.fsb_lawful.proofs.Interface.{get-there}
+use Rattle.fsb_laws.proofs.Interface.{ads_before_end}
+use Rattle.fsb_trace.specs.declared.who.Who.TheVariants.{Symmetric}
+use Rattle.fsb_bench_view.specs.declared.snoop.Served.{Served}
+use Rattle.fsb_bench_view.specs.BenchSteps.{step_performed}
+use Rattle.fsb_bench_view.specs.BusViews.{BenchView}
+use Rattle.fsb_bench_view.specs.MaySteps.{HasLawfulWords}
+use Rattle.fsb_bench_run.specs.BenchOf.{IsBenchOf, settled_entries}
+use Rattle.fsb_bench_run.proofs.BegunStays.{begun-lawful}
+use Rattle.fsb_bench_run.proofs.SameBus.{same-performed}
+
+-- the chunk of a lawful request has two bits
+fields-chunk : (kind : Kind) (line chunk : ℕ) (den : Bool) → are_lawful_fields kind line chunk den ≡ true → chunk < 4
+unfolding are_lawful_fields
+fields-chunk Reply line chunk den e =
+    let none = eqb-true chunk 0 (and_parts (nat_eq line 0) (nat_eq chunk 0)
+    (and_parts (nat_eq line 0 && nat_eq chunk 0) (not den) e).0).1 in
+    omega arith
+fields-chunk Invalidate line chunk den e = ltb-true chunk 4 (and_parts (nat_lt line (2 ^ 31)) (nat_lt chunk 4) e).1
+fields-chunk Read line chunk den e = ltb-true chunk 4 (and_parts (nat_lt line (2 ^ 31)) (nat_lt chunk 4) e).1
+fields-chunk WriteBack line chunk den e =
+    let none = eqb-true chunk 0 (and_parts (nat_lt line (2 ^ 31)) (nat_eq chunk 0)
+    (and_parts (nat_lt line (2 ^ 31) && nat_eq chunk 0) (not den) e).0).1 in
+    omega arith
+fields-chunk Upgrade line chunk den e =
+    ltb-true chunk 4 (and_parts (nat_lt line (2 ^ 31)) (nat_lt chunk 4)
+    (and_parts (nat_lt line (2 ^ 31) && nat_lt chunk 4) (not den) e).0).1
+
+lawful-chunk : (request : Request) → is_lawful_request request ≡ true → request.chunk < 4
+unfolding is_lawful_request
+lawful-chunk request e =
+    fields-chunk request.kind request.line request.chunk request.den
+    (and_parts (are_lawful_fields request.kind request.line request.chunk request.den) (nat_lt request.did (2 ^ 8)) e).0
+
+-- what is served first has begun
+served-lawful : (v : BenchView) (served : Served) → IsBenchOf v → slice_get v.bus.served 0 ≡ Some served
+    → is_lawful_request served.request ≡ true
+served-lawful v served b at =
+    let r = v.run in
+    let within = slice_get_within v.bus.served 0 served at in
+    let count = b.served.count in
+    let e = get-there (settled_entries v.bus.queue) 0 (omega (arith, within, count)) in
+    let is = b.served.each 0 e.0 served e.1 at in
+    begun-lawful r served.first (Symmetric served.agent) served.request b.bounds
+    (ads_before_end r.trace served.first is.begun.begins) is.begun
+
+pub words-lawful : (v : BenchView) → IsBenchOf v → HasLawfulWords (step_performed v)
+words-lawful v b =
+    let same = same-performed v in
+    record {
+      latest = λ latest e.
+          let begun = b.latest.begun latest (sym same.latest ∙ e) in
+          begun-lawful v.run latest.clock latest.who latest.request b.bounds
+          (ads_before_end v.run.trace latest.clock begun.begins) begun;
+      served = λ served e.
+          lawful-chunk served.request (served-lawful v served b (ap (λ xs. slice_get xs 0) (sym same.served) ∙ e));
+    }
