@@ -1,0 +1,189 @@
+-- The end of a clock on a line for which an upgrade that was won is still awaited: the oldest link does not own, so
+-- what completes with the end only loads.
+use Rattle.std.proofs.Common.{ℕ, zero, suc, ◌+◌, ◌<◌, ◌≡◌, Bool, true, false, not, ◌&&◌, ◌||◌, if◌then◌else◌, List, [], ◌∷◌, ◌++◌, Some, None, length, refl, sym, ap, subst, ◌∙◌, inl, inr, arith}
+use Rattle.std.specs.List.{list_all}
+use Rattle.std.proofs.lemmas.Bool.{cases_lt, eq-eqb}
+use Rattle.fsb_agent_view.specs.declared.want.OwnRequest.{OwnRequest}
+use Rattle.fsb_coherent.specs.Awaits.{Awaited, awaited_by, awaited_by_grant}
+use Rattle.fsb_coherent.specs.BeforeSnoop.{events_before_snoop}
+use Rattle.fsb_coherent.specs.LineEvents.{entries_on, events_below, snoops_on}
+use Rattle.fsb_coherent.specs.Relation.{chain_below, link_for, links_left}
+use Rattle.fsb_coherent.proofs.Interface.{first-events, links_new, snoop-step}
+use Rattle.fsb_encode.specs.declared.request.Kind.{Kind}
+use Rattle.fsb_line.specs.Line.{MemoryLine, unheld}
+use Rattle.fsb_line.specs.LineRuns.{run}
+use Rattle.fsb_line.specs.Links.{any_won, carries, has_late_upgrade, is_won, owns}
+use Rattle.fsb_line.specs.declared.link.Link.{Link}
+use Rattle.fsb_line.proofs.Interface.{ordered_run}
+use Rattle.fsb_lawful.specs.Beginning.{KeepsBounds}
+use Rattle.fsb_run_laws.specs.Reaches.{Reaches}
+use Rattle.fsb_tied.proofs.Interface.{EndsLine, answers-in-order, at-there, awaited-there, awaiting-loads, awaits-grant, carries-awaited, clock-facts, events-may-happen, link_of, links_at, one-end}
+use Rattle.fsb_timely.specs.Grants.{snooped_at}
+use Rattle.fsb_timely.specs.Hits.{is_hit}
+use Rattle.fsb_timely.specs.Moments.{is_upgraded, makes_grant}
+use Rattle.fsb_timely.specs.Grants.{begun_at}
+use Rattle.fsb_timely.specs.Past.{Claim, Grant, Past, SnoopEnd}
+use Rattle.fsb_timely.specs.Runs.{Run, past_of}
+use Rattle.fsb_timely.specs.Scripts.{is_load}
+use Rattle.fsb_timely.specs.Timely.{Timely}
+use Rattle.fsb_trace.specs.declared.outcome.Outcome.{Outcome}
+use Rattle.fsb_bench_values.proofs.OwedLines.{IsKeptFor}
+
+one-of : {X : Type 0} (a b : X) → Some a ≡ Some b → a ≡ b
+one-of a b e = cc
+
+-- ---- an upgrade that was won
+
+granted-is : (kind : Kind) (outcome : Outcome) (won : Bool) (made grant : Grant)
+    → (if makes_grant kind outcome || (is_upgraded outcome && won) then Some made else None) ≡ Some grant
+    → made ≡ grant
+granted-is kind outcome won made grant = by (makes_grant kind outcome || (is_upgraded outcome && won))
+  where
+    by : (b : Bool) → (if b then Some made else None) ≡ Some grant → made ≡ grant
+    by true e = one-of made grant e
+    by false e = absurd (let no : ⊥ = cc in no)
+
+-- the link of an upgrade that was won
+record WonLink (p : Past) (line t : ℕ) (end : SnoopEnd) : Type 0 where
+  awaited : Awaited
+  awaits : awaited_by end ≡ Some awaited
+  names : awaited.line ≡ line
+  won : is_won (link_of p line t end awaited) ≡ true
+
+won-link : (r : Run) (line t : ℕ) (end : SnoopEnd) (grant : Grant) (claim : Claim) → Timely r → KeepsBounds r.plan
+    → t < length r.trace → snooped_at (past_of r) t ≡ Some end → end.claim ≡ Some claim → claim.line ≡ line
+    → end.grant ≡ Some grant → is_upgraded end.outcome ≡ true → WonLink (past_of r) line t end
+unfolding awaited_by_grant
+won-link r line t end grant claim h bounds l there claims names granted upgraded =
+    let p : Past = past_of r in
+    let fits = ((clock-facts r line t h bounds l).settles.settled end claim there claims names).fits in
+    let same = granted-is fits.kind end.outcome fits.won _ grant (sym fits.granted ∙ granted) in
+    let on : grant.line ≡ line = ap (λ (x : Grant). x.line) (sym same) in
+    let awaited : Awaited = awaited_by_grant end.outcome grant in
+    let awaits : awaited_by end ≡ Some awaited = awaits-grant end grant granted in
+    let fit : carries (link_of p awaited.line t end awaited) ≡ awaited.carries =
+    (carries-awaited r t end awaited h there awaits).fits in
+    let quiet : not (is_won (link_of p line t end awaited)) ≡ false =
+    ap (λ k. carries (link_of p k t end awaited)) (sym on) ∙ fit ∙ ap not upgraded in
+    record { awaited = awaited; awaits = awaits; names = on; won = off (is_won (link_of p line t end awaited)) quiet }
+  where
+    off : (b : Bool) → not b ≡ false → b ≡ true
+    off true e = refl
+    off false e = absurd (let no : ⊥ = cc in no)
+
+-- ---- among the links
+
+won-before : (xs ys : List Link) → any_won xs ≡ true → any_won (xs ++ ys) ≡ true
+won-before [] ys e = absurd (let no : ⊥ = cc in no)
+won-before (x ∷ xs) ys e = either (is_won x) (any_won xs) (any_won (xs ++ ys)) e (won-before xs ys)
+  where
+    either : (a b c : Bool) → (a || b) ≡ true → (b ≡ true → c ≡ true) → (a || c) ≡ true
+    either true b c e more = refl
+    either false b c e more = more e
+
+won-behind : (xs ys : List Link) → any_won ys ≡ true → any_won (xs ++ ys) ≡ true
+won-behind [] ys e = e
+won-behind (x ∷ xs) ys e = rw (won-behind xs ys e) (either (is_won x))
+  where
+    either : (b : Bool) → (b || true) ≡ true
+    either true = refl
+    either false = refl
+
+won-one : (link : Link) → is_won link ≡ true → any_won (link ∷ []) ≡ true
+won-one link e = rw e refl
+
+won-left : (p : Past) (line m t b : ℕ) (link : Link) → links_at p line m t ≡ link ∷ [] → is_won link ≡ true → t < b
+    → any_won (links_left p line m b) ≡ true
+unfolding links_left
+won-left p line m t zero link here won l = absurd (omega arith)
+won-left p line m t (suc b) link here won l = elim (cases_lt t b) [
+  | inl less ↦ won-before (links_left p line m b) (links_at p line m b) (won-left p line m t b link here won less)
+  | inr more ↦
+      let same : t ≡ b = omega (arith, l, more) in
+      let there : links_at p line m b ≡ link ∷ [] = ap (links_at p line m) (sym same) ∙ here in
+      won-behind (links_left p line m b) (links_at p line m b) (ap any_won there ∙ won-one link won)
+]
+
+won-new : (p : Past) (line n : ℕ) (end : SnoopEnd) (k : WonLink p line n end) → snooped_at p n ≡ Some end
+    → any_won (links_new p line n) ≡ true
+unfolding link_for
+won-new p line n end k there =
+    let new : links_new p line n ≡ link_of p line n end k.awaited ∷ [] =
+    rw (there, k.awaits, eq-eqb k.awaited.line line k.names) refl in
+    ap any_won new ∙ won-one (link_of p line n end k.awaited) k.won
+
+-- a link before one that was won does not own
+late-unowned : (link : Link) (links : List Link) → has_late_upgrade (link ∷ links) ≡ false → any_won links ≡ true
+    → owns link ≡ false
+late-unowned link links none won = by (owns link) refl
+  where
+    by : (b : Bool) → owns link ≡ b → owns link ≡ false
+    by false e = e
+    by true e =
+        let all : ((owns link && any_won links) || has_late_upgrade links) ≡ false = none in
+        absurd (let no : ⊥ = (let f = rw (e, won) at all in cc) in no)
+
+-- ---- the end of a clock
+
+-- the links at a clock behind its snoop end: none that was won comes after one that owns
+ordered-behind : (r : Run) (line n : ℕ) → Timely r → KeepsBounds r.plan → n < length r.trace
+    → has_late_upgrade (chain_below (past_of r) line n ++ links_new (past_of r) line n) ≡ false
+ordered-behind r line n h bounds l =
+    let p : Past = past_of r in
+    let facts = clock-facts r line n h bounds l in
+    let tied = (events-may-happen r line n [] h bounds (omega arith)).1 in
+    let x : MemoryLine = run (unheld []) (events_below p line n) in
+    let before = events_before_snoop p line n in
+    let first = first-events p line n x facts tied.valued tied.tied in
+    let ordered = ordered_run x before tied.ordered first.0 in
+    let last = snoop-step p line n (run x before) facts ordered first.1 in
+    let behind = ordered_run (run x before) (snoops_on p line n) ordered last.0 in
+    ap has_late_upgrade (sym last.1.chain) ∙ behind.no_late_upgrade
+
+-- an upgrade that was won by the clock, and that has not ended behind it, is among the links behind the oldest one
+won-rest : (r : Run) (line n : ℕ) (out : OwnRequest) (claim : Claim) → Reaches r (n + 1) → (k : IsKeptFor r (n + 1) out)
+    → begun_at (past_of r) out.number ≡ Some claim → claim.line ≡ line
+    → any_won (links_left (past_of r) line (n + 1) n ++ links_new (past_of r) line n) ≡ true
+won-rest r line n out claim h k begun names =
+    let p : Past = past_of r in
+    let long = h.long in
+    let low : k.at < n + 1 = k.below in
+    let within : k.at < length r.trace = omega (arith, low, long) in
+    let claims : k.end.claim ≡ Some claim =
+    (clock-facts r line k.at h.timely h.bounds within).settles.claimed k.end k.there
+    ∙ ap (begun_at p) k.first ∙ begun in
+    let w = won-link r line k.at k.end k.grant claim h.timely h.bounds within k.there claims names k.granted
+    k.upgraded in
+    elim (cases_lt k.at n) [
+      | inl less ↦
+          won-before (links_left p line (n + 1) n) (links_new p line n)
+          (won-left p line (n + 1) k.at n (link_of p line k.at k.end w.awaited)
+          (at-there p line (n + 1) k.at k.end w.awaited k.there k.unended w.awaits w.names) w.won less)
+      | inr more ↦
+          let same : k.at ≡ n = omega (arith, low, more) in
+          won-behind (links_left p line (n + 1) n) (links_new p line n)
+          (won-new p line n k.end (subst (λ t. WonLink p line t k.end) same w)
+          (ap (snooped_at p) (sym same) ∙ k.there))
+    ]
+
+-- so the accesses of the clock on the line, but for the hits, load
+pub kept-loads : (r : Run) (line n : ℕ) (out : OwnRequest) (claim : Claim) → Reaches r (n + 1) → EndsLine r line n
+    → IsKeptFor r (n + 1) out → begun_at (past_of r) out.number ≡ Some claim → claim.line ≡ line
+    → list_all (λ done. is_hit (past_of r) done.agent n || is_load done.access) (entries_on (past_of r) line n) ≡ true
+kept-loads r line n out claim h x k begun names =
+    let p : Past = past_of r in
+    let long = h.long in
+    let l : n < length r.trace = omega (arith, long) in
+    let below = x.below in
+    let facts = clock-facts r line n h.timely h.bounds l in
+    let at = awaited-there p (length r.trace) n x.at x.end (answers-in-order r h.timely) below x.tied.there
+    ∙ x.awaits in
+    let oldest = facts.ends.oldest x.end.first x.awaited x.alone at x.names in
+    let rest = links_left p line (n + 1) n in
+    let late : has_late_upgrade (oldest.0 ∷ (rest ++ links_new p line n)) ≡ false =
+    ap (λ xs. has_late_upgrade (xs ++ links_new p line n)) (sym oldest.1)
+    ∙ ordered-behind r line n h.timely h.bounds l in
+    let unowned = late-unowned oldest.0 (rest ++ links_new p line n) late
+    (won-rest r line n out claim h k begun names) in
+    awaiting-loads r line n oldest.0 rest
+    (one-end r line n x.end.first x.awaited h.timely l x.alone at x.names) oldest.1 unowned

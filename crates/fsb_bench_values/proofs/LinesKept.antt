@@ -1,0 +1,146 @@
+-- The caches and the memory of a bench are as its run keeps them.
+use Rattle.std.proofs.Common.{ℕ, ◌≤◌, ◌≡◌, Bool, true, false, ◌&&◌, ◌||◌, Option, Some, None, List, [], ◌∷◌, length, nat_eq, nat_le, nat_lt, refl, sym, ap, ◌∙◌, inl, inr, arith}
+use Rattle.std.specs.List.{list_any, slice_get}
+use Rattle.std.specs.Option.{option_map_or}
+use Rattle.std.proofs.lemmas.Bool.{and_parts, cases_lt}
+use Rattle.fsb_access.specs.declared.log.Done.{Done}
+use Rattle.fsb_agent_view.specs.AgentViews.{AgentView, line_state_by}
+use Rattle.fsb_agent_run.specs.RunViews.{state_told}
+use Rattle.fsb_agent_run.specs.Stages.{IsViewOf}
+use Rattle.fsb_agent_run.proofs.Interface.{come-by, held-by}
+use Rattle.fsb_cache.specs.Sets.{CacheSets, copies, held_at, states}
+use Rattle.fsb_coherent.specs.Relation.{is_dirty_below, is_stored_below}
+use Rattle.fsb_count.specs.Options.{is_some_and}
+use Rattle.fsb_lawful.proofs.Interface.{get-there, granted-by}
+use Rattle.fsb_line.specs.declared.state.Mesi.TheVariants.{Exclusive, Invalid, Modified, Shared}
+use Rattle.fsb_tied.proofs.Interface.{claimed, winner-four}
+use Rattle.fsb_timely.proofs.Interface.{holds_line-says}
+use Rattle.fsb_timely.specs.Completions.{is_in_time}
+use Rattle.fsb_timely.specs.Grants.{holds_line, is_ended, is_exclusive, is_ready, latest_grant}
+use Rattle.fsb_timely.specs.Hits.{is_counted, is_dirty, is_hit, is_store_on, is_stored_since, line_state_of}
+use Rattle.fsb_timely.specs.Kept.{Kept, bytes_now}
+use Rattle.fsb_timely.specs.Past.{Past}
+use Rattle.fsb_timely.specs.Runs.{Run, past_of}
+use Rattle.fsb_bench_view.specs.BusViews.{BenchView, next_clock_of}
+use Rattle.fsb_bench_run.specs.BenchOf.{IsBenchOf}
+use Rattle.fsb_bench_values.specs.BytesOf.{HasBytesOf}
+use Rattle.fsb_bench_values.specs.Lent.{bytes_lent, lines_lent, state_lent}
+
+-- all stores of a log that ends below a clock count there
+stores-counted : (p : Past) (a line n q first : ℕ) (log : List Done) → is_in_time first n log ≡ true
+    → list_any (λ done. is_store_on a line done && is_ended p done.clock q && is_counted p a n done) log
+    ≡ list_any (λ done. is_store_on a line done && is_ended p done.clock q && nat_lt done.clock n) log
+unfolding is_in_time is_counted
+stores-counted p a line n q first [] e = refl
+stores-counted p a line n q first (done ∷ log) e =
+    let parts = and_parts (nat_le first done.clock) (nat_lt done.clock n && is_in_time done.clock n log) e in
+    let rest = and_parts (nat_lt done.clock n) (is_in_time done.clock n log) parts.1 in
+    let counts : (nat_lt done.clock n || (nat_eq done.clock n && is_hit p a n)) ≡ nat_lt done.clock n =
+    (λ i. rest.0 i || (nat_eq done.clock n && is_hit p a n)) ∙ sym rest.0 in
+    let later = stores-counted p a line n q done.clock log rest.1 in
+    λ i. ((is_store_on a line done && is_ended p done.clock q) && counts i) || later i
+
+-- so who is dirty there is dirty by the stores below
+dirty-now : (r : Run) (a line : ℕ) → is_in_time 0 (length r.trace) r.log ≡ true
+    → is_dirty_below (past_of r) a line (length r.trace) ≡ is_dirty (past_of r) a line (length r.trace)
+unfolding is_dirty is_dirty_below is_stored_since is_stored_below past_of
+dirty-now r a line e =
+    let p : Past = past_of r in
+    let n = length r.trace in
+    λ i. is_exclusive p a line n && is_some_and (latest_grant p a line n)
+    (λ grant. grant.owns || sym (stores-counted p a line n grant.first 0 r.log e) i)
+
+-- the state that is told is that of the line
+told-state : (p : Past) (a line n : ℕ)
+    → state_told (holds_line p a line n) (is_exclusive p a line n) (is_dirty p a line n) ≡ line_state_of p a line n
+unfolding line_state_of
+told-state p a line n = by (holds_line p a line n) (is_exclusive p a line n) (is_dirty p a line n)
+  where
+    by : (held own dirty : Bool) → state_told held own dirty ≡ (elim held [
+      | false ↦ Invalid
+      | true ↦ elim own [ false ↦ Shared | true ↦ elim dirty [ true ↦ Modified | false ↦ Exclusive ] ]
+    ])
+    by false own dirty = refl
+    by true false dirty = refl
+    by true true true = refl
+    by true true false = refl
+
+unheld : (p : Past) (a line n : ℕ) → holds_line p a line n ≡ false → line_state_of p a line n ≡ Invalid
+unheld p a line n none =
+    sym (told-state p a line n) ∙ ap (λ b. state_told b (is_exclusive p a line n) (is_dirty p a line n)) none
+
+-- an agent of a bench has the state of each line, and the bytes of each that is ready
+record HasKeptLine (r : Run) (a line : ℕ) (lines : CacheSets) : Type 0 where
+  invalid : holds_line (past_of r) a line (length r.trace) ≡ false → states lines line ≡ Invalid
+  state : holds_line (past_of r) a line (length r.trace) ≡ true
+      → states lines line ≡ line_state_of (past_of r) a line (length r.trace)
+  bytes : holds_line (past_of r) a line (length r.trace) ≡ true
+      → is_ready (past_of r) a line (length r.trace) ≡ true → copies lines line ≡ bytes_now r line
+
+agent-kept : (v : BenchView) (a line : ℕ) (w : AgentView) → IsBenchOf v → HasBytesOf v
+    → slice_get v.bus.agents a ≡ Some w → HasKeptLine v.run a line w.lines
+agent-kept v a line w b h at =
+    let p : Past = past_of v.run in
+    let n = next_clock_of v in
+    let view : IsViewOf p a n w = (b.agents.each a w at).view in
+    let dirty : ℕ → Bool = λ l. is_dirty_below p a l n in
+    let state : line_state_by w line ≡ line_state_of p a line n = view.lines.states line
+    ∙ ap (state_told (holds_line p a line n) (is_exclusive p a line n)) (dirty-now v.run a line b.timely.in_time)
+    ∙ told-state p a line n in
+    record {
+      invalid = λ none. state ∙ unheld p a line n none;
+      state = λ holds. state;
+      bytes = λ holds ready. (h.agents a w at).copies line (held-by p a n n dirty w line view.lines ∙ holds)
+          (come-by p a n n dirty w line view.lines holds ∙ ready);
+    }
+
+-- a cache without lines has none
+none-kept : (line : ℕ) → states [] line ≡ Invalid
+unfolding states held_at
+none-kept line = refl
+
+-- an agent that holds a line is one of four
+few-hold : (r : Run) (a line n : ℕ) → n ≤ length r.trace → 4 ≤ a → holds_line (past_of r) a line n ≡ true → ⊥
+few-hold r a line n l many holds =
+    let since = holds_line-says (past_of r) a line n holds in
+    let below = since.before in
+    let g = granted-by r a line since.at (omega arith) since.granted in
+    let won = (claimed r.trace g.begun g.claim g.claims).1 in
+    let few = winner-four r.trace g.begun g.claim.agent won in
+    let same = g.agent in
+    omega arith
+
+-- where there is no agent nothing is held
+no-agent : (v : BenchView) (a line : ℕ) → IsBenchOf v → slice_get v.bus.agents a ≡ None
+    → holds_line (past_of v.run) a line (next_clock_of v) ≡ true → ⊥
+no-agent v a line b none holds = elim (cases_lt a 4) [
+  | inl few ↦
+      let four = b.agents.four in
+      let k = get-there v.bus.agents a (omega arith) in
+      absurd (missing (slice_get v.bus.agents a) k.0 none k.1)
+  | inr many ↦ few-hold v.run a line (next_clock_of v) (omega arith) many holds
+]
+  where
+    missing : (o : Option AgentView) (w : AgentView) → o ≡ None → o ≡ Some w → ⊥
+    missing o w e f = cc
+
+lent-kept : (v : BenchView) (a line : ℕ) → IsBenchOf v → HasBytesOf v → HasKeptLine v.run a line (lines_lent v a)
+lent-kept v a line b h = by (slice_get v.bus.agents a) refl
+  where
+    by : (o : Option AgentView) → slice_get v.bus.agents a ≡ o
+        → HasKeptLine v.run a line (option_map_or (λ w. w.lines) o [])
+    by (Some w) e = agent-kept v a line w b h e
+    by None e = record {
+      invalid = λ none. none-kept line;
+      state = λ holds. absurd (no-agent v a line b e holds);
+      bytes = λ holds ready. absurd (no-agent v a line b e holds);
+    }
+
+pub lines-kept : (v : BenchView) → IsBenchOf v → HasBytesOf v
+    → Kept v.run (state_lent v) (bytes_lent v) v.bus.memory
+lines-kept v b h = record {
+  invalid = λ a line few named none. (lent-kept v a line b h).invalid none;
+  states = λ a line few named holds ready. (lent-kept v a line b h).state holds;
+  copies = λ a line few named holds ready. (lent-kept v a line b h).bytes holds ready;
+  put = λ line named. h.memory line;
+}

@@ -1,0 +1,240 @@
+-- The lines of requests that an agent has outstanding: one that keeps bytes for its upgrade has a link.
+use Rattle.std.proofs.Common.{ℕ, ◌+◌, ◌<◌, ◌≤◌, ◌≡◌, Bool, true, false, not, ◌&&◌, ◌||◌, List, ◌∷◌, Option, Some, None, is_none, is_some, length, nat_eq, nat_lt, refl, sym, ap, subst, ◌∙◌, inl, inr, arith}
+use Rattle.std.specs.Bool.{beq}
+use Rattle.std.specs.List.{list_any}
+use Rattle.std.proofs.lemmas.Bool.{and_parts, both_ways, cases_Bool, eq-eqb, eqb-true, lt-ltb, ltb-true}
+use Rattle.fsb_count.specs.Clocks.{first_where}
+use Rattle.fsb_count.specs.Options.{is_at, is_some_and}
+use Rattle.fsb_count.proofs.Interface.{first_where-found, is_at-some, is_before-from}
+use Rattle.fsb_agent_run.specs.RunViews.{HasLines, HasRequestsOf, is_awaited, is_won_below, owing_by}
+use Rattle.fsb_agent_run.proofs.Interface.{Among, all-among, among-any, among-filter, awaits-by, fill-counted, kept-of, owing-there}
+use Rattle.fsb_agent_view.specs.AgentViews.{AgentView}
+use Rattle.fsb_agent_view.specs.Sound.{IsSound, is_only, is_sound_request}
+use Rattle.fsb_agent_view.specs.declared.want.OwnRequest.{OwnRequest}
+use Rattle.fsb_cache.specs.Sets.{slot_of}
+use Rattle.fsb_coherent.specs.Awaits.{awaited_by_grant, snoop_end_below}
+use Rattle.fsb_coherent.specs.Relation.{chain_below}
+use Rattle.fsb_lawful.proofs.Interface as lawful
+use Rattle.fsb_line.specs.declared.link.Link.{Link}
+use Rattle.fsb_linebuf.specs.Buffers.{fill_on}
+use Rattle.fsb_run_laws.specs.Reaches.{Reaches}
+use Rattle.fsb_run_laws.specs.RunSteps.{owing_begun}
+use Rattle.fsb_run_laws.proofs.Interface.{begun-wanted, ends-last, owed-told, snoop-below}
+use Rattle.fsb_tied.proofs.Interface.{answers-in-order, awaits-grant, ended-later, ended-parts, grant-first, granted-parts, not-so, snooped-before-end}
+use Rattle.fsb_timely.specs.Grants.{is_ended, snooped_at}
+use Rattle.fsb_timely.specs.Growth.{is_last_clock}
+use Rattle.fsb_timely.specs.Moments.{is_snoop_of, is_upgraded}
+use Rattle.fsb_timely.specs.Past.{Grant, Owing, Past, SnoopEnd}
+use Rattle.fsb_timely.specs.Runs.{Run, past_of}
+use Rattle.fsb_timely.specs.Wants.{outstanding_at, owed}
+use Rattle.fsb_signal.specs.Samples.{line_at}
+use Rattle.fsb_signal.specs.declared.lines.TheConstants.Lines.{ADS}
+use Rattle.fsb_trace.specs.At.{Trace, request_at}
+use Rattle.fsb_trace.specs.Flight.{is_dropped, is_finished, is_outstanding, last_clock_of, outstanding}
+use Rattle.fsb_trace.specs.Outcome.{is_deferral}
+use Rattle.fsb_trace.specs.Requests.{is_cancelled, is_live, is_reply, live_number_of}
+use Rattle.fsb_trace.specs.declared.outcome.Outcome.{Outcome}
+use Rattle.fsb_trace.specs.declared.outcome.Outcome.TheVariants.{Granted, Handed, Retried, Deferred, Written, Replied, Failed, Upgraded}
+use Rattle.fsb_bench_values.proofs.PushedLines.{awaited-link}
+
+one-of : {X : Type 0} (a b : X) → Some a ≡ Some b → a ≡ b
+one-of a b e = cc
+
+-- ---- lines that are awaited
+
+-- bytes that are kept are of a line that is awaited
+pub kept-awaited : (held alone dirty awaited : ℕ → Bool) (w : AgentView) (out : OwnRequest) (kept : List ℕ) → IsSound w
+    → HasLines held alone dirty awaited w → Among out w.outs → out.kept ≡ Some kept → awaited out.request.line ≡ true
+kept-awaited held alone dirty awaited w out kept sound lines k e =
+    let fills = w.buffers.fills in
+    let line : ℕ = out.request.line in
+    let s = all-among (is_sound_request w.lines fills) out w.outs sound.requests k in
+    let two = and_parts (is_only line (slot_of w.lines line) && beq (is_some (fill_on line fills)) out.granted)
+    (out.granted || is_none out.kept) s in
+    let one = and_parts (is_only line (slot_of w.lines line)) (beq (is_some (fill_on line fills)) out.granted) two.0 in
+    let granted = granted-kept out.granted out.kept kept e two.1 in
+    let filled = filled-granted (is_some (fill_on line fills)) out.granted granted one.1 in
+    sym (fill-counted line fills (awaited line) (lines.fills line)) ∙ filled
+  where
+    granted-kept : (b : Bool) (o : Option (List ℕ)) (kept : List ℕ) → o ≡ Some kept → (b || is_none o) ≡ true → b ≡ true
+    granted-kept true o kept e f = refl
+    granted-kept false o kept e f = absurd (let no : ⊥ = (let g = rw e at f in cc) in no)
+
+    filled-granted : (x y : Bool) → y ≡ true → beq x y ≡ true → x ≡ true
+    filled-granted true y e f = refl
+    filled-granted false true e f = absurd (let no : ⊥ = cc in no)
+    filled-granted false false e f = absurd (let no : ⊥ = cc in no)
+
+-- a line that an agent awaits has a link
+pub awaited-linked : (r : Run) (a line m c : ℕ) → m ≤ length r.trace → is_awaited (past_of r) a line m c ≡ true → m ≤ c
+    → (link : Link) × (links : List Link) × (chain_below (past_of r) line m ≡ link ∷ links)
+unfolding awaited_by_grant
+awaited-linked r a line m c l e upto =
+    let p : Past = past_of r in
+    let k = awaits-by p a line m c e in
+    let below : k.at < m = k.below in
+    let g = granted-parts p a line k.at k.granted in
+    let same = one-of g.0 k.end (sym g.2 ∙ k.there) in
+    let is = one-of g.1 k.grant (sym g.3 ∙ ap (λ (x : SnoopEnd). x.grant) same ∙ k.made) in
+    let first = grant-first r a line k.at k.end k.grant (omega arith) k.there k.made k.granted in
+    let names : k.grant.line ≡ line = ap (λ (x : Grant). x.line) (sym is) ∙ g.5 in
+    let unended = not-so (is_ended p m k.end.first) (λ t.
+    both_ways (is_ended p c k.grant.first) k.unended
+    (ap (is_ended p c) first ∙ ended-later p m c k.end.first upto t)) in
+    awaited-link p line m k.at k.end (awaited_by_grant k.end.outcome k.grant) below k.there unended
+    (awaits-grant k.end k.grant k.made) names
+
+-- ---- requests that are outstanding
+
+out-dropped : (w : Trace) (c q : ℕ) → is_dropped w c q ≡ true → is_outstanding w c q ≡ false
+unfolding is_outstanding
+out-dropped w c q e =
+    rw e (none (line_at ADS w q && nat_lt q c && not (is_reply (request_at w q))) (is_finished w c q))
+  where
+    none : (b f : Bool) → (b && false && not f) ≡ false
+    none true f = refl
+    none false f = refl
+
+out-finished : (w : Trace) (c q : ℕ) → is_finished w c q ≡ true → is_outstanding w c q ≡ false
+unfolding is_outstanding
+out-finished w c q e =
+    rw e (none (line_at ADS w q && nat_lt q c && not (is_reply (request_at w q)) && not (is_dropped w c q)))
+  where
+    none : (b : Bool) → (b && false) ≡ false
+    none true = refl
+    none false = refl
+
+out-below : (w : Trace) (c q : ℕ) → is_outstanding w c q ≡ true → q < c
+unfolding is_outstanding
+out-below w c q e =
+    ltb-true q c (second (line_at ADS w q) (nat_lt q c) (not (is_reply (request_at w q))) (not (is_dropped w c q))
+    (not (is_finished w c q)) e)
+  where
+    second : (a b c d e : Bool) → (a && b && c && d && e) ≡ true → b ≡ true
+    second true true c d e h = refl
+    second true false c d e h = absurd (let no : ⊥ = cc in no)
+    second false b c d e h = absurd (let no : ⊥ = cc in no)
+
+-- a request is not outstanding behind its last clock
+last-out : (w : Trace) (e c q : ℕ) → is_last_clock w e q ≡ true → e < c → is_outstanding w c q ≡ false
+unfolding is_last_clock is_dropped is_finished
+last-out w e c q last l =
+    elim (cases_Bool (is_cancelled w q && nat_eq (q + 3) e)) [
+      | inl dropped ↦
+          let parts = and_parts (is_cancelled w q) (nat_eq (q + 3) e) dropped in
+          let at : q + 3 ≡ e = eqb-true (q + 3) e parts.1 in
+          let below = lt-ltb (q + 3) c (omega (arith, at, l)) in
+          out-dropped w c q (rw (parts.0, below) refl)
+      | inr kept ↦
+          let live : (is_live w q && is_at (last_clock_of w (live_number_of w q)) e) ≡ true = rw kept at last in
+          let parts = and_parts (is_live w q) _ live in
+          let clock = is_at-some _ e parts.1 in
+          let before = is_before-from _ e c clock l in
+          out-finished w c q (rw (parts.0, before) refl)
+    ]
+
+-- what an agent owes is outstanding
+owed-out : (r : Run) (a n : ℕ) (owing : Owing) → Reaches r n → Among owing (owed (past_of r) a n)
+    → is_outstanding r.trace n owing.claim.first ≡ true
+unfolding owed outstanding
+owed-out r a n owing h k =
+    let p : Past = past_of r in
+    let q : ℕ = owing.claim.first in
+    let test : Owing → Bool = λ o. nat_eq o.claim.first q in
+    let parts = among-filter (λ o. nat_eq o.claim.agent a) owing (outstanding_at p n) k in
+    let any = among-any test owing (outstanding_at p n) parts.0 (eq-eqb q q refl) in
+    let told = subst (λ xs. list_any test xs ≡ true) (owed-told r n h) any in
+    let x = lawful.any-from (is_outstanding r.trace n) (owing_begun p) test n told in
+    let below : x.0 < n = out-below r.trace n x.0 x.1.there in
+    let long = h.long in
+    let reaches : Reaches r (x.0 + 1) = record { timely = h.timely; bounds = h.bounds; long = omega arith } in
+    let first = (begun-wanted r x.0 x.1.given reaches x.1.gives).4 in
+    let same = eqb-true x.1.given.claim.first q x.1.passes in
+    subst (λ y. is_outstanding r.trace n y ≡ true) (sym first ∙ same) x.1.there
+
+-- so its end has not come, where it was not put off
+owed-unended : (r : Run) (a n t : ℕ) (owing : Owing) (end : SnoopEnd) → Reaches r n → Among owing (owed (past_of r) a n)
+    → snooped_at (past_of r) t ≡ Some end → end.first ≡ owing.claim.first → is_deferral end.outcome ≡ false
+    → is_ended (past_of r) n end.first ≡ false
+owed-unended r a n t owing end h k there first kept =
+    let p : Past = past_of r in
+    let long = h.long in
+    not-so (is_ended p n end.first) (λ ended.
+    let e = ended-parts p n end.first ended in
+    let low : e.0 < n = e.1 in
+    let gap = snooped-before-end p (length r.trace) e.0 t end (answers-in-order r h.timely) (omega arith) there e.2 in
+    let reaches : Reaches r (e.0 + 1) = record { timely = h.timely; bounds = h.bounds; long = omega arith } in
+    let below = snoop-below r e.0 t end reaches (omega arith) there in
+    let last = ends-last r e.0 end.first end reaches e.2 below ∙ ap not kept in
+    both_ways (is_outstanding r.trace n end.first) (last-out r.trace e.0 n end.first last low)
+    (ap (is_outstanding r.trace n) first ∙ owed-out r a n owing h k))
+
+upgraded-kept : (outcome : Outcome) → is_upgraded outcome ≡ true → is_deferral outcome ≡ false
+unfolding is_upgraded is_deferral
+upgraded-kept Granted e = refl
+upgraded-kept Handed e = refl
+upgraded-kept Retried e = refl
+upgraded-kept Deferred e = absurd (let no : ⊥ = cc in no)
+upgraded-kept Written e = refl
+upgraded-kept Replied e = refl
+upgraded-kept Failed e = refl
+upgraded-kept Upgraded e = refl
+
+-- an upgrade for which bytes are kept at n: it was won below n, and its end has not come
+pub record IsKeptFor (r : Run) (n : ℕ) (out : OwnRequest) : Type 0 where
+  pub at : ℕ
+  pub below : at < n
+  pub end : SnoopEnd
+  pub there : snooped_at (past_of r) at ≡ Some end
+  pub first : end.first ≡ out.number
+  pub upgraded : is_upgraded end.outcome ≡ true
+  pub grant : Grant
+  pub granted : end.grant ≡ Some grant
+  pub unended : is_ended (past_of r) n end.first ≡ false
+
+won-parts : (p : Past) (n q : ℕ) → is_won_below p n q ≡ true
+    → (t : ℕ) × (t < n) × (end : SnoopEnd) × (snooped_at p t ≡ Some end) × (end.first ≡ q)
+    × (is_upgraded end.outcome ≡ true) × (is_some end.grant ≡ true)
+unfolding is_won_below snoop_end_below is_snoop_of
+won-parts p n q e =
+    let s = lawful.some-and (snoop_end_below p n q) (λ (x : SnoopEnd). is_upgraded x.outcome && is_some x.grant) e in
+    let parts = and_parts (is_upgraded s.0.outcome) (is_some s.0.grant) s.2 in
+    let test : ℕ → Bool = λ t. is_some_and (snooped_at p t) (is_snoop_of q) in
+    let t = lawful.and-then (snooped_at p) (first_where test n) s.0 s.1 in
+    let found = first_where-found test n t.0 t.1 in
+    let there = lawful.some-and (snooped_at p t.0) (is_snoop_of q) found.1 in
+    let same = one-of there.0 s.0 (sym there.1 ∙ t.2) in (
+      t.0,
+      found.0,
+      s.0,
+      t.2,
+      ap (λ (x : SnoopEnd). x.first) (sym same)
+          ∙ eqb-true there.0.first q there.2,
+      parts.0,
+      parts.1,
+    )
+
+pub kept-for : (r : Run) (a n : ℕ) (w : AgentView) (out : OwnRequest) (kept : List ℕ) → Reaches r n
+    → HasRequestsOf (past_of r) a n (owed (past_of r) a n) w → Among out w.outs → out.kept ≡ Some kept
+    → IsKeptFor r n out
+kept-for r a n w out kept h requests k e =
+    let p : Past = past_of r in
+    let won = won-parts p n out.number (sym (kept-of p a n (owed p a n) w out requests k) ∙ ap is_some e) in
+    let grant = there (won.2).grant won.6 in
+    record {
+      at = won.0;
+      below = won.1;
+      end = won.2;
+      there = won.3;
+      first = won.4;
+      upgraded = won.5;
+      grant = grant.0;
+      granted = grant.1;
+      unended = owed-unended r a n won.0 (owing_by a out) won.2 h
+          (owing-there p a n (owed p a n) w out requests k) won.3
+          won.4 (upgraded-kept (won.2).outcome won.5);
+    }
+  where
+    there : (o : Option Grant) → is_some o ≡ true → (grant : Grant) × (o ≡ Some grant)
+    there None e = absurd (let no : ⊥ = cc in no)
+    there (Some grant) e = (grant, refl)

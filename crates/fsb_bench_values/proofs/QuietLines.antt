@@ -1,0 +1,130 @@
+-- Which clocks store nothing into a line: a line with a link is not stored into by a hit, nor behind the snoop end by
+-- what comes with the end of another line.
+use Rattle.std.proofs.Common.{ℕ, ◌+◌, ◌<◌, ◌≤◌, ◌≡◌, Bool, true, false, not, ◌&&◌, ◌||◌, List, [], ◌∷◌, Option, Some, None, length, nat_eq, refl, sym, ap, subst, ◌∙◌, arith}
+use Rattle.std.specs.Prelude.{◌==◌}
+use Rattle.std.specs.List.{list_all, list_any}
+use Rattle.std.proofs.lemmas.Bool.{and_from, and_parts, both_ways, eq-eqb, or_from, or_left, or_parts, or_right}
+use Rattle.fsb_count.specs.Options.{is_some_and}
+use Rattle.fsb_line.specs.Coherence.{Ordered}
+use Rattle.fsb_line.specs.declared.link.Link.{Link}
+use Rattle.fsb_line.specs.Line.{MemoryLine, unheld}
+use Rattle.fsb_line.specs.LineRuns.{run}
+use Rattle.fsb_line.specs.Links.{is_linked, newest}
+use Rattle.fsb_line.specs.States.{is_sole}
+use Rattle.fsb_timely.specs.Grants.{ended_requests, has_arrived, holds_line, is_exclusive, is_ready}
+use Rattle.fsb_timely.specs.Hits.{is_hit}
+use Rattle.fsb_timely.specs.Past.{Past}
+use Rattle.fsb_timely.specs.Runs.{Run, past_of}
+use Rattle.fsb_timely.specs.Scripts.{is_load}
+use Rattle.fsb_timely.specs.Timely.{Timely}
+use Rattle.fsb_lawful.specs.Beginning.{KeepsBounds}
+use Rattle.fsb_coherent.specs.Awaits.{Awaited, awaited_at}
+use Rattle.fsb_coherent.specs.Facts.{does_end_on, is_served_hit, is_served_other}
+use Rattle.fsb_coherent.specs.LineEvents.{entries_on, events_below, is_awaited_for, is_brought_to, is_of_other_line}
+use Rattle.fsb_coherent.specs.Relation.{chain_below}
+use Rattle.fsb_tied.proofs.Interface.{arrived-ready, clock-facts, events-may-happen, unlinked}
+
+-- a chain with a link has a newest one
+newest-there : (link : Link) (links : List Link)
+    → (last : Link) × (newest (link ∷ links) ≡ Some last) × (is_linked last.agent (link ∷ links) ≡ true)
+newest-there link [] = (link, refl, or_left (link.agent == link.agent) false (eq-eqb link.agent link.agent refl))
+newest-there link (next ∷ links) =
+    let k = newest-there next links in
+    (k.0, k.1, or_right (link.agent == k.0.agent) (is_linked k.0.agent (next ∷ links)) k.2)
+
+-- so who has a line for itself is linked where there is a link
+pub sole-linked : (x : MemoryLine) (a : ℕ) (link : Link) (links : List Link) → Ordered x → is_sole (x.state a) ≡ true
+    → x.chain ≡ link ∷ links → is_linked a (link ∷ links) ≡ true
+sole-linked x a link links ordered sole chain =
+    let k = newest-there link links in
+    let same : k.0.agent ≡ a = ordered.sole_is_newest a k.0 sole (ap newest chain ∙ k.1) in
+    subst (λ b. is_linked b (link ∷ links) ≡ true) same k.2
+
+pub exclusive-holds : (p : Past) (a line n : ℕ) → is_exclusive p a line n ≡ true → holds_line p a line n ≡ true
+unfolding is_exclusive
+exclusive-holds p a line n e = (and_parts (holds_line p a line n) _ (and_parts _ _ e).0).0
+
+-- a line that an agent has for itself, ready, has no link
+pub exclusive-free : (r : Run) (a line n : ℕ) (link : Link) (links : List Link) → Timely r → KeepsBounds r.plan
+    → n ≤ length r.trace → is_exclusive (past_of r) a line n ≡ true → is_ready (past_of r) a line n ≡ true
+    → chain_below (past_of r) line n ≡ link ∷ links → ⊥
+exclusive-free r a line n link links h bounds l sole ready chain =
+    let p : Past = past_of r in
+    let tied = (events-may-happen r line n [] h bounds l).1 in
+    let x : MemoryLine = run (unheld []) (events_below p line n) in
+    let linked = sole-linked x a link links tied.ordered (tied.tied.sole a ∙ sole) (tied.tied.chain ∙ chain) in
+    let free = unlinked r a line n h l (exclusive-holds p a line n sole) ready in
+    both_ways (is_linked a (link ∷ links)) (sym (ap (is_linked a) chain) ∙ free) linked
+
+pub all-so : {X : Type 0} (f g : X → Bool) → ((x : X) → f x ≡ true → g x ≡ true) → (xs : List X)
+    → list_all f xs ≡ true → list_all g xs ≡ true
+all-so f g so [] e = refl
+all-so f g so (x ∷ xs) e =
+    let parts = and_parts (f x) (list_all f xs) e in
+    and_from (g x) (list_all g xs) (so x parts.0) (all-so f g so xs parts.1)
+
+-- of what is said where something is so: where it can't be, the access is a load
+load-where : (hit holds ready load sole : Bool) → (not hit || (holds && ready && (load || sole))) ≡ true
+    → (sole ≡ true → ready ≡ true → ⊥) → (not hit || load) ≡ true
+load-where false holds ready load sole e never = refl
+load-where true holds ready true sole e never = refl
+load-where true true true false true e never = absurd (never refl refl)
+load-where true true true false false e never = absurd (let no : ⊥ = cc in no)
+load-where true true false false sole e never = absurd (let no : ⊥ = cc in no)
+load-where true false ready false sole e never = absurd (let no : ⊥ = cc in no)
+
+-- a line with a link is not stored into by a hit
+pub hits-load : (r : Run) (line n : ℕ) (link : Link) (links : List Link) → Timely r → KeepsBounds r.plan
+    → n < length r.trace → chain_below (past_of r) line n ≡ link ∷ links
+    → list_all (λ done. not (is_hit (past_of r) done.agent n) || is_load done.access) (entries_on (past_of r) line n)
+    ≡ true
+unfolding is_served_hit
+hits-load r line n link links h bounds l chain =
+    let p : Past = past_of r in
+    all-so (is_served_hit p line n) (λ done. not (is_hit p done.agent n) || is_load done.access)
+    (λ done e. load-where (is_hit p done.agent n) (holds_line p done.agent line n) (is_ready p done.agent line n)
+    (is_load done.access) (is_exclusive p done.agent line n) e
+    (λ sole ready. exclusive-free r done.agent line n link links h bounds (omega arith) sole ready chain))
+    (entries_on p line n) (clock-facts r line n h bounds l).accesses.hits
+
+-- where no end is awaited on the line nobody is brought it
+pub brought-nowhere : (p : Past) (line n a : ℕ) → does_end_on p line n ≡ false → is_brought_to p line n a ≡ false
+unfolding does_end_on is_brought_to is_awaited_for is_some_and
+brought-nowhere p line n a e = by (ended_requests p n) e
+  where
+    here : (o : Option Awaited) → is_some_and o (λ (x : Awaited). nat_eq x.line line) ≡ false
+        → is_some_and o (is_awaited_for a line) ≡ false
+    here None f = refl
+    here (Some x) f = rw f refl
+
+    by : (qs : List ℕ) → list_any (λ q. is_some_and (awaited_at p n q) (λ awaited. nat_eq awaited.line line)) qs ≡ false
+        → list_any (λ q. is_some_and (awaited_at p n q) (is_awaited_for a line)) qs ≡ false
+    by [] f = refl
+    by (q ∷ qs) f =
+        let parts = or_parts (is_some_and (awaited_at p n q) (λ (x : Awaited). nat_eq x.line line))
+        (list_any (λ k. is_some_and (awaited_at p n k) (λ (x : Awaited). nat_eq x.line line)) qs) f in
+        or_from (is_some_and (awaited_at p n q) (is_awaited_for a line))
+        (list_any (λ k. is_some_and (awaited_at p n k) (is_awaited_for a line)) qs)
+        (here (awaited_at p n q) parts.0) (by qs parts.1)
+
+beside-load : (hit brought : Bool) (holds arrived load sole : Bool) → brought ≡ false
+    → (not (not hit && not brought) || (holds && arrived && (load || sole))) ≡ true
+    → (sole ≡ true → arrived ≡ true → ⊥) → (hit || load) ≡ true
+beside-load true brought holds arrived load sole none e never = refl
+beside-load false false holds arrived load sole none e never = load-where true holds arrived load sole e never
+beside-load false true holds arrived load sole none e never = absurd (let no : ⊥ = cc in no)
+
+-- where no end is awaited on a line, and it has a link behind the snoop end, what comes there stores nothing into it
+pub others-load : (r : Run) (line n : ℕ) (link : Link) (links : List Link) → Timely r → KeepsBounds r.plan
+    → n < length r.trace → does_end_on (past_of r) line n ≡ false → chain_below (past_of r) line (n + 1) ≡ link ∷ links
+    → list_all (λ done. is_hit (past_of r) done.agent n || is_load done.access) (entries_on (past_of r) line n) ≡ true
+unfolding is_served_other is_of_other_line
+others-load r line n link links h bounds l none chain =
+    let p : Past = past_of r in
+    all-so (is_served_other p line n) (λ done. is_hit p done.agent n || is_load done.access)
+    (λ done e. beside-load (is_hit p done.agent n) (is_brought_to p line n done.agent)
+    (holds_line p done.agent line (n + 1)) (has_arrived p done.agent line (n + 1) n) (is_load done.access)
+    (is_exclusive p done.agent line (n + 1)) (brought-nowhere p line n done.agent none) e
+    (λ sole arrived. exclusive-free r done.agent line (n + 1) link links h bounds (omega arith) sole
+    (arrived-ready p done.agent line (n + 1) n (omega arith) arrived) chain))
+    (entries_on p line n) (clock-facts r line n h bounds l).accesses.others
