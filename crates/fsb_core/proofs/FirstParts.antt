@@ -7,7 +7,7 @@ use Rattle.fsb_agent_view.specs.AgentViews.{AgentView}
 use Rattle.fsb_agent_view.specs.Idling.{place_from}
 use Rattle.fsb_script.specs.Plans.{PlanView}
 use Rattle.fsb_plan_size.specs.AccessCount.{access_count, item_accesses, script_accesses}
-use Rattle.fsb_bus.specs.FirstBus.{first_agent, first_agents}
+use Rattle.fsb_bench_view.specs.FirstBench.{first_agent, first_agents}
 use Rattle.fsb_bus.specs.LogRoom.{accesses_left, accesses_left_of}
 
 left-drop : (items : List Item) (n : ℕ) → script_accesses (drop n items) ≤ script_accesses items

@@ -3,3 +3,4 @@ mod AgentCounts
 mod DueChunks
 mod Clocks
 mod StepTaken
+mod RunsOn

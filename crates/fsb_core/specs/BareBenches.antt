@@ -6,7 +6,7 @@ use Rattle.fsb_phase.specs.declared.drive.Drive.{Drive}
 use Rattle.fsb_bench_view.specs.BusViews.{BenchView, BusView}
 use Rattle.fsb_bench_view.specs.BytesFetched.{bus_fetched, bytes_source}
 use Rattle.fsb_bus.specs.Buses.{StandsFor, bus_view}
-use Rattle.fsb_bus.specs.FirstBus.{is_named_line}
+use Rattle.fsb_bench_view.specs.FirstBench.{is_named_line}
 use Rattle.fsb_bus.specs.LogRoom.{HasLogRoom}
 use Rattle.fsb_core.specs.declared.bare.BareBench.{BareBench}
 

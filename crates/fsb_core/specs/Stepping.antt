@@ -1,21 +1,16 @@
--- The first bench of a plan, and one clock of a bench.
-use Rattle.std.specs.Prelude.{◌≡◌, ◌<◌, Bool, List, [], Option, Some, length}
+-- One clock of a bench.
+use Rattle.std.specs.Prelude.{◌≡◌, ◌<◌, Bool, List, Option, Some, length}
 use Rattle.fsb_hazard.specs.Told.{Told}
 use Rattle.fsb_hazard.specs.declared.choice.Choice.{Choice}
-use Rattle.fsb_script.specs.Plans.{PlanView}
 use Rattle.fsb_timely.specs.Asked.{IsChosen, IsHold}
+use Rattle.fsb_timely.specs.AskedSteps.{IsAskedStep}
+use Rattle.fsb_timely.specs.Growth.{IsNext}
+use Rattle.fsb_timely.specs.Runs.{Run}
 use Rattle.fsb_bench_view.specs.declared.beginning.Starting.{Starting}
 use Rattle.fsb_bench_view.specs.BenchSteps.{bench_stepped, step_decided}
 use Rattle.fsb_bench_view.specs.BusViews.{BenchView, next_clock_of}
+use Rattle.fsb_bench_view.specs.FirstBench.{is_named_line}
 use Rattle.fsb_bench_view.specs.MaySteps.{MayStep}
-use Rattle.fsb_bus.specs.FirstBus.{first_bus, is_named_line}
-
--- the bench of a plan before its first clock: a quiet bus, and an empty run
-abbrev pub first_bench : PlanView → BenchView
-first_bench plan = record {
-  bus = first_bus plan;
-  run = record { plan = plan; choices = []; holds = []; trace = []; log = [] };
-}
 
 -- the plan has a clock that the bench has not taken
 abbrev pub HasClockLeft : BenchView → Type 0
@@ -35,3 +30,9 @@ pub record IsStepped (told : List (Option Told)) (old new : BenchView) : Type 0 
   pub chosen : (starting : Starting) → (step_decided old hold).starting ≡ Some starting
       → IsChosen told (length old.run.choices) choice
   pub stepped : new ≡ bench_stepped old hold choice
+
+-- the run becomes this one by a clock, at which it is asked for as objects answer that tell this: it has one sample and
+-- one hold more, one choice where a request begins, and entries of that clock
+pub record IsAskedNext (told : List (Option Told)) (old new : Run) : Type 0 where
+  pub next : IsNext old new
+  pub asked : IsAskedStep told old new next

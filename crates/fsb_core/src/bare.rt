@@ -29,7 +29,7 @@ pub(crate) struct BareBench {
 impl BareBench {
     ghost use Rattle.fsb_script.specs.View.{plan_view};
     ghost use Rattle.fsb_bench_view.specs.BenchSteps.{was_held_at};
-    ghost use Rattle.fsb_core.specs.Stepping.{first_bench};
+    ghost use Rattle.fsb_bench_view.specs.FirstBench.{first_bench};
     ghost use Rattle.fsb_core.specs.BareBenches.{IsFit, bare_view};
 
     /// The bench of a plan before its first clock, with room for all that its clocks can bring.

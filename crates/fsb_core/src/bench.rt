@@ -1,10 +1,19 @@
-ghost use Rattle.std.specs.Prelude.{◌≡◌, ◌<◌, ◌++◌, [], ◌∷◌, Bool, IfOk, IfErr, OnOk, OnErr, length, map, nat_le, is_none, slice_get};
+ghost use Rattle.std.specs.Prelude.{◌≡◌, ◌<◌, ◌++◌, [], ◌∷◌, Bool, None, IfOk, IfSome, IfErr, OnOk, OnErr, length, map, nat_le, is_none, slice_get};
 ghost use Rattle.std.specs.List.{remove};
 ghost use Rattle.std.specs.Option.{option_map};
 ghost use Rattle.fsb_hazard.specs.Told.{told_after};
 ghost use Rattle.fsb_script.specs.View.{plan_view};
-ghost use Rattle.fsb_core.specs.Stepping.{HasClockLeft, IsStepped, MayGoOn, first_bench};
-ghost use Rattle.fsb_core.specs.BareBenches.{IsFit};
+ghost use Rattle.fsb_bench_view.specs.FirstBench.{first_bench};
+ghost use Rattle.fsb_bench_run.specs.BenchOf.{IsBenchOf};
+ghost use Rattle.fsb_bench_values.specs.BytesOf.{HasBytesOf};
+ghost use Rattle.fsb_bench_values.specs.Lent.{bytes_lent, lines_lent, state_lent};
+ghost use Rattle.fsb_core.specs.Stepping.{HasClockLeft, IsAskedNext, IsStepped};
+ghost use Rattle.fsb_core.specs.BareBenches.{IsFit, bare_view};
+ghost use Rattle.fsb_signal.specs.Parity.{marks_in};
+ghost use Rattle.fsb_timely.specs.Carried.{Carried};
+ghost use Rattle.fsb_timely.specs.Kept.{Kept};
+ghost use Rattle.fsb_timely.specs.Simulated.{Simulated};
+ghost use Rattle.fsb_trace.specs.Verdict.{verdict};
 
 use crate::asking::loaded;
 use crate::bare::BareBench;
@@ -18,11 +27,19 @@ use fsb_signal::Sample;
 use std::alloc::Global;
 
 /// A plan, run clock by clock, with the hazard objects that stand on it.
+///
+/// Whatever the objects answer, and whenever they are plugged and unplugged, at every clock the run
+/// so far is a simulation ([`Bench::is_simulated`]), caches and memory have what its log makes of
+/// them ([`Bench::keeps_its_lines`]), and its trace breaks no phase rule
+/// ([`Bench::breaks_no_rule`]).
 #[derive(Drop)]
 pub struct Bench {
     bare: BareBench,
     hazards: Vec<Box<dyn Hazard>>,
     ghost fit: { IsFit bare },
+    ghost stands: { ∥ IsBenchOf (bare_view bare) ∥₁ },
+    ghost bytes: { HasBytesOf (bare_view bare) },
+    ghost carried: { Carried (bare_view bare).run },
 }
 
 impl Bench {
@@ -44,12 +61,15 @@ impl Bench {
     }
 
     /// One clock: the objects that stand at it are asked, and the bench is what the clock makes of
-    /// it. It takes no memory and has no refusal.
-    pub(crate) fn step(&mut self)
-        requires clocks { HasClockLeft (bench_view self.old) }
-        requires may { MayGoOn (bench_view self.old) }
+    /// it. The run has one more sample and one more hold, one more choice exactly where a request
+    /// begins, and the entries of the clock; what it had before stays. A step takes no memory and has
+    /// no refusal.
+    pub fn step(&mut self)
+        requires { HasClockLeft (bench_view self.old) }
         ensures stepped { IsStepped (map (λ h. told h) (objects_of self.old)) (bench_view self.old)
             (bench_view self.new) }
+        ensures asked { IsAskedNext (map (λ h. told h) (objects_of self.old))
+            (bench_view self.old).run (bench_view self.new).run }
         ensures told_stays { map (λ h. told h) (objects_of self.new)
             ≡ map (λ h. told h) (objects_of self.old) }
         ensures kinds_stay { map (λ h. is_scripted h) (objects_of self.new)
@@ -57,6 +77,29 @@ impl Bench {
     {
         self.bare.advance(&mut self.hazards);
     }
+
+    /// The run so far is a simulation, whatever the objects answered and whenever they came and went:
+    /// it is timely; its log is, for each agent, a first part of its script; one byte memory that
+    /// serves the accesses of the log singly, in order, gives exactly their values; and the data on
+    /// the bus are that memory's. The call does nothing.
+    pub fn is_simulated(&self)
+        ensures { Simulated (bench_view self.now).run }
+    {}
+
+    /// The caches that are lent and memory have what the log makes of their lines: a line that an
+    /// agent holds, and that is ready, is in its cache with its state and with the bytes that it has
+    /// after the log; one that an agent does not hold is Invalid there; and memory has what was put
+    /// into it last. The call does nothing.
+    pub fn keeps_its_lines(&self)
+        ensures { Kept (bench_view self.now).run (state_lent (bench_view self.now))
+            (bytes_lent (bench_view self.now)) (bench_view self.now).bus.memory }
+    {}
+
+    /// The trace so far breaks no phase rule. The call does nothing.
+    pub fn breaks_no_rule(&self)
+        ensures { verdict (marks_in (bench_view self.now).run.plan.profile)
+            (bench_view self.now).run.trace ≡ None }
+    {}
 
     /// The plan that is run.
     pub fn plan(&self) -> &Plan
@@ -104,6 +147,7 @@ impl Bench {
     pub fn cache(&self, agent: u8) -> Option<&Cache>
         ensures cache { option_map (λ cache. cache.now) result
             ≡ cache_of (bench_view self.now) agent }
+        ensures lent { IfSome result (λ cache. cache.now ≡ lines_lent (bench_view self.now) agent) }
         ensures none { is_none result
             ≡ nat_le (length (bench_view self.now).run.plan.scripts) agent }
     {

@@ -6,13 +6,18 @@
 //! the crate fsb_bench_view, whose run has the plan, the choices, the holds, the trace and the log;
 //! and as the objects that stand on it (`objects_of`).
 //!
-//! Promised today: what [`Bench::make`] makes is the first bench of the plan, with its objects
-//! loaded; each lending call gives what the view has; plugging and unplugging change the objects
-//! alone. A clock is `Bench::step`: the new view is `bench_stepped` of the old one, for what the
-//! objects that stand at the clock answer together (`IsStepped`, `specs/Stepping.antt`). It asks
-//! that the bench may take the clock (`MayStep`), and is private as long as a bench does not carry
-//! its run: that each bench may take each clock of its plan, and that what its clocks add up to is
-//! a simulated run, is not promised here yet.
+//! What [`Bench::make`] makes is the first bench of the plan, with its objects loaded; each lending
+//! call gives what the view has; plugging and unplugging change the objects alone. A clock is
+//! [`Bench::step`], which asks for a clock of the plan that is left, and for nothing else: the new
+//! view is `bench_stepped` of the old one, and the run has one clock more, for what the objects that
+//! stand at the clock answer together (`IsStepped`, `IsAskedNext`, `specs/Stepping.antt`).
+//!
+//! Every bench keeps three promises at every clock, whatever its objects answer: its run is a
+//! simulation ([`Bench::is_simulated`]), its caches and its memory have what the log makes of them
+//! ([`Bench::keeps_its_lines`]), and its trace breaks no phase rule ([`Bench::breaks_no_rule`]).
+//! They are facts of the type: the bench stands for its run, and its bytes are those of one byte
+//! memory, before the first clock and after each one, by the laws of fsb_bench_run and
+//! fsb_bench_values.
 //!
 //! A step takes no memory, has no refusal, and costs the same however long the run is already:
 //! nothing is looked for in the log, in a script or in the trace. It goes in this order: the

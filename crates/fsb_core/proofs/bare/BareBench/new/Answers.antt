@@ -3,7 +3,7 @@ use Rattle.fsb_script.specs.View.{plan_view}
 use Rattle.fsb_signal.specs.declared.sample.Sample.{Sample}
 use Rattle.fsb_plan_size.specs.AccessCount.{access_count}
 use Rattle.fsb_bus.specs.Buses.{StandsFor}
-use Rattle.fsb_bus.specs.FirstBus.{first_agents}
+use Rattle.fsb_bench_view.specs.FirstBench.{first_agents}
 use Rattle.fsb_bus.specs.LogRoom.{accesses_left_of}
 use Rattle.fsb_core.proofs.FirstParts.{first-left}
 use Rattle.fsb_core.proofs.bare.BareBench.new.Goals as goal
