@@ -1,0 +1,9 @@
+pub mod Turns
+pub mod Leaves
+pub mod LongLeaves
+pub mod Verbs
+pub mod Readings
+pub mod SeedDigits
+pub mod NeededMore
+pub mod FoundRows
+pub mod Limits

@@ -1,0 +1,189 @@
+-- What `clap` finds in words that may stand in a command line is the form that they have.
+use Rattle.std.proofs.Common.{◌≡◌, ◌∙◌, ◌⊎◌, ℕ, Bool, true, false, List, [], ◌∷◌, Option, None, Some, codes, refl, sym, ap, subst, inl, inr, ⊎_elim, true≢false}
+use Rattle.std.specs.Prelude.{cond, option_and_then}
+use Rattle.std.specs.List.{list_all}
+use Rattle.std.specs.Str.{bytes_eq}
+use Rattle.std.proofs.lemmas.Bool.{cases_Bool}
+use Rattle.std.proofs.lemmas.Slice.Eq.{bytes_eq-Decides}
+use Rattle.clap.specs.Walk.{Row, Text, rows_after}
+use Rattle.clap.specs.Simple.{Shape, subcommand_of}
+use Rattle.clap.specs.Kinds.{Kinds, or_else}
+use Rattle.clap.specs.Faults.{defaults_fault, fault_of, walk_fault}
+use Rattle.clap.specs.declared.error.kind.ErrorKind.{ErrorKind}
+use Rattle.clap.specs.declared.error.kind.ErrorKind.TheVariants as kind
+use Rattle.clap.proofs.WalkLemmas.{both}
+use Rattle.fsb_command.specs.Form.{Form, check, audit, show, form_behind, form_of, form_of_all, is_word, look_of}
+use Rattle.fsb_command.specs.Found.{form_found, form_in}
+use Rattle.fsb_command.specs.Usage.{usage}
+use Rattle.fsb_command.proofs.Turns.{IsPlain, plain_word}
+use Rattle.fsb_command.proofs.Leaves.{fault_behind, found, look, look_of_more, look_of_none, look_of_one, look_rows, pair_of_more, pair_of_none, pair_of_one, pair_of_two, pair_rows, pair_rows_of_one, search_of_more, search_of_none, search_of_one, search_of_two, search_rows}
+use Rattle.fsb_command.proofs.LongLeaves.{drawn_of_more, drawn_of_none, drawn_of_one, drawn_of_three, drawn_of_two, drawn_rows, made_of_more, made_of_none, made_of_one, made_of_three, made_of_two, made_rows}
+use Rattle.fsb_command.proofs.Verbs.{Enters, IsNoVerb, audit_enters, check_enters, fault_is, find_enters, gen_enters, other_fault_is, rows_are, run_enters, show_enters, wave_enters}
+
+-- the usage has no fault in the words, and what is found in them is the form; or it has one, and they have no form
+abbrev pub ReadsAs : List Text → Option Form → Type 0
+ReadsAs words form = ((fault_of usage words ≡ []) × (option_and_then form_in (subcommand_of usage words) ≡ form))
+    ⊎ ((k : ErrorKind) × (ks : Kinds) × (fault_of usage words ≡ k ∷ ks) × (form ≡ None))
+
+module _ (name : Text) (s : Shape) (enters : Enters name s) (words : List Text) (form : Option Form) where
+  read_as : (rows : List Row) → fault_behind s words ≡ [] → rows_after s.rules [] words ≡ rows
+      → form_in (s.name, rows) ≡ form → ReadsAs (name ∷ words) form
+  read_as rows no_fault rows_is is_form = inl (
+    fault_is name s enters words ∙ ap (λ f. or_else f []) no_fault,
+    ap (option_and_then form_in) (rows_are name s enters words ∙ ap (λ r. Some (s.name, r)) rows_is) ∙ is_form,
+  )
+
+  refused_as : (k : ErrorKind) (ks : Kinds) → fault_behind s words ≡ k ∷ ks → form ≡ None → ReadsAs (name ∷ words) form
+  refused_as k ks fault none = inr (k, ks, fault_is name s enters words ∙ ap (λ f. or_else f []) fault, none)
+
+-- each of the words is plain
+abbrev ArePlain : List Text → Type 0
+ArePlain [] = Unit {0}
+ArePlain (word ∷ words) = IsPlain word × ArePlain words
+
+are_plain : (words : List Text) → list_all is_word words ≡ true → ArePlain words
+are_plain [] e = tt
+are_plain (word ∷ words) e = (plain_word word (both _ _ e).0, are_plain words (both _ _ e).1)
+
+run_reads : (words : List Text) → ArePlain words → ReadsAs (codes "run" ∷ words) (form_behind (codes "run") words)
+unfolding form_behind form_found
+run_reads [] p = refused_as _ _ run_enters [] _ _ _ (pair_of_none (codes "run")) refl
+run_reads (a ∷ []) p = read_as _ _ run_enters (a ∷ []) _ _ (pair_of_one (codes "run") a p.0)
+    (pair_rows_of_one (codes "run") a p.0) refl
+run_reads (a ∷ b ∷ []) p = read_as _ _ run_enters (a ∷ b ∷ []) _ _ (pair_of_two (codes "run") a p.0 b p.1.0)
+    (pair_rows (codes "run") a p.0 b p.1.0) refl
+run_reads (a ∷ b ∷ c ∷ rest) p = refused_as _ _ run_enters (a ∷ b ∷ c ∷ rest) _ _ _
+    (pair_of_more (codes "run") a p.0 b p.1.0 c p.1.1.0 rest) refl
+
+module _ (name : Text) (enters : Enters name (look name)) (form : List ℕ → Form)
+    (is_form : (a : Text) → form_in (name, found (codes "dump") a ∷ []) ≡ Some (form a)) where
+  look_reads : (words : List Text) → ArePlain words → ReadsAs (name ∷ words) (look_of form words)
+  look_reads [] p = refused_as _ _ enters [] _ _ _ (look_of_none name) refl
+  look_reads (a ∷ []) p = read_as _ _ enters (a ∷ []) _ _ (look_of_one name a p.0) (look_rows name a p.0) (is_form a)
+  look_reads (a ∷ b ∷ rest) p = refused_as _ _ enters (a ∷ b ∷ rest) _ _ _ (look_of_more name a p.0 b p.1.0 rest) refl
+
+check_reads : (words : List Text) → ArePlain words → ReadsAs (codes "check" ∷ words) (form_behind (codes "check") words)
+unfolding form_behind form_found
+check_reads = look_reads (codes "check") check_enters check (λ a. refl)
+
+audit_reads : (words : List Text) → ArePlain words → ReadsAs (codes "audit" ∷ words) (form_behind (codes "audit") words)
+unfolding form_behind form_found
+audit_reads = look_reads (codes "audit") audit_enters audit (λ a. refl)
+
+show_reads : (words : List Text) → ArePlain words → ReadsAs (codes "show" ∷ words) (form_behind (codes "show") words)
+unfolding form_behind form_found
+show_reads = look_reads (codes "show") show_enters show (λ a. refl)
+
+find_reads : (words : List Text) → ArePlain words → ReadsAs (codes "find" ∷ words) (form_behind (codes "find") words)
+unfolding form_behind form_found
+find_reads [] p = refused_as _ _ find_enters [] _ _ _ (search_of_none (codes "find")) refl
+find_reads (a ∷ []) p = refused_as _ _ find_enters (a ∷ []) _ _ _ (search_of_one (codes "find") a p.0) refl
+find_reads (a ∷ b ∷ []) p = read_as _ _ find_enters (a ∷ b ∷ []) _ _ (search_of_two (codes "find") a p.0 b p.1.0)
+    (search_rows (codes "find") a p.0 b p.1.0) refl
+find_reads (a ∷ b ∷ c ∷ rest) p = refused_as _ _ find_enters (a ∷ b ∷ c ∷ rest) _ _ _
+    (search_of_more (codes "find") a p.0 b p.1.0 c p.1.1.0 rest) refl
+
+wave_reads : (words : List Text) → ArePlain words → ReadsAs (codes "wave" ∷ words) (form_behind (codes "wave") words)
+unfolding form_behind form_found
+wave_reads [] p = refused_as _ _ wave_enters [] _ _ _ (drawn_of_none (codes "wave")) refl
+wave_reads (a ∷ []) p = refused_as _ _ wave_enters (a ∷ []) _ _ _ (drawn_of_one (codes "wave") a p.0) refl
+wave_reads (a ∷ b ∷ []) p = refused_as _ _ wave_enters (a ∷ b ∷ []) _ _ _
+    (drawn_of_two (codes "wave") a p.0 b p.1.0) refl
+wave_reads (a ∷ b ∷ c ∷ []) p =
+    read_as _ _ wave_enters (a ∷ b ∷ c ∷ []) _ _ (drawn_of_three (codes "wave") a p.0 b p.1.0 c p.1.1.0)
+    (drawn_rows (codes "wave") a p.0 b p.1.0 c p.1.1.0) refl
+wave_reads (a ∷ b ∷ c ∷ d ∷ rest) p =
+    refused_as _ _ wave_enters (a ∷ b ∷ c ∷ d ∷ rest) _ _ _
+    (drawn_of_more (codes "wave") a p.0 b p.1.0 c p.1.1.0 d p.1.1.1.0 rest) refl
+
+gen_reads : (words : List Text) → ArePlain words → ReadsAs (codes "gen" ∷ words) (form_behind (codes "gen") words)
+unfolding form_behind form_found
+gen_reads [] p = refused_as _ _ gen_enters [] _ _ _ (made_of_none (codes "gen")) refl
+gen_reads (a ∷ []) p = refused_as _ _ gen_enters (a ∷ []) _ _ _ (made_of_one (codes "gen") a p.0) refl
+gen_reads (a ∷ b ∷ []) p = refused_as _ _ gen_enters (a ∷ b ∷ []) _ _ _ (made_of_two (codes "gen") a p.0 b p.1.0) refl
+gen_reads (a ∷ b ∷ c ∷ []) p =
+    read_as _ _ gen_enters (a ∷ b ∷ c ∷ []) _ _ (made_of_three (codes "gen") a p.0 b p.1.0 c p.1.1.0)
+    (made_rows (codes "gen") a p.0 b p.1.0 c p.1.1.0) refl
+gen_reads (a ∷ b ∷ c ∷ d ∷ rest) p =
+    refused_as _ _ gen_enters (a ∷ b ∷ c ∷ d ∷ rest) _ _ _
+    (made_of_more (codes "gen") a p.0 b p.1.0 c p.1.1.0 d p.1.1.1.0 rest) refl
+
+-- what holds of a verb holds of the word that is it; else the word is another
+by_verb : (P : Text → Type 0) (name word : Text) → P name → (bytes_eq name word ≡ false → P word) → P word
+by_verb P name word here other =
+    ⊎_elim (λ t. subst P ((bytes_eq-Decides name word).0 t) here) other (cases_Bool (bytes_eq name word))
+
+-- texts that differ differ in either order
+differ : (name word : Text) → bytes_eq name word ≡ false → bytes_eq word name ≡ false
+differ name word e = ⊎_elim
+    (λ t. absurd (true≢false (sym ((bytes_eq-Decides name word).1 (sym ((bytes_eq-Decides word name).0 t))) ∙ e)))
+    (λ f. f) (cases_Bool (bytes_eq word name))
+
+other_reads : (word : Text) (words : List Text) → IsNoVerb word → IsPlain word
+    → ReadsAs (word ∷ words) (form_behind word words)
+unfolding form_behind
+other_reads word words none plain = inr (
+  kind.UnknownArgument,
+  kind.InvalidSubcommand ∷ [],
+  other_fault_is word words none plain,
+  rw (
+    differ (codes "run") word none.0,
+    differ (codes "check") word none.1,
+    differ (codes "audit") word none.2,
+    differ (codes "show") word none.3,
+    differ (codes "find") word none.4,
+    differ (codes "wave") word none.5,
+    differ (codes "gen") word none.6,
+  ) refl,
+)
+
+verb_reads : (word : Text) (words : List Text) → IsPlain word → ArePlain words
+    → ReadsAs (word ∷ words) (form_behind word words)
+verb_reads word words plain rest =
+    let P : Text → Type 0 = λ w. ReadsAs (w ∷ words) (form_behind w words) in
+    by_verb P (codes "run") word (run_reads words rest) (λ r.
+    by_verb P (codes "check") word (check_reads words rest) (λ c.
+    by_verb P (codes "audit") word (audit_reads words rest) (λ a.
+    by_verb P (codes "show") word (show_reads words rest) (λ s.
+    by_verb P (codes "find") word (find_reads words rest) (λ f.
+    by_verb P (codes "wave") word (wave_reads words rest) (λ w.
+    by_verb P (codes "gen") word (gen_reads words rest) (λ g.
+    other_reads word words (r, c, a, s, f, w, g) plain)))))))
+
+none_read : ReadsAs [] None
+unfolding usage walk_fault defaults_fault
+none_read = inr (kind.MissingSubcommand, [], refl, refl)
+
+all_read : (words : List Text) → list_all is_word words ≡ true → ReadsAs words (form_of_all words)
+all_read [] e = none_read
+all_read (word ∷ words) e = verb_reads word words (plain_word word (both _ _ e).0) (are_plain words (both _ _ e).1)
+
+-- words that may stand in a command line read as the form that they have
+pub words_read : (words : List Text) → list_all is_word words ≡ true → ReadsAs words (form_of words)
+unfolding form_of
+words_read words e = subst (ReadsAs words) (sym (ap (λ b. cond b (form_of_all words) None) e)) (all_read words e)
+
+-- words of which one may not stand in a command line have no form
+pub no_form : (words : List Text) → list_all is_word words ≡ false → form_of words ≡ None
+unfolding form_of
+no_form words e = ap (λ b. cond b (form_of_all words) None) e
+
+abbrev is_kind : Kinds → Bool
+is_kind [] = false
+is_kind (k ∷ ks) = true
+
+-- what `clap` finds in words is their form
+pub found_is_form : (words : List Text) (form : Option Form) (rows : Option (Text × List Row)) → ReadsAs words form
+    → fault_of usage words ≡ [] → rows ≡ subcommand_of usage words
+    → option_and_then form_in rows ≡ form
+found_is_form words form rows (inl read) none is = ap (option_and_then form_in) is ∙ read.1
+found_is_form words form rows (inr refused) none is = absurd (some_kind (sym refused.2 ∙ none))
+  where
+    some_kind : {k : ErrorKind} {ks : Kinds} → ◌≡◌ {A = Kinds} (k ∷ ks) [] → ⊥
+    some_kind e = true≢false (ap (λ (x : Kinds). is_kind x) e)
+
+-- words that it refuses have no form
+pub refused_is_none : (words : List Text) (form : Option Form) → ReadsAs words form → (fault_of usage words ≡ [] → ⊥)
+    → form ≡ None
+refused_is_none words form (inl read) fault = absurd (fault read.0)
+refused_is_none words form (inr refused) fault = refused.3

@@ -1,0 +1,42 @@
+-- The command line as `clap` is told of it.
+use Rattle.std.specs.Prelude.{◌≡◌, ℕ, true, false, Option, None, Some, List, [], ◌∷◌, map, codes}
+use Rattle.clap.specs.Words.{App, Rule, Shape, fault_of, new_rule, subcommand_of, subcommand_rows_of}
+use Rattle.clap.specs.Simple.{new_shape}
+use Rattle.clap.specs.declared.parser.matches.ArgMatches.{ArgMatches}
+
+-- an argument that has to be there
+abbrev pub needed : List ℕ → Rule
+needed id = record (new_rule id) { required = true }
+
+-- a verb and the arguments behind it
+abbrev pub verb : List ℕ → List Rule → Shape
+verb name rules = record (new_shape name) { rules = rules }
+
+-- a verb whose arguments all have to be there
+abbrev pub verb_of : List ℕ → List (List ℕ) → Shape
+verb_of name ids = verb name (map needed ids)
+
+-- the program with its seven verbs
+unfoldable pub usage : App
+usage = record {
+  top = record (new_shape (codes "p6bench")) {
+    is_leaf = false;
+    no_binary_name = true;
+    disable_help_flag = true;
+    disable_help_subcommand = true;
+    subcommand_required = true;
+  };
+  subs = verb (codes "run") (needed (codes "bench") ∷ new_rule (codes "dump") ∷ [])
+      ∷ verb_of (codes "check") (codes "dump" ∷ [])
+      ∷ verb_of (codes "audit") (codes "dump" ∷ [])
+      ∷ verb_of (codes "show") (codes "dump" ∷ [])
+      ∷ verb_of (codes "find") (codes "dump" ∷ codes "trigger" ∷ [])
+      ∷ verb_of (codes "wave") (codes "dump" ∷ codes "from" ∷ codes "to" ∷ [])
+      ∷ verb_of (codes "gen") (codes "seed" ∷ codes "agents" ∷ codes "items" ∷ []) ∷ [];
+}
+
+-- `clap` refuses exactly the words in which the usage has a fault, and finds in others what it has
+abbrev pub IsFound : List (List ℕ) → Option ArgMatches → Type 0
+IsFound words None = fault_of usage words ≡ [] → ⊥
+IsFound words (Some matches) = (fault_of usage words ≡ [])
+    × (subcommand_rows_of matches ≡ subcommand_of usage words)

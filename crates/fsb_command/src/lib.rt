@@ -1,0 +1,14 @@
+//! The words of a command line, and the command that they are. The words are read by `clap`, by the
+//! one definition of the forms that a command line has.
+#![tactic(auto)]
+
+pub use command::{Command, read_words};
+pub use words::Words;
+
+mod command;
+mod number;
+mod range;
+#[cfg(test)]
+mod tests;
+mod usage;
+mod words;
