@@ -1,5 +1,5 @@
-pub mod LinesAhead
-pub mod PlanFacts
+mod Answered
+mod Completing
 mod Findings
 mod Searches
 mod Tables

@@ -1,57 +1,33 @@
 -- What a call of `bench` leaves behind, by its status.
 use Rattle.std.specs.Prelude.{◌≡◌, ◌≤◌, ◌<◌, ◌-◌, ◌^◌, ◌⊎◌, ℕ, IsTrue, ◌++◌, List, Option, None, Some, is_some, length}
-use Rattle.fsb_access.specs.Replay.{Served}
-use Rattle.fsb_access.specs.ScriptOrder.{InOrder, script_of}
-use Rattle.fsb_access.specs.declared.log.Done.{Done as Entry}
 use Rattle.fsb_audit.specs.declared.finding.Finding.TheVariants as findings
 use Rattle.fsb_audit.specs.Fouls.{finding_of}
 use Rattle.fsb_audit_dump.specs.Audited.{audited_as}
 use Rattle.fsb_audit_dump.specs.AuditText.{audit_text}
+use Rattle.fsb_command.specs.Form.{Form, run, check, audit, show, find, wave, gen}
+use Rattle.fsb_hazard.specs.Told.{Told}
 use Rattle.fsb_io.specs.Appends.{AppendsPart}
 use Rattle.fsb_look.specs.SearchText.{search_text}
-use Rattle.fsb_report.specs.LogText.{log_text}
+use Rattle.fsb_play.specs.RunOf.{IsRunOf}
+use Rattle.fsb_play.specs.Writing.{HasDump, HasDumpPart}
 use Rattle.fsb_report.specs.VerdictText.{trace_text}
 use Rattle.fsb_rules.specs.Checker.{as_broken}
 use Rattle.fsb_script.specs.Drafts.{BenchText, FirstBad}
 use Rattle.fsb_script.specs.Plans.{PlanView}
 use Rattle.fsb_script.specs.declared.fault.ScriptFault.{ScriptFault}
 use Rattle.fsb_show.specs.ShownDump.{IsReadToEnd, IsLongDump}
-use Rattle.fsb_signal.specs.DumpText.{dump_text}
-use Rattle.fsb_signal.specs.Parity.{marks_in}
 use Rattle.fsb_signal.specs.declared.marks.Marks.{Marks}
 use Rattle.fsb_signal.specs.declared.sample.Sample.{Sample}
-use Rattle.fsb_solo.specs.SoloLog.{solo_log}
-use Rattle.fsb_solo.specs.SoloTrace.{solo_trace}
+use Rattle.fsb_timely.specs.Runs.{Run}
 use Rattle.fsb_trace.specs.Verdict.{verdict}
 use Rattle.fsb_trigger.specs.Match.{least_match}
 use Rattle.fsb_trigger.specs.TriggerSteps.{StepView}
 use Rattle.fsb_watch.specs.Watched.{IsReadWhole, IsBad, HasManySamples}
 use Rattle.vcd_grammar.specs.declared.fault.VcdFault.{VcdFault}
 use Rattle.vcd_grammar.specs.Reading.{Reads, FirstFault}
-use Rattle.fsb_plan_size.specs.AccessCount.{access_count}
-use Rattle.fsb_top.specs.Form.{Form, run, check, audit, show, find, wave}
 use Rattle.fsb_top.specs.BenchRead.{HasRead}
-use Rattle.fsb_top.specs.Writing.{HasDump, HasDumpPart}
 use Rattle.fsb_top.specs.declared.status.Status.{Status}
 use Rattle.fsb_top.specs.declared.status.Status.TheVariants.{Done, Rejected, BadWords, BadBench, BadDump, ReadFault, WriteFault, DumpFault, OutOfMemory, TooLong, Foul, NotFound}
-
--- ---- a run
-
--- the log of a plan
-abbrev pub plan_log : PlanView → List Entry
-plan_log plan = solo_log plan.clocks plan.mem (script_of plan.scripts 0)
-
--- the waveform of a plan
-abbrev pub plan_trace : PlanView → List Sample
-plan_trace plan = solo_trace plan.clocks plan.mem (script_of plan.scripts 0)
-
--- the dump of a plan, in its profile
-abbrev pub plan_dump : PlanView → List ℕ
-plan_dump plan = dump_text plan.profile (plan_trace plan)
-
--- the printed log of a plan
-abbrev pub plan_text : PlanView → List ℕ
-plan_text plan = log_text plan.clocks (access_count plan.scripts) (plan_log plan)
 
 -- ---- by status
 
@@ -100,37 +76,21 @@ IsSilent TooLong = Unit {0}
 IsSilent (Foul foul) = ⊥
 IsSilent NotFound = ⊥
 
--- the log's sink has the printed log of the plan behind what it held, or a first part of it where it failed
-abbrev pub IsLogged : Status → PlanView → List ℕ → List ℕ → Type 0
-IsLogged Done plan before held = held ≡ before ++ plan_text plan
-IsLogged DumpFault plan before held = held ≡ before ++ plan_text plan
-IsLogged WriteFault plan before held = AppendsPart (plan_text plan) before held
-IsLogged (Rejected broken) plan before held = Unit {0}
-IsLogged BadWords plan before held = Unit {0}
-IsLogged (BadBench fault) plan before held = Unit {0}
-IsLogged (BadDump fault) plan before held = Unit {0}
-IsLogged ReadFault plan before held = Unit {0}
-IsLogged OutOfMemory plan before held = Unit {0}
-IsLogged TooLong plan before held = Unit {0}
-IsLogged (Foul foul) plan before held = Unit {0}
-IsLogged NotFound plan before held = Unit {0}
+-- the sink of the log has the text of the run behind what it held, or a first part of it where it failed
+abbrev pub IsLogged : Status → List ℕ → List ℕ → List ℕ → Type 0
+IsLogged Done text before held = held ≡ before ++ text
+IsLogged DumpFault text before held = held ≡ before ++ text
+IsLogged WriteFault text before held = AppendsPart text before held
+IsLogged _ text before held = Unit {0}
 
--- the dump's sink, where it has a name, was begun under it and has the dump of the plan's waveform; where it failed it has
--- a first part of that, or is as it was
-abbrev pub IsDumped : Status → PlanView → Option (List ℕ) → List ℕ → Option (List ℕ) → List ℕ → Option (List ℕ) → Type 0
-IsDumped Done plan name before was_begun_as held begun_as = HasDump (plan_dump plan) name held begun_as
-IsDumped DumpFault plan name before was_begun_as held begun_as =
-    HasDumpPart (plan_dump plan) name before was_begun_as held begun_as
-IsDumped WriteFault plan name before was_begun_as held begun_as = Unit {0}
-IsDumped (Rejected broken) plan name before was_begun_as held begun_as = Unit {0}
-IsDumped BadWords plan name before was_begun_as held begun_as = Unit {0}
-IsDumped (BadBench fault) plan name before was_begun_as held begun_as = Unit {0}
-IsDumped (BadDump fault) plan name before was_begun_as held begun_as = Unit {0}
-IsDumped ReadFault plan name before was_begun_as held begun_as = Unit {0}
-IsDumped OutOfMemory plan name before was_begun_as held begun_as = Unit {0}
-IsDumped TooLong plan name before was_begun_as held begun_as = Unit {0}
-IsDumped (Foul foul) plan name before was_begun_as held begun_as = Unit {0}
-IsDumped NotFound plan name before was_begun_as held begun_as = Unit {0}
+-- the sink of the dump, where it has a name, was begun under it and has the dump of the run; where it failed it has a
+-- first part of that, or is as it was
+abbrev pub IsDumped : Status → List ℕ → Option (List ℕ) → List ℕ → Option (List ℕ) → List ℕ
+    → Option (List ℕ) → Type 0
+IsDumped Done text name before was_begun_as held begun_as = HasDump text name held begun_as
+IsDumped DumpFault text name before was_begun_as held begun_as =
+    HasDumpPart text name before was_begun_as held begun_as
+IsDumped _ text name before was_begun_as held begun_as = Unit {0}
 
 -- ---- a check
 
@@ -193,6 +153,13 @@ IsOfRun (BadDump fault) = ⊥
 IsOfRun BadWords = ⊥
 IsOfRun (Foul foul) = ⊥
 IsOfRun NotFound = ⊥
+
+-- the run of a plan that is made ends in one of these
+abbrev pub IsOfGen : Status → Type 0
+IsOfGen Done = Unit {0}
+IsOfGen WriteFault = Unit {0}
+IsOfGen OutOfMemory = Unit {0}
+IsOfGen _ = ⊥
 
 -- ---- a search, a wave and an audit
 
@@ -265,25 +232,38 @@ IsOfAudit _ = ⊥
 
 -- ---- the whole call
 
--- all of the file under this name was read, and it is the bench file of this plan, whose log is that of one byte memory
--- and keeps to the scripts in order, and the dump of whose waveform reads back to the waveform, with the marks of its
--- profile
-pub record HasPlan (name held left : List ℕ) (begun_as : Option (List ℕ)) : Type 0 where
+-- there is one run of the plan, where objects stand that tell this, of which the call leaves behind what is said
+pub record HasRunOf (told : List (Option Told)) (plan : PlanView) (Leaves : Run → Type 0)
+    : Type 0 where
+  pub run : Run
+  pub is_run : IsRunOf told plan run
+  pub leaves : Leaves run
+
+-- all of the file under this name was read, and it is the bench file of this plan
+pub record IsPlanOf (name held left : List ℕ) (begun_as : Option (List ℕ)) (plan : PlanView)
+    : Type 0 where
   pub read : HasRead held name left begun_as
-  pub plan : PlanView
   pub is_bench : BenchText held plan
-  pub served : Served plan.mem (plan_log plan)
-  pub in_order : InOrder plan.scripts (plan_log plan)
-  pub reads_back : Reads (plan_dump plan) (marks_in plan.profile) (plan_trace plan)
+
+-- there is one run of a plan, of which the call leaves behind what is said; the plan is as it is said, and `told` is what
+-- the objects tell once they were given the hazard lines of a plan
+pub record HasRunFrom (IsPlan : PlanView → Type 0) (told : PlanView → List (Option Told))
+    (Leaves : Run → Type 0)
+    : Type 0 where
+  pub plan : PlanView
+  pub is_plan : IsPlan plan
+  pub ran : HasRunOf (told plan) plan Leaves
 
 -- all of the file under this name was read, and it is no bench file, with this first fault
-pub record IsBadBench (name held left : List ℕ) (begun_as : Option (List ℕ)) (fault : ScriptFault) : Type 0 where
+pub record IsBadBench (name held left : List ℕ) (begun_as : Option (List ℕ)) (fault : ScriptFault)
+    : Type 0 where
   pub read : HasRead held name left begun_as
   pub is_bad : FirstBad held fault
 
 -- all of the file under this name was read, it is the dump of this trace of at most 2^32 - 1 samples with these marks, and
 -- the status is that of its verdict
-pub record HasVerdict (status : Status) (name held left : List ℕ) (begun_as : Option (List ℕ)) : Type 0 where
+pub record HasVerdict (status : Status) (name held left : List ℕ) (begun_as : Option (List ℕ))
+    : Type 0 where
   pub read : IsReadWhole held left
   pub named : begun_as ≡ Some name
   pub marks : Marks
@@ -294,7 +274,9 @@ pub record HasVerdict (status : Status) (name held left : List ℕ) (begun_as : 
 
 -- all of the file under this name was read, it is the dump of this trace of at most 2^32 - 1 samples, and the status tells
 -- of it what it is to tell
-pub record HasLooked (tells : Status → List Sample → Type 0) (status : Status) (name held left : List ℕ) (begun_as : Option (List ℕ)) : Type 0 where
+pub record HasLooked (tells : Status → List Sample → Type 0) (status : Status)
+    (name held left : List ℕ) (begun_as : Option (List ℕ))
+    : Type 0 where
   pub read : IsReadWhole held left
   pub named : begun_as ≡ Some name
   pub marks : Marks
@@ -305,7 +287,8 @@ pub record HasLooked (tells : Status → List Sample → Type 0) (status : Statu
 
 -- all of the file under this name was read, it is the dump of this trace of at most 2^32 - 1 samples with these marks, and
 -- the status is that of what is found first in it
-pub record HasFinding (status : Status) (name held left : List ℕ) (begun_as : Option (List ℕ)) : Type 0 where
+pub record HasFinding (status : Status) (name held left : List ℕ) (begun_as : Option (List ℕ))
+    : Type 0 where
   pub read : IsReadWhole held left
   pub named : begun_as ≡ Some name
   pub marks : Marks
@@ -316,7 +299,8 @@ pub record HasFinding (status : Status) (name held left : List ℕ) (begun_as : 
 
 -- all of the file under this name was read, it is the dump of this trace of at most 200,000 samples with these marks, and
 -- the status is that of its verdict
-pub record HasTable (status : Status) (name held left : List ℕ) (begun_as : Option (List ℕ)) : Type 0 where
+pub record HasTable (status : Status) (name held left : List ℕ) (begun_as : Option (List ℕ))
+    : Type 0 where
   pub read : IsReadToEnd held left
   pub named : begun_as ≡ Some name
   pub marks : Marks
@@ -326,20 +310,22 @@ pub record HasTable (status : Status) (name held left : List ℕ) (begun_as : Op
   pub told : TellsVerdict status marks trace
 
 -- all of the file under this name was read, at most 268,435,456 bytes, and it is no dump, with this first fault
-pub record IsBadTable (name held left : List ℕ) (begun_as : Option (List ℕ)) (fault : VcdFault) : Type 0 where
+pub record IsBadTable (name held left : List ℕ) (begun_as : Option (List ℕ)) (fault : VcdFault)
+    : Type 0 where
   pub read : IsReadToEnd held left
   pub named : begun_as ≡ Some name
   pub is_bad : FirstFault held fault
 
 -- all of the file under this name was read, and it is no dump, with this first fault, before which at most 2^32 - 1
 -- samples are decided
-pub record IsBadDump (name held left : List ℕ) (begun_as : Option (List ℕ)) (fault : VcdFault) : Type 0 where
+pub record IsBadDump (name held left : List ℕ) (begun_as : Option (List ℕ)) (fault : VcdFault)
+    : Type 0 where
   pub read : IsReadWhole held left
   pub named : begun_as ≡ Some name
   pub is_bad : IsBad held fault
 
 -- the file is too long: a bench file has more than 4,194,304 bytes; a dump that is told as a table more than 268,435,456, or more than
--- 200,000 samples; another dump more than 2^40, or too many samples
+-- 200,000 samples; another dump more than 2^40, or too many samples; nothing is read of a plan that is made
 abbrev pub IsTooLong : Form → List ℕ → Type 0
 IsTooLong (run bench dump) held = 4194304 < length held
 IsTooLong (check dump) held = (2 ^ 40 < length held) ⊎ HasManySamples held
@@ -347,6 +333,7 @@ IsTooLong (audit dump) held = (2 ^ 40 < length held) ⊎ HasManySamples held
 IsTooLong (show dump) held = (268435456 < length held) ⊎ IsLongDump held
 IsTooLong (find dump steps) held = (2 ^ 40 < length held) ⊎ HasManySamples held
 IsTooLong (wave dump from to) held = (2 ^ 40 < length held) ⊎ HasManySamples held
+IsTooLong (gen seed agents items) held = ⊥
 
 -- what an answer about the file says, by the form of the words; nothing where they have none
 abbrev pub FromRun : Option Form → (List ℕ → Type 0) → Type 0

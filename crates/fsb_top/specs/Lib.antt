@@ -1,9 +1,6 @@
-pub mod Command
-pub mod Form
 pub mod BenchEnds
-pub mod Range
+pub mod Complete
 pub mod BenchRead
 pub mod Refused
 pub mod StatusText
 pub mod StatusTold
-pub mod Writing

@@ -5,7 +5,7 @@ use Rattle.std.specs.Fmt.{decimal}
 use Rattle.fsb_audit_dump.specs.AuditText.{foul_text}
 use Rattle.fsb_report.specs.VerdictText.{rejected_text}
 use Rattle.fsb_script.specs.declared.fault.Cause.{Cause}
-use Rattle.fsb_script.specs.declared.fault.Cause.TheVariants.{FirstLine, Word, Number, Range, Align, Outside, LockConflict, LockSize, Missing, After, Unbuilt}
+use Rattle.fsb_script.specs.declared.fault.Cause.TheVariants.{FirstLine, Word, Number, Range, Align, Outside, LockConflict, LockSize, Missing, After}
 use Rattle.fsb_signal.specs.Table.{table}
 use Rattle.vcd_grammar.specs.declared.fault.VcdCause.{VcdCause}
 use Rattle.vcd_grammar.specs.declared.fault.VcdCause.TheVariants as causes
@@ -39,7 +39,6 @@ cause_name LockConflict = codes "LockConflict"
 cause_name LockSize = codes "LockSize"
 cause_name Missing = codes "Missing"
 cause_name After = codes "After"
-cause_name Unbuilt = codes "Unbuilt"
 
 -- the name of the line of this number in the signal table; of a number that has no line, the number
 abbrev pub line_name : ℕ → List ℕ

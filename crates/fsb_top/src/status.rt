@@ -126,7 +126,6 @@ fn name_of(cause: Cause) -> &'static str
         Cause::LockSize => "LockSize",
         Cause::Missing => "Missing",
         Cause::After => "After",
-        Cause::Unbuilt => "Unbuilt",
     }
 }
 

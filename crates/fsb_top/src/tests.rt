@@ -1,5 +1,6 @@
 use crate::{Status, Words, bench, code, status_line};
 use fsb_audit::FoulAt;
+use fsb_hazard::{Hazard, ScriptHazard};
 use fsb_io::{MemSink, MemSource, Memory};
 use fsb_probe::Probe;
 use fsb_rules::Broken;
@@ -13,6 +14,8 @@ mod audited;
 mod faults;
 mod judged;
 mod looked;
+mod made;
+mod rows;
 mod shown;
 mod texts;
 
@@ -73,7 +76,7 @@ pub(crate) struct Ended {
     pub(crate) dump: MemSink,
 }
 
-/// Calls `bench` without probes on the words and the text of a bench file, with room for all that is written.
+/// Calls `bench` with a script's object and without probes on the words and the text of a bench file, with room for all that is written.
 pub(crate) fn call_bench(
     alloc: Global,
     list: &[&str],
@@ -91,11 +94,33 @@ pub(crate) fn call_with(
     fails: Fails<'_>,
     probes: Vec<Box<dyn Probe>>,
 ) -> Result<Ended, Memory> {
+    let mut hazards: Vec<Box<dyn Hazard>> = Vec::new(alloc);
+    hazards.push(Box::new(alloc, ScriptHazard::new(alloc))?)?;
+    call_over(alloc, list, text, fails, hazards, probes)
+}
+
+/// The same over these hazard objects, which are to stand on the bench of a run.
+pub(crate) fn call_over(
+    alloc: Global,
+    list: &[&str],
+    text: &[u8],
+    fails: Fails<'_>,
+    hazards: Vec<Box<dyn Hazard>>,
+    probes: Vec<Box<dyn Probe>>,
+) -> Result<Ended, Memory> {
     let words = words_of(alloc, list)?;
     let mut source = MemSource::new(alloc, text, fails.source)?;
     let mut out = MemSink::new(alloc, 1_000, fails.out)?;
     let mut dump = MemSink::new(alloc, 10_000, fails.dump)?;
-    let status = bench(alloc, &words, &mut source, &mut out, &mut dump, probes);
+    let status = bench(
+        alloc,
+        &words,
+        &mut source,
+        &mut out,
+        &mut dump,
+        hazards,
+        probes,
+    );
     Ok(Ended {
         status,
         source,
@@ -238,12 +263,26 @@ fn longest_bench_file(rt: HostRuntime) -> Result<(), Fail> {
     Ok(())
 }
 
+/// A locked item whose two lines have one cache set, in a file whose locked item begins at line 7.
+const LOCK_CONFLICT: &str =
+    "p6bench 1\nagents 1\nclocks 60\ncache 1\nahead 1\nagent 0\nlock\nld 1 40\nst 1 80 1\nunlock\nend\n";
+
+/// The first run's file, up to its first access.
+const CUT: &str =
+    "p6bench 1\nagents 1\nclocks 60\ncache 64\nahead 1\nmem 40 07\nagent 0\nld 1 40\n";
+
+/// The first run's file, whose load is not aligned.
+const MISALIGNED: &str =
+    "p6bench 1\nagents 1\nclocks 60\ncache 64\nahead 1\nmem 40 07\nagent 0\nld 2 41\nst 1 41 5\nend\n";
+
 #[test]
-fn bad_first_line_and_what_is_not_built(rt: HostRuntime) -> Result<(), Fail> {
+fn bench_files_that_are_none(rt: HostRuntime) -> Result<(), Fail> {
     let cases = [
         ("p6bench 2", 1, Cause::FirstLine),
         ("", 1, Cause::FirstLine),
-        ("p6bench 1\nagents 2\n", 2, Cause::Unbuilt),
+        (CUT, 9, Cause::Missing),
+        (MISALIGNED, 8, Cause::Align),
+        (LOCK_CONFLICT, 10, Cause::LockConflict),
     ];
     for (text, line, cause) in cases {
         let ended = call_bench(rt.alloc(), &NAMED, text.as_bytes(), NO_FAILS)?;
@@ -304,10 +343,9 @@ fn printed_causes(rt: HostRuntime) {
         ),
         (bad_bench(8, Cause::LockSize), "bench line 8: LockSize"),
         (bad_bench(9, Cause::Missing), "bench line 9: Missing"),
-        (bad_bench(10, Cause::After), "bench line 10: After"),
         (
-            bad_bench(4_194_305, Cause::Unbuilt),
-            "bench line 4194305: Unbuilt",
+            bad_bench(4_194_305, Cause::After),
+            "bench line 4194305: After",
         ),
     ];
     for (status, text) in of_benches {

@@ -6,6 +6,7 @@ ghost use Rattle.std.specs.Process.{exit_status};
 ghost use Rattle.std.specs.String.{string_bytes};
 ghost use Rattle.fsb_top.specs.StatusText.{code_of};
 
+use fsb_hazard::{Hazard, ScriptHazard};
 use fsb_io::{FileSink, FileSource, StdoutSink};
 use fsb_probe::{DataProbe, LineProbe, Probe};
 use fsb_top::{Status, Words, bench, code, status_line};
@@ -28,7 +29,7 @@ fn main(rt: HostRuntime) -> ExitCode {
     end(&rt, &status)
 }
 
-// Does what the program's words ask for. The dump never replaces the file that is read.
+// Does what the program's words ask for, with one object that chooses what a bench file's hazard lines say. The dump never replaces the file that is read.
 fn run(rt: &(impl Files + Env + Print + AllocGlobal)) -> Status {
     let words = match words_of(rt) {
         Ok(words) => words,
@@ -43,13 +44,28 @@ fn run(rt: &(impl Files + Env + Print + AllocGlobal)) -> Status {
     ) else {
         return Status::OutOfMemory;
     };
+    let mut hazards: Vec<Box<dyn Hazard>> = Vec::new(alloc);
+    let Ok(script) = Box::new(alloc, ScriptHazard::new(alloc)) else {
+        return Status::OutOfMemory;
+    };
+    if hazards.push(script).is_err() {
+        return Status::OutOfMemory;
+    }
     if probes.push(ads).is_err() || probes.push(drdy).is_err() || probes.push(data).is_err() {
         return Status::OutOfMemory;
     }
     let mut source = FileSource::new(rt);
     let mut out = StdoutSink::new(rt);
     let mut dump = FileSink::new(rt, words.word(FILE));
-    bench(alloc, &words, &mut source, &mut out, &mut dump, probes)
+    bench(
+        alloc,
+        &words,
+        &mut source,
+        &mut out,
+        &mut dump,
+        hazards,
+        probes,
+    )
 }
 
 // The words that the program was called with.

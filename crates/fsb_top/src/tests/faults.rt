@@ -4,11 +4,11 @@ use super::texts::{HEAD, TAIL};
 use super::{
     CHECK, Ended, FIRST, FIRST_LOG, Fails, NAMED, NO_FAILS, call_bench, is_begun_as, joined,
 };
-use crate::Status;
+use crate::{Status, code};
 use fsb_io::Memory;
 use std::alloc::Global;
 use std::test::Fail;
-use vcd_dumps::{SIMULATOR_HEAD, SIMULATOR_START};
+use vcd_dumps::{SIMULATOR_HEAD, SIMULATOR_RISES, SIMULATOR_START};
 
 /// The lines of the first run's log.
 const LOG_LINES: [&str; 3] = [
@@ -195,5 +195,22 @@ fn read_fault_is_told_before_a_fault_of_the_dump(rt: HostRuntime) -> Result<(), 
     };
     let ended = call_bench(rt.alloc(), &CHECK, b"0a", fails)?;
     assert_eq!(rt; ended.status, Status::ReadFault);
+    Ok(())
+}
+
+/// A dump that is cut off in its declarations is none; one that is cut off later may be a shorter dump.
+#[test]
+fn dumps_that_are_cut_off(rt: HostRuntime) -> Result<(), Fail> {
+    let whole = joined(
+        rt.alloc(),
+        &[SIMULATOR_HEAD, SIMULATOR_START, SIMULATOR_RISES],
+    )?;
+    let defined = SIMULATOR_HEAD.len() - "\n".len();
+    for len in 0..whole.len() {
+        let ended = call_bench(rt.alloc(), &CHECK, &whole[..len], NO_FAILS)?;
+        let status = code(&ended.status);
+        assert!(rt; status <= 1 || status == 4, "{len} bytes: {status}");
+        assert!(rt; len >= defined || status == 4, "{len} bytes: {status}");
+    }
     Ok(())
 }

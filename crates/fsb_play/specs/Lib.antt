@@ -1,0 +1,3 @@
+pub mod Printed
+pub mod RunOf
+pub mod Writing

@@ -1,0 +1,26 @@
+use crate::{Played, Print, play};
+use fsb_core::Bench;
+use fsb_hazard::Hazard;
+use fsb_io::MemSink;
+use fsb_script::read_bench;
+use std::test::Fail;
+
+#[test]
+fn first_run(rt: HostRuntime) -> Result<(), Fail> {
+    let text =
+        b"p6bench 1\nagents 1\nclocks 60\ncache 64\nahead 1\nmem 40 07\nagent 0\nld 1 40\nst 1 41 5\nend\n";
+    let plan = read_bench(rt.alloc(), text).expect(&rt, "a bench text");
+    let hazards: Vec<Box<dyn Hazard>> = Vec::new(rt.alloc());
+    let mut bench = Bench::make(rt.alloc(), plan, hazards).expect(&rt, "memory");
+    let mut out = MemSink::new(rt.alloc(), 1_000, &[])?;
+    let mut dump = MemSink::new(rt.alloc(), 10_000, &[])?;
+    assert_eq!(rt;
+        play(&mut bench, &Print::LogAndDump("x"), &mut out, &mut dump),
+        Played::Done
+    );
+    assert_eq!(rt;
+        out.holds(),
+        b"11 0 0 ld 1 40 = 7\n12 0 1 st 1 41 = 5\nend clocks=60 done=2 of=2\n".as_slice()
+    );
+    Ok(())
+}

@@ -1,2 +1,0 @@
-pub mod SoloLog
-pub mod SoloTrace
