@@ -19,6 +19,7 @@ sys.dont_write_bytecode = True
 from common import TOP, built_program
 
 DATA = os.path.join(TOP, "crates", "p6bench", "data")
+ROWS = os.path.join(TOP, "crates", "fsb_bench_trials", "data")
 REFUSED = (8, b"", b"out of memory\n", None)
 
 LIBRARY = r"""
@@ -102,12 +103,19 @@ def forms(folder):
         "run of 300 accesses with a dump": ["run", written(folder, "many.bench", many), "DUMP"],
         "run of a file that is refused": ["run", written(folder, "bad.bench", bench.replace(b"ld 1 40", b"ld 2 41")), "DUMP"],
         "run of a file that is not there": ["run", os.path.join(folder, "none"), "DUMP"],
+        "run of a victim that is written back, with a dump": ["run", os.path.join(ROWS, "dirty_victim_written_back.bench"), "DUMP"],
+        "run of a deferred request and its reply, with a dump": ["run", os.path.join(ROWS, "deferred_and_replied.bench"), "DUMP"],
+        "gen": ["gen", "0", "4", "8"],
+        "gen of too many agents": ["gen", "0", "5", "8"],
         "check": ["check", dump],
+        "audit": ["audit", dump],
+        "show": ["show", dump],
         "check of a dump of 190 KB": ["check", long],
         "check of a file that is refused": ["check", written(folder, "bad.vcd", head + clocks + b"x")],
         "find": ["find", dump, "ADS/DRDY"],
         "wave": ["wave", dump, "0", "63"],
         "bad words": ["run", "-x"],
+        "one word": ["run"],
     }
 
 
