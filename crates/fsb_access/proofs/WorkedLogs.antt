@@ -3,7 +3,8 @@ use Rattle.std.proofs.Common.{◌≡◌, ℕ, zero, suc, false, List, [], ◌∷
 use Rattle.fsb_access.proofs.OrderLaws.{steps_of-nobody}
 use Rattle.fsb_access.specs.ByteMemory.{bytes_at, put_value}
 use Rattle.fsb_access.specs.Replay.{Served}
-use Rattle.fsb_access.specs.ScriptOrder.{InOrder, AreOfItems, Step, accesses_of, are_items_together, script_of, steps_of}
+use Rattle.fsb_access.specs.ScriptOrder.{InOrder, AreOfItems, Step, accesses_of, are_items_together, script_of}
+use Rattle.fsb_access.specs.ScriptOrder.{steps_of}
 use Rattle.fsb_access.specs.declared.access.Access.{Access}
 use Rattle.fsb_access.specs.declared.access.Access.TheVariants.{Load, Store}
 use Rattle.fsb_access.specs.declared.access.Operand.TheVariants.{Literal, LastPlus}
@@ -59,7 +60,10 @@ locked_increments-in_order = record { follows = follows; together = refl }
     follows : (agent : ℕ) → AreOfItems (script_of locked_scripts agent) (steps_of agent locked_log)
     follows zero = record { items = 1; same = refl }
     follows (suc zero) = record { items = 1; same = refl }
-    follows (suc (suc agent)) = record { items = 0; same = steps_of-nobody 2 (suc (suc agent)) locked_log refl (omega arith) }
+    follows (suc (suc agent)) = record {
+      items = 0;
+      same = steps_of-nobody 2 (suc (suc agent)) locked_log refl (omega arith);
+    }
 
 -- an agent's load is deferred and replied, and another agent's store comes after it
 abbrev pub deferred_scripts : List (List Item)
@@ -78,7 +82,10 @@ deferred_and_replied-in_order = record { follows = follows; together = refl }
     follows : (agent : ℕ) → AreOfItems (script_of deferred_scripts agent) (steps_of agent deferred_log)
     follows zero = record { items = 1; same = refl }
     follows (suc zero) = record { items = 1; same = refl }
-    follows (suc (suc agent)) = record { items = 0; same = steps_of-nobody 2 (suc (suc agent)) deferred_log refl (omega arith) }
+    follows (suc (suc agent)) = record {
+      items = 0;
+      same = steps_of-nobody 2 (suc (suc agent)) deferred_log refl (omega arith);
+    }
 
 -- a stored byte is written back, and is loaded again after another line took its place
 abbrev pub victim_scripts : List (List Item)
@@ -103,14 +110,20 @@ dirty_victim_written_back-in_order = record { follows = follows; together = refl
 pub idle_first-in_order : InOrder ((Idle 3 ∷ One (Load 1 0x40) ∷ []) ∷ []) (entry 14 0 1 0 (Load 1 0x40) 0 ∷ [])
 idle_first-in_order = record { follows = follows; together = refl }
   where
-    follows : (agent : ℕ) → AreOfItems (script_of ((Idle 3 ∷ One (Load 1 0x40) ∷ []) ∷ []) agent) (steps_of agent (entry 14 0 1 0 (Load 1 0x40) 0 ∷ []))
+    follows : (agent : ℕ)
+        → AreOfItems (script_of ((Idle 3 ∷ One (Load 1 0x40) ∷ []) ∷ []) agent)
+        (steps_of agent (entry 14 0 1 0 (Load 1 0x40) 0 ∷ []))
     follows zero = record { items = 2; same = refl }
-    follows (suc agent) = record { items = 0; same = steps_of-nobody 1 (suc agent) (entry 14 0 1 0 (Load 1 0x40) 0 ∷ []) refl (omega arith) }
+    follows (suc agent) = record {
+      items = 0;
+      same = steps_of-nobody 1 (suc agent) (entry 14 0 1 0 (Load 1 0x40) 0 ∷ []) refl (omega arith);
+    }
 
 -- eight bytes are loaded with the lowest first
 pub burst_order_of_chunk_three-served :
     Served
-    (setting 0x58 1 ∷ setting 0x59 2 ∷ setting 0x5a 3 ∷ setting 0x5b 4 ∷ setting 0x5c 5 ∷ setting 0x5d 6 ∷ setting 0x5e 7 ∷ setting 0x5f 8 ∷ [])
+    (setting 0x58 1 ∷ setting 0x59 2 ∷ setting 0x5a 3 ∷ setting 0x5b 4 ∷ setting 0x5c 5 ∷ setting 0x5d 6
+    ∷ setting 0x5e 7 ∷ setting 0x5f 8 ∷ [])
     (entry 11 0 0 0 (Load 8 0x58) 0x0807060504030201 ∷ [])
 unfolding bytes_at put_value
 burst_order_of_chunk_three-served = refl
@@ -143,7 +156,10 @@ part_of_a_script-in_order = record { follows = follows; together = refl }
     follows : (agent : ℕ) → AreOfItems (script_of part_scripts agent) (steps_of agent part_log)
     follows zero = record { items = 2; same = refl }
     follows (suc zero) = record { items = 1; same = refl }
-    follows (suc (suc agent)) = record { items = 0; same = steps_of-nobody 2 (suc (suc agent)) part_log refl (omega arith) }
+    follows (suc (suc agent)) = record {
+      items = 0;
+      same = steps_of-nobody 2 (suc (suc agent)) part_log refl (omega arith);
+    }
 
 -- items that were done in another order than the script's
 abbrev pub two_loads : List Item
@@ -182,5 +198,6 @@ cut_lock-not_in_order o = none (o.follows 0).items (o.follows 0).same
 -- another agent's access stands between the two of a locked item
 pub parted_lock-not_together :
     are_items_together
-    (entry 11 0 0 0 (Load 1 0x40) 0 ∷ entry 11 1 0 0 (Load 1 0x80) 0 ∷ entry 11 0 0 1 (Store 1 0x40 (LastPlus 1)) 1 ∷ []) ≡ false
+    (entry 11 0 0 0 (Load 1 0x40) 0 ∷ entry 11 1 0 0 (Load 1 0x80) 0 ∷ entry 11 0 0 1
+    (Store 1 0x40 (LastPlus 1)) 1 ∷ []) ≡ false
 parted_lock-not_together = refl

@@ -14,11 +14,14 @@ and_true : (b : Bool) → (b && true) ≡ b
 and_true true = refl
 and_true false = refl
 
-pub served_one : (v : AgentView) (access : Access) → list_all (is_served_by v) (needs_of (One access)) ≡ is_ready_for v (accessed_line access) (not (is_load access))
+pub served_one : (v : AgentView) (access : Access)
+    → list_all (is_served_by v) (needs_of (One access)) ≡ is_ready_for v (accessed_line access) (not (is_load access))
 unfolding needs_of needs_after plain_need
 served_one v access = and_true (is_ready_for v (accessed_line access) (not (is_load access)))
 
-pub served_group : (v : AgentView) (group : List Access) → list_all (is_served_by v) (needs_of (Locked group)) ≡ list_all (λ access. is_ready_for v (accessed_line access) true) group
+pub served_group : (v : AgentView) (group : List Access)
+    → list_all (is_served_by v) (needs_of (Locked group))
+    ≡ list_all (λ access. is_ready_for v (accessed_line access) true) group
 unfolding needs_of needs_after locked_need
 served_group v group = list_all-map (is_served_by v) (locked_need [] group) group
 
@@ -26,35 +29,49 @@ pub served_idle : (v : AgentView) (clocks : ℕ) → list_all (is_served_by v) (
 unfolding needs_of needs_after
 served_idle v clocks = refl
 
-pub met_one : (v : AgentView) (line : ℕ) (owns : Bool) (access : Access) → are_met_with v line owns (needs_of (One access)) ≡ ((accessed_line access == line) && (owns || is_load access))
+pub met_one : (v : AgentView) (line : ℕ) (owns : Bool) (access : Access)
+    → are_met_with v line owns (needs_of (One access)) ≡ ((accessed_line access == line) && (owns || is_load access))
 unfolding needs_of needs_after plain_need
-met_one v line owns access = last (accessed_line access == line) owns (is_load access) (is_ready_for v (accessed_line access) (not (is_load access)))
+met_one v line owns access = last (accessed_line access == line) owns (is_load access)
+    (is_ready_for v (accessed_line access) (not (is_load access)))
   where
-    last : (here owns load served : Bool) → (((here && (owns || not (not load))) || false) && ((here || served) && true)) ≡ (here && (owns || load))
+    last : (here owns load served : Bool)
+        → (((here && (owns || not (not load))) || false) && ((here || served) && true)) ≡ (here && (owns || load))
     last true true load served = refl
     last true false true served = refl
     last true false false served = refl
     last false owns load served = refl
 
-brought_group : (line : ℕ) (owns : Bool) (group accesses : List Access) → list_any (is_brought_by line owns) (map (locked_need [] group) accesses) ≡ (owns && list_any (λ access. accessed_line access == line) accesses)
+brought_group : (line : ℕ) (owns : Bool) (group accesses : List Access)
+    → list_any (is_brought_by line owns) (map (locked_need [] group) accesses)
+    ≡ (owns && list_any (λ access. accessed_line access == line) accesses)
 unfolding locked_need
 brought_group line true group [] = refl
 brought_group line false group [] = refl
 brought_group line owns group (access ∷ accesses) =
-    last (accessed_line access == line) owns (list_any (is_brought_by line owns) (map (locked_need [] group) accesses)) (list_any (λ access. accessed_line access == line) accesses) (brought_group line owns group accesses)
+    last (accessed_line access == line) owns
+    (list_any (is_brought_by line owns) (map (locked_need [] group) accesses))
+    (list_any (λ access. accessed_line access == line) accesses) (brought_group line owns group accesses)
   where
-    last : (here owns rest more : Bool) → rest ≡ (owns && more) → ((here && (owns || false)) || rest) ≡ (owns && (here || more))
+    last : (here owns rest more : Bool) → rest ≡ (owns && more)
+        → ((here && (owns || false)) || rest) ≡ (owns && (here || more))
     last true true rest more e = refl
     last false true rest more e = e
     last true false rest more e = e
     last false false rest more e = e
 
-pub met_group : (v : AgentView) (line : ℕ) (owns : Bool) (group : List Access) → are_met_with v line owns (needs_of (Locked group)) ≡ ((owns && list_any (λ access. accessed_line access == line) group) && list_all (λ access. (accessed_line access == line) || is_ready_for v (accessed_line access) true) group)
+pub met_group : (v : AgentView) (line : ℕ) (owns : Bool) (group : List Access)
+    → are_met_with v line owns (needs_of (Locked group))
+    ≡ ((owns && list_any (λ access. accessed_line access == line) group)
+    && list_all (λ access. (accessed_line access == line) || is_ready_for v (accessed_line access) true) group)
 unfolding needs_of needs_after locked_need
 met_group v line owns group =
-    ap (λ b. b && list_all (is_there_by v line) (map (locked_need [] group) group)) (brought_group line owns group group)
-    ∙ ap (λ b. (owns && list_any (λ access. accessed_line access == line) group) && b) (list_all-map (is_there_by v line) (locked_need [] group) group)
+    ap (λ b. b && list_all (is_there_by v line) (map (locked_need [] group) group))
+    (brought_group line owns group group)
+    ∙ ap (λ b. (owns && list_any (λ access. accessed_line access == line) group) && b)
+    (list_all-map (is_there_by v line) (locked_need [] group) group)
 
-pub met_idle : (v : AgentView) (line : ℕ) (owns : Bool) (clocks : ℕ) → are_met_with v line owns (needs_of (Idle clocks)) ≡ false
+pub met_idle : (v : AgentView) (line : ℕ) (owns : Bool) (clocks : ℕ)
+    → are_met_with v line owns (needs_of (Idle clocks)) ≡ false
 unfolding needs_of needs_after
 met_idle v line owns clocks = refl

@@ -1,5 +1,6 @@
 -- What an item needs of the lines, and what may be performed on them.
-use Rattle.std.proofs.Common.{ℕ, ◌≤◌, ◌≡◌, Bool, true, false, not, Some, List, [], ◌∷◌, length, refl, sym, ap, ◌∙◌, arith}
+use Rattle.std.proofs.Common.{ℕ, ◌≤◌, ◌≡◌, Bool, true, false, not, Some, List, [], ◌∷◌, length, refl, sym, ap, ◌∙◌}
+use Rattle.std.proofs.Common.{arith}
 use Rattle.std.specs.Prelude.{◌&&◌, ◌||◌, slice_get, nat_le, zero, suc}
 use Rattle.std.specs.List.{list_all}
 use Rattle.std.proofs.lemmas.Bool.{leb-true}
@@ -29,15 +30,18 @@ sole_serves true false sole h = h
 sole_serves false load sole h = h
 
 -- an item whose needs are met may be performed
-pub servable-met : (lines : CacheSets) (item : Item) → list_all (holds_need lines) (needs_of item) ≡ true → list_all (is_servable lines) (accesses_in item) ≡ true
+pub servable-met : (lines : CacheSets) (item : Item) → list_all (holds_need lines) (needs_of item) ≡ true
+    → list_all (is_servable lines) (accesses_in item) ≡ true
 unfolding needs_of needs_after plain_need locked_need
 servable-met lines (One access) met =
     let line = accessed_line access in
     both (is_servable lines access) true
-    (not_not (is_held (states lines line)) (is_load access) (is_sole (states lines line)) (both_left (holds_need lines (plain_need [] access)) true met)) refl
+    (not_not (is_held (states lines line)) (is_load access) (is_sole (states lines line))
+    (both_left (holds_need lines (plain_need [] access)) true met)) refl
 servable-met lines (Locked group) met =
     list_all-from (λ access. holds_need lines (locked_need [] group access)) (is_servable lines) group
-    (λ access h. sole_serves (is_held (states lines (accessed_line access))) (is_load access) (is_sole (states lines (accessed_line access))) h)
+    (λ access h. sole_serves (is_held (states lines (accessed_line access))) (is_load access)
+    (is_sole (states lines (accessed_line access))) h)
     (sym (list_all-map (holds_need lines) (locked_need [] group) group) ∙ met)
 servable-met lines (Idle clocks) met = refl
 
@@ -46,17 +50,22 @@ few_accesses : (cache : ℕ) (item : Item) → is_lawful_item cache item ≡ tru
 unfolding is_lock_size
 few_accesses cache (One access) lawful = omega arith
 few_accesses cache (Locked group) lawful =
-    let size = both_left (is_lock_size group) (is_lock_apart cache group) (both_right (list_all is_lawful_access group) (is_lock_size group && is_lock_apart cache group) lawful) in
-    leb-true (length group) 8 (both_right (nat_le 1 (length group)) (nat_le (length group) 8) (both_left _ (nat_le (line_count group) 4) size))
+    let size = both_left (is_lock_size group) (is_lock_apart cache group)
+    (both_right (list_all is_lawful_access group) (is_lock_size group && is_lock_apart cache group) lawful) in
+    leb-true (length group) 8
+    (both_right (nat_le 1 (length group)) (nat_le (length group) 8)
+    (both_left _ (nat_le (line_count group) 4) size))
 few_accesses cache (Idle clocks) lawful = omega arith
 
-lawful_accesses : (cache : ℕ) (item : Item) → is_lawful_item cache item ≡ true → list_all is_lawful_access (accesses_in item) ≡ true
+lawful_accesses : (cache : ℕ) (item : Item) → is_lawful_item cache item ≡ true
+    → list_all is_lawful_access (accesses_in item) ≡ true
 lawful_accesses cache (One access) lawful = both (is_lawful_access access) true lawful refl
 lawful_accesses cache (Locked group) lawful = both_left (list_all is_lawful_access group) _ lawful
 lawful_accesses cache (Idle clocks) lawful = refl
 
 -- what passes in each item passes in the one at a place
-pub list_all-get : {X : Type 0} (p : X → Bool) (xs : List X) (i : ℕ) (x : X) → list_all p xs ≡ true → slice_get xs i ≡ Some x → p x ≡ true
+pub list_all-get : {X : Type 0} (p : X → Bool) (xs : List X) (i : ℕ) (x : X) → list_all p xs ≡ true
+    → slice_get xs i ≡ Some x → p x ≡ true
 list_all-get p [] i x all got = absurd (let h : ⊥ = cc in h)
 list_all-get p (y ∷ ys) zero x all got = let is : y ≡ x = cc in ap p (sym is) ∙ both_left (p y) (list_all p ys) all
 list_all-get p (y ∷ ys) (suc i) x all got = list_all-get p ys i x (both_right (p y) (list_all p ys) all) got
@@ -65,11 +74,19 @@ pub few_items : (cache : ℕ) (items : List Item) → is_lawful_script cache ite
 unfolding is_lawful_script
 few_items cache items lawful = leb-true (length items) 4096 (both_left (nat_le (length items) 4096) _ lawful)
 
-pub lawful_item : (cache : ℕ) (items : List Item) (n : ℕ) (item : Item) → is_lawful_script cache items ≡ true → slice_get items n ≡ Some item → is_lawful_item cache item ≡ true
+pub lawful_item : (cache : ℕ) (items : List Item) (n : ℕ) (item : Item) → is_lawful_script cache items ≡ true
+    → slice_get items n ≡ Some item → is_lawful_item cache item ≡ true
 unfolding is_lawful_script
-lawful_item cache items n item lawful got = list_all-get (is_lawful_item cache) items n item (both_right (nat_le (length items) 4096) _ lawful) got
+lawful_item cache items n item lawful got =
+    list_all-get (is_lawful_item cache) items n item (both_right (nat_le (length items) 4096) _ lawful) got
 
-pub performable : (lines : CacheSets) (cache : ℕ) (items : List Item) (n : ℕ) (item : Item) → is_lawful_script cache items ≡ true → slice_get items n ≡ Some item → list_all (holds_need lines) (needs_of item) ≡ true → IsPerformable lines item
+pub performable : (lines : CacheSets) (cache : ℕ) (items : List Item) (n : ℕ) (item : Item)
+    → is_lawful_script cache items ≡ true → slice_get items n ≡ Some item
+    → list_all (holds_need lines) (needs_of item) ≡ true → IsPerformable lines item
 performable lines cache items n item lawful got met =
     let is : is_lawful_item cache item ≡ true = lawful_item cache items n item lawful got in
-    record { few = few_accesses cache item is; lawful = lawful_accesses cache item is; servable = servable-met lines item met }
+    record {
+      few = few_accesses cache item is;
+      lawful = lawful_accesses cache item is;
+      servable = servable-met lines item met;
+    }

@@ -9,6 +9,7 @@ pub rest-is : {X : Type 0} (x : X) (xs : List X) → take (length (x ∷ xs) - 1
 rest-is x xs = take_all (length (x ∷ xs) - 1) xs (omega arith)
 
 -- what passes in each item passes in the others
-pub rest-all : {X : Type 0} (p : X → Bool) (xs : List X) → list_all p xs ≡ true → list_all p (take (length xs - 1) (drop 1 xs)) ≡ true
+pub rest-all : {X : Type 0} (p : X → Bool) (xs : List X) → list_all p xs ≡ true
+    → list_all p (take (length xs - 1) (drop 1 xs)) ≡ true
 rest-all p [] all = refl
 rest-all p (x ∷ xs) all = ap (list_all p) (rest-is x xs) ∙ both_right (p x) (list_all p xs) all

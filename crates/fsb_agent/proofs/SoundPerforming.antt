@@ -24,26 +24,33 @@ pub record IsMetOn (v : AgentView) (lines : CacheSets) : Type 0 where
   pub met : list_all (holds_need lines) (needs_of item) ≡ true
 
 -- where there is an item that passes, there is an item
-pub item_of : (test : Item → Bool) (next : Option Item) → option_map_or test next false ≡ true → (item : Item) × (next ≡ Some item) × (test item ≡ true)
+pub item_of : (test : Item → Bool) (next : Option Item) → option_map_or test next false ≡ true
+    → (item : Item) × (next ≡ Some item) × (test item ≡ true)
 item_of test None never = absurd (let h : ⊥ = cc in h)
 item_of test (Some item) passes = (item, refl, passes)
 
 pub met-hit : (v : AgentView) (clock : ℕ) → is_hit_by v clock ≡ true → IsMetOn v v.lines
 met-hit v clock hit =
-    let next = item_of (λ item. list_all (is_served_by v) (needs_of item)) (next_item_by v) (both_right (may_complete v clock) _ hit) in
+    let next = item_of (λ item. list_all (is_served_by v) (needs_of item)) (next_item_by v)
+    (both_right (may_complete v clock) _ hit) in
     record {
       item = next.0;
       there = next.1;
-      met = list_all-from (is_served_by v) (holds_need v.lines) (needs_of next.0) (λ need h. both_left (holds_need v.lines need) (has_come v need.line) h) next.2;
+      met = list_all-from (is_served_by v) (holds_need v.lines) (needs_of next.0)
+          (λ need h. both_left (holds_need v.lines need) (has_come v need.line) h) next.2;
     }
 
 -- the lines after its accesses are alike
-pub alike-next : (v : AgentView) → 0 < length v.lines → IsMetOn v v.lines → IsAlike v.lines (hand_after_steps (hand_of v) (next_steps v)).lines
+pub alike-next : (v : AgentView) → 0 < length v.lines → IsMetOn v v.lines
+    → IsAlike v.lines (hand_after_steps (hand_of v) (next_steps v)).lines
 alike-next v some next =
     rw next.there
-    (alike-steps (hand_of v) _ some (steps-servable v.lines v.place next.item ∙ servable-met v.lines next.item next.met))
+    (alike-steps (hand_of v) _ some (steps-servable v.lines v.place next.item
+    ∙ servable-met v.lines next.item next.met))
 
-pub sound-placed : (v : AgentView) (place idle_to last : ℕ) (finished : Option Finished) → IsPlaced v.items place finished → IsSound v → IsSound (record v { place = place; idle_to = idle_to; finished = finished; last = last })
+pub sound-placed : (v : AgentView) (place idle_to last : ℕ) (finished : Option Finished)
+    → IsPlaced v.items place finished → IsSound v
+    → IsSound (record v { place = place; idle_to = idle_to; finished = finished; last = last })
 sound-placed v place idle_to last finished placed s = record {
   number = s.number;
   some_lines = s.some_lines;
@@ -63,13 +70,15 @@ sound-placed v place idle_to last finished placed s = record {
 }
 
 -- where it goes on, and what it completed, are no idle items
-pub placed-completed : (v : AgentView) (clock : ℕ) → IsPlaced v.items v.place v.finished → IsPlaced v.items (place_from v.items (v.place + 1)) (Some record { clock = clock; item = v.place })
+pub placed-completed : (v : AgentView) (clock : ℕ) → IsPlaced v.items v.place v.finished
+    → IsPlaced v.items (place_from v.items (v.place + 1)) (Some record { clock = clock; item = v.place })
 placed-completed v clock placed = record { next = busy_from v.items (v.place + 1); before = placed.next }
 
 pub sound_completed : (v : AgentView) (clock : ℕ) → IsMetOn v v.lines → IsSound v → IsSound (completed_by v clock)
 sound_completed v clock next s =
     let hand = hand_after_steps (hand_of v) (next_steps v) in
-    sound-placed (record v { lines = hand.lines }) (place_from v.items (v.place + 1)) (clock + 1 + idle_from v.items (v.place + 1)) hand.last
+    sound-placed (record v { lines = hand.lines }) (place_from v.items (v.place + 1))
+    (clock + 1 + idle_from v.items (v.place + 1)) hand.last
     (Some record { clock = clock; item = v.place }) (placed-completed v clock s.placed)
     (sound-lowered v hand.lines (lowered-alike v.lines hand.lines (alike-next v s.some_lines next)) s)
 

@@ -1,8 +1,10 @@
 -- From behind the snoop end of a clock to the next clock, where a line comes to the agent.
-use Rattle.std.proofs.Common.{ℕ, ◌+◌, ◌<◌, ◌≡◌, ◌≢◌, ◌⊎◌, ◌%◌, Bool, true, false, not, ◌&&◌, ◌||◌, List, length, Some, nat_eq, refl, sym, ap, subst, ◌∙◌, inl, inr, arith, ⊎_elim, if◌then◌else◌}
+use Rattle.std.proofs.Common.{ℕ, ◌+◌, ◌<◌, ◌≡◌, ◌≢◌, ◌⊎◌, ◌%◌, Bool, true, false, not, ◌&&◌, ◌||◌, List, length, Some}
+use Rattle.std.proofs.Common.{nat_eq, refl, sym, ap, subst, ◌∙◌, inl, inr, arith, ⊎_elim, if◌then◌else◌}
 use Rattle.std.specs.Prelude.{◌==◌}
 use Rattle.std.specs.List.{list_all, list_any}
-use Rattle.std.proofs.lemmas.Bool.{and_from, and_parts, cases_Bool, cases_eq, eq-eqb, eqb-true, false_from_ne_true, ne_eqb, not-true, or_right}
+use Rattle.std.proofs.lemmas.Bool.{and_from, and_parts, cases_Bool, cases_eq, eq-eqb, eqb-true, false_from_ne_true}
+use Rattle.std.proofs.lemmas.Bool.{ne_eqb, not-true, or_right}
 use Rattle.fsb_access.specs.declared.access.Access.{Access}
 use Rattle.fsb_access.specs.declared.item.Item.{Item}
 use Rattle.fsb_access.specs.Access.{accessed_line}
@@ -15,7 +17,8 @@ use Rattle.fsb_line.specs.declared.state.Mesi.TheVariants.{Modified}
 use Rattle.fsb_line.specs.States.{is_held, kind_owns}
 use Rattle.fsb_timely.specs.Past.{Grant, Owing, Past, SnoopEnd}
 use Rattle.fsb_timely.specs.Completions.{completes_by, is_arrival, is_brought, is_there}
-use Rattle.fsb_timely.specs.Grants.{has_arrived, holds_line, is_end_at, is_ended, is_exclusive, is_granted, is_lost, is_rival, latest_grant, set_of, snooped_at}
+use Rattle.fsb_timely.specs.Grants.{has_arrived, holds_line, is_end_at, is_ended, is_exclusive, is_granted, is_lost}
+use Rattle.fsb_timely.specs.Grants.{is_rival, latest_grant, set_of, snooped_at}
 use Rattle.fsb_timely.specs.Hits.{is_hit, is_met}
 use Rattle.fsb_timely.specs.Runs.{Run, past_of}
 use Rattle.fsb_timely.specs.Scripts.{Need, is_idling, is_load, needs_of, next_item}
@@ -35,7 +38,8 @@ use Rattle.fsb_agent_view.specs.Serving.{hand_after_steps}
 use Rattle.fsb_agent_view.specs.Snooping.{kind_asks}
 use Rattle.fsb_agent_view.proofs.Interface.{length-with_slot}
 use Rattle.fsb_agent_run.specs.Ending.{EndsFor}
-use Rattle.fsb_agent_run.specs.RunViews.{IsAgentOf, IsComing, IsPlacedIn, LogsItem, is_awaited, one_if, owing_by, state_told}
+use Rattle.fsb_agent_run.specs.RunViews.{IsAgentOf, IsComing, IsPlacedIn, LogsItem, is_awaited, one_if, owing_by}
+use Rattle.fsb_agent_run.specs.RunViews.{state_told}
 use Rattle.fsb_agent_run.specs.Stages.{IsViewAfterSnoop, IsViewOf, is_dirty_snooped}
 use Rattle.fsb_agent_run.proofs.Among.{among-any, any-among}
 use Rattle.fsb_agent_run.proofs.EndFacts.{IsEnded, below-says, ended-comes, ended-grant, first-of-grant, one-ended}
@@ -49,7 +53,8 @@ use Rattle.fsb_agent_run.proofs.ItemsCompleted.{IsNeedOf, any-stores, logged-the
 use Rattle.fsb_agent_run.proofs.OtherSnoops.{unheld-invalid}
 use Rattle.fsb_agent_run.proofs.OwnSnoops.{grant-of-snoop}
 use Rattle.fsb_agent_run.proofs.PlaceSteps.{place-completed}
-use Rattle.fsb_agent_run.proofs.SlotStates.{InSets, in_sets-filled, in_sets-without, kept-line, length-without, resident-at, some-sets, state-filled, state-without}
+use Rattle.fsb_agent_run.proofs.SlotStates.{InSets, in_sets-filled, in_sets-without, kept-line, length-without}
+use Rattle.fsb_agent_run.proofs.SlotStates.{resident-at, some-sets, state-filled, state-without}
 use Rattle.fsb_agent_run.proofs.SnoopSteps.{granted-is, rival-unheld}
 use Rattle.fsb_agent_run.proofs.StatesTold.{held-by}
 use Rattle.fsb_agent_run.proofs.StoresTold.{any_stored, end-state, end-state_hit, state_with}
@@ -118,7 +123,8 @@ ending-there r a c number s grant v h ends makes view k =
     let comes = ended-comes r a c number s grant v h ends makes view.requests k in
     let first = first-of-grant r below.0 s grant (omega arith) below.2 makes in
     let at : is_end_at p c s.first ≡ true = ap (is_end_at p c) below.3 ∙ ends.ends in
-    let granted : is_granted p a line below.0 ≡ true = granted-so p a line below.0 s grant below.2 makes own.agent own.line in
+    let granted : is_granted p a line below.0 ≡ true =
+    granted-so p a line below.0 s grant below.2 makes own.agent own.line in
     record {
       latest = grant;
       is_latest = latest-ends r a line below.0 c s grant h (omega arith) below.2 makes granted at;
@@ -133,7 +139,8 @@ ending-there r a c number s grant v h ends makes view k =
           let here = ends.snooped in
           let same : l.0 ≡ s = cc in
           let gives = l.2 in
-          let two : other_grant ≡ grant = (let e = sym (sym (ap (λ (x : SnoopEnd). x.grant) same) ∙ gives) ∙ makes in cc) in
+          let two : other_grant ≡ grant =
+          (let e = sym (sym (ap (λ (x : SnoopEnd). x.grant) same) ∙ gives) ∙ makes in cc) in
           apart (sym l.4 ∙ ap (λ (g : Grant). g.line) two ∙ own.line));
     }
   where
@@ -252,7 +259,8 @@ unfolding is_there is_met
 there-parts p a c need e =
     let parts = and_parts (holds_line p a need.line (c + 1) && (not need.alone || is_exclusive p a need.line (c + 1)))
     (has_arrived p a need.line (c + 1) c) e in
-    let met = and_parts (holds_line p a need.line (c + 1)) (not need.alone || is_exclusive p a need.line (c + 1)) parts.0 in
+    let met = and_parts (holds_line p a need.line (c + 1))
+    (not need.alone || is_exclusive p a need.line (c + 1)) parts.0 in
     (met.0, (λ alone. (let m = rw alone at met.1 in m)), parts.1)
 
 -- what is stored into is the line that comes, or is held alone and ready
@@ -327,7 +335,8 @@ met-arrival r a c line owns bytes v h some few view k comes arrival =
     record { place = before.place; idle_to = before.idle_to; finished = before.finished } in
     let steps = next-steps p a c logged.number logged.item there agent placed logged.completes.next logged.next in
     let needs = arrival-needs p a c line owns logged.item arrival logged.next comes in
-    let may : list_all (λ (step : Step). may_store there.lines step.access) (steps_of_item logged.number logged.item) ≡ true =
+    let may : list_all (λ (step : Step). may_store there.lines step.access)
+    (steps_of_item logged.number logged.item) ≡ true =
     steps-need (there_at p a c line) (may_store there.lines) logged.number logged.item (λ need access of met.
     may-there there.lines access (subst (λ l. is_held (states there.lines l) ≡ true) of.line
     (held-there p need told (view-held p need view) met))) needs in
@@ -349,7 +358,8 @@ met-arrival r a c line owns bytes v h some few view k comes arrival =
           (ap is_held (told line) ∙ at-line line (line_state_by v line));
       others = λ other apart. stored other ∙ other-state p view logged needs told none other apart;
       in_sets = in_sets-after (hand_of there) (next_steps there)
-          (in_sets-filled v.lines line Modified bytes (subst (λ n. 0 < n) (sym view.agent.cache) some) view.lines.in_sets);
+          (in_sets-filled v.lines line Modified bytes (subst (λ n. 0 < n) (sym view.agent.cache) some)
+          view.lines.in_sets);
       buffers = refl;
       outs = refl;
     }
@@ -434,7 +444,8 @@ landed-view r a c number s out v met h ends numbered view k has =
             (λ (same : other ≡ line).
             rw (eq-eqb other line same)
             (view.lines.states line ∙ sym (line-stays r a c line h k)
-            ∙ ap (λ l. state_told (holds_line p a l (c + 1)) (is_exclusive p a l (c + 1)) (is_dirty_below p a l (c + 1)))
+            ∙ ap (λ l. state_told (holds_line p a l (c + 1)) (is_exclusive p a l (c + 1))
+            (is_dirty_below p a l (c + 1)))
             (sym same)))
             (λ (apart : other ≢ line). rw (ne_eqb other line apart) (has.others other apart))
             (cases_eq other line);
@@ -444,7 +455,8 @@ landed-view r a c number s out v met h ends numbered view k has =
             (λ (same : other ≡ line).
             let before : count_on line v.buffers.fills ≡ 1 =
             view.lines.fills line
-            ∙ ap one_if (ap (λ o. is_some_and o (λ grant. not (is_ended p c grant.first))) k.is_latest ∙ ap not k.unended) in
+            ∙ ap one_if (ap (λ o. is_some_and o (λ grant. not (is_ended p c grant.first))) k.is_latest
+            ∙ ap not k.unended) in
             let after : is_awaited p a line (c + 1) (c + 1) ≡ false =
             ap (λ o. is_some_and o (λ grant. not (is_ended p (c + 1) grant.first))) k.is_latest
             ∙ ap not (is_ended-more p c k.latest.first ∙ or_right (is_ended p c k.latest.first) _ k.ends) in
@@ -463,9 +475,15 @@ landed-view r a c number s out v met h ends numbered view k has =
 
 met-as : (v : AgentView) (c : ℕ) (out : OwnRequest) (bytes : List ℕ) (b : Bool) → is_arrival_by v c out ≡ b
     → met_by v c out bytes
-    ≡ (elim b [ true ↦ completed_by (with_bytes v out.request.line bytes) c | false ↦ with_bytes v out.request.line bytes ])
+    ≡ (elim b [
+      | true ↦ completed_by (with_bytes v out.request.line bytes) c
+      | false ↦ with_bytes v out.request.line bytes
+    ])
 met-as v c out bytes b e =
-    λ i. elim (e i) [ true ↦ completed_by (with_bytes v out.request.line bytes) c | false ↦ with_bytes v out.request.line bytes ]
+    λ i. elim (e i) [
+      | true ↦ completed_by (with_bytes v out.request.line bytes) c
+      | false ↦ with_bytes v out.request.line bytes
+    ]
 
 -- a line comes for a request that was granted
 pub arrived-view : (r : Run) (a c number : ℕ) (s : SnoopEnd) (grant : Grant) (bytes : List ℕ) (v : AgentView)

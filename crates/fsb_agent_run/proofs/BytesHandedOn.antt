@@ -1,12 +1,14 @@
 -- At the response of a request its giver hands on the bytes that it has for it; at any other response what it
 -- owes stays.
-use Rattle.std.proofs.Common.{ℕ, zero, suc, ◌+◌, ◌<◌, ◌≡◌, Bool, true, false, cond, not, ◌&&◌, ◌||◌, if◌then◌else◌, Option, Some, None, length, nat_eq, refl, sym, ap, subst, ◌∙◌, inl, inr, arith}
+use Rattle.std.proofs.Common.{ℕ, zero, suc, ◌+◌, ◌<◌, ◌≡◌, Bool, true, false, cond, not, ◌&&◌, ◌||◌, if◌then◌else◌}
+use Rattle.std.proofs.Common.{Option, Some, None, length, nat_eq, refl, sym, ap, subst, ◌∙◌, inl, inr, arith}
 use Rattle.std.specs.Prelude.{◌==◌, is_some}
 use Rattle.std.specs.Option.{option_map}
 use Rattle.std.proofs.lemmas.Bool.{both_ways, cases_eq, eq-eqb, eqb-true, false_from_ne_true, ne_eqb}
 use Rattle.fsb_count.specs.Clocks.{count_where}
 use Rattle.fsb_count.specs.Options.{is_at, is_some_and}
-use Rattle.fsb_count.proofs.Interface.{any_where-at, any_where-found, any_where-more, any_where-off, count_where-same, is_at-some}
+use Rattle.fsb_count.proofs.Interface.{any_where-at, any_where-found, any_where-more, any_where-off, count_where-same}
+use Rattle.fsb_count.proofs.Interface.{is_at-some}
 use Rattle.fsb_linebuf.specs.declared.entry.Push.{Push}
 use Rattle.fsb_linebuf.specs.Buffers.{is_push_for, push_for, pushes_without}
 use Rattle.fsb_timely.specs.Past.{Claim, Past}
@@ -21,7 +23,8 @@ use Rattle.fsb_agent_view.specs.AgentViews.{AgentView}
 use Rattle.fsb_agent_view.specs.Arriving.{hand_by, handed_on}
 use Rattle.fsb_agent_view.specs.Snooping.{owed_count}
 use Rattle.fsb_agent_view.proofs.Interface.{length-without-found}
-use Rattle.fsb_agent_run.specs.BytesOwed.{HasBytesOwed, claim_given_at, is_given_below, is_promised, is_pushed, owes_bytes_from}
+use Rattle.fsb_agent_run.specs.BytesOwed.{HasBytesOwed, claim_given_at, is_given_below, is_promised, is_pushed}
+use Rattle.fsb_agent_run.specs.BytesOwed.{owes_bytes_from}
 use Rattle.fsb_agent_run.proofs.BufferCounts.{push-there, push_count, push_count-without}
 use Rattle.fsb_agent_run.proofs.FillsTold.{promised_count}
 use Rattle.fsb_agent_run.proofs.GivenBytes.{given}

@@ -1,5 +1,7 @@
 -- The events of an agent at a clock lead from its view as the clock finds it to that of the next clock.
-use Rattle.std.proofs.Common.{ℕ, zero, suc, ◌+◌, ◌<◌, ◌≡◌, ◌⊎◌, Bool, true, false, ◌||◌, List, [], ◌∷◌, ◌++◌, Option, Some, None, fold, nat_eq, refl, sym, ap, subst, ◌∙◌, inl, inr, add-one, arith, append-nil, if◌then◌else◌}
+use Rattle.std.proofs.Common.{ℕ, zero, suc, ◌+◌, ◌<◌, ◌≡◌, ◌⊎◌, Bool, true, false, ◌||◌, List, [], ◌∷◌, ◌++◌, Option}
+use Rattle.std.proofs.Common.{Some, None, fold, nat_eq, refl, sym, ap, subst, ◌∙◌, inl, inr, add-one, arith, append-nil}
+use Rattle.std.proofs.Common.{if◌then◌else◌}
 use Rattle.std.specs.List.{flat_map, list_any}
 use Rattle.std.specs.Option.{option_map_or}
 use Rattle.std.proofs.lemmas.Bool.{cases_Bool, eq-eqb, eqb-true, both_ways, or_cases}
@@ -13,16 +15,21 @@ use Rattle.fsb_timely.specs.Scripts.{items_of}
 use Rattle.fsb_timely.specs.Wants.{owed, want_of}
 use Rattle.fsb_trace.specs.Outcome.{is_deferral}
 use Rattle.fsb_trace.specs.declared.outcome.Outcome.{Outcome}
-use Rattle.fsb_trace.specs.declared.outcome.Outcome.TheVariants.{Granted, Handed, Retried, Deferred, Written, Replied, Failed, Upgraded}
+use Rattle.fsb_trace.specs.declared.outcome.Outcome.TheVariants.{Granted, Handed, Retried, Deferred, Written, Replied}
+use Rattle.fsb_trace.specs.declared.outcome.Outcome.TheVariants.{Failed, Upgraded}
 use Rattle.fsb_coherent.specs.Awaits.{cancelled_in, responded_in, snoop_end_below}
 use Rattle.fsb_coherent.specs.Fitting.{fits_kind}
 use Rattle.fsb_tied.proofs.Interface.{begun-want, one-at-end}
 use Rattle.fsb_run_laws.specs.Reaches.{Reaches}
 use Rattle.fsb_run_laws.proofs.Interface.{replied-outstanding}
-use Rattle.fsb_agent_view.specs.AgentEvents.{AgentEvent, Arrived, Committed, GivenUp, HandedOn, Performed, Sent, UpgradeEnded, agent_after, first_view}
+use Rattle.fsb_agent_view.specs.AgentEvents.{AgentEvent, Arrived, Committed, GivenUp, HandedOn, Performed, Sent}
+use Rattle.fsb_agent_view.specs.AgentEvents.{UpgradeEnded, agent_after, first_view}
 use Rattle.fsb_agent_view.specs.AgentViews.{AgentView}
 use Rattle.fsb_agent_view.specs.Completing.{performed}
-use Rattle.fsb_agent_run.specs.AgentClocks.{cancelled_events, committed_events, end_events_of, ended_events, events_of_agent, events_of_agent_below, given_up_events, giver_of, handed_events, is_seen_shared, number_asked, own_end_events, replied_events, reply_end_events, sent_events, snoop_events_of}
+use Rattle.fsb_agent_run.specs.AgentClocks.{cancelled_events, committed_events, end_events_of, ended_events}
+use Rattle.fsb_agent_run.specs.AgentClocks.{events_of_agent, events_of_agent_below, given_up_events, giver_of}
+use Rattle.fsb_agent_run.specs.AgentClocks.{handed_events, is_seen_shared, number_asked, own_end_events, replied_events}
+use Rattle.fsb_agent_run.specs.AgentClocks.{reply_end_events, sent_events, snoop_events_of}
 use Rattle.fsb_agent_run.specs.Ending.{EndsFor, number_claimed, number_left, number_replied}
 use Rattle.fsb_agent_run.specs.Stages.{IsViewAfterHit, IsViewAfterSent, IsViewAfterSnoop, IsViewBeforeSnoop, IsViewOf}
 use Rattle.fsb_agent_run.proofs.Among.{Among}
@@ -33,14 +40,16 @@ use Rattle.fsb_agent_run.proofs.FirstViews.{first-of}
 use Rattle.fsb_agent_run.proofs.HitViews.{handed-view, performed-view}
 use Rattle.fsb_agent_run.proofs.OtherSnoops.{asked-number, other-claimed, other-replied, own-replied, quiet-view}
 use Rattle.fsb_agent_run.proofs.OwedSteps.{owed-there, owing-is, reaches-less}
-use Rattle.fsb_agent_run.proofs.OwnSnoops.{IsSettledAs, getting-granted, getting-handed, getting-makes, never-fits, own-claimed, settled-as}
+use Rattle.fsb_agent_run.proofs.OwnSnoops.{IsSettledAs, getting-granted, getting-handed, getting-makes, never-fits}
+use Rattle.fsb_agent_run.proofs.OwnSnoops.{own-claimed, settled-as}
 use Rattle.fsb_agent_run.proofs.SentViews.{cancelled-view, sent-view, uncancelled-view, unsent-view}
 
 -- the agent after some events
 abbrev pub after : AgentView → List AgentEvent → AgentView
 after v events = fold agent_after v events
 
-pub handed-all : (p : Past) (a c : ℕ) (v : AgentView) → IsViewOf p a c v → IsViewOf p a c (after v (handed_events p a c))
+pub handed-all : (p : Past) (a c : ℕ) (v : AgentView) → IsViewOf p a c v
+    → IsViewOf p a c (after v (handed_events p a c))
 unfolding handed_events
 handed-all p a c v view = by (responded_in p c)
   where
@@ -199,7 +208,8 @@ snooped-all r a c v h some view = by (snooped_at (past_of r) c) refl
     claimed s there (Some claim) claims =
         let p = past_of r in
         let k = settled-as r c s claim h there claims in
-        subst (λ events. IsViewAfterSnoop p a c (after v events)) (sym (claimed-events p a c s claim k.request claims k.want))
+        subst (λ events. IsViewAfterSnoop p a c (after v events))
+        (sym (claimed-events p a c s claim k.request claims k.want))
         (own s claim k.request there claims k.want (nat_eq claim.agent a) refl)
     claimed s there None none = granted s there none s.grant refl
 
@@ -333,10 +343,12 @@ own-end-all r a c q bytes s claim v h some few one snooped claims mine view = by
           | Upgraded ↦ UpgradeEnded c s.first ∷ []
         ]))
     by Granted e =
-        let makes = getting-makes r below.0 s claim settled Granted e (getting-granted settled.request.kind (fits Granted e)) in
+        let makes = getting-makes r below.0 s claim settled Granted e
+        (getting-granted settled.request.kind (fits Granted e)) in
         line-view r a c s.first s makes.0 (bytes s.first) v h some few (ending (ap is_deferral e)) makes.1 view
     by Handed e =
-        let makes = getting-makes r below.0 s claim settled Handed e (getting-handed settled.request.kind (fits Handed e)) in
+        let makes = getting-makes r below.0 s claim settled Handed e
+        (getting-handed settled.request.kind (fits Handed e)) in
         line-view r a c s.first s makes.0 (bytes s.first) v h some few (ending (ap is_deferral e)) makes.1 view
     by Retried e = given-up-view r a c s.first s v h few (ending (ap is_deferral e)) (inl e) view
     by Written e = given-up-view r a c s.first s v h few (ending (ap is_deferral e)) (inr e) view
@@ -352,7 +364,8 @@ own-end-all r a c q bytes s claim v h some few one snooped claims mine view = by
 -- what ends at the clock, for the agent
 pub ended-all : (r : Run) (a c : ℕ) (bytes : ℕ → List ℕ) (v : AgentView) → Reaches r (c + 1) → 0 < r.plan.cache → a < 4
     → IsViewAfterSnoop (past_of r) a c v
-    → IsViewOf (past_of r) a (c + 1) (after v (flat_map (end_events_of (past_of r) a c bytes) (ended_requests (past_of r) c)))
+    → IsViewOf (past_of r) a (c + 1)
+    (after v (flat_map (end_events_of (past_of r) a c bytes) (ended_requests (past_of r) c)))
 ended-all r a c bytes v h some few view = by (ended_requests (past_of r) c) refl
   where
     Goal : List AgentEvent → Type 0
@@ -407,7 +420,8 @@ ended-all r a c bytes v h some few view = by (ended_requests (past_of r) c) refl
           sym (ap (number_left (past_of r) a c) same) ∙ k.1) view)
     ]
     known q s one snooped None none (Some grant) makes =
-        reply q s grant one snooped none makes (nat_eq grant.agent a) refl (number_asked (past_of r) a c grant.line) refl
+        reply q s grant one snooped none makes (nat_eq grant.agent a) refl
+        (number_asked (past_of r) a c grant.line) refl
     known q s one snooped None none None makes =
         let k = none-ended (past_of r) a c bytes s none makes in
         subst Goal (sym k.0)
@@ -424,7 +438,8 @@ ended-all r a c bytes v h some few view = by (ended_requests (past_of r) c) refl
         subst Goal (sym (ended-as (past_of r) a c q bytes s e)) (known q s one e s.claim refl s.grant refl)
 
     by : (qs : List ℕ) → ended_requests (past_of r) c ≡ qs → Goal (flat_map (end_events_of (past_of r) a c bytes) qs)
-    by [] e = quiet-end-view r a c v h few (record { none = λ first s ends f. absurd (none-ends (past_of r) c first e ends) }) view
+    by [] e = quiet-end-view r a c v h few
+        (record { none = λ first s ends f. absurd (none-ends (past_of r) c first e ends) }) view
     by (q ∷ []) e =
         subst Goal (sym (append-nil (end_events_of (past_of r) a c bytes q)))
         (single q e (snoop_end_below (past_of r) (c + 1) q) refl)
@@ -469,7 +484,8 @@ clocks-view r a (suc n) bytes h some few =
     let more : Reaches r (n + 1) = record { timely = h.timely; bounds = h.bounds; long = omega arith } in
     let before = clocks-view r a n bytes (reaches-less r n (n + 1) (omega arith) more) some few in
     let first = first_view a (items_of p a) r.plan.cache r.plan.ahead r.plan.profile in
-    let next = clock-view r a n bytes (fold agent_after first (events_of_agent_below p a n bytes)) more some few before in
+    let next = clock-view r a n bytes (fold agent_after first (events_of_agent_below p a n bytes)) more some few
+    before in
     subst (λ m. IsViewOf p a m (fold agent_after first (events_of_agent_below p a (suc n) bytes))) (add-one n)
     (subst (IsViewOf p a (n + 1))
     (sym (fold-append agent_after first (events_of_agent_below p a n bytes) (events_of_agent p a n bytes))) next)

@@ -1,5 +1,6 @@
 -- The events by which a request of an agent ends.
-use Rattle.std.proofs.Common.{ℕ, ◌+◌, ◌<◌, ◌≡◌, ◌≢◌, ◌⊎◌, false, ◌&&◌, List, Option, Some, None, is_some, refl, sym, ap, subst, ◌∙◌, inl, inr, arith}
+use Rattle.std.proofs.Common.{ℕ, ◌+◌, ◌<◌, ◌≡◌, ◌≢◌, ◌⊎◌, false, ◌&&◌, List, Option, Some, None, is_some, refl, sym, ap}
+use Rattle.std.proofs.Common.{subst, ◌∙◌, inl, inr, arith}
 use Rattle.std.specs.Option.{option_map_or}
 use Rattle.fsb_encode.specs.declared.request.Kind.{Kind}
 use Rattle.fsb_encode.specs.declared.request.Kind.TheVariants as kinds
@@ -42,7 +43,8 @@ pub line-view : (r : Run) (a c number : ℕ) (s : SnoopEnd) (grant : Grant) (byt
     → IsViewAfterSnoop (past_of r) a c v → IsViewOf (past_of r) a (c + 1) (line_arrived v c number bytes)
 line-view r a c number s grant bytes v h some few ends makes view =
     let k = ended-here r a c number s v h ends view in
-    subst (IsViewOf (past_of r) a (c + 1)) (sym (ap (λ o. option_map_or (λ out. arrived_for v c out bytes) o v) k.found))
+    subst (IsViewOf (past_of r) a (c + 1))
+    (sym (ap (λ o. option_map_or (λ out. arrived_for v c out bytes) o v) k.found))
     (arrived-view r a c number s grant bytes v h some few ends makes view k)
 
 -- the request is the agent's own, where the outcome is not that of a reply
@@ -99,7 +101,8 @@ upgrade-view r a c number s v h some few ends upgraded view =
     subst (IsViewOf p a (c + 1)) (sym (ap (λ o. option_map_or (ended_for v c) o v) k.found))
     (kept-cases r a c number s v k.out k.out.kept refl s.grant refl kept
     (λ bytes grant makes. arrived-view r a c number s grant bytes v h some few ends makes view k)
-    (λ none. subst (λ n. IsViewOf p a (c + 1) (given_up v n)) (sym k.numbered) (left-view r a c number s v h few ends none view)))
+    (λ none. subst (λ n. IsViewOf p a (c + 1) (given_up v n)) (sym k.numbered)
+    (left-view r a c number s v h few ends none view)))
 
 -- a request was retried, or a write-back has ended
 written-makes : (kind : Kind) → kind ≡ kinds.WriteBack → makes_grant kind Written ≡ false
@@ -150,5 +153,6 @@ pub arrives-by : (r : Run) (a c number : ℕ) (s : SnoopEnd) (grant : Grant) (ou
     → Reaches r (c + 1) → EndsFor (past_of r) a c number s → s.grant ≡ Some grant → IsViewAfterSnoop (past_of r) a c v
     → request_numbered number v.outs ≡ Some out → is_arrival_by v c out ≡ is_arrival (past_of r) a c
 arrives-by r a c number s grant out v h ends makes view found =
-    arrival-by (past_of r) a c (λ line. is_dirty_snooped (past_of r) a line c) v out view.agent view.placed.item view.lines
+    arrival-by (past_of r) a c (λ line. is_dirty_snooped (past_of r) a line c) v out view.agent view.placed.item
+    view.lines
     (comes-to r a c number s grant out v h ends makes view found)

@@ -1,5 +1,6 @@
 -- What ends for an agent at a clock: which request of its is not outstanding any more, and what comes.
-use Rattle.std.proofs.Common.{ℕ, ◌+◌, ◌<◌, ◌≤◌, ◌≡◌, ◌⊎◌, Bool, true, false, not, ◌&&◌, ◌||◌, ◌++◌, length, Option, Some, None, nat_eq, refl, sym, ap, subst, ◌∙◌, inl, inr, arith, if◌then◌else◌}
+use Rattle.std.proofs.Common.{ℕ, ◌+◌, ◌<◌, ◌≤◌, ◌≡◌, ◌⊎◌, Bool, true, false, not, ◌&&◌, ◌||◌, ◌++◌, length, Option}
+use Rattle.std.proofs.Common.{Some, None, nat_eq, refl, sym, ap, subst, ◌∙◌, inl, inr, arith, if◌then◌else◌}
 use Rattle.std.specs.List.{filter}
 use Rattle.std.specs.Option.{option_map}
 use Rattle.std.proofs.lemmas.Bool.{and_from, eq-eqb, eqb-true, false_from_ne_true, ne_eqb, or_cases, or_left, or_right}
@@ -20,10 +21,12 @@ use Rattle.fsb_timely.specs.Wants.{owed, want_of}
 use Rattle.fsb_trace.specs.Outcome.{is_deferral}
 use Rattle.fsb_coherent.specs.Awaits.{cancelled_in, snoop_end_below}
 use Rattle.fsb_lawful.proofs.Interface.{and-then}
-use Rattle.fsb_tied.proofs.Interface.{answers-in-order, begun-want, cancels, ended-number, grant-first, one-ends, orderly-whole, same-both, snooped-by}
+use Rattle.fsb_tied.proofs.Interface.{answers-in-order, begun-want, cancels, ended-number, grant-first, one-ends}
+use Rattle.fsb_tied.proofs.Interface.{orderly-whole, same-both, snooped-by}
 use Rattle.fsb_timely.proofs.Interface.{tied-snoop}
 use Rattle.fsb_run_laws.specs.Reaches.{Reaches}
-use Rattle.fsb_run_laws.proofs.Interface.{cancelled-last, ending-serves, ends-last, last-outstanding, last-says, snooped-outstanding}
+use Rattle.fsb_run_laws.proofs.Interface.{cancelled-last, ending-serves, ends-last, last-outstanding, last-says}
+use Rattle.fsb_run_laws.proofs.Interface.{snooped-outstanding}
 use Rattle.fsb_agent_view.specs.declared.want.OwnRequest.{OwnRequest}
 use Rattle.fsb_agent_view.specs.AgentViews.{AgentView}
 use Rattle.fsb_agent_view.specs.OwnRequests.{request_numbered}
@@ -32,7 +35,8 @@ use Rattle.fsb_agent_run.specs.AgentClocks.{number_asked}
 use Rattle.fsb_agent_run.specs.Ending.{EndsFor, NothingEndsFor, number_claimed, number_left, number_replied}
 use Rattle.fsb_agent_run.specs.RunViews.{HasRequestsOf, IsComing, owing_by}
 use Rattle.fsb_agent_run.specs.Stages.{owings_begun, is_uncancelled, owed_sent, owed_through}
-use Rattle.fsb_agent_run.proofs.Among.{Among, among-found, among-left, filter-all, filter-among, filter-same, filter-two}
+use Rattle.fsb_agent_run.proofs.Among.{Among, among-found, among-left, filter-all, filter-among, filter-same}
+use Rattle.fsb_agent_run.proofs.Among.{filter-two}
 use Rattle.fsb_agent_run.proofs.OtherSnoops.{asked-number, served-out}
 use Rattle.fsb_agent_run.proofs.OutLists.{find-number, out-there, wanted-of}
 use Rattle.fsb_agent_run.proofs.OwedApart.{one-line, owed-apart}
@@ -108,7 +112,8 @@ left-says p a c number s e = by s.claim refl
         (let f = rw (claims, number_left) at e in f))
     by None none =
         let f = rw (none, number_left) at e in
-        let k = and-then (λ (grant : Grant). if nat_eq grant.agent a then number_asked p a c grant.line else None) s.grant
+        let k = and-then (λ (grant : Grant). if nat_eq grant.agent a then number_asked p a c grant.line
+        else None) s.grant
         number f in
         inr (reply k.0 none k.1 (nat_eq k.0.agent a) refl k.2)
 
@@ -127,7 +132,8 @@ pub asked-there : (p : Past) (a c line : ℕ) (owing : Owing) → Among owing (o
     → (number : ℕ) × (number_asked p a c line ≡ Some number)
 unfolding number_asked
 asked-there p a c line owing there on =
-    let k = among-found (λ (o : Owing). nat_eq o.claim.line line) owing (owed p a c) there (eq-eqb owing.claim.line line on) in
+    let k = among-found (λ (o : Owing). nat_eq o.claim.line line) owing (owed p a c) there
+    (eq-eqb owing.claim.line line on) in
     (k.0.claim.first, ap (option_map (λ (o : Owing). o.claim.first)) k.1)
 
 -- the number that leaves is that of a request that the agent owes
@@ -224,7 +230,8 @@ last-by-left r a c number s owing h ends there last =
                 let both : Some leaves.end.first ≡ Some number = sym left ∙ ap (number_left p a c) end ∙ ends.left in
                 sym own.first ∙ (let same : leaves.end.first ≡ number = cc in same)
             | inr reply ↦
-                let left = replied-left p a c leaves.end reply.grant reply.unclaimed reply.grants (reply.agent ∙ k.agent) in
+                let left = replied-left p a c leaves.end reply.grant reply.unclaimed reply.grants (reply.agent
+                ∙ k.agent) in
                 let asked : number_asked p a c reply.grant.line ≡ Some number =
                 sym left ∙ ap (number_left p a c) end ∙ ends.left in
                 let other = asked-number p a c reply.grant.line number asked in
@@ -314,7 +321,8 @@ owed-kept r a c h nothing =
                 let left = own-left p a c leaves.end owing.claim own.claimed k.agent own.kept in
                 absurd (let no : ⊥ = cc in no)
             | inr reply ↦
-                let left = replied-left p a c leaves.end reply.grant reply.unclaimed reply.grants (reply.agent ∙ k.agent) in
+                let left = replied-left p a c leaves.end reply.grant reply.unclaimed reply.grants (reply.agent
+                ∙ k.agent) in
                 let asked = asked-there p a c reply.grant.line owing there (sym reply.line) in
                 let number = asked.1 in
                 absurd (let no : ⊥ = cc in no)
@@ -342,7 +350,8 @@ ended-out r a c number v h last requests =
     let early = last.early in
     let kept : is_at (cancelled_in p c) last.owing.claim.first ≡ false =
     false_from_ne_true (is_at (cancelled_in p c) last.owing.claim.first) (λ t.
-    let at = cancels r c number (omega arith) (is_at-some (cancelled_in p c) last.owing.claim.first t ∙ ap Some last.first) in
+    let at = cancels r c number (omega arith) (is_at-some (cancelled_in p c) last.owing.claim.first t
+    ∙ ap Some last.first) in
     let late = at.0 in
     omega arith) in
     let through : Among last.owing (owed_through p a c) = filter-among (is_uncancelled p c) last.owing (owed_sent p a c)
@@ -405,7 +414,8 @@ ended-grant r a c number s grant v h ends makes requests k =
       | inr reply ↦
           let granted = reply.grants in
           let same : reply.grant ≡ grant = cc in
-          let serves = (ending-serves r c ends.first s reply.grant h ends.ends ends.snooped reply.unclaimed reply.grants).0 in
+          let serves =
+          (ending-serves r c ends.first s reply.grant h ends.ends ends.snooped reply.unclaimed reply.grants).0 in
           let out = served-out r a c (c + 1) number reply.grant v h serves reply.agent reply.asked requests in
           let one = out.found in
           let two = k.found in

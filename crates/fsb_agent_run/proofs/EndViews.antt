@@ -1,5 +1,6 @@
 -- From behind the snoop end of a clock to the next clock, where no line comes to the agent.
-use Rattle.std.proofs.Common.{ℕ, ◌+◌, ◌<◌, ◌≡◌, Bool, true, false, not, ◌&&◌, ◌||◌, map, Option, Some, None, nat_eq, refl, sym, ap, subst, ◌∙◌, inl, inr, arith}
+use Rattle.std.proofs.Common.{ℕ, ◌+◌, ◌<◌, ◌≡◌, Bool, true, false, not, ◌&&◌, ◌||◌, map, Option, Some, None, nat_eq}
+use Rattle.std.proofs.Common.{refl, sym, ap, subst, ◌∙◌, inl, inr, arith}
 use Rattle.std.specs.List.{filter, list_any}
 use Rattle.std.specs.Option.{option_and_then}
 use Rattle.std.proofs.lemmas.Bool.{and_from, and_parts, both_ways, cases_Bool, eq-eqb, eqb-true, false_from_ne_true}
@@ -9,7 +10,8 @@ use Rattle.fsb_access.specs.Access.{accessed_line}
 use Rattle.fsb_count.specs.Options.{is_some_and}
 use Rattle.fsb_timely.specs.Past.{Claim, Grant, Past, SnoopEnd}
 use Rattle.fsb_timely.specs.Completions.{completes_by, is_arrival, is_brought}
-use Rattle.fsb_timely.specs.Grants.{ended_requests, grant_at, has_arrived, holds_line, is_end_at, is_ended, is_exclusive, is_granted, latest_grant}
+use Rattle.fsb_timely.specs.Grants.{ended_requests, grant_at, has_arrived, holds_line, is_end_at, is_ended}
+use Rattle.fsb_timely.specs.Grants.{is_exclusive, is_granted, latest_grant}
 use Rattle.fsb_timely.specs.Hits.{is_hit, is_store_on}
 use Rattle.fsb_timely.specs.Runs.{Run, past_of}
 use Rattle.fsb_timely.specs.Scripts.{Need, completes_at, is_done_at, is_idling, is_load, needs_of, next_item}
@@ -17,7 +19,8 @@ use Rattle.fsb_timely.specs.Wants.{owed}
 use Rattle.fsb_timely.proofs.Interface.{is_ended-more}
 use Rattle.fsb_trace.specs.Outcome.{is_deferral}
 use Rattle.fsb_trace.specs.declared.outcome.Outcome.{Outcome}
-use Rattle.fsb_trace.specs.declared.outcome.Outcome.TheVariants.{Granted, Handed, Retried, Deferred, Written, Replied, Failed, Upgraded}
+use Rattle.fsb_trace.specs.declared.outcome.Outcome.TheVariants.{Granted, Handed, Retried, Deferred, Written, Replied}
+use Rattle.fsb_trace.specs.declared.outcome.Outcome.TheVariants.{Failed, Upgraded}
 use Rattle.fsb_coherent.specs.Awaits.{snoop_end_below}
 use Rattle.fsb_coherent.specs.Fitting.{fits_kind}
 use Rattle.fsb_coherent.specs.Relation.{is_dirty_below}
@@ -29,10 +32,12 @@ use Rattle.fsb_run_laws.proofs.Interface.{brought-told, ending-serves, snoop-bel
 use Rattle.fsb_agent_view.specs.AgentViews.{AgentView}
 use Rattle.fsb_agent_view.specs.Arriving.{given_up}
 use Rattle.fsb_agent_run.specs.Ending.{EndsFor, NothingEndsFor}
-use Rattle.fsb_agent_run.specs.RunViews.{HasLinesOf, HasRequestsOf, IsAgentOf, IsPlacedIn, is_awaited, one_if, owing_by, state_told}
+use Rattle.fsb_agent_run.specs.RunViews.{HasLinesOf, HasRequestsOf, IsAgentOf, IsPlacedIn, is_awaited, one_if, owing_by}
+use Rattle.fsb_agent_run.specs.RunViews.{state_told}
 use Rattle.fsb_agent_run.specs.Stages.{IsPlacedThrough, IsViewAfterSnoop, IsViewOf, is_dirty_snooped, owed_through}
 use Rattle.fsb_agent_run.proofs.Among.{Among, among-any, any-among}
-use Rattle.fsb_agent_run.proofs.EndFacts.{asked-there, below-says, first-of-grant, grant-there, last-is, made-by, one-ended, own-left, owed-kept, owed-left, replied-left}
+use Rattle.fsb_agent_run.proofs.EndFacts.{asked-there, below-says, first-of-grant, grant-there, last-is, made-by}
+use Rattle.fsb_agent_run.proofs.EndFacts.{one-ended, own-left, owed-kept, owed-left, replied-left}
 use Rattle.fsb_agent_run.proofs.GrantsAwaited.{latest-says}
 use Rattle.fsb_agent_run.proofs.HitViews.{never-with, nothing}
 use Rattle.fsb_agent_run.proofs.ItemsCompleted.{completes-not}
@@ -58,7 +63,8 @@ unbrought r a c need h no_grant =
     let p = past_of r in
     brought-told r a c need h ∙ false_from_ne_true (list_any (brings p a c need) (ended_requests p c)) (λ t.
     let q = any-among (brings p a c need) (ended_requests p c) t in
-    let g = some-and (option_and_then (λ (x : SnoopEnd). x.grant) (snoop_end_below p (c + 1) q.0)) (is_bringing a need) q.2 in
+    let g = some-and (option_and_then (λ (x : SnoopEnd). x.grant) (snoop_end_below p (c + 1) q.0))
+    (is_bringing a need) q.2 in
     let s = and-then (λ (x : SnoopEnd). x.grant) (snoop_end_below p (c + 1) q.0) g.0 g.1 in
     let parts = and_parts (nat_eq g.0.agent a && nat_eq g.0.line need.line) (g.0.owns || not need.alone) g.2 in
     let mine = and_parts (nat_eq g.0.agent a) (nat_eq g.0.line need.line) parts.0 in
@@ -72,7 +78,8 @@ no-arrival r a c h no_grant = false_from_ne_true (is_arrival (past_of r) a c) (�
     let p = past_of r in
     let parts = and_parts (not (is_idling p a c) && not (is_hit p a c))
     (is_some_and (next_item p a c) (λ item. list_any (completes_by p a c (needs_of item)) (needs_of item))) t in
-    let item = some-and (next_item p a c) (λ (item : Item). list_any (completes_by p a c (needs_of item)) (needs_of item))
+    let item = some-and (next_item p a c)
+    (λ (item : Item). list_any (completes_by p a c (needs_of item)) (needs_of item))
     parts.1 in
     let need = any-among (completes_by p a c (needs_of item.0)) (needs_of item.0) item.2 in
     let brought = and_parts (is_brought p a c need.0) _ need.2 in
@@ -136,7 +143,8 @@ unstored p a line c none = false_from_ne_true (any_stored p a line c) (λ t.
     let k = any-among (λ done. is_store_on a line done && nat_eq done.clock c) p.log t in
     let done : Done = k.0 in
     let parts = and_parts (is_store_on a line done) (nat_eq done.clock c) k.2 in
-    let store = and_parts (nat_eq done.agent a && not (is_load done.access)) (nat_eq (accessed_line done.access) line) parts.0 in
+    let store = and_parts (nat_eq done.agent a && not (is_load done.access))
+    (nat_eq (accessed_line done.access) line) parts.0 in
     let mine = and_parts (nat_eq done.agent a) (not (is_load done.access)) store.0 in
     both_ways (list_any (is_done_at a c) p.log) none
     (among-any (is_done_at a c) done p.log k.1 (and_from (nat_eq done.agent a) (nat_eq done.clock c) mine.0 parts.1)))
@@ -201,7 +209,8 @@ is-deferred Failed e = absurd (let no : ⊥ = cc in no)
 is-deferred Upgraded e = absurd (let no : ⊥ = cc in no)
 
 -- where nothing ends for the agent no line comes to it
-pub nothing-granted : (r : Run) (a c : ℕ) → Reaches r (c + 1) → NothingEndsFor (past_of r) a c → NoGrantEnds (past_of r) a c
+pub nothing-granted : (r : Run) (a c : ℕ) → Reaches r (c + 1) → NothingEndsFor (past_of r) a c
+    → NoGrantEnds (past_of r) a c
 nothing-granted r a c h quiet = record {
   none = λ first s grant ends snooped makes mine. by first s grant ends snooped makes mine s.claim refl;
 }
@@ -222,7 +231,8 @@ nothing-granted r a c h quiet = record {
           | inr kept ↦ let left = own-left p a c s claim claims own kept in cc
           | inl deferred ↦
               let is = is-deferred s.outcome deferred in
-              let i = idle-deferred settled.request.kind (ap (fits_kind settled.request.kind) (sym is) ∙ settled.fits) in
+              let i = idle-deferred settled.request.kind (ap (fits_kind settled.request.kind) (sym is)
+              ∙ settled.fits) in
               let nothing = unmade r below.0 s claim settled Deferred is i.makes i.plain in
               cc
         ]

@@ -1,5 +1,6 @@
 -- The entries of a view's hit and arrival log the accesses that the run completes for its agent.
-use Rattle.std.proofs.Common.{ℕ, ◌+◌, ◌≡◌, Bool, true, false, List, [], ◌∷◌, map, length, Option, Some, None, is_some, nat_eq, slice_get, refl, sym, ap, subst, ◌∙◌}
+use Rattle.std.proofs.Common.{ℕ, ◌+◌, ◌≡◌, Bool, true, false, List, [], ◌∷◌, map, length, Option, Some, None, is_some}
+use Rattle.std.proofs.Common.{nat_eq, slice_get, refl, sym, ap, subst, ◌∙◌}
 use Rattle.std.specs.List.{list_all}
 use Rattle.std.specs.Option.{option_and_then, option_map_or}
 use Rattle.std.proofs.lemmas.Bool.{and_from, eq-eqb}
@@ -16,8 +17,10 @@ use Rattle.fsb_coherent.specs.Relation.{is_dirty_below}
 use Rattle.fsb_run_laws.specs.Reaches.{Reaches}
 use Rattle.fsb_agent_view.specs.declared.want.OwnRequest.{OwnRequest}
 use Rattle.fsb_agent_view.specs.AgentViews.{AgentView}
-use Rattle.fsb_agent_view.specs.Arriving.{arrived_entries, ended_entries_for, is_arrival_by, met_entries, upgrade_entries, with_bytes}
-use Rattle.fsb_agent_view.specs.Completing.{completed_entries, hand_of, is_hit_by, next_steps, performed_entries, steps_at}
+use Rattle.fsb_agent_view.specs.Arriving.{arrived_entries, ended_entries_for, is_arrival_by, met_entries}
+use Rattle.fsb_agent_view.specs.Arriving.{upgrade_entries, with_bytes}
+use Rattle.fsb_agent_view.specs.Completing.{completed_entries, hand_of, is_hit_by, next_steps, performed_entries}
+use Rattle.fsb_agent_view.specs.Completing.{steps_at}
 use Rattle.fsb_agent_view.specs.Serving.{AtHand, entries_at_hand, hand_after}
 use Rattle.fsb_agent_run.specs.Ending.{EndsFor}
 use Rattle.fsb_agent_run.specs.EntriesMade.{LogsAccesses, logged_access}
@@ -61,9 +64,11 @@ unfolding next_accesses next_item
 steps-next p a c = by (next_number p a c)
   where
     by : (o : Option ℕ) → map (of_agent a) (steps_at (items_of p a) (place_of (items_of p a) o))
-        ≡ option_map_or (λ n. option_map_or (completed_of_item a n) (option_and_then (slice_get (items_of p a)) o) []) o []
+        ≡ option_map_or
+        (λ n. option_map_or (completed_of_item a n) (option_and_then (slice_get (items_of p a)) o) []) o []
     by None =
-        ap (λ o. map (of_agent a) (option_map_or (steps_of_item (length (items_of p a))) o [])) (item-at (items_of p a) None)
+        ap (λ o. map (of_agent a) (option_map_or (steps_of_item (length (items_of p a))) o []))
+        (item-at (items_of p a) None)
     by (Some n) = steps-of a n (slice_get (items_of p a) n)
 
 -- so the entries of a record's next item log them

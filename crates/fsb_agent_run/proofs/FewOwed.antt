@@ -1,10 +1,13 @@
 -- A request that has its snoop end, and no response yet, is in flight: so there are eight of them at most.
-use Rattle.std.proofs.Common.{ℕ, zero, suc, ◌+◌, ◌<◌, ◌≤◌, ◌≡◌, Bool, true, false, not, ◌&&◌, Some, length, refl, sym, ap, subst, ◌∙◌, inl, inr, arith}
+use Rattle.std.proofs.Common.{ℕ, zero, suc, ◌+◌, ◌<◌, ◌≤◌, ◌≡◌, Bool, true, false, not, ◌&&◌, Some, length, refl, sym}
+use Rattle.std.proofs.Common.{ap, subst, ◌∙◌, inl, inr, arith}
 use Rattle.std.specs.Option.{option_map_or}
-use Rattle.std.proofs.lemmas.Bool.{and_parts, both_ways, cases_Bool, cases_eq, cases_lt, false_from_ne_true, le-ltb, lt-ltb, ltb-true, not-true}
+use Rattle.std.proofs.lemmas.Bool.{and_parts, both_ways, cases_Bool, cases_eq, cases_lt, false_from_ne_true, le-ltb}
+use Rattle.std.proofs.lemmas.Bool.{lt-ltb, ltb-true, not-true}
 use Rattle.fsb_count.specs.Clocks.{count_where}
 use Rattle.fsb_count.specs.Options.{is_at, is_before, is_some_and}
-use Rattle.fsb_count.proofs.Interface.{any_where-at, any_where-found, any_where-none, any_where-off, count_where-above, count_where-passed, is_at-from, is_before-parts, length-all_where}
+use Rattle.fsb_count.proofs.Interface.{any_where-at, any_where-found, any_where-none, any_where-off, count_where-above}
+use Rattle.fsb_count.proofs.Interface.{count_where-passed, is_at-from, is_before-parts, length-all_where}
 use Rattle.fsb_signal.specs.declared.lines.TheConstants.Lines.{ADS, AERR, BNR}
 use Rattle.fsb_signal.specs.Samples.{line_at}
 use Rattle.fsb_trace.specs.At.{Trace, line_back}
@@ -12,11 +15,13 @@ use Rattle.fsb_trace.specs.Flight.{has_ended, in_flight, is_dropped, is_in_fligh
 use Rattle.fsb_trace.specs.Requests.{is_cancelled, is_live, live_clock_of, live_number_of}
 use Rattle.fsb_trace.specs.Response.{end_of}
 use Rattle.fsb_trace.specs.Snoop.{snoop_end_of}
-use Rattle.fsb_trace.proofs.Interface.{line_at-agree, live_clock_of-number, live_clock_of-rises, snoop_end_of-clock, snoop_end_of-rises}
+use Rattle.fsb_trace.proofs.Interface.{line_at-agree, live_clock_of-number, live_clock_of-rises, snoop_end_of-clock}
+use Rattle.fsb_trace.proofs.Interface.{snoop_end_of-rises}
 use Rattle.fsb_timely.specs.Grants.{is_end_at, is_ended, snooped_at}
 use Rattle.fsb_timely.specs.Past.{Claim, Past, SnoopEnd}
 use Rattle.fsb_timely.specs.Runs.{Run, past_of, past_to, run_to}
-use Rattle.fsb_timely.specs.Starts.{drives_ads, drives_pair, has_free_winner, has_room, is_spaced, may_begin, starts_requests}
+use Rattle.fsb_timely.specs.Starts.{drives_ads, drives_pair, has_free_winner, has_room, is_spaced, may_begin}
+use Rattle.fsb_timely.specs.Starts.{starts_requests}
 use Rattle.fsb_timely.specs.Timely.{Timely, holds_at, holds_in}
 use Rattle.fsb_timely.proofs.Interface.{tied-snoop}
 use Rattle.fsb_lawful.specs.Beginning.{KeepsBounds}

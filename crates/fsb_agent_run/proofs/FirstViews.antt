@@ -1,5 +1,6 @@
 -- The view of an agent before any event is that of the run at its first clock.
-use Rattle.std.proofs.Common.{ℕ, zero, suc, ◌+◌, ◌≡◌, Bool, true, false, not, ◌&&◌, List, [], ◌∷◌, Option, Some, None, replicate, get_or, nat_eq, nat_lt, ◌%◌, length, refl, sym, ap, ◌∙◌, arith}
+use Rattle.std.proofs.Common.{ℕ, zero, suc, ◌+◌, ◌≡◌, Bool, true, false, not, ◌&&◌, List, [], ◌∷◌, Option, Some, None}
+use Rattle.std.proofs.Common.{replicate, get_or, nat_eq, nat_lt, ◌%◌, length, refl, sym, ap, ◌∙◌, arith}
 use Rattle.std.specs.List.{list_any, slice_get}
 use Rattle.std.specs.Option.{option_map, option_map_or}
 use Rattle.std.proofs.lemmas.Bool.{and_right, le-ltb}
@@ -12,7 +13,8 @@ use Rattle.fsb_cache.specs.Sets.{held_at, states}
 use Rattle.fsb_line.specs.declared.state.Mesi.TheVariants.{Invalid}
 use Rattle.fsb_timely.specs.Past.{Past}
 use Rattle.fsb_timely.specs.Grants.{holds_line, is_exclusive, latest_grant}
-use Rattle.fsb_timely.specs.Scripts.{idle_clocks, idle_start, is_done_by, is_idle, is_logged, is_to_do, items_of, last_done, next_number, number_after}
+use Rattle.fsb_timely.specs.Scripts.{idle_clocks, idle_start, is_done_by, is_idle, is_logged, is_to_do, items_of}
+use Rattle.fsb_timely.specs.Scripts.{last_done, next_number, number_after}
 use Rattle.fsb_timely.specs.Wants.{outstanding_at, owed}
 use Rattle.fsb_coherent.specs.Relation.{is_dirty_below}
 use Rattle.fsb_agent_view.specs.AgentEvents.{first_view}

@@ -1,6 +1,7 @@
 -- An agent gives the bytes of the request that responds exactly where it is named as the giver of what is
 -- awaited after the request's snoop end.
-use Rattle.std.proofs.Common.{ℕ, ◌+◌, ◌<◌, ◌≤◌, ◌≡◌, Bool, true, false, ◌&&◌, ◌||◌, if◌then◌else◌, Option, Some, None, length, nat_eq, refl, sym, ap, subst, ◌∙◌, arith}
+use Rattle.std.proofs.Common.{ℕ, ◌+◌, ◌<◌, ◌≤◌, ◌≡◌, Bool, true, false, ◌&&◌, ◌||◌, if◌then◌else◌, Option, Some, None}
+use Rattle.std.proofs.Common.{length, nat_eq, refl, sym, ap, subst, ◌∙◌, arith}
 use Rattle.std.specs.Option.{option_and_then}
 use Rattle.std.proofs.lemmas.Bool.{both_ways, eq-eqb, eqb-true, false_from_ne_true}
 use Rattle.fsb_count.specs.Clocks.{first_where}
@@ -9,7 +10,8 @@ use Rattle.fsb_count.proofs.Interface.{any_where-at, any_where-off, first_where-
 use Rattle.fsb_encode.specs.declared.request.Kind.{Kind}
 use Rattle.fsb_encode.specs.declared.request.Kind.TheVariants.{Invalidate, Read, Reply, Upgrade, WriteBack}
 use Rattle.fsb_trace.specs.declared.outcome.Outcome.{Outcome}
-use Rattle.fsb_trace.specs.declared.outcome.Outcome.TheVariants.{Granted, Handed, Retried, Deferred, Written, Replied, Failed, Upgraded}
+use Rattle.fsb_trace.specs.declared.outcome.Outcome.TheVariants.{Granted, Handed, Retried, Deferred, Written, Replied}
+use Rattle.fsb_trace.specs.declared.outcome.Outcome.TheVariants.{Failed, Upgraded}
 use Rattle.fsb_timely.specs.Past.{Claim, Grant, Past, SnoopEnd}
 use Rattle.fsb_timely.specs.Grants.{snooped_at}
 use Rattle.fsb_timely.specs.Moments.{is_got, is_snoop_of, is_upgraded, makes_grant}
@@ -20,7 +22,8 @@ use Rattle.fsb_lawful.proofs.Interface.{some-and}
 use Rattle.fsb_coherent.specs.Awaits.{Awaited, awaited_by, awaited_by_claim, awaited_by_grant, is_written, responded_in}
 use Rattle.fsb_coherent.specs.Fitting.{fits_kind, fits_write_back}
 use Rattle.fsb_coherent.specs.Relation.{giver_at}
-use Rattle.fsb_tied.proofs.Interface.{answers-in-order, awaits-grant, clock-facts, is-found, none-before, uncontested, writes-back-alone}
+use Rattle.fsb_tied.proofs.Interface.{answers-in-order, awaits-grant, clock-facts, is-found, none-before, uncontested}
+use Rattle.fsb_tied.proofs.Interface.{writes-back-alone}
 use Rattle.fsb_agent_run.specs.AgentClocks.{giver_after_snoop, giver_of}
 use Rattle.fsb_agent_run.specs.BytesOwed.{claim_given_at, gives_claim, is_given_below}
 use Rattle.fsb_agent_run.proofs.GivenBytes.{claim-given, given, none-claimed, same-first, written-ungranted}

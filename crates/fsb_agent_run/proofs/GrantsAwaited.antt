@@ -1,5 +1,6 @@
 -- A line is granted only to who awaits no earlier grant of it; so an end that comes is that of the latest grant.
-use Rattle.std.proofs.Common.{ℕ, zero, suc, ◌+◌, ◌<◌, ◌≤◌, ◌≡◌, Bool, true, false, not, ◌||◌, List, [], ◌∷◌, ◌++◌, Option, Some, None, refl, sym, ap, subst, ◌∙◌, inl, inr, arith, if◌then◌else◌}
+use Rattle.std.proofs.Common.{ℕ, zero, suc, ◌+◌, ◌<◌, ◌≤◌, ◌≡◌, Bool, true, false, not, ◌||◌, List, [], ◌∷◌, ◌++◌}
+use Rattle.std.proofs.Common.{Option, Some, None, refl, sym, ap, subst, ◌∙◌, inl, inr, arith, if◌then◌else◌}
 use Rattle.std.specs.Prelude.{◌==◌}
 use Rattle.std.specs.Option.{option_and_then, option_map_or}
 use Rattle.std.proofs.lemmas.Bool.{both_ways, cases_Bool, cases_lt, eq-eqb, false_from_ne_true, not-true, or_parts}
@@ -15,7 +16,8 @@ use Rattle.fsb_coherent.specs.Awaits.{Awaited, awaited_by, awaited_by_grant}
 use Rattle.fsb_coherent.specs.Relation.{chain_below, link_for, link_left, links_left}
 use Rattle.fsb_coherent.proofs.Interface.{some-there}
 use Rattle.fsb_lawful.proofs.Interface.{and-then}
-use Rattle.fsb_tied.proofs.Interface.{awaits-grant, clock-facts, ended-number, events-may-happen, grant-first, granted-parts, live-at}
+use Rattle.fsb_tied.proofs.Interface.{awaits-grant, clock-facts, ended-number, events-may-happen, grant-first}
+use Rattle.fsb_tied.proofs.Interface.{granted-parts, live-at}
 use Rattle.fsb_run_laws.specs.Reaches.{Reaches}
 use Rattle.fsb_agent_run.specs.RunViews.{is_awaited}
 

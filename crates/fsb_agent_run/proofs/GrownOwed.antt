@@ -1,5 +1,7 @@
 -- What an agent owes stays as it is where the run grows by a clock.
-use Rattle.std.proofs.Common.{ℕ, zero, suc, ◌+◌, ◌<◌, ◌≤◌, ◌≡◌, Bool, false, not, ◌&&◌, if◌then◌else◌, nat_eq, List, [], ◌∷◌, nat_le, take, slice_get, length, Option, Some, None, refl, sym, ap, ◌∙◌, inl, inr, arith}
+use Rattle.std.proofs.Common.{ℕ, zero, suc, ◌+◌, ◌<◌, ◌≤◌, ◌≡◌, Bool, false, not, ◌&&◌, if◌then◌else◌, nat_eq, List, []}
+use Rattle.std.proofs.Common.{◌∷◌, nat_le, take, slice_get, length, Option, Some, None, refl, sym, ap, ◌∙◌, inl, inr}
+use Rattle.std.proofs.Common.{arith}
 use Rattle.std.proofs.lemmas.Bool.{cases_lt, eqb-true, false_from_ne_true}
 use Rattle.std.specs.List.{list_any}
 use Rattle.std.specs.Option.{option_and_then, option_map, option_map_or}
@@ -7,7 +9,8 @@ use Rattle.fsb_count.specs.Clocks.{AgreeBelow, from_clock, last_where}
 use Rattle.fsb_count.specs.Options.{is_at, is_some_and}
 use Rattle.fsb_count.proofs.Interface.{any_where-off, any_where-same, count_where-same}
 use Rattle.fsb_trace.specs.declared.outcome.Outcome.TheVariants as outcomes
-use Rattle.fsb_timely.specs.Grants.{begun_at, ended_requests, grant_at, is_end_at, is_ended, is_granted, latest_grant, snooped_at}
+use Rattle.fsb_timely.specs.Grants.{begun_at, ended_requests, grant_at, is_end_at, is_ended, is_granted, latest_grant}
+use Rattle.fsb_timely.specs.Grants.{snooped_at}
 use Rattle.fsb_timely.specs.Growth.{GrowsTo, IsWhole}
 use Rattle.fsb_timely.specs.Past.{Claim, Grant, Moment, Past, SnoopEnd}
 use Rattle.fsb_timely.specs.Runs.{Run, past_of, past_to}
@@ -18,7 +21,9 @@ use Rattle.fsb_coherent.specs.Relation.{giver_at, is_responded_below}
 use Rattle.fsb_tied.proofs.Interface.{snooped-by}
 use Rattle.fsb_run_laws.specs.Reaches.{Reaches}
 use Rattle.fsb_agent_view.specs.AgentViews.{AgentView}
-use Rattle.fsb_agent_run.specs.BytesOwed.{HasBytesOwed, claim_given_at, claim_given_by, given_since, gives_claim, gives_line_at, is_given_below, is_promised, is_pushed, owes_bytes_from, promise_told}
+use Rattle.fsb_agent_run.specs.BytesOwed.{HasBytesOwed, claim_given_at, claim_given_by, given_since, gives_claim}
+use Rattle.fsb_agent_run.specs.BytesOwed.{gives_line_at, is_given_below, is_promised, is_pushed, owes_bytes_from}
+use Rattle.fsb_agent_run.specs.BytesOwed.{promise_told}
 use Rattle.fsb_agent_run.specs.RunViews.{is_awaited}
 use Rattle.fsb_agent_run.proofs.GivenBytes.{given}
 

@@ -1,5 +1,6 @@
 -- The lines of a cache after the accesses of an item: what is stored into is Modified, and all else stays.
-use Rattle.std.proofs.Common.{ℕ, ◌≡◌, ◌/◌, Bool, true, false, not, ◌&&◌, ◌||◌, List, [], ◌∷◌, length, refl, sym, ap, ◌∙◌, inl, inr, if◌then◌else◌, nat_eq, arith}
+use Rattle.std.proofs.Common.{ℕ, ◌≡◌, ◌/◌, Bool, true, false, not, ◌&&◌, ◌||◌, List, [], ◌∷◌, length, refl, sym, ap}
+use Rattle.std.proofs.Common.{◌∙◌, inl, inr, if◌then◌else◌, nat_eq, arith}
 use Rattle.std.specs.Prelude.{◌==◌}
 use Rattle.std.specs.List.{list_all, list_any}
 use Rattle.std.proofs.lemmas.Bool.{and_parts, cases_Bool, eqb-true}
@@ -120,4 +121,5 @@ in_sets-after hand (step ∷ steps) in_sets =
     one : (access : Access) → InSets (hand_after hand access).lines
     one (Load size addr) = in_sets
     one (Store size addr value) =
-        in_sets-mapped hand.lines (addr / 32) (held_stored addr size (put_of size hand.last value)) (λ held. refl) in_sets
+        in_sets-mapped hand.lines (addr / 32) (held_stored addr size (put_of size hand.last value))
+        (λ held. refl) in_sets

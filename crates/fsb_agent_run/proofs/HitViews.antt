@@ -1,5 +1,6 @@
 -- After its hit, if it has one, a view is that after the hits.
-use Rattle.std.proofs.Common.{ℕ, ◌+◌, ◌<◌, ◌≡◌, Bool, true, false, not, ◌&&◌, ◌||◌, [], Some, refl, sym, ap, subst, ◌∙◌, inl, inr}
+use Rattle.std.proofs.Common.{ℕ, ◌+◌, ◌<◌, ◌≡◌, Bool, true, false, not, ◌&&◌, ◌||◌, [], Some, refl, sym, ap, subst, ◌∙◌}
+use Rattle.std.proofs.Common.{inl, inr}
 use Rattle.std.specs.List.{list_all, list_any}
 use Rattle.std.specs.Option.{option_map_or}
 use Rattle.std.proofs.lemmas.Bool.{and_parts, both_ways, cases_Bool, eq-eqb, or_right}
@@ -159,7 +160,8 @@ hit-lines p a c v line view hit k =
     let needs = hit-needs p a c item hit k.next in
     let may : list_all (λ (step : Step). may_store v.lines step.access) (steps_of_item number item) ≡ true =
     steps-need (is_served p a c) (may_store v.lines) number item (λ need access of served.
-    may-held v access (ap (λ l. is_held (line_state_by v l)) (sym of.line) ∙ held-by p a c c dirty v need.line view.lines
+    may-held v access (ap (λ l. is_held (line_state_by v l)) (sym of.line)
+    ∙ held-by p a c c dirty v need.line view.lines
     ∙ (served-parts p a c need served).0)) needs in
     let any = list_any (λ (step : Step). stores_into line step.access) (steps_of_item number item) in
     let logged : any_stored p a line c ≡ any =
@@ -185,7 +187,8 @@ hit-lines p a c v line view hit k =
           rw on
           (sole-told (holds_line p a line c) (is_exclusive p a line c) (is_dirty_below p a line c)
           (subst (λ l. holds_line p a l c ≡ true) names held.0) (subst (λ l. is_exclusive p a l c ≡ true) names held.1)
-          ∙ ap (λ b. state_with b (state_told (holds_line p a line c) (is_exclusive p a line c) (is_dirty_below p a line c)))
+          ∙ ap (λ b. state_with b
+          (state_told (holds_line p a line c) (is_exclusive p a line c) (is_dirty_below p a line c)))
           (sym both))
     ])
     ∙ sym (hit-state p a line c hit)
@@ -218,7 +221,8 @@ hit-view p a c v view hit k = record {
 pub performed-logged : (p : Past) (a c : ℕ) (v : AgentView) → IsViewOf p a c v → (is_hit p a c ≡ true → LogsItem p a c)
     → IsViewAfterHit p a c (performed v c)
 performed-logged p a c v view logs =
-    let same = hit-by p a c (λ line. is_dirty_below p a line c) v view.agent (placed-at p a c v view.placed) view.lines in
+    let same = hit-by p a c (λ line. is_dirty_below p a line c) v view.agent (placed-at p a c v view.placed)
+    view.lines in
     elim (cases_Bool (is_hit p a c)) [
       | inr none ↦
           subst (IsViewAfterHit p a c) (sym (performed-by v c false (same ∙ none))) (after-none p a c v view none)

@@ -12,9 +12,11 @@ pub use Rattle.fsb_agent_run.proofs.HitViews.{handed-view, performed-logged, per
 pub use Rattle.fsb_agent_run.proofs.SentViews.{cancelled-view, sent-view, uncancelled-view, unsent-view}
 pub use Rattle.fsb_agent_run.proofs.OwnSnoops.{own-claimed}
 pub use Rattle.fsb_agent_run.proofs.OtherSnoops.{other-claimed, other-replied, own-replied, quiet-view}
-pub use Rattle.fsb_agent_run.proofs.EndEvents.{arrives-by, comes-to, ended-here, given-up-view, kept-made, line-view, ungranted, upgrade-view}
+pub use Rattle.fsb_agent_run.proofs.EndEvents.{arrives-by, comes-to, ended-here, given-up-view, kept-made, line-view}
+pub use Rattle.fsb_agent_run.proofs.EndEvents.{ungranted, upgrade-view}
 pub use Rattle.fsb_agent_run.proofs.EndViews.{quiet-arrival, quiet-end-view, ungranted-arrival}
-pub use Rattle.fsb_agent_run.proofs.ClockEvents.{cancelled-all, clock-view, clocks-view, ended-all, handed-all, sent-all, snooped-all}
+pub use Rattle.fsb_agent_run.proofs.ClockEvents.{cancelled-all, clock-view, clocks-view, ended-all, handed-all}
+pub use Rattle.fsb_agent_run.proofs.ClockEvents.{sent-all, snooped-all}
 -- What an agent completes, and what it owes.
 pub use Rattle.fsb_agent_run.proofs.ItemsCompleted.{IsNeedOf, logged-there, steps-need}
 pub use Rattle.fsb_agent_run.proofs.EntriesLogged.{arrived-entries, performed-entries, upgrade-entries}
@@ -44,7 +46,8 @@ pub use Rattle.fsb_agent_run.proofs.EndsAtStages.{arrives-seen, given-up-seen, u
 -- An agent may see its events of a clock, and stays sound.
 pub use Rattle.fsb_agent_run.proofs.SoundEvents.{clock-seen, sound-all, sound-clock}
 -- What stands in a list.
-pub use Rattle.fsb_agent_run.proofs.Among.{Among, all-among, among-any, among-either, among-filter, among-get, found-among, get-among}
+pub use Rattle.fsb_agent_run.proofs.Among.{Among, all-among, among-any, among-either, among-filter, among-get}
+pub use Rattle.fsb_agent_run.proofs.Among.{found-among, get-among}
 -- The pushes and promises of an agent's buffers, one by one and all together.
 pub use Rattle.fsb_agent_run.proofs.BufferCounts.{fill-counted}
 -- How many fills a line has when one is added, promised or ended.
@@ -54,7 +57,8 @@ pub use Rattle.fsb_agent_run.proofs.FillsTold.{fill_on-without}
 -- The requests whose bytes an agent gives in a timely run.
 pub use Rattle.fsb_agent_run.proofs.GivenBytes.{claim-given, given, gives-by, same-first, written-kind}
 -- The requests of a view, as its agent's run knows them: without one, and with one granted.
-pub use Rattle.fsb_agent_run.proofs.OutLists.{among-granted, among-without, kept-of, numbered-among, owing-there, wanted-of}
+pub use Rattle.fsb_agent_run.proofs.OutLists.{among-granted, among-without, kept-of, numbered-among, owing-there}
+pub use Rattle.fsb_agent_run.proofs.OutLists.{wanted-of}
 -- The outstanding requests of an agent: what each of them is, and how they go on by a clock.
 pub use Rattle.fsb_agent_run.proofs.OwedSteps.{owing-is, sent-is}
 -- The snoop ends and ends of a run that an agent sees as those of its own requests, or as those of others.

@@ -1,5 +1,6 @@
 -- An agent that has a hit or an arrival completes its next item: its entries of the clock are the item's accesses.
-use Rattle.std.proofs.Common.{ℕ, ◌+◌, ◌<◌, ◌≡◌, ◌⊎◌, Bool, true, false, not, ◌&&◌, ◌||◌, List, [], ◌∷◌, map, Some, length, nat_eq, refl, ap, ◌∙◌, inl, inr, arith}
+use Rattle.std.proofs.Common.{ℕ, ◌+◌, ◌<◌, ◌≡◌, ◌⊎◌, Bool, true, false, not, ◌&&◌, ◌||◌, List, [], ◌∷◌, map, Some}
+use Rattle.std.proofs.Common.{length, nat_eq, refl, ap, ◌∙◌, inl, inr, arith}
 use Rattle.std.specs.List.{list_all, list_any}
 use Rattle.std.proofs.lemmas.Bool.{and_from, and_parts, cases_Bool, eqb-true, or_left, or_right}
 use Rattle.fsb_access.specs.declared.access.Access.{Access}
@@ -12,7 +13,8 @@ use Rattle.fsb_timely.specs.Completions.{completes_by, is_arrival}
 use Rattle.fsb_timely.specs.Hits.{is_hit, is_served, is_store_on}
 use Rattle.fsb_timely.specs.Past.{Past}
 use Rattle.fsb_timely.specs.Runs.{Run, past_of}
-use Rattle.fsb_timely.specs.Scripts.{Need, completes_at, is_idling, is_load, locked_need, needs_after, needs_of, next_item, plain_need}
+use Rattle.fsb_timely.specs.Scripts.{Need, completes_at, is_idling, is_load, locked_need, needs_after, needs_of}
+use Rattle.fsb_timely.specs.Scripts.{next_item, plain_need}
 use Rattle.fsb_timely.proofs.Interface.{at, logged-next, logs-item, not-behind, steps-completed}
 use Rattle.fsb_lawful.proofs.Interface.{some-and}
 use Rattle.fsb_run_laws.specs.Reaches.{Reaches}
@@ -48,7 +50,8 @@ completes-item r a c h few which =
       record {
         next = next;
         logged = m.1;
-        alone = λ other e. (let there = (logged-next r a c other h.timely l e).0 in let same : other ≡ m.0 = cc in same);
+        alone = λ other e. (let there = (logged-next r a c other h.timely l e).0 in
+            let same : other ≡ m.0 = cc in same);
         behind = λ other k. not-behind r a c m.0 other h.timely (omega arith) next k;
         last = last.last;
         is_last = last.there;

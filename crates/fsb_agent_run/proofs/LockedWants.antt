@@ -1,5 +1,6 @@
 -- A want is a locked one exactly where the agent's next item is, and the want is no write-back.
-use Rattle.std.proofs.Common.{ℕ, zero, suc, ◌+◌, ◌-◌, ◌≡◌, ◌&&◌, Bool, true, false, not, Option, Some, None, List, [], ◌∷◌, ◌++◌, map, drop, slice_get, if◌then◌else◌, refl, sym, ap, ◌∙◌, arith, inl, inr}
+use Rattle.std.proofs.Common.{ℕ, zero, suc, ◌+◌, ◌-◌, ◌≡◌, ◌&&◌, Bool, true, false, not, Option, Some, None, List, []}
+use Rattle.std.proofs.Common.{◌∷◌, ◌++◌, map, drop, slice_get, if◌then◌else◌, refl, sym, ap, ◌∙◌, arith, inl, inr}
 use Rattle.std.specs.List.{find, list_all}
 use Rattle.std.specs.Option.{option_and_then, option_map, option_map_or}
 use Rattle.std.proofs.lemmas.Bool.{and_from, and_parts, cases_Bool}
@@ -8,14 +9,16 @@ use Rattle.fsb_access.specs.declared.access.Access.{Access}
 use Rattle.fsb_access.specs.declared.item.Item.{Item}
 use Rattle.fsb_access.specs.declared.item.Item.TheVariants.{One, Locked, Idle}
 use Rattle.fsb_agent_view.specs.AgentViews.{AgentView, number_by}
-use Rattle.fsb_agent_view.specs.Wanting.{free_id_by, is_missing_by, is_silent_by, kind_by, missing_by, victim_by, want_by, want_for_by}
+use Rattle.fsb_agent_view.specs.Wanting.{free_id_by, is_missing_by, is_silent_by, kind_by, missing_by, victim_by}
+use Rattle.fsb_agent_view.specs.Wanting.{want_by, want_for_by}
 use Rattle.fsb_agent_view.specs.declared.want.Want.{Want}
 use Rattle.fsb_count.specs.Options.{is_some_and}
 use Rattle.fsb_encode.specs.declared.request.Kind.TheVariants.{Invalidate, Read, Upgrade}
 use Rattle.fsb_encode.specs.declared.request.Request.{Request}
 use Rattle.fsb_timely.specs.BusLock.{wants_lock}
 use Rattle.fsb_timely.specs.Past.{Past}
-use Rattle.fsb_timely.specs.Scripts.{Need, is_locked, items_of, locked_need, needs_after, needs_from, needs_of, next_item, next_number, plain_items, plain_need, window_from}
+use Rattle.fsb_timely.specs.Scripts.{Need, is_locked, items_of, locked_need, needs_after, needs_from, needs_of}
+use Rattle.fsb_timely.specs.Scripts.{next_item, next_number, plain_items, plain_need, window_from}
 use Rattle.fsb_timely.specs.Wants.{request_of_kind, want_of, write_back_of}
 use Rattle.fsb_trace.specs.Requests.{is_write_back, is_write_back_kind}
 use Rattle.fsb_agent_run.specs.RunViews.{place_of}
@@ -26,10 +29,12 @@ use Rattle.fsb_agent_run.proofs.WantsMade.{want-by}
 abbrev is_locked_so : Bool → Need → Bool
 is_locked_so b need = if b then need.locked else not need.locked
 
-all-both : (f : Need → Bool) (xs ys : List Need) → list_all f xs ≡ true → list_all f ys ≡ true → list_all f (xs ++ ys) ≡ true
+all-both : (f : Need → Bool) (xs ys : List Need) → list_all f xs ≡ true → list_all f ys ≡ true
+    → list_all f (xs ++ ys) ≡ true
 all-both f [] ys h k = k
 all-both f (x ∷ xs) ys h k =
-    let parts = and_parts (f x) (list_all f xs) h in and_from (f x) (list_all f (xs ++ ys)) parts.0 (all-both f xs ys parts.1 k)
+    let parts = and_parts (f x) (list_all f xs) h in
+    and_from (f x) (list_all f (xs ++ ys)) parts.0 (all-both f xs ys parts.1 k)
 
 all-found : (f g : Need → Bool) (xs : List Need) (x : Need) → list_all f xs ≡ true → find g xs ≡ Some x → f x ≡ true
 all-found f g [] x h e = absurd (let no : ⊥ = cc in no)
@@ -48,7 +53,8 @@ plain-after earlier (One access) e = refl
 plain-after earlier (Locked group) e = absurd (let no : ⊥ = cc in no)
 plain-after earlier (Idle clocks) e = refl
 
-plain-from : (earlier : List ℕ) (n : ℕ) (items : List Item) → list_all (is_locked_so false) (needs_from earlier (plain_items n items)) ≡ true
+plain-from : (earlier : List ℕ) (n : ℕ) (items : List Item)
+    → list_all (is_locked_so false) (needs_from earlier (plain_items n items)) ≡ true
 unfolding needs_from plain_items is_locked
 plain-from earlier zero items = refl
 plain-from earlier (suc n) [] = refl
@@ -60,7 +66,8 @@ plain-from earlier (suc n) (One access ∷ items) =
 plain-from earlier (suc n) (Locked group ∷ items) = refl
 plain-from earlier (suc n) (Idle clocks ∷ items) = refl
 
-locked-map : (earlier : List ℕ) (group rest : List Access) → list_all (is_locked_so true) (map (locked_need earlier group) rest) ≡ true
+locked-map : (earlier : List ℕ) (group rest : List Access)
+    → list_all (is_locked_so true) (map (locked_need earlier group) rest) ≡ true
 unfolding locked_need
 locked-map earlier group [] = refl
 locked-map earlier group (access ∷ rest) = locked-map earlier group rest
@@ -72,11 +79,13 @@ unfolding window_from needs_from needs_after is_locked
 window-locked ahead (One access) items =
     all-both (is_locked_so false) (needs_after [] (One access))
     (needs_from ([] ++ map (λ need. need.line) (needs_of (One access))) (plain_items (ahead - 1) items))
-    (plain-after [] (One access) refl) (plain-from ([] ++ map (λ need. need.line) (needs_of (One access))) (ahead - 1) items)
+    (plain-after [] (One access) refl)
+    (plain-from ([] ++ map (λ need. need.line) (needs_of (One access))) (ahead - 1) items)
 window-locked ahead (Locked group) items =
     all-both (is_locked_so true) (map (locked_need [] group) group) [] (locked-map [] group group) refl
 window-locked ahead (Idle clocks) items =
-    all-both (is_locked_so false) [] (needs_from ([] ++ map (λ need. need.line) (needs_of (Idle clocks))) (plain_items (ahead - 1) items))
+    all-both (is_locked_so false) []
+    (needs_from ([] ++ map (λ need. need.line) (needs_of (Idle clocks))) (plain_items (ahead - 1) items))
     refl (plain-from ([] ++ map (λ need. need.line) (needs_of (Idle clocks))) (ahead - 1) items)
 
 so-same : (b : Bool) (need : Need) → is_locked_so b need ≡ true → need.locked ≡ b
@@ -88,7 +97,8 @@ so-same false need e = by need.locked e
     by false e = refl
 
 -- a need of a window that begins in a script is locked as the item there
-need-locked : (ahead : ℕ) (items : List Item) (n : ℕ) (f : Need → Bool) (need : Need) (o : Option Item) → slice_get items n ≡ o
+need-locked : (ahead : ℕ) (items : List Item) (n : ℕ) (f : Need → Bool) (need : Need) (o : Option Item)
+    → slice_get items n ≡ o
     → find f (needs_from [] (option_map_or (λ item. window_from ahead item (drop (n + 1) items)) o [])) ≡ Some need
     → (item : Item) × (o ≡ Some item) × (need.locked ≡ is_locked item)
 unfolding needs_from
@@ -107,7 +117,8 @@ next-there : (p : Past) (a c n : ℕ) (item : Item) (o : Option ℕ) → next_nu
 unfolding next_item
 next-there p a c n item None e at there =
     let within = slice_get_within (items_of p a) n item there in absurd (omega arith)
-next-there p a c n item (Some m) e at there = ap (option_and_then (slice_get (items_of p a))) e ∙ ap (slice_get (items_of p a)) (sym at) ∙ there
+next-there p a c n item (Some m) e at there = ap (option_and_then (slice_get (items_of p a))) e
+    ∙ ap (slice_get (items_of p a)) (sym at) ∙ there
 
 kind-plain : (b c : Bool) → is_write_back_kind (if b then Read else (if c then Upgrade else Invalidate)) ≡ false
 unfolding is_write_back_kind
@@ -145,7 +156,8 @@ silent-none v c want e = by (is_silent_by v c) (missing_by v c) e
     by false None e = absurd (let no : ⊥ = cc in no)
     by false (Some need) e = (need, refl, (let same : want_for_by v need ≡ want = cc in same))
 
-lock-told : (p : Past) (a c : ℕ) (item : Item) (request : Request) → next_item p a c ≡ Some item → want_of p a c ≡ Some request
+lock-told : (p : Past) (a c : ℕ) (item : Item) (request : Request) → next_item p a c ≡ Some item
+    → want_of p a c ≡ Some request
     → wants_lock p a c ≡ (is_locked item && not (is_write_back_kind request.kind))
 unfolding wants_lock is_write_back is_some_and
 lock-told p a c item request e f = rw (e, f, wants_lock, is_write_back, is_some_and) refl
@@ -162,4 +174,5 @@ locked-by p a c w want view e =
     let next = next-there p a c n there.0 (next_number p a c) refl view.placed.item.item at in
     let told = sym (want-by p a c w view) ∙ ap (option_map (λ (want : Want). want.request)) e in
     ap (λ (want : Want). want.locked) (sym k.2) ∙ want-locked w k.0 (victim_by w k.0.line)
-    ∙ (λ i. there.2 i && not (is_write_back_kind (k.2 i).request.kind)) ∙ sym (lock-told p a c there.0 want.request next told)
+    ∙ (λ i. there.2 i && not (is_write_back_kind (k.2 i).request.kind))
+    ∙ sym (lock-told p a c there.0 want.request next told)

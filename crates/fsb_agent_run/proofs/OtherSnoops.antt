@@ -1,5 +1,6 @@
 -- The snoop end of another agent's request, of a reply, and a clock without one, in an agent's view.
-use Rattle.std.proofs.Common.{ℕ, ◌+◌, ◌<◌, ◌≡◌, ◌≢◌, ◌⊎◌, Bool, true, false, cond, not, ◌&&◌, ◌||◌, [], length, Option, Some, None, is_some, nat_eq, refl, sym, ap, subst, ◌∙◌, inl, inr, arith, if◌then◌else◌}
+use Rattle.std.proofs.Common.{ℕ, ◌+◌, ◌<◌, ◌≡◌, ◌≢◌, ◌⊎◌, Bool, true, false, cond, not, ◌&&◌, ◌||◌, [], length, Option}
+use Rattle.std.proofs.Common.{Some, None, is_some, nat_eq, refl, sym, ap, subst, ◌∙◌, inl, inr, arith, if◌then◌else◌}
 use Rattle.std.specs.Prelude.{◌==◌}
 use Rattle.std.specs.List.{find}
 use Rattle.std.specs.Option.{option_map_or}
@@ -18,7 +19,9 @@ use Rattle.fsb_line.specs.States.{after_snoop, asks_line, granted, is_held}
 use Rattle.fsb_line.proofs.Interface.{modified_is_sole}
 use Rattle.fsb_linebuf.specs.Buffers.{Buffered}
 use Rattle.fsb_timely.specs.Past.{Claim, Grant, Owing, Past, SnoopEnd}
-use Rattle.fsb_timely.specs.Grants.{grant_at, holds_line, is_claim_of, is_claim_of_other, is_evicted, is_exclusive, is_granted, is_named_by_other, is_owning, is_snooped, is_taken_away, is_written_back, snooped_at}
+use Rattle.fsb_timely.specs.Grants.{grant_at, holds_line, is_claim_of, is_claim_of_other, is_evicted, is_exclusive}
+use Rattle.fsb_timely.specs.Grants.{is_granted, is_named_by_other, is_owning, is_snooped, is_taken_away}
+use Rattle.fsb_timely.specs.Grants.{is_written_back, snooped_at}
 use Rattle.fsb_timely.specs.Hits.{is_dirty}
 use Rattle.fsb_timely.specs.Moments.{is_owner_request, is_upgraded}
 use Rattle.fsb_timely.specs.Runs.{Run, past_of}
@@ -26,7 +29,8 @@ use Rattle.fsb_timely.specs.Wants.{owed, want_of}
 use Rattle.fsb_trace.specs.Outcome.{is_deferral}
 use Rattle.fsb_trace.specs.Requests.{is_write_back_kind}
 use Rattle.fsb_trace.specs.declared.outcome.Outcome.{Outcome}
-use Rattle.fsb_trace.specs.declared.outcome.Outcome.TheVariants.{Granted, Handed, Retried, Deferred, Written, Replied, Failed, Upgraded}
+use Rattle.fsb_trace.specs.declared.outcome.Outcome.TheVariants.{Granted, Handed, Retried, Deferred, Written, Replied}
+use Rattle.fsb_trace.specs.declared.outcome.Outcome.TheVariants.{Failed, Upgraded}
 use Rattle.fsb_coherent.specs.Awaits.{cancelled_in, purpose_of}
 use Rattle.fsb_coherent.specs.Fitting.{fits_getting, fits_kind, fits_upgrade, fits_write_back}
 use Rattle.fsb_lawful.proofs.Interface.{map-some}
@@ -37,7 +41,8 @@ use Rattle.fsb_run_laws.proofs.Interface.{ServesOutstanding, replied-on, replied
 use Rattle.fsb_agent_view.specs.declared.want.OwnRequest.{OwnRequest}
 use Rattle.fsb_agent_view.specs.AgentViews.{AgentView, has_come, line_state_by}
 use Rattle.fsb_agent_view.specs.OwnRequests.{request_numbered, requests_granted}
-use Rattle.fsb_agent_view.specs.Snooping.{buffers_giving, committed, granted_by, is_giver, kind_asks, no_bytes, other_settled, own_settled, sets_lowered, state_snooped, with_fill}
+use Rattle.fsb_agent_view.specs.Snooping.{buffers_giving, committed, granted_by, is_giver, kind_asks, no_bytes}
+use Rattle.fsb_agent_view.specs.Snooping.{other_settled, own_settled, sets_lowered, state_snooped, with_fill}
 use Rattle.fsb_agent_view.proofs.Interface.{length-with_slot}
 use Rattle.fsb_agent_run.specs.AgentClocks.{number_asked}
 use Rattle.fsb_agent_run.specs.RunViews.{HasRequestsOf, fill_count, is_won_below, state_told}
@@ -48,8 +53,10 @@ use Rattle.fsb_agent_run.proofs.OutLists.{find-number, out-there, wanted-of}
 use Rattle.fsb_agent_run.proofs.OwedApart.{one-line, owed-apart}
 use Rattle.fsb_agent_run.proofs.OwedSteps.{owed-there, reaches-less}
 use Rattle.fsb_agent_run.proofs.OwnSnoops.{grant-of-snoop, own-won, settled-as}
-use Rattle.fsb_agent_run.proofs.SlotStates.{InSets, in_sets-mapped, in_sets-without, length-without, state-shared, state-without}
-use Rattle.fsb_agent_run.proofs.SnoopSteps.{granted-to-other, granted-view, lowered-view, number-other, outs-apart, requests-still}
+use Rattle.fsb_agent_run.proofs.SlotStates.{InSets, in_sets-mapped, in_sets-without, length-without, state-shared}
+use Rattle.fsb_agent_run.proofs.SlotStates.{state-without}
+use Rattle.fsb_agent_run.proofs.SnoopSteps.{granted-to-other, granted-view, lowered-view, number-other, outs-apart}
+use Rattle.fsb_agent_run.proofs.SnoopSteps.{requests-still}
 use Rattle.fsb_agent_run.proofs.WonSteps.{no-snoop, other-snoop, won-known, won-still}
 
 -- what the snoop end of another agent's request says of the lines of an agent
@@ -138,7 +145,8 @@ writes-alone r a c s claim h there claims kind other =
     let p = past_of r in
     let long = h.long in
     let tied = (events-may-happen r claim.line c [] h.timely h.bounds (omega arith)).1 in
-    let settled = (clock-facts r claim.line c h.timely h.bounds (omega arith)).settles.settled s claim there claims refl in
+    let settled = (clock-facts r claim.line c h.timely h.bounds (omega arith)).settles.settled s claim there
+    claims refl in
     let fits = settled.fits in
     let own = fits.claimed in
     let who : claim ≡ record { first = s.first; agent = fits.agent; line = claim.line } = cc in
@@ -248,7 +256,8 @@ other-claimed r a c number s claim request shared v h there claims other want vi
     let same : k.request ≡ request = cc in
     let line : request.line ≡ claim.line = ap (λ (q : Request). q.line) (sym same) ∙ k.line in
     let kind : s.kind ≡ Some request.kind = k.kind ∙ ap (λ (q : Request). Some q.kind) same in
-    let fits : fits_kind request.kind s.outcome ≡ true = ap (λ (q : Request). fits_kind q.kind s.outcome) (sym same) ∙ k.fits in
+    let fits : fits_kind request.kind s.outcome ≡ true =
+    ap (λ (q : Request). fits_kind q.kind s.outcome) (sym same) ∙ k.fits in
     let w : AgentView = other_settled v number request s.outcome in
     let st = line_state_by v request.line in
     lowered-view r a c v w
@@ -305,7 +314,8 @@ other-claimed r a c number s claim request shared v h there claims other want vi
         ∙ (λ i. state_told (alone i && not (is_evicted (past_of r) a claim.line c))
         (is_exclusive (past_of r) a claim.line c && not (is_evicted (past_of r) a claim.line c))
         (is_dirty (past_of r) a claim.line c)) in
-        ap (λ x. states (sets_lowered v.lines request.line (after_snoop (line_state_by v request.line) (kind_asks x))) l) is
+        ap (λ x. states
+        (sets_lowered v.lines request.line (after_snoop (line_state_by v request.line) (kind_asks x))) l) is
         ∙ lowered-same v.lines request.line l (line_state_by v request.line) refl
         ∙ (elim (cases_Bool (nat_eq claim.line l)) [
           | inr off ↦ rw off refl
@@ -360,7 +370,8 @@ quiet-view r a c v h quiet view = by (snooped_at (past_of r) c) refl
         let none = k.1 in let no : ⊥ = cc in no)))
         (λ line. unclaimed p a line c s e k.0)
         (λ out among. won-still p c out.number (other-snoop p c out.number s e
-        (number-other r a c c s v out h e (λ claim f. absurd (let none = k.0 in let no : ⊥ = cc in no)) view.requests among)))
+        (number-other r a c c s v out h e (λ claim f. absurd (let none = k.0 in let no : ⊥ = cc in no))
+        view.requests among)))
         (λ line. refl) (λ line. refl) view.lines.in_sets refl refl view
 
 -- the snoop end of a reply to another agent
@@ -403,7 +414,8 @@ pub asked-number : (p : Past) (a c line number : ℕ) → number_asked p a c lin
     → (owing : Owing) × Among owing (owed p a c) × (owing.claim.line ≡ line) × (owing.claim.first ≡ number)
 unfolding number_asked
 asked-number p a c line number e =
-    let k = map-some (λ (owing : Owing). owing.claim.first) (find (λ owing. nat_eq owing.claim.line line) (owed p a c)) number e in
+    let k = map-some (λ (owing : Owing). owing.claim.first)
+    (find (λ owing. nat_eq owing.claim.line line) (owed p a c)) number e in
     let found = found-among (λ (owing : Owing). nat_eq owing.claim.line line) k.0 (owed p a c) k.1 in
     (k.0, found.0, eqb-true k.0.claim.line line found.1, k.2)
 
@@ -440,7 +452,8 @@ served-out r a c n number grant v h serves mine asked requests =
     let numbered : found.0.number ≡ q = ap (λ (o : Owing). o.claim.first) found.2 ∙ first in
     let here = find-number p a found.0 v.outs (outs-apart r a c n v h requests) found.1 in
     let wanted = wanted-of p a n (owed_through p a c) v found.0 requests found.1 in
-    let mine_want : want_of p a q ≡ Some want.request = subst (λ b. want_of p b q ≡ Some want.request) agent want.want in
+    let mine_want : want_of p a q ≡ Some want.request =
+    subst (λ b. want_of p b q ≡ Some want.request) agent want.want in
     let told : want_of p a q ≡ Some found.0.request = ap (want_of p a) (sym numbered) ∙ wanted in
     let request : found.0.request ≡ want.request = (let e = sym told ∙ mine_want in cc) in
     record {
@@ -453,7 +466,8 @@ served-out r a c n number grant v h serves mine asked requests =
       line = ap (λ (o : Owing). o.claim.line) found.2 ∙ line;
       owns = serves.owns ∙ ap is_owner_request shown ∙ ap (λ (x : Request). is_owning x.kind) (sym request);
       plain = ap (λ (x : Request). is_never_held_up x.kind) request
-          ∙ deferred-held r serves.clock serves.number serves.end want.request h.timely serves.snooped shown serves.deferred;
+          ∙ deferred-held r serves.clock serves.number serves.end want.request h.timely serves.snooped shown
+          serves.deferred;
     }
 
 deferred-plain : (outcome : Outcome) → is_deferral outcome ≡ true → is_upgraded outcome ≡ false
@@ -488,7 +502,8 @@ own-replied r a c number s grant request v h some there none makes mine asked vi
     let p = past_of r in
     let long = h.long in
     let replied = (replied-on r c s grant h there none makes).replied in
-    let k = served-out r a c c number grant v h (replied-outstanding r c s grant h there none makes) mine asked view.requests in
+    let k = served-out r a c c number grant v h (replied-outstanding r c s grant h there none makes) mine asked
+    view.requests in
     let out : OwnRequest = k.out in
     let at : grant_at p c ≡ Some grant = grant-of-snoop p c s there ∙ makes in
     let state = replied-state out.request.kind grant.shared k.plain in
@@ -511,7 +526,8 @@ own-replied r a c number s grant request v h some there none makes mine asked vi
       buffers = with_fill v.buffers l out.number;
       outs = requests_granted out.number None v.outs;
     })) (sym k.line)
-    (granted-view r a c out.number grant (granted (kind_asks out.request.kind) grant.shared) no_bytes None v h some at mine told
+    (granted-view r a c out.number grant (granted (kind_asks out.request.kind) grant.shared) no_bytes None v h
+    some at mine told
     (λ l _. (unclaimed p a l c s there none).0)
     (λ l. (unclaimed p a l c s there none).1)
     (λ x among. own-won r a c out.number None v x view.requests (sym unwon) still among) view))))

@@ -1,5 +1,6 @@
 -- The requests of a view, as its agent's run knows them: without one, and with one granted.
-use Rattle.std.proofs.Common.{ℕ, ◌≡◌, ◌≢◌, ◌⊎◌, true, false, cond, not, List, [], ◌∷◌, map, Option, Some, is_some, nat_eq, refl, sym, ap, subst, ◌∙◌, inl, inr}
+use Rattle.std.proofs.Common.{ℕ, ◌≡◌, ◌≢◌, ◌⊎◌, true, false, cond, not, List, [], ◌∷◌, map, Option, Some, is_some}
+use Rattle.std.proofs.Common.{nat_eq, refl, sym, ap, subst, ◌∙◌, inl, inr}
 use Rattle.std.specs.Prelude.{◌==◌}
 use Rattle.std.specs.List.{filter, list_all}
 use Rattle.std.proofs.lemmas.Bool.{and_parts, both_ways, cases_Bool, eq-eqb, eqb-true, false_from_ne_true, ne_eqb}
@@ -7,11 +8,13 @@ use Rattle.fsb_timely.specs.Past.{Owing, Past}
 use Rattle.fsb_timely.specs.Wants.{want_of}
 use Rattle.fsb_agent_view.specs.declared.want.OwnRequest.{OwnRequest}
 use Rattle.fsb_agent_view.specs.AgentViews.{AgentView}
-use Rattle.fsb_agent_view.specs.OwnRequests.{is_numbered, request_numbered, requests_granted, requests_without, with_grant}
+use Rattle.fsb_agent_view.specs.OwnRequests.{is_numbered, request_numbered, requests_granted, requests_without}
+use Rattle.fsb_agent_view.specs.OwnRequests.{with_grant}
 use Rattle.fsb_agent_view.proofs.Interface.{without_first-cons}
 use Rattle.fsb_agent_run.specs.Owings.{are_owings_apart, is_owing_apart}
 use Rattle.fsb_agent_run.specs.RunViews.{HasRequestsOf, is_won_below, owing_by}
-use Rattle.fsb_agent_run.proofs.Among.{Among, all-among, among-get, among-map, filter-all, found-among, get-among, map-among}
+use Rattle.fsb_agent_run.proofs.Among.{Among, all-among, among-get, among-map, filter-all, found-among, get-among}
+use Rattle.fsb_agent_run.proofs.Among.{map-among}
 
 -- what is said of each request of a view
 pub wanted-of : (p : Past) (a n : ℕ) (owings : List Owing) (v : AgentView) (out : OwnRequest)
@@ -96,7 +99,8 @@ pub find-number : (p : Past) (a : ℕ) (out : OwnRequest) (outs : List OwnReques
     → are_owings_apart p (map (owing_by a) outs) ≡ true → Among out outs → request_numbered out.number outs ≡ Some out
 unfolding are_owings_apart
 find-number p a out [] h k = absurd k
-find-number p a out (x ∷ outs) h (inl e) = rw (eq-eqb x.number out.number (ap (λ (o : OwnRequest). o.number) e)) (ap Some e)
+find-number p a out (x ∷ outs) h (inl e) =
+    rw (eq-eqb x.number out.number (ap (λ (o : OwnRequest). o.number) e)) (ap Some e)
 find-number p a out (x ∷ outs) h (inr k) =
     let owings = map (owing_by a) outs in
     let parts = and_parts (list_all (is_owing_apart p (owing_by a x)) owings) (are_owings_apart p owings) h in

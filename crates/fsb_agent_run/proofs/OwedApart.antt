@@ -1,7 +1,10 @@
 -- The outstanding requests of an agent are apart from each other, and few.
-use Rattle.std.proofs.Common.{ℕ, zero, suc, ◌+◌, ◌≤◌, ◌≡◌, ◌⊎◌, Bool, true, false, not, ◌&&◌, List, [], ◌∷◌, ◌++◌, Option, Some, None, length, nat_eq, refl, sym, ap, subst, ◌∙◌, inl, inr, add-one, append-nil, arith, length-append}
+use Rattle.std.proofs.Common.{ℕ, zero, suc, ◌+◌, ◌≤◌, ◌≡◌, ◌⊎◌, Bool, true, false, not, ◌&&◌, List, [], ◌∷◌, ◌++◌}
+use Rattle.std.proofs.Common.{Option, Some, None, length, nat_eq, refl, sym, ap, subst, ◌∙◌, inl, inr, add-one}
+use Rattle.std.proofs.Common.{append-nil, arith, length-append}
 use Rattle.std.specs.List.{filter, list_all}
-use Rattle.std.proofs.lemmas.Bool.{and_from, and_parts, both_ways, cases_Bool, eq-eqb, eqb-true, false_from_ne_true, ne_eqb}
+use Rattle.std.proofs.lemmas.Bool.{and_from, and_parts, both_ways, cases_Bool, eq-eqb, eqb-true, false_from_ne_true}
+use Rattle.std.proofs.lemmas.Bool.{ne_eqb}
 use Rattle.std.proofs.lemmas.List.Sums.{count_by-le-length, length-filter}
 use Rattle.fsb_timely.specs.Past.{Owing, Past}
 use Rattle.fsb_timely.specs.Grants.{set_of}
@@ -131,7 +134,8 @@ sent-apart r a n h =
     let before = owed-apart r a n (reaches-less r n (n + 1) (omega arith) h) in
     elim (begun-list p a n) [
       | inl none ↦ rw (none, append-nil (owed p a n)) before
-      | inr one ↦ rw (one.1) (apart-push p (owed p a n) one.0 before (λ x k. begun-apart-from r a n one.0 x h one.2 one.3 k))
+      | inr one ↦ rw (one.1)
+          (apart-push p (owed p a n) one.0 before (λ x k. begun-apart-from r a n one.0 x h one.2 one.3 k))
     ]
 
 -- no more are owed than the plan says
@@ -189,10 +193,12 @@ one-first p [] x y h a b e = absurd a
 one-first p (z ∷ xs) x y h (inl a) (inl b) e = sym a ∙ b
 one-first p (z ∷ xs) x y h (inl a) (inr b) e =
     let parts = and_parts (list_all (is_owing_apart p z) xs) (are_owings_apart p xs) h in
-    absurd (apart-firsts p z y (all-among (is_owing_apart p z) y xs parts.0 b) (ap (λ (o : Owing). o.claim.first) a ∙ e))
+    absurd (apart-firsts p z y (all-among (is_owing_apart p z) y xs parts.0 b)
+    (ap (λ (o : Owing). o.claim.first) a ∙ e))
 one-first p (z ∷ xs) x y h (inr a) (inl b) e =
     let parts = and_parts (list_all (is_owing_apart p z) xs) (are_owings_apart p xs) h in
-    absurd (apart-firsts p z x (all-among (is_owing_apart p z) x xs parts.0 a) (ap (λ (o : Owing). o.claim.first) b ∙ sym e))
+    absurd (apart-firsts p z x (all-among (is_owing_apart p z) x xs parts.0 a)
+    (ap (λ (o : Owing). o.claim.first) b ∙ sym e))
 one-first p (z ∷ xs) x y h (inr a) (inr b) e =
     one-first p xs x y (and_parts (list_all (is_owing_apart p z) xs) (are_owings_apart p xs) h).1 a b e
 
@@ -206,6 +212,7 @@ one-line p (z ∷ xs) x y h (inl a) (inr b) e =
     absurd (apart-lines p z y (all-among (is_owing_apart p z) y xs parts.0 b) (ap (λ (o : Owing). o.claim.line) a ∙ e))
 one-line p (z ∷ xs) x y h (inr a) (inl b) e =
     let parts = and_parts (list_all (is_owing_apart p z) xs) (are_owings_apart p xs) h in
-    absurd (apart-lines p z x (all-among (is_owing_apart p z) x xs parts.0 a) (ap (λ (o : Owing). o.claim.line) b ∙ sym e))
+    absurd (apart-lines p z x (all-among (is_owing_apart p z) x xs parts.0 a)
+    (ap (λ (o : Owing). o.claim.line) b ∙ sym e))
 one-line p (z ∷ xs) x y h (inr a) (inr b) e =
     one-line p xs x y (and_parts (list_all (is_owing_apart p z) xs) (are_owings_apart p xs) h).1 a b e

@@ -1,5 +1,7 @@
 -- What an agent owes after the ends of a clock: where a line comes whose bytes are promised, they are there.
-use Rattle.std.proofs.Common.{ℕ, ◌+◌, ◌<◌, ◌≡◌, ◌≢◌, Bool, true, false, cond, not, ◌&&◌, ◌||◌, if◌then◌else◌, List, [], ◌∷◌, Option, Some, None, length, length-append, nat_eq, refl, sym, ap, subst, ◌∙◌, inl, inr, arith}
+use Rattle.std.proofs.Common.{ℕ, ◌+◌, ◌<◌, ◌≡◌, ◌≢◌, Bool, true, false, cond, not, ◌&&◌, ◌||◌, if◌then◌else◌, List, []}
+use Rattle.std.proofs.Common.{◌∷◌, Option, Some, None, length, length-append, nat_eq, refl, sym, ap, subst, ◌∙◌, inl}
+use Rattle.std.proofs.Common.{inr, arith}
 use Rattle.std.specs.Prelude.{◌==◌, is_some}
 use Rattle.std.proofs.lemmas.Bool.{cases_eq, eq-eqb, false_from_ne_true}
 use Rattle.std.specs.Option.{option_and_then}
@@ -19,11 +21,13 @@ use Rattle.fsb_coherent.specs.Awaits.{responded_in}
 use Rattle.fsb_coherent.specs.Relation.{is_responded_below}
 use Rattle.fsb_agent_view.specs.declared.want.OwnRequest.{OwnRequest}
 use Rattle.fsb_agent_view.specs.AgentViews.{AgentView}
-use Rattle.fsb_agent_view.specs.Arriving.{arrived_for, buffers_landed, ended_for, given_up, is_arrival_by, line_arrived, met_by, upgrade_ended}
+use Rattle.fsb_agent_view.specs.Arriving.{arrived_for, buffers_landed, ended_for, given_up, is_arrival_by, line_arrived}
+use Rattle.fsb_agent_view.specs.Arriving.{met_by, upgrade_ended}
 use Rattle.fsb_agent_view.specs.OwnRequests.{request_numbered}
 use Rattle.fsb_agent_view.specs.Snooping.{owed_count}
 use Rattle.fsb_agent_run.proofs.AwaitedFills.{HasFillsOf}
-use Rattle.fsb_agent_run.specs.BytesOwed.{HasBytesOwed, claim_given_at, given_since, gives_line_at, is_given_below, is_promised, is_pushed, owes_bytes_from, promise_told}
+use Rattle.fsb_agent_run.specs.BytesOwed.{HasBytesOwed, claim_given_at, given_since, gives_line_at, is_given_below}
+use Rattle.fsb_agent_run.specs.BytesOwed.{is_promised, is_pushed, owes_bytes_from, promise_told}
 use Rattle.fsb_agent_run.specs.RunViews.{is_awaited, one_if}
 use Rattle.fsb_agent_run.proofs.BufferCounts.{promise_on-none, promise_on-without, push_count, push_count-pushed}
 use Rattle.fsb_agent_run.proofs.FillCounts.{count-without_other, count-without_this, count_on}

@@ -1,5 +1,6 @@
 -- What an agent owes after a snoop end of its own request, of another agent's, and after a clock without one.
-use Rattle.std.proofs.Common.{ℕ, ◌+◌, ◌<◌, ◌≡◌, ◌≢◌, ◌⊎◌, Bool, true, false, not, ◌&&◌, [], ◌∷◌, ◌++◌, Option, Some, None, length, nat_eq, refl, sym, ap, subst, ◌∙◌, inl, inr, arith}
+use Rattle.std.proofs.Common.{ℕ, ◌+◌, ◌<◌, ◌≡◌, ◌≢◌, ◌⊎◌, Bool, true, false, not, ◌&&◌, [], ◌∷◌, ◌++◌, Option, Some}
+use Rattle.std.proofs.Common.{None, length, nat_eq, refl, sym, ap, subst, ◌∙◌, inl, inr, arith}
 use Rattle.std.proofs.lemmas.Bool.{and_from, and_parts, both_ways, cases_Bool, eq-eqb, false_from_ne_true, ne_eqb}
 use Rattle.fsb_cache.specs.Sets.{copies}
 use Rattle.fsb_count.specs.Clocks.{first_where}
@@ -11,7 +12,8 @@ use Rattle.fsb_encode.specs.declared.request.Request.{Request}
 use Rattle.fsb_line.specs.States.{asks_line, is_held, is_modified}
 use Rattle.fsb_linebuf.specs.Buffers.{promise_on, promised_to}
 use Rattle.fsb_trace.specs.declared.outcome.Outcome.{Outcome}
-use Rattle.fsb_trace.specs.declared.outcome.Outcome.TheVariants.{Granted, Handed, Retried, Deferred, Written, Replied, Failed, Upgraded}
+use Rattle.fsb_trace.specs.declared.outcome.Outcome.TheVariants.{Granted, Handed, Retried, Deferred, Written, Replied}
+use Rattle.fsb_trace.specs.declared.outcome.Outcome.TheVariants.{Failed, Upgraded}
 use Rattle.fsb_timely.specs.Growth.{GoesOn}
 use Rattle.fsb_timely.specs.Past.{Claim, Grant, Past, SnoopEnd}
 use Rattle.fsb_timely.specs.Grants.{snooped_at}
@@ -27,14 +29,16 @@ use Rattle.fsb_tied.proofs.Interface.{clock-facts, one-dirty, uncontested, write
 use Rattle.fsb_agent_view.specs.declared.want.OwnRequest.{OwnRequest}
 use Rattle.fsb_agent_view.specs.AgentViews.{AgentView, has_come, line_state_by}
 use Rattle.fsb_agent_view.specs.OwnRequests.{request_numbered}
-use Rattle.fsb_agent_view.specs.Snooping.{buffers_giving, committed, granted_by, is_giver, is_handed, kind_asks, other_settled, own_settled, upgraded_by}
+use Rattle.fsb_agent_view.specs.Snooping.{buffers_giving, committed, granted_by, is_giver, is_handed, kind_asks}
+use Rattle.fsb_agent_view.specs.Snooping.{other_settled, own_settled, upgraded_by}
 use Rattle.fsb_agent_run.proofs.AwaitedFills.{HasFillsOf}
 use Rattle.fsb_agent_run.specs.BytesOwed.{HasBytesOwed, claim_given_at, gives_claim}
 use Rattle.fsb_agent_run.proofs.OwnEvents.{IsOtherSnoopEnd, IsOwnSnoopEnd}
 use Rattle.fsb_agent_run.specs.RunViews.{is_awaited, one_if}
 use Rattle.fsb_agent_run.proofs.FillCounts.{come-count, count_on}
 use Rattle.fsb_agent_run.proofs.GivenBytes.{claim-given, gives-by, none-claimed, none-snooped, same-first}
-use Rattle.fsb_agent_run.proofs.OwedSnoops.{SameDebts, filled-debts, gives-now, owed-on, promised-owed, pushed-owed, quiet-owed, same-debts}
+use Rattle.fsb_agent_run.proofs.OwedSnoops.{SameDebts, filled-debts, gives-now, owed-on, promised-owed, pushed-owed}
+use Rattle.fsb_agent_run.proofs.OwedSnoops.{quiet-owed, same-debts}
 use Rattle.fsb_agent_run.proofs.OwnLines.{machine_at, own-claim, own-grant, settled-unawaited, tied-at}
 use Rattle.fsb_agent_run.proofs.PromisesFree.{dirty-unpromised}
 

@@ -1,5 +1,7 @@
 -- What an agent owes after a snoop end at which it gives no bytes, and after one at which it does.
-use Rattle.std.proofs.Common.{ℕ, ◌+◌, ◌<◌, ◌≡◌, ◌≢◌, Bool, true, false, cond, not, ◌&&◌, ◌||◌, if◌then◌else◌, Option, Some, None, List, [], ◌∷◌, ◌++◌, length, length-append, nat_eq, refl, sym, ap, subst, ◌∙◌, inl, inr, arith}
+use Rattle.std.proofs.Common.{ℕ, ◌+◌, ◌<◌, ◌≡◌, ◌≢◌, Bool, true, false, cond, not, ◌&&◌, ◌||◌, if◌then◌else◌, Option}
+use Rattle.std.proofs.Common.{Some, None, List, [], ◌∷◌, ◌++◌, length, length-append, nat_eq, refl, sym, ap, subst, ◌∙◌}
+use Rattle.std.proofs.Common.{inl, inr, arith}
 use Rattle.std.specs.Prelude.{◌==◌}
 use Rattle.std.proofs.lemmas.Bool.{cases_Bool, cases_eq, eq-eqb, ne_eqb}
 use Rattle.fsb_count.specs.Clocks.{count_where}
@@ -14,14 +16,17 @@ use Rattle.fsb_lawful.specs.Beginning.{KeepsBounds}
 use Rattle.fsb_coherent.specs.Relation.{is_responded_below}
 use Rattle.fsb_agent_view.specs.AgentViews.{AgentView}
 use Rattle.fsb_agent_view.specs.Snooping.{owed_count, with_fill, with_push}
-use Rattle.fsb_agent_run.specs.BytesOwed.{HasBytesOwed, claim_given_at, gives_line_at, is_given_below, is_promised, is_pushed, owes_bytes_from, promise_told}
+use Rattle.fsb_agent_run.specs.BytesOwed.{HasBytesOwed, claim_given_at, gives_line_at, is_given_below, is_promised}
+use Rattle.fsb_agent_run.specs.BytesOwed.{is_pushed, owes_bytes_from, promise_told}
 use Rattle.fsb_agent_run.specs.RunViews.{is_awaited}
-use Rattle.fsb_agent_run.proofs.BufferCounts.{fill-counted, promise_on-other, promise_on-promised, promise_on-push, promised_count-more, push_count, push_count-push}
+use Rattle.fsb_agent_run.proofs.BufferCounts.{fill-counted, promise_on-other, promise_on-promised, promise_on-push}
+use Rattle.fsb_agent_run.proofs.BufferCounts.{promised_count-more, push_count, push_count-push}
 use Rattle.fsb_agent_run.proofs.FillCounts.{count_on}
 use Rattle.fsb_agent_run.proofs.FillsTold.{promised_count, promised_count-push}
 use Rattle.fsb_agent_run.proofs.GivenBytes.{given, given-ungranted, not-given-before, unresponded}
 use Rattle.fsb_agent_run.proofs.GrantsAwaited.{granted-unawaited}
-use Rattle.fsb_agent_run.proofs.PromiseSteps.{promise-granted, promise-kept, promise-made, promise-unawaited, promised-same, unawaited-unpromised}
+use Rattle.fsb_agent_run.proofs.PromiseSteps.{promise-granted, promise-kept, promise-made, promise-unawaited}
+use Rattle.fsb_agent_run.proofs.PromiseSteps.{promised-same, unawaited-unpromised}
 
 -- buffers with the same pushes and promises
 pub record SameDebts (b d : Buffered) : Type 0 where

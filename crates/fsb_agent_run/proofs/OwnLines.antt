@@ -1,9 +1,11 @@
 -- A line of which an agent has an open or deferred request is not awaited by it: at a snoop end of its own
 -- request it awaits nothing on the line.
-use Rattle.std.proofs.Common.{ℕ, zero, suc, ◌<◌, ◌≤◌, ◌≡◌, Bool, true, false, ◌&&◌, ◌||◌, List, [], ◌∷◌, ◌++◌, Option, Some, None, length, nat_eq, refl, sym, ap, subst, ◌∙◌, inl, inr, arith}
+use Rattle.std.proofs.Common.{ℕ, zero, suc, ◌<◌, ◌≤◌, ◌≡◌, Bool, true, false, ◌&&◌, ◌||◌, List, [], ◌∷◌, ◌++◌, Option}
+use Rattle.std.proofs.Common.{Some, None, length, nat_eq, refl, sym, ap, subst, ◌∙◌, inl, inr, arith}
 use Rattle.std.specs.Prelude.{◌==◌}
 use Rattle.std.specs.Option.{option_map_or}
-use Rattle.std.proofs.lemmas.Bool.{and_parts, both_ways, cases_eq, eq-eqb, eqb-true, false_from_ne_true, or_left, or_right}
+use Rattle.std.proofs.lemmas.Bool.{and_parts, both_ways, cases_eq, eq-eqb, eqb-true, false_from_ne_true, or_left}
+use Rattle.std.proofs.lemmas.Bool.{or_right}
 use Rattle.fsb_count.specs.Options.{is_some_and}
 use Rattle.fsb_line.specs.declared.link.Link.{Link}
 use Rattle.fsb_line.specs.Line.{LineDeferral, MemoryLine, OpenRequest, unheld}

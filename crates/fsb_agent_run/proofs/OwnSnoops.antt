@@ -1,5 +1,6 @@
 -- The snoop end of an agent's own request, and of the reply to its deferred one, in its view.
-use Rattle.std.proofs.Common.{ℕ, ◌+◌, ◌<◌, ◌≡◌, ◌≢◌, ◌⊎◌, Bool, true, false, not, ◌&&◌, ◌||◌, List, Option, Some, None, is_some, nat_eq, refl, sym, ap, subst, ◌∙◌, inl, inr, arith, if◌then◌else◌}
+use Rattle.std.proofs.Common.{ℕ, ◌+◌, ◌<◌, ◌≡◌, ◌≢◌, ◌⊎◌, Bool, true, false, not, ◌&&◌, ◌||◌, List, Option, Some, None}
+use Rattle.std.proofs.Common.{is_some, nat_eq, refl, sym, ap, subst, ◌∙◌, inl, inr, arith, if◌then◌else◌}
 use Rattle.std.specs.Prelude.{◌==◌}
 use Rattle.std.specs.Option.{option_and_then, option_map_or}
 use Rattle.std.proofs.lemmas.Bool.{both_ways, cases_Bool, eq-eqb, eqb-true}
@@ -14,16 +15,19 @@ use Rattle.fsb_line.specs.declared.state.Mesi.{Mesi}
 use Rattle.fsb_line.specs.declared.state.Mesi.TheVariants.{Exclusive, Invalid, Modified, Shared}
 use Rattle.fsb_line.specs.States.{asks_line, granted, is_held, kind_owns}
 use Rattle.fsb_timely.specs.Past.{Claim, Grant, Owing, Past, SnoopEnd}
-use Rattle.fsb_timely.specs.Grants.{begun_at, grant_at, holds_line, is_claim_of, is_claim_of_other, is_evicted, is_named_by_other, is_snooped, is_taken_away, is_written_back, snooped_at}
+use Rattle.fsb_timely.specs.Grants.{begun_at, grant_at, holds_line, is_claim_of, is_claim_of_other, is_evicted}
+use Rattle.fsb_timely.specs.Grants.{is_named_by_other, is_snooped, is_taken_away, is_written_back, snooped_at}
 use Rattle.fsb_timely.specs.Moments.{is_got, is_upgraded, makes_grant}
 use Rattle.fsb_timely.specs.Runs.{Run, past_of}
 use Rattle.fsb_timely.specs.Wants.{owed, want_of}
 use Rattle.fsb_trace.specs.Requests.{is_write_back_kind}
 use Rattle.fsb_trace.specs.declared.outcome.Outcome.{Outcome}
-use Rattle.fsb_trace.specs.declared.outcome.Outcome.TheVariants.{Granted, Handed, Retried, Deferred, Written, Replied, Failed, Upgraded}
+use Rattle.fsb_trace.specs.declared.outcome.Outcome.TheVariants.{Granted, Handed, Retried, Deferred, Written, Replied}
+use Rattle.fsb_trace.specs.declared.outcome.Outcome.TheVariants.{Failed, Upgraded}
 use Rattle.fsb_coherent.specs.Awaits.{cancelled_in, purpose_of}
 use Rattle.fsb_coherent.specs.Fitting.{fits_getting, fits_kind, fits_upgrade, fits_write_back}
-use Rattle.fsb_tied.proofs.Interface.{begun-shown, begun-want, claimed-at, clock-facts, snooped-by, uncontested, writes-back-alone}
+use Rattle.fsb_tied.proofs.Interface.{begun-shown, begun-want, claimed-at, clock-facts, snooped-by, uncontested}
+use Rattle.fsb_tied.proofs.Interface.{writes-back-alone}
 use Rattle.fsb_timely.proofs.Interface.{tied-snoop}
 use Rattle.fsb_run_laws.specs.Reaches.{Reaches}
 use Rattle.fsb_run_laws.specs.RunStates.{state_granted, state_read}
@@ -31,7 +35,8 @@ use Rattle.fsb_run_laws.proofs.Interface.{snooped-outstanding}
 use Rattle.fsb_agent_view.specs.declared.want.OwnRequest.{OwnRequest}
 use Rattle.fsb_agent_view.specs.AgentViews.{AgentView, line_state_by}
 use Rattle.fsb_agent_view.specs.OwnRequests.{request_numbered, requests_granted}
-use Rattle.fsb_agent_view.specs.Snooping.{committed, granted_by, kind_asks, no_bytes, own_settled, upgraded_by, with_fill, written_by}
+use Rattle.fsb_agent_view.specs.Snooping.{committed, granted_by, kind_asks, no_bytes, own_settled, upgraded_by}
+use Rattle.fsb_agent_view.specs.Snooping.{with_fill, written_by}
 use Rattle.fsb_agent_run.specs.RunViews.{HasRequestsOf, is_won_below}
 use Rattle.fsb_agent_run.specs.Stages.{IsViewAfterSnoop, IsViewBeforeSnoop, is_uncancelled, owed_sent, owed_through}
 use Rattle.fsb_agent_run.proofs.Among.{Among, among-left, filter-among}
@@ -70,10 +75,18 @@ owns-by : (kind : Kind) (purpose : Purpose) → purpose_of kind ≡ Some purpose
     → kind_owns purpose ≡ kind_owns (kind_asks kind)
 unfolding purpose_of
 owns-by kinds.Reply purpose e = absurd (let no : ⊥ = cc in no)
-owns-by kinds.Invalidate purpose e = (let same : Rattle.fsb_line.specs.declared.purpose.Purpose.TheVariants.Own ≡ purpose = cc in ap kind_owns (sym same))
-owns-by kinds.Read purpose e = (let same : Rattle.fsb_line.specs.declared.purpose.Purpose.TheVariants.Read ≡ purpose = cc in ap kind_owns (sym same))
-owns-by kinds.WriteBack purpose e = (let same : Rattle.fsb_line.specs.declared.purpose.Purpose.TheVariants.WriteBack ≡ purpose = cc in ap kind_owns (sym same))
-owns-by kinds.Upgrade purpose e = (let same : Rattle.fsb_line.specs.declared.purpose.Purpose.TheVariants.Upgrade ≡ purpose = cc in ap kind_owns (sym same))
+owns-by kinds.Invalidate purpose e =
+    (let same : Rattle.fsb_line.specs.declared.purpose.Purpose.TheVariants.Own ≡ purpose = cc in
+    ap kind_owns (sym same))
+owns-by kinds.Read purpose e =
+    (let same : Rattle.fsb_line.specs.declared.purpose.Purpose.TheVariants.Read ≡ purpose = cc in
+    ap kind_owns (sym same))
+owns-by kinds.WriteBack purpose e =
+    (let same : Rattle.fsb_line.specs.declared.purpose.Purpose.TheVariants.WriteBack ≡ purpose = cc in
+    ap kind_owns (sym same))
+owns-by kinds.Upgrade purpose e =
+    (let same : Rattle.fsb_line.specs.declared.purpose.Purpose.TheVariants.Upgrade ≡ purpose = cc in
+    ap kind_owns (sym same))
 
 pub settled-as : (r : Run) (c : ℕ) (s : SnoopEnd) (claim : Claim) → Reaches r (c + 1)
     → snooped_at (past_of r) c ≡ Some s
@@ -89,7 +102,8 @@ settled-as r c s claim h there claims =
     let k = claimed-at r c tied.0 s claim h.timely h.bounds (snooped-by r c tied.0 s tied.1) claims in
     let decoded = k.decoded in
     let same : k.request ≡ want.request = cc in
-    let settled = (clock-facts r claim.line c h.timely h.bounds (omega arith)).settles.settled s claim there claims refl in
+    let settled = (clock-facts r claim.line c h.timely h.bounds (omega arith)).settles.settled s claim there
+    claims refl in
     let fits = settled.fits in
     let own = fits.claimed in
     let who : claim ≡ record { first = s.first; agent = fits.agent; line = claim.line } = cc in
@@ -149,7 +163,8 @@ own-out r a c n s claim v h there claims mine requests k =
     let numbered = find-number p a found.0 v.outs (outs-apart r a c n v h requests) found.1 in
     let wanted = wanted-of p a n (owed_through p a c) v found.0 requests found.1 in
     let want = k.want in
-    let mine_want : want_of p a s.first ≡ Some k.request = subst (λ b. want_of p b s.first ≡ Some k.request) mine want in
+    let mine_want : want_of p a s.first ≡ Some k.request =
+    subst (λ b. want_of p b s.first ≡ Some k.request) mine want in
     let here : want_of p a s.first ≡ Some found.0.request = ap (want_of p a) (sym number) ∙ wanted in
     let request : found.0.request ≡ k.request = (let e = sym here ∙ mine_want in cc) in
     (found.0, found.1, number, subst (λ q. request_numbered q v.outs ≡ Some found.0) number numbered, request)
@@ -179,7 +194,8 @@ own-kept : (p : Past) (a line c : ℕ) (s : SnoopEnd) (claim : Claim) (kind : Ki
     → s.claim ≡ Some claim → s.kind ≡ Some kind → claim.agent ≡ a → is_write_back_kind kind ≡ false
     → (is_written_back p a line c || is_taken_away p a line c) ≡ false
 own-kept p a line c s claim kind there claims is mine plain =
-    (λ i. own-written p a line c s claim kind there claims is mine i || own-taken p a line c s claim there claims mine i)
+    (λ i. own-written p a line c s claim kind there claims is mine i
+    || own-taken p a line c s claim there claims mine i)
     ∙ never-both (nat_eq claim.line line) (is_write_back_kind kind) plain
 
 pub grant-of-snoop : (p : Past) (c : ℕ) (s : SnoopEnd) → snooped_at p c ≡ Some s → grant_at p c ≡ s.grant
@@ -212,7 +228,8 @@ got-view : (r : Run) (a c : ℕ) (s : SnoopEnd) (claim : Claim) (grant : Grant) 
     → is_write_back_kind k.request.kind ≡ false → asks_line (kind_asks out.request.kind) ≡ true
     → granted (kind_asks out.request.kind) shared ≡ state_granted grant → IsViewBeforeSnoop (past_of r) a c v
     → IsViewAfterSnoop (past_of r) a c (granted_by v out shared)
-got-view r a c s claim grant out shared v h some there claims mine k makes agent line number plain kept asks state view =
+got-view r a c s claim grant out shared v h some there claims mine k makes agent line number plain kept asks
+    state view =
     let p = past_of r in
     let at : grant_at p c ≡ Some grant = grant-of-snoop p c s there ∙ makes in
     let still : (x : OwnRequest) → Among x v.outs → x.number ≢ out.number
@@ -225,7 +242,8 @@ got-view r a c s claim grant out shared v h some there claims mine k makes agent
       buffers = with_fill v.buffers l out.number;
       outs = requests_granted out.number None v.outs;
     })) line
-    (granted-view r a c out.number grant (granted (kind_asks out.request.kind) shared) no_bytes None v h some at agent state
+    (granted-view r a c out.number grant (granted (kind_asks out.request.kind) shared) no_bytes None v h some
+    at agent state
     (λ l _. own-kept p a l c s claim k.request.kind there claims k.kind mine kept)
     (λ l. own-named p a l c s claim there claims mine)
     (λ x among. own-won r a c out.number None v x view.requests none still among) view))
@@ -336,7 +354,8 @@ getting-view r a c s claim out shared outcome v h some there claims mine k e g r
     let kind : out.request.kind ≡ k.request.kind = ap (λ (q : Request). q.kind) request in
     let makes : s.grant ≡ Some grant =
     k.granted
-    ∙ ap (λ b. if b || (is_upgraded s.outcome && holds_line (past_of r) claim.agent claim.line c) then Some grant else None)
+    ∙ ap (λ b. if b || (is_upgraded s.outcome && holds_line (past_of r) claim.agent claim.line c)
+    then Some grant else None)
     (ap (makes_grant k.request.kind) e ∙ g.makes) in
     got-view r a c s claim grant out shared v h some there claims mine k makes mine
     (sym k.line ∙ sym (ap (λ (q : Request). q.line) request)) number (ap is_upgraded e ∙ g.plain) g.kept
@@ -353,7 +372,8 @@ getting-makes r c s claim k outcome e g =
     let grant = grant-by r c s claim k in (
       grant,
       k.granted
-          ∙ ap (λ b. if b || (is_upgraded s.outcome && holds_line (past_of r) claim.agent claim.line c) then Some grant else None)
+          ∙ ap (λ b. if b || (is_upgraded s.outcome && holds_line (past_of r) claim.agent claim.line c)
+          then Some grant else None)
           (ap (makes_grant k.request.kind) e ∙ g.makes),
     )
 
@@ -385,7 +405,8 @@ idle-view r a c s claim v h there claims mine k none kept view =
           subst (λ q. is_won_below p (c + 1) q ≡ is_won_below p c q) is (unwon ∙ sym (won-before r c s h there))
       | inr apart ↦
           won-still p c out.number
-          (other-snoop p c out.number s there (λ e. both_ways (nat_eq s.first out.number) apart (eq-eqb s.first out.number e)))
+          (other-snoop p c out.number s there
+          (λ e. both_ways (nat_eq s.first out.number) apart (eq-eqb s.first out.number e)))
     ]) view.requests)
     view
   where
@@ -438,7 +459,8 @@ written-view r a c s claim out v h there claims mine k e request view =
           subst (λ q. is_won_below p (c + 1) q ≡ is_won_below p c q) is (unwon ∙ sym (won-before r c s h there))
       | inr apart ↦
           won-still p c o.number
-          (other-snoop p c o.number s there (λ f. both_ways (nat_eq s.first o.number) apart (eq-eqb s.first o.number f)))
+          (other-snoop p c o.number s there
+          (λ f. both_ways (nat_eq s.first o.number) apart (eq-eqb s.first o.number f)))
     ]) view.requests)
     view
   where
@@ -513,7 +535,8 @@ unmade r c s claim k outcome e makes plain =
     ∙ (λ i. makes i || (plain i && holds_line (past_of r) claim.agent claim.line c))) k.granted
 
 -- the grant says whether the line was seen to be shared
-seen-as : (r : Run) (c : ℕ) (s : SnoopEnd) (claim : Claim) (k : IsSettledAs r c s claim) (shared : Bool) (outcome : Outcome)
+seen-as : (r : Run) (c : ℕ) (s : SnoopEnd) (claim : Claim) (k : IsSettledAs r c s claim) (shared : Bool)
+    (outcome : Outcome)
     → ((grant : Grant) → s.grant ≡ Some grant → shared ≡ grant.shared) → s.outcome ≡ outcome
     → IsGetting k.request.kind outcome → shared ≡ k.shared
 unfolding grant-by
@@ -521,7 +544,8 @@ seen-as r c s claim k shared outcome seen e g =
     let grant = grant-by r c s claim k in
     seen grant
     (k.granted
-    ∙ ap (λ b. if b || (is_upgraded s.outcome && holds_line (past_of r) claim.agent claim.line c) then Some grant else None)
+    ∙ ap (λ b. if b || (is_upgraded s.outcome && holds_line (past_of r) claim.agent claim.line c)
+    then Some grant else None)
     (ap (makes_grant k.request.kind) e ∙ g.makes))
 
 -- the snoop end of the agent's own request
@@ -546,7 +570,8 @@ own-claimed r a c s claim request shared v h some there claims mine seen view =
         (seen-as r c s claim k shared Granted seen e g) view
     by k out number same Handed e =
         let g = getting-handed k.request.kind (ap (fits_kind k.request.kind) (sym e) ∙ k.fits) in
-        getting-view r a c s claim out true Handed v h some there claims mine k e g same number (sym (k.seen_dirty e)) view
+        getting-view r a c s claim out true Handed v h some there claims mine k e g same number
+        (sym (k.seen_dirty e)) view
     by k out number same Retried e =
         let i = idle-retried k.request.kind (ap (fits_kind k.request.kind) (sym e) ∙ k.fits) in
         idle-view r a c s claim v h there claims mine k (unmade r c s claim k Retried e i.makes i.plain) i.kept view

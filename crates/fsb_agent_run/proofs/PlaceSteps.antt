@@ -1,12 +1,14 @@
 -- The place of a view in its script, one clock further.
-use Rattle.std.proofs.Common.{ℕ, ◌+◌, ◌<◌, ◌≤◌, ◌≡◌, Bool, true, false, not, ◌&&◌, ◌||◌, List, length, Option, Some, refl, sym, ap, subst, ◌∙◌, inl, inr, arith}
+use Rattle.std.proofs.Common.{ℕ, ◌+◌, ◌<◌, ◌≤◌, ◌≡◌, Bool, true, false, not, ◌&&◌, ◌||◌, List, length, Option, Some}
+use Rattle.std.proofs.Common.{refl, sym, ap, subst, ◌∙◌, inl, inr, arith}
 use Rattle.std.specs.Option.{option_map, option_map_or}
 use Rattle.std.proofs.lemmas.Bool.{cases_lt, false_from_ne_true}
 use Rattle.fsb_count.proofs.Interface.{first_where-found}
 use Rattle.fsb_access.specs.declared.item.Item.{Item}
 use Rattle.fsb_access.specs.declared.log.Done.{Done}
 use Rattle.fsb_timely.specs.Past.{Past}
-use Rattle.fsb_timely.specs.Scripts.{completes_at, idle_clocks, idle_start, is_logged, is_logged_at, is_to_do, items_of, last_done, next_number, number_after}
+use Rattle.fsb_timely.specs.Scripts.{completes_at, idle_clocks, idle_start, is_logged, is_logged_at, is_to_do, items_of}
+use Rattle.fsb_timely.specs.Scripts.{last_done, next_number, number_after}
 use Rattle.fsb_timely.proofs.Interface.{is_logged-more, next_number-same}
 use Rattle.fsb_agent_run.proofs.LastEntries.{last-over}
 use Rattle.fsb_agent_view.specs.AgentViews.{AgentView}

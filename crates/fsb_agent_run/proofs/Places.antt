@@ -1,5 +1,6 @@
 -- Where a view is in its script: its next item, its window, and whether it idles.
-use Rattle.std.proofs.Common.{ℕ, ◌+◌, ◌<◌, ◌≡◌, Bool, true, false, not, ◌&&◌, List, [], ◌∷◌, length, Option, Some, None, is_some, nat_eq, nat_lt, nat_le, refl, sym, ap, subst, ◌∙◌, inl, inr, arith}
+use Rattle.std.proofs.Common.{ℕ, ◌+◌, ◌<◌, ◌≡◌, Bool, true, false, not, ◌&&◌, List, [], ◌∷◌, length, Option, Some, None}
+use Rattle.std.proofs.Common.{is_some, nat_eq, nat_lt, nat_le, refl, sym, ap, subst, ◌∙◌, inl, inr, arith}
 use Rattle.std.specs.List.{slice_get}
 use Rattle.std.specs.Option.{option_and_then, option_map, option_map_or}
 use Rattle.std.proofs.lemmas.Bool.{and_parts, cases_lt, le-leb, le-ltb, lt-leb, lt-ltb, ltb-true, ne_eqb}
@@ -9,11 +10,13 @@ use Rattle.fsb_count.proofs.Interface.{first_where-found}
 use Rattle.fsb_access.specs.declared.item.Item.{Item}
 use Rattle.fsb_access.specs.declared.log.Done.{Done}
 use Rattle.fsb_timely.specs.Past.{Past}
-use Rattle.fsb_timely.specs.Scripts.{idle_clocks, idle_start, is_done_by, is_idle, is_idling, is_to_do, items_of, last_done, next_item, next_number, number_after, window, window_at}
+use Rattle.fsb_timely.specs.Scripts.{idle_clocks, idle_start, is_done_by, is_idle, is_idling, is_to_do, items_of}
+use Rattle.fsb_timely.specs.Scripts.{last_done, next_item, next_number, number_after, window, window_at}
 use Rattle.fsb_timely.proofs.Interface.{last_where-found}
 use Rattle.fsb_lawful.proofs.Interface.{some-and}
 use Rattle.fsb_agent_view.specs.declared.want.Finished.{Finished}
-use Rattle.fsb_agent_view.specs.AgentViews.{AgentView, is_finished_at, is_idle_by, may_complete, next_item_by, number_at}
+use Rattle.fsb_agent_view.specs.AgentViews.{AgentView, is_finished_at, is_idle_by, may_complete, next_item_by}
+use Rattle.fsb_agent_view.specs.AgentViews.{number_at}
 use Rattle.fsb_agent_view.specs.Wanting.{window_beginning, window_by}
 use Rattle.fsb_agent_run.specs.RunViews.{IsAgentOf, IsAtItem, IsPlacedIn, finished_by, idle_end, place_of}
 

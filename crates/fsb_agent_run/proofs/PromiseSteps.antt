@@ -1,10 +1,12 @@
 -- What is promised of a line, one snoop end further.
-use Rattle.std.proofs.Common.{ℕ, ◌+◌, ◌≡◌, Bool, true, false, not, ◌&&◌, ◌||◌, if◌then◌else◌, Option, Some, None, nat_le, refl, ap, ◌∙◌, arith, add-one}
+use Rattle.std.proofs.Common.{ℕ, ◌+◌, ◌≡◌, Bool, true, false, not, ◌&&◌, ◌||◌, if◌then◌else◌, Option, Some, None}
+use Rattle.std.proofs.Common.{nat_le, refl, ap, ◌∙◌, arith, add-one}
 use Rattle.std.specs.Option.{option_and_then, option_map}
 use Rattle.std.proofs.lemmas.Bool.{eq-eqb, le-leb, lt-leb}
 use Rattle.fsb_count.specs.Clocks.{any_where, from_clock, last_where}
 use Rattle.fsb_count.specs.Options.{is_at, is_some_and}
-use Rattle.fsb_count.proofs.Interface.{any_where-at, any_where-more, any_where-off, last_where-failed, last_where-passed}
+use Rattle.fsb_count.proofs.Interface.{any_where-at, any_where-more, any_where-off, last_where-failed}
+use Rattle.fsb_count.proofs.Interface.{last_where-passed}
 use Rattle.fsb_timely.specs.Past.{Claim, Grant, Past}
 use Rattle.fsb_timely.specs.Grants.{begun_at, is_ended, is_granted}
 use Rattle.fsb_timely.proofs.Interface.{last_where-found, latest_grant-more}

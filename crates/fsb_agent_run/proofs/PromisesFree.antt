@@ -1,5 +1,6 @@
 -- A line on which an agent is dirty is promised to nobody.
-use Rattle.std.proofs.Common.{ℕ, ◌+◌, ◌<◌, ◌≤◌, ◌≡◌, ◌≢◌, Bool, true, not, ◌&&◌, ◌||◌, Option, Some, None, length, refl, sym, ap, ◌∙◌, inl, inr, arith}
+use Rattle.std.proofs.Common.{ℕ, ◌+◌, ◌<◌, ◌≤◌, ◌≡◌, ◌≢◌, Bool, true, not, ◌&&◌, ◌||◌, Option, Some, None, length, refl}
+use Rattle.std.proofs.Common.{sym, ap, ◌∙◌, inl, inr, arith}
 use Rattle.std.proofs.lemmas.Bool.{and_parts, both_ways, eq-eqb, le-leb, ne_eqb, not-true, or_left, or_right}
 use Rattle.fsb_count.specs.Clocks.{any_where, from_clock, holds_since, last_where}
 use Rattle.fsb_count.specs.Options.{is_some_and}
@@ -7,7 +8,9 @@ use Rattle.fsb_count.proofs.Interface.{any_where-at}
 use Rattle.fsb_encode.specs.declared.request.Kind.TheVariants.{WriteBack}
 use Rattle.fsb_trace.specs.Requests.{is_write_back_kind}
 use Rattle.fsb_timely.specs.Past.{Claim, Past, SnoopEnd}
-use Rattle.fsb_timely.specs.Grants.{holds_line, is_claim_of, is_claim_of_other, is_evicted, is_exclusive, is_granted, is_lost, is_named_by_other, is_snooped, is_sole_grant, is_taken_away, is_written_back, latest_grant, snooped_at}
+use Rattle.fsb_timely.specs.Grants.{holds_line, is_claim_of, is_claim_of_other, is_evicted, is_exclusive, is_granted}
+use Rattle.fsb_timely.specs.Grants.{is_lost, is_named_by_other, is_snooped, is_sole_grant, is_taken_away}
+use Rattle.fsb_timely.specs.Grants.{is_written_back, latest_grant, snooped_at}
 use Rattle.fsb_timely.specs.Hits.{is_dirty, is_stored_since}
 use Rattle.fsb_timely.specs.Runs.{Run, past_of}
 use Rattle.fsb_timely.specs.Timely.{Timely}

@@ -1,9 +1,12 @@
 -- What an agent begins at a clock, and what is cancelled there, in its view.
-use Rattle.std.proofs.Common.{ℕ, ◌+◌, ◌≡◌, ◌≢◌, ◌⊎◌, ◌%◌, Bool, true, false, not, ◌&&◌, [], ◌∷◌, ◌++◌, map, length, Option, Some, None, is_some, nat_eq, refl, sym, ap, subst, ◌∙◌, inl, inr, append-nil, arith, if◌then◌else◌}
+use Rattle.std.proofs.Common.{ℕ, ◌+◌, ◌≡◌, ◌≢◌, ◌⊎◌, ◌%◌, Bool, true, false, not, ◌&&◌, [], ◌∷◌, ◌++◌, map, length}
+use Rattle.std.proofs.Common.{Option, Some, None, is_some, nat_eq, refl, sym, ap, subst, ◌∙◌, inl, inr, append-nil}
+use Rattle.std.proofs.Common.{arith, if◌then◌else◌}
 use Rattle.std.specs.Prelude.{◌==◌}
 use Rattle.std.specs.List.{filter}
 use Rattle.std.specs.Option.{option_map}
-use Rattle.std.proofs.lemmas.Bool.{and_from, and_parts, both_ways, cases_Bool, eq-eqb, eqb-true, false_from_ne_true, ne_eqb}
+use Rattle.std.proofs.lemmas.Bool.{and_from, and_parts, both_ways, cases_Bool, eq-eqb, eqb-true, false_from_ne_true}
+use Rattle.std.proofs.lemmas.Bool.{ne_eqb}
 use Rattle.std.proofs.lemmas.List.{map-append}
 use Rattle.fsb_cache.specs.declared.held.Held.{Held}
 use Rattle.fsb_cache.specs.Sets.{CacheSets, slot_of, states}
@@ -30,12 +33,14 @@ use Rattle.fsb_agent_view.specs.OwnRequests.{new_request}
 use Rattle.fsb_agent_view.specs.Wanting.{sent, sets_cleared_for, want_by}
 use Rattle.fsb_agent_run.specs.RunViews.{HasRequestsOf, is_won_below, owing_by, state_told}
 use Rattle.fsb_agent_run.specs.Owings.{are_owings_apart}
-use Rattle.fsb_agent_run.specs.Stages.{IsPlacedThrough, IsViewAfterHit, IsViewAfterSent, IsViewBeforeSnoop, owings_begun, is_uncancelled, owed_sent, owed_through}
+use Rattle.fsb_agent_run.specs.Stages.{IsPlacedThrough, IsViewAfterHit, IsViewAfterSent, IsViewBeforeSnoop}
+use Rattle.fsb_agent_run.specs.Stages.{owings_begun, is_uncancelled, owed_sent, owed_through}
 use Rattle.fsb_agent_run.proofs.Among.{Among, among-either, filter-all, filter-same}
 use Rattle.fsb_agent_run.proofs.OutLists.{among-without, kept-of, map-without, requests-from, wanted-of}
 use Rattle.fsb_agent_run.proofs.OwedApart.{sent-apart}
 use Rattle.fsb_agent_run.proofs.OwedSteps.{begun-parts, is_own, sent-is}
-use Rattle.fsb_agent_run.proofs.SlotStates.{InSets, in_sets-without, length-without, slot-shared, state-absent, state-empty, state-without}
+use Rattle.fsb_agent_run.proofs.SlotStates.{InSets, in_sets-without, length-without, slot-shared, state-absent}
+use Rattle.fsb_agent_run.proofs.SlotStates.{state-empty, state-without}
 use Rattle.fsb_agent_run.proofs.WantsMade.{want-by}
 use Rattle.fsb_agent_run.proofs.WonSteps.{won-fresh}
 
@@ -291,7 +296,8 @@ sent-view r a c claim v h begun mine view =
           (λ out there. elim (either out there) [
             | inl before ↦ kept-of p a c (owed p a c) v out view.requests before
             | inr now ↦
-                subst (λ (o : OwnRequest). is_some o.kept ≡ is_won_below p c o.number) now (sym (won-fresh r c c (omega arith)))
+                subst (λ (o : OwnRequest). is_some o.kept ≡ is_won_below p c o.number) now
+                (sym (won-fresh r c c (omega arith)))
           ]);
     })
   where

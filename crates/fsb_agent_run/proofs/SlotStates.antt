@@ -1,11 +1,13 @@
 -- The state of each line of a cache of which one set has something else, and that each set has a line of its own.
-use Rattle.std.proofs.Common.{ℕ, ◌<◌, ◌≡◌, ◌≢◌, ◌%◌, ◌/◌, true, false, Option, Some, None, List, [], ◌∷◌, length, refl, sym, ap, ◌∙◌, inl, inr, ⊎_elim, arith, if◌then◌else◌}
+use Rattle.std.proofs.Common.{ℕ, ◌<◌, ◌≡◌, ◌≢◌, ◌%◌, ◌/◌, true, false, Option, Some, None, List, [], ◌∷◌, length, refl}
+use Rattle.std.proofs.Common.{sym, ap, ◌∙◌, inl, inr, ⊎_elim, arith, if◌then◌else◌}
 use Rattle.std.specs.Prelude.{◌==◌, is_some}
 use Rattle.std.specs.List.{slice_index_or}
 use Rattle.std.specs.Option.{option_map, option_map_or}
 use Rattle.std.proofs.lemmas.Bool.{cases_Bool, cases_eq, eq-eqb, eqb-true, ne_eqb}
 use Rattle.fsb_cache.specs.declared.held.Held.{Held}
-use Rattle.fsb_cache.specs.Sets.{CacheSets, held_at, held_shared, held_stored, only_line, sets_filled, sets_shared, sets_stored, sets_without, slot_of, state_of_held, states, with_slot}
+use Rattle.fsb_cache.specs.Sets.{CacheSets, held_at, held_shared, held_stored, only_line, sets_filled, sets_shared}
+use Rattle.fsb_cache.specs.Sets.{sets_stored, sets_without, slot_of, state_of_held, states, with_slot}
 use Rattle.fsb_line.specs.declared.state.Mesi.{Mesi}
 use Rattle.fsb_line.specs.declared.state.Mesi.TheVariants.{Invalid, Modified, Shared}
 use Rattle.fsb_line.specs.States.{is_held}
@@ -17,13 +19,15 @@ pub state-same : (sets : CacheSets) (line other : ℕ) (slot : Option Held) → 
     → other % length sets ≡ line % length sets
     → states (with_slot sets line slot) other ≡ state_of_held (only_line other slot)
 unfolding states held_at
-state-same sets line other slot some same = ap (λ s. state_of_held (only_line other s)) (slot_of-same sets line other slot some same)
+state-same sets line other slot some same =
+    ap (λ s. state_of_held (only_line other s)) (slot_of-same sets line other slot some same)
 
 -- a line of another set
 pub state-apart : (sets : CacheSets) (line other : ℕ) (slot : Option Held) → other % length sets ≢ line % length sets
     → states (with_slot sets line slot) other ≡ states sets other
 unfolding states held_at
-state-apart sets line other slot apart = ap (λ s. state_of_held (only_line other s)) (slot_of-other sets line other slot apart)
+state-apart sets line other slot apart =
+    ap (λ s. state_of_held (only_line other s)) (slot_of-other sets line other slot apart)
 
 -- a cache with a line has sets
 pub some-sets : (sets : CacheSets) (line : ℕ) → is_held (states sets line) ≡ true → 0 < length sets
@@ -107,7 +111,8 @@ kept-line sets line other held after some e is keeps =
     state-same sets line other (Some after) some same ∙ state-of-slot other after
     ∙ rw (ne_eqb after.line other (λ f. apart (sym f ∙ keeps ∙ is)), not_same)
     (sym (state-absent sets other held (slot-shared sets line other same ∙ e) (λ f. apart (sym f ∙ is)))))
-    (λ (away : other % length sets ≢ line % length sets). state-apart sets line other (Some after) away ∙ rw not_same refl)
+    (λ (away : other % length sets ≢ line % length sets). state-apart sets line other (Some after) away
+    ∙ rw not_same refl)
     (cases_eq (other % length sets) (line % length sets)))
     (cases_eq other line)
 
@@ -180,7 +185,8 @@ state-without sets line other = elim (cases_Bool (is_some (held_at sets line))) 
       (λ (is : other ≡ line). rw (eq-eqb other line is) refl)
       (λ (apart : other ≢ line).
       rw (ne_eqb other line apart)
-      (sym (state-absent sets other there.0 (slot-shared sets line other same ∙ there.1) (λ f. apart (sym f ∙ there.2)))))
+      (sym (state-absent sets other there.0 (slot-shared sets line other same
+      ∙ there.1) (λ f. apart (sym f ∙ there.2)))))
       (cases_eq other line))
       (λ (away : other % length sets ≢ line % length sets).
       state-apart sets line other None away

@@ -1,12 +1,16 @@
 -- From before the snoop end of a clock to behind it: where the agent is granted a line, and where it is granted none.
-use Rattle.std.proofs.Common.{ℕ, ◌+◌, ◌<◌, ◌≡◌, ◌≢◌, ◌%◌, true, false, not, ◌&&◌, ◌||◌, List, map, length, Option, Some, None, is_some, nat_eq, refl, sym, ap, subst, ◌∙◌, inl, inr, arith, ⊎_elim, if◌then◌else◌}
-use Rattle.std.proofs.lemmas.Bool.{and_from, both_ways, cases_Bool, cases_eq, eq-eqb, false_from_ne_true, ne_eqb, or_parts}
+use Rattle.std.proofs.Common.{ℕ, ◌+◌, ◌<◌, ◌≡◌, ◌≢◌, ◌%◌, true, false, not, ◌&&◌, ◌||◌, List, map, length, Option, Some}
+use Rattle.std.proofs.Common.{None, is_some, nat_eq, refl, sym, ap, subst, ◌∙◌, inl, inr, arith, ⊎_elim, if◌then◌else◌}
+use Rattle.std.proofs.lemmas.Bool.{and_from, both_ways, cases_Bool, cases_eq, eq-eqb, false_from_ne_true, ne_eqb}
+use Rattle.std.proofs.lemmas.Bool.{or_parts}
 use Rattle.fsb_cache.specs.Sets.{sets_filled}
 use Rattle.fsb_count.specs.Options.{is_some_and}
 use Rattle.fsb_line.specs.declared.state.Mesi.{Mesi}
 use Rattle.fsb_line.specs.declared.state.Mesi.TheVariants.{Invalid}
 use Rattle.fsb_timely.specs.Past.{Claim, Grant, Past, SnoopEnd}
-use Rattle.fsb_timely.specs.Grants.{begun_at, grant_at, holds_line, is_ended, is_evicted, is_exclusive, is_granted, is_named_by_other, is_rival, is_taken_away, is_written_back, latest_grant, set_of, snooped_at}
+use Rattle.fsb_timely.specs.Grants.{begun_at, grant_at, holds_line, is_ended, is_evicted, is_exclusive, is_granted}
+use Rattle.fsb_timely.specs.Grants.{is_named_by_other, is_rival, is_taken_away, is_written_back, latest_grant, set_of}
+use Rattle.fsb_timely.specs.Grants.{snooped_at}
 use Rattle.fsb_timely.specs.Hits.{is_dirty, is_hit, is_stored_since}
 use Rattle.fsb_timely.specs.Runs.{Run, past_of}
 use Rattle.fsb_timely.specs.Wants.{is_asked_for, owed, want_of}
@@ -24,7 +28,8 @@ use Rattle.fsb_agent_view.specs.OwnRequests.{requests_granted}
 use Rattle.fsb_agent_view.specs.Snooping.{with_fill}
 use Rattle.fsb_agent_view.proofs.Interface.{length-with_slot}
 use Rattle.fsb_agent_run.specs.Owings.{are_owings_apart}
-use Rattle.fsb_agent_run.specs.RunViews.{HasRequestsOf, fill_count, is_awaited, is_won_below, one_if, owing_by, state_told}
+use Rattle.fsb_agent_run.specs.RunViews.{HasRequestsOf, fill_count, is_awaited, is_won_below, one_if, owing_by}
+use Rattle.fsb_agent_run.specs.RunViews.{state_told}
 use Rattle.fsb_agent_run.specs.Stages.{IsViewAfterSnoop, IsViewBeforeSnoop, is_uncancelled, owed_sent, owed_through}
 use Rattle.fsb_agent_run.proofs.Among.{Among, among-filter}
 use Rattle.fsb_agent_run.proofs.FillCounts.{count-push}
@@ -126,7 +131,8 @@ lowered-view r a c v w none lowers same requests view =
         states = λ line.
             lowers.states line
             ∙ (λ i. if is_written_back p a line c || is_taken_away p a line c then Invalid
-            else (if is_named_by_other p a line c then state_read (view.lines.states line i) else view.lines.states line i))
+            else (if is_named_by_other p a line c then state_read (view.lines.states line i)
+            else view.lines.states line i))
             ∙ sym (snooped-kept p a line c (none line));
         fills = λ line. lowers.fills line ∙ view.lines.fills line
             ∙ ap one_if (sym (awaited-kept p a line c (none line)));
@@ -210,7 +216,8 @@ granted-view r a c number grant state bytes kept v h some there mine is lost nam
     (ended-later p c (c + 1) now.grant.first (omega arith) (ap (λ (g : Grant). is_ended p c g.first) first ∙ t))) in
     let elsewhere : (other : ℕ) → other ≢ line → is_granted p a other c ≡ false =
     λ other apart. granted-is p a other c grant there mine ∙ ne_eqb line other (λ e. apart (sym e)) in
-    let empty : (other : ℕ) → other ≢ line → other % length v.lines ≡ line % length v.lines → line_state_by v other ≡ Invalid =
+    let empty : (other : ℕ) → other ≢ line → other % length v.lines ≡ line % length v.lines
+    → line_state_by v other ≡ Invalid =
     λ other apart same.
     let unheld = rival-unheld r a line other c h asked apart
     (ap (λ n. other % n) (sym view.agent.cache) ∙ same ∙ ap (λ n. line % n) view.agent.cache) in

@@ -1,5 +1,6 @@
 -- What the stores of a clock make of the states of an agent's lines: those of a hit, and those of an arrival.
-use Rattle.std.proofs.Common.{ℕ, ◌+◌, ◌≡◌, Bool, true, false, ◌&&◌, ◌||◌, List, [], ◌∷◌, Option, Some, None, nat_eq, nat_lt, refl, sym, ap, ◌∙◌}
+use Rattle.std.proofs.Common.{ℕ, ◌+◌, ◌≡◌, Bool, true, false, ◌&&◌, ◌||◌, List, [], ◌∷◌, Option, Some, None, nat_eq}
+use Rattle.std.proofs.Common.{nat_lt, refl, sym, ap, ◌∙◌}
 use Rattle.std.specs.List.{list_any}
 use Rattle.std.proofs.lemmas.Bool.{eqb-true}
 use Rattle.fsb_access.specs.declared.log.Done.{Done}
@@ -97,7 +98,8 @@ pub stored-more : (p : Past) (a line c q : ℕ) → is_stored_below p a line (c 
 unfolding is_stored_below
 stored-more p a line c q =
     let f : Done → Bool = λ done. is_store_on a line done && is_ended p done.clock q in
-    any-alike (λ done. f done && nat_lt done.clock (c + 1)) (λ done. f done && (nat_lt done.clock c || nat_eq done.clock c))
+    any-alike (λ done. f done && nat_lt done.clock (c + 1))
+    (λ done. f done && (nat_lt done.clock c || nat_eq done.clock c))
     p.log (λ done. ap (λ b. f done && b) (nat_lt-more done.clock c))
     ∙ any-split f (λ done. nat_lt done.clock c) (λ done. nat_eq done.clock c) p.log
     ∙ ap (λ b. list_any (λ done. f done && nat_lt done.clock c) p.log || b) (stored-there p a line c q p.log)
@@ -178,7 +180,8 @@ end-state p a line c none =
     ∙ with-more held own (is_some_and latest (λ grant. grant.owns || is_stored_below p a line c grant.first))
     (is_some_and latest (λ grant. is_ended p c grant.first) && any_stored p a line c)
     ∙ (λ i. state_with (is_some_and latest (λ grant. is_ended p c grant.first) && any_stored p a line c)
-    (state_told held own (own && is_some_and latest (λ grant. grant.owns || sym (since-none p a line c grant.first none) i))))
+    (state_told held own
+    (own && is_some_and latest (λ grant. grant.owns || sym (since-none p a line c grant.first none) i))))
 
 -- with a hit the stores of the clock have been counted
 pub end-state_hit : (p : Past) (a line c : ℕ) → is_hit p a c ≡ true

@@ -4,7 +4,8 @@ use Rattle.fsb_count.specs.Options.{is_some_and}
 use Rattle.fsb_line.specs.declared.state.Mesi.{Mesi}
 use Rattle.fsb_line.specs.declared.state.Mesi.TheVariants.{Exclusive, Invalid, Modified, Shared}
 use Rattle.fsb_timely.specs.Past.{Grant, Past}
-use Rattle.fsb_timely.specs.Grants.{grant_at, holds_line, is_evicted, is_exclusive, is_granted, is_lost, is_named_by_other, is_sole_grant, is_taken_away, is_written_back, latest_grant}
+use Rattle.fsb_timely.specs.Grants.{grant_at, holds_line, is_evicted, is_exclusive, is_granted, is_lost}
+use Rattle.fsb_timely.specs.Grants.{is_named_by_other, is_sole_grant, is_taken_away, is_written_back, latest_grant}
 use Rattle.fsb_timely.specs.Hits.{is_dirty, is_stored_since}
 use Rattle.fsb_timely.proofs.Interface.{holds_line-more, is_exclusive-more, latest_grant-more}
 use Rattle.fsb_run_laws.specs.RunStates.{state_granted, state_of_tests, state_read}
@@ -18,7 +19,8 @@ told-tests true false dirty = refl
 told-tests true true false = refl
 told-tests true true true = refl
 
--- the state of a line at agent a before the snoop end of c: with its hits, and dropped where a begins a request for a rival
+-- the state of a line at agent a before the snoop end of c: with its hits, and dropped where a begins a request for
+-- a rival
 abbrev pub state_kept : Past → ℕ → ℕ → ℕ → Mesi
 state_kept p a line c =
     state_told (holds_line p a line c && not (is_evicted p a line c))

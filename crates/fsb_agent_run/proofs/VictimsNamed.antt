@@ -1,8 +1,10 @@
 -- The line that a view has to write back is the one that the run says.
-use Rattle.std.proofs.Common.{ℕ, ◌%◌, ◌≡◌, true, false, not, ◌&&◌, Option, Some, None, length, nat_eq, refl, sym, ap, ◌∙◌, inl, inr}
+use Rattle.std.proofs.Common.{ℕ, ◌%◌, ◌≡◌, true, false, not, ◌&&◌, Option, Some, None, length, nat_eq, refl, sym, ap}
+use Rattle.std.proofs.Common.{◌∙◌, inl, inr}
 use Rattle.std.specs.Prelude.{◌==◌}
 use Rattle.std.specs.List.{slice_index_or}
-use Rattle.std.proofs.lemmas.Bool.{and_from, and_parts, both_ways, cases_Bool, eq-eqb, eqb-true, false_from_ne_true, not-true}
+use Rattle.std.proofs.lemmas.Bool.{and_from, and_parts, both_ways, cases_Bool, eq-eqb, eqb-true, false_from_ne_true}
+use Rattle.std.proofs.lemmas.Bool.{not-true}
 use Rattle.fsb_cache.specs.declared.held.Held.{Held}
 use Rattle.fsb_cache.specs.Sets.{held_at, only_line, slot_of, state_of_held, states}
 use Rattle.fsb_line.specs.States.{is_modified}

@@ -1,5 +1,6 @@
 -- What a view wants is what the run says.
-use Rattle.std.proofs.Common.{ℕ, ◌+◌, ◌%◌, ◌≡◌, Bool, true, false, not, ◌&&◌, ◌||◌, List, [], ◌∷◌, map, length, Option, Some, None, is_some, nat_eq, nat_le, refl, sym, ap, ◌∙◌, if◌then◌else◌}
+use Rattle.std.proofs.Common.{ℕ, ◌+◌, ◌%◌, ◌≡◌, Bool, true, false, not, ◌&&◌, ◌||◌, List, [], ◌∷◌, map, length, Option}
+use Rattle.std.proofs.Common.{Some, None, is_some, nat_eq, nat_le, refl, sym, ap, ◌∙◌, if◌then◌else◌}
 use Rattle.std.specs.Prelude.{◌==◌}
 use Rattle.std.specs.List.{find, list_any}
 use Rattle.std.specs.Option.{option_map, option_map_or}
@@ -12,11 +13,13 @@ use Rattle.fsb_timely.specs.Past.{Owing, Past}
 use Rattle.fsb_timely.specs.Grants.{set_of}
 use Rattle.fsb_timely.specs.Scripts.{Need, is_idling, needs_from, next_number, window, window_at}
 use Rattle.fsb_timely.specs.Hits.{is_dirty, is_hit}
-use Rattle.fsb_timely.specs.Wants.{free_id, id_of, is_asked_for, is_id_used, is_missing, is_same_set, is_set_taken, kind_needed, may_upgrade, owed, request_of_kind, want_for, want_of, write_back_of}
+use Rattle.fsb_timely.specs.Wants.{free_id, id_of, is_asked_for, is_id_used, is_missing, is_same_set, is_set_taken}
+use Rattle.fsb_timely.specs.Wants.{kind_needed, may_upgrade, owed, request_of_kind, want_for, want_of, write_back_of}
 use Rattle.fsb_agent_view.specs.declared.want.OwnRequest.{OwnRequest}
 use Rattle.fsb_agent_view.specs.declared.want.Want.{Want}
 use Rattle.fsb_agent_view.specs.AgentViews.{AgentView, is_idle_by}
-use Rattle.fsb_agent_view.specs.Wanting.{free_id_by, is_id_used_by, is_missing_by, is_silent_by, is_taken_by, kind_by, missing_by, victim_by, want_by, want_for_by}
+use Rattle.fsb_agent_view.specs.Wanting.{free_id_by, is_id_used_by, is_missing_by, is_silent_by, is_taken_by, kind_by}
+use Rattle.fsb_agent_view.specs.Wanting.{missing_by, victim_by, want_by, want_for_by}
 use Rattle.fsb_agent_run.specs.RunViews.{HasLinesOf, HasRequestsOf, IsAgentOf, owing_by}
 use Rattle.fsb_agent_run.specs.Stages.{IsViewAfterHit}
 use Rattle.fsb_agent_run.proofs.Places.{idle-by, window-by}

@@ -1,5 +1,6 @@
 -- An agent is sound before any event, and its next item is never an idle one.
-use Rattle.std.proofs.Common.{ℕ, zero, suc, ◌+◌, ◌<◌, ◌≤◌, ◌%◌, ◌≡◌, true, false, Option, None, List, [], ◌∷◌, length, drop, replicate, get_or, refl, ap, ◌∙◌, arith, zero-add, add-one}
+use Rattle.std.proofs.Common.{ℕ, zero, suc, ◌+◌, ◌<◌, ◌≤◌, ◌%◌, ◌≡◌, true, false, Option, None, List, [], ◌∷◌, length}
+use Rattle.std.proofs.Common.{drop, replicate, get_or, refl, ap, ◌∙◌, arith, zero-add, add-one}
 use Rattle.std.specs.List.{slice_get}
 use Rattle.std.specs.Option.{option_map_or}
 use Rattle.std.proofs.lemmas.List.{length-replicate}
@@ -31,14 +32,17 @@ slice_get-drop (suc n) k (item ∷ items) =
 -- no idle item stands where a script goes on
 pub busy_from : (items : List Item) (n : ℕ) → is_idle_item items (place_from items n) ≡ false
 busy_from items n =
-    ap (λ o. option_map_or is_idle o false) (slice_get-drop n (idle_count_in_front (drop n items)) items) ∙ front_busy (drop n items)
+    ap (λ o. option_map_or is_idle o false) (slice_get-drop n (idle_count_in_front (drop n items)) items)
+    ∙ front_busy (drop n items)
 
 none_there : (n i : ℕ) → get_or (replicate {A = Option Held} n None) i None ≡ None
 none_there zero i = refl
 none_there (suc n) zero = refl
 none_there (suc n) (suc i) = none_there n i
 
-pub sound_first : (number : ℕ) (items : List Item) (lines ahead profile : ℕ) → number < 4 → 0 < lines → is_lawful_script lines items ≡ true → 1 ≤ ahead → ahead ≤ 4 → is_profile profile ≡ true → IsSound (first_view number items lines ahead profile)
+pub sound_first : (number : ℕ) (items : List Item) (lines ahead profile : ℕ) → number < 4 → 0 < lines
+    → is_lawful_script lines items ≡ true → 1 ≤ ahead → ahead ≤ 4 → is_profile profile ≡ true
+    → IsSound (first_view number items lines ahead profile)
 sound_first number items lines ahead profile few some script some_ahead few_ahead known =
     let count = length-replicate {A = Option Held} lines None in
     record {

@@ -1,5 +1,6 @@
 -- A sound agent stays sound by what happens to it.
-use Rattle.std.proofs.Common.{ℕ, ◌+◌, ◌≡◌, Bool, true, false, cond, not, Option, Some, None, List, [], ◌∷◌, length, refl, sym, ◌∙◌, inl, inr, arith}
+use Rattle.std.proofs.Common.{ℕ, ◌+◌, ◌≡◌, Bool, true, false, cond, not, Option, Some, None, List, [], ◌∷◌, length}
+use Rattle.std.proofs.Common.{refl, sym, ◌∙◌, inl, inr, arith}
 use Rattle.std.specs.List.{find, list_all}
 use Rattle.std.proofs.lemmas.Bool.{cases_Bool}
 use Rattle.fsb_linebuf.specs.Buffers.{is_push_for, without_first}
@@ -8,10 +9,12 @@ use Rattle.fsb_agent_view.specs.AgentViews.{AgentView}
 use Rattle.fsb_agent_view.specs.Arriving.{given_up, handed_on, may_give_up}
 use Rattle.fsb_agent_view.specs.OwnRequests.{is_numbered, request_numbered}
 use Rattle.fsb_agent_view.specs.Sound.{IsSound, are_requests_apart, granted_count, is_apart_from, is_sound_request}
-use Rattle.fsb_agent_view.proofs.Parts.{both, both_left, both_right, length-without, list_all-without, without_first-cons}
+use Rattle.fsb_agent_view.proofs.Parts.{both, both_left, both_right, length-without, list_all-without}
+use Rattle.fsb_agent_view.proofs.Parts.{without_first-cons}
 
 -- requests are apart when one of them has gone
-pub apart-without : (sets : ℕ) (test : OwnRequest → Bool) (outs : List OwnRequest) → are_requests_apart sets outs ≡ true → are_requests_apart sets (without_first test outs) ≡ true
+pub apart-without : (sets : ℕ) (test : OwnRequest → Bool) (outs : List OwnRequest)
+    → are_requests_apart sets outs ≡ true → are_requests_apart sets (without_first test outs) ≡ true
 apart-without sets test [] apart = refl
 apart-without sets test (out ∷ outs) apart =
     let others = both_right (list_all (is_apart_from sets out) outs) (are_requests_apart sets outs) apart in
@@ -19,12 +22,15 @@ apart-without sets test (out ∷ outs) apart =
     rw (without_first-cons test out outs)
     (elim (cases_Bool (test out)) [
       | inl on ↦ rw on others
-      | inr off ↦ rw off (both (list_all (is_apart_from sets out) (without_first test outs)) (are_requests_apart sets (without_first test outs))
+      | inr off ↦ rw off
+          (both (list_all (is_apart_from sets out) (without_first test outs))
+          (are_requests_apart sets (without_first test outs))
           (list_all-without (is_apart_from sets out) test outs first) (apart-without sets test outs others))
     ])
 
 -- as many are granted when one that was not has gone
-pub granted-without : (test : OwnRequest → Bool) (outs : List OwnRequest) (out : OwnRequest) → find test outs ≡ Some out → granted_count (without_first test outs) + cond out.granted 1 0 ≡ granted_count outs
+pub granted-without : (test : OwnRequest → Bool) (outs : List OwnRequest) (out : OwnRequest)
+    → find test outs ≡ Some out → granted_count (without_first test outs) + cond out.granted 1 0 ≡ granted_count outs
 granted-without test [] out found = absurd (let h : ⊥ = cc in h)
 granted-without test (o ∷ outs) out found =
     rw (without_first-cons test o outs)
@@ -34,7 +40,8 @@ granted-without test (o ∷ outs) out found =
           let is : o ≡ out = cc in
           rw (on, is) (omega arith)
       | inr off ↦
-          let rest : granted_count (without_first test outs) + cond out.granted 1 0 ≡ granted_count outs = granted-without test outs out (rw off at found) in
+          let rest : granted_count (without_first test outs) + cond out.granted 1 0 ≡ granted_count outs =
+          granted-without test outs out (rw off at found) in
           rw off (omega (arith, rest))
     ])
 
@@ -63,7 +70,8 @@ none_less false n m e sum = omega (arith, sum)
 none_less true n m e sum = absurd (let h : ⊥ = cc in h)
 
 -- a request that was not granted is given up
-pub sound_given_up : (v : AgentView) (number : ℕ) → IsSound v → may_give_up v number ≡ true → IsSound (given_up v number)
+pub sound_given_up : (v : AgentView) (number : ℕ) → IsSound v → may_give_up v number ≡ true
+    → IsSound (given_up v number)
 sound_given_up v number s may = go (request_numbered number v.outs) refl
   where
     go : (found : Option OwnRequest) → request_numbered number v.outs ≡ found → IsSound (given_up v number)

@@ -1,6 +1,8 @@
 -- Each live reply is the reply to a Deferred request, one sample on.
-use Rattle.std.proofs.Common.{ℕ, ◌+◌, ◌-◌, ◌<◌, ◌≤◌, ◌≡◌, Bool, true, false, cond, ◌&&◌, ◌||◌, not, nat_eq, nat_le, Option, Some, None, length, refl, sym, ap, ◌∙◌, arith, inl, inr, subst}
-use Rattle.std.proofs.lemmas.Bool.{cases_lt, and_parts, and_from, both_ways, not-true, not-false, false_from_ne_true, leb-true, le-leb}
+use Rattle.std.proofs.Common.{ℕ, ◌+◌, ◌-◌, ◌<◌, ◌≤◌, ◌≡◌, Bool, true, false, cond, ◌&&◌, ◌||◌, not, nat_eq, nat_le}
+use Rattle.std.proofs.Common.{Option, Some, None, length, refl, sym, ap, ◌∙◌, arith, inl, inr, subst}
+use Rattle.std.proofs.lemmas.Bool.{cases_lt, and_parts, and_from, both_ways, not-true, not-false, false_from_ne_true}
+use Rattle.std.proofs.lemmas.Bool.{leb-true, le-leb}
 use Rattle.fsb_count.specs.Options.{is_some_and, is_before}
 use Rattle.fsb_count.specs.Clocks.{any_where}
 use Rattle.fsb_count.proofs.Interface.{any_where-found, any_where-none, first_where-at, nat_eq-sym}
@@ -17,7 +19,8 @@ use Rattle.fsb_trace.specs.Rules.{awaits_reply, is_begun_wrongly, is_outstanding
 use Rattle.fsb_laws.specs.OneMore.{OneMore, cancels}
 use Rattle.fsb_laws.specs.Orderly.{Orderly}
 use Rattle.fsb_laws.specs.Progress.{response_count}
-use Rattle.fsb_laws.proofs.Interface.{deferred_response, is_deferred-old, is_live-ads, is_live-more, reply_clock_of-more, request_at-old, response_counted}
+use Rattle.fsb_laws.proofs.Interface.{deferred_response, is_deferred-old, is_live-ads, is_live-more}
+use Rattle.fsb_laws.proofs.Interface.{reply_clock_of-more, request_at-old, response_counted}
 use Rattle.fsb_audit.specs.Audit.{IsAnswering}
 
 same_id-sym : (a b : Option Request) → have_same_id a b ≡ have_same_id b a
@@ -43,7 +46,8 @@ await_parts v p i t =
     record { deferred = c.0; id = c.1; before = b.1; unanswered = not-true _ a.1 }
 
 -- a reply that breaks no rule is awaited
-awaited : (v : Trace) (n p : ℕ) → p + 1 ≡ n → line_at ADS v p ≡ true → is_outstanding_wrong v n ≡ false → is_reply (request_at v p) ≡ true → (i : ℕ) × Awaits v p i
+awaited : (v : Trace) (n p : ℕ) → p + 1 ≡ n → line_at ADS v p ≡ true → is_outstanding_wrong v n ≡ false
+    → is_reply (request_at v p) ≡ true → (i : ℕ) × Awaits v p i
 unfolding is_outstanding_wrong line_back is_begun_wrongly
 awaited v n p e t f r =
     let back : n - 1 ≡ p = omega arith in
@@ -67,12 +71,15 @@ unanswered_at v p i c f l t =
     or_true true = refl
     or_true false = refl
 
-replies_to : (v : Trace) (p i : ℕ) → Awaits v p i → is_live v p ≡ true → is_reply (request_at v p) ≡ true → is_live_reply_to v i p ≡ true
+replies_to : (v : Trace) (p i : ℕ) → Awaits v p i → is_live v p ≡ true → is_reply (request_at v p) ≡ true
+    → is_live_reply_to v i p ≡ true
 unfolding is_live_reply_to is_reply_to
 replies_to v p i a live r =
     rw (live, is_live-ads v p live, r, same_id-sym (request_at v p) (live_request_of v i) ∙ a.id, a.before) refl
 
-new_reply : (v : Trace) (n p : ℕ) → p + 1 ≡ n → p < length v → is_live v p ≡ true → is_outstanding_wrong v n ≡ false → is_reply (request_at v p) ≡ true → (i : ℕ) × (is_deferred v i ≡ true) × (reply_clock_of v i ≡ Some p)
+new_reply : (v : Trace) (n p : ℕ) → p + 1 ≡ n → p < length v → is_live v p ≡ true
+    → is_outstanding_wrong v n ≡ false → is_reply (request_at v p) ≡ true
+    → (i : ℕ) × (is_deferred v i ≡ true) × (reply_clock_of v i ≡ Some p)
 unfolding reply_clock_of
 new_reply v n p e l live f r =
     let w = awaited v n p e (is_live-ads v p live) f r in
@@ -83,16 +90,23 @@ new_reply v n p e l live f r =
           (λ c k. false_from_ne_true _ (λ t. unanswered_at v p w.0 c a.unanswered k t)),
     )
 
-old_reply : (h : Trace) (x : Sample) (v : Trace) (q : ℕ) → OneMore h x v → Orderly h → IsAnswering h → q + 1 < length h → is_live v q ≡ true → is_reply (request_at v q) ≡ true → (i : ℕ) × (is_deferred v i ≡ true) × (reply_clock_of v i ≡ Some q)
+old_reply : (h : Trace) (x : Sample) (v : Trace) (q : ℕ) → OneMore h x v → Orderly h → IsAnswering h
+    → q + 1 < length h → is_live v q ≡ true → is_reply (request_at v q) ≡ true
+    → (i : ℕ) × (is_deferred v i ≡ true) × (reply_clock_of v i ≡ Some q)
 old_reply h x v q m o had l live r =
     let parts = and_parts _ _ (sym (is_live-more h x v q m (omega arith)) ∙ live) in
     let a = had.answers q l parts.0 (ap is_reply (sym (request_at-old h x v q m l)) ∙ r) in
     let d = deferred_response h a.0 a.1 in
     let counted = response_counted h a.0 d.0 d.1 in
-    let stays : cancels x (length h) q ≡ false = not-true _ parts.1 in
-    (a.0, is_deferred-old h x v a.0 m o counted ∙ a.1, reply_clock_of-more h x v a.0 m o counted (omega arith) ∙ (rw (a.2, stays) refl))
+    let stays : cancels x (length h) q ≡ false = not-true _ parts.1 in (
+      a.0,
+      is_deferred-old h x v a.0 m o counted ∙ a.1,
+      reply_clock_of-more h x v a.0 m o counted (omega arith)
+          ∙ (rw (a.2, stays) refl),
+    )
 
-pub answering_goes : (h : Trace) (x : Sample) (v : Trace) → OneMore h x v → Orderly h → is_outstanding_wrong v (length h) ≡ false → IsAnswering h → IsAnswering v
+pub answering_goes : (h : Trace) (x : Sample) (v : Trace) → OneMore h x v → Orderly h
+    → is_outstanding_wrong v (length h) ≡ false → IsAnswering h → IsAnswering v
 answering_goes h x v m o wrong had = record {
   answers = λ q l live r.
       let size = m.size in

@@ -1,7 +1,11 @@
 -- Under its ID each outstanding request has the chunk for which it asked first, one sample on.
-use Rattle.std.proofs.Common.{ℕ, ◌+◌, ◌-◌, ◌<◌, ◌≤◌, ◌≡◌, ◌^◌, Bool, true, false, cond, ◌&&◌, ◌||◌, not, nat_eq, nat_le, nat_lt, List, Option, Some, None, length, set, get_or, slice_index, slice_set, length-set, get_or-set_same, get_or-set_other, refl, sym, ap, ◌∙◌, arith, inl, inr, subst}
+use Rattle.std.proofs.Common.{ℕ, ◌+◌, ◌-◌, ◌<◌, ◌≤◌, ◌≡◌, ◌^◌, Bool, true, false, cond, ◌&&◌, ◌||◌, not, nat_eq, nat_le}
+use Rattle.std.proofs.Common.{nat_lt, List, Option, Some, None, length, set, get_or, slice_index, slice_set, length-set}
+use Rattle.std.proofs.Common.{get_or-set_same, get_or-set_other, refl, sym, ap, ◌∙◌, arith, inl, inr, subst}
 use Rattle.std.specs.Option.{option_and_then}
-use Rattle.std.proofs.lemmas.Bool.{cases_Bool, cases_lt, cases_eq, and_parts, and_from, or_parts, both_ways, not-true, not-false, false_from_ne_true, leb-true, ltb-true, ltb-false, lt-ltb, le-leb, le-ltb, eq-eqb, eqb-true, eqb-false}
+use Rattle.std.proofs.lemmas.Bool.{cases_Bool, cases_lt, cases_eq, and_parts, and_from, or_parts, both_ways, not-true}
+use Rattle.std.proofs.lemmas.Bool.{not-false, false_from_ne_true, leb-true, ltb-true, ltb-false, lt-ltb, le-leb, le-ltb}
+use Rattle.std.proofs.lemmas.Bool.{eq-eqb, eqb-true, eqb-false}
 use Rattle.std.proofs.lemmas.Option.{same_Some}
 use Rattle.fsb_count.specs.Options.{is_some_and, is_before}
 use Rattle.fsb_count.specs.Clocks.{any_where, count_where}
@@ -20,7 +24,9 @@ use Rattle.fsb_trace.specs.Flight.{is_dropped, is_finished, is_outstanding, last
 use Rattle.fsb_trace.specs.Rules.{is_begun_wrongly, is_id_taken_by, is_outstanding_of_winner, is_outstanding_wrong}
 use Rattle.fsb_laws.specs.OneMore.{OneMore, cancels}
 use Rattle.fsb_laws.specs.Orderly.{Orderly}
-use Rattle.fsb_laws.proofs.Interface.{end_past, finished-deferred, finished-plain, is_live-ads, is_live-more, is_outstanding-end, last_clock_of-plain, line_at-old, live_number_of-more, newly_deferred, request_at-old}
+use Rattle.fsb_laws.proofs.Interface.{end_past, finished-deferred, finished-plain, is_live-ads, is_live-more}
+use Rattle.fsb_laws.proofs.Interface.{is_outstanding-end, last_clock_of-plain, line_at-old, live_number_of-more}
+use Rattle.fsb_laws.proofs.Interface.{newly_deferred, request_at-old}
 use Rattle.fsb_rules.specs.Checker.{Decoded}
 use Rattle.fsb_rules.specs.Tests.{request_by}
 use Rattle.fsb_rules.proofs.Interface.{decoded_lawful}
@@ -34,14 +40,17 @@ before_less None n m l e = refl
 before_less (Some k) n m l e = let past : m ≤ k = ltb-false k m e in le-ltb k n (omega arith)
 
 -- a request that is not finished with the sample was not before it
-unfinished : (h : Trace) (x : Sample) (v : Trace) (i : ℕ) (b d : Bool) → OneMore h x v → Orderly h → Orderly v → is_deferred h i ≡ b → is_deferred v i ≡ d → is_before (last_clock_of v i) (length v) ≡ false → is_before (last_clock_of h i) (length h) ≡ false
+unfinished : (h : Trace) (x : Sample) (v : Trace) (i : ℕ) (b d : Bool) → OneMore h x v → Orderly h → Orderly v
+    → is_deferred h i ≡ b → is_deferred v i ≡ d → is_before (last_clock_of v i) (length v) ≡ false
+    → is_before (last_clock_of h i) (length h) ≡ false
 unfinished h x v i true d m o ov e f g =
     (or_parts _ _ (sym (finished-deferred h x v i m o ov e) ∙ g)).0
 unfinished h x v i false false m o ov e f g =
     (or_parts _ _ (sym (finished-plain h x v i m o e f) ∙ g)).0
 unfinished h x v i false true m o ov e f g =
     let new = newly_deferred h x v i m o e f in
-    ap (λ k. is_before k (length h)) (last_clock_of-plain h i e ∙ end_past h i (omega (arith, new.number))) ∙ is_before-none (length h)
+    ap (λ k. is_before k (length h)) (last_clock_of-plain h i e ∙ end_past h i (omega (arith, new.number)))
+    ∙ is_before-none (length h)
 
 -- the parts of being outstanding at the end of a trace
 pub record IsOut (w : Trace) (q : ℕ) : Type 0 where
@@ -58,19 +67,23 @@ out_parts w q l t =
 pub out_from : (w : Trace) (q : ℕ) → q < length w → IsOut w q → is_outstanding w (length w) q ≡ true
 out_from w q l o = is_outstanding-end w q l ∙ (rw (o.live, o.plain, o.unfinished) refl)
 
-pub live_old : (h : Trace) (x : Sample) (v : Trace) (q : ℕ) → OneMore h x v → q < length h → is_live v q ≡ true → is_live h q ≡ true
+pub live_old : (h : Trace) (x : Sample) (v : Trace) (q : ℕ) → OneMore h x v → q < length h → is_live v q ≡ true
+    → is_live h q ≡ true
 live_old h x v q m l t = (and_parts _ _ (sym (is_live-more h x v q m l) ∙ t)).0
 
 -- what is outstanding with the sample was so before it
-was_out : (h : Trace) (x : Sample) (v : Trace) (q : ℕ) → OneMore h x v → Orderly h → Orderly v → q + 1 < length h → IsOut v q → IsOut h q
+was_out : (h : Trace) (x : Sample) (v : Trace) (q : ℕ) → OneMore h x v → Orderly h → Orderly v
+    → q + 1 < length h → IsOut v q → IsOut h q
 was_out h x v q m o ov l out =
     let live = live_old h x v q m (omega arith) out.live in
-    let number : live_number_of h q ≡ live_number_of v q = live_number_of-more h x v q m o.spaced (omega arith) (is_live-ads h q live) in
+    let number : live_number_of h q ≡ live_number_of v q =
+    live_number_of-more h x v q m o.spaced (omega arith) (is_live-ads h q live) in
     record {
       live = live;
       plain = ap is_reply (sym (request_at-old h x v q m l)) ∙ out.plain;
       unfinished = subst (λ i. is_before (last_clock_of h i) (length h) ≡ false) (sym number)
-          (unfinished h x v (live_number_of v q) (is_deferred h (live_number_of v q)) (is_deferred v (live_number_of v q)) m o ov refl refl out.unfinished);
+          (unfinished h x v (live_number_of v q) (is_deferred h (live_number_of v q))
+          (is_deferred v (live_number_of v q)) m o ov refl refl out.unfinished);
     }
 
 -- and it was so where a later request began
@@ -81,17 +94,21 @@ out_at w q p l k out =
     let parts = and_parts (line_at ADS w q) (not (is_cancelled w q)) live in
     let asks : line_at ADS w q ≡ true = parts.0 in
     let whole : is_cancelled w q ≡ false = not-true _ parts.1 in
-    let before : is_before (last_clock_of w (live_number_of w q)) p ≡ false = before_less (last_clock_of w (live_number_of w q)) p (length w) k out.unfinished in
+    let before : is_before (last_clock_of w (live_number_of w q)) p ≡ false =
+    before_less (last_clock_of w (live_number_of w q)) p (length w) k out.unfinished in
     rw (asks, lt-ltb q p l, out.plain, whole, before) refl
 
 -- the request whose second clock the sample is
-swapped : (a b : Option Pair) → option_and_then (λ d. option_and_then {U = Request} (λ c. request_of c d) a) b ≡ option_and_then (λ c. option_and_then {U = Request} (λ d. request_of c d) b) a
+swapped : (a b : Option Pair)
+    → option_and_then (λ d. option_and_then {U = Request} (λ c. request_of c d) a) b
+    ≡ option_and_then (λ c. option_and_then {U = Request} (λ d. request_of c d) b) a
 swapped None None = refl
 swapped None (Some d) = refl
 swapped (Some c) None = refl
 swapped (Some c) (Some d) = refl
 
-begun_now : (h : Trace) (x : Sample) (v : Trace) (p : ℕ) → OneMore h x v → p + 1 ≡ length h → request_by (known_pair_at h p) x ≡ request_at v p
+begun_now : (h : Trace) (x : Sample) (v : Trace) (p : ℕ) → OneMore h x v → p + 1 ≡ length h
+    → request_by (known_pair_at h p) x ≡ request_at v p
 unfolding request_by request_at known_pair_at
 begun_now h x v p m e =
     rw (e, m.last, sym (m.agree.same p (omega arith))) (swapped (known_pair_at h p) (known_pair x))
@@ -105,13 +122,16 @@ no_words x = none (known_pair x)
     none (Some b) = refl
 
 -- a request that begins has no other one's ID that is outstanding
-other_id : (v : Trace) (n p q : ℕ) (r s : Request) → p + 1 ≡ n → line_at ADS v p ≡ true → is_outstanding_wrong v n ≡ false → request_at v p ≡ Some s → is_reply_kind s.kind ≡ false → q < p → is_outstanding v p q ≡ true → request_at v q ≡ Some r → nat_eq r.did s.did ≡ false
+other_id : (v : Trace) (n p q : ℕ) (r s : Request) → p + 1 ≡ n → line_at ADS v p ≡ true
+    → is_outstanding_wrong v n ≡ false → request_at v p ≡ Some s → is_reply_kind s.kind ≡ false → q < p
+    → is_outstanding v p q ≡ true → request_at v q ≡ Some r → nat_eq r.did s.did ≡ false
 unfolding is_outstanding_wrong line_back is_begun_wrongly is_id_taken_by is_reply have_same_id is_some_and
 other_id v n p q r s e t f g plain l out k =
     let back : n - 1 ≡ p = omega arith in
     let one : nat_le 1 n ≡ true = le-leb 1 n (omega arith) in
     let wrong : is_begun_wrongly v p ≡ false = (let a = rw (one, back, t) at f in a) in
-    let taken : (any_where (is_id_taken_by v p) p || nat_le 4 (count_where (is_outstanding_of_winner v p) p)) ≡ false = (let a = rw (g, plain) at wrong in a) in
+    let taken : (any_where (is_id_taken_by v p) p || nat_le 4 (count_where (is_outstanding_of_winner v p) p))
+    ≡ false = (let a = rw (g, plain) at wrong in a) in
     let none = any_where-none (is_id_taken_by v p) p (or_parts _ _ taken).0 q l in
     (let a = rw (out, k, g) at none in a)
 
@@ -120,23 +140,28 @@ unfolding is_lawful_request
 id_below r t = ltb-true r.did (2 ^ 8) (and_parts _ _ t).1
 
 -- one that begins puts its chunk under its ID, unless it is a reply
-after_reply : (asked : List ℕ) (first : Option Pair) (x : Sample) (s : Request) → request_by first x ≡ Some s → is_reply_kind s.kind ≡ true → asked_after asked first x ≡ asked
+after_reply : (asked : List ℕ) (first : Option Pair) (x : Sample) (s : Request) → request_by first x ≡ Some s
+    → is_reply_kind s.kind ≡ true → asked_after asked first x ≡ asked
 unfolding asked_with
 after_reply asked first x s e t = ap (asked_with asked) e ∙ (rw t refl)
 
-after_plain : (asked : List ℕ) (first : Option Pair) (x : Sample) (s : Request) → request_by first x ≡ Some s → is_reply_kind s.kind ≡ false → asked_after asked first x ≡ slice_set asked s.did (first_asked s)
+after_plain : (asked : List ℕ) (first : Option Pair) (x : Sample) (s : Request) → request_by first x ≡ Some s
+    → is_reply_kind s.kind ≡ false → asked_after asked first x ≡ slice_set asked s.did (first_asked s)
 unfolding asked_with
 after_plain asked first x s e t = ap (asked_with asked) e ∙ (rw t refl)
 
-after_none : (asked : List ℕ) (first : Option Pair) (x : Sample) → request_by first x ≡ None → asked_after asked first x ≡ asked
+after_none : (asked : List ℕ) (first : Option Pair) (x : Sample) → request_by first x ≡ None
+    → asked_after asked first x ≡ asked
 unfolding asked_with
 after_none asked first x e = ap (asked_with asked) e
 
-first_form : (h : Trace) (b : Bool) → line_back ADS h (length h) 1 ≡ b → first_back h ≡ cond b (known_pair_at h (length h - 1)) None
+first_form : (h : Trace) (b : Bool) → line_back ADS h (length h) 1 ≡ b
+    → first_back h ≡ cond b (known_pair_at h (length h - 1)) None
 unfolding first_back
 first_form h b e = rw e refl
 
-back_parts : (h : Trace) → line_back ADS h (length h) 1 ≡ true → (length h - 1 + 1 ≡ length h) × (line_at ADS h (length h - 1) ≡ true)
+back_parts : (h : Trace) → line_back ADS h (length h) 1 ≡ true
+    → (length h - 1 + 1 ≡ length h) × (line_at ADS h (length h - 1) ≡ true)
 unfolding line_back
 back_parts h t =
     let p = and_parts _ _ t in
@@ -150,20 +175,29 @@ no_ads h q e f =
     let one : nat_le 1 (length h) ≡ true = le-leb 1 (length h) (omega arith) in
     (let a = rw (one, back) at f in a)
 
-is_reply-kind : (w : Trace) (q : ℕ) (r : Request) → request_at w q ≡ Some r → is_reply (request_at w q) ≡ is_reply_kind r.kind
+is_reply-kind : (w : Trace) (q : ℕ) (r : Request) → request_at w q ≡ Some r
+    → is_reply (request_at w q) ≡ is_reply_kind r.kind
 unfolding is_reply is_some_and
 is_reply-kind w q r e = rw e refl
 
-pub asked_goes : (asked : List ℕ) (first : Option Pair) (h : Trace) (x : Sample) (v : Trace) → OneMore h x v → Orderly h → Orderly v → Decoded v → first ≡ first_back h → is_outstanding_wrong v (length h) ≡ false → HasAsked asked h → HasAsked (asked_after asked first x) v
+pub asked_goes : (asked : List ℕ) (first : Option Pair) (h : Trace) (x : Sample) (v : Trace) → OneMore h x v
+    → Orderly h → Orderly v → Decoded v → first ≡ first_back h → is_outstanding_wrong v (length h) ≡ false
+    → HasAsked asked h → HasAsked (asked_after asked first x) v
 asked_goes asked first h x v m o ov d is wrong had = cases (line_back ADS h (length h) 1) refl
   where
     size_v : length v ≡ length h + 1
     size_v = m.size
 
-    old : (q : ℕ) (r : Request) → q + 1 < length h → is_outstanding v (length v) q ≡ true → request_at v q ≡ Some r → slice_index asked r.did ≡ first_asked r
-    old q r l t e = had.kept q r l (out_from h q (omega arith) (was_out h x v q m o ov l (out_parts v q (omega (arith, size_v)) t))) (sym (request_at-old h x v q m l) ∙ e)
+    old : (q : ℕ) (r : Request) → q + 1 < length h → is_outstanding v (length v) q ≡ true
+        → request_at v q ≡ Some r → slice_index asked r.did ≡ first_asked r
+    old q r l t e =
+        had.kept q r l
+        (out_from h q (omega arith) (was_out h x v q m o ov l (out_parts v q (omega (arith, size_v)) t)))
+        (sym (request_at-old h x v q m l) ∙ e)
 
-    same : asked_after asked first x ≡ asked → ((q : ℕ) (r : Request) → q + 1 ≡ length h → is_outstanding v (length v) q ≡ true → request_at v q ≡ Some r → ⊥) → HasAsked (asked_after asked first x) v
+    same : asked_after asked first x ≡ asked
+        → ((q : ℕ) (r : Request) → q + 1 ≡ length h → is_outstanding v (length v) q ≡ true
+        → request_at v q ≡ Some r → ⊥) → HasAsked (asked_after asked first x) v
     same e none = record {
       size = ap (λ xs. length xs) e ∙ had.size;
       kept = λ q r l t f.
@@ -173,44 +207,55 @@ asked_goes asked first h x v m o ov d is wrong had = cases (line_back ADS h (len
           ];
     }
 
-    plain : (p : ℕ) (s : Request) → p + 1 ≡ length h → line_at ADS v p ≡ true → request_at v p ≡ Some s → is_reply_kind s.kind ≡ false → asked_after asked first x ≡ slice_set asked s.did (first_asked s) → HasAsked (asked_after asked first x) v
+    plain : (p : ℕ) (s : Request) → p + 1 ≡ length h → line_at ADS v p ≡ true → request_at v p ≡ Some s
+        → is_reply_kind s.kind ≡ false → asked_after asked first x ≡ slice_set asked s.did (first_asked s)
+        → HasAsked (asked_after asked first x) v
     plain p s e t f g a = record {
       size = ap (λ xs. length xs) a ∙ length-set asked s.did (first_asked s) ∙ had.size;
       kept = λ q r l u k.
           elim (cases_lt (q + 1) (length h)) [
             | inl early ↦
                 let out = out_parts v q (omega (arith, size_v)) u in
-                let other = other_id v (length h) p q r s e t wrong f g (omega arith) (out_at v q p (omega arith) (omega (arith, size_v)) out) k in
+                let other = other_id v (length h) p q r s e t wrong f g (omega arith)
+                (out_at v q p (omega arith) (omega (arith, size_v)) out) k in
                 ap (λ xs. slice_index xs r.did) a
-                ∙ get_or-set_other asked s.did r.did (first_asked s) 0 (λ same. let apart = eqb-false r.did s.did other in apart same)
+                ∙ get_or-set_other asked s.did r.did (first_asked s) 0
+                (λ same. let apart = eqb-false r.did s.did other in apart same)
                 ∙ old q r early u k
             | inr late ↦
                 let here : q ≡ p = omega (arith, size_v) in
                 let is_s : r ≡ s = same_Some _ _ (sym k ∙ ap (request_at v) here ∙ f) in
                 ap (λ xs. slice_index xs r.did) a
                 ∙ subst (λ z. slice_index (slice_set asked s.did (first_asked s)) z.did ≡ first_asked z) (sym is_s)
-                (get_or-set_same asked s.did (first_asked s) 0 (let low = id_below s (decoded_lawful v p s f) in let size = had.size in omega arith))
+                (get_or-set_same asked s.did (first_asked s) 0 (let low = id_below s (decoded_lawful v p s f) in
+                let size = had.size in omega arith))
           ];
     }
 
-    kinds : (p : ℕ) (s : Request) (b : Bool) → p + 1 ≡ length h → line_at ADS v p ≡ true → request_at v p ≡ Some s → request_by first x ≡ Some s → is_reply_kind s.kind ≡ b → HasAsked (asked_after asked first x) v
+    kinds : (p : ℕ) (s : Request) (b : Bool) → p + 1 ≡ length h → line_at ADS v p ≡ true
+        → request_at v p ≡ Some s → request_by first x ≡ Some s → is_reply_kind s.kind ≡ b
+        → HasAsked (asked_after asked first x) v
     kinds p s false e t f by g = plain p s e t f g (after_plain asked first x s by g)
     kinds p s true e t f by g =
         same (after_reply asked first x s by g) (λ q r l u k.
         let here : q ≡ p = omega arith in
         let out = out_parts v q (omega (arith, size_v)) u in
-        let reply : is_reply (request_at v q) ≡ true = ap (λ z. is_reply (request_at v z)) here ∙ is_reply-kind v p s f ∙ g in
+        let reply : is_reply (request_at v q) ≡ true = ap (λ z. is_reply (request_at v z)) here
+        ∙ is_reply-kind v p s f ∙ g in
         both_ways _ out.plain reply)
 
     cases : (b : Bool) → line_back ADS h (length h) 1 ≡ b → HasAsked (asked_after asked first x) v
     cases true t =
         let p = back_parts h t in
-        let asks : line_at ADS v (length h - 1) ≡ true = line_at-old ADS h x v (length h - 1) m (omega (arith, p.0)) ∙ p.1 in
+        let asks : line_at ADS v (length h - 1) ≡ true =
+        line_at-old ADS h x v (length h - 1) m (omega (arith, p.0)) ∙ p.1 in
         let there = d.there (length h - 1) asks (omega (arith, p.0, size_v)) in
-        let by : request_by first x ≡ Some there.0 = ap (λ w. request_by w x) (is ∙ first_form h true t) ∙ begun_now h x v (length h - 1) m p.0 ∙ there.1 in
+        let by : request_by first x ≡ Some there.0 = ap (λ w. request_by w x) (is ∙ first_form h true t)
+        ∙ begun_now h x v (length h - 1) m p.0 ∙ there.1 in
         kinds (length h - 1) there.0 (is_reply_kind there.0.kind) p.0 asks there.1 by refl
     cases false f =
-        same (after_none asked first x (ap (λ w. request_by w x) (is ∙ first_form h false f) ∙ no_words x)) (λ q r l u k.
+        same (after_none asked first x (ap (λ w. request_by w x) (is ∙ first_form h false f) ∙ no_words x))
+        (λ q r l u k.
         let out = out_parts v q (omega (arith, size_v)) u in
         let asks : line_at ADS h q ≡ true = sym (line_at-old ADS h x v q m (omega arith)) ∙ is_live-ads v q out.live in
         both_ways _ (no_ads h q l f) asks)

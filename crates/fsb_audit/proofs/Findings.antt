@@ -1,5 +1,6 @@
 -- What is found stays found, and what is found with the newest clock.
-use Rattle.std.proofs.Common.{ℕ, ◌+◌, ◌*◌, ◌<◌, ◌≤◌, ◌≡◌, ◌⊎◌, Bool, true, false, cond, ◌&&◌, not, nat_eq, Option, Some, None, length, refl, sym, ap, ◌∙◌, arith, inl, inr, subst}
+use Rattle.std.proofs.Common.{ℕ, ◌+◌, ◌*◌, ◌<◌, ◌≤◌, ◌≡◌, ◌⊎◌, Bool, true, false, cond, ◌&&◌, not, nat_eq, Option, Some}
+use Rattle.std.proofs.Common.{None, length, refl, sym, ap, ◌∙◌, arith, inl, inr, subst}
 use Rattle.std.specs.Option.{option_map, option_and_then}
 use Rattle.std.proofs.lemmas.Bool.{cases_lt}
 use Rattle.std.proofs.lemmas.Option.{same_Some}
@@ -20,7 +21,8 @@ use Rattle.fsb_audit.specs.declared.finding.FoulAt.{FoulAt}
 use Rattle.fsb_audit.specs.declared.finding.Finding.TheVariants.{Foul as FoulFirst}
 use Rattle.fsb_audit.specs.declared.audit.Audit.{Audit}
 use Rattle.fsb_audit.specs.MovedChunks.{is_from_memory, moved_at}
-use Rattle.fsb_audit.specs.Fouls.{broken_at, finding_of, found_below, found_with, first_foul, foul_at, have_same_data, is_foul_clock, is_stale, latest_move}
+use Rattle.fsb_audit.specs.Fouls.{broken_at, finding_of, found_below, found_with, first_foul, foul_at, have_same_data}
+use Rattle.fsb_audit.specs.Fouls.{is_foul_clock, is_stale, latest_move}
 use Rattle.fsb_audit.specs.AuditRegisters.{ChunkMap, data_in, foul_by}
 use Rattle.fsb_audit.specs.Audit.{BreaksFirst, KeepsUp, FoulsFirst, IsFoundForGood, Stands, is_full, latest_data}
 use Rattle.fsb_audit.proofs.Movers.{GoesOnFrom}
@@ -28,16 +30,19 @@ use Rattle.fsb_audit.proofs.Moves.{same_foul, same_foul_at}
 use Rattle.fsb_audit.proofs.Kept.{latest_kept}
 
 -- nothing is found where no rule is broken and no clock is foul
-pub nothing : (m : Marks) (w : Trace) → verdict m w ≡ None → ((c : ℕ) → c < length w → is_foul_clock w c ≡ false) → finding_of m w ≡ None
+pub nothing : (m : Marks) (w : Trace) → verdict m w ≡ None
+    → ((c : ℕ) → c < length w → is_foul_clock w c ≡ false) → finding_of m w ≡ None
 unfolding finding_of found_with first_foul
 nothing m w e clean =
     ap (found_with w) e ∙ ap (option_and_then (foul_at w)) (first_where-off (is_foul_clock w) (length w) clean)
 
 -- a foul clock of a past that breaks no rule
-same_fouls : (u h : Trace) (c : ℕ) → GoesOnFrom u h → c < length u → AgreeBelow (c + 1) (is_foul_clock u) (is_foul_clock h)
+same_fouls : (u h : Trace) (c : ℕ) → GoesOnFrom u h → c < length u
+    → AgreeBelow (c + 1) (is_foul_clock u) (is_foul_clock h)
 same_fouls u h c g l = record { same = λ k m. sym (same_foul u h k g (omega arith)) }
 
-foul_below : (u h : Trace) (c n : ℕ) → GoesOnFrom u h → first_foul u (length u) ≡ Some c → c < n → first_foul h n ≡ Some c
+foul_below : (u h : Trace) (c n : ℕ) → GoesOnFrom u h → first_foul u (length u) ≡ Some c → c < n
+    → first_foul h n ≡ Some c
 unfolding first_foul
 foul_below u h c n g e l =
     let p = first_where-found (is_foul_clock u) (length u) c e in
@@ -48,18 +53,23 @@ unfolding first_foul
 below_past u c e = (first_where-found (is_foul_clock u) (length u) c e).0
 
 -- a rule is not broken within a past that breaks none
-past_sound : (m : Marks) (u h : Trace) (p : ℕ × ℕ) → AgreeTo (length u) u h → verdict m u ≡ None → verdict m h ≡ Some p → length u ≤ p.0
+past_sound : (m : Marks) (u h : Trace) (p : ℕ × ℕ) → AgreeTo (length u) u h → verdict m u ≡ None
+    → verdict m h ≡ Some p → length u ≤ p.0
 past_sound m u h p a e f =
     elim (cases_lt p.0 (length u)) [
       | inr l ↦ l
-      | inl l ↦ let g : verdict m u ≡ Some p = verdict-stays (length u) m h u p.0 p.1 (AgreeTo-sym (length u) u h a) l f in absurd (let no : ⊥ = cc in no)
+      | inl l ↦ let g : verdict m u ≡ Some p =
+          verdict-stays (length u) m h u p.0 p.1 (AgreeTo-sym (length u) u h a) l f in absurd (let no : ⊥ = cc in no)
     ]
 
-foul_found : (m : Marks) (u h : Trace) (c : ℕ) (f : Finding) (o : Option (ℕ × ℕ)) → GoesOnFrom u h → verdict m u ≡ None → first_foul u (length u) ≡ Some c → foul_at u c ≡ Some f → verdict m h ≡ o → finding_of m h ≡ Some f
+foul_found : (m : Marks) (u h : Trace) (c : ℕ) (f : Finding) (o : Option (ℕ × ℕ)) → GoesOnFrom u h
+    → verdict m u ≡ None → first_foul u (length u) ≡ Some c → foul_at u c ≡ Some f → verdict m h ≡ o
+    → finding_of m h ≡ Some f
 unfolding finding_of found_with found_below
 foul_found m u h c f None g e k t v =
     let below = below_past u c k in
-    ap (found_with h) v ∙ ap (option_and_then (foul_at h)) (foul_below u h c (length h) g k (omega (arith, g.agree.right)))
+    ap (found_with h) v
+    ∙ ap (option_and_then (foul_at h)) (foul_below u h c (length h) g k (omega (arith, g.agree.right)))
     ∙ same_foul_at u h c g below ∙ t
 foul_found m u h c f (Some p) g e k t v =
     let below = below_past u c k in
@@ -69,10 +79,13 @@ foul_found m u h c f (Some p) g e k t v =
 broken_found : (m : Marks) (u h : Trace) (f : Finding) → GoesOnFrom u h → BreaksFirst m u h f → finding_of m h ≡ Some f
 unfolding finding_of found_with found_below first_foul
 broken_found m u h f g b =
-    let none : first_where (is_foul_clock h) b.rule.0 ≡ None = first_where-off (is_foul_clock h) b.rule.0 (λ c l. same_foul u h c g (omega (arith, b.behind)) ∙ b.clean c (omega (arith, b.behind))) in
+    let none : first_where (is_foul_clock h) b.rule.0 ≡ None =
+    first_where-off (is_foul_clock h) b.rule.0 (λ c l. same_foul u h c g (omega (arith, b.behind))
+    ∙ b.clean c (omega (arith, b.behind))) in
     ap (found_with h) b.broken ∙ ap (found_below h b.rule) none ∙ ap (λ k. Some k) b.told
 
-either_found : (m : Marks) (u h : Trace) (f : Finding) → GoesOnFrom u h → verdict m u ≡ None → BreaksFirst m u h f ⊎ FoulsFirst u f → finding_of m h ≡ Some f
+either_found : (m : Marks) (u h : Trace) (f : Finding) → GoesOnFrom u h → verdict m u ≡ None
+    → BreaksFirst m u h f ⊎ FoulsFirst u f → finding_of m h ≡ Some f
 either_found m u h f g e (inl b) = broken_found m u h f g b
 either_found m u h f g e (inr k) = foul_found m u h k.clock f (verdict m h) g e k.foul k.told refl
 
@@ -87,7 +100,8 @@ agree_on u h v a b = record {
   same = λ c l. a.same c l ∙ b.same c (omega (arith, a.right));
 }
 
-either_stays : (m : Marks) (u h v : Trace) (f : Finding) → AgreeTo (length h) h v → BreaksFirst m u h f ⊎ FoulsFirst u f → BreaksFirst m u v f ⊎ FoulsFirst u f
+either_stays : (m : Marks) (u h v : Trace) (f : Finding) → AgreeTo (length h) h v
+    → BreaksFirst m u h f ⊎ FoulsFirst u f → BreaksFirst m u v f ⊎ FoulsFirst u f
 either_stays m u h v f a (inl b) = inl (record {
   clean = b.clean;
   rule = b.rule;
@@ -97,7 +111,8 @@ either_stays m u h v f a (inl b) = inl (record {
 })
 either_stays m u h v f a (inr k) = inr k
 
-pub settled_stays : (m : Marks) (h : Trace) (x : Sample) (v : Trace) (f : Finding) → OneMore h x v → IsFoundForGood m h f → IsFoundForGood m v f
+pub settled_stays : (m : Marks) (h : Trace) (x : Sample) (v : Trace) (f : Finding) → OneMore h x v
+    → IsFoundForGood m h f → IsFoundForGood m v f
 settled_stays m h x v f more s = record {
   past = s.past;
   agree = agree_on s.past h v s.agree more.agree;
@@ -114,7 +129,8 @@ stands_following m a h e f = record {
   settled = λ room found some. absurd (let no : ⊥ = cc in no);
 }
 
-pub stands_settled : (m : Marks) (a : Audit) (h : Trace) (f : Finding) → a.found ≡ Some f → IsFoundForGood m h f → Stands a m h
+pub stands_settled : (m : Marks) (a : Audit) (h : Trace) (f : Finding) → a.found ≡ Some f → IsFoundForGood m h f
+    → Stands a m h
 stands_settled m a h f e s = record {
   found = λ room. e ∙ sym (settled_found m h f s);
   follows = λ room none. absurd (let no : ⊥ = cc in no);
@@ -129,7 +145,9 @@ stands_full m a h full = record {
 }
 
 -- whether the newest clock is foul, by what is kept
-kept_stale : (v : Trace) (n : ℕ) (x : Sample) (o : Option ℕ) → data_at v n ≡ x.dbus → is_some_and (option_map (λ b. (data_at v b).bits) o) (λ b. not (nat_eq b x.dbus.bits)) ≡ is_some_and o (λ b. not (have_same_data v b n))
+kept_stale : (v : Trace) (n : ℕ) (x : Sample) (o : Option ℕ) → data_at v n ≡ x.dbus
+    → is_some_and (option_map (λ b. (data_at v b).bits) o) (λ b. not (nat_eq b x.dbus.bits))
+    ≡ is_some_and o (λ b. not (have_same_data v b n))
 unfolding is_some_and have_same_data
 kept_stale v n x None e = refl
 kept_stale v n x (Some b) e = rw e refl
@@ -137,21 +155,31 @@ kept_stale v n x (Some b) e = rw e refl
 newest_data : (h : Trace) (x : Sample) (v : Trace) → OneMore h x v → data_at v (length h) ≡ x.dbus
 newest_data h x v m = rw m.last refl
 
-stale_now : (old : ChunkMap) (h : Trace) (x : Sample) (v : Trace) (k : ℕ) → OneMore h x v → Orderly h → data_in old k ≡ latest_data h k → is_some_and (data_in old k) (λ b. not (nat_eq b x.dbus.bits)) ≡ is_stale v (length h) k
+stale_now : (old : ChunkMap) (h : Trace) (x : Sample) (v : Trace) (k : ℕ) → OneMore h x v → Orderly h
+    → data_in old k ≡ latest_data h k → is_some_and (data_in old k) (λ b. not (nat_eq b x.dbus.bits))
+    ≡ is_stale v (length h) k
 unfolding is_stale
 stale_now old h x v k m o e =
-    ap (λ d. is_some_and d (λ b. not (nat_eq b x.dbus.bits))) (e ∙ sym (latest_kept h v k (record { agree = m.agree; orderly = o })))
+    ap (λ d. is_some_and d (λ b. not (nat_eq b x.dbus.bits))) (e
+    ∙ sym (latest_kept h v k (record { agree = m.agree; orderly = o })))
     ∙ kept_stale v (length h) x (latest_move v k (length h)) (newest_data h x v m)
 
-foul_is : (v : Trace) (n k : ℕ) (from : Bool) → moved_at v n ≡ Some k → is_from_memory v n ≡ from → is_foul_clock v n ≡ (from && is_stale v n k)
+foul_is : (v : Trace) (n k : ℕ) (from : Bool) → moved_at v n ≡ Some k → is_from_memory v n ≡ from
+    → is_foul_clock v n ≡ (from && is_stale v n k)
 unfolding is_foul_clock is_some_and
 foul_is v n k from e f = rw (e, f) refl
 
-foul_told : (v : Trace) (n k : ℕ) (from : Bool) (before : Option ℕ) (bits : ℕ) (b : Bool) → moved_at v n ≡ Some k → (from && is_some_and before (λ d. not (nat_eq d bits))) ≡ b → foul_by from n k before bits ≡ cond b (foul_at v n) None
+foul_told : (v : Trace) (n k : ℕ) (from : Bool) (before : Option ℕ) (bits : ℕ) (b : Bool)
+    → moved_at v n ≡ Some k → (from && is_some_and before (λ d. not (nat_eq d bits))) ≡ b
+    → foul_by from n k before bits ≡ cond b (foul_at v n) None
 unfolding foul_by foul_at
 foul_told v n k from before bits b e f = rw (f, e) refl
 
-pub found_now : (old : ChunkMap) (h : Trace) (x : Sample) (v : Trace) (k : ℕ) (from : Bool) → OneMore h x v → Orderly h → data_in old k ≡ latest_data h k → moved_at v (length h) ≡ Some k → is_from_memory v (length h) ≡ from → foul_by from (length h) k (data_in old k) x.dbus.bits ≡ cond (is_foul_clock v (length h)) (foul_at v (length h)) None
+pub found_now : (old : ChunkMap) (h : Trace) (x : Sample) (v : Trace) (k : ℕ) (from : Bool) → OneMore h x v
+    → Orderly h → data_in old k ≡ latest_data h k → moved_at v (length h) ≡ Some k
+    → is_from_memory v (length h) ≡ from
+    → foul_by from (length h) k (data_in old k) x.dbus.bits
+    ≡ cond (is_foul_clock v (length h)) (foul_at v (length h)) None
 found_now old h x v k from m o e moved comes =
     foul_told v (length h) k from (data_in old k) x.dbus.bits (is_foul_clock v (length h)) moved
     (ap (λ b. from && b) (stale_now old h x v k m o e) ∙ sym (foul_is v (length h) k from moved comes))
@@ -165,13 +193,17 @@ unfolding is_foul_clock
 none_foul v n e = rw e refl
 
 -- a clock is foul first where none of the history is
-pub foul_first : (h : Trace) (x : Sample) (v : Trace) → OneMore h x v → Orderly h → ((c : ℕ) → c < length h → is_foul_clock h c ≡ false) → is_foul_clock v (length h) ≡ true → first_foul v (length v) ≡ Some (length h)
+pub foul_first : (h : Trace) (x : Sample) (v : Trace) → OneMore h x v → Orderly h
+    → ((c : ℕ) → c < length h → is_foul_clock h c ≡ false) → is_foul_clock v (length h) ≡ true
+    → first_foul v (length v) ≡ Some (length h)
 unfolding first_foul
 foul_first h x v m o clean t =
     first_where-at (is_foul_clock v) (length v) (length h) (omega (arith, m.size)) t
     (λ c l. same_foul h v c (record { agree = m.agree; orderly = o }) l ∙ clean c l)
 
-pub clean_goes : (h : Trace) (x : Sample) (v : Trace) → OneMore h x v → Orderly h → ((c : ℕ) → c < length h → is_foul_clock h c ≡ false) → is_foul_clock v (length h) ≡ false → (c : ℕ) → c < length v → is_foul_clock v c ≡ false
+pub clean_goes : (h : Trace) (x : Sample) (v : Trace) → OneMore h x v → Orderly h
+    → ((c : ℕ) → c < length h → is_foul_clock h c ≡ false) → is_foul_clock v (length h) ≡ false → (c : ℕ)
+    → c < length v → is_foul_clock v c ≡ false
 clean_goes h x v m o clean f c l =
     elim (cases_lt c (length h)) [
       | inl old ↦ same_foul h v c (record { agree = m.agree; orderly = o }) old ∙ clean c old

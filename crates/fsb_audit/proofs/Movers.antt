@@ -1,10 +1,13 @@
 -- Which live request's data come at a clock, and that this stays however an orderly trace goes on.
-use Rattle.std.proofs.Common.{ℕ, suc, ◌+◌, ◌<◌, ◌≤◌, ◌≡◌, Bool, true, false, ◌&&◌, nat_le, Option, Some, None, is_some, length, refl, sym, ap, ◌∙◌, arith, inl, inr, subst}
+use Rattle.std.proofs.Common.{ℕ, suc, ◌+◌, ◌<◌, ◌≤◌, ◌≡◌, Bool, true, false, ◌&&◌, nat_le, Option, Some, None, is_some}
+use Rattle.std.proofs.Common.{length, refl, sym, ap, ◌∙◌, arith, inl, inr, subst}
 use Rattle.std.proofs.lemmas.Bool.{cases_lt, and_parts, false_from_ne_true, leb-true}
 use Rattle.std.proofs.lemmas.Option.{same_Some}
 use Rattle.fsb_count.specs.Options.{is_some_and, is_at}
 use Rattle.fsb_count.specs.Clocks.{AgreeBelow, first_where, from_clock, nth_where}
-use Rattle.fsb_count.proofs.Interface.{first_where-at, first_where-found, first_where-none, first_where-off, first_where-same, is_at-from, is_at-some, nth_where-carried, nth_where-found, nth_where-one, nth_where-rises}
+use Rattle.fsb_count.proofs.Interface.{first_where-at, first_where-found, first_where-none, first_where-off}
+use Rattle.fsb_count.proofs.Interface.{first_where-same, is_at-from, is_at-some, nth_where-carried, nth_where-found}
+use Rattle.fsb_count.proofs.Interface.{nth_where-one, nth_where-rises}
 use Rattle.fsb_signal.specs.declared.lines.TheConstants.Lines.{DRDY}
 use Rattle.fsb_signal.specs.Samples.{line_at}
 use Rattle.fsb_trace.specs.At.{Trace, responds_at}
@@ -13,7 +16,9 @@ use Rattle.fsb_trace.specs.Requests.{live_count, live_request_of}
 use Rattle.fsb_trace.specs.Snoop.{snoop_end_of}
 use Rattle.fsb_trace.specs.Outcome.{does_move, moves_data, outcome_of, response_clock_of}
 use Rattle.fsb_trace.specs.Response.{data_clock_of, end_of}
-use Rattle.fsb_trace.proofs.Interface.{AgreeTo-sym, end_of-moving, line_at-agree, live_below_count, live_request_of-stays, outcome_of-stays, response_clock_of-stays, snoop_end_of-clock, snoop_end_of-stays}
+use Rattle.fsb_trace.proofs.Interface.{AgreeTo-sym, end_of-moving, line_at-agree, live_below_count}
+use Rattle.fsb_trace.proofs.Interface.{live_request_of-stays, outcome_of-stays, response_clock_of-stays}
+use Rattle.fsb_trace.proofs.Interface.{snoop_end_of-clock, snoop_end_of-stays}
 use Rattle.fsb_laws.specs.Orderly.{Orderly}
 use Rattle.fsb_laws.specs.Progress.{response_count}
 use Rattle.fsb_laws.proofs.Interface.{clear_parts, has_answer, response_counted, response_there}
@@ -27,7 +32,8 @@ same_Bool false true f g = g refl
 same_Bool false false f g = refl
 
 -- a first one is the same for two tests that pass at the same clocks
-pub first_where-alike : (p q : ℕ → Bool) (n m : ℕ) → ((k : ℕ) → k < n → p k ≡ true → (k < m) × (q k ≡ true)) → ((k : ℕ) → k < m → q k ≡ true → (k < n) × (p k ≡ true)) → first_where p n ≡ first_where q m
+pub first_where-alike : (p q : ℕ → Bool) (n m : ℕ) → ((k : ℕ) → k < n → p k ≡ true → (k < m) × (q k ≡ true))
+    → ((k : ℕ) → k < m → q k ≡ true → (k < n) × (p k ≡ true)) → first_where p n ≡ first_where q m
 first_where-alike p q n m forth back = alike (first_where p n) refl
   where
     failing : (k : ℕ) → (k < n → p k ≡ true → ⊥) → k < m → q k ≡ false
@@ -38,7 +44,8 @@ first_where-alike p q n m forth back = alike (first_where p n) refl
         let f = first_where-found p n c e in
         let g = forth c f.0 f.1 in
         let below : c < m = g.0 in
-        e ∙ sym (first_where-at q m c g.0 g.1 (λ k l. failing k (λ small t. let u = f.2 k l in let no : ⊥ = cc in no) (omega arith)))
+        e ∙ sym (first_where-at q m c g.0 g.1
+        (λ k l. failing k (λ small t. let u = f.2 k l in let no : ⊥ = cc in no) (omega arith)))
     alike None e =
         let f = first_where-none p n e in
         e ∙ sym (first_where-off q m (λ k l. failing k (λ small t. let u = f k small in let no : ⊥ = cc in no) l))
@@ -53,15 +60,18 @@ after_response w i n c d =
 -- and not past the end of its request
 pub before_end : (w : Trace) (i n c e : ℕ) → IsDataClock w i n c → end_of w i ≡ Some e → c ≤ e
 before_end w i n c e d f =
-    let last : nth_where (from_clock d.response (line_at DRDY w)) 3 (length w) ≡ Some e = sym (end_of-moving w i d.response d.moves d.is_response) ∙ f in
+    let last : nth_where (from_clock d.response (line_at DRDY w)) 3 (length w) ≡ Some e =
+    sym (end_of-moving w i d.response d.moves d.is_response) ∙ f in
     elim (cases_lt n 3) [
       | inl less ↦
-          let rises : c < e = nth_where-rises (from_clock d.response (line_at DRDY w)) n 3 (length w) c e less d.is_clock last in
+          let rises : c < e = nth_where-rises (from_clock d.response (line_at DRDY w)) n 3 (length w) c e less
+          d.is_clock last in
           omega arith
       | inr more ↦
           let few : n < 4 = d.few in
           let three : n ≡ 3 = omega arith in
-          let same : c ≡ e = same_Some _ _ (sym d.is_clock ∙ ap (λ k. nth_where (from_clock d.response (line_at DRDY w)) k (length w)) three ∙ last) in
+          let same : c ≡ e = same_Some _ _ (sym d.is_clock
+          ∙ ap (λ k. nth_where (from_clock d.response (line_at DRDY w)) k (length w)) three ∙ last) in
           omega arith
     ]
 
@@ -78,7 +88,14 @@ pub responded : (w : Trace) (i r : ℕ) → Orderly w → response_clock_of w i 
 responded w i r o e =
     let there = response_there w i (response_counted w i r e) in
     let a = has_answer w there.0 i (o.timely i there.0 there.1) in
-    record { response = there.0; is_response = there.1; below = there.2; snoop = a.snoop; is_snoop = a.is_snoop; early = a.before }
+    record {
+      response = there.0;
+      is_response = there.1;
+      below = there.2;
+      snoop = a.snoop;
+      is_snoop = a.is_snoop;
+      early = a.before;
+    }
 
 pub live_below : (w : Trace) (i : ℕ) → Responded w i → i < live_count w
 live_below w i r = let c = snoop_end_of-clock w i r.snoop r.is_snoop in live_below_count w i c.clock c.is_clock
@@ -88,7 +105,8 @@ unfolding response_clock_of
 by_number w k c e = e
 
 -- the response of a later request lies past the end of an earlier one
-later_response : (w : Trace) (i j r e : ℕ) → Orderly w → i < j → response_clock_of w j ≡ Some r → end_of w i ≡ Some e → e < r
+later_response : (w : Trace) (i j r e : ℕ) → Orderly w → i < j → response_clock_of w j ≡ Some r
+    → end_of w i ≡ Some e → e < r
 later_response w i j r e o l f g =
     let counted = response_counted w j r f in
     let there = response_there w (suc i) (omega arith) in
@@ -98,7 +116,8 @@ later_response w i j r e o l f g =
     let before : clear.0 < there.0 = clear.2 in
     elim (cases_lt (suc i) j) [
       | inl less ↦
-          let rises : there.0 < r = nth_where-rises (responds_at w) (suc i) j (length w) there.0 r less (by_number w (suc i) there.0 there.1) (by_number w j r f) in
+          let rises : there.0 < r = nth_where-rises (responds_at w) (suc i) j (length w) there.0 r less
+          (by_number w (suc i) there.0 there.1) (by_number w j r f) in
           omega arith
       | inr more ↦
           let here : suc i ≡ j = omega arith in
@@ -107,7 +126,8 @@ later_response w i j r e o l f g =
     ]
 
 -- data of two requests do not come at one clock
-earlier_not : (w : Trace) (i j n k c : ℕ) → Orderly w → i < j → data_clock_of w i n ≡ Some c → data_clock_of w j k ≡ Some c → ⊥
+earlier_not : (w : Trace) (i j n k c : ℕ) → Orderly w → i < j → data_clock_of w i n ≡ Some c
+    → data_clock_of w j k ≡ Some c → ⊥
 earlier_not w i j n k c o l e f =
     let d = data_clock-parts w i n c e in
     let b = data_clock-parts w j k c f in
@@ -120,7 +140,8 @@ earlier_not w i j n k c o l e f =
     let low : c ≤ clear.0 = before_end w i n c clear.0 d clear.1 in
     omega (arith, after.0)
 
-pub one_mover : (w : Trace) (i j n k c : ℕ) → Orderly w → data_clock_of w i n ≡ Some c → data_clock_of w j k ≡ Some c → j ≡ i
+pub one_mover : (w : Trace) (i j n k c : ℕ) → Orderly w → data_clock_of w i n ≡ Some c
+    → data_clock_of w j k ≡ Some c → j ≡ i
 one_mover w i j n k c o e f =
     elim (cases_lt i j) [
       | inl less ↦ absurd (earlier_not w i j n k c o less e f)
@@ -133,13 +154,16 @@ one_mover w i j n k c o e f =
 -- where a place is found the clock is that data clock
 pub place_found : (w : Trace) (c i n : ℕ) → data_place_at w c i ≡ Some n → data_clock_of w i n ≡ Some c
 unfolding data_place_at
-place_found w c i n e = is_at-some (data_clock_of w i n) c (first_where-found (λ k. is_at (data_clock_of w i k) c) 4 n e).1
+place_found w c i n e = is_at-some (data_clock_of w i n) c
+    (first_where-found (λ k. is_at (data_clock_of w i k) c) 4 n e).1
 
-some_place : (w : Trace) (c i : ℕ) (o : Option ℕ) → data_place_at w c i ≡ o → is_some o ≡ true → (n : ℕ) × (data_clock_of w i n ≡ Some c)
+some_place : (w : Trace) (c i : ℕ) (o : Option ℕ) → data_place_at w c i ≡ o → is_some o ≡ true
+    → (n : ℕ) × (data_clock_of w i n ≡ Some c)
 some_place w c i None e t = absurd (let no : ⊥ = cc in no)
 some_place w c i (Some n) e t = (n, place_found w c i n e)
 
-placed : (w : Trace) (c i n : ℕ) (o : Option ℕ) → data_clock_of w i n ≡ Some c → data_place_at w c i ≡ o → is_some o ≡ true
+placed : (w : Trace) (c i n : ℕ) (o : Option ℕ) → data_clock_of w i n ≡ Some c → data_place_at w c i ≡ o
+    → is_some o ≡ true
 unfolding data_place_at
 placed w c i n (Some k) e f = refl
 placed w c i n None e f =
@@ -156,7 +180,8 @@ place_is w c i n e =
     false_from_ne_true _ (λ t.
     let b = data_clock-parts w i k c (is_at-some (data_clock_of w i k) c t) in
     let r : b.response ≡ d.response = same_Some _ _ (sym b.is_response ∙ d.is_response) in
-    let here : nth_where (from_clock d.response (line_at DRDY w)) k (length w) ≡ Some c = subst (λ s. nth_where (from_clock s (line_at DRDY w)) k (length w) ≡ Some c) r b.is_clock in
+    let here : nth_where (from_clock d.response (line_at DRDY w)) k (length w) ≡ Some c =
+    subst (λ s. nth_where (from_clock s (line_at DRDY w)) k (length w) ≡ Some c) r b.is_clock in
     let same : k ≡ n = nth_where-one (from_clock d.response (line_at DRDY w)) k n (length w) c here d.is_clock in
     omega arith))
 
@@ -165,7 +190,9 @@ pub mover_is : (w : Trace) (c i n : ℕ) → Orderly w → data_clock_of w i n �
 unfolding mover_at
 mover_is w c i n o e =
     let d = data_clock-parts w i n c e in
-    first_where-at (λ j. is_some (data_place_at w c j)) (live_count w) i (live_below w i (responded w i d.response o d.is_response)) (placed w c i n (data_place_at w c i) e refl) (λ j l.
+    first_where-at (λ j. is_some (data_place_at w c j)) (live_count w) i
+    (live_below w i (responded w i d.response o d.is_response))
+    (placed w c i n (data_place_at w c i) e refl) (λ j l.
     false_from_ne_true _ (λ t.
     let p = some_place w c j (data_place_at w c j) refl t in
     let same : j ≡ i = one_mover w i j n p.0 c o e p.1 in
@@ -180,7 +207,8 @@ no_mover w c none =
 pub mover_parts : (w : Trace) (c i : ℕ) → mover_at w c ≡ Some i → (n : ℕ) × (data_clock_of w i n ≡ Some c)
 unfolding mover_at
 mover_parts w c i e =
-    some_place w c i (data_place_at w c i) refl (first_where-found (λ j. is_some (data_place_at w c j)) (live_count w) i e).1
+    some_place w c i (data_place_at w c i) refl
+    (first_where-found (λ j. is_some (data_place_at w c j)) (live_count w) i e).1
 
 -- v goes on from u, which is orderly
 pub record GoesOnFrom (u v : Trace) : Type 0 where
@@ -188,14 +216,18 @@ pub record GoesOnFrom (u v : Trace) : Type 0 where
   pub orderly : Orderly u
 
 -- what responded stays
-pub still_responded : (u v : Trace) (i : ℕ) → GoesOnFrom u v → (r : Responded u i) → response_clock_of v i ≡ Some r.response
+pub still_responded : (u v : Trace) (i : ℕ) → GoesOnFrom u v → (r : Responded u i)
+    → response_clock_of v i ≡ Some r.response
 still_responded u v i g r = response_clock_of-stays (length u) u v i r.response g.agree r.below r.is_response
 
 pub same_outcome : (u v : Trace) (i : ℕ) → GoesOnFrom u v → Responded u i → outcome_of v i ≡ outcome_of u i
-same_outcome u v i g r = sym (outcome_of-stays (length u) u v i r.snoop r.response g.agree (omega (arith, r.early, r.below)) r.is_snoop r.below r.is_response)
+same_outcome u v i g r =
+    sym (outcome_of-stays (length u) u v i r.snoop r.response g.agree (omega (arith, r.early, r.below))
+    r.is_snoop r.below r.is_response)
 
 pub same_request : (u v : Trace) (i : ℕ) → GoesOnFrom u v → Responded u i → live_request_of v i ≡ live_request_of u i
-same_request u v i g r = sym (live_request_of-stays (length u) u v i r.snoop g.agree (omega (arith, r.early, r.below)) r.is_snoop)
+same_request u v i g r =
+    sym (live_request_of-stays (length u) u v i r.snoop g.agree (omega (arith, r.early, r.below)) r.is_snoop)
 
 same_moves : (u v : Trace) (i : ℕ) → GoesOnFrom u v → Responded u i → moves_data v i ≡ moves_data u i
 unfolding moves_data
@@ -207,15 +239,18 @@ live_after u v i g r =
     let c = snoop_end_of-clock v i r.snoop s in
     live_below_count v i c.clock c.is_clock
 
-same_drdy : (u v : Trace) (r c : ℕ) → GoesOnFrom u v → c < length u → AgreeBelow (c + 1) (from_clock r (line_at DRDY u)) (from_clock r (line_at DRDY v))
+same_drdy : (u v : Trace) (r c : ℕ) → GoesOnFrom u v → c < length u
+    → AgreeBelow (c + 1) (from_clock r (line_at DRDY u)) (from_clock r (line_at DRDY v))
 unfolding from_clock
-same_drdy u v r c g l = record { same = λ k m. ap (λ b. nat_le r k && b) (line_at-agree DRDY (length u) u v k g.agree (omega arith)) }
+same_drdy u v r c g l =
+    record { same = λ k m. ap (λ b. nat_le r k && b) (line_at-agree DRDY (length u) u v k g.agree (omega arith)) }
 
 pub data_responded : (u : Trace) (i n c : ℕ) → Orderly u → data_clock_of u i n ≡ Some c → Responded u i
 data_responded u i n c o e = let d = data_clock-parts u i n c e in responded u i d.response o d.is_response
 
 -- a data clock stays
-pub data_forth : (u v : Trace) (i n c : ℕ) → GoesOnFrom u v → c < length u → data_clock_of u i n ≡ Some c → data_clock_of v i n ≡ Some c
+pub data_forth : (u v : Trace) (i n c : ℕ) → GoesOnFrom u v → c < length u → data_clock_of u i n ≡ Some c
+    → data_clock_of v i n ≡ Some c
 data_forth u v i n c g l e =
     let d = data_clock-parts u i n c e in
     let r = responded u i d.response g.orderly d.is_response in
@@ -225,21 +260,27 @@ data_forth u v i n c g l e =
       moves = same_moves u v i g r ∙ d.moves;
       response = d.response;
       is_response = still_responded u v i g r ∙ sym r.is_response ∙ d.is_response;
-      is_clock = nth_where-carried (from_clock d.response (line_at DRDY u)) (from_clock d.response (line_at DRDY v)) n (length u) (length v) c (same_drdy u v d.response c g l) (omega arith) d.is_clock;
+      is_clock = nth_where-carried (from_clock d.response (line_at DRDY u))
+          (from_clock d.response (line_at DRDY v)) n (length u) (length v) c (same_drdy u v d.response c g l)
+          (omega arith) d.is_clock;
     })
 
-pub data_back : (u v : Trace) (i n c : ℕ) → GoesOnFrom u v → c < length u → data_clock_of v i n ≡ Some c → data_clock_of u i n ≡ Some c
+pub data_back : (u v : Trace) (i n c : ℕ) → GoesOnFrom u v → c < length u → data_clock_of v i n ≡ Some c
+    → data_clock_of u i n ≡ Some c
 data_back u v i n c g l e =
     let d = data_clock-parts v i n c e in
     let after = after_response v i n c d in
-    let back = response_clock_of-stays (length u) v u i d.response (AgreeTo-sym (length u) u v g.agree) (omega (arith, after.0)) d.is_response in
+    let back = response_clock_of-stays (length u) v u i d.response (AgreeTo-sym (length u) u v g.agree)
+    (omega (arith, after.0)) d.is_response in
     let r = responded u i d.response g.orderly back in
     data_clock-from u i n c (record {
       few = d.few;
       moves = sym (same_moves u v i g r) ∙ d.moves;
       response = d.response;
       is_response = back;
-      is_clock = nth_where-carried (from_clock d.response (line_at DRDY v)) (from_clock d.response (line_at DRDY u)) n (length v) (length u) c (record { same = λ k m. sym ((same_drdy u v d.response c g l).same k m) }) l d.is_clock;
+      is_clock = nth_where-carried (from_clock d.response (line_at DRDY v))
+          (from_clock d.response (line_at DRDY u)) n (length v) (length u) c
+          (record { same = λ k m. sym ((same_drdy u v d.response c g l).same k m) }) l d.is_clock;
     })
 
 pub same_place : (u v : Trace) (c i : ℕ) → GoesOnFrom u v → c < length u → data_place_at v c i ≡ data_place_at u c i
@@ -256,7 +297,8 @@ same_place u v c i g l =
 pub same_mover : (u v : Trace) (c : ℕ) → GoesOnFrom u v → c < length u → mover_at v c ≡ mover_at u c
 unfolding mover_at
 same_mover u v c g l =
-    first_where-alike (λ i. is_some (data_place_at v c i)) (λ i. is_some (data_place_at u c i)) (live_count v) (live_count u)
+    first_where-alike (λ i. is_some (data_place_at v c i)) (λ i. is_some (data_place_at u c i)) (live_count v)
+    (live_count u)
     (λ i m t.
     let p = some_place v c i (data_place_at v c i) refl t in
     let e = data_back u v i p.0 c g l p.1 in

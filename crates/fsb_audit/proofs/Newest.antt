@@ -1,7 +1,10 @@
 -- Which chunk is moved at the newest clock, and whether it comes from memory.
-use Rattle.std.proofs.Common.{ℕ, zero, suc, ◌+◌, ◌-◌, ◌*◌, ◌/◌, ◌%◌, ◌^◌, ◌<◌, ◌≤◌, ◌≡◌, Bool, true, false, cond, ◌&&◌, ◌||◌, not, nat_eq, nat_lt, List, Option, Some, None, is_some, length, slice_index, refl, sym, ap, ◌∙◌, arith, inl, inr, subst}
+use Rattle.std.proofs.Common.{ℕ, zero, suc, ◌+◌, ◌-◌, ◌*◌, ◌/◌, ◌%◌, ◌^◌, ◌<◌, ◌≤◌, ◌≡◌, Bool, true, false, cond, ◌&&◌}
+use Rattle.std.proofs.Common.{◌||◌, not, nat_eq, nat_lt, List, Option, Some, None, is_some, length, slice_index, refl}
+use Rattle.std.proofs.Common.{sym, ap, ◌∙◌, arith, inl, inr, subst}
 use Rattle.std.specs.Option.{option_map, option_and_then}
-use Rattle.std.proofs.lemmas.Bool.{cases_Bool, cases_lt, and_parts, both_ways, false_from_ne_true, ltb-true, eqb-true, not-false}
+use Rattle.std.proofs.lemmas.Bool.{cases_Bool, cases_lt, and_parts, both_ways, false_from_ne_true, ltb-true, eqb-true}
+use Rattle.std.proofs.lemmas.Bool.{not-false}
 use Rattle.std.proofs.lemmas.Option.{same_Some}
 use Rattle.fsb_count.specs.Options.{is_some_and, is_before}
 use Rattle.fsb_count.specs.Clocks.{first_where}
@@ -15,31 +18,43 @@ use Rattle.fsb_encode.specs.declared.request.Request.{Request}
 use Rattle.fsb_encode.specs.Burst.{burst_order}
 use Rattle.fsb_encode.specs.Request.{are_lawful_fields, is_lawful_request}
 use Rattle.fsb_trace.specs.At.{Trace, request_at, response_code_at}
-use Rattle.fsb_trace.specs.Requests.{is_live, live_clock_of, live_count, live_number_of, live_request_of, is_reply, is_reply_kind, is_write_back, is_write_back_kind, is_upgrade, is_upgrade_kind, have_same_id}
+use Rattle.fsb_trace.specs.Requests.{is_live, live_clock_of, live_count, live_number_of, live_request_of, is_reply}
+use Rattle.fsb_trace.specs.Requests.{is_reply_kind, is_write_back, is_write_back_kind, is_upgrade, is_upgrade_kind}
+use Rattle.fsb_trace.specs.Requests.{have_same_id}
 use Rattle.fsb_trace.specs.Snoop.{line_at_snoop_end}
 use Rattle.fsb_trace.specs.declared.outcome.Outcome.{Outcome}
-use Rattle.fsb_trace.specs.declared.outcome.Outcome.TheVariants.{Granted, Handed, Retried, Deferred, Written, Replied, Failed, Upgraded}
-use Rattle.fsb_trace.specs.Outcome.{is_deferred, moves_data, outcome_by_kind, outcome_of, response_clock_of, response_code_of, told_by}
+use Rattle.fsb_trace.specs.declared.outcome.Outcome.TheVariants.{Granted, Handed, Retried, Deferred, Written, Replied}
+use Rattle.fsb_trace.specs.declared.outcome.Outcome.TheVariants.{Failed, Upgraded}
+use Rattle.fsb_trace.specs.Outcome.{is_deferred, moves_data, outcome_by_kind, outcome_of, response_clock_of}
+use Rattle.fsb_trace.specs.Outcome.{response_code_of, told_by}
 use Rattle.fsb_trace.specs.Response.{data_clock_of, end_of}
-use Rattle.fsb_trace.specs.Flight.{is_reply_to, is_live_reply_to, last_clock_of, reply_clock_of, reply_end_of, reply_number_of}
+use Rattle.fsb_trace.specs.Flight.{is_reply_to, is_live_reply_to, last_clock_of, reply_clock_of, reply_end_of}
+use Rattle.fsb_trace.specs.Flight.{reply_number_of}
 use Rattle.fsb_trace.proofs.Interface.{live_clock_of-number, snoop_end_of-clock}
 use Rattle.fsb_laws.specs.OneMore.{OneMore}
 use Rattle.fsb_laws.specs.Orderly.{Orderly}
 use Rattle.fsb_laws.specs.Progress.{response_count}
-use Rattle.fsb_laws.proofs.Interface.{clear_parts, deferred_response, deferred_still, end_of-kept, has_answer, is_live-ads, last_clock_of-deferred, last_clock_of-plain, live_number_of-more, live_of_reply, reply_end_of-none, response_counted, response_there, request_at-old}
+use Rattle.fsb_laws.proofs.Interface.{clear_parts, deferred_response, deferred_still, end_of-kept, has_answer}
+use Rattle.fsb_laws.proofs.Interface.{is_live-ads, last_clock_of-deferred, last_clock_of-plain, live_number_of-more}
+use Rattle.fsb_laws.proofs.Interface.{live_of_reply, reply_end_of-none, response_counted, response_there}
+use Rattle.fsb_laws.proofs.Interface.{request_at-old}
 use Rattle.fsb_rules.specs.declared.coming.Coming.{Coming}
 use Rattle.fsb_rules.specs.Checker.{Deferrable}
 use Rattle.fsb_rules.specs.ComingChunks.{HasData}
 use Rattle.fsb_rules.proofs.Interface.{IsDataClock, data_clock-parts, decoded_lawful}
 use Rattle.fsb_audit.specs.AuditRegisters.{chunk_by, first_asked, nth_from}
-use Rattle.fsb_audit.specs.MovedChunks.{chunk_moved_at, chunk_moved_by, data_place_at, does_come_from_memory, is_named_by_reply, is_from_memory, moved_at, mover_at, namer_of, nth_chunk}
+use Rattle.fsb_audit.specs.MovedChunks.{chunk_moved_at, chunk_moved_by, data_place_at, does_come_from_memory}
+use Rattle.fsb_audit.specs.MovedChunks.{is_named_by_reply, is_from_memory, moved_at, mover_at, namer_of, nth_chunk}
 use Rattle.fsb_audit.specs.Audit.{HasAsked, IsAnswering, comes_after}
-use Rattle.fsb_audit.proofs.Movers.{GoesOnFrom, Responded, after_response, before_end, mover_is, no_mover, place_is, responded}
-use Rattle.fsb_audit.proofs.Moves.{Answer, answer_from, answer_live, answer_parts, reply_back, reply_before, same_deferred}
+use Rattle.fsb_audit.proofs.Movers.{GoesOnFrom, Responded, after_response, before_end, mover_is, no_mover, place_is}
+use Rattle.fsb_audit.proofs.Movers.{responded}
+use Rattle.fsb_audit.proofs.Moves.{Answer, answer_from, answer_live, answer_parts, reply_back, reply_before}
+use Rattle.fsb_audit.proofs.Moves.{same_deferred}
 use Rattle.fsb_audit.proofs.Asked.{IsOut, live_old, out_from}
 
 -- the chunks of a lawful request, by the one for which it asked first
-lawful_fields : (kind : Kind) (line chunk : ℕ) (den : Bool) → are_lawful_fields kind line chunk den ≡ true → (line < 2 ^ 31) × (chunk < 4)
+lawful_fields : (kind : Kind) (line chunk : ℕ) (den : Bool) → are_lawful_fields kind line chunk den ≡ true
+    → (line < 2 ^ 31) × (chunk < 4)
 unfolding are_lawful_fields
 lawful_fields Reply line chunk den t =
     let a = and_parts _ _ t in
@@ -47,7 +62,8 @@ lawful_fields Reply line chunk den t =
     let l : line ≡ 0 = eqb-true line 0 b.0 in
     let c : chunk ≡ 0 = eqb-true chunk 0 b.1 in
     (omega arith, omega arith)
-lawful_fields Invalidate line chunk den t = let a = and_parts _ _ t in (ltb-true line (2 ^ 31) a.0, ltb-true chunk 4 a.1)
+lawful_fields Invalidate line chunk den t = let a = and_parts _ _ t in
+    (ltb-true line (2 ^ 31) a.0, ltb-true chunk 4 a.1)
 lawful_fields Read line chunk den t = let a = and_parts _ _ t in (ltb-true line (2 ^ 31) a.0, ltb-true chunk 4 a.1)
 lawful_fields WriteBack line chunk den t =
     let a = and_parts _ _ t in
@@ -74,7 +90,8 @@ chunk_same r n t l =
     rw (line, chunk, place, turned) refl
 
 -- where a live request has no end below the sample
-open_until : (h : Trace) (x : Sample) (v : Trace) (j k : ℕ) → OneMore h x v → Orderly h → IsDataClock v j k (length h) → is_before (end_of h j) (length h) ≡ false
+open_until : (h : Trace) (x : Sample) (v : Trace) (j k : ℕ) → OneMore h x v → Orderly h
+    → IsDataClock v j k (length h) → is_before (end_of h j) (length h) ≡ false
 open_until h x v j k m o d =
     false_from_ne_true _ (λ t.
     let e = is_before-parts (end_of h j) (length h) t in
@@ -104,11 +121,13 @@ pub record Began (h v : Trace) (j : ℕ) (r : Request) : Type 0 where
   pub request : request_at v first ≡ Some r
   pub known : request_at h first ≡ Some r
 
-pub request_where : (w : Trace) (j q : ℕ) (r : Request) → live_clock_of w j ≡ Some q → live_request_of w j ≡ Some r → request_at w q ≡ Some r
+pub request_where : (w : Trace) (j q : ℕ) (r : Request) → live_clock_of w j ≡ Some q
+    → live_request_of w j ≡ Some r → request_at w q ≡ Some r
 unfolding live_request_of
 request_where w j q r e f = let a = rw e at f in a
 
-began_at : (h : Trace) (x : Sample) (v : Trace) (j q : ℕ) (r : Request) → OneMore h x v → Orderly h → live_clock_of v j ≡ Some q → live_request_of v j ≡ Some r → q + 6 ≤ length h → Began h v j r
+began_at : (h : Trace) (x : Sample) (v : Trace) (j q : ℕ) (r : Request) → OneMore h x v → Orderly h
+    → live_clock_of v j ≡ Some q → live_request_of v j ≡ Some r → q + 6 ≤ length h → Began h v j r
 unfolding live_clock_of live_number_of
 began_at h x v j q r m o e f l =
     let p = nth_where-found (is_live v) j (length v) q e in
@@ -133,7 +152,8 @@ began h x v j k r c =
     began_at h x v j s.clock r c.more c.before s.is_clock c.request (omega (arith, s.above, a.early))
 
 -- it is not Deferred
-not_deferred : (h : Trace) (x : Sample) (v : Trace) (j k : ℕ) (r : Request) → Comes h x v j k r → is_deferred h j ≡ false
+not_deferred : (h : Trace) (x : Sample) (v : Trace) (j k : ℕ) (r : Request) → Comes h x v j k r
+    → is_deferred h j ≡ false
 not_deferred h x v j k r c =
     false_from_ne_true _ (λ t.
     let d = deferred_response h j t in
@@ -141,13 +161,15 @@ not_deferred h x v j k r c =
     both_ways _ (deferred_still v j (same ∙ t)) c.clock.moves)
 
 -- one that is no reply is outstanding before the sample
-pub plain_out : (h : Trace) (x : Sample) (v : Trace) (j k : ℕ) (r : Request) (c : Comes h x v j k r) (b : Began h v j r) → is_reply_kind r.kind ≡ false → IsOut h b.first
+pub plain_out : (h : Trace) (x : Sample) (v : Trace) (j k : ℕ) (r : Request) (c : Comes h x v j k r)
+    (b : Began h v j r) → is_reply_kind r.kind ≡ false → IsOut h b.first
 unfolding is_reply is_some_and
 plain_out h x v j k r c b f = record {
   live = b.live;
   plain = rw b.known f;
   unfinished = subst (λ i. is_before (last_clock_of h i) (length h) ≡ false) (sym b.number)
-      (ap (λ e. is_before e (length h)) (last_clock_of-plain h j (not_deferred h x v j k r c)) ∙ open_until h x v j k c.more c.before c.clock);
+      (ap (λ e. is_before e (length h)) (last_clock_of-plain h j (not_deferred h x v j k r c))
+      ∙ open_until h x v j k c.more c.before c.clock);
 }
 
 reply_end_at : (w : Trace) (i q : ℕ) → reply_clock_of w i ≡ Some q → reply_end_of w i ≡ end_of w (live_number_of w q)
@@ -155,7 +177,9 @@ unfolding reply_end_of reply_number_of
 reply_end_at w i q e = rw e refl
 
 -- the request that a reply answers is outstanding before the sample
-pub answered_out : (h : Trace) (x : Sample) (v : Trace) (j k : ℕ) (r : Request) (c : Comes h x v j k r) (b : Began h v j r) (i q : ℕ) (s : Request) → is_deferred h i ≡ true → reply_clock_of h i ≡ Some b.first → live_clock_of h i ≡ Some q → live_request_of h i ≡ Some s → q < length h → IsOut h q
+pub answered_out : (h : Trace) (x : Sample) (v : Trace) (j k : ℕ) (r : Request) (c : Comes h x v j k r)
+    (b : Began h v j r) (i q : ℕ) (s : Request) → is_deferred h i ≡ true → reply_clock_of h i ≡ Some b.first
+    → live_clock_of h i ≡ Some q → live_request_of h i ≡ Some s → q < length h → IsOut h q
 unfolding live_clock_of live_number_of
 answered_out h x v j k r c b i q s t e f g l =
     let p = nth_where-found (is_live h) i (length h) q f in
@@ -164,6 +188,7 @@ answered_out h x v j k r c b i q s t e f g l =
       live = p.1;
       plain = ap is_reply (request ∙ sym g) ∙ c.deferrable.no_reply i t;
       unfinished = subst (λ n. is_before (last_clock_of h n) (length h) ≡ false) (sym p.2)
-          (ap (λ z. is_before z (length h)) (last_clock_of-deferred h i t ∙ reply_end_at h i b.first e ∙ ap (end_of h) b.number)
+          (ap (λ z. is_before z (length h)) (last_clock_of-deferred h i t ∙ reply_end_at h i b.first e
+          ∙ ap (end_of h) b.number)
           ∙ open_until h x v j k c.more c.before c.clock);
     }

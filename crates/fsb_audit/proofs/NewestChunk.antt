@@ -1,5 +1,7 @@
 -- The chunk that is moved at the newest clock, and whether it comes from memory.
-use Rattle.std.proofs.Common.{ℕ, zero, suc, ◌+◌, ◌<◌, ◌≤◌, ◌≡◌, Bool, true, false, cond, ◌&&◌, ◌||◌, not, nat_eq, nat_lt, List, Option, Some, None, is_some, length, slice_index, refl, sym, ap, ◌∙◌, arith, inl, inr, subst}
+use Rattle.std.proofs.Common.{ℕ, zero, suc, ◌+◌, ◌<◌, ◌≤◌, ◌≡◌, Bool, true, false, cond, ◌&&◌, ◌||◌, not, nat_eq}
+use Rattle.std.proofs.Common.{nat_lt, List, Option, Some, None, is_some, length, slice_index, refl, sym, ap, ◌∙◌, arith}
+use Rattle.std.proofs.Common.{inl, inr, subst}
 use Rattle.std.specs.Prelude.{◌⊎◌}
 use Rattle.std.specs.Option.{option_map, option_and_then}
 use Rattle.std.proofs.lemmas.Bool.{cases_Bool, cases_lt, and_parts, both_ways, eqb-true, not-false}
@@ -20,36 +22,47 @@ use Rattle.fsb_trace.proofs.Interface.{AgreeTo-sym, response_clock_of-stays, sno
 use Rattle.fsb_laws.specs.OneMore.{OneMore}
 use Rattle.fsb_laws.specs.Orderly.{Orderly}
 use Rattle.fsb_laws.specs.Progress.{response_count}
-use Rattle.fsb_laws.proofs.Interface.{clear_parts, deferred_response, has_answer, is_live-ads, live_of_reply, response_counted, response_there}
+use Rattle.fsb_laws.proofs.Interface.{clear_parts, deferred_response, has_answer, is_live-ads, live_of_reply}
+use Rattle.fsb_laws.proofs.Interface.{response_counted, response_there}
 use Rattle.fsb_rules.specs.declared.coming.Coming.{Coming}
 use Rattle.fsb_rules.specs.ComingChunks.{HasData}
 use Rattle.fsb_rules.proofs.Interface.{IsDataClock, data_clock-parts, decoded_lawful}
 use Rattle.fsb_audit.specs.AuditRegisters.{chunk_by, first_asked, nth_from}
-use Rattle.fsb_audit.specs.MovedChunks.{chunk_moved_at, chunk_moved_by, does_come_from_memory, is_named_by_reply, is_from_memory, moved_at, mover_at, namer_of, nth_chunk}
+use Rattle.fsb_audit.specs.MovedChunks.{chunk_moved_at, chunk_moved_by, does_come_from_memory, is_named_by_reply}
+use Rattle.fsb_audit.specs.MovedChunks.{is_from_memory, moved_at, mover_at, namer_of, nth_chunk}
 use Rattle.fsb_audit.specs.Audit.{HasAsked, IsAnswering, comes_after}
-use Rattle.fsb_audit.proofs.Movers.{Responded, before_end, live_after, mover_is, no_mover, place_is, responded, same_request}
-use Rattle.fsb_audit.proofs.Moves.{Answer, answer_from, answer_live, answer_parts, reply_back, reply_before, reply_forth, same_deferred, same_number}
+use Rattle.fsb_audit.proofs.Movers.{Responded, before_end, live_after, mover_is, no_mover, place_is, responded}
+use Rattle.fsb_audit.proofs.Movers.{same_request}
+use Rattle.fsb_audit.proofs.Moves.{Answer, answer_from, answer_live, answer_parts, reply_back, reply_before}
+use Rattle.fsb_audit.proofs.Moves.{reply_forth, same_deferred, same_number}
 use Rattle.fsb_audit.proofs.Asked.{IsOut, out_from}
 use Rattle.fsb_audit.proofs.Newest.{Began, Comes, answered_out, began, chunk_same, goes_on, plain_out, request_where}
 
 -- what was asked for by an outstanding request
-asked_by : (asked : List ℕ) (h : Trace) (q : ℕ) (r : Request) → HasAsked asked h → q + 1 < length h → IsOut h q → request_at h q ≡ Some r → slice_index asked r.did ≡ first_asked r
+asked_by : (asked : List ℕ) (h : Trace) (q : ℕ) (r : Request) → HasAsked asked h → q + 1 < length h → IsOut h q
+    → request_at h q ≡ Some r → slice_index asked r.did ≡ first_asked r
 asked_by asked h q r had l out e = had.kept q r l (out_from h q (omega arith) out) e
 
-named_chunk : (asked : List ℕ) (w : Trace) (q n did : ℕ) (r : Request) → slice_index asked r.did ≡ first_asked r → request_at w q ≡ Some r → n < 4 → did ≡ r.did → nth_from (slice_index asked did) n ≡ nth_chunk n r
+named_chunk : (asked : List ℕ) (w : Trace) (q n did : ℕ) (r : Request) → slice_index asked r.did ≡ first_asked r
+    → request_at w q ≡ Some r → n < 4 → did ≡ r.did → nth_from (slice_index asked did) n ≡ nth_chunk n r
 named_chunk asked w q n did r e f l same =
-    ap (λ d. nth_from (slice_index asked d) n) same ∙ ap (λ a. nth_from a n) e ∙ chunk_same r n (decoded_lawful w q r f) l
+    ap (λ d. nth_from (slice_index asked d) n) same ∙ ap (λ a. nth_from a n) e
+    ∙ chunk_same r n (decoded_lawful w q r f) l
 
 -- the chunk of a request that is no reply
-namer_plain : (w : Trace) (j : ℕ) (r : Request) → live_request_of w j ≡ Some r → is_reply_kind r.kind ≡ false → namer_of w j ≡ Some j
+namer_plain : (w : Trace) (j : ℕ) (r : Request) → live_request_of w j ≡ Some r → is_reply_kind r.kind ≡ false
+    → namer_of w j ≡ Some j
 unfolding namer_of is_reply is_some_and
 namer_plain w j r e f = rw (e, f) refl
 
-by_namer : (w : Trace) (j i n : ℕ) (r : Request) → namer_of w j ≡ Some i → live_request_of w i ≡ Some r → chunk_moved_by w j n ≡ Some (nth_chunk n r)
+by_namer : (w : Trace) (j i n : ℕ) (r : Request) → namer_of w j ≡ Some i → live_request_of w i ≡ Some r
+    → chunk_moved_by w j n ≡ Some (nth_chunk n r)
 unfolding chunk_moved_by
 by_namer w j i n r e f = rw (e, f) refl
 
-plain_chunk : (asked : List ℕ) (h : Trace) (x : Sample) (v : Trace) (j n did : ℕ) (r : Request) (c : Comes h x v j n r) → HasAsked asked h → did ≡ r.did → is_reply_kind r.kind ≡ false → chunk_moved_by v j n ≡ Some (nth_from (slice_index asked did) n)
+plain_chunk : (asked : List ℕ) (h : Trace) (x : Sample) (v : Trace) (j n did : ℕ) (r : Request)
+    (c : Comes h x v j n r) → HasAsked asked h → did ≡ r.did → is_reply_kind r.kind ≡ false
+    → chunk_moved_by v j n ≡ Some (nth_from (slice_index asked did) n)
 plain_chunk asked h x v j n did r c had same f =
     let b = began h x v j n r c in
     let early : b.first + 1 < length h = omega (arith, b.early) in
@@ -58,11 +71,14 @@ plain_chunk asked h x v j n did r c had same f =
     ∙ ap (λ k. Some k) (sym (named_chunk asked h b.first n did r asked_first b.known c.clock.few same))
 
 -- the chunk of a reply
-reply_there : (h : Trace) (x : Sample) (v : Trace) (j n : ℕ) (r : Request) (c : Comes h x v j n r) (b : Began h v j r) → is_reply_kind r.kind ≡ true → (i : ℕ) × (is_deferred h i ≡ true) × (reply_clock_of h i ≡ Some b.first)
+reply_there : (h : Trace) (x : Sample) (v : Trace) (j n : ℕ) (r : Request) (c : Comes h x v j n r)
+    (b : Began h v j r) → is_reply_kind r.kind ≡ true
+    → (i : ℕ) × (is_deferred h i ≡ true) × (reply_clock_of h i ≡ Some b.first)
 unfolding is_reply is_some_and
 reply_there h x v j n r c b t = c.answering.answers b.first (omega (arith, b.early)) b.live (rw b.known t)
 
-answered : (h : Trace) (x : Sample) (v : Trace) (j n : ℕ) (r : Request) (c : Comes h x v j n r) (b : Began h v j r) → is_reply_kind r.kind ≡ true → (i : ℕ) × (i < live_count v) × (is_named_by_reply v j i ≡ true)
+answered : (h : Trace) (x : Sample) (v : Trace) (j n : ℕ) (r : Request) (c : Comes h x v j n r)
+    (b : Began h v j r) → is_reply_kind r.kind ≡ true → (i : ℕ) × (i < live_count v) × (is_named_by_reply v j i ≡ true)
 answered h x v j n r c b t =
     let a = reply_there h x v j n r c b t in
     let g = goes_on h x v j n r c in
@@ -78,16 +94,21 @@ answered h x v j n r c b t =
       }),
     )
 
-first_there : (v : Trace) (j i : ℕ) (o : Option ℕ) → i < live_count v → is_named_by_reply v j i ≡ true → first_where (is_named_by_reply v j) (live_count v) ≡ o → (k : ℕ) × (first_where (is_named_by_reply v j) (live_count v) ≡ Some k)
-first_there v j i None l t e = let f = first_where-none (is_named_by_reply v j) (live_count v) e i l in absurd (both_ways _ f t)
+first_there : (v : Trace) (j i : ℕ) (o : Option ℕ) → i < live_count v → is_named_by_reply v j i ≡ true
+    → first_where (is_named_by_reply v j) (live_count v) ≡ o
+    → (k : ℕ) × (first_where (is_named_by_reply v j) (live_count v) ≡ Some k)
+first_there v j i None l t e = let f = first_where-none (is_named_by_reply v j) (live_count v) e i l in
+    absurd (both_ways _ f t)
 first_there v j i (Some k) l t e = (k, e)
 
-namer_reply : (w : Trace) (j : ℕ) (r : Request) → live_request_of w j ≡ Some r → is_reply_kind r.kind ≡ true → namer_of w j ≡ first_where (is_named_by_reply w j) (live_count w)
+namer_reply : (w : Trace) (j : ℕ) (r : Request) → live_request_of w j ≡ Some r → is_reply_kind r.kind ≡ true
+    → namer_of w j ≡ first_where (is_named_by_reply w j) (live_count w)
 unfolding namer_of is_reply is_some_and
 namer_reply w j r e t = rw (e, t) refl
 
 -- a reply has the ID of the request that it answers
-same_id_of : (w : Trace) (i q : ℕ) → reply_clock_of w i ≡ Some q → have_same_id (request_at w q) (live_request_of w i) ≡ true
+same_id_of : (w : Trace) (i q : ℕ) → reply_clock_of w i ≡ Some q
+    → have_same_id (request_at w q) (live_request_of w i) ≡ true
 unfolding reply_clock_of is_live_reply_to is_reply_to
 same_id_of w i q e =
     let p = first_where-found (is_live_reply_to w i) (length w) q e in
@@ -102,22 +123,27 @@ unfolding have_same_id is_some_and
 no_id None t = let no : ⊥ = cc in no
 no_id (Some r) t = let no : ⊥ = cc in no
 
-reply_id : (w : Trace) (i q : ℕ) (r s : Request) → reply_clock_of w i ≡ Some q → request_at w q ≡ Some r → live_request_of w i ≡ Some s → r.did ≡ s.did
+reply_id : (w : Trace) (i q : ℕ) (r s : Request) → reply_clock_of w i ≡ Some q → request_at w q ≡ Some r
+    → live_request_of w i ≡ Some s → r.did ≡ s.did
 reply_id w i q r s e f g = both_ids (request_at w q) (live_request_of w i) r s f g (same_id_of w i q e)
 
-request_there : (w : Trace) (i : ℕ) (o : Option Request) → (q : ℕ) → reply_clock_of w i ≡ Some q → live_request_of w i ≡ o → (s : Request) × (live_request_of w i ≡ Some s)
+request_there : (w : Trace) (i : ℕ) (o : Option Request) → (q : ℕ) → reply_clock_of w i ≡ Some q
+    → live_request_of w i ≡ o → (s : Request) × (live_request_of w i ≡ Some s)
 request_there w i (Some s) q e f = (s, f)
 request_there w i None q e f =
     absurd (no_id (request_at w q) (subst (λ o. have_same_id (request_at w q) o ≡ true) f (same_id_of w i q e)))
 
-reply_chunk_by : (asked : List ℕ) (h : Trace) (x : Sample) (v : Trace) (j n did i : ℕ) (r : Request) (c : Comes h x v j n r) (b : Began h v j r) → HasAsked asked h → did ≡ r.did → namer_of v j ≡ Some i → is_named_by_reply v j i ≡ true → chunk_moved_by v j n ≡ Some (nth_from (slice_index asked did) n)
+reply_chunk_by : (asked : List ℕ) (h : Trace) (x : Sample) (v : Trace) (j n did i : ℕ) (r : Request)
+    (c : Comes h x v j n r) (b : Began h v j r) → HasAsked asked h → did ≡ r.did → namer_of v j ≡ Some i
+    → is_named_by_reply v j i ≡ true → chunk_moved_by v j n ≡ Some (nth_from (slice_index asked did) n)
 reply_chunk_by asked h x v j n did i r c b had same e t =
     let g = goes_on h x v j n r c in
     let a = answer_parts v j i t in
     let here : a.clock ≡ b.first = same_Some _ _ (sym (answer_live v j i a) ∙ b.is_first) in
     let clock_v : reply_clock_of v i ≡ Some b.first = a.is_clock ∙ ap (λ q. Some q) here in
     let before = reply_before v i b.first clock_v in
-    let back = response_clock_of-stays (length h) v h i before.0 (AgreeTo-sym (length h) h v g.agree) (omega (arith, before.2, b.early)) before.1 in
+    let back = response_clock_of-stays (length h) v h i before.0 (AgreeTo-sym (length h) h v g.agree)
+    (omega (arith, before.2, b.early)) before.1 in
     let k = responded h i before.0 c.before back in
     let deferred : is_deferred h i ≡ true = sym (same_deferred h v i g k) ∙ a.deferred in
     let clock_h = reply_back h v i b.first g k (omega (arith, b.early)) clock_v in
@@ -131,7 +157,9 @@ reply_chunk_by asked h x v j n did i r c b had same e t =
     by_namer v j i n s.0 e (same_request h v i g k ∙ s.1)
     ∙ ap (λ z. Some z) (sym (named_chunk asked h snoop.clock n did s.0 asked_first known c.clock.few (same ∙ id)))
 
-reply_chunk : (asked : List ℕ) (h : Trace) (x : Sample) (v : Trace) (j n did : ℕ) (r : Request) (c : Comes h x v j n r) → HasAsked asked h → did ≡ r.did → is_reply_kind r.kind ≡ true → chunk_moved_by v j n ≡ Some (nth_from (slice_index asked did) n)
+reply_chunk : (asked : List ℕ) (h : Trace) (x : Sample) (v : Trace) (j n did : ℕ) (r : Request)
+    (c : Comes h x v j n r) → HasAsked asked h → did ≡ r.did → is_reply_kind r.kind ≡ true
+    → chunk_moved_by v j n ≡ Some (nth_from (slice_index asked did) n)
 reply_chunk asked h x v j n did r c had same t =
     let b = began h x v j n r c in
     let a = answered h x v j n r c b t in
@@ -139,23 +167,29 @@ reply_chunk asked h x v j n did r c had same t =
     let found = first_where-found (is_named_by_reply v j) (live_count v) f.0 f.1 in
     reply_chunk_by asked h x v j n did f.0 r c b had same (namer_reply v j r c.request t ∙ f.1) found.1
 
-any_chunk : (asked : List ℕ) (h : Trace) (x : Sample) (v : Trace) (j n did : ℕ) (r : Request) (b : Bool) (c : Comes h x v j n r) → HasAsked asked h → did ≡ r.did → is_reply_kind r.kind ≡ b → chunk_moved_by v j n ≡ Some (nth_from (slice_index asked did) n)
+any_chunk : (asked : List ℕ) (h : Trace) (x : Sample) (v : Trace) (j n did : ℕ) (r : Request) (b : Bool)
+    (c : Comes h x v j n r) → HasAsked asked h → did ≡ r.did → is_reply_kind r.kind ≡ b
+    → chunk_moved_by v j n ≡ Some (nth_from (slice_index asked did) n)
 any_chunk asked h x v j n did r true c had same t = reply_chunk asked h x v j n did r c had same t
 any_chunk asked h x v j n did r false c had same f = plain_chunk asked h x v j n did r c had same f
 
-moved_by : (w : Trace) (c j n k : ℕ) → Orderly w → data_clock_of w j n ≡ Some c → chunk_moved_by w j n ≡ Some k → moved_at w c ≡ Some k
+moved_by : (w : Trace) (c j n k : ℕ) → Orderly w → data_clock_of w j n ≡ Some c → chunk_moved_by w j n ≡ Some k
+    → moved_at w c ≡ Some k
 unfolding moved_at chunk_moved_at
 moved_by w c j n k o e f = rw (mover_is w c j n o e, place_is w c j n e) f
 
 -- the chunk that is moved at the newest clock is the one that comes
-pub moved_now : (asked : List ℕ) (h : Trace) (x : Sample) (v : Trace) (coming : Coming) (d : HasData v (length h) coming) → Comes h x v d.number coming.place d.request → HasAsked asked h → moved_at v (length h) ≡ Some (chunk_by asked coming)
+pub moved_now : (asked : List ℕ) (h : Trace) (x : Sample) (v : Trace) (coming : Coming)
+    (d : HasData v (length h) coming) → Comes h x v d.number coming.place d.request → HasAsked asked h
+    → moved_at v (length h) ≡ Some (chunk_by asked coming)
 unfolding chunk_by
 moved_now asked h x v coming d c had =
     moved_by v (length h) d.number coming.place _ c.after d.clock
     (any_chunk asked h x v d.number coming.place coming.did d.request (is_reply_kind d.request.kind) c had d.did refl)
 
 -- and where none comes none is moved
-pub none_moved : (w : Trace) (c : ℕ) → ((i n : ℕ) → data_clock_of w i n ≡ Some c → ⊥) → (moved_at w c ≡ None) × (is_from_memory w c ≡ false)
+pub none_moved : (w : Trace) (c : ℕ) → ((i n : ℕ) → data_clock_of w i n ≡ Some c → ⊥)
+    → (moved_at w c ≡ None) × (is_from_memory w c ≡ false)
 unfolding moved_at is_from_memory is_some_and
 none_moved w c none = (rw (no_mover w c none) refl, rw (no_mover w c none) refl)
 
@@ -174,7 +208,8 @@ last_responded w j n c o size d =
     ]
 
 -- so whether its data come from memory is what was told last
-pub from_now : (w : Trace) (j n c : ℕ) → Orderly w → length w ≡ c + 1 → data_clock_of w j n ≡ Some c → is_from_memory w c ≡ comes_after w (response_count w)
+pub from_now : (w : Trace) (j n c : ℕ) → Orderly w → length w ≡ c + 1 → data_clock_of w j n ≡ Some c
+    → is_from_memory w c ≡ comes_after w (response_count w)
 unfolding is_from_memory comes_after
 from_now w j n c o size e =
     rw (mover_is w c j n o e, last_responded w j n c o size (data_clock-parts w j n c e)) refl

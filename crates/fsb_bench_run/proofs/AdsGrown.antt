@@ -1,5 +1,6 @@
 -- At which clocks of a run requests begin, as the run grows.
-use Rattle.std.proofs.Common.{ℕ, zero, suc, ◌<◌, ◌≡◌, Bool, true, false, Some, [], ◌∷◌, ◌++◌, length, if◌then◌else◌, add-one, append-nil, refl, sym, ap, ◌∙◌, arith}
+use Rattle.std.proofs.Common.{ℕ, zero, suc, ◌<◌, ◌≡◌, Bool, true, false, Some, [], ◌∷◌, ◌++◌, length, if◌then◌else◌}
+use Rattle.std.proofs.Common.{add-one, append-nil, refl, sym, ap, ◌∙◌, arith}
 use Rattle.fsb_count.specs.Clocks.{all_where, last_where}
 use Rattle.fsb_count.proofs.Interface.{all_where-failed, all_where-passed, last_where-failed, last_where-passed}
 use Rattle.fsb_phase_run.proofs.Interface.{agree-grown, longer}
@@ -39,7 +40,8 @@ all-same p q (suc n) same =
 -- ADS# at the clocks of the run
 pub ads-old : (r s : Run) → GrowsTo r s → (c : ℕ) → c < length r.trace → line_at ADS s.trace c ≡ line_at ADS r.trace c
 ads-old r s grows c l =
-    line_at-agree ADS (length r.trace) s.trace r.trace c (AgreeTo-sym (length r.trace) r.trace s.trace (agree-grown r s grows)) l
+    line_at-agree ADS (length r.trace) s.trace r.trace c
+    (AgreeTo-sym (length r.trace) r.trace s.trace (agree-grown r s grows)) l
 
 pub size-suc : (r s : Run) → GrowsTo r s → length s.trace ≡ suc (length r.trace)
 size-suc r s grows = longer r s grows ∙ add-one (length r.trace)
@@ -48,9 +50,11 @@ pub last-more : (r s : Run) (b : Bool) → GrowsTo r s → line_at ADS s.trace (
     → last_where (line_at ADS s.trace) (length s.trace)
     ≡ (elim b [ true ↦ Some (length r.trace) | false ↦ last_where (line_at ADS r.trace) (length r.trace) ])
 last-more r s true grows e =
-    ap (last_where (line_at ADS s.trace)) (size-suc r s grows) ∙ last_where-passed (line_at ADS s.trace) (length r.trace) e
+    ap (last_where (line_at ADS s.trace)) (size-suc r s grows)
+    ∙ last_where-passed (line_at ADS s.trace) (length r.trace) e
 last-more r s false grows e =
-    ap (last_where (line_at ADS s.trace)) (size-suc r s grows) ∙ last_where-failed (line_at ADS s.trace) (length r.trace) e
+    ap (last_where (line_at ADS s.trace)) (size-suc r s grows)
+    ∙ last_where-failed (line_at ADS s.trace) (length r.trace) e
     ∙ last-same (line_at ADS s.trace) (line_at ADS r.trace) (length r.trace) (ads-old r s grows)
 
 pub all-more : (r s : Run) (b : Bool) → GrowsTo r s → line_at ADS s.trace (length r.trace) ≡ b
@@ -58,7 +62,8 @@ pub all-more : (r s : Run) (b : Bool) → GrowsTo r s → line_at ADS s.trace (l
     ≡ all_where (line_at ADS r.trace) (length r.trace) ++ (elim b [ true ↦ length r.trace ∷ [] | false ↦ [] ])
 all-more r s true grows e =
     ap (all_where (line_at ADS s.trace)) (longer r s grows) ∙ all_where-passed (line_at ADS s.trace) (length r.trace) e
-    ∙ ap (λ xs. xs ++ length r.trace ∷ []) (all-same (line_at ADS s.trace) (line_at ADS r.trace) (length r.trace) (ads-old r s grows))
+    ∙ ap (λ xs. xs ++ length r.trace ∷ [])
+    (all-same (line_at ADS s.trace) (line_at ADS r.trace) (length r.trace) (ads-old r s grows))
 all-more r s false grows e =
     ap (all_where (line_at ADS s.trace)) (longer r s grows) ∙ all_where-failed (line_at ADS s.trace) (length r.trace) e
     ∙ all-same (line_at ADS s.trace) (line_at ADS r.trace) (length r.trace) (ads-old r s grows)

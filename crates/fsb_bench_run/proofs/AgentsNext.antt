@@ -1,12 +1,14 @@
 -- The agents of a bench after a clock are those of the longer run: what ends for them there leads on.
-use Rattle.std.proofs.Common.{ℕ, ◌+◌, ◌<◌, ◌≡◌, ◌⊎◌, Bool, true, false, if◌then◌else◌, Option, Some, None, List, [], ◌∷◌, fold, length, nat_eq, refl, sym, ap, subst, ◌∙◌, inl, inr, arith}
+use Rattle.std.proofs.Common.{ℕ, ◌+◌, ◌<◌, ◌≡◌, ◌⊎◌, Bool, true, false, if◌then◌else◌, Option, Some, None, List, []}
+use Rattle.std.proofs.Common.{◌∷◌, fold, length, nat_eq, refl, sym, ap, subst, ◌∙◌, inl, inr, arith}
 use Rattle.std.specs.Option.{option_map_or}
 use Rattle.std.proofs.lemmas.Bool.{both_ways, eq-eqb, eqb-true}
 use Rattle.fsb_agent_run.specs.BytesOwed.{HasBytesOwed}
 use Rattle.fsb_agent_run.specs.Ending.{EndsFor, NothingEndsFor}
 use Rattle.fsb_agent_run.specs.EventsSeen.{may_see}
 use Rattle.fsb_agent_run.specs.Stages.{IsViewAfterSnoop, IsViewOf}
-use Rattle.fsb_agent_run.proofs.Interface.{arrives-seen, given-up-seen, given-up-view, line-owed, line-view, quiet-end-view, upgrade-owed, upgrade-seen, upgrade-view}
+use Rattle.fsb_agent_run.proofs.Interface.{arrives-seen, given-up-seen, given-up-view, line-owed, line-view}
+use Rattle.fsb_agent_run.proofs.Interface.{quiet-end-view, upgrade-owed, upgrade-seen, upgrade-view}
 use Rattle.fsb_agent_view.specs.AgentEvents.{AgentEvent, Arrived, GivenUp, UpgradeEnded, agent_after}
 use Rattle.fsb_agent_view.specs.AgentViews.{AgentView}
 use Rattle.fsb_agent_view.specs.Arriving.{given_up, line_arrived, upgrade_ended}
@@ -19,7 +21,8 @@ use Rattle.fsb_timely.specs.Past.{Past}
 use Rattle.fsb_timely.specs.Runs.{Run, past_of}
 use Rattle.fsb_trace.specs.Outcome.{is_deferral}
 use Rattle.fsb_trace.specs.declared.outcome.Outcome.{Outcome}
-use Rattle.fsb_trace.specs.declared.outcome.Outcome.TheVariants.{Granted, Handed, Retried, Deferred, Written, Replied, Failed, Upgraded}
+use Rattle.fsb_trace.specs.declared.outcome.Outcome.TheVariants.{Granted, Handed, Retried, Deferred, Written, Replied}
+use Rattle.fsb_trace.specs.declared.outcome.Outcome.TheVariants.{Failed, Upgraded}
 use Rattle.fsb_bench_view.specs.declared.decided.Ending.{Ending}
 use Rattle.fsb_bench_view.specs.declared.snoop.Served.{Served}
 use Rattle.fsb_bench_view.specs.BenchSteps.{bench_stepped, step_answered, step_ended, step_entries, step_run}

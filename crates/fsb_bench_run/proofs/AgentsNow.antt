@@ -35,7 +35,8 @@ pub agents-answer : (v : BenchView) (hold : Bool) (choice : Choice) (entries : L
     → IsStepWith v hold choice entries
     → AgentsAnswer v (run_with v hold choice entries)
 agents-answer v hold choice entries k = record {
-  four = length-told (for_all (Performed (next_clock_of v))) 0 (step_fetched v).agents ∙ fetched-four v k.bench.agents.four;
+  four = length-told (for_all (Performed (next_clock_of v))) 0 (step_fetched v).agents
+      ∙ fetched-four v k.bench.agents.four;
   answers = λ b line w at.
       answer-by (past_of (run_with v hold choice entries)) b (next_clock_of v) line w (k.hits.after b w at).lines;
 }

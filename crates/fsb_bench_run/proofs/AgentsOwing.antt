@@ -1,11 +1,13 @@
 -- What the agents of a bench owe at the stages of its next clock is what they owe there in the longer run.
-use Rattle.std.proofs.Common.{ℕ, ◌+◌, ◌<◌, ◌≡◌, ◌&&◌, ◌||◌, Bool, true, false, Option, Some, None, fold, nat_eq, refl, sym, ap, subst, ◌∙◌, inl, inr, arith}
+use Rattle.std.proofs.Common.{ℕ, ◌+◌, ◌<◌, ◌≡◌, ◌&&◌, ◌||◌, Bool, true, false, Option, Some, None, fold, nat_eq, refl}
+use Rattle.std.proofs.Common.{sym, ap, subst, ◌∙◌, inl, inr, arith}
 use Rattle.std.specs.Option.{option_map_or}
 use Rattle.std.proofs.lemmas.Bool.{both_ways, eq-eqb, eqb-true}
 use Rattle.fsb_agent_run.specs.AgentClocks.{number_asked}
 use Rattle.fsb_agent_run.specs.BytesOwed.{HasBytesOwed}
 use Rattle.fsb_agent_run.specs.Stages.{IsViewBeforeSnoop}
-use Rattle.fsb_agent_run.proofs.Interface.{claimed-out, kept-at-response, other-claimed-owed, owed-grown, own-owed-then, replied-out, unsettled-owed-after}
+use Rattle.fsb_agent_run.proofs.Interface.{claimed-out, kept-at-response, other-claimed-owed, owed-grown, own-owed-then}
+use Rattle.fsb_agent_run.proofs.Interface.{replied-out, unsettled-owed-after}
 use Rattle.fsb_agent_view.specs.AgentEvents.{HandedOn, Performed, agent_after}
 use Rattle.fsb_agent_view.specs.AgentViews.{AgentView, line_state_by}
 use Rattle.fsb_agent_view.specs.Snooping.{buffers_giving, committed, is_handed, kind_asks}
@@ -22,8 +24,10 @@ use Rattle.fsb_trace.specs.declared.outcome.Outcome.{Outcome}
 use Rattle.fsb_trace.specs.declared.outcome.Outcome.TheVariants.{Replied}
 use Rattle.fsb_bench_view.specs.declared.beginning.Starting.{Starting}
 use Rattle.fsb_bench_view.specs.declared.snoop.SnoopSettled.{SnoopSettled}
-use Rattle.fsb_bench_view.specs.BenchSteps.{step_answered, step_cancelled, step_decided, step_drive, step_entries, step_fetched, step_performed, step_run, step_snooped, step_started}
-use Rattle.fsb_bench_view.specs.BusEvents.{answered_by, bus_cancelled, bus_snooped, bus_started, cancelled_event, snooped_event, starting_event}
+use Rattle.fsb_bench_view.specs.BenchSteps.{step_answered, step_cancelled, step_decided, step_drive, step_entries}
+use Rattle.fsb_bench_view.specs.BenchSteps.{step_fetched, step_performed, step_run, step_snooped, step_started}
+use Rattle.fsb_bench_view.specs.BusEvents.{answered_by, bus_cancelled, bus_snooped, bus_started, cancelled_event}
+use Rattle.fsb_bench_view.specs.BusEvents.{snooped_event, starting_event}
 use Rattle.fsb_bench_view.specs.BusViews.{BenchView, BusView, next_clock_of}
 use Rattle.fsb_bench_view.specs.ToldAgents.{for_all}
 use Rattle.fsb_bench_run.specs.BenchOf.{IsBenchOf}
@@ -32,7 +36,8 @@ use Rattle.fsb_bench_run.proofs.BegunEvents.{AgentsAre, told-each, views-cancell
 use Rattle.fsb_bench_run.proofs.FetchCases.{fetch-cases}
 use Rattle.fsb_bench_run.proofs.LogsNow.{reaches-step}
 use Rattle.fsb_bench_run.proofs.NextRun.{grows-to}
-use Rattle.fsb_bench_run.proofs.OwingKept.{cancelled-buffers, owed-alike, performed-buffers, started-buffers, told-handed}
+use Rattle.fsb_bench_run.proofs.OwingKept.{cancelled-buffers, owed-alike, performed-buffers, started-buffers}
+use Rattle.fsb_bench_run.proofs.OwingKept.{told-handed}
 use Rattle.fsb_bench_run.proofs.SnoopCases.{snoop-cases}
 use Rattle.fsb_bench_run.proofs.SnoopHeard.{IsClaimHeard, IsReplyHeard, IsSnoopHeard, hears-snoop}
 use Rattle.fsb_bench_run.proofs.SnoopViews.{answered-agents}

@@ -1,12 +1,14 @@
 -- The agents of a bench are sound at the stages of its next clock.
-use Rattle.std.proofs.Common.{ℕ, ◌+◌, ◌<◌, ◌≡◌, ◌||◌, Bool, true, false, if◌then◌else◌, Option, Some, None, List, [], ◌∷◌, fold, is_some, nat_eq, refl, sym, ap, subst, ◌∙◌, inl, inr, arith}
+use Rattle.std.proofs.Common.{ℕ, ◌+◌, ◌<◌, ◌≡◌, ◌||◌, Bool, true, false, if◌then◌else◌, Option, Some, None, List, []}
+use Rattle.std.proofs.Common.{◌∷◌, fold, is_some, nat_eq, refl, sym, ap, subst, ◌∙◌, inl, inr, arith}
 use Rattle.std.specs.Option.{option_map, option_map_or}
 use Rattle.std.proofs.lemmas.Bool.{eqb-true}
 use Rattle.fsb_agent_run.specs.AgentClocks.{cancelled_events, given_up_events, number_asked, sent_events}
 use Rattle.fsb_agent_run.specs.BytesOwed.{HasBytesOwed}
 use Rattle.fsb_agent_run.specs.EventsSeen.{may_see, may_see_all}
 use Rattle.fsb_agent_run.specs.Stages.{IsViewAfterHit, IsViewAfterSent, IsViewBeforeSnoop}
-use Rattle.fsb_agent_run.proofs.Interface.{cancelled-seen, claimed-out, other-may, own-seen, replied-out, send-may, sound-all}
+use Rattle.fsb_agent_run.proofs.Interface.{cancelled-seen, claimed-out, other-may, own-seen, replied-out, send-may}
+use Rattle.fsb_agent_run.proofs.Interface.{sound-all}
 use Rattle.fsb_agent_view.specs.AgentEvents.{AgentEvent, Committed, GivenUp, HandedOn, Performed, Sent, agent_after}
 use Rattle.fsb_agent_view.specs.AgentViews.{AgentView}
 use Rattle.fsb_agent_view.specs.Snooping.{may_commit}
@@ -23,14 +25,17 @@ use Rattle.fsb_bench_view.specs.declared.beginning.Starting.{Starting}
 use Rattle.fsb_bench_view.specs.declared.decided.BytesFrom.{BytesFrom}
 use Rattle.fsb_bench_view.specs.declared.decided.BytesFrom.TheVariants.{Memory, Agents}
 use Rattle.fsb_bench_view.specs.declared.snoop.SnoopSettled.{SnoopSettled}
-use Rattle.fsb_bench_view.specs.BenchSteps.{step_answered, step_cancelled, step_decided, step_drive, step_entries, step_fetched, step_performed, step_run, step_snooped, step_started}
-use Rattle.fsb_bench_view.specs.BusEvents.{answered_by, bus_cancelled, bus_snooped, bus_started, cancelled_event, snooped_event, starting_event}
+use Rattle.fsb_bench_view.specs.BenchSteps.{step_answered, step_cancelled, step_decided, step_drive, step_entries}
+use Rattle.fsb_bench_view.specs.BenchSteps.{step_fetched, step_performed, step_run, step_snooped, step_started}
+use Rattle.fsb_bench_view.specs.BusEvents.{answered_by, bus_cancelled, bus_snooped, bus_started, cancelled_event}
+use Rattle.fsb_bench_view.specs.BusEvents.{snooped_event, starting_event}
 use Rattle.fsb_bench_view.specs.BusViews.{BenchView, BusView, next_clock_of}
 use Rattle.fsb_bench_view.specs.BytesFetched.{bus_fetched, bytes_source}
 use Rattle.fsb_bench_view.specs.ToldAgents.{for_all}
 use Rattle.fsb_bench_run.specs.BenchOf.{IsBegunAt, IsBenchOf}
 use Rattle.fsb_bench_run.proofs.AgentsOwing.{owed-cancelled}
-use Rattle.fsb_bench_run.proofs.BegunEvents.{AgentsAre, begun-nothing, cancel-events, cancelled-entry, cancelled-now, start-events, started-views, told-each, views-cancelled}
+use Rattle.fsb_bench_run.proofs.BegunEvents.{AgentsAre, begun-nothing, cancel-events, cancelled-entry, cancelled-now}
+use Rattle.fsb_bench_run.proofs.BegunEvents.{start-events, started-views, told-each, views-cancelled}
 use Rattle.fsb_bench_run.proofs.LogsNow.{reaches-step}
 use Rattle.fsb_bench_run.proofs.SnoopCases.{snoop-cases}
 use Rattle.fsb_bench_run.proofs.SnoopHeard.{IsSnoopHeard, hears-snoop}

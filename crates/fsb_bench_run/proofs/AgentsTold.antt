@@ -1,5 +1,6 @@
 -- The agents of a bench after what is told to them.
-use Rattle.std.proofs.Common.{ℕ, zero, suc, ◌+◌, ◌≡◌, Option, Some, None, List, [], ◌∷◌, fold, slice_get, refl, sym, ap, subst, ◌∙◌, arith}
+use Rattle.std.proofs.Common.{ℕ, zero, suc, ◌+◌, ◌≡◌, Option, Some, None, List, [], ◌∷◌, fold, slice_get, refl, sym, ap}
+use Rattle.std.proofs.Common.{subst, ◌∙◌, arith}
 use Rattle.std.specs.Option.{option_map}
 use Rattle.fsb_agent_view.specs.AgentEvents.{AgentEvent, HandedOn, Performed, agent_after}
 use Rattle.fsb_agent_view.specs.AgentViews.{AgentView}
@@ -17,15 +18,18 @@ use Rattle.fsb_bench_view.specs.ToldAgents.{agents_told, for_all}
 
 -- an agent after its events
 pub told-at : (events : ℕ → List AgentEvent) (n : ℕ) (agents : List AgentView) (k : ℕ)
-    → slice_get (agents_told events n agents) k ≡ option_map (λ v. fold agent_after v (events (n + k))) (slice_get agents k)
+    → slice_get (agents_told events n agents) k ≡ option_map (λ v. fold agent_after v (events (n + k)))
+    (slice_get agents k)
 told-at events n [] zero = refl
 told-at events n [] (suc k) = refl
-told-at events n (v ∷ vs) zero = let same : n ≡ n + 0 = omega arith in ap (λ m. Some (fold agent_after v (events m))) same
+told-at events n (v ∷ vs) zero = let same : n ≡ n + 0 = omega arith in
+    ap (λ m. Some (fold agent_after v (events m))) same
 told-at events n (v ∷ vs) (suc k) =
     let same : n + 1 + k ≡ n + suc k = omega arith in
     told-at events (n + 1) vs k ∙ ap (λ m. option_map (λ v. fold agent_after v (events m)) (slice_get vs k)) same
 
-pub some-of : {X Y : Type 0} (f : X → Y) (o : Option X) (y : Y) → option_map f o ≡ Some y → (x : X) × (o ≡ Some x) × (y ≡ f x)
+pub some-of : {X Y : Type 0} (f : X → Y) (o : Option X) (y : Y) → option_map f o ≡ Some y
+    → (x : X) × (o ≡ Some x) × (y ≡ f x)
 some-of f None y e = absurd (let no : ⊥ = cc in no)
 some-of f (Some x) y e = (x, refl, (let same : y ≡ f x = cc in same))
 
@@ -36,7 +40,8 @@ pub record IsFetchedFrom (agents : List AgentView) (a : ℕ) (w : AgentView) : T
   pub number : w.number ≡ before.number
   pub view : (p : Past) (c : ℕ) → IsViewOf p a c before → IsViewOf p a c w
 
-fetched-by : (bus : BusView) (o : Option BytesFrom) (a : ℕ) (w : AgentView) → slice_get (bus_fetched bus o).agents a ≡ Some w
+fetched-by : (bus : BusView) (o : Option BytesFrom) (a : ℕ) (w : AgentView)
+    → slice_get (bus_fetched bus o).agents a ≡ Some w
     → IsFetchedFrom bus.agents a w
 fetched-by bus None a w e = record { before = w; at = e; number = refl; view = λ p c h. h }
 fetched-by bus (Some (Memory line)) a w e = record { before = w; at = e; number = refl; view = λ p c h. h }
@@ -50,7 +55,8 @@ fetched-by bus (Some (Agents number)) a w e =
       view = λ p c h. subst (λ v. IsViewOf p a c v) (sym k.2) (handed-view p a c number k.0 h);
     }
 
-pub fetched-from : (v : BenchView) (a : ℕ) (w : AgentView) → slice_get (step_fetched v).agents a ≡ Some w → IsFetchedFrom v.bus.agents a w
+pub fetched-from : (v : BenchView) (a : ℕ) (w : AgentView) → slice_get (step_fetched v).agents a ≡ Some w
+    → IsFetchedFrom v.bus.agents a w
 fetched-from v a w e = fetched-by v.bus (bytes_source v.bus (step_drive v)) a w e
 
 -- and before its hit
@@ -64,8 +70,11 @@ fetched-there : (bus : BusView) (o : Option BytesFrom) (a : ℕ) (u : AgentView)
     → (w : AgentView) × (slice_get (bus_fetched bus o).agents a ≡ Some w)
 fetched-there bus None a u e = (u, e)
 fetched-there bus (Some (Memory line)) a u e = (u, e)
-fetched-there bus (Some (Agents number)) a u e =
-    (handed_on u number, told-at (for_all (HandedOn number)) 0 bus.agents a ∙ ap (option_map (λ v. handed_on v number)) e)
+fetched-there bus (Some (Agents number)) a u e = (
+  handed_on u number,
+  told-at (for_all (HandedOn number)) 0 bus.agents a
+      ∙ ap (option_map (λ v. handed_on v number)) e,
+)
 
 -- an agent of the bench is there after the hits
 pub performed-there : (v : BenchView) (a : ℕ) (u : AgentView) → slice_get v.bus.agents a ≡ Some u
@@ -73,5 +82,6 @@ pub performed-there : (v : BenchView) (a : ℕ) (u : AgentView) → slice_get v.
 performed-there v a u e =
     let k = fetched-there v.bus (bytes_source v.bus (step_drive v)) a u e in (
       performed k.0 (next_clock_of v),
-      told-at (for_all (Performed (next_clock_of v))) 0 (step_fetched v).agents a ∙ ap (option_map (λ v'. performed v' (next_clock_of v))) k.1,
+      told-at (for_all (Performed (next_clock_of v))) 0 (step_fetched v).agents a
+          ∙ ap (option_map (λ v'. performed v' (next_clock_of v))) k.1,
     )

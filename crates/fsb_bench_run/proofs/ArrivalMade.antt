@@ -38,5 +38,6 @@ met-completes p a n w out bytes view same = by (is_arrival p a n) refl same
         ≡ (elim b [ true ↦ next_accesses p a n | false ↦ [] ])
     by true arrives e =
         let placed = view.placed.before (arrival-unhit p a n arrives) in
-        rw e (completes-by p a n n (with_bytes w out.request.line bytes) view.agent.number view.agent.items placed.place)
+        rw e (completes-by p a n n (with_bytes w out.request.line bytes) view.agent.number view.agent.items
+        placed.place)
     by false arrives e = rw e refl

@@ -1,17 +1,20 @@
 -- What arrivals complete at a bench's clock does not rest on the entries that are logged there.
-use Rattle.std.proofs.Common.{ℕ, ◌≡◌, ◌&&◌, ◌||◌, ◌++◌, Bool, true, false, not, nat_eq, List, [], ◌∷◌, refl, sym, ap, ◌∙◌, arith}
+use Rattle.std.proofs.Common.{ℕ, ◌≡◌, ◌&&◌, ◌||◌, ◌++◌, Bool, true, false, not, nat_eq, List, [], ◌∷◌, refl, sym, ap}
+use Rattle.std.proofs.Common.{◌∙◌, arith}
 use Rattle.std.specs.List.{list_all, list_any}
 use Rattle.std.specs.Option.{option_map_or}
 use Rattle.fsb_access.specs.declared.log.Done.{Done}
 use Rattle.fsb_count.specs.Options.{is_some_and}
 use Rattle.fsb_hazard.specs.declared.choice.Choice.{Choice}
-use Rattle.fsb_timely.specs.Completions.{completed_if, completed_of_item, completes_by, is_arrival, is_brought, is_there, next_accesses, of_all_agents}
+use Rattle.fsb_timely.specs.Completions.{completed_if, completed_of_item, completes_by, is_arrival, is_brought}
+use Rattle.fsb_timely.specs.Completions.{is_there, next_accesses, of_all_agents}
 use Rattle.fsb_timely.specs.Growth.{GoesOn, GrowsTo, IsWhole, moment_at_growth, past_at_growth}
 use Rattle.fsb_timely.specs.Past.{Past}
 use Rattle.fsb_timely.specs.Runs.{past_of}
 use Rattle.fsb_timely.specs.Scripts.{Need, needs_of}
 use Rattle.fsb_timely.specs.Timely.{Timely}
-use Rattle.fsb_timely.proofs.Interface.{is_hit-alike, is_idling-alike, moments-grow, next_item-alike, next_number-alike, past-goes_on}
+use Rattle.fsb_timely.proofs.Interface.{is_hit-alike, is_idling-alike, moments-grow, next_item-alike, next_number-alike}
+use Rattle.fsb_timely.proofs.Interface.{past-goes_on}
 use Rattle.fsb_bench_view.specs.BusViews.{BenchView, next_clock_of}
 use Rattle.fsb_bench_run.proofs.CompletionsNow.{arrivals_at}
 use Rattle.fsb_bench_run.proofs.LogsApart.{brought-same, moment-same, there-same}
@@ -25,7 +28,8 @@ record DifferNow (n : ℕ) (p q : Past) : Type 0 where
   plan : p.plan ≡ q.plan
   moments : p.moments ≡ q.moments
 
-brought-now : (n : ℕ) (p q : Past) (a : ℕ) (need : Need) → DifferNow n p q → is_brought p a n need ≡ is_brought q a n need
+brought-now : (n : ℕ) (p q : Past) (a : ℕ) (need : Need) → DifferNow n p q
+    → is_brought p a n need ≡ is_brought q a n need
 brought-now n p q a need k =
     let plan = k.plan in
     let moments = k.moments in

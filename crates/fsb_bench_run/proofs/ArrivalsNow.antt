@@ -15,7 +15,8 @@ quiet-completes s n a h quiet =
     let none = no-arrival s a n h (nothing-granted s a n h quiet) in rw none refl
 
 -- the lists of all agents, of which one alone is not empty
-pub one-list : (list : ℕ → List Completed) (a : ℕ) → a < 4 → ((b : ℕ) → b ≢ a → list b ≡ []) → of_all_agents list ≡ list a
+pub one-list : (list : ℕ → List Completed) (a : ℕ) → a < 4 → ((b : ℕ) → b ≢ a → list b ≡ [])
+    → of_all_agents list ≡ list a
 unfolding of_all_agents
 one-list list zero few other =
     let e1 = other 1 (λ e. omega (arith, e)) in

@@ -1,5 +1,6 @@
 -- The entries of the end of a bench's clock are what the run completes by arrivals there.
-use Rattle.std.proofs.Common.{ℕ, ◌+◌, ◌≡◌, Bool, Option, Some, None, List, [], length, map, refl, sym, ap, ◌∙◌, arith, inl, inr}
+use Rattle.std.proofs.Common.{ℕ, ◌+◌, ◌≡◌, Bool, Option, Some, None, List, [], length, map, refl, sym, ap, ◌∙◌, arith}
+use Rattle.std.proofs.Common.{inl, inr}
 use Rattle.std.specs.Option.{option_map_or}
 use Rattle.fsb_access.specs.declared.log.Done.{Done}
 use Rattle.fsb_hazard.specs.declared.choice.Choice.{Choice}
@@ -11,8 +12,10 @@ use Rattle.fsb_timely.specs.Completions.{completed_if, is_arrival}
 use Rattle.fsb_timely.specs.Runs.{past_of}
 use Rattle.fsb_bench_view.specs.declared.beginning.Starting.{Starting}
 use Rattle.fsb_bench_view.specs.declared.snoop.SnoopSettled.{SnoopSettled}
-use Rattle.fsb_bench_view.specs.BenchSteps.{step_answered, step_cancelled, step_decided, step_drive, step_ending, step_performed, step_snooped, step_started}
-use Rattle.fsb_bench_view.specs.BusEvents.{answered_by, bus_answered, bus_cancelled, bus_snooped, bus_started, cancelled_event, end_entries, entries_ended, snooped_event, starting_event}
+use Rattle.fsb_bench_view.specs.BenchSteps.{step_answered, step_cancelled, step_decided, step_drive, step_ending}
+use Rattle.fsb_bench_view.specs.BenchSteps.{step_performed, step_snooped, step_started}
+use Rattle.fsb_bench_view.specs.BusEvents.{answered_by, bus_answered, bus_cancelled, bus_snooped, bus_started}
+use Rattle.fsb_bench_view.specs.BusEvents.{cancelled_event, end_entries, entries_ended, snooped_event, starting_event}
 use Rattle.fsb_bench_view.specs.BusViews.{BenchView, BusView, next_clock_of}
 use Rattle.fsb_bench_run.specs.BenchOf.{IsBenchOf}
 use Rattle.fsb_bench_run.proofs.AgentsNow.{length-told}
@@ -55,7 +58,8 @@ answered-four v hold b =
     ∙ started-many (step_performed v) (next_clock_of v) (step_decided v hold).starting ∙ performed-four v b
 
 -- what the end of the clock completes, if there is one
-pub arrivals-told : (v : BenchView) (hold : Bool) (choice : Choice) (entries : List Done) → IsStepWith v hold choice entries
+pub arrivals-told : (v : BenchView) (hold : Bool) (choice : Choice) (entries : List Done)
+    → IsStepWith v hold choice entries
     → Reaches (run_with v hold choice entries) (next_clock_of v + 1)
     → map completed_of (option_map_or (end_entries (step_answered v hold) (next_clock_of v)) (step_ending v hold) [])
     ≡ arrivals_at (past_of (run_with v hold choice entries)) (next_clock_of v)
@@ -66,7 +70,8 @@ arrivals-told v hold choice entries k h =
     let bus = step_answered v hold in
     elim (end-cases v hold choice entries k h) [
       | inr c ↦
-          ap (λ o. map completed_of (option_map_or (end_entries bus n) o [])) c.ending ∙ sym (arrivals-none s n h c.nothing)
+          ap (λ o. map completed_of (option_map_or (end_entries bus n) o [])) c.ending
+          ∙ sym (arrivals-none s n h c.nothing)
       | inl c ↦
           let a : ℕ = c.served.agent in
           let few = winner-four v.run.trace c.served.first a c.serves.begun.winner in
@@ -74,7 +79,8 @@ arrivals-told v hold choice entries k h =
           let w = get-there bus.agents a (omega (arith, few, four)) in
           let view = views-answered v hold choice entries k h a w.0 w.1 in
           ap (λ o. map completed_of (option_map_or (end_entries bus n) o [])) c.ending
-          ∙ ap (λ o. map completed_of (option_map_or (entries_ended n c.served.first bus.moved c.heard.end.outcome) o [])) w.1
+          ∙ ap (λ o. map completed_of
+          (option_map_or (entries_ended n c.served.first bus.moved c.heard.end.outcome) o [])) w.1
           ∙ own-completes s n c.served c.entry.outcome bus.moved w.0 h c.heard view
           ∙ sym (one-list (λ b. completed_if p n (is_arrival p b n) b) a few
           (λ b off. quiet-completes s n b h (others-quiet s n b c.served c.entry.outcome h c.heard off)))

@@ -1,5 +1,6 @@
 -- What is asked for at the clock: the wants of the agents after their hits, and the reply that is due.
-use Rattle.std.proofs.Common.{ℕ, zero, suc, ◌+◌, ◌<◌, ◌≡◌, ◌&&◌, Bool, true, false, not, nat_lt, Option, Some, None, List, [], ◌∷◌, length, slice_get, if◌then◌else◌, refl, sym, ap, subst, ◌∙◌, arith}
+use Rattle.std.proofs.Common.{ℕ, zero, suc, ◌+◌, ◌<◌, ◌≡◌, ◌&&◌, Bool, true, false, not, nat_lt, Option, Some, None}
+use Rattle.std.proofs.Common.{List, [], ◌∷◌, length, slice_get, if◌then◌else◌, refl, sym, ap, subst, ◌∙◌, arith}
 use Rattle.std.specs.Option.{option_and_then, option_map, option_map_or}
 use Rattle.std.proofs.lemmas.Bool.{eq-eqb, lt-leb}
 use Rattle.fsb_access.specs.declared.log.Done.{Done}
@@ -39,7 +40,8 @@ use Rattle.fsb_bench_run.proofs.StepFields.{performed-begun}
 use Rattle.fsb_bench_run.proofs.StepWith.{IsStepWith}
 use Rattle.fsb_phase_run.proofs.Interface.{longer}
 
-agent-there : (v : BenchView) (a : ℕ) → IsBenchOf v → a < 4 → (w : AgentView) × (slice_get (step_performed v).agents a ≡ Some w)
+agent-there : (v : BenchView) (a : ℕ) → IsBenchOf v → a < 4
+    → (w : AgentView) × (slice_get (step_performed v).agents a ≡ Some w)
 agent-there v a b few =
     let four = b.agents.four in
     let u = get-there v.bus.agents a (omega arith) in
@@ -61,7 +63,8 @@ pub wants-told : (v : BenchView) (hold : Bool) (choice : Choice) (entries : List
 wants-told v hold choice entries a b few =
     let there = agent-there v a b.bench few in
     let view = b.hits.after a there.0 there.1 in
-    ap (option_map (λ (want : Want). want.request)) (want-found (step_performed v).agents (next_clock_of v) a there.0 few there.1)
+    ap (option_map (λ (want : Want). want.request))
+    (want-found (step_performed v).agents (next_clock_of v) a there.0 few there.1)
     ∙ want-by (past_of (run_with v hold choice entries)) a (next_clock_of v) there.0 view
 
 pub locked-told : (v : BenchView) (hold : Bool) (choice : Choice) (entries : List Done) (a : ℕ) (want : Want)
@@ -75,7 +78,8 @@ locked-told v hold choice entries a want b few at =
     (sym (want-found (step_performed v).agents (next_clock_of v) a there.0 few there.1) ∙ at)
 
 -- nothing begins in the clock after a beginning
-spaced-off : (latest : Option Latest) (last : Latest) (clock : ℕ) → latest ≡ Some last → last.clock + 1 ≡ clock → is_spaced_by latest clock ≡ false
+spaced-off : (latest : Option Latest) (last : Latest) (clock : ℕ) → latest ≡ Some last → last.clock + 1 ≡ clock
+    → is_spaced_by latest clock ≡ false
 spaced-off latest last clock e at = rw e (lt-leb (last.clock + 3) clock (omega arith))
 
 none-starts : (bus : BusView) (winner : Option Who) (clock : ℕ) (held : Bool) (f : Who → Option Starting)
@@ -83,7 +87,9 @@ none-starts : (bus : BusView) (winner : Option Who) (clock : ℕ) (held : Bool) 
     → (if may_start bus clock held then option_and_then f winner else None) ≡ None
 none-starts bus winner clock held f e = by held
   where
-    by : (held : Bool) → (if (not held && (is_spaced_by bus.latest clock && nat_lt (length bus.queue) 8)) then option_and_then f winner else None) ≡ None
+    by : (held : Bool)
+        → (if (not held && (is_spaced_by bus.latest clock && nat_lt (length bus.queue) 8))
+        then option_and_then f winner else None) ≡ None
     by true = refl
     by false = rw e refl
 
@@ -101,7 +107,8 @@ shows-now v hold choice entries b =
     shows-second r s b.grows b.bench.bounds (λ d at ads.
     let size = longer r s b.grows in
     let suc-d : suc d ≡ n = omega arith in
-    let found = b.bench.latest.clock ∙ sym (ap (last_where (line_at ADS r.trace)) suc-d) ∙ last-at (line_at ADS r.trace) d ads in
+    let found = b.bench.latest.clock ∙ sym (ap (last_where (line_at ADS r.trace)) suc-d)
+    ∙ last-at (line_at ADS r.trace) d ads in
     let l = latest-there v.bus.latest d found in
     let last : Latest = l.0 in
     let same : last.clock ≡ d = l.2 in
@@ -111,7 +118,8 @@ shows-now v hold choice entries b =
     let request = begun-request s last.clock last.who last.request (omega arith) begun in
     let lawful = begun-lawful s last.clock last.who last.request b.bench.bounds (omega arith) begun in
     let kept = (performed-begun v).latest in
-    let off = none-starts (step_performed v) _ n (was_held_at r.holds n) (starting_for (step_performed v) (step_decided v hold).asked)
+    let off = none-starts (step_performed v) _ n (was_held_at r.holds n)
+    (starting_for (step_performed v) (step_decided v hold).asked)
     (spaced-off (step_performed v).latest last n (kept ∙ l.1) before) in
     let pair = second-pair (step_performed v).latest (step_decided v hold).starting last n (kept ∙ l.1) off before in (
       last.request,
@@ -129,6 +137,8 @@ pub due-told : (v : BenchView) (hold : Bool) (choice : Choice) (entries : List D
     (due_number (run_with v hold choice entries) (past_of (run_with v hold choice entries)) (next_clock_of v))
 due-told v hold choice entries b =
     let s = run_with v hold choice entries in
-    subst (λ waiting. IsThatOf s.trace (due_deferral (next_clock_of v) waiting) (due_number s (past_of s) (next_clock_of v)))
+    subst (λ waiting. IsThatOf s.trace (due_deferral (next_clock_of v) waiting)
+    (due_number s (past_of s) (next_clock_of v)))
     (sym (ap (λ (bridge : Bridged). bridge.waiting) (same-performed v).bridge))
-    (grown-due v.run s v.bus.bridge.waiting b.grows b.bench.bounds (shows-now v hold choice entries b) b.bench.bridge.deferrals)
+    (grown-due v.run s v.bus.bridge.waiting b.grows b.bench.bounds (shows-now v hold choice entries b)
+    b.bench.bridge.deferrals)

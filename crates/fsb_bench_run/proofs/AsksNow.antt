@@ -1,5 +1,6 @@
 -- The request lines of the clock are as they must.
-use Rattle.std.proofs.Common.{ℕ, zero, suc, ◌+◌, ◌-◌, ◌<◌, ◌≤◌, ◌≡◌, ◌&&◌, ◌==◌, Bool, true, false, not, is_some, nat_le, Option, Some, None, List, length, refl, sym, ap, ◌∙◌, arith}
+use Rattle.std.proofs.Common.{ℕ, zero, suc, ◌+◌, ◌-◌, ◌<◌, ◌≤◌, ◌≡◌, ◌&&◌, ◌==◌, Bool, true, false, not, is_some}
+use Rattle.std.proofs.Common.{nat_le, Option, Some, None, List, length, refl, sym, ap, ◌∙◌, arith}
 use Rattle.std.specs.Option.{option_and_then, option_map}
 use Rattle.std.proofs.lemmas.Bool.{and_from, and_parts, eqb-false, eqb-true, false_from_ne_true, le-leb, leb-true}
 use Rattle.fsb_access.specs.declared.log.Done.{Done}
@@ -19,7 +20,8 @@ use Rattle.fsb_signal.specs.Samples.{line_at}
 use Rattle.fsb_timely.specs.Growth.{GrowsTo}
 use Rattle.fsb_timely.specs.Runs.{Run, past_of, past_to, run_to}
 use Rattle.fsb_timely.specs.Timely.{holds_at}
-use Rattle.fsb_timely.specs.Starts.{asks_for_bus, asks_for_priority, began_before, drives_request_lines, due_number, reply_before, reply_to, would_begin}
+use Rattle.fsb_timely.specs.Starts.{asks_for_bus, asks_for_priority, began_before, drives_request_lines, due_number}
+use Rattle.fsb_timely.specs.Starts.{reply_before, reply_to, would_begin}
 use Rattle.fsb_timely.specs.Wants.{want_of}
 use Rattle.fsb_trace.specs.At.{Trace, line_back, request_at}
 use Rattle.fsb_trace.specs.Requests.{is_reply, is_reply_kind, live_request_of}
@@ -35,7 +37,8 @@ use Rattle.fsb_bench_run.specs.BenchOf.{IsBegunAt, IsLatestOf}
 use Rattle.fsb_bench_run.proofs.AdsGrown.{ads-old}
 use Rattle.fsb_bench_run.proofs.AskedNow.{due-told, shows-now, wants-told}
 use Rattle.fsb_bench_run.proofs.BegunStays.{begun-request, begun-stays}
-use Rattle.fsb_bench_run.proofs.DrivenLines.{bpri-driven, breq0-driven, breq1-driven, breq2-driven, breq3-driven, line-with}
+use Rattle.fsb_bench_run.proofs.DrivenLines.{bpri-driven, breq0-driven, breq1-driven, breq2-driven, breq3-driven}
+use Rattle.fsb_bench_run.proofs.DrivenLines.{line-with}
 use Rattle.fsb_bench_run.proofs.LockNow.{same-beq}
 use Rattle.fsb_bench_run.proofs.PairWords.{last-at}
 use Rattle.fsb_bench_run.proofs.RunWith.{run_with}
@@ -51,18 +54,21 @@ same-agents (Symmetric a) Priority = refl
 same-agents Priority (Symmetric b) = refl
 same-agents Priority Priority = refl
 
-before-parts : (s : Run) (n : ℕ) (who : Who) → began_before s n who ≡ true → (1 ≤ n) × (line_at ADS s.trace (n - 1) ≡ true)
+before-parts : (s : Run) (n : ℕ) (who : Who) → began_before s n who ≡ true
+    → (1 ≤ n) × (line_at ADS s.trace (n - 1) ≡ true)
 unfolding began_before begins_at
 before-parts s n who e =
     let p = and_parts (nat_le 1 n) (line_at ADS s.trace (n - 1) && is_agent (winner_at s.trace (n - 1)) who) e in
     let q = and_parts (line_at ADS s.trace (n - 1)) (is_agent (winner_at s.trace (n - 1)) who) p.1 in
     (leb-true 1 n p.0, q.0)
 
-before-off : (s : Run) (n : ℕ) (who : Who) → ((1 ≤ n) → line_at ADS s.trace (n - 1) ≡ true → ⊥) → began_before s n who ≡ false
+before-off : (s : Run) (n : ℕ) (who : Who) → ((1 ≤ n) → line_at ADS s.trace (n - 1) ≡ true → ⊥)
+    → began_before s n who ≡ false
 before-off s n who off =
     false_from_ne_true (began_before s n who) (λ t. let p = before-parts s n who t in off p.0 p.1)
 
-before-on : (s : Run) (n q : ℕ) (last who : Who) → q + 1 ≡ n → line_at ADS s.trace q ≡ true → winner_at s.trace q ≡ Some last
+before-on : (s : Run) (n q : ℕ) (last who : Who) → q + 1 ≡ n → line_at ADS s.trace q ≡ true
+    → winner_at s.trace q ≡ Some last
     → began_before s n who ≡ is_same_who last who
 unfolding began_before begins_at is_agent is_some_and
 before-on s n q last who e ads won =
@@ -113,7 +119,8 @@ pub asking-now : (v : BenchView) (hold : Bool) (choice : Choice) (entries : List
 asking-now v hold choice entries a b few =
     let s = run_with v hold choice entries in
     let n = next_clock_of v in
-    let want = some-mapped (want_in (step_decided v hold).asked a) ∙ ap (λ o. is_some o) (wants-told v hold choice entries a b few) in
+    let want = some-mapped (want_in (step_decided v hold).asked a)
+    ∙ ap (λ o. is_some o) (wants-told v hold choice entries a b few) in
     let latest = ap (λ o. began_by o n (Symmetric a)) (performed-begun v).latest
     ∙ began-latest v.run s v.bus.latest (Symmetric a) b.grows b.bench.latest in
     λ i. want i && not (latest i)
@@ -123,19 +130,24 @@ bus-line : (v : BenchView) (hold : Bool) (choice : Choice) (entries : List Done)
     ≡ is_asking (step_performed v) (next_clock_of v) (step_decided v hold) a
 unfolding bus_request_of
 bus-line v hold choice entries zero few =
-    line-with v hold choice entries BREQ0 ∙ breq0-driven (step_performed v) (next_clock_of v) v.run.plan.profile (step_decided v hold)
+    line-with v hold choice entries BREQ0
+    ∙ breq0-driven (step_performed v) (next_clock_of v) v.run.plan.profile (step_decided v hold)
 bus-line v hold choice entries (suc zero) few =
-    line-with v hold choice entries BREQ1 ∙ breq1-driven (step_performed v) (next_clock_of v) v.run.plan.profile (step_decided v hold)
+    line-with v hold choice entries BREQ1
+    ∙ breq1-driven (step_performed v) (next_clock_of v) v.run.plan.profile (step_decided v hold)
 bus-line v hold choice entries (suc (suc zero)) few =
-    line-with v hold choice entries BREQ2 ∙ breq2-driven (step_performed v) (next_clock_of v) v.run.plan.profile (step_decided v hold)
+    line-with v hold choice entries BREQ2
+    ∙ breq2-driven (step_performed v) (next_clock_of v) v.run.plan.profile (step_decided v hold)
 bus-line v hold choice entries (suc (suc (suc zero))) few =
-    line-with v hold choice entries BREQ3 ∙ breq3-driven (step_performed v) (next_clock_of v) v.run.plan.profile (step_decided v hold)
+    line-with v hold choice entries BREQ3
+    ∙ breq3-driven (step_performed v) (next_clock_of v) v.run.plan.profile (step_decided v hold)
 bus-line v hold choice entries (suc (suc (suc (suc a)))) few = absurd (omega arith)
 
 -- so BREQ# of each agent is as it must
 pub asks-now : (v : BenchView) (hold : Bool) (choice : Choice) (entries : List Done) (a : ℕ)
     → IsStepWith v hold choice entries → a < 4
-    → asks_for_bus (run_with v hold choice entries) (past_of (run_with v hold choice entries)) (next_clock_of v) a ≡ true
+    → asks_for_bus (run_with v hold choice entries) (past_of (run_with v hold choice entries)) (next_clock_of v)
+    a ≡ true
 unfolding asks_for_bus
 asks-now v hold choice entries a b few =
     same-beq _ _ (bus-line v hold choice entries a few ∙ asking-now v hold choice entries a b few)
@@ -146,7 +158,9 @@ reply-of : (r : Run) (q : ℕ) (who : Who) (request : Request) → r.plan.ahead 
 unfolding would_begin reply_to is_reply_kind past_to past_of
 reply-of r q (Symmetric a) request few b = (want-own (past_to (past_of r) q) a q request few b.wanted).0
 reply-of r q Priority request few b =
-    let k = mapped-some reply_to (option_and_then (live_request_of (run_to r q).trace) (due_number (run_to r q) (past_to (past_of r) q) q)) request b.wanted in
+    let k = mapped-some reply_to
+    (option_and_then (live_request_of (run_to r q).trace)
+    (due_number (run_to r q) (past_to (past_of r) q) q)) request b.wanted in
     ap (λ (request : Request). is_reply_kind request.kind) (sym k.2)
 
 back-before : (s : Run) (n : ℕ) → reply_before s n ≡ true → (1 ≤ n) × (line_at ADS s.trace (n - 1) ≡ true)
@@ -159,7 +173,8 @@ back-before s n e =
 reply-off : (s : Run) (n : ℕ) → ((1 ≤ n) → line_at ADS s.trace (n - 1) ≡ true → ⊥) → reply_before s n ≡ false
 reply-off s n off = false_from_ne_true (reply_before s n) (λ t. let p = back-before s n t in off p.0 p.1)
 
-reply-on : (s : Run) (n q : ℕ) (request : Request) → q + 1 ≡ n → line_at ADS s.trace q ≡ true → request_at s.trace q ≡ Some request
+reply-on : (s : Run) (n q : ℕ) (request : Request) → q + 1 ≡ n → line_at ADS s.trace q ≡ true
+    → request_at s.trace q ≡ Some request
     → reply_before s n ≡ is_reply_kind request.kind
 unfolding reply_before line_back is_reply is_some_and
 reply-on s n q request e ads shown =
@@ -187,7 +202,8 @@ reply-latest r s (Some l) bounds grows shows k = by (l.clock + 1 == length r.tra
         let old = k.begun l refl in
         let b = begun-stays r s l.clock l.who l.request grows (omega arith) old in
         let shown = shows.shown l.clock before old.begins ∙ begun-request r l.clock l.who l.request (omega arith) old in
-        rw e (sym (reply-on s n l.clock l.request before b.begins shown ∙ reply-of r l.clock l.who l.request bounds.few_ahead old))
+        rw e (sym (reply-on s n l.clock l.request before b.begins shown
+        ∙ reply-of r l.clock l.who l.request bounds.few_ahead old))
     by false e =
         let n = length r.trace in
         let apart = eqb-false (l.clock + 1) n e in
@@ -199,31 +215,38 @@ reply-latest r s (Some l) bounds grows shows k = by (l.clock + 1 == length r.tra
         let same : l.clock ≡ n - 1 = cc in
         apart (omega arith))))
 
-pub due-some : (w : Trace) (o : Option Deferral) (request : Option ℕ) → IsThatOf w o request → is_some o ≡ is_some request
+pub due-some : (w : Trace) (o : Option Deferral) (request : Option ℕ) → IsThatOf w o request
+    → is_some o ≡ is_some request
 due-some w None request e = ap (λ o. is_some o) (sym e)
 due-some w (Some deferral) request e = ap (λ o. is_some o) (sym e.1)
 
 -- the bridge asks for the bus as it must
-pub asks-priority-now : (v : BenchView) (hold : Bool) (choice : Choice) (entries : List Done) → IsStepWith v hold choice entries
-    → asks_for_priority (run_with v hold choice entries) (past_of (run_with v hold choice entries)) (next_clock_of v) ≡ true
+pub asks-priority-now : (v : BenchView) (hold : Bool) (choice : Choice) (entries : List Done)
+    → IsStepWith v hold choice entries
+    → asks_for_priority (run_with v hold choice entries) (past_of (run_with v hold choice entries))
+    (next_clock_of v) ≡ true
 unfolding asks_for_priority
 asks-priority-now v hold choice entries b =
     let s = run_with v hold choice entries in
     let n = next_clock_of v in
-    let due = due-some s.trace (step_decided v hold).asked.due (due_number s (past_of s) n) (due-told v hold choice entries b) in
+    let due = due-some s.trace (step_decided v hold).asked.due (due_number s (past_of s) n)
+    (due-told v hold choice entries b) in
     let latest = ap (λ o. began_by o n Priority) (performed-begun v).latest
     ∙ reply-latest v.run s v.bus.latest b.bench.bounds b.grows (shows-now v hold choice entries b) b.bench.latest in
     let asking : is_bridge_asking (step_performed v) n (step_decided v hold)
     ≡ (is_some (due_number s (past_of s) n) && not (reply_before s n)) = (λ i. due i && not (latest i)) in
-    same-beq _ _ (line-with v hold choice entries BPRI ∙ bpri-driven (step_performed v) n v.run.plan.profile (step_decided v hold) ∙ asking)
+    same-beq _ _ (line-with v hold choice entries BPRI
+    ∙ bpri-driven (step_performed v) n v.run.plan.profile (step_decided v hold) ∙ asking)
 
 -- the request lines are as they must
-pub request-lines-now : (v : BenchView) (hold : Bool) (choice : Choice) (entries : List Done) → IsStepWith v hold choice entries
+pub request-lines-now : (v : BenchView) (hold : Bool) (choice : Choice) (entries : List Done)
+    → IsStepWith v hold choice entries
     → holds_at drives_request_lines (run_with v hold choice entries) (next_clock_of v) ≡ true
 unfolding drives_request_lines
 request-lines-now v hold choice entries b =
     let s = run_with v hold choice entries in
     holds-now drives_request_lines v.run s b.grows
-    (and_from (each_where (asks_for_bus s (past_of s) (next_clock_of v)) 4) (asks_for_priority s (past_of s) (next_clock_of v))
+    (and_from (each_where (asks_for_bus s (past_of s) (next_clock_of v)) 4)
+    (asks_for_priority s (past_of s) (next_clock_of v))
     (each_where-all (asks_for_bus s (past_of s) (next_clock_of v)) 4 (λ a few. asks-now v hold choice entries a b few))
     (asks-priority-now v hold choice entries b))

@@ -1,5 +1,8 @@
--- What a bench tells its agents of the request that begins, and of the one that is cancelled, is what happens to them in its run.
-use Rattle.std.proofs.Common.{ℕ, ◌+◌, ◌-◌, ◌/◌, ◌<◌, ◌≡◌, ◌&&◌, Bool, true, false, Option, Some, None, List, [], ◌∷◌, fold, length, nat_eq, nat_le, is_some, if◌then◌else◌, refl, sym, ap, subst, ◌∙◌, arith, inl, inr}
+-- What a bench tells its agents of the request that begins, and of the one that is cancelled, is what happens to
+-- them in its run.
+use Rattle.std.proofs.Common.{ℕ, ◌+◌, ◌-◌, ◌/◌, ◌<◌, ◌≡◌, ◌&&◌, Bool, true, false, Option, Some, None, List, [], ◌∷◌}
+use Rattle.std.proofs.Common.{fold, length, nat_eq, nat_le, is_some, if◌then◌else◌, refl, sym, ap, subst, ◌∙◌, arith}
+use Rattle.std.proofs.Common.{inl, inr}
 use Rattle.std.specs.List.{find, slice_get}
 use Rattle.std.specs.Option.{option_map, option_map_or}
 use Rattle.std.proofs.lemmas.Bool.{and_parts, eqb-true, le-leb}
@@ -84,7 +87,8 @@ pub begun-unclaimed : (s : Run) (q : ℕ) (request : Request) → q < length s.t
 begun-unclaimed s q request l k =
     begun-told s q l ∙ ap (λ b. if b then claim_at s.trace q else None) k.begins ∙ no-claim s.trace q k.winner
 
-pub begun-nothing : (s : Run) (q : ℕ) → q < length s.trace → line_at ADS s.trace q ≡ false → begun_at (past_of s) q ≡ None
+pub begun-nothing : (s : Run) (q : ℕ) → q < length s.trace → line_at ADS s.trace q ≡ false
+    → begun_at (past_of s) q ≡ None
 begun-nothing s q l e = begun-told s q l ∙ ap (λ b. if b then claim_at s.trace q else None) e
 
 abbrev sent_by : ℕ → ℕ → Option Claim → List AgentEvent
@@ -127,7 +131,8 @@ unfolding cancelled_events
 no-cancel p n a e = ap (λ o. option_map_or (given_up_events p a) o []) e
 
 -- AERR# cancels what began three clocks before
-cancels : (w : Trace) (c q : ℕ) → q + 3 ≡ c → line_at AERR w c ≡ true → line_at ADS w q ≡ true → cancelled_at w c ≡ Some q
+cancels : (w : Trace) (c q : ℕ) → q + 3 ≡ c → line_at AERR w c ≡ true → line_at ADS w q ≡ true
+    → cancelled_at w c ≡ Some q
 unfolding cancelled_at
 cancels w c q e error ads =
     let back : c - 3 ≡ q = omega arith in
@@ -143,7 +148,8 @@ cancels-none w c error = rw (error, cancelled_at) (by (nat_le 3 c) (line_at ADS 
     by false d = refl
 
 -- the entry that a bench cancels is the request that is cancelled in its run
-pub cancelled-now : (v : BenchView) (hold : Bool) (choice : Choice) (entries : List Done) → IsStepWith v hold choice entries
+pub cancelled-now : (v : BenchView) (hold : Bool) (choice : Choice) (entries : List Done)
+    → IsStepWith v hold choice entries
     → cancelled_in (past_of (run_with v hold choice entries)) (next_clock_of v)
     ≡ option_map (λ (e : Entry). e.clock) (step_decided v hold).cancelled
 unfolding cancelled_in

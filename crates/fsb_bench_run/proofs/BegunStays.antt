@@ -1,5 +1,6 @@
 -- A request that has begun stays as a run grows, and is lawful.
-use Rattle.std.proofs.Common.{ℕ, ◌+◌, ◌<◌, ◌≡◌, true, Some, List, [], ◌∷◌, length, slice_get, take, refl, ap, ◌∙◌, arith}
+use Rattle.std.proofs.Common.{ℕ, ◌+◌, ◌<◌, ◌≡◌, true, Some, List, [], ◌∷◌, length, slice_get, take, refl, ap, ◌∙◌}
+use Rattle.std.proofs.Common.{arith}
 use Rattle.std.specs.Option.{option_and_then, option_map}
 use Rattle.std.proofs.lemmas.List.{take-append-le}
 use Rattle.fsb_encode.specs.declared.request.Request.{Request}
@@ -33,7 +34,8 @@ trace-to r s q grows l =
     ap (take (q + 1)) grows.next.more_trace ∙ take-append-le (q + 1) r.trace (grows.next.sample ∷ []) (omega arith)
 
 -- what an agent would begin rests on the samples and the past
-pub would-same : (r s : Run) (p : Past) (q : ℕ) (who : Who) → s.trace ≡ r.trace → would_begin s p q who ≡ would_begin r p q who
+pub would-same : (r s : Run) (p : Past) (q : ℕ) (who : Who) → s.trace ≡ r.trace
+    → would_begin s p q who ≡ would_begin r p q who
 unfolding would_begin due_number
 would-same r s p q (Symmetric a) e = refl
 would-same r s p q Priority e =
@@ -69,6 +71,7 @@ begun-lawful r q who request bounds l b =
 
 -- the entries of a queue
 pub entries-stay : (r s : Run) (queue : List Entry) → GrowsTo r s
-    → ((k : ℕ) (e : Entry) → slice_get queue k ≡ Some e → e.clock < length r.trace) → HasBegun queue r → HasBegun queue s
+    → ((k : ℕ) (e : Entry) → slice_get queue k ≡ Some e → e.clock < length r.trace) → HasBegun queue r
+    → HasBegun queue s
 entries-stay r s queue grows early b =
     record { begun = λ k e at. begun-stays r s e.clock e.who e.request grows (early k e at) (b.begun k e at) }

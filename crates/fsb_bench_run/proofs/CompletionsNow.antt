@@ -1,11 +1,13 @@
--- Completions at a bench's next clock: the entries of the hits are those that the run completes by hits; what is left is
+-- Completions at a bench's next clock: the entries of the hits are those that the run completes by hits; what is
+-- left is
 -- that the others are those of the arrival.
 use Rattle.std.proofs.Common.{ℕ, ◌≡◌, Bool, true, List, [], ◌∷◌, ◌++◌, map, nat_eq, refl, ap, ◌∙◌}
 use Rattle.std.specs.List.{list_all}
 use Rattle.std.proofs.lemmas.List.{map-append}
 use Rattle.fsb_access.specs.declared.log.Done.{Done}
 use Rattle.fsb_hazard.specs.declared.choice.Choice.{Choice}
-use Rattle.fsb_timely.specs.Completions.{Completed, completed_at, completed_if, entries_at, is_arrival, logs_completions, of_all_agents}
+use Rattle.fsb_timely.specs.Completions.{Completed, completed_at, completed_if, entries_at, is_arrival}
+use Rattle.fsb_timely.specs.Completions.{logs_completions, of_all_agents}
 use Rattle.fsb_timely.specs.Past.{Past}
 use Rattle.fsb_timely.specs.Runs.{past_of}
 use Rattle.fsb_timely.specs.Timely.{holds_at}
@@ -28,7 +30,8 @@ pub completions-now : (v : BenchView) (hold : Bool) (choice : Choice) (entries :
     → entries ≡ hit_entries (next_clock_of v) (step_fetched v).agents ++ others
     → list_all (λ (done : Done). nat_eq done.clock (next_clock_of v)) entries ≡ true
     → map completed_of others ≡ arrivals_at (past_of (run_with v hold choice entries)) (next_clock_of v)
-    → logs_completions (run_with v hold choice entries) (past_of (run_with v hold choice entries)) (next_clock_of v) ≡ true
+    → logs_completions (run_with v hold choice entries) (past_of (run_with v hold choice entries))
+    (next_clock_of v) ≡ true
 unfolding logs_completions completed_at past_of
 completions-now v hold choice entries others k found split at told =
     let s = run_with v hold choice entries in

@@ -20,7 +20,10 @@ deferrals-now v hold choice entries b grows shows =
     let has = b.bridge.deferrals in
     record {
       pending = λ line. grown-pending r s line list grows b.bounds shows has;
-      deferral = λ end reply there decoded replies. grown-taken r s end reply list grows b.bounds shows has there decoded replies;
-      taken = λ end reply there decoded replies. grown-there r s end reply list grows b.bounds shows has there decoded replies;
-      hit = λ end reply there decoded replies. grown-hit r s end reply list grows b.bounds shows has there decoded replies;
+      deferral = λ end reply there decoded replies. grown-taken r s end reply list grows b.bounds shows has
+          there decoded replies;
+      taken = λ end reply there decoded replies. grown-there r s end reply list grows b.bounds shows has there
+          decoded replies;
+      hit = λ end reply there decoded replies. grown-hit r s end reply list grows b.bounds shows has there
+          decoded replies;
     }

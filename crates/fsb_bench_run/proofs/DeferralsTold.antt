@@ -14,14 +14,16 @@ use Rattle.fsb_timely.specs.Runs.{Run, past_of}
 use Rattle.fsb_timely.specs.Snoops.{number_served_at, was_hit_before}
 use Rattle.fsb_bench_view.specs.BusViews.{BenchView, next_clock_of}
 
--- the list tells which lines are pending at the next clock, which deferral a reply takes that has its snoop end there, and
+-- the list tells which lines are pending at the next clock, which deferral a reply takes that has its snoop end
+-- there, and
 -- whether HIT# was at the snoop end of the deferred request; and such a reply has its deferral in the list
 pub record DeferralsTold (v : BenchView) (s : Run) : Type 0 where
   pub pending : (line : ℕ) → is_pending s.trace (turns_in (past_of v.run).moments) line (next_clock_of v)
       ≡ is_waited_for line v.bus.bridge.waiting
   pub deferral : (end : SnoopEnd) (reply : Request) → snooped_at (past_of s) (next_clock_of v) ≡ Some end
       → request_at s.trace end.first ≡ Some reply → is_reply_kind reply.kind ≡ true
-      → IsThatOf s.trace (deferral_of_id reply.did v.bus.bridge.waiting) (number_served_at s (past_of s) (next_clock_of v))
+      → IsThatOf s.trace (deferral_of_id reply.did v.bus.bridge.waiting)
+      (number_served_at s (past_of s) (next_clock_of v))
   pub taken : (end : SnoopEnd) (reply : Request) → snooped_at (past_of s) (next_clock_of v) ≡ Some end
       → request_at s.trace end.first ≡ Some reply → is_reply_kind reply.kind ≡ true
       → is_some (deferral_of_id reply.did v.bus.bridge.waiting) ≡ true

@@ -25,8 +25,14 @@ winner-of : (r : Run) (q : ℕ) (request : Request) → q < length r.trace → l
 unfolding request_begun
 winner-of r q request l ads e =
     let k = and-some (would_begin (run_to r q) (past_to (past_of r) q) q) (winner_at (run_to r q).trace q) request e in
-    let agree = run_to-agrees r q l in
-    (k.0, record { begins = ads; winner = winner_at-agree (q + 1) r.trace (run_to r q).trace q agree (omega arith) ∙ k.1; wanted = k.2 })
+    let agree = run_to-agrees r q l in (
+      k.0,
+      record {
+        begins = ads;
+        winner = winner_at-agree (q + 1) r.trace (run_to r q).trace q agree (omega arith) ∙ k.1;
+        wanted = k.2;
+      },
+    )
 
 pub would-own : (r : Run) (q a : ℕ) (request : Request) → KeepsBounds r.plan → IsBegunAt r q (Symmetric a) request
     → request.did / 16 ≡ a

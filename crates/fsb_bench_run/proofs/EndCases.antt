@@ -1,5 +1,6 @@
 -- The end that a bench hears at its clock, if there is one, is that of its run.
-use Rattle.std.proofs.Common.{ℕ, ◌+◌, ◌<◌, ◌≡◌, ◌⊎◌, Bool, true, false, Option, Some, None, List, [], ◌∷◌, ◌++◌, is_none, is_some, length, refl, sym, ap, subst, ◌∙◌, arith, inl, inr}
+use Rattle.std.proofs.Common.{ℕ, ◌+◌, ◌<◌, ◌≡◌, ◌⊎◌, Bool, true, false, Option, Some, None, List, [], ◌∷◌, ◌++◌}
+use Rattle.std.proofs.Common.{is_none, is_some, length, refl, sym, ap, subst, ◌∙◌, arith, inl, inr}
 use Rattle.std.specs.List.{find, slice_get}
 use Rattle.std.specs.Option.{option_and_then, option_map, option_map_or}
 use Rattle.std.proofs.lemmas.Bool.{both_ways}
@@ -28,8 +29,10 @@ use Rattle.fsb_bench_view.specs.declared.beginning.Starting.{Starting}
 use Rattle.fsb_bench_view.specs.declared.decided.Ending.{Ending}
 use Rattle.fsb_bench_view.specs.declared.snoop.Served.{Served}
 use Rattle.fsb_bench_view.specs.declared.snoop.SnoopSettled.{SnoopSettled}
-use Rattle.fsb_bench_view.specs.BenchSteps.{step_answered, step_cancelled, step_decided, step_drive, step_ending, step_performed, step_phased, step_snooped, step_started}
-use Rattle.fsb_bench_view.specs.BusEvents.{answered_by, bus_answered, bus_cancelled, bus_snooped, bus_started, ending_by}
+use Rattle.fsb_bench_view.specs.BenchSteps.{step_answered, step_cancelled, step_decided, step_drive, step_ending}
+use Rattle.fsb_bench_view.specs.BenchSteps.{step_performed, step_phased, step_snooped, step_started}
+use Rattle.fsb_bench_view.specs.BusEvents.{answered_by, bus_answered, bus_cancelled, bus_snooped, bus_started}
+use Rattle.fsb_bench_view.specs.BusEvents.{ending_by}
 use Rattle.fsb_bench_view.specs.BusViews.{BenchView, BusView, next_clock_of}
 use Rattle.fsb_bench_view.specs.BytesFetched.{head_outcome}
 use Rattle.fsb_bench_run.specs.BenchOf.{HasServed, IsServed, settled_entries}
@@ -40,7 +43,8 @@ use Rattle.fsb_bench_run.proofs.SameBus.{same-performed}
 use Rattle.fsb_bench_run.proofs.StepWith.{IsStepWith}
 
 -- the queue before an end is that before the clock
-started-queue : (bus : BusView) (clock : ℕ) (o : Option Starting) → (option_map_or (bus_started bus clock) o bus).queue ≡ bus.queue
+started-queue : (bus : BusView) (clock : ℕ) (o : Option Starting)
+    → (option_map_or (bus_started bus clock) o bus).queue ≡ bus.queue
 started-queue bus clock None = refl
 started-queue bus clock (Some x) = refl
 
@@ -52,7 +56,8 @@ snooped-queue : (bus : BusView) (o : Option SnoopSettled) → (option_map_or (bu
 snooped-queue bus None = refl
 snooped-queue bus (Some x) = refl
 
-answered-queue : (bus : BusView) (clock : ℕ) (o : Option Entry) → (option_map_or (bus_answered bus clock) o bus).queue ≡ bus.queue
+answered-queue : (bus : BusView) (clock : ℕ) (o : Option Entry)
+    → (option_map_or (bus_answered bus clock) o bus).queue ≡ bus.queue
 answered-queue bus clock None = refl
 answered-queue bus clock (Some x) = refl
 
@@ -68,7 +73,8 @@ queue-answered v hold =
     ∙ queue-snooped v hold
 
 -- what is served before an end: what was, and that of the snoop end
-started-served : (bus : BusView) (clock : ℕ) (o : Option Starting) → (option_map_or (bus_started bus clock) o bus).served ≡ bus.served
+started-served : (bus : BusView) (clock : ℕ) (o : Option Starting)
+    → (option_map_or (bus_started bus clock) o bus).served ≡ bus.served
 started-served bus clock None = refl
 started-served bus clock (Some x) = refl
 
@@ -85,7 +91,8 @@ snooped-served bus x (Some y) e = by bus.served e
     by [] f = absurd (let no : ⊥ = cc in no)
     by (z ∷ zs) f = f
 
-answered-served : (bus : BusView) (clock : ℕ) (o : Option Entry) → (option_map_or (bus_answered bus clock) o bus).served ≡ bus.served
+answered-served : (bus : BusView) (clock : ℕ) (o : Option Entry)
+    → (option_map_or (bus_answered bus clock) o bus).served ≡ bus.served
 answered-served bus clock None = refl
 answered-served bus clock (Some x) = refl
 
@@ -231,7 +238,8 @@ ending-heard v hold choice entries x k h e kept = elim (end-cases v hold choice 
       let served : c.served ≡ x.served = ap (λ (y : Ending). y.served) same in (
         c.heard.end,
         outcome,
-        subst (λ (y : Served). EndsFor (past_of (run_with v hold choice entries)) y.agent (next_clock_of v) y.first c.heard.end)
+        subst (λ (y : Served). EndsFor (past_of (run_with v hold choice entries)) y.agent (next_clock_of v)
+            y.first c.heard.end)
             served
             (record {
               first = c.heard.first;

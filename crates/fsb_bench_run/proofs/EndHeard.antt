@@ -1,5 +1,6 @@
 -- The end of a request that a bench tells its agents is that of its run.
-use Rattle.std.proofs.Common.{ℕ, ◌+◌, ◌≡◌, ◌≢◌, Bool, true, false, Option, Some, None, List, length, nat_eq, refl, sym, ap, subst, ◌∙◌, arith, if◌then◌else◌}
+use Rattle.std.proofs.Common.{ℕ, ◌+◌, ◌≡◌, ◌≢◌, Bool, true, false, Option, Some, None, List, length, nat_eq, refl, sym}
+use Rattle.std.proofs.Common.{ap, subst, ◌∙◌, arith, if◌then◌else◌}
 use Rattle.std.specs.List.{find}
 use Rattle.std.specs.Option.{option_and_then, option_map}
 use Rattle.std.proofs.lemmas.Bool.{both_ways, ne_eqb}
@@ -12,8 +13,10 @@ use Rattle.fsb_lawful.specs.Beginning.{KeepsBounds}
 use Rattle.fsb_phase_run.proofs.Interface.{snooped-same}
 use Rattle.fsb_queue.specs.declared.entry.Entry.{Entry}
 use Rattle.fsb_run_laws.specs.Reaches.{Reaches}
-use Rattle.fsb_run_laws.proofs.Interface.{ending-served, ending-serves, replied-outstanding, replied-served, snoop-below}
-use Rattle.fsb_tied.proofs.Interface.{begun-shown, begun-want, deferred-held, held-plain, live-at, live-request, number-ended, orderly-whole, snooped-by}
+use Rattle.fsb_run_laws.proofs.Interface.{ending-served, ending-serves, replied-outstanding, replied-served}
+use Rattle.fsb_run_laws.proofs.Interface.{snoop-below}
+use Rattle.fsb_tied.proofs.Interface.{begun-shown, begun-want, deferred-held, held-plain, live-at, live-request}
+use Rattle.fsb_tied.proofs.Interface.{number-ended, orderly-whole, snooped-by}
 use Rattle.fsb_timely.specs.Grants.{is_end_at, snooped_at}
 use Rattle.fsb_timely.specs.Growth.{GrowsTo}
 use Rattle.fsb_timely.specs.Moments.{claim_at, served_number, turns_in}
@@ -75,10 +78,12 @@ pub itself-served : (w : Trace) (turns : List ℕ) (i : ℕ) → is_reply (live_
 unfolding served_number
 itself-served w turns i plain = rw (plain, served_number) refl
 
-pub asked-same : (p q : Past) (a c line : ℕ) → Rattle.fsb_timely.specs.Wants.owed p a c ≡ Rattle.fsb_timely.specs.Wants.owed q a c
+pub asked-same : (p q : Past) (a c line : ℕ)
+    → Rattle.fsb_timely.specs.Wants.owed p a c ≡ Rattle.fsb_timely.specs.Wants.owed q a c
     → number_asked p a c line ≡ number_asked q a c line
 unfolding number_asked
-asked-same p q a c line e = λ i. option_map (λ owing. owing.claim.first) (find (λ owing. nat_eq owing.claim.line line) (e i))
+asked-same p q a c line e = λ i. option_map (λ owing. owing.claim.first)
+    (find (λ owing. nat_eq owing.claim.line line) (e i))
 
 one-of : (a b : ℕ) → Some a ≡ Some b → a ≡ b
 one-of a b e = cc
@@ -167,19 +172,22 @@ end-by r s e served Priority grows h bounds d told begun is =
     let replies = ap (λ o. is_reply o) (ap (request_at w) k.first ∙ decoded) ∙ kind in
     let j = and-some (live_clock_of w) (served_number w turns (live_number_of w q)) served.first is.first in
     let serves : served_number w turns d.number ≡ Some j.0 = ap (served_number w turns) (sym d.rank) ∙ j.1 in
-    let low = (answered-of w turns d.number j.0 (ap (λ o. is_reply o) (live-request w d.number q d.old ∙ decoded) ∙ kind)
+    let low = (answered-of w turns d.number j.0
+    (ap (λ o. is_reply o) (live-request w d.number q d.old ∙ decoded) ∙ kind)
     serves).0 in
     let rise = live_clock_of-rises w j.0 d.number served.first q low j.2 d.old in
     let asks = live-request w j.0 served.first j.2
     ∙ begun-request r served.first (Symmetric served.agent) served.request grows.timely bounds (omega arith) is.begun in
     let short : Reaches r (d.snoop + 1) = record { timely = grows.timely; bounds = bounds; long = omega arith } in
-    let g = reply-serves r d.snoop d.number j.0 served.first k.end served.request short k.tied replies serves asks j.2 in
+    let g = reply-serves r d.snoop d.number j.0 served.first k.end served.request short k.tied replies serves
+    asks j.2 in
     let grant : Grant = g.grant in
     let a : ℕ = grant.agent in
     let mine : grant.agent ≡ served.agent =
     g.agent ∙ would-own r served.first served.agent served.request bounds is.begun in
     let alike = going-alike n (past_of r) p (past-goes_on r s grows.next (before-growth r s grows)) in
-    let asked = sym (asked-same (past_of r) p a d.snoop grant.line (owed-same n (past_of r) p a d.snoop alike (omega arith)))
+    let asked = sym (asked-same (past_of r) p a d.snoop grant.line
+    (owed-same n (past_of r) p a d.snoop alike (omega arith)))
     ∙ g.asked in
     let under : Reaches s (d.snoop + 1) = record { timely = h.timely; bounds = h.bounds; long = omega arith } in
     let old = replied-outstanding s d.snoop k.end grant under k.there g.unclaimed g.grants in

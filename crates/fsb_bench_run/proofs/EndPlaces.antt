@@ -1,5 +1,6 @@
 -- The request that ends at the next clock is the oldest one in flight.
-use Rattle.std.proofs.Common.{ℕ, zero, suc, ◌+◌, ◌<◌, ◌≤◌, ◌≡◌, ◌&&◌, true, false, not, Option, Some, None, List, [], ◌∷◌, length, nat_lt, refl, sym, ap, ◌∙◌, arith}
+use Rattle.std.proofs.Common.{ℕ, zero, suc, ◌+◌, ◌<◌, ◌≤◌, ◌≡◌, ◌&&◌, true, false, not, Option, Some, None, List, []}
+use Rattle.std.proofs.Common.{◌∷◌, length, nat_lt, refl, sym, ap, ◌∙◌, arith}
 use Rattle.std.specs.List.{slice_get}
 use Rattle.std.specs.Option.{option_map}
 use Rattle.std.proofs.lemmas.Bool.{and_parts}
@@ -21,7 +22,8 @@ use Rattle.fsb_trace.specs.Outcome.{response_clock_of}
 use Rattle.fsb_trace.specs.Requests.{is_live, live_clock_of, live_number_of}
 use Rattle.fsb_trace.specs.Response.{end_of}
 use Rattle.fsb_trace.specs.Snoop.{snoop_end_of}
-use Rattle.fsb_trace.proofs.Interface.{end_of-response, end_of-stays, live_clock_of-number, live_clock_of-rises, live_clock_of-stays, snoop_end_of-clock, snoop_end_of-stays}
+use Rattle.fsb_trace.proofs.Interface.{end_of-response, end_of-stays, live_clock_of-number, live_clock_of-rises}
+use Rattle.fsb_trace.proofs.Interface.{live_clock_of-stays, snoop_end_of-clock, snoop_end_of-stays}
 use Rattle.fsb_bench_run.proofs.SnoopEntry.{held-here, rank-rises}
 
 -- the entry whose request ends at the next clock, in the run and in the longer one
@@ -98,7 +100,9 @@ unended r queue k x e f at end l =
     let n = length r.trace in
     let here = held-here r queue k e f at in
     let flies = flies-at r queue k e f at in
-    let open_yet = (and_parts _ (not (is_live r.trace e.clock && is_before (end_of r.trace (live_number_of r.trace e.clock)) n)) flies).1 in
+    let open_yet =
+    (and_parts _
+    (not (is_live r.trace e.clock && is_before (end_of r.trace (live_number_of r.trace e.clock)) n)) flies).1 in
     let ended = is_before-from (end_of r.trace (rank_of r.trace e)) x n end l in
     wrong (is_live r.trace e.clock) (is_before (end_of r.trace (rank_of r.trace e)) n) here.live ended open_yet
   where

@@ -1,5 +1,6 @@
 -- Each entry of the queue after a bench's clock is of the request that began at its clock.
-use Rattle.std.proofs.Common.{◌≡◌, Bool, true, false, if◌then◌else◌, map, Some, slice_get, refl, sym, ap, subst, ◌∙◌, inl, inr}
+use Rattle.std.proofs.Common.{◌≡◌, Bool, true, false, if◌then◌else◌, map, Some, slice_get, refl, sym, ap, subst, ◌∙◌}
+use Rattle.std.proofs.Common.{inl, inr}
 use Rattle.std.proofs.lemmas.Option.{slice_get-map}
 use Rattle.fsb_flight.specs.GoesOn.{goes_on, settles, stays_in_flight}
 use Rattle.fsb_flight.specs.Steps.{begun_list}
@@ -10,7 +11,8 @@ use Rattle.fsb_signal.specs.declared.sample.Sample.{Sample}
 use Rattle.fsb_timely.specs.Runs.{Run}
 use Rattle.fsb_trace.specs.At.{Trace}
 use Rattle.fsb_trace.specs.declared.outcome.Outcome.{Outcome}
-use Rattle.fsb_bench_view.specs.BenchSteps.{outcome_snooped, step_begun, step_decided, step_entries, step_performed, step_queue, step_run, step_sample}
+use Rattle.fsb_bench_view.specs.BenchSteps.{outcome_snooped, step_begun, step_decided, step_entries, step_performed}
+use Rattle.fsb_bench_view.specs.BenchSteps.{step_queue, step_run, step_sample}
 use Rattle.fsb_bench_view.specs.BusEvents.{entry_started}
 use Rattle.fsb_bench_view.specs.BusViews.{BenchView, next_clock_of}
 use Rattle.fsb_bench_run.specs.BenchOf.{HasBegun, IsBegunAt, IsBenchOf}
@@ -56,21 +58,24 @@ entries-next v hold choice b =
     let settle : Entry → Entry = settles r.trace x outcome in
     let grows = grows-to v hold choice b in
     record {
-      begun = λ k e at. elim (append_from (goes_on r.trace x outcome queue) (begun_list (step_begun v hold choice)) k e at) [
-        | inl old ↦
-            let j = filter_from (stays_in_flight r.trace x) (map settle queue) k e old in
-            let z = map_from settle queue j.0 e (slice_get queue j.0) refl (sym (slice_get-map settle queue j.0) ∙ j.1) in
-            let same = subst (λ y. IsSameRequest y z.0) z.2 (settled-same r.trace x outcome z.0) in
-            let here = held-here r queue j.0 z.0 b.requests z.1 in
-            begun-same s e z.0 same
-            (begun-stays r s z.0.clock z.0.who z.0.request grows here.within (b.entries.begun j.0 z.0 z.1))
-        | inr new ↦
-            let k = begun-entry (step_performed v) n choice (step_decided v hold).starting new.0 e new.1 in
-            let begins = starting-begins v hold choice (step_entries v hold) k.starting (step-with v hold choice b) k.some in
-            begun-same s e (entry_started (step_performed v) n k.starting choice) (record {
-              clock = ap (λ (y : Entry). y.clock) k.same;
-              who = ap (λ (y : Entry). y.who) k.same;
-              request = ap (λ (y : Entry). y.request) k.same;
-            }) begins
-      ];
+      begun = λ k e at.
+          elim (append_from (goes_on r.trace x outcome queue) (begun_list (step_begun v hold choice)) k e at) [
+            | inl old ↦
+                let j = filter_from (stays_in_flight r.trace x) (map settle queue) k e old in
+                let z = map_from settle queue j.0 e (slice_get queue j.0) refl (sym (slice_get-map settle queue j.0)
+                ∙ j.1) in
+                let same = subst (λ y. IsSameRequest y z.0) z.2 (settled-same r.trace x outcome z.0) in
+                let here = held-here r queue j.0 z.0 b.requests z.1 in
+                begun-same s e z.0 same
+                (begun-stays r s z.0.clock z.0.who z.0.request grows here.within (b.entries.begun j.0 z.0 z.1))
+            | inr new ↦
+                let k = begun-entry (step_performed v) n choice (step_decided v hold).starting new.0 e new.1 in
+                let begins = starting-begins v hold choice (step_entries v hold) k.starting
+                (step-with v hold choice b) k.some in
+                begun-same s e (entry_started (step_performed v) n k.starting choice) (record {
+                  clock = ap (λ (y : Entry). y.clock) k.same;
+                  who = ap (λ (y : Entry). y.who) k.same;
+                  request = ap (λ (y : Entry). y.request) k.same;
+                }) begins
+          ];
     }

@@ -1,5 +1,6 @@
 -- The entries of a clock, as what is completed there.
-use Rattle.std.proofs.Common.{ℕ, ◌<◌, ◌≡◌, ◌&&◌, Bool, true, false, Option, Some, None, List, [], ◌∷◌, ◌++◌, length, map, nat_eq, nat_le, nat_lt, refl, ap, ◌∙◌, arith, subst}
+use Rattle.std.proofs.Common.{ℕ, ◌<◌, ◌≡◌, ◌&&◌, Bool, true, false, Option, Some, None, List, [], ◌∷◌, ◌++◌, length}
+use Rattle.std.proofs.Common.{map, nat_eq, nat_le, nat_lt, refl, ap, ◌∙◌, arith, subst}
 use Rattle.std.specs.List.{filter, list_all, slice_get}
 use Rattle.std.specs.Option.{option_map_or}
 use Rattle.std.proofs.lemmas.Bool.{and_from, and_parts, ltb-true, ne_eqb, eq-eqb}
@@ -13,11 +14,13 @@ use Rattle.fsb_access.specs.declared.item.Item.{Item}
 use Rattle.fsb_access.specs.declared.log.Done.{Done}
 use Rattle.fsb_access.specs.ScriptOrder.{Step, step_of, steps_of_item}
 use Rattle.fsb_agent_view.specs.AgentViews.{AgentView}
-use Rattle.fsb_agent_view.specs.Completing.{completed_entries, hand_of, is_hit_by, next_steps, performed_entries, steps_at}
+use Rattle.fsb_agent_view.specs.Completing.{completed_entries, hand_of, is_hit_by, next_steps, performed_entries}
+use Rattle.fsb_agent_view.specs.Completing.{steps_at}
 use Rattle.fsb_agent_view.specs.Serving.{AtHand, entries_at_hand, hand_after}
 use Rattle.fsb_agent_run.specs.RunViews.{place_of}
 use Rattle.fsb_agent_run.specs.Stages.{IsViewOf}
-use Rattle.fsb_timely.specs.Completions.{Completed, are_completed, completed_if, completed_of_item, entries_at, is_access, is_completed, is_in_time, is_operand, next_accesses}
+use Rattle.fsb_timely.specs.Completions.{Completed, are_completed, completed_if, completed_of_item, entries_at}
+use Rattle.fsb_timely.specs.Completions.{is_access, is_completed, is_in_time, is_operand, next_accesses}
 use Rattle.fsb_timely.specs.Hits.{is_hit}
 use Rattle.fsb_timely.specs.Past.{Past}
 use Rattle.fsb_timely.specs.Scripts.{items_of, next_item, next_number}

@@ -1,5 +1,6 @@
 -- At most eight requests are in flight.
-use Rattle.std.proofs.Common.{ℕ, zero, suc, ◌<◌, ◌≤◌, ◌≡◌, Bool, true, false, not, cond, List, [], ◌∷◌, ◌++◌, filter, take, Some, length, refl, sym, ap, subst, ◌∙◌, add-one, arith, inl, inr}
+use Rattle.std.proofs.Common.{ℕ, zero, suc, ◌<◌, ◌≤◌, ◌≡◌, Bool, true, false, not, cond, List, [], ◌∷◌, ◌++◌, filter}
+use Rattle.std.proofs.Common.{take, Some, length, refl, sym, ap, subst, ◌∙◌, add-one, arith, inl, inr}
 use Rattle.std.specs.List.{slice_get}
 use Rattle.std.proofs.lemmas.Bool.{and_parts, cases_Bool, ltb-true}
 use Rattle.std.proofs.lemmas.List.{length-append, length-map, take_all}
@@ -18,7 +19,8 @@ use Rattle.fsb_signal.specs.declared.sample.Sample.{Sample}
 use Rattle.fsb_signal.specs.Samples.{has_line, line_at}
 use Rattle.fsb_timely.specs.Past.{Past}
 use Rattle.fsb_timely.specs.Runs.{Run, past_of, past_to, run_to}
-use Rattle.fsb_timely.specs.Starts.{drives_ads, drives_pair, has_free_winner, has_room, is_spaced, may_begin, starts_requests}
+use Rattle.fsb_timely.specs.Starts.{drives_ads, drives_pair, has_free_winner, has_room, is_spaced, may_begin}
+use Rattle.fsb_timely.specs.Starts.{starts_requests}
 use Rattle.fsb_timely.specs.Timely.{Timely, holds_at, holds_in}
 use Rattle.fsb_trace.specs.At.{Trace, line_back}
 use Rattle.fsb_trace.specs.Flight.{in_flight}

@@ -1,7 +1,8 @@
 -- The entries of a bench's clock begin with those of the hits, and an agent with a hit has no other ones: it has
 -- completed its
 -- item there, so what ends completes nothing more.
-use Rattle.std.proofs.Common.{ℕ, ◌+◌, ◌≡◌, ◌⊎◌, Bool, true, false, ◌||◌, if◌then◌else◌, nat_eq, Option, Some, None, List, [], ◌∷◌, fold, slice_get, refl, sym, ap, subst, ◌∙◌, inl, inr}
+use Rattle.std.proofs.Common.{ℕ, ◌+◌, ◌≡◌, ◌⊎◌, Bool, true, false, ◌||◌, if◌then◌else◌, nat_eq, Option, Some, None}
+use Rattle.std.proofs.Common.{List, [], ◌∷◌, fold, slice_get, refl, sym, ap, subst, ◌∙◌, inl, inr}
 use Rattle.std.specs.List.{list_any}
 use Rattle.std.specs.Option.{option_map_or}
 use Rattle.std.proofs.lemmas.Bool.{cases_Bool, eq-eqb, eqb-true}
@@ -33,8 +34,11 @@ use Rattle.fsb_bench_view.specs.declared.beginning.Starting.{Starting}
 use Rattle.fsb_bench_view.specs.declared.decided.Decided.{Decided}
 use Rattle.fsb_bench_view.specs.declared.decided.Ending.{Ending}
 use Rattle.fsb_bench_view.specs.declared.snoop.SnoopSettled.{SnoopSettled}
-use Rattle.fsb_bench_view.specs.BenchSteps.{step_answered, step_decided, step_ending, step_entries, step_performed, step_phased, step_run}
-use Rattle.fsb_bench_view.specs.BusEvents.{answered_by, bus_answered, bus_cancelled, bus_snooped, bus_started, cancelled_event, end_entries, entries_ended, heard_answer, heard_cancel, heard_entries, heard_snoop, heard_start, snooped_event, starting_event}
+use Rattle.fsb_bench_view.specs.BenchSteps.{step_answered, step_decided, step_ending, step_entries, step_performed}
+use Rattle.fsb_bench_view.specs.BenchSteps.{step_phased, step_run}
+use Rattle.fsb_bench_view.specs.BusEvents.{answered_by, bus_answered, bus_cancelled, bus_snooped, bus_started}
+use Rattle.fsb_bench_view.specs.BusEvents.{cancelled_event, end_entries, entries_ended, heard_answer, heard_cancel}
+use Rattle.fsb_bench_view.specs.BusEvents.{heard_entries, heard_snoop, heard_start, snooped_event, starting_event}
 use Rattle.fsb_bench_view.specs.BusViews.{BenchView, BusView, next_clock_of}
 use Rattle.fsb_bench_view.specs.ToldAgents.{agents_told, for_none, for_one}
 use Rattle.fsb_bench_run.specs.BenchOf.{IsBenchOf}

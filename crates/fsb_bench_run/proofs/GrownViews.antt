@@ -1,5 +1,7 @@
 -- The record of an agent is that of the agent also in the run that has grown by a clock.
-use Rattle.std.proofs.Common.{ℕ, zero, suc, ◌+◌, ◌<◌, ◌≤◌, ◌≡◌, Bool, true, false, not, ◌&&◌, ◌||◌, nat_eq, nat_lt, nat_le, List, [], ◌∷◌, map, length, Option, Some, None, is_some, slice_get, refl, sym, ap, subst, ◌∙◌, inl, inr, arith}
+use Rattle.std.proofs.Common.{ℕ, zero, suc, ◌+◌, ◌<◌, ◌≤◌, ◌≡◌, Bool, true, false, not, ◌&&◌, ◌||◌, nat_eq, nat_lt}
+use Rattle.std.proofs.Common.{nat_le, List, [], ◌∷◌, map, length, Option, Some, None, is_some, slice_get, refl, sym, ap}
+use Rattle.std.proofs.Common.{subst, ◌∙◌, inl, inr, arith}
 use Rattle.std.proofs.Math.Bool.{and-false, or-false}
 use Rattle.std.proofs.lemmas.Bool.{and_parts, cases_Bool, cases_lt, eq-eqb, eqb-true, le-ltb, leb-true, ltb-true}
 use Rattle.std.proofs.lemmas.List.Folds.{list_any-append}
@@ -29,7 +31,8 @@ use Rattle.fsb_timely.specs.Past.{Grant, Moment, Owing, Past, SnoopEnd}
 use Rattle.fsb_timely.specs.Runs.{Run, past_of}
 use Rattle.fsb_timely.specs.Scripts.{items_of}
 use Rattle.fsb_timely.specs.Wants.{outstanding_at, owed}
-use Rattle.fsb_timely.proofs.Interface.{Alike, done_below, going-alike, holds_line-same, is_exclusive-same, latest_grant-same, owed-same, past-goes_on, want_of-alike}
+use Rattle.fsb_timely.proofs.Interface.{Alike, done_below, going-alike, holds_line-same, is_exclusive-same}
+use Rattle.fsb_timely.proofs.Interface.{latest_grant-same, owed-same, past-goes_on, want_of-alike}
 use Rattle.fsb_trace.specs.At.{Trace}
 use Rattle.fsb_trace.specs.Flight.{is_outstanding, outstanding}
 use Rattle.fsb_bench_run.proofs.GrownPlaces.{placed-alike}
@@ -217,7 +220,8 @@ view-grown r s a v grows h k =
         owed = k.requests.owed ∙ owed-same n p q a n alike (omega arith);
         wanted = λ j out at.
             let below = out-below r a v j out h k.requests.owed at in
-            sym (want_of-alike n p q a out.number goes (omega arith) (done_below n p a out.number goes.entries below goes.at_end))
+            sym (want_of-alike n p q a out.number goes (omega arith)
+            (done_below n p a out.number goes.entries below goes.at_end))
             ∙ k.requests.wanted j out at;
         kept = λ j out at. k.requests.kept j out at ∙ won-same n p q out.number alike;
       };

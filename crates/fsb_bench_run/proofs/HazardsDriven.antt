@@ -1,9 +1,12 @@
 -- The hazard lines of a clock are as they must be.
-use Rattle.std.proofs.Common.{ℕ, ◌+◌, ◌-◌, ◌<◌, ◌≤◌, ◌≡◌, ◌&&◌, ◌||◌, Bool, true, false, not, Option, Some, None, List, [], ◌∷◌, ◌++◌, length, is_none, is_some, nat_eq, nat_le, refl, sym, ap, ◌∙◌, arith, inl, inr, subst}
+use Rattle.std.proofs.Common.{ℕ, ◌+◌, ◌-◌, ◌<◌, ◌≤◌, ◌≡◌, ◌&&◌, ◌||◌, Bool, true, false, not, Option, Some, None, List}
+use Rattle.std.proofs.Common.{[], ◌∷◌, ◌++◌, length, is_none, is_some, nat_eq, nat_le, refl, sym, ap, ◌∙◌, arith, inl}
+use Rattle.std.proofs.Common.{inr, subst}
 use Rattle.std.specs.Bool.{beq}
 use Rattle.std.specs.List.{find, slice_get}
 use Rattle.std.specs.Option.{option_and_then, option_map, option_map_or}
-use Rattle.std.proofs.lemmas.Bool.{and_from, and_parts, both_ways, eq-eqb, eqb-true, false_from_ne_true, le-leb, leb-true}
+use Rattle.std.proofs.lemmas.Bool.{and_from, and_parts, both_ways, eq-eqb, eqb-true, false_from_ne_true, le-leb}
+use Rattle.std.proofs.lemmas.Bool.{leb-true}
 use Rattle.fsb_count.specs.Clocks.{any_where}
 use Rattle.fsb_count.specs.Options.{is_some_and}
 use Rattle.fsb_count.proofs.Interface.{slice_get-end}
@@ -33,7 +36,8 @@ use Rattle.fsb_timely.specs.Growth.{GrowsTo}
 use Rattle.fsb_timely.specs.Moments.{choice_at, is_in_window, turns_in}
 use Rattle.fsb_timely.specs.Past.{SnoopEnd}
 use Rattle.fsb_timely.specs.Runs.{Run, past_of}
-use Rattle.fsb_timely.specs.Snoops.{drives_aerr, drives_bnr, drives_defer, drives_hazards, drives_stalls, is_bnr_chosen, is_error_chosen, is_keep, is_put_off, is_stall_chosen, keeps_snoop_lines}
+use Rattle.fsb_timely.specs.Snoops.{drives_aerr, drives_bnr, drives_defer, drives_hazards, drives_stalls, is_bnr_chosen}
+use Rattle.fsb_timely.specs.Snoops.{is_error_chosen, is_keep, is_put_off, is_stall_chosen, keeps_snoop_lines}
 use Rattle.fsb_timely.specs.Timely.{Timely, holds_at}
 use Rattle.fsb_phase_run.specs.Holds.{HoldsRequests}
 use Rattle.fsb_phase_run.proofs.Interface.{agree-grown, choice-same, entry-held, snoops-first, stall-drive}
@@ -46,7 +50,8 @@ use Rattle.fsb_bench_run.specs.BenchOf.{IsBegunAt, IsBenchOf}
 use Rattle.fsb_bench_run.proofs.RunWith.{run_with}
 use Rattle.fsb_bench_run.proofs.BegunRequests.{begun-request, request-grown}
 use Rattle.fsb_bench_run.proofs.DeferralsTold.{DeferralsTold}
-use Rattle.fsb_bench_run.proofs.DrivenLines.{aerr-driven, bnr-driven, defer-driven, defer_driven, hit-driven, hit_driven, hitm-driven, hitm_driven, line-with}
+use Rattle.fsb_bench_run.proofs.DrivenLines.{aerr-driven, bnr-driven, defer-driven, defer_driven, hit-driven}
+use Rattle.fsb_bench_run.proofs.DrivenLines.{hit_driven, hitm-driven, hitm_driven, line-with}
 use Rattle.fsb_bench_run.proofs.ResponsesDriven.{all5, beq-from}
 use Rattle.fsb_bench_run.proofs.SameBus.{same-performed}
 use Rattle.fsb_bench_run.proofs.SnoopCases.{SnoopsHere, snoop-cases}
@@ -70,7 +75,8 @@ bnr-now v hold choice entries timely =
 entry-error : (v : BenchView) (hold : Bool) (choice : Choice) (entries : List Done) (k : ℕ) (e : Entry)
     → GrowsTo v.run (run_with v hold choice entries) → HoldsRequests v.bus.queue v.run
     → slice_get v.bus.queue k ≡ Some e
-    → is_cancelled_by (next_clock_of v) e ≡ true → is_error_chosen (run_with v hold choice entries) (next_clock_of v) ≡ true
+    → is_cancelled_by (next_clock_of v) e ≡ true
+    → is_error_chosen (run_with v hold choice entries) (next_clock_of v) ≡ true
 unfolding is_error_chosen
 entry-error v hold choice entries k e grows f at t =
     let r = v.run in
@@ -306,7 +312,8 @@ lines-kept v hold choice entries grows f =
 pub hazards-now : (v : BenchView) (hold : Bool) (choice : Choice) (entries : List Done) → IsBenchOf v
     → DeferralsTold v (run_with v hold choice entries)
     → GrowsTo v.run (run_with v hold choice entries)
-    → drives_hazards (run_with v hold choice entries) (past_of (run_with v hold choice entries)) (next_clock_of v) ≡ true
+    → drives_hazards (run_with v hold choice entries) (past_of (run_with v hold choice entries))
+    (next_clock_of v) ≡ true
 unfolding drives_hazards drives_bnr drives_aerr drives_stalls drives_defer
 hazards-now v hold choice entries b told grows =
     let s = run_with v hold choice entries in

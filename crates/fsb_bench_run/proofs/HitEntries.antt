@@ -1,10 +1,13 @@
 -- The entries of a clock that begin with those of the hits: each agent with a hit has the accesses of its next item
 -- there,
 -- and so the agents of the bench after the hits are those of the longer run.
-use Rattle.std.proofs.Common.{ℕ, zero, suc, ◌+◌, ◌-◌, ◌<◌, ◌≤◌, ◌≡◌, Bool, true, false, not, ◌&&◌, ◌||◌, nat_eq, nat_lt, Option, Some, None, List, [], ◌∷◌, ◌++◌, map, length, slice_get, refl, sym, ap, subst, ◌∙◌, inl, inr, arith, append-nil}
+use Rattle.std.proofs.Common.{ℕ, zero, suc, ◌+◌, ◌-◌, ◌<◌, ◌≤◌, ◌≡◌, Bool, true, false, not, ◌&&◌, ◌||◌, nat_eq, nat_lt}
+use Rattle.std.proofs.Common.{Option, Some, None, List, [], ◌∷◌, ◌++◌, map, length, slice_get, refl, sym, ap, subst}
+use Rattle.std.proofs.Common.{◌∙◌, inl, inr, arith, append-nil}
 use Rattle.std.specs.List.{list_all, list_any}
 use Rattle.std.specs.Option.{option_and_then, option_map_or}
-use Rattle.std.proofs.lemmas.Bool.{and_parts, both_ways, cases_Bool, eq-eqb, eqb-true, lt-ltb, ne_eqb, not-true, or_cases, or_parts}
+use Rattle.std.proofs.lemmas.Bool.{and_parts, both_ways, cases_Bool, eq-eqb, eqb-true, lt-ltb, ne_eqb, not-true}
+use Rattle.std.proofs.lemmas.Bool.{or_cases, or_parts}
 use Rattle.std.proofs.lemmas.List.{map-append}
 use Rattle.std.proofs.lemmas.List.Elements.{filter-append}
 use Rattle.std.proofs.lemmas.Option.{slice_get_within}
@@ -14,7 +17,8 @@ use Rattle.fsb_access.specs.declared.item.Item.TheVariants.{One, Locked, Idle}
 use Rattle.fsb_access.specs.declared.log.Done.{Done}
 use Rattle.fsb_access.specs.ScriptOrder.{Step, script_of, step_of, steps_from, steps_of, steps_of_item}
 use Rattle.fsb_agent_view.specs.AgentViews.{AgentView}
-use Rattle.fsb_agent_view.specs.Completing.{completed_entries, hand_of, is_hit_by, next_steps, performed_entries, steps_at}
+use Rattle.fsb_agent_view.specs.Completing.{completed_entries, hand_of, is_hit_by, next_steps, performed_entries}
+use Rattle.fsb_agent_view.specs.Completing.{steps_at}
 use Rattle.fsb_agent_view.specs.Serving.{AtHand, entries_at_hand, hand_after}
 use Rattle.fsb_agent_run.specs.RunViews.{LogsItem, place_of}
 use Rattle.fsb_agent_run.specs.Stages.{IsViewAfterHit, IsViewOf}
@@ -31,8 +35,10 @@ use Rattle.fsb_timely.specs.Growth.{GoesOn, GrowsTo}
 use Rattle.fsb_timely.specs.Hits.{is_hit, is_served}
 use Rattle.fsb_timely.specs.Past.{Past}
 use Rattle.fsb_timely.specs.Runs.{Run, past_of}
-use Rattle.fsb_timely.specs.Scripts.{is_done_at, is_done_by, is_idle, is_idling, is_logged, is_logged_at, is_to_do, items_of, last_done, needs_of, next_item, next_number}
-use Rattle.fsb_timely.proofs.Interface.{at, is_hit-alike, last_where-found, last_where-from, next_number-alike, not-behind, past-goes_on}
+use Rattle.fsb_timely.specs.Scripts.{is_done_at, is_done_by, is_idle, is_idling, is_logged, is_logged_at, is_to_do}
+use Rattle.fsb_timely.specs.Scripts.{items_of, last_done, needs_of, next_item, next_number}
+use Rattle.fsb_timely.proofs.Interface.{at, is_hit-alike, last_where-found, last_where-from, next_number-alike}
+use Rattle.fsb_timely.proofs.Interface.{not-behind, past-goes_on}
 use Rattle.fsb_bench_view.specs.BenchSteps.{step_fetched}
 use Rattle.fsb_bench_view.specs.BusViews.{BenchView, next_clock_of}
 use Rattle.fsb_bench_view.specs.ToldAgents.{hit_entries}

@@ -1,6 +1,7 @@
 -- The lemmas of this crate that others draw on; no other name of its proofs is used outside.
 
--- The first bench of a plan, by its agents, stands for its run, and so does a bench after each clock, which it may take.
+-- The first bench of a plan, by its agents, stands for its run, and so does a bench after each clock, which it may
+-- take.
 pub use Rattle.fsb_bench_run.proofs.FirstStands.{first-is, first-stands, plan-keeps}
 pub use Rattle.fsb_bench_run.proofs.MayGo.{may-go}
 pub use Rattle.fsb_bench_run.proofs.StandsNext.{bench-goes-on}
@@ -25,7 +26,8 @@ pub use Rattle.fsb_bench_run.proofs.AgentsOwing.{owed-answered}
 pub use Rattle.fsb_bench_run.proofs.AgentsNext.{agents-next}
 -- What a bench decides and hears of a snoop end is that of its run.
 pub use Rattle.fsb_bench_run.proofs.SnoopCases.{snoop-cases}
-pub use Rattle.fsb_bench_run.proofs.SnoopHeard.{IsClaimHeard, IsReplyHeard, IsSnoopHeard, answered-of, claim-told, hears-snoop, reply-serves}
+pub use Rattle.fsb_bench_run.proofs.SnoopHeard.{IsClaimHeard, IsReplyHeard, IsSnoopHeard, answered-of, claim-told}
+pub use Rattle.fsb_bench_run.proofs.SnoopHeard.{hears-snoop, reply-serves}
 -- The request that responds, and the one that ends.
 pub use Rattle.fsb_bench_run.proofs.ResponsesDriven.{code-now, sample-grown}
 pub use Rattle.fsb_bench_run.proofs.RespondsFirst.{responds-first}

@@ -1,8 +1,11 @@
 -- Which agents keep the bus locked after a bench's clock, where its longer run is timely.
-use Rattle.std.proofs.Common.{ℕ, zero, suc, ◌+◌, ◌-◌, ◌<◌, ◌≡◌, ◌&&◌, ◌||◌, Bool, true, false, not, if◌then◌else◌, is_some, nat_eq, nat_le, nat_lt, List, [], ◌∷◌, Option, Some, None, length, slice_get, refl, sym, ap, subst, ◌∙◌, inl, inr, arith}
+use Rattle.std.proofs.Common.{ℕ, zero, suc, ◌+◌, ◌-◌, ◌<◌, ◌≡◌, ◌&&◌, ◌||◌, Bool, true, false, not, if◌then◌else◌}
+use Rattle.std.proofs.Common.{is_some, nat_eq, nat_le, nat_lt, List, [], ◌∷◌, Option, Some, None, length, slice_get}
+use Rattle.std.proofs.Common.{refl, sym, ap, subst, ◌∙◌, inl, inr, arith}
 use Rattle.std.specs.List.{find, list_all, list_any}
 use Rattle.std.specs.Option.{option_and_then, option_map, option_map_or}
-use Rattle.std.proofs.lemmas.Bool.{and_parts, both_ways, cases_Bool, eq-eqb, eqb-true, false_from_ne_true, le-leb, ne_eqb, ltb-true}
+use Rattle.std.proofs.lemmas.Bool.{and_parts, both_ways, cases_Bool, eq-eqb, eqb-true, false_from_ne_true, le-leb}
+use Rattle.std.proofs.lemmas.Bool.{ne_eqb, ltb-true}
 use Rattle.std.proofs.lemmas.List.Folds.{list_any-append}
 use Rattle.std.proofs.lemmas.Option.{slice_get-map, slice_get_within}
 use Rattle.fsb_access.specs.ScriptOrder.{script_of}
@@ -18,7 +21,8 @@ use Rattle.fsb_queue.specs.declared.entry.Entry.{Entry}
 use Rattle.fsb_signal.specs.declared.lines.TheConstants.Lines.{ADS, AERR}
 use Rattle.fsb_signal.specs.Samples.{line_at, response_of}
 use Rattle.fsb_signal.proofs.Interface.{slice_get-before}
-use Rattle.fsb_timely.specs.BusLock.{ends_locked_item, is_begun_by, is_lock_cancelled, is_lock_retried, is_locked_request, is_release, keeps_lock}
+use Rattle.fsb_timely.specs.BusLock.{ends_locked_item, is_begun_by, is_lock_cancelled, is_lock_retried}
+use Rattle.fsb_timely.specs.BusLock.{is_locked_request, is_release, keeps_lock}
 use Rattle.fsb_timely.specs.Completions.{is_in_time}
 use Rattle.fsb_timely.specs.Moments.{cancelled_at}
 use Rattle.fsb_timely.specs.Past.{Past}
@@ -31,9 +35,11 @@ use Rattle.fsb_trace.specs.declared.who.Who.{Who}
 use Rattle.fsb_trace.specs.declared.who.Who.TheVariants.{Symmetric, Priority}
 use Rattle.fsb_bench_view.specs.declared.beginning.Started.{Started}
 use Rattle.fsb_bench_view.specs.declared.beginning.Starting.{Starting}
-use Rattle.fsb_bench_view.specs.BenchSteps.{bench_stepped, step_decided, step_drive, step_ended, step_entries, step_performed, step_releases, step_run}
+use Rattle.fsb_bench_view.specs.BenchSteps.{bench_stepped, step_decided, step_drive, step_ended, step_entries}
+use Rattle.fsb_bench_view.specs.BenchSteps.{step_performed, step_releases, step_run}
 use Rattle.fsb_bench_view.specs.BusDecisions.{is_cancelled_by}
-use Rattle.fsb_bench_view.specs.BusLocking.{completes_lock, is_locked_of, is_locked_start, is_locking, is_of, is_released, is_retry, keeps_after, keeps_in, retried_by}
+use Rattle.fsb_bench_view.specs.BusLocking.{completes_lock, is_locked_of, is_locked_start, is_locking, is_of}
+use Rattle.fsb_bench_view.specs.BusLocking.{is_released, is_retry, keeps_after, keeps_in, retried_by}
 use Rattle.fsb_bench_view.specs.BusViews.{BenchView, next_clock_of}
 use Rattle.fsb_bench_run.specs.BenchOf.{IsBegunAt, IsBenchOf}
 use Rattle.fsb_bench_run.specs.LocksHeld.{keeps_into, kept_into}

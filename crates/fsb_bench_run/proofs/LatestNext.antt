@@ -38,8 +38,10 @@ latest-by r s latest (Some x) grows k ads begins = record {
 latest-by r s latest None grows k ads begins = record {
   clock = k.clock ∙ sym (last-more r s false grows ads);
   begun = λ last e.
-      let there : last_where (line_at ADS r.trace) (length r.trace) ≡ Some last.clock = sym k.clock ∙ ap (option_map (λ (last : Latest). last.clock)) e in
-      begun-stays r s last.clock last.who last.request grows (last-below (line_at ADS r.trace) (length r.trace) last.clock there)
+      let there : last_where (line_at ADS r.trace) (length r.trace) ≡ Some last.clock = sym k.clock
+      ∙ ap (option_map (λ (last : Latest). last.clock)) e in
+      begun-stays r s last.clock last.who last.request grows
+      (last-below (line_at ADS r.trace) (length r.trace) last.clock there)
       (k.begun last e);
 }
 
@@ -47,5 +49,7 @@ pub latest-next : (v : BenchView) (hold : Bool) (choice : Choice) → IsBenchOf 
     → IsLatestOf (bench_stepped v hold choice).bus.latest (step_run v hold choice)
 latest-next v hold choice b =
     subst (λ latest. IsLatestOf latest (step_run v hold choice)) (sym (latest-stepped v hold choice))
-    (latest-by v.run (step_run v hold choice) v.bus.latest (step_decided v hold).starting (grows-to v hold choice b) b.latest
-    (begins-now v hold choice) (λ starting e. starting-begins v hold choice (step_entries v hold) starting (step-with v hold choice b) e))
+    (latest-by v.run (step_run v hold choice) v.bus.latest (step_decided v hold).starting
+    (grows-to v hold choice b) b.latest
+    (begins-now v hold choice)
+    (λ starting e. starting-begins v hold choice (step_entries v hold) starting (step-with v hold choice b) e))

@@ -1,5 +1,6 @@
 -- LOCK# of the clock, and which agents keep the bus locked into it.
-use Rattle.std.proofs.Common.{ℕ, zero, suc, ◌+◌, ◌-◌, ◌<◌, ◌≡◌, ◌&&◌, ◌||◌, Bool, true, false, not, Option, Some, None, List, is_some, length, if◌then◌else◌, refl, sym, ap, subst, ◌∙◌, arith, inl, inr}
+use Rattle.std.proofs.Common.{ℕ, zero, suc, ◌+◌, ◌-◌, ◌<◌, ◌≡◌, ◌&&◌, ◌||◌, Bool, true, false, not, Option, Some, None}
+use Rattle.std.proofs.Common.{List, is_some, length, if◌then◌else◌, refl, sym, ap, subst, ◌∙◌, arith, inl, inr}
 use Rattle.std.specs.Bool.{beq}
 use Rattle.std.specs.List.{list_any}
 use Rattle.std.proofs.lemmas.Bool.{both_ways, eq-eqb, le-leb, or_cases, or_left, or_right}
@@ -12,7 +13,8 @@ use Rattle.fsb_phase_run.proofs.Interface.{longer}
 use Rattle.fsb_signal.specs.declared.lines.TheConstants.Lines.{ADS, LOCK}
 use Rattle.fsb_signal.specs.Samples.{line_at}
 use Rattle.fsb_tied.proofs.Interface.{winner-four}
-use Rattle.fsb_timely.specs.BusLock.{drives_lock, is_begun_by, is_locked_request, is_release, is_released_before, keeps_lock}
+use Rattle.fsb_timely.specs.BusLock.{drives_lock, is_begun_by, is_locked_request, is_release, is_released_before}
+use Rattle.fsb_timely.specs.BusLock.{keeps_lock}
 use Rattle.fsb_timely.specs.Grants.{begun_at}
 use Rattle.fsb_timely.specs.Moments.{agent_at, claim_at}
 use Rattle.fsb_timely.specs.Past.{Past}
@@ -59,7 +61,8 @@ since-next p a c =
     ∙ ap (λ b. holds_since (is_locked_request p a) (is_released_before p a) (c + 1) && not b)
     (ap (λ b. b && is_release p a (suc c - 1)) (le-leb 1 (suc c) (omega arith)) ∙ ap (is_release p a) back)
 
-keeps-since : (p : Past) (c a : ℕ) → keeps_lock p c a ≡ holds_since (is_locked_request p a) (is_released_before p a) (c + 1)
+keeps-since : (p : Past) (c a : ℕ)
+    → keeps_lock p c a ≡ holds_since (is_locked_request p a) (is_released_before p a) (c + 1)
 unfolding keeps_lock
 keeps-since p c a = refl
 
@@ -80,7 +83,8 @@ pub keeps_lock-into : (p : Past) (c a : ℕ) → keeps_lock p c a ≡ (is_locked
 keeps_lock-into p zero a =
     keeps-since p 0 a ∙ holds_since-more (is_locked_request p a) (is_released_before p a) 0
     ∙ ap (λ b. is_locked_request p a 0 || b)
-    (ap (λ b. b && not (is_released_before p a 0)) (since-zero (is_locked_request p a) (is_released_before p a)) ∙ sym (into-zero p a))
+    (ap (λ b. b && not (is_released_before p a 0)) (since-zero (is_locked_request p a) (is_released_before p a))
+    ∙ sym (into-zero p a))
 keeps_lock-into p (suc c) a =
     keeps-since p (suc c) a ∙ holds_since-more (is_locked_request p a) (is_released_before p a) (suc c)
     ∙ ap (λ b. is_locked_request p a (suc c) || b)
@@ -92,7 +96,8 @@ pub agent-begins : (r : Run) (q a : ℕ) (request : Request) → q < length r.tr
 unfolding is_begun_by claim_at agent_at line_of is_some_and
 agent-begins r q a request l b =
     let x = get-there r.trace q l in
-    let told : begun_at (past_of r) q ≡ claim_at r.trace q = begun-told r q l ∙ ap (λ (b : Bool). if b then claim_at r.trace q else None) b.begins in
+    let told : begun_at (past_of r) q ≡ claim_at r.trace q = begun-told r q l
+    ∙ ap (λ (b : Bool). if b then claim_at r.trace q else None) b.begins in
     rw told (rw (b.winner, x.1, claim_at, agent_at, line_of) (eq-eqb a a refl))
 
 -- what is locked begins for an agent
@@ -107,16 +112,19 @@ locked-agent v hold starting Priority f e =
     let off : starting.locked ≡ false = sym (ap (λ (s : Starting). s.locked) parts.2) in
     absurd (both_ways starting.locked off e)
 
-some-locked : (o : Option Starting) → is_some_and o (λ (s : Starting). s.locked) ≡ true → (s : Starting) × (o ≡ Some s) × (s.locked ≡ true)
+some-locked : (o : Option Starting) → is_some_and o (λ (s : Starting). s.locked) ≡ true
+    → (s : Starting) × (o ≡ Some s) × (s.locked ≡ true)
 unfolding is_some_and
 some-locked None e = absurd (let no : ⊥ = cc in no)
 some-locked (Some s) e = (s, refl, e)
 
-locked-some : (o : Option Starting) (s : Starting) → o ≡ Some s → s.locked ≡ true → is_some_and o (λ (s : Starting). s.locked) ≡ true
+locked-some : (o : Option Starting) (s : Starting) → o ≡ Some s → s.locked ≡ true
+    → is_some_and o (λ (s : Starting). s.locked) ≡ true
 unfolding is_some_and
 locked-some o s e f = rw e f
 
-kept-found : (p : Past) (c : ℕ) → list_any (λ (kept : Bool). kept) (kept_into p c) ≡ true → (a : ℕ) × (a < 4) × (keeps_into p c a ≡ true)
+kept-found : (p : Past) (c : ℕ) → list_any (λ (kept : Bool). kept) (kept_into p c) ≡ true
+    → (a : ℕ) × (a < 4) × (keeps_into p c a ≡ true)
 kept-found p c e =
     elim (or_cases (keeps_into p c 0) _ e) [
       | inl t ↦ (0, omega arith, t)
@@ -132,12 +140,15 @@ kept-found p c e =
       ]
     ]
 
-kept-there : (p : Past) (c a : ℕ) → a < 4 → keeps_into p c a ≡ true → list_any (λ (kept : Bool). kept) (kept_into p c) ≡ true
+kept-there : (p : Past) (c a : ℕ) → a < 4 → keeps_into p c a ≡ true
+    → list_any (λ (kept : Bool). kept) (kept_into p c) ≡ true
 kept-there p c zero l e = or_left (keeps_into p c 0) _ e
 kept-there p c (suc zero) l e = or_right (keeps_into p c 0) _ (or_left (keeps_into p c 1) _ e)
-kept-there p c (suc (suc zero)) l e = or_right (keeps_into p c 0) _ (or_right (keeps_into p c 1) _ (or_left (keeps_into p c 2) _ e))
+kept-there p c (suc (suc zero)) l e =
+    or_right (keeps_into p c 0) _ (or_right (keeps_into p c 1) _ (or_left (keeps_into p c 2) _ e))
 kept-there p c (suc (suc (suc zero))) l e =
-    or_right (keeps_into p c 0) _ (or_right (keeps_into p c 1) _ (or_right (keeps_into p c 2) _ (or_left (keeps_into p c 3) _ e)))
+    or_right (keeps_into p c 0) _
+    (or_right (keeps_into p c 1) _ (or_right (keeps_into p c 2) _ (or_left (keeps_into p c 3) _ e)))
 kept-there p c (suc (suc (suc (suc a)))) l e = absurd (omega arith)
 
 pub locked-begins : (p : Past) (a c : ℕ) → is_locked_request p a c ≡ true → is_begun_by p a c ≡ true
@@ -148,7 +159,8 @@ locked-begins p a c e = by (is_begun_by p a c) refl e
     by true f e = refl
     by false f e = absurd (let g = rw (f, is_locked_request) at e in let no : ⊥ = cc in no)
 
-pub begun-ads : (r : Run) (a q : ℕ) → q < length r.trace → is_begun_by (past_of r) a q ≡ true → line_at ADS r.trace q ≡ true
+pub begun-ads : (r : Run) (a q : ℕ) → q < length r.trace → is_begun_by (past_of r) a q ≡ true
+    → line_at ADS r.trace q ≡ true
 unfolding is_begun_by is_some_and
 begun-ads r a q l e = by (line_at ADS r.trace q) (begun-told r q l) e
   where
@@ -162,7 +174,8 @@ some-there None e = absurd (let no : ⊥ = cc in no)
 some-there (Some s) e = (s, refl)
 
 -- a locked request begins exactly where the run has one of an agent
-pub locked-now : (v : BenchView) (hold : Bool) (choice : Choice) (entries : List Done) → IsStepWith v hold choice entries
+pub locked-now : (v : BenchView) (hold : Bool) (choice : Choice) (entries : List Done)
+    → IsStepWith v hold choice entries
     → is_some_and (step_decided v hold).starting (λ (s : Starting). s.locked) ≡ true
     → (a : ℕ) × (a < 4) × (is_locked_request (past_of (run_with v hold choice entries)) a (next_clock_of v) ≡ true)
 locked-now v hold choice entries b e =
@@ -177,10 +190,14 @@ locked-now v hold choice entries b e =
     let begins = starting-begins v hold choice entries some.0 b some.1 in
     let mine = subst (λ w. IsBegunAt s (next_clock_of v) w some.0.request) k.2 begins in
     let begun = agent-begins s (next_clock_of v) k.0 some.0.request (omega arith) mine in
-    let won = parts.2 ∙ ap Some k.1 in
-    (k.0, winner-four r.trace (next_clock_of v) k.0 won, sym (locked-start v hold choice entries some.0 k.0 b some.1 begun) ∙ some.2)
+    let won = parts.2 ∙ ap Some k.1 in (
+      k.0,
+      winner-four r.trace (next_clock_of v) k.0 won,
+      sym (locked-start v hold choice entries some.0 k.0 b some.1 begun) ∙ some.2,
+    )
 
-pub locking-now : (v : BenchView) (hold : Bool) (choice : Choice) (entries : List Done) (a : ℕ) → IsStepWith v hold choice entries
+pub locking-now : (v : BenchView) (hold : Bool) (choice : Choice) (entries : List Done) (a : ℕ)
+    → IsStepWith v hold choice entries
     → is_locked_request (past_of (run_with v hold choice entries)) a (next_clock_of v) ≡ true
     → is_some_and (step_decided v hold).starting (λ (s : Starting). s.locked) ≡ true
 locking-now v hold choice entries a b e =
@@ -191,7 +208,8 @@ locking-now v hold choice entries a b e =
     let begun = locked-begins (past_of s) a (next_clock_of v) e in
     let ads = begun-ads s a (next_clock_of v) (omega arith) begun in
     let some = some-there (step_decided v hold).starting (sym (begins-with v hold choice entries) ∙ ads) in
-    locked-some (step_decided v hold).starting some.0 some.1 (locked-start v hold choice entries some.0 a b some.1 begun ∙ e)
+    locked-some (step_decided v hold).starting some.0 some.1
+    (locked-start v hold choice entries some.0 a b some.1 begun ∙ e)
 
 kept-same : (v : BenchView) → IsBenchOf v → (step_performed v).kept ≡ kept_into (past_of v.run) (next_clock_of v)
 kept-same v b = (performed-begun v).kept ∙ b.kept
@@ -214,7 +232,8 @@ lock-now v hold choice entries b =
       | inl t ↦
           let k = kept-found (past_of r) n t in
           any_where-at (keeps_lock p n) 4 k.0 k.1
-          (keeps_lock-into p n k.0 ∙ or_right (is_locked_request p k.0 n) (keeps_into p n k.0) (keeps_into-grown r s k.0 grows ∙ k.2))
+          (keeps_lock-into p n k.0
+          ∙ or_right (is_locked_request p k.0 n) (keeps_into p n k.0) (keeps_into-grown r s k.0 grows ∙ k.2))
       | inr t ↦
           let k = locked-now v hold choice entries b t in
           any_where-at (keeps_lock p n) 4 k.0 k.1
@@ -231,12 +250,14 @@ same-beq true b e = rw (sym e) refl
 same-beq false b e = rw (sym e) refl
 
 -- LOCK# is as it must
-pub lock-driven-now : (v : BenchView) (hold : Bool) (choice : Choice) (entries : List Done) → IsStepWith v hold choice entries
+pub lock-driven-now : (v : BenchView) (hold : Bool) (choice : Choice) (entries : List Done)
+    → IsStepWith v hold choice entries
     → holds_at drives_lock (run_with v hold choice entries) (next_clock_of v) ≡ true
 unfolding drives_lock
 lock-driven-now v hold choice entries b =
     let s = run_with v hold choice entries in
     holds-now drives_lock v.run s b.grows
     (same-beq (line_at LOCK s.trace (next_clock_of v)) (any_where (keeps_lock (past_of s) (next_clock_of v)) 4)
-    (line-with v hold choice entries LOCK ∙ lock-driven (step_performed v) (next_clock_of v) v.run.plan.profile (step_decided v hold)
+    (line-with v hold choice entries LOCK
+    ∙ lock-driven (step_performed v) (next_clock_of v) v.run.plan.profile (step_decided v hold)
     ∙ lock-now v hold choice entries b))

@@ -1,5 +1,6 @@
 -- The request that begins at the clock is a locked one exactly where the run says so.
-use Rattle.std.proofs.Common.{ℕ, ◌<◌, ◌≡◌, Bool, true, false, nat_eq, Option, Some, None, length, if◌then◌else◌, refl, sym, ap, ◌∙◌, arith, List}
+use Rattle.std.proofs.Common.{ℕ, ◌<◌, ◌≡◌, Bool, true, false, nat_eq, Option, Some, None, length, if◌then◌else◌, refl}
+use Rattle.std.proofs.Common.{sym, ap, ◌∙◌, arith, List}
 use Rattle.std.specs.Option.{option_map}
 use Rattle.std.proofs.lemmas.Bool.{eqb-true}
 use Rattle.fsb_agent_view.specs.declared.want.Want.{Want}
@@ -42,10 +43,12 @@ agent-won w q a (Some (Symmetric x)) e f =
     let same : x ≡ a = cc in
     ap (λ x. Some (Symmetric x)) same
 
-claimed-by : (w : Trace) (q : ℕ) (claim : Claim) → claim_at w q ≡ Some claim → winner_at w q ≡ Some (Symmetric claim.agent)
+claimed-by : (w : Trace) (q : ℕ) (claim : Claim) → claim_at w q ≡ Some claim
+    → winner_at w q ≡ Some (Symmetric claim.agent)
 unfolding claim_at
 claimed-by w q claim e =
-    let k = and-some (λ a. option_map (λ line. record { first = q; agent = a; line = line }) (line_of w q)) (agent_at w q) claim e in
+    let k = and-some (λ a. option_map (λ line. record { first = q; agent = a; line = line }) (line_of w q))
+    (agent_at w q) claim e in
     let m = mapped-some (λ line. record { first = q; agent = k.0; line = line }) (line_of w q) claim k.2 in
     let same : k.0 ≡ claim.agent = ap (λ (claim : Claim). claim.agent) m.2 in
     agent-won w q k.0 (winner_at w q) refl k.1 ∙ ap (λ x. Some (Symmetric x)) same
@@ -69,12 +72,14 @@ pub begun-by-agent : (r : Run) (a q : ℕ) → q < length r.trace → is_begun_b
 unfolding is_begun_by
 begun-by-agent r a q l e = winner-of r.trace q a (begun_at (past_of r) q) (begun-told r q l) e
 
-locked-if : (p q : Past) (a c : ℕ) → is_begun_by p a c ≡ true → past_to p c ≡ q → is_locked_request p a c ≡ wants_lock q a c
+locked-if : (p q : Past) (a c : ℕ) → is_begun_by p a c ≡ true → past_to p c ≡ q
+    → is_locked_request p a c ≡ wants_lock q a c
 unfolding is_locked_request
 locked-if p q a c begun e = rw (begun, is_locked_request) (ap (λ p. wants_lock p a c) e)
 
 -- what begins is a locked request of its agent exactly where the run says so
-locked-for : (v : BenchView) (hold : Bool) (choice : Choice) (entries : List Done) (starting : Starting) (a : ℕ) (who : Who) → IsStepWith v hold choice entries
+locked-for : (v : BenchView) (hold : Bool) (choice : Choice) (entries : List Done) (starting : Starting) (a : ℕ)
+    (who : Who) → IsStepWith v hold choice entries
     → winner_at v.run.trace (next_clock_of v) ≡ Some who → who ≡ Symmetric a
     → starting_for (step_performed v) (step_decided v hold).asked who ≡ Some starting
     → starting.locked ≡ wants_lock (past_of (run_with v hold choice entries)) a (next_clock_of v)
@@ -87,7 +92,8 @@ locked-for v hold choice entries starting a (Symmetric x) b win e f =
     sym (ap (λ (s : Starting). s.locked) parts.3) ∙ locked-told v hold choice entries x want b few parts.1
     ∙ ap (λ a. wants_lock (past_of (run_with v hold choice entries)) a (next_clock_of v)) same
 
-pub locked-start : (v : BenchView) (hold : Bool) (choice : Choice) (entries : List Done) (starting : Starting) (a : ℕ) → IsStepWith v hold choice entries
+pub locked-start : (v : BenchView) (hold : Bool) (choice : Choice) (entries : List Done) (starting : Starting)
+    (a : ℕ) → IsStepWith v hold choice entries
     → (step_decided v hold).starting ≡ Some starting
     → is_begun_by (past_of (run_with v hold choice entries)) a (next_clock_of v) ≡ true
     → starting.locked ≡ is_locked_request (past_of (run_with v hold choice entries)) a (next_clock_of v)

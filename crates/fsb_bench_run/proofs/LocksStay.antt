@@ -1,5 +1,6 @@
 -- Which agents keep the bus locked into a clock stays as a run grows.
-use Rattle.std.proofs.Common.{ℕ, zero, suc, ◌+◌, ◌-◌, ◌<◌, ◌≤◌, ◌≡◌, ◌&&◌, ◌||◌, Bool, true, false, not, nat_eq, nat_le, Option, Some, None, List, [], ◌∷◌, ◌++◌, length, slice_get, refl, sym, ap, ◌∙◌, arith}
+use Rattle.std.proofs.Common.{ℕ, zero, suc, ◌+◌, ◌-◌, ◌<◌, ◌≤◌, ◌≡◌, ◌&&◌, ◌||◌, Bool, true, false, not, nat_eq, nat_le}
+use Rattle.std.proofs.Common.{Option, Some, None, List, [], ◌∷◌, ◌++◌, length, slice_get, refl, sym, ap, ◌∙◌, arith}
 use Rattle.std.specs.List.{list_all, list_any}
 use Rattle.std.specs.Option.{option_and_then}
 use Rattle.std.proofs.lemmas.Bool.{and_parts, eqb-true, ne_eqb}
@@ -11,7 +12,8 @@ use Rattle.fsb_lawful.proofs.Interface.{length-cut}
 use Rattle.fsb_signal.specs.declared.lines.TheConstants.Lines.{ADS, AERR}
 use Rattle.fsb_signal.specs.Samples.{line_at}
 use Rattle.fsb_signal.proofs.Interface.{slice_get-before}
-use Rattle.fsb_timely.specs.BusLock.{ends_locked_item, is_lock_cancelled, is_lock_retried, is_locked_request, is_release, is_released_before, keeps_lock}
+use Rattle.fsb_timely.specs.BusLock.{ends_locked_item, is_lock_cancelled, is_lock_retried, is_locked_request}
+use Rattle.fsb_timely.specs.BusLock.{is_release, is_released_before, keeps_lock}
 use Rattle.fsb_timely.specs.Growth.{GrowsTo}
 use Rattle.fsb_timely.specs.Moments.{cancelled_at, moment_at, responded_at, retried_at}
 use Rattle.fsb_timely.specs.Past.{Moment, Past}
@@ -43,7 +45,8 @@ any-both f (x ∷ xs) ys = assoc (f x) _ _ _ (any-both f xs ys)
     assoc false b c d e = e
 
 -- no entry of another clock ends a locked item at this one
-none-ends : (p : Past) (a t n : ℕ) (entries : List Done) → t < n → list_all (λ (done : Done). nat_eq done.clock n) entries ≡ true
+none-ends : (p : Past) (a t n : ℕ) (entries : List Done) → t < n
+    → list_all (λ (done : Done). nat_eq done.clock n) entries ≡ true
     → list_any (ends_locked_item p a t) entries ≡ false
 unfolding ends_locked_item
 none-ends p a t n [] l e = refl
@@ -58,7 +61,8 @@ or-false true b e = refl
 or-false false b e = e
 
 ends-old : (r s : Run) (a t : ℕ) → GrowsTo r s → t < length r.trace
-    → list_any (ends_locked_item (past_of s) a t) (past_of s).log ≡ list_any (ends_locked_item (past_of r) a t) (past_of r).log
+    → list_any (ends_locked_item (past_of s) a t) (past_of s).log
+    ≡ list_any (ends_locked_item (past_of r) a t) (past_of r).log
 unfolding past_of ends_locked_item items_of
 ends-old r s a t grows l =
     ap (list_any (ends_locked_item (past_of s) a t)) grows.next.more_log
@@ -79,7 +83,8 @@ if-some false o x e = absurd (let no : ⊥ = cc in no)
 cancelled-below : (w : Trace) (t q : ℕ) → cancelled_at w t ≡ Some q → q ≤ t
 unfolding cancelled_at
 cancelled-below w t q e =
-    let same : Some (t - 3) ≡ Some q = if-some (nat_le 3 t && line_at AERR w t && line_at ADS w (t - 3)) (Some (t - 3)) q e in
+    let same : Some (t - 3) ≡ Some q =
+    if-some (nat_le 3 t && line_at AERR w t && line_at ADS w (t - 3)) (Some (t - 3)) q e in
     let one : t - 3 ≡ q = cc in
     omega arith
 
@@ -92,7 +97,8 @@ retried-within w t q e =
     (nth_where-found (is_live w) (count_where (responds_at w) t) (length w) q live).0
 
 retried-below : (r : Run) (t q : ℕ) → t < length r.trace
-    → option_and_then (λ (moment : Moment). moment.retried) (slice_get (past_of r).moments t) ≡ Some q → q < length r.trace
+    → option_and_then (λ (moment : Moment). moment.retried) (slice_get (past_of r).moments t) ≡ Some q
+    → q < length r.trace
 unfolding past_of moment_at
 retried-below r t q l e =
     let told = ap (option_and_then (λ (moment : Moment). moment.retried)) (moment-at r (length r.trace) t l) in
@@ -116,7 +122,8 @@ release-old r s a t grows l =
     λ i. ends i || one i || two i
 
 -- what has held since is the same where the gains and losses are
-since-same : (gain gain' loss loss' : ℕ → Bool) (n : ℕ) → ((c : ℕ) → c < n → gain c ≡ gain' c) → ((c : ℕ) → c < n → loss c ≡ loss' c)
+since-same : (gain gain' loss loss' : ℕ → Bool) (n : ℕ) → ((c : ℕ) → c < n → gain c ≡ gain' c)
+    → ((c : ℕ) → c < n → loss c ≡ loss' c)
     → holds_since gain loss n ≡ holds_since gain' loss' n
 unfolding holds_since from_clock
 since-same gain gain' loss loss' n a b =
@@ -131,13 +138,16 @@ released-old : (r s : Run) (a t : ℕ) → GrowsTo r s → t < length r.trace
 unfolding is_released_before
 released-old r s a t grows l = ap (λ b. nat_le 1 t && b) (release-old r s a (t - 1) grows (omega arith))
 
-keeps-old : (r s : Run) (a c : ℕ) → GrowsTo r s → c < length r.trace → keeps_lock (past_of s) c a ≡ keeps_lock (past_of r) c a
+keeps-old : (r s : Run) (a c : ℕ) → GrowsTo r s → c < length r.trace
+    → keeps_lock (past_of s) c a ≡ keeps_lock (past_of r) c a
 unfolding keeps_lock
 keeps-old r s a c grows l =
     since-same (is_locked_request (past_of s) a) (is_locked_request (past_of r) a) (is_released_before (past_of s) a)
-    (is_released_before (past_of r) a) (c + 1) (λ t m. locked-same r s a t grows (omega arith)) (λ t m. released-old r s a t grows (omega arith))
+    (is_released_before (past_of r) a) (c + 1) (λ t m. locked-same r s a t grows (omega arith))
+    (λ t m. released-old r s a t grows (omega arith))
 
-into-old : (r s : Run) (a c : ℕ) → GrowsTo r s → c ≤ length r.trace → keeps_into (past_of s) c a ≡ keeps_into (past_of r) c a
+into-old : (r s : Run) (a c : ℕ) → GrowsTo r s → c ≤ length r.trace
+    → keeps_into (past_of s) c a ≡ keeps_into (past_of r) c a
 unfolding keeps_into
 into-old r s a zero grows l = refl
 into-old r s a (suc c) grows l =

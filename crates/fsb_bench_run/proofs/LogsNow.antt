@@ -1,6 +1,8 @@
 -- The log of a bench's clock has what is completed there. What the end of the clock completes is told of a timely run:
--- so of the run with the accesses of the arrivals as its entries, in which the end is the same, and so are the arrivals.
-use Rattle.std.proofs.Common.{ℕ, ◌+◌, ◌≡◌, ◌||◌, Bool, true, false, nat_eq, Option, Some, None, List, [], ◌∷◌, ◌++◌, map, refl, sym, ap, ◌∙◌, inl, inr, arith}
+-- so of the run with the accesses of the arrivals as its entries, in which the end is the same, and so are the
+-- arrivals.
+use Rattle.std.proofs.Common.{ℕ, ◌+◌, ◌≡◌, ◌||◌, Bool, true, false, nat_eq, Option, Some, None, List, [], ◌∷◌, ◌++◌}
+use Rattle.std.proofs.Common.{map, refl, sym, ap, ◌∙◌, inl, inr, arith}
 use Rattle.std.specs.List.{list_all, list_any}
 use Rattle.std.specs.Option.{option_map_or}
 use Rattle.std.proofs.lemmas.Bool.{and_from, and_parts, both_ways, cases_Bool, eq-eqb, eqb-true, false_from_ne_true}
@@ -11,7 +13,8 @@ use Rattle.fsb_access.specs.declared.log.Done.{Done}
 use Rattle.fsb_access.specs.ScriptOrder.{Step, steps_of_item}
 use Rattle.fsb_hazard.specs.declared.choice.Choice.{Choice}
 use Rattle.fsb_run_laws.specs.Reaches.{Reaches}
-use Rattle.fsb_timely.specs.Completions.{Completed, completed_if, completed_of_item, is_arrival, logs_completions, next_accesses, of_all_agents}
+use Rattle.fsb_timely.specs.Completions.{Completed, completed_if, completed_of_item, is_arrival, logs_completions}
+use Rattle.fsb_timely.specs.Completions.{next_accesses, of_all_agents}
 use Rattle.fsb_timely.specs.Growth.{GrowsTo}
 use Rattle.fsb_timely.specs.Hits.{is_hit}
 use Rattle.fsb_timely.specs.Past.{Past}
@@ -20,7 +23,8 @@ use Rattle.fsb_timely.specs.Scripts.{is_done_at, next_item, next_number}
 use Rattle.fsb_timely.specs.Timely.{Timely, holds_at}
 use Rattle.fsb_timely.proofs.Interface.{is_hit-alike, past-goes_on}
 use Rattle.fsb_bench_view.specs.declared.beginning.Starting.{Starting}
-use Rattle.fsb_bench_view.specs.BenchSteps.{step_answered, step_decided, step_ending, step_entries, step_fetched, step_run, step_sample}
+use Rattle.fsb_bench_view.specs.BenchSteps.{step_answered, step_decided, step_ending, step_entries, step_fetched}
+use Rattle.fsb_bench_view.specs.BenchSteps.{step_run, step_sample}
 use Rattle.fsb_bench_view.specs.BusEvents.{end_entries}
 use Rattle.fsb_bench_view.specs.BusViews.{BenchView, next_clock_of}
 use Rattle.fsb_bench_view.specs.ToldAgents.{hit_entries}
@@ -72,7 +76,8 @@ unfolding next_accesses
 none-of-next p a b n other = by (next_number p b n)
   where
     by : (o : Option ℕ) → list_any (is_done_at a n)
-        (map (entry_at n) (option_map_or (λ m. option_map_or (completed_of_item b m) (next_item p b n) []) o [])) ≡ false
+        (map (entry_at n) (option_map_or (λ m. option_map_or (completed_of_item b m) (next_item p b n) []) o
+        [])) ≡ false
     by None = refl
     by (Some m) = none-of-item a b n m (next_item p b n) other
 

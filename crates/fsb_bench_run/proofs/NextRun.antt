@@ -1,5 +1,6 @@
 -- The run with one more clock of a bench goes on from the run.
-use Rattle.std.proofs.Common.{ℕ, slice_get, if◌then◌else◌, ◌+◌, ◌≡◌, Bool, true, false, nat_eq, is_some, Option, Some, None, List, [], ◌∷◌, ◌++◌, length, refl, sym, ap, ◌∙◌, arith}
+use Rattle.std.proofs.Common.{ℕ, slice_get, if◌then◌else◌, ◌+◌, ◌≡◌, Bool, true, false, nat_eq, is_some, Option, Some}
+use Rattle.std.proofs.Common.{None, List, [], ◌∷◌, ◌++◌, length, refl, sym, ap, ◌∙◌, arith}
 use Rattle.std.specs.List.{list_all}
 use Rattle.std.specs.Option.{option_map_or}
 use Rattle.std.proofs.lemmas.Bool.{and_from, and_parts, eq-eqb}
@@ -25,7 +26,8 @@ use Rattle.fsb_trace.specs.declared.outcome.Outcome.{Outcome}
 use Rattle.fsb_trace.specs.declared.outcome.Outcome.TheVariants as outcomes
 use Rattle.fsb_bench_view.specs.declared.beginning.Starting.{Starting}
 use Rattle.fsb_bench_view.specs.declared.decided.Ending.{Ending}
-use Rattle.fsb_bench_view.specs.BenchSteps.{step_answered, step_decided, step_ending, step_entries, step_fetched, step_performed, step_run, step_sample}
+use Rattle.fsb_bench_view.specs.BenchSteps.{step_answered, step_decided, step_ending, step_entries, step_fetched}
+use Rattle.fsb_bench_view.specs.BenchSteps.{step_performed, step_run, step_sample}
 use Rattle.fsb_bench_view.specs.BusEvents.{end_entries, end_event, entries_ended, entries_of_event}
 use Rattle.fsb_bench_view.specs.BusViews.{BenchView, BusView, next_clock_of}
 use Rattle.fsb_bench_view.specs.ToldAgents.{hit_entries}
@@ -43,7 +45,8 @@ of-both clock (x ∷ xs) ys h k =
     and_from (nat_eq x.clock clock) (list_all (λ (done : Done). nat_eq done.clock clock) (xs ++ ys)) parts.0
     (of-both clock xs ys parts.1 k)
 
-of-steps : (agent clock : ℕ) (hand : AtHand) (steps : List Step) → AreOfClock clock (entries_at_hand agent clock hand steps)
+of-steps : (agent clock : ℕ) (hand : AtHand) (steps : List Step)
+    → AreOfClock clock (entries_at_hand agent clock hand steps)
 of-steps agent clock hand [] = refl
 of-steps agent clock hand (step ∷ steps) =
     rw (eq-eqb clock clock refl) (of-steps agent clock (hand_after hand step.access) steps)
@@ -56,9 +59,11 @@ of-hit-if v clock false = refl
 of-hits : (clock : ℕ) (agents : List AgentView) → AreOfClock clock (hit_entries clock agents)
 of-hits clock [] = refl
 of-hits clock (v ∷ vs) =
-    of-both clock (performed_entries v clock) (hit_entries clock vs) (of-hit-if v clock (is_hit_by v clock)) (of-hits clock vs)
+    of-both clock (performed_entries v clock) (hit_entries clock vs) (of-hit-if v clock (is_hit_by v clock))
+    (of-hits clock vs)
 
-of-met : (v : AgentView) (clock : ℕ) (out : OwnRequest) (bytes : List ℕ) → AreOfClock clock (met_entries v clock out bytes)
+of-met : (v : AgentView) (clock : ℕ) (out : OwnRequest) (bytes : List ℕ)
+    → AreOfClock clock (met_entries v clock out bytes)
 of-met v clock out bytes = of-hit-if (with_bytes v out.request.line bytes) clock (is_arrival_by v clock out)
 
 of-arrived : (v : AgentView) (clock : ℕ) (bytes : List ℕ) (o : Option OwnRequest)
@@ -92,7 +97,8 @@ of-end : (clock first : ℕ) (bytes : List ℕ) (outcome : Outcome) (o : Option 
 of-end clock first bytes outcome None = refl
 of-end clock first bytes outcome (Some v) = of-outcome v clock first bytes outcome
 
-of-ending : (bus : BusView) (clock : ℕ) (o : Option Ending) → AreOfClock clock (option_map_or (end_entries bus clock) o [])
+of-ending : (bus : BusView) (clock : ℕ) (o : Option Ending)
+    → AreOfClock clock (option_map_or (end_entries bus clock) o [])
 of-ending bus clock None = refl
 of-ending bus clock (Some ending) =
     of-end clock ending.served.first bus.moved ending.outcome (slice_get bus.agents ending.served.agent)
@@ -101,7 +107,8 @@ pub entries-now : (v : BenchView) (hold : Bool) → AreOfClock (next_clock_of v)
 entries-now v hold =
     of-both (next_clock_of v) (hit_entries (next_clock_of v) (step_fetched v).agents)
     (option_map_or (end_entries (step_answered v hold) (next_clock_of v)) (step_ending v hold) [])
-    (of-hits (next_clock_of v) (step_fetched v).agents) (of-ending (step_answered v hold) (next_clock_of v) (step_ending v hold))
+    (of-hits (next_clock_of v) (step_fetched v).agents)
+    (of-ending (step_answered v hold) (next_clock_of v) (step_ending v hold))
 
 pub next-run : (v : BenchView) (hold : Bool) (choice : Choice) → IsNext v.run (step_run v hold choice)
 next-run v hold choice = record {
@@ -133,7 +140,8 @@ counted w n false e = count_where-failed (line_at ADS w) n e
 pub begins-now : (v : BenchView) (hold : Bool) (choice : Choice)
     → line_at ADS (step_run v hold choice).trace (next_clock_of v) ≡ is_some (step_decided v hold).starting
 begins-now v hold choice =
-    line-new v hold choice ADS ∙ ads-driven (step_performed v) (next_clock_of v) v.run.plan.profile (step_decided v hold)
+    line-new v hold choice ADS
+    ∙ ads-driven (step_performed v) (next_clock_of v) v.run.plan.profile (step_decided v hold)
 
 pub whole-run : (v : BenchView) (hold : Bool) (choice : Choice) → IsBenchOf v → IsWhole (step_run v hold choice)
 unfolding requests_below
@@ -145,7 +153,8 @@ whole-run v hold choice b =
     let size : length s.trace ≡ n + 1 = length-append r.trace (x ∷ []) in
     let holds : length s.holds ≡ length r.holds + 1 = length-append r.holds (hold ∷ []) in
     let one = b.timely.one_hold in
-    let choices = length-append r.choices (option_map_or (λ (starting : Starting). choice ∷ []) (step_decided v hold).starting []) in
+    let choices = length-append r.choices
+    (option_map_or (λ (starting : Starting). choice ∷ []) (step_decided v hold).starting []) in
     let old : count_where (line_at ADS r.trace) n ≡ count_where (line_at ADS s.trace) n =
     count_where-same (line_at ADS r.trace) (line_at ADS s.trace) n
     (record { same = λ d m. sym (line_at-old ADS r.trace x s.trace d (one_more r.trace x) m) }) in
@@ -155,7 +164,8 @@ whole-run v hold choice b =
       one_hold = omega arith;
       one_choice =
           choices
-          ∙ ap (λ k. k + length (option_map_or (λ (starting : Starting). choice ∷ []) (step_decided v hold).starting []))
+          ∙ ap (λ k. k + length
+          (option_map_or (λ (starting : Starting). choice ∷ []) (step_decided v hold).starting []))
           (b.timely.one_choice ∙ old)
           ∙ one-if choice (step_decided v hold).starting (count_where (line_at ADS s.trace) n)
           (count_where (line_at ADS s.trace) (n + 1)) (is_some (step_decided v hold).starting) refl more

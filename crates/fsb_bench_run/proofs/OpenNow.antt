@@ -1,5 +1,7 @@
 -- Which requests of others are open at a bench's clock: those of the queue that have no outcome.
-use Rattle.std.proofs.Common.{ℕ, zero, suc, ◌+◌, ◌/◌, ◌<◌, ◌≤◌, ◌≡◌, ◌&&◌, ◌||◌, Bool, true, false, not, if◌then◌else◌, is_none, is_some, nat_eq, List, [], ◌∷◌, Option, Some, None, length, map, slice_get, take, refl, sym, ap, ◌∙◌, arith, inl, inr}
+use Rattle.std.proofs.Common.{ℕ, zero, suc, ◌+◌, ◌/◌, ◌<◌, ◌≤◌, ◌≡◌, ◌&&◌, ◌||◌, Bool, true, false, not, if◌then◌else◌}
+use Rattle.std.proofs.Common.{is_none, is_some, nat_eq, List, [], ◌∷◌, Option, Some, None, length, map, slice_get, take}
+use Rattle.std.proofs.Common.{refl, sym, ap, ◌∙◌, arith, inl, inr}
 use Rattle.std.specs.List.{filter, filter_map, list_any}
 use Rattle.std.specs.Option.{option_and_then, option_map, option_map_or}
 use Rattle.std.proofs.lemmas.Bool.{cases_Bool, eq-eqb, eqb-true}
@@ -26,7 +28,8 @@ use Rattle.fsb_timely.specs.Past.{Claim, Moment, Owing, Past, SnoopEnd}
 use Rattle.fsb_timely.specs.Runs.{Run, moments_below, past_of, past_to, run_to}
 use Rattle.fsb_timely.specs.Starts.{would_begin}
 use Rattle.fsb_timely.specs.Wants.{is_open_to_other, unsnooped_at, want_of}
-use Rattle.fsb_timely.proofs.Interface.{begun-told, below_le, done_below, moment-at, moment_of, past-begins, snoop-tied, tied-snoop, want_of-alike}
+use Rattle.fsb_timely.proofs.Interface.{begun-told, below_le, done_below, moment-at, moment_of, past-begins, snoop-tied}
+use Rattle.fsb_timely.proofs.Interface.{tied-snoop, want_of-alike}
 use Rattle.fsb_trace.specs.At.{Trace}
 use Rattle.fsb_trace.specs.Flight.{in_flight}
 use Rattle.fsb_trace.specs.Requests.{is_live, line_of, live_clock_of}

@@ -1,8 +1,10 @@
 -- What an agent completes where its request ends is what the run completes by an arrival there.
-use Rattle.std.proofs.Common.{ℕ, ◌+◌, ◌<◌, ◌≡◌, ◌≢◌, ◌⊎◌, Bool, true, false, ◌||◌, ◌&&◌, if◌then◌else◌, Option, Some, None, List, [], map, refl, sym, ap, subst, ◌∙◌, arith, inl, inr}
+use Rattle.std.proofs.Common.{ℕ, ◌+◌, ◌<◌, ◌≡◌, ◌≢◌, ◌⊎◌, Bool, true, false, ◌||◌, ◌&&◌, if◌then◌else◌, Option, Some}
+use Rattle.std.proofs.Common.{None, List, [], map, refl, sym, ap, subst, ◌∙◌, arith, inl, inr}
 use Rattle.fsb_agent_run.specs.Ending.{EndsFor, NothingEndsFor, number_left, number_replied}
 use Rattle.fsb_agent_run.specs.Stages.{IsViewAfterSnoop}
-use Rattle.fsb_agent_run.proofs.Interface.{IsSettledAs, arrived-entries, settled-as, ungranted, ungranted-arrival, upgrade-entries}
+use Rattle.fsb_agent_run.proofs.Interface.{IsSettledAs, arrived-entries, settled-as, ungranted, ungranted-arrival}
+use Rattle.fsb_agent_run.proofs.Interface.{upgrade-entries}
 use Rattle.fsb_agent_view.specs.AgentViews.{AgentView}
 use Rattle.fsb_agent_view.specs.Arriving.{arrived_entries}
 use Rattle.fsb_agent_view.specs.Snooping.{kind_asks}
@@ -25,7 +27,8 @@ use Rattle.fsb_timely.specs.Past.{Claim, Grant, Past, SnoopEnd}
 use Rattle.fsb_timely.specs.Runs.{Run, past_of}
 use Rattle.fsb_trace.specs.Outcome.{is_deferral}
 use Rattle.fsb_trace.specs.declared.outcome.Outcome.{Outcome}
-use Rattle.fsb_trace.specs.declared.outcome.Outcome.TheVariants.{Granted, Handed, Retried, Deferred, Written, Replied, Failed, Upgraded}
+use Rattle.fsb_trace.specs.declared.outcome.Outcome.TheVariants.{Granted, Handed, Retried, Deferred, Written, Replied}
+use Rattle.fsb_trace.specs.declared.outcome.Outcome.TheVariants.{Failed, Upgraded}
 use Rattle.fsb_bench_view.specs.declared.snoop.Served.{Served}
 use Rattle.fsb_bench_view.specs.BusEvents.{entries_ended}
 use Rattle.fsb_bench_run.proofs.ArrivalsNow.{quiet-completes}
@@ -78,7 +81,8 @@ unfolding number_left
 claims-or-grants p a n number end e = by end.claim refl
   where
     by : (o : Option Claim) → end.claim ≡ o
-        → ((claim : Claim) × (end.claim ≡ Some claim)) ⊎ ((grant : Grant) × (end.claim ≡ None) × (end.grant ≡ Some grant))
+        → ((claim : Claim) × (end.claim ≡ Some claim))
+        ⊎ ((grant : Grant) × (end.claim ≡ None) × (end.grant ≡ Some grant))
     by (Some claim) claims = inl (claim, claims)
     by None none =
         let f = rw (none, number_left) at e in
@@ -96,7 +100,8 @@ pub record IsRepliedGrant (end : SnoopEnd) : Type 0 where
   grants : end.grant ≡ Some grant
   replied : end.outcome ≡ Replied
 
-pub settled-or-replied : (s : Run) (a n number : ℕ) (end : SnoopEnd) → Reaches s (n + 1) → EndsFor (past_of s) a n number end
+pub settled-or-replied : (s : Run) (a n number : ℕ) (end : SnoopEnd) → Reaches s (n + 1)
+    → EndsFor (past_of s) a n number end
     → IsOwnSettled s end ⊎ IsRepliedGrant end
 settled-or-replied s a n number end h ends =
     let below = snooped-when (past_of s) (n + 1) ends.first end ends.snooped in
@@ -137,7 +142,8 @@ got-makes kinds.WriteBack outcome got fits = absurd (unwritten outcome got fits)
 got-makes kinds.Upgrade outcome got fits = got
 
 -- a request of an agent is neither Replied nor Failed
-never-so : (kind : Kind) (outcome : Outcome) → (outcome ≡ Replied) ⊎ (outcome ≡ Failed) → fits_kind kind outcome ≡ true → ⊥
+never-so : (kind : Kind) (outcome : Outcome) → (outcome ≡ Replied) ⊎ (outcome ≡ Failed)
+    → fits_kind kind outcome ≡ true → ⊥
 unfolding fits_kind fits_getting fits_upgrade fits_write_back
 never-so kinds.Reply outcome which e = cc
 never-so kinds.Invalidate outcome (inl f) e = let e' = rw f at e in cc

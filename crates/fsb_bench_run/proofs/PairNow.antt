@@ -18,22 +18,27 @@ use Rattle.fsb_access.specs.declared.log.Done.{Done}
 use Rattle.fsb_bench_run.proofs.RunWith.{run_with}
 use Rattle.fsb_bench_run.proofs.StepWith.{IsStepWith, begins-with}
 
-pub pair-due-now : (v : BenchView) (hold : Bool) (choice : Choice) (entries : List Done) → IsStepWith v hold choice entries
+pub pair-due-now : (v : BenchView) (hold : Bool) (choice : Choice) (entries : List Done)
+    → IsStepWith v hold choice entries
     → IsPairDue (run_with v hold choice entries) (next_clock_of v) (step_pair v hold)
 pair-due-now v hold choice entries b =
-    subst (λ latest. IsPairDue (run_with v hold choice entries) (next_clock_of v) (pair_driven latest (next_clock_of v) (step_decided v hold).starting))
+    subst (λ latest. IsPairDue (run_with v hold choice entries) (next_clock_of v)
+    (pair_driven latest (next_clock_of v) (step_decided v hold).starting))
     (sym (performed-begun v).latest)
-    (pair-due-by v.run (run_with v hold choice entries) v.bus.latest (step_decided v hold).starting b.bench.bounds b.grows b.bench.latest
+    (pair-due-by v.run (run_with v hold choice entries) v.bus.latest (step_decided v hold).starting
+    b.bench.bounds b.grows b.bench.latest
     (begins-with v hold choice entries) (λ starting e. starting-begins v hold choice entries starting b e))
 
 due-shown : (s : Run) (n : ℕ) (pair : Pair) → pair_due s (past_of s) n ≡ Some pair
     → known_pair_at s.trace n ≡ Some pair → drives_pair s (past_of s) n ≡ true
 unfolding drives_pair is_some_and is_pair
-due-shown s n pair e f = rw (e, f, is_some_and, is_pair) (and_from (nat_eq pair.addr pair.addr) (nat_eq pair.req pair.req) (eq-eqb pair.addr pair.addr refl)
+due-shown s n pair e f = rw (e, f, is_some_and, is_pair)
+    (and_from (nat_eq pair.addr pair.addr) (nat_eq pair.req pair.req) (eq-eqb pair.addr pair.addr refl)
     (eq-eqb pair.req pair.req refl))
 
 -- the words are as they must be
-pub drives-pair-now : (v : BenchView) (hold : Bool) (choice : Choice) (entries : List Done) → IsStepWith v hold choice entries
+pub drives-pair-now : (v : BenchView) (hold : Bool) (choice : Choice) (entries : List Done)
+    → IsStepWith v hold choice entries
     → drives_pair (run_with v hold choice entries) (past_of (run_with v hold choice entries)) (next_clock_of v) ≡ true
 drives-pair-now v hold choice entries b =
     let k = pair-due-now v hold choice entries b in

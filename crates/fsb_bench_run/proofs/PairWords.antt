@@ -1,7 +1,10 @@
 -- The words that are due at a clock, and those that a bench shows there.
-use Rattle.std.proofs.Common.{ℕ, suc, ◌+◌, ◌-◌, ◌*◌, ◌%◌, ◌^◌, ◌<◌, ◌≤◌, ◌≡◌, ◌&&◌, ◌==◌, Bool, true, false, not, nat_eq, nat_le, nat_lt, Option, Some, None, List, is_some, length, if◌then◌else◌, refl, sym, ap, ◌∙◌, arith}
+use Rattle.std.proofs.Common.{ℕ, suc, ◌+◌, ◌-◌, ◌*◌, ◌%◌, ◌^◌, ◌<◌, ◌≤◌, ◌≡◌, ◌&&◌, ◌==◌, Bool, true, false, not}
+use Rattle.std.proofs.Common.{nat_eq, nat_le, nat_lt, Option, Some, None, List, is_some, length, if◌then◌else◌, refl}
+use Rattle.std.proofs.Common.{sym, ap, ◌∙◌, arith}
 use Rattle.std.specs.Option.{option_and_then, option_map}
-use Rattle.std.proofs.lemmas.Bool.{and_from, and_parts, eq-eqb, eqb-false, eqb-true, false_from_ne_true, le-leb, leb-true, ltb-true}
+use Rattle.std.proofs.lemmas.Bool.{and_from, and_parts, eq-eqb, eqb-false, eqb-true, false_from_ne_true, le-leb}
+use Rattle.std.proofs.lemmas.Bool.{leb-true, ltb-true}
 use Rattle.std.proofs.Math.Nat.{mod-eq_of_lt}
 use Rattle.fsb_count.specs.Clocks.{last_where}
 use Rattle.fsb_encode.specs.Request.{are_lawful_fields, clocks, den_bit, high_bit, is_lawful_request, pairs_of, row_of}
@@ -137,7 +140,8 @@ back-parts s n e =
     (leb-true 1 n p.0, p.1)
 
 pub begun-before : (s : Run) (n q : ℕ) (request : Request) → q + 1 ≡ n
-    → request_begun (run_to s q) (past_to (past_of s) q) q ≡ Some request → request_begun_before s (past_of s) n ≡ Some request
+    → request_begun (run_to s q) (past_to (past_of s) q) q ≡ Some request
+    → request_begun_before s (past_of s) n ≡ Some request
 unfolding request_begun_before
 begun-before s n q request e f =
     let one : n - 1 ≡ q = omega arith in
@@ -165,7 +169,8 @@ due-latest r s None bounds grows k off =
     record { due = due-none s n off back; fits = none-fits }
 due-latest r s (Some l) bounds grows k off = by (l.clock + 1 == length r.trace) refl
   where
-    by : (b : Bool) → (l.clock + 1 == length r.trace) ≡ b → IsPairDue s (length r.trace) (if l.clock + 1 == length r.trace then (pairs_of l.request).1 else no_pair)
+    by : (b : Bool) → (l.clock + 1 == length r.trace) ≡ b
+        → IsPairDue s (length r.trace) (if l.clock + 1 == length r.trace then (pairs_of l.request).1 else no_pair)
     by true e =
         let n = length r.trace in
         let before : l.clock + 1 ≡ n = eqb-true (l.clock + 1) n e in
@@ -174,7 +179,8 @@ due-latest r s (Some l) bounds grows k off = by (l.clock + 1 == length r.trace) 
         let begun = begun-request s l.clock l.who l.request (omega arith) b in
         let lawful = begun-lawful s l.clock l.who l.request bounds (omega arith) b in
         rw e (record {
-          due = due-second s n l.request off (back-true s n l.clock before b.begins) (begun-before s n l.clock l.request before begun);
+          due = due-second s n l.request off (back-true s n l.clock before b.begins)
+              (begun-before s n l.clock l.request before begun);
           fits = (lawful-fits l.request lawful).1;
         })
     by false e =
@@ -193,7 +199,8 @@ due-latest r s (Some l) bounds grows k off = by (l.clock + 1 == length r.trace) 
         rw e (record { due = due-none s n off back; fits = none-fits })
 
 -- the words that the bench drives are due
-pub pair-due-by : (r s : Run) (latest : Option Latest) (o : Option Starting) → KeepsBounds s.plan → GrowsTo r s → IsLatestOf latest r
+pub pair-due-by : (r s : Run) (latest : Option Latest) (o : Option Starting) → KeepsBounds s.plan → GrowsTo r s
+    → IsLatestOf latest r
     → line_at ADS s.trace (length r.trace) ≡ is_some o
     → ((starting : Starting) → o ≡ Some starting → IsBegunAt s (length r.trace) starting.who starting.request)
     → IsPairDue s (length r.trace) (pair_driven latest (length r.trace) o)
@@ -211,14 +218,16 @@ abbrev pub step_pair : BenchView → Bool → Pair
 step_pair v hold = pair_driven (step_performed v).latest (next_clock_of v) (step_decided v hold).starting
 
 -- the words that the sample shows
-shown-pair : (x : Sample) (pair : Pair) → x.addr.bits ≡ pair.addr → x.req.bits ≡ pair.req → x.addr.unknown ≡ 0 → x.req.unknown ≡ 0
+shown-pair : (x : Sample) (pair : Pair) → x.addr.bits ≡ pair.addr → x.req.bits ≡ pair.req → x.addr.unknown ≡ 0
+    → x.req.unknown ≡ 0
     → known_pair x ≡ Some pair
 unfolding known_pair
 shown-pair x pair a q u w =
     let known : (x.addr.unknown == 0 && (x.req.unknown == 0)) ≡ true = and_from _ _ (eq-eqb _ _ u) (eq-eqb _ _ w) in
     rw (known, known_pair) (λ i. Some (record { addr = a i; req = q i }))
 
-pub pair-shown : (v : BenchView) (hold : Bool) (choice : Choice) (entries : List Done) (pair : Pair) → FitsWords pair → step_pair v hold ≡ pair
+pub pair-shown : (v : BenchView) (hold : Bool) (choice : Choice) (entries : List Done) (pair : Pair)
+    → FitsWords pair → step_pair v hold ≡ pair
     → known_pair_at (run_with v hold choice entries).trace (next_clock_of v) ≡ Some pair
 unfolding known_pair_at
 pair-shown v hold choice entries pair fits e =

@@ -1,5 +1,6 @@
 -- The parity lines of the clock are as they must.
-use Rattle.std.proofs.Common.{ℕ, ◌+◌, ◌/◌, ◌%◌, ◌^◌, ◌≡◌, ◌&&◌, ◌||◌, Bool, true, false, not, nat_eq, Some, List, is_some, if◌then◌else◌, slice_get, refl, sym, ap, ◌∙◌, arith}
+use Rattle.std.proofs.Common.{ℕ, ◌+◌, ◌/◌, ◌%◌, ◌^◌, ◌≡◌, ◌&&◌, ◌||◌, Bool, true, false, not, nat_eq, Some, List}
+use Rattle.std.proofs.Common.{is_some, if◌then◌else◌, slice_get, refl, sym, ap, ◌∙◌, arith}
 use Rattle.std.specs.Int.RustNames.{count_ones}
 use Rattle.std.proofs.lemmas.Bool.{and_from, eq-eqb, eqb-false, eqb-true}
 use Rattle.std.proofs.Math.Nat.{mod-eq_of_lt}
@@ -45,23 +46,27 @@ evens-two j k b e =
     ap (λ n. is_even n) same ∙ evens (j + k) b e
 
 -- in profile 2
-even-by : (x : Sample) (pair : Pair) (ads : Bool) → x.addr.bits ≡ pair.addr → x.req.bits ≡ pair.req → has_line x ADS ≡ ads
+even-by : (x : Sample) (pair : Pair) (ads : Bool) → x.addr.bits ≡ pair.addr → x.req.bits ≡ pair.req
+    → has_line x ADS ≡ ads
     → has_line x AP0 ≡ not (is_even (count_ones (pair.addr % 2 ^ 21)))
     → has_line x AP1 ≡ not (is_even (count_ones (pair.addr / 2 ^ 21)))
     → has_line x RP ≡ not (is_even ((if ads then 1 else 0) + count_ones pair.req)) → is_even_sample x ≡ true
 unfolding is_even_sample
 even-by x pair ads a q s low high req =
     let one : is_low_address_even x ≡ true =
-    evens (count_ones (x.addr.bits % 2 ^ 21)) (has_line x AP0) (low ∙ ap (λ n. not (is_even (count_ones (n % 2 ^ 21)))) (sym a)) in
+    evens (count_ones (x.addr.bits % 2 ^ 21)) (has_line x AP0) (low
+    ∙ ap (λ n. not (is_even (count_ones (n % 2 ^ 21)))) (sym a)) in
     let two : is_high_address_even x ≡ true =
-    evens (count_ones (x.addr.bits / 2 ^ 21)) (has_line x AP1) (high ∙ ap (λ n. not (is_even (count_ones (n / 2 ^ 21)))) (sym a)) in
+    evens (count_ones (x.addr.bits / 2 ^ 21)) (has_line x AP1) (high
+    ∙ ap (λ n. not (is_even (count_ones (n / 2 ^ 21)))) (sym a)) in
     let three : is_request_even x ≡ true =
     evens-two (bit_of x ADS) (count_ones x.req.bits) (has_line x RP)
     (req ∙ (λ i. not (is_even ((if sym s i then 1 else 0) + count_ones (sym q i))))) in
     and_from (is_low_address_even x && is_high_address_even x) (is_request_even x)
     (and_from (is_low_address_even x) (is_high_address_even x) one two) three
 
-none-by : (x : Sample) → has_line x AP0 ≡ false → has_line x AP1 ≡ false → has_line x RP ≡ false → has_no_parity x ≡ true
+none-by : (x : Sample) → has_line x AP0 ≡ false → has_line x AP1 ≡ false → has_line x RP ≡ false
+    → has_no_parity x ≡ true
 none-by x a b c = λ i. not (a i || b i || c i)
 
 parity-by : (x : Sample) (pair : Pair) (ads : Bool) (profile : ℕ) → x.addr.bits ≡ pair.addr → x.req.bits ≡ pair.req
@@ -71,7 +76,8 @@ parity-by : (x : Sample) (pair : Pair) (ads : Bool) (profile : ℕ) → x.addr.b
 parity-by x pair ads profile a q s low high req = by (nat_eq profile 2) refl low high req
   where
     by : (b : Bool) → nat_eq profile 2 ≡ b → has_line x AP0 ≡ bit_in (parity_bits profile pair ads) 0
-        → has_line x AP1 ≡ bit_in (parity_bits profile pair ads) 1 → has_line x RP ≡ bit_in (parity_bits profile pair ads) 2
+        → has_line x AP1 ≡ bit_in (parity_bits profile pair ads) 1
+        → has_line x RP ≡ bit_in (parity_bits profile pair ads) 2
         → (if nat_eq profile 2 then is_even_sample else has_no_parity) x ≡ true
     by true e low high req =
         let l = rw e at low in
@@ -85,12 +91,14 @@ parity-by x pair ads profile a q s low high req = by (nat_eq profile 2) refl low
         rw e (none-by x l h r)
 
 parity-shown : (s : Run) (n : ℕ) (x : Sample) → slice_get s.trace n ≡ Some x
-    → (if nat_eq s.plan.profile 2 then is_even_sample else has_no_parity) x ≡ true → drives_parity s (past_of s) n ≡ true
+    → (if nat_eq s.plan.profile 2 then is_even_sample else has_no_parity) x ≡ true
+    → drives_parity s (past_of s) n ≡ true
 unfolding drives_parity is_some_and
 parity-shown s n x at e = rw (at, is_some_and) e
 
 -- the parity lines are as they must
-pub parity-now : (v : BenchView) (hold : Bool) (choice : Choice) (entries : List Done) → IsStepWith v hold choice entries
+pub parity-now : (v : BenchView) (hold : Bool) (choice : Choice) (entries : List Done)
+    → IsStepWith v hold choice entries
     → holds_at drives_parity (run_with v hold choice entries) (next_clock_of v) ≡ true
 parity-now v hold choice entries b =
     let s = run_with v hold choice entries in

@@ -1,5 +1,6 @@
 -- The queue after a clock of a bench.
-use Rattle.std.proofs.Common.{ℕ, zero, suc, ◌≡◌, Bool, Option, Some, None, List, [], ◌∷◌, ◌++◌, length, map, is_some, if◌then◌else◌, refl, sym, ap, ◌∙◌, arith, inl, inr, subst}
+use Rattle.std.proofs.Common.{ℕ, zero, suc, ◌≡◌, Bool, Option, Some, None, List, [], ◌∷◌, ◌++◌, length, map, is_some}
+use Rattle.std.proofs.Common.{if◌then◌else◌, refl, sym, ap, ◌∙◌, arith, inl, inr, subst}
 use Rattle.std.specs.List.{slice_get}
 use Rattle.std.specs.Option.{option_map, option_map_or}
 use Rattle.std.proofs.lemmas.List.{length-map}
@@ -36,7 +37,8 @@ use Rattle.fsb_phase_run.proofs.Interface.{agree-grown, outcome-settled, queue-g
 use Rattle.fsb_bench_view.specs.declared.beginning.Starting.{Starting}
 use Rattle.fsb_bench_view.specs.declared.beginning.Started.{Started}
 use Rattle.fsb_bench_view.specs.declared.snoop.SnoopSettled.{SnoopSettled}
-use Rattle.fsb_bench_view.specs.BenchSteps.{outcome_snooped, step_begun, step_decided, step_entries, step_performed, step_queue, step_run, step_sample}
+use Rattle.fsb_bench_view.specs.BenchSteps.{outcome_snooped, step_begun, step_decided, step_entries, step_performed}
+use Rattle.fsb_bench_view.specs.BenchSteps.{step_queue, step_run, step_sample}
 use Rattle.fsb_bench_view.specs.BusEvents.{entry_started}
 use Rattle.fsb_bench_view.specs.BusViews.{BenchView, BusView, next_clock_of}
 use Rattle.fsb_bench_view.specs.MaySteps.{HasFlightOf, MaySample}
@@ -68,7 +70,14 @@ orderly-run r timely = by r.trace refl
 
 phases-stand : (r : Run) → Timely r → Stands (phases-of r.trace) r.trace
 unfolding phases-of
-phases-stand r timely = record { snooped = refl; from = refl; ready = refl; response = refl; transfer = refl; orderly = orderly-run r timely }
+phases-stand r timely = record {
+  snooped = refl;
+  from = refl;
+  ready = refl;
+  response = refl;
+  transfer = refl;
+  orderly = orderly-run r timely;
+}
 
 begun-clocks : (bus : BusView) (clock : ℕ) (choice : Choice) (o : Option Starting)
     → map (λ (e : Entry). e.clock) (begun_list (option_map (λ starting. entry_started bus clock starting choice) o))
@@ -213,7 +222,8 @@ queue-next v hold choice b told may grows =
     let outcome = outcome_snooped (step_decided v hold) in
     let takes : MayTake (next_clock_of v) x v.bus.queue (turns_in (past_of r).moments) r.trace =
     record { clock_is = refl; flight = b.requests.flight; answers = code-now v hold; spaced = may.spaced } in
-    let flight = goes_on-holds (phases-of r.trace) r.trace (next_clock_of v) x v.bus.queue new (turns_in (past_of r).moments)
+    let flight = goes_on-holds (phases-of r.trace) r.trace (next_clock_of v) x v.bus.queue new
+    (turns_in (past_of r).moments)
     (turns_in (past_of s).moments) outcome (phases-stand r b.timely) takes (turns-taken v hold choice b told grows) in
     let same = sample-grown v hold choice (step_entries v hold) grows in
     subst (λ y. HoldsRequests (goes_on r.trace y outcome v.bus.queue ++ new) s) same

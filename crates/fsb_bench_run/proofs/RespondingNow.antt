@@ -10,7 +10,8 @@ use Rattle.fsb_phase_run.proofs.Interface.{agree-back, longer, snooped-same}
 use Rattle.fsb_queue.specs.declared.entry.Entry.{Entry}
 use Rattle.fsb_run_laws.specs.Reaches.{Reaches}
 use Rattle.fsb_run_laws.proofs.Interface.{replied-on, snoop-below}
-use Rattle.fsb_tied.proofs.Interface.{answered, begun-shown, begun-want, live-at, live-request, orderly-whole, responded-number}
+use Rattle.fsb_tied.proofs.Interface.{answered, begun-shown, begun-want, live-at, live-request, orderly-whole}
+use Rattle.fsb_tied.proofs.Interface.{responded-number}
 use Rattle.fsb_timely.specs.Growth.{GrowsTo}
 use Rattle.fsb_timely.specs.Moments.{served_number, turns_in}
 use Rattle.fsb_timely.specs.Past.{SnoopEnd}

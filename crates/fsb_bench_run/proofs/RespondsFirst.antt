@@ -1,5 +1,6 @@
 -- The request that responds at a clock of a timely run is the oldest one in flight.
-use Rattle.std.proofs.Common.{ℕ, zero, suc, ◌<◌, ◌≡◌, Bool, true, false, not, if◌then◌else◌, nat_eq, List, Option, Some, None, length, slice_get, refl, sym, ap, ◌∙◌, inl, inr, arith}
+use Rattle.std.proofs.Common.{ℕ, zero, suc, ◌<◌, ◌≡◌, Bool, true, false, not, if◌then◌else◌, nat_eq, List, Option, Some}
+use Rattle.std.proofs.Common.{None, length, slice_get, refl, sym, ap, ◌∙◌, inl, inr, arith}
 use Rattle.std.specs.List.{find}
 use Rattle.std.specs.Option.{option_and_then, option_map, option_map_or}
 use Rattle.std.proofs.lemmas.Bool.{and_parts, both_ways, lt-ltb}

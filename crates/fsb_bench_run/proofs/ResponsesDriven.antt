@@ -1,5 +1,6 @@
 -- Responses and data of a clock are as they are due.
-use Rattle.std.proofs.Common.{ℕ, ◌<◌, ◌≡◌, ◌&&◌, ◌||◌, Bool, true, false, Option, Some, None, List, [], ◌∷◌, ◌++◌, is_some, nat_eq, lit<, refl, sym, ap, ◌∙◌}
+use Rattle.std.proofs.Common.{ℕ, ◌<◌, ◌≡◌, ◌&&◌, ◌||◌, Bool, true, false, Option, Some, None, List, [], ◌∷◌, ◌++◌}
+use Rattle.std.proofs.Common.{is_some, nat_eq, lit<, refl, sym, ap, ◌∙◌}
 use Rattle.std.specs.Bool.{beq}
 use Rattle.std.specs.Option.{option_map_or}
 use Rattle.std.specs.List.{find}
@@ -19,10 +20,12 @@ use Rattle.fsb_trace.specs.At.{Trace, response_code_at}
 use Rattle.fsb_trace.specs.Outcome.{response_code_of}
 use Rattle.fsb_trace.specs.Requests.{live_count}
 use Rattle.fsb_trace.specs.declared.outcome.Outcome.{Outcome}
-use Rattle.fsb_trace.specs.declared.outcome.Outcome.TheVariants.{Granted, Handed, Retried, Deferred, Written, Replied, Failed, Upgraded}
+use Rattle.fsb_trace.specs.declared.outcome.Outcome.TheVariants.{Granted, Handed, Retried, Deferred, Written, Replied}
+use Rattle.fsb_trace.specs.declared.outcome.Outcome.TheVariants.{Failed, Upgraded}
 use Rattle.fsb_timely.specs.Growth.{GrowsTo}
 use Rattle.fsb_timely.specs.Runs.{past_of}
-use Rattle.fsb_timely.specs.Transfers.{code_due, drives_code, drives_data_busy, drives_data_ready, drives_ready, drives_responses, has_data_at, is_busy_at, is_ready_due, keeps_data_quiet}
+use Rattle.fsb_timely.specs.Transfers.{code_due, drives_code, drives_data_busy, drives_data_ready, drives_ready}
+use Rattle.fsb_timely.specs.Transfers.{drives_responses, has_data_at, is_busy_at, is_ready_due, keeps_data_quiet}
 use Rattle.fsb_phase_run.specs.Holds.{HoldsRequests}
 use Rattle.fsb_phase_run.proofs.Interface.{busy-drive, chunk-drive, code-drive, code-shown, ready-drive}
 use Rattle.fsb_bench_view.specs.BenchSteps.{step_decided, step_drive, step_performed, step_sample}
@@ -93,7 +96,8 @@ abbrev quiet_now : BenchView → Bool → Choice → List Done → Type 0
 quiet_now v hold choice entries = keeps_data_quiet (run_with v hold choice entries) (next_clock_of v) ≡ true
 
 data-new : (v : BenchView) (hold : Bool) (choice : Choice) (entries : List Done)
-    → (data_at (run_with v hold choice entries).trace (next_clock_of v)).bits ≡ data_driven (step_performed v) (step_drive v)
+    → (data_at (run_with v hold choice entries).trace (next_clock_of v)).bits
+    ≡ data_driven (step_performed v) (step_drive v)
 data-new v hold choice entries =
     let more = one_more v.run.trace (step_sample v hold) in
     ap (λ o. (option_map_or (λ (s : Sample). s.dbus) o (known_word 0)).bits) more.last
@@ -112,7 +116,8 @@ quiet-now v hold choice entries =
 
 pub responses-now : (v : BenchView) (hold : Bool) (choice : Choice) (entries : List Done)
     (grows : GrowsTo v.run (run_with v hold choice entries)) → HoldsRequests v.bus.queue v.run
-    → drives_responses (run_with v hold choice entries) (past_of (run_with v hold choice entries)) (next_clock_of v) ≡ true
+    → drives_responses (run_with v hold choice entries) (past_of (run_with v hold choice entries))
+    (next_clock_of v) ≡ true
 unfolding drives_responses drives_ready drives_code drives_data_ready drives_data_busy
 responses-now v hold choice entries grows f =
     let r = v.run in

@@ -17,10 +17,31 @@ pub record IsSameBus (bus other : BusView) : Type 0 where
 
 fetched : (bus : BusView) (o : Option BytesFrom) → IsSameBus (bus_fetched bus o) bus
 fetched bus None = record { queue = refl; bridge = refl; served = refl; latest = refl; started = refl; kept = refl }
-fetched bus (Some (Memory line)) = record { queue = refl; bridge = refl; served = refl; latest = refl; started = refl; kept = refl }
-fetched bus (Some (Agents number)) = record { queue = refl; bridge = refl; served = refl; latest = refl; started = refl; kept = refl }
+fetched bus (Some (Memory line)) = record {
+  queue = refl;
+  bridge = refl;
+  served = refl;
+  latest = refl;
+  started = refl;
+  kept = refl;
+}
+fetched bus (Some (Agents number)) = record {
+  queue = refl;
+  bridge = refl;
+  served = refl;
+  latest = refl;
+  started = refl;
+  kept = refl;
+}
 
 pub same-performed : (v : BenchView) → IsSameBus (step_performed v) v.bus
 same-performed v =
     let k = fetched v.bus (bytes_source v.bus (step_drive v)) in
-    record { queue = k.queue; bridge = k.bridge; served = k.served; latest = k.latest; started = k.started; kept = k.kept }
+    record {
+      queue = k.queue;
+      bridge = k.bridge;
+      served = k.served;
+      latest = k.latest;
+      started = k.started;
+      kept = k.kept;
+    }

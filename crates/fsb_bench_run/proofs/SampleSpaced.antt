@@ -1,5 +1,6 @@
 -- The sample of a bench's clock may be the next: RS# is what is driven, and requests keep their distance.
-use Rattle.std.proofs.Common.{ℕ, ◌+◌, ◌-◌, ◌<◌, ◌≤◌, ◌≡◌, ◌&&◌, ◌||◌, Bool, true, false, not, Option, Some, None, is_some, length, nat_le, nat_lt, refl, sym, ap, ◌∙◌, arith}
+use Rattle.std.proofs.Common.{ℕ, ◌+◌, ◌-◌, ◌<◌, ◌≤◌, ◌≡◌, ◌&&◌, ◌||◌, Bool, true, false, not, Option, Some, None}
+use Rattle.std.proofs.Common.{is_some, length, nat_le, nat_lt, refl, sym, ap, ◌∙◌, arith}
 use Rattle.std.specs.Option.{option_map}
 use Rattle.std.proofs.lemmas.Bool.{and_parts, false_from_ne_true, leb-true}
 use Rattle.fsb_count.specs.Clocks.{last_where}
@@ -47,8 +48,10 @@ pub not-soon : (w : Trace) (latest : Option Latest)
     → is_spaced_by latest (length w) ≡ true
     → (line_back ADS w (length w) 1 || line_back ADS w (length w) 2) ≡ false
 not-soon w latest e spaced =
-    let one = false_from_ne_true (line_back ADS w (length w) 1) (λ t. far-back w latest 1 e spaced (omega arith) (omega arith) t) in
-    let two = false_from_ne_true (line_back ADS w (length w) 2) (λ t. far-back w latest 2 e spaced (omega arith) (omega arith) t) in
+    let one = false_from_ne_true (line_back ADS w (length w) 1)
+    (λ t. far-back w latest 1 e spaced (omega arith) (omega arith) t) in
+    let two = false_from_ne_true (line_back ADS w (length w) 2)
+    (λ t. far-back w latest 2 e spaced (omega arith) (omega arith) t) in
     λ i. one i || two i
 
 -- a request begins only where it may
@@ -61,10 +64,12 @@ spaced-here v hold starting e =
     let k = starting-parts bus (winner_at v.run.trace n) n (step_decided v hold).asked held starting e in
     let same = same-performed v in
     let room = and_parts (not held) _ k.0 in
-    ap (λ l. is_spaced_by l n) (sym same.latest) ∙ (and_parts (is_spaced_by bus.latest n) (nat_lt (length bus.queue) 8) room.1).0
+    ap (λ l. is_spaced_by l n) (sym same.latest)
+    ∙ (and_parts (is_spaced_by bus.latest n) (nat_lt (length bus.queue) 8) room.1).0
 
 soon-by : (v : BenchView) (hold : Bool) (o : Option Starting) → IsBenchOf v → (step_decided v hold).starting ≡ o
-    → (is_some o && (line_back ADS v.run.trace (next_clock_of v) 1 || line_back ADS v.run.trace (next_clock_of v) 2)) ≡ false
+    → (is_some o && (line_back ADS v.run.trace (next_clock_of v) 1
+    || line_back ADS v.run.trace (next_clock_of v) 2)) ≡ false
 soon-by v hold None b e = refl
 soon-by v hold (Some starting) b e = not-soon v.run.trace v.bus.latest b.latest.clock (spaced-here v hold starting e)
 

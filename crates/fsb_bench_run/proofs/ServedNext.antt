@@ -1,5 +1,7 @@
 -- What requests serve, after a bench's clock: that of the longer run.
-use Rattle.std.proofs.Common.{ℕ, zero, suc, ◌+◌, ◌<◌, ◌≤◌, ◌≡◌, ◌&&◌, ◌||◌, Bool, true, false, not, Option, Some, None, List, [], ◌∷◌, ◌++◌, append-nil, drop, is_none, is_some, length, map, nat_eq, refl, sym, ap, subst, ◌∙◌, ◌⊎◌, arith, inl, inr}
+use Rattle.std.proofs.Common.{ℕ, zero, suc, ◌+◌, ◌<◌, ◌≤◌, ◌≡◌, ◌&&◌, ◌||◌, Bool, true, false, not, Option, Some, None}
+use Rattle.std.proofs.Common.{List, [], ◌∷◌, ◌++◌, append-nil, drop, is_none, is_some, length, map, nat_eq, refl, sym}
+use Rattle.std.proofs.Common.{ap, subst, ◌∙◌, ◌⊎◌, arith, inl, inr}
 use Rattle.std.specs.List.{filter, slice_get}
 use Rattle.std.specs.Option.{option_map, option_map_or}
 use Rattle.std.proofs.lemmas.Bool.{and_right, both_ways, false_from_ne_true, ne_eqb}
@@ -32,7 +34,9 @@ use Rattle.fsb_trace.specs.declared.outcome.Outcome.{Outcome}
 use Rattle.fsb_trace.proofs.Interface.{snoop_end_of-clock}
 use Rattle.fsb_bench_view.specs.declared.beginning.Starting.{Starting}
 use Rattle.fsb_bench_view.specs.declared.snoop.Served.{Served}
-use Rattle.fsb_bench_view.specs.BenchSteps.{bench_stepped, outcome_snooped, step_answered, step_begun, step_cancelled, step_decided, step_ended, step_entries, step_performed, step_queue, step_run, step_sample}
+use Rattle.fsb_bench_view.specs.BenchSteps.{bench_stepped, outcome_snooped, step_answered, step_begun, step_cancelled}
+use Rattle.fsb_bench_view.specs.BenchSteps.{step_decided, step_ended, step_entries, step_performed, step_queue}
+use Rattle.fsb_bench_view.specs.BenchSteps.{step_run, step_sample}
 use Rattle.fsb_bench_view.specs.BusEvents.{bus_ended, bus_snooped, entry_started}
 use Rattle.fsb_bench_view.specs.BusViews.{BenchView, BusView, next_clock_of}
 use Rattle.fsb_bench_run.specs.BenchOf.{HasServed, IsBenchOf, IsServed, clock_served, settled_entries}
@@ -41,7 +45,8 @@ use Rattle.fsb_bench_run.proofs.EndPlaces.{head-ends}
 use Rattle.fsb_bench_run.proofs.LogsNow.{reaches-step}
 use Rattle.fsb_bench_run.proofs.NextRun.{grows-to}
 use Rattle.fsb_bench_run.proofs.ServedStays.{served-now, served-stays}
-use Rattle.fsb_bench_run.proofs.SettledLists.{AreServed, filter-has, filter-swap, map-same, passes-now, served-drop, served-push, stay-all, stay-later}
+use Rattle.fsb_bench_run.proofs.SettledLists.{AreServed, filter-has, filter-swap, map-same, passes-now, served-drop}
+use Rattle.fsb_bench_run.proofs.SettledLists.{served-push, stay-all, stay-later}
 use Rattle.fsb_bench_run.proofs.SnoopCases.{SnoopsHere, SnoopsNone, snoop-cases}
 use Rattle.fsb_bench_run.proofs.SnoopEntry.{ends-told, held-here, outcome-none, rank-rises, snoop-rank}
 use Rattle.fsb_bench_run.proofs.SnoopHeard.{hears-snoop}

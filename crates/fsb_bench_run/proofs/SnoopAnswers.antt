@@ -1,5 +1,6 @@
 -- What four agents answer together at a snoop end.
-use Rattle.std.proofs.Common.{ℕ, ◌≡◌, ◌&&◌, ◌||◌, Bool, true, false, not, Some, List, [], ◌∷◌, length, nat_eq, if◌then◌else◌, refl, sym, ap, ◌∙◌, arith}
+use Rattle.std.proofs.Common.{ℕ, ◌≡◌, ◌&&◌, ◌||◌, Bool, true, false, not, Some, List, [], ◌∷◌, length, nat_eq}
+use Rattle.std.proofs.Common.{if◌then◌else◌, refl, sym, ap, ◌∙◌, arith}
 use Rattle.std.specs.List.{slice_get}
 use Rattle.fsb_agent_view.specs.AgentViews.{AgentView, answer_by}
 use Rattle.fsb_count.specs.Clocks.{any_where}
@@ -153,13 +154,15 @@ is-four (a ∷ (b ∷ (c ∷ []))) e = absurd (omega arith)
 is-four (a ∷ (b ∷ (c ∷ (d ∷ [])))) e = record { first = a; second = b; third = c; fourth = d; same = refl }
 is-four (a ∷ (b ∷ (c ∷ (d ∷ (f ∷ vs))))) e = absurd (omega arith)
 
--- together they answer that the line is Modified where another one is dirty on it, and that it is held where none is and
+-- together they answer that the line is Modified where another one is dirty on it, and that it is held where none
+-- is and
 -- another one holds it
 pub record BesidesTold (v : BenchView) (s : Run) (a line : ℕ) : Type 0 where
   pub modified : is_modified_answer (answer_besides a line 0 (step_performed v).agents)
       ≡ is_dirty_elsewhere (past_of s) a line (next_clock_of v)
   pub hit : is_hit_answer (answer_besides a line 0 (step_performed v).agents)
-      ≡ (not (is_dirty_elsewhere (past_of s) a line (next_clock_of v)) && is_held_elsewhere (past_of s) a line (next_clock_of v))
+      ≡ (not (is_dirty_elsewhere (past_of s) a line (next_clock_of v))
+      && is_held_elsewhere (past_of s) a line (next_clock_of v))
 
 pub besides-told : (v : BenchView) (s : Run) (a line : ℕ) → AgentsAnswer v s → BesidesTold v s a line
 unfolding is_dirty_elsewhere is_held_elsewhere

@@ -1,5 +1,6 @@
 -- What a bench decides of the snoop end of a clock.
-use Rattle.std.proofs.Common.{ℕ, ◌≡◌, ◌&&◌, ◌||◌, Bool, true, false, Option, Some, None, List, is_some, is_none, if◌then◌else◌, refl, sym, ap, ◌∙◌}
+use Rattle.std.proofs.Common.{ℕ, ◌≡◌, ◌&&◌, ◌||◌, Bool, true, false, Option, Some, None, List, is_some, is_none}
+use Rattle.std.proofs.Common.{if◌then◌else◌, refl, sym, ap, ◌∙◌}
 use Rattle.std.specs.Option.{option_and_then, option_map}
 use Rattle.std.specs.List.{find, slice_get}
 use Rattle.std.proofs.lemmas.Bool.{and_left, and_right}
@@ -19,7 +20,8 @@ use Rattle.fsb_trace.specs.declared.who.Who.TheVariants.{Symmetric, Priority}
 use Rattle.fsb_bench_view.specs.declared.beginning.Started.{Started}
 use Rattle.fsb_bench_view.specs.declared.snoop.SnoopSettled.{SnoopSettled}
 use Rattle.fsb_bench_view.specs.BenchSteps.{step_decided, step_drive, step_performed, step_sample}
-use Rattle.fsb_bench_view.specs.BusSnooping.{answer_besides, first_open, is_hit_answer, is_modified_answer, snooping_by, snooped_entry, snooped_for, snooping_of, snooped_reply}
+use Rattle.fsb_bench_view.specs.BusSnooping.{answer_besides, first_open, is_hit_answer, is_modified_answer, snooping_by}
+use Rattle.fsb_bench_view.specs.BusSnooping.{snooped_entry, snooped_for, snooping_of, snooped_reply}
 use Rattle.fsb_bench_view.specs.BusViews.{BenchView, BusView, next_clock_of}
 use Rattle.fsb_bench_run.proofs.DrivenLines.{hit-driven, hit_driven, hitm-driven, hitm_driven}
 

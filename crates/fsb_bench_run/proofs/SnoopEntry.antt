@@ -1,5 +1,6 @@
 -- The entry whose snoop clock the next clock is: the oldest one without a snoop end.
-use Rattle.std.proofs.Common.{ℕ, ◌+◌, ◌<◌, ◌≡◌, ◌&&◌, true, false, not, Option, Some, None, List, [], ◌∷◌, ◌++◌, length, is_none, refl, sym, ap, ◌∙◌, arith, inl, inr}
+use Rattle.std.proofs.Common.{ℕ, ◌+◌, ◌<◌, ◌≡◌, ◌&&◌, true, false, not, Option, Some, None, List, [], ◌∷◌, ◌++◌, length}
+use Rattle.std.proofs.Common.{is_none, refl, sym, ap, ◌∙◌, arith, inl, inr}
 use Rattle.std.specs.List.{find, slice_get}
 use Rattle.std.specs.Option.{option_map}
 use Rattle.std.proofs.lemmas.Bool.{and_parts, both_ways, cases_order}
@@ -13,7 +14,9 @@ use Rattle.fsb_queue.specs.declared.entry.Entry.{Entry}
 use Rattle.fsb_phase.specs.Due.{has_snoop, rank_of}
 use Rattle.fsb_phase.specs.Drive.{ends_snoop_at, phased_at}
 use Rattle.fsb_phase.specs.Phases.{snooped_count}
-use Rattle.fsb_phase.proofs.Interface.{Found, Placed, ends_entry, find-off, find-place, has_snoop-at, held, not_reached_from, outcome_reached, reached_before, snoop_at, snoop_elsewhere, snoops_to}
+use Rattle.fsb_phase.proofs.Interface.{Found, Placed, ends_entry, find-off, find-place, has_snoop-at, held}
+use Rattle.fsb_phase.proofs.Interface.{not_reached_from, outcome_reached, reached_before, snoop_at, snoop_elsewhere}
+use Rattle.fsb_phase.proofs.Interface.{snoops_to}
 use Rattle.fsb_signal.specs.declared.sample.Sample.{Sample}
 use Rattle.fsb_trace.specs.Flight.{in_flight, is_in_flight}
 use Rattle.fsb_trace.specs.Requests.{is_live, live_clock_of, live_number_of}
@@ -32,7 +35,8 @@ use Rattle.fsb_phase_run.proofs.Interface.{longer, number-held, snooped-now}
 use Rattle.fsb_bench_view.specs.BusSnooping.{first_open}
 
 -- the clock of each entry
-pub clock-there : (r : Run) (queue : List Entry) (k : ℕ) (e : Entry) → HoldsRequests queue r → slice_get queue k ≡ Some e
+pub clock-there : (r : Run) (queue : List Entry) (k : ℕ) (e : Entry) → HoldsRequests queue r
+    → slice_get queue k ≡ Some e
     → Rattle.fsb_count.specs.Clocks.nth_where (is_in_flight r.trace (length r.trace)) k (length r.trace) ≡ Some e.clock
 unfolding in_flight Rattle.fsb_count.specs.Clocks.nth_where
 clock-there r queue k e f at =

@@ -1,5 +1,6 @@
 -- The snoop end that a bench tells its agents is that of its run.
-use Rattle.std.proofs.Common.{ℕ, ◌+◌, ◌/◌, ◌<◌, ◌≡◌, ◌||◌, ◌⊎◌, Bool, true, false, Option, Some, None, List, length, is_some, if◌then◌else◌, refl, sym, ap, subst, ◌∙◌, arith, inl, inr}
+use Rattle.std.proofs.Common.{ℕ, ◌+◌, ◌/◌, ◌<◌, ◌≡◌, ◌||◌, ◌⊎◌, Bool, true, false, Option, Some, None, List, length}
+use Rattle.std.proofs.Common.{is_some, if◌then◌else◌, refl, sym, ap, subst, ◌∙◌, arith, inl, inr}
 use Rattle.std.specs.List.{slice_get}
 use Rattle.std.specs.Option.{option_and_then, option_map}
 use Rattle.std.proofs.lemmas.Bool.{and_parts}
@@ -24,7 +25,8 @@ use Rattle.fsb_signal.specs.Samples.{line_at}
 use Rattle.fsb_tied.proofs.Interface.{IsPutOff, begun-want, live-request, reply-grants}
 use Rattle.fsb_timely.specs.Grants.{begun_at, snooped_at}
 use Rattle.fsb_timely.specs.Tied.{IsSnoopOf}
-use Rattle.fsb_timely.specs.Moments.{claim_at, gives_line, grant_for, grant_of, grant_to, is_answered_by, is_owner_request, is_shared_at, live_claim_of, served_number, turns_in}
+use Rattle.fsb_timely.specs.Moments.{claim_at, gives_line, grant_for, grant_of, grant_to, is_answered_by}
+use Rattle.fsb_timely.specs.Moments.{is_owner_request, is_shared_at, live_claim_of, served_number, turns_in}
 use Rattle.fsb_timely.specs.Past.{Claim, Grant, Past, SnoopEnd}
 use Rattle.fsb_timely.specs.Runs.{Run, past_of}
 use Rattle.fsb_timely.specs.Snoops.{number_served_at}
@@ -94,17 +96,23 @@ pub record IsSnoopHeard (s : Run) (n : ℕ) (x : SnoopSettled) : Type 0 where
   pub begun : IsBegunAt s x.served.first (Symmetric x.served.agent) x.served.request
 
 -- a grant tells whether HIT# or HITM# was at its snoop end
-shared-of : (p : Past) (w : Trace) (i q t : ℕ) (outcome : Outcome) (grant : Grant) → grant_of p w i q t outcome ≡ Some grant
+shared-of : (p : Past) (w : Trace) (i q t : ℕ) (outcome : Outcome) (grant : Grant)
+    → grant_of p w i q t outcome ≡ Some grant
     → grant.shared ≡ is_shared_at w t
 unfolding grant_of grant_for grant_to
 shared-of p w i q t outcome grant e = by (gives_line p w q t outcome) e
   where
     by : (b : Bool)
-        → ◌≡◌ {A = Option Grant} (elim b [ true ↦ option_and_then (grant_for w q t) (served_number w (turns_in p.moments) i) | false ↦ None ]) (Some grant)
+        → ◌≡◌ {A = Option Grant}
+        (elim b [
+          | true ↦ option_and_then (grant_for w q t) (served_number w (turns_in p.moments) i)
+          | false ↦ None
+        ]) (Some grant)
         → grant.shared ≡ is_shared_at w t
     by true f =
         let j = and-some (grant_for w q t) (served_number w (turns_in p.moments) i) grant f in
-        let c = mapped-some (grant_to q (is_owner_request (live_request_of w j.0)) (is_shared_at w t)) (live_claim_of w j.0)
+        let c = mapped-some (grant_to q (is_owner_request (live_request_of w j.0)) (is_shared_at w t))
+        (live_claim_of w j.0)
         grant j.2 in
         sym (ap (λ (g : Grant). g.shared) c.2)
     by false f = absurd (let no : ⊥ = cc in no)
@@ -137,7 +145,8 @@ answered-of w turns m j replies served =
     let parts = and_parts (is_settled_deferred w turns j) (is_at (reply_number_of w j) m) found.1 in
     (found.0, parts.0, is_at-some (reply_number_of w j) m parts.1)
 
-pub reply-serves : (s : Run) (n m j q : ℕ) (end : SnoopEnd) (request : Request) → Reaches s (n + 1) → IsSnoopOf s m n end
+pub reply-serves : (s : Run) (n m j q : ℕ) (end : SnoopEnd) (request : Request) → Reaches s (n + 1)
+    → IsSnoopOf s m n end
     → is_reply (request_at s.trace end.first) ≡ true → served_number s.trace (turns_in (past_of s).moments) m ≡ Some j
     → live_request_of s.trace j ≡ Some request → live_clock_of s.trace j ≡ Some q → IsReplyServed s n q end request
 unfolding grant_to
@@ -192,7 +201,8 @@ reply-serves s n m j q end request h is replies served asks clock =
     one-end a b e = cc
 
 -- HIT# or HITM# is driven at the clock
-shared-now : (v : BenchView) (hold : Bool) (choice : Choice) (entries : List Done) (c : SnoopsHere v hold choice entries)
+shared-now : (v : BenchView) (hold : Bool) (choice : Choice) (entries : List Done)
+    (c : SnoopsHere v hold choice entries)
     (who : Who) (x : SnoopSettled) → c.now.entry.who ≡ who → snooped_entry (step_performed v) c.now.entry who ≡ Some x
     → is_shared_at (run_with v hold choice entries).trace (next_clock_of v) ≡ (x.hit || x.hitm)
 unfolding is_shared_at
@@ -208,7 +218,8 @@ pub record HearsSnoop (v : BenchView) (hold : Bool) (s : Run) : Type 0 where
   pub heard : IsSnoopHeard s (next_clock_of v) snooped
 
 heard-by : (v : BenchView) (hold : Bool) (choice : Choice) (entries : List Done) → IsStepWith v hold choice entries
-    → Reaches (run_with v hold choice entries) (next_clock_of v + 1) → (c : SnoopsHere v hold choice entries) (who : Who)
+    → Reaches (run_with v hold choice entries) (next_clock_of v + 1)
+    → (c : SnoopsHere v hold choice entries) (who : Who)
     → c.now.entry.who ≡ who → HearsSnoop v hold (run_with v hold choice entries)
 unfolding is_reply is_some_and number_served_at
 heard-by v hold choice entries k h c (Symmetric agent) e =
@@ -282,7 +293,8 @@ heard-by v hold choice entries k h c Priority e =
     let here = decoded-now v hold choice entries k.bench k.grows c in
     let decoded = ap (request_at s.trace) c.told.first ∙ here in
     let there = c.told.is_end.there in
-    let some = some-there (deferral_of_id did v.bus.bridge.waiting) (told.taken c.told.end y.request there decoded kind) in
+    let some = some-there (deferral_of_id did v.bus.bridge.waiting)
+    (told.taken c.told.end y.request there decoded kind) in
     let d : Deferral = some.0 in
     let that = told.deferral c.told.end y.request there decoded kind in
     let one = subst (λ o. IsThatOf s.trace o (number_served_at s p n)) some.1 that in
@@ -326,7 +338,8 @@ heard-by v hold choice entries k h c Priority e =
     one-settled : (a b : SnoopSettled) → Some a ≡ Some b → a ≡ b
     one-settled a b e = cc
 
-pub hears-snoop : (v : BenchView) (hold : Bool) (choice : Choice) (entries : List Done) → IsStepWith v hold choice entries
+pub hears-snoop : (v : BenchView) (hold : Bool) (choice : Choice) (entries : List Done)
+    → IsStepWith v hold choice entries
     → Reaches (run_with v hold choice entries) (next_clock_of v + 1) → (c : SnoopsHere v hold choice entries)
     → HearsSnoop v hold (run_with v hold choice entries)
 hears-snoop v hold choice entries k h c = heard-by v hold choice entries k h c c.now.entry.who refl

@@ -1,5 +1,6 @@
 -- A bench may take the snoop end that it decides: each agent may see it, and there is room.
-use Rattle.std.proofs.Common.{ℕ, ◌+◌, ◌<◌, ◌≡◌, Bool, true, false, Option, Some, None, length, is_none, is_some, nat_eq, refl, sym, ap, subst, ◌∙◌, arith, inl, inr}
+use Rattle.std.proofs.Common.{ℕ, ◌+◌, ◌<◌, ◌≡◌, Bool, true, false, Option, Some, None, length, is_none, is_some, nat_eq}
+use Rattle.std.proofs.Common.{refl, sym, ap, subst, ◌∙◌, arith, inl, inr}
 use Rattle.fsb_bridge_run.proofs.Interface.{grown-room}
 use Rattle.fsb_encode.specs.declared.request.Request.{Request}
 use Rattle.fsb_hazard.specs.declared.choice.Choice.{Choice}

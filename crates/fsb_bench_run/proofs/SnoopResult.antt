@@ -1,5 +1,6 @@
 -- The result of the snoop end of a clock is right.
-use Rattle.std.proofs.Common.{ℕ, ◌/◌, ◌<◌, ◌≤◌, ◌≡◌, ◌&&◌, Bool, true, false, not, Option, Some, None, List, length, if◌then◌else◌, refl, sym, ap, ◌∙◌, arith, inl, inr, subst}
+use Rattle.std.proofs.Common.{ℕ, ◌/◌, ◌<◌, ◌≤◌, ◌≡◌, ◌&&◌, Bool, true, false, not, Option, Some, None, List, length}
+use Rattle.std.proofs.Common.{if◌then◌else◌, refl, sym, ap, ◌∙◌, arith, inl, inr, subst}
 use Rattle.std.specs.List.{slice_get}
 use Rattle.std.specs.Option.{option_and_then, option_map, option_map_or}
 use Rattle.std.proofs.lemmas.Bool.{and_from, cases_lt}
@@ -31,7 +32,8 @@ use Rattle.fsb_timely.specs.Moments.{agent_at, claim_at, is_answered_by, served_
 use Rattle.fsb_timely.specs.Past.{Claim, Past, SnoopEnd}
 use Rattle.fsb_timely.specs.Starts.{reply_to, would_begin}
 use Rattle.fsb_timely.specs.Runs.{Run, past_of}
-use Rattle.fsb_timely.specs.Snoops.{has_right_result, has_snoop_result, is_dirty_elsewhere, is_dirty_for, is_held_elsewhere, is_held_for, is_reply_end, number_served_at, was_hit_before}
+use Rattle.fsb_timely.specs.Snoops.{has_right_result, has_snoop_result, is_dirty_elsewhere, is_dirty_for}
+use Rattle.fsb_timely.specs.Snoops.{is_held_elsewhere, is_held_for, is_reply_end, number_served_at, was_hit_before}
 use Rattle.fsb_timely.specs.Timely.{holds_at}
 use Rattle.fsb_timely.proofs.Interface.{begun-told, claim_at-agree, number-found}
 use Rattle.fsb_tied.proofs.Interface.{begun-want}
@@ -152,7 +154,8 @@ clock-le w i k q c l e f =
 pub deferral-started : (v : BenchView) (hold : Bool) (choice : Choice) (entries : List Done) → IsBenchOf v
     → (grows : GrowsTo v.run (run_with v hold choice entries))
     → (k : SnoopsHere v hold choice entries) (d : Deferral) (i : ℕ)
-    → number_served_at (run_with v hold choice entries) (past_of (run_with v hold choice entries)) (next_clock_of v) ≡ Some i
+    → number_served_at (run_with v hold choice entries) (past_of (run_with v hold choice entries))
+    (next_clock_of v) ≡ Some i
     → IsDeferralOf (run_with v hold choice entries).trace d i
     → (begun : Started) × (slice_get v.bus.started d.number ≡ Some begun)
     × (live_clock_of (run_with v hold choice entries).trace i ≡ Some begun.clock)
@@ -324,7 +327,8 @@ result-by v hold choice entries b told answer grows k Priority e =
 pub result-now : (v : BenchView) (hold : Bool) (choice : Choice) (entries : List Done) → IsBenchOf v
     → DeferralsTold v (run_with v hold choice entries) → AgentsAnswer v (run_with v hold choice entries)
     → GrowsTo v.run (run_with v hold choice entries)
-    → has_snoop_result (run_with v hold choice entries) (past_of (run_with v hold choice entries)) (next_clock_of v) ≡ true
+    → has_snoop_result (run_with v hold choice entries) (past_of (run_with v hold choice entries))
+    (next_clock_of v) ≡ true
 result-now v hold choice entries b told answer grows =
     let s = run_with v hold choice entries in
     let n = next_clock_of v in

@@ -29,7 +29,8 @@ use Rattle.fsb_timely.specs.Snoops.{number_served_at}
 use Rattle.fsb_trace.specs.Deferral.{is_pending}
 use Rattle.fsb_bench_view.specs.declared.snoop.SnoopSettled.{SnoopSettled}
 use Rattle.fsb_bench_view.specs.BenchSteps.{step_decided, step_performed}
-use Rattle.fsb_bench_view.specs.BusSnooping.{answer_besides, is_modified_answer, snoop_outcome, snooped_entry, snooped_for, snooping_of, snooped_reply}
+use Rattle.fsb_bench_view.specs.BusSnooping.{answer_besides, is_modified_answer, snoop_outcome, snooped_entry}
+use Rattle.fsb_bench_view.specs.BusSnooping.{snooped_for, snooping_of, snooped_reply}
 use Rattle.fsb_bench_view.specs.BusViews.{BenchView, next_clock_of}
 use Rattle.fsb_bench_run.specs.BenchOf.{IsBegunAt, IsBenchOf}
 use Rattle.fsb_bench_run.proofs.DeferralsTold.{DeferralsTold}

@@ -1,5 +1,6 @@
 -- The agents of a bench after the snoop end of its clock are as its run says.
-use Rattle.std.proofs.Common.{ℕ, ◌+◌, ◌<◌, ◌≡◌, ◌||◌, Bool, true, false, Option, Some, None, List, fold, nat_eq, refl, sym, subst, ◌∙◌, arith, inl, inr}
+use Rattle.std.proofs.Common.{ℕ, ◌+◌, ◌<◌, ◌≡◌, ◌||◌, Bool, true, false, Option, Some, None, List, fold, nat_eq, refl}
+use Rattle.std.proofs.Common.{sym, subst, ◌∙◌, arith, inl, inr}
 use Rattle.std.specs.Option.{option_map_or}
 use Rattle.std.proofs.lemmas.Bool.{both_ways, eq-eqb, eqb-true}
 use Rattle.fsb_access.specs.declared.log.Done.{Done}
@@ -97,20 +98,25 @@ views-snooped v hold choice entries k h =
     elim (snoop-cases v hold choice entries k.grows k.bench.requests) [
       | inl c ↦
           let x = hears-snoop v hold choice entries k h c in
-          subst (λ o. AgentsAre (λ a w. IsViewAfterSnoop (past_of s) a n w) (option_map_or (bus_snooped before) o before).agents)
+          subst (λ o. AgentsAre (λ a w. IsViewAfterSnoop (past_of s) a n w)
+          (option_map_or (bus_snooped before) o before).agents)
           (sym x.decided)
           (told-each (λ a w. IsViewBeforeSnoop (past_of s) a n w) (λ a w. IsViewAfterSnoop (past_of s) a n w)
-          (snooped_event x.snooped) before.agents (λ a w view. snooped-view s n a x.snooped w h some x.heard view) views)
+          (snooped_event x.snooped) before.agents
+          (λ a w view. snooped-view s n a x.snooped w h some x.heard view) views)
       | inr g ↦
-          subst (λ o. AgentsAre (λ a w. IsViewAfterSnoop (past_of s) a n w) (option_map_or (bus_snooped before) o before).agents)
+          subst (λ o. AgentsAre (λ a w. IsViewAfterSnoop (past_of s) a n w)
+          (option_map_or (bus_snooped before) o before).agents)
           (sym g.none)
-          (λ a w at. quiet-view s a n w h (λ end e. absurd (none-some (snooped_at (past_of s) n) end g.quiet e)) (views a w at))
+          (λ a w at. quiet-view s a n w h (λ end e. absurd (none-some (snooped_at (past_of s) n) end g.quiet e))
+          (views a w at))
     ]
   where
     none-some : (o : Option SnoopEnd) (x : SnoopEnd) → o ≡ None → o ≡ Some x → ⊥
     none-some o x e f = cc
 
-pub answered-agents : (bus : BusView) (clock : ℕ) (o : Option Entry) → (option_map_or (bus_answered bus clock) o bus).agents ≡ bus.agents
+pub answered-agents : (bus : BusView) (clock : ℕ) (o : Option Entry)
+    → (option_map_or (bus_answered bus clock) o bus).agents ≡ bus.agents
 answered-agents bus clock None = refl
 answered-agents bus clock (Some e) = refl
 

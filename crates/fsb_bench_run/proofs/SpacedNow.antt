@@ -1,5 +1,6 @@
 -- Whether a request may begin at a bench's clock: the distance, the room in the queue, and BNR# two clocks before.
-use Rattle.std.proofs.Common.{ℕ, ◌+◌, ◌-◌, ◌<◌, ◌≤◌, ◌≡◌, ◌&&◌, Bool, true, false, not, List, Option, Some, None, length, nat_le, nat_lt, slice_get, refl, sym, ap, ◌∙◌, inl, inr, arith}
+use Rattle.std.proofs.Common.{ℕ, ◌+◌, ◌-◌, ◌<◌, ◌≤◌, ◌≡◌, ◌&&◌, Bool, true, false, not, List, Option, Some, None}
+use Rattle.std.proofs.Common.{length, nat_le, nat_lt, slice_get, refl, sym, ap, ◌∙◌, inl, inr, arith}
 use Rattle.std.specs.Option.{option_map, option_map_or}
 use Rattle.std.proofs.lemmas.Bool.{and_parts, cases_lt, le-leb, leb-false, leb-true, or_parts}
 use Rattle.std.proofs.lemmas.List.{length-map}
@@ -15,7 +16,8 @@ use Rattle.fsb_signal.specs.declared.lines.TheConstants.Lines.{ADS, BNR}
 use Rattle.fsb_signal.specs.Samples.{line_at}
 use Rattle.fsb_timely.specs.Growth.{GrowsTo}
 use Rattle.fsb_timely.specs.Runs.{Run, past_of, past_to, run_to}
-use Rattle.fsb_timely.specs.Snoops.{drives_aerr, drives_bnr, drives_defer, drives_hazards, drives_stalls, is_bnr_chosen, keeps_snoop_lines}
+use Rattle.fsb_timely.specs.Snoops.{drives_aerr, drives_bnr, drives_defer, drives_hazards, drives_stalls, is_bnr_chosen}
+use Rattle.fsb_timely.specs.Snoops.{keeps_snoop_lines}
 use Rattle.fsb_timely.specs.Starts.{has_room, is_spaced}
 use Rattle.fsb_timely.specs.Timely.{Timely, holds_at, holds_in}
 use Rattle.fsb_timely.proofs.Interface.{last_where-found, run_to-agrees}

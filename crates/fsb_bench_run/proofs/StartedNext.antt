@@ -1,5 +1,7 @@
 -- The requests that have begun, after the clock.
-use Rattle.std.proofs.Common.{ℕ, ◌<◌, ◌≡◌, Bool, true, false, Option, Some, None, List, [], ◌∷◌, ◌++◌, is_some, length, map, slice_get, nat_eq, if◌then◌else◌, append-nil, refl, sym, ap, subst, ◌∙◌, arith, inl, inr}
+use Rattle.std.proofs.Common.{ℕ, ◌<◌, ◌≡◌, Bool, true, false, Option, Some, None, List, [], ◌∷◌, ◌++◌, is_some, length}
+use Rattle.std.proofs.Common.{map, slice_get, nat_eq, if◌then◌else◌, append-nil, refl, sym, ap, subst, ◌∙◌, arith, inl}
+use Rattle.std.proofs.Common.{inr}
 use Rattle.std.specs.Option.{option_map}
 use Rattle.std.proofs.lemmas.Option.{slice_get-map}
 use Rattle.fsb_count.specs.Clocks.{nth_where}
@@ -39,7 +41,8 @@ claim-same w v n q agree l =
     λ i. if line i then claim i else None
 
 -- what begins at a clock stays as a run grows
-pub begun-same : (r s : Run) (q : ℕ) → GrowsTo r s → q < length r.trace → begun_at (past_of s) q ≡ begun_at (past_of r) q
+pub begun-same : (r s : Run) (q : ℕ) → GrowsTo r s → q < length r.trace
+    → begun_at (past_of s) q ≡ begun_at (past_of r) q
 begun-same r s q grows l =
     let size = longer r s grows in
     begun-told s q (omega arith)
@@ -49,7 +52,8 @@ begun-same r s q grows l =
 begun_by-same : (r s : Run) (a q : ℕ) → GrowsTo r s → q < length r.trace
     → is_begun_by (past_of s) a q ≡ is_begun_by (past_of r) a q
 unfolding is_begun_by
-begun_by-same r s a q grows l = ap (λ o. is_some_and o (λ (claim : Claim). nat_eq claim.agent a)) (begun-same r s q grows l)
+begun_by-same r s a q grows l = ap (λ o. is_some_and o (λ (claim : Claim). nat_eq claim.agent a))
+    (begun-same r s q grows l)
 
 pub locked-same : (r s : Run) (a q : ℕ) → GrowsTo r s → q < length r.trace
     → is_locked_request (past_of s) a q ≡ is_locked_request (past_of r) a q
@@ -82,7 +86,8 @@ started-by r s started (Some x) grows h ads locks =
     let n = length r.trace in
     let new : Started = record { clock = n; locked = x.locked } in
     record {
-      clocks = map-push (λ (start : Started). start.clock) started new ∙ ap (λ xs. xs ++ n ∷ []) h.clocks ∙ sym (all-more r s true grows ads);
+      clocks = map-push (λ (start : Started). start.clock) started new ∙ ap (λ xs. xs ++ n ∷ []) h.clocks
+          ∙ sym (all-more r s true grows ads);
       locked = λ k a start at begun.
           elim (slice_get-push started new k start at) [
             | inl old ↦
@@ -90,7 +95,8 @@ started-by r s started (Some x) grows h ads locks =
                 let was = sym (begun_by-same r s a start.clock grows l) ∙ begun in
                 h.locked k a start old was ∙ sym (locked-same r s a start.clock grows l)
             | inr now ↦
-                subst (λ (start : Started). is_begun_by (past_of s) a start.clock ≡ true → start.locked ≡ is_locked_request (past_of s) a start.clock)
+                subst (λ (start : Started). is_begun_by (past_of s) a start.clock ≡ true
+                → start.locked ≡ is_locked_request (past_of s) a start.clock)
                 now.1 (locks x a refl) begun
           ];
     }
@@ -106,5 +112,8 @@ pub started-next : (v : BenchView) (hold : Bool) (choice : Choice) → IsBenchOf
     → HasStarted (bench_stepped v hold choice).bus.started (step_run v hold choice)
 started-next v hold choice b =
     subst (λ started. HasStarted started (step_run v hold choice)) (sym (started-stepped v hold choice))
-    (started-by v.run (step_run v hold choice) v.bus.started (step_decided v hold).starting (grows-to v hold choice b) b.started
-    (begins-now v hold choice) (λ starting a e begun. locked-start v hold choice (step_entries v hold) starting a (step-with v hold choice b) e begun))
+    (started-by v.run (step_run v hold choice) v.bus.started (step_decided v hold).starting
+    (grows-to v hold choice b) b.started
+    (begins-now v hold choice)
+    (λ starting a e begun. locked-start v hold choice (step_entries v hold) starting a
+    (step-with v hold choice b) e begun))

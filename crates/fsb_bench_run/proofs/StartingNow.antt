@@ -1,5 +1,6 @@
 -- What begins at the clock is what the winner of the run would begin there.
-use Rattle.std.proofs.Common.{ℕ, ◌≡◌, Bool, true, false, Option, Some, None, is_some, length, if◌then◌else◌, refl, sym, ap, subst, ◌∙◌, arith, List}
+use Rattle.std.proofs.Common.{ℕ, ◌≡◌, Bool, true, false, Option, Some, None, is_some, length, if◌then◌else◌, refl, sym}
+use Rattle.std.proofs.Common.{ap, subst, ◌∙◌, arith, List}
 use Rattle.std.specs.Option.{option_and_then, option_map}
 use Rattle.fsb_agent_view.specs.declared.want.Want.{Want}
 use Rattle.fsb_bridge.specs.declared.deferral.Deferral.{Deferral}
@@ -22,7 +23,8 @@ use Rattle.fsb_bench_view.specs.declared.beginning.Starting.{Starting}
 use Rattle.fsb_bench_view.specs.declared.decided.AskedFor.{AskedFor}
 use Rattle.fsb_bench_view.specs.BenchSteps.{step_decided, step_performed, was_held_at}
 use Rattle.fsb_bench_view.specs.BusDecisions.{asked_by}
-use Rattle.fsb_bench_view.specs.BusStarting.{is_kept_from, may_start, starting_by, starting_for, starting_reply, starting_want, want_in}
+use Rattle.fsb_bench_view.specs.BusStarting.{is_kept_from, may_start, starting_by, starting_for, starting_reply}
+use Rattle.fsb_bench_view.specs.BusStarting.{starting_want, want_in}
 use Rattle.fsb_bench_view.specs.BusViews.{BenchView, BusView, next_clock_of}
 use Rattle.fsb_bench_run.specs.BenchOf.{IsBegunAt}
 use Rattle.fsb_bench_run.proofs.AskedNow.{due-told, wants-told}
@@ -42,14 +44,17 @@ mapped-some f None y e = absurd (let no : ⊥ = cc in no)
 mapped-some f (Some x) y e = (x, refl, (let same : f x ≡ y = cc in same))
 
 -- it begins only where it may, and there is a winner
-pub starting-parts : (bus : BusView) (winner : Option Who) (clock : ℕ) (asked : AskedFor) (held : Bool) (starting : Starting)
+pub starting-parts : (bus : BusView) (winner : Option Who) (clock : ℕ) (asked : AskedFor) (held : Bool)
+    (starting : Starting)
     → starting_by bus winner clock asked held ≡ Some starting
-    → (may_start bus clock held ≡ true) × (who : Who) × (winner ≡ Some who) × (starting_for bus asked who ≡ Some starting)
+    → (may_start bus clock held ≡ true) × (who : Who) × (winner ≡ Some who)
+    × (starting_for bus asked who ≡ Some starting)
 starting-parts bus winner clock asked held starting e = by (may_start bus clock held) refl e
   where
     by : (b : Bool) → may_start bus clock held ≡ b
         → (if may_start bus clock held then option_and_then (starting_for bus asked) winner else None) ≡ Some starting
-        → (may_start bus clock held ≡ true) × (who : Who) × (winner ≡ Some who) × (starting_for bus asked who ≡ Some starting)
+        → (may_start bus clock held ≡ true) × (who : Who) × (winner ≡ Some who)
+        × (starting_for bus asked who ≡ Some starting)
     by true f e =
         let g : option_and_then (starting_for bus asked) winner ≡ Some starting = rw f at e in
         let k = and-some (starting_for bus asked) winner starting g in
@@ -71,8 +76,13 @@ wanted-parts bus agent (Some want) starting e = by (is_kept_from bus agent want)
         × (record { who = Symmetric agent; request = x.request; locked = x.locked } ≡ starting)
     by true f e = absurd (let g = rw f at e in let no : ⊥ = cc in no)
     by false f e =
-        let g = rw f at e in
-        (want, refl, f, (let same : record { who = Symmetric agent; request = want.request; locked = want.locked } ≡ starting = cc in same))
+        let g = rw f at e in (
+          want,
+          refl,
+          f,
+          (let same : record { who = Symmetric agent; request = want.request; locked = want.locked }
+              ≡ starting = cc in same),
+        )
 
 -- the winner of the longer run is that of the run
 pub winner-grown : (r s : Run) → GrowsTo r s → winner_at s.trace (length r.trace) ≡ winner_at r.trace (length r.trace)
@@ -80,8 +90,10 @@ winner-grown r s grows =
     sym (winner_at-agree (length r.trace) r.trace s.trace (length r.trace) (agree-grown r s grows) (omega arith))
 
 -- what an agent would begin at the clock
-would-symmetric : (r s : Run) (a : ℕ) (request : Request) → GrowsTo r s → want_of (past_of s) a (length r.trace) ≡ Some request
-    → would_begin (run_to s (length r.trace)) (past_to (past_of s) (length r.trace)) (length r.trace) (Symmetric a) ≡ Some request
+would-symmetric : (r s : Run) (a : ℕ) (request : Request) → GrowsTo r s
+    → want_of (past_of s) a (length r.trace) ≡ Some request
+    → would_begin (run_to s (length r.trace)) (past_to (past_of s) (length r.trace)) (length r.trace)
+    (Symmetric a) ≡ Some request
 unfolding would_begin
 would-symmetric r s a request grows e = ap (λ p. want_of p a (length r.trace)) (past-now r s grows) ∙ e
 
@@ -97,20 +109,26 @@ would-priority r s i deferral grows e k =
     ∙ ap (option_map reply_to) k.request
 
 -- the bench's due deferral is that of this request
-due-of : (v : BenchView) (hold : Bool) (choice : Choice) (entries : List Done) (deferral : Deferral) → IsStepWith v hold choice entries
+due-of : (v : BenchView) (hold : Bool) (choice : Choice) (entries : List Done) (deferral : Deferral)
+    → IsStepWith v hold choice entries
     → (step_decided v hold).asked.due ≡ Some deferral
-    → (i : ℕ) × (due_number (run_with v hold choice entries) (past_of (run_with v hold choice entries)) (next_clock_of v) ≡ Some i)
+    → (i : ℕ) × (due_number (run_with v hold choice entries) (past_of (run_with v hold choice entries))
+    (next_clock_of v) ≡ Some i)
     × IsDeferralOf (run_with v hold choice entries).trace deferral i
 due-of v hold choice entries deferral b e =
     subst (λ o. IsThatOf (run_with v hold choice entries).trace o
-    (due_number (run_with v hold choice entries) (past_of (run_with v hold choice entries)) (next_clock_of v))) e (due-told v hold choice entries b)
+    (due_number (run_with v hold choice entries) (past_of (run_with v hold choice entries)) (next_clock_of v)))
+    e (due-told v hold choice entries b)
 
 abbrev begun_now : BenchView → Bool → Choice → List Done → Starting → Type 0
-begun_now v hold choice entries starting = IsBegunAt (run_with v hold choice entries) (next_clock_of v) starting.who starting.request
+begun_now v hold choice entries starting =
+    IsBegunAt (run_with v hold choice entries) (next_clock_of v) starting.who starting.request
 
-begun-for : (v : BenchView) (hold : Bool) (choice : Choice) (entries : List Done) (starting : Starting) (who : Who) → IsStepWith v hold choice entries
+begun-for : (v : BenchView) (hold : Bool) (choice : Choice) (entries : List Done) (starting : Starting)
+    (who : Who) → IsStepWith v hold choice entries
     → (step_decided v hold).starting ≡ Some starting → winner_at v.run.trace (next_clock_of v) ≡ Some who
-    → starting_for (step_performed v) (step_decided v hold).asked who ≡ Some starting → begun_now v hold choice entries starting
+    → starting_for (step_performed v) (step_decided v hold).asked who ≡ Some starting
+    → begun_now v hold choice entries starting
 begun-for v hold choice entries starting (Symmetric a) b e win f =
     let r = v.run in
     let s = run_with v hold choice entries in
@@ -118,7 +136,8 @@ begun-for v hold choice entries starting (Symmetric a) b e win f =
     let parts = wanted-parts (step_performed v) a (want_in (step_decided v hold).asked a) starting f in
     let want : Want = parts.0 in
     let few = winner-four r.trace (next_clock_of v) a win in
-    let told = sym (wants-told v hold choice entries a b few) ∙ ap (option_map (λ (want : Want). want.request)) parts.1 in
+    let told = sym (wants-told v hold choice entries a b few)
+    ∙ ap (option_map (λ (want : Want). want.request)) parts.1 in
     let who = ap (λ (x : Starting). x.who) parts.3 in
     let request = ap (λ (x : Starting). x.request) parts.3 in
     subst (λ x. begun_now v hold choice entries x) parts.3 (record {
@@ -139,8 +158,10 @@ begun-for v hold choice entries starting Priority b e win f =
       wanted = would-priority r s due.0 deferral grows due.1 due.2;
     })
 
-pub starting-begins : (v : BenchView) (hold : Bool) (choice : Choice) (entries : List Done) (starting : Starting) → IsStepWith v hold choice entries
-    → (step_decided v hold).starting ≡ Some starting → IsBegunAt (run_with v hold choice entries) (next_clock_of v) starting.who starting.request
+pub starting-begins : (v : BenchView) (hold : Bool) (choice : Choice) (entries : List Done)
+    (starting : Starting) → IsStepWith v hold choice entries
+    → (step_decided v hold).starting ≡ Some starting
+    → IsBegunAt (run_with v hold choice entries) (next_clock_of v) starting.who starting.request
 starting-begins v hold choice entries starting b e =
     let parts = starting-parts (step_performed v) (winner_at v.run.trace (next_clock_of v)) (next_clock_of v)
     (asked_by (step_performed v) (next_clock_of v)) (was_held_at v.run.holds (next_clock_of v)) starting e in

@@ -1,5 +1,6 @@
 -- ADS# is at a bench's clock exactly where a request may begin.
-use Rattle.std.proofs.Common.{ℕ, ◌+◌, ◌-◌, ◌<◌, ◌≤◌, ◌≡◌, ◌&&◌, ◌||◌, Bool, true, false, not, is_some, if◌then◌else◌, nat_lt, Option, Some, None, List, length, refl, sym, ap, ◌∙◌, inl, inr, arith}
+use Rattle.std.proofs.Common.{ℕ, ◌+◌, ◌-◌, ◌<◌, ◌≤◌, ◌≡◌, ◌&&◌, ◌||◌, Bool, true, false, not, is_some, if◌then◌else◌}
+use Rattle.std.proofs.Common.{nat_lt, Option, Some, None, List, length, refl, sym, ap, ◌∙◌, inl, inr, arith}
 use Rattle.std.specs.Option.{option_and_then, option_map}
 use Rattle.std.proofs.lemmas.Bool.{and_from, cases_lt, le-leb, or_parts}
 use Rattle.fsb_access.specs.declared.log.Done.{Done}
@@ -13,7 +14,8 @@ use Rattle.fsb_signal.specs.Samples.{line_at}
 use Rattle.fsb_tied.proofs.Interface.{winner-four}
 use Rattle.fsb_timely.specs.Growth.{GoesOn}
 use Rattle.fsb_timely.specs.Runs.{past_of}
-use Rattle.fsb_timely.specs.Starts.{drives_ads, drives_pair, due_number, has_free_winner, has_room, is_kept_back, is_spaced, may_begin, starts_requests}
+use Rattle.fsb_timely.specs.Starts.{drives_ads, drives_pair, due_number, has_free_winner, has_room, is_kept_back}
+use Rattle.fsb_timely.specs.Starts.{is_spaced, may_begin, starts_requests}
 use Rattle.fsb_timely.specs.Timely.{holds_at}
 use Rattle.fsb_timely.specs.Wants.{is_held_back, is_open_to_other, want_of}
 use Rattle.fsb_timely.proofs.Interface.{past-goes_on}
@@ -24,7 +26,8 @@ use Rattle.fsb_trace.specs.declared.who.Who.{Who}
 use Rattle.fsb_trace.specs.declared.who.Who.TheVariants.{Symmetric, Priority}
 use Rattle.fsb_bench_view.specs.declared.beginning.Starting.{Starting}
 use Rattle.fsb_bench_view.specs.BenchSteps.{step_decided, step_performed, was_held_at}
-use Rattle.fsb_bench_view.specs.BusStarting.{is_kept_from, is_spaced_by, starting_for, starting_reply, starting_want, want_in}
+use Rattle.fsb_bench_view.specs.BusStarting.{is_kept_from, is_spaced_by, starting_for, starting_reply, starting_want}
+use Rattle.fsb_bench_view.specs.BusStarting.{want_in}
 use Rattle.fsb_bench_view.specs.BusViews.{BenchView, next_clock_of}
 use Rattle.fsb_bench_run.proofs.AdsGrown.{ads-old}
 use Rattle.fsb_bench_run.proofs.AskedNow.{due-told, wants-told}
@@ -75,7 +78,9 @@ unless false x = refl
 -- what an agent wants begins unless the agent is held back
 want-free : (v : BenchView) (hold : Bool) (choice : Choice) (entries : List Done) (a : ℕ)
     → IsStepWith v hold choice entries
-    → (o : Option Want) → option_map (λ (want : Want). want.request) o ≡ want_of (past_of (run_with v hold choice entries)) a (next_clock_of v)
+    → (o : Option Want)
+    → option_map (λ (want : Want). want.request) o ≡ want_of (past_of (run_with v hold choice entries)) a
+    (next_clock_of v)
     → is_some (want_of (past_of (run_with v hold choice entries)) a (next_clock_of v)) ≡ true
     → is_some (option_and_then (starting_want (step_performed v) a) o)
     ≡ not (is_held_back (past_of (run_with v hold choice entries)) a (next_clock_of v))
@@ -93,7 +98,8 @@ want-free v hold choice entries a b (Some want) told wants =
     unless (is_kept_from (step_performed v) a want)
     (record { who = Symmetric a; request = want.request; locked = want.locked })
     ∙ ap not (held
-    ∙ ap (λ o. is_some_and o (λ (request : Request). is_write_back_kind request.kind && is_open_to_other p a n request.line)) told)
+    ∙ ap (λ o. is_some_and o (λ (request : Request). is_write_back_kind request.kind
+    && is_open_to_other p a n request.line)) told)
 
 some-reply : (o : Option Deferral) → is_some (option_map starting_reply o) ≡ is_some o
 some-reply None = refl

@@ -10,8 +10,10 @@ use Rattle.fsb_bench_view.specs.declared.decided.BytesFrom.{BytesFrom}
 use Rattle.fsb_bench_view.specs.declared.decided.BytesFrom.TheVariants.{Memory, Agents}
 use Rattle.fsb_bench_view.specs.declared.decided.Ending.{Ending}
 use Rattle.fsb_bench_view.specs.declared.snoop.SnoopSettled.{SnoopSettled}
-use Rattle.fsb_bench_view.specs.BenchSteps.{bench_stepped, step_answered, step_cancelled, step_decided, step_drive, step_ended, step_ending, step_performed, step_snooped, step_started}
-use Rattle.fsb_bench_view.specs.BusEvents.{answered_by, bus_answered, bus_cancelled, bus_ended, bus_snooped, bus_started}
+use Rattle.fsb_bench_view.specs.BenchSteps.{bench_stepped, step_answered, step_cancelled, step_decided, step_drive}
+use Rattle.fsb_bench_view.specs.BenchSteps.{step_ended, step_ending, step_performed, step_snooped, step_started}
+use Rattle.fsb_bench_view.specs.BusEvents.{answered_by, bus_answered, bus_cancelled, bus_ended, bus_snooped}
+use Rattle.fsb_bench_view.specs.BusEvents.{bus_started}
 use Rattle.fsb_bench_view.specs.BusViews.{BenchView, BusView, next_clock_of}
 use Rattle.fsb_bench_view.specs.BytesFetched.{bus_fetched, bytes_source}
 
@@ -56,11 +58,13 @@ snooped-same : (bus : BusView) (o : Option SnoopSettled) → HasSameBegun (optio
 snooped-same bus None = same bus
 snooped-same bus (Some s) = record { latest = refl; started = refl; kept = refl; queue = refl }
 
-answered-same : (bus : BusView) (clock : ℕ) (o : Option Entry) → HasSameBegun (option_map_or (bus_answered bus clock) o bus) bus
+answered-same : (bus : BusView) (clock : ℕ) (o : Option Entry)
+    → HasSameBegun (option_map_or (bus_answered bus clock) o bus) bus
 answered-same bus clock None = same bus
 answered-same bus clock (Some e) = record { latest = refl; started = refl; kept = refl; queue = refl }
 
-ended-same : (bus : BusView) (clock : ℕ) (o : Option Ending) → HasSameBegun (option_map_or (bus_ended bus clock) o bus) bus
+ended-same : (bus : BusView) (clock : ℕ) (o : Option Ending)
+    → HasSameBegun (option_map_or (bus_ended bus clock) o bus) bus
 ended-same bus clock None = same bus
 ended-same bus clock (Some e) = record { latest = refl; started = refl; kept = refl; queue = refl }
 
@@ -98,7 +102,8 @@ started-kept bus clock (Some s) = refl
 
 -- the request that began last, after the clock
 pub latest-stepped : (v : BenchView) (hold : Bool) (choice : Choice)
-    → (bench_stepped v hold choice).bus.latest ≡ latest_after (next_clock_of v) (step_decided v hold).starting v.bus.latest
+    → (bench_stepped v hold choice).bus.latest ≡ latest_after (next_clock_of v) (step_decided v hold).starting
+    v.bus.latest
 latest-stepped v hold choice =
     (ended-begun v hold).latest
     ∙ started-latest (step_performed v) (next_clock_of v) (step_decided v hold).starting
@@ -113,7 +118,8 @@ started-ended v hold =
     ∙ ap (started_after (next_clock_of v) (step_decided v hold).starting) (performed-begun v).started
 
 pub started-stepped : (v : BenchView) (hold : Bool) (choice : Choice)
-    → (bench_stepped v hold choice).bus.started ≡ started_after (next_clock_of v) (step_decided v hold).starting v.bus.started
+    → (bench_stepped v hold choice).bus.started ≡ started_after (next_clock_of v) (step_decided v hold).starting
+    v.bus.started
 started-stepped v hold choice = started-ended v hold
 
 -- the locks, before they take the clock

@@ -1,4 +1,5 @@
--- The run with one more clock of a bench that stands for its run, where some entries are logged there, and the hits are told.
+-- The run with one more clock of a bench that stands for its run, where some entries are logged there, and the hits
+-- are told.
 use Rattle.std.proofs.Common.{◌≡◌, Bool, List, is_some, ◌∙◌}
 use Rattle.fsb_access.specs.declared.log.Done.{Done}
 use Rattle.fsb_hazard.specs.declared.choice.Choice.{Choice}
@@ -22,4 +23,5 @@ pub record IsStepWith (v : BenchView) (hold : Bool) (choice : Choice) (entries :
 pub begins-with : (v : BenchView) (hold : Bool) (choice : Choice) (entries : List Done)
     → line_at ADS (run_with v hold choice entries).trace (next_clock_of v) ≡ is_some (step_decided v hold).starting
 begins-with v hold choice entries =
-    line-with v hold choice entries ADS ∙ ads-driven (step_performed v) (next_clock_of v) v.run.plan.profile (step_decided v hold)
+    line-with v hold choice entries ADS
+    ∙ ads-driven (step_performed v) (next_clock_of v) v.run.plan.profile (step_decided v hold)

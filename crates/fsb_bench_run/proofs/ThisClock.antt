@@ -1,5 +1,6 @@
 -- The last clock of a run that has grown by it: what is said of it is said of the whole run.
-use Rattle.std.proofs.Common.{ℕ, ◌+◌, ◌<◌, ◌≡◌, ◌&&◌, true, List, [], ◌∷◌, ◌++◌, length, nat_eq, nat_le, nat_lt, refl, sym, ap, ◌∙◌, arith}
+use Rattle.std.proofs.Common.{ℕ, ◌+◌, ◌<◌, ◌≡◌, ◌&&◌, true, List, [], ◌∷◌, ◌++◌, length, nat_eq, nat_le, nat_lt, refl}
+use Rattle.std.proofs.Common.{sym, ap, ◌∙◌, arith}
 use Rattle.std.specs.List.{list_all}
 use Rattle.std.proofs.lemmas.Bool.{and_parts, eqb-true, le-leb, ltb-true}
 use Rattle.std.proofs.lemmas.List.{take_all}

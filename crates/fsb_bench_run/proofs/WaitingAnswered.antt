@@ -1,5 +1,6 @@
 -- What the response of a clock makes of the deferrals of a bench.
-use Rattle.std.proofs.Common.{ℕ, ◌+◌, ◌≡◌, Bool, true, false, if◌then◌else◌, nat_eq, List, Option, Some, None, length, map, slice_get, refl, sym, ap, ◌∙◌, arith, inl, inr}
+use Rattle.std.proofs.Common.{ℕ, ◌+◌, ◌≡◌, Bool, true, false, if◌then◌else◌, nat_eq, List, Option, Some, None, length}
+use Rattle.std.proofs.Common.{map, slice_get, refl, sym, ap, ◌∙◌, arith, inl, inr}
 use Rattle.std.specs.List.{find}
 use Rattle.std.specs.Option.{option_and_then, option_map, option_map_or}
 use Rattle.fsb_bridge.specs.Deferrals.{with_answer}
@@ -138,7 +139,8 @@ after-answer s n e bus responds deferred number =
 
 -- the response that is driven
 answers-with : (v : BenchView) (hold : Bool) (o : Option Entry) → find (has_response v.run.trace) v.bus.queue ≡ o
-    → answered_by (step_snooped v hold) (step_drive v) ≡ answered_at (option_map_or settled_code o 0) (slice_get v.bus.queue 0)
+    → answered_by (step_snooped v hold) (step_drive v)
+    ≡ answered_at (option_map_or settled_code o 0) (slice_get v.bus.queue 0)
 unfolding drive_of
 answers-with v hold o e =
     let queue = queue-snooped v hold in

@@ -1,5 +1,6 @@
 -- What the snoop end of a clock makes of the deferrals of a bench.
-use Rattle.std.proofs.Common.{ℕ, ◌+◌, ◌<◌, ◌≡◌, Bool, true, false, Some, None, List, [], ◌∷◌, ◌++◌, length, if◌then◌else◌, refl, sym, ap, subst, ◌∙◌, arith, inl, inr}
+use Rattle.std.proofs.Common.{ℕ, ◌+◌, ◌<◌, ◌≡◌, Bool, true, false, Some, None, List, [], ◌∷◌, ◌++◌, length}
+use Rattle.std.proofs.Common.{if◌then◌else◌, refl, sym, ap, subst, ◌∙◌, arith, inl, inr}
 use Rattle.std.specs.List.{slice_get}
 use Rattle.std.specs.Option.{option_map_or}
 use Rattle.fsb_access.specs.declared.log.Done.{Done}
@@ -33,7 +34,8 @@ use Rattle.fsb_trace.proofs.Interface.{line_at-agree}
 use Rattle.fsb_bench_view.specs.declared.snoop.SnoopSettled.{SnoopSettled}
 use Rattle.fsb_bench_view.specs.BenchSteps.{step_cancelled, step_decided, step_performed, step_snooped}
 use Rattle.fsb_bench_view.specs.BusEvents.{bus_snooped, waiting_snooped, waiting_with}
-use Rattle.fsb_bench_view.specs.BusSnooping.{answer_besides, is_modified_answer, snoop_outcome, snooped_entry, snooped_for, snooped_reply, snooping_of}
+use Rattle.fsb_bench_view.specs.BusSnooping.{answer_besides, is_modified_answer, snoop_outcome, snooped_entry}
+use Rattle.fsb_bench_view.specs.BusSnooping.{snooped_for, snooped_reply, snooping_of}
 use Rattle.fsb_bench_view.specs.BusViews.{BenchView, BusView, next_clock_of}
 use Rattle.fsb_bench_run.specs.BenchOf.{IsBegunAt}
 use Rattle.fsb_bench_run.proofs.RunWith.{run_with}

@@ -1,5 +1,7 @@
 -- The lines that an agent wants, and those that it holds, are lines that the scripts name.
-use Rattle.std.proofs.Common.{ℕ, zero, suc, ◌+◌, ◌-◌, ◌<◌, ◌≤◌, ◌≡◌, ◌||◌, Bool, true, false, if◌then◌else◌, nat_eq, nat_le, List, [], ◌∷◌, ◌++◌, map, drop, Option, Some, None, length, refl, sym, ap, ◌∙◌, arith, inl, inr}
+use Rattle.std.proofs.Common.{ℕ, zero, suc, ◌+◌, ◌-◌, ◌<◌, ◌≤◌, ◌≡◌, ◌||◌, Bool, true, false, if◌then◌else◌, nat_eq}
+use Rattle.std.proofs.Common.{nat_le, List, [], ◌∷◌, ◌++◌, map, drop, Option, Some, None, length, refl, sym, ap, ◌∙◌}
+use Rattle.std.proofs.Common.{arith, inl, inr}
 use Rattle.std.specs.List.{find, list_all, list_any, slice_get}
 use Rattle.std.specs.Option.{option_map_or}
 use Rattle.std.proofs.lemmas.Bool.{and_from, and_parts, eq-eqb}
@@ -20,7 +22,8 @@ use Rattle.fsb_timely.specs.Kept.{is_named_in}
 use Rattle.fsb_timely.specs.Moments.{claim_at}
 use Rattle.fsb_timely.specs.Past.{Past}
 use Rattle.fsb_timely.specs.Runs.{Run, past_of}
-use Rattle.fsb_timely.specs.Scripts.{Need, is_idling, is_locked, items_of, locked_need, needs_after, needs_from, needs_of, next_number, plain_items, plain_need, window, window_at, window_from}
+use Rattle.fsb_timely.specs.Scripts.{Need, is_idling, is_locked, items_of, locked_need, needs_after, needs_from}
+use Rattle.fsb_timely.specs.Scripts.{needs_of, next_number, plain_items, plain_need, window, window_at, window_from}
 use Rattle.fsb_timely.specs.Timely.{Timely}
 use Rattle.fsb_timely.specs.Wants.{is_missing, owed, request_of_kind, victim_of, want_for, want_of, write_back_of}
 use Rattle.fsb_timely.proofs.Interface.{begun-told, holds_line-says}

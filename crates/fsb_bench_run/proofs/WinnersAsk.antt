@@ -1,6 +1,8 @@
 -- Who wins the bus two clocks after nothing began has something to begin: it asked two clocks before, and still
 -- wants it.
-use Rattle.std.proofs.Common.{ℕ, ◌+◌, ◌-◌, ◌%◌, ◌<◌, ◌≤◌, ◌≡◌, ◌&&◌, ◌||◌, Bool, true, false, not, List, [], Option, Some, None, is_some, if◌then◌else◌, length, nat_eq, nat_le, nat_lt, refl, sym, ap, subst, ◌∙◌, arith}
+use Rattle.std.proofs.Common.{ℕ, ◌+◌, ◌-◌, ◌%◌, ◌<◌, ◌≤◌, ◌≡◌, ◌&&◌, ◌||◌, Bool, true, false, not, List, [], Option}
+use Rattle.std.proofs.Common.{Some, None, is_some, if◌then◌else◌, length, nat_eq, nat_le, nat_lt, refl, sym, ap, subst}
+use Rattle.std.proofs.Common.{◌∙◌, arith}
 use Rattle.std.specs.List.{find, list_any}
 use Rattle.std.specs.Option.{option_map}
 use Rattle.std.proofs.lemmas.Bool.{and_parts, ltb-false}
@@ -13,14 +15,18 @@ use Rattle.fsb_timely.specs.Growth.{GoesOn, GrowsTo}
 use Rattle.fsb_timely.specs.Past.{Owing, Past}
 use Rattle.fsb_timely.specs.Runs.{Run, past_of, past_to, run_to}
 use Rattle.fsb_timely.specs.Scripts.{Need, is_idling, needs_from, window}
-use Rattle.fsb_timely.specs.Starts.{asks_for_bus, asks_for_priority, began_before, drives_request_lines, due_number, reply_before}
+use Rattle.fsb_timely.specs.Starts.{asks_for_bus, asks_for_priority, began_before, drives_request_lines, due_number}
+use Rattle.fsb_timely.specs.Starts.{reply_before}
 use Rattle.fsb_timely.specs.Staying.{OwesNoMore}
 use Rattle.fsb_timely.specs.Timely.{Timely, holds_at, holds_in}
 use Rattle.fsb_timely.specs.Wants.{is_asked_for, is_missing, is_same_set, is_set_taken, owed, want_for, want_of}
 use Rattle.fsb_timely.specs.Grants.{set_of}
-use Rattle.fsb_timely.proofs.Interface.{below_le, done_below, going-alike, is_idling-alike, is_met-alike, owed-same, past-begins, run_to-agrees, timely-want-stays, want_of-alike, window-alike}
+use Rattle.fsb_timely.proofs.Interface.{below_le, done_below, going-alike, is_idling-alike, is_met-alike, owed-same}
+use Rattle.fsb_timely.proofs.Interface.{past-begins, run_to-agrees, timely-want-stays, want_of-alike, window-alike}
 use Rattle.fsb_trace.specs.At.{Trace}
-use Rattle.fsb_trace.specs.Winner.{Requesters, agent_in_order, asks_in_order, begins_at, bus_request_of, first_asking, first_in_order, is_agent, last_if_asking, request_line_of, requesters_before, winner_after, winner_at, winner_by}
+use Rattle.fsb_trace.specs.Winner.{Requesters, agent_in_order, asks_in_order, begins_at, bus_request_of, first_asking}
+use Rattle.fsb_trace.specs.Winner.{first_in_order, is_agent, last_if_asking, request_line_of, requesters_before}
+use Rattle.fsb_trace.specs.Winner.{winner_after, winner_at, winner_by}
 use Rattle.fsb_trace.specs.declared.who.Who.{Who}
 use Rattle.fsb_trace.specs.declared.who.Who.TheVariants.{Symmetric, Priority}
 use Rattle.fsb_trace.proofs.Interface.{line_at-agree}
@@ -95,7 +101,8 @@ asks-wants r c a h l few e =
     let lines = (and_parts (each_where (asks_for_bus u p c) 4) (asks_for_priority u p c) (h.request_lines.at c l)).0 in
     let told = lawful.same-beq _ _ (each_where-at (asks_for_bus u p c) 4 lines a few) in
     asked-by (is_some (want_of p a c)) (began_before u c (Symmetric a))
-    (sym told ∙ sym (line_at-agree (bus_request_of a) (c + 1) r.trace u.trace c (run_to-agrees r c l) (omega arith)) ∙ e)
+    (sym told ∙ sym (line_at-agree (bus_request_of a) (c + 1) r.trace u.trace c (run_to-agrees r c l)
+    (omega arith)) ∙ e)
 
 -- for the priority agent a reply is due
 pub asks-due : (r : Run) (c : ℕ) → Timely r → c < length r.trace → line_at BPRI r.trace c ≡ true
@@ -157,7 +164,11 @@ wants-missing p a c = by (is_idling p a c || nat_le p.plan.ahead (length (owed p
       | false ↦ option_map (want_for p a c (owed p a c))
           (find (is_missing p a c (owed p a c)) (needs_from [] (window p a c)))
     ])
-        ≡ (elim b [ true ↦ false | false ↦ is_some (find (is_missing p a c (owed p a c)) (needs_from [] (window p a c))) ])
+        ≡ (elim b [
+          | true ↦ false
+          | false ↦
+              is_some (find (is_missing p a c (owed p a c)) (needs_from [] (window p a c)))
+        ])
     by true = refl
     by false = some-mapped (want_for p a c (owed p a c))
         (find (is_missing p a c (owed p a c)) (needs_from [] (window p a c)))

@@ -1,5 +1,6 @@
 -- The words that a bench has for its next clock come from lawful requests.
-use Rattle.std.proofs.Common.{ℕ, ◌^◌, ◌<◌, ◌≡◌, ◌&&◌, Bool, true, not, Some, nat_eq, nat_lt, slice_get, sym, ap, ◌∙◌, arith}
+use Rattle.std.proofs.Common.{ℕ, ◌^◌, ◌<◌, ◌≡◌, ◌&&◌, Bool, true, not, Some, nat_eq, nat_lt, slice_get, sym, ap, ◌∙◌}
+use Rattle.std.proofs.Common.{arith}
 use Rattle.std.proofs.lemmas.Bool.{and_parts, eqb-true, ltb-true}
 use Rattle.std.proofs.lemmas.Option.{slice_get_within}
 use Rattle.fsb_encode.specs.declared.request.Kind.{Kind}

@@ -1,6 +1,7 @@
 -- The agents of a bench from the hits of its clock to what ends there: each has its lines from before, as far as
 -- they have come.
-use Rattle.std.proofs.Common.{ℕ, ◌+◌, ◌≡◌, ◌||◌, Bool, true, false, Option, Some, None, List, [], ◌∷◌, fold, if◌then◌else◌, sym, ap, subst, ◌∙◌, arith}
+use Rattle.std.proofs.Common.{ℕ, ◌+◌, ◌≡◌, ◌||◌, Bool, true, false, Option, Some, None, List, [], ◌∷◌, fold}
+use Rattle.std.proofs.Common.{if◌then◌else◌, sym, ap, subst, ◌∙◌, arith}
 use Rattle.std.specs.Prelude.{◌==◌}
 use Rattle.std.specs.List.{slice_get}
 use Rattle.std.specs.Option.{option_map_or}
@@ -13,13 +14,16 @@ use Rattle.fsb_bench_view.specs.declared.beginning.Starting.{Starting}
 use Rattle.fsb_bench_view.specs.declared.decided.BytesFrom.{BytesFrom}
 use Rattle.fsb_bench_view.specs.declared.decided.BytesFrom.TheVariants.{Memory, Agents}
 use Rattle.fsb_bench_view.specs.declared.snoop.SnoopSettled.{SnoopSettled}
-use Rattle.fsb_bench_view.specs.BenchSteps.{step_answered, step_cancelled, step_decided, step_drive, step_fetched, step_performed, step_snooped, step_started}
-use Rattle.fsb_bench_view.specs.BusEvents.{answered_by, bus_answered, bus_cancelled, bus_snooped, bus_started, cancelled_event, snooped_event, starting_event}
+use Rattle.fsb_bench_view.specs.BenchSteps.{step_answered, step_cancelled, step_decided, step_drive, step_fetched}
+use Rattle.fsb_bench_view.specs.BenchSteps.{step_performed, step_snooped, step_started}
+use Rattle.fsb_bench_view.specs.BusEvents.{answered_by, bus_answered, bus_cancelled, bus_snooped, bus_started}
+use Rattle.fsb_bench_view.specs.BusEvents.{cancelled_event, snooped_event, starting_event}
 use Rattle.fsb_bench_view.specs.BusViews.{BenchView, BusView, next_clock_of}
 use Rattle.fsb_bench_view.specs.BytesFetched.{bus_fetched, bytes_source}
 use Rattle.fsb_bench_view.specs.ToldAgents.{agents_told, for_all}
 use Rattle.fsb_bench_run.proofs.Interface.{some-of, told-at}
-use Rattle.fsb_bench_values.proofs.LoweredViews.{IsLowered, lowered-committed, lowered-given, lowered-handed, lowered-same, lowered-sent, lowered-twice}
+use Rattle.fsb_bench_values.proofs.LoweredViews.{IsLowered, lowered-committed, lowered-given, lowered-handed}
+use Rattle.fsb_bench_values.proofs.LoweredViews.{lowered-same, lowered-sent, lowered-twice}
 
 -- the agent of this number before
 pub record WasAgent (old : List AgentView) (a : ℕ) (w : AgentView) : Type 0 where

@@ -1,12 +1,15 @@
 -- At each clock of a bench the data lines have the chunk that is due.
-use Rattle.std.proofs.Common.{ℕ, ◌<◌, ◌≡◌, Bool, true, false, List, Option, Some, None, length, nat_eq, slice_index, refl, sym, ap, ◌∙◌, inl, inr, arith}
+use Rattle.std.proofs.Common.{ℕ, ◌<◌, ◌≡◌, Bool, true, false, List, Option, Some, None, length, nat_eq, slice_index}
+use Rattle.std.proofs.Common.{refl, sym, ap, ◌∙◌, inl, inr, arith}
 use Rattle.std.specs.List.{slice_get}
 use Rattle.std.specs.Option.{option_map_or}
 use Rattle.std.proofs.lemmas.Bool.{cases_lt, eq-eqb, or_left, or_right}
 use Rattle.fsb_access.specs.declared.log.Done.{Done}
 use Rattle.fsb_bench_run.specs.BenchOf.{IsBenchOf}
-use Rattle.fsb_bench_run.proofs.Interface.{before-growth, grows-to, holds-now, one-number, orderly-run, reaches-step, run_with, timely-now}
-use Rattle.fsb_bench_view.specs.BenchSteps.{step_drive, step_entries, step_fetched, step_performed, step_run, step_sample}
+use Rattle.fsb_bench_run.proofs.Interface.{before-growth, grows-to, holds-now, one-number, orderly-run, reaches-step}
+use Rattle.fsb_bench_run.proofs.Interface.{run_with, timely-now}
+use Rattle.fsb_bench_view.specs.BenchSteps.{step_drive, step_entries, step_fetched, step_performed, step_run}
+use Rattle.fsb_bench_view.specs.BenchSteps.{step_sample}
 use Rattle.fsb_bench_view.specs.BusViews.{BenchView, BusView, next_clock_of}
 use Rattle.fsb_bench_view.specs.BytesFetched.{bus_fetched, bytes_source, chunk_in, chunk_moved, data_driven}
 use Rattle.fsb_bench_view.specs.declared.decided.BytesFrom.{BytesFrom}
@@ -27,8 +30,10 @@ use Rattle.fsb_phase_run.proofs.Interface.{agree-back, agree-grown, snooped-same
 use Rattle.fsb_signal.specs.Samples.{data_at, known_word}
 use Rattle.fsb_signal.specs.declared.sample.Sample.{Sample}
 use Rattle.fsb_tied.specs.RunBytes.{bytes_below, machine_line}
-use Rattle.fsb_tied.proofs.Interface.{IsMoved, answers-in-order, awaited-there, bytes-at-end, ended-number, ended-parts, moved-below-run, moved-from, moves-from, not-so, number-responded}
-use Rattle.fsb_timely.specs.Carried.{Carried, carried_value, carries_chunk, carries_data, carries_from, carries_if_due, memory_below, served_request}
+use Rattle.fsb_tied.proofs.Interface.{IsMoved, answers-in-order, awaited-there, bytes-at-end, ended-number, ended-parts}
+use Rattle.fsb_tied.proofs.Interface.{moved-below-run, moved-from, moves-from, not-so, number-responded}
+use Rattle.fsb_timely.specs.Carried.{Carried, carried_value, carries_chunk, carries_data, carries_from, carries_if_due}
+use Rattle.fsb_timely.specs.Carried.{memory_below, served_request}
 use Rattle.fsb_timely.specs.Grants.{is_ended, snooped_at}
 use Rattle.fsb_timely.specs.Growth.{GrowsTo}
 use Rattle.fsb_timely.specs.Kept.{bytes_now, line_bytes}

@@ -1,11 +1,13 @@
 -- The chunk that a bench drives at a data clock: that of the oldest request, which the clock is due of.
-use Rattle.std.proofs.Common.{ℕ, zero, suc, ◌<◌, ◌≤◌, ◌≡◌, Bool, true, not, if◌then◌else◌, List, Some, None, is_some, length, refl, sym, ap, ◌∙◌, arith}
+use Rattle.std.proofs.Common.{ℕ, zero, suc, ◌<◌, ◌≤◌, ◌≡◌, Bool, true, not, if◌then◌else◌, List, Some, None, is_some}
+use Rattle.std.proofs.Common.{length, refl, sym, ap, ◌∙◌, arith}
 use Rattle.std.specs.List.{slice_get}
 use Rattle.std.specs.Option.{option_and_then, option_map}
 use Rattle.std.proofs.lemmas.Bool.{and_parts, both_ways, lt-ltb}
 use Rattle.std.proofs.lemmas.Option.{slice_get_within}
 use Rattle.fsb_bench_run.specs.BenchOf.{IsBenchOf, IsServed}
-use Rattle.fsb_bench_run.proofs.Interface.{clock-there, code-now, grows-to, head-settled, orderly-run, rank-rises, reaches-step, sample-grown}
+use Rattle.fsb_bench_run.proofs.Interface.{clock-there, code-now, grows-to, head-settled, orderly-run, rank-rises}
+use Rattle.fsb_bench_run.proofs.Interface.{reaches-step, sample-grown}
 use Rattle.fsb_bench_view.specs.BenchSteps.{step_drive, step_entries, step_run}
 use Rattle.fsb_bench_view.specs.BusViews.{BenchView, next_clock_of}
 use Rattle.fsb_bench_view.specs.declared.snoop.Served.{Served}
@@ -18,7 +20,8 @@ use Rattle.fsb_phase.specs.Due.{due_chunk, is_moving, rank_of, response_to_now}
 use Rattle.fsb_phase.specs.Drive.{drive_of, numbered_chunk}
 use Rattle.fsb_phase.proofs.Interface.{find-place}
 use Rattle.fsb_phase_run.specs.Holds.{HoldsRequests}
-use Rattle.fsb_phase_run.proofs.Interface.{agree-back, chunk-way, code-shown, live-same, settled-same, shown, shown-now, way-entry}
+use Rattle.fsb_phase_run.proofs.Interface.{agree-back, chunk-way, code-shown, live-same, settled-same, shown, shown-now}
+use Rattle.fsb_phase_run.proofs.Interface.{way-entry}
 use Rattle.fsb_queue.specs.declared.entry.Entry.{Entry}
 use Rattle.fsb_signal.specs.Samples.{response_of}
 use Rattle.fsb_tied.proofs.Interface.{answered, ended-before}

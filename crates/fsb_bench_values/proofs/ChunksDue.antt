@@ -1,24 +1,28 @@
 -- Which chunk a data clock of a timely run is: that which the wait of its request has due there.
-use Rattle.std.proofs.Common.{ℕ, zero, suc, ◌+◌, ◌*◌, ◌<◌, ◌≤◌, ◌≡◌, Bool, true, false, ◌&&◌, if◌then◌else◌, Option, Some, None, is_some, length, nat_eq, nat_le, nat_lt, refl, sym, ap, ◌∙◌, arith, inl, inr}
+use Rattle.std.proofs.Common.{ℕ, zero, suc, ◌+◌, ◌*◌, ◌<◌, ◌≤◌, ◌≡◌, Bool, true, false, ◌&&◌, if◌then◌else◌, Option}
+use Rattle.std.proofs.Common.{Some, None, is_some, length, nat_eq, nat_le, nat_lt, refl, sym, ap, ◌∙◌, arith, inl, inr}
 use Rattle.std.specs.Option.{option_and_then}
 use Rattle.std.proofs.lemmas.Bool.{and_parts, cases_lt, eq-eqb, eqb-true, leb-true, le-leb, lt-leb, ltb-true}
 use Rattle.fsb_count.specs.Options.{is_some_and}
 use Rattle.fsb_count.specs.Clocks.{count_where, from_clock, nth_where}
-use Rattle.fsb_count.proofs.Interface.{count_where-above, count_where-mono, count_where-passed, count_where-same, first_where-found, first_where-none, nth_where-found, nth_where-rises}
+use Rattle.fsb_count.proofs.Interface.{count_where-above, count_where-mono, count_where-passed, count_where-same}
+use Rattle.fsb_count.proofs.Interface.{first_where-found, first_where-none, nth_where-found, nth_where-rises}
 use Rattle.fsb_signal.specs.declared.lines.TheConstants.Lines.{DRDY}
 use Rattle.fsb_signal.specs.Samples.{line_at}
 use Rattle.fsb_trace.specs.At.{responds_at}
 use Rattle.fsb_trace.specs.Outcome.{does_move, moves_data, response_clock_of}
 use Rattle.fsb_trace.specs.Response.{data_clock_of}
 use Rattle.fsb_trace.specs.Timing.{chunk_from}
-use Rattle.fsb_trace.proofs.Interface.{AgreeTo-sym, end_of-moving, line_at-agree, outcome_of-stays, responds_at-agree, response_clock_of-stays}
+use Rattle.fsb_trace.proofs.Interface.{AgreeTo-sym, end_of-moving, line_at-agree, outcome_of-stays, responds_at-agree}
+use Rattle.fsb_trace.proofs.Interface.{response_clock_of-stays}
 use Rattle.fsb_laws.specs.Progress.{response_count}
 use Rattle.fsb_laws.proofs.Interface.{clear_parts, has_answer, response_counted, response_there}
 use Rattle.fsb_timely.specs.Runs.{Run, past_of, run_to}
 use Rattle.fsb_timely.specs.Snoops.{live_choice}
 use Rattle.fsb_timely.specs.Timely.{Timely}
 use Rattle.fsb_timely.specs.Transfers.{has_data_at, settled_of, settles_to_move}
-use Rattle.fsb_lawful.proofs.Interface.{LastMoves, and-then, chunk-bounds, chunks-few, cuts-agree, is_chunk, last-moves, length-cut, live_choice-same, orderly-at, told-as-settled}
+use Rattle.fsb_lawful.proofs.Interface.{LastMoves, and-then, chunk-bounds, chunks-few, cuts-agree, is_chunk, last-moves}
+use Rattle.fsb_lawful.proofs.Interface.{length-cut, live_choice-same, orderly-at, told-as-settled}
 
 -- the clocks between the chunks of live request i
 abbrev pub wait_of : Run → ℕ → ℕ

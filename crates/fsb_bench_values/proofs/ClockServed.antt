@@ -1,6 +1,7 @@
 -- The log of a bench's clock is served, and each agent has the bytes of the one byte memory behind it, where what
 -- comes with the end of the clock has the bytes of its line.
-use Rattle.std.proofs.Common.{ℕ, ◌+◌, ◌<◌, ◌≡◌, ◌≢◌, Bool, true, false, Option, Some, None, List, ◌++◌, length, is_some, refl, sym, ap, subst, ◌∙◌, inl, inr, ⊎_elim, arith}
+use Rattle.std.proofs.Common.{ℕ, ◌+◌, ◌<◌, ◌≡◌, ◌≢◌, Bool, true, false, Option, Some, None, List, ◌++◌, length, is_some}
+use Rattle.std.proofs.Common.{refl, sym, ap, subst, ◌∙◌, inl, inr, ⊎_elim, arith}
 use Rattle.std.specs.List.{list_all, slice_get}
 use Rattle.std.proofs.lemmas.Bool.{and_parts, both_ways, cases_eq, eq-eqb, ne_eqb}
 use Rattle.fsb_access.specs.declared.access.Setting.{Setting}
@@ -32,12 +33,14 @@ use Rattle.fsb_agent_run.specs.RunViews.{IsComing}
 use Rattle.fsb_agent_run.specs.Stages.{IsViewAfterHit, IsViewAfterSnoop}
 use Rattle.fsb_agent_run.proofs.Interface.{come-by, comes-to, ended-here, held-by, kept-made, sole-by}
 use Rattle.fsb_bench_view.specs.declared.decided.Ending.{Ending}
-use Rattle.fsb_bench_view.specs.BenchSteps.{step_answered, step_decided, step_ended, step_ending, step_entries, step_fetched, step_performed, step_phased, step_run}
+use Rattle.fsb_bench_view.specs.BenchSteps.{step_answered, step_decided, step_ended, step_ending, step_entries}
+use Rattle.fsb_bench_view.specs.BenchSteps.{step_fetched, step_performed, step_phased, step_run}
 use Rattle.fsb_bench_view.specs.BusEvents.{heard_entries}
 use Rattle.fsb_bench_view.specs.BusViews.{BenchView, next_clock_of}
 use Rattle.fsb_bench_view.specs.ToldAgents.{hit_entries}
 use Rattle.fsb_bench_run.specs.BenchOf.{IsBenchOf}
-use Rattle.fsb_bench_run.proofs.Interface.{bench-hits, ending-heard, made-by, reaches-step, settled-or-replied, some-lines, step-with, views-answered}
+use Rattle.fsb_bench_run.proofs.Interface.{bench-hits, ending-heard, made-by, reaches-step, settled-or-replied}
+use Rattle.fsb_bench_run.proofs.Interface.{some-lines, step-with, views-answered}
 use Rattle.fsb_bench_values.specs.BytesOf.{HasBytesOf, state_now}
 use Rattle.fsb_bench_values.proofs.AgentsLowered.{answered-lowered}
 use Rattle.fsb_bench_values.proofs.ArrivalServed.{owns_line}

@@ -1,5 +1,6 @@
 -- What comes with the end of a bench's clock has the bytes of its line: the data on the bus, and what was kept.
-use Rattle.std.proofs.Common.{ℕ, ◌+◌, ◌<◌, ◌≡◌, Bool, true, Option, Some, None, List, length, refl, sym, ap, subst, ◌∙◌, inl, inr, arith}
+use Rattle.std.proofs.Common.{ℕ, ◌+◌, ◌<◌, ◌≡◌, Bool, true, Option, Some, None, List, length, refl, sym, ap, subst, ◌∙◌}
+use Rattle.std.proofs.Common.{inl, inr, arith}
 use Rattle.std.specs.List.{slice_get}
 use Rattle.std.proofs.lemmas.Bool.{eqb-true}
 use Rattle.fsb_hazard.specs.declared.choice.Choice.{Choice}
@@ -25,7 +26,8 @@ use Rattle.fsb_bench_view.specs.BenchSteps.{step_answered, step_ending, step_ent
 use Rattle.fsb_bench_view.specs.BusViews.{BenchView}
 use Rattle.fsb_bench_view.specs.MaySteps.{run_turns}
 use Rattle.fsb_bench_run.specs.BenchOf.{IsBegunAt, IsBenchOf}
-use Rattle.fsb_bench_run.proofs.Interface.{begun-claim, begun-is, begun-stays, end-cases, grows-to, reaches-step, step-with}
+use Rattle.fsb_bench_run.proofs.Interface.{begun-claim, begun-is, begun-stays, end-cases, grows-to, reaches-step}
+use Rattle.fsb_bench_run.proofs.Interface.{step-with}
 use Rattle.fsb_bench_values.specs.BytesOf.{HasKept}
 use Rattle.fsb_bench_values.proofs.ClockServed.{EndBrings, answered-view}
 use Rattle.fsb_bench_values.proofs.EndServed.{Comes}

@@ -1,5 +1,6 @@
 -- The end of a bench's clock: the data that it brings are on the bus, and memory takes them where it does in the run.
-use Rattle.std.proofs.Common.{ℕ, suc, ◌+◌, ◌<◌, ◌≡◌, Bool, true, false, if◌then◌else◌, List, [], ◌∷◌, Option, Some, None, is_some, length, nat_eq, refl, sym, ap, ◌∙◌, inl, inr, arith}
+use Rattle.std.proofs.Common.{ℕ, suc, ◌+◌, ◌<◌, ◌≡◌, Bool, true, false, if◌then◌else◌, List, [], ◌∷◌, Option, Some}
+use Rattle.std.proofs.Common.{None, is_some, length, nat_eq, refl, sym, ap, ◌∙◌, inl, inr, arith}
 use Rattle.std.specs.Prelude.{◌==◌, cond, unwrap_or}
 use Rattle.std.specs.Option.{option_map_or}
 use Rattle.std.proofs.lemmas.Bool.{both_ways, cases_Bool, cases_eq, eq-eqb, eqb-true, ne_eqb}
@@ -13,14 +14,17 @@ use Rattle.fsb_line.specs.declared.link.Link.{Link}
 use Rattle.fsb_line.specs.Line.{Bytes, MemoryLine, brought}
 use Rattle.fsb_line.specs.Links.{carries, feeds_memory}
 use Rattle.fsb_tied.specs.RunBytes.{HasValues, machine_line}
-use Rattle.fsb_tied.proofs.Interface.{EndsLine, answers-in-order, awaited-there, between-data, clock-facts, end-memory, end-on, ending_link, ends-line, ends-on, line_before_end, memory-kept, moved-from, no-end-memory, no-response, not-so, puts-line, ungiven}
+use Rattle.fsb_tied.proofs.Interface.{EndsLine, answers-in-order, awaited-there, between-data, clock-facts, end-memory}
+use Rattle.fsb_tied.proofs.Interface.{end-on, ending_link, ends-line, ends-on, line_before_end, memory-kept, moved-from}
+use Rattle.fsb_tied.proofs.Interface.{no-end-memory, no-response, not-so, puts-line, ungiven}
 use Rattle.fsb_timely.specs.Grants.{ended_requests, is_end_at, snooped_at}
 use Rattle.fsb_timely.specs.Kept.{bytes_now, bytes_put}
 use Rattle.fsb_timely.specs.Past.{Past, SnoopEnd}
 use Rattle.fsb_timely.specs.Runs.{Run, past_of}
 use Rattle.fsb_trace.specs.Outcome.{does_move, does_take}
 use Rattle.fsb_trace.specs.declared.outcome.Outcome.{Outcome}
-use Rattle.fsb_trace.specs.declared.outcome.Outcome.TheVariants.{Granted, Handed, Retried, Deferred, Written, Replied, Failed, Upgraded}
+use Rattle.fsb_trace.specs.declared.outcome.Outcome.TheVariants.{Granted, Handed, Retried, Deferred, Written, Replied}
+use Rattle.fsb_trace.specs.declared.outcome.Outcome.TheVariants.{Failed, Upgraded}
 use Rattle.fsb_bench_view.specs.declared.decided.Ending.{Ending}
 use Rattle.fsb_bench_view.specs.BenchSteps.{bench_stepped, step_answered, step_ending, step_run}
 use Rattle.fsb_bench_view.specs.BusEvents.{bus_ended, memory_ended}

@@ -1,5 +1,6 @@
 -- The end of a bench's clock, if there is one: that of the oldest request, with its snoop end and what it serves.
-use Rattle.std.proofs.Common.{ℕ, ◌+◌, ◌≡◌, ◌⊎◌, Bool, true, false, List, [], ◌∷◌, ◌++◌, Option, Some, None, is_none, length, refl, sym, ap, subst, ◌∙◌, inl, inr, arith}
+use Rattle.std.proofs.Common.{ℕ, ◌+◌, ◌≡◌, ◌⊎◌, Bool, true, false, List, [], ◌∷◌, ◌++◌, Option, Some, None, is_none}
+use Rattle.std.proofs.Common.{length, refl, sym, ap, subst, ◌∙◌, inl, inr, arith}
 use Rattle.std.specs.List.{find, slice_get}
 use Rattle.std.specs.Option.{option_and_then, option_map, option_map_or}
 use Rattle.std.proofs.lemmas.Bool.{both_ways, false_from_ne_true}
@@ -26,12 +27,15 @@ use Rattle.fsb_trace.specs.declared.outcome.Outcome.{Outcome}
 use Rattle.fsb_bench_view.specs.declared.beginning.Starting.{Starting}
 use Rattle.fsb_bench_view.specs.declared.snoop.Served.{Served}
 use Rattle.fsb_bench_view.specs.declared.snoop.SnoopSettled.{SnoopSettled}
-use Rattle.fsb_bench_view.specs.BenchSteps.{step_answered, step_cancelled, step_decided, step_drive, step_ending, step_performed, step_phased, step_run, step_snooped, step_started}
-use Rattle.fsb_bench_view.specs.BusEvents.{answered_by, bus_answered, bus_cancelled, bus_snooped, bus_started, ending_by}
+use Rattle.fsb_bench_view.specs.BenchSteps.{step_answered, step_cancelled, step_decided, step_drive, step_ending}
+use Rattle.fsb_bench_view.specs.BenchSteps.{step_performed, step_phased, step_run, step_snooped, step_started}
+use Rattle.fsb_bench_view.specs.BusEvents.{answered_by, bus_answered, bus_cancelled, bus_snooped, bus_started}
+use Rattle.fsb_bench_view.specs.BusEvents.{ending_by}
 use Rattle.fsb_bench_view.specs.BusViews.{BenchView, BusView, next_clock_of}
 use Rattle.fsb_bench_view.specs.BytesFetched.{head_outcome}
 use Rattle.fsb_bench_run.specs.BenchOf.{IsBenchOf}
-use Rattle.fsb_bench_run.proofs.Interface.{IsEnding, ending-of, grows-to, head-ends, head-settled, queue-answered, reaches-step, same-performed}
+use Rattle.fsb_bench_run.proofs.Interface.{IsEnding, ending-of, grows-to, head-ends, head-settled, queue-answered}
+use Rattle.fsb_bench_run.proofs.Interface.{reaches-step, same-performed}
 use Rattle.fsb_bench_values.proofs.ServesLine.{HasSnoopEnd, ServesLine, serves-line}
 
 one-of : {X : Type 0} (a b : X) → Some a ≡ Some b → a ≡ b

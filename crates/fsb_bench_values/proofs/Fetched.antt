@@ -1,5 +1,6 @@
 -- The bytes that a bench has on the bus at a clock, behind its response: those of the line whose data move there.
-use Rattle.std.proofs.Common.{ℕ, ◌+◌, ◌<◌, ◌≤◌, ◌≡◌, Bool, true, not, ◌&&◌, if◌then◌else◌, List, Option, Some, None, is_some, length, nat_eq, refl, sym, ap, subst, ◌∙◌, inl, inr, arith}
+use Rattle.std.proofs.Common.{ℕ, ◌+◌, ◌<◌, ◌≤◌, ◌≡◌, Bool, true, not, ◌&&◌, if◌then◌else◌, List, Option, Some, None}
+use Rattle.std.proofs.Common.{is_some, length, nat_eq, refl, sym, ap, subst, ◌∙◌, inl, inr, arith}
 use Rattle.std.specs.Prelude.{cond}
 use Rattle.std.specs.List.{slice_get}
 use Rattle.std.specs.Option.{option_and_then, option_map, option_map_or}
@@ -26,7 +27,9 @@ use Rattle.fsb_queue.specs.declared.entry.Entry.{Entry}
 use Rattle.fsb_run_laws.specs.Reaches.{Reaches}
 use Rattle.fsb_signal.specs.Samples.{response_of}
 use Rattle.fsb_tied.specs.RunBytes.{machine_line}
-use Rattle.fsb_tied.proofs.Interface.{answers-in-order, begun-want, carries-awaited, clock-facts, ended-later, first-link, link_of, moved-parts, moves-parts, unended-at-response, winner-four, written-await}
+use Rattle.fsb_tied.proofs.Interface.{answers-in-order, begun-want, carries-awaited, clock-facts, ended-later}
+use Rattle.fsb_tied.proofs.Interface.{first-link, link_of, moved-parts, moves-parts, unended-at-response, winner-four}
+use Rattle.fsb_tied.proofs.Interface.{written-await}
 use Rattle.fsb_timely.specs.Grants.{begun_at, is_ended, snooped_at}
 use Rattle.fsb_timely.specs.Hits.{is_dirty}
 use Rattle.fsb_timely.specs.Kept.{bytes_now}
@@ -37,14 +40,16 @@ use Rattle.fsb_timely.proofs.Interface.{tied-snoop}
 use Rattle.fsb_trace.specs.Outcome.{does_move, does_take, response_code_of}
 use Rattle.fsb_trace.proofs.Interface.{snoop_end_of-clock}
 use Rattle.fsb_trace.specs.declared.outcome.Outcome.{Outcome}
-use Rattle.fsb_trace.specs.declared.outcome.Outcome.TheVariants.{Granted, Handed, Retried, Deferred, Written, Replied, Failed, Upgraded}
+use Rattle.fsb_trace.specs.declared.outcome.Outcome.TheVariants.{Granted, Handed, Retried, Deferred, Written, Replied}
+use Rattle.fsb_trace.specs.declared.outcome.Outcome.TheVariants.{Failed, Upgraded}
 use Rattle.fsb_bench_view.specs.declared.snoop.Served.{Served}
 use Rattle.fsb_bench_view.specs.BenchSteps.{step_drive, step_entries, step_fetched, step_run}
 use Rattle.fsb_bench_view.specs.BusViews.{BenchView, BusView, next_clock_of}
 use Rattle.fsb_bench_view.specs.BytesFetched.{bus_fetched, bytes_source, from_for, head_outcome}
 use Rattle.fsb_bench_view.specs.ToldAgents.{bytes_owed}
 use Rattle.fsb_bench_run.specs.BenchOf.{IsBenchOf}
-use Rattle.fsb_bench_run.proofs.Interface.{IsResponding, code-now, grows-to, head-settled, reaches-step, responding-of, responding-settled, responds-first, sample-grown, timely-now}
+use Rattle.fsb_bench_run.proofs.Interface.{IsResponding, code-now, grows-to, head-settled, reaches-step, responding-of}
+use Rattle.fsb_bench_run.proofs.Interface.{responding-settled, responds-first, sample-grown, timely-now}
 use Rattle.fsb_bench_values.specs.BytesOf.{HasBytesOf}
 use Rattle.fsb_bench_values.proofs.OwedFound.{OweBytes, owed-found, push-found}
 use Rattle.fsb_bench_values.proofs.RunsValues.{begun-old, line-memory, line-now, line-tied, moved-old, within}

@@ -1,5 +1,6 @@
 -- The first bench of a plan has the bytes of its run, which is empty.
-use Rattle.std.proofs.Common.{ℕ, zero, suc, ◌%◌, ◌≡◌, true, [], Option, Some, None, get_or, length, replicate, refl, sym, ap, subst, ◌∙◌, arith}
+use Rattle.std.proofs.Common.{ℕ, zero, suc, ◌%◌, ◌≡◌, true, [], Option, Some, None, get_or, length, replicate, refl}
+use Rattle.std.proofs.Common.{sym, ap, subst, ◌∙◌, arith}
 use Rattle.std.specs.List.{slice_get}
 use Rattle.fsb_bench_run.proofs.Interface.{first-is}
 use Rattle.fsb_cache.specs.declared.held.Held.{Held}

@@ -1,5 +1,6 @@
 -- An agent whose lines and last value are those of the one byte memory completes its next item as the replay does.
-use Rattle.std.proofs.Common.{ℕ, ◌+◌, ◌≡◌, ◌≢◌, Bool, true, false, ◌&&◌, ◌||◌, not, List, [], ◌∷◌, Option, Some, None, length, refl, sym, ap, subst, ◌∙◌}
+use Rattle.std.proofs.Common.{ℕ, ◌+◌, ◌≡◌, ◌≢◌, Bool, true, false, ◌&&◌, ◌||◌, not, List, [], ◌∷◌, Option, Some, None}
+use Rattle.std.proofs.Common.{length, refl, sym, ap, subst, ◌∙◌}
 use Rattle.std.specs.Prelude.{nat_le, IsTrue}
 use Rattle.std.specs.List.{list_all, slice_get}
 use Rattle.std.specs.Option.{option_map_or}
@@ -17,8 +18,10 @@ use Rattle.fsb_script.specs.Bounds.{is_lawful_item, is_lawful_script, is_lock_ap
 use Rattle.fsb_timely.specs.Kept.{line_bytes}
 use Rattle.fsb_timely.specs.Past.{Past}
 use Rattle.fsb_timely.specs.Scripts.{Need, is_load, items_of, needs_of}
-use Rattle.fsb_agent_view.specs.AgentViews.{AgentView, has_come, is_held_as, is_served_by, line_state_by, may_complete, next_item_by}
-use Rattle.fsb_agent_view.specs.Completing.{completed_by, completed_entries, hand_of, is_hit_by, next_steps, performed, performed_entries}
+use Rattle.fsb_agent_view.specs.AgentViews.{AgentView, has_come, is_held_as, is_served_by, line_state_by, may_complete}
+use Rattle.fsb_agent_view.specs.AgentViews.{next_item_by}
+use Rattle.fsb_agent_view.specs.Completing.{completed_by, completed_entries, hand_of, is_hit_by, next_steps, performed}
+use Rattle.fsb_agent_view.specs.Completing.{performed_entries}
 use Rattle.fsb_agent_view.specs.Serving.{hand_after_steps}
 use Rattle.fsb_agent_run.specs.RunViews.{IsAgentOf}
 use Rattle.fsb_agent_run.proofs.Interface.{IsNeedOf, steps-need}

@@ -1,6 +1,7 @@
 -- The end of a clock on a line for which an upgrade that was won is still awaited: the oldest link does not own, so
 -- what completes with the end only loads.
-use Rattle.std.proofs.Common.{ℕ, zero, suc, ◌+◌, ◌<◌, ◌≡◌, Bool, true, false, not, ◌&&◌, ◌||◌, if◌then◌else◌, List, [], ◌∷◌, ◌++◌, Some, None, length, refl, sym, ap, subst, ◌∙◌, inl, inr, arith}
+use Rattle.std.proofs.Common.{ℕ, zero, suc, ◌+◌, ◌<◌, ◌≡◌, Bool, true, false, not, ◌&&◌, ◌||◌, if◌then◌else◌, List, []}
+use Rattle.std.proofs.Common.{◌∷◌, ◌++◌, Some, None, length, refl, sym, ap, subst, ◌∙◌, inl, inr, arith}
 use Rattle.std.specs.List.{list_all}
 use Rattle.std.proofs.lemmas.Bool.{cases_lt, eq-eqb}
 use Rattle.fsb_agent_view.specs.declared.want.OwnRequest.{OwnRequest}
@@ -17,7 +18,8 @@ use Rattle.fsb_line.specs.declared.link.Link.{Link}
 use Rattle.fsb_line.proofs.Interface.{ordered_run}
 use Rattle.fsb_lawful.specs.Beginning.{KeepsBounds}
 use Rattle.fsb_run_laws.specs.Reaches.{Reaches}
-use Rattle.fsb_tied.proofs.Interface.{EndsLine, answers-in-order, at-there, awaited-there, awaiting-loads, awaits-grant, carries-awaited, clock-facts, events-may-happen, link_of, links_at, one-end}
+use Rattle.fsb_tied.proofs.Interface.{EndsLine, answers-in-order, at-there, awaited-there, awaiting-loads, awaits-grant}
+use Rattle.fsb_tied.proofs.Interface.{carries-awaited, clock-facts, events-may-happen, link_of, links_at, one-end}
 use Rattle.fsb_timely.specs.Grants.{snooped_at}
 use Rattle.fsb_timely.specs.Hits.{is_hit}
 use Rattle.fsb_timely.specs.Moments.{is_upgraded, makes_grant}

@@ -1,5 +1,6 @@
 -- The chunks of the bytes of a line, and the memory that a log below a clock makes.
-use Rattle.std.proofs.Common.{ℕ, zero, suc, ◌+◌, ◌*◌, ◌<◌, ◌≤◌, ◌≡◌, Bool, true, false, List, [], ◌∷◌, ◌++◌, drop, take, length, lit<, nat_eq, nat_lt, slice_index, refl, ap, ◌∙◌, append-nil, arith}
+use Rattle.std.proofs.Common.{ℕ, zero, suc, ◌+◌, ◌*◌, ◌<◌, ◌≤◌, ◌≡◌, Bool, true, false, List, [], ◌∷◌, ◌++◌, drop, take}
+use Rattle.std.proofs.Common.{length, lit<, nat_eq, nat_lt, slice_index, refl, ap, ◌∙◌, append-nil, arith}
 use Rattle.std.specs.List.{filter, list_all}
 use Rattle.std.proofs.lemmas.Bool.{and_parts, eqb-true, le-ltb, ltb-true}
 use Rattle.std.proofs.lemmas.List.Elements.{filter-append}

@@ -1,6 +1,8 @@
 -- The log of a timely run follows its scripts: at each clock it goes on by the next items of agents, one after the
 -- other.
-use Rattle.std.proofs.Common.{ℕ, zero, suc, ◌+◌, ◌<◌, ◌≤◌, ◌≡◌, Bool, true, false, ◌&&◌, List, [], ◌∷◌, ◌++◌, Option, Some, None, length, map, nat_le, nat_lt, refl, sym, ap, subst, ◌∙◌, inl, inr, arith, append_assoc, append-nil, add-one}
+use Rattle.std.proofs.Common.{ℕ, zero, suc, ◌+◌, ◌<◌, ◌≤◌, ◌≡◌, Bool, true, false, ◌&&◌, List, [], ◌∷◌, ◌++◌, Option}
+use Rattle.std.proofs.Common.{Some, None, length, map, nat_le, nat_lt, refl, sym, ap, subst, ◌∙◌, inl, inr, arith}
+use Rattle.std.proofs.Common.{append_assoc, append-nil, add-one}
 use Rattle.std.specs.Prelude.{◌==◌, take}
 use Rattle.std.specs.List.{list_all, slice_get}
 use Rattle.std.specs.Option.{option_and_then, option_map_or}
@@ -9,7 +11,8 @@ use Rattle.fsb_access.specs.declared.item.Item.{Item}
 use Rattle.fsb_access.specs.declared.log.Done.{Done}
 use Rattle.fsb_access.specs.ScriptOrder.{InOrder, Step, accesses_of, script_of, step_of, steps_of, steps_of_item}
 use Rattle.fsb_access.proofs.Interface.{InOrder-empty, InOrder-next, steps_of-append, steps_of-other}
-use Rattle.fsb_timely.specs.Completions.{Completed, completed_at, completed_if, completed_of_item, entries_at, is_arrival, is_in_time, next_accesses, of_all_agents}
+use Rattle.fsb_timely.specs.Completions.{Completed, completed_at, completed_if, completed_of_item, entries_at}
+use Rattle.fsb_timely.specs.Completions.{is_arrival, is_in_time, next_accesses, of_all_agents}
 use Rattle.fsb_timely.specs.Hits.{is_hit}
 use Rattle.fsb_timely.specs.Past.{Past}
 use Rattle.fsb_timely.specs.Runs.{Run, past_of}

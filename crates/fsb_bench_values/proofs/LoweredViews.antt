@@ -1,6 +1,7 @@
 -- What an agent sends, gives up or sees at a snoop end leaves the bytes of each line that it still holds and that
 -- has come.
-use Rattle.std.proofs.Common.{ℕ, ◌≡◌, ◌≢◌, ◌∙◌, Bool, true, false, List, [], ◌∷◌, ◌++◌, Option, Some, None, if◌then◌else◌, refl, sym, ap, subst, inl, inr}
+use Rattle.std.proofs.Common.{ℕ, ◌≡◌, ◌≢◌, ◌∙◌, Bool, true, false, List, [], ◌∷◌, ◌++◌, Option, Some, None}
+use Rattle.std.proofs.Common.{if◌then◌else◌, refl, sym, ap, subst, inl, inr}
 use Rattle.std.specs.Prelude.{◌==◌, is_none}
 use Rattle.std.specs.Option.{option_map_or}
 use Rattle.std.proofs.lemmas.Bool.{cases_Bool, eq-eqb}
@@ -22,7 +23,9 @@ use Rattle.fsb_agent_view.specs.declared.want.Want.{Want}
 use Rattle.fsb_agent_view.specs.AgentViews.{AgentView, has_come, line_state_by}
 use Rattle.fsb_agent_view.specs.Arriving.{given_up, handed_on}
 use Rattle.fsb_agent_view.specs.OwnRequests.{new_request, request_numbered, requests_granted}
-use Rattle.fsb_agent_view.specs.Snooping.{buffers_giving, committed, granted_by, is_giver, kind_asks, no_bytes, other_settled, own_settled, sets_lowered, state_snooped, upgraded_by, with_fill, with_push, written_by}
+use Rattle.fsb_agent_view.specs.Snooping.{buffers_giving, committed, granted_by, is_giver, kind_asks, no_bytes}
+use Rattle.fsb_agent_view.specs.Snooping.{other_settled, own_settled, sets_lowered, state_snooped, upgraded_by}
+use Rattle.fsb_agent_view.specs.Snooping.{with_fill, with_push, written_by}
 use Rattle.fsb_agent_view.specs.Wanting.{sent, sets_cleared_for, want_by}
 use Rattle.fsb_bench_values.proofs.ItemsServed.{IsAgentAt}
 use Rattle.fsb_bench_values.proofs.SetCopies.{Lowers, WasHeld, filled-other, lowers-same, lowers-shared, lowers-without}

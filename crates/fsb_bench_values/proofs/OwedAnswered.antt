@@ -1,5 +1,6 @@
 -- What the agents of a bench keep and owe at a clock, before its end: the bytes after the hits.
-use Rattle.std.proofs.Common.{ℕ, ◌+◌, ◌<◌, ◌≡◌, Bool, true, false, cond, not, ◌&&◌, ◌||◌, if◌then◌else◌, List, [], ◌∷◌, Option, Some, None, nat_eq, refl, sym, ap, subst, ◌∙◌, inl, inr, arith}
+use Rattle.std.proofs.Common.{ℕ, ◌+◌, ◌<◌, ◌≡◌, Bool, true, false, cond, not, ◌&&◌, ◌||◌, if◌then◌else◌, List, [], ◌∷◌}
+use Rattle.std.proofs.Common.{Option, Some, None, nat_eq, refl, sym, ap, subst, ◌∙◌, inl, inr, arith}
 use Rattle.std.specs.Prelude.{◌==◌, count_by, fold}
 use Rattle.std.specs.List.{slice_get}
 use Rattle.std.specs.Option.{option_map_or}
@@ -9,7 +10,9 @@ use Rattle.fsb_agent_run.specs.AgentClocks.{number_asked}
 use Rattle.fsb_agent_run.specs.BytesOwed.{HasBytesOwed, is_pushed}
 use Rattle.fsb_agent_run.specs.RunViews.{one_if, owing_by}
 use Rattle.fsb_agent_run.specs.Stages.{IsViewBeforeSnoop, is_uncancelled, owed_sent, owed_through}
-use Rattle.fsb_agent_run.proofs.Interface.{Among, IsOwnAt, among-filter, among-get, claimed-out, come-count, get-among, held-told, is_settled_for, numbered-among, owed-grown, owing-there, replied-out, same-first, sent-is, settled-unawaited, wanted-of, written-kind}
+use Rattle.fsb_agent_run.proofs.Interface.{Among, IsOwnAt, among-filter, among-get, claimed-out, come-count, get-among}
+use Rattle.fsb_agent_run.proofs.Interface.{held-told, is_settled_for, numbered-among, owed-grown, owing-there}
+use Rattle.fsb_agent_run.proofs.Interface.{replied-out, same-first, sent-is, settled-unawaited, wanted-of, written-kind}
 use Rattle.fsb_agent_view.specs.AgentEvents.{HandedOn, Performed, agent_after}
 use Rattle.fsb_agent_view.specs.AgentViews.{AgentView, line_state_by}
 use Rattle.fsb_agent_view.specs.OwnRequests.{request_numbered}
@@ -43,19 +46,24 @@ use Rattle.fsb_bench_view.specs.declared.beginning.Starting.{Starting}
 use Rattle.fsb_bench_view.specs.declared.decided.BytesFrom.{BytesFrom}
 use Rattle.fsb_bench_view.specs.declared.decided.BytesFrom.TheVariants.{Memory, Agents}
 use Rattle.fsb_bench_view.specs.declared.snoop.SnoopSettled.{SnoopSettled}
-use Rattle.fsb_bench_view.specs.BenchSteps.{step_answered, step_cancelled, step_decided, step_drive, step_entries, step_fetched, step_performed, step_run, step_snooped, step_started}
-use Rattle.fsb_bench_view.specs.BusEvents.{answered_by, bus_cancelled, bus_snooped, bus_started, cancelled_event, snooped_event, starting_event}
+use Rattle.fsb_bench_view.specs.BenchSteps.{step_answered, step_cancelled, step_decided, step_drive, step_entries}
+use Rattle.fsb_bench_view.specs.BenchSteps.{step_fetched, step_performed, step_run, step_snooped, step_started}
+use Rattle.fsb_bench_view.specs.BusEvents.{answered_by, bus_cancelled, bus_snooped, bus_started, cancelled_event}
+use Rattle.fsb_bench_view.specs.BusEvents.{snooped_event, starting_event}
 use Rattle.fsb_bench_view.specs.BusViews.{BenchView, BusView, next_clock_of}
 use Rattle.fsb_bench_view.specs.BytesFetched.{bus_fetched, bytes_source}
 use Rattle.fsb_bench_view.specs.ToldAgents.{for_all}
 use Rattle.fsb_bench_run.specs.BenchOf.{IsBenchOf}
-use Rattle.fsb_bench_run.proofs.Interface.{AgentsAre, IsSnoopHeard, answered-agents, grows-to, hears-snoop, performed-buffers, reaches-step, snoop-cases, step-with, timely-now, told-each, views-cancelled}
+use Rattle.fsb_bench_run.proofs.Interface.{AgentsAre, IsSnoopHeard, answered-agents, grows-to, hears-snoop}
+use Rattle.fsb_bench_run.proofs.Interface.{performed-buffers, reaches-step, snoop-cases, step-with, timely-now}
+use Rattle.fsb_bench_run.proofs.Interface.{told-each, views-cancelled}
 use Rattle.fsb_bench_values.specs.BytesOf.{HasBytesOf, HasCopies, HasKept}
 use Rattle.fsb_bench_values.proofs.Fetched.{first-early}
 use Rattle.fsb_bench_values.proofs.HitBytes.{bytes_hit}
 use Rattle.fsb_bench_values.proofs.HitsOfBench.{cancelled-at}
 use Rattle.fsb_bench_values.proofs.OwedLines.{awaited-linked, kept-awaited}
-use Rattle.fsb_bench_values.proofs.OwesBytes.{IsOwnRight, OwesBytes, cancelled-owes, handed-owes, other-committed-owes, own-committed-owes, owes-alike, performed-outs, started-owes}
+use Rattle.fsb_bench_values.proofs.OwesBytes.{IsOwnRight, OwesBytes, cancelled-owes, handed-owes, other-committed-owes}
+use Rattle.fsb_bench_values.proofs.OwesBytes.{own-committed-owes, owes-alike, performed-outs, started-owes}
 use Rattle.fsb_bench_values.proofs.PushedLines.{begun-early, pushed-for, pushed-linked, pushed-parts}
 use Rattle.fsb_bench_values.proofs.RunsValues.{begun-old, chain-old, within}
 use Rattle.fsb_bench_values.proofs.ServesLine.{claim-line}

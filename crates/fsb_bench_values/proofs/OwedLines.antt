@@ -1,5 +1,6 @@
 -- The lines of requests that an agent has outstanding: one that keeps bytes for its upgrade has a link.
-use Rattle.std.proofs.Common.{ℕ, ◌+◌, ◌<◌, ◌≤◌, ◌≡◌, Bool, true, false, not, ◌&&◌, ◌||◌, List, ◌∷◌, Option, Some, None, is_none, is_some, length, nat_eq, nat_lt, refl, sym, ap, subst, ◌∙◌, inl, inr, arith}
+use Rattle.std.proofs.Common.{ℕ, ◌+◌, ◌<◌, ◌≤◌, ◌≡◌, Bool, true, false, not, ◌&&◌, ◌||◌, List, ◌∷◌, Option, Some, None}
+use Rattle.std.proofs.Common.{is_none, is_some, length, nat_eq, nat_lt, refl, sym, ap, subst, ◌∙◌, inl, inr, arith}
 use Rattle.std.specs.Bool.{beq}
 use Rattle.std.specs.List.{list_any}
 use Rattle.std.proofs.lemmas.Bool.{and_parts, both_ways, cases_Bool, eq-eqb, eqb-true, lt-ltb, ltb-true}
@@ -7,7 +8,8 @@ use Rattle.fsb_count.specs.Clocks.{first_where}
 use Rattle.fsb_count.specs.Options.{is_at, is_some_and}
 use Rattle.fsb_count.proofs.Interface.{first_where-found, is_at-some, is_before-from}
 use Rattle.fsb_agent_run.specs.RunViews.{HasLines, HasRequestsOf, is_awaited, is_won_below, owing_by}
-use Rattle.fsb_agent_run.proofs.Interface.{Among, all-among, among-any, among-filter, awaits-by, fill-counted, kept-of, owing-there}
+use Rattle.fsb_agent_run.proofs.Interface.{Among, all-among, among-any, among-filter, awaits-by, fill-counted, kept-of}
+use Rattle.fsb_agent_run.proofs.Interface.{owing-there}
 use Rattle.fsb_agent_view.specs.AgentViews.{AgentView}
 use Rattle.fsb_agent_view.specs.Sound.{IsSound, is_only, is_sound_request}
 use Rattle.fsb_agent_view.specs.declared.want.OwnRequest.{OwnRequest}
@@ -20,7 +22,8 @@ use Rattle.fsb_linebuf.specs.Buffers.{fill_on}
 use Rattle.fsb_run_laws.specs.Reaches.{Reaches}
 use Rattle.fsb_run_laws.specs.RunSteps.{owing_begun}
 use Rattle.fsb_run_laws.proofs.Interface.{begun-wanted, ends-last, owed-told, snoop-below}
-use Rattle.fsb_tied.proofs.Interface.{answers-in-order, awaits-grant, ended-later, ended-parts, grant-first, granted-parts, not-so, snooped-before-end}
+use Rattle.fsb_tied.proofs.Interface.{answers-in-order, awaits-grant, ended-later, ended-parts, grant-first}
+use Rattle.fsb_tied.proofs.Interface.{granted-parts, not-so, snooped-before-end}
 use Rattle.fsb_timely.specs.Grants.{is_ended, snooped_at}
 use Rattle.fsb_timely.specs.Growth.{is_last_clock}
 use Rattle.fsb_timely.specs.Moments.{is_snoop_of, is_upgraded}
@@ -34,7 +37,8 @@ use Rattle.fsb_trace.specs.Flight.{is_dropped, is_finished, is_outstanding, last
 use Rattle.fsb_trace.specs.Outcome.{is_deferral}
 use Rattle.fsb_trace.specs.Requests.{is_cancelled, is_live, is_reply, live_number_of}
 use Rattle.fsb_trace.specs.declared.outcome.Outcome.{Outcome}
-use Rattle.fsb_trace.specs.declared.outcome.Outcome.TheVariants.{Granted, Handed, Retried, Deferred, Written, Replied, Failed, Upgraded}
+use Rattle.fsb_trace.specs.declared.outcome.Outcome.TheVariants.{Granted, Handed, Retried, Deferred, Written, Replied}
+use Rattle.fsb_trace.specs.declared.outcome.Outcome.TheVariants.{Failed, Upgraded}
 use Rattle.fsb_bench_values.proofs.PushedLines.{awaited-link}
 
 one-of : {X : Type 0} (a b : X) → Some a ≡ Some b → a ≡ b

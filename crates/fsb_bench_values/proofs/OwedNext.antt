@@ -1,15 +1,18 @@
 -- What the agents of a bench keep and owe behind a clock are the bytes of the one byte memory, where what comes with
 -- the end of the clock has the bytes of its line.
-use Rattle.std.proofs.Common.{ℕ, ◌+◌, ◌<◌, ◌≡◌, ◌⊎◌, Bool, true, false, List, [], ◌∷◌, Option, Some, None, fold, if◌then◌else◌, length, slice_get, refl, sym, ap, subst, ◌∙◌, inl, inr, arith}
+use Rattle.std.proofs.Common.{ℕ, ◌+◌, ◌<◌, ◌≡◌, ◌⊎◌, Bool, true, false, List, [], ◌∷◌, Option, Some, None, fold}
+use Rattle.std.proofs.Common.{if◌then◌else◌, length, slice_get, refl, sym, ap, subst, ◌∙◌, inl, inr, arith}
 use Rattle.std.specs.Prelude.{◌==◌}
 use Rattle.std.specs.Option.{option_map_or}
 use Rattle.std.proofs.lemmas.Bool.{eqb-true}
 use Rattle.fsb_agent_run.specs.BytesOwed.{HasBytesOwed, promise_told}
 use Rattle.fsb_agent_run.specs.RunViews.{owing_by}
-use Rattle.fsb_agent_run.proofs.Interface.{Among, among-either, among-without, get-among, given, owing-is, owing-there, promised-at}
+use Rattle.fsb_agent_run.proofs.Interface.{Among, among-either, among-without, get-among, given, owing-is, owing-there}
+use Rattle.fsb_agent_run.proofs.Interface.{promised-at}
 use Rattle.fsb_agent_view.specs.AgentEvents.{AgentEvent, agent_after}
 use Rattle.fsb_agent_view.specs.AgentViews.{AgentView}
-use Rattle.fsb_agent_view.specs.Arriving.{arrived_for, ended_for, given_up, is_arrival_by, line_arrived, met_by, upgrade_ended}
+use Rattle.fsb_agent_view.specs.Arriving.{arrived_for, ended_for, given_up, is_arrival_by, line_arrived, met_by}
+use Rattle.fsb_agent_view.specs.Arriving.{upgrade_ended}
 use Rattle.fsb_agent_view.specs.OwnRequests.{request_numbered, requests_without}
 use Rattle.fsb_agent_view.specs.declared.want.OwnRequest.{OwnRequest}
 use Rattle.fsb_bench_view.specs.BenchSteps.{bench_stepped, step_answered, step_ended, step_ending, step_run}
@@ -33,7 +36,8 @@ use Rattle.fsb_timely.specs.Past.{Claim, Past}
 use Rattle.fsb_timely.specs.Runs.{past_of}
 use Rattle.fsb_timely.specs.Wants.{owed}
 use Rattle.fsb_trace.specs.declared.outcome.Outcome.{Outcome}
-use Rattle.fsb_trace.specs.declared.outcome.Outcome.TheVariants.{Granted, Handed, Retried, Deferred, Written, Replied, Failed, Upgraded}
+use Rattle.fsb_trace.specs.declared.outcome.Outcome.TheVariants.{Granted, Handed, Retried, Deferred, Written, Replied}
+use Rattle.fsb_trace.specs.declared.outcome.Outcome.TheVariants.{Failed, Upgraded}
 use Rattle.fsb_bench_values.specs.BytesOf.{HasBytesOf, HasKept, HasPushes}
 use Rattle.fsb_bench_values.proofs.ClockServed.{ClockServed}
 use Rattle.fsb_bench_values.proofs.EndServed.{Comes}

@@ -1,5 +1,6 @@
 -- What an agent keeps for its upgrades and owes to others, through its events but for hits and arrivals.
-use Rattle.std.proofs.Common.{ℕ, ◌≡◌, ◌⊎◌, Bool, true, false, cond, ◌&&◌, List, [], ◌∷◌, ◌++◌, Option, Some, None, refl, sym, ap, subst, ◌∙◌, inl, inr}
+use Rattle.std.proofs.Common.{ℕ, ◌≡◌, ◌⊎◌, Bool, true, false, cond, ◌&&◌, List, [], ◌∷◌, ◌++◌, Option, Some, None, refl}
+use Rattle.std.proofs.Common.{sym, ap, subst, ◌∙◌, inl, inr}
 use Rattle.std.specs.Prelude.{◌==◌, fold, if◌then◌else◌}
 use Rattle.std.specs.Option.{option_map_or}
 use Rattle.std.proofs.lemmas.Bool.{and_parts, cases_Bool}
@@ -9,7 +10,8 @@ use Rattle.fsb_agent_view.specs.AgentViews.{AgentView, has_come, line_state_by}
 use Rattle.fsb_agent_view.specs.Arriving.{given_up, handed_on}
 use Rattle.fsb_agent_view.specs.Completing.{is_hit_by, performed}
 use Rattle.fsb_agent_view.specs.OwnRequests.{new_request, request_numbered, requests_granted}
-use Rattle.fsb_agent_view.specs.Snooping.{buffers_giving, committed, granted_by, is_giver, is_handed, kind_asks, other_settled, own_settled, upgraded_by, with_push, written_by}
+use Rattle.fsb_agent_view.specs.Snooping.{buffers_giving, committed, granted_by, is_giver, is_handed, kind_asks}
+use Rattle.fsb_agent_view.specs.Snooping.{other_settled, own_settled, upgraded_by, with_push, written_by}
 use Rattle.fsb_agent_view.specs.Wanting.{sent, want_by}
 use Rattle.fsb_agent_view.specs.declared.want.OwnRequest.{OwnRequest}
 use Rattle.fsb_agent_view.specs.declared.want.Want.{Want}
@@ -23,7 +25,8 @@ use Rattle.fsb_linebuf.specs.Buffers.{is_push_for, pushes_without}
 use Rattle.fsb_timely.specs.Grants.{begun_at}
 use Rattle.fsb_timely.specs.Past.{Claim, Past}
 use Rattle.fsb_trace.specs.declared.outcome.Outcome.{Outcome}
-use Rattle.fsb_trace.specs.declared.outcome.Outcome.TheVariants.{Granted, Handed, Retried, Deferred, Written, Replied, Failed, Upgraded}
+use Rattle.fsb_trace.specs.declared.outcome.Outcome.TheVariants.{Granted, Handed, Retried, Deferred, Written, Replied}
+use Rattle.fsb_trace.specs.declared.outcome.Outcome.TheVariants.{Failed, Upgraded}
 use Rattle.fsb_trace.specs.declared.who.Who.{Who}
 use Rattle.fsb_trace.specs.declared.who.Who.TheVariants.{Priority, Symmetric}
 use Rattle.fsb_bench_view.specs.BusEvents.{cancelled_event, starting_event}

@@ -1,5 +1,6 @@
 -- A line that comes to an agent that is to own it is ready for nobody else.
-use Rattle.std.proofs.Common.{ℕ, ◌+◌, ◌≡◌, ◌≢◌, Bool, true, false, ◌&&◌, not, List, [], ◌∷◌, Some, length, nat_eq, refl, sym, ap, subst, ◌∙◌, inl, inr, arith}
+use Rattle.std.proofs.Common.{ℕ, ◌+◌, ◌≡◌, ◌≢◌, Bool, true, false, ◌&&◌, not, List, [], ◌∷◌, Some, length, nat_eq, refl}
+use Rattle.std.proofs.Common.{sym, ap, subst, ◌∙◌, inl, inr, arith}
 use Rattle.std.specs.Prelude.{◌==◌}
 use Rattle.std.proofs.lemmas.Bool.{both_ways, cases_Bool, eq-eqb, eqb-true, or_left, or_parts}
 use Rattle.fsb_agent_run.specs.RunViews.{IsComing}
@@ -13,7 +14,8 @@ use Rattle.fsb_line.specs.Line.{MemoryLine, unheld}
 use Rattle.fsb_line.specs.LineRuns.{run}
 use Rattle.fsb_line.specs.Links.{is_linked, is_overtaken, owns}
 use Rattle.fsb_run_laws.specs.Reaches.{Reaches}
-use Rattle.fsb_tied.proofs.Interface.{answers-in-order, awaits-grant, clock-facts, events-may-happen, grant-first, granted-owns, link_of, oldest-ends, unlinked}
+use Rattle.fsb_tied.proofs.Interface.{answers-in-order, awaits-grant, clock-facts, events-may-happen, grant-first}
+use Rattle.fsb_tied.proofs.Interface.{granted-owns, link_of, oldest-ends, unlinked}
 use Rattle.fsb_timely.specs.Grants.{ended_requests, grant_at, holds_line, is_end_at, is_granted, is_ready, snooped_at}
 use Rattle.fsb_timely.specs.Past.{Grant, Past, SnoopEnd}
 use Rattle.fsb_timely.specs.Runs.{Run, past_of}

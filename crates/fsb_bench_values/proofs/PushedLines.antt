@@ -1,19 +1,24 @@
 -- The lines whose bytes an agent has for others: each has a link, and no other request's end is awaited on it.
-use Rattle.std.proofs.Common.{ℕ, zero, suc, ◌+◌, ◌<◌, ◌≤◌, ◌≡◌, ◌⊎◌, Bool, true, false, not, ◌&&◌, List, [], ◌∷◌, ◌++◌, Option, Some, None, length, nat_eq, refl, sym, ap, subst, ◌∙◌, inl, inr, arith, append-nil}
+use Rattle.std.proofs.Common.{ℕ, zero, suc, ◌+◌, ◌<◌, ◌≤◌, ◌≡◌, ◌⊎◌, Bool, true, false, not, ◌&&◌, List, [], ◌∷◌, ◌++◌}
+use Rattle.std.proofs.Common.{Option, Some, None, length, nat_eq, refl, sym, ap, subst, ◌∙◌, inl, inr, arith}
+use Rattle.std.proofs.Common.{append-nil}
 use Rattle.std.specs.Option.{option_and_then, option_map, option_map_or}
 use Rattle.std.proofs.lemmas.Option.{slice_get_past}
-use Rattle.std.proofs.lemmas.Bool.{and_parts, both_ways, cases_Bool, cases_eq, cases_lt, eq-eqb, eqb-true, false_from_ne_true, le-leb, lt-leb, not-true}
+use Rattle.std.proofs.lemmas.Bool.{and_parts, both_ways, cases_Bool, cases_eq, cases_lt, eq-eqb, eqb-true}
+use Rattle.std.proofs.lemmas.Bool.{false_from_ne_true, le-leb, lt-leb, not-true}
 use Rattle.fsb_count.specs.Clocks.{any_where, from_clock, last_where}
 use Rattle.fsb_count.specs.Options.{is_at, is_some_and}
 use Rattle.fsb_count.proofs.Interface.{any_where-at, any_where-found, any_where-off, is_at-from}
-use Rattle.fsb_agent_run.specs.BytesOwed.{claim_given_at, given_since, gives_line_at, is_given_below, is_promised, is_pushed, promise_told}
+use Rattle.fsb_agent_run.specs.BytesOwed.{claim_given_at, given_since, gives_line_at, is_given_below, is_promised}
+use Rattle.fsb_agent_run.specs.BytesOwed.{is_pushed, promise_told}
 use Rattle.fsb_agent_run.specs.RunViews.{is_awaited}
 use Rattle.fsb_agent_run.proofs.Interface.{dirty-unpromised, earlier-ended, given, gives-by, written-kind}
 use Rattle.fsb_coherent.specs.Awaits.{Awaited, awaited_by, purpose_of, responded_in}
 use Rattle.fsb_coherent.specs.BeforeSnoop.{events_before_snoop}
 use Rattle.fsb_coherent.specs.Facts.{does_end_on}
 use Rattle.fsb_coherent.specs.LineEvents.{events_below}
-use Rattle.fsb_coherent.specs.Relation.{chain_below, is_responded_below, link_for, link_left, links_left, purpose_at, purpose_granted}
+use Rattle.fsb_coherent.specs.Relation.{chain_below, is_responded_below, link_for, link_left, links_left, purpose_at}
+use Rattle.fsb_coherent.specs.Relation.{purpose_granted}
 use Rattle.fsb_coherent.proofs.Interface.{dirty-to, first-events}
 use Rattle.fsb_lawful.specs.Beginning.{KeepsBounds}
 use Rattle.fsb_lawful.proofs.Interface.{some-and}
@@ -28,8 +33,12 @@ use Rattle.fsb_line.proofs.Interface.{modified_is_sole, ordered_run}
 use Rattle.fsb_encode.specs.declared.request.Kind.{Kind}
 use Rattle.fsb_encode.specs.declared.request.Kind.TheVariants as kinds
 use Rattle.fsb_run_laws.specs.Reaches.{Reaches}
-use Rattle.fsb_tied.proofs.Interface.{AnswersInOrder, EndsLine, answers-in-order, at-there, begun-want, clock-facts, ended-later, ended-parts, ends-line, ends-on, events-may-happen, grant-first, granted-await, granted-parts, link_of, links_at, listed-alone, not-so, taking-at, unended-at-end, written-await}
-use Rattle.fsb_timely.specs.Grants.{begun_at, grant_at, holds_line, is_ended, is_exclusive, is_granted, latest_grant, snooped_at}
+use Rattle.fsb_tied.proofs.Interface.{AnswersInOrder, EndsLine, answers-in-order, at-there, begun-want, clock-facts}
+use Rattle.fsb_tied.proofs.Interface.{ended-later, ended-parts, ends-line, ends-on, events-may-happen, grant-first}
+use Rattle.fsb_tied.proofs.Interface.{granted-await, granted-parts, link_of, links_at, listed-alone, not-so, taking-at}
+use Rattle.fsb_tied.proofs.Interface.{unended-at-end, written-await}
+use Rattle.fsb_timely.specs.Grants.{begun_at, grant_at, holds_line, is_ended, is_exclusive, is_granted, latest_grant}
+use Rattle.fsb_timely.specs.Grants.{snooped_at}
 use Rattle.fsb_timely.specs.Hits.{is_dirty}
 use Rattle.fsb_timely.specs.Past.{Claim, Grant, Moment, Past, SnoopEnd}
 use Rattle.fsb_timely.specs.Runs.{Run, moments_below, past_of}

@@ -5,7 +5,8 @@ use Rattle.std.specs.Option.{option_and_then, option_map}
 use Rattle.fsb_agent_run.specs.AgentClocks.{number_asked}
 use Rattle.fsb_agent_run.proofs.Interface.{served-number}
 use Rattle.fsb_bench_run.specs.BenchOf.{IsBegunAt, IsServed}
-use Rattle.fsb_bench_run.proofs.Interface.{and-some, answered-of, before-growth, begun-claim, begun-reply-kind, begun-request, begun-stays, itself-served, reply-serves}
+use Rattle.fsb_bench_run.proofs.Interface.{and-some, answered-of, before-growth, begun-claim, begun-reply-kind}
+use Rattle.fsb_bench_run.proofs.Interface.{begun-request, begun-stays, itself-served, reply-serves}
 use Rattle.fsb_bench_view.specs.declared.snoop.Served.{Served}
 use Rattle.fsb_count.specs.Options.{is_some_and}
 use Rattle.fsb_lawful.specs.Beginning.{KeepsBounds}

@@ -23,7 +23,8 @@ use Rattle.fsb_trace.specs.declared.who.Who.TheVariants.{Symmetric, Priority}
 use Rattle.fsb_trace.proofs.Interface.{live_clock_of-rises}
 use Rattle.fsb_bench_view.specs.declared.snoop.Served.{Served}
 use Rattle.fsb_bench_run.specs.BenchOf.{IsBegunAt, IsServed}
-use Rattle.fsb_bench_run.proofs.Interface.{and-some, answered-of, begun-claim, begun-is, begun-reply-kind, begun-request, claim-told, itself-served, reply-serves}
+use Rattle.fsb_bench_run.proofs.Interface.{and-some, answered-of, begun-claim, begun-is, begun-reply-kind}
+use Rattle.fsb_bench_run.proofs.Interface.{begun-request, claim-told, itself-served, reply-serves}
 
 -- the entry's request has this snoop end in the run
 pub record HasSnoopEnd (r : Run) (e : Entry) (end : SnoopEnd) : Type 0 where

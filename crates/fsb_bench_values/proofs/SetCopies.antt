@@ -1,12 +1,15 @@
 -- The state and the bytes of each line of a cache of which one set has something else.
-use Rattle.std.proofs.Common.{ℕ, ◌<◌, ◌≡◌, ◌≢◌, ◌%◌, ◌/◌, true, false, Option, Some, None, List, [], ◌∷◌, length, refl, sym, ap, subst, ◌∙◌, inl, inr, ⊎_elim, arith, Bool, if◌then◌else◌}
+use Rattle.std.proofs.Common.{ℕ, ◌<◌, ◌≡◌, ◌≢◌, ◌%◌, ◌/◌, true, false, Option, Some, None, List, [], ◌∷◌, length, refl}
+use Rattle.std.proofs.Common.{sym, ap, subst, ◌∙◌, inl, inr, ⊎_elim, arith, Bool, if◌then◌else◌}
 use Rattle.std.specs.Prelude.{◌==◌, is_some}
 use Rattle.std.specs.List.{slice_index_or}
 use Rattle.std.specs.Option.{option_map}
 use Rattle.std.proofs.lemmas.Bool.{cases_Bool, cases_eq, eq-eqb, eqb-true, ne_eqb}
 use Rattle.fsb_cache.specs.declared.held.Held.{Held}
 use Rattle.fsb_cache.specs.LineValues.{line_with_value}
-use Rattle.fsb_cache.specs.Sets.{CacheSets, bytes_of_held, copies, held_at, held_shared, held_stored, only_line, sets_filled, sets_shared, sets_stored, sets_without, slot_of, state_of_held, states, with_slot}
+use Rattle.fsb_cache.specs.Sets.{CacheSets, bytes_of_held, copies, held_at, held_shared, held_stored, only_line}
+use Rattle.fsb_cache.specs.Sets.{sets_filled, sets_shared, sets_stored, sets_without, slot_of, state_of_held, states}
+use Rattle.fsb_cache.specs.Sets.{with_slot}
 use Rattle.fsb_line.specs.declared.state.Mesi.{Mesi}
 use Rattle.fsb_line.specs.declared.state.Mesi.TheVariants.{Modified}
 use Rattle.fsb_line.specs.States.{is_held, is_sole}

@@ -1,5 +1,6 @@
 -- Lists that are matched place by place, and what tests find in both; and what they find among the clocks that pass.
-use Rattle.std.proofs.Common.{ℕ, zero, suc, ◌≡◌, Bool, true, false, cond, ◌&&◌, ◌||◌, List, [], ◌∷◌, ◌++◌, map, Option, Some, None, refl, sym, ap, ◌∙◌, inl, inr, add-one}
+use Rattle.std.proofs.Common.{ℕ, zero, suc, ◌≡◌, Bool, true, false, cond, ◌&&◌, ◌||◌, List, [], ◌∷◌, ◌++◌, map, Option}
+use Rattle.std.proofs.Common.{Some, None, refl, sym, ap, ◌∙◌, inl, inr, add-one}
 use Rattle.std.specs.Prelude.{⊤}
 use Rattle.std.specs.List.{find, list_any}
 use Rattle.std.specs.Option.{option_or}
@@ -22,29 +23,36 @@ rest_same : {Z : Type 0} (x y : Z) (xs ys : List Z) → x ∷ xs ≡ y ∷ ys �
 rest_same x y xs ys e = cc
 
 -- lists with the same values are matched by them
-pub map-Matched : {X Y Z : Type 0} (f : X → Z) (g : Y → Z) (xs : List X) (ys : List Y) → map f xs ≡ map g ys → Matched (λ x y. f x ≡ g y) xs ys
+pub map-Matched : {X Y Z : Type 0} (f : X → Z) (g : Y → Z) (xs : List X) (ys : List Y) → map f xs ≡ map g ys
+    → Matched (λ x y. f x ≡ g y) xs ys
 map-Matched f g [] [] e = tt
 map-Matched f g [] (y ∷ ys) e = absurd (let no : ⊥ = cc in no)
 map-Matched f g (x ∷ xs) [] e = absurd (let no : ⊥ = cc in no)
-map-Matched f g (x ∷ xs) (y ∷ ys) e =
-    (first_same (f x) (g y) (map f xs) (map g ys) e, map-Matched f g xs ys (rest_same (f x) (g y) (map f xs) (map g ys) e))
+map-Matched f g (x ∷ xs) (y ∷ ys) e = (
+  first_same (f x) (g y) (map f xs) (map g ys) e,
+  map-Matched f g xs ys (rest_same (f x) (g y) (map f xs) (map g ys) e),
+)
 
 -- lists that are matched by values have the same ones
-pub map-from_Matched : {X Y Z : Type 0} (R : X → Y → Type 0) (f : X → Z) (g : Y → Z) (xs : List X) (ys : List Y) → ((x : X) (y : Y) → R x y → f x ≡ g y) → Matched R xs ys → map f xs ≡ map g ys
+pub map-from_Matched : {X Y Z : Type 0} (R : X → Y → Type 0) (f : X → Z) (g : Y → Z) (xs : List X) (ys : List Y)
+    → ((x : X) (y : Y) → R x y → f x ≡ g y) → Matched R xs ys → map f xs ≡ map g ys
 map-from_Matched R f g [] [] s h = refl
 map-from_Matched R f g [] (y ∷ ys) s h = absurd h
 map-from_Matched R f g (x ∷ xs) [] s h = absurd h
 map-from_Matched R f g (x ∷ xs) (y ∷ ys) s h = rw (s x y h.0, map-from_Matched R f g xs ys s h.1) refl
 
 -- lists that are matched in two ways are matched in what follows from both
-pub both-Matched : {X Y : Type 0} (R S T : X → Y → Type 0) (xs : List X) (ys : List Y) → ((x : X) (y : Y) → R x y → S x y → T x y) → Matched R xs ys → Matched S xs ys → Matched T xs ys
+pub both-Matched : {X Y : Type 0} (R S T : X → Y → Type 0) (xs : List X) (ys : List Y)
+    → ((x : X) (y : Y) → R x y → S x y → T x y) → Matched R xs ys → Matched S xs ys → Matched T xs ys
 both-Matched R S T [] [] f h k = tt
 both-Matched R S T [] (y ∷ ys) f h k = absurd h
 both-Matched R S T (x ∷ xs) [] f h k = absurd h
 both-Matched R S T (x ∷ xs) (y ∷ ys) f h k = (f x y h.0 k.0, both-Matched R S T xs ys f h.1 k.1)
 
 -- tests that give the same for related elements
-pub list_any-Matched : {X Y : Type 0} (R : X → Y → Type 0) (p : X → Bool) (q : Y → Bool) (xs : List X) (ys : List Y) → ((x : X) (y : Y) → R x y → p x ≡ q y) → Matched R xs ys → list_any p xs ≡ list_any q ys
+pub list_any-Matched : {X Y : Type 0} (R : X → Y → Type 0) (p : X → Bool) (q : Y
+    → Bool) (xs : List X) (ys : List Y) → ((x : X) (y : Y) → R x y → p x ≡ q y) → Matched R xs ys
+    → list_any p xs ≡ list_any q ys
 list_any-Matched R p q [] [] f h = refl
 list_any-Matched R p q [] (y ∷ ys) f h = absurd h
 list_any-Matched R p q (x ∷ xs) [] f h = absurd h
@@ -55,7 +63,8 @@ abbrev pub Alike : {X Y : Type 0} → (X → Y → Type 0) → Option X → Opti
 Alike R None o = o ≡ None
 Alike R (Some x) o = (y : _) × (o ≡ Some y) × R x y
 
-pub find-Matched : {X Y : Type 0} (R : X → Y → Type 0) (p : X → Bool) (q : Y → Bool) (xs : List X) (ys : List Y) → ((x : X) (y : Y) → R x y → p x ≡ q y) → Matched R xs ys → Alike R (find p xs) (find q ys)
+pub find-Matched : {X Y : Type 0} (R : X → Y → Type 0) (p : X → Bool) (q : Y → Bool) (xs : List X) (ys : List Y)
+    → ((x : X) (y : Y) → R x y → p x ≡ q y) → Matched R xs ys → Alike R (find p xs) (find q ys)
 find-Matched R p q [] [] f h = refl
 find-Matched R p q [] (y ∷ ys) f h = absurd h
 find-Matched R p q (x ∷ xs) [] f h = absurd h

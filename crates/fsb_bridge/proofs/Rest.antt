@@ -1,5 +1,6 @@
 -- What is left of a list without the first element that passes a test.
-use Rattle.std.proofs.Common.{ℕ, zero, suc, ◌+◌, ◌≡◌, Bool, true, false, ◌&&◌, ◌||◌, take, drop, not, nat_eq, List, [], ◌∷◌, ◌++◌, refl, sym, ap, ◌∙◌, inl, inr, add-one, arith}
+use Rattle.std.proofs.Common.{ℕ, zero, suc, ◌+◌, ◌≡◌, Bool, true, false, ◌&&◌, ◌||◌, take, drop, not, nat_eq, List, []}
+use Rattle.std.proofs.Common.{◌∷◌, ◌++◌, refl, sym, ap, ◌∙◌, inl, inr, add-one, arith}
 use Rattle.std.specs.List.{after_first, before_first, list_any, position_or_len}
 use Rattle.std.proofs.lemmas.Bool.{and_parts, cases_Bool, eqb-true}
 use Rattle.fsb_count.specs.Clocks.{all_where}
@@ -12,7 +13,8 @@ rest p xs = before_first p xs ++ after_first p xs
 pub rest_found : {X : Type 0} (p : X → Bool) (x : X) (xs : List X) → p x ≡ true → rest p (x ∷ xs) ≡ xs
 rest_found p x xs e = rw e refl
 
-one_on : {X : Type 0} (m : ℕ) (x : X) (xs : List X) → take (1 + m) (x ∷ xs) ++ drop (1 + m + 1) (x ∷ xs) ≡ x ∷ (take m xs ++ drop (m + 1) xs)
+one_on : {X : Type 0} (m : ℕ) (x : X) (xs : List X)
+    → take (1 + m) (x ∷ xs) ++ drop (1 + m + 1) (x ∷ xs) ≡ x ∷ (take m xs ++ drop (m + 1) xs)
 one_on m x xs =
     let e : 1 + m ≡ suc m = omega arith in
     let d : 1 + m + 1 ≡ suc (m + 1) = omega arith in
@@ -22,7 +24,8 @@ pub rest_more : {X : Type 0} (p : X → Bool) (x : X) (xs : List X) → p x ≡ 
 rest_more p x xs e = rw e (one_on (position_or_len p xs) x xs)
 
 -- what is left of lists that are matched, after tests that give the same for related elements
-pub rest-Matched : {X Y : Type 0} (R : X → Y → Type 0) (p : X → Bool) (q : Y → Bool) (xs : List X) (ys : List Y) → ((x : X) (y : Y) → R x y → p x ≡ q y) → Matched R xs ys → Matched R (rest p xs) (rest q ys)
+pub rest-Matched : {X Y : Type 0} (R : X → Y → Type 0) (p : X → Bool) (q : Y → Bool) (xs : List X) (ys : List Y)
+    → ((x : X) (y : Y) → R x y → p x ≡ q y) → Matched R xs ys → Matched R (rest p xs) (rest q ys)
 rest-Matched R p q [] [] f h = tt
 rest-Matched R p q [] (y ∷ ys) f h = absurd h
 rest-Matched R p q (x ∷ xs) [] f h = absurd h
@@ -48,11 +51,13 @@ or_parts true b e = absurd (let no : ⊥ = cc in no)
 or_parts false b e = (refl, e)
 
 -- one that is the first to pass
-rest_passed : (q : ℕ → Bool) (ys : List ℕ) (z : ℕ) → list_any q ys ≡ false → q z ≡ true → rest q (ys ++ z ∷ []) ≡ rest q ys
+rest_passed : (q : ℕ → Bool) (ys : List ℕ) (z : ℕ) → list_any q ys ≡ false → q z ≡ true
+    → rest q (ys ++ z ∷ []) ≡ rest q ys
 rest_passed q [] z e t = rest_found q z [] t
 rest_passed q (y ∷ ys) z e t =
     let parts = or_parts (q y) (list_any q ys) e in
-    rw (rest_more q y (ys ++ z ∷ []) parts.0, rest_more q y ys parts.0) (ap (λ xs. y ∷ xs) (rest_passed q ys z parts.1 t))
+    rw (rest_more q y (ys ++ z ∷ []) parts.0, rest_more q y ys parts.0)
+    (ap (λ xs. y ∷ xs) (rest_passed q ys z parts.1 t))
 
 passed : (p : ℕ → Bool) (n : ℕ) → p n ≡ true → all_where p (suc n) ≡ all_where p n ++ n ∷ []
 passed p n e = rw add-one at (all_where-passed p n e)
@@ -60,7 +65,8 @@ passed p n e = rw add-one at (all_where-passed p n e)
 failed : (p : ℕ → Bool) (n : ℕ) → p n ≡ false → all_where p (suc n) ≡ all_where p n
 failed p n e = rw add-one at (all_where-failed p n e)
 
-none_before : (p q : ℕ → Bool) (n i : ℕ) → ((k : ℕ) → p k ≡ true → q k ≡ nat_eq k i) → nat_eq n i ≡ true → list_any q (all_where p n) ≡ false
+none_before : (p q : ℕ → Bool) (n i : ℕ) → ((k : ℕ) → p k ≡ true → q k ≡ nat_eq k i) → nat_eq n i ≡ true
+    → list_any q (all_where p n) ≡ false
 none_before p q n i own e =
     list_any-all_where p q n ∙ any_where-off (λ k. q k && p k) n (λ k l. elim (cases_Bool (q k && p k)) [
       | inl t ↦
@@ -71,7 +77,8 @@ none_before p q n i own e =
     ])
 
 -- the clocks that pass, without the one of them that another test finds
-pub rest-all_where : (p q : ℕ → Bool) (n i : ℕ) → ((k : ℕ) → p k ≡ true → q k ≡ nat_eq k i) → rest q (all_where p n) ≡ all_where (λ k. p k && not (nat_eq k i)) n
+pub rest-all_where : (p q : ℕ → Bool) (n i : ℕ) → ((k : ℕ) → p k ≡ true → q k ≡ nat_eq k i)
+    → rest q (all_where p n) ≡ all_where (λ k. p k && not (nat_eq k i)) n
 unfolding all_where
 rest-all_where p q zero i own = refl
 rest-all_where p q (suc n) i own =
@@ -81,10 +88,13 @@ rest-all_where p q (suc n) i own =
       | inl t ↦ elim (cases_Bool (nat_eq n i)) [
         | inl e ↦
             let off : others n ≡ false = rw (t, e) refl in
-            ap (rest q) (passed p n t) ∙ rest_passed q (all_where p n) n (none_before p q n i own e) (own n t ∙ e) ∙ ih ∙ sym (failed others n off)
+            ap (rest q) (passed p n t)
+            ∙ rest_passed q (all_where p n) n (none_before p q n i own e) (own n t ∙ e) ∙ ih
+            ∙ sym (failed others n off)
         | inr e ↦
             let on : others n ≡ true = rw (t, e) refl in
-            ap (rest q) (passed p n t) ∙ rest_failed q (all_where p n) n (own n t ∙ e) ∙ ap (λ xs. xs ++ n ∷ []) ih ∙ sym (passed others n on)
+            ap (rest q) (passed p n t) ∙ rest_failed q (all_where p n) n (own n t ∙ e)
+            ∙ ap (λ xs. xs ++ n ∷ []) ih ∙ sym (passed others n on)
       ]
       | inr f ↦
           let off : others n ≡ false = rw f refl in ap (rest q) (failed p n f) ∙ ih ∙ sym (failed others n off)

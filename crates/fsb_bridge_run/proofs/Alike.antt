@@ -1,5 +1,6 @@
 -- Traces that agree below a clock have the same deferrals there.
-use Rattle.std.proofs.Common.{ℕ, ◌+◌, ◌<◌, ◌≤◌, ◌≡◌, Bool, true, false, cond, List, Option, Some, None, slice_index, refl, sym, ap, subst, ◌∙◌, arith, inl, inr}
+use Rattle.std.proofs.Common.{ℕ, ◌+◌, ◌<◌, ◌≤◌, ◌≡◌, Bool, true, false, cond, List, Option, Some, None, slice_index}
+use Rattle.std.proofs.Common.{refl, sym, ap, subst, ◌∙◌, arith, inl, inr}
 use Rattle.std.specs.Option.{option_and_then, option_map}
 use Rattle.std.proofs.lemmas.Bool.{both_ways, cases_Bool, false_from_ne_true}
 use Rattle.fsb_count.specs.Clocks.{count_where}
@@ -14,12 +15,15 @@ use Rattle.fsb_trace.specs.Flight.{reply_number_of}
 use Rattle.fsb_trace.specs.Outcome.{is_deferral, is_settled_deferred, response_clock_of, settled_by}
 use Rattle.fsb_trace.specs.Requests.{line_of, live_clock_of, live_count}
 use Rattle.fsb_trace.specs.Snoop.{snoop_end_of}
-use Rattle.fsb_trace.proofs.Interface.{AgreeTo-sym, line_at-agree, line_at_snoop_end-stays, live_clock_of-stays, live_request_of-stays, response_clock_of-stays, settled_outcome_of-ended, snoop_end_of-clock, snoop_end_of-stays}
+use Rattle.fsb_trace.proofs.Interface.{AgreeTo-sym, line_at-agree, line_at_snoop_end-stays, live_clock_of-stays}
+use Rattle.fsb_trace.proofs.Interface.{live_request_of-stays, response_clock_of-stays, settled_outcome_of-ended}
+use Rattle.fsb_trace.proofs.Interface.{snoop_end_of-clock, snoop_end_of-stays}
 use Rattle.fsb_timely.proofs.Interface.{line_of-agree, settled_by-agree}
 use Rattle.fsb_lawful.proofs.Interface.{and-then}
 use Rattle.fsb_tied.proofs.Interface.{reply-stays, same-both}
 use Rattle.fsb_bridge.specs.declared.deferral.Waiting.{Waiting}
-use Rattle.fsb_bridge.specs.DeferralList.{StandsFor, live_line_of, request_number_of, response_before, waiting_at, waits}
+use Rattle.fsb_bridge.specs.DeferralList.{StandsFor, live_line_of, request_number_of, response_before, waiting_at}
+use Rattle.fsb_bridge.specs.DeferralList.{waits}
 use Rattle.fsb_bridge.proofs.Interface.{AreEntriesOf-IsEntryOf, IsEntryOf, IsEntryOf-StandsFor, Matched}
 use Rattle.fsb_bridge_run.proofs.Listed.{Matched-into, all_where-below, all_where-bounds, all_where-pass}
 use Rattle.fsb_bridge_run.proofs.Waiting.{waits-from, waits-live, waits-parts}

@@ -1,5 +1,6 @@
 -- The entries of the list after the cancellation and the response of a clock.
-use Rattle.std.proofs.Common.{ℕ, ◌+◌, ◌<◌, ◌≡◌, Bool, true, false, cond, List, map, Option, Some, None, length, nat_eq, slice_index, refl, sym, ap, subst, ◌∙◌, arith, inl, inr}
+use Rattle.std.proofs.Common.{ℕ, ◌+◌, ◌<◌, ◌≡◌, Bool, true, false, cond, List, map, Option, Some, None, length, nat_eq}
+use Rattle.std.proofs.Common.{slice_index, refl, sym, ap, subst, ◌∙◌, arith, inl, inr}
 use Rattle.std.specs.Option.{option_map}
 use Rattle.std.proofs.lemmas.Bool.{both_ways, cases_Bool, cases_lt, cases_order, eq-eqb, eqb-true, false_from_ne_true}
 use Rattle.fsb_count.specs.Clocks.{count_where}
@@ -17,12 +18,14 @@ use Rattle.fsb_timely.specs.Runs.{Run, past_of, requests_below, run_to}
 use Rattle.fsb_timely.specs.Starts.{reply_to}
 use Rattle.fsb_coherent.specs.Awaits.{cancelled_in, responded_in, snoop_end_below}
 use Rattle.fsb_lawful.proofs.Interface.{live-ads, wants-lawfully}
-use Rattle.fsb_tied.proofs.Interface.{Responds, cancelled-at, cancels, number-responded, orderly-whole, responded-number}
+use Rattle.fsb_tied.proofs.Interface.{Responds, cancelled-at, cancels, number-responded, orderly-whole}
+use Rattle.fsb_tied.proofs.Interface.{responded-number}
 use Rattle.fsb_run_laws.specs.Reaches.{Reaches}
 use Rattle.fsb_run_laws.proofs.Interface.{snoop-below}
 use Rattle.fsb_bridge.specs.declared.deferral.Waiting.{Waiting}
 use Rattle.fsb_bridge.specs.Deferrals.{with_answer, with_reply}
-use Rattle.fsb_bridge.specs.DeferralList.{IsDeferralOf, live_line_of, request_number_of, response_before, waiting_at, waits}
+use Rattle.fsb_bridge.specs.DeferralList.{IsDeferralOf, live_line_of, request_number_of, response_before, waiting_at}
+use Rattle.fsb_bridge.specs.DeferralList.{waits}
 use Rattle.fsb_bridge.proofs.Interface.{IsEntryOf, Matched}
 use Rattle.fsb_bridge_run.specs.DeferralSteps.{after_cancellation, after_reply, after_response, reply_at, was_deferred}
 use Rattle.fsb_bridge_run.specs.RunDeferrals.{turns_of}

@@ -1,7 +1,9 @@
 -- A reply that begins in a timely run answers a request that is due.
-use Rattle.std.proofs.Common.{ℕ, suc, ◌+◌, ◌<◌, ◌≤◌, ◌≡◌, true, false, not, ◌&&◌, Option, Some, length, nat_le, slice_index, refl, sym, ap, ◌∙◌, arith, inl, inr}
+use Rattle.std.proofs.Common.{ℕ, suc, ◌+◌, ◌<◌, ◌≤◌, ◌≡◌, true, false, not, ◌&&◌, Option, Some, length, nat_le}
+use Rattle.std.proofs.Common.{slice_index, refl, sym, ap, ◌∙◌, arith, inl, inr}
 use Rattle.std.specs.Option.{option_and_then, option_map}
-use Rattle.std.proofs.lemmas.Bool.{and_from, and_parts, both_ways, cases_lt, eq-eqb, false_from_ne_true, leb-true, not-true}
+use Rattle.std.proofs.lemmas.Bool.{and_from, and_parts, both_ways, cases_lt, eq-eqb, false_from_ne_true, leb-true}
+use Rattle.std.proofs.lemmas.Bool.{not-true}
 use Rattle.fsb_count.specs.Options.{is_before, is_some_and}
 use Rattle.fsb_count.proofs.Interface.{first_where-at, first_where-found, is_before-parts}
 use Rattle.fsb_encode.specs.declared.request.Request.{Request}
@@ -11,19 +13,23 @@ use Rattle.fsb_trace.specs.At.{Trace, request_at}
 use Rattle.fsb_trace.specs.Deferral.{due_at, is_answered, is_due, later_of}
 use Rattle.fsb_trace.specs.Flight.{is_live_reply_to, is_reply_to, reply_clock_of, reply_number_of}
 use Rattle.fsb_trace.specs.Outcome.{is_settled_deferred, response_clock_of}
-use Rattle.fsb_trace.specs.Requests.{have_same_id, is_cancelled, is_live, is_reply, is_reply_kind, live_clock_of, live_count, live_number_of, live_request_of}
+use Rattle.fsb_trace.specs.Requests.{have_same_id, is_cancelled, is_live, is_reply, is_reply_kind, live_clock_of}
+use Rattle.fsb_trace.specs.Requests.{live_count, live_number_of, live_request_of}
 use Rattle.fsb_trace.specs.Snoop.{snoop_end_of}
 use Rattle.fsb_trace.specs.Winner.{winner_at}
 use Rattle.fsb_trace.specs.declared.who.Who.{Who}
 use Rattle.fsb_trace.specs.declared.who.Who.TheVariants.{Symmetric, Priority}
-use Rattle.fsb_trace.proofs.Interface.{AgreeTo-sym, is_live-agree, is_reply-some, line_at-agree, live_request_of-stays, request_at-agree, response_clock_of-stays, snoop_end_of-clock, snoop_end_of-stays}
+use Rattle.fsb_trace.proofs.Interface.{AgreeTo-sym, is_live-agree, is_reply-some, line_at-agree, live_request_of-stays}
+use Rattle.fsb_trace.proofs.Interface.{request_at-agree, response_clock_of-stays, snoop_end_of-clock}
+use Rattle.fsb_trace.proofs.Interface.{snoop_end_of-stays}
 use Rattle.fsb_timely.specs.Moments.{number_of_turn, turns_in}
 use Rattle.fsb_timely.specs.Runs.{Run, past_of, past_to, run_to}
 use Rattle.fsb_timely.specs.Starts.{due_number, reply_to, request_begun, would_begin}
 use Rattle.fsb_timely.specs.Timely.{Timely}
 use Rattle.fsb_timely.proofs.Interface.{snoop-tied}
 use Rattle.fsb_lawful.specs.Beginning.{WantsLawfully}
-use Rattle.fsb_lawful.proofs.Interface.{and-then, begun-decoded, begun-winner, map-some, orderly-at, past-cut, run_to-agrees, some-and, turned-at, want-own}
+use Rattle.fsb_lawful.proofs.Interface.{and-then, begun-decoded, begun-winner, map-some, orderly-at, past-cut}
+use Rattle.fsb_lawful.proofs.Interface.{run_to-agrees, some-and, turned-at, want-own}
 use Rattle.fsb_tied.proofs.Interface.{answered, has-reply, live-at, orderly-whole}
 use Rattle.fsb_bridge.specs.DeferralList.{waits}
 use Rattle.fsb_bridge_run.specs.RunDeferrals.{turns_of}

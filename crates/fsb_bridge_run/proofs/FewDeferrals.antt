@@ -1,7 +1,10 @@
 -- There are sixteen deferrals at most: each has an ID of its own, one of four of each of the four agents.
-use Rattle.std.proofs.Common.{ℕ, zero, suc, ◌+◌, ◌*◌, ◌/◌, ◌%◌, ◌<◌, ◌≤◌, ◌≡◌, Bool, true, false, not, ◌&&◌, ◌||◌, List, [], ◌∷◌, Option, Some, None, length, nat_eq, if◌then◌else◌, refl, sym, ap, subst, ◌∙◌, arith, inl, inr}
+use Rattle.std.proofs.Common.{ℕ, zero, suc, ◌+◌, ◌*◌, ◌/◌, ◌%◌, ◌<◌, ◌≤◌, ◌≡◌, Bool, true, false, not, ◌&&◌, ◌||◌, List}
+use Rattle.std.proofs.Common.{[], ◌∷◌, Option, Some, None, length, nat_eq, if◌then◌else◌, refl, sym, ap, subst, ◌∙◌}
+use Rattle.std.proofs.Common.{arith, inl, inr}
 use Rattle.std.specs.Option.{option_and_then, option_map_or}
-use Rattle.std.proofs.lemmas.Bool.{and_from, and_parts, cases_order, eq-eqb, eqb-false, eqb-true, false_from_ne_true, ne_eqb, not-true}
+use Rattle.std.proofs.lemmas.Bool.{and_from, and_parts, cases_order, eq-eqb, eqb-false, eqb-true, false_from_ne_true}
+use Rattle.std.proofs.lemmas.Bool.{ne_eqb, not-true}
 use Rattle.fsb_count.specs.Clocks.{all_where, count_where, first_where}
 use Rattle.fsb_count.proofs.Interface.{count_where-same, first_where-found, length-all_where}
 use Rattle.fsb_encode.specs.declared.request.Request.{Request}
@@ -13,7 +16,8 @@ use Rattle.fsb_timely.specs.Past.{Owing}
 use Rattle.fsb_timely.specs.Runs.{Run, past_of, past_to, run_to}
 use Rattle.fsb_timely.specs.Starts.{request_begun, would_begin}
 use Rattle.fsb_timely.specs.Wants.{free_id, id_of, is_id_used, owed}
-use Rattle.fsb_lawful.proofs.Interface.{begun-decoded, begun-winner, begun_of, live-ads, run_to-agrees, want-few, want-own, wanted-by, wants-lawfully}
+use Rattle.fsb_lawful.proofs.Interface.{begun-decoded, begun-winner, begun_of, live-ads, run_to-agrees, want-few}
+use Rattle.fsb_lawful.proofs.Interface.{want-own, wanted-by, wants-lawfully}
 use Rattle.fsb_tied.proofs.Interface.{winner-four}
 use Rattle.fsb_run_laws.specs.Reaches.{Reaches}
 use Rattle.fsb_bridge.specs.DeferralList.{waiting_at, waits}
@@ -26,7 +30,9 @@ use Rattle.fsb_trace.specs.Agree.{AgreeTo}
 use Rattle.fsb_trace.specs.At.{Trace, request_at}
 use Rattle.fsb_trace.specs.Flight.{reply_number_of}
 use Rattle.fsb_trace.specs.Snoop.{snoop_end_of}
-use Rattle.fsb_trace.proofs.Interface.{AgreeTo-sym, line_at-agree, live_below_count, live_clock_of-rises, live_clock_of-stays, live_request_of-at, request_at-agree, snoop_end_of-clock, snoop_end_of-rises, snoop_end_of-stays}
+use Rattle.fsb_trace.proofs.Interface.{AgreeTo-sym, line_at-agree, live_below_count, live_clock_of-rises}
+use Rattle.fsb_trace.proofs.Interface.{live_clock_of-stays, live_request_of-at, request_at-agree, snoop_end_of-clock}
+use Rattle.fsb_trace.proofs.Interface.{snoop_end_of-rises, snoop_end_of-stays}
 use Rattle.fsb_signal.specs.declared.lines.TheConstants.Lines.{ADS}
 use Rattle.fsb_signal.specs.Samples.{line_at}
 use Rattle.std.proofs.lemmas.List.{length-append}
@@ -187,7 +193,8 @@ unfolding waiting_at
 room-for r n i q w turns request h same reached first decoded plain =
     let long = h.long in
     let few = few-coded r.trace all (live_count r.trace) (record { coded = coded; own = own }) in
-    let added = all_where-added waiting all (live_count r.trace) i (live_below_count r.trace i q clock) low (here i refl)
+    let added = all_where-added waiting all (live_count r.trace) i (live_below_count r.trace i q clock) low
+    (here i refl)
     (λ k differs. other (waiting k) (nat_eq k i) (ne_eqb k i differs)) in
     let size = length-all_where all (live_count r.trace) in
     let more = ap length added ∙ length-append (all_where waiting (live_count r.trace)) (i ∷ []) in

@@ -1,5 +1,6 @@
 -- A list that has the deferrals of a run has those of the run that grows from it; and lists are short.
-use Rattle.std.proofs.Common.{ℕ, zero, suc, ◌+◌, ◌-◌, ◌<◌, ◌≤◌, ◌≡◌, Bool, true, false, List, [], ◌∷◌, Option, Some, None, length, take, slice_index, refl, sym, ap, subst, ◌∙◌, arith}
+use Rattle.std.proofs.Common.{ℕ, zero, suc, ◌+◌, ◌-◌, ◌<◌, ◌≤◌, ◌≡◌, Bool, true, false, List, [], ◌∷◌, Option, Some}
+use Rattle.std.proofs.Common.{None, length, take, slice_index, refl, sym, ap, subst, ◌∙◌, arith}
 use Rattle.std.proofs.lemmas.List.{length-append, length-map, take_all, take-append-le}
 use Rattle.std.specs.Option.{option_and_then, option_map}
 use Rattle.fsb_encode.specs.declared.request.Request.{Request}
@@ -117,7 +118,8 @@ list-first r = record {
   begun = refl;
 }
 
-reply-length : (o : Option Request) (begun : Bool) (list : List Waiting) → length (after_reply o begun list) ≡ length list
+reply-length : (o : Option Request) (begun : Bool) (list : List Waiting)
+    → length (after_reply o begun list) ≡ length list
 unfolding after_reply
 reply-length None begun list = refl
 reply-length (Some reply) begun list = length-map list (with_reply reply.did begun)

@@ -1,5 +1,6 @@
 -- The words of a run's next clock, by a list that has the run's deferrals: before it is known that the clock is timely.
-use Rattle.std.proofs.Common.{ℕ, ◌+◌, ◌<◌, ◌≤◌, ◌≡◌, true, false, List, Option, Some, None, is_some, length, refl, sym, ap, subst, ◌∙◌, arith, inl, inr}
+use Rattle.std.proofs.Common.{ℕ, ◌+◌, ◌<◌, ◌≤◌, ◌≡◌, true, false, List, Option, Some, None, is_some, length, refl, sym}
+use Rattle.std.proofs.Common.{ap, subst, ◌∙◌, arith, inl, inr}
 use Rattle.std.specs.Option.{option_and_then, option_map, option_map_or}
 use Rattle.std.proofs.lemmas.Bool.{and_from, and_left, and_right, cases_Bool}
 use Rattle.fsb_count.specs.Options.{is_some_and}

@@ -1,5 +1,6 @@
 -- A trace that goes on from the samples of a run: what it finds of a list that has the run's deferrals.
-use Rattle.std.proofs.Common.{ℕ, zero, suc, ◌+◌, ◌≡◌, Bool, true, false, List, map, Option, Some, None, length, nat_eq, take, refl, sym, subst, ◌∙◌, arith}
+use Rattle.std.proofs.Common.{ℕ, zero, suc, ◌+◌, ◌≡◌, Bool, true, false, List, map, Option, Some, None, length, nat_eq}
+use Rattle.std.proofs.Common.{take, refl, sym, subst, ◌∙◌, arith}
 use Rattle.std.proofs.lemmas.Bool.{both_ways, eq-eqb, eqb-true, false_from_ne_true}
 use Rattle.std.proofs.lemmas.List.{length-take-le}
 use Rattle.fsb_encode.specs.declared.request.Request.{Request}
@@ -102,7 +103,8 @@ told-reply r d i w turns reply request h k begins begun waiting asks did =
     let after = b.due.after in
     let own = waits-run r (suc d) i w turns k waiting in
     let due = begun-waits r d (suc d) reply b (omega arith) (omega arith) in
-    let same = one-id r (suc d) (suc d) i b.number request b.request h (omega arith) own due asks b.asked (did ∙ b.did) in
+    let same = one-id r (suc d) (suc d) i b.number request b.request h (omega arith) own due asks b.asked (did
+    ∙ b.did) in
     let parts = reply_at-parts w d reply begins in
     let a = waits-parts r.trace (turns_of r) (suc d) i own in
     let asked = sym (live_request_of-stays (suc d) r.trace w i a.snoop k.agree a.below a.is_snoop) ∙ asks in
@@ -203,7 +205,11 @@ cut-goes-on r n turns h k =
     let agree = run_to-agrees r n (omega arith) in
     record {
       same = record {
-        agree = record { left = omega arith; right = let m = agree.right in omega arith; same = λ c l. agree.same c (omega arith) };
+        agree = record {
+          left = omega arith;
+          right = let m = agree.right in omega arith;
+          same = λ c l. agree.same c (omega arith);
+        };
         same = λ i t e l. k.same i t e (omega arith);
       };
       shown = λ d at.

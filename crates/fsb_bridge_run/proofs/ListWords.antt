@@ -1,5 +1,6 @@
 -- What a timely run says of its deferrals at a clock is what the list says.
-use Rattle.std.proofs.Common.{ℕ, ◌+◌, ◌<◌, ◌≤◌, ◌≡◌, true, List, Option, Some, None, is_some, length, take, if◌then◌else◌, refl, sym, ap, ◌∙◌, arith}
+use Rattle.std.proofs.Common.{ℕ, ◌+◌, ◌<◌, ◌≤◌, ◌≡◌, true, List, Option, Some, None, is_some, length, take}
+use Rattle.std.proofs.Common.{if◌then◌else◌, refl, sym, ap, ◌∙◌, arith}
 use Rattle.std.specs.Option.{option_and_then, option_map}
 use Rattle.std.proofs.lemmas.List.{length-take-le}
 use Rattle.fsb_count.proofs.Interface.{nth_where-found}
@@ -12,7 +13,8 @@ use Rattle.fsb_trace.specs.Outcome.{response_clock_of}
 use Rattle.fsb_trace.specs.Requests.{have_same_id, live_request_of}
 use Rattle.fsb_trace.specs.Winner.{begins_at}
 use Rattle.fsb_trace.specs.declared.who.Who.TheVariants.{Priority}
-use Rattle.fsb_trace.proofs.Interface.{AgreeTo-sym, live_request_of-stays, response_clock_of-stays, snoop_end_of-clock, snoop_end_of-stays}
+use Rattle.fsb_trace.proofs.Interface.{AgreeTo-sym, live_request_of-stays, response_clock_of-stays, snoop_end_of-clock}
+use Rattle.fsb_trace.proofs.Interface.{snoop_end_of-stays}
 use Rattle.fsb_timely.specs.Moments.{choice_at, effective_choice, is_in_window, turns_in}
 use Rattle.fsb_timely.specs.Runs.{Run, moments_below, past_of, past_to, run_to}
 use Rattle.fsb_timely.specs.Starts.{due_number, reply_to, would_begin}
@@ -182,4 +184,5 @@ pub begun-listed : (r : Run) (n : ℕ) (list : List Waiting) → Reaches r (n + 
     → reply_begun r n ≡ (if begins_at (run_to r n).trace n Priority
     then option_map (λ deferral. reply_to deferral.request) (due_deferral n list) else None)
 begun-listed r n list h finds =
-    begun-if r n (option_map (λ deferral. reply_to deferral.request) (due_deferral n list)) (would-listed r n list h finds)
+    begun-if r n (option_map (λ deferral. reply_to deferral.request) (due_deferral n list))
+    (would-listed r n list h finds)

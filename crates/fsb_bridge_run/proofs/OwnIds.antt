@@ -1,7 +1,9 @@
 -- In a timely run the requests that wait for their replies have IDs of their own.
-use Rattle.std.proofs.Common.{ℕ, zero, suc, ◌+◌, ◌<◌, ◌≤◌, ◌≡◌, true, false, not, Option, Some, None, length, sym, ap, ◌∙◌, arith, inl, inr}
+use Rattle.std.proofs.Common.{ℕ, zero, suc, ◌+◌, ◌<◌, ◌≤◌, ◌≡◌, true, false, not, Option, Some, None, length, sym, ap}
+use Rattle.std.proofs.Common.{◌∙◌, arith, inl, inr}
 use Rattle.std.specs.Option.{option_and_then}
-use Rattle.std.proofs.lemmas.Bool.{and_from, and_left, and_right, both_ways, cases_Bool, cases_order, eq-eqb, eqb-true, false_from_ne_true, lt-ltb}
+use Rattle.std.proofs.lemmas.Bool.{and_from, and_left, and_right, both_ways, cases_Bool, cases_order, eq-eqb, eqb-true}
+use Rattle.std.proofs.lemmas.Bool.{false_from_ne_true, lt-ltb}
 use Rattle.fsb_count.specs.Options.{is_before, is_some_and}
 use Rattle.fsb_count.proofs.Interface.{is_before-from, is_before-parts}
 use Rattle.fsb_encode.specs.declared.request.Request.{Request}
@@ -9,13 +11,15 @@ use Rattle.fsb_signal.specs.declared.lines.TheConstants.Lines.{ADS}
 use Rattle.fsb_signal.specs.Samples.{line_at}
 use Rattle.fsb_trace.specs.Winner.{winner_at}
 use Rattle.fsb_trace.specs.At.{request_at}
-use Rattle.fsb_trace.specs.Flight.{is_dropped, is_finished, is_outstanding, last_clock_of, reply_end_of, reply_number_of}
+use Rattle.fsb_trace.specs.Flight.{is_dropped, is_finished, is_outstanding, last_clock_of, reply_end_of}
+use Rattle.fsb_trace.specs.Flight.{reply_number_of}
 use Rattle.fsb_trace.specs.Outcome.{is_deferral, is_deferred, is_settled_deferred}
 use Rattle.fsb_trace.specs.Requests.{have_same_id, is_cancelled, is_live, is_reply, is_reply_kind, live_request_of}
 use Rattle.fsb_trace.specs.Response.{end_of}
 use Rattle.fsb_trace.specs.Rules.{is_id_taken_by}
 use Rattle.fsb_trace.specs.Snoop.{snoop_end_of}
-use Rattle.fsb_trace.proofs.Interface.{AgreeTo-sym, end_of-response, line_at-agree, live_clock_of-rises, live_clock_of-stays, live_request_of-at, request_at-agree, winner_at-agree}
+use Rattle.fsb_trace.proofs.Interface.{AgreeTo-sym, end_of-response, line_at-agree, live_clock_of-rises}
+use Rattle.fsb_trace.proofs.Interface.{live_clock_of-stays, live_request_of-at, request_at-agree, winner_at-agree}
 use Rattle.fsb_laws.proofs.Interface.{last_clock_of-deferred, last_clock_of-plain}
 use Rattle.fsb_timely.specs.Past.{SnoopEnd}
 use Rattle.fsb_timely.specs.Runs.{Run, past_of, past_to, run_to}
@@ -23,8 +27,10 @@ use Rattle.fsb_timely.specs.Starts.{request_begun, would_begin}
 use Rattle.fsb_timely.specs.Timely.{Timely}
 use Rattle.fsb_timely.proofs.Interface.{snoop-tied}
 use Rattle.fsb_lawful.specs.Beginning.{WantsLawfully}
-use Rattle.fsb_lawful.proofs.Interface.{IsWanted, and-then, begun-winner, begun_of, cuts-agree, id-free, orderly-at, run_to-agrees, wanted-by, wants-lawfully}
-use Rattle.fsb_tied.proofs.Interface.{IsSnooped, answered, asked-at, deferred-held, held-plain, live-at, snooped-by, told-deferred}
+use Rattle.fsb_lawful.proofs.Interface.{IsWanted, and-then, begun-winner, begun_of, cuts-agree, id-free, orderly-at}
+use Rattle.fsb_lawful.proofs.Interface.{run_to-agrees, wanted-by, wants-lawfully}
+use Rattle.fsb_tied.proofs.Interface.{IsSnooped, answered, asked-at, deferred-held, held-plain, live-at, snooped-by}
+use Rattle.fsb_tied.proofs.Interface.{told-deferred}
 use Rattle.fsb_run_laws.specs.Reaches.{Reaches}
 use Rattle.fsb_bridge.specs.DeferralList.{HaveOwnIds, waits}
 use Rattle.fsb_bridge_run.specs.RunDeferrals.{turns_of}
@@ -49,7 +55,8 @@ deferred-at r t i h wants e settled =
     let tied = snoop-tied r i t e in
     let k = snooped-by r t i tied.0 tied.1 in
     let a = asked-at r t i tied.0 h wants k in
-    let deferred : is_deferral tied.0.outcome ≡ true = sym (ap (λ o. is_some_and o is_deferral) tied.1.outcome) ∙ settled in
+    let deferred : is_deferral tied.0.outcome ≡ true = sym (ap (λ o. is_some_and o is_deferral) tied.1.outcome)
+    ∙ settled in
     record {
       end = tied.0;
       snooped = k;
@@ -110,7 +117,8 @@ still-outstanding r c n t i h l d early low none =
     (ap not (and_left _ _ live.kept)))
     (ap not (and_right _ _ (ap (λ x. is_before (last_clock_of v x) n) live.number ∙ awaits)))
 
-pub same-ids : (a b : Option Request) (x y : Request) → a ≡ Some x → b ≡ Some y → x.did ≡ y.did → have_same_id a b ≡ true
+pub same-ids : (a b : Option Request) (x y : Request) → a ≡ Some x → b ≡ Some y → x.did ≡ y.did
+    → have_same_id a b ≡ true
 unfolding have_same_id is_some_and
 same-ids a b x y e f did = rw (e, f) (eq-eqb x.did y.did did)
 

@@ -1,5 +1,6 @@
 -- The replies of a timely run are what the priority agent begins.
-use Rattle.std.proofs.Common.{ℕ, suc, ◌+◌, ◌≡◌, true, false, ◌&&◌, Option, Some, None, if◌then◌else◌, refl, sym, ap, subst, ◌∙◌, arith, inl, inr}
+use Rattle.std.proofs.Common.{ℕ, suc, ◌+◌, ◌≡◌, true, false, ◌&&◌, Option, Some, None, if◌then◌else◌, refl, sym, ap}
+use Rattle.std.proofs.Common.{subst, ◌∙◌, arith, inl, inr}
 use Rattle.std.proofs.lemmas.Bool.{and_parts, cases_Bool}
 use Rattle.fsb_count.specs.Options.{is_some_and}
 use Rattle.fsb_encode.specs.declared.request.Request.{Request}
@@ -13,7 +14,8 @@ use Rattle.fsb_trace.specs.declared.who.Who.TheVariants.{Symmetric, Priority}
 use Rattle.fsb_trace.proofs.Interface.{line_at-agree, request_at-agree, winner_at-agree}
 use Rattle.fsb_timely.specs.Runs.{Run, past_of, past_to, run_to}
 use Rattle.fsb_timely.specs.Starts.{request_begun, would_begin}
-use Rattle.fsb_lawful.proofs.Interface.{begun-decoded, begun-winner, reply-before, reply-is, run_to-agrees, wants-lawfully}
+use Rattle.fsb_lawful.proofs.Interface.{begun-decoded, begun-winner, reply-before, reply-is, run_to-agrees}
+use Rattle.fsb_lawful.proofs.Interface.{wants-lawfully}
 use Rattle.fsb_run_laws.specs.Reaches.{Reaches}
 use Rattle.fsb_bridge_run.specs.DeferralSteps.{reply_at, reply_begun}
 use Rattle.fsb_bridge_run.proofs.RepliesAt.{reply_at-from, reply_at-off}
@@ -37,7 +39,8 @@ begun-priority r n h e =
     let next = run_to-agrees r (suc n) (omega arith) in
     let decoded = request_at-agree (suc n + 1) w (run_to r (suc n)).trace n next (omega arith)
     ∙ b.2 ((wants-lawfully r h.bounds).lawful n b.0 b.1) in
-    let who = begun-winner (would_begin (run_to r n) (past_to (past_of r) n) n) (winner_at (run_to r n).trace n) b.0 b.1 in
+    let who = begun-winner (would_begin (run_to r n) (past_to (past_of r) n) n) (winner_at (run_to r n).trace n)
+    b.0 b.1 in
     let winner = winner_at-agree (n + 1) w (run_to r n).trace n agree (omega arith) ∙ who.1 in
     let is = agent-is who.0 (sym (ap (λ o. is_agent o Priority) winner) ∙ parts.1) in
     decoded ∙ sym (subst (λ x. would_begin (run_to r n) (past_to (past_of r) n) n x ≡ Some b.0) is who.2)

@@ -1,5 +1,6 @@
 -- The snoop end of a reply, in a trace that has the deferrals of a run so far: which request it answers.
-use Rattle.std.proofs.Common.{ℕ, ◌+◌, ◌<◌, ◌≤◌, ◌≡◌, true, false, List, Some, length, sym, ap, subst, ◌∙◌, arith, inl, inr}
+use Rattle.std.proofs.Common.{ℕ, ◌+◌, ◌<◌, ◌≤◌, ◌≡◌, true, false, List, Some, length, sym, ap, subst, ◌∙◌, arith, inl}
+use Rattle.std.proofs.Common.{inr}
 use Rattle.std.specs.Option.{option_and_then, option_map}
 use Rattle.std.proofs.lemmas.Bool.{and_from, and_parts, cases_lt, false_from_ne_true}
 use Rattle.fsb_count.specs.Options.{is_before}
@@ -12,7 +13,8 @@ use Rattle.fsb_trace.specs.At.{Trace, request_at}
 use Rattle.fsb_trace.specs.Flight.{is_live_reply_to, is_reply_to, reply_clock_of, reply_number_of}
 use Rattle.fsb_trace.specs.Requests.{is_live, is_reply, is_reply_kind, live_clock_of, live_number_of, live_request_of}
 use Rattle.fsb_trace.specs.Snoop.{snoop_end_of}
-use Rattle.fsb_trace.proofs.Interface.{AgreeTo-sym, is_live-agree, is_reply-some, line_at-agree, live_clock_of-rises, live_request_of-at, request_at-agree, snoop_end_of-clock, snoop_end_of-stays}
+use Rattle.fsb_trace.proofs.Interface.{AgreeTo-sym, is_live-agree, is_reply-some, line_at-agree, live_clock_of-rises}
+use Rattle.fsb_trace.proofs.Interface.{live_request_of-at, request_at-agree, snoop_end_of-clock, snoop_end_of-stays}
 use Rattle.fsb_timely.specs.Runs.{Run}
 use Rattle.fsb_lawful.proofs.Interface.{wants-lawfully}
 use Rattle.fsb_tied.proofs.Interface.{live-at}

@@ -1,5 +1,6 @@
 -- The snoop end of a reply is for the deferral that its ID has in the list.
-use Rattle.std.proofs.Common.{ℕ, ◌+◌, ◌<◌, ◌≡◌, true, false, List, Option, Some, None, is_some, refl, sym, ap, subst, ◌∙◌, arith}
+use Rattle.std.proofs.Common.{ℕ, ◌+◌, ◌<◌, ◌≡◌, true, false, List, Option, Some, None, is_some, refl, sym, ap, subst}
+use Rattle.std.proofs.Common.{◌∙◌, arith}
 use Rattle.std.specs.Option.{option_and_then, option_map_or}
 use Rattle.std.proofs.lemmas.Bool.{and_from, and_parts, eq-eqb, eqb-true, false_from_ne_true}
 use Rattle.fsb_count.specs.Options.{is_at, is_before, is_some_and}
@@ -11,7 +12,9 @@ use Rattle.fsb_trace.specs.Flight.{reply_number_of}
 use Rattle.fsb_trace.specs.Outcome.{is_settled_deferred}
 use Rattle.fsb_trace.specs.Requests.{have_same_id, is_reply, is_reply_kind, live_count, live_request_of}
 use Rattle.fsb_trace.specs.Snoop.{line_at_snoop_end, snoop_end_of}
-use Rattle.fsb_trace.proofs.Interface.{AgreeTo-sym, is_reply-some, live_below_count, live_clock_of-stays, request_at-agree, response_clock_of-stays, snoop_end_of-clock, snoop_end_of-stays}
+use Rattle.fsb_trace.proofs.Interface.{AgreeTo-sym, is_reply-some, live_below_count, live_clock_of-stays}
+use Rattle.fsb_trace.proofs.Interface.{request_at-agree, response_clock_of-stays, snoop_end_of-clock}
+use Rattle.fsb_trace.proofs.Interface.{snoop_end_of-stays}
 use Rattle.fsb_timely.specs.Grants.{snooped_at}
 use Rattle.fsb_timely.specs.Moments.{is_answered_by, number_snooped_at, served_number, turns_in}
 use Rattle.fsb_timely.specs.Past.{SnoopEnd}
@@ -114,7 +117,8 @@ pub taken-in : (r : Run) (n i q : ℕ) (w : Trace) (turns : List ℕ) (reply : R
 taken-in r n i q w turns reply list h s ends stands =
     let t = takes-in r n i q w turns reply h s ends in
     subst (IsThatOf w (deferral_of_id reply.did list)) (sym (served r n i q w turns reply h s ends t))
-    (deferral_of_id-reply list w turns n t.number i reply (trace-ids r n w turns h s) stands t.waiting t.answers t.asked)
+    (deferral_of_id-reply list w turns n t.number i reply (trace-ids r n w turns h s) stands t.waiting t.answers
+    t.asked)
 
 there-by : (w : Trace) (o : Option Deferral) (i : ℕ) → IsThatOf w o (Some i) → is_some o ≡ true
 there-by w None i e = absurd (let no : ⊥ = cc in no)
@@ -127,7 +131,8 @@ pub there-in : (r : Run) (n i q : ℕ) (w : Trace) (turns : List ℕ) (reply : R
 there-in r n i q w turns reply list h s ends stands =
     let t = takes-in r n i q w turns reply h s ends in
     there-by w (deferral_of_id reply.did list) t.number
-    (deferral_of_id-reply list w turns n t.number i reply (trace-ids r n w turns h s) stands t.waiting t.answers t.asked)
+    (deferral_of_id-reply list w turns n t.number i reply (trace-ids r n w turns h s) stands t.waiting t.answers
+    t.asked)
 
 pub hit-by : (w : Trace) (o : Option Deferral) (p : Option ℕ) → IsThatOf w o p
     → is_some_and p (line_at_snoop_end HIT w) ≡ option_map_or (λ deferral. deferral.shared) o false

@@ -1,5 +1,6 @@
 -- Whether a reply is under way, one clock on.
-use Rattle.std.proofs.Common.{ℕ, suc, ◌+◌, ◌<◌, ◌≤◌, ◌≡◌, true, false, not, Some, length, sym, ap, subst, ◌∙◌, arith, inl, inr}
+use Rattle.std.proofs.Common.{ℕ, suc, ◌+◌, ◌<◌, ◌≤◌, ◌≡◌, true, false, not, Some, length, sym, ap, subst, ◌∙◌, arith}
+use Rattle.std.proofs.Common.{inl, inr}
 use Rattle.std.proofs.lemmas.Bool.{and_from, and_parts, both_ways, cases_lt, cases_order, false_from_ne_true, not-true}
 use Rattle.fsb_count.specs.Options.{is_some_and}
 use Rattle.fsb_encode.specs.declared.request.Request.{Request}
@@ -39,7 +40,8 @@ within w i q e =
     ]
 
 -- where two traces agree up to d, of which the first ends there, and a reply begins at d - 1 in the other alone
-pub answered-before : (d : ℕ) (w v : Trace) (i t : ℕ) → AgreeTo (suc d) w v → length v ≡ suc d → snoop_end_of w i ≡ Some t
+pub answered-before : (d : ℕ) (w v : Trace) (i t : ℕ) → AgreeTo (suc d) w v → length v ≡ suc d
+    → snoop_end_of w i ≡ Some t
     → t < suc d → is_reply_to w i d ≡ false → is_answered w (suc d) i ≡ is_answered v (suc d) i
 answered-before d w v i t a size snoop l none =
     let back = AgreeTo-sym (suc d) w v a in
@@ -50,7 +52,8 @@ answered-before d w v i t a size snoop l none =
     let below = k.1.below in
     elim (cases_lt k.0 d) [
       | inl less ↦
-          answered-from v (suc d) i k.0 (under-kept (suc d) w v (suc d) i t k.0 a snoop l (omega arith) (omega arith) k.1)
+          answered-from v (suc d) i k.0
+          (under-kept (suc d) w v (suc d) i t k.0 a snoop l (omega arith) (omega arith) k.1)
       | inr more ↦
           let same : k.0 ≡ d = omega arith in
           absurd (both_ways (is_reply_to w i d) none (subst (λ q. is_reply_to w i q ≡ true) same k.1.reply))
@@ -62,7 +65,8 @@ answered-before d w v i t a size snoop l none =
 
 -- a reply that begins at d is under way at the next clock
 pub begun-now : (w : Trace) (d i : ℕ) → is_reply_to w i d ≡ true → is_answered w (suc d) i ≡ true
-begun-now w d i reply = answered-from w (suc d) i d (record { below = omega arith; reply = reply; kept = inr (omega arith) })
+begun-now w d i reply = answered-from w (suc d) i d
+    (record { below = omega arith; reply = reply; kept = inr (omega arith) })
 
 -- with no cancellation of a reply to it, a request has a reply under way after the clock c where it had one before
 pub begun-stays : (r : Run) (c i t : ℕ) → Reaches r (c + 1) → snoop_end_of r.trace i ≡ Some t → t < c + 1
@@ -102,7 +106,8 @@ begun-stays r c i t h snoop below none =
         | inr late ↦ elim (cases_lt c (q + 3)) [
           | inl more ↦ inr (omega arith)
           | inr same ↦ inl (and_from (line_at ADS v q) (not (is_cancelled v q)) (reply-parts v i q m.reply).asks
-              (ap not (sym (is_cancelled-agree (c + 1) w v q agree (omega arith)) ∙ uncancelled q (omega arith) k.1.reply)))
+              (ap not (sym (is_cancelled-agree (c + 1) w v q agree (omega arith))
+              ∙ uncancelled q (omega arith) k.1.reply)))
         ]
       ];
     }))

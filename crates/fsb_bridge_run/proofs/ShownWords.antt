@@ -1,5 +1,6 @@
 -- The request that began at the last clock of a run shows at the next one, where its words are as they must.
-use Rattle.std.proofs.Common.{ℕ, ◌+◌, ◌-◌, ◌<◌, ◌≡◌, true, false, not, List, [], ◌∷◌, Option, Some, None, length, nat_eq, nat_le, take, take-take, refl, sym, ap, ◌∙◌, arith, inl, inr}
+use Rattle.std.proofs.Common.{ℕ, ◌+◌, ◌-◌, ◌<◌, ◌≡◌, true, false, not, List, [], ◌∷◌, Option, Some, None, length}
+use Rattle.std.proofs.Common.{nat_eq, nat_le, take, take-take, refl, sym, ap, ◌∙◌, arith, inl, inr}
 use Rattle.std.specs.Option.{option_and_then, option_map}
 use Rattle.std.proofs.lemmas.Bool.{and_parts, both_ways, cases_Bool, eqb-true, false_from_ne_true, le-leb, not-true}
 use Rattle.std.proofs.lemmas.List.{take-append-le}
@@ -24,7 +25,9 @@ use Rattle.fsb_timely.specs.Growth.{GrowsTo}
 use Rattle.fsb_timely.specs.Moments.{turns_in}
 use Rattle.fsb_timely.specs.Past.{Past}
 use Rattle.fsb_timely.specs.Runs.{Run, entries_to, past_of, past_to, run_to}
-use Rattle.fsb_timely.specs.Starts.{drives_ads, drives_pair, due_number, has_free_winner, has_room, is_spaced, may_begin, pair_due, reply_to, request_begun, request_begun_before, starts_requests, would_begin}
+use Rattle.fsb_timely.specs.Starts.{drives_ads, drives_pair, due_number, has_free_winner, has_room, is_spaced}
+use Rattle.fsb_timely.specs.Starts.{may_begin, pair_due, reply_to, request_begun, request_begun_before, starts_requests}
+use Rattle.fsb_timely.specs.Starts.{would_begin}
 use Rattle.fsb_timely.specs.Timely.{holds_at, holds_in}
 use Rattle.fsb_timely.proofs.Interface.{past-before}
 use Rattle.fsb_lawful.specs.Beginning.{KeepsBounds}

@@ -1,5 +1,6 @@
 -- The list of deferrals after the snoop end of a clock.
-use Rattle.std.proofs.Common.{ℕ, ◌+◌, ◌/◌, ◌<◌, ◌≤◌, ◌≡◌, true, false, List, [], ◌∷◌, ◌++◌, Option, Some, None, length, refl, sym, ap, subst, ◌∙◌, arith, inl, inr, if◌then◌else◌}
+use Rattle.std.proofs.Common.{ℕ, ◌+◌, ◌/◌, ◌<◌, ◌≤◌, ◌≡◌, true, false, List, [], ◌∷◌, ◌++◌, Option, Some, None, length}
+use Rattle.std.proofs.Common.{refl, sym, ap, subst, ◌∙◌, arith, inl, inr, if◌then◌else◌}
 use Rattle.std.specs.Option.{option_and_then, option_map}
 use Rattle.std.proofs.lemmas.Bool.{cases_Bool, false_from_ne_true}
 use Rattle.fsb_count.specs.Clocks.{count_where}
@@ -30,15 +31,18 @@ use Rattle.fsb_tied.proofs.Interface.{answered, asked-at, begun-want, deferred-h
 use Rattle.fsb_run_laws.specs.Reaches.{Reaches}
 use Rattle.fsb_bridge.specs.declared.deferral.Waiting.{Waiting}
 use Rattle.fsb_bridge.specs.Deferrals.{waiting_without}
-use Rattle.fsb_bridge.specs.DeferralList.{StandsFor, live_line_of, request_number_of, response_before, waiting_at, waiting_besides}
-use Rattle.fsb_bridge.proofs.Interface.{IsEntryOf, IsEntryOf-AreEntriesOf, IsEntryOf-StandsFor, Matched, waiting_without-reply}
+use Rattle.fsb_bridge.specs.DeferralList.{StandsFor, live_line_of, request_number_of, response_before, waiting_at}
+use Rattle.fsb_bridge.specs.DeferralList.{waiting_besides}
+use Rattle.fsb_bridge.proofs.Interface.{IsEntryOf, IsEntryOf-AreEntriesOf, IsEntryOf-StandsFor, Matched}
+use Rattle.fsb_bridge.proofs.Interface.{waiting_without-reply}
 use Rattle.fsb_bridge_run.specs.DeferralSteps.{after_snoop_end, after_snoop_end_of, deferral_made}
 use Rattle.fsb_bridge_run.specs.RunDeferrals.{turns_of}
 use Rattle.fsb_bridge_run.proofs.Listed.{Matched-more}
 use Rattle.fsb_bridge_run.proofs.OwnIds.{own-ids}
 use Rattle.fsb_bridge_run.proofs.RepliesIn.{TakesDeferral, takes-in}
 use Rattle.fsb_bridge_run.proofs.Waiting.{answered-parts, reply-parts}
-use Rattle.fsb_bridge_run.proofs.WaitingSteps.{IsSnoopedHere, deferred-waiting, plain-waiting, quiet-waiting, replied-waiting}
+use Rattle.fsb_bridge_run.proofs.WaitingSteps.{IsSnoopedHere, deferred-waiting, plain-waiting, quiet-waiting}
+use Rattle.fsb_bridge_run.proofs.WaitingSteps.{replied-waiting}
 
 -- the claim of a symmetric agent's request: its line is the one that the first clock shows
 record IsClaimedAt (r : Run) (q : ℕ) (request : Request) : Type 0 where
@@ -206,7 +210,8 @@ snoop-some r c i s request list h here begun stands =
           subst (λ xs. Matched R xs (waiting_at w turns (c + 1))) (sym (after-reply w c s request list reply))
           (subst (Matched R (waiting_without request.did list))
           (sym (replied-waiting r c i t.number s request h here kept t.waiting t.answers))
-          (IsEntryOf-AreEntriesOf (waiting_besides w turns c t.number) (waiting_without request.did list) w turns c left))
+          (IsEntryOf-AreEntriesOf (waiting_besides w turns c t.number) (waiting_without request.did list) w
+          turns c left))
       | inr plain ↦ elim (cases_Bool (is_deferral s.outcome)) [
         | inl deferred ↦
             let made = made-entry r c i s request h here begun plain in

@@ -1,6 +1,8 @@
--- A list that has the deferrals of a run with the reply that began at the clock before, one clock on: what the clock does
+-- A list that has the deferrals of a run with the reply that began at the clock before, one clock on: what the
+-- clock does
 -- to it comes to the same, whether the reply that begins is told before the rest or behind it.
-use Rattle.std.proofs.Common.{ℕ, ◌+◌, ◌≡◌, Bool, true, false, List, [], ◌∷◌, ◌++◌, map, Option, Some, None, nat_eq, refl, sym, ap, subst, ◌∙◌, arith, inl, inr, add-one}
+use Rattle.std.proofs.Common.{ℕ, ◌+◌, ◌≡◌, Bool, true, false, List, [], ◌∷◌, ◌++◌, map, Option, Some, None, nat_eq}
+use Rattle.std.proofs.Common.{refl, sym, ap, subst, ◌∙◌, arith, inl, inr, add-one}
 use Rattle.std.proofs.lemmas.Bool.{both_ways, cases_Bool, eq-eqb, eqb-true, false_from_ne_true}
 use Rattle.fsb_encode.specs.declared.request.Request.{Request}
 use Rattle.fsb_trace.specs.At.{Trace, request_at}
@@ -21,7 +23,9 @@ use Rattle.fsb_run_laws.specs.Reaches.{Reaches}
 use Rattle.fsb_bridge.specs.declared.deferral.Waiting.{Waiting}
 use Rattle.fsb_bridge.specs.Deferrals.{is_of_id, with_answer, with_reply}
 use Rattle.fsb_bridge.proofs.Interface.{rest, rest_found, rest_more}
-use Rattle.fsb_bridge_run.specs.DeferralSteps.{after_beginning, after_cancellation, after_clock, after_reply, after_response, after_snoop_end, after_snoop_end_of, deferral_made, reply_at, reply_begun, was_deferred}
+use Rattle.fsb_bridge_run.specs.DeferralSteps.{after_beginning, after_cancellation, after_clock, after_reply}
+use Rattle.fsb_bridge_run.specs.DeferralSteps.{after_response, after_snoop_end, after_snoop_end_of, deferral_made}
+use Rattle.fsb_bridge_run.specs.DeferralSteps.{reply_at, reply_begun, was_deferred}
 use Rattle.fsb_bridge_run.specs.RunDeferrals.{FindsDeferrals, HasDeferrals, turns_of}
 use Rattle.fsb_bridge_run.proofs.BegunReplies.{BegunFor, begun-for, begun-waits}
 use Rattle.fsb_bridge_run.proofs.DueReplies.{answers-due, due-waits}
@@ -29,7 +33,8 @@ use Rattle.fsb_bridge_run.proofs.OwnIds.{one-id}
 use Rattle.fsb_bridge_run.proofs.RepliesAt.{reply_at-parts}
 use Rattle.fsb_bridge_run.proofs.LaterTraces.{clock-finds}
 use Rattle.fsb_bridge_run.proofs.RunLists.{clock-leaves}
-use Rattle.fsb_bridge_run.proofs.SnoopEntries.{after-deferral, after-plain, after-reply, after_snoop_end-lost, after_snoop_end-none, after_snoop_end-some}
+use Rattle.fsb_bridge_run.proofs.SnoopEntries.{after-deferral, after-plain, after-reply, after_snoop_end-lost}
+use Rattle.fsb_bridge_run.proofs.SnoopEntries.{after_snoop_end-none, after_snoop_end-some}
 use Rattle.fsb_bridge_run.proofs.Waiting.{answered-from, waits-parts}
 use Rattle.fsb_bridge_run.proofs.WaitingSteps.{IsSnoopedHere, plain-on, settled-here, waits-new}
 
@@ -224,7 +229,8 @@ begun-uncancelled r n q reply dropped h b cancelled begins = false_from_ne_true 
     let first = b.due.gap in
     let last = b.due.after in
     let waiting = begun-waits r n n reply b (omega arith) (omega arith) in
-    let one = one-id r (n + 1) n b.number d.number b.request d.request h (omega arith) waiting due b.asked d.asked did in
+    let one = one-id r (n + 1) n b.number d.number b.request d.request h (omega arith) waiting due b.asked
+    d.asked did in
     both_ways (is_answered w n b.number) b.unanswered
     (subst (λ x. is_answered w n x ≡ true) (sym one)
     (answered-from w n d.number q (record { below = omega arith; reply = d.answers; kept = inr (omega arith) }))))
@@ -233,7 +239,8 @@ begun-uncancelled r n q reply dropped h b cancelled begins = false_from_ne_true 
 begun-earlier : (r : Run) (n : ℕ) (reply : Request) (s : SnoopEnd) (request : Request) → Reaches r (n + 1)
     → BegunFor r n reply → snooped_at (past_of r) n ≡ Some s → request_at r.trace s.first ≡ Some request
     → is_reply_kind request.kind ≡ false → is_deferral s.outcome ≡ true → nat_eq request.did reply.did ≡ false
-begun-earlier r n reply s request h b there decoded plain deferred = false_from_ne_true (nat_eq request.did reply.did) (λ t.
+begun-earlier r n reply s request h b there decoded plain deferred =
+    false_from_ne_true (nat_eq request.did reply.did) (λ t.
     let w = r.trace in
     let tied = tied-snoop r n s there in
     let i : ℕ = tied.0 in
@@ -281,7 +288,8 @@ clock-told r n list h = by (reply_begun r n) refl
         ∙ ap (λ xs. map g (after_response r n xs)) (cancelled-first r n list))
 
 -- a clock finds the list as it is
-pub finds : (r : Run) (n : ℕ) (list : List Waiting) → Reaches r (n + 1) → HasDeferrals list r n → FindsDeferrals list r n
+pub finds : (r : Run) (n : ℕ) (list : List Waiting) → Reaches r (n + 1) → HasDeferrals list r n
+    → FindsDeferrals list r n
 finds r n list h has =
     subst (λ xs. FindsDeferrals xs r n) (sym has.begun) (clock-finds r n has.shown h has.shows)
 

@@ -8,7 +8,8 @@ use Rattle.fsb_trace.specs.Deferral.{is_answered}
 use Rattle.fsb_trace.specs.Flight.{is_reply_to}
 use Rattle.fsb_trace.specs.Requests.{have_same_id, is_reply}
 use Rattle.fsb_trace.specs.Snoop.{snoop_end_of}
-use Rattle.fsb_trace.proofs.Interface.{AgreeTo-sym, is_live-agree, line_at-agree, live_request_of-stays, request_at-agree, response_clock_of-stays, snoop_end_of-stays}
+use Rattle.fsb_trace.proofs.Interface.{AgreeTo-sym, is_live-agree, line_at-agree, live_request_of-stays}
+use Rattle.fsb_trace.proofs.Interface.{request_at-agree, response_clock_of-stays, snoop_end_of-stays}
 use Rattle.fsb_tied.proofs.Interface.{same-both}
 use Rattle.fsb_bridge_run.proofs.Waiting.{IsUnderWay, answered-from, answered-parts, reply-from, reply-parts}
 

@@ -1,7 +1,9 @@
 -- What it says that a live request waits for its reply, and that a reply to it is under way.
-use Rattle.std.proofs.Common.{ℕ, ◌+◌, ◌<◌, ◌≤◌, ◌≡◌, Bool, true, false, not, ◌&&◌, ◌||◌, List, Some, nat_le, nat_lt, refl, sym, ap, ◌∙◌, ◌⊎◌, Option, arith, inl, inr}
+use Rattle.std.proofs.Common.{ℕ, ◌+◌, ◌<◌, ◌≤◌, ◌≡◌, Bool, true, false, not, ◌&&◌, ◌||◌, List, Some, nat_le, nat_lt}
+use Rattle.std.proofs.Common.{refl, sym, ap, ◌∙◌, ◌⊎◌, Option, arith, inl, inr}
 use Rattle.std.specs.Option.{option_and_then}
-use Rattle.std.proofs.lemmas.Bool.{and_from, and_parts, both_ways, cases_lt, false_from_ne_true, le-leb, leb-true, lt-leb, lt-ltb, le-ltb, not-true}
+use Rattle.std.proofs.lemmas.Bool.{and_from, and_parts, both_ways, cases_lt, false_from_ne_true, le-leb, leb-true}
+use Rattle.std.proofs.lemmas.Bool.{lt-leb, lt-ltb, le-ltb, not-true}
 use Rattle.fsb_count.specs.Options.{is_before}
 use Rattle.fsb_count.proofs.Interface.{any_where-at, any_where-found, is_before-from, is_before-parts}
 use Rattle.fsb_signal.specs.declared.lines.TheConstants.Lines.{ADS}
@@ -10,7 +12,8 @@ use Rattle.fsb_trace.specs.At.{Trace, request_at}
 use Rattle.fsb_trace.specs.Deferral.{answers, is_answered}
 use Rattle.fsb_trace.specs.Flight.{has_ended, is_dropped, is_in_flight, is_reply_to, reply_number_of}
 use Rattle.fsb_trace.specs.Outcome.{is_settled_deferred, response_clock_of}
-use Rattle.fsb_trace.specs.Requests.{have_same_id, is_cancelled, is_live, is_reply, live_clock_of, live_count, live_request_of}
+use Rattle.fsb_trace.specs.Requests.{have_same_id, is_cancelled, is_live, is_reply, live_clock_of, live_count}
+use Rattle.fsb_trace.specs.Requests.{live_request_of}
 use Rattle.fsb_trace.specs.Snoop.{snoop_end_of}
 use Rattle.fsb_trace.proofs.Interface.{live_below_count, snoop_end_of-clock}
 use Rattle.fsb_bridge.specs.DeferralList.{waits}

@@ -1,7 +1,9 @@
 -- Which requests wait for their replies, one clock on.
-use Rattle.std.proofs.Common.{ℕ, ◌+◌, ◌<◌, ◌≤◌, ◌≡◌, ◌≢◌, true, false, not, ◌&&◌, List, [], ◌∷◌, ◌++◌, Some, None, nat_eq, sym, ap, subst, ◌∙◌, arith, inl, inr}
+use Rattle.std.proofs.Common.{ℕ, ◌+◌, ◌<◌, ◌≤◌, ◌≡◌, ◌≢◌, true, false, not, ◌&&◌, List, [], ◌∷◌, ◌++◌, Some, None}
+use Rattle.std.proofs.Common.{nat_eq, sym, ap, subst, ◌∙◌, arith, inl, inr}
 use Rattle.std.specs.Option.{option_and_then}
-use Rattle.std.proofs.lemmas.Bool.{and_from, and_parts, both_ways, cases_lt, cases_order, eq-eqb, false_from_ne_true, ne_eqb, not-true}
+use Rattle.std.proofs.lemmas.Bool.{and_from, and_parts, both_ways, cases_lt, cases_order, eq-eqb, false_from_ne_true}
+use Rattle.std.proofs.lemmas.Bool.{ne_eqb, not-true}
 use Rattle.fsb_count.specs.Options.{is_before, is_some_and}
 use Rattle.fsb_count.proofs.Interface.{is_before-from, is_before-parts}
 use Rattle.fsb_encode.specs.declared.request.Request.{Request}
@@ -124,7 +126,8 @@ plain-on r c i k s request here plain e =
     let reply = is-replied w k j number in
     let parts = reply-parts w k reply.clock reply.reply in
     let same = one_end w c j i snoop here.snooped.tied.reached in
-    let first : live_clock_of w i ≡ Some reply.clock = subst (λ x. live_clock_of w x ≡ Some reply.clock) same reply.first in
+    let first : live_clock_of w i ≡ Some reply.clock =
+    subst (λ x. live_clock_of w x ≡ Some reply.clock) same reply.first in
     let is = here.snooped.tied.first in
     let clock : reply.clock ≡ s.first = cc in
     let replies = subst (λ x. is_reply (request_at w x) ≡ true) clock parts.replies in
@@ -191,7 +194,8 @@ deferred-waiting r c i s request h here plain deferred =
         let reached = here.snooped.tied.reached in
         elim (cases_order k i) [
           | inl same ↦
-              let there : snoop_end_of r.trace i ≡ Some a.snoop = subst (λ x. snoop_end_of r.trace x ≡ Some a.snoop) same snoop in
+              let there : snoop_end_of r.trace i ≡ Some a.snoop =
+              subst (λ x. snoop_end_of r.trace x ≡ Some a.snoop) same snoop in
               let at : a.snoop ≡ c = cc in
               absurd (omega arith)
           | inr other ↦ elim other [

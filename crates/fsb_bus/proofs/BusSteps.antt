@@ -18,7 +18,10 @@ use Rattle.fsb_bus.proofs.Told.{told-all, told-none}
 -- a reply that is cancelled is nothing to the agents
 pub cancelled-reply : (bus : BusView) (entry : Entry) → entry.who ≡ Priority
     → bus_cancelled bus entry
-    ≡ record bus { bridge = record bus.bridge { waiting = map (with_reply entry.request.did false) bus.bridge.waiting } }
+    ≡ record bus {
+      bridge =
+          record bus.bridge { waiting = map (with_reply entry.request.did false) bus.bridge.waiting };
+    }
 cancelled-reply bus entry is =
     ap
     (λ who. record bus {
@@ -26,7 +29,10 @@ cancelled-reply bus entry is =
       bridge = record bus.bridge { waiting = waiting_cancelled entry.request.did who bus.bridge.waiting };
     })
     is
-    ∙ ap (λ agents. record bus { agents = agents; bridge = record bus.bridge { waiting = map (with_reply entry.request.did false) bus.bridge.waiting } })
+    ∙ ap (λ agents. record bus {
+      agents = agents;
+      bridge = record bus.bridge { waiting = map (with_reply entry.request.did false) bus.bridge.waiting };
+    })
     (told-none 0 bus.agents)
 
 -- a reply that begins is nothing to the agents

@@ -1,11 +1,13 @@
 -- What is told of begins, cancellations and snoop ends moves no agent on in its script.
-use Rattle.std.proofs.Common.{◌≡◌, ℕ, ◌+◌, Bool, true, false, List, [], ◌∷◌, ◌++◌, ◌==◌, ◌||◌, if◌then◌else◌, length, Option, Some, None, suc, refl, sym, ap, ◌∙◌, fold}
+use Rattle.std.proofs.Common.{◌≡◌, ℕ, ◌+◌, Bool, true, false, List, [], ◌∷◌, ◌++◌, ◌==◌, ◌||◌, if◌then◌else◌, length}
+use Rattle.std.proofs.Common.{Option, Some, None, suc, refl, sym, ap, ◌∙◌, fold}
 use Rattle.std.proofs.lemmas.List.Sums.{sum_by-cons}
 use Rattle.std.specs.Option.{option_map_or}
 use Rattle.fsb_agent_view.specs.AgentEvents.{AgentEvent, GivenUp, Sent, agent_after}
 use Rattle.fsb_agent_view.specs.AgentViews.{AgentView, line_state_by}
 use Rattle.fsb_agent_view.specs.OwnRequests.{new_request, request_numbered, requests_granted}
-use Rattle.fsb_agent_view.specs.Snooping.{committed, granted_by, kind_asks, no_bytes, own_settled, upgraded_by, with_fill}
+use Rattle.fsb_agent_view.specs.Snooping.{committed, granted_by, kind_asks, no_bytes, own_settled, upgraded_by}
+use Rattle.fsb_agent_view.specs.Snooping.{with_fill}
 use Rattle.fsb_agent_view.specs.Wanting.{sent, sets_cleared_for, want_by}
 use Rattle.fsb_agent_view.specs.declared.want.OwnRequest.{OwnRequest}
 use Rattle.fsb_agent_view.specs.declared.want.Want.{Want}
@@ -15,13 +17,16 @@ use Rattle.fsb_line.specs.declared.state.Mesi.TheVariants.{Modified}
 use Rattle.fsb_cache.specs.Sets.{copies, sets_filled}
 use Rattle.fsb_queue.specs.declared.entry.Entry.{Entry}
 use Rattle.fsb_trace.specs.declared.outcome.Outcome.{Outcome}
-use Rattle.fsb_trace.specs.declared.outcome.Outcome.TheVariants.{Granted, Handed, Retried, Deferred, Written, Replied, Failed, Upgraded}
+use Rattle.fsb_trace.specs.declared.outcome.Outcome.TheVariants.{Granted, Handed, Retried, Deferred, Written, Replied}
+use Rattle.fsb_trace.specs.declared.outcome.Outcome.TheVariants.{Failed, Upgraded}
 use Rattle.fsb_trace.specs.declared.who.Who.{Who}
 use Rattle.fsb_trace.specs.declared.who.Who.TheVariants.{Symmetric, Priority}
 use Rattle.fsb_bench_view.specs.declared.beginning.Starting.{Starting}
 use Rattle.fsb_bench_view.specs.declared.decided.Decided.{Decided}
 use Rattle.fsb_bench_view.specs.declared.snoop.SnoopSettled.{SnoopSettled}
-use Rattle.fsb_bench_view.specs.BusEvents.{answered_by, bus_answered, bus_cancelled, bus_snooped, bus_started, cancelled_event, heard_answer, heard_cancel, heard_snoop, heard_start, snooped_event, starting_event}
+use Rattle.fsb_bench_view.specs.BusEvents.{answered_by, bus_answered, bus_cancelled, bus_snooped, bus_started}
+use Rattle.fsb_bench_view.specs.BusEvents.{cancelled_event, heard_answer, heard_cancel, heard_snoop, heard_start}
+use Rattle.fsb_bench_view.specs.BusEvents.{snooped_event, starting_event}
 use Rattle.fsb_bench_view.specs.BusViews.{BusView}
 use Rattle.fsb_bench_view.specs.ToldAgents.{agents_told, for_one}
 use Rattle.fsb_bus.specs.LogRoom.{accesses_left, accesses_left_of}
@@ -42,7 +47,8 @@ left-sent v clock number = go (want_by v clock)
     go None = refl
     go (Some want) = refl
 
-left-granted : (v : AgentView) (out : OwnRequest) (shared : Bool) → accesses_left (granted_by v out shared) ≡ accesses_left v
+left-granted : (v : AgentView) (out : OwnRequest) (shared : Bool)
+    → accesses_left (granted_by v out shared) ≡ accesses_left v
 left-granted v out shared = go (asks_line (kind_asks out.request.kind))
   where
     go : (asks : Bool)
@@ -76,7 +82,8 @@ left-upgraded v out = go (is_held (line_state_by v out.request.line))
     go false = refl
     go true = refl
 
-left-own : (v : AgentView) (out : OwnRequest) (shared : Bool) (outcome : Outcome) → accesses_left (own_settled v out shared outcome) ≡ accesses_left v
+left-own : (v : AgentView) (out : OwnRequest) (shared : Bool) (outcome : Outcome)
+    → accesses_left (own_settled v out shared outcome) ≡ accesses_left v
 left-own v out shared Granted = left-granted v out shared
 left-own v out shared Handed = left-granted v out true
 left-own v out shared Retried = refl
@@ -110,11 +117,13 @@ told-left events n (v ∷ vs) keep =
     ∙ ap (λ k. accesses_left v + k) (told-left events (n + 1) vs keep)
     ∙ sym (sum_by-cons accesses_left v vs)
 
-pub told-count : (events : ℕ → List AgentEvent) (n : ℕ) (agents : List AgentView) → length (agents_told events n agents) ≡ length agents
+pub told-count : (events : ℕ → List AgentEvent) (n : ℕ) (agents : List AgentView)
+    → length (agents_told events n agents) ≡ length agents
 told-count events n [] = refl
 told-count events n (v ∷ vs) = ap suc (told-count events (n + 1) vs)
 
-one-keeps : (a : ℕ) (e : AgentEvent) → ((v : AgentView) → accesses_left (agent_after v e) ≡ accesses_left v) → KeepScripts (for_one a e)
+one-keeps : (a : ℕ) (e : AgentEvent) → ((v : AgentView) → accesses_left (agent_after v e) ≡ accesses_left v)
+    → KeepScripts (for_one a e)
 unfolding KeepScripts
 one-keeps a e keep n v = go (n == a)
   where
@@ -141,7 +150,8 @@ pub record KeepsAgents (old new : BusView) : Type 0 where
   pub left : accesses_left_of new.agents ≡ accesses_left_of old.agents
   pub count : length new.agents ≡ length old.agents
 
-starting-kept : (bus : BusView) (clock : ℕ) (starting : Option Starting) → KeepsAgents bus (option_map_or (bus_started bus clock) starting bus)
+starting-kept : (bus : BusView) (clock : ℕ) (starting : Option Starting)
+    → KeepsAgents bus (option_map_or (bus_started bus clock) starting bus)
 starting-kept bus clock None = record { left = refl; count = refl }
 starting-kept bus clock (Some starting) = record {
   left = told-left (starting_event clock starting.who) 0 bus.agents (starting-keeps clock starting.who);
@@ -162,7 +172,8 @@ snooped-kept bus (Some s) = record {
   count = told-count (snooped_event s) 0 bus.agents;
 }
 
-answered-kept : (bus : BusView) (clock : ℕ) (entry : Option Entry) → KeepsAgents bus (option_map_or (bus_answered bus clock) entry bus)
+answered-kept : (bus : BusView) (clock : ℕ) (entry : Option Entry)
+    → KeepsAgents bus (option_map_or (bus_answered bus clock) entry bus)
 answered-kept bus clock None = record { left = refl; count = refl }
 answered-kept bus clock (Some entry) = record { left = refl; count = refl }
 

@@ -1,5 +1,6 @@
 -- What is completed leaves as much less to come as there are entries.
-use Rattle.std.proofs.Common.{◌≡◌, ◌≤◌, ℕ, ◌+◌, Bool, true, false, List, [], ◌∷◌, drop, length, Option, Some, None, zero, suc, refl, sym, ap, ◌∙◌, arith}
+use Rattle.std.proofs.Common.{◌≡◌, ◌≤◌, ℕ, ◌+◌, Bool, true, false, List, [], ◌∷◌, drop, length, Option, Some, None}
+use Rattle.std.proofs.Common.{zero, suc, refl, sym, ap, ◌∙◌, arith}
 use Rattle.std.proofs.lemmas.List.Sums.{sum_by-cons}
 use Rattle.std.proofs.lemmas.Option.{none-some, same_Some}
 use Rattle.std.specs.Option.{option_map_or}
@@ -11,15 +12,18 @@ use Rattle.fsb_access.specs.declared.log.Done.{Done}
 use Rattle.fsb_access.specs.ScriptOrder.{Step, steps_from, steps_of_item}
 use Rattle.fsb_agent_view.specs.declared.want.OwnRequest.{OwnRequest}
 use Rattle.fsb_agent_view.specs.AgentViews.{AgentView}
-use Rattle.fsb_agent_view.specs.Arriving.{arrived_entries, arrived_for, ended_entries_for, ended_for, is_arrival_by, line_arrived, met_entries, upgrade_ended, upgrade_entries, with_bytes}
-use Rattle.fsb_agent_view.specs.Completing.{completed_by, completed_entries, hand_of, is_hit_by, performed, performed_entries}
+use Rattle.fsb_agent_view.specs.Arriving.{arrived_entries, arrived_for, ended_entries_for, ended_for, is_arrival_by}
+use Rattle.fsb_agent_view.specs.Arriving.{line_arrived, met_entries, upgrade_ended, upgrade_entries, with_bytes}
+use Rattle.fsb_agent_view.specs.Completing.{completed_by, completed_entries, hand_of, is_hit_by, performed}
+use Rattle.fsb_agent_view.specs.Completing.{performed_entries}
 use Rattle.fsb_agent_view.specs.Idling.{place_from}
 use Rattle.fsb_agent_view.specs.OwnRequests.{request_numbered}
 use Rattle.fsb_agent_view.specs.Serving.{AtHand, entries_at_hand, hand_after}
 use Rattle.fsb_plan_size.specs.AccessCount.{item_accesses, script_accesses}
 use Rattle.fsb_bus.specs.LogRoom.{accesses_left}
 
-entries-count : (agent clock : ℕ) (hand : AtHand) (steps : List Step) → length (entries_at_hand agent clock hand steps) ≡ length steps
+entries-count : (agent clock : ℕ) (hand : AtHand) (steps : List Step)
+    → length (entries_at_hand agent clock hand steps) ≡ length steps
 entries-count agent clock hand [] = refl
 entries-count agent clock hand (step ∷ steps) = ap suc (entries-count agent clock (hand_after hand step.access) steps)
 
@@ -77,7 +81,8 @@ left-completed v clock = left-done v clock (slice_get v.items v.place) refl
 
 left-if : (v there : AgentView) (clock : ℕ) (completes : Bool) → accesses_left there ≡ accesses_left v
     → length (elim completes as (λ _. List Done) [ true ↦ completed_entries there clock | false ↦ [] ])
-    + accesses_left (elim completes as (λ _. AgentView) [ true ↦ completed_by there clock | false ↦ there ]) ≤ accesses_left v
+    + accesses_left (elim completes as (λ _. AgentView) [ true ↦ completed_by there clock | false ↦ there ])
+    ≤ accesses_left v
 left-if v there clock true same = let done = left-completed there clock in omega (arith, done, same)
 left-if v there clock false same = omega (arith, same)
 
@@ -98,7 +103,8 @@ left-out v clock bytes (Some out) = left-met v clock out bytes
 
 -- an agent to which a line comes
 pub left-arrived : (v : AgentView) (clock number : ℕ) (bytes : List ℕ)
-    → length (arrived_entries v clock number bytes) + accesses_left (line_arrived v clock number bytes) ≤ accesses_left v
+    → length (arrived_entries v clock number bytes) + accesses_left (line_arrived v clock number bytes)
+    ≤ accesses_left v
 left-arrived v clock number bytes = left-out v clock bytes (request_numbered number v.outs)
 
 left-kept : (v : AgentView) (clock : ℕ) (out : OwnRequest) (kept : Option (List ℕ)) → out.kept ≡ kept
@@ -107,7 +113,8 @@ left-kept v clock out None is = rw is (omega arith)
 left-kept v clock out (Some bytes) is = rw is (left-met v clock out bytes)
 
 left-upgrade : (v : AgentView) (clock : ℕ) (out : Option OwnRequest)
-    → length (option_map_or (ended_entries_for v clock) out []) + accesses_left (option_map_or (ended_for v clock) out v) ≤ accesses_left v
+    → length (option_map_or (ended_entries_for v clock) out []) + accesses_left
+    (option_map_or (ended_for v clock) out v) ≤ accesses_left v
 left-upgrade v clock None = omega arith
 left-upgrade v clock (Some out) = left-kept v clock out out.kept refl
 

@@ -1,5 +1,6 @@
 -- The lines that items name.
-use Rattle.std.proofs.Common.{◌≡◌, ◌<◌, ℕ, ◌+◌, Bool, true, false, ◌||◌, List, [], ◌∷◌, ◌++◌, map, take, length, get_or, refl, sym, ap, ◌∙◌, add-one}
+use Rattle.std.proofs.Common.{◌≡◌, ◌<◌, ℕ, ◌+◌, Bool, true, false, ◌||◌, List, [], ◌∷◌, ◌++◌, map, take, length, get_or}
+use Rattle.std.proofs.Common.{refl, sym, ap, ◌∙◌, add-one}
 use Rattle.std.proofs.Math.Seq.{take-suc}
 use Rattle.std.proofs.lemmas.List.Folds.{list_any-append}
 use Rattle.std.specs.List.{list_any}
@@ -43,7 +44,8 @@ named-idle line clocks = refl
 
 -- one item more names its lines too
 pub items-more : (line : ℕ) (items : List Item) (i : ℕ) (item : Item) → i < length items → item ≡ get_or items i item
-    → list_any (is_named_in line) (take (i + 1) items) ≡ (list_any (is_named_in line) (take i items) || is_named_in line item)
+    → list_any (is_named_in line) (take (i + 1) items)
+    ≡ (list_any (is_named_in line) (take i items) || is_named_in line item)
 items-more line items i item within at =
     ap (λ n. list_any (is_named_in line) (take n items)) (add-one i)
     ∙ ap (list_any (is_named_in line)) (take-suc items i item within ∙ ap (λ x. take i items ++ x ∷ []) (sym at))
@@ -51,7 +53,8 @@ items-more line items i item within at =
     ∙ ap (λ b. list_any (is_named_in line) (take i items) || b) (or_false (is_named_in line item))
 
 -- one access more is to its line too
-pub accesses-more : (line : ℕ) (accesses : List Access) (i : ℕ) (access : Access) → i < length accesses → access ≡ get_or accesses i access
+pub accesses-more : (line : ℕ) (accesses : List Access) (i : ℕ) (access : Access) → i < length accesses
+    → access ≡ get_or accesses i access
     → list_any (λ access. nat_eq (accessed_line access) line) (take (i + 1) accesses)
     ≡ (list_any (λ access. nat_eq (accessed_line access) line) (take i accesses) || nat_eq (accessed_line access) line)
 accesses-more line accesses i access within at =
@@ -62,7 +65,8 @@ accesses-more line accesses i access within at =
     ∙ ap (λ b. list_any is_to (take i accesses) || b) (or_false (is_to access))
 
 -- one script more names its lines too
-pub scripts-more : (line : ℕ) (scripts : List (List Item)) (i : ℕ) (script : List Item) → i < length scripts → script ≡ get_or scripts i script
+pub scripts-more : (line : ℕ) (scripts : List (List Item)) (i : ℕ) (script : List Item) → i < length scripts
+    → script ≡ get_or scripts i script
     → is_named_line (take (i + 1) scripts) line
     ≡ (is_named_line (take i scripts) line || list_any (is_named_in line) script)
 scripts-more line scripts i script within at =
@@ -74,7 +78,8 @@ scripts-more line scripts i script within at =
 
 -- a line that is added to a list is in it too
 pub lines-more : (line added : ℕ) (lines : List ℕ)
-    → list_any (λ other. nat_eq other line) (lines ++ added ∷ []) ≡ (list_any (λ other. nat_eq other line) lines || nat_eq added line)
+    → list_any (λ other. nat_eq other line) (lines ++ added ∷ [])
+    ≡ (list_any (λ other. nat_eq other line) lines || nat_eq added line)
 lines-more line added lines =
     let is : ℕ → Bool = λ other. nat_eq other line in
     list_any-append is lines (added ∷ []) ∙ ap (λ b. list_any is lines || b) (or_false (is added))

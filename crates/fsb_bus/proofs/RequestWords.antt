@@ -10,7 +10,8 @@ use Rattle.fsb_encode.specs.declared.request.Request.{Request}
 abbrev AreLawful : Kind → ℕ → ℕ → ℕ → Bool → Type 0
 AreLawful kind line chunk did den = (are_lawful_fields kind line chunk den && nat_lt did (2 ^ 8)) ≡ true
 
-first-req : (kind : Kind) (line chunk did : ℕ) (den : Bool) → AreLawful kind line chunk did den → (row_of kind line chunk did den).0.req < 2 ^ 5
+first-req : (kind : Kind) (line chunk did : ℕ) (den : Bool) → AreLawful kind line chunk did den
+    → (row_of kind line chunk did den).0.req < 2 ^ 5
 unfolding row_of clocks high_bit are_lawful_fields
 first-req Reply line chunk did den h = grind (arith, common_steps)
 first-req Invalidate line chunk did den h = grind (arith, common_steps)
@@ -18,7 +19,8 @@ first-req Read line chunk did den h = grind (arith, common_steps)
 first-req WriteBack line chunk did den h = grind (arith, common_steps)
 first-req Upgrade line chunk did den h = grind (arith, common_steps)
 
-first-addr : (kind : Kind) (line chunk did : ℕ) (den : Bool) → AreLawful kind line chunk did den → (row_of kind line chunk did den).0.addr < 2 ^ 33
+first-addr : (kind : Kind) (line chunk did : ℕ) (den : Bool) → AreLawful kind line chunk did den
+    → (row_of kind line chunk did den).0.addr < 2 ^ 33
 unfolding row_of clocks are_lawful_fields
 first-addr Reply line chunk did den h = grind (arith, common_steps)
 first-addr Invalidate line chunk did den h = grind (arith, common_steps)
@@ -26,7 +28,8 @@ first-addr Read line chunk did den h = grind (arith, common_steps)
 first-addr WriteBack line chunk did den h = grind (arith, common_steps)
 first-addr Upgrade line chunk did den h = grind (arith, common_steps)
 
-second-req : (kind : Kind) (line chunk did : ℕ) (den : Bool) → AreLawful kind line chunk did den → (row_of kind line chunk did den).1.req < 2 ^ 5
+second-req : (kind : Kind) (line chunk did : ℕ) (den : Bool) → AreLawful kind line chunk did den
+    → (row_of kind line chunk did den).1.req < 2 ^ 5
 unfolding row_of clocks
 second-req Reply line chunk did den h = grind (arith, common_steps)
 second-req Invalidate line chunk did den h = grind (arith, common_steps)
@@ -34,7 +37,8 @@ second-req Read line chunk did den h = grind (arith, common_steps)
 second-req WriteBack line chunk did den h = grind (arith, common_steps)
 second-req Upgrade line chunk did den h = grind (arith, common_steps)
 
-second-addr : (kind : Kind) (line chunk did : ℕ) (den : Bool) → AreLawful kind line chunk did den → (row_of kind line chunk did den).1.addr < 2 ^ 33
+second-addr : (kind : Kind) (line chunk did : ℕ) (den : Bool) → AreLawful kind line chunk did den
+    → (row_of kind line chunk did den).1.addr < 2 ^ 33
 unfolding row_of clocks den_bit are_lawful_fields
 second-addr Reply line chunk did den h = grind (arith, common_steps)
 second-addr Invalidate line chunk did den h = grind (arith, common_steps)

@@ -1,5 +1,7 @@
 -- What is told to one agent alone, to all of them or to none.
-use Rattle.std.proofs.Common.{◌≡◌, ◌<◌, ℕ, ◌+◌, List, [], ◌∷◌, ◌++◌, map, take, drop, length, fold, get_or, set, Option, Some, None, zero, suc, refl, sym, ap, ◌∙◌, arith, add-one, add-zero, zero-add, append_assoc, append-nil}
+use Rattle.std.proofs.Common.{◌≡◌, ◌<◌, ℕ, ◌+◌, List, [], ◌∷◌, ◌++◌, map, take, drop, length, fold, get_or, set, Option}
+use Rattle.std.proofs.Common.{Some, None, zero, suc, refl, sym, ap, ◌∙◌, arith, add-one, add-zero, zero-add}
+use Rattle.std.proofs.Common.{append_assoc, append-nil}
 use Rattle.std.proofs.Math.Seq.{take-suc}
 use Rattle.std.proofs.lemmas.Bool.Decides.{nat_tests}
 use Rattle.std.proofs.lemmas.Option.{get_or_from_slice_get, same_Some}
@@ -16,12 +18,14 @@ pub told-none : (n : ℕ) (agents : List AgentView) → agents_told for_none n a
 told-none n [] = refl
 told-none n (v ∷ vs) = ap (λ rest. v ∷ rest) (told-none (n + 1) vs)
 
-pub told-all : (e : AgentEvent) (n : ℕ) (agents : List AgentView) → agents_told (for_all e) n agents ≡ map (λ v. agent_after v e) agents
+pub told-all : (e : AgentEvent) (n : ℕ) (agents : List AgentView)
+    → agents_told (for_all e) n agents ≡ map (λ v. agent_after v e) agents
 told-all e n [] = refl
 told-all e n (v ∷ vs) = ap (λ rest. agent_after v e ∷ rest) (told-all e (n + 1) vs)
 
 -- agents behind the one that is told something
-pub told-behind : (a n : ℕ) (e : AgentEvent) (agents : List AgentView) → a < n → agents_told (for_one a e) n agents ≡ agents
+pub told-behind : (a n : ℕ) (e : AgentEvent) (agents : List AgentView) → a < n
+    → agents_told (for_one a e) n agents ≡ agents
 told-behind a n e [] above = refl
 told-behind a n e (v ∷ vs) above = grind (arith, nat_tests, told-behind a (n + 1) e vs (omega (arith, above)))
 
@@ -44,8 +48,10 @@ told-one a n (suc k) e (w ∷ vs) v at there =
     grind (arith, nat_tests, below, told-one a (n + 1) k e vs v (omega (arith, at)) there)
 
 -- one agent is told an event, if there is one
-pub told-maybe : (a : ℕ) (event : Option AgentEvent) (agents : List AgentView) (v : AgentView) → slice_get agents a ≡ Some v
-    → agents_told (λ n. option_map_or (λ e. for_one a e n) event []) 0 agents ≡ set agents a (option_map_or (agent_after v) event v)
+pub told-maybe : (a : ℕ) (event : Option AgentEvent) (agents : List AgentView) (v : AgentView)
+    → slice_get agents a ≡ Some v
+    → agents_told (λ n. option_map_or (λ e. for_one a e n) event []) 0 agents
+    ≡ set agents a (option_map_or (agent_after v) event v)
 told-maybe a None agents v there =
     told-none 0 agents ∙ sym (set-get_or agents a v) ∙ ap (set agents a) (get_or_from_slice_get agents a v v there)
 told-maybe a (Some e) agents v there = told-one a 0 a e agents v (zero-add a) there
@@ -65,7 +71,8 @@ told_over events n (w ∷ xs) zero d within = ap (λ m. fold agent_after w (even
 told_over events n (w ∷ xs) (suc i) d within =
     let place : suc i + 1 ≡ suc (i + 1) = omega arith in
     let number : n + suc i ≡ n + 1 + i = omega arith in
-    rw (place, number) (ap (λ rest. fold agent_after w (events n) ∷ rest) (told_over events (n + 1) xs i d (omega (arith, within))))
+    rw (place, number)
+    (ap (λ rest. fold agent_after w (events n) ∷ rest) (told_over events (n + 1) xs i d (omega (arith, within))))
 
 -- one agent more is told its events
 pub told_over-more :
@@ -75,7 +82,8 @@ pub told_over-more :
 told_over-more events n xs ys i x new within so_far at is =
     let same : x ≡ get_or xs i x = at ∙ ap (λ l. get_or l i x) so_far ∙ told_over-at events n xs i x within in
     ap (λ l. set l i new) so_far
-    ∙ ap (λ w. set (agents_told events n (take i xs) ++ drop i xs) i w) (is ∙ ap (λ w. fold agent_after w (events (n + i))) same)
+    ∙ ap (λ w. set (agents_told events n (take i xs) ++ drop i xs) i w) (is
+    ∙ ap (λ w. fold agent_after w (events (n + i))) same)
     ∙ told_over events n xs i x within
 
 -- the agent at a place is as it was, as long as only those before it are changed
@@ -115,8 +123,10 @@ hits-more clock (w ∷ vs) v =
     ∙ sym (append_assoc (performed_entries w clock) (hit_entries clock vs) (performed_entries v clock))
 
 -- one agent more of a list
-take-more : (xs : List AgentView) (i : ℕ) (x : AgentView) → i < length xs → x ≡ get_or xs i x → take (i + 1) xs ≡ take i xs ++ x ∷ []
-take-more xs i x within at = ap (λ n. take n xs) (add-one i) ∙ take-suc xs i x within ∙ ap (λ w. take i xs ++ w ∷ []) (sym at)
+take-more : (xs : List AgentView) (i : ℕ) (x : AgentView) → i < length xs → x ≡ get_or xs i x
+    → take (i + 1) xs ≡ take i xs ++ x ∷ []
+take-more xs i x within at = ap (λ n. take n xs) (add-one i) ∙ take-suc xs i x within
+    ∙ ap (λ w. take i xs ++ w ∷ []) (sym at)
 
 pub owed-next : (number : ℕ) (xs : List AgentView) (i : ℕ) (x : AgentView) → i < length xs → x ≡ get_or xs i x
     → bytes_owed number (take (i + 1) xs) ≡ first_of (bytes_owed number (take i xs)) (hand_by x number)

@@ -1,5 +1,6 @@
 -- A live request that responded: its snoop end, and that what is told of it is what was settled there; and its claim.
-use Rattle.std.proofs.Common.{ℕ, zero, suc, ◌+◌, ◌/◌, ◌<◌, ◌≤◌, ◌≡◌, false, [], ◌∷◌, Some, length, slice_get, refl, sym, ap, ◌∙◌, arith}
+use Rattle.std.proofs.Common.{ℕ, zero, suc, ◌+◌, ◌/◌, ◌<◌, ◌≤◌, ◌≡◌, false, [], ◌∷◌, Some, length, slice_get, refl, sym}
+use Rattle.std.proofs.Common.{ap, ◌∙◌, arith}
 use Rattle.std.proofs.lemmas.Option.{same_Some}
 use Rattle.std.specs.Option.{option_and_then}
 use Rattle.fsb_count.proofs.Interface.{nth_where-found}
@@ -10,7 +11,8 @@ use Rattle.fsb_trace.specs.declared.who.Who.TheVariants.{Symmetric}
 use Rattle.fsb_trace.specs.Outcome.{outcome_of, response_clock_of}
 use Rattle.fsb_trace.specs.Requests.{is_reply, is_reply_kind, line_of, live_request_of}
 use Rattle.fsb_trace.specs.Winner.{winner_at}
-use Rattle.fsb_trace.proofs.Interface.{AgreeTo-sym, outcome_of-stays, response_clock_of-stays, snoop_end_of-stays, winner_at-agree}
+use Rattle.fsb_trace.proofs.Interface.{AgreeTo-sym, outcome_of-stays, response_clock_of-stays, snoop_end_of-stays}
+use Rattle.fsb_trace.proofs.Interface.{winner_at-agree}
 use Rattle.fsb_timely.specs.Moments.{agent_at, claim_at, live_claim_of}
 use Rattle.fsb_timely.specs.Past.{Claim, SnoopEnd}
 use Rattle.fsb_timely.specs.Runs.{Run, past_of, past_to, run_to}
@@ -18,7 +20,8 @@ use Rattle.fsb_timely.specs.Starts.{request_begun, would_begin}
 use Rattle.fsb_timely.specs.Timely.{Timely}
 use Rattle.fsb_timely.proofs.Interface.{snoop-tied}
 use Rattle.fsb_lawful.specs.Beginning.{KeepsBounds}
-use Rattle.fsb_lawful.proofs.Interface.{begun-winner, run_to-agrees, told-as-settled, turned-at, wanted-by, wants-lawfully}
+use Rattle.fsb_lawful.proofs.Interface.{begun-winner, run_to-agrees, told-as-settled, turned-at, wanted-by}
+use Rattle.fsb_lawful.proofs.Interface.{wants-lawfully}
 use Rattle.fsb_tied.proofs.Interface.{IsSnooped, asked-at, claimed-at, live-request, snooped-by}
 
 -- live request i responded at t: its snoop end, and what is told of it

@@ -1,11 +1,13 @@
 -- Between two transfers of a line with no other transfer of it between them memory has the same bytes of it.
-use Rattle.std.proofs.Common.{ℕ, zero, suc, ◌+◌, ◌*◌, ◌<◌, ◌≤◌, ◌≡◌, Bool, true, false, List, Option, Some, None, length, slice_index, refl, sym, ap, ◌∙◌, arith, inl, inr, subst, add-one}
+use Rattle.std.proofs.Common.{ℕ, zero, suc, ◌+◌, ◌*◌, ◌<◌, ◌≤◌, ◌≡◌, Bool, true, false, List, Option, Some, None}
+use Rattle.std.proofs.Common.{length, slice_index, refl, sym, ap, ◌∙◌, arith, inl, inr, subst, add-one}
 use Rattle.std.proofs.lemmas.Bool.{both_ways, cases_Bool, cases_lt, false_from_ne_true}
 use Rattle.std.proofs.lemmas.Option.{same_Some}
 use Rattle.std.specs.Option.{option_map, option_and_then}
 use Rattle.fsb_count.specs.Clocks.{count_where, from_clock, nth_where}
 use Rattle.fsb_count.specs.Options.{is_at}
-use Rattle.fsb_count.proofs.Interface.{count_where-mono, count_where-passed, is_at-from, nth_where-found, nth_where-there}
+use Rattle.fsb_count.proofs.Interface.{count_where-mono, count_where-passed, is_at-from, nth_where-found}
+use Rattle.fsb_count.proofs.Interface.{nth_where-there}
 use Rattle.fsb_encode.specs.Burst.{burst_order}
 use Rattle.fsb_encode.specs.declared.request.Request.{Request}
 use Rattle.fsb_signal.specs.declared.lines.TheConstants.Lines.{DRDY}

@@ -1,5 +1,6 @@
 -- D# at a data clock is the chunk that comes there, as it stands in the replay of the entries below the response.
-use Rattle.std.proofs.Common.{ℕ, ◌+◌, ◌*◌, ◌<◌, ◌≤◌, ◌≡◌, true, List, [], ◌∷◌, Some, length, nat_lt, slice_index, refl, sym, ap, ◌∙◌, arith, inl, inr, subst}
+use Rattle.std.proofs.Common.{ℕ, ◌+◌, ◌*◌, ◌<◌, ◌≤◌, ◌≡◌, true, List, [], ◌∷◌, Some, length, nat_lt, slice_index, refl}
+use Rattle.std.proofs.Common.{sym, ap, ◌∙◌, arith, inl, inr, subst}
 use Rattle.std.proofs.lemmas.Bool.{cases_lt, eqb-true, le-leb, le-ltb, lt-leb, lt-ltb}
 use Rattle.std.proofs.lemmas.Option.{same_Some}
 use Rattle.std.specs.List.{filter}
@@ -19,12 +20,14 @@ use Rattle.fsb_trace.specs.Requests.{live_count, live_request_of}
 use Rattle.fsb_trace.specs.Response.{data_clock_of}
 use Rattle.fsb_trace.proofs.Interface.{AgreeTo-sym}
 use Rattle.fsb_rules.proofs.Interface.{data_clock-parts}
-use Rattle.fsb_timely.specs.Carried.{Carried, carried_value, carries_chunk, carries_data, carries_from, carries_if_due, chunk_value, memory_below, served_request}
+use Rattle.fsb_timely.specs.Carried.{Carried, carried_value, carries_chunk, carries_data, carries_from, carries_if_due}
+use Rattle.fsb_timely.specs.Carried.{chunk_value, memory_below, served_request}
 use Rattle.fsb_timely.specs.Runs.{Run, entries_to, past_of, run_to}
 use Rattle.fsb_timely.specs.Timely.{Timely, holds_at, holds_in}
 use Rattle.fsb_lawful.proofs.Interface.{length-cut, orderly-at, past-cut, run_to-agrees}
 use Rattle.fsb_audit.specs.MovedChunks.{moved_at, namer_of, nth_chunk}
-use Rattle.fsb_audit.proofs.Interface.{GoesOnFrom, Responded, after_response, data_forth, live_below, responded, same_data, same_moved, same_namer, same_request, still_responded}
+use Rattle.fsb_audit.proofs.Interface.{GoesOnFrom, Responded, after_response, data_forth, live_below, responded}
+use Rattle.fsb_audit.proofs.Interface.{same_data, same_moved, same_namer, same_request, still_responded}
 use Rattle.fsb_clean.proofs.Follows.{line_moved_by}
 use Rattle.fsb_clean.proofs.LineChunks.{chunk-few}
 use Rattle.fsb_clean.proofs.Moved.{moved-parts, namer-responded}

@@ -11,7 +11,8 @@ use Rattle.fsb_trace.specs.Response.{data_clock_of}
 use Rattle.fsb_laws.specs.Orderly.{Orderly}
 use Rattle.fsb_laws.proofs.Interface.{deferred_response}
 use Rattle.fsb_lawful.proofs.Interface.{and-then}
-use Rattle.fsb_audit.specs.MovedChunks.{chunk_moved_at, chunk_moved_by, data_place_at, is_named_by_reply, moved_at, mover_at, namer_of, nth_chunk}
+use Rattle.fsb_audit.specs.MovedChunks.{chunk_moved_at, chunk_moved_by, data_place_at, is_named_by_reply, moved_at}
+use Rattle.fsb_audit.specs.MovedChunks.{mover_at, namer_of, nth_chunk}
 use Rattle.fsb_audit.proofs.Interface.{Responded, answer_parts, mover_is, place_found, place_is, responded}
 
 -- chunk x is moved at c: it comes as data of a live request, in a place of the burst of the request that names its line

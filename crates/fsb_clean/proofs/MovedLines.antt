@@ -1,5 +1,6 @@
 -- The line whose end is awaited after a snoop end is the line that the request's data are of.
-use Rattle.std.proofs.Common.{ℕ, ◌+◌, ◌-◌, ◌≡◌, Bool, true, false, Option, Some, None, length, refl, sym, ap, ◌∙◌, arith, subst}
+use Rattle.std.proofs.Common.{ℕ, ◌+◌, ◌-◌, ◌≡◌, Bool, true, false, Option, Some, None, length, refl, sym, ap, ◌∙◌}
+use Rattle.std.proofs.Common.{arith, subst}
 use Rattle.std.proofs.lemmas.Option.{same_Some}
 use Rattle.std.proofs.lemmas.List.{take_all}
 use Rattle.std.specs.Option.{option_map}
@@ -9,7 +10,8 @@ use Rattle.fsb_trace.specs.At.{Trace}
 use Rattle.fsb_trace.specs.declared.outcome.Outcome.{Outcome}
 use Rattle.fsb_trace.specs.Outcome.{response_clock_of}
 use Rattle.fsb_trace.specs.Requests.{is_reply, is_reply_kind, live_request_of}
-use Rattle.fsb_timely.specs.Moments.{gives_line, grant_for, grant_of, grant_to, is_owner_request, is_shared_at, live_claim_of, served_number, turns_in}
+use Rattle.fsb_timely.specs.Moments.{gives_line, grant_for, grant_of, grant_to, is_owner_request, is_shared_at}
+use Rattle.fsb_timely.specs.Moments.{live_claim_of, served_number, turns_in}
 use Rattle.fsb_timely.specs.Past.{Claim, Grant, Past}
 use Rattle.fsb_timely.specs.Runs.{Run, past_of, past_to, run_to}
 use Rattle.fsb_timely.specs.Timely.{Timely}

@@ -1,5 +1,6 @@
 -- Where the data of a live request move an end is awaited after its snoop end.
-use Rattle.std.proofs.Common.{ℕ, ◌≡◌, Bool, true, false, ◌||◌, if◌then◌else◌, Option, Some, None, refl, sym, ap, ◌∙◌, inl, inr, subst}
+use Rattle.std.proofs.Common.{ℕ, ◌≡◌, Bool, true, false, ◌||◌, if◌then◌else◌, Option, Some, None, refl, sym, ap, ◌∙◌}
+use Rattle.std.proofs.Common.{inl, inr, subst}
 use Rattle.std.proofs.lemmas.Bool.{and_parts, cases_Bool}
 use Rattle.std.proofs.lemmas.Option.{same_Some}
 use Rattle.std.specs.Option.{option_map, option_and_then}
@@ -25,7 +26,8 @@ use Rattle.fsb_coherent.specs.Awaits.{Awaited, awaited_by, awaited_by_claim, awa
 use Rattle.fsb_coherent.specs.Fitting.{fits_getting, fits_kind, fits_upgrade, fits_write_back}
 use Rattle.fsb_audit.specs.MovedChunks.{is_named_by_reply, namer_of}
 use Rattle.fsb_audit.proofs.Interface.{responded}
-use Rattle.fsb_tied.proofs.Interface.{IsSnooped, asked-at, awaits-grant, clock-facts, deferred-held, live-request, orderly-whole, reply-grants, uncontested, writes-back-alone}
+use Rattle.fsb_tied.proofs.Interface.{IsSnooped, asked-at, awaits-grant, clock-facts, deferred-held, live-request}
+use Rattle.fsb_tied.proofs.Interface.{orderly-whole, reply-grants, uncontested, writes-back-alone}
 use Rattle.fsb_clean.proofs.Answered.{Answered, answered-run, plain-claimed, response-below}
 use Rattle.fsb_clean.proofs.Follows.{line_moved_by}
 use Rattle.fsb_clean.proofs.Moved.{namer-responded}

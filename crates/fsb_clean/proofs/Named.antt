@@ -1,5 +1,6 @@
 -- A live request of a run serves the request that names its line and chunk.
-use Rattle.std.proofs.Common.{ℕ, ◌+◌, ◌<◌, ◌≤◌, ◌≡◌, Bool, true, false, ◌&&◌, List, Option, Some, None, length, refl, sym, ap, ◌∙◌, arith, inl, inr, subst}
+use Rattle.std.proofs.Common.{ℕ, ◌+◌, ◌<◌, ◌≤◌, ◌≡◌, Bool, true, false, ◌&&◌, List, Option, Some, None, length, refl}
+use Rattle.std.proofs.Common.{sym, ap, ◌∙◌, arith, inl, inr, subst}
 use Rattle.std.proofs.lemmas.Bool.{cases_lt}
 use Rattle.std.proofs.lemmas.Option.{same_Some}
 use Rattle.std.specs.Option.{option_map}
@@ -18,7 +19,8 @@ use Rattle.fsb_timely.specs.Timely.{Timely}
 use Rattle.fsb_timely.specs.Transfers.{settled_of}
 use Rattle.fsb_lawful.proofs.Interface.{orderly-at, told-as-settled}
 use Rattle.fsb_audit.specs.MovedChunks.{is_named_by_reply, namer_of}
-use Rattle.fsb_audit.proofs.Interface.{Answer, Responded, answer_live, answer_parts, first_where-alike, live_below, reply_before, responded}
+use Rattle.fsb_audit.proofs.Interface.{Answer, Responded, answer_live, answer_parts, first_where-alike, live_below}
+use Rattle.fsb_audit.proofs.Interface.{reply_before, responded}
 
 -- what is told of a request that responded is what is settled, so it is told as Deferred where it is settled so
 same-deferral : (r : Run) (c i t : ℕ) → Timely r → c < length r.trace → response_clock_of (run_to r c).trace i ≡ Some t

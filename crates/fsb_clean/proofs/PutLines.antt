@@ -1,5 +1,6 @@
 -- What is put into memory of a line, in the words of the run and in those of the transfers.
-use Rattle.std.proofs.Common.{ℕ, ◌+◌, ◌<◌, ◌≤◌, ◌≡◌, Bool, true, false, nat_eq, List, Option, Some, None, refl, sym, ap, ◌∙◌, arith}
+use Rattle.std.proofs.Common.{ℕ, ◌+◌, ◌<◌, ◌≤◌, ◌≡◌, Bool, true, false, nat_eq, List, Option, Some, None, refl, sym, ap}
+use Rattle.std.proofs.Common.{◌∙◌, arith}
 use Rattle.std.proofs.lemmas.Bool.{and_parts, both_ways, eq-eqb, eqb-true, false_from_ne_true}
 use Rattle.std.proofs.lemmas.Option.{same_Some}
 use Rattle.std.specs.Option.{option_map, option_and_then}
@@ -29,7 +30,8 @@ use Rattle.fsb_coherent.specs.Settled.{outcome_by_turn, outcome_under}
 use Rattle.fsb_lawful.specs.Beginning.{KeepsBounds}
 use Rattle.fsb_lawful.proofs.Interface.{some-and, wants-lawfully}
 use Rattle.fsb_tied.specs.RunBytes.{bytes_put_below, put_clock_below}
-use Rattle.fsb_tied.proofs.Interface.{IsSnooped, asked-at, ended-before, number-put, number-stays, orderly-whole, outcome-shown, takes_line, told-again}
+use Rattle.fsb_tied.proofs.Interface.{IsSnooped, asked-at, ended-before, number-put, number-stays, orderly-whole}
+use Rattle.fsb_tied.proofs.Interface.{outcome-shown, takes_line, told-again}
 use Rattle.fsb_clean.proofs.Answered.{Answered, answered-run, claim-there, claimed-live, plain-claimed, response-below}
 use Rattle.fsb_clean.proofs.DataWays.{put-told}
 use Rattle.fsb_clean.proofs.Follows.{line_moved_by, puts_data}

@@ -6,7 +6,8 @@ use Rattle.fsb_line.specs.Line.{MemoryLine, source}
 use Rattle.fsb_trace.specs.Outcome.{response_clock_of}
 use Rattle.fsb_timely.specs.Runs.{Run, past_of}
 use Rattle.fsb_tied.specs.RunBytes.{HasValues, bytes_below, bytes_put_below, machine_line}
-use Rattle.fsb_tied.proofs.Interface.{answers-in-order, first-link, link_of, memory-below-run, number-responded, orderly-whole, source-below-run, ungiven}
+use Rattle.fsb_tied.proofs.Interface.{answers-in-order, first-link, link_of, memory-below-run, number-responded}
+use Rattle.fsb_tied.proofs.Interface.{orderly-whole, source-below-run, ungiven}
 use Rattle.fsb_clean.proofs.Answered.{answered-run, response-below}
 use Rattle.fsb_clean.proofs.DataWays.{got-moves, got-told}
 use Rattle.fsb_clean.proofs.Follows.{MemoryFollows, gets_data, line_moved_by}

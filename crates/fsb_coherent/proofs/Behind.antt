@@ -7,7 +7,8 @@ use Rattle.fsb_line.specs.declared.link.Link.{Link}
 use Rattle.fsb_line.specs.Line.{MemoryLine, OpenRequest}
 use Rattle.fsb_line.specs.States.{is_held, is_modified, is_sole}
 use Rattle.fsb_timely.specs.Past.{Past, SnoopEnd}
-use Rattle.fsb_timely.specs.Grants.{grant_at, holds_line, is_exclusive, is_granted, is_lost, is_named_by_other, snooped_at}
+use Rattle.fsb_timely.specs.Grants.{grant_at, holds_line, is_exclusive, is_granted, is_lost, is_named_by_other}
+use Rattle.fsb_timely.specs.Grants.{snooped_at}
 use Rattle.fsb_timely.specs.Hits.{is_dirty}
 use Rattle.fsb_coherent.specs.Awaits.{awaited_by}
 use Rattle.fsb_coherent.specs.Facts.{does_respond_on}

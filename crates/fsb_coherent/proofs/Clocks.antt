@@ -22,19 +22,23 @@ MayRun-append x (e ∷ es) fs h k = (h.0, MayRun-append (after x e) es fs h.1 k)
 pub may-below : (p : Past) (line n : ℕ) (bytes : Bytes) → ((c : ℕ) → c < n → KeepsTie p line c)
     → MayRun (unheld bytes) (events_below p line n) × IsTiedTo p line n (run (unheld bytes) (events_below p line n))
 unfolding events_below
-may-below p line zero bytes keeps = (tt, record { ordered = ordered_unheld bytes; valued = valued_unheld bytes; tied = tied-start p line bytes })
+may-below p line zero bytes keeps =
+    (tt, record { ordered = ordered_unheld bytes; valued = valued_unheld bytes; tied = tied-start p line bytes })
 may-below p line (suc n) bytes keeps =
     let before = may-below p line n bytes (λ c l. keeps c (omega arith)) in
     let here = keeps n (omega arith) in
     let x : MemoryLine = run (unheld bytes) (events_below p line n) in
     let may : MayRun x (events_at p line n) = here.may x before.1.ordered before.1.valued before.1.tied in
-    let tied : Tied p line (n + 1) (run x (events_at p line n)) = here.tied x before.1.ordered before.1.valued before.1.tied in
-    let next : Tied p line (suc n) (run x (events_at p line n)) = subst (λ k. Tied p line k (run x (events_at p line n))) (add-one n) tied in
+    let tied : Tied p line (n + 1) (run x (events_at p line n)) =
+    here.tied x before.1.ordered before.1.valued before.1.tied in
+    let next : Tied p line (suc n) (run x (events_at p line n)) =
+    subst (λ k. Tied p line k (run x (events_at p line n))) (add-one n) tied in
     let after_it : IsTiedTo p line (suc n) (run x (events_at p line n)) = record {
       ordered = ordered_run x (events_at p line n) before.1.ordered may;
       valued = valued_run x (events_at p line n) before.1.ordered before.1.valued may;
       tied = next;
     } in (
       MayRun-append (unheld bytes) (events_below p line n) (events_at p line n) before.0 may,
-      subst (IsTiedTo p line (suc n)) (sym (run-append (unheld bytes) (events_below p line n) (events_at p line n))) after_it,
+      subst (IsTiedTo p line (suc n))
+          (sym (run-append (unheld bytes) (events_below p line n) (events_at p line n))) after_it,
     )

@@ -1,21 +1,27 @@
 -- Who is dirty on a line one clock on: who was so behind the snoop end, and who stored into it with the end of another
 -- line.
-use Rattle.std.proofs.Common.{ℕ, ◌+◌, ◌<◌, ◌≡◌, Bool, true, false, not, ◌&&◌, ◌||◌, nat_eq, nat_lt, slice_get, Some, refl, sym, ap, subst, ◌∙◌, inl, inr, arith}
-use Rattle.std.proofs.lemmas.Bool.{and_from, and_parts, both_ways, cases_Bool, eq-eqb, eqb-true, ltb-true, not-true, not_from_false, or_cases, or_left, or_right}
+use Rattle.std.proofs.Common.{ℕ, ◌+◌, ◌<◌, ◌≡◌, Bool, true, false, not, ◌&&◌, ◌||◌, nat_eq, nat_lt, slice_get, Some}
+use Rattle.std.proofs.Common.{refl, sym, ap, subst, ◌∙◌, inl, inr, arith}
+use Rattle.std.proofs.lemmas.Bool.{and_from, and_parts, both_ways, cases_Bool, eq-eqb, eqb-true, ltb-true, not-true}
+use Rattle.std.proofs.lemmas.Bool.{not_from_false, or_cases, or_left, or_right}
 use Rattle.std.specs.List.{list_all, list_any}
 use Rattle.fsb_count.specs.Options.{is_some_and}
 use Rattle.fsb_count.proofs.Interface.{nat_lt-more}
 use Rattle.fsb_access.specs.declared.log.Done.{Done}
 use Rattle.fsb_access.specs.Access.{accessed_line}
 use Rattle.fsb_timely.specs.Past.{Grant, Past}
-use Rattle.fsb_timely.specs.Grants.{ended_requests, grant_at, has_arrived, holds_line, is_ended, is_exclusive, is_granted, is_lost, is_named_by_other, is_ready, is_sole_grant, latest_grant}
+use Rattle.fsb_timely.specs.Grants.{ended_requests, grant_at, has_arrived, holds_line, is_ended, is_exclusive}
+use Rattle.fsb_timely.specs.Grants.{is_granted, is_lost, is_named_by_other, is_ready, is_sole_grant, latest_grant}
 use Rattle.fsb_timely.specs.Hits.{is_counted, is_dirty, is_hit, is_stored_since}
 use Rattle.fsb_timely.specs.Scripts.{is_load}
 use Rattle.fsb_coherent.specs.Facts.{ClockFacts, is_served_other}
 use Rattle.fsb_coherent.specs.LineEvents.{entries_on, is_brought_to, is_of_other_line}
 use Rattle.fsb_coherent.specs.Relation.{is_dirty_below, is_stored_below}
 use Rattle.fsb_coherent.proofs.Behind.{is_dirty_behind}
-use Rattle.fsb_coherent.proofs.DirtyParts.{IsDirtyBy, IsStoredAt, behind-granted, behind-kept, dirty-from-parts, dirty-parts, ended-later, exclusive-granted, exclusive-kept, granted-now, is_on, latest-granted, latest-kept, other-stores, others_of, since-from, since-parts, some-there, stored-from, stored-parts, unbrought}
+use Rattle.fsb_coherent.proofs.DirtyParts.{IsDirtyBy, IsStoredAt, behind-granted, behind-kept, dirty-from-parts}
+use Rattle.fsb_coherent.proofs.DirtyParts.{dirty-parts, ended-later, exclusive-granted, exclusive-kept, granted-now}
+use Rattle.fsb_coherent.proofs.DirtyParts.{is_on, latest-granted, latest-kept, other-stores, others_of, since-from}
+use Rattle.fsb_coherent.proofs.DirtyParts.{since-parts, some-there, stored-from, stored-parts, unbrought}
 use Rattle.fsb_coherent.proofs.Entries.{all-at, all-kept, all-of-kept, any-from, any-there}
 use Rattle.fsb_coherent.proofs.OtherSteps.{IsServed, alone-behind, is_served_behind, is_store_by, served-parts}
 

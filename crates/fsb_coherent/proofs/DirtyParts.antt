@@ -1,6 +1,8 @@
 -- What makes an agent dirty on a line: its latest grant, and its stores since.
-use Rattle.std.proofs.Common.{ℕ, ◌+◌, ◌≤◌, ◌≡◌, ◌==◌, Bool, true, false, not, ◌&&◌, ◌||◌, if◌then◌else◌, nat_eq, nat_lt, List, [], ◌∷◌, slice_get, Option, Some, None, refl, sym, ap, ◌∙◌, arith}
-use Rattle.std.proofs.lemmas.Bool.{and_from, and_parts, both_ways, eq-eqb, eqb-true, false_from_ne_true, not-true, not_from_false, or_from, or_left}
+use Rattle.std.proofs.Common.{ℕ, ◌+◌, ◌≤◌, ◌≡◌, ◌==◌, Bool, true, false, not, ◌&&◌, ◌||◌, if◌then◌else◌, nat_eq, nat_lt}
+use Rattle.std.proofs.Common.{List, [], ◌∷◌, slice_get, Option, Some, None, refl, sym, ap, ◌∙◌, arith}
+use Rattle.std.proofs.lemmas.Bool.{and_from, and_parts, both_ways, eq-eqb, eqb-true, false_from_ne_true, not-true}
+use Rattle.std.proofs.lemmas.Bool.{not_from_false, or_from, or_left}
 use Rattle.std.specs.List.{filter, list_any}
 use Rattle.fsb_count.specs.Options.{is_some_and}
 use Rattle.fsb_count.proofs.Interface.{any_where-at, any_where-found, nat_lt-more}
@@ -9,7 +11,8 @@ use Rattle.fsb_access.specs.Access.{accessed_line}
 use Rattle.fsb_line.specs.declared.link.Link.{Link}
 use Rattle.fsb_line.specs.Links.{is_linked}
 use Rattle.fsb_timely.specs.Past.{Claim, Grant, Past, SnoopEnd}
-use Rattle.fsb_timely.specs.Grants.{ended_requests, grant_at, holds_line, is_end_at, is_ended, is_exclusive, is_granted, is_lost, is_named_by_other, is_ready, is_sole_grant, latest_grant, snooped_at}
+use Rattle.fsb_timely.specs.Grants.{ended_requests, grant_at, holds_line, is_end_at, is_ended, is_exclusive, is_granted}
+use Rattle.fsb_timely.specs.Grants.{is_lost, is_named_by_other, is_ready, is_sole_grant, latest_grant, snooped_at}
 use Rattle.fsb_timely.specs.Hits.{is_counted, is_dirty, is_hit, is_store_on, is_stored_since}
 use Rattle.fsb_timely.specs.Moments.{is_upgraded, makes_grant}
 use Rattle.fsb_timely.specs.Scripts.{is_load}

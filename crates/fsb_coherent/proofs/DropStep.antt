@@ -1,5 +1,6 @@
 -- An agent that begins a request drops the other line of the cache set that it has.
-use Rattle.std.proofs.Common.{ℕ, ◌+◌, ◌≡◌, Bool, true, false, not, ◌&&◌, if◌then◌else◌, nat_eq, [], ◌∷◌, Some, sym, ap, ◌∙◌, inl, inr}
+use Rattle.std.proofs.Common.{ℕ, ◌+◌, ◌≡◌, Bool, true, false, not, ◌&&◌, if◌then◌else◌, nat_eq, [], ◌∷◌, Some, sym, ap}
+use Rattle.std.proofs.Common.{◌∙◌, inl, inr}
 use Rattle.std.proofs.lemmas.Bool.{and_left, and_right, cases_Bool, eq-eqb, ne_eqb}
 use Rattle.std.specs.Option.{option_map_or}
 use Rattle.fsb_count.specs.Options.{is_some_and}
@@ -16,7 +17,8 @@ use Rattle.fsb_coherent.specs.Facts.{BeginsInOrder}
 use Rattle.fsb_coherent.specs.LineEvents.{begin_events}
 use Rattle.fsb_coherent.proofs.HitSteps.{AfterHits}
 use Rattle.fsb_coherent.proofs.TiedBetween.{Goes, goes-same, put-cases, tied-trimmed}
-use Rattle.fsb_coherent.proofs.Begun.{BeginsIt, WithBegun, earlier, evicted-by, holds_left, kept, later, lost, other-line, owns_left, same-line}
+use Rattle.fsb_coherent.proofs.Begun.{BeginsIt, WithBegun, earlier, evicted-by, holds_left, kept, later, lost}
+use Rattle.fsb_coherent.proofs.Begun.{other-line, owns_left, same-line}
 
 dropped-list : (p : Past) (line n : ℕ) (claim : Claim) (b : Bool) → nat_eq claim.line line ≡ false
     → is_rival p claim.line line ≡ b → begin_events p line n claim ≡ (if b then Drops claim.agent ∷ [] else [])

@@ -1,6 +1,7 @@
 -- The end of a clock: its event may happen, and the line of the machine behind it is that of the run, but for the
 -- accesses that come with the end of another line.
-use Rattle.std.proofs.Common.{ℕ, ◌+◌, ◌≡◌, true, false, cond, not, ◌&&◌, ◌||◌, ◌++◌, if◌then◌else◌, nat_eq, is_some, List, [], ◌∷◌, Option, Some, None, refl, sym, ap, subst, ◌∙◌, inl, inr}
+use Rattle.std.proofs.Common.{ℕ, ◌+◌, ◌≡◌, true, false, cond, not, ◌&&◌, ◌||◌, ◌++◌, if◌then◌else◌, nat_eq, is_some}
+use Rattle.std.proofs.Common.{List, [], ◌∷◌, Option, Some, None, refl, sym, ap, subst, ◌∙◌, inl, inr}
 use Rattle.std.proofs.Math.Bool.{and-true}
 use Rattle.std.proofs.lemmas.Bool.{and_right, cases_Bool, eqb-true, or_left}
 use Rattle.std.specs.Option.{option_map_or}
@@ -16,7 +17,8 @@ use Rattle.fsb_timely.specs.Past.{Past, SnoopEnd}
 use Rattle.fsb_timely.specs.Grants.{ended_requests, snooped_at}
 use Rattle.fsb_coherent.specs.Awaits.{Awaited, awaited_at}
 use Rattle.fsb_coherent.specs.Facts.{EndsInOrder, does_end_on, does_respond_on}
-use Rattle.fsb_coherent.specs.LineEvents.{awaited_events, awaiting_stores, changes_of, end_events, ends_on, events_of_ends}
+use Rattle.fsb_coherent.specs.LineEvents.{awaited_events, awaiting_stores, changes_of, end_events, ends_on}
+use Rattle.fsb_coherent.specs.LineEvents.{events_of_ends}
 use Rattle.fsb_coherent.specs.Relation.{chain_below, is_moved_below, link_left, links_left}
 use Rattle.fsb_coherent.proofs.Behind.{TiedBehind, TiedButDirty, is_dirty_behind, links_new, links_of}
 use Rattle.fsb_coherent.proofs.Steps.{chain-more}

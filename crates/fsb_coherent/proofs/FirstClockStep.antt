@@ -1,5 +1,6 @@
 -- The request that begins at a clock: it is for the line, or its agent drops the line for another one of the cache set.
-use Rattle.std.proofs.Common.{ℕ, ◌+◌, ◌≡◌, true, false, not, if◌then◌else◌, nat_eq, [], ◌∷◌, Option, Some, None, is_some, refl, sym, ap, subst, ◌∙◌, inl, inr, arith}
+use Rattle.std.proofs.Common.{ℕ, ◌+◌, ◌≡◌, true, false, not, if◌then◌else◌, nat_eq, [], ◌∷◌, Option, Some, None}
+use Rattle.std.proofs.Common.{is_some, refl, sym, ap, subst, ◌∙◌, inl, inr, arith}
 use Rattle.std.proofs.lemmas.Bool.{and_right, cases_Bool, cases_lt, eqb-true}
 use Rattle.std.specs.Option.{option_map_or}
 use Rattle.fsb_count.specs.Options.{is_some_and}
@@ -90,7 +91,8 @@ only-open p line n a b request h o =
           λ i. record { kind = kind i; number = number i }
     ]
 
-begun-line : (p : Past) (line n a : ℕ) (x : MemoryLine) (b : IsBegunRightly p line n a) → GoesOnAt p n → BeginsIt p line n a
+begun-line : (p : Past) (line n a : ℕ) (x : MemoryLine) (b : IsBegunRightly p line n a) → GoesOnAt p n
+    → BeginsIt p line n a
     → ((c : ℕ) → is_evicted p c line n ≡ false) → AfterHits p line n x
     → Goes x (Begins a b.kind n ∷ []) (WithBegun p line n n)
 unfolding May after effect

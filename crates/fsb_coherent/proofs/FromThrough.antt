@@ -6,7 +6,8 @@ use Rattle.fsb_line.specs.Line.{MemoryLine, OpenRequest}
 use Rattle.fsb_line.specs.States.{is_held, is_modified, is_sole}
 use Rattle.fsb_line.proofs.Interface.{modified_is_sole}
 use Rattle.fsb_timely.specs.Past.{Past}
-use Rattle.fsb_timely.specs.Grants.{grant_at, holds_line, is_evicted, is_exclusive, is_granted, is_lost, is_named_by_other, is_sole_grant, is_taken_away, is_written_back, snooped_at}
+use Rattle.fsb_timely.specs.Grants.{grant_at, holds_line, is_evicted, is_exclusive, is_granted, is_lost}
+use Rattle.fsb_timely.specs.Grants.{is_named_by_other, is_sole_grant, is_taken_away, is_written_back, snooped_at}
 use Rattle.fsb_timely.specs.Hits.{is_dirty}
 use Rattle.fsb_timely.specs.Moments.{is_snoop_of}
 use Rattle.fsb_timely.proofs.Interface.{holds_line-more, is_exclusive-more}

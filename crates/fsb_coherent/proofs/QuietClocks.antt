@@ -1,5 +1,7 @@
 -- At a clock at which nothing happens no line has an event, and the line of the machine stays that of the run.
-use Rattle.std.proofs.Common.{ℕ, zero, suc, ◌+◌, ◌<◌, ◌≡◌, Bool, true, false, not, ◌&&◌, ◌||◌, if◌then◌else◌, nat_eq, nat_le, nat_lt, List, [], ◌∷◌, take, slice_get, None, refl, sym, ap, subst, ◌∙◌, inl, inr, arith, append-nil}
+use Rattle.std.proofs.Common.{ℕ, zero, suc, ◌+◌, ◌<◌, ◌≡◌, Bool, true, false, not, ◌&&◌, ◌||◌, if◌then◌else◌, nat_eq}
+use Rattle.std.proofs.Common.{nat_le, nat_lt, List, [], ◌∷◌, take, slice_get, None, refl, sym, ap, subst, ◌∙◌, inl, inr}
+use Rattle.std.proofs.Common.{arith, append-nil}
 use Rattle.std.proofs.lemmas.Bool.{cases_Bool, cases_lt, or_parts}
 use Rattle.std.specs.List.{filter, list_any}
 use Rattle.std.specs.Option.{option_and_then, option_map, option_map_or}
@@ -11,15 +13,20 @@ use Rattle.fsb_line.specs.Events.{Event}
 use Rattle.fsb_line.specs.Line.{MemoryLine, OpenRequest}
 use Rattle.fsb_line.specs.LineRuns.{MayRun, run}
 use Rattle.fsb_timely.specs.Past.{Past}
-use Rattle.fsb_timely.specs.Grants.{begun_at, ended_requests, grant_at, holds_line, is_end_at, is_ended, is_evicted, is_exclusive, is_granted, is_lost, is_named_by_other, is_sole_grant, is_taken_away, is_written_back, latest_grant, snooped_at}
+use Rattle.fsb_timely.specs.Grants.{begun_at, ended_requests, grant_at, holds_line, is_end_at, is_ended, is_evicted}
+use Rattle.fsb_timely.specs.Grants.{is_exclusive, is_granted, is_lost, is_named_by_other, is_sole_grant, is_taken_away}
+use Rattle.fsb_timely.specs.Grants.{is_written_back, latest_grant, snooped_at}
 use Rattle.fsb_timely.specs.Hits.{is_store_on}
 use Rattle.fsb_timely.specs.Runs.{entries_to, past_to}
 use Rattle.fsb_timely.proofs.Interface.{holds_line-more, is_ended-more, is_exclusive-more, latest_grant-more}
 use Rattle.fsb_coherent.specs.Awaits.{cancelled_in, responded_in}
-use Rattle.fsb_coherent.specs.LineEvents.{begins_on, cancels_on, ends_on, entries_on, events_at, events_of_clock, events_of_ends, hits_on, others_on, responds_on, snoops_on}
+use Rattle.fsb_coherent.specs.LineEvents.{begins_on, cancels_on, ends_on, entries_on, events_at, events_of_clock}
+use Rattle.fsb_coherent.specs.LineEvents.{events_of_ends, hits_on, others_on, responds_on, snoops_on}
 use Rattle.fsb_coherent.specs.KeepsTie.{KeepsTie}
 use Rattle.fsb_coherent.specs.Quiet.{IsQuiet}
-use Rattle.fsb_coherent.specs.Relation.{IsOpen, Tied, chain_below, deferral_at, deferral_below, defers_line, is_dirty_below, is_moved_below, is_moved_for, is_responded_below, is_stored_below, replies_line}
+use Rattle.fsb_coherent.specs.Relation.{IsOpen, Tied, chain_below, deferral_at, deferral_below, defers_line}
+use Rattle.fsb_coherent.specs.Relation.{is_dirty_below, is_moved_below, is_moved_for, is_responded_below}
+use Rattle.fsb_coherent.specs.Relation.{is_stored_below, replies_line}
 use Rattle.fsb_coherent.proofs.Steps.{chain-kept, deferral-more, moved_at-same, open-before, open-kept, responded-more}
 
 -- the past up to n has the same at n
@@ -74,13 +81,16 @@ entries-none p line n e = no-entries n line p.log e
 nothing-in : (q : Past) (line n : ℕ) → begun_at q n ≡ None → cancelled_in q n ≡ None → snooped_at q n ≡ None
     → responded_in q n ≡ None → ended_requests q n ≡ [] → entries_on q line n ≡ []
     → events_of_clock q line n ≡ []
-unfolding events_of_clock responds_on hits_on begins_on cancels_on snoops_on ends_on others_on events_of_ends is_some_and
-nothing-in q line n begun cancelled snooped responded ended entries = rw (begun, cancelled, snooped, responded, ended, entries) refl
+unfolding events_of_clock responds_on hits_on begins_on cancels_on snoops_on ends_on others_on events_of_ends
+    is_some_and
+nothing-in q line n begun cancelled snooped responded ended entries =
+    rw (begun, cancelled, snooped, responded, ended, entries) refl
 
 pub no_events : (p : Past) (line n : ℕ) → IsQuiet p n → events_at p line n ≡ []
 unfolding events_at
 no_events p line n h =
-    nothing-in (past_to p n) line n (begun-to p n ∙ h.begun) (cancelled-to p n ∙ h.cancelled) (snooped-to p n ∙ h.snooped) (responded-to p n ∙ h.responded) (ended-to p n ∙ h.ended) (entries-none p line n h.completed)
+    nothing-in (past_to p n) line n (begun-to p n ∙ h.begun) (cancelled-to p n ∙ h.cancelled) (snooped-to p n
+    ∙ h.snooped) (responded-to p n ∙ h.responded) (ended-to p n ∙ h.ended) (entries-none p line n h.completed)
 
 stays : (b : Bool) → (false || (b && not false)) ≡ b
 stays true = refl
@@ -110,7 +120,8 @@ holds-quiet : (p : Past) (a line n : ℕ) → IsQuiet p n → holds_line p a lin
 holds-quiet p a line n h =
     let granted = ungranted p a line n h.snooped in
     let lost = unlost p a line n h.begun h.snooped in
-    holds_line-more p a line n ∙ (λ i. granted i || (holds_line p a line n && not (lost i))) ∙ stays (holds_line p a line n)
+    holds_line-more p a line n ∙ (λ i. granted i || (holds_line p a line n && not (lost i)))
+    ∙ stays (holds_line p a line n)
 
 exclusive-quiet : (p : Past) (a line n : ℕ) → IsQuiet p n → is_exclusive p a line (n + 1) ≡ is_exclusive p a line n
 exclusive-quiet p a line n h =
@@ -118,7 +129,8 @@ exclusive-quiet p a line n h =
     let lost = unlost p a line n h.begun h.snooped in
     let named = unnamed p a line n h.snooped in
     is_exclusive-more p a line n
-    ∙ (λ i. if granted i then is_some_and (grant_at p n) is_sole_grant else (is_exclusive p a line n && (not (lost i) && not (named i))))
+    ∙ (λ i. if granted i then is_some_and (grant_at p n) is_sole_grant
+    else (is_exclusive p a line n && (not (lost i) && not (named i))))
     ∙ stays-so (is_exclusive p a line n)
 
 latest-quiet : (p : Past) (a line n : ℕ) → IsQuiet p n → latest_grant p a line (n + 1) ≡ latest_grant p a line n
@@ -127,13 +139,15 @@ latest-quiet p a line n h =
     latest_grant-more p a line n ∙ (λ i. if granted i then grant_at p n else latest_grant p a line n)
 
 no-new : (p : Past) (a line n q : ℕ) (log : List Done) → list_any (λ done. nat_eq done.clock n) log ≡ false
-    → list_any (λ done. is_store_on a line done && is_ended p done.clock q && nat_lt done.clock (n + 1)) log ≡ list_any (λ done. is_store_on a line done && is_ended p done.clock q && nat_lt done.clock n) log
+    → list_any (λ done. is_store_on a line done && is_ended p done.clock q && nat_lt done.clock (n + 1)) log
+    ≡ list_any (λ done. is_store_on a line done && is_ended p done.clock q && nat_lt done.clock n) log
 no-new p a line n q [] e = refl
 no-new p a line n q (done ∷ log) e =
     let parts = or_parts (nat_eq done.clock n) (list_any (λ d. nat_eq d.clock n) log) e in
     let rest = no-new p a line n q log parts.1 in
     let none = parts.0 in
-    let here : nat_lt done.clock (n + 1) ≡ nat_lt done.clock n = nat_lt-more done.clock n ∙ (λ i. nat_lt done.clock n || none i) ∙ or-nothing (nat_lt done.clock n) in
+    let here : nat_lt done.clock (n + 1) ≡ nat_lt done.clock n = nat_lt-more done.clock n
+    ∙ (λ i. nat_lt done.clock n || none i) ∙ or-nothing (nat_lt done.clock n) in
     λ i. (is_store_on a line done && is_ended p done.clock q && here i) || rest i
 
 stored-quiet : (p : Past) (a line n q : ℕ) → IsQuiet p n
@@ -167,7 +181,8 @@ responded-quiet p n q h =
     responded-more p n q ∙ (λ i. is_responded_below p n q || none i) ∙ or-nothing (is_responded_below p n q)
 
 chain-quiet : (p : Past) (line n : ℕ) → IsQuiet p n → chain_below p line (n + 1) ≡ chain_below p line n
-chain-quiet p line n h = chain-kept p line n (λ q. ended-quiet p n q h) ∙ rw h.snooped (append-nil (chain_below p line n))
+chain-quiet p line n h = chain-kept p line n (λ q. ended-quiet p n q h)
+    ∙ rw h.snooped (append-nil (chain_below p line n))
 
 undeferred : (p : Past) (line n : ℕ) → snooped_at p n ≡ None → defers_line p line n ≡ false
 unfolding defers_line is_some_and
@@ -181,15 +196,20 @@ deferral-quiet : (p : Past) (line n : ℕ) → IsQuiet p n → deferral_below p 
 deferral-quiet p line n h =
     let defers = undeferred p line n h.snooped in
     let replies = unreplied p line n h.snooped in
-    deferral-more p line n ∙ (λ i. if defers i then deferral_at p line n else (if replies i then None else deferral_below p line n))
+    deferral-more p line n
+    ∙ (λ i. if defers i then deferral_at p line n else (if replies i then None else deferral_below p line n))
 
 moved-quiet : (p : Past) (line n : ℕ) → IsQuiet p n → is_moved_below p line (n + 1) ≡ is_moved_below p line n
 unfolding is_moved_below is_some_and
 moved-quiet p line n h =
     let later = any_where-more (λ t. is_some_and (snooped_at p t) (is_moved_for p line (n + 1))) n in
     let here : is_some_and (snooped_at p n) (is_moved_for p line (n + 1)) ≡ false = rw h.snooped refl in
-    let same = any_where-same (λ t. is_some_and (snooped_at p t) (is_moved_for p line (n + 1))) (λ t. is_some_and (snooped_at p t) (is_moved_for p line n)) n
-    (record { same = λ t l. moved_at-same p line (n + 1) n (snooped_at p t) (λ q. ended-quiet p n q h) (λ q. responded-quiet p n q h) }) in
+    let same = any_where-same (λ t. is_some_and (snooped_at p t) (is_moved_for p line (n + 1)))
+    (λ t. is_some_and (snooped_at p t) (is_moved_for p line n)) n
+    (record {
+      same = λ t l. moved_at-same p line (n + 1) n (snooped_at p t) (λ q. ended-quiet p n q h)
+          (λ q. responded-quiet p n q h);
+    }) in
     later ∙ (λ i. same i || here i) ∙ or-nothing (is_moved_below p line n)
 
 uncancelled : (p : Past) (n q : ℕ) → cancelled_in p n ≡ None → is_at (cancelled_in p n) q ≡ false
@@ -199,7 +219,8 @@ uncancelled p n q e = rw e refl
 open-quiet : (p : Past) (a line n : ℕ) (request : OpenRequest) → IsQuiet p n → IsOpen p a line n request
     → IsOpen p a line (n + 1) request
 unfolding is_some_and
-open-quiet p a line n request h open_there = open-kept p a line n request open_there (uncancelled p n request.number h.cancelled) (rw h.snooped refl)
+open-quiet p a line n request h open_there =
+    open-kept p a line n request open_there (uncancelled p n request.number h.cancelled) (rw h.snooped refl)
 
 opened-quiet : (p : Past) (a line n : ℕ) (request : OpenRequest) → IsQuiet p n → IsOpen p a line (n + 1) request
     → IsOpen p a line n request
@@ -233,5 +254,6 @@ no-run x (f ∷ es) e = absurd (let impossible : ⊥ = cc in impossible)
 pub keeps-quiet : (p : Past) (line n : ℕ) → IsQuiet p n → KeepsTie p line n
 keeps-quiet p line n h = record {
   may = λ x ordered valued t. (no-run x (events_at p line n) (no_events p line n h)).0;
-  tied = λ x ordered valued t. subst (Tied p line (n + 1)) (sym (no-run x (events_at p line n) (no_events p line n h)).1) (tied-quiet p line n x h t);
+  tied = λ x ordered valued t. subst (Tied p line (n + 1))
+      (sym (no-run x (events_at p line n) (no_events p line n h)).1) (tied-quiet p line n x h t);
 }

@@ -1,5 +1,6 @@
 -- The response of a clock, where it puts data of the line on the bus.
-use Rattle.std.proofs.Common.{ℕ, ◌≡◌, Bool, true, false, ◌||◌, if◌then◌else◌, List, [], ◌∷◌, Option, Some, None, is_some, sym, ap, subst, ◌∙◌, refl, inl, inr}
+use Rattle.std.proofs.Common.{ℕ, ◌≡◌, Bool, true, false, ◌||◌, if◌then◌else◌, List, [], ◌∷◌, Option, Some, None}
+use Rattle.std.proofs.Common.{is_some, sym, ap, subst, ◌∙◌, refl, inl, inr}
 use Rattle.std.proofs.Math.Bool.{or-false}
 use Rattle.std.proofs.lemmas.Bool.{cases_Bool, or_right}
 use Rattle.fsb_line.specs.declared.link.Link.{Link}

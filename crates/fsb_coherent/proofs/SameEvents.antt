@@ -1,12 +1,14 @@
 -- The events of a clock, which are told by the past up to it, are those told by the whole past.
-use Rattle.std.proofs.Common.{ℕ, ◌+◌, ◌≤◌, ◌≡◌, not, ◌&&◌, if◌then◌else◌, nat_eq, List, [], ◌∷◌, ◌++◌, map, Option, Some, None, is_some, refl, sym, ap, ◌∙◌, inl, inr, arith, append_assoc}
+use Rattle.std.proofs.Common.{ℕ, ◌+◌, ◌≤◌, ◌≡◌, not, ◌&&◌, if◌then◌else◌, nat_eq, List, [], ◌∷◌, ◌++◌, map, Option}
+use Rattle.std.proofs.Common.{Some, None, is_some, refl, sym, ap, ◌∙◌, inl, inr, arith, append_assoc}
 use Rattle.std.proofs.lemmas.Bool.{cases_Bool, cases_lt, eqb-true}
 use Rattle.std.specs.List.{filter, list_any}
 use Rattle.std.specs.Option.{option_and_then, option_map_or}
 use Rattle.fsb_count.specs.Clocks.{any_where, first_where}
 use Rattle.fsb_count.specs.Options.{is_some_and}
 use Rattle.fsb_line.specs.declared.purpose.Purpose.{Purpose}
-use Rattle.fsb_line.specs.Events.Event.{Begins, Drops, Ends, IsCancelled, IsDeferred, IsGranted, IsHanded, IsLost, IsReplied, IsRetried, IsUpgraded, IsWritten, Responds}
+use Rattle.fsb_line.specs.Events.Event.{Begins, Drops, Ends, IsCancelled, IsDeferred, IsGranted, IsHanded, IsLost}
+use Rattle.fsb_line.specs.Events.Event.{IsReplied, IsRetried, IsUpgraded, IsWritten, Responds}
 use Rattle.fsb_trace.specs.declared.outcome.Outcome.TheVariants as outcomes
 use Rattle.fsb_timely.specs.Grants.{begun_at, ended_requests, holds_line, is_rival}
 use Rattle.fsb_timely.specs.Hits.{is_dirty, is_hit}
@@ -17,10 +19,15 @@ use Rattle.fsb_timely.specs.Snoops.{is_held_elsewhere}
 use Rattle.fsb_timely.proofs.Interface.{going-alike, rival-same}
 use Rattle.fsb_coherent.specs.Awaits.{awaited_at, cancelled_in, owner_at, purpose_of, purpose_wanted}
 use Rattle.fsb_coherent.specs.Facts.{BeginsInOrder}
-use Rattle.fsb_coherent.specs.LineEvents.{access_event, awaited_events, awaiting_stores, begin_events, begins_on, cancel_events, cancels_on, changes_of, claimed_events, end_events, ends_on, events_at, events_of_clock, events_of_ends, hits_on, is_awaited_for, is_brought_to, is_of_other_line, moves_on, others_on, responds_on, settled_events, snoop_events, snoops_on}
+use Rattle.fsb_coherent.specs.LineEvents.{access_event, awaited_events, awaiting_stores, begin_events, begins_on}
+use Rattle.fsb_coherent.specs.LineEvents.{cancel_events, cancels_on, changes_of, claimed_events, end_events, ends_on}
+use Rattle.fsb_coherent.specs.LineEvents.{events_at, events_of_clock, events_of_ends, hits_on, is_awaited_for}
+use Rattle.fsb_coherent.specs.LineEvents.{is_brought_to, is_of_other_line, moves_on, others_on, responds_on}
+use Rattle.fsb_coherent.specs.LineEvents.{settled_events, snoop_events, snoops_on}
 use Rattle.fsb_coherent.specs.BeforeSnoop.{events_before_snoop, events_from_snoop}
 use Rattle.fsb_coherent.proofs.QuietClocks.{begun-to, cancelled-to, ended-to, responded-to, snooped-to}
-use Rattle.fsb_coherent.proofs.WordsTo.{GoesOnAt, awaited-to, begun-behind, begun-below, dirty-to, entries-to, hit-to, holds-to, purpose-to}
+use Rattle.fsb_coherent.proofs.WordsTo.{GoesOnAt, awaited-to, begun-behind, begun-below, dirty-to, entries-to, hit-to}
+use Rattle.fsb_coherent.proofs.WordsTo.{holds-to, purpose-to}
 
 -- the response, the hits and the request that begins
 responds-to : (p : Past) (line n : ℕ) → responds_on (past_to p n) line n ≡ responds_on p line n

@@ -1,5 +1,6 @@
 -- A clock without a snoop end on the line: the line of the machine behind it is that of before.
-use Rattle.std.proofs.Common.{ℕ, ◌≡◌, Bool, true, false, not, ◌&&◌, ◌||◌, ◌++◌, if◌then◌else◌, nat_eq, [], Option, Some, None, refl, sym, ap, ◌∙◌, inl, inr, append-nil}
+use Rattle.std.proofs.Common.{ℕ, ◌≡◌, Bool, true, false, not, ◌&&◌, ◌||◌, ◌++◌, if◌then◌else◌, nat_eq, [], Option, Some}
+use Rattle.std.proofs.Common.{None, refl, sym, ap, ◌∙◌, inl, inr, append-nil}
 use Rattle.std.proofs.Math.Bool.{and-true}
 use Rattle.std.proofs.lemmas.Bool.{and_right, cases_Bool, eq-eqb, eqb-true, false_from_ne_true}
 use Rattle.std.specs.Option.{option_map_or}
@@ -8,7 +9,8 @@ use Rattle.fsb_line.specs.Line.{MemoryLine, OpenRequest}
 use Rattle.fsb_line.specs.States.{is_held, is_modified, is_sole}
 use Rattle.fsb_trace.specs.Outcome.{is_deferral}
 use Rattle.fsb_timely.specs.Past.{Claim, Grant, Past, SnoopEnd}
-use Rattle.fsb_timely.specs.Grants.{begun_at, grant_at, is_claim_of, is_claim_of_other, is_granted, is_named_by_other, is_snooped, is_sole_grant, is_taken_away, is_written_back, snooped_at}
+use Rattle.fsb_timely.specs.Grants.{begun_at, grant_at, is_claim_of, is_claim_of_other, is_granted, is_named_by_other}
+use Rattle.fsb_timely.specs.Grants.{is_snooped, is_sole_grant, is_taken_away, is_written_back, snooped_at}
 use Rattle.fsb_timely.specs.Moments.{is_snoop_of}
 use Rattle.fsb_coherent.specs.Awaits.{Awaited, awaited_by, awaited_by_claim, awaited_by_grant, is_written}
 use Rattle.fsb_coherent.specs.Facts.{SettlesInOrder}

@@ -1,5 +1,6 @@
 -- How a request is settled, and which grant it makes.
-use Rattle.std.proofs.Common.{ℕ, ◌+◌, ◌<◌, ◌≡◌, Bool, true, false, nat_eq, nat_le, List, Option, Some, None, length, slice_index, refl, sym, ap, ◌∙◌, inl, inr, arith}
+use Rattle.std.proofs.Common.{ℕ, ◌+◌, ◌<◌, ◌≡◌, Bool, true, false, nat_eq, nat_le, List, Option, Some, None, length}
+use Rattle.std.proofs.Common.{slice_index, refl, sym, ap, ◌∙◌, inl, inr, arith}
 use Rattle.std.proofs.lemmas.Bool.{cases_Bool, le-leb, ne_eqb}
 use Rattle.std.specs.Option.{option_map}
 use Rattle.fsb_count.specs.Options.{is_some_and}
@@ -18,7 +19,8 @@ use Rattle.fsb_trace.specs.Requests.{is_reply, live_clock_of, live_request_of}
 use Rattle.fsb_trace.specs.Snoop.{snoop_end_of}
 use Rattle.fsb_trace.proofs.Interface.{request_at-agree, snoop_end_of-clock}
 use Rattle.fsb_timely.specs.Grants.{snooped_at}
-use Rattle.fsb_timely.specs.Moments.{claim_at, effective_choice, gives_line, grant_for, grant_of, live_claim_of, number_of_turn, served_number, snoop_end_with, turns_in}
+use Rattle.fsb_timely.specs.Moments.{claim_at, effective_choice, gives_line, grant_for, grant_of, live_claim_of}
+use Rattle.fsb_timely.specs.Moments.{number_of_turn, served_number, snoop_end_with, turns_in}
 use Rattle.fsb_timely.specs.Past.{Claim, Past, SnoopEnd}
 use Rattle.fsb_timely.specs.Runs.{Run, moments_below, past_of, run_to}
 use Rattle.fsb_timely.specs.Tied.{IsSnoopOf}
@@ -49,7 +51,8 @@ settled-says : (w : Trace) (turns : List ℕ) (i t : ℕ) (outcome : Outcome) �
     → settled_outcome_of w turns i ≡ Some outcome → settled_by w (slice_index turns i) i t ≡ outcome
 unfolding settled_outcome_of
 settled-says w turns i t outcome e f =
-    let g : option_map (settled_by w (slice_index turns i) i) (snoop_end_of w i) ≡ Some (settled_by w (slice_index turns i) i t) = ap (option_map (settled_by w (slice_index turns i) i)) e in
+    let g : option_map (settled_by w (slice_index turns i) i) (snoop_end_of w i)
+    ≡ Some (settled_by w (slice_index turns i) i t) = ap (option_map (settled_by w (slice_index turns i) i)) e in
     let h = sym g ∙ f in cc
 
 -- a snoop end has the outcome that HITM#, its turn and its request make
@@ -101,7 +104,8 @@ grant-made r t s claim e f not_reply =
     let h : IsSnoopOf r i t s = tied.1 in
     h.grant ∙ grant-form (past_of r) r.trace i s.first t s.outcome claim h.first (sym h.claim ∙ f) not_reply
 
-turn-form : (bridge : Option Window) (choices : List Choice) (w : Trace) (turns : List ℕ) (q t : ℕ) (o : Option Request) → request_at w q ≡ o → is_always_kept o ≡ true
+turn-form : (bridge : Option Window) (choices : List Choice) (w : Trace) (turns : List ℕ) (q t : ℕ)
+    (o : Option Request) → request_at w q ≡ o → is_always_kept o ≡ true
     → (effective_choice bridge choices w turns q t).turn ≡ Keep
 unfolding effective_choice is_always_kept is_some_and
 turn-form bridge choices w turns q t None e kept = absurd (let x : ⊥ = cc in x)
@@ -109,7 +113,9 @@ turn-form bridge choices w turns q t (Some request) e kept =
     let always : is_never_held_up request.kind ≡ true = kept in rw (e, effective_choice, always) refl
 
 turn-of : (r : Run) (t i q : ℕ)
-    → (snoop_of r t i q).turn ≡ (effective_choice r.plan.bridge (run_to r t).choices (run_to r t).trace (turns_in (moments_below r t)) q t).turn
+    → (snoop_of r t i q).turn
+    ≡ (effective_choice r.plan.bridge (run_to r t).choices (run_to r t).trace (turns_in (moments_below r t))
+    q t).turn
 unfolding snoop_end_with
 turn-of r t i q = refl
 
@@ -124,8 +130,11 @@ turn-kept r t s e kept =
     let above = c.above in
     let within : t < length r.trace = c.within in
     let clock : c.clock ≡ s.first = (let e' = sym c.is_clock ∙ h.first in cc) in
-    let there : Some s ≡ Some (snoop_of r t i s.first) = sym e ∙ snooped-there r t within ∙ moment-snooped r i t s.first h.reached h.first in
+    let there : Some s ≡ Some (snoop_of r t i s.first) = sym e ∙ snooped-there r t within
+    ∙ moment-snooped r i t s.first h.reached h.first in
     let same : s ≡ snoop_of r t i s.first = cc in
-    let request = request_at-agree (t + 1) r.trace (run_to r t).trace s.first (run_to-agrees r t within) (omega arith) in
+    let request = request_at-agree (t + 1) r.trace (run_to r t).trace s.first (run_to-agrees r t within)
+    (omega arith) in
     ap (λ x. x.turn) same ∙ turn-of r t i s.first
-    ∙ turn-form r.plan.bridge (run_to r t).choices (run_to r t).trace (turns_in (moments_below r t)) s.first t (request_at r.trace s.first) (sym request) kept
+    ∙ turn-form r.plan.bridge (run_to r t).choices (run_to r t).trace (turns_in (moments_below r t)) s.first t
+    (request_at r.trace s.first) (sym request) kept

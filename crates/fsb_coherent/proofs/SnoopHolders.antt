@@ -1,5 +1,6 @@
 -- Who holds a line after a snoop end on it is who holds it in the run.
-use Rattle.std.proofs.Common.{ℕ, ◌≡◌, ◌==◌, Bool, true, false, cond, not, ◌&&◌, ◌||◌, nat_eq, Option, Some, None, is_some, refl, sym, ap, subst, ◌∙◌}
+use Rattle.std.proofs.Common.{ℕ, ◌≡◌, ◌==◌, Bool, true, false, cond, not, ◌&&◌, ◌||◌, nat_eq, Option, Some, None}
+use Rattle.std.proofs.Common.{is_some, refl, sym, ap, subst, ◌∙◌}
 use Rattle.std.proofs.lemmas.Bool.{eq-eqb, eqb-true}
 use Rattle.fsb_count.specs.Options.{is_some_and}
 use Rattle.fsb_count.proofs.Interface.{nat_eq-sym}
@@ -22,7 +23,8 @@ use Rattle.fsb_timely.specs.Past.{Past, SnoopEnd}
 use Rattle.fsb_timely.specs.Runs.{past_to}
 use Rattle.fsb_timely.specs.Snoops.{is_held_elsewhere}
 use Rattle.fsb_coherent.specs.Awaits.{owner_at, purpose_of}
-use Rattle.fsb_coherent.specs.Fitting.{IsSnoopOn, IsUncontested, fits_getting, fits_kind, fits_upgrade, fits_write_back, is_granted_by, is_lost_by}
+use Rattle.fsb_coherent.specs.Fitting.{IsSnoopOn, IsUncontested, fits_getting, fits_kind, fits_upgrade, fits_write_back}
+use Rattle.fsb_coherent.specs.Fitting.{is_granted_by, is_lost_by}
 use Rattle.fsb_coherent.specs.LineEvents.{claimed_events, settled_events, snoop_events}
 use Rattle.fsb_coherent.proofs.SnoopLinks.{end_with, grant_if, grant_with, whole-end}
 
@@ -42,7 +44,8 @@ by-agent true t u w o g gp h own other e f k x y =
     x refl ∙ (λ i. g || (h && not (sym (or-nothing w) i)))
     ∙ sym ((λ i. k i || (h && not ((t && w) || (u && o)))) ∙ (λ i. (e i && g) || (h && not ((e i && w) || (f i && o)))))
 by-agent false t u w o g gp h own other e f k x y =
-    y ∙ sym ((λ i. k i || (h && not ((t && w) || (u && o)))) ∙ (λ i. (e i && g) || (h && not ((e i && w) || (f i && o)))))
+    y ∙ sym ((λ i. k i || (h && not ((t && w) || (u && o))))
+    ∙ (λ i. (e i && g) || (h && not ((e i && w) || (f i && o)))))
 
 and-same : (b : Bool) → (b && true) ≡ b
 and-same true = refl
@@ -50,11 +53,13 @@ and-same false = refl
 
 held-of : (b agent : ℕ) (st own other : Mesi) (w o g gp : Bool) → gp ≡ ((nat_eq agent b && true) && g)
     → ((b == agent) ≡ true → is_held own ≡ (g || (is_held st && not w))) → is_held other ≡ (is_held st && not o)
-    → is_held (cond (b == agent) own other) ≡ (gp || (is_held st && not (((nat_eq agent b && true) && w) || ((not (nat_eq agent b) && true) && o))))
+    → is_held (cond (b == agent) own other)
+    ≡ (gp || (is_held st && not (((nat_eq agent b && true) && w) || ((not (nat_eq agent b) && true) && o))))
 held-of b agent st own other w o g gp k x y =
     let swap : nat_eq agent b ≡ (b == agent) = nat_eq-sym agent b in
     held-cond (b == agent) own other
-    ∙ by-agent (b == agent) (nat_eq agent b && true) (not (nat_eq agent b) && true) w o g gp (is_held st) (is_held own) (is_held other)
+    ∙ by-agent (b == agent) (nat_eq agent b && true) (not (nat_eq agent b) && true) w o g gp (is_held st)
+    (is_held own) (is_held other)
     (and-same (nat_eq agent b) ∙ swap) (and-same (not (nat_eq agent b)) ∙ ap not swap) k x y
 
 same-true : (b : Bool) → b ≡ (b && true)
@@ -92,52 +97,106 @@ lost-held s e = ap (λ b. is_held (cond b Modified Invalid)) e ∙ sym (ap (λ b
 -- who holds the line after the snoop end: who gets it there, and who held it and does not lose it
 abbrev HeldBy : Past → ℕ → ℕ → SnoopEnd → MemoryLine → ℕ → Type 0
 HeldBy p line n s x b =
-    is_held ((run x (snoop_events (past_to p n) line n s)).state b) ≡ (is_granted_by s b line || (is_held (x.state b) && not (is_lost_by s b line)))
+    is_held ((run x (snoop_events (past_to p n) line n s)).state b)
+    ≡ (is_granted_by s b line || (is_held (x.state b) && not (is_lost_by s b line)))
 
-handed-read : (p : Past) (line n first agent : ℕ) (turn : Turn) (owns shared : Bool) (x : MemoryLine) (b : ℕ) (o : Option ℕ) → nat_eq line line ≡ true
+handed-read : (p : Past) (line n first agent : ℕ) (turn : Turn) (owns shared : Bool) (x : MemoryLine) (b : ℕ)
+    (o : Option ℕ) → nat_eq line line ≡ true
     → owner_at (past_to p n) agent line n ≡ o → is_some o ≡ true
-    → HeldBy p line n (end_with first agent line kinds.Read turn Handed (Some (grant_with first agent line owns shared))) x b
-unfolding snoop_events claimed_events settled_events is_upgraded is_got makes_grant purpose_of is_granted_by is_lost_by is_some_and is_snooped is_claim_of is_claim_of_other is_owning is_write_back_kind fits_kind fits_getting fits_upgrade fits_write_back after effect given linked settled trimmed
+    → HeldBy p line n
+    (end_with first agent line kinds.Read turn Handed (Some (grant_with first agent line owns shared))) x b
+unfolding snoop_events claimed_events settled_events is_upgraded is_got makes_grant purpose_of is_granted_by
+    is_lost_by is_some_and is_snooped is_claim_of is_claim_of_other is_owning is_write_back_kind fits_kind
+    fits_getting fits_upgrade fits_write_back after effect given linked settled trimmed
 handed-read p line n first agent turn owns shared x b None e g h = absurd (let no : ⊥ = cc in no)
-handed-read p line n first agent turn owns shared x b (Some owner) e g h = rw (e, g) (held-of b agent (x.state b) (Shared) (after_snoop (x.state b) purposes.Read) false false true (nat_eq agent b && true) (same-true (nat_eq agent b && true)) (λ m. refl) (kept-by-read (x.state b)))
+handed-read p line n first agent turn owns shared x b (Some owner) e g h =
+    rw (e, g) (held-of b agent (x.state b) (Shared) (after_snoop (x.state b) purposes.Read) false false true
+    (nat_eq agent b && true) (same-true (nat_eq agent b && true)) (λ m. refl) (kept-by-read (x.state b)))
 
-handed-own : (p : Past) (line n first agent : ℕ) (turn : Turn) (owns shared : Bool) (x : MemoryLine) (b : ℕ) (o : Option ℕ) → nat_eq line line ≡ true
+handed-own : (p : Past) (line n first agent : ℕ) (turn : Turn) (owns shared : Bool) (x : MemoryLine) (b : ℕ)
+    (o : Option ℕ) → nat_eq line line ≡ true
     → owner_at (past_to p n) agent line n ≡ o → is_some o ≡ true
-    → HeldBy p line n (end_with first agent line kinds.Invalidate turn Handed (Some (grant_with first agent line owns shared))) x b
-unfolding snoop_events claimed_events settled_events is_upgraded is_got makes_grant purpose_of is_granted_by is_lost_by is_some_and is_snooped is_claim_of is_claim_of_other is_owning is_write_back_kind fits_kind fits_getting fits_upgrade fits_write_back after effect given linked settled trimmed
+    → HeldBy p line n (end_with first agent line kinds.Invalidate turn Handed
+    (Some (grant_with first agent line owns shared))) x b
+unfolding snoop_events claimed_events settled_events is_upgraded is_got makes_grant purpose_of is_granted_by
+    is_lost_by is_some_and is_snooped is_claim_of is_claim_of_other is_owning is_write_back_kind fits_kind
+    fits_getting fits_upgrade fits_write_back after effect given linked settled trimmed
 handed-own p line n first agent turn owns shared x b None e g h = absurd (let no : ⊥ = cc in no)
-handed-own p line n first agent turn owns shared x b (Some owner) e g h = rw (e, g) (held-of b agent (x.state b) (Modified) (Invalid) false true true (nat_eq agent b && true) (same-true (nat_eq agent b && true)) (λ m. refl) (none-held (is_held (x.state b))))
+handed-own p line n first agent turn owns shared x b (Some owner) e g h =
+    rw (e, g) (held-of b agent (x.state b) (Modified) (Invalid) false true true (nat_eq agent b && true)
+    (same-true (nat_eq agent b && true)) (λ m. refl) (none-held (is_held (x.state b))))
 
-handed-upgrade : (p : Past) (line n first agent : ℕ) (turn : Turn) (owns shared : Bool) (x : MemoryLine) (b : ℕ) (o : Option ℕ) → nat_eq line line ≡ true
+handed-upgrade : (p : Past) (line n first agent : ℕ) (turn : Turn) (owns shared : Bool) (x : MemoryLine) (b : ℕ)
+    (o : Option ℕ) → nat_eq line line ≡ true
     → owner_at (past_to p n) agent line n ≡ o → is_some o ≡ true
-    → HeldBy p line n (end_with first agent line kinds.Upgrade turn Handed (Some (grant_with first agent line owns shared))) x b
-unfolding snoop_events claimed_events settled_events is_upgraded is_got makes_grant purpose_of is_granted_by is_lost_by is_some_and is_snooped is_claim_of is_claim_of_other is_owning is_write_back_kind fits_kind fits_getting fits_upgrade fits_write_back after effect given linked settled trimmed
+    → HeldBy p line n
+    (end_with first agent line kinds.Upgrade turn Handed (Some (grant_with first agent line owns shared))) x b
+unfolding snoop_events claimed_events settled_events is_upgraded is_got makes_grant purpose_of is_granted_by
+    is_lost_by is_some_and is_snooped is_claim_of is_claim_of_other is_owning is_write_back_kind fits_kind
+    fits_getting fits_upgrade fits_write_back after effect given linked settled trimmed
 handed-upgrade p line n first agent turn owns shared x b None e g h = absurd (let no : ⊥ = cc in no)
-handed-upgrade p line n first agent turn owns shared x b (Some owner) e g h = rw (e, g) (held-of b agent (x.state b) (Modified) (Invalid) false true true (nat_eq agent b && true) (same-true (nat_eq agent b && true)) (λ m. refl) (none-held (is_held (x.state b))))
+handed-upgrade p line n first agent turn owns shared x b (Some owner) e g h =
+    rw (e, g) (held-of b agent (x.state b) (Modified) (Invalid) false true true (nat_eq agent b && true)
+    (same-true (nat_eq agent b && true)) (λ m. refl) (none-held (is_held (x.state b))))
 
-holders : (p : Past) (line n first agent : ℕ) (kind : Kind) (outcome : Outcome) (turn : Turn) (won owns shared : Bool) (x : MemoryLine) (b : ℕ) → nat_eq line line ≡ true → fits_kind kind outcome ≡ true
+holders : (p : Past) (line n first agent : ℕ) (kind : Kind) (outcome : Outcome) (turn : Turn)
+    (won owns shared : Bool) (x : MemoryLine) (b : ℕ) → nat_eq line line ≡ true → fits_kind kind outcome ≡ true
     → (outcome ≡ Handed → is_some (owner_at (past_to p n) agent line n) ≡ true) → won ≡ is_held (x.state agent)
-    → HeldBy p line n (end_with first agent line kind turn outcome (grant_if first agent line kind outcome won owns shared)) x b
-unfolding snoop_events claimed_events settled_events is_upgraded is_got makes_grant purpose_of is_granted_by is_lost_by is_some_and is_snooped is_claim_of is_claim_of_other is_owning is_write_back_kind fits_kind fits_getting fits_upgrade fits_write_back after effect given linked settled trimmed
-holders p line n first agent kinds.Read Granted turn won owns shared x b e h o w = rw e (held-of b agent (x.state b) (granted purposes.Read (is_held_elsewhere (past_to p n) agent line n)) (after_snoop (x.state b) purposes.Read) false false true (nat_eq agent b && true) (same-true (nat_eq agent b && true)) (λ m. granted-held (is_held_elsewhere (past_to p n) agent line n)) (kept-by-read (x.state b)))
-holders p line n first agent kinds.Read Handed turn won owns shared x b e h o w = handed-read p line n first agent turn owns shared x b (owner_at (past_to p n) agent line n) e refl (o refl)
-holders p line n first agent kinds.Read Retried turn won owns shared x b e h o w = rw e (held-of b agent (x.state b) (x.state b) (after_snoop (x.state b) purposes.Read) false false false false (none-false (nat_eq agent b && true)) (λ m. kept-held (is_held (x.state b))) (kept-by-read (x.state b)))
-holders p line n first agent kinds.Read Deferred turn won owns shared x b e h o w = rw e (held-of b agent (x.state b) (x.state b) (after_snoop (x.state b) purposes.Read) false false false false (none-false (nat_eq agent b && true)) (λ m. kept-held (is_held (x.state b))) (kept-by-read (x.state b)))
-holders p line n first agent kinds.Invalidate Granted turn won owns shared x b e h o w = rw e (held-of b agent (x.state b) (Modified) (Invalid) false true true (nat_eq agent b && true) (same-true (nat_eq agent b && true)) (λ m. refl) (none-held (is_held (x.state b))))
-holders p line n first agent kinds.Invalidate Retried turn won owns shared x b e h o w = rw e (held-of b agent (x.state b) (x.state b) (Invalid) false true false false (none-false (nat_eq agent b && true)) (λ m. kept-held (is_held (x.state b))) (none-held (is_held (x.state b))))
-holders p line n first agent kinds.Invalidate Deferred turn won owns shared x b e h o w = rw e (held-of b agent (x.state b) (x.state b) (Invalid) false true false false (none-false (nat_eq agent b && true)) (λ m. kept-held (is_held (x.state b))) (none-held (is_held (x.state b))))
-holders p line n first agent kinds.Upgrade Retried turn won owns shared x b e h o w = rw e (held-of b agent (x.state b) (x.state b) (Invalid) false true false false (none-false (nat_eq agent b && true)) (λ m. kept-held (is_held (x.state b))) (none-held (is_held (x.state b))))
-holders p line n first agent kinds.Upgrade Upgraded turn true owns shared x b e h o w = rw e (held-of b agent (x.state b) (cond (is_held (x.state b)) Modified Invalid) (Invalid) false true true (nat_eq agent b && true) (same-true (nat_eq agent b && true)) (λ m. won-held (x.state b) (ap (λ a. is_held (x.state a)) (eqb-true b agent m) ∙ sym w)) (none-held (is_held (x.state b))))
-holders p line n first agent kinds.Upgrade Upgraded turn false owns shared x b e h o w = rw e (held-of b agent (x.state b) (cond (is_held (x.state b)) Modified Invalid) (Invalid) false true false false (none-false (nat_eq agent b && true)) (λ m. lost-held (x.state b) (ap (λ a. is_held (x.state a)) (eqb-true b agent m) ∙ sym w)) (none-held (is_held (x.state b))))
-holders p line n first agent kinds.WriteBack Written turn won owns shared x b e h o w = rw e (held-of b agent (x.state b) (Invalid) (x.state b) true false false false (none-false (nat_eq agent b && true)) (λ m. none-held (is_held (x.state b))) (kept-held (is_held (x.state b))))
-holders p line n first agent kinds.Invalidate Handed turn won owns shared x b e h o w = handed-own p line n first agent turn owns shared x b (owner_at (past_to p n) agent line n) e refl (o refl)
-holders p line n first agent kinds.Upgrade Handed turn won owns shared x b e h o w = handed-upgrade p line n first agent turn owns shared x b (owner_at (past_to p n) agent line n) e refl (o refl)
+    → HeldBy p line n
+    (end_with first agent line kind turn outcome (grant_if first agent line kind outcome won owns shared)) x b
+unfolding snoop_events claimed_events settled_events is_upgraded is_got makes_grant purpose_of is_granted_by
+    is_lost_by is_some_and is_snooped is_claim_of is_claim_of_other is_owning is_write_back_kind fits_kind
+    fits_getting fits_upgrade fits_write_back after effect given linked settled trimmed
+holders p line n first agent kinds.Read Granted turn won owns shared x b e h o w =
+    rw e (held-of b agent (x.state b) (granted purposes.Read (is_held_elsewhere (past_to p n) agent line n))
+    (after_snoop (x.state b) purposes.Read) false false true (nat_eq agent b && true)
+    (same-true (nat_eq agent b && true)) (λ m. granted-held (is_held_elsewhere (past_to p n) agent line n))
+    (kept-by-read (x.state b)))
+holders p line n first agent kinds.Read Handed turn won owns shared x b e h o w =
+    handed-read p line n first agent turn owns shared x b (owner_at (past_to p n) agent line n) e refl (o refl)
+holders p line n first agent kinds.Read Retried turn won owns shared x b e h o w =
+    rw e (held-of b agent (x.state b) (x.state b) (after_snoop (x.state b) purposes.Read) false false false
+    false (none-false (nat_eq agent b && true)) (λ m. kept-held (is_held (x.state b))) (kept-by-read (x.state b)))
+holders p line n first agent kinds.Read Deferred turn won owns shared x b e h o w =
+    rw e (held-of b agent (x.state b) (x.state b) (after_snoop (x.state b) purposes.Read) false false false
+    false (none-false (nat_eq agent b && true)) (λ m. kept-held (is_held (x.state b))) (kept-by-read (x.state b)))
+holders p line n first agent kinds.Invalidate Granted turn won owns shared x b e h o w =
+    rw e (held-of b agent (x.state b) (Modified) (Invalid) false true true (nat_eq agent b && true)
+    (same-true (nat_eq agent b && true)) (λ m. refl) (none-held (is_held (x.state b))))
+holders p line n first agent kinds.Invalidate Retried turn won owns shared x b e h o w =
+    rw e (held-of b agent (x.state b) (x.state b) (Invalid) false true false false
+    (none-false (nat_eq agent b && true)) (λ m. kept-held (is_held (x.state b))) (none-held (is_held (x.state b))))
+holders p line n first agent kinds.Invalidate Deferred turn won owns shared x b e h o w =
+    rw e (held-of b agent (x.state b) (x.state b) (Invalid) false true false false
+    (none-false (nat_eq agent b && true)) (λ m. kept-held (is_held (x.state b))) (none-held (is_held (x.state b))))
+holders p line n first agent kinds.Upgrade Retried turn won owns shared x b e h o w =
+    rw e (held-of b agent (x.state b) (x.state b) (Invalid) false true false false
+    (none-false (nat_eq agent b && true)) (λ m. kept-held (is_held (x.state b))) (none-held (is_held (x.state b))))
+holders p line n first agent kinds.Upgrade Upgraded turn true owns shared x b e h o w =
+    rw e (held-of b agent (x.state b) (cond (is_held (x.state b)) Modified Invalid) (Invalid) false true true
+    (nat_eq agent b && true) (same-true (nat_eq agent b && true))
+    (λ m. won-held (x.state b) (ap (λ a. is_held (x.state a)) (eqb-true b agent m) ∙ sym w))
+    (none-held (is_held (x.state b))))
+holders p line n first agent kinds.Upgrade Upgraded turn false owns shared x b e h o w =
+    rw e (held-of b agent (x.state b) (cond (is_held (x.state b)) Modified Invalid) (Invalid) false true false
+    false (none-false (nat_eq agent b && true))
+    (λ m. lost-held (x.state b) (ap (λ a. is_held (x.state a)) (eqb-true b agent m) ∙ sym w))
+    (none-held (is_held (x.state b))))
+holders p line n first agent kinds.WriteBack Written turn won owns shared x b e h o w =
+    rw e (held-of b agent (x.state b) (Invalid) (x.state b) true false false false
+    (none-false (nat_eq agent b && true)) (λ m. none-held (is_held (x.state b))) (kept-held (is_held (x.state b))))
+holders p line n first agent kinds.Invalidate Handed turn won owns shared x b e h o w =
+    handed-own p line n first agent turn owns shared x b (owner_at (past_to p n) agent line n) e refl (o refl)
+holders p line n first agent kinds.Upgrade Handed turn won owns shared x b e h o w =
+    handed-upgrade p line n first agent turn owns shared x b (owner_at (past_to p n) agent line n) e refl (o refl)
 holders p line n first agent _ _ turn won owns shared x b e h o w = absurd (let no : ⊥ = cc in no)
 
 -- an upgrade is won where the agent of the machine holds the line
 pub holders-made : (p : Past) (line n : ℕ) (s : SnoopEnd) (x : MemoryLine) (h : IsSnoopOn p line n s)
     → IsUncontested h.kind s.outcome → h.won ≡ is_held (x.state h.agent) → (b : ℕ)
-    → is_held ((run x (snoop_events (past_to p n) line n s)).state b) ≡ (is_granted_by s b line || (is_held (x.state b) && not (is_lost_by s b line)))
+    → is_held ((run x (snoop_events (past_to p n) line n s)).state b)
+    ≡ (is_granted_by s b line || (is_held (x.state b) && not (is_lost_by s b line)))
 holders-made p line n s x h alone w b =
     subst (λ t. HeldBy p line n t x b) (whole-end p line n s h)
-    (holders p line n s.first h.agent h.kind s.outcome s.turn h.won h.owns h.shared x b (eq-eqb line line refl) (h.fits alone) h.owned w)
+    (holders p line n s.first h.agent h.kind s.outcome s.turn h.won h.owns h.shared x b (eq-eqb line line refl)
+    (h.fits alone) h.owned w)

@@ -59,7 +59,8 @@ may : (p : Past) (line n first agent : ℕ) (kind : Kind) (outcome : Outcome) (t
     → CanSettle p line n agent kind outcome won x
     → MayFor p line n (end_with first agent line kind turn outcome
     (grant_if first agent line kind outcome won owns shared)) x
-unfolding snoop_events claimed_events settled_events is_upgraded is_got makes_grant purpose_of fits_kind fits_getting fits_upgrade fits_write_back May
+unfolding snoop_events claimed_events settled_events is_upgraded is_got makes_grant purpose_of fits_kind
+    fits_getting fits_upgrade fits_write_back May
 may p line n first agent kinds.Read Granted turn won owns shared x e h c =
     rw e (
       record {

@@ -1,6 +1,7 @@
 -- The snoop end of a reply that grants a line: its event may happen, and the line of the machine behind it is that of
 -- the run.
-use Rattle.std.proofs.Common.{ℕ, ◌+◌, ◌≡◌, ◌==◌, Bool, true, false, cond, not, ◌&&◌, ◌||◌, ◌++◌, if◌then◌else◌, nat_eq, is_some, [], ◌∷◌, Option, Some, None, refl, sym, ap, subst, ◌∙◌, inl, inr}
+use Rattle.std.proofs.Common.{ℕ, ◌+◌, ◌≡◌, ◌==◌, Bool, true, false, cond, not, ◌&&◌, ◌||◌, ◌++◌, if◌then◌else◌, nat_eq}
+use Rattle.std.proofs.Common.{is_some, [], ◌∷◌, Option, Some, None, refl, sym, ap, subst, ◌∙◌, inl, inr}
 use Rattle.std.proofs.Math.Bool.{and-true}
 use Rattle.std.proofs.lemmas.Bool.{and_right, cases_Bool, eq-eqb, eqb-true}
 use Rattle.fsb_count.specs.Options.{is_some_and}
@@ -17,11 +18,13 @@ use Rattle.fsb_line.specs.States.{gets_line, granted, is_held, is_modified, is_s
 use Rattle.fsb_line.proofs.Interface.{granted_owns}
 use Rattle.fsb_trace.specs.Outcome.{is_deferral}
 use Rattle.fsb_timely.specs.Past.{Grant, Past, SnoopEnd}
-use Rattle.fsb_timely.specs.Grants.{grant_at, is_granted, is_named_by_other, is_snooped, is_sole_grant, is_taken_away, is_written_back, snooped_at}
+use Rattle.fsb_timely.specs.Grants.{grant_at, is_granted, is_named_by_other, is_snooped, is_sole_grant, is_taken_away}
+use Rattle.fsb_timely.specs.Grants.{is_written_back, snooped_at}
 use Rattle.fsb_timely.specs.Moments.{is_snoop_of}
 use Rattle.fsb_coherent.specs.Awaits.{awaited_by, awaited_by_grant}
 use Rattle.fsb_coherent.specs.Facts.{IsRepliedOn, SettlesInOrder}
-use Rattle.fsb_coherent.specs.Relation.{deferral_at, deferral_below, defers_line, giver_at, link_for, purpose_at, purpose_granted, replies_line}
+use Rattle.fsb_coherent.specs.Relation.{deferral_at, deferral_below, defers_line, giver_at, link_for, purpose_at}
+use Rattle.fsb_coherent.specs.Relation.{purpose_granted, replies_line}
 use Rattle.fsb_coherent.specs.BeforeSnoop.{IsOpenThrough, TiedThrough}
 use Rattle.fsb_coherent.proofs.Behind.{TiedBehind, links_new}
 use Rattle.fsb_coherent.proofs.FromThrough.{dirty-from, exclusive-from, holds-from, open-behind, open-through}

@@ -38,7 +38,8 @@ closes : (p : Past) (line n first agent : ℕ) (kind : Kind) (outcome : Outcome)
     → (outcome ≡ Handed → is_some (owner_at (past_to p n) agent line n) ≡ true)
     → ClosesFor p line n agent (end_with first agent line kind turn outcome
     (grant_if first agent line kind outcome won owns shared)) x
-unfolding snoop_events claimed_events settled_events is_upgraded is_got makes_grant purpose_of fits_kind fits_getting fits_upgrade fits_write_back after effect given linked settled trimmed
+unfolding snoop_events claimed_events settled_events is_upgraded is_got makes_grant purpose_of fits_kind
+    fits_getting fits_upgrade fits_write_back after effect given linked settled trimmed
 closes p line n first agent kinds.Read Granted turn won owns shared x e h o = rw e (refl, refl)
 closes p line n first agent kinds.Read Handed turn won owns shared x e h o =
     handed p line n first agent kinds.Read _ turn owns shared x (owner_at (past_to p n) agent line n) e refl refl

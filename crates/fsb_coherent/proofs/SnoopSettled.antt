@@ -1,5 +1,6 @@
 -- The snoop end of a request for a line leaves the line of the machine that of the run.
-use Rattle.std.proofs.Common.{ℕ, ◌+◌, ◌≡◌, ◌≢◌, ◌==◌, Bool, true, false, cond, not, ◌&&◌, ◌||◌, ◌++◌, if◌then◌else◌, nat_eq, [], Option, Some, None, is_some, refl, sym, ap, ◌∙◌, inl, inr}
+use Rattle.std.proofs.Common.{ℕ, ◌+◌, ◌≡◌, ◌≢◌, ◌==◌, Bool, true, false, cond, not, ◌&&◌, ◌||◌, ◌++◌, if◌then◌else◌}
+use Rattle.std.proofs.Common.{nat_eq, [], Option, Some, None, is_some, refl, sym, ap, ◌∙◌, inl, inr}
 use Rattle.std.proofs.lemmas.Bool.{cases_Bool, eq-eqb, eqb-false, eqb-true}
 use Rattle.std.specs.Option.{option_map_or}
 use Rattle.fsb_count.specs.Options.{is_some_and}
@@ -8,7 +9,8 @@ use Rattle.fsb_line.specs.LineRuns.{run}
 use Rattle.fsb_line.specs.States.{is_held, is_modified, is_sole}
 use Rattle.fsb_trace.specs.Outcome.{is_deferral}
 use Rattle.fsb_timely.specs.Past.{Claim, Past, SnoopEnd}
-use Rattle.fsb_timely.specs.Grants.{grant_at, is_granted, is_named_by_other, is_sole_grant, is_taken_away, is_written_back, snooped_at}
+use Rattle.fsb_timely.specs.Grants.{grant_at, is_granted, is_named_by_other, is_sole_grant, is_taken_away}
+use Rattle.fsb_timely.specs.Grants.{is_written_back, snooped_at}
 use Rattle.fsb_timely.specs.Moments.{is_snoop_of}
 use Rattle.fsb_timely.specs.Runs.{past_to}
 use Rattle.fsb_coherent.specs.Fitting.{is_granted_by, is_lost_by}

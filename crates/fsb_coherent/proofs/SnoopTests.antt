@@ -1,5 +1,6 @@
 -- Who has a line for itself, and who is dirty on it, after a snoop end on it, is who is so in the run.
-use Rattle.std.proofs.Common.{ℕ, ◌≡◌, ◌==◌, Bool, true, false, cond, not, ◌&&◌, if◌then◌else◌, nat_eq, Option, Some, None, is_some, refl, sym, ap, subst, ◌∙◌}
+use Rattle.std.proofs.Common.{ℕ, ◌≡◌, ◌==◌, Bool, true, false, cond, not, ◌&&◌, if◌then◌else◌, nat_eq, Option, Some}
+use Rattle.std.proofs.Common.{None, is_some, refl, sym, ap, subst, ◌∙◌}
 use Rattle.std.proofs.lemmas.Bool.{eq-eqb, eqb-true}
 use Rattle.fsb_count.specs.Options.{is_some_and}
 use Rattle.fsb_encode.specs.declared.request.Kind.{Kind}
@@ -21,7 +22,8 @@ use Rattle.fsb_timely.specs.Past.{Past, SnoopEnd}
 use Rattle.fsb_timely.specs.Runs.{past_to}
 use Rattle.fsb_timely.specs.Snoops.{is_held_elsewhere}
 use Rattle.fsb_coherent.specs.Awaits.{owner_at, purpose_of}
-use Rattle.fsb_coherent.specs.Fitting.{IsSnoopOn, IsUncontested, fits_getting, fits_kind, fits_upgrade, fits_write_back, is_granted_by, is_lost_by}
+use Rattle.fsb_coherent.specs.Fitting.{IsSnoopOn, IsUncontested, fits_getting, fits_kind, fits_upgrade, fits_write_back}
+use Rattle.fsb_coherent.specs.Fitting.{is_granted_by, is_lost_by}
 use Rattle.fsb_coherent.specs.LineEvents.{claimed_events, settled_events, snoop_events}
 use Rattle.fsb_coherent.proofs.SnoopLinks.{end_with, grant_if, grant_with, whole-end}
 use Rattle.fsb_coherent.proofs.StateTests.{IsTest, kept, lost-here, none-false, same-true, tested}
@@ -38,7 +40,8 @@ TestedBy test says p line n s x b =
     ≡ (if is_granted_by s b line then is_some_and s.grant (λ grant. says grant.owns grant.shared)
     else (test (x.state b) && (not (is_lost_by s b line) && not (is_named_by s b line))))
 
--- what is known of a request's snoop end: what its grant says, that HIT# told who holds the line, that an upgrade is won
+-- what is known of a request's snoop end: what its grant says, that HIT# told who holds the line, that an upgrade
+-- is won
 -- by a holder, and that nobody else passes the test where a line is written back
 pub record IsTold (test : Mesi → Bool) (p : Past) (line n agent : ℕ) (kind : Kind) (outcome : Outcome)
     (won owns shared : Bool) (x : MemoryLine) : Type 0 where
@@ -82,7 +85,9 @@ handed-read : (test : Mesi → Bool) (says : Bool → Bool → Bool) → IsTest 
     → owner_at (past_to p n) agent line n ≡ o → is_some o ≡ true → owns ≡ false → shared ≡ true
     → TestedBy test says p line n (end_with first agent line kinds.Read turn Handed
     (Some (grant_with first agent line owns shared))) x b
-unfolding snoop_events claimed_events settled_events is_upgraded is_got makes_grant purpose_of is_granted_by is_lost_by is_some_and is_snooped is_claim_of is_claim_of_other is_owning is_write_back_kind fits_kind fits_getting fits_upgrade fits_write_back after effect given linked settled trimmed
+unfolding snoop_events claimed_events settled_events is_upgraded is_got makes_grant purpose_of is_granted_by
+    is_lost_by is_some_and is_snooped is_claim_of is_claim_of_other is_owning is_write_back_kind fits_kind
+    fits_getting fits_upgrade fits_write_back after effect given linked settled trimmed
 handed-read test says t p line n first agent turn owns shared x b None e g h u v = absurd (let no : ⊥ = cc in no)
 handed-read test says t p line n first agent turn owns shared x b (Some owner) e g h u v =
     rw (e, g) (tested test b agent (x.state b) Shared (after_snoop (x.state b) purposes.Read) false false true
@@ -95,7 +100,9 @@ handed-own : (test : Mesi → Bool) (says : Bool → Bool → Bool) → IsTest t
     → owner_at (past_to p n) agent line n ≡ o → is_some o ≡ true → owns ≡ true
     → TestedBy test says p line n (end_with first agent line kinds.Invalidate turn Handed
     (Some (grant_with first agent line owns shared))) x b
-unfolding snoop_events claimed_events settled_events is_upgraded is_got makes_grant purpose_of is_granted_by is_lost_by is_some_and is_snooped is_claim_of is_claim_of_other is_owning is_write_back_kind fits_kind fits_getting fits_upgrade fits_write_back after effect given linked settled trimmed
+unfolding snoop_events claimed_events settled_events is_upgraded is_got makes_grant purpose_of is_granted_by
+    is_lost_by is_some_and is_snooped is_claim_of is_claim_of_other is_owning is_write_back_kind fits_kind
+    fits_getting fits_upgrade fits_write_back after effect given linked settled trimmed
 handed-own test says t p line n first agent turn owns shared x b None e g h u = absurd (let no : ⊥ = cc in no)
 handed-own test says t p line n first agent turn owns shared x b (Some owner) e g h u =
     rw (e, g) (tested test b agent (x.state b) Modified Invalid false true true (nat_eq agent b && true)
@@ -107,7 +114,9 @@ handed-upgrade : (test : Mesi → Bool) (says : Bool → Bool → Bool) → IsTe
     → owner_at (past_to p n) agent line n ≡ o → is_some o ≡ true → owns ≡ true
     → TestedBy test says p line n (end_with first agent line kinds.Upgrade turn Handed
     (Some (grant_with first agent line owns shared))) x b
-unfolding snoop_events claimed_events settled_events is_upgraded is_got makes_grant purpose_of is_granted_by is_lost_by is_some_and is_snooped is_claim_of is_claim_of_other is_owning is_write_back_kind fits_kind fits_getting fits_upgrade fits_write_back after effect given linked settled trimmed
+unfolding snoop_events claimed_events settled_events is_upgraded is_got makes_grant purpose_of is_granted_by
+    is_lost_by is_some_and is_snooped is_claim_of is_claim_of_other is_owning is_write_back_kind fits_kind
+    fits_getting fits_upgrade fits_write_back after effect given linked settled trimmed
 handed-upgrade test says t p line n first agent turn owns shared x b None e g h u = absurd (let no : ⊥ = cc in no)
 handed-upgrade test says t p line n first agent turn owns shared x b (Some owner) e g h u =
     rw (e, g) (tested test b agent (x.state b) Modified Invalid false true true (nat_eq agent b && true)
@@ -120,7 +129,9 @@ tests : (test : Mesi → Bool) (says : Bool → Bool → Bool) → IsTest test s
     → IsTold test p line n agent kind outcome won owns shared x
     → TestedBy test says p line n (end_with first agent line kind turn outcome
     (grant_if first agent line kind outcome won owns shared)) x b
-unfolding snoop_events claimed_events settled_events is_upgraded is_got makes_grant purpose_of is_granted_by is_lost_by is_some_and is_snooped is_claim_of is_claim_of_other is_owning is_write_back_kind fits_kind fits_getting fits_upgrade fits_write_back after effect given linked settled trimmed
+unfolding snoop_events claimed_events settled_events is_upgraded is_got makes_grant purpose_of is_granted_by
+    is_lost_by is_some_and is_snooped is_claim_of is_claim_of_other is_owning is_write_back_kind fits_kind
+    fits_getting fits_upgrade fits_write_back after effect given linked settled trimmed
 tests test says t p line n first agent kinds.Read Granted turn won owns shared x b e h o w =
     rw e (tested test b agent (x.state b) (granted purposes.Read (is_held_elsewhere (past_to p n) agent line n))
     (after_snoop (x.state b) purposes.Read) false false true (nat_eq agent b && true) (says owns shared)

@@ -1,5 +1,6 @@
 -- The open requests, the links and the deferral of a line, one clock further.
-use Rattle.std.proofs.Common.{ℕ, zero, suc, ◌+◌, ◌<◌, ◌≡◌, Bool, true, false, ◌&&◌, ◌||◌, if◌then◌else◌, [], ◌++◌, Option, Some, None, refl, sym, ap, ◌∙◌, inl, inr, arith, add-one}
+use Rattle.std.proofs.Common.{ℕ, zero, suc, ◌+◌, ◌<◌, ◌≡◌, Bool, true, false, ◌&&◌, ◌||◌, if◌then◌else◌, [], ◌++◌}
+use Rattle.std.proofs.Common.{Option, Some, None, refl, sym, ap, ◌∙◌, inl, inr, arith, add-one}
 use Rattle.std.proofs.lemmas.Bool.{cases_Bool, or_parts, le-leb, lt-leb}
 use Rattle.std.specs.Option.{option_map_or}
 use Rattle.fsb_count.specs.Clocks.{any_where, from_clock, last_where}
@@ -10,7 +11,9 @@ use Rattle.fsb_timely.specs.Past.{Past, SnoopEnd}
 use Rattle.fsb_timely.specs.Grants.{snooped_at, is_ended}
 use Rattle.fsb_timely.specs.Moments.{is_snoop_of}
 use Rattle.fsb_coherent.specs.Awaits.{cancelled_in, responded_in}
-use Rattle.fsb_coherent.specs.Relation.{IsOpen, chain_below, deferral_at, deferral_below, defers_line, is_cancelled_below, is_moved_for, is_responded_below, is_snooped_below, link_left, links_left, replies_line}
+use Rattle.fsb_coherent.specs.Relation.{IsOpen, chain_below, deferral_at, deferral_below, defers_line}
+use Rattle.fsb_coherent.specs.Relation.{is_cancelled_below, is_moved_for, is_responded_below, is_snooped_below}
+use Rattle.fsb_coherent.specs.Relation.{link_left, links_left, replies_line}
 
 pub cancelled-more : (p : Past) (n q : ℕ)
     → is_cancelled_below p (n + 1) q ≡ (is_cancelled_below p n q || is_at (cancelled_in p n) q)
@@ -38,8 +41,11 @@ open-kept p a line n request h uncancelled unsnooped = record {
   before = let l = h.before in omega arith;
   begun = h.begun;
   wanted = h.wanted;
-  uncancelled = neither (is_cancelled_below p n request.number) (is_at (cancelled_in p n) request.number) (is_cancelled_below p (n + 1) request.number) (cancelled-more p n request.number) h.uncancelled uncancelled;
-  unsnooped = neither (is_snooped_below p n request.number) (is_some_and (snooped_at p n) (is_snoop_of request.number)) (is_snooped_below p (n + 1) request.number) (snooped-more p n request.number) h.unsnooped unsnooped;
+  uncancelled = neither (is_cancelled_below p n request.number) (is_at (cancelled_in p n) request.number)
+      (is_cancelled_below p (n + 1) request.number) (cancelled-more p n request.number) h.uncancelled uncancelled;
+  unsnooped = neither (is_snooped_below p n request.number)
+      (is_some_and (snooped_at p n) (is_snoop_of request.number)) (is_snooped_below p (n + 1) request.number)
+      (snooped-more p n request.number) h.unsnooped unsnooped;
 }
 
 -- one that is open and began before was open, and is neither cancelled nor snooped there
@@ -49,15 +55,22 @@ open-before p a line n request h l = record {
   before = l;
   begun = h.begun;
   wanted = h.wanted;
-  uncancelled = (or_parts (is_cancelled_below p n request.number) (is_at (cancelled_in p n) request.number) (sym (cancelled-more p n request.number) ∙ h.uncancelled)).0;
-  unsnooped = (or_parts (is_snooped_below p n request.number) (is_some_and (snooped_at p n) (is_snoop_of request.number)) (sym (snooped-more p n request.number) ∙ h.unsnooped)).0;
+  uncancelled =
+      (or_parts (is_cancelled_below p n request.number) (is_at (cancelled_in p n) request.number)
+      (sym (cancelled-more p n request.number) ∙ h.uncancelled)).0;
+  unsnooped = (or_parts (is_snooped_below p n request.number)
+      (is_some_and (snooped_at p n) (is_snoop_of request.number)) (sym (snooped-more p n request.number)
+      ∙ h.unsnooped)).0;
 }
 
 pub open-untouched : (p : Past) (a line n : ℕ) (request : OpenRequest) → IsOpen p a line (n + 1) request
-    → (is_at (cancelled_in p n) request.number ≡ false) × (is_some_and (snooped_at p n) (is_snoop_of request.number) ≡ false)
+    → (is_at (cancelled_in p n) request.number ≡ false)
+    × (is_some_and (snooped_at p n) (is_snoop_of request.number) ≡ false)
 open-untouched p a line n request h = (
-  (or_parts (is_cancelled_below p n request.number) (is_at (cancelled_in p n) request.number) (sym (cancelled-more p n request.number) ∙ h.uncancelled)).1,
-  (or_parts (is_snooped_below p n request.number) (is_some_and (snooped_at p n) (is_snoop_of request.number)) (sym (snooped-more p n request.number) ∙ h.unsnooped)).1,
+  (or_parts (is_cancelled_below p n request.number) (is_at (cancelled_in p n) request.number)
+      (sym (cancelled-more p n request.number) ∙ h.uncancelled)).1,
+  (or_parts (is_snooped_below p n request.number) (is_some_and (snooped_at p n) (is_snoop_of request.number))
+      (sym (snooped-more p n request.number) ∙ h.unsnooped)).1,
 )
 
 -- the last clock that passes lies below the bound
@@ -73,7 +86,8 @@ last_where-below test (suc n) t e =
 -- the deferral that is left of the last one, if there is one
 kept_of : Past → ℕ → ℕ → Option ℕ → Option LineDeferral
 kept_of p line n None = None
-kept_of p line n (Some t) = if any_where (from_clock (t + 1) (replies_line p line)) n then None else deferral_at p line t
+kept_of p line n (Some t) = if any_where (from_clock (t + 1) (replies_line p line)) n then None
+    else deferral_at p line t
 
 kept-form : (p : Past) (line n : ℕ) (o : Option ℕ) → last_where (defers_line p line) n ≡ o
     → deferral_below p line n ≡ kept_of p line n o
@@ -103,29 +117,37 @@ kept-more p line n None below = sym (nothing-left (replies_line p line n) None r
 kept-more p line n (Some t) below =
     let more = any_where-more (from_clock (t + 1) (replies_line p line)) n in
     let here = from-clock (replies_line p line) t n (below t refl) in
-    ap (λ b. if b then None else deferral_at p line t) (more ∙ ap (λ b. any_where (from_clock (t + 1) (replies_line p line)) n || b) here)
+    ap (λ b. if b then None else deferral_at p line t) (more
+    ∙ ap (λ b. any_where (from_clock (t + 1) (replies_line p line)) n || b) here)
     ∙ two-tests (any_where (from_clock (t + 1) (replies_line p line)) n) (replies_line p line n) (deferral_at p line t)
 
 after-itself : (test : ℕ → Bool) (n : ℕ) → any_where (from_clock (n + 1) test) (n + 1) ≡ false
 unfolding from_clock
-after-itself test n = any_where-off (from_clock (n + 1) test) (n + 1) (λ k l. ap (λ b. b && test k) (lt-leb (n + 1) k l))
+after-itself test n = any_where-off (from_clock (n + 1) test) (n + 1)
+    (λ k l. ap (λ b. b && test k) (lt-leb (n + 1) k l))
 
 -- the deferral one clock on: the one made there, none where a reply grants the line there, and otherwise as it was
 pub deferral-more : (p : Past) (line n : ℕ) → deferral_below p line (n + 1)
-    ≡ (if defers_line p line n then deferral_at p line n else (if replies_line p line n then None else deferral_below p line n))
+    ≡ (if defers_line p line n then deferral_at p line n
+    else (if replies_line p line n then None else deferral_below p line n))
 unfolding kept_of
 deferral-more p line n =
     elim (cases_Bool (defers_line p line n)) [
       | inl t ↦
-          let last : last_where (defers_line p line) (n + 1) ≡ Some n = rw add-one (last_where-passed (defers_line p line) n t) in
-          kept-form p line (n + 1) (Some n) last ∙ ap (λ b. if b then None else deferral_at p line n) (after-itself (replies_line p line) n)
-          ∙ sym (ap (λ b. if b then deferral_at p line n else (if replies_line p line n then None else deferral_below p line n)) t)
+          let last : last_where (defers_line p line) (n + 1) ≡ Some n =
+          rw add-one (last_where-passed (defers_line p line) n t) in
+          kept-form p line (n + 1) (Some n) last
+          ∙ ap (λ b. if b then None else deferral_at p line n) (after-itself (replies_line p line) n)
+          ∙ sym (ap (λ b. if b then deferral_at p line n
+          else (if replies_line p line n then None else deferral_below p line n)) t)
       | inr f ↦
           let o : Option ℕ = last_where (defers_line p line) n in
-          let last : last_where (defers_line p line) (n + 1) ≡ o = rw add-one (last_where-failed (defers_line p line) n f) in
+          let last : last_where (defers_line p line) (n + 1) ≡ o =
+          rw add-one (last_where-failed (defers_line p line) n f) in
           kept-form p line (n + 1) o last ∙ kept-more p line n o (λ t e. last_where-below (defers_line p line) n t e)
           ∙ ap (λ d. if replies_line p line n then None else d) (sym (kept-form p line n o refl))
-          ∙ sym (ap (λ b. if b then deferral_at p line n else (if replies_line p line n then None else deferral_below p line n)) f)
+          ∙ sym (ap (λ b. if b then deferral_at p line n
+          else (if replies_line p line n then None else deferral_below p line n)) f)
     ]
 
 link_left-same : (p : Past) (line n m t : ℕ) (s : SnoopEnd) → is_ended p n s.first ≡ is_ended p m s.first
@@ -150,7 +172,8 @@ links_left-same p line n m (suc t) e =
 
 -- the links one clock on: those of before that are left, and that of a snoop end there
 pub chain-more : (p : Past) (line n : ℕ)
-    → chain_below p line (n + 1) ≡ links_left p line (n + 1) n ++ option_map_or (link_left p line (n + 1) n) (snooped_at p n) []
+    → chain_below p line (n + 1) ≡ links_left p line (n + 1) n ++ option_map_or (link_left p line (n + 1) n)
+    (snooped_at p n) []
 unfolding chain_below links_left
 chain-more p line n = rw add-one refl
 

@@ -10,7 +10,8 @@ use Rattle.fsb_timely.specs.Past.{Past}
 use Rattle.fsb_timely.specs.Runs.{past_to}
 use Rattle.fsb_coherent.specs.Awaits.{purpose_wanted}
 use Rattle.fsb_coherent.specs.Facts.{does_respond_on}
-use Rattle.fsb_coherent.specs.Relation.{IsOpen, chain_below, deferral_below, is_cancelled_below, is_moved_below, is_snooped_below}
+use Rattle.fsb_coherent.specs.Relation.{IsOpen, chain_below, deferral_below, is_cancelled_below, is_moved_below}
+use Rattle.fsb_coherent.specs.Relation.{is_snooped_below}
 use Rattle.fsb_coherent.proofs.Clocks.{MayRun-append, run-append}
 
 -- agent a's request on the line is open at n, where those that begin below b and the cancellations below c count

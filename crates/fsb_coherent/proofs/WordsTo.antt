@@ -1,5 +1,6 @@
 -- What is said of a clock, in the words of the events of a line, is told by the past up to it.
-use Rattle.std.proofs.Common.{ℕ, zero, suc, ◌+◌, ◌<◌, ◌≤◌, ◌≡◌, Bool, ◌&&◌, if◌then◌else◌, nat_eq, List, [], ◌∷◌, take, slice_get, Option, Some, None, refl, ap, ◌∙◌, inl, inr, arith}
+use Rattle.std.proofs.Common.{ℕ, zero, suc, ◌+◌, ◌<◌, ◌≤◌, ◌≡◌, Bool, ◌&&◌, if◌then◌else◌, nat_eq, List, [], ◌∷◌, take}
+use Rattle.std.proofs.Common.{slice_get, Option, Some, None, refl, ap, ◌∙◌, inl, inr, arith}
 use Rattle.std.proofs.lemmas.Bool.{cases_lt, le-leb, lt-leb, ne_eqb}
 use Rattle.std.specs.List.{filter}
 use Rattle.std.specs.Option.{option_and_then, option_map}
@@ -14,7 +15,8 @@ use Rattle.fsb_timely.specs.Hits.{is_dirty, is_hit}
 use Rattle.fsb_timely.specs.Moments.{is_snoop_of}
 use Rattle.fsb_timely.specs.Past.{Past}
 use Rattle.fsb_timely.specs.Runs.{entries_to, past_to}
-use Rattle.fsb_timely.proofs.Interface.{below_le, done_below, going-alike, holds_line-same, is_dirty-alike, is_hit-alike, want_of-alike}
+use Rattle.fsb_timely.proofs.Interface.{below_le, done_below, going-alike, holds_line-same, is_dirty-alike}
+use Rattle.fsb_timely.proofs.Interface.{is_hit-alike, want_of-alike}
 use Rattle.fsb_coherent.specs.Awaits.{awaited_at, awaited_by, purpose_of, purpose_wanted, snoop_end_below}
 use Rattle.fsb_coherent.specs.LineEvents.{entries_on}
 use Rattle.fsb_coherent.proofs.QuietClocks.{slice_get-take}

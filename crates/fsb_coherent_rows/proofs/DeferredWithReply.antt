@@ -7,7 +7,8 @@ use Rattle.fsb_access.specs.declared.item.Item.TheVariants.{One}
 use Rattle.fsb_access.specs.declared.log.Done.{Done}
 use Rattle.fsb_hazard.specs.declared.line.HazardLine.TheVariants.{Defer as DeferLine}
 use Rattle.fsb_script.specs.Plans.{PlanView}
-use Rattle.fsb_signal.specs.declared.lines.TheConstants.Lines.{BREQ0, BREQ1, BPRI, ADS, HIT, DEFER, RS0, RS1, RS2, DBSY, DRDY}
+use Rattle.fsb_signal.specs.declared.lines.TheConstants.Lines.{BREQ0, BREQ1, BPRI, ADS, HIT, DEFER, RS0, RS1, RS2, DBSY}
+use Rattle.fsb_signal.specs.declared.lines.TheConstants.Lines.{DRDY}
 use Rattle.fsb_trace.specs.At.{Trace}
 use Rattle.fsb_timely.specs.Runs.{Run, past_of}
 use Rattle.fsb_line.specs.declared.purpose.Purpose.TheVariants.{Own, Read}
@@ -107,25 +108,87 @@ computes = refl
 pub may_happen : (bytes : Bytes) → MayRun (unheld bytes) (events_of dated_events)
 unfolding May after effect trimmed settled linked given put replied responded oldest_ended arrived
 may_happen bytes = (
-  record { no_ask = refl; no_link = refl; no_deferral = λ d e. absurd (cc); suited = refl; newest = λ b k e. grind (arith, nat_tests); not_held_off = λ b n. refl },
+  record {
+    no_ask = refl;
+    no_link = refl;
+    no_deferral = λ d e. absurd (cc);
+    suited = refl;
+    newest = λ b k e. grind (arith, nat_tests);
+    not_held_off = λ b n. refl;
+  },
   (
-    record { no_ask = refl; no_link = refl; no_deferral = λ d e. absurd (cc); suited = refl; newest = λ b k e. grind (arith, nat_tests); not_held_off = λ b n. refl },
+    record {
+      no_ask = refl;
+      no_link = refl;
+      no_deferral = λ d e. absurd (cc);
+      suited = refl;
+      newest = λ b k e. grind (arith, nat_tests);
+      not_held_off = λ b n. refl;
+    },
     (
-      record { settles = record { oldest = record { number = 2; asked = refl; oldest = λ b k e. grind (arith, nat_tests) }; clean = λ b n. grind (arith, nat_tests) }; gets = refl; unseen = λ e b n. grind (arith, nat_tests); not_pending = refl },
+      record {
+        settles =
+            record {
+              oldest = record { number = 2; asked = refl; oldest = λ b k e. grind (arith, nat_tests) };
+              clean = λ b n. grind (arith, nat_tests);
+            };
+        gets = refl;
+        unseen = λ e b n. grind (arith, nat_tests);
+        not_pending = refl;
+      },
       (
-        (record { oldest = record { number = 5; asked = refl; oldest = λ b k e. grind (arith, nat_tests) }; clean = λ b n. grind (arith, nat_tests) }, refl),
         (
-          record { no_ask = refl; no_link = refl; no_deferral = λ d e. grind (arith, nat_tests); suited = refl; newest = λ b k e. grind (arith, nat_tests); not_held_off = λ b n. refl },
+          record {
+            oldest = record { number = 5; asked = refl; oldest = λ b k e. grind (arith, nat_tests) };
+            clean = λ b n. grind (arith, nat_tests);
+          },
+          refl,
+        ),
+        (
+          record {
+            no_ask = refl;
+            no_link = refl;
+            no_deferral = λ d e. grind (arith, nat_tests);
+            suited = refl;
+            newest = λ b k e. grind (arith, nat_tests);
+            not_held_off = λ b n. refl;
+          },
           (
-            (record { oldest = record { number = 14; asked = refl; oldest = λ b k e. grind (arith, nat_tests) }; clean = λ b n. grind (arith, nat_tests) }, refl),
             (
-              record { no_ask = refl; no_link = refl; no_deferral = λ d e. grind (arith, nat_tests); suited = refl; newest = λ b k e. grind (arith, nat_tests); not_held_off = λ b n. refl },
+              record {
+                oldest = record { number = 14; asked = refl; oldest = λ b k e. grind (arith, nat_tests) };
+                clean = λ b n. grind (arith, nat_tests);
+              },
+              refl,
+            ),
+            (
+              record {
+                no_ask = refl;
+                no_link = refl;
+                no_deferral = λ d e. grind (arith, nat_tests);
+                suited = refl;
+                newest = λ b k e. grind (arith, nat_tests);
+                not_held_off = λ b n. refl;
+              },
               (
                 refl,
                 (
                   (refl, refl),
                   (
-                    record { settles = record { oldest = record { number = 24; asked = refl; oldest = λ b k e. grind (arith, nat_tests) }; clean = λ b n. grind (arith, nat_tests) }; gets = refl; unseen = λ e b n. absurd (cc); not_pending = refl },
+                    record {
+                      settles =
+                          record {
+                            oldest = record {
+                              number = 24;
+                              asked = refl;
+                              oldest = λ b k e. grind (arith, nat_tests);
+                            };
+                            clean = λ b n. grind (arith, nat_tests);
+                          };
+                      gets = refl;
+                      unseen = λ e b n. absurd (cc);
+                      not_pending = refl;
+                    },
                     (
                       refl,
                       (

@@ -84,15 +84,43 @@ computes = refl
 pub may_happen : (bytes : Bytes) → MayRun (unheld bytes) (events_of dated_events)
 unfolding May after effect trimmed settled linked given put replied responded oldest_ended arrived
 may_happen bytes = (
-  record { no_ask = refl; no_link = refl; no_deferral = λ d e. absurd (cc); suited = refl; newest = λ b k e. grind (arith, nat_tests); not_held_off = λ b n. refl },
+  record {
+    no_ask = refl;
+    no_link = refl;
+    no_deferral = λ d e. absurd (cc);
+    suited = refl;
+    newest = λ b k e. grind (arith, nat_tests);
+    not_held_off = λ b n. refl;
+  },
   (
-    record { no_ask = refl; no_link = refl; no_deferral = λ d e. absurd (cc); suited = refl; newest = λ b k e. grind (arith, nat_tests); not_held_off = λ b n. refl },
+    record {
+      no_ask = refl;
+      no_link = refl;
+      no_deferral = λ d e. absurd (cc);
+      suited = refl;
+      newest = λ b k e. grind (arith, nat_tests);
+      not_held_off = λ b n. refl;
+    },
     (
-      record { settles = record { oldest = record { number = 2; asked = refl; oldest = λ b k e. grind (arith, nat_tests) }; clean = λ b n. grind (arith, nat_tests) }; gets = refl; unseen = λ e b n. grind (arith, nat_tests); not_pending = refl },
+      record {
+        settles =
+            record {
+              oldest = record { number = 2; asked = refl; oldest = λ b k e. grind (arith, nat_tests) };
+              clean = λ b n. grind (arith, nat_tests);
+            };
+        gets = refl;
+        unseen = λ e b n. grind (arith, nat_tests);
+        not_pending = refl;
+      },
       (
         (refl, refl),
         (
-          record { oldest = record { number = 5; asked = refl; oldest = λ b k e. grind (arith, nat_tests) }; asks = refl; other = omega arith; modified = refl },
+          record {
+            oldest = record { number = 5; asked = refl; oldest = λ b k e. grind (arith, nat_tests) };
+            asks = refl;
+            other = omega arith;
+            modified = refl;
+          },
           (
             refl,
             (

@@ -6,7 +6,8 @@ use Rattle.fsb_access.specs.declared.access.Operand.TheVariants.{Literal}
 use Rattle.fsb_access.specs.declared.item.Item.TheVariants.{One}
 use Rattle.fsb_access.specs.declared.log.Done.{Done}
 use Rattle.fsb_script.specs.Plans.{PlanView}
-use Rattle.fsb_signal.specs.declared.lines.TheConstants.Lines.{BREQ0, BREQ1, ADS, HIT, HITM, RS0, RS1, RS2, TRDY, DBSY, DRDY, AP0, RP}
+use Rattle.fsb_signal.specs.declared.lines.TheConstants.Lines.{BREQ0, BREQ1, ADS, HIT, HITM, RS0, RS1, RS2, TRDY, DBSY}
+use Rattle.fsb_signal.specs.declared.lines.TheConstants.Lines.{DRDY, AP0, RP}
 use Rattle.fsb_trace.specs.At.{Trace}
 use Rattle.fsb_timely.specs.Runs.{Run, past_of}
 use Rattle.fsb_line.specs.declared.purpose.Purpose.TheVariants.{Read, Upgrade}
@@ -21,7 +22,8 @@ use Rattle.fsb_coherent_rows.proofs.Dated.{Dated, computed, dated, dated_below, 
 -- the run of this name of fsb_timely_rows
 abbrev plan : PlanView
 plan = record {
-  scripts = (One (Load 1 0x40) ∷ One (Store 1 0x40 (Literal 0x1)) ∷ []) ∷ (One (Load 1 0x40) ∷ One (Store 1 0x40 (Literal 0x2)) ∷ []) ∷ [];
+  scripts = (One (Load 1 0x40) ∷ One (Store 1 0x40 (Literal 0x1)) ∷ [])
+      ∷ (One (Load 1 0x40) ∷ One (Store 1 0x40 (Literal 0x2)) ∷ []) ∷ [];
   clocks = 60;
   cache = 64;
   ahead = 1;
@@ -105,31 +107,95 @@ computes = refl
 pub may_happen : (bytes : Bytes) → MayRun (unheld bytes) (events_of dated_events)
 unfolding May after effect trimmed settled linked given put replied responded oldest_ended arrived
 may_happen bytes = (
-  record { no_ask = refl; no_link = refl; no_deferral = λ d e. absurd (cc); suited = refl; newest = λ b k e. grind (arith, nat_tests); not_held_off = λ b n. refl },
+  record {
+    no_ask = refl;
+    no_link = refl;
+    no_deferral = λ d e. absurd (cc);
+    suited = refl;
+    newest = λ b k e. grind (arith, nat_tests);
+    not_held_off = λ b n. refl;
+  },
   (
-    record { no_ask = refl; no_link = refl; no_deferral = λ d e. absurd (cc); suited = refl; newest = λ b k e. grind (arith, nat_tests); not_held_off = λ b n. refl },
+    record {
+      no_ask = refl;
+      no_link = refl;
+      no_deferral = λ d e. absurd (cc);
+      suited = refl;
+      newest = λ b k e. grind (arith, nat_tests);
+      not_held_off = λ b n. refl;
+    },
     (
-      record { settles = record { oldest = record { number = 2; asked = refl; oldest = λ b k e. grind (arith, nat_tests) }; clean = λ b n. grind (arith, nat_tests) }; gets = refl; unseen = λ e b n. grind (arith, nat_tests); not_pending = refl },
+      record {
+        settles =
+            record {
+              oldest = record { number = 2; asked = refl; oldest = λ b k e. grind (arith, nat_tests) };
+              clean = λ b n. grind (arith, nat_tests);
+            };
+        gets = refl;
+        unseen = λ e b n. grind (arith, nat_tests);
+        not_pending = refl;
+      },
       (
         (refl, refl),
         (
-          record { settles = record { oldest = record { number = 5; asked = refl; oldest = λ b k e. grind (arith, nat_tests) }; clean = λ b n. grind (arith, nat_tests) }; gets = refl; unseen = λ e b n. absurd (cc); not_pending = refl },
+          record {
+            settles =
+                record {
+                  oldest = record { number = 5; asked = refl; oldest = λ b k e. grind (arith, nat_tests) };
+                  clean = λ b n. grind (arith, nat_tests);
+                };
+            gets = refl;
+            unseen = λ e b n. absurd (cc);
+            not_pending = refl;
+          },
           (
             refl,
             (
               (refl, refl),
               (
-                record { no_ask = refl; no_link = refl; no_deferral = λ d e. absurd (cc); suited = refl; newest = λ b k e. grind (arith, nat_tests); not_held_off = λ b n. refl },
+                record {
+                  no_ask = refl;
+                  no_link = refl;
+                  no_deferral = λ d e. absurd (cc);
+                  suited = refl;
+                  newest = λ b k e. grind (arith, nat_tests);
+                  not_held_off = λ b n. refl;
+                },
                 (
                   refl,
                   (
-                    record { no_ask = refl; no_link = refl; no_deferral = λ d e. absurd (cc); suited = refl; newest = λ b k e. grind (arith, nat_tests); not_held_off = λ b n. refl },
+                    record {
+                      no_ask = refl;
+                      no_link = refl;
+                      no_deferral = λ d e. absurd (cc);
+                      suited = refl;
+                      newest = λ b k e. grind (arith, nat_tests);
+                      not_held_off = λ b n. refl;
+                    },
                     (
-                      record { settles = record { oldest = record { number = 14; asked = refl; oldest = λ b k e. grind (arith, nat_tests) }; clean = λ b n. grind (arith, nat_tests) }; held = refl; not_pending = refl },
+                      record {
+                        settles =
+                            record {
+                              oldest = record {
+                                number = 14;
+                                asked = refl;
+                                oldest = λ b k e. grind (arith, nat_tests);
+                              };
+                              clean = λ b n. grind (arith, nat_tests);
+                            };
+                        held = refl;
+                        not_pending = refl;
+                      },
                       (
                         refl,
                         (
-                          record { oldest = record { number = 18; asked = refl; oldest = λ b k e. grind (arith, nat_tests) }; asks = refl; other = omega arith; modified = refl },
+                          record {
+                            oldest =
+                                record { number = 18; asked = refl; oldest = λ b k e. grind (arith, nat_tests) };
+                            asks = refl;
+                            other = omega arith;
+                            modified = refl;
+                          },
                           (
                             (refl, refl),
                             (

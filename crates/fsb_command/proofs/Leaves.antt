@@ -1,6 +1,7 @@
 -- What `clap` finds in the plain words behind a verb, by how many they are.
 use Rattle.std.proofs.Common.{◌≡◌, ◌∙◌, true, false, List, [], ◌∷◌, None, Some, codes, refl, ap, ap₂}
-use Rattle.clap.specs.Walk.{Held, Row, Rule, Text, Walk, finished, nothing_held, rows_after, settled, walk, walk_from, walked}
+use Rattle.clap.specs.Walk.{Held, Row, Rule, Text, Walk, finished, nothing_held, rows_after, settled, walk, walk_from}
+use Rattle.clap.specs.Walk.{walked}
 use Rattle.clap.specs.Simple.{Shape, filled_from, new_rule, new_shape}
 use Rattle.clap.specs.Kinds.{Kinds, or_else}
 use Rattle.clap.specs.Faults.{check_fault, defaults_fault, level_fault, settle_fault, walk_fault}

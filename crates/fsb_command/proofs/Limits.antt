@@ -1,12 +1,14 @@
 -- What the words of a form keep to.
-use Rattle.std.proofs.Common.{◌≡◌, ◌≤◌, ◌&&◌, ℕ, Bool, true, false, not, ◌==◌, cond, List, [], ◌∷◌, length, Option, None, Some, refl, sym, subst, arith, true≢false}
+use Rattle.std.proofs.Common.{◌≡◌, ◌≤◌, ◌&&◌, ℕ, Bool, true, false, not, ◌==◌, cond, List, [], ◌∷◌, length, Option}
+use Rattle.std.proofs.Common.{None, Some, refl, sym, subst, arith, true≢false}
 use Rattle.std.specs.Prelude.{nat_le, IfSome, option_and_then, option_map}
 use Rattle.std.specs.List.{list_all}
 use Rattle.std.proofs.lemmas.Bool.Decides.{nat_tests}
 use Rattle.clap.proofs.WalkLemmas.{both}
 use Rattle.fsb_trigger.specs.Grammar.{trigger_of}
 use Rattle.fsb_trigger.specs.TriggerSteps.{StepView}
-use Rattle.fsb_command.specs.Form.{Form, KeepsLimits, check, audit, show, find, wave, find_of, form_behind, form_of, form_of_all, gen_of, is_word, look_of, plan_named, run_of, wave_of}
+use Rattle.fsb_command.specs.Form.{Form, KeepsLimits, check, audit, show, find, wave, find_of, form_behind, form_of}
+use Rattle.fsb_command.specs.Form.{form_of_all, gen_of, is_word, look_of, plan_named, run_of, wave_of}
 use Rattle.fsb_command.specs.Number.{agents_named, items_named, seed_named, up_to}
 use Rattle.fsb_command.specs.Range.{range_of}
 use Rattle.fsb_command.specs.Command.{IsCommand, form_meant}

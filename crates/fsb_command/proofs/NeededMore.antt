@@ -1,5 +1,6 @@
 -- Arguments that have to be there, one after another.
-use Rattle.std.proofs.Common.{◌≡◌, ◌∙◌, ◌<◌, ◌≤◌, ◌+◌, ◌∷◌, ◌++◌, ℕ, [], List, map, length, take, take_all, slice_index_or, Bor, ap, sym}
+use Rattle.std.proofs.Common.{◌≡◌, ◌∙◌, ◌<◌, ◌≤◌, ◌+◌, ◌∷◌, ◌++◌, ℕ, [], List, map, length, take, take_all}
+use Rattle.std.proofs.Common.{slice_index_or, Bor, ap, sym}
 use Rattle.std.proofs.lemmas.List.{map-append, take_more}
 use Rattle.clap.specs.Walk.{Text}
 use Rattle.fsb_command.specs.Usage.{needed}

@@ -1,5 +1,6 @@
 -- What `clap` finds in words that may stand in a command line is the form that they have.
-use Rattle.std.proofs.Common.{◌≡◌, ◌∙◌, ◌⊎◌, ℕ, Bool, true, false, List, [], ◌∷◌, Option, None, Some, codes, refl, sym, ap, subst, inl, inr, ⊎_elim, true≢false}
+use Rattle.std.proofs.Common.{◌≡◌, ◌∙◌, ◌⊎◌, ℕ, Bool, true, false, List, [], ◌∷◌, Option, None, Some, codes, refl, sym}
+use Rattle.std.proofs.Common.{ap, subst, inl, inr, ⊎_elim, true≢false}
 use Rattle.std.specs.Prelude.{cond, option_and_then}
 use Rattle.std.specs.List.{list_all}
 use Rattle.std.specs.Str.{bytes_eq}
@@ -16,9 +17,14 @@ use Rattle.fsb_command.specs.Form.{Form, check, audit, show, form_behind, form_o
 use Rattle.fsb_command.specs.Found.{form_found, form_in}
 use Rattle.fsb_command.specs.Usage.{usage}
 use Rattle.fsb_command.proofs.Turns.{IsPlain, plain_word}
-use Rattle.fsb_command.proofs.Leaves.{fault_behind, found, look, look_of_more, look_of_none, look_of_one, look_rows, pair_of_more, pair_of_none, pair_of_one, pair_of_two, pair_rows, pair_rows_of_one, search_of_more, search_of_none, search_of_one, search_of_two, search_rows}
-use Rattle.fsb_command.proofs.LongLeaves.{drawn_of_more, drawn_of_none, drawn_of_one, drawn_of_three, drawn_of_two, drawn_rows, made_of_more, made_of_none, made_of_one, made_of_three, made_of_two, made_rows}
-use Rattle.fsb_command.proofs.Verbs.{Enters, IsNoVerb, audit_enters, check_enters, fault_is, find_enters, gen_enters, other_fault_is, rows_are, run_enters, show_enters, wave_enters}
+use Rattle.fsb_command.proofs.Leaves.{fault_behind, found, look, look_of_more, look_of_none, look_of_one, look_rows}
+use Rattle.fsb_command.proofs.Leaves.{pair_of_more, pair_of_none, pair_of_one, pair_of_two, pair_rows, pair_rows_of_one}
+use Rattle.fsb_command.proofs.Leaves.{search_of_more, search_of_none, search_of_one, search_of_two, search_rows}
+use Rattle.fsb_command.proofs.LongLeaves.{drawn_of_more, drawn_of_none, drawn_of_one, drawn_of_three, drawn_of_two}
+use Rattle.fsb_command.proofs.LongLeaves.{drawn_rows, made_of_more, made_of_none, made_of_one, made_of_three}
+use Rattle.fsb_command.proofs.LongLeaves.{made_of_two, made_rows}
+use Rattle.fsb_command.proofs.Verbs.{Enters, IsNoVerb, audit_enters, check_enters, fault_is, find_enters, gen_enters}
+use Rattle.fsb_command.proofs.Verbs.{other_fault_is, rows_are, run_enters, show_enters, wave_enters}
 
 -- the usage has no fault in the words, and what is found in them is the form; or it has one, and they have no form
 abbrev pub ReadsAs : List Text → Option Form → Type 0

@@ -3,10 +3,12 @@ use Rattle.std.proofs.Common.{◌≡◌, ◌∙◌, true, false, List, [], ◌�
 use Rattle.std.specs.List.{find, fold}
 use Rattle.std.specs.Option.{option_map, option_map_or}
 use Rattle.std.specs.Str.{bytes_eq}
-use Rattle.clap.specs.Walk.{Text, Walk, answers_to, finished, nothing_held, rows_after, settled, walk, walk_from, walked}
+use Rattle.clap.specs.Walk.{Text, Walk, answers_to, finished, nothing_held, rows_after, settled, walk, walk_from}
+use Rattle.clap.specs.Walk.{walked}
 use Rattle.clap.specs.Simple.{App, Shape, built, entered, is_simple, label_of, names_of, rows_at, subcommand_of}
 use Rattle.clap.specs.Kinds.{Kinds, or_else}
-use Rattle.clap.specs.Faults.{check_fault, defaults_fault, entered_fault, fault_of, is_simple_and_free, level_fault, settle_fault, turn_fault, walk_fault}
+use Rattle.clap.specs.Faults.{check_fault, defaults_fault, entered_fault, fault_of, is_simple_and_free, level_fault}
+use Rattle.clap.specs.Faults.{settle_fault, turn_fault, walk_fault}
 use Rattle.clap.proofs.FaultLemmas.{stopped_fault}
 use Rattle.clap.proofs.WalkLemmas.{walk_stopped}
 use Rattle.fsb_command.specs.Usage.{usage}

@@ -6,7 +6,9 @@ use Rattle.std.specs.Option.{option_map_or}
 use Rattle.fsb_agent_view.specs.AgentEvents.{AgentEvent, HandedOn}
 use Rattle.fsb_agent_view.specs.AgentViews.{AgentView}
 use Rattle.fsb_agent_view.specs.Arriving.{handed_on}
-use Rattle.fsb_bench_view.specs.BusEvents.{answered_by, bus_answered, bus_cancelled, bus_ended, bus_heard, bus_snooped, bus_started, cancelled_event, ended_event, heard_answer, heard_cancel, heard_ending, heard_snoop, heard_start, snooped_event, starting_event}
+use Rattle.fsb_bench_view.specs.BusEvents.{answered_by, bus_answered, bus_cancelled, bus_ended, bus_heard, bus_snooped}
+use Rattle.fsb_bench_view.specs.BusEvents.{bus_started, cancelled_event, ended_event, heard_answer, heard_cancel}
+use Rattle.fsb_bench_view.specs.BusEvents.{heard_ending, heard_snoop, heard_start, snooped_event, starting_event}
 use Rattle.fsb_bench_view.specs.BusViews.{BusView}
 use Rattle.fsb_bench_view.specs.BytesFetched.{bus_fetched}
 use Rattle.fsb_bench_view.specs.ToldAgents.{agents_told, for_all}

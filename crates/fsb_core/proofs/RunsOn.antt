@@ -1,5 +1,6 @@
 -- What a clock of a bench keeps: the bench stands for its run, which grows as objects answer.
-use Rattle.std.proofs.Common.{◌≡◌, Bool, List, [], ◌∷◌, length, Option, Some, None, refl, sym, subst, ap, ◌∙◌, slice_get}
+use Rattle.std.proofs.Common.{◌≡◌, Bool, List, [], ◌∷◌, length, Option, Some, None, refl, sym, subst, ap, ◌∙◌}
+use Rattle.std.proofs.Common.{slice_get}
 use Rattle.std.proofs.Math.Logic.{∥∥₁_elim, ∥∥₁_map}
 use Rattle.std.proofs.Props.{props}
 use Rattle.std.proofs.lemmas.Option.{none-some, same_Some}
@@ -29,7 +30,8 @@ use Rattle.fsb_bench_view.specs.declared.beginning.Starting.{Starting}
 use Rattle.fsb_bench_run.specs.BenchOf.{IsBenchOf}
 use Rattle.fsb_bench_values.specs.BytesOf.{HasBytesOf}
 use Rattle.fsb_bench_values.specs.Lent.{bytes_lent, state_lent}
-use Rattle.fsb_bench_values.proofs.Interface.{bytes-next, carried-next, first-bytes, first-carried, lines-kept, log-in-order}
+use Rattle.fsb_bench_values.proofs.Interface.{bytes-next, carried-next, first-bytes, first-carried, lines-kept}
+use Rattle.fsb_bench_values.proofs.Interface.{log-in-order}
 use Rattle.fsb_bench_run.proofs.Interface.{bench-goes-on, entries-now, first-stands, may-go, plan-keeps}
 use Rattle.fsb_core.specs.Stepping.{IsAskedNext, IsStepped, MayGoOn}
 
@@ -73,7 +75,8 @@ pub asked-next : (told : List (Option Told)) (v new : BenchView) → IsStepped t
 asked-next told v new s =
     subst (λ (w : BenchView). IsAskedNext told v.run w.run) (sym s.stepped) (asked-of told v new s)
 
-pub stands-next : (told : List (Option Told)) (v new : BenchView) → ∥ IsBenchOf v ∥₁ → IsStepped told v new → ∥ IsBenchOf new ∥₁
+pub stands-next : (told : List (Option Told)) (v new : BenchView) → ∥ IsBenchOf v ∥₁ → IsStepped told v new
+    → ∥ IsBenchOf new ∥₁
 stands-next told v new b s =
     ∥∥₁_map b (λ known. subst IsBenchOf (sym s.stepped) (bench-goes-on v s.hold s.choice known))
 
@@ -107,7 +110,8 @@ accepted-now v b =
 bytes-prop : (v : BenchView) → IsProp (HasBytesOf v)
 bytes-prop v = hlevel props
 
-pub bytes-after : (told : List (Option Told)) (v new : BenchView) → ∥ IsBenchOf v ∥₁ → HasBytesOf v → IsStepped told v new
+pub bytes-after : (told : List (Option Told)) (v new : BenchView) → ∥ IsBenchOf v ∥₁ → HasBytesOf v
+    → IsStepped told v new
     → HasBytesOf new
 bytes-after told v new b h s =
     subst HasBytesOf (sym s.stepped)
@@ -139,5 +143,6 @@ simulated-now v b h carried = record {
 kept-prop : (v : BenchView) → IsProp (Kept v.run (state_lent v) (bytes_lent v) v.bus.memory)
 kept-prop v = hlevel props
 
-pub lines-now : (v : BenchView) → ∥ IsBenchOf v ∥₁ → HasBytesOf v → Kept v.run (state_lent v) (bytes_lent v) v.bus.memory
+pub lines-now : (v : BenchView) → ∥ IsBenchOf v ∥₁ → HasBytesOf v
+    → Kept v.run (state_lent v) (bytes_lent v) v.bus.memory
 lines-now v b h = ∥∥₁_elim b (kept-prop v) (λ known. lines-kept v known h)

@@ -1,5 +1,6 @@
 -- The bench after a clock, put together.
-use Rattle.std.proofs.Common.{◌≡◌, ◌≤◌, ℕ, Bool, List, [], ◌∷◌, ◌++◌, length, Option, Some, None, arith, refl, ap, ◌∙◌, append_assoc}
+use Rattle.std.proofs.Common.{◌≡◌, ◌≤◌, ℕ, Bool, List, [], ◌∷◌, ◌++◌, length, Option, Some, None, arith, refl, ap, ◌∙◌}
+use Rattle.std.proofs.Common.{append_assoc}
 use Rattle.std.specs.Option.{option_map, option_map_or}
 use Rattle.fsb_access.specs.declared.item.Item.{Item}
 use Rattle.fsb_access.specs.declared.log.Done.{Done}
@@ -12,7 +13,8 @@ use Rattle.fsb_phase.specs.declared.phases.Phases.{Phases}
 use Rattle.fsb_queue.specs.declared.entry.Entry.{Entry}
 use Rattle.fsb_signal.specs.declared.sample.Sample.{Sample}
 use Rattle.fsb_trace.specs.declared.outcome.Outcome.{Outcome}
-use Rattle.fsb_bench_view.specs.BenchSteps.{bench_stepped, outcome_snooped, step_decided, step_drive, step_entries, step_releases}
+use Rattle.fsb_bench_view.specs.BenchSteps.{bench_stepped, outcome_snooped, step_decided, step_drive, step_entries}
+use Rattle.fsb_bench_view.specs.BenchSteps.{step_releases}
 use Rattle.fsb_bench_view.specs.BusEvents.{bus_heard, entry_started, heard_entries}
 use Rattle.fsb_bench_view.specs.BusLocking.{MayRelease, bus_locked, retried_by}
 use Rattle.fsb_bench_view.specs.BusViews.{BenchView, BusView}

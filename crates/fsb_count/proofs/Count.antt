@@ -1,5 +1,6 @@
 -- How many clocks pass.
-use Rattle.std.proofs.Common.{ℕ, zero, suc, ◌+◌, ◌-◌, ◌<◌, ◌≤◌, ◌≡◌, Bool, true, false, cond, refl, ap, ◌∙◌, arith, add-one, add-zero}
+use Rattle.std.proofs.Common.{ℕ, zero, suc, ◌+◌, ◌-◌, ◌<◌, ◌≤◌, ◌≡◌, Bool, true, false, cond, refl, ap, ◌∙◌, arith}
+use Rattle.std.proofs.Common.{add-one, add-zero}
 use Rattle.fsb_count.specs.Clocks.{count_where, AgreeBelow}
 
 -- one more clock

@@ -1,6 +1,7 @@
 -- The words computed on small tests, with values worked out by hand.
 use Rattle.std.proofs.Common.{ℕ, ◌%◌, ◌≡◌, Bool, true, false, nat_eq, Some, None, [], ◌∷◌, refl}
-use Rattle.fsb_count.specs.Clocks.{first_where, last_where, any_where, count_where, all_where, nth_where, from_clock, holds_since}
+use Rattle.fsb_count.specs.Clocks.{first_where, last_where, any_where, count_where, all_where, nth_where, from_clock}
+use Rattle.fsb_count.specs.Clocks.{holds_since}
 use Rattle.fsb_count.specs.Options.{is_some_and, is_before, is_at, greater_of}
 
 -- clocks 2, 5, 8 and so on pass

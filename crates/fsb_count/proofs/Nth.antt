@@ -1,5 +1,6 @@
 -- The k-th clock that passes.
-use Rattle.std.proofs.Common.{ℕ, zero, suc, ◌+◌, ◌<◌, ◌≤◌, ◌≡◌, Bool, true, false, cond, Some, None, List, [], ◌∷◌, ◌++◌, length, get_or, sym, refl, ap, ◌∙◌, ◌⊎◌, inl, inr, arith, add-one, subst}
+use Rattle.std.proofs.Common.{ℕ, zero, suc, ◌+◌, ◌<◌, ◌≤◌, ◌≡◌, Bool, true, false, cond, Some, None, List, [], ◌∷◌}
+use Rattle.std.proofs.Common.{◌++◌, length, get_or, sym, refl, ap, ◌∙◌, ◌⊎◌, inl, inr, arith, add-one, subst}
 use Rattle.std.specs.List.{slice_get}
 use Rattle.std.proofs.lemmas.Bool.{cases_Bool, cases_order}
 use Rattle.std.proofs.lemmas.List.{length-append, append-nil}
@@ -8,13 +9,15 @@ use Rattle.fsb_count.specs.Clocks.{count_where, all_where, nth_where, AgreeBelow
 use Rattle.fsb_count.proofs.Count.{count_where-same, count_where-mono}
 
 -- an element stays where it is when the list grows
-pub slice_get-grown : {X : Type 0} (xs ys : List X) (k : ℕ) (x : X) → slice_get xs k ≡ Some x → slice_get (xs ++ ys) k ≡ Some x
+pub slice_get-grown : {X : Type 0} (xs ys : List X) (k : ℕ) (x : X) → slice_get xs k ≡ Some x
+    → slice_get (xs ++ ys) k ≡ Some x
 slice_get-grown [] ys k x e = absurd (let h : ⊥ = cc in h)
 slice_get-grown (y ∷ xs) ys zero x e = e
 slice_get-grown (y ∷ xs) ys (suc k) x e = slice_get-grown xs ys k x e
 
 -- an element of a list with one more at its end is of the list, or is that one
-pub slice_get-push : {X : Type 0} (xs : List X) (y : X) (k : ℕ) (x : X) → slice_get (xs ++ y ∷ []) k ≡ Some x → (slice_get xs k ≡ Some x) ⊎ ((k ≡ length xs) × (y ≡ x))
+pub slice_get-push : {X : Type 0} (xs : List X) (y : X) (k : ℕ) (x : X) → slice_get (xs ++ y ∷ []) k ≡ Some x
+    → (slice_get xs k ≡ Some x) ⊎ ((k ≡ length xs) × (y ≡ x))
 slice_get-push [] y zero x e = inr (refl, cc)
 slice_get-push [] y (suc k) x e = absurd (let h : ⊥ = cc in h)
 slice_get-push (z ∷ xs) y zero x e = inl e
@@ -37,7 +40,8 @@ length-all_where p (suc n) =
     ]
 
 -- the k-th clock that passes is below n, passes, and k pass before it
-pub nth_where-found : (p : ℕ → Bool) (k n c : ℕ) → nth_where p k n ≡ Some c → (c < n) × (p c ≡ true) × (count_where p c ≡ k)
+pub nth_where-found : (p : ℕ → Bool) (k n c : ℕ) → nth_where p k n ≡ Some c
+    → (c < n) × (p c ≡ true) × (count_where p c ≡ k)
 unfolding nth_where all_where
 nth_where-found p k zero c e = absurd (let h : ⊥ = cc in h)
 nth_where-found p k (suc n) c e =
@@ -65,7 +69,8 @@ nth_where-at p (suc n) c l t =
     elim (cases_order c n) [
       | inl same ↦
           let here : p n ≡ true = subst (λ m. p m ≡ true) same t in
-          rw here (ap (λ m. slice_get (all_where p n ++ n ∷ []) m) (ap (count_where p) same ∙ sym (length-all_where p n))
+          rw here (ap (λ m. slice_get (all_where p n ++ n ∷ []) m) (ap (count_where p) same
+          ∙ sym (length-all_where p n))
           ∙ slice_get-end (all_where p n) n ∙ ap (λ m. Some m) (sym same))
       | inr other ↦
           let below : c < n = elim other [ inl less ↦ less | inr more ↦ absurd (omega arith) ] in
@@ -73,7 +78,8 @@ nth_where-at p (suc n) c l t =
     ]
 
 -- a clock that is found stays, for a test that agrees so far, and among more clocks
-pub nth_where-stays : (p q : ℕ → Bool) (k n m c : ℕ) → AgreeBelow n p q → n ≤ m → nth_where p k n ≡ Some c → nth_where q k m ≡ Some c
+pub nth_where-stays : (p q : ℕ → Bool) (k n m c : ℕ) → AgreeBelow n p q → n ≤ m → nth_where p k n ≡ Some c
+    → nth_where q k m ≡ Some c
 nth_where-stays p q k n m c a l e =
     let h = nth_where-found p k n c e in
     let below : c < n = h.0 in
@@ -88,7 +94,8 @@ nth_where-cut p k n m c l e =
     rw (← h.2) (nth_where-at p n c l h.1)
 
 -- places and clocks rise together
-pub nth_where-rises : (p : ℕ → Bool) (j k n c d : ℕ) → j < k → nth_where p j n ≡ Some c → nth_where p k n ≡ Some d → c < d
+pub nth_where-rises : (p : ℕ → Bool) (j k n c d : ℕ) → j < k → nth_where p j n ≡ Some c
+    → nth_where p k n ≡ Some d → c < d
 nth_where-rises p j k n c d l e f =
     let g = nth_where-found p j n c e in
     let h = nth_where-found p k n d f in
@@ -123,9 +130,11 @@ all_where-passed p n t = rw (add-one, all_where) (ap (λ b. all_where p n ++ con
 
 pub all_where-failed : (p : ℕ → Bool) (n : ℕ) → p n ≡ false → all_where p (n + 1) ≡ all_where p n
 unfolding all_where
-all_where-failed p n f = rw (add-one, all_where) (ap (λ b. all_where p n ++ cond b (n ∷ []) []) f ∙ append-nil (all_where p n))
+all_where-failed p n f = rw (add-one, all_where) (ap (λ b. all_where p n ++ cond b (n ∷ []) []) f
+    ∙ append-nil (all_where p n))
 
 -- a clock that is found is found wherever the tests agree up to it
-pub nth_where-carried : (p q : ℕ → Bool) (k n m c : ℕ) → AgreeBelow (c + 1) p q → c < m → nth_where p k n ≡ Some c → nth_where q k m ≡ Some c
+pub nth_where-carried : (p q : ℕ → Bool) (k n m c : ℕ) → AgreeBelow (c + 1) p q → c < m
+    → nth_where p k n ≡ Some c → nth_where q k m ≡ Some c
 nth_where-carried p q k n m c a l e =
     nth_where-stays p q k (c + 1) m c a (omega arith) (nth_where-cut p k (c + 1) n c (omega arith) e)

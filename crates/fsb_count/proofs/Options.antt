@@ -1,5 +1,6 @@
 -- What a test says of a number that may not be reached.
-use Rattle.std.proofs.Common.{ℕ, ◌≡◌, Bool, true, false, cond, Option, Some, None, is_some, is_none, refl, ap, arith, ◌+◌, ◌<◌, ◌||◌}
+use Rattle.std.proofs.Common.{ℕ, ◌≡◌, Bool, true, false, cond, Option, Some, None, is_some, is_none, refl, ap, arith}
+use Rattle.std.proofs.Common.{◌+◌, ◌<◌, ◌||◌}
 use Rattle.std.proofs.lemmas.Bool.{eqb-true, eq-eqb, le-ltb, ltb-true, lt-ltb}
 use Rattle.fsb_count.specs.Options.{is_some_and, is_before, is_at}
 use Rattle.fsb_count.proofs.Bools.{nat_lt-more}

@@ -1,5 +1,6 @@
 -- What `decoded` means: a request exactly where two clocks are those of a lawful one, and each fault exactly.
-use Rattle.std.proofs.Common.{◌≡◌, ◌↔◌, ℕ, true, false, Option, Some, None, Result, Ok, Err, refl, sym, ap, ◌∙◌, inl, inr}
+use Rattle.std.proofs.Common.{◌≡◌, ◌↔◌, ℕ, true, false, Option, Some, None, Result, Ok, Err, refl, sym, ap, ◌∙◌, inl}
+use Rattle.std.proofs.Common.{inr}
 use Rattle.std.specs.Prelude.{is_some}
 use Rattle.std.specs.Option.{option_and_then, ok_or}
 use Rattle.std.specs.Result.{result_ok}
@@ -8,16 +9,21 @@ use Rattle.fsb_encode.specs.declared.request.Request.{Request}
 use Rattle.fsb_encode.specs.declared.request.Pair.{Pair}
 use Rattle.fsb_encode.specs.declared.decoding.DecodeFault.{DecodeFault}
 use Rattle.fsb_encode.specs.declared.decoding.DecodeFault.TheVariants.{BadCode, BadLen, BadField}
-use Rattle.fsb_encode.specs.Decoded.{is_code, kind_of, read_off, if_coded_as, request_of, decoded, IsCode, IsKind, IsCodedAs}
-use Rattle.fsb_encode.proofs.CodedRequests.{kind_of-coded, read_off-coded, test_from_coded, coded_from_request_of, request_of_coded}
+use Rattle.fsb_encode.specs.Decoded.{is_code, kind_of, read_off, if_coded_as, request_of, decoded, IsCode, IsKind}
+use Rattle.fsb_encode.specs.Decoded.{IsCodedAs}
+use Rattle.fsb_encode.proofs.CodedRequests.{kind_of-coded, read_off-coded, test_from_coded, coded_from_request_of}
+use Rattle.fsb_encode.proofs.CodedRequests.{request_of_coded}
 use Rattle.fsb_encode.proofs.DecodedSteps.{kind_of-code, decoded-coded}
 use Rattle.fsb_encode.proofs.Samples.{code_from_test, kind_from_test, test_from_code, test_from_kind}
 
 -- the three ways to read two clocks
 data Reading (a b : Pair) : Type 0 where
-  no_code : is_code a.req ≡ false → is_some (kind_of a.req b.req) ≡ false → decoded a b ≡ Err (BadCode a.req) → Reading a b
-  no_kind : is_code a.req ≡ true → is_some (kind_of a.req b.req) ≡ false → decoded a b ≡ Err (BadLen b.req) → Reading a b
-  of_kind : is_code a.req ≡ true → is_some (kind_of a.req b.req) ≡ true → decoded a b ≡ ok_or (request_of a b) BadField → Reading a b
+  no_code : is_code a.req ≡ false → is_some (kind_of a.req b.req) ≡ false → decoded a b ≡ Err (BadCode a.req)
+      → Reading a b
+  no_kind : is_code a.req ≡ true → is_some (kind_of a.req b.req) ≡ false → decoded a b ≡ Err (BadLen b.req)
+      → Reading a b
+  of_kind : is_code a.req ≡ true → is_some (kind_of a.req b.req) ≡ true
+      → decoded a b ≡ ok_or (request_of a b) BadField → Reading a b
 
 reading : (a b : Pair) → Reading a b
 unfolding decoded
@@ -25,7 +31,8 @@ reading a b =
     elim (cases_Bool (is_code a.req)) [
       | inr code ↦
           let none : is_some (kind_of a.req b.req) ≡ false =
-          false_from_ne_true (is_some (kind_of a.req b.req)) (λ kind. both_ways (is_code a.req) code (kind_of-code a.req b.req kind)) in
+          false_from_ne_true (is_some (kind_of a.req b.req))
+          (λ kind. both_ways (is_code a.req) code (kind_of-code a.req b.req kind)) in
           no_code code none (rw code refl)
       | inl code ↦ elim (cases_Bool (is_some (kind_of a.req b.req)))
           [ inl kind ↦ of_kind code kind (rw (code, kind) refl) | inr kind ↦ no_kind code kind (rw (code, kind) refl) ]
@@ -34,7 +41,8 @@ reading a b =
 request_of-none : (a b : Pair) → is_some (kind_of a.req b.req) ≡ false → request_of a b ≡ None
 unfolding request_of
 request_of-none a b h =
-    elim (kind_of a.req b.req) as (λ o. is_some o ≡ false → option_and_then (λ kind. if_coded_as (read_off kind a b) a b) o ≡ None)
+    elim (kind_of a.req b.req) as (λ o. is_some o ≡ false
+    → option_and_then (λ kind. if_coded_as (read_off kind a b) a b) o ≡ None)
     [ None ↦ λ _. refl | Some kind ↦ λ e. absurd (cc e) ] h
 
 result_ok-ok_or : (o : Option Request) (fault : DecodeFault) → result_ok (ok_or o fault) ≡ o
@@ -54,7 +62,8 @@ result_ok-decoded a b =
 pub decoded-ok : (a b : Pair) (r : Request) → (decoded a b ≡ Ok r) ↔ IsCodedAs r a b
 decoded-ok a b r = (
   λ e. coded_from_request_of r a b (sym (result_ok-decoded a b) ∙ ap result_ok e),
-  λ coded. sym (decoded-coded a b r.kind r (kind_of-coded r a b coded) (sym (read_off-coded r a b coded)) (test_from_coded r a b coded)),
+  λ coded. sym (decoded-coded a b r.kind r (kind_of-coded r a b coded) (sym (read_off-coded r a b coded))
+      (test_from_coded r a b coded)),
 )
 
 -- what `ok_or` answers is no fault of a REQ word
@@ -80,30 +89,49 @@ decoded-bad_code a b v =
         λ h. e ∙ ap (λ n. let w : R = Err (BadCode n) in w) (sym h.0),
       )
       | no_kind code kind e ↦ (λ h. absurd (cc (e, h)), λ h. absurd (h.1 (code_from_test a.req code)))
-      | of_kind code kind e ↦ (λ h. absurd (ok_or_code (request_of a b) v (sym e ∙ h)), λ h. absurd (h.1 (code_from_test a.req code)))
+      | of_kind code kind e ↦
+          (λ h. absurd (ok_or_code (request_of a b) v (sym e ∙ h)), λ h. absurd (h.1 (code_from_test a.req code)))
     ]
 
 -- no length exactly where some lawful request has the first REQ word, and none of these the second
-pub decoded-bad_len : (a b : Pair) (v : ℕ) → (decoded a b ≡ Err (BadLen v)) ↔ ((v ≡ b.req) × IsCode a.req × ¬ IsKind a.req b.req)
+pub decoded-bad_len : (a b : Pair) (v : ℕ)
+    → (decoded a b ≡ Err (BadLen v)) ↔ ((v ≡ b.req) × IsCode a.req × ¬ IsKind a.req b.req)
 decoded-bad_len a b v =
     let R : Type 0 = Result Request DecodeFault in
     elim (reading a b) [
-      | no_code code kind e ↦ (λ h. absurd (cc (e, h)), λ h. absurd (both_ways (is_code a.req) code (test_from_code a.req h.1)))
+      | no_code code kind e ↦
+          (λ h. absurd (cc (e, h)), λ h. absurd (both_ways (is_code a.req) code (test_from_code a.req h.1)))
       | no_kind code kind e ↦ (
-        λ h. (cc, code_from_test a.req code, λ is. both_ways (is_some (kind_of a.req b.req)) kind (test_from_kind a.req b.req is)),
+        λ h. (
+          cc,
+          code_from_test a.req code,
+          λ is. both_ways (is_some (kind_of a.req b.req)) kind (test_from_kind a.req b.req is),
+        ),
         λ h. e ∙ ap (λ n. let w : R = Err (BadLen n) in w) (sym h.0),
       )
-      | of_kind code kind e ↦ (λ h. absurd (ok_or_len (request_of a b) v (sym e ∙ h)), λ h. absurd (h.2 (kind_from_test a.req b.req kind)))
+      | of_kind code kind e ↦
+          (λ h. absurd (ok_or_len (request_of a b) v (sym e ∙ h)), λ h. absurd (h.2 (kind_from_test a.req b.req kind)))
     ]
 
 -- a bad field exactly where some lawful request has the REQ words, and none the two clocks
-pub decoded-bad_field : (a b : Pair) → (decoded a b ≡ Err BadField) ↔ (IsKind a.req b.req × ((r : Request) → ¬ IsCodedAs r a b))
+pub decoded-bad_field : (a b : Pair)
+    → (decoded a b ≡ Err BadField) ↔ (IsKind a.req b.req × ((r : Request) → ¬ IsCodedAs r a b))
 decoded-bad_field a b =
     elim (reading a b) [
-      | no_code code kind e ↦ (λ h. absurd (cc (e, h)), λ h. absurd (both_ways (is_some (kind_of a.req b.req)) kind (test_from_kind a.req b.req h.0)))
-      | no_kind code kind e ↦ (λ h. absurd (cc (e, h)), λ h. absurd (both_ways (is_some (kind_of a.req b.req)) kind (test_from_kind a.req b.req h.0)))
+      | no_code code kind e ↦ (
+        λ h. absurd (cc (e, h)),
+        λ h. absurd (both_ways (is_some (kind_of a.req b.req)) kind (test_from_kind a.req b.req h.0)),
+      )
+      | no_kind code kind e ↦ (
+        λ h. absurd (cc (e, h)),
+        λ h. absurd (both_ways (is_some (kind_of a.req b.req)) kind (test_from_kind a.req b.req h.0)),
+      )
       | of_kind code kind e ↦ (
-        λ h. (kind_from_test a.req b.req kind, λ r coded. none_is_some (request_of a b) r (ok_or_field (request_of a b) (sym e ∙ h)) (request_of_coded r a b coded)),
+        λ h. (
+          kind_from_test a.req b.req kind,
+          λ r coded. none_is_some (request_of a b) r (ok_or_field (request_of a b) (sym e ∙ h))
+              (request_of_coded r a b coded),
+        ),
         λ h. e ∙ field_from_none (request_of a b) (λ r found. h.1 r (coded_from_request_of r a b found)),
       )
     ]

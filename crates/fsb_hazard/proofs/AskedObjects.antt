@@ -1,5 +1,6 @@
 -- Objects that are asked one after the other.
-use Rattle.std.proofs.Common.{◌≡◌, ℕ, ◌+◌, ◌<◌, List, [], ◌∷◌, ◌++◌, length, map, take, get_or, Option, sym, ap, ◌∙◌, add-one}
+use Rattle.std.proofs.Common.{◌≡◌, ℕ, ◌+◌, ◌<◌, List, [], ◌∷◌, ◌++◌, length, map, take, get_or, Option, sym, ap, ◌∙◌}
+use Rattle.std.proofs.Common.{add-one}
 use Rattle.std.proofs.Math.ListN.{get_or-map}
 use Rattle.std.proofs.Math.Seq.{take-suc}
 use Rattle.std.proofs.lemmas.List.{length-map}
@@ -11,7 +12,8 @@ use Rattle.fsb_hazard.specs.Told.{Told, IsAnswer}
 use Rattle.fsb_hazard.specs.Asking.{AreAnswers, IsJoined}
 
 answers-more : (objects : List (Option Told)) (ask : Ask) (answers : List Choice) (told : Option Told) (answer : Choice)
-    → AreAnswers objects ask answers → IsAnswer told ask answer → AreAnswers (objects ++ told ∷ []) ask (answers ++ answer ∷ [])
+    → AreAnswers objects ask answers → IsAnswer told ask answer
+    → AreAnswers (objects ++ told ∷ []) ask (answers ++ answer ∷ [])
 answers-more [] ask [] told answer front last = (last, tt)
 answers-more [] ask (other ∷ answers) told answer front last = absurd front
 answers-more (object ∷ objects) ask [] told answer front last = absurd front
@@ -28,7 +30,8 @@ joined_more objects ask told choice answer front last = record {
 }
 
 -- the object at a place was asked after those before it
-pub joined_at : {B : Type 0} (told : B → Option Told) (now old : List B) (i : ℕ) (d : B) (ask : Ask) (choice answer : Choice)
+pub joined_at : {B : Type 0} (told : B → Option Told) (now old : List B) (i : ℕ) (d : B) (ask : Ask)
+    (choice answer : Choice)
     → i < length now → map told now ≡ map told old
     → IsJoined (take i (map told old)) ask choice → IsAnswer (told (get_or now i d)) ask answer
     → IsJoined (take (i + 1) (map told old)) ask (join choice answer)

@@ -11,7 +11,8 @@ use Rattle.fsb_hazard.specs.declared.line.HazardLine.{HazardLine}
 use Rattle.fsb_hazard.specs.Choice.{quiet_choice, join_turns, join}
 use Rattle.fsb_hazard.specs.Entry.{is_asked, choice_of, entry}
 
-same_choice : (a b c d : Bool) (k l m n k' l' m' n' : ℕ) (s t : Turn) → a ≡ c → b ≡ d → k ≡ k' → l ≡ l' → m ≡ m' → n ≡ n' → s ≡ t
+same_choice : (a b c d : Bool) (k l m n k' l' m' n' : ℕ) (s t : Turn) → a ≡ c → b ≡ d → k ≡ k' → l ≡ l' → m ≡ m'
+    → n ≡ n' → s ≡ t
     → (let x : Choice = record { bnr = a; aerr = b; stall = k; trdy = l; resp = m; gap = n; turn = s } in
     let y : Choice = record { bnr = c; aerr = d; stall = k'; trdy = l'; resp = m'; gap = n'; turn = t } in x ≡ y)
 same_choice a b c d k l m n k' l' m' n' s t e1 e2 e3 e4 e5 e6 e7 = cc
@@ -63,7 +64,8 @@ pub join_regroups : (a b c : Choice) → join (join a b) c ≡ join a (join b c)
 join_regroups a b c =
     same_choice _ _ _ _ _ _ _ _ _ _ _ _ _ _
     (or_assoc a.bnr b.bnr c.bnr) (or_assoc a.aerr b.aerr c.aerr)
-    (max_regroup a.stall b.stall c.stall) (max_regroup a.trdy b.trdy c.trdy) (max_regroup a.resp b.resp c.resp) (max_regroup a.gap b.gap c.gap)
+    (max_regroup a.stall b.stall c.stall) (max_regroup a.trdy b.trdy c.trdy) (max_regroup a.resp b.resp c.resp)
+    (max_regroup a.gap b.gap c.gap)
     (turns_regroup a.turn b.turn c.turn)
 
 pub join_once : (a : Choice) → join a a ≡ a
@@ -86,20 +88,30 @@ fold_from a (c ∷ cs) =
     let first : join quiet_choice c ≡ c = join_commutes quiet_choice c ∙ join_nothing c in
     fold_from (join a c) cs
     ∙ join_regroups a c (fold join quiet_choice cs)
-    ∙ ap (λ x. join a x) (ap (λ x. join x (fold join quiet_choice cs)) (sym first) ∙ sym (fold_from (join quiet_choice c) cs))
+    ∙ ap (λ x. join a x) (ap (λ x. join x (fold join quiet_choice cs)) (sym first)
+    ∙ sym (fold_from (join quiet_choice c) cs))
 
 entry_of_line : Ask → HazardLine → List HazardLine → Choice
 entry_of_line ask line lines = cond (is_asked ask line) (join (choice_of line) (entry lines ask)) (entry lines ask)
 
-entry-cons : (ask : Ask) (line : HazardLine) (lines : List HazardLine) → entry (line ∷ lines) ask ≡ entry_of_line ask line lines
+entry-cons : (ask : Ask) (line : HazardLine) (lines : List HazardLine)
+    → entry (line ∷ lines) ask ≡ entry_of_line ask line lines
 unfolding entry_of_line
 entry-cons ask line lines =
     let rest : List Choice = map choice_of (filter (is_asked ask) lines) in
-    let first : join quiet_choice (choice_of line) ≡ choice_of line = join_commutes quiet_choice (choice_of line) ∙ join_nothing (choice_of line) in
-    elim (is_asked ask line) as (λ t. fold join quiet_choice (map choice_of (cond t (line ∷ filter (is_asked ask) lines) (filter (is_asked ask) lines))) ≡ cond t (join (choice_of line) (fold join quiet_choice rest)) (fold join quiet_choice rest))
-    [ true ↦ fold_from (join quiet_choice (choice_of line)) rest ∙ ap (λ c. join c (fold join quiet_choice rest)) first | false ↦ refl ]
+    let first : join quiet_choice (choice_of line) ≡ choice_of line =
+    join_commutes quiet_choice (choice_of line) ∙ join_nothing (choice_of line) in
+    elim (is_asked ask line) as
+    (λ t. fold join quiet_choice
+    (map choice_of (cond t (line ∷ filter (is_asked ask) lines) (filter (is_asked ask) lines)))
+    ≡ cond t (join (choice_of line) (fold join quiet_choice rest)) (fold join quiet_choice rest)) [
+      | true ↦ fold_from (join quiet_choice (choice_of line)) rest
+          ∙ ap (λ c. join c (fold join quiet_choice rest)) first
+      | false ↦ refl
+    ]
 
-entry_of_line-append : (asked : Bool) (said whole front back : Choice) → whole ≡ join front back → cond asked (join said whole) whole ≡ join (cond asked (join said front) front) back
+entry_of_line-append : (asked : Bool) (said whole front back : Choice) → whole ≡ join front back
+    → cond asked (join said whole) whole ≡ join (cond asked (join said front) front) back
 entry_of_line-append true said whole front back h = ap (λ c. join said c) h ∙ sym (join_regroups said front back)
 entry_of_line-append false said whole front back h = h
 
@@ -108,5 +120,6 @@ unfolding entry_of_line
 entry-append [] ys ask = sym (join_commutes quiet_choice (entry ys ask) ∙ join_nothing (entry ys ask))
 entry-append (line ∷ xs) ys ask =
     entry-cons ask line (xs ++ ys)
-    ∙ entry_of_line-append (is_asked ask line) (choice_of line) (entry (xs ++ ys) ask) (entry xs ask) (entry ys ask) (entry-append xs ys ask)
+    ∙ entry_of_line-append (is_asked ask line) (choice_of line) (entry (xs ++ ys) ask) (entry xs ask)
+    (entry ys ask) (entry-append xs ys ask)
     ∙ ap (λ c. join c (entry ys ask)) (sym (entry-cons ask line xs))

@@ -1,5 +1,6 @@
 -- Objects that load lines one after the other.
-use Rattle.std.proofs.Common.{◌≡◌, ℕ, suc, ◌+◌, ◌<◌, Bool, List, [], ◌∷◌, ◌++◌, length, map, take, drop, get_or, set, Option, sym, ap, ◌∙◌, arith, add-one, append_assoc, refl}
+use Rattle.std.proofs.Common.{◌≡◌, ℕ, suc, ◌+◌, ◌<◌, Bool, List, [], ◌∷◌, ◌++◌, length, map, take, drop, get_or, set}
+use Rattle.std.proofs.Common.{Option, sym, ap, ◌∙◌, arith, add-one, append_assoc, refl}
 use Rattle.std.proofs.Math.ListN.{get_or-map}
 use Rattle.std.proofs.Math.Seq.{take-suc, drop-cons, set-append_seam, get_or-append_seam}
 use Rattle.std.proofs.lemmas.List.{length-map, length-take-le, map-append, map-set}
@@ -16,7 +17,8 @@ set-middle all front back value other i is long =
 get_or-middle : {A : Type 0} (all front back : List A) (value d : A) (i : ℕ)
     → all ≡ front ++ value ∷ back → length front ≡ i → get_or all i d ≡ value
 get_or-middle all front back value d i is long =
-    ap (λ l. get_or l i d) is ∙ ap (λ j. get_or (front ++ value ∷ back) j d) (sym long) ∙ get_or-append_seam front value back d
+    ap (λ l. get_or l i d) is ∙ ap (λ j. get_or (front ++ value ∷ back) j d) (sym long)
+    ∙ get_or-append_seam front value back d
 
 -- the object at a place loads the lines, as those before it did
 pub loaded_at : {B : Type 0} (told : B → Option Told) (scripted : B → Bool) (lines : List HazardLine)
@@ -31,12 +33,14 @@ loaded_at {B = B} told scripted lines now old i d new within kinds front loads =
     let here : B = get_or old i d in
     let all : map told now ≡ map after (take i old) ++ told here ∷ map told (drop (suc i) old) =
     front ∙ ap (λ l. map after (take i old) ++ map told l) (drop-cons old i d within) in
-    let long : length (map after (take i old)) ≡ i = length-map (take i old) after ∙ length-take-le i old (omega (arith, within)) in
+    let long : length (map after (take i old)) ≡ i = length-map (take i old) after
+    ∙ length-take-le i old (omega (arith, within)) in
     let was : told (get_or now i d) ≡ told here =
     sym (get_or-map told now i d) ∙ get_or-middle (map told now) _ _ (told here) (told d) i all long in
     let kind : scripted (get_or now i d) ≡ scripted here =
     sym (get_or-map scripted now i d) ∙ ap (λ l. get_or l i (scripted d)) kinds ∙ get_or-map scripted old i d in
-    let loaded : told new ≡ after here = loads ∙ ap (λ t. told_after (scripted (get_or now i d)) lines t) was ∙ ap (λ s. told_after s lines (told here)) kind in
+    let loaded : told new ≡ after here = loads ∙ ap (λ t. told_after (scripted (get_or now i d)) lines t) was
+    ∙ ap (λ s. told_after s lines (told here)) kind in
     map-set told now i new
     ∙ set-middle (map told now) _ _ (told here) (told new) i all long
     ∙ rw (add-one, take-suc old i d within, map-append, loaded) refl

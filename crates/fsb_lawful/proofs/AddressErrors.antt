@@ -9,7 +9,8 @@ use Rattle.fsb_trace.proofs.Interface.{breaks-10}
 use Rattle.fsb_timely.specs.Moments.{choice_at}
 use Rattle.fsb_timely.specs.Past.{Past}
 use Rattle.fsb_timely.specs.Runs.{Run, run_to, past_of, past_to}
-use Rattle.fsb_timely.specs.Snoops.{is_error_chosen, drives_bnr, drives_aerr, drives_stalls, drives_defer, keeps_snoop_lines, drives_hazards}
+use Rattle.fsb_timely.specs.Snoops.{is_error_chosen, drives_bnr, drives_aerr, drives_stalls, drives_defer}
+use Rattle.fsb_timely.specs.Snoops.{keeps_snoop_lines, drives_hazards}
 use Rattle.fsb_timely.specs.Timely.{holds_in, holds_at, Timely}
 use Rattle.fsb_lawful.specs.Keeps.{Keeps}
 use Rattle.fsb_lawful.proofs.Keeping.{and-fails, and3, and5, same-beq, keeps}
@@ -24,7 +25,8 @@ behind_request : (r : Run) (p : Past) (c : ℕ) → drives_hazards r p c ≡ tru
     → line_back ADS r.trace c 3 ≡ true
 unfolding drives_hazards drives_aerr
 behind_request r p c e t =
-    let a = and5 (drives_bnr r c) (drives_aerr r c) (drives_stalls r c) (drives_defer r p c) (keeps_snoop_lines r c) e in
+    let a = and5 (drives_bnr r c) (drives_aerr r c) (drives_stalls r c) (drives_defer r p c)
+    (keeps_snoop_lines r c) e in
     chosen r c (sym (same-beq (line_at AERR r.trace c) (is_error_chosen r c) a.1) ∙ t)
 
 at-clock : (r : Run) (c : ℕ) → Timely r → c < length r.trace → line_at AERR (take (c + 1) r.trace) c ≡ true

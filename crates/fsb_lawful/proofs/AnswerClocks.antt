@@ -1,5 +1,6 @@
 -- The clock from which a live request is answered: what it rests on, and that it stays.
-use Rattle.std.proofs.Common.{ℕ, zero, suc, ◌+◌, ◌<◌, ◌≤◌, ◌≡◌, true, ◌||◌, Option, Some, None, max, refl, ap, arith, add-one, subst, length}
+use Rattle.std.proofs.Common.{ℕ, zero, suc, ◌+◌, ◌<◌, ◌≤◌, ◌≡◌, true, ◌||◌, Option, Some, None, max, refl, ap, arith}
+use Rattle.std.proofs.Common.{add-one, subst, length}
 use Rattle.std.specs.Option.{option_map}
 use Rattle.std.proofs.lemmas.Bool.{lt-ltb}
 use Rattle.fsb_count.specs.Options.{is_some_and, is_before, greater_of}
@@ -13,7 +14,8 @@ use Rattle.fsb_trace.specs.Snoop.{snoop_end_of}
 use Rattle.fsb_trace.specs.Outcome.{response_clock_of}
 use Rattle.fsb_trace.specs.Response.{takes, end_of, is_clear_before, two_after_snoop, answer_from}
 use Rattle.fsb_trace.specs.Rules.{next_response}
-use Rattle.fsb_trace.proofs.Interface.{snoop_end_of-stays, snoop_end_of-before, end_of-stays, end_of-response, live_request_of-stays, line_at_snoop_end-stays}
+use Rattle.fsb_trace.proofs.Interface.{snoop_end_of-stays, snoop_end_of-before, end_of-stays, end_of-response}
+use Rattle.fsb_trace.proofs.Interface.{live_request_of-stays, line_at_snoop_end-stays}
 use Rattle.fsb_laws.proofs.Interface.{HasAnswer, clear_parts}
 
 -- the parts of the clock from which the first request is answered, and of that of another one
@@ -98,5 +100,11 @@ response-before w c i l m =
     let h = nth_where-there (responds_at w) i c m in
     let r : ℕ = h.0 in
     let p = nth_where-found (responds_at w) i c r h.1 in
-    let below : r < c = p.0 in
-    (r, below, subst (λ k. nth_where (responds_at w) k (length w) ≡ Some r) p.2 (nth_where-at (responds_at w) (length w) r (omega arith) p.1), p.1, p.2)
+    let below : r < c = p.0 in (
+      r,
+      below,
+      subst (λ k. nth_where (responds_at w) k (length w) ≡ Some r) p.2
+          (nth_where-at (responds_at w) (length w) r (omega arith) p.1),
+      p.1,
+      p.2,
+    )

@@ -1,5 +1,6 @@
 -- Rules 13 and 15: responses and TRDY# of a timely run come in time.
-use Rattle.std.proofs.Common.{ℕ, ◌+◌, ◌<◌, ◌≡◌, Bool, true, false, not, ◌&&◌, length, take, refl, sym, ap, ◌∙◌, arith, inl, inr, subst}
+use Rattle.std.proofs.Common.{ℕ, ◌+◌, ◌<◌, ◌≡◌, Bool, true, false, not, ◌&&◌, length, take, refl, sym, ap, ◌∙◌, arith}
+use Rattle.std.proofs.Common.{inl, inr, subst}
 use Rattle.std.proofs.lemmas.Bool.{and_parts, le-leb, or_from}
 use Rattle.fsb_count.specs.Options.{is_some_and, is_before}
 use Rattle.fsb_count.proofs.Interface.{any_where-found, count_where-mono, is_before-parts}
@@ -9,7 +10,8 @@ use Rattle.fsb_signal.specs.Samples.{line_at}
 use Rattle.fsb_trace.specs.At.{Trace, responds_at}
 use Rattle.fsb_trace.specs.Requests.{live_count}
 use Rattle.fsb_trace.specs.Response.{takes, ready_clock_of}
-use Rattle.fsb_trace.specs.Rules.{next_response, may_answer, is_response_early, responds_soundly, is_ready_in_time, is_ready_wrongly, is_target_ready_wrong}
+use Rattle.fsb_trace.specs.Rules.{next_response, may_answer, is_response_early, responds_soundly, is_ready_in_time}
+use Rattle.fsb_trace.specs.Rules.{is_ready_wrongly, is_target_ready_wrong}
 use Rattle.fsb_trace.proofs.Interface.{breaks-13, breaks-15}
 use Rattle.fsb_laws.proofs.Interface.{may_answer-from}
 use Rattle.fsb_timely.specs.Runs.{Run, run_to}
@@ -42,7 +44,8 @@ keeps-13 m r h = keeps m 13 r.trace (λ c l. breaks-13 m (take (c + 1) r.trace) 
 
 -- TRDY# comes once for a request
 not-ready-before : (r : Run) (c : ℕ) → Timely r → c < length r.trace
-    → IsReadyDue (run_to r c).trace (live_choice r (next_response (run_to r c).trace c)).trdy c (next_response (run_to r c).trace c)
+    → IsReadyDue (run_to r c).trace (live_choice r (next_response (run_to r c).trace c)).trdy c
+    (next_response (run_to r c).trace c)
     → (b : Bool) → is_before (ready_clock_of (run_to r c).trace (next_response (run_to r c).trace c)) c ≡ b
     → b ≡ false
 unfolding next_response
@@ -52,7 +55,8 @@ not-ready-before r c h l now true e =
     let i = next_response v c in
     let y = is_before-parts (ready_clock_of v i) c e in
     let below : y.0 < c = y.2 in
-    let then = ready-then r c i y.0 h l (λ t k. one_answer r t h (omega arith)) y.1 below (count_where-mono (responds_at v) y.0 c (omega arith)) in
+    let then = ready-then r c i y.0 h l (λ t k. one_answer r t h (omega arith)) y.1 below
+    (count_where-mono (responds_at v) y.0 c (omega arith)) in
     let same = one-ready v (live_choice r i).trdy y.0 c i then now in absurd (omega arith)
 
 ready_rightly : (r : Run) (c : ℕ) → Timely r → c < length r.trace → line_at TRDY (run_to r c).trace c ≡ true
@@ -65,7 +69,8 @@ ready_rightly r c h l t =
     let same : any.0 ≡ i = (one_answer r c h l).ready any.0 any.2 in
     let now = ready-now r c i l (subst (λ k. is_ready_due (run_to r c) c k ≡ true) same any.2) in
     let may = may_answer-from v c i (ready-answer v (live_choice r i).trdy c i now) in
-    or_from (not (takes v i && may_answer v c i)) (is_before (ready_clock_of v i) c) (rw (now.does_take, may) refl) (not-ready-before r c h l now (is_before (ready_clock_of v i) c) refl)
+    or_from (not (takes v i && may_answer v c i)) (is_before (ready_clock_of v i) c)
+    (rw (now.does_take, may) refl) (not-ready-before r c h l now (is_before (ready_clock_of v i) c) refl)
 
 taken_in_time : (w : Trace) (wait c i : ℕ) → Responding w wait c i → takes w i ≡ true
     → is_ready_in_time w c i ≡ true
@@ -91,7 +96,8 @@ unfolding is_target_ready_wrong
 wrong r c h l =
     let v = (run_to r c).trace in
     let i = next_response v c in
-    or_from (line_at TRDY v c && is_ready_wrongly v c i) (responds_soundly v c && takes v i && not (is_ready_in_time v c i))
+    or_from (line_at TRDY v c && is_ready_wrongly v c i)
+    (responds_soundly v c && takes v i && not (is_ready_in_time v c i))
     (and-fails (line_at TRDY v c) (is_ready_wrongly v c i) (λ t. ready_rightly r c h l t))
     (and-fails (responds_soundly v c && takes v i) (not (is_ready_in_time v c i)) (λ t. late r c h l t))
 

@@ -1,5 +1,6 @@
 -- Rules 2, 4, 5 and 6: a request of a timely run begins only where it may.
-use Rattle.std.proofs.Common.{ℕ, ◌+◌, ◌<◌, ◌≡◌, Bool, true, false, not, ◌||◌, Option, Some, None, length, take, nat_lt, nat_le, is_none, refl, sym, ◌∙◌, ap}
+use Rattle.std.proofs.Common.{ℕ, ◌+◌, ◌<◌, ◌≡◌, Bool, true, false, not, ◌||◌, Option, Some, None, length, take, nat_lt}
+use Rattle.std.proofs.Common.{nat_le, is_none, refl, sym, ◌∙◌, ap}
 use Rattle.std.proofs.lemmas.Bool.{and_parts, ltb-true, lt-leb}
 use Rattle.fsb_count.specs.Options.{is_some_and}
 use Rattle.fsb_signal.specs.declared.lines.TheConstants.Lines.{ADS, BNR}
@@ -13,7 +14,8 @@ use Rattle.fsb_trace.specs.Rules.{is_request_too_soon, is_queue_full, is_request
 use Rattle.fsb_trace.proofs.Interface.{breaks-2, breaks-4, breaks-5, breaks-6, winner_after-low}
 use Rattle.fsb_timely.specs.Past.{Past}
 use Rattle.fsb_timely.specs.Runs.{Run, run_to, past_of, past_to}
-use Rattle.fsb_timely.specs.Starts.{is_kept_back, is_spaced, has_room, has_free_winner, may_begin, drives_ads, drives_pair, starts_requests}
+use Rattle.fsb_timely.specs.Starts.{is_kept_back, is_spaced, has_room, has_free_winner, may_begin, drives_ads}
+use Rattle.fsb_timely.specs.Starts.{drives_pair, starts_requests}
 use Rattle.fsb_timely.specs.Timely.{holds_in, holds_at, Timely}
 use Rattle.fsb_lawful.specs.Keeps.{Keeps}
 use Rattle.fsb_lawful.proofs.Keeping.{and-fails, and4, not-true, same-beq, keeps}
@@ -51,7 +53,8 @@ begins-where : (r : Run) (p : Past) (c : ℕ) → starts_requests r p c ≡ true
     → Begins r.trace c
 unfolding starts_requests drives_ads
 begins-where r p c e t =
-    let same = same-beq (line_at ADS r.trace c) (may_begin r p c) (and_parts (drives_ads r p c) (drives_pair r p c) e).0 in
+    let same = same-beq (line_at ADS r.trace c) (may_begin r p c)
+    (and_parts (drives_ads r p c) (drives_pair r p c) e).0 in
     begins-by r p c (sym same ∙ t)
 
 -- where a request of a timely run begins
@@ -72,7 +75,8 @@ pub not-low : (v : Trace) (c : ℕ) (who : Who) (b : Bool) → nat_lt c 2 ≡ b 
 unfolding winner_at
 not-low v c who false e w = e
 not-low v c who true e w =
-    absurd (let none : winner_after v c (requesters_before v c) ≡ None = winner_after-low v c (requesters_before v c) e in let no : ⊥ = cc in no)
+    absurd (let none : winner_after v c (requesters_before v c) ≡ None =
+    winner_after-low v c (requesters_before v c) e in let no : ⊥ = cc in no)
 
 far : (v : Trace) (c : ℕ) → Begins v c → (nat_lt c 2 || line_back ADS v c 1 || line_back ADS v c 2) ≡ false
 far v c h = rw (not-low v c h.who (nat_lt c 2) refl h.wins, h.not_before, h.nor_before) refl
@@ -88,14 +92,16 @@ pub keeps-2 : (m : Marks) (r : Run) → Timely r → Keeps m 2 r.trace
 unfolding is_request_too_soon
 keeps-2 m r h = keeps m 2 r.trace (λ c l.
     let v = take (c + 1) r.trace in
-    breaks-2 m v c ∙ and-fails (line_at ADS v c) (nat_lt c 2 || line_back ADS v c 1 || line_back ADS v c 2) (λ t. far v c (begins-at r c h l t)))
+    breaks-2 m v c ∙ and-fails (line_at ADS v c) (nat_lt c 2 || line_back ADS v c 1 || line_back ADS v c 2)
+    (λ t. far v c (begins-at r c h l t)))
 
 -- rule 4
 pub keeps-4 : (m : Marks) (r : Run) → Timely r → Keeps m 4 r.trace
 unfolding is_queue_full
 keeps-4 m r h = keeps m 4 r.trace (λ c l.
     let v = take (c + 1) r.trace in
-    breaks-4 m v c ∙ and-fails (line_at ADS v c) (nat_le 8 (length (in_flight v c))) (λ t. no_full v c (begins-at r c h l t)))
+    breaks-4 m v c ∙ and-fails (line_at ADS v c) (nat_le 8 (length (in_flight v c)))
+    (λ t. no_full v c (begins-at r c h l t)))
 
 -- rule 5
 pub keeps-5 : (m : Marks) (r : Run) → Timely r → Keeps m 5 r.trace

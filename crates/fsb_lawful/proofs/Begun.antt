@@ -1,5 +1,6 @@
 -- The request that begins in a timely run is the one that its winner would begin.
-use Rattle.std.proofs.Common.{ℕ, suc, ◌+◌, ◌-◌, ◌<◌, ◌≡◌, Bool, true, false, Option, Some, None, length, nat_eq, refl, sym, ap, ◌∙◌, arith, add-one}
+use Rattle.std.proofs.Common.{ℕ, suc, ◌+◌, ◌-◌, ◌<◌, ◌≡◌, Bool, true, false, Option, Some, None, length, nat_eq, refl}
+use Rattle.std.proofs.Common.{sym, ap, ◌∙◌, arith, add-one}
 use Rattle.std.specs.Option.{option_map, option_and_then}
 use Rattle.std.proofs.lemmas.Bool.{and_parts, eqb-true, le-leb}
 use Rattle.fsb_count.specs.Options.{is_some_and}
@@ -13,7 +14,8 @@ use Rattle.fsb_signal.specs.Samples.{line_at}
 use Rattle.fsb_trace.specs.At.{Trace, line_back, known_pair, known_pair_at, request_at}
 use Rattle.fsb_timely.specs.Past.{Past}
 use Rattle.fsb_timely.specs.Runs.{Run, run_to, past_of, past_to}
-use Rattle.fsb_timely.specs.Starts.{request_begun, request_begun_before, pair_due, drives_ads, drives_pair, starts_requests}
+use Rattle.fsb_timely.specs.Starts.{request_begun, request_begun_before, pair_due, drives_ads, drives_pair}
+use Rattle.fsb_timely.specs.Starts.{starts_requests}
 use Rattle.fsb_timely.specs.Timely.{holds_in, holds_at, Timely}
 use Rattle.fsb_lawful.proofs.Beginnings.{spaced}
 use Rattle.fsb_lawful.proofs.Cuts.{slice_get-take, past-twice, line-to}
@@ -51,23 +53,27 @@ as-due : (r : Run) (p : Past) (c : ℕ) (o : Option Pair) → starts_requests r 
     → is_some_and o (λ due. is_some_and (known_pair_at r.trace c) (is_pair due)) ≡ true
 unfolding starts_requests drives_pair
 as-due r p c o e same =
-    sym (ap (λ x. is_some_and x (λ due. is_some_and (known_pair_at r.trace c) (is_pair due))) same) ∙ (and_parts (drives_ads r p c) (drives_pair r p c) e).1
+    sym (ap (λ x. is_some_and x (λ due. is_some_and (known_pair_at r.trace c) (is_pair due))) same)
+    ∙ (and_parts (drives_ads r p c) (drives_pair r p c) e).1
 
 -- the first clock of a request has its first words
 first-words : (r : Run) (p : Past) (c : ℕ) → starts_requests r p c ≡ true → line_at ADS r.trace c ≡ true
     → (q : Request) × (request_begun r p c ≡ Some q) × (known_pair_at r.trace c ≡ Some (pairs_of q).0)
 first-words r p c e t =
-    pair-there (λ request. (pairs_of request).0) (request_begun r p c) (known_pair_at r.trace c) (as-due r p c _ e (due-first r p c t))
+    pair-there (λ request. (pairs_of request).0) (request_begun r p c) (known_pair_at r.trace c)
+    (as-due r p c _ e (due-first r p c t))
 
 -- the clock after it has its second words
 second-words : (r : Run) (p : Past) (c : ℕ) → starts_requests r p c ≡ true → line_at ADS r.trace c ≡ false
     → line_back ADS r.trace c 1 ≡ true
     → (q : Request) × (request_begun_before r p c ≡ Some q) × (known_pair_at r.trace c ≡ Some (pairs_of q).1)
 second-words r p c e f t =
-    pair-there (λ request. (pairs_of request).1) (request_begun_before r p c) (known_pair_at r.trace c) (as-due r p c _ e (due-second r p c f t))
+    pair-there (λ request. (pairs_of request).1) (request_begun_before r p c) (known_pair_at r.trace c)
+    (as-due r p c _ e (due-second r p c f t))
 
 before-is : (r : Run) (d : ℕ)
-    → request_begun_before (run_to r (suc d)) (past_to (past_of r) (suc d)) (suc d) ≡ request_begun (run_to r d) (past_to (past_of r) d) d
+    → request_begun_before (run_to r (suc d)) (past_to (past_of r) (suc d)) (suc d)
+    ≡ request_begun (run_to r d) (past_to (past_of r) d) d
 unfolding request_begun_before
 before-is r d =
     let one : suc d - 1 ≡ d = omega arith in
@@ -97,7 +103,8 @@ no-second r d h l t true e =
 words-to : (r : Run) (d : ℕ) → known_pair_at (run_to r d).trace d ≡ known_pair_at (run_to r (suc d)).trace d
 unfolding known_pair_at run_to
 words-to r d =
-    ap (option_and_then known_pair) (slice_get-take (d + 1) r.trace d (omega arith) ∙ sym (slice_get-take (suc d + 1) r.trace d (omega arith)))
+    ap (option_and_then known_pair) (slice_get-take (d + 1) r.trace d (omega arith)
+    ∙ sym (slice_get-take (suc d + 1) r.trace d (omega arith)))
 
 decoded-from : (v : Trace) (d : ℕ) (q : Request) → is_lawful_request q ≡ true
     → known_pair_at v d ≡ Some (pairs_of q).0 → known_pair_at v (d + 1) ≡ Some (pairs_of q).1
@@ -108,12 +115,18 @@ decoded-from v d q lawful e f =
 
 -- the request that begins at d is decoded from its two clocks, where it is lawful
 pub begun-decoded : (r : Run) (d : ℕ) → Timely r → suc d < length r.trace → line_at ADS (run_to r d).trace d ≡ true
-    → (q : Request) × (begun_of r d ≡ Some q) × (is_lawful_request q ≡ true → request_at (run_to r (suc d)).trace d ≡ Some q)
+    → (q : Request) × (begun_of r d ≡ Some q)
+    × (is_lawful_request q ≡ true → request_at (run_to r (suc d)).trace d ≡ Some q)
 unfolding holds_at holds_in
 begun-decoded r d h l t =
     let first = first-words (run_to r d) (past_to (past_of r) d) d (h.request_starts.at d (omega arith)) t in
     let none = no-second r d h l t (line_at ADS (run_to r (suc d)).trace (suc d)) refl in
-    let second = second-words (run_to r (suc d)) (past_to (past_of r) (suc d)) (suc d) (h.request_starts.at (suc d) l) none (sym (ads-back r d l) ∙ t) in
+    let second = second-words (run_to r (suc d)) (past_to (past_of r) (suc d)) (suc d)
+    (h.request_starts.at (suc d) l) none (sym (ads-back r d l) ∙ t) in
     let q : Request = first.0 in
-    let same : second.0 ≡ q = (let e = sym second.1 ∙ before-is r d ∙ first.1 in cc) in
-    (q, first.1, λ lawful. decoded-from (run_to r (suc d)).trace d q lawful (sym (words-to r d) ∙ first.2) (rw add-one (second.2 ∙ ap (λ x. Some (pairs_of x).1) same)))
+    let same : second.0 ≡ q = (let e = sym second.1 ∙ before-is r d ∙ first.1 in cc) in (
+      q,
+      first.1,
+      λ lawful. decoded-from (run_to r (suc d)).trace d q lawful (sym (words-to r d)
+          ∙ first.2) (rw add-one (second.2 ∙ ap (λ x. Some (pairs_of x).1) same)),
+    )

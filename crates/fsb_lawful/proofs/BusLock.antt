@@ -1,5 +1,6 @@
 -- Rule 9: the bus lock of a timely run begins with a request.
-use Rattle.std.proofs.Common.{ℕ, zero, suc, ◌+◌, ◌-◌, ◌<◌, ◌≤◌, ◌≡◌, Bool, true, false, not, ◌&&◌, ◌||◌, Option, Some, None, length, take, nat_eq, nat_le, refl, sym, ap, ◌∙◌, ◌⊎◌, arith, inl, inr, add-one}
+use Rattle.std.proofs.Common.{ℕ, zero, suc, ◌+◌, ◌-◌, ◌<◌, ◌≤◌, ◌≡◌, Bool, true, false, not, ◌&&◌, ◌||◌, Option, Some}
+use Rattle.std.proofs.Common.{None, length, take, nat_eq, nat_le, refl, sym, ap, ◌∙◌, ◌⊎◌, arith, inl, inr, add-one}
 use Rattle.std.specs.List.{slice_get, list_any}
 use Rattle.std.specs.Option.{option_and_then, option_map}
 use Rattle.std.proofs.lemmas.Bool.{eqb-true, le-leb}
@@ -16,7 +17,8 @@ use Rattle.fsb_trace.specs.Outcome.{response_code_of}
 use Rattle.fsb_trace.specs.Requests.{is_live, live_clock_of}
 use Rattle.fsb_trace.specs.Rules.{is_lock_alone}
 use Rattle.fsb_trace.proofs.Interface.{breaks-9}
-use Rattle.fsb_timely.specs.BusLock.{is_begun_by, wants_lock, is_locked_request, ends_locked_item, is_lock_retried, is_lock_cancelled, is_release, is_released_before, keeps_lock, drives_lock}
+use Rattle.fsb_timely.specs.BusLock.{is_begun_by, wants_lock, is_locked_request, ends_locked_item, is_lock_retried}
+use Rattle.fsb_timely.specs.BusLock.{is_lock_cancelled, is_release, is_released_before, keeps_lock, drives_lock}
 use Rattle.fsb_timely.specs.Moments.{moment_at, begun_with, retried_at, responded_at, cancelled_at}
 use Rattle.fsb_timely.specs.Past.{Past, Owing}
 use Rattle.fsb_timely.specs.Runs.{Run, run_to, past_of, past_to}
@@ -35,7 +37,8 @@ unfolding holds_since from_clock
 since-same gain gain' loss loss' n a b =
     let last = last-same gain gain' n a in
     let any : (d : ℕ) → any_where (from_clock (d + 1) loss) n ≡ any_where (from_clock (d + 1) loss') n =
-    λ d. any_where-same (from_clock (d + 1) loss) (from_clock (d + 1) loss') n (record { same = λ c l. ap (λ x. nat_le (d + 1) c && x) (b.same c l) }) in
+    λ d. any_where-same (from_clock (d + 1) loss) (from_clock (d + 1) loss') n
+    (record { same = λ c l. ap (λ x. nat_le (d + 1) c && x) (b.same c l) }) in
     λ i. elim (last i) [ None ↦ false | Some d ↦ not (any d i) ]
 
 -- a locked request up to c is one of the whole past
@@ -58,13 +61,23 @@ entry-to : (p : Past) (a c t : ℕ) → t ≤ c
     → list_any (ends_locked_item (past_to p c) a t) (past_to p c).log ≡ list_any (ends_locked_item p a t) p.log
 unfolding past_to ends_locked_item items_of
 entry-to p a c t l =
-    any-entry (ends_locked_item p a t) t c p.log l (λ done e. eqb-true done.clock t (and3 (nat_eq done.clock t) (nat_eq done.agent a) (is_some_and (slice_get (items_of p a) done.item) is_locked) e).0)
+    any-entry (ends_locked_item p a t) t c p.log l
+    (λ done e. eqb-true done.clock t
+    (and3 (nat_eq done.clock t) (nat_eq done.agent a)
+    (is_some_and (slice_get (items_of p a) done.item) is_locked) e).0)
 
 retried_at-below : (w : Trace) (t q : ℕ) → retried_at w t ≡ Some q → q < length w
 unfolding retried_at responded_at live_clock_of
 retried_at-below w t q e = by-test (nat_eq (response_code_at w t) (response_code_of Retried)) (responds_at w t) e
   where
-    by-test : (a b : Bool) → elim a [ true ↦ elim b [ true ↦ nth_where (is_live w) (count_where (responds_at w) t) (length w) | false ↦ None ] | false ↦ None ] ≡ Some q → q < length w
+    by-test : (a b : Bool)
+        → elim a [
+          | true ↦ elim b [
+            | true ↦ nth_where (is_live w) (count_where (responds_at w) t) (length w)
+            | false ↦ None
+          ]
+          | false ↦ None
+        ] ≡ Some q → q < length w
     by-test true true e = (nth_where-found (is_live w) (count_where (responds_at w) t) (length w) q e).0
     by-test true false e = absurd (let no : ⊥ = cc in no)
     by-test false b e = absurd (let no : ⊥ = cc in no)
@@ -100,8 +113,15 @@ release-to r a c t l m =
     let p : Past = past_of r in
     let moment = moments-to p c t l in
     let ended = entry-to p a c t l in
-    let retried = ap (λ o. is_some_and (option_and_then (λ moment. moment.retried) o) (is_locked_request (past_to p c) a)) moment ∙ named-to p a c (option_and_then (λ moment. moment.retried) (slice_get p.moments t)) (λ q e. let low = retried-below r t q (omega arith) e in omega arith) in
-    let cancelled = ap (λ o. is_some_and (option_and_then (λ moment. moment.cancelled) o) (is_locked_request (past_to p c) a)) moment ∙ named-to p a c (option_and_then (λ moment. moment.cancelled) (slice_get p.moments t)) (λ q e. let low = cancelled-below r t q (omega arith) e in omega arith) in
+    let retried =
+    ap (λ o. is_some_and (option_and_then (λ moment. moment.retried) o) (is_locked_request (past_to p c) a))
+    moment ∙ named-to p a c (option_and_then (λ moment. moment.retried) (slice_get p.moments t))
+    (λ q e. let low = retried-below r t q (omega arith) e in omega arith) in
+    let cancelled =
+    ap (λ o. is_some_and (option_and_then (λ moment. moment.cancelled) o)
+    (is_locked_request (past_to p c) a)) moment
+    ∙ named-to p a c (option_and_then (λ moment. moment.cancelled) (slice_get p.moments t))
+    (λ q e. let low = cancelled-below r t q (omega arith) e in omega arith) in
     λ i. ended i || retried i || cancelled i
 
 released-to : (r : Run) (a c t : ℕ) → t ≤ c → c < length r.trace
@@ -111,17 +131,23 @@ released-to r a c t l m = ap (λ b. nat_le 1 t && b) (release-to r a c (t - 1) (
 
 -- whether an agent keeps the bus locked, said of the whole past
 keeps-to : (r : Run) (a c n : ℕ) → n ≤ c + 1 → c < length r.trace
-    → holds_since (is_locked_request (past_to (past_of r) c) a) (is_released_before (past_to (past_of r) c) a) n ≡ holds_since (is_locked_request (past_of r) a) (is_released_before (past_of r) a) n
+    → holds_since (is_locked_request (past_to (past_of r) c) a) (is_released_before (past_to (past_of r) c) a) n
+    ≡ holds_since (is_locked_request (past_of r) a) (is_released_before (past_of r) a) n
 keeps-to r a c n l m =
-    since-same (is_locked_request (past_to (past_of r) c) a) (is_locked_request (past_of r) a) (is_released_before (past_to (past_of r) c) a) (is_released_before (past_of r) a) n (record { same = λ t k. request-to (past_of r) a c t (omega arith) }) (record { same = λ t k. released-to r a c t (omega arith) m })
+    since-same (is_locked_request (past_to (past_of r) c) a) (is_locked_request (past_of r) a)
+    (is_released_before (past_to (past_of r) c) a) (is_released_before (past_of r) a) n
+    (record { same = λ t k. request-to (past_of r) a c t (omega arith) })
+    (record { same = λ t k. released-to r a c t (omega arith) m })
 
 -- an agent locks the bus at c, or did so at the clock before
 either : (r : Run) (a c : ℕ) → c < length r.trace → keeps_lock (past_to (past_of r) c) c a ≡ true
-    → (is_locked_request (past_of r) a c ≡ true) ⊎ (holds_since (is_locked_request (past_of r) a) (is_released_before (past_of r) a) c ≡ true)
+    → (is_locked_request (past_of r) a c ≡ true)
+    ⊎ (holds_since (is_locked_request (past_of r) a) (is_released_before (past_of r) a) c ≡ true)
 unfolding keeps_lock
 either r a c l e =
     let whole = sym (keeps-to r a c (c + 1) (omega arith) l) ∙ e in
-    split (is_locked_request (past_of r) a c) _ (is_released_before (past_of r) a c) (sym (holds_since-more (is_locked_request (past_of r) a) (is_released_before (past_of r) a) c) ∙ whole)
+    split (is_locked_request (past_of r) a c) _ (is_released_before (past_of r) a c)
+    (sym (holds_since-more (is_locked_request (past_of r) a) (is_released_before (past_of r) a) c) ∙ whole)
   where
     split : (g h l : Bool) → (g || (h && not l)) ≡ true → (g ≡ true) ⊎ (h ≡ true)
     split true h l e = inl refl
@@ -177,9 +203,11 @@ locked-before : (r : Run) (a c : ℕ) → Timely r → c < length r.trace → a 
     → holds_since (is_locked_request (past_of r) a) (is_released_before (past_of r) a) c ≡ true
     → line_back LOCK (run_to r c).trace c 1 ≡ true
 unfolding holds_at holds_in keeps_lock line_back
-locked-before r a zero h l m e = absurd (none-yet (is_locked_request (past_of r) a) (is_released_before (past_of r) a) e)
+locked-before r a zero h l m e =
+    absurd (none-yet (is_locked_request (past_of r) a) (is_released_before (past_of r) a) e)
 locked-before r a (suc c) h l m e =
-    let there = locks-from (run_to r c) (past_to (past_of r) c) c a (h.bus_lock.at c (omega arith)) m (keeps-to r a c (c + 1) (omega arith) (omega arith) ∙ rw (add-one c) e) in
+    let there = locks-from (run_to r c) (past_to (past_of r) c) c a (h.bus_lock.at c (omega arith)) m
+    (keeps-to r a c (c + 1) (omega arith) (omega arith) ∙ rw (add-one c) e) in
     let same : suc c - 1 ≡ c = omega arith in
     rw (le-leb 1 (suc c) (omega arith), same) (sym (line-to LOCK r c (suc c) (omega arith) l) ∙ there)
 
@@ -188,13 +216,19 @@ begins : (r : Run) (c : ℕ) → Timely r → c < length r.trace → line_at LOC
 unfolding holds_at holds_in
 begins r c h l t =
     let a = agent-locks (run_to r c) (past_to (past_of r) c) c (h.bus_lock.at c l) t in
-    elim (either r a.0 c l a.2) [ inl new ↦ inl (request-ads r a.0 c l new) | inr old ↦ inr (locked-before r a.0 c h l a.1 old) ]
+    elim (either r a.0 c l a.2) [
+      | inl new ↦ inl (request-ads r a.0 c l new)
+      | inr old ↦ inr (locked-before r a.0 c h l a.1 old)
+    ]
 
 alone : (k b s : Bool) → (k ≡ true → (s ≡ true) ⊎ (b ≡ true)) → (k && not b && not s) ≡ false
 alone false b s h = refl
 alone true true s h = refl
 alone true false true h = refl
-alone true false false h = elim (h refl) [ inl e ↦ absurd (let no : ⊥ = cc in no) | inr e ↦ absurd (let no : ⊥ = cc in no) ]
+alone true false false h = elim (h refl) [
+  | inl e ↦ absurd (let no : ⊥ = cc in no)
+  | inr e ↦ absurd (let no : ⊥ = cc in no)
+]
 
 at-clock : (r : Run) (c : ℕ) → Timely r → c < length r.trace → is_lock_alone (run_to r c).trace c ≡ false
 unfolding is_lock_alone

@@ -1,5 +1,6 @@
 -- The four chunks of a transfer: when they come, and how many came below a clock.
-use Rattle.std.proofs.Common.{ℕ, zero, suc, ◌+◌, ◌*◌, ◌<◌, ◌≤◌, ◌≡◌, Bool, true, false, ◌||◌, Option, Some, None, is_some, nat_eq, refl, arith, if◌then◌else◌}
+use Rattle.std.proofs.Common.{ℕ, zero, suc, ◌+◌, ◌*◌, ◌<◌, ◌≤◌, ◌≡◌, Bool, true, false, ◌||◌, Option, Some, None}
+use Rattle.std.proofs.Common.{is_some, nat_eq, refl, arith, if◌then◌else◌}
 use Rattle.std.proofs.lemmas.Bool.{eqb-true, eq-eqb, or_left, or_right}
 use Rattle.fsb_count.specs.Clocks.{count_where}
 use Rattle.fsb_count.proofs.Interface.{count_where-above, first_where-found, first_where-none}
@@ -39,10 +40,14 @@ chunk-at gap r t n l p = chunk_found gap r t n (chunk_from gap t r) refl l p
 
 -- the four places
 place_is : (gap r t n : ℕ) → n < 4 → t ≡ r + n * (1 + gap)
-    → ((t < r + 3 * (1 + gap) → (nat_eq t r || nat_eq t (r + (1 + gap)) || nat_eq t (r + 2 * (1 + gap))) ≡ true)) × (r ≤ t) × (t ≤ r + 3 * (1 + gap))
+    → ((t < r + 3 * (1 + gap)
+    → (nat_eq t r || nat_eq t (r + (1 + gap)) || nat_eq t (r + 2 * (1 + gap))) ≡ true)) × (r ≤ t)
+    × (t ≤ r + 3 * (1 + gap))
 place_is gap r t zero l e = (λ m. or_left _ _ (or_left _ _ (eq-eqb t r (omega arith))), omega arith, omega arith)
-place_is gap r t (suc zero) l e = (λ m. or_left _ _ (or_right _ _ (eq-eqb t (r + (1 + gap)) (omega arith))), omega arith, omega arith)
-place_is gap r t (suc (suc zero)) l e = (λ m. or_right _ _ (eq-eqb t (r + 2 * (1 + gap)) (omega arith)), omega arith, omega arith)
+place_is gap r t (suc zero) l e =
+    (λ m. or_left _ _ (or_right _ _ (eq-eqb t (r + (1 + gap)) (omega arith))), omega arith, omega arith)
+place_is gap r t (suc (suc zero)) l e =
+    (λ m. or_right _ _ (eq-eqb t (r + 2 * (1 + gap)) (omega arith)), omega arith, omega arith)
 place_is gap r t (suc (suc (suc zero))) l e = (λ m. absurd (omega arith), omega arith, omega arith)
 place_is gap r t (suc (suc (suc (suc n)))) l e = absurd (omega arith)
 
@@ -56,9 +61,11 @@ count-less : (p q : ℕ → Bool) (k : ℕ) → ((n : ℕ) → n < k → p n ≡
     → count_where p k ≤ count_where q k
 unfolding count_where
 count-less p q zero h = omega arith
-count-less p q (suc k) h = let before = count-less p q k (λ n l. h n (omega arith)) in step (p k) (q k) (h k (omega arith)) before
+count-less p q (suc k) h = let before = count-less p q k (λ n l. h n (omega arith)) in
+    step (p k) (q k) (h k (omega arith)) before
   where
-    step : (a b : Bool) → (a ≡ true → b ≡ true) → count_where p k ≤ count_where q k → count_where p k + (if a then 1 else 0) ≤ count_where q k + (if b then 1 else 0)
+    step : (a b : Bool) → (a ≡ true → b ≡ true) → count_where p k ≤ count_where q k
+        → count_where p k + (if a then 1 else 0) ≤ count_where q k + (if b then 1 else 0)
     step true true f l = omega arith
     step true false f l = absurd (let e = f refl in let no : ⊥ = cc in no)
     step false true f l = omega arith
@@ -67,7 +74,9 @@ count-less p q (suc k) h = let before = count-less p q k (λ n l. h n (omega ari
 -- up to the last chunk three came at most
 pub chunks-few : (gap r m : ℕ) → m ≤ r + 3 * (1 + gap) → count_where (is_chunk gap r) m ≤ 3
 chunks-few gap r m l =
-    let less = count-less (is_chunk gap r) (λ t. nat_eq t r || nat_eq t (r + (1 + gap)) || nat_eq t (r + 2 * (1 + gap))) m (λ t k h. let p = chunk-place gap r t h in (place_is gap r t p.number p.few p.place).0 (omega arith)) in
+    let less = count-less (is_chunk gap r)
+    (λ t. nat_eq t r || nat_eq t (r + (1 + gap)) || nat_eq t (r + 2 * (1 + gap))) m
+    (λ t k h. let p = chunk-place gap r t h in (place_is gap r t p.number p.few p.place).0 (omega arith)) in
     let two = count-or (λ t. nat_eq t r || nat_eq t (r + (1 + gap))) (λ t. nat_eq t (r + 2 * (1 + gap))) m in
     let one = count-or (λ t. nat_eq t r) (λ t. nat_eq t (r + (1 + gap))) m in
     let a = count-one-place r m in
@@ -79,8 +88,12 @@ chunks-few gap r m l =
 pub chunks-all : (gap r m : ℕ) → r + 3 * (1 + gap) < m → 4 ≤ count_where (is_chunk gap r) m
 chunks-all gap r m l =
     let g : ℕ = 1 + gap in
-    let a = count_where-above (is_chunk gap r) r (r + g) (omega arith) (chunk-at gap r r 0 (omega arith) (omega arith)) in
-    let b = count_where-above (is_chunk gap r) (r + g) (r + 2 * g) (omega arith) (chunk-at gap r (r + g) 1 (omega arith) (omega arith)) in
-    let c = count_where-above (is_chunk gap r) (r + 2 * g) (r + 3 * g) (omega arith) (chunk-at gap r (r + 2 * g) 2 (omega arith) (omega arith)) in
-    let d = count_where-above (is_chunk gap r) (r + 3 * g) m (omega arith) (chunk-at gap r (r + 3 * g) 3 (omega arith) refl) in
+    let a = count_where-above (is_chunk gap r) r (r + g) (omega arith)
+    (chunk-at gap r r 0 (omega arith) (omega arith)) in
+    let b = count_where-above (is_chunk gap r) (r + g) (r + 2 * g) (omega arith)
+    (chunk-at gap r (r + g) 1 (omega arith) (omega arith)) in
+    let c = count_where-above (is_chunk gap r) (r + 2 * g) (r + 3 * g) (omega arith)
+    (chunk-at gap r (r + 2 * g) 2 (omega arith) (omega arith)) in
+    let d = count_where-above (is_chunk gap r) (r + 3 * g) m (omega arith)
+    (chunk-at gap r (r + 3 * g) 3 (omega arith) refl) in
     omega arith

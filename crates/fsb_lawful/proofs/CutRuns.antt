@@ -1,5 +1,6 @@
 -- A run that is cut at a clock is a run, and its past is the past up to that clock.
-use Rattle.std.proofs.Common.{ℕ, zero, suc, ◌+◌, ◌<◌, ◌≤◌, ◌≡◌, true, false, not, [], ◌∷◌, ◌++◌, Some, length, take, slice_get, refl, sym, ap, ◌∙◌, arith, inl, inr}
+use Rattle.std.proofs.Common.{ℕ, zero, suc, ◌+◌, ◌<◌, ◌≤◌, ◌≡◌, true, false, not, [], ◌∷◌, ◌++◌, Some, length, take}
+use Rattle.std.proofs.Common.{slice_get, refl, sym, ap, ◌∙◌, arith, inl, inr}
 use Rattle.std.specs.Option.{option_map_or}
 use Rattle.std.proofs.lemmas.Bool.{and_parts, cases_lt}
 use Rattle.std.proofs.lemmas.List.{length-take-le, take-append-le, take_all}
@@ -23,7 +24,11 @@ use Rattle.fsb_lawful.proofs.Cuts.{slice_get-take, take-twice, entries-twice, ru
 requests-twice : (w : Trace) (t c : ℕ) → t ≤ c → requests_below (take (c + 1) w) (t + 1) ≡ requests_below w (t + 1)
 unfolding requests_below line_at
 requests-twice w t c l =
-    count_where-same (line_at ADS (take (c + 1) w)) (line_at ADS w) (t + 1) (record { same = λ d m. ap (λ o. option_map_or (λ s. has_line s ADS) o false) (slice_get-take (c + 1) w d (omega arith)) })
+    count_where-same (line_at ADS (take (c + 1) w)) (line_at ADS w) (t + 1)
+    (record {
+      same = λ d m. ap (λ o. option_map_or (λ s. has_line s ADS) o false)
+          (slice_get-take (c + 1) w d (omega arith));
+    })
 
 requests-more : (w : Trace) (n m : ℕ) → n ≤ m → requests_below w n ≤ requests_below w m
 unfolding requests_below
@@ -33,7 +38,8 @@ choices-twice : (r : Run) (t c : ℕ) → t ≤ c → (run_to (run_to r c) t).ch
 unfolding run_to
 choices-twice r t c l =
     ap (λ n. take n (take (requests_below r.trace (c + 1)) r.choices)) (requests-twice r.trace t c l)
-    ∙ take-twice (requests_below r.trace (t + 1)) (requests_below r.trace (c + 1)) r.choices (requests-more r.trace (t + 1) (c + 1) (omega arith))
+    ∙ take-twice (requests_below r.trace (t + 1)) (requests_below r.trace (c + 1)) r.choices
+    (requests-more r.trace (t + 1) (c + 1) (omega arith))
 
 pub run-twice : (r : Run) (t c : ℕ) → t ≤ c → run_to (run_to r c) t ≡ run_to r t
 unfolding run_to
@@ -51,7 +57,8 @@ moments-cut r c (suc n) l =
     let before = moments-cut r c n (omega arith) in
     let run = run-twice r n c (omega arith) in
     let log = entries-twice n c r.log (omega arith) in
-    λ i. before i ++ moment_at (record { plan = r.plan; moments = before i; log = log i }) (run i).choices (run i).trace n ∷ []
+    λ i. before i ++ moment_at (record { plan = r.plan; moments = before i; log = log i }) (run i).choices
+    (run i).trace n ∷ []
 
 -- the moments below a clock begin those below a later one
 moments-begin : (r : Run) (n m : ℕ) → n ≤ m → take n (moments_below r m) ≡ moments_below r n
@@ -59,7 +66,8 @@ unfolding moments_below
 moments-begin r n zero l = let none : n ≡ zero = omega arith in rw none refl
 moments-begin r n (suc m) l =
     elim (cases_lt n (suc m)) [
-      | inl less ↦ take-append-le n (moments_below r m) _ (let e = length-moments r m in omega arith) ∙ moments-begin r n m (omega arith)
+      | inl less ↦ take-append-le n (moments_below r m) _ (let e = length-moments r m in omega arith)
+          ∙ moments-begin r n m (omega arith)
       | inr more ↦
           let same : n ≡ suc m = omega arith in
           rw same (take_all (suc m) (moments_below r (suc m)) (let e = length-moments r (suc m) in omega arith))
@@ -93,15 +101,23 @@ choice-same : (r : Run) (c q : ℕ) → q ≤ c → line_at ADS r.trace q ≡ tr
     → choice_at (run_to r c).choices (run_to r c).trace q ≡ choice_at r.choices r.trace q
 unfolding choice_at run_to requests_below line_at
 choice-same r c q l t =
-    let before = count_where-same (line_at ADS (take (c + 1) r.trace)) (line_at ADS r.trace) q (record { same = λ d m. ap (λ o. option_map_or (λ s. has_line s ADS) o false) (slice_get-take (c + 1) r.trace d (omega arith)) }) in
+    let before = count_where-same (line_at ADS (take (c + 1) r.trace)) (line_at ADS r.trace) q
+    (record {
+      same = λ d m. ap (λ o. option_map_or (λ s. has_line s ADS) o false)
+          (slice_get-take (c + 1) r.trace d (omega arith));
+    }) in
     let above = count_where-above (line_at ADS r.trace) q (c + 1) (omega arith) t in
-    ap (λ n. option_map_or (λ choice. choice) (slice_get (take (count_where (line_at ADS r.trace) (c + 1)) r.choices) n) quiet_choice) before
-    ∙ ap (λ o. option_map_or (λ choice. choice) o quiet_choice) (slice_get-take (count_where (line_at ADS r.trace) (c + 1)) r.choices (count_where (line_at ADS r.trace) q) above)
+    ap (λ n. option_map_or (λ choice. choice)
+    (slice_get (take (count_where (line_at ADS r.trace) (c + 1)) r.choices) n) quiet_choice) before
+    ∙ ap (λ o. option_map_or (λ choice. choice) o quiet_choice)
+    (slice_get-take (count_where (line_at ADS r.trace) (c + 1)) r.choices
+    (count_where (line_at ADS r.trace) q) above)
 
 -- the first clock of a live request has ADS#
 pub live-ads : (w : Trace) (i q : ℕ) → live_clock_of w i ≡ Some q → line_at ADS w q ≡ true
 unfolding live_clock_of is_live
-live-ads w i q e = (and_parts (line_at ADS w q) (not (is_cancelled w q)) (nth_where-found (is_live w) i (length w) q e).1).0
+live-ads w i q e =
+    (and_parts (line_at ADS w q) (not (is_cancelled w q)) (nth_where-found (is_live w) i (length w) q e).1).0
 
 -- the choice for a live request whose snoop end is reached
 pub live_choice-same : (r : Run) (c i s : ℕ) → c < length r.trace → snoop_end_of (run_to r c).trace i ≡ Some s
@@ -113,5 +129,6 @@ live_choice-same r c i s l e =
     let above : q + 4 ≤ s = h.above in
     let size = length-cut r c l in
     let within = h.within in
-    let there = live_clock_of-stays (c + 1) (run_to r c).trace r.trace i q (AgreeTo-sym (c + 1) r.trace (run_to r c).trace (run_to-agrees r c l)) (omega arith) h.is_clock in
+    let there = live_clock_of-stays (c + 1) (run_to r c).trace r.trace i q
+    (AgreeTo-sym (c + 1) r.trace (run_to r c).trace (run_to-agrees r c l)) (omega arith) h.is_clock in
     rw (h.is_clock, there) (choice-same r c q (omega arith) (live-ads r.trace i q there))

@@ -1,5 +1,6 @@
 -- A past that is cut at a clock has the same up to that clock.
-use Rattle.std.proofs.Common.{ℕ, zero, suc, ◌+◌, ◌<◌, ◌≤◌, ◌≡◌, Bool, true, false, cond, ◌||◌, List, [], ◌∷◌, length, take, nat_le, refl, sym, ap, ◌∙◌, arith, inl, inr}
+use Rattle.std.proofs.Common.{ℕ, zero, suc, ◌+◌, ◌<◌, ◌≤◌, ◌≡◌, Bool, true, false, cond, ◌||◌, List, [], ◌∷◌, length}
+use Rattle.std.proofs.Common.{take, nat_le, refl, sym, ap, ◌∙◌, arith, inl, inr}
 use Rattle.std.specs.List.{slice_get, list_any}
 use Rattle.std.specs.Option.{option_and_then, option_map, option_map_or}
 use Rattle.fsb_signal.specs.declared.lines.Lines.{Lines}
@@ -29,7 +30,8 @@ pub line-to : (line : Lines) (r : Run) (c d : ℕ) → c ≤ d → d < length r.
     → line_at line (run_to r c).trace c ≡ line_at line (run_to r d).trace c
 unfolding line_at run_to
 line-to line r c d l m =
-    let sample = slice_get-take (c + 1) r.trace c (omega arith) ∙ sym (slice_get-take (d + 1) r.trace c (omega arith)) in
+    let sample = slice_get-take (c + 1) r.trace c (omega arith)
+    ∙ sym (slice_get-take (d + 1) r.trace c (omega arith)) in
     ap (λ o. option_map_or (λ s. has_line s line) o false) sample
 
 -- the run and the run up to a clock agree so far
@@ -68,7 +70,8 @@ moments-to p c t l = slice_get-take (c + 1) p.moments t (omega arith)
 
 pub begun-to : (p : Past) (c t : ℕ) → t ≤ c → begun_at (past_to p c) t ≡ begun_at p t
 unfolding begun_at
-begun-to p c t l = ap (λ o. option_map (λ owing. owing.claim) (option_and_then (λ moment. moment.begun) o)) (moments-to p c t l)
+begun-to p c t l = ap (λ o. option_map (λ owing. owing.claim) (option_and_then (λ moment. moment.begun) o))
+    (moments-to p c t l)
 
 pub snooped-to : (p : Past) (c t : ℕ) → t ≤ c → snooped_at (past_to p c) t ≡ snooped_at p t
 unfolding snooped_at
@@ -82,7 +85,8 @@ any-entry test t c [] l h = refl
 any-entry test t c (done ∷ log) l h =
     elim (cases_Bool (nat_le done.clock c)) [
       | inl early ↦ rw early (ap (λ b. test done || b) (any-entry test t c log l h))
-      | inr late ↦ rw late (any-entry test t c log l h ∙ sym (ap (λ b. b || list_any test log) (fails late (test done) refl)))
+      | inr late ↦ rw late (any-entry test t c log l h
+          ∙ sym (ap (λ b. b || list_any test log) (fails late (test done) refl)))
     ]
   where
     fails : nat_le done.clock c ≡ false → (b : Bool) → test done ≡ b → test done ≡ false

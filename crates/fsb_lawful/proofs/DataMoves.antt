@@ -1,10 +1,13 @@
 -- Rule 16: DRDY# and DBSY# of a timely run are those of the request that responded last.
-use Rattle.std.proofs.Common.{ℕ, zero, suc, ◌+◌, ◌*◌, ◌<◌, ◌≤◌, ◌≡◌, Bool, true, false, not, ◌&&◌, ◌||◌, Some, None, is_some, length, take, nat_le, nat_lt, refl, sym, ap, ◌∙◌, arith, inl, inr}
+use Rattle.std.proofs.Common.{ℕ, zero, suc, ◌+◌, ◌*◌, ◌<◌, ◌≤◌, ◌≡◌, Bool, true, false, not, ◌&&◌, ◌||◌, Some, None}
+use Rattle.std.proofs.Common.{is_some, length, take, nat_le, nat_lt, refl, sym, ap, ◌∙◌, arith, inl, inr}
 use Rattle.std.specs.Option.{option_and_then}
-use Rattle.std.proofs.lemmas.Bool.{cases_Bool, cases_eq, cases_lt, and_right, le-leb, lt-leb, le-ltb, lt-ltb, ltb-true, ltb-false}
+use Rattle.std.proofs.lemmas.Bool.{cases_Bool, cases_eq, cases_lt, and_right, le-leb, lt-leb, le-ltb, lt-ltb, ltb-true}
+use Rattle.std.proofs.lemmas.Bool.{ltb-false}
 use Rattle.fsb_count.specs.Options.{is_some_and}
 use Rattle.fsb_count.specs.Clocks.{any_where, count_where, from_clock}
-use Rattle.fsb_count.proofs.Interface.{any_where-at, any_where-off, count_where-mono, count_where-passed, count_where-same, nth_where-found}
+use Rattle.fsb_count.proofs.Interface.{any_where-at, any_where-off, count_where-mono, count_where-passed}
+use Rattle.fsb_count.proofs.Interface.{count_where-same, nth_where-found}
 use Rattle.fsb_signal.specs.declared.lines.TheConstants.Lines.{DRDY, DBSY}
 use Rattle.fsb_signal.specs.declared.marks.Marks.{Marks}
 use Rattle.fsb_signal.specs.Samples.{line_at}
@@ -14,9 +17,11 @@ use Rattle.fsb_trace.specs.Requests.{live_count}
 use Rattle.fsb_trace.specs.Response.{end_of}
 use Rattle.fsb_trace.specs.Rules.{is_transferring, is_data_wrong}
 use Rattle.fsb_trace.specs.Timing.{chunk_from, is_busy_from}
-use Rattle.fsb_trace.proofs.Interface.{breaks-16, AgreeTo-sym, end_of-moving, line_at-agree, outcome_of-stays, responds_at-agree, response_clock_of-stays}
+use Rattle.fsb_trace.proofs.Interface.{breaks-16, AgreeTo-sym, end_of-moving, line_at-agree, outcome_of-stays}
+use Rattle.fsb_trace.proofs.Interface.{responds_at-agree, response_clock_of-stays}
 use Rattle.fsb_laws.specs.Progress.{response_count}
-use Rattle.fsb_laws.proofs.Interface.{clear_parts, has_answer, is_transferring-last, is_transferring-none, last_is_live, response_past, response_there, transferring_form}
+use Rattle.fsb_laws.proofs.Interface.{clear_parts, has_answer, is_transferring-last, is_transferring-none, last_is_live}
+use Rattle.fsb_laws.proofs.Interface.{response_past, response_there, transferring_form}
 use Rattle.fsb_timely.specs.Runs.{Run, run_to, past_of}
 use Rattle.fsb_timely.specs.Snoops.{live_choice}
 use Rattle.fsb_timely.specs.Timely.{Timely}
@@ -35,31 +40,38 @@ gap_of r i = (live_choice r i).gap
 
 -- whether a request has data at a clock, and keeps the bus there, by its response and what is told of it
 data-form : (r : Run) (t i p : ℕ) → Timely r → t < length r.trace → response_clock_of (run_to r t).trace i ≡ Some p
-    → has_data_at (run_to r t) (past_of (run_to r t)) t i ≡ (moves_data (run_to r t).trace i && is_chunk (gap_of r i) p t)
+    → has_data_at (run_to r t) (past_of (run_to r t)) t i
+    ≡ (moves_data (run_to r t).trace i && is_chunk (gap_of r i) p t)
 unfolding has_data_at settles_to_move moves_data
 data-form r t i p h l e =
     let v = run_to r t in
     let told = told-as-settled r t i p h l e in
     let choice = live_choice-same r t i told.snoop l told.is_snoop in
-    ap (λ o. is_some_and (settled_of v (past_of v) i) does_move && is_some (option_and_then (chunk_from (live_choice v i).gap t) o)) e
+    ap (λ o. is_some_and (settled_of v (past_of v) i) does_move
+    && is_some (option_and_then (chunk_from (live_choice v i).gap t) o)) e
     ∙ ap (λ x. is_some_and (settled_of v (past_of v) i) does_move && is_some (chunk_from x.gap t p)) choice
     ∙ ap (λ o. is_some_and o does_move && is_some (chunk_from (live_choice r i).gap t p)) (sym told.outcome)
 
 busy-form : (r : Run) (t i p : ℕ) → Timely r → t < length r.trace → response_clock_of (run_to r t).trace i ≡ Some p
-    → is_busy_at (run_to r t) (past_of (run_to r t)) t i ≡ (moves_data (run_to r t).trace i && is_busy_from (gap_of r i) t p)
+    → is_busy_at (run_to r t) (past_of (run_to r t)) t i
+    ≡ (moves_data (run_to r t).trace i && is_busy_from (gap_of r i) t p)
 unfolding is_busy_at settles_to_move moves_data is_some_and
 busy-form r t i p h l e =
     let v = run_to r t in
     let told = told-as-settled r t i p h l e in
     let choice = live_choice-same r t i told.snoop l told.is_snoop in
-    ap (λ o. is_some_and (settled_of v (past_of v) i) does_move && is_some_and o (is_busy_from (live_choice v i).gap t)) e
+    ap (λ o. is_some_and (settled_of v (past_of v) i) does_move
+    && is_some_and o (is_busy_from (live_choice v i).gap t)) e
     ∙ ap (λ x. is_some_and (settled_of v (past_of v) i) does_move && is_busy_from x.gap t p) choice
     ∙ ap (λ o. is_some_and o does_move && is_busy_from (live_choice r i).gap t p) (sym told.outcome)
 
 no-data : (v : Run) (t i : ℕ) → response_clock_of v.trace i ≡ None
     → (has_data_at v (past_of v) t i ≡ false) × (is_busy_at v (past_of v) t i ≡ false)
 unfolding has_data_at is_busy_at is_some_and
-no-data v t i e = (and_right _ _ (ap (λ o. is_some (option_and_then (chunk_from (live_choice v i).gap t) o)) e), and_right _ _ (ap (λ o. is_some_and o (is_busy_from (live_choice v i).gap t)) e))
+no-data v t i e = (
+  and_right _ _ (ap (λ o. is_some (option_and_then (chunk_from (live_choice v i).gap t) o)) e),
+  and_right _ _ (ap (λ o. is_some_and o (is_busy_from (live_choice v i).gap t)) e),
+)
 
 -- what the data lines of t are, where live request i responded last
 pub record LastMoves (r : Run) (t i : ℕ) : Type 0 where
@@ -79,7 +91,8 @@ unfolding response_count
 counted r u t l m =
     let agree = cuts-agree r u t l m in
     ap (count_where (responds_at (run_to r u).trace)) (length-cut r u (omega arith))
-    ∙ count_where-same (responds_at (run_to r u).trace) (responds_at (run_to r t).trace) (u + 1) (record { same = λ d k. responds_at-agree (u + 1) (run_to r u).trace (run_to r t).trace d agree k })
+    ∙ count_where-same (responds_at (run_to r u).trace) (responds_at (run_to r t).trace) (u + 1)
+    (record { same = λ d k. responds_at-agree (u + 1) (run_to r u).trace (run_to r t).trace d agree k })
 
 -- from its response up to before the next one a request is the one that responded last
 last-between : (r : Run) (u t j p q : ℕ) → u ≤ t → t < length r.trace
@@ -105,8 +118,10 @@ chunk-there r u t j p h l m k e low moves =
     let v = (run_to r u).trace in
     let agree = cuts-agree r u t l m in
     let size = length-cut r u (omega arith) in
-    let there = response_clock_of-stays (u + 1) (run_to r t).trace v j p (AgreeTo-sym (u + 1) v (run_to r t).trace agree) (omega arith) e in
-    rw (le-leb p u low) (sym (line_at-agree DRDY (u + 1) v (run_to r t).trace u agree (omega arith)) ∙ k.ready ∙ data-form r u j p h (omega arith) there ∙ ap (λ b. b && is_chunk (gap_of r j) p u) moves)
+    let there = response_clock_of-stays (u + 1) (run_to r t).trace v j p
+    (AgreeTo-sym (u + 1) v (run_to r t).trace agree) (omega arith) e in
+    rw (le-leb p u low) (sym (line_at-agree DRDY (u + 1) v (run_to r t).trace u agree (omega arith)) ∙ k.ready
+    ∙ data-form r u j p h (omega arith) there ∙ ap (λ b. b && is_chunk (gap_of r j) p u) moves)
 
 chunk-before : (gap p u : ℕ) (test : ℕ → Bool) (b : Bool) → u < p → is_chunk gap p u ≡ b
     → from_clock p test u ≡ is_chunk gap p u
@@ -123,10 +138,13 @@ same-moves r u t j p h l m e low =
     let v = (run_to r u).trace in
     let agree = cuts-agree r u t l m in
     let size = length-cut r u (omega arith) in
-    let there = response_clock_of-stays (u + 1) (run_to r t).trace v j p (AgreeTo-sym (u + 1) v (run_to r t).trace agree) (omega arith) e in
+    let there = response_clock_of-stays (u + 1) (run_to r t).trace v j p
+    (AgreeTo-sym (u + 1) v (run_to r t).trace agree) (omega arith) e in
     let told = told-as-settled r u j p h (omega arith) there in
     let before = told.before in
-    ap (λ o. is_some_and o does_move) (outcome_of-stays (u + 1) v (run_to r t).trace j told.snoop p agree (omega arith) told.is_snoop (omega arith) there)
+    ap (λ o. is_some_and o does_move)
+    (outcome_of-stays (u + 1) v (run_to r t).trace j told.snoop p agree (omega arith) told.is_snoop
+    (omega arith) there)
 
 -- so many chunks came below m as its wait says
 chunk-count : (r : Run) (t j p m : ℕ) → Timely r → t < length r.trace
@@ -136,8 +154,10 @@ chunk-count : (r : Run) (t j p m : ℕ) → Timely r → t < length r.trace
 chunk-count r t j p m h l last few e moves =
     count_where-same (from_clock p (line_at DRDY (run_to r t).trace)) (is_chunk (gap_of r j) p) m (record {
       same = λ u k. elim (cases_lt u p) [
-        | inl early ↦ chunk-before (gap_of r j) p u (line_at DRDY (run_to r t).trace) (is_chunk (gap_of r j) p u) early refl
-        | inr late ↦ chunk-there r u t j p h (omega arith) l (last u k late) e late (same-moves r u t j p h (omega arith) l e late ∙ moves)
+        | inl early ↦ chunk-before (gap_of r j) p u (line_at DRDY (run_to r t).trace)
+            (is_chunk (gap_of r j) p u) early refl
+        | inr late ↦ chunk-there r u t j p h (omega arith) l (last u k late) e late
+            (same-moves r u t j p h (omega arith) l e late ∙ moves)
       ];
     })
 
@@ -163,14 +183,17 @@ past-data : (gap p t : ℕ) (moves b d : Bool) → (moves ≡ true → p + 3 * (
     → ((moves && is_chunk gap p t) ≡ false) × ((moves && is_busy_from gap t p) ≡ false)
 unfolding is_busy_from
 past-data gap p t false b d past e f = (refl, refl)
-past-data gap p t true true d past e f = let k = chunk-bounds gap p t e in let high = k.1 in let more = past refl in absurd (omega arith)
-past-data gap p t true false d past e f = let more = past refl in (e, and_right (nat_le p t) (nat_lt t (p + 3 * (1 + gap))) (le-ltb t (p + 3 * (1 + gap)) (omega arith)))
+past-data gap p t true true d past e f = let k = chunk-bounds gap p t e in let high = k.1 in
+    let more = past refl in absurd (omega arith)
+past-data gap p t true false d past e f = let more = past refl in
+    (e, and_right (nat_le p t) (nat_lt t (p + 3 * (1 + gap))) (le-ltb t (p + 3 * (1 + gap)) (omega arith)))
 
 -- a request before the last one has no data any more
 earlier-none : (r : Run) (t i j : ℕ) → Timely r → t < length r.trace
     → ((u k : ℕ) → u < t → response_count (run_to r u).trace ≡ suc k → LastMoves r u k)
     → response_count (run_to r t).trace ≡ suc i → j < i
-    → (has_data_at (run_to r t) (past_of (run_to r t)) t j ≡ false) × (is_busy_at (run_to r t) (past_of (run_to r t)) t j ≡ false)
+    → (has_data_at (run_to r t) (past_of (run_to r t)) t j ≡ false)
+    × (is_busy_at (run_to r t) (past_of (run_to r t)) t j ≡ false)
 unfolding response_clock_of
 earlier-none r t i j h l before count less =
     let v = (run_to r t).trace in
@@ -184,15 +207,21 @@ earlier-none r t i j h l before count less =
     let e : ℕ = c.0 in
     let below : e < q = c.2 in
     let p = response_there v j (omega arith) in
-    let last : (u : ℕ) → u < e + 1 → p.0 ≤ u → LastMoves r u j = λ u m k. before u j (omega arith) (last-between r u t j p.0 q (omega arith) l p.1 (let n = place.2 in omega arith) k (omega arith)) in
-    let past : moves_data v j ≡ true → p.0 + 3 * (1 + gap_of r j) < t = λ moves. let end = moved-end r t j p.0 e h l last (omega arith) p.1 moves c.1 in omega arith in
-    let none = past-data (gap_of r j) p.0 t (moves_data v j) (is_chunk (gap_of r j) p.0 t) (is_busy_from (gap_of r j) t p.0) past refl refl in
+    let last : (u : ℕ) → u < e + 1 → p.0 ≤ u
+    → LastMoves r u j = λ u m k. before u j (omega arith)
+    (last-between r u t j p.0 q (omega arith) l p.1 (let n = place.2 in omega arith) k (omega arith)) in
+    let past : moves_data v j ≡ true
+    → p.0 + 3 * (1 + gap_of r j) < t = λ moves. let end =
+    moved-end r t j p.0 e h l last (omega arith) p.1 moves c.1 in omega arith in
+    let none = past-data (gap_of r j) p.0 t (moves_data v j) (is_chunk (gap_of r j) p.0 t)
+    (is_busy_from (gap_of r j) t p.0) past refl refl in
     (data-form r t j p.0 h l p.1 ∙ none.0, busy-form r t j p.0 h l p.1 ∙ none.1)
 
 other-none : (r : Run) (t i j : ℕ) → Timely r → t < length r.trace
     → ((u k : ℕ) → u < t → response_count (run_to r u).trace ≡ suc k → LastMoves r u k)
     → response_count (run_to r t).trace ≡ suc i → (j ≡ i → ⊥)
-    → (has_data_at (run_to r t) (past_of (run_to r t)) t j ≡ false) × (is_busy_at (run_to r t) (past_of (run_to r t)) t j ≡ false)
+    → (has_data_at (run_to r t) (past_of (run_to r t)) t j ≡ false)
+    × (is_busy_at (run_to r t) (past_of (run_to r t)) t j ≡ false)
 other-none r t i j h l before count differs =
     elim (cases_lt j i) [
       | inl less ↦ earlier-none r t i j h l before count less
@@ -204,12 +233,17 @@ last_by : (r : Run) (n t i : ℕ) → Timely r → t < n → t < length r.trace
 last_by r zero t i h l m count = absurd (omega arith)
 last_by r (suc n) t i h l m count =
     let v = run_to r t in
-    let before : (u k : ℕ) → u < t → response_count (run_to r u).trace ≡ suc k → LastMoves r u k = λ u k less e. last_by r n u k h (omega arith) (omega arith) e in
+    let before : (u k : ℕ) → u < t → response_count (run_to r u).trace ≡ suc k
+    → LastMoves r u k = λ u k less e. last_by r n u k h (omega arith) (omega arith) e in
     let live = last_is_live v.trace i (orderly-at r t h m) (omega arith) in
     let lines = transfers-at r t h m in
     record {
-      ready = lines.data_ready ∙ only-one (has_data_at v (past_of v) t) (live_count v.trace) i _ live refl (λ j differs. (other-none r t i j h m before count differs).0);
-      busy = lines.data_busy ∙ only-one (is_busy_at v (past_of v) t) (live_count v.trace) i _ live refl (λ j differs. (other-none r t i j h m before count differs).1);
+      ready = lines.data_ready
+          ∙ only-one (has_data_at v (past_of v) t) (live_count v.trace) i _ live refl
+          (λ j differs. (other-none r t i j h m before count differs).0);
+      busy = lines.data_busy
+          ∙ only-one (is_busy_at v (past_of v) t) (live_count v.trace) i _ live refl
+          (λ j differs. (other-none r t i j h m before count differs).1);
     }
 
 -- the data lines are those of the request that responded last
@@ -223,8 +257,12 @@ quiet : (r : Run) (c : ℕ) → Timely r → c < length r.trace → response_cou
 quiet r c h l count =
     let v = run_to r c in
     let lines = transfers-at r c h l in
-    let none : (j : ℕ) → response_clock_of v.trace j ≡ None = λ j. response_past v.trace j (omega arith) in
-    (lines.data_ready ∙ any_where-off (has_data_at v (past_of v) c) (live_count v.trace) (λ j m. (no-data v c j (none j)).0), lines.data_busy ∙ any_where-off (is_busy_at v (past_of v) c) (live_count v.trace) (λ j m. (no-data v c j (none j)).1))
+    let none : (j : ℕ) → response_clock_of v.trace j ≡ None = λ j. response_past v.trace j (omega arith) in (
+      lines.data_ready
+          ∙ any_where-off (has_data_at v (past_of v) c) (live_count v.trace) (λ j m. (no-data v c j (none j)).0),
+      lines.data_busy ∙ any_where-off (is_busy_at v (past_of v) c) (live_count v.trace)
+          (λ j m. (no-data v c j (none j)).1),
+    )
 
 -- what the rule says of the data lines, and of whether data are on the way at the clock and after it
 rule-by : (d b now after : Bool) → (d ≡ true → now ≡ true) → b ≡ after
@@ -239,7 +277,8 @@ rule-by false false now after f g = rw (sym g) refl
 transfer-is : (r : Run) (c i p m : ℕ) → Timely r → c < length r.trace
     → response_count (run_to r c).trace ≡ suc i → response_clock_of (run_to r c).trace i ≡ Some p → c ≤ m
     → m ≤ c + 1
-    → is_transferring (run_to r c).trace m ≡ (moves_data (run_to r c).trace i && nat_lt (count_where (from_clock p (line_at DRDY (run_to r c).trace)) m) 4)
+    → is_transferring (run_to r c).trace m
+    ≡ (moves_data (run_to r c).trace i && nat_lt (count_where (from_clock p (line_at DRDY (run_to r c).trace)) m) 4)
 transfer-is r c i p m h l count e low high =
     let v = (run_to r c).trace in
     let size = length-cut r c l in
@@ -248,45 +287,64 @@ transfer-is r c i p m h l count e low high =
 few-by : (gap p m k : ℕ) (b : Bool) → k ≡ count_where (is_chunk gap p) m → nat_lt m (p + 3 * (1 + gap) + 1) ≡ b
     → nat_lt k 4 ≡ b
 few-by gap p m k true e f =
-    let few = chunks-few gap p m (let l = ltb-true m (p + 3 * (1 + gap) + 1) f in omega arith) in lt-ltb k 4 (omega arith)
+    let few = chunks-few gap p m (let l = ltb-true m (p + 3 * (1 + gap) + 1) f in omega arith) in
+    lt-ltb k 4 (omega arith)
 few-by gap p m k false e f =
-    let all = chunks-all gap p m (let l = ltb-false m (p + 3 * (1 + gap) + 1) f in omega arith) in le-ltb k 4 (omega arith)
+    let all = chunks-all gap p m (let l = ltb-false m (p + 3 * (1 + gap) + 1) f in omega arith) in
+    le-ltb k 4 (omega arith)
 
 busy-by : (gap p c : ℕ) (b : Bool) → p ≤ c → nat_lt (c + 1) (p + 3 * (1 + gap) + 1) ≡ b → is_busy_from gap c p ≡ b
 unfolding is_busy_from
-busy-by gap p c true l e = rw (le-leb p c l) (lt-ltb c (p + 3 * (1 + gap)) (let m = ltb-true (c + 1) (p + 3 * (1 + gap) + 1) e in omega arith))
-busy-by gap p c false l e = rw (le-leb p c l) (le-ltb c (p + 3 * (1 + gap)) (let m = ltb-false (c + 1) (p + 3 * (1 + gap) + 1) e in omega arith))
+busy-by gap p c true l e =
+    rw (le-leb p c l) (lt-ltb c (p + 3 * (1 + gap)) (let m = ltb-true (c + 1) (p + 3 * (1 + gap) + 1) e in omega arith))
+busy-by gap p c false l e =
+    rw (le-leb p c l) (le-ltb c (p + 3 * (1 + gap)) (let m = ltb-false (c + 1) (p + 3 * (1 + gap) + 1) e in
+    omega arith))
 
 -- where data move, a clock with a chunk has a transfer on the way, and DBSY# goes on as long
 moving : (r : Run) (c i p : ℕ) → Timely r → c < length r.trace → response_count (run_to r c).trace ≡ suc i
     → response_clock_of (run_to r c).trace i ≡ Some p → p ≤ c → moves_data (run_to r c).trace i ≡ true
     → LastMoves r c i
-    → (line_at DRDY (run_to r c).trace c ≡ true → is_transferring (run_to r c).trace c ≡ true) × (line_at DBSY (run_to r c).trace c ≡ is_transferring (run_to r c).trace (c + 1))
+    → (line_at DRDY (run_to r c).trace c ≡ true → is_transferring (run_to r c).trace c ≡ true)
+    × (line_at DBSY (run_to r c).trace c ≡ is_transferring (run_to r c).trace (c + 1))
 moving r c i p h l count e low moves last =
     let v = (run_to r c).trace in
     let gap = gap_of r i in
-    let lasts : (u : ℕ) → u < c + 1 → p ≤ u → LastMoves r u i = λ u m k. last-moves r u i h (omega arith) (last-between r u c i p (c + 1) (omega arith) l e (let n = counted r c c (omega arith) l in omega arith) k m) in
+    let lasts : (u : ℕ) → u < c + 1 → p ≤ u
+    → LastMoves r u i = λ u m k. last-moves r u i h (omega arith)
+    (last-between r u c i p (c + 1) (omega arith) l e (let n = counted r c c (omega arith) l in omega arith) k m) in
     let drdy = last.ready ∙ data-form r c i p h l e ∙ ap (λ b. b && is_chunk gap p c) moves in
     let dbsy = last.busy ∙ busy-form r c i p h l e ∙ ap (λ b. b && is_busy_from gap c p) moves in
-    let now = transfer-is r c i p c h l count e (omega arith) (omega arith) ∙ ap (λ b. b && nat_lt (count_where (from_clock p (line_at DRDY v)) c) 4) moves in
-    let after = transfer-is r c i p (c + 1) h l count e (omega arith) (omega arith) ∙ ap (λ b. b && nat_lt (count_where (from_clock p (line_at DRDY v)) (c + 1)) 4) moves in
+    let now = transfer-is r c i p c h l count e (omega arith) (omega arith)
+    ∙ ap (λ b. b && nat_lt (count_where (from_clock p (line_at DRDY v)) c) 4) moves in
+    let after = transfer-is r c i p (c + 1) h l count e (omega arith) (omega arith)
+    ∙ ap (λ b. b && nat_lt (count_where (from_clock p (line_at DRDY v)) (c + 1)) 4) moves in
     let k = chunk-count r c i p c h l (λ u m. lasts u (omega arith)) (omega arith) e moves in
-    let m = chunk-count r c i p (c + 1) h l lasts (omega arith) e moves in
-    (λ t. now ∙ few-by gap p c _ true k (let high = (chunk-bounds gap p c (sym drdy ∙ t)).1 in lt-ltb c (p + 3 * (1 + gap) + 1) (omega arith)), dbsy ∙ busy-by gap p c (nat_lt (c + 1) (p + 3 * (1 + gap) + 1)) low refl ∙ sym (few-by gap p (c + 1) _ (nat_lt (c + 1) (p + 3 * (1 + gap) + 1)) m refl) ∙ sym after)
+    let m = chunk-count r c i p (c + 1) h l lasts (omega arith) e moves in (
+      λ t. now ∙ few-by gap p c _ true k (let high = (chunk-bounds gap p c (sym drdy ∙ t)).1 in
+          lt-ltb c (p + 3 * (1 + gap) + 1) (omega arith)),
+      dbsy
+          ∙ busy-by gap p c (nat_lt (c + 1) (p + 3 * (1 + gap) + 1)) low refl
+          ∙ sym (few-by gap p (c + 1) _ (nat_lt (c + 1) (p + 3 * (1 + gap) + 1)) m refl) ∙ sym after,
+    )
 
 still : (r : Run) (c i p : ℕ) → Timely r → c < length r.trace → response_count (run_to r c).trace ≡ suc i
     → response_clock_of (run_to r c).trace i ≡ Some p → moves_data (run_to r c).trace i ≡ false
     → LastMoves r c i
-    → (line_at DRDY (run_to r c).trace c ≡ true → is_transferring (run_to r c).trace c ≡ true) × (line_at DBSY (run_to r c).trace c ≡ is_transferring (run_to r c).trace (c + 1))
+    → (line_at DRDY (run_to r c).trace c ≡ true → is_transferring (run_to r c).trace c ≡ true)
+    × (line_at DBSY (run_to r c).trace c ≡ is_transferring (run_to r c).trace (c + 1))
 still r c i p h l count e none last =
     let v = (run_to r c).trace in
-    let drdy : line_at DRDY v c ≡ false = last.ready ∙ data-form r c i p h l e ∙ ap (λ b. b && is_chunk (gap_of r i) p c) none in
+    let drdy : line_at DRDY v c ≡ false = last.ready ∙ data-form r c i p h l e
+    ∙ ap (λ b. b && is_chunk (gap_of r i) p c) none in
     let dbsy = last.busy ∙ busy-form r c i p h l e ∙ ap (λ b. b && is_busy_from (gap_of r i) c p) none in
-    let after = transfer-is r c i p (c + 1) h l count e (omega arith) (omega arith) ∙ ap (λ b. b && nat_lt (count_where (from_clock p (line_at DRDY v)) (c + 1)) 4) none in
+    let after = transfer-is r c i p (c + 1) h l count e (omega arith) (omega arith)
+    ∙ ap (λ b. b && nat_lt (count_where (from_clock p (line_at DRDY v)) (c + 1)) 4) none in
     (λ t. absurd (let no : false ≡ true = sym drdy ∙ t in cc no), dbsy ∙ sym after)
 
 by-count : (r : Run) (c n : ℕ) → Timely r → c < length r.trace → response_count (run_to r c).trace ≡ n
-    → (line_at DRDY (run_to r c).trace c ≡ true → is_transferring (run_to r c).trace c ≡ true) × (line_at DBSY (run_to r c).trace c ≡ is_transferring (run_to r c).trace (c + 1))
+    → (line_at DRDY (run_to r c).trace c ≡ true → is_transferring (run_to r c).trace c ≡ true)
+    × (line_at DBSY (run_to r c).trace c ≡ is_transferring (run_to r c).trace (c + 1))
 by-count r c zero h l count =
     let v = (run_to r c).trace in
     let k = quiet r c h l count in

@@ -1,6 +1,8 @@
 -- A due request stays due until its reply begins.
-use Rattle.std.proofs.Common.{ℕ, suc, ◌+◌, ◌<◌, ◌≤◌, ◌≡◌, Bool, true, false, not, ◌&&◌, ◌||◌, List, Option, Some, None, is_some, length, nat_le, nat_lt, slice_index, refl, sym, ap, subst, ◌∙◌, arith, inl, inr}
-use Rattle.std.proofs.lemmas.Bool.{and_from, and_parts, false_from_ne_true, cases_lt, le-leb, leb-true, lt-ltb, or_right}
+use Rattle.std.proofs.Common.{ℕ, suc, ◌+◌, ◌<◌, ◌≤◌, ◌≡◌, Bool, true, false, not, ◌&&◌, ◌||◌, List, Option, Some, None}
+use Rattle.std.proofs.Common.{is_some, length, nat_le, nat_lt, slice_index, refl, sym, ap, subst, ◌∙◌, arith, inl, inr}
+use Rattle.std.proofs.lemmas.Bool.{and_from, and_parts, false_from_ne_true, cases_lt, le-leb, leb-true, lt-ltb}
+use Rattle.std.proofs.lemmas.Bool.{or_right}
 use Rattle.fsb_count.specs.Options.{is_before, is_some_and}
 use Rattle.fsb_count.proofs.Interface.{any_where-at, any_where-off, first_where-found, first_where-none}
 use Rattle.fsb_signal.proofs.Interface.{line_at-past}
@@ -14,7 +16,8 @@ use Rattle.fsb_trace.specs.Outcome.{is_deferral, is_settled_deferred, response_c
 use Rattle.fsb_trace.specs.Requests.{have_same_id, is_cancelled, is_live, is_reply, live_count, live_request_of}
 use Rattle.fsb_trace.specs.Snoop.{snoop_end_of}
 use Rattle.fsb_trace.specs.Winner.{begins_at}
-use Rattle.fsb_trace.proofs.Interface.{line_at-agree, live_request_of-stays, request_at-agree, response_clock_of-stays, snoop_end_of-stays}
+use Rattle.fsb_trace.proofs.Interface.{line_at-agree, live_request_of-stays, request_at-agree, response_clock_of-stays}
+use Rattle.fsb_trace.proofs.Interface.{snoop_end_of-stays}
 use Rattle.fsb_laws.proofs.Interface.{last_is_live, response_counted}
 use Rattle.fsb_timely.specs.Moments.{number_of_turn, turns_in}
 use Rattle.fsb_timely.specs.Runs.{Run, past_of, past_to, run_to}
@@ -29,13 +32,17 @@ use Rattle.fsb_lawful.proofs.RepliesBegun.{reply-before, reply-is}
 use Rattle.fsb_lawful.proofs.ResponseCodes.{told-as-settled}
 use Rattle.fsb_lawful.proofs.Turns.{turned-at}
 
-reply-parts : (w : Trace) (i q : ℕ) → is_reply_to w i q ≡ true → (line_at ADS w q ≡ true) × (is_reply (request_at w q) ≡ true) × (have_same_id (request_at w q) (live_request_of w i) ≡ true)
+reply-parts : (w : Trace) (i q : ℕ) → is_reply_to w i q ≡ true
+    → (line_at ADS w q ≡ true) × (is_reply (request_at w q) ≡ true)
+    × (have_same_id (request_at w q) (live_request_of w i) ≡ true)
 unfolding is_reply_to
 reply-parts w i q e =
-    let a = and4 (line_at ADS w q) (is_reply (request_at w q)) (have_same_id (request_at w q) (live_request_of w i)) _ e in (a.0, a.1, a.2)
+    let a = and4 (line_at ADS w q) (is_reply (request_at w q))
+    (have_same_id (request_at w q) (live_request_of w i)) _ e in (a.0, a.1, a.2)
 
 -- a reply that began before the clock before is one there, too
-same-reply : (r : Run) (d i s t q : ℕ) → suc d < length r.trace → snoop_end_of (run_to r d).trace i ≡ Some s → response_clock_of (run_to r d).trace i ≡ Some t → s < suc d → t < suc d → q < d
+same-reply : (r : Run) (d i s t q : ℕ) → suc d < length r.trace → snoop_end_of (run_to r d).trace i ≡ Some s
+    → response_clock_of (run_to r d).trace i ≡ Some t → s < suc d → t < suc d → q < d
     → is_reply_to (run_to r (suc d)).trace i q ≡ is_reply_to (run_to r d).trace i q
 unfolding is_reply_to
 same-reply r d i s t q l e f below low early =
@@ -49,7 +56,10 @@ same-reply r d i s t q l e f below low early =
     sym (λ k. ads k && is_reply (request k) && have_same_id (request k) (asked k) && is_before (response k) q)
 
 -- what was neither cancelled below a clock nor ended was live there
-live-before : (r : Run) (d q : ℕ) → suc d < length r.trace → q < d → line_at ADS (run_to r (suc d)).trace q ≡ true → (is_in_flight (run_to r (suc d)).trace (suc d) q || is_live (run_to r (suc d)).trace q) ≡ true → is_live (run_to r d).trace q ≡ true
+live-before : (r : Run) (d q : ℕ) → suc d < length r.trace → q < d
+    → line_at ADS (run_to r (suc d)).trace q ≡ true
+    → (is_in_flight (run_to r (suc d)).trace (suc d) q || is_live (run_to r (suc d)).trace q) ≡ true
+    → is_live (run_to r d).trace q ≡ true
 unfolding is_live is_cancelled is_in_flight is_dropped
 live-before r d q l early ads e =
     let v = (run_to r d).trace in
@@ -58,7 +68,9 @@ live-before r d q l early ads e =
     let size = length-cut r d (omega arith) in
     let there = line_at-agree ADS (d + 1) v w q agree (omega arith) ∙ ads in
     and_from (line_at ADS v q) (not (line_at AERR v (q + 3))) there (elim (cases_lt (q + 3) (d + 1)) [
-      | inl shown ↦ ap not (line_at-agree AERR (d + 1) v w (q + 3) agree shown ∙ uncancelled (line_at ADS w q) (nat_lt q (suc d)) (line_at AERR w (q + 3)) (nat_lt (q + 3) (suc d)) (has_ended w (suc d) q) (lt-ltb (q + 3) (suc d) (omega arith)) e)
+      | inl shown ↦ ap not (line_at-agree AERR (d + 1) v w (q + 3) agree shown
+          ∙ uncancelled (line_at ADS w q) (nat_lt q (suc d)) (line_at AERR w (q + 3)) (nat_lt (q + 3) (suc d))
+          (has_ended w (suc d) q) (lt-ltb (q + 3) (suc d) (omega arith)) e)
       | inr hidden ↦ ap not (line_at-past AERR v (q + 3) (omega arith))
     ])
   where
@@ -71,8 +83,10 @@ live-before r d q l early ads e =
     uncancelled a b true false h f g = absurd (let no : ⊥ = cc in no)
 
 -- who is answered at the next clock was answered already, where no reply begins
-unanswered : (r : Run) (d i s t : ℕ) → suc d < length r.trace → snoop_end_of (run_to r d).trace i ≡ Some s → response_clock_of (run_to r d).trace i ≡ Some t → s < suc d → t < suc d
-    → (line_at ADS (run_to r (suc d)).trace d && is_reply (request_at (run_to r (suc d)).trace d)) ≡ false → is_answered (run_to r d).trace d i ≡ false → is_answered (run_to r (suc d)).trace (suc d) i ≡ false
+unanswered : (r : Run) (d i s t : ℕ) → suc d < length r.trace → snoop_end_of (run_to r d).trace i ≡ Some s
+    → response_clock_of (run_to r d).trace i ≡ Some t → s < suc d → t < suc d
+    → (line_at ADS (run_to r (suc d)).trace d && is_reply (request_at (run_to r (suc d)).trace d)) ≡ false
+    → is_answered (run_to r d).trace d i ≡ false → is_answered (run_to r (suc d)).trace (suc d) i ≡ false
 unfolding is_answered answers
 unanswered r d i s t l e f below low none not_yet =
     let v = (run_to r d).trace in
@@ -88,37 +102,51 @@ unanswered r d i s t l e f below low none not_yet =
           (let no : false ≡ true = sym not_yet ∙ there in cc no)
       | inr late ↦
           let same : q ≡ d = omega arith in
-          let now = and_from _ _ (subst (λ k. line_at ADS w k ≡ true) same reply.0) (subst (λ k. is_reply (request_at w k) ≡ true) same reply.1) in
+          let now = and_from _ _ (subst (λ k. line_at ADS w k ≡ true) same reply.0)
+          (subst (λ k. is_reply (request_at w k) ≡ true) same reply.1) in
           (let no : false ≡ true = sym none ∙ now in cc no)
     ]))
 
-response-parts : (o : Option ℕ) (later c : ℕ) → is_some_and o (λ t. nat_le (t + 1 + later) c) ≡ true → (t : ℕ) × (o ≡ Some t) × (t + 1 + later ≤ c)
+response-parts : (o : Option ℕ) (later c : ℕ) → is_some_and o (λ t. nat_le (t + 1 + later) c) ≡ true
+    → (t : ℕ) × (o ≡ Some t) × (t + 1 + later ≤ c)
 unfolding is_some_and
 response-parts None later c e = absurd (let no : ⊥ = cc in no)
 response-parts (Some t) later c e = (t, refl, leb-true (t + 1 + later) c e)
 
-still-late : (o : Option ℕ) (t later later' c : ℕ) → o ≡ Some t → later ≡ later' → t + 1 + later ≤ c → is_some_and o (λ t. nat_le (t + 1 + later') (suc c)) ≡ true
+still-late : (o : Option ℕ) (t later later' c : ℕ) → o ≡ Some t → later ≡ later' → t + 1 + later ≤ c
+    → is_some_and o (λ t. nat_le (t + 1 + later') (suc c)) ≡ true
 unfolding is_some_and
 still-late o t later later' c e f l = rw e (le-leb (t + 1 + later') (suc c) (omega arith))
 
-due-parts : (w : Trace) (turns : List ℕ) (c i : ℕ) → is_due w turns c i ≡ true → (is_settled_deferred w turns i ≡ true) × (is_some_and (response_clock_of w i) (λ t. nat_le (t + 1 + later_of (slice_index turns i)) c) ≡ true) × (is_answered w c i ≡ false)
+due-parts : (w : Trace) (turns : List ℕ) (c i : ℕ) → is_due w turns c i ≡ true
+    → (is_settled_deferred w turns i ≡ true)
+    × (is_some_and (response_clock_of w i) (λ t. nat_le (t + 1 + later_of (slice_index turns i)) c) ≡ true)
+    × (is_answered w c i ≡ false)
 unfolding is_due
 due-parts w turns c i e =
-    let a = and3 (is_settled_deferred w turns i) (is_some_and (response_clock_of w i) (λ t. nat_le (t + 1 + later_of (slice_index turns i)) c)) (not (is_answered w c i)) e in (a.0, a.1, not-true (is_answered w c i) a.2)
+    let a = and3 (is_settled_deferred w turns i)
+    (is_some_and (response_clock_of w i) (λ t. nat_le (t + 1 + later_of (slice_index turns i)) c))
+    (not (is_answered w c i)) e in (a.0, a.1, not-true (is_answered w c i) a.2)
 
-due-from : (w : Trace) (turns : List ℕ) (c i : ℕ) → is_settled_deferred w turns i ≡ true → is_some_and (response_clock_of w i) (λ t. nat_le (t + 1 + later_of (slice_index turns i)) c) ≡ true → is_answered w c i ≡ false → is_due w turns c i ≡ true
+due-from : (w : Trace) (turns : List ℕ) (c i : ℕ) → is_settled_deferred w turns i ≡ true
+    → is_some_and (response_clock_of w i) (λ t. nat_le (t + 1 + later_of (slice_index turns i)) c) ≡ true
+    → is_answered w c i ≡ false → is_due w turns c i ≡ true
 unfolding is_due
 due-from w turns c i e f g = and_from _ _ (and_from _ _ e f) (ap not g)
 
 -- a request that is due is due at the next clock
-due-next : (r : Run) (d i : ℕ) → Timely r → suc d < length r.trace → (line_at ADS (run_to r (suc d)).trace d && is_reply (request_at (run_to r (suc d)).trace d)) ≡ false
-    → is_due (run_to r d).trace (turns_in (past_of (run_to r d)).moments) d i ≡ true → (i < live_count (run_to r (suc d)).trace) × (is_due (run_to r (suc d)).trace (turns_in (past_of (run_to r (suc d))).moments) (suc d) i ≡ true)
+due-next : (r : Run) (d i : ℕ) → Timely r → suc d < length r.trace
+    → (line_at ADS (run_to r (suc d)).trace d && is_reply (request_at (run_to r (suc d)).trace d)) ≡ false
+    → is_due (run_to r d).trace (turns_in (past_of (run_to r d)).moments) d i ≡ true
+    → (i < live_count (run_to r (suc d)).trace)
+    × (is_due (run_to r (suc d)).trace (turns_in (past_of (run_to r (suc d))).moments) (suc d) i ≡ true)
 unfolding is_settled_deferred settled_of
 due-next r d i h l none due =
     let v = (run_to r d).trace in
     let w = (run_to r (suc d)).trace in
     let a = due-parts v (turns_in (past_of (run_to r d)).moments) d i due in
-    let t = response-parts (response_clock_of v i) (later_of (slice_index (turns_in (past_of (run_to r d)).moments) i)) d a.1 in
+    let t = response-parts (response_clock_of v i)
+    (later_of (slice_index (turns_in (past_of (run_to r d)).moments) i)) d a.1 in
     let high = t.2 in
     let agree = cuts-agree r d (suc d) (omega arith) l in
     let told = told-as-settled r d i t.0 h (omega arith) t.1 in
@@ -132,24 +160,32 @@ due-next r d i h l none due =
     let later = ap later_of (early.number ∙ ap (λ x. number_of_turn x.turn) end ∙ sym late.number) in
     let response = response_clock_of-stays (d + 1) v w i t.0 agree (omega arith) t.1 in (
       last_is_live w i (orderly-at r (suc d) h l) (response_counted w i t.0 response),
-      due-from w (turns_in (past_of (run_to r (suc d))).moments) (suc d) i (ap (λ o. is_some_and o is_deferral) settled ∙ a.0)
-          (still-late (response_clock_of w i) t.0 (later_of (slice_index (turns_in (past_of (run_to r d)).moments) i)) (later_of (slice_index (turns_in (past_of (run_to r (suc d))).moments) i)) d response later high)
+      due-from w (turns_in (past_of (run_to r (suc d))).moments) (suc d) i
+          (ap (λ o. is_some_and o is_deferral) settled ∙ a.0)
+          (still-late (response_clock_of w i) t.0
+          (later_of (slice_index (turns_in (past_of (run_to r d)).moments) i))
+          (later_of (slice_index (turns_in (past_of (run_to r (suc d))).moments) i)) d response later high)
           (unanswered r d i s t.0 l told.is_snoop t.1 (omega arith) (omega arith) none a.2),
     )
 
-some-due : (w : Trace) (turns : List ℕ) (c : ℕ) (o : Option ℕ) → due_at w turns c ≡ o → is_some o ≡ true → (i : ℕ) × (is_due w turns c i ≡ true)
+some-due : (w : Trace) (turns : List ℕ) (c : ℕ) (o : Option ℕ) → due_at w turns c ≡ o → is_some o ≡ true
+    → (i : ℕ) × (is_due w turns c i ≡ true)
 unfolding due_at
 some-due w turns c None e f = absurd (let no : ⊥ = cc in no)
 some-due w turns c (Some i) e f = (i, (first_where-found (is_due w turns c) (live_count w) i e).1)
 
-is-some-due : (w : Trace) (turns : List ℕ) (c i : ℕ) (o : Option ℕ) → due_at w turns c ≡ o → i < live_count w → is_due w turns c i ≡ true → is_some o ≡ true
+is-some-due : (w : Trace) (turns : List ℕ) (c i : ℕ) (o : Option ℕ) → due_at w turns c ≡ o → i < live_count w
+    → is_due w turns c i ≡ true → is_some o ≡ true
 unfolding due_at
 is-some-due w turns c i (Some j) e l f = refl
 is-some-due w turns c i None e l f =
-    let none = first_where-none (is_due w turns c) (live_count w) e i l in let no : false ≡ true = sym none ∙ f in absurd (cc no)
+    let none = first_where-none (is_due w turns c) (live_count w) e i l in let no : false ≡ true = sym none
+    ∙ f in absurd (cc no)
 
 -- while the priority agent begins no request, something is due where something was
-pub dues-stay : (r : Run) (d : ℕ) → Timely r → WantsLawfully r → r.plan.ahead ≤ 4 → suc d < length r.trace → is_some (due_number (run_to r d) (past_to (past_of r) d) d) ≡ true → begins_at (run_to r (suc d)).trace d Priority ≡ false
+pub dues-stay : (r : Run) (d : ℕ) → Timely r → WantsLawfully r → r.plan.ahead ≤ 4 → suc d < length r.trace
+    → is_some (due_number (run_to r d) (past_to (past_of r) d) d) ≡ true
+    → begins_at (run_to r (suc d)).trace d Priority ≡ false
     → is_some (due_number (run_to r (suc d)) (past_to (past_of r) (suc d)) (suc d)) ≡ true
 unfolding due_number
 dues-stay r d h wants few l due none =
@@ -158,7 +194,10 @@ dues-stay r d h wants few l due none =
     let early = past-cut r d (omega arith) in
     let late = past-cut r (suc d) l in
     let quiet = sym (reply-before (run_to r (suc d)) d) ∙ reply-is r d h wants few l ∙ none in
-    let i = some-due v (turns_in (past_of (run_to r d)).moments) d (due_at v (turns_in (past_of (run_to r d)).moments) d) refl (ap (λ p. is_some (due_at v (turns_in p.moments) d)) early ∙ due) in
+    let i = some-due v (turns_in (past_of (run_to r d)).moments) d
+    (due_at v (turns_in (past_of (run_to r d)).moments) d) refl
+    (ap (λ p. is_some (due_at v (turns_in p.moments) d)) early ∙ due) in
     let next = due-next r d i.0 h l quiet i.1 in
     ap (λ p. is_some (due_at w (turns_in p.moments) (suc d))) (sym late)
-    ∙ is-some-due w (turns_in (past_of (run_to r (suc d))).moments) (suc d) i.0 (due_at w (turns_in (past_of (run_to r (suc d))).moments) (suc d)) refl next.0 next.1
+    ∙ is-some-due w (turns_in (past_of (run_to r (suc d))).moments) (suc d) i.0
+    (due_at w (turns_in (past_of (run_to r (suc d))).moments) (suc d)) refl next.0 next.1

@@ -1,13 +1,16 @@
 -- Rules 19 and 20: the parity of a timely run of profile 2 is even; in profile 1 no parity is declared.
-use Rattle.std.proofs.Common.{ℕ, ◌+◌, ◌<◌, ◌≡◌, Bool, true, false, not, ◌&&◌, ◌||◌, Option, Some, None, length, take, nat_eq, refl, ◌∙◌, ap}
+use Rattle.std.proofs.Common.{ℕ, ◌+◌, ◌<◌, ◌≡◌, Bool, true, false, not, ◌&&◌, ◌||◌, Option, Some, None, length, take}
+use Rattle.std.proofs.Common.{nat_eq, refl, ◌∙◌, ap}
 use Rattle.std.specs.List.{slice_get}
 use Rattle.std.specs.Option.{option_map_or}
 use Rattle.fsb_count.specs.Options.{is_some_and}
 use Rattle.fsb_signal.specs.declared.lines.TheConstants.Lines.{ADS, AP0, AP1, RP}
 use Rattle.fsb_signal.specs.declared.sample.Sample.{Sample}
 use Rattle.fsb_signal.specs.Samples.{has_unknown, is_known_word}
-use Rattle.fsb_signal.specs.Parity.{marks_in, is_low_address_even, is_high_address_even, is_request_even, is_address_odd, is_request_odd}
-use Rattle.fsb_trace.specs.Rules.{has_parity_at, is_address_parity_wrong, is_request_parity_wrong, is_marked_address_wrong, is_marked_request_wrong}
+use Rattle.fsb_signal.specs.Parity.{marks_in, is_low_address_even, is_high_address_even, is_request_even}
+use Rattle.fsb_signal.specs.Parity.{is_address_odd, is_request_odd}
+use Rattle.fsb_trace.specs.Rules.{has_parity_at, is_address_parity_wrong, is_request_parity_wrong}
+use Rattle.fsb_trace.specs.Rules.{is_marked_address_wrong, is_marked_request_wrong}
 use Rattle.fsb_trace.proofs.Interface.{breaks-19, breaks-20}
 use Rattle.fsb_timely.specs.ParityLines.{is_even_sample, drives_parity}
 use Rattle.fsb_timely.specs.Past.{Past}
@@ -26,7 +29,8 @@ not_odd-address : (s : Sample) → is_even_sample s ≡ true → is_address_odd 
 unfolding is_even_sample is_address_odd
 not_odd-address s e =
     let a = and3 (is_low_address_even s) (is_high_address_even s) (is_request_even s) e in
-    last-fails (is_known_word s.addr) (not (has_unknown s AP0 || has_unknown s AP1)) (is_low_address_even s && is_high_address_even s) (rw (a.0, a.1) refl)
+    last-fails (is_known_word s.addr) (not (has_unknown s AP0 || has_unknown s AP1))
+    (is_low_address_even s && is_high_address_even s) (rw (a.0, a.1) refl)
 
 not_odd-request : (s : Sample) → is_even_sample s ≡ true → is_request_odd s ≡ false
 unfolding is_even_sample is_request_odd
@@ -56,25 +60,29 @@ address-kept : (r : Run) (c : ℕ) → Timely r → c < length r.trace → nat_e
 unfolding is_address_parity_wrong
 address-kept r c h l two =
     let v = take (c + 1) r.trace in
-    and-fails (has_parity_at v c) (option_map_or is_address_odd (slice_get v c) false) (λ t. not_odd is_address_odd (slice_get v c) not_odd-address (even-there r c h l two))
+    and-fails (has_parity_at v c) (option_map_or is_address_odd (slice_get v c) false)
+    (λ t. not_odd is_address_odd (slice_get v c) not_odd-address (even-there r c h l two))
 
 request-kept : (r : Run) (c : ℕ) → Timely r → c < length r.trace → nat_eq r.plan.profile 2 ≡ true
     → is_request_parity_wrong (take (c + 1) r.trace) c ≡ false
 unfolding is_request_parity_wrong
 request-kept r c h l two =
     let v = take (c + 1) r.trace in
-    and-fails (has_parity_at v c) (option_map_or is_request_odd (slice_get v c) false) (λ t. not_odd is_request_odd (slice_get v c) not_odd-request (even-there r c h l two))
+    and-fails (has_parity_at v c) (option_map_or is_request_odd (slice_get v c) false)
+    (λ t. not_odd is_request_odd (slice_get v c) not_odd-request (even-there r c h l two))
 
 -- rule 19
 pub keeps-19 : (r : Run) → Timely r → Keeps (marks_in r.plan.profile) 19 r.trace
 unfolding is_marked_address_wrong
 keeps-19 r h = keeps (marks_in r.plan.profile) 19 r.trace (λ c l.
     let v = take (c + 1) r.trace in
-    breaks-19 (marks_in r.plan.profile) v c ∙ and-fails (nat_eq r.plan.profile 2) (is_address_parity_wrong v c) (λ two. address-kept r c h l two))
+    breaks-19 (marks_in r.plan.profile) v c
+    ∙ and-fails (nat_eq r.plan.profile 2) (is_address_parity_wrong v c) (λ two. address-kept r c h l two))
 
 -- rule 20
 pub keeps-20 : (r : Run) → Timely r → Keeps (marks_in r.plan.profile) 20 r.trace
 unfolding is_marked_request_wrong
 keeps-20 r h = keeps (marks_in r.plan.profile) 20 r.trace (λ c l.
     let v = take (c + 1) r.trace in
-    breaks-20 (marks_in r.plan.profile) v c ∙ and-fails (nat_eq r.plan.profile 2) (is_request_parity_wrong v c) (λ two. request-kept r c h l two))
+    breaks-20 (marks_in r.plan.profile) v c
+    ∙ and-fails (nat_eq r.plan.profile 2) (is_request_parity_wrong v c) (λ two. request-kept r c h l two))

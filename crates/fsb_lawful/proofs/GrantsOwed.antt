@@ -1,11 +1,13 @@
 -- What an agent is granted, and what is brought to it, is for one of its outstanding requests.
-use Rattle.std.proofs.Common.{ℕ, zero, suc, ◌+◌, ◌/◌, ◌<◌, ◌≤◌, ◌≡◌, Bool, true, false, not, ◌&&◌, ◌||◌, [], Option, Some, None, length, nat_eq, refl, sym, ap, subst, ◌∙◌, arith, inl, inr}
+use Rattle.std.proofs.Common.{ℕ, zero, suc, ◌+◌, ◌/◌, ◌<◌, ◌≤◌, ◌≡◌, Bool, true, false, not, ◌&&◌, ◌||◌, [], Option}
+use Rattle.std.proofs.Common.{Some, None, length, nat_eq, refl, sym, ap, subst, ◌∙◌, arith, inl, inr}
 use Rattle.std.specs.List.{filter, list_any}
 use Rattle.std.specs.Option.{option_and_then, option_map, option_map_or}
 use Rattle.std.proofs.lemmas.Bool.{and_from, and_parts, cases_Bool, eq-eqb, eqb-true, false_from_ne_true}
 use Rattle.fsb_count.specs.Clocks.{AgreeBelow}
 use Rattle.fsb_count.specs.Options.{is_at, is_before, is_some_and}
-use Rattle.fsb_count.proofs.Interface.{any_where-found, count_where-same, first_where-carried, is_at-some, is_before-parts, nth_where-found, nth_where-one}
+use Rattle.fsb_count.proofs.Interface.{any_where-found, count_where-same, first_where-carried, is_at-some}
+use Rattle.fsb_count.proofs.Interface.{is_before-parts, nth_where-found, nth_where-one}
 use Rattle.fsb_encode.specs.declared.request.Kind.{Kind}
 use Rattle.fsb_encode.specs.declared.request.Kind.TheVariants.{Reply, Invalidate, Read, WriteBack, Upgrade}
 use Rattle.fsb_encode.specs.declared.request.Request.{Request}
@@ -17,16 +19,24 @@ use Rattle.fsb_signal.specs.Samples.{line_at}
 use Rattle.fsb_trace.specs.declared.who.Who.TheVariants.{Symmetric, Priority}
 use Rattle.fsb_trace.specs.At.{Trace, request_at, responds_at}
 use Rattle.fsb_trace.specs.Agree.{AgreeTo}
-use Rattle.fsb_trace.specs.Flight.{is_live_reply_to, is_outstanding, is_reply_to, last_clock_of, outstanding, reply_clock_of, reply_end_of, reply_number_of}
-use Rattle.fsb_trace.specs.Outcome.{is_deferral, is_deferred, is_settled_deferred, outcome_by_kind, response_clock_of, settled_by}
-use Rattle.fsb_trace.specs.Requests.{have_same_id, is_live, is_reply, is_reply_kind, line_of, live_clock_of, live_count, live_number_of, live_request_of}
+use Rattle.fsb_trace.specs.Flight.{is_live_reply_to, is_outstanding, is_reply_to, last_clock_of, outstanding}
+use Rattle.fsb_trace.specs.Flight.{reply_clock_of, reply_end_of, reply_number_of}
+use Rattle.fsb_trace.specs.Outcome.{is_deferral, is_deferred, is_settled_deferred, outcome_by_kind, response_clock_of}
+use Rattle.fsb_trace.specs.Outcome.{settled_by}
+use Rattle.fsb_trace.specs.Requests.{have_same_id, is_live, is_reply, is_reply_kind, line_of, live_clock_of, live_count}
+use Rattle.fsb_trace.specs.Requests.{live_number_of, live_request_of}
 use Rattle.fsb_trace.specs.Response.{end_of}
 use Rattle.fsb_trace.specs.Snoop.{snoop_end_of}
-use Rattle.fsb_trace.proofs.Interface.{AgreeTo-sym, end_of-response, is_live-agree, line_at-agree, live_clock_of-number, live_clock_of-stays, live_request_of-stays, request_at-agree, response_clock_of-stays, snoop_end_of-clock, snoop_end_of-rises, snoop_end_of-stays, winner_at-agree}
-use Rattle.fsb_laws.proofs.Interface.{deferred_response, end_after_clock, end_of-kept, is_outstanding-end, last_clock_of-deferred, last_clock_of-plain, live_of_reply}
+use Rattle.fsb_trace.proofs.Interface.{AgreeTo-sym, end_of-response, is_live-agree, line_at-agree, live_clock_of-number}
+use Rattle.fsb_trace.proofs.Interface.{live_clock_of-stays, live_request_of-stays, request_at-agree}
+use Rattle.fsb_trace.proofs.Interface.{response_clock_of-stays, snoop_end_of-clock, snoop_end_of-rises}
+use Rattle.fsb_trace.proofs.Interface.{snoop_end_of-stays, winner_at-agree}
+use Rattle.fsb_laws.proofs.Interface.{deferred_response, end_after_clock, end_of-kept, is_outstanding-end}
+use Rattle.fsb_laws.proofs.Interface.{last_clock_of-deferred, last_clock_of-plain, live_of_reply}
 use Rattle.fsb_timely.specs.Completions.{brings_at, is_brought}
 use Rattle.fsb_timely.specs.Grants.{ended_requests, grant_at, is_end_at, is_granted}
-use Rattle.fsb_timely.specs.Moments.{agent_at, begun_with, claim_at, moment_at, number_of_turn, owing_at, owing_for, requests_ending_at, turns_in}
+use Rattle.fsb_timely.specs.Moments.{agent_at, begun_with, claim_at, moment_at, number_of_turn, owing_at, owing_for}
+use Rattle.fsb_timely.specs.Moments.{requests_ending_at, turns_in}
 use Rattle.fsb_timely.specs.Past.{Claim, Grant, Owing, Past}
 use Rattle.fsb_timely.specs.Runs.{Run, moments_below, past_of, past_with, run_to}
 use Rattle.fsb_timely.specs.Scripts.{Need}
@@ -286,7 +296,8 @@ reply-whole r e j i s t x h l low snoop response reply end below =
 
 -- while its reply has no end, a request that was put off is not finished
 unfinished-other : (r : Run) (e i j : ℕ) → Timely r → e < length r.trace → IsPutOff r e j
-    → reply_number_of r.trace j ≡ Some i → HasNoEnd r e i → is_before (last_clock_of (run_to r e).trace j) (length (run_to r e).trace) ≡ false
+    → reply_number_of r.trace j ≡ Some i → HasNoEnd r e i
+    → is_before (last_clock_of (run_to r e).trace j) (length (run_to r e).trace) ≡ false
 unfolding reply_end_of is_deferred
 unfinished-other r e i j h l k reply none =
     let v = (run_to r e).trace in
@@ -318,7 +329,8 @@ early-itself r e i t q l low snoop clock =
 
 -- the request that is served is not finished while the one that serves it has no end
 unfinished-served : (r : Run) (e i j t q : ℕ) → Timely r → e < length r.trace → t ≤ suc e
-    → snoop_end_of r.trace i ≡ Some t → Serves r.trace (turns_in (past_of r).moments) i j → live_clock_of r.trace j ≡ Some q → HasNoEnd r e i
+    → snoop_end_of r.trace i ≡ Some t → Serves r.trace (turns_in (past_of r).moments) i j
+    → live_clock_of r.trace j ≡ Some q → HasNoEnd r e i
     → IsUnfinished r e j q
 unfolding live_request_of
 unfinished-served r e i j t q h l low snoop (inl k) clock none =

@@ -1,5 +1,6 @@
 -- Rule 7: a request is identified by its winner.
-use Rattle.std.proofs.Common.{ℕ, zero, suc, ◌+◌, ◌-◌, ◌/◌, ◌<◌, ◌≤◌, ◌≡◌, true, false, not, ◌&&◌, Option, Some, None, length, take, refl, sym, subst, ap, ◌∙◌, arith}
+use Rattle.std.proofs.Common.{ℕ, zero, suc, ◌+◌, ◌-◌, ◌/◌, ◌<◌, ◌≤◌, ◌≡◌, true, false, not, ◌&&◌, Option, Some, None}
+use Rattle.std.proofs.Common.{length, take, refl, sym, subst, ap, ◌∙◌, arith}
 use Rattle.std.specs.Option.{option_map, option_and_then}
 use Rattle.std.proofs.lemmas.Bool.{eq-eqb}
 use Rattle.fsb_count.specs.Options.{is_some_and}
@@ -90,7 +91,10 @@ at-clock r zero h few wants l =
 at-clock r (suc d) h few wants l =
     let one : suc d - 1 ≡ d = omega arith in
     let v = (run_to r (suc d)).trace in
-    and-fails (line_back ADS v (suc d) 1) (not (is_identified (winner_at v (suc d - 1)) (request_at v (suc d - 1)))) (λ t. ap (λ k. not (is_identified (winner_at v k) (request_at v k))) one ∙ ap not (identified-at r d h few wants l t))
+    and-fails (line_back ADS v (suc d) 1)
+    (not (is_identified (winner_at v (suc d - 1)) (request_at v (suc d - 1))))
+    (λ t. ap (λ k. not (is_identified (winner_at v k) (request_at v k))) one
+    ∙ ap not (identified-at r d h few wants l t))
 
 -- rule 7
 pub keeps-7 : (m : Marks) (r : Run) → Timely r → r.plan.ahead ≤ 4 → WantsLawfully r → Keeps m 7 r.trace

@@ -45,4 +45,5 @@ pub use Rattle.fsb_lawful.proofs.DataMoves.{LastMoves, keeps-16, last-moves}
 -- A clock has one answer at most.
 pub use Rattle.fsb_lawful.proofs.OneAnswer.{answered-next, one_answer, ready-then}
 -- When a response and TRDY# are due.
-pub use Rattle.fsb_lawful.proofs.Responding.{IsReadyDue, Responding, one-ready, one-response, ready-answer, ready-now, ready-stays, responding-answer, responding-now, responding-stays}
+pub use Rattle.fsb_lawful.proofs.Responding.{IsReadyDue, Responding, one-ready, one-response, ready-answer, ready-now}
+pub use Rattle.fsb_lawful.proofs.Responding.{ready-stays, responding-answer, responding-now, responding-stays}

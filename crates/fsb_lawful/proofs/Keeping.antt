@@ -44,4 +44,7 @@ pub keeps : (m : Marks) (j : ℕ) (w : Trace) → ((c : ℕ) → c < length w �
     → Keeps m j w
 unfolding is_broken
 keeps m j w h =
-    record { unbroken = λ c. and-fails (nat_lt c (length w)) (breaks m (take (c + 1) w) c j) (λ t. h c (ltb-true c (length w) t)) }
+    record {
+      unbroken = λ c. and-fails (nat_lt c (length w)) (breaks m (take (c + 1) w) c j)
+          (λ t. h c (ltb-true c (length w) t));
+    }

@@ -1,5 +1,7 @@
 -- The lines that an agent gets, the IDs that it uses, and so all requests of a run whose plan keeps the bounds.
-use Rattle.std.proofs.Common.{ℕ, zero, suc, ◌+◌, ◌-◌, ◌*◌, ◌/◌, ◌^◌, ◌<◌, ◌≤◌, ◌≡◌, Bool, true, false, not, ◌&&◌, ◌||◌, List, [], ◌∷◌, Option, Some, None, length, drop, take, min, nat_eq, nat_le, nat_lt, slice_get, refl, sym, ap, subst, ◌∙◌, arith, inl, inr, add-one, if◌then◌else◌}
+use Rattle.std.proofs.Common.{ℕ, zero, suc, ◌+◌, ◌-◌, ◌*◌, ◌/◌, ◌^◌, ◌<◌, ◌≤◌, ◌≡◌, Bool, true, false, not, ◌&&◌, ◌||◌}
+use Rattle.std.proofs.Common.{List, [], ◌∷◌, Option, Some, None, length, drop, take, min, nat_eq, nat_le, nat_lt}
+use Rattle.std.proofs.Common.{slice_get, refl, sym, ap, subst, ◌∙◌, arith, inl, inr, add-one, if◌then◌else◌}
 use Rattle.std.specs.List.{filter, find, list_all, range_with_len}
 use Rattle.std.specs.Option.{option_and_then, option_map, option_map_or}
 use Rattle.std.proofs.lemmas.Bool.{and_parts, cases_Bool, cases_lt, lt-ltb, ltb-true}
@@ -21,22 +23,30 @@ use Rattle.fsb_trace.specs.declared.who.Who.{Who}
 use Rattle.fsb_trace.specs.declared.who.Who.TheVariants.{Symmetric, Priority}
 use Rattle.fsb_trace.specs.At.{Trace, known_pair_at, request_at}
 use Rattle.fsb_trace.specs.Requests.{is_upgrade_kind, line_of, live_clock_of, live_request_of}
-use Rattle.fsb_trace.proofs.Interface.{requesters_before-begun, requesters_before-kept, requesters_before-start, winner_after-high, winner_after-low, winner_by-locked, winner_by-priority, winner_by-symmetric}
-use Rattle.fsb_trace.specs.Winner.{agent_in_order, asks_in_order, first_asking, first_in_order, last_if_asking, request_line_of, requesters_before, Requesters, then_begun, winner_after, winner_at, winner_by}
+use Rattle.fsb_trace.proofs.Interface.{requesters_before-begun, requesters_before-kept, requesters_before-start}
+use Rattle.fsb_trace.proofs.Interface.{winner_after-high, winner_after-low, winner_by-locked, winner_by-priority}
+use Rattle.fsb_trace.proofs.Interface.{winner_by-symmetric}
+use Rattle.fsb_trace.specs.Winner.{agent_in_order, asks_in_order, first_asking, first_in_order, last_if_asking}
+use Rattle.fsb_trace.specs.Winner.{request_line_of, requesters_before, Requesters, then_begun, winner_after, winner_at}
+use Rattle.fsb_trace.specs.Winner.{winner_by}
 use Rattle.fsb_timely.specs.Grants.{grant_at, is_rival, line_granted_at, lines_granted, snooped_at}
 use Rattle.fsb_timely.specs.Hits.{is_dirty}
-use Rattle.fsb_timely.specs.Moments.{agent_at, claim_at, gives_line, grant_for, grant_of, grant_to, live_claim_of, moment_at, number_snooped_at, served_number, snoop_at, snoop_end_for, snoop_end_if_begun, snoop_end_with, turns_in}
+use Rattle.fsb_timely.specs.Moments.{agent_at, claim_at, gives_line, grant_for, grant_of, grant_to, live_claim_of}
+use Rattle.fsb_timely.specs.Moments.{moment_at, number_snooped_at, served_number, snoop_at, snoop_end_for}
+use Rattle.fsb_timely.specs.Moments.{snoop_end_if_begun, snoop_end_with, turns_in}
 use Rattle.fsb_timely.specs.Past.{Claim, Grant, Moment, Owing, Past, SnoopEnd}
 use Rattle.fsb_timely.specs.Runs.{Run, moments_below, past_of, past_to, run_to}
 use Rattle.fsb_timely.specs.Scripts.{Need, is_idling, items_of, needs_from, next_number, window, window_at}
 use Rattle.fsb_timely.specs.Starts.{due_number, reply_to, request_begun, would_begin}
-use Rattle.fsb_timely.specs.Wants.{free_id, id_of, is_id_used, is_missing, kind_needed, least_of, may_upgrade, owed, request_of_kind, victim_of, want_for, want_of, write_back_of}
+use Rattle.fsb_timely.specs.Wants.{free_id, id_of, is_id_used, is_missing, kind_needed, least_of, may_upgrade, owed}
+use Rattle.fsb_timely.specs.Wants.{request_of_kind, victim_of, want_for, want_of, write_back_of}
 use Rattle.fsb_timely.proofs.Interface.{length-moments, moment-at, moment_of}
 use Rattle.fsb_lawful.specs.Beginning.{KeepsBounds, WantsLawfully}
 use Rattle.fsb_lawful.proofs.Cuts.{slice_get-take}
 use Rattle.fsb_lawful.proofs.Identity.{begun-winner}
 use Rattle.fsb_lawful.proofs.OwnIds.{want-few}
-use Rattle.fsb_lawful.proofs.LawfulWants.{all-at, all-drop, all-filter, all-found, all-given, is_fit, window-fits, window-lawful}
+use Rattle.fsb_lawful.proofs.LawfulWants.{all-at, all-drop, all-filter, all-found, all-given, is_fit, window-fits}
+use Rattle.fsb_lawful.proofs.LawfulWants.{window-lawful}
 
 -- a line has its bits
 abbrev pub is_line : ℕ → Bool
@@ -67,7 +77,8 @@ line-by w q line (Some (Symmetric a)) e h =
 claim-line : (w : Trace) (q : ℕ) (claim : Claim) → claim_at w q ≡ Some claim → is_line claim.line ≡ true
 unfolding claim_at
 claim-line w q claim e =
-    let a = then-some (λ a. option_map (λ line. record { first = q; agent = a; line = line }) (line_of w q)) (agent_at w q) claim e in
+    let a = then-some (λ a. option_map (λ line. record { first = q; agent = a; line = line }) (line_of w q))
+    (agent_at w q) claim e in
     let l = map-some (λ line. record { first = q; agent = a.0; line = line }) (line_of w q) claim a.2 in
     ap (λ k. is_line k.line) (sym l.2) ∙ line-by w q l.0 (winner_at w q) refl l.1
 
@@ -107,7 +118,8 @@ moment-is r c t moment e =
           let size = length-moments r (length r.trace) in
           let there = moment-at r (length r.trace) t (omega arith) in cc
       | inr l ↦
-          let none = slice_get_past (take (c + 1) (moments_below r (length r.trace))) t (omega (arith, length-take-most (c + 1) (moments_below r (length r.trace)))) in
+          let none = slice_get_past (take (c + 1) (moments_below r (length r.trace))) t
+          (omega (arith, length-take-most (c + 1) (moments_below r (length r.trace)))) in
           absurd (let no : ⊥ = cc in no)
     ]
 
@@ -122,7 +134,8 @@ granted-line r c a t line e =
     let there = ap (λ moment. moment.snooped) (sym same) ∙ m.2 in
     to-agent g.0 (nat_eq g.0.agent a) g.2 (moment-line r t s.0 g.0 there s.2)
   where
-    to-agent : (grant : Grant) (b : Bool) → (elim b [ true ↦ Some grant.line | false ↦ None ]) ≡ Some line → is_line grant.line ≡ true → is_line line ≡ true
+    to-agent : (grant : Grant) (b : Bool) → (elim b [ true ↦ Some grant.line | false ↦ None ]) ≡ Some line
+        → is_line grant.line ≡ true → is_line line ≡ true
     to-agent grant true f l = let same : grant.line ≡ line = cc in ap is_line (sym same) ∙ l
     to-agent grant false f l = absurd (let no : ⊥ = cc in no)
 
@@ -130,9 +143,11 @@ least-line : (ns : List ℕ) (n : ℕ) → list_all is_line ns ≡ true → leas
 unfolding least_of
 least-line [] n e h = absurd (let no : ⊥ = cc in no)
 least-line (m ∷ ns) n e h =
-    let a = and_parts (is_line m) (list_all is_line ns) e in least-by (least_of ns) refl h a.0 (λ k f. least-line ns k a.1 f)
+    let a = and_parts (is_line m) (list_all is_line ns) e in
+    least-by (least_of ns) refl h a.0 (λ k f. least-line ns k a.1 f)
   where
-    least-by : (o : Option ℕ) → least_of ns ≡ o → least_of (m ∷ ns) ≡ Some n → is_line m ≡ true → ((k : ℕ) → least_of ns ≡ Some k → is_line k ≡ true) → is_line n ≡ true
+    least-by : (o : Option ℕ) → least_of ns ≡ o → least_of (m ∷ ns) ≡ Some n → is_line m ≡ true
+        → ((k : ℕ) → least_of ns ≡ Some k → is_line k ≡ true) → is_line n ≡ true
     least-by None f g l rest = let same : m ≡ n = (let g' = rw f at g in cc) in ap is_line (sym same) ∙ l
     least-by (Some k) f g l rest =
         let same : min m k ≡ n = (let g' = rw f at g in cc) in
@@ -145,7 +160,8 @@ unfolding victim_of lines_granted
 victim-line r c a t line victim e =
     let p : Past = past_to (past_of r) c in
     least-line (filter (λ other. is_rival p other line && is_dirty p a other t) (lines_granted p a t)) victim
-    (all-filter is_line (λ other. is_rival p other line && is_dirty p a other t) (lines_granted p a t) (all-given is_line (line_granted_at p a) (range_with_len 0 t) (λ u y f. granted-line r c a u y f))) e
+    (all-filter is_line (λ other. is_rival p other line && is_dirty p a other t) (lines_granted p a t)
+    (all-given is_line (line_granted_at p a) (range_with_len 0 t) (λ u y f. granted-line r c a u y f))) e
 
 -- a free ID of an agent has its bits
 id-by : (a : ℕ) (owings : List Owing) (o : Option ℕ) → a < 4 → length owings < 4
@@ -163,7 +179,9 @@ script-by : (scripts : List (List Item)) (cache a : ℕ) (o : Option (List Item)
     → list_all (is_lawful_item cache) (script_of scripts a) ≡ true
 unfolding is_lawful_script
 script-by scripts cache a None e h = rw e refl
-script-by scripts cache a (Some items) e h = rw e (and_parts (nat_le (length items) 4096) (list_all (is_lawful_item cache) items) (all-at (is_lawful_script cache) scripts a items h e)).1
+script-by scripts cache a (Some items) e h =
+    rw e (and_parts (nat_le (length items) 4096) (list_all (is_lawful_item cache) items)
+    (all-at (is_lawful_script cache) scripts a items h e)).1
 
 window-by : (p : Past) (a n : ℕ) (o : Option Item) → slice_get (items_of p a) n ≡ o
     → list_all (is_lawful_item p.plan.cache) (items_of p a) ≡ true
@@ -171,7 +189,9 @@ window-by : (p : Past) (a n : ℕ) (o : Option Item) → slice_get (items_of p a
 unfolding window_at
 window-by p a n None e h = rw (e, window_at) refl
 window-by p a n (Some item) e h =
-    rw (e, window_at) (window-lawful p.plan.cache p.plan.ahead item (drop (n + 1) (items_of p a)) (all-at (is_lawful_item p.plan.cache) (items_of p a) n item h e) (all-drop (is_lawful_item p.plan.cache) (n + 1) (items_of p a) h))
+    rw (e, window_at) (window-lawful p.plan.cache p.plan.ahead item (drop (n + 1) (items_of p a))
+    (all-at (is_lawful_item p.plan.cache) (items_of p a) n item h e)
+    (all-drop (is_lawful_item p.plan.cache) (n + 1) (items_of p a) h))
 
 windows : (p : Past) (a : ℕ) (o : Option ℕ) → list_all (is_lawful_item p.plan.cache) (items_of p a) ≡ true
     → list_all (is_lawful_item p.plan.cache) (option_map_or (window_at p a) o []) ≡ true
@@ -183,17 +203,22 @@ need-fits : (p : Past) (a c : ℕ) (f : Need → Bool) (need : Need) → KeepsBo
     → find f (needs_from [] (window p a c)) ≡ Some need → is_fit need ≡ true
 unfolding window items_of
 need-fits p a c f need k e =
-    all-found is_fit f (needs_from [] (window p a c)) need (window-fits [] p.plan.cache (window p a c) (windows p a (next_number p a c) (script-by p.plan.scripts p.plan.cache a (slice_get p.plan.scripts a) refl k.lawful_scripts))) e
+    all-found is_fit f (needs_from [] (window p a c)) need
+    (window-fits [] p.plan.cache (window p a c)
+    (windows p a (next_number p a c)
+    (script-by p.plan.scripts p.plan.cache a (slice_get p.plan.scripts a) refl k.lawful_scripts))) e
 
 or-true : (b : Bool) → (b || true) ≡ true
 or-true true = refl
 or-true false = refl
 
 kind-lawful : (alone upgrades : Bool) (need : Need) (did : ℕ) → is_fit need ≡ true → nat_lt did (2 ^ 8) ≡ true
-    → is_lawful_request (request_of_kind (if not alone then Read else (if upgrades then Upgrade else Invalidate)) need did) ≡ true
+    → is_lawful_request
+    (request_of_kind (if not alone then Read else (if upgrades then Upgrade else Invalidate)) need did) ≡ true
 unfolding request_of_kind is_lawful_request are_lawful_fields is_upgrade_kind
 kind-lawful false upgrades need did e f = rw (e, f) refl
-kind-lawful true true need did e f = let a = and_parts (nat_lt need.line (2 ^ 31)) (nat_lt need.chunk 4) e in rw (a.0, a.1, or-true need.locked, f) refl
+kind-lawful true true need did e f = let a = and_parts (nat_lt need.line (2 ^ 31)) (nat_lt need.chunk 4) e in
+    rw (a.0, a.1, or-true need.locked, f) refl
 kind-lawful true false need did e f = rw (e, f) refl
 
 victim-lawful : (victim did : ℕ) → is_line victim ≡ true → nat_lt did (2 ^ 8) ≡ true
@@ -207,8 +232,10 @@ want-for : (r : Run) (c a : ℕ) (need : Need) (o : Option ℕ)
     → nat_lt (free_id a (owed (past_to (past_of r) c) a c)) (2 ^ 8) ≡ true
     → is_lawful_request (want_for (past_to (past_of r) c) a c (owed (past_to (past_of r) c) a c) need) ≡ true
 unfolding want_for kind_needed
-want-for r c a need (Some victim) e fit did = rw (e, want_for) (victim-lawful victim _ (victim-line r c a c need.line victim e) did)
-want-for r c a need None e fit did = rw (e, want_for) (kind-lawful need.alone (may_upgrade (past_to (past_of r) c) a c need.line) need _ fit did)
+want-for r c a need (Some victim) e fit did =
+    rw (e, want_for) (victim-lawful victim _ (victim-line r c a c need.line victim e) did)
+want-for r c a need None e fit did =
+    rw (e, want_for) (kind-lawful need.alone (may_upgrade (past_to (past_of r) c) a c need.line) need _ fit did)
 
 wanted : (r : Run) (c a : ℕ) (request : Request) (b : Bool) → KeepsBounds r.plan
     → (is_idling (past_to (past_of r) c) a c || nat_le r.plan.ahead (length (owed (past_to (past_of r) c) a c))) ≡ b
@@ -218,8 +245,12 @@ unfolding want_of past_to past_of
 wanted r c a request true k e did h = absurd (let no : ⊥ = (let h' = rw (e, want_of) at h in cc) in no)
 wanted r c a request false k e did h =
     let p : Past = past_to (past_of r) c in
-    let n = map-some (want_for p a c (owed p a c)) (find (is_missing p a c (owed p a c)) (needs_from [] (window p a c))) request (let h' = rw (e, want_of) at h in h') in
-    ap is_lawful_request (sym n.2) ∙ want-for r c a n.0 (victim_of p a c n.0.line) refl (need-fits p a c (is_missing p a c (owed p a c)) n.0 k n.1) did
+    let n = map-some (want_for p a c (owed p a c))
+    (find (is_missing p a c (owed p a c)) (needs_from [] (window p a c))) request
+    (let h' = rw (e, want_of) at h in h') in
+    ap is_lawful_request (sym n.2)
+    ∙ want-for r c a n.0 (victim_of p a c n.0.line) refl
+    (need-fits p a c (is_missing p a c (owed p a c)) n.0 k n.1) did
 
 want-lawful : (r : Run) (c a : ℕ) (request : Request) → KeepsBounds r.plan → a < 4
     → want_of (past_to (past_of r) c) a c ≡ Some request → is_lawful_request request ≡ true
@@ -228,7 +259,9 @@ want-lawful r c a request k l h =
     let p : Past = past_to (past_of r) c in
     let few = k.few_ahead in
     let short = (want-few p a c request few h).0 in
-    wanted r c a request (is_idling p a c || nat_le r.plan.ahead (length (owed p a c))) k refl (id-by a (owed p a c) (first_where (λ n. not (is_id_used (owed p a c) (id_of a n))) (length (owed p a c) + 1)) l (omega arith) refl) h
+    wanted r c a request (is_idling p a c || nat_le r.plan.ahead (length (owed p a c))) k refl
+    (id-by a (owed p a c) (first_where (λ n. not (is_id_used (owed p a c) (id_of a n)))
+    (length (owed p a c) + 1)) l (omega arith) refl) h
 
 -- a symmetric winner is one of four agents
 last-asking : (w : Trace) (d a : ℕ) (o : Option Who) → last_if_asking w d o ≡ Some (Symmetric a)
@@ -258,23 +291,31 @@ symmetric-four w d a first e =
 by-four : (w : Trace) (d a : ℕ) (requesters : Requesters) (lock priority : Bool) → line_at LOCK w d ≡ lock
     → line_at BPRI w d ≡ priority → ((b : ℕ) → requesters.0 ≡ Some (Symmetric b) → b < 4)
     → winner_by w d requesters ≡ Some (Symmetric a) → a < 4
-by-four w d a requesters true priority e f h g = h a (last-asking w d a requesters.0 (sym (winner_by-locked w d requesters e) ∙ g))
-by-four w d a requesters false true e f h g = absurd (let no = sym (winner_by-priority w d requesters e f) ∙ g in let bad : ⊥ = cc in bad)
-by-four w d a requesters false false e f h g = symmetric-four w d a (first_in_order requesters.1) (sym (winner_by-symmetric w d requesters e f) ∙ g)
+by-four w d a requesters true priority e f h g =
+    h a (last-asking w d a requesters.0 (sym (winner_by-locked w d requesters e) ∙ g))
+by-four w d a requesters false true e f h g =
+    absurd (let no = sym (winner_by-priority w d requesters e f) ∙ g in let bad : ⊥ = cc in bad)
+by-four w d a requesters false false e f h g =
+    symmetric-four w d a (first_in_order requesters.1) (sym (winner_by-symmetric w d requesters e f) ∙ g)
 
 after-four : (w : Trace) (c a : ℕ) (requesters : Requesters) (low : Bool) → nat_lt c 2 ≡ low
     → ((b : ℕ) → requesters.0 ≡ Some (Symmetric b) → b < 4) → winner_after w c requesters ≡ Some (Symmetric a)
     → a < 4
-after-four w c a requesters true e h g = absurd (let no = sym (winner_after-low w c requesters e) ∙ g in let bad : ⊥ = cc in bad)
-after-four w c a requesters false e h g = by-four w (c - 2) a requesters (line_at LOCK w (c - 2)) (line_at BPRI w (c - 2)) refl refl h (sym (winner_after-high w c requesters e) ∙ g)
+after-four w c a requesters true e h g = absurd (let no = sym (winner_after-low w c requesters e) ∙ g in
+    let bad : ⊥ = cc in bad)
+after-four w c a requesters false e h g =
+    by-four w (c - 2) a requesters (line_at LOCK w (c - 2)) (line_at BPRI w (c - 2)) refl refl h
+    (sym (winner_after-high w c requesters e) ∙ g)
 
 requester-four : (w : Trace) (c b : ℕ) → (requesters_before w c).0 ≡ Some (Symmetric b) → b < 4
 unfolding then_begun
-requester-four w zero b e = absurd (let no = ap (λ x. x.0) (sym (requesters_before-start w)) ∙ e in let bad : ⊥ = cc in bad)
+requester-four w zero b e = absurd (let no = ap (λ x. x.0) (sym (requesters_before-start w)) ∙ e in
+    let bad : ⊥ = cc in bad)
 requester-four w (suc c) b e =
     let more = subst (λ n. (requesters_before w n).0 ≡ Some (Symmetric b)) (sym (add-one c)) e in
     elim (cases_Bool (line_at ADS w c)) [
-      | inl t ↦ after-four w c b (requesters_before w c) (nat_lt c 2) refl (λ k f. requester-four w c k f) (sym (ap (λ x. x.0) (requesters_before-begun w c t)) ∙ more)
+      | inl t ↦ after-four w c b (requesters_before w c) (nat_lt c 2) refl (λ k f. requester-four w c k f)
+          (sym (ap (λ x. x.0) (requesters_before-begun w c t)) ∙ more)
       | inr f ↦ requester-four w c b (sym (ap (λ x. x.0) (requesters_before-kept w c f)) ∙ more)
     ]
 
@@ -289,7 +330,9 @@ unfolding if_coded_as is_coded_as
 coded-lawful r x a b true e h =
     let h' = rw e at h in
     let same : r ≡ x = cc in
-    ap is_lawful_request (sym same) ∙ (and_parts (is_lawful_request r) (is_pair (pairs_of r).0 a) (and_parts (is_lawful_request r && is_pair (pairs_of r).0 a) (is_pair (pairs_of r).1 b) e).0).0
+    ap is_lawful_request (sym same)
+    ∙ (and_parts (is_lawful_request r) (is_pair (pairs_of r).0 a)
+    (and_parts (is_lawful_request r && is_pair (pairs_of r).0 a) (is_pair (pairs_of r).1 b) e).0).0
 coded-lawful r x a b false e h = absurd (let no : ⊥ = (let h' = rw e at h in cc) in no)
 
 decoded-lawful : (w : Trace) (q : ℕ) (x : Request) → request_at w q ≡ Some x → is_lawful_request x ≡ true
@@ -311,7 +354,8 @@ unfolding would_begin live_request_of
 lawful-by r c (Symmetric a) request k w e = want-lawful r c a request k (winner-four (run_to r c).trace c a w) e
 lawful-by r c Priority request k w e =
     let v = (run_to r c).trace in
-    let x = map-some reply_to (option_and_then (live_request_of v) (due_number (run_to r c) (past_to (past_of r) c) c)) request e in
+    let x = map-some reply_to
+    (option_and_then (live_request_of v) (due_number (run_to r c) (past_to (past_of r) c) c)) request e in
     let i = then-some (live_request_of v) (due_number (run_to r c) (past_to (past_of r) c) c) x.0 x.1 in
     let q = then-some (request_at v) (live_clock_of v i.0) x.0 i.2 in
     ap is_lawful_request (sym x.2) ∙ reply-lawful x.0 (decoded-lawful v q.0 x.0 q.2)
@@ -321,6 +365,7 @@ pub wants-lawfully : (r : Run) → KeepsBounds r.plan → WantsLawfully r
 unfolding request_begun
 wants-lawfully r k = record {
   lawful = λ c request e.
-      let won = begun-winner (would_begin (run_to r c) (past_to (past_of r) c) c) (winner_at (run_to r c).trace c) request e in
+      let won = begun-winner (would_begin (run_to r c) (past_to (past_of r) c) c)
+      (winner_at (run_to r c).trace c) request e in
       lawful-by r c won.0 request k won.1 won.2;
 }

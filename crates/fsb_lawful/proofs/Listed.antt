@@ -1,5 +1,6 @@
 -- What is listed: of the clocks that pass a test, what each of them gives.
-use Rattle.std.proofs.Common.{ℕ, zero, suc, ◌<◌, ◌≤◌, ◌≡◌, Bool, true, false, ◌&&◌, ◌||◌, List, [], ◌∷◌, Option, Some, None, length, refl, sym, ap, subst, ◌∙◌, arith, inl, inr, if◌then◌else◌}
+use Rattle.std.proofs.Common.{ℕ, zero, suc, ◌<◌, ◌≤◌, ◌≡◌, Bool, true, false, ◌&&◌, ◌||◌, List, [], ◌∷◌, Option, Some}
+use Rattle.std.proofs.Common.{None, length, refl, sym, ap, subst, ◌∙◌, arith, inl, inr, if◌then◌else◌}
 use Rattle.std.specs.List.{filter, filter_map, list_any}
 use Rattle.std.proofs.lemmas.Bool.{cases_Bool, cases_lt, or_left, or_right}
 use Rattle.std.proofs.lemmas.List.{length-append}
@@ -20,7 +21,8 @@ pub any-kept : {X : Type 0} (g f : X → Bool) (xs : List X) → list_any (λ x.
 any-kept g f [] e = absurd (let no : ⊥ = cc in no)
 any-kept g f (x ∷ xs) e =
     elim (cases_Bool (g x)) [
-      | inl t ↦ rw t (kept (f x) (list_any (λ y. g y && f y) xs) (list_any f (filter g xs)) (any-kept g f xs) (rw t at e))
+      | inl t ↦ rw t (kept (f x) (list_any (λ y. g y && f y) xs) (list_any f (filter g xs)) (any-kept g f xs)
+          (rw t at e))
       | inr n ↦ rw n (any-kept g f xs (rw n at e))
     ]
   where
@@ -49,7 +51,8 @@ any-listed t g f (suc n) q l k =
       | inl m ↦ or_left _ _ (any-listed t g f n q m k)
       | inr m ↦
           let same : q ≡ n = omega arith in
-          or_right _ _ (subst (λ i. list_any f (filter_map g (if t i then i ∷ [] else [])) ≡ true) same (last-any t g f q k))
+          or_right _ _ (subst (λ i. list_any f (filter_map g (if t i then i ∷ [] else [])) ≡ true) same
+          (last-any t g f q k))
     ]
 
 -- and the list is at least as long as there are such clocks

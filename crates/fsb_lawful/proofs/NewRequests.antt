@@ -1,5 +1,7 @@
--- Rule 18: what begins in a timely run is a reply that is awaited, or a request with a new ID where few are outstanding.
-use Rattle.std.proofs.Common.{ℕ, zero, suc, ◌+◌, ◌-◌, ◌<◌, ◌≤◌, ◌≡◌, Bool, true, false, not, ◌&&◌, Option, Some, None, length, take, nat_le, slice_index, refl, sym, ap, subst, ◌∙◌, arith}
+-- Rule 18: what begins in a timely run is a reply that is awaited, or a request with a new ID where few are
+-- outstanding.
+use Rattle.std.proofs.Common.{ℕ, zero, suc, ◌+◌, ◌-◌, ◌<◌, ◌≤◌, ◌≡◌, Bool, true, false, not, ◌&&◌, Option, Some, None}
+use Rattle.std.proofs.Common.{length, take, nat_le, slice_index, refl, sym, ap, subst, ◌∙◌, arith}
 use Rattle.std.specs.Option.{option_and_then, option_map}
 use Rattle.std.proofs.lemmas.Bool.{and_from, eq-eqb, leb-true, lt-leb}
 use Rattle.fsb_count.specs.Clocks.{any_where, count_where}
@@ -15,7 +17,8 @@ use Rattle.fsb_trace.specs.At.{Trace, line_back, request_at}
 use Rattle.fsb_trace.specs.Deferral.{due_at, is_answered, is_due, later_of}
 use Rattle.fsb_trace.specs.Outcome.{is_deferral, is_deferred, is_settled_deferred, response_clock_of}
 use Rattle.fsb_trace.specs.Requests.{have_same_id, is_reply, is_reply_kind, live_count, live_request_of}
-use Rattle.fsb_trace.specs.Rules.{awaits_reply, is_begun_wrongly, is_id_taken_by, is_outstanding_of_winner, is_outstanding_wrong}
+use Rattle.fsb_trace.specs.Rules.{awaits_reply, is_begun_wrongly, is_id_taken_by, is_outstanding_of_winner}
+use Rattle.fsb_trace.specs.Rules.{is_outstanding_wrong}
 use Rattle.fsb_trace.specs.Winner.{winner_at}
 use Rattle.fsb_trace.proofs.Interface.{AgreeTo-sym, breaks-18, response_clock_of-stays, winner_at-agree}
 use Rattle.fsb_laws.proofs.Interface.{last_is_live, response_counted, same_answered, same_deferred, same_live_request}
@@ -59,7 +62,8 @@ deferred-told : (r : Run) (d i t : ℕ) → Timely r → d < length r.trace
 unfolding is_settled_deferred is_deferred settled_of
 deferred-told r d i t h l e f =
     let told = told-as-settled r d i t h l e in
-    ap (λ o. is_some_and o is_deferral) told.outcome ∙ ap (λ p. is_settled_deferred (run_to r d).trace (turns_in p.moments) i) (past-cut r d l) ∙ f
+    ap (λ o. is_some_and o is_deferral) told.outcome
+    ∙ ap (λ p. is_settled_deferred (run_to r d).trace (turns_in p.moments) i) (past-cut r d l) ∙ f
 
 due-is : (r : Run) (e i : ℕ) (request : Request) → Timely r → suc e < length r.trace
     → due_number (run_to r (suc e)) (past_to (past_of r) (suc e)) (suc e) ≡ Some i
@@ -70,9 +74,18 @@ due-is r e i request h l due asked =
     let w = (run_to r (suc e)).trace in
     let turns = turns_in (past_to (past_of r) (suc e)).moments in
     let f = first_where-found (is_due w turns (suc e)) (live_count w) i due in
-    let a = and3 (is_settled_deferred w turns i) (is_some_and (response_clock_of w i) (λ t. nat_le (t + 1 + later_of (slice_index turns i)) (suc e))) (not (is_answered w (suc e) i)) f.1 in
+    let a = and3 (is_settled_deferred w turns i)
+    (is_some_and (response_clock_of w i) (λ t. nat_le (t + 1 + later_of (slice_index turns i)) (suc e)))
+    (not (is_answered w (suc e) i)) f.1 in
     let t = response-parts (response_clock_of w i) (later_of (slice_index turns i)) (suc e) a.1 in
-    record { asked = asked; response = t.0; is_response = t.1; before = t.2; deferred = deferred-told r (suc e) i t.0 h l t.1 a.0; unanswered = not-true (is_answered w (suc e) i) a.2 }
+    record {
+      asked = asked;
+      response = t.0;
+      is_response = t.1;
+      before = t.2;
+      deferred = deferred-told r (suc e) i t.0 h l t.1 a.0;
+      unanswered = not-true (is_answered w (suc e) i) a.2;
+    }
 
 same-did : (a b : Option Request) (x : Request) → a ≡ Some x → b ≡ Some (reply_to x) → have_same_id a b ≡ true
 unfolding have_same_id is_some_and reply_to
@@ -94,15 +107,21 @@ awaited r e i request h l t k decoded =
     let one = begins-after r e (suc e) h (omega arith) (omega arith) here in
     let two = begins-after r e (suc (suc e)) h (omega arith) l t in
     let before = k.before in
-    let early = response_clock_of-stays (e + 1) w u i k.response (AgreeTo-sym (e + 1) u w (cuts-agree r e (suc e) (omega arith) (omega arith))) (omega arith) k.is_response in
-    let late = response_clock_of-stays (e + 1) u v i k.response (cuts-agree r e (suc (suc e)) (omega arith) l) (omega arith) early in
+    let early = response_clock_of-stays (e + 1) w u i k.response
+    (AgreeTo-sym (e + 1) u w (cuts-agree r e (suc e) (omega arith) (omega arith))) (omega arith) k.is_response in
+    let late = response_clock_of-stays (e + 1) u v i k.response (cuts-agree r e (suc (suc e)) (omega arith) l)
+    (omega arith) early in
     let counted = response_counted u i k.response early in
     let live = last_is_live v i (orderly-at r (suc (suc e)) h l) (response_counted v i k.response late) in
     let deferred = same_deferred u v i two counted ∙ sym (same_deferred u w i one counted) ∙ k.deferred in
     let asked = same_live_request u v i two counted ∙ sym (same_live_request u w i one counted) ∙ k.asked in
-    let unanswered = subst (λ n. is_answered v n i ≡ false) same (same_answered u v i two counted ∙ sym (same_answered u w i one counted) ∙ subst (λ n. is_answered w n i ≡ false) (sym same) k.unanswered) in
+    let unanswered = subst (λ n. is_answered v n i ≡ false) same (same_answered u v i two counted
+    ∙ sym (same_answered u w i one counted) ∙ subst (λ n. is_answered w n i ≡ false) (sym same) k.unanswered) in
     any_where-at (awaits_reply v (suc e)) (live_count v) i live
-    (and_from _ _ (and_from _ _ (and_from _ _ deferred (same-did (live_request_of v i) (request_at v (suc e)) request asked decoded)) (is_before-from (response_clock_of v i) k.response (suc e) late before)) (ap not unanswered))
+    (and_from _ _
+    (and_from _ _
+    (and_from _ _ deferred (same-did (live_request_of v i) (request_at v (suc e)) request asked decoded))
+    (is_before-from (response_clock_of v i) k.response (suc e) late before)) (ap not unanswered))
 
 mapped-reply : (o : Option Request) (request : Request) → option_map reply_to o ≡ Some request
     → (x : Request) × (o ≡ Some x) × (reply_to x ≡ request)
@@ -141,14 +160,19 @@ by-who r e (Symmetric a) request h wants few l t decoded winner would =
     let k : IsWanted r e a request = record { decoded = decoded; winner = winner; want = would } in
     let own = want-own (past_to (past_of r) (suc e)) a (suc e) request few would in
     wanted-rightly v (suc e) request decoded own.0
-    (any_where-off (is_id_taken_by v (suc e)) (suc e) (λ p below. untaken (is_id_taken_by v (suc e) p) (id-free r e a p request h wants few l t k below)))
+    (any_where-off (is_id_taken_by v (suc e)) (suc e)
+    (λ p below. untaken (is_id_taken_by v (suc e) p) (id-free r e a p request h wants few l t k below)))
     (few-outstanding r e a request h wants few l t k)
 by-who r e Priority request h wants few l t decoded winner would =
     let v = (run_to r (suc (suc e))).trace in
-    let x = mapped-reply (option_and_then (live_request_of (run_to r (suc e)).trace) (due_number (run_to r (suc e)) (past_to (past_of r) (suc e)) (suc e))) request would in
-    let i = found-request (live_request_of (run_to r (suc e)).trace) (due_number (run_to r (suc e)) (past_to (past_of r) (suc e)) (suc e)) x.0 x.1 in
+    let x = mapped-reply
+    (option_and_then (live_request_of (run_to r (suc e)).trace)
+    (due_number (run_to r (suc e)) (past_to (past_of r) (suc e)) (suc e))) request would in
+    let i = found-request (live_request_of (run_to r (suc e)).trace)
+    (due_number (run_to r (suc e)) (past_to (past_of r) (suc e)) (suc e)) x.0 x.1 in
     let as-reply : request_at v (suc e) ≡ Some (reply_to x.0) = decoded ∙ ap Some (sym x.2) in
-    reply-rightly v (suc e) x.0 as-reply (awaited r e i.0 x.0 h l t (due-is r e i.0 x.0 h (omega arith) i.1 i.2) as-reply)
+    reply-rightly v (suc e) x.0 as-reply
+    (awaited r e i.0 x.0 h l t (due-is r e i.0 x.0 h (omega arith) i.1 i.2) as-reply)
 
 rightly : (r : Run) (e : ℕ) → Timely r → WantsLawfully r → r.plan.ahead ≤ 4 → suc (suc e) < length r.trace
     → line_back ADS (run_to r (suc (suc e))).trace (suc (suc e)) 1 ≡ true
@@ -158,9 +182,12 @@ rightly r e h wants few l back =
     let v = (run_to r (suc (suc e))).trace in
     let t = ads-back r (suc e) l ∙ back in
     let b = begun-decoded r (suc e) h l t in
-    let won = begun-winner (would_begin (run_to r (suc e)) (past_to (past_of r) (suc e)) (suc e)) (winner_at (run_to r (suc e)).trace (suc e)) b.0 b.1 in
+    let won = begun-winner (would_begin (run_to r (suc e)) (past_to (past_of r) (suc e)) (suc e))
+    (winner_at (run_to r (suc e)).trace (suc e)) b.0 b.1 in
     let there = sym (line-to ADS r (suc e) (suc (suc e)) (omega arith) l) ∙ t in
-    let winner = sym (winner_at-agree (suc e + 1) (run_to r (suc e)).trace v (suc e) (cuts-agree r (suc e) (suc (suc e)) (omega arith) l) (omega arith)) ∙ won.1 in
+    let winner =
+    sym (winner_at-agree (suc e + 1) (run_to r (suc e)).trace v (suc e)
+    (cuts-agree r (suc e) (suc (suc e)) (omega arith) l) (omega arith)) ∙ won.1 in
     by-who r e won.0 b.0 h wants few l there (b.2 (wants.lawful (suc e) b.0 b.1)) winner won.2
 
 -- no request begins at clock 0
@@ -177,14 +204,16 @@ none-back v = refl
 at-clock : (r : Run) (c : ℕ) → Timely r → WantsLawfully r → r.plan.ahead ≤ 4 → c < length r.trace
     → is_outstanding_wrong (run_to r c).trace c ≡ false
 unfolding is_outstanding_wrong
-at-clock r zero h wants few l = ap (λ b. b && is_begun_wrongly (run_to r zero).trace (zero - 1)) (none-back (run_to r zero).trace)
+at-clock r zero h wants few l = ap (λ b. b && is_begun_wrongly (run_to r zero).trace (zero - 1))
+    (none-back (run_to r zero).trace)
 at-clock r (suc zero) h wants few l =
     let v = (run_to r (suc zero)).trace in
     and-fails (line_back ADS v (suc zero) 1) (is_begun_wrongly v (suc zero - 1)) (λ t. absurd (not-first r h l t))
 at-clock r (suc (suc e)) h wants few l =
     let one : suc (suc e) - 1 ≡ suc e = omega arith in
     let v = (run_to r (suc (suc e))).trace in
-    and-fails (line_back ADS v (suc (suc e)) 1) (is_begun_wrongly v (suc (suc e) - 1)) (λ t. ap (is_begun_wrongly v) one ∙ rightly r e h wants few l t)
+    and-fails (line_back ADS v (suc (suc e)) 1) (is_begun_wrongly v (suc (suc e) - 1))
+    (λ t. ap (is_begun_wrongly v) one ∙ rightly r e h wants few l t)
 
 -- rule 18
 pub keeps-18 : (m : Marks) (r : Run) → Timely r → WantsLawfully r → r.plan.ahead ≤ 4 → Keeps m 18 r.trace

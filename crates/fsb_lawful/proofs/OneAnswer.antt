@@ -1,5 +1,6 @@
 -- In a timely run the request that responds is the next one, and so is the one whose target is ready.
-use Rattle.std.proofs.Common.{ℕ, zero, suc, ◌+◌, ◌<◌, ◌≤◌, ◌≡◌, true, false, Option, Some, None, length, refl, sym, ap, ◌∙◌, arith, inl, inr, subst}
+use Rattle.std.proofs.Common.{ℕ, zero, suc, ◌+◌, ◌<◌, ◌≤◌, ◌≡◌, true, false, Option, Some, None, length, refl, sym, ap}
+use Rattle.std.proofs.Common.{◌∙◌, arith, inl, inr, subst}
 use Rattle.std.proofs.lemmas.Bool.{cases_lt, eqb-true}
 use Rattle.fsb_count.specs.Clocks.{any_where}
 use Rattle.fsb_count.proofs.Interface.{any_where-found, count_where-mono, count_where-same, first_where-found}
@@ -15,11 +16,14 @@ use Rattle.fsb_timely.specs.Past.{Past}
 use Rattle.fsb_timely.specs.Runs.{Run, run_to, past_of}
 use Rattle.fsb_timely.specs.Snoops.{live_choice}
 use Rattle.fsb_timely.specs.Timely.{holds_in, holds_at, Timely}
-use Rattle.fsb_timely.specs.Transfers.{is_ready_due, is_response_clock, number_responding, code_due, has_data_at, is_busy_at, drives_ready, drives_code, drives_data_ready, drives_data_busy, keeps_data_quiet, drives_responses}
+use Rattle.fsb_timely.specs.Transfers.{is_ready_due, is_response_clock, number_responding, code_due, has_data_at}
+use Rattle.fsb_timely.specs.Transfers.{is_busy_at, drives_ready, drives_code, drives_data_ready, drives_data_busy}
+use Rattle.fsb_timely.specs.Transfers.{keeps_data_quiet, drives_responses}
 use Rattle.fsb_lawful.proofs.AnswerClocks.{answered-before, response-before}
 use Rattle.fsb_lawful.proofs.CutRuns.{cuts-agree, length-cut, past-cut}
 use Rattle.fsb_lawful.proofs.Keeping.{and5, same-beq}
-use Rattle.fsb_lawful.proofs.Responding.{Responding, IsReadyDue, responding-answer, responding-stays, one-response, responding-now, ready-answer, ready-stays, one-ready, ready-now}
+use Rattle.fsb_lawful.proofs.Responding.{Responding, IsReadyDue, responding-answer, responding-stays, one-response}
+use Rattle.fsb_lawful.proofs.Responding.{responding-now, ready-answer, ready-stays, one-ready, ready-now}
 
 -- what a clock has of responses and data
 pub record Transfers (v : Run) (p : Past) (c : ℕ) : Type 0 where
@@ -31,7 +35,8 @@ pub record Transfers (v : Run) (p : Past) (c : ℕ) : Type 0 where
 transfers_by : (v : Run) (p : Past) (c : ℕ) → drives_responses v p c ≡ true → Transfers v p c
 unfolding drives_responses drives_ready drives_code drives_data_ready drives_data_busy
 transfers_by v p c e =
-    let a = and5 (drives_ready v c) (drives_code v p c) (drives_data_ready v p c) (drives_data_busy v p c) (keeps_data_quiet v c) e in
+    let a = and5 (drives_ready v c) (drives_code v p c) (drives_data_ready v p c) (drives_data_busy v p c)
+    (keeps_data_quiet v c) e in
     record {
       ready = same-beq (line_at TRDY v.trace c) (any_where (is_ready_due v c) (live_count v.trace)) a.0;
       code = eqb-true (response_code_at v.trace c) (code_due v p c) a.1;
@@ -43,7 +48,8 @@ pub transfers-at : (r : Run) (c : ℕ) → Timely r → c < length r.trace
     → Transfers (run_to r c) (past_of (run_to r c)) c
 unfolding holds_at holds_in
 transfers-at r c h l =
-    subst (λ p. Transfers (run_to r c) p c) (sym (past-cut r c l)) (transfers_by (run_to r c) _ c (h.responses_and_data.at c l))
+    subst (λ p. Transfers (run_to r c) p c) (sym (past-cut r c l))
+    (transfers_by (run_to r c) _ c (h.responses_and_data.at c l))
 
 number_by : (v : Run) (p : Past) (c : ℕ) (o : Option ℕ) → response_code_at v.trace c ≡ code_due v p c
     → number_responding v c ≡ o → responds_at v.trace c ≡ true → (i : ℕ) × (number_responding v c ≡ Some i)
@@ -55,7 +61,8 @@ number_by v p c (Some i) e n h = (i, n)
 
 -- where a clock has a response, that of a live request is due there
 pub responder : (r : Run) (c : ℕ) → Timely r → c < length r.trace → responds_at (run_to r c).trace c ≡ true
-    → (i : ℕ) × (number_responding (run_to r c) c ≡ Some i) × (i < live_count (run_to r c).trace) × (is_response_clock (run_to r c) c i ≡ true)
+    → (i : ℕ) × (number_responding (run_to r c) c ≡ Some i) × (i < live_count (run_to r c).trace)
+    × (is_response_clock (run_to r c) c i ≡ true)
 unfolding number_responding
 responder r c h l t =
     let v = run_to r c in
@@ -68,7 +75,8 @@ pub next-same : (r : Run) (t c : ℕ) → t ≤ c → c < length r.trace
 unfolding next_response
 next-same r t c l m =
     let a = cuts-agree r t c l m in
-    count_where-same (responds_at (run_to r t).trace) (responds_at (run_to r c).trace) t (record { same = λ d k. responds_at-agree (t + 1) (run_to r t).trace (run_to r c).trace d a (omega arith) })
+    count_where-same (responds_at (run_to r t).trace) (responds_at (run_to r c).trace) t
+    (record { same = λ d k. responds_at-agree (t + 1) (run_to r t).trace (run_to r c).trace d a (omega arith) })
 
 -- at a clock one request is answered alone: the next one to respond
 pub record OneAnswer (r : Run) (c : ℕ) : Type 0 where
@@ -78,7 +86,8 @@ pub record OneAnswer (r : Run) (c : ℕ) : Type 0 where
 -- a request before the next one had its response when it was due
 responded-then : (r : Run) (c i : ℕ) → Timely r → c < length r.trace → ((t : ℕ) → t < c → OneAnswer r t)
     → i < next_response (run_to r c).trace c
-    → (t : ℕ) × (t < c) × (next_response (run_to r c).trace t ≡ i) × Responding (run_to r c).trace (live_choice r i).resp t i
+    → (t : ℕ) × (t < c) × (next_response (run_to r c).trace t ≡ i)
+    × Responding (run_to r c).trace (live_choice r i).resp t i
 responded-then r c i h l before less =
     let v = (run_to r c).trace in
     let size = length-cut r c l in
@@ -101,9 +110,11 @@ ready-then r c i y h l before e below few =
     let k = has_ready v i y e in
     let above = k.above in
     let a = cuts-agree r y c (omega arith) l in
-    let place = answered-before v y i (answer_later v (k.after + 1) y i (omega arith) (after_answer v i k.after k.is_after)) in
+    let place = answered-before v y i
+    (answer_later v (k.after + 1) y i (omega arith) (after_answer v i k.after k.is_after)) in
     let line = line_at-agree TRDY (y + 1) (run_to r y).trace v y a (omega arith) ∙ k.ready in
-    let any = any_where-found (is_ready_due (run_to r y) y) (live_count (run_to r y).trace) (sym (transfers-at r y h (omega arith)).ready ∙ line) in
+    let any = any_where-found (is_ready_due (run_to r y) y) (live_count (run_to r y).trace)
+    (sym (transfers-at r y h (omega arith)).ready ∙ line) in
     let number : any.0 ≡ next_response v y = (before y below).ready any.0 any.2 ∙ next-same r y c (omega arith) l in
     let same : any.0 ≡ i = omega arith in
     let then = ready-now r y i (omega arith) (subst (λ k. is_ready_due (run_to r y) y k ≡ true) same any.2) in
@@ -162,11 +173,17 @@ one_answer r c h l = below r (c + 1) c h (omega arith) l
 
 -- the request that responds is the next one, and may be answered
 pub answered-next : (r : Run) (c : ℕ) → Timely r → c < length r.trace → responds_at (run_to r c).trace c ≡ true
-    → (number_responding (run_to r c) c ≡ Some (next_response (run_to r c).trace c)) × (next_response (run_to r c).trace c < live_count (run_to r c).trace)
-    × Responding (run_to r c).trace (live_choice r (next_response (run_to r c).trace c)).resp c (next_response (run_to r c).trace c)
+    → (number_responding (run_to r c) c ≡ Some (next_response (run_to r c).trace c))
+    × (next_response (run_to r c).trace c < live_count (run_to r c).trace)
+    × Responding (run_to r c).trace (live_choice r (next_response (run_to r c).trace c)).resp c
+    (next_response (run_to r c).trace c)
 answered-next r c h l t =
     let v = run_to r c in
     let d = responder r c h l t in
     let same : d.0 ≡ next_response v.trace c = (one_answer r c h l).responds d.0 d.3 in
-    let within = d.2 in
-    (d.1 ∙ ap Some same, omega arith, subst (λ i. Responding v.trace (live_choice r i).resp c i) same (responding-now r c d.0 l d.3))
+    let within = d.2 in (
+      d.1 ∙ ap Some same,
+      omega arith,
+      subst (λ i. Responding v.trace (live_choice r i).resp c i) same
+          (responding-now r c d.0 l d.3),
+    )

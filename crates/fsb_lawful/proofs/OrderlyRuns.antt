@@ -1,5 +1,6 @@
 -- A timely run keeps the distance of requests and the order of responses: its trace is orderly at each clock.
-use Rattle.std.proofs.Common.{ℕ, ◌+◌, ◌-◌, ◌<◌, ◌≤◌, ◌≡◌, true, false, Some, length, sym, ap, ◌∙◌, arith, inl, inr, subst}
+use Rattle.std.proofs.Common.{ℕ, ◌+◌, ◌-◌, ◌<◌, ◌≤◌, ◌≡◌, true, false, Some, length, sym, ap, ◌∙◌, arith, inl, inr}
+use Rattle.std.proofs.Common.{subst}
 use Rattle.std.proofs.lemmas.Bool.{cases_lt, le-leb}
 use Rattle.fsb_count.proofs.Interface.{nth_where-found}
 use Rattle.fsb_signal.specs.declared.lines.TheConstants.Lines.{ADS}
@@ -50,8 +51,10 @@ far r c p q h l m t u =
           ]
     ]
   where
-    agree-line : (r : Run) (p q c : ℕ) → p < q → q ≤ c → c < length r.trace → line_at ADS (run_to r q).trace p ≡ line_at ADS (run_to r c).trace p
-    agree-line r p q c l m k = line_at-agree ADS (q + 1) (run_to r q).trace (run_to r c).trace p (cuts-agree r q c m k) (omega arith)
+    agree-line : (r : Run) (p q c : ℕ) → p < q → q ≤ c → c < length r.trace
+        → line_at ADS (run_to r q).trace p ≡ line_at ADS (run_to r c).trace p
+    agree-line r p q c l m k = line_at-agree ADS (q + 1) (run_to r q).trace (run_to r c).trace p
+        (cuts-agree r q c m k) (omega arith)
 
 responded : (r : Run) (c i t : ℕ) → Timely r → c < length r.trace
     → response_clock_of (run_to r c).trace i ≡ Some t → may_answer (run_to r c).trace t i ≡ true
@@ -63,8 +66,10 @@ responded r c i t h l e =
     let below : t < length v = p.0 in
     let agree = cuts-agree r t c (omega arith) l in
     let place = next-same r t c (omega arith) l ∙ p.2 in
-    let now = answers-in-time r t h (omega arith) (responds_at-agree (t + 1) (run_to r t).trace v t agree (omega arith) ∙ p.1) in
-    may_answer-stays (t + 1) (run_to r t).trace v t i agree (omega arith) (subst (λ k. may_answer (run_to r t).trace t k ≡ true) place now)
+    let now = answers-in-time r t h (omega arith)
+    (responds_at-agree (t + 1) (run_to r t).trace v t agree (omega arith) ∙ p.1) in
+    may_answer-stays (t + 1) (run_to r t).trace v t i agree (omega arith)
+    (subst (λ k. may_answer (run_to r t).trace t k ≡ true) place now)
 
 -- the run up to each clock is orderly
 pub orderly-at : (r : Run) (c : ℕ) → Timely r → c < length r.trace → Orderly (run_to r c).trace

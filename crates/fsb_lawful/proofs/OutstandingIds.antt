@@ -1,5 +1,7 @@
 -- Where a symmetric agent's request begins, its ID is not taken, and few of its requests are outstanding.
-use Rattle.std.proofs.Common.{ℕ, zero, suc, ◌+◌, ◌/◌, ◌<◌, ◌≤◌, ◌≡◌, Bool, true, false, not, ◌&&◌, List, [], ◌∷◌, Option, Some, None, length, slice_get, nat_eq, nat_lt, refl, sym, ap, subst, ◌∙◌, arith, add-one}
+use Rattle.std.proofs.Common.{ℕ, zero, suc, ◌+◌, ◌/◌, ◌<◌, ◌≤◌, ◌≡◌, Bool, true, false, not, ◌&&◌, List, [], ◌∷◌}
+use Rattle.std.proofs.Common.{Option, Some, None, length, slice_get, nat_eq, nat_lt, refl, sym, ap, subst, ◌∙◌, arith}
+use Rattle.std.proofs.Common.{add-one}
 use Rattle.std.specs.List.{filter, filter_map, list_any}
 use Rattle.std.specs.Option.{option_and_then, option_map, option_map_or}
 use Rattle.std.proofs.lemmas.Bool.{and_from, and_parts, eqb-true, eq-eqb, ltb-true, ne_eqb}
@@ -56,7 +58,8 @@ owed-same r zero a l = refl
 owed-same r (suc e) a l =
     let early = moment-at r (suc e) e (omega arith) in
     let late = moments-to (past_of r) (suc e) e (omega arith) ∙ moment-at r (length r.trace) e (omega arith) in
-    ap (λ o. filter (λ owing. nat_eq owing.claim.agent a) (option_map_or (λ moment. moment.outstanding) o [])) (early ∙ sym late)
+    ap (λ o. filter (λ owing. nat_eq owing.claim.agent a) (option_map_or (λ moment. moment.outstanding) o []))
+    (early ∙ sym late)
 
 -- the request of a symmetric agent that begins at q, as its agent knows it
 pub record KnownOwing (r : Run) (q a : ℕ) (request : Request) : Type 0 where
@@ -84,10 +87,13 @@ begun-owing r q a request few l t w e =
 
 -- what is outstanding at a clock, as the clock before left it
 outstanding-is : (r : Run) (e : ℕ) → suc e < length r.trace
-    → outstanding_at (past_to (past_of r) (suc e)) (suc e) ≡ filter_map (owing_at (past_with r (moments_below r e) e) (run_to r e).trace e) (outstanding (run_to r e).trace (e + 1))
+    → outstanding_at (past_to (past_of r) (suc e)) (suc e)
+    ≡ filter_map (owing_at (past_with r (moments_below r e) e) (run_to r e).trace e)
+    (outstanding (run_to r e).trace (e + 1))
 unfolding outstanding_at past_of moment_at
 outstanding-is r e l =
-    ap (λ o. option_map_or (λ moment. moment.outstanding) o []) (moments-to (past_of r) (suc e) e (omega arith) ∙ moment-at r (length r.trace) e (omega arith))
+    ap (λ o. option_map_or (λ moment. moment.outstanding) o []) (moments-to (past_of r) (suc e) e (omega arith)
+    ∙ moment-at r (length r.trace) e (omega arith))
 
 -- a request that is outstanding where another one begins, at the clock after e
 pub record IsKnown (r : Run) (e p : ℕ) : Type 0 where
@@ -118,7 +124,9 @@ pub wanted-by : (r : Run) (p : ℕ) (who : Who) (request : Request)
     → (a : ℕ) × (who ≡ Symmetric a) × (want_of (past_to (past_of r) p) a p ≡ Some request)
 unfolding would_begin
 wanted-by r p (Symmetric a) request e f = (a, refl, e)
-wanted-by r p Priority request e f = absurd (replies (option_and_then (live_request_of (run_to r p).trace) (due_number (run_to r p) (past_to (past_of r) p) p)) e)
+wanted-by r p Priority request e f =
+    absurd (replies (option_and_then (live_request_of (run_to r p).trace)
+    (due_number (run_to r p) (past_to (past_of r) p) p)) e)
   where
     replies : (o : Option Request) → option_map reply_to o ≡ Some request → ⊥
     replies None g = let no : ⊥ = cc in no
@@ -130,7 +138,8 @@ outstanding-parts : (w : Trace) (c p : ℕ) → is_outstanding w c p ≡ true
     → (line_at ADS w p ≡ true) × (p < c) × (is_reply (request_at w p) ≡ false)
 unfolding is_outstanding
 outstanding-parts w c p e =
-    let a = and5 (line_at ADS w p) (nat_lt p c) (not (is_reply (request_at w p))) (not (is_dropped w c p)) (not (is_finished w c p)) e in
+    let a = and5 (line_at ADS w p) (nat_lt p c) (not (is_reply (request_at w p))) (not (is_dropped w c p))
+    (not (is_finished w c p)) e in
     (a.0, ltb-true p c a.1, not-true (is_reply (request_at w p)) a.2)
 
 pub begins-after : (r : Run) (e c : ℕ) → Timely r → suc e ≤ c → c < length r.trace
@@ -139,7 +148,8 @@ begins-after r e c h k l t =
     let size = length-cut r e (omega arith) in
     let same : length (run_to r e).trace ≡ suc e = omega arith in
     record {
-      agree = subst (λ n. AgreeTo n (run_to r e).trace (run_to r c).trace) (sym size) (cuts-agree r e c (omega arith) l);
+      agree = subst (λ n. AgreeTo n (run_to r e).trace (run_to r c).trace) (sym size)
+          (cuts-agree r e c (omega arith) l);
       asks = subst (λ n. line_at ADS (run_to r c).trace n ≡ true) (sym same) t;
       before = orderly-at r e h (omega arith);
       after = orderly-at r c h l;
@@ -158,19 +168,24 @@ is-known r e p h wants few l t out =
     let apart = (orderly-at r c h l).spaced.apart p (suc e) parts.1 parts.0 t in
     let here = line-to ADS r p c (omega arith) l ∙ parts.0 in
     let b = begun-decoded r p h (omega arith) here in
-    let decoded = sym (request_at-agree (suc p + 1) (run_to r (suc p)).trace v p (cuts-agree r (suc p) c (omega arith) l) (omega arith)) ∙ b.2 (wants.lawful p b.0 b.1) in
-    let won = begun-winner (would_begin (run_to r p) (past_to (past_of r) p) p) (winner_at (run_to r p).trace p) b.0 b.1 in
+    let decoded =
+    sym (request_at-agree (suc p + 1) (run_to r (suc p)).trace v p (cuts-agree r (suc p) c (omega arith) l)
+    (omega arith)) ∙ b.2 (wants.lawful p b.0 b.1) in
+    let won = begun-winner (would_begin (run_to r p) (past_to (past_of r) p) p) (winner_at (run_to r p).trace p)
+    b.0 b.1 in
     let want = wanted-by r p won.0 b.0 won.2 (sym (ap is_reply decoded) ∙ parts.2) in
     let winner = won.1 ∙ ap Some want.1 in
     let k = begun-owing r p want.0 b.0 few (omega arith) here winner want.2 in
     let after = begins-after r e c h (omega arith) l t in
     let size : length (run_to r e).trace ≡ e + 1 = length-cut r e (omega arith) in
-    let same = subst (λ n. is_outstanding v n p ≡ is_outstanding (run_to r e).trace n p) size (same_outstanding (run_to r e).trace v p after (omega arith)) in
+    let same = subst (λ n. is_outstanding v n p ≡ is_outstanding (run_to r e).trace n p) size
+    (same_outstanding (run_to r e).trace v p after (omega arith)) in
     record {
       request = b.0;
       decoded = decoded;
       agent = want.0;
-      winner = sym (winner_at-agree (p + 1) (run_to r p).trace v p (cuts-agree r p c (omega arith) l) (omega arith)) ∙ winner;
+      winner = sym (winner_at-agree (p + 1) (run_to r p).trace v p (cuts-agree r p c (omega arith) l)
+          (omega arith)) ∙ winner;
       owing = k.owing;
       gives = gives-by r e p k.owing (omega arith) k.begun;
       owner = k.agent;
@@ -199,18 +214,25 @@ id-free r e a p request h wants few l t k below taken =
     let v = (run_to r (suc (suc e))).trace in
     let a' = and_parts (is_outstanding v (suc e) p) (have_same_id (request_at v p) (request_at v (suc e))) taken in
     let n = is-known r e p h wants few l t a'.0 in
-    let did : n.request.did ≡ request.did = same-id (request_at v p) (request_at v (suc e)) n.request request n.decoded k.decoded a'.1 in
+    let did : n.request.did ≡ request.did =
+    same-id (request_at v p) (request_at v (suc e)) n.request request n.decoded k.decoded a'.1 in
     let own = (want-own (past_to (past_of r) (suc e)) a (suc e) request few k.want).1 in
     let owner : n.owing.claim.agent ≡ a = n.owner ∙ sym n.own ∙ ap (λ d. d / 16) did ∙ own in
-    let listed : IsListed (is_outstanding (run_to r e).trace (e + 1)) (owing_at (past_with r (moments_below r e) e) (run_to r e).trace e) (λ owing. nat_eq owing.claim.agent a && nat_eq owing.did request.did) p = record {
+    let listed : IsListed (is_outstanding (run_to r e).trace (e + 1))
+    (owing_at (past_with r (moments_below r e) e) (run_to r e).trace e)
+    (λ owing. nat_eq owing.claim.agent a && nat_eq owing.did request.did) p = record {
       there = n.there;
       given = n.owing;
       gives = n.gives;
       passes = and_from _ _ (eq-eqb n.owing.claim.agent a owner) (eq-eqb n.owing.did request.did (n.did ∙ did));
     } in
-    let any = any-listed (is_outstanding (run_to r e).trace (e + 1)) (owing_at (past_with r (moments_below r e) e) (run_to r e).trace e) (λ owing. nat_eq owing.claim.agent a && nat_eq owing.did request.did) (e + 1) p (omega arith) listed in
+    let any = any-listed (is_outstanding (run_to r e).trace (e + 1))
+    (owing_at (past_with r (moments_below r e) e) (run_to r e).trace e)
+    (λ owing. nat_eq owing.claim.agent a && nat_eq owing.did request.did) (e + 1) p (omega arith) listed in
     let there = any-kept (λ owing. nat_eq owing.claim.agent a) (λ owing. nat_eq owing.did request.did) _ any in
-    let used : is_id_used (owed (past_to (past_of r) (suc e)) a (suc e)) request.did ≡ true = ap (λ xs. list_any (λ owing. nat_eq owing.did request.did) (filter (λ owing. nat_eq owing.claim.agent a) xs)) (outstanding-is r e (omega arith)) ∙ there in
+    let used : is_id_used (owed (past_to (past_of r) (suc e)) a (suc e)) request.did ≡ true =
+    ap (λ xs. list_any (λ owing. nat_eq owing.did request.did)
+    (filter (λ owing. nat_eq owing.claim.agent a) xs)) (outstanding-is r e (omega arith)) ∙ there in
     let no : false ≡ true = sym (want-few (past_to (past_of r) (suc e)) a (suc e) request few k.want).2 ∙ used in cc no
 
 is-agent : (o : Option Who) (a b : ℕ) → is_some_and (Some (Symmetric a)) (is_agent o) ≡ true
@@ -228,11 +250,22 @@ few-outstanding r e a request h wants few l t k =
     let v = (run_to r (suc (suc e))).trace in
     let g = owing_at (past_with r (moments_below r e) e) (run_to r e).trace e in
     let f : Owing → Bool = λ owing. nat_eq owing.claim.agent a in
-    let counted = few-listed (is_outstanding_of_winner v (suc e)) (is_outstanding (run_to r e).trace (e + 1)) g f (suc e) (λ p below some.
+    let counted = few-listed (is_outstanding_of_winner v (suc e)) (is_outstanding (run_to r e).trace (e + 1)) g
+    f (suc e) (λ p below some.
     let a' = and_parts (is_outstanding v (suc e) p) _ some in
     let n = is-known r e p h wants few l t a'.0 in
-    let owner : n.agent ≡ a = is-agent (winner_at v p) a n.agent (sym (ap (λ o. is_some_and o (is_agent (winner_at v p))) k.winner) ∙ a'.1) n.winner in
-    record { there = n.there; given = n.owing; gives = n.gives; passes = eq-eqb n.owing.claim.agent a (n.owner ∙ owner) }) in
+    let owner : n.agent ≡ a = is-agent (winner_at v p) a n.agent
+    (sym (ap (λ o. is_some_and o (is_agent (winner_at v p))) k.winner) ∙ a'.1) n.winner in
+    record {
+      there = n.there;
+      given = n.owing;
+      gives = n.gives;
+      passes = eq-eqb n.owing.claim.agent a (n.owner ∙ owner);
+    }) in
     let short = (want-few (past_to (past_of r) (suc e)) a (suc e) request few k.want).0 in
-    let same : length (owed (past_to (past_of r) (suc e)) a (suc e)) ≡ length (filter f (filter_map g (all_where (is_outstanding (run_to r e).trace (e + 1)) (suc e)))) = ap (λ xs. length (filter f xs)) (outstanding-is r e (omega arith)) ∙ ap (λ n. length (filter f (filter_map g (all_where (is_outstanding (run_to r e).trace (e + 1)) n)))) (add-one e) in
+    let same : length (owed (past_to (past_of r) (suc e)) a (suc e))
+    ≡ length (filter f (filter_map g (all_where (is_outstanding (run_to r e).trace (e + 1)) (suc e)))) =
+    ap (λ xs. length (filter f xs)) (outstanding-is r e (omega arith))
+    ∙ ap (λ n. length (filter f (filter_map g (all_where (is_outstanding (run_to r e).trace (e + 1)) n))))
+    (add-one e) in
     omega arith

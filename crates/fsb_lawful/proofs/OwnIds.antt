@@ -1,5 +1,7 @@
 -- What an agent wants has an ID of its own, and is no reply.
-use Rattle.std.proofs.Common.{ℕ, zero, suc, ◌+◌, ◌*◌, ◌/◌, ◌<◌, ◌≤◌, ◌≡◌, Bool, true, false, not, ◌||◌, List, [], ◌∷◌, Option, Some, None, length, nat_eq, nat_le, refl, subst, ap, ◌∙◌, arith, inl, inr, if◌then◌else◌, add-one}
+use Rattle.std.proofs.Common.{ℕ, zero, suc, ◌+◌, ◌*◌, ◌/◌, ◌<◌, ◌≤◌, ◌≡◌, Bool, true, false, not, ◌||◌, List, [], ◌∷◌}
+use Rattle.std.proofs.Common.{Option, Some, None, length, nat_eq, nat_le, refl, subst, ap, ◌∙◌, arith, inl, inr}
+use Rattle.std.proofs.Common.{if◌then◌else◌, add-one}
 use Rattle.std.specs.List.{find, list_any}
 use Rattle.std.specs.Option.{option_map}
 use Rattle.std.proofs.lemmas.Bool.{cases_Bool, eqb-true, leb-false, or_parts}
@@ -10,7 +12,8 @@ use Rattle.fsb_encode.specs.declared.request.Request.{Request}
 use Rattle.fsb_trace.specs.Requests.{is_reply_kind}
 use Rattle.fsb_timely.specs.Past.{Owing, Past}
 use Rattle.fsb_timely.specs.Scripts.{Need, is_idling, window, needs_from}
-use Rattle.fsb_timely.specs.Wants.{owed, is_missing, victim_of, id_of, is_id_used, free_id, may_upgrade, kind_needed, request_of_kind, write_back_of, want_for, want_of}
+use Rattle.fsb_timely.specs.Wants.{owed, is_missing, victim_of, id_of, is_id_used, free_id, may_upgrade, kind_needed}
+use Rattle.fsb_timely.specs.Wants.{request_of_kind, write_back_of, want_for, want_of}
 
 -- how many pass one of two tests
 pub count-or : (p q : ℕ → Bool) (k : ℕ) → count_where (λ n. p n || q n) k ≤ count_where p k + count_where q k
@@ -19,7 +22,8 @@ count-or p q zero = omega arith
 count-or p q (suc k) = let before = count-or p q k in step (p k) (q k) before
   where
     step : (a b : Bool) → count_where (λ n. p n || q n) k ≤ count_where p k + count_where q k
-        → count_where (λ n. p n || q n) k + (if a || b then 1 else 0) ≤ (count_where p k + (if a then 1 else 0)) + (count_where q k + (if b then 1 else 0))
+        → count_where (λ n. p n || q n) k + (if a || b then 1 else 0) ≤ (count_where p k + (if a then 1 else 0))
+        + (count_where q k + (if b then 1 else 0))
     step true true l = omega arith
     step true false l = omega arith
     step false true l = omega arith
@@ -47,7 +51,8 @@ count-one-place a zero = omega arith
 count-one-place a (suc k) =
     elim (cases_Bool (nat_eq k a)) [
       | inl t ↦
-          let none = count-zero (λ n. nat_eq n a) k (λ n l. other-place a k n t l (nat_eq n a) refl) in rw t (omega arith)
+          let none = count-zero (λ n. nat_eq n a) k (λ n l. other-place a k n t l (nat_eq n a) refl) in
+          rw t (omega arith)
       | inr f ↦ let before = count-one-place a k in rw f (omega arith)
     ]
 
@@ -66,7 +71,8 @@ count-one did a zero = omega arith
 count-one did a (suc k) =
     elim (cases_Bool (nat_eq did (id_of a k))) [
       | inl t ↦
-          let none = count-zero (λ n. nat_eq did (id_of a n)) k (λ n l. other-number did a k n t l (nat_eq did (id_of a n)) refl) in
+          let none = count-zero (λ n. nat_eq did (id_of a n)) k
+          (λ n l. other-number did a k n t l (nat_eq did (id_of a n)) refl) in
           rw t (omega arith)
       | inr f ↦ let before = count-one did a k in rw f (omega arith)
     ]
@@ -89,7 +95,9 @@ free-own : (a : ℕ) (owings : List Owing) (o : Option ℕ) → length owings < 
     → first_where (λ n. not (is_id_used owings (id_of a n))) (length owings + 1) ≡ o → free_id a owings / 16 ≡ a
 unfolding free_id id_of
 free-own a owings None l e =
-    let all = count-all (λ n. is_id_used owings (id_of a n)) (length owings + 1) (λ n m. used-there (is_id_used owings (id_of a n)) (first_where-none (λ k. not (is_id_used owings (id_of a k))) (length owings + 1) e n m)) in
+    let all = count-all (λ n. is_id_used owings (id_of a n)) (length owings + 1)
+    (λ n m. used-there (is_id_used owings (id_of a n))
+    (first_where-none (λ k. not (is_id_used owings (id_of a k))) (length owings + 1) e n m)) in
     let few = used-few a owings (length owings + 1) in absurd (omega arith)
 free-own a owings (Some n) l e =
     let h = first_where-found (λ k. not (is_id_used owings (id_of a k))) (length owings + 1) n e in
@@ -129,7 +137,9 @@ free-unused : (a : ℕ) (owings : List Owing) (o : Option ℕ) → length owings
     → is_id_used owings (free_id a owings) ≡ false
 unfolding free_id
 free-unused a owings None l e =
-    let all = count-all (λ n. is_id_used owings (id_of a n)) (length owings + 1) (λ n m. used-there (is_id_used owings (id_of a n)) (first_where-none (λ k. not (is_id_used owings (id_of a k))) (length owings + 1) e n m)) in
+    let all = count-all (λ n. is_id_used owings (id_of a n)) (length owings + 1)
+    (λ n m. used-there (is_id_used owings (id_of a n))
+    (first_where-none (λ k. not (is_id_used owings (id_of a k))) (length owings + 1) e n m)) in
     let few = used-few a owings (length owings + 1) in absurd (omega arith)
 free-unused a owings (Some n) l e =
     let h = first_where-found (λ k. not (is_id_used owings (id_of a k))) (length owings + 1) n e in
@@ -147,7 +157,8 @@ want_by p a c request true t e = absurd (let h : ⊥ = (let e' = rw (t, want_of)
 want_by p a c request false f e =
     let parts = or_parts (is_idling p a c) (nat_le p.plan.ahead (length (owed p a c))) f in (
       leb-false p.plan.ahead (length (owed p a c)) parts.1,
-      want_if-is p a c request (find (is_missing p a c (owed p a c)) (needs_from [] (window p a c))) (let e' = rw (f, want_of) at e in e'),
+      want_if-is p a c request (find (is_missing p a c (owed p a c)) (needs_from [] (window p a c)))
+          (let e' = rw (f, want_of) at e in e'),
     )
 
 -- an agent's want is no reply, and has an ID of the agent
@@ -156,15 +167,21 @@ pub want-own : (p : Past) (a c : ℕ) (request : Request) → p.plan.ahead ≤ 4
 want-own p a c request few e =
     let h = want_by p a c request (is_idling p a c || nat_le p.plan.ahead (length (owed p a c))) refl e in
     let is = h.1 in
-    let short = h.0 in
-    (is.no_reply, ap (λ d. d / 16) is.own ∙ free-own a (owed p a c) (first_where (λ n. not (is_id_used (owed p a c) (id_of a n))) (length (owed p a c) + 1)) (omega arith) refl)
+    let short = h.0 in (
+      is.no_reply,
+      ap (λ d. d / 16) is.own
+          ∙ free-own a (owed p a c) (first_where (λ n. not (is_id_used (owed p a c) (id_of a n)))
+          (length (owed p a c) + 1)) (omega arith) refl,
+    )
 
 -- an agent that wants something has fewer requests outstanding than it may, and none of them has the want's ID
 pub want-few : (p : Past) (a c : ℕ) (request : Request) → p.plan.ahead ≤ 4 → want_of p a c ≡ Some request
-    → (length (owed p a c) < p.plan.ahead) × (request.did ≡ free_id a (owed p a c)) × (is_id_used (owed p a c) request.did ≡ false)
+    → (length (owed p a c) < p.plan.ahead) × (request.did ≡ free_id a (owed p a c))
+    × (is_id_used (owed p a c) request.did ≡ false)
 want-few p a c request few e =
     let h = want_by p a c request (is_idling p a c || nat_le p.plan.ahead (length (owed p a c))) refl e in
     let is = h.1 in
     let short = h.0 in
-    let unused = free-unused a (owed p a c) (first_where (λ n. not (is_id_used (owed p a c) (id_of a n))) (length (owed p a c) + 1)) (omega arith) refl in
+    let unused = free-unused a (owed p a c)
+    (first_where (λ n. not (is_id_used (owed p a c) (id_of a n))) (length (owed p a c) + 1)) (omega arith) refl in
     (short, is.own, ap (is_id_used (owed p a c)) is.own ∙ unused)

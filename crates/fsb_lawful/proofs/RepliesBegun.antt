@@ -1,5 +1,6 @@
 -- Replies are begun by the priority agent, and by no other agent.
-use Rattle.std.proofs.Common.{ℕ, suc, ◌-◌, ◌<◌, ◌≤◌, ◌≡◌, Bool, true, false, ◌&&◌, Option, Some, None, length, refl, sym, ap, ◌∙◌, arith}
+use Rattle.std.proofs.Common.{ℕ, suc, ◌-◌, ◌<◌, ◌≤◌, ◌≡◌, Bool, true, false, ◌&&◌, Option, Some, None, length, refl}
+use Rattle.std.proofs.Common.{sym, ap, ◌∙◌, arith}
 use Rattle.std.proofs.lemmas.Bool.{le-leb}
 use Rattle.fsb_count.specs.Options.{is_some_and}
 use Rattle.fsb_encode.specs.declared.request.Request.{Request}
@@ -48,7 +49,8 @@ pub reply-before : (v : Run) (d : ℕ)
 unfolding reply_before
 reply-before v d =
     let one : suc d - 1 ≡ d = omega arith in
-    ap (λ b. b && is_reply (request_at v.trace (suc d - 1))) (back-one v.trace d) ∙ ap (λ k. line_at ADS v.trace d && is_reply (request_at v.trace k)) one
+    ap (λ b. b && is_reply (request_at v.trace (suc d - 1))) (back-one v.trace d)
+    ∙ ap (λ k. line_at ADS v.trace d && is_reply (request_at v.trace k)) one
 
 -- a reply began at the clock before exactly where the priority agent did
 pub reply-is : (r : Run) (d : ℕ) → Timely r → WantsLawfully r → r.plan.ahead ≤ 4 → suc d < length r.trace
@@ -57,4 +59,6 @@ unfolding begins_at
 reply-is r d h wants few l =
     let v = run_to r (suc d) in
     reply-before v d
-    ∙ reply-by v.trace d (line_at ADS v.trace d) refl (λ t. reply-priority (winner_at v.trace d) (request_at v.trace d) (is_reply (request_at v.trace d)) (identified-at r d h few wants l (back-one v.trace d ∙ t)) refl)
+    ∙ reply-by v.trace d (line_at ADS v.trace d) refl
+    (λ t. reply-priority (winner_at v.trace d) (request_at v.trace d) (is_reply (request_at v.trace d))
+    (identified-at r d h few wants l (back-one v.trace d ∙ t)) refl)

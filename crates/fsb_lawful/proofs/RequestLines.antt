@@ -1,5 +1,6 @@
 -- Rule 8: who asks for the bus in a timely run goes on until it begins a request, and then stops.
-use Rattle.std.proofs.Common.{ℕ, zero, suc, ◌+◌, ◌-◌, ◌<◌, ◌≤◌, ◌≡◌, Bool, true, false, not, ◌&&◌, is_some, length, take, refl, sym, ap, ◌∙◌, arith, if◌then◌else◌}
+use Rattle.std.proofs.Common.{ℕ, zero, suc, ◌+◌, ◌-◌, ◌<◌, ◌≤◌, ◌≡◌, Bool, true, false, not, ◌&&◌, is_some, length}
+use Rattle.std.proofs.Common.{take, refl, sym, ap, ◌∙◌, arith, if◌then◌else◌}
 use Rattle.std.proofs.lemmas.Bool.{and_parts, le-leb, or_from}
 use Rattle.fsb_count.specs.Clocks.{each_where}
 use Rattle.fsb_count.proofs.Interface.{any_where-off, each_where-at}
@@ -14,7 +15,8 @@ use Rattle.fsb_trace.specs.Winner.{begins_at, bus_request_of, is_agent, request_
 use Rattle.fsb_trace.proofs.Interface.{breaks-8, winner_at-agree}
 use Rattle.fsb_timely.specs.Past.{Past}
 use Rattle.fsb_timely.specs.Runs.{Run, past_of, past_to, run_to}
-use Rattle.fsb_timely.specs.Starts.{asks_for_bus, asks_for_priority, began_before, drives_request_lines, due_number, reply_before}
+use Rattle.fsb_timely.specs.Starts.{asks_for_bus, asks_for_priority, began_before, drives_request_lines, due_number}
+use Rattle.fsb_timely.specs.Starts.{reply_before}
 use Rattle.fsb_timely.specs.Timely.{holds_in, holds_at, Timely}
 use Rattle.fsb_timely.specs.Wants.{want_of}
 use Rattle.fsb_lawful.specs.Beginning.{WantsLawfully}
@@ -31,7 +33,8 @@ bus-by : (r : Run) (p : Past) (c a : ℕ) → drives_request_lines r p c ≡ tru
     → line_at (bus_request_of a) r.trace c ≡ (is_some (want_of p a c) && not (began_before r c (Symmetric a)))
 unfolding drives_request_lines asks_for_bus
 bus-by r p c a e l =
-    same-beq _ _ (each_where-at (asks_for_bus r p c) 4 (and_parts (each_where (asks_for_bus r p c) 4) (asks_for_priority r p c) e).0 a l)
+    same-beq _ _ (each_where-at (asks_for_bus r p c) 4
+    (and_parts (each_where (asks_for_bus r p c) 4) (asks_for_priority r p c) e).0 a l)
 
 priority-by : (r : Run) (p : Past) (c : ℕ) → drives_request_lines r p c ≡ true
     → line_at BPRI r.trace c ≡ (is_some (due_number r p c) && not (reply_before r c))
@@ -39,12 +42,14 @@ unfolding drives_request_lines asks_for_priority
 priority-by r p c e = same-beq _ _ (and_parts (each_where (asks_for_bus r p c) 4) (asks_for_priority r p c) e).1
 
 bus-at : (r : Run) (c a : ℕ) → Timely r → c < length r.trace → a < 4
-    → line_at (bus_request_of a) (run_to r c).trace c ≡ (is_some (want_of (past_to (past_of r) c) a c) && not (began_before (run_to r c) c (Symmetric a)))
+    → line_at (bus_request_of a) (run_to r c).trace c
+    ≡ (is_some (want_of (past_to (past_of r) c) a c) && not (began_before (run_to r c) c (Symmetric a)))
 unfolding holds_at holds_in
 bus-at r c a h l few = bus-by (run_to r c) (past_to (past_of r) c) c a (h.request_lines.at c l) few
 
 priority-at : (r : Run) (c : ℕ) → Timely r → c < length r.trace
-    → line_at BPRI (run_to r c).trace c ≡ (is_some (due_number (run_to r c) (past_to (past_of r) c) c) && not (reply_before (run_to r c) c))
+    → line_at BPRI (run_to r c).trace c
+    ≡ (is_some (due_number (run_to r c) (past_to (past_of r) c) c) && not (reply_before (run_to r c) c))
 unfolding holds_at holds_in
 priority-at r c h l = priority-by (run_to r c) (past_to (past_of r) c) c (h.request_lines.at c l)
 
@@ -68,7 +73,9 @@ begins-to r d c who l m =
 
 -- the rule at a clock that is not the first
 after-first : (v : Trace) (d : ℕ) (who : Who)
-    → is_asked_wrongly v (suc d) who ≡ (if begins_at v d who then line_at (request_line_of who) v (suc d) else (line_at (request_line_of who) v d && not (line_at (request_line_of who) v (suc d))))
+    → is_asked_wrongly v (suc d) who
+    ≡ (if begins_at v d who then line_at (request_line_of who) v (suc d)
+    else (line_at (request_line_of who) v d && not (line_at (request_line_of who) v (suc d))))
 unfolding is_asked_wrongly line_back
 after-first v d who =
     let one : suc d - 1 ≡ d = omega arith in rw (one, le-leb 1 (suc d) (omega arith)) refl
@@ -94,21 +101,29 @@ symmetric : (r : Run) (d a : ℕ) → Timely r → suc d < length r.trace → a 
 unfolding request_line_of
 symmetric r d a h l few =
     let v = run_to r (suc d) in
-    let now = bus-at r (suc d) a h l few ∙ ap (λ b. is_some (want_of (past_to (past_of r) (suc d)) a (suc d)) && not b) (began-is v d (Symmetric a)) in
+    let now = bus-at r (suc d) a h l few
+    ∙ ap (λ b. is_some (want_of (past_to (past_of r) (suc d)) a (suc d)) && not b) (began-is v d (Symmetric a)) in
     let before = sym (line-to (bus_request_of a) r d (suc d) (omega arith) l) ∙ bus-at r d a h (omega arith) few in
     after-first v.trace d (Symmetric a)
-    ∙ rightly (begins_at v.trace d (Symmetric a)) (is_some (want_of (past_to (past_of r) d) a d)) (is_some (want_of (past_to (past_of r) (suc d)) a (suc d))) (line_at (bus_request_of a) v.trace d) (line_at (bus_request_of a) v.trace (suc d)) now
-    (λ t. asked-by _ _ (sym before ∙ t)) (λ t f. wants-go-on r a d h l t (sym (begins-to r d (suc d) (Symmetric a) (omega arith) l) ∙ f))
+    ∙ rightly (begins_at v.trace d (Symmetric a)) (is_some (want_of (past_to (past_of r) d) a d))
+    (is_some (want_of (past_to (past_of r) (suc d)) a (suc d))) (line_at (bus_request_of a) v.trace d)
+    (line_at (bus_request_of a) v.trace (suc d)) now
+    (λ t. asked-by _ _ (sym before ∙ t))
+    (λ t f. wants-go-on r a d h l t (sym (begins-to r d (suc d) (Symmetric a) (omega arith) l) ∙ f))
 
 priority : (r : Run) (d : ℕ) → Timely r → WantsLawfully r → r.plan.ahead ≤ 4 → suc d < length r.trace
     → is_asked_wrongly (run_to r (suc d)).trace (suc d) Priority ≡ false
 unfolding request_line_of
 priority r d h wants few l =
     let v = run_to r (suc d) in
-    let now = priority-at r (suc d) h l ∙ ap (λ b. is_some (due_number v (past_to (past_of r) (suc d)) (suc d)) && not b) (reply-is r d h wants few l) in
+    let now = priority-at r (suc d) h l
+    ∙ ap (λ b. is_some (due_number v (past_to (past_of r) (suc d)) (suc d)) && not b)
+    (reply-is r d h wants few l) in
     let before = sym (line-to BPRI r d (suc d) (omega arith) l) ∙ priority-at r d h (omega arith) in
     after-first v.trace d Priority
-    ∙ rightly (begins_at v.trace d Priority) (is_some (due_number (run_to r d) (past_to (past_of r) d) d)) (is_some (due_number v (past_to (past_of r) (suc d)) (suc d))) (line_at BPRI v.trace d) (line_at BPRI v.trace (suc d)) now
+    ∙ rightly (begins_at v.trace d Priority) (is_some (due_number (run_to r d) (past_to (past_of r) d) d))
+    (is_some (due_number v (past_to (past_of r) (suc d)) (suc d))) (line_at BPRI v.trace d)
+    (line_at BPRI v.trace (suc d)) now
     (λ t. asked-by _ _ (sym before ∙ t)) (λ t f. dues-stay r d h wants few l t f)
 
 at-clock : (r : Run) (c : ℕ) → Timely r → WantsLawfully r → r.plan.ahead ≤ 4 → c < length r.trace
@@ -116,10 +131,12 @@ at-clock : (r : Run) (c : ℕ) → Timely r → WantsLawfully r → r.plan.ahead
 unfolding is_some_asked_wrongly
 at-clock r zero h wants few l =
     let v = (run_to r zero).trace in
-    or_from _ _ (any_where-off (λ a. is_asked_wrongly v zero (Symmetric a)) 4 (λ a k. at-first v (Symmetric a))) (at-first v Priority)
+    or_from _ _ (any_where-off (λ a. is_asked_wrongly v zero (Symmetric a)) 4 (λ a k. at-first v (Symmetric a)))
+    (at-first v Priority)
 at-clock r (suc d) h wants few l =
     let v = (run_to r (suc d)).trace in
-    or_from _ _ (any_where-off (λ a. is_asked_wrongly v (suc d) (Symmetric a)) 4 (λ a k. symmetric r d a h l k)) (priority r d h wants few l)
+    or_from _ _ (any_where-off (λ a. is_asked_wrongly v (suc d) (Symmetric a)) 4 (λ a k. symmetric r d a h l k))
+    (priority r d h wants few l)
 
 -- rule 8
 pub keeps-8 : (m : Marks) (r : Run) → Timely r → WantsLawfully r → r.plan.ahead ≤ 4 → Keeps m 8 r.trace

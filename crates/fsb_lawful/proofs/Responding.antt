@@ -1,5 +1,6 @@
 -- When a live request responds and when its target is ready: by its waits, and once.
-use Rattle.std.proofs.Common.{ℕ, ◌+◌, ◌<◌, ◌≤◌, ◌≡◌, ◌⊎◌, Bool, true, false, Option, Some, None, length, refl, sym, ◌∙◌, arith, inl, inr, subst}
+use Rattle.std.proofs.Common.{ℕ, ◌+◌, ◌<◌, ◌≤◌, ◌≡◌, ◌⊎◌, Bool, true, false, Option, Some, None, length, refl, sym, ◌∙◌}
+use Rattle.std.proofs.Common.{arith, inl, inr, subst}
 use Rattle.std.specs.Option.{option_map}
 use Rattle.std.proofs.lemmas.Bool.{and_parts}
 use Rattle.fsb_count.specs.Options.{is_at}
@@ -69,11 +70,21 @@ pub responding-stays : (n : ℕ) (w v : Trace) (wait t i : ℕ) → AgreeTo n w 
 responding-stays n w v wait t i a l (inl k) =
     let h = responding-answer w wait t i (inl k) in
     let same = takes-stays n w v i h.snoop a (omega (arith, h.before)) h.is_snoop in
-    inl (record { does_take = sym same ∙ k.does_take; ready = k.ready; is_ready = ready_clock_of-stays n w v i k.ready a (omega (arith, k.waits)) k.is_ready; waits = k.waits })
+    inl (record {
+      does_take = sym same ∙ k.does_take;
+      ready = k.ready;
+      is_ready = ready_clock_of-stays n w v i k.ready a (omega (arith, k.waits)) k.is_ready;
+      waits = k.waits;
+    })
 responding-stays n w v wait t i a l (inr k) =
     let h = responding-answer w wait t i (inr k) in
     let same = takes-stays n w v i h.snoop a (omega (arith, h.before)) h.is_snoop in
-    inr (record { takes_none = sym same ∙ k.takes_none; from = k.from; is_from = answer_from-stays n w v i k.from a (omega (arith, k.waits)) k.is_from; waits = k.waits })
+    inr (record {
+      takes_none = sym same ∙ k.takes_none;
+      from = k.from;
+      is_from = answer_from-stays n w v i k.from a (omega (arith, k.waits)) k.is_from;
+      waits = k.waits;
+    })
 
 -- a request responds once
 pub one-response : (w : Trace) (wait t u i : ℕ) → Responding w wait t i → Responding w wait u i → t ≡ u
@@ -108,7 +119,12 @@ pub ready-stays : (n : ℕ) (w v : Trace) (wait t i : ℕ) → AgreeTo n w v →
 ready-stays n w v wait t i a l k =
     let h = ready-answer w wait t i k in
     let same = takes-stays n w v i h.snoop a (omega (arith, h.before)) h.is_snoop in
-    record { does_take = sym same ∙ k.does_take; from = k.from; is_from = answer_from-stays n w v i k.from a (omega (arith, k.waits)) k.is_from; waits = k.waits }
+    record {
+      does_take = sym same ∙ k.does_take;
+      from = k.from;
+      is_from = answer_from-stays n w v i k.from a (omega (arith, k.waits)) k.is_from;
+      waits = k.waits;
+    }
 
 -- a target is to be ready at one clock
 pub one-ready : (w : Trace) (wait t u i : ℕ) → IsReadyDue w wait t i → IsReadyDue w wait u i → t ≡ u

@@ -1,5 +1,6 @@
 -- Rule 14: each response of a timely run has the code of its settled outcome, which is what is told of it.
-use Rattle.std.proofs.Common.{ℕ, ◌+◌, ◌<◌, ◌≤◌, ◌≡◌, Bool, true, false, not, Option, Some, None, length, take, nat_eq, nat_le, nat_lt, refl, sym, ap, ◌∙◌, arith, subst}
+use Rattle.std.proofs.Common.{ℕ, ◌+◌, ◌<◌, ◌≤◌, ◌≡◌, Bool, true, false, not, Option, Some, None, length, take, nat_eq}
+use Rattle.std.proofs.Common.{nat_le, nat_lt, refl, sym, ap, ◌∙◌, arith, subst}
 use Rattle.std.proofs.lemmas.Bool.{and_from, and_parts, le-leb, lt-ltb, ne_eqb}
 use Rattle.fsb_count.specs.Options.{is_some_and}
 use Rattle.fsb_count.proofs.Interface.{nth_where-found}
@@ -14,11 +15,14 @@ use Rattle.fsb_signal.specs.declared.marks.Marks.{Marks}
 use Rattle.fsb_signal.specs.Samples.{line_at}
 use Rattle.fsb_trace.specs.At.{Trace, responds_at, response_code_at}
 use Rattle.fsb_trace.specs.declared.outcome.Outcome.{Outcome}
-use Rattle.fsb_trace.specs.Outcome.{outcome_by_kind, response_code_of, response_clock_of, told_by, outcome_of, settled_by}
-use Rattle.fsb_trace.specs.Requests.{live_count, live_request_of, is_write_back, is_write_back_kind, is_upgrade, is_upgrade_kind}
+use Rattle.fsb_trace.specs.Outcome.{outcome_by_kind, response_code_of, response_clock_of, told_by, outcome_of}
+use Rattle.fsb_trace.specs.Outcome.{settled_by}
+use Rattle.fsb_trace.specs.Requests.{live_count, live_request_of, is_write_back, is_write_back_kind, is_upgrade}
+use Rattle.fsb_trace.specs.Requests.{is_upgrade_kind}
 use Rattle.fsb_trace.specs.Rules.{has_den, is_code_for, has_code_at, responds_soundly, is_code_wrong, next_response}
 use Rattle.fsb_trace.specs.Snoop.{snoop_end_of, line_at_snoop_end}
-use Rattle.fsb_trace.proofs.Interface.{breaks-14, live_response_of-there, responds_at-agree, response_code_at-agree, snoop_end_of-stays}
+use Rattle.fsb_trace.proofs.Interface.{breaks-14, live_response_of-there, responds_at-agree, response_code_at-agree}
+use Rattle.fsb_trace.proofs.Interface.{snoop_end_of-stays}
 use Rattle.fsb_timely.specs.Moments.{number_of_turn}
 use Rattle.fsb_timely.specs.Snoops.{is_keep, live_choice}
 use Rattle.fsb_timely.specs.Runs.{Run, run_to, past_of}
@@ -48,7 +52,8 @@ kept-fits : (w : Trace) (i s : ℕ) (request : Request) (kind : Kind) → snoop_
     → line_at HITM w s ≡ false → line_at DEFER w s ≡ false → live_request_of w i ≡ Some request
     → request.kind ≡ kind
     → is_code_for w i (response_code_of (settled_by w (number_of_turn Keep) i s)) ≡ true
-unfolding is_code_for settled_by line_at_snoop_end is_some_and response_code_of number_of_turn outcome_by_kind is_write_back is_write_back_kind is_upgrade is_upgrade_kind
+unfolding is_code_for settled_by line_at_snoop_end is_some_and response_code_of number_of_turn outcome_by_kind
+    is_write_back is_write_back_kind is_upgrade is_upgrade_kind
 kept-fits w i s request Reply e f d q k = rw (e, f, d, q, k) refl
 kept-fits w i s request Invalidate e f d q k = rw (e, f, d, q, k) refl
 kept-fits w i s request Read e f d q k = rw (e, f, d, q, k) refl
@@ -87,7 +92,8 @@ code-fits w i s Keep request false e f q d fits = kept-fits w i s request reques
 code-fits w i s Retry request false e f q d fits =
     retried-fits w i s request e f d q (not-written request.kind (λ t. let no : Retry ≡ Keep = fits.keeps t in cc no))
 code-fits w i s (Defer later) request false e f q d fits =
-    deferred-fits w i s later request e f d q (not-written request.kind (λ t. let no : Defer later ≡ Keep = fits.keeps t in cc no)) (fits.has_den refl)
+    deferred-fits w i s later request e f d q
+    (not-written request.kind (λ t. let no : Defer later ≡ Keep = fits.keeps t in cc no)) (fits.has_den refl)
 
 told-handed : (w : Trace) (i s turn : ℕ) → snoop_end_of w i ≡ Some s → line_at HITM w s ≡ true
     → told_by w i (response_code_of (settled_by w turn i s)) ≡ settled_by w turn i s
@@ -134,7 +140,8 @@ told-by w i s turn false false false (Some request) e f g k q = told-kind w i s 
 -- the code of a settled outcome tells that outcome
 pub told-settled : (w : Trace) (i s turn : ℕ) → snoop_end_of w i ≡ Some s
     → told_by w i (response_code_of (settled_by w turn i s)) ≡ settled_by w turn i s
-told-settled w i s turn e = told-by w i s turn (line_at HITM w s) (nat_eq turn 1) (nat_le 2 turn) (live_request_of w i) e refl refl refl refl
+told-settled w i s turn e = told-by w i s turn (line_at HITM w s) (nat_eq turn 1) (nat_le 2 turn)
+    (live_request_of w i) e refl refl refl refl
 
 code_by : (v : Run) (c i : ℕ) (x : Outcome) → number_responding v c ≡ Some i
     → settled_of v (past_of v) i ≡ Some x → code_due v (past_of v) c ≡ response_code_of x
@@ -144,11 +151,14 @@ code_by v c i x n e = rw (n, e) refl
 -- the code of a response is that of the settled outcome of the next request to respond
 code-settled : (r : Run) (c s : ℕ) → Timely r → c < length r.trace → responds_at (run_to r c).trace c ≡ true
     → (k : Turned r c (next_response (run_to r c).trace c) s)
-    → response_code_at (run_to r c).trace c ≡ response_code_of (settled_by (run_to r c).trace (number_of_turn k.end.turn) (next_response (run_to r c).trace c) s)
+    → response_code_at (run_to r c).trace c
+    ≡ response_code_of (settled_by (run_to r c).trace (number_of_turn k.end.turn)
+    (next_response (run_to r c).trace c) s)
 code-settled r c s h l t k =
     let v = run_to r c in
     let i = next_response v.trace c in
-    (transfers-at r c h l).code ∙ code_by v c i (settled_by v.trace (number_of_turn k.end.turn) i s) (answered-next r c h l t).0 k.settled
+    (transfers-at r c h l).code
+    ∙ code_by v c i (settled_by v.trace (number_of_turn k.end.turn) i s) (answered-next r c h l t).0 k.settled
 
 has-code : (r : Run) (c : ℕ) → Timely r → WantsLawfully r → c < length r.trace
     → responds_at (run_to r c).trace c ≡ true
@@ -164,7 +174,8 @@ has-code r c h wants l t =
     let q = decoded-live r c i s h wants l a.is_snoop in
     and_from (nat_lt i (live_count v)) (is_code_for v i (response_code_at v c)) (lt-ltb i (live_count v) now.1)
     (ap (is_code_for v i) (code-settled r c s h l t turned)
-    ∙ code-fits v i s turned.end.turn q.0 (line_at HITM v s) a.is_snoop refl q.1 turned.defers (turned.effective q.0 q.1))
+    ∙ code-fits v i s turned.end.turn q.0 (line_at HITM v s) a.is_snoop refl q.1 turned.defers
+    (turned.effective q.0 q.1))
 
 responds_by : (v : Trace) (c : ℕ) → responds_soundly v c ≡ true → responds_at v c ≡ true
 unfolding responds_soundly
@@ -175,7 +186,8 @@ at-clock : (r : Run) (c : ℕ) → Timely r → WantsLawfully r → c < length r
 unfolding is_code_wrong
 at-clock r c h wants l =
     let v = (run_to r c).trace in
-    and-fails (responds_soundly v c) (not (has_code_at v c (next_response v c))) (λ t. ap not (has-code r c h wants l (responds_by v c t)))
+    and-fails (responds_soundly v c) (not (has_code_at v c (next_response v c)))
+    (λ t. ap not (has-code r c h wants l (responds_by v c t)))
 
 -- rule 14
 pub keeps-14 : (m : Marks) (r : Run) → Timely r → WantsLawfully r → Keeps m 14 r.trace
@@ -188,7 +200,8 @@ pub record AnsweredAs (r : Run) (t i : ℕ) : Type 0 where
   pub is_snoop : snoop_end_of (run_to r t).trace i ≡ Some snoop
   pub before : snoop + 2 ≤ t
   pub turned : Turned r t i snoop
-  pub code : response_code_at (run_to r t).trace t ≡ response_code_of (settled_by (run_to r t).trace (number_of_turn turned.end.turn) i snoop)
+  pub code : response_code_at (run_to r t).trace t
+      ≡ response_code_of (settled_by (run_to r t).trace (number_of_turn turned.end.turn) i snoop)
 
 pub answered-as : (r : Run) (t i : ℕ) → Timely r → t < length r.trace → responds_at (run_to r t).trace t ≡ true
     → next_response (run_to r t).trace t ≡ i → AnsweredAs r t i
@@ -197,7 +210,13 @@ answered-as r t i h l k same =
     let n = next_response v t in
     let a = responding-answer v (live_choice r n).resp t n (answered-next r t h l k).2 in
     let turned = turned-at r t n a.snoop h l a.is_snoop in
-    subst (AnsweredAs r t) same (record { snoop = a.snoop; is_snoop = a.is_snoop; before = a.before; turned = turned; code = code-settled r t a.snoop h l k turned })
+    subst (AnsweredAs r t) same (record {
+      snoop = a.snoop;
+      is_snoop = a.is_snoop;
+      before = a.before;
+      turned = turned;
+      code = code-settled r t a.snoop h l k turned;
+    })
 
 -- what is told of a request that responded is what was settled
 pub record ToldAsSettled (r : Run) (c i t : ℕ) : Type 0 where
@@ -207,7 +226,8 @@ pub record ToldAsSettled (r : Run) (c i t : ℕ) : Type 0 where
   pub outcome : outcome_of (run_to r c).trace i ≡ settled_of (run_to r c) (past_of (run_to r c)) i
 
 same-settled : (r : Run) (t c i s : ℕ) (j : Turned r t i s) (k : Turned r c i s)
-    → settled_by (run_to r t).trace (number_of_turn j.end.turn) i s ≡ settled_by (run_to r c).trace (number_of_turn k.end.turn) i s
+    → settled_by (run_to r t).trace (number_of_turn j.end.turn) i s
+    ≡ settled_by (run_to r c).trace (number_of_turn k.end.turn) i s
 same-settled r t c i s j k =
     let a = j.settled in
     let b = j.outcome in
@@ -235,16 +255,19 @@ told-as-settled r c i t h l e =
     let below : t < length v = p.0 in
     let agree = cuts-agree r t c (omega arith) l in
     let place = next-same r t c (omega arith) l ∙ p.2 in
-    let now = answered-as r t i h (omega arith) (responds_at-agree (t + 1) (run_to r t).trace v t agree (omega arith) ∙ p.1) place in
+    let now = answered-as r t i h (omega arith)
+    (responds_at-agree (t + 1) (run_to r t).trace v t agree (omega arith) ∙ p.1) place in
     let s : ℕ = now.snoop in
     let before : s + 2 ≤ t = now.before in
     let there = snoop_end_of-stays (t + 1) (run_to r t).trace v i s agree (omega arith) now.is_snoop in
     let turned = turned-at r c i s h l there in
     let n = number_of_turn turned.end.turn in
-    let code = sym (response_code_at-agree (t + 1) (run_to r t).trace v t agree (omega arith)) ∙ now.code ∙ ap response_code_of (same-settled r t c i s now.turned turned) in
+    let code = sym (response_code_at-agree (t + 1) (run_to r t).trace v t agree (omega arith)) ∙ now.code
+    ∙ ap response_code_of (same-settled r t c i s now.turned turned) in
     record {
       snoop = s;
       is_snoop = there;
       before = before;
-      outcome = outcome-at v i s t (response_code_of (settled_by v n i s)) there e code ∙ ap Some (told-settled v i s n there) ∙ sym turned.settled;
+      outcome = outcome-at v i s t (response_code_of (settled_by v n i s)) there e code
+          ∙ ap Some (told-settled v i s n there) ∙ sym turned.settled;
     }

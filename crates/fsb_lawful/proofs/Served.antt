@@ -1,5 +1,6 @@
 -- A grant, as the whole trace shows it: the live request whose snoop end makes it, and the one that it serves.
-use Rattle.std.proofs.Common.{ℕ, ◌+◌, ◌<◌, ◌≡◌, Bool, true, false, ◌&&◌, List, Option, Some, None, length, nat_eq, refl, sym, ap, subst, ◌∙◌, ◌⊎◌, arith, inl, inr}
+use Rattle.std.proofs.Common.{ℕ, ◌+◌, ◌<◌, ◌≡◌, Bool, true, false, ◌&&◌, List, Option, Some, None, length, nat_eq, refl}
+use Rattle.std.proofs.Common.{sym, ap, subst, ◌∙◌, ◌⊎◌, arith, inl, inr}
 use Rattle.std.specs.Option.{option_and_then}
 use Rattle.std.proofs.lemmas.Bool.{and_parts, eqb-true}
 use Rattle.fsb_count.specs.Options.{is_at, is_some_and}
@@ -12,7 +13,9 @@ use Rattle.fsb_trace.specs.Requests.{is_reply, live_clock_of, live_request_of}
 use Rattle.fsb_trace.specs.Snoop.{snoop_end_of}
 use Rattle.fsb_trace.proofs.Interface.{AgreeTo-sym, snoop_end_of-stays}
 use Rattle.fsb_timely.specs.Grants.{grant_at, is_granted, snooped_at}
-use Rattle.fsb_timely.specs.Moments.{claim_at, gives_line, grant_for, grant_of, grant_to, is_answered_by, is_owner_request, is_shared_at, live_claim_of, moment_at, number_snooped_at, served_number, snoop_at, snoop_end_if_begun, turns_in}
+use Rattle.fsb_timely.specs.Moments.{claim_at, gives_line, grant_for, grant_of, grant_to, is_answered_by}
+use Rattle.fsb_timely.specs.Moments.{is_owner_request, is_shared_at, live_claim_of, moment_at, number_snooped_at}
+use Rattle.fsb_timely.specs.Moments.{served_number, snoop_at, snoop_end_if_begun, turns_in}
 use Rattle.fsb_timely.specs.Past.{Claim, Grant, Past, SnoopEnd}
 use Rattle.fsb_timely.specs.Runs.{Run, moments_below, past_of, past_with, run_to}
 use Rattle.fsb_timely.specs.Tied.{IsSnoopOf}

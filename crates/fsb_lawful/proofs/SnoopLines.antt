@@ -1,5 +1,6 @@
 -- Rule 11: the snoop lines of a timely run are at snoop clocks alone.
-use Rattle.std.proofs.Common.{ℕ, zero, suc, ◌+◌, ◌<◌, ◌≡◌, Bool, true, false, not, ◌&&◌, ◌||◌, Option, Some, None, length, take, refl, sym, ap, ◌∙◌, arith}
+use Rattle.std.proofs.Common.{ℕ, zero, suc, ◌+◌, ◌<◌, ◌≡◌, Bool, true, false, not, ◌&&◌, ◌||◌, Option, Some, None}
+use Rattle.std.proofs.Common.{length, take, refl, sym, ap, ◌∙◌, arith}
 use Rattle.std.specs.Option.{option_and_then}
 use Rattle.std.proofs.lemmas.Bool.{and_parts, le-ltb, lt-ltb}
 use Rattle.fsb_count.specs.Options.{is_some_and, is_before}
@@ -9,13 +10,15 @@ use Rattle.fsb_signal.specs.declared.marks.Marks.{Marks}
 use Rattle.fsb_signal.specs.Samples.{line_at}
 use Rattle.fsb_trace.specs.At.{Trace, stalls_at}
 use Rattle.fsb_trace.specs.Requests.{live_count}
-use Rattle.fsb_trace.specs.Snoop.{is_every_second_from, ends_snoop, snoop_end_from, snoop_end_if, snoop_end_of, snoop_start_of, is_snoop_clock_of, is_snoop_clock}
+use Rattle.fsb_trace.specs.Snoop.{is_every_second_from, ends_snoop, snoop_end_from, snoop_end_if, snoop_end_of}
+use Rattle.fsb_trace.specs.Snoop.{snoop_start_of, is_snoop_clock_of, is_snoop_clock}
 use Rattle.fsb_trace.specs.Rules.{is_snoop_line_alone}
 use Rattle.fsb_trace.proofs.Interface.{breaks-11, live_below_count, snoop_end_of-clock}
 use Rattle.fsb_timely.specs.Moments.{moment_at, snoop_at, number_snooped_at}
 use Rattle.fsb_timely.specs.Past.{Past, SnoopEnd}
 use Rattle.fsb_timely.specs.Runs.{Run, run_to, past_of, past_to}
-use Rattle.fsb_timely.specs.Snoops.{is_keep, is_put_off, drives_bnr, drives_aerr, drives_stalls, drives_defer, keeps_snoop_lines, drives_hazards}
+use Rattle.fsb_timely.specs.Snoops.{is_keep, is_put_off, drives_bnr, drives_aerr, drives_stalls, drives_defer}
+use Rattle.fsb_timely.specs.Snoops.{keeps_snoop_lines, drives_hazards}
 use Rattle.fsb_timely.specs.Timely.{holds_in, holds_at, Timely}
 use Rattle.fsb_timely.proofs.Interface.{moment_of, number-says, snooped-there}
 use Rattle.fsb_lawful.specs.Keeps.{Keeps}
@@ -33,7 +36,8 @@ second_by : (w : Trace) (s : ℕ) (o : Option ℕ) → option_and_then (snoop_en
 unfolding is_some_and snoop_end_from ends_snoop
 second_by w s None e = absurd (let no : ⊥ = cc in no)
 second_by w s (Some n) e =
-    let h = first_where-found (ends_snoop w n) (length w) s e in (and_parts (is_every_second_from n s) (not (stalls_at w s)) h.1).0
+    let h = first_where-found (ends_snoop w n) (length w) s e in
+    (and_parts (is_every_second_from n s) (not (stalls_at w s)) h.1).0
 
 -- it is every second clock from that start
 second : (w : Trace) (i s : ℕ) → snoop_end_of w i ≡ Some s
@@ -50,7 +54,8 @@ pub end-is_snoop_clock : (w : Trace) (i s : ℕ) → snoop_end_of w i ≡ Some s
 unfolding is_snoop_clock is_snoop_clock_of
 end-is_snoop_clock w i s e =
     let h = snoop_end_of-clock w i s e in
-    any_where-at (is_snoop_clock_of w s) (live_count w) i (live_below_count w i h.clock h.is_clock) (rw (lt-ltb s (length w) h.within, second w i s e, not-before s (snoop_end_of w i) e) refl)
+    any_where-at (is_snoop_clock_of w s) (live_count w) i (live_below_count w i h.clock h.is_clock)
+    (rw (lt-ltb s (length w) h.within, second w i s e, not-before s (snoop_end_of w i) e) refl)
 
 -- where the moment of a clock has a snoop end, the clock is one
 numbered : (r : Run) (c : ℕ) (test : SnoopEnd → Bool) (o : Option ℕ)
@@ -65,7 +70,8 @@ put_off-end : (r : Run) (c : ℕ) → c < length r.trace → is_put_off (past_to
 unfolding is_put_off
 put_off-end r c l h =
     let there = snooped-to (past_of r) c c (omega arith) ∙ snooped-there r c l in
-    numbered r c (λ s. not (is_keep s.turn)) (number_snooped_at (run_to r c).trace c) refl (sym (ap (λ o. is_some_and o (λ s. not (is_keep s.turn))) there) ∙ h)
+    numbered r c (λ s. not (is_keep s.turn)) (number_snooped_at (run_to r c).trace c) refl
+    (sym (ap (λ o. is_some_and o (λ s. not (is_keep s.turn))) there) ∙ h)
 
 alone : (h m d k : Bool) → (k || not (h || m)) ≡ true → (d ≡ true → k ≡ true) → ((h || m || d) && not k) ≡ false
 alone h m d true e f = and-not-true (h || m || d)
@@ -82,14 +88,17 @@ by-parts : (r : Run) (p : Past) (c : ℕ) → drives_hazards r p c ≡ true
     → (is_put_off p c ≡ true → is_snoop_clock r.trace c ≡ true) → is_snoop_line_alone r.trace c ≡ false
 unfolding drives_hazards drives_defer keeps_snoop_lines is_snoop_line_alone
 by-parts r p c e f =
-    let a = and5 (drives_bnr r c) (drives_aerr r c) (drives_stalls r c) (drives_defer r p c) (keeps_snoop_lines r c) e in
+    let a = and5 (drives_bnr r c) (drives_aerr r c) (drives_stalls r c) (drives_defer r p c)
+    (keeps_snoop_lines r c) e in
     let same = same-beq (line_at DEFER r.trace c) (is_put_off p c) a.3 in
-    alone (line_at HIT r.trace c) (line_at HITM r.trace c) (line_at DEFER r.trace c) (is_snoop_clock r.trace c) a.4 (λ t. f (sym same ∙ t))
+    alone (line_at HIT r.trace c) (line_at HITM r.trace c) (line_at DEFER r.trace c) (is_snoop_clock r.trace c)
+    a.4 (λ t. f (sym same ∙ t))
 
 at-clock : (r : Run) (c : ℕ) → Timely r → c < length r.trace → is_snoop_line_alone (run_to r c).trace c ≡ false
 unfolding holds_at holds_in
 at-clock r c h l =
-    by-parts (run_to r c) (past_to (past_of r) c) c (h.hazard_lines.at c l) (λ t. let e = put_off-end r c l t in end-is_snoop_clock (run_to r c).trace e.0 c e.1)
+    by-parts (run_to r c) (past_to (past_of r) c) c (h.hazard_lines.at c l) (λ t. let e = put_off-end r c l t in
+    end-is_snoop_clock (run_to r c).trace e.0 c e.1)
 
 -- rule 11
 pub keeps-11 : (m : Marks) (r : Run) → Timely r → Keeps m 11 r.trace

@@ -1,5 +1,6 @@
 -- Rule 12: at the snoop end of a write-back or a reply of a timely run there is nothing to be told.
-use Rattle.std.proofs.Common.{nat_eq, Option, None, sym, ℕ, ◌+◌, ◌<◌, ◌≡◌, Bool, true, false, not, ◌&&◌, ◌||◌, Some, length, take, refl, ap, ◌∙◌, arith}
+use Rattle.std.proofs.Common.{nat_eq, Option, None, sym, ℕ, ◌+◌, ◌<◌, ◌≡◌, Bool, true, false, not, ◌&&◌, ◌||◌, Some}
+use Rattle.std.proofs.Common.{length, take, refl, ap, ◌∙◌, arith}
 use Rattle.std.proofs.lemmas.Bool.{and_parts, and_left, and_right}
 use Rattle.std.specs.Bool.{beq}
 use Rattle.fsb_count.specs.Options.{is_at, is_some_and}
@@ -11,7 +12,8 @@ use Rattle.fsb_hazard.specs.Choice.{is_never_held_up}
 use Rattle.fsb_signal.specs.declared.lines.TheConstants.Lines.{HIT, HITM, DEFER}
 use Rattle.fsb_signal.specs.declared.marks.Marks.{Marks}
 use Rattle.fsb_signal.specs.Samples.{line_at}
-use Rattle.fsb_trace.specs.Requests.{is_reply, is_reply_kind, is_write_back, is_write_back_kind, live_count, live_request_of}
+use Rattle.fsb_trace.specs.Requests.{is_reply, is_reply_kind, is_write_back, is_write_back_kind, live_count}
+use Rattle.fsb_trace.specs.Requests.{live_request_of}
 use Rattle.fsb_trace.specs.Rules.{is_result_unfit_for, is_snoop_result_unfit}
 use Rattle.fsb_trace.specs.Snoop.{snoop_end_of}
 use Rattle.fsb_trace.proofs.Interface.{breaks-12}
@@ -19,7 +21,8 @@ use Rattle.fsb_timely.specs.Grants.{holds_line, is_exclusive, snooped_at}
 use Rattle.fsb_timely.specs.Hits.{is_dirty}
 use Rattle.fsb_timely.specs.Past.{Claim, Past, SnoopEnd}
 use Rattle.fsb_timely.specs.Runs.{Run, past_of, past_to, run_to}
-use Rattle.fsb_timely.specs.Snoops.{has_right_result, has_snoop_result, is_dirty_elsewhere, is_dirty_for, is_held_elsewhere, is_held_for, is_keep, is_reply_end, was_hit_before}
+use Rattle.fsb_timely.specs.Snoops.{has_right_result, has_snoop_result, is_dirty_elsewhere, is_dirty_for}
+use Rattle.fsb_timely.specs.Snoops.{is_held_elsewhere, is_held_for, is_keep, is_reply_end, was_hit_before}
 use Rattle.fsb_timely.specs.Timely.{holds_in, holds_at, Timely}
 use Rattle.fsb_lawful.specs.Beginning.{WantsLawfully}
 use Rattle.fsb_lawful.specs.Keeps.{Keeps}
@@ -38,7 +41,8 @@ right-at : (r : Run) (c : ℕ) (s : SnoopEnd) → Timely r → c < length r.trac
     → has_right_result (run_to r c) (past_to (past_of r) c) c s ≡ true
 unfolding holds_at holds_in
 right-at r c s h l there =
-    right-by (run_to r c) (past_to (past_of r) c) c s (h.snoop_results.at c l) (snooped-to (past_of r) c c (omega arith) ∙ there)
+    right-by (run_to r c) (past_to (past_of r) c) c s (h.snoop_results.at c l)
+    (snooped-to (past_of r) c c (omega arith) ∙ there)
 
 reply-end : (s : SnoopEnd) (kind : Kind) → s.kind ≡ Some kind → is_reply_end s ≡ is_reply_kind kind
 unfolding is_reply_end is_some_and
@@ -49,15 +53,19 @@ at-reply : (r : Run) (p : Past) (c : ℕ) (s : SnoopEnd) → has_right_result r 
     → line_at HITM r.trace c ≡ false
 unfolding has_right_result
 at-reply r p c s e k =
-    let e' = rw (k, has_right_result) at e in not-true (line_at HITM r.trace c) (and_parts (beq (line_at HIT r.trace c) (was_hit_before r p c)) (not (line_at HITM r.trace c)) e').1
+    let e' = rw (k, has_right_result) at e in
+    not-true (line_at HITM r.trace c)
+    (and_parts (beq (line_at HIT r.trace c) (was_hit_before r p c)) (not (line_at HITM r.trace c)) e').1
 
 at-other : (r : Run) (p : Past) (c : ℕ) (s : SnoopEnd) → has_right_result r p c s ≡ true
     → is_reply_end s ≡ false
-    → (line_at HITM r.trace c ≡ is_dirty_for p c s) × (line_at HIT r.trace c ≡ (not (is_dirty_for p c s) && is_held_for p c s))
+    → (line_at HITM r.trace c ≡ is_dirty_for p c s)
+    × (line_at HIT r.trace c ≡ (not (is_dirty_for p c s) && is_held_for p c s))
 unfolding has_right_result
 at-other r p c s e k =
     let e' = rw (k, has_right_result) at e in
-    let a = and_parts (beq (line_at HITM r.trace c) (is_dirty_for p c s)) (beq (line_at HIT r.trace c) (not (is_dirty_for p c s) && is_held_for p c s)) e' in
+    let a = and_parts (beq (line_at HITM r.trace c) (is_dirty_for p c s))
+    (beq (line_at HIT r.trace c) (not (is_dirty_for p c s) && is_held_for p c s)) e' in
     (same-beq _ _ a.0, same-beq _ _ a.1)
 
 -- a reply has no HITM#
@@ -79,19 +87,24 @@ alone-clean r p c s e k dirty held =
 dirty-holds : (p : Past) (a line c : ℕ) → is_dirty p a line c ≡ true → holds_line p a line c ≡ true
 unfolding is_dirty is_exclusive
 dirty-holds p a line c e =
-    (and_parts (holds_line p a line c) _ (and_parts (holds_line p a line c && _) _ (and_parts (is_exclusive p a line c) _ e).0).0).0
+    (and_parts (holds_line p a line c) _
+    (and_parts (holds_line p a line c && _) _ (and_parts (is_exclusive p a line c) _ e).0).0).0
 
 not-dirty : (p : Past) (a line c : ℕ) → is_held_elsewhere p a line c ≡ false → is_dirty_elsewhere p a line c ≡ false
 unfolding is_held_elsewhere is_dirty_elsewhere
 not-dirty p a line c e =
-    any_where-off (λ b. not (nat_eq b a) && is_dirty p b line c) 4 (λ b l. neither (not (nat_eq b a)) (holds_line p b line c) (is_dirty p b line c) (any_where-none (λ b. not (nat_eq b a) && holds_line p b line c) 4 e b l) (dirty-holds p b line c))
+    any_where-off (λ b. not (nat_eq b a) && is_dirty p b line c) 4
+    (λ b l. neither (not (nat_eq b a)) (holds_line p b line c) (is_dirty p b line c)
+    (any_where-none (λ b. not (nat_eq b a) && holds_line p b line c) 4 e b l) (dirty-holds p b line c))
   where
-    neither : (other held dirty : Bool) → (other && held) ≡ false → (dirty ≡ true → held ≡ true) → (other && dirty) ≡ false
+    neither : (other held dirty : Bool) → (other && held) ≡ false → (dirty ≡ true → held ≡ true)
+        → (other && dirty) ≡ false
     neither false held dirty f g = refl
     neither true held false f g = refl
     neither true held true f g = sym (g refl) ∙ f
 
-clean-for : (p : Past) (c : ℕ) (s : SnoopEnd) (o : Option Claim) → s.claim ≡ o → is_held_for p c s ≡ false → is_dirty_for p c s ≡ false
+clean-for : (p : Past) (c : ℕ) (s : SnoopEnd) (o : Option Claim) → s.claim ≡ o → is_held_for p c s ≡ false
+    → is_dirty_for p c s ≡ false
 unfolding is_held_for is_dirty_for is_some_and
 clean-for p c s None e h = rw e refl
 clean-for p c s (Some claim) e h = rw e (not-dirty p claim.agent claim.line c (rw e at h))
@@ -119,7 +132,9 @@ kind-is r c i k request kind q e = k.kind request q ∙ ap Some e
 
 ended : (r : Run) (c i : ℕ) → Timely r → WantsLawfully r → WritesBackAlone r → c < length r.trace
     → snoop_end_of (run_to r c).trace i ≡ Some c
-    → ((is_write_back (live_request_of (run_to r c).trace i) || is_reply (live_request_of (run_to r c).trace i)) && (line_at HITM (run_to r c).trace c || line_at DEFER (run_to r c).trace c) || is_write_back (live_request_of (run_to r c).trace i) && line_at HIT (run_to r c).trace c) ≡ false
+    → ((is_write_back (live_request_of (run_to r c).trace i) || is_reply (live_request_of (run_to r c).trace i))
+    && (line_at HITM (run_to r c).trace c || line_at DEFER (run_to r c).trace c)
+    || is_write_back (live_request_of (run_to r c).trace i) && line_at HIT (run_to r c).trace c) ≡ false
 unfolding is_write_back is_reply is_some_and is_write_back_kind
 ended r c i h wants alone l e =
     let v = (run_to r c).trace in
@@ -130,22 +145,27 @@ ended r c i h wants alone l e =
     (λ t. kept-quiet r c i k q.0 q.1 t)
     (λ t. reply-clean (run_to r c) (past_to (past_of r) c) c k.end right (kind-is r c i k q.0 Reply q.1 t))
     (λ t. let w = kind-is r c i k q.0 WriteBack q.1 t in
-    alone-clean (run_to r c) (past_to (past_of r) c) c k.end right w (clean-for (past_to (past_of r) c) c k.end k.end.claim refl (alone.alone c k.end k.there (rw w refl))) (alone.alone c k.end k.there (rw w refl))))
+    alone-clean (run_to r c) (past_to (past_of r) c) c k.end right w
+    (clean-for (past_to (past_of r) c) c k.end k.end.claim refl (alone.alone c k.end k.there (rw w refl)))
+    (alone.alone c k.end k.there (rw w refl))))
 
 unfit : (r : Run) (c i : ℕ) → Timely r → WantsLawfully r → WritesBackAlone r → c < length r.trace → (b : Bool)
     → is_at (snoop_end_of (run_to r c).trace i) c ≡ b → is_result_unfit_for (run_to r c).trace c i ≡ false
 unfolding is_result_unfit_for
 unfit r c i h wants alone l false e = and_left _ _ e
-unfit r c i h wants alone l true e = and_right _ _ (ended r c i h wants alone l (is_at-some (snoop_end_of (run_to r c).trace i) c e))
+unfit r c i h wants alone l true e =
+    and_right _ _ (ended r c i h wants alone l (is_at-some (snoop_end_of (run_to r c).trace i) c e))
 
 at-clock : (r : Run) (c : ℕ) → Timely r → WantsLawfully r → WritesBackAlone r → c < length r.trace
     → is_snoop_result_unfit (run_to r c).trace c ≡ false
 unfolding is_snoop_result_unfit
 at-clock r c h wants alone l =
     let v = (run_to r c).trace in
-    any_where-off (is_result_unfit_for v c) (live_count v) (λ i m. unfit r c i h wants alone l (is_at (snoop_end_of v i) c) refl)
+    any_where-off (is_result_unfit_for v c) (live_count v)
+    (λ i m. unfit r c i h wants alone l (is_at (snoop_end_of v i) c) refl)
 
 -- rule 12
 pub keeps-12 : (m : Marks) (r : Run) → Timely r → WantsLawfully r → WritesBackAlone r → Keeps m 12 r.trace
 unfolding run_to
-keeps-12 m r h wants alone = keeps m 12 r.trace (λ c l. breaks-12 m (take (c + 1) r.trace) c ∙ at-clock r c h wants alone l)
+keeps-12 m r h wants alone = keeps m 12 r.trace (λ c l. breaks-12 m (take (c + 1) r.trace) c
+    ∙ at-clock r c h wants alone l)

@@ -1,5 +1,6 @@
 -- A want stays until its request begins.
-use Rattle.std.proofs.Common.{ℕ, suc, ◌+◌, ◌<◌, ◌≡◌, true, false, ◌&&◌, List, [], ◌∷◌, ◌++◌, Option, Some, None, is_some, length, nat_le, nat_lt, refl, sym, ap, ◌∙◌, arith, inl, inr, add-one}
+use Rattle.std.proofs.Common.{ℕ, suc, ◌+◌, ◌<◌, ◌≡◌, true, false, ◌&&◌, List, [], ◌∷◌, ◌++◌, Option, Some, None}
+use Rattle.std.proofs.Common.{is_some, length, nat_le, nat_lt, refl, sym, ap, ◌∙◌, arith, inl, inr, add-one}
 use Rattle.std.specs.List.{list_all}
 use Rattle.std.proofs.lemmas.Bool.{and_from, and_parts, cases_Bool, le-leb, leb-false, leb-true, lt-leb}
 use Rattle.fsb_access.specs.declared.log.Done.{Done}
@@ -22,7 +23,8 @@ record IsCut (c : ℕ) (log : List Done) : Type 0 where
   pub whole : log ≡ entries_to c log ++ later
   pub behind : list_all (λ done. nat_le (c + 1) done.clock) later ≡ true
 
-all-later : (c first n : ℕ) (log : List Done) → c < first → is_in_time first n log ≡ true → (entries_to c log ≡ []) × (list_all (λ done. nat_le (c + 1) done.clock) log ≡ true)
+all-later : (c first n : ℕ) (log : List Done) → c < first → is_in_time first n log ≡ true
+    → (entries_to c log ≡ []) × (list_all (λ done. nat_le (c + 1) done.clock) log ≡ true)
 unfolding is_in_time entries_to
 all-later c first n [] l e = (refl, refl)
 all-later c first n (done ∷ log) l e =
@@ -40,11 +42,16 @@ cut c first n (done ∷ log) e =
     let a = and_parts (nat_le first done.clock) (nat_lt done.clock n && is_in_time done.clock n log) e in
     let b = and_parts (nat_lt done.clock n) (is_in_time done.clock n log) a.1 in
     elim (cases_Bool (nat_le done.clock c)) [
-      | inl early ↦ let rest = cut c done.clock n log b.1 in record { later = rest.later; whole = rw early (ap (λ xs. done ∷ xs) rest.whole); behind = rest.behind }
+      | inl early ↦ let rest = cut c done.clock n log b.1 in
+          record { later = rest.later; whole = rw early (ap (λ xs. done ∷ xs) rest.whole); behind = rest.behind }
       | inr late ↦
           let more = leb-false done.clock c late in
           let rest = all-later c done.clock n log more b.1 in
-          record { later = done ∷ log; whole = rw (late, rest.0) refl; behind = and_from _ _ (le-leb (c + 1) done.clock (omega arith)) rest.1 }
+          record {
+            later = done ∷ log;
+            whole = rw (late, rest.0) refl;
+            behind = and_from _ _ (le-leb (c + 1) done.clock (omega arith)) rest.1;
+          }
     ]
 
 -- the whole past goes on from the past up to a clock
@@ -52,12 +59,19 @@ goes-on : (r : Run) (c : ℕ) → Timely r → GoesOn (c + 1) (past_to (past_of 
 unfolding past_of past_to
 goes-on r c h =
     let k = cut c 0 (length r.trace) r.log h.in_time in
-    record { same_plan = refl; same_moments = λ t l. moments-to (past_of r) c t (omega arith); entries = k.later; more_log = k.whole; at_end = k.behind }
+    record {
+      same_plan = refl;
+      same_moments = λ t l. moments-to (past_of r) c t (omega arith);
+      entries = k.later;
+      more_log = k.whole;
+      at_end = k.behind;
+    }
 
 want-same : (r : Run) (a c : ℕ) → Timely r → want_of (past_to (past_of r) c) a c ≡ want_of (past_of r) a c
 want-same r a c h =
     let g = goes-on r c h in
-    want_of-alike (c + 1) (past_to (past_of r) c) (past_of r) a c g (below_le c (c + 1) (omega arith)) (done_below (c + 1) (past_to (past_of r) c) a c g.entries (omega arith) g.at_end)
+    want_of-alike (c + 1) (past_to (past_of r) c) (past_of r) a c g (below_le c (c + 1) (omega arith))
+    (done_below (c + 1) (past_to (past_of r) c) a c g.entries (omega arith) g.at_end)
 
 some-is : {A : Type 0} (o : Option A) → is_some o ≡ true → (x : A) × (o ≡ Some x)
 some-is None e = absurd (let no : ⊥ = cc in no)

@@ -1,5 +1,6 @@
 -- Words over a test of a clock: all clocks that pass, and how many.
-use Rattle.std.proofs.Common.{ℕ, zero, suc, ◌+◌, ◌<◌, ◌≡◌, Bool, true, false, cond, ◌&&◌, nat_le, [], ◌∷◌, ◌++◌, drop, filter, length, refl, sym, ap, ◌∙◌, arith, inl, inr, add-one}
+use Rattle.std.proofs.Common.{ℕ, zero, suc, ◌+◌, ◌<◌, ◌≡◌, Bool, true, false, cond, ◌&&◌, nat_le, [], ◌∷◌, ◌++◌, drop}
+use Rattle.std.proofs.Common.{filter, length, refl, sym, ap, ◌∙◌, arith, inl, inr, add-one}
 use Rattle.std.proofs.lemmas.Bool.{cases_Bool, cases_lt, and_left, and_right, and_from, le-leb, lt-leb}
 use Rattle.std.proofs.lemmas.List.{length-append, drop-append-le, drop_all}
 use Rattle.std.proofs.lemmas.List.Elements.{filter-append}
@@ -19,7 +20,8 @@ pub all_where-more : (p : ℕ → Bool) (n : ℕ) → all_where p (n + 1) ≡ al
 unfolding all_where
 all_where-more p n = rw add-one refl
 
-one : (p r : ℕ → Bool) (n : ℕ) (b : Bool) (c : Bool) → r n ≡ c → cond (b && c) (n ∷ []) [] ≡ filter r (cond b (n ∷ []) [])
+one : (p r : ℕ → Bool) (n : ℕ) (b : Bool) (c : Bool) → r n ≡ c
+    → cond (b && c) (n ∷ []) [] ≡ filter r (cond b (n ∷ []) [])
 one p r n false c e = refl
 one p r n true true e = rw e refl
 one p r n true false e = rw e refl
@@ -46,28 +48,39 @@ unfolding all_where
 none_at_all p zero = refl
 none_at_all p (suc k) = refl
 
-drop_passed : (p : ℕ → Bool) (k n : ℕ) → p n ≡ true → all_where (λ q. p q && nat_le k (count_where p q)) n ≡ drop k (all_where p n) → all_where (λ q. p q && nat_le k (count_where p q)) (n + 1) ≡ drop k (all_where p (n + 1))
+drop_passed : (p : ℕ → Bool) (k n : ℕ) → p n ≡ true
+    → all_where (λ q. p q && nat_le k (count_where p q)) n ≡ drop k (all_where p n)
+    → all_where (λ q. p q && nat_le k (count_where p q)) (n + 1) ≡ drop k (all_where p (n + 1))
 drop_passed p k n t ih =
     let size : length (all_where p n) ≡ count_where p n = length-all_where p n in
     let grown : all_where p (n + 1) ≡ all_where p n ++ n ∷ [] = all_where-passed p n t in
     elim (cases_lt (count_where p n) k) [
       | inl few ↦
-          let longer : length (all_where p n ++ n ∷ []) ≡ length (all_where p n) + 1 = length-append (all_where p n) (n ∷ []) in
+          let longer : length (all_where p n ++ n ∷ []) ≡ length (all_where p n) + 1 =
+          length-append (all_where p n) (n ∷ []) in
           all_where-failed (λ q. p q && nat_le k (count_where p q)) n (and_right _ _ (lt-leb k (count_where p n) few))
-          ∙ ih ∙ drop_all k (all_where p n) (omega arith) ∙ sym (rw grown (drop_all k (all_where p n ++ n ∷ []) (omega arith)))
+          ∙ ih ∙ drop_all k (all_where p n) (omega arith)
+          ∙ sym (rw grown (drop_all k (all_where p n ++ n ∷ []) (omega arith)))
       | inr enough ↦
-          all_where-passed (λ q. p q && nat_le k (count_where p q)) n (and_from _ _ t (le-leb k (count_where p n) enough))
+          all_where-passed (λ q. p q && nat_le k (count_where p q)) n
+          (and_from _ _ t (le-leb k (count_where p n) enough))
           ∙ ap (λ xs. xs ++ n ∷ []) ih ∙ sym (rw grown (drop-append-le k (all_where p n) (n ∷ []) (omega arith)))
     ]
 
-drop_failed : (p : ℕ → Bool) (k n : ℕ) → p n ≡ false → all_where (λ q. p q && nat_le k (count_where p q)) n ≡ drop k (all_where p n) → all_where (λ q. p q && nat_le k (count_where p q)) (n + 1) ≡ drop k (all_where p (n + 1))
+drop_failed : (p : ℕ → Bool) (k n : ℕ) → p n ≡ false
+    → all_where (λ q. p q && nat_le k (count_where p q)) n ≡ drop k (all_where p n)
+    → all_where (λ q. p q && nat_le k (count_where p q)) (n + 1) ≡ drop k (all_where p (n + 1))
 drop_failed p k n f ih =
     all_where-failed (λ q. p q && nat_le k (count_where p q)) n (and_left _ _ f)
     ∙ ih ∙ sym (ap (drop k) (all_where-failed p n f))
 
 -- the clocks with k or more before them that pass
-pub all_where-drop : (p : ℕ → Bool) (k n : ℕ) → all_where (λ q. p q && nat_le k (count_where p q)) n ≡ drop k (all_where p n)
+pub all_where-drop : (p : ℕ → Bool) (k n : ℕ)
+    → all_where (λ q. p q && nat_le k (count_where p q)) n ≡ drop k (all_where p n)
 all_where-drop p k zero = none_at_all p k
 all_where-drop p k (suc n) =
     let e : suc n ≡ n + 1 = omega arith in
-    rw e (elim (cases_Bool (p n)) [ inl t ↦ drop_passed p k n t (all_where-drop p k n) | inr f ↦ drop_failed p k n f (all_where-drop p k n) ])
+    rw e (elim (cases_Bool (p n)) [
+      | inl t ↦ drop_passed p k n t (all_where-drop p k n)
+      | inr f ↦ drop_failed p k n f (all_where-drop p k n)
+    ])

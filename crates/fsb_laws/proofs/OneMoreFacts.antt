@@ -22,15 +22,18 @@ one_more h x =
     }
 
 -- at the old clocks nothing changes
-pub line_at-old : (line : Lines) (h : Trace) (x : Sample) (v : Trace) (c : ℕ) → OneMore h x v → c < length h → line_at line v c ≡ line_at line h c
+pub line_at-old : (line : Lines) (h : Trace) (x : Sample) (v : Trace) (c : ℕ) → OneMore h x v → c < length h
+    → line_at line v c ≡ line_at line h c
 line_at-old line h x v c m l = sym (line_at-agree line (length h) h v c m.agree l)
 
 -- at the new clock the trace has the sample
-pub line_at-new : (line : Lines) (h : Trace) (x : Sample) (v : Trace) → OneMore h x v → line_at line v (length h) ≡ has_line x line
+pub line_at-new : (line : Lines) (h : Trace) (x : Sample) (v : Trace) → OneMore h x v
+    → line_at line v (length h) ≡ has_line x line
 unfolding line_at
 line_at-new line h x v m = rw m.last refl
 
-pub response_code_at-new : (h : Trace) (x : Sample) (v : Trace) → OneMore h x v → response_code_at v (length h) ≡ response_of x
+pub response_code_at-new : (h : Trace) (x : Sample) (v : Trace) → OneMore h x v
+    → response_code_at v (length h) ≡ response_of x
 unfolding response_code_at
 response_code_at-new h x v m = rw m.last refl
 

@@ -1,5 +1,6 @@
 -- The ready clock of the next request to respond, one sample on.
-use Rattle.std.proofs.Common.{ℕ, zero, suc, ◌+◌, ◌<◌, ◌≤◌, ◌≡◌, true, false, cond, ◌&&◌, nat_le, Option, Some, None, length, max, refl, sym, ap, ◌∙◌, arith, inl, inr, subst}
+use Rattle.std.proofs.Common.{ℕ, zero, suc, ◌+◌, ◌<◌, ◌≤◌, ◌≡◌, true, false, cond, ◌&&◌, nat_le, Option, Some, None}
+use Rattle.std.proofs.Common.{length, max, refl, sym, ap, ◌∙◌, arith, inl, inr, subst}
 use Rattle.std.specs.Option.{option_map, option_and_then}
 use Rattle.std.proofs.lemmas.Bool.{cases_Bool, cases_lt, and_parts, and_from, leb-true, le-leb, both_ways, lt-ltb}
 use Rattle.fsb_count.specs.Options.{is_some_and, is_before, greater_of}
@@ -29,7 +30,8 @@ pub record HasReady (w : Trace) (i y : ℕ) : Type 0 where
   pub within : y < length w
   pub ready : line_at TRDY w y ≡ true
 
-ready_parts : (w : Trace) (i y : ℕ) (o : Option ℕ) → ready_after w i ≡ o → option_and_then (λ b. first_where (from_clock (b + 1) (line_at TRDY w)) (length w)) o ≡ Some y → HasReady w i y
+ready_parts : (w : Trace) (i y : ℕ) (o : Option ℕ) → ready_after w i ≡ o
+    → option_and_then (λ b. first_where (from_clock (b + 1) (line_at TRDY w)) (length w)) o ≡ Some y → HasReady w i y
 unfolding from_clock
 ready_parts w i y None e h = absurd (let no : ⊥ = cc in no)
 ready_parts w i y (Some b) e h =
@@ -43,12 +45,19 @@ unfolding ready_clock_of
 has_ready w i y e = ready_parts w i y (ready_after w i) refl e
 
 -- what the clock above which a target may be ready rests on: the request may be answered from the clock after it on
-after_first : (w : Trace) (b : ℕ) (o : Option ℕ) → snoop_end_of w 0 ≡ o → option_map (λ s. s + 1) o ≡ Some b → HasAnswer w (b + 1) 0
+after_first : (w : Trace) (b : ℕ) (o : Option ℕ) → snoop_end_of w 0 ≡ o → option_map (λ s. s + 1) o ≡ Some b
+    → HasAnswer w (b + 1) 0
 unfolding is_clear_before
 after_first w b None e f = absurd (let no : ⊥ = cc in no)
-after_first w b (Some s) e f = record { snoop = s; is_snoop = e; before = (let same : s + 1 ≡ b = cc in omega arith); clear = refl }
+after_first w b (Some s) e f = record {
+  snoop = s;
+  is_snoop = e;
+  before = (let same : s + 1 ≡ b = cc in omega arith);
+  clear = refl;
+}
 
-after_next : (w : Trace) (i b : ℕ) (o p : Option ℕ) → snoop_end_of w (suc i) ≡ o → end_of w i ≡ p → greater_of (option_map (λ s. s + 1) o) p ≡ Some b → HasAnswer w (b + 1) (suc i)
+after_next : (w : Trace) (i b : ℕ) (o p : Option ℕ) → snoop_end_of w (suc i) ≡ o → end_of w i ≡ p
+    → greater_of (option_map (λ s. s + 1) o) p ≡ Some b → HasAnswer w (b + 1) (suc i)
 unfolding is_clear_before is_before is_some_and greater_of
 after_next w i b None p e f g = absurd (let no : ⊥ = cc in no)
 after_next w i b (Some s) None e f g = absurd (let no : ⊥ = cc in no)
@@ -76,14 +85,22 @@ clear_later w (suc i) b c l t = let p = clear_parts w i b t in rw p.1 (lt-ltb p.
 
 pub answer_later : (w : Trace) (b c i : ℕ) → b ≤ c → HasAnswer w b i → HasAnswer w c i
 answer_later w b c i l a =
-    record { snoop = a.snoop; is_snoop = a.is_snoop; before = omega (arith, a.before); clear = clear_later w i b c l a.clear }
+    record {
+      snoop = a.snoop;
+      is_snoop = a.is_snoop;
+      before = omega (arith, a.before);
+      clear = clear_later w i b c l a.clear;
+    }
 
 -- a ready clock that was reached stays
-pub ready_clock_of-old : (h : Trace) (x : Sample) (v : Trace) (i y : ℕ) → OneMore h x v → ready_clock_of h i ≡ Some y → ready_clock_of v i ≡ Some y
+pub ready_clock_of-old : (h : Trace) (x : Sample) (v : Trace) (i y : ℕ) → OneMore h x v
+    → ready_clock_of h i ≡ Some y → ready_clock_of v i ≡ Some y
 ready_clock_of-old h x v i y m e = ready_clock_of-stays (length h) h v i y m.agree (has_ready h i y e).within e
 
 -- one that is new in the new trace is the new clock, and the request may be answered there
-pub ready_now : (h : Trace) (x : Sample) (v : Trace) (s y : ℕ) → OneMore h x v → Orderly h → SnoopsTo h s → ready_clock_of h (response_count h) ≡ None → ready_clock_of v (response_count h) ≡ Some y → (y ≡ length h) × (has_line x TRDY ≡ true) × (may_answer_next h ≡ true)
+pub ready_now : (h : Trace) (x : Sample) (v : Trace) (s y : ℕ) → OneMore h x v → Orderly h → SnoopsTo h s
+    → ready_clock_of h (response_count h) ≡ None → ready_clock_of v (response_count h) ≡ Some y
+    → (y ≡ length h) × (has_line x TRDY ≡ true) × (may_answer_next h ≡ true)
 ready_now h x v s y m o to e f =
     elim (cases_lt y (length h)) [
       | inl old ↦
@@ -92,7 +109,8 @@ ready_now h x v s y m o to e f =
       | inr new ↦
           let r = has_ready v (response_count h) y f in
           let here : y ≡ length h = omega (arith, r.within, m.size) in
-          let a = answer_later v (r.after + 1) (length h) (response_count h) (omega (arith, r.above)) (after_answer v (response_count h) r.after r.is_after) in (
+          let a = answer_later v (r.after + 1) (length h) (response_count h) (omega (arith, r.above))
+          (after_answer v (response_count h) r.after r.is_after) in (
             here,
             sym (line_at-new TRDY h x v m) ∙ subst (λ k. line_at TRDY v k ≡ true) here r.ready,
             sym (may_answer-new h x v s m o to) ∙ may_answer-from v (length h) (response_count h) a,
@@ -100,50 +118,77 @@ ready_now h x v s y m o to e f =
     ]
 
 -- a target that may be ready at the new clock and has TRDY# there is ready there
-step_ready : (h : Trace) (x : Sample) (v : Trace) (b : ℕ) → OneMore h x v → b < length h → has_line x TRDY ≡ true → first_where (from_clock (b + 1) (line_at TRDY h)) (length h) ≡ None → first_where (from_clock (b + 1) (line_at TRDY v)) (length v) ≡ Some (length h)
+step_ready : (h : Trace) (x : Sample) (v : Trace) (b : ℕ) → OneMore h x v → b < length h
+    → has_line x TRDY ≡ true → first_where (from_clock (b + 1) (line_at TRDY h)) (length h) ≡ None
+    → first_where (from_clock (b + 1) (line_at TRDY v)) (length v) ≡ Some (length h)
 unfolding from_clock
 step_ready h x v b m l t e =
     let below : AgreeBelow (length h) (from_clock (b + 1) (line_at TRDY h)) (from_clock (b + 1) (line_at TRDY v)) =
     record { same = λ c k. ap (λ u. nat_le (b + 1) c && u) (sym (line_at-old TRDY h x v c m k)) } in
-    let none : first_where (from_clock (b + 1) (line_at TRDY v)) (length h) ≡ None = sym (first_where-same _ _ (length h) below) ∙ e in
+    let none : first_where (from_clock (b + 1) (line_at TRDY v)) (length h) ≡ None =
+    sym (first_where-same _ _ (length h) below) ∙ e in
     rw m.size (first_where-next (from_clock (b + 1) (line_at TRDY v)) (length h) none
-    ∙ ap (λ u. cond u (Some (length h)) None) (and_from _ _ (le-leb (b + 1) (length h) (omega arith)) (line_at-new TRDY h x v m ∙ t)))
+    ∙ ap (λ u. cond u (Some (length h)) None)
+    (and_from _ _ (le-leb (b + 1) (length h) (omega arith)) (line_at-new TRDY h x v m ∙ t)))
 
-ready_by : (w : Trace) (i b : ℕ) → ready_after w i ≡ Some b → ready_clock_of w i ≡ first_where (from_clock (b + 1) (line_at TRDY w)) (length w)
+ready_by : (w : Trace) (i b : ℕ) → ready_after w i ≡ Some b
+    → ready_clock_of w i ≡ first_where (from_clock (b + 1) (line_at TRDY w)) (length w)
 unfolding ready_clock_of
 ready_by w i b e = rw e refl
 
-ready_after-same : (h : Trace) (x : Sample) (v : Trace) (s n : ℕ) → OneMore h x v → Orderly h → SnoopsTo h s → may_answer_next h ≡ true → response_count h ≡ n → ready_after v n ≡ ready_after h n
+ready_after-same : (h : Trace) (x : Sample) (v : Trace) (s n : ℕ) → OneMore h x v → Orderly h → SnoopsTo h s
+    → may_answer_next h ≡ true → response_count h ≡ n → ready_after v n ≡ ready_after h n
 unfolding ready_after clock_after_snoop
-ready_after-same h x v s zero m o to t e = rw (snoop_end_of-old h x v s 0 m to (let l = answered_below h s to t in omega arith)) refl
+ready_after-same h x v s zero m o to t e =
+    rw (snoop_end_of-old h x v s 0 m to (let l = answered_below h s to t in omega arith)) refl
 ready_after-same h x v s (suc i) m o to t e =
     let p = (ends_to-still h o (may_answer_next-parts h t).3).reached i (omega arith) in
-    rw (snoop_end_of-old h x v s (suc i) m to (let l = answered_below h s to t in omega arith), end_of-kept h x v i p.0 m o p.1 p.2, p.1) refl
+    rw (
+      snoop_end_of-old h x v s (suc i) m to (let l = answered_below h s to t in omega arith),
+      end_of-kept h x v i p.0 m o p.1 p.2,
+      p.1,
+    ) refl
 
-out_of_way : (h : Trace) (n : ℕ) → Orderly h → transfer_of h ≡ None → response_count h ≡ n → is_clear_before h n (length h) ≡ true
+out_of_way : (h : Trace) (n : ℕ) → Orderly h → transfer_of h ≡ None → response_count h ≡ n
+    → is_clear_before h n (length h) ≡ true
 unfolding is_clear_before is_before is_some_and
 out_of_way h zero o f e = refl
 out_of_way h (suc i) o f e =
     let p = (ends_to-still h o f).reached i (omega arith) in rw p.1 (lt-ltb p.0 (length h) p.2)
 
-next_answer : (h : Trace) (n : ℕ) → Orderly h → may_answer_next h ≡ true → response_count h ≡ n → HasAnswer h (length h) n
+next_answer : (h : Trace) (n : ℕ) → Orderly h → may_answer_next h ≡ true → response_count h ≡ n
+    → HasAnswer h (length h) n
 next_answer h n o t e =
     let p = may_answer_next-parts h t in
-    record { snoop = p.0; is_snoop = subst (λ k. snoop_end_of h k ≡ Some p.0) e p.1; before = p.2; clear = out_of_way h n o p.3 e }
+    record {
+      snoop = p.0;
+      is_snoop = subst (λ k. snoop_end_of h k ≡ Some p.0) e p.1;
+      before = p.2;
+      clear = out_of_way h n o p.3 e;
+    }
 
-ready_new : (h : Trace) (x : Sample) (v : Trace) (s : ℕ) → OneMore h x v → Orderly h → SnoopsTo h s → ready_clock_of h (response_count h) ≡ None → has_line x TRDY ≡ true → may_answer_next h ≡ true → ready_clock_of v (response_count h) ≡ Some (length h)
+ready_new : (h : Trace) (x : Sample) (v : Trace) (s : ℕ) → OneMore h x v → Orderly h → SnoopsTo h s
+    → ready_clock_of h (response_count h) ≡ None → has_line x TRDY ≡ true → may_answer_next h ≡ true
+    → ready_clock_of v (response_count h) ≡ Some (length h)
 ready_new h x v s m o to e t may =
     let a = after_from h (length h) (response_count h) (next_answer h (response_count h) o may refl) in
     ready_by v (response_count h) a.0 (ready_after-same h x v s (response_count h) m o to may refl ∙ a.1)
     ∙ step_ready h x v a.0 m a.2 t (sym (ready_by h (response_count h) a.0 a.1) ∙ e)
 
-not_ready : (h : Trace) (x : Sample) (v : Trace) (s : ℕ) (o : Option ℕ) → OneMore h x v → Orderly h → SnoopsTo h s → ready_clock_of h (response_count h) ≡ None → (has_line x TRDY && may_answer_next h) ≡ false → ready_clock_of v (response_count h) ≡ o → ready_clock_of v (response_count h) ≡ None
+not_ready : (h : Trace) (x : Sample) (v : Trace) (s : ℕ) (o : Option ℕ) → OneMore h x v → Orderly h
+    → SnoopsTo h s → ready_clock_of h (response_count h) ≡ None → (has_line x TRDY && may_answer_next h) ≡ false
+    → ready_clock_of v (response_count h) ≡ o → ready_clock_of v (response_count h) ≡ None
 not_ready h x v s None m o to e f g = g
 not_ready h x v s (Some y) m o to e f g =
     let p = ready_now h x v s y m o to e g in
     absurd (both_ways _ f (and_from _ _ p.1 p.2))
 
-ready_cases : (h : Trace) (x : Sample) (v : Trace) (s : ℕ) (old : Option ℕ) → OneMore h x v → Orderly h → SnoopsTo h s → ready_clock_of h (response_count h) ≡ old → ready_clock_of v (response_count h) ≡ elim old [ Some y ↦ Some y | None ↦ cond (has_line x TRDY && may_answer_next h) (Some (length h)) None ]
+ready_cases : (h : Trace) (x : Sample) (v : Trace) (s : ℕ) (old : Option ℕ) → OneMore h x v → Orderly h
+    → SnoopsTo h s → ready_clock_of h (response_count h) ≡ old
+    → ready_clock_of v (response_count h) ≡ elim old [
+      | Some y ↦ Some y
+      | None ↦ cond (has_line x TRDY && may_answer_next h) (Some (length h)) None
+    ]
 ready_cases h x v s (Some y) m o to e = ready_clock_of-old h x v (response_count h) y m e
 ready_cases h x v s None m o to e =
     elim (cases_Bool (has_line x TRDY && may_answer_next h)) [
@@ -152,14 +197,19 @@ ready_cases h x v s None m o to e =
     ]
 
 -- the ready clock of the request that responds next: it stays, or it is the new clock where TRDY# is there in time
-pub ready_clock_of-next : (h : Trace) (x : Sample) (v : Trace) (s : ℕ) → OneMore h x v → Orderly h → SnoopsTo h s → ready_clock_of v (response_count h) ≡ elim (ready_clock_of h (response_count h)) [ Some y ↦ Some y | None ↦ cond (has_line x TRDY && may_answer_next h) (Some (length h)) None ]
+pub ready_clock_of-next : (h : Trace) (x : Sample) (v : Trace) (s : ℕ) → OneMore h x v → Orderly h
+    → SnoopsTo h s → ready_clock_of v (response_count h) ≡ elim (ready_clock_of h (response_count h))
+    [ Some y ↦ Some y | None ↦ cond (has_line x TRDY && may_answer_next h) (Some (length h)) None ]
 ready_clock_of-next h x v s m o to = ready_cases h x v s (ready_clock_of h (response_count h)) m o to refl
 
-pub ready_clock_of-begun : (h : Trace) (x : Sample) (v : Trace) (s : ℕ) → OneMore h x v → Orderly h → SnoopsTo h s → ready_clock_of h (response_count h) ≡ None → ready_clock_of v (response_count h) ≡ cond (has_line x TRDY && may_answer_next h) (Some (length h)) None
+pub ready_clock_of-begun : (h : Trace) (x : Sample) (v : Trace) (s : ℕ) → OneMore h x v → Orderly h
+    → SnoopsTo h s → ready_clock_of h (response_count h) ≡ None
+    → ready_clock_of v (response_count h) ≡ cond (has_line x TRDY && may_answer_next h) (Some (length h)) None
 ready_clock_of-begun h x v s m o to e = ready_cases h x v s None m o to e
 
 -- the one after it has none yet when it responds
-after_response : (h : Trace) (x : Sample) (v : Trace) (o : Option ℕ) → OneMore h x v → responds x ≡ true → ready_clock_of v (suc (response_count h)) ≡ o → ready_clock_of v (suc (response_count h)) ≡ None
+after_response : (h : Trace) (x : Sample) (v : Trace) (o : Option ℕ) → OneMore h x v → responds x ≡ true
+    → ready_clock_of v (suc (response_count h)) ≡ o → ready_clock_of v (suc (response_count h)) ≡ None
 after_response h x v None m t e = e
 after_response h x v (Some y) m t e =
     let r = has_ready v (suc (response_count h)) y e in
@@ -171,5 +221,6 @@ after_response h x v (Some y) m t e =
     let here : p.0 ≡ length h = cc in
     absurd (omega (arith, r.above, r.within, c.2, p.2, m.size))
 
-pub ready_clock_of-after : (h : Trace) (x : Sample) (v : Trace) → OneMore h x v → responds x ≡ true → ready_clock_of v (suc (response_count h)) ≡ None
+pub ready_clock_of-after : (h : Trace) (x : Sample) (v : Trace) → OneMore h x v → responds x ≡ true
+    → ready_clock_of v (suc (response_count h)) ≡ None
 ready_clock_of-after h x v m t = after_response h x v (ready_clock_of v (suc (response_count h))) m t refl

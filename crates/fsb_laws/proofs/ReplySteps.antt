@@ -1,7 +1,9 @@
 -- Replies to deferred requests, one sample on.
-use Rattle.std.proofs.Common.{ℕ, ◌+◌, ◌-◌, ◌<◌, ◌≤◌, ◌≡◌, true, false, cond, not, ◌&&◌, Option, Some, None, length, refl, sym, ◌∙◌, arith, inl, inr, subst}
+use Rattle.std.proofs.Common.{ℕ, ◌+◌, ◌-◌, ◌<◌, ◌≤◌, ◌≡◌, true, false, cond, not, ◌&&◌, Option, Some, None, length}
+use Rattle.std.proofs.Common.{refl, sym, ◌∙◌, arith, inl, inr, subst}
 use Rattle.std.specs.Option.{option_and_then}
-use Rattle.std.proofs.lemmas.Bool.{cases_Bool, cases_lt, cases_eq, cases_order, eqb-true, and_parts, and_left, both_ways, le-ltb, false_from_ne_true}
+use Rattle.std.proofs.lemmas.Bool.{cases_Bool, cases_lt, cases_eq, cases_order, eqb-true, and_parts, and_left}
+use Rattle.std.proofs.lemmas.Bool.{both_ways, le-ltb, false_from_ne_true}
 use Rattle.std.proofs.lemmas.Option.{slice_get_past}
 use Rattle.fsb_count.specs.Options.{is_some_and, is_before}
 use Rattle.fsb_count.proofs.Interface.{first_where-at, first_where-off, first_where-found, first_where-none}
@@ -28,7 +30,8 @@ no_pair : (w : Trace) (c : ℕ) → length w ≤ c → known_pair_at w c ≡ Non
 unfolding known_pair_at
 no_pair w c l = rw (slice_get_past w c l) refl
 
-without_second : (o : Option Pair) → option_and_then (λ a. option_and_then {U = Request} (λ b. request_of a b) None) o ≡ None
+without_second : (o : Option Pair)
+    → option_and_then (λ a. option_and_then {U = Request} (λ b. request_of a b) None) o ≡ None
 without_second None = refl
 without_second (Some a) = refl
 
@@ -36,11 +39,13 @@ pub request_at-last : (w : Trace) (q : ℕ) → length w ≤ q + 1 → request_a
 unfolding request_at
 request_at-last w q l = rw (no_pair w (q + 1) l) (without_second (known_pair_at w q))
 
-pub request_at-old : (h : Trace) (x : Sample) (v : Trace) (q : ℕ) → OneMore h x v → q + 1 < length h → request_at v q ≡ request_at h q
+pub request_at-old : (h : Trace) (x : Sample) (v : Trace) (q : ℕ) → OneMore h x v → q + 1 < length h
+    → request_at v q ≡ request_at h q
 request_at-old h x v q m l = sym (request_at-agree (length h) h v q m.agree l)
 
 -- what a request that responded is stays
-pub live_request_of-old : (h : Trace) (x : Sample) (v : Trace) (i : ℕ) → OneMore h x v → Orderly h → i < response_count h → live_request_of v i ≡ live_request_of h i
+pub live_request_of-old : (h : Trace) (x : Sample) (v : Trace) (i : ℕ) → OneMore h x v → Orderly h
+    → i < response_count h → live_request_of v i ≡ live_request_of h i
 live_request_of-old h x v i m o l =
     let p = response_there h i l in
     let a = has_answer h p.0 i (o.timely i p.0 p.1) in
@@ -58,18 +63,27 @@ no_ads : (w : Trace) (i q : ℕ) → line_at ADS w q ≡ false → is_live_reply
 unfolding is_live_reply_to is_live
 no_ads w i q f = rw f refl
 
-pub is_reply_to-old : (h : Trace) (x : Sample) (v : Trace) (i q : ℕ) → OneMore h x v → Orderly h → i < response_count h → q + 1 < length h → is_reply_to v i q ≡ is_reply_to h i q
+pub is_reply_to-old : (h : Trace) (x : Sample) (v : Trace) (i q : ℕ) → OneMore h x v → Orderly h
+    → i < response_count h → q + 1 < length h → is_reply_to v i q ≡ is_reply_to h i q
 unfolding is_reply_to
 is_reply_to-old h x v i q m o l k =
-    rw (line_at-old ADS h x v q m (omega arith), request_at-old h x v q m k, live_request_of-old h x v i m o l, response_clock_of-old h x v i m l) refl
+    rw (
+      line_at-old ADS h x v q m (omega arith),
+      request_at-old h x v q m k,
+      live_request_of-old h x v i m o l,
+      response_clock_of-old h x v i m l,
+    ) refl
 
-pub is_live_reply_to-old : (h : Trace) (x : Sample) (v : Trace) (i q : ℕ) → OneMore h x v → Orderly h → i < response_count h → q + 1 < length h → is_live_reply_to v i q ≡ (is_live_reply_to h i q && not (cancels x (length h) q))
+pub is_live_reply_to-old : (h : Trace) (x : Sample) (v : Trace) (i q : ℕ) → OneMore h x v → Orderly h
+    → i < response_count h → q + 1 < length h
+    → is_live_reply_to v i q ≡ (is_live_reply_to h i q && not (cancels x (length h) q))
 unfolding is_live_reply_to
 is_live_reply_to-old h x v i q m o l k =
     rw (is_live-more h x v q m (omega arith), is_reply_to-old h x v i q m o l k) (grind arith)
 
 -- the reply of a request that responded: the sample may cancel it, or may be the second clock of the first one
-not_before_it : (h : Trace) (x : Sample) (v : Trace) (i c : ℕ) → OneMore h x v → Orderly h → i < response_count h → c + 1 < length h → is_live_reply_to h i c ≡ false → is_live_reply_to v i c ≡ false
+not_before_it : (h : Trace) (x : Sample) (v : Trace) (i c : ℕ) → OneMore h x v → Orderly h
+    → i < response_count h → c + 1 < length h → is_live_reply_to h i c ≡ false → is_live_reply_to v i c ≡ false
 not_before_it h x v i c m o l k f = is_live_reply_to-old h x v i c m o l k ∙ and_left _ _ f
 
 within : (h : Trace) (i q : ℕ) → is_live_reply_to h i q ≡ true → q < length h → q + 1 < length h
@@ -79,7 +93,8 @@ within h i q t l =
       | inr k ↦ absurd (both_ways _ (reply_late h i q k) t)
     ]
 
-reply_stays : (h : Trace) (x : Sample) (v : Trace) (i q : ℕ) → OneMore h x v → Orderly h → i < response_count h → reply_clock_of h i ≡ Some q → cancels x (length h) q ≡ false → reply_clock_of v i ≡ Some q
+reply_stays : (h : Trace) (x : Sample) (v : Trace) (i q : ℕ) → OneMore h x v → Orderly h → i < response_count h
+    → reply_clock_of h i ≡ Some q → cancels x (length h) q ≡ false → reply_clock_of v i ≡ Some q
 unfolding reply_clock_of
 reply_stays h x v i q m o l e f =
     let p = first_where-found (is_live_reply_to h i) (length h) q e in
@@ -89,12 +104,15 @@ reply_stays h x v i q m o l e f =
     (is_live_reply_to-old h x v i q m o l k ∙ (rw (p.1, f) refl))
     (λ c less. not_before_it h x v i c m o l (omega arith) (p.2 c less))
 
-far_behind : (h : Trace) (x : Sample) (v : Trace) (i q c : ℕ) → OneMore h x v → Orderly h → line_at ADS h q ≡ true → q + 3 ≡ length h → q < c → c < length v → is_live_reply_to v i c ≡ false
+far_behind : (h : Trace) (x : Sample) (v : Trace) (i q c : ℕ) → OneMore h x v → Orderly h
+    → line_at ADS h q ≡ true → q + 3 ≡ length h → q < c → c < length v → is_live_reply_to v i c ≡ false
 far_behind h x v i q c m o t e l k =
     let size : length v ≡ length h + 1 = m.size in
     elim (cases_lt c (length h)) [
       | inl old ↦
-          no_ads v i c (false_from_ne_true _ (λ u. let far = o.spaced.apart q c l t (sym (line_at-old ADS h x v c m old) ∙ u) in omega arith))
+          no_ads v i c
+          (false_from_ne_true _ (λ u. let far = o.spaced.apart q c l t (sym (line_at-old ADS h x v c m old)
+          ∙ u) in omega arith))
       | inr new ↦ reply_late v i c (omega arith)
     ]
 
@@ -107,7 +125,8 @@ pub cancelled_clock : (x : Sample) (n q : ℕ) → cancels x n q ≡ true → q 
 unfolding cancels
 cancelled_clock x n q t = eqb-true (q + 3) n (and_parts _ _ t).1
 
-reply_goes : (h : Trace) (x : Sample) (v : Trace) (i q : ℕ) → OneMore h x v → Orderly h → i < response_count h → reply_clock_of h i ≡ Some q → cancels x (length h) q ≡ true → reply_clock_of v i ≡ None
+reply_goes : (h : Trace) (x : Sample) (v : Trace) (i q : ℕ) → OneMore h x v → Orderly h → i < response_count h
+    → reply_clock_of h i ≡ Some q → cancels x (length h) q ≡ true → reply_clock_of v i ≡ None
 unfolding reply_clock_of
 reply_goes h x v i q m o l e t =
     let p = first_where-found (is_live_reply_to h i) (length h) q e in
@@ -115,14 +134,17 @@ reply_goes h x v i q m o l e t =
     let asks : line_at ADS h q ≡ true = is_live-ads h q (live_part h i q p.1) in
     first_where-off (is_live_reply_to v i) (length v) (λ c less.
     elim (cases_order c q) [
-      | inl same ↦ subst (λ d. is_live_reply_to v i d ≡ false) (sym same) (is_live_reply_to-old h x v i q m o l (omega arith) ∙ (rw (p.1, t) refl))
+      | inl same ↦ subst (λ d. is_live_reply_to v i d ≡ false) (sym same)
+          (is_live_reply_to-old h x v i q m o l (omega arith) ∙ (rw (p.1, t) refl))
       | inr other ↦ elim other [
         | inl before ↦ not_before_it h x v i c m o l (omega arith) (p.2 c before)
         | inr behind ↦ far_behind h x v i q c m o asks here behind less
       ]
     ])
 
-reply_comes : (h : Trace) (x : Sample) (v : Trace) (i : ℕ) → OneMore h x v → Orderly h → i < response_count h → reply_clock_of h i ≡ None → 0 < length h → is_live_reply_to v i (length h - 1) ≡ true → reply_clock_of v i ≡ Some (length h - 1)
+reply_comes : (h : Trace) (x : Sample) (v : Trace) (i : ℕ) → OneMore h x v → Orderly h → i < response_count h
+    → reply_clock_of h i ≡ None → 0 < length h → is_live_reply_to v i (length h - 1) ≡ true
+    → reply_clock_of v i ≡ Some (length h - 1)
 unfolding reply_clock_of
 reply_comes h x v i m o l e some t =
     let none = first_where-none (is_live_reply_to h i) (length h) e in
@@ -130,7 +152,8 @@ reply_comes h x v i m o l e some t =
     first_where-at (is_live_reply_to v i) (length v) (length h - 1) (omega arith) t
     (λ c less. not_before_it h x v i c m o l (omega arith) (none c (omega arith)))
 
-reply_waits : (h : Trace) (x : Sample) (v : Trace) (i : ℕ) → OneMore h x v → Orderly h → i < response_count h → reply_clock_of h i ≡ None → is_live_reply_to v i (length h - 1) ≡ false → reply_clock_of v i ≡ None
+reply_waits : (h : Trace) (x : Sample) (v : Trace) (i : ℕ) → OneMore h x v → Orderly h → i < response_count h
+    → reply_clock_of h i ≡ None → is_live_reply_to v i (length h - 1) ≡ false → reply_clock_of v i ≡ None
 unfolding reply_clock_of
 reply_waits h x v i m o l e f =
     let none = first_where-none (is_live_reply_to h i) (length h) e in
@@ -140,12 +163,18 @@ reply_waits h x v i m o l e f =
       | inl old ↦ not_before_it h x v i c m o l old (none c (omega arith))
       | inr late ↦
           elim (cases_eq (c + 1) (length h)) [
-            | inl last ↦ subst (λ d. is_live_reply_to v i d ≡ false) (let same : length h - 1 ≡ c = omega arith in same) f
+            | inl last ↦
+                subst (λ d. is_live_reply_to v i d ≡ false) (let same : length h - 1 ≡ c = omega arith in same) f
             | inr past ↦ reply_late v i c (omega (arith, late, past))
           ]
     ])
 
-reply_cases : (h : Trace) (x : Sample) (v : Trace) (i : ℕ) (old : Option ℕ) → OneMore h x v → Orderly h → i < response_count h → 0 < length h → reply_clock_of h i ≡ old → reply_clock_of v i ≡ elim old [ Some q ↦ cond (cancels x (length h) q) None (Some q) | None ↦ cond (is_live_reply_to v i (length h - 1)) (Some (length h - 1)) None ]
+reply_cases : (h : Trace) (x : Sample) (v : Trace) (i : ℕ) (old : Option ℕ) → OneMore h x v → Orderly h
+    → i < response_count h → 0 < length h → reply_clock_of h i ≡ old
+    → reply_clock_of v i ≡ elim old [
+      | Some q ↦ cond (cancels x (length h) q) None (Some q)
+      | None ↦ cond (is_live_reply_to v i (length h - 1)) (Some (length h - 1)) None
+    ]
 reply_cases h x v i (Some q) m o l some e =
     elim (cases_Bool (cancels x (length h) q)) [
       | inl t ↦ reply_goes h x v i q m o l e t ∙ sym (rw t refl)
@@ -157,7 +186,12 @@ reply_cases h x v i None m o l some e =
       | inr f ↦ reply_waits h x v i m o l e f ∙ sym (rw f refl)
     ]
 
-pub reply_clock_of-more : (h : Trace) (x : Sample) (v : Trace) (i : ℕ) → OneMore h x v → Orderly h → i < response_count h → 0 < length h → reply_clock_of v i ≡ elim (reply_clock_of h i) [ Some q ↦ cond (cancels x (length h) q) None (Some q) | None ↦ cond (is_live_reply_to v i (length h - 1)) (Some (length h - 1)) None ]
+pub reply_clock_of-more : (h : Trace) (x : Sample) (v : Trace) (i : ℕ) → OneMore h x v → Orderly h
+    → i < response_count h → 0 < length h
+    → reply_clock_of v i ≡ elim (reply_clock_of h i) [
+      | Some q ↦ cond (cancels x (length h) q) None (Some q)
+      | None ↦ cond (is_live_reply_to v i (length h - 1)) (Some (length h - 1)) None
+    ]
 reply_clock_of-more h x v i m o l some = reply_cases h x v i (reply_clock_of h i) m o l some refl
 
 -- a request whose response is the new clock has no reply yet
@@ -165,7 +199,8 @@ too_early : (w : Trace) (i n c : ℕ) → response_clock_of w i ≡ Some n → c
 unfolding is_live_reply_to is_reply_to is_before is_some_and
 too_early w i n c e l = rw (e, le-ltb n c l) (grind arith)
 
-pub reply_clock_of-fresh : (h : Trace) (x : Sample) (v : Trace) (i : ℕ) → OneMore h x v → response_clock_of v i ≡ Some (length h) → reply_clock_of v i ≡ None
+pub reply_clock_of-fresh : (h : Trace) (x : Sample) (v : Trace) (i : ℕ) → OneMore h x v
+    → response_clock_of v i ≡ Some (length h) → reply_clock_of v i ≡ None
 unfolding reply_clock_of
 reply_clock_of-fresh h x v i m e =
     let size : length v ≡ length h + 1 = m.size in

@@ -1,9 +1,11 @@
 -- What the questions to a chain answer when a link is put at its end.
-use Rattle.std.proofs.Common.{◌≡◌, ◌==◌, ℕ, Bool, true, false, cond, not, ◌&&◌, ◌||◌, ◌⊎◌, inl, inr, Some, List, [], ◌∷◌, ◌++◌, refl, sym, ap, subst, arith}
+use Rattle.std.proofs.Common.{◌≡◌, ◌==◌, ℕ, Bool, true, false, cond, not, ◌&&◌, ◌||◌, ◌⊎◌, inl, inr, Some, List, []}
+use Rattle.std.proofs.Common.{◌∷◌, ◌++◌, refl, sym, ap, subst, arith}
 use Rattle.std.proofs.Math.Bool.{or-true, or-false, or_assoc}
 use Rattle.std.proofs.lemmas.Bool.Decides.{nat_tests}
 use Rattle.fsb_line.specs.declared.link.Link.{Link}
-use Rattle.fsb_line.specs.Links.{IsChained, any_owns, any_won, giver_after, has_late_upgrade, has_won, is_linked, is_overtaken, is_won, newest, owns}
+use Rattle.fsb_line.specs.Links.{IsChained, any_owns, any_won, giver_after, has_late_upgrade, has_won, is_linked}
+use Rattle.fsb_line.specs.Links.{is_overtaken, is_won, newest, owns}
 
 -- the link at the end is the newest
 pub newest-end : (ls : List Link) (l : Link) → newest (ls ++ l ∷ []) ≡ Some l
@@ -17,13 +19,16 @@ newest_cases [] = inl refl
 newest_cases (l ∷ []) = inr (l, refl)
 newest_cases (k ∷ m ∷ ls) = elim (newest_cases (m ∷ ls)) [ inl h ↦ absurd (cc) | inr h ↦ inr h ]
 
-pub is_linked-end : (a : ℕ) (ls : List Link) (l : Link) → is_linked a (ls ++ l ∷ []) ≡ (is_linked a ls || (l.agent == a))
+pub is_linked-end : (a : ℕ) (ls : List Link) (l : Link)
+    → is_linked a (ls ++ l ∷ []) ≡ (is_linked a ls || (l.agent == a))
 is_linked-end a [] l = or-false (l.agent == a)
 is_linked-end a (k ∷ ks) l = rw (is_linked-end a ks l) (sym (or_assoc (k.agent == a) (is_linked a ks) (l.agent == a)))
 
-pub has_won-end : (a : ℕ) (ls : List Link) (l : Link) → has_won a (ls ++ l ∷ []) ≡ (has_won a ls || ((l.agent == a) && is_won l))
+pub has_won-end : (a : ℕ) (ls : List Link) (l : Link)
+    → has_won a (ls ++ l ∷ []) ≡ (has_won a ls || ((l.agent == a) && is_won l))
 has_won-end a [] l = or-false ((l.agent == a) && is_won l)
-has_won-end a (k ∷ ks) l = rw (has_won-end a ks l) (sym (or_assoc ((k.agent == a) && is_won k) (has_won a ks) ((l.agent == a) && is_won l)))
+has_won-end a (k ∷ ks) l = rw (has_won-end a ks l)
+    (sym (or_assoc ((k.agent == a) && is_won k) (has_won a ks) ((l.agent == a) && is_won l)))
 
 pub any_won-end : (ls : List Link) (l : Link) → any_won (ls ++ l ∷ []) ≡ (any_won ls || is_won l)
 any_won-end [] l = or-false (is_won l)
@@ -35,8 +40,18 @@ overtaken_one true false = refl
 overtaken_one false true = refl
 overtaken_one false false = refl
 
-overtaken_more : (o e s p t q : Bool) → ((o && (not e && not (s || t))) || cond t false (p || q)) ≡ cond t false (p || ((o && (not e && not s)) || q))
-overtaken_more o e s p true q = elim o as (λ o. ((o && (not e && not (s || true))) || false) ≡ false) [ true ↦ elim e as (λ e. ((true && (not e && not (s || true))) || false) ≡ false) [ true ↦ refl | false ↦ elim s as (λ s. ((true && (not false && not (s || true))) || false) ≡ false) [ true ↦ refl | false ↦ refl ] ] | false ↦ refl ]
+overtaken_more : (o e s p t q : Bool)
+    → ((o && (not e && not (s || t))) || cond t false (p || q)) ≡ cond t false (p || ((o && (not e && not s)) || q))
+overtaken_more o e s p true q = elim o as (λ o. ((o && (not e && not (s || true))) || false) ≡ false) [
+  | true ↦ elim e as (λ e. ((true && (not e && not (s || true))) || false) ≡ false) [
+    | true ↦ refl
+    | false ↦ elim s as (λ s. ((true && (not false && not (s || true))) || false) ≡ false) [
+      | true ↦ refl
+      | false ↦ refl
+    ]
+  ]
+  | false ↦ refl
+]
 overtaken_more true true s true false q = refl
 overtaken_more true true s false false q = refl
 overtaken_more true false true true false q = refl
@@ -46,7 +61,8 @@ overtaken_more true false false false false q = refl
 overtaken_more false e s true false q = refl
 overtaken_more false e s false false q = refl
 
-pub is_overtaken-end : (a : ℕ) (ls : List Link) (l : Link) → is_overtaken a (ls ++ l ∷ []) ≡ cond (l.agent == a) false (owns l || is_overtaken a ls)
+pub is_overtaken-end : (a : ℕ) (ls : List Link) (l : Link)
+    → is_overtaken a (ls ++ l ∷ []) ≡ cond (l.agent == a) false (owns l || is_overtaken a ls)
 is_overtaken-end a [] l = overtaken_one (owns l) (l.agent == a)
 is_overtaken-end a (k ∷ ks) l =
     rw (is_linked-end a ks l, is_overtaken-end a ks l)
@@ -61,7 +77,8 @@ late_more true false false true false = refl
 late_more true false false false false = refl
 late_more false w s p t = refl
 
-pub has_late_upgrade-end : (ls : List Link) (l : Link) → has_late_upgrade (ls ++ l ∷ []) ≡ (has_late_upgrade ls || (any_owns ls && is_won l))
+pub has_late_upgrade-end : (ls : List Link) (l : Link)
+    → has_late_upgrade (ls ++ l ∷ []) ≡ (has_late_upgrade ls || (any_owns ls && is_won l))
 has_late_upgrade-end [] l = elim (owns l) as (λ o. ((o && false) || false) ≡ false) [ true ↦ refl | false ↦ refl ]
 has_late_upgrade-end (k ∷ ks) l =
     rw (any_won-end ks l, has_late_upgrade-end ks l)
@@ -70,7 +87,8 @@ has_late_upgrade-end (k ∷ ks) l =
 -- the agent of the newest link awaits it
 pub newest_is_linked : (ls : List Link) (l : Link) → newest ls ≡ Some l → is_linked l.agent ls ≡ true
 newest_is_linked [] l h = absurd (cc)
-newest_is_linked (k ∷ []) l h = let e : k ≡ l = cc in subst (λ m. is_linked m.agent (k ∷ []) ≡ true) e (grind (arith, nat_tests))
+newest_is_linked (k ∷ []) l h = let e : k ≡ l = cc in
+    subst (λ m. is_linked m.agent (k ∷ []) ≡ true) e (grind (arith, nat_tests))
 newest_is_linked (k ∷ m ∷ ls) l h = let e = newest_is_linked (m ∷ ls) l h in rw e (or-true (k.agent == l.agent))
 
 -- a newest link stays so behind an older one
@@ -79,18 +97,22 @@ newest-tail l [] k h = absurd (cc)
 newest-tail l (m ∷ ls) k h = h
 
 -- where an agent is neither linked nor overtaken, no link owns
-pub any_owns-unlinked : (a : ℕ) (ls : List Link) → is_linked a ls ≡ false → is_overtaken a ls ≡ false → any_owns ls ≡ false
+pub any_owns-unlinked : (a : ℕ) (ls : List Link) → is_linked a ls ≡ false → is_overtaken a ls ≡ false
+    → any_owns ls ≡ false
 any_owns-unlinked a [] u v = refl
-any_owns-unlinked a (k ∷ ks) u v = one (owns k) (k.agent == a) (is_linked a ks) (is_overtaken a ks) (any_owns ks) u v (any_owns-unlinked a ks)
+any_owns-unlinked a (k ∷ ks) u v = one (owns k) (k.agent == a) (is_linked a ks) (is_overtaken a ks)
+    (any_owns ks) u v (any_owns-unlinked a ks)
   where
-    one : (o e s t p : Bool) → (e || s) ≡ false → ((o && (not e && not s)) || t) ≡ false → (s ≡ false → t ≡ false → p ≡ false) → (o || p) ≡ false
+    one : (o e s t p : Bool) → (e || s) ≡ false → ((o && (not e && not s)) || t) ≡ false
+        → (s ≡ false → t ≡ false → p ≡ false) → (o || p) ≡ false
     one o true s t p u v f = absurd (cc)
     one o false true t p u v f = absurd (cc)
     one true false false t p u v f = absurd (cc)
     one false false false t p u v f = f u v
 
 -- a chain stays one with a newest link that takes its bytes from the owner before it
-pub IsChained-end : (ls : List Link) (l : Link) → IsChained ls → ((k : Link) → newest ls ≡ Some k → l.giver ≡ giver_after k) → IsChained (ls ++ l ∷ [])
+pub IsChained-end : (ls : List Link) (l : Link) → IsChained ls
+    → ((k : Link) → newest ls ≡ Some k → l.giver ≡ giver_after k) → IsChained (ls ++ l ∷ [])
 IsChained-end [] l h f = h
 IsChained-end (k ∷ []) l h f = (f k refl, h)
 IsChained-end (k ∷ m ∷ ls) l h f = (h.0, IsChained-end (m ∷ ls) l h.1 f)
@@ -122,6 +144,7 @@ pub end_not_empty : (ls : List Link) (l : Link) → ls ++ l ∷ [] ≡ [] → �
 end_not_empty [] l h = cc
 end_not_empty (k ∷ ks) l h = cc
 
-pub end_oldest : (ls : List Link) (l k : Link) (ks : List Link) → ls ++ l ∷ [] ≡ k ∷ ks → ((ls ≡ []) × (l ≡ k)) ⊎ ((ms : List Link) × (ls ≡ k ∷ ms))
+pub end_oldest : (ls : List Link) (l k : Link) (ks : List Link) → ls ++ l ∷ [] ≡ k ∷ ks
+    → ((ls ≡ []) × (l ≡ k)) ⊎ ((ms : List Link) × (ls ≡ k ∷ ms))
 end_oldest [] l k ks h = inl (refl, cc)
 end_oldest (m ∷ ms) l k ks h = inr (ms, let e : m ≡ k = cc in ap (λ m. m ∷ ms) e)

@@ -34,7 +34,8 @@ Ordered-trimmed x o = record {
   no_late_upgrade = o.no_late_upgrade;
 }
 
-pub Ordered-IsRetried : (x : MemoryLine) (a : ℕ) (kind : Purpose) → Ordered x → MaySettle x a kind × (asks_line kind ≡ true) → Ordered (effect x (IsRetried a kind))
+pub Ordered-IsRetried : (x : MemoryLine) (a : ℕ) (kind : Purpose) → Ordered x
+    → MaySettle x a kind × (asks_line kind ≡ true) → Ordered (effect x (IsRetried a kind))
 unfolding effect settled put
 Ordered-IsRetried x a kind o m = record {
   alone = λ b h c n. grind (arith, nat_tests, o.alone b, m.0.clean, snoop_held, snoop_unheld, snoop_not_sole);

@@ -35,11 +35,15 @@ or_false_right : (p q : Bool) → (p || q) ≡ false → q ≡ false
 or_false_right true q h = absurd (cc)
 or_false_right false q h = h
 
-pub Ordered-Ends : (x : MemoryLine) (l : Link) (ls : List Link) (change : Bytes → Bytes) (bytes : Bytes) → x.chain ≡ l ∷ ls → Ordered x → Ordered (arrived x l ls change bytes)
+pub Ordered-Ends : (x : MemoryLine) (l : Link) (ls : List Link) (change : Bytes → Bytes) (bytes : Bytes)
+    → x.chain ≡ l ∷ ls → Ordered x → Ordered (arrived x l ls change bytes)
 unfolding arrived
 Ordered-Ends x l ls change bytes e o =
-    let newest_before : (k : Link) → newest ls ≡ Some k → newest x.chain ≡ Some k = λ k h. ap newest e ∙ newest-tail l ls k h in
-    let no_link : (b : ℕ) → is_linked b x.chain ≡ false → is_linked b ls ≡ false = λ b h. or_false_right (l.agent == b) (is_linked b ls) (sym (ap (is_linked b) e) ∙ h) in
+    let newest_before : (k : Link) → newest ls ≡ Some k → newest x.chain ≡ Some k = λ k h. ap newest e
+    ∙ newest-tail l ls k h in
+    let no_link : (b : ℕ) → is_linked b x.chain ≡ false
+    → is_linked b ls ≡ false = λ b h. or_false_right (l.agent == b) (is_linked b ls)
+    (sym (ap (is_linked b) e) ∙ h) in
     record {
       alone = o.alone;
       suited = o.suited;

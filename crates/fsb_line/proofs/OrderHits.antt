@@ -12,14 +12,17 @@ use Rattle.fsb_line.proofs.LinkFacts.{newest_cases, newest_is_linked}
 use Rattle.fsb_line.proofs.StateFacts.{dropped_suits, sole_is_held, sole_suits}
 
 -- who has the line alone and awaits no link sees an empty chain: no store changes the bytes under a chain
-pub sole_unlinked : (x : MemoryLine) (a : ℕ) → Ordered x → is_sole (x.state a) ≡ true → is_linked a x.chain ≡ false → x.chain ≡ []
+pub sole_unlinked : (x : MemoryLine) (a : ℕ) → Ordered x → is_sole (x.state a) ≡ true
+    → is_linked a x.chain ≡ false → x.chain ≡ []
 sole_unlinked x a o s u =
     elim (newest_cases x.chain) [
       | inl e ↦ e
-      | inr p ↦ absurd (let e = o.sole_is_newest a p.0 s p.1 in let h = newest_is_linked x.chain p.0 p.1 in let g : is_linked a x.chain ≡ true = subst (λ b. is_linked b x.chain ≡ true) e h in cc)
+      | inr p ↦ absurd (let e = o.sole_is_newest a p.0 s p.1 in let h = newest_is_linked x.chain p.0 p.1 in
+          let g : is_linked a x.chain ≡ true = subst (λ b. is_linked b x.chain ≡ true) e h in cc)
     ]
 
-pub Ordered-Stores : (x : MemoryLine) (a : ℕ) (change : Bytes → Bytes) → Ordered x → IsReady x a × (is_sole (x.state a) ≡ true) → Ordered (effect x (Stores a change))
+pub Ordered-Stores : (x : MemoryLine) (a : ℕ) (change : Bytes → Bytes) → Ordered x
+    → IsReady x a × (is_sole (x.state a) ≡ true) → Ordered (effect x (Stores a change))
 unfolding effect put
 Ordered-Stores x a change o m =
     let e0 : newest x.chain ≡ None = ap newest (sole_unlinked x a o m.1 m.0.no_link) in
@@ -37,7 +40,8 @@ Ordered-Stores x a change o m =
       no_late_upgrade = o.no_late_upgrade;
     }
 
-pub Ordered-Drops : (x : MemoryLine) (a : ℕ) → Ordered x → is_modified (x.state a) ≡ false → Ordered (effect x (Drops a))
+pub Ordered-Drops : (x : MemoryLine) (a : ℕ) → Ordered x → is_modified (x.state a) ≡ false
+    → Ordered (effect x (Drops a))
 unfolding effect put
 Ordered-Drops x a o m = record {
   alone = λ b h c n. grind (arith, nat_tests, o.alone b);
@@ -60,13 +64,22 @@ Ordered-Drops x a o m = record {
   no_late_upgrade = o.no_late_upgrade;
 }
 
-pub Ordered-Begins : (x : MemoryLine) (a : ℕ) (kind : Purpose) (number : ℕ) → Ordered x → MayBegin x a kind number → Ordered (effect x (Begins a kind number))
+pub Ordered-Begins : (x : MemoryLine) (a : ℕ) (kind : Purpose) (number : ℕ) → Ordered x
+    → MayBegin x a kind number → Ordered (effect x (Begins a kind number))
 unfolding effect put
 Ordered-Begins x a kind number o m = record {
   alone = o.alone;
   suited = λ b k e. grind (arith, nat_tests, o.suited b k, m.suited);
   apart = λ b k e. grind (arith, nat_tests, o.apart b k, m.no_link);
-  first = λ b c j k e f n h. grind (arith, nat_tests, o.first b c j k, m.newest b j, m.newest c k, m.not_held_off c, m.no_ask);
+  first = λ b c j k e f n h. grind (
+    arith,
+    nat_tests,
+    o.first b c j k,
+    m.newest b j,
+    m.newest c k,
+    m.not_held_off c,
+    m.no_ask,
+  );
   pending = λ d e. let p = o.pending d e in record {
     gets = p.gets;
     no_ask = grind (arith, nat_tests, p.no_ask, m.no_deferral d e);

@@ -7,7 +7,8 @@ use Rattle.fsb_line.specs.declared.purpose.Purpose.TheVariants.{Own, Read, Upgra
 use Rattle.fsb_line.specs.declared.state.Mesi.{Mesi}
 use Rattle.fsb_line.specs.declared.state.Mesi.TheVariants.{Exclusive, Invalid, Modified, Shared}
 use Rattle.fsb_line.specs.Links.{upgrades}
-use Rattle.fsb_line.specs.States.{after_snoop, asks_line, gets_line, granted, is_held, is_modified, is_sole, kind_owns, suits}
+use Rattle.fsb_line.specs.States.{after_snoop, asks_line, gets_line, granted, is_held, is_modified, is_sole, kind_owns}
+use Rattle.fsb_line.specs.States.{suits}
 
 -- two agents are the same or they aren't
 pub same_agent : (b a : ℕ) → (b ≡ a) ⊎ (b ≢ a)
@@ -66,14 +67,21 @@ snoop_not_sole s Upgrade h = refl
 snoop_not_sole s WriteBack h = absurd (cc)
 
 -- a snoop keeps the state of a clean line suited to its agent's own request
-pub snoop_suits : (j : Purpose) (s : Mesi) (k : Purpose) → suits j s ≡ true → is_modified s ≡ false → suits j (after_snoop s k) ≡ true
+pub snoop_suits : (j : Purpose) (s : Mesi) (k : Purpose) → suits j s ≡ true → is_modified s ≡ false
+    → suits j (after_snoop s k) ≡ true
 snoop_suits j Invalid Read h m = h
 snoop_suits j Invalid Own h m = h
 snoop_suits j Invalid Upgrade h m = h
 snoop_suits j Invalid WriteBack h m = h
 snoop_suits j s WriteBack h m = h
 snoop_suits j Modified k h m = absurd (cc)
-snoop_suits Read s Read h m = elim s as (λ s. not (is_held s) ≡ true → not (is_held (after_snoop s Read)) ≡ true) [ Invalid ↦ λ h. refl | Shared ↦ λ h. h | Exclusive ↦ λ h. h | Modified ↦ λ h. h ] h
+snoop_suits Read s Read h m = elim s as (λ s. not (is_held s) ≡ true
+    → not (is_held (after_snoop s Read)) ≡ true) [
+      | Invalid ↦ λ h. refl
+      | Shared ↦ λ h. h
+      | Exclusive ↦ λ h. h
+      | Modified ↦ λ h. h
+    ] h
 snoop_suits Read s Own h m = refl
 snoop_suits Read s Upgrade h m = refl
 snoop_suits Own Shared Read h m = refl
@@ -158,7 +166,8 @@ granted_owns Upgrade shared = refl
 granted_owns WriteBack shared = refl
 
 -- where a request gets its line for itself, it owns, or nobody was seen to hold the line
-pub granted_sole : (k : Purpose) (shared : Bool) → is_sole (granted k shared) ≡ true → (kind_owns k ≡ true) ⊎ (shared ≡ false)
+pub granted_sole : (k : Purpose) (shared : Bool) → is_sole (granted k shared) ≡ true
+    → (kind_owns k ≡ true) ⊎ (shared ≡ false)
 granted_sole Read true h = absurd (cc)
 granted_sole Read false h = inr refl
 granted_sole Own shared h = inl refl
@@ -166,7 +175,8 @@ granted_sole Upgrade shared h = inl refl
 granted_sole WriteBack shared h = absurd (cc)
 
 -- then nobody else holds the line after the snoop
-pub granted_alone : (k : Purpose) (shared : Bool) (s : Mesi) → is_sole (granted k shared) ≡ true → (shared ≡ false → is_held s ≡ false) → is_held (after_snoop s k) ≡ false
+pub granted_alone : (k : Purpose) (shared : Bool) (s : Mesi) → is_sole (granted k shared) ≡ true
+    → (shared ≡ false → is_held s ≡ false) → is_held (after_snoop s k) ≡ false
 granted_alone Read true s h f = absurd (cc)
 granted_alone Read false s h f = snoop_unheld s Read (f refl)
 granted_alone Own shared s h f = refl
@@ -174,7 +184,8 @@ granted_alone Upgrade shared s h f = refl
 granted_alone WriteBack shared s h f = absurd (cc)
 
 -- whoever still holds the line after the snoop of a request for it lost it to no owner
-pub snoop_unowned : (s : Mesi) (k : Purpose) → asks_line k ≡ true → is_held (after_snoop s k) ≡ true → kind_owns k ≡ false
+pub snoop_unowned : (s : Mesi) (k : Purpose) → asks_line k ≡ true → is_held (after_snoop s k) ≡ true
+    → kind_owns k ≡ false
 snoop_unowned s Read h m = refl
 snoop_unowned s Own h m = absurd (cc)
 snoop_unowned s Upgrade h m = absurd (cc)

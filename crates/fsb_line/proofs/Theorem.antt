@@ -1,8 +1,11 @@
 -- Every event that may happen keeps the order and the bytes of a line, and meets what it owes.
-use Rattle.std.proofs.Common.{◌≡◌, ℕ, Bool, true, false, cond, Option, Some, None, is_some, List, [], ◌∷◌, refl, ◌∙◌, ap, unwrap_or}
+use Rattle.std.proofs.Common.{◌≡◌, ℕ, Bool, true, false, cond, Option, Some, None, is_some, List, [], ◌∷◌, refl, ◌∙◌}
+use Rattle.std.proofs.Common.{ap, unwrap_or}
 use Rattle.fsb_line.specs.Coherence.{EndsOldest, IsCoherent, MovesNow, Ordered, Owes, Valued}
-use Rattle.fsb_line.specs.Events.{AwaitsResponse, Event, HasArrived, IsDecidedEnd, May, after, arrived, effect, oldest_ended, given, linked, replied, responded, settled, stored, stored_at_end}
-use Rattle.fsb_line.specs.Events.Event.{Begins, Drops, Ends, IsCancelled, IsDeferred, IsGranted, IsHanded, IsLost, IsReplied, IsRetried, IsUpgraded, IsWritten, Loads, Responds, Stores}
+use Rattle.fsb_line.specs.Events.{AwaitsResponse, Event, HasArrived, IsDecidedEnd, May, after, arrived, effect}
+use Rattle.fsb_line.specs.Events.{oldest_ended, given, linked, replied, responded, settled, stored, stored_at_end}
+use Rattle.fsb_line.specs.Events.Event.{Begins, Drops, Ends, IsCancelled, IsDeferred, IsGranted, IsHanded, IsLost}
+use Rattle.fsb_line.specs.Events.Event.{IsReplied, IsRetried, IsUpgraded, IsWritten, Loads, Responds, Stores}
 use Rattle.fsb_line.specs.Line.{Bytes, LineDeferral, MemoryLine, brought, has_copy, trimmed, unheld}
 use Rattle.fsb_line.specs.LineRuns.{MayRun, OwesAll, stored_by_all, run}
 use Rattle.fsb_line.specs.States.{asks_line, gets_line, put_off, sent_back, served}
@@ -15,29 +18,36 @@ use Rattle.fsb_line.specs.declared.link.Link.{Link}
 use Rattle.fsb_line.proofs.Order.{Ordered-IsRetried, Ordered-trimmed}
 use Rattle.fsb_line.proofs.OrderEnds.{Ordered-Ends, Ordered-Responds}
 use Rattle.fsb_line.proofs.OrderHits.{Ordered-Begins, Ordered-Drops, Ordered-IsCancelled, Ordered-Stores}
-use Rattle.fsb_line.proofs.OrderSnoops.{Ordered-IsDeferred, Ordered-IsGranted, Ordered-IsHanded, Ordered-IsLost, Ordered-IsReplied, Ordered-IsUpgraded, Ordered-IsWritten}
+use Rattle.fsb_line.proofs.OrderSnoops.{Ordered-IsDeferred, Ordered-IsGranted, Ordered-IsHanded, Ordered-IsLost}
+use Rattle.fsb_line.proofs.OrderSnoops.{Ordered-IsReplied, Ordered-IsUpgraded, Ordered-IsWritten}
 use Rattle.fsb_line.proofs.StateFacts.{modified_is_sole}
 use Rattle.fsb_line.proofs.ValueEnds.{Valued-Ends, Valued-Responds, brought_now, no_copies}
-use Rattle.fsb_line.proofs.ValueSnoops.{Valued-IsGranted, Valued-IsHanded, Valued-IsReplied, Valued-IsUpgraded, Valued-IsWritten}
-use Rattle.fsb_line.proofs.Values.{Valued-Begins, Valued-Drops, Valued-IsCancelled, Valued-IsDeferred, Valued-IsLost, Valued-IsRetried, Valued-Stores, Valued-trimmed, ready_has_copy}
+use Rattle.fsb_line.proofs.ValueSnoops.{Valued-IsGranted, Valued-IsHanded, Valued-IsReplied, Valued-IsUpgraded}
+use Rattle.fsb_line.proofs.ValueSnoops.{Valued-IsWritten}
+use Rattle.fsb_line.proofs.Values.{Valued-Begins, Valued-Drops, Valued-IsCancelled, Valued-IsDeferred, Valued-IsLost}
+use Rattle.fsb_line.proofs.Values.{Valued-IsRetried, Valued-Stores, Valued-trimmed, ready_has_copy}
 
 -- what the end of the oldest link brings
-brought_some : (x : MemoryLine) (l : Link) (ls : List Link) → x.chain ≡ l ∷ ls → Valued x → is_some (brought x l) ≡ true → brought x l ≡ Some x.now
+brought_some : (x : MemoryLine) (l : Link) (ls : List Link) → x.chain ≡ l ∷ ls → Valued x
+    → is_some (brought x l) ≡ true → brought x l ≡ Some x.now
 brought_some x l ls e v h = one (brought x l) refl h
   where
     one : (b : Option Bytes) → brought x l ≡ b → is_some b ≡ true → brought x l ≡ Some x.now
     one None f g = absurd (cc)
     one (Some bytes) f g = f ∙ ap Some (brought_now x l ls bytes e v f)
 
-Ordered-oldest_ended : (x : MemoryLine) (ls : List Link) (change : Bytes → Bytes) → x.chain ≡ ls → Ordered x → Ordered (oldest_ended x ls change)
+Ordered-oldest_ended : (x : MemoryLine) (ls : List Link) (change : Bytes → Bytes) → x.chain ≡ ls → Ordered x
+    → Ordered (oldest_ended x ls change)
 unfolding oldest_ended
 Ordered-oldest_ended x [] change e o = o
 Ordered-oldest_ended x (l ∷ ls) change e o = Ordered-Ends x l ls change (unwrap_or (brought x l) []) e o
 
-Valued-oldest_ended : (x : MemoryLine) (ls : List Link) (change : Bytes → Bytes) → x.chain ≡ ls → HasArrived x ls → Ordered x → Valued x → Valued (oldest_ended x ls change)
+Valued-oldest_ended : (x : MemoryLine) (ls : List Link) (change : Bytes → Bytes) → x.chain ≡ ls
+    → HasArrived x ls → Ordered x → Valued x → Valued (oldest_ended x ls change)
 unfolding oldest_ended
 Valued-oldest_ended x [] change e h o v = v
-Valued-oldest_ended x (l ∷ ls) change e h o v = Valued-Ends x l ls change (unwrap_or (brought x l) []) e (rw (brought_some x l ls e v h)) o v
+Valued-oldest_ended x (l ∷ ls) change e h o v =
+    Valued-Ends x l ls change (unwrap_or (brought x l) []) e (rw (brought_some x l ls e v h)) o v
 
 ordered_effect : (x : MemoryLine) (e : Event) → Ordered x → May x e → Ordered (effect x e)
 unfolding May
@@ -100,14 +110,22 @@ ends_now x (l ∷ ls) e h o v = record {
 pub owes_met : (x : MemoryLine) (e : Event) → Ordered x → Valued x → May x e → Owes x e
 unfolding May Owes
 owes_met x (Loads a) o v m = record { value = v.copies a (ready_has_copy x a m.held m.no_link) }
-owes_met x (Stores a change) o v m = record { value = v.copies a (ready_has_copy x a m.0.held m.0.no_link); alone = o.alone a m.1 }
+owes_met x (Stores a change) o v m = record {
+  value = v.copies a (ready_has_copy x a m.0.held m.0.no_link);
+  alone = o.alone a m.1;
+}
 owes_met x (Drops a) o v m = tt
 owes_met x (Begins a kind number) o v m = tt
 owes_met x (IsCancelled a) o v m = tt
-owes_met x (IsWritten a) o v m = record { modified = o.suited a _ m.asked; alone = o.alone a (modified_is_sole (x.state a) (o.suited a _ m.asked)) }
-owes_met x (IsHanded a kind owner) o v m = record { modified = m.modified; alone = o.alone owner (modified_is_sole (x.state owner) m.modified) }
+owes_met x (IsWritten a) o v m = record {
+  modified = o.suited a _ m.asked;
+  alone = o.alone a (modified_is_sole (x.state a) (o.suited a _ m.asked));
+}
+owes_met x (IsHanded a kind owner) o v m =
+    record { modified = m.modified; alone = o.alone owner (modified_is_sole (x.state owner) m.modified) }
 owes_met x (IsGranted a kind shared) o v m = tt
-owes_met x (IsUpgraded a) o v m = record { value = v.copies a (ready_has_copy x a m.held (o.apart a _ m.settles.oldest.asked)) }
+owes_met x (IsUpgraded a) o v m =
+    record { value = v.copies a (ready_has_copy x a m.held (o.apart a _ m.settles.oldest.asked)) }
 owes_met x (IsLost a) o v m = tt
 owes_met x (IsRetried a kind) o v m = tt
 owes_met x (IsDeferred a kind shared) o v m = tt
@@ -150,7 +168,8 @@ valued_run x (e ∷ es) o v m = valued_run (after x e) es (ordered_after x e o m
 
 pub owes_run : (x : MemoryLine) (es : List Event) → Ordered x → Valued x → MayRun x es → OwesAll x es
 owes_run x [] o v m = tt
-owes_run x (e ∷ es) o v m = (owes_met x e o v m.0, owes_run (after x e) es (ordered_after x e o m.0) (valued_after x e o v m.0) m.1)
+owes_run x (e ∷ es) o v m =
+    (owes_met x e o v m.0, owes_run (after x e) es (ordered_after x e o m.0) (valued_after x e o v m.0) m.1)
 
 pub coherent : (x : MemoryLine) → Ordered x → Valued x → IsCoherent x
 coherent x o v = record {
@@ -166,7 +185,8 @@ pub owes_from_unheld : (bytes : Bytes) (es : List Event) → MayRun (unheld byte
 owes_from_unheld bytes es m = owes_run (unheld bytes) es (ordered_unheld bytes) (valued_unheld bytes) m
 
 -- and the line is coherent
-pub coherent_from_unheld : (bytes : Bytes) (es : List Event) → MayRun (unheld bytes) es → IsCoherent (run (unheld bytes) es)
+pub coherent_from_unheld : (bytes : Bytes) (es : List Event) → MayRun (unheld bytes) es
+    → IsCoherent (run (unheld bytes) es)
 coherent_from_unheld bytes es m =
     coherent (run (unheld bytes) es)
     (ordered_run (unheld bytes) es (ordered_unheld bytes) m)
@@ -177,7 +197,8 @@ unfolding responded
 responded-now x [] = refl
 responded-now x (l ∷ ls) = refl
 
-oldest_ended-now : (x : MemoryLine) (ls : List Link) (change : Bytes → Bytes) → (oldest_ended x ls change).now ≡ stored_at_end ls change x.now
+oldest_ended-now : (x : MemoryLine) (ls : List Link) (change : Bytes → Bytes)
+    → (oldest_ended x ls change).now ≡ stored_at_end ls change x.now
 unfolding oldest_ended arrived
 oldest_ended-now x [] change = refl
 oldest_ended-now x (l ∷ ls) change = refl
@@ -250,7 +271,8 @@ snoop_end_decided x (IsHanded a kind owner) m = (Keep, refl)
 snoop_end_decided x (IsGranted a kind shared) m = (Keep, rw m.not_pending (served_getter kind m.gets))
 snoop_end_decided x (IsUpgraded a) m = (Keep, rw m.not_pending)
 snoop_end_decided x (IsLost a) m = (Keep, rw m.not_pending)
-snoop_end_decided x (IsRetried a kind) m = (Retry, rw (sent_back_asker kind m.1) (cond_alike (is_some x.deferral) Retried Retried refl))
+snoop_end_decided x (IsRetried a kind) m =
+    (Retry, rw (sent_back_asker kind m.1) (cond_alike (is_some x.deferral) Retried Retried refl))
 snoop_end_decided x (IsDeferred a kind shared) m = (Defer, rw m.not_pending (put_off_getter kind m.gets))
 snoop_end_decided x IsReplied m = tt
 snoop_end_decided x Responds m = tt

@@ -24,10 +24,12 @@ Valued-trimmed x v = record {
 }
 
 -- a ready copy is a copy
-pub ready_has_copy : (x : MemoryLine) (a : ℕ) → is_held (x.state a) ≡ true → is_linked a x.chain ≡ false → has_copy x a ≡ true
+pub ready_has_copy : (x : MemoryLine) (a : ℕ) → is_held (x.state a) ≡ true → is_linked a x.chain ≡ false
+    → has_copy x a ≡ true
 ready_has_copy x a h u = rw (h, u) (or-true (has_won a x.chain))
 
-pub Valued-Stores : (x : MemoryLine) (a : ℕ) (change : Bytes → Bytes) → Ordered x → Valued x → IsReady x a × (is_sole (x.state a) ≡ true) → Valued (effect x (Stores a change))
+pub Valued-Stores : (x : MemoryLine) (a : ℕ) (change : Bytes → Bytes) → Ordered x → Valued x
+    → IsReady x a × (is_sole (x.state a) ≡ true) → Valued (effect x (Stores a change))
 unfolding effect put
 Valued-Stores x a change o v m =
     let empty : x.chain ≡ [] = sole_unlinked x a o m.1 m.0.no_link in
@@ -35,7 +37,8 @@ Valued-Stores x a change o v m =
     let none : (b : ℕ) → has_won b x.chain ≡ false = λ b. ap (has_won b) empty in
     record {
       copies = λ b h. grind (arith, nat_tests, o.alone a m.1 b, none b, e);
-      rests = λ f g. absurd (let h = g a in let k = cond-same a true (is_modified (x.state a)) in grind (arith, nat_tests));
+      rests = λ f g. absurd (let h = g a in let k = cond-same a true (is_modified (x.state a)) in
+          grind (arith, nat_tests));
       oldest = λ l ls f. absurd (cc);
       carried = λ bytes f. absurd (let q = v.quiet empty in cc);
       quiet = v.quiet;
@@ -51,15 +54,29 @@ Valued-Drops x a v m = record {
   quiet = v.quiet;
 }
 
-pub Valued-Begins : (x : MemoryLine) (a : ℕ) (kind : Purpose) (number : ℕ) → Valued x → Valued (effect x (Begins a kind number))
+pub Valued-Begins : (x : MemoryLine) (a : ℕ) (kind : Purpose) (number : ℕ) → Valued x
+    → Valued (effect x (Begins a kind number))
 unfolding effect
-Valued-Begins x a kind number v = record { copies = v.copies; rests = v.rests; oldest = v.oldest; carried = v.carried; quiet = v.quiet }
+Valued-Begins x a kind number v = record {
+  copies = v.copies;
+  rests = v.rests;
+  oldest = v.oldest;
+  carried = v.carried;
+  quiet = v.quiet;
+}
 
 pub Valued-IsCancelled : (x : MemoryLine) (a : ℕ) → Valued x → Valued (effect x (IsCancelled a))
 unfolding effect
-Valued-IsCancelled x a v = record { copies = v.copies; rests = v.rests; oldest = v.oldest; carried = v.carried; quiet = v.quiet }
+Valued-IsCancelled x a v = record {
+  copies = v.copies;
+  rests = v.rests;
+  oldest = v.oldest;
+  carried = v.carried;
+  quiet = v.quiet;
+}
 
-pub Valued-IsRetried : (x : MemoryLine) (a : ℕ) (kind : Purpose) → Valued x → MaySettle x a kind × (asks_line kind ≡ true) → Valued (effect x (IsRetried a kind))
+pub Valued-IsRetried : (x : MemoryLine) (a : ℕ) (kind : Purpose) → Valued x
+    → MaySettle x a kind × (asks_line kind ≡ true) → Valued (effect x (IsRetried a kind))
 unfolding effect settled
 Valued-IsRetried x a kind v m = record {
   copies = λ b h. v.copies b (grind (arith, nat_tests, snoop_held));
@@ -81,7 +98,8 @@ Valued-IsLost x a v m =
       quiet = v.quiet;
     }
 
-pub Valued-IsDeferred : (x : MemoryLine) (a : ℕ) (kind : Purpose) (shared : Bool) → Valued x → MayGrant x a kind shared → Valued (effect x (IsDeferred a kind shared))
+pub Valued-IsDeferred : (x : MemoryLine) (a : ℕ) (kind : Purpose) (shared : Bool) → Valued x
+    → MayGrant x a kind shared → Valued (effect x (IsDeferred a kind shared))
 unfolding effect settled
 Valued-IsDeferred x a kind shared v m = record {
   copies = λ b h. v.copies b (grind (arith, nat_tests, snoop_held));

@@ -1,7 +1,8 @@
 -- What memory and the givers have in the middle of worked runs, worked out by hand.
 use Rattle.std.proofs.Common.{◌≡◌, true, false, Some, None, List, [], ◌∷◌, ◌++◌, refl}
 use Rattle.fsb_line.specs.declared.purpose.Purpose.TheVariants.{Own, Read}
-use Rattle.fsb_line.specs.Events.{Event, after, arrived, effect, oldest_ended, given, linked, replied, responded, settled}
+use Rattle.fsb_line.specs.Events.{Event, after, arrived, effect, oldest_ended, given, linked, replied, responded}
+use Rattle.fsb_line.specs.Events.{settled}
 use Rattle.fsb_line.specs.Events.Event.{Begins, Ends, IsCancelled, IsGranted, Responds, Stores}
 use Rattle.fsb_line.specs.Line.{put, trimmed, unheld}
 use Rattle.fsb_line.specs.LineRuns.{run}
@@ -12,7 +13,8 @@ abbrev both_stored : List Event
 both_stored = promises ++ (Responds ∷ Ends (stores 5) ∷ Responds ∷ Ends (stores 7) ∷ [])
 
 -- memory took what was handed over, without the store at its end; the reader's bytes have the store
-two_owners_race : ((run (unheld (byte 0)) both_stored).memory ≡ byte 5) × ((run (unheld (byte 0)) both_stored).pushed ≡ Some (byte 7))
+two_owners_race : ((run (unheld (byte 0)) both_stored).memory ≡ byte 5)
+    × ((run (unheld (byte 0)) both_stored).pushed ≡ Some (byte 7))
 unfolding after effect trimmed settled linked given put replied responded oldest_ended arrived
 two_owners_race = (refl, refl)
 
@@ -27,7 +29,8 @@ unfolding after effect trimmed settled linked given put replied responded oldest
 readers_give_nothing = refl
 
 -- an owner has stored 5 at the end of its request, and 7 in its copy: memory has neither
-stores_stay_in_the_copy : ((run (unheld (byte 0)) (owned ++ (Stores 0 (stores 7) ∷ []))).memory ≡ byte 0) × ((run (unheld (byte 0)) (owned ++ (Stores 0 (stores 7) ∷ []))).copy 0 ≡ byte 7)
+stores_stay_in_the_copy : ((run (unheld (byte 0)) (owned ++ (Stores 0 (stores 7) ∷ []))).memory ≡ byte 0)
+    × ((run (unheld (byte 0)) (owned ++ (Stores 0 (stores 7) ∷ []))).copy 0 ≡ byte 7)
 unfolding after effect trimmed settled linked given put replied responded oldest_ended arrived
 stores_stay_in_the_copy = (refl, refl)
 

@@ -10,7 +10,8 @@ use Rattle.fsb_look.specs.SearchText.{line_text}
 
 -- the next line, and those behind it
 pub next_line : (lines : List (List ℕ)) (i : ℕ) → i < length lines
-    → flat_map (λ line. line) (drop i lines) ≡ line_text (slice_get lines i) ++ flat_map (λ line. line) (drop (i + 1) lines)
+    → flat_map (λ line. line) (drop i lines) ≡ line_text (slice_get lines i) ++ flat_map (λ line. line)
+    (drop (i + 1) lines)
 next_line lines i h =
     let e = slice_get-get_or lines i [] h in
     rw (e, add-one, drop-cons lines i []) (rw flat_map-cons refl)

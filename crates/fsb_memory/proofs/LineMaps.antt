@@ -1,5 +1,6 @@
 -- A map of lines after one of them was written.
-use Rattle.std.proofs.Common.{◌≡◌, ◌≢◌, ℕ, ◌+◌, ◌<◌, Bool, cond, ◌||◌, List, [], ◌∷◌, ◌++◌, Some, None, IsTrue, length, take, get_or, sym, ap, ◌∙◌, ⊎_elim, arith, add-one}
+use Rattle.std.proofs.Common.{◌≡◌, ◌≢◌, ℕ, ◌+◌, ◌<◌, Bool, cond, ◌||◌, List, [], ◌∷◌, ◌++◌, Some, None, IsTrue, length}
+use Rattle.std.proofs.Common.{take, get_or, sym, ap, ◌∙◌, ⊎_elim, arith, add-one}
 use Rattle.std.proofs.lemmas.Bool.{cases_eq}
 use Rattle.std.proofs.lemmas.Bool.Decides.{nat_tests}
 use Rattle.std.proofs.lemmas.List.Folds.{list_any-append}
@@ -12,9 +13,11 @@ use Rattle.fsb_memory.specs.Controller.{LineMap, is_mapped, line_in}
 -- the new map has these bytes at the line, and at each other one what the old map has
 abbrev pub Writes : LineMap → LineMap → ℕ → List ℕ → Type 0
 Writes old new line bytes =
-    (other : ℕ) → lookup (λ key. other == key) new ≡ cond (line == other) (Some bytes) (lookup (λ key. other == key) old)
+    (other : ℕ) → lookup (λ key. other == key) new
+    ≡ cond (line == other) (Some bytes) (lookup (λ key. other == key) old)
 
-pub line_in-written : (old new : LineMap) (line : ℕ) (bytes : List ℕ) → Writes old new line bytes → line_in new line ≡ bytes
+pub line_in-written : (old new : LineMap) (line : ℕ) (bytes : List ℕ) → Writes old new line bytes
+    → line_in new line ≡ bytes
 line_in-written old new line bytes writes = let at = writes line in grind (arith, nat_tests)
 
 pub line_in-other :
@@ -34,7 +37,8 @@ pub is_mapped-held :
 is_mapped-held old new line bytes writes held other = let at = writes other in grind (arith, nat_tests)
 
 -- a line that is not found is not there
-pub is_mapped-none : (lines : LineMap) (line : ℕ) → lookup (λ key. line == key) lines ≡ None → IsTrue (is_mapped lines line) → ⊥
+pub is_mapped-none : (lines : LineMap) (line : ℕ) → lookup (λ key. line == key) lines ≡ None
+    → IsTrue (is_mapped lines line) → ⊥
 is_mapped-none lines line none held = grind (arith, nat_tests)
 
 -- a line that was written with the bytes that it had
@@ -43,7 +47,8 @@ pub line_in-same :
     → ((other : ℕ) → other ≢ line → line_in new other ≡ line_in old other)
     → (other : ℕ) → line_in new other ≡ line_in old other
 line_in-same old new line bytes was here others other =
-    ⊎_elim (λ same. ap (line_in new) same ∙ here ∙ was ∙ ap (line_in old) (sym same)) (others other) (cases_eq other line)
+    ⊎_elim (λ same. ap (line_in new) same ∙ here ∙ was ∙ ap (line_in old) (sym same)) (others other)
+    (cases_eq other line)
 
 -- one line more of a list is named
 pub named-one_more :

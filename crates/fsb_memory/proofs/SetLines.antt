@@ -1,5 +1,6 @@
 -- Settings of one line, put one after the other.
-use Rattle.std.proofs.Common.{◌≡◌, ℕ, ◌+◌, ◌/◌, ◌%◌, ◌<◌, cond, ◌&&◌, ◌||◌, List, [], ◌∷◌, ◌++◌, length, get_or, set, take, drop, Bool, sym, ap, ◌∙◌, ⊎_elim, arith, add-one}
+use Rattle.std.proofs.Common.{◌≡◌, ℕ, ◌+◌, ◌/◌, ◌%◌, ◌<◌, cond, ◌&&◌, ◌||◌, List, [], ◌∷◌, ◌++◌, length, get_or, set}
+use Rattle.std.proofs.Common.{take, drop, Bool, sym, ap, ◌∙◌, ⊎_elim, arith, add-one}
 use Rattle.std.proofs.lemmas.Bool.{cases_eq}
 use Rattle.std.proofs.lemmas.Bool.Decides.{nat_tests}
 use Rattle.std.proofs.lemmas.List.Sums.{fold_more, fold-append}
@@ -17,10 +18,12 @@ no_setting = record { addr = 0; byte = 0 }
 
 -- the bytes in hand are those of their line after the settings so far, and no other line has changed
 abbrev pub BytesSoFar : (ℕ → List ℕ) → ℕ → List ℕ → List Setting → Type 0
-BytesSoFar old line bytes settings = (other : ℕ) → cond (other == line) bytes (old other) ≡ set_bytes other (old other) settings
+BytesSoFar old line bytes settings = (other : ℕ)
+    → cond (other == line) bytes (old other) ≡ set_bytes other (old other) settings
 
 pub bytes_so_far-none : (old : ℕ → List ℕ) (line : ℕ) (bytes : List ℕ) → bytes ≡ old line → BytesSoFar old line bytes []
-bytes_so_far-none old line bytes is other = ⊎_elim (λ same. rw same (grind (arith, nat_tests))) (λ apart. grind (arith, nat_tests)) (cases_eq other line)
+bytes_so_far-none old line bytes is other =
+    ⊎_elim (λ same. rw same (grind (arith, nat_tests))) (λ apart. grind (arith, nat_tests)) (cases_eq other line)
 
 pub bytes_so_far-more :
     (old : ℕ → List ℕ) (line : ℕ) (bytes : List ℕ) (settings : List Setting) (count : ℕ) (setting : Setting)
@@ -28,13 +31,15 @@ pub bytes_so_far-more :
     → setting ≡ get_or settings count no_setting → setting.addr / 32 ≡ line
     → BytesSoFar old line (set bytes (setting.addr % 32) setting.byte) (take (count + 1) settings)
 bytes_so_far-more old line bytes settings count setting sofar below is of other =
-    let more : set_bytes other (old other) (take (count + 1) settings) ≡ set_byte other (set_bytes other (old other) (take count settings)) setting =
+    let more : set_bytes other (old other) (take (count + 1) settings)
+    ≡ set_byte other (set_bytes other (old other) (take count settings)) setting =
     rw is (fold_more (set_byte other) (old other) settings count no_setting below) in
     rw (more, ← sofar other) (grind (arith, nat_tests))
 
 -- the settings so far are of this one line, if there are any
 abbrev pub NamesSoFar : ℕ → ℕ → List Setting → Type 0
-NamesSoFar line count settings = (other : ℕ) → list_any (is_in_line other) settings ≡ (nat_lt 0 count && (other == line))
+NamesSoFar line count settings = (other : ℕ)
+    → list_any (is_in_line other) settings ≡ (nat_lt 0 count && (other == line))
 
 pub names_so_far-more :
     (line : ℕ) (settings : List Setting) (count : ℕ) (setting : Setting)
@@ -43,7 +48,8 @@ pub names_so_far-more :
     → NamesSoFar line (count + 1) (take (count + 1) settings)
 names_so_far-more line settings count setting sofar below is of other =
     let more : take (count + 1) settings ≡ take count settings ++ setting ∷ [] =
-    ap (λ n. take n settings) (add-one count) ∙ take-suc settings count no_setting below ∙ ap (λ s. take count settings ++ s ∷ []) (sym is) in
+    ap (λ n. take n settings) (add-one count) ∙ take-suc settings count no_setting below
+    ∙ ap (λ s. take count settings ++ s ∷ []) (sym is) in
     rw (more, list_any-append, sofar other) (grind (arith, nat_tests))
 
 -- a line, and whether it is named, after the settings so far and some more
@@ -52,7 +58,8 @@ pub bytes-more :
     → before ≡ set_bytes line zeros (take done settings) → now ≡ set_bytes line before (take count (drop done settings))
     → now ≡ set_bytes line zeros (take (done + count) settings)
 bytes-more line zeros before now settings done count stands more =
-    more ∙ rw (stands, take-add done count settings) (sym (fold-append (set_byte line) zeros (take done settings) (take count (drop done settings))))
+    more ∙ rw (stands, take-add done count settings)
+    (sym (fold-append (set_byte line) zeros (take done settings) (take count (drop done settings))))
 
 pub named-more :
     (line : ℕ) (before now : Bool) (settings : List Setting) (done count : ℕ)
@@ -61,4 +68,5 @@ pub named-more :
     → now ≡ list_any (is_in_line line) (take (done + count) settings)
 named-more line before now settings done count stands more =
     more ∙ rw (stands, take-add done count settings, list_any-append)
-    (or_comm (list_any (is_in_line line) (take count (drop done settings))) (list_any (is_in_line line) (take done settings)))
+    (or_comm (list_any (is_in_line line) (take count (drop done settings)))
+    (list_any (is_in_line line) (take done settings)))

@@ -13,10 +13,13 @@ use Rattle.fsb_phase.proofs.SnoopStep.{snooped_is, snooped_to-is}
 use Rattle.fsb_phase.proofs.ResponseStep.{response_to-is, ready_to-is}
 use Rattle.fsb_phase.proofs.Course.{Step, step, ended_is, from_to-is}
 
-step_of : (p : Phases) (h : Trace) (x : Sample) (queue : List Entry) (turns : List ℕ) (clock : ℕ) → Stands p h → MayTake clock x queue turns h → (e s : ℕ) × Step p h x (h ++ x ∷ []) queue e s
-step_of p h x queue turns clock k t = step p h x (h ++ x ∷ []) queue (one_more h x) k (held queue turns h t.flight) t.answers t.spaced
+step_of : (p : Phases) (h : Trace) (x : Sample) (queue : List Entry) (turns : List ℕ) (clock : ℕ) → Stands p h
+    → MayTake clock x queue turns h → (e s : ℕ) × Step p h x (h ++ x ∷ []) queue e s
+step_of p h x queue turns clock k t =
+    step p h x (h ++ x ∷ []) queue (one_more h x) k (held queue turns h t.flight) t.answers t.spaced
 
-told : (p : Phases) (h : Trace) (x : Sample) (queue : List Entry) (e s : ℕ) → Step p h x (h ++ x ∷ []) queue e s → phased_by p (length h) x queue ≡ phased_at (h ++ x ∷ []) (length h) queue
+told : (p : Phases) (h : Trace) (x : Sample) (queue : List Entry) (e s : ℕ) → Step p h x (h ++ x ∷ []) queue e s
+    → phased_by p (length h) x queue ≡ phased_at (h ++ x ∷ []) (length h) queue
 unfolding phased_by phased_at
 told p h x queue e s k =
     rw (
@@ -25,13 +28,15 @@ told p h x queue e s k =
     ) refl
 
 -- what they tell of the clock
-pub phased_is : (p : Phases) (h : Trace) (x : Sample) (queue : List Entry) (turns : List ℕ) (clock : ℕ) → Stands p h → MayTake clock x queue turns h → phased_by p clock x queue ≡ phased_at (h ++ x ∷ []) clock queue
+pub phased_is : (p : Phases) (h : Trace) (x : Sample) (queue : List Entry) (turns : List ℕ) (clock : ℕ)
+    → Stands p h → MayTake clock x queue turns h → phased_by p clock x queue ≡ phased_at (h ++ x ∷ []) clock queue
 phased_is p h x queue turns clock k t =
     let st = step_of p h x queue turns clock k t in
     ap (λ n. phased_by p n x queue) t.clock_is ∙ told p h x queue st.0 st.1 st.2
     ∙ sym (ap (λ n. phased_at (h ++ x ∷ []) n queue) t.clock_is)
 
-stands_next : (p : Phases) (h : Trace) (x : Sample) (queue : List Entry) (e s : ℕ) → Step p h x (h ++ x ∷ []) queue e s → Stands (phases_to p (length h) x queue) (h ++ x ∷ [])
+stands_next : (p : Phases) (h : Trace) (x : Sample) (queue : List Entry) (e s : ℕ)
+    → Step p h x (h ++ x ∷ []) queue e s → Stands (phases_to p (length h) x queue) (h ++ x ∷ [])
 unfolding phases_to
 stands_next p h x queue e s k =
     let v : Trace = h ++ x ∷ [] in
@@ -45,7 +50,8 @@ stands_next p h x queue e s k =
     }
 
 -- and what they then stand for
-pub stands_is : (p new : Phases) (h : Trace) (x : Sample) (queue : List Entry) (turns : List ℕ) (clock : ℕ) → Stands p h → MayTake clock x queue turns h → new ≡ phases_to p clock x queue → Stands new (h ++ x ∷ [])
+pub stands_is : (p new : Phases) (h : Trace) (x : Sample) (queue : List Entry) (turns : List ℕ) (clock : ℕ)
+    → Stands p h → MayTake clock x queue turns h → new ≡ phases_to p clock x queue → Stands new (h ++ x ∷ [])
 stands_is p new h x queue turns clock k t e =
     let st = step_of p h x queue turns clock k t in
     let same : new ≡ phases_to p (length h) x queue = e ∙ ap (λ n. phases_to p n x queue) t.clock_is in

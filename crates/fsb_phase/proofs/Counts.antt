@@ -1,5 +1,6 @@
 -- How many numbers pass a test that all lesser ones pass too; how many snoop ends and ends a history has.
-use Rattle.std.proofs.Common.{ℕ, zero, suc, ◌+◌, ◌<◌, ◌≤◌, ◌≡◌, Bool, true, false, Option, Some, None, is_some, refl, sym, inl, inr, arith, subst, add-one}
+use Rattle.std.proofs.Common.{ℕ, zero, suc, ◌+◌, ◌<◌, ◌≤◌, ◌≡◌, Bool, true, false, Option, Some, None, is_some, refl}
+use Rattle.std.proofs.Common.{sym, inl, inr, arith, subst, add-one}
 use Rattle.std.proofs.lemmas.Bool.{cases_Bool, cases_lt, cases_eq, cases_order}
 use Rattle.fsb_count.specs.Clocks.{count_where}
 use Rattle.fsb_count.proofs.Interface.{count_where-failed, is_some-none}
@@ -59,11 +60,14 @@ count_splits p (suc n) c =
           let whole : Split p (suc n) (suc n) = (rw (add-one) at (split_passed p n c t)) in
           rw (let all : count_where p (suc n) ≡ suc n = (rw add-one at (count_passed p n c t)) in all) whole
       | inr f ↦
-          let rest : Split p (suc n) (count_where p n) = (rw (add-one) at (split_failed p n (count_where p n) f (count_splits p n c))) in
-          rw (let same : count_where p (suc n) ≡ count_where p n = (rw add-one at (count_where-failed p n f)) in same) rest
+          let rest : Split p (suc n) (count_where p n) =
+          (rw (add-one) at (split_failed p n (count_where p n) f (count_splits p n c))) in
+          rw (let same : count_where p (suc n) ≡ count_where p n = (rw add-one at (count_where-failed p n f)) in
+          same) rest
     ]
 
-snoops_down : (h : Trace) (i j : ℕ) (o : Option ℕ) → i < j → snoop_end_of h j ≡ o → is_some o ≡ true → is_some (snoop_end_of h i) ≡ true
+snoops_down : (h : Trace) (i j : ℕ) (o : Option ℕ) → i < j → snoop_end_of h j ≡ o → is_some o ≡ true
+    → is_some (snoop_end_of h i) ≡ true
 snoops_down h i j None l e t = absurd (let none : ⊥ = cc in none)
 snoops_down h i j (Some s) l e t = let k = snoop_end_of-rises h i j s l e in rw k.1 refl
 
@@ -88,7 +92,8 @@ snoops_to h =
     let n : ℕ = live_count h in
     let split = count_splits (λ i. is_some (snoop_end_of h i)) n (snoops_closed h) in
     record {
-      reached = λ i l. let v = some_value (snoop_end_of h i) (split.below i l) in (v.0, v.1, (snoop_end_of-clock h i v.0 v.1).within);
+      reached = λ i l. let v = some_value (snoop_end_of h i) (split.below i l) in
+          (v.0, v.1, (snoop_end_of-clock h i v.0 v.1).within);
       next = elim (cases_lt (count_where (λ i. is_some (snoop_end_of h i)) n) n) [
         | inl less ↦ is_some-none _ (split.above _ (omega arith) less)
         | inr most ↦ unreached h _ _ most refl
@@ -102,7 +107,8 @@ snoops_count h s to =
     elim (cases_order (snooped_count h) s) [
       | inl same ↦ same
       | inr other ↦ elim other [
-        | inl less ↦ let v = to.reached (snooped_count h) less in absurd (let e = own.next in (let none : ⊥ = cc in none))
+        | inl less ↦ let v = to.reached (snooped_count h) less in
+            absurd (let e = own.next in (let none : ⊥ = cc in none))
         | inr more ↦ let v = own.reached s more in absurd (let e = to.next in (let none : ⊥ = cc in none))
       ]
     ]

@@ -5,7 +5,8 @@ use Rattle.std.proofs.lemmas.Bool.{cases_lt}
 use Rattle.fsb_trace.specs.At.{Trace}
 use Rattle.fsb_laws.specs.Orderly.{Orderly}
 use Rattle.fsb_laws.specs.Progress.{SnoopsTo, EndsTo, response_count, transfer_of}
-use Rattle.fsb_laws.proofs.Interface.{response_there, response_past, has_answer, ends_to-still, ends_to-moving, transfer_parts}
+use Rattle.fsb_laws.proofs.Interface.{response_there, response_past, has_answer, ends_to-still, ends_to-moving}
+use Rattle.fsb_laws.proofs.Interface.{transfer_parts}
 use Rattle.fsb_queue.specs.declared.entry.Entry.{Entry}
 use Rattle.fsb_phase.specs.declared.phases.Phases.{Phases}
 use Rattle.fsb_phase.proofs.Held.{Held}
@@ -57,7 +58,8 @@ far_by h (Some k) o f =
 pub far : (h : Trace) → Orderly h → (e : ℕ) × Far h e
 far h o = far_by h (transfer_of h) o refl
 
-pub meets : (p : Phases) (h : Trace) (queue : List Entry) (e : ℕ) → Stands p h → Held queue h → Far h e → Meets p h queue e (snooped_count h)
+pub meets : (p : Phases) (h : Trace) (queue : List Entry) (e : ℕ) → Stands p h → Held queue h → Far h e
+    → Meets p h queue e (snooped_count h)
 unfolding last_snoop_end
 meets p h queue e k f w =
     let to = snoops_to h in
@@ -66,13 +68,16 @@ meets p h queue e k f w =
     record { ends = w.ends; snoops = to; order = omega arith; flight = f; snooped = k.snooped }
 
 -- what the phases drive by what they keep is what is due after the history
-pub driven : (p : Phases) (h : Trace) (queue : List Entry) → Stands p h → Held queue h → drive_by p (length h) queue ≡ drive_of h queue
+pub driven : (p : Phases) (h : Trace) (queue : List Entry) → Stands p h → Held queue h
+    → drive_by p (length h) queue ≡ drive_of h queue
 unfolding drive_by drive_of
 driven p h queue k f =
     let w = far h k.orderly in
     let m = meets p h queue w.0 k f w.1 in
-    let same : (y : Entry) → slice_get queue 0 ≡ Some y → Same p h y = λ y g. same_head p h queue w.0 y k f w.1.ends w.1.answered g in
-    let idle : (j : ℕ) (y : Entry) → 0 < j → slice_get queue j ≡ Some y → Idle h y = λ j y l g. idle-later h queue w.0 j y f w.1.ends w.1.answered l g in
+    let same : (y : Entry) → slice_get queue 0 ≡ Some y
+    → Same p h y = λ y g. same_head p h queue w.0 y k f w.1.ends w.1.answered g in
+    let idle : (j : ℕ) (y : Entry) → 0 < j → slice_get queue j ≡ Some y
+    → Idle h y = λ j y l g. idle-later h queue w.0 j y f w.1.ends w.1.answered l g in
     rw (
       stalled-is p h queue w.0 (snooped_count h) m,
       snooping-is p h queue w.0 (snooped_count h) m,

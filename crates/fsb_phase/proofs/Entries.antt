@@ -1,5 +1,6 @@
 -- The entries of a queue that holds the requests in flight: their places and their numbers.
-use Rattle.std.proofs.Common.{ℕ, zero, suc, ◌+◌, ◌<◌, ◌≡◌, true, Some, List, [], ◌∷◌, drop, length, refl, sym, ap, ◌∙◌, arith}
+use Rattle.std.proofs.Common.{ℕ, zero, suc, ◌+◌, ◌<◌, ◌≡◌, true, Some, List, [], ◌∷◌, drop, length, refl, sym, ap, ◌∙◌}
+use Rattle.std.proofs.Common.{arith}
 use Rattle.std.specs.List.{slice_get}
 use Rattle.std.specs.Option.{option_map}
 use Rattle.std.proofs.lemmas.Option.{slice_get-map}
@@ -26,11 +27,13 @@ pub record Placed (h : Trace) (e k : ℕ) (entry : Entry) : Type 0 where
   pub live : is_live h entry.clock ≡ true
   pub within : entry.clock < length h
 
-pub placed : (h : Trace) (queue : List Entry) (e k : ℕ) (entry : Entry) → Held queue h → EndsTo h e → slice_get queue k ≡ Some entry → Placed h e k entry
+pub placed : (h : Trace) (queue : List Entry) (e k : ℕ) (entry : Entry) → Held queue h → EndsTo h e
+    → slice_get queue k ≡ Some entry → Placed h e k entry
 unfolding live_clock_of live_number_of nth_where
 placed h queue e k entry f to at =
     let clock : slice_get (all_where (is_live h) (length h)) (e + k) ≡ Some entry.clock =
-    sym (dropped e k (all_where (is_live h) (length h))) ∙ ap (λ qs. slice_get qs k) (sym (f.clocks ∙ in_flight-live h e to))
+    sym (dropped e k (all_where (is_live h) (length h)))
+    ∙ ap (λ qs. slice_get qs k) (sym (f.clocks ∙ in_flight-live h e to))
     ∙ slice_get-map (λ x. x.clock) queue k ∙ ap (option_map (λ x. x.clock)) at in
     let found = nth_where-found (is_live h) (e + k) (length h) entry.clock clock in
     record { clock = clock; number = found.2; live = found.1; within = found.0 }

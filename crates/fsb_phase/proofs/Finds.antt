@@ -1,11 +1,13 @@
 -- The first element of a list that passes, by its place.
-use Rattle.std.proofs.Common.{ℕ, zero, suc, ◌<◌, ◌≡◌, Bool, true, false, Option, Some, None, List, [], ◌∷◌, refl, sym, ap, ◌∙◌, inl, inr, arith, subst, is_none, is_some, ◌⊎◌}
+use Rattle.std.proofs.Common.{ℕ, zero, suc, ◌<◌, ◌≡◌, Bool, true, false, Option, Some, None, List, [], ◌∷◌, refl, sym}
+use Rattle.std.proofs.Common.{ap, ◌∙◌, inl, inr, arith, subst, is_none, is_some, ◌⊎◌}
 use Rattle.std.specs.List.{slice_get, find}
 use Rattle.std.proofs.lemmas.Bool.{cases_Bool, cases_eq}
 use Rattle.fsb_queue.specs.declared.entry.Entry.{Entry}
 use Rattle.fsb_phase.specs.Registers.{if_passes}
 
-pub find-place : {X : Type 0} (p : X → Bool) (xs : List X) (k : ℕ) (x : X) → slice_get xs k ≡ Some x → p x ≡ true → ((j : ℕ) (y : X) → j < k → slice_get xs j ≡ Some y → p y ≡ false) → find p xs ≡ Some x
+pub find-place : {X : Type 0} (p : X → Bool) (xs : List X) (k : ℕ) (x : X) → slice_get xs k ≡ Some x
+    → p x ≡ true → ((j : ℕ) (y : X) → j < k → slice_get xs j ≡ Some y → p y ≡ false) → find p xs ≡ Some x
 find-place p [] k x e t f = absurd (let no : ⊥ = cc in no)
 find-place p (z ∷ xs) zero x e t f =
     let same : z ≡ x = cc in
@@ -13,7 +15,8 @@ find-place p (z ∷ xs) zero x e t f =
 find-place p (z ∷ xs) (suc k) x e t f =
     rw (f 0 z (omega arith) refl) (find-place p xs k x e t (λ j y l g. f (suc j) y (omega arith) g))
 
-pub find-off : {X : Type 0} (p : X → Bool) (xs : List X) → ((j : ℕ) (y : X) → slice_get xs j ≡ Some y → p y ≡ false) → find p xs ≡ None
+pub find-off : {X : Type 0} (p : X → Bool) (xs : List X)
+    → ((j : ℕ) (y : X) → slice_get xs j ≡ Some y → p y ≡ false) → find p xs ≡ None
 find-off p [] f = refl
 find-off p (z ∷ xs) f = rw (f 0 z refl) (find-off p xs (λ j y g. f (suc j) y g))
 
@@ -29,7 +32,8 @@ pub record Found {X : Type 0} (p : X → Bool) (xs : List X) : Type 0 where
   pub passes : p item ≡ true
   pub before : (j : ℕ) (y : X) → j < place → slice_get xs j ≡ Some y → p y ≡ false
 
-later-before : {X : Type 0} (p : X → Bool) (z : X) (xs : List X) (k : Found p xs) → p z ≡ false → (j : ℕ) (y : X) → j < suc k.place → slice_get (z ∷ xs) j ≡ Some y → p y ≡ false
+later-before : {X : Type 0} (p : X → Bool) (z : X) (xs : List X) (k : Found p xs) → p z ≡ false
+    → (j : ℕ) (y : X) → j < suc k.place → slice_get (z ∷ xs) j ≡ Some y → p y ≡ false
 later-before p z xs k f zero y l e = let same : z ≡ y = cc in sym (ap p same) ∙ f
 later-before p z xs k f (suc j) y l e = k.before j y (omega arith) e
 
@@ -42,11 +46,14 @@ later p z xs f k = record {
   before = later-before p z xs k f;
 }
 
-none-later : {X : Type 0} (p : X → Bool) (z : X) (xs : List X) → p z ≡ false → ((j : ℕ) (y : X) → slice_get xs j ≡ Some y → p y ≡ false) → (j : ℕ) (y : X) → slice_get (z ∷ xs) j ≡ Some y → p y ≡ false
+none-later : {X : Type 0} (p : X → Bool) (z : X) (xs : List X) → p z ≡ false
+    → ((j : ℕ) (y : X) → slice_get xs j ≡ Some y → p y ≡ false) → (j : ℕ) (y : X)
+    → slice_get (z ∷ xs) j ≡ Some y → p y ≡ false
 none-later p z xs f g zero y e = let same : z ≡ y = cc in sym (ap p same) ∙ f
 none-later p z xs f g (suc j) y e = g j y e
 
-pub find-cases : {X : Type 0} (p : X → Bool) (xs : List X) → Found p xs ⊎ ((j : ℕ) (y : X) → slice_get xs j ≡ Some y → p y ≡ false)
+pub find-cases : {X : Type 0} (p : X → Bool) (xs : List X)
+    → Found p xs ⊎ ((j : ℕ) (y : X) → slice_get xs j ≡ Some y → p y ≡ false)
 find-cases p [] = inr (λ j y e. absurd (let no : ⊥ = cc in no))
 find-cases p (z ∷ xs) =
     elim (cases_Bool (p z)) [
@@ -57,7 +64,9 @@ find-cases p (z ∷ xs) =
       ]
     ]
 
-at_all : (p : Entry → Bool) (xs : List Entry) (k : ℕ) (x : Entry) → slice_get xs k ≡ Some x → p x ≡ false → ((j : ℕ) (y : Entry) → (j ≡ k → ⊥) → slice_get xs j ≡ Some y → p y ≡ false) → (j : ℕ) (y : Entry) → slice_get xs j ≡ Some y → p y ≡ false
+at_all : (p : Entry → Bool) (xs : List Entry) (k : ℕ) (x : Entry) → slice_get xs k ≡ Some x → p x ≡ false
+    → ((j : ℕ) (y : Entry) → (j ≡ k → ⊥) → slice_get xs j ≡ Some y → p y ≡ false) → (j : ℕ) (y : Entry)
+    → slice_get xs j ≡ Some y → p y ≡ false
 at_all p xs k x e off f j y g =
     elim (cases_eq j k) [
       | inl same ↦
@@ -68,7 +77,8 @@ at_all p xs k x e off f j y g =
     ]
 
 -- where one place alone may pass
-pub find-only : (p : Entry → Bool) (xs : List Entry) (k : ℕ) (x : Entry) → slice_get xs k ≡ Some x → ((j : ℕ) (y : Entry) → (j ≡ k → ⊥) → slice_get xs j ≡ Some y → p y ≡ false) → find p xs ≡ if_passes p (Some x)
+pub find-only : (p : Entry → Bool) (xs : List Entry) (k : ℕ) (x : Entry) → slice_get xs k ≡ Some x
+    → ((j : ℕ) (y : Entry) → (j ≡ k → ⊥) → slice_get xs j ≡ Some y → p y ≡ false) → find p xs ≡ if_passes p (Some x)
 unfolding if_passes
 find-only p xs k x e f =
     elim (cases_Bool (p x)) [
@@ -82,9 +92,11 @@ unfolding if_passes
 none_passes p = refl
 
 -- where the first alone may pass
-first_only : (p : Entry → Bool) (xs : List Entry) (o : Option Entry) → slice_get xs 0 ≡ o → ((j : ℕ) (y : Entry) → 0 < j → slice_get xs j ≡ Some y → p y ≡ false) → find p xs ≡ if_passes p (slice_get xs 0)
+first_only : (p : Entry → Bool) (xs : List Entry) (o : Option Entry) → slice_get xs 0 ≡ o
+    → ((j : ℕ) (y : Entry) → 0 < j → slice_get xs j ≡ Some y → p y ≡ false) → find p xs ≡ if_passes p (slice_get xs 0)
 first_only p [] o e f = none_passes p
 first_only p (z ∷ xs) o e f = find-only p (z ∷ xs) 0 z refl (λ j y other g. f j y (omega (arith, other)) g)
 
-pub find-first : (p : Entry → Bool) (xs : List Entry) → ((j : ℕ) (y : Entry) → 0 < j → slice_get xs j ≡ Some y → p y ≡ false) → find p xs ≡ if_passes p (slice_get xs 0)
+pub find-first : (p : Entry → Bool) (xs : List Entry)
+    → ((j : ℕ) (y : Entry) → 0 < j → slice_get xs j ≡ Some y → p y ≡ false) → find p xs ≡ if_passes p (slice_get xs 0)
 find-first p xs f = first_only p xs (slice_get xs 0) refl f

@@ -20,7 +20,8 @@ pub record Held (queue : List Entry) (h : Trace) : Type 0 where
   pub clocks : map (λ e. e.clock) queue ≡ in_flight h (length h)
   pub settled : (k : ℕ) (e : Entry) → slice_get queue k ≡ Some e → (turn : ℕ) × IsSettled h e turn
 
-settled_turn : (queue : List Entry) (turns : List ℕ) (h : Trace) (k : ℕ) (e : Entry) → HoldsInFlight queue turns h → slice_get queue k ≡ Some e → IsSettled h e (slice_index turns (rank_of h e))
+settled_turn : (queue : List Entry) (turns : List ℕ) (h : Trace) (k : ℕ) (e : Entry)
+    → HoldsInFlight queue turns h → slice_get queue k ≡ Some e → IsSettled h e (slice_index turns (rank_of h e))
 unfolding settled_outcome_of
 settled_turn queue turns h k e f g = record { outcome = f.settled k e g; kept = f.kept (rank_of h e) }
 

@@ -9,7 +9,8 @@ pub use Rattle.fsb_phase.proofs.Held.{held}
 -- The entries of a queue that holds the requests in flight: their places and their numbers.
 pub use Rattle.fsb_phase.proofs.Entries.{Placed, placed}
 -- Snoop clocks and stalls that are driven are those that are due.
-pub use Rattle.fsb_phase.proofs.SnoopDrive.{has_snoop-at, not_reached_from, outcome_reached, reached_before, snoop_at, snoop_elsewhere}
+pub use Rattle.fsb_phase.proofs.SnoopDrive.{has_snoop-at, not_reached_from, outcome_reached, reached_before, snoop_at}
+pub use Rattle.fsb_phase.proofs.SnoopDrive.{snoop_elsewhere}
 -- The snoop end that the next sample is.
 pub use Rattle.fsb_phase.proofs.SnoopStep.{ends_entry, later_none, number_stays}
 -- The end that the next sample is, and the clock from which the request after it is answered.

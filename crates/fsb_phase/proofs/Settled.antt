@@ -1,5 +1,6 @@
 -- What a settled outcome says of its request: whether it takes, and what its response tells.
-use Rattle.std.proofs.Common.{ℕ, ◌≤◌, ◌≡◌, Bool, true, false, ◌||◌, cond, nat_eq, nat_le, Option, Some, None, refl, sym, ap, ◌∙◌, inl, inr, arith, subst}
+use Rattle.std.proofs.Common.{ℕ, ◌≤◌, ◌≡◌, Bool, true, false, ◌||◌, cond, nat_eq, nat_le, Option, Some, None, refl, sym}
+use Rattle.std.proofs.Common.{ap, ◌∙◌, inl, inr, arith, subst}
 use Rattle.std.specs.Option.{option_map}
 use Rattle.std.proofs.lemmas.Bool.{cases_Bool, eqb-true, leb-true}
 use Rattle.std.proofs.Math.Bool.{or-false, or-true}
@@ -10,7 +11,8 @@ use Rattle.fsb_encode.specs.declared.request.Kind.{Kind}
 use Rattle.fsb_encode.specs.declared.request.Kind.TheVariants.{Reply, Invalidate, Read, WriteBack, Upgrade}
 use Rattle.fsb_encode.specs.declared.request.Request.{Request}
 use Rattle.fsb_trace.specs.declared.outcome.Outcome.{Outcome}
-use Rattle.fsb_trace.specs.declared.outcome.Outcome.TheVariants.{Granted, Handed, Retried, Deferred, Written, Replied, Failed, Upgraded}
+use Rattle.fsb_trace.specs.declared.outcome.Outcome.TheVariants.{Granted, Handed, Retried, Deferred, Written, Replied}
+use Rattle.fsb_trace.specs.declared.outcome.Outcome.TheVariants.{Failed, Upgraded}
 use Rattle.fsb_trace.specs.At.{Trace}
 use Rattle.fsb_trace.specs.Requests.{live_request_of, is_write_back, is_write_back_kind}
 use Rattle.fsb_trace.specs.Snoop.{snoop_end_of, line_at_snoop_end}
@@ -27,7 +29,8 @@ settled_cases : Bool → ℕ → Option Request → Outcome
 settled_cases hitm turn request =
     cond hitm Handed (cond (nat_eq turn 1) Retried (cond (nat_le 2 turn) Deferred (outcome_by_kind request)))
 
-settled_form : (h : Trace) (turn i s : ℕ) → settled_by h turn i s ≡ settled_cases (line_at HITM h s) turn (live_request_of h i)
+settled_form : (h : Trace) (turn i s : ℕ)
+    → settled_by h turn i s ≡ settled_cases (line_at HITM h s) turn (live_request_of h i)
 unfolding settled_by settled_cases
 settled_form h turn i s = refl
 
@@ -36,7 +39,14 @@ by_kind_takes : (request : Option Request) → does_take (outcome_by_kind reques
 unfolding does_take outcome_by_kind is_write_back is_some_and is_write_back_kind
 by_kind_takes None = refl
 by_kind_takes (Some request) = kind_takes request.kind where
-  kind_takes : (k : Kind) → does_take (elim k [ WriteBack ↦ Written | Upgrade ↦ Upgraded | Reply ↦ Replied | Read ↦ Granted | Invalidate ↦ Granted ]) ≡ is_write_back_kind k
+  kind_takes : (k : Kind)
+      → does_take (elim k [
+        | WriteBack ↦ Written
+        | Upgrade ↦ Upgraded
+        | Reply ↦ Replied
+        | Read ↦ Granted
+        | Invalidate ↦ Granted
+      ]) ≡ is_write_back_kind k
   kind_takes Reply = refl
   kind_takes Invalidate = refl
   kind_takes Read = refl
@@ -47,49 +57,70 @@ late_turn : (turn : ℕ) (wb : Bool) → (wb ≡ true → turn ≡ 0) → 1 ≤ 
 late_turn turn true f l = absurd (let z : turn ≡ 0 = f refl in omega arith)
 late_turn turn false f l = refl
 
-cases_take : (hitm : Bool) (turn : ℕ) (request : Option Request) → (is_write_back request ≡ true → turn ≡ 0) → does_take (settled_cases hitm turn request) ≡ (is_write_back request || hitm)
+cases_take : (hitm : Bool) (turn : ℕ) (request : Option Request) → (is_write_back request ≡ true → turn ≡ 0)
+    → does_take (settled_cases hitm turn request) ≡ (is_write_back request || hitm)
 unfolding settled_cases does_take
 cases_take true turn request f = sym (or-true (is_write_back request))
 cases_take false turn request f =
     elim (cases_Bool (nat_eq turn 1)) [
       | inl one ↦ rw one (late_turn turn (is_write_back request) f (let e = eqb-true turn 1 one in omega arith))
       | inr other ↦ elim (cases_Bool (nat_le 2 turn)) [
-        | inl late ↦ rw (other, late) (late_turn turn (is_write_back request) f (let e = leb-true 2 turn late in omega arith))
+        | inl late ↦
+            rw (other, late) (late_turn turn (is_write_back request) f (let e = leb-true 2 turn late in omega arith))
         | inr kept ↦ rw (other, kept) (by_kind_takes request ∙ sym (or-false (is_write_back request)))
       ]
     ]
 
-outcome_at : (h : Trace) (e : Entry) (turn i s : ℕ) → IsSettled h e turn → rank_of h e ≡ i → snoop_end_of h i ≡ Some s → e.outcome ≡ Some (settled_by h turn i s)
+outcome_at : (h : Trace) (e : Entry) (turn i s : ℕ) → IsSettled h e turn → rank_of h e ≡ i
+    → snoop_end_of h i ≡ Some s → e.outcome ≡ Some (settled_by h turn i s)
 outcome_at h e turn i s k f g =
-    k.outcome ∙ ap (λ j. option_map (settled_by h turn j) (snoop_end_of h j)) f ∙ ap (option_map (settled_by h turn i)) g
+    k.outcome ∙ ap (λ j. option_map (settled_by h turn j) (snoop_end_of h j)) f
+    ∙ ap (option_map (settled_by h turn i)) g
 
-pub taking-is : (h : Trace) (e : Entry) (turn i s : ℕ) → IsSettled h e turn → rank_of h e ≡ i → snoop_end_of h i ≡ Some s → is_taking e ≡ takes h i
+pub taking-is : (h : Trace) (e : Entry) (turn i s : ℕ) → IsSettled h e turn → rank_of h e ≡ i
+    → snoop_end_of h i ≡ Some s → is_taking e ≡ takes h i
 unfolding is_some_and takes line_at_snoop_end
 taking-is h e turn i s k f g =
-    let kept : is_write_back (live_request_of h i) ≡ true → turn ≡ 0 = subst (λ j. is_write_back (live_request_of h j) ≡ true → turn ≡ 0) f k.kept in
-    rw (outcome_at h e turn i s k f g, g) (ap does_take (settled_form h turn i s) ∙ cases_take (line_at HITM h s) turn (live_request_of h i) kept)
+    let kept : is_write_back (live_request_of h i) ≡ true
+    → turn ≡ 0 = subst (λ j. is_write_back (live_request_of h j) ≡ true → turn ≡ 0) f k.kept in
+    rw (outcome_at h e turn i s k f g, g) (ap does_take (settled_form h turn i s)
+    ∙ cases_take (line_at HITM h s) turn (live_request_of h i) kept)
 
 -- the response with a settled outcome's code tells that outcome
 told_cases : Bool → ℕ → Option Request → Outcome
 told_cases hitm code request =
-    cond (nat_eq code 4) Failed (cond hitm Handed (cond (nat_eq code 1) Retried (cond (nat_eq code 2) Deferred (outcome_by_kind request))))
+    cond (nat_eq code 4) Failed
+    (cond hitm Handed (cond (nat_eq code 1) Retried (cond (nat_eq code 2) Deferred (outcome_by_kind request))))
 
-told_form : (h : Trace) (i s code : ℕ) → snoop_end_of h i ≡ Some s → told_by h i code ≡ told_cases (line_at HITM h s) code (live_request_of h i)
+told_form : (h : Trace) (i s code : ℕ) → snoop_end_of h i ≡ Some s
+    → told_by h i code ≡ told_cases (line_at HITM h s) code (live_request_of h i)
 unfolding told_by told_cases line_at_snoop_end is_some_and response_code_of
 told_form h i s code e = rw e refl
 
-by_kind_told : (request : Option Request) → told_cases false (response_code_of (outcome_by_kind request)) request ≡ outcome_by_kind request
+by_kind_told : (request : Option Request)
+    → told_cases false (response_code_of (outcome_by_kind request)) request ≡ outcome_by_kind request
 unfolding told_cases outcome_by_kind response_code_of
 by_kind_told None = refl
 by_kind_told (Some request) = kind_told request.kind where
-  kind_told : (k : Kind) → (let o : Outcome = elim k as (λ z. Outcome) [ WriteBack ↦ Written | Upgrade ↦ Upgraded | Reply ↦ Replied | Read ↦ Granted | Invalidate ↦ Granted ] in cond (nat_eq (response_code_of o) 4) Failed (cond false Handed (cond (nat_eq (response_code_of o) 1) Retried (cond (nat_eq (response_code_of o) 2) Deferred o))) ≡ o)
+  kind_told : (k : Kind)
+      → (let o : Outcome = elim k as (λ z. Outcome) [
+        | WriteBack ↦ Written
+        | Upgrade ↦ Upgraded
+        | Reply ↦ Replied
+        | Read ↦ Granted
+        | Invalidate ↦ Granted
+      ] in
+      cond (nat_eq (response_code_of o) 4) Failed
+      (cond false Handed (cond (nat_eq (response_code_of o) 1) Retried
+      (cond (nat_eq (response_code_of o) 2) Deferred o))) ≡ o)
   kind_told Reply = refl
   kind_told Invalidate = refl
   kind_told Read = refl
   kind_told WriteBack = refl
   kind_told Upgrade = refl
 
-cases_told : (hitm : Bool) (turn : ℕ) (request : Option Request) → told_cases hitm (response_code_of (settled_cases hitm turn request)) request ≡ settled_cases hitm turn request
+cases_told : (hitm : Bool) (turn : ℕ) (request : Option Request)
+    → told_cases hitm (response_code_of (settled_cases hitm turn request)) request ≡ settled_cases hitm turn request
 unfolding settled_cases response_code_of told_cases
 cases_told true turn request = refl
 cases_told false turn request =
@@ -109,7 +140,8 @@ moving_is : (e : Entry) (o : Outcome) → e.outcome ≡ Some o → is_moving e �
 unfolding is_some_and
 moving_is e o f = rw f refl
 
-pub told-is : (h : Trace) (e : Entry) (turn i s code : ℕ) → IsSettled h e turn → rank_of h e ≡ i → snoop_end_of h i ≡ Some s → code ≡ settled_code e → does_move (told_by h i code) ≡ is_moving e
+pub told-is : (h : Trace) (e : Entry) (turn i s code : ℕ) → IsSettled h e turn → rank_of h e ≡ i
+    → snoop_end_of h i ≡ Some s → code ≡ settled_code e → does_move (told_by h i code) ≡ is_moving e
 told-is h e turn i s code k f g c =
     let o : Outcome = settled_by h turn i s in
     let form : o ≡ settled_cases (line_at HITM h s) turn (live_request_of h i) = settled_form h turn i s in

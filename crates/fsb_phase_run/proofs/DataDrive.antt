@@ -1,5 +1,6 @@
 -- Data are driven, and the bus is kept busy, exactly where a live request has data.
-use Rattle.std.proofs.Common.{ℕ, ◌<◌, ◌≡◌, Bool, true, Option, Some, None, List, length, is_some, refl, sym, ap, ◌∙◌, inl, inr}
+use Rattle.std.proofs.Common.{ℕ, ◌<◌, ◌≡◌, Bool, true, Option, Some, None, List, length, is_some, refl, sym, ap, ◌∙◌}
+use Rattle.std.proofs.Common.{inl, inr}
 use Rattle.std.specs.List.{find, slice_get}
 use Rattle.std.specs.Option.{option_and_then, option_map}
 use Rattle.std.proofs.lemmas.Bool.{both_ways, cases_Bool}

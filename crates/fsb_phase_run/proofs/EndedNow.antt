@@ -1,5 +1,6 @@
 -- The end that the phases tell is that of the moment of the new clock.
-use Rattle.std.proofs.Common.{ℕ, ◌≡◌, Bool, true, false, not, nat_eq, Some, None, List, [], length, refl, sym, ap, ◌∙◌, arith, inl, inr, subst}
+use Rattle.std.proofs.Common.{ℕ, ◌≡◌, Bool, true, false, not, nat_eq, Some, None, List, [], length, refl, sym, ap, ◌∙◌}
+use Rattle.std.proofs.Common.{arith, inl, inr, subst}
 use Rattle.std.specs.List.{find, list_any, slice_get}
 use Rattle.std.specs.Option.{option_map, option_map_or}
 use Rattle.std.proofs.lemmas.Bool.{and_from, and_parts, both_ways, cases_Bool, eq-eqb, eqb-true}
@@ -11,7 +12,8 @@ use Rattle.fsb_signal.specs.Samples.{line_at}
 use Rattle.fsb_trace.specs.At.{Trace}
 use Rattle.fsb_trace.specs.Requests.{is_live, live_clock_of, live_count, live_number_of}
 use Rattle.fsb_trace.specs.Response.{end_of}
-use Rattle.fsb_trace.proofs.Interface.{end_of-response, end_of-stays, live_below_count, live_clock_of-number, live_clock_of-stays, snoop_end_of-clock, snoop_end_of-stays}
+use Rattle.fsb_trace.proofs.Interface.{end_of-response, end_of-stays, live_below_count, live_clock_of-number}
+use Rattle.fsb_trace.proofs.Interface.{live_clock_of-stays, snoop_end_of-clock, snoop_end_of-stays}
 use Rattle.fsb_laws.specs.Orderly.{Orderly}
 use Rattle.fsb_laws.proofs.Interface.{ads_before_end, has_answer, is_live-ads}
 use Rattle.fsb_queue.specs.declared.entry.Entry.{Entry}

@@ -1,7 +1,8 @@
 -- The lemmas of this crate that others draw on; no other name of its proofs is used outside.
 
 -- What a run keeps that grows by one clock.
-pub use Rattle.fsb_phase_run.proofs.Grown.{agree-back, agree-cut, agree-grown, choice-grown, choice-same, live-same, longer, snooped-same}
+pub use Rattle.fsb_phase_run.proofs.Grown.{agree-back, agree-cut, agree-grown, choice-grown, choice-same, live-same}
+pub use Rattle.fsb_phase_run.proofs.Grown.{longer, snooped-same}
 -- The entries of a queue that holds the requests in flight of a run, and its live requests.
 pub use Rattle.fsb_phase_run.proofs.HeldEntries.{EntryOf, entry-flying, entry-held, number-held}
 -- A request without its snoop end has not responded.

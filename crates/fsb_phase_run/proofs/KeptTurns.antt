@@ -1,5 +1,6 @@
 -- The turn of a write-back, and of a request without its snoop end: it is kept.
-use Rattle.std.proofs.Common.{ℕ, zero, suc, ◌+◌, ◌<◌, ◌≤◌, ◌≡◌, true, List, [], ◌∷◌, ◌++◌, Option, Some, None, length, slice_index, refl, sym, ap, subst, ◌∙◌, arith, inl, inr}
+use Rattle.std.proofs.Common.{ℕ, zero, suc, ◌+◌, ◌<◌, ◌≤◌, ◌≡◌, true, List, [], ◌∷◌, ◌++◌, Option, Some, None, length}
+use Rattle.std.proofs.Common.{slice_index, refl, sym, ap, subst, ◌∙◌, arith, inl, inr}
 use Rattle.std.proofs.lemmas.Bool.{cases_lt}
 use Rattle.std.proofs.lemmas.List.{get_or_past, length-append}
 use Rattle.fsb_encode.specs.declared.request.Kind.{Kind}
@@ -16,7 +17,8 @@ use Rattle.fsb_trace.proofs.Interface.{request_at-agree, snoop_end_of-clock, sno
 use Rattle.fsb_timely.specs.Moments.{effective_choice, number_of_turn, snoop_end_with, turns_in}
 use Rattle.fsb_timely.specs.Past.{SnoopEnd}
 use Rattle.fsb_timely.specs.Runs.{Run, moments_below, past_of, run_to}
-use Rattle.fsb_timely.proofs.Interface.{moment-snooped, moment_of, snoop-tied, snoop_of, snooped-there, tied-snoop, turns-quiet, turns-snooped}
+use Rattle.fsb_timely.proofs.Interface.{moment-snooped, moment_of, snoop-tied, snoop_of, snooped-there, tied-snoop}
+use Rattle.fsb_timely.proofs.Interface.{turns-quiet, turns-snooped}
 use Rattle.fsb_lawful.proofs.Interface.{run_to-agrees, some-and}
 use Rattle.fsb_tied.proofs.Interface.{live-request}
 
@@ -88,7 +90,8 @@ snooped-kept r i t request e asked never =
     let there : Some s ≡ Some (snoop_of r t i s.first) = sym tied.1.there ∙ snooped-there r t within
     ∙ moment-snooped r i t s.first e first in
     let same : s ≡ snoop_of r t i s.first = cc in
-    let decoded = sym (request_at-agree (t + 1) r.trace (run_to r t).trace s.first (run_to-agrees r t within) (omega arith))
+    let decoded =
+    sym (request_at-agree (t + 1) r.trace (run_to r t).trace s.first (run_to-agrees r t within) (omega arith))
     ∙ sym (live-request r.trace i s.first first) ∙ asked in
     let kept = keep-form r.plan.bridge (run_to r t).choices (run_to r t).trace (turns_in (moments_below r t)) s.first t
     request decoded never in

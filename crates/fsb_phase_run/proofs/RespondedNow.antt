@@ -1,5 +1,6 @@
 -- The response and the Retry that the moment of the new clock has are those of the entry that responds.
-use Rattle.std.proofs.Common.{ℕ, ◌≡◌, true, false, not, nat_eq, Some, None, List, length, sym, ap, ◌∙◌, arith, inl, inr, refl}
+use Rattle.std.proofs.Common.{ℕ, ◌≡◌, true, false, not, nat_eq, Some, None, List, length, sym, ap, ◌∙◌, arith, inl, inr}
+use Rattle.std.proofs.Common.{refl}
 use Rattle.std.specs.List.{slice_get}
 use Rattle.std.specs.Option.{option_and_then, option_map, option_map_or}
 use Rattle.fsb_trace.specs.declared.outcome.Outcome.TheVariants.{Retried}

@@ -9,7 +9,8 @@ use Rattle.std.specs.List.{flat_map}
 pub lines_ahead : {X : Type 0} (text_of : X → List ℕ) (xs : List X) (i : ℕ) (d : X) (end : List ℕ) → i < length xs
     → flat_map text_of (drop i xs) ++ end ≡ text_of (get_or xs i d) ++ (flat_map text_of (drop (i + 1) xs) ++ end)
 lines_ahead text_of xs i d end h =
-    rw (add-one, drop-cons xs i d) (rw flat_map-cons (append_assoc (text_of (get_or xs i d)) (flat_map text_of (drop (suc i) xs)) end))
+    rw (add-one, drop-cons xs i d)
+    (rw flat_map-cons (append_assoc (text_of (get_or xs i d)) (flat_map text_of (drop (suc i) xs)) end))
 
 -- past the last element only the end is left
 pub lines_end : {X : Type 0} (text_of : X → List ℕ) (xs : List X) (i : ℕ) (end : List ℕ) → length xs ≤ i

@@ -1,5 +1,7 @@
 -- A log that follows its scripts has at most as many entries as the scripts have accesses.
-use Rattle.std.proofs.Common.{◌≡◌, ℕ, zero, suc, ◌+◌, ◌<◌, ◌≤◌, Bool, true, false, ◌&&◌, ◌==◌, nat_eq, nat_lt, nat_le, List, [], ◌∷◌, ◌++◌, Option, Some, None, length, slice_get, take, map, sum_by, unwrap_or, refl, sym, ap, ◌∙◌, subst, arith, inl, inr, if◌then◌else◌, cond, length-append}
+use Rattle.std.proofs.Common.{◌≡◌, ℕ, zero, suc, ◌+◌, ◌<◌, ◌≤◌, Bool, true, false, ◌&&◌, ◌==◌, nat_eq, nat_lt, nat_le}
+use Rattle.std.proofs.Common.{List, [], ◌∷◌, ◌++◌, Option, Some, None, length, slice_get, take, map, sum_by, unwrap_or}
+use Rattle.std.proofs.Common.{refl, sym, ap, ◌∙◌, subst, arith, inl, inr, if◌then◌else◌, cond, length-append}
 use Rattle.std.proofs.lemmas.Bool.{cases_Bool, cases_lt, and_parts, eqb-true, eq-eqb, ltb-true}
 use Rattle.std.proofs.lemmas.List.Sums.{sum_by-cons, sum_by-take-le}
 use Rattle.std.proofs.lemmas.Option.{slice_get_past}
@@ -8,7 +10,8 @@ use Rattle.fsb_access.specs.declared.access.Access.{Access}
 use Rattle.fsb_access.specs.declared.item.Item.{Item}
 use Rattle.fsb_access.specs.declared.item.Item.TheVariants.{One, Locked, Idle}
 use Rattle.fsb_access.specs.declared.log.Done.{Done}
-use Rattle.fsb_access.specs.ScriptOrder.{InOrder, Step, accesses_from, accesses_of, script_of, step_of, steps_from, steps_of, steps_of_item}
+use Rattle.fsb_access.specs.ScriptOrder.{InOrder, Step, accesses_from, accesses_of, script_of, step_of, steps_from}
+use Rattle.fsb_access.specs.ScriptOrder.{steps_of, steps_of_item}
 use Rattle.fsb_count.proofs.Interface.{first_where-found}
 use Rattle.fsb_plan_size.specs.AccessCount.{access_count, item_accesses, script_accesses}
 use Rattle.fsb_script.specs.Plans.{PlanView}
@@ -64,9 +67,11 @@ entry-agent r i done timely e =
     let own : (nat_eq done.agent done.agent && nat_eq done.clock done.clock) && nat_eq done.item done.item ≡ true =
     rw (eq-eqb done.agent done.agent refl, eq-eqb done.clock done.clock refl, eq-eqb done.item done.item refl) refl in
     let logged : is_logged_at (past_of r) done.agent done.clock done.item ≡ true =
-    any-there (λ d. (nat_eq d.agent done.agent && nat_eq d.clock done.clock) && nat_eq d.item done.item) r.log i done e own in
+    any-there (λ d. (nat_eq d.agent done.agent && nat_eq d.clock done.clock) && nat_eq d.item done.item) r.log i
+    done e own in
     let next = logged-next r done.agent done.clock done.item timely l logged in
-    let found = first_where-found (is_to_do (past_of r) done.agent done.clock) (length (items_of (past_of r) done.agent)) done.item next.0 in
+    let found = first_where-found (is_to_do (past_of r) done.agent done.clock)
+    (length (items_of (past_of r) done.agent)) done.item next.0 in
     has-script r.plan.scripts done.agent (omega (arith, found.0))
 
 -- ---- how many they are
@@ -93,8 +98,10 @@ four-counts : (log : List Done) → ((i : ℕ) (done : Done) → slice_get log i
 four-counts [] h = refl
 four-counts (done ∷ log) h =
     let rest = four-counts log (λ i d e. h (suc i) d e) in
-    let step = four-first done.agent (own_count 0 log) (own_count 1 log) (own_count 2 log) (own_count 3 log) (length log) (h 0 done refl) rest in
-    step ∙ sym (λ i. count-first 0 done log i + count-first 1 done log i + count-first 2 done log i + count-first 3 done log i)
+    let step = four-first done.agent (own_count 0 log) (own_count 1 log) (own_count 2 log) (own_count 3 log)
+    (length log) (h 0 done refl) rest in
+    step ∙ sym (λ i. count-first 0 done log i + count-first 1 done log i + count-first 2 done log i
+    + count-first 3 done log i)
 
 length-steps_from : (n part : ℕ) (group : List Access) → length (steps_from n part group) ≡ length group
 length-steps_from n part [] = refl
@@ -121,12 +128,14 @@ own-few : (scripts : List (List Item)) (log : List Done) (a : ℕ) → InOrder s
 own-few scripts log a order =
     let follows = order.follows a in
     let e : own_count a log ≡ script_accesses (take follows.items (script_of scripts a)) =
-    sym (length-own (filter (λ done. done.agent == a) log)) ∙ ap length follows.same ∙ length-accesses 0 (take follows.items (script_of scripts a)) in
+    sym (length-own (filter (λ done. done.agent == a) log)) ∙ ap length follows.same
+    ∙ length-accesses 0 (take follows.items (script_of scripts a)) in
     let few = sum_by-take-le item_accesses (script_of scripts a) follows.items in
     omega (arith, e, few)
 
 four-sum : (a b c d : List Item) (rest : List (List Item))
-    → script_accesses a + script_accesses b + script_accesses c + script_accesses d ≤ access_count (a ∷ b ∷ c ∷ d ∷ rest)
+    → script_accesses a + script_accesses b + script_accesses c + script_accesses d ≤ access_count
+    (a ∷ b ∷ c ∷ d ∷ rest)
 four-sum a b c d rest =
     omega (
       arith,
@@ -149,7 +158,12 @@ four-scripts (a ∷ b ∷ []) =
     omega (arith, sum_by-cons script_accesses a (b ∷ []), sum_by-cons script_accesses b []) in few
 four-scripts (a ∷ b ∷ c ∷ []) =
     let few : script_accesses a + script_accesses b + script_accesses c + 0 ≤ access_count (a ∷ b ∷ c ∷ []) =
-    omega (arith, sum_by-cons script_accesses a (b ∷ c ∷ []), sum_by-cons script_accesses b (c ∷ []), sum_by-cons script_accesses c []) in few
+    omega (
+      arith,
+      sum_by-cons script_accesses a (b ∷ c ∷ []),
+      sum_by-cons script_accesses b (c ∷ []),
+      sum_by-cons script_accesses c [],
+    ) in few
 four-scripts (a ∷ b ∷ c ∷ d ∷ rest) = four-sum a b c d rest
 
 -- a run whose plan has at most four scripts logs no more than these have

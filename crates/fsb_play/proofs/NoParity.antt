@@ -1,5 +1,6 @@
 -- A timely run of profile 1 asserts no parity line.
-use Rattle.std.proofs.Common.{◌≡◌, ℕ, zero, suc, ◌<◌, ◌+◌, Bool, true, false, ◌&&◌, List, [], ◌∷◌, length, slice_get, take, refl, sym, ap, ◌∙◌, subst, arith, nat_eq, add-one, if◌then◌else◌}
+use Rattle.std.proofs.Common.{◌≡◌, ℕ, zero, suc, ◌<◌, ◌+◌, Bool, true, false, ◌&&◌, List, [], ◌∷◌, length, slice_get}
+use Rattle.std.proofs.Common.{take, refl, sym, ap, ◌∙◌, subst, arith, nat_eq, add-one, if◌then◌else◌}
 use Rattle.std.specs.List.{list_all}
 use Rattle.fsb_count.specs.Options.{is_some_and}
 use Rattle.fsb_script.specs.Plans.{PlanView}
@@ -28,10 +29,13 @@ pub no-parity : (r : Run) → Timely r → r.plan.profile ≡ 1 → list_all has
 unfolding holds_at holds_in drives_parity run_to
 no-parity r timely one =
     each-passes has_no_parity r.trace (λ c l.
-    let due : is_some_and (slice_get (take (c + 1) r.trace) c) (if nat_eq r.plan.profile 2 then is_even_sample else has_no_parity) ≡ true =
+    let due : is_some_and (slice_get (take (c + 1) r.trace) c)
+    (if nat_eq r.plan.profile 2 then is_even_sample else has_no_parity) ≡ true =
     timely.parity.at c l in
-    let there = subst (λ p. is_some_and (slice_get (take (c + 1) r.trace) c) (if nat_eq p 2 then is_even_sample else has_no_parity) ≡ true) one due in
-    sym (ap (λ o. is_some_and o has_no_parity) (ap (λ n. slice_get (take n r.trace) c) (add-one c) ∙ at-cut r.trace c)) ∙ there)
+    let there = subst (λ p. is_some_and (slice_get (take (c + 1) r.trace) c)
+    (if nat_eq p 2 then is_even_sample else has_no_parity) ≡ true) one due in
+    sym (ap (λ o. is_some_and o has_no_parity) (ap (λ n. slice_get (take n r.trace) c) (add-one c)
+    ∙ at-cut r.trace c)) ∙ there)
 
 -- the same of a plan and a trace that are the run's
 pub no-parity-of : (r : Run) (p : PlanView) (w : List Sample) → Timely r → p ≡ r.plan → w ≡ r.trace → p.profile ≡ 1

@@ -10,7 +10,8 @@ pub count_begun-start : (test : Option Request → Bool) (w : Trace) → count_b
 unfolding count_begun count_where
 count_begun-start test w = refl
 
-pub count_begun-more : (test : Option Request → Bool) (w : Trace) (n : ℕ) → count_begun test w (n + 1) ≡ count_begun test w n + cond (test (request_begun_at w n)) 1 0
+pub count_begun-more : (test : Option Request → Bool) (w : Trace) (n : ℕ)
+    → count_begun test w (n + 1) ≡ count_begun test w n + cond (test (request_begun_at w n)) 1 0
 unfolding count_begun
 count_begun-more test w n = count_where-more (λ q. test (request_begun_at w q)) n
 

@@ -21,7 +21,8 @@ pub record Goes (k : Checker) (h : Trace) (x : Sample) (v : Trace) (begun : Opti
   pub after : Orderly v
   pub may : responds x ≡ true → may_answer_next h ≡ true
   pub timed : has_line x AERR ≡ true → line_back ADS h (length h) 3 ≡ true
-  pub decoded : line_back ADS h (length h) 1 ≡ true → (r : Request) × (request_at v (length h - 1) ≡ Some r) × (begun ≡ Some (live_from (length h - 1) r))
+  pub decoded : line_back ADS h (length h) 1 ≡ true
+      → (r : Request) × (request_at v (length h - 1) ≡ Some r) × (begun ≡ Some (live_from (length h - 1) r))
   pub unbegun : line_back ADS h (length h) 1 ≡ false → begun ≡ None
   pub ready : has_line x TRDY ≡ true → (may_answer_next h ≡ true) × (k.queue.ready ≡ None)
   pub room : has_line x ADS ≡ true → (queue_len k.queue < 8) × (line_back ADS h (length h) 1 ≡ false)

@@ -1,5 +1,6 @@
 -- The queue stands for the history with one sample more.
-use Rattle.std.proofs.Common.{ℕ, ◌+◌, ◌-◌, ◌≤◌, ◌≡◌, Bool, true, false, cond, Option, Some, None, is_some, is_none, length, refl, sym, ap, ◌∙◌, arith, subst, add-zero}
+use Rattle.std.proofs.Common.{ℕ, ◌+◌, ◌-◌, ◌≤◌, ◌≡◌, Bool, true, false, cond, Option, Some, None, is_some, is_none}
+use Rattle.std.proofs.Common.{length, refl, sym, ap, ◌∙◌, arith, subst, add-zero}
 use Rattle.std.proofs.lemmas.Bool.{le-leb}
 use Rattle.fsb_count.proofs.Interface.{cond-most}
 use Rattle.fsb_signal.specs.declared.lines.TheConstants.Lines.{ADS, AERR, DRDY}
@@ -8,7 +9,8 @@ use Rattle.fsb_signal.specs.Samples.{has_line}
 use Rattle.fsb_trace.specs.At.{Trace, line_back}
 use Rattle.fsb_laws.specs.OneMore.{OneMore, responds}
 use Rattle.fsb_laws.specs.Progress.{SnoopsTo, ends_snoop_of, response_count, transfer_of, chunk_step}
-use Rattle.fsb_laws.proofs.Interface.{line_at-new, snoops_to-ended, snoops_to-kept, response_count-more, transfer_of-kept}
+use Rattle.fsb_laws.proofs.Interface.{line_at-new, snoops_to-ended, snoops_to-kept, response_count-more}
+use Rattle.fsb_laws.proofs.Interface.{transfer_of-kept}
 use Rattle.fsb_rules.specs.declared.live.LiveRequest.{LiveRequest}
 use Rattle.fsb_rules.specs.declared.live.Moving.{Moving}
 use Rattle.fsb_rules.specs.declared.in_flight.InFlight.{InFlight}
@@ -17,7 +19,8 @@ use Rattle.fsb_rules.specs.Live.{live_of, snooped_of}
 use Rattle.fsb_rules.specs.Stretch.{Stretch}
 use Rattle.fsb_rules.specs.InFlight.{InFlightStands, known_count, moving_of}
 use Rattle.fsb_rules.specs.Checker.{Decoded}
-use Rattle.fsb_rules.specs.Tests.{asking_after, waiting_after, snooped_by, moving_by, after_chunk, ready_after_by, queue_len}
+use Rattle.fsb_rules.specs.Tests.{asking_after, waiting_after, snooped_by, moving_by, after_chunk, ready_after_by}
+use Rattle.fsb_rules.specs.Tests.{queue_len}
 use Rattle.fsb_rules.proofs.QueueFacts.{moving-transfer}
 use Rattle.fsb_rules.proofs.QueueSteps.{known_count-more, known_count-less}
 use Rattle.fsb_rules.proofs.QueueGoes.{snooped_after, asking_goes, snooped_is_some}
@@ -33,19 +36,24 @@ pub record QueueGoes (old : InFlight) (n : ℕ) (x : Sample) (begun : Option Liv
   pub ready : new.ready ≡ ready_after_by old n x
 
 -- how far the snoops have come
-snoops_go : (k : Checker) (h : Trace) (x : Sample) (v : Trace) (b : Option LiveRequest) (g : Goes k h x v b) (e : Bool) → ends_snoop_of h g.follows.queue.snooped x ≡ e → SnoopsTo v (snooped_after g.follows.queue.snooped e)
-snoops_go k h x v b g true e = snoops_to-ended h x v g.follows.queue.snooped g.more g.follows.orderly.spaced g.follows.queue.to e
+snoops_go : (k : Checker) (h : Trace) (x : Sample) (v : Trace) (b : Option LiveRequest) (g : Goes k h x v b)
+    (e : Bool) → ends_snoop_of h g.follows.queue.snooped x ≡ e → SnoopsTo v (snooped_after g.follows.queue.snooped e)
+snoops_go k h x v b g true e = snoops_to-ended h x v g.follows.queue.snooped g.more g.follows.orderly.spaced
+    g.follows.queue.to e
 snoops_go k h x v b g false e =
-    subst (SnoopsTo v) (sym (add-zero g.follows.queue.snooped)) (snoops_to-kept h x v g.follows.queue.snooped g.more g.follows.orderly.spaced g.follows.queue.to e)
+    subst (SnoopsTo v) (sym (add-zero g.follows.queue.snooped))
+    (snoops_to-kept h x v g.follows.queue.snooped g.more g.follows.orderly.spaced g.follows.queue.to e)
 
 -- no more of them are on the way than before, but for the one that responds
 step_none : (comes : Bool) → chunk_step comes None ≡ None
 unfolding chunk_step
 step_none comes = refl
 
-not_moving : (k : Checker) (h : Trace) (x : Sample) (v : Trace) (b : Option LiveRequest) (g : Goes k h x v b) (t : Option ℕ) → responds x ≡ false → transfer_of h ≡ t → cond (is_some (transfer_of v)) 1 0 ≤ cond (is_some t) 1 0
+not_moving : (k : Checker) (h : Trace) (x : Sample) (v : Trace) (b : Option LiveRequest) (g : Goes k h x v b)
+    (t : Option ℕ) → responds x ≡ false → transfer_of h ≡ t → cond (is_some (transfer_of v)) 1 0 ≤ cond (is_some t) 1 0
 not_moving k h x v b g None f e =
-    let none : transfer_of v ≡ None = transfer_of-kept h x v g.more g.follows.orderly f ∙ ap (chunk_step (has_line x DRDY)) e ∙ step_none (has_line x DRDY) in
+    let none : transfer_of v ≡ None = transfer_of-kept h x v g.more g.follows.orderly f
+    ∙ ap (chunk_step (has_line x DRDY)) e ∙ step_none (has_line x DRDY) in
     rw none (omega arith)
 not_moving k h x v b g (Some c) f e = cond-most (is_some (transfer_of v))
 
@@ -55,21 +63,29 @@ some_moving None (Some k) e = absurd (let no : ⊥ = cc in no)
 some_moving (Some a) None e = absurd (let no : ⊥ = cc in no)
 some_moving (Some a) (Some k) e = refl
 
-known_most : (k : Checker) (h : Trace) (x : Sample) (v : Trace) (b : Option LiveRequest) (g : Goes k h x v b) (t : Bool) → has_line x AERR ≡ t → known_count v ≤ known_count h + cond (line_back ADS h (length h) 1) 1 0
-known_most k h x v b g true e = let less = known_count-less h x v g.more g.follows.orderly.spaced e (g.timed e) in omega arith
+known_most : (k : Checker) (h : Trace) (x : Sample) (v : Trace) (b : Option LiveRequest) (g : Goes k h x v b)
+    (t : Bool) → has_line x AERR ≡ t → known_count v ≤ known_count h + cond (line_back ADS h (length h) 1) 1 0
+known_most k h x v b g true e = let less =
+    known_count-less h x v g.more g.follows.orderly.spaced e (g.timed e) in omega arith
 known_most k h x v b g false e = let more = known_count-more h x v g.more e in omega arith
 
 -- how many there are: with those that responded, the known ones and the one whose data are on the way
-len_of : (q : InFlight) (w : Trace) (s : ℕ) → Stretch q.asking.items (live_of w) s (known_count w) → Stretch q.waiting.items (snooped_of w) (response_count w) s → queue_len q + response_count w ≡ known_count w + cond (is_some q.moving) 1 0
+len_of : (q : InFlight) (w : Trace) (s : ℕ) → Stretch q.asking.items (live_of w) s (known_count w)
+    → Stretch q.waiting.items (snooped_of w) (response_count w) s
+    → queue_len q + response_count w ≡ known_count w + cond (is_some q.moving) 1 0
 unfolding queue_len
 len_of q w s a b = omega (arith, a.size, b.size)
 
-answers_most : (k : Checker) (h : Trace) (x : Sample) (v : Trace) (b : Option LiveRequest) (g : Goes k h x v b) (t : Bool) → responds x ≡ t → cond (is_some (transfer_of v)) 1 0 + response_count h ≤ response_count v + cond (is_some (transfer_of h)) 1 0
+answers_most : (k : Checker) (h : Trace) (x : Sample) (v : Trace) (b : Option LiveRequest) (g : Goes k h x v b)
+    (t : Bool) → responds x ≡ t → cond (is_some (transfer_of v)) 1 0 + response_count h ≤ response_count v
+    + cond (is_some (transfer_of h)) 1 0
 answers_most k h x v b g true e =
-    let more : response_count v ≡ response_count h + 1 = response_count-more h x v g.more ∙ ap (λ c. response_count h + cond c 1 0) e in
+    let more : response_count v ≡ response_count h + 1 = response_count-more h x v g.more
+    ∙ ap (λ c. response_count h + cond c 1 0) e in
     let most = cond-most (is_some (transfer_of v)) in omega arith
 answers_most k h x v b g false e =
-    let same : response_count v ≡ response_count h + 0 = response_count-more h x v g.more ∙ ap (λ c. response_count h + cond c 1 0) e in
+    let same : response_count v ≡ response_count h + 0 = response_count-more h x v g.more
+    ∙ ap (λ c. response_count h + cond c 1 0) e in
     let most = not_moving k h x v b g (transfer_of h) e refl in omega arith
 
 -- the room that is left
@@ -79,7 +95,11 @@ new_back h x v m =
     let e : length h + 1 - 1 ≡ length h = omega arith in
     rw (m.size, le-leb 1 (length h + 1) (omega arith), e) (line_at-new ADS h x v m)
 
-few_left : (k : Checker) (h : Trace) (x : Sample) (v : Trace) (b : Option LiveRequest) (g : Goes k h x v b) (new : ℕ) (t : Bool) → has_line x ADS ≡ t → queue_len k.queue + response_count h ≡ known_count h + cond (is_some (transfer_of h)) 1 0 → new + response_count v ≡ known_count v + cond (is_some (transfer_of v)) 1 0 → new + cond (line_back ADS v (length v) 1) 1 0 ≤ 8
+few_left : (k : Checker) (h : Trace) (x : Sample) (v : Trace) (b : Option LiveRequest) (g : Goes k h x v b)
+    (new : ℕ) (t : Bool) → has_line x ADS ≡ t
+    → queue_len k.queue + response_count h ≡ known_count h + cond (is_some (transfer_of h)) 1 0
+    → new + response_count v ≡ known_count v + cond (is_some (transfer_of v)) 1 0
+    → new + cond (line_back ADS v (length v) 1) 1 0 ≤ 8
 few_left k h x v b g new true e l r =
     let room = g.room e in
     let known = known_most k h x v b g (has_line x AERR) refl in
@@ -94,16 +114,20 @@ few_left k h x v b g new false e l r =
     let back : line_back ADS v (length v) 1 ≡ false = new_back h x v g.more ∙ e in
     rw back (omega (arith, g.follows.queue.few))
 
-pub queue_follows : (k : Checker) (h : Trace) (x : Sample) (v : Trace) (b : Option LiveRequest) (g : Goes k h x v b) (q : InFlight) → Decoded v → QueueGoes k.queue (length h) x b q → InFlightStands q v
+pub queue_follows : (k : Checker) (h : Trace) (x : Sample) (v : Trace) (b : Option LiveRequest)
+    (g : Goes k h x v b) (q : InFlight) → Decoded v → QueueGoes k.queue (length h) x b q → InFlightStands q v
 queue_follows k h x v b g q d r =
     let f = g.follows in
     let s : ℕ = f.queue.snooped in
     let ends : Bool = ends_snoop_of h s x in
     let is = snooped_is_some k h x v b g ends refl in
     let asking : Stretch q.asking.items (live_of v) (snooped_after s ends) (known_count v) =
-    subst (λ xs. Stretch xs (live_of v) (snooped_after s ends) (known_count v)) (sym (r.asking ∙ ap (λ e. asking_after k.queue.asking.items (has_line x AERR) e b) is)) (asking_goes k h x v b g) in
+    subst (λ xs. Stretch xs (live_of v) (snooped_after s ends) (known_count v))
+    (sym (r.asking ∙ ap (λ e. asking_after k.queue.asking.items (has_line x AERR) e b) is))
+    (asking_goes k h x v b g) in
     let waiting : Stretch q.waiting.items (snooped_of v) (response_count v) (snooped_after s ends) =
-    subst (λ xs. Stretch xs (snooped_of v) (response_count v) (snooped_after s ends)) (sym r.waiting) (waiting_goes k h x v b g) in
+    subst (λ xs. Stretch xs (snooped_of v) (response_count v) (snooped_after s ends)) (sym r.waiting)
+    (waiting_goes k h x v b g) in
     let moving : q.moving ≡ moving_of v = r.moving ∙ moving_goes k h x v b g in
     record {
       snooped = snooped_after s ends;
@@ -111,13 +135,18 @@ queue_follows k h x v b g q d r =
       asking = asking;
       waiting = waiting;
       moving = moving;
-      last_snoop = r.last_snoop ∙ ap (λ e. cond e (Some (length h)) k.queue.last_snoop) is ∙ last_goes k h x v b g ends refl;
+      last_snoop = r.last_snoop ∙ ap (λ e. cond e (Some (length h)) k.queue.last_snoop) is
+          ∙ last_goes k h x v b g ends refl;
       ready = r.ready ∙ ready_goes k h x v b g;
       few =
           let old_len = len_of k.queue h s f.queue.asking f.queue.waiting in
           let new_len = len_of q v (snooped_after s ends) asking waiting in
-          let old_moving : is_some k.queue.moving ≡ is_some (transfer_of h) = some_moving k.queue.moving (transfer_of h) (ap (λ m. is_none m) f.queue.moving ∙ moving-transfer h f.orderly f.decoded) in
-          let new_moving : is_some q.moving ≡ is_some (transfer_of v) = some_moving q.moving (transfer_of v) (ap (λ m. is_none m) moving ∙ moving-transfer v g.after d) in
+          let old_moving : is_some k.queue.moving ≡ is_some (transfer_of h) =
+          some_moving k.queue.moving (transfer_of h) (ap (λ m. is_none m) f.queue.moving
+          ∙ moving-transfer h f.orderly f.decoded) in
+          let new_moving : is_some q.moving ≡ is_some (transfer_of v) =
+          some_moving q.moving (transfer_of v) (ap (λ m. is_none m) moving ∙ moving-transfer v g.after d) in
           few_left k h x v b g (queue_len q) (has_line x ADS) refl
-          (old_len ∙ ap (λ m. known_count h + cond m 1 0) old_moving) (new_len ∙ ap (λ m. known_count v + cond m 1 0) new_moving);
+          (old_len ∙ ap (λ m. known_count h + cond m 1 0) old_moving) (new_len
+          ∙ ap (λ m. known_count v + cond m 1 0) new_moving);
     }

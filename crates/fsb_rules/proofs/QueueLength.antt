@@ -1,5 +1,6 @@
 -- How many requests a queue has: those in flight, but one that begins at the last clock.
-use Rattle.std.proofs.Common.{ℕ, zero, suc, ◌+◌, ◌-◌, ◌≡◌, true, false, cond, not, Option, Some, None, is_some, is_none, length, refl, sym, ap, ◌∙◌, arith, add-zero}
+use Rattle.std.proofs.Common.{ℕ, zero, suc, ◌+◌, ◌-◌, ◌≡◌, true, false, cond, not, Option, Some, None, is_some, is_none}
+use Rattle.std.proofs.Common.{length, refl, sym, ap, ◌∙◌, arith, add-zero}
 use Rattle.std.proofs.lemmas.Bool.{both_ways, le-leb, false_from_ne_true}
 use Rattle.fsb_count.specs.Clocks.{count_where}
 use Rattle.fsb_count.proofs.Interface.{count_where-more}
@@ -45,7 +46,9 @@ some_none : (m : Option Moving) → is_some m ≡ not (is_none m)
 some_none None = refl
 some_none (Some a) = refl
 
-len_cases : (q : InFlight) (h : Trace) (st : InFlightStands q h) (t : Option ℕ) → Orderly h → line_back ADS h (length h) 1 ≡ false → transfer_of h ≡ t → length q.asking.items + length q.waiting.items + cond (not (is_none t)) 1 0 ≡ length (in_flight h (length h))
+len_cases : (q : InFlight) (h : Trace) (st : InFlightStands q h) (t : Option ℕ) → Orderly h
+    → line_back ADS h (length h) 1 ≡ false → transfer_of h ≡ t
+    → length q.asking.items + length q.waiting.items + cond (not (is_none t)) 1 0 ≡ length (in_flight h (length h))
 len_cases q h st None o f e =
     let known = known_count-quiet h f in
     let count = in_flight-count h (response_count h) (ends_to-still h o e) in
@@ -57,7 +60,8 @@ len_cases q h st (Some k) o f e =
     omega (arith, st.asking.size, st.waiting.size, p.1)
 
 -- where none begins at the last clock the queue has those in flight
-pub queue_len-in_flight : (q : InFlight) (h : Trace) → InFlightStands q h → Orderly h → Decoded h → line_back ADS h (length h) 1 ≡ false → queue_len q ≡ length (in_flight h (length h))
+pub queue_len-in_flight : (q : InFlight) (h : Trace) → InFlightStands q h → Orderly h → Decoded h
+    → line_back ADS h (length h) 1 ≡ false → queue_len q ≡ length (in_flight h (length h))
 unfolding queue_len
 queue_len-in_flight q h st o d f =
     ap (λ b. length q.asking.items + length q.waiting.items + cond b 1 0)

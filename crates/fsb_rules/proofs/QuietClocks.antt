@@ -8,7 +8,8 @@ use Rattle.fsb_rules.specs.declared.outstanding.Open.{Open}
 use Rattle.fsb_rules.specs.declared.outstanding.Happened.{Happened}
 use Rattle.fsb_rules.specs.OpenTests.{is_quiet, open_after, open_with, reply_after}
 
-reply_stays : (h : Happened) (o : Open) (r : Option ℕ) → o.reply ≡ r → h.cancelled ≡ None → h.begun ≡ None → reply_after h o ≡ o.reply
+reply_stays : (h : Happened) (o : Open) (r : Option ℕ) → o.reply ≡ r → h.cancelled ≡ None → h.begun ≡ None
+    → reply_after h o ≡ o.reply
 unfolding reply_after is_at is_some_and
 reply_stays h o None e c b = rw (e, b) refl
 reply_stays h o (Some q) e c b = rw (e, c) refl

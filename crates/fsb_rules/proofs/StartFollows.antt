@@ -1,5 +1,6 @@
 -- The checker before the first sample.
-use Rattle.std.proofs.Common.{ℕ, ◌≡◌, true, false, cond, Option, Some, None, [], length, nat_lt, count_by, refl, sym, ap, ◌∙◌, arith}
+use Rattle.std.proofs.Common.{ℕ, ◌≡◌, true, false, cond, Option, Some, None, [], length, nat_lt, count_by, refl, sym}
+use Rattle.std.proofs.Common.{ap, ◌∙◌, arith}
 use Rattle.std.specs.List.{list_all}
 use Rattle.std.proofs.lemmas.Bool.{both_ways}
 use Rattle.fsb_count.specs.Clocks.{first_where, count_where}
@@ -14,7 +15,8 @@ use Rattle.fsb_trace.specs.Verdict.{verdict}
 use Rattle.fsb_trace.proofs.Interface.{snoop_end_of-clock}
 use Rattle.fsb_arbiter.specs.Arbiter.{Stands as ArbiterStands, lines_back}
 use Rattle.fsb_laws.specs.Progress.{response_count}
-use Rattle.fsb_laws.proofs.Interface.{orderly-empty, response_counted, response_count-empty, has_ready, deferred_response}
+use Rattle.fsb_laws.proofs.Interface.{orderly-empty, response_counted, response_count-empty, has_ready}
+use Rattle.fsb_laws.proofs.Interface.{deferred_response}
 use Rattle.fsb_rules.specs.declared.checker.Checker.{Checker}
 use Rattle.fsb_rules.specs.Recent.{words_back}
 use Rattle.fsb_rules.specs.InFlight.{InFlightStands, known_count, snoop_before, moving_after, moving_of}
@@ -98,22 +100,29 @@ new_queue k n =
     record {
       snooped = 0;
       to = record { reached = λ i l. absurd (omega arith); next = no_snoop 0 (snoop_end_of [] 0) refl };
-      asking = record { size = (let e : length k.queue.asking.items ≡ 0 = ap length n.asking in let z = none_known in omega arith); at = λ m l. absurd (let e : length k.queue.asking.items ≡ 0 = ap length n.asking in omega arith) };
+      asking = record {
+        size = (let e : length k.queue.asking.items ≡ 0 = ap length n.asking in
+            let z = none_known in omega arith);
+        at = λ m l. absurd (let e : length k.queue.asking.items ≡ 0 = ap length n.asking in omega arith);
+      };
       waiting = record {
-        size = (let e : length k.queue.waiting.items ≡ 0 = ap length n.waiting in let r = response_count-empty in omega arith);
+        size = (let e : length k.queue.waiting.items ≡ 0 = ap length n.waiting in
+            let r = response_count-empty in omega arith);
         at = λ m l. absurd (let e : length k.queue.waiting.items ≡ 0 = ap length n.waiting in omega arith);
       };
       moving = n.moving ∙ sym none_moves;
       last_snoop = n.last_snoop ∙ sym no_before;
       ready = n.ready ∙ sym (no_ready (response_count []) (ready_clock_of [] (response_count [])) refl);
-      few = (let e = no_requests k n in let f : cond (line_back ADS [] 0 1) 1 0 ≡ 0 = ap (λ b. cond {A = ℕ} b 1 0) no_back in omega arith);
+      few = (let e = no_requests k n in
+          let f : cond (line_back ADS [] 0 1) 1 0 ≡ 0 = ap (λ b. cond {A = ℕ} b 1 0) no_back in omega arith);
     }
 
 new_outstanding : (k : Checker) → IsNew k → OutstandingStands k.outstanding []
 new_outstanding k n =
     record {
       current = n.current ∙ sym (open_empty [] refl);
-      few = λ a. (let e : count_by (is_of_agent a) k.outstanding.current.items ≡ 0 = ap (count_by (is_of_agent a)) n.current in omega arith);
+      few = λ a. (let e : count_by (is_of_agent a) k.outstanding.current.items ≡ 0 =
+          ap (count_by (is_of_agent a)) n.current in omega arith);
       own = ap (list_all (λ o. nat_lt o.did 64)) n.current;
       fewer = λ t. absurd (both_ways _ no_back t);
       before = λ t. absurd (both_ways _ no_back t);
@@ -125,7 +134,11 @@ new_follows k n =
       orderly = orderly-empty;
       decoded = record { there = λ q t l. absurd (no_ads q t) };
       identified = record { own = λ q r t e. absurd (no_ads q t) };
-      deferrable = record { no_reply = λ i t. absurd (let d = deferred_response [] i t in let l = response_counted [] i d.0 d.1 in let z = response_count-empty in omega arith) };
+      deferrable =
+          record {
+            no_reply = λ i t. absurd (let d = deferred_response [] i t in
+                let l = response_counted [] i d.0 d.1 in let z = response_count-empty in omega arith);
+          };
       clock = n.clock;
       recent = record {
         first = n.first ∙ sym no_first;

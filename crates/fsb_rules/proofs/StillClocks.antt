@@ -1,4 +1,5 @@
--- A sample in which no line tells of a snoop, a response or data breaks none of their rules, and mostly changes nothing.
+-- A sample in which no line tells of a snoop, a response or data breaks none of their rules, and mostly changes
+-- nothing.
 use Rattle.std.proofs.Common.{ℕ, ◌≡◌, Bool, true, false, cond, ◌&&◌, ◌||◌, Option, Some, None, is_some, slice_get, refl}
 use Rattle.std.specs.Option.{option_and_then}
 use Rattle.std.proofs.lemmas.Bool.{and_parts, and_right, not-true}
@@ -14,8 +15,11 @@ use Rattle.fsb_rules.specs.declared.in_flight.InFlight.{InFlight}
 use Rattle.fsb_rules.specs.declared.live.LiveRequest.{LiveRequest}
 use Rattle.fsb_rules.specs.declared.live.Snooped.{Snooped}
 use Rattle.fsb_rules.specs.Still.{is_still, is_quiet_by, stays_by}
-use Rattle.fsb_rules.specs.Tests.{is_due_by, ends_snoop_by, is_unfit_by, is_sound, moving_by, after_chunk, snooped_by, asking_after, without_last, waiting_after, ready_after_by}
-use Rattle.fsb_rules.specs.LeastRule.{is_snoop_line_alone_by, is_result_unfit_by, is_code_wrong_by, is_target_ready_wrong_by, is_data_wrong_by, is_begun_wrongly_by, later_broken, parity_broken}
+use Rattle.fsb_rules.specs.Tests.{is_due_by, ends_snoop_by, is_unfit_by, is_sound, moving_by, after_chunk, snooped_by}
+use Rattle.fsb_rules.specs.Tests.{asking_after, without_last, waiting_after, ready_after_by}
+use Rattle.fsb_rules.specs.LeastRule.{is_snoop_line_alone_by, is_result_unfit_by, is_code_wrong_by}
+use Rattle.fsb_rules.specs.LeastRule.{is_target_ready_wrong_by, is_data_wrong_by, is_begun_wrongly_by, later_broken}
+use Rattle.fsb_rules.specs.LeastRule.{parity_broken}
 
 -- none of the lines is asserted
 record Stillness (x : Sample) : Type 0 where
@@ -77,7 +81,8 @@ not_unfit : (a : LiveRequest) (x : Sample) → Stillness x → is_unfit_by a x �
 unfolding is_unfit_by
 not_unfit a x s = rw (s.hit, s.hitm, s.defer) (fits a.is_write_back a.is_reply)
 
-no_unfit : (q : InFlight) (n : ℕ) (x : Sample) (o : Option LiveRequest) → Stillness x → is_some_and o (λ a. ends_snoop_by q n x && is_unfit_by a x) ≡ false
+no_unfit : (q : InFlight) (n : ℕ) (x : Sample) (o : Option LiveRequest) → Stillness x
+    → is_some_and o (λ a. ends_snoop_by q n x && is_unfit_by a x) ≡ false
 unfolding is_some_and
 no_unfit q n x None s = refl
 no_unfit q n x (Some a) s = and_right _ _ (not_unfit a x s)
@@ -98,12 +103,23 @@ no_data : (k : Checker) (n : ℕ) (x : Sample) → k.queue.moving ≡ None → S
 unfolding is_data_wrong_by moving_by after_chunk
 no_data k n x e s = rw (silent x s, e, s.drdy, s.dbsy) refl
 
-later_parts : (k : Checker) (n : ℕ) (x : Sample) (b : Option LiveRequest) → Stillness x → k.queue.moving ≡ None → b ≡ None → later_broken k n x b ≡ parity_broken k x
+later_parts : (k : Checker) (n : ℕ) (x : Sample) (b : Option LiveRequest) → Stillness x → k.queue.moving ≡ None
+    → b ≡ None → later_broken k n x b ≡ parity_broken k x
 unfolding later_broken is_begun_wrongly_by is_some_and
 later_parts k n x b s e f =
-    rw (not_alone k n x s, result_fits k n x s, silent x s, no_code k n x s, no_target k n x s, no_data k n x e s, s.drdy, f) refl
+    rw (
+      not_alone k n x s,
+      result_fits k n x s,
+      silent x s,
+      no_code k n x s,
+      no_target k n x s,
+      no_data k n x e s,
+      s.drdy,
+      f,
+    ) refl
 
-pub quiet_later : (k : Checker) (n : ℕ) (x : Sample) (b : Option LiveRequest) → is_quiet_by k.queue x b ≡ true → later_broken k n x b ≡ parity_broken k x
+pub quiet_later : (k : Checker) (n : ℕ) (x : Sample) (b : Option LiveRequest) → is_quiet_by k.queue x b ≡ true
+    → later_broken k n x b ≡ parity_broken k x
 unfolding is_quiet_by
 quiet_later k n x b t =
     let p = and_parts _ _ t in
@@ -111,14 +127,16 @@ quiet_later k n x b t =
     later_parts k n x b (stillness x q.1) (is_none-none _ q.0) (is_none-none _ p.0)
 
 -- what is kept of the requests
-none_where : (o : Option LiveRequest) (f : LiveRequest → Option Snooped) → option_and_then (λ a. cond false (f a) None) o ≡ None
+none_where : (o : Option LiveRequest) (f : LiveRequest → Option Snooped)
+    → option_and_then (λ a. cond false (f a) None) o ≡ None
 none_where None f = refl
 none_where (Some a) f = refl
 
 not_snooped : (q : InFlight) (n : ℕ) (x : Sample) → is_due_by q n ≡ false → snooped_by q n x ≡ None
 unfolding snooped_by ends_snoop_by
 not_snooped q n x e =
-    rw e (none_where (slice_get q.asking.items 0) (λ a. Some (record { request = a; clock = n; hitm = has_line x HITM; defer = has_line x DEFER })))
+    rw e (none_where (slice_get q.asking.items 0)
+    (λ a. Some (record { request = a; clock = n; hitm = has_line x HITM; defer = has_line x DEFER })))
 
 record Staying (q : InFlight) (n : ℕ) (x : Sample) (b : Option LiveRequest) : Type 0 where
   pub still : Stillness x
@@ -139,24 +157,29 @@ staying q n x b t =
       snooped = not_snooped q n x (not-true _ p.1);
     }
 
-pub asking_stays : (q : InFlight) (n : ℕ) (x : Sample) (b : Option LiveRequest) → stays_by q n x b ≡ true → asking_after q.asking.items (has_line x AERR) (is_some (snooped_by q n x)) b ≡ q.asking.items
+pub asking_stays : (q : InFlight) (n : ℕ) (x : Sample) (b : Option LiveRequest) → stays_by q n x b ≡ true
+    → asking_after q.asking.items (has_line x AERR) (is_some (snooped_by q n x)) b ≡ q.asking.items
 unfolding asking_after without_last
 asking_stays q n x b t =
     let s = staying q n x b t in rw (s.still.aerr, s.snooped, s.begun) (append-nil q.asking.items)
 
-pub waiting_stays : (q : InFlight) (n : ℕ) (x : Sample) (b : Option LiveRequest) → stays_by q n x b ≡ true → waiting_after q.waiting.items (responds x) (snooped_by q n x) ≡ q.waiting.items
+pub waiting_stays : (q : InFlight) (n : ℕ) (x : Sample) (b : Option LiveRequest) → stays_by q n x b ≡ true
+    → waiting_after q.waiting.items (responds x) (snooped_by q n x) ≡ q.waiting.items
 unfolding waiting_after
 waiting_stays q n x b t =
     let s = staying q n x b t in rw (silent x s.still, s.snooped) (append-nil q.waiting.items)
 
-pub moving_stays : (q : InFlight) (n : ℕ) (x : Sample) (b : Option LiveRequest) → stays_by q n x b ≡ true → after_chunk (moving_by q n x) x ≡ q.moving
+pub moving_stays : (q : InFlight) (n : ℕ) (x : Sample) (b : Option LiveRequest) → stays_by q n x b ≡ true
+    → after_chunk (moving_by q n x) x ≡ q.moving
 unfolding moving_by after_chunk
 moving_stays q n x b t = let s = staying q n x b t in rw (silent x s.still, s.moving) refl
 
-pub snoop_stays : (q : InFlight) (n : ℕ) (x : Sample) (b : Option LiveRequest) → stays_by q n x b ≡ true → cond (is_some (snooped_by q n x)) (Some n) q.last_snoop ≡ q.last_snoop
+pub snoop_stays : (q : InFlight) (n : ℕ) (x : Sample) (b : Option LiveRequest) → stays_by q n x b ≡ true
+    → cond (is_some (snooped_by q n x)) (Some n) q.last_snoop ≡ q.last_snoop
 snoop_stays q n x b t = let s = staying q n x b t in rw s.snooped refl
 
-pub ready_stays : (q : InFlight) (n : ℕ) (x : Sample) (b : Option LiveRequest) → stays_by q n x b ≡ true → ready_after_by q n x ≡ q.ready
+pub ready_stays : (q : InFlight) (n : ℕ) (x : Sample) (b : Option LiveRequest) → stays_by q n x b ≡ true
+    → ready_after_by q n x ≡ q.ready
 unfolding ready_after_by
 ready_stays q n x b t = let s = staying q n x b t in rw (silent x s.still, s.still.trdy) refl
 

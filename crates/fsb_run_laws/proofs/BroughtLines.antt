@@ -1,5 +1,6 @@
 -- A line that is brought is one that the request whose end it is was granted; a reply serves what was Deferred.
-use Rattle.std.proofs.Common.{ℕ, ◌+◌, ◌<◌, ◌≤◌, ◌≡◌, Bool, true, not, ◌&&◌, ◌||◌, Some, None, length, nat_eq, refl, sym, ap, ◌∙◌, arith}
+use Rattle.std.proofs.Common.{ℕ, ◌+◌, ◌<◌, ◌≤◌, ◌≡◌, Bool, true, not, ◌&&◌, ◌||◌, Some, None, length, nat_eq, refl, sym}
+use Rattle.std.proofs.Common.{ap, ◌∙◌, arith}
 use Rattle.std.specs.List.{list_any}
 use Rattle.std.specs.Option.{option_and_then}
 use Rattle.std.proofs.lemmas.Bool.{and_from, and_parts, eq-eqb, eqb-true}
@@ -16,7 +17,8 @@ use Rattle.fsb_coherent.specs.Awaits.{snoop_end_below}
 use Rattle.fsb_coherent.specs.Facts.{IsRepliedOn}
 use Rattle.fsb_coherent.proofs.Interface.{any-from, any-there}
 use Rattle.fsb_lawful.proofs.Interface.{and-then, some-and}
-use Rattle.fsb_tied.proofs.Interface.{answers-in-order, any-of, clock-facts, grant-first, granted-parts, is-found, none-before, reply-end-at, same-both}
+use Rattle.fsb_tied.proofs.Interface.{answers-in-order, any-of, clock-facts, grant-first, granted-parts, is-found}
+use Rattle.fsb_tied.proofs.Interface.{none-before, reply-end-at, same-both}
 use Rattle.fsb_run_laws.specs.Brought.{brings, is_bringing, ServesDeferred}
 use Rattle.fsb_run_laws.specs.Reaches.{Reaches}
 

@@ -1,5 +1,6 @@
 -- An agent has an entry at a clock exactly where it has a hit or an arrival.
-use Rattle.std.proofs.Common.{ℕ, ◌+◌, ◌<◌, ◌≡◌, ◌⊎◌, Bool, true, false, not, ◌&&◌, ◌||◌, nat_eq, List, [], ◌∷◌, Option, Some, None, length, slice_get, refl, sym, ◌∙◌, inl, inr, arith}
+use Rattle.std.proofs.Common.{ℕ, ◌+◌, ◌<◌, ◌≡◌, ◌⊎◌, Bool, true, false, not, ◌&&◌, ◌||◌, nat_eq, List, [], ◌∷◌, Option}
+use Rattle.std.proofs.Common.{Some, None, length, slice_get, refl, sym, ◌∙◌, inl, inr, arith}
 use Rattle.std.specs.List.{list_all, list_any}
 use Rattle.std.proofs.lemmas.Bool.{and_parts, both_ways, cases_Bool, not-true, or_cases, or_left, or_parts, or_right}
 use Rattle.fsb_count.specs.Options.{is_some_and}
@@ -12,7 +13,8 @@ use Rattle.fsb_timely.specs.Completions.{completes_by, is_arrival}
 use Rattle.fsb_timely.specs.Hits.{is_hit, is_served}
 use Rattle.fsb_timely.specs.Past.{Past}
 use Rattle.fsb_timely.specs.Runs.{past_of, Run}
-use Rattle.fsb_timely.specs.Scripts.{completes_at, is_done_at, is_idle, is_idling, is_logged, is_to_do, items_of, needs_of, next_item, next_number}
+use Rattle.fsb_timely.specs.Scripts.{completes_at, is_done_at, is_idle, is_idling, is_logged, is_to_do, items_of}
+use Rattle.fsb_timely.specs.Scripts.{needs_of, next_item, next_number}
 use Rattle.fsb_timely.proofs.Interface.{at, logged-next, logs-item, steps-completed}
 use Rattle.fsb_lawful.proofs.Interface.{all-at, and-then, some-and}
 use Rattle.fsb_tied.proofs.Interface.{same-both}

@@ -6,7 +6,8 @@ use Rattle.fsb_timely.specs.Hits.{is_dirty}
 use Rattle.fsb_timely.specs.Past.{Past}
 use Rattle.fsb_timely.specs.Runs.{past_of, Run}
 use Rattle.fsb_timely.specs.Wants.{is_same_set, victim_of}
-use Rattle.fsb_tied.proofs.Interface.{a-victim, dirty-held, no-victim, one-slot, rival-set, rival-sym, same-set, same-set-sym}
+use Rattle.fsb_tied.proofs.Interface.{a-victim, dirty-held, no-victim, one-slot, rival-set, rival-sym, same-set}
+use Rattle.fsb_tied.proofs.Interface.{same-set-sym}
 use Rattle.fsb_run_laws.specs.Reaches.{Reaches}
 
 -- two rivals of a line that differ are rivals

@@ -14,6 +14,8 @@ pub use Rattle.fsb_run_laws.proofs.LastEntries.{last-of, last-stays}
 -- Which requests stop being outstanding at a clock.
 pub use Rattle.fsb_run_laws.proofs.LastTold.{cancelled-last, ends-last, reply-ends-last}
 -- What is outstanding at a snoop end or at its last clock, and by what it stops being so.
-pub use Rattle.fsb_run_laws.proofs.LeftRequests.{LeavesByEnd, LeftByOwn, LeftByReply, ServesOutstanding, ending-served, ending-serves, last-outstanding, last-says, replied-outstanding, replied-served, snooped-outstanding}
+pub use Rattle.fsb_run_laws.proofs.LeftRequests.{LeavesByEnd, LeftByOwn, LeftByReply, ServesOutstanding, ending-served}
+pub use Rattle.fsb_run_laws.proofs.LeftRequests.{ending-serves, last-outstanding, last-says, replied-outstanding}
+pub use Rattle.fsb_run_laws.proofs.LeftRequests.{replied-served, snooped-outstanding}
 -- Outstanding requests, as the whole trace has them, and one clock further.
 pub use Rattle.fsb_run_laws.proofs.OwedRequests.{owed-step, owed-told, owing-claim}

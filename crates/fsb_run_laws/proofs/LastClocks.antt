@@ -11,9 +11,11 @@ use Rattle.fsb_trace.specs.Outcome.{is_deferred, response_clock_of}
 use Rattle.fsb_trace.specs.Requests.{is_live, live_clock_of, live_number_of}
 use Rattle.fsb_trace.specs.Response.{end_of}
 use Rattle.fsb_trace.specs.Snoop.{snoop_end_of}
-use Rattle.fsb_trace.proofs.Interface.{end_of-response, end_of-stays, is_deferred-stays, is_live-agree, live_clock_of-number, live_clock_of-stays}
+use Rattle.fsb_trace.proofs.Interface.{end_of-response, end_of-stays, is_deferred-stays, is_live-agree}
+use Rattle.fsb_trace.proofs.Interface.{live_clock_of-number, live_clock_of-stays}
 use Rattle.fsb_laws.specs.Orderly.{Orderly}
-use Rattle.fsb_laws.proofs.Interface.{deferred_response, end_after_clock, has_answer, last_clock_of-deferred, last_clock_of-plain}
+use Rattle.fsb_laws.proofs.Interface.{deferred_response, end_after_clock, has_answer, last_clock_of-deferred}
+use Rattle.fsb_laws.proofs.Interface.{last_clock_of-plain}
 use Rattle.fsb_lawful.proofs.Interface.{and-then}
 use Rattle.fsb_tied.proofs.Interface.{has-reply, live-at, reply-stays}
 

@@ -1,5 +1,6 @@
 -- Which requests stop being outstanding at a clock, by its moment.
-use Rattle.std.proofs.Common.{ℕ, ◌+◌, ◌<◌, ◌≤◌, ◌≡◌, true, false, not, ◌&&◌, [], Some, None, length, nat_eq, refl, sym, ap, subst, ◌∙◌, inl, inr, arith}
+use Rattle.std.proofs.Common.{ℕ, ◌+◌, ◌<◌, ◌≤◌, ◌≡◌, true, false, not, ◌&&◌, [], Some, None, length, nat_eq, refl, sym}
+use Rattle.std.proofs.Common.{ap, subst, ◌∙◌, inl, inr, arith}
 use Rattle.std.specs.List.{list_any}
 use Rattle.std.specs.Option.{option_and_then}
 use Rattle.std.proofs.lemmas.Bool.{and_parts, both_ways, cases_Bool, eq-eqb, eqb-true, false_from_ne_true}
@@ -12,7 +13,8 @@ use Rattle.fsb_trace.specs.Flight.{last_clock_of, reply_end_of, reply_number_of}
 use Rattle.fsb_trace.specs.Outcome.{is_deferral, is_deferred, response_clock_of}
 use Rattle.fsb_trace.specs.Requests.{is_cancelled, is_live, live_clock_of, live_number_of}
 use Rattle.fsb_trace.specs.Response.{end_of}
-use Rattle.fsb_trace.proofs.Interface.{AgreeTo-sym, is_deferred-stays, live_clock_of-number, response_clock_of-stays, snoop_end_of-stays}
+use Rattle.fsb_trace.proofs.Interface.{AgreeTo-sym, is_deferred-stays, live_clock_of-number, response_clock_of-stays}
+use Rattle.fsb_trace.proofs.Interface.{snoop_end_of-stays}
 use Rattle.fsb_laws.proofs.Interface.{deferred_response, last_clock_of-deferred, last_clock_of-plain}
 use Rattle.fsb_timely.specs.Grants.{begun_at, ended_requests, is_end_at, snooped_at}
 use Rattle.fsb_timely.specs.Growth.{is_last_clock}
@@ -22,7 +24,8 @@ use Rattle.fsb_timely.specs.Runs.{past_of, Run, run_to}
 use Rattle.fsb_timely.proofs.Interface.{one_end, snoop-tied}
 use Rattle.fsb_lawful.proofs.Interface.{and-then, run_to-agrees, told-as-settled, turned-at}
 use Rattle.fsb_coherent.specs.Awaits.{cancelled_in, snoop_end_below}
-use Rattle.fsb_tied.proofs.Interface.{IsSnooped, answered, begun-want, cancelled-at, cancels, claimed, ended-number, has-reply, live-at, number-ended, orderly-whole, reply-end-at, snooped-by}
+use Rattle.fsb_tied.proofs.Interface.{IsSnooped, answered, begun-want, cancelled-at, cancels, claimed, ended-number}
+use Rattle.fsb_tied.proofs.Interface.{has-reply, live-at, number-ended, orderly-whole, reply-end-at, snooped-by}
 use Rattle.fsb_run_laws.specs.Reaches.{Reaches}
 use Rattle.fsb_run_laws.proofs.BroughtLines.{snoop-below}
 use Rattle.fsb_run_laws.proofs.LastClocks.{has-end}

@@ -1,13 +1,16 @@
 -- Which requests are outstanding at a clock at which they have their snoop end or stop being so, and by what they stop.
-use Rattle.std.proofs.Common.{ℕ, ◌+◌, ◌<◌, ◌≤◌, ◌≡◌, ◌⊎◌, true, false, not, ◌&&◌, ◌||◌, Option, Some, None, length, nat_eq, nat_lt, refl, sym, ap, subst, ◌∙◌, inl, inr, arith}
+use Rattle.std.proofs.Common.{ℕ, ◌+◌, ◌<◌, ◌≤◌, ◌≡◌, ◌⊎◌, true, false, not, ◌&&◌, ◌||◌, Option, Some, None, length}
+use Rattle.std.proofs.Common.{nat_eq, nat_lt, refl, sym, ap, subst, ◌∙◌, inl, inr, arith}
 use Rattle.std.specs.Option.{option_and_then}
-use Rattle.std.proofs.lemmas.Bool.{and_parts, both_ways, cases_Bool, cases_lt, eqb-true, false_from_ne_true, le-ltb, lt-ltb, or_cases}
+use Rattle.std.proofs.lemmas.Bool.{and_parts, both_ways, cases_Bool, cases_lt, eqb-true, false_from_ne_true, le-ltb}
+use Rattle.std.proofs.lemmas.Bool.{lt-ltb, or_cases}
 use Rattle.fsb_count.specs.Options.{is_at, is_before}
 use Rattle.fsb_count.proofs.Interface.{is_at-from, is_at-some, is_before-parts}
 use Rattle.fsb_signal.specs.declared.lines.TheConstants.Lines.{ADS, AERR}
 use Rattle.fsb_signal.specs.Samples.{line_at}
 use Rattle.fsb_trace.specs.At.{Trace, request_at}
-use Rattle.fsb_trace.specs.Flight.{is_dropped, is_finished, is_outstanding, last_clock_of, reply_end_of, reply_number_of}
+use Rattle.fsb_trace.specs.Flight.{is_dropped, is_finished, is_outstanding, last_clock_of, reply_end_of}
+use Rattle.fsb_trace.specs.Flight.{reply_number_of}
 use Rattle.fsb_trace.specs.Outcome.{is_deferral, is_deferred}
 use Rattle.fsb_trace.specs.Requests.{is_cancelled, is_live, is_reply, live_clock_of, live_number_of}
 use Rattle.fsb_trace.specs.Response.{end_of}
@@ -23,7 +26,8 @@ use Rattle.fsb_timely.specs.Runs.{past_of, Run}
 use Rattle.fsb_timely.proofs.Interface.{one_end, snoop-tied, tied-snoop}
 use Rattle.fsb_lawful.proofs.Interface.{and-then, wants-lawfully}
 use Rattle.fsb_coherent.specs.Awaits.{cancelled_in, snoop_end_below}
-use Rattle.fsb_tied.proofs.Interface.{IsPutOff, IsSnooped, begun-want, cancelled-at, clock-facts, has-reply, live-at, live-request, number-ended, orderly-whole, reply-end-at, reply-grants, snooped-by}
+use Rattle.fsb_tied.proofs.Interface.{IsPutOff, IsSnooped, begun-want, cancelled-at, clock-facts, has-reply, live-at}
+use Rattle.fsb_tied.proofs.Interface.{live-request, number-ended, orderly-whole, reply-end-at, reply-grants, snooped-by}
 use Rattle.fsb_run_laws.specs.Reaches.{Reaches}
 use Rattle.fsb_run_laws.proofs.BroughtLines.{snoop-below}
 use Rattle.fsb_run_laws.proofs.LastClocks.{has-end}
@@ -47,7 +51,8 @@ cancelled-outstanding w n q ads at error plain =
 
 not-before : (o : Option ℕ) (n : ℕ) → ((x : ℕ) → o ≡ Some x → n ≤ x) → is_before o n ≡ false
 not-before o n late =
-    false_from_ne_true (is_before o n) (λ t. let k = is_before-parts o n t in let l = late k.0 k.1 in let m = k.2 in omega arith)
+    false_from_ne_true (is_before o n) (λ t. let k = is_before-parts o n t in let l = late k.0 k.1 in
+    let m = k.2 in omega arith)
 
 -- a request is outstanding at its last clock
 pub last-outstanding : (r : Run) (n q : ℕ) (claim : Claim) → Reaches r (n + 1) → begun_at (past_of r) q ≡ Some claim
@@ -116,8 +121,10 @@ snooped-outstanding r n s claim h there claims =
     let begun = sym (settles.claimed s there) ∙ claims in (
       begun,
       omega arith,
-      live-outstanding w n tied.0 s.first k.tied.first (omega arith) (no-reply r s.first claim (n + 1) h (omega arith) begun)
-          (not-before (last_clock_of w tied.0) n (λ x e. last-late w tied.0 x n (orderly-whole r n h.timely (omega arith)) k.tied.reached e)),
+      live-outstanding w n tied.0 s.first k.tied.first (omega arith)
+          (no-reply r s.first claim (n + 1) h (omega arith) begun)
+          (not-before (last_clock_of w tied.0) n
+          (λ x e. last-late w tied.0 x n (orderly-whole r n h.timely (omega arith)) k.tied.reached e)),
     )
 
 -- what a reply serves that grants a line at n: a request that was Deferred before, and is outstanding at n

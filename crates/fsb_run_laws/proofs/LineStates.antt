@@ -1,5 +1,6 @@
 -- The state of a line at an agent, by what happens at a clock.
-use Rattle.std.proofs.Common.{ℕ, ◌+◌, ◌≡◌, Bool, true, false, not, ◌&&◌, ◌||◌, if◌then◌else◌, nat_eq, nat_lt, List, [], ◌∷◌, Option, Some, None, refl, ap, ◌∙◌}
+use Rattle.std.proofs.Common.{ℕ, ◌+◌, ◌≡◌, Bool, true, false, not, ◌&&◌, ◌||◌, if◌then◌else◌, nat_eq, nat_lt, List, []}
+use Rattle.std.proofs.Common.{◌∷◌, Option, Some, None, refl, ap, ◌∙◌}
 use Rattle.std.specs.List.{list_any}
 use Rattle.std.proofs.lemmas.Bool.{and_parts, or_left, or_right}
 use Rattle.fsb_count.specs.Options.{is_some_and}
@@ -7,12 +8,14 @@ use Rattle.fsb_count.proofs.Interface.{nat_lt-more}
 use Rattle.fsb_access.specs.declared.log.Done.{Done}
 use Rattle.fsb_line.specs.declared.state.Mesi.TheVariants.{Invalid, Shared, Exclusive, Modified}
 use Rattle.fsb_timely.specs.Past.{Grant, Past}
-use Rattle.fsb_timely.specs.Grants.{grant_at, holds_line, is_ended, is_evicted, is_exclusive, is_granted, is_lost, is_named_by_other, is_sole_grant, is_taken_away, is_written_back, latest_grant}
+use Rattle.fsb_timely.specs.Grants.{grant_at, holds_line, is_ended, is_evicted, is_exclusive, is_granted, is_lost}
+use Rattle.fsb_timely.specs.Grants.{is_named_by_other, is_sole_grant, is_taken_away, is_written_back, latest_grant}
 use Rattle.fsb_timely.specs.Hits.{is_dirty, is_hit, is_store_on, line_state_of}
 use Rattle.fsb_timely.proofs.Interface.{holds_line-more, is_exclusive-more}
 use Rattle.fsb_coherent.specs.Relation.{is_dirty_below, is_dirty_through, is_dirtying, is_stored_below}
 use Rattle.fsb_coherent.proofs.Interface.{dirty-by-hits, dirty-more}
-use Rattle.fsb_run_laws.specs.RunStates.{state_below, state_of_tests, state_read, state_stored, state_through, stores_at}
+use Rattle.fsb_run_laws.specs.RunStates.{state_below, state_of_tests, state_read, state_stored, state_through}
+use Rattle.fsb_run_laws.specs.RunStates.{stores_at}
 
 -- the state is told by holding, having for itself, and being dirty
 by-tests : (held own dirty : Bool)
@@ -28,7 +31,8 @@ by-tests true true false = refl
 by-tests true true true = refl
 
 by-choice : (held own x y b : Bool)
-    → state_of_tests held own (if b then x else y) ≡ (if b then state_of_tests held own x else state_of_tests held own y)
+    → state_of_tests held own (if b then x else y)
+    ≡ (if b then state_of_tests held own x else state_of_tests held own y)
 by-choice held own x y true = refl
 by-choice held own x y false = refl
 
@@ -110,7 +114,8 @@ state-by-stores p a line n =
     let latest = latest_grant p a line n in
     let now : ℕ → Bool =
     λ q. list_any (λ done. is_store_on a line done && is_ended p done.clock q && nat_eq done.clock n) p.log in
-    (λ i. state_of_tests held own (own && is_some_and latest (λ grant. grant.owns || stored-more p a line n grant.first i)))
+    (λ i. state_of_tests held own
+    (own && is_some_and latest (λ grant. grant.owns || stored-more p a line n grant.first i)))
     ∙ ap (λ b. state_of_tests held own (own && b))
     (with-stores latest (λ grant. is_stored_below p a line n grant.first) (λ grant. now grant.first))
     ∙ by-stores held own (is_some_and latest (λ grant. grant.owns || is_stored_below p a line n grant.first))
@@ -139,7 +144,8 @@ dirty-kept p a line n f =
 -- the state one clock on, by what of it is lost and named
 by-loss : (held own dirty lost named : Bool)
     → state_of_tests (held && not lost) (own && (not lost && not named)) (dirty && (not lost && not named))
-    ≡ (if lost then Invalid else (if named then state_read (state_of_tests held own dirty) else state_of_tests held own dirty))
+    ≡ (if lost then Invalid
+    else (if named then state_read (state_of_tests held own dirty) else state_of_tests held own dirty))
 unfolding state_of_tests state_read
 by-loss true own dirty true named = refl
 by-loss false own dirty true named = refl

@@ -1,5 +1,6 @@
 -- Where an agent is in its script behind a completion, and at which clocks it has one.
-use Rattle.std.proofs.Common.{ℕ, ◌+◌, ◌<◌, ◌≤◌, ◌≡◌, Bool, true, false, not, ◌&&◌, nat_lt, List, [], ◌∷◌, Option, Some, length, slice_get, refl, sym, ap, subst, ◌∙◌, inl, inr, arith}
+use Rattle.std.proofs.Common.{ℕ, ◌+◌, ◌<◌, ◌≤◌, ◌≡◌, Bool, true, false, not, ◌&&◌, nat_lt, List, [], ◌∷◌, Option, Some}
+use Rattle.std.proofs.Common.{length, slice_get, refl, sym, ap, subst, ◌∙◌, inl, inr, arith}
 use Rattle.std.specs.Option.{option_map_or}
 use Rattle.std.proofs.lemmas.Bool.{cases_lt, false_from_ne_true, le-ltb, lt-ltb}
 use Rattle.fsb_count.specs.Options.{is_some_and}
@@ -11,9 +12,11 @@ use Rattle.fsb_script.specs.Bounds.{is_lawful_item, is_lock_size}
 use Rattle.fsb_access.specs.declared.log.Done.{Done}
 use Rattle.fsb_timely.specs.Past.{Past}
 use Rattle.fsb_timely.specs.Runs.{past_of, Run}
-use Rattle.fsb_timely.specs.Scripts.{completes_at, idle_clocks, idle_start, is_idle, is_idling, is_logged, is_logged_at, is_to_do, items_of, next_number, number_after}
+use Rattle.fsb_timely.specs.Scripts.{completes_at, idle_clocks, idle_start, is_idle, is_idling, is_logged, is_logged_at}
+use Rattle.fsb_timely.specs.Scripts.{is_to_do, items_of, next_number, number_after}
 use Rattle.fsb_timely.specs.Timely.{Timely}
-use Rattle.fsb_timely.proofs.Interface.{done-before, done-now, is_logged-more, logged-next, logs-item, next_number-same, not-behind}
+use Rattle.fsb_timely.proofs.Interface.{done-before, done-now, is_logged-more, logged-next, logs-item, next_number-same}
+use Rattle.fsb_timely.proofs.Interface.{not-behind}
 use Rattle.fsb_run_laws.specs.Reaches.{Reaches}
 use Rattle.fsb_run_laws.specs.RunSteps.{is_behind, next_behind}
 use Rattle.fsb_run_laws.proofs.LastEntries.{last-of, last-stays}

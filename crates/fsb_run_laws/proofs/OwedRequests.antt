@@ -1,5 +1,6 @@
 -- The outstanding requests of symmetric agents, as the whole trace has them, and one clock further.
-use Rattle.std.proofs.Common.{ℕ, zero, suc, ◌+◌, ◌<◌, ◌≡◌, Bool, true, false, not, ◌&&◌, ◌++◌, Option, Some, None, length, nat_lt, refl, sym, ap, ◌∙◌, inl, inr, arith, add-one}
+use Rattle.std.proofs.Common.{ℕ, zero, suc, ◌+◌, ◌<◌, ◌≡◌, Bool, true, false, not, ◌&&◌, ◌++◌, Option, Some, None}
+use Rattle.std.proofs.Common.{length, nat_lt, refl, sym, ap, ◌∙◌, inl, inr, arith, add-one}
 use Rattle.std.specs.List.{filter, filter_map}
 use Rattle.std.specs.Option.{option_and_then, option_map}
 use Rattle.std.proofs.lemmas.Bool.{cases_lt, false_from_ne_true, le-ltb, lt-ltb}
@@ -21,7 +22,8 @@ use Rattle.fsb_timely.specs.Runs.{moments_below, past_of, past_with, Run, run_to
 use Rattle.fsb_timely.specs.Wants.{outstanding_at}
 use Rattle.fsb_timely.proofs.Interface.{is_outstanding-more, moment-at, moment_of}
 use Rattle.fsb_lawful.proofs.Interface.{length-cut, orderly-at, outstanding-of, run_to-agrees}
-use Rattle.fsb_tied.proofs.Interface.{begun-shown, begun-want, claim-no-reply, clock-facts, orderly-whole, owing-gives, same-both}
+use Rattle.fsb_tied.proofs.Interface.{begun-shown, begun-want, claim-no-reply, clock-facts, orderly-whole, owing-gives}
+use Rattle.fsb_tied.proofs.Interface.{same-both}
 use Rattle.fsb_run_laws.specs.Reaches.{Reaches}
 use Rattle.fsb_run_laws.specs.RunSteps.{listed, owing_begun}
 use Rattle.fsb_run_laws.proofs.LastClocks.{finished-carried, finished-late}

@@ -1,7 +1,9 @@
 -- Which requests stay outstanding at a clock, by its moment alone.
-use Rattle.std.proofs.Common.{ℕ, ◌+◌, ◌<◌, ◌≤◌, ◌≡◌, Bool, true, false, not, ◌&&◌, ◌||◌, ◌++◌, Option, Some, None, nat_eq, nat_lt, refl, sym, ap, subst, ◌∙◌, inl, inr, arith}
+use Rattle.std.proofs.Common.{ℕ, ◌+◌, ◌<◌, ◌≤◌, ◌≡◌, Bool, true, false, not, ◌&&◌, ◌||◌, ◌++◌, Option, Some, None}
+use Rattle.std.proofs.Common.{nat_eq, nat_lt, refl, sym, ap, subst, ◌∙◌, inl, inr, arith}
 use Rattle.std.specs.List.{filter, list_any}
-use Rattle.std.proofs.lemmas.Bool.{and_from, and_parts, both_ways, cases_order, eq-eqb, eqb-true, false_from_ne_true, lt-ltb, ltb-true, not-true, or_cases, or_left, or_right}
+use Rattle.std.proofs.lemmas.Bool.{and_from, and_parts, both_ways, cases_order, eq-eqb, eqb-true, false_from_ne_true}
+use Rattle.std.proofs.lemmas.Bool.{lt-ltb, ltb-true, not-true, or_cases, or_left, or_right}
 use Rattle.fsb_count.specs.Options.{is_at, is_before, is_some_and}
 use Rattle.fsb_count.proofs.Interface.{is_at-from, is_at-some, is_before-from, is_before-parts}
 use Rattle.fsb_signal.specs.declared.lines.TheConstants.Lines.{ADS}
@@ -138,7 +140,8 @@ grant-parts claim s e ends =
 
 -- a request is outstanding for the last time exactly where the moment says so
 last-told : (r : Run) (n q : ℕ) (claim : Claim) → Reaches r (n + 1) → begun_at (past_of r) q ≡ Some claim
-    → claim.first ≡ q → is_outstanding r.trace n q ≡ true → not (is_last_clock r.trace n q) ≡ stays_owed (past_of r) n claim
+    → claim.first ≡ q → is_outstanding r.trace n q ≡ true
+    → not (is_last_clock r.trace n q) ≡ stays_owed (past_of r) n claim
 unfolding stays_owed ends_for is_end_at is_some_and
 last-told r n q claim h begun first out =
     ap not (same-both (is_last_clock w n q) (cancelled || ended) there back)
@@ -158,7 +161,8 @@ last-told r n q claim h begun first out =
     there : is_last_clock w n q ≡ true → (cancelled || ended) ≡ true
     there last =
         elim (last-says r n q claim h begun (out-below w n q out) last) [
-          | inl error ↦ or_left cancelled ended (is_at-from (cancelled_in p n) claim.first (error ∙ ap Some (sym first)))
+          | inl error ↦
+              or_left cancelled ended (is_at-from (cancelled_in p n) claim.first (error ∙ ap Some (sym first)))
           | inr k ↦
               or_right cancelled ended (any-of (ends_for p n claim) k.first (ended_requests p n) k.ends
               (ap (λ o. is_some_and o (ends_claim claim)) k.snooped

@@ -1,5 +1,6 @@
 -- What the moments of a timely run have of responses and ends is what its whole trace says.
-use Rattle.std.proofs.Common.{ℕ, ◌+◌, ◌<◌, ◌≡◌, Bool, true, false, List, [], ◌∷◌, Option, Some, None, length, nat_eq, refl, sym, ap, ◌∙◌, arith}
+use Rattle.std.proofs.Common.{ℕ, ◌+◌, ◌<◌, ◌≡◌, Bool, true, false, List, [], ◌∷◌, Option, Some, None, length, nat_eq}
+use Rattle.std.proofs.Common.{refl, sym, ap, ◌∙◌, arith}
 use Rattle.std.specs.List.{list_any}
 use Rattle.std.specs.Option.{option_and_then}
 use Rattle.std.proofs.lemmas.Bool.{eq-eqb, eqb-true}
@@ -19,7 +20,9 @@ use Rattle.fsb_timely.specs.Runs.{Run, past_of, run_to}
 use Rattle.fsb_timely.proofs.Interface.{moment-at}
 use Rattle.fsb_lawful.proofs.Interface.{any-from, any-listed, run_to-agrees}
 use Rattle.fsb_coherent.specs.Awaits.{responded_in}
-use Rattle.fsb_tied.proofs.Interface.{Ends, Responds, ended-number, number-ended, number-responded, one-at-end, one-ends, one-listed, orderly-whole, responded-from, responded-number, responded-parts}
+use Rattle.fsb_tied.proofs.Interface.{Ends, Responds, ended-number, number-ended, number-responded, one-at-end}
+use Rattle.fsb_tied.proofs.Interface.{one-ends, one-listed, orderly-whole, responded-from, responded-number}
+use Rattle.fsb_tied.proofs.Interface.{responded-parts}
 use Rattle.fsb_run_laws.specs.Reaches.{Reaches}
 use Rattle.fsb_run_laws.specs.RunSteps.{retried_in}
 

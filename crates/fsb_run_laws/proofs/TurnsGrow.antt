@@ -1,5 +1,6 @@
 -- The turns of the snoop ends, with one moment more.
-use Rattle.std.proofs.Common.{◌≡◌, List, [], ◌∷◌, ◌++◌, Option, Some, None, length, slice_get, refl, sym, ap, ◌∙◌, append-nil}
+use Rattle.std.proofs.Common.{◌≡◌, List, [], ◌∷◌, ◌++◌, Option, Some, None, length, slice_get, refl, sym, ap, ◌∙◌}
+use Rattle.std.proofs.Common.{append-nil}
 use Rattle.std.specs.Option.{option_and_then, option_map}
 use Rattle.fsb_count.proofs.Interface.{slice_get-end}
 use Rattle.fsb_timely.specs.Grants.{snooped_at}

@@ -1,6 +1,7 @@
 -- What other crates draw from the proofs: whatever holds at each place of a reading holds at every place.
 use Rattle.fsb_script.specs.declared.place.Place.TheVariants as places
-use Rattle.fsb_script.specs.Places.{ReadingPlace, at_first, at_agents, at_clocks, at_cache, at_ahead, at_profile, at_bridge, at_memory, at_agent, at_items, at_locked, at_hazards}
+use Rattle.fsb_script.specs.Places.{ReadingPlace, at_first, at_agents, at_clocks, at_cache, at_ahead, at_profile}
+use Rattle.fsb_script.specs.Places.{at_bridge, at_memory, at_agent, at_items, at_locked, at_hazards}
 
 -- what holds at each place
 pub record AtEach (P : ReadingPlace → Type 0) : Type 0 where

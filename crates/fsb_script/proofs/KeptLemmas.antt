@@ -1,5 +1,6 @@
 -- What a draft keeps, through one more item, setting, script or hazard.
-use Rattle.std.proofs.Common.{◌≡◌, ℕ, zero, suc, ◌<◌, ◌≤◌, Bool, true, false, cond, List, [], ◌∷◌, ◌++◌, length, IsTrue, refl, ap, ◌∙◌, sym, arith, length-append}
+use Rattle.std.proofs.Common.{◌≡◌, ℕ, zero, suc, ◌<◌, ◌≤◌, Bool, true, false, cond, List, [], ◌∷◌, ◌++◌, length, IsTrue}
+use Rattle.std.proofs.Common.{refl, ap, ◌∙◌, sym, arith, length-append}
 use Rattle.std.specs.Prelude.{◌&&◌, ◌||◌, nat_le, ◌==◌}
 use Rattle.std.specs.List.{list_all}
 use Rattle.std.proofs.lemmas.List.Folds.{list_all-append}
@@ -8,7 +9,8 @@ use Rattle.fsb_access.specs.declared.access.Access.{Access}
 use Rattle.fsb_access.specs.Access.{is_lawful_access}
 use Rattle.fsb_access.specs.declared.item.Item.{Item}
 use Rattle.fsb_hazard.specs.declared.line.HazardLine.{HazardLine}
-use Rattle.fsb_script.specs.Bounds.{is_cache, is_lock_size, is_lock_apart, is_lawful_item, is_lawful_script, is_lawful_hazard, are_lawful_hazards}
+use Rattle.fsb_script.specs.Bounds.{is_cache, is_lock_size, is_lock_apart, is_lawful_item, is_lawful_script}
+use Rattle.fsb_script.specs.Bounds.{is_lawful_hazard, are_lawful_hazards}
 use Rattle.fsb_access.specs.declared.item.Item.TheVariants.{Locked, Idle}
 use Rattle.fsb_script.specs.declared.place.Place.{Place}
 use Rattle.fsb_script.specs.declared.place.Place.TheVariants as places

@@ -1,5 +1,6 @@
 -- A text's first line and the lines behind it.
-use Rattle.std.proofs.Common.{◌≡◌, ℕ, suc, ◌+◌, ◌<◌, Bool, true, false, cond, eqb, List, [], ◌∷◌, length, take, drop, Result, Ok, refl, ap, arith}
+use Rattle.std.proofs.Common.{◌≡◌, ℕ, suc, ◌+◌, ◌<◌, Bool, true, false, cond, eqb, List, [], ◌∷◌, length, take, drop}
+use Rattle.std.proofs.Common.{Result, Ok, refl, ap, arith}
 use Rattle.fsb_script.specs.declared.fault.Cause.{Cause}
 use Rattle.fsb_script.specs.declared.fault.ScriptFault.{ScriptFault}
 use Rattle.fsb_script.specs.declared.fault.LineStop.{LineStop}

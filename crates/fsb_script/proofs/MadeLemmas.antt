@@ -1,5 +1,6 @@
 -- A plan that the generator makes keeps the bounds of a plan.
-use Rattle.std.proofs.Common.{◌≡◌, ℕ, zero, suc, ◌+◌, ◌*◌, ◌/◌, ◌%◌, ◌^◌, ◌<◌, ◌≤◌, Bool, true, false, cond, [], ◌∷◌, length, Option, Some, None, refl, ◌∙◌, arith, lit<, length-append, IsTrue}
+use Rattle.std.proofs.Common.{◌≡◌, ℕ, zero, suc, ◌+◌, ◌*◌, ◌/◌, ◌%◌, ◌^◌, ◌<◌, ◌≤◌, Bool, true, false, cond, [], ◌∷◌}
+use Rattle.std.proofs.Common.{length, Option, Some, None, refl, ◌∙◌, arith, lit<, length-append, IsTrue}
 use Rattle.std.specs.Prelude.{◌&&◌, nat_lt, nat_le, nat_eq, ◌==◌}
 use Rattle.std.specs.List.{list_all}
 use Rattle.std.proofs.lemmas.Bool.{lt-ltb, le-leb, eq-eqb, and_from}
@@ -10,8 +11,11 @@ use Rattle.fsb_access.specs.Access.{is_size, is_place, fits, is_lawful_access}
 use Rattle.fsb_hazard.specs.declared.line.HazardLine.{HazardLine}
 use Rattle.fsb_hazard.specs.declared.line.HazardLine.TheVariants.{Stall, Trdy, Resp, Gap, Retry, Defer, Aerr}
 use Rattle.fsb_hazard.specs.Seed.{next_state, drawn_below, line_drawn, seed_line}
-use Rattle.fsb_script.specs.Bounds.{is_lock_size, is_lock_apart, names_line, is_lawful_item, is_lawful_script, is_lawful_hazard, are_lawful_hazards}
-use Rattle.fsb_script.specs.Made.{state_behind, drawn_size, drawn_addr, drawn_load, drawn_store, count_up, item_of_kind, drawn_item, state_behind_items, drawn_items, state_behind_scripts, drawn_scripts, some_line, seed_lines}
+use Rattle.fsb_script.specs.Bounds.{is_lock_size, is_lock_apart, names_line, is_lawful_item, is_lawful_script}
+use Rattle.fsb_script.specs.Bounds.{is_lawful_hazard, are_lawful_hazards}
+use Rattle.fsb_script.specs.Made.{state_behind, drawn_size, drawn_addr, drawn_load, drawn_store, count_up, item_of_kind}
+use Rattle.fsb_script.specs.Made.{drawn_item, state_behind_items, drawn_items, state_behind_scripts, drawn_scripts}
+use Rattle.fsb_script.specs.Made.{some_line, seed_lines}
 
 below : (m state : ℕ) → 0 < m → drawn_below m state < m
 below m state some = mod_below (next_state state / 2 ^ 33) m some

@@ -1,5 +1,6 @@
 -- Two digits of a word are one byte more.
-use Rattle.std.proofs.Common.{◌≡◌, ℕ, ◌+◌, ◌*◌, ◌<◌, suc, List, [], ◌∷◌, ◌++◌, length, drop, get_or, Ok, refl, ap, ◌∙◌, arith, drop-cons}
+use Rattle.std.proofs.Common.{◌≡◌, ℕ, ◌+◌, ◌*◌, ◌<◌, suc, List, [], ◌∷◌, ◌++◌, length, drop, get_or, Ok, refl, ap, ◌∙◌}
+use Rattle.std.proofs.Common.{arith, drop-cons}
 use Rattle.fsb_script.specs.TextWords.{hex_digit}
 use Rattle.fsb_script.specs.Statements.{bytes_from}
 

@@ -6,7 +6,8 @@ use Rattle.fsb_access.specs.declared.item.Item.TheVariants.{One, Locked, Idle}
 use Rattle.fsb_hazard.specs.declared.line.HazardLine.TheVariants.{Stall, Trdy, Resp, Gap, Aerr}
 use Rattle.fsb_hazard.specs.Seed.{line_drawn}
 use Rattle.fsb_script.specs.Plans.{PlanView}
-use Rattle.fsb_script.specs.Made.{drawn_size, drawn_addr, drawn_load, drawn_store, item_of_kind, numbers_of_kind, drawn_item, state_behind_item, made_plan}
+use Rattle.fsb_script.specs.Made.{drawn_size, drawn_addr, drawn_load, drawn_store, item_of_kind, numbers_of_kind}
+use Rattle.fsb_script.specs.Made.{drawn_item, state_behind_item, made_plan}
 
 -- seed 0 draws one locked item, and no hazard for request 0
 abbrev pub locked_item : PlanView
@@ -24,7 +25,8 @@ locked_item = record {
 }
 
 pub locked_item_made : made_plan 0 1 1 ≡ locked_item
-unfolding made_plan drawn_item item_of_kind numbers_of_kind state_behind_item drawn_load drawn_store drawn_size drawn_addr line_drawn
+unfolding made_plan drawn_item item_of_kind numbers_of_kind state_behind_item drawn_load drawn_store drawn_size
+    drawn_addr line_drawn
 locked_item_made = refl
 
 -- seed 25, two agents with four items each
@@ -45,7 +47,8 @@ each_kind = record {
 }
 
 pub each_kind_made : made_plan 25 2 4 ≡ each_kind
-unfolding made_plan drawn_item item_of_kind numbers_of_kind state_behind_item drawn_load drawn_store drawn_size drawn_addr line_drawn
+unfolding made_plan drawn_item item_of_kind numbers_of_kind state_behind_item drawn_load drawn_store drawn_size
+    drawn_addr line_drawn
 each_kind_made = refl
 
 -- the last seed, three agents with two items each
@@ -66,5 +69,6 @@ last_seed = record {
 }
 
 pub last_seed_made : made_plan (2 ^ 64 - 1) 3 2 ≡ last_seed
-unfolding made_plan drawn_item item_of_kind numbers_of_kind state_behind_item drawn_load drawn_store drawn_size drawn_addr line_drawn
+unfolding made_plan drawn_item item_of_kind numbers_of_kind state_behind_item drawn_load drawn_store drawn_size
+    drawn_addr line_drawn
 last_seed_made = refl

@@ -1,5 +1,6 @@
 -- The lines of loads and stores read back.
-use Rattle.std.proofs.Common.{◌≡◌, ℕ, ◌*◌, ◌%◌, ◌^◌, ◌<◌, ◌≤◌, Bool, true, false, eqb, List, [], ◌∷◌, ◌++◌, length, Ok, refl, arith, lit<}
+use Rattle.std.proofs.Common.{◌≡◌, ℕ, ◌*◌, ◌%◌, ◌^◌, ◌<◌, ◌≤◌, Bool, true, false, eqb, List, [], ◌∷◌, ◌++◌, length, Ok}
+use Rattle.std.proofs.Common.{refl, arith, lit<}
 use Rattle.std.specs.Prelude.{◌&&◌, codes, nat_lt, nat_le, slice_index}
 use Rattle.std.specs.List.{list_all}
 use Rattle.std.specs.Fmt.{decimal}
@@ -16,7 +17,8 @@ use Rattle.fsb_script.specs.TextWords.{line_ended, address}
 use Rattle.fsb_script.specs.Statements.{size_at, aligned_at, load_of, store_of, operand_of, literal_of, is_added}
 use Rattle.fsb_script.specs.Text.{access_text, operand_text}
 use Rattle.fsb_script_laws.proofs.Numbers.{is_figure, Figures, hex_figures, hex_back}
-use Rattle.fsb_script_laws.proofs.Split.{is_inner, Word, plain_inner, figures_word, decimal_next, hex_next, hex_last, hex_inner, next_behind, decimal_inner, inner_append}
+use Rattle.fsb_script_laws.proofs.Split.{is_inner, Word, plain_inner, figures_word, decimal_next, hex_next, hex_last}
+use Rattle.fsb_script_laws.proofs.Split.{hex_inner, next_behind, decimal_inner, inner_append}
 
 above : (n : ℕ) → 8 < n → is_size n ≡ false
 above n h = rw (

@@ -1,5 +1,6 @@
 -- Each kind of line reads back.
-use Rattle.std.proofs.Common.{◌≡◌, ℕ, ◌+◌, ◌%◌, ◌^◌, ◌<◌, ◌≤◌, true, eqb, List, [], ◌∷◌, ◌++◌, Result, Ok, refl, sym, ap, ◌∙◌, arith}
+use Rattle.std.proofs.Common.{◌≡◌, ℕ, ◌+◌, ◌%◌, ◌^◌, ◌<◌, ◌≤◌, true, eqb, List, [], ◌∷◌, ◌++◌, Result, Ok, refl, sym}
+use Rattle.std.proofs.Common.{ap, ◌∙◌, arith}
 use Rattle.std.specs.Prelude.{◌&&◌, codes, nat_lt, nat_le, IsTrue}
 use Rattle.std.specs.List.{list_all}
 use Rattle.std.specs.Fmt.{decimal}
@@ -19,13 +20,16 @@ use Rattle.fsb_script.specs.Parsing.{◌>>=◌}
 use Rattle.fsb_script.specs.Bounds.{is_lawful_window, is_lawful_setting, is_lawful_hazard}
 use Rattle.fsb_script.specs.TextWords.{text_lines, next_word, line_ended, decimal_of, decimal_within, address}
 use Rattle.fsb_script.specs.TextWords.{decimal_word}
-use Rattle.fsb_script.specs.Statements.{keyword, memory_of, profile_of, window_of, load_of, store_of, idle_of, transaction_of, turn_of, count_of, delay_of, block_of}
+use Rattle.fsb_script.specs.Statements.{keyword, memory_of, profile_of, window_of, load_of, store_of, idle_of}
+use Rattle.fsb_script.specs.Statements.{transaction_of, turn_of, count_of, delay_of, block_of}
 use Rattle.fsb_script.specs.Text.{setting_text, profile_text, window_text, access_text, idle_text, hazard_text}
 use Rattle.fsb_script_laws.specs.LawfulPlans.{is_byte_setting}
 use Rattle.fsb_script_laws.specs.LineTexts.{IsLineOf, is_of_one_request}
-use Rattle.fsb_script_laws.proofs.Split.{is_inner, decimal_next, decimal_last, decimal_inner, hex_next, hex_last, hex_inner, inner_append, first_line_is}
+use Rattle.fsb_script_laws.proofs.Split.{is_inner, decimal_next, decimal_last, decimal_inner, hex_next, hex_last}
+use Rattle.fsb_script_laws.proofs.Split.{hex_inner, inner_append, first_line_is}
 use Rattle.fsb_script_laws.proofs.MemoryLines.{setting_words, memory_back, setting_line, setting_inner}
-use Rattle.fsb_script_laws.proofs.AccessLines.{place_is, load_back, store_back, access_line, access_line_is, access_inner}
+use Rattle.fsb_script_laws.proofs.AccessLines.{place_is, load_back, store_back, access_line, access_line_is}
+use Rattle.fsb_script_laws.proofs.AccessLines.{access_inner}
 
 -- a line with its line feed is one line
 one_line : (line text : List ℕ) → text ≡ line ++ (10 ∷ []) → list_all is_inner line ≡ true → text_lines text ≡ line ∷ []

@@ -1,5 +1,6 @@
 -- The lines of hazards read back.
-use Rattle.std.proofs.Common.{◌≡◌, ℕ, ◌+◌, ◌<◌, ◌≤◌, true, List, [], ◌∷◌, ◌++◌, length, Ok, refl, sym, subst, arith, length-append}
+use Rattle.std.proofs.Common.{◌≡◌, ℕ, ◌+◌, ◌<◌, ◌≤◌, true, List, [], ◌∷◌, ◌++◌, length, Ok, refl, sym, subst, arith}
+use Rattle.std.proofs.Common.{length-append}
 use Rattle.std.specs.Prelude.{codes}
 use Rattle.std.specs.List.{list_all}
 use Rattle.std.proofs.lemmas.Bool.{lt-ltb, and_parts}
@@ -14,7 +15,8 @@ use Rattle.fsb_script.specs.Drafts.{after_line, choice_line, hazard_line, transa
 use Rattle.fsb_script.specs.Text.{hazard_text, hazards_text}
 use Rattle.fsb_script_laws.specs.LineTexts.{is_of_one_request}
 use Rattle.fsb_script_laws.proofs.Split.{GoesOn, goes_on}
-use Rattle.fsb_script_laws.proofs.EachLine.{line_then, hazard_words, hazard_line_is, transaction_back, transaction_inner, block_words, block_line_is, block_read, block_inner}
+use Rattle.fsb_script_laws.proofs.EachLine.{line_then, hazard_words, hazard_line_is, transaction_back}
+use Rattle.fsb_script_laws.proofs.EachLine.{transaction_inner, block_words, block_line_is, block_read, block_inner}
 use Rattle.fsb_script_laws.proofs.States.{state}
 
 transaction_taken : (h : HazardLine) (agents : ℕ) (q : PlanView) → is_of_one_request h ≡ true

@@ -1,5 +1,6 @@
 -- The lines before the first script read back.
-use Rattle.std.proofs.Common.{◌≡◌, ℕ, ◌^◌, ◌<◌, ◌≤◌, Bool, true, false, eqb, List, [], ◌∷◌, ◌++◌, Option, Some, None, Ok, ◌⊎◌, inl, inr, refl, sym, subst, ◌∙◌, arith}
+use Rattle.std.proofs.Common.{◌≡◌, ℕ, ◌^◌, ◌<◌, ◌≤◌, Bool, true, false, eqb, List, [], ◌∷◌, ◌++◌, Option, Some, None}
+use Rattle.std.proofs.Common.{Ok, ◌⊎◌, inl, inr, refl, sym, subst, ◌∙◌, arith}
 use Rattle.std.specs.Prelude.{◌||◌, codes}
 use Rattle.std.specs.List.{list_all}
 use Rattle.std.specs.Fmt.{decimal}
@@ -12,7 +13,9 @@ use Rattle.fsb_script.specs.TextWords.{is_silent, next_word, line_ended, decimal
 use Rattle.fsb_script.specs.Statements.{keyword, profile_of}
 use Rattle.fsb_script.specs.Bounds.{is_cache, is_profile, is_lawful_bridge, is_lawful_setting}
 use Rattle.fsb_script.specs.Plans.{PlanView}
-use Rattle.fsb_script.specs.Drafts.{beginning, after_line, heading_of, first_line, agents_line, clocks_line, cache_line, ahead_line, choice_line, front_line, profile_line, body_line, bridge_line, memory_line, mem_line}
+use Rattle.fsb_script.specs.Drafts.{beginning, after_line, heading_of, first_line, agents_line, clocks_line, cache_line}
+use Rattle.fsb_script.specs.Drafts.{ahead_line, choice_line, front_line, profile_line, body_line, bridge_line}
+use Rattle.fsb_script.specs.Drafts.{memory_line, mem_line}
 use Rattle.fsb_script.specs.Text.{head_text, profile_text, bridge_text, setting_text, settings_text}
 use Rattle.fsb_script_laws.specs.LawfulPlans.{is_byte_setting}
 use Rattle.fsb_script_laws.proofs.Split.{is_inner, decimal_last, decimal_inner, inner_append, GoesOn, goes_on}
@@ -117,7 +120,8 @@ profile_one_or_two n lawful = by (eqb n 1) (eqb n 2) refl refl lawful
 
 profile_taken : (agents : ℕ) (q : PlanView) → after_line (state at_profile agents q [] []) (codes "profile 2") ≡ Ok
     (state at_bridge agents (record q { profile = 2 }) [] [])
-unfolding after_line is_silent choice_line front_line profile_line profile_of next_word decimal_within decimal_word decimal_of line_ended
+unfolding after_line is_silent choice_line front_line profile_line profile_of next_word decimal_within
+    decimal_word decimal_of line_ended
 profile_taken agents q = refl
 
 pub profile_goes_on : (agents : ℕ) (q : PlanView) (n : ℕ) (rest : List ℕ) (p : PlanView) → q.profile ≡ 1

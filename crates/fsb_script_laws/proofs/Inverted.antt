@@ -1,5 +1,6 @@
 -- What a line that was read says of its numbers.
-use Rattle.std.proofs.Common.{◌≡◌, ℕ, ◌+◌, ◌-◌, ◌*◌, ◌%◌, ◌^◌, ◌<◌, ◌≤◌, Bool, true, false, cond, eqb, List, [], ◌∷◌, ◌++◌, length, Result, Ok, Err, ◌⊎◌, inl, inr, refl, sym, subst, ◌∙◌, arith, drop}
+use Rattle.std.proofs.Common.{◌≡◌, ℕ, ◌+◌, ◌-◌, ◌*◌, ◌%◌, ◌^◌, ◌<◌, ◌≤◌, Bool, true, false, cond, eqb, List, [], ◌∷◌}
+use Rattle.std.proofs.Common.{◌++◌, length, Result, Ok, Err, ◌⊎◌, inl, inr, refl, sym, subst, ◌∙◌, arith, drop}
 use Rattle.std.specs.Prelude.{◌&&◌, nat_lt, nat_le, codes}
 use Rattle.std.specs.Str.{bytes_eq}
 use Rattle.std.specs.List.{list_all}
@@ -20,7 +21,9 @@ use Rattle.fsb_script.specs.Parsing.{◌>>=◌, require}
 use Rattle.fsb_script.specs.Bounds.{is_profile, is_lawful_window, is_lawful_setting, is_lawful_item, is_lawful_hazard}
 use Rattle.fsb_script.specs.TextWords.{next_word, line_ended, decimal_within, address, hex_of, hex_digit}
 use Rattle.fsb_script.specs.TextWords.{decimal_word, hex_word}
-use Rattle.fsb_script.specs.Statements.{size_at, aligned_at, load_of, store_of, literal_of, operand_of, is_added, idle_of, profile_of, window_of, bytes_from, bytes_of, memory_of, settings_at, count_of, delay_of, turn_of, transaction_of, block_of}
+use Rattle.fsb_script.specs.Statements.{size_at, aligned_at, load_of, store_of, literal_of, operand_of, is_added}
+use Rattle.fsb_script.specs.Statements.{idle_of, profile_of, window_of, bytes_from, bytes_of, memory_of, settings_at}
+use Rattle.fsb_script.specs.Statements.{count_of, delay_of, turn_of, transaction_of, block_of}
 use Rattle.fsb_script_laws.specs.LawfulPlans.{is_byte_setting}
 
 pub bind_ok : {A B E : Type 0} (r : Result A E) (f : A → Result B E) (y : B) → (r >>= f) ≡ Ok y

@@ -9,7 +9,8 @@ use Rattle.fsb_script.specs.TextWords.{line_ended, address}
 use Rattle.fsb_script.specs.Statements.{memory_of}
 use Rattle.fsb_script.specs.Text.{setting_text, digit_text}
 use Rattle.fsb_script_laws.proofs.Numbers.{byte_back}
-use Rattle.fsb_script_laws.proofs.Split.{is_inner, plain_inner, hex_next, hex_inner, byte_word, next_behind, inner_append}
+use Rattle.fsb_script_laws.proofs.Split.{is_inner, plain_inner, hex_next, hex_inner, byte_word, next_behind}
+use Rattle.fsb_script_laws.proofs.Split.{inner_append}
 
 abbrev pub setting_words : ℕ → ℕ → List ℕ
 setting_words addr byte = hexadecimal addr ++ (32 ∷ (digit_text (byte / 16) ∷ digit_text (byte % 16) ∷ []))

@@ -1,23 +1,32 @@
 -- A plan that was read is lawful.
-use Rattle.std.proofs.Common.{◌≡◌, ℕ, ◌+◌, ◌≤◌, Bool, true, false, cond, List, [], ◌∷◌, Result, Ok, Err, length, refl, sym, subst}
+use Rattle.std.proofs.Common.{◌≡◌, ℕ, ◌+◌, ◌≤◌, Bool, true, false, cond, List, [], ◌∷◌, Result, Ok, Err, length, refl}
+use Rattle.std.proofs.Common.{sym, subst}
 use Rattle.std.specs.Prelude.{◌&&◌, nat_le, codes}
 use Rattle.std.specs.Str.{bytes_eq}
 use Rattle.std.proofs.lemmas.Bool.{leb-true, eqb-true, and_parts}
 use Rattle.fsb_script.specs.declared.fault.Cause.{Cause}
 use Rattle.fsb_script.specs.declared.fault.Cause.TheVariants.{Word}
 use Rattle.fsb_script.specs.declared.fault.ScriptFault.{ScriptFault}
-use Rattle.fsb_script.specs.Places.{ReadingPlace, at_agents, at_clocks, at_cache, at_ahead, at_profile, at_bridge, at_memory, at_agent, at_items, at_locked, at_hazards}
+use Rattle.fsb_script.specs.Places.{ReadingPlace, at_agents, at_clocks, at_cache, at_ahead, at_profile, at_bridge}
+use Rattle.fsb_script.specs.Places.{at_memory, at_agent, at_items, at_locked, at_hazards}
 use Rattle.fsb_script.specs.Parsing.{◌>>=◌}
 use Rattle.fsb_script.specs.Bounds.{is_lawful_script, are_lawful_hazards}
 use Rattle.fsb_script.specs.DraftKept.{is_fresh, has_all, has_lock_room}
 use Rattle.fsb_script.specs.TextWords.{text_lines, is_silent, next_word}
 use Rattle.fsb_script.specs.Statements.{load_of, store_of}
 use Rattle.fsb_script.specs.Plans.{PlanView}
-use Rattle.fsb_script.specs.Drafts.{Progress, beginning, after_line, choice_line, line_by_word, front_line, body_line, memory_line, next_agent_line, item_line, locked_line, hazard_line, profile_line, bridge_line, mem_line, agent_line, load_item, store_item, idle_item, lock_item, end_line, locked_access, unlock_line, transaction_line, block_line, on_line, plan_from, plan_at_end, plan_so_far, end_at, said_plan, BenchText}
+use Rattle.fsb_script.specs.Drafts.{Progress, beginning, after_line, choice_line, line_by_word, front_line, body_line}
+use Rattle.fsb_script.specs.Drafts.{memory_line, next_agent_line, item_line, locked_line, hazard_line, profile_line}
+use Rattle.fsb_script.specs.Drafts.{bridge_line, mem_line, agent_line, load_item, store_item, idle_item, lock_item}
+use Rattle.fsb_script.specs.Drafts.{end_line, locked_access, unlock_line, transaction_line, block_line, on_line}
+use Rattle.fsb_script.specs.Drafts.{plan_from, plan_at_end, plan_so_far, end_at, said_plan, BenchText}
 use Rattle.fsb_script.proofs.Interface.{AtEach, at_every}
 use Rattle.fsb_script_laws.specs.LawfulPlans.{IsLawfulPlan}
 use Rattle.fsb_script_laws.proofs.Inverted.{bind_ok, load_is, store_is}
-use Rattle.fsb_script_laws.proofs.Sound.{IsSound, Gives, at, first_sound, agents_sound, clocks_sound, cache_sound, ahead_sound, profile_sound, bridge_sound, mem_sound, agent_sound, load_sound, store_sound, idle_sound, lock_sound, end_sound, locked_sound, unlock_sound, transaction_sound, block_sound}
+use Rattle.fsb_script_laws.proofs.Sound.{IsSound, Gives, at, first_sound, agents_sound, clocks_sound, cache_sound}
+use Rattle.fsb_script_laws.proofs.Sound.{ahead_sound, profile_sound, bridge_sound, mem_sound, agent_sound, load_sound}
+use Rattle.fsb_script_laws.proofs.Sound.{store_sound, idle_sound, lock_sound, end_sound, locked_sound, unlock_sound}
+use Rattle.fsb_script_laws.proofs.Sound.{transaction_sound, block_sound}
 
 -- ---- by the first word
 

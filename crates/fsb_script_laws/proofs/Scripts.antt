@@ -1,5 +1,6 @@
 -- The lines of the scripts read back.
-use Rattle.std.proofs.Common.{◌≡◌, ℕ, ◌+◌, ◌^◌, ◌<◌, ◌≤◌, true, List, [], ◌∷◌, ◌++◌, length, Ok, refl, sym, subst, ◌∙◌, arith, length-append}
+use Rattle.std.proofs.Common.{◌≡◌, ℕ, ◌+◌, ◌^◌, ◌<◌, ◌≤◌, true, List, [], ◌∷◌, ◌++◌, length, Ok, refl, sym, subst, ◌∙◌}
+use Rattle.std.proofs.Common.{arith, length-append}
 use Rattle.std.specs.Prelude.{◌&&◌, codes, nat_le}
 use Rattle.std.specs.List.{list_all}
 use Rattle.std.specs.Fmt.{decimal}
@@ -15,10 +16,14 @@ use Rattle.fsb_script.specs.Bounds.{is_lock_size, is_lock_apart, is_lawful_item,
 use Rattle.fsb_script.specs.TextWords.{is_silent, next_word, line_ended}
 use Rattle.fsb_script.specs.Statements.{agent_of}
 use Rattle.fsb_script.specs.Plans.{PlanView}
-use Rattle.fsb_script.specs.Drafts.{after_line, choice_line, front_line, body_line, memory_line, next_agent_line, agent_line, item_line, load_item, store_item, idle_item, add_item, lock_item, locked_line, locked_access, unlock_line, end_line, place_behind}
-use Rattle.fsb_script.specs.Text.{access_text, accesses_text, idle_text, item_text, items_text, agent_text, script_text, scripts_text}
+use Rattle.fsb_script.specs.Drafts.{after_line, choice_line, front_line, body_line, memory_line, next_agent_line}
+use Rattle.fsb_script.specs.Drafts.{agent_line, item_line, load_item, store_item, idle_item, add_item, lock_item}
+use Rattle.fsb_script.specs.Drafts.{locked_line, locked_access, unlock_line, end_line, place_behind}
+use Rattle.fsb_script.specs.Text.{access_text, accesses_text, idle_text, item_text, items_text, agent_text, script_text}
+use Rattle.fsb_script.specs.Text.{scripts_text}
 use Rattle.fsb_script_laws.proofs.Split.{decimal_last, decimal_inner, inner_append, GoesOn, goes_on}
-use Rattle.fsb_script_laws.proofs.AccessLines.{place_is, load_back, store_back, access_line, access_line_is, access_inner}
+use Rattle.fsb_script_laws.proofs.AccessLines.{place_is, load_back, store_back, access_line, access_line_is}
+use Rattle.fsb_script_laws.proofs.AccessLines.{access_inner}
 use Rattle.fsb_script_laws.proofs.EachLine.{line_then, idle_line, idle_back, idle_inner}
 use Rattle.fsb_script_laws.proofs.States.{state, Bare, Profiled, Early, Settled, Outside, Opening, Next, outside_place}
 
@@ -156,7 +161,8 @@ items_go_on (item ∷ items) agents q script rest p lawful few then_ =
 agent_taken : (there : Outside) (agents : ℕ) (q : PlanView) → length q.scripts < 10 ^ 18
     → after_line (state (outside_place there) agents q [] []) (codes "agent " ++ decimal (length q.scripts)) ≡ Ok
     (state at_items agents q [] [])
-unfolding after_line is_silent choice_line next_word front_line body_line memory_line next_agent_line agent_line agent_of line_ended
+unfolding after_line is_silent choice_line next_word front_line body_line memory_line next_agent_line agent_line
+    agent_of line_ended
 agent_taken (Opening (Early Bare)) agents q small =
     rw (decimal_last (length q.scripts) small) (rw (eq-eqb (length q.scripts) (length q.scripts) refl) refl)
 agent_taken (Opening (Early Profiled)) agents q small =

@@ -1,5 +1,6 @@
 -- What the lines so far keep, and that a line which is taken keeps it.
-use Rattle.std.proofs.Common.{◌≡◌, ℕ, ◌<◌, Bool, true, false, cond, eqb, List, [], ◌∷◌, ◌++◌, length, Some, Result, Ok, refl, sym, subst, ◌∙◌, arith, length-append}
+use Rattle.std.proofs.Common.{◌≡◌, ℕ, ◌<◌, Bool, true, false, cond, eqb, List, [], ◌∷◌, ◌++◌, length, Some, Result, Ok}
+use Rattle.std.proofs.Common.{refl, sym, subst, ◌∙◌, arith, length-append}
 use Rattle.std.specs.Prelude.{◌&&◌, nat_lt, nat_le}
 use Rattle.std.specs.List.{list_all}
 use Rattle.std.proofs.lemmas.Bool.{le-leb, ltb-true, eqb-true, and_from, and_parts}
@@ -11,15 +12,22 @@ use Rattle.fsb_access.specs.Access.{is_lawful_access}
 use Rattle.fsb_hazard.specs.declared.line.HazardLine.{HazardLine}
 use Rattle.fsb_script.specs.declared.fault.Cause.{Cause}
 use Rattle.fsb_script.specs.declared.fault.Cause.TheVariants.{Range, LockSize, LockConflict}
-use Rattle.fsb_script.specs.Places.{ReadingPlace, at_first, at_agents, at_clocks, at_cache, at_ahead, at_profile, at_bridge, at_memory, at_agent, at_items, at_locked, at_hazards}
+use Rattle.fsb_script.specs.Places.{ReadingPlace, at_first, at_agents, at_clocks, at_cache, at_ahead, at_profile}
+use Rattle.fsb_script.specs.Places.{at_bridge, at_memory, at_agent, at_items, at_locked, at_hazards}
 use Rattle.fsb_script.specs.Parsing.{◌>>=◌, require}
-use Rattle.fsb_script.specs.Bounds.{is_cache, is_profile, is_lawful_bridge, is_lawful_setting, is_lawful_item, is_lawful_script, is_lawful_hazard, are_lawful_hazards, is_lock_size, is_lock_apart}
+use Rattle.fsb_script.specs.Bounds.{is_cache, is_profile, is_lawful_bridge, is_lawful_setting, is_lawful_item}
+use Rattle.fsb_script.specs.Bounds.{is_lawful_script, is_lawful_hazard, are_lawful_hazards, is_lock_size, is_lock_apart}
 use Rattle.fsb_script.specs.DraftKept.{are_counts, is_fresh, has_all, has_lock_room}
 use Rattle.fsb_script.specs.TextWords.{line_ended, decimal_word, decimal_within}
-use Rattle.fsb_script.specs.Statements.{keyword, load_of, store_of, idle_of, profile_of, window_of, memory_of, settings_at, agent_of, transaction_of, block_of}
-use Rattle.fsb_script.specs.Drafts.{Progress, first_line, agents_line, clocks_line, cache_line, ahead_line, profile_line, bridge_line, mem_line, agent_line, room, add_item, load_item, store_item, idle_item, lock_item, end_line, locked_access, unlock_line, hazard_room, add_hazard, transaction_line, block_line, place_behind, heading_of, ends_heading}
+use Rattle.fsb_script.specs.Statements.{keyword, load_of, store_of, idle_of, profile_of, window_of, memory_of}
+use Rattle.fsb_script.specs.Statements.{settings_at, agent_of, transaction_of, block_of}
+use Rattle.fsb_script.specs.Drafts.{Progress, first_line, agents_line, clocks_line, cache_line, ahead_line}
+use Rattle.fsb_script.specs.Drafts.{profile_line, bridge_line, mem_line, agent_line, room, add_item, load_item}
+use Rattle.fsb_script.specs.Drafts.{store_item, idle_item, lock_item, end_line, locked_access, unlock_line, hazard_room}
+use Rattle.fsb_script.specs.Drafts.{add_hazard, transaction_line, block_line, place_behind, heading_of, ends_heading}
 use Rattle.fsb_script_laws.specs.LawfulPlans.{is_byte_setting}
-use Rattle.fsb_script_laws.proofs.Inverted.{bind_ok, require_ok, ended_is, within_is, load_is, store_is, idle_is, profile_is, window_is, memory_is, settings_lawful, transaction_is, block_is}
+use Rattle.fsb_script_laws.proofs.Inverted.{bind_ok, require_ok, ended_is, within_is, load_is, store_is, idle_is}
+use Rattle.fsb_script_laws.proofs.Inverted.{profile_is, window_is, memory_is, settings_lawful, transaction_is, block_is}
 
 -- the lines so far are within the bounds of a bench file
 pub record IsSound (d : Progress) : Type 0 where

@@ -1,5 +1,6 @@
 -- A word is split off a line, and a line off a text.
-use Rattle.std.proofs.Common.{◌≡◌, ℕ, suc, ◌+◌, ◌^◌, ◌<◌, ◌≤◌, Bool, true, false, List, [], ◌∷◌, ◌++◌, length, take, drop, Result, Ok, refl, ◌∙◌, arith}
+use Rattle.std.proofs.Common.{◌≡◌, ℕ, suc, ◌+◌, ◌^◌, ◌<◌, ◌≤◌, Bool, true, false, List, [], ◌∷◌, ◌++◌, length, take}
+use Rattle.std.proofs.Common.{drop, Result, Ok, refl, ◌∙◌, arith}
 use Rattle.std.specs.Prelude.{nat_lt, nat_le}
 use Rattle.std.specs.List.{list_all}
 use Rattle.std.specs.Fmt.{decimal}
@@ -14,7 +15,8 @@ use Rattle.fsb_script.specs.declared.fault.Cause.{Cause}
 use Rattle.fsb_script.specs.Text.{digit_text}
 use Rattle.fsb_script.specs.Plans.{PlanView}
 use Rattle.fsb_script.specs.Drafts.{Progress, after_line, plan_from}
-use Rattle.fsb_script_laws.proofs.Numbers.{is_figure, figure, Figures, decimal_figures, hex_figures, decimal_back, hex_back}
+use Rattle.fsb_script_laws.proofs.Numbers.{is_figure, figure, Figures, decimal_figures, hex_figures, decimal_back}
+use Rattle.fsb_script_laws.proofs.Numbers.{hex_back}
 
 -- a byte of a word
 abbrev pub is_plain : ℕ → Bool

@@ -1,5 +1,6 @@
 -- The canonical text of a lawful plan reads back to that plan.
-use Rattle.std.proofs.Common.{◌≡◌, ℕ, ◌+◌, ◌<◌, ◌≤◌, Bool, true, false, List, [], ◌∷◌, ◌++◌, length, Result, Ok, refl, sym, subst, arith}
+use Rattle.std.proofs.Common.{◌≡◌, ℕ, ◌+◌, ◌<◌, ◌≤◌, Bool, true, false, List, [], ◌∷◌, ◌++◌, length, Result, Ok, refl}
+use Rattle.std.proofs.Common.{sym, subst, arith}
 use Rattle.std.specs.Prelude.{nat_le}
 use Rattle.std.specs.List.{list_all}
 use Rattle.std.proofs.lemmas.Bool.{leb-true, leb-false, ne_eqb, and_parts}
@@ -10,7 +11,8 @@ use Rattle.fsb_script.specs.Places.{at_hazards}
 use Rattle.fsb_script.specs.Bounds.{is_cache, is_lawful_script, is_lawful_hazard, are_lawful_hazards}
 use Rattle.fsb_script.specs.Plans.{PlanView}
 use Rattle.fsb_script.specs.Drafts.{beginning, said_plan, plan_at_end, BenchText}
-use Rattle.fsb_script.specs.Text.{head_text, profile_text, bridge_text, settings_text, scripts_text, hazards_text, bench_text}
+use Rattle.fsb_script.specs.Text.{head_text, profile_text, bridge_text, settings_text, scripts_text, hazards_text}
+use Rattle.fsb_script.specs.Text.{bench_text}
 use Rattle.fsb_script_laws.specs.LawfulPlans.{IsLawfulPlan}
 use Rattle.fsb_script_laws.proofs.Split.{GoesOn}
 use Rattle.fsb_script_laws.proofs.States.{state, Before, before_place, Opening}

@@ -1,5 +1,6 @@
 -- A request that a trace shows is lawful, so its line is below 2^31.
-use Rattle.std.proofs.Common.{◌≡◌, ◌<◌, ◌*◌, ◌+◌, ◌^◌, ℕ, Bool, true, nat_eq, nat_lt, ◌&&◌, not, inl, inr, Option, Some, None, subst, arith}
+use Rattle.std.proofs.Common.{◌≡◌, ◌<◌, ◌*◌, ◌+◌, ◌^◌, ℕ, Bool, true, nat_eq, nat_lt, ◌&&◌, not, inl, inr, Option, Some}
+use Rattle.std.proofs.Common.{None, subst, arith}
 use Rattle.std.proofs.lemmas.Bool.{and_parts, cases_Bool, eqb-true, ltb-true}
 use Rattle.std.specs.Option.{option_and_then}
 use Rattle.fsb_encode.specs.declared.request.Kind.{Kind}
@@ -42,14 +43,17 @@ lawful_at w c r e = lawful_pairs (known_pair_at w c) (known_pair_at w (c + 1)) r
 small_line : (kind : Kind) (line chunk : ℕ) (den : Bool) → are_lawful_fields kind line chunk den ≡ true → line < 2 ^ 31
 unfolding are_lawful_fields
 small_line Reply line chunk den e =
-    let none : line ≡ 0 = eqb-true line 0 (and_parts (nat_eq line 0) _ (and_parts (nat_eq line 0 && nat_eq chunk 0) _ e).0).0 in
+    let none : line ≡ 0 =
+    eqb-true line 0 (and_parts (nat_eq line 0) _ (and_parts (nat_eq line 0 && nat_eq chunk 0) _ e).0).0 in
     omega (arith, none)
 small_line Invalidate line chunk den e = ltb-true line (2 ^ 31) (and_parts (nat_lt line (2 ^ 31)) _ e).0
 small_line Read line chunk den e = ltb-true line (2 ^ 31) (and_parts (nat_lt line (2 ^ 31)) _ e).0
 small_line WriteBack line chunk den e =
-    ltb-true line (2 ^ 31) (and_parts (nat_lt line (2 ^ 31)) _ (and_parts (nat_lt line (2 ^ 31) && nat_eq chunk 0) _ e).0).0
+    ltb-true line (2 ^ 31)
+    (and_parts (nat_lt line (2 ^ 31)) _ (and_parts (nat_lt line (2 ^ 31) && nat_eq chunk 0) _ e).0).0
 small_line Upgrade line chunk den e =
-    ltb-true line (2 ^ 31) (and_parts (nat_lt line (2 ^ 31)) _ (and_parts (nat_lt line (2 ^ 31) && nat_lt chunk 4) _ e).0).0
+    ltb-true line (2 ^ 31)
+    (and_parts (nat_lt line (2 ^ 31)) _ (and_parts (nat_lt line (2 ^ 31) && nat_lt chunk 4) _ e).0).0
 
 line_of : (r : Request) → is_lawful_request r ≡ true → r.line < 2 ^ 31
 unfolding is_lawful_request

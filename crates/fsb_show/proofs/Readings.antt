@@ -1,5 +1,6 @@
 -- What reading a dump at once answers, and what it says of the text.
-use Rattle.std.proofs.Common.{◌≡◌, ◌≤◌, ◌<◌, ◌+◌, ◌++◌, inl, inr, ℕ, List, [], Option, Some, None, length, Err, refl, sym, ap, ◌∙◌, subst, arith, append-nil}
+use Rattle.std.proofs.Common.{◌≡◌, ◌≤◌, ◌<◌, ◌+◌, ◌++◌, inl, inr, ℕ, List, [], Option, Some, None, length, Err, refl}
+use Rattle.std.proofs.Common.{sym, ap, ◌∙◌, subst, arith, append-nil}
 use Rattle.std.proofs.lemmas.Bool.{cases_lt, lt-ltb, le-ltb}
 use Rattle.fsb_io.specs.Takes.{TakesAtMost}
 use Rattle.fsb_signal.specs.declared.sample.Sample.{Sample}
@@ -13,7 +14,8 @@ use Rattle.fsb_show.specs.declared.stop.ShowStop.TheVariants as stops
 use Rattle.fsb_show.specs.ShownDump.{IsLongDump, IsToldAs, IsReadToEnd}
 
 -- an answer by what its stop is
-pub answer_is : (X : Type 0) (r s : VcdStop) (stop : Option VcdStop) → r ≡ s → Answers {X = X} (Err r) stop → Answers {X = X} (Err s) stop
+pub answer_is : (X : Type 0) (r s : VcdStop) (stop : Option VcdStop) → r ≡ s → Answers {X = X} (Err r) stop
+    → Answers {X = X} (Err s) stop
 answer_is X r s stop e h = subst (λ (q : VcdStop). Answers {X = X} (Err q) stop) e h
 
 few_of : (limit : ℕ) (samples : List Sample) → long_or limit samples None ≡ None → length samples ≤ limit

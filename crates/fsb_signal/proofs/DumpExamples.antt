@@ -6,7 +6,8 @@ use Rattle.std.proofs.Common.{refl}
 use Rattle.fsb_signal.specs.declared.sample.Sample.{Sample}
 use Rattle.fsb_signal.specs.Samples.{known_sample}
 use Rattle.fsb_signal.specs.Parity.{is_address_odd, is_request_odd}
-use Rattle.fsb_signal.specs.DumpText.{header_text, clock_text, dump_text, texts_from, range_text, declaration_text, change_text, value_text, value_of}
+use Rattle.fsb_signal.specs.DumpText.{header_text, clock_text, dump_text, texts_from, range_text, declaration_text}
+use Rattle.fsb_signal.specs.DumpText.{change_text, value_text, value_of}
 
 -- the dump of no samples
 pub no_samples : List ℕ
@@ -143,12 +144,15 @@ unfolding digits texts_from clock_text change_text value_text value_of
 parity_text-third = refl
 
 -- what is declared in profile 2 alone
-pub parity-declared : texts_from declaration_text 20 2 ≡ (codes "$var wire 2 5 AP_n [1:0] $end\n" ++ codes "$var wire 1 6 RP_n $end\n")
+pub parity-declared : texts_from declaration_text 20 2
+    ≡ (codes "$var wire 2 5 AP_n [1:0] $end\n" ++ codes "$var wire 1 6 RP_n $end\n")
 unfolding digits texts_from declaration_text range_text
 parity-declared = refl
 
 -- the counts of these clocks are even, and odd without the parity lines
-pub parity-even : ((is_address_odd first_clock_even || is_request_odd first_clock_even || is_address_odd second_clock_even || is_request_odd second_clock_even) ≡ false)
+pub parity-even :
+    ((is_address_odd first_clock_even || is_request_odd first_clock_even || is_address_odd second_clock_even
+    || is_request_odd second_clock_even) ≡ false)
     × (is_address_odd first_clock ≡ true) × (is_request_odd first_clock ≡ true) × (is_request_odd second_clock ≡ true)
 unfolding is_address_odd is_request_odd ones
 parity-even = (refl, refl, refl, refl)

@@ -8,7 +8,8 @@ pub joined : (lines line : ℕ) → (bit_and (bit_or lines line) line == line) �
 joined lines line = eq-eqb _ _ (and_or_self line lines)
 
 -- a line that shares no bit with the one that joined is in the set where it was
-pub joined-others : (lines line other : ℕ) → bit_and line other ≡ 0 → (bit_and (bit_or lines line) other == other) ≡ (bit_and lines other == other)
+pub joined-others : (lines line other : ℕ) → bit_and line other ≡ 0
+    → (bit_and (bit_or lines line) other == other) ≡ (bit_and lines other == other)
 joined-others lines line other apart = ap (λ n. n == other) (and_or_apart other lines line apart)
 
 -- a set that is joined to another has no bit above those of both

@@ -1,5 +1,6 @@
 -- Which number a name of the signal table has.
-use Rattle.std.proofs.Common.{◌≡◌, ◌≢◌, ◌≤◌, ℕ, Bool, true, false, Some, None, option_map, slice_get, All, nat_eq, get_or, length, sym, ap, refl, arith, cond, List}
+use Rattle.std.proofs.Common.{◌≡◌, ◌≢◌, ◌≤◌, ℕ, Bool, true, false, Some, None, option_map, slice_get, All, nat_eq}
+use Rattle.std.proofs.Common.{get_or, length, sym, ap, refl, arith, cond, List}
 use Rattle.std.specs.Cmp.Lexicographic.{pointwise, same_text, other_text}
 use Rattle.std.specs.List.{position_or_len}
 use Rattle.std.proofs.lemmas.Bool.{ltb-false}
@@ -13,7 +14,8 @@ abbrev is_named : List ℕ → TableEntry → Bool
 is_named name e = pointwise nat_eq e.name name
 
 -- the entry that has a name's number has that name
-pub signal_number-found : (name : List ℕ) (n : ℕ) → Some n ≡ signal_number name → option_map (λ e. e.name) (slice_get table n) ≡ Some name
+pub signal_number-found : (name : List ℕ) (n : ℕ) → Some n ≡ signal_number name
+    → option_map (λ e. e.name) (slice_get table n) ≡ Some name
 unfolding signal_number
 signal_number-found name n h =
     let d = needed name 1 in

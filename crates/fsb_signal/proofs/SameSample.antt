@@ -14,7 +14,8 @@ same_word v w bits unknown = λ i. record {
   disjoint = is_prop→PathP (λ j. bit_and (bits j) (unknown j) ≡ 0) (λ j. ℕ_set _ _) v.disjoint w.disjoint i;
 }
 
-pub same_sample : (s t : Sample) → s.lines ≡ t.lines → s.unknown ≡ t.unknown → s.req ≡ t.req → s.addr ≡ t.addr → s.dbus ≡ t.dbus → s ≡ t
+pub same_sample : (s t : Sample) → s.lines ≡ t.lines → s.unknown ≡ t.unknown → s.req ≡ t.req → s.addr ≡ t.addr
+    → s.dbus ≡ t.dbus → s ≡ t
 same_sample s t lines unknown req addr dbus = λ i. record {
   lines = lines i;
   unknown = unknown i;

@@ -1,8 +1,10 @@
 -- The k-th clock that passes from a clock on.
-use Rattle.std.proofs.Common.{ℕ, zero, suc, ◌+◌, ◌-◌, ◌<◌, ◌≤◌, ◌≡◌, Bool, true, false, ◌&&◌, Option, Some, None, refl, sym, ap, ◌∙◌, arith, inl, inr}
+use Rattle.std.proofs.Common.{ℕ, zero, suc, ◌+◌, ◌-◌, ◌<◌, ◌≤◌, ◌≡◌, Bool, true, false, ◌&&◌, Option, Some, None, refl}
+use Rattle.std.proofs.Common.{sym, ap, ◌∙◌, arith, inl, inr}
 use Rattle.std.proofs.lemmas.Bool.{cases_Bool, cases_lt, and_left, and_parts, le-leb, lt-leb, leb-true}
 use Rattle.fsb_count.specs.Clocks.{first_where, nth_where, count_where, from_clock}
-use Rattle.fsb_count.proofs.Interface.{first_where-found, first_where-none, count_where-passed, count_where-failed, nth_where-at, nth_where-found, nth_where-past, nth_where-there}
+use Rattle.fsb_count.proofs.Interface.{first_where-found, first_where-none, count_where-passed, count_where-failed}
+use Rattle.fsb_count.proofs.Interface.{nth_where-at, nth_where-found, nth_where-past, nth_where-there}
 
 from_low : (a : ℕ) (p : ℕ → Bool) (k : ℕ) → k < a → from_clock a p k ≡ false
 unfolding from_clock

@@ -11,7 +11,8 @@ use Rattle.fsb_trace.specs.declared.outcome.Outcome.{Outcome}
 use Rattle.fsb_trace.specs.At.{Trace, response_code_at}
 use Rattle.fsb_trace.specs.Requests.{live_clock_of, live_count, live_request_of}
 use Rattle.fsb_trace.specs.Snoop.{snoop_end_of, line_at_snoop_end}
-use Rattle.fsb_trace.specs.Outcome.{does_move, live_response_of, moves_data, outcome_of, response_clock_of, told_by, told_with}
+use Rattle.fsb_trace.specs.Outcome.{does_move, live_response_of, moves_data, outcome_of, response_clock_of, told_by}
+use Rattle.fsb_trace.specs.Outcome.{told_with}
 use Rattle.fsb_trace.specs.Response.{data_clock_of, end_of}
 use Rattle.fsb_trace.proofs.Interface.{live_below_count}
 use Rattle.fsb_table.specs.Going.{fourth_from, is_handed_by}

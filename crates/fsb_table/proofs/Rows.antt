@@ -1,7 +1,9 @@
 -- Worked traces, clock by clock, and their tables: all of it is computed.
-use Rattle.std.proofs.Common.{◌≡◌, ℕ, ◌+◌, refl, Bool, List, [], ◌∷◌, ◌++◌, Option, Some, None, true, false, replicate, take}
+use Rattle.std.proofs.Common.{◌≡◌, ℕ, ◌+◌, refl, Bool, List, [], ◌∷◌, ◌++◌, Option, Some, None, true, false, replicate}
+use Rattle.std.proofs.Common.{take}
 use Rattle.fsb_signal.specs.declared.lines.Lines.{Lines}
-use Rattle.fsb_signal.specs.declared.lines.TheConstants.Lines.{BREQ0, BREQ1, BPRI, ADS, AERR, HIT, DEFER, RS0, RS1, RS2, DBSY, DRDY}
+use Rattle.fsb_signal.specs.declared.lines.TheConstants.Lines.{BREQ0, BREQ1, BPRI, ADS, AERR, HIT, DEFER, RS0, RS1, RS2}
+use Rattle.fsb_signal.specs.declared.lines.TheConstants.Lines.{DBSY, DRDY}
 use Rattle.fsb_signal.specs.declared.sample.Sample.{Sample}
 use Rattle.fsb_signal.specs.Samples.{known_sample, line_at}
 use Rattle.fsb_count.specs.Options.{is_some_and, greater_of}
@@ -16,10 +18,15 @@ use Rattle.fsb_trace.specs.declared.outcome.Outcome.TheVariants.{Granted, Retrie
 use Rattle.fsb_trace.specs.declared.who.Who.{Who}
 use Rattle.fsb_trace.specs.declared.who.Who.TheVariants.{Symmetric, Priority}
 use Rattle.fsb_trace.specs.At.{Trace, response_code_at, responds_at, stalls_at, known_pair, known_pair_at, request_at}
-use Rattle.fsb_trace.specs.Winner.{bus_request_of, request_line_of, no_requesters, symmetric_after, then_begun, first_in_order, agent_in_order, asks_in_order, first_asking, last_if_asking, winner_by, winner_after, requesters_before, winner_at}
-use Rattle.fsb_trace.specs.Requests.{is_cancelled, seen_at, is_live, live_count, live_clock_of, live_number_of, live_request_of}
-use Rattle.fsb_trace.specs.Snoop.{is_every_second_from, ends_snoop, snoop_end_from, snoop_end_if, start_after_clock, start_after_end, snoop_end_of, line_at_snoop_end}
-use Rattle.fsb_trace.specs.Outcome.{does_move, response_code_of, outcome_by_kind, response_clock_of, live_response_of, told_by, outcome_of, moves_data}
+use Rattle.fsb_trace.specs.Winner.{bus_request_of, request_line_of, no_requesters, symmetric_after, then_begun}
+use Rattle.fsb_trace.specs.Winner.{first_in_order, agent_in_order, asks_in_order, first_asking, last_if_asking}
+use Rattle.fsb_trace.specs.Winner.{winner_by, winner_after, requesters_before, winner_at}
+use Rattle.fsb_trace.specs.Requests.{is_cancelled, seen_at, is_live, live_count, live_clock_of, live_number_of}
+use Rattle.fsb_trace.specs.Requests.{live_request_of}
+use Rattle.fsb_trace.specs.Snoop.{is_every_second_from, ends_snoop, snoop_end_from, snoop_end_if, start_after_clock}
+use Rattle.fsb_trace.specs.Snoop.{start_after_end, snoop_end_of, line_at_snoop_end}
+use Rattle.fsb_trace.specs.Outcome.{does_move, response_code_of, outcome_by_kind, response_clock_of, live_response_of}
+use Rattle.fsb_trace.specs.Outcome.{told_by, outcome_of, moves_data}
 use Rattle.fsb_trace.specs.Response.{data_clock_of, end_of}
 use Rattle.fsb_table.specs.declared.row.Row.{Row}
 use Rattle.fsb_table.specs.Rows.{live_row, cancelled_row, row_at, rows_of}

@@ -1,12 +1,14 @@
 -- The end of a snoop, found from where it starts.
-use Rattle.std.proofs.Common.{ℕ, zero, suc, ◌+◌, ◌-◌, ◌%◌, ◌≡◌, Bool, true, false, ◌&&◌, not, nat_le, nat_eq, Option, Some, None, length, max, refl, ap, ◌∙◌, arith}
+use Rattle.std.proofs.Common.{ℕ, zero, suc, ◌+◌, ◌-◌, ◌%◌, ◌≡◌, Bool, true, false, ◌&&◌, not, nat_le, nat_eq, Option}
+use Rattle.std.proofs.Common.{Some, None, length, max, refl, ap, ◌∙◌, arith}
 use Rattle.std.specs.Option.{option_map, option_and_then}
 use Rattle.fsb_count.specs.Options.{greater_of}
 use Rattle.fsb_count.specs.Clocks.{AgreeBelow, nth_where, from_clock}
 use Rattle.fsb_count.proofs.Interface.{first_where-same}
 use Rattle.fsb_trace.specs.At.{Trace, stalls_at}
 use Rattle.fsb_trace.specs.Requests.{live_clock_of}
-use Rattle.fsb_trace.specs.Snoop.{is_every_second_from, ends_snoop, snoop_end_from, snoop_end_if, start_after_clock, start_after_end, snoop_end_of}
+use Rattle.fsb_trace.specs.Snoop.{is_every_second_from, ends_snoop, snoop_end_from, snoop_end_if, start_after_clock}
+use Rattle.fsb_trace.specs.Snoop.{start_after_end, snoop_end_of}
 use Rattle.fsb_table.specs.Going.{clear_of}
 use Rattle.fsb_table.proofs.FromClock.{first-nth}
 

@@ -1,5 +1,6 @@
 -- Snoop ends, responses and ends of a past that come in the order of its live requests; and those of a timely run do.
-use Rattle.std.proofs.Common.{ℕ, ◌+◌, ◌<◌, ◌≤◌, ◌≡◌, Bool, true, ◌&&◌, List, ◌∷◌, Some, length, sym, ap, subst, ◌∙◌, arith, inl, inr}
+use Rattle.std.proofs.Common.{ℕ, ◌+◌, ◌<◌, ◌≤◌, ◌≡◌, Bool, true, ◌&&◌, List, ◌∷◌, Some, length, sym, ap, subst, ◌∙◌}
+use Rattle.std.proofs.Common.{arith, inl, inr}
 use Rattle.std.proofs.lemmas.Bool.{cases_lt, lt-leb}
 use Rattle.fsb_count.specs.Clocks.{count_where, from_clock}
 use Rattle.fsb_count.specs.Options.{is_some_and}
@@ -10,7 +11,8 @@ use Rattle.fsb_trace.specs.At.{Trace}
 use Rattle.fsb_trace.specs.Outcome.{does_move, moves_data, response_clock_of}
 use Rattle.fsb_trace.specs.Response.{end_of}
 use Rattle.fsb_trace.specs.Snoop.{snoop_end_of}
-use Rattle.fsb_trace.proofs.Interface.{AgreeTo-sym, end_of-moving, end_of-response, end_of-stays, response_clock_of-stays, snoop_end_of-rises, snoop_end_of-stays}
+use Rattle.fsb_trace.proofs.Interface.{AgreeTo-sym, end_of-moving, end_of-response, end_of-stays}
+use Rattle.fsb_trace.proofs.Interface.{response_clock_of-stays, snoop_end_of-rises, snoop_end_of-stays}
 use Rattle.fsb_laws.proofs.Interface.{count_where-none}
 use Rattle.fsb_timely.specs.Grants.{ended_requests, is_end_at, is_ended, snooped_at}
 use Rattle.fsb_timely.specs.Past.{Past, SnoopEnd}

@@ -1,5 +1,6 @@
 -- An access that comes with an end awaited on a line is its agent's, and a load where the oldest link does not own.
-use Rattle.std.proofs.Common.{ℕ, ◌+◌, ◌<◌, ◌≡◌, Bool, true, false, not, ◌&&◌, ◌||◌, List, [], ◌∷◌, map, Some, length, nat_eq, refl, sym, ap, ◌∙◌, arith, inl, inr}
+use Rattle.std.proofs.Common.{ℕ, ◌+◌, ◌<◌, ◌≡◌, Bool, true, false, not, ◌&&◌, ◌||◌, List, [], ◌∷◌, map, Some, length}
+use Rattle.std.proofs.Common.{nat_eq, refl, sym, ap, ◌∙◌, arith, inl, inr}
 use Rattle.std.proofs.lemmas.Bool.{and_parts, both_ways, cases_Bool, eq-eqb, eqb-true, or_left, or_right}
 use Rattle.std.specs.List.{list_all, list_any}
 use Rattle.std.specs.Option.{option_and_then}
@@ -10,7 +11,8 @@ use Rattle.fsb_access.specs.declared.item.Item.{Item}
 use Rattle.fsb_access.specs.declared.item.Item.TheVariants.{Idle, Locked, One}
 use Rattle.fsb_line.specs.declared.link.Link.{Link}
 use Rattle.fsb_line.specs.Links.{owns}
-use Rattle.fsb_timely.specs.Completions.{Completed, brings_at, completed_of_item, completes_by, is_arrival, is_brought, is_there}
+use Rattle.fsb_timely.specs.Completions.{Completed, brings_at, completed_of_item, completes_by, is_arrival, is_brought}
+use Rattle.fsb_timely.specs.Completions.{is_there}
 use Rattle.fsb_timely.specs.Grants.{ended_requests, grant_at, is_end_at, is_granted, snooped_at}
 use Rattle.fsb_timely.specs.Hits.{is_hit}
 use Rattle.fsb_timely.specs.Past.{Grant, Past, SnoopEnd}

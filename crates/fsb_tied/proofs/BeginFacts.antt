@@ -1,5 +1,6 @@
 -- The request that begins at a clock, and the one that is cancelled there, come in order.
-use Rattle.std.proofs.Common.{ℕ, ◌+◌, ◌<◌, ◌≤◌, ◌≡◌, true, false, Option, Some, None, length, refl, sym, ap, subst, ◌∙◌, arith}
+use Rattle.std.proofs.Common.{ℕ, ◌+◌, ◌<◌, ◌≤◌, ◌≡◌, true, false, Option, Some, None, length, refl, sym, ap, subst, ◌∙◌}
+use Rattle.std.proofs.Common.{arith}
 use Rattle.std.specs.Option.{option_and_then}
 use Rattle.std.proofs.lemmas.Bool.{both_ways, eqb-true, false_from_ne_true}
 use Rattle.fsb_count.specs.Options.{is_at, is_some_and}
@@ -28,7 +29,8 @@ use Rattle.fsb_tied.proofs.SnoopOpen.{cancels, claim-with, wanted-then}
 use Rattle.fsb_tied.proofs.Wanted.{want-is, write-back-kind}
 
 -- a request is cancelled three clocks behind its first clock, and snooped later than that
-pub uncancelled-below : (r : Run) (n q : ℕ) → n ≤ length r.trace → n ≤ q + 3 → is_cancelled_below (past_of r) n q ≡ false
+pub uncancelled-below : (r : Run) (n q : ℕ) → n ≤ length r.trace → n ≤ q + 3
+    → is_cancelled_below (past_of r) n q ≡ false
 unfolding is_cancelled_below
 uncancelled-below r n q l low =
     any_where-off (λ t. is_at (cancelled_in (past_of r) t) q) n (λ t below. false_from_ne_true _ (λ e.
@@ -106,7 +108,8 @@ begins-in-order r line n h bounds l =
     let p = past_of r in
     record {
       first = λ claim begun. (begun-want r n claim h bounds l begun).first;
-      begun = λ claim begun names. subst (λ x. IsBegunRightly p x n claim.agent) names (is-begun r n claim h bounds l begun);
+      begun = λ claim begun names. subst (λ x. IsBegunRightly p x n claim.agent) names
+          (is-begun r n claim h bounds l begun);
       dropped = λ claim begun rival. dropped-clean r n claim line h bounds l begun rival;
       cancelled = λ q claim cancelled begun names.
           subst (λ x. (request : OpenRequest) × IsOpen p claim.agent x n request × (request.number ≡ q)) names

@@ -1,5 +1,6 @@
 -- What begins in a timely run is what its agent wants.
-use Rattle.std.proofs.Common.{ℕ, suc, ◌+◌, ◌/◌, ◌^◌, ◌<◌, ◌≡◌, Bool, true, false, ◌&&◌, Option, Some, None, if◌then◌else◌, length, nat_eq, nat_lt, slice_get, refl, sym, ap, subst, ◌∙◌, arith}
+use Rattle.std.proofs.Common.{ℕ, suc, ◌+◌, ◌/◌, ◌^◌, ◌<◌, ◌≡◌, Bool, true, false, ◌&&◌, Option, Some, None}
+use Rattle.std.proofs.Common.{if◌then◌else◌, length, nat_eq, nat_lt, slice_get, refl, sym, ap, subst, ◌∙◌, arith}
 use Rattle.std.specs.Option.{option_and_then, option_map}
 use Rattle.std.proofs.lemmas.Bool.{and_parts, eqb-true, ltb-true}
 use Rattle.fsb_count.specs.Options.{is_some_and}
@@ -27,7 +28,8 @@ use Rattle.fsb_timely.specs.Timely.{Timely, holds_at, holds_in}
 use Rattle.fsb_timely.specs.Wants.{want_of}
 use Rattle.fsb_timely.proofs.Interface.{begun-told, done_below, past-begins, want_of-alike}
 use Rattle.fsb_lawful.specs.Beginning.{KeepsBounds}
-use Rattle.fsb_lawful.proofs.Interface.{begun-decoded, begun-winner, map-some, run_to-agrees, slice_get-take, want-own, wants-lawfully}
+use Rattle.fsb_lawful.proofs.Interface.{begun-decoded, begun-winner, map-some, run_to-agrees, slice_get-take, want-own}
+use Rattle.fsb_lawful.proofs.Interface.{wants-lawfully}
 
 -- what a claim says: its clock, its winner, and its line by the address word
 record IsClaimAt (w : Trace) (q : ℕ) (claim : Claim) : Type 0 where

@@ -1,5 +1,6 @@
 -- What the moments of a timely run have of responses and ends is what its whole trace says.
-use Rattle.std.proofs.Common.{ℕ, suc, zero, ◌+◌, ◌<◌, ◌≤◌, ◌≡◌, Bool, true, false, List, [], ◌∷◌, Option, Some, None, length, nat_eq, refl, sym, ap, ◌∙◌, arith, inl, inr, add-one}
+use Rattle.std.proofs.Common.{ℕ, suc, zero, ◌+◌, ◌<◌, ◌≤◌, ◌≡◌, Bool, true, false, List, [], ◌∷◌, Option, Some, None}
+use Rattle.std.proofs.Common.{length, nat_eq, refl, sym, ap, ◌∙◌, arith, inl, inr, add-one}
 use Rattle.std.specs.List.{list_any, filter_map}
 use Rattle.std.specs.Option.{option_and_then, option_map_or}
 use Rattle.std.proofs.lemmas.Bool.{cases_Bool, eqb-true, eq-eqb}
@@ -11,7 +12,8 @@ use Rattle.fsb_trace.specs.Outcome.{response_clock_of}
 use Rattle.fsb_trace.specs.Requests.{live_clock_of, live_count}
 use Rattle.fsb_trace.specs.Response.{end_of}
 use Rattle.fsb_trace.specs.Rules.{next_response}
-use Rattle.fsb_trace.proofs.Interface.{AgreeTo-sym, end_of-response, end_of-stays, live_below_count, live_clock_of-stays, response_clock_of-stays, snoop_end_of-clock}
+use Rattle.fsb_trace.proofs.Interface.{AgreeTo-sym, end_of-response, end_of-stays, live_below_count}
+use Rattle.fsb_trace.proofs.Interface.{live_clock_of-stays, response_clock_of-stays, snoop_end_of-clock}
 use Rattle.fsb_laws.specs.Orderly.{Orderly}
 use Rattle.fsb_timely.specs.Grants.{ended_requests, is_end_at}
 use Rattle.fsb_timely.specs.Moments.{moment_at, requests_ending_at, responded_at}

@@ -1,5 +1,6 @@
 -- Where an end is awaited after a snoop end, its link carries data exactly where data are awaited; and then data move.
-use Rattle.std.proofs.Common.{ℕ, ◌≡◌, Bool, true, false, not, ◌&&◌, ◌||◌, Option, Some, None, is_none, is_some, refl, sym, ap, subst, ◌∙◌, inl, inr}
+use Rattle.std.proofs.Common.{ℕ, ◌≡◌, Bool, true, false, not, ◌&&◌, ◌||◌, Option, Some, None, is_none, is_some, refl}
+use Rattle.std.proofs.Common.{sym, ap, subst, ◌∙◌, inl, inr}
 use Rattle.std.proofs.lemmas.Bool.{cases_Bool}
 use Rattle.std.specs.Option.{option_map}
 use Rattle.fsb_count.specs.Options.{is_some_and}
@@ -10,7 +11,8 @@ use Rattle.fsb_hazard.specs.declared.choice.Turn.{Turn}
 use Rattle.fsb_hazard.specs.declared.choice.Turn.TheVariants.{Defer, Keep, Retry}
 use Rattle.fsb_line.specs.Links.{carries, upgrades}
 use Rattle.fsb_trace.specs.declared.outcome.Outcome.{Outcome}
-use Rattle.fsb_trace.specs.declared.outcome.Outcome.TheVariants.{Deferred, Failed, Granted, Handed, Replied, Retried, Upgraded, Written}
+use Rattle.fsb_trace.specs.declared.outcome.Outcome.TheVariants.{Deferred, Failed, Granted, Handed, Replied, Retried}
+use Rattle.fsb_trace.specs.declared.outcome.Outcome.TheVariants.{Upgraded, Written}
 use Rattle.fsb_trace.specs.Outcome.{does_move, outcome_by_kind}
 use Rattle.fsb_trace.specs.Requests.{is_upgrade_kind}
 use Rattle.fsb_timely.specs.Moments.{is_got, is_upgraded, makes_grant}

@@ -1,5 +1,6 @@
 -- In a timely run the link of a snoop end carries data exactly where the end that is awaited after it brings data.
-use Rattle.std.proofs.Common.{ℕ, ◌≡◌, Bool, true, false, not, ◌&&◌, ◌||◌, if◌then◌else◌, nat_eq, List, Option, Some, None, is_some, refl, sym, ap, ◌∙◌, inl, inr}
+use Rattle.std.proofs.Common.{ℕ, ◌≡◌, Bool, true, false, not, ◌&&◌, ◌||◌, if◌then◌else◌, nat_eq, List, Option, Some}
+use Rattle.std.proofs.Common.{None, is_some, refl, sym, ap, ◌∙◌, inl, inr}
 use Rattle.std.proofs.lemmas.Bool.{and_parts, both_ways, cases_Bool, or_left, or_right}
 use Rattle.std.specs.Option.{option_and_then, option_map}
 use Rattle.fsb_count.specs.Options.{is_some_and}
@@ -20,7 +21,8 @@ use Rattle.fsb_trace.specs.Requests.{is_reply, is_reply_kind, live_clock_of, liv
 use Rattle.fsb_trace.proofs.Interface.{snoop_end_of-clock}
 use Rattle.fsb_timely.specs.Grants.{snooped_at}
 use Rattle.fsb_timely.specs.Hits.{is_dirty}
-use Rattle.fsb_timely.specs.Moments.{claim_at, gives_line, grant_for, grant_of, is_upgraded, live_claim_of, makes_grant, served_number, turns_in, wins_race, grant_to, is_owner_request, is_shared_at}
+use Rattle.fsb_timely.specs.Moments.{claim_at, gives_line, grant_for, grant_of, is_upgraded, live_claim_of, makes_grant}
+use Rattle.fsb_timely.specs.Moments.{served_number, turns_in, wins_race, grant_to, is_owner_request, is_shared_at}
 use Rattle.fsb_timely.specs.Past.{Claim, Grant, Past, SnoopEnd}
 use Rattle.fsb_timely.specs.Runs.{Run, past_of, past_to}
 use Rattle.fsb_timely.specs.Snoops.{is_dirty_elsewhere}

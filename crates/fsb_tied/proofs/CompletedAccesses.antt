@@ -1,5 +1,6 @@
 -- What holds of each access that a timely run completes at a clock holds of each entry of its log there.
-use Rattle.std.proofs.Common.{ℕ, ◌+◌, ◌<◌, ◌≡◌, Bool, true, false, not, ◌&&◌, List, [], ◌∷◌, ◌++◌, map, Option, Some, None, length, nat_eq, refl, sym, subst, inl, inr}
+use Rattle.std.proofs.Common.{ℕ, ◌+◌, ◌<◌, ◌≡◌, Bool, true, false, not, ◌&&◌, List, [], ◌∷◌, ◌++◌, map, Option, Some}
+use Rattle.std.proofs.Common.{None, length, nat_eq, refl, sym, subst, inl, inr}
 use Rattle.std.specs.Prelude.{⊤}
 use Rattle.std.proofs.lemmas.Bool.{and_from, and_parts, cases_Bool, eqb-true}
 use Rattle.std.specs.List.{filter, list_all}
@@ -10,11 +11,13 @@ use Rattle.fsb_access.specs.declared.item.Item.{Item}
 use Rattle.fsb_access.specs.declared.item.Item.TheVariants.{Idle, Locked, One}
 use Rattle.fsb_access.specs.declared.log.Done.{Done}
 use Rattle.fsb_access.specs.ScriptOrder.{Step, step_of, steps_from}
-use Rattle.fsb_timely.specs.Completions.{Completed, completed_at, completed_if, completed_of_item, entries_at, is_arrival, next_accesses, of_all_agents}
+use Rattle.fsb_timely.specs.Completions.{Completed, completed_at, completed_if, completed_of_item, entries_at}
+use Rattle.fsb_timely.specs.Completions.{is_arrival, next_accesses, of_all_agents}
 use Rattle.fsb_timely.specs.Hits.{is_hit}
 use Rattle.fsb_timely.specs.Past.{Past}
 use Rattle.fsb_timely.specs.Runs.{Run, past_of}
-use Rattle.fsb_timely.specs.Scripts.{Need, is_load, locked_need, needs_after, needs_of, next_item, next_number, plain_need}
+use Rattle.fsb_timely.specs.Scripts.{Need, is_load, locked_need, needs_after, needs_of, next_item, next_number}
+use Rattle.fsb_timely.specs.Scripts.{plain_need}
 use Rattle.fsb_timely.specs.Timely.{Timely}
 use Rattle.fsb_timely.proofs.Interface.{same-list, whole-completions}
 use Rattle.fsb_coherent.specs.LineEvents.{entries_on}

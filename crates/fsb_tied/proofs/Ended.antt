@@ -8,7 +8,8 @@ use Rattle.fsb_trace.specs.Outcome.{response_clock_of}
 use Rattle.fsb_trace.specs.Requests.{live_clock_of, live_count}
 use Rattle.fsb_trace.specs.Response.{end_of}
 use Rattle.fsb_trace.specs.Snoop.{snoop_end_of}
-use Rattle.fsb_trace.proofs.Interface.{AgreeTo-sym, end_of-response, end_of-stays, live_below_count, live_clock_of-stays, snoop_end_of-stays}
+use Rattle.fsb_trace.proofs.Interface.{AgreeTo-sym, end_of-response, end_of-stays, live_below_count}
+use Rattle.fsb_trace.proofs.Interface.{live_clock_of-stays, snoop_end_of-stays}
 use Rattle.fsb_laws.proofs.Interface.{end_after_clock, has_answer}
 use Rattle.fsb_timely.specs.Grants.{is_end_at, is_ended, snooped_at}
 use Rattle.fsb_timely.specs.Moments.{is_snoop_of, requests_ending_at}

@@ -1,5 +1,6 @@
 -- An agent that holds a line is one of four.
-use Rattle.std.proofs.Common.{ℕ, zero, suc, ◌-◌, ◌<◌, ◌≤◌, ◌≡◌, Bool, true, false, Option, Some, None, length, nat_lt, if◌then◌else◌, refl, sym, ap, subst, ◌∙◌, arith, inl, inr, add-one}
+use Rattle.std.proofs.Common.{ℕ, zero, suc, ◌-◌, ◌<◌, ◌≤◌, ◌≡◌, Bool, true, false, Option, Some, None, length, nat_lt}
+use Rattle.std.proofs.Common.{if◌then◌else◌, refl, sym, ap, subst, ◌∙◌, arith, inl, inr, add-one}
 use Rattle.std.specs.Option.{option_map}
 use Rattle.std.proofs.lemmas.Bool.{cases_Bool, false_from_ne_true}
 use Rattle.fsb_count.specs.Clocks.{first_where}
@@ -8,8 +9,12 @@ use Rattle.fsb_signal.specs.Samples.{line_at}
 use Rattle.fsb_trace.specs.declared.who.Who.{Who}
 use Rattle.fsb_trace.specs.declared.who.Who.TheVariants.{Symmetric}
 use Rattle.fsb_trace.specs.At.{Trace}
-use Rattle.fsb_trace.specs.Winner.{Requesters, agent_in_order, asks_in_order, first_asking, first_in_order, last_if_asking, request_line_of, requesters_before, then_begun, winner_after, winner_at, winner_by}
-use Rattle.fsb_trace.proofs.Interface.{requesters_before-begun, requesters_before-kept, requesters_before-start, winner_after-high, winner_after-low, winner_by-locked, winner_by-priority, winner_by-symmetric}
+use Rattle.fsb_trace.specs.Winner.{Requesters, agent_in_order, asks_in_order, first_asking, first_in_order}
+use Rattle.fsb_trace.specs.Winner.{last_if_asking, request_line_of, requesters_before, then_begun, winner_after}
+use Rattle.fsb_trace.specs.Winner.{winner_at, winner_by}
+use Rattle.fsb_trace.proofs.Interface.{requesters_before-begun, requesters_before-kept, requesters_before-start}
+use Rattle.fsb_trace.proofs.Interface.{winner_after-high, winner_after-low, winner_by-locked, winner_by-priority}
+use Rattle.fsb_trace.proofs.Interface.{winner_by-symmetric}
 use Rattle.fsb_timely.specs.Grants.{holds_line}
 use Rattle.fsb_timely.specs.Runs.{Run, past_of}
 use Rattle.fsb_timely.proofs.Interface.{holds_line-says}

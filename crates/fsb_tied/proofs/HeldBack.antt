@@ -1,8 +1,10 @@
 -- A write-back begins only where no other agent's request for the line is open.
-use Rattle.std.proofs.Common.{ℕ, zero, suc, ◌+◌, ◌<◌, ◌≤◌, ◌≡◌, Bool, true, false, not, ◌&&◌, if◌then◌else◌, List, [], ◌∷◌, Option, Some, None, length, nat_eq, nat_lt, refl, sym, ap, ◌∙◌, inl, inr, arith}
+use Rattle.std.proofs.Common.{ℕ, zero, suc, ◌+◌, ◌<◌, ◌≤◌, ◌≡◌, Bool, true, false, not, ◌&&◌, if◌then◌else◌, List, []}
+use Rattle.std.proofs.Common.{◌∷◌, Option, Some, None, length, nat_eq, nat_lt, refl, sym, ap, ◌∙◌, inl, inr, arith}
 use Rattle.std.specs.List.{filter, filter_map, list_any}
 use Rattle.std.specs.Option.{option_map_or}
-use Rattle.std.proofs.lemmas.Bool.{and_from, and_parts, both_ways, cases_Bool, eq-eqb, eqb-true, false_from_ne_true, lt-ltb, ltb-true, not-true, or_from}
+use Rattle.std.proofs.lemmas.Bool.{and_from, and_parts, both_ways, cases_Bool, eq-eqb, eqb-true, false_from_ne_true}
+use Rattle.std.proofs.lemmas.Bool.{lt-ltb, ltb-true, not-true, or_from}
 use Rattle.std.proofs.lemmas.List.Folds.{list_any-append}
 use Rattle.fsb_count.specs.Clocks.{all_where}
 use Rattle.fsb_count.specs.Options.{is_before, is_some_and}
@@ -23,10 +25,12 @@ use Rattle.fsb_timely.specs.Grants.{is_claim_of_other, snooped_at}
 use Rattle.fsb_timely.specs.Moments.{claim_at, is_snoop_of, is_snooped_in, is_unsnooped, moment_at, snoop_at}
 use Rattle.fsb_timely.specs.Past.{Claim, Moment, Past}
 use Rattle.fsb_timely.specs.Runs.{Run, moments_below, past_of, past_to, past_with, run_to}
-use Rattle.fsb_timely.specs.Starts.{drives_ads, drives_pair, has_free_winner, has_room, is_kept_back, is_spaced, may_begin, starts_requests}
+use Rattle.fsb_timely.specs.Starts.{drives_ads, drives_pair, has_free_winner, has_room, is_kept_back, is_spaced}
+use Rattle.fsb_timely.specs.Starts.{may_begin, starts_requests}
 use Rattle.fsb_timely.specs.Timely.{Timely, holds_at, holds_in}
 use Rattle.fsb_timely.specs.Wants.{is_held_back, is_open_to_other, unsnooped_at, want_of}
-use Rattle.fsb_timely.proofs.Interface.{claim_at-agree, done_below, is_held_back-alike, moment-at, moment_of, past-begins, snooped-there as snooped-in-moments}
+use Rattle.fsb_timely.proofs.Interface.{claim_at-agree, done_below, is_held_back-alike, moment-at, moment_of}
+use Rattle.fsb_timely.proofs.Interface.{past-begins, snooped-there as snooped-in-moments}
 use Rattle.fsb_lawful.proofs.Interface.{IsListed, and4, any-listed, length-cut, run_to-agrees, same-beq}
 use Rattle.fsb_coherent.specs.Relation.{IsOpen, is_cancelled_below, is_snooped_below}
 use Rattle.fsb_tied.proofs.Beginnings.{IsBegunWant, begun-there}

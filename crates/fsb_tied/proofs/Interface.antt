@@ -5,7 +5,8 @@ pub use Rattle.fsb_tied.proofs.AnswersInOrder.{AnswersInOrder, answers-in-order}
 -- The end that is awaited after a snoop end is known by its request.
 pub use Rattle.fsb_tied.proofs.Awaiting.{awaited-there, awaits-grant, is-found, none-before}
 -- What the moments of a timely run have of responses and ends is what its whole trace says.
-pub use Rattle.fsb_tied.proofs.Bridge.{Ends, Responds, ended-number, number-ended, number-responded, one-at-end, one-listed, responded-from, responded-number, responded-parts}
+pub use Rattle.fsb_tied.proofs.Bridge.{Ends, Responds, ended-number, number-ended, number-responded, one-at-end}
+pub use Rattle.fsb_tied.proofs.Bridge.{one-listed, responded-from, responded-number, responded-parts}
 -- In a timely run the link of a snoop end carries data exactly where the end that is awaited after it brings data.
 pub use Rattle.fsb_tied.proofs.CarryingRuns.{carries-awaited, granted-await, written-await}
 -- The links of a line that are left, from that of one snoop end on.
@@ -47,7 +48,8 @@ pub use Rattle.fsb_tied.proofs.Beginnings.{begun-shown, begun-want, claimed}
 -- The ends of live requests, in the moments of a run and in its cut traces; what has ended has its snoop end behind it.
 pub use Rattle.fsb_tied.proofs.Ended.{end-below, ended-snooped}
 -- Data that move on a line, and the ends that are awaited there: what it says that they do.
-pub use Rattle.fsb_tied.proofs.Moving.{IsMoved, any-in, any-of, end-on, ends-on, moved-from, moved-parts, moves-from, moves-parts}
+pub use Rattle.fsb_tied.proofs.Moving.{IsMoved, any-in, any-of, end-on, ends-on, moved-from, moved-parts, moves-from}
+pub use Rattle.fsb_tied.proofs.Moving.{moves-parts}
 -- A request that has begun, and is neither cancelled nor ended, is one that its agent owes.
 pub use Rattle.fsb_tied.proofs.Owing.{cancelled-at, cancelled-below, claim-no-reply, own-owed, owing-gives}
 -- What the snoop end of a reply that grants a line answers: a request that was Deferred on the line, the last one.
@@ -59,7 +61,8 @@ pub use Rattle.fsb_tied.proofs.Slots.{Slot, asked-unevicted, begun-apart, one-sl
 -- At the snoop end of a symmetric agent's request that request is open, and no open one is older.
 pub use Rattle.fsb_tied.proofs.SnoopOpen.{cancels, live-at}
 -- Lines of one cache set, and the victim among them.
-pub use Rattle.fsb_tied.proofs.Victims.{a-victim, dirty-held, no-victim, rival-other, rival-set, rival-sym, same-set, same-set-sym}
+pub use Rattle.fsb_tied.proofs.Victims.{a-victim, dirty-held, no-victim, rival-other, rival-set, rival-sym, same-set}
+pub use Rattle.fsb_tied.proofs.Victims.{same-set-sym}
 -- A request that is put off: its snoop end, and its claim; and its turn, as the moments below a clock have it.
 pub use Rattle.fsb_tied.proofs.PendingLines.{IsPutOff, turn-so-far}
 -- The machine's line after the events below a clock, and before the clock's snoop end.
@@ -73,7 +76,8 @@ pub use Rattle.fsb_tied.proofs.AwaitedAccesses.{awaiting-loads, one-end}
 pub use Rattle.fsb_tied.proofs.EndingLines.{EndsLine, ends-line, taking-at}
 -- What follows for a request of a past whose answers come in order: where its snoop end, its response and its end
 -- lie.
-pub use Rattle.fsb_tied.proofs.InTurn.{ended-later, ended-parts, not-so, snooped-before-end, unended-at-end, unended-at-response}
+pub use Rattle.fsb_tied.proofs.InTurn.{ended-later, ended-parts, not-so, snooped-before-end, unended-at-end}
+pub use Rattle.fsb_tied.proofs.InTurn.{unended-at-response}
 -- The bytes of a line in the replay of a log: what the stores on it make of them.
 pub use Rattle.fsb_tied.proofs.LineBytes.{is_placed, replay-line, stores_into}
 -- The memory has of a line the bytes that were put there last.

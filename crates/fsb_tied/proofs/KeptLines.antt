@@ -1,5 +1,6 @@
 -- The memory has of a line, at each clock, the bytes that were put there last; at the end copies and memory are kept.
-use Rattle.std.proofs.Common.{ℕ, zero, suc, ◌+◌, ◌<◌, ◌≤◌, ◌≡◌, true, false, ◌&&◌, nat_le, nat_lt, List, [], ◌∷◌, Option, Some, None, is_some, length, refl, sym, ap, subst, ◌∙◌, arith, inl, inr, add-one}
+use Rattle.std.proofs.Common.{ℕ, zero, suc, ◌+◌, ◌<◌, ◌≤◌, ◌≡◌, true, false, ◌&&◌, nat_le, nat_lt, List, [], ◌∷◌}
+use Rattle.std.proofs.Common.{Option, Some, None, is_some, length, refl, sym, ap, subst, ◌∙◌, arith, inl, inr, add-one}
 use Rattle.std.specs.Prelude.{cond, unwrap_or}
 use Rattle.std.specs.List.{list_all}
 use Rattle.std.specs.Option.{option_and_then}
@@ -23,7 +24,8 @@ use Rattle.fsb_timely.specs.Runs.{Run, past_of}
 use Rattle.fsb_coherent.specs.Facts.{does_end_on, does_respond_on}
 use Rattle.fsb_coherent.specs.LineEvents.{events_below}
 use Rattle.fsb_coherent.specs.Relation.{is_moved_below}
-use Rattle.fsb_tied.specs.RunBytes.{HasValues, bytes_below, bytes_put_below, is_put_below, machine_line, number_put_below, put_clock_below}
+use Rattle.fsb_tied.specs.RunBytes.{HasValues, bytes_below, bytes_put_below, is_put_below, machine_line}
+use Rattle.fsb_tied.specs.RunBytes.{number_put_below, put_clock_below}
 use Rattle.fsb_tied.proofs.ClocksOfRuns.{clock-facts}
 use Rattle.fsb_tied.proofs.EndingLines.{EndsLine, ending-takes-none, ends-line, taken-ends}
 use Rattle.fsb_tied.proofs.HitsFirst.{all-kept}

@@ -9,7 +9,8 @@ use Rattle.fsb_lawful.specs.Beginning.{KeepsBounds}
 use Rattle.fsb_tied.proofs.Slots.{one-slot}
 
 pub held-alone : (r : Run) (a line other n : ℕ) → Timely r → KeepsBounds r.plan → n ≤ length r.trace
-    → is_rival (past_of r) line other ≡ true → holds_line (past_of r) a line n ≡ true → holds_line (past_of r) a other n ≡ false
+    → is_rival (past_of r) line other ≡ true → holds_line (past_of r) a line n ≡ true
+    → holds_line (past_of r) a other n ≡ false
 held-alone r a line other n h bounds l rival held =
     false_from_ne_true _ (λ t. one-slot r a line other n h bounds l rival (inl held) (inl t))
 

@@ -1,5 +1,6 @@
 -- In a timely run responses and ends come in the order of the links of each line.
-use Rattle.std.proofs.Common.{ℕ, ◌+◌, ◌<◌, ◌≤◌, ◌≡◌, Bool, true, false, ◌||◌, List, [], ◌∷◌, Option, Some, None, length, nat_eq, refl, sym, ap, ◌∙◌, arith, inl, inr}
+use Rattle.std.proofs.Common.{ℕ, ◌+◌, ◌<◌, ◌≤◌, ◌≡◌, Bool, true, false, ◌||◌, List, [], ◌∷◌, Option, Some, None, length}
+use Rattle.std.proofs.Common.{nat_eq, refl, sym, ap, ◌∙◌, arith, inl, inr}
 use Rattle.std.proofs.lemmas.Bool.{both_ways, cases_Bool, eq-eqb, ne_eqb}
 use Rattle.fsb_line.specs.declared.link.Link.{Link}
 use Rattle.fsb_line.specs.Links.{carries}
@@ -15,7 +16,8 @@ use Rattle.fsb_tied.proofs.AnswersInOrder.{AnswersInOrder, answers-in-order}
 use Rattle.fsb_tied.proofs.Awaiting.{awaited-there}
 use Rattle.fsb_tied.proofs.CarryingRuns.{carries-awaited}
 use Rattle.fsb_tied.proofs.Chains.{at-gone, at-there, first-left, link_of, links_at, none-left, others-left, same-left}
-use Rattle.fsb_tied.proofs.InTurn.{HasAwaited, earlier-ended, ended-by, ended-later, ended-parts, has-awaited, not-so, snooped-before, snooped-before-end, unended-at-end, unended-at-response}
+use Rattle.fsb_tied.proofs.InTurn.{HasAwaited, earlier-ended, ended-by, ended-later, ended-parts, has-awaited, not-so}
+use Rattle.fsb_tied.proofs.InTurn.{snooped-before, snooped-before-end, unended-at-end, unended-at-response}
 use Rattle.fsb_tied.proofs.MovedOn.{moved-more, unmoved}
 use Rattle.fsb_tied.proofs.Moving.{Moves, end-on, moved-from, moved-parts, moves-parts}
 

@@ -1,5 +1,6 @@
 -- Data of one request at most are on the bus, from its response up to its end.
-use Rattle.std.proofs.Common.{ℕ, ◌+◌, ◌<◌, ◌≡◌, true, false, not, ◌&&◌, ◌||◌, Some, sym, ap, subst, ◌∙◌, arith, inl, inr}
+use Rattle.std.proofs.Common.{ℕ, ◌+◌, ◌<◌, ◌≡◌, true, false, not, ◌&&◌, ◌||◌, Some, sym, ap, subst, ◌∙◌, arith, inl}
+use Rattle.std.proofs.Common.{inr}
 use Rattle.std.proofs.lemmas.Bool.{and_from, and_parts, both_ways, cases_Bool, cases_lt, not-true, or_left, or_right}
 use Rattle.fsb_timely.specs.Grants.{is_end_at, is_ended, snooped_at}
 use Rattle.fsb_timely.specs.Past.{Past, SnoopEnd}
@@ -8,8 +9,10 @@ use Rattle.fsb_coherent.specs.Facts.{does_end_on, does_respond_on}
 use Rattle.fsb_coherent.specs.Relation.{is_moved_below}
 use Rattle.fsb_tied.proofs.AnswersInOrder.{AnswersInOrder}
 use Rattle.fsb_tied.proofs.Awaiting.{awaited-there}
-use Rattle.fsb_tied.proofs.InTurn.{earlier-ended, ended-by, ended-later, ended-parts, not-so, snooped-before, unended-at-response}
-use Rattle.fsb_tied.proofs.Moving.{EndsOn, IsMoved, Moves, end-on, ends-on, moved-from, moved-parts, moves-from, moves-parts}
+use Rattle.fsb_tied.proofs.InTurn.{earlier-ended, ended-by, ended-later, ended-parts, not-so, snooped-before}
+use Rattle.fsb_tied.proofs.InTurn.{unended-at-response}
+use Rattle.fsb_tied.proofs.Moving.{EndsOn, IsMoved, Moves, end-on, ends-on, moved-from, moved-parts, moves-from}
+use Rattle.fsb_tied.proofs.Moving.{moves-parts}
 use Rattle.fsb_tied.proofs.RepliesSeen.{same-both}
 
 both-firsts : (p : Past) (t u : ℕ) (s e : SnoopEnd) → snooped_at p t ≡ Some s → snooped_at p u ≡ Some e → t ≡ u

@@ -1,5 +1,6 @@
 -- What coherence says of a timely run, in the words of the run: who has a line for itself, and who writes one back.
-use Rattle.std.proofs.Common.{ℕ, ◌<◌, ◌≤◌, ◌≡◌, ◌≢◌, true, false, not, ◌&&◌, ◌||◌, nat_eq, [], length, sym, ◌∙◌, refl, inl, inr, arith}
+use Rattle.std.proofs.Common.{ℕ, ◌<◌, ◌≤◌, ◌≡◌, ◌≢◌, true, false, not, ◌&&◌, ◌||◌, nat_eq, [], length, sym, ◌∙◌, refl}
+use Rattle.std.proofs.Common.{inl, inr, arith}
 use Rattle.std.proofs.lemmas.Bool.{and_parts, cases_Bool, eqb-false, eqb-true}
 use Rattle.fsb_count.specs.Options.{is_some_and}
 use Rattle.fsb_count.proofs.Interface.{any_where-off}
@@ -32,7 +33,8 @@ alone-with-write-back : (p : Past) (line n a b first : ℕ) (x : MemoryLine) →
     → IsOpen p a line n (record { kind = WriteBack; number = first }) → b ≢ a → holds_line p b line n ≡ false
 alone-with-write-back p line n a b first x h asks other =
     let asked = h.tied.opened a (record { kind = WriteBack; number = first }) asks in
-    let modified : is_modified (x.state a) ≡ true = h.ordered.suited a (record { kind = WriteBack; number = first }) asked in
+    let modified : is_modified (x.state a) ≡ true =
+    h.ordered.suited a (record { kind = WriteBack; number = first }) asked in
     let sole : is_sole (x.state a) ≡ true = modified_is_sole (x.state a) modified in
     sym (h.tied.held b) ∙ h.ordered.alone a sole b other
 
@@ -40,7 +42,8 @@ alone-with-write-back p line n a b first x h asks other =
 pub held-nowhere-else : (p : Past) (line n a first : ℕ) (x : MemoryLine) → IsTiedTo p line n x
     → IsOpen p a line n (record { kind = WriteBack; number = first }) → is_held_elsewhere p a line n ≡ false
 unfolding is_held_elsewhere
-held-nowhere-else p line n a first x h asks = any_where-off (λ b. not (nat_eq b a) && holds_line p b line n) 4 (λ b l. none b)
+held-nowhere-else p line n a first x h asks =
+    any_where-off (λ b. not (nat_eq b a) && holds_line p b line n) 4 (λ b l. none b)
   where
     none : (b : ℕ) → (not (nat_eq b a) && holds_line p b line n) ≡ false
     none b = elim (cases_Bool (nat_eq b a)) [
@@ -53,12 +56,15 @@ pub one-dirty : (p : Past) (line n a b : ℕ) (x : MemoryLine) → IsTiedTo p li
     → is_dirty p b line n ≡ true → a ≡ b
 unfolding is_dirty is_exclusive
 one-dirty p line n a b x h dirty other =
-    let alone = and_parts (is_exclusive p a line n) (is_some_and (latest_grant p a line n) (λ grant. grant.owns || is_stored_since p a line n grant.first)) dirty in
-    let second = and_parts (is_exclusive p b line n) (is_some_and (latest_grant p b line n) (λ grant. grant.owns || is_stored_since p b line n grant.first)) other in
+    let alone = and_parts (is_exclusive p a line n)
+    (is_some_and (latest_grant p a line n) (λ grant. grant.owns || is_stored_since p a line n grant.first)) dirty in
+    let second = and_parts (is_exclusive p b line n)
+    (is_some_and (latest_grant p b line n) (λ grant. grant.owns || is_stored_since p b line n grant.first)) other in
     elim (cases_Bool (nat_eq a b)) [
       | inl same ↦ eqb-true a b same
       | inr apart ↦
-          let unheld : holds_line p b line n ≡ false = only_holder p line n x h a b alone.0 (λ e. eqb-false a b apart (sym e)) in
+          let unheld : holds_line p b line n ≡ false =
+          only_holder p line n x h a b alone.0 (λ e. eqb-false a b apart (sym e)) in
           absurd (not-exclusive p b line n unheld second.0)
     ]
   where

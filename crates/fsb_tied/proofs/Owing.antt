@@ -1,8 +1,10 @@
 -- A request that has begun, and is neither cancelled nor ended, is one that its agent owes.
-use Rattle.std.proofs.Common.{ℕ, zero, suc, ◌+◌, ◌-◌, ◌<◌, ◌≤◌, ◌≡◌, Bool, true, false, not, ◌&&◌, List, [], ◌∷◌, Some, None, length, nat_eq, nat_lt, refl, sym, ap, subst, ◌∙◌, inl, inr, arith}
+use Rattle.std.proofs.Common.{ℕ, zero, suc, ◌+◌, ◌-◌, ◌<◌, ◌≤◌, ◌≡◌, Bool, true, false, not, ◌&&◌, List, [], ◌∷◌, Some}
+use Rattle.std.proofs.Common.{None, length, nat_eq, nat_lt, refl, sym, ap, subst, ◌∙◌, inl, inr, arith}
 use Rattle.std.specs.List.{filter, list_any}
 use Rattle.std.specs.Option.{option_and_then, option_map}
-use Rattle.std.proofs.lemmas.Bool.{and_from, and_parts, both_ways, cases_Bool, cases_lt, eq-eqb, eqb-true, false_from_ne_true, le-leb, lt-ltb, ltb-true}
+use Rattle.std.proofs.lemmas.Bool.{and_from, and_parts, both_ways, cases_Bool, cases_lt, eq-eqb, eqb-true}
+use Rattle.std.proofs.lemmas.Bool.{false_from_ne_true, le-leb, lt-ltb, ltb-true}
 use Rattle.fsb_count.specs.Options.{is_at, is_before, is_some_and}
 use Rattle.fsb_count.proofs.Interface.{any_where-at, is_at-from, is_before-parts}
 use Rattle.fsb_encode.specs.declared.request.Request.{Request}
@@ -23,7 +25,8 @@ use Rattle.fsb_timely.specs.Timely.{Timely}
 use Rattle.fsb_timely.specs.Wants.{is_asked_for, owed}
 use Rattle.fsb_timely.proofs.Interface.{cancelled-told, moment-at, moment_of}
 use Rattle.fsb_lawful.specs.Beginning.{KeepsBounds}
-use Rattle.fsb_lawful.proofs.Interface.{IsListed, any-from, any-kept, any-listed, length-cut, map-some, outstanding-of, owing-then, run_to-agrees}
+use Rattle.fsb_lawful.proofs.Interface.{IsListed, any-from, any-kept, any-listed, length-cut, map-some, outstanding-of}
+use Rattle.fsb_lawful.proofs.Interface.{owing-then, run_to-agrees}
 use Rattle.fsb_coherent.specs.Awaits.{cancelled_in}
 use Rattle.fsb_coherent.specs.Relation.{IsOpen, is_cancelled_below}
 use Rattle.fsb_tied.proofs.Beginnings.{IsBegunWant, begun-shown, begun-want}

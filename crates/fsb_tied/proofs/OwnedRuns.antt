@@ -18,7 +18,8 @@ use Rattle.fsb_tied.proofs.TiedRuns.{events-may-happen}
 abbrev line-at : Run → ℕ → ℕ → MemoryLine
 line-at r line n = run (unheld []) (events_below (past_of r) line n)
 
-tied-at : (r : Run) (line n : ℕ) → Timely r → KeepsBounds r.plan → n ≤ length r.trace → IsTiedTo (past_of r) line n (line-at r line n)
+tied-at : (r : Run) (line n : ℕ) → Timely r → KeepsBounds r.plan → n ≤ length r.trace
+    → IsTiedTo (past_of r) line n (line-at r line n)
 tied-at r line n h bounds l = (events-may-happen r line n [] h bounds l).1
 
 pub alone-in-run : (r : Run) (a b line n : ℕ) → Timely r → KeepsBounds r.plan → n ≤ length r.trace

@@ -1,5 +1,6 @@
 -- A line with a deferral that is not replied to is pending: requests for it are retried.
-use Rattle.std.proofs.Common.{ℕ, zero, suc, ◌+◌, ◌<◌, ◌≤◌, ◌≡◌, true, false, not, ◌&&◌, List, Option, Some, length, slice_index, take, nat_eq, refl, sym, ap, subst, ◌∙◌, arith, inl, inr}
+use Rattle.std.proofs.Common.{ℕ, zero, suc, ◌+◌, ◌<◌, ◌≤◌, ◌≡◌, true, false, not, ◌&&◌, List, Option, Some, length}
+use Rattle.std.proofs.Common.{slice_index, take, nat_eq, refl, sym, ap, subst, ◌∙◌, arith, inl, inr}
 use Rattle.std.specs.Option.{option_and_then, option_map}
 use Rattle.std.proofs.lemmas.Bool.{and_from, and_parts, cases_lt, eq-eqb, eqb-true, false_from_ne_true}
 use Rattle.std.proofs.lemmas.List.{take-append-le, take_all}
@@ -16,13 +17,15 @@ use Rattle.fsb_trace.specs.Flight.{reply_number_of}
 use Rattle.fsb_trace.specs.Outcome.{is_deferral, is_settled_deferred, settled_by, settled_outcome_of}
 use Rattle.fsb_trace.specs.Requests.{line_of, live_clock_of, live_count}
 use Rattle.fsb_trace.specs.Snoop.{snoop_end_of}
-use Rattle.fsb_trace.proofs.Interface.{AgreeTo-sym, live_below_count, live_clock_of-stays, request_at-agree, settled_outcome_of-ended, snoop_end_of-stays}
+use Rattle.fsb_trace.proofs.Interface.{AgreeTo-sym, live_below_count, live_clock_of-stays, request_at-agree}
+use Rattle.fsb_trace.proofs.Interface.{settled_outcome_of-ended, snoop_end_of-stays}
 use Rattle.fsb_timely.specs.Grants.{snooped_at}
 use Rattle.fsb_timely.specs.Moments.{agent_at, claim_at, effective_choice, number_of_turn, snoop_end_with, turns_in}
 use Rattle.fsb_timely.specs.Past.{Claim, SnoopEnd}
 use Rattle.fsb_timely.specs.Runs.{Run, moments_below, past_of, past_to, run_to}
 use Rattle.fsb_timely.specs.Timely.{Timely}
-use Rattle.fsb_timely.proofs.Interface.{length-moments, line_of-agree, moment-snooped, settled_by-agree, snoop_of, snooped-there}
+use Rattle.fsb_timely.proofs.Interface.{length-moments, line_of-agree, moment-snooped, settled_by-agree, snoop_of}
+use Rattle.fsb_timely.proofs.Interface.{snooped-there}
 use Rattle.fsb_coherent.specs.Relation.{deferral_at, deferred_to, defers_line}
 use Rattle.fsb_lawful.proofs.Interface.{and-then, map-some, past-cut, run_to-agrees, some-and, turned-at}
 use Rattle.fsb_tied.proofs.RepliesSeen.{reply-snooped}

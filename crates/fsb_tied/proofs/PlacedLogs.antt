@@ -1,5 +1,6 @@
 -- The accesses of a log that follows lawful scripts lie within one line each.
-use Rattle.std.proofs.Common.{◌≡◌, ℕ, zero, suc, ◌+◌, Bool, true, false, ◌&&◌, ◌⊎◌, List, [], ◌∷◌, ◌++◌, map, take, length, slice_get, Option, Some, None, unwrap_or, refl, inl, inr}
+use Rattle.std.proofs.Common.{◌≡◌, ℕ, zero, suc, ◌+◌, Bool, true, false, ◌&&◌, ◌⊎◌, List, [], ◌∷◌, ◌++◌, map, take}
+use Rattle.std.proofs.Common.{length, slice_get, Option, Some, None, unwrap_or, refl, inl, inr}
 use Rattle.std.proofs.lemmas.Bool.{and_parts, cases_Bool, eq-eqb}
 use Rattle.std.specs.Prelude.{◌==◌, nat_le}
 use Rattle.std.specs.List.{filter, list_all}
@@ -9,7 +10,8 @@ use Rattle.fsb_access.specs.declared.access.Access.TheVariants.{Load, Store}
 use Rattle.fsb_access.specs.declared.item.Item.{Item}
 use Rattle.fsb_access.specs.declared.item.Item.TheVariants.{Idle, Locked, One}
 use Rattle.fsb_access.specs.declared.log.Done.{Done}
-use Rattle.fsb_access.specs.ScriptOrder.{InOrder, Step, accesses_from, accesses_of, script_of, step_of, steps_from, steps_of_item}
+use Rattle.fsb_access.specs.ScriptOrder.{InOrder, Step, accesses_from, accesses_of, script_of, step_of, steps_from}
+use Rattle.fsb_access.specs.ScriptOrder.{steps_of_item}
 use Rattle.fsb_script.specs.Bounds.{is_lawful_item, is_lawful_script, is_lock_apart, is_lock_size}
 use Rattle.fsb_tied.proofs.LineBytes.{is_placed}
 

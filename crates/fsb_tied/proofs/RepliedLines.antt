@@ -1,5 +1,6 @@
 -- The snoop end of a reply that grants a line: it is for the line's deferral, and HIT# tells what it told there.
-use Rattle.std.proofs.Common.{ℕ, ◌+◌, ◌<◌, ◌≤◌, ◌≡◌, Bool, true, false, ◌&&◌, ◌||◌, Option, Some, None, length, slice_index, refl, sym, ap, ◌∙◌, arith}
+use Rattle.std.proofs.Common.{ℕ, ◌+◌, ◌<◌, ◌≤◌, ◌≡◌, Bool, true, false, ◌&&◌, ◌||◌, Option, Some, None, length}
+use Rattle.std.proofs.Common.{slice_index, refl, sym, ap, ◌∙◌, arith}
 use Rattle.std.specs.Option.{option_and_then}
 use Rattle.std.proofs.lemmas.Bool.{both_ways}
 use Rattle.std.proofs.Math.Bool.{or-false}
@@ -19,9 +20,11 @@ use Rattle.fsb_trace.specs.Flight.{reply_number_of}
 use Rattle.fsb_trace.specs.Outcome.{is_deferral, is_settled_deferred, outcome_by_kind}
 use Rattle.fsb_trace.specs.Requests.{is_reply, is_reply_kind}
 use Rattle.fsb_trace.specs.Snoop.{line_at_snoop_end}
-use Rattle.fsb_trace.proofs.Interface.{AgreeTo-sym, line_at-agree, live_clock_of-stays, live_request_of-at, live_request_of-stays, snoop_end_of-rises, snoop_end_of-stays}
+use Rattle.fsb_trace.proofs.Interface.{AgreeTo-sym, line_at-agree, live_clock_of-stays, live_request_of-at}
+use Rattle.fsb_trace.proofs.Interface.{live_request_of-stays, snoop_end_of-rises, snoop_end_of-stays}
 use Rattle.fsb_timely.specs.Grants.{is_owning, snooped_at}
-use Rattle.fsb_timely.specs.Moments.{grant_to, is_answered_by, is_owner_request, is_shared_at, number_of_turn, served_number, turns_in}
+use Rattle.fsb_timely.specs.Moments.{grant_to, is_answered_by, is_owner_request, is_shared_at, number_of_turn}
+use Rattle.fsb_timely.specs.Moments.{served_number, turns_in}
 use Rattle.fsb_timely.specs.Past.{Grant, SnoopEnd}
 use Rattle.fsb_timely.specs.Runs.{Run, past_of, past_to, run_to}
 use Rattle.fsb_timely.specs.Snoops.{is_held_elsewhere, number_served_at, was_hit_before}

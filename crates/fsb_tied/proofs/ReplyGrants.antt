@@ -1,5 +1,6 @@
 -- A reply grants the line of the request that it answers.
-use Rattle.std.proofs.Common.{ℕ, suc, ◌+◌, ◌<◌, ◌≤◌, ◌≡◌, true, false, List, Option, Some, None, length, refl, sym, ap, subst, ◌∙◌, arith, inl, inr}
+use Rattle.std.proofs.Common.{ℕ, suc, ◌+◌, ◌<◌, ◌≤◌, ◌≡◌, true, false, List, Option, Some, None, length, refl, sym, ap}
+use Rattle.std.proofs.Common.{subst, ◌∙◌, arith, inl, inr}
 use Rattle.std.specs.Option.{option_and_then}
 use Rattle.std.proofs.lemmas.Bool.{and_from, and_parts, cases_lt, eq-eqb, false_from_ne_true}
 use Rattle.fsb_count.specs.Options.{is_at, is_some_and}
@@ -18,8 +19,11 @@ use Rattle.fsb_trace.specs.Outcome.{is_deferral, is_settled_deferred}
 use Rattle.fsb_trace.specs.Requests.{is_reply, is_reply_kind, live_clock_of, live_request_of}
 use Rattle.fsb_trace.specs.Snoop.{snoop_end_of}
 use Rattle.fsb_trace.specs.Winner.{begins_at, is_agent, is_same_agent, winner_at}
-use Rattle.fsb_trace.proofs.Interface.{line_at-agree, live_clock_of-rises, request_at-agree, snoop_end_of-rises, winner_at-agree}
-use Rattle.fsb_timely.specs.Moments.{agent_at, claim_at, gives_line, grant_for, grant_of, grant_to, is_answered_by, is_owner_request, is_shared_at, live_claim_of, makes_grant, served_number, turns_in}
+use Rattle.fsb_trace.proofs.Interface.{line_at-agree, live_clock_of-rises, request_at-agree, snoop_end_of-rises}
+use Rattle.fsb_trace.proofs.Interface.{winner_at-agree}
+use Rattle.fsb_timely.specs.Moments.{agent_at, claim_at, gives_line, grant_for, grant_of, grant_to, is_answered_by}
+use Rattle.fsb_timely.specs.Moments.{is_owner_request, is_shared_at, live_claim_of, makes_grant, served_number}
+use Rattle.fsb_timely.specs.Moments.{turns_in}
 use Rattle.fsb_timely.specs.Past.{Claim, Past, SnoopEnd}
 use Rattle.fsb_timely.specs.Runs.{Run, past_of, run_to}
 use Rattle.fsb_timely.specs.Timely.{Timely}

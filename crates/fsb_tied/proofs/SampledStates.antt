@@ -1,4 +1,5 @@
--- The states of a line in the machine at the sample of a clock are those of the run: the response and the hits of the clock
+-- The states of a line in the machine at the sample of a clock are those of the run: the response and the hits of
+-- the clock
 -- are counted, and nothing else of it.
 use Rattle.std.proofs.Common.{ℕ, ◌<◌, ◌≤◌, ◌≡◌, ◌++◌, Bool, true, false, length, refl, sym, arith}
 use Rattle.fsb_line.specs.declared.state.Mesi.{Mesi}
@@ -19,7 +20,8 @@ use Rattle.fsb_tied.proofs.TiedRuns.{events-may-happen}
 
 -- a state by who holds the line, has it for itself and is dirty on it
 state-told : (p : Past) (a line n : ℕ) (state : Mesi) → is_held state ≡ holds_line p a line n
-    → is_sole state ≡ is_exclusive p a line n → is_modified state ≡ is_dirty p a line n → state ≡ line_state_of p a line n
+    → is_sole state ≡ is_exclusive p a line n → is_modified state ≡ is_dirty p a line n
+    → state ≡ line_state_of p a line n
 unfolding line_state_of
 state-told p a line n Invalid held sole dirty = rw (line_state_of, ← held) refl
 state-told p a line n Shared held sole dirty = rw (line_state_of, ← held, ← sole) refl
@@ -28,7 +30,8 @@ state-told p a line n Modified held sole dirty = rw (line_state_of, ← held, �
 
 -- with the response and the hits of n
 pub state-at-sample : (r : Run) (a line n : ℕ) (bytes : Bytes) → Timely r → KeepsBounds r.plan → n < length r.trace
-    → (run (run (unheld bytes) (events_below (past_of r) line n)) (responds_on (past_of r) line n ++ hits_on (past_of r) line n)).state a
+    → (run (run (unheld bytes) (events_below (past_of r) line n))
+    (responds_on (past_of r) line n ++ hits_on (past_of r) line n)).state a
     ≡ line_state_of (past_of r) a line n
 state-at-sample r a line n bytes h bounds l =
     let p : Past = past_of r in
@@ -36,7 +39,8 @@ state-at-sample r a line n bytes h bounds l =
     let tied = (events-may-happen r line n bytes h bounds (omega arith)).1 in
     let facts = clock-facts r line n h bounds l in
     let responded = responds-step p line n x facts.responds tied.valued tied.tied in
-    let hit = goes-on x (responds_on p line n) (hits_on p line n) (AfterResponse p line n) (AfterHits p line n) responded
+    let hit = goes-on x (responds_on p line n) (hits_on p line n) (AfterResponse p line n) (AfterHits p line n)
+    responded
     (λ y s. hits-step p line n y facts.accesses s) in
     let state : Mesi = (run x (responds_on p line n ++ hits_on p line n)).state a in
     state-told p a line n state (hit.1.held a) (hit.1.sole a) (hit.1.modified a)

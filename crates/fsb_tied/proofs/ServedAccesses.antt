@@ -1,6 +1,8 @@
 -- The accesses of a clock of a timely run are served: those of hits, and those that come with the end of another line.
-use Rattle.std.proofs.Common.{ℕ, ◌+◌, ◌<◌, ◌≡◌, Bool, true, false, not, ◌&&◌, ◌||◌, List, [], ◌∷◌, Some, length, nat_eq, refl, sym, ap, subst, ◌∙◌, arith, inl, inr}
-use Rattle.std.proofs.lemmas.Bool.{and_from, and_parts, both_ways, cases_Bool, eq-eqb, eqb-true, not-true, or_left, or_right}
+use Rattle.std.proofs.Common.{ℕ, ◌+◌, ◌<◌, ◌≡◌, Bool, true, false, not, ◌&&◌, ◌||◌, List, [], ◌∷◌, Some, length, nat_eq}
+use Rattle.std.proofs.Common.{refl, sym, ap, subst, ◌∙◌, arith, inl, inr}
+use Rattle.std.proofs.lemmas.Bool.{and_from, and_parts, both_ways, cases_Bool, eq-eqb, eqb-true, not-true, or_left}
+use Rattle.std.proofs.lemmas.Bool.{or_right}
 use Rattle.std.specs.List.{list_all, list_any}
 use Rattle.std.specs.Option.{option_and_then}
 use Rattle.fsb_count.specs.Options.{is_some_and}
@@ -10,8 +12,10 @@ use Rattle.fsb_trace.specs.Requests.{live_clock_of}
 use Rattle.fsb_access.specs.declared.item.Item.{Item}
 use Rattle.fsb_access.specs.declared.log.Done.{Done}
 use Rattle.fsb_access.specs.ScriptOrder.{Step, step_of}
-use Rattle.fsb_timely.specs.Completions.{Completed, brings_at, completed_of_item, completes_by, is_arrival, is_brought, is_there}
-use Rattle.fsb_timely.specs.Grants.{ended_requests, grant_at, has_arrived, holds_line, is_end_at, is_exclusive, is_granted, is_ready, snooped_at}
+use Rattle.fsb_timely.specs.Completions.{Completed, brings_at, completed_of_item, completes_by, is_arrival, is_brought}
+use Rattle.fsb_timely.specs.Completions.{is_there}
+use Rattle.fsb_timely.specs.Grants.{ended_requests, grant_at, has_arrived, holds_line, is_end_at, is_exclusive}
+use Rattle.fsb_timely.specs.Grants.{is_granted, is_ready, snooped_at}
 use Rattle.fsb_timely.specs.Hits.{is_hit, is_met, is_served}
 use Rattle.fsb_timely.specs.Past.{Grant, Past, SnoopEnd}
 use Rattle.fsb_timely.specs.Runs.{Run, past_of}
@@ -146,7 +150,8 @@ granted-parts p a line t e =
     (s.0, g.0, s.1, s.2, eqb-true g.0.agent a names.0, eqb-true g.0.line line names.1)
 
 -- a line that is brought to an agent is one whose end it awaits
-pub brought-to : (r : Run) (a n : ℕ) (need : Need) → Timely r → n < length r.trace → is_brought (past_of r) a n need ≡ true
+pub brought-to : (r : Run) (a n : ℕ) (need : Need) → Timely r → n < length r.trace
+    → is_brought (past_of r) a n need ≡ true
     → is_brought_to (past_of r) need.line n a ≡ true
 unfolding is_brought brings_at is_brought_to is_end_at is_awaited_for awaited_by_grant grant_at is_some_and
 brought-to r a n need h l e =

@@ -1,5 +1,6 @@
 -- The snoop end of each clock settles in order.
-use Rattle.std.proofs.Common.{ℕ, ◌<◌, ◌≡◌, ◌≢◌, Bool, true, false, if◌then◌else◌, Some, None, length, refl, sym, ap, subst, ◌∙◌, arith}
+use Rattle.std.proofs.Common.{ℕ, ◌<◌, ◌≡◌, ◌≢◌, Bool, true, false, if◌then◌else◌, Some, None, length, refl, sym, ap}
+use Rattle.std.proofs.Common.{subst, ◌∙◌, arith}
 use Rattle.fsb_encode.specs.declared.request.Kind.{Kind}
 use Rattle.fsb_encode.specs.declared.request.Kind.TheVariants.{Reply, Invalidate, Read, WriteBack, Upgrade}
 use Rattle.fsb_line.specs.declared.purpose.Purpose.{Purpose}
@@ -22,7 +23,8 @@ use Rattle.fsb_tied.proofs.FewAgents.{few-agents}
 use Rattle.fsb_tied.proofs.RepliedLines.{replied-on}
 use Rattle.fsb_tied.proofs.SnoopClaims.{IsClaimed, IsSnooped, claimed-at, snooped-in}
 use Rattle.fsb_tied.proofs.SnoopOpen.{oldest-at-snoop-end, open-at-snoop-end, unevicted-at-snoop-end}
-use Rattle.fsb_tied.proofs.SnoopOutcomes.{kind-fits, snoop-claimed, snoop-clean, snoop-granted, snoop-handed, snoop-owned, snoop-seen}
+use Rattle.fsb_tied.proofs.SnoopOutcomes.{kind-fits, snoop-claimed, snoop-clean, snoop-granted, snoop-handed}
+use Rattle.fsb_tied.proofs.SnoopOutcomes.{snoop-owned, snoop-seen}
 use Rattle.fsb_tied.proofs.SnoopTold.{held-whole}
 
 -- what owns is asked for as such

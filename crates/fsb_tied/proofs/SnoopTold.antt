@@ -14,7 +14,8 @@ use Rattle.fsb_timely.specs.Grants.{holds_line, snooped_at}
 use Rattle.fsb_timely.specs.Hits.{is_dirty}
 use Rattle.fsb_timely.specs.Past.{Claim, Past, SnoopEnd}
 use Rattle.fsb_timely.specs.Runs.{Run, past_of, past_to, run_to}
-use Rattle.fsb_timely.specs.Snoops.{has_right_result, has_snoop_result, is_dirty_elsewhere, is_dirty_for, is_held_elsewhere, is_held_for, is_reply_end, was_hit_before}
+use Rattle.fsb_timely.specs.Snoops.{has_right_result, has_snoop_result, is_dirty_elsewhere, is_dirty_for}
+use Rattle.fsb_timely.specs.Snoops.{is_held_elsewhere, is_held_for, is_reply_end, was_hit_before}
 use Rattle.fsb_timely.specs.Timely.{Timely, holds_at, holds_in}
 use Rattle.fsb_timely.proofs.Interface.{done_below, going-alike, holds_line-same, is_dirty-alike, past-begins}
 use Rattle.fsb_lawful.proofs.Interface.{not-true, run_to-agrees, same-beq, snooped-to}

@@ -1,5 +1,6 @@
 -- What the events of a clock store into a line: the stores of the entries on it, in their order.
-use Rattle.std.proofs.Common.{◌≡◌, ℕ, Bool, true, false, not, if◌then◌else◌, nat_eq, is_some, List, [], ◌∷◌, ◌++◌, map, fold, Option, Some, None, refl, ◌∙◌, inl, inr}
+use Rattle.std.proofs.Common.{◌≡◌, ℕ, Bool, true, false, not, if◌then◌else◌, nat_eq, is_some, List, [], ◌∷◌, ◌++◌, map}
+use Rattle.std.proofs.Common.{fold, Option, Some, None, refl, ◌∙◌, inl, inr}
 use Rattle.std.proofs.lemmas.Bool.{and_parts, cases_Bool}
 use Rattle.std.specs.List.{filter, list_all}
 use Rattle.std.specs.Option.{option_and_then, option_map_or}
@@ -7,16 +8,20 @@ use Rattle.fsb_count.specs.Options.{is_some_and}
 use Rattle.fsb_access.specs.declared.log.Done.{Done}
 use Rattle.fsb_line.specs.declared.purpose.Purpose.{Purpose}
 use Rattle.fsb_line.specs.Events.{Event, after, stored}
-use Rattle.fsb_line.specs.Events.Event.{Begins, Drops, Ends, IsCancelled, IsDeferred, IsGranted, IsHanded, IsLost, IsReplied, IsRetried, IsUpgraded, IsWritten, Loads, Responds, Stores}
+use Rattle.fsb_line.specs.Events.Event.{Begins, Drops, Ends, IsCancelled, IsDeferred, IsGranted, IsHanded, IsLost}
+use Rattle.fsb_line.specs.Events.Event.{IsReplied, IsRetried, IsUpgraded, IsWritten, Loads, Responds, Stores}
 use Rattle.fsb_line.specs.Line.{Bytes, MemoryLine}
 use Rattle.fsb_line.specs.LineRuns.{run, stored_by_all}
 use Rattle.fsb_trace.specs.declared.outcome.Outcome.{Outcome}
-use Rattle.fsb_trace.specs.declared.outcome.Outcome.TheVariants.{Deferred, Failed, Granted, Handed, Replied, Retried, Upgraded, Written}
+use Rattle.fsb_trace.specs.declared.outcome.Outcome.TheVariants.{Deferred, Failed, Granted, Handed, Replied, Retried}
+use Rattle.fsb_trace.specs.declared.outcome.Outcome.TheVariants.{Upgraded, Written}
 use Rattle.fsb_timely.specs.Past.{Claim, Past, SnoopEnd}
 use Rattle.fsb_timely.specs.Grants.{begun_at, is_rival, snooped_at}
 use Rattle.fsb_timely.specs.Scripts.{is_load}
 use Rattle.fsb_coherent.specs.Awaits.{awaited_at, cancelled_in, owner_at, purpose_of, purpose_wanted, responded_in}
-use Rattle.fsb_coherent.specs.LineEvents.{access_event, begin_events, moves_on, begins_on, cancel_events, cancels_on, change_of, changes_of, claimed_events, responds_on, settled_events, snoop_events, snoops_on}
+use Rattle.fsb_coherent.specs.LineEvents.{access_event, begin_events, moves_on, begins_on, cancel_events, cancels_on}
+use Rattle.fsb_coherent.specs.LineEvents.{change_of, changes_of, claimed_events, responds_on, settled_events}
+use Rattle.fsb_coherent.specs.LineEvents.{snoop_events, snoops_on}
 
 -- the stores of two lists of events, one after the other
 pub stored-append : (x : MemoryLine) (es fs : List Event) (bytes : Bytes)

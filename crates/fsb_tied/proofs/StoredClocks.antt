@@ -1,5 +1,6 @@
 -- What a clock stores into a line: the stores of its entries on the line, in their order.
-use Rattle.std.proofs.Common.{◌≡◌, ℕ, true, false, ◌⊎◌, ◌+◌, not, nat_eq, List, [], ◌∷◌, ◌++◌, map, Option, Some, None, refl, sym, ap, ◌∙◌, inl, inr, append_assoc}
+use Rattle.std.proofs.Common.{◌≡◌, ℕ, true, false, ◌⊎◌, ◌+◌, not, nat_eq, List, [], ◌∷◌, ◌++◌, map, Option, Some, None}
+use Rattle.std.proofs.Common.{refl, sym, ap, ◌∙◌, inl, inr, append_assoc}
 use Rattle.std.proofs.lemmas.Bool.{and_parts, cases_Bool, eqb-true}
 use Rattle.std.proofs.lemmas.List.Elements.{filter-append}
 use Rattle.std.specs.List.{filter, list_all}
@@ -17,11 +18,14 @@ use Rattle.fsb_timely.specs.Past.{Past}
 use Rattle.fsb_timely.specs.Scripts.{is_load}
 use Rattle.fsb_coherent.specs.Awaits.{Awaited, awaited_at}
 use Rattle.fsb_coherent.specs.Facts.{EndsInOrder, does_end_on}
-use Rattle.fsb_coherent.specs.LineEvents.{access_event, awaited_events, awaiting_stores, begins_on, cancels_on, responds_on, snoops_on, change_of, changes_of, end_events, ends_on, entries_on, events_of_ends, hits_on, is_of_other_line, others_on}
+use Rattle.fsb_coherent.specs.LineEvents.{access_event, awaited_events, awaiting_stores, begins_on, cancels_on}
+use Rattle.fsb_coherent.specs.LineEvents.{responds_on, snoops_on, change_of, changes_of, end_events, ends_on}
+use Rattle.fsb_coherent.specs.LineEvents.{entries_on, events_of_ends, hits_on, is_of_other_line, others_on}
 use Rattle.fsb_coherent.specs.BeforeSnoop.{events_before_snoop}
 use Rattle.fsb_coherent.specs.Relation.{chain_below, links_left}
 use Rattle.fsb_tied.specs.RunBytes.{stores_of}
-use Rattle.fsb_tied.proofs.StoredBytes.{accesses-store, begins-still, cancels-still, is_still, response-storeless, snoops-still, stored-append, storeless}
+use Rattle.fsb_tied.proofs.StoredBytes.{accesses-store, begins-still, cancels-still, is_still, response-storeless}
+use Rattle.fsb_tied.proofs.StoredBytes.{snoops-still, stored-append, storeless}
 
 -- the entries of n on the line that are no hits
 abbrev pub arrivals_on : Past → ℕ → ℕ → List Done

@@ -1,5 +1,6 @@
 -- Where memory takes the data of a request for a line, its end is awaited on the line, and its link has a giver.
-use Rattle.std.proofs.Common.{ℕ, ◌≡◌, Bool, true, false, not, ◌&&◌, ◌||◌, nat_eq, if◌then◌else◌, Option, Some, None, is_some, refl, ◌∙◌}
+use Rattle.std.proofs.Common.{ℕ, ◌≡◌, Bool, true, false, not, ◌&&◌, ◌||◌, nat_eq, if◌then◌else◌, Option, Some, None}
+use Rattle.std.proofs.Common.{is_some, refl, ◌∙◌}
 use Rattle.std.proofs.lemmas.Bool.{and_from, and_parts, both_ways}
 use Rattle.fsb_count.specs.Clocks.{first_where}
 use Rattle.fsb_count.specs.Options.{is_some_and}
@@ -7,7 +8,8 @@ use Rattle.fsb_count.proofs.Interface.{any_where-at, first_where-found}
 use Rattle.fsb_encode.specs.declared.request.Kind.{Kind}
 use Rattle.fsb_encode.specs.declared.request.Kind.TheVariants.{Invalidate, Read, Reply, Upgrade, WriteBack}
 use Rattle.fsb_trace.specs.declared.outcome.Outcome.{Outcome}
-use Rattle.fsb_trace.specs.declared.outcome.Outcome.TheVariants.{Deferred, Failed, Granted, Handed, Replied, Retried, Upgraded, Written}
+use Rattle.fsb_trace.specs.declared.outcome.Outcome.TheVariants.{Deferred, Failed, Granted, Handed, Replied, Retried}
+use Rattle.fsb_trace.specs.declared.outcome.Outcome.TheVariants.{Upgraded, Written}
 use Rattle.fsb_trace.specs.Outcome.{does_take}
 use Rattle.fsb_trace.specs.Requests.{is_write_back_kind}
 use Rattle.fsb_timely.specs.Grants.{holds_line, is_exclusive, snooped_at}

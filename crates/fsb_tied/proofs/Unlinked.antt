@@ -1,6 +1,8 @@
 -- An agent that has a line ready awaits no link of it.
-use Rattle.std.proofs.Common.{ℕ, zero, suc, ◌<◌, ◌≤◌, ◌≡◌, Bool, true, false, ◌||◌, List, [], ◌∷◌, ◌++◌, Option, Some, None, length, nat_eq, refl, sym, ap, subst, ◌∙◌, arith, inl, inr}
-use Rattle.std.proofs.lemmas.Bool.{both_ways, cases_Bool, cases_lt, eq-eqb, eqb-true, ne_eqb, or_from, or_left, or_parts, or_right}
+use Rattle.std.proofs.Common.{ℕ, zero, suc, ◌<◌, ◌≤◌, ◌≡◌, Bool, true, false, ◌||◌, List, [], ◌∷◌, ◌++◌, Option, Some}
+use Rattle.std.proofs.Common.{None, length, nat_eq, refl, sym, ap, subst, ◌∙◌, arith, inl, inr}
+use Rattle.std.proofs.lemmas.Bool.{both_ways, cases_Bool, cases_lt, eq-eqb, eqb-true, ne_eqb, or_from, or_left}
+use Rattle.std.proofs.lemmas.Bool.{or_parts, or_right}
 use Rattle.std.specs.Option.{option_and_then, option_map, option_map_or}
 use Rattle.fsb_count.specs.Clocks.{last_where}
 use Rattle.fsb_count.specs.Options.{is_some_and}
@@ -17,7 +19,9 @@ use Rattle.fsb_trace.specs.At.{request_at}
 use Rattle.fsb_trace.specs.declared.outcome.Outcome.TheVariants.{Written}
 use Rattle.fsb_trace.specs.Outcome.{outcome_by_kind}
 use Rattle.fsb_trace.specs.Requests.{is_write_back_kind}
-use Rattle.fsb_timely.specs.Grants.{grant_at, has_arrived, holds_line, is_claim_of, is_ended, is_evicted, is_granted, is_lost, is_ready, is_snooped, is_taken_away, is_written_back, latest_grant, snooped_at}
+use Rattle.fsb_timely.specs.Grants.{grant_at, has_arrived, holds_line, is_claim_of, is_ended, is_evicted, is_granted}
+use Rattle.fsb_timely.specs.Grants.{is_lost, is_ready, is_snooped, is_taken_away, is_written_back, latest_grant}
+use Rattle.fsb_timely.specs.Grants.{snooped_at}
 use Rattle.fsb_timely.specs.Past.{Grant, Past, SnoopEnd}
 use Rattle.fsb_timely.specs.Runs.{Run, past_of}
 use Rattle.fsb_timely.specs.Timely.{Timely}

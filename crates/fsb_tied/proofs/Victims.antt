@@ -1,10 +1,13 @@
 -- Lines of one cache set, and the victim among them.
-use Rattle.std.proofs.Common.{ℕ, zero, suc, ◌+◌, ◌<◌, ◌≤◌, ◌≡◌, Bool, true, false, not, ◌&&◌, List, [], ◌∷◌, Option, Some, None, min, nat_eq, refl, sym, ap, subst, ◌∙◌, inl, inr, arith}
+use Rattle.std.proofs.Common.{ℕ, zero, suc, ◌+◌, ◌<◌, ◌≤◌, ◌≡◌, Bool, true, false, not, ◌&&◌, List, [], ◌∷◌, Option}
+use Rattle.std.proofs.Common.{Some, None, min, nat_eq, refl, sym, ap, subst, ◌∙◌, inl, inr, arith}
 use Rattle.std.specs.List.{filter, filter_map, list_any, range_with_len}
 use Rattle.std.specs.Option.{option_and_then}
-use Rattle.std.proofs.lemmas.Bool.{and_from, and_parts, both_ways, cases_Bool, cases_lt, eq-eqb, eqb-true, false_from_ne_true, not-true, or_left, or_parts, or_right}
+use Rattle.std.proofs.lemmas.Bool.{and_from, and_parts, both_ways, cases_Bool, cases_lt, eq-eqb, eqb-true}
+use Rattle.std.proofs.lemmas.Bool.{false_from_ne_true, not-true, or_left, or_parts, or_right}
 use Rattle.fsb_timely.specs.Past.{Grant, Owing, Past}
-use Rattle.fsb_timely.specs.Grants.{grant_at, holds_line, is_exclusive, is_granted, is_rival, line_granted_at, lines_granted, set_of}
+use Rattle.fsb_timely.specs.Grants.{grant_at, holds_line, is_exclusive, is_granted, is_rival, line_granted_at}
+use Rattle.fsb_timely.specs.Grants.{lines_granted, set_of}
 use Rattle.fsb_timely.specs.Hits.{is_dirty}
 use Rattle.fsb_timely.specs.Wants.{is_asked_for, is_same_set, least_of, victim_of}
 use Rattle.fsb_timely.proofs.Interface.{holds_line-says}

@@ -1,5 +1,6 @@
 -- What an agent wants suits what it has, and lies in a cache set of which it has asked for no line.
-use Rattle.std.proofs.Common.{ℕ, ◌≡◌, ◌⊎◌, Bool, true, false, not, ◌&&◌, ◌||◌, List, [], Option, Some, None, length, nat_le, refl, ap, subst, inl, inr}
+use Rattle.std.proofs.Common.{ℕ, ◌≡◌, ◌⊎◌, Bool, true, false, not, ◌&&◌, ◌||◌, List, [], Option, Some, None, length}
+use Rattle.std.proofs.Common.{nat_le, refl, ap, subst, inl, inr}
 use Rattle.std.specs.List.{find}
 use Rattle.std.specs.Option.{option_map}
 use Rattle.std.proofs.lemmas.Bool.{and_from, and_parts, both_ways, false_from_ne_true, not-true}
@@ -13,7 +14,8 @@ use Rattle.fsb_timely.specs.Past.{Owing, Past}
 use Rattle.fsb_timely.specs.Grants.{holds_line, is_exclusive, is_rival}
 use Rattle.fsb_timely.specs.Hits.{is_dirty, is_met}
 use Rattle.fsb_timely.specs.Scripts.{Need, is_idling, needs_from, window}
-use Rattle.fsb_timely.specs.Wants.{is_asked_for, is_missing, is_same_set, kind_needed, may_upgrade, owed, request_of_kind, victim_of, want_for, want_of, write_back_of}
+use Rattle.fsb_timely.specs.Wants.{is_asked_for, is_missing, is_same_set, kind_needed, may_upgrade, owed}
+use Rattle.fsb_timely.specs.Wants.{request_of_kind, victim_of, want_for, want_of, write_back_of}
 use Rattle.fsb_timely.proofs.Interface.{find-passes, missing-parts}
 use Rattle.fsb_coherent.specs.Awaits.{purpose_of}
 use Rattle.fsb_coherent.specs.Facts.{suits_holder}

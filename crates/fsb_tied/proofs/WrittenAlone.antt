@@ -1,5 +1,6 @@
 -- At the snoop end of a write-back of a timely run no other agent holds its line.
-use Rattle.std.proofs.Common.{ℕ, ◌<◌, ◌≡◌, true, false, Option, Some, None, [], ◌&&◌, not, nat_eq, length, refl, sym, subst, ◌∙◌, arith}
+use Rattle.std.proofs.Common.{ℕ, ◌<◌, ◌≡◌, true, false, Option, Some, None, [], ◌&&◌, not, nat_eq, length, refl, sym}
+use Rattle.std.proofs.Common.{subst, ◌∙◌, arith}
 use Rattle.fsb_count.specs.Clocks.{any_where}
 use Rattle.fsb_count.specs.Options.{is_some_and}
 use Rattle.fsb_encode.specs.declared.request.Kind.{Kind}
@@ -52,7 +53,8 @@ claimed-alone r n s claim h bounds l there claims writes =
     let asks = open-at-snoop-end r n s claim h bounds l there claims in
     let kind : is_write_back_kind asks.kind ≡ true = rw asks.known at writes in
     let purpose = write-back-asks asks.kind asks.purpose kind asks.asks in
-    let stands = subst (λ k. IsOpen p claim.agent claim.line n (record { kind = k; number = s.first })) purpose asks.opened in
+    let stands = subst (λ k. IsOpen p claim.agent claim.line n (record { kind = k; number = s.first })) purpose
+    asks.opened in
     let tied = (events-may-happen r claim.line n [] h bounds (omega arith)).1 in
     held-nowhere-else p claim.line n claim.agent s.first (run (unheld []) (events_below p claim.line n)) tied stands
 
@@ -67,4 +69,5 @@ writes-back-alone r h bounds = record { alone = λ n s there writes. by-claim n 
         let tied = tied-snoop r n s there in
         let l = (snoop_end_of-clock r.trace tied.0 n tied.1.reached).within in
         let goes = past-begins r n h l in
-        rw e (held-elsewhere-to (past_of r) n goes claim.agent claim.line ∙ claimed-alone r n s claim h bounds l there e writes)
+        rw e (held-elsewhere-to (past_of r) n goes claim.agent claim.line
+        ∙ claimed-alone r n s claim h bounds l there e writes)

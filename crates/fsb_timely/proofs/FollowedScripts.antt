@@ -1,6 +1,10 @@
 -- The entries of an agent of a timely run are the accesses of its script up to its next item.
-use Rattle.std.proofs.Common.{ℕ, zero, suc, ◌+◌, ◌<◌, ◌≤◌, ◌≡◌, Bool, true, false, not, ◌&&◌, ◌||◌, nat_eq, nat_lt, nat_le, List, [], ◌∷◌, ◌++◌, map, length, take, slice_get, Option, Some, None, refl, sym, ap, subst, ◌∙◌, ◌⊎◌, inl, inr, arith, add-one, add-zero, zero-add, append-nil, append_assoc}
-use Rattle.std.proofs.lemmas.Bool.{cases_Bool, cases_lt, cases_order, and_parts, or_parts, eqb-true, eq-eqb, le-ltb, lt-ltb, leb-true, not-true}
+use Rattle.std.proofs.Common.{ℕ, zero, suc, ◌+◌, ◌<◌, ◌≤◌, ◌≡◌, Bool, true, false, not, ◌&&◌, ◌||◌, nat_eq, nat_lt}
+use Rattle.std.proofs.Common.{nat_le, List, [], ◌∷◌, ◌++◌, map, length, take, slice_get, Option, Some, None, refl, sym}
+use Rattle.std.proofs.Common.{ap, subst, ◌∙◌, ◌⊎◌, inl, inr, arith, add-one, add-zero, zero-add, append-nil}
+use Rattle.std.proofs.Common.{append_assoc}
+use Rattle.std.proofs.lemmas.Bool.{cases_Bool, cases_lt, cases_order, and_parts, or_parts, eqb-true, eq-eqb, le-ltb}
+use Rattle.std.proofs.lemmas.Bool.{lt-ltb, leb-true, not-true}
 use Rattle.std.proofs.lemmas.List.{map-append, take_all}
 use Rattle.std.proofs.lemmas.List.Elements.{filter-append}
 use Rattle.std.specs.List.{filter, list_any}
@@ -13,7 +17,9 @@ use Rattle.fsb_access.specs.declared.item.Item.{Item}
 use Rattle.fsb_access.specs.declared.item.Item.TheVariants.{One, Locked, Idle}
 use Rattle.fsb_access.specs.declared.log.Done.{Done}
 use Rattle.fsb_access.specs.ScriptOrder.{Step, accesses_from, accesses_of, steps_of, steps_of_item, step_of}
-use Rattle.fsb_timely.specs.Completions.{Completed, is_operand, is_access, is_completed, are_completed, is_arrival, completed_of_item, next_accesses, completed_if, of_all_agents, completed_at, entries_at, is_in_time}
+use Rattle.fsb_timely.specs.Completions.{Completed, is_operand, is_access, is_completed, are_completed, is_arrival}
+use Rattle.fsb_timely.specs.Completions.{completed_of_item, next_accesses, completed_if, of_all_agents, completed_at}
+use Rattle.fsb_timely.specs.Completions.{entries_at, is_in_time}
 use Rattle.fsb_timely.specs.Hits.{is_hit}
 use Rattle.fsb_timely.specs.Past.{Past}
 use Rattle.fsb_timely.specs.Runs.{Run, past_of}
@@ -43,7 +49,8 @@ none-earlier first end c (done ∷ log) l e =
     let above : first ≤ done.clock = leb-true first done.clock parts.0 in
     rw (le-ltb done.clock c (omega arith)) (none-earlier done.clock end c log (omega arith) rest.1)
 
-pub below-more : (first end c : ℕ) (log : List Done) → is_in_time first end log ≡ true → below (c + 1) log ≡ below c log ++ at c log
+pub below-more : (first end c : ℕ) (log : List Done) → is_in_time first end log ≡ true
+    → below (c + 1) log ≡ below c log ++ at c log
 unfolding is_in_time
 below-more first end c [] e = refl
 below-more first end c (done ∷ log) e =
@@ -53,11 +60,23 @@ below-more first end c (done ∷ log) e =
     elim (cases_order done.clock c) [
       | inl same ↦
           let none = none-earlier done.clock end c log (omega (arith, same)) rest.1 in
-          rw (lt-ltb done.clock (c + 1) (omega (arith, same)), le-ltb done.clock c (omega (arith, same)), eq-eqb done.clock c same)
+          rw (
+            lt-ltb done.clock (c + 1) (omega (arith, same)),
+            le-ltb done.clock c (omega (arith, same)),
+            eq-eqb done.clock c same,
+          )
           (ap (λ xs. done ∷ xs) (more ∙ ap (λ xs. xs ++ at c log) none) ∙ sym (ap (λ xs. xs ++ done ∷ at c log) none))
       | inr other ↦ elim other [
-        | inl l ↦ rw (lt-ltb done.clock (c + 1) (omega arith), lt-ltb done.clock c l, differs done.clock c (λ same. omega arith)) (ap (λ xs. done ∷ xs) more)
-        | inr l ↦ rw (le-ltb done.clock (c + 1) (omega arith), le-ltb done.clock c (omega arith), differs done.clock c (λ same. omega arith)) more
+        | inl l ↦ rw (
+          lt-ltb done.clock (c + 1) (omega arith),
+          lt-ltb done.clock c l,
+          differs done.clock c (λ same. omega arith),
+        ) (ap (λ xs. done ∷ xs) more)
+        | inr l ↦ rw (
+          le-ltb done.clock (c + 1) (omega arith),
+          le-ltb done.clock c (omega arith),
+          differs done.clock c (λ same. omega arith),
+        ) more
       ]
     ]
 
@@ -89,8 +108,10 @@ same-access (Store size addr value) (Store size' addr' value') e =
 same-completed : (x y : Completed) → is_completed x y ≡ true → x ≡ y
 unfolding is_completed
 same-completed x y e =
-    let three = and_parts (nat_eq x.agent y.agent && nat_eq x.step.item y.step.item && nat_eq x.step.part y.step.part) (is_access x.step.access y.step.access) e in
-    let two = and_parts (nat_eq x.agent y.agent && nat_eq x.step.item y.step.item) (nat_eq x.step.part y.step.part) three.0 in
+    let three = and_parts (nat_eq x.agent y.agent && nat_eq x.step.item y.step.item
+    && nat_eq x.step.part y.step.part) (is_access x.step.access y.step.access) e in
+    let two = and_parts (nat_eq x.agent y.agent && nat_eq x.step.item y.step.item)
+    (nat_eq x.step.part y.step.part) three.0 in
     let one = and_parts (nat_eq x.agent y.agent) (nat_eq x.step.item y.step.item) two.0 in
     let agent = eqb-true x.agent y.agent one.0 in
     let item = eqb-true x.step.item y.step.item one.1 in
@@ -113,7 +134,8 @@ same-list (x ∷ xs) (y ∷ ys) e =
 abbrev pub own : ℕ → List Completed → List Step
 own a xs = map (λ (x : Completed). x.step) (filter (λ x. nat_eq x.agent a) xs)
 
-pub steps-at : (a : ℕ) (log : List Done) → steps_of a log ≡ own a (map (λ (done : Done). record { agent = done.agent; step = step_of done }) log)
+pub steps-at : (a : ℕ) (log : List Done)
+    → steps_of a log ≡ own a (map (λ (done : Done). record { agent = done.agent; step = step_of done }) log)
 steps-at a [] = refl
 steps-at a (done ∷ log) =
     elim (cases_Bool (nat_eq done.agent a)) [
@@ -122,13 +144,16 @@ steps-at a (done ∷ log) =
     ]
 
 pub own-append : (a : ℕ) (xs ys : List Completed) → own a (xs ++ ys) ≡ own a xs ++ own a ys
-own-append a xs ys = ap (map (λ (x : Completed). x.step)) (filter-append (λ x. nat_eq x.agent a) xs ys) ∙ map-append (λ (x : Completed). x.step) _ _
+own-append a xs ys = ap (map (λ (x : Completed). x.step)) (filter-append (λ x. nat_eq x.agent a) xs ys)
+    ∙ map-append (λ (x : Completed). x.step) _ _
 
-own-none : (a b : ℕ) (steps : List Step) → nat_eq b a ≡ false → own a (map (λ step. record { agent = b; step = step }) steps) ≡ []
+own-none : (a b : ℕ) (steps : List Step) → nat_eq b a ≡ false
+    → own a (map (λ step. record { agent = b; step = step }) steps) ≡ []
 own-none a b [] f = refl
 own-none a b (step ∷ steps) f = rw f (own-none a b steps f)
 
-own-all : (a b : ℕ) (steps : List Step) → nat_eq b a ≡ true → own a (map (λ step. record { agent = b; step = step }) steps) ≡ steps
+own-all : (a b : ℕ) (steps : List Step) → nat_eq b a ≡ true
+    → own a (map (λ step. record { agent = b; step = step }) steps) ≡ steps
 own-all a b [] t = refl
 own-all a b (step ∷ steps) t = rw t (ap (λ xs. step ∷ xs) (own-all a b steps t))
 
@@ -137,41 +162,49 @@ unfolding completed_if next_accesses completed_of_item
 own-other p a b c false f = refl
 own-other p a b c true f = by (next_number p b c) (next_item p b c)
   where
-    by : (number : Option ℕ) (item : Option Item) → own a (option_map_or (λ n. option_map_or (completed_of_item b n) item []) number []) ≡ []
+    by : (number : Option ℕ) (item : Option Item)
+        → own a (option_map_or (λ n. option_map_or (completed_of_item b n) item []) number []) ≡ []
     by None item = refl
     by (Some n) None = refl
     by (Some n) (Some item) = own-none a b (steps_of_item n item) f
 
-own-same : (p : Past) (a c n : ℕ) (item : Item) → next_number p a c ≡ Some n → next_item p a c ≡ Some item → own a (completed_if p c true a) ≡ steps_of_item n item
+own-same : (p : Past) (a c n : ℕ) (item : Item) → next_number p a c ≡ Some n → next_item p a c ≡ Some item
+    → own a (completed_if p c true a) ≡ steps_of_item n item
 unfolding completed_if next_accesses completed_of_item
 own-same p a c n item e f = rw (e, f) (own-all a a (steps_of_item n item) (eq-eqb a a refl))
 
-four : (a : ℕ) (list : ℕ → List Completed) → own a (of_all_agents list) ≡ own a (list 0) ++ own a (list 1) ++ own a (list 2) ++ own a (list 3)
+four : (a : ℕ) (list : ℕ → List Completed)
+    → own a (of_all_agents list) ≡ own a (list 0) ++ own a (list 1) ++ own a (list 2) ++ own a (list 3)
 unfolding of_all_agents
 four a list =
     own-append a (list 0 ++ list 1 ++ list 2) (list 3)
     ∙ ap (λ xs. xs ++ own a (list 3)) (own-append a (list 0 ++ list 1) (list 2))
     ∙ ap (λ xs. xs ++ own a (list 2) ++ own a (list 3)) (own-append a (list 0) (list 1))
 
-pub own-agent : (p : Past) (a c : ℕ) (test : ℕ → Bool) → a < 4 → own a (of_all_agents (λ b. completed_if p c (test b) b)) ≡ own a (completed_if p c (test a) a)
+pub own-agent : (p : Past) (a c : ℕ) (test : ℕ → Bool) → a < 4
+    → own a (of_all_agents (λ b. completed_if p c (test b) b)) ≡ own a (completed_if p c (test a) a)
 own-agent p zero c test l =
     four 0 (λ b. completed_if p c (test b) b)
-    ∙ (λ i. own 0 (completed_if p c (test 0) 0) ++ own-other p 0 1 c (test 1) refl i ++ own-other p 0 2 c (test 2) refl i ++ own-other p 0 3 c (test 3) refl i)
+    ∙ (λ i. own 0 (completed_if p c (test 0) 0) ++ own-other p 0 1 c (test 1) refl i
+    ++ own-other p 0 2 c (test 2) refl i ++ own-other p 0 3 c (test 3) refl i)
     ∙ append-nil ((own 0 (completed_if p c (test 0) 0)) ++ [] ++ [])
     ∙ append-nil ((own 0 (completed_if p c (test 0) 0)) ++ [])
     ∙ append-nil (own 0 (completed_if p c (test 0) 0))
 own-agent p (suc zero) c test l =
     four 1 (λ b. completed_if p c (test b) b)
-    ∙ (λ i. own-other p 1 0 c (test 0) refl i ++ own 1 (completed_if p c (test 1) 1) ++ own-other p 1 2 c (test 2) refl i ++ own-other p 1 3 c (test 3) refl i)
+    ∙ (λ i. own-other p 1 0 c (test 0) refl i ++ own 1 (completed_if p c (test 1) 1)
+    ++ own-other p 1 2 c (test 2) refl i ++ own-other p 1 3 c (test 3) refl i)
     ∙ append-nil ((own 1 (completed_if p c (test 1) 1)) ++ [])
     ∙ append-nil (own 1 (completed_if p c (test 1) 1))
 own-agent p (suc (suc zero)) c test l =
     four 2 (λ b. completed_if p c (test b) b)
-    ∙ (λ i. own-other p 2 0 c (test 0) refl i ++ own-other p 2 1 c (test 1) refl i ++ own 2 (completed_if p c (test 2) 2) ++ own-other p 2 3 c (test 3) refl i)
+    ∙ (λ i. own-other p 2 0 c (test 0) refl i ++ own-other p 2 1 c (test 1) refl i
+    ++ own 2 (completed_if p c (test 2) 2) ++ own-other p 2 3 c (test 3) refl i)
     ∙ append-nil (own 2 (completed_if p c (test 2) 2))
 own-agent p (suc (suc (suc zero))) c test l =
     four 3 (λ b. completed_if p c (test b) b)
-    ∙ (λ i. own-other p 3 0 c (test 0) refl i ++ own-other p 3 1 c (test 1) refl i ++ own-other p 3 2 c (test 2) refl i ++ own 3 (completed_if p c (test 3) 3))
+    ∙ (λ i. own-other p 3 0 c (test 0) refl i ++ own-other p 3 1 c (test 1) refl i ++ own-other p 3 2 c (test 2)
+    refl i ++ own 3 (completed_if p c (test 3) 3))
 own-agent p (suc (suc (suc (suc a)))) c test l = absurd (omega arith)
 
 either-not : (x y : Bool) → (x && false && y) ≡ false
@@ -186,7 +219,8 @@ nothing-if : (p : Past) (a c : ℕ) → own a (completed_if p c false a) ≡ []
 unfolding completed_if
 nothing-if p a c = refl
 
-pieces : (p : Past) (a c n : ℕ) (item : Item) → next_number p a c ≡ Some n → next_item p a c ≡ Some item → (is_hit p a c ≡ true) ⊎ (is_arrival p a c ≡ true)
+pieces : (p : Past) (a c n : ℕ) (item : Item) → next_number p a c ≡ Some n → next_item p a c ≡ Some item
+    → (is_hit p a c ≡ true) ⊎ (is_arrival p a c ≡ true)
     → own a (completed_if p c (is_hit p a c) a) ++ own a (completed_if p c (is_arrival p a c) a) ≡ steps_of_item n item
 pieces p a c n item e f which =
     let same = own-same p a c n item e f in
@@ -204,8 +238,10 @@ pieces p a c n item e f which =
     ]
 
 -- where an agent has a hit or an arrival, its steps at the clock are those of its next item
-pub steps-completed : (r : Run) (a c n : ℕ) (item : Item) → Timely r → c < length r.trace → a < 4 → next_number (past_of r) a c ≡ Some n → next_item (past_of r) a c ≡ Some item
-    → (is_hit (past_of r) a c ≡ true) ⊎ (is_arrival (past_of r) a c ≡ true) → steps_of a (at c r.log) ≡ steps_of_item n item
+pub steps-completed : (r : Run) (a c n : ℕ) (item : Item) → Timely r → c < length r.trace → a < 4
+    → next_number (past_of r) a c ≡ Some n → next_item (past_of r) a c ≡ Some item
+    → (is_hit (past_of r) a c ≡ true) ⊎ (is_arrival (past_of r) a c ≡ true)
+    → steps_of a (at c r.log) ≡ steps_of_item n item
 unfolding completed_at entries_at past_of
 steps-completed r a c n item h l few e f which =
     let p = past_of r in
@@ -214,6 +250,7 @@ steps-completed r a c n item h l few e f which =
     let arrivals = own-agent p a c (λ b. is_arrival p b c) few in
     steps-at a (at c r.log)
     ∙ ap (own a) list
-    ∙ own-append a (of_all_agents (λ b. completed_if p c (is_hit p b c) b)) (of_all_agents (λ b. completed_if p c (is_arrival p b c) b))
+    ∙ own-append a (of_all_agents (λ b. completed_if p c (is_hit p b c) b))
+    (of_all_agents (λ b. completed_if p c (is_arrival p b c) b))
     ∙ (λ i. hits i ++ arrivals i)
     ∙ pieces p a c n item e f which

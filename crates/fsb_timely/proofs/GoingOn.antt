@@ -1,12 +1,16 @@
 -- What an agent has and does at a clock rests on the past below that clock.
-use Rattle.std.proofs.Common.{ℕ, zero, suc, ◌+◌, ◌%◌, ◌<◌, ◌≤◌, ◌≡◌, slice_get, Bool, true, false, not, ◌&&◌, ◌||◌, nat_eq, nat_le, [], Option, Some, None, refl, ap, ◌∙◌, arith}
+use Rattle.std.proofs.Common.{ℕ, zero, suc, ◌+◌, ◌%◌, ◌<◌, ◌≤◌, ◌≡◌, slice_get, Bool, true, false, not, ◌&&◌, ◌||◌}
+use Rattle.std.proofs.Common.{nat_eq, nat_le, [], Option, Some, None, refl, ap, ◌∙◌, arith}
 use Rattle.std.specs.List.{list_any}
 use Rattle.std.specs.Option.{option_map, option_map_or, option_and_then}
 use Rattle.fsb_count.specs.Options.{is_some_and}
 use Rattle.fsb_count.specs.Clocks.{AgreeBelow, last_where, any_where, from_clock, holds_since}
 use Rattle.fsb_count.proofs.Interface.{any_where-same}
 use Rattle.fsb_trace.specs.Requests.{is_write_back_kind}
-use Rattle.fsb_timely.specs.Grants.{is_owning, begun_at, snooped_at, ended_requests, is_end_at, grant_at, set_of, is_rival, is_claim_of, is_claim_of_other, is_snooped, is_granted, is_evicted, is_written_back, is_taken_away, is_lost, holds_line, latest_grant, is_ended, has_arrived, is_ready, is_named_by_other, is_sole_grant, is_exclusive}
+use Rattle.fsb_timely.specs.Grants.{is_owning, begun_at, snooped_at, ended_requests, is_end_at, grant_at, set_of}
+use Rattle.fsb_timely.specs.Grants.{is_rival, is_claim_of, is_claim_of_other, is_snooped, is_granted, is_evicted}
+use Rattle.fsb_timely.specs.Grants.{is_written_back, is_taken_away, is_lost, holds_line, latest_grant, is_ended}
+use Rattle.fsb_timely.specs.Grants.{has_arrived, is_ready, is_named_by_other, is_sole_grant, is_exclusive}
 use Rattle.fsb_timely.specs.Past.{Past}
 use Rattle.fsb_timely.specs.Growth.{GoesOn}
 use Rattle.fsb_timely.proofs.Since.{last_where-found}
@@ -33,7 +37,8 @@ from-same : (f g : ℕ → Bool) (n d : ℕ) → AgreeBelow n f g → AgreeBelow
 unfolding from_clock
 from-same f g n d a = record { same = λ c l. ap (λ b. nat_le d c && b) (a.same c l) }
 
-since-same : (gain gain' loss loss' : ℕ → Bool) (n : ℕ) → AgreeBelow n gain gain' → AgreeBelow n loss loss' → holds_since gain loss n ≡ holds_since gain' loss' n
+since-same : (gain gain' loss loss' : ℕ → Bool) (n : ℕ) → AgreeBelow n gain gain' → AgreeBelow n loss loss'
+    → holds_since gain loss n ≡ holds_since gain' loss' n
 unfolding holds_since
 since-same gain gain' loss loss' n a b =
     let last = last-same gain gain' n a in
@@ -58,64 +63,84 @@ pub grant-same : (n : ℕ) (p q : Past) (t : ℕ) → Alike n p q → t < n → 
 unfolding grant_at
 grant-same n p q t h l = ap (option_and_then (λ s. s.grant)) (snooped-same n p q t h l)
 
-granted-same : (n : ℕ) (p q : Past) (a line c : ℕ) → Alike n p q → c ≤ n → AgreeBelow c (is_granted p a line) (is_granted q a line)
+granted-same : (n : ℕ) (p q : Past) (a line c : ℕ) → Alike n p q → c ≤ n
+    → AgreeBelow c (is_granted p a line) (is_granted q a line)
 unfolding is_granted
 granted-same n p q a line c h l =
-    record { same = λ t m. ap (λ o. is_some_and o (λ grant. nat_eq grant.agent a && nat_eq grant.line line)) (grant-same n p q t h (omega arith)) }
+    record {
+      same = λ t m. ap (λ o. is_some_and o (λ grant. nat_eq grant.agent a && nat_eq grant.line line))
+          (grant-same n p q t h (omega arith));
+    }
 
 pub rival-same : (n : ℕ) (p q : Past) (line other : ℕ) → Alike n p q → is_rival p line other ≡ is_rival q line other
 unfolding is_rival set_of
-rival-same n p q line other h = let plan = h.same_plan in λ i. nat_eq (line % (plan i).cache) (other % (plan i).cache) && not (nat_eq line other)
+rival-same n p q line other h = let plan = h.same_plan in
+    λ i. nat_eq (line % (plan i).cache) (other % (plan i).cache) && not (nat_eq line other)
 
-lost-same : (n : ℕ) (p q : Past) (a line c : ℕ) → Alike n p q → c ≤ n → AgreeBelow c (is_lost p a line) (is_lost q a line)
+lost-same : (n : ℕ) (p q : Past) (a line c : ℕ) → Alike n p q → c ≤ n
+    → AgreeBelow c (is_lost p a line) (is_lost q a line)
 unfolding is_lost is_evicted is_written_back is_taken_away
 lost-same n p q a line c h l = record {
   same = λ t m.
       let begun = begun-same n p q t h (omega arith) in
       let snooped = snooped-same n p q t h (omega arith) in
-      let rival : (other : ℕ) → is_rival p other line ≡ is_rival q other line = λ other. rival-same n p q other line h in
+      let rival : (other : ℕ) → is_rival p other line ≡ is_rival q other line =
+      λ other. rival-same n p q other line h in
       λ i. is_some_and (begun i) (λ claim. nat_eq claim.agent a && rival claim.line i)
       || is_some_and (snooped i) (is_snooped (is_claim_of a line) is_write_back_kind)
       || is_some_and (snooped i) (is_snooped (is_claim_of_other a line) is_owning);
 }
 
-pub holds_line-same : (n : ℕ) (p q : Past) (a line c : ℕ) → Alike n p q → c ≤ n → holds_line p a line c ≡ holds_line q a line c
+pub holds_line-same : (n : ℕ) (p q : Past) (a line c : ℕ) → Alike n p q → c ≤ n
+    → holds_line p a line c ≡ holds_line q a line c
 unfolding holds_line
 holds_line-same n p q a line c h l =
-    since-same (is_granted p a line) (is_granted q a line) (is_lost p a line) (is_lost q a line) c (granted-same n p q a line c h l) (lost-same n p q a line c h l)
+    since-same (is_granted p a line) (is_granted q a line) (is_lost p a line) (is_lost q a line) c
+    (granted-same n p q a line c h l) (lost-same n p q a line c h l)
 
-latest-by : (n : ℕ) (p q : Past) (a line c : ℕ) → Alike n p q → c ≤ n → (o : Option ℕ) → last_where (is_granted p a line) c ≡ o → option_and_then (grant_at p) o ≡ option_and_then (grant_at q) o
+latest-by : (n : ℕ) (p q : Past) (a line c : ℕ) → Alike n p q → c ≤ n → (o : Option ℕ)
+    → last_where (is_granted p a line) c ≡ o → option_and_then (grant_at p) o ≡ option_and_then (grant_at q) o
 latest-by n p q a line c h l None e = refl
 latest-by n p q a line c h l (Some d) e =
     let below = (last_where-found (is_granted p a line) c d e).0 in grant-same n p q d h (omega arith)
 
-pub latest_grant-same : (n : ℕ) (p q : Past) (a line c : ℕ) → Alike n p q → c ≤ n → latest_grant p a line c ≡ latest_grant q a line c
+pub latest_grant-same : (n : ℕ) (p q : Past) (a line c : ℕ) → Alike n p q → c ≤ n
+    → latest_grant p a line c ≡ latest_grant q a line c
 unfolding latest_grant
 latest_grant-same n p q a line c h l =
     latest-by n p q a line c h l (last_where (is_granted p a line) c) refl
-    ∙ ap (option_and_then (grant_at q)) (last-same (is_granted p a line) (is_granted q a line) c (granted-same n p q a line c h l))
+    ∙ ap (option_and_then (grant_at q))
+    (last-same (is_granted p a line) (is_granted q a line) c (granted-same n p q a line c h l))
 
 pub ended-same : (n : ℕ) (p q : Past) (c first : ℕ) → Alike n p q → c ≤ n → is_ended p c first ≡ is_ended q c first
 unfolding is_ended is_end_at
 ended-same n p q c first h l =
-    any_where-same (λ t. is_end_at p t first) (λ t. is_end_at q t first) c (record { same = λ t m. ap (list_any (nat_eq first)) (ends-same n p q t h (omega arith)) })
+    any_where-same (λ t. is_end_at p t first) (λ t. is_end_at q t first) c
+    (record { same = λ t m. ap (list_any (nat_eq first)) (ends-same n p q t h (omega arith)) })
 
-pub is_ready-same : (n : ℕ) (p q : Past) (a line c : ℕ) → Alike n p q → c ≤ n → is_ready p a line c ≡ is_ready q a line c
+pub is_ready-same : (n : ℕ) (p q : Past) (a line c : ℕ) → Alike n p q → c ≤ n
+    → is_ready p a line c ≡ is_ready q a line c
 unfolding has_arrived
 is_ready-same n p q a line c h l =
     let latest = latest_grant-same n p q a line c h l in
     let ended : (first : ℕ) → is_ended p c first ≡ is_ended q c first = λ first. ended-same n p q c first h l in
     λ i. is_some_and (latest i) (λ grant. ended grant.first i)
 
-named-same : (n : ℕ) (p q : Past) (a line c : ℕ) → Alike n p q → c ≤ n → AgreeBelow c (is_named_by_other p a line) (is_named_by_other q a line)
+named-same : (n : ℕ) (p q : Past) (a line c : ℕ) → Alike n p q → c ≤ n
+    → AgreeBelow c (is_named_by_other p a line) (is_named_by_other q a line)
 unfolding is_named_by_other
 named-same n p q a line c h l =
-    record { same = λ t m. ap (λ o. is_some_and o (λ s. is_some_and s.claim (is_claim_of_other a line))) (snooped-same n p q t h (omega arith)) }
+    record {
+      same = λ t m. ap (λ o. is_some_and o (λ s. is_some_and s.claim (is_claim_of_other a line)))
+          (snooped-same n p q t h (omega arith));
+    }
 
-pub is_exclusive-same : (n : ℕ) (p q : Past) (a line c : ℕ) → Alike n p q → c ≤ n → is_exclusive p a line c ≡ is_exclusive q a line c
+pub is_exclusive-same : (n : ℕ) (p q : Past) (a line c : ℕ) → Alike n p q → c ≤ n
+    → is_exclusive p a line c ≡ is_exclusive q a line c
 unfolding is_exclusive
 is_exclusive-same n p q a line c h l =
     let held = holds_line-same n p q a line c h l in
     let latest = latest_grant-same n p q a line c h l in
-    let since = since-same (is_granted p a line) (is_granted q a line) (is_named_by_other p a line) (is_named_by_other q a line) c (granted-same n p q a line c h l) (named-same n p q a line c h l) in
+    let since = since-same (is_granted p a line) (is_granted q a line) (is_named_by_other p a line)
+    (is_named_by_other q a line) c (granted-same n p q a line c h l) (named-same n p q a line c h l) in
     λ i. held i && is_some_and (latest i) is_sole_grant && since i

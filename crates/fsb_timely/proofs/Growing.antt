@@ -52,7 +52,8 @@ timely_nothing plan = record {
   parity = at_no_clock _ plan;
 }
 
-pub empty-simulated : (plan : PlanView) → Simulated (record { plan = plan; choices = []; holds = []; trace = []; log = [] })
+pub empty-simulated : (plan : PlanView)
+    → Simulated (record { plan = plan; choices = []; holds = []; trace = []; log = [] })
 empty-simulated plan = record {
   timely = timely_nothing plan;
   carried = at_no_clock _ plan;

@@ -11,15 +11,18 @@ use Rattle.fsb_hazard.specs.Told.{Told}
 use Rattle.fsb_timely.specs.Asked.{IsChosen, IsHold}
 
 -- what answers join to has BNR# where it was there before, or one of them has it
-joined_bnr : (first : Choice) (answers : List Choice) → (fold join first answers).bnr ≡ (first.bnr || list_any (λ (answer : Choice). answer.bnr) answers)
+joined_bnr : (first : Choice) (answers : List Choice)
+    → (fold join first answers).bnr ≡ (first.bnr || list_any (λ (answer : Choice). answer.bnr) answers)
 joined_bnr first [] = sym (or-false first.bnr)
 joined_bnr first (answer ∷ answers) =
     joined_bnr (join first answer) answers ∙ or_assoc first.bnr answer.bnr (list_any (λ (a : Choice). a.bnr) answers)
 
-pub choice_kept : (objects : List (Option Told)) (k : ℕ) (request : Request) (choice : Choice) → IsJoined objects (Begun k request) choice → IsChosen objects k (record choice { bnr = false })
+pub choice_kept : (objects : List (Option Told)) (k : ℕ) (request : Request) (choice : Choice)
+    → IsJoined objects (Begun k request) choice → IsChosen objects k (record choice { bnr = false })
 choice_kept objects k request choice h = record { request = request; together = choice; joined = h; chosen = refl }
 
-pub hold_kept : (objects : List (Option Told)) (c : ℕ) (choice : Choice) → IsJoined objects (Clock c) choice → IsHold objects c choice.bnr
+pub hold_kept : (objects : List (Option Told)) (c : ℕ) (choice : Choice) → IsJoined objects (Clock c) choice
+    → IsHold objects c choice.bnr
 hold_kept objects c choice h = record {
   answers = h.answers;
   answered = h.answered;

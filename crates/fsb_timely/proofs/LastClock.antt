@@ -1,5 +1,6 @@
 -- The last clock of a run: up to it the run is itself.
-use Rattle.std.proofs.Common.{ℕ, zero, suc, ◌+◌, ◌<◌, ◌≤◌, ◌≡◌, true, false, nat_le, nat_lt, nat_eq, ◌&&◌, List, [], ◌∷◌, ◌++◌, length, take, sym, ap, refl, ◌∙◌, inl, inr, arith, add-one}
+use Rattle.std.proofs.Common.{ℕ, zero, suc, ◌+◌, ◌<◌, ◌≤◌, ◌≡◌, true, false, nat_le, nat_lt, nat_eq, ◌&&◌, List, []}
+use Rattle.std.proofs.Common.{◌∷◌, ◌++◌, length, take, sym, ap, refl, ◌∙◌, inl, inr, arith, add-one}
 use Rattle.std.specs.List.{filter, list_all}
 use Rattle.std.proofs.lemmas.Bool.{cases_Bool, and_parts, eqb-true, le-leb, ltb-true}
 use Rattle.std.proofs.lemmas.List.{length-append, take_all}
@@ -17,25 +18,30 @@ whole_log : (first n : ℕ) (log : List Done) → is_in_time first (n + 1) log �
 unfolding is_in_time entries_to
 whole_log first n [] e = refl
 whole_log first n (done ∷ log) e =
-    let parts = and_parts (nat_le first done.clock) (nat_lt done.clock (n + 1) && is_in_time done.clock (n + 1) log) e in
+    let parts = and_parts (nat_le first done.clock)
+    (nat_lt done.clock (n + 1) && is_in_time done.clock (n + 1) log) e in
     let rest = and_parts (nat_lt done.clock (n + 1)) (is_in_time done.clock (n + 1) log) parts.1 in
     let below : done.clock < n + 1 = ltb-true done.clock (n + 1) rest.0 in
     rw (le-leb done.clock n (omega arith)) (ap (λ xs. done ∷ xs) (whole_log done.clock n log rest.1))
 
-whole_choices : (s : Run) (n : ℕ) → IsWhole s → length s.trace ≡ n + 1 → take (requests_below s.trace (n + 1)) s.choices ≡ s.choices
+whole_choices : (s : Run) (n : ℕ) → IsWhole s → length s.trace ≡ n + 1
+    → take (requests_below s.trace (n + 1)) s.choices ≡ s.choices
 whole_choices s n whole e =
     let one = whole.one_choice in
-    let same : requests_below s.trace (length s.trace) ≡ requests_below s.trace (n + 1) = ap (requests_below s.trace) e in
+    let same : requests_below s.trace (length s.trace) ≡ requests_below s.trace (n + 1) =
+    ap (requests_below s.trace) e in
     take_all (requests_below s.trace (n + 1)) s.choices (omega (arith, one, same))
 
 whole_holds : (s : Run) (n : ℕ) → IsWhole s → length s.trace ≡ n + 1 → take (n + 1) s.holds ≡ s.holds
 whole_holds s n whole e = let one = whole.one_hold in take_all (n + 1) s.holds (omega (arith, one, e))
 
-log_in_time : (s : Run) (n : ℕ) → is_in_time 0 (length s.trace) s.log ≡ true → length s.trace ≡ n + 1 → entries_to n s.log ≡ s.log
+log_in_time : (s : Run) (n : ℕ) → is_in_time 0 (length s.trace) s.log ≡ true → length s.trace ≡ n + 1
+    → entries_to n s.log ≡ s.log
 log_in_time s n in_time e = whole_log 0 n s.log (sym (ap (λ k. is_in_time 0 k s.log) e) ∙ in_time)
 
 -- the run up to its last clock
-run_end : (s : Run) (n : ℕ) → IsWhole s → is_in_time 0 (length s.trace) s.log ≡ true → length s.trace ≡ n + 1 → run_to s n ≡ s
+run_end : (s : Run) (n : ℕ) → IsWhole s → is_in_time 0 (length s.trace) s.log ≡ true → length s.trace ≡ n + 1
+    → run_to s n ≡ s
 unfolding run_to
 run_end s n whole in_time e =
     let choices = whole_choices s n whole e in
@@ -44,7 +50,8 @@ run_end s n whole in_time e =
     let log = log_in_time s n in_time e in
     λ i. record { plan = s.plan; choices = choices i; holds = holds i; trace = trace i; log = log i }
 
-past_end : (s : Run) (n : ℕ) → is_in_time 0 (length s.trace) s.log ≡ true → length s.trace ≡ n + 1 → past_to (past_of s) n ≡ past_of s
+past_end : (s : Run) (n : ℕ) → is_in_time 0 (length s.trace) s.log ≡ true → length s.trace ≡ n + 1
+    → past_to (past_of s) n ≡ past_of s
 unfolding past_to past_of
 past_end s n in_time e =
     let k = length-moments s (length s.trace) in
@@ -86,7 +93,8 @@ moments-grow r s grows =
     let log = log_in_time s n (grown_in_time r s grows) (grown r s grows) in
     let run = run-ends r s grows in
     ap (moments_below s) longer
-    ∙ (λ i. before i ++ moment_at (record { plan = s.plan; moments = before i; log = log i }) (run i).choices (run i).trace n ∷ [])
+    ∙ (λ i. before i ++ moment_at (record { plan = s.plan; moments = before i; log = log i }) (run i).choices
+    (run i).trace n ∷ [])
 
 differs : (k n : ℕ) → k < n → nat_eq k n ≡ false
 differs k n l = elim (cases_Bool (nat_eq k n)) [
@@ -95,7 +103,8 @@ differs k n l = elim (cases_Bool (nat_eq k n)) [
 ]
 
 -- no entry of a log is at the clock below which it ends
-none_at_end : (first n : ℕ) (log : List Done) → is_in_time first n log ≡ true → filter (λ done. nat_eq done.clock n) log ≡ []
+none_at_end : (first n : ℕ) (log : List Done) → is_in_time first n log ≡ true
+    → filter (λ done. nat_eq done.clock n) log ≡ []
 unfolding is_in_time
 none_at_end first n [] e = refl
 none_at_end first n (done ∷ log) e =
@@ -103,13 +112,15 @@ none_at_end first n (done ∷ log) e =
     let rest = and_parts (nat_lt done.clock n) (is_in_time done.clock n log) parts.1 in
     rw (differs done.clock n (ltb-true done.clock n rest.0)) (none_at_end done.clock n log rest.1)
 
-all_at_clock : (n : ℕ) (entries : List Done) → list_all (λ done. nat_eq done.clock n) entries ≡ true → filter (λ done. nat_eq done.clock n) entries ≡ entries
+all_at_clock : (n : ℕ) (entries : List Done) → list_all (λ done. nat_eq done.clock n) entries ≡ true
+    → filter (λ done. nat_eq done.clock n) entries ≡ entries
 all_at_clock n [] e = refl
 all_at_clock n (done ∷ entries) e =
     let parts = and_parts (nat_eq done.clock n) (list_all (λ d. nat_eq d.clock n) entries) e in
     rw parts.0 (ap (λ xs. done ∷ xs) (all_at_clock n entries parts.1))
 
-pub entries-grow : (r s : Run) (grows : GrowsTo r s) → filter (λ done. nat_eq done.clock (length r.trace)) s.log ≡ grows.next.entries
+pub entries-grow : (r s : Run) (grows : GrowsTo r s)
+    → filter (λ done. nat_eq done.clock (length r.trace)) s.log ≡ grows.next.entries
 entries-grow r s grows =
     let n = length r.trace in
     let old = none_at_end 0 n r.log grows.timely.in_time in

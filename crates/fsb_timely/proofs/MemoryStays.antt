@@ -1,5 +1,6 @@
 -- What memory has below a clock stays as a run goes on from there.
-use Rattle.std.proofs.Common.{ℕ, ◌<◌, ◌≤◌, ◌≡◌, Bool, true, false, nat_eq, nat_lt, List, [], ◌∷◌, ◌++◌, length, refl, sym, ap, ◌∙◌, arith, append-nil}
+use Rattle.std.proofs.Common.{ℕ, ◌<◌, ◌≤◌, ◌≡◌, Bool, true, false, nat_eq, nat_lt, List, [], ◌∷◌, ◌++◌, length, refl}
+use Rattle.std.proofs.Common.{sym, ap, ◌∙◌, arith, append-nil}
 use Rattle.std.specs.List.{filter, list_all}
 use Rattle.std.proofs.lemmas.Bool.{and_parts, eqb-true, le-ltb}
 use Rattle.std.proofs.lemmas.List.Elements.{filter-append}
@@ -9,7 +10,8 @@ use Rattle.fsb_timely.specs.Carried.{memory_below}
 use Rattle.fsb_timely.specs.Growth.{IsNext}
 use Rattle.fsb_timely.specs.Runs.{Run}
 
-none-below : (n t : ℕ) (entries : List Done) → t ≤ n → list_all (λ done. nat_eq done.clock n) entries ≡ true → filter (λ done. nat_lt done.clock t) entries ≡ []
+none-below : (n t : ℕ) (entries : List Done) → t ≤ n → list_all (λ done. nat_eq done.clock n) entries ≡ true
+    → filter (λ done. nat_lt done.clock t) entries ≡ []
 none-below n t [] l e = refl
 none-below n t (done ∷ entries) l e =
     let parts = and_parts (nat_eq done.clock n) (list_all (λ d. nat_eq d.clock n) entries) e in

@@ -1,5 +1,6 @@
 -- The moments of a run, and what the whole trace says.
-use Rattle.std.proofs.Common.{ℕ, zero, suc, ◌+◌, ◌<◌, ◌≤◌, ◌≡◌, Bool, true, false, [], ◌∷◌, ◌++◌, Option, Some, None, length, take, drop, slice_get, refl, sym, ap, subst, ◌∙◌, inl, inr, arith}
+use Rattle.std.proofs.Common.{ℕ, zero, suc, ◌+◌, ◌<◌, ◌≤◌, ◌≡◌, Bool, true, false, [], ◌∷◌, ◌++◌, Option, Some, None}
+use Rattle.std.proofs.Common.{length, take, drop, slice_get, refl, sym, ap, subst, ◌∙◌, inl, inr, arith}
 use Rattle.std.proofs.lemmas.Bool.{cases_lt}
 use Rattle.std.proofs.lemmas.List.{length-take-le, take-append-drop}
 use Rattle.std.specs.Option.{option_and_then}
@@ -10,8 +11,10 @@ use Rattle.fsb_trace.specs.At.{Trace}
 use Rattle.fsb_trace.specs.Agree.{AgreeTo}
 use Rattle.fsb_trace.specs.Requests.{live_count, live_clock_of}
 use Rattle.fsb_trace.specs.Snoop.{snoop_end_of}
-use Rattle.fsb_trace.proofs.Interface.{AgreeTo-sym, live_below_count, snoop_end_of-clock, snoop_end_of-stays, live_clock_of-stays}
-use Rattle.fsb_timely.specs.Moments.{moment_at, snoop_at, snoop_end_if_begun, snoop_end_for, snoop_end_with, number_snooped_at, turns_in, effective_choice}
+use Rattle.fsb_trace.proofs.Interface.{AgreeTo-sym, live_below_count, snoop_end_of-clock, snoop_end_of-stays}
+use Rattle.fsb_trace.proofs.Interface.{live_clock_of-stays}
+use Rattle.fsb_timely.specs.Moments.{moment_at, snoop_at, snoop_end_if_begun, snoop_end_for, snoop_end_with}
+use Rattle.fsb_timely.specs.Moments.{number_snooped_at, turns_in, effective_choice}
 use Rattle.fsb_timely.specs.Past.{SnoopEnd, Moment}
 use Rattle.fsb_timely.specs.Runs.{past_with, next_moment, Run, run_to, moments_below, past_of}
 use Rattle.fsb_timely.specs.Grants.{snooped_at}
@@ -31,29 +34,39 @@ moment-at r (suc n) t l =
       | inl m ↦ slice_get-before (moments_below r n) _ t (let e = length-moments r n in omega arith) ∙ moment-at r n t m
       | inr m ↦
           let same : n ≡ t = omega arith in
-          subst (λ k. slice_get (moments_below r n ++ moment_of r n ∷ []) k ≡ Some (moment_of r k)) same (subst (λ k. slice_get (moments_below r n ++ moment_of r n ∷ []) k ≡ Some (moment_of r n)) (length-moments r n) (slice_get-end (moments_below r n) (moment_of r n)))
+          subst (λ k. slice_get (moments_below r n ++ moment_of r n ∷ []) k ≡ Some (moment_of r k)) same
+          (subst (λ k. slice_get (moments_below r n ++ moment_of r n ∷ []) k ≡ Some (moment_of r n))
+          (length-moments r n) (slice_get-end (moments_below r n) (moment_of r n)))
     ]
 
 -- a trace that is cut agrees up to the cut
 pub cut-agrees : (w : Trace) (n : ℕ) → n ≤ length w → AgreeTo n w (take n w)
-cut-agrees w n l = record { left = l; right = let e = length-take-le n w l in omega arith; same = λ c m. ap (λ v. slice_get v c) (sym (take-append-drop n w)) ∙ slice_get-before (take n w) (drop n w) c (let e = length-take-le n w l in omega arith) }
+cut-agrees w n l = record {
+  left = l;
+  right = let e = length-take-le n w l in omega arith;
+  same = λ c m. ap (λ v. slice_get v c) (sym (take-append-drop n w))
+      ∙ slice_get-before (take n w) (drop n w) c (let e = length-take-le n w l in omega arith);
+}
 
 -- the request whose snoop end is t is found as such
 pub number-found : (w : Trace) (i t : ℕ) → snoop_end_of w i ≡ Some t → number_snooped_at w t ≡ Some i
 unfolding number_snooped_at
 number-found w i t e =
     let h = snoop_end_of-clock w i t e in
-    first_where-at (λ j. is_at (snoop_end_of w j) t) (live_count w) i (live_below_count w i h.clock h.is_clock) (is_at-from (snoop_end_of w i) t e) (λ k l. not_before k l (is_at (snoop_end_of w k) t) refl)
+    first_where-at (λ j. is_at (snoop_end_of w j) t) (live_count w) i (live_below_count w i h.clock h.is_clock)
+    (is_at-from (snoop_end_of w i) t e) (λ k l. not_before k l (is_at (snoop_end_of w k) t) refl)
   where
     not_before : (k : ℕ) → k < i → (b : Bool) → is_at (snoop_end_of w k) t ≡ b → is_at (snoop_end_of w k) t ≡ false
     not_before k l false f = f
-    not_before k l true f = absurd (let same : k ≡ i = one_end w t k i (is_at-some (snoop_end_of w k) t f) e in omega arith)
+    not_before k l true f = absurd (let same : k ≡ i = one_end w t k i (is_at-some (snoop_end_of w k) t f) e in
+        omega arith)
 
 -- and what is found as such is it
 pub number-says : (w : Trace) (i t : ℕ) → number_snooped_at w t ≡ Some i → snoop_end_of w i ≡ Some t
 unfolding number_snooped_at
 number-says w i t e =
-    let h = first_where-found (λ j. is_at (snoop_end_of w j) t) (live_count w) i e in is_at-some (snoop_end_of w i) t h.1
+    let h = first_where-found (λ j. is_at (snoop_end_of w j) t) (live_count w) i e in
+    is_at-some (snoop_end_of w i) t h.1
 
 -- the snoop end that the moment of t has
 pub snooped-there : (r : Run) (t : ℕ) → t < length r.trace → snooped_at (past_of r) t ≡ (moment_of r t).snooped
@@ -63,10 +76,12 @@ snooped-there r t l = ap (option_and_then (λ moment. moment.snooped)) (moment-a
 -- what the moment of t has of live request i, whose first clock is q
 abbrev pub snoop_of : Run → ℕ → ℕ → ℕ → SnoopEnd
 snoop_of r t i q =
-    snoop_end_with (past_with r (moments_below r t) t) (run_to r t).trace i q t (effective_choice r.plan.bridge (run_to r t).choices (run_to r t).trace (turns_in (moments_below r t)) q t).turn
+    snoop_end_with (past_with r (moments_below r t) t) (run_to r t).trace i q t
+    (effective_choice r.plan.bridge (run_to r t).choices (run_to r t).trace (turns_in (moments_below r t)) q t).turn
 
 -- the moment of t has the snoop end of the live request that has it there in the run up to t
-snooped-as : (r : Run) (t i q : ℕ) → number_snooped_at (run_to r t).trace t ≡ Some i → live_clock_of (run_to r t).trace i ≡ Some q → (moment_of r t).snooped ≡ Some (snoop_of r t i q)
+snooped-as : (r : Run) (t i q : ℕ) → number_snooped_at (run_to r t).trace t ≡ Some i
+    → live_clock_of (run_to r t).trace i ≡ Some q → (moment_of r t).snooped ≡ Some (snoop_of r t i q)
 unfolding snoop_at snoop_end_if_begun snoop_end_for moment_at
 snooped-as r t i q e f = rw (e, snoop_at, snoop_end_if_begun, f) refl
 
@@ -76,7 +91,8 @@ unfolding run_to
 run_to-agrees r t l = cut-agrees r.trace (t + 1) (omega arith)
 
 -- where t is the snoop end of a live request of the whole trace, the moment of t has it
-pub moment-snooped : (r : Run) (i t q : ℕ) → snoop_end_of r.trace i ≡ Some t → live_clock_of r.trace i ≡ Some q → (moment_of r t).snooped ≡ Some (snoop_of r t i q)
+pub moment-snooped : (r : Run) (i t q : ℕ) → snoop_end_of r.trace i ≡ Some t → live_clock_of r.trace i ≡ Some q
+    → (moment_of r t).snooped ≡ Some (snoop_of r t i q)
 moment-snooped r i t q e f =
     let h = snoop_end_of-clock r.trace i t e in
     let same : q ≡ h.clock = (let e' = sym f ∙ h.is_clock in cc) in
@@ -87,14 +103,17 @@ moment-snooped r i t q e f =
     snooped-as r t i q (number-found (run_to r t).trace i t there) clock
 
 -- and where it is none, the moment has none
-no_number : (r : Run) (t : ℕ) → t < length r.trace → (o : Option ℕ) → number_snooped_at (run_to r t).trace t ≡ o → number_snooped_at r.trace t ≡ None → number_snooped_at (run_to r t).trace t ≡ None
+no_number : (r : Run) (t : ℕ) → t < length r.trace → (o : Option ℕ) → number_snooped_at (run_to r t).trace t ≡ o
+    → number_snooped_at r.trace t ≡ None → number_snooped_at (run_to r t).trace t ≡ None
 no_number r t l None e none = e
 no_number r t l (Some i) e none =
     let back = AgreeTo-sym (t + 1) r.trace (run_to r t).trace (run_to-agrees r t l) in
-    let there = snoop_end_of-stays (t + 1) (run_to r t).trace r.trace i t back (omega arith) (number-says (run_to r t).trace i t e) in
+    let there = snoop_end_of-stays (t + 1) (run_to r t).trace r.trace i t back (omega arith)
+    (number-says (run_to r t).trace i t e) in
     absurd (let h : ⊥ = (let e' = sym none ∙ number-found r.trace i t there in cc) in h)
 
-pub moment-quiet : (r : Run) (t : ℕ) → t < length r.trace → number_snooped_at r.trace t ≡ None → (moment_of r t).snooped ≡ None
+pub moment-quiet : (r : Run) (t : ℕ) → t < length r.trace → number_snooped_at r.trace t ≡ None
+    → (moment_of r t).snooped ≡ None
 unfolding snoop_at moment_at
 moment-quiet r t l none =
     let e = no_number r t l (number_snooped_at (run_to r t).trace t) refl none in rw (e, snoop_at) refl

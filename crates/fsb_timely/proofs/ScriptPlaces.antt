@@ -1,5 +1,7 @@
 -- Below each clock an agent's entries are the accesses of its script up to its next item there.
-use Rattle.std.proofs.Common.{ℕ, zero, suc, ◌+◌, ◌-◌, ◌<◌, ◌≤◌, ◌≡◌, Bool, true, false, not, ◌&&◌, ◌||◌, nat_eq, nat_lt, List, [], ◌∷◌, ◌++◌, map, length, take, slice_get, get_or, Option, Some, None, refl, sym, ap, subst, ◌∙◌, inl, inr, arith, add-one, add-zero, zero-add, append-nil, append_assoc}
+use Rattle.std.proofs.Common.{ℕ, zero, suc, ◌+◌, ◌-◌, ◌<◌, ◌≤◌, ◌≡◌, Bool, true, false, not, ◌&&◌, ◌||◌, nat_eq, nat_lt}
+use Rattle.std.proofs.Common.{List, [], ◌∷◌, ◌++◌, map, length, take, slice_get, get_or, Option, Some, None, refl, sym}
+use Rattle.std.proofs.Common.{ap, subst, ◌∙◌, inl, inr, arith, add-one, add-zero, zero-add, append-nil, append_assoc}
 use Rattle.std.proofs.lemmas.Bool.{cases_Bool, cases_order, or_parts, le-ltb}
 use Rattle.std.proofs.lemmas.List.{map-append}
 use Rattle.std.proofs.lemmas.List.Elements.{filter-append}
@@ -13,7 +15,8 @@ use Rattle.fsb_count.specs.Options.{is_some_and}
 use Rattle.fsb_count.proofs.Interface.{first_where-found}
 use Rattle.fsb_timely.specs.Past.{Past}
 use Rattle.fsb_timely.specs.Runs.{Run, past_of}
-use Rattle.fsb_timely.specs.Scripts.{is_idle, items_of, is_done_at, completes_at, is_logged, is_logged_at, is_to_do, next_number}
+use Rattle.fsb_timely.specs.Scripts.{is_idle, items_of, is_done_at, completes_at, is_logged, is_logged_at, is_to_do}
+use Rattle.fsb_timely.specs.Scripts.{next_number}
 use Rattle.fsb_timely.specs.Timely.{Timely}
 use Rattle.fsb_timely.proofs.Completing.{item-there, item-is}
 use Rattle.fsb_timely.proofs.FollowedScripts.{below, at, below-more, steps-completed}
@@ -22,10 +25,13 @@ use Rattle.fsb_timely.proofs.LoggedItems.{logged-next, logs-item, not-behind, no
 use Rattle.fsb_timely.proofs.WindowSteps.{done-before, done-now}
 
 -- the accesses up to the end of an item
-accesses-more : (items : List Item) (n : ℕ) (item : Item) → slice_get items n ≡ Some item → accesses_of (take (n + 1) items) ≡ accesses_of (take n items) ++ steps_of_item n item
+accesses-more : (items : List Item) (n : ℕ) (item : Item) → slice_get items n ≡ Some item
+    → accesses_of (take (n + 1) items) ≡ accesses_of (take n items) ++ steps_of_item n item
 accesses-more items n item at = rw zero-add at (from 0 items n at)
   where
-    from : (number : ℕ) (items : List Item) (n : ℕ) → slice_get items n ≡ Some item → accesses_from number (take (n + 1) items) ≡ accesses_from number (take n items) ++ steps_of_item (number + n) item
+    from : (number : ℕ) (items : List Item) (n : ℕ) → slice_get items n ≡ Some item
+        → accesses_from number (take (n + 1) items) ≡ accesses_from number (take n items)
+        ++ steps_of_item (number + n) item
     from number [] n at = cc
     from number (first ∷ items) zero at = let same : first ≡ item = cc in rw same (simp (add-zero, append-nil) refl)
     from number (first ∷ items) (suc n) at =
@@ -41,7 +47,8 @@ idle-steps n (One access) e = absurd (let no : ⊥ = cc in no)
 idle-steps n (Locked group) e = absurd (let no : ⊥ = cc in no)
 idle-steps n (Idle clocks) e = refl
 
-idle-by : (o : Option Item) (item : Item) (logged : Bool) → o ≡ Some item → logged ≡ false → (is_some_and o (λ x. not (is_idle x)) && not logged) ≡ false → is_idle item ≡ true
+idle-by : (o : Option Item) (item : Item) (logged : Bool) → o ≡ Some item → logged ≡ false
+    → (is_some_and o (λ x. not (is_idle x)) && not logged) ≡ false → is_idle item ≡ true
 unfolding is_some_and
 idle-by None item logged s l e = absurd (let no : ⊥ = cc in no)
 idle-by (Some x) item true s l e = absurd (let no : ⊥ = cc in no)
@@ -53,13 +60,15 @@ idle-by (Some x) item false s l e =
     by true f = refl
     by false f = absurd (let no : ⊥ = cc in no)
 
-idle-there : (p : Past) (a c j : ℕ) (item : Item) → slice_get (items_of p a) j ≡ Some item → is_logged p a c j ≡ false → is_to_do p a c j ≡ false → is_idle item ≡ true
+idle-there : (p : Past) (a c j : ℕ) (item : Item) → slice_get (items_of p a) j ≡ Some item
+    → is_logged p a c j ≡ false → is_to_do p a c j ≡ false → is_idle item ≡ true
 unfolding is_to_do
 idle-there p a c j item s l e = idle-by (slice_get (items_of p a) j) item (is_logged p a c j) s l e
 
 -- items that are neither to do nor logged have no accesses
 gap : (p : Past) (a c k d : ℕ) → k + d ≤ length (items_of p a)
-    → ((j : ℕ) → k ≤ j → j < k + d → is_logged p a c j ≡ false) → ((j : ℕ) → k ≤ j → j < k + d → is_to_do p a c j ≡ false)
+    → ((j : ℕ) → k ≤ j → j < k + d → is_logged p a c j ≡ false)
+    → ((j : ℕ) → k ≤ j → j < k + d → is_to_do p a c j ≡ false)
     → accesses_of (take (k + d) (items_of p a)) ≡ accesses_of (take k (items_of p a))
 gap p a c k zero l logged todo = ap (λ n. accesses_of (take n (items_of p a))) (add-zero k)
 gap p a c k (suc d) l logged todo =
@@ -67,7 +76,8 @@ gap p a c k (suc d) l logged todo =
     let one : k + suc d ≡ k + d + 1 = omega arith in
     let item = get_or items (k + d) (Idle 0) in
     let there = slice_get-get_or items (k + d) (Idle 0) (omega arith) in
-    let idle = idle-there p a c (k + d) item there (logged (k + d) (omega arith) (omega arith)) (todo (k + d) (omega arith) (omega arith)) in
+    let idle = idle-there p a c (k + d) item there (logged (k + d) (omega arith) (omega arith))
+    (todo (k + d) (omega arith) (omega arith)) in
     ap (λ n. accesses_of (take n items)) one
     ∙ accesses-more items (k + d) item there
     ∙ ap (λ xs. accesses_of (take (k + d) items) ++ xs) (idle-steps (k + d) item idle)
@@ -75,7 +85,8 @@ gap p a c k (suc d) l logged todo =
     ∙ gap p a c k d (omega arith) (λ j m u. logged j m (omega arith)) (λ j m u. todo j m (omega arith))
 
 steps-append : (a : ℕ) (xs ys : List Done) → steps_of a (xs ++ ys) ≡ steps_of a xs ++ steps_of a ys
-steps-append a xs ys = ap (map step_of) (filter-append (λ (done : Done). nat_eq done.agent a) xs ys) ∙ map-append step_of _ _
+steps-append a xs ys = ap (map step_of) (filter-append (λ (done : Done). nat_eq done.agent a) xs ys)
+    ∙ map-append step_of _ _
 
 -- an agent without an entry at a clock has no steps there
 quiet-steps : (a c : ℕ) (log : List Done) → list_any (is_done_at a c) log ≡ false → steps_of a (at c log) ≡ []
@@ -99,7 +110,8 @@ none-below-first (done ∷ log) = rw (le-ltb done.clock 0 (omega arith)) (none-b
 
 -- the entries of an agent below a clock are the accesses up to its next item
 abbrev IsAtPlace : Run → ℕ → ℕ → Type 0
-IsAtPlace r a c = (n : ℕ) → next_number (past_of r) a c ≡ Some n → steps_of a (below c r.log) ≡ accesses_of (take n (items_of (past_of r) a))
+IsAtPlace r a c = (n : ℕ) → next_number (past_of r) a c ≡ Some n
+    → steps_of a (below c r.log) ≡ accesses_of (take n (items_of (past_of r) a))
 
 place-first : (r : Run) (a : ℕ) → IsAtPlace r a 0
 unfolding next_number is_logged
@@ -110,36 +122,45 @@ place-first r a n e =
     ∙ sym (ap (λ k. accesses_of (take k (items_of p a))) (sym (zero-add n))
     ∙ gap p a 0 0 n (let l = found.0 in omega arith) (λ j m u. none-first a j p.log) (λ j m u. found.2 j (omega arith)))
 
-no-other : (r : Run) (a c m j : ℕ) → Timely r → c < length r.trace → next_number (past_of r) a c ≡ Some m → m < j → is_logged_at (past_of r) a c j ≡ false
+no-other : (r : Run) (a c m j : ℕ) → Timely r → c < length r.trace → next_number (past_of r) a c ≡ Some m
+    → m < j → is_logged_at (past_of r) a c j ≡ false
 no-other r a c m j h l e k =
     elim (cases_Bool (is_logged_at (past_of r) a c j)) [
-      | inl t ↦ absurd (let other = (logged-next r a c j h l t).0 in let same : m ≡ j = (let g = sym e ∙ other in cc) in omega arith)
+      | inl t ↦ absurd (let other = (logged-next r a c j h l t).0 in
+          let same : m ≡ j = (let g = sym e ∙ other in cc) in omega arith)
       | inr f ↦ f
     ]
 
-not-logged-yet : (r : Run) (a c m j : ℕ) → Timely r → c < length r.trace → next_number (past_of r) a c ≡ Some m → m < j → is_logged (past_of r) a (c + 1) j ≡ false
+not-logged-yet : (r : Run) (a c m j : ℕ) → Timely r → c < length r.trace → next_number (past_of r) a c ≡ Some m
+    → m < j → is_logged (past_of r) a (c + 1) j ≡ false
 not-logged-yet r a c m j h l e k =
-    is_logged-more (past_of r) a c j ∙ both (is_logged (past_of r) a c j) (is_logged_at (past_of r) a c j) (not-behind r a c m j h (omega arith) e k) (no-other r a c m j h l e k)
+    is_logged-more (past_of r) a c j
+    ∙ both (is_logged (past_of r) a c j) (is_logged_at (past_of r) a c j)
+    (not-behind r a c m j h (omega arith) e k) (no-other r a c m j h l e k)
   where
     both : (x y : Bool) → x ≡ false → y ≡ false → (x || y) ≡ false
     both true y s t = absurd (let no : ⊥ = cc in no)
     both false y s t = t
 
 -- the next item after a completion lies behind
-behind : (p : Past) (a c m n : ℕ) → next_number p a c ≡ Some m → is_logged_at p a c m ≡ true → next_number p a (c + 1) ≡ Some n → m < n
+behind : (p : Past) (a c m n : ℕ) → next_number p a c ≡ Some m → is_logged_at p a c m ≡ true
+    → next_number p a (c + 1) ≡ Some n → m < n
 unfolding next_number
 behind p a c m n e t f =
     let old = first_where-found (is_to_do p a c) (length (items_of p a)) m e in
     let new = first_where-found (is_to_do p a (c + 1)) (length (items_of p a)) n f in
     elim (cases_order n m) [
-      | inl same ↦ absurd (let no : false ≡ true = sym (subst (λ k. is_to_do p a (c + 1) k ≡ false) (sym same) (done-now p a c m t)) ∙ new.1 in cc)
+      | inl same ↦
+          absurd (let no : false ≡ true =
+          sym (subst (λ k. is_to_do p a (c + 1) k ≡ false) (sym same) (done-now p a c m t)) ∙ new.1 in cc)
       | inr other ↦ elim other [
         | inl l ↦ absurd (let no : false ≡ true = sym (done-before p a c n (old.2 n l)) ∙ new.1 in cc)
         | inr l ↦ l
       ]
     ]
 
-rest-idle : (r : Run) (a c m n : ℕ) → Timely r → c < length r.trace → next_number (past_of r) a c ≡ Some m → is_logged_at (past_of r) a c m ≡ true → next_number (past_of r) a (c + 1) ≡ Some n
+rest-idle : (r : Run) (a c m n : ℕ) → Timely r → c < length r.trace → next_number (past_of r) a c ≡ Some m
+    → is_logged_at (past_of r) a c m ≡ true → next_number (past_of r) a (c + 1) ≡ Some n
     → accesses_of (take n (items_of (past_of r) a)) ≡ accesses_of (take (m + 1) (items_of (past_of r) a))
 unfolding next_number
 rest-idle r a c m n h l e t f =
@@ -149,13 +170,15 @@ rest-idle r a c m n h l e t f =
     let far : m + 1 + (n - (m + 1)) ≡ n = omega arith in
     let within = new.0 in
     ap (λ j. accesses_of (take j (items_of p a))) (sym far)
-    ∙ gap p a (c + 1) (m + 1) (n - (m + 1)) (omega (arith, far, within)) (λ j u v. not-logged-yet r a c m j h l e (omega arith)) (λ j u v. new.2 j (omega (arith, v, far)))
+    ∙ gap p a (c + 1) (m + 1) (n - (m + 1)) (omega (arith, far, within))
+    (λ j u v. not-logged-yet r a c m j h l e (omega arith)) (λ j u v. new.2 j (omega (arith, v, far)))
 
 place-next : (r : Run) (a c : ℕ) → Timely r → c < length r.trace → a < 4 → IsAtPlace r a c → IsAtPlace r a (c + 1)
 unfolding completes_at past_of
 place-next r a c h l few before n e =
     let p = past_of r in
-    let more = ap (steps_of a) (below-more 0 (length r.trace) c r.log h.in_time) ∙ steps-append a (below c r.log) (at c r.log) in
+    let more = ap (steps_of a) (below-more 0 (length r.trace) c r.log h.in_time)
+    ∙ steps-append a (below c r.log) (at c r.log) in
     elim (cases_Bool (completes_at p a c)) [
       | inr f ↦
           more
@@ -165,16 +188,20 @@ place-next r a c h l few before n e =
           let logged = logs-item p a c t in
           let next = logged-next r a c logged.0 h l logged.1 in
           let item = item-there p a c logged.0 next.0 in
-          let steps = steps-completed r a c logged.0 item.0 h l few next.0 (item-is p a c logged.0 item.0 next.0 item.1) next.1 in
+          let steps = steps-completed r a c logged.0 item.0 h l few next.0
+          (item-is p a c logged.0 item.0 next.0 item.1) next.1 in
           let place = before logged.0 next.0 in
-          more ∙ (λ i. place i ++ steps i) ∙ sym (accesses-more (items_of p a) logged.0 item.0 item.1) ∙ sym (rest-idle r a c logged.0 n h l next.0 logged.1 e)
+          more ∙ (λ i. place i ++ steps i) ∙ sym (accesses-more (items_of p a) logged.0 item.0 item.1)
+          ∙ sym (rest-idle r a c logged.0 n h l next.0 logged.1 e)
     ]
 
 pub place-all : (r : Run) (a c : ℕ) → Timely r → a < 4 → c ≤ length r.trace → IsAtPlace r a c
 place-all r a zero h few l = place-first r a
 place-all r a (suc c) h few l =
-    subst (λ k. IsAtPlace r a k) (add-one c) (place-next r a c h (omega arith) few (place-all r a c h few (omega arith)))
+    subst (λ k. IsAtPlace r a k) (add-one c)
+    (place-next r a c h (omega arith) few (place-all r a c h few (omega arith)))
 
-pub follows-script : (r : Run) (a c n : ℕ) → Timely r → a < 4 → c ≤ length r.trace → next_number (past_of r) a c ≡ Some n
+pub follows-script : (r : Run) (a c n : ℕ) → Timely r → a < 4 → c ≤ length r.trace
+    → next_number (past_of r) a c ≡ Some n
     → steps_of a (filter (λ done. nat_lt done.clock c) r.log) ≡ accesses_of (take n (items_of (past_of r) a))
 follows-script r a c n h few l e = place-all r a c h few l n e

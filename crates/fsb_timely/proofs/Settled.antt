@@ -12,7 +12,8 @@ use Rattle.fsb_trace.proofs.Interface.{line_at-agree, winner_at-agree, live_requ
 use Rattle.fsb_timely.specs.Moments.{claim_at, agent_at}
 
 -- what is settled rests on the samples up to the snoop end
-pub settled_by-agree : (n : ℕ) (w v : Trace) (turn i t : ℕ) → AgreeTo n w v → t < n → snoop_end_of w i ≡ Some t → settled_by w turn i t ≡ settled_by v turn i t
+pub settled_by-agree : (n : ℕ) (w v : Trace) (turn i t : ℕ) → AgreeTo n w v → t < n → snoop_end_of w i ≡ Some t
+    → settled_by w turn i t ≡ settled_by v turn i t
 unfolding settled_by
 settled_by-agree n w v turn i t a l e =
     let handed = line_at-agree HITM n w v t a l in
@@ -22,14 +23,19 @@ settled_by-agree n w v turn i t a l e =
 pub agent_at-agree : (n : ℕ) (w v : Trace) (q : ℕ) → AgreeTo n w v → q ≤ n → agent_at w q ≡ agent_at v q
 unfolding agent_at
 agent_at-agree n w v q a l =
-    ap (λ o. elim o [ Some who ↦ elim who [ Symmetric a ↦ Some a | Priority ↦ None ] | None ↦ None ]) (winner_at-agree n w v q a l)
+    ap (λ o. elim o [ Some who ↦ elim who [ Symmetric a ↦ Some a | Priority ↦ None ] | None ↦ None ])
+    (winner_at-agree n w v q a l)
 
 pub line_of-agree : (n : ℕ) (w v : Trace) (q : ℕ) → AgreeTo n w v → q < n → line_of w q ≡ line_of v q
 unfolding line_of
 line_of-agree n w v q a l =
     let winner = winner_at-agree n w v q a (omega arith) in
     let sample = a.same q l in
-    λ i. elim (winner i) [ Some who ↦ elim who [ Symmetric a ↦ option_map (λ s. s.addr.bits / 4) (sample i) | Priority ↦ None ] | None ↦ None ]
+    λ i. elim (winner i) [
+      | Some who ↦
+          elim who [ Symmetric a ↦ option_map (λ s. s.addr.bits / 4) (sample i) | Priority ↦ None ]
+      | None ↦ None
+    ]
 
 pub claim_at-agree : (n : ℕ) (w v : Trace) (q : ℕ) → AgreeTo n w v → q < n → claim_at w q ≡ claim_at v q
 unfolding claim_at

@@ -1,5 +1,6 @@
 -- What it says that something has held since a gain.
-use Rattle.std.proofs.Common.{ℕ, zero, suc, ◌+◌, ◌<◌, ◌≤◌, ◌≡◌, Bool, true, false, not, ◌&&◌, Option, Some, None, refl, ap, sym, subst, ◌∙◌, inl, inr, arith}
+use Rattle.std.proofs.Common.{ℕ, zero, suc, ◌+◌, ◌<◌, ◌≤◌, ◌≡◌, Bool, true, false, not, ◌&&◌, Option, Some, None, refl}
+use Rattle.std.proofs.Common.{ap, sym, subst, ◌∙◌, inl, inr, arith}
 use Rattle.std.proofs.lemmas.Bool.{cases_Bool, cases_lt, le-leb, lt-leb, not-true, both_ways}
 use Rattle.fsb_count.specs.Clocks.{last_where, any_where, from_clock, holds_since}
 use Rattle.fsb_count.proofs.Interface.{any_where-none, any_where-off}
@@ -12,12 +13,15 @@ unfolding last_where
 last_where-found test zero c e = absurd (let h : ⊥ = cc in h)
 last_where-found test (suc n) c e =
     elim (cases_Bool (test n)) [
-      | inl t ↦ let same : n ≡ c = (let e' = rw (t, last_where) at e in cc) in subst (λ k. (k < suc n) × (test k ≡ true)) same (omega arith, t)
-      | inr f ↦ let h = last_where-found test n c (let e' = rw (f, last_where) at e in e') in (let l = h.0 in omega arith, h.1)
+      | inl t ↦ let same : n ≡ c = (let e' = rw (t, last_where) at e in cc) in
+          subst (λ k. (k < suc n) × (test k ≡ true)) same (omega arith, t)
+      | inr f ↦ let h = last_where-found test n c (let e' = rw (f, last_where) at e in e') in
+          (let l = h.0 in omega arith, h.1)
     ]
 
 -- where a clock passes, the last one that passes is that clock or a later one
-pub last_where-from : (test : ℕ → Bool) (n c : ℕ) → c < n → test c ≡ true → (d : ℕ) × (last_where test n ≡ Some d) × (c ≤ d)
+pub last_where-from : (test : ℕ → Bool) (n c : ℕ) → c < n → test c ≡ true
+    → (d : ℕ) × (last_where test n ≡ Some d) × (c ≤ d)
 unfolding last_where
 last_where-from test zero c l t = absurd (omega arith)
 last_where-from test (suc n) c l t =
@@ -51,14 +55,17 @@ none-from loss d t kept =
       | inr l ↦ rw (lt-leb (d + 1) t (omega arith)) refl
     ]
 
-since-last : (gain loss : ℕ → Bool) (n d : ℕ) → last_where gain n ≡ Some d → ((t : ℕ) → d < t → t < n → loss t ≡ false) → holds_since gain loss n ≡ true
+since-last : (gain loss : ℕ → Bool) (n d : ℕ) → last_where gain n ≡ Some d
+    → ((t : ℕ) → d < t → t < n → loss t ≡ false) → holds_since gain loss n ≡ true
 unfolding holds_since
 since-last gain loss n d e kept =
-    let off : any_where (from_clock (d + 1) loss) n ≡ false = any_where-off (from_clock (d + 1) loss) n (λ t m. none-from loss d t (λ l. kept t l m)) in
+    let off : any_where (from_clock (d + 1) loss) n ≡ false =
+    any_where-off (from_clock (d + 1) loss) n (λ t m. none-from loss d t (λ l. kept t l m)) in
     rw (e, holds_since) (ap not off)
 
 -- and where there is a gain with no loss after it, it has held
-pub since-from : (gain loss : ℕ → Bool) (n c : ℕ) → c < n → gain c ≡ true → ((t : ℕ) → c < t → t < n → loss t ≡ false) → holds_since gain loss n ≡ true
+pub since-from : (gain loss : ℕ → Bool) (n c : ℕ) → c < n → gain c ≡ true
+    → ((t : ℕ) → c < t → t < n → loss t ≡ false) → holds_since gain loss n ≡ true
 since-from gain loss n c l g kept =
     let last = last_where-from gain n c l g in
     let d : ℕ = last.0 in

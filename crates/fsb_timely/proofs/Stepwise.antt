@@ -1,9 +1,11 @@
 -- What hazard objects were asked, step by step and as whole lists.
-use Rattle.std.proofs.Common.{◌≡◌, ◌<◌, ◌≤◌, ◌+◌, ℕ, zero, suc, Bool, true, false, cond, List, [], ◌∷◌, ◌++◌, Option, Some, length, slice_get, refl, sym, ap, ◌∙◌, subst, arith, add-one, ◌⊎◌, inl, inr}
+use Rattle.std.proofs.Common.{◌≡◌, ◌<◌, ◌≤◌, ◌+◌, ℕ, zero, suc, Bool, true, false, cond, List, [], ◌∷◌, ◌++◌, Option}
+use Rattle.std.proofs.Common.{Some, length, slice_get, refl, sym, ap, ◌∙◌, subst, arith, add-one, ◌⊎◌, inl, inr}
 use Rattle.std.proofs.lemmas.Bool.{cases_Bool, cases_order}
 use Rattle.std.proofs.lemmas.List.{length-append}
 use Rattle.std.proofs.lemmas.Option.{slice_get_within}
-use Rattle.fsb_count.proofs.Interface.{count_where-above, count_where-more, nth_where-there, nth_where-found, slice_get-end}
+use Rattle.fsb_count.proofs.Interface.{count_where-above, count_where-more, nth_where-there, nth_where-found}
+use Rattle.fsb_count.proofs.Interface.{slice_get-end}
 use Rattle.fsb_signal.proofs.Interface.{slice_get-before}
 use Rattle.fsb_signal.specs.declared.lines.TheConstants.Lines.{ADS}
 use Rattle.fsb_signal.specs.Samples.{line_at}
@@ -24,14 +26,16 @@ first_behind (x ∷ xs) ys = first_behind xs ys
 longer : (r s : Run) → IsNext r s → length s.trace ≡ length r.trace + 1
 longer r s next = ap length next.more_trace ∙ length-append r.trace (next.sample ∷ [])
 
--- what a run has of a clock stays when it goes on: whether a request begins there, how many began before, the hold, and the
+-- what a run has of a clock stays when it goes on: whether a request begins there, how many began before, the hold,
+-- and the
 -- choice
 line_there : (r s : Run) (c : ℕ) → IsNext r s → c < length r.trace → line_at ADS s.trace c ≡ line_at ADS r.trace c
 line_there r s c next l =
     ap (λ w. line_at ADS w c) next.more_trace
     ∙ line_at-agree ADS (length r.trace) _ r.trace c (agree_next r.trace next.sample) l
 
-count_there : (r s : Run) (c : ℕ) → IsNext r s → c ≤ length r.trace → requests_below s.trace c ≡ requests_below r.trace c
+count_there : (r s : Run) (c : ℕ) → IsNext r s → c ≤ length r.trace
+    → requests_below s.trace c ≡ requests_below r.trace c
 count_there r s c next l = ap (λ w. requests_below w c) next.more_trace ∙ requests-same r.trace next.sample c l
 
 hold_there : (r s : Run) (c : ℕ) → IsNext r s → c < length r.holds → slice_get s.holds c ≡ slice_get r.holds c
@@ -39,10 +43,12 @@ hold_there r s c next l =
     ap (λ xs. slice_get xs c) next.more_holds ∙ slice_get-before r.holds (next.hold ∷ []) c l
 
 -- there is a choice for a request that began
-choice_within : (r : Run) (c : ℕ) → IsWhole r → c < length r.trace → line_at ADS r.trace c ≡ true → requests_below r.trace c < length r.choices
+choice_within : (r : Run) (c : ℕ) → IsWhole r → c < length r.trace → line_at ADS r.trace c ≡ true
+    → requests_below r.trace c < length r.choices
 unfolding requests_below
 choice_within r c whole l t =
-    let above = count_where-above (line_at ADS r.trace) c (length r.trace) l t in let e = whole.one_choice in omega arith
+    let above = count_where-above (line_at ADS r.trace) c (length r.trace) l t in let e = whole.one_choice in
+    omega arith
 
 choice_there : (r s : Run) (c : ℕ) → IsNext r s → IsWhole r → c < length r.trace → line_at ADS r.trace c ≡ true
     → slice_get s.choices (requests_below s.trace c) ≡ slice_get r.choices (requests_below r.trace c)
@@ -51,7 +57,8 @@ choice_there r s c next whole l t =
     ∙ ap (λ xs. slice_get xs (requests_below r.trace c)) next.more_choices
     ∙ slice_get-before r.choices next.choices (requests_below r.trace c) (choice_within r c whole l t)
 
-asked_on : (objects : List (Option Told)) (r s : Run) (c : ℕ) → IsNext r s → IsWhole r → c < length r.trace → IsAskedAt objects r c → IsAskedAt objects s c
+asked_on : (objects : List (Option Told)) (r s : Run) (c : ℕ) → IsNext r s → IsWhole r → c < length r.trace
+    → IsAskedAt objects r c → IsAskedAt objects s c
 asked_on objects r s c next whole l a = record {
   chosen = λ choice t e.
       let begins : line_at ADS r.trace c ≡ true = sym (line_there r s c next l) ∙ t in
@@ -60,7 +67,8 @@ asked_on objects r s c next whole l a = record {
   held = λ hold e. a.held hold (sym (hold_there r s c next (let h = whole.one_hold in omega arith)) ∙ e);
 }
 
-asked_back : (objects : List (Option Told)) (r s : Run) (c : ℕ) → IsNext r s → IsWhole r → c < length r.trace → IsAskedAt objects s c → IsAskedAt objects r c
+asked_back : (objects : List (Option Told)) (r s : Run) (c : ℕ) → IsNext r s → IsWhole r → c < length r.trace
+    → IsAskedAt objects s c → IsAskedAt objects r c
 asked_back objects r s c next whole l a = record {
   chosen = λ choice t e.
       subst (λ k. IsChosen objects k choice) (count_there r s c next (omega arith))
@@ -100,7 +108,8 @@ asked-more standing r s next whole h =
     }
 
 -- a step that adds a choice has a request that begins
-begins_there : (r s : Run) (next : IsNext r s) → IsWhole r → IsWhole s → 0 < length next.choices → line_at ADS s.trace (length r.trace) ≡ true
+begins_there : (r s : Run) (next : IsNext r s) → IsWhole r → IsWhole s → 0 < length next.choices
+    → line_at ADS s.trace (length r.trace) ≡ true
 unfolding requests_below
 begins_there r s next old new l = elim (cases_Bool (line_at ADS s.trace (length r.trace))) [
   | inl t ↦ t
@@ -108,8 +117,10 @@ begins_there r s next old new l = elim (cases_Bool (line_at ADS s.trace (length 
       let n = length r.trace in
       let more = count_where-more (line_at ADS s.trace) n ∙ ap (λ b. requests_below s.trace n + cond b 1 0) f in
       let before : requests_below s.trace n ≡ requests_below r.trace n = count_there r s n next (omega arith) in
-      let choices : length s.choices ≡ length r.choices + length next.choices = ap length next.more_choices ∙ length-append r.choices next.choices in
-      let all : requests_below s.trace (length s.trace) ≡ requests_below s.trace (n + 1) = ap (requests_below s.trace) (longer r s next) in
+      let choices : length s.choices ≡ length r.choices + length next.choices = ap length next.more_choices
+      ∙ length-append r.choices next.choices in
+      let all : requests_below s.trace (length s.trace) ≡ requests_below s.trace (n + 1) =
+      ap (requests_below s.trace) (longer r s next) in
       let e = old.one_choice in
       let e' = new.one_choice in
       omega (arith, more, before, choices, all, e, e', l)
@@ -120,7 +131,8 @@ begins_there r s next old new l = elim (cases_Bool (line_at ADS s.trace (length 
 began_before_step : (r s : Run) → IsNext r s → IsWhole r → requests_below s.trace (length r.trace) ≡ length r.choices
 began_before_step r s next whole = count_there r s (length r.trace) next (omega arith) ∙ sym whole.one_choice
 
-choice_of_step : (r s : Run) (next : IsNext r s) → IsWhole r → slice_get s.choices (requests_below s.trace (length r.trace)) ≡ slice_get next.choices 0
+choice_of_step : (r s : Run) (next : IsNext r s) → IsWhole r
+    → slice_get s.choices (requests_below s.trace (length r.trace)) ≡ slice_get next.choices 0
 choice_of_step r s next whole =
     ap (slice_get s.choices) (began_before_step r s next whole)
     ∙ ap (λ xs. slice_get xs (length r.choices)) next.more_choices
@@ -132,7 +144,8 @@ hold_of_step r s next whole =
     ∙ ap (λ xs. slice_get xs (length r.holds)) next.more_holds
     ∙ slice_get-end r.holds next.hold
 
-pub step_asked : (objects : List (Option Told)) (r s : Run) (next : IsNext r s) → IsWhole r → IsWhole s → IsAskedStep objects r s next → IsAskedAt objects s (length r.trace)
+pub step_asked : (objects : List (Option Told)) (r s : Run) (next : IsNext r s) → IsWhole r → IsWhole s
+    → IsAskedStep objects r s next → IsAskedAt objects s (length r.trace)
 step_asked objects r s next old new a = record {
   chosen = λ choice t e.
       subst (λ k. IsChosen objects k choice) (sym (began_before_step r s next old))
@@ -143,16 +156,19 @@ step_asked objects r s next old new a = record {
     same_hold : {x y : Bool} → Some x ≡ Some y → x ≡ y
     same_hold e = cc
 
-pub asked_step : (objects : List (Option Told)) (r s : Run) (next : IsNext r s) → IsWhole r → IsWhole s → IsAskedAt objects s (length r.trace) → IsAskedStep objects r s next
+pub asked_step : (objects : List (Option Told)) (r s : Run) (next : IsNext r s) → IsWhole r → IsWhole s
+    → IsAskedAt objects s (length r.trace) → IsAskedStep objects r s next
 asked_step objects r s next old new a = record {
   chosen = λ choice e.
       subst (λ k. IsChosen objects k choice) (began_before_step r s next old)
-      (a.chosen choice (begins_there r s next old new (slice_get_within next.choices 0 choice e)) (choice_of_step r s next old ∙ e));
+      (a.chosen choice (begins_there r s next old new (slice_get_within next.choices 0 choice e))
+      (choice_of_step r s next old ∙ e));
   held = a.held next.hold (hold_of_step r s next old);
 }
 
 -- objects that stay
-pub stays-asked : (objects : List (Option Told)) (r : Run) → IsWhole r → AskedInSteps (λ c. objects) r → Asked objects r.choices r.holds
+pub stays-asked : (objects : List (Option Told)) (r : Run) → IsWhole r → AskedInSteps (λ c. objects) r
+    → Asked objects r.choices r.holds
 unfolding requests_below
 stays-asked objects r whole a = record {
   chosen = λ k choice e.
@@ -161,11 +177,17 @@ stays-asked objects r whole a = record {
       let one = whole.one_choice in
       let found = nth_where-there (line_at ADS r.trace) k n (omega (arith, l, one)) in
       let at = nth_where-found (line_at ADS r.trace) k n found.0 found.1 in
-      subst (λ j. IsChosen objects j choice) at.2 ((a.at found.0 at.0).chosen choice at.1 (ap (slice_get r.choices) at.2 ∙ e));
-  held = λ c hold e. (a.at c (let l = slice_get_within r.holds c hold e in let h = whole.one_hold in omega arith)).held hold e;
+      subst (λ j. IsChosen objects j choice) at.2
+      ((a.at found.0 at.0).chosen choice at.1 (ap (slice_get r.choices) at.2 ∙ e));
+  held = λ c hold e. (a.at c (let l = slice_get_within r.holds c hold e in let h = whole.one_hold in
+      omega arith)).held hold e;
 }
 
-pub asked-stays : (objects : List (Option Told)) (r : Run) → IsWhole r → Asked objects r.choices r.holds → AskedInSteps (λ c. objects) r
+pub asked-stays : (objects : List (Option Told)) (r : Run) → IsWhole r → Asked objects r.choices r.holds
+    → AskedInSteps (λ c. objects) r
 asked-stays objects r whole a = record {
-  at = λ c l. record { chosen = λ choice t e. a.chosen (requests_below r.trace c) choice e; held = λ hold e. a.held c hold e };
+  at = λ c l. record {
+    chosen = λ choice t e. a.chosen (requests_below r.trace c) choice e;
+    held = λ hold e. a.held c hold e;
+  };
 }

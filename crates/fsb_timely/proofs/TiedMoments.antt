@@ -1,5 +1,6 @@
 -- What the moments of a run say of a snoop end is what the whole trace says.
-use Rattle.std.proofs.Common.{ℕ, zero, suc, ◌+◌, ◌<◌, ◌≤◌, ◌≡◌, [], ◌∷◌, ◌++◌, Option, Some, None, length, slice_index, is_some, refl, sym, ap, subst, ◌∙◌, inl, inr, arith, add-one}
+use Rattle.std.proofs.Common.{ℕ, zero, suc, ◌+◌, ◌<◌, ◌≤◌, ◌≡◌, [], ◌∷◌, ◌++◌, Option, Some, None, length, slice_index}
+use Rattle.std.proofs.Common.{is_some, refl, sym, ap, subst, ◌∙◌, inl, inr, arith, add-one}
 use Rattle.std.proofs.lemmas.Bool.{cases_lt}
 use Rattle.std.proofs.lemmas.List.{length-append, get_or_append_left}
 use Rattle.std.proofs.Math.Seq.{get_or-append_seam}
@@ -9,7 +10,8 @@ use Rattle.fsb_count.proofs.Interface.{count_where-passed, count_where-failed, c
 use Rattle.fsb_trace.specs.Requests.{live_clock_of}
 use Rattle.fsb_trace.specs.Snoop.{snoop_end_of}
 use Rattle.fsb_trace.specs.Outcome.{settled_by, settled_outcome_of}
-use Rattle.fsb_trace.proofs.Interface.{request_at-agree, AgreeTo-sym, snoop_end_of-clock, snoop_end_of-stays, live_clock_of-stays, snoop_end_of-rises}
+use Rattle.fsb_trace.proofs.Interface.{request_at-agree, AgreeTo-sym, snoop_end_of-clock, snoop_end_of-stays}
+use Rattle.fsb_trace.proofs.Interface.{live_clock_of-stays, snoop_end_of-rises}
 use Rattle.fsb_timely.specs.Moments.{number_of_turn, turns_in, number_snooped_at, snoop_end_with}
 use Rattle.fsb_timely.specs.Past.{SnoopEnd}
 use Rattle.fsb_timely.specs.Runs.{past_with, Run, run_to, moments_below, past_of}
@@ -22,7 +24,8 @@ use Rattle.fsb_timely.proofs.TiedGrants.{grant_of-same}
 use Rattle.fsb_timely.proofs.GoingOn.{Alike}
 use Rattle.fsb_timely.proofs.Settled.{settled_by-agree, claim_at-agree}
 use Rattle.fsb_timely.proofs.EndCount.{is_end_of_snoop, ends-below, is_end}
-use Rattle.fsb_timely.proofs.Moments.{moment-at, moment_of, snoop_of, moment-snooped, moment-quiet, number-says, snooped-there, run_to-agrees}
+use Rattle.fsb_timely.proofs.Moments.{moment-at, moment_of, snoop_of, moment-snooped, moment-quiet, number-says}
+use Rattle.fsb_timely.proofs.Moments.{snooped-there, run_to-agrees}
 
 -- the turns so far are as many as the snoop ends so far
 length-turns-more : (r : Run) (n : ℕ) → n < length r.trace → (o : Option ℕ) → number_snooped_at r.trace n ≡ o
@@ -30,19 +33,23 @@ length-turns-more : (r : Run) (n : ℕ) → n < length r.trace → (o : Option �
     → length (turns_in (moments_below r n ++ moment_of r n ∷ [])) ≡ count_where (is_end_of_snoop r.trace) (n + 1)
 unfolding is_end_of_snoop
 length-turns-more r n l None e h =
-    ap length (turns-quiet (moments_below r n) (moment_of r n) (moment-quiet r n l e)) ∙ h ∙ sym (count_where-failed (is_end_of_snoop r.trace) n (ap is_some e))
+    ap length (turns-quiet (moments_below r n) (moment_of r n) (moment-quiet r n l e)) ∙ h
+    ∙ sym (count_where-failed (is_end_of_snoop r.trace) n (ap is_some e))
 length-turns-more r n l (Some i) e h =
     let end = number-says r.trace i n e in
     let c = snoop_end_of-clock r.trace i n end in
     let s = snoop_of r n i c.clock in
     ap length (turns-snooped (moments_below r n) (moment_of r n) s (moment-snooped r i n c.clock end c.is_clock))
-    ∙ length-append (turns_in (moments_below r n)) (number_of_turn s.turn ∷ []) ∙ ap (λ k. k + 1) h ∙ sym (count_where-passed (is_end_of_snoop r.trace) n (ap is_some e))
+    ∙ length-append (turns_in (moments_below r n)) (number_of_turn s.turn ∷ []) ∙ ap (λ k. k + 1) h
+    ∙ sym (count_where-passed (is_end_of_snoop r.trace) n (ap is_some e))
 
-length-turns : (r : Run) (n : ℕ) → n ≤ length r.trace → length (turns_in (moments_below r n)) ≡ count_where (is_end_of_snoop r.trace) n
+length-turns : (r : Run) (n : ℕ) → n ≤ length r.trace
+    → length (turns_in (moments_below r n)) ≡ count_where (is_end_of_snoop r.trace) n
 unfolding moments_below turns_in count_where
 length-turns r zero l = refl
 length-turns r (suc n) l =
-    length-turns-more r n (omega arith) (number_snooped_at r.trace n) refl (length-turns r n (omega arith)) ∙ ap (count_where (is_end_of_snoop r.trace)) (add-one n)
+    length-turns-more r n (omega arith) (number_snooped_at r.trace n) refl (length-turns r n (omega arith))
+    ∙ ap (count_where (is_end_of_snoop r.trace)) (add-one n)
 
 -- the turn of a live request comes after those of the live requests before it
 turn-new : (r : Run) (i t q : ℕ) → snoop_end_of r.trace i ≡ Some t → live_clock_of r.trace i ≡ Some q
@@ -51,7 +58,8 @@ turn-new r i t q e f =
     let c = snoop_end_of-clock r.trace i t e in
     let within = c.within in
     let here : length (turns_in (moments_below r t)) ≡ i = length-turns r t (omega arith) ∙ ends-below r.trace i t e in
-    ap (λ ts. slice_index ts i) (turns-snooped (moments_below r t) (moment_of r t) (snoop_of r t i q) (moment-snooped r i t q e f))
+    ap (λ ts. slice_index ts i)
+    (turns-snooped (moments_below r t) (moment_of r t) (snoop_of r t i q) (moment-snooped r i t q e f))
     ∙ ap (slice_index (turns_in (moments_below r t) ++ number_of_turn (snoop_of r t i q).turn ∷ [])) (sym here)
     ∙ get_or-append_seam (turns_in (moments_below r t)) (number_of_turn (snoop_of r t i q).turn) [] 0
 
@@ -68,7 +76,8 @@ turn-old r n i t e l m =
     ∙ get_or_append_left (turns_in (moments_below r n)) (turns_in (moment_of r n ∷ [])) 0 i within
 
 -- the turn of a live request is at its number
-turn-there : (r : Run) (n i t q : ℕ) → snoop_end_of r.trace i ≡ Some t → live_clock_of r.trace i ≡ Some q → t < n → n ≤ length r.trace
+turn-there : (r : Run) (n i t q : ℕ) → snoop_end_of r.trace i ≡ Some t → live_clock_of r.trace i ≡ Some q
+    → t < n → n ≤ length r.trace
     → slice_index (turns_in (moments_below r n)) i ≡ number_of_turn (snoop_of r t i q).turn
 unfolding moments_below
 turn-there r zero i t q e f l m = absurd (omega arith)
@@ -77,7 +86,8 @@ turn-there r (suc n) i t q e f l m =
       | inl k ↦ turn-old r n i t e k (omega arith) ∙ turn-there r n i t q e f k (omega arith)
       | inr k ↦
           let same : t ≡ n = omega arith in
-          subst (λ u. slice_index (turns_in (moments_below r u ++ moment_of r u ∷ [])) i ≡ number_of_turn (snoop_of r t i q).turn) same (turn-new r i t q e f)
+          subst (λ u. slice_index (turns_in (moments_below r u ++ moment_of r u ∷ [])) i
+          ≡ number_of_turn (snoop_of r t i q).turn) same (turn-new r i t q e f)
     ]
 
 -- the turn of an earlier live request is the same in the list so far and in the whole list
@@ -126,11 +136,18 @@ snoop-tied r i t e =
         outcome = ap (option_map (settled_by r.trace (slice_index (turns_in (moments_below r (length r.trace))) i) i)) e
             ∙ ap (λ k. Some (settled_by r.trace k i t)) turn
             ∙ ap Some (settled_by-agree (t + 1) r.trace v (number_of_turn s.turn) i t agree (omega arith) e);
-        grant = grant_of-same (t + 1) (past_with r (moments_below r t) t) (past_of r) v r.trace i t q s.outcome (past-alike r t (omega arith)) (record { agree = back; below = omega arith; left = there; right = e }) clock c.is_clock (omega arith) (λ j less. turns-alike r i t e j less);
+        grant = grant_of-same (t + 1) (past_with r (moments_below r t) t) (past_of r) v r.trace i t q s.outcome
+            (past-alike r t (omega arith)) (record {
+              agree = back;
+              below = omega arith;
+              left = there;
+              right = e;
+            }) clock c.is_clock (omega arith) (λ j less. turns-alike r i t e j less);
       },
     )
 
-told-by : (r : Run) (t : ℕ) (s : SnoopEnd) → t < length r.trace → (o : Option ℕ) → number_snooped_at r.trace t ≡ o → snooped_at (past_of r) t ≡ Some s → (i : ℕ) × IsSnoopOf r i t s
+told-by : (r : Run) (t : ℕ) (s : SnoopEnd) → t < length r.trace → (o : Option ℕ)
+    → number_snooped_at r.trace t ≡ o → snooped_at (past_of r) t ≡ Some s → (i : ℕ) × IsSnoopOf r i t s
 told-by r t s l None e h =
     absurd (let x : ⊥ = (let e' = sym h ∙ snooped-there r t l ∙ moment-quiet r t l e in cc) in x)
 told-by r t s l (Some i) e h =
@@ -141,7 +158,8 @@ told-by r t s l (Some i) e h =
 none-past : (r : Run) (t : ℕ) → length r.trace ≤ t → snooped_at (past_of r) t ≡ None
 unfolding snooped_at past_of
 none-past r t l =
-    ap (option_and_then (λ moment. moment.snooped)) (slice_get_past (moments_below r (length r.trace)) t (let e = length-moments r (length r.trace) in omega arith))
+    ap (option_and_then (λ moment. moment.snooped))
+    (slice_get_past (moments_below r (length r.trace)) t (let e = length-moments r (length r.trace) in omega arith))
 
 -- and each snoop end of a moment is that of a live request of the whole trace
 pub tied-snoop : (r : Run) (t : ℕ) (s : SnoopEnd) → snooped_at (past_of r) t ≡ Some s → (i : ℕ) × IsSnoopOf r i t s

@@ -18,7 +18,8 @@ asked-same k a b (Defer n m) = refl
 asked-same k a b (Aerr n) = refl
 asked-same k a b (Bnr n m) = refl
 
-lines-same : (k : ℕ) (a b : Request) (lines : List HazardLine) → filter (is_asked (Begun k a)) lines ≡ filter (is_asked (Begun k b)) lines
+lines-same : (k : ℕ) (a b : Request) (lines : List HazardLine)
+    → filter (is_asked (Begun k a)) lines ≡ filter (is_asked (Begun k b)) lines
 lines-same k a b [] = refl
 lines-same k a b (line ∷ lines) =
     let here = asked-same k a b line in

@@ -1,5 +1,7 @@
--- The past of a timely run goes on from its past up to each clock, so what is said of a clock is said of the whole past.
-use Rattle.std.proofs.Common.{ℕ, suc, ◌+◌, ◌<◌, ◌≤◌, ◌≡◌, Bool, true, false, not, ◌&&◌, ◌||◌, nat_le, nat_lt, nat_eq, List, [], ◌∷◌, ◌++◌, length, take, drop, slice_get, refl, sym, ap, ◌∙◌, inl, inr, arith}
+-- The past of a timely run goes on from its past up to each clock, so what is said of a clock is said of the whole
+-- past.
+use Rattle.std.proofs.Common.{ℕ, suc, ◌+◌, ◌<◌, ◌≤◌, ◌≡◌, Bool, true, false, not, ◌&&◌, ◌||◌, nat_le, nat_lt, nat_eq}
+use Rattle.std.proofs.Common.{List, [], ◌∷◌, ◌++◌, length, take, drop, slice_get, refl, sym, ap, ◌∙◌, inl, inr, arith}
 use Rattle.std.specs.List.{filter, list_all, list_any}
 use Rattle.std.proofs.lemmas.Bool.{cases_lt, and_parts, le-leb, lt-leb, leb-true}
 use Rattle.std.proofs.lemmas.List.{length-take-le, take-append-drop}
@@ -34,7 +36,8 @@ later-than c first end (done ∷ log) l e =
 
 -- a log in time is its entries up to a clock, and then later ones
 split_at : (c first end : ℕ) (log : List Done) → is_in_time first end log ≡ true
-    → (later : List Done) × (log ≡ entries_to c log ++ later) × (list_all (λ done. nat_le (c + 1) done.clock) later ≡ true)
+    → (later : List Done) × (log ≡ entries_to c log ++ later)
+    × (list_all (λ done. nat_le (c + 1) done.clock) later ≡ true)
 unfolding is_in_time entries_to
 split_at c first end [] e = ([], refl, refl)
 split_at c first end (done ∷ log) e =
@@ -42,8 +45,11 @@ split_at c first end (done ∷ log) e =
     let rest = and_parts (nat_lt done.clock end) (is_in_time done.clock end log) parts.1 in
     elim (cases_lt c done.clock) [
       | inl l ↦
-          let more = later-than c done.clock end log l rest.1 in
-          (done ∷ log, rw (lt-leb done.clock c l) (ap (λ xs. xs ++ done ∷ log) (sym more.0)), rw (le-leb (c + 1) done.clock (omega arith)) more.1)
+          let more = later-than c done.clock end log l rest.1 in (
+            done ∷ log,
+            rw (lt-leb done.clock c l) (ap (λ xs. xs ++ done ∷ log) (sym more.0)),
+            rw (le-leb (c + 1) done.clock (omega arith)) more.1,
+          )
       | inr l ↦
           let more = split_at c done.clock end log rest.1 in
           (more.0, rw (le-leb done.clock c l) (ap (λ xs. done ∷ xs) more.1), more.2)
@@ -59,14 +65,16 @@ past-begins r c h l =
       same_plan = refl;
       same_moments = λ t m.
           sym (ap (λ v. slice_get v t) (sym (take-append-drop (c + 1) moments))
-          ∙ slice_get-before (take (c + 1) moments) (drop (c + 1) moments) t (let e = length-take-le (c + 1) moments (omega (arith, k, l)) in omega (arith, e, m)));
+          ∙ slice_get-before (take (c + 1) moments) (drop (c + 1) moments) t
+          (let e = length-take-le (c + 1) moments (omega (arith, k, l)) in omega (arith, e, m)));
       entries = split.0;
       more_log = split.1;
       at_end = split.2;
     }
 
 -- an arrival rests on the past up to its clock
-brings-alike : (n : ℕ) (p q : Past) (a c : ℕ) (need : Need) (t : ℕ) → GoesOn n p q → c < n → t < n → brings_at p a c need t ≡ brings_at q a c need t
+brings-alike : (n : ℕ) (p q : Past) (a c : ℕ) (need : Need) (t : ℕ) → GoesOn n p q → c < n → t < n
+    → brings_at p a c need t ≡ brings_at q a c need t
 unfolding brings_at is_granted is_end_at
 brings-alike n p q a c need t h l m =
     let grant = grant-same n p q t (going-alike n p q h) m in
@@ -75,17 +83,21 @@ brings-alike n p q a c need t h l m =
     is_some_and (grant i) (λ g. nat_eq g.agent a && nat_eq g.line need.line)
     && is_some_and (grant i) (λ g. list_any (nat_eq g.first) (ends i) && (g.owns || not need.alone))
 
-pub is_brought-alike : (n : ℕ) (p q : Past) (a c : ℕ) (need : Need) → GoesOn n p q → c < n → is_brought p a c need ≡ is_brought q a c need
+pub is_brought-alike : (n : ℕ) (p q : Past) (a c : ℕ) (need : Need) → GoesOn n p q → c < n
+    → is_brought p a c need ≡ is_brought q a c need
 unfolding is_brought
 is_brought-alike n p q a c need h l =
-    any_where-same (brings_at p a c need) (brings_at q a c need) (c + 1) (record { same = λ t m. brings-alike n p q a c need t h l (omega arith) })
+    any_where-same (brings_at p a c need) (brings_at q a c need) (c + 1)
+    (record { same = λ t m. brings-alike n p q a c need t h l (omega arith) })
 
-is_there-alike : (n : ℕ) (p q : Past) (a c : ℕ) (need : Need) → GoesOn n p q → c < n → is_there p a c need ≡ is_there q a c need
+is_there-alike : (n : ℕ) (p q : Past) (a c : ℕ) (need : Need) → GoesOn n p q → c < n
+    → is_there p a c need ≡ is_there q a c need
 unfolding is_there has_arrived
 is_there-alike n p q a c need h l =
     let met = is_met-alike n p q a (c + 1) need h (omega arith) in
     let latest = latest_grant-same n p q a need.line (c + 1) (going-alike n p q h) (omega arith) in
-    let ended : (first : ℕ) → is_ended p c first ≡ is_ended q c first = λ first. ended-same n p q c first (going-alike n p q h) (omega arith) in
+    let ended : (first : ℕ) → is_ended p c first ≡ is_ended q c first =
+    λ first. ended-same n p q c first (going-alike n p q h) (omega arith) in
     λ i. met i && is_some_and (latest i) (λ grant. ended grant.first i)
 
 pub is_arrival-alike : (n : ℕ) (p q : Past) (a c : ℕ) → GoesOn n p q → c < n → is_arrival p a c ≡ is_arrival q a c
@@ -94,8 +106,11 @@ is_arrival-alike n p q a c h l =
     let idling = is_idling-alike n p q a c h (omega arith) in
     let hit = is_hit-alike n p q a c h (omega arith) in
     let item = next_item-alike n p q a c h (omega arith) in
-    let brought : (need : Need) → is_brought p a c need ≡ is_brought q a c need = λ need. is_brought-alike n p q a c need h l in
+    let brought : (need : Need) → is_brought p a c need ≡ is_brought q a c need =
+    λ need. is_brought-alike n p q a c need h l in
     let there : (need : Need) → is_there p a c need ≡ is_there q a c need = λ need. is_there-alike n p q a c need h l in
     λ i.
     not (idling i) && not (hit i)
-    && is_some_and (item i) (λ x. list_any (λ need. brought need i && list_all (λ other. nat_eq other.line need.line || there other i) (needs_of x)) (needs_of x))
+    && is_some_and (item i)
+    (λ x. list_any (λ need. brought need i && list_all
+    (λ other. nat_eq other.line need.line || there other i) (needs_of x)) (needs_of x))

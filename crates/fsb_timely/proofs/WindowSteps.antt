@@ -1,5 +1,7 @@
 -- A want stays where its agent completes its next item: the rest of the window is the first part of the next one.
-use Rattle.std.proofs.Common.{ℕ, zero, suc, ◌+◌, ◌-◌, ◌<◌, ◌≤◌, ◌≡◌, Bool, true, false, not, ◌&&◌, ◌||◌, nat_eq, nat_le, nat_lt, List, [], ◌∷◌, ◌++◌, map, drop, length, slice_get, Option, Some, None, if◌then◌else◌, refl, sym, ap, subst, ◌∙◌, inl, inr, arith, add-zero}
+use Rattle.std.proofs.Common.{ℕ, zero, suc, ◌+◌, ◌-◌, ◌<◌, ◌≤◌, ◌≡◌, Bool, true, false, not, ◌&&◌, ◌||◌, nat_eq, nat_le}
+use Rattle.std.proofs.Common.{nat_lt, List, [], ◌∷◌, ◌++◌, map, drop, length, slice_get, Option, Some, None}
+use Rattle.std.proofs.Common.{if◌then◌else◌, refl, sym, ap, subst, ◌∙◌, inl, inr, arith, add-zero}
 use Rattle.std.proofs.Math.Bool.{and-false}
 use Rattle.std.proofs.lemmas.Bool.{cases_Bool, cases_lt, and_parts, or_parts, le-leb, lt-ltb, lt-leb, le-ltb, not-true}
 use Rattle.std.proofs.lemmas.List.Folds.{list_any-append}
@@ -14,7 +16,9 @@ use Rattle.fsb_access.specs.declared.item.Item.{Item}
 use Rattle.fsb_access.specs.declared.item.Item.TheVariants.{One, Locked, Idle}
 use Rattle.fsb_encode.specs.declared.request.Request.{Request}
 use Rattle.fsb_timely.specs.Past.{Past}
-use Rattle.fsb_timely.specs.Scripts.{Need, is_idle, is_locked, items_of, is_logged, is_logged_at, is_to_do, next_number, idle_clocks, idle_start, number_after, is_idling, plain_items, window_from, window_at, window, plain_need, locked_need, needs_after, needs_of, needs_from}
+use Rattle.fsb_timely.specs.Scripts.{Need, is_idle, is_locked, items_of, is_logged, is_logged_at, is_to_do, next_number}
+use Rattle.fsb_timely.specs.Scripts.{idle_clocks, idle_start, number_after, is_idling, plain_items, window_from}
+use Rattle.fsb_timely.specs.Scripts.{window_at, window, plain_need, locked_need, needs_after, needs_of, needs_from}
 use Rattle.fsb_timely.specs.Staying.{OwesNoMore, CompletesNext}
 use Rattle.fsb_timely.specs.Wants.{owed, is_missing, want_of}
 use Rattle.fsb_timely.proofs.Items.{is_logged-more}
@@ -54,7 +58,8 @@ among-more : (some all more : List ℕ) → AreAmong some all → AreAmong (some
 among-more some all more h = record {
   passed = λ test e.
       list_any-append test all more
-      ∙ or_cases (list_any test some) (list_any test more) (list_any test all) (list_any test more) (h.passed test) (λ t. t) (sym (list_any-append test some more) ∙ e);
+      ∙ or_cases (list_any test some) (list_any test more) (list_any test all) (list_any test more)
+      (h.passed test) (λ t. t) (sym (list_any-append test some more) ∙ e);
 }
 
 -- no line is among any
@@ -68,12 +73,16 @@ now p a c need = is_missing p a c (owed p a c) need
 abbrev next : Past → ℕ → ℕ → Need → Bool
 next p a c need = is_missing p a (c + 1) (owed p a (c + 1)) need
 
-group-over : (p : Past) (a c : ℕ) (some all : List ℕ) (group accesses : List Access) → OwesNoMore p a c → AreAmong some all
-    → list_any (now p a c) (map (locked_need all group) accesses) ≡ true → list_any (next p a c) (map (locked_need some group) accesses) ≡ true
+group-over : (p : Past) (a c : ℕ) (some all : List ℕ) (group accesses : List Access) → OwesNoMore p a c
+    → AreAmong some all
+    → list_any (now p a c) (map (locked_need all group) accesses) ≡ true
+    → list_any (next p a c) (map (locked_need some group) accesses) ≡ true
 unfolding locked_need
 group-over p a c some all group [] h fewer e = absurd (let no : ⊥ = cc in no)
 group-over p a c some all group (access ∷ accesses) h fewer e =
-    or_cases (now p a c (locked_need all group access)) (list_any (now p a c) (map (locked_need all group) accesses)) (next p a c (locked_need some group access)) (list_any (next p a c) (map (locked_need some group) accesses))
+    or_cases (now p a c (locked_need all group access))
+    (list_any (now p a c) (map (locked_need all group) accesses))
+    (next p a c (locked_need some group access)) (list_any (next p a c) (map (locked_need some group) accesses))
     (λ t. missing-over p a c (locked_need all group access) some h fewer t)
     (λ t. group-over p a c some all group accesses h fewer t)
     e
@@ -91,7 +100,8 @@ item-over p a c some all (Idle clocks) h fewer e = absurd (let no : ⊥ = cc in 
 
 -- a need of some items that may be asked for is one of more items, behind fewer earlier lines
 items-over : (p : Past) (a c : ℕ) (some all : List ℕ) (items more : List Item) → OwesNoMore p a c → AreAmong some all
-    → list_any (now p a c) (needs_from all items) ≡ true → list_any (next p a c) (needs_from some (items ++ more)) ≡ true
+    → list_any (now p a c) (needs_from all items) ≡ true
+    → list_any (next p a c) (needs_from some (items ++ more)) ≡ true
 unfolding needs_from
 items-over p a c some all [] more h fewer e = absurd (let no : ⊥ = cc in no)
 items-over p a c some all (item ∷ items) more h fewer e =
@@ -104,7 +114,8 @@ items-over p a c some all (item ∷ items) more h fewer e =
     (sym (list_any-append (now p a c) (needs_after all item) (needs_from (all ++ lines) items)) ∙ e)
 
 -- one plain item more
-plain-more : (k : ℕ) (items : List Item) → (more : List Item) × (plain_items (suc k) items ≡ plain_items k items ++ more)
+plain-more : (k : ℕ) (items : List Item)
+    → (more : List Item) × (plain_items (suc k) items ≡ plain_items k items ++ more)
 unfolding plain_items
 plain-more zero items = (plain_items 1 items, refl)
 plain-more (suc k) [] = ([], refl)
@@ -113,7 +124,8 @@ plain-more (suc k) (Locked group ∷ items) = ([], refl)
 plain-more (suc k) (Idle clocks ∷ items) = ([], refl)
 
 -- where a plain item needs something, there is a first one
-plain-first : (test : Need → Bool) (earlier : List ℕ) (m : ℕ) (items : List Item) → list_any test (needs_from earlier (plain_items m items)) ≡ true
+plain-first : (test : Need → Bool) (earlier : List ℕ) (m : ℕ) (items : List Item)
+    → list_any test (needs_from earlier (plain_items m items)) ≡ true
     → (access : Access) × (rest : List Item) × (k : ℕ) × (items ≡ One access ∷ rest) × (m ≡ suc k)
 unfolding plain_items needs_from
 plain-first test earlier zero items e = absurd (let no : ⊥ = cc in no)
@@ -123,7 +135,8 @@ plain-first test earlier (suc m) (Locked group ∷ rest) e = absurd (let no : �
 plain-first test earlier (suc m) (Idle clocks ∷ rest) e = absurd (let no : ⊥ = cc in no)
 
 -- the first of what is left of a list, and what is left behind it
-drop-first : {X : Type 0} (k : ℕ) (xs ys : List X) (x : X) → drop k xs ≡ x ∷ ys → (slice_get xs k ≡ Some x) × (drop (k + 1) xs ≡ ys)
+drop-first : {X : Type 0} (k : ℕ) (xs ys : List X) (x : X) → drop k xs ≡ x ∷ ys
+    → (slice_get xs k ≡ Some x) × (drop (k + 1) xs ≡ ys)
 drop-first zero [] ys x e = absurd (let no : ⊥ = cc in no)
 drop-first zero (z ∷ xs) ys x e = (cc, cc)
 drop-first (suc k) [] ys x e = absurd (let no : ⊥ = cc in no)
@@ -135,7 +148,9 @@ drop-first (suc k) (z ∷ xs) ys x e =
 -- an item that is done, or idle, stays so; the next item is done now; and the one behind it is to do
 pub done-before : (p : Past) (a c m : ℕ) → is_to_do p a c m ≡ false → is_to_do p a (c + 1) m ≡ false
 unfolding is_to_do
-done-before p a c m e = rw is_logged-more (by (is_some_and (slice_get (items_of p a) m) (λ item. not (is_idle item))) (is_logged p a c m) (is_logged_at p a c m) e)
+done-before p a c m e =
+    rw is_logged-more (by (is_some_and (slice_get (items_of p a) m) (λ item. not (is_idle item)))
+    (is_logged p a c m) (is_logged_at p a c m) e)
   where
     by : (x y z : Bool) → (x && not y) ≡ false → (x && not (y || z)) ≡ false
     by false y z e = refl
@@ -144,31 +159,37 @@ done-before p a c m e = rw is_logged-more (by (is_some_and (slice_get (items_of 
 
 pub done-now : (p : Past) (a c m : ℕ) → is_logged_at p a c m ≡ true → is_to_do p a (c + 1) m ≡ false
 unfolding is_to_do
-done-now p a c m t = rw (is_logged-more, t) (by (is_some_and (slice_get (items_of p a) m) (λ item. not (is_idle item))) (is_logged p a c m))
+done-now p a c m t = rw (is_logged-more, t)
+    (by (is_some_and (slice_get (items_of p a) m) (λ item. not (is_idle item))) (is_logged p a c m))
   where
     by : (x y : Bool) → (x && not (y || true)) ≡ false
     by false y = refl
     by true true = refl
     by true false = refl
 
-not_logged_now : (p : Past) (a c m n : ℕ) → ((other : ℕ) → is_logged_at p a c other ≡ true → other ≡ n) → n < m → is_logged_at p a c m ≡ false
+not_logged_now : (p : Past) (a c m n : ℕ) → ((other : ℕ) → is_logged_at p a c other ≡ true → other ≡ n) → n < m
+    → is_logged_at p a c m ≡ false
 not_logged_now p a c m n only l =
     elim (cases_Bool (is_logged_at p a c m)) [
       | inl t ↦ absurd (let same = only m t in omega arith)
       | inr f ↦ f
     ]
 
-to-do-now : (p : Past) (a c m : ℕ) (access : Access) → slice_get (items_of p a) m ≡ Some (One access) → is_logged p a c m ≡ false → is_logged_at p a c m ≡ false → is_to_do p a (c + 1) m ≡ true
+to-do-now : (p : Past) (a c m : ℕ) (access : Access) → slice_get (items_of p a) m ≡ Some (One access)
+    → is_logged p a c m ≡ false → is_logged_at p a c m ≡ false → is_to_do p a (c + 1) m ≡ true
 unfolding is_to_do is_idle is_some_and
 to-do-now p a c m access s f g = rw (is_logged-more, s, f, g) refl
 
 -- the next item is the one behind
-number-behind : (p : Past) (a c : ℕ) (access : Access) (h : CompletesNext p a c) → slice_get (items_of p a) (h.number + 1) ≡ Some (One access) → next_number p a (c + 1) ≡ Some (h.number + 1)
+number-behind : (p : Past) (a c : ℕ) (access : Access) (h : CompletesNext p a c)
+    → slice_get (items_of p a) (h.number + 1) ≡ Some (One access) → next_number p a (c + 1) ≡ Some (h.number + 1)
 unfolding next_number
 number-behind p a c access h s =
     let found = first_where-found (is_to_do p a c) (length (items_of p a)) h.number h.next in
-    first_where-at (is_to_do p a (c + 1)) (length (items_of p a)) (h.number + 1) (slice_get_within (items_of p a) (h.number + 1) (One access) s)
-    (to-do-now p a c (h.number + 1) access s h.fresh (not_logged_now p a c (h.number + 1) h.number h.alone (omega arith)))
+    first_where-at (is_to_do p a (c + 1)) (length (items_of p a)) (h.number + 1)
+    (slice_get_within (items_of p a) (h.number + 1) (One access) s)
+    (to-do-now p a c (h.number + 1) access s h.fresh
+    (not_logged_now p a c (h.number + 1) h.number h.alone (omega arith)))
     (λ m l. by m l)
   where
     by : (m : ℕ) → m < h.number + 1 → is_to_do p a (c + 1) m ≡ false
@@ -176,7 +197,8 @@ number-behind p a c access h s =
         let found = first_where-found (is_to_do p a c) (length (items_of p a)) h.number h.next in
         elim (cases_lt m h.number) [
           | inl k ↦ done-before p a c m (found.2 m k)
-          | inr k ↦ let same : h.number ≡ m = omega arith in subst (λ n. is_to_do p a (c + 1) n ≡ false) same (done-now p a c h.number h.logged)
+          | inr k ↦ let same : h.number ≡ m = omega arith in
+              subst (λ n. is_to_do p a (c + 1) n ≡ false) same (done-now p a c h.number h.logged)
         ]
 
 -- no clocks are idled below an item
@@ -186,53 +208,73 @@ no_idle items from zero l = refl
 no_idle items from (suc n) l = rw (lt-leb from n (omega arith), no_idle items from n (omega arith)) refl
 
 -- an agent does not idle right behind an item that it completed, where the next one is the one behind
-not_idling : (p : Past) (a c : ℕ) (h : CompletesNext p a c) → next_number p a (c + 1) ≡ Some (h.number + 1) → is_idling p a (c + 1) ≡ false
+not_idling : (p : Past) (a c : ℕ) (h : CompletesNext p a c) → next_number p a (c + 1) ≡ Some (h.number + 1)
+    → is_idling p a (c + 1) ≡ false
 unfolding is_idling idle_start number_after is_some_and
 not_idling p a c h e =
-    let none : idle_clocks (items_of p a) (h.last.item + 1) (h.number + 1) ≡ 0 = no_idle (items_of p a) (h.last.item + 1) (h.number + 1) (let i = h.last_item in omega arith) in
+    let none : idle_clocks (items_of p a) (h.last.item + 1) (h.number + 1) ≡ 0 =
+    no_idle (items_of p a) (h.last.item + 1) (h.number + 1) (let i = h.last_item in omega arith) in
     let k = h.last_clock in
-    rw (e, h.is_last) (le-ltb (c + 1) (h.last.clock + 1 + idle_clocks (items_of p a) (h.last.item + 1) (h.number + 1)) (omega (arith, k, none)))
+    rw (e, h.is_last)
+    (le-ltb (c + 1) (h.last.clock + 1 + idle_clocks (items_of p a) (h.last.item + 1) (h.number + 1))
+    (omega (arith, k, none)))
 
 -- the window of the next item, and that of the item behind it
 window-is : (p : Past) (a c n : ℕ) (item : Item) → next_number p a c ≡ Some n → slice_get (items_of p a) n ≡ Some item
-    → window p a c ≡ item ∷ (if is_locked item then [] else plain_items (p.plan.ahead - 1) (drop (n + 1) (items_of p a)))
+    → window p a c ≡ item ∷ (if is_locked item then []
+    else plain_items (p.plan.ahead - 1) (drop (n + 1) (items_of p a)))
 unfolding window window_at window_from
 window-is p a c n item e s = rw (e, s) refl
 
 -- a need of the rest of the window that may be asked for
-rest-needs : (p : Past) (a c : ℕ) (h : CompletesNext p a c) (need : Need) → find (now p a c) (needs_from [] (window p a c)) ≡ Some need
-    → (is_locked h.item ≡ false) × (list_any (now p a c) (needs_from (map (λ n. n.line) (needs_of h.item)) (plain_items (p.plan.ahead - 1) (drop (h.number + 1) (items_of p a)))) ≡ true)
+rest-needs : (p : Past) (a c : ℕ) (h : CompletesNext p a c) (need : Need)
+    → find (now p a c) (needs_from [] (window p a c)) ≡ Some need
+    → (is_locked h.item ≡ false)
+    × (list_any (now p a c) (needs_from (map (λ n. n.line) (needs_of h.item))
+    (plain_items (p.plan.ahead - 1) (drop (h.number + 1) (items_of p a)))) ≡ true)
 unfolding needs_from needs_of
 rest-needs p a c h need e =
     let some = any-found (now p a c) (needs_from [] (window p a c)) need e in
-    let there = ap (λ items. list_any (now p a c) (needs_from [] items)) (sym (window-is p a c h.number h.item h.next h.stands)) ∙ some in
+    let there = ap (λ items. list_any (now p a c) (needs_from [] items))
+    (sym (window-is p a c h.number h.item h.next h.stands)) ∙ some in
     by (is_locked h.item) refl there
   where
     lines : List ℕ
     lines = map (λ n. n.line) (needs_of h.item)
 
     by : (b : Bool) → is_locked h.item ≡ b
-        → list_any (now p a c) (needs_from [] (h.item ∷ (if is_locked h.item then [] else plain_items (p.plan.ahead - 1) (drop (h.number + 1) (items_of p a))))) ≡ true
-        → (is_locked h.item ≡ false) × (list_any (now p a c) (needs_from lines (plain_items (p.plan.ahead - 1) (drop (h.number + 1) (items_of p a)))) ≡ true)
+        → list_any (now p a c)
+        (needs_from []
+        (h.item ∷ (if is_locked h.item then []
+        else plain_items (p.plan.ahead - 1) (drop (h.number + 1) (items_of p a))))) ≡ true
+        → (is_locked h.item ≡ false)
+        × (list_any (now p a c)
+        (needs_from lines (plain_items (p.plan.ahead - 1) (drop (h.number + 1) (items_of p a)))) ≡ true)
     by true t there = absurd (let no : ⊥ = (let e' = rw (t, list_any-append, h.served) at there in cc) in no)
     by false f there = (f, let e' = rw (f, list_any-append, h.served) at there in e')
 
 -- the rest of the window, item by item
 rest-is : (p : Past) (a c : ℕ) (lines : List ℕ) (g : CompletesNext p a c) (access : Access) (rest : List Item) (k : ℕ)
     → drop (g.number + 1) (items_of p a) ≡ One access ∷ rest → p.plan.ahead - 1 ≡ suc k
-    → list_any (now p a c) (needs_from lines (plain_items (p.plan.ahead - 1) (drop (g.number + 1) (items_of p a)))) ≡ true
+    → list_any (now p a c)
+    (needs_from lines (plain_items (p.plan.ahead - 1) (drop (g.number + 1) (items_of p a)))) ≡ true
     → list_any (now p a c) (needs_from lines (One access ∷ plain_items k rest)) ≡ true
 unfolding plain_items
-rest-is p a c lines g access rest k d m e = (λ i. list_any (now p a c) (needs_from lines (plain_items (sym m i) (sym d i)))) ∙ e
+rest-is p a c lines g access rest k d m e =
+    (λ i. list_any (now p a c) (needs_from lines (plain_items (sym m i) (sym d i)))) ∙ e
 
-shift : (p : Past) (a c : ℕ) (lines : List ℕ) (access : Access) (rest : List Item) (k : ℕ) (more : List Item) → OwesNoMore p a c
+shift : (p : Past) (a c : ℕ) (lines : List ℕ) (access : Access) (rest : List Item) (k : ℕ) (more : List Item)
+    → OwesNoMore p a c
     → list_any (now p a c) (needs_from lines (One access ∷ plain_items k rest)) ≡ true
     → list_any (next p a c) (needs_from [] ((One access ∷ plain_items k rest) ++ more)) ≡ true
-shift p a c lines access rest k more h e = items-over p a c [] lines (One access ∷ plain_items k rest) more h (none-is-among lines) e
+shift p a c lines access rest k more h e =
+    items-over p a c [] lines (One access ∷ plain_items k rest) more h (none-is-among lines) e
 
-next-window : (p : Past) (a c : ℕ) (g : CompletesNext p a c) (access : Access) (rest : List Item) (k : ℕ) (more : List Item)
+next-window : (p : Past) (a c : ℕ) (g : CompletesNext p a c) (access : Access) (rest : List Item) (k : ℕ)
+    (more : List Item)
     → next_number p a (c + 1) ≡ Some (g.number + 1) → slice_get (items_of p a) (g.number + 1) ≡ Some (One access)
-    → drop (g.number + 1 + 1) (items_of p a) ≡ rest → p.plan.ahead - 1 ≡ suc k → plain_items (suc k) rest ≡ plain_items k rest ++ more
+    → drop (g.number + 1 + 1) (items_of p a) ≡ rest → p.plan.ahead - 1 ≡ suc k
+    → plain_items (suc k) rest ≡ plain_items k rest ++ more
     → window p a (c + 1) ≡ (One access ∷ plain_items k rest) ++ more
 unfolding is_locked
 next-window p a c g access rest k more number s d m e =
@@ -240,7 +282,8 @@ next-window p a c g access rest k more number s d m e =
     ∙ (λ i. One access ∷ plain_items (m i) (d i))
     ∙ ap (λ xs. One access ∷ xs) e
 
-pub want-goes_on : (p : Past) (a c : ℕ) (request : Request) → OwesNoMore p a c → CompletesNext p a c → want_of p a c ≡ Some request
+pub want-goes_on : (p : Past) (a c : ℕ) (request : Request) → OwesNoMore p a c → CompletesNext p a c
+    → want_of p a c ≡ Some request
     → (next : Request) × (want_of p a (c + 1) ≡ Some next)
 want-goes_on p a c request h g wants =
     let parts = want-parts p a c request wants in
@@ -250,9 +293,11 @@ want-goes_on p a c request h g wants =
     let behind = drop-first (g.number + 1) (items_of p a) first.1 (One first.0) first.3 in
     let number = number-behind p a c first.0 g behind.0 in
     let more = plain-more first.2 first.1 in
-    let shown = shift p a c lines first.0 first.1 first.2 more.0 h (rest-is p a c lines g first.0 first.1 first.2 first.3 first.4 rest.1) in
+    let shown = shift p a c lines first.0 first.1 first.2 more.0 h
+    (rest-is p a c lines g first.0 first.1 first.2 first.3 first.4 rest.1) in
     let there = next-window p a c g first.0 first.1 first.2 more.0 number behind.0 behind.1 first.4 more.1 in
-    let found = found-any (next p a c) (needs_from [] (window p a (c + 1))) (ap (λ items. list_any (next p a c) (needs_from [] items)) there ∙ shown) in
+    let found = found-any (next p a c) (needs_from [] (window p a (c + 1)))
+    (ap (λ items. list_any (next p a c) (needs_from [] items)) there ∙ shown) in
     want-there p a (c + 1) found.0
     (not_idling p a c g number)
     (room-over p.plan.ahead (length (owed p a c)) (length (owed p a (c + 1))) h.fewer parts.1)

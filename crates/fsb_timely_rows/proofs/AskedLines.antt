@@ -1,5 +1,6 @@
 -- The choices and the holds of a row are what an object answers that tells the row's hazard lines.
-use Rattle.std.proofs.Common.{ℕ, zero, suc, ◌+◌, ◌≡◌, Bool, true, false, List, [], ◌∷◌, Some, length, slice_get, refl, sym, ap, ◌∙◌, subst, inl, inr, add-one}
+use Rattle.std.proofs.Common.{ℕ, zero, suc, ◌+◌, ◌≡◌, Bool, true, false, List, [], ◌∷◌, Some, length, slice_get, refl}
+use Rattle.std.proofs.Common.{sym, ap, ◌∙◌, subst, inl, inr, add-one}
 use Rattle.std.proofs.lemmas.List.{length-append}
 use Rattle.std.specs.List.{list_any}
 use Rattle.fsb_count.proofs.Interface.{slice_get-push}
@@ -22,7 +23,8 @@ length-holds lines zero = refl
 length-holds lines (suc n) =
     length-append (holds_for lines n) (hold_for lines n ∷ []) ∙ ap (λ k. k + 1) (length-holds lines n) ∙ add-one n
 
-choice-at : (lines : List HazardLine) (n k : ℕ) (choice : Choice) → slice_get (choices_for lines n) k ≡ Some choice → choice ≡ choice_for lines k
+choice-at : (lines : List HazardLine) (n k : ℕ) (choice : Choice)
+    → slice_get (choices_for lines n) k ≡ Some choice → choice ≡ choice_for lines k
 choice-at lines zero k choice e = absurd (let h : ⊥ = cc in h)
 choice-at lines (suc n) k choice e =
     elim (slice_get-push (choices_for lines n) (choice_for lines n) k choice e) [
@@ -30,7 +32,8 @@ choice-at lines (suc n) k choice e =
       | inr new ↦ sym new.1 ∙ ap (choice_for lines) (sym (new.0 ∙ length-choices lines n))
     ]
 
-hold-at : (lines : List HazardLine) (n c : ℕ) (hold : Bool) → slice_get (holds_for lines n) c ≡ Some hold → hold ≡ hold_for lines c
+hold-at : (lines : List HazardLine) (n c : ℕ) (hold : Bool) → slice_get (holds_for lines n) c ≡ Some hold
+    → hold ≡ hold_for lines c
 hold-at lines zero c hold e = absurd (let h : ⊥ = cc in h)
 hold-at lines (suc n) c hold e =
     elim (slice_get-push (holds_for lines n) (hold_for lines n) c hold e) [
@@ -48,7 +51,11 @@ chosen lines k =
     record {
       request = some_request;
       together = answer;
-      joined = record { answers = answer ∷ []; answered = (refl, tt); joined = sym (join_commutes quiet_choice answer ∙ join_nothing answer) };
+      joined = record {
+        answers = answer ∷ [];
+        answered = (refl, tt);
+        joined = sym (join_commutes quiet_choice answer ∙ join_nothing answer);
+      };
       chosen = refl;
     }
 
@@ -59,8 +66,10 @@ held lines c = record {
   asks = or-nothing (hold_for lines c);
 }
 
-pub asked_for_lines : (lines : List HazardLine) (n m : ℕ) → Asked (told_lines lines ∷ []) (choices_for lines n) (holds_for lines m)
+pub asked_for_lines : (lines : List HazardLine) (n m : ℕ)
+    → Asked (told_lines lines ∷ []) (choices_for lines n) (holds_for lines m)
 asked_for_lines lines n m = record {
-  chosen = λ k choice e. subst (IsChosen (told_lines lines ∷ []) k) (sym (choice-at lines n k choice e)) (chosen lines k);
+  chosen = λ k choice e. subst (IsChosen (told_lines lines ∷ []) k) (sym (choice-at lines n k choice e))
+      (chosen lines k);
   held = λ c hold e. subst (IsHold (told_lines lines ∷ []) c) (sym (hold-at lines m c hold e)) (held lines c);
 }

@@ -1,5 +1,6 @@
 -- `Asked` by itself: what two objects answered, of which one tells nothing, and answers that an object does not give.
-use Rattle.std.proofs.Common.{◌≡◌, ◌||◌, ℕ, zero, suc, Bool, true, false, refl, ap, ◌∙◌, List, [], ◌∷◌, Option, Some, None, slice_get, arith}
+use Rattle.std.proofs.Common.{◌≡◌, ◌||◌, ℕ, zero, suc, Bool, true, false, refl, ap, ◌∙◌, List, [], ◌∷◌, Option, Some}
+use Rattle.std.proofs.Common.{None, slice_get, arith}
 use Rattle.std.specs.List.{list_any, fold}
 use Rattle.fsb_hazard.specs.declared.choice.Choice.{Choice}
 use Rattle.fsb_hazard.specs.declared.line.HazardLine.{HazardLine}
@@ -39,11 +40,16 @@ both_are_asked = record {
   held = λ c hold e. held-at c hold e;
 }
   where
-    chosen-at : (k : ℕ) (choice : Choice) → slice_get (stalls 3 ∷ stalls 0 ∷ []) k ≡ Some choice → IsChosen (teller ∷ silent ∷ []) k choice
+    chosen-at : (k : ℕ) (choice : Choice) → slice_get (stalls 3 ∷ stalls 0 ∷ []) k ≡ Some choice
+        → IsChosen (teller ∷ silent ∷ []) k choice
     chosen-at zero choice e = record {
       request = some_request;
       together = record (stalls 3) { bnr = true };
-      joined = record { answers = stalls 2 ∷ record (stalls 3) { bnr = true } ∷ []; answered = (refl, (tt, tt)); joined = refl };
+      joined = record {
+        answers = stalls 2 ∷ record (stalls 3) { bnr = true } ∷ [];
+        answered = (refl, (tt, tt));
+        joined = refl;
+      };
       chosen = cc;
     }
     chosen-at (suc zero) choice e = record {
@@ -70,7 +76,8 @@ told_choice : (k : ℕ) (choice : Choice) (h : IsChosen (teller ∷ []) k choice
     → choice ≡ record (fold join quiet_choice (entry lines (Begun k h.request) ∷ [])) { bnr = false }
 told_choice k choice h =
     let clear : Choice → Choice = λ together. record together { bnr = false } in
-    h.chosen ∙ ap clear (h.joined.joined ∙ ap (fold join quiet_choice) (one_answer (Begun k h.request) h.joined.answers h.joined.answered))
+    h.chosen ∙ ap clear (h.joined.joined
+    ∙ ap (fold join quiet_choice) (one_answer (Begun k h.request) h.joined.answers h.joined.answered))
 
 -- its choice for the first request has the two stalls
 told_stalls : (choice : Choice) → IsChosen (teller ∷ []) 0 choice → choice ≡ stalls 2
@@ -78,15 +85,19 @@ told_stalls choice h = told_choice 0 choice h
 
 -- and its holds are those of the line
 told_hold : (c : ℕ) (hold : Bool) → IsHold (teller ∷ []) c hold → hold ≡ (entry lines (Clock c)).bnr || false
-told_hold c hold h = h.asks ∙ ap (λ answers. list_any (λ (answer : Choice). answer.bnr) answers) (one_answer (Clock c) h.answers h.answered)
+told_hold c hold h = h.asks
+    ∙ ap (λ answers. list_any (λ (answer : Choice). answer.bnr) answers) (one_answer (Clock c) h.answers h.answered)
 
 -- a stall is left out
 pub stall_is_asked : ¬ Asked (teller ∷ []) (stalls 1 ∷ []) []
-stall_is_asked a = absurd (let f : 1 ≡ 2 = ap (λ (choice : Choice). choice.stall) (told_stalls (stalls 1) (a.chosen 0 (stalls 1) refl)) in omega arith)
+stall_is_asked a =
+    absurd (let f : 1 ≡ 2 = ap (λ (choice : Choice). choice.stall)
+    (told_stalls (stalls 1) (a.chosen 0 (stalls 1) refl)) in omega arith)
 
 -- BNR# is kept in the choice of a request
 pub bnr_is_no_choice : ¬ Asked (teller ∷ []) (record (stalls 2) { bnr = true } ∷ []) []
-bnr_is_no_choice a = absurd (let f : true ≡ false = ap (λ (choice : Choice). choice.bnr) (told_stalls _ (a.chosen 0 _ refl)) in cc)
+bnr_is_no_choice a =
+    absurd (let f : true ≡ false = ap (λ (choice : Choice). choice.bnr) (told_stalls _ (a.chosen 0 _ refl)) in cc)
 
 -- BNR# is not asserted though it is asked for
 pub hold_is_asked : ¬ Asked (teller ∷ []) [] (false ∷ false ∷ [])

@@ -1,4 +1,5 @@
--- What caches and memory are to hold in the middle and at the end of five runs: the states, the bytes by the log, and the
+-- What caches and memory are to hold in the middle and at the end of five runs: the states, the bytes by the log,
+-- and the
 -- bytes that were put into memory.
 use Rattle.std.proofs.Common.{◌≡◌, true, false, refl, take, slice_index}
 use Rattle.fsb_line.specs.declared.state.Mesi.TheVariants.{Invalid, Shared, Exclusive, Modified}
@@ -7,9 +8,12 @@ use Rattle.fsb_timely.specs.Hits.{line_state_of}
 use Rattle.fsb_timely.specs.Kept.{is_named, bytes_now, bytes_put}
 use Rattle.fsb_timely_rows.proofs.Opened.{opened}
 use Rattle.fsb_timely_rows.proofs.LaidOut.{run_of}
-use Rattle.fsb_timely_rows.proofs.LoadThenStoreHit.{plan as hit_plan, trace as hit_trace, log as hit_log, run as hit_run}
-use Rattle.fsb_timely_rows.proofs.DirtyVictimWrittenBack.{plan as victim_plan, trace as victim_trace, log as victim_log, run as victim_run}
-use Rattle.fsb_timely_rows.proofs.ThreeStoresChained.{plan as chain_plan, trace as chain_trace, log as chain_log, run as chain_run}
+use Rattle.fsb_timely_rows.proofs.LoadThenStoreHit.{plan as hit_plan, trace as hit_trace, log as hit_log}
+use Rattle.fsb_timely_rows.proofs.LoadThenStoreHit.{run as hit_run}
+use Rattle.fsb_timely_rows.proofs.DirtyVictimWrittenBack.{plan as victim_plan, trace as victim_trace, log as victim_log}
+use Rattle.fsb_timely_rows.proofs.DirtyVictimWrittenBack.{run as victim_run}
+use Rattle.fsb_timely_rows.proofs.ThreeStoresChained.{plan as chain_plan, trace as chain_trace, log as chain_log}
+use Rattle.fsb_timely_rows.proofs.ThreeStoresChained.{run as chain_run}
 use Rattle.fsb_timely_rows.proofs.FourOwners.{run as owners_run}
 use Rattle.fsb_timely_rows.proofs.WindowEnds.{run as window_run}
 

@@ -1,5 +1,6 @@
 -- `Kept` by itself: caches and memory that are those of a run, and ones that differ in one thing.
-use Rattle.std.proofs.Common.{◌≡◌, ◌<◌, ℕ, true, false, refl, sym, ap, ◌∙◌, List, [], ◌∷◌, take, replicate, slice_index, IsTrue, arith, lit<}
+use Rattle.std.proofs.Common.{◌≡◌, ◌<◌, ℕ, true, false, refl, sym, ap, ◌∙◌, List, [], ◌∷◌, take, replicate, slice_index}
+use Rattle.std.proofs.Common.{IsTrue, arith, lit<}
 use Rattle.std.proofs.lemmas.Bool.Decides.{nat_tests}
 use Rattle.fsb_line.specs.declared.state.Mesi.TheVariants.{Invalid, Shared, Exclusive, Modified}
 use Rattle.fsb_timely.specs.Runs.{Run, past_of}

@@ -1,6 +1,7 @@
 -- Mixed runs in which the data differ at one clock: none is a simulation.
 use Rattle.std.proofs.Common.{◌≡◌, refl, [], ◌∷◌, false, lit<}
-use Rattle.fsb_signal.specs.declared.lines.TheConstants.Lines.{BREQ0, BREQ1, BREQ3, LOCK, HIT, HITM, RS0, RS1, RS2, DBSY, DRDY, RP}
+use Rattle.fsb_signal.specs.declared.lines.TheConstants.Lines.{BREQ0, BREQ1, BREQ3, LOCK, HIT, HITM, RS0, RS1, RS2}
+use Rattle.fsb_signal.specs.declared.lines.TheConstants.Lines.{DBSY, DRDY, RP}
 use Rattle.fsb_timely.specs.Runs.{Run}
 use Rattle.fsb_timely.specs.Carried.{carries_data}
 use Rattle.fsb_timely.specs.Timely.{holds_at}
@@ -25,7 +26,8 @@ use Rattle.fsb_timely_rows.proofs.Mixed27.{plan as mixed_27_plan, trace as mixed
 
 -- a byte of the data is another one
 abbrev pub run0 : Run
-run0 = run_of mixed_02_plan 3 (changed mixed_02_trace 10 (clock (BREQ1 ∷ BREQ3 ∷ DBSY ∷ DRDY ∷ []) 0x0 0x0 0x100)) mixed_02_log
+run0 = run_of mixed_02_plan 3
+    (changed mixed_02_trace 10 (clock (BREQ1 ∷ BREQ3 ∷ DBSY ∷ DRDY ∷ []) 0x0 0x0 0x100)) mixed_02_log
 
 -- a byte of the data is another one
 abbrev pub run1 : Run
@@ -33,7 +35,8 @@ run1 = run_of mixed_03_plan 3 (changed mixed_03_trace 10 (clock (BREQ3 ∷ DBSY 
 
 -- a byte of the data is another one
 abbrev pub run2 : Run
-run2 = run_of mixed_05_plan 3 (changed mixed_05_trace 10 (clock (BREQ0 ∷ BREQ1 ∷ DBSY ∷ DRDY ∷ []) 0x0 0x0 0x100)) mixed_05_log
+run2 = run_of mixed_05_plan 3
+    (changed mixed_05_trace 10 (clock (BREQ0 ∷ BREQ1 ∷ DBSY ∷ DRDY ∷ []) 0x0 0x0 0x100)) mixed_05_log
 
 -- a byte of the data is another one
 abbrev pub run3 : Run
@@ -45,7 +48,8 @@ run4 = run_of mixed_10_plan 3 (changed mixed_10_trace 10 (clock (DBSY ∷ DRDY �
 
 -- the data are those before the store or the setting
 abbrev pub run5 : Run
-run5 = run_of mixed_11_plan 2 (changed mixed_11_trace 8 (clock (RS0 ∷ RS1 ∷ RS2 ∷ DBSY ∷ DRDY ∷ []) 0x0 0x0 0x0)) mixed_11_log
+run5 = run_of mixed_11_plan 2
+    (changed mixed_11_trace 8 (clock (RS0 ∷ RS1 ∷ RS2 ∷ DBSY ∷ DRDY ∷ []) 0x0 0x0 0x0)) mixed_11_log
 
 -- a byte of the data is another one
 abbrev pub run6 : Run
@@ -53,7 +57,8 @@ run6 = run_of mixed_15_plan 2 (changed mixed_15_trace 10 (clock (LOCK ∷ DBSY �
 
 -- a byte of the data is another one
 abbrev pub run7 : Run
-run7 = run_of mixed_16_plan 3 (changed mixed_16_trace 10 (clock (BREQ0 ∷ BREQ1 ∷ BREQ3 ∷ DBSY ∷ DRDY ∷ []) 0x0 0x0 0x100)) mixed_16_log
+run7 = run_of mixed_16_plan 3
+    (changed mixed_16_trace 10 (clock (BREQ0 ∷ BREQ1 ∷ BREQ3 ∷ DBSY ∷ DRDY ∷ []) 0x0 0x0 0x100)) mixed_16_log
 
 -- the data are those before the store or the setting
 abbrev pub run8 : Run
@@ -69,15 +74,18 @@ run10 = run_of mixed_21_plan 3 (changed mixed_21_trace 9 (clock (HITM ∷ DBSY �
 
 -- the data are those before the store or the setting
 abbrev pub run11 : Run
-run11 = run_of mixed_22_plan 3 (changed mixed_22_trace 9 (clock (BREQ1 ∷ HIT ∷ DBSY ∷ DRDY ∷ RP ∷ []) 0x2 0x2002 0x0)) mixed_22_log
+run11 = run_of mixed_22_plan 3
+    (changed mixed_22_trace 9 (clock (BREQ1 ∷ HIT ∷ DBSY ∷ DRDY ∷ RP ∷ []) 0x2 0x2002 0x0)) mixed_22_log
 
 -- the data are those before the store or the setting
 abbrev pub run12 : Run
-run12 = run_of mixed_26_plan 2 (changed mixed_26_trace 8 (clock (RS0 ∷ RS1 ∷ RS2 ∷ DBSY ∷ DRDY ∷ []) 0x0 0x0 0x0)) mixed_26_log
+run12 = run_of mixed_26_plan 2
+    (changed mixed_26_trace 8 (clock (RS0 ∷ RS1 ∷ RS2 ∷ DBSY ∷ DRDY ∷ []) 0x0 0x0 0x0)) mixed_26_log
 
 -- the data are those before the store or the setting
 abbrev pub run13 : Run
-run13 = run_of mixed_27_plan 1 (changed mixed_27_trace 9 (clock (RS0 ∷ RS1 ∷ RS2 ∷ DBSY ∷ DRDY ∷ []) 0x0 0x0 0x0)) mixed_27_log
+run13 = run_of mixed_27_plan 1
+    (changed mixed_27_trace 9 (clock (RS0 ∷ RS1 ∷ RS2 ∷ DBSY ∷ DRDY ∷ []) 0x0 0x0 0x0)) mixed_27_log
 
 -- what is computed: each of them breaks its part at the changed clock
 pub computes :

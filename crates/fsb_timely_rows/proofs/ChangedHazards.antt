@@ -1,6 +1,7 @@
 -- Mixed runs in which BNR#, AERR#, DEFER# or a stall differs at one clock: none is a simulation.
 use Rattle.std.proofs.Common.{◌≡◌, refl, [], ◌∷◌, false, lit<}
-use Rattle.fsb_signal.specs.declared.lines.TheConstants.Lines.{BREQ0, BREQ1, BREQ2, BREQ3, LOCK, ADS, HIT, RS0, RS2, DBSY, DRDY, RP}
+use Rattle.fsb_signal.specs.declared.lines.TheConstants.Lines.{BREQ0, BREQ1, BREQ2, BREQ3, LOCK, ADS, HIT, RS0, RS2}
+use Rattle.fsb_signal.specs.declared.lines.TheConstants.Lines.{DBSY, DRDY, RP}
 use Rattle.fsb_timely.specs.Runs.{Run}
 use Rattle.fsb_timely.specs.Snoops.{drives_hazards}
 use Rattle.fsb_timely.specs.Timely.{holds_at}
@@ -33,7 +34,8 @@ run1 = run_of mixed_01_plan 2 (changed mixed_01_trace 7 (clock (BREQ1 ∷ LOCK �
 
 -- HIT# is asserted at no snoop clock
 abbrev pub run2 : Run
-run2 = run_of mixed_02_plan 2 (changed mixed_02_trace 7 (clock (BREQ1 ∷ BREQ2 ∷ BREQ3 ∷ HIT ∷ []) 0x0 0x0 0x0)) mixed_02_log
+run2 = run_of mixed_02_plan 2 (changed mixed_02_trace 7 (clock (BREQ1 ∷ BREQ2 ∷ BREQ3 ∷ HIT ∷ []) 0x0 0x0 0x0))
+    mixed_02_log
 
 -- the snoop does not stall
 abbrev pub run3 : Run
@@ -41,7 +43,8 @@ run3 = run_of mixed_04_plan 2 (changed mixed_04_trace 6 (clock [] 0x2 0x20002 0x
 
 -- AERR# does not come
 abbrev pub run4 : Run
-run4 = run_of mixed_06_plan 2 (changed mixed_06_trace 5 (clock (BREQ1 ∷ LOCK ∷ ADS ∷ []) 0x2 0x127d12d5 0x0)) mixed_06_log
+run4 = run_of mixed_06_plan 2 (changed mixed_06_trace 5 (clock (BREQ1 ∷ LOCK ∷ ADS ∷ []) 0x2 0x127d12d5 0x0))
+    mixed_06_log
 
 -- BNR# does not come
 abbrev pub run5 : Run
@@ -57,7 +60,9 @@ run7 = run_of mixed_10_plan 6 (changed mixed_10_trace 21 (clock [] 0x2 0x0 0x0))
 
 -- BNR# does not come
 abbrev pub run8 : Run
-run8 = run_of mixed_11_plan 6 (changed mixed_11_trace 24 (clock (BREQ2 ∷ ADS ∷ RS0 ∷ RS2 ∷ DBSY ∷ DRDY ∷ []) 0xe 0xa9769057 0x7100fb094bce)) mixed_11_log
+run8 = run_of mixed_11_plan 6
+    (changed mixed_11_trace 24 (clock (BREQ2 ∷ ADS ∷ RS0 ∷ RS2 ∷ DBSY ∷ DRDY ∷ []) 0xe 0xa9769057
+    0x7100fb094bce)) mixed_11_log
 
 -- BNR# does not come
 abbrev pub run9 : Run

@@ -1,6 +1,7 @@
 -- Mixed runs in which LOCK# differs at one clock: none is a simulation.
 use Rattle.std.proofs.Common.{◌≡◌, refl, [], ◌∷◌, false, lit<}
-use Rattle.fsb_signal.specs.declared.lines.TheConstants.Lines.{BREQ0, BREQ1, BREQ2, BREQ3, BPRI, LOCK, ADS, HIT, TRDY, DBSY, DRDY, AP0, RP}
+use Rattle.fsb_signal.specs.declared.lines.TheConstants.Lines.{BREQ0, BREQ1, BREQ2, BREQ3, BPRI, LOCK, ADS, HIT, TRDY}
+use Rattle.fsb_signal.specs.declared.lines.TheConstants.Lines.{DBSY, DRDY, AP0, RP}
 use Rattle.fsb_timely.specs.Runs.{Run}
 use Rattle.fsb_timely.specs.BusLock.{drives_lock}
 use Rattle.fsb_timely.specs.Timely.{holds_at}
@@ -35,7 +36,8 @@ run2 = run_of mixed_01_plan 5 (changed mixed_01_trace 21 (clock (BREQ1 ∷ BPRI 
 
 -- LOCK# comes a clock late
 abbrev pub run3 : Run
-run3 = run_of mixed_03_plan 12 (changed mixed_03_trace 44 (clock (BREQ0 ∷ BREQ3 ∷ ADS ∷ TRDY ∷ AP0 ∷ []) 0x2 0x8 0x0)) mixed_03_log
+run3 = run_of mixed_03_plan 12
+    (changed mixed_03_trace 44 (clock (BREQ0 ∷ BREQ3 ∷ ADS ∷ TRDY ∷ AP0 ∷ []) 0x2 0x8 0x0)) mixed_03_log
 
 -- LOCK# stays a clock longer
 abbrev pub run4 : Run
@@ -51,11 +53,14 @@ run6 = run_of mixed_09_plan 3 (changed mixed_09_trace 19 (clock (BREQ0 ∷ ADS �
 
 -- LOCK# comes a clock late
 abbrev pub run7 : Run
-run7 = run_of mixed_11_plan 8 (changed mixed_11_trace 34 (clock (BREQ1 ∷ ADS ∷ HIT ∷ DBSY ∷ DRDY ∷ RP ∷ []) 0xa 0xa976904f 0x630000f70000)) mixed_11_log
+run7 = run_of mixed_11_plan 8
+    (changed mixed_11_trace 34 (clock (BREQ1 ∷ ADS ∷ HIT ∷ DBSY ∷ DRDY ∷ RP ∷ []) 0xa 0xa976904f
+    0x630000f70000)) mixed_11_log
 
 -- LOCK# stays a clock longer
 abbrev pub run8 : Run
-run8 = run_of mixed_14_plan 5 (changed mixed_14_trace 30 (clock (BREQ0 ∷ LOCK ∷ DBSY ∷ DRDY ∷ []) 0x0 0x0 0x0)) mixed_14_log
+run8 = run_of mixed_14_plan 5 (changed mixed_14_trace 30 (clock (BREQ0 ∷ LOCK ∷ DBSY ∷ DRDY ∷ []) 0x0 0x0 0x0))
+    mixed_14_log
 
 -- LOCK# comes a clock early
 abbrev pub run9 : Run
@@ -71,11 +76,13 @@ run11 = run_of mixed_21_plan 5 (changed mixed_21_trace 23 (clock (BREQ2 ∷ LOCK
 
 -- LOCK# comes a clock early
 abbrev pub run12 : Run
-run12 = run_of mixed_22_plan 7 (changed mixed_22_trace 30 (clock (BREQ0 ∷ LOCK ∷ DBSY ∷ DRDY ∷ []) 0x0 0x0 0x71000000000000)) mixed_22_log
+run12 = run_of mixed_22_plan 7
+    (changed mixed_22_trace 30 (clock (BREQ0 ∷ LOCK ∷ DBSY ∷ DRDY ∷ []) 0x0 0x0 0x71000000000000)) mixed_22_log
 
 -- LOCK# comes a clock late
 abbrev pub run13 : Run
-run13 = run_of mixed_23_plan 3 (changed mixed_23_trace 24 (clock (BREQ0 ∷ ADS ∷ AP0 ∷ []) 0x2 0x1ffffffc 0x0)) mixed_23_log
+run13 = run_of mixed_23_plan 3 (changed mixed_23_trace 24 (clock (BREQ0 ∷ ADS ∷ AP0 ∷ []) 0x2 0x1ffffffc 0x0))
+    mixed_23_log
 
 -- what is computed: each of them breaks its part at the changed clock
 pub computes :

@@ -29,11 +29,13 @@ run0 = run_of mixed_00_plan 1 (changed mixed_00_trace 4 (clock (BREQ1 ∷ BREQ2 
 
 -- AP1# is asserted where nothing is on its lines
 abbrev pub run1 : Run
-run1 = run_of mixed_03_plan 1 (changed mixed_03_trace 4 (clock (BREQ1 ∷ BREQ2 ∷ BREQ3 ∷ AP1 ∷ []) 0x0 0x0 0x0)) mixed_03_log
+run1 = run_of mixed_03_plan 1 (changed mixed_03_trace 4 (clock (BREQ1 ∷ BREQ2 ∷ BREQ3 ∷ AP1 ∷ []) 0x0 0x0 0x0))
+    mixed_03_log
 
 -- AP1# is asserted where nothing is on its lines
 abbrev pub run2 : Run
-run2 = run_of mixed_05_plan 1 (changed mixed_05_trace 4 (clock (BREQ0 ∷ BREQ1 ∷ BREQ2 ∷ AP1 ∷ []) 0x0 0x0 0x0)) mixed_05_log
+run2 = run_of mixed_05_plan 1 (changed mixed_05_trace 4 (clock (BREQ0 ∷ BREQ1 ∷ BREQ2 ∷ AP1 ∷ []) 0x0 0x0 0x0))
+    mixed_05_log
 
 -- AP1# is asserted where nothing is on its lines
 abbrev pub run3 : Run
@@ -53,11 +55,13 @@ run6 = run_of mixed_14_plan 1 (changed mixed_14_trace 4 (clock (BREQ0 ∷ AP1 �
 
 -- RP# is missing
 abbrev pub run7 : Run
-run7 = run_of mixed_15_plan 3 (changed mixed_15_trace 20 (clock (BREQ0 ∷ BREQ1 ∷ ADS ∷ AP0 ∷ []) 0x6 0x16 0x0)) mixed_15_log
+run7 = run_of mixed_15_plan 3 (changed mixed_15_trace 20 (clock (BREQ0 ∷ BREQ1 ∷ ADS ∷ AP0 ∷ []) 0x6 0x16 0x0))
+    mixed_15_log
 
 -- AP1# is asserted where nothing is on its lines
 abbrev pub run8 : Run
-run8 = run_of mixed_16_plan 1 (changed mixed_16_trace 4 (clock (BREQ0 ∷ BREQ1 ∷ BREQ2 ∷ BREQ3 ∷ AP1 ∷ []) 0x0 0x0 0x0)) mixed_16_log
+run8 = run_of mixed_16_plan 1
+    (changed mixed_16_trace 4 (clock (BREQ0 ∷ BREQ1 ∷ BREQ2 ∷ BREQ3 ∷ AP1 ∷ []) 0x0 0x0 0x0)) mixed_16_log
 
 -- RP# is missing
 abbrev pub run9 : Run

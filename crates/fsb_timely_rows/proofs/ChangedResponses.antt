@@ -1,6 +1,7 @@
 -- Mixed runs in which a response or its data differ at one clock: none is a simulation.
 use Rattle.std.proofs.Common.{◌≡◌, refl, [], ◌∷◌, false, lit<}
-use Rattle.fsb_signal.specs.declared.lines.TheConstants.Lines.{BREQ0, BREQ1, BREQ2, BREQ3, LOCK, ADS, TRDY, RS0, RS1, RS2, DBSY, DRDY, AP0, AP1, RP}
+use Rattle.fsb_signal.specs.declared.lines.TheConstants.Lines.{BREQ0, BREQ1, BREQ2, BREQ3, LOCK, ADS, TRDY, RS0, RS1}
+use Rattle.fsb_signal.specs.declared.lines.TheConstants.Lines.{RS2, DBSY, DRDY, AP0, AP1, RP}
 use Rattle.fsb_timely.specs.Runs.{Run}
 use Rattle.fsb_timely.specs.Transfers.{drives_responses}
 use Rattle.fsb_timely.specs.Timely.{holds_at}
@@ -25,23 +26,30 @@ use Rattle.fsb_timely_rows.proofs.Mixed26.{plan as mixed_26_plan, trace as mixed
 
 -- the second response does not come
 abbrev pub run0 : Run
-run0 = run_of mixed_00_plan 4 (changed mixed_00_trace 11 (clock (BREQ0 ∷ ADS ∷ DBSY ∷ DRDY ∷ AP0 ∷ []) 0xe 0x1ffffff00 0xc3)) mixed_00_log
+run0 = run_of mixed_00_plan 4
+    (changed mixed_00_trace 11 (clock (BREQ0 ∷ ADS ∷ DBSY ∷ DRDY ∷ AP0 ∷ []) 0xe 0x1ffffff00 0xc3)) mixed_00_log
 
 -- the second response does not come
 abbrev pub run1 : Run
-run1 = run_of mixed_01_plan 3 (changed mixed_01_trace 11 (clock (BREQ1 ∷ LOCK ∷ DBSY ∷ DRDY ∷ []) 0x0 0x0 0x0)) mixed_01_log
+run1 = run_of mixed_01_plan 3 (changed mixed_01_trace 11 (clock (BREQ1 ∷ LOCK ∷ DBSY ∷ DRDY ∷ []) 0x0 0x0 0x0))
+    mixed_01_log
 
 -- the first data are missing
 abbrev pub run2 : Run
-run2 = run_of mixed_02_plan 3 (changed mixed_02_trace 8 (clock (BREQ1 ∷ BREQ2 ∷ BREQ3 ∷ ADS ∷ RS0 ∷ RS1 ∷ RS2 ∷ DBSY ∷ []) 0xe 0x1ffffff02 0x0)) mixed_02_log
+run2 = run_of mixed_02_plan 3
+    (changed mixed_02_trace 8 (clock (BREQ1 ∷ BREQ2 ∷ BREQ3 ∷ ADS ∷ RS0 ∷ RS1 ∷ RS2 ∷ DBSY ∷ []) 0xe 0x1ffffff02
+    0x0)) mixed_02_log
 
 -- the first data are missing
 abbrev pub run3 : Run
-run3 = run_of mixed_03_plan 3 (changed mixed_03_trace 8 (clock (BREQ2 ∷ BREQ3 ∷ ADS ∷ RS0 ∷ RS1 ∷ RS2 ∷ DBSY ∷ RP ∷ []) 0x6 0xc 0x0)) mixed_03_log
+run3 = run_of mixed_03_plan 3
+    (changed mixed_03_trace 8 (clock (BREQ2 ∷ BREQ3 ∷ ADS ∷ RS0 ∷ RS1 ∷ RS2 ∷ DBSY ∷ RP ∷ []) 0x6 0xc 0x0)) mixed_03_log
 
 -- the first data are missing
 abbrev pub run4 : Run
-run4 = run_of mixed_05_plan 3 (changed mixed_05_trace 8 (clock (BREQ0 ∷ BREQ1 ∷ BREQ2 ∷ ADS ∷ RS0 ∷ RS1 ∷ RS2 ∷ DBSY ∷ AP1 ∷ []) 0x2 0x1f75a4b7 0x0)) mixed_05_log
+run4 = run_of mixed_05_plan 3
+    (changed mixed_05_trace 8 (clock (BREQ0 ∷ BREQ1 ∷ BREQ2 ∷ ADS ∷ RS0 ∷ RS1 ∷ RS2 ∷ DBSY ∷ AP1 ∷ []) 0x2
+    0x1f75a4b7 0x0)) mixed_05_log
 
 -- the second response does not come
 abbrev pub run5 : Run
@@ -49,19 +57,25 @@ run5 = run_of mixed_09_plan 2 (changed mixed_09_trace 12 (clock (DBSY ∷ DRDY �
 
 -- the first data are missing
 abbrev pub run6 : Run
-run6 = run_of mixed_10_plan 3 (changed mixed_10_trace 8 (clock (BREQ2 ∷ ADS ∷ RS0 ∷ RS1 ∷ RS2 ∷ DBSY ∷ []) 0x2 0x1ffffffa 0x0)) mixed_10_log
+run6 = run_of mixed_10_plan 3
+    (changed mixed_10_trace 8 (clock (BREQ2 ∷ ADS ∷ RS0 ∷ RS1 ∷ RS2 ∷ DBSY ∷ []) 0x2 0x1ffffffa 0x0)) mixed_10_log
 
 -- the second response does not come
 abbrev pub run7 : Run
-run7 = run_of mixed_11_plan 3 (changed mixed_11_trace 12 (clock (BREQ2 ∷ ADS ∷ DBSY ∷ DRDY ∷ []) 0xe 0xa976904c 0x0)) mixed_11_log
+run7 = run_of mixed_11_plan 3
+    (changed mixed_11_trace 12 (clock (BREQ2 ∷ ADS ∷ DBSY ∷ DRDY ∷ []) 0xe 0xa976904c 0x0)) mixed_11_log
 
 -- the first data are missing
 abbrev pub run8 : Run
-run8 = run_of mixed_15_plan 2 (changed mixed_15_trace 8 (clock (BREQ0 ∷ LOCK ∷ ADS ∷ RS0 ∷ RS1 ∷ RS2 ∷ DBSY ∷ AP0 ∷ []) 0x2 0x2c 0x0)) mixed_15_log
+run8 = run_of mixed_15_plan 2
+    (changed mixed_15_trace 8 (clock (BREQ0 ∷ LOCK ∷ ADS ∷ RS0 ∷ RS1 ∷ RS2 ∷ DBSY ∷ AP0 ∷ []) 0x2 0x2c 0x0))
+    mixed_15_log
 
 -- TRDY# comes a clock early
 abbrev pub run9 : Run
-run9 = run_of mixed_16_plan 4 (changed mixed_16_trace 11 (clock (BREQ0 ∷ BREQ1 ∷ BREQ3 ∷ ADS ∷ TRDY ∷ DRDY ∷ AP0 ∷ []) 0xe 0x1ffffff00 0x0)) mixed_16_log
+run9 = run_of mixed_16_plan 4
+    (changed mixed_16_trace 11 (clock (BREQ0 ∷ BREQ1 ∷ BREQ3 ∷ ADS ∷ TRDY ∷ DRDY ∷ AP0 ∷ []) 0xe 0x1ffffff00
+    0x0)) mixed_16_log
 
 -- TRDY# comes a clock early
 abbrev pub run10 : Run
@@ -69,11 +83,13 @@ run10 = run_of mixed_21_plan 3 (changed mixed_21_trace 11 (clock (TRDY ∷ DRDY 
 
 -- TRDY# comes a clock early
 abbrev pub run11 : Run
-run11 = run_of mixed_24_plan 4 (changed mixed_24_trace 11 (clock (BREQ3 ∷ ADS ∷ TRDY ∷ DRDY ∷ []) 0xe 0x1ffffff00 0x3d000000000000)) mixed_24_log
+run11 = run_of mixed_24_plan 4
+    (changed mixed_24_trace 11 (clock (BREQ3 ∷ ADS ∷ TRDY ∷ DRDY ∷ []) 0xe 0x1ffffff00 0x3d000000000000)) mixed_24_log
 
 -- TRDY# comes a clock early
 abbrev pub run12 : Run
-run12 = run_of mixed_25_plan 4 (changed mixed_25_trace 11 (clock (BREQ1 ∷ ADS ∷ TRDY ∷ DRDY ∷ []) 0xa 0x1ffffff00 0x0)) mixed_25_log
+run12 = run_of mixed_25_plan 4
+    (changed mixed_25_trace 11 (clock (BREQ1 ∷ ADS ∷ TRDY ∷ DRDY ∷ []) 0xa 0x1ffffff00 0x0)) mixed_25_log
 
 -- TRDY# comes a clock early
 abbrev pub run13 : Run

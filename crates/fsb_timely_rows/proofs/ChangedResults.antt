@@ -1,6 +1,7 @@
 -- Mixed runs in which the result of a snoop differs at one clock: none is a simulation.
 use Rattle.std.proofs.Common.{◌≡◌, refl, [], ◌∷◌, false, lit<}
-use Rattle.fsb_signal.specs.declared.lines.TheConstants.Lines.{BREQ0, BREQ1, BREQ2, BREQ3, ADS, HIT, DEFER, TRDY, DBSY, DRDY, AP0, RP}
+use Rattle.fsb_signal.specs.declared.lines.TheConstants.Lines.{BREQ0, BREQ1, BREQ2, BREQ3, ADS, HIT, DEFER, TRDY, DBSY}
+use Rattle.fsb_signal.specs.declared.lines.TheConstants.Lines.{DRDY, AP0, RP}
 use Rattle.fsb_timely.specs.Runs.{Run}
 use Rattle.fsb_timely.specs.Snoops.{has_snoop_result}
 use Rattle.fsb_timely.specs.Timely.{holds_at}
@@ -23,7 +24,8 @@ use Rattle.fsb_timely_rows.proofs.Mixed26.{plan as mixed_26_plan, trace as mixed
 
 -- HIT# does not come
 abbrev pub run0 : Run
-run0 = run_of mixed_00_plan 5 (changed mixed_00_trace 17 (clock (BREQ1 ∷ ADS ∷ DEFER ∷ TRDY ∷ RP ∷ []) 0xa 0x1ffffff08 0x0)) mixed_00_log
+run0 = run_of mixed_00_plan 5
+    (changed mixed_00_trace 17 (clock (BREQ1 ∷ ADS ∷ DEFER ∷ TRDY ∷ RP ∷ []) 0xa 0x1ffffff08 0x0)) mixed_00_log
 
 -- HIT# does not come
 abbrev pub run1 : Run
@@ -31,7 +33,8 @@ run1 = run_of mixed_02_plan 5 (changed mixed_02_trace 15 (clock (BREQ3 ∷ DRDY 
 
 -- HIT# comes though no other agent holds the line
 abbrev pub run2 : Run
-run2 = run_of mixed_03_plan 2 (changed mixed_03_trace 6 (clock (BREQ2 ∷ BREQ3 ∷ HIT ∷ RP ∷ []) 0x2 0x20002 0x0)) mixed_03_log
+run2 = run_of mixed_03_plan 2 (changed mixed_03_trace 6 (clock (BREQ2 ∷ BREQ3 ∷ HIT ∷ RP ∷ []) 0x2 0x20002 0x0))
+    mixed_03_log
 
 -- HIT# comes though no other agent holds the line
 abbrev pub run3 : Run
@@ -39,7 +42,8 @@ run3 = run_of mixed_08_plan 1 (changed mixed_08_trace 6 (clock (HIT ∷ DEFER �
 
 -- HIT# comes though no other agent holds the line
 abbrev pub run4 : Run
-run4 = run_of mixed_09_plan 2 (changed mixed_09_trace 6 (clock (BREQ0 ∷ ADS ∷ HIT ∷ AP0 ∷ []) 0x2 0xe6 0x0)) mixed_09_log
+run4 = run_of mixed_09_plan 2 (changed mixed_09_trace 6 (clock (BREQ0 ∷ ADS ∷ HIT ∷ AP0 ∷ []) 0x2 0xe6 0x0))
+    mixed_09_log
 
 -- HIT# comes though no other agent holds the line
 abbrev pub run5 : Run
@@ -47,15 +51,19 @@ run5 = run_of mixed_10_plan 2 (changed mixed_10_trace 6 (clock (BREQ2 ∷ HIT �
 
 -- the owner does not show that it has the line modified
 abbrev pub run6 : Run
-run6 = run_of mixed_16_plan 3 (changed mixed_16_trace 9 (clock (BREQ0 ∷ BREQ1 ∷ BREQ3 ∷ DEFER ∷ DBSY ∷ DRDY ∷ RP ∷ []) 0x2 0x40002 0x0)) mixed_16_log
+run6 = run_of mixed_16_plan 3
+    (changed mixed_16_trace 9 (clock (BREQ0 ∷ BREQ1 ∷ BREQ3 ∷ DEFER ∷ DBSY ∷ DRDY ∷ RP ∷ []) 0x2 0x40002 0x0))
+    mixed_16_log
 
 -- the owner does not show that it has the line modified
 abbrev pub run7 : Run
-run7 = run_of mixed_21_plan 3 (changed mixed_21_trace 9 (clock (DBSY ∷ DRDY ∷ []) 0x2 0x40002 0x45000000000000)) mixed_21_log
+run7 = run_of mixed_21_plan 3 (changed mixed_21_trace 9 (clock (DBSY ∷ DRDY ∷ []) 0x2 0x40002 0x45000000000000))
+    mixed_21_log
 
 -- HIT# does not come
 abbrev pub run8 : Run
-run8 = run_of mixed_22_plan 3 (changed mixed_22_trace 9 (clock (BREQ1 ∷ DBSY ∷ DRDY ∷ RP ∷ []) 0x2 0x2002 0x71000000000000)) mixed_22_log
+run8 = run_of mixed_22_plan 3
+    (changed mixed_22_trace 9 (clock (BREQ1 ∷ DBSY ∷ DRDY ∷ RP ∷ []) 0x2 0x2002 0x71000000000000)) mixed_22_log
 
 -- the owner does not show that it has the line modified
 abbrev pub run9 : Run

@@ -1,6 +1,7 @@
 -- Mixed runs in which a request differs at one clock: none is a simulation.
 use Rattle.std.proofs.Common.{◌≡◌, refl, [], ◌∷◌, false, lit<}
-use Rattle.fsb_signal.specs.declared.lines.TheConstants.Lines.{BREQ0, BREQ1, BREQ2, BREQ3, LOCK, ADS, AERR, AP0, AP1, RP}
+use Rattle.fsb_signal.specs.declared.lines.TheConstants.Lines.{BREQ0, BREQ1, BREQ2, BREQ3, LOCK, ADS, AERR, AP0, AP1}
+use Rattle.fsb_signal.specs.declared.lines.TheConstants.Lines.{RP}
 use Rattle.fsb_timely.specs.Runs.{Run}
 use Rattle.fsb_timely.specs.Starts.{starts_requests}
 use Rattle.fsb_timely.specs.Timely.{holds_at}
@@ -21,7 +22,8 @@ use Rattle.fsb_timely_rows.proofs.Mixed10.{plan as mixed_10_plan, trace as mixed
 
 -- the second request does not begin
 abbrev pub run0 : Run
-run0 = run_of mixed_00_plan 1 (changed mixed_00_trace 5 (clock (BREQ1 ∷ BREQ2 ∷ AP0 ∷ RP ∷ []) 0xa 0x1ffffff00 0x0)) mixed_00_log
+run0 = run_of mixed_00_plan 1
+    (changed mixed_00_trace 5 (clock (BREQ1 ∷ BREQ2 ∷ AP0 ∷ RP ∷ []) 0xa 0x1ffffff00 0x0)) mixed_00_log
 
 -- the first request names another line
 abbrev pub run1 : Run
@@ -29,7 +31,8 @@ run1 = run_of mixed_01_plan 1 (changed mixed_01_trace 2 (clock (BREQ0 ∷ BREQ1 
 
 -- the first request has another ID
 abbrev pub run2 : Run
-run2 = run_of mixed_02_plan 1 (changed mixed_02_trace 3 (clock (BREQ1 ∷ BREQ2 ∷ BREQ3 ∷ []) 0x2 0x10002 0x0)) mixed_02_log
+run2 = run_of mixed_02_plan 1 (changed mixed_02_trace 3 (clock (BREQ1 ∷ BREQ2 ∷ BREQ3 ∷ []) 0x2 0x10002 0x0))
+    mixed_02_log
 
 -- the second request does not begin
 abbrev pub run3 : Run
@@ -37,19 +40,23 @@ run3 = run_of mixed_03_plan 1 (changed mixed_03_trace 5 (clock (BREQ1 ∷ BREQ2 
 
 -- the first request names another line
 abbrev pub run4 : Run
-run4 = run_of mixed_04_plan 1 (changed mixed_04_trace 2 (clock (BREQ0 ∷ BREQ1 ∷ ADS ∷ []) 0xe 0x2000000e 0x0)) mixed_04_log
+run4 = run_of mixed_04_plan 1 (changed mixed_04_trace 2 (clock (BREQ0 ∷ BREQ1 ∷ ADS ∷ []) 0xe 0x2000000e 0x0))
+    mixed_04_log
 
 -- the first request has another ID
 abbrev pub run5 : Run
-run5 = run_of mixed_05_plan 1 (changed mixed_05_trace 3 (clock (BREQ1 ∷ BREQ2 ∷ AP0 ∷ RP ∷ []) 0x2 0x10002 0x0)) mixed_05_log
+run5 = run_of mixed_05_plan 1 (changed mixed_05_trace 3 (clock (BREQ1 ∷ BREQ2 ∷ AP0 ∷ RP ∷ []) 0x2 0x10002 0x0))
+    mixed_05_log
 
 -- the second request does not begin
 abbrev pub run6 : Run
-run6 = run_of mixed_06_plan 1 (changed mixed_06_trace 5 (clock (BREQ1 ∷ LOCK ∷ AERR ∷ []) 0x2 0x127d12d5 0x0)) mixed_06_log
+run6 = run_of mixed_06_plan 1 (changed mixed_06_trace 5 (clock (BREQ1 ∷ LOCK ∷ AERR ∷ []) 0x2 0x127d12d5 0x0))
+    mixed_06_log
 
 -- the first request names another line
 abbrev pub run7 : Run
-run7 = run_of mixed_07_plan 1 (changed mixed_07_trace 2 (clock (BREQ0 ∷ BREQ1 ∷ ADS ∷ AP1 ∷ RP ∷ []) 0xa 0x8128b6b0 0x0)) mixed_07_log
+run7 = run_of mixed_07_plan 1
+    (changed mixed_07_trace 2 (clock (BREQ0 ∷ BREQ1 ∷ ADS ∷ AP1 ∷ RP ∷ []) 0xa 0x8128b6b0 0x0)) mixed_07_log
 
 -- the first request has another ID
 abbrev pub run8 : Run

@@ -20,7 +20,8 @@ use Rattle.fsb_timely_rows.proofs.AskedLines.{asked_for_lines}
 
 abbrev pub plan : PlanView
 plan = record {
-  scripts = (One (Load 1 0x40) ∷ One (Load 1 0x60) ∷ One (Load 1 0x80) ∷ []) ∷ (Idle 8 ∷ One (Load 1 0x40) ∷ Idle 1 ∷ One (Load 1 0x60) ∷ []) ∷ [];
+  scripts = (One (Load 1 0x40) ∷ One (Load 1 0x60) ∷ One (Load 1 0x80) ∷ [])
+      ∷ (Idle 8 ∷ One (Load 1 0x40) ∷ Idle 1 ∷ One (Load 1 0x60) ∷ []) ∷ [];
   clocks = 42;
   cache = 1;
   ahead = 1;

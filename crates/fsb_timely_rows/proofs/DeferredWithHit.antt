@@ -8,7 +8,8 @@ use Rattle.fsb_access.specs.declared.item.Item.TheVariants.{One, Idle}
 use Rattle.fsb_access.specs.declared.log.Done.{Done}
 use Rattle.fsb_hazard.specs.declared.line.HazardLine.TheVariants.{Defer as DeferLine, Stall as StallLine}
 use Rattle.fsb_script.specs.Plans.{PlanView}
-use Rattle.fsb_signal.specs.declared.lines.TheConstants.Lines.{BREQ0, BREQ1, BPRI, ADS, HIT, HITM, DEFER, RS0, RS1, RS2, DBSY, DRDY}
+use Rattle.fsb_signal.specs.declared.lines.TheConstants.Lines.{BREQ0, BREQ1, BPRI, ADS, HIT, HITM, DEFER, RS0, RS1, RS2}
+use Rattle.fsb_signal.specs.declared.lines.TheConstants.Lines.{DBSY, DRDY}
 use Rattle.fsb_trace.specs.At.{Trace}
 use Rattle.fsb_timely.specs.Runs.{Run}
 use Rattle.fsb_timely.specs.Snoops.{has_snoop_result}
@@ -24,7 +25,9 @@ use Rattle.fsb_timely_rows.proofs.AskedLines.{asked_for_lines}
 
 abbrev pub plan : PlanView
 plan = record {
-  scripts = (One (Load 1 0x40) ∷ Idle 8 ∷ One (Load 1 0x41) ∷ One (Load 1 0x60) ∷ One (Store 1 0x61 (Literal 0x5)) ∷ []) ∷ (Idle 12 ∷ One (Load 1 0x5f) ∷ One (Store 1 0x41 (Literal 0x7)) ∷ []) ∷ [];
+  scripts = (One (Load 1 0x40) ∷ Idle 8 ∷ One (Load 1 0x41) ∷ One (Load 1 0x60)
+      ∷ One (Store 1 0x61 (Literal 0x5)) ∷ [])
+      ∷ (Idle 12 ∷ One (Load 1 0x5f) ∷ One (Store 1 0x41 (Literal 0x7)) ∷ []) ∷ [];
   clocks = 60;
   cache = 64;
   ahead = 1;

@@ -8,7 +8,8 @@ use Rattle.fsb_access.specs.declared.item.Item.TheVariants.{One}
 use Rattle.fsb_access.specs.declared.log.Done.{Done}
 use Rattle.fsb_hazard.specs.declared.line.HazardLine.TheVariants.{Defer as DeferLine}
 use Rattle.fsb_script.specs.Plans.{PlanView}
-use Rattle.fsb_signal.specs.declared.lines.TheConstants.Lines.{BREQ0, BREQ1, BPRI, ADS, HIT, HITM, DEFER, RS0, RS1, RS2, TRDY, DBSY, DRDY, AP0, RP}
+use Rattle.fsb_signal.specs.declared.lines.TheConstants.Lines.{BREQ0, BREQ1, BPRI, ADS, HIT, HITM, DEFER, RS0, RS1, RS2}
+use Rattle.fsb_signal.specs.declared.lines.TheConstants.Lines.{TRDY, DBSY, DRDY, AP0, RP}
 use Rattle.fsb_trace.specs.At.{Trace}
 use Rattle.fsb_timely.specs.Runs.{Run}
 use Rattle.fsb_timely.specs.Timely.{keeps}
@@ -21,7 +22,8 @@ use Rattle.fsb_timely_rows.proofs.AskedLines.{asked_for_lines}
 
 abbrev pub plan : PlanView
 plan = record {
-  scripts = (One (Load 1 0x1000) ∷ One (Store 1 0x1000 (Literal 0x4)) ∷ []) ∷ (One (Load 1 0x1000) ∷ One (Store 1 0x1000 (Literal 0x3)) ∷ []) ∷ [];
+  scripts = (One (Load 1 0x1000) ∷ One (Store 1 0x1000 (Literal 0x4)) ∷ [])
+      ∷ (One (Load 1 0x1000) ∷ One (Store 1 0x1000 (Literal 0x3)) ∷ []) ∷ [];
   clocks = 90;
   cache = 64;
   ahead = 1;

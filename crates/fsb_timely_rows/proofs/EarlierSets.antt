@@ -22,7 +22,8 @@ use Rattle.fsb_timely_rows.proofs.AskedLines.{asked_for_lines}
 
 abbrev pub plan : PlanView
 plan = record {
-  scripts = (One (Load 1 0x40) ∷ One (Load 1 0x60) ∷ One (Load 1 0x41) ∷ One (Load 1 0x61) ∷ One (Load 1 0x80) ∷ One (Store 1 0x81 (Literal 0x3)) ∷ One (Load 1 0xa0) ∷ One (Load 1 0x40) ∷ One (Load 1 0xa1) ∷ []) ∷ [];
+  scripts = (One (Load 1 0x40) ∷ One (Load 1 0x60) ∷ One (Load 1 0x41) ∷ One (Load 1 0x61) ∷ One (Load 1 0x80)
+      ∷ One (Store 1 0x81 (Literal 0x3)) ∷ One (Load 1 0xa0) ∷ One (Load 1 0x40) ∷ One (Load 1 0xa1) ∷ []) ∷ [];
   clocks = 60;
   cache = 2;
   ahead = 3;

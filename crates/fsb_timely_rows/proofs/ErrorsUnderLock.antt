@@ -6,9 +6,11 @@ use Rattle.fsb_access.specs.declared.access.Access.TheVariants.{Load, Store}
 use Rattle.fsb_access.specs.declared.access.Operand.TheVariants.{Literal, LastPlus}
 use Rattle.fsb_access.specs.declared.item.Item.TheVariants.{One, Locked}
 use Rattle.fsb_access.specs.declared.log.Done.{Done}
-use Rattle.fsb_hazard.specs.declared.line.HazardLine.TheVariants.{Aerr as AerrLine, Resp as RespLine, Stall as StallLine, Trdy as TrdyLine}
+use Rattle.fsb_hazard.specs.declared.line.HazardLine.TheVariants.{Aerr as AerrLine, Resp as RespLine}
+use Rattle.fsb_hazard.specs.declared.line.HazardLine.TheVariants.{Stall as StallLine, Trdy as TrdyLine}
 use Rattle.fsb_script.specs.Plans.{PlanView}
-use Rattle.fsb_signal.specs.declared.lines.TheConstants.Lines.{BREQ0, LOCK, ADS, AERR, HIT, HITM, RS0, RS1, RS2, TRDY, DBSY, DRDY}
+use Rattle.fsb_signal.specs.declared.lines.TheConstants.Lines.{BREQ0, LOCK, ADS, AERR, HIT, HITM, RS0, RS1, RS2, TRDY}
+use Rattle.fsb_signal.specs.declared.lines.TheConstants.Lines.{DBSY, DRDY}
 use Rattle.fsb_trace.specs.At.{Trace}
 use Rattle.fsb_timely.specs.Runs.{Run}
 use Rattle.fsb_timely.specs.Transfers.{drives_responses}

@@ -7,7 +7,8 @@ use Rattle.fsb_access.specs.declared.access.Operand.TheVariants.{Literal, LastPl
 use Rattle.fsb_access.specs.declared.item.Item.TheVariants.{One, Locked, Idle}
 use Rattle.fsb_access.specs.declared.log.Done.{Done}
 use Rattle.fsb_script.specs.Plans.{PlanView}
-use Rattle.fsb_signal.specs.declared.lines.TheConstants.Lines.{BREQ0, BREQ1, BREQ2, BREQ3, LOCK, ADS, HIT, HITM, RS0, RS1, RS2, TRDY, DBSY, DRDY}
+use Rattle.fsb_signal.specs.declared.lines.TheConstants.Lines.{BREQ0, BREQ1, BREQ2, BREQ3, LOCK, ADS, HIT, HITM, RS0}
+use Rattle.fsb_signal.specs.declared.lines.TheConstants.Lines.{RS1, RS2, TRDY, DBSY, DRDY}
 use Rattle.fsb_trace.specs.At.{Trace}
 use Rattle.fsb_timely.specs.Runs.{Run}
 use Rattle.fsb_timely.specs.Snoops.{has_snoop_result}
@@ -23,7 +24,9 @@ use Rattle.fsb_timely_rows.proofs.AskedLines.{asked_for_lines}
 
 abbrev pub plan : PlanView
 plan = record {
-  scripts = (Idle 12 ∷ One (Load 1 0x40) ∷ []) ∷ (Idle 9 ∷ One (Store 1 0x80 (Literal 0x3)) ∷ []) ∷ (One (Store 1 0x80 (Literal 0x1)) ∷ One (Load 1 0x40) ∷ []) ∷ (One (Store 1 0x40 (Literal 0x2)) ∷ Locked (Load 1 0xc0 ∷ Store 1 0xc0 (LastPlus 0x1) ∷ []) ∷ []) ∷ [];
+  scripts = (Idle 12 ∷ One (Load 1 0x40) ∷ []) ∷ (Idle 9 ∷ One (Store 1 0x80 (Literal 0x3)) ∷ [])
+      ∷ (One (Store 1 0x80 (Literal 0x1)) ∷ One (Load 1 0x40) ∷ [])
+      ∷ (One (Store 1 0x40 (Literal 0x2)) ∷ Locked (Load 1 0xc0 ∷ Store 1 0xc0 (LastPlus 0x1) ∷ []) ∷ []) ∷ [];
   clocks = 44;
   cache = 64;
   ahead = 1;
@@ -142,7 +145,8 @@ follows zero = record { items = 2; same = refl }
 follows (suc zero) = record { items = 2; same = refl }
 follows (suc (suc zero)) = record { items = 2; same = refl }
 follows (suc (suc (suc zero))) = record { items = 2; same = refl }
-follows (suc (suc (suc (suc agent)))) = record { items = 0; same = steps_of-nobody 4 (suc (suc (suc (suc agent)))) log refl (omega arith) }
+follows (suc (suc (suc (suc agent)))) =
+    record { items = 0; same = steps_of-nobody 4 (suc (suc (suc (suc agent)))) log refl (omega arith) }
 
 pub is_simulated : Simulated run
 unfolding opened

@@ -1,5 +1,6 @@
 -- Runs written out clock by clock.
-use Rattle.std.proofs.Common.{ℕ, zero, suc, ◌+◌, ◌&&◌, Bool, false, List, [], ◌∷◌, ◌++◌, length, take, set, Option, Some}
+use Rattle.std.proofs.Common.{ℕ, zero, suc, ◌+◌, ◌&&◌, Bool, false, List, [], ◌∷◌, ◌++◌, length, take, set, Option}
+use Rattle.std.proofs.Common.{Some}
 use Rattle.fsb_access.specs.declared.access.Access.{Access}
 use Rattle.fsb_access.specs.declared.access.Setting.{Setting}
 use Rattle.fsb_access.specs.declared.log.Done.{Done}
@@ -79,7 +80,12 @@ holds_for lines (suc n) = holds_for lines n ++ hold_for lines n ∷ []
 -- the eight parts together, and the data
 abbrev pub every_part : Part
 every_part r p c =
-    starts_requests r p c && (drives_request_lines r p c && (drives_hazards r p c && (has_snoop_result r p c && (drives_responses r p c && (logs_completions r p c && (drives_lock r p c && (drives_parity r p c && carries_data r p c)))))))
+    starts_requests r p c
+    && (drives_request_lines r p c
+    && (drives_hazards r p c
+    && (has_snoop_result r p c
+    && (drives_responses r p c
+    && (logs_completions r p c && (drives_lock r p c && (drives_parity r p c && carries_data r p c)))))))
 
 -- the run of a plan with so many requests, whose one hazard object tells the plan's lines
 abbrev pub run_of : PlanView → ℕ → Trace → List Done → Run

@@ -7,7 +7,8 @@ use Rattle.fsb_access.specs.declared.access.Operand.TheVariants.{Literal}
 use Rattle.fsb_access.specs.declared.item.Item.TheVariants.{One, Idle}
 use Rattle.fsb_access.specs.declared.log.Done.{Done}
 use Rattle.fsb_script.specs.Plans.{PlanView}
-use Rattle.fsb_signal.specs.declared.lines.TheConstants.Lines.{BREQ0, BREQ1, ADS, HIT, HITM, RS0, RS1, RS2, TRDY, DBSY, DRDY}
+use Rattle.fsb_signal.specs.declared.lines.TheConstants.Lines.{BREQ0, BREQ1, ADS, HIT, HITM, RS0, RS1, RS2, TRDY, DBSY}
+use Rattle.fsb_signal.specs.declared.lines.TheConstants.Lines.{DRDY}
 use Rattle.fsb_trace.specs.At.{Trace}
 use Rattle.fsb_timely.specs.Runs.{Run}
 use Rattle.fsb_timely.specs.Completions.{logs_completions}
@@ -21,7 +22,8 @@ use Rattle.fsb_timely_rows.proofs.AskedLines.{asked_for_lines}
 
 abbrev pub plan : PlanView
 plan = record {
-  scripts = (One (Load 1 0x40) ∷ Idle 5 ∷ One (Load 1 0x41) ∷ []) ∷ (Idle 10 ∷ One (Store 1 0x40 (Literal 0x8)) ∷ []) ∷ [];
+  scripts = (One (Load 1 0x40) ∷ Idle 5 ∷ One (Load 1 0x41) ∷ [])
+      ∷ (Idle 10 ∷ One (Store 1 0x40 (Literal 0x8)) ∷ []) ∷ [];
   clocks = 44;
   cache = 64;
   ahead = 1;

@@ -1,5 +1,6 @@
 -- One agent loads a byte and stores into the next one: one request, and a hit.
-use Rattle.std.proofs.Common.{◌≡◌, ℕ, zero, suc, refl, List, [], ◌∷◌, None, true, false, replicate, arith, ap, slice_index, lit<}
+use Rattle.std.proofs.Common.{◌≡◌, ℕ, zero, suc, refl, List, [], ◌∷◌, None, true, false, replicate, arith, ap}
+use Rattle.std.proofs.Common.{slice_index, lit<}
 use Rattle.fsb_access.proofs.Interface.{steps_of-nobody}
 use Rattle.fsb_access.specs.ScriptOrder.{AreOfItems, script_of, steps_of}
 use Rattle.fsb_access.specs.declared.access.Access.TheVariants.{Load, Store}

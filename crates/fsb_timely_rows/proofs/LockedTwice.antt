@@ -8,7 +8,8 @@ use Rattle.fsb_access.specs.declared.item.Item.TheVariants.{One, Locked, Idle}
 use Rattle.fsb_access.specs.declared.log.Done.{Done}
 use Rattle.fsb_hazard.specs.declared.line.HazardLine.TheVariants.{Retry as RetryLine}
 use Rattle.fsb_script.specs.Plans.{PlanView}
-use Rattle.fsb_signal.specs.declared.lines.TheConstants.Lines.{BREQ0, BREQ1, BREQ2, LOCK, ADS, DEFER, RS0, RS1, RS2, DBSY, DRDY}
+use Rattle.fsb_signal.specs.declared.lines.TheConstants.Lines.{BREQ0, BREQ1, BREQ2, LOCK, ADS, DEFER, RS0, RS1, RS2}
+use Rattle.fsb_signal.specs.declared.lines.TheConstants.Lines.{DBSY, DRDY}
 use Rattle.fsb_trace.specs.At.{Trace}
 use Rattle.fsb_timely.specs.Runs.{Run}
 use Rattle.fsb_timely.specs.Carried.{carries_data}
@@ -23,7 +24,10 @@ use Rattle.fsb_timely_rows.proofs.AskedLines.{asked_for_lines}
 
 abbrev pub plan : PlanView
 plan = record {
-  scripts = (Idle 13 ∷ Locked (Load 8 0x40 ∷ Store 8 0x58 (Literal 0x11) ∷ []) ∷ Locked (Load 1 0x60 ∷ Store 1 0x60 (LastPlus 0x1) ∷ []) ∷ []) ∷ (One (Load 1 0x80) ∷ Idle 9 ∷ Locked (Load 1 0x80 ∷ Store 1 0x81 (LastPlus 0x1) ∷ []) ∷ []) ∷ (Idle 10 ∷ One (Load 1 0x100) ∷ []) ∷ [];
+  scripts = (Idle 13 ∷ Locked (Load 8 0x40 ∷ Store 8 0x58 (Literal 0x11) ∷ [])
+      ∷ Locked (Load 1 0x60 ∷ Store 1 0x60 (LastPlus 0x1) ∷ []) ∷ [])
+      ∷ (One (Load 1 0x80) ∷ Idle 9 ∷ Locked (Load 1 0x80 ∷ Store 1 0x81 (LastPlus 0x1) ∷ []) ∷ [])
+      ∷ (Idle 10 ∷ One (Load 1 0x100) ∷ []) ∷ [];
   clocks = 60;
   cache = 64;
   ahead = 1;
@@ -137,7 +141,10 @@ follows : (agent : ℕ) → AreOfItems (script_of plan.scripts agent) (steps_of 
 follows zero = record { items = 3; same = refl }
 follows (suc zero) = record { items = 3; same = refl }
 follows (suc (suc zero)) = record { items = 2; same = refl }
-follows (suc (suc (suc agent))) = record { items = 0; same = steps_of-nobody 3 (suc (suc (suc agent))) log refl (omega arith) }
+follows (suc (suc (suc agent))) = record {
+  items = 0;
+  same = steps_of-nobody 3 (suc (suc (suc agent))) log refl (omega arith);
+}
 
 pub is_simulated : Simulated run
 unfolding opened

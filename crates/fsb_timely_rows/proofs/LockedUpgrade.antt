@@ -7,7 +7,8 @@ use Rattle.fsb_access.specs.declared.access.Operand.TheVariants.{LastPlus}
 use Rattle.fsb_access.specs.declared.item.Item.TheVariants.{One, Locked}
 use Rattle.fsb_access.specs.declared.log.Done.{Done}
 use Rattle.fsb_script.specs.Plans.{PlanView}
-use Rattle.fsb_signal.specs.declared.lines.TheConstants.Lines.{BREQ0, BREQ1, LOCK, ADS, HIT, RS0, RS1, RS2, DBSY, DRDY, AP0, RP}
+use Rattle.fsb_signal.specs.declared.lines.TheConstants.Lines.{BREQ0, BREQ1, LOCK, ADS, HIT, RS0, RS1, RS2, DBSY, DRDY}
+use Rattle.fsb_signal.specs.declared.lines.TheConstants.Lines.{AP0, RP}
 use Rattle.fsb_trace.specs.At.{Trace}
 use Rattle.fsb_timely.specs.Runs.{Run}
 use Rattle.fsb_timely.specs.Timely.{keeps}
@@ -20,7 +21,8 @@ use Rattle.fsb_timely_rows.proofs.AskedLines.{asked_for_lines}
 
 abbrev pub plan : PlanView
 plan = record {
-  scripts = (One (Load 1 0x40) ∷ Locked (Load 1 0x40 ∷ Store 1 0x40 (LastPlus 0x1) ∷ []) ∷ []) ∷ (One (Load 1 0x40) ∷ []) ∷ [];
+  scripts = (One (Load 1 0x40) ∷ Locked (Load 1 0x40 ∷ Store 1 0x40 (LastPlus 0x1) ∷ []) ∷ [])
+      ∷ (One (Load 1 0x40) ∷ []) ∷ [];
   clocks = 60;
   cache = 64;
   ahead = 1;

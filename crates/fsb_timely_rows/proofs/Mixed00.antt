@@ -7,9 +7,11 @@ use Rattle.fsb_access.specs.declared.access.Access.TheVariants.{Load, Store}
 use Rattle.fsb_access.specs.declared.access.Operand.TheVariants.{Literal, LastPlus}
 use Rattle.fsb_access.specs.declared.item.Item.TheVariants.{One, Locked, Idle}
 use Rattle.fsb_access.specs.declared.log.Done.{Done}
-use Rattle.fsb_hazard.specs.declared.line.HazardLine.TheVariants.{Stall, Trdy, Resp, Gap, Retry, Defer as DeferLine, Aerr}
+use Rattle.fsb_hazard.specs.declared.line.HazardLine.TheVariants.{Stall, Trdy, Resp, Gap, Retry, Defer as DeferLine}
+use Rattle.fsb_hazard.specs.declared.line.HazardLine.TheVariants.{Aerr}
 use Rattle.fsb_script.specs.Plans.{PlanView}
-use Rattle.fsb_signal.specs.declared.lines.TheConstants.Lines.{BREQ0, BREQ1, BREQ2, LOCK, ADS, HIT, HITM, DEFER, RS0, RS1, RS2, TRDY, DBSY, DRDY, AP0, RP}
+use Rattle.fsb_signal.specs.declared.lines.TheConstants.Lines.{BREQ0, BREQ1, BREQ2, LOCK, ADS, HIT, HITM, DEFER, RS0}
+use Rattle.fsb_signal.specs.declared.lines.TheConstants.Lines.{RS1, RS2, TRDY, DBSY, DRDY, AP0, RP}
 use Rattle.fsb_trace.specs.At.{Trace}
 use Rattle.fsb_timely.specs.Runs.{Run}
 use Rattle.fsb_timely.specs.Timely.{keeps}
@@ -17,20 +19,27 @@ use Rattle.fsb_timely.specs.Simulated.{Simulated}
 use Rattle.fsb_timely.specs.Asked.{Asked}
 use Rattle.fsb_timely_rows.proofs.LaidOut.{clock, idle, entry, setting, told_lines, run_of}
 use Rattle.fsb_timely_rows.proofs.Opened.{opened}
-use Rattle.fsb_timely_rows.proofs.ParityByDigits.{has_digits, is_even_in, is_even_by_digits, drives_digits, every_part_by_digits, keeps_by_digits}
+use Rattle.fsb_timely_rows.proofs.ParityByDigits.{has_digits, is_even_in, is_even_by_digits, drives_digits}
+use Rattle.fsb_timely_rows.proofs.ParityByDigits.{every_part_by_digits, keeps_by_digits}
 use Rattle.fsb_timely_rows.proofs.Tests.{simulated_if}
 use Rattle.fsb_timely_rows.proofs.AskedLines.{asked_for_lines}
 
 abbrev pub plan : PlanView
 plan = record {
-  scripts = (One (Load 4 0xffffff800) ∷ Idle 6 ∷ One (Load 4 0xffffff824) ∷ []) ∷ (One (Store 2 0xffffff800 (Literal 0xdfb0)) ∷ One (Store 4 0xffffff840 (LastPlus 0xa3e4e2d9)) ∷ []) ∷ (One (Load 1 0xffffff813) ∷ Locked (Store 2 0xffffff81e (LastPlus 0x0) ∷ Load 2 0xffffff818 ∷ Store 4 0xffffff814 (LastPlus 0x3) ∷ Load 1 0xffffff800 ∷ Load 2 0xffffff816 ∷ Store 8 0xffffff800 (LastPlus 0x8365342c55a871bf) ∷ []) ∷ One (Load 4 0xffffff82c) ∷ []) ∷ [];
+  scripts = (One (Load 4 0xffffff800) ∷ Idle 6 ∷ One (Load 4 0xffffff824) ∷ [])
+      ∷ (One (Store 2 0xffffff800 (Literal 0xdfb0)) ∷ One (Store 4 0xffffff840 (LastPlus 0xa3e4e2d9)) ∷ [])
+      ∷ (One (Load 1 0xffffff813) ∷ Locked
+      (Store 2 0xffffff81e (LastPlus 0x0) ∷ Load 2 0xffffff818 ∷ Store 4 0xffffff814 (LastPlus 0x3)
+      ∷ Load 1 0xffffff800 ∷ Load 2 0xffffff816 ∷ Store 8 0xffffff800 (LastPlus 0x8365342c55a871bf) ∷ [])
+      ∷ One (Load 4 0xffffff82c) ∷ []) ∷ [];
   clocks = 70;
   cache = 1;
   ahead = 2;
   profile = 2;
   bridge = None;
   mem = setting 0xffffff800 0xc3 ∷ setting 0xffffff820 0xe ∷ setting 0xffffff85d 0xb0 ∷ [];
-  hazards = Aerr 22 ∷ Aerr 20 ∷ Trdy 5 3 ∷ Trdy 19 1 ∷ Gap 3 1 ∷ Retry 12 ∷ Stall 3 1 ∷ Trdy 0 1 ∷ DeferLine 18 1 ∷ Resp 3 1 ∷ Stall 17 1 ∷ Retry 19 ∷ DeferLine 0 1 ∷ Trdy 2 2 ∷ Retry 3 ∷ DeferLine 21 4 ∷ Retry 0 ∷ [];
+  hazards = Aerr 22 ∷ Aerr 20 ∷ Trdy 5 3 ∷ Trdy 19 1 ∷ Gap 3 1 ∷ Retry 12 ∷ Stall 3 1 ∷ Trdy 0 1 ∷ DeferLine 18
+      1 ∷ Resp 3 1 ∷ Stall 17 1 ∷ Retry 19 ∷ DeferLine 0 1 ∷ Trdy 2 2 ∷ Retry 3 ∷ DeferLine 21 4 ∷ Retry 0 ∷ [];
 }
 
 abbrev pub trace : Trace
@@ -129,11 +138,15 @@ follows : (agent : ℕ) → AreOfItems (script_of plan.scripts agent) (steps_of 
 follows zero = record { items = 3; same = refl }
 follows (suc zero) = record { items = 2; same = refl }
 follows (suc (suc zero)) = record { items = 3; same = refl }
-follows (suc (suc (suc agent))) = record { items = 0; same = steps_of-nobody 3 (suc (suc (suc agent))) log refl (omega arith) }
+follows (suc (suc (suc agent))) = record {
+  items = 0;
+  same = steps_of-nobody 3 (suc (suc (suc agent))) log refl (omega arith);
+}
 
 pub is_simulated : Simulated run
 unfolding opened
-is_simulated = simulated_if run (keeps_by_digits run refl computes) refl refl refl refl (record { follows = follows; together = refl }) refl
+is_simulated = simulated_if run (keeps_by_digits run refl computes) refl refl refl refl
+    (record { follows = follows; together = refl }) refl
 
 pub is_asked : Asked (told_lines plan.hazards ∷ []) run.choices run.holds
 is_asked = asked_for_lines plan.hazards 9 70

@@ -6,9 +6,11 @@ use Rattle.fsb_access.specs.declared.access.Access.TheVariants.{Load, Store}
 use Rattle.fsb_access.specs.declared.access.Operand.TheVariants.{Literal, LastPlus}
 use Rattle.fsb_access.specs.declared.item.Item.TheVariants.{One, Locked}
 use Rattle.fsb_access.specs.declared.log.Done.{Done}
-use Rattle.fsb_hazard.specs.declared.line.HazardLine.TheVariants.{Stall, Trdy, Resp, Gap, Retry, Defer as DeferLine, Aerr}
+use Rattle.fsb_hazard.specs.declared.line.HazardLine.TheVariants.{Stall, Trdy, Resp, Gap, Retry, Defer as DeferLine}
+use Rattle.fsb_hazard.specs.declared.line.HazardLine.TheVariants.{Aerr}
 use Rattle.fsb_script.specs.Plans.{PlanView}
-use Rattle.fsb_signal.specs.declared.lines.TheConstants.Lines.{BREQ0, BREQ1, BPRI, LOCK, ADS, HIT, HITM, DEFER, RS0, RS1, RS2, TRDY, DBSY, DRDY}
+use Rattle.fsb_signal.specs.declared.lines.TheConstants.Lines.{BREQ0, BREQ1, BPRI, LOCK, ADS, HIT, HITM, DEFER, RS0}
+use Rattle.fsb_signal.specs.declared.lines.TheConstants.Lines.{RS1, RS2, TRDY, DBSY, DRDY}
 use Rattle.fsb_trace.specs.At.{Trace}
 use Rattle.fsb_timely.specs.Runs.{Run}
 use Rattle.fsb_timely.specs.Timely.{keeps}
@@ -21,14 +23,22 @@ use Rattle.fsb_timely_rows.proofs.AskedLines.{asked_for_lines}
 
 abbrev pub plan : PlanView
 plan = record {
-  scripts = (One (Store 8 0x618 (Literal 0x65b548e7181a59a2)) ∷ []) ∷ (Locked (Store 4 0x640 (LastPlus 0x826c0924) ∷ Store 4 0x600 (Literal 0x4aae0bcf) ∷ Store 2 0x620 (LastPlus 0x57c6) ∷ Load 8 0x660 ∷ Load 2 0x612 ∷ []) ∷ One (Store 4 0x640 (Literal 0xa7aa760c)) ∷ One (Store 2 0x660 (Literal 0x9b39)) ∷ Locked (Load 2 0x620 ∷ Load 2 0x63c ∷ Load 1 0x620 ∷ Load 2 0x620 ∷ Load 8 0x638 ∷ Load 2 0x620 ∷ Load 2 0x620 ∷ []) ∷ One (Store 2 0x640 (Literal 0xc353)) ∷ One (Store 1 0x60f (Literal 0x57)) ∷ One (Store 2 0x644 (Literal 0x760f)) ∷ One (Store 4 0x600 (Literal 0x84e2dc10)) ∷ One (Store 2 0x604 (Literal 0x79a2)) ∷ []) ∷ [];
+  scripts = (One (Store 8 0x618 (Literal 0x65b548e7181a59a2)) ∷ [])
+      ∷ (Locked (Store 4 0x640 (LastPlus 0x826c0924) ∷ Store 4 0x600 (Literal 0x4aae0bcf) ∷ Store 2 0x620
+      (LastPlus 0x57c6) ∷ Load 8 0x660 ∷ Load 2 0x612 ∷ []) ∷ One (Store 4 0x640 (Literal 0xa7aa760c))
+      ∷ One (Store 2 0x660 (Literal 0x9b39)) ∷ Locked
+      (Load 2 0x620 ∷ Load 2 0x63c ∷ Load 1 0x620 ∷ Load 2 0x620 ∷ Load 8 0x638 ∷ Load 2 0x620 ∷ Load 2 0x620
+      ∷ []) ∷ One (Store 2 0x640 (Literal 0xc353)) ∷ One (Store 1 0x60f (Literal 0x57))
+      ∷ One (Store 2 0x644 (Literal 0x760f)) ∷ One (Store 4 0x600 (Literal 0x84e2dc10))
+      ∷ One (Store 2 0x604 (Literal 0x79a2)) ∷ []) ∷ [];
   clocks = 52;
   cache = 16;
   ahead = 4;
   profile = 1;
   bridge = Some (record { base = 0x600; size = 0x40 });
   mem = setting 0x669 0x76 ∷ setting 0x637 0x2f ∷ setting 0x611 0xd8 ∷ setting 0x616 0xa5 ∷ [];
-  hazards = Gap 25 4 ∷ DeferLine 20 8 ∷ Gap 24 2 ∷ Stall 2 2 ∷ Retry 8 ∷ Gap 26 2 ∷ Resp 17 2 ∷ Trdy 15 2 ∷ Aerr 16 ∷ DeferLine 0 5 ∷ Resp 2 1 ∷ Resp 26 9 ∷ Trdy 17 1 ∷ Aerr 8 ∷ Gap 2 1 ∷ Gap 8 1 ∷ [];
+  hazards = Gap 25 4 ∷ DeferLine 20 8 ∷ Gap 24 2 ∷ Stall 2 2 ∷ Retry 8 ∷ Gap 26 2 ∷ Resp 17 2 ∷ Trdy 15 2
+      ∷ Aerr 16 ∷ DeferLine 0 5 ∷ Resp 2 1 ∷ Resp 26 9 ∷ Trdy 17 1 ∷ Aerr 8 ∷ Gap 2 1 ∷ Gap 8 1 ∷ [];
 }
 
 abbrev pub trace : Trace

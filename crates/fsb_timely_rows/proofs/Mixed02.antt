@@ -8,7 +8,8 @@ use Rattle.fsb_access.specs.declared.item.Item.TheVariants.{One, Idle}
 use Rattle.fsb_access.specs.declared.log.Done.{Done}
 use Rattle.fsb_hazard.specs.declared.line.HazardLine.TheVariants.{Trdy, Gap, Retry, Defer as DeferLine, Bnr}
 use Rattle.fsb_script.specs.Plans.{PlanView}
-use Rattle.fsb_signal.specs.declared.lines.TheConstants.Lines.{BREQ0, BREQ1, BREQ2, BREQ3, BPRI, ADS, HIT, HITM, DEFER, RS0, RS1, RS2, TRDY, DBSY, DRDY}
+use Rattle.fsb_signal.specs.declared.lines.TheConstants.Lines.{BREQ0, BREQ1, BREQ2, BREQ3, BPRI, ADS, HIT, HITM, DEFER}
+use Rattle.fsb_signal.specs.declared.lines.TheConstants.Lines.{RS0, RS1, RS2, TRDY, DBSY, DRDY}
 use Rattle.fsb_trace.specs.At.{Trace}
 use Rattle.fsb_timely.specs.Runs.{Run}
 use Rattle.fsb_timely.specs.Timely.{keeps}
@@ -21,7 +22,13 @@ use Rattle.fsb_timely_rows.proofs.AskedLines.{asked_for_lines}
 
 abbrev pub plan : PlanView
 plan = record {
-  scripts = (One (Load 8 0xffffff820) ∷ []) ∷ (One (Load 8 0xffffff840) ∷ One (Load 1 0xffffff81d) ∷ One (Load 4 0xffffff800) ∷ One (Load 4 0xffffff840) ∷ []) ∷ (One (Load 2 0xffffff812) ∷ One (Load 4 0xffffff814) ∷ One (Store 2 0xffffff80a (Literal 0x44a0)) ∷ []) ∷ (One (Load 2 0xffffff80c) ∷ One (Load 1 0xffffff83c) ∷ One (Load 4 0xffffff808) ∷ One (Load 8 0xffffff818) ∷ One (Load 1 0xffffff820) ∷ One (Load 2 0xffffff800) ∷ One (Load 8 0xffffff800) ∷ Idle 8 ∷ []) ∷ [];
+  scripts = (One (Load 8 0xffffff820) ∷ [])
+      ∷ (One (Load 8 0xffffff840) ∷ One (Load 1 0xffffff81d) ∷ One (Load 4 0xffffff800)
+      ∷ One (Load 4 0xffffff840) ∷ [])
+      ∷ (One (Load 2 0xffffff812) ∷ One (Load 4 0xffffff814) ∷ One (Store 2 0xffffff80a (Literal 0x44a0)) ∷ [])
+      ∷ (One (Load 2 0xffffff80c) ∷ One (Load 1 0xffffff83c) ∷ One (Load 4 0xffffff808)
+      ∷ One (Load 8 0xffffff818) ∷ One (Load 1 0xffffff820) ∷ One (Load 2 0xffffff800)
+      ∷ One (Load 8 0xffffff800) ∷ Idle 8 ∷ []) ∷ [];
   clocks = 83;
   cache = 8;
   ahead = 4;
@@ -135,7 +142,8 @@ follows zero = record { items = 1; same = refl }
 follows (suc zero) = record { items = 4; same = refl }
 follows (suc (suc zero)) = record { items = 3; same = refl }
 follows (suc (suc (suc zero))) = record { items = 7; same = refl }
-follows (suc (suc (suc (suc agent)))) = record { items = 0; same = steps_of-nobody 4 (suc (suc (suc (suc agent)))) log refl (omega arith) }
+follows (suc (suc (suc (suc agent)))) =
+    record { items = 0; same = steps_of-nobody 4 (suc (suc (suc (suc agent)))) log refl (omega arith) }
 
 pub is_simulated : Simulated run
 unfolding opened

@@ -7,9 +7,11 @@ use Rattle.fsb_access.specs.declared.access.Access.TheVariants.{Load, Store}
 use Rattle.fsb_access.specs.declared.access.Operand.TheVariants.{Literal, LastPlus}
 use Rattle.fsb_access.specs.declared.item.Item.TheVariants.{One, Locked, Idle}
 use Rattle.fsb_access.specs.declared.log.Done.{Done}
-use Rattle.fsb_hazard.specs.declared.line.HazardLine.TheVariants.{Stall, Trdy, Resp, Gap, Retry, Defer as DeferLine, Aerr}
+use Rattle.fsb_hazard.specs.declared.line.HazardLine.TheVariants.{Stall, Trdy, Resp, Gap, Retry, Defer as DeferLine}
+use Rattle.fsb_hazard.specs.declared.line.HazardLine.TheVariants.{Aerr}
 use Rattle.fsb_script.specs.Plans.{PlanView}
-use Rattle.fsb_signal.specs.declared.lines.TheConstants.Lines.{BREQ0, BREQ1, BREQ2, BREQ3, LOCK, ADS, HIT, HITM, RS0, RS1, RS2, TRDY, DBSY, DRDY, AP0, RP}
+use Rattle.fsb_signal.specs.declared.lines.TheConstants.Lines.{BREQ0, BREQ1, BREQ2, BREQ3, LOCK, ADS, HIT, HITM, RS0}
+use Rattle.fsb_signal.specs.declared.lines.TheConstants.Lines.{RS1, RS2, TRDY, DBSY, DRDY, AP0, RP}
 use Rattle.fsb_trace.specs.At.{Trace}
 use Rattle.fsb_timely.specs.Runs.{Run}
 use Rattle.fsb_timely.specs.Timely.{keeps}
@@ -17,20 +19,30 @@ use Rattle.fsb_timely.specs.Simulated.{Simulated}
 use Rattle.fsb_timely.specs.Asked.{Asked}
 use Rattle.fsb_timely_rows.proofs.LaidOut.{clock, idle, entry, setting, told_lines, run_of}
 use Rattle.fsb_timely_rows.proofs.Opened.{opened}
-use Rattle.fsb_timely_rows.proofs.ParityByDigits.{has_digits, is_even_in, is_even_by_digits, drives_digits, every_part_by_digits, keeps_by_digits}
+use Rattle.fsb_timely_rows.proofs.ParityByDigits.{has_digits, is_even_in, is_even_by_digits, drives_digits}
+use Rattle.fsb_timely_rows.proofs.ParityByDigits.{every_part_by_digits, keeps_by_digits}
 use Rattle.fsb_timely_rows.proofs.Tests.{simulated_if}
 use Rattle.fsb_timely_rows.proofs.AskedLines.{asked_for_lines}
 
 abbrev pub plan : PlanView
 plan = record {
-  scripts = (One (Load 2 0xee) ∷ One (Load 8 0x40) ∷ One (Store 1 0xb7 (Literal 0xbf)) ∷ Locked (Store 4 0x40 (Literal 0xc3bb544a) ∷ Load 4 0xa0 ∷ []) ∷ One (Store 8 0xe0 (Literal 0x3c0601ed0b86be28)) ∷ One (Load 8 0x90) ∷ One (Load 4 0x54) ∷ []) ∷ (One (Store 8 0xc0 (Literal 0xf43b79b8dbbec019)) ∷ One (Store 1 0xe0 (LastPlus 0x1)) ∷ One (Load 4 0x48) ∷ One (Load 1 0xe6) ∷ []) ∷ (One (Load 2 0x60) ∷ One (Store 8 0x60 (Literal 0x64d08daaf35de238)) ∷ One (Load 1 0x89) ∷ One (Store 8 0xc0 (LastPlus 0x1)) ∷ One (Load 2 0xe2) ∷ One (Load 8 0x48) ∷ One (Load 4 0xd8) ∷ []) ∷ (One (Store 4 0x40 (LastPlus 0xd9a1b190)) ∷ Idle 4 ∷ Idle 3 ∷ One (Store 2 0x40 (LastPlus 0x0)) ∷ One (Load 8 0x48) ∷ One (Load 8 0x80) ∷ One (Load 1 0x7b) ∷ []) ∷ [];
+  scripts = (One (Load 2 0xee) ∷ One (Load 8 0x40) ∷ One (Store 1 0xb7 (Literal 0xbf))
+      ∷ Locked (Store 4 0x40 (Literal 0xc3bb544a) ∷ Load 4 0xa0 ∷ [])
+      ∷ One (Store 8 0xe0 (Literal 0x3c0601ed0b86be28)) ∷ One (Load 8 0x90) ∷ One (Load 4 0x54) ∷ [])
+      ∷ (One (Store 8 0xc0 (Literal 0xf43b79b8dbbec019)) ∷ One (Store 1 0xe0 (LastPlus 0x1)) ∷ One (Load 4 0x48)
+      ∷ One (Load 1 0xe6) ∷ []) ∷ (One (Load 2 0x60) ∷ One (Store 8 0x60 (Literal 0x64d08daaf35de238))
+      ∷ One (Load 1 0x89) ∷ One (Store 8 0xc0 (LastPlus 0x1)) ∷ One (Load 2 0xe2) ∷ One (Load 8 0x48)
+      ∷ One (Load 4 0xd8) ∷ []) ∷ (One (Store 4 0x40 (LastPlus 0xd9a1b190)) ∷ Idle 4 ∷ Idle 3
+      ∷ One (Store 2 0x40 (LastPlus 0x0)) ∷ One (Load 8 0x48) ∷ One (Load 8 0x80) ∷ One (Load 1 0x7b) ∷ []) ∷ [];
   clocks = 63;
   cache = 2;
   ahead = 1;
   profile = 2;
   bridge = None;
   mem = setting 0x8e 0x56 ∷ setting 0x45 0x47 ∷ [];
-  hazards = Gap 8 1 ∷ Resp 9 1 ∷ Trdy 12 4 ∷ Resp 12 1 ∷ Gap 12 6 ∷ Aerr 13 ∷ DeferLine 13 10 ∷ Resp 17 4 ∷ Resp 20 4 ∷ Aerr 20 ∷ Stall 32 1 ∷ Retry 33 ∷ Gap 45 1 ∷ Trdy 45 1 ∷ Retry 45 ∷ Trdy 46 1 ∷ Gap 53 2 ∷ Gap 53 1 ∷ [];
+  hazards = Gap 8 1 ∷ Resp 9 1 ∷ Trdy 12 4 ∷ Resp 12 1 ∷ Gap 12 6 ∷ Aerr 13 ∷ DeferLine 13 10 ∷ Resp 17 4
+      ∷ Resp 20 4 ∷ Aerr 20 ∷ Stall 32 1 ∷ Retry 33 ∷ Gap 45 1 ∷ Trdy 45 1 ∷ Retry 45 ∷ Trdy 46 1 ∷ Gap 53 2
+      ∷ Gap 53 1 ∷ [];
 }
 
 abbrev pub trace : Trace
@@ -131,11 +143,13 @@ follows zero = record { items = 4; same = refl }
 follows (suc zero) = record { items = 2; same = refl }
 follows (suc (suc zero)) = record { items = 4; same = refl }
 follows (suc (suc (suc zero))) = record { items = 5; same = refl }
-follows (suc (suc (suc (suc agent)))) = record { items = 0; same = steps_of-nobody 4 (suc (suc (suc (suc agent)))) log refl (omega arith) }
+follows (suc (suc (suc (suc agent)))) =
+    record { items = 0; same = steps_of-nobody 4 (suc (suc (suc (suc agent)))) log refl (omega arith) }
 
 pub is_simulated : Simulated run
 unfolding opened
-is_simulated = simulated_if run (keeps_by_digits run refl computes) refl refl refl refl (record { follows = follows; together = refl }) refl
+is_simulated = simulated_if run (keeps_by_digits run refl computes) refl refl refl refl
+    (record { follows = follows; together = refl }) refl
 
 pub is_asked : Asked (told_lines plan.hazards ∷ []) run.choices run.holds
 is_asked = asked_for_lines plan.hazards 12 63

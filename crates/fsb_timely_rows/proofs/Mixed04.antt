@@ -8,7 +8,8 @@ use Rattle.fsb_access.specs.declared.item.Item.TheVariants.{One, Locked, Idle}
 use Rattle.fsb_access.specs.declared.log.Done.{Done}
 use Rattle.fsb_hazard.specs.declared.line.HazardLine.TheVariants.{Stall, Trdy, Resp, Retry, Defer as DeferLine, Aerr}
 use Rattle.fsb_script.specs.Plans.{PlanView}
-use Rattle.fsb_signal.specs.declared.lines.TheConstants.Lines.{BREQ0, BREQ1, ADS, AERR, HIT, HITM, RS0, RS1, RS2, TRDY, DBSY, DRDY}
+use Rattle.fsb_signal.specs.declared.lines.TheConstants.Lines.{BREQ0, BREQ1, ADS, AERR, HIT, HITM, RS0, RS1, RS2, TRDY}
+use Rattle.fsb_signal.specs.declared.lines.TheConstants.Lines.{DBSY, DRDY}
 use Rattle.fsb_trace.specs.At.{Trace}
 use Rattle.fsb_timely.specs.Runs.{Run}
 use Rattle.fsb_timely.specs.Timely.{keeps}
@@ -21,14 +22,21 @@ use Rattle.fsb_timely_rows.proofs.AskedLines.{asked_for_lines}
 
 abbrev pub plan : PlanView
 plan = record {
-  scripts = (One (Load 2 0x100000034) ∷ Locked (Load 8 0x100000020 ∷ Load 8 0x100000030 ∷ Load 1 0x10000002c ∷ Store 8 0x100000030 (Literal 0x8f5e3fdaa7cd36ac) ∷ Load 8 0x100000020 ∷ []) ∷ One (Store 2 0xffffffc0 (LastPlus 0x30fb)) ∷ One (Store 4 0x10000002c (LastPlus 0x2)) ∷ Idle 5 ∷ One (Store 1 0xffffffc0 (LastPlus 0x3)) ∷ One (Load 1 0xffffffd6) ∷ One (Load 2 0x100000020) ∷ One (Load 8 0xffffffd8) ∷ []) ∷ (One (Load 4 0xffffffd0) ∷ Idle 7 ∷ One (Load 4 0x100000028) ∷ One (Load 1 0xffffffdd) ∷ Idle 2 ∷ One (Load 4 0xffffffcc) ∷ []) ∷ [];
+  scripts = (One (Load 2 0x100000034) ∷ Locked
+      (Load 8 0x100000020 ∷ Load 8 0x100000030 ∷ Load 1 0x10000002c ∷ Store 8 0x100000030
+      (Literal 0x8f5e3fdaa7cd36ac) ∷ Load 8 0x100000020 ∷ []) ∷ One (Store 2 0xffffffc0 (LastPlus 0x30fb))
+      ∷ One (Store 4 0x10000002c (LastPlus 0x2)) ∷ Idle 5 ∷ One (Store 1 0xffffffc0 (LastPlus 0x3))
+      ∷ One (Load 1 0xffffffd6) ∷ One (Load 2 0x100000020) ∷ One (Load 8 0xffffffd8) ∷ [])
+      ∷ (One (Load 4 0xffffffd0) ∷ Idle 7 ∷ One (Load 4 0x100000028) ∷ One (Load 1 0xffffffdd) ∷ Idle 2
+      ∷ One (Load 4 0xffffffcc) ∷ []) ∷ [];
   clocks = 83;
   cache = 1;
   ahead = 2;
   profile = 1;
   bridge = Some (record { base = 0xffffffc0; size = 0x20 });
   mem = [];
-  hazards = Stall 0 4 ∷ Trdy 6 9 ∷ Aerr 6 ∷ Aerr 6 ∷ Aerr 6 ∷ Retry 8 ∷ DeferLine 9 10 ∷ Resp 9 4 ∷ Aerr 18 ∷ Retry 22 ∷ [];
+  hazards = Stall 0 4 ∷ Trdy 6 9 ∷ Aerr 6 ∷ Aerr 6 ∷ Aerr 6 ∷ Retry 8 ∷ DeferLine 9 10 ∷ Resp 9 4 ∷ Aerr 18
+      ∷ Retry 22 ∷ [];
 }
 
 abbrev pub trace : Trace

@@ -9,7 +9,8 @@ use Rattle.fsb_access.specs.declared.item.Item.TheVariants.{One}
 use Rattle.fsb_access.specs.declared.log.Done.{Done}
 use Rattle.fsb_hazard.specs.declared.line.HazardLine.TheVariants.{Aerr}
 use Rattle.fsb_script.specs.Plans.{PlanView}
-use Rattle.fsb_signal.specs.declared.lines.TheConstants.Lines.{BREQ0, BREQ1, BREQ2, ADS, AERR, HIT, HITM, RS0, RS1, RS2, TRDY, DBSY, DRDY, AP0, AP1, RP}
+use Rattle.fsb_signal.specs.declared.lines.TheConstants.Lines.{BREQ0, BREQ1, BREQ2, ADS, AERR, HIT, HITM, RS0, RS1, RS2}
+use Rattle.fsb_signal.specs.declared.lines.TheConstants.Lines.{TRDY, DBSY, DRDY, AP0, AP1, RP}
 use Rattle.fsb_trace.specs.At.{Trace}
 use Rattle.fsb_timely.specs.Runs.{Run}
 use Rattle.fsb_timely.specs.Timely.{keeps}
@@ -17,13 +18,19 @@ use Rattle.fsb_timely.specs.Simulated.{Simulated}
 use Rattle.fsb_timely.specs.Asked.{Asked}
 use Rattle.fsb_timely_rows.proofs.LaidOut.{clock, idle, entry, setting, told_lines, run_of}
 use Rattle.fsb_timely_rows.proofs.Opened.{opened}
-use Rattle.fsb_timely_rows.proofs.ParityByDigits.{has_digits, is_even_in, is_even_by_digits, drives_digits, every_part_by_digits, keeps_by_digits}
+use Rattle.fsb_timely_rows.proofs.ParityByDigits.{has_digits, is_even_in, is_even_by_digits, drives_digits}
+use Rattle.fsb_timely_rows.proofs.ParityByDigits.{every_part_by_digits, keeps_by_digits}
 use Rattle.fsb_timely_rows.proofs.Tests.{simulated_if}
 use Rattle.fsb_timely_rows.proofs.AskedLines.{asked_for_lines}
 
 abbrev pub plan : PlanView
 plan = record {
-  scripts = (One (Store 2 0xfbad25da (LastPlus 0x1)) ∷ One (Load 2 0xfbad25d8) ∷ One (Load 4 0xfbad25a8) ∷ One (Load 8 0xfbad25a0) ∷ One (Store 2 0xfbad25a0 (LastPlus 0x2910)) ∷ One (Load 2 0xfbad25a0) ∷ One (Store 8 0xfbad25a0 (Literal 0x1d163b014b12c573)) ∷ []) ∷ (One (Store 4 0xfbad25b0 (Literal 0xae3f42d3)) ∷ One (Store 8 0xfbad25a0 (Literal 0x895691bbe67fc66a)) ∷ One (Store 4 0xfbad25c4 (Literal 0x9b62793b)) ∷ One (Store 8 0xfbad25a0 (LastPlus 0x2)) ∷ []) ∷ (One (Store 2 0xfbad25bc (LastPlus 0x1)) ∷ []) ∷ [];
+  scripts = (One (Store 2 0xfbad25da (LastPlus 0x1)) ∷ One (Load 2 0xfbad25d8) ∷ One (Load 4 0xfbad25a8)
+      ∷ One (Load 8 0xfbad25a0) ∷ One (Store 2 0xfbad25a0 (LastPlus 0x2910)) ∷ One (Load 2 0xfbad25a0)
+      ∷ One (Store 8 0xfbad25a0 (Literal 0x1d163b014b12c573)) ∷ [])
+      ∷ (One (Store 4 0xfbad25b0 (Literal 0xae3f42d3)) ∷ One (Store 8 0xfbad25a0 (Literal 0x895691bbe67fc66a))
+      ∷ One (Store 4 0xfbad25c4 (Literal 0x9b62793b)) ∷ One (Store 8 0xfbad25a0 (LastPlus 0x2)) ∷ [])
+      ∷ (One (Store 2 0xfbad25bc (LastPlus 0x1)) ∷ []) ∷ [];
   clocks = 61;
   cache = 2;
   ahead = 3;
@@ -124,11 +131,15 @@ follows : (agent : ℕ) → AreOfItems (script_of plan.scripts agent) (steps_of 
 follows zero = record { items = 7; same = refl }
 follows (suc zero) = record { items = 4; same = refl }
 follows (suc (suc zero)) = record { items = 1; same = refl }
-follows (suc (suc (suc agent))) = record { items = 0; same = steps_of-nobody 3 (suc (suc (suc agent))) log refl (omega arith) }
+follows (suc (suc (suc agent))) = record {
+  items = 0;
+  same = steps_of-nobody 3 (suc (suc (suc agent))) log refl (omega arith);
+}
 
 pub is_simulated : Simulated run
 unfolding opened
-is_simulated = simulated_if run (keeps_by_digits run refl computes) refl refl refl refl (record { follows = follows; together = refl }) refl
+is_simulated = simulated_if run (keeps_by_digits run refl computes) refl refl refl refl
+    (record { follows = follows; together = refl }) refl
 
 pub is_asked : Asked (told_lines plan.hazards ∷ []) run.choices run.holds
 is_asked = asked_for_lines plan.hazards 10 61

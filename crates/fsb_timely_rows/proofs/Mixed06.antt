@@ -8,7 +8,8 @@ use Rattle.fsb_access.specs.declared.item.Item.TheVariants.{One, Locked, Idle}
 use Rattle.fsb_access.specs.declared.log.Done.{Done}
 use Rattle.fsb_hazard.specs.declared.line.HazardLine.TheVariants.{Stall, Trdy, Resp, Gap, Defer as DeferLine, Aerr}
 use Rattle.fsb_script.specs.Plans.{PlanView}
-use Rattle.fsb_signal.specs.declared.lines.TheConstants.Lines.{BREQ0, BREQ1, LOCK, ADS, AERR, HIT, RS0, RS1, RS2, TRDY, DBSY, DRDY}
+use Rattle.fsb_signal.specs.declared.lines.TheConstants.Lines.{BREQ0, BREQ1, LOCK, ADS, AERR, HIT, RS0, RS1, RS2, TRDY}
+use Rattle.fsb_signal.specs.declared.lines.TheConstants.Lines.{DBSY, DRDY}
 use Rattle.fsb_trace.specs.At.{Trace}
 use Rattle.fsb_timely.specs.Runs.{Run}
 use Rattle.fsb_timely.specs.Timely.{keeps}
@@ -21,7 +22,9 @@ use Rattle.fsb_timely_rows.proofs.AskedLines.{asked_for_lines}
 
 abbrev pub plan : PlanView
 plan = record {
-  scripts = (One (Load 1 0x93e896e3) ∷ One (Load 8 0x93e896a0) ∷ One (Load 4 0x93e896d4) ∷ One (Store 8 0x93e896a0 (Literal 0x5abaa18f0913f420)) ∷ []) ∷ (Locked (Load 1 0x93e896ac ∷ []) ∷ One (Load 1 0x93e896c0) ∷ Idle 10 ∷ Idle 38 ∷ []) ∷ [];
+  scripts = (One (Load 1 0x93e896e3) ∷ One (Load 8 0x93e896a0) ∷ One (Load 4 0x93e896d4)
+      ∷ One (Store 8 0x93e896a0 (Literal 0x5abaa18f0913f420)) ∷ [])
+      ∷ (Locked (Load 1 0x93e896ac ∷ []) ∷ One (Load 1 0x93e896c0) ∷ Idle 10 ∷ Idle 38 ∷ []) ∷ [];
   clocks = 71;
   cache = 1;
   ahead = 3;

@@ -7,9 +7,11 @@ use Rattle.fsb_access.specs.declared.access.Access.TheVariants.{Load, Store}
 use Rattle.fsb_access.specs.declared.access.Operand.TheVariants.{Literal, LastPlus}
 use Rattle.fsb_access.specs.declared.item.Item.TheVariants.{One}
 use Rattle.fsb_access.specs.declared.log.Done.{Done}
-use Rattle.fsb_hazard.specs.declared.line.HazardLine.TheVariants.{Stall, Trdy, Resp, Gap, Retry, Defer as DeferLine, Aerr, Bnr}
+use Rattle.fsb_hazard.specs.declared.line.HazardLine.TheVariants.{Stall, Trdy, Resp, Gap, Retry, Defer as DeferLine}
+use Rattle.fsb_hazard.specs.declared.line.HazardLine.TheVariants.{Aerr, Bnr}
 use Rattle.fsb_script.specs.Plans.{PlanView}
-use Rattle.fsb_signal.specs.declared.lines.TheConstants.Lines.{BREQ0, BREQ1, ADS, AERR, BNR, HIT, HITM, DEFER, RS0, RS1, RS2, TRDY, DBSY, DRDY, AP0, AP1, RP}
+use Rattle.fsb_signal.specs.declared.lines.TheConstants.Lines.{BREQ0, BREQ1, ADS, AERR, BNR, HIT, HITM, DEFER, RS0, RS1}
+use Rattle.fsb_signal.specs.declared.lines.TheConstants.Lines.{RS2, TRDY, DBSY, DRDY, AP0, AP1, RP}
 use Rattle.fsb_trace.specs.At.{Trace}
 use Rattle.fsb_timely.specs.Runs.{Run}
 use Rattle.fsb_timely.specs.Timely.{keeps}
@@ -17,20 +19,25 @@ use Rattle.fsb_timely.specs.Simulated.{Simulated}
 use Rattle.fsb_timely.specs.Asked.{Asked}
 use Rattle.fsb_timely_rows.proofs.LaidOut.{clock, idle, entry, setting, told_lines, run_of}
 use Rattle.fsb_timely_rows.proofs.Opened.{opened}
-use Rattle.fsb_timely_rows.proofs.ParityByDigits.{has_digits, is_even_in, is_even_by_digits, drives_digits, every_part_by_digits, keeps_by_digits}
+use Rattle.fsb_timely_rows.proofs.ParityByDigits.{has_digits, is_even_in, is_even_by_digits, drives_digits}
+use Rattle.fsb_timely_rows.proofs.ParityByDigits.{every_part_by_digits, keeps_by_digits}
 use Rattle.fsb_timely_rows.proofs.Tests.{simulated_if}
 use Rattle.fsb_timely_rows.proofs.AskedLines.{asked_for_lines}
 
 abbrev pub plan : PlanView
 plan = record {
-  scripts = (One (Store 4 0x40945b5c0 (LastPlus 0x2)) ∷ One (Store 1 0x40945b5d5 (Literal 0x55)) ∷ One (Load 8 0x40945b5c0) ∷ One (Store 2 0x40945b5ec (LastPlus 0x2)) ∷ One (Load 2 0x40945b5f2) ∷ One (Store 8 0x40945b5e0 (LastPlus 0x1)) ∷ One (Load 4 0x40945b600) ∷ One (Load 1 0x40945b5f7) ∷ []) ∷ (One (Load 1 0x40945b615) ∷ One (Load 2 0x40945b64a) ∷ One (Load 8 0x40945b5d0) ∷ []) ∷ [];
+  scripts = (One (Store 4 0x40945b5c0 (LastPlus 0x2)) ∷ One (Store 1 0x40945b5d5 (Literal 0x55))
+      ∷ One (Load 8 0x40945b5c0) ∷ One (Store 2 0x40945b5ec (LastPlus 0x2)) ∷ One (Load 2 0x40945b5f2)
+      ∷ One (Store 8 0x40945b5e0 (LastPlus 0x1)) ∷ One (Load 4 0x40945b600) ∷ One (Load 1 0x40945b5f7) ∷ [])
+      ∷ (One (Load 1 0x40945b615) ∷ One (Load 2 0x40945b64a) ∷ One (Load 8 0x40945b5d0) ∷ []) ∷ [];
   clocks = 57;
   cache = 8;
   ahead = 3;
   profile = 2;
   bridge = Some (record { base = 0x40945b620; size = 0x20 });
   mem = setting 0x40945b607 0x76 ∷ [];
-  hazards = Aerr 0 ∷ Retry 4 ∷ Trdy 6 1 ∷ Resp 6 1 ∷ Retry 19 ∷ DeferLine 20 13 ∷ Stall 22 2 ∷ Stall 22 3 ∷ Resp 24 1 ∷ Aerr 26 ∷ Aerr 26 ∷ Gap 29 1 ∷ Bnr 76 95 ∷ Bnr 116 118 ∷ Bnr 10 13 ∷ Bnr 51 51 ∷ [];
+  hazards = Aerr 0 ∷ Retry 4 ∷ Trdy 6 1 ∷ Resp 6 1 ∷ Retry 19 ∷ DeferLine 20 13 ∷ Stall 22 2 ∷ Stall 22 3
+      ∷ Resp 24 1 ∷ Aerr 26 ∷ Aerr 26 ∷ Gap 29 1 ∷ Bnr 76 95 ∷ Bnr 116 118 ∷ Bnr 10 13 ∷ Bnr 51 51 ∷ [];
 }
 
 abbrev pub trace : Trace
@@ -119,7 +126,8 @@ follows (suc (suc agent)) = record { items = 0; same = steps_of-nobody 2 (suc (s
 
 pub is_simulated : Simulated run
 unfolding opened
-is_simulated = simulated_if run (keeps_by_digits run refl computes) refl refl refl refl (record { follows = follows; together = refl }) refl
+is_simulated = simulated_if run (keeps_by_digits run refl computes) refl refl refl refl
+    (record { follows = follows; together = refl }) refl
 
 pub is_asked : Asked (told_lines plan.hazards ∷ []) run.choices run.holds
 is_asked = asked_for_lines plan.hazards 7 57

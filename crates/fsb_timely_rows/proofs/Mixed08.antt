@@ -6,9 +6,11 @@ use Rattle.fsb_access.specs.declared.access.Access.TheVariants.{Load, Store}
 use Rattle.fsb_access.specs.declared.access.Operand.TheVariants.{Literal, LastPlus}
 use Rattle.fsb_access.specs.declared.item.Item.TheVariants.{One, Locked, Idle}
 use Rattle.fsb_access.specs.declared.log.Done.{Done}
-use Rattle.fsb_hazard.specs.declared.line.HazardLine.TheVariants.{Stall, Trdy, Resp, Gap, Retry, Defer as DeferLine, Aerr, Bnr}
+use Rattle.fsb_hazard.specs.declared.line.HazardLine.TheVariants.{Stall, Trdy, Resp, Gap, Retry, Defer as DeferLine}
+use Rattle.fsb_hazard.specs.declared.line.HazardLine.TheVariants.{Aerr, Bnr}
 use Rattle.fsb_script.specs.Plans.{PlanView}
-use Rattle.fsb_signal.specs.declared.lines.TheConstants.Lines.{BREQ0, BPRI, LOCK, ADS, AERR, BNR, DEFER, RS0, RS1, RS2, DBSY, DRDY}
+use Rattle.fsb_signal.specs.declared.lines.TheConstants.Lines.{BREQ0, BPRI, LOCK, ADS, AERR, BNR, DEFER, RS0, RS1, RS2}
+use Rattle.fsb_signal.specs.declared.lines.TheConstants.Lines.{DBSY, DRDY}
 use Rattle.fsb_trace.specs.At.{Trace}
 use Rattle.fsb_timely.specs.Runs.{Run}
 use Rattle.fsb_timely.specs.Timely.{keeps}
@@ -21,14 +23,19 @@ use Rattle.fsb_timely_rows.proofs.AskedLines.{asked_for_lines}
 
 abbrev pub plan : PlanView
 plan = record {
-  scripts = (One (Load 8 0x100) ∷ One (Load 8 0x118) ∷ One (Load 2 0x100) ∷ Idle 2 ∷ One (Store 2 0x100 (LastPlus 0x0)) ∷ One (Store 4 0x100 (Literal 0x13533b4f)) ∷ Locked (Store 4 0xc0 (Literal 0x79d783c5) ∷ Store 4 0x80 (LastPlus 0x3) ∷ []) ∷ []) ∷ [];
+  scripts = (One (Load 8 0x100) ∷ One (Load 8 0x118) ∷ One (Load 2 0x100) ∷ Idle 2
+      ∷ One (Store 2 0x100 (LastPlus 0x0)) ∷ One (Store 4 0x100 (Literal 0x13533b4f))
+      ∷ Locked (Store 4 0xc0 (Literal 0x79d783c5) ∷ Store 4 0x80 (LastPlus 0x3) ∷ []) ∷ []) ∷ [];
   clocks = 77;
   cache = 8;
   ahead = 4;
   profile = 1;
   bridge = Some (record { base = 0x60; size = 0xc0 });
   mem = setting 0x112 0x61 ∷ setting 0x9d 0x1d ∷ setting 0x117 0x7d ∷ setting 0x67 0x21 ∷ setting 0x119 0x96 ∷ [];
-  hazards = Trdy 5 2 ∷ Stall 3 1 ∷ Resp 1 2 ∷ Gap 18 1 ∷ Gap 9 2 ∷ Gap 1 2 ∷ Stall 1 1 ∷ Resp 8 2 ∷ Resp 4 1 ∷ Aerr 15 ∷ DeferLine 1 6 ∷ Retry 13 ∷ Resp 5 1 ∷ Aerr 5 ∷ Retry 11 ∷ Resp 11 1 ∷ Gap 15 1 ∷ DeferLine 0 5 ∷ Aerr 1 ∷ Gap 18 6 ∷ Bnr 19 21 ∷ DeferLine 0 2 ∷ Stall 18 2 ∷ Stall 5 4 ∷ Stall 5 2 ∷ Resp 0 1 ∷ DeferLine 2 12 ∷ Retry 11 ∷ Resp 11 2 ∷ Trdy 5 1 ∷ Aerr 3 ∷ [];
+  hazards = Trdy 5 2 ∷ Stall 3 1 ∷ Resp 1 2 ∷ Gap 18 1 ∷ Gap 9 2 ∷ Gap 1 2 ∷ Stall 1 1 ∷ Resp 8 2 ∷ Resp 4 1
+      ∷ Aerr 15 ∷ DeferLine 1 6 ∷ Retry 13 ∷ Resp 5 1 ∷ Aerr 5 ∷ Retry 11 ∷ Resp 11 1 ∷ Gap 15 1 ∷ DeferLine 0 5
+      ∷ Aerr 1 ∷ Gap 18 6 ∷ Bnr 19 21 ∷ DeferLine 0 2 ∷ Stall 18 2 ∷ Stall 5 4 ∷ Stall 5 2 ∷ Resp 0 1
+      ∷ DeferLine 2 12 ∷ Retry 11 ∷ Resp 11 2 ∷ Trdy 5 1 ∷ Aerr 3 ∷ [];
 }
 
 abbrev pub trace : Trace

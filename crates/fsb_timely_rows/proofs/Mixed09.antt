@@ -9,7 +9,8 @@ use Rattle.fsb_access.specs.declared.item.Item.TheVariants.{One, Locked}
 use Rattle.fsb_access.specs.declared.log.Done.{Done}
 use Rattle.fsb_hazard.specs.declared.line.HazardLine.TheVariants.{Retry, Aerr}
 use Rattle.fsb_script.specs.Plans.{PlanView}
-use Rattle.fsb_signal.specs.declared.lines.TheConstants.Lines.{BREQ0, LOCK, ADS, DEFER, RS0, RS1, RS2, TRDY, DBSY, DRDY, AP0, RP}
+use Rattle.fsb_signal.specs.declared.lines.TheConstants.Lines.{BREQ0, LOCK, ADS, DEFER, RS0, RS1, RS2, TRDY, DBSY, DRDY}
+use Rattle.fsb_signal.specs.declared.lines.TheConstants.Lines.{AP0, RP}
 use Rattle.fsb_trace.specs.At.{Trace}
 use Rattle.fsb_timely.specs.Runs.{Run}
 use Rattle.fsb_timely.specs.Timely.{keeps}
@@ -17,13 +18,17 @@ use Rattle.fsb_timely.specs.Simulated.{Simulated}
 use Rattle.fsb_timely.specs.Asked.{Asked}
 use Rattle.fsb_timely_rows.proofs.LaidOut.{clock, idle, entry, setting, told_lines, run_of}
 use Rattle.fsb_timely_rows.proofs.Opened.{opened}
-use Rattle.fsb_timely_rows.proofs.ParityByDigits.{has_digits, is_even_in, is_even_by_digits, drives_digits, every_part_by_digits, keeps_by_digits}
+use Rattle.fsb_timely_rows.proofs.ParityByDigits.{has_digits, is_even_in, is_even_by_digits, drives_digits}
+use Rattle.fsb_timely_rows.proofs.ParityByDigits.{every_part_by_digits, keeps_by_digits}
 use Rattle.fsb_timely_rows.proofs.Tests.{simulated_if}
 use Rattle.fsb_timely_rows.proofs.AskedLines.{asked_for_lines}
 
 abbrev pub plan : PlanView
 plan = record {
-  scripts = (One (Load 2 0x6ce) ∷ One (Store 4 0x734 (Literal 0x7bce2d26)) ∷ One (Load 2 0x72c) ∷ Locked (Store 1 0x69e (Literal 0x61) ∷ Load 8 0x720 ∷ Load 8 0x738 ∷ []) ∷ One (Store 2 0x680 (Literal 0xc389)) ∷ Locked (Store 1 0x739 (LastPlus 0x1) ∷ []) ∷ One (Load 2 0x73c) ∷ Locked (Load 2 0x652 ∷ Load 1 0x73a ∷ []) ∷ []) ∷ [];
+  scripts = (One (Load 2 0x6ce) ∷ One (Store 4 0x734 (Literal 0x7bce2d26)) ∷ One (Load 2 0x72c)
+      ∷ Locked (Store 1 0x69e (Literal 0x61) ∷ Load 8 0x720 ∷ Load 8 0x738 ∷ [])
+      ∷ One (Store 2 0x680 (Literal 0xc389)) ∷ Locked (Store 1 0x739 (LastPlus 0x1) ∷ []) ∷ One (Load 2 0x73c)
+      ∷ Locked (Load 2 0x652 ∷ Load 1 0x73a ∷ []) ∷ []) ∷ [];
   clocks = 84;
   cache = 2;
   ahead = 4;
@@ -133,7 +138,8 @@ follows (suc agent) = record { items = 0; same = steps_of-nobody 1 (suc agent) l
 
 pub is_simulated : Simulated run
 unfolding opened
-is_simulated = simulated_if run (keeps_by_digits run refl computes) refl refl refl refl (record { follows = follows; together = refl }) refl
+is_simulated = simulated_if run (keeps_by_digits run refl computes) refl refl refl refl
+    (record { follows = follows; together = refl }) refl
 
 pub is_asked : Asked (told_lines plan.hazards ∷ []) run.choices run.holds
 is_asked = asked_for_lines plan.hazards 6 84

@@ -6,9 +6,11 @@ use Rattle.fsb_access.specs.declared.access.Access.TheVariants.{Load, Store}
 use Rattle.fsb_access.specs.declared.access.Operand.TheVariants.{Literal, LastPlus}
 use Rattle.fsb_access.specs.declared.item.Item.TheVariants.{One, Locked, Idle}
 use Rattle.fsb_access.specs.declared.log.Done.{Done}
-use Rattle.fsb_hazard.specs.declared.line.HazardLine.TheVariants.{Stall, Trdy, Resp, Gap, Retry, Defer as DeferLine, Aerr}
+use Rattle.fsb_hazard.specs.declared.line.HazardLine.TheVariants.{Stall, Trdy, Resp, Gap, Retry, Defer as DeferLine}
+use Rattle.fsb_hazard.specs.declared.line.HazardLine.TheVariants.{Aerr}
 use Rattle.fsb_script.specs.Plans.{PlanView}
-use Rattle.fsb_signal.specs.declared.lines.TheConstants.Lines.{BREQ0, BREQ1, BREQ2, ADS, AERR, HIT, HITM, RS0, RS1, RS2, TRDY, DBSY, DRDY}
+use Rattle.fsb_signal.specs.declared.lines.TheConstants.Lines.{BREQ0, BREQ1, BREQ2, ADS, AERR, HIT, HITM, RS0, RS1, RS2}
+use Rattle.fsb_signal.specs.declared.lines.TheConstants.Lines.{TRDY, DBSY, DRDY}
 use Rattle.fsb_trace.specs.At.{Trace}
 use Rattle.fsb_timely.specs.Runs.{Run}
 use Rattle.fsb_timely.specs.Timely.{keeps}
@@ -21,14 +23,23 @@ use Rattle.fsb_timely_rows.proofs.AskedLines.{asked_for_lines}
 
 abbrev pub plan : PlanView
 plan = record {
-  scripts = (One (Store 1 0xffffffe0 (Literal 0x8f)) ∷ One (Load 2 0xffffffc6) ∷ One (Load 1 0xffffffd5) ∷ One (Load 8 0xffffffc8) ∷ One (Load 1 0xffffffe0) ∷ One (Load 1 0xffffffdc) ∷ Idle 3 ∷ One (Load 4 0xffffffc0) ∷ []) ∷ (One (Load 2 0xffffffc8) ∷ Idle 2 ∷ One (Store 2 0xffffffc0 (Literal 0xd8fd)) ∷ One (Load 2 0xffffffc0) ∷ One (Store 8 0xffffffc0 (Literal 0x54f520bbbd41a492)) ∷ One (Load 4 0xffffffc0) ∷ Locked (Store 2 0xffffffd4 (LastPlus 0x3) ∷ []) ∷ []) ∷ (One (Store 1 0xffffffd6 (LastPlus 0xe)) ∷ One (Store 8 0xffffffe8 (LastPlus 0x3)) ∷ Locked (Store 2 0xffffffe0 (Literal 0xc1df) ∷ Load 2 0xffffffee ∷ []) ∷ Idle 5 ∷ []) ∷ [];
+  scripts = (One (Store 1 0xffffffe0 (Literal 0x8f)) ∷ One (Load 2 0xffffffc6) ∷ One (Load 1 0xffffffd5)
+      ∷ One (Load 8 0xffffffc8) ∷ One (Load 1 0xffffffe0) ∷ One (Load 1 0xffffffdc) ∷ Idle 3
+      ∷ One (Load 4 0xffffffc0) ∷ [])
+      ∷ (One (Load 2 0xffffffc8) ∷ Idle 2 ∷ One (Store 2 0xffffffc0 (Literal 0xd8fd)) ∷ One (Load 2 0xffffffc0)
+      ∷ One (Store 8 0xffffffc0 (Literal 0x54f520bbbd41a492)) ∷ One (Load 4 0xffffffc0)
+      ∷ Locked (Store 2 0xffffffd4 (LastPlus 0x3) ∷ []) ∷ [])
+      ∷ (One (Store 1 0xffffffd6 (LastPlus 0xe)) ∷ One (Store 8 0xffffffe8 (LastPlus 0x3))
+      ∷ Locked (Store 2 0xffffffe0 (Literal 0xc1df) ∷ Load 2 0xffffffee ∷ []) ∷ Idle 5 ∷ []) ∷ [];
   clocks = 48;
   cache = 1;
   ahead = 4;
   profile = 1;
   bridge = Some (record { base = 0xffffffc0; size = 0x40 });
   mem = setting 0xffffffd5 0xa0 ∷ [];
-  hazards = Aerr 2 ∷ Aerr 3 ∷ Stall 4 2 ∷ Retry 11 ∷ Retry 13 ∷ Aerr 20 ∷ DeferLine 29 3 ∷ DeferLine 29 14 ∷ Resp 29 4 ∷ Stall 29 2 ∷ Stall 29 1 ∷ Resp 29 2 ∷ Stall 32 1 ∷ Trdy 32 1 ∷ Retry 37 ∷ Trdy 37 1 ∷ Gap 37 2 ∷ Trdy 40 4 ∷ DeferLine 41 2 ∷ Gap 43 5 ∷ [];
+  hazards = Aerr 2 ∷ Aerr 3 ∷ Stall 4 2 ∷ Retry 11 ∷ Retry 13 ∷ Aerr 20 ∷ DeferLine 29 3 ∷ DeferLine 29 14
+      ∷ Resp 29 4 ∷ Stall 29 2 ∷ Stall 29 1 ∷ Resp 29 2 ∷ Stall 32 1 ∷ Trdy 32 1 ∷ Retry 37 ∷ Trdy 37 1
+      ∷ Gap 37 2 ∷ Trdy 40 4 ∷ DeferLine 41 2 ∷ Gap 43 5 ∷ [];
 }
 
 abbrev pub trace : Trace
@@ -107,7 +118,10 @@ follows : (agent : ℕ) → AreOfItems (script_of plan.scripts agent) (steps_of 
 follows zero = record { items = 1; same = refl }
 follows (suc zero) = record { items = 7; same = refl }
 follows (suc (suc zero)) = record { items = 1; same = refl }
-follows (suc (suc (suc agent))) = record { items = 0; same = steps_of-nobody 3 (suc (suc (suc agent))) log refl (omega arith) }
+follows (suc (suc (suc agent))) = record {
+  items = 0;
+  same = steps_of-nobody 3 (suc (suc (suc agent))) log refl (omega arith);
+}
 
 pub is_simulated : Simulated run
 unfolding opened

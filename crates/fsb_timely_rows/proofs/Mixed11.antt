@@ -9,7 +9,8 @@ use Rattle.fsb_access.specs.declared.item.Item.TheVariants.{One, Locked, Idle}
 use Rattle.fsb_access.specs.declared.log.Done.{Done}
 use Rattle.fsb_hazard.specs.declared.line.HazardLine.TheVariants.{Defer as DeferLine, Bnr}
 use Rattle.fsb_script.specs.Plans.{PlanView}
-use Rattle.fsb_signal.specs.declared.lines.TheConstants.Lines.{BREQ0, BREQ1, BREQ2, LOCK, ADS, BNR, HIT, HITM, RS0, RS1, RS2, TRDY, DBSY, DRDY, AP0, RP}
+use Rattle.fsb_signal.specs.declared.lines.TheConstants.Lines.{BREQ0, BREQ1, BREQ2, LOCK, ADS, BNR, HIT, HITM, RS0, RS1}
+use Rattle.fsb_signal.specs.declared.lines.TheConstants.Lines.{RS2, TRDY, DBSY, DRDY, AP0, RP}
 use Rattle.fsb_trace.specs.At.{Trace}
 use Rattle.fsb_timely.specs.Runs.{Run}
 use Rattle.fsb_timely.specs.Timely.{keeps}
@@ -17,19 +18,27 @@ use Rattle.fsb_timely.specs.Simulated.{Simulated}
 use Rattle.fsb_timely.specs.Asked.{Asked}
 use Rattle.fsb_timely_rows.proofs.LaidOut.{clock, idle, entry, setting, told_lines, run_of}
 use Rattle.fsb_timely_rows.proofs.Opened.{opened}
-use Rattle.fsb_timely_rows.proofs.ParityByDigits.{has_digits, is_even_in, is_even_by_digits, drives_digits, every_part_by_digits, keeps_by_digits}
+use Rattle.fsb_timely_rows.proofs.ParityByDigits.{has_digits, is_even_in, is_even_by_digits, drives_digits}
+use Rattle.fsb_timely_rows.proofs.ParityByDigits.{every_part_by_digits, keeps_by_digits}
 use Rattle.fsb_timely_rows.proofs.Tests.{simulated_if}
 use Rattle.fsb_timely_rows.proofs.AskedLines.{asked_for_lines}
 
 abbrev pub plan : PlanView
 plan = record {
-  scripts = (One (Store 4 0x54bb482e0 (Literal 0xfb094bce)) ∷ Locked (Load 1 0x54bb482e0 ∷ []) ∷ One (Load 8 0x54bb482a8) ∷ One (Load 2 0x54bb48260) ∷ One (Load 8 0x54bb482e0) ∷ []) ∷ (One (Load 1 0x54bb482cd) ∷ One (Load 8 0x54bb48278) ∷ Locked (Load 8 0x54bb482c0 ∷ Store 1 0x54bb48279 (LastPlus 0x1) ∷ Store 8 0x54bb48260 (Literal 0x5d9d577aca75c0f0) ∷ Store 4 0x54bb482c0 (LastPlus 0x2) ∷ Load 4 0x54bb482c0 ∷ Load 8 0x54bb48260 ∷ []) ∷ One (Load 1 0x54bb482e0) ∷ []) ∷ (Idle 10 ∷ One (Load 4 0x54bb48264) ∷ One (Load 1 0x54bb482be) ∷ []) ∷ [];
+  scripts = (One (Store 4 0x54bb482e0 (Literal 0xfb094bce)) ∷ Locked (Load 1 0x54bb482e0 ∷ [])
+      ∷ One (Load 8 0x54bb482a8) ∷ One (Load 2 0x54bb48260) ∷ One (Load 8 0x54bb482e0) ∷ [])
+      ∷ (One (Load 1 0x54bb482cd) ∷ One (Load 8 0x54bb48278)
+      ∷ Locked (Load 8 0x54bb482c0 ∷ Store 1 0x54bb48279 (LastPlus 0x1) ∷ Store 8 0x54bb48260
+      (Literal 0x5d9d577aca75c0f0) ∷ Store 4 0x54bb482c0 (LastPlus 0x2) ∷ Load 4 0x54bb482c0
+      ∷ Load 8 0x54bb48260 ∷ []) ∷ One (Load 1 0x54bb482e0) ∷ [])
+      ∷ (Idle 10 ∷ One (Load 4 0x54bb48264) ∷ One (Load 1 0x54bb482be) ∷ []) ∷ [];
   clocks = 84;
   cache = 2;
   ahead = 1;
   profile = 2;
   bridge = None;
-  mem = setting 0x54bb482e5 0x71 ∷ setting 0x54bb482aa 0xf7 ∷ setting 0x54bb4827e 0xe3 ∷ setting 0x54bb482c6 0xb4 ∷ setting 0x54bb482ad 0x63 ∷ [];
+  mem = setting 0x54bb482e5 0x71 ∷ setting 0x54bb482aa 0xf7 ∷ setting 0x54bb4827e 0xe3 ∷ setting 0x54bb482c6
+      0xb4 ∷ setting 0x54bb482ad 0x63 ∷ [];
   hazards = DeferLine 1 14 ∷ Bnr 24 24 ∷ Bnr 59 59 ∷ [];
 }
 
@@ -136,11 +145,15 @@ follows : (agent : ℕ) → AreOfItems (script_of plan.scripts agent) (steps_of 
 follows zero = record { items = 5; same = refl }
 follows (suc zero) = record { items = 4; same = refl }
 follows (suc (suc zero)) = record { items = 3; same = refl }
-follows (suc (suc (suc agent))) = record { items = 0; same = steps_of-nobody 3 (suc (suc (suc agent))) log refl (omega arith) }
+follows (suc (suc (suc agent))) = record {
+  items = 0;
+  same = steps_of-nobody 3 (suc (suc (suc agent))) log refl (omega arith);
+}
 
 pub is_simulated : Simulated run
 unfolding opened
-is_simulated = simulated_if run (keeps_by_digits run refl computes) refl refl refl refl (record { follows = follows; together = refl }) refl
+is_simulated = simulated_if run (keeps_by_digits run refl computes) refl refl refl refl
+    (record { follows = follows; together = refl }) refl
 
 pub is_asked : Asked (told_lines plan.hazards ∷ []) run.choices run.holds
 is_asked = asked_for_lines plan.hazards 11 84

@@ -5,9 +5,11 @@ use Rattle.fsb_access.specs.ScriptOrder.{AreOfItems, script_of, steps_of}
 use Rattle.fsb_access.specs.declared.access.Access.TheVariants.{Load}
 use Rattle.fsb_access.specs.declared.item.Item.TheVariants.{One}
 use Rattle.fsb_access.specs.declared.log.Done.{Done}
-use Rattle.fsb_hazard.specs.declared.line.HazardLine.TheVariants.{Stall, Trdy, Resp, Gap, Retry, Defer as DeferLine, Aerr, Bnr}
+use Rattle.fsb_hazard.specs.declared.line.HazardLine.TheVariants.{Stall, Trdy, Resp, Gap, Retry, Defer as DeferLine}
+use Rattle.fsb_hazard.specs.declared.line.HazardLine.TheVariants.{Aerr, Bnr}
 use Rattle.fsb_script.specs.Plans.{PlanView}
-use Rattle.fsb_signal.specs.declared.lines.TheConstants.Lines.{BREQ0, ADS, AERR, BNR, HIT, HITM, DEFER, RS0, RS1, RS2, DBSY, DRDY}
+use Rattle.fsb_signal.specs.declared.lines.TheConstants.Lines.{BREQ0, ADS, AERR, BNR, HIT, HITM, DEFER, RS0, RS1, RS2}
+use Rattle.fsb_signal.specs.declared.lines.TheConstants.Lines.{DBSY, DRDY}
 use Rattle.fsb_trace.specs.At.{Trace}
 use Rattle.fsb_timely.specs.Runs.{Run}
 use Rattle.fsb_timely.specs.Timely.{keeps}
@@ -27,7 +29,9 @@ plan = record {
   profile = 1;
   bridge = Some (record { base = 0x600; size = 0x20 });
   mem = [];
-  hazards = Retry 0 ∷ DeferLine 4 4 ∷ Trdy 12 6 ∷ Bnr 47 47 ∷ Gap 11 7 ∷ Trdy 11 2 ∷ Aerr 12 ∷ Trdy 12 1 ∷ Gap 9 2 ∷ Aerr 1 ∷ Retry 0 ∷ Aerr 8 ∷ DeferLine 4 9 ∷ Bnr 19 20 ∷ Resp 4 5 ∷ Bnr 22 24 ∷ Stall 2 1 ∷ Retry 9 ∷ Bnr 13 14 ∷ Retry 3 ∷ DeferLine 9 7 ∷ Trdy 11 1 ∷ [];
+  hazards = Retry 0 ∷ DeferLine 4 4 ∷ Trdy 12 6 ∷ Bnr 47 47 ∷ Gap 11 7 ∷ Trdy 11 2 ∷ Aerr 12 ∷ Trdy 12 1
+      ∷ Gap 9 2 ∷ Aerr 1 ∷ Retry 0 ∷ Aerr 8 ∷ DeferLine 4 9 ∷ Bnr 19 20 ∷ Resp 4 5 ∷ Bnr 22 24 ∷ Stall 2 1
+      ∷ Retry 9 ∷ Bnr 13 14 ∷ Retry 3 ∷ DeferLine 9 7 ∷ Trdy 11 1 ∷ [];
 }
 
 abbrev pub trace : Trace

@@ -6,7 +6,8 @@ use Rattle.fsb_access.specs.declared.access.Access.TheVariants.{Load, Store}
 use Rattle.fsb_access.specs.declared.access.Operand.TheVariants.{LastPlus}
 use Rattle.fsb_access.specs.declared.item.Item.TheVariants.{One, Locked}
 use Rattle.fsb_access.specs.declared.log.Done.{Done}
-use Rattle.fsb_hazard.specs.declared.line.HazardLine.TheVariants.{Stall, Trdy, Resp, Gap, Retry, Defer as DeferLine, Aerr}
+use Rattle.fsb_hazard.specs.declared.line.HazardLine.TheVariants.{Stall, Trdy, Resp, Gap, Retry, Defer as DeferLine}
+use Rattle.fsb_hazard.specs.declared.line.HazardLine.TheVariants.{Aerr}
 use Rattle.fsb_script.specs.Plans.{PlanView}
 use Rattle.fsb_signal.specs.declared.lines.TheConstants.Lines.{BREQ0, BPRI, ADS, AERR, DEFER, RS0, RS1, RS2, DBSY, DRDY}
 use Rattle.fsb_trace.specs.At.{Trace}
@@ -21,14 +22,21 @@ use Rattle.fsb_timely_rows.proofs.AskedLines.{asked_for_lines}
 
 abbrev pub plan : PlanView
 plan = record {
-  scripts = (One (Load 2 0xffffffae0) ∷ One (Load 2 0xffffffbc2) ∷ One (Load 1 0xffffff858) ∷ One (Store 1 0xffffff860 (LastPlus 0x1)) ∷ One (Load 8 0xffffff850) ∷ Locked (Store 4 0xffffffae0 (LastPlus 0x2) ∷ Load 4 0xffffff854 ∷ []) ∷ One (Load 1 0xffffffaf5) ∷ []) ∷ [];
+  scripts = (One (Load 2 0xffffffae0) ∷ One (Load 2 0xffffffbc2) ∷ One (Load 1 0xffffff858)
+      ∷ One (Store 1 0xffffff860 (LastPlus 0x1)) ∷ One (Load 8 0xffffff850)
+      ∷ Locked (Store 4 0xffffffae0 (LastPlus 0x2) ∷ Load 4 0xffffff854 ∷ []) ∷ One (Load 1 0xffffffaf5) ∷ []) ∷ [];
   clocks = 73;
   cache = 4;
   ahead = 4;
   profile = 1;
   bridge = Some (record { base = 0xffffff840; size = 0x3a0 });
   mem = setting 0xffffffaf0 0xa8 ∷ setting 0xffffff860 0xc3 ∷ setting 0xffffff877 0x9a ∷ [];
-  hazards = DeferLine 0 12 ∷ DeferLine 1 140 ∷ DeferLine 2 79 ∷ DeferLine 3 289 ∷ Retry 3 ∷ DeferLine 4 263 ∷ Aerr 4 ∷ Stall 4 1 ∷ DeferLine 5 219 ∷ DeferLine 6 111 ∷ DeferLine 7 124 ∷ Gap 7 1 ∷ DeferLine 7 4 ∷ Aerr 7 ∷ DeferLine 7 11 ∷ DeferLine 8 18 ∷ DeferLine 9 18 ∷ DeferLine 10 14 ∷ DeferLine 10 0 ∷ DeferLine 11 12 ∷ DeferLine 12 20 ∷ DeferLine 13 346 ∷ DeferLine 14 18 ∷ DeferLine 14 15 ∷ Gap 14 3 ∷ DeferLine 15 80 ∷ Aerr 15 ∷ DeferLine 16 141 ∷ Resp 16 4 ∷ DeferLine 17 15 ∷ DeferLine 18 14 ∷ Trdy 18 4 ∷ DeferLine 19 13 ∷ Resp 19 2 ∷ Gap 20 1 ∷ DeferLine 21 31 ∷ [];
+  hazards = DeferLine 0 12 ∷ DeferLine 1 140 ∷ DeferLine 2 79 ∷ DeferLine 3 289 ∷ Retry 3 ∷ DeferLine 4 263
+      ∷ Aerr 4 ∷ Stall 4 1 ∷ DeferLine 5 219 ∷ DeferLine 6 111 ∷ DeferLine 7 124 ∷ Gap 7 1 ∷ DeferLine 7 4
+      ∷ Aerr 7 ∷ DeferLine 7 11 ∷ DeferLine 8 18 ∷ DeferLine 9 18 ∷ DeferLine 10 14 ∷ DeferLine 10 0
+      ∷ DeferLine 11 12 ∷ DeferLine 12 20 ∷ DeferLine 13 346 ∷ DeferLine 14 18 ∷ DeferLine 14 15 ∷ Gap 14 3
+      ∷ DeferLine 15 80 ∷ Aerr 15 ∷ DeferLine 16 141 ∷ Resp 16 4 ∷ DeferLine 17 15 ∷ DeferLine 18 14 ∷ Trdy 18 4
+      ∷ DeferLine 19 13 ∷ Resp 19 2 ∷ Gap 20 1 ∷ DeferLine 21 31 ∷ [];
 }
 
 abbrev pub trace : Trace

@@ -7,9 +7,11 @@ use Rattle.fsb_access.specs.declared.access.Access.TheVariants.{Load, Store}
 use Rattle.fsb_access.specs.declared.access.Operand.TheVariants.{Literal, LastPlus}
 use Rattle.fsb_access.specs.declared.item.Item.TheVariants.{One, Locked, Idle}
 use Rattle.fsb_access.specs.declared.log.Done.{Done}
-use Rattle.fsb_hazard.specs.declared.line.HazardLine.TheVariants.{Stall, Trdy, Resp, Gap, Retry, Defer as DeferLine, Aerr}
+use Rattle.fsb_hazard.specs.declared.line.HazardLine.TheVariants.{Stall, Trdy, Resp, Gap, Retry, Defer as DeferLine}
+use Rattle.fsb_hazard.specs.declared.line.HazardLine.TheVariants.{Aerr}
 use Rattle.fsb_script.specs.Plans.{PlanView}
-use Rattle.fsb_signal.specs.declared.lines.TheConstants.Lines.{BREQ0, LOCK, ADS, AERR, HIT, HITM, RS0, RS1, RS2, DBSY, DRDY, AP0, RP}
+use Rattle.fsb_signal.specs.declared.lines.TheConstants.Lines.{BREQ0, LOCK, ADS, AERR, HIT, HITM, RS0, RS1, RS2, DBSY}
+use Rattle.fsb_signal.specs.declared.lines.TheConstants.Lines.{DRDY, AP0, RP}
 use Rattle.fsb_trace.specs.At.{Trace}
 use Rattle.fsb_timely.specs.Runs.{Run}
 use Rattle.fsb_timely.specs.Timely.{keeps}
@@ -17,20 +19,27 @@ use Rattle.fsb_timely.specs.Simulated.{Simulated}
 use Rattle.fsb_timely.specs.Asked.{Asked}
 use Rattle.fsb_timely_rows.proofs.LaidOut.{clock, idle, entry, told_lines, run_of}
 use Rattle.fsb_timely_rows.proofs.Opened.{opened}
-use Rattle.fsb_timely_rows.proofs.ParityByDigits.{has_digits, is_even_in, is_even_by_digits, drives_digits, every_part_by_digits, keeps_by_digits}
+use Rattle.fsb_timely_rows.proofs.ParityByDigits.{has_digits, is_even_in, is_even_by_digits, drives_digits}
+use Rattle.fsb_timely_rows.proofs.ParityByDigits.{every_part_by_digits, keeps_by_digits}
 use Rattle.fsb_timely_rows.proofs.Tests.{simulated_if}
 use Rattle.fsb_timely_rows.proofs.AskedLines.{asked_for_lines}
 
 abbrev pub plan : PlanView
 plan = record {
-  scripts = (One (Load 2 0xffffff822) ∷ One (Load 8 0xffffff888) ∷ Locked (Load 8 0xffffffc08 ∷ Store 2 0xffffff820 (Literal 0x6bb0) ∷ Store 1 0xffffff840 (LastPlus 0x2) ∷ Store 2 0xffffffc00 (Literal 0x71fa) ∷ []) ∷ One (Store 1 0xffffff873 (Literal 0x2e)) ∷ One (Store 4 0xffffff820 (Literal 0xaedae10d)) ∷ One (Load 4 0xffffff820) ∷ []) ∷ (Idle 1 ∷ []) ∷ [];
+  scripts = (One (Load 2 0xffffff822) ∷ One (Load 8 0xffffff888)
+      ∷ Locked (Load 8 0xffffffc08 ∷ Store 2 0xffffff820 (Literal 0x6bb0) ∷ Store 1 0xffffff840 (LastPlus 0x2)
+      ∷ Store 2 0xffffffc00 (Literal 0x71fa) ∷ []) ∷ One (Store 1 0xffffff873 (Literal 0x2e))
+      ∷ One (Store 4 0xffffff820 (Literal 0xaedae10d)) ∷ One (Load 4 0xffffff820) ∷ []) ∷ (Idle 1 ∷ []) ∷ [];
   clocks = 78;
   cache = 4;
   ahead = 3;
   profile = 2;
   bridge = None;
   mem = [];
-  hazards = Trdy 0 1 ∷ Trdy 0 2 ∷ DeferLine 0 5 ∷ Aerr 0 ∷ DeferLine 0 3 ∷ Retry 0 ∷ Resp 0 2 ∷ DeferLine 0 14 ∷ Trdy 4 1 ∷ Resp 4 1 ∷ Resp 4 1 ∷ Aerr 4 ∷ Stall 4 1 ∷ Gap 5 4 ∷ Stall 5 2 ∷ Trdy 6 4 ∷ Stall 6 2 ∷ Resp 8 7 ∷ Stall 8 7 ∷ DeferLine 9 2 ∷ Gap 9 2 ∷ Aerr 11 ∷ Resp 13 1 ∷ Stall 14 1 ∷ Trdy 14 8 ∷ Gap 14 2 ∷ Aerr 16 ∷ Resp 16 1 ∷ Retry 17 ∷ Stall 18 7 ∷ Stall 20 6 ∷ [];
+  hazards = Trdy 0 1 ∷ Trdy 0 2 ∷ DeferLine 0 5 ∷ Aerr 0 ∷ DeferLine 0 3 ∷ Retry 0 ∷ Resp 0 2 ∷ DeferLine 0 14
+      ∷ Trdy 4 1 ∷ Resp 4 1 ∷ Resp 4 1 ∷ Aerr 4 ∷ Stall 4 1 ∷ Gap 5 4 ∷ Stall 5 2 ∷ Trdy 6 4 ∷ Stall 6 2
+      ∷ Resp 8 7 ∷ Stall 8 7 ∷ DeferLine 9 2 ∷ Gap 9 2 ∷ Aerr 11 ∷ Resp 13 1 ∷ Stall 14 1 ∷ Trdy 14 8 ∷ Gap 14 2
+      ∷ Aerr 16 ∷ Resp 16 1 ∷ Retry 17 ∷ Stall 18 7 ∷ Stall 20 6 ∷ [];
 }
 
 abbrev pub trace : Trace
@@ -139,7 +148,8 @@ follows (suc (suc agent)) = record { items = 0; same = steps_of-nobody 2 (suc (s
 
 pub is_simulated : Simulated run
 unfolding opened
-is_simulated = simulated_if run (keeps_by_digits run refl computes) refl refl refl refl (record { follows = follows; together = refl }) refl
+is_simulated = simulated_if run (keeps_by_digits run refl computes) refl refl refl refl
+    (record { follows = follows; together = refl }) refl
 
 pub is_asked : Asked (told_lines plan.hazards ∷ []) run.choices run.holds
 is_asked = asked_for_lines plan.hazards 7 78

@@ -8,7 +8,8 @@ use Rattle.fsb_access.specs.declared.item.Item.TheVariants.{One, Locked, Idle}
 use Rattle.fsb_access.specs.declared.log.Done.{Done}
 use Rattle.fsb_hazard.specs.declared.line.HazardLine.TheVariants.{Stall, Trdy, Gap, Retry, Aerr}
 use Rattle.fsb_script.specs.Plans.{PlanView}
-use Rattle.fsb_signal.specs.declared.lines.TheConstants.Lines.{BREQ0, BREQ1, LOCK, ADS, AERR, HITM, DEFER, RS0, RS1, RS2, TRDY, DBSY, DRDY, AP0, RP}
+use Rattle.fsb_signal.specs.declared.lines.TheConstants.Lines.{BREQ0, BREQ1, LOCK, ADS, AERR, HITM, DEFER, RS0, RS1}
+use Rattle.fsb_signal.specs.declared.lines.TheConstants.Lines.{RS2, TRDY, DBSY, DRDY, AP0, RP}
 use Rattle.fsb_trace.specs.At.{Trace}
 use Rattle.fsb_timely.specs.Runs.{Run}
 use Rattle.fsb_timely.specs.Timely.{keeps}
@@ -21,7 +22,12 @@ use Rattle.fsb_timely_rows.proofs.AskedLines.{asked_for_lines}
 
 abbrev pub plan : PlanView
 plan = record {
-  scripts = (Idle 6 ∷ Locked (Store 4 0x160 (Literal 0x7291d82a) ∷ []) ∷ One (Store 8 0x170 (Literal 0xec9952298b0eec42)) ∷ One (Load 2 0x40) ∷ One (Load 4 0x174) ∷ One (Load 2 0x11e) ∷ []) ∷ (One (Store 8 0x40 (Literal 0xb90c93e508e14f79)) ∷ One (Store 4 0x58 (Literal 0x730e06a6)) ∷ One (Load 2 0xb0) ∷ Idle 4 ∷ One (Load 1 0x160) ∷ One (Load 1 0x46) ∷ One (Load 4 0x40) ∷ Locked (Load 1 0x1c0 ∷ Load 8 0x1c0 ∷ Store 1 0x1c5 (LastPlus 0x1) ∷ []) ∷ One (Store 1 0x5a (LastPlus 0x2)) ∷ []) ∷ [];
+  scripts = (Idle 6 ∷ Locked (Store 4 0x160 (Literal 0x7291d82a) ∷ [])
+      ∷ One (Store 8 0x170 (Literal 0xec9952298b0eec42)) ∷ One (Load 2 0x40) ∷ One (Load 4 0x174)
+      ∷ One (Load 2 0x11e) ∷ []) ∷ (One (Store 8 0x40 (Literal 0xb90c93e508e14f79))
+      ∷ One (Store 4 0x58 (Literal 0x730e06a6)) ∷ One (Load 2 0xb0) ∷ Idle 4 ∷ One (Load 1 0x160)
+      ∷ One (Load 1 0x46) ∷ One (Load 4 0x40) ∷ Locked
+      (Load 1 0x1c0 ∷ Load 8 0x1c0 ∷ Store 1 0x1c5 (LastPlus 0x1) ∷ []) ∷ One (Store 1 0x5a (LastPlus 0x2)) ∷ []) ∷ [];
   clocks = 36;
   cache = 4;
   ahead = 2;

@@ -9,7 +9,8 @@ use Rattle.fsb_access.specs.declared.item.Item.TheVariants.{One, Locked, Idle}
 use Rattle.fsb_access.specs.declared.log.Done.{Done}
 use Rattle.fsb_hazard.specs.declared.line.HazardLine.TheVariants.{Trdy, Defer as DeferLine}
 use Rattle.fsb_script.specs.Plans.{PlanView}
-use Rattle.fsb_signal.specs.declared.lines.TheConstants.Lines.{BREQ0, BREQ1, BREQ2, BREQ3, LOCK, ADS, HIT, HITM, DEFER, RS0, RS1, RS2, TRDY, DBSY, DRDY, AP0, RP}
+use Rattle.fsb_signal.specs.declared.lines.TheConstants.Lines.{BREQ0, BREQ1, BREQ2, BREQ3, LOCK, ADS, HIT, HITM, DEFER}
+use Rattle.fsb_signal.specs.declared.lines.TheConstants.Lines.{RS0, RS1, RS2, TRDY, DBSY, DRDY, AP0, RP}
 use Rattle.fsb_trace.specs.At.{Trace}
 use Rattle.fsb_timely.specs.Runs.{Run}
 use Rattle.fsb_timely.specs.Timely.{keeps}
@@ -17,13 +18,21 @@ use Rattle.fsb_timely.specs.Simulated.{Simulated}
 use Rattle.fsb_timely.specs.Asked.{Asked}
 use Rattle.fsb_timely_rows.proofs.LaidOut.{clock, idle, entry, told_lines, run_of}
 use Rattle.fsb_timely_rows.proofs.Opened.{opened}
-use Rattle.fsb_timely_rows.proofs.ParityByDigits.{has_digits, is_even_in, is_even_by_digits, drives_digits, every_part_by_digits, keeps_by_digits}
+use Rattle.fsb_timely_rows.proofs.ParityByDigits.{has_digits, is_even_in, is_even_by_digits, drives_digits}
+use Rattle.fsb_timely_rows.proofs.ParityByDigits.{every_part_by_digits, keeps_by_digits}
 use Rattle.fsb_timely_rows.proofs.Tests.{simulated_if}
 use Rattle.fsb_timely_rows.proofs.AskedLines.{asked_for_lines}
 
 abbrev pub plan : PlanView
 plan = record {
-  scripts = (One (Store 8 0xffffff800 (LastPlus 0x2)) ∷ One (Store 2 0xffffff860 (LastPlus 0x1)) ∷ One (Store 1 0xffffff800 (LastPlus 0x0)) ∷ Idle 4 ∷ One (Store 8 0xffffff800 (LastPlus 0x723d26ae99d9fc70)) ∷ Locked (Store 8 0xffffff830 (Literal 0x6a69528a9abd8211) ∷ []) ∷ One (Store 4 0xffffff80c (LastPlus 0xfdb2e968)) ∷ One (Load 8 0xffffff840) ∷ One (Store 4 0xffffff800 (Literal 0x62af0472)) ∷ Idle 11 ∷ []) ∷ (One (Load 1 0xffffff800) ∷ One (Load 4 0xffffff800) ∷ One (Load 4 0xffffff804) ∷ One (Load 8 0xffffff860) ∷ []) ∷ (Idle 1 ∷ One (Load 1 0xffffff800) ∷ Idle 9 ∷ []) ∷ (One (Load 2 0xffffff800) ∷ []) ∷ [];
+  scripts = (One (Store 8 0xffffff800 (LastPlus 0x2)) ∷ One (Store 2 0xffffff860 (LastPlus 0x1))
+      ∷ One (Store 1 0xffffff800 (LastPlus 0x0)) ∷ Idle 4 ∷ One
+      (Store 8 0xffffff800 (LastPlus 0x723d26ae99d9fc70)) ∷ Locked
+      (Store 8 0xffffff830 (Literal 0x6a69528a9abd8211) ∷ []) ∷ One (Store 4 0xffffff80c (LastPlus 0xfdb2e968))
+      ∷ One (Load 8 0xffffff840) ∷ One (Store 4 0xffffff800 (Literal 0x62af0472)) ∷ Idle 11 ∷ [])
+      ∷ (One (Load 1 0xffffff800) ∷ One (Load 4 0xffffff800) ∷ One (Load 4 0xffffff804)
+      ∷ One (Load 8 0xffffff860) ∷ []) ∷ (Idle 1 ∷ One (Load 1 0xffffff800) ∷ Idle 9 ∷ [])
+      ∷ (One (Load 2 0xffffff800) ∷ []) ∷ [];
   clocks = 59;
   cache = 2;
   ahead = 4;
@@ -125,11 +134,13 @@ follows zero = record { items = 7; same = refl }
 follows (suc zero) = record { items = 4; same = refl }
 follows (suc (suc zero)) = record { items = 2; same = refl }
 follows (suc (suc (suc zero))) = record { items = 1; same = refl }
-follows (suc (suc (suc (suc agent)))) = record { items = 0; same = steps_of-nobody 4 (suc (suc (suc (suc agent)))) log refl (omega arith) }
+follows (suc (suc (suc (suc agent)))) =
+    record { items = 0; same = steps_of-nobody 4 (suc (suc (suc (suc agent)))) log refl (omega arith) }
 
 pub is_simulated : Simulated run
 unfolding opened
-is_simulated = simulated_if run (keeps_by_digits run refl computes) refl refl refl refl (record { follows = follows; together = refl }) refl
+is_simulated = simulated_if run (keeps_by_digits run refl computes) refl refl refl refl
+    (record { follows = follows; together = refl }) refl
 
 pub is_asked : Asked (told_lines plan.hazards ∷ []) run.choices run.holds
 is_asked = asked_for_lines plan.hazards 9 59

@@ -21,7 +21,11 @@ use Rattle.fsb_timely_rows.proofs.AskedLines.{asked_for_lines}
 
 abbrev pub plan : PlanView
 plan = record {
-  scripts = (One (Load 1 0x49) ∷ One (Load 8 0x40) ∷ One (Load 4 0x40) ∷ One (Load 8 0x50) ∷ One (Load 1 0x50) ∷ Idle 2 ∷ One (Store 8 0x40 (LastPlus 0x2)) ∷ One (Store 4 0x4c (LastPlus 0x2)) ∷ Idle 12 ∷ Idle 1 ∷ []) ∷ (One (Load 1 0x48) ∷ Idle 14 ∷ Locked (Load 1 0x4c ∷ Store 1 0x54 (Literal 0x4d) ∷ []) ∷ Locked (Store 4 0x40 (LastPlus 0x0) ∷ Store 1 0x40 (LastPlus 0x1) ∷ Store 4 0x58 (Literal 0xa50a233f) ∷ Load 2 0x40 ∷ Load 8 0x50 ∷ []) ∷ []) ∷ [];
+  scripts = (One (Load 1 0x49) ∷ One (Load 8 0x40) ∷ One (Load 4 0x40) ∷ One (Load 8 0x50) ∷ One (Load 1 0x50)
+      ∷ Idle 2 ∷ One (Store 8 0x40 (LastPlus 0x2)) ∷ One (Store 4 0x4c (LastPlus 0x2)) ∷ Idle 12 ∷ Idle 1 ∷ [])
+      ∷ (One (Load 1 0x48) ∷ Idle 14 ∷ Locked (Load 1 0x4c ∷ Store 1 0x54 (Literal 0x4d) ∷ [])
+      ∷ Locked (Store 4 0x40 (LastPlus 0x0) ∷ Store 1 0x40 (LastPlus 0x1) ∷ Store 4 0x58 (Literal 0xa50a233f)
+      ∷ Load 2 0x40 ∷ Load 8 0x50 ∷ []) ∷ []) ∷ [];
   clocks = 11;
   cache = 16;
   ahead = 2;

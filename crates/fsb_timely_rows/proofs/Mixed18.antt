@@ -17,20 +17,27 @@ use Rattle.fsb_timely.specs.Simulated.{Simulated}
 use Rattle.fsb_timely.specs.Asked.{Asked}
 use Rattle.fsb_timely_rows.proofs.LaidOut.{clock, idle, entry, setting, told_lines, run_of}
 use Rattle.fsb_timely_rows.proofs.Opened.{opened}
-use Rattle.fsb_timely_rows.proofs.ParityByDigits.{has_digits, is_even_in, is_even_by_digits, drives_digits, every_part_by_digits, keeps_by_digits}
+use Rattle.fsb_timely_rows.proofs.ParityByDigits.{has_digits, is_even_in, is_even_by_digits, drives_digits}
+use Rattle.fsb_timely_rows.proofs.ParityByDigits.{every_part_by_digits, keeps_by_digits}
 use Rattle.fsb_timely_rows.proofs.Tests.{simulated_if}
 use Rattle.fsb_timely_rows.proofs.AskedLines.{asked_for_lines}
 
 abbrev pub plan : PlanView
 plan = record {
-  scripts = (One (Load 4 0xffffff80c) ∷ One (Load 8 0xffffffbe0) ∷ One (Store 2 0xffffff800 (LastPlus 0x1)) ∷ One (Store 4 0xffffffbf4 (LastPlus 0xc20b077)) ∷ One (Load 2 0xffffff81a) ∷ Locked (Load 1 0xffffff813 ∷ Load 1 0xffffffbfe ∷ Load 1 0xffffffbf0 ∷ Store 4 0xffffff800 (LastPlus 0x1) ∷ []) ∷ One (Load 8 0xffffff800) ∷ One (Load 4 0xffffffbec) ∷ One (Load 2 0xffffff840) ∷ One (Store 1 0xffffff85d (Literal 0xa9)) ∷ One (Load 2 0xffffffbe0) ∷ Idle 6 ∷ []) ∷ [];
+  scripts = (One (Load 4 0xffffff80c) ∷ One (Load 8 0xffffffbe0) ∷ One (Store 2 0xffffff800 (LastPlus 0x1))
+      ∷ One (Store 4 0xffffffbf4 (LastPlus 0xc20b077)) ∷ One (Load 2 0xffffff81a)
+      ∷ Locked (Load 1 0xffffff813 ∷ Load 1 0xffffffbfe ∷ Load 1 0xffffffbf0 ∷ Store 4 0xffffff800
+      (LastPlus 0x1) ∷ []) ∷ One (Load 8 0xffffff800) ∷ One (Load 4 0xffffffbec) ∷ One (Load 2 0xffffff840)
+      ∷ One (Store 1 0xffffff85d (Literal 0xa9)) ∷ One (Load 2 0xffffffbe0) ∷ Idle 6 ∷ []) ∷ [];
   clocks = 21;
   cache = 2;
   ahead = 4;
   profile = 2;
   bridge = Some (record { base = 0xffffff800; size = 0x400 });
-  mem = setting 0xffffffbf0 0xbc ∷ setting 0xffffff819 0x74 ∷ setting 0xffffff852 0xa ∷ setting 0xffffff85c 0xa0 ∷ setting 0xffffff81d 0x41 ∷ [];
-  hazards = Aerr 1 ∷ Trdy 11 1 ∷ DeferLine 18 15 ∷ Retry 20 ∷ Aerr 21 ∷ Aerr 21 ∷ Gap 25 8 ∷ Bnr 109 112 ∷ Bnr 27 27 ∷ [];
+  mem = setting 0xffffffbf0 0xbc ∷ setting 0xffffff819 0x74 ∷ setting 0xffffff852 0xa ∷ setting 0xffffff85c 0xa0
+      ∷ setting 0xffffff81d 0x41 ∷ [];
+  hazards = Aerr 1 ∷ Trdy 11 1 ∷ DeferLine 18 15 ∷ Retry 20 ∷ Aerr 21 ∷ Aerr 21 ∷ Gap 25 8 ∷ Bnr 109 112
+      ∷ Bnr 27 27 ∷ [];
 }
 
 abbrev pub trace : Trace
@@ -77,7 +84,8 @@ follows (suc agent) = record { items = 0; same = steps_of-nobody 1 (suc agent) l
 
 pub is_simulated : Simulated run
 unfolding opened
-is_simulated = simulated_if run (keeps_by_digits run refl computes) refl refl refl refl (record { follows = follows; together = refl }) refl
+is_simulated = simulated_if run (keeps_by_digits run refl computes) refl refl refl refl
+    (record { follows = follows; together = refl }) refl
 
 pub is_asked : Asked (told_lines plan.hazards ∷ []) run.choices run.holds
 is_asked = asked_for_lines plan.hazards 3 21

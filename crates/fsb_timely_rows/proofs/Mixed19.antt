@@ -21,14 +21,20 @@ use Rattle.fsb_timely_rows.proofs.AskedLines.{asked_for_lines}
 
 abbrev pub plan : PlanView
 plan = record {
-  scripts = (One (Store 8 0x100000408 (LastPlus 0x33a17525cbcbc91b)) ∷ One (Load 1 0xffffffed) ∷ One (Load 8 0x100000008) ∷ Locked (Store 4 0x100000004 (Literal 0x61c0edcd) ∷ []) ∷ One (Store 1 0xffffffde (LastPlus 0x1)) ∷ []) ∷ (One (Load 2 0xffffffc0) ∷ One (Load 4 0x100000020) ∷ Idle 2 ∷ Idle 4 ∷ One (Store 8 0xffffffc0 (Literal 0xa0b4666d540e885)) ∷ One (Store 8 0x100000020 (LastPlus 0x1)) ∷ One (Store 1 0x10000002f (LastPlus 0x2)) ∷ []) ∷ [];
+  scripts = (One (Store 8 0x100000408 (LastPlus 0x33a17525cbcbc91b)) ∷ One (Load 1 0xffffffed)
+      ∷ One (Load 8 0x100000008) ∷ Locked (Store 4 0x100000004 (Literal 0x61c0edcd) ∷ [])
+      ∷ One (Store 1 0xffffffde (LastPlus 0x1)) ∷ [])
+      ∷ (One (Load 2 0xffffffc0) ∷ One (Load 4 0x100000020) ∷ Idle 2 ∷ Idle 4
+      ∷ One (Store 8 0xffffffc0 (Literal 0xa0b4666d540e885)) ∷ One (Store 8 0x100000020 (LastPlus 0x1))
+      ∷ One (Store 1 0x10000002f (LastPlus 0x2)) ∷ []) ∷ [];
   clocks = 23;
   cache = 1;
   ahead = 3;
   profile = 1;
   bridge = None;
   mem = setting 0xffffffcd 0x2a ∷ setting 0x10000041c 0x6d ∷ setting 0xffffffdd 0x88 ∷ setting 0xffffffee 0xda ∷ [];
-  hazards = Stall 4 1 ∷ Trdy 8 2 ∷ DeferLine 8 1 ∷ Stall 10 1 ∷ Stall 12 4 ∷ Resp 12 1 ∷ DeferLine 16 9 ∷ Stall 27 7 ∷ [];
+  hazards = Stall 4 1 ∷ Trdy 8 2 ∷ DeferLine 8 1 ∷ Stall 10 1 ∷ Stall 12 4 ∷ Resp 12 1 ∷ DeferLine 16 9
+      ∷ Stall 27 7 ∷ [];
 }
 
 abbrev pub trace : Trace

@@ -8,7 +8,8 @@ use Rattle.fsb_access.specs.declared.item.Item.TheVariants.{One, Locked, Idle}
 use Rattle.fsb_access.specs.declared.log.Done.{Done}
 use Rattle.fsb_hazard.specs.declared.line.HazardLine.TheVariants.{Stall, Resp, Retry, Defer as DeferLine, Aerr}
 use Rattle.fsb_script.specs.Plans.{PlanView}
-use Rattle.fsb_signal.specs.declared.lines.TheConstants.Lines.{BREQ0, BREQ1, BREQ2, LOCK, ADS, HIT, HITM, DEFER, RS0, RS1, RS2, TRDY, DBSY, DRDY}
+use Rattle.fsb_signal.specs.declared.lines.TheConstants.Lines.{BREQ0, BREQ1, BREQ2, LOCK, ADS, HIT, HITM, DEFER, RS0}
+use Rattle.fsb_signal.specs.declared.lines.TheConstants.Lines.{RS1, RS2, TRDY, DBSY, DRDY}
 use Rattle.fsb_trace.specs.At.{Trace}
 use Rattle.fsb_timely.specs.Runs.{Run}
 use Rattle.fsb_timely.specs.Timely.{keeps}
@@ -21,14 +22,20 @@ use Rattle.fsb_timely_rows.proofs.AskedLines.{asked_for_lines}
 
 abbrev pub plan : PlanView
 plan = record {
-  scripts = (One (Store 1 0x1f5266ce9 (LastPlus 0x3)) ∷ One (Load 4 0x1f5266e24) ∷ []) ∷ (One (Load 8 0x1f5266cf8) ∷ One (Load 4 0x1f5266e3c) ∷ []) ∷ (One (Load 1 0x1f5266e21) ∷ Locked (Store 1 0x1f5266cf4 (Literal 0xb9) ∷ Load 2 0x1f5266e30 ∷ Store 4 0x1f5266e28 (Literal 0x513efe9e) ∷ Load 8 0x1f5266cf8 ∷ Load 4 0x1f5266ce0 ∷ Load 4 0x1f5266ce0 ∷ Load 2 0x1f5266ce0 ∷ []) ∷ One (Load 8 0x1f5266ce0) ∷ Idle 3 ∷ One (Load 8 0x1f5266e28) ∷ Idle 5 ∷ []) ∷ [];
+  scripts = (One (Store 1 0x1f5266ce9 (LastPlus 0x3)) ∷ One (Load 4 0x1f5266e24) ∷ [])
+      ∷ (One (Load 8 0x1f5266cf8) ∷ One (Load 4 0x1f5266e3c) ∷ [])
+      ∷ (One (Load 1 0x1f5266e21) ∷ Locked
+      (Store 1 0x1f5266cf4 (Literal 0xb9) ∷ Load 2 0x1f5266e30 ∷ Store 4 0x1f5266e28 (Literal 0x513efe9e)
+      ∷ Load 8 0x1f5266cf8 ∷ Load 4 0x1f5266ce0 ∷ Load 4 0x1f5266ce0 ∷ Load 2 0x1f5266ce0 ∷ [])
+      ∷ One (Load 8 0x1f5266ce0) ∷ Idle 3 ∷ One (Load 8 0x1f5266e28) ∷ Idle 5 ∷ []) ∷ [];
   clocks = 25;
   cache = 4;
   ahead = 1;
   profile = 1;
   bridge = Some (record { base = 0x1f5266ce0; size = 0x160 });
   mem = setting 0x1f5266ce6 0x45 ∷ setting 0x1f5266e2f 0x64 ∷ setting 0x1f5266e38 0x75 ∷ [];
-  hazards = DeferLine 3 7 ∷ Retry 5 ∷ Resp 8 2 ∷ Resp 10 1 ∷ DeferLine 16 2 ∷ Resp 16 1 ∷ Aerr 17 ∷ Stall 17 6 ∷ Stall 22 4 ∷ DeferLine 25 14 ∷ [];
+  hazards = DeferLine 3 7 ∷ Retry 5 ∷ Resp 8 2 ∷ Resp 10 1 ∷ DeferLine 16 2 ∷ Resp 16 1 ∷ Aerr 17 ∷ Stall 17 6
+      ∷ Stall 22 4 ∷ DeferLine 25 14 ∷ [];
 }
 
 abbrev pub trace : Trace
@@ -79,7 +86,10 @@ follows : (agent : ℕ) → AreOfItems (script_of plan.scripts agent) (steps_of 
 follows zero = record { items = 1; same = refl }
 follows (suc zero) = record { items = 1; same = refl }
 follows (suc (suc zero)) = record { items = 1; same = refl }
-follows (suc (suc (suc agent))) = record { items = 0; same = steps_of-nobody 3 (suc (suc (suc agent))) log refl (omega arith) }
+follows (suc (suc (suc agent))) = record {
+  items = 0;
+  same = steps_of-nobody 3 (suc (suc (suc agent))) log refl (omega arith);
+}
 
 pub is_simulated : Simulated run
 unfolding opened

@@ -8,7 +8,8 @@ use Rattle.fsb_access.specs.declared.access.Operand.TheVariants.{Literal, LastPl
 use Rattle.fsb_access.specs.declared.item.Item.TheVariants.{One, Locked}
 use Rattle.fsb_access.specs.declared.log.Done.{Done}
 use Rattle.fsb_script.specs.Plans.{PlanView}
-use Rattle.fsb_signal.specs.declared.lines.TheConstants.Lines.{BREQ0, BREQ1, LOCK, ADS, HIT, HITM, RS0, RS1, RS2, TRDY, DBSY, DRDY, AP0, RP}
+use Rattle.fsb_signal.specs.declared.lines.TheConstants.Lines.{BREQ0, BREQ1, LOCK, ADS, HIT, HITM, RS0, RS1, RS2, TRDY}
+use Rattle.fsb_signal.specs.declared.lines.TheConstants.Lines.{DBSY, DRDY, AP0, RP}
 use Rattle.fsb_trace.specs.At.{Trace}
 use Rattle.fsb_timely.specs.Runs.{Run}
 use Rattle.fsb_timely.specs.Timely.{keeps}
@@ -16,13 +17,23 @@ use Rattle.fsb_timely.specs.Simulated.{Simulated}
 use Rattle.fsb_timely.specs.Asked.{Asked}
 use Rattle.fsb_timely_rows.proofs.LaidOut.{clock, idle, entry, setting, told_lines, run_of}
 use Rattle.fsb_timely_rows.proofs.Opened.{opened}
-use Rattle.fsb_timely_rows.proofs.ParityByDigits.{has_digits, is_even_in, is_even_by_digits, drives_digits, every_part_by_digits, keeps_by_digits}
+use Rattle.fsb_timely_rows.proofs.ParityByDigits.{has_digits, is_even_in, is_even_by_digits, drives_digits}
+use Rattle.fsb_timely_rows.proofs.ParityByDigits.{every_part_by_digits, keeps_by_digits}
 use Rattle.fsb_timely_rows.proofs.Tests.{simulated_if}
 use Rattle.fsb_timely_rows.proofs.AskedLines.{asked_for_lines}
 
 abbrev pub plan : PlanView
 plan = record {
-  scripts = (One (Load 2 0x604) ∷ One (Load 8 0x608) ∷ One (Store 2 0x634 (LastPlus 0x0)) ∷ One (Store 2 0x614 (Literal 0x3652)) ∷ Locked (Load 2 0x614 ∷ Store 4 0x628 (LastPlus 0x0) ∷ Store 8 0x620 (Literal 0xcbac6315c2b45e7a) ∷ Load 8 0x600 ∷ Store 4 0x620 (Literal 0xf6a8c654) ∷ []) ∷ []) ∷ (One (Load 1 0x600) ∷ One (Load 8 0x620) ∷ One (Store 8 0x600 (LastPlus 0x2)) ∷ One (Store 4 0x620 (Literal 0x6ae3ab21)) ∷ One (Store 1 0x605 (LastPlus 0x2)) ∷ Locked (Load 1 0x600 ∷ Store 8 0x620 (Literal 0x82d2608422513f02) ∷ Load 1 0x600 ∷ Store 2 0x620 (LastPlus 0x1) ∷ Load 8 0x600 ∷ Store 8 0x600 (LastPlus 0x2) ∷ Store 8 0x638 (LastPlus 0x3) ∷ []) ∷ Locked (Store 4 0x620 (Literal 0xb56536b) ∷ Load 1 0x612 ∷ []) ∷ One (Store 8 0x600 (LastPlus 0x1)) ∷ One (Store 1 0x612 (LastPlus 0x93)) ∷ []) ∷ [];
+  scripts = (One (Load 2 0x604) ∷ One (Load 8 0x608) ∷ One (Store 2 0x634 (LastPlus 0x0))
+      ∷ One (Store 2 0x614 (Literal 0x3652)) ∷ Locked
+      (Load 2 0x614 ∷ Store 4 0x628 (LastPlus 0x0) ∷ Store 8 0x620 (Literal 0xcbac6315c2b45e7a) ∷ Load 8 0x600
+      ∷ Store 4 0x620 (Literal 0xf6a8c654) ∷ []) ∷ [])
+      ∷ (One (Load 1 0x600) ∷ One (Load 8 0x620) ∷ One (Store 8 0x600 (LastPlus 0x2))
+      ∷ One (Store 4 0x620 (Literal 0x6ae3ab21)) ∷ One (Store 1 0x605 (LastPlus 0x2))
+      ∷ Locked (Load 1 0x600 ∷ Store 8 0x620 (Literal 0x82d2608422513f02) ∷ Load 1 0x600 ∷ Store 2 0x620
+      (LastPlus 0x1) ∷ Load 8 0x600 ∷ Store 8 0x600 (LastPlus 0x2) ∷ Store 8 0x638 (LastPlus 0x3) ∷ [])
+      ∷ Locked (Store 4 0x620 (Literal 0xb56536b) ∷ Load 1 0x612 ∷ []) ∷ One (Store 8 0x600 (LastPlus 0x1))
+      ∷ One (Store 1 0x612 (LastPlus 0x93)) ∷ []) ∷ [];
   clocks = 34;
   cache = 16;
   ahead = 3;
@@ -96,7 +107,8 @@ follows (suc (suc agent)) = record { items = 0; same = steps_of-nobody 2 (suc (s
 
 pub is_simulated : Simulated run
 unfolding opened
-is_simulated = simulated_if run (keeps_by_digits run refl computes) refl refl refl refl (record { follows = follows; together = refl }) refl
+is_simulated = simulated_if run (keeps_by_digits run refl computes) refl refl refl refl
+    (record { follows = follows; together = refl }) refl
 
 pub is_asked : Asked (told_lines plan.hazards ∷ []) run.choices run.holds
 is_asked = asked_for_lines plan.hazards 8 34

@@ -8,7 +8,8 @@ use Rattle.fsb_access.specs.declared.item.Item.TheVariants.{One, Locked}
 use Rattle.fsb_access.specs.declared.log.Done.{Done}
 use Rattle.fsb_hazard.specs.declared.line.HazardLine.TheVariants.{Stall, Resp, Gap, Retry, Defer as DeferLine}
 use Rattle.fsb_script.specs.Plans.{PlanView}
-use Rattle.fsb_signal.specs.declared.lines.TheConstants.Lines.{BREQ0, BREQ1, BREQ2, BREQ3, ADS, HIT, HITM, DEFER, RS0, RS1, RS2, TRDY, DBSY, DRDY}
+use Rattle.fsb_signal.specs.declared.lines.TheConstants.Lines.{BREQ0, BREQ1, BREQ2, BREQ3, ADS, HIT, HITM, DEFER, RS0}
+use Rattle.fsb_signal.specs.declared.lines.TheConstants.Lines.{RS1, RS2, TRDY, DBSY, DRDY}
 use Rattle.fsb_trace.specs.At.{Trace}
 use Rattle.fsb_timely.specs.Runs.{Run}
 use Rattle.fsb_timely.specs.Timely.{keeps}
@@ -21,14 +22,22 @@ use Rattle.fsb_timely_rows.proofs.AskedLines.{asked_for_lines}
 
 abbrev pub plan : PlanView
 plan = record {
-  scripts = (One (Store 2 0xffffff81c (Literal 0x844e)) ∷ One (Load 4 0xffffff810) ∷ One (Load 2 0xffffff800) ∷ []) ∷ (One (Store 2 0xffffff800 (LastPlus 0x0)) ∷ One (Load 4 0xffffff80c) ∷ One (Store 4 0xffffff80c (LastPlus 0x3)) ∷ []) ∷ (One (Load 2 0xffffff800) ∷ One (Load 1 0xffffff800) ∷ []) ∷ (One (Load 1 0xffffff800) ∷ One (Store 1 0xffffff813 (Literal 0x66)) ∷ One (Store 2 0xffffff800 (LastPlus 0xf1bd)) ∷ One (Load 4 0xffffff814) ∷ Locked (Store 1 0xffffff813 (LastPlus 0x2) ∷ Load 1 0xffffff81e ∷ Load 4 0xffffff810 ∷ Load 8 0xffffff810 ∷ []) ∷ One (Load 4 0xffffff800) ∷ One (Store 1 0xffffff811 (LastPlus 0x3)) ∷ []) ∷ [];
+  scripts = (One (Store 2 0xffffff81c (Literal 0x844e)) ∷ One (Load 4 0xffffff810) ∷ One (Load 2 0xffffff800)
+      ∷ []) ∷ (One (Store 2 0xffffff800 (LastPlus 0x0)) ∷ One (Load 4 0xffffff80c)
+      ∷ One (Store 4 0xffffff80c (LastPlus 0x3)) ∷ [])
+      ∷ (One (Load 2 0xffffff800) ∷ One (Load 1 0xffffff800) ∷ [])
+      ∷ (One (Load 1 0xffffff800) ∷ One (Store 1 0xffffff813 (Literal 0x66))
+      ∷ One (Store 2 0xffffff800 (LastPlus 0xf1bd)) ∷ One (Load 4 0xffffff814)
+      ∷ Locked (Store 1 0xffffff813 (LastPlus 0x2) ∷ Load 1 0xffffff81e ∷ Load 4 0xffffff810
+      ∷ Load 8 0xffffff810 ∷ []) ∷ One (Load 4 0xffffff800) ∷ One (Store 1 0xffffff811 (LastPlus 0x3)) ∷ []) ∷ [];
   clocks = 42;
   cache = 1;
   ahead = 1;
   profile = 1;
   bridge = Some (record { base = 0xffffff800; size = 0x20 });
   mem = setting 0xffffff806 0x3d ∷ [];
-  hazards = Gap 16 1 ∷ Resp 21 4 ∷ DeferLine 7 12 ∷ Gap 23 1 ∷ Gap 36 1 ∷ Gap 26 2 ∷ Stall 12 2 ∷ Stall 32 2 ∷ Gap 36 2 ∷ Retry 32 ∷ [];
+  hazards = Gap 16 1 ∷ Resp 21 4 ∷ DeferLine 7 12 ∷ Gap 23 1 ∷ Gap 36 1 ∷ Gap 26 2 ∷ Stall 12 2 ∷ Stall 32 2
+      ∷ Gap 36 2 ∷ Retry 32 ∷ [];
 }
 
 abbrev pub trace : Trace
@@ -103,7 +112,8 @@ follows zero = record { items = 2; same = refl }
 follows (suc zero) = record { items = 3; same = refl }
 follows (suc (suc zero)) = record { items = 2; same = refl }
 follows (suc (suc (suc zero))) = record { items = 2; same = refl }
-follows (suc (suc (suc (suc agent)))) = record { items = 0; same = steps_of-nobody 4 (suc (suc (suc (suc agent)))) log refl (omega arith) }
+follows (suc (suc (suc (suc agent)))) =
+    record { items = 0; same = steps_of-nobody 4 (suc (suc (suc (suc agent)))) log refl (omega arith) }
 
 pub is_simulated : Simulated run
 unfolding opened

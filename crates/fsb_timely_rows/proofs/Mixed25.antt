@@ -6,9 +6,11 @@ use Rattle.fsb_access.specs.declared.access.Access.TheVariants.{Load, Store}
 use Rattle.fsb_access.specs.declared.access.Operand.TheVariants.{Literal, LastPlus}
 use Rattle.fsb_access.specs.declared.item.Item.TheVariants.{One, Locked, Idle}
 use Rattle.fsb_access.specs.declared.log.Done.{Done}
-use Rattle.fsb_hazard.specs.declared.line.HazardLine.TheVariants.{Stall, Trdy, Resp, Gap, Retry, Defer as DeferLine, Bnr}
+use Rattle.fsb_hazard.specs.declared.line.HazardLine.TheVariants.{Stall, Trdy, Resp, Gap, Retry, Defer as DeferLine}
+use Rattle.fsb_hazard.specs.declared.line.HazardLine.TheVariants.{Bnr}
 use Rattle.fsb_script.specs.Plans.{PlanView}
-use Rattle.fsb_signal.specs.declared.lines.TheConstants.Lines.{BREQ0, BREQ1, BREQ2, BREQ3, ADS, HIT, HITM, DEFER, RS0, RS1, RS2, TRDY, DBSY, DRDY}
+use Rattle.fsb_signal.specs.declared.lines.TheConstants.Lines.{BREQ0, BREQ1, BREQ2, BREQ3, ADS, HIT, HITM, DEFER, RS0}
+use Rattle.fsb_signal.specs.declared.lines.TheConstants.Lines.{RS1, RS2, TRDY, DBSY, DRDY}
 use Rattle.fsb_trace.specs.At.{Trace}
 use Rattle.fsb_timely.specs.Runs.{Run}
 use Rattle.fsb_timely.specs.Timely.{keeps}
@@ -21,14 +23,25 @@ use Rattle.fsb_timely_rows.proofs.AskedLines.{asked_for_lines}
 
 abbrev pub plan : PlanView
 plan = record {
-  scripts = (One (Store 4 0xffffff810 (LastPlus 0x7a7324a8)) ∷ One (Store 1 0xffffff813 (Literal 0x26)) ∷ []) ∷ (Idle 6 ∷ One (Store 4 0xffffff800 (Literal 0xf4e5e5f9)) ∷ Idle 14 ∷ One (Store 8 0xffffff800 (LastPlus 0x3)) ∷ One (Store 8 0xffffff800 (LastPlus 0x3)) ∷ One (Store 4 0xffffff800 (LastPlus 0x2)) ∷ One (Store 8 0xffffff810 (Literal 0x3d15875941c8173c)) ∷ Locked (Store 1 0xffffff800 (LastPlus 0xfa) ∷ Store 8 0xffffff800 (Literal 0xabbcaa0c1797ecb4) ∷ Load 1 0xffffff808 ∷ Load 8 0xffffff800 ∷ Store 2 0xffffff81c (LastPlus 0x7359) ∷ Load 2 0xffffff810 ∷ Load 4 0xffffff81c ∷ Store 1 0xffffff803 (Literal 0x6b) ∷ []) ∷ One (Store 4 0xffffff800 (LastPlus 0x2)) ∷ Idle 14 ∷ []) ∷ (One (Load 2 0xffffff800) ∷ Idle 11 ∷ One (Load 8 0xffffff800) ∷ One (Load 8 0xffffff800) ∷ One (Load 2 0xffffff800) ∷ One (Load 1 0xffffff814) ∷ One (Load 8 0xffffff800) ∷ []) ∷ (One (Store 4 0xffffff81c (Literal 0x2c761530)) ∷ []) ∷ [];
+  scripts = (One (Store 4 0xffffff810 (LastPlus 0x7a7324a8)) ∷ One (Store 1 0xffffff813 (Literal 0x26)) ∷ [])
+      ∷ (Idle 6 ∷ One (Store 4 0xffffff800 (Literal 0xf4e5e5f9)) ∷ Idle 14
+      ∷ One (Store 8 0xffffff800 (LastPlus 0x3)) ∷ One (Store 8 0xffffff800 (LastPlus 0x3))
+      ∷ One (Store 4 0xffffff800 (LastPlus 0x2)) ∷ One (Store 8 0xffffff810 (Literal 0x3d15875941c8173c))
+      ∷ Locked (Store 1 0xffffff800 (LastPlus 0xfa) ∷ Store 8 0xffffff800 (Literal 0xabbcaa0c1797ecb4)
+      ∷ Load 1 0xffffff808 ∷ Load 8 0xffffff800 ∷ Store 2 0xffffff81c (LastPlus 0x7359) ∷ Load 2 0xffffff810
+      ∷ Load 4 0xffffff81c ∷ Store 1 0xffffff803 (Literal 0x6b) ∷ []) ∷ One (Store 4 0xffffff800 (LastPlus 0x2))
+      ∷ Idle 14 ∷ []) ∷ (One (Load 2 0xffffff800) ∷ Idle 11 ∷ One (Load 8 0xffffff800)
+      ∷ One (Load 8 0xffffff800) ∷ One (Load 2 0xffffff800) ∷ One (Load 1 0xffffff814)
+      ∷ One (Load 8 0xffffff800) ∷ []) ∷ (One (Store 4 0xffffff81c (Literal 0x2c761530)) ∷ []) ∷ [];
   clocks = 48;
   cache = 2;
   ahead = 4;
   profile = 1;
   bridge = Some (record { base = 0xffffff800; size = 0x20 });
   mem = [];
-  hazards = Retry 4 ∷ DeferLine 5 9 ∷ DeferLine 7 2 ∷ Stall 7 2 ∷ Resp 7 3 ∷ Gap 15 2 ∷ Retry 18 ∷ DeferLine 25 8 ∷ Trdy 25 2 ∷ Stall 28 7 ∷ Resp 30 1 ∷ Stall 31 1 ∷ Trdy 41 2 ∷ Resp 46 1 ∷ Trdy 47 1 ∷ Bnr 50 52 ∷ Bnr 183 183 ∷ [];
+  hazards = Retry 4 ∷ DeferLine 5 9 ∷ DeferLine 7 2 ∷ Stall 7 2 ∷ Resp 7 3 ∷ Gap 15 2 ∷ Retry 18 ∷ DeferLine 25
+      8 ∷ Trdy 25 2 ∷ Stall 28 7 ∷ Resp 30 1 ∷ Stall 31 1 ∷ Trdy 41 2 ∷ Resp 46 1 ∷ Trdy 47 1 ∷ Bnr 50 52
+      ∷ Bnr 183 183 ∷ [];
 }
 
 abbrev pub trace : Trace
@@ -108,7 +121,8 @@ follows zero = record { items = 2; same = refl }
 follows (suc zero) = record { items = 2; same = refl }
 follows (suc (suc zero)) = record { items = 7; same = refl }
 follows (suc (suc (suc zero))) = record { items = 1; same = refl }
-follows (suc (suc (suc (suc agent)))) = record { items = 0; same = steps_of-nobody 4 (suc (suc (suc (suc agent)))) log refl (omega arith) }
+follows (suc (suc (suc (suc agent)))) =
+    record { items = 0; same = steps_of-nobody 4 (suc (suc (suc (suc agent)))) log refl (omega arith) }
 
 pub is_simulated : Simulated run
 unfolding opened

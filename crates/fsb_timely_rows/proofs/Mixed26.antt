@@ -9,7 +9,8 @@ use Rattle.fsb_access.specs.declared.item.Item.TheVariants.{One, Idle}
 use Rattle.fsb_access.specs.declared.log.Done.{Done}
 use Rattle.fsb_hazard.specs.declared.line.HazardLine.TheVariants.{Stall, Trdy, Resp, Retry, Aerr}
 use Rattle.fsb_script.specs.Plans.{PlanView}
-use Rattle.fsb_signal.specs.declared.lines.TheConstants.Lines.{BREQ0, BREQ1, ADS, AERR, HIT, HITM, RS0, RS1, RS2, TRDY, DBSY, DRDY, AP0, RP}
+use Rattle.fsb_signal.specs.declared.lines.TheConstants.Lines.{BREQ0, BREQ1, ADS, AERR, HIT, HITM, RS0, RS1, RS2, TRDY}
+use Rattle.fsb_signal.specs.declared.lines.TheConstants.Lines.{DBSY, DRDY, AP0, RP}
 use Rattle.fsb_trace.specs.At.{Trace}
 use Rattle.fsb_timely.specs.Runs.{Run}
 use Rattle.fsb_timely.specs.Timely.{keeps}
@@ -17,13 +18,18 @@ use Rattle.fsb_timely.specs.Simulated.{Simulated}
 use Rattle.fsb_timely.specs.Asked.{Asked}
 use Rattle.fsb_timely_rows.proofs.LaidOut.{clock, idle, entry, setting, told_lines, run_of}
 use Rattle.fsb_timely_rows.proofs.Opened.{opened}
-use Rattle.fsb_timely_rows.proofs.ParityByDigits.{has_digits, is_even_in, is_even_by_digits, drives_digits, every_part_by_digits, keeps_by_digits}
+use Rattle.fsb_timely_rows.proofs.ParityByDigits.{has_digits, is_even_in, is_even_by_digits, drives_digits}
+use Rattle.fsb_timely_rows.proofs.ParityByDigits.{every_part_by_digits, keeps_by_digits}
 use Rattle.fsb_timely_rows.proofs.Tests.{simulated_if}
 use Rattle.fsb_timely_rows.proofs.AskedLines.{asked_for_lines}
 
 abbrev pub plan : PlanView
 plan = record {
-  scripts = (One (Store 2 0x89a (LastPlus 0x1)) ∷ One (Load 1 0x898) ∷ Idle 11 ∷ One (Load 4 0x89c) ∷ One (Load 8 0x888) ∷ One (Load 1 0x89e) ∷ Idle 9 ∷ One (Load 4 0x880) ∷ []) ∷ (One (Store 8 0x880 (LastPlus 0x2)) ∷ One (Store 4 0x89c (LastPlus 0x1)) ∷ One (Store 1 0x89b (LastPlus 0x18)) ∷ One (Store 4 0x890 (Literal 0xf342407f)) ∷ One (Store 8 0x880 (LastPlus 0xe622620bee611a8c)) ∷ One (Store 8 0x888 (LastPlus 0x3)) ∷ []) ∷ [];
+  scripts = (One (Store 2 0x89a (LastPlus 0x1)) ∷ One (Load 1 0x898) ∷ Idle 11 ∷ One (Load 4 0x89c)
+      ∷ One (Load 8 0x888) ∷ One (Load 1 0x89e) ∷ Idle 9 ∷ One (Load 4 0x880) ∷ [])
+      ∷ (One (Store 8 0x880 (LastPlus 0x2)) ∷ One (Store 4 0x89c (LastPlus 0x1))
+      ∷ One (Store 1 0x89b (LastPlus 0x18)) ∷ One (Store 4 0x890 (Literal 0xf342407f))
+      ∷ One (Store 8 0x880 (LastPlus 0xe622620bee611a8c)) ∷ One (Store 8 0x888 (LastPlus 0x3)) ∷ []) ∷ [];
   clocks = 82;
   cache = 1;
   ahead = 4;
@@ -123,7 +129,8 @@ follows (suc (suc agent)) = record { items = 0; same = steps_of-nobody 2 (suc (s
 
 pub is_simulated : Simulated run
 unfolding opened
-is_simulated = simulated_if run (keeps_by_digits run refl computes) refl refl refl refl (record { follows = follows; together = refl }) refl
+is_simulated = simulated_if run (keeps_by_digits run refl computes) refl refl refl refl
+    (record { follows = follows; together = refl }) refl
 
 pub is_asked : Asked (told_lines plan.hazards ∷ []) run.choices run.holds
 is_asked = asked_for_lines plan.hazards 6 82

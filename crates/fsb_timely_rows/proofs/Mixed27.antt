@@ -6,7 +6,8 @@ use Rattle.fsb_access.specs.declared.access.Access.TheVariants.{Load, Store}
 use Rattle.fsb_access.specs.declared.access.Operand.TheVariants.{Literal, LastPlus}
 use Rattle.fsb_access.specs.declared.item.Item.TheVariants.{One}
 use Rattle.fsb_access.specs.declared.log.Done.{Done}
-use Rattle.fsb_hazard.specs.declared.line.HazardLine.TheVariants.{Stall, Trdy, Resp, Gap, Retry, Defer as DeferLine, Aerr}
+use Rattle.fsb_hazard.specs.declared.line.HazardLine.TheVariants.{Stall, Trdy, Resp, Gap, Retry, Defer as DeferLine}
+use Rattle.fsb_hazard.specs.declared.line.HazardLine.TheVariants.{Aerr}
 use Rattle.fsb_script.specs.Plans.{PlanView}
 use Rattle.fsb_signal.specs.declared.lines.TheConstants.Lines.{BREQ0, ADS, AERR, DEFER, RS0, RS1, RS2, TRDY, DBSY, DRDY}
 use Rattle.fsb_trace.specs.At.{Trace}
@@ -21,14 +22,20 @@ use Rattle.fsb_timely_rows.proofs.AskedLines.{asked_for_lines}
 
 abbrev pub plan : PlanView
 plan = record {
-  scripts = (One (Store 2 0xffffffd2 (LastPlus 0x1)) ∷ One (Store 2 0xffffffdc (Literal 0x60b8)) ∷ One (Load 1 0xffffffc0) ∷ One (Load 8 0xffffffc0) ∷ One (Store 4 0xfffffff8 (LastPlus 0x8d05a21)) ∷ One (Store 2 0xfffffffa (Literal 0xb7dd)) ∷ One (Load 2 0xffffffea) ∷ []) ∷ [];
+  scripts = (One (Store 2 0xffffffd2 (LastPlus 0x1)) ∷ One (Store 2 0xffffffdc (Literal 0x60b8))
+      ∷ One (Load 1 0xffffffc0) ∷ One (Load 8 0xffffffc0) ∷ One (Store 4 0xfffffff8 (LastPlus 0x8d05a21))
+      ∷ One (Store 2 0xfffffffa (Literal 0xb7dd)) ∷ One (Load 2 0xffffffea) ∷ []) ∷ [];
   clocks = 84;
   cache = 1;
   ahead = 1;
   profile = 1;
   bridge = Some (record { base = 0xffffffe0; size = 0x20 });
-  mem = setting 0xfffffffa 0xaa ∷ setting 0xffffffdd 0x41 ∷ setting 0xffffffc7 0xa6 ∷ setting 0xffffffd6 0xbc ∷ setting 0xffffffc0 0x4 ∷ [];
-  hazards = Resp 5 2 ∷ Gap 8 5 ∷ Gap 16 1 ∷ Aerr 1 ∷ Aerr 7 ∷ Gap 17 1 ∷ Stall 17 4 ∷ Stall 11 2 ∷ Aerr 7 ∷ Aerr 18 ∷ Retry 20 ∷ Trdy 8 1 ∷ Resp 1 1 ∷ DeferLine 7 8 ∷ Gap 21 1 ∷ Resp 0 1 ∷ Retry 11 ∷ DeferLine 1 14 ∷ Trdy 17 1 ∷ Resp 20 4 ∷ Gap 20 1 ∷ Gap 5 1 ∷ Gap 17 1 ∷ Retry 6 ∷ Gap 17 2 ∷ Trdy 7 1 ∷ Retry 3 ∷ Trdy 7 2 ∷ Resp 3 1 ∷ Stall 17 2 ∷ Trdy 17 4 ∷ Trdy 2 2 ∷ Gap 17 5 ∷ DeferLine 17 7 ∷ Retry 5 ∷ Retry 5 ∷ [];
+  mem = setting 0xfffffffa 0xaa ∷ setting 0xffffffdd 0x41 ∷ setting 0xffffffc7 0xa6 ∷ setting 0xffffffd6 0xbc
+      ∷ setting 0xffffffc0 0x4 ∷ [];
+  hazards = Resp 5 2 ∷ Gap 8 5 ∷ Gap 16 1 ∷ Aerr 1 ∷ Aerr 7 ∷ Gap 17 1 ∷ Stall 17 4 ∷ Stall 11 2 ∷ Aerr 7
+      ∷ Aerr 18 ∷ Retry 20 ∷ Trdy 8 1 ∷ Resp 1 1 ∷ DeferLine 7 8 ∷ Gap 21 1 ∷ Resp 0 1 ∷ Retry 11 ∷ DeferLine 1
+      14 ∷ Trdy 17 1 ∷ Resp 20 4 ∷ Gap 20 1 ∷ Gap 5 1 ∷ Gap 17 1 ∷ Retry 6 ∷ Gap 17 2 ∷ Trdy 7 1 ∷ Retry 3
+      ∷ Trdy 7 2 ∷ Resp 3 1 ∷ Stall 17 2 ∷ Trdy 17 4 ∷ Trdy 2 2 ∷ Gap 17 5 ∷ DeferLine 17 7 ∷ Retry 5 ∷ Retry 5 ∷ [];
 }
 
 abbrev pub trace : Trace

@@ -8,7 +8,8 @@ use Rattle.fsb_access.specs.declared.item.Item.TheVariants.{One}
 use Rattle.fsb_access.specs.declared.log.Done.{Done}
 use Rattle.fsb_hazard.specs.declared.line.HazardLine.TheVariants.{Defer as DeferLine}
 use Rattle.fsb_script.specs.Plans.{PlanView}
-use Rattle.fsb_signal.specs.declared.lines.TheConstants.Lines.{BREQ0, BREQ1, BPRI, ADS, HITM, DEFER, RS0, RS1, RS2, TRDY, DBSY, DRDY}
+use Rattle.fsb_signal.specs.declared.lines.TheConstants.Lines.{BREQ0, BREQ1, BPRI, ADS, HITM, DEFER, RS0, RS1, RS2}
+use Rattle.fsb_signal.specs.declared.lines.TheConstants.Lines.{TRDY, DBSY, DRDY}
 use Rattle.fsb_trace.specs.At.{Trace}
 use Rattle.fsb_timely.specs.Runs.{Run}
 use Rattle.fsb_timely.specs.Starts.{drives_request_lines}
@@ -19,12 +20,14 @@ use Rattle.fsb_timely.specs.Simulated.{Simulated}
 use Rattle.fsb_timely.specs.Asked.{Asked}
 use Rattle.fsb_timely_rows.proofs.LaidOut.{clock, idle, changed, entry, setting, told_lines, run_of, every_part}
 use Rattle.fsb_timely_rows.proofs.Opened.{opened}
-use Rattle.fsb_timely_rows.proofs.Tests.{simulated_if, breaks_request_lines, breaks_hazards, breaks_snoop_results, breaks_data}
+use Rattle.fsb_timely_rows.proofs.Tests.{simulated_if, breaks_request_lines, breaks_hazards, breaks_snoop_results}
+use Rattle.fsb_timely_rows.proofs.Tests.{breaks_data}
 use Rattle.fsb_timely_rows.proofs.AskedLines.{asked_for_lines}
 
 abbrev pub plan : PlanView
 plan = record {
-  scripts = (One (Load 1 0xfe0) ∷ One (Store 1 0x1000 (Literal 0x55)) ∷ []) ∷ (One (Load 1 0x1040) ∷ One (Load 1 0x1020) ∷ One (Load 1 0x1000) ∷ []) ∷ [];
+  scripts = (One (Load 1 0xfe0) ∷ One (Store 1 0x1000 (Literal 0x55)) ∷ [])
+      ∷ (One (Load 1 0x1040) ∷ One (Load 1 0x1020) ∷ One (Load 1 0x1000) ∷ []) ∷ [];
   clocks = 60;
   cache = 64;
   ahead = 1;

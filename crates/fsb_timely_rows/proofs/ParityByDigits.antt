@@ -1,5 +1,6 @@
 -- The parity of large words, computed digit by digit.
-use Rattle.std.proofs.Common.{ℕ, zero, suc, ◌+◌, ◌/◌, ◌%◌, ◌^◌, ◌≡◌, ◌&&◌, Bool, true, nat_eq, slice_get, Option, Some, None, refl, ap, ◌∙◌}
+use Rattle.std.proofs.Common.{ℕ, zero, suc, ◌+◌, ◌/◌, ◌%◌, ◌^◌, ◌≡◌, ◌&&◌, Bool, true, nat_eq, slice_get, Option, Some}
+use Rattle.std.proofs.Common.{None, refl, ap, ◌∙◌}
 use Rattle.std.specs.Int.Count.{ones, ones_in, ones_step}
 use Rattle.std.proofs.lemmas.Bool.{and_parts, eqb-true}
 use Rattle.fsb_count.specs.Options.{is_some_and}
@@ -57,9 +58,14 @@ both x y e f = rw (e, f) refl
 even_sample : (s : Sample) → is_even_by_digits s ≡ true → is_even_sample s ≡ true
 unfolding is_even_by_digits is_even_sample
 even_sample s e =
-    let outer = and_parts (is_even_in 21 (bit_of s AP0) (s.addr.bits % 2 ^ 21) && is_even_in 12 (bit_of s AP1) (s.addr.bits / 2 ^ 21)) (is_even_in 5 (bit_of s RP + bit_of s ADS) s.req.bits) e in
-    let inner = and_parts (is_even_in 21 (bit_of s AP0) (s.addr.bits % 2 ^ 21)) (is_even_in 12 (bit_of s AP1) (s.addr.bits / 2 ^ 21)) outer.0 in
-    both _ _ (both _ _ (even_from 21 (bit_of s AP0) (s.addr.bits % 2 ^ 21) inner.0) (even_from 12 (bit_of s AP1) (s.addr.bits / 2 ^ 21) inner.1)) (even_from 5 (bit_of s RP + bit_of s ADS) s.req.bits outer.1)
+    let outer = and_parts (is_even_in 21 (bit_of s AP0) (s.addr.bits % 2 ^ 21)
+    && is_even_in 12 (bit_of s AP1) (s.addr.bits / 2 ^ 21))
+    (is_even_in 5 (bit_of s RP + bit_of s ADS) s.req.bits) e in
+    let inner = and_parts (is_even_in 21 (bit_of s AP0) (s.addr.bits % 2 ^ 21))
+    (is_even_in 12 (bit_of s AP1) (s.addr.bits / 2 ^ 21)) outer.0 in
+    both _ _ (both _ _ (even_from 21 (bit_of s AP0) (s.addr.bits % 2 ^ 21) inner.0)
+    (even_from 12 (bit_of s AP1) (s.addr.bits / 2 ^ 21) inner.1))
+    (even_from 5 (bit_of s RP + bit_of s ADS) s.req.bits outer.1)
 
 -- parity in profile 2, by digits
 unfoldable pub drives_digits : Run → Past → ℕ → Bool
@@ -70,14 +76,20 @@ unfolding is_some_and
 even_some None e = e
 even_some (Some s) e = even_sample s e
 
-parity_from : (r : Run) (p : Past) (c : ℕ) → r.plan.profile ≡ 2 → drives_digits r p c ≡ true → drives_parity r p c ≡ true
+parity_from : (r : Run) (p : Past) (c : ℕ) → r.plan.profile ≡ 2 → drives_digits r p c ≡ true
+    → drives_parity r p c ≡ true
 unfolding drives_digits drives_parity
 parity_from r p c two e = rw two (even_some (slice_get r.trace c) e)
 
 -- the eight parts together, and the data, where parity is computed digit by digit
 abbrev pub every_part_by_digits : Part
 every_part_by_digits r p c =
-    starts_requests r p c && (drives_request_lines r p c && (drives_hazards r p c && (has_snoop_result r p c && (drives_responses r p c && (logs_completions r p c && (drives_lock r p c && (drives_digits r p c && carries_data r p c)))))))
+    starts_requests r p c
+    && (drives_request_lines r p c
+    && (drives_hazards r p c
+    && (has_snoop_result r p c
+    && (drives_responses r p c
+    && (logs_completions r p c && (drives_lock r p c && (drives_digits r p c && carries_data r p c)))))))
 
 under : (x u v : Bool) → (u ≡ true → v ≡ true) → (x && u) ≡ true → (x && v) ≡ true
 under x u v f e = let parts = and_parts x u e in both x v parts.0 (f parts.1)
@@ -85,9 +97,17 @@ under x u v f e = let parts = and_parts x u e in both x v parts.0 (f parts.1)
 beside : (u v y : Bool) → (u ≡ true → v ≡ true) → (u && y) ≡ true → (v && y) ≡ true
 beside u v y f e = let parts = and_parts u y e in both v y (f parts.0) parts.1
 
-every_from : (r : Run) (p : Past) (c : ℕ) → r.plan.profile ≡ 2 → every_part_by_digits r p c ≡ true → every_part r p c ≡ true
+every_from : (r : Run) (p : Past) (c : ℕ) → r.plan.profile ≡ 2 → every_part_by_digits r p c ≡ true
+    → every_part r p c ≡ true
 every_from r p c two e =
-    under (starts_requests r p c) _ _ (under (drives_request_lines r p c) _ _ (under (drives_hazards r p c) _ _ (under (has_snoop_result r p c) _ _ (under (drives_responses r p c) _ _ (under (logs_completions r p c) _ _ (under (drives_lock r p c) _ _ (beside (drives_digits r p c) (drives_parity r p c) (carries_data r p c) (parity_from r p c two)))))))) e
+    under (starts_requests r p c) _ _
+    (under (drives_request_lines r p c) _ _
+    (under (drives_hazards r p c) _ _
+    (under (has_snoop_result r p c) _ _
+    (under (drives_responses r p c) _ _
+    (under (logs_completions r p c) _ _
+    (under (drives_lock r p c) _ _ (beside (drives_digits r p c) (drives_parity r p c) (carries_data r p c)
+    (parity_from r p c two)))))))) e
 
 -- a run of profile 2 that keeps every part by digits keeps every part
 pub keeps_by_digits : (r : Run) → r.plan.profile ≡ 2 → keeps every_part_by_digits r ≡ true → keeps every_part r ≡ true

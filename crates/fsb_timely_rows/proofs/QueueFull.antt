@@ -7,7 +7,8 @@ use Rattle.fsb_access.specs.declared.item.Item.TheVariants.{One}
 use Rattle.fsb_access.specs.declared.log.Done.{Done}
 use Rattle.fsb_hazard.specs.declared.line.HazardLine.TheVariants.{Resp as RespLine}
 use Rattle.fsb_script.specs.Plans.{PlanView}
-use Rattle.fsb_signal.specs.declared.lines.TheConstants.Lines.{BREQ0, BREQ1, BREQ2, BREQ3, ADS, RS0, RS1, RS2, DBSY, DRDY}
+use Rattle.fsb_signal.specs.declared.lines.TheConstants.Lines.{BREQ0, BREQ1, BREQ2, BREQ3, ADS, RS0, RS1, RS2, DBSY}
+use Rattle.fsb_signal.specs.declared.lines.TheConstants.Lines.{DRDY}
 use Rattle.fsb_trace.specs.At.{Trace}
 use Rattle.fsb_timely.specs.Runs.{Run}
 use Rattle.fsb_timely.specs.Starts.{starts_requests, drives_request_lines}
@@ -21,7 +22,10 @@ use Rattle.fsb_timely_rows.proofs.AskedLines.{asked_for_lines}
 
 abbrev pub plan : PlanView
 plan = record {
-  scripts = (One (Load 1 0x40) ∷ One (Load 1 0x60) ∷ One (Load 1 0x80) ∷ []) ∷ (One (Load 1 0x140) ∷ One (Load 1 0x160) ∷ One (Load 1 0x180) ∷ []) ∷ (One (Load 1 0x240) ∷ One (Load 1 0x260) ∷ One (Load 1 0x280) ∷ []) ∷ (One (Load 1 0x340) ∷ One (Load 1 0x360) ∷ One (Load 1 0x380) ∷ []) ∷ [];
+  scripts = (One (Load 1 0x40) ∷ One (Load 1 0x60) ∷ One (Load 1 0x80) ∷ [])
+      ∷ (One (Load 1 0x140) ∷ One (Load 1 0x160) ∷ One (Load 1 0x180) ∷ [])
+      ∷ (One (Load 1 0x240) ∷ One (Load 1 0x260) ∷ One (Load 1 0x280) ∷ [])
+      ∷ (One (Load 1 0x340) ∷ One (Load 1 0x360) ∷ One (Load 1 0x380) ∷ []) ∷ [];
   clocks = 36;
   cache = 64;
   ahead = 3;
@@ -126,7 +130,8 @@ follows zero = record { items = 1; same = refl }
 follows (suc zero) = record { items = 1; same = refl }
 follows (suc (suc zero)) = record { items = 1; same = refl }
 follows (suc (suc (suc zero))) = record { items = 0; same = refl }
-follows (suc (suc (suc (suc agent)))) = record { items = 0; same = steps_of-nobody 4 (suc (suc (suc (suc agent)))) log refl (omega arith) }
+follows (suc (suc (suc (suc agent)))) =
+    record { items = 0; same = steps_of-nobody 4 (suc (suc (suc (suc agent)))) log refl (omega arith) }
 
 pub is_simulated : Simulated run
 unfolding opened

@@ -8,7 +8,8 @@ use Rattle.fsb_access.specs.declared.item.Item.TheVariants.{One, Idle}
 use Rattle.fsb_access.specs.declared.log.Done.{Done}
 use Rattle.fsb_hazard.specs.declared.line.HazardLine.TheVariants.{Defer as DeferLine, Stall as StallLine}
 use Rattle.fsb_script.specs.Plans.{PlanView}
-use Rattle.fsb_signal.specs.declared.lines.TheConstants.Lines.{BREQ0, BREQ1, BREQ2, BREQ3, BPRI, ADS, HIT, HITM, DEFER, RS0, RS1, RS2, TRDY, DBSY, DRDY}
+use Rattle.fsb_signal.specs.declared.lines.TheConstants.Lines.{BREQ0, BREQ1, BREQ2, BREQ3, BPRI, ADS, HIT, HITM, DEFER}
+use Rattle.fsb_signal.specs.declared.lines.TheConstants.Lines.{RS0, RS1, RS2, TRDY, DBSY, DRDY}
 use Rattle.fsb_trace.specs.At.{Trace}
 use Rattle.fsb_timely.specs.Runs.{Run}
 use Rattle.fsb_timely.specs.Starts.{starts_requests}
@@ -23,7 +24,9 @@ use Rattle.fsb_timely_rows.proofs.AskedLines.{asked_for_lines}
 
 abbrev pub plan : PlanView
 plan = record {
-  scripts = (One (Store 1 0x40 (Literal 0x5)) ∷ One (Load 1 0x60) ∷ []) ∷ (One (Load 1 0x1000) ∷ One (Load 1 0x100) ∷ []) ∷ (Idle 10 ∷ One (Load 1 0x40) ∷ []) ∷ (Idle 14 ∷ One (Load 1 0x100) ∷ []) ∷ [];
+  scripts = (One (Store 1 0x40 (Literal 0x5)) ∷ One (Load 1 0x60) ∷ [])
+      ∷ (One (Load 1 0x1000) ∷ One (Load 1 0x100) ∷ []) ∷ (Idle 10 ∷ One (Load 1 0x40) ∷ [])
+      ∷ (Idle 14 ∷ One (Load 1 0x100) ∷ []) ∷ [];
   clocks = 56;
   cache = 1;
   ahead = 1;
@@ -139,7 +142,8 @@ follows zero = record { items = 2; same = refl }
 follows (suc zero) = record { items = 2; same = refl }
 follows (suc (suc zero)) = record { items = 2; same = refl }
 follows (suc (suc (suc zero))) = record { items = 2; same = refl }
-follows (suc (suc (suc (suc agent)))) = record { items = 0; same = steps_of-nobody 4 (suc (suc (suc (suc agent)))) log refl (omega arith) }
+follows (suc (suc (suc (suc agent)))) =
+    record { items = 0; same = steps_of-nobody 4 (suc (suc (suc (suc agent)))) log refl (omega arith) }
 
 pub is_simulated : Simulated run
 unfolding opened

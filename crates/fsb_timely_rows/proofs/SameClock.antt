@@ -20,7 +20,9 @@ use Rattle.fsb_timely_rows.proofs.AskedLines.{asked_for_lines}
 
 abbrev pub plan : PlanView
 plan = record {
-  scripts = (One (Load 1 0x80) ∷ One (Load 1 0x40) ∷ []) ∷ (One (Load 1 0x60) ∷ Idle 7 ∷ One (Load 1 0x61) ∷ One (Load 1 0x62) ∷ []) ∷ (One (Load 1 0xa0) ∷ Idle 3 ∷ One (Load 1 0xa1) ∷ One (Load 1 0xa2) ∷ []) ∷ [];
+  scripts = (One (Load 1 0x80) ∷ One (Load 1 0x40) ∷ [])
+      ∷ (One (Load 1 0x60) ∷ Idle 7 ∷ One (Load 1 0x61) ∷ One (Load 1 0x62) ∷ [])
+      ∷ (One (Load 1 0xa0) ∷ Idle 3 ∷ One (Load 1 0xa1) ∷ One (Load 1 0xa2) ∷ []) ∷ [];
   clocks = 40;
   cache = 64;
   ahead = 1;
@@ -145,7 +147,10 @@ follows : (agent : ℕ) → AreOfItems (script_of plan.scripts agent) (steps_of 
 follows zero = record { items = 2; same = refl }
 follows (suc zero) = record { items = 4; same = refl }
 follows (suc (suc zero)) = record { items = 4; same = refl }
-follows (suc (suc (suc agent))) = record { items = 0; same = steps_of-nobody 3 (suc (suc (suc agent))) log refl (omega arith) }
+follows (suc (suc (suc agent))) = record {
+  items = 0;
+  same = steps_of-nobody 3 (suc (suc (suc agent))) log refl (omega arith);
+}
 
 pub is_simulated : Simulated run
 unfolding opened

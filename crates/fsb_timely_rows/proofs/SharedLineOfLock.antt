@@ -8,7 +8,8 @@ use Rattle.fsb_access.specs.declared.item.Item.TheVariants.{One, Locked, Idle}
 use Rattle.fsb_access.specs.declared.log.Done.{Done}
 use Rattle.fsb_hazard.specs.declared.line.HazardLine.TheVariants.{Retry as RetryLine, Stall as StallLine}
 use Rattle.fsb_script.specs.Plans.{PlanView}
-use Rattle.fsb_signal.specs.declared.lines.TheConstants.Lines.{BREQ0, BREQ1, LOCK, ADS, HIT, HITM, DEFER, RS0, RS1, RS2, DBSY, DRDY}
+use Rattle.fsb_signal.specs.declared.lines.TheConstants.Lines.{BREQ0, BREQ1, LOCK, ADS, HIT, HITM, DEFER, RS0, RS1, RS2}
+use Rattle.fsb_signal.specs.declared.lines.TheConstants.Lines.{DBSY, DRDY}
 use Rattle.fsb_trace.specs.At.{Trace}
 use Rattle.fsb_timely.specs.Runs.{Run}
 use Rattle.fsb_timely.specs.Completions.{logs_completions}
@@ -22,7 +23,8 @@ use Rattle.fsb_timely_rows.proofs.AskedLines.{asked_for_lines}
 
 abbrev pub plan : PlanView
 plan = record {
-  scripts = (One (Load 1 0x40) ∷ Idle 5 ∷ Locked (Store 1 0x40 (Literal 0x1) ∷ Store 1 0x60 (Literal 0x2) ∷ []) ∷ []) ∷ (Idle 9 ∷ One (Load 1 0x40) ∷ []) ∷ [];
+  scripts = (One (Load 1 0x40) ∷ Idle 5 ∷ Locked (Store 1 0x40 (Literal 0x1) ∷ Store 1 0x60 (Literal 0x2) ∷ [])
+      ∷ []) ∷ (Idle 9 ∷ One (Load 1 0x40) ∷ []) ∷ [];
   clocks = 52;
   cache = 64;
   ahead = 2;

@@ -20,7 +20,8 @@ use Rattle.fsb_timely_rows.proofs.AskedLines.{asked_for_lines}
 
 abbrev pub plan : PlanView
 plan = record {
-  scripts = (One (Load 1 0x40) ∷ Idle 5 ∷ One (Store 1 0x40 (Literal 0x2)) ∷ []) ∷ (Idle 11 ∷ One (Load 1 0x40) ∷ []) ∷ [];
+  scripts = (One (Load 1 0x40) ∷ Idle 5 ∷ One (Store 1 0x40 (Literal 0x2)) ∷ [])
+      ∷ (Idle 11 ∷ One (Load 1 0x40) ∷ []) ∷ [];
   clocks = 60;
   cache = 4;
   ahead = 1;

@@ -19,7 +19,8 @@ use Rattle.fsb_timely.specs.Simulated.{Simulated}
 use Rattle.fsb_timely.specs.Asked.{Asked}
 use Rattle.fsb_timely_rows.proofs.LaidOut.{clock, idle, changed, entry, told_lines, run_of, every_part}
 use Rattle.fsb_timely_rows.proofs.Opened.{opened}
-use Rattle.fsb_timely_rows.proofs.Tests.{simulated_if, breaks_snoop_results, breaks_responses, breaks_completions, breaks_data}
+use Rattle.fsb_timely_rows.proofs.Tests.{simulated_if, breaks_snoop_results, breaks_responses, breaks_completions}
+use Rattle.fsb_timely_rows.proofs.Tests.{breaks_data}
 use Rattle.fsb_timely_rows.proofs.AskedLines.{asked_for_lines}
 
 abbrev pub plan : PlanView

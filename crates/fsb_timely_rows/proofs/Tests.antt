@@ -1,4 +1,5 @@
--- A run that passes every part's test at each of its clocks is a simulation; one that fails a part's test at a clock is none.
+-- A run that passes every part's test at each of its clocks is a simulation; one that fails a part's test at a
+-- clock is none.
 use Rattle.std.proofs.Common.{◌≡◌, ◌<◌, ◌&&◌, ℕ, true, false, length, IsTrue, sym, ◌∙◌}
 use Rattle.std.proofs.lemmas.Bool.{and_parts}
 use Rattle.fsb_access.specs.Replay.{Served}
@@ -28,16 +29,26 @@ second_of_two one two r h = record { at = λ c l. (and_parts _ _ (h.at c l)).1 }
 
 -- what is left of every part after the first n
 abbrev rest1 : Part
-rest1 r p c = drives_request_lines r p c && (drives_hazards r p c && (has_snoop_result r p c && (drives_responses r p c && (logs_completions r p c && (drives_lock r p c && (drives_parity r p c && carries_data r p c))))))
+rest1 r p c = drives_request_lines r p c
+    && (drives_hazards r p c
+    && (has_snoop_result r p c
+    && (drives_responses r p c
+    && (logs_completions r p c && (drives_lock r p c && (drives_parity r p c && carries_data r p c))))))
 
 abbrev rest2 : Part
-rest2 r p c = drives_hazards r p c && (has_snoop_result r p c && (drives_responses r p c && (logs_completions r p c && (drives_lock r p c && (drives_parity r p c && carries_data r p c)))))
+rest2 r p c = drives_hazards r p c
+    && (has_snoop_result r p c
+    && (drives_responses r p c
+    && (logs_completions r p c && (drives_lock r p c && (drives_parity r p c && carries_data r p c)))))
 
 abbrev rest3 : Part
-rest3 r p c = has_snoop_result r p c && (drives_responses r p c && (logs_completions r p c && (drives_lock r p c && (drives_parity r p c && carries_data r p c))))
+rest3 r p c = has_snoop_result r p c
+    && (drives_responses r p c
+    && (logs_completions r p c && (drives_lock r p c && (drives_parity r p c && carries_data r p c))))
 
 abbrev rest4 : Part
-rest4 r p c = drives_responses r p c && (logs_completions r p c && (drives_lock r p c && (drives_parity r p c && carries_data r p c)))
+rest4 r p c = drives_responses r p c
+    && (logs_completions r p c && (drives_lock r p c && (drives_parity r p c && carries_data r p c)))
 
 abbrev rest5 : Part
 rest5 r p c = logs_completions r p c && (drives_lock r p c && (drives_parity r p c && carries_data r p c))
@@ -50,7 +61,8 @@ rest7 r p c = drives_parity r p c && carries_data r p c
 
 pub simulated_if :
     (r : Run) → keeps every_part r ≡ true → IsTrue (is_known_trace r.trace) → length r.holds ≡ length r.trace
-    → length r.choices ≡ requests_below r.trace (length r.trace) → IsTrue (is_in_time 0 (length r.trace) r.log) → InOrder r.plan.scripts r.log → Served r.plan.mem r.log
+    → length r.choices ≡ requests_below r.trace (length r.trace) → IsTrue (is_in_time 0 (length r.trace) r.log)
+    → InOrder r.plan.scripts r.log → Served r.plan.mem r.log
     → Simulated r
 simulated_if r e known one_hold one_choice in_time in_order served =
     let h0 = keeps-at every_part r e in
@@ -88,13 +100,15 @@ breaks part r c l e h = absurd (let f : true ≡ false = sym (h.at c l) ∙ e in
 pub breaks_starts : (r : Run) (c : ℕ) → c < length r.trace → holds_at starts_requests r c ≡ false → ¬ Simulated r
 breaks_starts r c l e s = breaks starts_requests r c l e s.timely.request_starts
 
-pub breaks_request_lines : (r : Run) (c : ℕ) → c < length r.trace → holds_at drives_request_lines r c ≡ false → ¬ Simulated r
+pub breaks_request_lines : (r : Run) (c : ℕ) → c < length r.trace → holds_at drives_request_lines r c ≡ false
+    → ¬ Simulated r
 breaks_request_lines r c l e s = breaks drives_request_lines r c l e s.timely.request_lines
 
 pub breaks_hazards : (r : Run) (c : ℕ) → c < length r.trace → holds_at drives_hazards r c ≡ false → ¬ Simulated r
 breaks_hazards r c l e s = breaks drives_hazards r c l e s.timely.hazard_lines
 
-pub breaks_snoop_results : (r : Run) (c : ℕ) → c < length r.trace → holds_at has_snoop_result r c ≡ false → ¬ Simulated r
+pub breaks_snoop_results : (r : Run) (c : ℕ) → c < length r.trace → holds_at has_snoop_result r c ≡ false
+    → ¬ Simulated r
 breaks_snoop_results r c l e s = breaks has_snoop_result r c l e s.timely.snoop_results
 
 pub breaks_responses : (r : Run) (c : ℕ) → c < length r.trace → holds_at drives_responses r c ≡ false → ¬ Simulated r

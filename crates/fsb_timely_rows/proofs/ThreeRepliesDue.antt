@@ -7,7 +7,8 @@ use Rattle.fsb_access.specs.declared.item.Item.TheVariants.{One}
 use Rattle.fsb_access.specs.declared.log.Done.{Done}
 use Rattle.fsb_hazard.specs.declared.line.HazardLine.TheVariants.{Defer as DeferLine}
 use Rattle.fsb_script.specs.Plans.{PlanView}
-use Rattle.fsb_signal.specs.declared.lines.TheConstants.Lines.{BREQ0, BREQ1, BREQ2, BPRI, ADS, DEFER, RS0, RS1, RS2, DBSY, DRDY}
+use Rattle.fsb_signal.specs.declared.lines.TheConstants.Lines.{BREQ0, BREQ1, BREQ2, BPRI, ADS, DEFER, RS0, RS1, RS2}
+use Rattle.fsb_signal.specs.declared.lines.TheConstants.Lines.{DBSY, DRDY}
 use Rattle.fsb_trace.specs.At.{Trace}
 use Rattle.fsb_timely.specs.Runs.{Run}
 use Rattle.fsb_timely.specs.Starts.{starts_requests, drives_request_lines}
@@ -174,7 +175,10 @@ follows : (agent : ℕ) → AreOfItems (script_of plan.scripts agent) (steps_of 
 follows zero = record { items = 1; same = refl }
 follows (suc zero) = record { items = 1; same = refl }
 follows (suc (suc zero)) = record { items = 1; same = refl }
-follows (suc (suc (suc agent))) = record { items = 0; same = steps_of-nobody 3 (suc (suc (suc agent))) log refl (omega arith) }
+follows (suc (suc (suc agent))) = record {
+  items = 0;
+  same = steps_of-nobody 3 (suc (suc (suc agent))) log refl (omega arith);
+}
 
 pub is_simulated : Simulated run
 unfolding opened

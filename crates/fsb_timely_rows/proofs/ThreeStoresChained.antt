@@ -7,7 +7,8 @@ use Rattle.fsb_access.specs.declared.access.Operand.TheVariants.{Literal}
 use Rattle.fsb_access.specs.declared.item.Item.TheVariants.{One}
 use Rattle.fsb_access.specs.declared.log.Done.{Done}
 use Rattle.fsb_script.specs.Plans.{PlanView}
-use Rattle.fsb_signal.specs.declared.lines.TheConstants.Lines.{BREQ0, BREQ1, BREQ2, ADS, HITM, RS0, RS1, RS2, TRDY, DBSY, DRDY}
+use Rattle.fsb_signal.specs.declared.lines.TheConstants.Lines.{BREQ0, BREQ1, BREQ2, ADS, HITM, RS0, RS1, RS2, TRDY}
+use Rattle.fsb_signal.specs.declared.lines.TheConstants.Lines.{DBSY, DRDY}
 use Rattle.fsb_trace.specs.At.{Trace}
 use Rattle.fsb_timely.specs.Runs.{Run}
 use Rattle.fsb_timely.specs.Starts.{starts_requests}
@@ -19,12 +20,14 @@ use Rattle.fsb_timely.specs.Simulated.{Simulated}
 use Rattle.fsb_timely.specs.Asked.{Asked}
 use Rattle.fsb_timely_rows.proofs.LaidOut.{clock, idle, changed, entry, told_lines, run_of, every_part}
 use Rattle.fsb_timely_rows.proofs.Opened.{opened}
-use Rattle.fsb_timely_rows.proofs.Tests.{simulated_if, breaks_starts, breaks_snoop_results, breaks_completions, breaks_data}
+use Rattle.fsb_timely_rows.proofs.Tests.{simulated_if, breaks_starts, breaks_snoop_results, breaks_completions}
+use Rattle.fsb_timely_rows.proofs.Tests.{breaks_data}
 use Rattle.fsb_timely_rows.proofs.AskedLines.{asked_for_lines}
 
 abbrev pub plan : PlanView
 plan = record {
-  scripts = (One (Store 1 0x40 (Literal 0x1)) ∷ []) ∷ (One (Store 1 0x40 (Literal 0x2)) ∷ []) ∷ (One (Store 1 0x40 (Literal 0x3)) ∷ []) ∷ [];
+  scripts = (One (Store 1 0x40 (Literal 0x1)) ∷ []) ∷ (One (Store 1 0x40 (Literal 0x2)) ∷ [])
+      ∷ (One (Store 1 0x40 (Literal 0x3)) ∷ []) ∷ [];
   clocks = 60;
   cache = 64;
   ahead = 1;
@@ -123,7 +126,10 @@ follows : (agent : ℕ) → AreOfItems (script_of plan.scripts agent) (steps_of 
 follows zero = record { items = 1; same = refl }
 follows (suc zero) = record { items = 1; same = refl }
 follows (suc (suc zero)) = record { items = 1; same = refl }
-follows (suc (suc (suc agent))) = record { items = 0; same = steps_of-nobody 3 (suc (suc (suc agent))) log refl (omega arith) }
+follows (suc (suc (suc agent))) = record {
+  items = 0;
+  same = steps_of-nobody 3 (suc (suc (suc agent))) log refl (omega arith);
+}
 
 pub is_simulated : Simulated run
 unfolding opened

@@ -7,7 +7,8 @@ use Rattle.fsb_access.specs.declared.access.Operand.TheVariants.{Literal}
 use Rattle.fsb_access.specs.declared.item.Item.TheVariants.{One}
 use Rattle.fsb_access.specs.declared.log.Done.{Done}
 use Rattle.fsb_script.specs.Plans.{PlanView}
-use Rattle.fsb_signal.specs.declared.lines.TheConstants.Lines.{BREQ0, BREQ1, ADS, HIT, HITM, RS0, RS1, RS2, TRDY, DBSY, DRDY, AP0, RP}
+use Rattle.fsb_signal.specs.declared.lines.TheConstants.Lines.{BREQ0, BREQ1, ADS, HIT, HITM, RS0, RS1, RS2, TRDY, DBSY}
+use Rattle.fsb_signal.specs.declared.lines.TheConstants.Lines.{DRDY, AP0, RP}
 use Rattle.fsb_trace.specs.At.{Trace}
 use Rattle.fsb_timely.specs.Runs.{Run}
 use Rattle.fsb_timely.specs.Snoops.{has_snoop_result}
@@ -23,7 +24,8 @@ use Rattle.fsb_timely_rows.proofs.AskedLines.{asked_for_lines}
 
 abbrev pub plan : PlanView
 plan = record {
-  scripts = (One (Load 1 0x40) ∷ One (Store 1 0x40 (Literal 0x1)) ∷ []) ∷ (One (Load 1 0x40) ∷ One (Store 1 0x40 (Literal 0x2)) ∷ []) ∷ [];
+  scripts = (One (Load 1 0x40) ∷ One (Store 1 0x40 (Literal 0x1)) ∷ [])
+      ∷ (One (Load 1 0x40) ∷ One (Store 1 0x40 (Literal 0x2)) ∷ []) ∷ [];
   clocks = 60;
   cache = 64;
   ahead = 1;

@@ -7,7 +7,8 @@ use Rattle.fsb_access.specs.declared.access.Operand.TheVariants.{Literal}
 use Rattle.fsb_access.specs.declared.item.Item.TheVariants.{One}
 use Rattle.fsb_access.specs.declared.log.Done.{Done}
 use Rattle.fsb_script.specs.Plans.{PlanView}
-use Rattle.fsb_signal.specs.declared.lines.TheConstants.Lines.{BREQ0, BREQ1, ADS, HIT, RS0, RS1, RS2, DBSY, DRDY, AP0, RP}
+use Rattle.fsb_signal.specs.declared.lines.TheConstants.Lines.{BREQ0, BREQ1, ADS, HIT, RS0, RS1, RS2, DBSY, DRDY, AP0}
+use Rattle.fsb_signal.specs.declared.lines.TheConstants.Lines.{RP}
 use Rattle.fsb_trace.specs.At.{Trace}
 use Rattle.fsb_timely.specs.Runs.{Run}
 use Rattle.fsb_timely.specs.Starts.{starts_requests}
@@ -19,7 +20,8 @@ use Rattle.fsb_timely.specs.Simulated.{Simulated}
 use Rattle.fsb_timely.specs.Asked.{Asked}
 use Rattle.fsb_timely_rows.proofs.LaidOut.{clock, idle, changed, entry, told_lines, run_of, every_part}
 use Rattle.fsb_timely_rows.proofs.Opened.{opened}
-use Rattle.fsb_timely_rows.proofs.Tests.{simulated_if, breaks_completions, breaks_responses, breaks_snoop_results, breaks_starts}
+use Rattle.fsb_timely_rows.proofs.Tests.{simulated_if, breaks_completions, breaks_responses, breaks_snoop_results}
+use Rattle.fsb_timely_rows.proofs.Tests.{breaks_starts}
 use Rattle.fsb_timely_rows.proofs.AskedLines.{asked_for_lines}
 
 abbrev pub plan : PlanView

@@ -22,7 +22,8 @@ use Rattle.fsb_timely_rows.proofs.AskedLines.{asked_for_lines}
 
 abbrev pub plan : PlanView
 plan = record {
-  scripts = (One (Load 1 0x40) ∷ Idle 4 ∷ One (Store 1 0x41 (Literal 0x5)) ∷ []) ∷ (Idle 9 ∷ One (Load 1 0x40) ∷ []) ∷ [];
+  scripts = (One (Load 1 0x40) ∷ Idle 4 ∷ One (Store 1 0x41 (Literal 0x5)) ∷ [])
+      ∷ (Idle 9 ∷ One (Load 1 0x40) ∷ []) ∷ [];
   clocks = 52;
   cache = 64;
   ahead = 1;

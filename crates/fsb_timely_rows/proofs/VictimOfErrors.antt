@@ -5,9 +5,11 @@ use Rattle.fsb_access.specs.ScriptOrder.{AreOfItems, script_of, steps_of}
 use Rattle.fsb_access.specs.declared.access.Access.TheVariants.{Load}
 use Rattle.fsb_access.specs.declared.item.Item.TheVariants.{One, Idle}
 use Rattle.fsb_access.specs.declared.log.Done.{Done}
-use Rattle.fsb_hazard.specs.declared.line.HazardLine.TheVariants.{Aerr as AerrLine, Retry as RetryLine, Stall as StallLine}
+use Rattle.fsb_hazard.specs.declared.line.HazardLine.TheVariants.{Aerr as AerrLine, Retry as RetryLine}
+use Rattle.fsb_hazard.specs.declared.line.HazardLine.TheVariants.{Stall as StallLine}
 use Rattle.fsb_script.specs.Plans.{PlanView}
-use Rattle.fsb_signal.specs.declared.lines.TheConstants.Lines.{BREQ0, BREQ1, ADS, AERR, HIT, HITM, DEFER, RS0, RS1, RS2, DBSY, DRDY}
+use Rattle.fsb_signal.specs.declared.lines.TheConstants.Lines.{BREQ0, BREQ1, ADS, AERR, HIT, HITM, DEFER, RS0, RS1, RS2}
+use Rattle.fsb_signal.specs.declared.lines.TheConstants.Lines.{DBSY, DRDY}
 use Rattle.fsb_trace.specs.At.{Trace}
 use Rattle.fsb_timely.specs.Runs.{Run}
 use Rattle.fsb_timely.specs.Snoops.{has_snoop_result}
@@ -21,7 +23,8 @@ use Rattle.fsb_timely_rows.proofs.AskedLines.{asked_for_lines}
 
 abbrev pub plan : PlanView
 plan = record {
-  scripts = (One (Load 1 0x40) ∷ One (Load 1 0x60) ∷ One (Load 1 0x40) ∷ []) ∷ (Idle 9 ∷ One (Load 1 0x40) ∷ One (Load 1 0x60) ∷ []) ∷ [];
+  scripts = (One (Load 1 0x40) ∷ One (Load 1 0x60) ∷ One (Load 1 0x40) ∷ [])
+      ∷ (Idle 9 ∷ One (Load 1 0x40) ∷ One (Load 1 0x60) ∷ []) ∷ [];
   clocks = 50;
   cache = 1;
   ahead = 1;

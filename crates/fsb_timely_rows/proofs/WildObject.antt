@@ -1,5 +1,7 @@
 -- An object that tells nothing and always answers Retry: it stands for 30 clocks, and then has gone.
-use Rattle.std.proofs.Common.{◌≡◌, ◌<◌, ◌≤◌, ◌||◌, ℕ, zero, suc, refl, sym, subst, Bool, List, [], ◌∷◌, ◌++◌, Option, Some, None, true, false, not, nat_eq, nat_lt, replicate, slice_get, if◌then◌else◌, arith, inl, inr}
+use Rattle.std.proofs.Common.{◌≡◌, ◌<◌, ◌≤◌, ◌||◌, ℕ, zero, suc, refl, sym, subst, Bool, List, [], ◌∷◌, ◌++◌, Option}
+use Rattle.std.proofs.Common.{Some, None, true, false, not, nat_eq, nat_lt, replicate, slice_get, if◌then◌else◌, arith}
+use Rattle.std.proofs.Common.{inl, inr}
 use Rattle.std.proofs.Math.Bool.{or-false}
 use Rattle.std.proofs.lemmas.Bool.{cases_lt, eqb-true, le-ltb, lt-ltb, ltb-true}
 use Rattle.fsb_access.proofs.Interface.{steps_of-nobody}
@@ -128,25 +130,31 @@ follows_nothing agent = record { items = 0; same = refl }
 
 pub wild_is_simulated : Simulated wild_run
 unfolding opened
-wild_is_simulated = simulated_if wild_run computes.1 refl refl refl refl (record { follows = follows_nothing; together = refl }) refl
+wild_is_simulated = simulated_if wild_run computes.1 refl refl refl refl
+    (record { follows = follows_nothing; together = refl }) refl
 
 -- of the requests that begin the first four begin below clock 30, and the fifth later
-four_begin : each_where (λ c. not (nat_lt c 30) || (not (line_at ADS trace c) || nat_lt (requests_below trace c) 4)) 60 ≡ true
+four_begin : each_where (λ c. not (nat_lt c 30)
+    || (not (line_at ADS trace c) || nat_lt (requests_below trace c) 4)) 60 ≡ true
 unfolding opened
 four_begin = refl
 
-fifth_begins : each_where (λ c. nat_lt c 30 || (not (line_at ADS trace c) || nat_eq (requests_below trace c) 4)) 60 ≡ true
+fifth_begins : each_where (λ c. nat_lt c 30 || (not (line_at ADS trace c) || nat_eq (requests_below trace c) 4))
+    60 ≡ true
 unfolding opened
 fifth_begins = refl
 
 number_early : (c : ℕ) → c < 60 → c < 30 → line_at ADS trace c ≡ true → requests_below trace c < 4
 number_early c l m t =
-    let h = each_where-at (λ k. not (nat_lt k 30) || (not (line_at ADS trace k) || nat_lt (requests_below trace k) 4)) 60 four_begin c l in
+    let h = each_where-at
+    (λ k. not (nat_lt k 30) || (not (line_at ADS trace k) || nat_lt (requests_below trace k) 4)) 60
+    four_begin c l in
     ltb-true (requests_below trace c) 4 (let h' = rw (lt-ltb c 30 m, t) at h in h')
 
 number_late : (c : ℕ) → c < 60 → 30 ≤ c → line_at ADS trace c ≡ true → requests_below trace c ≡ 4
 number_late c l m t =
-    let h = each_where-at (λ k. nat_lt k 30 || (not (line_at ADS trace k) || nat_eq (requests_below trace k) 4)) 60 fifth_begins c l in
+    let h = each_where-at (λ k. nat_lt k 30 || (not (line_at ADS trace k) || nat_eq (requests_below trace k) 4))
+    60 fifth_begins c l in
     eqb-true (requests_below trace c) 4 (let h' = rw (le-ltb c 30 m, t) at h in h')
 
 retry_chosen : (k : ℕ) → IsChosen (None ∷ []) k retry
@@ -165,14 +173,16 @@ quiet_chosen k = record {
   chosen = refl;
 }
 
-early_choice : (k : ℕ) (choice : Choice) → k < 4 → slice_get (replicate 4 retry ++ quiet_choice ∷ []) k ≡ Some choice → retry ≡ choice
+early_choice : (k : ℕ) (choice : Choice) → k < 4
+    → slice_get (replicate 4 retry ++ quiet_choice ∷ []) k ≡ Some choice → retry ≡ choice
 early_choice zero choice l e = cc
 early_choice (suc zero) choice l e = cc
 early_choice (suc (suc zero)) choice l e = cc
 early_choice (suc (suc (suc zero))) choice l e = cc
 early_choice (suc (suc (suc (suc k)))) choice l e = absurd (omega arith)
 
-late_choice : (k : ℕ) (choice : Choice) → k ≡ 4 → slice_get (replicate 4 retry ++ quiet_choice ∷ []) k ≡ Some choice → quiet_choice ≡ choice
+late_choice : (k : ℕ) (choice : Choice) → k ≡ 4
+    → slice_get (replicate 4 retry ++ quiet_choice ∷ []) k ≡ Some choice → quiet_choice ≡ choice
 late_choice k choice same e = let e' = rw same at e in cc
 
 no_hold : (n c : ℕ) (hold : Bool) → slice_get (replicate n false) c ≡ Some hold → false ≡ hold
@@ -183,14 +193,21 @@ no_hold (suc n) (suc c) hold e = no_hold n c hold e
 asked_early : (c : ℕ) → c < 60 → c < 30 → IsAskedAt (None ∷ []) run c
 asked_early c l m = record {
   chosen = λ choice t e.
-      subst (IsChosen (None ∷ []) (requests_below trace c)) (early_choice (requests_below trace c) choice (number_early c l m t) e) (retry_chosen (requests_below trace c));
-  held = λ hold e. record { answers = record quiet_choice { bnr = hold } ∷ []; answered = (tt, tt); asks = sym (or-false hold) };
+      subst (IsChosen (None ∷ []) (requests_below trace c))
+      (early_choice (requests_below trace c) choice (number_early c l m t) e)
+      (retry_chosen (requests_below trace c));
+  held = λ hold e. record {
+    answers = record quiet_choice { bnr = hold } ∷ [];
+    answered = (tt, tt);
+    asks = sym (or-false hold);
+  };
 }
 
 asked_late : (c : ℕ) → c < 60 → 30 ≤ c → IsAskedAt [] run c
 asked_late c l m = record {
   chosen = λ choice t e.
-      subst (IsChosen [] (requests_below trace c)) (late_choice (requests_below trace c) choice (number_late c l m t) e) (quiet_chosen (requests_below trace c));
+      subst (IsChosen [] (requests_below trace c))
+      (late_choice (requests_below trace c) choice (number_late c l m t) e) (quiet_chosen (requests_below trace c));
   held = λ hold e. record { answers = []; answered = tt; asks = sym (no_hold 60 c hold e) };
 }
 

@@ -22,7 +22,8 @@ use Rattle.fsb_timely_rows.proofs.AskedLines.{asked_for_lines}
 
 abbrev pub plan : PlanView
 plan = record {
-  scripts = (Idle 2 ∷ Idle 3 ∷ One (Load 1 0x40) ∷ One (Load 1 0x48) ∷ Idle 4 ∷ One (Load 2 0x60) ∷ Locked (Load 1 0x98 ∷ Store 1 0xa8 (LastPlus 0x1) ∷ Load 1 0x90 ∷ []) ∷ One (Load 1 0xc0) ∷ []) ∷ [];
+  scripts = (Idle 2 ∷ Idle 3 ∷ One (Load 1 0x40) ∷ One (Load 1 0x48) ∷ Idle 4 ∷ One (Load 2 0x60)
+      ∷ Locked (Load 1 0x98 ∷ Store 1 0xa8 (LastPlus 0x1) ∷ Load 1 0x90 ∷ []) ∷ One (Load 1 0xc0) ∷ []) ∷ [];
   clocks = 64;
   cache = 64;
   ahead = 3;

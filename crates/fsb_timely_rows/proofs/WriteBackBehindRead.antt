@@ -22,7 +22,8 @@ use Rattle.fsb_timely_rows.proofs.AskedLines.{asked_for_lines}
 
 abbrev pub plan : PlanView
 plan = record {
-  scripts = (Idle 9 ∷ One (Load 1 0x1a0) ∷ One (Load 1 0x40) ∷ []) ∷ (One (Store 1 0x40 (Literal 0x5)) ∷ One (Load 1 0x60) ∷ []) ∷ [];
+  scripts = (Idle 9 ∷ One (Load 1 0x1a0) ∷ One (Load 1 0x40) ∷ [])
+      ∷ (One (Store 1 0x40 (Literal 0x5)) ∷ One (Load 1 0x60) ∷ []) ∷ [];
   clocks = 50;
   cache = 1;
   ahead = 1;

@@ -7,7 +7,8 @@ use Rattle.fsb_access.specs.declared.access.Operand.TheVariants.{Literal}
 use Rattle.fsb_access.specs.declared.item.Item.TheVariants.{One, Idle}
 use Rattle.fsb_access.specs.declared.log.Done.{Done}
 use Rattle.fsb_script.specs.Plans.{PlanView}
-use Rattle.fsb_signal.specs.declared.lines.TheConstants.Lines.{BREQ0, BREQ1, ADS, HIT, HITM, RS0, RS1, RS2, TRDY, DBSY, DRDY}
+use Rattle.fsb_signal.specs.declared.lines.TheConstants.Lines.{BREQ0, BREQ1, ADS, HIT, HITM, RS0, RS1, RS2, TRDY, DBSY}
+use Rattle.fsb_signal.specs.declared.lines.TheConstants.Lines.{DRDY}
 use Rattle.fsb_trace.specs.At.{Trace}
 use Rattle.fsb_timely.specs.Runs.{Run}
 use Rattle.fsb_timely.specs.Starts.{starts_requests, drives_request_lines}

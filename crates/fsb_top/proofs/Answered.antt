@@ -1,5 +1,6 @@
 -- What a source holds is readable, faulty or too long: exactly one of the three.
-use Rattle.std.proofs.Common.{◌≡◌, ◌≤◌, ◌<◌, ◌-◌, ◌^◌, ◌⊎◌, ℕ, List, length, Option, Some, None, refl, sym, ap, ◌∙◌, arith, inl, inr}
+use Rattle.std.proofs.Common.{◌≡◌, ◌≤◌, ◌<◌, ◌-◌, ◌^◌, ◌⊎◌, ℕ, List, length, Option, Some, None, refl, sym, ap, ◌∙◌}
+use Rattle.std.proofs.Common.{arith, inl, inr}
 use Rattle.std.proofs.lemmas.Bool.{cases_lt}
 use Rattle.fsb_command.specs.Form.{Form, run, check, audit, show, find, wave, gen}
 use Rattle.fsb_script.specs.Drafts.{BenchText, FirstBad}
@@ -10,7 +11,8 @@ use Rattle.fsb_watch.specs.Watched.{HasManySamples}
 use Rattle.vcd_grammar.specs.Reading.{first_fault, marks_of, samples_before_end, samples_of}
 use Rattle.vcd_grammar.specs.declared.fault.VcdFault.{VcdFault}
 use Rattle.fsb_top.specs.BenchEnds.{IsTooLong}
-use Rattle.fsb_top.specs.Complete.{IsBenchFile, IsDumpWithin, IsFaulty, IsFaultyBench, IsFaultyPieces, IsFaultyWhole, IsReadable}
+use Rattle.fsb_top.specs.Complete.{IsBenchFile, IsDumpWithin, IsFaulty, IsFaultyBench, IsFaultyPieces, IsFaultyWhole}
+use Rattle.fsb_top.specs.Complete.{IsReadable}
 use Rattle.fsb_top.proofs.Completing.{no-fault, not-long, not-long-shown}
 
 -- each text is a bench file, or has a first bad line

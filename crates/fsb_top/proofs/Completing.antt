@@ -1,5 +1,6 @@
 -- A call that nothing stops does all that its words ask for.
-use Rattle.std.proofs.Common.{◌≡◌, ◌≤◌, ◌<◌, ◌-◌, ◌^◌, ◌⊎◌, ℕ, zero, suc, List, [], ◌∷◌, ◌++◌, length, take, Option, Some, None, refl, sym, ap, ◌∙◌, subst, arith, inl, inr, length-append}
+use Rattle.std.proofs.Common.{◌≡◌, ◌≤◌, ◌<◌, ◌-◌, ◌^◌, ◌⊎◌, ℕ, zero, suc, List, [], ◌∷◌, ◌++◌, length, take, Option}
+use Rattle.std.proofs.Common.{Some, None, refl, sym, ap, ◌∙◌, subst, arith, inl, inr, length-append}
 use Rattle.fsb_script.specs.Drafts.{BenchText, FirstBad}
 use Rattle.fsb_script.specs.declared.fault.ScriptFault.{ScriptFault}
 use Rattle.fsb_show.specs.ShownDump.{IsLongDump}
@@ -51,7 +52,8 @@ few-before-end text =
     let blocks = blocks_of (events_in nothing (tokens_of text)) in fewer at_first (length blocks - 1) blocks
 
 -- a readable dump has no first fault
-pub no-fault : (bytes samples : ℕ) (held : List ℕ) (f : VcdFault) → IsDumpWithin bytes samples held → FirstFault held f → ⊥
+pub no-fault : (bytes samples : ℕ) (held : List ℕ) (f : VcdFault) → IsDumpWithin bytes samples held
+    → FirstFault held f → ⊥
 no-fault bytes samples held f within first =
     let e = sym within.reads.0 ∙ first in let no : ⊥ = cc in no
 

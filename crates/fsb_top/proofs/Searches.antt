@@ -9,7 +9,8 @@ use Rattle.fsb_top.specs.declared.status.Status.TheVariants as statuses
 use Rattle.fsb_top.specs.StatusTold.{IsSearchTold, IsWaveTold}
 use Rattle.fsb_top.specs.BenchEnds.{TellsMatch, TellsNothing, IsWritten, match_text}
 
-pub tells_match : (status : Status) (found : Option (List ℕ)) (steps : List StepView) (w : List Sample) → IsSearchTold status found → found ≡ least_match steps w → TellsMatch steps status w
+pub tells_match : (status : Status) (found : Option (List ℕ)) (steps : List StepView) (w : List Sample)
+    → IsSearchTold status found → found ≡ least_match steps w → TellsMatch steps status w
 tells_match statuses.Done found steps w told e = subst (λ (f : Option (List ℕ)). IsTrue (is_some f)) e told
 tells_match statuses.NotFound found steps w told e = sym e ∙ told
 tells_match statuses.WriteFault found steps w told e = tt
@@ -38,8 +39,11 @@ tells_nothing statuses.TooLong w told = told
 tells_nothing (statuses.Foul foul) w told = told
 
 -- the line of a search of a trace is that of its trigger
-pub match_line : (status : Status) (found : Option (List ℕ)) (clocks : ℕ) (steps : List StepView) (w v : List Sample) (before held : List ℕ) → IsWritten status (search_text found clocks) before held → found ≡ least_match steps v → clocks ≡ length v → v ≡ w → IsWritten status (match_text steps w) before held
+pub match_line : (status : Status) (found : Option (List ℕ)) (clocks : ℕ) (steps : List StepView)
+    (w v : List Sample) (before held : List ℕ) → IsWritten status (search_text found clocks) before held
+    → found ≡ least_match steps v → clocks ≡ length v → v ≡ w → IsWritten status (match_text steps w) before held
 match_line status found clocks steps w v before held written e n same =
     let text : search_text found clocks ≡ match_text steps w =
-    ap (λ f. search_text f clocks) e ∙ ap (λ c. search_text (least_match steps v) c) n ∙ ap (λ u. match_text steps u) same in
+    ap (λ f. search_text f clocks) e ∙ ap (λ c. search_text (least_match steps v) c) n
+    ∙ ap (λ u. match_text steps u) same in
     subst (λ (t : List ℕ). IsWritten status t before held) text written

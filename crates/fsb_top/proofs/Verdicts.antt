@@ -11,7 +11,8 @@ use Rattle.fsb_top.specs.declared.status.Status.TheVariants as statuses
 use Rattle.fsb_top.specs.StatusTold.{IsJudgementTold}
 use Rattle.fsb_top.specs.BenchEnds.{TellsVerdict}
 
-pub tells_verdict : (status : Status) (finding : Judgement) (marks : Marks) (w : List Sample) → IsJudgementTold status finding → finding.broken ≡ as_broken (verdict marks w) → TellsVerdict status marks w
+pub tells_verdict : (status : Status) (finding : Judgement) (marks : Marks) (w : List Sample)
+    → IsJudgementTold status finding → finding.broken ≡ as_broken (verdict marks w) → TellsVerdict status marks w
 tells_verdict statuses.Done finding marks w told e = as_broken-none (verdict marks w) (sym e ∙ told)
 tells_verdict (statuses.Rejected broken) finding marks w told e = sym e ∙ told
 tells_verdict statuses.WriteFault finding marks w told e = tt

@@ -24,7 +24,8 @@ ready_after-next : (w : Trace) (i : ℕ) → ready_after w (i + 1) ≡ greater_o
 unfolding ready_after
 ready_after-next w i = rw add-one refl
 
-pub ready_after-after : (w : Trace) (i : ℕ) → 0 < i → ready_after w i ≡ greater_of (clock_after_snoop w i) (end_of w (i - 1))
+pub ready_after-after : (w : Trace) (i : ℕ) → 0 < i
+    → ready_after w i ≡ greater_of (clock_after_snoop w i) (end_of w (i - 1))
 ready_after-after w i l =
     let e : i - 1 + 1 ≡ i = omega arith in rw e at (ready_after-next w (i - 1))
 

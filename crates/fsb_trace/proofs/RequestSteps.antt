@@ -17,9 +17,11 @@ pub seen_before-start : (w : Trace) → seen_before w 0 ≡ []
 unfolding all_where
 seen_before-start w = refl
 
-pub seen_before-begun : (w : Trace) (c : ℕ) → line_at ADS w c ≡ true → seen_before w (c + 1) ≡ seen_before w c ++ seen_at w c ∷ []
+pub seen_before-begun : (w : Trace) (c : ℕ) → line_at ADS w c ≡ true
+    → seen_before w (c + 1) ≡ seen_before w c ++ seen_at w c ∷ []
 seen_before-begun w c t =
-    ap (map (seen_at w)) (all_where-passed (line_at ADS w) c t) ∙ map-append (seen_at w) (all_where (line_at ADS w) c) (c ∷ [])
+    ap (map (seen_at w)) (all_where-passed (line_at ADS w) c t)
+    ∙ map-append (seen_at w) (all_where (line_at ADS w) c) (c ∷ [])
 
 pub seen_before-kept : (w : Trace) (c : ℕ) → line_at ADS w c ≡ false → seen_before w (c + 1) ≡ seen_before w c
 seen_before-kept w c f = ap (map (seen_at w)) (all_where-failed (line_at ADS w) c f)

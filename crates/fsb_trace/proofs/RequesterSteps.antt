@@ -9,11 +9,13 @@ pub requesters_before-start : (w : Trace) → requesters_before w 0 ≡ (None, N
 unfolding requesters_before no_requesters
 requesters_before-start w = refl
 
-pub requesters_before-begun : (w : Trace) (c : ℕ) → line_at ADS w c ≡ true → requesters_before w (c + 1) ≡ then_begun (requesters_before w c) (winner_after w c (requesters_before w c))
+pub requesters_before-begun : (w : Trace) (c : ℕ) → line_at ADS w c ≡ true
+    → requesters_before w (c + 1) ≡ then_begun (requesters_before w c) (winner_after w c (requesters_before w c))
 unfolding requesters_before
 requesters_before-begun w c t = rw (add-one, t, requesters_before) refl
 
-pub requesters_before-kept : (w : Trace) (c : ℕ) → line_at ADS w c ≡ false → requesters_before w (c + 1) ≡ requesters_before w c
+pub requesters_before-kept : (w : Trace) (c : ℕ) → line_at ADS w c ≡ false
+    → requesters_before w (c + 1) ≡ requesters_before w c
 unfolding requesters_before
 requesters_before-kept w c f = rw (add-one, f, requesters_before) refl
 

@@ -1,24 +1,48 @@
 -- Traces of runs, laid out clock by clock, and what the definitions say of them: all of it is computed.
 use Rattle.std.proofs.Common.{◌≡◌, refl, [], ◌∷◌, Some, None, true, false, replicate, length}
-use Rattle.fsb_signal.specs.declared.lines.TheConstants.Lines.{BREQ0, BREQ1, BPRI, LOCK, ADS, AERR, HIT, HITM, DEFER, RS0, RS1, RS2, TRDY, DBSY, DRDY}
+use Rattle.fsb_signal.specs.declared.lines.TheConstants.Lines.{BREQ0, BREQ1, BPRI, LOCK, ADS, AERR, HIT, HITM, DEFER}
+use Rattle.fsb_signal.specs.declared.lines.TheConstants.Lines.{RS0, RS1, RS2, TRDY, DBSY, DRDY}
 use Rattle.fsb_trace.specs.declared.who.Who.TheVariants.{Symmetric, Priority}
 use Rattle.fsb_trace.specs.declared.outcome.Outcome.TheVariants.{Granted, Handed, Retried, Deferred, Replied}
 use Rattle.fsb_count.specs.Options.{is_some_and, is_before, is_at, greater_of}
-use Rattle.fsb_count.specs.Clocks.{first_where, last_where, any_where, count_where, all_where, nth_where, from_clock, holds_since}
+use Rattle.fsb_count.specs.Clocks.{first_where, last_where, any_where, count_where, all_where, nth_where, from_clock}
+use Rattle.fsb_count.specs.Clocks.{holds_since}
 use Rattle.std.specs.Int.Count.{ones}
 use Rattle.fsb_signal.specs.Samples.{line_at}
 use Rattle.fsb_signal.specs.Parity.{is_address_odd, is_request_odd}
 use Rattle.fsb_encode.specs.Request.{is_lawful_request, are_lawful_fields, high_bit, den_bit, clocks, row_of, pairs_of}
 use Rattle.fsb_encode.specs.Decoded.{req_words, kind_of, read_off, is_pair, is_coded_as, if_coded_as, request_of}
-use Rattle.fsb_trace.specs.At.{Trace, line_back, response_code_at, responds_at, stalls_at, known_pair, known_pair_at, request_at}
-use Rattle.fsb_trace.specs.Winner.{bus_request_of, request_line_of, is_same_agent, is_agent, no_requesters, symmetric_after, then_begun, first_in_order, agent_in_order, asks_in_order, first_asking, last_if_asking, winner_by, winner_after, requesters_before, winner_at, last_agent, last_symmetric, begins_at}
-use Rattle.fsb_trace.specs.Requests.{is_cancelled, seen_at, requests_of, first_clock_of, is_live, live_count, live_clock_of, live_number_of, live_request_of, is_reply_kind, is_write_back_kind, is_upgrade_kind, is_reply, is_write_back, is_upgrade, have_same_id, line_of}
-use Rattle.fsb_trace.specs.Snoop.{is_every_second_from, ends_snoop, snoop_end_from, snoop_end_if, start_after_clock, start_after_end, snoop_end_of, snoop_start_of, is_snoop_clock_of, is_snoop_clock, line_at_snoop_end}
-use Rattle.fsb_trace.specs.Outcome.{does_move, response_code_of, is_deferral, outcome_by_kind, response_clock_of, live_response_of, told_by, outcome_of, moves_data, is_deferred, settled_by, settled_outcome_of, is_settled_deferred}
-use Rattle.fsb_trace.specs.Response.{takes, data_clock_of, end_of, is_clear_before, clock_after_snoop, ready_after, ready_clock_of}
-use Rattle.fsb_trace.specs.Flight.{is_dropped, has_ended, is_in_flight, in_flight, is_reply_to, is_live_reply_to, reply_clock_of, reply_number_of, reply_end_of, last_clock_of, is_finished, is_outstanding, outstanding}
+use Rattle.fsb_trace.specs.At.{Trace, line_back, response_code_at, responds_at, stalls_at, known_pair, known_pair_at}
+use Rattle.fsb_trace.specs.At.{request_at}
+use Rattle.fsb_trace.specs.Winner.{bus_request_of, request_line_of, is_same_agent, is_agent, no_requesters}
+use Rattle.fsb_trace.specs.Winner.{symmetric_after, then_begun, first_in_order, agent_in_order, asks_in_order}
+use Rattle.fsb_trace.specs.Winner.{first_asking, last_if_asking, winner_by, winner_after, requesters_before, winner_at}
+use Rattle.fsb_trace.specs.Winner.{last_agent, last_symmetric, begins_at}
+use Rattle.fsb_trace.specs.Requests.{is_cancelled, seen_at, requests_of, first_clock_of, is_live, live_count}
+use Rattle.fsb_trace.specs.Requests.{live_clock_of, live_number_of, live_request_of, is_reply_kind, is_write_back_kind}
+use Rattle.fsb_trace.specs.Requests.{is_upgrade_kind, is_reply, is_write_back, is_upgrade, have_same_id, line_of}
+use Rattle.fsb_trace.specs.Snoop.{is_every_second_from, ends_snoop, snoop_end_from, snoop_end_if, start_after_clock}
+use Rattle.fsb_trace.specs.Snoop.{start_after_end, snoop_end_of, snoop_start_of, is_snoop_clock_of, is_snoop_clock}
+use Rattle.fsb_trace.specs.Snoop.{line_at_snoop_end}
+use Rattle.fsb_trace.specs.Outcome.{does_move, response_code_of, is_deferral, outcome_by_kind, response_clock_of}
+use Rattle.fsb_trace.specs.Outcome.{live_response_of, told_by, outcome_of, moves_data, is_deferred, settled_by}
+use Rattle.fsb_trace.specs.Outcome.{settled_outcome_of, is_settled_deferred}
+use Rattle.fsb_trace.specs.Response.{takes, data_clock_of, end_of, is_clear_before, clock_after_snoop, ready_after}
+use Rattle.fsb_trace.specs.Response.{ready_clock_of}
+use Rattle.fsb_trace.specs.Flight.{is_dropped, has_ended, is_in_flight, in_flight, is_reply_to, is_live_reply_to}
+use Rattle.fsb_trace.specs.Flight.{reply_clock_of, reply_number_of, reply_end_of, last_clock_of, is_finished}
+use Rattle.fsb_trace.specs.Flight.{is_outstanding, outstanding}
 use Rattle.fsb_trace.specs.Deferral.{answers, is_answered, later_of, is_due, due_at, keeps_pending, is_pending}
-use Rattle.fsb_trace.specs.Rules.{has_unknown_line, is_request_too_soon, is_code_unlawful, is_queue_full, is_request_blocked, has_no_winner, is_own_id, is_identified, is_identity_wrong, is_asked_wrongly, is_some_asked_wrongly, is_lock_alone, is_error_alone, is_snoop_line_alone, is_result_unfit_for, is_snoop_result_unfit, next_response, may_answer, is_response_early, has_den, is_code_for, responds_soundly, has_code_at, is_code_wrong, is_ready_in_time, is_ready_wrongly, is_target_ready_wrong, is_transferring_of, is_transferring, is_data_wrong, has_unknown_data, awaits_reply, is_id_taken_by, is_outstanding_of_winner, is_begun_wrongly, is_outstanding_wrong, has_parity_at, is_address_parity_wrong, is_request_parity_wrong, is_marked_address_wrong, is_marked_request_wrong, phase_rules, breaks}
+use Rattle.fsb_trace.specs.Rules.{has_unknown_line, is_request_too_soon, is_code_unlawful, is_queue_full}
+use Rattle.fsb_trace.specs.Rules.{is_request_blocked, has_no_winner, is_own_id, is_identified, is_identity_wrong}
+use Rattle.fsb_trace.specs.Rules.{is_asked_wrongly, is_some_asked_wrongly, is_lock_alone, is_error_alone}
+use Rattle.fsb_trace.specs.Rules.{is_snoop_line_alone, is_result_unfit_for, is_snoop_result_unfit, next_response}
+use Rattle.fsb_trace.specs.Rules.{may_answer, is_response_early, has_den, is_code_for, responds_soundly, has_code_at}
+use Rattle.fsb_trace.specs.Rules.{is_code_wrong, is_ready_in_time, is_ready_wrongly, is_target_ready_wrong}
+use Rattle.fsb_trace.specs.Rules.{is_transferring_of, is_transferring, is_data_wrong, has_unknown_data, awaits_reply}
+use Rattle.fsb_trace.specs.Rules.{is_id_taken_by, is_outstanding_of_winner, is_begun_wrongly, is_outstanding_wrong}
+use Rattle.fsb_trace.specs.Rules.{has_parity_at, is_address_parity_wrong, is_request_parity_wrong}
+use Rattle.fsb_trace.specs.Rules.{is_marked_address_wrong, is_marked_request_wrong, phase_rules, breaks}
 use Rattle.fsb_trace.specs.Verdict.{is_broken, least_rule, breaks_a_rule, verdict}
 use Rattle.fsb_trace.proofs.LaidOut.{no_marks, clock, idle}
 
@@ -322,7 +346,8 @@ locked_increments =
 
 abbrev pub locked_increments-says : Type 0
 locked_increments-says =
-    (all_where (line_at LOCK locked_increments) 60 ≡ 2 ∷ 3 ∷ 4 ∷ 5 ∷ 6 ∷ 7 ∷ 8 ∷ 9 ∷ 10 ∷ 11 ∷ 14 ∷ 15 ∷ 16 ∷ 17 ∷ 18 ∷ 19 ∷ 20 ∷ 21 ∷ 22 ∷ 23 ∷ 24 ∷ 25 ∷ [])
+    (all_where (line_at LOCK locked_increments) 60 ≡ 2 ∷ 3 ∷ 4 ∷ 5 ∷ 6 ∷ 7 ∷ 8 ∷ 9 ∷ 10 ∷ 11 ∷ 14 ∷ 15 ∷ 16 ∷ 17
+    ∷ 18 ∷ 19 ∷ 20 ∷ 21 ∷ 22 ∷ 23 ∷ 24 ∷ 25 ∷ [])
     × (live_clock_of locked_increments 0 ≡ Some 2)
     × (snoop_end_of locked_increments 0 ≡ Some 6)
     × (response_clock_of locked_increments 0 ≡ Some 8)
@@ -473,8 +498,10 @@ unfolding is_some_and is_before is_at greater_of first_where last_where any_wher
     from_clock holds_since line_at is_lawful_request are_lawful_fields high_bit den_bit clocks row_of pairs_of
     req_words kind_of read_off is_pair is_coded_as if_coded_as request_of line_back response_code_at responds_at
     stalls_at known_pair known_pair_at request_at bus_request_of request_line_of is_same_agent is_agent no_requesters
-    symmetric_after then_begun first_in_order agent_in_order asks_in_order first_asking last_if_asking winner_by winner_after
-    requesters_before winner_at last_agent last_symmetric begins_at is_cancelled seen_at requests_of first_clock_of is_live
+    symmetric_after then_begun first_in_order agent_in_order asks_in_order first_asking last_if_asking winner_by
+    winner_after
+    requesters_before winner_at last_agent last_symmetric begins_at is_cancelled seen_at requests_of
+    first_clock_of is_live
     live_count live_clock_of live_number_of live_request_of is_reply_kind is_write_back_kind
     is_upgrade_kind is_reply is_write_back is_upgrade
     have_same_id line_of is_every_second_from ends_snoop snoop_end_from snoop_end_if start_after_clock start_after_end
@@ -492,4 +519,62 @@ unfolding is_some_and is_before is_at greater_of first_where last_where any_wher
     is_address_parity_wrong is_request_parity_wrong is_marked_address_wrong is_marked_request_wrong is_address_odd
     is_request_odd ones phase_rules breaks
     is_broken least_rule breaks_a_rule verdict
-rows_hold = ((refl, refl, refl, refl, refl, refl, refl, refl, refl), (refl, refl, refl, refl, refl, refl, refl, refl, refl, refl, refl, refl, refl, refl), (refl, refl, refl, refl, refl, refl, refl, refl, refl, refl, refl, refl, refl, refl, refl), (refl, refl, refl, refl, refl, refl, refl, refl, refl), (refl, refl, refl, refl, refl, refl, refl, refl, refl, refl, refl, refl), (refl, refl, refl, refl, refl, refl, refl, refl, refl, refl, refl, refl, refl, refl, refl, refl, refl, refl, refl, refl, refl, refl, refl, refl, refl, refl, refl, refl, refl, refl, refl, refl, refl, refl, refl, refl, refl, refl, refl, refl, refl, refl, refl, refl, refl), (refl, refl, refl, refl, refl, refl, refl, refl, refl, refl, refl, refl, refl, refl, refl, refl), (refl, refl, refl, refl, refl, refl, refl, refl, refl, refl, refl, refl, refl, refl, refl, refl), (refl, refl), (refl, refl), (refl, refl))
+rows_hold = (
+  (refl, refl, refl, refl, refl, refl, refl, refl, refl),
+  (refl, refl, refl, refl, refl, refl, refl, refl, refl, refl, refl, refl, refl, refl),
+  (refl, refl, refl, refl, refl, refl, refl, refl, refl, refl, refl, refl, refl, refl, refl),
+  (refl, refl, refl, refl, refl, refl, refl, refl, refl),
+  (refl, refl, refl, refl, refl, refl, refl, refl, refl, refl, refl, refl),
+  (
+    refl,
+    refl,
+    refl,
+    refl,
+    refl,
+    refl,
+    refl,
+    refl,
+    refl,
+    refl,
+    refl,
+    refl,
+    refl,
+    refl,
+    refl,
+    refl,
+    refl,
+    refl,
+    refl,
+    refl,
+    refl,
+    refl,
+    refl,
+    refl,
+    refl,
+    refl,
+    refl,
+    refl,
+    refl,
+    refl,
+    refl,
+    refl,
+    refl,
+    refl,
+    refl,
+    refl,
+    refl,
+    refl,
+    refl,
+    refl,
+    refl,
+    refl,
+    refl,
+    refl,
+    refl,
+  ),
+  (refl, refl, refl, refl, refl, refl, refl, refl, refl, refl, refl, refl, refl, refl, refl, refl),
+  (refl, refl, refl, refl, refl, refl, refl, refl, refl, refl, refl, refl, refl, refl, refl, refl),
+  (refl, refl),
+  (refl, refl),
+  (refl, refl),
+)

@@ -3,7 +3,12 @@ use Rattle.std.proofs.Common.{ℕ, zero, suc, ◌<◌, ◌≡◌, ◌&&◌, fals
 use Rattle.std.proofs.lemmas.Option.{slice_get_past}
 use Rattle.fsb_signal.specs.declared.marks.Marks.{Marks}
 use Rattle.fsb_trace.specs.At.{Trace}
-use Rattle.fsb_trace.specs.Rules.{phase_rules, breaks, has_unknown_line, is_request_too_soon, is_code_unlawful, is_queue_full, is_request_blocked, has_no_winner, is_identity_wrong, is_some_asked_wrongly, is_lock_alone, is_error_alone, is_snoop_line_alone, is_snoop_result_unfit, is_response_early, is_code_wrong, is_target_ready_wrong, is_data_wrong, has_unknown_data, is_outstanding_wrong, is_address_parity_wrong, is_request_parity_wrong, is_marked_address_wrong, is_marked_request_wrong}
+use Rattle.fsb_trace.specs.Rules.{phase_rules, breaks, has_unknown_line, is_request_too_soon, is_code_unlawful}
+use Rattle.fsb_trace.specs.Rules.{is_queue_full, is_request_blocked, has_no_winner, is_identity_wrong}
+use Rattle.fsb_trace.specs.Rules.{is_some_asked_wrongly, is_lock_alone, is_error_alone, is_snoop_line_alone}
+use Rattle.fsb_trace.specs.Rules.{is_snoop_result_unfit, is_response_early, is_code_wrong, is_target_ready_wrong}
+use Rattle.fsb_trace.specs.Rules.{is_data_wrong, has_unknown_data, is_outstanding_wrong, is_address_parity_wrong}
+use Rattle.fsb_trace.specs.Rules.{is_request_parity_wrong, is_marked_address_wrong, is_marked_request_wrong}
 
 pub breaks-1 : (m : Marks) (v : Trace) (c : ℕ) → breaks m v c 1 ≡ has_unknown_line v c
 unfolding breaks phase_rules
@@ -95,4 +100,27 @@ unfolding breaks phase_rules
 breaks-past m v c zero l = absurd (omega arith)
 breaks-past m v c (suc j) l = rw (slice_get_past (phase_rules m) j (omega arith), breaks) refl
 
-pub ruleset rule_steps = (breaks-none, breaks-past, breaks-1, breaks-2, breaks-3, breaks-4, breaks-5, breaks-6, breaks-7, breaks-8, breaks-9, breaks-10, breaks-11, breaks-12, breaks-13, breaks-14, breaks-15, breaks-16, breaks-17, breaks-18, breaks-19, breaks-20)
+pub ruleset rule_steps = (
+  breaks-none,
+  breaks-past,
+  breaks-1,
+  breaks-2,
+  breaks-3,
+  breaks-4,
+  breaks-5,
+  breaks-6,
+  breaks-7,
+  breaks-8,
+  breaks-9,
+  breaks-10,
+  breaks-11,
+  breaks-12,
+  breaks-13,
+  breaks-14,
+  breaks-15,
+  breaks-16,
+  breaks-17,
+  breaks-18,
+  breaks-19,
+  breaks-20,
+)

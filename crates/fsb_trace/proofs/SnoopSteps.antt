@@ -7,7 +7,8 @@ pub snoop_end_of-first : (w : Trace) → snoop_end_of w 0 ≡ snoop_end_if w (st
 unfolding snoop_end_of
 snoop_end_of-first w = refl
 
-pub snoop_end_of-next : (w : Trace) (i : ℕ) → snoop_end_of w (i + 1) ≡ snoop_end_if w (start_after_end w (i + 1) (snoop_end_of w i))
+pub snoop_end_of-next : (w : Trace) (i : ℕ)
+    → snoop_end_of w (i + 1) ≡ snoop_end_if w (start_after_end w (i + 1) (snoop_end_of w i))
 unfolding snoop_end_of
 snoop_end_of-next w i = rw add-one refl
 
@@ -19,7 +20,8 @@ snoop_start_of-next : (w : Trace) (i : ℕ) → snoop_start_of w (i + 1) ≡ sta
 unfolding snoop_start_of
 snoop_start_of-next w i = rw add-one refl
 
-pub snoop_start_of-after : (w : Trace) (i : ℕ) → 0 < i → snoop_start_of w i ≡ start_after_end w i (snoop_end_of w (i - 1))
+pub snoop_start_of-after : (w : Trace) (i : ℕ) → 0 < i
+    → snoop_start_of w i ≡ start_after_end w i (snoop_end_of w (i - 1))
 snoop_start_of-after w i l =
     let e : i - 1 + 1 ≡ i = omega arith in rw e at (snoop_start_of-next w (i - 1))
 

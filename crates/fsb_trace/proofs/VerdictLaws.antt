@@ -1,5 +1,6 @@
 -- What a verdict says, and that it rests on the samples up to its clock.
-use Rattle.std.proofs.Common.{ℕ, ◌+◌, ◌<◌, ◌≡◌, true, false, Option, Some, None, is_some, length, nat_lt, refl, sym, ap, ◌∙◌, arith, inl, inr}
+use Rattle.std.proofs.Common.{ℕ, ◌+◌, ◌<◌, ◌≡◌, true, false, Option, Some, None, is_some, length, nat_lt, refl, sym, ap}
+use Rattle.std.proofs.Common.{◌∙◌, arith, inl, inr}
 use Rattle.std.specs.Option.{option_and_then, option_map}
 use Rattle.std.proofs.lemmas.Bool.{cases_Bool, lt-ltb, ltb-true}
 use Rattle.std.proofs.lemmas.Option.{some_pair_parts}
@@ -13,7 +14,8 @@ use Rattle.fsb_trace.proofs.AgreeAt.{take-agree, AgreeTo-less}
 
 -- a clock of both traces
 pub is_clock-agree : (w v : Trace) (c : ℕ) → AgreeTo (c + 1) w v → nat_lt c (length w) ≡ nat_lt c (length v)
-is_clock-agree w v c a = lt-ltb c (length w) (omega (arith, a.left)) ∙ sym (lt-ltb c (length v) (omega (arith, a.right)))
+is_clock-agree w v c a = lt-ltb c (length w) (omega (arith, a.left))
+    ∙ sym (lt-ltb c (length v) (omega (arith, a.right)))
 
 pub is_broken-agree : (m : Marks) (w v : Trace) (c j : ℕ) → AgreeTo (c + 1) w v → is_broken m w c j ≡ is_broken m v c j
 unfolding is_broken
@@ -21,41 +23,52 @@ is_broken-agree m w v c j a = rw (is_clock-agree w v c a, take-agree (c + 1) w v
 
 pub least_rule-agree : (m : Marks) (w v : Trace) (c : ℕ) → AgreeTo (c + 1) w v → least_rule m w c ≡ least_rule m v c
 unfolding least_rule
-least_rule-agree m w v c a = first_where-same (is_broken m w c) (is_broken m v c) 21 (record { same = λ j l. is_broken-agree m w v c j a })
+least_rule-agree m w v c a = first_where-same (is_broken m w c) (is_broken m v c) 21
+    (record { same = λ j l. is_broken-agree m w v c j a })
 
-pub breaks_a_rule-agree : (m : Marks) (w v : Trace) (c : ℕ) → AgreeTo (c + 1) w v → breaks_a_rule m w c ≡ breaks_a_rule m v c
+pub breaks_a_rule-agree : (m : Marks) (w v : Trace) (c : ℕ) → AgreeTo (c + 1) w v
+    → breaks_a_rule m w c ≡ breaks_a_rule m v c
 unfolding breaks_a_rule
 breaks_a_rule-agree m w v c a = ap (λ o. is_some o) (least_rule-agree m w v c a)
 
-rule : (m : Marks) (w : Trace) (c j d : ℕ) (o : Option ℕ) → first_where (breaks_a_rule m w) (length w) ≡ Some d → least_rule m w d ≡ o → option_map {U = ℕ × ℕ} (λ k. (d, k)) o ≡ Some (c, j) → (first_where (breaks_a_rule m w) (length w) ≡ Some c) × (least_rule m w c ≡ Some j)
+rule : (m : Marks) (w : Trace) (c j d : ℕ) (o : Option ℕ) → first_where (breaks_a_rule m w) (length w) ≡ Some d
+    → least_rule m w d ≡ o → option_map {U = ℕ × ℕ} (λ k. (d, k)) o ≡ Some (c, j)
+    → (first_where (breaks_a_rule m w) (length w) ≡ Some c) × (least_rule m w c ≡ Some j)
 rule m w c j d None e f h = absurd (let no : ⊥ = cc in no)
 rule m w c j d (Some k) e f h =
     let p = some_pair_parts d c k j h in
     (e ∙ ap (λ x. Some x) p.0, ap (least_rule m w) (sym p.0) ∙ f ∙ ap (λ x. Some x) p.1)
 
-parts : (m : Marks) (w : Trace) (c j : ℕ) (o : Option ℕ) → first_where (breaks_a_rule m w) (length w) ≡ o → option_and_then (λ d. option_map {U = ℕ × ℕ} (λ k. (d, k)) (least_rule m w d)) o ≡ Some (c, j) → (first_where (breaks_a_rule m w) (length w) ≡ Some c) × (least_rule m w c ≡ Some j)
+parts : (m : Marks) (w : Trace) (c j : ℕ) (o : Option ℕ) → first_where (breaks_a_rule m w) (length w) ≡ o
+    → option_and_then (λ d. option_map {U = ℕ × ℕ} (λ k. (d, k)) (least_rule m w d)) o ≡ Some (c, j)
+    → (first_where (breaks_a_rule m w) (length w) ≡ Some c) × (least_rule m w c ≡ Some j)
 parts m w c j None e h = absurd (let no : ⊥ = cc in no)
 parts m w c j (Some d) e h = rule m w c j d (least_rule m w d) e refl h
 
 -- a verdict is the first foul clock and its least rule
-pub verdict-parts : (m : Marks) (w : Trace) (c j : ℕ) → verdict m w ≡ Some (c, j) → (first_where (breaks_a_rule m w) (length w) ≡ Some c) × (least_rule m w c ≡ Some j)
+pub verdict-parts : (m : Marks) (w : Trace) (c j : ℕ) → verdict m w ≡ Some (c, j)
+    → (first_where (breaks_a_rule m w) (length w) ≡ Some c) × (least_rule m w c ≡ Some j)
 unfolding verdict
 verdict-parts m w c j e = parts m w c j (first_where (breaks_a_rule m w) (length w)) refl e
 
-pub verdict-from_parts : (m : Marks) (w : Trace) (c j : ℕ) → first_where (breaks_a_rule m w) (length w) ≡ Some c → least_rule m w c ≡ Some j → verdict m w ≡ Some (c, j)
+pub verdict-from_parts : (m : Marks) (w : Trace) (c j : ℕ) → first_where (breaks_a_rule m w) (length w) ≡ Some c
+    → least_rule m w c ≡ Some j → verdict m w ≡ Some (c, j)
 unfolding verdict
 verdict-from_parts m w c j e f = rw (e, f) refl
 
 -- a verdict stays
-pub verdict-stays : (n : ℕ) (m : Marks) (w v : Trace) (c j : ℕ) → AgreeTo n w v → c < n → verdict m w ≡ Some (c, j) → verdict m v ≡ Some (c, j)
+pub verdict-stays : (n : ℕ) (m : Marks) (w v : Trace) (c j : ℕ) → AgreeTo n w v → c < n
+    → verdict m w ≡ Some (c, j) → verdict m v ≡ Some (c, j)
 verdict-stays n m w v c j a l e =
     let p = verdict-parts m w c j e in
     verdict-from_parts m v c j
     (first_where-carried (breaks_a_rule m w) (breaks_a_rule m v) (length w) (length v) c
-    (record { same = λ d k. breaks_a_rule-agree m w v d (AgreeTo-less n (d + 1) w v (omega arith) a) }) (omega (arith, a.right)) p.0)
+    (record { same = λ d k. breaks_a_rule-agree m w v d (AgreeTo-less n (d + 1) w v (omega arith) a) })
+    (omega (arith, a.right)) p.0)
     (sym (least_rule-agree m w v c (AgreeTo-less n (c + 1) w v (omega arith) a)) ∙ p.1)
 
-not_foul : (m : Marks) (w : Trace) (c : ℕ) (o : Option ℕ) → least_rule m w c ≡ o → is_some o ≡ false → least_rule m w c ≡ None
+not_foul : (m : Marks) (w : Trace) (c : ℕ) (o : Option ℕ) → least_rule m w c ≡ o → is_some o ≡ false
+    → least_rule m w c ≡ None
 not_foul m w c None e f = e
 not_foul m w c (Some j) e f = absurd (let no : ⊥ = cc in no)
 
@@ -65,7 +78,9 @@ unfolding breaks_a_rule least_rule
 unbroken m w c j f l = first_where-none (is_broken m w c) 21 (not_foul m w c (least_rule m w c) refl f) j l
 
 -- a verdict names a broken rule; no rule before it is broken there, and none at a clock before
-pub verdict-least : (m : Marks) (w : Trace) (c j : ℕ) → verdict m w ≡ Some (c, j) → (c < length w) × (is_broken m w c j ≡ true) × ((k : ℕ) → k < j → is_broken m w c k ≡ false) × ((d k : ℕ) → d < c → k < 21 → is_broken m w d k ≡ false)
+pub verdict-least : (m : Marks) (w : Trace) (c j : ℕ) → verdict m w ≡ Some (c, j)
+    → (c < length w) × (is_broken m w c j ≡ true) × ((k : ℕ) → k < j → is_broken m w c k ≡ false)
+    × ((d k : ℕ) → d < c → k < 21 → is_broken m w d k ≡ false)
 unfolding least_rule
 verdict-least m w c j e =
     let p = verdict-parts m w c j e in
@@ -73,11 +88,14 @@ verdict-least m w c j e =
     let least = first_where-found (is_broken m w c) 21 j p.1 in
     (clock.0, least.1, least.2, λ d k l below. unbroken m w d k (clock.2 d l) below)
 
-fouled : (m : Marks) (w : Trace) (c : ℕ) (o : Option ℕ) → first_where (breaks_a_rule m w) (length w) ≡ Some c → is_some o ≡ true → least_rule m w c ≡ o → verdict m w ≡ None → ⊥
+fouled : (m : Marks) (w : Trace) (c : ℕ) (o : Option ℕ) → first_where (breaks_a_rule m w) (length w) ≡ Some c
+    → is_some o ≡ true → least_rule m w c ≡ o → verdict m w ≡ None → ⊥
 fouled m w c None e t f h = let no : ⊥ = cc in no
-fouled m w c (Some j) e t f h = let there : verdict m w ≡ Some (c, j) = verdict-from_parts m w c j e f in let no : ⊥ = cc in no
+fouled m w c (Some j) e t f h = let there : verdict m w ≡ Some (c, j) = verdict-from_parts m w c j e f in
+    let no : ⊥ = cc in no
 
-no_foul : (m : Marks) (w : Trace) (o : Option ℕ) → first_where (breaks_a_rule m w) (length w) ≡ o → verdict m w ≡ None → first_where (breaks_a_rule m w) (length w) ≡ None
+no_foul : (m : Marks) (w : Trace) (o : Option ℕ) → first_where (breaks_a_rule m w) (length w) ≡ o
+    → verdict m w ≡ None → first_where (breaks_a_rule m w) (length w) ≡ None
 unfolding breaks_a_rule
 no_foul m w None e h = e
 no_foul m w (Some c) e h =

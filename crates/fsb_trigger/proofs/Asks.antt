@@ -23,22 +23,29 @@ both_there lines a b p q =
     let either = bit_at_or a b i in
     omega (arith, one, two, all, either))
 
-one_there : (s : Sample) (test : Test) → test_holds s test ≡ true → bit_and s.lines.0 (asked_line test) ≡ asked_line test
+one_there : (s : Sample) (test : Test) → test_holds s test ≡ true
+    → bit_and s.lines.0 (asked_line test) ≡ asked_line test
 unfolding test_holds
-one_there s (Asserted line) e = eqb-true (bit_and s.lines.0 line.0) line.0 (and_parts (not (has_unknown s line)) (has_line s line) e).1
+one_there s (Asserted line) e = eqb-true (bit_and s.lines.0 line.0) line.0
+    (and_parts (not (has_unknown s line)) (has_line s line) e).1
 one_there s (NotAsserted line) e = and_zero_r s.lines.0
 one_there s (Request bits) e = and_zero_r s.lines.0
 one_there s (Address bits) e = and_zero_r s.lines.0
 one_there s (Data bits) e = and_zero_r s.lines.0
 
-all_there : (s : Sample) (lines : ℕ) (tests : List Test) → bit_and s.lines.0 lines ≡ lines → list_all (test_holds s) tests ≡ true → bit_and s.lines.0 (fold (λ lines test. bit_or lines (asked_line test)) lines tests) ≡ fold (λ lines test. bit_or lines (asked_line test)) lines tests
+all_there : (s : Sample) (lines : ℕ) (tests : List Test) → bit_and s.lines.0 lines ≡ lines
+    → list_all (test_holds s) tests ≡ true
+    → bit_and s.lines.0 (fold (λ lines test. bit_or lines (asked_line test)) lines tests)
+    ≡ fold (λ lines test. bit_or lines (asked_line test)) lines tests
 all_there s lines [] p e = p
 all_there s lines (test ∷ tests) p e =
     let parts = and_parts (test_holds s test) (list_all (test_holds s) tests) e in
-    all_there s (bit_or lines (asked_line test)) tests (both_there s.lines.0 lines (asked_line test) p (one_there s test parts.0)) parts.1
+    all_there s (bit_or lines (asked_line test)) tests
+    (both_there s.lines.0 lines (asked_line test) p (one_there s test parts.0)) parts.1
 
 -- where a line lacks that they ask for, not all of the tests hold
-pub lacks : (s : Sample) (tests : List Test) (lines : ℕ) → lines ≡ asked_lines tests → (bit_and s.lines.0 lines == lines) ≡ false → false ≡ list_all (test_holds s) tests
+pub lacks : (s : Sample) (tests : List Test) (lines : ℕ) → lines ≡ asked_lines tests
+    → (bit_and s.lines.0 lines == lines) ≡ false → false ≡ list_all (test_holds s) tests
 lacks s tests lines asked lack =
     elim (cases_Bool (list_all (test_holds s) tests)) [
       | inl t ↦

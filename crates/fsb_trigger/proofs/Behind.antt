@@ -1,5 +1,7 @@
 -- A list of parts, read one behind the other.
-use Rattle.std.proofs.Common.{◌≡◌, ◌+◌, ℕ, suc, true, false, cond, Option, Some, None, option_map, option_and_then, List, [], ◌∷◌, ◌++◌, length, map, nat_lt, nat_le, refl, sym, ap, ◌∙◌, inl, inr, arith, append_assoc}
+use Rattle.std.proofs.Common.{◌≡◌, ◌+◌, ℕ, suc, true, false, cond, Option, Some, None, option_map, option_and_then}
+use Rattle.std.proofs.Common.{List, [], ◌∷◌, ◌++◌, length, map, nat_lt, nat_le, refl, sym, ap, ◌∙◌, inl, inr, arith}
+use Rattle.std.proofs.Common.{append_assoc}
 use Rattle.std.proofs.lemmas.Bool.{cases_Bool}
 use Rattle.std.proofs.lemmas.Bool.Decides.{nat_tests}
 use Rattle.std.proofs.lemmas.List.{length-append}
@@ -34,7 +36,8 @@ module _ {X : Type 0} where
         | inr f ↦ over xs x more f
       ]
 
-  whole-some : (xs ys : List X) (one : Option X) (more : Option (List X)) → onto xs one ≡ Some ys → whole xs one more ≡ option_and_then up_to_eight (option_map (λ more. ys ++ more) more)
+  whole-some : (xs ys : List X) (one : Option X) (more : Option (List X)) → onto xs one ≡ Some ys
+      → whole xs one more ≡ option_and_then up_to_eight (option_map (λ more. ys ++ more) more)
   unfolding onto whole both
   whole-some xs ys None more e =
       elim (cases_Bool (nat_lt (length xs) 8)) [
@@ -64,24 +67,29 @@ module _ {X : Type 0} where
       ]
 
   -- the first part is not read
-  pub list_behind-none : (read : List ℕ → Option X) (xs : List X) (p : List ℕ) (ps : List (List ℕ)) → next_of read xs p ≡ None → list_behind read xs (p ∷ ps) ≡ None
+  pub list_behind-none : (read : List ℕ → Option X) (xs : List X) (p : List ℕ) (ps : List (List ℕ))
+      → next_of read xs p ≡ None → list_behind read xs (p ∷ ps) ≡ None
   unfolding next_of all_there onto whole
   list_behind-none read xs p ps e = whole-none xs (read p) (all_there (map read ps)) e
 
   -- the first part is read
-  pub list_behind-some : (read : List ℕ → Option X) (xs ys : List X) (p : List ℕ) (ps : List (List ℕ)) → next_of read xs p ≡ Some ys → list_behind read xs (p ∷ ps) ≡ list_behind read ys ps
+  pub list_behind-some : (read : List ℕ → Option X) (xs ys : List X) (p : List ℕ) (ps : List (List ℕ))
+      → next_of read xs p ≡ Some ys → list_behind read xs (p ∷ ps) ≡ list_behind read ys ps
   unfolding next_of all_there onto whole
   list_behind-some read xs ys p ps e = whole-some xs ys (read p) (all_there (map read ps)) e
 
   -- the last part
-  pub list_behind-last : (read : List ℕ → Option X) (xs : List X) (p : List ℕ) → next_of read xs p ≡ list_behind read xs (p ∷ [])
+  pub list_behind-last : (read : List ℕ → Option X) (xs : List X) (p : List ℕ)
+      → next_of read xs p ≡ list_behind read xs (p ∷ [])
   unfolding next_of all_there onto whole
   list_behind-last read xs p = whole-last xs (read p)
 
-  same : (more : Option (List X)) → option_and_then up_to_eight (option_map (λ more. [] ++ more) more) ≡ option_and_then up_to_eight more
+  same : (more : Option (List X))
+      → option_and_then up_to_eight (option_map (λ more. [] ++ more) more) ≡ option_and_then up_to_eight more
   same None = refl
   same (Some more) = refl
 
   -- nothing was read before
-  pub list_behind-begins : (read : List ℕ → Option X) (ps : List (List ℕ)) → list_behind read [] ps ≡ option_and_then up_to_eight (all_there (map read ps))
+  pub list_behind-begins : (read : List ℕ → Option X) (ps : List (List ℕ))
+      → list_behind read [] ps ≡ option_and_then up_to_eight (all_there (map read ps))
   list_behind-begins read ps = same (all_there (map read ps))

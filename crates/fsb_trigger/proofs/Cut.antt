@@ -1,5 +1,6 @@
 -- A text cut at a byte.
-use Rattle.std.proofs.Common.{◌≡◌, ◌≢◌, ◌<◌, ◌+◌, ℕ, suc, Option, Some, None, List, [], ◌∷◌, ◌++◌, Bor, IfSome, MatchOption, length, get_or, option_map, refl, sym, ap, ◌∙◌, inl, inr, arith, eqb, ne_eqb}
+use Rattle.std.proofs.Common.{◌≡◌, ◌≢◌, ◌<◌, ◌+◌, ℕ, suc, Option, Some, None, List, [], ◌∷◌, ◌++◌, Bor, IfSome}
+use Rattle.std.proofs.Common.{MatchOption, length, get_or, option_map, refl, sym, ap, ◌∙◌, inl, inr, arith, eqb, ne_eqb}
 use Rattle.std.specs.Option.{option_map_or}
 use Rattle.std.proofs.lemmas.Bool.{cases_Bool, eq-eqb}
 use Rattle.std.proofs.lemmas.List.{length-append}
@@ -24,14 +25,19 @@ cut_of-none c (x ∷ xs) h =
     (ap (option_map (λ cut. (x ∷ cut.0, cut.1))) (cut_of-none c xs (λ i less. h (suc i) (omega (arith, less)))))
 
 -- what cutting at an ASCII character gives
-pub cut_is : (c : ℕ) (bs : List ℕ) (r : Option (Bor (List ℕ) × Bor (List ℕ))) → MatchOption r (Lacks c bs) (λ x. (bs ≡ x.0.now ++ (c ∷ x.1.now)) × Lacks c x.0.now) → (option_map (λ cut. (cut.0.now, cut.1.now)) r ≡ cut_of c bs) × IfSome r (λ cut. length cut.1.now < length bs)
+pub cut_is : (c : ℕ) (bs : List ℕ) (r : Option (Bor (List ℕ) × Bor (List ℕ)))
+    → MatchOption r (Lacks c bs) (λ x. (bs ≡ x.0.now ++ (c ∷ x.1.now)) × Lacks c x.0.now)
+    → (option_map (λ cut. (cut.0.now, cut.1.now)) r ≡ cut_of c bs) × IfSome r (λ cut. length cut.1.now < length bs)
 cut_is c bs None h = (sym (cut_of-none c bs h), tt)
 cut_is c bs (Some x) (e, lacks) =
-    let long : length bs ≡ length x.0.now + suc (length x.1.now) = ap (λ l. length l) e ∙ length-append x.0.now (c ∷ x.1.now) in
+    let long : length bs ≡ length x.0.now + suc (length x.1.now) = ap (λ l. length l) e
+    ∙ length-append x.0.now (c ∷ x.1.now) in
     (sym (ap (cut_of c) e ∙ cut_of-there c x.0.now x.1.now lacks), omega (arith, long))
 
 -- the first byte taken off
-pub behind_is : (c : ℕ) (bs : List ℕ) (r : Option (Bor (List ℕ))) → MatchOption r ((rest : List ℕ) → bs ≢ c ∷ rest) (λ x. bs ≡ c ∷ x.now) → option_map (λ rest. rest.now) r ≡ behind_first c bs
+pub behind_is : (c : ℕ) (bs : List ℕ) (r : Option (Bor (List ℕ)))
+    → MatchOption r ((rest : List ℕ) → bs ≢ c ∷ rest) (λ x. bs ≡ c ∷ x.now)
+    → option_map (λ rest. rest.now) r ≡ behind_first c bs
 unfolding behind_first
 behind_is c [] None h = refl
 behind_is c (b ∷ bs) None h = rw (ne_eqb b c (λ e. h bs (ap (λ y. y ∷ bs) e))) refl
@@ -41,7 +47,8 @@ behind_is c bs (Some x) e = sym (ap (behind_first c) e ∙ rw (eq-eqb c c refl) 
 abbrev pub parts_by : ℕ → List ℕ → Option (List ℕ × List ℕ) → List (List ℕ)
 parts_by c text cut = option_map_or (λ cut. cut.0 ∷ parts c cut.1) cut (text ∷ [])
 
-onto : (c x : ℕ) (xs : List ℕ) (cut : Option (List ℕ × List ℕ)) → parts c xs ≡ parts_by c xs cut → onto_first x (parts c xs) ≡ parts_by c (x ∷ xs) (option_map (λ cut. (x ∷ cut.0, cut.1)) cut)
+onto : (c x : ℕ) (xs : List ℕ) (cut : Option (List ℕ × List ℕ)) → parts c xs ≡ parts_by c xs cut
+    → onto_first x (parts c xs) ≡ parts_by c (x ∷ xs) (option_map (λ cut. (x ∷ cut.0, cut.1)) cut)
 unfolding onto_first
 onto c x xs None e = ap (onto_first x) e
 onto c x xs (Some cut) e = ap (onto_first x) e
@@ -56,7 +63,8 @@ parts-cut c (x ∷ xs) =
     ]
 
 -- the first part, where there is a cut
-pub parts-some : (c : ℕ) (text front back : List ℕ) → Some (front, back) ≡ cut_of c text → parts c text ≡ front ∷ parts c back
+pub parts-some : (c : ℕ) (text front back : List ℕ) → Some (front, back) ≡ cut_of c text
+    → parts c text ≡ front ∷ parts c back
 parts-some c text front back e = parts-cut c text ∙ ap (parts_by c text) (sym e)
 
 -- the only part, where there is none

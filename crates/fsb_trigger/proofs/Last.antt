@@ -1,5 +1,6 @@
 -- The last clock that passes, where a later clock only passes a second test the more.
-use Rattle.std.proofs.Common.{◌≡◌, ◌<◌, ◌≤◌, ◌&&◌, ℕ, zero, suc, Bool, true, false, cond, Some, refl, sym, ap, ◌∙◌, inl, inr, arith}
+use Rattle.std.proofs.Common.{◌≡◌, ◌<◌, ◌≤◌, ◌&&◌, ℕ, zero, suc, Bool, true, false, cond, Some, refl, sym, ap, ◌∙◌, inl}
+use Rattle.std.proofs.Common.{inr, arith}
 use Rattle.std.specs.Option.{option_map_or}
 use Rattle.std.proofs.lemmas.Bool.{cases_Bool, and_parts}
 use Rattle.fsb_count.specs.Clocks.{any_where, last_where}
@@ -29,8 +30,10 @@ unfolding last_where
 last_where-found p zero d e = absurd (let no : ⊥ = cc in no)
 last_where-found p (suc n) d e =
     elim (cases_Bool (p n)) [
-      | inl t ↦ (let here : n ≡ d = (let s : Some n ≡ Some d = sym (last_step p n true t) ∙ e in cc) in (omega (arith, here), ap p (sym here) ∙ t))
-      | inr f ↦ (let before = last_where-found p n d (sym (last_step p n false f) ∙ e) in (omega (arith, before.0), before.1))
+      | inl t ↦ (let here : n ≡ d = (let s : Some n ≡ Some d = sym (last_step p n true t) ∙ e in cc) in
+          (omega (arith, here), ap p (sym here) ∙ t))
+      | inr f ↦ (let before = last_where-found p n d (sym (last_step p n false f) ∙ e) in
+          (omega (arith, before.0), before.1))
     ]
 
 any_step : (p : ℕ → Bool) (n : ℕ) (b : Bool) → any_where p n ≡ b → any_where p (suc n) ≡ cond b true (p n)
@@ -38,7 +41,8 @@ unfolding any_where
 any_step p n b e = by_newest (any_where p n) b true (p n) e
 
 -- some clock passes both where the last one that passes the first does
-pub any-last : (p q : ℕ → Bool) (n : ℕ) → ((d e : ℕ) → d ≤ e → q d ≡ true → q e ≡ true) → any_where (λ d. p d && q d) n ≡ option_map_or q (last_where p n) false
+pub any-last : (p q : ℕ → Bool) (n : ℕ) → ((d e : ℕ) → d ≤ e → q d ≡ true → q e ≡ true)
+    → any_where (λ d. p d && q d) n ≡ option_map_or q (last_where p n) false
 unfolding any_where last_where
 any-last p q zero later = refl
 any-last p q (suc n) later =
@@ -51,10 +55,12 @@ any-last p q (suc n) later =
             any_step both n true some ∙ sym (later found.0 n (omega (arith, found.1)) parts.1)
             ∙ sym (ap (λ o. option_map_or q o false) (last_step p n true t)))
         | inr f ↦
-            any_step both n true some ∙ sym some ∙ any-last p q n later ∙ sym (ap (λ o. option_map_or q o false) (last_step p n false f))
+            any_step both n true some ∙ sym some ∙ any-last p q n later
+            ∙ sym (ap (λ o. option_map_or q o false) (last_step p n false f))
       ]
       | inr none ↦ elim (cases_Bool (p n)) [
-        | inl t ↦ any_step both n false none ∙ ap (λ b. b && q n) t ∙ sym (ap (λ o. option_map_or q o false) (last_step p n true t))
+        | inl t ↦ any_step both n false none ∙ ap (λ b. b && q n) t
+            ∙ sym (ap (λ o. option_map_or q o false) (last_step p n true t))
         | inr f ↦
             any_step both n false none ∙ ap (λ b. b && q n) f ∙ sym none ∙ any-last p q n later
             ∙ sym (ap (λ o. option_map_or q o false) (last_step p n false f))

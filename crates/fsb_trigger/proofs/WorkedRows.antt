@@ -10,7 +10,10 @@ use Rattle.fsb_signal.specs.Samples.{known_sample, idle}
 use Rattle.fsb_trigger.specs.declared.test.Test.TheVariants.{Asserted, NotAsserted, Request, Address, Data}
 use Rattle.fsb_trigger.specs.TriggerSteps.{StepView, test_holds, step_holds, keeps_bound}
 use Rattle.fsb_trigger.specs.Match.{step_holds_at, near, matches, chain, least_match}
-use Rattle.fsb_trigger.specs.Grammar.{onto_first, parts, cut_of, behind_first, both, all_there, up_to_eight, decimal_value, hex_value, hex_number, short_number, not_zero, bound_of, request_test, address_test, word_test, plain_test, test_of, tests_of, step_within, bounded_step, step_read, steps_read, first_unbound, trigger_of}
+use Rattle.fsb_trigger.specs.Grammar.{onto_first, parts, cut_of, behind_first, both, all_there, up_to_eight}
+use Rattle.fsb_trigger.specs.Grammar.{decimal_value, hex_value, hex_number, short_number, not_zero, bound_of}
+use Rattle.fsb_trigger.specs.Grammar.{request_test, address_test, word_test, plain_test, test_of, tests_of, step_within}
+use Rattle.fsb_trigger.specs.Grammar.{bounded_step, step_read, steps_read, first_unbound, trigger_of}
 
 abbrev pub three_steps : List StepView
 three_steps =
@@ -25,11 +28,14 @@ pub words :
     × (trigger_of (codes "ADS/<3:HITM") ≡ Some (two_steps 3))
     × (trigger_of (codes "ADS/<4:HITM") ≡ Some (two_steps 4))
     × (trigger_of (codes "A=40") ≡ Some (step_within None (Address 8 ∷ []) ∷ []))
-    × (trigger_of (codes "REQ=1F/<000012:D=aF") ≡ Some (step_within None (Request 31 ∷ []) ∷ step_within (Some 12) (Data 175 ∷ []) ∷ []))
+    × (trigger_of (codes "REQ=1F/<000012:D=aF")
+    ≡ Some (step_within None (Request 31 ∷ []) ∷ step_within (Some 12) (Data 175 ∷ []) ∷ []))
     × (trigger_of (codes "ADS/") ≡ None) × (trigger_of (codes "<3:ADS") ≡ None)
     × (trigger_of (codes "ADS/<0:HIT") ≡ None) × (trigger_of (codes "REQ=20") ≡ None)
     × (trigger_of (codes "A=41") ≡ None) × (trigger_of [] ≡ None)
-unfolding onto_first parts cut_of behind_first both all_there up_to_eight find_row line_named decimal_value hex_value hex_number short_number not_zero bound_of request_test address_test word_test plain_test test_of tests_of bounded_step step_read steps_read first_unbound trigger_of
+unfolding onto_first parts cut_of behind_first both all_there up_to_eight find_row line_named decimal_value
+    hex_value hex_number short_number not_zero bound_of request_test address_test word_test plain_test test_of
+    tests_of bounded_step step_read steps_read first_unbound trigger_of
 words = (refl, refl, refl, refl, refl, refl, refl, refl, refl, refl, refl)
 
 abbrev pub run : List Sample
@@ -44,5 +50,6 @@ pub found :
     (least_match three_steps run ≡ Some (5 ∷ 9 ∷ 14 ∷ []))
     × (least_match (two_steps 3) run ≡ None)
     × (least_match (two_steps 4) run ≡ Some (5 ∷ 9 ∷ []))
-unfolding any_where first_where last_where test_holds step_holds keeps_bound step_holds_at near matches chain least_match
+unfolding any_where first_where last_where test_holds step_holds keeps_bound step_holds_at near matches chain
+    least_match
 found = (refl, refl, refl)

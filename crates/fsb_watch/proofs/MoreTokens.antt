@@ -10,12 +10,14 @@ use Rattle.vcd_grammar.specs.Values.{at_first, samples_in, values_behind, sample
 
 -- ---- tokens of appended bytes
 
-tokens_so_far-grown : (fed more : List ℕ) → tokens_so_far (fed ++ more) ≡ tokens_so_far fed ++ tokens_from (length fed) (open_run fed) more
+tokens_so_far-grown : (fed more : List ℕ)
+    → tokens_so_far (fed ++ more) ≡ tokens_so_far fed ++ tokens_from (length fed) (open_run fed) more
 tokens_so_far-grown fed more =
     let e : 0 + length fed ≡ length fed = omega arith in
     rw e at (tokens-append 0 [] fed more)
 
-pub tokens_so_far-append : (fed more : List ℕ) → (ts : List Token) × (tokens_so_far (fed ++ more) ≡ tokens_so_far fed ++ ts)
+pub tokens_so_far-append : (fed more : List ℕ)
+    → (ts : List Token) × (tokens_so_far (fed ++ more) ≡ tokens_so_far fed ++ ts)
 tokens_so_far-append fed more = (tokens_from (length fed) (open_run fed) more, tokens_so_far-grown fed more)
 
 -- ---- what is known behind appended tokens, and what happens in them
@@ -54,19 +56,26 @@ open_block block [] = block
 open_block block (Later ∷ es) = open_block [] es
 open_block block (Changed c ∷ es) = open_block (block ++ c ∷ []) es
 
-ended_from-append : (block : Block) (es fs : List BlockEvent) → ended_from block (es ++ fs) ≡ ended_from block es ++ ended_from (open_block block es) fs
+ended_from-append : (block : Block) (es fs : List BlockEvent)
+    → ended_from block (es ++ fs) ≡ ended_from block es ++ ended_from (open_block block es) fs
 ended_from-append block [] fs = refl
 ended_from-append block (Later ∷ es) fs = ap (λ bs. block ∷ bs) (ended_from-append [] es fs)
 ended_from-append block (Changed c ∷ es) fs = ended_from-append (block ++ c ∷ []) es fs
 
-samples_in-append : (before : Values) (bs cs : List Block) → (ss : List Sample) × (samples_in before (bs ++ cs) ≡ samples_in before bs ++ ss)
+samples_in-append : (before : Values) (bs cs : List Block)
+    → (ss : List Sample) × (samples_in before (bs ++ cs) ≡ samples_in before bs ++ ss)
 samples_in-append before [] cs = (samples_in before cs, refl)
 samples_in-append before (b ∷ bs) cs =
-    let h = samples_in-append (values_behind before b) bs cs in
-    (h.0, ap (λ ss. sample_of_block before b ++ ss) h.1 ∙ sym (append_assoc (sample_of_block before b) (samples_in (values_behind before b) bs) h.0))
+    let h = samples_in-append (values_behind before b) bs cs in (
+      h.0,
+      ap (λ ss. sample_of_block before b ++ ss) h.1
+          ∙ sym (append_assoc (sample_of_block before b) (samples_in (values_behind before b) bs) h.0),
+    )
 
 -- the samples that are decided stay the first ones
-decided-append : (es fs : List BlockEvent) → (ss : List Sample) × (samples_in at_first (ended (blocks_of (es ++ fs))) ≡ samples_in at_first (ended (blocks_of es)) ++ ss)
+decided-append : (es fs : List BlockEvent)
+    → (ss : List Sample)
+    × (samples_in at_first (ended (blocks_of (es ++ fs))) ≡ samples_in at_first (ended (blocks_of es)) ++ ss)
 decided-append es fs =
     let h = samples_in-append at_first (ended_from [] es) (ended_from (open_block [] es) fs) in (
       h.0,
@@ -94,8 +103,11 @@ no_fewer ts us =
 pub no_more : (ts us : List Token) → is_some (behind nothing ts).fault ≡ true → decided (ts ++ us) ≡ decided ts
 no_more ts us e =
     ap (λ es. samples_in at_first (ended (blocks_of es)))
-    (events_in-append nothing ts us ∙ ap (λ es. events_in nothing ts ++ es) (events_in-refused (behind nothing ts) us e) ∙ append-nil (events_in nothing ts))
+    (events_in-append nothing ts us
+    ∙ ap (λ es. events_in nothing ts ++ es) (events_in-refused (behind nothing ts) us e)
+    ∙ append-nil (events_in nothing ts))
 
 -- the fault stays
-pub fault-stays : (ts us : List Token) → is_some (behind nothing ts).fault ≡ true → behind nothing (ts ++ us) ≡ behind nothing ts
+pub fault-stays : (ts us : List Token) → is_some (behind nothing ts).fault ≡ true
+    → behind nothing (ts ++ us) ≡ behind nothing ts
 fault-stays ts us e = behind-append nothing ts us ∙ behind-refused (behind nothing ts) us e

@@ -1,5 +1,6 @@
 -- Equal waves show equal lines.
-use Rattle.std.proofs.Common.{◌≡◌, ◌<◌, ◌≤◌, ◌+◌, ◌-◌, ◌==◌, ◌^◌, ℕ, zero, suc, Bool, true, false, not, cond, List, [], ◌∷◌, ◌++◌, Some, length, map, get_or, slice_get, refl, sym, ap, ◌∙◌, inl, inr, arith}
+use Rattle.std.proofs.Common.{◌≡◌, ◌<◌, ◌≤◌, ◌+◌, ◌-◌, ◌==◌, ◌^◌, ℕ, zero, suc, Bool, true, false, not, cond, List, []}
+use Rattle.std.proofs.Common.{◌∷◌, ◌++◌, Some, length, map, get_or, slice_get, refl, sym, ap, ◌∙◌, inl, inr, arith}
 use Rattle.std.specs.Fmt.{decimal}
 use Rattle.std.specs.Int.RustNames.{bit_and}
 use Rattle.std.specs.List.{list_all, range_with_len}
@@ -15,12 +16,14 @@ use Rattle.fsb_signal.specs.declared.lines.Lines.{Lines}
 use Rattle.fsb_signal.specs.declared.sample.Sample.{Sample}
 use Rattle.fsb_signal.specs.Samples.{has_line, has_unknown, line_at}
 use Rattle.fsb_wave.specs.WaveText.{NamedLine, control_lines}
-use Rattle.fsb_wave.specs.WaveText.{Clocks, mark_of, mark_at, drawing, clock_count_text, requests, transfers, reached, lines_over, lines_behind}
+use Rattle.fsb_wave.specs.WaveText.{Clocks, mark_of, mark_at, drawing, clock_count_text, requests, transfers, reached}
+use Rattle.fsb_wave.specs.WaveText.{lines_over, lines_behind}
 use Rattle.fsb_wave.specs.Law.{EqualWaves, is_unknown_at}
 use Rattle.fsb_wave.proofs.Texts.{drawings-at, line-drawn, line-below, line-behind, line-last, length-lines}
 
 -- the last line
-last-line : (clocks : Clocks) (from n all : ℕ) → slice_get (lines_over clocks from n all) (length (lines_over clocks from n all) - 1) ≡ Some (clock_count_text all)
+last-line : (clocks : Clocks) (from n all : ℕ)
+    → slice_get (lines_over clocks from n all) (length (lines_over clocks from n all) - 1) ≡ Some (clock_count_text all)
 last-line clocks from n all =
     let count = length-lines clocks from n all in
     let r = length (requests clocks from n) in
@@ -56,7 +59,8 @@ all_have : list_all has_bit control_lines ≡ true
 unfolding has_bit
 all_have = refl
 
-all-at : {X : Type 0} (p : X → Bool) (xs : List X) → list_all p xs ≡ true → (k : ℕ) (x : X) → slice_get xs k ≡ Some x → p x ≡ true
+all-at : {X : Type 0} (p : X → Bool) (xs : List X) → list_all p xs ≡ true → (k : ℕ) (x : X)
+    → slice_get xs k ≡ Some x → p x ≡ true
 all-at p [] all k x e = absurd (let no : ⊥ = cc in no)
 all-at p (y ∷ ys) all zero x e = ap p (same_some x y (sym e)) ∙ (and_parts (p y) (list_all p ys) all).0
 all-at p (y ∷ ys) all (suc k) x e = all-at p ys (and_parts (p y) (list_all p ys) all).1 k x e
@@ -99,17 +103,21 @@ unknown_by false true true d ab cd e = absurd (omega (arith, e))
 unknown_by false false true d ab cd e = absurd (omega (arith, e))
 
 -- the character of a clock stands in the drawing
-mark-drawn : (clocks : Clocks) (from n : ℕ) (named : NamedLine) (i : ℕ) → i < n → get_or (drawing clocks from n named) (length named.name + i) 46 ≡ mark_at clocks named.line (from + i)
+mark-drawn : (clocks : Clocks) (from n : ℕ) (named : NamedLine) (i : ℕ) → i < n
+    → get_or (drawing clocks from n named) (length named.name + i) 46 ≡ mark_at clocks named.line (from + i)
 unfolding drawing
 mark-drawn clocks from n named i l =
     let marks = map (mark_at clocks named.line) (range_with_len from n) in
     let long : length marks ≡ n = length-map-range_with_len (mark_at clocks named.line) from n in
-    get_or_append_left (named.name ++ marks) (10 ∷ []) 46 (length named.name + i) (omega (arith, l, long, length-append named.name marks))
+    get_or_append_left (named.name ++ marks) (10 ∷ []) 46 (length named.name + i)
+    (omega (arith, l, long, length-append named.name marks))
     ∙ get_or-append-add named.name marks i 46
     ∙ get_or-map-range_with_len (mark_at clocks named.line) from n i (from + i) 46 l refl
 
 -- the same character at each clock of the range that both reach
-marks : (v w : List Sample) (from to c k : ℕ) (named : NamedLine) → EqualWaves v w from to → from ≤ c → c ≤ to → c < length v → slice_get control_lines k ≡ Some named → mark_at (slice_get v) named.line c ≡ mark_at (slice_get w) named.line c
+marks : (v w : List Sample) (from to c k : ℕ) (named : NamedLine) → EqualWaves v w from to → from ≤ c → c ≤ to
+    → c < length v → slice_get control_lines k ≡ Some named
+    → mark_at (slice_get v) named.line c ≡ mark_at (slice_get w) named.line c
 marks v w from to c k named e low high within at =
     let same = number v w from to e in
     let n = reached from to (length v) in
@@ -126,15 +134,18 @@ marks v w from to c k named e low high within at =
     ∙ mark-drawn (slice_get w) from m named (c - from) (omega (arith, same))
     ∙ ap (mark_at (slice_get w) named.line) place
 
-mark_at-is : (w : List Sample) (line : Lines) (c : ℕ) (s : Sample) → slice_get w c ≡ Some s → mark_at (slice_get w) line c ≡ character (has_line s line) (has_unknown s line)
+mark_at-is : (w : List Sample) (line : Lines) (c : ℕ) (s : Sample) → slice_get w c ≡ Some s
+    → mark_at (slice_get w) line c ≡ character (has_line s line) (has_unknown s line)
 unfolding mark_at mark_of
 mark_at-is w line c s e = ap (λ o. option_map_or (mark_of line) o 46) e
 
-line_at-is : (w : List Sample) (line : Lines) (c : ℕ) (s : Sample) → slice_get w c ≡ Some s → line_at line w c ≡ has_line s line
+line_at-is : (w : List Sample) (line : Lines) (c : ℕ) (s : Sample) → slice_get w c ≡ Some s
+    → line_at line w c ≡ has_line s line
 unfolding line_at
 line_at-is w line c s e = ap (λ o. option_map_or (λ s. has_line s line) o false) e
 
-unknown_at-is : (w : List Sample) (line : Lines) (c : ℕ) (s : Sample) → slice_get w c ≡ Some s → is_unknown_at line w c ≡ has_unknown s line
+unknown_at-is : (w : List Sample) (line : Lines) (c : ℕ) (s : Sample) → slice_get w c ≡ Some s
+    → is_unknown_at line w c ≡ has_unknown s line
 unfolding is_unknown_at
 unknown_at-is w line c s e = ap (λ o. option_map_or (λ s. has_unknown s line) o false) e
 
@@ -145,7 +156,8 @@ there (s ∷ w) zero l = (s, refl)
 there (s ∷ w) (suc c) l = there w c (omega (arith, l))
 
 -- a clock that both reach shows the same
-pub asserted : (v w : List Sample) (from to c k : ℕ) (named : NamedLine) → EqualWaves v w from to → from ≤ c → c ≤ to → slice_get control_lines k ≡ Some named → line_at named.line v c ≡ line_at named.line w c
+pub asserted : (v w : List Sample) (from to c k : ℕ) (named : NamedLine) → EqualWaves v w from to → from ≤ c
+    → c ≤ to → slice_get control_lines k ≡ Some named → line_at named.line v c ≡ line_at named.line w c
 unfolding line_at
 asserted v w from to c k named e low high at =
     let same = number v w from to e in
@@ -153,14 +165,17 @@ asserted v w from to c k named e low high at =
       | inl within ↦
           let s = there v c within in
           let t = there w c (omega (arith, same, within)) in
-          let mark = sym (mark_at-is v named.line c s.0 s.1) ∙ marks v w from to c k named e low high within at ∙ mark_at-is w named.line c t.0 t.1 in
+          let mark = sym (mark_at-is v named.line c s.0 s.1)
+          ∙ marks v w from to c k named e low high within at ∙ mark_at-is w named.line c t.0 t.1 in
           line_at-is v named.line c s.0 s.1
-          ∙ asserted_by (has_line s.0 named.line) (has_unknown s.0 named.line) (has_line t.0 named.line) (has_unknown t.0 named.line) mark
+          ∙ asserted_by (has_line s.0 named.line) (has_unknown s.0 named.line) (has_line t.0 named.line)
+          (has_unknown t.0 named.line) mark
           ∙ sym (line_at-is w named.line c t.0 t.1)
       | inr past ↦ rw (slice_get_past v c past, slice_get_past w c (omega (arith, same, past))) refl
     ]
 
-pub unknown : (v w : List Sample) (from to c k : ℕ) (named : NamedLine) → EqualWaves v w from to → from ≤ c → c ≤ to → slice_get control_lines k ≡ Some named → is_unknown_at named.line v c ≡ is_unknown_at named.line w c
+pub unknown : (v w : List Sample) (from to c k : ℕ) (named : NamedLine) → EqualWaves v w from to → from ≤ c
+    → c ≤ to → slice_get control_lines k ≡ Some named → is_unknown_at named.line v c ≡ is_unknown_at named.line w c
 unfolding is_unknown_at has_bit
 unknown v w from to c k named e low high at =
     let same = number v w from to e in
@@ -169,9 +184,11 @@ unknown v w from to c k named e low high at =
           let s = there v c within in
           let t = there w c (omega (arith, same, within)) in
           let bit = all-at has_bit control_lines all_have k named at in
-          let mark = sym (mark_at-is v named.line c s.0 s.1) ∙ marks v w from to c k named e low high within at ∙ mark_at-is w named.line c t.0 t.1 in
+          let mark = sym (mark_at-is v named.line c s.0 s.1)
+          ∙ marks v w from to c k named e low high within at ∙ mark_at-is w named.line c t.0 t.1 in
           unknown_at-is v named.line c s.0 s.1
-          ∙ unknown_by (has_line s.0 named.line) (has_unknown s.0 named.line) (has_line t.0 named.line) (has_unknown t.0 named.line) (apart s.0 named.line bit) (apart t.0 named.line bit) mark
+          ∙ unknown_by (has_line s.0 named.line) (has_unknown s.0 named.line) (has_line t.0 named.line)
+          (has_unknown t.0 named.line) (apart s.0 named.line bit) (apart t.0 named.line bit) mark
           ∙ sym (unknown_at-is w named.line c t.0 t.1)
       | inr past ↦ rw (slice_get_past v c past, slice_get_past w c (omega (arith, same, past))) refl
     ]

@@ -1,11 +1,13 @@
 -- Elements of lists that were put behind one another, written at a place, or mapped.
-use Rattle.std.proofs.Common.{◌≡◌, ◌<◌, ◌≤◌, ◌+◌, ◌-◌, ℕ, zero, suc, Bool, true, false, cond, List, [], ◌∷◌, ◌++◌, length, map, slice_get, refl, sym, ap, ◌∙◌, arith}
+use Rattle.std.proofs.Common.{◌≡◌, ◌<◌, ◌≤◌, ◌+◌, ◌-◌, ℕ, zero, suc, Bool, true, false, cond, List, [], ◌∷◌, ◌++◌}
+use Rattle.std.proofs.Common.{length, map, slice_get, refl, sym, ap, ◌∙◌, arith}
 use Rattle.std.specs.List.{range_with_len}
 use Rattle.std.proofs.lemmas.List.{map-append}
 use Rattle.fsb_count.specs.Clocks.{all_where}
 
 -- elements behind those of xs
-pub slice_get-behind : {X : Type 0} (xs ys : List X) (i : ℕ) → length xs ≤ i → slice_get (xs ++ ys) i ≡ slice_get ys (i - length xs)
+pub slice_get-behind : {X : Type 0} (xs ys : List X) (i : ℕ) → length xs ≤ i
+    → slice_get (xs ++ ys) i ≡ slice_get ys (i - length xs)
 slice_get-behind [] ys i h = let e : i ≡ i - 0 = omega arith in ap (slice_get ys) e
 slice_get-behind (x ∷ xs) ys zero h = absurd (omega (arith, h))
 slice_get-behind (x ∷ xs) ys (suc i) h =
@@ -13,18 +15,24 @@ slice_get-behind (x ∷ xs) ys (suc i) h =
     rw e (slice_get-behind xs ys i (omega (arith, h)))
 
 -- two functions that agree on a range of numbers
-pub map-same : {X : Type 0} (f g : ℕ → X) (a n : ℕ) → ((c : ℕ) → a ≤ c → c < a + n → f c ≡ g c) → map f (range_with_len a n) ≡ map g (range_with_len a n)
+pub map-same : {X : Type 0} (f g : ℕ → X) (a n : ℕ) → ((c : ℕ) → a ≤ c → c < a + n → f c ≡ g c)
+    → map f (range_with_len a n) ≡ map g (range_with_len a n)
 map-same f g a zero h = refl
 map-same f g a (suc n) h =
-    rw (h a (omega arith) (omega arith), map-same f g (a + 1) n (λ c l u. h c (omega (arith, l)) (omega (arith, u)))) refl
+    rw (
+      h a (omega arith) (omega arith),
+      map-same f g (a + 1) n (λ c l u. h c (omega (arith, l)) (omega (arith, u))),
+    ) refl
 
 -- the same of one number that passes or not
-one-same : {X : Type 0} (f g : ℕ → X) (n : ℕ) (b : Bool) → f n ≡ g n → map f (cond b (n ∷ []) []) ≡ map g (cond b (n ∷ []) [])
+one-same : {X : Type 0} (f g : ℕ → X) (n : ℕ) (b : Bool) → f n ≡ g n
+    → map f (cond b (n ∷ []) []) ≡ map g (cond b (n ∷ []) [])
 one-same f g n true e = ap (λ x. x ∷ []) e
 one-same f g n false e = refl
 
 -- two tests and two functions that agree below n
-pub map_where-same : {X : Type 0} (f g : ℕ → X) (p q : ℕ → Bool) (n : ℕ) → ((j : ℕ) → j < n → p j ≡ q j) → ((j : ℕ) → j < n → f j ≡ g j) → map f (all_where p n) ≡ map g (all_where q n)
+pub map_where-same : {X : Type 0} (f g : ℕ → X) (p q : ℕ → Bool) (n : ℕ) → ((j : ℕ) → j < n → p j ≡ q j)
+    → ((j : ℕ) → j < n → f j ≡ g j) → map f (all_where p n) ≡ map g (all_where q n)
 unfolding all_where
 map_where-same f g p q zero tests values = refl
 map_where-same f g p q (suc n) tests values =

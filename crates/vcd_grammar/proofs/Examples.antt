@@ -5,7 +5,8 @@ use Rattle.std.proofs.Common.{refl}
 use Rattle.fsb_signal.specs.declared.sample.Sample.{Sample}
 use Rattle.fsb_signal.specs.Parity.{marks_in}
 use Rattle.fsb_signal.specs.Table.{signal_number}
-use Rattle.fsb_signal.specs.DumpText.{dump_text, header_text, texts_from, declaration_text, range_text, value_text, value_of}
+use Rattle.fsb_signal.specs.DumpText.{dump_text, header_text, texts_from, declaration_text, range_text, value_text}
+use Rattle.fsb_signal.specs.DumpText.{value_of}
 use Rattle.vcd_grammar.specs.declared.fault.VcdFault.{VcdFault}
 use Rattle.vcd_grammar.specs.declared.fault.VcdCause.{VcdCause}
 use Rattle.vcd_grammar.specs.declared.fault.VcdCause.TheVariants as causes
@@ -73,7 +74,8 @@ unknown_blocks = codes "#500\n1a\n0b\n#1000\nxc\n0a\n#1500\n1a\n"
 -- what a text says: the numbers of each sample, and the first fault
 abbrev numbers_of : Sample → List ℕ
 numbers_of s =
-    s.lines.0 ∷ s.unknown.0 ∷ s.req.bits ∷ s.req.unknown ∷ s.addr.bits ∷ s.addr.unknown ∷ s.dbus.bits ∷ s.dbus.unknown ∷ []
+    s.lines.0 ∷ s.unknown.0 ∷ s.req.bits ∷ s.req.unknown ∷ s.addr.bits ∷ s.addr.unknown ∷ s.dbus.bits
+    ∷ s.dbus.unknown ∷ []
 
 abbrev bad : ℕ → VcdCause → Option VcdFault
 bad place cause = Some (record { place = place; cause = cause })
@@ -84,67 +86,104 @@ bad_behind place cause = bad (length (dump_text 1 []) + place) cause
 
 -- the simulator's dump has no fault, and two samples: the change of the edge's own time is in the second
 pub simulator_dump-fault : first_fault (simulator_header ++ simulator_values ++ simulator_blocks) ≡ None
-unfolding digits texts_from dump_text header_text declaration_text range_text value_text value_of first_fault samples_of ended_at grown_at number_up_to time_in extended header_word value_word is_read_past is_foreign_type level_of control_of bits_without sample_at signal_number turn drafted declared closed
+unfolding digits texts_from dump_text header_text declaration_text range_text value_text value_of first_fault
+    samples_of ended_at grown_at number_up_to time_in extended header_word value_word is_read_past
+    is_foreign_type level_of control_of bits_without sample_at signal_number turn drafted declared closed
 simulator_dump-fault = refl
 
-pub simulator_dump-samples : map numbers_of (samples_of (simulator_header ++ simulator_values ++ simulator_blocks)) ≡ (0 ∷ 0 ∷ 0 ∷ 0 ∷ 0 ∷ 0 ∷ 0 ∷ 18446744073709551615 ∷ []) ∷ (1 ∷ 0 ∷ 0 ∷ 0 ∷ 0 ∷ 0 ∷ 0 ∷ 18446744073709551615 ∷ []) ∷ []
-unfolding digits texts_from dump_text header_text declaration_text range_text value_text value_of first_fault samples_of ended_at grown_at number_up_to time_in extended header_word value_word is_read_past is_foreign_type level_of control_of bits_without sample_at signal_number turn drafted declared closed
+pub simulator_dump-samples : map numbers_of
+    (samples_of (simulator_header ++ simulator_values ++ simulator_blocks))
+    ≡ (0 ∷ 0 ∷ 0 ∷ 0 ∷ 0 ∷ 0 ∷ 0 ∷ 18446744073709551615 ∷ [])
+    ∷ (1 ∷ 0 ∷ 0 ∷ 0 ∷ 0 ∷ 0 ∷ 0 ∷ 18446744073709551615 ∷ []) ∷ []
+unfolding digits texts_from dump_text header_text declaration_text range_text value_text value_of first_fault
+    samples_of ended_at grown_at number_up_to time_in extended header_word value_word is_read_past
+    is_foreign_type level_of control_of bits_without sample_at signal_number turn drafted declared closed
 simulator_dump-samples = refl
 
 -- with ADS# unknown from the falling edge on
-pub unknown_line-samples : map numbers_of (samples_of (simulator_header ++ simulator_values ++ unknown_blocks)) ≡ (0 ∷ 0 ∷ 0 ∷ 0 ∷ 0 ∷ 0 ∷ 0 ∷ 18446744073709551615 ∷ []) ∷ (1 ∷ 128 ∷ 0 ∷ 0 ∷ 0 ∷ 0 ∷ 0 ∷ 18446744073709551615 ∷ []) ∷ []
-unfolding digits texts_from dump_text header_text declaration_text range_text value_text value_of first_fault samples_of ended_at grown_at number_up_to time_in extended header_word value_word is_read_past is_foreign_type level_of control_of bits_without sample_at signal_number turn drafted declared closed
+pub unknown_line-samples : map numbers_of (samples_of (simulator_header ++ simulator_values ++ unknown_blocks))
+    ≡ (0 ∷ 0 ∷ 0 ∷ 0 ∷ 0 ∷ 0 ∷ 0 ∷ 18446744073709551615 ∷ [])
+    ∷ (1 ∷ 128 ∷ 0 ∷ 0 ∷ 0 ∷ 0 ∷ 0 ∷ 18446744073709551615 ∷ []) ∷ []
+unfolding digits texts_from dump_text header_text declaration_text range_text value_text value_of first_fault
+    samples_of ended_at grown_at number_up_to time_in extended header_word value_word is_read_past
+    is_foreign_type level_of control_of bits_without sample_at signal_number turn drafted declared closed
 unknown_line-samples = refl
 
 pub token_fault : first_fault (dump_text 1 [] ++ codes "2!\n") ≡ bad_behind 0 causes.Token
-unfolding digits texts_from dump_text header_text declaration_text range_text value_text value_of first_fault samples_of ended_at grown_at number_up_to time_in extended header_word value_word is_read_past is_foreign_type level_of control_of bits_without sample_at signal_number turn drafted declared closed
+unfolding digits texts_from dump_text header_text declaration_text range_text value_text value_of first_fault
+    samples_of ended_at grown_at number_up_to time_in extended header_word value_word is_read_past
+    is_foreign_type level_of control_of bits_without sample_at signal_number turn drafted declared closed
 token_fault = refl
 
 pub code_fault : first_fault (dump_text 1 [] ++ codes "0~\n") ≡ bad_behind 0 causes.Code
-unfolding digits texts_from dump_text header_text declaration_text range_text value_text value_of first_fault samples_of ended_at grown_at number_up_to time_in extended header_word value_word is_read_past is_foreign_type level_of control_of bits_without sample_at signal_number turn drafted declared closed
+unfolding digits texts_from dump_text header_text declaration_text range_text value_text value_of first_fault
+    samples_of ended_at grown_at number_up_to time_in extended header_word value_word is_read_past
+    is_foreign_type level_of control_of bits_without sample_at signal_number turn drafted declared closed
 code_fault = refl
 
 pub width_fault : first_fault (dump_text 1 [] ++ codes "b01 !\n") ≡ bad_behind 0 causes.Width
-unfolding digits texts_from dump_text header_text declaration_text range_text value_text value_of first_fault samples_of ended_at grown_at number_up_to time_in extended header_word value_word is_read_past is_foreign_type level_of control_of bits_without sample_at signal_number turn drafted declared closed
+unfolding digits texts_from dump_text header_text declaration_text range_text value_text value_of first_fault
+    samples_of ended_at grown_at number_up_to time_in extended header_word value_word is_read_past
+    is_foreign_type level_of control_of bits_without sample_at signal_number turn drafted declared closed
 width_fault = refl
 
 pub digit_fault : first_fault (dump_text 1 [] ++ codes "b1z2 0\n") ≡ bad_behind 0 causes.Token
-unfolding digits texts_from dump_text header_text declaration_text range_text value_text value_of first_fault samples_of ended_at grown_at number_up_to time_in extended header_word value_word is_read_past is_foreign_type level_of control_of bits_without sample_at signal_number turn drafted declared closed
+unfolding digits texts_from dump_text header_text declaration_text range_text value_text value_of first_fault
+    samples_of ended_at grown_at number_up_to time_in extended header_word value_word is_read_past
+    is_foreign_type level_of control_of bits_without sample_at signal_number turn drafted declared closed
 digit_fault = refl
 
 pub time_fault : first_fault (dump_text 1 [] ++ codes "#5\n#4\n") ≡ bad_behind 3 causes.TimeBack
-unfolding digits texts_from dump_text header_text declaration_text range_text value_text value_of first_fault samples_of ended_at grown_at number_up_to time_in extended header_word value_word is_read_past is_foreign_type level_of control_of bits_without sample_at signal_number turn drafted declared closed
+unfolding digits texts_from dump_text header_text declaration_text range_text value_text value_of first_fault
+    samples_of ended_at grown_at number_up_to time_in extended header_word value_word is_read_past
+    is_foreign_type level_of control_of bits_without sample_at signal_number turn drafted declared closed
 time_fault = refl
 
 pub number_fault : first_fault (dump_text 1 [] ++ codes "#99999999999999999999\n") ≡ bad_behind 0 causes.Token
-unfolding digits texts_from dump_text header_text declaration_text range_text value_text value_of first_fault samples_of ended_at grown_at number_up_to time_in extended header_word value_word is_read_past is_foreign_type level_of control_of bits_without sample_at signal_number turn drafted declared closed
+unfolding digits texts_from dump_text header_text declaration_text range_text value_text value_of first_fault
+    samples_of ended_at grown_at number_up_to time_in extended header_word value_word is_read_past
+    is_foreign_type level_of control_of bits_without sample_at signal_number turn drafted declared closed
 number_fault = refl
 
 pub cut_fault : first_fault (dump_text 1 [] ++ codes "b1") ≡ bad_behind 2 causes.Cut
-unfolding digits texts_from dump_text header_text declaration_text range_text value_text value_of first_fault samples_of ended_at grown_at number_up_to time_in extended header_word value_word is_read_past is_foreign_type level_of control_of bits_without sample_at signal_number turn drafted declared closed
+unfolding digits texts_from dump_text header_text declaration_text range_text value_text value_of first_fault
+    samples_of ended_at grown_at number_up_to time_in extended header_word value_word is_read_past
+    is_foreign_type level_of control_of bits_without sample_at signal_number turn drafted declared closed
 cut_fault = refl
 
 pub cut_variable : first_fault (codes "$var wire 1") ≡ bad 11 causes.Cut
-unfolding digits texts_from dump_text header_text declaration_text range_text value_text value_of first_fault samples_of ended_at grown_at number_up_to time_in extended header_word value_word is_read_past is_foreign_type level_of control_of bits_without sample_at signal_number turn drafted declared closed
+unfolding digits texts_from dump_text header_text declaration_text range_text value_text value_of first_fault
+    samples_of ended_at grown_at number_up_to time_in extended header_word value_word is_read_past
+    is_foreign_type level_of control_of bits_without sample_at signal_number turn drafted declared closed
 cut_variable = refl
 
 pub missing_clock : first_fault (codes "$enddefinitions $end") ≡ bad 0 (causes.Missing 0)
-unfolding digits texts_from dump_text header_text declaration_text range_text value_text value_of first_fault samples_of ended_at grown_at number_up_to time_in extended header_word value_word is_read_past is_foreign_type level_of control_of bits_without sample_at signal_number turn drafted declared closed
+unfolding digits texts_from dump_text header_text declaration_text range_text value_text value_of first_fault
+    samples_of ended_at grown_at number_up_to time_in extended header_word value_word is_read_past
+    is_foreign_type level_of control_of bits_without sample_at signal_number turn drafted declared closed
 missing_clock = refl
 
 pub no_samples-fault : first_fault (dump_text 1 []) ≡ None
-unfolding digits texts_from dump_text header_text declaration_text range_text value_text value_of first_fault samples_of ended_at grown_at number_up_to time_in extended header_word value_word is_read_past is_foreign_type level_of control_of bits_without sample_at signal_number turn drafted declared closed
+unfolding digits texts_from dump_text header_text declaration_text range_text value_text value_of first_fault
+    samples_of ended_at grown_at number_up_to time_in extended header_word value_word is_read_past
+    is_foreign_type level_of control_of bits_without sample_at signal_number turn drafted declared closed
 no_samples-fault = refl
 
 pub no_samples-samples : samples_of (dump_text 1 []) ≡ []
-unfolding digits texts_from dump_text header_text declaration_text range_text value_text value_of first_fault samples_of ended_at grown_at number_up_to time_in extended header_word value_word is_read_past is_foreign_type level_of control_of bits_without sample_at signal_number turn drafted declared closed
+unfolding digits texts_from dump_text header_text declaration_text range_text value_text value_of first_fault
+    samples_of ended_at grown_at number_up_to time_in extended header_word value_word is_read_past
+    is_foreign_type level_of control_of bits_without sample_at signal_number turn drafted declared closed
 no_samples-samples = refl
 
 -- the same of a dump that is written in profile 2, which has both marks
 pub parity_dump-fault : first_fault (dump_text 2 []) ≡ None
-unfolding digits texts_from dump_text header_text declaration_text range_text value_text value_of first_fault samples_of ended_at grown_at number_up_to time_in extended header_word value_word is_read_past is_foreign_type level_of control_of bits_without sample_at signal_number turn drafted declared closed
+unfolding digits texts_from dump_text header_text declaration_text range_text value_text value_of first_fault
+    samples_of ended_at grown_at number_up_to time_in extended header_word value_word is_read_past
+    is_foreign_type level_of control_of bits_without sample_at signal_number turn drafted declared closed
 parity_dump-fault = refl
 
 pub parity_dump-marks : (marks_of (dump_text 1 []) ≡ marks_in 1) × (marks_of (dump_text 2 []) ≡ marks_in 2)
-unfolding digits texts_from dump_text header_text declaration_text range_text value_text value_of marks_of ended_at grown_at number_up_to time_in extended header_word value_word is_read_past is_foreign_type level_of control_of bits_without sample_at signal_number turn drafted declared closed
+unfolding digits texts_from dump_text header_text declaration_text range_text value_text value_of marks_of
+    ended_at grown_at number_up_to time_in extended header_word value_word is_read_past is_foreign_type level_of
+    control_of bits_without sample_at signal_number turn drafted declared closed
 parity_dump-marks = (refl, refl)

@@ -1,5 +1,6 @@
 -- Once the header is over, the marks are known and stay; before that no time has come, so no block has ended.
-use Rattle.std.proofs.Common.{◌≡◌, ℕ, Bool, true, false, List, [], ◌∷◌, ◌++◌, length, Option, Some, None, refl, sym, ap, ◌∙◌, arith}
+use Rattle.std.proofs.Common.{◌≡◌, ℕ, Bool, true, false, List, [], ◌∷◌, ◌++◌, length, Option, Some, None, refl, sym, ap}
+use Rattle.std.proofs.Common.{◌∙◌, arith}
 use Rattle.std.specs.Prelude.{◌&&◌, ◌||◌, ◌==◌, not, nat_lt, is_some, if◌then◌else◌}
 use Rattle.std.specs.List.{list_all}
 use Rattle.fsb_signal.specs.declared.marks.Marks.{Marks}
@@ -8,11 +9,17 @@ use Rattle.fsb_signal.specs.Table.{table}
 use Rattle.vcd_grammar.specs.declared.fault.VcdCause.{VcdCause}
 use Rattle.vcd_grammar.specs.declared.fault.VcdCause.TheVariants as causes
 use Rattle.vcd_grammar.specs.Tokens.{Token, is_long, tokens_from, tokens_so_far, open_run, ended_at}
-use Rattle.vcd_grammar.specs.Words.{HeaderWord, Declares, Finishes, Ends, Opens, Bare, header_word, ValueWord, Stamp, Scalar, Vector, Foreign, Mark, Section, Wrong, value_word, is_end, is_code_word}
+use Rattle.vcd_grammar.specs.Words.{HeaderWord, Declares, Finishes, Ends, Opens, Bare, header_word, ValueWord, Stamp}
+use Rattle.vcd_grammar.specs.Words.{Scalar, Vector, Foreign, Mark, Section, Wrong, value_word, is_end, is_code_word}
 use Rattle.vcd_grammar.specs.Codes.{lines_of}
 use Rattle.vcd_grammar.specs.Blocks.{Block, BlockEvent, Later, Changed, blocks_from, ended}
 use Rattle.vcd_grammar.specs.Values.{at_first, samples_in}
-use Rattle.vcd_grammar.specs.Judging.{Draft, Mode, Header, Variable, Skipped, Closing, Values, Pending, Beside, Passed, Known, nothing, TokenTurn, stays, goes_to, fails, unless_long, drafted, is_declared, other_declared, line_declared, named, with_width, declared, missing_from, closed_with, closed, header_turn, later, stamped, scalar_turn, value_turn, is_too_wide, vector_turn, beside_turn, turn_in, turn, behind, events_in, is_past_header, marks_of_lines, known_marks}
+use Rattle.vcd_grammar.specs.Judging.{Draft, Mode, Header, Variable, Skipped, Closing, Values, Pending, Beside, Passed}
+use Rattle.vcd_grammar.specs.Judging.{Known, nothing, TokenTurn, stays, goes_to, fails, unless_long, drafted}
+use Rattle.vcd_grammar.specs.Judging.{is_declared, other_declared, line_declared, named, with_width, declared}
+use Rattle.vcd_grammar.specs.Judging.{missing_from, closed_with, closed, header_turn, later, stamped, scalar_turn}
+use Rattle.vcd_grammar.specs.Judging.{value_turn, is_too_wide, vector_turn, beside_turn, turn_in, turn, behind}
+use Rattle.vcd_grammar.specs.Judging.{events_in, is_past_header, marks_of_lines, known_marks}
 use Rattle.vcd_grammar.specs.Reading.{marks_of, marks_so_far, samples_so_far}
 use Rattle.vcd_grammar.proofs.Append.{tokens-append, behind-append}
 
@@ -27,7 +34,8 @@ past-if : (k : Known) (b : Bool) (x y : TokenTurn) → Past k x.known → Past k
 past-if k true x y p q = p
 past-if k false x y p q = q
 
-past-fails : (k : Known) (place : ℕ) (cause : VcdCause) → is_past_header k.mode ≡ true → Past k (fails k place cause).known
+past-fails : (k : Known) (place : ℕ) (cause : VcdCause) → is_past_header k.mode ≡ true
+    → Past k (fails k place cause).known
 past-fails k place cause h = record { over = h; lines = refl }
 
 past-stays : (k : Known) → is_past_header k.mode ≡ true → Past k k
@@ -36,18 +44,21 @@ past-stays k h = record { over = h; lines = refl }
 past-goes : (k : Known) (m : Mode) → is_past_header m ≡ true → Past k (goes_to k m).known
 past-goes k m h = record { over = h; lines = refl }
 
-past-stamped : (k : Known) (place time : ℕ) (last : Option ℕ) → is_past_header k.mode ≡ true → Past k (stamped k place time last).known
+past-stamped : (k : Known) (place time : ℕ) (last : Option ℕ) → is_past_header k.mode ≡ true
+    → Past k (stamped k place time last).known
 past-stamped k place time None h = record { over = h; lines = refl }
 past-stamped k place time (Some last) h =
     past-if k (nat_lt time last) (fails k place causes.TimeBack) (if nat_lt last time then later k time else stays k)
     (past-fails k place causes.TimeBack h)
     (past-if k (nat_lt last time) (later k time) (stays k) (record { over = h; lines = refl }) (past-stays k h))
 
-past-scalar : (k : Known) (place digit : ℕ) (lines : Option (List ℕ)) → is_past_header k.mode ≡ true → Past k (scalar_turn k place digit lines).known
+past-scalar : (k : Known) (place digit : ℕ) (lines : Option (List ℕ)) → is_past_header k.mode ≡ true
+    → Past k (scalar_turn k place digit lines).known
 past-scalar k place digit None h = past-fails k place causes.Code h
 past-scalar k place digit (Some lines) h = past-stays k h
 
-past-value : (k : Known) (place : ℕ) (w : ValueWord) → is_past_header k.mode ≡ true → Past k (value_turn k place w).known
+past-value : (k : Known) (place : ℕ) (w : ValueWord) → is_past_header k.mode ≡ true
+    → Past k (value_turn k place w).known
 past-value k place (Stamp time) h = past-stamped k place time k.time h
 past-value k place (Scalar digit code) h = past-scalar k place digit (lines_of k.codes code) h
 past-value k place (Vector digits) h = past-goes k (Pending place digits) refl
@@ -56,30 +67,44 @@ past-value k place Mark h = past-stays k h
 past-value k place Section h = past-goes k Passed refl
 past-value k place Wrong h = past-fails k place causes.Token h
 
-past-vector : (k : Known) (place from : ℕ) (digits : List ℕ) (lines : Option (List ℕ)) → is_past_header k.mode ≡ true → Past k (vector_turn k place from digits lines).known
+past-vector : (k : Known) (place from : ℕ) (digits : List ℕ) (lines : Option (List ℕ))
+    → is_past_header k.mode ≡ true → Past k (vector_turn k place from digits lines).known
 past-vector k place from digits None h = past-fails k place causes.Code h
 past-vector k place from digits (Some lines) h = by (is_too_wide digits lines)
   where
-    by : (b : Bool) → Past k (if b then fails k from causes.Width else record { known = record k { mode = Values }; events = Changed (record { lines = lines; digits = digits }) ∷ [] }).known
+    by : (b : Bool)
+        → Past k (if b then fails k from causes.Width else record {
+          known = record k { mode = Values };
+          events = Changed (record { lines = lines; digits = digits }) ∷ [];
+        }).known
     by true = past-fails k from causes.Width h
     by false = record { over = refl; lines = refl }
 
-past-beside : (k : Known) (place : ℕ) (lines : Option (List ℕ)) → is_past_header k.mode ≡ true → Past k (beside_turn k place lines).known
+past-beside : (k : Known) (place : ℕ) (lines : Option (List ℕ)) → is_past_header k.mode ≡ true
+    → Past k (beside_turn k place lines).known
 past-beside k place None h = past-fails k place causes.Code h
 past-beside k place (Some lines) h = past-goes k Values refl
 
-past-long : (k : Known) (t : Token) (x : TokenTurn) → is_past_header k.mode ≡ true → Past k x.known → Past k (unless_long k t x).known
-past-long k t x h p = past-if k (is_long t.word) (fails k t.place causes.Token) x (past-fails k t.place causes.Token h) p
+past-long : (k : Known) (t : Token) (x : TokenTurn) → is_past_header k.mode ≡ true → Past k x.known
+    → Past k (unless_long k t x).known
+past-long k t x h p = past-if k (is_long t.word) (fails k t.place causes.Token) x
+    (past-fails k t.place causes.Token h) p
 
-past-in : (m : Mode) (k : Known) (t : Token) → is_past_header m ≡ true → is_past_header k.mode ≡ true → Past k (turn_in m k t).known
+past-in : (m : Mode) (k : Known) (t : Token) → is_past_header m ≡ true → is_past_header k.mode ≡ true
+    → Past k (turn_in m k t).known
 past-in Header k t m h = cc m
 past-in (Variable d) k t m h = cc m
 past-in Skipped k t m h = cc m
 past-in (Closing place) k t m h = cc m
-past-in Values k t m h = past-long k t (value_turn k t.place (value_word t.word)) h (past-value k t.place (value_word t.word) h)
-past-in (Pending from digits) k t m h = past-long k t (vector_turn k t.place from digits (lines_of k.codes t.word)) h (past-vector k t.place from digits (lines_of k.codes t.word) h)
-past-in Beside k t m h = past-long k t (beside_turn k t.place (lines_of k.codes t.word)) h (past-beside k t.place (lines_of k.codes t.word) h)
-past-in Passed k t m h = past-if k (is_end t.word) (goes_to k Values) (stays k) (past-goes k Values refl) (past-stays k h)
+past-in Values k t m h = past-long k t (value_turn k t.place (value_word t.word)) h
+    (past-value k t.place (value_word t.word) h)
+past-in (Pending from digits) k t m h =
+    past-long k t (vector_turn k t.place from digits (lines_of k.codes t.word)) h
+    (past-vector k t.place from digits (lines_of k.codes t.word) h)
+past-in Beside k t m h = past-long k t (beside_turn k t.place (lines_of k.codes t.word)) h
+    (past-beside k t.place (lines_of k.codes t.word) h)
+past-in Passed k t m h = past-if k (is_end t.word) (goes_to k Values) (stays k) (past-goes k Values refl)
+    (past-stays k h)
 
 past-turn : (k : Known) (t : Token) → is_past_header k.mode ≡ true → Past k (turn k t).known
 unfolding turn
@@ -95,7 +120,8 @@ past-behind k (t ∷ ts) h =
 -- ---- the marks stay
 
 -- the marks are known: the header is over, and they are those of its lines
-pub marks_known : (k : Known) (m : Marks) → known_marks k ≡ Some m → (is_past_header k.mode ≡ true) × (marks_of_lines k.lines ≡ m)
+pub marks_known : (k : Known) (m : Marks) → known_marks k ≡ Some m
+    → (is_past_header k.mode ≡ true) × (marks_of_lines k.lines ≡ m)
 marks_known k m h = by (is_past_header k.mode) refl
   where
     by : (b : Bool) → is_past_header k.mode ≡ b → (is_past_header k.mode ≡ true) × (marks_of_lines k.lines ≡ m)
@@ -109,13 +135,19 @@ marks_stay k ts m h =
     rw (p.over, p.lines, known.1) refl
 
 -- the tokens of a longer text
-tokens_longer : (fed more : List ℕ) → tokens_so_far (fed ++ more) ≡ tokens_so_far fed ++ tokens_from (length fed) (open_run fed) more
-tokens_longer fed more = tokens-append 0 [] fed more ∙ ap (λ n. tokens_so_far fed ++ tokens_from n (open_run fed) more) (omega arith)
+tokens_longer : (fed more : List ℕ)
+    → tokens_so_far (fed ++ more) ≡ tokens_so_far fed ++ tokens_from (length fed) (open_run fed) more
+tokens_longer fed more = tokens-append 0 [] fed more
+    ∙ ap (λ n. tokens_so_far fed ++ tokens_from n (open_run fed) more) (omega arith)
 
 pub marks-longer : (fed more : List ℕ) (m : Marks) → marks_so_far fed ≡ Some m → marks_so_far (fed ++ more) ≡ Some m
 unfolding marks_so_far
 marks-longer fed more m h =
-    rw (tokens_longer fed more, behind-append nothing (tokens_so_far fed) (tokens_from (length fed) (open_run fed) more))
+    rw (
+      tokens_longer fed more,
+      behind-append nothing (tokens_so_far fed)
+          (tokens_from (length fed) (open_run fed) more),
+    )
     (marks_stay (behind nothing (tokens_so_far fed)) (tokens_from (length fed) (open_run fed) more) m h)
 
 pub marks-whole : (fed more : List ℕ) (m : Marks) → marks_so_far fed ≡ Some m → marks_of (fed ++ more) ≡ m
@@ -124,7 +156,10 @@ marks-whole fed more m h =
     let text = fed ++ more in
     let last = ended_at (length text) (open_run text) in
     let known = marks_known (behind nothing (tokens_so_far text)) m (marks-longer fed more m h) in
-    rw (behind-append nothing (tokens_so_far text) last, (past-behind (behind nothing (tokens_so_far text)) last known.0).lines) known.1
+    rw (
+      behind-append nothing (tokens_so_far text) last,
+      (past-behind (behind nothing (tokens_so_far text)) last known.0).lines,
+    ) known.1
 
 -- ---- before the end of the header
 
@@ -150,7 +185,8 @@ calm-named k d width (Some number) =
 
 calm-width : (k : Known) (d : Draft) (width : Option ℕ) → Calm (with_width k d width).events
 calm-width k d None = refl
-calm-width k d (Some width) = calm-if ((d.count == 4) && is_code_word d.code) (named k d width d.line) (fails k d.place causes.Header) (calm-named k d width d.line) refl
+calm-width k d (Some width) = calm-if ((d.count == 4) && is_code_word d.code) (named k d width d.line)
+    (fails k d.place causes.Header) (calm-named k d width d.line) refl
 
 calm-declared : (k : Known) (d : Draft) → Calm (declared k d).events
 unfolding declared
@@ -172,12 +208,14 @@ calm-long k t x p = calm-if (is_long t.word) (fails k t.place causes.Token) x re
 
 calm-in : (m : Mode) (k : Known) (t : Token) → is_past_header m ≡ false → Calm (turn_in m k t).events
 unfolding closed
-calm-in Header k t m = calm-long k t (header_turn k t.place (header_word t.word)) (calm-header k t.place (header_word t.word))
+calm-in Header k t m = calm-long k t (header_turn k t.place (header_word t.word))
+    (calm-header k t.place (header_word t.word))
 calm-in (Variable d) k t m =
     calm-long k t (if is_end t.word then declared k d else goes_to k (Variable (drafted d t.word)))
     (calm-if (is_end t.word) (declared k d) (goes_to k (Variable (drafted d t.word))) (calm-declared k d) refl)
 calm-in Skipped k t m = calm-if (is_end t.word) (goes_to k Header) (stays k) refl refl
-calm-in (Closing place) k t m = calm-if (is_end t.word) (closed k place) (stays k) (calm-closed k place (missing_from k.lines 0 table)) refl
+calm-in (Closing place) k t m = calm-if (is_end t.word) (closed k place) (stays k)
+    (calm-closed k place (missing_from k.lines 0 table)) refl
 calm-in Values k t m = cc m
 calm-in (Pending from digits) k t m = cc m
 calm-in Beside k t m = cc m
@@ -192,7 +230,8 @@ calm-append [] b p q = q
 calm-append (Later ∷ a) b p q = cc p
 calm-append (Changed change ∷ a) b p q = calm-append a b p q
 
-calm-first : (k : Known) (t : Token) (ts : List Token) → is_past_header (behind k (t ∷ ts)).mode ≡ false → Calm (events_in (turn k t).known ts) → Calm (events_in k (t ∷ ts))
+calm-first : (k : Known) (t : Token) (ts : List Token) → is_past_header (behind k (t ∷ ts)).mode ≡ false
+    → Calm (events_in (turn k t).known ts) → Calm (events_in k (t ∷ ts))
 calm-first k t ts h rest = by (is_past_header k.mode) refl
   where
     by : (b : Bool) → is_past_header k.mode ≡ b → Calm (events_in k (t ∷ ts))
@@ -219,4 +258,6 @@ unmarked k h = by (is_past_header k.mode) refl
 
 pub marks-first : (fed : List ℕ) → marks_so_far fed ≡ None → samples_so_far fed ≡ []
 unfolding marks_so_far samples_so_far
-marks-first fed h = ap (samples_in at_first) (none_ended [] (events_in nothing (tokens_so_far fed)) (calm-behind nothing (tokens_so_far fed) (unmarked (behind nothing (tokens_so_far fed)) h)))
+marks-first fed h = ap (samples_in at_first)
+    (none_ended [] (events_in nothing (tokens_so_far fed))
+    (calm-behind nothing (tokens_so_far fed) (unmarked (behind nothing (tokens_so_far fed)) h)))

@@ -1,6 +1,7 @@
 -- Small texts with what they say, worked out by hand from docs/dump-format.md: what the definitions make of them, by
 -- computation, is that. Each row tells a clause of a definition from a near miss of it.
-use Rattle.std.specs.Prelude.{◌≡◌, ◌+◌, ◌++◌, [], ◌∷◌, length, map, replicate, List, ℕ, Bool, true, false, Option, Some, None, codes}
+use Rattle.std.specs.Prelude.{◌≡◌, ◌+◌, ◌++◌, [], ◌∷◌, length, map, replicate, List, ℕ, Bool, true, false, Option, Some}
+use Rattle.std.specs.Prelude.{None, codes}
 use Rattle.std.proofs.Common.{refl}
 use Rattle.fsb_signal.specs.declared.marks.Marks.{Marks}
 use Rattle.fsb_signal.specs.declared.sample.Sample.{Sample}
@@ -13,8 +14,10 @@ use Rattle.vcd_grammar.specs.Digits.{number_up_to, time_in, extended}
 use Rattle.vcd_grammar.specs.Words.{header_word, value_word, is_read_past, is_foreign_type}
 use Rattle.vcd_grammar.specs.Levels.{level_of, control_of, bits_without}
 use Rattle.vcd_grammar.specs.Values.{sample_at}
-use Rattle.vcd_grammar.specs.Judging.{Mode, Header, Variable, Skipped, Closing, Values, Pending, Beside, Passed, nothing, draft_at, turn_in, turn, drafted, declared, closed}
-use Rattle.vcd_grammar.specs.Reading.{first_fault, samples_of, samples_before_end, samples_so_far, fault_so_far, marks_of, marks_so_far}
+use Rattle.vcd_grammar.specs.Judging.{Mode, Header, Variable, Skipped, Closing, Values, Pending, Beside, Passed}
+use Rattle.vcd_grammar.specs.Judging.{nothing, draft_at, turn_in, turn, drafted, declared, closed}
+use Rattle.vcd_grammar.specs.Reading.{first_fault, samples_of, samples_before_end, samples_so_far, fault_so_far}
+use Rattle.vcd_grammar.specs.Reading.{marks_of, marks_so_far}
 
 -- a text, and the place and the cause of its first fault
 pub record Bad : Type 0 where
@@ -36,7 +39,8 @@ Numbers = List ℕ
 
 abbrev pub numbers_of : Sample → Numbers
 numbers_of s =
-    s.lines.0 ∷ s.unknown.0 ∷ s.req.bits ∷ s.req.unknown ∷ s.addr.bits ∷ s.addr.unknown ∷ s.dbus.bits ∷ s.dbus.unknown ∷ []
+    s.lines.0 ∷ s.unknown.0 ∷ s.req.bits ∷ s.req.unknown ∷ s.addr.bits ∷ s.addr.unknown ∷ s.dbus.bits
+    ∷ s.dbus.unknown ∷ []
 
 -- a text that is read, and its samples
 pub record Good : Type 0 where
@@ -112,8 +116,10 @@ declaring =
     ∷ bad (codes "$var wire 5 ! LOCK_n $end $var wire 1 ! LOCK_n $end") 0 causes.Width
     ∷ []
 
-pub declaring-faults : map (λ (row : Bad). first_fault (lines ++ row.text)) declaring ≡ map (fault_behind lines) declaring
-unfolding first_fault ended_at grown_at number_up_to time_in extended header_word value_word is_read_past is_foreign_type signal_number turn drafted declared closed
+pub declaring-faults : map (λ (row : Bad). first_fault (lines ++ row.text)) declaring
+    ≡ map (fault_behind lines) declaring
+unfolding first_fault ended_at grown_at number_up_to time_in extended header_word value_word is_read_past
+    is_foreign_type signal_number turn drafted declared closed
 declaring-faults = refl
 
 -- ---- needed lines that are not declared
@@ -131,7 +137,8 @@ missing =
     ∷ []
 
 pub missing-faults : map (λ (row : Bad). first_fault row.text) missing ≡ map (fault_behind []) missing
-unfolding first_fault ended_at grown_at number_up_to time_in extended header_word value_word is_read_past is_foreign_type signal_number turn drafted declared closed
+unfolding first_fault ended_at grown_at number_up_to time_in extended header_word value_word is_read_past
+    is_foreign_type signal_number turn drafted declared closed
 missing-faults = refl
 
 -- ---- faults of the values
@@ -178,12 +185,15 @@ changing =
     ∷ []
 
 pub changing-faults : map (λ (row : Bad). first_fault (begun ++ row.text)) changing ≡ map (fault_behind begun) changing
-unfolding first_fault ended_at grown_at number_up_to time_in extended header_word value_word is_read_past is_foreign_type signal_number turn drafted declared closed
+unfolding first_fault ended_at grown_at number_up_to time_in extended header_word value_word is_read_past
+    is_foreign_type signal_number turn drafted declared closed
 changing-faults = refl
 
 -- a code of two lines: the value is too wide for one of them
-pub shared-fault : first_fault (lines ++ codes "$var wire 1 d LOCK_n $end $enddefinitions $end b11 d") ≡ Some (record { place = length lines + 47; cause = causes.Width })
-unfolding first_fault ended_at grown_at number_up_to time_in extended header_word value_word is_read_past is_foreign_type signal_number turn drafted declared closed
+pub shared-fault : first_fault (lines ++ codes "$var wire 1 d LOCK_n $end $enddefinitions $end b11 d")
+    ≡ Some (record { place = length lines + 47; cause = causes.Width })
+unfolding first_fault ended_at grown_at number_up_to time_in extended header_word value_word is_read_past
+    is_foreign_type signal_number turn drafted declared closed
 shared-fault = refl
 
 -- ---- texts that are read: declarations
@@ -197,26 +207,37 @@ declares =
     ∷ good (codes "$enddefinitions $end 0a #5 1a") (unset 0 0 ∷ [])
     ∷ good (codes "$var wire 1 m LOCK_n $end $enddefinitions $end 0a #5 1a") (unset 0 32 ∷ [])
     ∷ good (codes "$var wire 1 m LOCK_n $end $enddefinitions $end 0a 0m #5 1a") (unset 32 0 ∷ [])
-    ∷ good (codes "$var" ++ 9 ∷ codes "wire" ++ 10 ∷ codes "1" ++ 13 ∷ codes "m" ++ 11 ∷ codes "LOCK_n" ++ 12 ∷ codes "$end $enddefinitions $end 0a 0m #5 1a") (unset 32 0 ∷ [])
+    ∷ good (codes "$var" ++ 9 ∷ codes "wire" ++ 10 ∷ codes "1" ++ 13 ∷ codes "m" ++ 11 ∷ codes "LOCK_n"
+    ++ 12 ∷ codes "$end $enddefinitions $end 0a 0m #5 1a") (unset 32 0 ∷ [])
     ∷ good (codes "$var reg 001 m LOCK_n [0:0] more $comment $end $enddefinitions $end 0a 0m #5 1a") (unset 32 0 ∷ [])
     ∷ good (codes "$var wire 1 m LOCK_n[0] $end $enddefinitions $end 0a 0m #5 1a") (unset 32 0 ∷ [])
     ∷ good (codes "$var real 64 m LOCK_n $end $enddefinitions $end 0a 0m #5 1a") (unset 0 0 ∷ [])
-    ∷ good (codes "$var real 64 m LOCK_n $end $var wire 1 n LOCK_n $end $enddefinitions $end 0a 1m 0n #5 1a") (unset 32 0 ∷ [])
-    ∷ good (codes "$var wire 1 m LOCK_n $end $var wire 1 n LOCK_n $end $enddefinitions $end 0a 0m 1n #5 1a") (unset 32 0 ∷ [])
-    ∷ good (codes "$var wire 1 m LOCK_n $end $var wire 7 n LOCK_n $end $enddefinitions $end 0a 0m b1111111 n #5 1a") (unset 32 0 ∷ [])
-    ∷ good (codes "$var wire 1 m LOCK_n $end $var wire 1 m BNR_n $end $var wire 9 m other $end $enddefinitions $end 0a 0m #5 1a") (unset 96 0 ∷ [])
-    ∷ good (codes "$var wire 1 m LOCK_n $end $var wire 1 m BNR_n $end $enddefinitions $end 0a b0 m #5 1a") (unset 96 0 ∷ [])
+    ∷ good (codes "$var real 64 m LOCK_n $end $var wire 1 n LOCK_n $end $enddefinitions $end 0a 1m 0n #5 1a")
+    (unset 32 0 ∷ [])
+    ∷ good (codes "$var wire 1 m LOCK_n $end $var wire 1 n LOCK_n $end $enddefinitions $end 0a 0m 1n #5 1a")
+    (unset 32 0 ∷ [])
+    ∷ good (codes
+    "$var wire 1 m LOCK_n $end $var wire 7 n LOCK_n $end $enddefinitions $end 0a 0m b1111111 n #5 1a")
+    (unset 32 0 ∷ [])
+    ∷ good (codes
+    "$var wire 1 m LOCK_n $end $var wire 1 m BNR_n $end $var wire 9 m other $end $enddefinitions $end 0a 0m #5 1a") (unset 96 0 ∷ [])
+    ∷ good (codes "$var wire 1 m LOCK_n $end $var wire 1 m BNR_n $end $enddefinitions $end 0a b0 m #5 1a")
+    (unset 96 0 ∷ [])
     ∷ good (codes "$var wire 1 a LOCK_n $end $enddefinitions $end 0a #5 1a") (unset 32 0 ∷ [])
     ∷ good (codes "$var wire 1 #5 LOCK_n $end $enddefinitions $end 0a b0 #5 #5 1a") (unset 32 0 ∷ [])
-    ∷ good (codes "$var real 64 m volts $end $enddefinitions $end 0a r1.2 m R-1e9 m r m s1 m S m #5 1a") (unset 0 0 ∷ [])
+    ∷ good (codes "$var real 64 m volts $end $enddefinitions $end 0a r1.2 m R-1e9 m r m s1 m S m #5 1a")
+    (unset 0 0 ∷ [])
     ∷ []
 
 pub declares-none : map (λ (row : Good). first_fault (lines ++ row.text)) declares ≡ map (λ (row : Good). None) declares
-unfolding first_fault ended_at grown_at number_up_to time_in extended header_word value_word is_read_past is_foreign_type signal_number turn drafted declared closed
+unfolding first_fault ended_at grown_at number_up_to time_in extended header_word value_word is_read_past
+    is_foreign_type signal_number turn drafted declared closed
 declares-none = refl
 
-pub declares-samples : map (λ (row : Good). map numbers_of (samples_of (lines ++ row.text))) declares ≡ map (λ (row : Good). row.samples) declares
-unfolding samples_of ended_at grown_at number_up_to time_in extended header_word value_word is_read_past is_foreign_type level_of control_of bits_without sample_at signal_number turn drafted declared closed
+pub declares-samples : map (λ (row : Good). map numbers_of (samples_of (lines ++ row.text))) declares
+    ≡ map (λ (row : Good). row.samples) declares
+unfolding samples_of ended_at grown_at number_up_to time_in extended header_word value_word is_read_past
+    is_foreign_type level_of control_of bits_without sample_at signal_number turn drafted declared closed
 declares-samples = refl
 
 -- the lines that are not needed, each asserted at one clock
@@ -228,8 +249,10 @@ others =
     ++ codes "#0 0a 0m #5 1a #10 0a 0n 1m #15 1a #20 0a 0o 1n #25 1a #30 0a 0p 1o #35 1a "
     ++ codes "#40 0a 0q 1p #45 1a #50 0a 0r 1q #55 1a #60 0a 0s 1r #65 1a #70 0a 0t 1s #75 1a"
 
-pub others-samples : map numbers_of (samples_of (lines ++ others)) ≡ map (λ n. unset n 0) (2 ∷ 4 ∷ 8 ∷ 16 ∷ 32 ∷ 64 ∷ 256 ∷ 2048 ∷ [])
-unfolding samples_of ended_at grown_at number_up_to time_in extended header_word value_word is_read_past is_foreign_type level_of control_of bits_without sample_at signal_number turn drafted declared closed
+pub others-samples : map numbers_of (samples_of (lines ++ others))
+    ≡ map (λ n. unset n 0) (2 ∷ 4 ∷ 8 ∷ 16 ∷ 32 ∷ 64 ∷ 256 ∷ 2048 ∷ [])
+unfolding samples_of ended_at grown_at number_up_to time_in extended header_word value_word is_read_past
+    is_foreign_type level_of control_of bits_without sample_at signal_number turn drafted declared closed
 others-samples = refl
 
 -- ---- texts that are read: values before the first one, and at the first time
@@ -248,12 +271,16 @@ first_values =
     ∷ good (codes "$dumpvars 0a $dumpoff #0 1a $dumpall") (unset 0 0 ∷ [])
     ∷ []
 
-pub first_values-none : map (λ (row : Good). first_fault (begun ++ row.text)) first_values ≡ map (λ (row : Good). None) first_values
-unfolding first_fault ended_at grown_at number_up_to time_in extended header_word value_word is_read_past is_foreign_type signal_number turn drafted declared closed
+pub first_values-none : map (λ (row : Good). first_fault (begun ++ row.text)) first_values
+    ≡ map (λ (row : Good). None) first_values
+unfolding first_fault ended_at grown_at number_up_to time_in extended header_word value_word is_read_past
+    is_foreign_type signal_number turn drafted declared closed
 first_values-none = refl
 
-pub first_values-samples : map (λ (row : Good). map numbers_of (samples_of (begun ++ row.text))) first_values ≡ map (λ (row : Good). row.samples) first_values
-unfolding samples_of ended_at grown_at number_up_to time_in extended header_word value_word is_read_past is_foreign_type level_of control_of bits_without sample_at signal_number turn drafted declared closed
+pub first_values-samples : map (λ (row : Good). map numbers_of (samples_of (begun ++ row.text))) first_values
+    ≡ map (λ (row : Good). row.samples) first_values
+unfolding samples_of ended_at grown_at number_up_to time_in extended header_word value_word is_read_past
+    is_foreign_type level_of control_of bits_without sample_at signal_number turn drafted declared closed
 first_values-samples = refl
 
 -- ---- texts that are read: values
@@ -307,11 +334,14 @@ values =
     ∷ []
 
 pub values-none : map (λ (row : Good). first_fault (quiet ++ row.text)) values ≡ map (λ (row : Good). None) values
-unfolding first_fault ended_at grown_at number_up_to time_in extended header_word value_word is_read_past is_foreign_type signal_number turn drafted declared closed
+unfolding first_fault ended_at grown_at number_up_to time_in extended header_word value_word is_read_past
+    is_foreign_type signal_number turn drafted declared closed
 values-none = refl
 
-pub values-samples : map (λ (row : Good). map numbers_of (samples_of (quiet ++ row.text))) values ≡ map (λ (row : Good). row.samples) values
-unfolding samples_of ended_at grown_at number_up_to time_in extended header_word value_word is_read_past is_foreign_type level_of control_of bits_without sample_at signal_number turn drafted declared closed
+pub values-samples : map (λ (row : Good). map numbers_of (samples_of (quiet ++ row.text))) values
+    ≡ map (λ (row : Good). row.samples) values
+unfolding samples_of ended_at grown_at number_up_to time_in extended header_word value_word is_read_past
+    is_foreign_type level_of control_of bits_without sample_at signal_number turn drafted declared closed
 values-samples = refl
 
 -- ---- the parity lines, which a header may declare or not
@@ -330,8 +360,10 @@ parity_faulty =
     ∷ bad (codes "$var wire 2 y AP_n $end $enddefinitions $end b111 y") 45 causes.Width
     ∷ []
 
-pub parity-faults : map (λ (row : Bad). first_fault (lines ++ row.text)) parity_faulty ≡ map (fault_behind lines) parity_faulty
-unfolding first_fault ended_at grown_at number_up_to time_in extended header_word value_word is_read_past is_foreign_type signal_number turn drafted declared closed
+pub parity-faults : map (λ (row : Bad). first_fault (lines ++ row.text)) parity_faulty
+    ≡ map (fault_behind lines) parity_faulty
+unfolding first_fault ended_at grown_at number_up_to time_in extended header_word value_word is_read_past
+    is_foreign_type signal_number turn drafted declared closed
 parity-faults = refl
 
 -- what is declared and never set is unknown
@@ -343,12 +375,16 @@ parity_unset =
     ∷ good (codes "$var real 1 y AP_n $end $enddefinitions $end 0a #5 1a") (unset 0 0 ∷ [])
     ∷ []
 
-pub parity_unset-none : map (λ (row : Good). first_fault (lines ++ row.text)) parity_unset ≡ map (λ (row : Good). None) parity_unset
-unfolding first_fault ended_at grown_at number_up_to time_in extended header_word value_word is_read_past is_foreign_type signal_number turn drafted declared closed
+pub parity_unset-none : map (λ (row : Good). first_fault (lines ++ row.text)) parity_unset
+    ≡ map (λ (row : Good). None) parity_unset
+unfolding first_fault ended_at grown_at number_up_to time_in extended header_word value_word is_read_past
+    is_foreign_type signal_number turn drafted declared closed
 parity_unset-none = refl
 
-pub parity_unset-samples : map (λ (row : Good). map numbers_of (samples_of (lines ++ row.text))) parity_unset ≡ map (λ (row : Good). row.samples) parity_unset
-unfolding samples_of ended_at grown_at number_up_to time_in extended header_word value_word is_read_past is_foreign_type level_of control_of bits_without sample_at signal_number turn drafted declared closed
+pub parity_unset-samples : map (λ (row : Good). map numbers_of (samples_of (lines ++ row.text))) parity_unset
+    ≡ map (λ (row : Good). row.samples) parity_unset
+unfolding samples_of ended_at grown_at number_up_to time_in extended header_word value_word is_read_past
+    is_foreign_type level_of control_of bits_without sample_at signal_number turn drafted declared closed
 parity_unset-samples = refl
 
 abbrev pub parity_values : List Good
@@ -363,12 +399,16 @@ parity_values =
     ∷ good (codes "#4 bx0 y xz #5 1a") ((262144 ∷ 1572864 ∷ 0 ∷ 0 ∷ 0 ∷ 0 ∷ 0 ∷ 0 ∷ []) ∷ [])
     ∷ []
 
-pub parity_values-none : map (λ (row : Good). first_fault (with_parity ++ row.text)) parity_values ≡ map (λ (row : Good). None) parity_values
-unfolding first_fault ended_at grown_at number_up_to time_in extended header_word value_word is_read_past is_foreign_type signal_number turn drafted declared closed
+pub parity_values-none : map (λ (row : Good). first_fault (with_parity ++ row.text)) parity_values
+    ≡ map (λ (row : Good). None) parity_values
+unfolding first_fault ended_at grown_at number_up_to time_in extended header_word value_word is_read_past
+    is_foreign_type signal_number turn drafted declared closed
 parity_values-none = refl
 
-pub parity_values-samples : map (λ (row : Good). map numbers_of (samples_of (with_parity ++ row.text))) parity_values ≡ map (λ (row : Good). row.samples) parity_values
-unfolding samples_of ended_at grown_at number_up_to time_in extended header_word value_word is_read_past is_foreign_type level_of control_of bits_without sample_at signal_number turn drafted declared closed
+pub parity_values-samples : map (λ (row : Good). map numbers_of (samples_of (with_parity ++ row.text)))
+    parity_values ≡ map (λ (row : Good). row.samples) parity_values
+unfolding samples_of ended_at grown_at number_up_to time_in extended header_word value_word is_read_past
+    is_foreign_type level_of control_of bits_without sample_at signal_number turn drafted declared closed
 parity_values-samples = refl
 
 -- a text, and the marks that its bytes show
@@ -397,13 +437,17 @@ marking =
     ∷ unmarked (codes "$var wire 1 y AP_n $end $enddefinitions $end ")
     ∷ []
 
-pub marking-so_far : map (λ (row : Marked). marks_so_far (lines ++ row.text)) marking ≡ map (λ (row : Marked). row.marks) marking
-unfolding marks_so_far ended_at grown_at number_up_to time_in extended header_word value_word is_read_past is_foreign_type signal_number turn drafted declared closed
+pub marking-so_far : map (λ (row : Marked). marks_so_far (lines ++ row.text)) marking
+    ≡ map (λ (row : Marked). row.marks) marking
+unfolding marks_so_far ended_at grown_at number_up_to time_in extended header_word value_word is_read_past
+    is_foreign_type signal_number turn drafted declared closed
 marking-so_far = refl
 
 -- the last token of a whole text counts too
-pub marking-whole : marks_of (lines ++ codes "$var wire 2 y AP_n $end $enddefinitions $end") ≡ record { ap = true; rp = false }
-unfolding marks_of ended_at grown_at number_up_to time_in extended header_word value_word is_read_past is_foreign_type signal_number turn drafted declared closed
+pub marking-whole : marks_of (lines ++ codes "$var wire 2 y AP_n $end $enddefinitions $end")
+    ≡ record { ap = true; rp = false }
+unfolding marks_of ended_at grown_at number_up_to time_in extended header_word value_word is_read_past
+    is_foreign_type signal_number turn drafted declared closed
 marking-whole = refl
 
 -- ---- first bytes of a text: a word counts with the white space behind it, and nothing counts behind a fault
@@ -417,16 +461,20 @@ so_far =
     ∷ good (codes "#5 1a 0~ #10 ") []
     ∷ []
 
-pub so_far-samples : map (λ (row : Good). map numbers_of (samples_so_far (quiet ++ row.text))) so_far ≡ map (λ (row : Good). row.samples) so_far
-unfolding samples_so_far ended_at grown_at number_up_to time_in extended header_word value_word is_read_past is_foreign_type level_of control_of bits_without sample_at signal_number turn drafted declared closed
+pub so_far-samples : map (λ (row : Good). map numbers_of (samples_so_far (quiet ++ row.text))) so_far
+    ≡ map (λ (row : Good). row.samples) so_far
+unfolding samples_so_far ended_at grown_at number_up_to time_in extended header_word value_word is_read_past
+    is_foreign_type level_of control_of bits_without sample_at signal_number turn drafted declared closed
 so_far-samples = refl
 
 pub so_far-fault : fault_so_far (begun ++ codes "0~") ≡ None
-unfolding fault_so_far ended_at grown_at number_up_to time_in extended header_word value_word is_read_past is_foreign_type signal_number turn drafted declared closed
+unfolding fault_so_far ended_at grown_at number_up_to time_in extended header_word value_word is_read_past
+    is_foreign_type signal_number turn drafted declared closed
 so_far-fault = refl
 
 pub so_far-counted : fault_so_far (begun ++ codes "0~ ") ≡ fault_behind begun (bad [] 0 causes.Code)
-unfolding fault_so_far ended_at grown_at number_up_to time_in extended header_word value_word is_read_past is_foreign_type signal_number turn drafted declared closed
+unfolding fault_so_far ended_at grown_at number_up_to time_in extended header_word value_word is_read_past
+    is_foreign_type signal_number turn drafted declared closed
 so_far-counted = refl
 
 -- up to the last time stamp, which counts at the end of the text
@@ -437,8 +485,10 @@ before_end =
     ∷ good (codes "#5 1a #10 0a #15 1a") (idle ∷ [])
     ∷ []
 
-pub before_end-samples : map (λ (row : Good). map numbers_of (samples_before_end (quiet ++ row.text))) before_end ≡ map (λ (row : Good). row.samples) before_end
-unfolding samples_before_end ended_at grown_at number_up_to time_in extended header_word value_word is_read_past is_foreign_type level_of control_of bits_without sample_at signal_number turn drafted declared closed
+pub before_end-samples : map (λ (row : Good). map numbers_of (samples_before_end (quiet ++ row.text)))
+    before_end ≡ map (λ (row : Good). row.samples) before_end
+unfolding samples_before_end ended_at grown_at number_up_to time_in extended header_word value_word is_read_past
+    is_foreign_type level_of control_of bits_without sample_at signal_number turn drafted declared closed
 before_end-samples = refl
 
 -- ---- words that are too long
@@ -450,11 +500,13 @@ pub longest-is_long : map (λ n. is_long (zeros n)) (70000 ∷ 70001 ∷ []) ≡
 longest-is_long = refl
 
 -- the byte past the longest counts, once, at the place of the first
-pub long-counts : map (λ n. map (λ (t : Token). t.place) (grown_at 70010 (zeros n) 48)) (69999 ∷ 70000 ∷ 70001 ∷ []) ≡ [] ∷ (10 ∷ []) ∷ [] ∷ []
+pub long-counts : map (λ n. map (λ (t : Token). t.place) (grown_at 70010 (zeros n) 48))
+    (69999 ∷ 70000 ∷ 70001 ∷ []) ≡ [] ∷ (10 ∷ []) ∷ [] ∷ []
 unfolding grown_at
 long-counts = refl
 
-pub long-ends : map (λ n. map (λ (t : Token). t.place) (ended_at 70010 (zeros n))) (0 ∷ 70000 ∷ 70001 ∷ []) ≡ [] ∷ (10 ∷ []) ∷ [] ∷ []
+pub long-ends : map (λ n. map (λ (t : Token). t.place) (ended_at 70010 (zeros n))) (0 ∷ 70000 ∷ 70001 ∷ [])
+    ≡ [] ∷ (10 ∷ []) ∷ [] ∷ []
 unfolding ended_at
 long-ends = refl
 

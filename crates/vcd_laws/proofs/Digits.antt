@@ -1,5 +1,6 @@
 -- The digits that are written of a number: how many they are, what they are, and the number that they give back.
-use Rattle.std.proofs.Common.{◌≡◌, ℕ, zero, suc, ◌+◌, ◌-◌, ◌*◌, ◌/◌, ◌%◌, ◌^◌, ◌<◌, Bool, true, false, length, refl, sym, ap, ◌∙◌, arith, ◌⊎◌, inl, inr}
+use Rattle.std.proofs.Common.{◌≡◌, ℕ, zero, suc, ◌+◌, ◌-◌, ◌*◌, ◌/◌, ◌%◌, ◌^◌, ◌<◌, Bool, true, false, length, refl}
+use Rattle.std.proofs.Common.{sym, ap, ◌∙◌, arith, ◌⊎◌, inl, inr}
 use Rattle.std.proofs.Math.Path.{ap₂}
 use Rattle.std.specs.Prelude.{◌==◌, if◌then◌else◌}
 use Rattle.std.specs.List.{list_all}
@@ -17,7 +18,8 @@ length-digits_of zero value = refl
 length-digits_of (suc width) value = ap suc (length-digits_of width value)
 
 -- what holds of both digits holds of all
-pub all-digits_of : (p : ℕ → Bool) → p 48 ≡ true → p 49 ≡ true → (width value : ℕ) → list_all p (digits_of width value) ≡ true
+pub all-digits_of : (p : ℕ → Bool) → p 48 ≡ true → p 49 ≡ true → (width value : ℕ)
+    → list_all p (digits_of width value) ≡ true
 all-digits_of p low high zero value = refl
 all-digits_of p low high (suc width) value = rw (one (bit_at value width)) (all-digits_of p low high width value)
   where
@@ -61,7 +63,8 @@ low-digits_of n zero value = omega arith
 low-digits_of n (suc width) value =
     let bit = bit_at value width in
     let next : 1 + width ≡ suc width = omega arith in
-    let split : value % 2 ^ suc width ≡ (value / 2 ^ width % 2) * 2 ^ width + value % 2 ^ width = ap (λ w. value % 2 ^ w) (sym next) ∙ mod-pow-add value 1 width in
+    let split : value % 2 ^ suc width ≡ (value / 2 ^ width % 2) * 2 ^ width + value % 2 ^ width =
+    ap (λ w. value % 2 ^ w) (sym next) ∙ mod-pow-add value 1 width in
     let double : 2 ^ suc width ≡ 2 ^ width * 2 = pow-suc 2 width in
     ap (λ b. bits_from is_low (2 * n + b) (digits_of width value)) (low_digit bit (bit_at-lt value width))
     ∙ low-digits_of (2 * n + bit) width value
@@ -78,5 +81,6 @@ not_unknown bit = by (bit == 1)
 pub unknown-digits_of : (width value : ℕ) → bits_from is_unknown 0 (digits_of width value) ≡ 0
 unknown-digits_of zero value = refl
 unknown-digits_of (suc width) value =
-    ap (λ t. bits_from is_unknown (2 * 0 + (if t then 1 else 0)) (digits_of width value)) (not_unknown (bit_at value width))
+    ap (λ t. bits_from is_unknown (2 * 0 + (if t then 1 else 0)) (digits_of width value))
+    (not_unknown (bit_at value width))
     ∙ unknown-digits_of width value

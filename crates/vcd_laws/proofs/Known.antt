@@ -1,5 +1,6 @@
 -- What is known behind the header of a written dump, in each profile.
-use Rattle.std.proofs.Common.{◌≡◌, ℕ, zero, suc, ◌-◌, ◌<◌, ◌≤◌, Bool, true, false, not, List, [], ◌∷◌, ◌++◌, map, Option, Some, None, refl, ap, arith, codes}
+use Rattle.std.proofs.Common.{◌≡◌, ℕ, zero, suc, ◌-◌, ◌<◌, ◌≤◌, Bool, true, false, not, List, [], ◌∷◌, ◌++◌, map}
+use Rattle.std.proofs.Common.{Option, Some, None, refl, ap, arith, codes}
 use Rattle.std.specs.Prelude.{◌==◌, ◌&&◌, nat_le}
 use Rattle.std.specs.Fmt.{digits}
 use Rattle.std.proofs.lemmas.Bool.{eqb-true, leb-true, and_parts}
@@ -69,12 +70,16 @@ fixed-closes One = refl
 fixed-closes Two = refl
 
 pub fixed-known : (p : Profile) → behind nothing (tokens_from 0 [] (fixed_text p)) ≡ written p 0
-unfolding digits texts_from declaration_text range_text ended_at grown_at number_up_to time_in header_word value_word is_read_past is_foreign_type signal_number turn drafted declared closed
+unfolding digits texts_from declaration_text range_text ended_at grown_at number_up_to time_in header_word
+    value_word is_read_past is_foreign_type signal_number turn drafted declared closed
 fixed-known One = refl
 fixed-known Two = refl
 
-pub fixed-happens : (p : Profile) → events_in nothing (tokens_from 0 [] (fixed_text p)) ≡ changed (unknown_lines p) ++ Later ∷ changed (sets 0 (48 ∷ []) ∷ [])
-unfolding digits texts_from declaration_text range_text ended_at grown_at number_up_to time_in header_word value_word is_read_past is_foreign_type signal_number turn drafted declared closed
+pub fixed-happens : (p : Profile)
+    → events_in nothing (tokens_from 0 [] (fixed_text p)) ≡ changed (unknown_lines p)
+    ++ Later ∷ changed (sets 0 (48 ∷ []) ∷ [])
+unfolding digits texts_from declaration_text range_text ended_at grown_at number_up_to time_in header_word
+    value_word is_read_past is_foreign_type signal_number turn drafted declared closed
 fixed-happens One = refl
 fixed-happens Two = refl
 
@@ -110,12 +115,28 @@ is_listed p number =
 listed_test : (p : Profile) (n : ℕ) → n < entries p → is_listed p n ≡ true
 unfolding is_listed is_alone
 listed_test One =
-    next _ 19 refl (next _ 18 refl (next _ 17 refl (next _ 16 refl (next _ 15 refl (next _ 14 refl (next _ 13 refl (next _ 12 refl (next _ 11 refl (next _ 10 refl
-    (next _ 9 refl (next _ 8 refl (next _ 7 refl (next _ 6 refl (next _ 5 refl (next _ 4 refl (next _ 3 refl (next _ 2 refl (next _ 1 refl (next _ 0 refl (none _))))))))))))))))))))
+    next _ 19 refl
+    (next _ 18 refl
+    (next _ 17 refl
+    (next _ 16 refl (next _ 15 refl (next _ 14 refl (next _ 13 refl (next _ 12 refl (next _ 11 refl (next _ 10 refl
+    (next _ 9 refl
+    (next _ 8 refl
+    (next _ 7 refl
+    (next _ 6 refl
+    (next _ 5 refl
+    (next _ 4 refl (next _ 3 refl (next _ 2 refl (next _ 1 refl (next _ 0 refl (none _))))))))))))))))))))
 listed_test Two =
     next _ 21 refl (next _ 20 refl
-    (next _ 19 refl (next _ 18 refl (next _ 17 refl (next _ 16 refl (next _ 15 refl (next _ 14 refl (next _ 13 refl (next _ 12 refl (next _ 11 refl (next _ 10 refl
-    (next _ 9 refl (next _ 8 refl (next _ 7 refl (next _ 6 refl (next _ 5 refl (next _ 4 refl (next _ 3 refl (next _ 2 refl (next _ 1 refl (next _ 0 refl (none _))))))))))))))))))))))
+    (next _ 19 refl
+    (next _ 18 refl
+    (next _ 17 refl
+    (next _ 16 refl (next _ 15 refl (next _ 14 refl (next _ 13 refl (next _ 12 refl (next _ 11 refl (next _ 10 refl
+    (next _ 9 refl
+    (next _ 8 refl
+    (next _ 7 refl
+    (next _ 6 refl
+    (next _ 5 refl
+    (next _ 4 refl (next _ 3 refl (next _ 2 refl (next _ 1 refl (next _ 0 refl (none _))))))))))))))))))))))
 
 -- a number of a dump: the lines of its code, its width, and its code as a token
 pub record Listed (p : Profile) (number : ℕ) : Type 0 where

@@ -1,5 +1,6 @@
 -- A time stamp that is written is read as that time.
-use Rattle.std.proofs.Common.{◌≡◌, ℕ, ◌-◌, ◌^◌, ◌<◌, ◌≤◌, true, false, List, [], ◌∷◌, ◌++◌, length, Some, refl, arith, rules}
+use Rattle.std.proofs.Common.{◌≡◌, ℕ, ◌-◌, ◌^◌, ◌<◌, ◌≤◌, true, false, List, [], ◌∷◌, ◌++◌, length, Some, refl, arith}
+use Rattle.std.proofs.Common.{rules}
 use Rattle.std.specs.Fmt.{decimal}
 use Rattle.std.specs.List.{list_all}
 use Rattle.std.proofs.lemmas.Bool.{ne_eqb, le-ltb, le-leb, lt-ltb, leb-true, lt-leb, and_parts}
@@ -36,7 +37,11 @@ digits_plain [] h = refl
 digits_plain (b ∷ bs) h = rw (digit_plain b (and_parts _ _ h).0) (digits_plain bs (and_parts _ _ h).1)
 
 stamp_is_word : (time : ℕ) → time < 2 ^ 64 → Word (35 ∷ decimal time)
-stamp_is_word time h = record { some = omega arith; few = omega (arith, few time h); plain = digits_plain (decimal time) (all_digits time h) }
+stamp_is_word time h = record {
+  some = omega arith;
+  few = omega (arith, few time h);
+  plain = digits_plain (decimal time) (all_digits time h);
+}
 
 time_read : (time : ℕ) → time < 2 ^ 64 → time_in (decimal time) ≡ Some time
 unfolding time_in number_up_to
@@ -48,9 +53,11 @@ time_read time h =
     (rw (le-leb time (2 ^ 64 - 1) (omega (arith, h))) refl))))
 
 -- a later time
-pub does-stamp : (p : Profile) (last time : ℕ) → last < time → time < 2 ^ 64 → Does ((35 ∷ decimal time) ++ 10 ∷ []) (written p last) (written p time) (Later ∷ [])
+pub does-stamp : (p : Profile) (last time : ℕ) → last < time → time < 2 ^ 64
+    → Does ((35 ∷ decimal time) ++ 10 ∷ []) (written p last) (written p time) (Later ∷ [])
 unfolding turn value_word
-does-stamp p last time later h = does-token (35 ∷ decimal time) 10 (written p last) (written p time) (Later ∷ []) (stamp_is_word time h) refl (λ at.
+does-stamp p last time later h = does-token (35 ∷ decimal time) 10 (written p last) (written p time)
+    (Later ∷ []) (stamp_is_word time h) refl (λ at.
     rw (le-ltb 70000 (length (35 ∷ decimal time)) (omega (arith, few time h)))
     (rw (time_read time h)
     (rw (le-ltb time last (omega (arith, later)))

@@ -1,11 +1,15 @@
 -- The keys of the declared codes in their map.
-use Rattle.std.proofs.Common.{◌≡◌, ℕ, ◌+◌, ◌-◌, ◌*◌, ◌/◌, ◌%◌, ◌^◌, ◌<◌, ◌≤◌, Bool, true, false, not, List, [], ◌∷◌, ◌++◌, length, length-append, drop, ◌==◌, Option, Some, None, option_map, slice_get, get_or, nat_eq, nat_le, nat_lt, cond, Fits, w8, refl, sym, ap, subst, ◌∙◌, arith, suc, zero, Vec, inl, inr}
+use Rattle.std.proofs.Common.{◌≡◌, ℕ, ◌+◌, ◌-◌, ◌*◌, ◌/◌, ◌%◌, ◌^◌, ◌<◌, ◌≤◌, Bool, true, false, not, List, [], ◌∷◌}
+use Rattle.std.proofs.Common.{◌++◌, length, length-append, drop, ◌==◌, Option, Some, None, option_map, slice_get}
+use Rattle.std.proofs.Common.{get_or, nat_eq, nat_le, nat_lt, cond, Fits, w8, refl, sym, ap, subst, ◌∙◌, arith, suc}
+use Rattle.std.proofs.Common.{zero, Vec, inl, inr}
 use Rattle.std.specs.Cmp.Lexicographic.{same_text, nat_list_eq_equiv}
 use Rattle.std.specs.List.{position, position_or_len}
 use Rattle.std.specs.Map.{lookup}
 use Rattle.std.proofs.Math.Nat.{add-mul-mod_self_left, add-mul-div_left, mod-eq_of_lt, div-eq_of_lt, pow-le-pow_right}
 use Rattle.std.proofs.lemmas.Nat.{pow-add}
-use Rattle.std.proofs.lemmas.Bool.{ne_eqb, eq-eqb, eqb-true, and_parts, and_from, leb-true, ltb-true, ltb-false, lt-ltb, le-ltb, false≢true, cases_lt}
+use Rattle.std.proofs.lemmas.Bool.{ne_eqb, eq-eqb, eqb-true, and_parts, and_from, leb-true, ltb-true, ltb-false, lt-ltb}
+use Rattle.std.proofs.lemmas.Bool.{le-ltb, false≢true, cases_lt}
 use Rattle.std.proofs.lemmas.List.{drop_more, length-drop, get_or-drop}
 use Rattle.std.proofs.lemmas.Option.{slice_get-get_or, slice_get_past}
 use Rattle.std.proofs.lemmas.List.Folds.{prefix_len-append}
@@ -13,7 +17,8 @@ use Rattle.std.proofs.lemmas.List.Quantifiers.{position-Some}
 use Rattle.indexmap.specs.IndexMap.{insert_entry}
 use Rattle.vcd_grammar.specs.Words.{same}
 use Rattle.vcd_grammar.specs.Codes.{lines_of, with_code}
-use Rattle.vcd_read.specs.CodesView.{Agree, CodesKept, KeepsLong, only_of, with_single, packed, unpacked, key_of, coded_by, is_key, codes_of, are_keys, lines_or_none}
+use Rattle.vcd_read.specs.CodesView.{Agree, CodesKept, KeepsLong, only_of, with_single, packed, unpacked, key_of}
+use Rattle.vcd_read.specs.CodesView.{coded_by, is_key, codes_of, are_keys, lines_or_none}
 use Rattle.vcd_read.proofs.CodeTables.{agree_more}
 
 -- the bytes of a slice
@@ -38,23 +43,39 @@ unpacked_packed zero (b ∷ bs) le f = absurd (omega (arith, le))
 unpacked_packed (suc n) [] le f = refl
 unpacked_packed (suc n) (b ∷ bs) le f =
     let few = (f 0).fits in
-    let more : (b + 256 * packed bs == 1) ≡ false = ne_eqb (b + 256 * packed bs) 1 (λ e. omega (arith, e, packed_some bs)) in
-    let low : (b + 256 * packed bs) % 256 ≡ b = add-mul-mod_self_left b 256 (packed bs) ∙ mod-eq_of_lt {n = b} {m = 256} few in
-    let high : (b + 256 * packed bs) / 256 ≡ packed bs = add-mul-div_left b (packed bs) {y = 256} (omega arith) ∙ ap (λ q. q + packed bs) (div-eq_of_lt {n = b} {m = 256} few) ∙ omega arith in
+    let more : (b + 256 * packed bs == 1) ≡ false =
+    ne_eqb (b + 256 * packed bs) 1 (λ e. omega (arith, e, packed_some bs)) in
+    let low : (b + 256 * packed bs) % 256 ≡ b = add-mul-mod_self_left b 256 (packed bs)
+    ∙ mod-eq_of_lt {n = b} {m = 256} few in
+    let high : (b + 256 * packed bs) / 256 ≡ packed bs = add-mul-div_left b (packed bs) {y = 256} (omega arith)
+    ∙ ap (λ q. q + packed bs) (div-eq_of_lt {n = b} {m = 256} few) ∙ omega arith in
     rw (more, low, high) (ap (λ l. b ∷ l) (unpacked_packed n bs (omega (arith, le)) (λ k. f (suc k))))
 
 short_small : (bs : List ℕ) → length bs ≤ 7 → Bytes bs → packed bs < 2 ^ 63
-short_small bs le f = omega (arith, packed_lt bs f, pow-le-pow_right {n = 2} (omega arith) {i = 8 * length bs + 1} {j = 57} (omega (arith, le)))
+short_small bs le f =
+    omega (
+      arith,
+      packed_lt bs f,
+      pow-le-pow_right {n = 2} (omega arith) {i = 8 * length bs + 1} {j = 57}
+          (omega (arith, le)),
+    )
 
 -- the number of the bytes behind a place
-pub packed_more : (code : List ℕ) (left : ℕ) → left < length code → get_or code left 0 + 256 * packed (drop (left + 1) code) ≡ packed (drop left code)
+pub packed_more : (code : List ℕ) (left : ℕ) → left < length code
+    → get_or code left 0 + 256 * packed (drop (left + 1) code) ≡ packed (drop left code)
 packed_more code left h = ap packed (sym (drop_more code left 0 h))
 
-pub packed_small : (code : List ℕ) (left : ℕ) → length code ≤ 7 → 0 < left → Bytes code → packed (drop left code) < 2 ^ 49
+pub packed_small : (code : List ℕ) (left : ℕ) → length code ≤ 7 → 0 < left → Bytes code
+    → packed (drop left code) < 2 ^ 49
 packed_small code left short some f =
     let rest = length-drop left code in
     let bytes : Bytes (drop left code) = λ k. subst (Fits w8) (sym (get_or-drop left code k 0)) (f (left + k)) in
-    omega (arith, packed_lt (drop left code) bytes, pow-le-pow_right {n = 2} (omega arith) {i = 8 * length (drop left code) + 1} {j = 49} (omega (arith, rest, short, some)))
+    omega (
+      arith,
+      packed_lt (drop left code) bytes,
+      pow-le-pow_right {n = 2} (omega arith) {i = 8 * length (drop left code) + 1} {j = 49}
+          (omega (arith, rest, short, some)),
+    )
 
 -- places in a list
 none-some : {X : Type 0} {P : Type 0} (x : X) → ◌≡◌ {A = Option X} None (Some x) → P
@@ -63,13 +84,15 @@ none-some x h = absurd cc
 some-same : (a b : ℕ) → ◌≡◌ {A = Option ℕ} (Some a) (Some b) → a ≡ b
 some-same a b h = cc
 
-found_at : {X : Type 0} (p : X → Bool) (xs : List X) (i : ℕ) → position p xs ≡ Some i → (x : X) × (slice_get xs i ≡ Some x) × (p x ≡ true)
+found_at : {X : Type 0} (p : X → Bool) (xs : List X) (i : ℕ) → position p xs ≡ Some i
+    → (x : X) × (slice_get xs i ≡ Some x) × (p x ≡ true)
 found_at p [] i h = none-some i h
 found_at p (x ∷ xs) i h =
     let place = position-Some p (x ∷ xs) i x h in
     (get_or (x ∷ xs) i x, slice_get-get_or (x ∷ xs) i x place.0, place.1)
 
-position-more : {X : Type 0} (p : X → Bool) (xs ys : List X) (i : ℕ) → position p xs ≡ Some i → position p (xs ++ ys) ≡ Some i
+position-more : {X : Type 0} (p : X → Bool) (xs ys : List X) (i : ℕ) → position p xs ≡ Some i
+    → position p (xs ++ ys) ≡ Some i
 position-more p xs ys i h = by (nat_lt (position_or_len p xs) (length xs)) refl
   where
     by : (b : Bool) → nat_lt (position_or_len p xs) (length xs) ≡ b → position p (xs ++ ys) ≡ Some i
@@ -77,8 +100,10 @@ position-more p xs ys i h = by (nat_lt (position_or_len p xs) (length xs)) refl
         let lt = ltb-true (position_or_len p xs) (length xs) t in
         let other = ne_eqb (position_or_len p xs) (length xs) (λ e. omega (arith, e, lt)) in
         let place : position_or_len p (xs ++ ys) ≡ position_or_len p xs =
-        prefix_len-append (λ x. not (p x)) xs ys ∙ ap (λ b. cond b (length xs + position_or_len p ys) (position_or_len p xs)) other in
-        rw (place, lt-ltb (position_or_len p xs) (length (xs ++ ys)) (omega (arith, lt, length-append xs ys))) (rw t at h)
+        prefix_len-append (λ x. not (p x)) xs ys
+        ∙ ap (λ b. cond b (length xs + position_or_len p ys) (position_or_len p xs)) other in
+        rw (place, lt-ltb (position_or_len p xs) (length (xs ++ ys)) (omega (arith, lt, length-append xs ys)))
+        (rw t at h)
     by false t = none-some i (rw t at h)
 
 get-more : {X : Type 0} (xs ys : List X) (i : ℕ) → i < length xs → slice_get (xs ++ ys) i ≡ slice_get xs i
@@ -87,10 +112,12 @@ get-more (x ∷ xs) ys zero h = refl
 get-more (x ∷ xs) ys (suc i) h = get-more xs ys i (omega (arith, h))
 
 -- the code of a key
-key_code : {A : Type 0} (long : List (Vec ℕ A)) (code : List ℕ) (key : ℕ) → Bytes code → key_of long code ≡ Some key → coded_by long key ≡ code
+key_code : {A : Type 0} (long : List (Vec ℕ A)) (code : List ℕ) (key : ℕ) → Bytes code
+    → key_of long code ≡ Some key → coded_by long key ≡ code
 key_code long code key f h = by (nat_le (length code) 7) refl
   where
-    by_place : (o : Option ℕ) → position (λ v. same code v.items) long ≡ o → option_map (λ i. 2 ^ 63 + i) o ≡ Some key → coded_by long key ≡ code
+    by_place : (o : Option ℕ) → position (λ v. same code v.items) long ≡ o
+        → option_map (λ i. 2 ^ 63 + i) o ≡ Some key → coded_by long key ≡ code
     by_place None t k = none-some key k
     by_place (Some i) t k =
         let found = found_at (λ v. same code v.items) long i t in
@@ -103,43 +130,53 @@ key_code long code key f h = by (nat_le (length code) 7) refl
     by true t =
         let short = leb-true (length code) 7 t in
         let key_is : key ≡ packed code = sym (some-same (packed code) key (rw t at h)) in
-        let small : nat_lt key (2 ^ 63) ≡ true = lt-ltb key (2 ^ 63) (omega (arith, key_is, short_small code short f)) in
+        let small : nat_lt key (2 ^ 63) ≡ true =
+        lt-ltb key (2 ^ 63) (omega (arith, key_is, short_small code short f)) in
         rw (small, key_is) (unpacked_packed 7 code short f)
     by false t = by_place (position (λ v. same code v.items) long) refl (rw t at h)
 
 -- a key is that of its code
-is_key-says : {A : Type 0} (long : List (Vec ℕ A)) (key : ℕ) → is_key long key ≡ true → key_of long (coded_by long key) ≡ Some key
+is_key-says : {A : Type 0} (long : List (Vec ℕ A)) (key : ℕ) → is_key long key ≡ true
+    → key_of long (coded_by long key) ≡ Some key
 is_key-says long key h = by (key_of long (coded_by long key)) refl
   where
     by : (o : Option ℕ) → key_of long (coded_by long key) ≡ o → key_of long (coded_by long key) ≡ Some key
     by None t = absurd (false≢true (rw t at h))
     by (Some k) t = t ∙ ap Some (eqb-true k key (rw t at h))
 
-pub is_key-told : {A : Type 0} (long : List (Vec ℕ A)) (code : List ℕ) (key : ℕ) → Bytes code → key_of long code ≡ Some key → is_key long key ≡ true
+pub is_key-told : {A : Type 0} (long : List (Vec ℕ A)) (code : List ℕ) (key : ℕ) → Bytes code
+    → key_of long code ≡ Some key → is_key long key ≡ true
 is_key-told long code key f h = rw (key_code long code key f h, h) (eq-eqb key key refl)
 
 -- a key is another's just where their codes are one
-same_key : {A : Type 0} (long : List (Vec ℕ A)) (code : List ℕ) (key other : ℕ) → Bytes code → key_of long code ≡ Some key → is_key long other ≡ true
+same_key : {A : Type 0} (long : List (Vec ℕ A)) (code : List ℕ) (key other : ℕ) → Bytes code
+    → key_of long code ≡ Some key → is_key long other ≡ true
     → (key == other) ≡ same code (coded_by long other)
 same_key long code key other f h k = by (same code (coded_by long other)) refl
   where
     by : (b : Bool) → same code (coded_by long other) ≡ b → (key == other) ≡ same code (coded_by long other)
     by true t =
-        let one : key_of long code ≡ Some other = ap (key_of long) (same_text code (coded_by long other) (sym t)) ∙ is_key-says long other k in
+        let one : key_of long code ≡ Some other =
+        ap (key_of long) (same_text code (coded_by long other) (sym t)) ∙ is_key-says long other k in
         eq-eqb key other (some-same key other (sym h ∙ one)) ∙ sym t
     by false t =
-        ne_eqb key other (λ e. false≢true (sym t ∙ ap (same code) (ap (coded_by long) (sym e) ∙ key_code long code key f h) ∙ nat_list_eq_equiv.refl code)) ∙ sym t
+        ne_eqb key other
+        (λ e. false≢true (sym t ∙ ap (same code) (ap (coded_by long) (sym e) ∙ key_code long code key f h)
+        ∙ nat_list_eq_equiv.refl code)) ∙ sym t
 
-no_key : {A : Type 0} (long : List (Vec ℕ A)) (code : List ℕ) (other : ℕ) → key_of long code ≡ None → is_key long other ≡ true
+no_key : {A : Type 0} (long : List (Vec ℕ A)) (code : List ℕ) (other : ℕ) → key_of long code ≡ None
+    → is_key long other ≡ true
     → same code (coded_by long other) ≡ false
 no_key long code other h k = by (same code (coded_by long other)) refl
   where
     by : (b : Bool) → same code (coded_by long other) ≡ b → same code (coded_by long other) ≡ false
-    by true t = none-some other (sym h ∙ ap (key_of long) (same_text code (coded_by long other) (sym t)) ∙ is_key-says long other k)
+    by true t = none-some other (sym h ∙ ap (key_of long) (same_text code (coded_by long other) (sym t))
+        ∙ is_key-says long other k)
     by false t = t
 
 -- what the map finds are the lines of the code
-pub found : {A : Type 0} (long : List (Vec ℕ A)) (code : List ℕ) (key : ℕ) (es : List (ℕ × Vec ℕ A)) → Bytes code → key_of long code ≡ Some key
+pub found : {A : Type 0} (long : List (Vec ℕ A)) (code : List ℕ) (key : ℕ) (es : List (ℕ × Vec ℕ A))
+    → Bytes code → key_of long code ≡ Some key
     → are_keys long es ≡ true
     → option_map (λ v. v.items) (lookup (λ k. nat_eq key k) es) ≡ lines_of (codes_of long es) code
 found long code key [] f h keys = refl
@@ -154,38 +191,50 @@ found long code key (e ∷ es) f h keys =
     by true t one rest = rw (one, t) refl
     by false t one rest = rw (one, t) rest
 
-pub not_found : {A : Type 0} (long : List (Vec ℕ A)) (code : List ℕ) (es : List (ℕ × Vec ℕ A)) → key_of long code ≡ None → are_keys long es ≡ true
+pub not_found : {A : Type 0} (long : List (Vec ℕ A)) (code : List ℕ) (es : List (ℕ × Vec ℕ A))
+    → key_of long code ≡ None → are_keys long es ≡ true
     → lines_of (codes_of long es) code ≡ None
 not_found long code [] h keys = refl
-not_found long code (e ∷ es) h keys = let p = and_parts _ _ keys in rw (no_key long code e.0 h p.0) (not_found long code es h p.1)
+not_found long code (e ∷ es) h keys = let p = and_parts _ _ keys in
+    rw (no_key long code e.0 h p.0) (not_found long code es h p.1)
 
 -- the entries of the map, once the code has got the lines that it had and one more variable's
-pub inserted : {A : Type 0} (long : List (Vec ℕ A)) (code : List ℕ) (key : ℕ) (lines : Vec ℕ A) (line : List ℕ) (es : List (ℕ × Vec ℕ A)) → Bytes code
+pub inserted : {A : Type 0} (long : List (Vec ℕ A)) (code : List ℕ) (key : ℕ) (lines : Vec ℕ A) (line : List ℕ)
+    (es : List (ℕ × Vec ℕ A)) → Bytes code
     → key_of long code ≡ Some key → are_keys long es ≡ true
-    → lines.items ≡ lines_or_none (lines_of (codes_of long es) code) ++ line → codes_of long (insert_entry nat_eq es key lines) ≡ with_code (codes_of long es) code line
+    → lines.items ≡ lines_or_none (lines_of (codes_of long es) code) ++ line
+    → codes_of long (insert_entry nat_eq es key lines) ≡ with_code (codes_of long es) code line
 inserted long code key lines line [] f h keys l = λ i. record { code = key_code long code key f h i; lines = l i } ∷ []
 inserted {A} long code key lines line (e ∷ es) f h keys l =
     let p = and_parts _ _ keys in
-    by (same code (coded_by long e.0)) refl (same_key long code key e.0 f h p.0) (λ k. inserted long code key lines line es f h p.1 k)
+    by (same code (coded_by long e.0)) refl (same_key long code key e.0 f h p.0)
+    (λ k. inserted long code key lines line es f h p.1 k)
   where
     by : (b : Bool) → same code (coded_by long e.0) ≡ b → (key == e.0) ≡ same code (coded_by long e.0)
-        → (lines.items ≡ lines_or_none (lines_of (codes_of long es) code) ++ line → codes_of long (insert_entry nat_eq es key lines) ≡ with_code (codes_of long es) code line)
+        → (lines.items ≡ lines_or_none (lines_of (codes_of long es) code) ++ line
+        → codes_of long (insert_entry nat_eq es key lines) ≡ with_code (codes_of long es) code line)
         → codes_of long (insert_entry nat_eq (e ∷ es) key lines) ≡ with_code (codes_of long (e ∷ es)) code line
-    by true t one rest = rw (one, t) (let k = rw t at l in λ i. record { code = coded_by long e.0; lines = k i } ∷ codes_of long es)
-    by false t one rest = rw (one, t) (ap (λ cs. record { code = coded_by long e.0; lines = e.1.items } ∷ cs) (rest (rw t at l)))
+    by true t one rest = rw (one, t) (let k = rw t at l in
+        λ i. record { code = coded_by long e.0; lines = k i } ∷ codes_of long es)
+    by false t one rest =
+        rw (one, t) (ap (λ cs. record { code = coded_by long e.0; lines = e.1.items } ∷ cs) (rest (rw t at l)))
 
-pub keys_inserted : {A : Type 0} (long : List (Vec ℕ A)) (key : ℕ) (lines : Vec ℕ A) (es : List (ℕ × Vec ℕ A)) → is_key long key ≡ true
+pub keys_inserted : {A : Type 0} (long : List (Vec ℕ A)) (key : ℕ) (lines : Vec ℕ A) (es : List (ℕ × Vec ℕ A))
+    → is_key long key ≡ true
     → are_keys long es ≡ true → are_keys long (insert_entry nat_eq es key lines) ≡ true
 keys_inserted long key lines [] one keys = and_from _ _ one refl
-keys_inserted {A} long key lines (e ∷ es) one keys = let p = and_parts _ _ keys in by (key == e.0) refl p.0 (keys_inserted long key lines es one p.1) p.1
+keys_inserted {A} long key lines (e ∷ es) one keys = let p = and_parts _ _ keys in
+    by (key == e.0) refl p.0 (keys_inserted long key lines es one p.1) p.1
   where
-    by : (b : Bool) → (key == e.0) ≡ b → is_key long e.0 ≡ true → are_keys long (insert_entry nat_eq es key lines) ≡ true → are_keys long es ≡ true
+    by : (b : Bool) → (key == e.0) ≡ b → is_key long e.0 ≡ true
+        → are_keys long (insert_entry nat_eq es key lines) ≡ true → are_keys long es ≡ true
         → are_keys long (insert_entry nat_eq (e ∷ es) key lines) ≡ true
     by true t first rest others = rw t (and_from _ _ first others)
     by false t first rest others = rw t (and_from _ _ first rest)
 
 -- more long codes change nothing of the keys before
-code_kept : {A : Type 0} (long added : List (Vec ℕ A)) (key : ℕ) → is_key long key ≡ true → coded_by (long ++ added) key ≡ coded_by long key
+code_kept : {A : Type 0} (long added : List (Vec ℕ A)) (key : ℕ) → is_key long key ≡ true
+    → coded_by (long ++ added) key ≡ coded_by long key
 code_kept long added key h = by (nat_lt key (2 ^ 63)) refl
   where
     past : nat_lt key (2 ^ 63) ≡ false → length long ≤ key - 2 ^ 63 → ⊥
@@ -201,34 +250,42 @@ code_kept long added key h = by (nat_lt key (2 ^ 63)) refl
     by true t = rw t refl
     by false t = rw (t, get-more long added (key - 2 ^ 63) (within t)) refl
 
-key_kept : {A : Type 0} (long added : List (Vec ℕ A)) (code : List ℕ) (key : ℕ) → key_of long code ≡ Some key → key_of (long ++ added) code ≡ Some key
+key_kept : {A : Type 0} (long added : List (Vec ℕ A)) (code : List ℕ) (key : ℕ) → key_of long code ≡ Some key
+    → key_of (long ++ added) code ≡ Some key
 key_kept long added code key h = by (nat_le (length code) 7) refl
   where
     by_place : (o : Option ℕ) → position (λ v. same code v.items) long ≡ o → option_map (λ i. 2 ^ 63 + i) o ≡ Some key
         → option_map (λ i. 2 ^ 63 + i) (position (λ v. same code v.items) (long ++ added)) ≡ Some key
     by_place None t k = none-some key k
-    by_place (Some i) t k = ap (option_map (λ i. 2 ^ 63 + i)) (position-more (λ v. same code v.items) long added i t) ∙ k
+    by_place (Some i) t k = ap (option_map (λ i. 2 ^ 63 + i))
+        (position-more (λ v. same code v.items) long added i t) ∙ k
 
     by : (b : Bool) → nat_le (length code) 7 ≡ b → key_of (long ++ added) code ≡ Some key
     by true t = rw t (rw t at h)
     by false t = rw t (by_place (position (λ v. same code v.items) long) refl (rw t at h))
 
-is_key-kept : {A : Type 0} (long added : List (Vec ℕ A)) (key : ℕ) → is_key long key ≡ true → is_key (long ++ added) key ≡ true
+is_key-kept : {A : Type 0} (long added : List (Vec ℕ A)) (key : ℕ) → is_key long key ≡ true
+    → is_key (long ++ added) key ≡ true
 is_key-kept long added key h =
-    rw (code_kept long added key h, key_kept long added (coded_by long key) key (is_key-says long key h)) (eq-eqb key key refl)
+    rw (code_kept long added key h, key_kept long added (coded_by long key) key (is_key-says long key h))
+    (eq-eqb key key refl)
 
-pub keys_kept : {A : Type 0} (long added : List (Vec ℕ A)) (es : List (ℕ × Vec ℕ A)) → are_keys long es ≡ true → are_keys (long ++ added) es ≡ true
+pub keys_kept : {A : Type 0} (long added : List (Vec ℕ A)) (es : List (ℕ × Vec ℕ A)) → are_keys long es ≡ true
+    → are_keys (long ++ added) es ≡ true
 keys_kept long added [] h = refl
-keys_kept long added (e ∷ es) h = let p = and_parts _ _ h in and_from _ _ (is_key-kept long added e.0 p.0) (keys_kept long added es p.1)
+keys_kept long added (e ∷ es) h = let p = and_parts _ _ h in
+    and_from _ _ (is_key-kept long added e.0 p.0) (keys_kept long added es p.1)
 
-pub codes_kept : {A : Type 0} (long added : List (Vec ℕ A)) (es : List (ℕ × Vec ℕ A)) → are_keys long es ≡ true → codes_of (long ++ added) es ≡ codes_of long es
+pub codes_kept : {A : Type 0} (long added : List (Vec ℕ A)) (es : List (ℕ × Vec ℕ A)) → are_keys long es ≡ true
+    → codes_of (long ++ added) es ≡ codes_of long es
 codes_kept long added [] h = refl
 codes_kept long added (e ∷ es) h =
     let p = and_parts _ _ h in
     λ i. record { code = code_kept long added e.0 p.0 i; lines = e.1.items } ∷ codes_kept long added es p.1 i
 
 -- what the tables keep, once there are more long codes, and once a code has got one more variable
-pub kept_long : {A : Type 0} (single : List (Option ℕ)) (long new : List (Vec ℕ A)) (es : List (ℕ × Vec ℕ A)) → CodesKept single long es
+pub kept_long : {A : Type 0} (single : List (Option ℕ)) (long new : List (Vec ℕ A)) (es : List (ℕ × Vec ℕ A))
+    → CodesKept single long es
     → KeepsLong long new → CodesKept single new es
 kept_long single long new es kept more =
     subst (λ l. CodesKept single l es) (sym more.appended) (record {
@@ -236,15 +293,19 @@ kept_long single long new es kept more =
       keys = keys_kept long more.added es kept.keys;
     })
 
-pub codes_long : {A : Type 0} (long new : List (Vec ℕ A)) (es : List (ℕ × Vec ℕ A)) → are_keys long es ≡ true → KeepsLong long new
+pub codes_long : {A : Type 0} (long new : List (Vec ℕ A)) (es : List (ℕ × Vec ℕ A)) → are_keys long es ≡ true
+    → KeepsLong long new
     → codes_of new es ≡ codes_of long es
 codes_long long new es keys more = ap (λ l. codes_of l es) more.appended ∙ codes_kept long more.added es keys
 
-pub kept_declared : {A : Type 0} (single : List (Option ℕ)) (long : List (Vec ℕ A)) (es : List (ℕ × Vec ℕ A)) (code line : List ℕ) (key : ℕ) (lines : Vec ℕ A) (only : Option ℕ)
+pub kept_declared : {A : Type 0} (single : List (Option ℕ)) (long : List (Vec ℕ A)) (es : List (ℕ × Vec ℕ A))
+    (code line : List ℕ) (key : ℕ) (lines : Vec ℕ A) (only : Option ℕ)
     → Bytes code → key_of long code ≡ Some key → CodesKept single long es
-    → lines.items ≡ lines_or_none (lines_of (codes_of long es) code) ++ line → only ≡ only_of lines.items → CodesKept (with_single single code only) long (insert_entry nat_eq es key lines)
+    → lines.items ≡ lines_or_none (lines_of (codes_of long es) code) ++ line → only ≡ only_of lines.items
+    → CodesKept (with_single single code only) long (insert_entry nat_eq es key lines)
 kept_declared single long es code line key lines only f h kept l only_is = record {
-  agree = subst (λ cs. Agree (with_single single code only) cs) (sym (inserted long code key lines line es f h kept.keys l))
+  agree = subst (λ cs. Agree (with_single single code only) cs)
+      (sym (inserted long code key lines line es f h kept.keys l))
       (agree_more single (codes_of long es) code line lines.items only kept.agree l only_is);
   keys = keys_inserted long key lines es (is_key-told long code key f h) kept.keys;
 }

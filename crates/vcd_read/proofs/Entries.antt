@@ -1,5 +1,6 @@
 -- Entries of the signal table, found at their places.
-use Rattle.std.proofs.Common.{◌≡◌, ℕ, ◌+◌, List, [], ◌∷◌, drop, Option, Some, slice_get, ap, sym, ◌∙◌, not, ◌&&◌, true, false, Bool, get_or, ◌<◌}
+use Rattle.std.proofs.Common.{◌≡◌, ℕ, ◌+◌, List, [], ◌∷◌, drop, Option, Some, slice_get, ap, sym, ◌∙◌, not, ◌&&◌, true}
+use Rattle.std.proofs.Common.{false, Bool, get_or, ◌<◌}
 use Rattle.std.proofs.lemmas.List.{drop_more}
 use Rattle.std.proofs.lemmas.Option.{slice_get-get_or}
 use Rattle.fsb_signal.specs.Table.{TableEntry, table, needed}
@@ -27,6 +28,7 @@ missing_here lines n missing told within is h t =
 
 pub missing_later : (lines : List ℕ) (n : ℕ) (missing : Bool) (told : Option ℕ) → n < 22
     → ((e : TableEntry) → slice_get table n ≡ Some e → missing ≡ (e.needed && not (is_declared lines n)))
-    → missing_from lines n (drop n table) ≡ told → missing ≡ false → missing_from lines (n + 1) (drop (n + 1) table) ≡ told
+    → missing_from lines n (drop n table) ≡ told → missing ≡ false
+    → missing_from lines (n + 1) (drop (n + 1) table) ≡ told
 missing_later lines n missing told within is h t =
     sym (rw (sym (is (entry n) (has_entry n within)) ∙ t) at (ap (missing_from lines n) (rest n within))) ∙ h

@@ -14,5 +14,6 @@ sample_at-clock [] x = refl
 sample_at-clock (y ∷ levels) x = same_sample (sample_at (x ∷ levels)) (sample_at (y ∷ levels)) refl refl refl refl refl
 
 -- a clock's change keeps the sample
-pub kept_by-clock : (changed : Bool) (sample : Sample) (levels : List Level) (x : Level) → SampleKept changed sample levels → SampleKept changed sample (slice_set levels 0 x)
+pub kept_by-clock : (changed : Bool) (sample : Sample) (levels : List Level) (x : Level)
+    → SampleKept changed sample levels → SampleKept changed sample (slice_set levels 0 x)
 kept_by-clock changed sample levels x h = record { same = λ e. h.same e ∙ sym (sample_at-clock levels x) }

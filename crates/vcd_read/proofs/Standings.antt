@@ -1,5 +1,7 @@
 -- What a reader stands for, as bytes come and as they end.
-use Rattle.std.proofs.Common.{◌≡◌, ℕ, ◌+◌, ◌-◌, ◌≤◌, Bool, true, false, List, [], ◌∷◌, ◌++◌, length, take, nat_lt, if◌then◌else◌, Option, Some, None, Result, Ok, Err, refl, sym, ap, ◌∙◌, subst, arith, append_assoc, suc, zero}
+use Rattle.std.proofs.Common.{◌≡◌, ℕ, ◌+◌, ◌-◌, ◌≤◌, Bool, true, false, List, [], ◌∷◌, ◌++◌, length, take, nat_lt}
+use Rattle.std.proofs.Common.{if◌then◌else◌, Option, Some, None, Result, Ok, Err, refl, sym, ap, ◌∙◌, subst, arith}
+use Rattle.std.proofs.Common.{append_assoc, suc, zero}
 use Rattle.std.specs.Result.{OnOk}
 use Rattle.std.proofs.lemmas.Bool.{ltb-false}
 use Rattle.std.proofs.lemmas.List.{append-nil, take_all}
@@ -45,11 +47,14 @@ pub scanned_fault : (s : Scan) (fed : List ℕ) → Scanned s fed → s.machine.
 scanned_fault s fed h = ap (λ t. t.known.fault) h.machine ∙ sym (fault_so_far_law fed)
 
 -- further bytes
-pub scanned_more : (s t : Scan) (fed piece : List ℕ) → Scanned s fed → reading t ≡ after_bytes (reading s) piece → Scanned t (fed ++ piece)
-scanned_more s t fed piece h k = reading_scanned t (fed ++ piece) (behind_taken unread (reading s) (reading t) fed piece (scanned_reading s fed h) k)
+pub scanned_more : (s t : Scan) (fed piece : List ℕ) → Scanned s fed → reading t ≡ after_bytes (reading s) piece
+    → Scanned t (fed ++ piece)
+scanned_more s t fed piece h k =
+    reading_scanned t (fed ++ piece) (behind_taken unread (reading s) (reading t) fed piece (scanned_reading s fed h) k)
 
 -- the samples of the bytes fed, and of those that follow
-fed_samples : (s : Scan) (fed piece : List ℕ) → Scanned s fed → samples_so_far (fed ++ piece) ≡ samples_so_far fed ++ samples_in_bytes (reading s) piece
+fed_samples : (s : Scan) (fed piece : List ℕ) → Scanned s fed
+    → samples_so_far (fed ++ piece) ≡ samples_so_far fed ++ samples_in_bytes (reading s) piece
 fed_samples s fed piece h =
     samples_so_far_law (fed ++ piece) ∙ behind_samples unread (reading s) fed piece (scanned_reading s fed h)
     ∙ ap (λ xs. xs ++ samples_in_bytes (reading s) piece) (sym (samples_so_far_law fed))
@@ -62,14 +67,18 @@ take_both {X} n [] ys = let e : n - 0 ≡ n = omega arith in sym (rw e (no_take 
     no_take zero = refl
     no_take (suc m) = refl
 take_both zero (x ∷ xs) ys = let e : 0 - suc (length xs) ≡ 0 = omega arith in rw e refl
-take_both (suc n) (x ∷ xs) ys = let e : suc n - suc (length xs) ≡ n - length xs = omega arith in rw e (ap (λ w. x ∷ w) (take_both n xs ys))
+take_both (suc n) (x ∷ xs) ys = let e : suc n - suc (length xs) ≡ n - length xs = omega arith in
+    rw e (ap (λ w. x ∷ w) (take_both n xs ys))
 
 -- the samples that were few enough, and what follows of them up to the limit
-pub take_behind : (limit : ℕ) (xs ys : List Sample) → length xs ≤ limit → take limit (xs ++ ys) ≡ xs ++ take (limit - length xs) ys
+pub take_behind : (limit : ℕ) (xs ys : List Sample) → length xs ≤ limit
+    → take limit (xs ++ ys) ≡ xs ++ take (limit - length xs) ys
 take_behind limit xs ys few = take_both limit xs ys ∙ ap (λ w. w ++ take (limit - length xs) ys) (take_all limit xs few)
 
 -- what was appended goes up to the limit
-pub appends_all : (limit decided : ℕ) (before more old new : List Sample) → decided ≡ length before → length before ≤ limit → new ≡ pushed limit decided old more → AppendsUpTo before (take limit (before ++ more)) old new
+pub appends_all : (limit decided : ℕ) (before more old new : List Sample) → decided ≡ length before
+    → length before ≤ limit → new ≡ pushed limit decided old more
+    → AppendsUpTo before (take limit (before ++ more)) old new
 appends_all limit decided before more old new is few h = record {
   added = take (limit - length before) more;
   appended = h ∙ pushed-is limit decided old more ∙ ap (λ n. old ++ take (limit - n) more) is;
@@ -77,7 +86,8 @@ appends_all limit decided before more old new is few h = record {
 }
 
 -- or to a first part of that
-pub appends_some : (limit decided : ℕ) (before more old new : List Sample) → decided ≡ length before → length before ≤ limit → Part limit decided more old new → AppendsSome before (take limit (before ++ more)) old new
+pub appends_some : (limit decided : ℕ) (before more old new : List Sample) → decided ≡ length before
+    → length before ≤ limit → Part limit decided more old new → AppendsSome before (take limit (before ++ more)) old new
 appends_some limit decided before more old new is few p =
     let room = limit - length before in
     record {
@@ -98,22 +108,34 @@ answers_of (Some stops.Memory) = tt
 answers_of (Some (stops.Bad fault)) = refl
 
 -- all is a first part
-appends_part : (before after old new : List Sample) → AppendsUpTo before after old new → AppendsSome before after old new
-appends_part before after old new a = record { added = a.added; rest = []; appended = a.appended; partial = append-nil (before ++ a.added) ∙ a.complete }
+appends_part : (before after old new : List Sample) → AppendsUpTo before after old new
+    → AppendsSome before after old new
+appends_part before after old new a = record {
+  added = a.added;
+  rest = [];
+  appended = a.appended;
+  partial = append-nil (before ++ a.added) ∙ a.complete;
+}
 
-pub appends_of : (stop : Option VcdStop) (before after old new : List Sample) → AppendsUpTo before after old new → AppendsBy (result_of stop) before after old new
+pub appends_of : (stop : Option VcdStop) (before after old new : List Sample) → AppendsUpTo before after old new
+    → AppendsBy (result_of stop) before after old new
 appends_of None before after old new a = a
 appends_of (Some stops.TooLong) before after old new a = a
 appends_of (Some stops.Memory) before after old new a = appends_part before after old new a
 appends_of (Some (stops.Bad fault)) before after old new a = a
 
 -- the refusal of the first bytes, by what the scan has counted
-pub stop_is : (limit : ℕ) (s : Scan) (fed : List ℕ) → Scanned s fed → (if nat_lt limit s.machine.decided then Some stops.TooLong else fault_or s.machine.fault None) ≡ stop_so_far limit fed
+pub stop_is : (limit : ℕ) (s : Scan) (fed : List ℕ) → Scanned s fed
+    → (if nat_lt limit s.machine.decided then Some stops.TooLong else fault_or s.machine.fault None)
+    ≡ stop_so_far limit fed
 unfolding stop_so_far
-stop_is limit s fed h = λ i. if nat_lt limit (scanned_decided s fed h i) then Some stops.TooLong else fault_or (scanned_fault s fed h i) None
+stop_is limit s fed h = λ i. if nat_lt limit (scanned_decided s fed h i) then Some stops.TooLong
+    else fault_or (scanned_fault s fed h i) None
 
 -- where nothing is refused, the samples are few enough
-pub few_where_none : (limit : ℕ) (s : Scan) (fed : List ℕ) → Scanned s fed → (if nat_lt limit s.machine.decided then Some stops.TooLong else fault_or s.machine.fault None) ≡ None → length (samples_so_far fed) ≤ limit
+pub few_where_none : (limit : ℕ) (s : Scan) (fed : List ℕ) → Scanned s fed
+    → (if nat_lt limit s.machine.decided then Some stops.TooLong else fault_or s.machine.fault None) ≡ None
+    → length (samples_so_far fed) ≤ limit
 few_where_none limit s fed h none = by (nat_lt limit s.machine.decided) refl
   where
     by : (b : Bool) → nat_lt limit s.machine.decided ≡ b → length (samples_so_far fed) ≤ limit
@@ -121,29 +143,40 @@ few_where_none limit s fed h none = by (nat_lt limit s.machine.decided) refl
     by false t = omega (arith, ltb-false limit s.machine.decided t, scanned_decided s fed h)
 
 -- where nothing is refused, there is no fault
-pub faultless_where_none : (limit : ℕ) (s : Scan) (fed : List ℕ) → Scanned s fed → (if nat_lt limit s.machine.decided then Some stops.TooLong else fault_or s.machine.fault None) ≡ None → fault_so_far fed ≡ None
-faultless_where_none limit s fed h none = sym (scanned_fault s fed h) ∙ by (nat_lt limit s.machine.decided) s.machine.fault none
+pub faultless_where_none : (limit : ℕ) (s : Scan) (fed : List ℕ) → Scanned s fed
+    → (if nat_lt limit s.machine.decided then Some stops.TooLong else fault_or s.machine.fault None) ≡ None
+    → fault_so_far fed ≡ None
+faultless_where_none limit s fed h none = sym (scanned_fault s fed h)
+    ∙ by (nat_lt limit s.machine.decided) s.machine.fault none
   where
-    by : (b : Bool) (fault : Option VcdFault) → (if b then Some stops.TooLong else fault_or fault None) ≡ None → fault ≡ None
+    by : (b : Bool) (fault : Option VcdFault) → (if b then Some stops.TooLong else fault_or fault None) ≡ None
+        → fault ≡ None
     by true fault t = absurd cc
     by false None t = refl
     by false (Some fault) t = absurd cc
 
 -- the samples that further bytes decide were appended
-pub fed_appends : (limit : ℕ) (s : Scan) (fed piece : List ℕ) (old new : List Sample) → Scanned s fed → length (samples_so_far fed) ≤ limit
-    → new ≡ pushed limit s.machine.decided old (samples_in_bytes (reading s) piece) → AppendsUpTo (samples_so_far fed) (take limit (samples_so_far (fed ++ piece))) old new
+pub fed_appends : (limit : ℕ) (s : Scan) (fed piece : List ℕ) (old new : List Sample) → Scanned s fed
+    → length (samples_so_far fed) ≤ limit
+    → new ≡ pushed limit s.machine.decided old (samples_in_bytes (reading s) piece)
+    → AppendsUpTo (samples_so_far fed) (take limit (samples_so_far (fed ++ piece))) old new
 fed_appends limit s fed piece old new h few k =
     subst (λ w. AppendsUpTo (samples_so_far fed) (take limit w) old new) (sym (fed_samples s fed piece h))
-    (appends_all limit s.machine.decided (samples_so_far fed) (samples_in_bytes (reading s) piece) old new (scanned_decided s fed h) few k)
+    (appends_all limit s.machine.decided (samples_so_far fed) (samples_in_bytes (reading s) piece) old new
+    (scanned_decided s fed h) few k)
 
-pub fed_part : (limit : ℕ) (s : Scan) (fed piece : List ℕ) (old new : List Sample) → Scanned s fed → length (samples_so_far fed) ≤ limit
-    → Part limit s.machine.decided (samples_in_bytes (reading s) piece) old new → AppendsSome (samples_so_far fed) (take limit (samples_so_far (fed ++ piece))) old new
+pub fed_part : (limit : ℕ) (s : Scan) (fed piece : List ℕ) (old new : List Sample) → Scanned s fed
+    → length (samples_so_far fed) ≤ limit
+    → Part limit s.machine.decided (samples_in_bytes (reading s) piece) old new
+    → AppendsSome (samples_so_far fed) (take limit (samples_so_far (fed ++ piece))) old new
 fed_part limit s fed piece old new h few p =
     subst (λ w. AppendsSome (samples_so_far fed) (take limit w) old new) (sym (fed_samples s fed piece h))
-    (appends_some limit s.machine.decided (samples_so_far fed) (samples_in_bytes (reading s) piece) old new (scanned_decided s fed h) few p)
+    (appends_some limit s.machine.decided (samples_so_far fed) (samples_in_bytes (reading s) piece) old new
+    (scanned_decided s fed h) few p)
 
 -- what follows where nothing is refused
-pub ok_of : {P : Type 0} (r : Result Unit VcdStop) (stop : Option VcdStop) → r ≡ result_of stop → (stop ≡ None → P) → OnOk r P
+pub ok_of : {P : Type 0} (r : Result Unit VcdStop) (stop : Option VcdStop) → r ≡ result_of stop
+    → (stop ≡ None → P) → OnOk r P
 ok_of (Ok x) None h f = f refl
 ok_of (Ok x) (Some stop) h f = absurd cc
 ok_of (Err e) stop h f = tt

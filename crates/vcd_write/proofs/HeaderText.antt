@@ -1,5 +1,6 @@
 -- The lines of the header, by their entry.
-use Rattle.std.proofs.Common.{◌≡◌, ℕ, ◌+◌, ◌-◌, ◌<◌, ◌≤◌, ◌≢◌, List, [], ◌∷◌, ◌++◌, refl, codes, decimal, append_assoc, sym, arith, length, true, Some, slice_get, get_or, Bool, nat_lt, ap, ◌∙◌}
+use Rattle.std.proofs.Common.{◌≡◌, ℕ, ◌+◌, ◌-◌, ◌<◌, ◌≤◌, ◌≢◌, List, [], ◌∷◌, ◌++◌, refl, codes, decimal, append_assoc}
+use Rattle.std.proofs.Common.{sym, arith, length, true, Some, slice_get, get_or, Bool, nat_lt, ap, ◌∙◌}
 use Rattle.std.specs.List.{list_all}
 use Rattle.std.proofs.lemmas.Option.{slice_get_within, get_or_from_slice_get}
 use Rattle.std.proofs.lemmas.List.Folds.{list_all_at}
@@ -9,7 +10,8 @@ use Rattle.fsb_signal.specs.DumpText.{width_of, lowest_of, range_text, declarati
 
 -- a word's lines, from the highest to the lowest
 pub range_text-word : (number width : ℕ) → width ≡ width_of number → 1 < width →
-    range_text number ≡ codes "[" ++ decimal (lowest_of number + width - 1) ++ codes ":" ++ decimal (lowest_of number) ++ codes "] "
+    range_text number
+    ≡ codes "[" ++ decimal (lowest_of number + width - 1) ++ codes ":" ++ decimal (lowest_of number) ++ codes "] "
 unfolding range_text
 range_text-word number width is many =
     let more : width ≢ 1 = omega (arith, many) in
@@ -23,7 +25,8 @@ range_text-single number width is one = rw (sym is, one) refl
 -- the declaration of an entry of the table
 pub declaration_text-entry : (number : ℕ) (e : TableEntry) → slice_get table number ≡ Some e →
     declaration_text number
-    ≡ codes "$var wire " ++ decimal e.width ++ codes " " ++ (33 + number) ∷ [] ++ codes " " ++ e.name ++ codes " " ++ range_text number ++ codes "$end\n"
+    ≡ codes "$var wire " ++ decimal e.width ++ codes " " ++ (33 + number) ∷ [] ++ codes " " ++ e.name
+    ++ codes " " ++ range_text number ++ codes "$end\n"
 unfolding declaration_text
 declaration_text-entry number e h = rw h refl
 
@@ -38,7 +41,8 @@ entry_name-short number e h =
     let at : get_or table number e ≡ e = get_or_from_slice_get table number e e h in
     let all : list_all is_short table ≡ true = refl in
     let short : is_short e ≡ true =
-    true_from_ne_false (is_short e) (λ long. cc (sym all ∙ list_all_at is_short table number e within (ap is_short at ∙ long)))
+    true_from_ne_false (is_short e)
+    (λ long. cc (sym all ∙ list_all_at is_short table number e within (ap is_short at ∙ long)))
     in
     omega (arith, ltb-true (length e.name) 8 short)
 
@@ -47,5 +51,6 @@ pub append_five : (t p q r s u : List ℕ) → t ++ p ++ q ++ r ++ s ++ u ≡ t 
 append_five t p q r s u = simp append_assoc refl
 
 -- nine texts behind another
-pub append_nine : (t a b c d e f g h i : List ℕ) → t ++ a ++ b ++ c ++ d ++ e ++ f ++ g ++ h ++ i ≡ t ++ (a ++ b ++ c ++ d ++ e ++ f ++ g ++ h ++ i)
+pub append_nine : (t a b c d e f g h i : List ℕ)
+    → t ++ a ++ b ++ c ++ d ++ e ++ f ++ g ++ h ++ i ≡ t ++ (a ++ b ++ c ++ d ++ e ++ f ++ g ++ h ++ i)
 append_nine t a b c d e f g h i = simp append_assoc refl

@@ -1,4 +1,5 @@
-use Rattle.fsb_script_laws.proofs.EachLine.{memory_line_back, profile_line_back, window_line_back, load_line_back, store_line_back, idle_line_back, transaction_line_back, block_line_back}
+use Rattle.fsb_script_laws.proofs.EachLine.{memory_line_back, profile_line_back, window_line_back, load_line_back}
+use Rattle.fsb_script_laws.proofs.EachLine.{store_line_back, idle_line_back, transaction_line_back, block_line_back}
 use Rattle.fsb_script_laws.proofs.lines_read_back.Goals as goal
 
 pub returns-clause-memory : goal.returns-clause-memory

@@ -14,8 +14,10 @@ returns-clause-own_text c p q v w h k same = (reads-back p v h).2 ∙ ap samples
 one_profile : (p q : ℕ) → (p ≡ 1) ⊎ (p ≡ 2) → (q ≡ 1) ⊎ (q ≡ 2) → marks_in p ≡ marks_in q → p ≡ q
 one_profile p q (inl a) (inl b) same = a ∙ sym b
 one_profile p q (inr a) (inr b) same = a ∙ sym b
-one_profile p q (inl a) (inr b) same = let differ : marks_in 1 ≡ marks_in 2 = sym (ap marks_in a) ∙ same ∙ ap marks_in b in cc (ap (λ m. m.ap) differ)
-one_profile p q (inr a) (inl b) same = let differ : marks_in 2 ≡ marks_in 1 = sym (ap marks_in a) ∙ same ∙ ap marks_in b in cc (ap (λ m. m.ap) differ)
+one_profile p q (inl a) (inr b) same = let differ : marks_in 1 ≡ marks_in 2 = sym (ap marks_in a) ∙ same
+    ∙ ap marks_in b in cc (ap (λ m. m.ap) differ)
+one_profile p q (inr a) (inl b) same = let differ : marks_in 2 ≡ marks_in 1 = sym (ap marks_in a) ∙ same
+    ∙ ap marks_in b in cc (ap (λ m. m.ap) differ)
 
 pub returns-clause-own_profile : goal.returns-clause-own_profile
 returns-clause-own_profile c p q v w h k same =

@@ -12,4 +12,5 @@ loop-out-preserved c =
     let x : OwnRequest = get_or items k no_request in
     let within : k < length items = omega (arith, c.loop-out-test.true, c.loop-out.auto.out-items) in
     ap (λ w. set items k w) c.with_grant.ensures
-    ∙ map_over_more (with_grant c.args.number c.args.kept) c.as_mut_slice-out-items.result.now items k x c.loop-out-test.true c.loop-out.invariant (get_or_default items k _ x within)
+    ∙ map_over_more (with_grant c.args.number c.args.kept) c.as_mut_slice-out-items.result.now items k x
+    c.loop-out-test.true c.loop-out.invariant (get_or_default items k _ x within)

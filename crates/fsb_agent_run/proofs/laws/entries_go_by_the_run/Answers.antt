@@ -10,7 +10,8 @@ returns-clause-arrived c =
     λ r a d number s grant bytes v h ends makes view. arrived-entries r a d number s grant bytes v h ends makes view
 
 pub returns-clause-upgraded : goal.returns-clause-upgraded
-returns-clause-upgraded c = λ r a d number s v h ends upgraded view. upgrade-entries r a d number s v h ends upgraded view
+returns-clause-upgraded c = λ r a d number s v h ends upgraded view. upgrade-entries r a d number s v h ends
+    upgraded view
 
 pub returns-clause-logged : goal.returns-clause-logged
 returns-clause-logged c = λ r a d hits arrivals h few hit arrival. entries-logged r a d hits arrivals h few hit arrival

@@ -9,5 +9,6 @@ returns-clause-claimed c =
 pub returns-clause-replied : goal.returns-clause-replied
 returns-clause-replied c =
     λ r a d number s grant request shared v h there none made mine asked view owed.
-    own-owed-then r a d number s v request shared h (replied-out r a d number s grant v h there none made mine asked view)
+    own-owed-then r a d number s v request shared h
+    (replied-out r a d number s grant v h there none made mine asked view)
     owed

@@ -8,5 +8,6 @@ use Rattle.fsb_audit.proofs.tests.audited.Given as goal
 -- the audit was fed as many samples as clocks so far, and found this in them
 abbrev pub invariant-loop-clock : goal.invariant-loop-clock
 invariant-loop-clock l =
-    (h : Trace) × Stands l.audit (record { ap = false; rp = false }) h × (length h ≡ l.clock) × (is_full l.audit ≡ false)
+    (h : Trace) × Stands l.audit (record { ap = false; rp = false }) h × (length h ≡ l.clock)
+    × (is_full l.audit ≡ false)
     × (l.found ≡ finding_of (record { ap = false; rp = false }) h)

@@ -20,4 +20,5 @@ returns-in-Ok-clause-audited g c tells =
 
 pub returns-clause-audited : goal.returns-clause-audited
 returns-clause-audited g c tells =
-    refused_alike (IsSeen (λ marks h. HasAudited c.watch_dump.new.watcher marks h)) IsAudited _ _ _ (c.in-Err.ensures.read tells)
+    refused_alike (IsSeen (λ marks h. HasAudited c.watch_dump.new.watcher marks h)) IsAudited _ _ _
+    (c.in-Err.ensures.read tells)

@@ -16,14 +16,16 @@ returns-clause-requests c = λ v hold choice b.
     let entries = step_entries v hold in
     let grows = grows-to v hold choice b in
     let k = step-with v hold choice b in
-    queue-next v hold choice b (deferrals-now v hold choice entries b grows (shows-now v hold choice entries k)) (may-sample v hold b) grows
+    queue-next v hold choice b (deferrals-now v hold choice entries b grows (shows-now v hold choice entries k))
+    (may-sample v hold b) grows
 
 pub returns-clause-flight : goal.returns-clause-flight
 returns-clause-flight c = λ v hold choice b.
     let entries = step_entries v hold in
     let grows = grows-to v hold choice b in
     let k = step-with v hold choice b in
-    flight-next v hold choice b (deferrals-now v hold choice entries b grows (shows-now v hold choice entries k)) (may-sample v hold b) grows
+    flight-next v hold choice b
+    (deferrals-now v hold choice entries b grows (shows-now v hold choice entries k)) (may-sample v hold b) grows
 
 pub returns-clause-begun : goal.returns-clause-begun
 returns-clause-begun c = entries-next

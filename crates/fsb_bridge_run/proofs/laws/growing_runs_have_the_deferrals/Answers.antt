@@ -1,4 +1,5 @@
-use Rattle.fsb_bridge_run.proofs.GrownWords.{grown-any, grown-choice, grown-due, grown-finds, grown-hit, grown-pending, grown-room, grown-taken, grown-there, grown-would}
+use Rattle.fsb_bridge_run.proofs.GrownWords.{grown-any, grown-choice, grown-due, grown-finds, grown-hit, grown-pending}
+use Rattle.fsb_bridge_run.proofs.GrownWords.{grown-room, grown-taken, grown-there, grown-would}
 use Rattle.fsb_bridge_run.proofs.laws.growing_runs_have_the_deferrals.Goals as goal
 
 pub returns-clause-found : goal.returns-clause-found

@@ -7,7 +7,8 @@ use Rattle.fsb_bench_view.specs.BusEvents.{agent_ended, end_event, entries_ended
 use Rattle.fsb_bus.proofs.Told.{told-maybe}
 use Rattle.fsb_bus.proofs.ending.end_at.Goals as goal
 
-there : (c : goal.After-end_with) → slice_get c.args.agents.now c.args.ending.now.served.agent ≡ Some c.index-agents-from.result
+there : (c : goal.After-end_with)
+    → slice_get c.args.agents.now c.args.ending.now.served.agent ≡ Some c.index-agents-from.result
 there c =
     let within : c.from.result < length c.args.agents.now = omega (arith, c.requires.known, c.from.ensures) in
     ap (slice_get c.args.agents.now) (sym c.from.ensures)
@@ -20,7 +21,8 @@ returns-clause-agents c =
     let agents = c.args.agents.now in
     let event = end_event c.args.clock e.served.first c.args.moved.now e.outcome in
     ap (λ n. set agents n c.end_with.new.agent) c.from.ensures
-    ∙ ap (set agents e.served.agent) (c.end_with.ensures.agent ∙ ap (agent_ended c.args.clock e.served.first c.args.moved.now e.outcome) (sym c.index-agents-from.is))
+    ∙ ap (set agents e.served.agent) (c.end_with.ensures.agent
+    ∙ ap (agent_ended c.args.clock e.served.first c.args.moved.now e.outcome) (sym c.index-agents-from.is))
     ∙ sym (told-maybe e.served.agent event agents c.index-agents-from.result (there c))
 
 pub returns-clause-entries : goal.returns-clause-entries

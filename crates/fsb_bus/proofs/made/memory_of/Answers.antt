@@ -17,7 +17,8 @@ loop-script-preserved c line =
     let scripts = c.as_slice-script-items.result.now in
     c.in_ok-name_items.ensures line
     ∙ ap (λ b. b || list_any (is_named_in line) c.as_slice.result.now) (l.invariant line)
-    ∙ ap (λ items. is_named_line (take l.script-index scripts) line || list_any (is_named_in line) items) c.as_slice.ensures
+    ∙ ap (λ items. is_named_line (take l.script-index scripts) line || list_any (is_named_in line) items)
+    c.as_slice.ensures
     ∙ sym (scripts-more line scripts l.script-index c.script-item.result c.loop-script-test.true c.script-item.is)
 
 pub returns-clause-named : goal.returns-clause-named
@@ -26,7 +27,8 @@ returns-clause-named c line named =
     let listed : is_listed c.deref.result.now line ≡ true =
     ap (λ lines. is_listed lines line) c.deref.ensures.value
     ∙ c.loop-script.invariant line
-    ∙ ap (λ s. is_named_line s line) (take_all c.loop-script.script-index scripts c.loop-script-test.false ∙ c.as_slice-script-items.ensures)
+    ∙ ap (λ s. is_named_line s line) (take_all c.loop-script.script-index scripts c.loop-script-test.false
+    ∙ c.as_slice-script-items.ensures)
     ∙ named in
     c.in_ok-memory.ensures.named line
     ∙ ap (λ b. list_any (is_in_line line) c.as_slice-2.result.now || b) listed

@@ -5,4 +5,7 @@ use Rattle.fsb_bus.specs.ListedLines.{is_listed}
 use Rattle.fsb_bus.proofs.made.name_accesses.Given as goal
 
 abbrev pub invariant-loop-access : goal.invariant-loop-access
-invariant-loop-access l = (line : ℕ) → is_listed l.lines.items line ≡ (is_listed l.fn.lines.items line || list_any (λ access. accessed_line access == line) (take l.access-index l.accesses))
+invariant-loop-access l = (line : ℕ)
+    → is_listed l.lines.items line
+    ≡ (is_listed l.fn.lines.items line || list_any (λ access. accessed_line access == line)
+    (take l.access-index l.accesses))

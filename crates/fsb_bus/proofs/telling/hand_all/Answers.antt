@@ -12,7 +12,8 @@ loop-agent-preserved c =
     let x = c.agent-item.result in
     let f : AgentView → AgentView = λ v. handed_on v c.args.number in
     let within : l.agent-index < length c.args.agents.now = omega (arith, l.auto.agent-items, c.loop-agent-test.true) in
-    let before = item-before f c.args.agents.now l.agent-items l.agent-index x within l.invariant.agents c.agent-item.is in
+    let before = item-before f c.args.agents.now l.agent-items l.agent-index x within l.invariant.agents
+    c.agent-item.is in
     record {
       agents = ap (λ w. set l.agent-items l.agent-index w) (c.hand-owed.ensures.agent ∙ ap f (sym c.agent-item.is))
           ∙ map_over_more f c.args.agents.now l.agent-items l.agent-index x within l.invariant.agents c.agent-item.is;

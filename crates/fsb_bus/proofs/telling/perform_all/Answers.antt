@@ -16,15 +16,18 @@ loop-agent-preserved c =
     let f : AgentView → AgentView = λ v. performed v c.args.clock in
     let within : l.agent-index < length c.args.agents.now = omega (arith, l.auto.agent-items, c.loop-agent-test.true) in
     let inside : l.agent-index < length l.agent-items = omega (arith, l.auto.agent-items, within) in
-    let before = item-before f c.args.agents.now l.agent-items l.agent-index x within l.invariant.agents c.agent-item.is in
+    let before = item-before f c.args.agents.now l.agent-items l.agent-index x within l.invariant.agents
+    c.agent-item.is in
     record {
       agents = ap (λ w. set l.agent-items l.agent-index w) (c.perform.ensures.agent ∙ ap f (sym c.agent-item.is))
           ∙ map_over_more f c.args.agents.now l.agent-items l.agent-index x within l.invariant.agents c.agent-item.is;
       entries = c.perform.ensures.entries
           ∙ ap (λ v. l.log.entries ++ performed_entries v c.args.clock) (sym c.agent-item.is)
           ∙ ap (λ entries. entries ++ performed_entries x c.args.clock) l.invariant.entries
-          ∙ append_assoc c.args.log.now.entries (hit_entries c.args.clock (take l.agent-index c.args.agents.now)) (performed_entries x c.args.clock)
-          ∙ ap (λ entries. c.args.log.now.entries ++ entries) (sym (hits-next c.args.clock c.args.agents.now l.agent-index x within before));
+          ∙ append_assoc c.args.log.now.entries
+          (hit_entries c.args.clock (take l.agent-index c.args.agents.now)) (performed_entries x c.args.clock)
+          ∙ ap (λ entries. c.args.log.now.entries ++ entries)
+          (sym (hits-next c.args.clock c.args.agents.now l.agent-index x within before));
       room = omega (
         arith,
         l.invariant.room,

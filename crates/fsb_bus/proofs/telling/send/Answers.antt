@@ -11,6 +11,9 @@ returns c =
     let agents = c.args.agents.now in
     let x = c.index-agents-from.result in
     let within : c.from.result < length agents = omega (arith, c.requires.known, c.from.ensures) in
-    let there : slice_get agents c.from.result ≡ Some x = slice_get-get_or agents c.from.result x within ∙ ap Some (sym c.index-agents-from.is) in
-    ap (set agents c.from.result) (c.sent.ensures ∙ ap (λ v. sent v c.args.clock c.args.clock) (sym c.index-agents-from.is))
-    ∙ sym (told-one c.args.number 0 c.from.result (Sent c.args.clock c.args.clock) agents x (omega (arith, c.from.ensures)) there)
+    let there : slice_get agents c.from.result ≡ Some x = slice_get-get_or agents c.from.result x within
+    ∙ ap Some (sym c.index-agents-from.is) in
+    ap (set agents c.from.result) (c.sent.ensures
+    ∙ ap (λ v. sent v c.args.clock c.args.clock) (sym c.index-agents-from.is))
+    ∙ sym (told-one c.args.number 0 c.from.result (Sent c.args.clock c.args.clock) agents x
+    (omega (arith, c.from.ensures)) there)

@@ -20,4 +20,5 @@ returns-in-Ok-clause-checked g c tells =
 
 pub returns-in-Err-clause-checked : goal.returns-in-Err-clause-checked
 returns-in-Err-clause-checked g c tells =
-    refused_alike (IsSeen (λ marks h. HasJudged c.watch_dump.new.watcher marks h)) IsFound _ _ _ (c.in-Err.ensures.read tells)
+    refused_alike (IsSeen (λ marks h. HasJudged c.watch_dump.new.watcher marks h)) IsFound _ _ _
+    (c.in-Err.ensures.read tells)

@@ -8,4 +8,6 @@ returns-then-test g c = λ p h.
     (sym (h c.loop-c.c true c.loop-c-test.true c.if-test.ensures)))
 
 pub returns : goal.returns
-returns g c = λ p h. sym (any_where-off p c.args.n (λ k l. sym (h k false l (c.loop-c.invariant k (let below : k < c.loop-c.c = omega arith in below)))))
+returns g c =
+    λ p h. sym (any_where-off p c.args.n
+    (λ k l. sym (h k false l (c.loop-c.invariant k (let below : k < c.loop-c.c = omega arith in below)))))

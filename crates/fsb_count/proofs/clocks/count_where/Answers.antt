@@ -26,4 +26,5 @@ loop-c-preserved g c =
     ]
 
 pub returns : goal.returns
-returns g c = λ p h. c.loop-c.invariant.count p h ∙ ap (count_where p) (let e : c.loop-c.c ≡ c.args.n = omega arith in e)
+returns g c = λ p h. c.loop-c.invariant.count p h
+    ∙ ap (count_where p) (let e : c.loop-c.c ≡ c.args.n = omega arith in e)

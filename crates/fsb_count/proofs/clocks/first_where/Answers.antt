@@ -9,4 +9,6 @@ returns-then-test-clause-value g c = λ p h.
     (λ k l. sym (h k false (let below : k < c.args.n = omega arith in below) (c.loop-c.invariant k l))))
 
 pub returns-clause-value : goal.returns-clause-value
-returns-clause-value g c = λ p h. sym (first_where-off p c.args.n (λ k l. sym (h k false l (c.loop-c.invariant k (let below : k < c.loop-c.c = omega arith in below)))))
+returns-clause-value g c =
+    λ p h. sym (first_where-off p c.args.n
+    (λ k l. sym (h k false l (c.loop-c.invariant k (let below : k < c.loop-c.c = omega arith in below)))))

@@ -13,7 +13,8 @@ pub returns-then-passed-k-clause-value : goal.returns-then-passed-k-clause-value
 returns-then-passed-k-clause-value g c = λ p h.
     let place : count_where p c.loop-c.c ≡ c.args.k = sym (c.loop-c.invariant.count p h) ∙ c.if-passed-k.true in
     sym (subst (λ m. nth_where p m c.args.n ≡ Some c.loop-c.c) place
-    (nth_where-at p c.args.n c.loop-c.c c.loop-c-test.true (sym (h c.loop-c.c true c.loop-c-test.true c.if-test.ensures))))
+    (nth_where-at p c.args.n c.loop-c.c c.loop-c-test.true
+    (sym (h c.loop-c.c true c.loop-c-test.true c.if-test.ensures))))
 
 pub loop-c-preserved : goal.loop-c-preserved
 loop-c-preserved g c =

@@ -11,10 +11,12 @@ returns-in-Some-clause-entries c =
 
 pub returns-in-Some-clause-room : goal.returns-in-Some-clause-room
 returns-in-Some-clause-room c =
-    let size : length c.cancel.new.self ≡ length (without c.in-Some.number c.args.queue.now) = ap length c.cancel.ensures.rest in
+    let size : length c.cancel.new.self ≡ length (without c.in-Some.number c.args.queue.now) =
+    ap length c.cancel.ensures.rest in
     let less = length-without c.in-Some.number c.args.queue.now in
     omega arith
 
 pub returns-in_default-clause-entries : goal.returns-in_default-clause-entries
 unfolding cancel_before without_if
-returns-in_default-clause-entries c = sym (ap (λ o. without_if o c.args.queue.now) (sym c.number_before.ensures ∙ c.in_default.is))
+returns-in_default-clause-entries c =
+    sym (ap (λ o. without_if o c.args.queue.now) (sym c.number_before.ensures ∙ c.in_default.is))

@@ -13,7 +13,8 @@ returns-then-is_none c =
     record {
       entries =
           c.settle.ensures
-          ∙ sym (settle_first-at c.args.outcome c.loop-i.queue c.loop-i.i c.in-Some.e (sym c.at.ensures ∙ sym c.copied.ensures ∙ c.in-Some.is)
+          ∙ sym (settle_first-at c.args.outcome c.loop-i.queue c.loop-i.i c.in-Some.e (sym c.at.ensures
+          ∙ sym c.copied.ensures ∙ c.in-Some.is)
           (none_is c.in-Some.e.outcome c.if-is_none.ensures) (λ j y l e. c.loop-i.invariant.outcomes j y l e))
           ∙ ap (settle_first c.args.outcome) same;
       room = omega arith;
@@ -26,7 +27,8 @@ returns c =
     record {
       entries =
           sym (settle_first-none c.args.outcome c.loop-i.queue
-          (λ j y e. c.loop-i.invariant.outcomes j y (let within = slice_get_within c.loop-i.queue j y e in omega (arith, c.len-i-end.ensures.len)) e))
+          (λ j y e. c.loop-i.invariant.outcomes j y (let within = slice_get_within c.loop-i.queue j y e in
+          omega (arith, c.len-i-end.ensures.len)) e))
           ∙ ap (settle_first c.args.outcome) same;
       room = omega arith;
     }

@@ -10,7 +10,11 @@ loop-hazard-preserved g c =
     let item = c.hazard-item.result in
     let within : l.hazard-index < length l.hazard-items = omega (arith, c.loop-hazard-test.true, l.auto.hazard-items) in
     record {
-      joined = rw c.join-choice.ensures (joined_at _ l.hazard-items c.args.hazards.now l.hazard-index item _ _ _ within l.invariant.told_stays l.invariant.joined answered.ensures.answer);
-      told_stays = map-set_same _ l.hazard-items l.hazard-index answered.new.self item answered.ensures.told_stays ∙ l.invariant.told_stays;
-      kinds_stay = map-set_same _ l.hazard-items l.hazard-index answered.new.self item answered.ensures.kind_stays ∙ l.invariant.kinds_stay;
+      joined = rw c.join-choice.ensures
+          (joined_at _ l.hazard-items c.args.hazards.now l.hazard-index item _ _ _ within l.invariant.told_stays
+          l.invariant.joined answered.ensures.answer);
+      told_stays = map-set_same _ l.hazard-items l.hazard-index answered.new.self item
+          answered.ensures.told_stays ∙ l.invariant.told_stays;
+      kinds_stay = map-set_same _ l.hazard-items l.hazard-index answered.new.self item
+          answered.ensures.kind_stays ∙ l.invariant.kinds_stay;
     }

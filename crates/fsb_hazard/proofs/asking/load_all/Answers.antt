@@ -6,7 +6,8 @@ use Rattle.fsb_hazard.proofs.asking.load_all.Goals as goal
 pub returns-in_err-load-clause-kinds_stay : goal.returns-in_err-load-clause-kinds_stay
 returns-in_err-load-clause-kinds_stay g c =
     let l = c.loop-hazard in
-    map-set_same _ l.hazard-items l.hazard-index c.load.new.self c.hazard-item.result c.load.ensures.kind_stays ∙ l.invariant.kinds_stay
+    map-set_same _ l.hazard-items l.hazard-index c.load.new.self c.hazard-item.result c.load.ensures.kind_stays
+    ∙ l.invariant.kinds_stay
 
 pub loop-hazard-preserved : goal.loop-hazard-preserved
 loop-hazard-preserved g c =
@@ -15,6 +16,8 @@ loop-hazard-preserved g c =
     let new = c.load.new.self in
     let within : l.hazard-index < length c.args.hazards.now = omega (arith, c.loop-hazard-test.true) in
     record {
-      loaded = loaded_at _ _ c.args.lines.now l.hazard-items c.args.hazards.now l.hazard-index item new within l.invariant.kinds_stay l.invariant.loaded c.in_ok-load.ensures.loaded;
-      kinds_stay = map-set_same _ l.hazard-items l.hazard-index new item c.load.ensures.kind_stays ∙ l.invariant.kinds_stay;
+      loaded = loaded_at _ _ c.args.lines.now l.hazard-items c.args.hazards.now l.hazard-index item new within
+          l.invariant.kinds_stay l.invariant.loaded c.in_ok-load.ensures.loaded;
+      kinds_stay = map-set_same _ l.hazard-items l.hazard-index new item c.load.ensures.kind_stays
+          ∙ l.invariant.kinds_stay;
     }

@@ -18,10 +18,12 @@ loop-left-preserved c =
       within = omega arith;
       sixteen = length-set l.digits l.start c.hex_digit.result ∙ l.invariant.sixteen;
       fits = fits_before l.left l.start some l.invariant.fits;
-      written = hex_before-step c.args.n l.left l.start c.hex_digit.result l.digits (omega arith) some c.loop-left-test.true c.hex_digit.ensures l.invariant.written;
+      written = hex_before-step c.args.n l.left l.start c.hex_digit.result l.digits (omega arith) some
+          c.loop-left-test.true c.hex_digit.ensures l.invariant.written;
     }
 
 pub returns-clause-written : goal.returns-clause-written
 returns-clause-written c =
     let l = c.loop-left in
-    hex_before-first c.args.n l.left l.start c.hex_digit-2.result l.digits (omega arith) (omega arith) (c.hex_digit-2.ensures) l.invariant.written
+    hex_before-first c.args.n l.left l.start c.hex_digit-2.result l.digits (omega arith) (omega arith)
+    (c.hex_digit-2.ensures) l.invariant.written

@@ -17,7 +17,8 @@ pub returns-in-Ok-clause-read : goal.returns-in-Ok-clause-read
 unfolding least_match first_where
 returns-in-Ok-clause-read g c tells =
     let read = c.in-Ok.ensures.read tells in
-    let begun : Seeks record { hunt = c.new.result; found = None } (steps_in c.args.trigger) [] = record { hunt = c.new.ensures; found = refl } in (
+    let begun : Seeks record { hunt = c.new.result; found = None } (steps_in c.args.trigger) [] =
+    record { hunt = c.new.ensures; found = refl } in (
       read.0,
       record {
         marks = read.1.marks;
@@ -31,4 +32,6 @@ returns-in-Ok-clause-read g c tells =
 
 pub returns-in-Err-clause-read : goal.returns-in-Err-clause-read
 returns-in-Err-clause-read g c tells =
-    refused_alike (IsSeen (λ marks h. HasSought record { hunt = c.new.result; found = None } c.watch_dump.new.watcher h)) (IsSearch (steps_in c.args.trigger)) _ _ _ (c.in-Err.ensures.read tells)
+    refused_alike
+    (IsSeen (λ marks h. HasSought record { hunt = c.new.result; found = None } c.watch_dump.new.watcher h))
+    (IsSearch (steps_in c.args.trigger)) _ _ _ (c.in-Err.ensures.read tells)

@@ -21,7 +21,8 @@ loop-i-preserved g c = record {
   written = λ tells from to h stands.
       let more = c.lines-i-end.ensures from to h stands in
       written_more _ _ _ _ _ _ _ (c.loop-i.invariant.written tells from to h stands)
-      (next_line _ c.loop-i.i (omega (arith, more, c.loop-i-test.true))) (c.in_ok-put_line.ensures.whole tells from to h stands);
+      (next_line _ c.loop-i.i (omega (arith, more, c.loop-i-test.true)))
+      (c.in_ok-put_line.ensures.whole tells from to h stands);
   name = λ tells. c.put_line.ensures.name_stays tells ∙ c.loop-i.invariant.name tells;
   later = omega (arith, c.loop-i.invariant.later, c.put_line.ensures.cause.later);
 }
@@ -29,7 +30,8 @@ loop-i-preserved g c = record {
 pub returns-clause-whole : goal.returns-clause-whole
 returns-clause-whole g c tells from to h stands =
     let more = c.lines-i-end.ensures from to h stands in
-    written_all _ _ _ _ (c.loop-i.invariant.written tells from to h stands) (no_line _ c.loop-i.i (omega (arith, more, c.loop-i-test.false)))
+    written_all _ _ _ _ (c.loop-i.invariant.written tells from to h stands)
+    (no_line _ c.loop-i.i (omega (arith, more, c.loop-i-test.false)))
 
 pub returns-clause-part : goal.returns-clause-part
 returns-clause-part g c tells from to h stands =

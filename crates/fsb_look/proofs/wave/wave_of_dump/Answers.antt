@@ -23,4 +23,5 @@ returns-in-Ok-clause-read g c tells =
 
 pub returns-in-Err-clause-read : goal.returns-in-Err-clause-read
 returns-in-Err-clause-read g c tells =
-    refused_alike (IsSeen (λ marks h. HasDrawn record { wave = c.new.result } c.watch_dump.new.watcher h)) (IsWave c.args.from c.args.to) _ _ _ (c.in-Err.ensures.read tells)
+    refused_alike (IsSeen (λ marks h. HasDrawn record { wave = c.new.result } c.watch_dump.new.watcher h))
+    (IsWave c.args.from c.args.to) _ _ _ (c.in-Err.ensures.read tells)

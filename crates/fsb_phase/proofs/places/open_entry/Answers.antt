@@ -8,4 +8,5 @@ pub returns : goal.returns
 unfolding open_entry
 returns c =
     c.copied.ensures
-    ∙ find_from_yields_List (λ e. is_none e.outcome) _ _ _ c.find.ensures.ran (YieldsList-from_rest c.args.queue.now c.iter.ensures) (λ x b q k. search (rules, tests))
+    ∙ find_from_yields_List (λ e. is_none e.outcome) _ _ _ c.find.ensures.ran
+    (YieldsList-from_rest c.args.queue.now c.iter.ensures) (λ x b q k. search (rules, tests))

@@ -11,4 +11,5 @@ returns-then-c-r-2-clause-value c =
 
 pub returns-clause-value : goal.returns-clause-value
 returns-clause-value c =
-    chunk-none c.args.gap c.args.c c.args.r (λ k l. c.loop-n.invariant k (let below : k < c.loop-n.n = omega arith in below))
+    chunk-none c.args.gap c.args.c c.args.r
+    (λ k l. c.loop-n.invariant k (let below : k < c.loop-n.n = omega arith in below))

@@ -11,4 +11,5 @@ returns-then-after-eq0 c =
     ap (nat_lt _) c.from.ensures ∙ stall-even c.args.stall c.args.c c.args.start (omega arith) c.if-after-eq0.true
 
 pub returns-else-after-eq0 : goal.returns-else-after-eq0
-returns-else-after-eq0 c = ne_eqb _ _ c.if-after-eq0.false ∙ stall-odd c.args.stall c.args.c c.args.start (omega arith) c.if-after-eq0.false
+returns-else-after-eq0 c = ne_eqb _ _ c.if-after-eq0.false
+    ∙ stall-odd c.args.stall c.args.c c.args.start (omega arith) c.if-after-eq0.false

@@ -28,8 +28,18 @@ add-requires-clause-replies c =
 pub loop-q-preserved : goal.loop-q-preserved
 loop-q-preserved c = record {
   reads = rw (c.add.ensures.reads, c.request_begun_at.ensures, c.loop-q.invariant.reads, count_begun-more) refl;
-  invalidates = rw (c.add.ensures.invalidates, c.request_begun_at.ensures, c.loop-q.invariant.invalidates, count_begun-more) refl;
-  writebacks = rw (c.add.ensures.writebacks, c.request_begun_at.ensures, c.loop-q.invariant.writebacks, count_begun-more) refl;
+  invalidates = rw (
+    c.add.ensures.invalidates,
+    c.request_begun_at.ensures,
+    c.loop-q.invariant.invalidates,
+    count_begun-more,
+  ) refl;
+  writebacks = rw (
+    c.add.ensures.writebacks,
+    c.request_begun_at.ensures,
+    c.loop-q.invariant.writebacks,
+    count_begun-more,
+  ) refl;
   replies = rw (c.add.ensures.replies, c.request_begun_at.ensures, c.loop-q.invariant.replies, count_begun-more) refl;
 }
 
@@ -37,4 +47,10 @@ pub returns : goal.returns
 unfolding request_counts counts_below
 returns c =
     let end : c.loop-q.q ≡ length c.args.w.now = omega arith in
-    rw (← end, ← c.loop-q.invariant.reads, ← c.loop-q.invariant.invalidates, ← c.loop-q.invariant.writebacks, ← c.loop-q.invariant.replies) refl
+    rw (
+      ← end,
+      ← c.loop-q.invariant.reads,
+      ← c.loop-q.invariant.invalidates,
+      ← c.loop-q.invariant.writebacks,
+      ← c.loop-q.invariant.replies,
+    ) refl

@@ -5,5 +5,10 @@ use Rattle.fsb_report.proofs.summary.put_counts.Goals as goal
 pub returns-clause-items : goal.returns-clause-items
 unfolding counts_text
 returns-clause-items c =
-    rw (c.put_number-4.ensures.items, c.put_number-3.ensures.items, c.put_number-2.ensures.items, c.put_number.ensures.items)
+    rw (
+      c.put_number-4.ensures.items,
+      c.put_number-3.ensures.items,
+      c.put_number-2.ensures.items,
+      c.put_number.ensures.items,
+    )
     (rw (c.from.ensures, c.from-2.ensures, c.from-3.ensures, c.from-4.ensures) (simp append_assoc))

@@ -1,4 +1,5 @@
-use Rattle.fsb_run_laws.proofs.LineStates.{lost-evicted, lost-taken, lost-written, state-by-hits, state-by-stores, state-lost, state-named, state-same}
+use Rattle.fsb_run_laws.proofs.LineStates.{lost-evicted, lost-taken, lost-written, state-by-hits, state-by-stores}
+use Rattle.fsb_run_laws.proofs.LineStates.{state-lost, state-named, state-same}
 use Rattle.fsb_run_laws.proofs.GrantedStates.{state-granted}
 use Rattle.fsb_run_laws.proofs.lines.line_states_step.Goals as goal
 

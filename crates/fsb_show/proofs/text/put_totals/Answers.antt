@@ -10,13 +10,15 @@ loop-i-init g c = record { written = λ tells. written_none _ _; name = λ tells
 pub returns-in_err-put_total-clause-part : goal.returns-in_err-put_total-clause-part
 returns-in_err-put_total-clause-part g c tells =
     written_part _ _ _ _ _ _ _ (c.loop-i.invariant.written tells)
-    (next_seen probe_text _ c.args.probes.now c.loop-i.i c.index-probes-i.result _ c.loop-i-test.true c.index-probes-i.is c.total_of.ensures)
+    (next_seen probe_text _ c.args.probes.now c.loop-i.i c.index-probes-i.result _ c.loop-i-test.true
+    c.index-probes-i.is c.total_of.ensures)
     (c.put_total.ensures.part tells)
 
 pub loop-i-preserved : goal.loop-i-preserved
 loop-i-preserved g c = record {
   written = λ tells. written_more _ _ _ _ _ _ _ (c.loop-i.invariant.written tells)
-      (next_seen probe_text _ c.args.probes.now c.loop-i.i c.index-probes-i.result _ c.loop-i-test.true c.index-probes-i.is c.total_of.ensures)
+      (next_seen probe_text _ c.args.probes.now c.loop-i.i c.index-probes-i.result _ c.loop-i-test.true
+      c.index-probes-i.is c.total_of.ensures)
       (c.in_ok-put_total.ensures.whole tells);
   name = λ tells. c.put_total.ensures.name_stays tells ∙ c.loop-i.invariant.name tells;
   later = omega (arith, c.loop-i.invariant.later, c.put_total.ensures.cause.later);

@@ -9,7 +9,8 @@ returns-in_err-number-clause-number c = c.from_residual.ensures ∙ c.in_err-num
 
 pub returns-in_err-number-clause-none : goal.returns-in_err-number-clause-none
 unfolding signal_number
-returns-in_err-number-clause-none c = rw c.from_residual.ensures (λ _. signal_number-none _ (c.in_err-number.ensures), λ _. refl)
+returns-in_err-number-clause-none c =
+    rw c.from_residual.ensures (λ _. signal_number-none _ (c.in_err-number.ensures), λ _. refl)
 
 pub returns-clause-number : goal.returns-clause-number
 unfolding signal_number

@@ -5,7 +5,8 @@ use Rattle.fsb_arbiter.specs.Arbiter.{Stands as ArbiterStands}
 use Rattle.fsb_trace.specs.Requests.{live_number_of}
 use Rattle.fsb_trace.specs.At.{Trace}
 use Rattle.fsb_table.specs.Going.{Stands}
-use Rattle.fsb_table.proofs.Requests.{line-of, number-idle, number-start, rows_before, rows_before-begun, rows_before-end, rows_before-kept, rows_before-start, taken-more, winner-before}
+use Rattle.fsb_table.proofs.Requests.{line-of, number-idle, number-start, rows_before, rows_before-begun}
+use Rattle.fsb_table.proofs.Requests.{rows_before-end, rows_before-kept, rows_before-start, taken-more, winner-before}
 use Rattle.fsb_table.proofs.one_pass.table.Goals as goal
 use Rattle.fsb_table.proofs.one_pass.table.Goals.{then-has+in_ok-push, else-has}
 

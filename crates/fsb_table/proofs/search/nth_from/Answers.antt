@@ -1,6 +1,7 @@
 use Rattle.std.proofs.Common.{◌≡◌, Some, true, false, sym, ap, subst, ◌∙◌, ◌+◌, arith}
 use Rattle.fsb_count.specs.Clocks.{count_where, nth_where, from_clock}
-use Rattle.fsb_count.proofs.Interface.{count_where-passed, count_where-failed, count_where-mono, nth_where-at, nth_where-past}
+use Rattle.fsb_count.proofs.Interface.{count_where-passed, count_where-failed, count_where-mono, nth_where-at}
+use Rattle.fsb_count.proofs.Interface.{nth_where-past}
 use Rattle.fsb_table.proofs.FromClock.{from_high, count_from-start}
 use Rattle.fsb_table.proofs.search.nth_from.Goals as goal
 use Rattle.fsb_table.proofs.search.nth_from.Goals.{then-test+else-passed-k, else-test}

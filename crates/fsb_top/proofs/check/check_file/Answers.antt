@@ -11,5 +11,6 @@ returns-in-Ok-clause-judged g c tells run =
       trace = checked.1.trace;
       reads = checked.1.reads;
       few = checked.1.few;
-      told = tells_verdict c.tell.result c.in-Ok.finding checked.1.marks checked.1.trace c.tell.ensures.told checked.1.seen_all;
+      told = tells_verdict c.tell.result c.in-Ok.finding checked.1.marks checked.1.trace c.tell.ensures.told
+          checked.1.seen_all;
     }

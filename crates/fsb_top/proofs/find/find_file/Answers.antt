@@ -18,4 +18,5 @@ returns-in-Ok-clause-looked g c tells run =
 pub returns-in-Ok-clause-text : goal.returns-in-Ok-clause-text
 returns-in-Ok-clause-text g c tells out m w reads =
     let read = c.in-Ok.ensures.read tells in
-    match_line c.tell_search.result _ _ _ w read.1.trace _ _ (c.tell_search.ensures.text out) read.1.seen_all read.1.clocks_are (read.1.reads.2 ∙ sym reads.2)
+    match_line c.tell_search.result _ _ _ w read.1.trace _ _ (c.tell_search.ensures.text out) read.1.seen_all
+    read.1.clocks_are (read.1.reads.2 ∙ sym reads.2)

@@ -21,4 +21,5 @@ pub returns-in-Ok-clause-text : goal.returns-in-Ok-clause-text
 returns-in-Ok-clause-text g c tells out m w reads =
     let read = c.in-Ok.ensures.read tells in
     c.tell_wave.ensures.text out _ _ w
-    (subst (λ (v : List Sample). Stands c.in-Ok.wave c.args.range.now.from c.args.range.now.to v) (read.1.reads.2 ∙ sym reads.2) read.1.drawn)
+    (subst (λ (v : List Sample). Stands c.in-Ok.wave c.args.range.now.from c.args.range.now.to v)
+    (read.1.reads.2 ∙ sym reads.2) read.1.drawn)

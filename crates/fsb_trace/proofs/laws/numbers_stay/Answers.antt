@@ -1,5 +1,6 @@
 use Rattle.fsb_trace.proofs.AgreeAt.{winner_at-agree}
-use Rattle.fsb_trace.proofs.Stay.{first_clock_of-stays, live_clock_of-stays, snoop_end_of-stays, response_clock_of-stays}
+use Rattle.fsb_trace.proofs.Stay.{first_clock_of-stays, live_clock_of-stays, snoop_end_of-stays}
+use Rattle.fsb_trace.proofs.Stay.{response_clock_of-stays}
 use Rattle.fsb_trace.proofs.StayEnds.{outcome_of-stays, end_of-stays, ready_clock_of-stays}
 use Rattle.fsb_trace.proofs.laws.numbers_stay.Goals as goal
 

@@ -4,10 +4,14 @@ use Rattle.fsb_trigger.proofs.decimal.decimal_digits.Goals as goal
 
 pub overflow_mul-number : goal.overflow_mul-number
 overflow_mul-number c =
-    let room : c.loop-digit.number < 10 ^ 18 = decimal_room _ c.loop-digit.digit-index c.loop-digit.invariant.below (omega (arith, c.loop-digit-test.true, c.requires)) in
+    let room : c.loop-digit.number < 10 ^ 18 =
+    decimal_room _ c.loop-digit.digit-index c.loop-digit.invariant.below
+    (omega (arith, c.loop-digit-test.true, c.requires)) in
     omega arith
 
 pub overflow_add-number : goal.overflow_add-number
 overflow_add-number c =
-    let room : c.loop-digit.number < 10 ^ 18 = decimal_room _ c.loop-digit.digit-index c.loop-digit.invariant.below (omega (arith, c.loop-digit-test.true, c.requires)) in
+    let room : c.loop-digit.number < 10 ^ 18 =
+    decimal_room _ c.loop-digit.digit-index c.loop-digit.invariant.below
+    (omega (arith, c.loop-digit-test.true, c.requires)) in
     omega (arith, c.in_ok-decimal_value.ensures.below, c.from.ensures)

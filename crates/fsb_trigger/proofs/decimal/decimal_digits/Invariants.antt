@@ -5,6 +5,7 @@ use Rattle.fsb_trigger.proofs.decimal.decimal_digits.Given as goal
 
 abbrev pub invariant-loop-digit : goal.invariant-loop-digit
 invariant-loop-digit l = record {
-  rest : number_behind 10 decimal_value l.number (drop l.digit-index l.digits) ≡ number_behind 10 decimal_value 0 l.digits;
+  rest : number_behind 10 decimal_value l.number (drop l.digit-index l.digits)
+      ≡ number_behind 10 decimal_value 0 l.digits;
   below : l.number < 10 ^ l.digit-index;
 }

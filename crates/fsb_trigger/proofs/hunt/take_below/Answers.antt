@@ -17,13 +17,15 @@ loop-i-preserved c =
     record {
       within = (let w = was.within in omega (arith, w));
       below = λ k l. c.take_at.ensures.rest_stays k (λ e. omega (arith, e, l)) ∙ was.below k (omega (arith, l, some));
-      rest = λ k l. c.take_at.ensures.rest_stays k (λ e. let w = was.within in omega (arith, e, l, w, some)) ∙ was.rest k l;
+      rest = λ k l. c.take_at.ensures.rest_stays k (λ e. let w = was.within in omega (arith, e, l, w, some))
+          ∙ was.rest k l;
       done = λ h e keeps.
           let v : List Sample = h ++ c.args.sample.now ∷ [] in
           let w = was.within in
           from-here (KeepsAt after steps v) here c.args.end
           (c.take_at.ensures.keeps h e
-          (λ j l. keeps-same before first steps h j (was.below j (omega (arith, l, some))) (keeps j (omega (arith, l, w, some)))))
+          (λ j l. keeps-same before first steps h j (was.below j (omega (arith, l, some)))
+          (keeps j (omega (arith, l, w, some)))))
           (λ k l m. keeps-same after before steps v k (c.take_at.ensures.rest_stays k (λ e. omega (arith, e, l)))
           (was.done h e keeps k (omega (arith, l, some)) m));
     }

@@ -9,7 +9,8 @@ invariant-loop-i l = record {
   within : l.i ≤ l.end;
   below : (k : ℕ) → k < l.i → slice_get l.latest k ≡ slice_get l.fn.latest k;
   rest : (k : ℕ) → l.end ≤ k → slice_get l.latest k ≡ slice_get l.fn.latest k;
-  done : (h : List Sample) → l.clock ≡ length h → KeepsFirst l.end l.fn.latest (steps_in l.trigger) h → (k : ℕ) → l.i ≤ k → k < l.end
+  done : (h : List Sample) → l.clock ≡ length h → KeepsFirst l.end l.fn.latest (steps_in l.trigger) h → (k : ℕ)
+      → l.i ≤ k → k < l.end
       → KeepsAt l.latest (steps_in l.trigger) (h ++ l.sample ∷ []) k;
 }
 

@@ -2,7 +2,8 @@ use Rattle.std.proofs.Common.{◌≡◌, ◌∙◌, None, map, sym, ap, arith, r
 use Rattle.fsb_trigger.specs.Grammar.{parts, step_read, steps_read}
 use Rattle.fsb_trigger.specs.TriggerSteps.{view_of}
 use Rattle.fsb_trigger.proofs.Cut.{parts-some, parts-none}
-use Rattle.fsb_trigger.proofs.Behind.{list_behind, list_behind-begins, list_behind-none, list_behind-some, list_behind-last}
+use Rattle.fsb_trigger.proofs.Behind.{list_behind, list_behind-begins, list_behind-none, list_behind-some}
+use Rattle.fsb_trigger.proofs.Behind.{list_behind-last}
 use Rattle.fsb_trigger.proofs.read.read_steps.Goals as goal
 
 pub loop-first-init : goal.loop-first-init
@@ -17,15 +18,19 @@ pub returns-in_err-steps : goal.returns-in_err-steps
 returns-in_err-steps c =
     let l = c.loop-first in
     let gone : c.from_residual.result ≡ None = grind arith in
-    let turn = parts-some 47 l.rest.now c.in-Some.first.now c.in-Some.more.now (rw c.in-Some.is at c.cut.ensures.value) in
-    let none = list_behind-none step_read (map view_of l.steps.items) c.in-Some.first.now (parts 47 c.in-Some.more.now) (sym c.in_err-steps.ensures) in
+    let turn = parts-some 47 l.rest.now c.in-Some.first.now c.in-Some.more.now
+    (rw c.in-Some.is at c.cut.ensures.value) in
+    let none = list_behind-none step_read (map view_of l.steps.items) c.in-Some.first.now
+    (parts 47 c.in-Some.more.now) (sym c.in_err-steps.ensures) in
     rw gone (sym none ∙ ap (list_behind step_read (map view_of l.steps.items)) (sym turn) ∙ l.invariant.0)
 
 pub loop-first-preserved : goal.loop-first-preserved
 loop-first-preserved c =
     let l = c.loop-first in
-    let turn = parts-some 47 l.rest.now c.in-Some.first.now c.in-Some.more.now (rw c.in-Some.is at c.cut.ensures.value) in
-    let some = list_behind-some step_read (map view_of l.steps.items) (map view_of c.in_ok-steps.steps.items) c.in-Some.first.now (parts 47 c.in-Some.more.now) (sym c.in_ok-steps.ensures) in
+    let turn = parts-some 47 l.rest.now c.in-Some.first.now c.in-Some.more.now
+    (rw c.in-Some.is at c.cut.ensures.value) in
+    let some = list_behind-some step_read (map view_of l.steps.items) (map view_of c.in_ok-steps.steps.items)
+    c.in-Some.first.now (parts 47 c.in-Some.more.now) (sym c.in_ok-steps.ensures) in
     (sym some ∙ ap (list_behind step_read (map view_of l.steps.items)) (sym turn) ∙ l.invariant.0, search rules)
 
 pub returns : goal.returns

@@ -2,7 +2,8 @@ use Rattle.std.proofs.Common.{◌≡◌, ◌∙◌, ◌++◌, ◌+◌, ℕ, Err,
 use Rattle.fsb_watch.specs.Watched.{IsSeen}
 use Rattle.fsb_watch.specs.Watching.{Stood, HasTaken}
 use Rattle.fsb_watch.proofs.Showing.{stands_first}
-use Rattle.fsb_watch.proofs.WholeTexts.{read_not, takes_so_far, read_past, taken_all, taken_more, read_end, no_read_fault}
+use Rattle.fsb_watch.proofs.WholeTexts.{read_not, takes_so_far, read_past, taken_all, taken_more, read_end}
+use Rattle.fsb_watch.proofs.WholeTexts.{no_read_fault}
 use Rattle.std.proofs.lemmas.List.{length-append, length-take}
 use Rattle.fsb_watch.proofs.watch.watch_left.Goals as goal
 
@@ -19,10 +20,19 @@ loop-taken-init g c = record {
 pub returns-in-Err-clause-read : goal.returns-in-Err-clause-read
 returns-in-Err-clause-read g c tells =
     let at = c.loop-taken.invariant.taken in
-    read_not {X = ℕ} (IsSeen (g.W.Watcher.has_seen c.args.watcher.now c.take_piece.new.watcher)) _ _ _ (c.in-Err.ensures.stop _ refl) (λ memory.
+    read_not {X = ℕ} (IsSeen (g.W.Watcher.has_seen c.args.watcher.now c.take_piece.new.watcher)) _ _ _
+    (c.in-Err.ensures.stop _ refl) (λ memory.
     takes_so_far _ at.0 _ _ _ (at.3 tells) (c.in-Err.ensures.memory tells (ap (λ stop. Err stop) memory))
     (let room = length-take (c.min.result + 1) c.deref_mut.result.now in
-    omega (arith, room, at.2, c.min.ensures, c.loop-taken-test.true, c.loop-taken.invariant.size, c.deref_mut.ensures.len)))
+    omega (
+      arith,
+      room,
+      at.2,
+      c.min.ensures,
+      c.loop-taken-test.true,
+      c.loop-taken.invariant.size,
+      c.deref_mut.ensures.len,
+    )))
 
 pub returns-in-Err-clause-name_stays : goal.returns-in-Err-clause-name_stays
 returns-in-Err-clause-name_stays g c tells =
@@ -34,19 +44,26 @@ returns-in-Err-clause-holds_stays g c tells =
 
 pub end-requires : goal.end-requires
 end-requires g c =
-    let at = c.loop-taken.invariant.taken in
-    (c.args.watcher.now, at.0, c.requires, taken_all _ at.0 _ _ _ _ (c.in-Ok.ensures.taken c.args.watcher.now at.0 c.requires at.1) (omega (arith, c.if-count-eq0.true)))
+    let at = c.loop-taken.invariant.taken in (
+      c.args.watcher.now,
+      at.0,
+      c.requires,
+      taken_all _ at.0 _ _ _ _ (c.in-Ok.ensures.taken c.args.watcher.now at.0 c.requires at.1)
+          (omega (arith, c.if-count-eq0.true)),
+    )
 
 pub returns-then-count-eq0-clause-read : goal.returns-then-count-eq0-clause-read
 returns-then-count-eq0-clause-read g c tells =
     let at = c.loop-taken.invariant.taken in
     let zero : c.in-Ok.count ≡ 0 = omega (arith, c.if-count-eq0.true) in
     let taken = c.in-Ok.ensures.taken c.args.watcher.now at.0 c.requires at.1 in
-    let stood : Stood g.W.Watcher.has_seen c.args.watcher.now c.take_piece.new.watcher c.take_piece.new.pieces at.0 = taken_all _ at.0 _ _ _ _ taken zero in
+    let stood : Stood g.W.Watcher.has_seen c.args.watcher.now c.take_piece.new.watcher c.take_piece.new.pieces
+    at.0 = taken_all _ at.0 _ _ _ _ taken zero in
     read_end _ _ _ _ at.0 _ _ _ _ tells taken zero
     (c.in-Ok.ensures.end tells
     (let room = length-take (c.min.result + 1) c.deref_mut.result.now in
-    omega (arith, room, c.deref_mut.ensures.len, c.loop-taken.invariant.size, c.min.ensures)) zero) (at.3 tells) (omega (arith, at.2, c.loop-taken-test.true))
+    omega (arith, room, c.deref_mut.ensures.len, c.loop-taken.invariant.size, c.min.ensures)) zero) (at.3 tells)
+    (omega (arith, at.2, c.loop-taken-test.true))
     (c.end.ensures c.args.watcher.now at.0 c.requires stood)
 
 pub returns-then-count-eq0-clause-read_fault : goal.returns-then-count-eq0-clause-read_fault
@@ -68,10 +85,18 @@ returns-then-count-eq0-clause-holds_stays g c tells =
 pub loop-taken-preserved : goal.loop-taken-preserved
 loop-taken-preserved g c =
     let at = c.loop-taken.invariant.taken in
-    let now : HasTaken (Stood g.W.Watcher.has_seen c.args.watcher.now c.take_piece.new.watcher c.take_piece.new.pieces) at.0 (g.S.Source.left c.loop-taken.source) (g.S.Source.left c.take_piece.new.source) c.in-Ok.count g.S.Source.tells =
+    let now : HasTaken (Stood g.W.Watcher.has_seen c.args.watcher.now c.take_piece.new.watcher
+    c.take_piece.new.pieces) at.0 (g.S.Source.left c.loop-taken.source)
+    (g.S.Source.left c.take_piece.new.source) c.in-Ok.count g.S.Source.tells =
     c.in-Ok.ensures.taken c.args.watcher.now at.0 c.requires at.1 in
     record {
-      taken = (at.0 ++ now.bytes, now.stands, (let size = length-append at.0 now.bytes in omega (arith, size, at.2, now.size)), λ tells. taken_more _ at.0 now.bytes _ _ (at.3 tells) (now.read tells));
+      taken = (
+        at.0 ++ now.bytes,
+        now.stands,
+        (let size = length-append at.0 now.bytes in
+            omega (arith, size, at.2, now.size)),
+        λ tells. taken_more _ at.0 now.bytes _ _ (at.3 tells) (now.read tells),
+      );
       within = (let room = length-take (c.min.result + 1) c.deref_mut.result.now in
           omega (arith, room, c.in-Ok.ensures.within, c.min.ensures, c.loop-taken-test.true));
       size = c.loop-taken.invariant.size;
@@ -88,10 +113,19 @@ take_piece-requires-clause-room g c =
       c.requires,
       at.1,
       (let room = length-take (c.min.result + 1) c.deref_mut.result.now in
-          omega (arith, room, at.2, c.min.ensures, c.loop-taken-test.true, c.loop-taken.invariant.size, c.deref_mut.ensures.len)),
+          omega (
+            arith,
+            room,
+            at.2,
+            c.min.ensures,
+            c.loop-taken-test.true,
+            c.loop-taken.invariant.size,
+            c.deref_mut.ensures.len,
+          )),
     )
 
 pub returns-clause-read : goal.returns-clause-read
 returns-clause-read g c tells =
     let at = c.loop-taken.invariant.taken in
-    read_past {X = ℕ} (λ clocks text. Unit {0}) at.0 _ _ (at.3 tells) (omega (arith, at.2, c.loop-taken.invariant.within, c.loop-taken-test.false))
+    read_past {X = ℕ} (λ clocks text. Unit {0}) at.0 _ _ (at.3 tells)
+    (omega (arith, at.2, c.loop-taken.invariant.within, c.loop-taken-test.false))

@@ -6,7 +6,8 @@ use Rattle.vcd_grammar.specs.Reading.{Reads, FirstFault, first_fault, marks_of, 
 use Rattle.vcd_grammar.proofs.laws.one_answer.Goals as goal
 
 -- a text has no fault, or a first one
-answered : (text : List ℕ) (fault : Option VcdFault) → first_fault text ≡ fault → ((m : Marks) × (w : List Sample) × Reads text m w) ⊎ ((f : VcdFault) × FirstFault text f)
+answered : (text : List ℕ) (fault : Option VcdFault) → first_fault text ≡ fault
+    → ((m : Marks) × (w : List Sample) × Reads text m w) ⊎ ((f : VcdFault) × FirstFault text f)
 answered text None h = inl (marks_of text, samples_of text, (h, refl, refl))
 answered text (Some f) h = inr (f, h)
 

@@ -8,18 +8,24 @@ use Rattle.vcd_read.proofs.lanes.binary_before.Goals as goal
 
 pub overflow_add-result-then-run-lt-LANES : goal.overflow_add-result-then-run-lt-LANES
 overflow_add-result-then-run-lt-LANES c = record {
-  fits = run_fits c.args.text.now (16 * c.loop-block.block) _ _ c.requires (omega (arith, c.loop-block-test.true)) c.loop-block.invariant.value c.zeros_at-bits.ensures
+  fits = run_fits c.args.text.now (16 * c.loop-block.block) _ _ c.requires
+      (omega (arith, c.loop-block-test.true)) c.loop-block.invariant.value c.zeros_at-bits.ensures
       c.binary_run-run.result c.if-run-lt-LANES.true;
 }
 
 pub overflow_mul-zeros : goal.overflow_mul-zeros
 overflow_mul-zeros c = record {
-  fits = omega (arith, block_fits c.args.text.now (16 * c.loop-block.block) _ _ c.requires (omega (arith, c.loop-block-test.true)) c.loop-block.invariant.value c.zeros_at-bits.ensures);
+  fits = omega (
+    arith,
+    block_fits c.args.text.now (16 * c.loop-block.block) _ _ c.requires
+        (omega (arith, c.loop-block-test.true)) c.loop-block.invariant.value c.zeros_at-bits.ensures,
+  );
 }
 
 pub overflow_add-zeros : goal.overflow_add-zeros
 overflow_add-zeros c = record {
-  fits = block_fits c.args.text.now (16 * c.loop-block.block) _ _ c.requires (omega (arith, c.loop-block-test.true)) c.loop-block.invariant.value c.zeros_at-bits.ensures;
+  fits = block_fits c.args.text.now (16 * c.loop-block.block) _ _ c.requires
+      (omega (arith, c.loop-block-test.true)) c.loop-block.invariant.value c.zeros_at-bits.ensures;
 }
 
 pub returns-then-run-lt-LANES : goal.returns-then-run-lt-LANES
@@ -28,8 +34,11 @@ returns-then-run-lt-LANES c =
     let at = 16 * c.loop-block.block in
     record {
       few = omega (arith, c.loop-block-test.true, c.if-run-lt-LANES.true);
-      digits = more_pass (λ b. is_binary b) c.args.text.now at run.result (omega (arith, c.loop-block-test.true, c.requires, run.ensures.few)) c.loop-block.invariant.digits run.ensures.passes;
-      value = sym (run_read c.args.text.now at _ _ c.requires (omega (arith, c.loop-block-test.true)) c.loop-block.invariant.value c.zeros_at-bits.ensures run.result c.if-run-lt-LANES.true);
+      digits = more_pass (λ b. is_binary b) c.args.text.now
+          at run.result (omega (arith, c.loop-block-test.true, c.requires, run.ensures.few))
+          c.loop-block.invariant.digits run.ensures.passes;
+      value = sym (run_read c.args.text.now at _ _ c.requires (omega (arith, c.loop-block-test.true))
+          c.loop-block.invariant.value c.zeros_at-bits.ensures run.result c.if-run-lt-LANES.true);
     }
 
 pub loop-block-preserved : goal.loop-block-preserved
@@ -41,10 +50,12 @@ loop-block-preserved c =
     let next : 16 * block + 16 ≡ 16 * (block + 1) = omega arith in
     record {
       digits = subst (λ n. list_all is_binary (take n text) ≡ true) next
-          (more_pass (λ b. is_binary b) text (16 * block) 16 (omega (arith, c.loop-block-test.true, c.requires)) c.loop-block.invariant.digits
+          (more_pass (λ b. is_binary b) text (16 * block) 16 (omega (arith, c.loop-block-test.true, c.requires))
+          c.loop-block.invariant.digits
           (λ k from to. run.ensures.passes k from (omega (arith, to, whole))));
       value = subst (λ n. bits_from is_low 0 (take n text) ≡ c.loop-block.zeros * 65536 + c.zeros_at-bits.result) next
-          (sym (block_read text (16 * block) _ _ c.requires (omega (arith, c.loop-block-test.true)) c.loop-block.invariant.value c.zeros_at-bits.ensures));
+          (sym (block_read text (16 * block) _ _ c.requires (omega (arith, c.loop-block-test.true))
+          c.loop-block.invariant.value c.zeros_at-bits.ensures));
     }
 
 pub returns : goal.returns
@@ -53,5 +64,6 @@ returns c =
     record {
       few = omega arith;
       digits = subst (λ n. list_all is_binary (take n c.args.text.now) ≡ true) all c.loop-block.invariant.digits;
-      value = subst (λ n. bits_from is_low 0 (take n c.args.text.now) ≡ c.loop-block.zeros) all c.loop-block.invariant.value;
+      value = subst (λ n. bits_from is_low 0 (take n c.args.text.now) ≡ c.loop-block.zeros) all
+          c.loop-block.invariant.value;
     }

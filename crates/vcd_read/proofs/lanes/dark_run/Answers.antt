@@ -10,4 +10,6 @@ returns c =
     let v = chunk c.args.at 16 c.args.bytes.now in
     let long = length-chunk c.args.at 16 c.args.bytes.now c.requires in
     run_of (λ b. is_dark b) c.args.bytes.now c.args.at _ _ c.requires c.type_inv.bytes c.first_set.ensures _
-    (joined _ _ _ v (joined _ _ _ v (joined (λ a b. cond (leb a b) 255 0) _ _ v (splat_is_map v 16 9 long) (itself v)) (zip2_splat _ v 16 14 long)) (zip2_splat _ v 16 32 long)) refl
+    (joined _ _ _ v
+    (joined _ _ _ v (joined (λ a b. cond (leb a b) 255 0) _ _ v (splat_is_map v 16 9 long) (itself v))
+    (zip2_splat _ v 16 14 long)) (zip2_splat _ v 16 32 long)) refl

@@ -7,7 +7,8 @@ use Rattle.vcd_read.proofs.levels.level_of_digits.Given as goal
 abbrev pub invariant-loop-digit : goal.invariant-loop-digit
 invariant-loop-digit l = record {
   asserted : bits_from is_low l.asserted (drop l.digit-index l.digits) ≡ bits_from is_low 0 (extended l.width l.digits);
-  unknown : bits_from is_unknown l.unknown (drop l.digit-index l.digits) ≡ bits_from is_unknown 0 (extended l.width l.digits);
+  unknown : bits_from is_unknown l.unknown (drop l.digit-index l.digits)
+      ≡ bits_from is_unknown 0 (extended l.width l.digits);
   asserted_fits : l.asserted < 2 ^ (l.missing + l.digit-index);
   unknown_fits : l.unknown < 2 ^ (l.missing + l.digit-index);
 }

@@ -10,7 +10,8 @@ pub invariant_of-result : goal.invariant_of-result
 unfolding bits_without
 invariant_of-result c =
     let levels = c.args.levels.now in
-    let lines : c.asserted_lines-asserted.result < 2 ^ 21 = rw c.asserted_lines-asserted.ensures (control_of-lt (asserted_at levels)) in
+    let lines : c.asserted_lines-asserted.result < 2 ^ 21 =
+    rw c.asserted_lines-asserted.ensures (control_of-lt (asserted_at levels)) in
     record {
       disjoint = without-apart c.asserted_lines-asserted.result c.unknown_lines-unknown.result;
       line_bits = without-lt 21 _ c.unknown_lines-unknown.result lines;

@@ -9,4 +9,5 @@ pub returns : goal.returns
 returns c =
     let word = c.args.word.now in
     let at = c.binary_len-at.result in
-    c.are_all_digits.ensures ∙ ap (list_all (λ b. is_value_digit b)) (take_rest word at) ∙ sym (all_behind (λ b. is_value_digit b) word at c.binary_len-at.ensures.digits)
+    c.are_all_digits.ensures ∙ ap (list_all (λ b. is_value_digit b)) (take_rest word at)
+    ∙ sym (all_behind (λ b. is_value_digit b) word at c.binary_len-at.ensures.digits)

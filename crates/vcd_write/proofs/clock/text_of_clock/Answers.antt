@@ -7,4 +7,11 @@ returns-then-clock-eq0-clause-items c =
 
 pub returns-else-clock-eq0-clause-items : goal.returns-else-clock-eq0-clause-items
 returns-else-clock-eq0-clause-items c =
-    rw (c.put_edge-else-clock-eq0-2.ensures.items, c.put_changes.ensures.items, c.put_edge-else-clock-eq0.ensures.items, c.new-text.ensures, c.from-time.ensures) (clock_text-later _ _ _ _ c.if-clock-eq0.false)
+    rw (
+      c.put_edge-else-clock-eq0-2.ensures.items,
+      c.put_changes.ensures.items,
+      c.put_edge-else-clock-eq0.ensures.items,
+      c.new-text.ensures,
+      c.from-time.ensures,
+    )
+    (clock_text-later _ _ _ _ c.if-clock-eq0.false)

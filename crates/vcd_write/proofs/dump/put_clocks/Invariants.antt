@@ -11,5 +11,8 @@ invariant-loop-clock g l = record {
   parity : l.profile ≡ 1 → IsTrue (has_no_parity l.before);
   later : g.D.Sink.faults l.initial.sink ≤ g.D.Sink.faults l.sink;
   name : IsTrue g.D.Sink.tells → g.D.Sink.begun_as l.sink ≡ g.D.Sink.begun_as l.initial.sink;
-  written : IsTrue g.D.Sink.tells → Written (clocks_text l.profile 0 l.first l.samples) (clocks_text l.profile l.clock l.before (drop l.clock l.samples)) (g.D.Sink.holds l.initial.sink) (g.D.Sink.holds l.sink);
+  written : IsTrue g.D.Sink.tells
+      → Written (clocks_text l.profile 0 l.first l.samples)
+      (clocks_text l.profile l.clock l.before (drop l.clock l.samples)) (g.D.Sink.holds l.initial.sink)
+      (g.D.Sink.holds l.sink);
 }

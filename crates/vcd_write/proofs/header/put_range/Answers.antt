@@ -7,8 +7,19 @@ pub returns-then-width-gt1-clause-items : goal.returns-then-width-gt1-clause-ite
 returns-then-width-gt1-clause-items g c =
     let number = c.args.number in
     let width = c.args.width in
-    rw (c.put_text.ensures.items, c.put_decimal-then-width-gt1.ensures.items, c.push-then-width-gt1.ensures.items, c.put_decimal.ensures.items, c.push.ensures.items, c.from.ensures, c.from-then-width-gt1.ensures, c.lowest_line-lowest.ensures.value, range_text-word number width c.requires.width c.if-width-gt1.true)
-    (append_five c.args.text.now.items (codes "[") (decimal (lowest_of number + width - 1)) (codes ":") (decimal (lowest_of number)) (codes "] "))
+    rw (
+      c.put_text.ensures.items,
+      c.put_decimal-then-width-gt1.ensures.items,
+      c.push-then-width-gt1.ensures.items,
+      c.put_decimal.ensures.items,
+      c.push.ensures.items,
+      c.from.ensures,
+      c.from-then-width-gt1.ensures,
+      c.lowest_line-lowest.ensures.value,
+      range_text-word number width c.requires.width c.if-width-gt1.true,
+    )
+    (append_five c.args.text.now.items
+    (codes "[") (decimal (lowest_of number + width - 1)) (codes ":") (decimal (lowest_of number)) (codes "] "))
 
 pub returns-else-width-gt1-clause-items : goal.returns-else-width-gt1-clause-items
 returns-else-width-gt1-clause-items g c =

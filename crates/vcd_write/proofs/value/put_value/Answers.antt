@@ -7,10 +7,18 @@ pub returns-then-width-eq1-clause-items : goal.returns-then-width-eq1-clause-ite
 returns-then-width-eq1-clause-items g c =
     let width : width_of c.args.number ≡ c.signal_at.result.now.width = rw c.signal_at.ensures refl in
     let text = value_text-single c.args.number c.args.value (width ∙ c.if-width-eq1.true) in
-    rw (c.push-then-width-eq1.ensures.items, c.push.ensures.items, c.put_digits.ensures.items, text) (simp append_assoc refl)
+    rw (c.push-then-width-eq1.ensures.items, c.push.ensures.items, c.put_digits.ensures.items, text)
+    (simp append_assoc refl)
 
 pub returns-else-width-eq1-clause-items : goal.returns-else-width-eq1-clause-items
 returns-else-width-eq1-clause-items g c =
     let width : width_of c.args.number ≡ c.signal_at.result.now.width = rw c.signal_at.ensures refl in
     let text = value_text-word c.args.number c.args.value _ width c.if-width-eq1.false in
-    rw (c.push-else-width-eq1-4.ensures.items, c.push-else-width-eq1-3.ensures.items, c.push-else-width-eq1-2.ensures.items, c.put_digits-else-width-eq1.ensures.items, c.push-else-width-eq1.ensures.items, text) (simp append_assoc refl)
+    rw (
+      c.push-else-width-eq1-4.ensures.items,
+      c.push-else-width-eq1-3.ensures.items,
+      c.push-else-width-eq1-2.ensures.items,
+      c.put_digits-else-width-eq1.ensures.items,
+      c.push-else-width-eq1.ensures.items,
+      text,
+    ) (simp append_assoc refl)

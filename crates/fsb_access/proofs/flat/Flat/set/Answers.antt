@@ -7,7 +7,8 @@ pub loop-count-init : goal.loop-count-init
 loop-count-init c = record {
   within = omega arith;
   eight = c.chunk-chunk.ensures.eight;
-  puts = rw c.chunk-chunk.ensures.bytes (put_bytes-held c.args.self.now.chunks _ (rw c.chunk-chunk.ensures.bytes at c.chunk-chunk.ensures.eight));
+  puts = rw c.chunk-chunk.ensures.bytes
+      (put_bytes-held c.args.self.now.chunks _ (rw c.chunk-chunk.ensures.bytes at c.chunk-chunk.ensures.eight));
 }
 
 pub loop-count-preserved : goal.loop-count-preserved
@@ -16,12 +17,14 @@ loop-count-preserved c =
     record {
       within = omega (arith, c.loop-count-test.true);
       eight = length-set _ _ _ ∙ l.invariant.eight;
-      puts = chunk-set _ l.chunk _ l.count c.args.sets.now _ l.invariant.puts l.invariant.eight c.loop-count-test.true refl c.if-sets-count.true;
+      puts = chunk-set _ l.chunk _ l.count c.args.sets.now _ l.invariant.puts l.invariant.eight
+          c.loop-count-test.true refl c.if-sets-count.true;
     }
 
 pub returns-clause-put : goal.returns-clause-put
 returns-clause-put c =
-    let chunks_are : c.self.inside.chunks.entries ≡ c.args.self.now.chunks = ap (λ (view : FlatView). view.chunks) c.self.view_is in
+    let chunks_are : c.self.inside.chunks.entries ≡ c.args.self.now.chunks =
+    ap (λ (view : FlatView). view.chunks) c.self.view_is in
     memory_of_chunks-chunk c.args.self.now.chunks c.insert.new.self.entries _ c.loop-count.chunk
     (λ other. rw (← chunks_are) (c.in_ok-insert.ensures.updates.0 other)) c.loop-count.invariant.eight
     ∙ c.loop-count.invariant.puts

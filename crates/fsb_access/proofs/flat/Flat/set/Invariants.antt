@@ -8,7 +8,8 @@ abbrev pub invariant-loop-count : goal.invariant-loop-count
 invariant-loop-count l = record {
   within : l.count ≤ length l.sets;
   eight : length l.chunk ≡ 8;
-  puts : put_bytes (memory_of_chunks l.fn.self.chunks) (8 * l.number) l.chunk ≡ set_memory (memory_of_chunks l.fn.self.chunks) (take l.count l.sets);
+  puts : put_bytes (memory_of_chunks l.fn.self.chunks) (8 * l.number) l.chunk
+      ≡ set_memory (memory_of_chunks l.fn.self.chunks) (take l.count l.sets);
 }
 
 abbrev pub decreases-loop-count : goal.decreases-loop-count

@@ -8,4 +8,5 @@ use Rattle.fsb_agent.proofs.agent.Agent.arrive.Goals as goal
 pub invariant_of-self : goal.invariant_of-self
 invariant_of-self c =
     subst IsSound (sym c.arrive.ensures.agent)
-    (sound_arrived (parts_view c.self.inside.parts) c.args.clock c.args.number c.args.bytes c.self.invariant (ap (λ v. may_arrive v c.args.number) c.self.view_is ∙ c.requires.may))
+    (sound_arrived (parts_view c.self.inside.parts) c.args.clock c.args.number c.args.bytes c.self.invariant
+    (ap (λ v. may_arrive v c.args.number) c.self.view_is ∙ c.requires.may))

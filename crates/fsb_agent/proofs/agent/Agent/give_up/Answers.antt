@@ -8,4 +8,5 @@ use Rattle.fsb_agent.proofs.agent.Agent.give_up.Goals as goal
 pub invariant_of-self : goal.invariant_of-self
 invariant_of-self c =
     subst IsSound (sym c.give_up.ensures)
-    (sound_given_up (parts_view c.self.inside.parts) c.args.number c.self.invariant (ap (λ v. may_give_up v c.args.number) c.self.view_is ∙ c.requires))
+    (sound_given_up (parts_view c.self.inside.parts) c.args.number c.self.invariant
+    (ap (λ v. may_give_up v c.args.number) c.self.view_is ∙ c.requires))

@@ -4,4 +4,5 @@ use Rattle.fsb_agent.proofs.SoundWinning.{unpromised}
 use Rattle.fsb_agent.proofs.parts.Parts.commit_other.Goals as goal
 
 pub give-requires-clause-free : goal.give-requires-clause-free
-give-requires-clause-free c = unpromised (parts_view c.args.self.now) c.args.request.now.line c.requires.sound (search rules)
+give-requires-clause-free c = unpromised (parts_view c.args.self.now) c.args.request.now.line c.requires.sound
+    (search rules)

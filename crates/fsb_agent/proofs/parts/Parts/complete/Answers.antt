@@ -10,5 +10,10 @@ returns-clause-spare c =
     let items = c.args.self.now.script in
     let there : slice_get c.args.self.now.script c.args.self.now.place ≡ Some c.index-items-self.result =
     slice_get-get_or c.args.self.now.script c.args.self.now.place c.index-items-self.result c.requires.there
-    ∙ ap Some (ap (λ xs. Rattle.std.specs.Prelude.slice_index_or xs c.args.self.now.place c.index-items-self.result) (sym c.as_slice-items.ensures) ∙ sym c.index-items-self.is) in
-    omega (arith, length-completed (parts_view c.args.self.now) c.args.clock c.index-items-self.result there, c.serve_item.ensures.spare)
+    ∙ ap Some (ap (λ xs. Rattle.std.specs.Prelude.slice_index_or xs c.args.self.now.place
+    c.index-items-self.result) (sym c.as_slice-items.ensures) ∙ sym c.index-items-self.is) in
+    omega (
+      arith,
+      length-completed (parts_view c.args.self.now) c.args.clock c.index-items-self.result there,
+      c.serve_item.ensures.spare,
+    )

@@ -14,10 +14,14 @@ settle-requires-clause-held c =
 
 pub settle-requires-clause-fill : goal.settle-requires-clause-fill
 settle-requires-clause-fill c =
-    subst (λ (b : Buffered). IsSome (fill_on c.args.out.now.request.line b.fills)) (sym (ap (λ v. v.buffers) c.meet.ensures.agent ∙ met-buffers (parts_view c.args.self.now) c.args.clock c.args.out.now c.args.bytes))
+    subst (λ (b : Buffered). IsSome (fill_on c.args.out.now.request.line b.fills))
+    (sym (ap (λ v. v.buffers) c.meet.ensures.agent
+    ∙ met-buffers (parts_view c.args.self.now) c.args.clock c.args.out.now c.args.bytes))
     (landing-fill (parts_view c.args.self.now) c.args.out.now c.requires.sound c.requires.found c.requires.granted)
 
 pub settle-requires-clause-room : goal.settle-requires-clause-room
 settle-requires-clause-room c =
-    subst (λ (b : Buffered). IsSome (promise_on c.args.out.now.request.line b.fills) → length b.pushes < 8) (sym (ap (λ v. v.buffers) c.meet.ensures.agent ∙ met-buffers (parts_view c.args.self.now) c.args.clock c.args.out.now c.args.bytes))
+    subst (λ (b : Buffered). IsSome (promise_on c.args.out.now.request.line b.fills)
+    → length b.pushes < 8) (sym (ap (λ v. v.buffers) c.meet.ensures.agent
+    ∙ met-buffers (parts_view c.args.self.now) c.args.clock c.args.out.now c.args.bytes))
     (landing-room (parts_view c.args.self.now) c.args.out.now.request.line c.requires.sound)

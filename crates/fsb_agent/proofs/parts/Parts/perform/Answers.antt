@@ -15,4 +15,5 @@ complete-requires-clause-there c =
 
 pub complete-requires-clause-performable : goal.complete-requires-clause-performable
 complete-requires-clause-performable c =
-    met-ready (parts_view c.args.self.now) c.args.self.now.hand.cache _ c.requires.sound.script (met-hit (parts_view c.args.self.now) c.args.clock (sym c.is_hit.ensures ∙ c.if-is_hit.true))
+    met-ready (parts_view c.args.self.now) c.args.self.now.hand.cache _ c.requires.sound.script
+    (met-hit (parts_view c.args.self.now) c.args.clock (sym c.is_hit.ensures ∙ c.if-is_hit.true))

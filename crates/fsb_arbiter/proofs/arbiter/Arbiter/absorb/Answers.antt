@@ -12,5 +12,6 @@ returns c =
           (ap (λ a. a.last) w.self-is) (ap (λ a. a.symmetric) w.self-is ∙ w.symmetric_after-self.ensures)
       | else-has w ↦ λ h s.
           stands-kept c.args.self.now _ h c.args.sample.now s
-          (sym c.has.ensures ∙ w.if-has.false) (ap (λ a. a.newer) w.self-is) refl (ap (λ a. a.last) w.self-is) (ap (λ a. a.symmetric) w.self-is)
+          (sym c.has.ensures ∙ w.if-has.false) (ap (λ a. a.newer) w.self-is) refl (ap (λ a. a.last) w.self-is)
+          (ap (λ a. a.symmetric) w.self-is)
     ]

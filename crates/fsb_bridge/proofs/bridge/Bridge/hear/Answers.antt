@@ -12,4 +12,5 @@ loop-waiting-preserved c =
     let x : Waiting = get_or items k no_deferral in
     let within : k < length items = omega (arith, c.loop-waiting-test.true, c.loop-waiting.auto.waiting-items) in
     ap (λ w. set items k w) c.told.ensures
-    ∙ map_over_more (told c.args.news) c.as_mut_slice-waiting-items.result.now items k x c.loop-waiting-test.true c.loop-waiting.invariant (get_or_default items k _ x within)
+    ∙ map_over_more (told c.args.news) c.as_mut_slice-waiting-items.result.now items k x
+    c.loop-waiting-test.true c.loop-waiting.invariant (get_or_default items k _ x within)

@@ -11,7 +11,8 @@ pub returns-in-Some-clause-view : goal.returns-in-Some-clause-view
 returns-in-Some-clause-view c =
     let v = bus_view c.args.self.now in
     let number = c.in-Agents.number in
-    let items = with_items_is c.args.self.now.agents c.hand_all.new.agents (c.hand_all.auto.agents ∙ c.as_mut_slice.ensures.len) in
+    let items = with_items_is c.args.self.now.agents c.hand_all.new.agents (c.hand_all.auto.agents
+    ∙ c.as_mut_slice.ensures.len) in
     ap (λ agents. record v { agents = agents; moved = c.in-Some.bytes }) items
     ∙ fetched-some v number c.hand_all.new.agents c.in-Some.bytes
     (c.hand_all.ensures.agents ∙ ap (map (λ a. handed_on a number)) c.as_mut_slice.ensures.value)
@@ -22,7 +23,8 @@ pub returns-in_default-clause-view : goal.returns-in_default-clause-view
 returns-in_default-clause-view c =
     let v = bus_view c.args.self.now in
     let number = c.in-Agents.number in
-    let items = with_items_is c.args.self.now.agents c.hand_all.new.agents (c.hand_all.auto.agents ∙ c.as_mut_slice.ensures.len) in
+    let items = with_items_is c.args.self.now.agents c.hand_all.new.agents (c.hand_all.auto.agents
+    ∙ c.as_mut_slice.ensures.len) in
     ap (λ agents. record v { agents = agents }) items
     ∙ fetched-none v number c.hand_all.new.agents
     (c.hand_all.ensures.agents ∙ ap (map (λ a. handed_on a number)) c.as_mut_slice.ensures.value)

@@ -1,7 +1,8 @@
 use Rattle.std.proofs.Common.{◌≡◌, ◌<◌, Some, length, sym, ap, ◌∙◌, subst, arith}
 use Rattle.std.specs.Option.{option_map_or}
 use Rattle.fsb_memory.specs.Controller.{is_mapped}
-use Rattle.fsb_bench_view.specs.BusEvents.{answered_by, bus_answered, bus_cancelled, bus_snooped, ending_by, heard_answer, heard_cancel, heard_ending, heard_snoop}
+use Rattle.fsb_bench_view.specs.BusEvents.{answered_by, bus_answered, bus_cancelled, bus_snooped, ending_by}
+use Rattle.fsb_bench_view.specs.BusEvents.{heard_answer, heard_cancel, heard_ending, heard_snoop}
 use Rattle.fsb_bench_view.specs.BusViews.{BusView}
 use Rattle.fsb_bench_view.specs.MaySteps.{MayEnd}
 use Rattle.fsb_bus.specs.Buses.{bus_view}
@@ -14,18 +15,23 @@ hear_snoop-requires-clause-few c =
     let v = bus_view c.args.self.now in
     let d = c.args.decided.now in
     let cancel : bus_view c.hear_cancel.new.self ≡ heard_cancel v c.args.clock d =
-    c.hear_cancel.ensures.view ∙ ap (λ bus. option_map_or (bus_cancelled bus) d.cancelled bus) c.hear_start.ensures.view in
-    subst (λ n. n < 256) (sym (ap (λ (bus : BusView). length bus.agents) cancel ∙ (cancel-kept v c.args.clock d).count)) c.requires.few
+    c.hear_cancel.ensures.view
+    ∙ ap (λ bus. option_map_or (bus_cancelled bus) d.cancelled bus) c.hear_start.ensures.view in
+    subst (λ n. n < 256) (sym (ap (λ (bus : BusView). length bus.agents) cancel
+    ∙ (cancel-kept v c.args.clock d).count)) c.requires.few
 
-answered : (c : goal.After-hear_end-arg-2-1) → bus_view c.hear_answer.new.self ≡ heard_answer (bus_view c.args.self.now) c.args.clock c.args.decided.now
+answered : (c : goal.After-hear_end-arg-2-1)
+    → bus_view c.hear_answer.new.self ≡ heard_answer (bus_view c.args.self.now) c.args.clock c.args.decided.now
 answered c =
     let v = bus_view c.args.self.now in
     let d = c.args.decided.now in
     let cancel : bus_view c.hear_cancel.new.self ≡ heard_cancel v c.args.clock d =
-    c.hear_cancel.ensures.view ∙ ap (λ bus. option_map_or (bus_cancelled bus) d.cancelled bus) c.hear_start.ensures.view in
+    c.hear_cancel.ensures.view
+    ∙ ap (λ bus. option_map_or (bus_cancelled bus) d.cancelled bus) c.hear_start.ensures.view in
     let snoop : bus_view c.hear_snoop.new.self ≡ heard_snoop v c.args.clock d =
     c.hear_snoop.ensures.view ∙ ap (λ bus. option_map_or (bus_snooped bus) d.snooped bus) cancel in
-    c.hear_answer.ensures.view ∙ ap (λ bus. option_map_or (bus_answered bus c.args.clock) (answered_by bus d.drive) bus) snoop
+    c.hear_answer.ensures.view
+    ∙ ap (λ bus. option_map_or (bus_answered bus c.args.clock) (answered_by bus d.drive) bus) snoop
 
 pub hear_end-requires-clause-may : goal.hear_end-requires-clause-may
 hear_end-requires-clause-may c e is =
@@ -43,5 +49,6 @@ hear_end-requires-clause-may c e is =
 
 pub hear_end-requires-clause-room : goal.hear_end-requires-clause-room
 hear_end-requires-clause-room c =
-    let left = ap (λ (bus : BusView). accesses_left_of bus.agents) (answered c) ∙ (answer-kept (bus_view c.args.self.now) c.args.clock c.args.decided.now).left in
+    let left = ap (λ (bus : BusView). accesses_left_of bus.agents) (answered c)
+    ∙ (answer-kept (bus_view c.args.self.now) c.args.clock c.args.decided.now).left in
     omega (arith, c.requires.room, left)

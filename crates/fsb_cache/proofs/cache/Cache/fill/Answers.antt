@@ -8,12 +8,15 @@ use Rattle.fsb_cache.proofs.cache.Cache.fill.Goals as goal
 written : goal.After-self-1 → Option Held
 written c = Some record { line = c.args.line; state = c.args.state; bytes = c.args.bytes }
 
-filled : (c : goal.After-self-1) → SetPut c.args.self.now (set c.self.inside.sets.items c.place-place.result (written c)) c.args.line (written c)
+filled : (c : goal.After-self-1)
+    → SetPut c.args.self.now (set c.self.inside.sets.items c.place-place.result (written c)) c.args.line (written c)
 unfolding written
 filled c =
-    set_put c.self.inside.sets.items c.args.self.now c.args.line c.place-place.result (written c) c.self.view_is c.place-place.ensures.place
+    set_put c.self.inside.sets.items c.args.self.now c.args.line c.place-place.result (written c) c.self.view_is
+    c.place-place.ensures.place
     c.place-place.ensures.within
-    (only_this-room c.args.self.now c.args.line (subst InTheirSets c.self.view_is c.self.invariant) c.requires.room) (λ held e. cc)
+    (only_this-room c.args.self.now c.args.line (subst InTheirSets c.self.view_is c.self.invariant)
+    c.requires.room) (λ held e. cc)
 
 pub returns-clause-states : goal.returns-clause-states
 unfolding written

@@ -7,7 +7,8 @@ use Rattle.fsb_cache.proofs.cache.Cache.has_room_for.Goals as goal
 pub returns-in-Some : goal.returns-in-Some
 returns-in-Some c = (
   λ same other one has.
-      let is : c.in-Some.other ≡ other = same_Some _ _ (sym c.in-Some.is ∙ (c.resident.ensures.has other).1 (one, has)) in
+      let is : c.in-Some.other ≡ other =
+      same_Some _ _ (sym c.in-Some.is ∙ (c.resident.ensures.has other).1 (one, has)) in
       let line : c.in-Some.other ≡ c.args.line = grind (arith, nat_tests) in sym is ∙ line,
   λ room.
       let at = (c.resident.ensures.has c.in-Some.other).0 c.in-Some.is in

@@ -5,4 +5,7 @@ feed-self-requires c = (c.requires.1, c.requires.2, c.requires.3.checker, c.requ
 
 pub returns : goal.returns
 returns c begun marks h seen =
-    record { checker = c.feed-self.ensures.stands marks h seen.checker; broken = c.feed-self.ensures.verdict marks h seen.checker }
+    record {
+      checker = c.feed-self.ensures.stands marks h seen.checker;
+      broken = c.feed-self.ensures.verdict marks h seen.checker;
+    }

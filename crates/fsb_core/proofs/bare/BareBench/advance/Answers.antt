@@ -1,4 +1,5 @@
-use Rattle.std.proofs.Common.{ℕ, drop, ◌≡◌, ◌+◌, ◌++◌, ◌∷◌, [], List, length, map, Option, vec_capacity, sym, subst, ap, ◌∙◌, arith}
+use Rattle.std.proofs.Common.{ℕ, drop, ◌≡◌, ◌+◌, ◌++◌, ◌∷◌, [], List, length, map, Option, vec_capacity, sym, subst, ap}
+use Rattle.std.proofs.Common.{◌∙◌, arith}
 use Rattle.std.proofs.Math.Seq.{drop-append_seam}
 use Rattle.std.proofs.lemmas.List.{length-append}
 use Rattle.std.specs.Option.{option_map_or}
@@ -16,7 +17,8 @@ use Rattle.fsb_bus.specs.Buses.{bus_view}
 use Rattle.fsb_bus.specs.LogRoom.{accesses_left_of}
 use Rattle.fsb_core.specs.BareBenches.{bare_view}
 use Rattle.fsb_core.proofs.AgentCounts.{heard-count, heard-starts}
-use Rattle.fsb_core.proofs.Clocks.{begun-room, decided-is, driven-chunk, hear-may, queue-taken, sampled-is, start-lawful, words-lawful}
+use Rattle.fsb_core.proofs.Clocks.{begun-room, decided-is, driven-chunk, hear-may, queue-taken, sampled-is}
+use Rattle.fsb_core.proofs.Clocks.{start-lawful, words-lawful}
 use Rattle.fsb_core.proofs.StepTaken.{log-is, one-choice, released-are, stepped-is}
 use Rattle.fsb_core.proofs.bare.BareBench.advance.Goals as goal
 

@@ -9,5 +9,7 @@ invariant_of-self c =
     let fills = c.self.inside.fills.items in
     let within : c.in_ok-place.place < length fills =
     (position-Some (is_fill_on c.args.line) fills c.in_ok-place.place c.remove.result
-    (ap (λ v. position (is_fill_on c.args.line) v.fills) c.self.view_is ∙ sym c.fill_place.ensures ∙ c.in_ok-place.was)).0 in
-    rw c.remove.ensures.items (all_pairs_remove (λ x y. x.line ≢ y.line) fills c.in_ok-place.place within c.self.invariant)
+    (ap (λ v. position (is_fill_on c.args.line) v.fills) c.self.view_is ∙ sym c.fill_place.ensures
+    ∙ c.in_ok-place.was)).0 in
+    rw c.remove.ensures.items
+    (all_pairs_remove (λ x y. x.line ≢ y.line) fills c.in_ok-place.place within c.self.invariant)

@@ -8,5 +8,8 @@ pub returns : goal.returns
 returns c begun marks h seen = (
   seen.0,
   seen.1,
-  record { hunt = c.feed-self.ensures.stands seen.0 h seen.2.hunt; found = c.feed-self.ensures.found seen.0 h seen.2.hunt },
+  record {
+    hunt = c.feed-self.ensures.stands seen.0 h seen.2.hunt;
+    found = c.feed-self.ensures.found seen.0 h seen.2.hunt;
+  },
 )

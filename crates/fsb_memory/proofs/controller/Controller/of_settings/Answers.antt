@@ -12,8 +12,10 @@ loop-done-preserved c =
     let put = c.in_ok-done.ensures in
     record {
       within = omega (arith, l.invariant.within, put.within, length-drop l.done c.args.sets.now);
-      bytes = λ line. bytes-more line _ _ _ c.args.sets.now l.done _ (l.invariant.bytes line) (rw take_rest at (put.bytes line));
-      named = λ line. named-more line _ _ c.args.sets.now l.done _ (l.invariant.named line) (rw take_rest at (put.named line));
+      bytes = λ line. bytes-more line _ _ _ c.args.sets.now l.done _ (l.invariant.bytes line)
+          (rw take_rest at (put.bytes line));
+      named = λ line. named-more line _ _ c.args.sets.now l.done _ (l.invariant.named line)
+          (rw take_rest at (put.named line));
     }
 
 pub returns-clause-bytes : goal.returns-clause-bytes

@@ -11,8 +11,11 @@ returns-clause-others c =
     λ other apart. elim c.match-get_mut.branch [
       | in-Some w ↦
           let written = c.get_mut.follows.holds c.args.bytes in
-          rw (w.self-inside-is, ← c.self.view_is) (line_in-other _ _ c.args.line c.args.bytes (written.3 (search rules)).0 other apart)
-      | in_default w ↦ absurd (is_mapped-none c.self.inside.lines.entries c.args.line (sym c.get_mut.ensures.value ∙ ap option_copied_mut w.in_default.is) held)
+          rw (w.self-inside-is, ← c.self.view_is)
+          (line_in-other _ _ c.args.line c.args.bytes (written.3 (search rules)).0 other apart)
+      | in_default w ↦
+          absurd (is_mapped-none c.self.inside.lines.entries c.args.line (sym c.get_mut.ensures.value
+          ∙ ap option_copied_mut w.in_default.is) held)
     ]
 
 pub returns-clause-named : goal.returns-clause-named
@@ -21,6 +24,9 @@ returns-clause-named c =
     λ other. elim c.match-get_mut.branch [
       | in-Some w ↦
           let written = c.get_mut.follows.holds c.args.bytes in
-          rw (w.self-inside-is, ← c.self.view_is) (is_mapped-held _ _ c.args.line c.args.bytes (written.3 (search rules)).0 held other)
-      | in_default w ↦ absurd (is_mapped-none c.self.inside.lines.entries c.args.line (sym c.get_mut.ensures.value ∙ ap option_copied_mut w.in_default.is) held)
+          rw (w.self-inside-is, ← c.self.view_is)
+          (is_mapped-held _ _ c.args.line c.args.bytes (written.3 (search rules)).0 held other)
+      | in_default w ↦
+          absurd (is_mapped-none c.self.inside.lines.entries c.args.line (sym c.get_mut.ensures.value
+          ∙ ap option_copied_mut w.in_default.is) held)
     ]

@@ -16,6 +16,8 @@ loop-count-preserved c =
     record {
       within = omega (arith, c.loop-count-test.true);
       all = length-set _ _ _ ∙ l.invariant.all;
-      bytes = bytes_so_far-more _ _ l.bytes c.args.sets.now l.count _ l.invariant.bytes c.loop-count-test.true refl c.if-sets-count.true;
-      named = names_so_far-more _ c.args.sets.now l.count _ l.invariant.named c.loop-count-test.true refl c.if-sets-count.true;
+      bytes = bytes_so_far-more _ _ l.bytes c.args.sets.now l.count _ l.invariant.bytes c.loop-count-test.true
+          refl c.if-sets-count.true;
+      named = names_so_far-more _ c.args.sets.now l.count _ l.invariant.named c.loop-count-test.true refl
+          c.if-sets-count.true;
     }

@@ -9,5 +9,14 @@ use Rattle.fsb_phase.specs.Phases.{value_before, snooped_count, last_snoop_end, 
 use Rattle.fsb_phase.proofs.phases.Phases.new.Goals as goal
 
 pub returns : goal.returns
-unfolding count_where all_where nth_where live_count live_clock_of snoop_end_of snoop_end_if start_after_clock ready_clock_of ready_after clock_after_snoop response_count transfer_of transfer_after answer_from two_after_snoop value_before snooped_count last_snoop_end last_response
-returns c = record { snooped = refl; from = refl; ready = refl; response = refl; transfer = refl; orderly = orderly-empty }
+unfolding count_where all_where nth_where live_count live_clock_of snoop_end_of snoop_end_if start_after_clock
+    ready_clock_of ready_after clock_after_snoop response_count transfer_of transfer_after answer_from
+    two_after_snoop value_before snooped_count last_snoop_end last_response
+returns c = record {
+  snooped = refl;
+  from = refl;
+  ready = refl;
+  response = refl;
+  transfer = refl;
+  orderly = orderly-empty;
+}

@@ -15,6 +15,7 @@ returns c =
           ∙ ap (settled_at c.args.i c.args.outcome) c.self.view_is
       | in_default w ↦
           absurd (not_past c.self.inside.entries.items c.args.i
-          (let e : length c.self.inside.entries.items ≡ length c.args.self.now = ap length c.self.view_is in omega (arith, c.requires))
+          (let e : length c.self.inside.entries.items ≡ length c.args.self.now = ap length c.self.view_is in
+          omega (arith, c.requires))
           (sym c.get_mut.follows ∙ ap option_copied_mut w.in_default.is))
     ]

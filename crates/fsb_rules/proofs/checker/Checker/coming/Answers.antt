@@ -6,12 +6,14 @@ use Rattle.fsb_rules.proofs.checker.Checker.coming.Goals as goal
 pub returns-then-is_none-clause-some : goal.returns-then-is_none-clause-some
 returns-then-is_none-clause-some c = λ m h s e.
     tells_some (h ++ c.args.sample.now ∷ []) (length h) c.coming_at.result
-    (subst (Tells (h ++ c.args.sample.now ∷ []) (length h)) (sym c.coming_at.ensures) (coming_told m c.args.self.now h c.args.sample.now s e))
+    (subst (Tells (h ++ c.args.sample.now ∷ []) (length h)) (sym c.coming_at.ensures)
+    (coming_told m c.args.self.now h c.args.sample.now s e))
 
 pub returns-then-is_none-clause-none : goal.returns-then-is_none-clause-none
 returns-then-is_none-clause-none c = λ m h s e none.
     tells_none (h ++ c.args.sample.now ∷ []) (length h) c.coming_at.result
-    (subst (Tells (h ++ c.args.sample.now ∷ []) (length h)) (sym c.coming_at.ensures) (coming_told m c.args.self.now h c.args.sample.now s e)) none
+    (subst (Tells (h ++ c.args.sample.now ∷ []) (length h)) (sym c.coming_at.ensures)
+    (coming_told m c.args.self.now h c.args.sample.now s e)) none
 
 pub returns-else-is_none-clause-none : goal.returns-else-is_none-clause-none
 returns-else-is_none-clause-none c = λ m h s e none i n clock.

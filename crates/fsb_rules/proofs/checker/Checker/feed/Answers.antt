@@ -3,18 +3,21 @@ use Rattle.fsb_count.proofs.Interface.{is_some-none}
 use Rattle.fsb_signal.specs.declared.marks.Marks.{Marks}
 use Rattle.fsb_trace.specs.At.{Trace}
 use Rattle.fsb_rules.specs.Checker.{Stands}
-use Rattle.fsb_rules.proofs.Feeds.{FeedStep, queue_few, queue_room, outstanding_room, absorb_stands, broken_stands, was_found}
+use Rattle.fsb_rules.proofs.Feeds.{FeedStep, queue_few, queue_room, outstanding_room, absorb_stands, broken_stands}
+use Rattle.fsb_rules.proofs.Feeds.{was_found}
 use Rattle.fsb_rules.proofs.checker.Checker.feed.Goals as goal
 use Rattle.fsb_rules.proofs.checker.Checker.feed.Goals.{then-is_none+in-Some, then-is_none+in-None, else-is_none}
 
 pub absorb-requires-clause-few : goal.absorb-requires-clause-few
 absorb-requires-clause-few c =
-    queue_few c.requires.0 c.args.self.now c.requires.1 c.requires.2 (is_some-none c.args.self.now.found c.if-is_none.ensures)
+    queue_few c.requires.0 c.args.self.now c.requires.1 c.requires.2
+    (is_some-none c.args.self.now.found c.if-is_none.ensures)
 
 pub absorb-requires-clause-room : goal.absorb-requires-clause-room
 absorb-requires-clause-room c =
     let none = is_some-none c.args.self.now.found c.if-is_none.ensures in
-    queue_room c.requires.0 c.args.self.now c.requires.1 c.args.sample.now c.begun-begun.result c.winner_of-winner.result c.first_broken.result (record {
+    queue_room c.requires.0 c.args.self.now c.requires.1 c.args.sample.now c.begun-begun.result
+    c.winner_of-winner.result c.first_broken.result (record {
       stands = c.requires.2;
       none = none;
       begun = c.begun-begun.ensures;
@@ -25,7 +28,8 @@ absorb-requires-clause-room c =
 pub absorb-requires-clause-open_room : goal.absorb-requires-clause-open_room
 absorb-requires-clause-open_room c =
     let none = is_some-none c.args.self.now.found c.if-is_none.ensures in
-    outstanding_room c.requires.0 c.args.self.now c.requires.1 c.args.sample.now c.begun-begun.result c.winner_of-winner.result (record {
+    outstanding_room c.requires.0 c.args.self.now c.requires.1 c.args.sample.now c.begun-begun.result
+    c.winner_of-winner.result (record {
       stands = c.requires.2;
       none = none;
       begun = c.begun-begun.ensures;
@@ -33,12 +37,14 @@ absorb-requires-clause-open_room c =
       rule_is = sym c.in-None.is ∙ c.first_broken.ensures;
     })
 
-stands : (c : goal.After-result-1) (m : Marks) (h : Trace) → Stands c.args.self.now m h → Stands c.if-is_none.self m (h ++ c.args.sample.now ∷ [])
+stands : (c : goal.After-result-1) (m : Marks) (h : Trace) → Stands c.args.self.now m h
+    → Stands c.if-is_none.self m (h ++ c.args.sample.now ∷ [])
 stands c m h s =
     elim c.if-is_none.branch [
       | then-is_none+in-Some w ↦
           let none = is_some-none c.args.self.now.found w.if-is_none.ensures in
-          broken_stands m c.args.self.now c.if-is_none.self h c.args.sample.now w.begun-begun.result w.winner_of-winner.result _ (record {
+          broken_stands m c.args.self.now c.if-is_none.self h c.args.sample.now w.begun-begun.result
+          w.winner_of-winner.result _ (record {
             stands = s;
             none = none;
             begun = w.begun-begun.ensures;
@@ -47,7 +53,8 @@ stands c m h s =
           }) (ap (λ k. k.marks) w.self-is) (ap (λ k. k.found) w.self-is)
       | then-is_none+in-None w ↦
           let none = is_some-none c.args.self.now.found w.if-is_none.ensures in
-          let step : FeedStep m c.args.self.now h c.args.sample.now w.begun-begun.result w.winner_of-winner.result None = record {
+          let step : FeedStep m c.args.self.now h c.args.sample.now w.begun-begun.result
+          w.winner_of-winner.result None = record {
             stands = s;
             none = none;
             begun = w.begun-begun.ensures;
@@ -55,7 +62,8 @@ stands c m h s =
             rule_is = sym w.in-None.is ∙ w.first_broken.ensures;
           } in
           subst (λ k. Stands k m (h ++ c.args.sample.now ∷ [])) (sym w.self-is)
-          (absorb_stands m c.args.self.now _ h c.args.sample.now w.begun-begun.result w.winner_of-winner.result step w.absorb.ensures.marks w.absorb.ensures.found (record {
+          (absorb_stands m c.args.self.now _ h c.args.sample.now w.begun-begun.result w.winner_of-winner.result
+          step w.absorb.ensures.marks w.absorb.ensures.found (record {
             clock = w.absorb.ensures.clock;
             first = w.absorb.ensures.first;
             second = w.absorb.ensures.second;

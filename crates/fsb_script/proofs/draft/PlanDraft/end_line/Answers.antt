@@ -1,6 +1,7 @@
 use Rattle.std.proofs.Common.{◌∙◌}
 use Rattle.fsb_script.specs.Bounds.{is_lawful_script}
-use Rattle.fsb_script.proofs.KeptLemmas.{all_push, script_empty, items_fresh, items_all, items_room, behind_fresh, behind_all, behind_room}
+use Rattle.fsb_script.proofs.KeptLemmas.{all_push, script_empty, items_fresh, items_all, items_room, behind_fresh}
+use Rattle.fsb_script.proofs.KeptLemmas.{behind_all, behind_room}
 use Rattle.fsb_script.proofs.draft.PlanDraft.end_line.Goals as goal
 
 pub invariant_of-self : goal.invariant_of-self

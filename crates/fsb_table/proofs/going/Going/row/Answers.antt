@@ -2,7 +2,8 @@ use Rattle.std.proofs.Common.{◌≡◌, ℕ, Some, true, false, sym, ap, subst,
 use Rattle.fsb_trace.specs.At.{request_at}
 use Rattle.fsb_trace.specs.Requests.{is_cancelled, is_live, live_clock_of, live_number_of}
 use Rattle.fsb_table.specs.Going.{Stands}
-use Rattle.fsb_table.proofs.Requests.{cancelled-seen, clock-live, clock-seen, live-begun, number-cancelled, number-live, request-seen, row-cancelled, row-live}
+use Rattle.fsb_table.proofs.Requests.{cancelled-seen, clock-live, clock-seen, live-begun, number-cancelled, number-live}
+use Rattle.fsb_table.proofs.Requests.{request-seen, row-cancelled, row-live}
 use Rattle.fsb_table.proofs.going.Going.row.Goals as goal
 
 pub returns-then-seen-clause-row : goal.returns-then-seen-clause-row

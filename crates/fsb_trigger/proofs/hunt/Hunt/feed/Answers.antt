@@ -8,7 +8,8 @@ use Rattle.fsb_trigger.specs.declared.hunt.Hunt.{Hunt}
 use Rattle.fsb_trigger.proofs.hunt.Hunt.feed.Goals as goal
 
 -- the steps are those of its trigger
-own_steps : (hunt : Hunt) (steps : List StepView) (h : List Sample) → Stands hunt steps h → Stands hunt (steps_in hunt.trigger) h
+own_steps : (hunt : Hunt) (steps : List StepView) (h : List Sample) → Stands hunt steps h
+    → Stands hunt (steps_in hunt.trigger) h
 own_steps hunt steps h k = subst (λ s. Stands hunt s h) (sym k.searches) k
 
 pub returns-clause-found : goal.returns-clause-found

@@ -15,5 +15,9 @@ returns c =
       searches = refl;
       counts = refl;
       finds = refl;
-      keeps = λ none. record { each = λ i l. ap (option_map (kept (i + 1))) (none_kept i (omega (arith, l, few, length-map c.args.trigger.steps.items view_of))) };
+      keeps = λ none. record {
+        each =
+            λ i l. ap (option_map (kept (i + 1)))
+            (none_kept i (omega (arith, l, few, length-map c.args.trigger.steps.items view_of)));
+      };
     }

@@ -2,7 +2,8 @@ use Rattle.std.proofs.Common.{◌≡◌, None, refl, sym, ℕ, List}
 use Rattle.vcd_grammar.specs.Reading.{marks_so_far, samples_so_far}
 use Rattle.vcd_read.specs.Standing.{refusal_of}
 use Rattle.fsb_watch.proofs.Showing.{end_shows, seen_at_end}
-use Rattle.fsb_watch.proofs.Steps.{not_refused, Finished, finished, refused_end, refused_same, answers_bad, answers_long, is_bad_at_end, has_many_at_end}
+use Rattle.fsb_watch.proofs.Steps.{not_refused, Finished, finished, refused_end, refused_same, answers_bad}
+use Rattle.fsb_watch.proofs.Steps.{answers_long, is_bad_at_end, has_many_at_end}
 use Rattle.fsb_watch.proofs.pieces.Pieces.end.Goals as goal
 
 pub show-requires : goal.show-requires
@@ -36,7 +37,8 @@ returns-in-Err-Bad g c first fed ready stood =
     is_bad_at_end fed _
     (refused_same _ _ _ (sym c.in-Err-Bad.field-0-is)
     (refused_end _ fed _ _ _ stood.parsed.limit stood.parsed.refused refl
-    (λ none. refused_same _ _ _ c.in-Err-Bad.field-0-is (answers_bad _ _ _ c.in-Err-Bad.field-0-is (c.in-Err-Bad.ensures.answer fed stood.parsed.reader none)))
+    (λ none. refused_same _ _ _ c.in-Err-Bad.field-0-is
+    (answers_bad _ _ _ c.in-Err-Bad.field-0-is (c.in-Err-Bad.ensures.answer fed stood.parsed.reader none)))
     c.in-Err-Bad.ensures.again))
 
 pub returns-in-Err-TooLong : goal.returns-in-Err-TooLong
@@ -44,5 +46,6 @@ returns-in-Err-TooLong g c first fed ready stood =
     has_many_at_end fed
     (refused_same _ _ _ (sym c.in-Err-TooLong.field-0-is)
     (refused_end _ fed _ _ _ stood.parsed.limit stood.parsed.refused refl
-    (λ none. refused_same _ _ _ c.in-Err-TooLong.field-0-is (answers_long _ _ c.in-Err-TooLong.field-0-is (c.in-Err-TooLong.ensures.answer fed stood.parsed.reader none)))
+    (λ none. refused_same _ _ _ c.in-Err-TooLong.field-0-is
+    (answers_long _ _ c.in-Err-TooLong.field-0-is (c.in-Err-TooLong.ensures.answer fed stood.parsed.reader none)))
     c.in-Err-TooLong.ensures.again))

@@ -17,24 +17,32 @@ returns-clause-value c =
 
 pub overflow_add-result : goal.overflow_add-result
 overflow_add-result c =
-    let a = few_where c.args.self.now (λ place. has_request (kept_at c.args.self.now) (c.args.self.now.range.from + place)) in
-    let b = few_where c.args.self.now (λ place. asserts_at (kept_at c.args.self.now) DRDY (c.args.self.now.range.from + place)) in
+    let a = few_where c.args.self.now
+    (λ place. has_request (kept_at c.args.self.now) (c.args.self.now.range.from + place)) in
+    let b = few_where c.args.self.now
+    (λ place. asserts_at (kept_at c.args.self.now) DRDY (c.args.self.now.range.from + place)) in
     omega (arith, a, b, c.requests.ensures)
 
 pub overflow_add-result-2 : goal.overflow_add-result-2
 overflow_add-result-2 c =
-    let a = few_where c.args.self.now (λ place. has_request (kept_at c.args.self.now) (c.args.self.now.range.from + place)) in
-    let b = few_where c.args.self.now (λ place. asserts_at (kept_at c.args.self.now) DRDY (c.args.self.now.range.from + place)) in
+    let a = few_where c.args.self.now
+    (λ place. has_request (kept_at c.args.self.now) (c.args.self.now.range.from + place)) in
+    let b = few_where c.args.self.now
+    (λ place. asserts_at (kept_at c.args.self.now) DRDY (c.args.self.now.range.from + place)) in
     omega (arith, a, b, c.requests.ensures, c.transfers.ensures)
 
 pub overflow_add-result-3 : goal.overflow_add-result-3
 overflow_add-result-3 c =
-    let a = few_where c.args.self.now (λ place. has_request (kept_at c.args.self.now) (c.args.self.now.range.from + place)) in
-    let b = few_where c.args.self.now (λ place. asserts_at (kept_at c.args.self.now) DRDY (c.args.self.now.range.from + place)) in
+    let a = few_where c.args.self.now
+    (λ place. has_request (kept_at c.args.self.now) (c.args.self.now.range.from + place)) in
+    let b = few_where c.args.self.now
+    (λ place. asserts_at (kept_at c.args.self.now) DRDY (c.args.self.now.range.from + place)) in
     omega (arith, a, b, c.requests.ensures, c.transfers.ensures)
 
 pub returns-clause-few : goal.returns-clause-few
 returns-clause-few c =
-    let a = few_where c.args.self.now (λ place. has_request (kept_at c.args.self.now) (c.args.self.now.range.from + place)) in
-    let b = few_where c.args.self.now (λ place. asserts_at (kept_at c.args.self.now) DRDY (c.args.self.now.range.from + place)) in
+    let a = few_where c.args.self.now
+    (λ place. has_request (kept_at c.args.self.now) (c.args.self.now.range.from + place)) in
+    let b = few_where c.args.self.now
+    (λ place. asserts_at (kept_at c.args.self.now) DRDY (c.args.self.now.range.from + place)) in
     omega (arith, a, b, c.requests.ensures, c.transfers.ensures)

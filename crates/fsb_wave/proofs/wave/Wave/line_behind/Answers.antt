@@ -12,7 +12,8 @@ returns-then-i-transfers c =
     let n = shown c.args.self.now in
     let all = length-texts (asserts_at clocks DRDY) (text_at data_text clocks) from n in
     c.transfer.ensures
-    ∙ sym (line-transfer clocks from n c.args.self.now.count c.args.i (omega (arith, all, c.transfers-transfers.ensures, c.if-i-transfers.true)))
+    ∙ sym (line-transfer clocks from n c.args.self.now.count c.args.i
+    (omega (arith, all, c.transfers-transfers.ensures, c.if-i-transfers.true)))
 
 pub returns-then-i-transfers-2 : goal.returns-then-i-transfers-2
 returns-then-i-transfers-2 c =
@@ -20,9 +21,11 @@ returns-then-i-transfers-2 c =
     let from = c.args.self.now.range.from in
     let n = shown c.args.self.now in
     let all = length-texts (asserts_at clocks DRDY) (text_at data_text clocks) from n in
-    let place : c.args.i ≡ length (transfers clocks from n) = omega (arith, all, c.transfers-transfers.ensures, c.if-i-transfers-2.true) in
+    let place : c.args.i ≡ length (transfers clocks from n) =
+    omega (arith, all, c.transfers-transfers.ensures, c.if-i-transfers-2.true) in
     ap Some c.clocks_line.ensures
-    ∙ sym (ap (slice_get (lines_behind clocks from n c.args.self.now.count)) place ∙ line-last clocks from n c.args.self.now.count)
+    ∙ sym (ap (slice_get (lines_behind clocks from n c.args.self.now.count)) place
+    ∙ line-last clocks from n c.args.self.now.count)
 
 pub returns-else-i-transfers-2 : goal.returns-else-i-transfers-2
 returns-else-i-transfers-2 c =

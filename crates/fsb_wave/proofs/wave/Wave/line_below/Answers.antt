@@ -11,7 +11,8 @@ returns-then-i-requests c =
     let n = shown c.args.self.now in
     let all = length-texts (has_request clocks) (text_at request_text clocks) from n in
     c.request.ensures
-    ∙ sym (line-request clocks from n c.args.self.now.count c.args.i (omega (arith, all, c.requests-requests.ensures, c.if-i-requests.true)))
+    ∙ sym (line-request clocks from n c.args.self.now.count c.args.i
+    (omega (arith, all, c.requests-requests.ensures, c.if-i-requests.true)))
 
 pub returns-else-i-requests : goal.returns-else-i-requests
 returns-else-i-requests c =

@@ -4,4 +4,8 @@ use Rattle.vcd_read.proofs.CodeTables.{none_single}
 use Rattle.vcd_read.proofs.codes.Codes.new.Goals as goal
 
 pub invariant_of-result : goal.invariant_of-result
-invariant_of-result c = record { agree = record { tells = λ byte number h. absurd (none_single 128 byte number h) }; keys = ap (λ es. are_keys c.new.result.keys es) c.new-2.ensures.empty }
+invariant_of-result c =
+    record {
+      agree = record { tells = λ byte number h. absurd (none_single 128 byte number h) };
+      keys = ap (λ es. are_keys c.new.result.keys es) c.new-2.ensures.empty;
+    }

@@ -6,4 +6,5 @@ use Rattle.vcd_read.proofs.machine.Machine.set_level.Goals as goal
 pub returns : goal.returns
 returns c = λ digits other level.
     let m = c.args.self.now in
-    ap (λ (b : BlockView). record { known = known_of m; lines = record { block = b; decided = m.decided } }) (c.set_level.ensures digits other level)
+    ap (λ (b : BlockView). record { known = known_of m; lines = record { block = b; decided = m.decided } })
+    (c.set_level.ensures digits other level)

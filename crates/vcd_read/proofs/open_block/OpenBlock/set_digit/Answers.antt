@@ -12,4 +12,5 @@ invariant_of-self-else-number-ne0 c =
     let b = c.self.inside in
     subst (λ (v : Values). SampleKept b.changed b.sample_before v.levels)
     (ap (λ n. with_line b.values n (c.args.digit ∷ [])) (sym c.if-number-ne0.false) ∙ sym c.set_digit.ensures)
-    (kept_by-clock b.changed b.sample_before b.values.levels (level_of (extended (width_of 0) (c.args.digit ∷ []))) c.self.invariant)
+    (kept_by-clock b.changed b.sample_before b.values.levels
+    (level_of (extended (width_of 0) (c.args.digit ∷ []))) c.self.invariant)

@@ -2,7 +2,8 @@ use Rattle.std.proofs.Common.{◌++◌, sym, ap, ◌∙◌, subst, take}
 use Rattle.vcd_grammar.specs.Reading.{samples_so_far, marks_so_far}
 use Rattle.vcd_read.specs.Standing.{Scanned, marks_told}
 use Rattle.vcd_read.specs.Answers.{Answers, AppendsBy, result_of, stop_so_far, TellsMarks}
-use Rattle.vcd_read.proofs.Standings.{scanned_fits, scanned_more, answers_of, appends_of, stop_is, few_where_none, faultless_where_none, fed_appends, fed_part, ok_of}
+use Rattle.vcd_read.proofs.Standings.{scanned_fits, scanned_more, answers_of, appends_of, stop_is, few_where_none}
+use Rattle.vcd_read.proofs.Standings.{faultless_where_none, fed_appends, fed_part, ok_of}
 use Rattle.vcd_read.proofs.Marking.{scanned_marks, told_by}
 use Rattle.vcd_read.proofs.reader.Reader.absorb.Goals as goal
 
@@ -14,7 +15,8 @@ returns-in-Ok-clause-works c =
     let r = c.args.self.now in
     let s = c.absorb.new.self in
     ok_of c.answer.result _ c.answer.ensures (λ none fed w.
-    let more : Scanned s (fed ++ c.args.piece.now) = scanned_more r.scan s fed c.args.piece.now w.scanned c.in-Ok.ensures.state in
+    let more : Scanned s (fed ++ c.args.piece.now) =
+    scanned_more r.scan s fed c.args.piece.now w.scanned c.in-Ok.ensures.state in
     record {
       scanned = more;
       faultless = faultless_where_none r.limit s (fed ++ c.args.piece.now) more none;
@@ -25,26 +27,34 @@ pub returns-in-Ok-clause-answer : goal.returns-in-Ok-clause-answer
 returns-in-Ok-clause-answer c = λ fed w.
     let r = c.args.self.now in
     let s = c.absorb.new.self in
-    let more : Scanned s (fed ++ c.args.piece.now) = scanned_more r.scan s fed c.args.piece.now w.scanned c.in-Ok.ensures.state in
+    let more : Scanned s (fed ++ c.args.piece.now) =
+    scanned_more r.scan s fed c.args.piece.now w.scanned c.in-Ok.ensures.state in
     let is = stop_is r.limit s (fed ++ c.args.piece.now) more in
-    subst (λ a. Answers a (stop_so_far r.limit (fed ++ c.args.piece.now))) (sym (c.answer.ensures ∙ ap result_of is)) (answers_of (stop_so_far r.limit (fed ++ c.args.piece.now)))
+    subst (λ a. Answers a (stop_so_far r.limit (fed ++ c.args.piece.now)))
+    (sym (c.answer.ensures ∙ ap result_of is)) (answers_of (stop_so_far r.limit (fed ++ c.args.piece.now)))
 
 pub returns-in-Ok-clause-samples : goal.returns-in-Ok-clause-samples
 returns-in-Ok-clause-samples c = λ fed w.
     let r = c.args.self.now in
-    subst (λ a. AppendsBy a (samples_so_far fed) (take r.limit (samples_so_far (fed ++ c.args.piece.now))) c.args.to.now.items c.absorb.new.to.items) (sym c.answer.ensures)
-    (appends_of _ (samples_so_far fed) (take r.limit (samples_so_far (fed ++ c.args.piece.now))) c.args.to.now.items c.absorb.new.to.items
-    (fed_appends r.limit r.scan fed c.args.piece.now c.args.to.now.items c.absorb.new.to.items w.scanned w.few c.in-Ok.ensures.samples))
+    subst (λ a. AppendsBy a (samples_so_far fed) (take r.limit (samples_so_far (fed ++ c.args.piece.now)))
+    c.args.to.now.items c.absorb.new.to.items) (sym c.answer.ensures)
+    (appends_of _ (samples_so_far fed) (take r.limit (samples_so_far (fed ++ c.args.piece.now)))
+    c.args.to.now.items c.absorb.new.to.items
+    (fed_appends r.limit r.scan fed c.args.piece.now c.args.to.now.items c.absorb.new.to.items w.scanned w.few
+    c.in-Ok.ensures.samples))
 
 pub returns-in-Err-clause-samples : goal.returns-in-Err-clause-samples
 returns-in-Err-clause-samples c = λ fed w.
     let r = c.args.self.now in
-    fed_part r.limit r.scan fed c.args.piece.now c.args.to.now.items c.absorb.new.to.items w.scanned w.few c.in-Err.ensures.part
+    fed_part r.limit r.scan fed c.args.piece.now c.args.to.now.items c.absorb.new.to.items w.scanned w.few
+    c.in-Err.ensures.part
 
 pub returns-in-Ok-clause-marks : goal.returns-in-Ok-clause-marks
 returns-in-Ok-clause-marks c = λ fed w.
     let s = c.absorb.new.self in
     let told = marks_so_far (fed ++ c.args.piece.now) in
-    let more : Scanned s (fed ++ c.args.piece.now) = scanned_more c.args.self.now.scan s fed c.args.piece.now w.scanned c.in-Ok.ensures.state in
+    let more : Scanned s (fed ++ c.args.piece.now) =
+    scanned_more c.args.self.now.scan s fed c.args.piece.now w.scanned c.in-Ok.ensures.state in
     subst (λ a. TellsMarks a told (marks_told c.args.self.now) c.marks-self.result) (sym c.answer.ensures)
-    (told_by _ s.machine.fault told (marks_told c.args.self.now) c.marks-self.result (c.marks-self.ensures ∙ scanned_marks s (fed ++ c.args.piece.now) more))
+    (told_by _ s.machine.fault told (marks_told c.args.self.now) c.marks-self.result (c.marks-self.ensures
+    ∙ scanned_marks s (fed ++ c.args.piece.now) more))

@@ -13,14 +13,18 @@ finish-requires c = scanned_fits c.args.self.now.scan c.requires.0 c.requires.1.
 pub returns-in-Ok-clause-answer : goal.returns-in-Ok-clause-answer
 returns-in-Ok-clause-answer c = λ fed w.
     let r = c.args.self.now in
-    let is = scan_stop_is r.scan fed r.limit _ _ c.in-Ok.more w.scanned c.in-Ok.ensures.fault c.in-Ok.ensures.decided c.in-Ok.ensures.rises in
-    subst (λ a. Answers a (stop_at_end r.limit fed)) (sym (c.end_answer.ensures ∙ ap result_of is)) (answers_of (stop_at_end r.limit fed))
+    let is = scan_stop_is r.scan fed r.limit _ _ c.in-Ok.more w.scanned c.in-Ok.ensures.fault
+    c.in-Ok.ensures.decided c.in-Ok.ensures.rises in
+    subst (λ a. Answers a (stop_at_end r.limit fed)) (sym (c.end_answer.ensures ∙ ap result_of is))
+    (answers_of (stop_at_end r.limit fed))
 
 pub returns-in-Ok-clause-samples : goal.returns-in-Ok-clause-samples
 returns-in-Ok-clause-samples c = λ fed w.
     let r = c.args.self.now in
-    subst (λ a. AppendsAtEnd a r.limit (samples_so_far fed) (samples_before_end fed) (samples_of fed) c.args.to.now.items c.finish.new.to.items) (sym c.end_answer.ensures)
-    (scan_appends r.scan fed r.limit _ _ c.in-Ok.more c.args.to.now.items c.finish.new.to.items w.scanned w.few c.in-Ok.ensures.fault c.in-Ok.ensures.decided c.in-Ok.ensures.rises c.in-Ok.ensures.samples)
+    subst (λ a. AppendsAtEnd a r.limit (samples_so_far fed) (samples_before_end fed) (samples_of fed)
+    c.args.to.now.items c.finish.new.to.items) (sym c.end_answer.ensures)
+    (scan_appends r.scan fed r.limit _ _ c.in-Ok.more c.args.to.now.items c.finish.new.to.items w.scanned w.few
+    c.in-Ok.ensures.fault c.in-Ok.ensures.decided c.in-Ok.ensures.rises c.in-Ok.ensures.samples)
 
 pub returns-in-Err-clause-samples : goal.returns-in-Err-clause-samples
 returns-in-Err-clause-samples c = λ fed w.
@@ -28,4 +32,5 @@ returns-in-Err-clause-samples c = λ fed w.
     scan_part r.scan fed r.limit c.args.to.now.items c.finish.new.to.items w.scanned w.few c.in-Err.ensures.part
 
 pub returns-in-Ok-clause-declared : goal.returns-in-Ok-clause-declared
-returns-in-Ok-clause-declared c = ok_anyway c.end_answer.result (λ fed w. c.in-Ok.ensures.lines ∙ ended_lines c.args.self.now.scan fed w.scanned)
+returns-in-Ok-clause-declared c = ok_anyway c.end_answer.result (λ fed w. c.in-Ok.ensures.lines
+    ∙ ended_lines c.args.self.now.scan fed w.scanned)

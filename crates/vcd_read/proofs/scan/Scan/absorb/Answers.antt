@@ -6,16 +6,22 @@ use Rattle.vcd_read.proofs.scan.Scan.absorb.Goals as goal
 
 pub span-requires-clause-fits : goal.span-requires-clause-fits
 span-requires-clause-fits c =
-    absorbed-fits c.args.limit (reading c.args.self.now) (reading c.loop-rest.self) c.args.piece.now c.loop-rest.rest.now c.args.to.now.items c.loop-rest.to.items c.loop-rest.invariant c.requires.fits
+    absorbed-fits c.args.limit (reading c.args.self.now) (reading c.loop-rest.self) c.args.piece.now
+    c.loop-rest.rest.now c.args.to.now.items c.loop-rest.to.items c.loop-rest.invariant c.requires.fits
 
 pub returns-in_err-len-clause-part : goal.returns-in_err-len-clause-part
 returns-in_err-len-clause-part c =
     err_anyway c.from_residual.result
-    (absorbed-part c.args.limit (reading c.args.self.now) (reading c.loop-rest.self) c.args.piece.now c.loop-rest.rest.now c.args.to.now.items c.loop-rest.to.items c.span.new.to.items c.loop-rest.invariant c.in_err-len.ensures.part)
+    (absorbed-part c.args.limit (reading c.args.self.now) (reading c.loop-rest.self) c.args.piece.now
+    c.loop-rest.rest.now c.args.to.now.items c.loop-rest.to.items c.span.new.to.items c.loop-rest.invariant
+    c.in_err-len.ensures.part)
 
 pub loop-rest-preserved : goal.loop-rest-preserved
 loop-rest-preserved c =
     let rest = c.loop-rest.rest.now in
     let len = c.in_ok-len.len in
-    subst (λ w. Absorbed c.args.limit (reading c.args.self.now) (reading c.span.new.self) c.args.piece.now w c.args.to.now.items c.span.new.to.items) (sym (take_rest rest len))
-    (absorbed-more c.args.limit (reading c.args.self.now) (reading c.loop-rest.self) (reading c.span.new.self) c.args.piece.now rest len c.args.to.now.items c.loop-rest.to.items c.span.new.to.items c.loop-rest.invariant c.in_ok-len.ensures.state c.in_ok-len.ensures.samples)
+    subst (λ w. Absorbed c.args.limit (reading c.args.self.now) (reading c.span.new.self) c.args.piece.now w
+    c.args.to.now.items c.span.new.to.items) (sym (take_rest rest len))
+    (absorbed-more c.args.limit (reading c.args.self.now) (reading c.loop-rest.self) (reading c.span.new.self)
+    c.args.piece.now rest len c.args.to.now.items c.loop-rest.to.items c.span.new.to.items
+    c.loop-rest.invariant c.in_ok-len.ensures.state c.in_ok-len.ensures.samples)

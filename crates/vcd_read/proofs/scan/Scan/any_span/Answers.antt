@@ -10,5 +10,7 @@ returns-in_err-closed-clause-part c =
     let len = c.span_len-len.result in
     let part = c.in_err-closed.ensures.part (get_or bytes len 0) (c.span_len-len.ensures.white c.if-len-bytes.true) in
     err_anyway c.from_residual.result
-    (subst (λ w. Part c.args.limit s.machine.decided (samples_in_bytes (reading s) w) c.args.to.now.items c.closed.new.to.items) (span_split bytes len c.if-len-bytes.true)
-    (part_first (reading s) (take len bytes ++ get_or bytes len 0 ∷ []) (drop (len + 1) bytes) c.args.limit c.args.to.now.items c.closed.new.to.items part))
+    (subst (λ w. Part c.args.limit s.machine.decided (samples_in_bytes (reading s) w) c.args.to.now.items
+    c.closed.new.to.items) (span_split bytes len c.if-len-bytes.true)
+    (part_first (reading s) (take len bytes ++ get_or bytes len 0 ∷ []) (drop (len + 1) bytes) c.args.limit
+    c.args.to.now.items c.closed.new.to.items part))

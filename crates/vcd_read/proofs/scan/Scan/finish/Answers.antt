@@ -12,10 +12,15 @@ returns-clause-samples c =
     let r = reading c.args.self.now in
     let m = c.end.new.self in
     let state = c.in_ok-last.ensures.state in
-    let fault : m.fault ≡ end_fault r = ap (λ (k : Known). k.fault) c.end.ensures.known ∙ ap (λ (x : Reading). or_cut x.taken.known.fault x.taken.known.mode x.at) state in
-    let lines : lines_view m ≡ (ended_taken r).lines = c.end.ensures.lines ∙ ap (λ (x : Reading). x.taken.lines) state in
-    on_ok_weaker c.close.result (λ h. end_sampled r c.args.limit m.fault (lines_view m) c.args.to.now.items c.last.new.to.items _ fault lines c.in_ok-last.ensures.samples h) c.close.ensures.samples
+    let fault : m.fault ≡ end_fault r = ap (λ (k : Known). k.fault) c.end.ensures.known
+    ∙ ap (λ (x : Reading). or_cut x.taken.known.fault x.taken.known.mode x.at) state in
+    let lines : lines_view m ≡ (ended_taken r).lines = c.end.ensures.lines
+    ∙ ap (λ (x : Reading). x.taken.lines) state in
+    on_ok_weaker c.close.result
+    (λ h. end_sampled r c.args.limit m.fault (lines_view m) c.args.to.now.items c.last.new.to.items _ fault
+    lines c.in_ok-last.ensures.samples h) c.close.ensures.samples
 
 pub returns-clause-lines : goal.returns-clause-lines
 returns-clause-lines c =
-    on_ok_weaker c.close.result (λ h. ap (λ (k : Known). k.lines) c.end.ensures.known ∙ ap (λ (x : Reading). x.taken.known.lines) c.in_ok-last.ensures.state) c.close.ensures.samples
+    on_ok_weaker c.close.result (λ h. ap (λ (k : Known). k.lines) c.end.ensures.known
+    ∙ ap (λ (x : Reading). x.taken.known.lines) c.in_ok-last.ensures.state) c.close.ensures.samples

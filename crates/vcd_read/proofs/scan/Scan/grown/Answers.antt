@@ -11,15 +11,23 @@ returns-then-run_len-gt-LONGEST-clause-state c =
 pub returns-then-run_len-gt-LONGEST-clause-samples : goal.returns-then-run_len-gt-LONGEST-clause-samples
 returns-then-run_len-gt-LONGEST-clause-samples c =
     let s = c.args.self.now in
-    ap (pushed c.args.limit s.machine.decided c.args.to.now.items) (sym (long_samples (reading s) c.args.bytes.now c.requires.dark (omega (arith, c.run_len.ensures))))
+    ap (pushed c.args.limit s.machine.decided c.args.to.now.items)
+    (sym (long_samples (reading s) c.args.bytes.now c.requires.dark (omega (arith, c.run_len.ensures))))
 
 pub returns-then-bytes-run_len-clause-state : goal.returns-then-bytes-run_len-clause-state
 returns-then-bytes-run_len-clause-state c =
     let s = c.args.self.now in
-    (λ i. record { taken = (reading s).taken; at = s.at + length c.args.bytes.now; run = c.in_ok-extend_from_slice.ensures.items i })
-    ∙ sym (short_bytes (reading s) c.args.bytes.now c.requires.dark (omega (arith, c.run_len.ensures, c.run_len-2.ensures)))
+    (λ i. record {
+      taken = (reading s).taken;
+      at = s.at + length c.args.bytes.now;
+      run = c.in_ok-extend_from_slice.ensures.items i;
+    })
+    ∙ sym (short_bytes (reading s) c.args.bytes.now c.requires.dark
+    (omega (arith, c.run_len.ensures, c.run_len-2.ensures)))
 
 pub returns-then-bytes-run_len-clause-samples : goal.returns-then-bytes-run_len-clause-samples
 returns-then-bytes-run_len-clause-samples c =
     let s = c.args.self.now in
-    ap (pushed c.args.limit s.machine.decided c.args.to.now.items) (sym (short_samples (reading s) c.args.bytes.now c.requires.dark (omega (arith, c.run_len.ensures, c.run_len-2.ensures))))
+    ap (pushed c.args.limit s.machine.decided c.args.to.now.items)
+    (sym (short_samples (reading s) c.args.bytes.now c.requires.dark
+    (omega (arith, c.run_len.ensures, c.run_len-2.ensures))))

@@ -9,17 +9,25 @@ use Rattle.vcd_read.proofs.DirectTokens.{stamp_turns}
 use Rattle.vcd_read.proofs.scan.Scan.stamp.Goals as goal
 
 -- what the token does
-does : (c : goal.After-stamped) → turn (known_of c.args.self.now.machine) (token_of c.args.self.now.at c.args.word.now) ≡ stamped (known_of c.args.self.now.machine) c.args.self.now.at c.args.time c.args.self.now.machine.time
-does c = stamp_turns (known_of c.args.self.now.machine) c.args.self.now.at c.args.word.now c.args.time c.requires.ready.sound c.requires.ready.values c.requires.short c.requires.says
+does : (c : goal.After-stamped)
+    → turn (known_of c.args.self.now.machine) (token_of c.args.self.now.at c.args.word.now)
+    ≡ stamped (known_of c.args.self.now.machine) c.args.self.now.at c.args.time c.args.self.now.machine.time
+does c = stamp_turns (known_of c.args.self.now.machine) c.args.self.now.at c.args.word.now c.args.time
+    c.requires.ready.sound c.requires.ready.values c.requires.short c.requires.says
 
 pub returns-clause-state : goal.returns-clause-state
 returns-clause-state c = λ w white.
     let s = c.args.self.now in
-    on_ok_weaker c.stamped.result (λ h. whole_taken (reading s) _ w c.args.word.now c.requires.ready.empty c.requires.dark c.requires.some c.requires.short white
+    on_ok_weaker c.stamped.result
+    (λ h. whole_taken (reading s) _ w c.args.word.now c.requires.ready.empty c.requires.dark c.requires.some
+    c.requires.short white
     (h ∙ ap (turned (taken s.machine)) (sym (does c)))) c.stamped.ensures.taken
 
 pub returns-clause-samples : goal.returns-clause-samples
 returns-clause-samples c = λ w white.
     let s = c.args.self.now in
-    on_ok_weaker c.stamped.result (λ h. whole_sampled (reading s) w c.args.limit c.args.word.now c.args.to.now.items _ c.requires.ready.empty c.requires.dark c.requires.some c.requires.short white
-    (h ∙ ap (λ t. pushed c.args.limit s.machine.decided c.args.to.now.items (decided_of (taken s.machine) t)) (sym (does c)))) c.stamped.ensures.samples
+    on_ok_weaker c.stamped.result
+    (λ h. whole_sampled (reading s) w c.args.limit c.args.word.now c.args.to.now.items _
+    c.requires.ready.empty c.requires.dark c.requires.some c.requires.short white
+    (h ∙ ap (λ t. pushed c.args.limit s.machine.decided c.args.to.now.items (decided_of (taken s.machine) t))
+    (sym (does c)))) c.stamped.ensures.samples

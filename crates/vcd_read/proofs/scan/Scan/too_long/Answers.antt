@@ -7,14 +7,21 @@ use Rattle.vcd_read.proofs.scan.Scan.too_long.Goals as goal
 
 -- the run with the bytes that it takes
 grown : (c : goal.After-take) → c.extend_from_slice.new.self.items ≡ taken_by c.args.self.now.run.items c.args.bytes.now
-grown c = c.in_ok-extend_from_slice.ensures.items ∙ ap (λ n. c.args.self.now.run.items ++ take (70001 - n) c.args.bytes.now) c.run_len-2.ensures
+grown c = c.in_ok-extend_from_slice.ensures.items
+    ∙ ap (λ n. c.args.self.now.run.items ++ take (70001 - n) c.args.bytes.now) c.run_len-2.ensures
 
 pub returns-clause-state : goal.returns-clause-state
 returns-clause-state c =
     let s = c.args.self.now in
-    on_ok_weaker c.take.result (λ h. over_taken (reading s) c.args.bytes.now _ _ c.as_slice.result.now _ c.requires.dark c.requires.short c.requires.over (omega arith) (ap (λ n. s.at - n) c.run_len.ensures) c.as_slice.ensures.value (grown c) h) c.take.ensures.taken
+    on_ok_weaker c.take.result
+    (λ h. over_taken (reading s) c.args.bytes.now _ _ c.as_slice.result.now _ c.requires.dark
+    c.requires.short c.requires.over (omega arith) (ap (λ n. s.at - n) c.run_len.ensures)
+    c.as_slice.ensures.value (grown c) h) c.take.ensures.taken
 
 pub returns-clause-samples : goal.returns-clause-samples
 returns-clause-samples c =
     let s = c.args.self.now in
-    on_ok_weaker c.take.result (λ h. over_sampled (reading s) c.args.bytes.now _ _ c.as_slice.result.now c.args.limit c.args.to.now.items c.requires.dark c.requires.short c.requires.over (omega arith) (ap (λ n. s.at - n) c.run_len.ensures) (c.as_slice.ensures.value ∙ grown c) h) c.take.ensures.samples
+    on_ok_weaker c.take.result
+    (λ h. over_sampled (reading s) c.args.bytes.now _ _ c.as_slice.result.now c.args.limit
+    c.args.to.now.items c.requires.dark c.requires.short c.requires.over (omega arith)
+    (ap (λ n. s.at - n) c.run_len.ensures) (c.as_slice.ensures.value ∙ grown c) h) c.take.ensures.samples

@@ -5,5 +5,6 @@ use Rattle.vcd_read.proofs.scan.Scan.vector.Goals as goal
 pub returns : goal.returns
 returns c = record {
   state = λ bytes begins.
-      vector_taken (reading c.args.self.now) bytes c.args.change c.requires.ready begins _ (c.set_level.ensures begins.digits begins.other begins.level);
+      vector_taken (reading c.args.self.now) bytes c.args.change c.requires.ready begins _
+      (c.set_level.ensures begins.digits begins.other begins.level);
 }
