@@ -1,37 +1,308 @@
--- What the checker answers, and what it stands for, after one sample more.
-use Rattle.std.proofs.Common.{ℕ, ◌+◌, ◌-◌, ◌<◌, ◌≤◌, ◌≡◌, Bool, true, false, cond, Option, Some, None, is_some, is_none}
-use Rattle.std.proofs.Common.{◌&&◌, [], ◌∷◌, ◌++◌, length, refl, sym, ap, ◌∙◌, arith, subst}
-use Rattle.std.specs.Option.{option_map, option_and_then, option_to_list}
-use Rattle.std.specs.List.{filter_map}
-use Rattle.std.proofs.lemmas.Bool.{both_ways}
-use Rattle.fsb_count.specs.Clocks.{first_where}
-use Rattle.fsb_count.proofs.Interface.{first_where-off}
-use Rattle.fsb_signal.specs.declared.marks.Marks.{Marks}
-use Rattle.fsb_signal.specs.declared.sample.Sample.{Sample}
+-- The checker stands for the empty history, and for a history with a new sample.
+use Rattle.std.proofs.Common.{ℕ, ◌≡◌, true, false, cond, Option, Some, None, [], length, nat_lt, count_by, refl, sym}
+use Rattle.std.proofs.Common.{subst, ap, ◌∙◌, arith, ◌+◌, ◌-◌, ◌<◌, not, ◌&&◌, nat_eq, ◌∷◌, ◌++◌, inl, inr, ◌≤◌}
+use Rattle.std.proofs.Common.{is_some}
+use Rattle.std.specs.List.{list_all, filter_map}
+use Rattle.std.proofs.lemmas.Bool.{both_ways, cases_Bool, cases_lt, cases_eq, and_parts, le-leb, not-false, ne_eqb}
+use Rattle.std.specs.Option.{option_map, option_and_then}
+use Rattle.fsb_count.specs.Clocks.{first_where, count_where}
+use Rattle.fsb_count.specs.Options.{is_some_and}
+use Rattle.fsb_count.proofs.Interface.{nth_where-found, first_where-off}
 use Rattle.fsb_signal.specs.declared.lines.TheConstants.Lines.{ADS}
-use Rattle.fsb_signal.specs.Samples.{has_line}
-use Rattle.fsb_trace.specs.declared.who.Who.{Who}
-use Rattle.fsb_trace.specs.At.{Trace, line_back, known_pair}
-use Rattle.fsb_arbiter.specs.Arbiter.{Stands as ArbiterStands}
-use Rattle.fsb_trace.specs.Winner.{winner_at}
-use Rattle.fsb_trace.specs.Verdict.{is_broken, least_rule, breaks_a_rule, verdict}
+use Rattle.fsb_signal.specs.declared.marks.Marks.{Marks}
+use Rattle.fsb_signal.specs.Samples.{line_at, has_line}
+use Rattle.fsb_signal.proofs.Interface.{line_at-past}
+use Rattle.fsb_signal.specs.declared.sample.Sample.{Sample}
+use Rattle.fsb_trace.specs.At.{line_back, Trace, known_pair, request_at, responds_at, response_code_at}
+use Rattle.fsb_trace.specs.Snoop.{snoop_end_of}
+use Rattle.fsb_trace.specs.Response.{ready_clock_of}
+use Rattle.fsb_trace.specs.Verdict.{verdict, is_broken, least_rule, breaks_a_rule}
+use Rattle.fsb_trace.proofs.Interface.{snoop_end_of-clock, winner_at-agree, breaks-14, live_response_of-is}
 use Rattle.fsb_trace.proofs.Interface.{AgreeTo-less, breaks_a_rule-agree, verdict-least, verdict-none, verdict-stays}
+use Rattle.fsb_trace.specs.declared.who.Who.{Who}
+use Rattle.fsb_trace.specs.Winner.{winner_at}
+use Rattle.fsb_trace.specs.Requests.{live_request_of, is_reply, live_count}
+use Rattle.fsb_trace.specs.Outcome.{outcome_of, is_deferred, is_deferral, told_by, response_code_of}
+use Rattle.fsb_trace.specs.Outcome.{response_clock_of, live_response_of}
+use Rattle.fsb_trace.specs.Rules.{is_identified, is_identity_wrong, is_code_wrong, responds_soundly, has_code_at}
+use Rattle.fsb_trace.specs.Rules.{is_code_for, next_response}
+use Rattle.fsb_arbiter.specs.Arbiter.{Stands as ArbiterStands, lines_back}
+use Rattle.fsb_laws.specs.Progress.{response_count, transfer_after, transfer_of}
+use Rattle.fsb_laws.proofs.Interface.{orderly-empty, response_counted, response_count-empty, has_ready}
+use Rattle.fsb_laws.proofs.Interface.{deferred_response, one_more, line_at-old, next_response-new, request_at-last}
+use Rattle.fsb_laws.proofs.Interface.{request_at-old, live_request_of-old, newly_deferred, first_where-next}
 use Rattle.fsb_laws.specs.OneMore.{OneMore}
-use Rattle.fsb_laws.proofs.Interface.{one_more, first_where-next}
-use Rattle.fsb_rules.specs.declared.broken.Broken.{Broken}
 use Rattle.fsb_rules.specs.declared.checker.Checker.{Checker}
-use Rattle.fsb_rules.specs.declared.live.LiveRequest.{LiveRequest}
-use Rattle.fsb_rules.specs.Live.{live_at}
+use Rattle.fsb_rules.specs.Recent.{words_back, RecentStands}
+use Rattle.fsb_rules.specs.InFlight.{InFlightStands, chunks_in, known_count, snoop_before}
+use Rattle.fsb_rules.specs.Live.{IsLive, IsSnooped}
+use Rattle.fsb_rules.specs.Stretch.{Stretch}
+use Rattle.fsb_rules.specs.Outstanding.{OutstandingStands}
+use Rattle.fsb_rules.specs.OpenTests.{is_of_agent, open_after, open_begun}
 use Rattle.fsb_rules.specs.Tests.{queue_len}
-use Rattle.fsb_rules.specs.OpenTests.{open_after, open_begun}
+use Rattle.fsb_rules.specs.Checker.{Follows, Stands, as_broken, beginner_of, Decoded, Identified, Deferrable}
+use Rattle.fsb_rules.proofs.OpenStands.{open_empty, OpenLeft, open_stands, open_room}
+use Rattle.fsb_rules.specs.declared.live.LiveRequest.{LiveRequest}
+use Rattle.fsb_rules.specs.declared.recent.Recent.{Recent}
 use Rattle.fsb_rules.specs.LeastRule.{begun_by, first_broken, happened_by}
-use Rattle.fsb_rules.specs.Checker.{Follows, Stands, as_broken}
-use Rattle.fsb_rules.proofs.FirstBroken.{first_is_least}
-use Rattle.fsb_rules.proofs.StartRules.{begun-form}
-use Rattle.fsb_rules.proofs.QueueFollows.{QueueGoes}
-use Rattle.fsb_rules.proofs.OpenStands.{open_room}
-use Rattle.fsb_rules.proofs.Unbroken.{IsUnbroken, unbroken, goes_on, own_unbroken, calm}
-use Rattle.fsb_rules.proofs.CheckerFollows.{Absorbed, checker_follows}
+use Rattle.fsb_rules.proofs.Lines.{lines_back-first, lines_back-next, words_back-new, line_back-new}
+use Rattle.fsb_rules.proofs.LeastRule.{identified_now, IsUnbroken, goes_on, own_unbroken, calm}
+use Rattle.fsb_rules.proofs.LeastRule.{told_deferral as told_deferral_parts, deferral_no_reply, first_is_least}
+use Rattle.fsb_rules.proofs.LeastRule.{unbroken}
+use Rattle.fsb_rules.proofs.QueueGoes.{QueueGoes, queue_follows, new_back}
+use Rattle.fsb_rules.proofs.Goes.{Goes}
+use Rattle.fsb_rules.specs.declared.broken.Broken.{Broken}
+use Rattle.fsb_rules.proofs.StartRules.{begun-none}
+
+-- what the code makes
+pub record IsNew (k : Checker) : Type 0 where
+  pub found : k.found ≡ None
+  pub clock : k.clock ≡ 0
+  pub first : k.recent.first ≡ None
+  pub second : k.recent.second ≡ None
+  pub third : k.recent.third ≡ None
+  pub words : k.recent.words ≡ None
+  pub arbiter : ArbiterStands k.arbiter []
+  pub beginner : k.beginner ≡ None
+  pub asking : k.queue.asking.items ≡ []
+  pub waiting : k.queue.waiting.items ≡ []
+  pub moving : k.queue.moving ≡ None
+  pub last_snoop : k.queue.last_snoop ≡ None
+  pub ready : k.queue.ready ≡ None
+  pub current : k.outstanding.current.items ≡ []
+  pub before : k.outstanding.before.items ≡ []
+
+no_ads : (q : ℕ) → line_at ADS [] q ≡ true → ⊥
+no_ads q t = both_ways _ (line_at-past ADS [] q (omega arith)) t
+
+no_back : line_back ADS [] 0 1 ≡ false
+unfolding line_back
+no_back = refl
+
+no_snoop : (i : ℕ) (o : Option ℕ) → snoop_end_of [] i ≡ o → snoop_end_of [] i ≡ None
+no_snoop i None e = e
+no_snoop i (Some t) e = let c = snoop_end_of-clock [] i t e in absurd (let l = c.within in omega arith)
+
+no_ready : (i : ℕ) (o : Option ℕ) → ready_clock_of [] i ≡ o → ready_clock_of [] i ≡ None
+no_ready i None e = e
+no_ready i (Some y) e = let r = has_ready [] i y e in absurd (let l = r.within in omega arith)
+
+new_queue : (k : Checker) → IsNew k → InFlightStands k.queue []
+unfolding line_back known_count count_where snoop_before queue_len transfer_of transfer_after
+new_queue k n =
+    record {
+      snooped = 0;
+      to = record { reached = λ i l. absurd (omega arith); next = no_snoop 0 (snoop_end_of [] 0) refl };
+      asking = subst (λ xs. Stretch (IsLive []) xs 0 0) (sym n.asking) refl;
+      waiting = subst (λ xs. Stretch (IsSnooped []) xs (response_count []) 0) (sym n.waiting) response_count-empty;
+      chunks = ap chunks_in n.moving ∙ (rw response_count-empty refl);
+      moving = λ m e. absurd (let none = n.moving in let no : ⊥ = cc in no);
+      last_snoop = n.last_snoop;
+      ready = n.ready ∙ sym (no_ready (response_count []) (ready_clock_of [] (response_count [])) refl);
+      few = rw (n.asking, n.waiting, n.moving) (omega arith);
+    }
+
+new_outstanding : (k : Checker) → IsNew k → OutstandingStands k.outstanding []
+new_outstanding k n =
+    record {
+      current = n.current ∙ sym (open_empty [] refl);
+      few = λ a. (let e : count_by (is_of_agent a) k.outstanding.current.items ≡ 0 =
+          ap (count_by (is_of_agent a)) n.current in omega arith);
+      own = ap (list_all (λ o. nat_lt o.did 64)) n.current;
+      fewer = λ t. absurd (both_ways _ no_back t);
+      before = λ t. absurd (both_ways _ no_back t);
+    }
+
+new_follows : (k : Checker) → IsNew k → Follows k []
+unfolding lines_back words_back beginner_of line_back
+new_follows k n =
+    record {
+      orderly = orderly-empty;
+      decoded = record { there = λ q t l. absurd (no_ads q t) };
+      identified = record { own = λ q r t e. absurd (no_ads q t) };
+      deferrable =
+          record {
+            no_reply = λ i t. absurd (let d = deferred_response [] i t in
+                let l = response_counted [] i d.0 d.1 in let z = response_count-empty in omega arith);
+          };
+      clock = n.clock;
+      recent = record { first = n.first; second = n.second; third = n.third; words = n.words };
+      arbiter = n.arbiter;
+      beginner = n.beginner;
+      queue = new_queue k n;
+      outstanding = new_outstanding k n;
+    }
+
+nothing_found : (marks : Marks) → None ≡ as_broken (verdict marks [])
+unfolding as_broken verdict first_where
+nothing_found marks = refl
+
+pub new_stands : (k : Checker) (marks : Marks) → IsNew k → k.marks ≡ marks → Stands k marks []
+new_stands k marks n e = record { marked = e; found = n.found ∙ nothing_found marks; follows = λ e. new_follows k n }
+
+-- The checker follows the history with a sample that breaks no rule.
+
+-- what the code leaves in the checker, at its clock n
+pub record Absorbed (k : Checker) (n : ℕ) (h : Trace) (x : Sample) (b : Option LiveRequest) (winner : Option Who)
+    (new : Checker) : Type 0 where
+  pub clock : new.clock ≡ n + 1
+  pub first : new.recent.first ≡ Some x.lines
+  pub second : new.recent.second ≡ k.recent.first
+  pub third : new.recent.third ≡ k.recent.second
+  pub words : new.recent.words ≡ known_pair x
+  pub arbiter : ArbiterStands new.arbiter (h ++ x ∷ [])
+  pub beginner : new.beginner ≡ winner
+  pub queue : QueueGoes k.queue n x b new.queue
+  pub outstanding : OpenLeft k n x b new.outstanding
+
+back_is : (h : Trace) (q : ℕ) → q + 1 ≡ length h → line_at ADS h q ≡ line_back ADS h (length h) 1
+unfolding line_back
+back_is h q e =
+    let same : length h - 1 ≡ q = omega arith in
+    sym (rw (le-leb 1 (length h) (omega arith), same) refl)
+
+-- and no reply among them is Deferred
+code_fits : (v : Trace) (n i : ℕ) → is_code_wrong v n ≡ false → next_response v n ≡ i → responds_at v n ≡ true
+    → nat_eq (response_code_at v n) 4 ≡ false → is_code_for v i (response_code_at v n) ≡ true
+unfolding is_code_wrong responds_soundly response_code_of has_code_at
+code_fits v n i f e t c =
+    let g : ((true && not false) && not (nat_lt i (live_count v) && is_code_for v i (response_code_at v n)))
+    ≡ false = rw (e, t, c) at f in
+    (and_parts _ _ (not-false _ g)).1
+
+told_cases : (v : Trace) (n i : ℕ) (o : Option ℕ) → live_response_of v i ≡ o → response_clock_of v i ≡ Some n
+    → is_deferred v i ≡ true → is_deferral (told_by v i (response_code_at v n)) ≡ true
+unfolding is_deferred outcome_of is_some_and
+told_cases v n i None f e t = absurd (let g : false ≡ true = rw f at t in let no : ⊥ = cc in no)
+told_cases v n i (Some r) f e t =
+    let there = live_response_of-is v i r f in
+    let same : r ≡ n = cc in
+    subst (λ c. is_deferral (told_by v i (response_code_at v c)) ≡ true) same (let g = rw f at t in g)
+
+told_deferral : (v : Trace) (n i : ℕ) → response_clock_of v i ≡ Some n → is_deferred v i ≡ true
+    → is_deferral (told_by v i (response_code_at v n)) ≡ true
+told_deferral v n i e t = told_cases v n i (live_response_of v i) refl e t
+
+no_failure : (v : Trace) (i code : ℕ) → is_deferral (told_by v i code) ≡ true → nat_eq code 4 ≡ false
+no_failure v i code t = let p = (told_deferral_parts v i code t).1 in ne_eqb code 4 (λ e. omega arith)
+
+responds_there : (v : Trace) (i n : ℕ) → response_clock_of v i ≡ Some n → responds_at v n ≡ true
+unfolding response_clock_of
+responds_there v i n e = (nth_where-found (responds_at v) i (length v) n e).1
+
+newly_no_reply : (v : Trace) (n i : ℕ) → response_clock_of v i ≡ Some n → is_deferred v i ≡ true
+    → is_code_wrong v n ≡ false → next_response v n ≡ i → is_reply (live_request_of v i) ≡ false
+newly_no_reply v n i e t f next =
+    let told = told_deferral v n i e t in
+    deferral_no_reply v i (response_code_at v n) told
+    (code_fits v n i f next (responds_there v i n e) (no_failure v i (response_code_at v n) told))
+
+recent_goes : {k : Checker} {h : Trace} (x : Sample) (r : Recent) → Follows k h → r.first ≡ Some x.lines
+    → r.second ≡ k.recent.first → r.third ≡ k.recent.second → r.words ≡ known_pair x → RecentStands r (h ++ x ∷ [])
+recent_goes {k} {h} x r f a b c d =
+    let m = one_more h x in
+    record {
+      first = a ∙ sym (lines_back-first h x (h ++ x ∷ []) m);
+      second = b ∙ f.recent.first ∙ sym (lines_back-next h x (h ++ x ∷ []) 1 m (omega arith));
+      third = c ∙ f.recent.second ∙ sym (lines_back-next h x (h ++ x ∷ []) 2 m (omega arith));
+      words = d ∙ sym (words_back-new h x (h ++ x ∷ []) m);
+    }
+
+beginner_goes : (h : Trace) (x : Sample) (v : Trace) → OneMore h x v
+    → cond (has_line x ADS) (winner_at h (length h)) None ≡ beginner_of v
+unfolding beginner_of
+beginner_goes h x v m =
+    let size = m.size in
+    let e : length h + 1 - 1 ≡ length h = omega arith in
+    sym (rw (new_back h x v m, m.size, e)
+    (ap (λ w. cond (has_line x ADS) w None)
+    (sym (winner_at-agree (length h) h v (length h) m.agree (omega arith)))))
+
+module _ {k : Checker} {h : Trace} {x : Sample} {v : Trace} {b : Option LiveRequest} (g : Goes k h x v b) where
+  old_ads : (q : ℕ) → q < length h → line_at ADS v q ≡ true → line_at ADS h q ≡ true
+  old_ads q l t = sym (line_at-old ADS h x v q g.more l) ∙ t
+
+  -- all requests but the last one are decoded
+  decoded_goes : Decoded v
+  decoded_goes =
+      let size = g.more.size in
+      record {
+        there = λ q t l.
+            let old = old_ads q (omega arith) t in
+            elim (cases_eq (q + 1) (length h)) [
+              | inl last ↦
+                  let d = g.decoded (sym (back_is h q last) ∙ old) in
+                  let same : length h - 1 ≡ q = omega arith in
+                  (d.0, subst (λ c. request_at v c ≡ Some d.0) same d.1)
+              | inr before ↦
+                  let early : q + 1 < length h = omega (arith, before) in
+                  let d = g.follows.decoded.there q old early in
+                  (d.0, request_at-old h x v q g.more early ∙ d.1)
+            ];
+      }
+
+  -- and of their agents
+  identified_goes : is_identity_wrong v (length h) ≡ false → Identified v
+  identified_goes own =
+      let size = g.more.size in
+      record {
+        own = λ q r t e.
+            elim (cases_lt (q + 1) (length h)) [
+              | inl early ↦
+                  ap (λ w. is_identified w (Some r)) (sym (winner_at-agree (length h) h v q g.more.agree (omega arith)))
+                  ∙ g.follows.identified.own q r (old_ads q (omega arith) t)
+                  (sym (request_at-old h x v q g.more early) ∙ e)
+              | inr late ↦
+                  elim (cases_eq (q + 1) (length h)) [
+                    | inl last ↦
+                        let same : length h - 1 ≡ q = omega arith in
+                        let back : line_back ADS v (length h) 1 ≡ true = line_back-new ADS h x v 1 g.more (omega arith)
+                        ∙ sym (back_is h q last) ∙ old_ads q (omega arith) t in
+                        subst (λ c. is_identified (winner_at v c) (Some r) ≡ true) same
+                        (identified_now v (length h) r back (subst (λ c. request_at v c ≡ Some r) (sym same) e) own)
+                    | inr past ↦
+                        let none = request_at-last v q (omega (arith, late, past)) in absurd (let no : ⊥ = cc in no)
+                  ]
+            ];
+      }
+
+  deferrable_goes : is_code_wrong v (length h) ≡ false → Deferrable v
+  deferrable_goes code =
+      record {
+        no_reply = λ i t.
+            elim (cases_Bool (is_deferred h i)) [
+              | inl old ↦
+                  let d = deferred_response h i old in
+                  ap is_reply (live_request_of-old h x v i g.more g.follows.orderly
+                  (response_counted h i d.0 d.1)) ∙ g.follows.deferrable.no_reply i old
+              | inr new ↦
+                  let n = newly_deferred h x v i g.more g.follows.orderly new t in
+                  newly_no_reply v (length h) i n.response t code (next_response-new h x v g.more ∙ sym n.number)
+            ];
+      }
+
+pub checker_follows : (marks : Marks) {k : Checker} {h : Trace} (x : Sample) (new : Checker) → Follows k h
+    → IsUnbroken marks (h ++ x ∷ []) (length h)
+    → Absorbed k (length h) h x (begun_by k (length h) x) (cond (has_line x ADS) (winner_at h (length h)) None) new
+    → Follows new (h ++ x ∷ [])
+checker_follows marks {k} {h} x new f u r =
+    let v : Trace = h ++ x ∷ [] in
+    let m = one_more h x in
+    let g = goes_on f m u in
+    record {
+      orderly = g.after;
+      decoded = decoded_goes g;
+      identified = identified_goes g (own_unbroken marks v (length h) u);
+      deferrable = deferrable_goes g (sym (breaks-14 marks v (length h)) ∙ u.sound 14 (omega arith));
+      clock = r.clock ∙ sym m.size;
+      recent = recent_goes x new.recent f r.first r.second r.third r.words;
+      arbiter = r.arbiter;
+      beginner = r.beginner ∙ beginner_goes h x v m;
+      queue = queue_follows g new.queue r.queue;
+      outstanding = open_stands g (own_unbroken marks v (length h) u) (calm f m u) new.outstanding refl r.outstanding;
+    }
+
+-- What the checker answers, and what it stands for, after one sample more.
 
 -- a verdict stays
 pub verdict_kept : (marks : Marks) (h : Trace) (x : Sample) (v : Trace) (p : Option (ℕ × ℕ)) → OneMore h x v
@@ -84,75 +355,11 @@ unfolding as_broken
 as_broken-none None e = refl
 as_broken-none (Some p) e = absurd (let no : ⊥ = cc in no)
 
-pub no_verdict : (marks : Marks) (k : Checker) (h : Trace) → Stands k marks h → k.found ≡ None → verdict marks h ≡ None
-no_verdict marks k h s e = as_broken-none (verdict marks h) (sym s.found ∙ e)
-
--- the checker's marks are those of its history
-pub least_by : (marks : Marks) (k : Checker) (h : Trace) (x : Sample) → Stands k marks h → k.found ≡ None
-    → first_broken k (length h) x (begun_by k (length h) x) (winner_at h (length h))
-    ≡ least_rule marks (h ++ x ∷ []) (length h)
-least_by marks k h x s e =
-    first_is_least k h x (h ++ x ∷ []) (s.follows e) (one_more h x)
-    ∙ ap (λ n. least_rule n (h ++ x ∷ []) (length h)) s.marked
-
--- what was found before stays
-pub found_stays : (marks : Marks) (k : Checker) (h : Trace) (x : Sample) (b : Broken) → Stands k marks h
-    → k.found ≡ Some b → Stands k marks (h ++ x ∷ [])
-found_stays marks k h x b s e =
-    record {
-      marked = s.marked;
-      found = s.found
-          ∙ ap as_broken
-          (sym (verdict_kept marks h x (h ++ x ∷ []) (verdict marks h) (one_more h x) refl
-          (some_broken (verdict marks h) b (sym s.found ∙ e))));
-      follows = λ n. absurd (let no : ⊥ = cc in no);
-    }
-
--- a rule that is broken with the sample
-broken_now : (marks : Marks) (h : Trace) (x : Sample) (rule : ℕ) → verdict marks h ≡ None
-    → least_rule marks (h ++ x ∷ []) (length h) ≡ Some rule
-    → as_broken (verdict marks (h ++ x ∷ [])) ≡ Some (record { clock = length h; rule = rule })
+told : (o : Option ℕ) (n : ℕ) → as_broken (option_map {U = ℕ × ℕ} (λ j. (n, j)) o)
+    ≡ option_map {U = Broken} (λ j. record { clock = n; rule = j }) o
 unfolding as_broken
-broken_now marks h x rule e f = ap as_broken (verdict_next marks h x (h ++ x ∷ []) (one_more h x) e
-    ∙ ap (option_map {U = ℕ × ℕ} (λ j. (length h, j))) f)
-
-pub found_now : (marks : Marks) (k new : Checker) (h : Trace) (x : Sample) (rule : ℕ) → Stands k marks h
-    → k.found ≡ None → first_broken k (length h) x (begun_by k (length h) x) (winner_at h (length h))
-    ≡ Some rule → new.marks ≡ k.marks → new.found ≡ Some (record { clock = length h; rule = rule })
-    → Stands new marks (h ++ x ∷ [])
-found_now marks k new h x rule s e f same g =
-    let least = sym (least_by marks k h x s e) ∙ f in
-    record {
-      marked = same ∙ s.marked;
-      found = g ∙ sym (broken_now marks h x rule (no_verdict marks k h s e) least);
-      follows = λ n. absurd (let no : ⊥ = cc in no);
-    }
-
--- no rule is broken with the sample
-pub still_unbroken : (marks : Marks) (k : Checker) (h : Trace) (x : Sample) → Stands k marks h → k.found ≡ None
-    → first_broken k (length h) x (begun_by k (length h) x) (winner_at h (length h)) ≡ None
-    → IsUnbroken marks (h ++ x ∷ []) (length h)
-still_unbroken marks k h x s e f =
-    let m = one_more h x in
-    unbroken marks (h ++ x ∷ []) (length h) m.size (sym (least_by marks k h x s e) ∙ f)
-
-accepted_now : (marks : Marks) (h : Trace) (x : Sample) → verdict marks h ≡ None
-    → least_rule marks (h ++ x ∷ []) (length h) ≡ None → as_broken (verdict marks (h ++ x ∷ [])) ≡ None
-unfolding as_broken
-accepted_now marks h x e f = ap as_broken (verdict_next marks h x (h ++ x ∷ []) (one_more h x) e
-    ∙ ap (option_map {U = ℕ × ℕ} (λ j. (length h, j))) f)
-
-pub none_now : (marks : Marks) (k new : Checker) (h : Trace) (x : Sample) → Stands k marks h → k.found ≡ None
-    → first_broken k (length h) x (begun_by k (length h) x) (winner_at h (length h)) ≡ None
-    → new.marks ≡ k.marks → new.found ≡ None
-    → Absorbed k h x (begun_by k (length h) x) (winner_at h (length h)) new → Stands new marks (h ++ x ∷ [])
-none_now marks k new h x s e f same g r =
-    let least = sym (least_by marks k h x s e) ∙ f in
-    record {
-      marked = same ∙ s.marked;
-      found = g ∙ sym (accepted_now marks h x (no_verdict marks k h s e) least);
-      follows = λ n. checker_follows marks k h x new (s.follows e) (still_unbroken marks k h x s e f) r;
-    }
+told None n = refl
+told (Some j) n = refl
 
 -- what the code has when it has looked at the rules
 pub record FeedStep (marks : Marks) (k : Checker) (h : Trace) (x : Sample) (b : Option LiveRequest)
@@ -163,153 +370,100 @@ pub record FeedStep (marks : Marks) (k : Checker) (h : Trace) (x : Sample) (b : 
   pub winner_is : winner ≡ cond (has_line x ADS) (winner_at h (length h)) None
   pub rule_is : rule ≡ first_broken k k.clock x b winner
 
-clock_of : (marks : Marks) (k : Checker) (h : Trace) (x : Sample) (b : Option LiveRequest) (winner : Option Who)
-    (rule : Option ℕ) → FeedStep marks k h x b winner rule → k.clock ≡ length h
-clock_of marks k h x b winner rule f = (f.stands.follows f.none).clock
+-- what was found stays
+found_cases : {marks : Marks} {k : Checker} {h : Trace} (x : Sample) (o : Option Broken) → Stands k marks h
+    → k.found ≡ o → is_some o ≡ true → Stands k marks (h ++ x ∷ [])
+found_cases x None s e t = absurd (let no : ⊥ = cc in no)
+found_cases {marks} {k} {h} x (Some b) s e t =
+    record {
+      marked = s.marked;
+      found = s.found
+          ∙ ap as_broken
+          (sym (verdict_kept marks h x (h ++ x ∷ []) (verdict marks h) (one_more h x) refl
+          (some_broken (verdict marks h) b (sym s.found ∙ e))));
+      follows = λ n. absurd (let no : ⊥ = cc in no);
+    }
 
-begun_of : (marks : Marks) (k : Checker) (h : Trace) (x : Sample) (b : Option LiveRequest) (winner : Option Who)
-    (rule : Option ℕ) → FeedStep marks k h x b winner rule → b ≡ begun_by k (length h) x
-begun_of marks k h x b winner rule f = f.begun ∙ ap (λ n. begun_by k n x) (clock_of marks k h x b winner rule f)
-
--- the winner counts only where a request begins
-asked_winner : (t : Bool) (w : Option Who) → (t && is_none (cond t w None)) ≡ (t && is_none w)
-asked_winner true w = refl
-asked_winner false w = refl
-
-same_rule : (k : Checker) (n : ℕ) (x : Sample) (b : Option LiveRequest) (w : Option Who)
-    → first_broken k n x b (cond (has_line x ADS) w None) ≡ first_broken k n x b w
-unfolding first_broken
-same_rule k n x b w = rw (asked_winner (has_line x ADS) w) refl
-
-pub rule_of : (marks : Marks) (k : Checker) (h : Trace) (x : Sample) (b : Option LiveRequest)
-    (winner : Option Who) (rule : Option ℕ) → FeedStep marks k h x b winner rule
-    → first_broken k (length h) x (begun_by k (length h) x) (winner_at h (length h)) ≡ rule
-rule_of marks k h x b winner rule f =
-    sym (f.rule_is ∙ ap (λ n. first_broken k n x b winner) (clock_of marks k h x b winner rule f)
-    ∙ ap (λ c. first_broken k (length h) x c winner) (begun_of marks k h x b winner rule f)
-    ∙ ap (first_broken k (length h) x (begun_by k (length h) x)) f.winner_is
-    ∙ same_rule k (length h) x (begun_by k (length h) x) (winner_at h (length h)))
+pub was_found : {marks : Marks} {k : Checker} {h : Trace} (x : Sample) → Stands k marks h
+    → is_some k.found ≡ true → Stands k marks (h ++ x ∷ [])
+was_found {marks} {k} x s t = found_cases x k.found s refl t
 
 -- there is room for what comes
-pub queue_few : (marks : Marks) (k : Checker) (h : Trace) → Stands k marks h → k.found ≡ None → queue_len k.queue ≤ 8
-queue_few marks k h s e = let few = (s.follows e).queue.few in omega arith
+pub queue_few : {marks : Marks} {k : Checker} {h : Trace} → Stands k marks h → k.found ≡ None → queue_len k.queue ≤ 8
+queue_few s e = let few = (s.follows e).queue.few in omega arith
 
-begun_back : (k : Checker) (h : Trace) (x : Sample) (t : Bool) → Follows k h → line_back ADS h (length h) 1 ≡ t
-    → is_some (begun_by k (length h) x) ≡ true → t ≡ true
-begun_back k h x true f e t = refl
-begun_back k h x false f e t =
-    let none = begun-form k h x (h ++ x ∷ []) f (one_more h x)
-    ∙ ap (λ b. cond b (live_at (h ++ x ∷ []) (length h - 1)) None) e in
-    absurd (let g : is_some (begun_by k (length h) x) ≡ false = ap (λ o. is_some o) none in both_ways _ g t)
+module _ {marks : Marks} {k : Checker} {h : Trace} {x : Sample} {b : Option LiveRequest} {winner : Option Who}
+    {rule : Option ℕ} (s : FeedStep marks k h x b winner rule) where
+  follows : Follows k h
+  follows = s.stands.follows s.none
 
-pub queue_room : (marks : Marks) (k : Checker) (h : Trace) (x : Sample) (b : Option LiveRequest)
-    (winner : Option Who) (rule : Option ℕ) → FeedStep marks k h x b winner rule → is_some b ≡ true
-    → queue_len k.queue < 8
-queue_room marks k h x b winner rule f t =
-    let follows = f.stands.follows f.none in
-    let begun : is_some (begun_by k (length h) x) ≡ true =
-    sym (ap (λ o. is_some o) (begun_of marks k h x b winner rule f)) ∙ t in
-    let back = begun_back k h x (line_back ADS h (length h) 1) follows refl begun in
-    let few : queue_len k.queue + 1 ≤ 8 = subst (λ c. queue_len k.queue + cond c 1 0 ≤ 8) back follows.queue.few in
-    omega arith
+  begun : b ≡ begun_by k (length h) x
+  begun = s.begun ∙ ap (λ n. begun_by k n x) follows.clock
 
-pub outstanding_room : (marks : Marks) (k : Checker) (h : Trace) (x : Sample) (b : Option LiveRequest)
-    (winner : Option Who) → FeedStep marks k h x b winner None
-    → is_some (option_and_then (λ a. open_begun a) b) ≡ true
-    → length (filter_map (open_after (happened_by k k.clock x b)) k.outstanding.current.items) < 16
-outstanding_room marks k h x b winner f t =
-    let follows = f.stands.follows f.none in
-    let m = one_more h x in
-    let u = still_unbroken marks k h x f.stands f.none (rule_of marks k h x b winner None f) in
-    let g = goes_on marks k h x (h ++ x ∷ []) follows m u in
-    let begun = begun_of marks k h x b winner None f in
-    let room = open_room k h x (h ++ x ∷ []) (begun_by k (length h) x) g
-    (own_unbroken marks (h ++ x ∷ []) (length h) u) (calm marks k h x (h ++ x ∷ []) follows m u)
-    (sym (ap (λ o. is_some (option_and_then (λ a. open_begun a) o)) begun) ∙ t) in
-    let same : happened_by k (length h) x (begun_by k (length h) x) ≡ happened_by k k.clock x b =
-    sym (ap (λ n. happened_by k n x b) (clock_of marks k h x b winner None f)
-    ∙ ap (happened_by k (length h) x) begun) in
-    subst (λ w. length (filter_map (open_after w) k.outstanding.current.items) < 16) same room
+  rule_of : first_broken k (length h) x (begun_by k (length h) x)
+      (cond (has_line x ADS) (winner_at h (length h)) None) ≡ rule
+  rule_of =
+      sym (s.rule_is ∙ ap (λ n. first_broken k n x b winner) follows.clock
+      ∙ ap (λ c. first_broken k (length h) x c winner) begun
+      ∙ ap (first_broken k (length h) x (begun_by k (length h) x)) s.winner_is)
 
--- what the code leaves at its clock n
-pub record AbsorbedAt (k : Checker) (n : ℕ) (h : Trace) (x : Sample) (b : Option LiveRequest)
-    (winner : Option Who) (new : Checker) : Type 0 where
-  pub clock : new.clock ≡ n + 1
-  pub first : new.recent.first ≡ Some x.lines
-  pub second : new.recent.second ≡ k.recent.first
-  pub third : new.recent.third ≡ k.recent.second
-  pub words : new.recent.words ≡ known_pair x
-  pub arbiter : ArbiterStands new.arbiter (h ++ x ∷ [])
-  pub beginner : new.beginner ≡ cond (has_line x ADS) winner None
-  pub queue : QueueGoes k.queue n x b new.queue
-  pub current : new.outstanding.current.items
-      ≡ filter_map (open_after (happened_by k n x b)) k.outstanding.current.items
-      ++ option_to_list (option_and_then (λ a. open_begun a) b)
-  pub before : new.outstanding.before.items ≡ cond (has_line x ADS) k.outstanding.current.items
-      k.outstanding.before.items
+  least : least_rule marks (h ++ x ∷ []) (length h) ≡ rule
+  least =
+      sym (first_is_least follows (one_more h x) ∙ ap (λ n. least_rule n (h ++ x ∷ []) (length h)) s.stands.marked)
+      ∙ rule_of
 
-same_beginner : (t : Bool) (w : Option Who) → cond t (cond t w None) None ≡ cond t w None
-same_beginner true w = refl
-same_beginner false w = refl
+  verdict_now : as_broken (verdict marks (h ++ x ∷ []))
+      ≡ option_map {U = Broken} (λ j. record { clock = length h; rule = j }) rule
+  verdict_now =
+      ap as_broken (verdict_next marks h x (h ++ x ∷ []) (one_more h x)
+      (as_broken-none (verdict marks h) (sym s.stands.found ∙ s.none))
+      ∙ ap (option_map {U = ℕ × ℕ} (λ j. (length h, j))) least)
+      ∙ told rule (length h)
 
-by_winner : (k : Checker) (n : ℕ) (h : Trace) (x : Sample) (b : Option LiveRequest) (w : Option Who)
-    (new : Checker) → AbsorbedAt k n h x b (cond (has_line x ADS) w None) new → AbsorbedAt k n h x b w new
-by_winner k n h x b w new r =
-    record {
-      clock = r.clock;
-      first = r.first;
-      second = r.second;
-      third = r.third;
-      words = r.words;
-      arbiter = r.arbiter;
-      beginner = r.beginner ∙ same_beginner (has_line x ADS) w;
-      queue = r.queue;
-      current = r.current;
-      before = r.before;
-    }
+  still : rule ≡ None → IsUnbroken marks (h ++ x ∷ []) (length h)
+  still e = unbroken marks (h ++ x ∷ []) (length h) (one_more h x).size (least ∙ e)
 
-absorbed : (k : Checker) (h : Trace) (x : Sample) (b : Option LiveRequest) (winner : Option Who) (new : Checker)
-    → AbsorbedAt k (length h) h x b winner new → Absorbed k h x b winner new
-absorbed k h x b winner new r =
-    record {
-      clock = r.clock;
-      first = r.first;
-      second = r.second;
-      third = r.third;
-      words = r.words;
-      arbiter = r.arbiter;
-      beginner = r.beginner;
-      queue = r.queue;
-      outstanding = record { current = r.current; before = r.before };
-    }
+  pub queue_room : is_some b ≡ true → queue_len k.queue < 8
+  queue_room t =
+      let few = follows.queue.few in
+      elim (cases_Bool (line_back ADS h (length h) 1)) [
+        | inl back ↦
+            let one : queue_len k.queue + 1 ≤ 8 = rw back at few in omega arith
+        | inr quiet ↦
+            absurd (both_ways _ (ap (λ o. is_some o) (begun ∙ begun-none follows (one_more h x) quiet)) t)
+      ]
 
-pub absorb_stands : (marks : Marks) (k new : Checker) (h : Trace) (x : Sample) (b : Option LiveRequest)
-    (winner : Option Who) → FeedStep marks k h x b winner None → new.marks ≡ k.marks → new.found ≡ k.found
-    → AbsorbedAt k k.clock h x b winner new → Stands new marks (h ++ x ∷ [])
-absorb_stands marks k new h x b winner f same e r =
-    let at : AbsorbedAt k (length h) h x b winner new =
-    subst (λ n. AbsorbedAt k n h x b winner new) (clock_of marks k h x b winner None f) r in
-    let with_begun : AbsorbedAt k (length h) h x (begun_by k (length h) x) winner new =
-    subst (λ c. AbsorbedAt k (length h) h x c winner new) (begun_of marks k h x b winner None f) at in
-    let with_winner : AbsorbedAt k (length h) h x (begun_by k (length h) x) (winner_at h (length h)) new =
-    by_winner k (length h) h x (begun_by k (length h) x) (winner_at h (length h)) new
-    (subst (λ w. AbsorbedAt k (length h) h x (begun_by k (length h) x) w new) f.winner_is with_begun) in
-    none_now marks k new h x f.stands f.none (rule_of marks k h x b winner None f) same (e ∙ f.none)
-    (absorbed k h x (begun_by k (length h) x) (winner_at h (length h)) new with_winner)
+  pub outstanding_room : rule ≡ None → is_some (option_and_then (λ a. open_begun a) b) ≡ true
+      → length (filter_map (open_after (happened_by k k.clock x b)) k.outstanding.current.items) < 16
+  outstanding_room e t =
+      let m = one_more h x in
+      let room = open_room (goes_on follows m (still e)) (own_unbroken marks (h ++ x ∷ []) (length h) (still e))
+      (calm follows m (still e)) (sym (ap (λ o. is_some (option_and_then (λ a. open_begun a) o)) begun) ∙ t) in
+      let same : happened_by k (length h) x (begun_by k (length h) x) ≡ happened_by k k.clock x b =
+      sym (ap (λ n. happened_by k n x b) follows.clock ∙ ap (happened_by k (length h) x) begun) in
+      subst (λ w. length (filter_map (open_after w) k.outstanding.current.items) < 16) same room
 
-pub broken_stands : (marks : Marks) (k new : Checker) (h : Trace) (x : Sample) (b : Option LiveRequest)
-    (winner : Option Who) (rule : ℕ) → FeedStep marks k h x b winner (Some rule) → new.marks ≡ k.marks
-    → new.found ≡ Some (record { clock = k.clock; rule = rule }) → Stands new marks (h ++ x ∷ [])
-broken_stands marks k new h x b winner rule f same e =
-    found_now marks k new h x rule f.stands f.none (rule_of marks k h x b winner (Some rule) f) same
-    (e ∙ ap (λ n. Some (record { clock = n; rule = rule })) (clock_of marks k h x b winner (Some rule) f))
+  -- no rule is broken with the sample
+  pub absorb_stands : (new : Checker) → rule ≡ None → new.marks ≡ k.marks → new.found ≡ k.found
+      → Absorbed k k.clock h x b winner new → Stands new marks (h ++ x ∷ [])
+  absorb_stands new e same found r =
+      let at : Absorbed k (length h) h x b winner new = subst (λ n. Absorbed k n h x b winner new) follows.clock r in
+      let with_begun : Absorbed k (length h) h x (begun_by k (length h) x) winner new =
+      subst (λ c. Absorbed k (length h) h x c winner new) begun at in
+      record {
+        marked = same ∙ s.stands.marked;
+        found = found ∙ s.none ∙ sym (verdict_now ∙ ap (option_map (λ j. record { clock = length h; rule = j })) e);
+        follows = λ n. checker_follows marks x new follows (still e)
+            (subst (λ w. Absorbed k (length h) h x (begun_by k (length h) x) w new) s.winner_is with_begun);
+      }
 
--- whether something was found
-found_cases : (marks : Marks) (k : Checker) (h : Trace) (x : Sample) (o : Option Broken) → Stands k marks h
-    → k.found ≡ o → is_some o ≡ true → Stands k marks (h ++ x ∷ [])
-found_cases marks k h x None s e t = absurd (let no : ⊥ = cc in no)
-found_cases marks k h x (Some b) s e t = found_stays marks k h x b s e
-
-pub was_found : (marks : Marks) (k : Checker) (h : Trace) (x : Sample) → Stands k marks h
-    → is_some k.found ≡ true → Stands k marks (h ++ x ∷ [])
-was_found marks k h x s t = found_cases marks k h x k.found s refl t
+  -- a rule that is broken with the sample
+  pub broken_stands : (new : Checker) (j : ℕ) → rule ≡ Some j → new.marks ≡ k.marks
+      → new.found ≡ Some (record { clock = k.clock; rule = j }) → Stands new marks (h ++ x ∷ [])
+  broken_stands new j e same found =
+      record {
+        marked = same ∙ s.stands.marked;
+        found = found ∙ ap (λ n. Some (record { clock = n; rule = j })) follows.clock
+            ∙ sym (verdict_now ∙ ap (option_map (λ i. record { clock = length h; rule = i })) e);
+        follows = λ n. absurd (let no : ⊥ = cc in no);
+      }

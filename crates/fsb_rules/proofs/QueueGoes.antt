@@ -1,252 +1,403 @@
--- The queue goes on with a sample that breaks no rule.
-use Rattle.std.proofs.Common.{ℕ, zero, suc, ◌+◌, ◌-◌, ◌<◌, ◌≤◌, ◌≡◌, Bool, true, false, cond, Option, Some, None}
-use Rattle.std.proofs.Common.{is_some, List, [], ◌∷◌, ◌++◌, drop, length, slice_get, refl, sym, ap, ◌∙◌, arith, inl}
-use Rattle.std.proofs.Common.{inr, subst, add-zero}
+-- The queue stands for the history with a new sample that breaks no rule.
+use Rattle.std.proofs.Common.{ℕ, zero, suc, ◌+◌, ◌-◌, ◌<◌, ◌≤◌, ◌≡◌, Bool, true, false, cond, ◌&&◌, nat_lt, Option}
+use Rattle.std.proofs.Common.{Some}
+use Rattle.std.proofs.Common.{None, is_some, List, ◌++◌, drop, length, slice_get, refl, sym, ap, ◌∙◌}
+use Rattle.std.proofs.Common.{arith, inl, inr, subst, add-zero, add-one}
 use Rattle.std.specs.Option.{option_and_then, option_to_list}
-use Rattle.std.proofs.lemmas.Bool.{cases_Bool, and_parts, both_ways, false_from_ne_true, leb-true}
+use Rattle.std.proofs.lemmas.Bool.{cases_lt, and_parts, both_ways, false_from_ne_true, leb-true, le-leb}
+use Rattle.std.proofs.lemmas.Option.{cond_some}
 use Rattle.std.proofs.lemmas.List.{append-nil}
-use Rattle.fsb_count.proofs.Interface.{count_where-above, nth_where-found}
-use Rattle.fsb_signal.specs.declared.lines.TheConstants.Lines.{ADS, AERR, HITM, DEFER}
+use Rattle.fsb_count.proofs.Interface.{cond-most}
+use Rattle.fsb_signal.specs.declared.lines.TheConstants.Lines.{ADS, AERR, HITM, DEFER, TRDY, DRDY}
 use Rattle.fsb_signal.specs.declared.sample.Sample.{Sample}
-use Rattle.fsb_signal.specs.Samples.{has_line}
+use Rattle.fsb_signal.specs.Samples.{has_line, response_of}
 use Rattle.fsb_trace.specs.At.{Trace, line_back}
-use Rattle.fsb_trace.specs.Requests.{is_live, live_clock_of}
 use Rattle.fsb_trace.specs.Snoop.{snoop_end_of}
+use Rattle.fsb_trace.specs.Outcome.{told_by, does_move}
+use Rattle.fsb_trace.specs.Response.{ready_clock_of}
 use Rattle.fsb_trace.proofs.Interface.{snoop_end_of-clock}
-use Rattle.fsb_laws.specs.OneMore.{OneMore}
-use Rattle.fsb_laws.specs.Progress.{SnoopsTo, ends_snoop_of}
-use Rattle.fsb_laws.proofs.Interface.{line_at-new, snoop_end_of-more, snoops_to-ended, snoops_to-kept}
+use Rattle.fsb_laws.specs.OneMore.{OneMore, responds}
+use Rattle.fsb_laws.specs.Progress.{SnoopsTo, ends_snoop_of, response_count, transfer_of, may_answer_next, chunk_step}
+use Rattle.fsb_laws.proofs.Interface.{answered_below, has_answer, line_at-new, line_at-old, ready_clock_of-after}
+use Rattle.fsb_laws.proofs.Interface.{ready_clock_of-next, response_count-kept, response_count-more, response_there}
+use Rattle.fsb_laws.proofs.Interface.{snoop_end_of-above, snoop_end_of-more, snoop_end_of-old, snoops_to-ended}
+use Rattle.fsb_laws.proofs.Interface.{snoops_to-kept, transfer_of-kept}
 use Rattle.fsb_rules.specs.declared.live.LiveRequest.{LiveRequest}
 use Rattle.fsb_rules.specs.declared.live.Snooped.{Snooped}
+use Rattle.fsb_rules.specs.declared.live.Moving.{Moving}
 use Rattle.fsb_rules.specs.declared.in_flight.InFlight.{InFlight}
 use Rattle.fsb_rules.specs.declared.checker.Checker.{Checker}
-use Rattle.fsb_rules.specs.Live.{live_from, live_of, snooped_with, snooped_of}
+use Rattle.fsb_rules.specs.Live.{live_from, IsLive, IsSnooped}
 use Rattle.fsb_rules.specs.Stretch.{Stretch}
-use Rattle.fsb_rules.specs.InFlight.{known_count}
-use Rattle.fsb_rules.specs.Checker.{Follows}
-use Rattle.fsb_rules.specs.Tests.{asking_after, without_last, snooped_by, ends_snoop_by}
-use Rattle.fsb_rules.proofs.Stretches.{stretch-push, stretch-tail, stretch-init, stretch-same}
-use Rattle.fsb_rules.proofs.QueueFacts.{is_known, live_of-known, snooped_of-form}
-use Rattle.fsb_rules.proofs.QueueSteps.{known_count-more, known_count-less, live_kept, live_begun}
-use Rattle.fsb_rules.proofs.SnoopRules.{ends_by-ends, known_ending, first_of}
+use Rattle.fsb_rules.specs.InFlight.{InFlightStands, Moves, chunks_in, snoop_before, known_count}
+use Rattle.fsb_rules.specs.Tests.{after_chunk, asking_after, moved_by, moving_by, queue_len}
+use Rattle.fsb_rules.specs.Tests.{ready_after_by, snooped_by, waiting_after, without_last}
+use Rattle.fsb_rules.proofs.Stretches.{stretch-init, stretch-push, stretch-same, stretch-tail}
+use Rattle.fsb_rules.proofs.Queue.{asks_first, has_next, len_of, queue_len-known, snoops_known}
+use Rattle.fsb_rules.proofs.Queue.{known_count-more, known_count-less, live_kept, live_begun}
+use Rattle.fsb_rules.proofs.QueueRules.{ends_by-ends, ending_known, live_ended}
+use Rattle.fsb_rules.proofs.QueueRules.{begun_moving, chunks_now, moving_begun, moving_kept}
 use Rattle.fsb_rules.proofs.Goes.{Goes}
 
--- a request that has its snoop end is known
-pub snooped_known : (w : Trace) (i t : ℕ) → snoop_end_of w i ≡ Some t → i < known_count w
-unfolding known_count live_clock_of
-snooped_known w i t e =
-    let c = snoop_end_of-clock w i t e in
-    let f = nth_where-found (is_live w) i (length w) c.clock c.is_clock in
-    let more = count_where-above (is_live w) c.clock (length w - 1) (omega (arith, c.above, c.within)) f.1 in
-    omega (arith, f.2)
+-- what the code leaves in the queue
+pub record QueueGoes (old : InFlight) (n : ℕ) (x : Sample) (begun : Option LiveRequest) (new : InFlight) : Type 0 where
+  pub asking : new.asking.items ≡ asking_after old.asking.items (has_line x AERR) (is_some (snooped_by old n x)) begun
+  pub waiting : new.waiting.items ≡ waiting_after old.waiting.items (responds x) (snooped_by old n x)
+  pub moving : new.moving ≡ after_chunk (moving_by old n x) x
+  pub last_snoop : new.last_snoop ≡ cond (is_some (snooped_by old n x)) (Some n) old.last_snoop
+  pub ready : new.ready ≡ ready_after_by old n x
 
-pub snoops_known : (w : Trace) (s : ℕ) → SnoopsTo w s → s ≤ known_count w
-snoops_known w zero to = omega arith
-snoops_known w (suc i) to = let p = to.reached i (omega arith) in let k = snooped_known w i p.0 p.1 in omega arith
-
--- a request is cancelled where none began at the last clock
-error_quiet : (k : Checker) (h : Trace) (x : Sample) (v : Trace) (b : Option LiveRequest) → Goes k h x v b
-    → has_line x AERR ≡ true → line_back ADS h (length h) 1 ≡ false
+pub new_back : (h : Trace) (x : Sample) (v : Trace) → OneMore h x v → line_back ADS v (length v) 1 ≡ has_line x ADS
 unfolding line_back
-error_quiet k h x v b g t =
-    let back = and_parts _ _ (g.timed t) in
-    let three = leb-true 3 (length h) back.0 in
-    false_from_ne_true _ (λ u.
-    let one = and_parts _ _ u in
-    let far = g.follows.orderly.spaced.apart (length h - 3) (length h - 1) (omega arith) back.1 one.1 in
-    omega arith)
+new_back h x v m =
+    let e : length h + 1 - 1 ≡ length h = omega arith in
+    rw (m.size, le-leb 1 (length h + 1) (omega arith), e) (line_at-new ADS h x v m)
 
--- the requests without their snoop end: what is left of the old ones
-pub drop_first : {A : Type 0} (xs : List A) (f : ℕ → Option A) (m n : ℕ) → Stretch xs f m n → m < n
-    → Stretch (drop 1 xs) f (m + 1) n
-drop_first [] f m n w l = absurd (omega (arith, w.size))
-drop_first (x ∷ xs) f m n w l = stretch-tail x xs f m n w
-
-snoops_most : (k : Checker) (h : Trace) (x : Sample) (v : Trace) (b : Option LiveRequest) (g : Goes k h x v b)
-    → g.follows.queue.snooped ≤ known_count v
-snoops_most k h x v b g =
-    elim (cases_Bool (ends_snoop_of h g.follows.queue.snooped x)) [
-      | inl t ↦ let l =
-          snoops_known v _ (snoops_to-ended h x v g.follows.queue.snooped g.more g.follows.orderly.spaced
-          g.follows.queue.to t) in omega arith
-      | inr f ↦ snoops_known v _
-          (snoops_to-kept h x v g.follows.queue.snooped g.more g.follows.orderly.spaced g.follows.queue.to f)
+snoop_below : (h : Trace) (s i t : ℕ) → SnoopsTo h s → snoop_end_of h i ≡ Some t → i < s
+snoop_below h s i t to e =
+    elim (cases_lt i s) [
+      | inl l ↦ l
+      | inr l ↦ let none = snoop_end_of-above h s i to l in absurd (let no : ⊥ = cc in no)
     ]
 
-old_error : (k : Checker) (h : Trace) (x : Sample) (v : Trace) (b : Option LiveRequest) (g : Goes k h x v b)
-    → has_line x AERR ≡ true
-    → Stretch (without_last true k.queue.asking.items) (live_of v) g.follows.queue.snooped (known_count v)
-unfolding without_last
-old_error k h x v b g t =
-    let s : ℕ = g.follows.queue.snooped in
-    let less = known_count-less h x v g.more g.follows.orderly.spaced t (g.timed t) in
-    let w = subst (λ n. Stretch k.queue.asking.items (live_of h) s n) less g.follows.queue.asking in
-    let most : s ≤ known_count v = snoops_most k h x v b g in
-    stretch-same _ (live_of h) (live_of v) s (known_count v)
-    (stretch-init k.queue.asking.items (live_of h) s (known_count v) w most)
-    (λ i low high. live_kept h x v i g.more g.follows.orderly.spaced g.follows.decoded (omega arith) high)
+-- a stretch and one thing more, or none
+with_none : {A : Type 0} (is : ℕ → A → Type 0) (xs : List A) (o : Option A) (m n : ℕ) → o ≡ None → Stretch is xs m n
+    → Stretch is (xs ++ option_to_list o) m n
+with_none is xs o m n e w = subst (λ p. Stretch is (xs ++ option_to_list p) m n) (sym e)
+    (subst (λ ys. Stretch is ys m n) (sym (append-nil xs)) w)
 
-old_quiet : (k : Checker) (h : Trace) (x : Sample) (v : Trace) (b : Option LiveRequest) (g : Goes k h x v b)
-    → has_line x AERR ≡ false
-    → Stretch (without_last false k.queue.asking.items) (live_of v) g.follows.queue.snooped (known_count h)
-unfolding without_last
-old_quiet k h x v b g f =
-    let more = known_count-more h x v g.more f in
-    stretch-same k.queue.asking.items (live_of h) (live_of v) g.follows.queue.snooped (known_count h)
-    g.follows.queue.asking
-    (λ i low high. live_kept h x v i g.more g.follows.orderly.spaced g.follows.decoded high (omega arith))
-
--- how many there are of them in the new trace, and with the one that is begun
-abbrev pub old_count : Trace → Trace → Bool → ℕ
-old_count h v error = cond error (known_count v) (known_count h)
-
-old_ones : (k : Checker) (h : Trace) (x : Sample) (v : Trace) (b : Option LiveRequest) (g : Goes k h x v b)
-    (t : Bool) → has_line x AERR ≡ t
-    → Stretch (without_last t k.queue.asking.items) (live_of v) g.follows.queue.snooped (old_count h v t)
-old_ones k h x v b g true e = old_error k h x v b g e
-old_ones k h x v b g false e = old_quiet k h x v b g e
-
--- how many snoops ended with the sample
-abbrev pub snooped_after : ℕ → Bool → ℕ
-snooped_after s ends = s + cond ends 1 0
-
-ends_within : (k : Checker) (h : Trace) (x : Sample) (v : Trace) (b : Option LiveRequest) (g : Goes k h x v b)
-    (t : Bool) → ends_snoop_of h g.follows.queue.snooped x ≡ true → g.follows.queue.snooped < old_count h v t
-ends_within k h x v b g true e =
-    let l = snoops_known v _
-    (snoops_to-ended h x v g.follows.queue.snooped g.more g.follows.orderly.spaced g.follows.queue.to e) in
-    omega arith
-ends_within k h x v b g false e = known_ending h x v g.follows.queue.snooped g.more g.follows.orderly
-    g.follows.decoded g.follows.queue.to e
-
-without_first : (k : Checker) (h : Trace) (x : Sample) (v : Trace) (b : Option LiveRequest) (g : Goes k h x v b)
-    (t e : Bool) → has_line x AERR ≡ t → ends_snoop_of h g.follows.queue.snooped x ≡ e
-    → Stretch (drop (cond e 1 0) (without_last t k.queue.asking.items)) (live_of v)
-    (snooped_after g.follows.queue.snooped e) (old_count h v t)
-without_first k h x v b g t true et ee =
-    drop_first (without_last t k.queue.asking.items) (live_of v) g.follows.queue.snooped (old_count h v t)
-    (old_ones k h x v b g t et) (ends_within k h x v b g t ee)
-without_first k h x v b g t false et ee =
-    subst (λ s. Stretch (without_last t k.queue.asking.items) (live_of v) s (old_count h v t))
-    (sym (add-zero g.follows.queue.snooped)) (old_ones k h x v b g t et)
-
--- with the one that is begun
-none_begun : (h : Trace) (x : Sample) (v : Trace) (t : Bool) → OneMore h x v → has_line x AERR ≡ t
-    → line_back ADS h (length h) 1 ≡ false → old_count h v t ≡ known_count v
-none_begun h x v true m e f = refl
-none_begun h x v false m e f = sym (known_count-more h x v m e ∙ ap (λ b. known_count h + cond b 1 0) f ∙ add-zero _)
-
-nothing_more : (xs : List LiveRequest) (b : Option LiveRequest) (f : ℕ → Option LiveRequest) (m n : ℕ)
-    → b ≡ None → Stretch xs f m n → Stretch (xs ++ option_to_list b) f m n
-nothing_more xs b f m n e w = subst (λ o. Stretch (xs ++ option_to_list o) f m n) (sym e)
-    (subst (λ ys. Stretch ys f m n) (sym (append-nil xs)) w)
-
-one_more_thing : (xs : List LiveRequest) (b : Option LiveRequest) (a : LiveRequest) (f : ℕ
-    → Option LiveRequest) (m n k : ℕ) → b ≡ Some a → k ≡ n → Stretch (xs ++ a ∷ []) f m n
-    → Stretch (xs ++ option_to_list b) f m k
-one_more_thing xs b a f m n k e c w =
-    subst (λ o. Stretch (xs ++ option_to_list o) f m k) (sym e) (subst (λ d. Stretch (xs ++ a ∷ []) f m d) (sym c) w)
-
-with_begun : (k : Checker) (h : Trace) (x : Sample) (v : Trace) (b : Option LiveRequest) (g : Goes k h x v b)
-    (t e back : Bool) → has_line x AERR ≡ t → ends_snoop_of h g.follows.queue.snooped x ≡ e
-    → line_back ADS h (length h) 1 ≡ back
-    → Stretch (drop (cond e 1 0) (without_last t k.queue.asking.items) ++ option_to_list b) (live_of v)
-    (snooped_after g.follows.queue.snooped e) (known_count v)
-with_begun k h x v b g t e false et ee eb =
-    let w = subst (λ n. Stretch (drop (cond e 1 0) (without_last t k.queue.asking.items)) (live_of v)
-    (snooped_after g.follows.queue.snooped e) n) (none_begun h x v t g.more et eb)
-    (without_first k h x v b g t e et ee) in
-    nothing_more _ b (live_of v) (snooped_after g.follows.queue.snooped e) (known_count v) (g.unbegun eb) w
-with_begun k h x v b g true e true et ee eb = absurd (both_ways _ (error_quiet k h x v b g et) eb)
-with_begun k h x v b g false e true et ee eb =
-    let p = g.decoded eb in
-    let count : known_count v ≡ known_count h + 1 = known_count-more h x v g.more et
-    ∙ ap (λ c. known_count h + cond c 1 0) eb in
-    let w = stretch-push _ (live_of v) (snooped_after g.follows.queue.snooped e) (known_count h)
-    (live_from (length h - 1) p.0) (without_first k h x v b g false e et ee)
-    (live_begun h x v p.0 g.more eb et p.1) in
-    one_more_thing _ b (live_from (length h - 1) p.0) (live_of v) (snooped_after g.follows.queue.snooped e)
-    (known_count h + 1) (known_count v) p.2 count w
-
-pub asking_goes : (k : Checker) (h : Trace) (x : Sample) (v : Trace) (b : Option LiveRequest)
-    (g : Goes k h x v b)
-    → Stretch (asking_after k.queue.asking.items (has_line x AERR) (ends_snoop_of h g.follows.queue.snooped x)
-    b) (live_of v) (snooped_after g.follows.queue.snooped (ends_snoop_of h g.follows.queue.snooped x)) (known_count v)
-unfolding asking_after
-asking_goes k h x v b g = with_begun k h x v b g (has_line x AERR) (ends_snoop_of h g.follows.queue.snooped x)
-    (line_back ADS h (length h) 1) refl refl refl
-
--- the request that has its snoop end with the sample
-snooped_some : (q : InFlight) (n : ℕ) (x : Sample) (a : LiveRequest) → slice_get q.asking.items 0 ≡ Some a
-    → ends_snoop_by q n x ≡ true
-    → snooped_by q n x ≡ Some (record { request = a; clock = n; hitm = has_line x HITM; defer = has_line x DEFER })
-unfolding snooped_by
-snooped_some q n x a e t = rw (e, t) refl
+with_one : {A : Type 0} (is : ℕ → A → Type 0) (xs : List A) (o : Option A) (a : A) (m n : ℕ) → o ≡ Some a → is n a
+    → Stretch is xs m n → Stretch is (xs ++ option_to_list o) m (n + 1)
+with_one is xs o a m n e t w =
+    subst (λ p. Stretch is (xs ++ option_to_list p) m (n + 1)) (sym e) (stretch-push is xs a m n w t)
 
 no_snoop : (o : Option LiveRequest) (f : LiveRequest → Snooped)
     → option_and_then (λ a. cond false (Some (f a)) None) o ≡ None
 no_snoop None f = refl
 no_snoop (Some a) f = refl
 
-snooped_none : (q : InFlight) (n : ℕ) (x : Sample) → ends_snoop_by q n x ≡ false → snooped_by q n x ≡ None
-unfolding snooped_by
-snooped_none q n x e =
-    rw e (no_snoop (slice_get q.asking.items 0)
-    (λ a. record { request = a; clock = n; hitm = has_line x HITM; defer = has_line x DEFER }))
+-- the request whose data are on the way stays the same with a chunk
+moved_request : (m n : Moving) (x : Sample) → moved_by m x ≡ Some n → n.request ≡ m.request
+unfolding moved_by
+moved_request m n x e =
+    let p = cond_some (nat_lt (m.chunks + cond (has_line x DRDY) 1 0) 4)
+    (record { request = m.request; chunks = m.chunks + cond (has_line x DRDY) 1 0 }) n e in
+    sym (ap (λ a. a.request) p.1)
 
-with_sample : (h : Trace) (x : Sample) (v : Trace) (a : LiveRequest) → OneMore h x v
-    → snooped_with v (length h) a ≡ record {
-      request = a;
-      clock = length h;
-      hitm = has_line x HITM;
-      defer = has_line x DEFER;
-    }
-unfolding snooped_with
-with_sample h x v a m = rw (line_at-new HITM h x v m, line_at-new DEFER h x v m) refl
+after_request : (o : Option Moving) (n : Moving) (x : Sample) → after_chunk o x ≡ Some n
+    → (m : Moving) × (o ≡ Some m) × (n.request ≡ m.request)
+unfolding after_chunk
+after_request None n x e = absurd (let no : ⊥ = cc in no)
+after_request (Some m) n x e = (m, refl, moved_request m n x e)
 
-pub snooped_ends : (k : Checker) (h : Trace) (x : Sample) (v : Trace) (b : Option LiveRequest)
-    (g : Goes k h x v b) → ends_snoop_of h g.follows.queue.snooped x ≡ true
-    → snooped_by k.queue (length h) x ≡ snooped_of v g.follows.queue.snooped
-snooped_ends k h x v b g t =
-    let f = g.follows in
-    let s : ℕ = f.queue.snooped in
-    let here = known_ending h x v s g.more f.orderly f.decoded f.queue.to t in
-    let known = is_known h s f.decoded here in
-    let first = first_of h s k.queue.asking.items f.queue.asking here ∙ live_of-known h s known in
-    let now : snoop_end_of v s ≡ Some (length h) = snoop_end_of-more h x v s g.more f.orderly.spaced f.queue.to
-    ∙ (rw t refl) in
-    let same : live_of v s ≡ Some (live_from known.clock known.request) =
-    sym (live_kept h x v s g.more f.orderly.spaced f.decoded here (snooped_known v s (length h) now))
-    ∙ live_of-known h s known in
-    snooped_some k.queue (length h) x (live_from known.clock known.request) first (ends_by-ends k h x f ∙ t)
-    ∙ sym (snooped_of-form v s (length h) (live_from known.clock known.request) now same
-    ∙ ap (λ w. Some w) (with_sample h x v (live_from known.clock known.request) g.more))
+before_next : (v : Trace) (s : ℕ) → snoop_before v (s + 1) ≡ snoop_end_of v s
+unfolding snoop_before
+before_next v s = rw add-one refl
 
-pub snooped_not : (k : Checker) (h : Trace) (x : Sample) (f : Follows k h)
-    → ends_snoop_of h f.queue.snooped x ≡ false → snooped_by k.queue (length h) x ≡ None
-snooped_not k h x f e = snooped_none k.queue (length h) x (ends_by-ends k h x f ∙ e)
+before_same : (h : Trace) (x : Sample) (v : Trace) (s n : ℕ) → OneMore h x v → SnoopsTo h s → n ≤ s
+    → snoop_before h n ≡ snoop_before v n
+unfolding snoop_before
+before_same h x v s zero m to l = refl
+before_same h x v s (suc i) m to l = sym (snoop_end_of-old h x v s i m to (omega arith))
 
-pub snooped_there : (k : Checker) (h : Trace) (x : Sample) (v : Trace) (b : Option LiveRequest)
-    (g : Goes k h x v b) → ends_snoop_of h g.follows.queue.snooped x ≡ true
-    → (w : Snooped) × (snooped_of v g.follows.queue.snooped ≡ Some w)
-snooped_there k h x v b g t =
-    let f = g.follows in
-    let s : ℕ = f.queue.snooped in
-    let here = known_ending h x v s g.more f.orderly f.decoded f.queue.to t in
-    let known = is_known h s f.decoded here in
-    let now : snoop_end_of v s ≡ Some (length h) = snoop_end_of-more h x v s g.more f.orderly.spaced f.queue.to
-    ∙ (rw t refl) in
-    let same : live_of v s ≡ Some (live_from known.clock known.request) =
-    sym (live_kept h x v s g.more f.orderly.spaced f.decoded here (snooped_known v s (length h) now))
-    ∙ live_of-known h s known in (
-      snooped_with v (length h) (live_from known.clock known.request),
-      snooped_of-form v s (length h) (live_from known.clock known.request) now same,
-    )
+kept_ready : (o : Option ℕ) (n : ℕ) (t b : Bool) → t ≡ false
+    → o ≡ elim o [ Some y ↦ Some y | None ↦ cond (t && b) (Some n) None ]
+kept_ready None n t b e = rw e refl
+kept_ready (Some y) n t b e = refl
 
-pub snooped_is_some : (k : Checker) (h : Trace) (x : Sample) (v : Trace) (b : Option LiveRequest)
-    (g : Goes k h x v b) (e : Bool) → ends_snoop_of h g.follows.queue.snooped x ≡ e
-    → is_some (snooped_by k.queue (length h) x) ≡ e
-snooped_is_some k h x v b g true e =
-    let p = snooped_there k h x v b g e in
-    ap (λ o. is_some o) (snooped_ends k h x v b g e ∙ p.1)
-snooped_is_some k h x v b g false e = ap (λ o. is_some o) (snooped_not k h x g.follows e)
+-- no more than that transfer is on the way where the sample is no response
+no_more : (comes : Bool) (old new : Option ℕ) → new ≡ chunk_step comes old
+    → cond (is_some new) 1 0 ≤ cond (is_some old) 1 0
+unfolding chunk_step
+no_more comes None new e = rw e (omega arith)
+no_more comes (Some c) new e = cond-most (is_some new)
+
+module _ {k : Checker} {h : Trace} {x : Sample} {v : Trace} {b : Option LiveRequest} (g : Goes k h x v b) where
+  -- how many snoops have ended, and whether one ends with the sample
+  abbrev pub snoops : ℕ
+  snoops = g.follows.queue.snooped
+
+  abbrev pub ends : Bool
+  ends = ends_snoop_of h g.follows.queue.snooped x
+
+  -- a request is cancelled where none began at the last clock
+  error_quiet : has_line x AERR ≡ true → line_back ADS h (length h) 1 ≡ false
+  unfolding line_back
+  error_quiet t =
+      let back = and_parts _ _ (g.timed t) in
+      let three = leb-true 3 (length h) back.0 in
+      false_from_ne_true _ (λ u.
+      let one = and_parts _ _ u in
+      let far = g.follows.orderly.spaced.apart (length h - 3) (length h - 1) (omega arith) back.1 one.1 in
+      omega arith)
+
+  snoops_go : (e : Bool) → ends ≡ e → SnoopsTo v (snoops + cond e 1 0)
+  snoops_go true e = snoops_to-ended h x v snoops g.more g.follows.orderly.spaced g.follows.queue.to e
+  snoops_go false e =
+      subst (SnoopsTo v) (sym (add-zero snoops))
+      (snoops_to-kept h x v snoops g.more g.follows.orderly.spaced g.follows.queue.to e)
+
+  -- the requests without their snoop end: what is left of the old ones
+  abbrev old_count : Bool → ℕ
+  old_count error = cond error (known_count v) (known_count h)
+
+  old_ones : (t : Bool) → has_line x AERR ≡ t
+      → Stretch (IsLive v) (without_last t k.queue.asking.items) snoops (old_count t)
+  unfolding without_last
+  old_ones true t =
+      let less = known_count-less g.more g.follows.orderly.spaced t (g.timed t) in
+      let most = snoops_known v _ (snoops_go ends refl) in
+      stretch-same (IsLive v) (IsLive h) _ snoops (known_count v)
+      (stretch-init (IsLive h) k.queue.asking.items snoops (known_count v)
+      (subst (λ n. Stretch (IsLive h) k.queue.asking.items snoops n) less g.follows.queue.asking) (omega arith))
+      (λ i a low high l. live_kept g.more i g.follows.orderly.spaced l high)
+  old_ones false f =
+      let more = known_count-more g.more f in
+      stretch-same (IsLive v) (IsLive h) k.queue.asking.items snoops (known_count h) g.follows.queue.asking
+      (λ i a low high l. live_kept g.more i g.follows.orderly.spaced l (omega arith))
+
+  ends_within : (t : Bool) → ends ≡ true → snoops < old_count t
+  ends_within true e = let l = snoops_known v _ (snoops_go true e) in omega arith
+  ends_within false e = ending_known g.follows x e
+
+  without_first : (t e : Bool) → has_line x AERR ≡ t → ends ≡ e
+      → Stretch (IsLive v) (drop (cond e 1 0) (without_last t k.queue.asking.items)) (snoops + cond e 1 0) (old_count t)
+  without_first t true et ee =
+      stretch-tail (IsLive v) (without_last t k.queue.asking.items) snoops (old_count t) (old_ones t et)
+      (ends_within t ee)
+  without_first t false et ee =
+      subst (λ s. Stretch (IsLive v) (without_last t k.queue.asking.items) s (old_count t)) (sym (add-zero snoops))
+      (old_ones t et)
+
+  -- with the one that is begun
+  none_begun : (t : Bool) → has_line x AERR ≡ t → line_back ADS h (length h) 1 ≡ false → old_count t ≡ known_count v
+  none_begun true e f = refl
+  none_begun false e f =
+      sym (known_count-more g.more e ∙ ap (λ c. known_count h + cond c 1 0) f ∙ add-zero _)
+
+  with_begun : (t e back : Bool) → has_line x AERR ≡ t → ends ≡ e → line_back ADS h (length h) 1 ≡ back
+      → Stretch (IsLive v) (drop (cond e 1 0) (without_last t k.queue.asking.items) ++ option_to_list b)
+      (snoops + cond e 1 0) (known_count v)
+  unfolding without_last
+  with_begun t e false et ee eb =
+      with_none (IsLive v) _ b (snoops + cond e 1 0) (known_count v) (g.unbegun eb)
+      (subst (λ n. Stretch (IsLive v) (drop (cond e 1 0) (without_last t k.queue.asking.items)) (snoops + cond e 1 0) n)
+      (none_begun t et eb) (without_first t e et ee))
+  with_begun true e true et ee eb = absurd (both_ways _ (error_quiet et) eb)
+  with_begun false e true et ee eb =
+      let p = g.decoded eb in
+      let count : known_count v ≡ known_count h + 1 = known_count-more g.more et
+      ∙ ap (λ c. known_count h + cond c 1 0) eb in
+      subst (λ n. Stretch (IsLive v) (drop (cond e 1 0) k.queue.asking.items ++ option_to_list b)
+      (snoops + cond e 1 0) n)
+      (sym count)
+      (with_one (IsLive v) _ b (live_from (length h - 1) p.0) (snoops + cond e 1 0) (known_count h) p.2
+      (live_begun g.more p.0 eb et p.1) (without_first false e et ee))
+
+  asking_goes : Stretch (IsLive v) (asking_after k.queue.asking.items (has_line x AERR) ends b)
+      (snoops + cond ends 1 0) (known_count v)
+  unfolding asking_after
+  asking_goes = with_begun (has_line x AERR) ends (line_back ADS h (length h) 1) refl refl refl
+
+  -- the request that has its snoop end with the sample
+  pub snooped_some : ends ≡ true → (w : Snooped) × (snooped_by k.queue (length h) x ≡ Some w) × IsSnooped v snoops w
+  unfolding snooped_by
+  snooped_some t =
+      let a = asks_first g.follows.queue (ending_known g.follows x t) in
+      let end : snoop_end_of v snoops ≡ Some (length h) =
+      snoop_end_of-more h x v snoops g.more g.follows.orderly.spaced g.follows.queue.to ∙ (rw t refl) in (
+        record { request = a.thing; clock = length h; hitm = has_line x HITM; defer = has_line x DEFER },
+        rw (a.first, ends_by-ends g.follows x, t) refl,
+        record {
+          live = live_ended g.more snoops (length h) g.follows.orderly.spaced a.here end;
+          end = end;
+          hitm = sym (line_at-new HITM h x v g.more);
+          defer = sym (line_at-new DEFER h x v g.more);
+        },
+      )
+
+  snooped_none : ends ≡ false → snooped_by k.queue (length h) x ≡ None
+  unfolding snooped_by
+  snooped_none e =
+      rw (ends_by-ends g.follows x, e) (no_snoop (slice_get k.queue.asking.items 0)
+      (λ a. record { request = a; clock = length h; hitm = has_line x HITM; defer = has_line x DEFER }))
+
+  snooped_is : (e : Bool) → ends ≡ e → is_some (snooped_by k.queue (length h) x) ≡ e
+  snooped_is true e = ap (λ o. is_some o) (snooped_some e).1
+  snooped_is false e = ap (λ o. is_some o) (snooped_none e)
+
+  -- what is kept of a request with its snoop end stays
+  pub live_same : {a : LiveRequest} (i t : ℕ) → i < snoops → snoop_end_of h i ≡ Some t → IsLive h i a → IsLive v i a
+  live_same i t l e a =
+      live_ended g.more i t g.follows.orderly.spaced a
+      (snoop_end_of-old h x v snoops i g.more g.follows.queue.to l ∙ e)
+
+  snooped_same : {w : Snooped} (i : ℕ) → i < snoops → IsSnooped h i w → IsSnooped v i w
+  snooped_same {w} i l s =
+      let within = (snoop_end_of-clock h i w.clock s.end).within in
+      record {
+        live = live_same i w.clock l s.end s.live;
+        end = snoop_end_of-old h x v snoops i g.more g.follows.queue.to l ∙ s.end;
+        hitm = s.hitm ∙ sym (line_at-old HITM h x v w.clock g.more within);
+        defer = s.defer ∙ sym (line_at-old DEFER h x v w.clock g.more within);
+      }
+
+  -- the requests that wait for their response
+  still_waiting : Stretch (IsSnooped v) k.queue.waiting.items (response_count h) snoops
+  still_waiting =
+      stretch-same (IsSnooped v) (IsSnooped h) k.queue.waiting.items (response_count h) snoops g.follows.queue.waiting
+      (λ i w low high s. snooped_same i high s)
+
+  after_response : (t : Bool) → responds x ≡ t
+      → Stretch (IsSnooped v) (drop (cond t 1 0) k.queue.waiting.items) (response_count h + cond t 1 0) snoops
+  after_response true e =
+      stretch-tail (IsSnooped v) k.queue.waiting.items (response_count h) snoops still_waiting
+      (answered_below h snoops g.follows.queue.to (g.may e))
+  after_response false e =
+      subst (λ n. Stretch (IsSnooped v) k.queue.waiting.items n snoops) (sym (add-zero (response_count h)))
+      still_waiting
+
+  waiting_cases : (t : Bool) → ends ≡ t
+      → Stretch (IsSnooped v) (drop (cond (responds x) 1 0) k.queue.waiting.items
+      ++ option_to_list (snooped_by k.queue (length h) x)) (response_count h + cond (responds x) 1 0)
+      (snoops + cond t 1 0)
+  waiting_cases true e =
+      let p = snooped_some e in
+      with_one (IsSnooped v) _ _ p.0 (response_count h + cond (responds x) 1 0) snoops p.1 p.2
+      (after_response (responds x) refl)
+  waiting_cases false e =
+      subst (Stretch (IsSnooped v) _ (response_count h + cond (responds x) 1 0)) (sym (add-zero snoops))
+      (with_none (IsSnooped v) _ _ (response_count h + cond (responds x) 1 0) snoops (snooped_none e)
+      (after_response (responds x) refl))
+
+  waiting_goes : Stretch (IsSnooped v)
+      (waiting_after k.queue.waiting.items (responds x) (snooped_by k.queue (length h) x)) (response_count v)
+      (snoops + cond ends 1 0)
+  unfolding waiting_after
+  waiting_goes =
+      subst (λ n. Stretch (IsSnooped v) (drop (cond (responds x) 1 0) k.queue.waiting.items
+      ++ option_to_list (snooped_by k.queue (length h) x)) n (snoops + cond ends 1 0))
+      (sym (response_count-more h x v g.more)) (waiting_cases ends refl)
+
+  -- the request whose data are on the way
+  pub moving_request : (t : Bool) (m : Moving) → responds x ≡ t → moving_by k.queue (length h) x ≡ Some m → Moves v m
+  moving_request true m t e =
+      let n = has_next g.follows.queue (g.may t) in
+      let p = cond_some (does_move (told_by h (response_count h) (response_of x))) (begun_moving n.next) m
+      (sym (moving_begun g.follows x (g.may t) t) ∙ e) in
+      let below = answered_below h snoops g.follows.queue.to (g.may t) in
+      record {
+        number = response_count h;
+        last = response_count-more h x v g.more ∙ ap (λ c. response_count h + cond c 1 0) t
+            ∙ add-one (response_count h);
+        live = subst (λ a. IsLive v (response_count h) a.request) p.1
+            (live_same (response_count h) n.next.clock below n.snooped.end n.snooped.live);
+      }
+  moving_request false m f e =
+      let old = g.follows.queue.moving m (sym (moving_kept g.follows x f) ∙ e) in
+      let r = response_there h old.number (omega (arith, old.last)) in
+      let a = has_answer h r.0 old.number (g.follows.orderly.timely old.number r.0 r.1) in
+      record {
+        number = old.number;
+        last = response_count-kept h x v g.more f ∙ old.last;
+        live = live_same old.number a.snoop
+            (snoop_below h snoops old.number a.snoop g.follows.queue.to a.is_snoop) a.is_snoop
+            old.live;
+      }
+
+  moving_goes : (m : Moving) → after_chunk (moving_by k.queue (length h) x) x ≡ Some m → Moves v m
+  moving_goes m e =
+      let p = after_request (moving_by k.queue (length h) x) m x e in
+      let q = moving_request (responds x) p.0 refl p.1 in
+      record { number = q.number; last = q.last; live = subst (λ a. IsLive v q.number a) (sym p.2) q.live }
+
+  -- the last snoop end
+  last_goes : (e : Bool) → ends ≡ e
+      → cond e (Some (length h)) k.queue.last_snoop ≡ snoop_before v (snoops + cond e 1 0)
+  last_goes true e =
+      sym (before_next v snoops
+      ∙ snoop_end_of-more h x v snoops g.more g.follows.orderly.spaced g.follows.queue.to ∙ (rw e refl))
+  last_goes false e =
+      g.follows.queue.last_snoop ∙ before_same h x v snoops snoops g.more g.follows.queue.to (omega arith)
+      ∙ ap (snoop_before v) (sym (add-zero snoops))
+
+  -- the ready clock
+  ready_cases : (t : Bool) → has_line x TRDY ≡ t
+      → cond t (Some (length h)) k.queue.ready ≡ ready_clock_of v (response_count h)
+  ready_cases true t =
+      let p = g.ready t in
+      let none : ready_clock_of h (response_count h) ≡ None = sym g.follows.queue.ready ∙ p.1 in
+      let now = rw (none, t, p.0) at (ready_clock_of-next h x v snoops g.more g.follows.orderly g.follows.queue.to) in
+      sym now
+  ready_cases false f =
+      g.follows.queue.ready
+      ∙ kept_ready (ready_clock_of h (response_count h)) (length h) (has_line x TRDY) (may_answer_next h) f
+      ∙ sym (ready_clock_of-next h x v snoops g.more g.follows.orderly g.follows.queue.to)
+
+  ready_by_response : (t : Bool) → responds x ≡ t
+      → cond t None (cond (has_line x TRDY) (Some (length h)) k.queue.ready)
+      ≡ ready_clock_of v (response_count h + cond t 1 0)
+  ready_by_response true t =
+      sym (ap (ready_clock_of v) (add-one (response_count h)) ∙ ready_clock_of-after h x v g.more t)
+  ready_by_response false f =
+      ready_cases (has_line x TRDY) refl ∙ ap (ready_clock_of v) (sym (add-zero (response_count h)))
+
+  ready_goes : ready_after_by k.queue (length h) x ≡ ready_clock_of v (response_count v)
+  unfolding ready_after_by
+  ready_goes =
+      ready_by_response (responds x) refl ∙ ap (ready_clock_of v) (sym (response_count-more h x v g.more))
+
+  -- the room that is left
+  known_most : (t : Bool) → has_line x AERR ≡ t
+      → known_count v ≤ known_count h + cond (line_back ADS h (length h) 1) 1 0
+  known_most true e = let less = known_count-less g.more g.follows.orderly.spaced e (g.timed e) in omega arith
+  known_most false e = let more = known_count-more g.more e in omega arith
+
+  answers_most : (t : Bool) → responds x ≡ t → cond (is_some (transfer_of v)) 1 0 + response_count h
+      ≤ response_count v + cond (is_some (transfer_of h)) 1 0
+  answers_most true e =
+      let more : response_count v ≡ response_count h + 1 = response_count-more h x v g.more
+      ∙ ap (λ c. response_count h + cond c 1 0) e in
+      let most = cond-most (is_some (transfer_of v)) in omega arith
+  answers_most false e =
+      let same = response_count-kept h x v g.more e in
+      let most = no_more (has_line x DRDY) (transfer_of h) (transfer_of v)
+      (transfer_of-kept h x v g.more g.follows.orderly e) in omega arith
+
+  few_left : (new : ℕ) (t : Bool) → has_line x ADS ≡ t
+      → new + response_count v ≡ known_count v + cond (is_some (transfer_of v)) 1 0
+      → new + cond (line_back ADS v (length v) 1) 1 0 ≤ 8
+  few_left new true e r =
+      let room = g.room e in
+      let known : known_count v ≤ known_count h + 0 = rw room.1 at (known_most (has_line x AERR) refl) in
+      let answers = answers_most (responds x) refl in
+      let old = queue_len-known g.follows.queue in
+      rw (new_back h x v g.more ∙ e) (omega (arith, room.0))
+  few_left new false e r =
+      let known = known_most (has_line x AERR) refl in
+      let answers = answers_most (responds x) refl in
+      let old = queue_len-known g.follows.queue in
+      rw (new_back h x v g.more ∙ e) (omega (arith, g.follows.queue.few))
+
+  pub queue_follows : (q : InFlight) → QueueGoes k.queue (length h) x b q → InFlightStands q v
+  queue_follows q r =
+      let asking : Stretch (IsLive v) q.asking.items (snoops + cond ends 1 0) (known_count v) =
+      subst (λ xs. Stretch (IsLive v) xs (snoops + cond ends 1 0) (known_count v))
+      (sym (r.asking ∙ ap (λ e. asking_after k.queue.asking.items (has_line x AERR) e b) (snooped_is ends refl)))
+      asking_goes in
+      let waiting : Stretch (IsSnooped v) q.waiting.items (response_count v) (snoops + cond ends 1 0) =
+      subst (λ xs. Stretch (IsSnooped v) xs (response_count v) (snoops + cond ends 1 0)) (sym r.waiting) waiting_goes in
+      let chunks : chunks_in q.moving ≡ transfer_of v = ap chunks_in r.moving
+      ∙ chunks_now g.follows g.more g.may (responds x) refl in
+      record {
+        snooped = snoops + cond ends 1 0;
+        to = snoops_go ends refl;
+        asking = asking;
+        waiting = waiting;
+        chunks = chunks;
+        moving = λ m e. moving_goes m (sym r.moving ∙ e);
+        last_snoop = r.last_snoop ∙ ap (λ e. cond e (Some (length h)) k.queue.last_snoop) (snooped_is ends refl)
+            ∙ last_goes ends refl;
+        ready = r.ready ∙ ready_goes;
+        few = few_left (queue_len q) (has_line x ADS) refl (len_of q v (snoops + cond ends 1 0) asking waiting chunks);
+      }

@@ -68,10 +68,6 @@ unfolding is_sound
 not_sound x s = rw (silent x s) refl
 
 -- the rules from 11 to 18
-not_alone : (k : Checker) (n : ℕ) (x : Sample) → Stillness x → is_snoop_line_alone_by k n x ≡ false
-unfolding is_snoop_line_alone_by
-not_alone k n x s = rw (s.hit, s.hitm, s.defer) refl
-
 fits : (b c : Bool) → ((b || c) && (false || false) || b && false) ≡ false
 fits true c = refl
 fits false true = refl
@@ -87,14 +83,6 @@ unfolding is_some_and
 no_unfit q n x None s = refl
 no_unfit q n x (Some a) s = and_right _ _ (not_unfit a x s)
 
-result_fits : (k : Checker) (n : ℕ) (x : Sample) → Stillness x → is_result_unfit_by k n x ≡ false
-unfolding is_result_unfit_by
-result_fits k n x s = no_unfit k.queue n x (slice_get k.queue.asking.items 0) s
-
-no_code : (k : Checker) (n : ℕ) (x : Sample) → Stillness x → is_code_wrong_by k n x ≡ false
-unfolding is_code_wrong_by
-no_code k n x s = rw (not_sound x s) refl
-
 no_target : (k : Checker) (n : ℕ) (x : Sample) → Stillness x → is_target_ready_wrong_by k n x ≡ false
 unfolding is_target_ready_wrong_by
 no_target k n x s = rw (s.trdy, not_sound x s) refl
@@ -105,13 +93,15 @@ no_data k n x e s = rw (silent x s, e, s.drdy, s.dbsy) refl
 
 later_parts : (k : Checker) (n : ℕ) (x : Sample) (b : Option LiveRequest) → Stillness x → k.queue.moving ≡ None
     → b ≡ None → later_broken k n x b ≡ parity_broken k x
-unfolding later_broken is_begun_wrongly_by is_some_and
+unfolding later_broken is_snoop_line_alone_by is_result_unfit_by is_code_wrong_by is_begun_wrongly_by is_some_and
 later_parts k n x b s e f =
     rw (
-      not_alone k n x s,
-      result_fits k n x s,
+      s.hit,
+      s.hitm,
+      s.defer,
+      no_unfit k.queue n x (slice_get k.queue.asking.items 0) s,
       silent x s,
-      no_code k n x s,
+      not_sound x s,
       no_target k n x s,
       no_data k n x e s,
       s.drdy,
@@ -132,55 +122,43 @@ none_where : (o : Option LiveRequest) (f : LiveRequest → Option Snooped)
 none_where None f = refl
 none_where (Some a) f = refl
 
-not_snooped : (q : InFlight) (n : ℕ) (x : Sample) → is_due_by q n ≡ false → snooped_by q n x ≡ None
-unfolding snooped_by ends_snoop_by
-not_snooped q n x e =
-    rw e (none_where (slice_get q.asking.items 0)
-    (λ a. Some (record { request = a; clock = n; hitm = has_line x HITM; defer = has_line x DEFER })))
+module _ (q : InFlight) (n : ℕ) (x : Sample) (b : Option LiveRequest) (t : stays_by q n x b ≡ true) where
+  still : Stillness x
+  unfolding stays_by is_quiet_by
+  still = stillness x (and_parts _ _ (and_parts _ _ (and_parts _ _ t).0).1).1
 
-record Staying (q : InFlight) (n : ℕ) (x : Sample) (b : Option LiveRequest) : Type 0 where
-  pub still : Stillness x
-  pub moving : q.moving ≡ None
-  pub begun : b ≡ None
-  pub snooped : snooped_by q n x ≡ None
+  moving : q.moving ≡ None
+  unfolding stays_by is_quiet_by
+  moving = is_none-none _ (and_parts _ _ (and_parts _ _ (and_parts _ _ t).0).1).0
 
-staying : (q : InFlight) (n : ℕ) (x : Sample) (b : Option LiveRequest) → stays_by q n x b ≡ true → Staying q n x b
-unfolding stays_by is_quiet_by
-staying q n x b t =
-    let p = and_parts _ _ t in
-    let r = and_parts _ _ p.0 in
-    let s = and_parts _ _ r.1 in
-    record {
-      still = stillness x s.1;
-      moving = is_none-none _ s.0;
-      begun = is_none-none _ r.0;
-      snooped = not_snooped q n x (not-true _ p.1);
-    }
+  begun : b ≡ None
+  unfolding stays_by is_quiet_by
+  begun = is_none-none _ (and_parts _ _ (and_parts _ _ t).0).0
 
-pub asking_stays : (q : InFlight) (n : ℕ) (x : Sample) (b : Option LiveRequest) → stays_by q n x b ≡ true
-    → asking_after q.asking.items (has_line x AERR) (is_some (snooped_by q n x)) b ≡ q.asking.items
-unfolding asking_after without_last
-asking_stays q n x b t =
-    let s = staying q n x b t in rw (s.still.aerr, s.snooped, s.begun) (append-nil q.asking.items)
+  snooped : snooped_by q n x ≡ None
+  unfolding stays_by snooped_by ends_snoop_by
+  snooped =
+      let e : is_due_by q n ≡ false = not-true _ (and_parts _ _ t).1 in
+      rw e (none_where (slice_get q.asking.items 0)
+      (λ a. Some (record { request = a; clock = n; hitm = has_line x HITM; defer = has_line x DEFER })))
 
-pub waiting_stays : (q : InFlight) (n : ℕ) (x : Sample) (b : Option LiveRequest) → stays_by q n x b ≡ true
-    → waiting_after q.waiting.items (responds x) (snooped_by q n x) ≡ q.waiting.items
-unfolding waiting_after
-waiting_stays q n x b t =
-    let s = staying q n x b t in rw (silent x s.still, s.snooped) (append-nil q.waiting.items)
+  pub asking_stays : asking_after q.asking.items (has_line x AERR) (is_some (snooped_by q n x)) b ≡ q.asking.items
+  unfolding asking_after without_last
+  asking_stays = rw (still.aerr, snooped, begun) (append-nil q.asking.items)
 
-pub moving_stays : (q : InFlight) (n : ℕ) (x : Sample) (b : Option LiveRequest) → stays_by q n x b ≡ true
-    → after_chunk (moving_by q n x) x ≡ q.moving
-unfolding moving_by after_chunk
-moving_stays q n x b t = let s = staying q n x b t in rw (silent x s.still, s.moving) refl
+  pub waiting_stays : waiting_after q.waiting.items (responds x) (snooped_by q n x) ≡ q.waiting.items
+  unfolding waiting_after
+  waiting_stays = rw (silent x still, snooped) (append-nil q.waiting.items)
 
-pub snoop_stays : (q : InFlight) (n : ℕ) (x : Sample) (b : Option LiveRequest) → stays_by q n x b ≡ true
-    → cond (is_some (snooped_by q n x)) (Some n) q.last_snoop ≡ q.last_snoop
-snoop_stays q n x b t = let s = staying q n x b t in rw s.snooped refl
+  pub moving_stays : after_chunk (moving_by q n x) x ≡ q.moving
+  unfolding moving_by after_chunk
+  moving_stays = rw (silent x still, moving) refl
 
-pub ready_stays : (q : InFlight) (n : ℕ) (x : Sample) (b : Option LiveRequest) → stays_by q n x b ≡ true
-    → ready_after_by q n x ≡ q.ready
-unfolding ready_after_by
-ready_stays q n x b t = let s = staying q n x b t in rw (silent x s.still, s.still.trdy) refl
+  pub snoop_stays : cond (is_some (snooped_by q n x)) (Some n) q.last_snoop ≡ q.last_snoop
+  snoop_stays = rw snooped refl
+
+  pub ready_stays : ready_after_by q n x ≡ q.ready
+  unfolding ready_after_by
+  ready_stays = rw (silent x still, still.trdy) refl
 
 pub ruleset still_clocks = (asking_stays, waiting_stays, moving_stays, snoop_stays, ready_stays)

@@ -1,57 +1,52 @@
 -- Stretches of numbered things that go on.
-use Rattle.std.proofs.Common.{ℕ, zero, suc, ◌+◌, ◌-◌, ◌<◌, ◌≤◌, ◌≡◌, Option, Some, List, [], ◌∷◌, ◌++◌, length, take}
-use Rattle.std.proofs.Common.{slice_get, refl, sym, ap, ◌∙◌, arith, inl, inr, subst}
-use Rattle.std.proofs.lemmas.Bool.{cases_lt}
-use Rattle.std.proofs.lemmas.List.{length-append, length-take}
-use Rattle.fsb_count.proofs.Interface.{slice_get-end}
-use Rattle.fsb_signal.proofs.Interface.{slice_get-before}
+use Rattle.std.proofs.Common.{ℕ, suc, ◌+◌, ◌-◌, ◌<◌, ◌≤◌, ◌≡◌, Some, None, List, [], ◌∷◌, ◌++◌, length}
+use Rattle.std.proofs.Common.{take, drop, slice_get, refl, sym, ap, arith, subst}
 use Rattle.fsb_rules.specs.Stretch.{Stretch}
 
--- the next one comes
-pub stretch-push : {A : Type 0} (xs : List A) (f : ℕ → Option A) (m n : ℕ) (y : A) → Stretch xs f m n
-    → f n ≡ Some y → Stretch (xs ++ y ∷ []) f m (n + 1)
-stretch-push xs f m n y w e =
-    let size : length (xs ++ y ∷ []) ≡ length xs + 1 = length-append xs (y ∷ []) in
-    record {
-      size = omega (arith, w.size);
-      at = λ k l. elim (cases_lt k (length xs)) [
-        | inl old ↦ slice_get-before xs (y ∷ []) k old ∙ w.at k old
-        | inr new ↦
-            let last : length xs ≡ k = omega arith in
-            let here : n ≡ m + k = omega (arith, w.size) in
-            subst (λ i. slice_get (xs ++ y ∷ []) i ≡ Some y) last (slice_get-end xs y) ∙ sym e ∙ ap f here
-      ];
-    }
+-- the first thing of a stretch
+pub record HasFirst {A : Type 0} (is : ℕ → A → Type 0) (xs : List A) (m : ℕ) : Type 0 where
+  pub thing : A
+  pub first : slice_get xs 0 ≡ Some thing
+  pub here : is m thing
 
--- the first one goes
-pub stretch-tail : {A : Type 0} (x : A) (xs : List A) (f : ℕ → Option A) (m n : ℕ) → Stretch (x ∷ xs) f m n
-    → Stretch xs f (m + 1) n
-stretch-tail x xs f m n w =
-    record {
-      size = omega (arith, w.size);
-      at = λ k l. w.at (suc k) (omega arith) ∙ ap f (let e : m + suc k ≡ m + 1 + k = omega arith in e);
-    }
+pub stretch-size : {A : Type 0} (is : ℕ → A → Type 0) (xs : List A) (m n : ℕ) → Stretch is xs m n → length xs + m ≡ n
+stretch-size is [] m n w = let e : m ≡ n = w in omega arith
+stretch-size is (x ∷ xs) m n w = let e = stretch-size is xs (m + 1) n w.1 in omega arith
 
-pub taken : {X : Type 0} (xs : List X) (n c : ℕ) → c < n → n ≤ length xs → slice_get (take n xs) c ≡ slice_get xs c
-taken [] n c l k = absurd (omega arith)
-taken (x ∷ xs) zero c l k = absurd (omega arith)
-taken (x ∷ xs) (suc n) zero l k = refl
-taken (x ∷ xs) (suc n) (suc c) l k = taken xs n c (omega arith) (omega arith)
+module _ {A : Type 0} (is : ℕ → A → Type 0) where
+  pub stretch-first : (xs : List A) (m n : ℕ) → Stretch is xs m n → m < n → HasFirst is xs m
+  stretch-first [] m n w l = absurd (let e : m ≡ n = w in omega arith)
+  stretch-first (x ∷ xs) m n w l = record { thing = x; first = refl; here = w.0 }
 
--- the last one goes
-pub stretch-init : {A : Type 0} (xs : List A) (f : ℕ → Option A) (m n : ℕ) → Stretch xs f m (n + 1) → m ≤ n
-    → Stretch (take (length xs - 1) xs) f m n
-stretch-init xs f m n w l =
-    let some : length xs ≡ n + 1 - m = omega (arith, w.size) in
-    let size : length (take (length xs - 1) xs) ≡ length xs - 1 =
-    (let e = length-take (length xs - 1) xs in omega arith) in
-    record {
-      size = omega arith;
-      at = λ k less. taken xs (length xs - 1) k (omega arith) (omega arith) ∙ w.at k (omega arith);
-    }
+  pub stretch-none : (xs : List A) (m n : ℕ) → Stretch is xs m n → n ≤ m → slice_get xs 0 ≡ None
+  stretch-none [] m n w l = refl
+  stretch-none (x ∷ xs) m n w l = absurd (let e = stretch-size is (x ∷ xs) m n w in omega arith)
 
--- the things are the same
-pub stretch-same : {A : Type 0} (xs : List A) (f g : ℕ → Option A) (m n : ℕ) → Stretch xs f m n
-    → ((i : ℕ) → m ≤ i → i < n → f i ≡ g i) → Stretch xs g m n
-stretch-same xs f g m n w e =
-    record { size = w.size; at = λ k l. w.at k l ∙ e (m + k) (omega arith) (omega (arith, w.size)) }
+  -- the next one comes
+  pub stretch-push : (xs : List A) (y : A) (m n : ℕ) → Stretch is xs m n → is n y → Stretch is (xs ++ y ∷ []) m (n + 1)
+  stretch-push [] y m n w t = (subst (λ i. is i y) (sym w) t, ap (λ i. i + 1) w)
+  stretch-push (x ∷ xs) y m n w t = (w.0, stretch-push xs y (m + 1) n w.1 t)
+
+  -- the first one goes
+  pub stretch-tail : (xs : List A) (m n : ℕ) → Stretch is xs m n → m < n → Stretch is (drop 1 xs) (m + 1) n
+  stretch-tail [] m n w l = absurd (let e : m ≡ n = w in omega arith)
+  stretch-tail (x ∷ xs) m n w l = w.1
+
+  -- the last one goes
+  pub stretch-init : (xs : List A) (m n : ℕ) → Stretch is xs m (n + 1) → m ≤ n
+      → Stretch is (take (length xs - 1) xs) m n
+  stretch-init [] m n w l = absurd (let e : m ≡ n + 1 = w in omega arith)
+  stretch-init (x ∷ []) m n w l = let e : m + 1 ≡ n + 1 = w.1 in let same : m ≡ n = omega arith in same
+  stretch-init (x ∷ y ∷ ys) m n w l =
+      let e = stretch-size is (y ∷ ys) (m + 1) (n + 1) w.1 in
+      let more : length (x ∷ y ∷ ys) - 1 ≡ suc (length (y ∷ ys) - 1) = omega arith in
+      subst (λ k. Stretch is (take k (x ∷ y ∷ ys)) m n) (sym more)
+      (w.0, stretch-init (y ∷ ys) (m + 1) n w.1 (omega arith))
+
+  -- the things are such ones too
+  pub stretch-same : (was : ℕ → A → Type 0) (xs : List A) (m n : ℕ) → Stretch was xs m n
+      → ((i : ℕ) (a : A) → m ≤ i → i < n → was i a → is i a) → Stretch is xs m n
+  stretch-same was [] m n w f = w
+  stretch-same was (x ∷ xs) m n w f =
+      let e = stretch-size was (x ∷ xs) m n w in
+      (f m x (omega arith) (omega arith) w.0, stretch-same was xs (m + 1) n w.1 (λ i a low. f i a (omega arith)))

@@ -1,6 +1,5 @@
--- What is kept of a request.
-use Rattle.std.specs.Prelude.{ℕ, Option}
-use Rattle.std.specs.Option.{option_map, option_and_then}
+-- What is kept of a live request.
+use Rattle.std.specs.Prelude.{◌≡◌, ℕ, Some}
 use Rattle.fsb_signal.specs.declared.lines.TheConstants.Lines.{HITM, DEFER}
 use Rattle.fsb_signal.specs.Samples.{line_at}
 use Rattle.fsb_encode.specs.declared.request.Request.{Request}
@@ -22,18 +21,16 @@ live_from q r =
       is_upgrade = is_upgrade_kind r.kind;
     }
 
--- the request that begins at q, where it is decoded
-unfoldable pub live_at : Trace → ℕ → Option LiveRequest
-live_at h q = option_map (live_from q) (request_at h q)
+-- a is what is kept of live request i, which is decoded
+pub record IsLive (h : Trace) (i : ℕ) (a : LiveRequest) : Type 0 where
+  pub request : Request
+  pub clock : live_clock_of h i ≡ Some a.clock
+  pub decoded : request_at h a.clock ≡ Some request
+  pub same : a ≡ live_from a.clock request
 
--- live request i, where it is decoded
-unfoldable pub live_of : Trace → ℕ → Option LiveRequest
-live_of h i = option_and_then (live_at h) (live_clock_of h i)
-
--- live request i with its snoop end s
-unfoldable pub snooped_with : Trace → ℕ → LiveRequest → Snooped
-snooped_with h s a = record { request = a; clock = s; hitm = line_at HITM h s; defer = line_at DEFER h s }
-
--- live request i, where it has its snoop end
-unfoldable pub snooped_of : Trace → ℕ → Option Snooped
-snooped_of h i = option_and_then (λ s. option_map (snooped_with h s) (live_of h i)) (snoop_end_of h i)
+-- w is what is kept of live request i, which has its snoop end
+pub record IsSnooped (h : Trace) (i : ℕ) (w : Snooped) : Type 0 where
+  pub live : IsLive h i w.request
+  pub end : snoop_end_of h i ≡ Some w.clock
+  pub hitm : w.hitm ≡ line_at HITM h w.clock
+  pub defer : w.defer ≡ line_at DEFER h w.clock

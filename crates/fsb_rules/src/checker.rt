@@ -378,7 +378,7 @@ impl Checker {
         }
     }
 
-    /// Takes the next sample, which breaks no rule.
+    /// Takes the next sample, which breaks no rule, with the winner where a request begins with it.
     #[tactic(auto, unfolding(crate::specs::LeastRule::happened_by))]
     fn absorb(
         &mut self,
@@ -401,7 +401,7 @@ impl Checker {
         ensures words { self.new.recent.words ≡ known_pair sample.now }
         ensures arbiter { (h : Trace) → ArbiterStands self.old.arbiter h →
             ArbiterStands self.new.arbiter (h ++ sample.now ∷ []) }
-        ensures beginner { self.new.beginner ≡ (if has_line sample.now ADS then winner else None) }
+        ensures beginner { self.new.beginner ≡ winner }
         ensures asking { self.new.queue.asking.items
             ≡ asking_after self.old.queue.asking.items (has_line sample.now AERR)
             (is_some (snooped_by self.old.queue clock sample.now)) begun }
@@ -424,7 +424,7 @@ impl Checker {
     {
         let happened = self.happened(clock, sample, begun);
         let begins = sample.has(Lines::ADS);
-        self.beginner = if begins { winner } else { None };
+        self.beginner = winner;
         self.outstanding.absorb(&happened, begins);
         self.queue.absorb(clock, sample, begun);
         self.arbiter.absorb(sample);

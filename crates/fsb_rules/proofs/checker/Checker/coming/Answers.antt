@@ -1,4 +1,4 @@
-use Rattle.std.proofs.Common.{sym, ap, ◌∙◌, subst, is_some, [], ◌∷◌, ◌++◌, length}
+use Rattle.std.proofs.Common.{sym, ap, subst, is_some, [], ◌∷◌, ◌++◌, length}
 use Rattle.std.proofs.lemmas.Bool.{both_ways}
 use Rattle.fsb_rules.proofs.ComingChunks.{Tells, coming_told, found_none, tells_none, tells_some}
 use Rattle.fsb_rules.proofs.checker.Checker.coming.Goals as goal
@@ -7,13 +7,13 @@ pub returns-then-is_none-clause-some : goal.returns-then-is_none-clause-some
 returns-then-is_none-clause-some c = λ m h s e.
     tells_some (h ++ c.args.sample.now ∷ []) (length h) c.coming_at.result
     (subst (Tells (h ++ c.args.sample.now ∷ []) (length h)) (sym c.coming_at.ensures)
-    (coming_told m c.args.self.now h c.args.sample.now s e))
+    (coming_told c.args.sample.now s e))
 
 pub returns-then-is_none-clause-none : goal.returns-then-is_none-clause-none
 returns-then-is_none-clause-none c = λ m h s e none.
     tells_none (h ++ c.args.sample.now ∷ []) (length h) c.coming_at.result
     (subst (Tells (h ++ c.args.sample.now ∷ []) (length h)) (sym c.coming_at.ensures)
-    (coming_told m c.args.self.now h c.args.sample.now s e)) none
+    (coming_told c.args.sample.now s e)) none
 
 pub returns-else-is_none-clause-none : goal.returns-else-is_none-clause-none
 returns-else-is_none-clause-none c = λ m h s e none i n clock.

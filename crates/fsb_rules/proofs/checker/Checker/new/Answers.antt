@@ -1,5 +1,5 @@
 use Rattle.std.proofs.Common.{refl}
-use Rattle.fsb_rules.proofs.StartFollows.{new_stands}
+use Rattle.fsb_rules.proofs.Feeds.{new_stands}
 use Rattle.fsb_rules.proofs.checker.Checker.new.Goals as goal
 
 pub returns : goal.returns
