@@ -3,6 +3,8 @@ pub mod Victims
 pub mod Rests
 pub mod Entries
 pub mod Wants
+pub mod Outlooks
+pub mod Unseen
 pub mod Windows
 pub mod Ready
 pub mod CacheSizes

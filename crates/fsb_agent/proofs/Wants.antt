@@ -1,5 +1,5 @@
 -- What an agent wants, case by case.
-use Rattle.std.proofs.Common.{ℕ, zero, suc, ◌+◌, ◌-◌, ◌≤◌, ◌≡◌, Bool, true, false, not, Option, Some, None, List, []}
+use Rattle.std.proofs.Common.{ℕ, zero, suc, ◌+◌, ◌-◌, ◌≤◌, ◌≡◌, Bool, true, false, not, Some, None, List, []}
 use Rattle.std.proofs.Common.{◌∷◌, length, length-drop, map, take, drop, refl, sym, ap, ◌∙◌, arith}
 use Rattle.std.specs.Prelude.{◌||◌, slice_get}
 use Rattle.std.specs.List.{find}
@@ -14,11 +14,11 @@ use Rattle.fsb_trace.specs.Requests.{is_upgrade_kind}
 use Rattle.fsb_timely.specs.Scripts.{Need, is_idle, is_locked, locked_need, needs_after, needs_from, plain_items}
 use Rattle.fsb_timely.specs.Scripts.{window_from}
 use Rattle.fsb_timely.specs.Wants.{request_of_kind, write_back_of}
-use Rattle.fsb_agent_view.specs.AgentViews.{AgentView, number_by}
+use Rattle.fsb_agent_view.specs.AgentViews.{AgentView}
 use Rattle.fsb_agent_view.specs.Idling.{is_idle_item}
-use Rattle.fsb_agent_view.specs.Sound.{IsPlaced}
-use Rattle.fsb_agent_view.specs.Wanting.{free_id_by, is_missing_by, is_silent_by, kind_by, victim_by, want_by}
+use Rattle.fsb_agent_view.specs.Wanting.{free_id_by, is_missing_by, kind_by, victim_by}
 use Rattle.fsb_agent_view.specs.Wanting.{want_for_by}
+use Rattle.fsb_agent.specs.Outlooks.{looked_ahead}
 
 -- for a need whose set has a dirty line
 pub want_for-victim : (v : AgentView) (need : Need) (victim did : ℕ) → victim_by v need.line ≡ Some victim
@@ -42,18 +42,16 @@ unfolding request_of_kind
 want_for-line v need kind did den clean is_kind is_did is_den = rw (is_den, is_kind, is_did, clean, want_for_by) refl
 
 -- no item
-pub want-none : (v : AgentView) (clock : ℕ) → is_silent_by v clock ≡ false
-    → slice_get v.items (number_by v clock) ≡ None → None ≡ want_by v clock
+pub want-none : (v : AgentView) (n : ℕ) → slice_get v.items n ≡ None → None ≡ looked_ahead v n
 unfolding needs_from
-want-none v clock speaks none = rw (speaks, none, want_by) refl
+want-none v n none = rw (none, looked_ahead) refl
 
 -- a locked item
-pub want-locked : (v : AgentView) (clock : ℕ) (group : List Access) → is_silent_by v clock ≡ false
-    → slice_get v.items (number_by v clock) ≡ Some (Locked group)
-    → option_map (want_for_by v) (find (is_missing_by v) (map (locked_need [] group) group)) ≡ want_by v clock
+pub want-locked : (v : AgentView) (n : ℕ) (group : List Access) → slice_get v.items n ≡ Some (Locked group)
+    → option_map (want_for_by v) (find (is_missing_by v) (map (locked_need [] group) group)) ≡ looked_ahead v n
 unfolding needs_from needs_after window_from is_locked
-want-locked v clock group speaks there =
-    rw (speaks, there, want_by)
+want-locked v n group there =
+    rw (there, looked_ahead)
     (ap (λ needs. option_map (want_for_by v) (find (is_missing_by v) needs))
     (sym (append-nil (map (locked_need [] group) group))))
 
@@ -72,30 +70,21 @@ window_is ahead (suc n) (item ∷ items) access some there =
     let next : suc n + 1 ≡ suc (n + 1) = omega arith in
     rw next (window_is ahead n items access some there)
 
-pub want-one : (v : AgentView) (clock : ℕ) (access : Access) → is_silent_by v clock ≡ false → 1 ≤ v.ahead
-    → slice_get v.items (number_by v clock) ≡ Some (One access)
-    → option_map (want_for_by v)
-    (find (is_missing_by v) (needs_from [] (plain_items v.ahead (drop (number_by v clock) v.items)))) ≡ want_by v clock
+pub want-one : (v : AgentView) (n : ℕ) (access : Access) → 1 ≤ v.ahead → slice_get v.items n ≡ Some (One access)
+    → option_map (want_for_by v) (find (is_missing_by v) (needs_from [] (plain_items v.ahead (drop n v.items))))
+    ≡ looked_ahead v n
 unfolding window_from is_locked
-want-one v clock access speaks some there =
+want-one v n access some there =
     ap (λ window. option_map (want_for_by v) (find (is_missing_by v) (needs_from [] window)))
-    (window_is v.ahead (number_by v clock) v.items access some there)
-    ∙ rw (speaks, there, want_by) refl
+    (window_is v.ahead n v.items access some there)
+    ∙ rw (there, looked_ahead) refl
 
--- its item is not idle
-pub want-idle : (v : AgentView) (clock clocks : ℕ) → IsPlaced v.items v.place v.finished
-    → slice_get v.items (number_by v clock) ≡ Some (Idle clocks) → ⊥
+-- an item that is not idle
+pub want-idle : (items : List Item) (n clocks : ℕ) → is_idle_item items n ≡ false
+    → slice_get items n ≡ Some (Idle clocks) → ⊥
 unfolding is_idle
-want-idle v clock clocks placed there =
-    let never : true ≡ false = sym (ap (λ o. option_map_or is_idle o false) there) ∙ busy v.finished placed.before in cc
-  where
-    busy : (finished : Option Rattle.fsb_agent_view.specs.declared.want.Finished.Finished)
-        → option_map_or (λ last. is_idle_item v.items last.item) finished false ≡ false
-        → is_idle_item v.items (Rattle.fsb_agent_view.specs.AgentViews.number_at finished v.place clock) ≡ false
-    busy None before = placed.next
-    busy (Some last) before = Rattle.std.proofs.lemmas.Bool.cond_both
-        (Rattle.std.specs.Prelude.nat_eq last.clock clock) last.item v.place
-        (λ n. is_idle_item v.items n ≡ false) (λ e. before) (λ e. placed.next)
+want-idle items n clocks busy there =
+    let never : true ≡ false = sym (ap (λ o. option_map_or is_idle o false) there) ∙ busy in cc
 
 -- over equal lists
 pub among-is : (v : AgentView) (group accesses list : List Access) → group ≡ list → accesses ≡ list

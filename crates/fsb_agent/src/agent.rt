@@ -9,6 +9,7 @@ ghost use Rattle.fsb_agent_view.specs.Wanting.{may_send, sent, want_by};
 
 use crate::hand::Hand;
 use crate::idling::idle_in_front;
+use crate::outlook::Outlook;
 use crate::outs::Outs;
 use crate::parts::Parts;
 use fsb_access::{Log, Script};
@@ -26,18 +27,22 @@ use std::marker::Model;
 #[derive(Drop)]
 pub struct Agent {
     parts: Parts,
+    /// What it looks ahead to, where nothing of that has changed since it looked.
+    outlook: Option<Outlook>,
 }
 
 impl Model for Agent {
     ghost use Rattle.fsb_agent_view.specs.AgentViews.{AgentView};
     ghost use Rattle.fsb_agent_view.specs.Sound.{IsSound};
+    ghost use Rattle.fsb_agent.specs.Outlooks.{IsKnown};
     ghost use Rattle.fsb_agent.specs.Parts.{parts_view};
 
     ghost Value = { AgentView };
 
     ghost view = { λ agent. parts_view agent.parts };
 
-    ghost invariant = { λ agent. IsSound (parts_view agent.parts) };
+    ghost invariant = { λ agent. IsSound (parts_view agent.parts)
+        × IsKnown (parts_view agent.parts) agent.outlook };
 }
 
 impl Agent {
@@ -77,6 +82,7 @@ impl Agent {
                 idle_to: idling.clocks,
                 finished: None,
             },
+            outlook: None,
         })
     }
 
@@ -84,7 +90,7 @@ impl Agent {
     pub fn want(&self, clock: u32) -> Option<Want>
         ensures { result ≡ want_by self.now clock }
     {
-        self.parts.want(clock)
+        self.parts.want(&self.outlook, clock)
     }
 
     /// Whether it may send its want with this number: it has one, and no outstanding request has
@@ -92,7 +98,7 @@ impl Agent {
     pub fn may_send(&self, clock: u32, number: u32) -> bool
         ensures { result ≡ may_send self.now clock number }
     {
-        self.parts.may_send(clock, number)
+        self.parts.may_send(&self.outlook, clock, number)
     }
 
     /// Its want at the clock begins as the request of this number.
@@ -100,7 +106,8 @@ impl Agent {
         requires { may_send self.old clock number ≡ true }
         ensures { self.new ≡ sent self.old clock number }
     {
-        self.parts.sent(clock, number);
+        self.parts.sent(&self.outlook, clock, number);
+        self.outlook = None;
     }
 
     /// Performs its hit at the clock, if it has one.
@@ -110,7 +117,12 @@ impl Agent {
         ensures entries { log.new.entries ≡ log.old.entries ++ performed_entries self.old clock }
         ensures spare { log.new.spare + length (performed_entries self.old clock) ≡ log.old.spare }
     {
-        self.parts.perform(clock, log);
+        let ready = self.parts.is_ready(&self.outlook);
+        if self.parts.perform(ready, clock, log) {
+            self.outlook = None;
+        } else if self.outlook.is_none() {
+            self.outlook = Some(self.parts.outlook(ready));
+        }
     }
 
     /// What it answers at a snoop end of the line.
@@ -141,7 +153,10 @@ impl Agent {
         requires { may_commit self.old number mine outcome ≡ true }
         ensures { self.new ≡ committed self.old number mine request.now shared outcome }
     {
-        self.parts.commit(number, mine, request, shared, outcome);
+        if mine || self.parts.has_line(request.line) {
+            self.parts.commit(number, mine, request, shared, outcome);
+            self.outlook = None;
+        }
     }
 
     /// The bytes that it owes to the transaction of this number, which it hands on.
@@ -171,6 +186,7 @@ impl Agent {
             ≡ log.old.spare }
     {
         self.parts.arrive(clock, number, bytes, log);
+        self.outlook = None;
     }
 
     /// Whether its upgrade with this number may end without data: it is outstanding, and no bytes
@@ -193,6 +209,7 @@ impl Agent {
             ≡ log.old.spare }
     {
         self.parts.end_upgrade(clock, number, log);
+        self.outlook = None;
     }
 
     /// Whether its request with this number may be given up: it is outstanding, and was not
@@ -209,6 +226,7 @@ impl Agent {
         ensures { self.new ≡ given_up self.old number }
     {
         self.parts.give_up(number);
+        self.outlook = None;
     }
 
     /// Its cache. A line that it holds ready has its state and its bytes there.

@@ -5,6 +5,7 @@ ghost use Rattle.fsb_timely.specs.Scripts.{needs_of};
 ghost use Rattle.fsb_agent_view.specs.AgentViews.{is_ready_for, is_served_by, next_item_by};
 ghost use Rattle.fsb_agent_view.specs.Completing.{completed_by, completed_entries, is_hit_by, performed, performed_entries};
 ghost use Rattle.fsb_agent_view.specs.Sound.{IsSound};
+ghost use Rattle.fsb_agent.specs.Outlooks.{is_next_served};
 ghost use Rattle.fsb_agent.specs.Parts.{IsPerformable, parts_view};
 
 use crate::hand::Doing;
@@ -37,15 +38,22 @@ impl Parts {
             .all(|access| self.is_ready_for(access.line(), true))
     }
 
-    /// Whether it has a hit at the clock.
-    fn is_hit(&self, clock: u32) -> bool
+    /// Whether it has a next item, and each line of it serves.
+    pub(crate) fn is_next_served(&self) -> bool
+        ensures { result ≡ is_next_served (parts_view self.now) }
+    {
+        match self.script.as_slice().get(self.place) {
+            Some(item) => self.serves(item),
+            None => false,
+        }
+    }
+
+    /// Whether it has a hit at the clock, where its next item serves or not.
+    fn is_hit(&self, ready: bool, clock: u32) -> bool
+        requires { ready ≡ is_next_served (parts_view self.now) }
         ensures { result ≡ is_hit_by (parts_view self.now) clock }
     {
-        self.may_complete(clock)
-            && match self.script.as_slice().get(self.place) {
-                Some(item) => self.serves(item),
-                None => false,
-            }
+        self.may_complete(clock) && ready
     }
 
     /// Completes its next item at the clock, and adds its entries.
@@ -77,18 +85,23 @@ impl Parts {
         self.idle_to = u64::from(clock) + 1 + idling.clocks;
     }
 
-    /// Performs its hit at the clock, if it has one.
-    pub(crate) fn perform(&mut self, clock: u32, log: &mut Log)
+    /// Performs its hit at the clock, if it has one: whether it had. Its next item serves, or not.
+    pub(crate) fn perform(&mut self, ready: bool, clock: u32, log: &mut Log) -> bool
         requires spare { 8 ≤ log.old.spare }
         requires sound { IsSound (parts_view self.old) }
+        requires ready { ready ≡ is_next_served (parts_view self.old) }
+        ensures hit { result ≡ is_hit_by (parts_view self.old) clock }
         ensures agent { parts_view self.new ≡ performed (parts_view self.old) clock }
         ensures entries { log.new.entries
             ≡ log.old.entries ++ performed_entries (parts_view self.old) clock }
         ensures spare { log.new.spare + length (performed_entries (parts_view self.old) clock)
             ≡ log.old.spare }
     {
-        if self.is_hit(clock) {
+        if self.is_hit(ready, clock) {
             self.complete(clock, log);
+            true
+        } else {
+            false
         }
     }
 }

@@ -1,4 +1,5 @@
-ghost use Rattle.std.specs.Prelude.{◌≡◌};
+ghost use Rattle.std.specs.Prelude.{◌≡◌, is_some};
+ghost use Rattle.fsb_cache.specs.Sets.{held_at};
 ghost use Rattle.fsb_agent_view.specs.AgentViews.{has_come, is_finished_at, is_held_as, is_idle_by, is_ready_for, line_state_by, may_complete, number_by};
 ghost use Rattle.fsb_agent.specs.Parts.{parts_view};
 
@@ -39,6 +40,16 @@ impl Parts {
         self.hand.cache.state_of(line)
     }
 
+    /// Whether the cache has the line.
+    pub(crate) fn has_line(&self, line: u64) -> bool
+        ensures { result ≡ is_some (held_at self.now.hand.cache line) }
+    {
+        match self.hand.cache.resident(line) {
+            Some(other) => other == line,
+            None => false,
+        }
+    }
+
     /// Whether no bytes of the line are on their way.
     pub(crate) fn has_come(&self, line: u64) -> bool
         ensures { result ≡ has_come (parts_view self.now) line }
@@ -62,7 +73,7 @@ impl Parts {
     }
 
     /// Whether an item was completed at the clock.
-    fn is_finished_at(&self, clock: u32) -> bool
+    pub(crate) fn is_finished_at(&self, clock: u32) -> bool
         ensures { result ≡ is_finished_at self.now.finished clock }
     {
         match self.finished {

@@ -1,4 +1,4 @@
-ghost use Rattle.std.specs.Prelude.{◌≡◌, ◌+◌, ◌≤◌, ℕ, List, [], ◌||◌, length, map, not};
+ghost use Rattle.std.specs.Prelude.{◌≡◌, ◌+◌, ◌≤◌, ℕ, List, [], ◌||◌, false, length, map, not};
 ghost use Rattle.std.specs.List.{find, list_any};
 ghost use Rattle.fsb_cache.specs.Sets.{is_one_set};
 ghost use Rattle.std.specs.Option.{option_map};
@@ -6,28 +6,22 @@ ghost use Rattle.fsb_line.specs.States.{is_modified};
 ghost use Rattle.fsb_trace.specs.Requests.{is_upgrade_kind};
 ghost use Rattle.fsb_timely.specs.Scripts.{locked_need, needs_from, plain_items};
 ghost use Rattle.fsb_agent_view.specs.AgentViews.{line_state_by};
+ghost use Rattle.fsb_agent_view.specs.Idling.{is_idle_item};
 ghost use Rattle.fsb_agent_view.specs.Sound.{IsSound};
-ghost use Rattle.fsb_agent_view.specs.Wanting.{free_id_by, is_asked_by, is_id_used_by, is_missing_by, is_silent_by, is_taken_by, kind_by, may_send, sent, sets_cleared_for, victim_by, want_by, want_for_by};
+ghost use Rattle.fsb_agent_view.specs.Wanting.{free_id_by, is_id_used_by, is_missing_by, is_taken_by, kind_by, victim_by, want_for_by};
+ghost use Rattle.fsb_agent.specs.Outlooks.{looked_ahead};
 ghost use Rattle.fsb_agent.specs.Parts.{need_after, parts_view};
 
 use crate::need::LineNeed;
-use crate::outs::numbered;
 use crate::parts::Parts;
 use arrayvec::ArrayVec;
 use fsb_access::{Access, Item};
-use fsb_agent_view::{OwnRequest, Want};
+use fsb_agent_view::Want;
 use fsb_cache::Cache;
 use fsb_encode::{Kind, Request};
 use fsb_line::Mesi;
 
 impl Parts {
-    /// Whether it has a request outstanding for the line.
-    fn is_asked(&self, line: u64) -> bool
-        ensures { result ≡ is_asked_by (parts_view self.now) line }
-    {
-        self.outs.iter().any(|out| out.request.line == line)
-    }
-
     /// Whether the line's set is that of an outstanding request.
     fn is_set_asked(&self, line: u64) -> bool
         ensures { result ≡ list_any
@@ -45,13 +39,12 @@ impl Parts {
         self.is_set_asked(line) || is_set_among(&self.hand.cache, earlier, line)
     }
 
-    /// Whether it may ask for the needed line, after items with these lines.
+    /// Whether it may ask for the needed line, after items with these lines. One that it has asked
+    /// for already has its set taken.
     fn is_missing(&self, earlier: &[u64], need: &LineNeed) -> bool
         ensures { result ≡ is_missing_by (parts_view self.now) (need_after earlier.now need.now) }
     {
-        !self.is_held_as(need.line, need.alone)
-            && !self.is_asked(need.line)
-            && !self.is_taken(earlier, need.line)
+        !self.is_held_as(need.line, need.alone) && !self.is_taken(earlier, need.line)
     }
 
     /// Whether it has the line Modified.
@@ -192,23 +185,13 @@ impl Parts {
         }
     }
 
-    /// Whether it may ask for nothing at the clock.
-    fn is_silent(&self, clock: u32) -> bool
-        ensures { result ≡ is_silent_by (parts_view self.now) clock }
+    /// What it wants for the window that begins with this item, which is no idle one.
+    pub(crate) fn look_ahead(&self, number: usize) -> Option<Want>
+        requires sound { IsSound (parts_view self.now) }
+        requires busy { is_idle_item self.now.script number ≡ false }
+        ensures { result ≡ looked_ahead (parts_view self.now) number }
     {
-        self.is_idle(clock) || usize::from(self.ahead) <= self.outs.len()
-    }
-
-    /// What it wants at the clock.
-    pub(crate) fn want(&self, clock: u32) -> Option<Want>
-        requires { IsSound (parts_view self.now) }
-        ensures { result ≡ want_by (parts_view self.now) clock }
-    {
-        if self.is_silent(clock) {
-            return None;
-        }
         let items = self.script.as_slice();
-        let number = self.number_at(clock);
         if items.len() <= number {
             return None;
         }
@@ -216,30 +199,6 @@ impl Parts {
             Item::Locked(group) => self.want_among(group.as_slice(), group.as_slice()),
             Item::One(_) => self.want_from(&mut ArrayVec::new(), self.ahead, &items[number..]),
             Item::Idle(_) => None,
-        }
-    }
-
-    /// Whether it may send its want with this number.
-    pub(crate) fn may_send(&self, clock: u32, number: u32) -> bool
-        requires { IsSound (parts_view self.now) }
-        ensures { result ≡ may_send (parts_view self.now) clock number }
-    {
-        self.want(clock).is_some() && numbered(&self.outs, number).is_none()
-    }
-
-    /// Its want begins as the request of this number.
-    pub(crate) fn sent(&mut self, clock: u32, number: u32)
-        requires { IsSound (parts_view self.old) }
-        ensures { parts_view self.new ≡ sent (parts_view self.old) clock number }
-    {
-        if let Some(want) = self.want(clock) {
-            clear_for(&mut self.hand.cache, want.request.line);
-            self.outs.push(OwnRequest {
-                number,
-                request: want.request,
-                granted: false,
-                kept: None,
-            });
         }
     }
 }
@@ -258,14 +217,4 @@ fn is_set_among(cache: &Cache, lines: &[u64], line: u64) -> bool
     ensures { result ≡ list_any (is_one_set cache.now line) lines.now }
 {
     lines.iter().any(|other| cache.is_one_set(line, *other))
-}
-
-/// Drops what the line's set has, where that is another line.
-fn clear_for(cache: &mut Cache, line: u64)
-    ensures { cache.new ≡ sets_cleared_for cache.old line }
-{
-    match cache.resident(line) {
-        Some(other) if other != line => cache.drop_line(other),
-        _ => {}
-    }
 }

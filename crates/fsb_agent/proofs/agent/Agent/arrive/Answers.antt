@@ -6,7 +6,9 @@ use Rattle.fsb_agent.proofs.SoundArriving.{sound_arrived}
 use Rattle.fsb_agent.proofs.agent.Agent.arrive.Goals as goal
 
 pub invariant_of-self : goal.invariant_of-self
-invariant_of-self c =
-    subst IsSound (sym c.arrive.ensures.agent)
-    (sound_arrived (parts_view c.self.inside.parts) c.args.clock c.args.number c.args.bytes c.self.invariant
-    (ap (λ v. may_arrive v c.args.number) c.self.view_is ∙ c.requires.may))
+invariant_of-self c = (
+  subst IsSound (sym c.arrive.ensures.agent)
+      (sound_arrived (parts_view c.self.inside.parts) c.args.clock c.args.number c.args.bytes c.self.invariant.0
+      (ap (λ v. may_arrive v c.args.number) c.self.view_is ∙ c.requires.may)),
+  tt,
+)

@@ -6,7 +6,9 @@ use Rattle.fsb_agent.specs.Parts.{parts_view}
 use Rattle.fsb_agent.proofs.agent.Agent.give_up.Goals as goal
 
 pub invariant_of-self : goal.invariant_of-self
-invariant_of-self c =
-    subst IsSound (sym c.give_up.ensures)
-    (sound_given_up (parts_view c.self.inside.parts) c.args.number c.self.invariant
-    (ap (λ v. may_give_up v c.args.number) c.self.view_is ∙ c.requires))
+invariant_of-self c = (
+  subst IsSound (sym c.give_up.ensures)
+      (sound_given_up (parts_view c.self.inside.parts) c.args.number c.self.invariant.0
+      (ap (λ v. may_give_up v c.args.number) c.self.view_is ∙ c.requires)),
+  tt,
+)

@@ -20,7 +20,9 @@ invariant_of-result c =
     ∙ sym (c.idle_in_front-idling.ensures.count ∙ ap idle_count_in_front c.as_slice.ensures) in
     let idle_to : idle_from c.args.script 0 ≡ c.idle_in_front-idling.result.clocks =
     sym (c.idle_in_front-idling.ensures.clocks ∙ ap idle_clocks_in_front c.as_slice.ensures) in
-    rw (c.in_ok-lines.ensures.sets, c.new-2.ensures, c.new-3.ensures, ← place, ← idle_to)
-    (sound_first c.args.number c.args.script c.args.cache c.args.ahead c.args.profile c.requires.number
-    (power_is_positive c.args.cache (cache_power c.args.cache c.requires.cache)) c.requires.script
-    c.requires.some_ahead c.requires.few_ahead c.requires.profile)
+    rw (c.in_ok-lines.ensures.sets, c.new-2.ensures, c.new-3.ensures, ← place, ← idle_to) (
+      sound_first c.args.number c.args.script c.args.cache c.args.ahead c.args.profile c.requires.number
+          (power_is_positive c.args.cache (cache_power c.args.cache c.requires.cache)) c.requires.script
+          c.requires.some_ahead c.requires.few_ahead c.requires.profile,
+      tt,
+    )
