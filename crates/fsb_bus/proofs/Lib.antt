@@ -4,3 +4,5 @@ pub mod RequestWords
 pub mod BusSteps
 pub mod NamedLines
 pub mod KeptScripts
+pub mod Unlocked
+pub mod EightBytes

@@ -1,6 +1,7 @@
 //! The bytes that move with a response.
 
-ghost use Rattle.std.specs.Prelude.{◌≡◌, ◌<◌, ◌≤◌, ◌+◌, ◌*◌, IfSome, Some, length, slice_get};
+ghost use Rattle.std.specs.Prelude.{◌≡◌, ◌<◌, ◌≤◌, ◌+◌, ◌*◌, ◌^◌, [], ◌∷◌, IfSome, Some, length, slice_get};
+ghost use Rattle.fsb_access.specs.ByteMemory.{value_of_bytes};
 ghost use Rattle.fsb_bench_view.specs.BusViews.{BusView};
 ghost use Rattle.fsb_bench_view.specs.BytesFetched.{bus_fetched, bytes_source, chunk_in, chunk_moved, data_driven, from_for, head_outcome};
 ghost use Rattle.fsb_bench_view.specs.declared.snoop.Served.{Served as ServedView};
@@ -113,5 +114,26 @@ fn chunk_in(bytes: &[u8; 32], chunk: u8) -> u64
     ensures { result ≡ chunk_in bytes.now chunk }
 {
     let start = 8 * usize::from(chunk);
-    value_of(&bytes[start..start + 8])
+    number_of(&bytes[start..start + 8])
+}
+
+/// The number that the bytes spell, the lowest one first.
+fn number_of(bytes: &[u8]) -> u64
+    requires { length bytes.now ≤ 8 }
+    ensures { result ≡ value_of_bytes bytes.now }
+{
+    match bytes {
+        [a, b, c, d, e, f, g, h] => {
+            half_of(*a, *b, *c, *d) + (1 << 32) * half_of(*e, *f, *g, *h)
+        }
+        _ => value_of(bytes),
+    }
+}
+
+/// The number that four bytes spell, the lowest one first.
+fn half_of(a: u8, b: u8, c: u8, d: u8) -> u64
+    ensures value { result ≡ value_of_bytes (a ∷ b ∷ c ∷ d ∷ []) }
+    ensures bound { result < 2 ^ 32 }
+{
+    u64::from(a) + (1 << 8) * u64::from(b) + (1 << 16) * u64::from(c) + (1 << 24) * u64::from(d)
 }

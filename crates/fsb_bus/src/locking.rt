@@ -33,14 +33,25 @@ impl Bus {
             ≡ bus_locked scripts.now (bus_view self.old) starting.now (releases_of may.now) }
         ensures rest { self.new ≡ record self.old { lock = self.new.lock } }
     {
-        self.lock = Lock {
+        self.lock = self.locked(scripts, starting, may);
+    }
+
+    /// The lock after the clock. Where LOCK# is not asserted no agent keeps the bus locked.
+    fn locked(&self, scripts: &[Script], starting: &Option<Starting>, may: &Released) -> Lock
+        ensures { record (bus_view self.now) { kept = result.kept }
+            ≡ bus_locked scripts.now (bus_view self.now) starting.now (releases_of may.now) }
+    {
+        if !self.is_lock_driven(starting) {
+            return Lock { kept: [false; 4] };
+        }
+        Lock {
             kept: [
                 self.keeps_after(scripts, starting, may, 0),
                 self.keeps_after(scripts, starting, may, 1),
                 self.keeps_after(scripts, starting, may, 2),
                 self.keeps_after(scripts, starting, may, 3),
             ],
-        };
+        }
     }
 
     /// Whether the agent keeps the bus locked after the clock.

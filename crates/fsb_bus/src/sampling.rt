@@ -85,7 +85,7 @@ impl Bus {
     }
 
     /// Whether LOCK# is asserted.
-    fn is_lock_driven(&self, starting: &Option<Starting>) -> bool
+    pub(crate) fn is_lock_driven(&self, starting: &Option<Starting>) -> bool
         ensures { result ≡ is_lock_driven (bus_view self.now) starting.now }
     {
         self.lock.kept.iter().any(|kept| *kept) || begins_lock(starting)
