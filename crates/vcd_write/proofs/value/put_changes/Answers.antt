@@ -11,12 +11,11 @@ unfolding texts_from
 loop-number-init g c = record { len = omega arith; items = sym (append-nil _) }
 
 pub loop-number-preserved : goal.loop-number-preserved
-unfolding change_text
 loop-number-preserved g c = record {
   len = rw (values_room-next c.loop-number.number c.loop-number.auto.number)
       (omega (arith, c.loop-number.invariant.len, c.put_change.ensures.len));
   items = texts_from-step _ 1 _ _ _ _ c.loop-number.auto.number c.loop-number.invariant.items
-      (rw (sym c.value.ensures, sym c.value-in-loop-number.ensures) c.put_change.ensures.items);
+      c.put_change.ensures.items;
 }
 
 pub returns-clause-items : goal.returns-clause-items
