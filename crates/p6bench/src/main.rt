@@ -1,13 +1,15 @@
 //! The program `p6bench`: the real files and standard output under the top call.
 #![tactic(auto)]
 
-ghost use Rattle.std.specs.Prelude.{◌≡◌, drop, map, Err, IfOk};
+ghost use Rattle.std.specs.Prelude.{◌≡◌, ◌≢◌, ◌++◌, [], drop, map, Err, IfOk, IsTrue};
 ghost use Rattle.std.specs.Process.{exit_status};
 ghost use Rattle.std.specs.String.{string_bytes};
+ghost use Rattle.fsb_io.specs.Faults.{Rose};
 ghost use Rattle.fsb_top.specs.StatusText.{code_of};
 
+use fsb_gather::Gather;
 use fsb_hazard::{Hazard, ScriptHazard};
-use fsb_io::{FileSink, FileSource, StdoutSink};
+use fsb_io::{Failed, FileSink, FileSource, Sink, StdoutSink};
 use fsb_probe::{DataProbe, LineProbe, Probe};
 use fsb_top::{Status, Words, bench, code, status_line};
 use std::alloc::Global;
@@ -56,8 +58,10 @@ fn run(rt: &(impl Files + Env + Print + AllocGlobal)) -> Status {
     }
     let mut source = FileSource::new(rt);
     let mut out = StdoutSink::new(rt);
-    let mut dump = FileSink::new(rt, words.word(FILE));
-    bench(
+    let Ok(mut dump) = Gather::new(alloc, FileSink::new(rt, words.word(FILE))) else {
+        return Status::OutOfMemory;
+    };
+    let status = bench(
         alloc,
         &words,
         &mut source,
@@ -65,7 +69,28 @@ fn run(rt: &(impl Files + Env + Print + AllocGlobal)) -> Status {
         &mut dump,
         hazards,
         probes,
-    )
+    );
+    finished(status, &mut dump)
+}
+
+// The end of a call of `bench`: what is gathered of the dump is handed on, and a call that was done is done only where
+// nothing of it is left.
+fn finished<D: Sink>(status: Status, dump: &mut Gather<D>) -> Status
+    ensures others_stay { status ≢ Status.Done → result ≡ status }
+    ensures done { result ≡ Status.Done → dump.new.gathered ≡ [] }
+    ensures whole { IsTrue D.tells → result ≡ Status.Done →
+        D.holds dump.new.sink ≡ D.holds dump.old.sink ++ dump.old.gathered }
+    ensures fault { status ≡ Status.Done → result ≢ Status.Done → result ≡ Status.DumpFault }
+    ensures cause { status ≡ Status.Done → result ≢ Status.Done →
+        Rose (D.faults dump.old.sink) (D.faults dump.new.sink) }
+{
+    match status {
+        Status::Done => match dump.finish() {
+            Ok(()) => Status::Done,
+            Err(Failed) => Status::DumpFault,
+        },
+        other => other,
+    }
 }
 
 // The words that the program was called with.

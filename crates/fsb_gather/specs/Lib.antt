@@ -1,0 +1,2 @@
+pub mod GatherView
+pub mod HandsOn
