@@ -1,66 +1,43 @@
 //! Runs of plans that are made from a seed, and runs over objects that tell nothing.
 
-use super::{CHECK, Ended, Fails, NAMED, NO_FAILS, call_bench, call_over};
+use super::{CHECK, Ended, NAMED, Wanted, call_of, compared, difference, end_of, ended_over, told};
 use crate::Status;
 use fsb_hazard::{Ask, Choice, Hazard, HazardLine, Turn, quiet_choice};
 use fsb_io::Memory;
 use std::alloc::Global;
 use std::test::Fail;
 
-/// A command line that asks for the least plan of seed 0.
-const LEAST: [&str; 4] = ["gen", "0", "1", "1"];
+/// A command line that asks for the least plan of seed 0, which is one locked item.
+pub(crate) const LEAST: [&str; 4] = ["gen", "0", "1", "1"];
 
-/// The lines of its summary.
-const LEAST_LINES: [&str; 3] = [
-    "gen seed=0 agents=1 items=1\n",
-    "end clocks=40 done=2 of=2\n",
-    "bus requests=1 reads=0 invalidates=1 writebacks=0 replies=0\n",
-];
+/// Its summary.
+pub(crate) const LEAST_SUMMARY: &str =
+    "gen seed=0 agents=1 items=1\nend clocks=40 done=2 of=2\nbus requests=1 reads=0 invalidates=1 writebacks=0 replies=0\n";
 
-/// Calls `bench` with words that read nothing.
-fn made(alloc: Global, words: &[&str], fails: Fails<'_>) -> Result<Ended, Memory> {
-    call_bench(alloc, words, b"", fails)
+/// The end of a call that reads nothing and prints a summary.
+fn summed_up(out: &[u8]) -> Wanted<'_> {
+    Wanted {
+        status: Status::Done,
+        out,
+        calls: (0, 3, 0),
+    }
 }
 
 #[test]
 fn generated_locked_item(rt: HostRuntime) -> Result<(), Fail> {
-    let mut text = Vec::new(rt.alloc());
-    for (call, line) in LEAST_LINES.iter().enumerate() {
-        let out = [call as u32];
-        let fails = Fails {
-            source: &[0],
-            out: &out,
-            dump: &[0],
-        };
-        let failed = made(rt.alloc(), &LEAST, fails)?;
-        assert_eq!(rt; failed.status, Status::WriteFault, "at call {call}");
-        assert_eq!(rt; failed.out.holds(), text.as_slice());
-        text.extend_from_slice(line.as_bytes())?;
-    }
-    let ended = made(rt.alloc(), &LEAST, NO_FAILS)?;
-    assert_eq!(rt; ended.status, Status::Done);
-    assert_eq!(rt; ended.out.holds(), text.as_slice());
-    assert_eq!(rt; ended.out.calls(), 3, "one piece a line");
-    assert_eq!(rt; ended.source.calls(), 0);
-    assert_eq!(rt; ended.dump.calls(), 0);
+    let wanted = summed_up(LEAST_SUMMARY.as_bytes());
+    assert_eq!(rt; difference(rt.alloc(), &call_of(&LEAST, b""), &wanted)?, "");
     Ok(())
 }
 
 #[test]
 fn generated_twice_alike(rt: HostRuntime) -> Result<(), Fail> {
     let words = ["gen", "7", "4", "1000"];
-    let first = made(rt.alloc(), &words, NO_FAILS)?;
-    assert_eq!(rt; first.status, Status::Done);
-    assert!(rt;
-        first
-            .out
-            .holds()
-            .starts_with(b"gen seed=7 agents=4 items=1000\nend clocks=160000 ")
-    );
-    assert_eq!(rt; first.out.calls(), 3);
-    let second = made(rt.alloc(), &words, NO_FAILS)?;
-    assert_eq!(rt; second.status, Status::Done);
-    assert_eq!(rt; second.out.holds(), first.out.holds());
+    let call = call_of(&words, b"");
+    let first = end_of(rt.alloc(), &call)?;
+    let text = first.out.holds();
+    assert!(rt; text.starts_with(b"gen seed=7 agents=4 items=1000\nend clocks=160000 "));
+    assert_eq!(rt; difference(rt.alloc(), &call, &summed_up(text))?, "");
     Ok(())
 }
 
@@ -87,33 +64,37 @@ impl Hazard for Stubborn {
     }
 }
 
+/// The run of one load of 60 clocks over that object.
+fn stubborn_run(alloc: Global) -> Result<Ended, Memory> {
+    let mut hazards: Vec<Box<dyn Hazard>> = Vec::new(alloc);
+    hazards.push(Box::new(alloc, Stubborn)?)?;
+    ended_over(alloc, &call_of(&NAMED, ONE_LOAD.as_bytes()), hazards)
+}
+
+const ONE_LOAD: &str = "p6bench 1\nagents 1\nclocks 60\ncache 64\nahead 1\nagent 0\nld 1 40\nend\n";
+
+/// A search for ADS#, seven times.
+const BEGUN: [&str; 3] = ["find", "d", "ADS/ADS/ADS/ADS/ADS/ADS/ADS"];
+
+/// The clocks at which the load is asked for, again and again.
+const BEGUN_AT: &str = "found clock=56 steps=2,11,20,29,38,47,56\n";
+
 /// Nothing is ever completed, and the dump breaks no rule.
 #[test]
 fn wild_object(rt: HostRuntime) -> Result<(), Fail> {
-    let text = b"p6bench 1\nagents 1\nclocks 60\ncache 64\nahead 1\nagent 0\nld 1 40\nend\n";
-    let mut hazards: Vec<Box<dyn Hazard>> = Vec::new(rt.alloc());
-    hazards.push(Box::new(rt.alloc(), Stubborn)?)?;
-    let probes = Vec::new(rt.alloc());
-    let ended = call_over(rt.alloc(), &NAMED, text, NO_FAILS, hazards, probes)?;
-    assert_eq!(rt; ended.status, Status::Done);
+    let run = stubborn_run(rt.alloc())?;
+    let wanted = Wanted {
+        calls: (3, 1, 62),
+        ..told(Status::Done, "end clocks=60 done=0 of=1\n")
+    };
+    assert_eq!(rt; compared(&run, &call_of(&NAMED, b""), &wanted), "");
+    let dump = run.dump.holds();
+    let accepted = told(Status::Done, "accepted clocks=60\n");
     assert_eq!(rt;
-        ended.out.holds(),
-        b"end clocks=60 done=0 of=1\n".as_slice()
+        difference(rt.alloc(), &call_of(&CHECK, dump), &accepted)?,
+        ""
     );
-    let checked = call_bench(rt.alloc(), &CHECK, ended.dump.holds(), NO_FAILS)?;
-    assert_eq!(rt; checked.out.holds(), b"accepted clocks=60\n".as_slice());
-    let begun = call_bench(
-        rt.alloc(),
-        &["find", "d", BEGUN],
-        ended.dump.holds(),
-        NO_FAILS,
-    )?;
-    assert_eq!(rt; begun.out.holds(), BEGUN_AT);
+    let begun = told(Status::Done, BEGUN_AT);
+    assert_eq!(rt; difference(rt.alloc(), &call_of(&BEGUN, dump), &begun)?, "");
     Ok(())
 }
-
-/// ADS#, seven times.
-const BEGUN: &str = "ADS/ADS/ADS/ADS/ADS/ADS/ADS";
-
-/// The clocks at which the load is asked for, again and again.
-const BEGUN_AT: &[u8] = b"found clock=56 steps=2,11,20,29,38,47,56\n";

@@ -1,6 +1,6 @@
 //! The worked runs: what each prints, and its dump is accepted.
 
-use super::{CHECK, NAMED, NO_FAILS, call_bench};
+use super::{CHECK, NAMED, call_of, difference, end_of, told};
 use crate::Status;
 use fsb_io::Memory;
 use std::alloc::Global;
@@ -753,17 +753,33 @@ fn accepted(alloc: Global, log: &str) -> Result<String, Memory> {
     Ok(format!(in alloc; "accepted clocks={clocks}\n")?)
 }
 
+/// Names what is otherwise than that the dump of the run with this log is accepted, if anything is.
+fn check_difference(alloc: Global, dump: &[u8], log: &str) -> Result<&'static str, Memory> {
+    let line = accepted(alloc, log)?;
+    difference(
+        alloc,
+        &call_of(&CHECK, dump),
+        &told(Status::Done, line.as_str()),
+    )
+}
+
+/// Names what is otherwise than that the run has this log, and its dump is accepted, if anything is.
+fn run_difference(alloc: Global, text: &str, log: &str) -> Result<&'static str, Memory> {
+    let run = end_of(alloc, &call_of(&NAMED, text.as_bytes()))?;
+    if run.status != Status::Done {
+        Ok("the status")
+    } else if run.out.holds() != log.as_bytes() {
+        Ok("the log")
+    } else {
+        check_difference(alloc, run.dump.holds(), log)
+    }
+}
+
 /// The log is compared whole. Of the dump it is looked that its check accepts it: fsb_bench_trials compares the trace.
 #[test]
 fn worked_runs(rt: HostRuntime) -> Result<(), Fail> {
     for (name, text, log) in ROWS.iter() {
-        let ended = call_bench(rt.alloc(), &NAMED, text.as_bytes(), NO_FAILS)?;
-        assert_eq!(rt; ended.status, Status::Done, "{name}");
-        assert_eq!(rt; ended.out.holds(), log.as_bytes(), "{name}");
-        let checked = call_bench(rt.alloc(), &CHECK, ended.dump.holds(), NO_FAILS)?;
-        assert_eq!(rt; checked.status, Status::Done, "{name}");
-        let line = accepted(rt.alloc(), log)?;
-        assert_eq!(rt; checked.out.holds(), line.as_bytes(), "{name}");
+        assert_eq!(rt; run_difference(rt.alloc(), *text, *log)?, "", "{name}");
     }
     Ok(())
 }

@@ -2,7 +2,7 @@ use Rattle.std.proofs.Common.{IsTrue}
 use Rattle.std.specs.List.{list_all}
 use Rattle.fsb_signal.specs.Parity.{has_no_parity}
 use Rattle.fsb_signal.specs.Samples.{is_known_trace}
-use Rattle.fsb_top.proofs.tests.judged.written_with.Given as goal
+use Rattle.fsb_top.proofs.tests.dumps.written.Given as goal
 
 -- no bit of the samples so far is unknown, and none has parity
 abbrev pub invariant-loop-at : goal.invariant-loop-at
