@@ -1,12 +1,12 @@
 #!/usr/bin/env python3
-"""Each allocation refused in turn, in the built program: runs and checks of good files and of refused ones.
+"""Each allocation refused in turn, in the built program: every command on files of every form, on good ones and on refused ones.
 
 Usage: bench/allocations.py [PROGRAM]      (by default crates/p6bench/out/p6bench, made by `rt run` there or by `rt ci`)
 
 A small library that is loaded before the C library counts the calls that ask for memory, and refuses the N-th, for N = 1, 2, ..
-to the last one and two numbers past it. A refused allocation must end the call with status 8 and `out of memory` alone on
-standard error, with nothing on standard output and no dump; a number past the last one must change nothing. Prints a line a
-form, and then each answer that is neither. Needs a C compiler, as cc.
+to the last one and two numbers past it; and again the N-th and all behind it. A refused allocation must end the call with status 8
+and `out of memory` alone on standard error, with nothing on standard output and no dump; a number past the last one must change
+nothing. Prints a line a form, and then each answer that is neither. Needs a C compiler, as cc.
 """
 
 import collections
@@ -20,6 +20,9 @@ from common import TOP, built_program
 
 DATA = os.path.join(TOP, "crates", "p6bench", "data")
 ROWS = os.path.join(TOP, "crates", "fsb_bench_trials", "data")
+TRIALS = os.path.join(TOP, "crates", "fsb_trials", "data")
+TEXTS = os.path.join(TOP, "crates", "vcd_texts", "data")
+RUNS = ("dirty_victim_written_back", "deferred_and_replied", "deferred_with_upgrades", "locked_item_retried", "upgrade_lost_and_made_again", "empty_run", "mixed_05")
 REFUSED = (8, b"", b"out of memory\n", None)
 
 LIBRARY = r"""
@@ -31,7 +34,7 @@ LIBRARY = r"""
 #include <stdlib.h>
 #include <unistd.h>
 
-static long calls, refused;
+static long calls, refused, to_the_end;
 static void *(*plain)(size_t), *(*cleared)(size_t, size_t), *(*moved)(void *, size_t), *(*aligned)(size_t, size_t);
 static int (*placed)(void **, size_t, size_t);
 
@@ -43,10 +46,12 @@ __attribute__((constructor)) static void begin(void) {
     placed = dlsym(RTLD_NEXT, "posix_memalign");
     calls = 0;
     refused = atol(getenv("REFUSED"));
+    to_the_end = atol(getenv("TO_THE_END"));
 }
 
 static int is_refused(void) {
-    if (++calls != refused)
+    calls++;
+    if (refused == 0 || calls < refused || (calls > refused && !to_the_end))
         return 0;
     errno = ENOMEM;
     return 1;
@@ -92,38 +97,54 @@ def forms(folder):
     with open(first, "rb") as file:
         bench = file.read()
     with open(dump, "rb") as file:
-        head = file.read().split(b"#5\n")[0]
+        whole = file.read()
+    head = whole.split(b"#5\n")[0]
     clocks = b"".join(b"#%d0\n0!\n#%d5\n1!\n" % (clock, clock) for clock in range(1, 8000))
     accesses = b"".join(b"ld 1 %x\nst 2 %x r+1\n" % (32 * line, 32 * line + 2) for line in range(150))
     many = b"p6bench 1\nagents 1\nclocks 2000\ncache 1024\nahead 1\n" + b"mem 40 07\n" * 300 + b"agent 0\n" + accesses + b"end\n"
     long = written(folder, "long.vcd", head + clocks)
-    return {
-        "run": ["run", first],
-        "run with a dump": ["run", first, "DUMP"],
+    calls = {
         "run of 300 accesses with a dump": ["run", written(folder, "many.bench", many), "DUMP"],
         "run of a file that is refused": ["run", written(folder, "bad.bench", bench.replace(b"ld 1 40", b"ld 2 41")), "DUMP"],
         "run of a file that is not there": ["run", os.path.join(folder, "none"), "DUMP"],
-        "run of a victim that is written back, with a dump": ["run", os.path.join(ROWS, "dirty_victim_written_back.bench"), "DUMP"],
-        "run of a deferred request and its reply, with a dump": ["run", os.path.join(ROWS, "deferred_and_replied.bench"), "DUMP"],
         "gen": ["gen", "0", "4", "8"],
+        "gen of 400 items": ["gen", "7", "4", "100"],
         "gen of too many agents": ["gen", "0", "5", "8"],
-        "check": ["check", dump],
-        "audit": ["audit", dump],
-        "show": ["show", dump],
-        "check of a dump of 190 KB": ["check", long],
-        "check of a file that is refused": ["check", written(folder, "bad.vcd", head + clocks + b"x")],
-        "find": ["find", dump, "ADS/DRDY"],
-        "wave": ["wave", dump, "0", "63"],
         "bad words": ["run", "-x"],
         "one word": ["run"],
     }
+    for name in RUNS:
+        calls["run of %s" % name] = ["run", os.path.join(ROWS, name + ".bench")]
+        calls["run of %s with a dump" % name] = ["run", os.path.join(ROWS, name + ".bench"), "DUMP"]
+    dumps = {
+        "a load": dump,
+        "upgrades and deferrals": os.path.join(TRIALS, "deferred_with_upgrades.vcd"),
+        "other tools' variables": os.path.join(TEXTS, "scopes.vcd"),
+        "190 KB": long,
+        "a broken rule": written(folder, "no_ads.vcd", whole.replace(b"\n0)\n", b"\n1)\n")),
+        "a foul clock": written(folder, "foul.vcd", fouled(os.path.join(TRIALS, "dirty_victim_written_back.vcd"))),
+        "a fault": written(folder, "bad.vcd", head + clocks + b"x"),
+    }
+    for name, path in dumps.items():
+        for verb, words in (("check", []), ("audit", []), ("show", []), ("find", ["ADS/RS0/<3:DRDY"]), ("wave", ["0", "63"])):
+            calls["%s of %s" % (verb, name)] = [verb, path, *words]
+    return calls
 
 
-def answered(program, library, words, number, folder):
-    """Status, standard output, standard error and dump of a call whose allocation of this number is refused; and their count."""
+def fouled(path):
+    """A dump whose line comes from memory at last with a 0, where 1 was written back."""
+    with open(path, "rb") as file:
+        start, found, rest = file.read().rpartition(b"1" * 63 + b"0 4\n")
+    assert found
+    return start + b"1" * 64 + b" 4\n" + rest
+
+
+def answered(program, library, words, number, folder, to_the_end=False):
+    """Status, standard output, standard error and dump of a call whose allocation of this number is refused, and where that is asked for all behind
+    it; and their count."""
     dump, count = os.path.join(folder, "dump.vcd"), os.path.join(folder, "count")
     named = [dump if word == "DUMP" else word for word in words]
-    env = {"LD_PRELOAD": library, "REFUSED": str(number), "COUNTED": count}
+    env = {"LD_PRELOAD": library, "REFUSED": str(number), "TO_THE_END": str(int(to_the_end)), "COUNTED": count}
     done = subprocess.run([program, *named], env=env, capture_output=True, timeout=60)
     text = None
     if os.path.exists(dump):
@@ -138,13 +159,13 @@ def tried(program, library, name, words, folder):
     """Tries a form, prints its line, and answers whether every call ended as it must."""
     whole, total = answered(program, library, words, 0, folder)
     counts, odd = collections.Counter(), []
-    for number in range(1, total + 3):
-        answer, _ = answered(program, library, words, number, folder)
+    for number in [n for number in range(1, total + 3) for n in (number, -number)]:
+        answer, _ = answered(program, library, words, abs(number), folder, number < 0)
         counts[answer[0]] += 1
-        if answer != (REFUSED if number <= total else whole):
+        if answer != (REFUSED if abs(number) <= total else whole):
             odd.append((number, answer))
     answers = ", ".join(f"{count} of status {status}" for status, count in sorted(counts.items()))
-    print(f"{name}: {total} allocations and 2 past them: {answers}; {len(odd)} odd")
+    print(f"{name}: {total} allocations and 2 past them, each refused alone and with all behind it: {answers}; {len(odd)} odd")
     for number, (status, out, error, text) in odd:
         print(f"  {number}: status {status}, {out[:200]!r}, {error[:200]!r}, {'no dump' if text is None else len(text)}")
     return total > 0 and not odd

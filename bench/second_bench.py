@@ -22,6 +22,7 @@ import tempfile
 
 sys.dont_write_bytecode = True
 from common import TOP, built_program
+from dump_of_trace import dump
 from edge_benches import edge_benches
 from random_benches import random_bench
 from second_reader import BadLine, DEFER, KEEP, NO_HAZARD, RETRY, Reader
@@ -397,6 +398,11 @@ class Run:
     def trace_lines(self):
         return [trace_line(c, *sample) for c, sample in enumerate(self.trace)]
 
+    def dump_lines(self):
+        """The lines of the dump of the waveform."""
+        clocks = [(lines, {'REQ': req, 'A': a, 'D': d}) for lines, req, a, d in self.trace]
+        return list(dump(clocks, 22 if self.plan.profile == 2 else 20))
+
     def bus_line(self):
         kinds = collections.Counter(request.kind for request in self.requests if request.first + 1 < self.plan.clocks)
         return (f'bus requests={sum(kinds.values())} reads={kinds[READ]} invalidates={kinds[INVALIDATE]} '
@@ -449,35 +455,14 @@ def summary(seed, agents, items):
 
 
 def answer_of(text):
-    """The status, the lines of standard output, the one of standard error, and the waveform, None where there is no run."""
+    """The status, the lines of standard output, the one of standard error, and the run, None where there is none."""
     if len(text) > 4194304:
         return 9, [], ['too long'], None
     try:
         run = Run(Reader(text).plan)
     except BadLine as bad:
         return 3, [], ['bench line %d: %s' % bad.args], None
-    return 0, run.log_lines(), [], run.trace_lines()
-
-
-def dump_lines(path):
-    """The waveform of a dump of the program's own form."""
-    with open(path) as source:
-        header, _, text = source.read().partition('$enddefinitions $end\n')
-    names, asserted, clocks = {}, {}, []
-    for words in (line.split() for line in header.splitlines()):
-        if words[0] == '$var':
-            names[words[3]] = words[4][:-2]
-    several = {'RS': ('RS0', 'RS1', 'RS2'), 'AP': ('AP0', 'AP1')}
-    for line in text.splitlines():
-        if line == '1!':
-            lines = {name for name, value in asserted.items() if value and name not in ('REQ', 'A', 'D', 'RS', 'AP')}
-            for name, bits in several.items():
-                lines |= {bit for place, bit in enumerate(bits) if asserted.get(name, 0) >> place & 1}
-            clocks.append(trace_line(len(clocks), lines, asserted['REQ'], asserted['A'], asserted['D']))
-        elif line[0] not in '#$' and line != '0!':
-            digits, code = (line[1:].split() if line[0] == 'b' else (line[0], line[1:]))
-            asserted[names[code]] = int(digits, 2) ^ (1 << len(digits)) - 1
-    return clocks
+    return 0, run.log_lines(), [], run
 
 
 def difference(mine, other):
@@ -506,8 +491,8 @@ def stored_runs():
     different = 0
     for name in names:
         path = os.path.join(folder, name)
-        _, log, refusal, trace = answer_of(read_text(path + '.bench'))
-        found = difference(refusal + log, lines_of(path + '.log')) or difference(trace or [], lines_of(path + '.trace'))
+        _, log, refusal, run = answer_of(read_text(path + '.bench'))
+        found = difference(refusal + log, lines_of(path + '.log')) or difference(run.trace_lines() if run else [], lines_of(path + '.trace'))
         if found:
             different += 1
             print(f'{name}: {found}')
@@ -515,22 +500,28 @@ def stored_runs():
     return different == 0
 
 
-def answer_of_program(program, bench, dump):
-    if os.path.exists(dump):
-        os.remove(dump)
-    done = subprocess.run([program, 'run', bench, dump], capture_output=True)
-    texts = [text.decode('latin-1').splitlines() for text in (done.stdout, done.stderr)]
-    return done.returncode, *texts, dump_lines(dump) if os.path.exists(dump) else None
+def lines_in(text):
+    """The lines of a text, each of which is to end with a line feed."""
+    lines = text.split('\n')
+    return lines[:-1] + [line + ' without a line feed' for line in lines[-1:] if line]
+
+
+def answer_of_program(program, bench, written):
+    if os.path.exists(written):
+        os.remove(written)
+    done = subprocess.run([program, 'run', bench, written], capture_output=True)
+    texts = [lines_in(text.decode('latin-1')) for text in (done.stdout, done.stderr)]
+    return done.returncode, *texts, lines_in(read_text(written)) if os.path.exists(written) else []
 
 
 def compare_one(program, text, folder):
-    """What differs in the two answers to a bench file, or None, and this simulator's answer."""
-    bench, dump = os.path.join(folder, 'random.bench'), os.path.join(folder, 'random.vcd')
+    """What differs in the two answers to a bench file, the dumps among them, or None, and this simulator's answer."""
+    bench, written = os.path.join(folder, 'random.bench'), os.path.join(folder, 'random.vcd')
     with open(bench, 'w', encoding='latin-1', newline='') as out:
         out.write(text)
-    mine, other = answer_of(text), answer_of_program(program, bench, dump)
+    mine, other = answer_of(text), answer_of_program(program, bench, written)
     parts = [(['status %d' % mine[0]], ['status %d' % other[0]]), (mine[1], other[1]), (mine[2], other[2]),
-             (mine[3] or [], other[3] or [])]
+             (mine[3].dump_lines() if mine[3] else [], other[3])]
     return next((found for found in (difference(*part) for part in parts) if found), None), mine
 
 
@@ -556,14 +547,14 @@ def random_runs(seed, count, program):
         for number in range(count):
             chance = random.Random(f'{seed} {number}')
             text = random_bench(chance)
-            found, (status, log, _, trace) = compare_one(program, text, folder)
+            found, (status, log, _, run) = compare_one(program, text, folder)
             if number % 20 == 0 and not found:
                 found = compare_seed(program, chance, folder)
                 counts['seeds'] += 1
             if found:
                 print(f'file {number} of seed {seed}: {found}', flush=True)
                 counts['different'] += 1
-            counts.update({'refused': status == 3, 'clocks': len(trace or []), 'accesses': max(0, len(log) - 1)})
+            counts.update({'refused': status == 3, 'clocks': len(run.trace) if run else 0, 'accesses': max(0, len(log) - 1)})
     print(f'edges={counts["edges"]} random files={count} refused={counts["refused"]} clocks={counts["clocks"]} '
           f'accesses={counts["accesses"]} seeds={counts["seeds"]} different={counts["different"]}')
     return counts['different'] == 0
@@ -580,12 +571,12 @@ def main(words):
         return int(not random_runs(words[1], int(words[2]), built_program(*words[4:])))
     if len(words) not in (1, 2) or words[0].startswith('-'):
         sys.exit(__doc__)
-    status, log, refusal, trace = answer_of(read_text(words[0]))
+    status, log, refusal, run = answer_of(read_text(words[0]))
     for lines, out in ((log, sys.stdout), (refusal, sys.stderr)):
         out.writelines(line + '\n' for line in lines)
-    if trace is not None and len(words) == 2:
+    if run is not None and len(words) == 2:
         with open(words[1], 'w') as out:
-            out.writelines(line + '\n' for line in trace)
+            out.writelines(line + '\n' for line in run.trace_lines())
     return status
 
 

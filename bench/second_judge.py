@@ -3,22 +3,15 @@
 
     second_judge.py DUMP
 
-prints what `p6bench check DUMP` prints of a dump: `accepted clocks=N`, or `rejected clock=C rule=J` with status 1. The rules
-stand here as the document says them, over the whole trace up to a clock, so this is slow and plain: a dump of a hundred
-clocks takes some tenths of a second. It reads dumps in which each code is that of one variable and no value is a real or a
-string. Every other text, each that is no dump among them, is refused in words, with status 2.
+prints what `p6bench check DUMP` prints of a dump: `accepted clocks=N`, or `rejected clock=C rule=J` with status 1, or the first
+fault of a text that is no dump, with status 4. The rules stand here as the document says them, over the whole trace up to a clock,
+so this is slow and plain: a dump of a hundred clocks takes some tenths of a second.
 """
 import sys
 from collections import namedtuple
 
-WIDTHS = {'BCLK': 1, 'BREQ0_n': 1, 'BREQ1_n': 1, 'BREQ2_n': 1, 'BREQ3_n': 1, 'BPRI_n': 1, 'LOCK_n': 1, 'BNR_n': 1,
-          'ADS_n': 1, 'REQ_n': 5, 'A_n': 33, 'AERR_n': 1, 'HIT_n': 1, 'HITM_n': 1, 'DEFER_n': 1, 'RS_n': 3, 'TRDY_n': 1,
-          'DBSY_n': 1, 'DRDY_n': 1, 'D_n': 64, 'AP_n': 2, 'RP_n': 1}
-NEEDED = set(WIDTHS) - {'BREQ1_n', 'BREQ2_n', 'BREQ3_n', 'BPRI_n', 'LOCK_n', 'BNR_n', 'AERR_n', 'DEFER_n', 'AP_n', 'RP_n'}
-WORDS = ('REQ_n', 'A_n', 'D_n')
-# The control lines, by the variable that has them, the highest first.
-LINES = {name: [name[:-2]] for name in WIDTHS if name not in WORDS + ('BCLK',)}
-LINES.update({'RS_n': ['RS2', 'RS1', 'RS0'], 'AP_n': ['AP1', 'AP0']})
+sys.dont_write_bytecode = True
+from second_dump import Fault, read_samples
 
 # The request line of each agent. The symmetric agents are numbers.
 SYMMETRIC = (0, 1, 2, 3)
@@ -35,102 +28,8 @@ KINDS = {(0b00010, 0b00010): 'Invalidate', (0b00110, 0b00010): 'Read', (0b00101,
 ID_BITS, DEN_BIT = 0xff << 13, 1 << 1
 LOW_ADDRESS = (1 << 21) - 1  # A[23:3] of the address word
 
-# What the lines have at a clock: the unknown and the asserted ones, the code of RS#, and the words, None where a bit is
-# unknown.
-Sample = namedtuple('Sample', 'unknown asserted code req a d')
-# Which of the parity lines a dump declares.
-Marks = namedtuple('Marks', 'ap rp')
 Request = namedtuple('Request', 'kind id den')
 NO_REQUEST = Request(None, None, None)
-
-
-class Unsupported(Exception):
-    """The text is no dump, or one of a form that is not read here."""
-
-
-def refuse_unless(holds, why):
-    if not holds:
-        raise Unsupported(why)
-
-
-def read_samples(text):
-    """The marks and the samples of a dump, which is given as bytes."""
-    words = iter([word.decode('latin-1') for word in text.split()])
-    names = read_declarations(words)
-    values = {name: ('x' if name in names.values() else '1') * width for name, width in WIDTHS.items()}
-    before, time, samples = dict(values), -1, []
-
-    def end_block():
-        if before['BCLK'] == '0' and values['BCLK'] == '1':
-            samples.append(sample_of(before))
-        before.update(values)
-
-    for word in words:
-        if word in ('$dumpvars', '$dumpall', '$dumpon', '$dumpoff', '$end'):
-            continue
-        if word[0] == '$':
-            read_section(words)
-        elif word[0] == '#':
-            last, time = time, number_of(word[1:])
-            refuse_unless(last <= time < 2 ** 64, f'the time {word}')
-            if last < time:
-                end_block()
-        else:
-            digits, code = (word[1:].lower(), next(words, None)) if word[0] in 'bB' else (word[0].lower(), word[1:])
-            refuse_unless(digits and set(digits) <= set('01xz'), f'the value {word}')
-            refuse_unless(code in names, f'the code {code} of the value {word}')
-            if names[code]:
-                width = WIDTHS[names[code]]
-                refuse_unless(len(digits) <= width, f'the width of the value {word} of {names[code]}')
-                values[names[code]] = digits.rjust(width, '0' if digits[0] in '01' else digits[0])
-    end_block()
-    return Marks('AP_n' in names.values(), 'RP_n' in names.values()), samples
-
-
-def read_declarations(words):
-    """The name of the line of each code, and None for the code of another variable."""
-    names = {}
-    for word in words:
-        if word == '$end':
-            continue
-        refuse_unless(word[0] == '$', f'{word} among the declarations')
-        section = read_section(words)
-        if word == '$enddefinitions':
-            missing = NEEDED - set(names.values())
-            refuse_unless(not missing, f'no {", ".join(sorted(missing))}')
-            return names
-        if word == '$var':
-            refuse_unless(len(section) >= 4, 'a $var of fewer than four words')
-            (kind, width, code), name = section[:3], section[3].split('[')[0]
-            is_line = name in WIDTHS and name not in names.values() and kind not in ('real', 'realtime', 'string')
-            refuse_unless(number_of(width) <= 1000000 and all('!' <= byte <= '~' for byte in code), f'the $var of {name}')
-            refuse_unless(not is_line or number_of(width) == WIDTHS[name], f'the width of {name}')
-            refuse_unless(code not in names, f'two variables of the code {code}')
-            names[code] = name if is_line else None
-    raise Unsupported('the declarations do not end')
-
-
-def read_section(words):
-    section = []
-    for word in words:
-        if word == '$end':
-            return section
-        section.append(word)
-    raise Unsupported('a section does not end')
-
-
-def number_of(word):
-    refuse_unless(1 <= len(word) <= 20 and set(word) <= set('0123456789'), f'the number {word}')
-    return int(word)
-
-
-def sample_of(values):
-    """What the lines have: 0 is asserted, 1 and z are not, x is unknown."""
-    lines = {line: digit for name in LINES for line, digit in zip(LINES[name], values[name])}
-    asserted = {line for line, digit in lines.items() if digit == '0'}
-    words = (None if 'x' in values[name] else int(values[name].translate(str.maketrans('01z', '100')), 2) for name in WORDS)
-    code = sum(1 << bit for bit in range(3) if f'RS{bit}' in asserted)
-    return Sample({line for line, digit in lines.items() if digit == 'x'}, asserted, code, *words)
 
 
 def decode(first, second):
@@ -392,27 +291,34 @@ def least_rule(marks, samples):
     return next((rule for rule, is_broken in enumerate(broken, 1) if is_broken), None)
 
 
-def verdict(marks, samples):
-    """The line that tells the verdict: each clock is judged over the samples up to it alone."""
-    for c in range(len(samples)):
+def verdict(marks, samples, first=0):
+    """The line that tells the verdict: each clock is judged over the samples up to it alone. Below the first clock that is given
+    nothing is broken, as of samples that were judged before."""
+    for c in range(first, len(samples)):
         rule = least_rule(marks, samples[:c + 1])
         if rule is not None:
             return f'rejected clock={c} rule={rule}'
     return f'accepted clocks={len(samples)}'
 
 
+def answer_of(text):
+    """The status and the line that tell of a text."""
+    try:
+        marks, samples = read_samples(text)
+    except Fault as fault:
+        return 4, 'dump byte %d: %s' % fault.args
+    line = verdict(marks, samples)
+    return int(line.startswith('rejected')), line
+
+
 def main(words):
     if len(words) != 1:
         sys.exit(__doc__)
     sys.setrecursionlimit(100000)
-    try:
-        with open(words[0], 'rb') as source:
-            line = verdict(*read_samples(source.read()))
-    except (OSError, Unsupported) as refusal:
-        print(f'second_judge: {words[0]}: {refusal}', file=sys.stderr)
-        return 2
-    print(line)
-    return int(line.startswith('rejected'))
+    with open(words[0], 'rb') as source:
+        status, line = answer_of(source.read())
+    print(line, file=sys.stderr if status == 4 else sys.stdout)
+    return status
 
 
 if __name__ == '__main__':

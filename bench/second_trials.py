@@ -1,12 +1,14 @@
 #!/usr/bin/env python3
 """Gives dumps to the built program and to the second judge, and prints every difference of their answers.
 
-    second_trials.py [PROGRAM [COUNT [SEED]]]
+    second_trials.py [PROGRAM [COUNT [SEED [TRAFFIC [CLOCKS]]]]]
 
-The dumps are those of the worked runs, and COUNT random ones (2,000): lawful traffic of up to five agents; such traffic with
-one line changed at one clock; and traffic whose driver at times forgets one rule. They are written as the program writes
-them, or as a simulator might. Dump N of a seed is the same each time. The last lines count how often each rule was the
-verdict. The status is 1 where there is a difference, or where one of the answers never came of a random dump.
+The dumps are those of the worked runs; COUNT of runs (2,000), which are those of random bench files and of the plans of seeds, and
+lawful traffic, each of CLOCKS clocks at most (180), as it is and broken on purpose in 19 ways that are drawn from those of
+broken_runs.py; and TRAFFIC of random traffic (as many), lawful, with one line changed at one clock, or of a driver that at times
+forgets one rule. They are written as the program writes them, or as a simulator might. Dump N of a seed is the same each time. The
+table has for each answer how often a run was broken with this rule in mind, and how often it was the verdict of both. The status
+is 1 where there is a difference, or where an answer never came of a run.
 """
 import collections
 import glob
@@ -17,362 +19,80 @@ import sys
 import tempfile
 
 sys.dont_write_bytecode = True
+from broken_runs import base_of, mutant_of
 from common import TOP, built_program
-from second_judge import (DEFERRED, DEN_BIT, HARD_FAILURE, IDLE, IMPLICIT_WRITEBACK, NEEDED, NORMAL_DATA, NO_DATA, PRIORITY,
-                          REQUEST_LINES, RETRY, SYMMETRIC, WIDTHS, WORDS, read_samples, verdict)
+from random_dumps import dump_text, random_samples
+from second_dump import read_samples
+from second_judge import verdict
 
-FIRST_CODES = {'Reply': 0b00000, 'Invalidate': 0b00010, 'Read': 0b00110, 'WriteBack': 0b00101, 'Upgrade': 0b00010}
-ANSWERS = ['accepted'] + [f'rule={rule}' for rule in range(1, 21)]
-
-
-class Request:
-    """What the driver keeps of a request. A clock that did not come yet is None."""
-
-    def __init__(self, first, agent, kind, id, den):
-        self.first, self.agent, self.kind, self.id, self.den = first, agent, kind, id, den
-        self.cancelled = self.snoop_end = self.ready = self.response = self.end = self.reply = None
-        self.due, self.results, self.code, self.chunks = first + 4, set(), IDLE, 0
-
-    def is_over(self, c):
-        return any(clock is not None and clock < c for clock in (self.cancelled, self.end))
-
-    def is_outstanding(self, c):
-        if self.code == DEFERRED:
-            return self.reply is None or self.reply.cancelled is not None or not self.reply.is_over(c)
-        return self.kind != 'Reply' and not self.is_over(c)
-
-    def awaits_reply(self, c):
-        is_free = self.reply is None or self.reply.cancelled is not None and self.reply.cancelled < c
-        return self.code == DEFERRED and self.response < c and is_free
-
-    def takes(self):
-        return self.kind == 'WriteBack' or 'HITM' in self.results
-
-    def has_come(self, clock, c, before):
-        return clock is not None and clock <= c - before
+ANSWERS = ['accepted'] + list(range(1, 21))
+# How many dumps each run makes: itself, and some that are broken.
+DUMPS_OF_A_RUN = 20
 
 
-class Traffic:
-    """A random run of the bus: `samples` has the digits of every line at each clock, by its name.
+class Trial:
+    """The counts of answers, of each kind of dump, and the folder in which a dump is written."""
 
-    It keeps all rules but the one whose number is `forgotten`, and this one too at times: it does not ask itself what the
-    second judge would say, and has its own small book of what is under way.
-    """
+    def __init__(self, program, folder):
+        self.program, self.folder = program, folder
+        self.counts, self.aimed = collections.Counter(), collections.Counter()
+        self.clocks = self.differences = self.dumps = 0
 
-    def __init__(self, chance, forgotten=None):
-        def some(*values):
-            return chance.choice(values)
-        self.chance, self.forgotten, self.forgets = chance, forgotten, some(0.03, 0.3, 0.9)
-        self.case = some(1, 2, 3)  # which case of a rule that has some
-        self.agents = chance.sample(SYMMETRIC, some(1, 2, 2, 3, 4))
-        self.asks, self.begins, self.ids = some(0.05, 0.3, 0.7), some(0.6, 1), some(4, 5, 16)
-        self.blocks, self.locks, self.cancels = some(0, 0.15), some(0, 0.3), some(0, 0.3)
-        self.stalls, self.hits, self.defers, self.fails = some(0, 0.4), some(0, 0.4), some(0, 0.5), some(0, 0.2)
-        self.responds, self.chunks, self.noise = some(0.02, 0.5, 1), some(0.5, 1), some(0, 0.3)
-        self.replies = some(0.05, 0.5)
-        self.kinds = some(('Read', 'Invalidate'), ('Read', 'Invalidate', 'WriteBack'), ('Read', 'Upgrade', 'WriteBack'))
-        undeclared = ('AP_n', 'RP_n')
-        if forgotten in (19, 20) or self.happens(0.4):
-            undeclared = some((), (), ('RP_n',) if forgotten != 20 else (), ('AP_n',) if forgotten != 19 else ())
-        self.names = [name for name in WIDTHS if name not in undeclared]
-        self.past, self.samples, self.requests, self.responses = [], [], [], []
-        self.last, self.turn, self.snooped, self.second = None, 0, -9, None
-        # A rule whose breach needs much to have come before is given the traffic for it.
-        if forgotten == 4:
-            self.agents, self.asks, self.cancels, self.responds = SYMMETRIC, 0.7, some(0, 0.4), 0.02
-        if forgotten in (7, 12, 14, 18):
-            self.asks, self.defers = 0.7, 0.7
-        if forgotten in (3, 15):
-            self.asks, self.kinds = 0.7, some(('WriteBack',), ('Read', 'Invalidate', 'Upgrade'))
-        if forgotten == 18 and self.case == 2:
-            self.cancels = some(0, 0.5)
-        if forgotten == 18 and self.case == 3:
-            self.ids, self.responds = some(5, 16), some(0.02, 0.2)
-        for c in range(chance.randrange(5, 110)):
-            self.drive(c)
-
-    def happens(self, probability):
-        return self.chance.random() < probability
-
-    def keeps(self, rule, case=None):
-        return rule != self.forgotten or case not in (None, self.case) or not self.happens(self.forgets)
-
-    def had(self, line, c):
-        return c >= 0 and line in self.past[c]
-
-    def drive(self, c):
-        self.lines, self.words = set(), {}
-        self.ask(c)
-        self.cancel(c)
-        if self.second:
-            self.words.update(self.second)
-        self.second = None
-        self.begin(c)
-        self.lock(c)
-        self.snoop(c)
-        self.respond(c)
-        self.move(c)
-        self.past.append(self.lines)
-        self.samples.append(self.digits())
-
-    def ask(self, c):
-        for agent, line in REQUEST_LINES.items():
-            if self.had('ADS', c - 1) and self.last == agent:
-                is_asked = not self.keeps(8)
-            elif self.had(line, c - 1):
-                is_asked = self.keeps(8)
-            elif agent == PRIORITY:
-                awaiting = [r for r in self.requests if r.awaits_reply(c)]
-                is_lax = (self.forgotten, self.case) == (18, 1)
-                is_asked = self.happens(self.replies if awaiting or is_lax and self.to_be_replied() else 0.003)
-            else:
-                is_asked = agent in self.agents and self.happens(self.asks)
-            if is_asked:
-                self.lines.add(line)
-
-    def cancel(self, c):
-        for r in self.requests:
-            if r.first == c - 3 and self.happens(self.cancels):
-                self.lines.add('AERR')
-                r.cancelled = c
-        if not self.keeps(10):
-            self.lines.add('AERR')
-
-    def winner(self, c):
-        asking = [agent for agent, line in REQUEST_LINES.items() if self.had(line, c - 2)]
-        if self.had('LOCK', c - 2):
-            return self.last if self.last in asking else None
-        return PRIORITY if PRIORITY in asking else min(asking, key=lambda agent: (agent - self.turn) % 4, default=None)
-
-    def begin(self, c):
-        winner = self.winner(c)
-        is_spaced = c >= 2 and not self.had('ADS', c - 1) and not self.had('ADS', c - 2)
-        if not ((is_spaced or not self.keeps(2)) and (winner is not None or not self.keeps(6))
-                and (sum(not r.is_over(c) for r in self.requests) < 8 or not self.keeps(4))
-                and (not self.had('BNR', c - 2) or not self.keeps(5)) and self.happens(self.begins)):
-            return
-        is_own = self.keeps(7)
-        is_reply = winner == PRIORITY if is_own else self.happens(0.3)
-        request = self.reply(c, is_own) if is_reply else self.request(c, winner, is_own and winner in SYMMETRIC)
-        if request is None:
-            return
-        self.lines.add('ADS')
-        self.requests.append(request)
-        self.last, self.turn = winner, self.turn if winner not in SYMMETRIC else winner + 1
-        self.put_words(request)
-
-    def reply(self, c, is_own):
-        awaiting = [r for r in self.requests if r.awaits_reply(c)]
-        if not is_own or not self.keeps(18, 1):
-            lax = self.to_be_replied() or self.requests
-            awaiting = self.happens(0.5) and [r for r in lax if r.reply is not None] or lax
-        if not awaiting:
-            return None
-        deferred = self.chance.choice(awaiting)
-        deferred.reply = Request(c, PRIORITY, 'Reply', deferred.id, False)
-        return deferred.reply
-
-    def to_be_replied(self):
-        """All that were or may be deferred, for a driver that forgets which of them await a reply."""
-        return [r for r in self.requests if 'DEFER' in r.results]
-
-    def request(self, c, winner, is_own):
-        outstanding = [r for r in self.requests if r.is_outstanding(c)]
-        if sum(r.agent == winner for r in outstanding) >= 4 and self.keeps(18, 3):
-            return None
-        kind = self.chance.choice(self.kinds)
-        agent = winner if is_own else self.chance.choice([8 + number for number in self.agents] + list(range(8)))
-        used = [r.id for r in self.requests if r.agent == agent][-5:]
-        ids = used if used and self.happens(0.4) else [16 * agent + number for number in range(self.ids)]
-        free = [id for id in ids if all(r.id != id for r in outstanding)] if self.keeps(18, 2) else used or ids
-        return Request(c, winner, kind, self.chance.choice(free), kind in ('Read', 'Invalidate') and self.happens(0.5)) if free else None
-
-    def put_words(self, request):
-        second = 0b00010 * (request.kind != 'Upgrade'), request.id << 13 | DEN_BIT * request.den
-        if request.kind == 'Reply':
-            first, second = (0, request.id << 13), (0, 0)
+    def judge(self, name, kind, text, first=0):
+        """Compares both judges of the text of a dump, which is kept where they differ, and gives the second one's answer."""
+        path = os.path.join(self.folder, f'{self.dumps}.vcd')
+        with open(path, 'wb') as dump:
+            dump.write(text)
+        marks, samples = read_samples(text)
+        second, program = verdict(marks, samples, first), answer_of(self.program, path)
+        answer = second.split()[0] if second.startswith('accepted') else int(second.split('=')[2])
+        self.dumps += 1
+        self.clocks += len(samples)
+        self.counts[kind, answer] += 1
+        if second == program:
+            os.remove(path)
         else:
-            a = self.chance.getrandbits(self.chance.choice((6, 33))) & (~0b11 if request.kind == 'WriteBack' else ~0)
-            first = FIRST_CODES[request.kind] | 0b01000 * (a >= 1 << 29), a
-        words = [('REQ_n', first[0]), ('A_n', first[1]), ('REQ_n', second[0]), ('A_n', second[1])]
-        words = [[name, inverted(name, value)] for name, value in words]
-        if not self.keeps(3):
-            spoiled = self.chance.choice(words + words[1::2])
-            low = self.chance.choice((2, len(spoiled[1])))
-            spoiled[1] = spoiled[1][:-low] + changed(self.chance, spoiled[1][-low:], '0011x')
-        self.words.update(words[:2])
-        self.second = dict(words[2:])
+            self.differences += 1
+            self.counts['differs', answer] += 1
+            print(f'{name}, {path}: the program says {program!r}, the second judge {second!r}', flush=True)
+        return answer
 
-    def lock(self, c):
-        may_lock = 'ADS' in self.lines and self.happens(self.locks) or self.had('LOCK', c - 1) and self.happens(0.85)
-        if may_lock or not self.keeps(9):
-            self.lines.add('LOCK')
-        if self.happens(self.blocks) or self.forgotten == 5 and self.happens(0.2):
-            self.lines.add('BNR')
+    def worked(self):
+        for path in sorted(glob.glob(os.path.join(TOP, 'crates/fsb_trials/data/*.vcd'))):
+            with open(path, 'rb') as dump:
+                self.judge(os.path.relpath(path, TOP), 'worked', dump.read())
 
-    def live(self):
-        return [r for r in self.requests if r.cancelled is None]
+    def traffic(self, seed, number):
+        chance = random.Random(f'{seed} {number}')
+        self.judge(f'traffic {number} of seed {seed}', 'traffic', dump_text(chance, random_samples(chance)).encode())
 
-    def snoop(self, c):
-        r = next((r for r in self.live() if r.snoop_end is None), None)
-        if r is not None and c == max(r.due, self.snooped + 3):
-            if self.happens(self.stalls):
-                self.lines |= {'HIT', 'HITM'} | ({'DEFER'} if self.happens(0.2) else set())
-                r.due = c + 2
-                return
-            if not self.keeps(12):
-                r.results = {self.chance.choice(('HIT', 'HITM', 'DEFER'))}
-            elif r.kind in ('WriteBack', 'Reply'):
-                r.results = {'HIT'} if r.kind == 'Reply' and self.happens(self.hits) else set()
-            else:
-                r.results = {self.chance.choice(('HIT', 'HITM'))} if self.happens(self.hits) else set()
-                r.results |= {'DEFER'} if self.happens(self.defers) else set()
-            self.lines |= r.results
-            r.snoop_end = self.snooped = c
-        elif (self.happens(0.2) or self.had('HIT', c - 1) and self.had('HITM', c - 1)) and not self.keeps(11):
-            self.lines.add(self.chance.choice(('HIT', 'HITM', 'DEFER')))
-
-    def respond(self, c):
-        r = next(iter(self.live()[len(self.responses):]), None)
-        may_come = r is not None and r.has_come(r.snoop_end, c, 2) and (
-            not self.responses or r.has_come(self.responses[-1].end, c, 1))
-        if may_come and r.takes() and r.ready is None and self.happens(0.5):
-            self.lines.add('TRDY')
-            r.ready = c
-        elif r is not None and r.takes() and (r.snoop_end or self.happens(0.1)) and not self.keeps(15, 2 if r.ready else 1):
-            self.lines.add('TRDY')
-        is_early = r is not None and not may_come and (r.snoop_end is not None or self.happens(0.1)) and not self.keeps(13)
-        if not (may_come or is_early) or not self.happens(self.responds):
+    def run(self, seed, number, count, longest):
+        """A lawful run of so many clocks at most, and so many dumps of it, but for one broken on purpose."""
+        chance = random.Random(f'run {seed} {number}')
+        base, name = base_of(chance, longest=longest), f'run {number} of seed {seed}'
+        if self.judge(name, 'run', dump_text(chance, base.samples).encode()) != 'accepted':
+            self.differences += 1
+            print(f'{name} is no lawful one', flush=True)
             return
-        if self.happens(self.fails):
-            r.code = HARD_FAILURE
-        elif r.takes() and not r.has_come(r.ready, c, 2) and (
-                r.ready in (None, c) and self.happens(0.9) or self.keeps(15, 3)):
-            return
-        else:
-            r.code = self.code_of(r) if self.keeps(14) else self.chance.randrange(1, 8)
-        self.lines |= {f'RS{bit}' for bit in range(3) if r.code >> bit & 1}
-        r.response = c
-        is_dataless = r.kind == 'Upgrade' and 'HITM' not in r.results
-        r.end = c if is_dataless or r.code in (HARD_FAILURE, RETRY, DEFERRED) else None
-        self.responses.append(r)
+        for place in range(1, count):
+            aim, mutant, mutation = mutant_of(chance, base)
+            self.aimed[aim] += 1
+            text = dump_text(chance, mutant.samples).encode()
+            self.judge(f'{name}, {place}: {mutation}', 'run', text, mutant.first_change())
 
-    def code_of(self, r):
-        if 'HITM' in r.results:
-            return IMPLICIT_WRITEBACK
-        if r.kind == 'WriteBack':
-            return NO_DATA
-        if 'DEFER' in r.results:
-            return DEFERRED if r.den and self.happens(0.8) else RETRY
-        return NO_DATA if r.kind == 'Upgrade' else NORMAL_DATA
+    def table(self):
+        """Prints how often each answer was meant, and came."""
+        print(f'{"verdict":12}{"of worked runs":>16}{"of traffic":>12}{"aimed at":>10}{"of runs":>10}{"differences":>13}')
+        for answer in ANSWERS:
+            kinds = [self.counts[kind, answer] for kind in ('worked', 'traffic', 'run', 'differs')]
+            aimed = self.aimed['lawful' if answer == 'accepted' else answer]
+            name = answer if answer == 'accepted' else f'rule {answer}'
+            print(f'{name:12}{kinds[0]:16}{kinds[1]:12}{aimed:10}{kinds[2]:10}{kinds[3]:13}')
+        print(f'aimed at nothing: {self.aimed["nothing"]}')
+        print(f'dumps: {self.dumps}, clocks: {self.clocks}, differences: {self.differences}')
 
-    def move(self, c):
-        r = self.responses[-1] if self.responses and self.responses[-1].end is None else None
-        if r is not None and self.happens(self.chunks):
-            self.lines.add('DRDY')
-            r.chunks += 1
-            r.end = c if r.chunks == 4 else None
-        if r is not None and r.end is None:
-            self.lines.add('DBSY')
-        if not self.keeps(16):
-            self.lines ^= {self.chance.choice(('DRDY', 'DBSY'))}
-        if 'DRDY' in self.lines:
-            self.words['D_n'] = inverted('D_n', self.chance.getrandbits(64))
-            if not self.keeps(17):
-                self.words['D_n'] = changed(self.chance, self.words['D_n'], 'x')
-
-    def digits(self):
-        """The digits of the lines of this clock. Words that nobody looks at may be anything, and a line that is let go z."""
-        def idle():
-            return 'z' if self.happens(self.noise / 3) else '1'
-        digits = {name: '0' if name[:-2] in self.lines else idle() for name in self.names}
-        digits['RS_n'] = ''.join('0' if line in self.lines else idle() for line in ('RS2', 'RS1', 'RS0'))
-        for name in WORDS:
-            nothing = ''.join(self.chance.choices('01xz', k=WIDTHS[name])) if self.happens(self.noise) else '1' * WIDTHS[name]
-            digits[name] = self.words.get(name, nothing)
-        if 'AP_n' in digits:
-            digits['AP_n'] = (self.parity(19, digits['A_n'][:12], idle) + self.parity(19, digits['A_n'][12:], idle))
-        if 'RP_n' in digits:
-            digits['RP_n'] = self.parity(20, digits['REQ_n'] + digits['ADS_n'], idle)
-        if not self.keeps(1):
-            change_a_line(self.chance, digits, 'x')
-        return digits
-
-    def parity(self, rule, group, idle):
-        """The digit of a parity line with this group. Where nobody looks at it, it may be anything that is known."""
-        if 'ADS' not in self.lines and not self.had('ADS', len(self.past) - 2):
-            return '0' if self.happens(self.noise) else idle()
-        is_asserted = (group.count('0') % 2 == 1) == self.keeps(rule)
-        return '0' if is_asserted else idle()
-
-
-def inverted(name, value):
-    return format(~value & (1 << WIDTHS[name]) - 1, f'0{WIDTHS[name]}b')
-
-
-def changed(chance, digits, to='01xz'):
-    """The digits with one of them replaced by another."""
-    place = chance.randrange(len(digits))
-    digit = chance.choice([digit for digit in to if digit != digits[place]] or digits[place])
-    return digits[:place] + digit + digits[place + 1:]
-
-
-def change_a_line(chance, digits, to='01xz'):
-    name = chance.choice([name for name in digits if name not in WORDS + ('BCLK',)])
-    digits[name] = changed(chance, digits[name], to)
-
-
-def random_samples(chance):
-    form = chance.randrange(8)
-    samples = Traffic(chance, chance.choice([*range(1, 21), 4, 7, 12, 18, 18, 18]) if form >= 4 else None).samples
-    begun = [c for c in range(3, len(samples)) if samples[c - 3]['ADS_n'] == '0']
-    if form == 1:
-        change_a_line(chance, chance.choice(samples), '0011xz')
-    elif form == 2 and begun:
-        digits = samples[chance.choice(begun)]
-        digits['AERR_n'] = '1' if digits['AERR_n'] == '0' else '0'
-    elif form == 3:
-        digits, name = chance.choice(samples), chance.choice(WORDS)
-        digits[name] = changed(chance, digits[name])
-    return samples
-
-
-def dump_text(chance, samples):
-    """A dump of the samples: as the program writes it, or in one of the ways of a simulator."""
-    is_plain = chance.random() < 0.4
-    names = list(samples[0])
-    codes = {name: chr(33 + number) for number, name in enumerate(WIDTHS)}
-    if not is_plain:
-        names = [name for name in names if name in NEEDED or name in ('AP_n', 'RP_n') or chance.random() < 0.5
-                 or any(s[name] in '0x' for s in samples)]
-        chance.shuffle(names)
-        codes = {name: code + chance.choice(('', 'a', '~!')) for name, code in codes.items()}
-
-    def value(name, digits):
-        while not is_plain and digits[1:] and digits[0] == (digits[1] if digits[1] in 'xz' else '0'):
-            digits = digits[1:]
-        return f'b{digits} {codes[name]}' if WIDTHS[name] > 1 else digits + codes[name]
-
-    def values(new, old=None):
-        return [value(name, new[name]) for name in names if name != 'BCLK' and (old is None or new[name] != old[name])]
-
-    clock = codes['BCLK']
-    text = ['$version p6bench 1 $end', '$timescale 1 ns $end', '$scope module fsb $end']
-    text += [f'$var wire {WIDTHS[name]} {codes[name]} {name} $end' for name in names]
-    if not is_plain:
-        text += ['$scope module inner $end', '$var reg 8 other other[7:0] $end', '$var wire 1 ads ADS_n $end $upscope $end']
-    text += ['$upscope $end', '$enddefinitions $end', '#0', '$dumpvars', f'0{clock}'] + values(samples[0]) + ['$end']
-    is_at_rise = not is_plain and chance.random() < 0.5
-    for c, sample in enumerate(samples):
-        changes = [] if c == 0 else values(sample, samples[c - 1])
-        if not is_plain and chance.random() < 0.1:
-            text += [f'#{10 * c}', '$comment 0 #7 $end', 'b1x0 other', '0ads']
-        text += [] if c == 0 else [f'#{10 * c}', f'0{clock}'] + ([] if is_at_rise else changes)
-        if not is_plain and not is_at_rise and chance.random() < 0.02:
-            text += [f'#{10 * c + 1}', '$dumpoff'] + [value(name, 'x' * WIDTHS[name]) for name in names] + ['$end']
-            text += [f'#{10 * c + 2}', '$dumpon', f'0{clock}'] + values(sample) + ['$end']
-        text += [f'#{10 * c + 5}', f'1{clock}'] + (values(samples[c + 1], sample) if is_at_rise and samples[c + 1:] else [])
-    return '\n'.join(text) + '\n'
+    def is_whole(self):
+        return self.differences == 0 and all(self.counts['run', answer] for answer in ANSWERS)
 
 
 def answer_of(program, path):
@@ -386,34 +106,18 @@ def answer_of(program, path):
 def main(words):
     program = built_program(words[0] if words else None)
     count, seed = int(words[1]) if words[1:] else 2000, int(words[2]) if words[2:] else 1
+    traffic, longest = int(words[3]) if words[3:] else count, int(words[4]) if words[4:] else 180
     sys.setrecursionlimit(100000)
-    told, clocks, differences = collections.Counter(), 0, 0
-    folder = tempfile.mkdtemp(prefix='second_trials.')
-    for path in sorted(glob.glob(os.path.join(TOP, 'crates/fsb_trials/data/*.vcd'))) + list(range(count)):
-        is_random = isinstance(path, int)
-        name = f'dump {path} of seed {seed}' if is_random else os.path.relpath(path, TOP)
-        if is_random:
-            chance = random.Random(f'{seed} {path}')
-            path = os.path.join(folder, f'{path}.vcd')
-            with open(path, 'w') as dump:
-                dump.write(dump_text(chance, random_samples(chance)))
-        with open(path, 'rb') as dump:
-            marks, samples = read_samples(dump.read())
-        second, first = verdict(marks, samples), answer_of(program, path)
-        if first != second:
-            differences += 1
-            print(f'{name}, {path}: the program says {first!r}, the second judge {second!r}', flush=True)
-        elif is_random:
-            os.remove(path)
-        if is_random:
-            clocks += len(samples)
-            told[second.split()[0 if second.startswith('accepted') else 2]] += 1
-    if not os.listdir(folder):
-        os.rmdir(folder)
-    for answer in ANSWERS:
-        print(f'{answer:10} {told[answer]}')
-    print(f'random dumps: {count}, clocks: {clocks}, differences: {differences}')
-    return int(differences > 0 or any(told[answer] == 0 for answer in ANSWERS))
+    trial = Trial(program, tempfile.mkdtemp(prefix='second_trials.'))
+    trial.worked()
+    for number in range(traffic):
+        trial.traffic(seed, number)
+    for number in range(0, count, DUMPS_OF_A_RUN):
+        trial.run(seed, number // DUMPS_OF_A_RUN, min(DUMPS_OF_A_RUN, count - number), longest)
+    if not os.listdir(trial.folder):
+        os.rmdir(trial.folder)
+    trial.table()
+    return int(not trial.is_whole())
 
 
 if __name__ == '__main__':
