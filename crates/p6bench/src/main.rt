@@ -77,6 +77,7 @@ fn run(rt: &(impl Files + Env + Print + AllocGlobal)) -> Status {
 // nothing of it is left.
 fn finished<D: Sink>(status: Status, dump: &mut Gather<D>) -> Status
     ensures others_stay { status ≢ Status.Done → result ≡ status }
+    ensures not_called { status ≢ Status.Done → dump.new ≡ dump.old }
     ensures done { result ≡ Status.Done → dump.new.gathered ≡ [] }
     ensures whole { IsTrue D.tells → result ≡ Status.Done →
         D.holds dump.new.sink ≡ D.holds dump.old.sink ++ dump.old.gathered }
