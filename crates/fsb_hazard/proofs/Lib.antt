@@ -1,4 +1,6 @@
 pub mod AskedObjects
+pub mod FoundEntries
+pub mod HeldClocks
 pub mod JoinLaws
 pub mod LoadedObjects
 pub mod WorkedSeeds

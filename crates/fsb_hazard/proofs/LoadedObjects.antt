@@ -8,13 +8,13 @@ use Rattle.fsb_hazard.specs.declared.line.HazardLine.{HazardLine}
 use Rattle.fsb_hazard.specs.Told.{Told, told_after}
 
 -- of a list of values, the one at its middle is changed
-set-middle : {A : Type 0} (all front back : List A) (value other : A) (i : ℕ)
+pub set-middle : {A : Type 0} (all front back : List A) (value other : A) (i : ℕ)
     → all ≡ front ++ value ∷ back → length front ≡ i → set all i other ≡ (front ++ other ∷ []) ++ back
 set-middle all front back value other i is long =
     ap (λ l. set l i other) is ∙ ap (λ j. set (front ++ value ∷ back) j other) (sym long)
     ∙ set-append_seam front value back other ∙ sym (append_assoc front (other ∷ []) back)
 
-get_or-middle : {A : Type 0} (all front back : List A) (value d : A) (i : ℕ)
+pub get_or-middle : {A : Type 0} (all front back : List A) (value d : A) (i : ℕ)
     → all ≡ front ++ value ∷ back → length front ≡ i → get_or all i d ≡ value
 get_or-middle all front back value d i is long =
     ap (λ l. get_or l i d) is ∙ ap (λ j. get_or (front ++ value ∷ back) j d) (sym long)

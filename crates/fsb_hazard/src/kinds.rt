@@ -3,18 +3,24 @@ ghost use Rattle.std.specs.Prelude.{◌≡◌, [], Some, true, false};
 ghost use Rattle.fsb_hazard.specs.Told.{by_lines, by_seed};
 
 use crate::choice::{Ask, Choice, quiet_choice};
-use crate::entry::entry_of;
+use crate::found::{Held, choices_of, chosen, held_by, held_choice};
 use crate::hazard::Hazard;
 use crate::line::HazardLine;
 use crate::seed::seed_entry;
 use fsb_io::Memory;
 use std::alloc::Global;
+use std::collections::BTreeMap;
 use std::marker::Model;
 
-/// Does what the hazard lines say that it loaded last. Contracts see these lines.
+/// Does what the hazard lines say that it loaded last. Contracts see these lines. An answer takes no look at each of
+/// them: what a request's lines choose is looked up, and whether a clock is held is found by a binary search.
 #[derive(Debug, Drop)]
 pub struct ScriptHazard {
     lines: Vec<HazardLine>,
+    /// What the lines of each request choose together.
+    choices: BTreeMap<u32, Choice>,
+    /// The clocks at which they assert BNR#, in order.
+    held: Vec<Held>,
 }
 
 impl Model for ScriptHazard {
@@ -23,7 +29,11 @@ impl Model for ScriptHazard {
 
     ghost Value = { List HazardLine };
 
+    ghost use Rattle.fsb_hazard.specs.Found.{Finds};
+
     ghost view = { λ hazard. hazard.lines.items };
+
+    ghost invariant = { λ hazard. Finds hazard.choices hazard.held.items hazard.lines.items };
 }
 
 impl ScriptHazard {
@@ -33,6 +43,8 @@ impl ScriptHazard {
     {
         ScriptHazard {
             lines: Vec::new(alloc),
+            choices: BTreeMap::new(alloc),
+            held: Vec::new(alloc),
         }
     }
 }
@@ -43,12 +55,20 @@ impl Hazard for ScriptHazard {
     ghost is_scripted = { λ _. true };
 
     fn load(&mut self, lines: &[HazardLine]) -> Result<(), Memory> {
-        self.lines = Vec::from_slice(*self.lines.allocator(), lines)?;
+        let alloc = *self.lines.allocator();
+        let choices = choices_of(alloc, lines)?;
+        let held = held_by(alloc, lines)?;
+        self.lines = Vec::from_slice(alloc, lines)?;
+        self.choices = choices;
+        self.held = held;
         Ok(())
     }
 
     fn choose(&mut self, ask: &Ask) -> Choice {
-        entry_of(&self.lines, ask)
+        match *ask {
+            Ask::Clock(clock) => held_choice(&self.held, clock),
+            Ask::Begun { number, .. } => chosen(&self.choices, number),
+        }
     }
 }
 

@@ -13,6 +13,7 @@ pub use seed::{next_state, seed_entry, seed_line};
 mod asking;
 mod choice;
 mod entry;
+mod found;
 mod hazard;
 mod kinds;
 mod line;
