@@ -1,9 +1,11 @@
-ghost use Rattle.std.specs.Prelude.{◌≡◌, ◌≢◌, ℕ, ◌<◌, ◌≤◌, ◌||◌, ◌==◌, IsTrue, IfOk, OnOk, OnErr, length, take};
+ghost use Rattle.std.specs.Prelude.{◌≡◌, ◌≢◌, ℕ, ◌+◌, ◌^◌, ◌<◌, ◌≤◌, ◌||◌, ◌==◌, IsTrue, IfOk, OnOk, OnErr, length, take};
 ghost use Rattle.std.specs.List.{list_any};
+ghost use Rattle.fsb_script.specs.Statements.{settings_at};
 ghost use Rattle.fsb_memory.specs.Controller.{is_mapped, line_in, start_bytes, is_in_line, is_line_named, set_bytes};
 
-use fsb_access::{LINE_BYTES, Setting};
+use fsb_access::LINE_BYTES;
 use fsb_io::Memory;
+use fsb_script::Settings;
 use indexmap::IndexMap;
 use std::alloc::Global;
 use std::marker::Model;
@@ -25,7 +27,7 @@ impl Model for Controller {
 impl Controller {
     /// The memory that the settings make: later settings win, and all other bytes are 0. A line is named by a setting of
     /// one of its bytes, or in `lines`.
-    pub fn new(alloc: Global, sets: &[Setting], lines: &[u64]) -> Result<Controller, Memory>
+    pub fn new(alloc: Global, sets: &Settings, lines: &[u64]) -> Result<Controller, Memory>
         ensures bytes { IfOk result (λ controller.
             (line : ℕ) → line_in controller line ≡ start_bytes sets.now line) }
         ensures named { IfOk result (λ controller.
@@ -61,7 +63,7 @@ impl Controller {
     }
 
     /// The memory that the settings make, with the lines that they name.
-    fn of_settings(alloc: Global, sets: &[Setting]) -> Result<Controller, Memory>
+    fn of_settings(alloc: Global, sets: &Settings) -> Result<Controller, Memory>
         ensures bytes { IfOk result (λ controller.
             (line : ℕ) → line_in controller line ≡ start_bytes sets.now line) }
         ensures named { IfOk result (λ controller.
@@ -70,34 +72,54 @@ impl Controller {
         let mut controller = Controller {
             lines: IndexMap::new(alloc),
         };
-        let mut done = 0;
-        while done < sets.len() {
-            done += controller.set(&sets[done..])?;
+        let mut runs = sets.runs();
+        while let Some((addr, bytes)) = runs.next() {
+            controller.set_run(addr, bytes)?;
         }
         Ok(controller)
     }
 
-    /// Puts the first settings, those up to the first one of another line, and answers how many they are. The line is
+    /// Puts the bytes of a run, whose first one is at this address.
+    fn set_run(&mut self, addr: u64, bytes: &[u8]) -> Result<(), Memory>
+        requires { addr + length bytes.now ≤ 2 ^ 64 }
+        ensures bytes { OnOk result (
+            (line : ℕ) → line_in self.new line
+            ≡ set_bytes line (line_in self.old line) (settings_at addr bytes.now)) }
+        ensures named { OnOk result (
+            (line : ℕ) → is_mapped self.new line
+            ≡ (list_any (is_in_line line) (settings_at addr bytes.now)
+            || is_mapped self.old line)) }
+    {
+        let mut done = 0;
+        while done < bytes.len() {
+            done += self.set(addr + done as u64, &bytes[done..])?;
+        }
+        Ok(())
+    }
+
+    /// Puts the first bytes, those up to the end of the first one's line, and answers how many they are. The line is
     /// looked up once for all of them.
-    fn set(&mut self, sets: &[Setting]) -> Result<usize, Memory>
-        requires { 0 < length sets.now }
+    fn set(&mut self, addr: u64, bytes: &[u8]) -> Result<usize, Memory>
+        requires any { 0 < length bytes.now }
+        requires below { addr + length bytes.now ≤ 2 ^ 64 }
         ensures some { IfOk result (λ count. 0 < count) }
-        ensures within { IfOk result (λ count. count ≤ length sets.now) }
+        ensures within { IfOk result (λ count. count ≤ length bytes.now) }
         ensures bytes { IfOk result (λ count.
             (line : ℕ) → line_in self.new line
-            ≡ set_bytes line (line_in self.old line) (take count sets.now)) }
+            ≡ set_bytes line (line_in self.old line) (take count (settings_at addr bytes.now))) }
         ensures named { IfOk result (λ count.
             (line : ℕ) → is_mapped self.new line
-            ≡ (list_any (is_in_line line) (take count sets.now) || is_mapped self.old line)) }
+            ≡ (list_any (is_in_line line) (take count (settings_at addr bytes.now))
+            || is_mapped self.old line)) }
     {
-        let line = sets[0].addr / LINE_BYTES;
-        let mut bytes = self.line(line);
+        let line = addr / LINE_BYTES;
+        let mut kept = self.line(line);
         let mut count = 0;
-        while count < sets.len() && sets[count].addr / LINE_BYTES == line {
-            bytes[(sets[count].addr % LINE_BYTES) as usize] = sets[count].byte;
+        while count < bytes.len() && (addr + count as u64) / LINE_BYTES == line {
+            kept[((addr + count as u64) % LINE_BYTES) as usize] = bytes[count];
             count += 1;
         }
-        self.keep(line, bytes)?;
+        self.keep(line, kept)?;
         Ok(count)
     }
 

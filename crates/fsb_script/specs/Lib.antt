@@ -9,3 +9,4 @@ pub mod View
 pub mod DraftKept
 pub mod Text
 pub mod Made
+pub mod Runs

@@ -6,6 +6,7 @@ use table::{BAD, GOOD};
 
 mod forms;
 mod made;
+mod settings;
 mod table;
 
 /// What stands before the text of a row.
