@@ -1,6 +1,7 @@
 pub mod Samples
 pub mod Numbers
 pub mod Bits
+pub mod Known
 pub mod Widths
 pub mod CodeKeys
 pub mod CodeTables
@@ -12,6 +13,7 @@ pub mod Readings
 pub mod LaneRuns
 pub mod Absorbing
 pub mod BinaryDigits
+pub mod Ones
 pub mod DirectTokens
 pub mod DirectVectors
 pub mod Law

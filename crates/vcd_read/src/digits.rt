@@ -15,6 +15,14 @@ pub(crate) fn is_white(byte: u8) -> bool
     byte <= b' ' && (byte == b' ' || 9 <= byte && byte <= 13)
 }
 
+/// Whether a byte divides tokens, where it mostly does: a line feed and a space are looked for first.
+#[inline(always)]
+pub(crate) fn is_gap(byte: u8) -> bool
+    ensures { result ≡ is_white byte }
+{
+    byte == b'\n' || byte == b' ' || is_white(byte)
+}
+
 /// Whether a word is too long for a token.
 pub(crate) fn is_long(word: &[u8]) -> bool
     ensures { result ≡ is_long word.now }

@@ -11,7 +11,7 @@ ghost use Rattle.vcd_read.specs.Taking.{pushed};
 ghost use Rattle.vcd_read.specs.Scanning.{reading, after_bytes, samples_in_bytes, is_dark, Fits};
 ghost use Rattle.vcd_read.specs.Direct.{AwaitsToken, BeginsWithScalar, BeginsWithStamp, BeginsWithVector};
 
-use crate::digits::{is_value_digit, is_white, number_before};
+use crate::digits::{is_gap, is_value_digit, is_white, number_before};
 use crate::lanes::binary_before;
 use crate::levels::{level_of_binary, width_at};
 use crate::scan::Scan;
@@ -54,7 +54,7 @@ impl Scan {
     {
         match bytes {
             [digit, code, white, ..] => {
-                if !is_value_digit(*digit) || is_white(*code) || !is_white(*white) {
+                if !is_value_digit(*digit) || is_white(*code) || !is_gap(*white) {
                     return None;
                 }
                 match self.machine.codes.single(&[*code]) {
@@ -96,11 +96,7 @@ impl Scan {
         }
         let (count, zeros) = binary_before(&bytes[1..]);
         let code = bytes[count + 2];
-        if count == 0
-            || !is_white(bytes[count + 1])
-            || is_white(code)
-            || !is_white(bytes[count + 3])
-        {
+        if count == 0 || !is_gap(bytes[count + 1]) || is_white(code) || !is_gap(bytes[count + 3]) {
             return None;
         }
         let number = self.machine.codes.single(&[code])?;
@@ -169,7 +165,7 @@ pub(crate) fn stamp_in(bytes: &[u8]) -> Option<(usize, u64)>
         return None;
     }
     let (len, time) = number_before(&bytes[1..20])?;
-    if len == 0 || !is_white(bytes[len + 1]) {
+    if len == 0 || !is_gap(bytes[len + 1]) {
         return None;
     }
     Some((len + 1, time))

@@ -34,10 +34,10 @@ fn ones(count: usize) -> u64
     requires { count ≤ 64 }
     ensures { result ≡ 2 ^ count - 1 }
 {
-    if count < 64 {
-        (1u64 << count) - 1
+    if count == 0 {
+        0
     } else {
-        u64::MAX
+        u64::MAX >> (64 - count)
     }
 }
 
@@ -202,8 +202,34 @@ fn asserted_lines(levels: &[Level; 22]) -> u32
     (requests + rest + parity) as u32
 }
 
-/// The control lines that are unknown.
-fn unknown_lines(levels: &[Level; 22]) -> u32
+/// Whether no control line is unknown; where one is, the answer is false.
+fn are_lines_known(levels: &[Level; 22]) -> bool
+    ensures { result ≡ true → control_of (unknown_at levels.now) ≡ 0 }
+{
+    let requests = unknown_at(levels, 1)
+        | unknown_at(levels, 2)
+        | unknown_at(levels, 3)
+        | unknown_at(levels, 4)
+        | unknown_at(levels, 5)
+        | unknown_at(levels, 6)
+        | unknown_at(levels, 7)
+        | unknown_at(levels, 8);
+    let rest = unknown_at(levels, 11)
+        | unknown_at(levels, 12)
+        | unknown_at(levels, 13)
+        | unknown_at(levels, 14)
+        | unknown_at(levels, 15)
+        | unknown_at(levels, 16)
+        | unknown_at(levels, 17)
+        | unknown_at(levels, 18);
+    let parity = unknown_at(levels, 20) | unknown_at(levels, 21);
+    requests | rest | parity == 0
+}
+
+/// The control lines that are unknown, line by line.
+#[cold]
+#[inline(never)]
+fn each_unknown_line(levels: &[Level; 22]) -> u32
     ensures { result ≡ control_of (unknown_at levels.now) }
 {
     let requests = unknown_at(levels, 1) % 2
@@ -226,6 +252,17 @@ fn unknown_lines(levels: &[Level; 22]) -> u32
     (requests + rest + parity) as u32
 }
 
+/// The control lines that are unknown: mostly none is.
+fn unknown_lines(levels: &[Level; 22]) -> u32
+    ensures { result ≡ control_of (unknown_at levels.now) }
+{
+    if are_lines_known(levels) {
+        0
+    } else {
+        each_unknown_line(levels)
+    }
+}
+
 /// A word of the bus, from what is asserted and what is unknown.
 fn word_of(asserted: u64, unknown: u64) -> Word
     ensures { result ≡ word_of asserted unknown }
@@ -237,11 +274,12 @@ fn word_of(asserted: u64, unknown: u64) -> Word
 }
 
 /// The sample of what the signals have.
+#[inline(always)]
 fn sample_at(levels: &[Level; 22]) -> Sample
     ensures { result ≡ sample_at levels.now }
 {
-    let asserted = asserted_lines(levels);
     let unknown = unknown_lines(levels);
+    let asserted = asserted_lines(levels);
     let req = word_of(
         asserted_at(levels, 9) % (1 << 5),
         unknown_at(levels, 9) % (1 << 5),
@@ -330,6 +368,7 @@ impl Values {
     }
 
     /// The sample of the values.
+    #[inline(always)]
     pub(crate) fn sample(&self) -> Sample
         ensures { result ≡ sample_at self.now.levels }
     {

@@ -24,6 +24,4 @@ mod open_block;
 mod reader;
 mod scan;
 mod stop;
-#[cfg(test)]
-mod tests;
 mod words;

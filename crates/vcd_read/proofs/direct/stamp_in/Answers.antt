@@ -13,4 +13,4 @@ returns c =
     (omega (arith, c.if-bytes-ne35.false))
     (number_longer 19 (drop 1 bytes) found.len found.time found.ensures) c.if-len-eq0.false
     (subst (λ b. is_white b ≡ true) (sym (get_or-drop 1 bytes found.len 0 ∙ ap (λ n. get_or bytes n 0) next))
-    (sym c.is_white.ensures ∙ c.if-not-is_white.false))
+    (sym c.is_gap.ensures ∙ c.if-not-is_gap.false))

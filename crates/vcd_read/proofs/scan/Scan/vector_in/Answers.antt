@@ -28,8 +28,8 @@ returns c =
     vector_begins c.args.self.now.machine.codes bytes found.result.0 found.result.1 _ c.in_ok-number.number
     c.level_of_binary-level.result (omega (arith, c.if-bytes-lt68.false)) (omega (arith, c.if-bytes-ne98.false))
     (subst (λ text. BeginsWithBinary text found.result.0 found.result.1) rest found.ensures) c.if-count-eq0.false
-    (sym c.is_white.ensures ∙ c.if-not-is_white.false) refl (sym c.is_white-else-not-is_white.ensures
-    ∙ c.if-is_white.false) (sym c.is_white-else-is_white.ensures ∙ c.if-not-is_white-2.false)
+    (sym c.is_gap.ensures ∙ c.if-not-is_gap.false) refl (sym c.is_white.ensures
+    ∙ c.if-is_white.false) (sym c.is_gap-else-is_white.ensures ∙ c.if-not-is_gap-2.false)
     c.in_ok-number.ensures c.if-number-eq0.false (omega (arith, c.if-number-ge22.false))
     (omega (arith, c.width_at-width.ensures.width, c.if-width-count.false))
     (λ digits long binary value. c.level_of_binary-level.ensures digits long binary value
