@@ -126,7 +126,7 @@ new_follows k n =
                 let l = response_counted [] i d.0 d.1 in let z = response_count-empty in omega arith);
           };
       clock = n.clock;
-      recent = record { first = n.first; second = n.second; third = n.third; words = n.words };
+      recent = record { first = n.first; second = n.second; third = n.third; words = λ t. n.words };
       arbiter = n.arbiter;
       beginner = n.beginner;
       queue = new_queue k n;
@@ -149,7 +149,7 @@ pub record Absorbed (k : Checker) (n : ℕ) (h : Trace) (x : Sample) (b : Option
   pub first : new.recent.first ≡ Some x.lines
   pub second : new.recent.second ≡ k.recent.first
   pub third : new.recent.third ≡ k.recent.second
-  pub words : new.recent.words ≡ known_pair x
+  pub words : has_line x ADS ≡ true → new.recent.words ≡ known_pair x
   pub arbiter : ArbiterStands new.arbiter (h ++ x ∷ [])
   pub beginner : new.beginner ≡ winner
   pub queue : QueueGoes k.queue n x b new.queue
@@ -198,14 +198,15 @@ newly_no_reply v n i e t f next =
     (code_fits v n i f next (responds_there v i n e) (no_failure v i (response_code_at v n) told))
 
 recent_goes : {k : Checker} {h : Trace} (x : Sample) (r : Recent) → Follows k h → r.first ≡ Some x.lines
-    → r.second ≡ k.recent.first → r.third ≡ k.recent.second → r.words ≡ known_pair x → RecentStands r (h ++ x ∷ [])
+    → r.second ≡ k.recent.first → r.third ≡ k.recent.second → (has_line x ADS ≡ true → r.words ≡ known_pair x)
+    → RecentStands r (h ++ x ∷ [])
 recent_goes {k} {h} x r f a b c d =
     let m = one_more h x in
     record {
       first = a ∙ sym (lines_back-first h x (h ++ x ∷ []) m);
       second = b ∙ f.recent.first ∙ sym (lines_back-next h x (h ++ x ∷ []) 1 m (omega arith));
       third = c ∙ f.recent.second ∙ sym (lines_back-next h x (h ++ x ∷ []) 2 m (omega arith));
-      words = d ∙ sym (words_back-new h x (h ++ x ∷ []) m);
+      words = λ t. d (sym (new_back h x (h ++ x ∷ []) m) ∙ t) ∙ sym (words_back-new h x (h ++ x ∷ []) m);
     }
 
 beginner_goes : (h : Trace) (x : Sample) (v : Trace) → OneMore h x v

@@ -1,6 +1,8 @@
 pub mod QuietClocks
 pub mod StillClocks
 pub mod Room
+pub mod ChunksLeft
+pub mod RequestLines
 pub mod Stretches
 pub mod Lines
 pub mod StartRules

@@ -129,7 +129,7 @@ module _ {k : Checker} {h : Trace} (f : Follows k h) where
     unfolding begun_by
     begun_cases true t =
         rw (first_back ADS, t)
-        (ap (option_map (live_from (length h - 1))) (ap (λ w. request_by w x) f.recent.words
+        (ap (option_map (live_from (length h - 1))) (ap (λ w. request_by w x) (f.recent.words t)
         ∙ request_by-new h x v m (line_back-some h t)))
     begun_cases false t = rw (first_back ADS, t) refl
 

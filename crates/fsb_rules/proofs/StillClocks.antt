@@ -2,7 +2,7 @@
 -- nothing.
 use Rattle.std.proofs.Common.{ℕ, ◌≡◌, Bool, true, false, cond, ◌&&◌, ◌||◌, Option, Some, None, is_some, slice_get, refl}
 use Rattle.std.specs.Option.{option_and_then}
-use Rattle.std.proofs.lemmas.Bool.{and_parts, and_right, not-true}
+use Rattle.std.proofs.lemmas.Bool.{and_parts, and_right, or_parts, not-true}
 use Rattle.std.proofs.lemmas.List.{append-nil}
 use Rattle.fsb_count.specs.Options.{is_some_and}
 use Rattle.fsb_count.proofs.Interface.{is_none-none}
@@ -73,11 +73,16 @@ fits true c = refl
 fits false true = refl
 fits false false = refl
 
-not_unfit : (a : LiveRequest) (x : Sample) → Stillness x → is_unfit_by a x ≡ false
+pub not_unfit : (a : LiveRequest) (x : Sample) → (has_line x HIT || has_line x HITM || has_line x DEFER) ≡ false
+    → is_unfit_by a x ≡ false
 unfolding is_unfit_by
-not_unfit a x s = rw (s.hit, s.hitm, s.defer) (fits a.is_write_back a.is_reply)
+not_unfit a x s =
+    let p = or_parts (has_line x HIT || has_line x HITM) (has_line x DEFER) s in
+    let q = or_parts (has_line x HIT) (has_line x HITM) p.0 in
+    rw (q.0, q.1, p.1) (fits a.is_write_back a.is_reply)
 
-no_unfit : (q : InFlight) (n : ℕ) (x : Sample) (o : Option LiveRequest) → Stillness x
+no_unfit : (q : InFlight) (n : ℕ) (x : Sample) (o : Option LiveRequest)
+    → (has_line x HIT || has_line x HITM || has_line x DEFER) ≡ false
     → is_some_and o (λ a. ends_snoop_by q n x && is_unfit_by a x) ≡ false
 unfolding is_some_and
 no_unfit q n x None s = refl
@@ -99,7 +104,7 @@ later_parts k n x b s e f =
       s.hit,
       s.hitm,
       s.defer,
-      no_unfit k.queue n x (slice_get k.queue.asking.items 0) s,
+      no_unfit k.queue n x (slice_get k.queue.asking.items 0) (rw (s.hit, s.hitm, s.defer) refl),
       silent x s,
       not_sound x s,
       no_target k n x s,

@@ -2,13 +2,15 @@
 use Rattle.std.specs.Prelude.{ℕ, ◌-◌, ◌/◌, Bool, ◌&&◌, ◌||◌, not, nat_lt, nat_le, is_some, is_none, slice_get, if◌then◌else◌, Option, Some, None}
 use Rattle.std.specs.Option.{option_map}
 use Rattle.fsb_count.specs.Options.{is_some_and}
-use Rattle.fsb_signal.specs.declared.lines.TheConstants.Lines.{ADS, AERR, HIT, HITM, DEFER, TRDY, DBSY, DRDY, BNR, LOCK}
+use Rattle.fsb_signal.specs.declared.lines.TheConstants.Lines.{ADS, AERR, HIT, HITM, DEFER, TRDY, DBSY, DRDY, BNR, LOCK, BREQ0, BREQ1, BREQ2, BREQ3, BPRI}
+use Rattle.fsb_signal.specs.declared.lines.Lines.{Lines}
 use Rattle.fsb_signal.specs.declared.sample.Sample.{Sample}
 use Rattle.fsb_signal.specs.Parity.{is_address_odd, is_request_odd}
 use Rattle.fsb_signal.specs.Samples.{has_line, has_known_lines, is_known_word, response_of}
 use Rattle.fsb_trace.specs.declared.who.Who.{Who}
 use Rattle.fsb_trace.specs.declared.who.Who.TheVariants.{Symmetric, Priority}
 use Rattle.fsb_trace.specs.Winner.{is_agent, is_same_agent, request_line_of}
+use Rattle.fsb_arbiter.specs.Order.{is_in}
 use Rattle.fsb_laws.specs.OneMore.{responds}
 use Rattle.fsb_rules.specs.declared.live.LiveRequest.{LiveRequest}
 use Rattle.fsb_rules.specs.declared.checker.Checker.{Checker}
@@ -47,6 +49,24 @@ unfoldable pub is_some_asked_wrongly_by : Checker → Sample → Bool
 is_some_asked_wrongly_by k x =
     is_asked_wrongly_by k x (Symmetric 0) || is_asked_wrongly_by k x (Symmetric 1) || is_asked_wrongly_by k x (Symmetric 2)
     || is_asked_wrongly_by k x (Symmetric 3) || is_asked_wrongly_by k x Priority
+
+-- one of the five request lines is among the lines
+unfoldable pub has_request_line_by : Lines → Bool
+has_request_line_by lines = is_in lines BREQ0 || is_in lines BREQ1 || is_in lines BREQ2 || is_in lines BREQ3 || is_in lines BPRI
+
+-- the line is among the lines of a clock, and not among those of the next
+unfoldable pub is_dropped_by : Lines → Lines → Lines → Bool
+is_dropped_by was now line = is_in was line && not (is_in now line)
+
+-- one of the five request lines is
+unfoldable pub is_some_dropped_by : Lines → Lines → Bool
+is_some_dropped_by was now =
+    is_dropped_by was now BREQ0 || is_dropped_by was now BREQ1 || is_dropped_by was now BREQ2
+    || is_dropped_by was now BREQ3 || is_dropped_by was now BPRI
+
+-- the same, where there is a clock before
+unfoldable pub is_some_dropped_after_by : Option Lines → Lines → Bool
+is_some_dropped_after_by was now = is_some_and was (λ lines. is_some_dropped_by lines now)
 
 -- 9 lock begins with a request
 unfoldable pub is_lock_alone_by : Checker → Sample → Bool

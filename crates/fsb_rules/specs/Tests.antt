@@ -1,6 +1,6 @@
 -- The rules' tests of one clock, over what is kept and the sample.
 use Rattle.std.specs.Prelude.{ℕ, ◌+◌, ◌-◌, Bool, false, ◌&&◌, ◌||◌, not, nat_eq, nat_le, nat_lt, is_some, is_none, max, take, drop, List, ◌++◌, length, slice_get, if◌then◌else◌, Option, Some, None}
-use Rattle.std.specs.Option.{option_and_then, option_to_list}
+use Rattle.std.specs.Option.{option_and_then, option_map, option_to_list}
 use Rattle.fsb_count.specs.Options.{is_some_and}
 use Rattle.fsb_signal.specs.declared.lines.Lines.{Lines}
 use Rattle.fsb_signal.specs.declared.lines.TheConstants.Lines.{HIT, HITM, DEFER, TRDY, DRDY}
@@ -94,6 +94,11 @@ is_ready_wrongly_by q n = not (is_some_and (next_by q n) takes_by) || is_some q.
 unfoldable pub is_ready_late_by : InFlight → ℕ → Bool
 is_ready_late_by q n = not (is_some_and q.ready (λ y. nat_le (y + 2) n))
 
+-- the request whose data are on the way from a response with this code on
+unfoldable pub moving_from_by : InFlight → ℕ → ℕ → Option Moving
+moving_from_by q n code =
+    option_and_then (λ s. if does_move (told_of s code) then Some (record { request = s.request; chunks = 0 }) else None) (next_by q n)
+
 -- the request whose data are on the way, also if its response is the sample
 unfoldable pub moving_by : InFlight → ℕ → Sample → Option Moving
 moving_by q n x =
@@ -110,6 +115,14 @@ moved_by m x =
 -- the request whose data are on the way after the sample
 unfoldable pub after_chunk : Option Moving → Sample → Option Moving
 after_chunk moving x = option_and_then (λ m. moved_by m x) moving
+
+-- how many of its chunks came
+unfoldable pub chunks_by : InFlight → ℕ → Sample → Option ℕ
+chunks_by q n x = option_map (λ m. m.chunks) (moving_by q n x)
+
+-- where so many chunks came, data go on after the sample
+unfoldable pub goes_on_by : Option ℕ → Sample → Bool
+goes_on_by chunks x = is_some_and chunks (λ count. nat_lt (count + (if has_line x DRDY then 1 else 0)) 4)
 
 -- the request that ends with its response
 unfoldable pub ended_at_once : Snooped → ℕ → Option Ended

@@ -13,7 +13,7 @@ ghost use Rattle.fsb_arbiter.specs.Arbiter.{Stands as ArbiterStands};
 ghost use Rattle.fsb_laws.specs.OneMore.{responds};
 ghost use Rattle.fsb_rules.specs.Tests.{queue_len, snooped_by, asking_after, waiting_after, after_chunk, moving_by, ready_after_by};
 ghost use Rattle.fsb_rules.specs.OpenTests.{open_after, open_begun};
-ghost use Rattle.fsb_rules.specs.LeastRule.{begun_by, is_too_soon_by, is_identified_by, is_identity_wrong_by, is_asked_wrongly_by, is_some_asked_wrongly_by, is_lock_alone_by, is_snoop_line_alone_by, is_begun_wrongly_by, has_parity_by, is_address_wrong_by, is_request_wrong_by, parity_broken, later_broken, first_broken, happened_by};
+ghost use Rattle.fsb_rules.specs.LeastRule.{begun_by, is_too_soon_by, is_identified_by, is_identity_wrong_by, is_asked_wrongly_by, is_some_asked_wrongly_by, is_lock_alone_by, is_snoop_line_alone_by, is_begun_wrongly_by, has_parity_by, is_address_wrong_by, is_request_wrong_by, parity_broken, later_broken, first_broken, happened_by, is_some_dropped_by, is_some_dropped_after_by, has_request_line_by};
 ghost use Rattle.fsb_trace.specs.Winner.{is_agent, is_same_agent, request_line_of, winner_at};
 ghost use Rattle.fsb_trace.specs.Response.{data_clock_of};
 ghost use Rattle.fsb_rules.specs.Checker.{Stands, as_broken};
@@ -25,6 +25,7 @@ use crate::in_flight::InFlight;
 use crate::live::{LiveRequest, live_of};
 use crate::outstanding::{Happened, Outstanding};
 use crate::recent::Recent;
+use bitflags::Flags;
 use fsb_arbiter::Arbiter;
 use fsb_signal::{Lines, Marks, Sample};
 use fsb_trace::Who;
@@ -81,6 +82,37 @@ fn is_own_agent(agent: Option<Who>, number: u8) -> bool
     }
 }
 
+/// Whether one of the five request lines is among the lines.
+#[tactic(auto, unfolding(crate::specs::LeastRule::has_request_line_by))]
+fn has_request_line(lines: Lines) -> bool
+    ensures { result ≡ has_request_line_by lines }
+{
+    lines.contains(Lines::BREQ0)
+        || lines.contains(Lines::BREQ1)
+        || lines.contains(Lines::BREQ2)
+        || lines.contains(Lines::BREQ3)
+        || lines.contains(Lines::BPRI)
+}
+
+/// Whether one of the five request lines is among the lines of a clock, and not among those of the next.
+#[tactic(auto, using(crate::proofs::RequestLines::gone_lines))]
+fn is_some_dropped(was: Lines, now: Lines) -> bool
+    ensures { result ≡ is_some_dropped_by was now }
+{
+    has_request_line(Lines(was.0 & !now.0))
+}
+
+/// The same, where there is a clock before.
+#[tactic(auto, unfolding(crate::specs::LeastRule::is_some_dropped_after_by, fsb_count::specs::Options::is_some_and))]
+fn is_some_dropped_after(was: Option<Lines>, now: Lines) -> bool
+    ensures { result ≡ is_some_dropped_after_by was now }
+{
+    match was {
+        Some(was) => is_some_dropped(was, now),
+        None => false,
+    }
+}
+
 impl Checker {
     /// The checker before the first sample of a dump with these marks.
     pub fn new(marks: Marks) -> Checker
@@ -111,9 +143,9 @@ impl Checker {
             let clock = self.clock as u32;
             let begun = self.begun(clock, sample);
             let winner = self.winner_of(sample);
-            match self.first_broken(clock, sample, begun, winner) {
+            match self.first_broken(clock, sample, &begun, winner) {
                 Some(rule) => self.found = Some(Broken { clock, rule }),
-                None => self.absorb(clock, sample, begun, winner),
+                None => self.absorb(clock, sample, &begun, winner),
             }
         }
         self.found
@@ -166,10 +198,10 @@ impl Checker {
         &self,
         clock: u32,
         sample: &Sample,
-        begun: Option<LiveRequest>,
+        begun: &Option<LiveRequest>,
         winner: Option<Who>,
     ) -> Option<u8>
-        ensures { result ≡ first_broken self.now clock sample.now begun winner }
+        ensures { result ≡ first_broken self.now clock sample.now begun.now winner }
     {
         let begins = sample.has(Lines::ADS);
         if !sample.has_known_lines() {
@@ -199,8 +231,8 @@ impl Checker {
 
     /// The least of the rules from 11 on that is broken with this sample; at most clocks it can be a parity rule alone.
     #[tactic(auto, using(crate::proofs::StillClocks::quiet_later))]
-    fn later_broken(&self, clock: u32, sample: &Sample, begun: Option<LiveRequest>) -> Option<u8>
-        ensures { result ≡ later_broken self.now clock sample.now begun }
+    fn later_broken(&self, clock: u32, sample: &Sample, begun: &Option<LiveRequest>) -> Option<u8>
+        ensures { result ≡ later_broken self.now clock sample.now begun.now }
     {
         if self.queue.is_quiet(sample, begun) {
             self.parity_broken(sample)
@@ -211,8 +243,8 @@ impl Checker {
 
     /// The least of the rules from 11 on that is broken with a sample in which anything may happen.
     #[tactic(auto, unfolding(crate::specs::LeastRule::later_broken, crate::specs::LeastRule::is_result_unfit_by, crate::specs::LeastRule::is_code_wrong_by, crate::specs::LeastRule::is_target_ready_wrong_by, crate::specs::LeastRule::is_data_wrong_by))]
-    fn busy_broken(&self, clock: u32, sample: &Sample, begun: Option<LiveRequest>) -> Option<u8>
-        ensures { result ≡ later_broken self.now clock sample.now begun }
+    fn busy_broken(&self, clock: u32, sample: &Sample, begun: &Option<LiveRequest>) -> Option<u8>
+        ensures { result ≡ later_broken self.now clock sample.now begun.now }
     {
         if self.is_snoop_line_alone(clock, sample) {
             Some(11)
@@ -260,11 +292,11 @@ impl Checker {
 
     /// Rule 7, request identity.
     #[tactic(auto, unfolding(crate::specs::LeastRule::is_identity_wrong_by, fsb_count::specs::Options::is_some_and))]
-    fn is_identity_wrong(&self, begun: Option<LiveRequest>) -> bool
-        ensures { result ≡ is_identity_wrong_by self.now begun }
+    fn is_identity_wrong(&self, begun: &Option<LiveRequest>) -> bool
+        ensures { result ≡ is_identity_wrong_by self.now begun.now }
     {
         match begun {
-            Some(request) => !is_identified(self.beginner, &request),
+            Some(request) => !is_identified(self.beginner, request),
             None => false,
         }
     }
@@ -282,9 +314,21 @@ impl Checker {
         }
     }
 
-    /// Rule 8, request lines held and released.
-    #[tactic(auto, unfolding(crate::specs::LeastRule::is_some_asked_wrongly_by, fsb_trace::specs::Winner::request_line_of, fsb_trace::specs::Winner::bus_request_of))]
+    /// Rule 8, request lines held and released; where no request began they are to be held.
+    #[tactic(auto, using(crate::proofs::RequestLines::none_begun))]
     fn is_some_asked_wrongly(&self, sample: &Sample) -> bool
+        ensures { result ≡ is_some_asked_wrongly_by self.now sample.now }
+    {
+        if self.beginner.is_none() {
+            is_some_dropped_after(self.recent.first(), sample.lines)
+        } else {
+            self.is_some_line_wrong(sample)
+        }
+    }
+
+    /// Whether one of the request lines is not held until its request begins, or not released then.
+    #[tactic(auto, unfolding(crate::specs::LeastRule::is_some_asked_wrongly_by, fsb_trace::specs::Winner::request_line_of, fsb_trace::specs::Winner::bus_request_of))]
+    fn is_some_line_wrong(&self, sample: &Sample) -> bool
         ensures { result ≡ is_some_asked_wrongly_by self.now sample.now }
     {
         self.is_asked_wrongly(sample, Who::Symmetric(0), Lines::BREQ0)
@@ -313,11 +357,11 @@ impl Checker {
 
     /// Rule 18, deferred IDs and outstanding requests.
     #[tactic(auto, unfolding(crate::specs::LeastRule::is_begun_wrongly_by, fsb_count::specs::Options::is_some_and))]
-    fn is_begun_wrongly(&self, begun: Option<LiveRequest>) -> bool
-        ensures { result ≡ is_begun_wrongly_by self.now begun }
+    fn is_begun_wrongly(&self, begun: &Option<LiveRequest>) -> bool
+        ensures { result ≡ is_begun_wrongly_by self.now begun.now }
     {
         match begun {
-            Some(request) => self.outstanding.is_begun_wrongly(&request),
+            Some(request) => self.outstanding.is_begun_wrongly(request),
             None => false,
         }
     }
@@ -363,8 +407,8 @@ impl Checker {
 
     /// What happens with this sample.
     #[tactic(auto, unfolding(crate::specs::LeastRule::happened_by))]
-    fn happened(&self, clock: u32, sample: &Sample, begun: Option<LiveRequest>) -> Happened
-        ensures { result ≡ happened_by self.now clock sample.now begun }
+    fn happened(&self, clock: u32, sample: &Sample, begun: &Option<LiveRequest>) -> Happened
+        ensures { result ≡ happened_by self.now clock sample.now begun.now }
     {
         Happened {
             clock,
@@ -374,7 +418,7 @@ impl Checker {
                 None
             },
             ended: self.queue.ended(clock, sample),
-            begun,
+            begun: *begun,
         }
     }
 
@@ -384,13 +428,13 @@ impl Checker {
         &mut self,
         clock: u32,
         sample: &Sample,
-        begun: Option<LiveRequest>,
+        begun: &Option<LiveRequest>,
         winner: Option<Who>,
     )
         requires few { queue_len self.old.queue ≤ 8 }
-        requires room { is_some begun ≡ true → queue_len self.old.queue < 8 }
-        requires open_room { is_some (option_and_then (λ a. open_begun a) begun) ≡ true →
-            length (filter_map (open_after (happened_by self.old clock sample.now begun))
+        requires room { is_some begun.now ≡ true → queue_len self.old.queue < 8 }
+        requires open_room { is_some (option_and_then (λ a. open_begun a) begun.now) ≡ true →
+            length (filter_map (open_after (happened_by self.old clock sample.now begun.now))
             self.old.outstanding.current.items) < 16 }
         ensures marks { self.new.marks ≡ self.old.marks }
         ensures found { self.new.found ≡ self.old.found }
@@ -398,13 +442,14 @@ impl Checker {
         ensures first { self.new.recent.first ≡ Some sample.now.lines }
         ensures second { self.new.recent.second ≡ self.old.recent.first }
         ensures third { self.new.recent.third ≡ self.old.recent.second }
-        ensures words { self.new.recent.words ≡ known_pair sample.now }
+        ensures words { has_line sample.now ADS ≡ true →
+            self.new.recent.words ≡ known_pair sample.now }
         ensures arbiter { (h : Trace) → ArbiterStands self.old.arbiter h →
             ArbiterStands self.new.arbiter (h ++ sample.now ∷ []) }
         ensures beginner { self.new.beginner ≡ winner }
         ensures asking { self.new.queue.asking.items
             ≡ asking_after self.old.queue.asking.items (has_line sample.now AERR)
-            (is_some (snooped_by self.old.queue clock sample.now)) begun }
+            (is_some (snooped_by self.old.queue clock sample.now)) begun.now }
         ensures waiting { self.new.queue.waiting.items
             ≡ waiting_after self.old.queue.waiting.items (responds sample.now)
             (snooped_by self.old.queue clock sample.now) }
@@ -415,9 +460,9 @@ impl Checker {
             then Some clock else self.old.queue.last_snoop) }
         ensures ready { self.new.queue.ready ≡ ready_after_by self.old.queue clock sample.now }
         ensures current { self.new.outstanding.current.items
-            ≡ filter_map (open_after (happened_by self.old clock sample.now begun))
+            ≡ filter_map (open_after (happened_by self.old clock sample.now begun.now))
             self.old.outstanding.current.items
-            ++ option_to_list (option_and_then (λ a. open_begun a) begun) }
+            ++ option_to_list (option_and_then (λ a. open_begun a) begun.now) }
         ensures before { self.new.outstanding.before.items
             ≡ (if has_line sample.now ADS then self.old.outstanding.current.items else
             self.old.outstanding.before.items) }

@@ -2,11 +2,11 @@
 
 ghost use Rattle.std.specs.Prelude.{◌≡◌, ◌+◌, ◌<◌, ◌≤◌, true, is_some, is_none, nat_le, [], length, slice_get, if◌then◌else◌, Some, None, ◌&&◌, not, ◌||◌};
 ghost use Rattle.fsb_count.specs.Options.{is_some_and};
-ghost use Rattle.fsb_signal.specs.declared.lines.TheConstants.Lines.{AERR, TRDY, DRDY, DBSY};
+ghost use Rattle.fsb_signal.specs.declared.lines.TheConstants.Lines.{AERR, TRDY, DRDY, DBSY, HIT, HITM, DEFER};
 ghost use Rattle.fsb_signal.specs.Samples.{has_line, response_of};
 ghost use Rattle.fsb_trace.specs.Outcome.{does_move, is_deferral};
 ghost use Rattle.fsb_laws.specs.OneMore.{responds, stalls};
-ghost use Rattle.fsb_rules.specs.Tests.{start_by, is_due_by, ends_snoop_by, is_unfit_by, next_by, queue_len, snooped_by, ready_after_by, asking_after, waiting_after, told_of, is_sound, is_ready_wrongly_by, is_ready_late_by, moving_by, after_chunk, ended_at_once, ended_with_chunk, ended_by, takes_by, is_code_by};
+ghost use Rattle.fsb_rules.specs.Tests.{start_by, is_due_by, ends_snoop_by, is_unfit_by, next_by, queue_len, snooped_by, ready_after_by, asking_after, waiting_after, told_of, is_sound, is_ready_wrongly_by, is_ready_late_by, moving_by, after_chunk, ended_at_once, ended_with_chunk, ended_by, takes_by, is_code_by, moving_from_by, chunks_by, goes_on_by};
 ghost use Rattle.fsb_rules.specs.Still.{is_still, is_quiet_by, stays_by};
 
 use crate::live::{Ended, LiveRequest, Moving, Snooped, after_chunk};
@@ -51,6 +51,14 @@ fn stalls(sample: &Sample) -> bool
     ensures { result ≡ stalls sample.now }
 {
     sample.has(Lines::HIT) && sample.has(Lines::HITM)
+}
+
+/// Whether a line is asserted that tells of a snoop.
+fn has_snoop_line(sample: &Sample) -> bool
+    ensures { result
+        ≡ (has_line sample.now HIT || has_line sample.now HITM || has_line sample.now DEFER) }
+{
+    sample.has(Lines::HIT) || sample.has(Lines::HITM) || sample.has(Lines::DEFER)
 }
 
 /// Whether no line is asserted that tells of a snoop, a response or data, or cancels.
@@ -140,6 +148,21 @@ fn ended_with_chunk(moving: &Moving, sample: &Sample) -> Option<Ended>
     }
 }
 
+/// Takes the sample's chunk of the data on the way, or none; after the fourth nothing is on the way.
+#[tactic(auto, unfolding(crate::specs::Tests::after_chunk, crate::specs::Tests::moved_by))]
+fn take_chunk(moving: &mut Option<Moving>, sample: &Sample)
+    ensures { moving.new ≡ after_chunk moving.old sample.now }
+{
+    if let Some(data) = moving {
+        let chunks = u16::from(data.chunks) + u16::from(sample.has(Lines::DRDY));
+        if chunks < 4 {
+            data.chunks = chunks as u8;
+        } else {
+            *moving = None;
+        }
+    }
+}
+
 /// The request whose data are on the way from a response with this code on.
 fn moving_at_once(next: &Snooped, code: u8) -> Option<Moving>
     ensures { result ≡ (if does_move (told_of next.now code) then Some
@@ -152,6 +175,17 @@ fn moving_at_once(next: &Snooped, code: u8) -> Option<Moving>
         })
     } else {
         None
+    }
+}
+
+/// Whether data go on after the sample of a request of which so many chunks came.
+#[tactic(auto, unfolding(crate::specs::Tests::goes_on_by, fsb_count::specs::Options::is_some_and))]
+fn goes_on(chunks: Option<u8>, sample: &Sample) -> bool
+    ensures { result ≡ goes_on_by chunks sample.now }
+{
+    match chunks {
+        Some(chunks) => u16::from(chunks) + u16::from(sample.has(Lines::DRDY)) < 4,
+        None => false,
     }
 }
 
@@ -197,16 +231,16 @@ impl InFlight {
 
     /// Whether no data are on the way, and no request is begun, with a sample in which no line tells of one.
     #[tactic(auto, unfolding(crate::specs::Still::is_quiet_by))]
-    pub fn is_quiet(&self, sample: &Sample, begun: Option<LiveRequest>) -> bool
-        ensures { result ≡ is_quiet_by self.now sample.now begun }
+    pub fn is_quiet(&self, sample: &Sample, begun: &Option<LiveRequest>) -> bool
+        ensures { result ≡ is_quiet_by self.now sample.now begun.now }
     {
         begun.is_none() && (self.moving.is_none() && is_still(sample))
     }
 
     /// Whether the sample changes nothing.
     #[tactic(auto, unfolding(crate::specs::Still::stays_by))]
-    fn stays(&self, clock: u32, sample: &Sample, begun: Option<LiveRequest>) -> bool
-        ensures { result ≡ stays_by self.now clock sample.now begun }
+    fn stays(&self, clock: u32, sample: &Sample, begun: &Option<LiveRequest>) -> bool
+        ensures { result ≡ stays_by self.now clock sample.now begun.now }
     {
         self.is_quiet(sample, begun) && !self.is_snoop_clock(clock)
     }
@@ -219,14 +253,18 @@ impl InFlight {
         self.is_snoop_clock(clock) && !stalls(sample)
     }
 
-    /// Rule 12, snoop results of write-backs and replies.
-    #[tactic(auto, unfolding(fsb_count::specs::Options::is_some_and))]
+    /// Rule 12, snoop results of write-backs and replies; it is kept where no snoop line is asserted.
+    #[tactic(auto, using(crate::proofs::StillClocks::not_unfit), unfolding(fsb_count::specs::Options::is_some_and))]
     pub fn is_snoop_result_unfit(&self, clock: u32, sample: &Sample) -> bool
         ensures { result ≡ is_some_and (slice_get self.now.asking.items 0)
             (λ a. ends_snoop_by self.now clock sample.now && is_unfit_by a sample.now) }
     {
         match self.asking.as_slice().first() {
-            Some(request) => self.ends_snoop(clock, sample) && is_unfit(request, sample),
+            Some(request) => {
+                has_snoop_line(sample)
+                    && self.ends_snoop(clock, sample)
+                    && is_unfit(request, sample)
+            }
             None => false,
         }
     }
@@ -255,18 +293,24 @@ impl InFlight {
         responds(sample) && self.next(clock).is_none()
     }
 
-    /// Rule 14, response code, where the response is not early.
+    /// Whether the code, neither idle nor a hard failure, is the one for the request that may respond at this clock.
     #[tactic(auto, unfolding(fsb_count::specs::Options::is_some_and))]
+    fn is_answered_by(&self, clock: u32, code: u8) -> bool
+        ensures { result ≡ is_some_and (next_by self.now clock) (λ s. is_code_by s code) }
+    {
+        match self.next(clock) {
+            Some(next) => next.is_code_for(code),
+            None => false,
+        }
+    }
+
+    /// Rule 14, response code, where the response is not early.
     pub fn is_code_wrong(&self, clock: u32, sample: &Sample) -> bool
         ensures { result ≡ (is_sound sample.now
             && not (is_some_and (next_by self.now clock)
             (λ s. is_code_by s (response_of sample.now)))) }
     {
-        let fits = match self.next(clock) {
-            Some(next) => next.is_code_for(sample.response()),
-            None => false,
-        };
-        is_sound(sample) && !fits
+        is_sound(sample) && !self.is_answered_by(clock, sample.response())
     }
 
     /// Whether memory is to take the data of the request that may respond at this clock.
@@ -325,7 +369,49 @@ impl InFlight {
         }
     }
 
+    /// The request whose data are on the way from a response with this code on, where it is at this clock.
+    #[tactic(auto, unfolding(crate::specs::Tests::moving_from_by))]
+    fn moving_from(&self, clock: u32, code: u8) -> Option<Moving>
+        ensures { result ≡ moving_from_by self.now clock code }
+    {
+        match self.next(clock) {
+            Some(next) => moving_at_once(&next, code),
+            None => None,
+        }
+    }
+
+    /// Whether data are on the way from a response with this code on, where it is at this clock.
+    #[tactic(auto, unfolding(crate::specs::Tests::moving_from_by))]
+    fn moves_from(&self, clock: u32, code: u8) -> bool
+        ensures { result ≡ is_some (moving_from_by self.now clock code) }
+    {
+        match self.next(clock) {
+            Some(next) => moves(next.told_by(code)),
+            None => false,
+        }
+    }
+
+    /// How many chunks came of the request whose data are on the way at this clock, also if its response is there.
+    #[tactic(auto, unfolding(crate::specs::Tests::moving_by, crate::specs::Tests::moving_from_by, crate::specs::Tests::chunks_by))]
+    fn chunks_with(&self, clock: u32, sample: &Sample) -> Option<u8>
+        ensures { result ≡ chunks_by self.now clock sample.now }
+    {
+        if responds(sample) {
+            if self.moves_from(clock, sample.response()) {
+                Some(0)
+            } else {
+                None
+            }
+        } else {
+            match self.moving {
+                Some(moving) => Some(moving.chunks),
+                None => None,
+            }
+        }
+    }
+
     /// Rule 16, data transfer, where the response is not early.
+    #[tactic(auto, using(crate::proofs::ChunksLeft::chunks_left))]
     pub fn is_data_wrong(&self, clock: u32, sample: &Sample) -> bool
         ensures { result ≡ (has_line sample.now DRDY
             && is_none (moving_by self.now clock sample.now)
@@ -334,9 +420,9 @@ impl InFlight {
             || has_line sample.now DBSY
             && not (is_some (after_chunk (moving_by self.now clock sample.now) sample.now))) }
     {
-        let moving = self.moving_with(clock, sample);
-        let goes_on = after_chunk(moving, sample).is_some();
-        let is_alone = sample.has(Lines::DRDY) && moving.is_none();
+        let chunks = self.chunks_with(clock, sample);
+        let goes_on = goes_on(chunks, sample);
+        let is_alone = sample.has(Lines::DRDY) && chunks.is_none();
         let is_idle = !sample.has(Lines::DBSY) && goes_on;
         let is_busy = sample.has(Lines::DBSY) && !goes_on;
         is_alone || is_idle || is_busy
@@ -382,29 +468,15 @@ impl InFlight {
         }
     }
 
-    /// The ready clock of the request that responds next after this sample.
-    #[tactic(auto, unfolding(crate::specs::Tests::ready_after_by))]
-    fn ready_after(&self, clock: u32, sample: &Sample) -> Option<u32>
-        ensures { result ≡ ready_after_by self.now clock sample.now }
-    {
-        if responds(sample) {
-            None
-        } else if sample.has(Lines::TRDY) {
-            Some(clock)
-        } else {
-            self.ready
-        }
-    }
-
     /// Takes the sample of this clock, which breaks no rule, and the request whose second clock it is; at most clocks
     /// nothing changes.
     #[tactic(auto, using(crate::proofs::StillClocks::still_clocks))]
-    pub fn absorb(&mut self, clock: u32, sample: &Sample, begun: Option<LiveRequest>)
+    pub fn absorb(&mut self, clock: u32, sample: &Sample, begun: &Option<LiveRequest>)
         requires few { queue_len self.old ≤ 8 }
-        requires room { is_some begun ≡ true → queue_len self.old < 8 }
+        requires room { is_some begun.now ≡ true → queue_len self.old < 8 }
         ensures asking { self.new.asking.items
             ≡ asking_after self.old.asking.items (has_line sample.now AERR)
-            (is_some (snooped_by self.old clock sample.now)) begun }
+            (is_some (snooped_by self.old clock sample.now)) begun.now }
         ensures waiting { self.new.waiting.items
             ≡ waiting_after self.old.waiting.items (responds sample.now)
             (snooped_by self.old clock sample.now) }
@@ -421,13 +493,13 @@ impl InFlight {
     }
 
     /// Takes the sample of this clock, with which something may change.
-    #[tactic(auto, using(crate::proofs::Room::room))]
-    fn go_on(&mut self, clock: u32, sample: &Sample, begun: Option<LiveRequest>)
+    #[tactic(auto, using(crate::proofs::Room::room), unfolding(crate::specs::Tests::ready_after_by))]
+    fn go_on(&mut self, clock: u32, sample: &Sample, begun: &Option<LiveRequest>)
         requires few { queue_len self.old ≤ 8 }
-        requires room { is_some begun ≡ true → queue_len self.old < 8 }
+        requires room { is_some begun.now ≡ true → queue_len self.old < 8 }
         ensures asking { self.new.asking.items
             ≡ asking_after self.old.asking.items (has_line sample.now AERR)
-            (is_some (snooped_by self.old clock sample.now)) begun }
+            (is_some (snooped_by self.old clock sample.now)) begun.now }
         ensures waiting { self.new.waiting.items
             ≡ waiting_after self.old.waiting.items (responds sample.now)
             (snooped_by self.old clock sample.now) }
@@ -439,8 +511,8 @@ impl InFlight {
         ensures ready { self.new.ready ≡ ready_after_by self.old clock sample.now }
     {
         let snooped = self.snooped(clock, sample);
-        let moving = after_chunk(self.moving_with(clock, sample), sample);
-        let ready = self.ready_after(clock, sample);
+        self.take_data(clock, sample);
+        self.take_ready(clock, sample);
         take_request(
             &mut self.asking,
             sample.has(Lines::AERR),
@@ -451,8 +523,39 @@ impl InFlight {
         if snooped.is_some() {
             self.last_snoop = Some(clock);
         }
-        self.moving = moving;
-        self.ready = ready;
+    }
+
+    /// Takes what this sample says of the data on the way.
+    #[tactic(auto, unfolding(crate::specs::Tests::moving_by, crate::specs::Tests::moving_from_by))]
+    fn take_data(&mut self, clock: u32, sample: &Sample)
+        ensures asking { self.new.asking ≡ self.old.asking }
+        ensures waiting { self.new.waiting ≡ self.old.waiting }
+        ensures moving { self.new.moving
+            ≡ after_chunk (moving_by self.old clock sample.now) sample.now }
+        ensures last_snoop { self.new.last_snoop ≡ self.old.last_snoop }
+        ensures ready { self.new.ready ≡ self.old.ready }
+    {
+        if responds(sample) {
+            self.moving = after_chunk(self.moving_from(clock, sample.response()), sample);
+        } else {
+            take_chunk(&mut self.moving, sample);
+        }
+    }
+
+    /// Takes what this sample says of the target's readiness.
+    #[tactic(auto, unfolding(crate::specs::Tests::ready_after_by))]
+    fn take_ready(&mut self, clock: u32, sample: &Sample)
+        ensures asking { self.new.asking ≡ self.old.asking }
+        ensures waiting { self.new.waiting ≡ self.old.waiting }
+        ensures moving { self.new.moving ≡ self.old.moving }
+        ensures last_snoop { self.new.last_snoop ≡ self.old.last_snoop }
+        ensures ready { self.new.ready ≡ ready_after_by self.old clock sample.now }
+    {
+        if responds(sample) {
+            self.ready = None;
+        } else if sample.has(Lines::TRDY) {
+            self.ready = Some(clock);
+        }
     }
 }
 
@@ -462,10 +565,10 @@ fn take_request(
     asking: &mut ArrayVec<LiveRequest, 8>,
     is_cancelled: bool,
     is_snooped: bool,
-    begun: Option<LiveRequest>,
+    begun: &Option<LiveRequest>,
 )
-    requires { is_some begun ≡ true → length asking.old.items < 8 }
-    ensures { asking.new.items ≡ asking_after asking.old.items is_cancelled is_snooped begun }
+    requires { is_some begun.now ≡ true → length asking.old.items < 8 }
+    ensures { asking.new.items ≡ asking_after asking.old.items is_cancelled is_snooped begun.now }
 {
     if is_cancelled {
         asking.pop();
@@ -474,7 +577,7 @@ fn take_request(
         asking.pop_at(0);
     }
     if let Some(request) = begun {
-        asking.push(request);
+        asking.push(*request);
     }
 }
 

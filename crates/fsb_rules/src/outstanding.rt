@@ -3,7 +3,7 @@
 ghost use Rattle.std.specs.Prelude.{◌≡◌, ◌<◌, ◌≤◌, true, [], ◌++◌, length, count_by, if◌then◌else◌};
 ghost use Rattle.std.specs.List.{list_any, filter_map};
 ghost use Rattle.std.specs.Option.{option_and_then, option_to_list, is_some};
-ghost use Rattle.fsb_count.specs.Options.{is_at, is_before};
+ghost use Rattle.fsb_count.specs.Options.{is_at, is_before, is_some_and};
 ghost use Rattle.fsb_rules.specs.OpenTests.{reply_by, reply_after, open_with, open_after_end, open_after, open_begun, awaits, has_id, is_of_agent, is_wrong_among, is_quiet};
 
 use crate::live::{Ended, LiveRequest};
@@ -83,13 +83,24 @@ fn open_begun(request: &LiveRequest) -> Option<Open>
     }
 }
 
+/// Whether a reply is begun.
+#[tactic(auto, unfolding(fsb_count::specs::Options::is_some_and))]
+fn is_reply(begun: Option<LiveRequest>) -> bool
+    ensures { result ≡ is_some_and begun (λ a. a.is_reply) }
+{
+    match begun {
+        Some(request) => request.is_reply,
+        None => false,
+    }
+}
+
 impl Happened {
-    /// Whether nothing happens to any request.
-    #[tactic(auto, unfolding(crate::specs::OpenTests::is_quiet))]
+    /// Whether no request is cancelled or ends, and no reply is begun.
+    #[tactic(auto, unfolding(crate::specs::OpenTests::is_quiet, fsb_count::specs::Options::is_some_and))]
     fn is_quiet(&self) -> bool
         ensures { result ≡ is_quiet self.now }
     {
-        self.cancelled.is_none() && self.ended.is_none() && self.begun.is_none()
+        self.cancelled.is_none() && self.ended.is_none() && !is_reply(self.begun)
     }
 }
 
@@ -232,30 +243,30 @@ fn count_of(opens: &[Open], agent: u8) -> usize
     count
 }
 
-/// What is left of them after what happens.
-fn left_of(opens: &[Open], happened: &Happened) -> ArrayVec<Open, 16>
-    requires { length opens.now ≤ 16 }
-    ensures { result.items ≡ filter_map (open_after happened.now) opens.now }
+/// Keeps of them what is left after what happens.
+fn keep_left(opens: &mut ArrayVec<Open, 16>, happened: &Happened)
+    ensures { opens.new.items ≡ filter_map (open_after happened.now) opens.old.items }
 {
-    let mut left = ArrayVec::new();
-    for open in opens {
-        if let Some(open) = open.after(happened) {
-            left.push(open);
+    let mut kept = 0;
+    for index in 0..opens.len() {
+        let left = opens.as_slice()[index].after(happened);
+        if let Some(open) = left {
+            opens.as_mut_slice()[kept] = open;
+            kept += 1;
         }
     }
-    left
+    opens.truncate(kept);
 }
 
-/// A copy of them.
-fn copy_of(opens: &[Open]) -> ArrayVec<Open, 16>
+/// Makes the one list a copy of the other.
+fn copy_into(copy: &mut ArrayVec<Open, 16>, opens: &[Open])
     requires { length opens.now ≤ 16 }
-    ensures { result.items ≡ opens.now }
+    ensures { copy.new.items ≡ opens.now }
 {
-    let mut copy = ArrayVec::new();
+    copy.clear();
     for open in opens {
         copy.push(*open);
     }
-    copy
 }
 
 impl Outstanding {
@@ -283,7 +294,7 @@ impl Outstanding {
         }
     }
 
-    /// Lets what happens pass over those that are outstanding; at most clocks nothing happens to them.
+    /// Lets what happens pass over those that are outstanding; at most clocks nothing does.
     #[tactic(auto, using(crate::proofs::QuietClocks::quiet_stays))]
     fn pass(&mut self, happened: &Happened)
         ensures current { self.new.current.items
@@ -291,7 +302,7 @@ impl Outstanding {
         ensures before { self.new.before.items ≡ self.old.before.items }
     {
         if !happened.is_quiet() {
-            self.current = left_of(self.current.as_slice(), happened);
+            keep_left(&mut self.current, happened);
         }
     }
 
@@ -306,7 +317,7 @@ impl Outstanding {
             ≡ (if begins then self.old.current.items else self.old.before.items) }
     {
         if begins {
-            self.before = copy_of(self.current.as_slice());
+            copy_into(&mut self.before, self.current.as_slice());
         }
         self.pass(happened);
         if let Some(request) = happened.begun {

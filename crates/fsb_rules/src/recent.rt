@@ -1,6 +1,8 @@
 //! The last three clocks.
 
-ghost use Rattle.std.specs.Prelude.{◌≡◌, Some, None};
+ghost use Rattle.std.specs.Prelude.{◌≡◌, true, Some, None};
+ghost use Rattle.fsb_signal.specs.declared.lines.TheConstants.Lines.{ADS};
+ghost use Rattle.fsb_signal.specs.Samples.{has_line};
 ghost use Rattle.fsb_trace.specs.At.{known_pair};
 ghost use Rattle.fsb_rules.specs.Tests.{is_among, request_by};
 
@@ -18,7 +20,7 @@ pub struct Recent {
     second: Option<Lines>,
     /// The control lines three clocks back.
     third: Option<Lines>,
-    /// The address and REQ words one clock back, where no bit of them is unknown.
+    /// The address and REQ words of the last clock at which a request began, where no bit of them is unknown.
     words: Option<Pair>,
 }
 
@@ -47,6 +49,13 @@ impl Recent {
             third: None,
             words: None,
         }
+    }
+
+    /// The control lines one clock back; none where there is no such clock.
+    pub fn first(&self) -> Option<Lines>
+        ensures { result ≡ self.now.first }
+    {
+        self.first
     }
 
     /// Whether the line is asserted one clock back.
@@ -79,16 +88,18 @@ impl Recent {
         decode(self.words?, second).ok()
     }
 
-    /// Takes the sample of the next clock.
+    /// Takes the sample of the next clock; its words where a request begins with it.
     pub fn absorb(&mut self, sample: &Sample)
         ensures first { self.new.first ≡ Some sample.now.lines }
         ensures second { self.new.second ≡ self.old.first }
         ensures third { self.new.third ≡ self.old.second }
-        ensures words { self.new.words ≡ known_pair sample.now }
+        ensures words { has_line sample.now ADS ≡ true → self.new.words ≡ known_pair sample.now }
     {
         self.third = self.second;
         self.second = self.first;
         self.first = Some(sample.lines);
-        self.words = known_pair(sample);
+        if sample.has(Lines::ADS) {
+            self.words = known_pair(sample);
+        }
     }
 }

@@ -1,5 +1,5 @@
 use Rattle.std.proofs.Common.{◌≡◌, take}
-use Rattle.fsb_rules.proofs.outstanding.copy_of.Given as goal
+use Rattle.fsb_rules.proofs.outstanding.copy_into.Given as goal
 
 -- those so far are copied
 abbrev pub invariant-loop-open : goal.invariant-loop-open
