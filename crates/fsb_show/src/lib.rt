@@ -13,6 +13,4 @@ mod laws;
 mod lines;
 mod show;
 mod stop;
-#[cfg(test)]
-mod tests;
 mod text;

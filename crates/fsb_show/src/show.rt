@@ -1,5 +1,5 @@
 //! The reading and the judging of a dump that is shown.
-ghost use Rattle.std.specs.Prelude.{◌≡◌, ◌≤◌, ◌<◌, ◌^◌, Err, IsTrue, IfOk, Some, length, map};
+ghost use Rattle.std.specs.Prelude.{◌≡◌, ◌≤◌, ◌<◌, ◌^◌, [], Err, IsTrue, IfOk, OnErr, IsSome, Some, length, map};
 ghost use Rattle.fsb_io.specs.Faults.{Rose};
 ghost use Rattle.fsb_rules.specs.Checker.{as_broken};
 ghost use Rattle.fsb_trace.specs.Verdict.{verdict};
@@ -29,7 +29,8 @@ pub struct Shown {
 
 /// Begins the source under the name, reads the dump that it holds to its end, or to one byte past
 /// 268,435,456, and judges it. Where it breaks no rule, each object is cleared and shown every
-/// sample, in order.
+/// sample, in order. Where it breaks one there are no rows; then, and where nothing is told, every
+/// object is as it was.
 pub fn show_dump<S: Source>(
     alloc: Global,
     name: &str,
@@ -40,6 +41,9 @@ pub fn show_dump<S: Source>(
     ensures shown { IsTrue S.tells →
         IsToldAs (IsShown (map (λ p. weight p) probes.old) (map (λ p. counted p) probes.new))
         result (S.holds source.old) (S.left source.new) }
+    ensures not_counted { IfOk result (λ shown. IsSome shown.broken →
+        (shown.rows.items ≡ []) × (probes.new ≡ probes.old)) }
+    ensures not_shown { OnErr result (probes.new ≡ probes.old) }
     ensures named { IsTrue S.tells → IsBegun result → S.begun_as source.new ≡ Some name.now }
     ensures read_fault { result ≡ Err ShowStop.ReadFault →
         Rose (S.faults source.old) (S.faults source.new) }
@@ -89,9 +93,12 @@ fn show_trace(
     probes: &mut [Box<dyn Probe>],
 ) -> Result<Shown, Memory>
     requires { length w.now < 2 ^ 32 }
-    ensures { IfOk result (λ shown.
+    ensures of_trace { IfOk result (λ shown.
         IsOfTrace (map (λ p. weight p) probes.old) (map (λ p. counted p) probes.new) shown marks
         w.now) }
+    ensures not_counted { IfOk result (λ shown. IsSome shown.broken →
+        (shown.rows.items ≡ []) × (probes.new ≡ probes.old)) }
+    ensures not_shown { OnErr result (probes.new ≡ probes.old) }
 {
     let clocks = w.len() as u32;
     match judge(marks, w) {

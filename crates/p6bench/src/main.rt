@@ -1,15 +1,28 @@
 //! The program `p6bench`: the real files and standard output under the top call.
 #![tactic(auto)]
 
-ghost use Rattle.std.specs.Prelude.{◌≡◌, ◌≢◌, ◌++◌, [], drop, map, Err, IfOk, IsTrue};
+ghost use Rattle.std.specs.Prelude.{◌≡◌, ◌≢◌, ◌++◌, ℕ, List, [], Option, Some, Err, IfOk, IsTrue, drop, map};
+ghost use Rattle.std.specs.Option.{option_map};
 ghost use Rattle.std.specs.Process.{exit_status};
 ghost use Rattle.std.specs.String.{string_bytes};
+ghost use Rattle.fsb_command.specs.Form.{form_of, run, gen, show};
+ghost use Rattle.fsb_hazard.specs.Told.{told_after};
 ghost use Rattle.fsb_io.specs.Faults.{Rose};
+ghost use Rattle.fsb_play.specs.Printed.{run_dump, run_log, run_summary};
+ghost use Rattle.fsb_play.specs.Writing.{HasDump};
+ghost use Rattle.fsb_script.specs.Made.{made_plan};
+ghost use Rattle.fsb_script.specs.Plans.{PlanView};
+ghost use Rattle.fsb_show.specs.ShowText.{show_text};
+ghost use Rattle.fsb_signal.specs.declared.marks.Marks.{Marks};
+ghost use Rattle.fsb_signal.specs.declared.sample.Sample.{Sample};
+ghost use Rattle.fsb_top.specs.BenchEnds.{HasRun, HasRunFrom, HasRunOf, IsLogged, IsPlanOf, IsWritten};
 ghost use Rattle.fsb_top.specs.StatusText.{code_of};
+ghost use Rattle.vcd_grammar.specs.Reading.{Reads};
+ghost use Rattle.p6bench.specs.Program.{told_of, weights};
 
 use fsb_gather::Gather;
 use fsb_hazard::{Hazard, ScriptHazard};
-use fsb_io::{Failed, FileSink, FileSource, Sink, StdoutSink};
+use fsb_io::{Failed, FileSink, FileSource, Memory, Sink, Source, StdoutSink};
 use fsb_probe::{DataProbe, LineProbe, Probe};
 use fsb_top::{Status, Words, bench, code, status_line};
 use std::alloc::Global;
@@ -31,46 +44,87 @@ fn main(rt: HostRuntime) -> ExitCode {
     end(&rt, &status)
 }
 
-// Does what the program's words ask for, with one object that chooses what a bench file's hazard lines say. The dump never replaces the file that is read.
+// Does what the program's words ask for.
 fn run(rt: &(impl Files + Env + Print + AllocGlobal)) -> Status {
     let words = match words_of(rt) {
         Ok(words) => words,
         Err(status) => return status,
     };
+    match call(rt, &words) {
+        Ok(status) => status,
+        Err(Memory) => Status::OutOfMemory,
+    }
+}
+
+// Does what the words ask for, with one object that does what a bench file's hazard lines say, and with three probes.
+// It reads the file that the words name and writes to standard output, and to the file that they name for a dump, which
+// never is the file that is read. `Memory` means that it did nothing.
+fn call(rt: &(impl Files + Print + AllocGlobal), words: &Words) -> Result<Status, Memory> {
     let alloc = rt.alloc();
-    let mut probes: Vec<Box<dyn Probe>> = Vec::new(alloc);
-    let (Ok(ads), Ok(drdy), Ok(data)) = (
-        Box::new(alloc, LineProbe::new(ADS)),
-        Box::new(alloc, LineProbe::new(DRDY)),
-        Box::new(alloc, DataProbe::new()),
-    ) else {
-        return Status::OutOfMemory;
-    };
     let mut hazards: Vec<Box<dyn Hazard>> = Vec::new(alloc);
-    let Ok(script) = Box::new(alloc, ScriptHazard::new(alloc)) else {
-        return Status::OutOfMemory;
-    };
-    if hazards.push(script).is_err() {
-        return Status::OutOfMemory;
-    }
-    if probes.push(ads).is_err() || probes.push(drdy).is_err() || probes.push(data).is_err() {
-        return Status::OutOfMemory;
-    }
+    hazards.push(Box::new(alloc, ScriptHazard::new(alloc))?)?;
+    let mut probes: Vec<Box<dyn Probe>> = Vec::new(alloc);
+    probes.push(Box::new(alloc, LineProbe::new(ADS))?)?;
+    probes.push(Box::new(alloc, LineProbe::new(DRDY))?)?;
+    probes.push(Box::new(alloc, DataProbe::new())?)?;
     let mut source = FileSource::new(rt);
     let mut out = StdoutSink::new(rt);
-    let Ok(mut dump) = Gather::new(alloc, FileSink::new(rt, words.word(FILE))) else {
-        return Status::OutOfMemory;
-    };
-    let status = bench(
+    let mut dump = Gather::new(alloc, FileSink::new(rt, file_read(words)))?;
+    Ok(perform(
         alloc,
-        &words,
+        words,
         &mut source,
         &mut out,
         &mut dump,
         hazards,
         probes,
-    );
-    finished(status, &mut dump)
+    ))
+}
+
+// The name of the file that the words ask to be read, where they have one.
+fn file_read(words: &Words) -> Option<&str>
+    ensures { (bench : List ℕ) (dump : Option (List ℕ)) →
+        form_of words.now ≡ Some (run bench dump) →
+        option_map (λ name. name.now) result ≡ Some bench }
+{
+    words.word(FILE)
+}
+
+// One call of `bench`, with one object that does what a bench file's hazard lines say and with three probes, and the end
+// of its dump. What is said of bytes and names holds for a source and sinks that tell them.
+fn perform<S: Source, O: Sink, D: Sink>(
+    alloc: Global,
+    words: &Words,
+    source: &mut S,
+    out: &mut O,
+    dump: &mut Gather<D>,
+    hazards: Vec<Box<dyn Hazard>>,
+    probes: Vec<Box<dyn Probe>>,
+) -> Status
+    requires scripted { (plan : PlanView) →
+        map (λ h. told_after (is_scripted h) plan.hazards (told h)) hazards.items ≡ told_of plan }
+    requires weighed { map (λ p. weight p) probes.items ≡ weights }
+    ensures ran { (name : List ℕ) (dump_name : Option (List ℕ)) →
+        form_of words.now ≡ Some (run name dump_name) → HasRun result →
+        HasRunFrom (λ plan. IsTrue S.tells →
+        IsPlanOf name (S.holds source.old) (S.left source.new) (S.begun_as source.new) plan)
+        told_of
+        (λ r. (IsTrue O.tells → IsLogged result (run_log r) (O.holds out.old) (O.holds out.new))
+        × (IsTrue D.tells → result ≡ Status.Done →
+        HasDump (run_dump r) dump_name (D.holds dump.new.sink) (D.begun_as dump.new.sink))) }
+    ensures generated { (seed agents items : ℕ) →
+        form_of words.now ≡ Some (gen seed agents items) → HasRun result →
+        let plan = made_plan seed agents items in
+        HasRunOf (told_of plan) plan (λ r. IsTrue O.tells →
+        IsLogged result (run_summary seed agents items r) (O.holds out.old) (O.holds out.new)) }
+    ensures tabled_text { IsTrue S.tells → IsTrue O.tells → (m : Marks) (w : List Sample) →
+        Reads (S.holds source.old) m w →
+        (name : List ℕ) → form_of words.now ≡ Some (show name) →
+        IsWritten result (show_text weights m w) (O.holds out.old) (O.holds out.new) }
+    ensures handed_on { result ≡ Status.Done → dump.new.gathered ≡ [] }
+{
+    let status = bench(alloc, words, source, out, dump, hazards, probes);
+    finished(status, dump)
 }
 
 // The end of a call of `bench`: what is gathered of the dump is handed on, and a call that was done is done only where
@@ -81,6 +135,7 @@ fn finished<D: Sink>(status: Status, dump: &mut Gather<D>) -> Status
     ensures done { result ≡ Status.Done → dump.new.gathered ≡ [] }
     ensures whole { IsTrue D.tells → result ≡ Status.Done →
         D.holds dump.new.sink ≡ D.holds dump.old.sink ++ dump.old.gathered }
+    ensures name_stays { IsTrue D.tells → D.begun_as dump.new.sink ≡ D.begun_as dump.old.sink }
     ensures fault { status ≡ Status.Done → result ≢ Status.Done → result ≡ Status.DumpFault }
     ensures cause { status ≡ Status.Done → result ≢ Status.Done →
         Rose (D.faults dump.old.sink) (D.faults dump.new.sink) }

@@ -3,8 +3,8 @@ use Rattle.fsb_rules.proofs.Interface.{as_broken-none}
 use Rattle.fsb_show.proofs.Traces.{broken_not}
 use Rattle.fsb_show.proofs.show.show_trace.Goals as goal
 
-pub returns-in-Some : goal.returns-in-Some
-returns-in-Some g c =
+pub returns-in-Some-clause-of_trace : goal.returns-in-Some-clause-of_trace
+returns-in-Some-clause-of_trace g c =
     let told = sym c.in-Some.is ∙ c.judge.ensures in
     record {
       clocks = refl;
