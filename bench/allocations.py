@@ -19,9 +19,9 @@ sys.dont_write_bytecode = True
 from common import TOP, built_program
 
 DATA = os.path.join(TOP, "crates", "p6bench", "data")
-ROWS = os.path.join(TOP, "crates", "fsb_bench_trials", "data")
-TRIALS = os.path.join(TOP, "crates", "fsb_trials", "data")
-TEXTS = os.path.join(TOP, "crates", "vcd_texts", "data")
+ROWS = os.path.join(TOP, "crates", "rows_benches", "data")
+TRIALS = os.path.join(TOP, "crates", "rows_trials", "data")
+TEXTS = os.path.join(TOP, "crates", "rows_texts", "data")
 RUNS = ("dirty_victim_written_back", "deferred_and_replied", "deferred_with_upgrades", "locked_item_retried", "upgrade_lost_and_made_again", "empty_run", "mixed_05")
 REFUSED = (8, b"", b"out of memory\n", None)
 

@@ -116,8 +116,8 @@ OLD = b"what the dump held before\n"
 
 
 def forms():
-    runs = [os.path.join(TOP, "crates/fsb_bench_trials/data", name + ".bench") for name in ("dirty_victim_written_back", "mixed_05")]
-    dumps = [os.path.join(TOP, name) for name in ("crates/p6bench/data/first.vcd", "crates/vcd_texts/data/scopes.vcd", "examples/first.bench")]
+    runs = [os.path.join(TOP, "crates/rows_benches/data", name + ".bench") for name in ("dirty_victim_written_back", "mixed_05")]
+    dumps = [os.path.join(TOP, name) for name in ("crates/p6bench/data/first.vcd", "crates/rows_texts/data/scopes.vcd", "examples/first.bench")]
     calls = [["run", run, *dump] for run in runs for dump in ((), ("DUMP",), ("/dev/stdout",))] + [["gen", "7", "2", "8"]]
     return calls + [[verb, dump, *words] for dump in dumps for verb, words in (("check", ()), ("audit", ()), ("show", ()), ("find", ("ADS/HITM",)), ("wave", ("0", "63")))]
 

@@ -46,17 +46,24 @@ def large_dump(program, folder, size):
     and over with rising time stamps. Answers its name, that of a dump of its header alone, and how many clocks it has."""
     bench, run, large, small = (os.path.join(folder, name) for name in ("run.bench", "run.vcd", "large.vcd", "small.vcd"))
 
-    # a run of loads and stores on lines of their own, with idle clocks behind it
-    items = "".join("ld 8 %x\nst 8 %x %x\n" % (32 * n, 32 * n + 8, 1000 * n + 7) for n in range(64))
+    # a run of four busy agents, whose last accesses are over before its last clock
+    words = ["p6bench 1\nagents 4\nclocks 29000\ncache 1\nahead 4\n"]
+    for agent in range(4):
+        words.append("agent %d\n" % agent)
+        for n in range(1024):
+            line = (n * 5 + agent * 3) % 64 if n % 2 else 64 + agent * 64 + n % 64
+            words.append("st 8 %x %x\n" % (32 * line + 8, n) if n % 4 < 2 else "ld 8 %x\n" % (32 * line))
+        words.append("end\n")
     with open(bench, "w") as out:
-        out.write("p6bench 1\nagents 1\nclocks 1600\ncache 1024\nahead 1\nagent 0\n" + items + "end\n")
-    subprocess.run([program, "run", bench, run], stdout=subprocess.DEVNULL, check=True)
+        out.write("".join(words))
+    said = subprocess.run([program, "run", bench, run], stdout=subprocess.PIPE, check=True).stdout.decode().splitlines()[-1]
+    assert said.endswith("done=4096 of=4096"), said
 
     # the header, and of each clock the values that change, where the first clock follows the last one
     with open(run) as file:
         text = file.read()
     end = text.index("$end\n", text.index("$dumpvars")) + len("$end\n")
-    header, words = text[:end], text[end:].split("#")
+    header, words = text[:end], ("\n" + text[end:]).split("\n#")
     first = dict((line[-1], line) for line in header[header.index("$dumpvars"):].splitlines()[2:-1])
     last, clocks = dict(first), []
     for word in words[2::2]:
@@ -64,7 +71,7 @@ def large_dump(program, folder, size):
         last.update((line[-1], line) for line in lines)
         clocks.append("".join(line + "\n" for line in lines))
     again = "".join(line + "\n" for code, line in first.items() if last[code] != line)
-    form = "".join("#%d\n0!\n" + values + "#%d\n1!\n" for values in clocks + [again])
+    form = "".join("#%d\n0!\n" + values.replace("%", "%%") + "#%d\n1!\n" for values in clocks + [again])
     count = len(clocks) + 1
     with open(large, "w") as out:
         made, clock = out.write(header + "#5\n1!\n"), 1

@@ -30,7 +30,7 @@ from second_dump import Fault, read_samples
 from second_look import Look, find, is_range, is_trigger, wave
 from second_reader import BadLine, Reader
 
-TRIALS, RUNS, TEXTS = "crates/fsb_trials/data/", "crates/fsb_bench_trials/data/", "crates/vcd_texts/data/"
+TRIALS, RUNS, TEXTS = "crates/rows_trials/data/", "crates/rows_benches/data/", "crates/rows_texts/data/"
 # Both profiles, locked, deferred, retried and cancelled requests, write-backs, upgrades, parity; vectors, reals, strings, comments and several scopes.
 DUMPS = [TRIALS + name + ".vcd" for name in ("deferred_with_upgrades", "locked_item_retried", "dirty_victim_written_back", "parity_of_a_load")]
 DUMPS += [TEXTS + name + ".vcd" for name in ("falling_verilator", "scopes")]

@@ -5,7 +5,7 @@ dump-format.md and commands.md of docs/.
     second_bench.py BENCH [TRACE]                       the log as `p6bench run` prints it; the waveform into the file TRACE
     second_bench.py --gen SEED AGENTS ITEMS             the summary as `p6bench gen` prints it
     second_bench.py --plan SEED AGENTS ITEMS            the bench file that a seed makes
-    second_bench.py --stored                            the stored runs of crates/fsb_bench_trials/data, log and waveform
+    second_bench.py --stored                            the stored runs of crates/rows_benches/data, log and waveform
     second_bench.py --random SEED COUNT [--program P]   so many random bench files, by the built program too
 
 A waveform stands clock by clock: the clock, the asserted control lines or `-`, and the words that are not 0, as REQ=, A= and
@@ -486,7 +486,7 @@ def read_text(path):
 
 def stored_runs():
     """Compares with the stored runs, and gives whether all are alike."""
-    folder = os.path.join(TOP, 'crates/fsb_bench_trials/data')
+    folder = os.path.join(TOP, 'crates/rows_benches/data')
     names = sorted(name[:-6] for name in os.listdir(folder) if name.endswith('.bench'))
     different = 0
     for name in names:

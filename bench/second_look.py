@@ -3,7 +3,7 @@
 
     second_look.py [PROGRAM [COUNT [SEED]]]
 
-Looked at are the dumps of crates/fsb_trials/data and COUNT others (300): lawful runs, and such runs broken on purpose, of both profiles. Each
+Looked at are the dumps of crates/rows_trials/data and COUNT others (300): lawful runs, and such runs broken on purpose, of both profiles. Each
 is audited and shown, searched for three random triggers that are made of what its samples have, and drawn over two random ranges; some
 triggers and ranges are none. Status, standard output and standard error must be the same, byte by byte. Prints what was not, and how
 often each answer came.
@@ -275,7 +275,7 @@ def main():
     words = sys.argv[1:] + [None] * 3
     trial, count, seed = Trial(built_program(words[0])), int(words[1] or 300), int(words[2] or 1)
     sys.setrecursionlimit(100000)
-    for path in sorted(glob.glob(os.path.join(TOP, "crates/fsb_trials/data/*.vcd"))):
+    for path in sorted(glob.glob(os.path.join(TOP, "crates/rows_trials/data/*.vcd"))):
         with open(path, "rb") as file:
             trial.look_at(random.Random(f"{seed} {os.path.basename(path)}"), path, os.path.basename(path), Look(file.read()))
     folder, number, made = tempfile.mkdtemp(prefix="second_look."), 0, 0

@@ -3,7 +3,7 @@
 
     second_texts.py [PROGRAM [COUNT [SEED]]]
 
-The texts are the dumps of crates/vcd_texts/data and of crates/fsb_trials/data, and COUNT others (2,000): dumps of short runs, as the program or a
+The texts are the dumps of crates/rows_texts/data and of crates/rows_trials/data, and COUNT others (2,000): dumps of short runs, as the program or a
 simulator would write them, with codes that several variables share, with reals and strings, and edited word by word and byte by
 byte. Status, standard output and standard error must be the same: the verdict, or the first fault with its place. The table says
 how often each came, and the status is 1 where there is a difference.
@@ -113,7 +113,7 @@ def main(words):
     count, seed = int(words[1]) if words[1:] else 2000, int(words[2]) if words[2:] else 1
     sys.setrecursionlimit(100000)
     trial = Trial(program, tempfile.mkdtemp(prefix='second_texts.'))
-    for path in sorted(glob.glob(os.path.join(TOP, 'crates/vcd_texts/data/*.vcd')) + glob.glob(os.path.join(TOP, 'crates/fsb_trials/data/*.vcd'))):
+    for path in sorted(glob.glob(os.path.join(TOP, 'crates/rows_texts/data/*.vcd')) + glob.glob(os.path.join(TOP, 'crates/rows_trials/data/*.vcd'))):
         with open(path, 'rb') as text:
             trial.compare(os.path.relpath(path, TOP), text.read())
     for number in range(count):

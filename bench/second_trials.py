@@ -58,7 +58,7 @@ class Trial:
         return answer
 
     def worked(self):
-        for path in sorted(glob.glob(os.path.join(TOP, 'crates/fsb_trials/data/*.vcd'))):
+        for path in sorted(glob.glob(os.path.join(TOP, 'crates/rows_trials/data/*.vcd'))):
             with open(path, 'rb') as dump:
                 self.judge(os.path.relpath(path, TOP), 'worked', dump.read())
 
