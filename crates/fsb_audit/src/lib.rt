@@ -13,5 +13,3 @@ pub use finding::{Finding, FoulAt};
 mod audit;
 mod chunks;
 mod finding;
-#[cfg(test)]
-mod tests;

@@ -5,6 +5,4 @@ pub use audit::{Audited, audit_dump};
 pub use text::{audit_line, foul_line};
 
 mod audit;
-#[cfg(test)]
-mod tests;
 mod text;

@@ -15,7 +15,5 @@ mod lone;
 mod phases;
 mod places;
 #[cfg(test)]
-mod runs;
-#[cfg(test)]
 mod tests;
 mod timing;

@@ -2,18 +2,17 @@
 
 ghost use Rattle.std.specs.Prelude.{◌<◌};
 
-use crate::runs::{HANDED_ON_WITH_WAITS, SECOND_STALLED};
 use crate::{Drive, Phased, Phases, chunk_order};
 use fsb_encode::{Kind, Request};
 use fsb_hazard::{Choice, Turn};
 use fsb_queue::{Entry, Queue};
-use fsb_runs::{
-    CANCELLED_BY_ADDRESS_ERROR, Clock, DEFERRED_AND_REPLIED, DIRTY_VICTIM_WRITTEN_BACK,
-    LOCKED_INCREMENTS, STALLED_SNOOP, TWO_AGENTS_OVERLAP, UPGRADE_LOST_AND_HANDED,
-    UPGRADE_OF_A_SHARED_LINE, WRITE_BACK_HELD_OFF,
-};
 use fsb_signal::{Lines, Sample};
 use fsb_trace::{Outcome, Who};
+use rows_store::{
+    CANCELLED_BY_ADDRESS_ERROR, Clock, DEFERRED_AND_REPLIED, DIRTY_VICTIM_WRITTEN_BACK,
+    HANDED_ON_WITH_WAITS, LOCKED_INCREMENTS, SECOND_STALLED, STALLED_SNOOP, TWO_AGENTS_OVERLAP,
+    UPGRADE_LOST_AND_HANDED, UPGRADE_OF_A_SHARED_LINE, WRITE_BACK_HELD_OFF, sample,
+};
 use std::alloc::Global;
 use std::process::Abort;
 
@@ -31,16 +30,6 @@ pub(crate) const QUIET: Choice = Choice {
     gap: 0,
     turn: Turn::Keep,
 };
-
-/// The control lines of a clock.
-fn control_lines(clock: Clock) -> u32 {
-    clock.0
-}
-
-/// The sample with these control lines.
-fn sample(lines: u32) -> Sample {
-    Sample::known(Lines(lines % (1 << 21)), 0, 0, 0)
-}
 
 /// The request that begins at the clock, as an entry.
 fn entry(number: u32, clock: u32, told: &Told) -> Entry {
@@ -136,17 +125,17 @@ fn begin(rt: &impl Abort, queue: &mut Queue, number: usize, clock: u32, told: &[
 
 /// Runs the phases over the run: asserts that at each clock they drive what is on its lines, and that its requests have
 /// the snoop ends and the ends that are told, and no others.
-fn expect_run(rt: &impl Abort, alloc: Global, clocks: &[u32], told: &[Told]) {
+fn expect_run(rt: &impl Abort, alloc: Global, clocks: &[Clock], told: &[Told]) {
     let mut queue = Queue::new(alloc).expect(rt, "out of memory");
     let mut phases = Phases::new();
     let mut begun = 0;
     let mut snooped = 0;
     let mut ended = 0;
     let mut came = 0_u8;
-    for (c, lines) in clocks.iter().enumerate() {
+    for (c, laid_out) in clocks.iter().enumerate() {
         assert!(rt; c < 1000);
         let clock = c as u32;
-        let taken = sample(*lines);
+        let taken = sample(*laid_out);
         let drive = phases.drive(clock, &queue);
         expect_lines(rt, &drive, &taken);
         if taken.response() != 0 {
@@ -187,19 +176,14 @@ fn two_agents_overlap(rt: HostRuntime) {
         (Kind::Read, QUIET, Outcome::Granted, 6, 11),
         (Kind::Read, QUIET, Outcome::Granted, 9, 15),
     ];
-    expect_run(
-        &rt,
-        rt.alloc(),
-        &TWO_AGENTS_OVERLAP.map(control_lines),
-        &told,
-    );
+    expect_run(&rt, rt.alloc(), &TWO_AGENTS_OVERLAP, &told);
 }
 
 #[test]
 fn stalled_snoop(rt: HostRuntime) {
     let twice = Choice { stall: 2, ..QUIET };
     let told = [(Kind::Read, twice, Outcome::Granted, 10, 15)];
-    expect_run(&rt, rt.alloc(), &STALLED_SNOOP.map(control_lines), &told);
+    expect_run(&rt, rt.alloc(), &STALLED_SNOOP, &told);
 }
 
 #[test]
@@ -217,12 +201,7 @@ fn cancelled_by_address_error(rt: HostRuntime) {
         ),
         (Kind::Read, QUIET, Outcome::Granted, 12, 17),
     ];
-    expect_run(
-        &rt,
-        rt.alloc(),
-        &CANCELLED_BY_ADDRESS_ERROR.map(control_lines),
-        &told,
-    );
+    expect_run(&rt, rt.alloc(), &CANCELLED_BY_ADDRESS_ERROR, &told);
 }
 
 #[test]
@@ -234,12 +213,7 @@ fn deferred_and_replied(rt: HostRuntime) {
         (Kind::Reply, QUIET, Outcome::Replied, 25, 30),
         (Kind::Invalidate, QUIET, Outcome::Granted, 28, 34),
     ];
-    expect_run(
-        &rt,
-        rt.alloc(),
-        &DEFERRED_AND_REPLIED.map(control_lines),
-        &told,
-    );
+    expect_run(&rt, rt.alloc(), &DEFERRED_AND_REPLIED, &told);
 }
 
 #[test]
@@ -248,12 +222,7 @@ fn locked_increments(rt: HostRuntime) {
         (Kind::Invalidate, QUIET, Outcome::Granted, 6, 11),
         (Kind::Invalidate, QUIET, Outcome::Handed, 18, 25),
     ];
-    expect_run(
-        &rt,
-        rt.alloc(),
-        &LOCKED_INCREMENTS.map(control_lines),
-        &told,
-    );
+    expect_run(&rt, rt.alloc(), &LOCKED_INCREMENTS, &told);
 }
 
 #[test]
@@ -263,12 +232,7 @@ fn write_back_held_off(rt: HostRuntime) {
         (Kind::Read, QUIET, Outcome::Handed, 17, 24),
         (Kind::Read, QUIET, Outcome::Granted, 22, 28),
     ];
-    expect_run(
-        &rt,
-        rt.alloc(),
-        &WRITE_BACK_HELD_OFF.map(control_lines),
-        &told,
-    );
+    expect_run(&rt, rt.alloc(), &WRITE_BACK_HELD_OFF, &told);
 }
 
 #[test]
@@ -279,12 +243,7 @@ fn dirty_victim_written_back(rt: HostRuntime) {
         (Kind::Read, QUIET, Outcome::Granted, 32, 37),
         (Kind::Read, QUIET, Outcome::Granted, 44, 49),
     ];
-    expect_run(
-        &rt,
-        rt.alloc(),
-        &DIRTY_VICTIM_WRITTEN_BACK.map(control_lines),
-        &told,
-    );
+    expect_run(&rt, rt.alloc(), &DIRTY_VICTIM_WRITTEN_BACK, &told);
 }
 
 #[test]
@@ -294,12 +253,7 @@ fn upgrade_of_a_shared_line(rt: HostRuntime) {
         (Kind::Read, QUIET, Outcome::Granted, 9, 15),
         (Kind::Upgrade, QUIET, Outcome::Upgraded, 18, 20),
     ];
-    expect_run(
-        &rt,
-        rt.alloc(),
-        &UPGRADE_OF_A_SHARED_LINE.map(control_lines),
-        &told,
-    );
+    expect_run(&rt, rt.alloc(), &UPGRADE_OF_A_SHARED_LINE, &told);
 }
 
 #[test]
@@ -310,12 +264,7 @@ fn upgrade_lost_and_handed(rt: HostRuntime) {
         (Kind::Upgrade, QUIET, Outcome::Upgraded, 18, 20),
         (Kind::Upgrade, QUIET, Outcome::Handed, 22, 29),
     ];
-    expect_run(
-        &rt,
-        rt.alloc(),
-        &UPGRADE_LOST_AND_HANDED.map(control_lines),
-        &told,
-    );
+    expect_run(&rt, rt.alloc(), &UPGRADE_LOST_AND_HANDED, &told);
 }
 
 #[test]

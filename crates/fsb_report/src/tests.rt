@@ -4,11 +4,10 @@ use crate::{
 };
 use fsb_access::{Access, Done, Operand};
 use fsb_rules::Broken;
-use fsb_runs::{
-    ADS, BREQ0, CANCELLED_BY_ADDRESS_ERROR, Clock, DBSY, DRDY, LOAD_THEN_STORE_HIT, LOCK, RS0, RS1,
-    RS2, UPGRADE_OF_A_SHARED_LINE,
+use rows_store::{
+    ADS, CANCELLED_BY_ADDRESS_ERROR, Clock, LOAD_THEN_STORE_HIT, LOCKED_ITEM,
+    UPGRADE_OF_A_SHARED_LINE, trace,
 };
-use fsb_signal::{Lines, Sample};
 use std::alloc::Global;
 use std::process::Abort;
 
@@ -99,22 +98,6 @@ fn verdict_lines(rt: HostRuntime) {
     );
 }
 
-/// The run of one agent with one locked item, up to the last clock at which something is asserted.
-const LOCKED_ITEM: [Clock; 12] = [
-    (BREQ0, 0, 0),
-    (BREQ0, 0, 0),
-    (BREQ0 | LOCK | ADS, 0x2, 0x0),
-    (LOCK, 0x2, 0x0),
-    (LOCK, 0, 0),
-    (LOCK, 0, 0),
-    (LOCK, 0, 0),
-    (LOCK, 0, 0),
-    (LOCK | RS0 | RS1 | RS2 | DBSY | DRDY, 0, 0),
-    (LOCK | DBSY | DRDY, 0, 0),
-    (LOCK | DBSY | DRDY, 0, 0),
-    (LOCK | DRDY, 0, 0),
-];
-
 /// A read, two reads and invalidates, three write-backs and four replies, of low lines and of high ones.
 const EACH_KIND: [Clock; 20] = [
     (ADS, 0x6, 0x8),
@@ -151,12 +134,7 @@ fn counts(reads: u32, invalidates: u32, writebacks: u32, replies: u32) -> Reques
 
 /// Asserts that the trace of these clocks, which are fewer than 100, has so many requests.
 fn expect_counts(rt: &impl Abort, alloc: Global, clocks: &[Clock], counts: RequestCounts) {
-    let mut w = Vec::new(alloc);
-    for &(lines, req, addr) in clocks {
-        let lines = Lines(lines % (1 << 21));
-        let sample = Sample::known(lines, (req % 32) as u8, addr % (1 << 33), 0);
-        w.push(sample).expect(rt, "out of memory");
-    }
+    let w = trace(alloc, clocks).expect(rt, "out of memory");
     assert!(rt; w.len() < 100);
     assert_eq!(rt; request_counts(&w), counts);
 }

@@ -13,6 +13,4 @@ mod going;
 mod one_pass;
 mod row;
 mod search;
-#[cfg(test)]
-mod tests;
 mod told;

@@ -12,7 +12,6 @@ mod made;
 mod rows;
 mod runs;
 mod statuses;
-mod texts;
 mod words;
 
 /// A command line that names a bench file and a dump.

@@ -33,8 +33,6 @@ mod request;
 mod rules;
 mod seen;
 mod snoop;
-#[cfg(test)]
-mod tests;
 mod told;
 mod who;
 mod winner;

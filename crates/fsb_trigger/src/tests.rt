@@ -1,29 +1,14 @@
 use crate::{Found, Hunt, Test, Trigger, decimal_digits};
-use fsb_runs::STORE_HANDED_OVER_BEFORE_ARRIVAL;
-use fsb_signal::{Lines, Sample, idle_sample};
+use fsb_signal::{Lines, idle_sample};
+use rows_store::{STORE_HANDED_OVER_BEFORE_ARRIVAL, sample_at};
 use std::process::Abort;
 
-/// The sample of a clock of the run in which a store is handed over before its bytes have come, of 60 clocks.
-fn sample_at(clock: usize) -> Sample {
-    match STORE_HANDED_OVER_BEFORE_ARRIVAL.get(clock) {
-        Some((lines, req, addr)) => {
-            Sample::known(
-                Lines(*lines % (1 << 21)),
-                (*req % 32) as u8,
-                *addr % (1 << 33),
-                0,
-            )
-        }
-        None => idle_sample(),
-    }
-}
-
-/// What is found of the trigger in the run.
+/// What is found of the trigger in the run in which a store is handed over before its bytes have come, of 60 clocks.
 fn found_in_the_run(trigger: Trigger) -> Option<Found> {
     let mut hunt = Hunt::new(trigger);
     let mut found = None;
     for clock in 0..60 {
-        found = hunt.feed(&sample_at(clock));
+        found = hunt.feed(&sample_at(&STORE_HANDED_OVER_BEFORE_ARRIVAL, &[], clock));
     }
     found
 }

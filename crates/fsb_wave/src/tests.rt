@@ -1,24 +1,16 @@
 ghost use Rattle.std.specs.Prelude.{◌≤◌, ◌+◌};
 
 use crate::Wave;
-use fsb_signal::{Lines, Sample, Word, idle_sample};
+use fsb_signal::{Lines, Sample, Word};
+use rows_store::{ADS, LOAD_THEN_STORE_HIT, sample, sample_at};
 use std::process::Abort;
 
-/// The samples of a load and of a store that hits, of 60 clocks.
+/// The sample at a clock of a load and of a store that hits.
 fn load_then_store_hit(clock: u32) -> Sample {
-    let first_data = Lines::RS0.0 | Lines::RS1.0 | Lines::RS2.0 | Lines::DBSY.0 | Lines::DRDY.0;
-    match clock {
-        0 | 1 => Sample::known(Lines::BREQ0, 0, 0, 0),
-        2 => Sample::known(Lines(Lines::BREQ0.0 | Lines::ADS.0), 6, 8, 0),
-        3 => Sample::known(Lines(0), 2, 2, 0),
-        8 => Sample::known(Lines(first_data), 0, 0, 7),
-        9 | 10 => Sample::known(Lines(Lines::DBSY.0 | Lines::DRDY.0), 0, 0, 0),
-        11 => Sample::known(Lines::DRDY, 0, 0, 0),
-        _ => idle_sample(),
-    }
+    sample_at(&LOAD_THEN_STORE_HIT, &[(8, 0, 7)], clock as usize)
 }
 
-/// The wave of these samples.
+/// The wave of the first 60 clocks of that run.
 fn wave_of_the_load(from: u32, to: u32) -> Wave
     requires ordered { from ≤ to }
     requires few { to ≤ from + 63 }
@@ -137,7 +129,7 @@ fn wave_past_the_end_and_words_that_are_unknown(rt: HostRuntime) {
             unknown: 1,
         },
     };
-    let wave = wave_of_two(1, 64, &Sample::known(Lines::ADS, 6, 8, 0), &unknown);
+    let wave = wave_of_two(1, 64, &sample((ADS, 6, 8)), &unknown);
     assert_eq!(rt; wave.lines(), 24);
     let lines = [
         (7, "ADS   .\n"),

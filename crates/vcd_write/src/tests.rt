@@ -1,11 +1,13 @@
-ghost use Rattle.std.specs.Prelude.{◌≡◌, [], ◌∷◌};
-ghost use Rattle.fsb_signal.specs.Samples.{known_sample};
+ghost use Rattle.std.specs.Prelude.{IsTrue};
+ghost use Rattle.fsb_signal.specs.Samples.{is_known_trace};
 
 use crate::{put_clock, put_dump, put_header};
 use fsb_io::{Failed, MemSink};
-use fsb_signal::{Lines, Sample, idle_sample};
+use fsb_signal::{Sample, idle_sample};
+use rows_store::{
+    LOAD_THEN_STORE_HIT, NO_SAMPLES, PARITY_OF_A_LOAD, sample, sample_at, trace_of, with_parity,
+};
 use std::test::Fail;
-use vcd_dumps::{NO_SAMPLES, PARITY_OF_A_LOAD};
 
 const TWO_CLOCKS: &str = "\
 #20
@@ -60,16 +62,6 @@ b11 5
 ",
 ];
 
-/// Clocks 1 to 3 of a run: an agent asks for the bus, and reads a line.
-fn read_of_a_line() -> [Sample; 3]
-    ensures { result ≡ known_sample 1 0 0 0 ∷ known_sample 129 6 8 0 ∷ known_sample 0 2 2 0 ∷ [] }
-{
-    let asks = Sample::known(Lines::BREQ0, 0, 0, 0);
-    let begins = Sample::known(Lines(Lines::BREQ0.0 + Lines::ADS.0), 6, 8, 0);
-    let goes_on = Sample::known(Lines(0), 2, 2, 0);
-    [asks, begins, goes_on]
-}
-
 #[test]
 fn dump_of_no_samples(rt: HostRuntime) -> Result<(), Fail> {
     let mut sink = MemSink::new(rt.alloc(), 2_000, &[])?;
@@ -81,7 +73,9 @@ fn dump_of_no_samples(rt: HostRuntime) -> Result<(), Fail> {
 
 #[test]
 fn two_request_clocks(rt: HostRuntime) -> Result<(), Fail> {
-    let [asks, begins, goes_on] = read_of_a_line();
+    let asks = sample_at(&LOAD_THEN_STORE_HIT, &[], 1);
+    let begins = sample_at(&LOAD_THEN_STORE_HIT, &[], 2);
+    let goes_on = sample_at(&LOAD_THEN_STORE_HIT, &[], 3);
     let mut sink = MemSink::new(rt.alloc(), 2_000, &[])?;
     assert_eq!(rt; put_clock(&mut sink, 1, 2, &asks, &begins), Ok(()));
     assert_eq!(rt; put_clock(&mut sink, 1, 3, &begins, &goes_on), Ok(()));
@@ -92,19 +86,17 @@ fn two_request_clocks(rt: HostRuntime) -> Result<(), Fail> {
 
 #[test]
 fn fault_leaves_the_pieces_before_it(rt: HostRuntime) -> Result<(), Fail> {
-    let samples = read_of_a_line();
+    let first = sample_at(&LOAD_THEN_STORE_HIT, &[], 1);
+    let samples = trace_of(rt.alloc(), 3, &LOAD_THEN_STORE_HIT[1..], &[])?;
     let mut whole = MemSink::new(rt.alloc(), 2_000, &[])?;
-    assert_eq!(rt; put_header(&mut whole, 1, &samples[0]), Ok(()));
-    assert_eq!(rt;
-        put_clock(&mut whole, 1, 0, &idle_sample(), &samples[0]),
-        Ok(())
-    );
+    assert_eq!(rt; put_header(&mut whole, 1, &first), Ok(()));
+    assert_eq!(rt; put_clock(&mut whole, 1, 0, &idle_sample(), &first), Ok(()));
     let mut sink = MemSink::new(rt.alloc(), 2_000, &[2])?;
     assert_eq!(rt; put_dump(&mut sink, 1, &samples), Err(Failed));
     assert_eq!(rt; sink.holds(), whole.holds(), "the header and clock 0");
     let mut clock_zero = MemSink::new(rt.alloc(), 10, &[])?;
     assert_eq!(rt;
-        put_clock(&mut clock_zero, 1, 0, &idle_sample(), &samples[0]),
+        put_clock(&mut clock_zero, 1, 0, &idle_sample(), &first),
         Ok(())
     );
     assert_eq!(rt; clock_zero.holds(), b"#5\n1!\n".as_slice());
@@ -114,14 +106,11 @@ fn fault_leaves_the_pieces_before_it(rt: HostRuntime) -> Result<(), Fail> {
 
 /// Clocks 0 to 4 of a load of address 40 in profile 2.
 fn load_with_parity() -> [Sample; 5]
-    ensures { result
-        ≡ known_sample 1 0 0 0 ∷ known_sample 1 0 0 0 ∷ known_sample 1310849 6 8 0 ∷ known_sample 1310720 2 2 0
-        ∷ known_sample 0 0 0 0 ∷ [] }
+    ensures { IsTrue (is_known_trace result) }
 {
-    let parity = Lines::AP0.0 + Lines::RP.0;
-    let asks = Sample::known(Lines::BREQ0, 0, 0, 0);
-    let begins = Sample::known(Lines(Lines::BREQ0.0 + Lines::ADS.0 + parity), 6, 8, 0);
-    let goes_on = Sample::known(Lines(parity), 2, 2, 0);
+    let asks = sample(LOAD_THEN_STORE_HIT[0]);
+    let begins = sample(with_parity(LOAD_THEN_STORE_HIT[2]));
+    let goes_on = sample(with_parity(LOAD_THEN_STORE_HIT[3]));
     [asks, asks, begins, goes_on, idle_sample()]
 }
 

@@ -1,20 +1,19 @@
 //! Each call of an object fails once.
 
-use super::dumps::{Dump, joined, text_of};
+use super::dumps::{Dump, changed, joined, text_of};
 use super::looks::{AUDIT, FIND, FIRST_TABLE, FIRST_WAVE, SHOW, WAVE};
 use super::made::{LEAST, LEAST_SUMMARY};
 use super::runs::{EMPTY, EMPTY_LOG};
-use super::texts::{HEAD, TAIL};
 use super::{
     CHECK, Call, FIRST, FIRST_LOG, Fails, NAMED, NO_FAILS, Wanted, call_of, compared, end_of,
     expect, lines_of, told,
 };
 use crate::{Status, code};
 use fsb_io::Memory;
+use rows_store::{NO_SAMPLES, SIMULATOR_HEAD, SIMULATOR_RISES, SIMULATOR_START};
 use std::alloc::Global;
 use std::process::Abort;
 use std::test::Fail;
-use vcd_dumps::{SIMULATOR_HEAD, SIMULATOR_RISES, SIMULATOR_START};
 
 /// A call that ends with `Done`: how often it calls the source and the dump, and what it prints.
 #[derive(Clone, Copy)]
@@ -236,9 +235,8 @@ fn clock_text(alloc: Global, clock: u32) -> Result<String, Memory> {
 /// Adds what a call of the dump adds to it: the begin nothing, then the header and the first values, and then the clocks.
 fn add_piece(alloc: Global, text: &mut Vec<u8>, call: u32) -> Result<(), Memory> {
     if call == 1 {
-        for part in [HEAD, "0\"\n", TAIL] {
-            text.extend_from_slice(part.as_bytes())?;
-        }
+        let asked = changed(alloc, NO_SAMPLES, "1\"\n", "0\"\n")?;
+        text.extend_from_slice(&asked)?;
     } else if call > 1 {
         let piece = clock_text(alloc, call - 2)?;
         text.extend_from_slice(piece.as_bytes())?;
@@ -306,12 +304,11 @@ fn each_write_of_a_dump_fails(rt: HostRuntime) -> Result<(), Fail> {
 
 #[test]
 fn empty_run(rt: HostRuntime) -> Result<(), Fail> {
-    let text = joined(rt.alloc(), &[HEAD, "1\"\n", TAIL])?;
     let wanted = Wanted {
         calls: (3, 1, 2),
         ..told(Status::Done, EMPTY_LOG)
     };
-    let whole = dump_difference(rt.alloc(), EMPTY, NO_FAILS, &wanted, &text)?;
+    let whole = dump_difference(rt.alloc(), EMPTY, NO_FAILS, &wanted, NO_SAMPLES.as_bytes())?;
     assert_eq!(rt; whole, "");
     Ok(())
 }

@@ -775,7 +775,7 @@ fn run_difference(alloc: Global, text: &str, log: &str) -> Result<&'static str, 
     }
 }
 
-/// The log is compared whole. Of the dump it is looked that its check accepts it: fsb_bench_trials compares the trace.
+/// The log is compared whole. Of the dump it is looked that its check accepts it: rows_benches compares the trace.
 #[test]
 fn worked_runs(rt: HostRuntime) -> Result<(), Fail> {
     for (name, text, log) in ROWS.iter() {

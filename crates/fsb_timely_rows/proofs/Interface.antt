@@ -1,6 +1,0 @@
--- The lemmas of this crate that others draw on; no other name of its proofs is used outside.
-
--- Clocks and entries as rows are laid out.
-pub use Rattle.fsb_timely_rows.proofs.LaidOut.{clock, entry, idle, run_of}
--- A run, opened for computing.
-unfoldable pub use Rattle.fsb_timely_rows.proofs.Opened.{opened}

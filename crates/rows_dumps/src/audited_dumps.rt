@@ -1,0 +1,68 @@
+//! Audits of dumps that are written of worked waveforms, and the lines that are printed of them.
+
+use crate::written;
+use fsb_audit::{Finding, FoulAt};
+use fsb_audit_dump::{Audited, audit_dump, audit_line};
+use fsb_io::MemSource;
+use fsb_rules::Broken;
+use rows_store::{
+    Clock, DIRTY_VICTIM_WRITTEN_BACK, Extra, REQUEST_SPACING_BROKEN, UPGRADE_OF_A_SHARED_LINE,
+};
+use std::test::Fail;
+
+fn foul(clock: u32, addr: u64) -> Result<u64, Finding> {
+    Err(Finding::Foul(FoulAt { clock, addr }))
+}
+
+#[test]
+fn clean_and_foul_dumps(rt: HostRuntime) -> Result<(), Fail> {
+    let broken = Err(Finding::Broken(Broken { clock: 4, rule: 2 }));
+    // A line that is read twice, first as it was and then otherwise; one that is written back and read again, as it was written
+    // and otherwise; a broken rule.
+    let table: [(&[Clock], &[Extra], Result<u64, Finding>, &str); 6] = [
+        (
+            &UPGRADE_OF_A_SHARED_LINE,
+            &[],
+            Ok(8),
+            "clean clocks=60 chunks=8\n",
+        ),
+        (
+            &UPGRADE_OF_A_SHARED_LINE,
+            &[(12, 0, 1)],
+            foul(12, 0x40),
+            "foul clock=12 addr=40\n",
+        ),
+        (
+            &DIRTY_VICTIM_WRITTEN_BACK,
+            &[],
+            Ok(16),
+            "clean clocks=60 chunks=16\n",
+        ),
+        (
+            &DIRTY_VICTIM_WRITTEN_BACK,
+            &[(22, 0, 1), (46, 0, 1)],
+            Ok(16),
+            "clean clocks=60 chunks=16\n",
+        ),
+        (
+            &DIRTY_VICTIM_WRITTEN_BACK,
+            &[(22, 0, 1)],
+            foul(46, 0x40),
+            "foul clock=46 addr=40\n",
+        ),
+        (
+            &REQUEST_SPACING_BROKEN,
+            &[],
+            broken,
+            "rejected clock=4 rule=2\n",
+        ),
+    ];
+    for (clocks, extras, found, text) in table {
+        let dump = written(rt.alloc(), 60, clocks, extras)?;
+        let mut source = MemSource::new(rt.alloc(), dump.holds(), &[])?;
+        let audited = Audited { clocks: 60, found };
+        assert_eq!(rt; audit_dump(rt.alloc(), "d.vcd", &mut source), Ok(audited));
+        assert_eq!(rt; audit_line(audited).as_slice(), text.as_bytes());
+    }
+    Ok(())
+}

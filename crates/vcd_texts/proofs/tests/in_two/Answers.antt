@@ -1,6 +1,0 @@
-use Rattle.std.proofs.Common.{[]}
-use Rattle.vcd_texts.proofs.tests.in_two.Goals as goal
-
--- the reader stands for all that was fed
-pub finish-requires : goal.finish-requires
-finish-requires c = (_, c.feed-2.ensures.stands _ (c.feed.ensures.stands [] c.in-Ok.ensures.stands))

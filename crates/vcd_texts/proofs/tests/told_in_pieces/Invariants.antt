@@ -1,9 +1,0 @@
-use Rattle.std.proofs.Common.{length, ◌-◌, ◌≡◌, ℕ, ◌≤◌, List}
-use Rattle.vcd_read.specs.Standing.{Stands}
-use Rattle.vcd_texts.proofs.tests.told_in_pieces.Given as goal
-
-abbrev pub invariant-loop-at : goal.invariant-loop-at
-invariant-loop-at l = (fed : List ℕ) × Stands l.reader fed × (length fed ≡ l.at) × (l.at ≤ length l.bytes)
-
-abbrev pub decreases-loop-at : goal.decreases-loop-at
-decreases-loop-at l = length l.bytes - l.at
