@@ -34,6 +34,6 @@ for _ in range(5):
     begin = time.perf_counter()
     done = subprocess.run([program, "check", many], stdout=subprocess.PIPE)
     times.append(time.perf_counter() - begin)
-    assert done.returncode == 0 and done.stdout == b"accepted clocks=1600\n", done
+    assert done.returncode == 0 and done.stdout == b"accepted clocks=29000\n", done
 row(f"judging a dump of {count + 20} variables ({os.path.getsize(many) / 1e6:.0f} MB)", f"{1000 * min(times):.0f} ms", most_memory([program, "check", many]), "500 ms or less, 50 MB or less")
 PY
