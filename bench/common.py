@@ -41,21 +41,27 @@ def row(work, measured, memory, asked):
     print("%-62s %-10s %12s   %s" % (work, measured, "" if memory is None else "%.1f MiB" % memory, asked))
 
 
+def busy_bench(clocks, items, settings=""):
+    """A bench of four agents with so many items each, four requests each at a time, caches of one line: each access leaves the line of
+    the one before, and half of them take a line that another agent has Modified. So the bus is busy until the last item is done."""
+    text = ["p6bench 1\nagents 4\nclocks %d\ncache 1\nahead 4\n" % clocks, settings]
+    for agent in range(4):
+        text.append("agent %d\n" % agent)
+        for n in range(items):
+            line = (n * 5 + agent * 3) % 64 if n % 2 else 64 + agent * 64 + n % 64
+            text.append("st 8 %x %x\n" % (32 * line + 8, n) if n % 4 < 2 else "ld 8 %x\n" % (32 * line))
+        text.append("end\n")
+    return "".join(text)
+
+
 def large_dump(program, folder, size):
     """Writes a dump of so many bytes or a little more into the folder, in the form that the program writes: the clocks of a real run over
     and over with rising time stamps. Answers its name, that of a dump of its header alone, and how many clocks it has."""
     bench, run, large, small = (os.path.join(folder, name) for name in ("run.bench", "run.vcd", "large.vcd", "small.vcd"))
 
     # a run of four busy agents, whose last accesses are over before its last clock
-    words = ["p6bench 1\nagents 4\nclocks 29000\ncache 1\nahead 4\n"]
-    for agent in range(4):
-        words.append("agent %d\n" % agent)
-        for n in range(1024):
-            line = (n * 5 + agent * 3) % 64 if n % 2 else 64 + agent * 64 + n % 64
-            words.append("st 8 %x %x\n" % (32 * line + 8, n) if n % 4 < 2 else "ld 8 %x\n" % (32 * line))
-        words.append("end\n")
     with open(bench, "w") as out:
-        out.write("".join(words))
+        out.write(busy_bench(29_000, 1_024))
     said = subprocess.run([program, "run", bench, run], stdout=subprocess.PIPE, check=True).stdout.decode().splitlines()[-1]
     assert said.endswith("done=4096 of=4096"), said
 

@@ -7,23 +7,15 @@ set -eu
 python3 - "$program" "$folder" <<'PY'
 import os, subprocess, sys, time
 sys.path.insert(0, "bench")
-from common import most_memory, row
+from common import busy_bench, most_memory, row
 program, folder = sys.argv[1:]
 bench = os.path.join(folder, "busy.bench")
 dump = os.path.join(folder, "busy.vcd")
 
-# Four agents, four requests each at a time, caches of one line: each access leaves the line of the one before, and half of them
-# take a line that another agent has Modified. So the bus is busy to the last clock.
+# the four busy agents, in the bench file
 def busy(clocks, settings=""):
-    text = ["p6bench 1\nagents 4\nclocks %d\ncache 1\nahead 4\n" % clocks, settings]
-    for agent in range(4):
-        text.append("agent %d\n" % agent)
-        for n in range(4096):
-            line = (n * 5 + agent * 3) % 64 if n % 2 else 64 + agent * 64 + n % 64
-            text.append("st 8 %x %x\n" % (32 * line + 8, n) if n % 4 < 2 else "ld 8 %x\n" % (32 * line))
-        text.append("end\n")
     with open(bench, "w") as out:
-        out.write("".join(text))
+        out.write(busy_bench(clocks, 4_096, settings))
 
 def best(*words):
     times = []
