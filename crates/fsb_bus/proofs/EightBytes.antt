@@ -5,7 +5,8 @@ use Rattle.fsb_access.specs.ByteMemory.{value_of_bytes}
 -- the number that the four bytes from this place on spell
 abbrev pub half_from : List ℕ → ℕ → ℕ
 half_from bytes n =
-    value_of_bytes (get_or bytes n 0 ∷ (get_or bytes (n + 1) 0 ∷ (get_or bytes (n + 2) 0 ∷ (get_or bytes (n + 3) 0 ∷ []))))
+    value_of_bytes
+    (get_or bytes n 0 ∷ (get_or bytes (n + 1) 0 ∷ (get_or bytes (n + 2) 0 ∷ (get_or bytes (n + 3) 0 ∷ []))))
 
 pub spelled : (bytes : List ℕ) → length bytes ≡ 8
     → half_from bytes 0 + 4294967296 * half_from bytes 4 ≡ value_of_bytes bytes

@@ -7,8 +7,9 @@ use Rattle.fsb_script.specs.Plans.{PlanView}
 use Rattle.fsb_timely.specs.Runs.{Run}
 use Rattle.fsb_top.specs.BenchEnds.{HasRun, HasRunFrom, HasRunOf, IsDumped, IsLogged, IsWritten}
 use Rattle.fsb_top.specs.declared.status.Status.{Status}
-use Rattle.fsb_top.specs.declared.status.Status.TheVariants.{Done, Rejected, BadWords, BadBench, BadDump, ReadFault}
-use Rattle.fsb_top.specs.declared.status.Status.TheVariants.{WriteFault, DumpFault, OutOfMemory, TooLong, Foul, NotFound}
+use Rattle.fsb_top.specs.declared.status.Status.TheVariants.{Done, Rejected, BadWords, BadBench, BadDump}
+use Rattle.fsb_top.specs.declared.status.Status.TheVariants.{ReadFault, WriteFault, DumpFault, OutOfMemory}
+use Rattle.fsb_top.specs.declared.status.Status.TheVariants.{TooLong, Foul, NotFound}
 
 -- the status stays as the call had it, or the call was done and the end of its dump was not handed on
 abbrev pub Ends : Status → Status → Type 0

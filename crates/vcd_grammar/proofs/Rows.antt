@@ -220,7 +220,8 @@ declares =
     "$var wire 1 m LOCK_n $end $var wire 7 n LOCK_n $end $enddefinitions $end 0a 0m b1111111 n #5 1a")
     (unset 32 0 ∷ [])
     ∷ good (codes
-    "$var wire 1 m LOCK_n $end $var wire 1 m BNR_n $end $var wire 9 m other $end $enddefinitions $end 0a 0m #5 1a") (unset 96 0 ∷ [])
+    "$var wire 1 m LOCK_n $end $var wire 1 m BNR_n $end $var wire 9 m other $end $enddefinitions $end 0a 0m #5 1a")
+    (unset 96 0 ∷ [])
     ∷ good (codes "$var wire 1 m LOCK_n $end $var wire 1 m BNR_n $end $enddefinitions $end 0a b0 m #5 1a")
     (unset 96 0 ∷ [])
     ∷ good (codes "$var wire 1 a LOCK_n $end $enddefinitions $end 0a #5 1a") (unset 32 0 ∷ [])

@@ -30,7 +30,8 @@ clock_text-zero profile clock before now zero = rw zero (rises (decimal (10 * 0 
 -- a later clock is its falling edge, what changed, and its rising edge
 pub clock_text-later : (profile clock : ℕ) (before now : Sample) → clock ≢ 0 →
     with_edge (with_edge [] (decimal (10 * clock))
-    (codes "0!\n") ++ texts_from (change_text before now) 1 (entries_in profile - 1)) (decimal (10 * clock + 5)) (codes "1!\n")
+    (codes "0!\n") ++ texts_from (change_text before now) 1 (entries_in profile - 1))
+    (decimal (10 * clock + 5)) (codes "1!\n")
     ≡ clock_text profile clock before now
 unfolding clock_text
 clock_text-later profile clock before now later =
