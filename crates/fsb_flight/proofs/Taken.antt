@@ -25,9 +25,9 @@ use Rattle.fsb_phase.specs.declared.phases.Phases.{Phases}
 use Rattle.fsb_phase.specs.Due.{rank_of}
 use Rattle.fsb_phase.specs.Drive.{ends_snoop_at, has_end_at, phased_at}
 use Rattle.fsb_phase.specs.Phases.{Stands, MayTake, snooped_count}
-use Rattle.fsb_phase.specs.Registers.{if_passes}
-use Rattle.fsb_phase.proofs.Interface.{Found, find-cases, find-place, find-off, find-first, placed, outcome_reached}
-use Rattle.fsb_phase.proofs.Interface.{reached_before, not_reached_from, number_stays, Step, course, no_end}
+use Rattle.fsb_phase.proofs.Interface.{Found, if_passes, find-cases, find-place, find-off, find-first, placed}
+use Rattle.fsb_phase.proofs.Interface.{outcome_reached, reached_before, not_reached_from, number_stays, Step, no_end}
+use Rattle.fsb_phase.proofs.Interface.{unended_after}
 use Rattle.fsb_flight.specs.GoesOn.{settles, stays_in_flight, goes_on, Rising}
 use Rattle.fsb_flight.specs.Steps.{settle_first, number_before, without_if, cancel_before, begun_list, queue_after}
 use Rattle.fsb_flight.proofs.QueueStep.{map_from, is_next, step_at, settles_clock, settles_not, settles_now}
@@ -109,14 +109,7 @@ ends_later p h x queue e s j y st l g =
     let v : Trace = h ++ x ∷ [] in
     let here = placed h queue e j y st.meets.flight st.meets.ends g in
     let number : rank_of v y ≡ e + j = number_stays h x v e j y st.more st.stands.orderly.spaced here in
-    let none : end_of v (e + j) ≡ None = elim (course p h x v queue e s st) [
-      | inl q ↦ q.ends.above (e + j) (omega arith)
-      | inr other ↦ elim other [
-        | inl d ↦ d.ends.above (e + j) (omega arith)
-        | inr w ↦ w.ends.above (e + j) (omega arith)
-      ]
-    ] in
-    no_end v (length h) y (ap (end_of v) number ∙ none)
+    no_end v (length h) y (ap (end_of v) number ∙ unended_after st (e + j) (omega arith))
 
 -- whether the request that begins at q ends at n
 abbrev ends_clock : Trace → ℕ → ℕ → Bool
@@ -140,7 +133,6 @@ head_leaves : (r : ℕ → Bool) (f : Entry → Entry) (es : List Entry) → ((y
     → ((j : ℕ) (y : Entry) → 0 < j → slice_get es j ≡ Some y → r y.clock ≡ false)
     → cond (is_some (if_passes (λ y. r y.clock) (slice_get es 0))) (drop 1 (map f es)) (map f es)
     ≡ filter (λ e. not (r e.clock)) (map f es)
-unfolding if_passes
 head_leaves r f [] c later = refl
 head_leaves r f (z ∷ zs) c later =
     let rest : filter (λ e. not (r e.clock)) (map f zs) ≡ map f zs =

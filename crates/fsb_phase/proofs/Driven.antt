@@ -1,88 +1,122 @@
 -- What the phases drive is what is due.
-use Rattle.std.proofs.Common.{ℕ, suc, ◌<◌, ◌≤◌, ◌≡◌, Option, Some, None, List, length, refl, inl, inr, arith}
-use Rattle.std.specs.List.{slice_get}
-use Rattle.std.proofs.lemmas.Bool.{cases_lt}
+use Rattle.std.proofs.Common.{ℕ, ◌<◌, ◌≡◌, Bool, true, false, ◌&&◌, cond, Option, Some, None, List, is_some}
+use Rattle.std.proofs.Common.{is_none, refl, sym, ap, ◌∙◌}
+use Rattle.std.specs.List.{slice_get, find}
+use Rattle.std.specs.Option.{option_map, option_map_or, option_and_then}
+use Rattle.fsb_count.specs.Options.{is_some_and}
 use Rattle.fsb_trace.specs.At.{Trace}
-use Rattle.fsb_laws.specs.Orderly.{Orderly}
-use Rattle.fsb_laws.specs.Progress.{SnoopsTo, EndsTo, response_count, transfer_of}
-use Rattle.fsb_laws.proofs.Interface.{response_there, response_past, has_answer, ends_to-still, ends_to-moving}
-use Rattle.fsb_laws.proofs.Interface.{transfer_parts}
+use Rattle.fsb_trace.specs.Requests.{live_clock_of}
+use Rattle.fsb_trace.specs.Snoop.{is_every_second_from, snoop_start_of, snoop_end_of}
+use Rattle.fsb_trace.specs.Timing.{is_stall_from, chunk_from, is_busy_from}
+use Rattle.fsb_laws.specs.Progress.{SnoopsTo}
 use Rattle.fsb_queue.specs.declared.entry.Entry.{Entry}
+use Rattle.fsb_phase.specs.declared.drive.Drive.{Drive}
 use Rattle.fsb_phase.specs.declared.phases.Phases.{Phases}
-use Rattle.fsb_phase.proofs.Held.{Held}
-use Rattle.fsb_phase.specs.Drive.{drive_of}
-use Rattle.fsb_phase.specs.Phases.{Stands, snooped_count, last_snoop_end}
-use Rattle.fsb_phase.specs.Registers.{drive_by}
-use Rattle.fsb_phase.proofs.Counts.{snoops_to}
-use Rattle.fsb_phase.proofs.SnoopDrive.{Meets, snooping-is, stalled-is}
-use Rattle.fsb_phase.proofs.HeadDrive.{Answered, Same, Idle, same_head, idle-later, trdy-is, rs-is, dbsy-is, chunk-is}
+use Rattle.fsb_phase.specs.Due.{has_snoop, is_stalled, has_ready, has_response, response_to_now, is_moving, due_chunk}
+use Rattle.fsb_phase.specs.Due.{keeps_busy}
+use Rattle.fsb_phase.specs.Drive.{settled_code, numbered_chunk, drive_of}
+use Rattle.fsb_phase.specs.Phases.{value_before, last_snoop_end, snooped_count}
+use Rattle.fsb_phase.specs.Next.{IsNext}
+use Rattle.fsb_phase.proofs.Finds.{if_passes, find-first}
+use Rattle.fsb_phase.proofs.Held.{held}
+use Rattle.fsb_phase.proofs.Snoops.{Meets, open_clock, snooping_clock, snooping_some, some_if, stalled_some}
+use Rattle.fsb_phase.proofs.Heads.{Idle, far, idle-later, meets}
 
--- how far an orderly history has come
-pub record Far (h : Trace) (e : ℕ) : Type 0 where
-  pub ends : EndsTo h e
-  pub answered : Answered h e
-  pub within : e ≤ response_count h
+code_if : (b : Bool) (y : Entry) → option_map_or settled_code (cond b (Some y) None) 0 ≡ cond b (settled_code y) 0
+code_if true y = refl
+code_if false y = refl
 
-responses_snooped : (h : Trace) (s : ℕ) → Orderly h → SnoopsTo h s → response_count h ≤ s
-responses_snooped h s o to =
-    elim (cases_lt s (response_count h)) [
-      | inr l ↦ l
-      | inl l ↦
-          let r = response_there h s l in
-          let a = has_answer h r.0 s (o.timely s r.0 r.1) in
-          absurd (let f = a.is_snoop in (let g = to.next in (let none : ⊥ = cc in none)))
-    ]
+chunk_if : (h : Trace) (y : Entry)
+    → option_and_then (numbered_chunk h) (cond (is_some (due_chunk h y)) (Some y) None) ≡ numbered_chunk h y
+unfolding numbered_chunk
+chunk_if h y = go (due_chunk h y) refl where
+  go : (o : Option ℕ) → due_chunk h y ≡ o
+      → option_and_then (λ (z : Entry). option_map {U = ℕ × ℕ} (λ n. (z.number, n)) (due_chunk h z))
+      (cond (is_some (due_chunk h y)) (Some y) None) ≡ option_map {U = ℕ × ℕ} (λ n. (y.number, n)) (due_chunk h y)
+  go None e = rw e refl
+  go (Some n) e = rw (e, e) refl
 
-far_by : (h : Trace) (t : Option ℕ) → Orderly h → transfer_of h ≡ t → (e : ℕ) × Far h e
-far_by h None o f = (
-  response_count h,
-  record {
-    ends = ends_to-still h o f;
-    answered = record { later = λ i l. response_past h i (omega arith); head = inl (f, refl) };
-    within = omega arith;
-  },
-)
-far_by h (Some k) o f =
-    let p = transfer_parts h k f in
-    let i : ℕ = p.0 in
-    let count : response_count h ≡ suc i = p.1 in
-    let r = response_there h i (omega arith) in (
-      i,
-      record {
-        ends = ends_to-moving h k i o f count;
-        answered = record { later = λ j l. response_past h j (omega arith); head = inr (k, r.0, f, count, r.1) };
-        within = omega arith;
-      },
-    )
+module _ {p : Phases} {clock : ℕ} {queue : List Entry} {turns : List ℕ} {h : Trace}
+    (n : IsNext p clock queue turns h) where
+  pub next_meets : (e : ℕ) × Meets h queue e (snooped_count h)
+  next_meets =
+      let w = far h n.stands.orderly in
+      (w.0, meets h queue w.0 n.stands.orderly (held queue turns h n.flight) w.1)
 
-pub far : (h : Trace) → Orderly h → (e : ℕ) × Far h e
-far h o = far_by h (transfer_of h) o refl
+  -- the snoop, where the first snoop clock of a request is this one if it is the first without its snoop end
+  pub snooping_next : (y : Entry) (start : ℕ) (b : Bool) → find (λ z. is_none z.outcome) queue ≡ Some y
+      → ((s : ℕ) → SnoopsTo h s → p.snooped ≡ value_before (snoop_end_of h) s → live_clock_of h s ≡ Some y.clock
+      → snoop_start_of h s ≡ Some start) → is_every_second_from start clock ≡ b
+      → find (has_snoop h) queue ≡ cond b (Some y) None
+  unfolding last_snoop_end
+  snooping_next y start b f start_is t =
+      let m = next_meets.1 in
+      snooping_some m y start b f (start_is (snooped_count h) m.snoops n.stands.snooped (open_clock m y f))
+      (ap (is_every_second_from start) (sym n.clock_is) ∙ t)
 
-pub meets : (p : Phases) (h : Trace) (queue : List Entry) (e : ℕ) → Stands p h → Held queue h → Far h e
-    → Meets p h queue e (snooped_count h)
-unfolding last_snoop_end
-meets p h queue e k f w =
-    let to = snoops_to h in
-    let within : response_count h ≤ snooped_count h = responses_snooped h (snooped_count h) k.orderly to in
-    let low : e ≤ response_count h = w.within in
-    record { ends = w.ends; snoops = to; order = omega arith; flight = f; snooped = k.snooped }
+  pub stalled_next : (y : Entry) (start : ℕ) → find (has_snoop h) queue ≡ Some y
+      → ((s : ℕ) → SnoopsTo h s → p.snooped ≡ value_before (snoop_end_of h) s → live_clock_of h s ≡ Some y.clock
+      → snoop_start_of h s ≡ Some start)
+      → is_stall_from y.choice.stall clock start ≡ is_some (find (is_stalled h) queue)
+  unfolding last_snoop_end
+  stalled_next y start f start_is =
+      let m = next_meets.1 in
+      ap (λ c. is_stall_from y.choice.stall c start) n.clock_is
+      ∙ sym (stalled_some m y start f
+      (start_is (snooped_count h) m.snoops n.stands.snooped (snooping_clock m y f)))
 
--- what the phases drive by what they keep is what is due after the history
-pub driven : (p : Phases) (h : Trace) (queue : List Entry) → Stands p h → Held queue h
-    → drive_by p (length h) queue ≡ drive_of h queue
-unfolding drive_by drive_of
-driven p h queue k f =
-    let w = far h k.orderly in
-    let m = meets p h queue w.0 k f w.1 in
-    let same : (y : Entry) → slice_get queue 0 ≡ Some y
-    → Same p h y = λ y g. same_head p h queue w.0 y k f w.1.ends w.1.answered g in
-    let idle : (j : ℕ) (y : Entry) → 0 < j → slice_get queue j ≡ Some y
-    → Idle h y = λ j y l g. idle-later h queue w.0 j y f w.1.ends w.1.answered l g in
-    rw (
-      stalled-is p h queue w.0 (snooped_count h) m,
-      snooping-is p h queue w.0 (snooped_count h) m,
-      trdy-is p h queue same idle,
-      rs-is p h queue same idle,
-      dbsy-is p h queue same idle,
-      chunk-is p h queue same idle,
-    ) refl
+  -- what is due is due of the oldest request
+  later_idle : (j : ℕ) (y : Entry) → 0 < j → slice_get queue j ≡ Some y → Idle h y
+  later_idle j y l g =
+      let w = far h n.stands.orderly in idle-later h queue w.0 j y (held queue turns h n.flight) w.1 l g
+
+  first_of : (o : Option Entry) (t : Entry → Bool) → slice_get queue 0 ≡ o
+      → ((y : Entry) → Idle h y → t y ≡ false) → find t queue ≡ if_passes t o
+  first_of o t at off =
+      find-first t queue (λ j y l g. off y (later_idle j y l g)) ∙ ap (if_passes t) at
+
+  pub drive_some : (y : Entry) (trdy responds : Bool) (answered : Option ℕ) → slice_get queue 0 ≡ Some y
+      → trdy ≡ has_ready h y → responds ≡ has_response h y → answered ≡ response_to_now h y
+      → ◌≡◌ {A = Drive} (record {
+        snoop = option_map (λ e. e.number) (find (has_snoop h) queue);
+        stall = is_some (find (is_stalled h) queue);
+        trdy = trdy;
+        rs = cond responds (settled_code y) 0;
+        dbsy = is_moving y && is_some_and answered (is_busy_from y.choice.gap clock);
+        chunk = option_map (λ k. (y.number, k))
+            (cond (is_moving y) (option_and_then (chunk_from y.choice.gap clock) answered) None);
+      }) (drive_of h queue)
+  unfolding drive_of keeps_busy numbered_chunk due_chunk
+  drive_some y trdy responds answered at ready response to_now =
+      rw (
+        first_of (Some y) (has_ready h) at (λ z i. i.ready),
+        first_of (Some y) (has_response h) at (λ z i. i.response),
+        first_of (Some y) (keeps_busy h) at (λ z i. i.busy),
+        first_of (Some y) (λ z. is_some (due_chunk h z)) at (λ z i. i.chunk),
+        some_if (has_ready h y) y,
+        code_if (has_response h y) y,
+        some_if (keeps_busy h y) y,
+        chunk_if h y,
+        ready,
+        response,
+        to_now,
+        n.clock_is,
+      ) refl
+
+  pub drive_none : slice_get queue 0 ≡ None
+      → ◌≡◌ {A = Drive} (record {
+        snoop = option_map (λ e. e.number) (find (has_snoop h) queue);
+        stall = is_some (find (is_stalled h) queue);
+        trdy = false;
+        rs = 0;
+        dbsy = false;
+        chunk = None;
+      }) (drive_of h queue)
+  unfolding drive_of
+  drive_none at =
+      rw (
+        first_of None (has_ready h) at (λ z i. i.ready),
+        first_of None (has_response h) at (λ z i. i.response),
+        first_of None (keeps_busy h) at (λ z i. i.busy),
+        first_of None (λ z. is_some (due_chunk h z)) at (λ z i. i.chunk),
+      ) refl

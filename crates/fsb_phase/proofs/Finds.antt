@@ -1,10 +1,13 @@
 -- The first element of a list that passes, by its place.
-use Rattle.std.proofs.Common.{ℕ, zero, suc, ◌<◌, ◌≡◌, Bool, true, false, Option, Some, None, List, [], ◌∷◌, refl, sym}
-use Rattle.std.proofs.Common.{ap, ◌∙◌, inl, inr, arith, subst, is_none, is_some, ◌⊎◌}
+use Rattle.std.proofs.Common.{ℕ, zero, suc, ◌<◌, ◌≡◌, Bool, true, false, cond, Option, Some, None, List, [], ◌∷◌}
+use Rattle.std.proofs.Common.{refl, sym, ap, ◌∙◌, inl, inr, arith, subst, is_none, is_some, ◌⊎◌}
 use Rattle.std.specs.List.{slice_get, find}
 use Rattle.std.proofs.lemmas.Bool.{cases_Bool, cases_eq}
-use Rattle.fsb_queue.specs.declared.entry.Entry.{Entry}
-use Rattle.fsb_phase.specs.Registers.{if_passes}
+
+-- the element, if it passes
+abbrev pub if_passes : {X : Type 0} → (X → Bool) → Option X → Option X
+if_passes test None = None
+if_passes test (Some x) = cond (test x) (Some x) None
 
 pub find-place : {X : Type 0} (p : X → Bool) (xs : List X) (k : ℕ) (x : X) → slice_get xs k ≡ Some x
     → p x ≡ true → ((j : ℕ) (y : X) → j < k → slice_get xs j ≡ Some y → p y ≡ false) → find p xs ≡ Some x
@@ -64,8 +67,28 @@ find-cases p (z ∷ xs) =
       ]
     ]
 
-at_all : (p : Entry → Bool) (xs : List Entry) (k : ℕ) (x : Entry) → slice_get xs k ≡ Some x → p x ≡ false
-    → ((j : ℕ) (y : Entry) → (j ≡ k → ⊥) → slice_get xs j ≡ Some y → p y ≡ false) → (j : ℕ) (y : Entry)
+pub find-found : {X : Type 0} {p : X → Bool} {xs : List X} (k : Found p xs) → find p xs ≡ Some k.item
+find-found {X} {p} {xs} k = find-place p xs k.place k.item k.at k.passes k.before
+
+-- the element that is found, by its place; and none passes where none is
+pub found_at : {X : Type 0} (p : X → Bool) (xs : List X) (x : X) → find p xs ≡ Some x
+    → (k : Found p xs) × (k.item ≡ x)
+found_at p xs x e =
+    elim (find-cases p xs) [
+      | inl k ↦ (k, (let same : Some k.item ≡ Some x = sym (find-found k) ∙ e in cc))
+      | inr f ↦ absurd (let none = find-off p xs f in let no : ⊥ = cc in no)
+    ]
+
+pub found_none : {X : Type 0} (p : X → Bool) (xs : List X) → find p xs ≡ None
+    → (j : ℕ) (y : X) → slice_get xs j ≡ Some y → p y ≡ false
+found_none p xs e =
+    elim (find-cases p xs) [
+      | inl k ↦ absurd (let some = find-found k in let no : ⊥ = cc in no)
+      | inr f ↦ f
+    ]
+
+at_all : {X : Type 0} (p : X → Bool) (xs : List X) (k : ℕ) (x : X) → slice_get xs k ≡ Some x → p x ≡ false
+    → ((j : ℕ) (y : X) → (j ≡ k → ⊥) → slice_get xs j ≡ Some y → p y ≡ false) → (j : ℕ) (y : X)
     → slice_get xs j ≡ Some y → p y ≡ false
 at_all p xs k x e off f j y g =
     elim (cases_eq j k) [
@@ -77,26 +100,22 @@ at_all p xs k x e off f j y g =
     ]
 
 -- where one place alone may pass
-pub find-only : (p : Entry → Bool) (xs : List Entry) (k : ℕ) (x : Entry) → slice_get xs k ≡ Some x
-    → ((j : ℕ) (y : Entry) → (j ≡ k → ⊥) → slice_get xs j ≡ Some y → p y ≡ false) → find p xs ≡ if_passes p (Some x)
-unfolding if_passes
+pub find-only : {X : Type 0} (p : X → Bool) (xs : List X) (k : ℕ) (x : X) → slice_get xs k ≡ Some x
+    → ((j : ℕ) (y : X) → (j ≡ k → ⊥) → slice_get xs j ≡ Some y → p y ≡ false) → find p xs ≡ cond (p x) (Some x) None
 find-only p xs k x e f =
     elim (cases_Bool (p x)) [
       | inl t ↦ rw t (find-place p xs k x e t (λ j y l g. f j y (λ same. omega arith) g))
       | inr off ↦ rw off (find-off p xs (at_all p xs k x e off f))
     ]
 
--- where there is no entry, none passes
-pub none_passes : (p : Entry → Bool) → None ≡ if_passes p None
-unfolding if_passes
-none_passes p = refl
-
 -- where the first alone may pass
-first_only : (p : Entry → Bool) (xs : List Entry) (o : Option Entry) → slice_get xs 0 ≡ o
-    → ((j : ℕ) (y : Entry) → 0 < j → slice_get xs j ≡ Some y → p y ≡ false) → find p xs ≡ if_passes p (slice_get xs 0)
-first_only p [] o e f = none_passes p
-first_only p (z ∷ xs) o e f = find-only p (z ∷ xs) 0 z refl (λ j y other g. f j y (omega (arith, other)) g)
+pub find-first : {X : Type 0} (p : X → Bool) (xs : List X)
+    → ((j : ℕ) (y : X) → 0 < j → slice_get xs j ≡ Some y → p y ≡ false) → find p xs ≡ if_passes p (slice_get xs 0)
+find-first p [] f = refl
+find-first p (z ∷ xs) f = find-only p (z ∷ xs) 0 z refl (λ j y other g. f j y (omega (arith, other)) g)
 
-pub find-first : (p : Entry → Bool) (xs : List Entry)
-    → ((j : ℕ) (y : Entry) → 0 < j → slice_get xs j ≡ Some y → p y ≡ false) → find p xs ≡ if_passes p (slice_get xs 0)
-find-first p xs f = first_only p xs (slice_get xs 0) refl f
+-- two tests that each element passes alike
+pub find_same : {X : Type 0} (t u : X → Bool) (xs : List X)
+    → ((j : ℕ) (y : X) → slice_get xs j ≡ Some y → t y ≡ u y) → find t xs ≡ find u xs
+find_same t u [] f = refl
+find_same t u (z ∷ xs) f = rw (f 0 z refl, find_same t u xs (λ j y e. f (suc j) y e)) refl

@@ -3,13 +3,10 @@ pub mod Finds
 pub mod Counts
 pub mod Held
 pub mod Entries
-pub mod SnoopDrive
+pub mod Snoops
 pub mod Settled
-pub mod HeadDrive
+pub mod Heads
 pub mod Driven
-pub mod SnoopStep
-pub mod Answering
-pub mod ResponseStep
+pub mod Responses
 pub mod Course
-pub mod Absorbed
 pub mod Interface

@@ -16,25 +16,19 @@ use Rattle.fsb_trace.specs.declared.outcome.Outcome.TheVariants.{Failed, Upgrade
 use Rattle.fsb_trace.specs.At.{Trace}
 use Rattle.fsb_trace.specs.Requests.{live_request_of, is_write_back, is_write_back_kind}
 use Rattle.fsb_trace.specs.Snoop.{snoop_end_of, line_at_snoop_end}
-use Rattle.fsb_trace.specs.Outcome.{does_move, response_code_of, outcome_by_kind, told_by, settled_by, does_take}
+use Rattle.fsb_trace.specs.Outcome.{does_move, does_take, response_code_of, outcome_by_kind, told_by, told_with}
+use Rattle.fsb_trace.specs.Outcome.{settled_by}
 use Rattle.fsb_trace.specs.Response.{takes}
 use Rattle.fsb_queue.specs.declared.entry.Entry.{Entry}
 use Rattle.fsb_phase.specs.Due.{rank_of, is_moving}
 use Rattle.fsb_phase.specs.Drive.{settled_code}
 use Rattle.fsb_phase.proofs.Held.{IsSettled}
-use Rattle.fsb_phase.specs.Registers.{is_taking}
 
--- the settled outcome, by what it is settled with
-settled_cases : Bool → ℕ → Option Request → Outcome
-settled_cases hitm turn request =
-    cond hitm Handed (cond (nat_eq turn 1) Retried (cond (nat_le 2 turn) Deferred (outcome_by_kind request)))
+-- the entry's outcome is settled, and with it memory takes data
+abbrev pub is_taking : Entry → Bool
+is_taking e = is_some_and e.outcome does_take
 
-settled_form : (h : Trace) (turn i s : ℕ)
-    → settled_by h turn i s ≡ settled_cases (line_at HITM h s) turn (live_request_of h i)
-unfolding settled_by settled_cases
-settled_form h turn i s = refl
-
--- with it memory takes exactly where the line is handed on, or it is a write-back
+-- with a settled outcome memory takes exactly where the line is handed on, or it is a write-back
 by_kind_takes : (request : Option Request) → does_take (outcome_by_kind request) ≡ is_write_back request
 unfolding does_take outcome_by_kind is_write_back is_some_and is_write_back_kind
 by_kind_takes None = refl
@@ -57,17 +51,18 @@ late_turn : (turn : ℕ) (wb : Bool) → (wb ≡ true → turn ≡ 0) → 1 ≤ 
 late_turn turn true f l = absurd (let z : turn ≡ 0 = f refl in omega arith)
 late_turn turn false f l = refl
 
-cases_take : (hitm : Bool) (turn : ℕ) (request : Option Request) → (is_write_back request ≡ true → turn ≡ 0)
-    → does_take (settled_cases hitm turn request) ≡ (is_write_back request || hitm)
-unfolding settled_cases does_take
-cases_take true turn request f = sym (or-true (is_write_back request))
-cases_take false turn request f =
+settled_takes : (h : Trace) (turn i s : ℕ) (hitm : Bool) → line_at HITM h s ≡ hitm
+    → (is_write_back (live_request_of h i) ≡ true → turn ≡ 0)
+    → does_take (settled_by h turn i s) ≡ (is_write_back (live_request_of h i) || hitm)
+unfolding settled_by does_take
+settled_takes h turn i s true e f = rw e (sym (or-true (is_write_back (live_request_of h i))))
+settled_takes h turn i s false e f =
+    let wb : Bool = is_write_back (live_request_of h i) in
     elim (cases_Bool (nat_eq turn 1)) [
-      | inl one ↦ rw one (late_turn turn (is_write_back request) f (let e = eqb-true turn 1 one in omega arith))
+      | inl one ↦ rw (e, one) (late_turn turn wb f (let t = eqb-true turn 1 one in omega arith))
       | inr other ↦ elim (cases_Bool (nat_le 2 turn)) [
-        | inl late ↦
-            rw (other, late) (late_turn turn (is_write_back request) f (let e = leb-true 2 turn late in omega arith))
-        | inr kept ↦ rw (other, kept) (by_kind_takes request ∙ sym (or-false (is_write_back request)))
+        | inl late ↦ rw (e, other, late) (late_turn turn wb f (let t = leb-true 2 turn late in omega arith))
+        | inr kept ↦ rw (e, other, kept) (by_kind_takes (live_request_of h i) ∙ sym (or-false wb))
       ]
     ]
 
@@ -83,23 +78,12 @@ unfolding is_some_and takes line_at_snoop_end
 taking-is h e turn i s k f g =
     let kept : is_write_back (live_request_of h i) ≡ true
     → turn ≡ 0 = subst (λ j. is_write_back (live_request_of h j) ≡ true → turn ≡ 0) f k.kept in
-    rw (outcome_at h e turn i s k f g, g) (ap does_take (settled_form h turn i s)
-    ∙ cases_take (line_at HITM h s) turn (live_request_of h i) kept)
+    rw (outcome_at h e turn i s k f g, g) (settled_takes h turn i s (line_at HITM h s) refl kept)
 
 -- the response with a settled outcome's code tells that outcome
-told_cases : Bool → ℕ → Option Request → Outcome
-told_cases hitm code request =
-    cond (nat_eq code 4) Failed
-    (cond hitm Handed (cond (nat_eq code 1) Retried (cond (nat_eq code 2) Deferred (outcome_by_kind request))))
-
-told_form : (h : Trace) (i s code : ℕ) → snoop_end_of h i ≡ Some s
-    → told_by h i code ≡ told_cases (line_at HITM h s) code (live_request_of h i)
-unfolding told_by told_cases line_at_snoop_end is_some_and response_code_of
-told_form h i s code e = rw e refl
-
 by_kind_told : (request : Option Request)
-    → told_cases false (response_code_of (outcome_by_kind request)) request ≡ outcome_by_kind request
-unfolding told_cases outcome_by_kind response_code_of
+    → told_with false request (response_code_of (outcome_by_kind request)) ≡ outcome_by_kind request
+unfolding outcome_by_kind response_code_of
 by_kind_told None = refl
 by_kind_told (Some request) = kind_told request.kind where
   kind_told : (k : Kind)
@@ -119,16 +103,16 @@ by_kind_told (Some request) = kind_told request.kind where
   kind_told WriteBack = refl
   kind_told Upgrade = refl
 
-cases_told : (hitm : Bool) (turn : ℕ) (request : Option Request)
-    → told_cases hitm (response_code_of (settled_cases hitm turn request)) request ≡ settled_cases hitm turn request
-unfolding settled_cases response_code_of told_cases
-cases_told true turn request = refl
-cases_told false turn request =
+told_settled : (h : Trace) (turn i s : ℕ) (hitm : Bool) → line_at HITM h s ≡ hitm → snoop_end_of h i ≡ Some s
+    → told_by h i (response_code_of (settled_by h turn i s)) ≡ settled_by h turn i s
+unfolding settled_by told_by line_at_snoop_end is_some_and response_code_of
+told_settled h turn i s true e g = rw (g, e) refl
+told_settled h turn i s false e g =
     elim (cases_Bool (nat_eq turn 1)) [
-      | inl one ↦ rw one refl
+      | inl one ↦ rw (g, e, one) refl
       | inr other ↦ elim (cases_Bool (nat_le 2 turn)) [
-        | inl late ↦ rw (other, late) refl
-        | inr kept ↦ rw (other, kept) (by_kind_told request)
+        | inl late ↦ rw (g, e, other, late) refl
+        | inr kept ↦ rw (g, e, other, kept) (by_kind_told (live_request_of h i))
       ]
     ]
 
@@ -144,10 +128,6 @@ pub told-is : (h : Trace) (e : Entry) (turn i s code : ℕ) → IsSettled h e tu
     → snoop_end_of h i ≡ Some s → code ≡ settled_code e → does_move (told_by h i code) ≡ is_moving e
 told-is h e turn i s code k f g c =
     let o : Outcome = settled_by h turn i s in
-    let form : o ≡ settled_cases (line_at HITM h s) turn (live_request_of h i) = settled_form h turn i s in
-    let told : told_by h i (response_code_of o) ≡ o =
-    told_form h i s (response_code_of o) g
-    ∙ ap (λ x. told_cases (line_at HITM h s) (response_code_of x) (live_request_of h i)) form
-    ∙ cases_told (line_at HITM h s) turn (live_request_of h i) ∙ sym form in
     ap (λ n. does_move (told_by h i n)) (c ∙ code_is e o (outcome_at h e turn i s k f g))
-    ∙ ap does_move told ∙ sym (moving_is e o (outcome_at h e turn i s k f g))
+    ∙ ap does_move (told_settled h turn i s (line_at HITM h s) refl g)
+    ∙ sym (moving_is e o (outcome_at h e turn i s k f g))

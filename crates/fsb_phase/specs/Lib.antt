@@ -2,4 +2,4 @@ pub mod Due
 pub mod FitQueue
 pub mod Drive
 pub mod Phases
-pub mod Registers
+pub mod Next

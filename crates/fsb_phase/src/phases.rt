@@ -1,14 +1,25 @@
-ghost use Rattle.std.specs.Prelude.{◌≡◌, ℕ, List, [], ◌∷◌, ◌++◌, length};
-ghost use Rattle.std.specs.Option.{option_and_then};
+ghost use Rattle.std.specs.Prelude.{◌≡◌, ℕ, ◌&&◌, ◌||◌, is_some, is_none, if◌then◌else◌, Some};
+ghost use Rattle.std.specs.Prelude.{List, [], ◌∷◌, ◌++◌, length, slice_get};
+ghost use Rattle.std.specs.List.{find};
+ghost use Rattle.fsb_signal.specs.declared.sample.Sample.{Sample};
 ghost use Rattle.fsb_trace.specs.At.{Trace};
-ghost use Rattle.fsb_phase.specs.Drive.{drive_of, phased_at};
+ghost use Rattle.fsb_trace.specs.Requests.{live_clock_of};
+ghost use Rattle.fsb_trace.specs.Snoop.{snoop_start_of, snoop_end_of};
+ghost use Rattle.fsb_trace.specs.Response.{answer_from, ready_clock_of};
+ghost use Rattle.fsb_laws.specs.OneMore.{responds, stalls};
+ghost use Rattle.fsb_laws.specs.Progress.{SnoopsTo, response_count, transfer_of, may_answer_next};
+ghost use Rattle.fsb_queue.specs.declared.entry.Entry.{Entry};
+ghost use Rattle.fsb_phase.specs.Due.{has_snoop, is_stalled, has_ready, has_response, response_to_now};
+ghost use Rattle.fsb_phase.specs.Drive.{drive_of, phased_at, ends_snoop_at, has_end_at};
 ghost use Rattle.fsb_phase.specs.FitQueue.{HoldsInFlight};
-ghost use Rattle.fsb_phase.specs.Phases.{Stands, MayTake};
-ghost use Rattle.fsb_phase.specs.Registers.{start_after, snooping, is_to_stall, gets_ready, gets_response, answered, chunk_at, is_busy, numbered_at, drive_by, entry_snooped, transfer_to, has_answered, ends_by, phased_by, answer_to, from_to, may_answer_at, ready_to, phases_to};
+ghost use Rattle.fsb_phase.specs.Phases.{Stands, MayTake, value_before, last_snoop_end, last_response};
+ghost use Rattle.fsb_phase.specs.Next.{IsNext};
 
 use crate::drive::{Drive, Phased};
-use crate::places::{is_moving, is_taking, open_entry, settled_code};
-use crate::timing::{chunk_from, is_busy_from, is_ready_from, is_response_from, is_stall_from};
+use crate::places::{
+    answer_after, begun_by, chunk_due, code_if, is_busy, is_taking, number_of, open_entry,
+};
+use crate::timing::{chunk_step, is_ready_from, is_response_from, is_stall_from};
 use fsb_queue::{Entry, Queue};
 use fsb_signal::{Lines, Sample};
 use fsb_trace::is_every_second_from;
@@ -49,7 +60,31 @@ impl Phases {
         ensures { (h : Trace) (turns : List ℕ) → Stands self.now h → clock ≡ length h →
             HoldsInFlight queue.now turns h → result ≡ drive_of h queue.now }
     {
-        self.drive_by(clock, queue)
+        let snooping = self.snooping(clock, queue);
+        let snoop = number_of(&snooping);
+        let stall = self.is_stalled(clock, &snooping);
+        match queue.at(0).copied() {
+            Some(oldest) => {
+                let responds = self.has_response(clock, &oldest);
+                let answered = self.answered(clock, responds);
+                Drive {
+                    snoop,
+                    stall,
+                    trdy: self.has_ready(clock, &oldest),
+                    rs: code_if(responds, &oldest),
+                    dbsy: is_busy(&oldest, clock, answered),
+                    chunk: chunk_due(&oldest, clock, answered),
+                }
+            }
+            None => Drive {
+                snoop,
+                stall,
+                trdy: false,
+                rs: 0,
+                dbsy: false,
+                chunk: None,
+            },
+        }
     }
 
     /// Takes the sample of the next clock, and tells which snoop and which request end there. The clock is the number of
@@ -62,262 +97,238 @@ impl Phases {
         ensures stands { (h : Trace) (turns : List ℕ) → Stands self.old h →
             MayTake clock sample.now queue.now turns h → Stands self.new (h ++ sample.now ∷ []) }
     {
-        let phased = self.phased_by(clock, sample, queue);
-        *self = self.phases_to(clock, sample, queue);
-        phased
-    }
-
-    #[tactic(auto, unfolding(crate::specs::Registers::drive_by, crate::specs::Registers::if_passes, fsb_count::specs::Options::is_some_and))]
-    fn drive_by(&self, now: u32, queue: &Queue) -> Drive
-        ensures { result ≡ drive_by self.now now queue.now }
-    {
-        let snooping = self.snooping(now, queue);
-        let head = queue.at(0).copied();
-        Drive {
-            snoop: snooping.map(|e| e.number),
-            stall: match snooping {
-                Some(e) => self.is_to_stall(now, &e),
-                None => false,
-            },
-            trdy: match head {
-                Some(e) => self.gets_ready(now, &e),
-                None => false,
-            },
-            rs: match head {
-                Some(e) if self.gets_response(now, &e) => settled_code(&e),
-                _ => 0,
-            },
-            dbsy: match head {
-                Some(e) => self.is_busy(now, &e),
-                None => false,
-            },
-            chunk: match head {
-                Some(e) => self.numbered_at(now, &e),
-                None => None,
-            },
+        let snooped = self.snooped_with(clock, sample, queue);
+        let transfer = self.transfer_with(sample, queue);
+        let ended = self.ended_with(sample, queue, transfer);
+        *self = Phases {
+            snooped: clock_if(snooped.is_some(), clock, self.snooped),
+            from: self.from_with(clock, sample, queue, &snooped, transfer),
+            ready: self.ready_with(clock, sample),
+            response: clock_if(responds(sample), clock, self.response),
+            transfer,
+        };
+        Phased {
+            snooped: number_of(&snooped),
+            ended: number_of(&ended),
         }
     }
 
-    // The first snoop clock of a request that began at `q`, after the last snoop end.
-    #[tactic(auto, unfolding(crate::specs::Registers::start_after))]
-    fn start_after(&self, q: u32) -> u64
-        ensures { result ≡ start_after self.now.snooped q }
+    /// The first snoop clock of the first request without its snoop end, which began at this clock.
+    fn snoop_start(&self, clock: u32) -> u64
+        ensures { (h : Trace) (s : ℕ) → SnoopsTo h s →
+            self.now.snooped ≡ value_before (snoop_end_of h) s → live_clock_of h s ≡ Some clock →
+            snoop_start_of h s ≡ Some result }
     {
-        let earliest = u64::from(q) + 4;
+        let earliest = u64::from(clock) + 4;
         match self.snooped {
-            Some(s) => earliest.max(u64::from(s) + 3),
+            Some(end) => earliest.max(u64::from(end) + 3),
             None => earliest,
         }
     }
 
-    #[tactic(auto, unfolding(crate::specs::Registers::snooping, crate::specs::Registers::is_snooping, crate::specs::Registers::if_passes))]
-    fn snooping(&self, now: u32, queue: &Queue) -> Option<Entry>
-        ensures { result ≡ snooping self.now now queue.now }
+    /// The request whose snoop clock is the next clock.
+    fn snooping(&self, clock: u32, queue: &Queue) -> Option<Entry>
+        ensures { (h : Trace) (turns : List ℕ) → IsNext self.now clock queue.now turns h →
+            result ≡ find (has_snoop h) queue.now }
     {
         match open_entry(queue) {
-            Some(e) if is_every_second_from(self.start_after(e.clock), u64::from(now)) => Some(e),
-            _ => None,
-        }
-    }
-
-    #[tactic(auto, unfolding(crate::specs::Registers::is_to_stall))]
-    fn is_to_stall(&self, now: u32, e: &Entry) -> bool
-        ensures { result ≡ is_to_stall self.now now e.now }
-    {
-        is_stall_from(e.choice.stall, u64::from(now), self.start_after(e.clock))
-    }
-
-    #[tactic(auto, unfolding(crate::specs::Registers::gets_ready))]
-    fn gets_ready(&self, now: u32, e: &Entry) -> bool
-        ensures { result ≡ gets_ready self.now now e.now }
-    {
-        self.transfer.is_none()
-            && is_taking(e)
-            && is_ready_from(self.from, e.choice.trdy, u64::from(now))
-    }
-
-    #[tactic(auto, unfolding(crate::specs::Registers::gets_response))]
-    fn gets_response(&self, now: u32, e: &Entry) -> bool
-        ensures { result ≡ gets_response self.now now e.now }
-    {
-        self.transfer.is_none()
-            && is_response_from(is_taking(e), self.from, self.ready, e.choice.resp, now)
-    }
-
-    #[tactic(auto, unfolding(crate::specs::Registers::answered))]
-    fn answered(&self, now: u32, e: &Entry) -> Option<u32>
-        ensures { result ≡ answered self.now now e.now }
-    {
-        match self.transfer {
-            Some(_) => self.response,
-            None if self.gets_response(now, e) => Some(now),
+            Some(e) => {
+                if is_every_second_from(self.snoop_start(e.clock), u64::from(clock)) {
+                    Some(e)
+                } else {
+                    None
+                }
+            }
             None => None,
         }
     }
 
-    #[tactic(auto, unfolding(crate::specs::Registers::chunk_at))]
-    fn chunk_at(&self, now: u32, e: &Entry) -> Option<u8>
-        ensures { result ≡ chunk_at self.now now e.now }
+    /// Whether the snoop is to be stalled of the request whose snoop clock is the next clock.
+    fn is_stalled(&self, clock: u32, snooping: &Option<Entry>) -> bool
+        ensures { (h : Trace) (queue : List Entry) (turns : List ℕ) →
+            IsNext self.now clock queue turns h → snooping.now ≡ find (has_snoop h) queue →
+            result ≡ is_some (find (is_stalled h) queue) }
     {
-        match self.answered(now, e) {
-            Some(r) if is_moving(e) => chunk_from(e.choice.gap, now, r),
-            _ => None,
-        }
-    }
-
-    #[tactic(auto, unfolding(crate::specs::Registers::is_busy, fsb_count::specs::Options::is_some_and))]
-    fn is_busy(&self, now: u32, e: &Entry) -> bool
-        ensures { result ≡ is_busy self.now now e.now }
-    {
-        match self.answered(now, e) {
-            Some(r) => is_moving(e) && is_busy_from(e.choice.gap, now, r),
+        match snooping {
+            Some(e) => is_stall_from(e.choice.stall, u64::from(clock), self.snoop_start(e.clock)),
             None => false,
         }
     }
 
-    #[tactic(auto, unfolding(crate::specs::Registers::numbered_at))]
-    fn numbered_at(&self, now: u32, e: &Entry) -> Option<(u32, u8)>
-        ensures { result ≡ numbered_at self.now now e.now }
+    /// Whether the next clock is the ready clock of the oldest request.
+    fn has_ready(&self, clock: u32, oldest: &Entry) -> bool
+        ensures { (h : Trace) (queue : List Entry) (turns : List ℕ) →
+            IsNext self.now clock queue turns h → slice_get queue 0 ≡ Some oldest.now →
+            result ≡ has_ready h oldest.now }
     {
-        match self.chunk_at(now, e) {
-            Some(n) => Some((e.number, n)),
-            None => None,
+        is_taking(oldest) && is_ready_from(self.from, oldest.choice.trdy, u64::from(clock))
+    }
+
+    /// Whether the next clock is the response clock of the oldest request.
+    fn has_response(&self, clock: u32, oldest: &Entry) -> bool
+        ensures { (h : Trace) (queue : List Entry) (turns : List ℕ) →
+            IsNext self.now clock queue turns h → slice_get queue 0 ≡ Some oldest.now →
+            result ≡ has_response h oldest.now }
+    {
+        is_response_from(
+            is_taking(oldest),
+            self.from,
+            self.ready,
+            oldest.choice.resp,
+            clock,
+        )
+    }
+
+    /// The response clock of the oldest request, if it is the next clock, where it responds there, or lies before.
+    fn answered(&self, clock: u32, responds: bool) -> Option<u32>
+        ensures { (h : Trace) (queue : List Entry) (turns : List ℕ) (oldest : Entry) →
+            IsNext self.now clock queue turns h → slice_get queue 0 ≡ Some oldest →
+            responds ≡ has_response h oldest → result ≡ response_to_now h oldest }
+    {
+        if self.transfer.is_some() {
+            self.response
+        } else if responds {
+            Some(clock)
+        } else {
+            None
         }
     }
 
-    #[tactic(auto, unfolding(crate::specs::Registers::entry_snooped, fsb_laws::specs::OneMore::stalls))]
-    fn entry_snooped(&self, now: u32, sample: &Sample, queue: &Queue) -> Option<Entry>
-        ensures { result ≡ entry_snooped self.now now sample.now queue.now }
+    /// The request whose snoop ends with the sample.
+    fn snooped_with(&self, clock: u32, sample: &Sample, queue: &Queue) -> Option<Entry>
+        ensures { (h : Trace) (turns : List ℕ) → Stands self.now h →
+            MayTake clock sample.now queue.now turns h →
+            result ≡ find (ends_snoop_at (h ++ sample.now ∷ []) (length h)) queue.now }
     {
-        if sample.has(Lines::HIT) && sample.has(Lines::HITM) {
+        if stalls(sample) {
             None
         } else {
-            self.snooping(now, queue)
+            self.snooping(clock, queue)
         }
     }
 
-    #[tactic(auto, unfolding(crate::specs::Registers::transfer_to, fsb_laws::specs::OneMore::responds, fsb_laws::specs::Progress::chunk_step, fsb_count::specs::Options::is_some_and))]
-    fn transfer_to(&self, sample: &Sample, queue: &Queue) -> Option<u8>
-        ensures { result ≡ transfer_to self.now sample.now queue.now }
-    {
-        let begun = if sample.response() == 0 {
-            self.transfer
-        } else {
-            match queue.at(0) {
-                Some(e) if is_moving(e) => Some(0),
-                _ => None,
-            }
-        };
-        match begun {
-            Some(came) if sample.has(Lines::DRDY) => {
-                if came < 3 { Some(came + 1) } else { None }
-            }
-            Some(came) if came < 4 => Some(came),
-            _ => None,
-        }
-    }
-
-    #[tactic(auto, unfolding(crate::specs::Registers::has_answered, fsb_laws::specs::OneMore::responds))]
+    /// Whether the oldest request has responded, with the sample or before.
     fn has_answered(&self, sample: &Sample) -> bool
-        ensures { result ≡ has_answered self.now sample.now }
+        ensures { result ≡ (responds sample.now || is_some self.now.transfer) }
     {
-        sample.response() != 0 || self.transfer.is_some()
+        responds(sample) || self.transfer.is_some()
     }
 
-    #[tactic(auto, unfolding(crate::specs::Registers::ends_by))]
-    fn ends_by(&self, sample: &Sample, queue: &Queue) -> bool
-        ensures { result ≡ ends_by self.now sample.now queue.now }
+    /// Whether its end comes with the sample, with which this transfer is on the way.
+    fn has_ended(&self, sample: &Sample, transfer: Option<u8>) -> bool
+        ensures { result ≡ ((responds sample.now || is_some self.now.transfer) && is_none transfer) }
     {
-        self.has_answered(sample) && self.transfer_to(sample, queue).is_none()
+        self.has_answered(sample) && transfer.is_none()
     }
 
-    #[tactic(auto, unfolding(crate::specs::Registers::phased_by, crate::specs::Registers::entry_ended))]
-    fn phased_by(&self, now: u32, sample: &Sample, queue: &Queue) -> Phased
-        ensures { result ≡ phased_by self.now now sample.now queue.now }
+    /// How many chunks came, with the sample, of the transfer that is on the way then.
+    fn transfer_with(&self, sample: &Sample, queue: &Queue) -> Option<u8>
+        ensures { (h : Trace) (clock : ℕ) (turns : List ℕ) → Stands self.now h →
+            MayTake clock sample.now queue.now turns h →
+            result ≡ transfer_of (h ++ sample.now ∷ []) }
     {
-        let ended = if self.ends_by(sample, queue) {
+        let comes = sample.has(Lines::DRDY);
+        if responds(sample) {
+            chunk_step(comes, begun_by(queue.at(0).copied()))
+        } else {
+            chunk_step(comes, self.transfer)
+        }
+    }
+
+    /// The request whose end comes with the sample, with which this transfer is on the way.
+    fn ended_with(&self, sample: &Sample, queue: &Queue, transfer: Option<u8>) -> Option<Entry>
+        ensures { (h : Trace) (clock : ℕ) (turns : List ℕ) → Stands self.now h →
+            MayTake clock sample.now queue.now turns h →
+            transfer ≡ transfer_of (h ++ sample.now ∷ []) →
+            result ≡ find (has_end_at (h ++ sample.now ∷ []) (length h)) queue.now }
+    {
+        if self.has_ended(sample, transfer) {
             queue.at(0).copied()
         } else {
             None
-        };
-        Phased {
-            snooped: self.entry_snooped(now, sample, queue).map(|e| e.number),
-            ended: ended.map(|e| e.number),
         }
     }
 
-    #[tactic(auto, unfolding(crate::specs::Registers::from_to))]
-    fn from_to(&self, now: u32, sample: &Sample, queue: &Queue) -> Option<u64>
-        ensures { result ≡ from_to self.now now sample.now queue.now }
+    /// The clock from which the next request to respond is answered, after the sample with which this request has its
+    /// snoop end and this transfer is on the way.
+    fn from_with(
+        &self,
+        clock: u32,
+        sample: &Sample,
+        queue: &Queue,
+        snooped: &Option<Entry>,
+        transfer: Option<u8>,
+    ) -> Option<u64>
+        ensures { (h : Trace) (turns : List ℕ) → Stands self.now h →
+            MayTake clock sample.now queue.now turns h →
+            snooped.now ≡ find (ends_snoop_at (h ++ sample.now ∷ []) (length h)) queue.now →
+            transfer ≡ transfer_of (h ++ sample.now ∷ []) →
+            result ≡ answer_from (h ++ sample.now ∷ []) (response_count (h ++ sample.now ∷ [])) }
     {
-        let ends = self.entry_snooped(now, sample, queue).is_some();
+        let ends = snooped.is_some();
         if !self.has_answered(sample) {
-            answer_to(self.from, now, ends, queue.at(0).copied())
-        } else if self.ends_by(sample, queue) {
-            answer_to(Some(u64::from(now) + 1), now, ends, queue.at(1).copied())
-        } else {
+            answer_after(self.from, clock, ends, queue.at(0).copied())
+        } else if transfer.is_some() {
             None
+        } else {
+            answer_after(
+                Some(u64::from(clock) + 1),
+                clock,
+                ends,
+                queue.at(1).copied(),
+            )
         }
     }
 
-    #[tactic(auto, unfolding(crate::specs::Registers::ready_to, fsb_laws::specs::OneMore::responds))]
-    fn ready_to(&self, now: u32, sample: &Sample) -> Option<u32>
-        ensures { result ≡ ready_to self.now now sample.now }
+    /// The ready clock of the next request to respond, after the sample.
+    fn ready_with(&self, clock: u32, sample: &Sample) -> Option<u32>
+        ensures { (h : Trace) (queue : List Entry) (turns : List ℕ) → Stands self.now h →
+            MayTake clock sample.now queue turns h →
+            result ≡ ready_clock_of (h ++ sample.now ∷ []) (response_count (h ++ sample.now ∷ [])) }
     {
-        if sample.response() != 0 {
+        if responds(sample) {
             None
         } else if self.ready.is_some() {
             self.ready
-        } else if sample.has(Lines::TRDY) && self.may_answer_at(now) {
-            Some(now)
+        } else if !sample.has(Lines::TRDY) {
+            None
+        } else if self.may_answer(clock) {
+            Some(clock)
         } else {
             None
         }
     }
 
-    #[tactic(auto, unfolding(crate::specs::Registers::may_answer_at, fsb_count::specs::Options::is_some_and))]
-    fn may_answer_at(&self, now: u32) -> bool
-        ensures { result ≡ may_answer_at self.now now }
+    /// Whether the next request to respond may do so at the next clock.
+    fn may_answer(&self, clock: u32) -> bool
+        ensures { (h : Trace) → Stands self.now h → clock ≡ length h → result ≡ may_answer_next h }
     {
         match self.from {
-            Some(f) => self.transfer.is_none() && f <= u64::from(now),
+            Some(from) => from <= u64::from(clock),
             None => false,
-        }
-    }
-
-    #[tactic(auto, unfolding(crate::specs::Registers::phases_to, crate::specs::Registers::snooped_to, crate::specs::Registers::response_to, fsb_laws::specs::OneMore::responds))]
-    fn phases_to(&self, now: u32, sample: &Sample, queue: &Queue) -> Phases
-        ensures { result ≡ phases_to self.now now sample.now queue.now }
-    {
-        let snooped = if self.entry_snooped(now, sample, queue).is_some() {
-            Some(now)
-        } else {
-            self.snooped
-        };
-        let response = if sample.response() != 0 {
-            Some(now)
-        } else {
-            self.response
-        };
-        Phases {
-            snooped,
-            from: self.from_to(now, sample, queue),
-            ready: self.ready_to(now, sample),
-            response,
-            transfer: self.transfer_to(sample, queue),
         }
     }
 }
 
-// The clock from which an entry is answered, after the sample of `now`: `settled` where it has its outcome, and two clocks
-// later where its snoop ends now.
-#[tactic(auto, unfolding(crate::specs::Registers::answer_to))]
-fn answer_to(settled: Option<u64>, now: u32, ends: bool, entry: Option<Entry>) -> Option<u64>
-    ensures { result ≡ option_and_then (answer_to settled now ends) entry }
+/// Whether RS# is not idle in the sample.
+#[tactic(auto, unfolding(fsb_laws::specs::OneMore::responds))]
+fn responds(sample: &Sample) -> bool
+    ensures { result ≡ responds sample.now }
 {
-    match entry {
-        Some(e) if e.outcome.is_some() => settled,
-        Some(_) if ends => Some(u64::from(now) + 2),
-        _ => None,
-    }
+    sample.response() != 0
+}
+
+/// Whether HIT# and HITM# are asserted together in the sample.
+#[tactic(auto, unfolding(fsb_laws::specs::OneMore::stalls))]
+fn stalls(sample: &Sample) -> bool
+    ensures { result ≡ stalls sample.now }
+{
+    sample.has(Lines::HIT) && sample.has(Lines::HITM)
+}
+
+/// The last clock at which something happens, where it happens at this clock or not, and happened last at that one.
+fn clock_if(happens: bool, clock: u32, last: Option<u32>) -> Option<u32>
+    ensures { result ≡ (if happens then Some clock else last) }
+{
+    if happens { Some(clock) } else { last }
 }

@@ -1,11 +1,9 @@
 use Rattle.std.proofs.Common.{is_none, ◌∙◌, rules, tests}
 use Rattle.std.proofs.lemmas.Iterator.Consumers.{YieldsList-from_rest}
 use Rattle.std.proofs.lemmas.Iterator.Search.{find_from_yields_List}
-use Rattle.fsb_phase.specs.Registers.{open_entry}
 use Rattle.fsb_phase.proofs.places.open_entry.Goals as goal
 
 pub returns : goal.returns
-unfolding open_entry
 returns c =
     c.copied.ensures
     ∙ find_from_yields_List (λ e. is_none e.outcome) _ _ _ c.find.ensures.ran
