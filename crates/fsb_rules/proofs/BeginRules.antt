@@ -1,13 +1,13 @@
 -- The rule of deferred IDs and outstanding requests, with a new sample.
 use Rattle.std.proofs.Common.{ℕ, zero, suc, ◌-◌, ◌<◌, ◌≤◌, ◌≡◌, true, List, [], ◌∷◌, length, take, slice_get, refl}
-use Rattle.std.proofs.Common.{sym, ap, ◌∙◌, arith, ◌+◌, ◌/◌, Bool, false, ◌&&◌, Option, Some, None, count_by, cond}
-use Rattle.std.proofs.Common.{not, ◌||◌, nat_eq, nat_le, is_some, is_none, subst}
-use Rattle.std.proofs.lemmas.Bool.{and_parts, leb-true, and_left, not-true, and_from, both_ways, false_from_ne_true}
+use Rattle.std.proofs.Common.{sym, ap, ◌∙◌, arith, ◌+◌, ◌/◌, Bool, false, Option, Some, None, count_by, cond}
+use Rattle.std.proofs.Common.{not, ◌||◌, nat_eq, nat_le, is_some, subst}
+use Rattle.std.proofs.lemmas.Bool.{and_parts, leb-true, and_left, not-true, both_ways, false_from_ne_true}
 use Rattle.std.proofs.lemmas.List.{length-take}
 use Rattle.std.specs.Option.{option_map}
-use Rattle.std.specs.List.{filter_map, list_any}
+use Rattle.std.specs.List.{list_any}
 use Rattle.fsb_count.specs.Options.{is_some_and, is_before}
-use Rattle.fsb_count.specs.Clocks.{any_where, count_where, all_where}
+use Rattle.fsb_count.specs.Clocks.{any_where, count_where}
 use Rattle.fsb_count.proofs.Interface.{any_where-same, count_where-same, nat_eq-sym, any_where-at, any_where-off}
 use Rattle.fsb_count.proofs.Interface.{any_where-found, nth_where-found, is_some-none, is_none-none, is_before-parts}
 use Rattle.fsb_count.proofs.Interface.{is_before-from}
@@ -20,12 +20,11 @@ use Rattle.fsb_trace.specs.Agree.{AgreeTo}
 use Rattle.fsb_trace.proofs.Interface.{AgreeTo-sym, line_at-agree, response_clock_of-stays, winner_at-agree}
 use Rattle.fsb_trace.proofs.Interface.{request_at-agree, snoop_end_of-clock, snoop_end_of-stays, is_deferred-stays}
 use Rattle.fsb_trace.proofs.Interface.{live_request_of-stays, is_reply-some, live_clock_of-number, live_below_count}
-use Rattle.fsb_trace.specs.declared.who.Who.{Who}
 use Rattle.fsb_trace.specs.declared.who.Who.TheVariants.{Symmetric}
 use Rattle.fsb_trace.specs.Winner.{winner_at, is_agent, is_same_agent}
 use Rattle.fsb_trace.specs.Requests.{is_live, live_number_of, is_reply, is_reply_kind, have_same_id, live_count}
 use Rattle.fsb_trace.specs.Requests.{live_clock_of, live_request_of}
-use Rattle.fsb_trace.specs.Flight.{last_clock_of, is_outstanding, outstanding, reply_clock_of}
+use Rattle.fsb_trace.specs.Flight.{last_clock_of, is_outstanding, reply_clock_of}
 use Rattle.fsb_trace.specs.Rules.{is_identified, is_id_taken_by, is_outstanding_of_winner, awaits_reply}
 use Rattle.fsb_trace.specs.Rules.{is_begun_wrongly}
 use Rattle.fsb_trace.specs.Outcome.{response_clock_of, is_deferred}
@@ -37,10 +36,12 @@ use Rattle.fsb_laws.proofs.Interface.{BeginsAfter, is_live-ads, is_outstanding-e
 use Rattle.fsb_laws.proofs.Interface.{deferred_response, last_clock_of-deferred, reply_end_of-none, same_live_request}
 use Rattle.fsb_laws.proofs.Interface.{same_answered, same_deferred}
 use Rattle.fsb_rules.specs.OpenTests.{awaits, has_id, is_of_agent, is_wrong_among}
-use Rattle.fsb_rules.specs.Outstanding.{open_from, open_at, open_of}
+use Rattle.fsb_rules.specs.Outstanding.{open_from, open_at, open_of, kept_at}
 use Rattle.fsb_rules.specs.Checker.{Decoded, Identified, Deferrable}
-use Rattle.fsb_rules.proofs.OpenLists.{own_agent, own_part}
-use Rattle.fsb_rules.proofs.OpenLists.{list_any-all, count_by-all}
+use Rattle.fsb_rules.specs.declared.outstanding.Open.{Open}
+use Rattle.fsb_rules.proofs.Agents.{owned}
+use Rattle.fsb_rules.proofs.OpenGoes.{deferral, deferred_open, is_open, kept_if, kept_is, not_kept, open_deferred}
+use Rattle.fsb_rules.proofs.OpenLists.{any_below, count_below}
 use Rattle.fsb_rules.specs.Live.{live_from}
 
 taken : {X : Type 0} (xs : List X) (n c : ℕ) → c < n → n ≤ length xs → slice_get (take n xs) c ≡ slice_get xs c
@@ -122,10 +123,10 @@ pub record Begun (u h v : Trace) (r : Request) : Type 0 where
   pub own : is_identified (winner_at v (length u)) (Some r) ≡ true
 
 -- the test of a clock at which an outstanding request begins, and what it says
-abbrev is_open : Trace → ℕ → Bool
-is_open u p = is_outstanding u (length u) p
+abbrev outstanding_now : Trace → ℕ → Bool
+outstanding_now u p = is_outstanding u (length u) p
 
-open_parts : (u : Trace) (p : ℕ) → p < length u → is_open u p ≡ true
+open_parts : (u : Trace) (p : ℕ) → p < length u → outstanding_now u p ≡ true
     → (is_live u p ≡ true) × (is_reply (request_at u p) ≡ false)
     × (is_before (last_clock_of u (live_number_of u p)) (length u) ≡ false)
 open_parts u p l t =
@@ -133,20 +134,16 @@ open_parts u p l t =
     let r = and_parts _ _ q.0 in
     (r.0, not-true _ r.1, not-true _ q.1)
 
-open_list : (u : Trace) → open_of u ≡ filter_map (open_at u) (all_where (is_open u) (length u))
-unfolding open_of outstanding
-open_list u = refl
+not_kept_test : (u : Trace) (p : ℕ) (test : Open → Bool) → outstanding_now u p ≡ false
+    → is_some_and (kept_at u p) test ≡ false
+unfolding is_some_and
+not_kept_test u p test f = ap (λ m. is_some_and m test) (not_kept u p f)
 
 id_form : (u : Trace) (i p did : ℕ) (o : Option Request) (r : Request) → r.did ≡ did
     → have_same_id o (Some r) ≡ is_some_and (option_map (open_from u i p) o) (has_id did)
 unfolding have_same_id is_some_and open_from
 id_form u i p did None r e = refl
 id_form u i p did (Some s) r e = rw e refl
-
-owned : (winner : Option Who) (s : Request) → is_identified winner (Some s) ≡ true
-    → is_reply_kind s.kind ≡ false → winner ≡ Some (Symmetric (s.did / 16))
-unfolding is_identified is_reply is_some_and
-owned winner s t f = own_agent winner s (own_part winner s (is_reply_kind s.kind) f t)
 
 agent_form : (u : Trace) (i p a : ℕ) (s : Request)
     → is_some_and (Some (Symmetric a)) (is_agent (Some (Symmetric (s.did / 16))))
@@ -175,21 +172,29 @@ same_id : (s r : Request) (a b : Option Request) → a ≡ Some s → b ≡ Some
 unfolding have_same_id is_some_and
 same_id s r a b e f = rw (e, f) refl
 
--- an open request that awaits a reply
-awaits_form : (u : Trace) (i p : ℕ) (d : Bool) (s r : Request) → is_deferred u i ≡ d
-    → is_some_and (option_map (open_from u i p) (Some s)) (awaits r.did)
-    ≡ ((nat_eq s.did r.did && is_some (cond d (response_clock_of u i) None))
-    && is_none (cond d (reply_clock_of u i) None))
-unfolding is_some_and awaits open_from
-awaits_form u i p d s r e = rw e refl
+same_id_parts : (a : Option Request) (r : Request) → have_same_id a (Some r) ≡ true
+    → (s : Request) × (a ≡ Some s) × (nat_eq s.did r.did ≡ true)
+unfolding have_same_id is_some_and
+same_id_parts None r t = absurd (let no : ⊥ = cc in no)
+same_id_parts (Some s) r t = (s, refl, t)
 
-deferred_there : (d : Bool) (o : Option ℕ) → is_some (cond d o None) ≡ true → d ≡ true
-deferred_there true o t = refl
-deferred_there false o t = absurd (let no : ⊥ = cc in no)
+-- a request that is kept and awaits a reply
+kept_parts : (m : Option Open) (test : Open → Bool) → is_some_and m test ≡ true
+    → (o : Open) × (m ≡ Some o) × (test o ≡ true)
+unfolding is_some_and
+kept_parts None test t = absurd (let no : ⊥ = cc in no)
+kept_parts (Some o) test t = (o, refl, t)
 
-no_reply : (d : Bool) (o : Option ℕ) → d ≡ true → is_none (cond d o None) ≡ true → o ≡ None
-no_reply true o e t = is_none-none o t
-no_reply false o e t = absurd (let no : ⊥ = cc in no)
+open_parts_awaiting : (did : ℕ) (o : Open) → awaits did o ≡ true
+    → (nat_eq o.did did ≡ true) × (is_some o.deferred ≡ true) × (o.reply ≡ None)
+unfolding awaits
+open_parts_awaiting did o t =
+    let a = and_parts _ _ t in let b = and_parts _ _ a.0 in (b.0, b.1, is_none-none o.reply a.1)
+
+awaiting_is : (did : ℕ) (o : Open) → nat_eq o.did did ≡ true → is_some o.deferred ≡ true → o.reply ≡ None
+    → is_some_and (Some o) (awaits did) ≡ true
+unfolding is_some_and awaits
+awaiting_is did o a b c = rw (a, b, c) refl
 
 no_end_before : (n : ℕ) (w : Trace) (i : ℕ) → is_deferred w i ≡ true → reply_clock_of w i ≡ None
     → is_before (last_clock_of w i) n ≡ false
@@ -218,7 +223,7 @@ any_iff a b m n false e f g =
 
 module _ {u h v : Trace} {r : Request} (b : Begun u h v r) where
   -- an outstanding request, which began three clocks before at least
-  module _ {p : ℕ} (l : p < length u) (t : is_open u p ≡ true) where
+  module _ {p : ℕ} (l : p < length u) (t : outstanding_now u p ≡ true) where
     ads : line_at ADS u p ≡ true
     ads = is_live-ads u p (open_parts u p l t).0
 
@@ -244,26 +249,25 @@ module _ {u h v : Trace} {r : Request} (b : Begun u h v r) where
         (d.0, e, d.1, (let f = rw e at (open_parts u p l t).1 in f))
 
   -- the ID is taken
-  taken_cases : (p : ℕ) (t : Bool) → p < length u → is_open u p ≡ t
-      → is_id_taken_by v (length u) p ≡ (is_open u p && is_some_and (open_at u p) (has_id r.did))
-  unfolding is_id_taken_by open_at
-  taken_cases p false l t = and_left _ _ (same_outstanding u v p b.begins l ∙ t) ∙ sym (and_left _ _ t)
+  taken_cases : (p : ℕ) (t : Bool) → p < length u → outstanding_now u p ≡ t
+      → is_id_taken_by v (length u) p ≡ is_some_and (kept_at u p) (has_id r.did)
+  unfolding is_id_taken_by kept_at open_at
+  taken_cases p false l t = and_left _ _ (same_outstanding u v p b.begins l ∙ t) ∙ sym (not_kept_test u p _ t)
   taken_cases p true l t =
-      rw (same_outstanding u v p b.begins l, same_request l t, b.request)
-      (ap (λ c. is_open u p && c) (id_form u (live_number_of u p) p r.did (request_at u p) r refl))
+      rw (same_outstanding u v p b.begins l, same_request l t, b.request, t)
+      (id_form u (live_number_of u p) p r.did (request_at u p) r refl)
 
   taken_id : any_where (is_id_taken_by v (length u)) (length u) ≡ list_any (has_id r.did) (open_of u)
   taken_id =
-      any_where-same _ (λ p. is_open u p && is_some_and (open_at u p) (has_id r.did)) (length u)
-      (record { same = λ p l. taken_cases p (is_open u p) l refl })
-      ∙ sym (ap (list_any (has_id r.did)) (open_list u)
-      ∙ list_any-all (has_id r.did) (is_open u) (open_at u) (length u))
+      any_where-same _ (λ p. is_some_and (kept_at u p) (has_id r.did)) (length u)
+      (record { same = λ p l. taken_cases p (outstanding_now u p) l refl })
+      ∙ sym (any_below (has_id r.did) u (length u))
 
   -- how many of its agent there are
-  agent_cases : (p : ℕ) (t : Bool) → is_reply_kind r.kind ≡ false → p < length u → is_open u p ≡ t
-      → is_outstanding_of_winner v (length u) p ≡ (is_open u p && is_some_and (open_at u p) (is_of_agent (r.did / 16)))
-  unfolding is_outstanding_of_winner open_at
-  agent_cases p false f l t = and_left _ _ (same_outstanding u v p b.begins l ∙ t) ∙ sym (and_left _ _ t)
+  agent_cases : (p : ℕ) (t : Bool) → is_reply_kind r.kind ≡ false → p < length u → outstanding_now u p ≡ t
+      → is_outstanding_of_winner v (length u) p ≡ is_some_and (kept_at u p) (is_of_agent (r.did / 16))
+  unfolding is_outstanding_of_winner kept_at open_at
+  agent_cases p false f l t = and_left _ _ (same_outstanding u v p b.begins l ∙ t) ∙ sym (not_kept_test u p _ t)
   agent_cases p true f l t =
       let q = open_request l t in
       let size = b.before.size in
@@ -272,16 +276,15 @@ module _ {u h v : Trace} {r : Request} (b : Begun u h v r) where
       sym (winner_at-agree (length h) h v p b.new (omega arith))
       ∙ owned (winner_at h p) q.0 (b.identified.own p q.0 (old_ads l t) q.2) q.3 in
       let mine : winner_at v (length u) ≡ Some (Symmetric (r.did / 16)) = owned (winner_at v (length u)) r b.own f in
-      rw (same_outstanding u v p b.begins l, winner, mine, q.1)
-      (ap (λ c. is_open u p && c) (agent_form u (live_number_of u p) p (r.did / 16) q.0))
+      rw (same_outstanding u v p b.begins l, winner, mine, q.1, t)
+      (agent_form u (live_number_of u p) p (r.did / 16) q.0)
 
   of_agent : is_reply_kind r.kind ≡ false → count_where (is_outstanding_of_winner v (length u)) (length u)
       ≡ count_by (is_of_agent (r.did / 16)) (open_of u)
   of_agent f =
-      count_where-same _ (λ p. is_open u p && is_some_and (open_at u p) (is_of_agent (r.did / 16))) (length u)
-      (record { same = λ p l. agent_cases p (is_open u p) f l refl })
-      ∙ sym (ap (count_by (is_of_agent (r.did / 16))) (open_list u)
-      ∙ count_by-all (is_of_agent (r.did / 16)) (is_open u) (open_at u) (length u))
+      count_where-same _ (λ p. is_some_and (kept_at u p) (is_of_agent (r.did / 16))) (length u)
+      (record { same = λ p l. agent_cases p (outstanding_now u p) f l refl })
+      ∙ sym (count_below (is_of_agent (r.did / 16)) u (length u))
 
   -- a Deferred request stays so, and its request
   still_deferred : (i : ℕ) → is_deferred u i ≡ true
@@ -295,11 +298,10 @@ module _ {u h v : Trace} {r : Request} (b : Begun u h v r) where
         live_request_of-stays (length u) u h i a.snoop b.before.agree early a.is_snoop,
       )
 
-  -- a request that awaits a reply is an open one that does
-  awaiting_open : (i : ℕ) → awaits_reply v (length u) i ≡ true
-      → (p : ℕ) × (p < length u) × ((is_open u p && is_some_and (open_at u p) (awaits r.did)) ≡ true)
-  unfolding open_at
-  awaiting_open i t =
+  -- a request that awaits a reply is kept, and does so there
+  awaiting_kept : (i : ℕ) → awaits_reply v (length u) i ≡ true
+      → (p : ℕ) × (p < length u) × (is_some_and (kept_at u p) (awaits r.did) ≡ true)
+  awaiting_kept i t =
       let parts = await_parts v (length u) i t in
       let before = is_before-parts (response_clock_of v i) (length u) parts.2 in
       let back : response_clock_of u i ≡ Some before.0 =
@@ -311,39 +313,40 @@ module _ {u h v : Trace} {r : Request} (b : Begun u h v r) where
       is_some-none (reply_clock_of u i) (sym (same_answered u v i b.begins counted) ∙ parts.3) in
       let a = has_answer u before.0 i (b.begins.before.timely i before.0 back) in
       let c = snoop_end_of-clock u i a.snoop a.is_snoop in
-      let n = clock_number u i c.clock c.is_clock in
       let p : ℕ = c.clock in
+      let n = clock_number u i p c.is_clock in
       let request : live_request_of u i ≡ request_at u p = request_with u i p (request_at u p) c.is_clock refl in
+      let s = same_id_parts (live_request_of v i) r
+      (subst (λ m. have_same_id (live_request_of v i) m ≡ true) b.request parts.1) in
+      let here : request_at u p ≡ Some s.0 =
+      sym request ∙ sym (same_live_request u v i b.begins counted) ∙ s.1 in
       let still = still_deferred i deferred in
-      let not_reply : is_reply (request_at u p) ≡ false =
-      ap is_reply (sym request ∙ still.1) ∙ b.deferrable.no_reply i still.0 in
-      let unfinished : is_before (last_clock_of u (live_number_of u p)) (length u) ≡ false =
-      subst (λ j. is_before (last_clock_of u j) (length u) ≡ false) (sym n.2)
-      (no_end_before (length u) u i deferred none) in
-      let is_open_here : is_open u p ≡ true = is_outstanding-end u p n.0 ∙ (rw (n.1, not_reply, unfinished) refl) in
-      let s = open_request n.0 is_open_here in
-      let id : nat_eq s.0.did r.did ≡ true =
-      sym (same_id s.0 r (live_request_of v i) (request_at v (length u)) (same_live_request u v i b.begins counted
-      ∙ request ∙ s.1) b.request) ∙ parts.1 in
-      let here : is_some_and (option_map (open_from u (live_number_of u p) p) (Some s.0)) (awaits r.did) ≡ true =
-      subst (λ j. is_some_and (option_map (open_from u j p) (Some s.0)) (awaits r.did) ≡ true) (sym n.2)
-      (awaits_form u i p true s.0 r deferred ∙ (rw (id, back, none) refl)) in
-      (p, n.0, and_from _ _ is_open_here (rw s.1 here))
+      let other : is_reply (Some s.0) ≡ false =
+      ap is_reply (sym here ∙ sym request ∙ still.1) ∙ b.deferrable.no_reply i still.0 in
+      let kept : kept_at u p ≡ Some (deferred_open u i p s.0) =
+      kept_is u p s.0 n.0 n.1 here other
+      ∙ ap (λ j. kept_if (is_before (last_clock_of u j) (length u)) (open_from u j p s.0)) n.2
+      ∙ ap (λ f. kept_if f (open_from u i p s.0)) (no_end_before (length u) u i deferred none)
+      ∙ ap (λ o. Some o) (open_deferred u i p s.0 deferred) in (
+        p,
+        n.0,
+        ap (λ m. is_some_and m (awaits r.did)) kept
+            ∙ awaiting_is r.did (deferred_open u i p s.0) s.2 (ap (λ m. is_some m) back) none,
+      )
 
   -- and the other way round
-  open_awaiting : (p : ℕ) → p < length u → (is_open u p && is_some_and (open_at u p) (awaits r.did)) ≡ true
+  kept_awaiting : (p : ℕ) → p < length u → is_some_and (kept_at u p) (awaits r.did) ≡ true
       → (i : ℕ) × (i < live_count v) × (awaits_reply v (length u) i ≡ true)
-  unfolding open_at
-  open_awaiting p l t =
-      let both = and_parts _ _ t in
+  unfolding open_from
+  kept_awaiting p l t =
+      let m = kept_parts (kept_at u p) (awaits r.did) t in
+      let k = is_open u p m.0 m.1 in
       let i : ℕ = live_number_of u p in
-      let s = open_request l both.0 in
-      let here : is_some_and (option_map (open_from u i p) (Some s.0)) (awaits r.did) ≡ true =
-      subst (λ o. is_some_and (option_map (open_from u i p) o) (awaits r.did) ≡ true) s.1 both.1 in
-      let c = and_parts _ _ (sym (awaits_form u i p (is_deferred u i) s.0 r refl) ∙ here) in
-      let e = and_parts _ _ c.0 in
-      let deferred = deferred_there (is_deferred u i) (response_clock_of u i) e.1 in
-      let none : reply_clock_of u i ≡ None = no_reply (is_deferred u i) (reply_clock_of u i) deferred c.1 in
+      let w = open_parts_awaiting r.did m.0 m.2 in
+      let deferred : is_deferred u i ≡ true = sym (deferral u p m.0 k) ∙ w.1 in
+      let none : reply_clock_of u i ≡ None =
+      sym (ap (λ q. q.reply) (k.same ∙ open_deferred u i p k.request deferred)) ∙ w.2 in
+      let id : nat_eq k.request.did r.did ≡ true = ap (λ q. nat_eq q.did r.did) (sym k.same) ∙ w.0 in
       let d = deferred_response u i deferred in
       let counted = response_counted u i d.0 d.1 in
       let there = response_there u i counted in
@@ -352,23 +355,21 @@ module _ {u h v : Trace} {r : Request} (b : Begun u h v r) where
       a.is_snoop in
       let clock = snoop_end_of-clock v i a.snoop snoop in
       let response = response_clock_of-stays (length u) u v i there.0 b.begins.agree there.2 there.1 in
-      let request : live_request_of v i ≡ Some s.0 = same_live_request u v i b.begins counted
-      ∙ request_with u i p (Some s.0) (live_clock_of-number u p l (open_parts u p l both.0).0) s.1 in (
+      let request : live_request_of v i ≡ Some k.request = same_live_request u v i b.begins counted
+      ∙ request_with u i p (Some k.request) (live_clock_of-number u p l k.live) k.decoded in (
         i,
         live_below_count v i clock.clock clock.is_clock,
         await_from v (length u) i (same_deferred u v i b.begins counted ∙ deferred)
-            (same_id s.0 r (live_request_of v i) (request_at v (length u)) request b.request ∙ e.0)
+            (same_id k.request r (live_request_of v i) (request_at v (length u)) request b.request ∙ id)
             (is_before-from (response_clock_of v i) there.0 (length u) response there.2)
             (same_answered u v i b.begins counted ∙ ap (λ o. is_some o) none),
       )
 
   awaited : any_where (awaits_reply v (length u)) (live_count v) ≡ list_any (awaits r.did) (open_of u)
   awaited =
-      any_iff (awaits_reply v (length u)) (λ p. is_open u p && is_some_and (open_at u p) (awaits r.did))
+      any_iff (awaits_reply v (length u)) (λ p. is_some_and (kept_at u p) (awaits r.did))
       (live_count v) (length u) (list_any (awaits r.did) (open_of u))
-      (sym (list_any-all (awaits r.did) (is_open u) (open_at u) (length u))
-      ∙ sym (ap (list_any (awaits r.did)) (open_list u)))
-      (λ i l t. awaiting_open i t) (λ p l t. open_awaiting p l t)
+      (sym (any_below (awaits r.did) u (length u))) (λ i l t. awaiting_kept i t) kept_awaiting
 
   -- 18 deferred IDs and outstanding requests
   wrong_cases : (t : Bool) → is_reply_kind r.kind ≡ t

@@ -1,55 +1,53 @@
 -- The checker stands for the empty history, and for a history with a new sample.
-use Rattle.std.proofs.Common.{ℕ, ◌≡◌, true, false, cond, Option, Some, None, [], length, nat_lt, count_by, refl, sym}
+use Rattle.std.proofs.Common.{ℕ, ◌≡◌, true, false, cond, Option, Some, None, [], length, nat_lt, refl, sym}
 use Rattle.std.proofs.Common.{subst, ap, ◌∙◌, arith, ◌+◌, ◌-◌, ◌<◌, not, ◌&&◌, nat_eq, ◌∷◌, ◌++◌, inl, inr, ◌≤◌}
 use Rattle.std.proofs.Common.{is_some}
-use Rattle.std.specs.List.{list_all, filter_map}
 use Rattle.std.proofs.lemmas.Bool.{both_ways, cases_Bool, cases_lt, cases_eq, and_parts, le-leb, not-false, ne_eqb}
-use Rattle.std.specs.Option.{option_map, option_and_then}
+use Rattle.std.specs.Option.{option_map}
 use Rattle.fsb_count.specs.Clocks.{first_where, count_where}
 use Rattle.fsb_count.specs.Options.{is_some_and}
 use Rattle.fsb_count.proofs.Interface.{nth_where-found, first_where-off}
 use Rattle.fsb_signal.specs.declared.lines.TheConstants.Lines.{ADS}
 use Rattle.fsb_signal.specs.declared.marks.Marks.{Marks}
-use Rattle.fsb_signal.specs.Samples.{line_at, has_line}
+use Rattle.fsb_signal.specs.Samples.{line_at}
 use Rattle.fsb_signal.proofs.Interface.{line_at-past}
 use Rattle.fsb_signal.specs.declared.sample.Sample.{Sample}
-use Rattle.fsb_trace.specs.At.{line_back, Trace, known_pair, request_at, responds_at, response_code_at}
+use Rattle.fsb_trace.specs.At.{line_back, Trace, request_at, responds_at, response_code_at}
 use Rattle.fsb_trace.specs.Snoop.{snoop_end_of}
 use Rattle.fsb_trace.specs.Response.{ready_clock_of}
 use Rattle.fsb_trace.specs.Verdict.{verdict, is_broken, least_rule, breaks_a_rule}
-use Rattle.fsb_trace.proofs.Interface.{snoop_end_of-clock, winner_at-agree, breaks-14, live_response_of-is}
+use Rattle.fsb_trace.proofs.Interface.{snoop_end_of-clock, winner_at-agree, breaks-14, breaks-18}
+use Rattle.fsb_trace.proofs.Interface.{live_response_of-is}
 use Rattle.fsb_trace.proofs.Interface.{AgreeTo-less, breaks_a_rule-agree, verdict-least, verdict-none, verdict-stays}
-use Rattle.fsb_trace.specs.declared.who.Who.{Who}
 use Rattle.fsb_trace.specs.Winner.{winner_at}
 use Rattle.fsb_trace.specs.Requests.{live_request_of, is_reply, live_count}
 use Rattle.fsb_trace.specs.Outcome.{outcome_of, is_deferred, is_deferral, told_by, response_code_of}
 use Rattle.fsb_trace.specs.Outcome.{response_clock_of, live_response_of}
 use Rattle.fsb_trace.specs.Rules.{is_identified, is_identity_wrong, is_code_wrong, responds_soundly, has_code_at}
 use Rattle.fsb_trace.specs.Rules.{is_code_for, next_response}
-use Rattle.fsb_arbiter.specs.Arbiter.{Stands as ArbiterStands, lines_back}
+use Rattle.fsb_arbiter.specs.Arbiter.{Stands as ArbiterStands}
 use Rattle.fsb_laws.specs.Progress.{response_count, transfer_after, transfer_of}
 use Rattle.fsb_laws.proofs.Interface.{orderly-empty, response_counted, response_count-empty, has_ready}
 use Rattle.fsb_laws.proofs.Interface.{deferred_response, one_more, line_at-old, next_response-new, request_at-last}
 use Rattle.fsb_laws.proofs.Interface.{request_at-old, live_request_of-old, newly_deferred, first_where-next}
 use Rattle.fsb_laws.specs.OneMore.{OneMore}
 use Rattle.fsb_rules.specs.declared.checker.Checker.{Checker}
-use Rattle.fsb_rules.specs.Recent.{words_back, RecentStands}
+use Rattle.fsb_rules.specs.Recent.{RecentStands}
 use Rattle.fsb_rules.specs.InFlight.{InFlightStands, chunks_in, known_count, snoop_before}
 use Rattle.fsb_rules.specs.Live.{IsLive, IsSnooped}
 use Rattle.fsb_rules.specs.Stretch.{Stretch}
-use Rattle.fsb_rules.specs.Outstanding.{OutstandingStands}
-use Rattle.fsb_rules.specs.OpenTests.{is_of_agent, open_after, open_begun}
+use Rattle.fsb_rules.specs.Outstanding.{Few, Happens, OutstandingStands, Takes}
 use Rattle.fsb_rules.specs.Tests.{queue_len}
-use Rattle.fsb_rules.specs.Checker.{Follows, Stands, as_broken, beginner_of, Decoded, Identified, Deferrable}
-use Rattle.fsb_rules.proofs.OpenStands.{open_empty, OpenLeft, open_stands, open_room}
+use Rattle.fsb_rules.specs.Checker.{Comes, Follows, Stands, as_broken, beginner_of, Decoded, Identified, Deferrable}
+use Rattle.fsb_rules.proofs.OpenHappens.{happens_with}
+use Rattle.fsb_rules.proofs.OpenRoom.{few_empty, few_fit, few_goes}
 use Rattle.fsb_rules.specs.declared.live.LiveRequest.{LiveRequest}
-use Rattle.fsb_rules.specs.declared.recent.Recent.{Recent}
-use Rattle.fsb_rules.specs.LeastRule.{begun_by, first_broken, happened_by}
-use Rattle.fsb_rules.proofs.Lines.{lines_back-first, lines_back-next, words_back-new, line_back-new}
-use Rattle.fsb_rules.proofs.LeastRule.{identified_now, IsUnbroken, goes_on, own_unbroken, calm}
-use Rattle.fsb_rules.proofs.LeastRule.{told_deferral as told_deferral_parts, deferral_no_reply, first_is_least}
+use Rattle.fsb_rules.specs.LeastRule.{begun_at, happened_by}
+use Rattle.fsb_rules.proofs.Lines.{line_back-last, line_back-new}
+use Rattle.fsb_rules.proofs.LeastRule.{identified_now, IsUnbroken, goes_on, own_unbroken}
+use Rattle.fsb_rules.proofs.LeastRule.{told_deferral as told_deferral_parts, deferral_no_reply}
 use Rattle.fsb_rules.proofs.LeastRule.{unbroken}
-use Rattle.fsb_rules.proofs.QueueGoes.{QueueGoes, queue_follows, new_back}
+use Rattle.fsb_rules.proofs.QueueGoes.{QueueGoes, queue_follows}
 use Rattle.fsb_rules.proofs.Goes.{Goes}
 use Rattle.fsb_rules.specs.declared.broken.Broken.{Broken}
 use Rattle.fsb_rules.proofs.StartRules.{begun-none}
@@ -58,10 +56,7 @@ use Rattle.fsb_rules.proofs.StartRules.{begun-none}
 pub record IsNew (k : Checker) : Type 0 where
   pub found : k.found ≡ None
   pub clock : k.clock ≡ 0
-  pub first : k.recent.first ≡ None
-  pub second : k.recent.second ≡ None
-  pub third : k.recent.third ≡ None
-  pub words : k.recent.words ≡ None
+  pub recent : RecentStands k.recent []
   pub arbiter : ArbiterStands k.arbiter []
   pub beginner : k.beginner ≡ None
   pub asking : k.queue.asking.items ≡ []
@@ -69,15 +64,10 @@ pub record IsNew (k : Checker) : Type 0 where
   pub moving : k.queue.moving ≡ None
   pub last_snoop : k.queue.last_snoop ≡ None
   pub ready : k.queue.ready ≡ None
-  pub current : k.outstanding.current.items ≡ []
-  pub before : k.outstanding.before.items ≡ []
+  pub outstanding : OutstandingStands k.outstanding []
 
 no_ads : (q : ℕ) → line_at ADS [] q ≡ true → ⊥
 no_ads q t = both_ways _ (line_at-past ADS [] q (omega arith)) t
-
-no_back : line_back ADS [] 0 1 ≡ false
-unfolding line_back
-no_back = refl
 
 no_snoop : (i : ℕ) (o : Option ℕ) → snoop_end_of [] i ≡ o → snoop_end_of [] i ≡ None
 no_snoop i None e = e
@@ -102,19 +92,8 @@ new_queue k n =
       few = rw (n.asking, n.waiting, n.moving) (omega arith);
     }
 
-new_outstanding : (k : Checker) → IsNew k → OutstandingStands k.outstanding []
-new_outstanding k n =
-    record {
-      current = n.current ∙ sym (open_empty [] refl);
-      few = λ a. (let e : count_by (is_of_agent a) k.outstanding.current.items ≡ 0 =
-          ap (count_by (is_of_agent a)) n.current in omega arith);
-      own = ap (list_all (λ o. nat_lt o.did 64)) n.current;
-      fewer = λ t. absurd (both_ways _ no_back t);
-      before = λ t. absurd (both_ways _ no_back t);
-    }
-
 new_follows : (k : Checker) → IsNew k → Follows k []
-unfolding lines_back words_back beginner_of line_back
+unfolding beginner_of line_back
 new_follows k n =
     record {
       orderly = orderly-empty;
@@ -125,12 +104,13 @@ new_follows k n =
             no_reply = λ i t. absurd (let d = deferred_response [] i t in
                 let l = response_counted [] i d.0 d.1 in let z = response_count-empty in omega arith);
           };
+      few = few_empty;
       clock = n.clock;
-      recent = record { first = n.first; second = n.second; third = n.third; words = λ t. n.words };
+      recent = n.recent;
       arbiter = n.arbiter;
       beginner = n.beginner;
       queue = new_queue k n;
-      outstanding = new_outstanding k n;
+      outstanding = n.outstanding;
     }
 
 nothing_found : (marks : Marks) → None ≡ as_broken (verdict marks [])
@@ -142,18 +122,15 @@ new_stands k marks n e = record { marked = e; found = n.found ∙ nothing_found 
 
 -- The checker follows the history with a sample that breaks no rule.
 
--- what the code leaves in the checker, at its clock n
-pub record Absorbed (k : Checker) (n : ℕ) (h : Trace) (x : Sample) (b : Option LiveRequest) (winner : Option Who)
-    (new : Checker) : Type 0 where
+-- what the code leaves in the checker
+pub record Absorbed (k : Checker) (n : ℕ) (h : Trace) (x : Sample) (b : Option LiveRequest) (new : Checker)
+    : Type 0 where
   pub clock : new.clock ≡ n + 1
-  pub first : new.recent.first ≡ Some x.lines
-  pub second : new.recent.second ≡ k.recent.first
-  pub third : new.recent.third ≡ k.recent.second
-  pub words : has_line x ADS ≡ true → new.recent.words ≡ known_pair x
+  pub recent : RecentStands new.recent (h ++ x ∷ [])
   pub arbiter : ArbiterStands new.arbiter (h ++ x ∷ [])
-  pub beginner : new.beginner ≡ winner
+  pub beginner : new.beginner ≡ beginner_of (h ++ x ∷ [])
   pub queue : QueueGoes k.queue n x b new.queue
-  pub outstanding : OpenLeft k n x b new.outstanding
+  pub outstanding : OutstandingStands new.outstanding (h ++ x ∷ [])
 
 back_is : (h : Trace) (q : ℕ) → q + 1 ≡ length h → line_at ADS h q ≡ line_back ADS h (length h) 1
 unfolding line_back
@@ -196,28 +173,6 @@ newly_no_reply v n i e t f next =
     let told = told_deferral v n i e t in
     deferral_no_reply v i (response_code_at v n) told
     (code_fits v n i f next (responds_there v i n e) (no_failure v i (response_code_at v n) told))
-
-recent_goes : {k : Checker} {h : Trace} (x : Sample) (r : Recent) → Follows k h → r.first ≡ Some x.lines
-    → r.second ≡ k.recent.first → r.third ≡ k.recent.second → (has_line x ADS ≡ true → r.words ≡ known_pair x)
-    → RecentStands r (h ++ x ∷ [])
-recent_goes {k} {h} x r f a b c d =
-    let m = one_more h x in
-    record {
-      first = a ∙ sym (lines_back-first h x (h ++ x ∷ []) m);
-      second = b ∙ f.recent.first ∙ sym (lines_back-next h x (h ++ x ∷ []) 1 m (omega arith));
-      third = c ∙ f.recent.second ∙ sym (lines_back-next h x (h ++ x ∷ []) 2 m (omega arith));
-      words = λ t. d (sym (new_back h x (h ++ x ∷ []) m) ∙ t) ∙ sym (words_back-new h x (h ++ x ∷ []) m);
-    }
-
-beginner_goes : (h : Trace) (x : Sample) (v : Trace) → OneMore h x v
-    → cond (has_line x ADS) (winner_at h (length h)) None ≡ beginner_of v
-unfolding beginner_of
-beginner_goes h x v m =
-    let size = m.size in
-    let e : length h + 1 - 1 ≡ length h = omega arith in
-    sym (rw (new_back h x v m, m.size, e)
-    (ap (λ w. cond (has_line x ADS) w None)
-    (sym (winner_at-agree (length h) h v (length h) m.agree (omega arith)))))
 
 module _ {k : Checker} {h : Trace} {x : Sample} {v : Trace} {b : Option LiveRequest} (g : Goes k h x v b) where
   old_ads : (q : ℕ) → q < length h → line_at ADS v q ≡ true → line_at ADS h q ≡ true
@@ -282,26 +237,63 @@ module _ {k : Checker} {h : Trace} {x : Sample} {v : Trace} {b : Option LiveRequ
             ];
       }
 
-pub checker_follows : (marks : Marks) {k : Checker} {h : Trace} (x : Sample) (new : Checker) → Follows k h
-    → IsUnbroken marks (h ++ x ∷ []) (length h)
-    → Absorbed k (length h) h x (begun_by k (length h) x) (cond (has_line x ADS) (winner_at h (length h)) None) new
-    → Follows new (h ++ x ∷ [])
-checker_follows marks {k} {h} x new f u r =
-    let v : Trace = h ++ x ∷ [] in
-    let m = one_more h x in
-    let g = goes_on f m u in
-    record {
-      orderly = g.after;
-      decoded = decoded_goes g;
-      identified = identified_goes g (own_unbroken marks v (length h) u);
-      deferrable = deferrable_goes g (sym (breaks-14 marks v (length h)) ∙ u.sound 14 (omega arith));
-      clock = r.clock ∙ sym m.size;
-      recent = recent_goes x new.recent f r.first r.second r.third r.words;
-      arbiter = r.arbiter;
-      beginner = r.beginner ∙ beginner_goes h x v m;
-      queue = queue_follows g new.queue r.queue;
-      outstanding = open_stands g (own_unbroken marks v (length h) u) (calm f m u) new.outstanding refl r.outstanding;
-    }
+-- a sample that comes and breaks no rule
+module _ {k : Checker} {h : Trace} {x : Sample} {n : ℕ} {b : Option LiveRequest} (c : Comes k n x b h)
+    (e : least_rule k.marks (h ++ x ∷ []) (length h) ≡ None) where
+  still : IsUnbroken k.marks (h ++ x ∷ []) (length h)
+  still = unbroken k.marks (h ++ x ∷ []) (length h) (one_more h x).size e
+
+  goes : Goes k h x (h ++ x ∷ []) b
+  goes = subst (Goes k h x (h ++ x ∷ [])) (sym c.begun) (goes_on c.follows (one_more h x) still)
+
+  identified_after : Identified (h ++ x ∷ [])
+  identified_after = identified_goes goes (own_unbroken k.marks (h ++ x ∷ []) (length h) still)
+
+  few_after : Few (h ++ x ∷ [])
+  few_after =
+      few_goes (happens_with goes) (sym (breaks-18 k.marks (h ++ x ∷ []) (length h)) ∙ still.sound 18 (omega arith))
+      c.follows.few
+
+  pub outstanding_takes : Takes k.outstanding h x (happened_by k n x b)
+  outstanding_takes = record {
+    stands = c.follows.outstanding;
+    happens = subst (λ i. Happens h x (h ++ x ∷ []) (happened_by k i x b)) (sym c.clock) (happens_with goes);
+    room = few_fit (h ++ x ∷ []) identified_after few_after;
+  }
+
+  pub checker_follows : (new : Checker) → Absorbed k n h x b new → Follows new (h ++ x ∷ [])
+  checker_follows new absorbed =
+      let r : Absorbed k (length h) h x b new = subst (λ i. Absorbed k i h x b new) c.clock absorbed in
+      record {
+        orderly = goes.after;
+        decoded = decoded_goes goes;
+        identified = identified_after;
+        deferrable = deferrable_goes goes
+            (sym (breaks-14 k.marks (h ++ x ∷ []) (length h)) ∙ still.sound 14 (omega arith));
+        few = few_after;
+        clock = r.clock ∙ sym (one_more h x).size;
+        recent = r.recent;
+        arbiter = r.arbiter;
+        beginner = r.beginner;
+        queue = queue_follows goes new.queue r.queue;
+        outstanding = r.outstanding;
+      }
+
+-- there is room for what comes
+pub queue_few : {k : Checker} {h : Trace} → Follows k h → queue_len k.queue ≤ 8
+queue_few f = let few = f.queue.few in omega arith
+
+pub queue_room : {k : Checker} {h : Trace} {x : Sample} {n : ℕ} {b : Option LiveRequest} → Comes k n x b h
+    → is_some b ≡ true → queue_len k.queue < 8
+queue_room {k} {h} {x} c t =
+    let few = c.follows.queue.few in
+    elim (cases_Bool (line_back ADS h (length h) 1)) [
+      | inl back ↦
+          let one : queue_len k.queue + 1 ≤ 8 = rw back at few in omega arith
+      | inr quiet ↦
+          let none = begun-none (h ++ x ∷ []) (length h) (line_back-last ADS h x 1 (omega arith) ∙ quiet) in
+          absurd (both_ways _ (ap (λ o. is_some o) (c.begun ∙ none)) t)
+    ]
 
 -- What the checker answers, and what it stands for, after one sample more.
 
@@ -362,15 +354,6 @@ unfolding as_broken
 told None n = refl
 told (Some j) n = refl
 
--- what the code has when it has looked at the rules
-pub record FeedStep (marks : Marks) (k : Checker) (h : Trace) (x : Sample) (b : Option LiveRequest)
-    (winner : Option Who) (rule : Option ℕ) : Type 0 where
-  pub stands : Stands k marks h
-  pub none : k.found ≡ None
-  pub begun : b ≡ begun_by k k.clock x
-  pub winner_is : winner ≡ cond (has_line x ADS) (winner_at h (length h)) None
-  pub rule_is : rule ≡ first_broken k k.clock x b winner
-
 -- what was found stays
 found_cases : {marks : Marks} {k : Checker} {h : Trace} (x : Sample) (o : Option Broken) → Stands k marks h
     → k.found ≡ o → is_some o ≡ true → Stands k marks (h ++ x ∷ [])
@@ -389,82 +372,36 @@ pub was_found : {marks : Marks} {k : Checker} {h : Trace} (x : Sample) → Stand
     → is_some k.found ≡ true → Stands k marks (h ++ x ∷ [])
 was_found {marks} {k} x s t = found_cases x k.found s refl t
 
--- there is room for what comes
-pub queue_few : {marks : Marks} {k : Checker} {h : Trace} → Stands k marks h → k.found ≡ None → queue_len k.queue ≤ 8
-queue_few s e = let few = (s.follows e).queue.few in omega arith
+module _ {marks : Marks} {k : Checker} {h : Trace} (x : Sample) (s : Stands k marks h) (none : k.found ≡ None) where
+  pub comes : (b : Option LiveRequest) → b ≡ begun_at (h ++ x ∷ []) (length h) → Comes k k.clock x b h
+  comes b e = record { follows = s.follows none; clock = (s.follows none).clock; begun = e }
 
-module _ {marks : Marks} {k : Checker} {h : Trace} {x : Sample} {b : Option LiveRequest} {winner : Option Who}
-    {rule : Option ℕ} (s : FeedStep marks k h x b winner rule) where
-  follows : Follows k h
-  follows = s.stands.follows s.none
-
-  begun : b ≡ begun_by k (length h) x
-  begun = s.begun ∙ ap (λ n. begun_by k n x) follows.clock
-
-  rule_of : first_broken k (length h) x (begun_by k (length h) x)
-      (cond (has_line x ADS) (winner_at h (length h)) None) ≡ rule
-  rule_of =
-      sym (s.rule_is ∙ ap (λ n. first_broken k n x b winner) follows.clock
-      ∙ ap (λ c. first_broken k (length h) x c winner) begun
-      ∙ ap (first_broken k (length h) x (begun_by k (length h) x)) s.winner_is)
-
-  least : least_rule marks (h ++ x ∷ []) (length h) ≡ rule
-  least =
-      sym (first_is_least follows (one_more h x) ∙ ap (λ n. least_rule n (h ++ x ∷ []) (length h)) s.stands.marked)
-      ∙ rule_of
-
-  verdict_now : as_broken (verdict marks (h ++ x ∷ []))
-      ≡ option_map {U = Broken} (λ j. record { clock = length h; rule = j }) rule
-  verdict_now =
+  verdict_now : (o : Option ℕ) → least_rule k.marks (h ++ x ∷ []) (length h) ≡ o
+      → as_broken (verdict marks (h ++ x ∷ []))
+      ≡ option_map {U = Broken} (λ j. record { clock = length h; rule = j }) o
+  verdict_now o e =
       ap as_broken (verdict_next marks h x (h ++ x ∷ []) (one_more h x)
-      (as_broken-none (verdict marks h) (sym s.stands.found ∙ s.none))
-      ∙ ap (option_map {U = ℕ × ℕ} (λ j. (length h, j))) least)
-      ∙ told rule (length h)
-
-  still : rule ≡ None → IsUnbroken marks (h ++ x ∷ []) (length h)
-  still e = unbroken marks (h ++ x ∷ []) (length h) (one_more h x).size (least ∙ e)
-
-  pub queue_room : is_some b ≡ true → queue_len k.queue < 8
-  queue_room t =
-      let few = follows.queue.few in
-      elim (cases_Bool (line_back ADS h (length h) 1)) [
-        | inl back ↦
-            let one : queue_len k.queue + 1 ≤ 8 = rw back at few in omega arith
-        | inr quiet ↦
-            absurd (both_ways _ (ap (λ o. is_some o) (begun ∙ begun-none follows (one_more h x) quiet)) t)
-      ]
-
-  pub outstanding_room : rule ≡ None → is_some (option_and_then (λ a. open_begun a) b) ≡ true
-      → length (filter_map (open_after (happened_by k k.clock x b)) k.outstanding.current.items) < 16
-  outstanding_room e t =
-      let m = one_more h x in
-      let room = open_room (goes_on follows m (still e)) (own_unbroken marks (h ++ x ∷ []) (length h) (still e))
-      (calm follows m (still e)) (sym (ap (λ o. is_some (option_and_then (λ a. open_begun a) o)) begun) ∙ t) in
-      let same : happened_by k (length h) x (begun_by k (length h) x) ≡ happened_by k k.clock x b =
-      sym (ap (λ n. happened_by k n x b) follows.clock ∙ ap (happened_by k (length h) x) begun) in
-      subst (λ w. length (filter_map (open_after w) k.outstanding.current.items) < 16) same room
+      (as_broken-none (verdict marks h) (sym s.found ∙ none))
+      ∙ ap (option_map {U = ℕ × ℕ} (λ j. (length h, j)))
+      (ap (λ m. least_rule m (h ++ x ∷ []) (length h)) (sym s.marked) ∙ e))
+      ∙ told o (length h)
 
   -- no rule is broken with the sample
-  pub absorb_stands : (new : Checker) → rule ≡ None → new.marks ≡ k.marks → new.found ≡ k.found
-      → Absorbed k k.clock h x b winner new → Stands new marks (h ++ x ∷ [])
-  absorb_stands new e same found r =
-      let at : Absorbed k (length h) h x b winner new = subst (λ n. Absorbed k n h x b winner new) follows.clock r in
-      let with_begun : Absorbed k (length h) h x (begun_by k (length h) x) winner new =
-      subst (λ c. Absorbed k (length h) h x c winner new) begun at in
-      record {
-        marked = same ∙ s.stands.marked;
-        found = found ∙ s.none ∙ sym (verdict_now ∙ ap (option_map (λ j. record { clock = length h; rule = j })) e);
-        follows = λ n. checker_follows marks x new follows (still e)
-            (subst (λ w. Absorbed k (length h) h x (begun_by k (length h) x) w new) s.winner_is with_begun);
-      }
+  pub absorb_stands : (new : Checker) → least_rule k.marks (h ++ x ∷ []) (length h) ≡ None → new.marks ≡ k.marks
+      → new.found ≡ k.found → Follows new (h ++ x ∷ []) → Stands new marks (h ++ x ∷ [])
+  absorb_stands new e same found f = record {
+    marked = same ∙ s.marked;
+    found = found ∙ none ∙ sym (verdict_now None e);
+    follows = λ n. f;
+  }
 
   -- a rule that is broken with the sample
-  pub broken_stands : (new : Checker) (j : ℕ) → rule ≡ Some j → new.marks ≡ k.marks
-      → new.found ≡ Some (record { clock = k.clock; rule = j }) → Stands new marks (h ++ x ∷ [])
-  broken_stands new j e same found =
-      record {
-        marked = same ∙ s.stands.marked;
-        found = found ∙ ap (λ n. Some (record { clock = n; rule = j })) follows.clock
-            ∙ sym (verdict_now ∙ ap (option_map (λ i. record { clock = length h; rule = i })) e);
-        follows = λ n. absurd (let no : ⊥ = cc in no);
-      }
+  pub broken_stands : (new : Checker) (j : ℕ) → least_rule k.marks (h ++ x ∷ []) (length h) ≡ Some j
+      → new.marks ≡ k.marks → new.found ≡ Some (record { clock = k.clock; rule = j })
+      → Stands new marks (h ++ x ∷ [])
+  broken_stands new j e same found = record {
+    marked = same ∙ s.marked;
+    found = found ∙ ap (λ n. Some (record { clock = n; rule = j })) (s.follows none).clock
+        ∙ sym (verdict_now (Some j) e);
+    follows = λ n. absurd (let no : ⊥ = cc in no);
+  }

@@ -1,12 +1,15 @@
--- The checker's least broken rule is the trace's, and what a sample says that breaks none.
-use Rattle.std.proofs.Common.{ℕ, ◌+◌, ◌-◌, ◌<◌, ◌≡◌, Bool, true, false, cond, not, ◌&&◌, ◌||◌, nat_lt, Option, Some}
-use Rattle.std.proofs.Common.{None, length, take, refl, sym, ap, ◌∙◌, arith, inl, inr, subst, nat_eq, nat_le, is_some}
-use Rattle.std.proofs.lemmas.Bool.{cases_eq, or_parts, lt-ltb, not-false, cases_Bool, and_parts, both_ways, not-true}
-use Rattle.std.proofs.lemmas.Bool.{leb-false, eqb-true}
+-- The least broken rule, one rule after another, and what a sample says that breaks none.
+use Rattle.std.proofs.Common.{ℕ, suc, ◌+◌, ◌-◌, ◌<◌, ◌≤◌, ◌≡◌, Bool, true, false, cond, not, ◌&&◌, ◌||◌, Option, Some}
+use Rattle.std.proofs.Common.{None, List, [], ◌∷◌, ◌++◌, length, take, slice_get, refl, sym, ap, ◌∙◌, arith, inl, inr}
+use Rattle.std.proofs.Common.{subst, nat_eq, nat_le, is_some, is_none, add-zero}
+use Rattle.std.proofs.Math.Numerals.{one-add}
+use Rattle.std.proofs.lemmas.Bool.{cases_lt, or_parts, lt-ltb, not-false, cases_Bool, and_parts, both_ways}
+use Rattle.std.proofs.lemmas.Bool.{not-true, leb-false, eqb-true}
 use Rattle.std.proofs.lemmas.List.{take_all}
 use Rattle.std.specs.Option.{option_and_then}
 use Rattle.std.proofs.lemmas.Option.{cond_some}
 use Rattle.fsb_count.specs.Options.{is_some_and}
+use Rattle.fsb_count.specs.Clocks.{first_where}
 use Rattle.fsb_count.proofs.Interface.{first_where-at, first_where-none, first_where-off, is_some-none}
 use Rattle.fsb_signal.specs.declared.lines.TheConstants.Lines.{ADS, AERR, TRDY, HITM}
 use Rattle.fsb_signal.specs.declared.marks.Marks.{Marks}
@@ -20,86 +23,112 @@ use Rattle.fsb_encode.specs.Request.{is_lawful_request, are_lawful_fields}
 use Rattle.fsb_encode.specs.Decoded.{kind_of, read_off, is_coded_as, if_coded_as, request_of}
 use Rattle.fsb_trace.specs.At.{Trace, line_back, request_at, known_pair_at}
 use Rattle.fsb_trace.specs.Winner.{winner_at}
-use Rattle.fsb_trace.specs.Rules.{breaks, is_request_too_soon, is_code_unlawful, is_identified, is_identity_wrong}
+use Rattle.fsb_trace.specs.Rules.{phase_rules, breaks, is_request_too_soon, is_code_unlawful}
+use Rattle.fsb_trace.specs.Rules.{is_identified, is_identity_wrong}
 use Rattle.fsb_trace.specs.Rules.{is_response_early, is_outstanding_wrong, is_begun_wrongly, is_error_alone}
-use Rattle.fsb_trace.specs.Rules.{is_code_for, has_den}
+use Rattle.fsb_trace.specs.Rules.{is_code_for, has_den, is_snoop_line_alone, is_snoop_result_unfit, is_code_wrong}
+use Rattle.fsb_trace.specs.Rules.{is_target_ready_wrong, is_data_wrong, has_unknown_line, is_queue_full}
+use Rattle.fsb_trace.specs.Rules.{is_request_blocked, has_no_winner, is_some_asked_wrongly, is_lock_alone}
+use Rattle.fsb_trace.specs.Rules.{has_unknown_data, is_marked_address_wrong, is_marked_request_wrong}
 use Rattle.fsb_trace.specs.Verdict.{is_broken, least_rule}
-use Rattle.fsb_trace.proofs.Interface.{breaks-none, breaks-1, breaks-2, breaks-3, breaks-4, breaks-5, breaks-6}
-use Rattle.fsb_trace.proofs.Interface.{breaks-7, breaks-8, breaks-9, breaks-10, breaks-11, breaks-12, breaks-13}
-use Rattle.fsb_trace.proofs.Interface.{breaks-14, breaks-15, breaks-16, breaks-17, breaks-18, breaks-19, breaks-20}
+use Rattle.fsb_trace.proofs.Interface.{breaks-none, breaks-2, breaks-3, breaks-4, breaks-7, breaks-10, breaks-13}
+use Rattle.fsb_trace.proofs.Interface.{breaks-15}
 use Rattle.fsb_trace.specs.declared.outcome.Outcome.TheVariants.{Granted, Handed, Retried, Deferred, Written, Replied}
 use Rattle.fsb_trace.specs.declared.outcome.Outcome.TheVariants.{Failed, Upgraded}
 use Rattle.fsb_trace.specs.Requests.{live_clock_of, live_request_of, is_reply, is_reply_kind}
 use Rattle.fsb_trace.specs.Snoop.{line_at_snoop_end}
 use Rattle.fsb_trace.specs.Outcome.{told_by, is_deferral, response_code_of, outcome_by_kind}
-use Rattle.fsb_laws.specs.OneMore.{OneMore}
+use Rattle.fsb_laws.specs.OneMore.{OneMore, responds}
 use Rattle.fsb_laws.specs.Orderly.{Orderly}
-use Rattle.fsb_laws.proofs.Interface.{line_at-new, spaced-more, orderly-more}
+use Rattle.fsb_laws.proofs.Interface.{line_at-new, one_more, spaced-more, orderly-more}
 use Rattle.fsb_laws.specs.Progress.{may_answer_next}
 use Rattle.fsb_rules.specs.declared.checker.Checker.{Checker}
+use Rattle.fsb_rules.specs.declared.live.LiveRequest.{LiveRequest}
 use Rattle.fsb_rules.specs.Live.{live_from}
 use Rattle.fsb_rules.specs.OpenTests.{is_wrong_among}
-use Rattle.fsb_rules.specs.LeastRule.{begun_by, is_begun_wrongly_by, parity_broken, later_broken, first_broken}
-use Rattle.fsb_rules.specs.LeastRule.{is_target_ready_wrong_by}
-use Rattle.fsb_rules.specs.Checker.{Follows}
+use Rattle.fsb_rules.specs.LeastRule.{begun_at, begins_well, least_among, least_past}
+use Rattle.fsb_rules.specs.LeastRule.{is_begun_wrongly_by, is_snoop_line_alone_by}
+use Rattle.fsb_rules.specs.LeastRule.{is_result_unfit_by, is_code_wrong_by, is_target_ready_wrong_by, is_data_wrong_by}
+use Rattle.fsb_rules.specs.Checker.{Comes, Follows}
 use Rattle.fsb_rules.proofs.Lines.{line_back-new}
-use Rattle.fsb_rules.proofs.StartRules.{rule_1, rule_2, rule_3, rule_4, rule_5, rule_6, rule_7, rule_8, rule_9}
-use Rattle.fsb_rules.proofs.StartRules.{rule_10, rule_17, rule_19, rule_20, begun_there, begun-none}
+use Rattle.fsb_rules.proofs.StartRules.{begun-none, begun-some, full, there, too_soon_not}
 use Rattle.fsb_rules.proofs.QueueRules.{rule_11, rule_12, rule_13, rule_14, rule_15, timely, rule_16, takes_none}
 use Rattle.fsb_rules.proofs.BeginRules.{Begun, back_some, begins_after, has_before, wrong_begun}
 use Rattle.fsb_rules.specs.Tests.{queue_len, next_by, takes_by, is_ready_wrongly_by}
 use Rattle.fsb_rules.proofs.Goes.{Goes}
 
 -- At the last clock of a trace the rules are judged over the whole of it, one after the other.
-module _ (marks : Marks) (v : Trace) (n : ℕ) (size : length v ≡ n + 1) where
-  broken_here : (j : ℕ) → is_broken marks v n j ≡ breaks marks v n j
-  unfolding is_broken
-  broken_here j = rw (lt-ltb n (length v) (omega arith), take_all (n + 1) v (omega arith)) refl
+broken_here : (marks : Marks) (v : Trace) (n j : ℕ) → length v ≡ n + 1 → is_broken marks v n j ≡ breaks marks v n j
+unfolding is_broken
+broken_here marks v n j size = rw (lt-ltb n (length v) (omega arith), take_all (n + 1) v (omega arith)) refl
 
-  -- no rule below j is broken
-  abbrev NoneBelow : ℕ → Type 0
-  NoneBelow j = (i : ℕ) → i < j → breaks marks v n i ≡ false
+-- the rule at this place of a list is broken
+breaks_at : List (Trace → ℕ → Bool) → Trace → ℕ → ℕ → Bool
+breaks_at rules v n i = elim (slice_get rules i) [ Some rule ↦ rule v n | None ↦ false ]
 
-  none_first : NoneBelow 1
-  none_first i l =
-      let zero_only : 0 ≡ i = omega arith in
-      subst (λ j. breaks marks v n j ≡ false) zero_only (breaks-none marks v n)
+-- where a test says at each clock from k on what these rules say, its first clock is the least one of them
+least_is : (rules : List (Trace → ℕ → Bool)) (v : Trace) (n k size : ℕ) (p : ℕ → Bool)
+    → ((i : ℕ) → i < k → p i ≡ false) → ((i : ℕ) → p (k + i) ≡ breaks_at rules v n i) → k + length rules ≤ size
+    → first_where p size ≡ least_among rules v n k
+unfolding least_among breaks_at
+least_is [] v n k size p below here l =
+    first_where-off p size (λ i m.
+    elim (cases_lt i k) [
+      | inl less ↦ below i less
+      | inr least ↦
+          let e : k + (i - k) ≡ i = omega arith in
+          subst (λ c. p c ≡ false) e (here (i - k))
+    ])
+least_is (rule ∷ rules) v n k size p below here l =
+    let zeroth : p k ≡ rule v n = subst (λ c. p c ≡ rule v n) (add-zero k) (here 0) in
+    elim (cases_Bool (rule v n)) [
+      | inl t ↦ rw t (first_where-at p size k (omega arith) (zeroth ∙ t) below)
+      | inr f ↦
+          rw f (least_is rules v n (suc k) size p
+          (λ i m. elim (cases_lt i k) [
+            | inl less ↦ below i less
+            | inr least ↦
+                let e : k ≡ i = omega arith in
+                subst (λ c. p c ≡ false) e (zeroth ∙ f)
+          ])
+          (λ i. let e : k + suc i ≡ suc k + i = omega arith in
+          subst (λ c. p c ≡ breaks_at rules v n i) e (here (suc i)))
+          (omega arith))
+    ]
 
-  none_more : (j : ℕ) → NoneBelow j → breaks marks v n j ≡ false → NoneBelow (j + 1)
-  none_more j none f i l =
-      elim (cases_eq i j) [
-        | inl same ↦ subst (λ k. breaks marks v n k ≡ false) (sym same) f
-        | inr other ↦ none i (omega (arith, other))
-      ]
+least_rule-past : (m : Marks) (v : Trace) (n : ℕ) → length v ≡ n + 1 → least_rule m v n ≡ least_past 0 m v n
+unfolding least_rule least_past breaks breaks_at phase_rules
+least_rule-past m v n size =
+    least_is (phase_rules m) v n 1 21 (is_broken m v n)
+    (λ i l. let e : 0 ≡ i = omega arith in
+    subst (λ c. is_broken m v n c ≡ false) e (broken_here m v n 0 size ∙ breaks-none m v n))
+    (λ i. subst (λ c. is_broken m v n c ≡ breaks_at (phase_rules m) v n i) (sym (one-add i))
+    (broken_here m v n (suc i) size))
+    (omega arith)
 
-  pub least_none : NoneBelow 21 → least_rule marks v n ≡ None
-  unfolding least_rule
-  least_none none = first_where-off (is_broken marks v n) 21 (λ j l. broken_here j ∙ none j l)
+-- the rules in their order
+module _ (m : Marks) (v : Trace) (n : ℕ) where
+  pub parity_rules : least_past 18 m v n
+      ≡ cond (is_marked_address_wrong m v n) (Some 19) (cond (is_marked_request_wrong m v n) (Some 20) None)
+  unfolding least_past least_among phase_rules
+  parity_rules = refl
 
-  pub none_least : least_rule marks v n ≡ None → NoneBelow 21
-  unfolding least_rule
-  none_least e j l = sym (broken_here j) ∙ first_where-none (is_broken marks v n) 21 e j l
+  pub later_rules : least_past 10 m v n
+      ≡ cond (is_snoop_line_alone v n) (Some 11) (cond (is_snoop_result_unfit v n) (Some 12)
+      (cond (is_response_early v n) (Some 13) (cond (is_code_wrong v n) (Some 14)
+      (cond (is_target_ready_wrong v n) (Some 15) (cond (is_data_wrong v n) (Some 16)
+      (cond (has_unknown_data v n) (Some 17) (cond (is_outstanding_wrong v n) (Some 18) (least_past 18 m v n))))))))
+  unfolding least_past least_among phase_rules
+  later_rules = refl
 
-  -- rule j, by its test and by what it says of the trace
-  next_rule : (j : ℕ) (test rule : Bool) (rest : Option ℕ) → j < 21 → NoneBelow j → breaks marks v n j ≡ rule
-      → test ≡ rule → (rule ≡ false → NoneBelow (j + 1) → rest ≡ least_rule marks v n)
-      → cond test (Some j) rest ≡ least_rule marks v n
-  unfolding least_rule
-  next_rule j true rule rest l none e t next =
-      sym (first_where-at (is_broken marks v n) 21 j l (broken_here j ∙ e ∙ sym t)
-      (λ i k. broken_here i ∙ none i k))
-  next_rule j false rule rest l none e t next = next (sym t) (none_more j none (e ∙ sym t))
-
--- the request keeps its distance
-pub too_soon_not : {h : Trace} {x : Sample} {v : Trace} → OneMore h x v → is_request_too_soon v (length h) ≡ false
-    → has_line x ADS ≡ true → (line_back ADS h (length h) 1 ≡ false) × (line_back ADS h (length h) 2 ≡ false)
-unfolding is_request_too_soon
-too_soon_not {h} {x} {v} m f t =
-    let g : (nat_lt (length h) 2 || line_back ADS v (length h) 1 || line_back ADS v (length h) 2) ≡ false =
-    rw (line_at-new ADS h x v m ∙ t) at f in
-    let two = or_parts _ _ g in
-    let one = or_parts _ _ two.0 in
-    (sym (line_back-new ADS h x v 1 m (omega arith)) ∙ one.1, sym (line_back-new ADS h x v 2 m (omega arith)) ∙ two.1)
+pub first_rules : (m : Marks) (h : Trace) (x : Sample) → let v : Trace = h ++ x ∷ [] in let n : ℕ = length h in
+    least_rule m v n ≡ cond (has_unknown_line v n) (Some 1) (cond (is_request_too_soon v n) (Some 2)
+    (cond (is_code_unlawful v n) (Some 3) (cond (is_queue_full v n) (Some 4)
+    (cond (is_request_blocked v n) (Some 5) (cond (has_no_winner v n) (Some 6)
+    (cond (is_identity_wrong v n) (Some 7) (cond (is_some_asked_wrongly v n) (Some 8)
+    (cond (is_lock_alone v n) (Some 9) (cond (is_error_alone v n) (Some 10) (least_past 10 m v n))))))))))
+unfolding least_past least_among phase_rules
+first_rules m h x = least_rule-past m (h ++ x ∷ []) (length h) (one_more h x).size
 
 pub identified_now : (v : Trace) (n : ℕ) (r : Request) → line_back ADS v n 1 ≡ true
     → request_at v (n - 1) ≡ Some r → is_identity_wrong v n ≡ false
@@ -107,6 +136,13 @@ pub identified_now : (v : Trace) (n : ℕ) (r : Request) → line_back ADS v n 1
 unfolding is_identity_wrong
 identified_now v n r t e f =
     not-false _ (let g : (true && not (is_identified (winner_at v (n - 1)) (Some r))) ≡ false = rw (t, e) at f in g)
+
+request_there : (v : Trace) (n : ℕ) → line_back ADS v n 1 ≡ true → is_code_unlawful v n ≡ false
+    → (r : Request) × (request_at v (n - 1) ≡ Some r)
+unfolding is_code_unlawful
+request_there v n t lawful =
+    there (request_at v (n - 1))
+    (let g : (true && is_none (request_at v (n - 1))) ≡ false = rw t at lawful in g)
 
 module _ {k : Checker} {h : Trace} {x : Sample} {v : Trace} (f : Follows k h) (m : OneMore h x v) where
   pub orderly_after : is_request_too_soon v (length h) ≡ false → is_response_early v (length h) ≡ false → Orderly v
@@ -134,71 +170,62 @@ module _ {k : Checker} {h : Trace} {x : Sample} {v : Trace} (f : Follows k h) (m
 
   rule_18_cases : (t : Bool) → Orderly v → line_back ADS h (length h) 1 ≡ t → is_code_unlawful v (length h) ≡ false
       → is_identity_wrong v (length h) ≡ false
-      → is_begun_wrongly_by k (begun_by k (length h) x) ≡ (t && is_begun_wrongly v (length h - 1))
+      → is_begun_wrongly_by k (begun_at v (length h)) ≡ (t && is_begun_wrongly v (length h - 1))
   unfolding is_begun_wrongly_by is_some_and
   rule_18_cases true o t lawful own =
-      let p = begun_there f m t lawful in
-      rw p.2
+      let back : line_back ADS v (length h) 1 ≡ true = line_back-new ADS h x v 1 m (omega arith) ∙ t in
+      let p = request_there v (length h) back lawful in
+      rw (begun-some v (length h) p.0 back p.1)
       (ap (λ xs. is_wrong_among xs (live_from (length h - 1) p.0)) (f.outstanding.before t)
       ∙ wrong_begun (begun_record p.0 o t p.1 own) (length h - 1)
       ∙ ap (is_begun_wrongly v) (has_before h (back_some h t).0).size)
-  rule_18_cases false o t lawful own = rw (begun-none f m t) refl
+  rule_18_cases false o t lawful own =
+      rw (begun-none v (length h) (line_back-new ADS h x v 1 m (omega arith) ∙ t)) refl
 
   pub rule_18 : Orderly v → is_code_unlawful v (length h) ≡ false → is_identity_wrong v (length h) ≡ false
-      → is_begun_wrongly_by k (begun_by k (length h) x) ≡ is_outstanding_wrong v (length h)
+      → is_begun_wrongly_by k (begun_at v (length h)) ≡ is_outstanding_wrong v (length h)
   unfolding is_outstanding_wrong
   rule_18 o lawful own =
       rule_18_cases (line_back ADS h (length h) 1) o refl lawful own
       ∙ ap (λ b. b && is_begun_wrongly v (length h - 1)) (sym (line_back-new ADS h x v 1 m (omega arith)))
 
-  -- the checker's least broken rule is the trace's
-  abbrev next : (j : ℕ) (test rule : Bool) (rest : Option ℕ) → j < 21 → NoneBelow k.marks v (length h) m.size j
-      → breaks k.marks v (length h) j ≡ rule → test ≡ rule
-      → (rule ≡ false → NoneBelow k.marks v (length h) m.size (j + 1) → rest ≡ least_rule k.marks v (length h))
-      → cond test (Some j) rest ≡ least_rule k.marks v (length h)
-  next = next_rule k.marks v (length h) m.size
+-- the rules from 11 to 18, by the tests of the queue and of the request that is begun
+pub record LaterTests (k : Checker) (n : ℕ) (x : Sample) (b : Option LiveRequest) (h : Trace) (v : Trace) : Type 0 where
+  pub alone : is_snoop_line_alone_by k n x ≡ is_snoop_line_alone v (length h)
+  pub unfit : is_result_unfit_by k n x ≡ is_snoop_result_unfit v (length h)
+  pub early : (responds x && is_none (next_by k.queue n)) ≡ is_response_early v (length h)
+  pub code : is_response_early v (length h) ≡ false → is_code_wrong_by k n x ≡ is_code_wrong v (length h)
+  pub target : is_response_early v (length h) ≡ false
+      → is_target_ready_wrong_by k n x ≡ is_target_ready_wrong v (length h)
+  pub data_moved : is_response_early v (length h) ≡ false → is_data_wrong_by k n x ≡ is_data_wrong v (length h)
+  pub begun : is_response_early v (length h) ≡ false → is_begun_wrongly_by k b ≡ is_outstanding_wrong v (length h)
 
-  parity : NoneBelow k.marks v (length h) m.size 19 → parity_broken k x ≡ least_rule k.marks v (length h)
-  unfolding parity_broken
-  parity n19 =
-      next 19 _ _ _ (omega arith) n19 (breaks-19 k.marks v (length h)) (rule_19 f m) (λ f19 n20.
-      next 20 _ _ _ (omega arith) n20 (breaks-20 k.marks v (length h)) (rule_20 f m) (λ f20 n21.
-      sym (least_none k.marks v (length h) m.size n21)))
+begins_parts : (v : Trace) (n : ℕ) → begins_well v n ≡ true
+    → (is_request_too_soon v n ≡ false) × (is_code_unlawful v n ≡ false) × (is_identity_wrong v n ≡ false)
+unfolding begins_well
+begins_parts v n t =
+    let p = or_parts _ _ (not-true _ t) in
+    let q = or_parts _ _ p.0 in
+    (q.0, q.1, p.1)
 
-  later : is_request_too_soon v (length h) ≡ false → is_code_unlawful v (length h) ≡ false
-      → is_identity_wrong v (length h) ≡ false → NoneBelow k.marks v (length h) m.size 11
-      → later_broken k (length h) x (begun_by k (length h) x) ≡ least_rule k.marks v (length h)
-  unfolding later_broken
-  later soon lawful own n11 =
-      next 11 _ _ _ (omega arith) n11 (breaks-11 k.marks v (length h)) (rule_11 f m) (λ f11 n12.
-      next 12 _ _ _ (omega arith) n12 (breaks-12 k.marks v (length h)) (rule_12 f m) (λ f12 n13.
-      next 13 _ _ _ (omega arith) n13 (breaks-13 k.marks v (length h)) (rule_13 f m) (λ early n14.
-      let may = timely f m early in
-      let o = orderly_after soon early in
-      next 14 _ _ _ (omega arith) n14 (breaks-14 k.marks v (length h)) (rule_14 f m may) (λ f14 n15.
-      next 15 _ _ _ (omega arith) n15 (breaks-15 k.marks v (length h)) (rule_15 f m may) (λ f15 n16.
-      next 16 _ _ _ (omega arith) n16 (breaks-16 k.marks v (length h)) (rule_16 f m may o) (λ f16 n17.
-      next 17 _ _ _ (omega arith) n17 (breaks-17 k.marks v (length h)) (rule_17 m) (λ f17 n18.
-      next 18 _ _ _ (omega arith) n18 (breaks-18 k.marks v (length h)) (rule_18 o lawful own) (λ f18 n19.
-      parity n19))))))))
-
-  pub first_is_least : first_broken k (length h) x (begun_by k (length h) x)
-      (cond (has_line x ADS) (winner_at h (length h)) None) ≡ least_rule k.marks v (length h)
-  unfolding first_broken
-  first_is_least =
-      next 1 _ _ _ (omega arith) (none_first k.marks v (length h) m.size) (breaks-1 k.marks v (length h))
-      (rule_1 m) (λ f1 n2.
-      next 2 _ _ _ (omega arith) n2 (breaks-2 k.marks v (length h)) (rule_2 f m) (λ soon n3.
-      next 3 _ _ _ (omega arith) n3 (breaks-3 k.marks v (length h)) (rule_3 f m) (λ lawful n4.
-      next 4 _ _ _ (omega arith) n4 (breaks-4 k.marks v (length h))
-      (rule_4 f m (λ t. (too_soon_not m soon t).0)) (λ f4 n5.
-      next 5 _ _ _ (omega arith) n5 (breaks-5 k.marks v (length h)) (rule_5 f m) (λ f5 n6.
-      next 6 _ _ _ (omega arith) n6 (breaks-6 k.marks v (length h)) (rule_6 m) (λ f6 n7.
-      next 7 _ _ _ (omega arith) n7 (breaks-7 k.marks v (length h)) (rule_7 f m lawful) (λ own n8.
-      next 8 _ _ _ (omega arith) n8 (breaks-8 k.marks v (length h)) (rule_8 f m) (λ f8 n9.
-      next 9 _ _ _ (omega arith) n9 (breaks-9 k.marks v (length h)) (rule_9 f m) (λ f9 n10.
-      next 10 _ _ _ (omega arith) n10 (breaks-10 k.marks v (length h)) (rule_10 f m) (λ f10 n11.
-      later soon lawful own n11))))))))))
+pub later_tests : {k : Checker} {n : ℕ} {x : Sample} {b : Option LiveRequest} {h : Trace} → Comes k n x b h
+    → begins_well (h ++ x ∷ []) (length h) ≡ true → LaterTests k n x b h (h ++ x ∷ [])
+later_tests {k} {n} {x} {b} {h} c t =
+    let v : Trace = h ++ x ∷ [] in
+    let f = c.follows in
+    let m = one_more h x in
+    let p = begins_parts v (length h) t in
+    let tests : LaterTests k (length h) x (begun_at v (length h)) h v = record {
+      alone = rule_11 f m;
+      unfit = rule_12 f m;
+      early = rule_13 f m;
+      code = λ e. rule_14 f m (timely f m e);
+      target = λ e. rule_15 f m (timely f m e);
+      data_moved = λ e. rule_16 f m (timely f m e) (orderly_after f m p.0 e);
+      begun = λ e. rule_18 f m (orderly_after f m p.0 e) p.1 p.2;
+    } in
+    subst (λ i. LaterTests k i x b h v) (sym c.clock)
+    (subst (λ o. LaterTests k (length h) x o h v) (sym c.begun) tests)
 
 -- What a sample that breaks no rule says.
 
@@ -208,7 +235,10 @@ pub record IsUnbroken (marks : Marks) (v : Trace) (n : ℕ) : Type 0 where
 
 pub unbroken : (marks : Marks) (v : Trace) (n : ℕ) → length v ≡ n + 1 → least_rule marks v n ≡ None
     → IsUnbroken marks v n
-unbroken marks v n e f = record { sound = none_least marks v n e f }
+unfolding least_rule
+unbroken marks v n size e = record {
+  sound = λ j l. sym (broken_here marks v n j size) ∙ first_where-none (is_broken marks v n) 21 e j l;
+}
 
 -- an address error comes three clocks after a request
 error_timed : (h : Trace) (x : Sample) (v : Trace) → OneMore h x v → is_error_alone v (length h) ≡ false
@@ -260,7 +290,7 @@ module _ {marks : Marks} {k : Checker} {h : Trace} {x : Sample} {v : Trace} (f :
         is_some-none k.queue.ready p.1,
       )
 
-  pub goes_on : Goes k h x v (begun_by k (length h) x)
+  pub goes_on : Goes k h x v (begun_at v (length h))
   goes_on =
       record {
         more = m;
@@ -268,20 +298,17 @@ module _ {marks : Marks} {k : Checker} {h : Trace} {x : Sample} {v : Trace} (f :
         after = orderly_after f m soon early;
         may = timely f m early;
         timed = error_timed h x v m (sym (breaks-10 marks v (length h)) ∙ u.sound 10 (omega arith));
-        decoded = λ t. begun_there f m t lawful;
-        unbegun = begun-none f m;
+        decoded = λ t.
+            let back : line_back ADS v (length h) 1 ≡ true = line_back-new ADS h x v 1 m (omega arith) ∙ t in
+            let p = request_there v (length h) back lawful in
+            (p.0, p.1, begun-some v (length h) p.0 back p.1);
+        unbegun = λ t. begun-none v (length h) (line_back-new ADS h x v 1 m (omega arith) ∙ t);
         ready = ready_now;
         room = λ t. (
-          room_now k x (rule_4 f m (λ s. (too_soon_not m soon s).0) ∙ sym (breaks-4 marks v (length h))
-              ∙ u.sound 4 (omega arith)) t,
+          room_now k x (sym (full f m soon) ∙ sym (breaks-4 marks v (length h)) ∙ u.sound 4 (omega arith)) t,
           (too_soon_not m soon t).0,
         );
       }
-
-  pub calm : is_begun_wrongly_by k (begun_by k (length h) x) ≡ false
-  calm =
-      rule_18 f m (orderly_after f m soon early) lawful (own_unbroken marks v (length h) u)
-      ∙ sym (breaks-18 marks v (length h)) ∙ u.sound 18 (omega arith)
 
 -- a request with DEN# is no reply
 lawful_kind : (kind : Kind) (line chunk : ℕ) (den : Bool) → are_lawful_fields kind line chunk den ≡ true

@@ -1,4 +1,3 @@
-pub mod QuietClocks
 pub mod StillClocks
 pub mod Room
 pub mod ChunksLeft
@@ -15,7 +14,11 @@ pub mod OpenGoes
 pub mod BeginRules
 pub mod OpenLists
 pub mod LeastRule
+pub mod QuietRules
 pub mod OpenStands
 pub mod Feeds
 pub mod ComingChunks
 pub mod Interface
+pub mod Agents
+pub mod OpenHappens
+pub mod OpenRoom

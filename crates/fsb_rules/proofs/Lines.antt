@@ -1,9 +1,10 @@
 -- The lines of the last clocks.
-use Rattle.std.proofs.Common.{ℕ, ◌+◌, ◌-◌, ◌<◌, ◌≡◌, Bool, true, false, nat_le, Option, Some, None, length, slice_get}
-use Rattle.std.proofs.Common.{refl, sym, arith}
+use Rattle.std.proofs.Common.{ℕ, ◌+◌, ◌-◌, ◌<◌, ◌≡◌, Bool, true, false, nat_le, Option, Some, None, [], ◌∷◌, ◌++◌}
+use Rattle.std.proofs.Common.{length, slice_get, cond, refl, sym, ap, ◌∙◌, arith}
 use Rattle.std.specs.Option.{option_map, option_and_then, option_map_or}
 use Rattle.std.proofs.lemmas.Bool.{leb-true, leb-false, le-leb, lt-leb, and_parts, and_left}
 use Rattle.fsb_count.specs.Options.{is_some_and}
+use Rattle.fsb_count.proofs.Interface.{slice_get-end}
 use Rattle.fsb_signal.specs.declared.lines.Lines.{Lines}
 use Rattle.fsb_signal.specs.declared.sample.Sample.{Sample}
 use Rattle.fsb_signal.specs.Samples.{has_line, line_at}
@@ -12,12 +13,16 @@ use Rattle.fsb_encode.specs.declared.request.Pair.{Pair}
 use Rattle.fsb_encode.specs.declared.request.Request.{Request}
 use Rattle.fsb_encode.specs.Decoded.{request_of}
 use Rattle.fsb_trace.specs.At.{Trace, line_back, known_pair, known_pair_at, request_at}
+use Rattle.fsb_trace.specs.Winner.{winner_at}
+use Rattle.fsb_trace.proofs.Interface.{winner_at-agree}
 use Rattle.fsb_arbiter.specs.Order.{is_in}
 use Rattle.fsb_arbiter.specs.Arbiter.{lines_back}
 use Rattle.fsb_laws.specs.OneMore.{OneMore}
-use Rattle.fsb_laws.proofs.Interface.{line_at-old}
-use Rattle.fsb_rules.specs.Recent.{words_back}
-use Rattle.fsb_rules.specs.Tests.{is_among, request_by}
+use Rattle.fsb_laws.proofs.Interface.{line_at-new, line_at-old, one_more}
+use Rattle.fsb_rules.specs.declared.recent.Recent.{Recent}
+use Rattle.fsb_rules.specs.Recent.{RecentStands}
+use Rattle.fsb_rules.specs.Checker.{beginner_of}
+use Rattle.fsb_rules.specs.Tests.{request_by}
 
 -- a line among those of a clock back is asserted there
 lines_form : (line : Lines) (o : Option Sample)
@@ -27,13 +32,15 @@ lines_form line None = refl
 lines_form line (Some s) = refl
 
 among_cases : (line : Lines) (h : Trace) (d : ℕ) (b : Bool) → nat_le d (length h) ≡ b
-    → is_among (lines_back h d) line ≡ line_back line h (length h) d
-unfolding is_among lines_back line_back line_at is_some_and
+    → is_some_and (lines_back h d) (λ l. is_in l line) ≡ line_back line h (length h) d
+unfolding lines_back line_back line_at is_some_and
 among_cases line h d true e = rw e (lines_form line (slice_get h (length h - d)))
 among_cases line h d false e = rw e refl
 
-pub is_among-back : (line : Lines) (h : Trace) (d : ℕ) → is_among (lines_back h d) line ≡ line_back line h (length h) d
-is_among-back line h d = among_cases line h d (nat_le d (length h)) refl
+pub is_among-back : (line : Lines) (h : Trace) (d : ℕ) (o : Option Lines) → o ≡ lines_back h d
+    → is_some_and o (λ l. is_in l line) ≡ line_back line h (length h) d
+is_among-back line h d o e =
+    ap (λ lines. is_some_and lines (λ l. is_in l line)) e ∙ among_cases line h d (nat_le d (length h)) refl
 
 -- lines back from the new clock are those of the old trace
 old_cases : (line : Lines) (h : Trace) (x : Sample) (v : Trace) (d : ℕ) (b : Bool) → OneMore h x v → 0 < d
@@ -53,9 +60,9 @@ unfolding line_back
 line_back-some h t = let l = leb-true 1 (length h) (and_parts _ _ t).0 in omega arith
 
 -- before the first clock none is
-pub line_back-none : (h : Trace) → length h ≡ 0 → line_back ADS h (length h) 1 ≡ false
+pub line_back-none : (line : Lines) (h : Trace) → length h ≡ 0 → line_back line h (length h) 1 ≡ false
 unfolding line_back
-line_back-none h e = and_left _ _ (lt-leb 1 (length h) (omega arith))
+line_back-none line h e = and_left _ _ (lt-leb 1 (length h) (omega arith))
 
 -- what is kept goes on
 pub lines_back-first : (h : Trace) (x : Sample) (v : Trace) → OneMore h x v → lines_back v 1 ≡ Some x.lines
@@ -94,12 +101,6 @@ known_pair_at-old : (h : Trace) (x : Sample) (v : Trace) (c : ℕ) → OneMore h
 unfolding known_pair_at
 known_pair_at-old h x v c m l = rw (sym (m.agree.same c l)) refl
 
-pub words_back-new : (h : Trace) (x : Sample) (v : Trace) → OneMore h x v → words_back v ≡ known_pair x
-unfolding words_back
-words_back-new h x v m =
-    let e : length h + 1 - 1 ≡ length h = omega arith in
-    rw (m.size, le-leb 1 (length h + 1) (omega arith), e) (known_pair_at-new h x v m)
-
 -- the request of the last clock and the new one
 swapped : (a b : Option Pair)
     → option_and_then (λ q. option_and_then {U = Request} (λ p. request_of p q) a) b
@@ -109,15 +110,66 @@ swapped None (Some q) = refl
 swapped (Some p) None = refl
 swapped (Some p) (Some q) = refl
 
-pub request_by-new : (h : Trace) (x : Sample) (v : Trace) → OneMore h x v → 0 < length h
-    → request_by (words_back h) x ≡ request_at v (length h - 1)
-unfolding request_by request_at words_back
-request_by-new h x v m l =
+pub request_at-new : (h : Trace) (x : Sample) → line_back ADS h (length h) 1 ≡ true
+    → request_at (h ++ x ∷ []) (length h - 1) ≡ request_by (known_pair_at h (length h - 1)) x
+unfolding request_by request_at
+request_at-new h x t =
+    let l = line_back-some h t in
+    let m = one_more h x in
     let e : length h - 1 + 1 ≡ length h = omega arith in
     rw (
-      le-leb 1 (length h) (omega arith),
       e,
-      known_pair_at-new h x v m,
-      known_pair_at-old h x v (length h - 1) m (omega arith),
+      known_pair_at-new h x (h ++ x ∷ []) m,
+      known_pair_at-old h x (h ++ x ∷ []) (length h - 1) m (omega arith),
     )
-    (swapped (known_pair_at h (length h - 1)) (known_pair x))
+    (sym (swapped (known_pair_at h (length h - 1)) (known_pair x)))
+
+-- What a trace has at its new clock, and what lies before that.
+pub line_at-last : (line : Lines) (h : Trace) (x : Sample) → line_at line (h ++ x ∷ []) (length h) ≡ has_line x line
+line_at-last line h x = line_at-new line h x (h ++ x ∷ []) (one_more h x)
+
+pub line_back-last : (line : Lines) (h : Trace) (x : Sample) (d : ℕ) → 0 < d
+    → line_back line (h ++ x ∷ []) (length h) d ≡ line_back line h (length h) d
+line_back-last line h x d l = line_back-new line h x (h ++ x ∷ []) d (one_more h x) l
+
+pub winner_at-last : (h : Trace) (x : Sample) → winner_at (h ++ x ∷ []) (length h) ≡ winner_at h (length h)
+winner_at-last h x =
+    let m = one_more h x in sym (winner_at-agree (length h) h (h ++ x ∷ []) (length h) m.agree (omega arith))
+
+pub line_back-end : (line : Lines) (h : Trace) (x : Sample)
+    → line_back line (h ++ x ∷ []) (length (h ++ x ∷ [])) 1 ≡ has_line x line
+unfolding line_back
+line_back-end line h x =
+    let size = (one_more h x).size in
+    let e : length h + 1 - 1 ≡ length h = omega arith in
+    rw (size, le-leb 1 (length h + 1) (omega arith), e) (line_at-last line h x)
+
+pub beginner-last : (h : Trace) (x : Sample)
+    → beginner_of (h ++ x ∷ []) ≡ cond (has_line x ADS) (winner_at h (length h)) None
+unfolding beginner_of
+beginner-last h x =
+    let size = (one_more h x).size in
+    let e : length h + 1 - 1 ≡ length h = omega arith in
+    rw (line_back-end ADS h x, size, e, winner_at-last h x) refl
+
+pub ruleset new_clock = (slice_get-end, line_at-last, line_back-last, winner_at-last)
+
+pub ruleset new_winner = (line_at-last, winner_at-last, beginner-last)
+
+pub ruleset begun_facts = (line_back-last, request_at-new)
+
+-- what is kept of the last clocks goes on
+pub recent_goes : {old : Recent} {h : Trace} (x : Sample) (new : Recent) → RecentStands old h
+    → new.first ≡ Some x.lines → new.second ≡ old.first → new.third ≡ old.second
+    → (has_line x ADS ≡ true → new.words ≡ known_pair x) → RecentStands new (h ++ x ∷ [])
+recent_goes {old} {h} x new s a b c d =
+    let v : Trace = h ++ x ∷ [] in
+    let m = one_more h x in
+    let size = m.size in
+    let e : length v - 1 ≡ length h = omega arith in
+    record {
+      first = a ∙ sym (lines_back-first h x v m);
+      second = b ∙ s.first ∙ sym (lines_back-next h x v 1 m (omega arith));
+      third = c ∙ s.second ∙ sym (lines_back-next h x v 2 m (omega arith));
+      words = λ t. d (sym (line_back-end ADS h x) ∙ t) ∙ sym (ap (known_pair_at v) e ∙ known_pair_at-new h x v m);
+    }

@@ -292,7 +292,7 @@ module _ {h : Trace} {x : Sample} {v : Trace} (m : OneMore h x v) where
   count_cases zero f e =
       let a : length v - 1 ≡ 0 = omega (arith, m.size) in
       let b : length h - 1 ≡ 0 = omega arith in
-      rw (a, b, line_back-none h e) (no_count v h)
+      rw (a, b, line_back-none ADS h e) (no_count v h)
   count_cases (suc n) f e =
       let a : length v - 1 ≡ n + 1 = omega (arith, m.size) in
       let b : length h - 1 ≡ n = omega arith in

@@ -1,19 +1,28 @@
 -- The five request lines, held where no request began.
-use Rattle.std.proofs.Common.{ℕ, zero, suc, ◌-◌, ◌*◌, ◌^◌, ◌<◌, ◌≡◌, ◌==◌, true, ◌&&◌, not, min, Option, Some, None}
-use Rattle.std.proofs.Common.{is_none, refl, arith, w32}
+use Rattle.std.proofs.Common.{ℕ, zero, suc, ◌-◌, ◌*◌, ◌^◌, ◌<◌, ◌≡◌, ◌==◌, ◌&&◌, ◌||◌, not, min, Option, Some}
+use Rattle.std.proofs.Common.{None, length, refl, sym, ◌∙◌, arith, w32}
 use Rattle.std.specs.Int.{bit_at}
 use Rattle.std.specs.Int.RustNames.{bit_and}
 use Rattle.std.proofs.lemmas.Nat.{pow_pos}
 use Rattle.std.proofs.lemmas.Nat.Bits.{and_pow, bit_at_and, bit_at_not}
 use Rattle.fsb_count.specs.Options.{is_some_and}
-use Rattle.fsb_count.proofs.Interface.{is_none-none}
 use Rattle.fsb_signal.specs.declared.lines.Lines.{Lines}
+use Rattle.fsb_signal.specs.declared.lines.TheConstants.Lines.{BREQ0, BREQ1, BREQ2, BREQ3, BPRI}
 use Rattle.fsb_signal.specs.declared.sample.Sample.{Sample}
+use Rattle.fsb_signal.specs.Samples.{has_line}
+use Rattle.fsb_trace.specs.declared.who.Who.{Who}
+use Rattle.fsb_trace.specs.declared.who.Who.TheVariants.{Symmetric, Priority}
+use Rattle.fsb_trace.specs.At.{Trace}
 use Rattle.fsb_trace.specs.Winner.{is_agent, request_line_of, bus_request_of}
+use Rattle.fsb_trace.specs.Rules.{is_asked_wrongly, is_some_asked_wrongly}
+use Rattle.fsb_arbiter.specs.Order.{is_in}
+use Rattle.fsb_arbiter.specs.Arbiter.{lines_back}
+use Rattle.fsb_laws.specs.OneMore.{OneMore}
 use Rattle.fsb_rules.specs.declared.checker.Checker.{Checker}
-use Rattle.fsb_rules.specs.Tests.{is_among}
-use Rattle.fsb_rules.specs.LeastRule.{has_request_line_by, is_dropped_by, is_some_dropped_by, is_asked_wrongly_by}
-use Rattle.fsb_rules.specs.LeastRule.{is_some_asked_wrongly_by, is_some_dropped_after_by}
+use Rattle.fsb_rules.specs.RequestLines.{has_request_line_by, is_dropped_by, is_some_dropped_by}
+use Rattle.fsb_rules.specs.Checker.{Follows}
+use Rattle.fsb_rules.proofs.Lines.{is_among-back}
+use Rattle.fsb_rules.proofs.StartRules.{any_asked, asked}
 
 values : (a m p : ℕ) → a < 2 → m < 2 → 0 < p → (min a (1 - m) * p == p) ≡ (a * p == p && not (m * p == p))
 values zero zero (suc p) la lm l = grind arith
@@ -54,14 +63,33 @@ gone_lines was now l =
     refl
 
 -- where no request began they are to be held
-held_cases : (k : Checker) (x : Sample) (first : Option Lines) → k.recent.first ≡ first → k.beginner ≡ None
-    → is_some_and k.recent.first (λ lines. is_some_dropped_by lines x.lines) ≡ is_some_asked_wrongly_by k x
-unfolding is_some_and is_some_dropped_by is_dropped_by is_some_asked_wrongly_by is_asked_wrongly_by
-    is_among is_agent request_line_of bus_request_of
-held_cases k x None e b = rw (e, b) refl
-held_cases k x (Some lines) e b = rw (e, b) refl
+not_held : {k : Checker} {h : Trace} {x : Sample} {v : Trace} → Follows k h → OneMore h x v → k.beginner ≡ None
+    → (who : Who) → is_asked_wrongly v (length h) who
+    ≡ (is_some_and (lines_back h 1) (λ l. is_in l (request_line_of who)) && not (has_line x (request_line_of who)))
+unfolding is_agent is_some_and
+not_held {k} {h} {x} {v} f m e who =
+    asked f m who ∙ (rw (e, is_among-back (request_line_of who) h 1 (lines_back h 1) refl) refl)
 
-pub none_begun : (k : Checker) (x : Sample) → is_none k.beginner ≡ true
-    → is_some_dropped_after_by k.recent.first x.lines ≡ is_some_asked_wrongly_by k x
-unfolding is_some_dropped_after_by
-none_begun k x t = held_cases k x k.recent.first refl (is_none-none k.beginner t)
+held_cases : (o : Option Lines) (x : Sample) → is_some_and o (λ lines. is_some_dropped_by lines x.lines)
+    ≡ (is_some_and o (λ l. is_in l BREQ0) && not (has_line x BREQ0)
+    || is_some_and o (λ l. is_in l BREQ1) && not (has_line x BREQ1)
+    || is_some_and o (λ l. is_in l BREQ2) && not (has_line x BREQ2)
+    || is_some_and o (λ l. is_in l BREQ3) && not (has_line x BREQ3)
+    || is_some_and o (λ l. is_in l BPRI) && not (has_line x BPRI))
+unfolding is_some_and is_some_dropped_by is_dropped_by
+held_cases None x = refl
+held_cases (Some lines) x = refl
+
+pub none_begun : {k : Checker} {h : Trace} {x : Sample} {v : Trace} → Follows k h → OneMore h x v
+    → k.beginner ≡ None
+    → is_some_and (lines_back h 1) (λ lines. is_some_dropped_by lines x.lines) ≡ is_some_asked_wrongly v (length h)
+unfolding request_line_of bus_request_of
+none_begun {k} {h} {x} {v} f m e =
+    held_cases (lines_back h 1) x
+    ∙ sym (any_asked v (length h) ∙ (rw (
+      not_held f m e (Symmetric 0),
+      not_held f m e (Symmetric 1),
+      not_held f m e (Symmetric 2),
+      not_held f m e (Symmetric 3),
+      not_held f m e Priority,
+    ) refl))

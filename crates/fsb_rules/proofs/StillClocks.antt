@@ -1,28 +1,22 @@
--- A sample in which no line tells of a snoop, a response or data breaks none of their rules, and mostly changes
--- nothing.
+-- A sample in which no line tells of a snoop, a response or data mostly changes nothing.
 use Rattle.std.proofs.Common.{ℕ, ◌≡◌, Bool, true, false, cond, ◌&&◌, ◌||◌, Option, Some, None, is_some, slice_get, refl}
 use Rattle.std.specs.Option.{option_and_then}
-use Rattle.std.proofs.lemmas.Bool.{and_parts, and_right, or_parts, not-true}
+use Rattle.std.proofs.lemmas.Bool.{and_parts, or_parts, not-true}
 use Rattle.std.proofs.lemmas.List.{append-nil}
-use Rattle.fsb_count.specs.Options.{is_some_and}
 use Rattle.fsb_count.proofs.Interface.{is_none-none}
 use Rattle.fsb_signal.specs.declared.lines.TheConstants.Lines.{HIT, HITM, DEFER, RS0, RS1, RS2, TRDY, DBSY, DRDY, AERR}
 use Rattle.fsb_signal.specs.declared.sample.Sample.{Sample}
 use Rattle.fsb_signal.specs.Samples.{has_line}
 use Rattle.fsb_laws.specs.OneMore.{responds}
-use Rattle.fsb_rules.specs.declared.checker.Checker.{Checker}
 use Rattle.fsb_rules.specs.declared.in_flight.InFlight.{InFlight}
 use Rattle.fsb_rules.specs.declared.live.LiveRequest.{LiveRequest}
 use Rattle.fsb_rules.specs.declared.live.Snooped.{Snooped}
 use Rattle.fsb_rules.specs.Still.{is_still, is_quiet_by, stays_by}
 use Rattle.fsb_rules.specs.Tests.{is_due_by, ends_snoop_by, is_unfit_by, is_sound, moving_by, after_chunk, snooped_by}
 use Rattle.fsb_rules.specs.Tests.{asking_after, without_last, waiting_after, ready_after_by}
-use Rattle.fsb_rules.specs.LeastRule.{is_snoop_line_alone_by, is_result_unfit_by, is_code_wrong_by}
-use Rattle.fsb_rules.specs.LeastRule.{is_target_ready_wrong_by, is_data_wrong_by, is_begun_wrongly_by, later_broken}
-use Rattle.fsb_rules.specs.LeastRule.{parity_broken}
 
 -- none of the lines is asserted
-record Stillness (x : Sample) : Type 0 where
+pub record Stillness (x : Sample) : Type 0 where
   pub hit : has_line x HIT ≡ false
   pub hitm : has_line x HITM ≡ false
   pub defer : has_line x DEFER ≡ false
@@ -34,7 +28,7 @@ record Stillness (x : Sample) : Type 0 where
   pub drdy : has_line x DRDY ≡ false
   pub aerr : has_line x AERR ≡ false
 
-stillness : (x : Sample) → is_still x ≡ true → Stillness x
+pub stillness : (x : Sample) → is_still x ≡ true → Stillness x
 unfolding is_still
 stillness x t =
     let a = and_parts _ _ t in
@@ -59,15 +53,15 @@ stillness x t =
       aerr = not-true _ a.1;
     }
 
-silent : (x : Sample) → Stillness x → responds x ≡ false
+pub silent : (x : Sample) → Stillness x → responds x ≡ false
 unfolding responds
 silent x s = rw (s.low, s.middle, s.high) refl
 
-not_sound : (x : Sample) → Stillness x → is_sound x ≡ false
+pub not_sound : (x : Sample) → Stillness x → is_sound x ≡ false
 unfolding is_sound
 not_sound x s = rw (silent x s) refl
 
--- the rules from 11 to 18
+-- without a snoop line each snoop result fits
 fits : (b c : Bool) → ((b || c) && (false || false) || b && false) ≡ false
 fits true c = refl
 fits false true = refl
@@ -80,46 +74,6 @@ not_unfit a x s =
     let p = or_parts (has_line x HIT || has_line x HITM) (has_line x DEFER) s in
     let q = or_parts (has_line x HIT) (has_line x HITM) p.0 in
     rw (q.0, q.1, p.1) (fits a.is_write_back a.is_reply)
-
-no_unfit : (q : InFlight) (n : ℕ) (x : Sample) (o : Option LiveRequest)
-    → (has_line x HIT || has_line x HITM || has_line x DEFER) ≡ false
-    → is_some_and o (λ a. ends_snoop_by q n x && is_unfit_by a x) ≡ false
-unfolding is_some_and
-no_unfit q n x None s = refl
-no_unfit q n x (Some a) s = and_right _ _ (not_unfit a x s)
-
-no_target : (k : Checker) (n : ℕ) (x : Sample) → Stillness x → is_target_ready_wrong_by k n x ≡ false
-unfolding is_target_ready_wrong_by
-no_target k n x s = rw (s.trdy, not_sound x s) refl
-
-no_data : (k : Checker) (n : ℕ) (x : Sample) → k.queue.moving ≡ None → Stillness x → is_data_wrong_by k n x ≡ false
-unfolding is_data_wrong_by moving_by after_chunk
-no_data k n x e s = rw (silent x s, e, s.drdy, s.dbsy) refl
-
-later_parts : (k : Checker) (n : ℕ) (x : Sample) (b : Option LiveRequest) → Stillness x → k.queue.moving ≡ None
-    → b ≡ None → later_broken k n x b ≡ parity_broken k x
-unfolding later_broken is_snoop_line_alone_by is_result_unfit_by is_code_wrong_by is_begun_wrongly_by is_some_and
-later_parts k n x b s e f =
-    rw (
-      s.hit,
-      s.hitm,
-      s.defer,
-      no_unfit k.queue n x (slice_get k.queue.asking.items 0) (rw (s.hit, s.hitm, s.defer) refl),
-      silent x s,
-      not_sound x s,
-      no_target k n x s,
-      no_data k n x e s,
-      s.drdy,
-      f,
-    ) refl
-
-pub quiet_later : (k : Checker) (n : ℕ) (x : Sample) (b : Option LiveRequest) → is_quiet_by k.queue x b ≡ true
-    → later_broken k n x b ≡ parity_broken k x
-unfolding is_quiet_by
-quiet_later k n x b t =
-    let p = and_parts _ _ t in
-    let q = and_parts _ _ p.1 in
-    later_parts k n x b (stillness x q.1) (is_none-none _ q.0) (is_none-none _ p.0)
 
 -- what is kept of the requests
 none_where : (o : Option LiveRequest) (f : LiveRequest → Option Snooped)

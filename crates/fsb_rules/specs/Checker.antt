@@ -1,8 +1,9 @@
 -- The samples that a checker was fed.
-use Rattle.std.specs.Prelude.{◌≡◌, ◌<◌, ℕ, ◌+◌, ◌-◌, true, false, if◌then◌else◌, Option, Some, None, length}
+use Rattle.std.specs.Prelude.{◌≡◌, ◌<◌, ℕ, ◌+◌, ◌-◌, true, false, if◌then◌else◌, Option, Some, None, [], ◌∷◌, ◌++◌, length}
 use Rattle.std.specs.Option.{option_map}
 use Rattle.fsb_signal.specs.declared.lines.TheConstants.Lines.{ADS}
 use Rattle.fsb_signal.specs.declared.marks.Marks.{Marks}
+use Rattle.fsb_signal.specs.declared.sample.Sample.{Sample}
 use Rattle.fsb_signal.specs.Samples.{line_at}
 use Rattle.fsb_encode.specs.declared.request.Request.{Request}
 use Rattle.fsb_trace.specs.declared.who.Who.{Who}
@@ -16,9 +17,11 @@ use Rattle.fsb_arbiter.specs.Arbiter.{Stands as ArbiterStands}
 use Rattle.fsb_laws.specs.Orderly.{Orderly}
 use Rattle.fsb_rules.specs.declared.broken.Broken.{Broken}
 use Rattle.fsb_rules.specs.declared.checker.Checker.{Checker}
+use Rattle.fsb_rules.specs.declared.live.LiveRequest.{LiveRequest}
+use Rattle.fsb_rules.specs.LeastRule.{begun_at}
 use Rattle.fsb_rules.specs.Recent.{RecentStands}
 use Rattle.fsb_rules.specs.InFlight.{InFlightStands}
-use Rattle.fsb_rules.specs.Outstanding.{OutstandingStands}
+use Rattle.fsb_rules.specs.Outstanding.{Few, OutstandingStands}
 
 -- a verdict as the checker tells it
 unfoldable pub as_broken : Option (ℕ × ℕ) → Option Broken
@@ -46,6 +49,7 @@ pub record Follows (checker : Checker) (h : Trace) : Type 0 where
   pub decoded : Decoded h
   pub identified : Identified h
   pub deferrable : Deferrable h
+  pub few : Few h
   pub clock : checker.clock ≡ length h
   pub recent : RecentStands checker.recent h
   pub arbiter : ArbiterStands checker.arbiter h
@@ -59,3 +63,9 @@ pub record Stands (checker : Checker) (marks : Marks) (h : Trace) : Type 0 where
   pub marked : checker.marks ≡ marks
   pub found : checker.found ≡ as_broken (verdict marks h)
   pub follows : checker.found ≡ None → Follows checker h
+
+-- the sample comes at clock n, after a history that the checker follows; the request is the one whose second clock n is
+pub record Comes (checker : Checker) (n : ℕ) (sample : Sample) (request : Option LiveRequest) (h : Trace) : Type 0 where
+  pub follows : Follows checker h
+  pub clock : n ≡ length h
+  pub begun : request ≡ begun_at (h ++ sample ∷ []) (length h)

@@ -3,6 +3,7 @@ pub mod Tests
 pub mod OpenTests
 pub mod Still
 pub mod LeastRule
+pub mod RequestLines
 pub mod Stretch
 pub mod Recent
 pub mod InFlight

@@ -1,16 +1,26 @@
--- What is kept of the outstanding requests.
-use Rattle.std.specs.Prelude.{◌≡◌, ◌≤◌, ℕ, ◌-◌, nat_lt, true, count_by, if◌then◌else◌, List, Option, None, length, take}
-use Rattle.std.specs.Option.{option_map}
-use Rattle.std.specs.List.{filter_map, list_all}
+-- What is kept of the outstanding requests, and what a sample does to them.
+use Rattle.std.specs.Prelude.{◌≡◌, ◌≤◌, ℕ, zero, suc, ◌-◌, Bool, ◌&&◌, nat_eq, true, if◌then◌else◌, List, [], ◌∷◌}
+use Rattle.std.specs.Prelude.{◌++◌, All, Option, Some, None, length, take}
+use Rattle.std.specs.Option.{option_map, option_to_list}
+use Rattle.fsb_count.specs.Options.{is_some_and, is_at, is_before}
+use Rattle.fsb_count.specs.Clocks.{count_where}
 use Rattle.fsb_signal.specs.declared.lines.TheConstants.Lines.{ADS}
+use Rattle.fsb_signal.specs.declared.sample.Sample.{Sample}
 use Rattle.fsb_encode.specs.declared.request.Request.{Request}
+use Rattle.fsb_trace.specs.declared.who.Who.TheVariants.{Symmetric}
 use Rattle.fsb_trace.specs.At.{Trace, line_back, request_at}
+use Rattle.fsb_trace.specs.Winner.{is_agent, winner_at}
 use Rattle.fsb_trace.specs.Requests.{live_number_of}
 use Rattle.fsb_trace.specs.Outcome.{response_clock_of, is_deferred}
-use Rattle.fsb_trace.specs.Flight.{outstanding, reply_clock_of}
+use Rattle.fsb_trace.specs.Flight.{is_outstanding, reply_clock_of}
+use Rattle.fsb_laws.specs.OneMore.{OneMore, cancels}
+use Rattle.fsb_laws.specs.Orderly.{Orderly}
+use Rattle.fsb_laws.specs.Leaving.{ends_at}
+use Rattle.fsb_rules.specs.declared.live.LiveRequest.{LiveRequest}
 use Rattle.fsb_rules.specs.declared.outstanding.Open.{Open}
-use Rattle.fsb_rules.specs.OpenTests.{is_of_agent}
+use Rattle.fsb_rules.specs.declared.outstanding.Happened.{Happened}
 use Rattle.fsb_rules.specs.declared.outstanding.Outstanding.{Outstanding}
+use Rattle.fsb_rules.specs.Live.{live_from}
 
 -- live request i, which begins at p, as it is kept
 unfoldable pub open_from : Trace → ℕ → ℕ → Request → Open
@@ -22,18 +32,83 @@ open_from h i p r =
       reply = if is_deferred h i then reply_clock_of h i else None;
     }
 
+-- a request that is not Deferred, as it is kept
+abbrev pub plain_open : ℕ → ℕ → Open
+plain_open p did = record { clock = p; did = did; deferred = None; reply = None }
+
 -- the request that begins at p, where it is decoded
 unfoldable pub open_at : Trace → ℕ → Option Open
 open_at h p = option_map (open_from h (live_number_of h p) p) (request_at h p)
 
--- the outstanding requests at the end of the history, in order
-unfoldable pub open_of : Trace → List Open
-open_of h = filter_map (open_at h) (outstanding h (length h))
+-- the request that begins at p, where it is outstanding at the end of the history
+unfoldable pub kept_at : Trace → ℕ → Option Open
+kept_at h p = if is_outstanding h (length h) p then open_at h p else None
 
--- the outstanding requests now, at most four of each symmetric agent, and those when the request of the last clock began
+-- those that begin below n, in order
+unfoldable pub kept_below : Trace → ℕ → List Open
+kept_below h zero = []
+kept_below h (suc n) = kept_below h n ++ option_to_list (kept_at h n)
+
+-- the outstanding requests at the end of the history, in order
+abbrev pub open_of : Trace → List Open
+open_of h = kept_below h (length h)
+
+-- the outstanding requests now, and those when the request of the last clock began
 pub record OutstandingStands (kept : Outstanding) (h : Trace) : Type 0 where
   pub current : kept.current.items ≡ open_of h
-  pub few : (a : ℕ) → count_by (is_of_agent a) kept.current.items ≤ 4
-  pub own : list_all (λ o. nat_lt o.did 64) kept.current.items ≡ true
-  pub fewer : line_back ADS h (length h) 1 ≡ true → (a : ℕ) → count_by (is_of_agent a) kept.current.items ≤ count_by (is_of_agent a) kept.before.items
   pub before : line_back ADS h (length h) 1 ≡ true → kept.before.items ≡ open_of (take (length h - 1) h)
+
+-- the request that begins at p is outstanding at the end of the history, and is of this symmetric agent
+unfoldable pub is_outstanding_of : Trace → ℕ → ℕ → Bool
+is_outstanding_of h a p = is_outstanding h (length h) p && is_agent (winner_at h p) (Symmetric a)
+
+-- no symmetric agent has more than four requests outstanding that began before the last clock
+pub record Few (h : Trace) : Type 0 where
+  pub few : (a : ℕ) → count_where (is_outstanding_of h a) (length h - 1) ≤ 4
+
+-- the request that began at the last clock of h, which v decodes
+unfoldable pub last_begun : Trace → Trace → Option LiveRequest
+last_begun h v =
+    if line_back ADS h (length h) 1 then option_map (live_from (length h - 1)) (request_at v (length h - 1)) else None
+
+-- the request that begins at q ends
+abbrev pub ends : Happened → ℕ → Bool
+ends happened q = is_some_and happened.ended (λ e. nat_eq e.request.clock q)
+
+-- it ends, and is Deferred
+abbrev pub defers : Happened → ℕ → Bool
+defers happened q = is_some_and happened.ended (λ e. nat_eq e.request.clock q && e.is_deferred)
+
+-- a reply to this Deferred request is begun
+abbrev pub replies : Happened → Open → Bool
+replies happened o = is_some_and happened.begun (λ a. a.is_reply && is_before o.deferred a.clock && nat_eq o.did a.did)
+
+-- v is h and then the sample x, with which this happens: x cancels that request of h, this one ends at its clock, and
+-- that one has its second clock there
+pub record Happens (h : Trace) (x : Sample) (v : Trace) (happened : Happened) : Type 0 where
+  pub more : OneMore h x v
+  pub orderly : Orderly h
+  pub after : Orderly v
+  pub clock : happened.clock ≡ length h
+  pub cancelled : (q : ℕ) → is_at happened.cancelled q ≡ cancels x (length h) q
+  pub ended : (q : ℕ) → ends happened q ≡ ends_at v (length h) q
+  pub deferred : (q : ℕ) → defers happened q ≡ (ends_at v (length h) q && is_deferred v (live_number_of v q))
+  pub begun : happened.begun ≡ last_begun h v
+
+-- a request that begins, as it is kept from its second clock on, if it is no reply
+abbrev pub opened : LiveRequest → Option Open
+opened a = if a.is_reply then None else Some (plain_open a.clock a.did)
+
+-- kept stands for h, this happens with the sample x, and after it at most sixteen requests are outstanding
+pub record Takes (kept : Outstanding) (h : Trace) (x : Sample) (happened : Happened) : Type 0 where
+  pub stands : OutstandingStands kept h
+  pub happens : Happens h x (h ++ x ∷ []) happened
+  pub room : length (open_of (h ++ x ∷ [])) ≤ 16
+
+-- what is left of a request that is kept, at the end of v
+abbrev pub left_in : Trace → Open → Option Open
+left_in v o = kept_at v o.clock
+
+-- each of these is kept of an outstanding request of h
+abbrev pub AreKept : Trace → List Open → Type 0
+AreKept h opens = All (λ o. kept_at h o.clock ≡ Some o) opens

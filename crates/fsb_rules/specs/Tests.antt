@@ -2,7 +2,6 @@
 use Rattle.std.specs.Prelude.{ℕ, ◌+◌, ◌-◌, Bool, false, ◌&&◌, ◌||◌, not, nat_eq, nat_le, nat_lt, is_some, is_none, max, take, drop, List, ◌++◌, length, slice_get, if◌then◌else◌, Option, Some, None}
 use Rattle.std.specs.Option.{option_and_then, option_map, option_to_list}
 use Rattle.fsb_count.specs.Options.{is_some_and}
-use Rattle.fsb_signal.specs.declared.lines.Lines.{Lines}
 use Rattle.fsb_signal.specs.declared.lines.TheConstants.Lines.{HIT, HITM, DEFER, TRDY, DRDY}
 use Rattle.fsb_signal.specs.declared.sample.Sample.{Sample}
 use Rattle.fsb_signal.specs.Samples.{has_line, response_of}
@@ -14,17 +13,12 @@ use Rattle.fsb_trace.specs.declared.outcome.Outcome.TheVariants.{Granted, Handed
 use Rattle.fsb_trace.specs.At.{known_pair}
 use Rattle.fsb_trace.specs.Snoop.{is_every_second_from}
 use Rattle.fsb_trace.specs.Outcome.{does_move, is_deferral, response_code_of}
-use Rattle.fsb_arbiter.specs.Order.{is_in}
 use Rattle.fsb_laws.specs.OneMore.{stalls, responds}
 use Rattle.fsb_rules.specs.declared.live.LiveRequest.{LiveRequest}
 use Rattle.fsb_rules.specs.declared.live.Snooped.{Snooped}
 use Rattle.fsb_rules.specs.declared.live.Moving.{Moving}
 use Rattle.fsb_rules.specs.declared.live.Ended.{Ended}
 use Rattle.fsb_rules.specs.declared.in_flight.InFlight.{InFlight}
-
--- there are such lines, and the line is one of them
-unfoldable pub is_among : Option Lines → Lines → Bool
-is_among lines line = is_some_and lines (λ l. is_in l line)
 
 -- the request of two clocks whose first has these words, and whose second is the sample
 unfoldable pub request_by : Option Pair → Sample → Option Request

@@ -1,22 +1,19 @@
 //! The checker: every rule, clock by clock.
 
-ghost use Rattle.std.specs.Prelude.{◌≡◌, ℕ, ◌+◌, ◌^◌, ◌<◌, ◌≤◌, true, is_some, [], ◌∷◌, ◌++◌, length, if◌then◌else◌, Some, None, IfSome};
-ghost use Rattle.std.specs.List.{filter_map};
-ghost use Rattle.std.specs.Option.{option_and_then, option_to_list};
+ghost use Rattle.std.specs.Prelude.{◌≡◌, ℕ, ◌^◌, ◌<◌, true, false, [], ◌∷◌, ◌++◌, length, None, IfSome};
 ghost use Rattle.fsb_count.specs.Options.{is_some_and};
-ghost use Rattle.fsb_signal.specs.declared.lines.TheConstants.Lines.{ADS, AERR};
 ghost use Rattle.fsb_signal.specs.declared.marks.Marks.{Marks};
-ghost use Rattle.fsb_signal.specs.Samples.{has_line};
-ghost use Rattle.fsb_trace.specs.At.{Trace, known_pair};
-ghost use Rattle.fsb_trace.specs.Verdict.{verdict};
-ghost use Rattle.fsb_arbiter.specs.Arbiter.{Stands as ArbiterStands};
-ghost use Rattle.fsb_laws.specs.OneMore.{responds};
-ghost use Rattle.fsb_rules.specs.Tests.{queue_len, snooped_by, asking_after, waiting_after, after_chunk, moving_by, ready_after_by};
-ghost use Rattle.fsb_rules.specs.OpenTests.{open_after, open_begun};
-ghost use Rattle.fsb_rules.specs.LeastRule.{begun_by, is_too_soon_by, is_identified_by, is_identity_wrong_by, is_asked_wrongly_by, is_some_asked_wrongly_by, is_lock_alone_by, is_snoop_line_alone_by, is_begun_wrongly_by, has_parity_by, is_address_wrong_by, is_request_wrong_by, parity_broken, later_broken, first_broken, happened_by, is_some_dropped_by, is_some_dropped_after_by, has_request_line_by};
-ghost use Rattle.fsb_trace.specs.Winner.{is_agent, is_same_agent, request_line_of, winner_at};
+ghost use Rattle.fsb_signal.specs.declared.sample.Sample.{Sample};
+ghost use Rattle.fsb_encode.specs.declared.request.Request.{Request};
+ghost use Rattle.fsb_trace.specs.At.{Trace};
+ghost use Rattle.fsb_trace.specs.Winner.{is_agent, is_same_agent, request_line_of};
 ghost use Rattle.fsb_trace.specs.Response.{data_clock_of};
-ghost use Rattle.fsb_rules.specs.Checker.{Stands, as_broken};
+ghost use Rattle.fsb_trace.specs.Rules.{has_unknown_line, is_request_too_soon, is_code_unlawful, is_queue_full, is_request_blocked, has_no_winner, is_identified, is_identity_wrong, is_asked_wrongly, is_some_asked_wrongly, is_lock_alone, is_error_alone, has_unknown_data, has_parity_at, is_marked_address_wrong, is_marked_request_wrong};
+ghost use Rattle.fsb_trace.specs.Verdict.{least_rule, verdict};
+ghost use Rattle.fsb_rules.specs.Live.{live_from};
+ghost use Rattle.fsb_rules.specs.RequestLines.{has_request_line_by, is_some_dropped_by};
+ghost use Rattle.fsb_rules.specs.LeastRule.{begun_at, begins_well, least_past, is_snoop_line_alone_by, is_begun_wrongly_by, happened_by};
+ghost use Rattle.fsb_rules.specs.Checker.{Follows, Comes, Stands, as_broken, beginner_of};
 ghost use Rattle.fsb_rules.specs.ComingChunks.{HasData, coming_by};
 
 use crate::broken::Broken;
@@ -60,9 +57,10 @@ fn is_agent(agent: Option<Who>, who: Who) -> bool
 }
 
 /// Whether the request is a reply of the priority agent, or another one with an ID of its agent's.
-#[tactic(auto, unfolding(crate::specs::LeastRule::is_identified_by))]
+#[tactic(auto, unfolding(crate::specs::Live::live_from, fsb_trace::specs::Rules::is_identified, fsb_trace::specs::Rules::is_own_id, fsb_trace::specs::Requests::is_reply, fsb_count::specs::Options::is_some_and))]
 fn is_identified(beginner: Option<Who>, request: &LiveRequest) -> bool
-    ensures { result ≡ is_identified_by beginner request.now }
+    ensures { (q : ℕ) (r : Request) → request.now ≡ live_from q r →
+        result ≡ is_identified beginner (Some r) }
 {
     if request.is_reply {
         is_agent(beginner, Who::Priority)
@@ -83,7 +81,7 @@ fn is_own_agent(agent: Option<Who>, number: u8) -> bool
 }
 
 /// Whether one of the five request lines is among the lines.
-#[tactic(auto, unfolding(crate::specs::LeastRule::has_request_line_by))]
+#[tactic(auto, unfolding(crate::specs::RequestLines::has_request_line_by))]
 fn has_request_line(lines: Lines) -> bool
     ensures { result ≡ has_request_line_by lines }
 {
@@ -92,6 +90,31 @@ fn has_request_line(lines: Lines) -> bool
         || lines.contains(Lines::BREQ2)
         || lines.contains(Lines::BREQ3)
         || lines.contains(Lines::BPRI)
+}
+
+/// Rule 1, known control lines.
+#[tactic(auto, using(crate::proofs::Lines::new_clock), unfolding(fsb_trace::specs::Rules::has_unknown_line))]
+fn has_unknown_line(sample: &Sample) -> bool
+    ensures { (h : Trace) → result ≡ has_unknown_line (h ++ sample.now ∷ []) (length h) }
+{
+    !sample.has_known_lines()
+}
+
+/// Rule 17, known data.
+#[tactic(auto, using(crate::proofs::Lines::new_clock), unfolding(fsb_trace::specs::Rules::has_unknown_data))]
+fn has_unknown_data(sample: &Sample) -> bool
+    ensures { (h : Trace) → result ≡ has_unknown_data (h ++ sample.now ∷ []) (length h) }
+{
+    sample.has(Lines::DRDY) && !sample.dbus.is_known()
+}
+
+/// Rule 6, arbitration winner.
+#[tactic(auto, using(crate::proofs::Lines::new_winner), unfolding(fsb_trace::specs::Rules::has_no_winner))]
+fn has_no_winner(sample: &Sample, winner: Option<Who>) -> bool
+    ensures { (h : Trace) → winner ≡ beginner_of (h ++ sample.now ∷ []) →
+        result ≡ has_no_winner (h ++ sample.now ∷ []) (length h) }
+{
+    sample.has(Lines::ADS) && winner.is_none()
 }
 
 /// Whether one of the five request lines is among the lines of a clock, and not among those of the next.
@@ -103,9 +126,9 @@ fn is_some_dropped(was: Lines, now: Lines) -> bool
 }
 
 /// The same, where there is a clock before.
-#[tactic(auto, unfolding(crate::specs::LeastRule::is_some_dropped_after_by, fsb_count::specs::Options::is_some_and))]
+#[tactic(auto, unfolding(fsb_count::specs::Options::is_some_and))]
 fn is_some_dropped_after(was: Option<Lines>, now: Lines) -> bool
-    ensures { result ≡ is_some_dropped_after_by was now }
+    ensures { result ≡ is_some_and was (λ lines. is_some_dropped_by lines now) }
 {
     match was {
         Some(was) => is_some_dropped(was, now),
@@ -181,9 +204,9 @@ impl Checker {
     }
 
     /// The winner at this clock, where a request begins with the sample.
+    #[tactic(auto, using(crate::proofs::Lines::new_winner))]
     fn winner_of(&self, sample: &Sample) -> Option<Who>
-        ensures { (h : Trace) → ArbiterStands self.now.arbiter h →
-            result ≡ (if has_line sample.now ADS then winner_at h (length h) else None) }
+        ensures { (h : Trace) → Follows self.now h → result ≡ beginner_of (h ++ sample.now ∷ []) }
     {
         if sample.has(Lines::ADS) {
             self.arbiter.winner()
@@ -193,7 +216,7 @@ impl Checker {
     }
 
     /// The least rule that is broken with this sample.
-    #[tactic(auto, unfolding(crate::specs::LeastRule::first_broken))]
+    #[tactic(auto, using(crate::proofs::LeastRule::first_rules), unfolding(crate::specs::LeastRule::begins_well))]
     fn first_broken(
         &self,
         clock: u32,
@@ -201,20 +224,21 @@ impl Checker {
         begun: &Option<LiveRequest>,
         winner: Option<Who>,
     ) -> Option<u8>
-        ensures { result ≡ first_broken self.now clock sample.now begun.now winner }
+        ensures { (h : Trace) → Comes self.now clock sample.now begun.now h →
+            winner ≡ beginner_of (h ++ sample.now ∷ []) →
+            result ≡ least_rule self.now.marks (h ++ sample.now ∷ []) (length h) }
     {
-        let begins = sample.has(Lines::ADS);
-        if !sample.has_known_lines() {
+        if has_unknown_line(sample) {
             Some(1)
-        } else if self.is_too_soon(clock, sample) {
+        } else if self.is_too_soon(sample) {
             Some(2)
-        } else if self.recent.one_back(Lines::ADS) && begun.is_none() {
+        } else if self.is_code_unlawful(begun) {
             Some(3)
-        } else if begins && self.queue.len() >= 8 {
+        } else if self.is_queue_full(sample) {
             Some(4)
-        } else if begins && self.recent.two_back(Lines::BNR) {
+        } else if self.is_blocked(sample) {
             Some(5)
-        } else if begins && winner.is_none() {
+        } else if has_no_winner(sample, winner) {
             Some(6)
         } else if self.is_identity_wrong(begun) {
             Some(7)
@@ -222,7 +246,7 @@ impl Checker {
             Some(8)
         } else if self.is_lock_alone(sample) {
             Some(9)
-        } else if sample.has(Lines::AERR) && !self.recent.three_back(Lines::ADS) {
+        } else if self.is_error_alone(sample) {
             Some(10)
         } else {
             self.later_broken(clock, sample, begun)
@@ -230,9 +254,10 @@ impl Checker {
     }
 
     /// The least of the rules from 11 on that is broken with this sample; at most clocks it can be a parity rule alone.
-    #[tactic(auto, using(crate::proofs::StillClocks::quiet_later))]
     fn later_broken(&self, clock: u32, sample: &Sample, begun: &Option<LiveRequest>) -> Option<u8>
-        ensures { result ≡ later_broken self.now clock sample.now begun.now }
+        ensures { (h : Trace) → Comes self.now clock sample.now begun.now h →
+            begins_well (h ++ sample.now ∷ []) (length h) ≡ true →
+            result ≡ least_past 10 self.now.marks (h ++ sample.now ∷ []) (length h) }
     {
         if self.queue.is_quiet(sample, begun) {
             self.parity_broken(sample)
@@ -242,9 +267,10 @@ impl Checker {
     }
 
     /// The least of the rules from 11 on that is broken with a sample in which anything may happen.
-    #[tactic(auto, unfolding(crate::specs::LeastRule::later_broken, crate::specs::LeastRule::is_result_unfit_by, crate::specs::LeastRule::is_code_wrong_by, crate::specs::LeastRule::is_target_ready_wrong_by, crate::specs::LeastRule::is_data_wrong_by))]
     fn busy_broken(&self, clock: u32, sample: &Sample, begun: &Option<LiveRequest>) -> Option<u8>
-        ensures { result ≡ later_broken self.now clock sample.now begun.now }
+        ensures { (h : Trace) → Comes self.now clock sample.now begun.now h →
+            begins_well (h ++ sample.now ∷ []) (length h) ≡ true →
+            result ≡ least_past 10 self.now.marks (h ++ sample.now ∷ []) (length h) }
     {
         if self.is_snoop_line_alone(clock, sample) {
             Some(11)
@@ -258,7 +284,7 @@ impl Checker {
             Some(15)
         } else if self.queue.is_data_wrong(clock, sample) {
             Some(16)
-        } else if sample.has(Lines::DRDY) && !sample.dbus.is_known() {
+        } else if has_unknown_data(sample) {
             Some(17)
         } else if self.is_begun_wrongly(begun) {
             Some(18)
@@ -268,9 +294,10 @@ impl Checker {
     }
 
     /// The least of the two parity rules that is broken with this sample.
-    #[tactic(auto, unfolding(crate::specs::LeastRule::parity_broken))]
+    #[tactic(auto, using(crate::proofs::LeastRule::parity_rules))]
     fn parity_broken(&self, sample: &Sample) -> Option<u8>
-        ensures { result ≡ parity_broken self.now sample.now }
+        ensures { (h : Trace) → Follows self.now h →
+            result ≡ least_past 18 self.now.marks (h ++ sample.now ∷ []) (length h) }
     {
         if self.is_address_wrong(sample) {
             Some(19)
@@ -282,18 +309,49 @@ impl Checker {
     }
 
     /// Rule 2, request spacing.
-    #[tactic(auto, unfolding(crate::specs::LeastRule::is_too_soon_by))]
-    fn is_too_soon(&self, clock: u32, sample: &Sample) -> bool
-        ensures { result ≡ is_too_soon_by self.now clock sample.now }
+    #[tactic(auto, using(crate::proofs::Lines::new_clock), unfolding(fsb_trace::specs::Rules::is_request_too_soon))]
+    fn is_too_soon(&self, sample: &Sample) -> bool
+        ensures { (h : Trace) → Follows self.now h →
+            result ≡ is_request_too_soon (h ++ sample.now ∷ []) (length h) }
     {
         sample.has(Lines::ADS)
-            && (clock < 2 || self.recent.one_back(Lines::ADS) || self.recent.two_back(Lines::ADS))
+            && (self.clock < 2
+                || self.recent.one_back(Lines::ADS)
+                || self.recent.two_back(Lines::ADS))
     }
 
-    /// Rule 7, request identity.
-    #[tactic(auto, unfolding(crate::specs::LeastRule::is_identity_wrong_by, fsb_count::specs::Options::is_some_and))]
+    /// Rule 3, lawful codes, of the request whose second clock the sample is.
+    #[tactic(auto, using(crate::proofs::StartRules::unlawful), unfolding(fsb_trace::specs::Rules::is_code_unlawful))]
+    fn is_code_unlawful(&self, begun: &Option<LiveRequest>) -> bool
+        ensures { (h : Trace) (x : Sample) → Follows self.now h → begun.now ≡ begun_at (h ++ x ∷ []) (length h) →
+            result ≡ is_code_unlawful (h ++ x ∷ []) (length h) }
+    {
+        self.recent.one_back(Lines::ADS) && begun.is_none()
+    }
+
+    /// Rule 4, queue depth, where the request is not too soon.
+    fn is_queue_full(&self, sample: &Sample) -> bool
+        ensures { (h : Trace) → Follows self.now h →
+            is_request_too_soon (h ++ sample.now ∷ []) (length h) ≡ false →
+            result ≡ is_queue_full (h ++ sample.now ∷ []) (length h) }
+    {
+        sample.has(Lines::ADS) && self.queue.len() >= 8
+    }
+
+    /// Rule 5, block next request.
+    #[tactic(auto, using(crate::proofs::Lines::new_clock), unfolding(fsb_trace::specs::Rules::is_request_blocked))]
+    fn is_blocked(&self, sample: &Sample) -> bool
+        ensures { (h : Trace) → Follows self.now h →
+            result ≡ is_request_blocked (h ++ sample.now ∷ []) (length h) }
+    {
+        sample.has(Lines::ADS) && self.recent.two_back(Lines::BNR)
+    }
+
+    /// Rule 7, request identity, of the request whose second clock the sample is, where it is lawful.
     fn is_identity_wrong(&self, begun: &Option<LiveRequest>) -> bool
-        ensures { result ≡ is_identity_wrong_by self.now begun.now }
+        ensures { (h : Trace) (x : Sample) → Follows self.now h → begun.now ≡ begun_at (h ++ x ∷ []) (length h) →
+            is_code_unlawful (h ++ x ∷ []) (length h) ≡ false →
+            result ≡ is_identity_wrong (h ++ x ∷ []) (length h) }
     {
         match begun {
             Some(request) => !is_identified(self.beginner, request),
@@ -302,10 +360,10 @@ impl Checker {
     }
 
     /// Whether the agent's request line is not held until its request begins, or not released then.
-    #[tactic(auto, unfolding(crate::specs::LeastRule::is_asked_wrongly_by))]
     fn is_asked_wrongly(&self, sample: &Sample, who: Who, line: Lines) -> bool
         requires { line ≡ request_line_of who }
-        ensures { result ≡ is_asked_wrongly_by self.now sample.now who }
+        ensures { (h : Trace) → Follows self.now h →
+            result ≡ is_asked_wrongly (h ++ sample.now ∷ []) (length h) who }
     {
         if is_agent(self.beginner, who) {
             sample.has(line)
@@ -315,9 +373,9 @@ impl Checker {
     }
 
     /// Rule 8, request lines held and released; where no request began they are to be held.
-    #[tactic(auto, using(crate::proofs::RequestLines::none_begun))]
     fn is_some_asked_wrongly(&self, sample: &Sample) -> bool
-        ensures { result ≡ is_some_asked_wrongly_by self.now sample.now }
+        ensures { (h : Trace) → Follows self.now h →
+            result ≡ is_some_asked_wrongly (h ++ sample.now ∷ []) (length h) }
     {
         if self.beginner.is_none() {
             is_some_dropped_after(self.recent.first(), sample.lines)
@@ -327,9 +385,10 @@ impl Checker {
     }
 
     /// Whether one of the request lines is not held until its request begins, or not released then.
-    #[tactic(auto, unfolding(crate::specs::LeastRule::is_some_asked_wrongly_by, fsb_trace::specs::Winner::request_line_of, fsb_trace::specs::Winner::bus_request_of))]
+    #[tactic(auto, using(crate::proofs::StartRules::any_asked), unfolding(fsb_trace::specs::Winner::request_line_of, fsb_trace::specs::Winner::bus_request_of))]
     fn is_some_line_wrong(&self, sample: &Sample) -> bool
-        ensures { result ≡ is_some_asked_wrongly_by self.now sample.now }
+        ensures { (h : Trace) → Follows self.now h →
+            result ≡ is_some_asked_wrongly (h ++ sample.now ∷ []) (length h) }
     {
         self.is_asked_wrongly(sample, Who::Symmetric(0), Lines::BREQ0)
             || self.is_asked_wrongly(sample, Who::Symmetric(1), Lines::BREQ1)
@@ -339,11 +398,21 @@ impl Checker {
     }
 
     /// Rule 9, lock begins with a request.
-    #[tactic(auto, unfolding(crate::specs::LeastRule::is_lock_alone_by))]
+    #[tactic(auto, using(crate::proofs::Lines::new_clock), unfolding(fsb_trace::specs::Rules::is_lock_alone))]
     fn is_lock_alone(&self, sample: &Sample) -> bool
-        ensures { result ≡ is_lock_alone_by self.now sample.now }
+        ensures { (h : Trace) → Follows self.now h →
+            result ≡ is_lock_alone (h ++ sample.now ∷ []) (length h) }
     {
         sample.has(Lines::LOCK) && !self.recent.one_back(Lines::LOCK) && !sample.has(Lines::ADS)
+    }
+
+    /// Rule 10, address error timing.
+    #[tactic(auto, using(crate::proofs::Lines::new_clock), unfolding(fsb_trace::specs::Rules::is_error_alone))]
+    fn is_error_alone(&self, sample: &Sample) -> bool
+        ensures { (h : Trace) → Follows self.now h →
+            result ≡ is_error_alone (h ++ sample.now ∷ []) (length h) }
+    {
+        sample.has(Lines::AERR) && !self.recent.three_back(Lines::ADS)
     }
 
     /// Rule 11, snoop lines in snoop clocks.
@@ -367,33 +436,37 @@ impl Checker {
     }
 
     /// Whether the sample is one of the two clocks of a request, which have parity.
-    #[tactic(auto, unfolding(crate::specs::LeastRule::has_parity_by))]
+    #[tactic(auto, using(crate::proofs::Lines::new_clock), unfolding(fsb_trace::specs::Rules::has_parity_at))]
     fn has_parity(&self, sample: &Sample) -> bool
-        ensures { result ≡ has_parity_by self.now sample.now }
+        ensures { (h : Trace) → Follows self.now h →
+            result ≡ has_parity_at (h ++ sample.now ∷ []) (length h) }
     {
         sample.has(Lines::ADS) || self.recent.one_back(Lines::ADS)
     }
 
     /// Rule 19, address parity, where the dump declares it.
-    #[tactic(auto, unfolding(crate::specs::LeastRule::is_address_wrong_by))]
+    #[tactic(auto, using(crate::proofs::Lines::new_clock), unfolding(fsb_trace::specs::Rules::is_marked_address_wrong, fsb_trace::specs::Rules::is_address_parity_wrong))]
     fn is_address_wrong(&self, sample: &Sample) -> bool
-        ensures { result ≡ is_address_wrong_by self.now sample.now }
+        ensures { (h : Trace) → Follows self.now h →
+            result ≡ is_marked_address_wrong self.now.marks (h ++ sample.now ∷ []) (length h) }
     {
         self.marks.ap && (self.has_parity(sample) && sample.is_address_odd())
     }
 
     /// Rule 20, request parity, where the dump declares it.
-    #[tactic(auto, unfolding(crate::specs::LeastRule::is_request_wrong_by))]
+    #[tactic(auto, using(crate::proofs::Lines::new_clock), unfolding(fsb_trace::specs::Rules::is_marked_request_wrong, fsb_trace::specs::Rules::is_request_parity_wrong))]
     fn is_request_wrong(&self, sample: &Sample) -> bool
-        ensures { result ≡ is_request_wrong_by self.now sample.now }
+        ensures { (h : Trace) → Follows self.now h →
+            result ≡ is_marked_request_wrong self.now.marks (h ++ sample.now ∷ []) (length h) }
     {
         self.marks.rp && (self.has_parity(sample) && sample.is_request_odd())
     }
 
     /// The request that began at the last clock, whose second clock is this one.
-    #[tactic(auto, unfolding(crate::specs::LeastRule::begun_by))]
+    #[tactic(auto, using(crate::proofs::Lines::begun_facts), unfolding(crate::specs::LeastRule::begun_at))]
     fn begun(&self, clock: u32, sample: &Sample) -> Option<LiveRequest>
-        ensures { result ≡ begun_by self.now clock sample.now }
+        ensures { (h : Trace) → Follows self.now h → clock ≡ length h →
+            result ≡ begun_at (h ++ sample.now ∷ []) (length h) }
     {
         if self.recent.one_back(Lines::ADS) {
             match self.recent.request(sample) {
@@ -423,7 +496,6 @@ impl Checker {
     }
 
     /// Takes the next sample, which breaks no rule, with the winner where a request begins with it.
-    #[tactic(auto, unfolding(crate::specs::LeastRule::happened_by))]
     fn absorb(
         &mut self,
         clock: u32,
@@ -431,41 +503,13 @@ impl Checker {
         begun: &Option<LiveRequest>,
         winner: Option<Who>,
     )
-        requires few { queue_len self.old.queue ≤ 8 }
-        requires room { is_some begun.now ≡ true → queue_len self.old.queue < 8 }
-        requires open_room { is_some (option_and_then (λ a. open_begun a) begun.now) ≡ true →
-            length (filter_map (open_after (happened_by self.old clock sample.now begun.now))
-            self.old.outstanding.current.items) < 16 }
+        requires { (h : Trace) × Comes self.old clock sample.now begun.now h
+            × (least_rule self.old.marks (h ++ sample.now ∷ []) (length h) ≡ None) }
         ensures marks { self.new.marks ≡ self.old.marks }
         ensures found { self.new.found ≡ self.old.found }
-        ensures clock { self.new.clock ≡ clock + 1 }
-        ensures first { self.new.recent.first ≡ Some sample.now.lines }
-        ensures second { self.new.recent.second ≡ self.old.recent.first }
-        ensures third { self.new.recent.third ≡ self.old.recent.second }
-        ensures words { has_line sample.now ADS ≡ true →
-            self.new.recent.words ≡ known_pair sample.now }
-        ensures arbiter { (h : Trace) → ArbiterStands self.old.arbiter h →
-            ArbiterStands self.new.arbiter (h ++ sample.now ∷ []) }
-        ensures beginner { self.new.beginner ≡ winner }
-        ensures asking { self.new.queue.asking.items
-            ≡ asking_after self.old.queue.asking.items (has_line sample.now AERR)
-            (is_some (snooped_by self.old.queue clock sample.now)) begun.now }
-        ensures waiting { self.new.queue.waiting.items
-            ≡ waiting_after self.old.queue.waiting.items (responds sample.now)
-            (snooped_by self.old.queue clock sample.now) }
-        ensures moving { self.new.queue.moving
-            ≡ after_chunk (moving_by self.old.queue clock sample.now) sample.now }
-        ensures last_snoop { self.new.queue.last_snoop
-            ≡ (if is_some (snooped_by self.old.queue clock sample.now)
-            then Some clock else self.old.queue.last_snoop) }
-        ensures ready { self.new.queue.ready ≡ ready_after_by self.old.queue clock sample.now }
-        ensures current { self.new.outstanding.current.items
-            ≡ filter_map (open_after (happened_by self.old clock sample.now begun.now))
-            self.old.outstanding.current.items
-            ++ option_to_list (option_and_then (λ a. open_begun a) begun.now) }
-        ensures before { self.new.outstanding.before.items
-            ≡ (if has_line sample.now ADS then self.old.outstanding.current.items else
-            self.old.outstanding.before.items) }
+        ensures follows { (h : Trace) → Comes self.old clock sample.now begun.now h →
+            least_rule self.old.marks (h ++ sample.now ∷ []) (length h) ≡ None →
+            winner ≡ beginner_of (h ++ sample.now ∷ []) → Follows self.new (h ++ sample.now ∷ []) }
     {
         let happened = self.happened(clock, sample, begun);
         let begins = sample.has(Lines::ADS);

@@ -1,10 +1,17 @@
 //! The requests that are outstanding.
 
-ghost use Rattle.std.specs.Prelude.{◌≡◌, ◌<◌, ◌≤◌, true, [], ◌++◌, length, count_by, if◌then◌else◌};
+ghost use Rattle.std.specs.Prelude.{◌≡◌, ◌<◌, ◌≤◌, true, false, ◌&&◌, not, nat_eq, is_some, is_none, [], ◌∷◌, ◌++◌, length, slice_set, count_by, if◌then◌else◌, Some, None};
 ghost use Rattle.std.specs.List.{list_any, filter_map};
-ghost use Rattle.std.specs.Option.{option_and_then, option_to_list, is_some};
+ghost use Rattle.std.specs.Option.{option_and_then, option_to_list};
 ghost use Rattle.fsb_count.specs.Options.{is_at, is_before, is_some_and};
-ghost use Rattle.fsb_rules.specs.OpenTests.{reply_by, reply_after, open_with, open_after_end, open_after, open_begun, awaits, has_id, is_of_agent, is_wrong_among, is_quiet};
+ghost use Rattle.fsb_signal.specs.declared.lines.TheConstants.Lines.{ADS};
+ghost use Rattle.fsb_signal.specs.declared.sample.Sample.{Sample};
+ghost use Rattle.fsb_signal.specs.Samples.{has_line};
+ghost use Rattle.fsb_trace.specs.At.{Trace};
+ghost use Rattle.fsb_trace.specs.Requests.{live_number_of};
+ghost use Rattle.fsb_trace.specs.Flight.{reply_clock_of};
+ghost use Rattle.fsb_rules.specs.OpenTests.{awaits, has_id, is_of_agent, is_wrong_among};
+ghost use Rattle.fsb_rules.specs.Outstanding.{kept_at, left_in, opened, ends, defers, replies, AreKept, Happens, Takes, OutstandingStands};
 
 use crate::live::{Ended, LiveRequest};
 use arrayvec::ArrayVec;
@@ -67,9 +74,8 @@ fn is_before(clock: Option<u32>, other: u32) -> bool
 }
 
 /// The outstanding request that is begun, if it is no reply.
-#[tactic(auto, unfolding(crate::specs::OpenTests::open_begun))]
-fn open_begun(request: &LiveRequest) -> Option<Open>
-    ensures { result ≡ open_begun request.now }
+fn opened(request: &LiveRequest) -> Option<Open>
+    ensures { result ≡ opened request.now }
 {
     if request.is_reply {
         None
@@ -96,31 +102,68 @@ fn is_reply(begun: Option<LiveRequest>) -> bool
 
 impl Happened {
     /// Whether no request is cancelled or ends, and no reply is begun.
-    #[tactic(auto, unfolding(crate::specs::OpenTests::is_quiet, fsb_count::specs::Options::is_some_and))]
     fn is_quiet(&self) -> bool
-        ensures { result ≡ is_quiet self.now }
+        ensures { result ≡ (is_none self.now.cancelled && is_none self.now.ended
+            && not (is_some_and self.now.begun (λ a. a.is_reply))) }
     {
         self.cancelled.is_none() && self.ended.is_none() && !is_reply(self.begun)
+    }
+
+    /// Whether the request that begins at the clock ends.
+    #[tactic(auto, unfolding(fsb_count::specs::Options::is_some_and))]
+    fn ends(&self, clock: u32) -> bool
+        ensures { result ≡ ends self.now clock }
+    {
+        match self.ended {
+            Some(ended) => ended.request.clock == clock,
+            None => false,
+        }
+    }
+
+    /// Whether the request that begins at the clock ends, and is Deferred.
+    #[tactic(auto, unfolding(fsb_count::specs::Options::is_some_and))]
+    fn defers(&self, clock: u32) -> bool
+        ensures { result ≡ defers self.now clock }
+    {
+        match self.ended {
+            Some(ended) => ended.request.clock == clock && ended.is_deferred,
+            None => false,
+        }
+    }
+
+    /// Whether there is such a reply, and it ends.
+    #[tactic(auto, unfolding(fsb_count::specs::Options::is_some_and))]
+    fn ends_reply(&self, reply: Option<u32>) -> bool
+        ensures { result ≡ is_some_and reply (ends self.now) }
+    {
+        match reply {
+            Some(clock) => self.ends(clock),
+            None => false,
+        }
     }
 }
 
 impl Open {
-    /// The reply that it gets, where this request begins.
-    #[tactic(auto, unfolding(crate::specs::OpenTests::reply_by))]
-    fn reply_by(&self, request: &LiveRequest) -> Option<u32>
-        ensures { result ≡ reply_by self.now request.now }
+    /// Whether a reply to it is begun, where it is Deferred.
+    #[tactic(auto, unfolding(fsb_count::specs::Options::is_some_and))]
+    fn is_replied(&self, happened: &Happened) -> bool
+        ensures { result ≡ replies happened.now self.now }
     {
-        if request.is_reply && is_before(self.deferred, request.clock) && self.did == request.did {
-            Some(request.clock)
-        } else {
-            None
+        match happened.begun {
+            Some(request) => {
+                request.is_reply
+                    && is_before(self.deferred, request.clock)
+                    && self.did == request.did
+            }
+            None => false,
         }
     }
 
-    /// The first clock of its reply after what happens.
-    #[tactic(auto, unfolding(crate::specs::OpenTests::reply_after))]
+    /// The first clock of its reply after what happens, where it is Deferred.
     fn reply_after(&self, happened: &Happened) -> Option<u32>
-        ensures { result ≡ reply_after happened.now self.now }
+        ensures { (h : Trace) (x : Sample) (v : Trace) → Happens h x v happened.now →
+            kept_at h self.now.clock ≡ Some self.now → is_some self.now.deferred ≡ true →
+            result ≡ reply_clock_of v (live_number_of h self.now.clock) }
     {
         match self.reply {
             Some(clock) => {
@@ -130,56 +173,68 @@ impl Open {
                     Some(clock)
                 }
             }
-            None => match happened.begun {
-                Some(request) => self.reply_by(&request),
-                None => None,
-            },
-        }
-    }
-
-    /// It with this reply, and with this clock of its response, if it is Deferred.
-    #[tactic(auto, unfolding(crate::specs::OpenTests::open_with))]
-    fn with(&self, deferred: Option<u32>, reply: Option<u32>) -> Open
-        ensures { result ≡ open_with self.now deferred reply }
-    {
-        Open {
-            clock: self.clock,
-            did: self.did,
-            deferred,
-            reply,
-        }
-    }
-
-    /// What is left of it with this reply, where this request ends at the clock.
-    #[tactic(auto, unfolding(crate::specs::OpenTests::open_after_end))]
-    fn after_end(&self, clock: u32, reply: Option<u32>, ended: &Ended) -> Option<Open>
-        ensures { result ≡ open_after_end clock self.now reply ended.now }
-    {
-        if is_at(reply, ended.request.clock) {
-            None
-        } else if ended.request.clock == self.clock {
-            if ended.is_deferred {
-                Some(self.with(Some(clock), reply))
-            } else {
-                None
+            None => {
+                if self.is_replied(happened) {
+                    Some(happened.clock.saturating_sub(1))
+                } else {
+                    None
+                }
             }
-        } else {
-            Some(self.with(self.deferred, reply))
         }
     }
 
     /// What is left of it after what happens.
-    #[tactic(auto, unfolding(crate::specs::OpenTests::open_after))]
     fn after(&self, happened: &Happened) -> Option<Open>
-        ensures { result ≡ open_after happened.now self.now }
+        ensures { (h : Trace) (x : Sample) (v : Trace) → Happens h x v happened.now →
+            kept_at h self.now.clock ≡ Some self.now → result ≡ left_in v self.now }
     {
         if is_at(happened.cancelled, self.clock) {
-            return None;
+            None
+        } else if self.deferred.is_some() {
+            self.after_deferral(happened)
+        } else if happened.defers(self.clock) {
+            Some(Open {
+                clock: self.clock,
+                did: self.did,
+                deferred: Some(happened.clock),
+                reply: None,
+            })
+        } else if happened.ends(self.clock) {
+            None
+        } else {
+            Some(*self)
         }
-        let reply = self.reply_after(happened);
-        match happened.ended {
-            Some(ended) => self.after_end(happened.clock, reply, &ended),
-            None => Some(self.with(self.deferred, reply)),
+    }
+
+    /// What is left of it after what happens, where it is Deferred.
+    fn after_deferral(&self, happened: &Happened) -> Option<Open>
+        ensures { (h : Trace) (x : Sample) (v : Trace) → Happens h x v happened.now →
+            kept_at h self.now.clock ≡ Some self.now → is_some self.now.deferred ≡ true →
+            is_at happened.now.cancelled self.now.clock ≡ false → result ≡ left_in v self.now }
+    {
+        if happened.ends_reply(self.reply) {
+            None
+        } else {
+            Some(Open {
+                clock: self.clock,
+                did: self.did,
+                deferred: self.deferred,
+                reply: self.reply_after(happened),
+            })
+        }
+    }
+
+    /// Makes it what is left of it after what happens, and tells whether something is.
+    fn keep(&mut self, happened: &Happened) -> bool
+        ensures { (h : Trace) (x : Sample) (v : Trace) → Happens h x v happened.now →
+            kept_at h self.old.clock ≡ Some self.old → (if result then Some self.new else None) ≡ left_in v self.old }
+    {
+        match self.after(happened) {
+            Some(left) => {
+                *self = left;
+                true
+            }
+            None => false,
         }
     }
 
@@ -243,21 +298,6 @@ fn count_of(opens: &[Open], agent: u8) -> usize
     count
 }
 
-/// Keeps of them what is left after what happens.
-fn keep_left(opens: &mut ArrayVec<Open, 16>, happened: &Happened)
-    ensures { opens.new.items ≡ filter_map (open_after happened.now) opens.old.items }
-{
-    let mut kept = 0;
-    for index in 0..opens.len() {
-        let left = opens.as_slice()[index].after(happened);
-        if let Some(open) = left {
-            opens.as_mut_slice()[kept] = open;
-            kept += 1;
-        }
-    }
-    opens.truncate(kept);
-}
-
 /// Makes the one list a copy of the other.
 fn copy_into(copy: &mut ArrayVec<Open, 16>, opens: &[Open])
     requires { length opens.now ≤ 16 }
@@ -272,8 +312,7 @@ fn copy_into(copy: &mut ArrayVec<Open, 16>, opens: &[Open])
 impl Outstanding {
     /// No request yet.
     pub fn new() -> Outstanding
-        ensures current { result.current.items ≡ [] }
-        ensures before { result.before.items ≡ [] }
+        ensures { OutstandingStands result [] }
     {
         Outstanding {
             current: ArrayVec::new(),
@@ -295,35 +334,49 @@ impl Outstanding {
     }
 
     /// Lets what happens pass over those that are outstanding; at most clocks nothing does.
-    #[tactic(auto, using(crate::proofs::QuietClocks::quiet_stays))]
     fn pass(&mut self, happened: &Happened)
-        ensures current { self.new.current.items
-            ≡ filter_map (open_after happened.now) self.old.current.items }
+        ensures current { (h : Trace) (x : Sample) (v : Trace) → Happens h x v happened.now →
+            AreKept h self.old.current.items → self.new.current.items ≡ filter_map (left_in v) self.old.current.items }
         ensures before { self.new.before.items ≡ self.old.before.items }
     {
         if !happened.is_quiet() {
-            keep_left(&mut self.current, happened);
+            self.current.retain(|open| open.keep(happened));
         }
     }
 
-    /// Takes what happens with a sample, with which a request begins or does not.
-    pub fn absorb(&mut self, happened: &Happened, begins: bool)
-        requires { is_some (option_and_then (λ a. open_begun a) happened.now.begun) ≡ true →
-            length (filter_map (open_after happened.now) self.old.current.items) < 16 }
-        ensures current { self.new.current.items
-            ≡ filter_map (open_after happened.now) self.old.current.items
-            ++ option_to_list (option_and_then (λ a. open_begun a) happened.now.begun) }
+    /// Remembers those that are outstanding, where a request begins.
+    fn remember(&mut self, begins: bool)
+        ensures current { self.new.current.items ≡ self.old.current.items }
         ensures before { self.new.before.items
             ≡ (if begins then self.old.current.items else self.old.before.items) }
     {
         if begins {
             copy_into(&mut self.before, self.current.as_slice());
         }
-        self.pass(happened);
-        if let Some(request) = happened.begun {
-            if let Some(open) = open_begun(&request) {
+    }
+
+    /// Keeps the request that is begun, if it is no reply.
+    fn begin(&mut self, begun: Option<LiveRequest>)
+        requires { is_some (option_and_then (λ a. opened a) begun) ≡ true → length self.old.current.items < 16 }
+        ensures current { self.new.current.items
+            ≡ self.old.current.items ++ option_to_list (option_and_then (λ a. opened a) begun) }
+        ensures before { self.new.before.items ≡ self.old.before.items }
+    {
+        if let Some(request) = begun {
+            if let Some(open) = opened(&request) {
                 self.current.push(open);
             }
         }
+    }
+
+    /// Takes what happens with a sample, with which a request begins or does not.
+    pub fn absorb(&mut self, happened: &Happened, begins: bool)
+        requires { (h : Trace) × (x : Sample) × Takes self.old h x happened.now }
+        ensures { (h : Trace) (x : Sample) → Takes self.old h x happened.now → begins ≡ has_line x ADS →
+            OutstandingStands self.new (h ++ x ∷ []) }
+    {
+        self.remember(begins);
+        self.pass(happened);
+        self.begin(happened.begun);
     }
 }

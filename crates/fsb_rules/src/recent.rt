@@ -1,10 +1,10 @@
 //! The last three clocks.
 
-ghost use Rattle.std.specs.Prelude.{◌≡◌, true, Some, None};
-ghost use Rattle.fsb_signal.specs.declared.lines.TheConstants.Lines.{ADS};
-ghost use Rattle.fsb_signal.specs.Samples.{has_line};
-ghost use Rattle.fsb_trace.specs.At.{known_pair};
-ghost use Rattle.fsb_rules.specs.Tests.{is_among, request_by};
+ghost use Rattle.std.specs.Prelude.{◌≡◌, ℕ, [], ◌∷◌, ◌++◌, length};
+ghost use Rattle.fsb_trace.specs.At.{Trace, line_back};
+ghost use Rattle.fsb_arbiter.specs.Arbiter.{lines_back};
+ghost use Rattle.fsb_rules.specs.Recent.{RecentStands};
+ghost use Rattle.fsb_rules.specs.Tests.{request_by};
 
 use bitflags::Flags;
 use fsb_encode::{Pair, Request, decode};
@@ -24,10 +24,9 @@ pub struct Recent {
     words: Option<Pair>,
 }
 
-/// Whether there is such a clock, and the line is asserted in it.
-#[tactic(auto, unfolding(crate::specs::Tests::is_among, fsb_count::specs::Options::is_some_and))]
+/// Whether there is a clock with these lines, and the line is asserted in it.
 fn is_among(lines: Option<Lines>, line: Lines) -> bool
-    ensures { result ≡ is_among lines line }
+    ensures { (h : Trace) (d : ℕ) → lines ≡ lines_back h d → result ≡ line_back line h (length h) d }
 {
     match lines {
         Some(lines) => lines.contains(line),
@@ -38,10 +37,7 @@ fn is_among(lines: Option<Lines>, line: Lines) -> bool
 impl Recent {
     /// No clock yet.
     pub fn new() -> Recent
-        ensures first { result.first ≡ None }
-        ensures second { result.second ≡ None }
-        ensures third { result.third ≡ None }
-        ensures words { result.words ≡ None }
+        ensures { RecentStands result [] }
     {
         Recent {
             first: None,
@@ -53,28 +49,28 @@ impl Recent {
 
     /// The control lines one clock back; none where there is no such clock.
     pub fn first(&self) -> Option<Lines>
-        ensures { result ≡ self.now.first }
+        ensures { (h : Trace) → RecentStands self.now h → result ≡ lines_back h 1 }
     {
         self.first
     }
 
     /// Whether the line is asserted one clock back.
     pub fn one_back(&self, line: Lines) -> bool
-        ensures { result ≡ is_among self.now.first line }
+        ensures { (h : Trace) → RecentStands self.now h → result ≡ line_back line h (length h) 1 }
     {
         is_among(self.first, line)
     }
 
     /// Whether the line is asserted two clocks back.
     pub fn two_back(&self, line: Lines) -> bool
-        ensures { result ≡ is_among self.now.second line }
+        ensures { (h : Trace) → RecentStands self.now h → result ≡ line_back line h (length h) 2 }
     {
         is_among(self.second, line)
     }
 
     /// Whether the line is asserted three clocks back.
     pub fn three_back(&self, line: Lines) -> bool
-        ensures { result ≡ is_among self.now.third line }
+        ensures { (h : Trace) → RecentStands self.now h → result ≡ line_back line h (length h) 3 }
     {
         is_among(self.third, line)
     }
@@ -90,10 +86,7 @@ impl Recent {
 
     /// Takes the sample of the next clock; its words where a request begins with it.
     pub fn absorb(&mut self, sample: &Sample)
-        ensures first { self.new.first ≡ Some sample.now.lines }
-        ensures second { self.new.second ≡ self.old.first }
-        ensures third { self.new.third ≡ self.old.second }
-        ensures words { has_line sample.now ADS ≡ true → self.new.words ≡ known_pair sample.now }
+        ensures { (h : Trace) → RecentStands self.old h → RecentStands self.new (h ++ sample.now ∷ []) }
     {
         self.third = self.second;
         self.second = self.first;

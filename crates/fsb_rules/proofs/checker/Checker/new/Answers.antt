@@ -6,10 +6,7 @@ pub returns : goal.returns
 returns c = new_stands _ _ (record {
   found = refl;
   clock = refl;
-  first = c.new.ensures.first;
-  second = c.new.ensures.second;
-  third = c.new.ensures.third;
-  words = c.new.ensures.words;
+  recent = c.new.ensures;
   arbiter = c.new-2.ensures;
   beginner = refl;
   asking = c.new-3.ensures.asking;
@@ -17,6 +14,5 @@ returns c = new_stands _ _ (record {
   moving = c.new-3.ensures.moving;
   last_snoop = c.new-3.ensures.last_snoop;
   ready = c.new-3.ensures.ready;
-  current = c.new-4.ensures.current;
-  before = c.new-4.ensures.before;
+  outstanding = c.new-4.ensures;
 }) refl

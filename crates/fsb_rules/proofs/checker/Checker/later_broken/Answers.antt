@@ -1,0 +1,8 @@
+use Rattle.std.proofs.Common.{sym, ◌∙◌}
+use Rattle.fsb_rules.proofs.QuietRules.{quiet_later}
+use Rattle.fsb_rules.proofs.checker.Checker.later_broken.Goals as goal
+
+pub returns-then-is_quiet : goal.returns-then-is_quiet
+returns-then-is_quiet c = λ h comes well.
+    c.parity_broken.ensures h comes.follows
+    ∙ sym (quiet_later comes well (sym c.is_quiet.ensures ∙ c.if-is_quiet.true))
