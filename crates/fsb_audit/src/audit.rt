@@ -1,6 +1,6 @@
 //! The audit, sample by sample.
 
-ghost use Rattle.std.specs.Prelude.{◌≡◌, ℕ, ◌+◌, ◌*◌, ◌^◌, ◌<◌, true, false, [], ◌∷◌, ◌++◌, length, is_some, slice_index, if◌then◌else◌, Some, None, IsErr, IfOk, IfSome, OnOk, OnErr};
+ghost use Rattle.std.specs.Prelude.{◌≡◌, ℕ, ◌+◌, ◌*◌, ◌^◌, ◌<◌, true, false, [], ◌∷◌, ◌++◌, length, is_some, slice_index, if◌then◌else◌, Some, None, IsErr, IsOk, IfOk, IfSome, OnOk, OnErr};
 ghost use Rattle.fsb_signal.specs.declared.marks.Marks.{Marks};
 ghost use Rattle.fsb_trace.specs.At.{Trace};
 ghost use Rattle.fsb_rules.specs.Tests.{request_by};
@@ -63,10 +63,11 @@ fn foul_of(
 }
 
 impl Audit {
-    /// The audit before the first sample of a dump with these marks.
+    /// The audit before the first sample of a dump with these marks. It takes no memory, and is always made.
     pub fn new(alloc: Global, marks: Marks) -> Result<Audit, Memory>
         ensures stands { IfOk result (λ audit. Stands audit marks []) }
         ensures room { IfOk result (λ audit. is_full audit ≡ false) }
+        ensures made { IsOk result }
     {
         Ok(Audit {
             checker: Checker::new(marks),

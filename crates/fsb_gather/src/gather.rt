@@ -136,6 +136,15 @@ impl<D: Sink> Sink for Gather<D> {
         ensures gathers { length self.old.gathered < 65536 →
             IfOk result (λ n. self.new.gathered ≡ self.old.gathered ++ take n piece.now) }
         ensures not_called { length self.old.gathered < 65536 → self.new.sink ≡ self.old.sink }
+        ensures full_room { 65536 ≤ length self.old.gathered →
+            IfOk result (λ n. n ≡ min (length piece.now) 65536) }
+        ensures full_gathers { 65536 ≤ length self.old.gathered →
+            IfOk result (λ n. self.new.gathered ≡ take n piece.now) }
+        ensures full_whole { IsTrue D.tells → 65536 ≤ length self.old.gathered → OnOk result
+            (D.holds self.new.sink ≡ D.holds self.old.sink ++ self.old.gathered) }
+        ensures handed { IsTrue D.tells →
+            OnErr result (HandsOn self.old.gathered self.new.gathered
+            (D.holds self.old.sink) (D.holds self.new.sink)) }
         ensures within { IfOk result (λ n. n ≤ length piece.now) }
         ensures some { 0 < length piece.now → IfOk result (λ n. 0 < n) }
         ensures appends { IsTrue D.tells → IfOk result (λ n.

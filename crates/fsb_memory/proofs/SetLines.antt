@@ -3,10 +3,9 @@ use Rattle.std.proofs.Common.{◌≡◌, ℕ, ◌+◌, ◌/◌, ◌%◌, ◌<◌
 use Rattle.std.proofs.Common.{take, drop, Bool, sym, ap, ◌∙◌, ⊎_elim, arith, add-one}
 use Rattle.std.proofs.lemmas.Bool.{cases_eq}
 use Rattle.std.proofs.lemmas.Bool.Decides.{nat_tests}
-use Rattle.std.proofs.lemmas.List.{take-append-drop}
 use Rattle.std.proofs.lemmas.List.Sums.{fold_more, fold-append}
 use Rattle.std.proofs.lemmas.List.Folds.{list_any-append}
-use Rattle.std.proofs.Math.Seq.{take-suc}
+use Rattle.std.proofs.Math.Seq.{take-add, take-suc}
 use Rattle.std.specs.Prelude.{◌==◌, nat_lt}
 use Rattle.std.specs.List.{list_any}
 use Rattle.fsb_access.specs.declared.access.Setting.{Setting}
@@ -52,29 +51,32 @@ names_so_far-more line settings count setting sofar below is of other =
     ∙ ap (λ s. take count settings ++ s ∷ []) (sym is) in
     rw (more, list_any-append, sofar other) (grind (arith, nat_tests))
 
--- a line, and whether it is named, after the first settings, and then after all others
-pub bytes-front : (line : ℕ) (before now : List ℕ) (front back : List Setting) → now ≡ set_bytes line before front
+-- a line, and whether it is named, after the first settings, and then after more of them
+bytes-front : (line : ℕ) (before now : List ℕ) (front back : List Setting) → now ≡ set_bytes line before front
     → set_bytes line now back ≡ set_bytes line before (front ++ back)
 bytes-front line before now front back is = rw is (sym (fold-append (set_byte line) before front back))
 
-pub named-front :
+named-front :
     (line : ℕ) (before now : Bool) (front back : List Setting) → now ≡ (list_any (is_in_line line) front || before)
     → (list_any (is_in_line line) back || now) ≡ (list_any (is_in_line line) (front ++ back) || before)
 named-front line before now front back is =
     rw (is, list_any-append) (grind (arith, nat_tests))
 
-pub bytes-left :
-    (line : ℕ) (before now : List ℕ) (left rest : List Setting) (count : ℕ) → rest ≡ drop count left
-    → now ≡ set_bytes line before (take count left) → set_bytes line now rest ≡ set_bytes line before left
-bytes-left line before now left rest count goes_on is =
-    ap (set_bytes line now) goes_on ∙ bytes-front line before now (take count left) (drop count left) is
-    ∙ ap (set_bytes line before) (take-append-drop count left)
+pub bytes-more :
+    (line : ℕ) (first before now : List ℕ) (settings left : List Setting) (done count : ℕ) → left ≡ drop done settings
+    → before ≡ set_bytes line first (take done settings) → now ≡ set_bytes line before (take count left)
+    → now ≡ set_bytes line first (take (done + count) settings)
+bytes-more line first before now settings left done count rest sofar is =
+    is ∙ ap (λ l. set_bytes line before (take count l)) rest
+    ∙ bytes-front line first before (take done settings) (take count (drop done settings)) sofar
+    ∙ ap (set_bytes line first) (sym (take-add done count settings))
 
-pub named-left :
-    (line : ℕ) (before now : Bool) (left rest : List Setting) (count : ℕ) → rest ≡ drop count left
+pub named-more :
+    (line : ℕ) (first before now : Bool) (settings left : List Setting) (done count : ℕ) → left ≡ drop done settings
+    → before ≡ (list_any (is_in_line line) (take done settings) || first)
     → now ≡ (list_any (is_in_line line) (take count left) || before)
-    → (list_any (is_in_line line) rest || now) ≡ (list_any (is_in_line line) left || before)
-named-left line before now left rest count goes_on is =
-    ap (λ settings. list_any (is_in_line line) settings || now) goes_on
-    ∙ named-front line before now (take count left) (drop count left) is
-    ∙ ap (λ settings. list_any (is_in_line line) settings || before) (take-append-drop count left)
+    → now ≡ (list_any (is_in_line line) (take (done + count) settings) || first)
+named-more line first before now settings left done count rest sofar is =
+    is ∙ ap (λ l. list_any (is_in_line line) (take count l) || before) rest
+    ∙ named-front line first before (take done settings) (take count (drop done settings)) sofar
+    ∙ ap (λ l. list_any (is_in_line line) l || first) (sym (take-add done count settings))

@@ -1,7 +1,7 @@
-ghost use Rattle.std.specs.Prelude.{◌≡◌, ◌≢◌, ℕ, ◌+◌, ◌^◌, ◌<◌, ◌≤◌, ◌||◌, ◌==◌, IsTrue, IfOk, OnOk, OnErr, length, take};
+ghost use Rattle.std.specs.Prelude.{◌≡◌, ◌≢◌, ℕ, ◌+◌, ◌-◌, ◌/◌, ◌%◌, ◌^◌, ◌<◌, ◌≤◌, ◌||◌, ◌==◌, false, IsTrue, IfOk, OnOk, OnErr, length, min, take};
 ghost use Rattle.std.specs.List.{list_any};
 ghost use Rattle.fsb_script.specs.Statements.{settings_at};
-ghost use Rattle.fsb_memory.specs.Controller.{is_mapped, line_in, start_bytes, is_in_line, is_line_named, set_bytes};
+ghost use Rattle.fsb_memory.specs.Controller.{is_mapped, line_in, start_bytes, is_in_line, is_line_named, set_bytes, HasSetPart};
 
 use fsb_access::LINE_BYTES;
 use fsb_io::Memory;
@@ -79,7 +79,8 @@ impl Controller {
         Ok(controller)
     }
 
-    /// Puts the bytes of a run, whose first one is at this address.
+    /// Puts the bytes of a run, whose first one is at this address. Where memory lacks, the first of them are put, up to
+    /// a line that was not named.
     fn set_run(&mut self, addr: u64, bytes: &[u8]) -> Result<(), Memory>
         requires { addr + length bytes.now ≤ 2 ^ 64 }
         ensures bytes { OnOk result (
@@ -89,6 +90,7 @@ impl Controller {
             (line : ℕ) → is_mapped self.new line
             ≡ (list_any (is_in_line line) (settings_at addr bytes.now)
             || is_mapped self.old line)) }
+        ensures part { OnErr result (HasSetPart self.old self.new addr bytes.now) }
     {
         let mut done = 0;
         while done < bytes.len() {
@@ -104,6 +106,7 @@ impl Controller {
         requires below { addr + length bytes.now ≤ 2 ^ 64 }
         ensures some { IfOk result (λ count. 0 < count) }
         ensures within { IfOk result (λ count. count ≤ length bytes.now) }
+        ensures count { IfOk result (λ count. count ≡ min (length bytes.now) (32 - addr % 32)) }
         ensures bytes { IfOk result (λ count.
             (line : ℕ) → line_in self.new line
             ≡ set_bytes line (line_in self.old line) (take count (settings_at addr bytes.now))) }
@@ -111,6 +114,8 @@ impl Controller {
             (line : ℕ) → is_mapped self.new line
             ≡ (list_any (is_in_line line) (take count (settings_at addr bytes.now))
             || is_mapped self.old line)) }
+        ensures unnamed { OnErr result (is_mapped self.old (addr / 32) ≡ false) }
+        ensures unchanged { OnErr result (self.new ≡ self.old) }
     {
         let line = addr / LINE_BYTES;
         let mut kept = self.line(line);
@@ -123,7 +128,8 @@ impl Controller {
         Ok(count)
     }
 
-    /// Puts the bytes of a line, which is named then.
+    /// Puts the bytes of a line, which is named then. Memory lacks only for a line that was not named, and no line changes
+    /// then.
     fn keep(&mut self, line: u64, bytes: [u8; 32]) -> Result<(), Memory>
         ensures kept { OnOk result (line_in self.new line ≡ bytes) }
         ensures others { OnOk result (
@@ -131,6 +137,8 @@ impl Controller {
         ensures named { OnOk result (
             (other : ℕ) → is_mapped self.new other
             ≡ ((other == line) || is_mapped self.old other)) }
+        ensures unnamed { OnErr result (is_mapped self.old line ≡ false) }
+        ensures unchanged { OnErr result (self.new ≡ self.old) }
     {
         self.lines.insert(line, bytes)?;
         Ok(())

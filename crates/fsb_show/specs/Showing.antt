@@ -1,5 +1,5 @@
 -- What is shown of a dump.
-use Rattle.std.specs.Prelude.{◌≡◌, ◌≤◌, ℕ, List, None, length}
+use Rattle.std.specs.Prelude.{◌≡◌, ◌≤◌, ℕ, Bool, IsTrue, List, None, length}
 use Rattle.fsb_probe.specs.Weights.{totals_of}
 use Rattle.fsb_rules.specs.Checker.{as_broken}
 use Rattle.fsb_signal.specs.declared.marks.Marks.{Marks}
@@ -24,3 +24,11 @@ pub record IsShown (weights : List (Sample → ℕ)) (totals : List ℕ) (shown 
   pub reads : Reads text marks trace
   pub few : length trace ≤ 200000
   pub of_trace : IsOfTrace weights totals shown marks trace
+
+-- a trace of at most 200,000 samples is shown; where the source tells what it holds, this text is the dump of it
+pub record IsOfOneTrace (weights : List (Sample → ℕ)) (totals : List ℕ) (shown : Shown) (text : List ℕ) (tells : Bool) : Type 0 where
+  pub marks : Marks
+  pub trace : List Sample
+  pub few : length trace ≤ 200000
+  pub of_trace : IsOfTrace weights totals shown marks trace
+  pub reads : IsTrue tells → Reads text marks trace

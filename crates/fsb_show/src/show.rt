@@ -4,7 +4,8 @@ ghost use Rattle.fsb_io.specs.Faults.{Rose};
 ghost use Rattle.fsb_rules.specs.Checker.{as_broken};
 ghost use Rattle.fsb_trace.specs.Verdict.{verdict};
 ghost use Rattle.fsb_show.specs.ShownDump.{IsBegun, IsToldAs, IsTrace};
-ghost use Rattle.fsb_show.specs.Showing.{IsOfTrace, IsShown};
+ghost use Rattle.fsb_show.specs.Showing.{IsOfOneTrace, IsOfTrace, IsShown};
+ghost use Rattle.fsb_watch.specs.Watched.{IsBegunOrStays};
 
 use crate::stop::ShowStop;
 use fsb_io::{Memory, ReadStop, Source, read_all};
@@ -30,7 +31,7 @@ pub struct Shown {
 /// Begins the source under the name, reads the dump that it holds to its end, or to one byte past
 /// 268,435,456, and judges it. Where it breaks no rule, each object is cleared and shown every
 /// sample, in order. Where it breaks one there are no rows; then, and where nothing is told, every
-/// object is as it was.
+/// object is as it was. What is shown is of one trace, whatever the source tells of its bytes.
 pub fn show_dump<S: Source>(
     alloc: Global,
     name: &str,
@@ -41,12 +42,20 @@ pub fn show_dump<S: Source>(
     ensures shown { IsTrue S.tells →
         IsToldAs (IsShown (map (λ p. weight p) probes.old) (map (λ p. counted p) probes.new))
         result (S.holds source.old) (S.left source.new) }
+    ensures of_one_trace { IfOk result (λ shown.
+        IsOfOneTrace (map (λ p. weight p) probes.old) (map (λ p. counted p) probes.new) shown
+        (S.holds source.old) S.tells) }
     ensures not_counted { IfOk result (λ shown. IsSome shown.broken →
         (shown.rows.items ≡ []) × (probes.new ≡ probes.old)) }
     ensures not_shown { OnErr result (probes.new ≡ probes.old) }
+    ensures weights_stay { map (λ p. weight p) probes.new ≡ map (λ p. weight p) probes.old }
     ensures named { IsTrue S.tells → IsBegun result → S.begun_as source.new ≡ Some name.now }
+    ensures not_read { IsTrue S.tells → result ≡ Err ShowStop.ReadFault →
+        IsBegunOrStays name.now (S.begun_as source.old) (S.begun_as source.new)
+        (S.left source.old) (S.left source.new) }
     ensures read_fault { result ≡ Err ShowStop.ReadFault →
         Rose (S.faults source.old) (S.faults source.new) }
+    ensures later { S.faults source.old ≤ S.faults source.new }
     ensures holds_stays { IsTrue S.tells → S.holds source.new ≡ S.holds source.old }
 {
     if source.begin(name).is_err() {
@@ -99,6 +108,7 @@ fn show_trace(
     ensures not_counted { IfOk result (λ shown. IsSome shown.broken →
         (shown.rows.items ≡ []) × (probes.new ≡ probes.old)) }
     ensures not_shown { OnErr result (probes.new ≡ probes.old) }
+    ensures weights_stay { map (λ p. weight p) probes.new ≡ map (λ p. weight p) probes.old }
 {
     let clocks = w.len() as u32;
     match judge(marks, w) {

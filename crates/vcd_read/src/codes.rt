@@ -1,5 +1,7 @@
-ghost use Rattle.std.specs.Prelude.{◌≡◌, ◌≤◌, ◌<◌, ◌+◌, ◌*◌, ◌^◌, [], ◌∷◌, ◌++◌, length, Some, option_map, IfSome, IfOk, OnOk};
+ghost use Rattle.std.specs.Prelude.{◌≡◌, ◌≤◌, ◌<◌, ◌+◌, ◌*◌, ◌^◌, [], ◌∷◌, ◌++◌, length, true, Some, option_map, IsSome, IfSome, IfOk, OnOk};
+ghost use Rattle.indexmap.specs.IndexSet.{contains_by};
 ghost use Rattle.vcd_grammar.specs.Codes.{lines_of, with_code};
+ghost use Rattle.vcd_grammar.specs.Words.{same};
 ghost use Rattle.vcd_read.specs.CodesView.{lines_or_none, only_of, with_single, packed, key_of, KeepsLong};
 
 use indexmap::{IndexMap, IndexSet};
@@ -92,9 +94,7 @@ impl Codes {
     {
         let lines = self.joined(code, line)?;
         let only = only_of(lines.as_slice());
-        let Some(key) = key_for(&mut self.long, self.alloc, code)? else {
-            return Err(AllocError);
-        };
+        let key = key_for(&mut self.long, self.alloc, code)?;
         self.all.insert(key, lines)?;
         set_single(&mut self.single, code, only);
         Ok(())
@@ -117,7 +117,8 @@ fn packed(code: &[u8]) -> u64
 
 /// The key of a code, where it was declared or may be.
 fn key_of(long: &IndexSet<Vec<u8>>, code: &[u8]) -> Option<u64>
-    ensures { result ≡ key_of long.now.keys code.now }
+    ensures key { result ≡ key_of long.now.keys code.now }
+    ensures found { contains_by (λ v. same code.now v.items) long.now ≡ true → IsSome result }
 {
     if code.len() <= SHORT {
         return Some(packed(code));
@@ -129,19 +130,16 @@ fn key_of(long: &IndexSet<Vec<u8>>, code: &[u8]) -> Option<u64>
 }
 
 /// The key of a code, which is put among the long ones if it is one.
-fn key_for(
-    long: &mut IndexSet<Vec<u8>>,
-    alloc: Global,
-    code: &[u8],
-) -> Result<Option<u64>, AllocError>
-    ensures key { IfOk result (λ key. key ≡ key_of long.new.keys code.now) }
+fn key_for(long: &mut IndexSet<Vec<u8>>, alloc: Global, code: &[u8]) -> Result<u64, AllocError>
+    ensures key { IfOk result (λ key. key_of long.new.keys code.now ≡ Some key) }
     ensures long { KeepsLong long.old.keys long.new.keys }
 {
-    if SHORT < code.len() {
-        let word = copy_of(alloc, code)?;
-        long.insert(word)?;
+    if code.len() <= SHORT {
+        return Ok(packed(code));
     }
-    Ok(key_of(long, code))
+    let word = copy_of(alloc, code)?;
+    long.insert(word)?;
+    Ok(key_of(long, code).unwrap())
 }
 
 /// The same bytes.

@@ -1,4 +1,4 @@
-ghost use Rattle.std.specs.Prelude.{◌≡◌, ℕ, true, None, [], ◌∷◌, ◌==◌, ◌&&◌, not, slice_get, ◌<◌, ◌+◌, ◌^◌, List, take, length, ◌≤◌, Some, IfOk, OnOk, OnErr, if◌then◌else◌};
+ghost use Rattle.std.specs.Prelude.{◌≡◌, ℕ, true, None, [], ◌∷◌, ◌==◌, ◌&&◌, not, slice_get, ◌<◌, ◌+◌, ◌^◌, List, take, length, vec_len, vec_capacity, ◌≤◌, Some, IfOk, OnOk, OnErr, if◌then◌else◌};
 ghost use Rattle.fsb_signal.specs.Table.{TableEntry, table};
 ghost use Rattle.fsb_signal.specs.DumpText.{width_of};
 ghost use Rattle.vcd_grammar.specs.Digits.{time_in, extended};
@@ -222,6 +222,7 @@ impl Machine {
             (unless_long (known_of self.old) (record { place = place; word = word.now })
             (value_turn (known_of self.old) place (value_word word.now))))) }
         ensures silent { OnErr result (to.new.items ≡ to.old.items) }
+        ensures full { OnErr result (vec_capacity to.old ≤ vec_len to.old) }
     {
         if is_long(word) {
             self.fail(place, VcdCause::Token);
@@ -268,6 +269,7 @@ impl Machine {
             (decided_of (taken self.old)
             (value_turn (known_of self.old) place (stamp_word (time_in digits.now))))) }
         ensures silent { OnErr result (to.new.items ≡ to.old.items) }
+        ensures full { OnErr result (vec_capacity to.old ≤ vec_len to.old) }
     {
         match time_in(digits) {
             None => {
@@ -308,6 +310,7 @@ impl Machine {
             (to.new.items ≡ pushed limit self.old.decided to.old.items
             (decided_of (taken self.old) (stamped (known_of self.old) place time self.old.time))) }
         ensures silent { OnErr result (to.new.items ≡ to.old.items) }
+        ensures full { OnErr result (vec_capacity to.old ≤ vec_len to.old) }
     {
         match self.time {
             None => self.later(time, limit, to),
@@ -333,6 +336,7 @@ impl Machine {
             (to.new.items ≡ pushed limit self.old.decided to.old.items
             (decided_of (taken self.old) (later (known_of self.old) time))) }
         ensures silent { OnErr result (to.new.items ≡ to.old.items) }
+        ensures full { OnErr result (vec_capacity to.old ≤ vec_len to.old) }
     {
         if self.rises() {
             if self.decided < u64::from(limit) {
@@ -391,6 +395,7 @@ impl Machine {
             (to.new.items ≡ pushed limit self.now.decided to.old.items
             (open_samples self.now.fault (lines_view self.now))) }
         ensures silent { OnErr result (to.new.items ≡ to.old.items) }
+        ensures full { OnErr result (vec_capacity to.old ≤ vec_len to.old) }
     {
         if self.fault.is_some() {
             return Ok(false);

@@ -7,6 +7,7 @@ use Rattle.fsb_memory.proofs.controller.Controller.set.Goals as goal
 pub loop-count-init : goal.loop-count-init
 loop-count-init c = record {
   within = omega arith;
+  in_line = omega arith;
   all = c.line-kept.ensures.all;
   bytes = bytes_so_far-none _ _ _ c.line-kept.ensures.bytes;
   named = λ other. refl;
@@ -22,6 +23,7 @@ loop-count-preserved c =
     let here = sym (get_or-settings_at addr bytes l.count no_setting (omega (arith, c.loop-count-test.true))) in
     record {
       within = omega (arith, c.loop-count-test.true);
+      in_line = omega (arith, c.if-addr-count.true);
       all = length-set _ _ _ ∙ l.invariant.all;
       bytes = bytes_so_far-more _ _ l.kept (settings_at addr bytes) l.count _ l.invariant.bytes below here
           c.if-addr-count.true;

@@ -8,10 +8,6 @@ pub invariant_of-self : goal.invariant_of-self
 invariant_of-self c = kept_long c.self.inside.single c.self.inside.long.keys c.key_for.new.long.keys
     c.self.inside.all.entries c.self.invariant c.key_for.ensures.long
 
-pub invariant_of-self-in_default : goal.invariant_of-self-in_default
-invariant_of-self-in_default c = kept_long c.self.inside.single c.self.inside.long.keys c.key_for.new.long.keys
-    c.self.inside.all.entries c.self.invariant c.key_for.ensures.long
-
 pub invariant_of-self-in_err-insert : goal.invariant_of-self-in_err-insert
 invariant_of-self-in_err-insert c =
     subst (λ es. CodesKept c.self.inside.single c.key_for.new.long.keys es) (sym c.in_err-insert.ensures.err)
@@ -23,8 +19,8 @@ before : (c : goal.After-set_single) → codes_of c.key_for.new.long.keys c.self
 before c = codes_long c.self.inside.long.keys c.key_for.new.long.keys c.self.inside.all.entries
     c.self.invariant.keys c.key_for.ensures.long ∙ c.self.view_is
 
-key_is : (c : goal.After-set_single) → key_of c.key_for.new.long.keys c.args.code.now ≡ Some c.in-Some.key
-key_is c = sym c.in_ok-key.ensures.key ∙ c.in-Some.is
+key_is : (c : goal.After-set_single) → key_of c.key_for.new.long.keys c.args.code.now ≡ Some c.in_ok-key.key
+key_is c = c.in_ok-key.ensures.key
 
 lines_are : (c : goal.After-set_single)
     → c.in_ok-lines.lines.items ≡ lines_or_none
@@ -40,7 +36,7 @@ pub invariant_of-self-2 : goal.invariant_of-self-2
 invariant_of-self-2 c =
     rw (c.set_single.ensures, c.in_ok-insert.ensures.entries)
     (kept_declared c.self.inside.single c.key_for.new.long.keys c.self.inside.all.entries c.args.code.now
-    c.args.line.now c.in-Some.key c.in_ok-lines.lines _ c.type_inv.code (key_is c) (kept c) (lines_are c)
+    c.args.line.now c.in_ok-key.key c.in_ok-lines.lines _ c.type_inv.code (key_is c) (kept c) (lines_are c)
     (c.only_of-only.ensures ∙ ap only_of c.as_slice.ensures.value))
 
 pub returns : goal.returns
@@ -48,6 +44,6 @@ returns c =
     let long = c.key_for.new.long.keys in
     let code = c.args.code.now in
     ap (λ es. codes_of long es) c.in_ok-insert.ensures.entries
-    ∙ inserted long code c.in-Some.key c.in_ok-lines.lines c.args.line.now c.self.inside.all.entries
+    ∙ inserted long code c.in_ok-key.key c.in_ok-lines.lines c.args.line.now c.self.inside.all.entries
     c.type_inv.code (key_is c) (kept c).keys (lines_are c)
     ∙ ap (λ cs. with_code cs code c.args.line.now) (before c)

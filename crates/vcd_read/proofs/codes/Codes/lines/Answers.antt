@@ -7,7 +7,7 @@ use Rattle.vcd_read.proofs.codes.Codes.lines.Goals as goal
 pub returns-in_err-key : goal.returns-in_err-key
 returns-in_err-key c =
     ap (option_map (λ lines. lines.now)) c.from_residual.ensures
-    ∙ sym (not_found c.self.inside.long.keys c.args.code.now c.self.inside.all.entries (sym c.key_of.ensures
+    ∙ sym (not_found c.self.inside.long.keys c.args.code.now c.self.inside.all.entries (sym c.key_of.ensures.key
     ∙ c.in_err-key.was) c.self.invariant.keys)
     ∙ ap (λ cs. lines_of cs c.args.code.now) c.self.view_is
 
@@ -17,7 +17,7 @@ returns-in-Some c =
     ∙ ap (λ o. option_map (λ v. v.items) (option_copied o)) (sym c.in-Some.is)
     ∙ ap (option_map (λ v. v.items)) c.get.ensures.value
     ∙ found c.self.inside.long.keys c.args.code.now c.in_ok-key.key c.self.inside.all.entries c.type_inv.code
-    (sym c.key_of.ensures ∙ c.in_ok-key.was) c.self.invariant.keys
+    (sym c.key_of.ensures.key ∙ c.in_ok-key.was) c.self.invariant.keys
     ∙ ap (λ cs. lines_of cs c.args.code.now) c.self.view_is
 
 pub returns-in-None : goal.returns-in-None
@@ -25,5 +25,5 @@ returns-in-None c =
     ap (λ o. option_map (λ v. v.items) (option_copied o)) (sym c.in-None.is)
     ∙ ap (option_map (λ v. v.items)) c.get.ensures.value
     ∙ found c.self.inside.long.keys c.args.code.now c.in_ok-key.key c.self.inside.all.entries c.type_inv.code
-    (sym c.key_of.ensures ∙ c.in_ok-key.was) c.self.invariant.keys
+    (sym c.key_of.ensures.key ∙ c.in_ok-key.was) c.self.invariant.keys
     ∙ ap (λ cs. lines_of cs c.args.code.now) c.self.view_is
