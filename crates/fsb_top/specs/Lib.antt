@@ -4,3 +4,4 @@ pub mod BenchRead
 pub mod Refused
 pub mod StatusText
 pub mod StatusTold
+pub mod Stopped

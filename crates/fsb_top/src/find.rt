@@ -1,15 +1,16 @@
 //! The search of a dump, and the line of what it has given.
-ghost use Rattle.std.specs.Prelude.{◌≡◌, ◌≤◌, ◌<◌, ◌^◌, ◌⊎◌, IsTrue, List, length, option_map};
+ghost use Rattle.std.specs.Prelude.{◌≡◌, ◌≤◌, ◌<◌, ◌+◌, ◌^◌, ◌⊎◌, IsTrue, List, length, option_map};
 ghost use Rattle.fsb_io.specs.Faults.{Rose};
 ghost use Rattle.fsb_look.specs.SearchText.{search_text};
 ghost use Rattle.fsb_signal.specs.declared.marks.Marks.{Marks};
 ghost use Rattle.fsb_signal.specs.declared.sample.Sample.{Sample};
 ghost use Rattle.fsb_trigger.specs.Hunt.{steps_in};
-ghost use Rattle.fsb_watch.specs.Watched.{HasManySamples};
+ghost use Rattle.fsb_watch.specs.Watched.{HasManySamples, IsBegunOrStays};
 ghost use Rattle.vcd_grammar.specs.declared.fault.VcdFault.{VcdFault};
 ghost use Rattle.vcd_grammar.specs.Reading.{Reads};
 ghost use Rattle.fsb_top.specs.BenchEnds.{HasLooked, HasRun, IsBadDump, IsOfFind, IsSilent, IsWritten, TellsMatch, match_text};
 ghost use Rattle.fsb_top.specs.StatusTold.{IsSearchTold};
+ghost use Rattle.fsb_top.specs.Stopped.{HasReadLong, HasReadAtMost};
 
 use crate::status::Status;
 use fsb_io::{Failed, Sink, Source, put_all};
@@ -39,6 +40,15 @@ pub fn find_file<S: Source, O: Sink>(
         fault }
     ensures too_long { IsTrue S.tells → result ≡ Status.TooLong →
         (2 ^ 40 < length (S.holds source.old)) ⊎ HasManySamples (S.holds source.old) }
+    ensures long_read { IsTrue S.tells → result ≡ Status.TooLong →
+        HasReadLong name.now (S.holds source.old) (S.left source.new)
+        (S.begun_as source.new) }
+    ensures memory_read { IsTrue S.tells → result ≡ Status.OutOfMemory →
+        HasReadAtMost (2 ^ 40 + 1) name.now (S.holds source.old) (S.left source.new)
+        (S.begun_as source.new) }
+    ensures not_read { IsTrue S.tells → result ≡ Status.ReadFault →
+        IsBegunOrStays name.now (S.begun_as source.old) (S.begun_as source.new)
+        (S.left source.old) (S.left source.new) }
     ensures read_fault { result ≡ Status.ReadFault →
         Rose (S.faults source.old) (S.faults source.new) }
     ensures write_fault { result ≡ Status.WriteFault → Rose (O.faults out.old) (O.faults out.new) }

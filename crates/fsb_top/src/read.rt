@@ -4,7 +4,9 @@ ghost use Rattle.fsb_io.specs.Faults.{Rose};
 ghost use Rattle.fsb_script.specs.Drafts.{BenchText, FirstBad};
 ghost use Rattle.fsb_script.specs.View.{plan_view};
 ghost use Rattle.fsb_script.specs.declared.fault.ScriptFault.{ScriptFault};
+ghost use Rattle.fsb_watch.specs.Watched.{IsBegunOrStays};
 ghost use Rattle.fsb_top.specs.BenchRead.{HasRead};
+ghost use Rattle.fsb_top.specs.Stopped.{HasReadPast, HasReadAtMost};
 
 use fsb_io::{ReadStop, Source, read_all};
 use fsb_script::{Plan, ScriptFault, ScriptStop, read_bench};
@@ -40,6 +42,15 @@ pub fn read_plan<S: Source>(alloc: Global, name: &str, source: &mut S) -> Result
         HasRead (S.holds source.old) name.now (S.left source.new) (S.begun_as source.new) }
     ensures too_long { IsTrue S.tells → result ≡ Err Refusal.TooLong →
         4194304 < length (S.holds source.old) }
+    ensures long_read { IsTrue S.tells → result ≡ Err Refusal.TooLong →
+        HasReadPast 4194304 name.now (S.holds source.old) (S.left source.new)
+        (S.begun_as source.new) }
+    ensures memory_read { IsTrue S.tells → result ≡ Err Refusal.Memory →
+        HasReadAtMost 4194304 name.now (S.holds source.old) (S.left source.new)
+        (S.begun_as source.new) }
+    ensures not_read { IsTrue S.tells → result ≡ Err Refusal.ReadFault →
+        IsBegunOrStays name.now (S.begun_as source.old) (S.begun_as source.new)
+        (S.left source.old) (S.left source.new) }
     ensures read_fault { result ≡ Err Refusal.ReadFault →
         Rose (S.faults source.old) (S.faults source.new) }
     ensures holds_stays { IsTrue S.tells → S.holds source.new ≡ S.holds source.old }

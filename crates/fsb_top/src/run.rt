@@ -7,8 +7,10 @@ ghost use Rattle.fsb_play.specs.Printed.{dump_named, printed_text, run_dump, run
 ghost use Rattle.fsb_script.specs.Made.{made_plan};
 ghost use Rattle.fsb_script.specs.View.{plan_view};
 ghost use Rattle.fsb_script.specs.declared.fault.ScriptFault.{ScriptFault};
+ghost use Rattle.fsb_watch.specs.Watched.{IsBegunOrStays};
 ghost use Rattle.fsb_top.specs.BenchEnds.{HasRun, HasEnded, IsSilent, IsOfRun, IsOfGen, IsLogged, IsDumped, HasRunOf, HasRunFrom, IsPlanOf, IsBadBench};
 ghost use Rattle.fsb_top.specs.Refused.{refusal_status};
+ghost use Rattle.fsb_top.specs.Stopped.{HasReadPast, HasReadAtMost};
 
 use crate::read::{Refusal, read_plan};
 use crate::status::Status;
@@ -36,6 +38,15 @@ pub fn run_file<S: Source, O: Sink, D: Sink>(
         Rose (S.faults source.old) (S.faults source.new) }
     ensures too_long { IsTrue S.tells → result ≡ Status.TooLong →
         4194304 < length (S.holds source.old) }
+    ensures long_read { IsTrue S.tells → result ≡ Status.TooLong →
+        HasReadPast 4194304 bench.now (S.holds source.old) (S.left source.new)
+        (S.begun_as source.new) }
+    ensures memory_read { IsTrue S.tells → result ≡ Status.OutOfMemory →
+        HasReadAtMost 4194304 bench.now (S.holds source.old) (S.left source.new)
+        (S.begun_as source.new) }
+    ensures not_read { IsTrue S.tells → result ≡ Status.ReadFault →
+        IsBegunOrStays bench.now (S.begun_as source.old) (S.begun_as source.new)
+        (S.left source.old) (S.left source.new) }
     ensures bad_bench { IsTrue S.tells → (fault : ScriptFault) → result ≡ Status.BadBench fault →
         IsBadBench bench.now (S.holds source.old) (S.left source.new) (S.begun_as source.new)
         fault }

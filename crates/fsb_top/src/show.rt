@@ -1,14 +1,16 @@
 //! The table of a dump, with the totals of the probes.
-ghost use Rattle.std.specs.Prelude.{◌≡◌, ◌≤◌, ◌<◌, ◌⊎◌, IsTrue, List, length, map};
+ghost use Rattle.std.specs.Prelude.{◌≡◌, ◌≤◌, ◌<◌, ◌+◌, ◌⊎◌, IsTrue, List, length, map};
 ghost use Rattle.fsb_io.specs.Faults.{Rose};
 ghost use Rattle.fsb_show.specs.ShownDump.{IsLongDump};
 ghost use Rattle.fsb_show.specs.ShowText.{show_text, told_text};
 ghost use Rattle.fsb_signal.specs.declared.marks.Marks.{Marks};
 ghost use Rattle.fsb_signal.specs.declared.sample.Sample.{Sample};
+ghost use Rattle.fsb_watch.specs.Watched.{IsBegunOrStays};
 ghost use Rattle.vcd_grammar.specs.declared.fault.VcdFault.{VcdFault};
 ghost use Rattle.vcd_grammar.specs.Reading.{Reads};
 ghost use Rattle.fsb_top.specs.BenchEnds.{HasRun, HasTable, IsBadTable, IsOfCheck, IsSilent, IsWritten};
 ghost use Rattle.fsb_top.specs.StatusTold.{IsTableTold};
+ghost use Rattle.fsb_top.specs.Stopped.{HasReadLongWhole, HasReadAtMost};
 
 use crate::status::Status;
 use fsb_io::{Failed, Sink, Source};
@@ -39,6 +41,15 @@ pub fn show_file<S: Source, O: Sink>(
         fault }
     ensures too_long { IsTrue S.tells → result ≡ Status.TooLong →
         (268435456 < length (S.holds source.old)) ⊎ IsLongDump (S.holds source.old) }
+    ensures long_read { IsTrue S.tells → result ≡ Status.TooLong →
+        HasReadLongWhole name.now (S.holds source.old) (S.left source.new)
+        (S.begun_as source.new) }
+    ensures memory_read { IsTrue S.tells → result ≡ Status.OutOfMemory →
+        HasReadAtMost (268435456 + 1) name.now (S.holds source.old) (S.left source.new)
+        (S.begun_as source.new) }
+    ensures not_read { IsTrue S.tells → result ≡ Status.ReadFault →
+        IsBegunOrStays name.now (S.begun_as source.old) (S.begun_as source.new)
+        (S.left source.old) (S.left source.new) }
     ensures read_fault { result ≡ Status.ReadFault →
         Rose (S.faults source.old) (S.faults source.new) }
     ensures write_fault { result ≡ Status.WriteFault → Rose (O.faults out.old) (O.faults out.new) }

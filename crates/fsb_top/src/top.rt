@@ -15,6 +15,7 @@ ghost use Rattle.vcd_grammar.specs.declared.fault.VcdFault.{VcdFault};
 ghost use Rattle.vcd_grammar.specs.Reading.{Reads};
 ghost use Rattle.fsb_top.specs.BenchEnds.{HasRun, IsSilent, IsOfRun, IsOfGen, IsOfCheck, IsLogged, IsTold, IsDumped, HasRunOf, HasRunFrom, IsPlanOf, HasVerdict, IsBadBench, IsBadDump, IsTooLong, FromRun, FromLook, IsOfAudit, IsOfFind, IsOfWave, HasFinding, HasTable, IsBadTable, HasLooked, TellsMatch, TellsNothing, IsWritten, finding_text, match_text};
 ghost use Rattle.fsb_top.specs.Complete.{IsComplete, IsReadable};
+ghost use Rattle.fsb_top.specs.Stopped.{HasBegunNoOther, HasReadSome, HasReadTooLong};
 
 use crate::audit::audit_file;
 use crate::check::check_file;
@@ -71,6 +72,16 @@ pub fn bench<S: Source, O: Sink, D: Sink>(
         fault)
         (λ name. IsBadTable name (S.holds source.old) (S.left source.new) (S.begun_as source.new)
         fault) }
+    ensures long_read { IsTrue S.tells → result ≡ Status.TooLong → (form : Form) →
+        form_of words.now ≡ Some form →
+        HasReadTooLong form (S.holds source.old) (S.left source.new) (S.begun_as source.new) }
+    ensures memory_read { IsTrue S.tells → result ≡ Status.OutOfMemory → (form : Form) →
+        form_of words.now ≡ Some form → (source.new ≡ source.old)
+        ⊎ HasReadSome form (S.holds source.old) (S.left source.new) (S.begun_as source.new) }
+    ensures not_read { IsTrue S.tells → result ≡ Status.ReadFault → (form : Form) →
+        form_of words.now ≡ Some form →
+        HasBegunNoOther form (S.begun_as source.old) (S.begun_as source.new)
+        (S.left source.old) (S.left source.new) }
     ensures write_fault { result ≡ Status.WriteFault → Rose (O.faults out.old) (O.faults out.new) }
     ensures dump_fault { result ≡ Status.DumpFault → Rose (D.faults dump.old) (D.faults dump.new) }
     ensures dump_has_name { (bench : List ℕ) → form_of words.now ≡ Some (run bench None) →

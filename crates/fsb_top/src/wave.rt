@@ -1,15 +1,16 @@
 //! The wave of a range of clocks of a dump.
-ghost use Rattle.std.specs.Prelude.{◌≡◌, ◌≤◌, ◌<◌, ◌^◌, ◌⊎◌, ℕ, IsTrue, List, length};
+ghost use Rattle.std.specs.Prelude.{◌≡◌, ◌≤◌, ◌<◌, ◌+◌, ◌^◌, ◌⊎◌, ℕ, IsTrue, List, length};
 ghost use Rattle.fsb_io.specs.Faults.{Rose};
 ghost use Rattle.fsb_signal.specs.declared.marks.Marks.{Marks};
 ghost use Rattle.fsb_signal.specs.declared.sample.Sample.{Sample};
-ghost use Rattle.fsb_watch.specs.Watched.{HasManySamples};
+ghost use Rattle.fsb_watch.specs.Watched.{HasManySamples, IsBegunOrStays};
 ghost use Rattle.fsb_wave.specs.Wave.{Stands};
 ghost use Rattle.fsb_wave.specs.WaveText.{wave_text};
 ghost use Rattle.vcd_grammar.specs.declared.fault.VcdFault.{VcdFault};
 ghost use Rattle.vcd_grammar.specs.Reading.{Reads};
 ghost use Rattle.fsb_top.specs.BenchEnds.{HasLooked, HasRun, IsBadDump, IsOfWave, IsSilent, IsWritten, TellsNothing};
 ghost use Rattle.fsb_top.specs.StatusTold.{IsWaveTold};
+ghost use Rattle.fsb_top.specs.Stopped.{HasReadLong, HasReadAtMost};
 
 use crate::status::Status;
 use fsb_io::{Failed, Sink, Source};
@@ -40,6 +41,15 @@ pub fn wave_file<S: Source, O: Sink>(
         fault }
     ensures too_long { IsTrue S.tells → result ≡ Status.TooLong →
         (2 ^ 40 < length (S.holds source.old)) ⊎ HasManySamples (S.holds source.old) }
+    ensures long_read { IsTrue S.tells → result ≡ Status.TooLong →
+        HasReadLong name.now (S.holds source.old) (S.left source.new)
+        (S.begun_as source.new) }
+    ensures memory_read { IsTrue S.tells → result ≡ Status.OutOfMemory →
+        HasReadAtMost (2 ^ 40 + 1) name.now (S.holds source.old) (S.left source.new)
+        (S.begun_as source.new) }
+    ensures not_read { IsTrue S.tells → result ≡ Status.ReadFault →
+        IsBegunOrStays name.now (S.begun_as source.old) (S.begun_as source.new)
+        (S.left source.old) (S.left source.new) }
     ensures read_fault { result ≡ Status.ReadFault →
         Rose (S.faults source.old) (S.faults source.new) }
     ensures write_fault { result ≡ Status.WriteFault → Rose (O.faults out.old) (O.faults out.new) }

@@ -1,15 +1,22 @@
 -- What is left of a call of `bench` once the end of the dump is handed on.
-use Rattle.std.proofs.Common.{◌≡◌, ◌≢◌, ◌⊎◌, inl, inr, ⊎_elim, ℕ, List, Option, Some, None, refl, sym, subst, ap, ◌∙◌}
+use Rattle.std.proofs.Common.{◌≡◌, ◌≢◌, ◌≤◌, ◌⊎◌, ◌++◌, inl, inr, ⊎_elim, ℕ, List, [], Option, Some, None, refl, sym}
+use Rattle.std.proofs.Common.{subst, ap, ◌∙◌, arith}
+use Rattle.std.proofs.lemmas.List.{append-nil, append_assoc}
+use Rattle.fsb_gather.specs.GatherView.{GatherView}
+use Rattle.fsb_gather.specs.HandsOn.{HandsOn}
 use Rattle.fsb_hazard.specs.Told.{Told}
 use Rattle.fsb_play.specs.RunOf.{IsRunOf}
-use Rattle.fsb_play.specs.Writing.{HasDump}
+use Rattle.fsb_play.specs.Writing.{HasDump, HasDumpPart, HasPart}
 use Rattle.fsb_script.specs.Plans.{PlanView}
 use Rattle.fsb_timely.specs.Runs.{Run}
-use Rattle.fsb_top.specs.BenchEnds.{HasRun, HasRunFrom, HasRunOf, IsDumped, IsLogged, IsWritten}
+use Rattle.fsb_io.specs.Faults.{Rose}
+use Rattle.fsb_top.specs.BenchEnds.{HasRun, HasRunFrom, HasRunOf, IsDumped, IsLogged, IsOfRun, IsSilent, IsWritten}
+use Rattle.fsb_top.specs.Complete.{IsComplete}
 use Rattle.fsb_top.specs.declared.status.Status.{Status}
 use Rattle.fsb_top.specs.declared.status.Status.TheVariants.{Done, Rejected, BadWords, BadBench, BadDump}
 use Rattle.fsb_top.specs.declared.status.Status.TheVariants.{ReadFault, WriteFault, DumpFault, OutOfMemory}
 use Rattle.fsb_top.specs.declared.status.Status.TheVariants.{TooLong, Foul, NotFound}
+use Rattle.p6bench.specs.Program.{HasPartBelow, IsDumpedBelow}
 
 -- the status stays as the call had it, or the call was done and the end of its dump was not handed on
 abbrev pub Ends : Status → Status → Type 0
@@ -48,16 +55,57 @@ logged_still called status text before held (inr lost) has =
     subst (λ (s : Status). IsLogged s text before held) (sym lost.1)
     (subst (λ (s : Status). IsLogged s text before held) lost.0 has)
 
-pub written_still : (called status : Status) (text before held : List ℕ) → Ends called status
-    → IsWritten called text before held → IsWritten status text before held
-written_still called status text before held (inl same) has =
-    subst (λ (s : Status). IsWritten s text before held) (sym same) has
-written_still called status text before held (inr lost) has =
-    subst (λ (s : Status). IsWritten s text before held) (sym lost.1) tt
-
-was_done : (called status : Status) → Ends called status → status ≡ Done → called ≡ Done
+pub was_done : (called status : Status) → Ends called status → status ≡ Done → called ≡ Done
 was_done called status (inl same) done = sym same ∙ done
 was_done called status (inr lost) done = lost.0
+
+-- every other status than that of a dump that failed is the call's
+pub was : (called status it : Status) → Ends called status → status ≡ it → (it ≡ DumpFault → ⊥) → called ≡ it
+was called status it (inl same) is not = sym same ∙ is
+was called status it (inr lost) is not = absurd (not (sym is ∙ lost.1))
+
+pub stays : (called status : Status) → Ends called status → (called ≡ Done → ⊥) → status ≡ called
+stays called status (inl same) not = same
+stays called status (inr lost) not = absurd (not lost.0)
+
+pub silent_called : (called status : Status) → Ends called status → IsSilent status → IsSilent called
+silent_called called status (inl same) silent = subst IsSilent same silent
+silent_called called status (inr lost) silent = absurd (subst IsSilent lost.1 silent)
+
+pub of_run_still : (called status : Status) → Ends called status → IsOfRun called → IsOfRun status
+of_run_still called status (inl same) of = subst IsOfRun (sym same) of
+of_run_still called status (inr lost) of = subst IsOfRun (sym lost.1) tt
+
+-- a count of the sink below that was 0 before the call rose in it where it rose at some time
+rose_later : (before between now : ℕ) → before ≡ 0 → Rose between now → Rose before now
+rose_later before between now none rose = omega (arith, none, rose)
+
+pub rose_before : (before between now : ℕ) → Rose before between → between ≤ now → Rose before now
+rose_before before between now rose later = omega (arith, rose, later)
+
+not_both : (status : Status) → status ≡ DumpFault → status ≡ Done → ⊥
+not_both status fault done = let e = sym done ∙ fault in let no : ⊥ = cc in no
+
+-- a call that ends with the fault of the dump's sink has it of the call, or of the end of its dump
+pub rose_in : (called status : Status) (before between now : ℕ) → Ends called status → before ≡ 0 → between ≤ now
+    → (called ≡ DumpFault → Rose before between) → (called ≡ Done → status ≢ Done → Rose between now)
+    → status ≡ DumpFault → Rose before now
+rose_in called status before between now (inl same) none later rose handed fault =
+    rose_before before between now (rose (sym same ∙ fault)) later
+rose_in called status before between now (inr lost) none later rose handed fault =
+    rose_later before between now none (handed lost.0 (not_both status fault))
+
+-- a call that left the sink of the dump as it was, with nothing gathered, ends as it did
+pub left_alone : (D : Type 0) (called status : Status) (old mid new : GatherView D) → mid ≡ old → old.gathered ≡ []
+    → (mid.gathered ≡ [] → (status ≡ called) × (new ≡ mid)) → (status ≡ called) × (new ≡ old)
+left_alone D called status old mid new same none nothing =
+    let both = nothing (ap (λ (g : GatherView D). g.gathered) same ∙ none) in (both.0, both.1 ∙ same)
+
+-- a call that was complete is so where the end of its dump was handed on
+pub complete_still : (called status : Status) → Ends called status → (status ≡ DumpFault → ⊥) → IsComplete called
+    → IsComplete status
+complete_still called status (inl same) not complete = subst IsComplete (sym same) complete
+complete_still called status (inr lost) not complete = absurd (not lost.1)
 
 -- the dump of the sink below is that of the sink that gathered it, where the end was handed on
 handed_on : (text : List ℕ) (name : Option (List ℕ)) (held held' : List ℕ) (begun_as begun_as' : Option (List ℕ))
@@ -66,14 +114,105 @@ handed_on text None held held' begun_as begun_as' whole named has = tt
 handed_on text (Some name) held held' begun_as begun_as' whole named has =
     record { whole = whole ∙ has.whole; named = named ∙ has.named }
 
-pub dumped_still : (called status : Status) (text : List ℕ) (name : Option (List ℕ)) (before held held' : List ℕ)
-    (was_begun_as begun_as begun_as' : Option (List ℕ)) → Ends called status → status ≡ Done
-    → held' ≡ held → begun_as' ≡ begun_as
-    → IsDumped called text name before was_begun_as held begun_as → HasDump text name held' begun_as'
-dumped_still called status text name before held held' was_begun_as begun_as begun_as' ends done whole named has =
-    handed_on text name held held' begun_as begun_as' whole named
-    (subst (λ (s : Status). IsDumped s text name before was_begun_as held begun_as) (was_done called status ends done)
-    has)
+-- where the call failed at the dump, of what the gathering sink holds the sink below has the first part
+part_below : (text : List ℕ) (name : Option (List ℕ)) (before held gathered : List ℕ)
+    (was_begun_as begun_as : Option (List ℕ)) → (name ≡ None → ⊥)
+    → HasDumpPart text name (before ++ []) was_begun_as (held ++ gathered) begun_as
+    → HasPartBelow text name before was_begun_as held gathered begun_as
+part_below text None before held gathered was_begun_as begun_as named has = named refl
+part_below text (Some name) before held gathered was_begun_as begun_as named (inl has) =
+    let part = has.part in
+    inl (record {
+      part = record {
+        part = held;
+        rest = gathered ++ part.rest;
+        whole = part.whole ∙ ap (λ xs. xs ++ part.rest) (sym part.appended) ∙ append_assoc held gathered part.rest;
+        appended = refl;
+      };
+      named = has.named;
+    })
+part_below text (Some name) before held gathered was_begun_as begun_as named (inr has) =
+    inr (record { held_stays = has.held_stays ∙ append-nil before; name_stays = has.name_stays })
+
+-- where the end of the dump was not handed on, the sink below has a first part of it, and the rest is still gathered
+part_handed : (text : List ℕ) (name : Option (List ℕ)) (before mid_held gathered held left : List ℕ)
+    (was mid_begun begun : Option (List ℕ)) → (name ≡ None → ⊥) → HandsOn gathered left mid_held held
+    → begun ≡ mid_begun → HasDump text name (mid_held ++ gathered) mid_begun
+    → HasPartBelow text name before was held left begun
+part_handed text None before mid_held gathered held left was mid_begun begun named hands same has = named refl
+part_handed text (Some name) before mid_held gathered held left was mid_begun begun named hands same has =
+    inl (record {
+      part = record {
+        part = held;
+        rest = left;
+        whole = sym has.whole ∙ ap (λ xs. mid_held ++ xs) hands.whole ∙ sym (append_assoc mid_held hands.part left)
+            ∙ ap (λ xs. xs ++ left) (sym hands.appended);
+        appended = refl;
+      };
+      named = same ∙ has.named;
+    })
+
+dumped_by : (status : Status) (text : List ℕ) (name : Option (List ℕ)) (before : List ℕ) (was : Option (List ℕ))
+    (held left : List ℕ) (begun : Option (List ℕ)) → (status ≡ Done → HasDump text name held begun)
+    → (status ≡ DumpFault → HasPartBelow text name before was held left begun)
+    → IsDumpedBelow status text name before was held left begun
+dumped_by Done text name before was held left begun done fault = done refl
+dumped_by DumpFault text name before was held left begun done fault = fault refl
+dumped_by (Rejected broken) text name before was held left begun done fault = tt
+dumped_by BadWords text name before was held left begun done fault = tt
+dumped_by (BadBench first) text name before was held left begun done fault = tt
+dumped_by (BadDump first) text name before was held left begun done fault = tt
+dumped_by ReadFault text name before was held left begun done fault = tt
+dumped_by WriteFault text name before was held left begun done fault = tt
+dumped_by OutOfMemory text name before was held left begun done fault = tt
+dumped_by TooLong text name before was held left begun done fault = tt
+dumped_by (Foul foul) text name before was held left begun done fault = tt
+dumped_by NotFound text name before was held left begun done fault = tt
+
+-- a sink that was not called has what it had
+part_stays : (text : List ℕ) (name : Option (List ℕ)) (before start mid_held gathered held left : List ℕ)
+    (was mid_begun begun : Option (List ℕ)) → start ≡ [] → held ≡ mid_held → left ≡ gathered → begun ≡ mid_begun
+    → HasDumpPart text name (before ++ start) was (mid_held ++ gathered) mid_begun
+    → HasDumpPart text name (before ++ []) was (held ++ left) begun
+part_stays text name before start mid_held gathered held left was mid_begun begun none same_held same_left same has =
+    let at_start =
+    subst (λ (xs : List ℕ). HasDumpPart text name (before ++ xs) was (mid_held ++ gathered) mid_begun) none has in
+    let held_now =
+    subst (λ (xs : List ℕ). HasDumpPart text name (before ++ []) was (xs ++ gathered) mid_begun) (sym same_held)
+    at_start in
+    let left_now =
+    subst (λ (xs : List ℕ). HasDumpPart text name (before ++ []) was (held ++ xs) mid_begun) (sym same_left) held_now in
+    subst (λ (b : Option (List ℕ)). HasDumpPart text name (before ++ []) was (held ++ left) b) (sym same) left_now
+
+-- what is left of the dump below, by how the call ended and whether the end was handed on
+pub dumped_below : (called status : Status) (text : List ℕ) (name : Option (List ℕ))
+    (before start mid_held gathered held left : List ℕ) (was mid_begun begun : Option (List ℕ))
+    → Ends called status → start ≡ [] → (status ≡ DumpFault → name ≡ None → ⊥)
+    → (status ≡ Done → held ≡ mid_held ++ gathered) → HandsOn gathered left mid_held held → begun ≡ mid_begun
+    → ((called ≡ Done → ⊥) → (held ≡ mid_held) × (left ≡ gathered))
+    → IsDumped called text name (before ++ start) was (mid_held ++ gathered) mid_begun
+    → IsDumpedBelow status text name before was held left begun
+dumped_below called status text name before start mid_held gathered held left was mid_begun begun ends none named whole
+    hands same stays has =
+    let Has = λ (s : Status). IsDumped s text name (before ++ start) was (mid_held ++ gathered) mid_begun in
+    let of_call : ((s : Status) → called ≡ s → Has s) = (λ s is. subst Has is has) in
+    dumped_by status text name before was held left begun
+    (λ done. handed_on text name (mid_held ++ gathered) held mid_begun begun (whole done) same
+    (of_call Done (was_done called status ends done)))
+    (λ fault. ⊎_elim
+    (λ is.
+    let failed = sym is ∙ fault in
+    let as_left = stays (not_both called failed) in
+    part_below text name before held left was begun (named fault)
+    (part_stays text name before start mid_held gathered held left was mid_begun begun none as_left.0 as_left.1 same
+    (of_call DumpFault failed)))
+    (λ lost. part_handed text name before mid_held gathered held left was mid_begun begun (named fault) hands same
+    (of_call Done lost.0)) ends)
+
+-- every status other than that of the dump's fault is the call's
+pub called_is : (called status it : Status) → (called ≢ Done → status ≡ called)
+    → (called ≡ Done → status ≢ Done → status ≡ DumpFault) → status ≡ it → (it ≡ DumpFault → ⊥) → called ≡ it
+called_is called status it others fault is not = was called status it (ends_of called status others fault) is not
 
 pub run_of_on : (told told' : List (Option Told)) (plan : PlanView) (Leaves Leaves' : Run → Type 0)
     → HasRunOf told plan Leaves → told ≡ told' → ((r : Run) → Leaves r → Leaves' r) → HasRunOf told' plan Leaves'
