@@ -1,12 +1,13 @@
 -- What the words of sources and sinks say of short texts and small counts, worked out by hand.
-use Rattle.std.proofs.Common.{◌≡◌, ℕ, ◌+◌, ◌-◌, ◌^◌, ◌++◌, List, [], ◌∷◌, length, codes, Some, None, refl, sym, ap, ◌∙◌}
+use Rattle.std.proofs.Common.{◌≡◌, ℕ, ◌+◌, ◌-◌, ◌^◌, ◌++◌, List, [], ◌∷◌, length, codes, true, false, Some, None, refl, sym, ap, ◌∙◌}
 use Rattle.std.proofs.Common.{arith}
 use Rattle.std.proofs.lemmas.List.{length-append}
 use Rattle.std.specs.Fmt.{digits}
 use Rattle.fsb_io.specs.Appends.{AppendsPart}
 use Rattle.fsb_io.specs.Begun.{IsBegun, IsEmptied}
-use Rattle.fsb_io.specs.Faults.{Rose}
+use Rattle.fsb_io.specs.Faults.{Rose, faults_after}
 use Rattle.fsb_io.specs.NumberText.{hexadecimal}
+use Rattle.fsb_io.specs.DumpPlaces.{IsSame, is_descriptor_name}
 use Rattle.fsb_io.specs.Takes.{TakesAtMost}
 
 -- a first part of a text was appended
@@ -65,3 +66,24 @@ hexadecimal_of_zero = refl
 pub hexadecimal_of_26 : hexadecimal 26 ≡ codes "1a"
 unfolding digits
 hexadecimal_of_26 = refl
+
+-- a call that failed is one fault more, and one that did not is none
+pub one_fault_more : faults_after true 3 ≡ 4
+one_fault_more = refl
+
+pub no_fault_more : faults_after false 3 ≡ 3
+no_fault_more = refl
+
+-- where the system tells neither file, they are not one
+pub untold_differ : IsSame None None → ⊥
+untold_differ h = h
+
+-- names of descriptors, and names that are like them
+pub is_descriptor : is_descriptor_name (codes "/dev/fd/3") ≡ true
+is_descriptor = refl
+
+pub stderr_is_descriptor : is_descriptor_name (codes "/dev/stderr") ≡ true
+stderr_is_descriptor = refl
+
+pub file_is_none : is_descriptor_name (codes "/dev/stderr2") ≡ false
+file_is_none = refl

@@ -1,8 +1,11 @@
 pub mod Appends
 pub mod Begun
+pub mod DumpPlaces
 pub mod Faults
+pub mod FileTransfers
 pub mod NumberText
 pub mod SinkView
 pub mod SourceView
+pub mod StopText
 pub mod Takes
 pub mod Tally

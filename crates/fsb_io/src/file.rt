@@ -1,6 +1,10 @@
 //! Real files and standard output. They tell no content and no name: what a system call does is not
-//! known to a proof. This is the trusted edge.
-ghost use Rattle.std.specs.Prelude.{◌≡◌, ◌≤◌, ◌<◌, ℕ, [], None, false, length, IfOk};
+//! known to a proof. This is the trusted edge. One read and one write are proved for any reader and writer.
+ghost use Rattle.std.specs.Prelude.{◌≡◌, ◌≤◌, ◌<◌, ℕ, [], None, false, length, IfOk, IsErr};
+ghost use Rattle.std.specs.Io.KnownBytes.{ReadConsumes, WriteAppends};
+ghost use Rattle.std.specs.Result.{is_err};
+ghost use Rattle.fsb_io.specs.Faults.{HasCause, faults_after};
+ghost use Rattle.fsb_io.specs.FileTransfers.{ReadsFrom, WritesTo};
 
 use crate::place::{Destination, place_of};
 use crate::{Failed, Sink, Source};
@@ -59,7 +63,11 @@ impl<R: Files> Source for FileSource<'_, R> {
 
     ghost faults = { λ faults. faults };
 
-    fn begin(&mut self, name: &str) -> Result<(), Failed> {
+    fn begin(&mut self, name: &str) -> Result<(), Failed>
+        requires { length name.now ≤ 4096 }
+        ensures counted { self.new ≡ faults_after (is_err result) self.old }
+        ensures cause { HasCause self.old self.new result }
+    {
         match open_tried(self.files, name) {
             Ok(file) => {
                 self.file = Some(file);
@@ -72,11 +80,12 @@ impl<R: Files> Source for FileSource<'_, R> {
         }
     }
 
-    fn read(&mut self, buf: &mut [u8]) -> Result<usize, Failed> {
-        let answer = match &mut self.file {
-            Some(file) => read_tried(file, buf),
-            None => Err(Failed),
-        };
+    fn read(&mut self, buf: &mut [u8]) -> Result<usize, Failed>
+        ensures counted { self.new ≡ faults_after (is_err result) self.old }
+        ensures within { IfOk result (λ n. n ≤ length buf.new) }
+        ensures cause { HasCause self.old self.new result }
+    {
+        let answer = read_begun(&mut self.file, buf);
         if answer.is_err() {
             self.faults = self.faults.saturating_add(1);
         }
@@ -136,7 +145,11 @@ impl<R: Files + Print> Sink for FileSink<'_, R> {
 
     ghost faults = { λ faults. faults };
 
-    fn begin(&mut self, name: &str) -> Result<(), Failed> {
+    fn begin(&mut self, name: &str) -> Result<(), Failed>
+        requires { length name.now ≤ 4096 }
+        ensures counted { self.new ≡ faults_after (is_err result) self.old }
+        ensures cause { HasCause self.old self.new result }
+    {
         match place_of(self.rt, OUTPUT, self.spared, name) {
             Ok(place) => {
                 self.place = place;
@@ -149,12 +162,13 @@ impl<R: Files + Print> Sink for FileSink<'_, R> {
         }
     }
 
-    fn write(&mut self, piece: &[u8]) -> Result<usize, Failed> {
-        let answer = match &mut self.place {
-            Destination::Nowhere => Err(Failed),
-            Destination::Output => write_tried(&mut io::writer(self.rt), piece),
-            Destination::File(file) => write_tried(file, piece),
-        };
+    fn write(&mut self, piece: &[u8]) -> Result<usize, Failed>
+        ensures counted { self.new ≡ faults_after (is_err result) self.old }
+        ensures within { IfOk result (λ n. n ≤ length piece.now) }
+        ensures some { 0 < length piece.now → IfOk result (λ n. 0 < n) }
+        ensures cause { HasCause self.old self.new result }
+    {
+        let answer = write_begun(&mut io::writer(self.rt), &mut self.place, piece);
         if answer.is_err() {
             self.faults = self.faults.saturating_add(1);
         }
@@ -203,12 +217,22 @@ impl<P: Print> Sink for StdoutSink<'_, P> {
 
     ghost faults = { λ faults. faults };
 
-    fn begin(&mut self, _name: &str) -> Result<(), Failed> {
+    fn begin(&mut self, _name: &str) -> Result<(), Failed>
+        requires { length _name.now ≤ 4096 }
+        ensures failed { IsErr result }
+        ensures counted { self.new ≡ faults_after (is_err result) self.old }
+        ensures cause { HasCause self.old self.new result }
+    {
         self.faults = self.faults.saturating_add(1);
         Err(Failed)
     }
 
-    fn write(&mut self, piece: &[u8]) -> Result<usize, Failed> {
+    fn write(&mut self, piece: &[u8]) -> Result<usize, Failed>
+        ensures counted { self.new ≡ faults_after (is_err result) self.old }
+        ensures within { IfOk result (λ n. n ≤ length piece.now) }
+        ensures some { 0 < length piece.now → IfOk result (λ n. 0 < n) }
+        ensures cause { HasCause self.old self.new result }
+    {
         let answer = write_tried(&mut io::writer(self.to), piece);
         if answer.is_err() {
             self.faults = self.faults.saturating_add(1);
@@ -232,9 +256,39 @@ fn open_tried<R: Files>(files: &R, name: &str) -> Result<R::File, Failed> {
     Err(Failed)
 }
 
+/// One read of the file that was begun. Where none was, it fails.
+fn read_begun<F: Read>(file: &mut Option<F>, buf: &mut [u8]) -> Result<usize, Failed>
+    ensures within { IfOk result (λ n. n ≤ length buf.new) }
+    ensures reads { ReadsFrom F.remaining file.old file.new result buf.new }
+{
+    match file {
+        Some(file) => read_tried(file, buf),
+        None => Err(Failed),
+    }
+}
+
+/// One write to where the dump goes. Where it was not begun, it fails.
+fn write_begun<O: Write, F: Write + Drop>(
+    output: &mut O,
+    place: &mut Destination<F>,
+    piece: &[u8],
+) -> Result<usize, Failed>
+    ensures within { IfOk result (λ n. n ≤ length piece.now) }
+    ensures some { 0 < length piece.now → IfOk result (λ n. 0 < n) }
+    ensures writes { WritesTo O.contents F.contents output.old output.new place.old place.new result
+        piece.now }
+{
+    match place {
+        Destination::Nowhere => Err(Failed),
+        Destination::Output => write_tried(output, piece),
+        Destination::File(file) => write_tried(file, piece),
+    }
+}
+
 /// One read. An interrupted call is tried again.
 fn read_tried<F: Read>(file: &mut F, buf: &mut [u8]) -> Result<usize, Failed>
-    ensures { IfOk result (λ n. n ≤ length buf.new) }
+    ensures within { IfOk result (λ n. n ≤ length buf.new) }
+    ensures bytes { ReadConsumes (F.remaining file.old) (F.remaining file.new) result buf.new }
 {
     for _ in 0..=TRIES {
         match file.read(buf) {
@@ -254,6 +308,7 @@ fn read_tried<F: Read>(file: &mut F, buf: &mut [u8]) -> Result<usize, Failed>
 fn write_tried<F: Write>(file: &mut F, piece: &[u8]) -> Result<usize, Failed>
     ensures within { IfOk result (λ n. n ≤ length piece.now) }
     ensures some { 0 < length piece.now → IfOk result (λ n. 0 < n) }
+    ensures bytes { WriteAppends (F.contents file.old) (F.contents file.new) result piece.now }
 {
     if piece.is_empty() {
         return Ok(0);

@@ -21,6 +21,11 @@ pub enum ReadStop {
 }
 
 impl fmt::Display for ReadStop {
+    ghost use Rattle.std.specs.Prelude.{Some};
+    ghost use Rattle.fsb_io.specs.StopText.{stop_text};
+
+    ghost output = { λ stop. Some (stop_text stop) };
+
     fn fmt<W: fmt::Write>(&self, f: &mut fmt::Formatter<W>) -> fmt::Result {
         f.write_str(match self {
             ReadStop::ReadFault => "a source failed",
