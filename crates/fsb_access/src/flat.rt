@@ -1,4 +1,4 @@
-ghost use Rattle.std.specs.Prelude.{◌≡◌, ◌+◌, ◌%◌, ◌^◌, ◌<◌, ◌≤◌, IsTrue, IfOk, OnOk, OnErr, length, take};
+ghost use Rattle.std.specs.Prelude.{◌≡◌, ℕ, ◌+◌, ◌%◌, ◌^◌, ◌<◌, ◌≤◌, IsTrue, IfOk, OnOk, OnErr, IsOk, length, take};
 ghost use Rattle.fsb_access.specs.Access.{is_place, IsLawfulAccess};
 ghost use Rattle.fsb_access.specs.ByteMemory.{value_of_bytes, put_bytes, set_memory};
 ghost use Rattle.fsb_access.specs.FlatView.{chunk_bytes, memory_of_chunks, state_of};
@@ -44,7 +44,7 @@ impl Flat {
         Ok(flat)
     }
 
-    /// Serves one access: the value that is loaded or stored. After `Memory` nothing changed.
+    /// Serves one access: the value that is loaded or stored. After `Memory` nothing changed. A load takes no memory.
     pub fn serve(&mut self, agent: u8, access: &Access) -> Result<u64, Memory>
         requires symmetric { agent < 4 }
         requires lawful { IsLawfulAccess access.now }
@@ -53,6 +53,7 @@ impl Flat {
         ensures moves { OnOk result (
             state_of self.new ≡ served_state (state_of self.old) agent access.now) }
         ensures stays { OnErr result (self.new ≡ self.old) }
+        ensures loads { (size addr : ℕ) → access.now ≡ Access.Load size addr → IsOk result }
     {
         match access {
             Access::Load { size, addr } => Ok(self.load(agent, *size, *addr)),

@@ -1,4 +1,4 @@
-ghost use Rattle.std.specs.Prelude.{◌≡◌, [], ◌∷◌, ◌++◌, IfOk, OnOk, OnErr};
+ghost use Rattle.std.specs.Prelude.{◌≡◌, List, [], ◌∷◌, ◌++◌, IfOk, OnOk, OnErr};
 
 use crate::access::Access;
 use fsb_io::Memory;
@@ -67,9 +67,11 @@ pub enum Item {
 }
 
 impl Item {
-    /// An equal item.
+    /// An equal item. Only a locked one takes memory.
     pub fn copy(&self, alloc: Global) -> Result<Self, Memory>
-        ensures { IfOk result (λ item. item ≡ self.now) }
+        ensures same { IfOk result (λ item. item ≡ self.now) }
+        ensures memory { OnErr result (
+            (accesses : List Access) × (self.now ≡ Item.Locked accesses)) }
     {
         match self {
             Item::One(access) => Ok(Item::One(*access)),

@@ -1,16 +1,16 @@
 -- Settings in runs: a run more, and bytes more of the last one.
-use Rattle.std.proofs.Common.{◌≡◌, ℕ, zero, suc, ◌+◌, ◌<◌, ◌≤◌, ◌^◌, true, List, [], ◌∷◌, ◌++◌, length}
+use Rattle.std.proofs.Common.{◌≡◌, ℕ, zero, suc, ◌+◌, ◌<◌, ◌≤◌, ◌^◌, true, false, List, [], ◌∷◌, ◌++◌, length}
 use Rattle.std.proofs.Common.{take, drop, set, get_or}
-use Rattle.std.proofs.Common.{refl, ap, ◌∙◌, sym, arith, append_assoc, length-append, length-drop, add-zero}
+use Rattle.std.proofs.Common.{refl, ap, ◌∙◌, sym, arith, append_assoc, length-append, length-take, length-drop, add-zero}
 use Rattle.std.proofs.lemmas.List.{append-nil, take-append-le, drop-append-le, take_all}
 use Rattle.std.proofs.lemmas.List.Folds.{list_all-append}
-use Rattle.std.proofs.lemmas.Bool.{lt-ltb, le-leb, ltb-true, leb-true, and_from, and_parts}
-use Rattle.std.specs.Prelude.{nat_lt, nat_le}
+use Rattle.std.proofs.lemmas.Bool.{lt-ltb, le-leb, ltb-true, leb-true, ne_eqb, and_from, and_parts}
+use Rattle.std.specs.Prelude.{nat_lt, nat_le, not, ◌&&◌, ◌==◌}
 use Rattle.std.specs.List.{list_all}
 use Rattle.fsb_access.specs.declared.access.Setting.{Setting}
 use Rattle.fsb_script.specs.Bounds.{is_lawful_setting}
 use Rattle.fsb_script.specs.Statements.{settings_at}
-use Rattle.fsb_script.specs.Runs.{settings_of, is_run, byte_count, runs_with, OneRunMore}
+use Rattle.fsb_script.specs.Runs.{settings_of, is_run, are_longest, byte_count, runs_with, OneRunMore}
 use Rattle.fsb_script.specs.Text.{setting_text, settings_text}
 use Rattle.fsb_script.specs.declared.plan.Run.{Run}
 
@@ -49,6 +49,10 @@ settings_of-append (run ∷ front) back =
 
 -- ---- one run more
 
+-- the run with which a list is looked up past its end
+abbrev pub no_run : Run
+no_run = record { addr = 0; len = 0 }
+
 byte_count-push : (runs : List Run) (run : Run) → byte_count (runs ++ run ∷ []) ≡ byte_count runs + run.len
 byte_count-push [] run = omega arith
 byte_count-push (r ∷ runs) run = omega (arith, byte_count-push runs run)
@@ -64,8 +68,30 @@ runs_with-push (r ∷ runs) run bytes more all long =
     rw (take-append-le r.len bytes more inside, drop-append-le r.len bytes more inside)
     (ap (λ s. (r.addr, take r.len bytes) ∷ s) (runs_with-push runs run (drop r.len bytes) more left long))
 
-pub one_run_more-push : (runs : List Run) (run : Run) → OneRunMore runs (runs ++ run ∷ []) run.addr run.len
-one_run_more-push runs run = record {
+-- the last run, where there is one, does not end at the address
+abbrev pub EndsElsewhere : List Run → ℕ → Type 0
+EndsElsewhere runs addr = (k : ℕ) → length runs ≡ suc k
+    → (get_or runs k no_run).addr + (get_or runs k no_run).len ≡ addr → ⊥
+
+longest-push : (runs : List Run) (run : Run) (bytes more : List ℕ) → byte_count runs ≡ length bytes
+    → EndsElsewhere runs run.addr → are_longest (runs_with runs bytes) ≡ true
+    → are_longest (runs_with runs bytes ++ (run.addr, more) ∷ []) ≡ true
+longest-push [] run bytes more all ends held = refl
+longest-push (r ∷ []) run bytes more all ends held =
+    let size : length (take r.len bytes) ≡ r.len = omega (arith, length-take r.len bytes) in
+    let apart : (run.addr == r.addr + length (take r.len bytes)) ≡ false =
+    ne_eqb run.addr (r.addr + length (take r.len bytes))
+    (λ e. ends 0 refl (omega (arith, e, size))) in
+    rw apart refl
+longest-push (r ∷ s ∷ runs) run bytes more all ends held =
+    let left : byte_count (s ∷ runs) ≡ length (drop r.len bytes) = omega (arith, length-drop r.len bytes) in
+    let parts = and_parts _ _ held in
+    and_from _ _ parts.0
+    (longest-push (s ∷ runs) run (drop r.len bytes) more left (λ k some. ends (suc k) (ap suc some)) parts.1)
+
+pub one_run_more-push : (runs : List Run) (run : Run) → EndsElsewhere runs run.addr
+    → OneRunMore runs (runs ++ run ∷ []) run.addr run.len
+one_run_more-push runs run ends = record {
   count = byte_count-push runs run;
   settings = λ bytes more all long.
       ap settings_of (runs_with-push runs run bytes more all long)
@@ -75,13 +101,11 @@ one_run_more-push runs run = record {
       ap (list_all is_run) (runs_with-push runs run bytes more all long)
       ∙ list_all-append is_run (runs_with runs bytes) ((run.addr, more) ∷ [])
       ∙ and_from _ _ held (and_from _ _ new refl);
+  longest = λ bytes more all long held.
+      ap are_longest (runs_with-push runs run bytes more all long) ∙ longest-push runs run bytes more all ends held;
 }
 
 -- ---- the last run longer
-
--- the run with which a list is looked up past its end
-abbrev pub no_run : Run
-no_run = record { addr = 0; len = 0 }
 
 -- a run is no longer than all of them
 pub len-within : (runs : List Run) (k : ℕ) → (get_or runs k no_run).len ≤ byte_count runs
@@ -131,6 +155,14 @@ longer (r ∷ runs) (suc k) new bytes more some all is =
       after = rw (take-append-le r.len bytes more inside, drop-append-le r.len bytes more inside)
           (ap (λ s. (r.addr, take r.len bytes) ∷ s) next.after);
     }
+
+-- the last run may have any bytes
+longest-last : (front : List (ℕ × List ℕ)) (addr : ℕ) (bytes other : List ℕ)
+    → are_longest (front ++ (addr, bytes) ∷ []) ≡ are_longest (front ++ (addr, other) ∷ [])
+longest-last [] addr bytes other = refl
+longest-last (run ∷ []) addr bytes other = refl
+longest-last (run ∷ next ∷ front) addr bytes other =
+    ap (λ t. not (next.0 == run.0 + length run.1) && t) (longest-last (next ∷ front) addr bytes other)
 
 -- the settings of runs whose last one is this
 settings_of-last : (front : List (ℕ × List ℕ)) (addr : ℕ) (bytes : List ℕ)
@@ -185,6 +217,12 @@ one_run_more-longer runs k last new addr len some is goes_on same grown =
           ∙ list_all-append is_run parts.front ((new.addr, parts.tail ++ more) ∷ [])
           ∙ and_from _ _ both.0
           (and_from _ _ (longer-run new.addr addr parts.tail more here last_run more_run) refl);
+      longest = λ bytes more all long held.
+          let parts = longer runs k new bytes more some all (omega (arith, long)) in
+          let place : (get_or runs k no_run).addr ≡ new.addr = sym at ∙ sym same in
+          ap are_longest parts.after ∙ longest-last parts.front new.addr (parts.tail ++ more) parts.tail
+          ∙ ap (λ a. are_longest (parts.front ++ (a, parts.tail) ∷ [])) (sym place)
+          ∙ sym (ap are_longest parts.before) ∙ held;
     }
 
 -- ---- the text of settings

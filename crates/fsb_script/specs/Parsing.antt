@@ -1,5 +1,5 @@
 -- Reading from left to right, where the first cause is the answer.
-use Rattle.std.specs.Prelude.{◌≡◌, ℕ, Result, Ok, Err, Bool, if◌then◌else◌}
+use Rattle.std.specs.Prelude.{◌≡◌, ℕ, Result, Ok, Err, Bool, if◌then◌else◌, IsTrue, is_ok}
 use Rattle.fsb_script.specs.declared.fault.Cause.{Cause}
 use Rattle.fsb_script.specs.declared.fault.LineStop.{LineStop}
 use Rattle.fsb_script.specs.declared.fault.LineStop.TheVariants as stops
@@ -22,12 +22,12 @@ abbrev pub ReadsAs : {X Y E : Type 0} → (X → Y) → Result X E → Result Y 
 ReadsAs view (Ok x) read = read ≡ Ok (view x)
 ReadsAs view (Err e) read = read ≡ Err e
 
--- the same, for a line whose reading may lack memory
+-- the same, for a line whose reading may lack memory, which comes only where the line can be taken
 abbrev pub LineFails : {Y : Type 0} → LineStop → Result Y Cause → Type 0
-LineFails stops.Memory read = Unit {0}
+LineFails stops.Memory read = IsTrue (is_ok read)
 LineFails (stops.Bad cause) read = read ≡ Err cause
 
--- what a line's reading answered, seen by view, is what is defined; want of memory may come at any time
+-- what a line's reading answered, seen by view, is what is defined; memory may be wanting at any line that can be taken
 abbrev pub LineGives : {X Y : Type 0} → (X → Y) → Result X LineStop → Result Y Cause → Type 0
 LineGives view (Ok x) read = read ≡ Ok (view x)
 LineGives view (Err e) read = LineFails e read

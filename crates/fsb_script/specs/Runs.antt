@@ -1,5 +1,5 @@
 -- Memory settings as runs: bytes at addresses that follow one another.
-use Rattle.std.specs.Prelude.{◌≡◌, IsTrue, ℕ, ◌+◌, ◌^◌, List, [], ◌∷◌, ◌++◌, length, take, drop, Bool, ◌&&◌, nat_lt, nat_le}
+use Rattle.std.specs.Prelude.{◌≡◌, IsTrue, ℕ, ◌+◌, ◌^◌, List, [], ◌∷◌, ◌++◌, length, take, drop, Bool, true, false, not, ◌&&◌, ◌==◌, nat_lt, nat_le}
 use Rattle.std.specs.List.{list_all}
 use Rattle.fsb_access.specs.declared.access.Setting.{Setting}
 use Rattle.fsb_script.specs.declared.plan.Run.{Run}
@@ -13,6 +13,16 @@ settings_of (run ∷ runs) = settings_at run.0 run.1 ++ settings_of runs
 -- a run has a byte, and the address of each of its bytes is below 2^64
 abbrev pub is_run : ℕ × List ℕ → Bool
 is_run run = nat_lt 0 (length run.1) && nat_le (run.0 + length run.1) (2 ^ 64)
+
+-- whether the first run begins at this address, so that what ends there goes on
+abbrev pub goes_on_at : ℕ → List (ℕ × List ℕ) → Bool
+goes_on_at addr [] = false
+goes_on_at addr (run ∷ runs) = run.0 == addr
+
+-- each run is as long as can be: the next one does not begin where it ends
+abbrev pub are_longest : List (ℕ × List ℕ) → Bool
+are_longest [] = true
+are_longest (run ∷ runs) = not (goes_on_at (run.0 + length run.1) runs) && are_longest runs
 
 -- how many bytes the runs have
 abbrev pub byte_count : List Run → ℕ
@@ -32,3 +42,5 @@ pub record OneRunMore (old new : List Run) (addr len : ℕ) : Type 0 where
   pub each : (bytes more : List ℕ) → byte_count old ≡ length bytes → length more ≡ len
       → IsTrue (list_all is_run (runs_with old bytes)) → IsTrue (is_run (addr, more))
       → IsTrue (list_all is_run (runs_with new (bytes ++ more)))
+  pub longest : (bytes more : List ℕ) → byte_count old ≡ length bytes → length more ≡ len
+      → IsTrue (are_longest (runs_with old bytes)) → IsTrue (are_longest (runs_with new (bytes ++ more)))

@@ -1,4 +1,4 @@
-ghost use Rattle.std.specs.Prelude.{◌≡◌, ◌<◌, ◌≤◌, ◌+◌, ◌^◌, ◌++◌, length, nat_lt, IsTrue, IfOk, OnOk};
+ghost use Rattle.std.specs.Prelude.{◌≡◌, ◌<◌, ◌≤◌, ◌+◌, ◌^◌, ◌++◌, length, nat_lt, IsTrue, IfOk, OnOk, IsOk};
 ghost use Rattle.std.specs.List.{list_all};
 ghost use Rattle.fsb_access.specs.Access.{is_lawful_access};
 ghost use Rattle.fsb_script.specs.Bounds.{is_cache, is_profile, is_lawful_item, is_lawful_script, is_lawful_bridge, is_lawful_setting, is_lawful_hazard, are_lawful_hazards};
@@ -540,11 +540,12 @@ impl PlanDraft {
         }
     }
 
-    /// Takes the next line.
+    /// Takes the next line. One that is read past takes no memory.
     #[tactic(auto, unfolding(crate::specs::Drafts::after_line))]
     pub(crate) fn take(&mut self, alloc: Global, line: &[u8]) -> Result<(), LineStop>
-        ensures { LineGives (λ _. progress self.new) result
+        ensures gives { LineGives (λ _. progress self.new) result
             (after_line (progress self.old) line.now) }
+        ensures past { IsTrue (is_past self.old.place line.now) → IsOk result }
     {
         if self.is_past(line) {
             return Ok(());

@@ -1,4 +1,4 @@
-ghost use Rattle.std.specs.Prelude.{◌≡◌, ◌<◌, ◌≤◌, ◌++◌, IfOk, OnOk, IsTrue};
+ghost use Rattle.std.specs.Prelude.{◌≡◌, ◌<◌, ◌≤◌, ◌++◌, IfOk, OnOk, OnErr, IsTrue};
 ghost use Rattle.fsb_access.specs.Access.{is_size};
 ghost use Rattle.fsb_hazard.specs.Seed.{next_state, drawn_below};
 ghost use Rattle.fsb_script.specs.Made.{state_behind, drawn_size, drawn_addr, drawn_load, drawn_store, count_up, drawn_item, state_behind_item, state_behind_items, drawn_items, drawn_scripts, seed_lines, made_plan};
@@ -78,10 +78,12 @@ impl Draws {
         Access::Store { size, addr, value }
     }
 
+    /// An item. Only a locked one takes memory.
     #[tactic(auto, unfolding(crate::specs::Made::drawn_item, crate::specs::Made::item_of_kind, crate::specs::Made::numbers_of_kind, crate::specs::Made::state_behind_item))]
     fn item(&mut self, alloc: Global) -> Result<Item, Memory>
         ensures value { IfOk result (λ item. item ≡ drawn_item self.old.state) }
         ensures state { OnOk result (self.new.state ≡ state_behind_item self.old.state) }
+        ensures memory { OnErr result (drawn_item self.old.state ≡ Item.Locked count_up) }
     {
         let kind = self.below(16);
         if kind < 7 {

@@ -2,7 +2,7 @@ ghost use Rattle.std.specs.Prelude.{◌≡◌, ◌<◌, ◌≤◌, ◌+◌, ◌^
 ghost use Rattle.std.specs.List.{list_all};
 ghost use Rattle.std.specs.Vec.{vec_len, vec_capacity};
 ghost use Rattle.fsb_script.specs.Bounds.{is_cache, is_profile, is_lawful_script, is_lawful_bridge, is_lawful_setting, are_lawful_hazards};
-ghost use Rattle.fsb_script.specs.Runs.{settings_of, is_run, byte_count, OneRunMore};
+ghost use Rattle.fsb_script.specs.Runs.{settings_of, is_run, are_longest, byte_count, OneRunMore};
 ghost use Rattle.fsb_script.specs.Statements.{settings_at};
 
 use fsb_access::{Script, Setting};
@@ -72,14 +72,15 @@ impl Model for Settings {
     ghost use Rattle.std.specs.Prelude.{◌≡◌, List, length, IsTrue};
     ghost use Rattle.std.specs.List.{list_all};
     ghost use Rattle.fsb_access.specs.declared.access.Setting.{Setting};
-    ghost use Rattle.fsb_script.specs.Runs.{settings_of, is_run, byte_count, runs_with};
+    ghost use Rattle.fsb_script.specs.Runs.{settings_of, is_run, are_longest, byte_count, runs_with};
 
     ghost Value = { List Setting };
 
     ghost view = { λ s. settings_of (runs_with s.runs.items s.bytes.items) };
 
     ghost invariant = { λ s. (byte_count s.runs.items ≡ length s.bytes.items)
-        × IsTrue (list_all is_run (runs_with s.runs.items s.bytes.items)) };
+        × IsTrue (list_all is_run (runs_with s.runs.items s.bytes.items))
+        × IsTrue (are_longest (runs_with s.runs.items s.bytes.items)) };
 }
 
 impl Settings {
@@ -129,10 +130,12 @@ impl Settings {
         Ok(())
     }
 
-    /// The settings run by run, in their order: the address of a run's first byte, and its bytes. It takes no memory.
+    /// The settings run by run, in their order: the address of a run's first byte, and its bytes. No run begins where
+    /// the one before it ends. It takes no memory.
     pub fn runs(&self) -> Runs<'_>
         ensures settings { settings_of result ≡ self.now }
         ensures each { IsTrue (list_all is_run result) }
+        ensures longest { IsTrue (are_longest result) }
     {
         Runs {
             runs: self.runs.as_slice(),
@@ -157,7 +160,8 @@ fn add_run(runs: &mut Vec<Run>, addr: u64, len: usize)
 
 /// Whether the address follows those of the run.
 fn goes_on(run: &Run, addr: u64) -> bool
-    ensures { IsTrue result → run.now.addr + run.now.len ≡ addr }
+    ensures follows { IsTrue result → run.now.addr + run.now.len ≡ addr }
+    ensures always { run.now.addr + run.now.len ≡ addr → IsTrue result }
 {
     run.addr <= addr && addr - run.addr == run.len as u64
 }

@@ -14,7 +14,7 @@ pub returns-in-Err : goal.returns-in-Err
 returns-in-Err c =
     let some : 0 < length c.loop-rest.rest.now = not_empty _ c.is_empty.result c.is_empty.ensures
     c.loop-rest-test.true in
-    let fails = rw c.split_line.ensures.line at c.in-Err.ensures in
+    let fails = rw c.split_line.ensures.line at c.in-Err.ensures.gives in
     let stops : Fails (stop_at c.loop-rest.number c.in-Err.stop)
     (plan_from c.loop-rest.number (progress c.loop-rest.draft) (text_lines c.loop-rest.rest.now)) =
     plan_stops c.loop-rest.number (progress c.loop-rest.draft) c.loop-rest.rest.now c.in-Err.stop some fails in
@@ -24,7 +24,7 @@ pub loop-rest-preserved : goal.loop-rest-preserved
 loop-rest-preserved c =
     let some : 0 < length c.loop-rest.rest.now = not_empty _ c.is_empty.result c.is_empty.ensures
     c.loop-rest-test.true in
-    let taken = rw c.split_line.ensures.line at c.in-Ok.ensures in
+    let taken = rw c.split_line.ensures.line at c.in-Ok.ensures.gives in
     let more = plan_more c.loop-rest.number (progress c.loop-rest.draft)
     (progress c.take.new.self) c.loop-rest.rest.now some taken in
     record {
