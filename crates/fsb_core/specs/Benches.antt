@@ -1,5 +1,5 @@
 -- A bench as its contracts see it: its view, and the hazard objects that stand on it.
-use Rattle.std.specs.Prelude.{ℕ, nat_lt, if◌then◌else◌, List, length, Option, None, slice_get}
+use Rattle.std.specs.Prelude.{ℕ, nat_lt, vec_capacity, if◌then◌else◌, List, length, Option, None, slice_get}
 use Rattle.std.specs.Option.{option_map}
 use Rattle.std.specs.declared.alloc.Global.{Global}
 use Rattle.std.specs.declared.dyn_box.DynBox.{DynBox}
@@ -20,6 +20,10 @@ mapped_lines bench = bench.bare.bus.memory
 -- the hazard objects that stand on a bench, in order
 abbrev pub objects_of : {X : Type 0} {F : X → Type 0} → Bench X F → List (DynBox X Global F)
 objects_of bench = bench.hazards.items
+
+-- how many hazard objects can stand on a bench before it needs more memory for them
+abbrev pub object_room : {X : Type 0} {F : X → Type 0} → Bench X F → ℕ
+object_room bench = vec_capacity bench.hazards
 
 -- the cache of the agent of this number; there is none where the plan has no such agent
 abbrev pub cache_of : BenchView → ℕ → Option CacheSets

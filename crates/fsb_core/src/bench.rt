@@ -1,4 +1,4 @@
-ghost use Rattle.std.specs.Prelude.{◌≡◌, ◌<◌, ◌++◌, [], ◌∷◌, Bool, None, IfOk, IfSome, IfErr, OnOk, OnErr, length, map, nat_le, is_none, slice_get};
+ghost use Rattle.std.specs.Prelude.{◌≡◌, ◌<◌, ◌≤◌, ◌++◌, [], ◌∷◌, Bool, None, IfOk, IfSome, IfErr, OnOk, OnErr, OnSome, length, map, nat_le, is_none, slice_get};
 ghost use Rattle.std.specs.List.{remove};
 ghost use Rattle.std.specs.Option.{option_map};
 ghost use Rattle.fsb_hazard.specs.Told.{told_after};
@@ -43,7 +43,7 @@ pub struct Bench {
 }
 
 impl Bench {
-    ghost use Rattle.fsb_core.specs.Benches.{cache_of, mapped_lines, objects_of, bench_view};
+    ghost use Rattle.fsb_core.specs.Benches.{cache_of, mapped_lines, object_room, objects_of, bench_view};
 
     /// A bench for the plan, before its first clock. Each object is given the plan's hazard lines,
     /// in order. All the memory that the plan's clocks need is taken here. Where there is none, the
@@ -74,6 +74,7 @@ impl Bench {
             ≡ map (λ h. told h) (objects_of self.old) }
         ensures kinds_stay { map (λ h. is_scripted h) (objects_of self.new)
             ≡ map (λ h. is_scripted h) (objects_of self.old) }
+        ensures room_stays { object_room self.new ≡ object_room self.old }
     {
         self.bare.advance(&mut self.hazards);
     }
@@ -170,11 +171,14 @@ impl Bench {
     }
 
     /// Adds an object as the last one, which is asked from the next step on, and is given no lines.
-    /// After a refusal nothing changed, and the object is given back.
+    /// It is refused only where no room is left. After a refusal nothing changed, and the object is
+    /// given back.
     pub fn plug(&mut self, hazard: Box<dyn Hazard>) -> Result<(), (Memory, Box<dyn Hazard>)>
         ensures plugged { OnOk result (objects_of self.new ≡ objects_of self.old ++ hazard ∷ []) }
         ensures refused { OnErr result (objects_of self.new ≡ objects_of self.old) }
         ensures given_back { IfErr result (λ refused. refused.1 ≡ hazard) }
+        ensures full { OnErr result (object_room self.old ≤ length (objects_of self.old)) }
+        ensures room { object_room self.old ≤ object_room self.new }
         ensures view { bench_view self.new ≡ bench_view self.old }
     {
         match self.hazards.push(hazard) {
@@ -184,10 +188,12 @@ impl Bench {
     }
 
     /// Takes out the object at this place, and those behind it close up; none where there are no
-    /// more than `i`.
+    /// more than `i`. The room stays, so where one was taken out the next one is not refused.
     pub fn unplug(&mut self, i: usize) -> Option<Box<dyn Hazard>>
         ensures object { result ≡ slice_get (objects_of self.old) i }
         ensures objects { objects_of self.new ≡ remove (objects_of self.old) i }
+        ensures room { object_room self.new ≡ object_room self.old }
+        ensures spare { OnSome result (length (objects_of self.new) < object_room self.new) }
         ensures view { bench_view self.new ≡ bench_view self.old }
     {
         if i < self.hazards.len() {

@@ -3,9 +3,10 @@ use Rattle.std.proofs.Common.{◌≡◌, ℕ, suc, ◌+◌, ◌<◌, Bool, List,
 use Rattle.std.proofs.Common.{Option, sym, ap, ◌∙◌, arith, add-one, append_assoc, refl}
 use Rattle.std.proofs.Math.ListN.{get_or-map}
 use Rattle.std.proofs.Math.Seq.{take-suc, drop-cons, set-append_seam, get_or-append_seam}
-use Rattle.std.proofs.lemmas.List.{length-map, length-take-le, map-append, map-set}
+use Rattle.std.proofs.lemmas.List.{length-map, length-take-le, map-append, map-set, take-map, drop-map}
 use Rattle.fsb_hazard.specs.declared.line.HazardLine.{HazardLine}
 use Rattle.fsb_hazard.specs.Told.{Told, told_after}
+use Rattle.fsb_hazard.specs.Asking.{IsLoadedInPart}
 
 -- of a list of values, the one at its middle is changed
 pub set-middle : {A : Type 0} (all front back : List A) (value other : A) (i : ℕ)
@@ -44,3 +45,14 @@ loaded_at {B = B} told scripted lines now old i d new within kinds front loads =
     map-set told now i new
     ∙ set-middle (map told now) _ _ (told here) (told new) i all long
     ∙ rw (add-one, take-suc old i d within, map-append, loaded) refl
+
+-- the object at a place did not load the lines, and those before it did
+pub loaded_before : {B : Type 0} (told after : B → Option Told) (now old : List B) (i : ℕ) (new : B)
+    → i < length old → map told now ≡ map after (take i old) ++ map told (drop i old)
+    → map told (set now i new) ≡ map told now
+    → IsLoadedInPart (map told old) (map after old) (map told (set now i new))
+loaded_before told after now old i new within front same = record {
+  place = i;
+  within = rw length-map within;
+  parts = same ∙ front ∙ rw (take-map, drop-map) refl;
+}

@@ -1,5 +1,5 @@
--- What several hazard objects answer to a question.
-use Rattle.std.specs.Prelude.{◌≡◌, ⊤, List, [], ◌∷◌, Option}
+-- What several hazard objects answer to a question, and what they tell where one of them did not load its lines.
+use Rattle.std.specs.Prelude.{◌≡◌, ◌<◌, ⊤, ℕ, List, [], ◌∷◌, ◌++◌, length, take, drop, Option}
 use Rattle.std.specs.List.{fold}
 use Rattle.fsb_hazard.specs.declared.choice.Choice.{Choice}
 use Rattle.fsb_hazard.specs.declared.choice.Ask.{Ask}
@@ -18,3 +18,10 @@ pub record IsJoined (objects : List (Option Told)) (ask : Ask) (choice : Choice)
   pub answers : List Choice
   pub answered : AreAnswers objects ask answers
   pub joined : choice ≡ fold join quiet_choice answers
+
+-- what objects tell where one of them did not load its lines: those before it what they tell after loading, and it and
+-- those behind it what they told before
+pub record IsLoadedInPart (before after told : List (Option Told)) : Type 0 where
+  pub place : ℕ
+  pub within : place < length before
+  pub parts : told ≡ take place after ++ drop place before

@@ -1,6 +1,6 @@
 //! Several hazard objects at once.
 ghost use Rattle.std.specs.Prelude.{◌≡◌, map, OnOk, OnErr};
-ghost use Rattle.fsb_hazard.specs.Asking.{IsJoined};
+ghost use Rattle.fsb_hazard.specs.Asking.{IsJoined, IsLoadedInPart};
 ghost use Rattle.fsb_hazard.specs.Told.{IsAnswer, told_after};
 
 use crate::choice::{Ask, Choice, join, quiet_choice};
@@ -23,10 +23,14 @@ pub fn ask_all<H: Hazard>(hazards: &mut [H], ask: &Ask) -> Choice
     choice
 }
 
-/// Gives each object the hazard lines, in order.
+/// Gives each object the hazard lines, in order. Where one refuses them, those before it tell them, and it and those
+/// behind it what they told before.
 pub fn load_all<H: Hazard>(hazards: &mut [H], lines: &[HazardLine]) -> Result<(), Memory>
     ensures loaded { OnOk result (map H.told hazards.new
         ≡ map (λ h. told_after (H.is_scripted h) lines.now (H.told h)) hazards.old) }
+    ensures in_part { OnErr result (IsLoadedInPart (map H.told hazards.old)
+        (map (λ h. told_after (H.is_scripted h) lines.now (H.told h)) hazards.old)
+        (map H.told hazards.new)) }
     ensures kinds_stay { map H.is_scripted hazards.new
         ≡ map H.is_scripted hazards.old }
 {

@@ -237,6 +237,11 @@ unfolding coming_by
 has_data_line k n x c true e g = (e, (let a = rw e at g in a))
 has_data_line k n x c false e g = absurd (let a : None ≡ Some c = rw e at g in let no : ⊥ = cc in no)
 
+-- none comes with a sample without DRDY#
+pub none_by : (k : Checker) (n : ℕ) (x : Sample) → has_line x DRDY ≡ false → coming_by k n x ≡ None
+unfolding coming_by
+none_by k n x off = rw off refl
+
 told_by_cases : {marks : Marks} {k : Checker} {h : Trace} (x : Sample) (o : Option Coming) → Stands k marks h
     → verdict marks (h ++ x ∷ []) ≡ None → coming_by k (length h) x ≡ o → Tells (h ++ x ∷ []) (length h) o
 told_by_cases {marks} {k} {h} x None s e g =

@@ -1,9 +1,11 @@
 //! The checker: every rule, clock by clock.
 
-ghost use Rattle.std.specs.Prelude.{◌≡◌, ℕ, ◌^◌, ◌<◌, true, false, [], ◌∷◌, ◌++◌, length, None, IfSome};
+ghost use Rattle.std.specs.Prelude.{◌≡◌, ℕ, ◌^◌, ◌<◌, true, false, [], ◌∷◌, ◌++◌, length, None, IfSome, is_some};
 ghost use Rattle.fsb_count.specs.Options.{is_some_and};
 ghost use Rattle.fsb_signal.specs.declared.marks.Marks.{Marks};
 ghost use Rattle.fsb_signal.specs.declared.sample.Sample.{Sample};
+ghost use Rattle.fsb_signal.specs.declared.lines.TheConstants.Lines.{DRDY};
+ghost use Rattle.fsb_signal.specs.Samples.{has_line};
 ghost use Rattle.fsb_encode.specs.declared.request.Request.{Request};
 ghost use Rattle.fsb_trace.specs.At.{Trace};
 ghost use Rattle.fsb_trace.specs.Winner.{is_agent, is_same_agent, request_line_of};
@@ -174,7 +176,8 @@ impl Checker {
         self.found
     }
 
-    /// The chunk of data that comes with the next sample, where that breaks no rule.
+    /// The chunk of data that comes with the next sample, where that breaks no rule. Once a broken rule was found none
+    /// comes. What is told of a sample with DRDY# that is the first to break a rule is left open.
     pub fn coming(&self, sample: &Sample) -> Option<Coming>
         requires { (m : Marks) × (h : Trace) × Stands self.now m h × (length h < 2 ^ 32) }
         ensures some { (m : Marks) (h : Trace) → Stands self.now m h →
@@ -183,6 +186,9 @@ impl Checker {
         ensures none { (m : Marks) (h : Trace) → Stands self.now m h →
             verdict m (h ++ sample.now ∷ []) ≡ None → result ≡ None →
             (i n : ℕ) → data_clock_of (h ++ sample.now ∷ []) i n ≡ Some (length h) → ⊥ }
+        ensures broken { (m : Marks) (h : Trace) → Stands self.now m h →
+            is_some (verdict m h) ≡ true → result ≡ None }
+        ensures quiet { has_line sample.now DRDY ≡ false → result ≡ None }
     {
         if self.found.is_none() {
             self.coming_at(self.clock as u32, sample)

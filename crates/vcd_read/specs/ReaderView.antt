@@ -1,5 +1,5 @@
 -- What the reader's own state stands for.
-use Rattle.std.specs.Prelude.{ℕ, List}
+use Rattle.std.specs.Prelude.{ℕ, Bool, true, false, List}
 use Rattle.vcd_grammar.specs.Judging.{Known, Draft as DraftView, Mode as ModeView, Header as in_header, Variable as in_variable, Skipped as in_skipped, Closing as in_closing, Values as in_values, Pending as in_pending, Beside as in_beside, Passed as in_passed}
 use Rattle.vcd_read.specs.declared.mode.Draft.{Draft}
 use Rattle.vcd_read.specs.declared.mode.Mode.{Mode}
@@ -28,6 +28,17 @@ mode_of modes.Values code digits = in_values
 mode_of (modes.Pending place) code digits = in_pending place digits
 mode_of modes.Beside code digits = in_beside
 mode_of modes.Passed code digits = in_passed
+
+-- the next token stands in the declaration of a variable
+abbrev pub is_declaring : Mode → Bool
+is_declaring modes.Header = false
+is_declaring (modes.Variable d) = true
+is_declaring modes.Skipped = false
+is_declaring (modes.Closing place) = false
+is_declaring modes.Values = false
+is_declaring (modes.Pending place) = false
+is_declaring modes.Beside = false
+is_declaring modes.Passed = false
 
 -- what is known behind the tokens so far
 abbrev pub known_of : Machine → Known

@@ -1,7 +1,7 @@
 //! What is taken at once: changes of a line whose code is one byte, if all digits of a vector are 0
 //! or 1, and time stamps of few digits.
 
-ghost use Rattle.std.specs.Prelude.{◌≡◌, ◌<◌, ◌≤◌, ◌+◌, ◌^◌, ◌++◌, ℕ, [], ◌∷◌, take, length, List, true, false, Some, IfSome, OnOk, OnErr};
+ghost use Rattle.std.specs.Prelude.{◌≡◌, ◌<◌, ◌≤◌, ◌+◌, ◌^◌, ◌++◌, ℕ, [], ◌∷◌, take, length, List, true, false, Some, IfSome, OnOk, OnErr, vec_len, vec_capacity};
 ghost use Rattle.std.specs.List.{list_all};
 ghost use Rattle.vcd_grammar.specs.Tokens.{is_white};
 ghost use Rattle.vcd_grammar.specs.Digits.{is_value_digit};
@@ -150,6 +150,7 @@ impl Scan {
             ≡ pushed limit self.old.machine.decided to.old.items
             (samples_in_bytes (reading self.old) (word.now ++ w ∷ []))) }
         ensures silent { OnErr result (to.new.items ≡ to.old.items) }
+        ensures full { OnErr result (vec_capacity to.old ≤ vec_len to.old) }
     {
         let place = self.at;
         self.at = place + word.len() as u64 + 1;

@@ -1,4 +1,4 @@
-ghost use Rattle.std.specs.Prelude.{◌≡◌, ℕ, true, None, [], ◌∷◌, ◌==◌, ◌&&◌, not, slice_get, ◌<◌, ◌+◌, ◌^◌, List, take, length, vec_len, vec_capacity, ◌≤◌, Some, IfOk, OnOk, OnErr, if◌then◌else◌};
+ghost use Rattle.std.specs.Prelude.{◌≡◌, ℕ, true, None, [], ◌∷◌, ◌==◌, ◌&&◌, not, slice_get, ◌<◌, ◌+◌, ◌^◌, List, take, length, vec_len, vec_capacity, ◌≤◌, Some, IfOk, OnOk, OnErr, if◌then◌else◌, false, is_some, IsOk};
 ghost use Rattle.fsb_signal.specs.Table.{TableEntry, table};
 ghost use Rattle.fsb_signal.specs.DumpText.{width_of};
 ghost use Rattle.vcd_grammar.specs.Digits.{time_in, extended};
@@ -6,7 +6,7 @@ ghost use Rattle.vcd_grammar.specs.Levels.{level_of};
 ghost use Rattle.vcd_grammar.specs.Words.{header_word, value_word, stamp_word, scalar_word, vector_word, is_end};
 ghost use Rattle.vcd_grammar.specs.Judging.{turn, turn_in, stays, goes_to, fails, later, unless_long, drafted, declared, other_declared, line_declared, named, closed, is_declared, missing_from, header_turn, value_turn, scalar_turn, stamped, Variable as in_variable, Pending as in_pending, Beside as in_beside, marks_of_lines, known_marks};
 ghost use Rattle.vcd_grammar.specs.Reading.{or_cut};
-ghost use Rattle.vcd_read.specs.ReaderView.{known_of, lines_view, draft_of};
+ghost use Rattle.vcd_read.specs.ReaderView.{known_of, lines_view, draft_of, is_declaring};
 ghost use Rattle.vcd_read.specs.Lines.{rises};
 ghost use Rattle.vcd_read.specs.Taking.{taken, untaken, turned, decided_of, pushed, line_changed};
 ghost use Rattle.vcd_read.specs.Scanning.{open_samples, open_rises};
@@ -515,7 +515,8 @@ impl Machine {
         }
     }
 
-    /// A token at a place. A sample that it decides is appended while there are fewer than the limit.
+    /// A token at a place. A sample that it decides is appended while there are fewer than the limit. Behind a fault
+    /// nothing is kept, and memory is wanting for a sample or in a declaration alone.
     #[tactic(auto, unfolding(vcd_grammar::specs::Judging::turn))]
     pub(crate) fn take(
         &mut self,
@@ -533,6 +534,9 @@ impl Machine {
             (decided_of (taken self.old)
             (turn (known_of self.old) (record { place = place; word = word.now })))) }
         ensures silent { OnErr result (to.new.items ≡ to.old.items) }
+        ensures behind { is_some self.old.fault ≡ true → IsOk result }
+        ensures full { is_declaring self.old.mode ≡ false →
+            OnErr result (vec_capacity to.old ≤ vec_len to.old) }
     {
         if self.fault.is_some() {
             return Ok(());

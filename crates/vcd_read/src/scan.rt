@@ -1,6 +1,7 @@
-ghost use Rattle.std.specs.Prelude.{◌≡◌, ℕ, ◌<◌, ◌≤◌, ◌+◌, ◌^◌, ◌++◌, [], ◌∷◌, take, length, true, slice_index, IfOk, OnOk, OnErr};
+ghost use Rattle.std.specs.Prelude.{◌≡◌, ℕ, ◌<◌, ◌≤◌, ◌+◌, ◌^◌, ◌++◌, [], ◌∷◌, take, length, true, false, is_some, slice_index, vec_len, vec_capacity, IsOk, IfOk, OnOk, OnErr};
 ghost use Rattle.std.specs.List.{list_all};
 ghost use Rattle.vcd_grammar.specs.Tokens.{is_white, ended_at};
+ghost use Rattle.vcd_read.specs.ReaderView.{is_declaring};
 ghost use Rattle.vcd_read.specs.Taking.{taken, take_tokens, samples_in_tokens, pushed};
 ghost use Rattle.vcd_read.specs.Scanning.{reading, unread, after_bytes, samples_in_bytes, is_dark, ended_taken, ended_samples, end_fault, open_samples, open_rises, Fits, Part};
 
@@ -165,6 +166,9 @@ impl Scan {
             ≡ pushed limit self.old.machine.decided to.old.items
             (samples_in_bytes (reading self.old) (bytes.now ++ w ∷ []))) }
         ensures silent { OnErr result (to.new.items ≡ to.old.items) }
+        ensures behind { is_some self.old.machine.fault ≡ true → IsOk result }
+        ensures full { is_declaring self.old.machine.mode ≡ false →
+            OnErr result (vec_capacity to.old ≤ vec_len to.old) }
     {
         let place = self.at;
         self.at = place + bytes.len() as u64 + 1;
@@ -185,6 +189,9 @@ impl Scan {
             ≡ pushed limit self.old.machine.decided to.old.items
             (samples_in_bytes (reading self.old) (w ∷ []))) }
         ensures silent { OnErr result (to.new.items ≡ to.old.items) }
+        ensures behind { is_some self.old.machine.fault ≡ true → IsOk result }
+        ensures full { is_declaring self.old.machine.mode ≡ false →
+            OnErr result (vec_capacity to.old ≤ vec_len to.old) }
     {
         self.last(limit, to)?;
         self.run.clear();
@@ -204,6 +211,9 @@ impl Scan {
             (samples_in_tokens (taken self.old.machine)
             (ended_at self.old.at self.old.run.items))) }
         ensures silent { OnErr result (to.new.items ≡ to.old.items) }
+        ensures behind { is_some self.old.machine.fault ≡ true → IsOk result }
+        ensures full { is_declaring self.old.machine.mode ≡ false →
+            OnErr result (vec_capacity to.old ≤ vec_len to.old) }
     {
         if self.run_len() == 0 {
             return Ok(());
