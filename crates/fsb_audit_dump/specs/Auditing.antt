@@ -1,5 +1,5 @@
 -- What the auditor of a dump stands for.
-use Rattle.std.specs.Prelude.{◌≡◌, false, Some}
+use Rattle.std.specs.Prelude.{◌≡◌, true, false, Some}
 use Rattle.fsb_signal.specs.declared.marks.Marks.{Marks}
 use Rattle.fsb_trace.specs.At.{Trace}
 use Rattle.fsb_audit.specs.declared.audit.Audit.{Audit}
@@ -15,3 +15,9 @@ pub record HasAudited (auditor : Auditor) (marks : Marks) (w : Trace) : Type 0 w
   pub stands : Stands audit marks w
   pub room : is_full audit ≡ false
   pub found : auditor.found ≡ audited_as (finding_of marks w) w
+
+-- memory was lacking in the audit
+pub record IsFull (auditor : Auditor) : Type 0 where
+  pub audit : Audit
+  pub held : auditor.audit ≡ Some audit
+  pub full : is_full audit ≡ true

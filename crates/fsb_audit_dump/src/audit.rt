@@ -1,5 +1,5 @@
 //! The auditing of a dump.
-ghost use Rattle.std.specs.Prelude.{◌≡◌, ◌≤◌, Err, IsTrue, Some, length};
+ghost use Rattle.std.specs.Prelude.{◌≡◌, ◌≤◌, ◌<◌, ◌^◌, [], ◌∷◌, ◌++◌, Err, IsOk, IsTrue, OnErr, OnOk, Some, length};
 ghost use Rattle.fsb_io.specs.Faults.{Rose};
 ghost use Rattle.fsb_watch.specs.Watched.{IsReadAs, HasBegun, IsBegunOrStays};
 ghost use Rattle.fsb_audit_dump.specs.Audited.{IsAudited};
@@ -39,20 +39,31 @@ impl Auditor {
 }
 
 impl Watcher for Auditor {
-    ghost use Rattle.fsb_audit_dump.specs.Auditing.{HasAudited};
+    ghost use Rattle.fsb_signal.specs.declared.marks.Marks.{Marks};
+    ghost use Rattle.fsb_trace.specs.At.{Trace};
+    ghost use Rattle.fsb_audit_dump.specs.Auditing.{HasAudited, IsFull};
 
     ghost is_ready = { λ _. Unit {0} };
 
     ghost has_seen = { λ _ now marks h. HasAudited now marks h };
 
-    fn begin(&mut self, marks: Marks) -> Result<(), Memory> {
+    fn begin(&mut self, marks: Marks) -> Result<(), Memory>
+        ensures begun { OnOk result (HasAudited self.new marks []) }
+        ensures always { IsOk result }
+    {
         let audit = Audit::new(self.alloc, marks)?;
         self.audit = Some(audit);
         self.found = Ok(0);
         Ok(())
     }
 
-    fn see(&mut self, sample: &Sample) -> Result<(), Memory> {
+    fn see(&mut self, sample: &Sample) -> Result<(), Memory>
+        requires { (marks : Marks) × (h : Trace) × HasAudited self.old marks h
+            × (length h < 2 ^ 32) }
+        ensures seen { OnOk result ((marks : Marks) (h : Trace) → HasAudited self.old marks h →
+            HasAudited self.new marks (h ++ sample.now ∷ [])) }
+        ensures memory { OnErr result (IsFull self.new) }
+    {
         let Some(audit) = &mut self.audit else {
             unreachable!();
         };

@@ -1,6 +1,6 @@
 -- What the program hands to a call of `bench`, how the call may end, and what is left of it once the end of the dump is
 -- handed on.
-use Rattle.std.specs.Prelude.{◌≡◌, ◌≢◌, ◌⊎◌, ◌++◌, ℕ, List, [], ◌∷◌, Option, Some, None, Result, Ok, Err}
+use Rattle.std.specs.Prelude.{◌≡◌, ◌≢◌, ◌⊎◌, ◌++◌, ℕ, List, [], ◌∷◌, Option, Some, None, Result, Ok, Err, codes}
 use Rattle.fsb_command.specs.Form.{Form, run, check, audit, show, find, wave, gen}
 use Rattle.fsb_hazard.specs.Told.{Told, by_lines}
 use Rattle.fsb_io.specs.declared.refusal.Memory.{Memory}
@@ -59,3 +59,8 @@ MayEnd (Some (gen seed agents items)) status = IsOfGen status
 abbrev pub status_after : Result Status Memory → Status
 status_after (Ok status) = status
 status_after (Err memory) = OutOfMemory
+
+-- a line with its line feed; where there is no line, nothing
+abbrev pub printed_line : List ℕ → List ℕ
+printed_line [] = []
+printed_line (byte ∷ line) = (byte ∷ line) ++ codes "\n"

@@ -1,14 +1,16 @@
 //! The program `p6bench`: the real files and standard output under the top call.
 #![tactic(auto)]
 
-ghost use Rattle.std.specs.Prelude.{◌≡◌, ◌≢◌, ◌≤◌, ◌⊎◌, ◌++◌, ℕ, List, [], Option, Some, None, Ok, Err, IfOk, IsTrue, drop, map};
+ghost use Rattle.std.specs.Prelude.{◌≡◌, ◌≢◌, ◌≤◌, ◌⊎◌, ◌++◌, ℕ, List, [], Option, Some, None, Ok, Err, IfErr, IfOk, IsTrue, OnOk, codes, drop, map};
+ghost use Rattle.std.specs.IoError.{error_kind};
 ghost use Rattle.std.specs.Option.{option_map};
 ghost use Rattle.std.specs.Process.{exit_status};
 ghost use Rattle.std.specs.String.{string_bytes};
 ghost use Rattle.fsb_command.specs.Form.{Form, form_of, run, check, audit, show, find, wave, gen, looks_only};
 ghost use Rattle.fsb_gather.specs.HandsOn.{HandsOn};
 ghost use Rattle.fsb_hazard.specs.Told.{told_after};
-ghost use Rattle.fsb_io.specs.Faults.{Rose};
+ghost use Rattle.fsb_io.specs.Appends.{AppendsPart};
+ghost use Rattle.fsb_io.specs.Faults.{HasCause, Rose};
 ghost use Rattle.fsb_play.specs.Printed.{run_dump, run_log, run_summary};
 ghost use Rattle.fsb_script.specs.Made.{made_plan};
 ghost use Rattle.fsb_script.specs.Plans.{PlanView};
@@ -18,22 +20,22 @@ ghost use Rattle.fsb_signal.specs.declared.marks.Marks.{Marks};
 ghost use Rattle.fsb_signal.specs.declared.sample.Sample.{Sample};
 ghost use Rattle.fsb_top.specs.BenchEnds.{HasRun, IsSilent, IsOfRun, IsOfGen, IsOfCheck, IsOfAudit, IsOfFind, IsOfWave, IsLogged, IsTold, IsWritten, HasRunOf, HasRunFrom, IsPlanOf, HasVerdict, HasFinding, HasTable, HasLooked, TellsMatch, TellsNothing, IsBadBench, IsBadDump, IsBadTable, IsTooLong, FromRun, FromLook, finding_text, match_text};
 ghost use Rattle.fsb_top.specs.Complete.{IsComplete, IsReadable};
-ghost use Rattle.fsb_top.specs.StatusText.{code_of};
+ghost use Rattle.fsb_top.specs.StatusText.{code_of, status_text};
 ghost use Rattle.fsb_top.specs.Stopped.{HasBegunNoOther, HasReadSome, HasReadTooLong};
 ghost use Rattle.fsb_trigger.specs.TriggerSteps.{StepView};
 ghost use Rattle.fsb_wave.specs.WaveText.{wave_text};
 ghost use Rattle.vcd_grammar.specs.declared.fault.VcdFault.{VcdFault};
 ghost use Rattle.vcd_grammar.specs.Reading.{Reads};
-ghost use Rattle.p6bench.specs.Program.{IsDumpedBelow, MayEnd, status_after, told_of, weights};
+ghost use Rattle.p6bench.specs.Program.{IsDumpedBelow, MayEnd, printed_line, status_after, told_of, weights};
 
 use fsb_gather::Gather;
 use fsb_hazard::{Hazard, ScriptHazard};
-use fsb_io::{Failed, FileSink, FileSource, Memory, Sink, Source, StdoutSink};
+use fsb_io::{Failed, FileSink, FileSource, Memory, Sink, Source, StdoutSink, put_all};
 use fsb_probe::{DataProbe, LineProbe, Probe};
 use fsb_top::{Status, Words, bench, code, status_line};
 use std::alloc::Global;
 use std::env::Args;
-use std::io::{self, ErrorKind, Write};
+use std::io::{self, ErrorKind};
 use std::process::ExitCode;
 use std::rt::{Env, Files};
 
@@ -47,7 +49,9 @@ const DRDY: u8 = 17;
 
 fn main(rt: HostRuntime) -> ExitCode {
     let status = run(&rt);
-    end(&rt, &status)
+    // It has no name, as standard output has none, and is written in the same way.
+    let stderr = rt.stderr();
+    end(&mut StdoutSink::new(&stderr), &status)
 }
 
 // Does what the program's words ask for.
@@ -282,8 +286,24 @@ fn words_of(rt: &(impl Env + AllocGlobal)) -> Result<Words, Status>
     ensures { (status : Status) → result ≡ Err status →
         (status ≡ Status.BadWords) ⊎ (status ≡ Status.OutOfMemory) }
 {
-    match std::env::args(rt) {
-        Ok(args) => words_after_name(rt.alloc(), args),
+    words_in(rt.alloc(), std::env::args(rt))
+}
+
+// The words in what the system told of the program's call: those after its name.
+fn words_in(alloc: Global, args: io::Result<Args>) -> Result<Words, Status>
+    ensures words { IfOk args (λ args. IfOk result (λ words.
+        words ≡ drop 1 (map (λ word. string_bytes word) args.rest.items))) }
+    ensures full { OnOk args ((status : Status) → result ≡ Err status →
+        status ≡ Status.OutOfMemory) }
+    ensures memory { IfErr args (λ error. error_kind error ≡ ErrorKind.OutOfMemory →
+        result ≡ Err Status.OutOfMemory) }
+    ensures no_text { IfErr args (λ error. error_kind error ≢ ErrorKind.OutOfMemory →
+        result ≡ Err Status.BadWords) }
+    ensures one { (status : Status) → result ≡ Err status →
+        (status ≡ Status.BadWords) ⊎ (status ≡ Status.OutOfMemory) }
+{
+    match args {
+        Ok(args) => words_after_name(alloc, args),
         Err(error) => Err(no_words(error.kind())),
     }
 }
@@ -319,21 +339,34 @@ fn words_after_name(alloc: Global, mut args: Args) -> Result<Words, Status>
     Ok(words)
 }
 
-// The end of the program: the status's line goes to standard error, where there is one, and its number is the exit
-// status.
-fn end(rt: &HostRuntime, status: &Status) -> ExitCode
-    ensures { exit_status result ≡ code_of status.now }
+// The end of the program: the status's line is written to standard error, where it has one, and its number is the exit
+// status, whether the line could be written or not.
+fn end<E: Sink>(stderr: &mut E, status: &Status) -> ExitCode
+    ensures exits { exit_status result ≡ code_of status.now }
+    ensures silent { status_text status.now ≡ [] → stderr.new ≡ stderr.old }
+    ensures told { IsTrue E.tells → ¬ Rose (E.faults stderr.old) (E.faults stderr.new) →
+        E.holds stderr.new ≡ E.holds stderr.old ++ printed_line (status_text status.now) }
+    ensures part { IsTrue E.tells →
+        AppendsPart (printed_line (status_text status.now)) (E.holds stderr.old)
+        (E.holds stderr.new) }
+    ensures name_stays { IsTrue E.tells → E.begun_as stderr.new ≡ E.begun_as stderr.old }
 {
     let line = status_line(status);
     if !line.is_empty() {
-        let _ = report(rt, line.as_slice());
+        let _ = report(stderr, line.as_slice());
     }
     ExitCode::from(code(status))
 }
 
-// Prints a line to standard error.
-fn report(rt: &HostRuntime, line: &[u8]) -> io::Result<()> {
-    let mut stderr = rt.stderr();
-    stderr.write_all(line)?;
-    stderr.write_all(b"\n")
+// Writes a line and its line feed.
+fn report<E: Sink>(stderr: &mut E, line: &[u8]) -> Result<(), Failed>
+    ensures whole { IsTrue E.tells →
+        OnOk result (E.holds stderr.new ≡ E.holds stderr.old ++ (line.now ++ codes "\n")) }
+    ensures part { IsTrue E.tells →
+        AppendsPart (line.now ++ codes "\n") (E.holds stderr.old) (E.holds stderr.new) }
+    ensures name_stays { IsTrue E.tells → E.begun_as stderr.new ≡ E.begun_as stderr.old }
+    ensures cause { HasCause (E.faults stderr.old) (E.faults stderr.new) result }
+{
+    put_all(stderr, line)?;
+    put_all(stderr, b"\n")
 }

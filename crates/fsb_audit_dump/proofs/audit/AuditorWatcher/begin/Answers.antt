@@ -5,9 +5,9 @@ use Rattle.fsb_audit.proofs.Interface.{nothing_yet}
 use Rattle.fsb_audit_dump.specs.Audited.{audited_as}
 use Rattle.fsb_audit_dump.proofs.audit.AuditorWatcher.begin.Goals as goal
 
-pub returns : goal.returns
+pub returns-clause-begun : goal.returns-clause-begun
 unfolding audited_as moved_count count_where
-returns c = record {
+returns-clause-begun c = record {
   audit = c.in_ok-audit.audit;
   held = refl;
   stands = c.in_ok-audit.ensures.stands;

@@ -8,9 +8,9 @@ use Rattle.fsb_audit_dump.proofs.audit.AuditorWatcher.see.Goals.{in-Some-2, in-N
 same_audit : (a b : Audit) → Some a ≡ Some b → a ≡ b
 same_audit a b e = cc
 
-pub returns : goal.returns
+pub returns-clause-seen : goal.returns-clause-seen
 unfolding audited_as
-returns c begun marks h seen =
+returns-clause-seen c marks h seen =
     let same : seen.audit ≡ c.in-Some.audit = same_audit seen.audit c.in-Some.audit (sym seen.held ∙ c.in-Some.is) in
     let stood : Stands c.in-Some.audit marks h = subst (λ (a : Audit). Stands a marks h) same seen.stands in
     let stands = c.in_ok-finding.ensures.stands marks h stood in
