@@ -106,3 +106,53 @@ hold_is_asked a = absurd (let f : false ≡ true = told_hold 1 false (a.held 1 f
 -- BNR# is asserted though nobody asks for it
 pub hold_is_not_asked : ¬ Asked (teller ∷ []) [] (true ∷ [])
 hold_is_not_asked a = absurd (let f : true ≡ false = told_hold 0 true (a.held 0 true refl) in cc)
+
+-- the answer for the second request stands as that for the first
+pub other_number_is_not_asked : ¬ Asked (teller ∷ []) (quiet_choice ∷ []) []
+other_number_is_not_asked a =
+    absurd (let f : 0 ≡ 2 = ap (λ (choice : Choice). choice.stall)
+    (told_stalls quiet_choice (a.chosen 0 quiet_choice refl)) in omega arith)
+
+-- for the second request the object chooses nothing
+told_quiet : (choice : Choice) → IsChosen (teller ∷ []) 1 choice → choice ≡ quiet_choice
+told_quiet choice h = told_choice 1 choice h
+
+-- the second request is stalled as the first one
+pub second_request_is_asked : ¬ Asked (teller ∷ []) (stalls 2 ∷ stalls 2 ∷ []) []
+second_request_is_asked a =
+    absurd (let f : 2 ≡ 0 = ap (λ (choice : Choice). choice.stall)
+    (told_quiet (stalls 2) (a.chosen 1 (stalls 2) refl)) in omega arith)
+
+-- an object that tells no line
+abbrev pub quiet : Option Told
+quiet = told_lines []
+
+-- two objects that tell lines have two answers, their entries
+two_answers : (ask : Ask) (answers : List Choice) → AreAnswers (quiet ∷ teller ∷ []) ask answers
+    → answers ≡ entry [] ask ∷ entry lines ask ∷ []
+two_answers ask [] h = absurd h
+two_answers ask (first ∷ []) h = absurd h.1
+two_answers ask (first ∷ second ∷ []) h =
+    ap (λ a. a ∷ second ∷ []) h.0 ∙ ap (λ b. entry [] ask ∷ b ∷ []) h.1.0
+two_answers ask (first ∷ second ∷ other ∷ answers) h = absurd h.1.1
+
+-- what the second object chooses counts
+told_by_the_second : (choice : Choice) → IsChosen (quiet ∷ teller ∷ []) 0 choice → choice ≡ stalls 2
+told_by_the_second choice h =
+    let clear : Choice → Choice = λ together. record together { bnr = false } in
+    h.chosen ∙ ap clear (h.joined.joined
+    ∙ ap (fold join quiet_choice) (two_answers (Begun 0 h.request) h.joined.answers h.joined.answered))
+
+-- the stalls of the second object are left out
+pub second_object_is_asked : ¬ Asked (quiet ∷ teller ∷ []) (quiet_choice ∷ []) []
+second_object_is_asked a =
+    absurd (let f : 0 ≡ 2 = ap (λ (choice : Choice). choice.stall)
+    (told_by_the_second quiet_choice (a.chosen 0 quiet_choice refl)) in omega arith)
+
+-- the hold that the second object asks for is left out
+pub second_hold_is_asked : ¬ Asked (quiet ∷ teller ∷ []) [] (false ∷ false ∷ [])
+second_hold_is_asked a =
+    let h = a.held 1 false refl in
+    absurd (let f : false ≡ true = h.asks
+    ∙ ap (λ answers. list_any (λ (answer : Choice). answer.bnr) answers) (two_answers (Clock 1) h.answers h.answered)
+    in cc)

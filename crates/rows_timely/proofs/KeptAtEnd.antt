@@ -1,6 +1,6 @@
 -- What caches and memory hold at the end of ten runs of one line: the state at each agent, the line's bytes, and
 -- memory's.
-use Rattle.std.proofs.Common.{◌≡◌, ◌<◌, ℕ, zero, suc, true, false, refl, sym, ap, ◌∙◌, subst, List, [], ◌∷◌, length}
+use Rattle.std.proofs.Common.{◌≡◌, ◌<◌, ℕ, zero, suc, false, refl, sym, ap, ◌∙◌, subst, List, ◌∷◌, length}
 use Rattle.std.proofs.Common.{replicate, IsTrue, arith}
 use Rattle.std.proofs.lemmas.Bool.Decides.{nat_tests}
 use Rattle.fsb_line.specs.declared.state.Mesi.{Mesi}

@@ -59,6 +59,8 @@ mod ChangedResults
 mod ChangedResponses
 mod ChangedStarts
 mod ChangedAsking
+mod ChangedMore
+mod ChangedLogs
 mod UpgradeOfASharedLine
 mod UpgradeLostAndHanded
 mod UpgradeLostAndMadeAgain
