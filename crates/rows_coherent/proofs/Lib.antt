@@ -2,3 +2,5 @@ pub mod Dated
 mod HandedOverBeforeArrival
 mod DeferredWithReply
 mod LostUpgradeHanded
+mod CoherentMore
+mod WorkedLoads

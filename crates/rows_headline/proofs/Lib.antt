@@ -1,0 +1,4 @@
+mod HeadlineSpelled
+mod StatusesSpelled
+mod LooksSpelled
+mod RefusedSpelled
