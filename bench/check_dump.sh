@@ -27,5 +27,5 @@ assert status in (0, 1), f"`check` ends with status {status}"
 best = min(timed(large)[0] for _ in range(5)) - min(timed(small)[0] for _ in range(5))
 bytes_read = os.path.getsize(large)
 assert said == f"accepted clocks={clock}", said
-row(f"judging a dump of {bytes_read / 1e6:.0f} MB ({clock / 1e6:.1f} million clocks)", f"{bytes_read / best / 1e6:.0f} MB/s", memory, "100 MB/s or more, 8 MiB")
+row(f"judging a dump of {bytes_read / 1e6:.0f} MB ({clock / 1e6:.1f} million clocks)", f"{bytes_read / best / 1e6:.0f} MB/s", memory, "450 MB/s or more, 2 MiB")
 PY

@@ -1,27 +1,30 @@
 #!/usr/bin/env python3
-"""Runs the gate crate by crate, and writes what each crate takes into the table of docs/DECISIONS.md.
+"""Runs the gate once, and tells what it takes of each crate.
 
-Usage: bench/gate_times.py [TIMES [NAME..]]     runs `rt ci NAME` for each crate, lowest first, or for the crates that are named
-       bench/gate_times.py --table TIMES        writes the table from what earlier runs measured, and runs nothing
+Usage: bench/gate_times.py TIMES             runs .ci/run, writes what it took into the file TIMES, and the table into docs/DECISIONS.md
+       bench/gate_times.py --table TIMES     writes the table from an earlier run, and runs nothing
 
-The file TIMES (by default times.txt in the folder for temporary files) gets a line for each run: the crate, the seconds of a processor
-that the run and all its children took, and its status. Of several lines of a crate the last whose status is 0 counts.
-
-`rt ci` keeps what it passed, and takes it up again in no time: so what a line says is the crate's own part, its proofs, its edits and its tests,
-where the crates below it were run before and it was not. Nothing is asked of the clock, which other work disturbs more.
+While the gate runs, /proc is looked at every two seconds: each process of it counts for the crate that it works on, as proof, as tests (the crate is proved
+once more with them) or as edits, and a compiler for the one that called it. A process that ends between two looks loses its last two seconds at most. The
+gate takes up again what an earlier run on this machine passed, so a whole one is measured on a new machine, with nothing else running.
+The status is that of the gate.
 """
 
+import collections
 import glob
+import json
 import os
 import re
 import resource
 import subprocess
 import sys
-import tempfile
+import time
 
 TOP = os.path.dirname(os.path.dirname(os.path.abspath(__file__)))
 DECISIONS = os.path.join(TOP, "docs/DECISIONS.md")
-HEADING = "| Crate | Tests | Stored runs | Edits | Processor seconds |\n|---|---|---|---|---|\n"
+HEADING = "| Crate | Tests | Stored runs | Edits | Seconds of a processor: proof | tests | edits |\n|---|---|---|---|---|---|---|\n"
+KINDS = ("proof", "tests", "edits")
+TICKS = os.sysconf("SC_CLK_TCK")
 
 
 def crates():
@@ -45,32 +48,87 @@ def crates():
     return order
 
 
-def processor_seconds():
-    """What all children took that have ended, and those that they waited for."""
+class Watch:
+    """What was seen of the processes of the gate."""
+
+    def __init__(self, first):
+        self.first = first
+        self.parents = {}
+        self.works = {}
+        self.seconds = {}
+
+    def look(self):
+        for pid in map(int, filter(str.isdigit, os.listdir("/proc"))):
+            try:
+                with open("/proc/%d/stat" % pid) as file:
+                    fields = file.read().rsplit(")", 1)[1].split()
+                with open("/proc/%d/cmdline" % pid, "rb") as file:
+                    words = file.read().decode("utf-8", "replace").split("\0")
+                place = os.readlink("/proc/%d/cwd" % pid)
+            except OSError:
+                continue
+            key = (pid, fields[19])
+            self.parents[pid] = int(fields[1])
+            if self.is_of_gate(pid):
+                self.works[pid] = work_of(words, place) or self.works.get(self.parents[pid])
+                self.seconds[key] = (self.works[pid], (int(fields[11]) + int(fields[12])) / TICKS)
+
+    def is_of_gate(self, pid):
+        for _ in range(20):
+            pid = self.parents.get(pid, 0)
+            if pid == self.first:
+                return True
+        return False
+
+    def sums(self):
+        """The seconds of each crate, by kind."""
+        found = collections.defaultdict(collections.Counter)
+        for work, seconds in self.seconds.values():
+            if work:
+                found[work[0]][work[1]] += seconds
+        return {crate: {kind: round(count[kind]) for kind in KINDS} for crate, count in found.items()}
+
+
+def work_of(words, place):
+    """The crate that a process works on and what it does there, if its words tell."""
+    if "--crate-name" not in words:
+        return None
+    crate = words[words.index("--crate-name") + 1]
+    if os.path.basename(place).startswith("rt-edit"):
+        return crate, "edits"
+    return crate, "tests" if "--test" in words else "proof"
+
+
+def measure(times):
+    """Runs the gate, and writes what it took."""
+    begun = time.time()
+    gate = subprocess.Popen([os.path.join(TOP, ".ci/run")], stdout=subprocess.PIPE, text=True, errors="replace")
+    watch = Watch(gate.pid)
+    log = os.open(times + ".log", os.O_WRONLY | os.O_CREAT | os.O_TRUNC)
+    os.set_blocking(gate.stdout.fileno(), False)
+    while gate.poll() is None:
+        watch.look()
+        drain(gate.stdout.fileno(), log)
+        time.sleep(2)
+    drain(gate.stdout.fileno(), log)
     used = resource.getrusage(resource.RUSAGE_CHILDREN)
-    return used.ru_utime + used.ru_stime
+    told = {"status": gate.returncode, "minutes": round((time.time() - begun) / 60, 1), "seconds": round(used.ru_utime + used.ru_stime), "crates": watch.sums()}
+    with open(times, "w") as file:
+        json.dump(told, file, indent=1, sort_keys=True)
+    print("status %d, %s minutes, %d seconds of a processor; what the gate said stands in %s.log" % (told["status"], told["minutes"], told["seconds"], times))
+    return told
 
 
-def measure(name, times):
-    """Runs the gate of one crate, and adds its line to the file."""
-    before = processor_seconds()
-    ran = subprocess.run(["rt", "ci", name], cwd=TOP, stdout=subprocess.PIPE, stderr=subprocess.STDOUT, text=True, errors="replace")
-    line = "%s %.0f %d" % (name, processor_seconds() - before, ran.returncode)
-    with open(times, "a") as file:
-        file.write(line + "\n")
-    print(line, (ran.stdout.strip().splitlines() or [""])[-1], flush=True)
-    return ran.returncode
-
-
-def read_times(times):
-    """The seconds of each crate, of the last of its runs that passed."""
-    seconds = {}
-    with open(times) as lines:
-        for line in lines:
-            words = line.split()
-            if len(words) == 3 and words[2] == "0":
-                seconds[words[0]] = int(float(words[1]))
-    return seconds
+def drain(pipe, log):
+    """Puts what the gate has said so far into the file."""
+    while True:
+        try:
+            some = os.read(pipe, 65536)
+        except BlockingIOError:
+            return
+        if not some:
+            return
+        os.write(log, some)
 
 
 def row(name, seconds):
@@ -82,16 +140,18 @@ def row(name, seconds):
             tests += len(re.findall(r"^\s*#\[test\]$", text.read(), re.M))
     edits = len(glob.glob(folder + "/must-fail/*.edit"))
     run = "one" if os.path.exists(folder + "/stdout") else "–"
-    line = "| %s | %s | %s | %s | %s |\n" % (name, tests or "–", run, edits or "–", seconds.get(name, "–"))
-    return line, tests, edits, seconds.get(name, 0)
+    took = [seconds.get(name, {}).get(kind, 0) for kind in KINDS]
+    line = "| %s | %s | %s | %s | %s |\n" % (name, tests or "–", run, edits or "–", " | ".join(str(one or "–") for one in took))
+    return line, tests, edits, took
 
 
-def write_table(seconds):
+def write_table(told):
     """Puts the table in the place of the one that docs/DECISIONS.md has."""
     order = crates()
-    rows = [row(name, seconds) for name in order]
-    tests, edits, whole = (sum(one[place] for one in rows) for place in (1, 2, 3))
-    last = "| all %d | %d | – | %d | %s |\n" % (len(order), tests, edits, whole or "–")
+    rows = [row(name, told["crates"]) for name in order]
+    tests, edits = (sum(one[place] for one in rows) for place in (1, 2))
+    took = [sum(one[3][place] for one in rows) for place in range(len(KINDS))]
+    last = "| all %d | %d | – | %d | %s |\n" % (len(order), tests, edits, " | ".join(map(str, took)))
     table = HEADING + "".join(one[0] for one in rows) + last
     with open(DECISIONS) as file:
         text = file.read()
@@ -100,17 +160,19 @@ def write_table(seconds):
         sys.exit("docs/DECISIONS.md has %d such tables, and not one" % count)
     with open(DECISIONS, "w") as file:
         file.write(text)
-    print("%d crates, %d tests, %d edits, %d minutes of a processor" % (len(order), tests, edits, whole / 60))
 
 
 def main(words):
-    if words[:1] == ["--table"] and len(words) == 2:
-        write_table(read_times(words[1]))
+    if len(words) == 2 and words[0] == "--table":
+        with open(words[1]) as file:
+            write_table(json.load(file))
         return 0
-    times = words[0] if words else os.path.join(tempfile.gettempdir(), "times.txt")
-    failed = [name for name in words[1:] or crates() if measure(name, times)]
-    write_table(read_times(times))
-    return 1 if failed else 0
+    if len(words) != 1 or words[0].startswith("-"):
+        print(__doc__)
+        return 2
+    told = measure(words[0])
+    write_table(told)
+    return told["status"]
 
 
 if __name__ == "__main__":

@@ -37,6 +37,6 @@ for work, words, status, said in looks:
     memory = most_memory([program] + [word or large for word in words])
     best = min(timed(words, large)[0] for _ in range(5)) - min(timed(words, small)[0] for _ in range(5))
     first = first or best
-    asked = "0.9 of the first or more" if words[0] != "check" else "100 MB/s or more, 8 MiB"
+    asked = "0.9 of the first or more" if words[0] != "check" else "450 MB/s or more, 2 MiB"
     row(f"{bytes_read / 1e6:.0f} MB: {work}", f"{bytes_read / best / 1e6:.0f} MB/s", memory, f"{first / best:.2f} of the first; {asked}")
 PY

@@ -30,7 +30,7 @@ nothing = best()
 for clocks in (50_000, 100_000, 200_000):
     busy(clocks)
     log = best() - nothing
-    row("four busy agents, %d clocks, less a run of none" % clocks, f"{log * 1000:.0f} ms", most_memory([program, "run", bench]), "100 ms for 200,000, 64 MiB")
+    row("four busy agents, %d clocks, less a run of none" % clocks, f"{log * 1000:.0f} ms", most_memory([program, "run", bench]), "60 ms for 200,000, 64 MiB")
 last = subprocess.run([program, "run", bench], stdout=subprocess.PIPE, check=True).stdout.decode().splitlines()
 print("    (the last entry is of clock %s; %s)" % (last[-2].split()[0], last[-1]))
 both = best(dump)
