@@ -90,12 +90,18 @@ class Judge:
         a, b = leaf(one["fn"]), leaf(two["fn"])
         return a not in self.reaches(b) and b not in self.reaches(a)
 
+    def at(self, place):
+        """Where the text of the bug stands in its file."""
+        return self.whole[self.bugs[place]["file"]].index(self.bugs[place]["old"])
+
     def check(self, group):
         """What `rt check` prints of the crate with these bugs in it."""
         texts = dict(self.whole)
-        for place in group:
-            bug = self.bugs[place]
-            texts[bug["file"]] = texts[bug["file"]].replace(bug["old"], bug["new"], 1)
+        # from the end of each file, so that no text that was put in is looked through
+        for place in sorted(group, key=lambda p: -self.at(p)):
+            bug, at = self.bugs[place], self.at(place)
+            text = texts[bug["file"]]
+            texts[bug["file"]] = text[:at] + bug["new"] + text[at + len(bug["old"]) :]
         for name, text in texts.items():
             with open(os.path.join(self.folder, name), "w") as file:
                 file.write(text)
