@@ -19,8 +19,9 @@ use Rattle.fsb_laws.specs.OneMore.{stalls}
 use Rattle.fsb_laws.specs.Progress.{is_snoop_due}
 use Rattle.fsb_laws.proofs.Interface.{is_live-ads, is_snoop_clock-more, one_more}
 use Rattle.fsb_phase.specs.Due.{has_snoop, rank_of}
-use Rattle.fsb_phase.specs.Phases.{snooped_count}
-use Rattle.fsb_phase.proofs.Interface.{find-cases, find-off, find-place, snoops_to}
+use Rattle.fsb_heads.specs.Heads.{snooped_count}
+use Rattle.fsb_heads.proofs.Interface.{snoops_to}
+use Rattle.fsb_phase.proofs.Interface.{find-cases, find-off, find-place}
 use Rattle.fsb_queue.specs.declared.entry.Entry.{Entry}
 use Rattle.fsb_signal.specs.declared.lines.TheConstants.Lines.{ADS, AERR, BNR, DEFER, HIT, HITM}
 use Rattle.fsb_signal.specs.Samples.{line_at}

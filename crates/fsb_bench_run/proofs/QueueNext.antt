@@ -14,7 +14,8 @@ use Rattle.fsb_hazard.specs.declared.choice.Choice.{Choice}
 use Rattle.fsb_laws.specs.Orderly.{Orderly}
 use Rattle.fsb_laws.proofs.Interface.{is_live-ads, orderly-empty}
 use Rattle.fsb_phase.specs.FitQueue.{HoldsInFlight}
-use Rattle.fsb_phase.specs.Phases.{MayTake, Stands, last_response, last_snoop_end, snooped_count}
+use Rattle.fsb_heads.specs.Heads.{last_snoop_end, snooped_count}
+use Rattle.fsb_phase.specs.Phases.{MayTake, Stands, last_response}
 use Rattle.fsb_phase.specs.declared.phases.Phases.{Phases}
 use Rattle.fsb_laws.specs.Progress.{response_count, transfer_of}
 use Rattle.fsb_queue.specs.declared.entry.Entry.{Entry}
@@ -54,11 +55,13 @@ use Rattle.fsb_bench_run.proofs.SnoopTold.{snoop-told}
 -- phases that stand for a trace
 phases-of : Trace → Phases
 phases-of h = record {
-  snooped = last_snoop_end h;
+  heads = record {
+    snooped = last_snoop_end h;
+    ready = ready_clock_of h (response_count h);
+    chunks = transfer_of h;
+  };
   from = answer_from h (response_count h);
-  ready = ready_clock_of h (response_count h);
   response = last_response h;
-  transfer = transfer_of h;
 }
 
 pub orderly-run : (r : Run) → Timely r → Orderly r.trace
@@ -71,11 +74,9 @@ orderly-run r timely = by r.trace refl
 phases-stand : (r : Run) → Timely r → Stands (phases-of r.trace) r.trace
 unfolding phases-of
 phases-stand r timely = record {
-  snooped = refl;
+  heads = record { snooped = refl; ready = refl; chunks = refl };
   from = refl;
-  ready = refl;
   response = refl;
-  transfer = refl;
   orderly = orderly-run r timely;
 }
 

@@ -13,8 +13,9 @@ use Rattle.fsb_laws.specs.Leaving.{leaves}
 use Rattle.fsb_laws.specs.OneMore.{cancels}
 use Rattle.fsb_phase.specs.Due.{rank_of}
 use Rattle.fsb_phase.specs.Drive.{ends_snoop_at, has_end_at}
-use Rattle.fsb_phase.specs.Phases.{snooped_count}
-use Rattle.fsb_phase.proofs.Interface.{not_reached_from, snoops_to}
+use Rattle.fsb_heads.specs.Heads.{snooped_count}
+use Rattle.fsb_heads.proofs.Interface.{snoops_to}
+use Rattle.fsb_phase.proofs.Interface.{not_reached_from}
 use Rattle.fsb_phase_run.specs.Holds.{HoldsRequests}
 use Rattle.fsb_queue.specs.declared.entry.Entry.{Entry}
 use Rattle.fsb_queue.specs.Entries.{with_outcome}

@@ -13,10 +13,10 @@ use Rattle.fsb_laws.proofs.Interface.{one_more}
 use Rattle.fsb_queue.specs.declared.entry.Entry.{Entry}
 use Rattle.fsb_phase.specs.Due.{has_snoop, rank_of}
 use Rattle.fsb_phase.specs.Drive.{ends_snoop_at, phased_at}
-use Rattle.fsb_phase.specs.Phases.{snooped_count}
+use Rattle.fsb_heads.specs.Heads.{snooped_count}
+use Rattle.fsb_heads.proofs.Interface.{snoops_to}
 use Rattle.fsb_phase.proofs.Interface.{Found, Placed, ends_entry, find-off, find-place, has_snoop-at, held}
 use Rattle.fsb_phase.proofs.Interface.{not_reached_from, outcome_reached, reached_before, snoop_at, snoop_elsewhere}
-use Rattle.fsb_phase.proofs.Interface.{snoops_to}
 use Rattle.fsb_signal.specs.declared.sample.Sample.{Sample}
 use Rattle.fsb_trace.specs.Flight.{in_flight, is_in_flight}
 use Rattle.fsb_trace.specs.Requests.{is_live, live_clock_of, live_number_of}

@@ -1,7 +1,7 @@
 -- The queue after a clock holds the requests in flight of the longer history.
 use Rattle.std.proofs.Common.{ℕ, zero, suc, ◌+◌, ◌<◌, ◌≤◌, ◌≡◌, Bool, true, false, not, cond, ◌&&◌, Option, Some, None}
 use Rattle.std.proofs.Common.{List, [], ◌∷◌, ◌++◌, map, filter, length, slice_index, refl, sym, ap, ◌∙◌, ◌⊎◌, inl, inr}
-use Rattle.std.proofs.Common.{arith, subst}
+use Rattle.std.proofs.Common.{arith}
 use Rattle.std.specs.List.{slice_get}
 use Rattle.std.specs.Option.{option_map}
 use Rattle.std.proofs.lemmas.Bool.{cases_Bool, cases_eq, cases_order, both_ways, and_parts}
@@ -24,14 +24,15 @@ use Rattle.fsb_laws.specs.Progress.{SnoopsTo, ends_snoop_of, is_snoop_due}
 use Rattle.fsb_laws.specs.Leaving.{leaves}
 use Rattle.fsb_laws.proofs.Interface.{one_more, line_at-old, in_flight-more, live_clock_of-new, snoop_end_of-above}
 use Rattle.fsb_laws.proofs.Interface.{snoop_end_of-old, snoop_end_of-more}
+use Rattle.fsb_heads.specs.Heads.{snooped_count}
 use Rattle.fsb_queue.specs.declared.entry.Entry.{Entry}
 use Rattle.fsb_queue.specs.Entries.{with_outcome}
 use Rattle.fsb_phase.specs.declared.phases.Phases.{Phases}
 use Rattle.fsb_phase.specs.Due.{rank_of}
 use Rattle.fsb_phase.specs.Drive.{ends_snoop_at, drive_of}
 use Rattle.fsb_phase.specs.FitQueue.{HoldsInFlight, is_too_soon}
-use Rattle.fsb_phase.specs.Phases.{Stands, MayTake, snooped_count}
-use Rattle.fsb_phase.proofs.Interface.{snoops_count, held, Placed, placed, snoop_at, has_snoop-at, snoop_elsewhere}
+use Rattle.fsb_phase.specs.Phases.{Stands, MayTake}
+use Rattle.fsb_phase.proofs.Interface.{held, Placed, placed, snoop_at, has_snoop-at, snoop_elsewhere}
 use Rattle.fsb_phase.proofs.Interface.{not_reached_from, ends_entry, number_stays, later_none, Step, step}
 use Rattle.fsb_flight.specs.GoesOn.{settles, stays_in_flight, goes_on, TakesTurn}
 
@@ -262,13 +263,11 @@ each_entry p h x queue new turns later outcome e st f n k y g =
       | inr begun ↦ new_entry h x turns later outcome new begun.0 y n begun.1
     ]
 
--- the step, with the count of snoop ends by its name
+-- the step
 pub step_at : (p : Phases) (h : Trace) (x : Sample) (queue : List Entry) (turns : List ℕ) → Stands p h
     → HoldsInFlight queue turns h → response_of x ≡ (drive_of h queue).rs → is_too_soon h x ≡ false
     → (e : ℕ) × Step p h x (h ++ x ∷ []) queue e (snooped_count h)
-step_at p h x queue turns k f c soon =
-    let st = step p h x (h ++ x ∷ []) queue (one_more h x) k (held queue turns h f) c soon in
-    (st.0, subst (λ s. Step p h x (h ++ x ∷ []) queue st.0 s) (sym (snoops_count h st.1 st.2.meets.snoops)) st.2)
+step_at p h x queue turns k f c soon = step p h x (h ++ x ∷ []) queue (one_more h x) k (held queue turns h f) c soon
 
 pub goes_on-holds : (p : Phases) (h : Trace) (clock : ℕ) (x : Sample) (queue new : List Entry)
     (turns later : List ℕ) (outcome : Outcome) → Stands p h → MayTake clock x queue turns h

@@ -18,13 +18,14 @@ use Rattle.fsb_trace.specs.Response.{end_of}
 use Rattle.fsb_trace.proofs.Interface.{live_clock_of-rises}
 use Rattle.fsb_laws.specs.OneMore.{cancels}
 use Rattle.fsb_laws.specs.Leaving.{leaves}
+use Rattle.fsb_heads.specs.Heads.{snooped_count}
 use Rattle.fsb_queue.specs.declared.entry.Entry.{Entry}
 use Rattle.fsb_queue.specs.Entries.{with_outcome, settled_at, without}
 use Rattle.fsb_phase.specs.declared.drive.Phased.{Phased}
 use Rattle.fsb_phase.specs.declared.phases.Phases.{Phases}
 use Rattle.fsb_phase.specs.Due.{rank_of}
 use Rattle.fsb_phase.specs.Drive.{ends_snoop_at, has_end_at, phased_at}
-use Rattle.fsb_phase.specs.Phases.{Stands, MayTake, snooped_count}
+use Rattle.fsb_phase.specs.Phases.{Stands, MayTake}
 use Rattle.fsb_phase.proofs.Interface.{Found, if_passes, find-cases, find-place, find-off, find-first, placed}
 use Rattle.fsb_phase.proofs.Interface.{outcome_reached, reached_before, not_reached_from, number_stays, Step, no_end}
 use Rattle.fsb_phase.proofs.Interface.{unended_after}

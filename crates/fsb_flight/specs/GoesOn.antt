@@ -13,7 +13,7 @@ use Rattle.fsb_laws.specs.Leaving.{leaves}
 use Rattle.fsb_queue.specs.declared.entry.Entry.{Entry}
 use Rattle.fsb_queue.specs.Entries.{with_outcome}
 use Rattle.fsb_phase.specs.Drive.{ends_snoop_at}
-use Rattle.fsb_phase.specs.Phases.{snooped_count}
+use Rattle.fsb_heads.specs.Heads.{snooped_count}
 
 -- the entry after the sample x as the next of the history: with this outcome, where its snoop ends there
 unfoldable pub settles : Trace → Sample → Outcome → Entry → Entry

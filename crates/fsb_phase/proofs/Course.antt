@@ -1,4 +1,4 @@
--- The end that the next sample is, and the clock from which the request after it is answered.
+-- What the next sample brings: to the heads, the end that it is, and the clock from which the next request is answered.
 use Rattle.std.proofs.Common.{ℕ, zero, suc, ◌+◌, ◌<◌, ◌≤◌, ◌≡◌, Bool, true, false, cond, ◌&&◌, ◌||◌, max, Option, Some}
 use Rattle.std.proofs.Common.{None, List, [], ◌∷◌, ◌++◌, length, is_some, is_none, refl, sym, ap, ◌∙◌, inl, inr, arith}
 use Rattle.std.proofs.Common.{subst}
@@ -7,13 +7,13 @@ use Rattle.std.specs.Option.{option_and_then}
 use Rattle.std.proofs.lemmas.Bool.{cases_lt, and_right, and_parts, or_parts, eq-eqb, both_ways}
 use Rattle.fsb_count.specs.Options.{is_some_and, is_at, greater_of}
 use Rattle.fsb_count.proofs.Interface.{is_some-none}
-use Rattle.fsb_signal.specs.declared.lines.TheConstants.Lines.{TRDY, DRDY}
+use Rattle.fsb_signal.specs.declared.lines.TheConstants.Lines.{DRDY}
 use Rattle.fsb_signal.specs.declared.sample.Sample.{Sample}
 use Rattle.fsb_signal.specs.Samples.{has_line, response_of}
 use Rattle.fsb_trace.specs.At.{Trace}
 use Rattle.fsb_trace.specs.Requests.{is_live, live_clock_of}
 use Rattle.fsb_trace.specs.Snoop.{snoop_end_of}
-use Rattle.fsb_trace.specs.Response.{end_of, two_after_snoop, answer_from, ready_clock_of}
+use Rattle.fsb_trace.specs.Response.{end_of, two_after_snoop, answer_from}
 use Rattle.fsb_trace.proofs.Interface.{snoop_end_of-clock}
 use Rattle.fsb_laws.specs.OneMore.{OneMore, responds, stalls}
 use Rattle.fsb_laws.specs.Orderly.{Spaced, Orderly}
@@ -21,22 +21,22 @@ use Rattle.fsb_laws.specs.Progress.{SnoopsTo, EndsTo, response_count, transfer_o
 use Rattle.fsb_laws.specs.Progress.{chunk_step, may_answer_next}
 use Rattle.fsb_laws.proofs.Interface.{has_answer, response_count-kept, orderly-more, ends_to-still, ends_to-moving}
 use Rattle.fsb_laws.proofs.Interface.{end_of-old, end_of-kept, snoop_end_of-old, snoop_end_of-more, transfer_of-kept}
-use Rattle.fsb_laws.proofs.Interface.{answered_below, one_more, ready_clock_of-after, ready_clock_of-next}
+use Rattle.fsb_laws.proofs.Interface.{answered_below, one_more}
+use Rattle.fsb_heads.specs.declared.heads.Next.{Next}
+use Rattle.fsb_heads.specs.Heads.{snooped_count, BringsNext}
+use Rattle.fsb_heads.proofs.Interface.{count_answered}
 use Rattle.fsb_queue.specs.declared.entry.Entry.{Entry}
 use Rattle.fsb_phase.specs.declared.phases.Phases.{Phases}
 use Rattle.fsb_phase.specs.Due.{rank_of, has_snoop, is_moving}
 use Rattle.fsb_phase.specs.FitQueue.{is_too_soon}
-use Rattle.fsb_phase.proofs.Held.{Held, held}
 use Rattle.fsb_phase.specs.Drive.{drive_of, ends_snoop_at, has_end_at}
-use Rattle.fsb_phase.specs.Phases.{Stands, MayTake, snooped_count, last_snoop_end, last_response}
-use Rattle.fsb_phase.specs.Next.{IsNext}
+use Rattle.fsb_phase.specs.Phases.{Stands, IsNext, MayTake}
 use Rattle.fsb_phase.proofs.Finds.{find-off, find-place}
-use Rattle.fsb_phase.proofs.Entries.{placed}
+use Rattle.fsb_phase.proofs.Entries.{Held, held, placed}
 use Rattle.fsb_phase.proofs.Snoops.{Meets, entry_open, reached_before, not_reached_from, queue_has, ends_is}
-use Rattle.fsb_phase.proofs.Snoops.{live_after, number_stays, due_live, snooped_is, snooped_to}
-use Rattle.fsb_phase.proofs.Heads.{Far, far, meets, no_answer-before, no_answer-snoop}
-use Rattle.fsb_phase.proofs.Responses.{Answering, answering, count_answered, last_answered, last_kept, spaced_on}
-use Rattle.fsb_phase.proofs.Responses.{transfer_begun}
+use Rattle.fsb_phase.proofs.Snoops.{live_after, number_stays, due_live, snooped_is}
+use Rattle.fsb_phase.proofs.Oldest.{Far, far, meets, no_answer-before, no_answer-snoop}
+use Rattle.fsb_phase.proofs.Responses.{Answering, answering, moves_is, spaced_on}
 
 -- the next sample, taken where it may be
 pub record Step (p : Phases) (h : Trace) (x : Sample) (v : Trace) (queue : List Entry) (e s : ℕ) : Type 0 where
@@ -49,13 +49,12 @@ pub record Step (p : Phases) (h : Trace) (x : Sample) (v : Trace) (queue : List 
 
 pub step : (p : Phases) (h : Trace) (x : Sample) (v : Trace) (queue : List Entry) → OneMore h x v → Stands p h
     → Held queue h → response_of x ≡ (drive_of h queue).rs → is_too_soon h x ≡ false
-    → (e s : ℕ) × Step p h x v queue e s
+    → (e : ℕ) × Step p h x v queue e (snooped_count h)
 step p h x v queue m k f c soon =
     let w = far h k.orderly in
     let mt = meets h queue w.0 k.orderly f w.1 in
     let ans : responds x ≡ true → Answering h queue w.0 x = λ t. answering h queue w.0 x k.orderly f w.1 c t in (
       w.0,
-      snooped_count h,
       record {
         more = m;
         stands = k;
@@ -164,28 +163,6 @@ module _ {p : Phases} {h : Trace} {x : Sample} {v : Trace} {queue : List Entry} 
       → cond b None o ≡ find (ends_snoop_at v (length h)) queue
   snooped o b f t = rw (← t, f) (sym (snooped_is k.meets k.more k.stands.orderly.spaced))
 
-  pub last_snoop : (n : ℕ) (o : Option Entry) (b : Bool) → n ≡ length h
-      → o ≡ find (ends_snoop_at v (length h)) queue → is_some o ≡ b → cond b (Some n) p.snooped ≡ last_snoop_end v
-  last_snoop n o b f g t =
-      ap (λ m. cond b (Some m) p.snooped) f ∙ ap (cond b (Some (length h))) k.stands.snooped
-      ∙ sym (snooped_to k.meets k.more k.stands.orderly.spaced b
-      (sym (ends_is k.meets k.more k.stands.orderly.spaced) ∙ ap is_some (sym g) ∙ t))
-
-  -- the response and the transfer
-  pub last_response_is : (n : ℕ) (b : Bool) → n ≡ length h → responds x ≡ b
-      → cond b (Some n) p.response ≡ last_response v
-  last_response_is n true f t = ap Some f ∙ sym (last_answered h x v k.more t)
-  last_response_is n false f t = k.stands.response ∙ sym (last_kept h x v k.more t)
-
-  pub transfer_answered : responds x ≡ true
-      → chunk_step (has_line x DRDY) (cond (is_some_and (slice_get queue 0) is_moving) (Some 0) None) ≡ transfer_of v
-  transfer_answered t =
-      transfer_begun h x v queue e s k.more k.meets.snoops k.meets.flight k.meets.ends (k.answering t) t
-
-  pub transfer_kept : responds x ≡ false → chunk_step (has_line x DRDY) p.transfer ≡ transfer_of v
-  transfer_kept f =
-      ap (chunk_step (has_line x DRDY)) k.stands.transfer ∙ sym (transfer_of-kept h x v k.more k.stands.orderly f)
-
   -- no response came and no transfer was on the way: the ends stay
   quiet_still : has_answered h x ≡ false → (transfer_of h ≡ None) × (response_count h ≡ e)
   quiet_still f =
@@ -264,11 +241,11 @@ module _ {p : Phases} {h : Trace} {x : Sample} {v : Trace} {queue : List Entry} 
       (λ j z l g. absurd (omega arith)))
 
   pub ended : (transfer : Option ℕ) (b : Bool) → transfer ≡ transfer_of v
-      → ((responds x || is_some p.transfer) && is_none transfer) ≡ b
+      → (has_answered h x && is_none transfer) ≡ b
       → cond b (slice_get queue 0) None ≡ find (has_end_at v (length h)) queue
   ended transfer b f t =
       ap (λ c. cond c (slice_get queue 0) None) (sym t)
-      ∙ (rw (k.stands.transfer, f) (ended_cases (has_answered h x) (transfer_of v) refl refl))
+      ∙ (rw f (ended_cases (has_answered h x) (transfer_of v) refl refl))
 
   -- the clock from which the entry at a place is answered
   open_place : (j : ℕ) (f : Option ℕ) (b : Bool) → e + j ≡ s
@@ -311,10 +288,9 @@ module _ {p : Phases} {h : Trace} {x : Sample} {v : Trace} {queue : List Entry} 
 
   -- that of the next request to respond
   pub from_quiet : (n : ℕ) (b : Bool) → n ≡ length h → b ≡ is_some (find (ends_snoop_at v (length h)) queue)
-      → (responds x || is_some p.transfer) ≡ false
+      → has_answered h x ≡ false
       → option_and_then (answer_to p.from n b) (slice_get queue 0) ≡ answer_from v (response_count v)
-  from_quiet n b f g t =
-      let a : has_answered h x ≡ false = ap (λ o. responds x || is_some o) (sym k.stands.transfer) ∙ t in
+  from_quiet n b f g a =
       let none : e + 0 ≡ e = omega arith in
       rw f (answer_place 0 p.from b g (omega (arith, k.meets.order))
       (λ l. ap (answer_from v) none
@@ -327,11 +303,10 @@ module _ {p : Phases} {h : Trace} {x : Sample} {v : Trace} {queue : List Entry} 
 
   pub from_done : (n m : ℕ) (b : Bool) (transfer : Option ℕ) → n ≡ length h → m ≡ n
       → b ≡ is_some (find (ends_snoop_at v (length h)) queue) → transfer ≡ transfer_of v
-      → (responds x || is_some p.transfer) ≡ true → is_some transfer ≡ false
+      → has_answered h x ≡ true → is_some transfer ≡ false
       → option_and_then (answer_to (Some (m + 1)) n b) (slice_get queue 1) ≡ answer_from v (response_count v)
-  from_done n m b transfer f i g r t u =
+  from_done n m b transfer f i g r a u =
       let d : transfer_of v ≡ None = sym r ∙ is_some-none transfer u in
-      let a : has_answered h x ≡ true = ap (λ o. responds x || is_some o) (sym k.stands.transfer) ∙ t in
       let one : e + 1 ≡ suc e = omega arith in
       rw (i, f) (answer_place 1 (Some (length h + 1)) b g (let low = (answered a).1 in omega arith)
       (λ l.
@@ -344,52 +319,38 @@ module _ {p : Phases} {h : Trace} {x : Sample} {v : Trace} {queue : List Entry} 
       (length h, ap (end_of v) last ∙ done_end a d, omega arith))
       ∙ ap (answer_from v) (one ∙ sym (answered a).0))
 
-  from_moving : (o : Option ℕ) → has_answered h x ≡ true → transfer_of v ≡ o → is_some o ≡ true
-      → None ≡ answer_from v (response_count v)
-  from_moving None a t f = absurd (let no : ⊥ = cc in no)
-  from_moving (Some n) a t f =
-      sym (ap (answer_from v) (answered a).0 ∙ no_answer-before v e ((going_ends n a t).above e (omega arith)))
-
-  pub from_going : (transfer : Option ℕ) → transfer ≡ transfer_of v → (responds x || is_some p.transfer) ≡ true
+  pub from_going : (transfer : Option ℕ) → transfer ≡ transfer_of v → has_answered h x ≡ true
       → is_some transfer ≡ true → None ≡ answer_from v (response_count v)
-  from_going transfer f t d =
-      from_moving transfer (ap (λ o. responds x || is_some o) (sym k.stands.transfer) ∙ t) (sym f) d
-
-  -- its ready clock
-  ready_step : responds x ≡ false → (o : Option ℕ) → p.ready ≡ o
-      → elim o as (λ z. Option ℕ) [
-        | Some y ↦ Some y
-        | None ↦ cond (has_line x TRDY && may_answer_next h) (Some (length h)) None
-      ] ≡ ready_clock_of v (response_count v)
-  ready_step f o g =
-      ap (λ (r : Option ℕ). elim r as (λ z. Option ℕ) [
-        | Some y ↦ Some y
-        | None ↦ cond (has_line x TRDY && may_answer_next h) (Some (length h)) None
-      ]) (sym g ∙ k.stands.ready)
-      ∙ sym (ready_clock_of-next h x v s k.more k.stands.orderly k.meets.snoops)
-      ∙ ap (ready_clock_of v) (sym (response_count-kept h x v k.more f))
-
-  pub ready_answered : responds x ≡ true → None ≡ ready_clock_of v (response_count v)
-  ready_answered t =
-      sym (ready_clock_of-after h x v k.more t) ∙ ap (ready_clock_of v) (sym (count_answered h x v k.more t))
-
-  pub ready_stays : (o : Option ℕ) → responds x ≡ false → p.ready ≡ o → is_some o ≡ true
-      → o ≡ ready_clock_of v (response_count v)
-  ready_stays None f g t = absurd (let no : ⊥ = cc in no)
-  ready_stays (Some y) f g t = ready_step f (Some y) g
-
-  pub ready_comes : (n : ℕ) (b : Bool) → n ≡ length h → responds x ≡ false → is_some p.ready ≡ false
-      → (has_line x TRDY && may_answer_next h) ≡ b → cond b (Some n) None ≡ ready_clock_of v (response_count v)
-  ready_comes n b i f g t =
-      ap (λ m. cond b (Some m) None) i ∙ ap (λ a. cond a (Some (length h)) None) (sym t)
-      ∙ ready_step f None (is_some-none p.ready g)
+  from_going None f a t = absurd (let no : ⊥ = cc in no)
+  from_going (Some n) f a t =
+      sym (ap (answer_from v) (answered a).0 ∙ no_answer-before v e ((going_ends n a (sym f)).above e (omega arith)))
 
 -- the sample that a contract speaks of
 pub taken : {p : Phases} {clock : ℕ} {x : Sample} {queue : List Entry} {turns : List ℕ} {h : Trace} → Stands p h
-    → MayTake clock x queue turns h → (e s : ℕ) × Step p h x (h ++ x ∷ []) queue e s
+    → MayTake clock x queue turns h → (e : ℕ) × Step p h x (h ++ x ∷ []) queue e (snooped_count h)
 taken {p} {clock} {x} {queue} {turns} {h} k t =
     step p h x (h ++ x ∷ []) queue (one_more h x) k (held queue turns h t.flight) t.answers t.spaced
 
 pub next_of : {p : Phases} {clock : ℕ} {x : Sample} {queue : List Entry} {turns : List ℕ} {h : Trace} → Stands p h
     → MayTake clock x queue turns h → IsNext p clock queue turns h
 next_of k t = record { stands = k; clock_is = t.clock_is; flight = t.flight }
+
+-- and what it brings to the heads
+pub takes : {p : Phases} {clock : ℕ} {x : Sample} {queue : List Entry} {turns : List ℕ} {h : Trace} → Stands p h
+    → MayTake clock x queue turns h → (next : Next)
+    → next.snoops ≡ is_some (find (ends_snoop_at (h ++ x ∷ []) (length h)) queue)
+    → next.may_answer ≡ may_answer_next h → next.moves ≡ is_some_and (slice_get queue 0) is_moving
+    → BringsNext clock x next h
+takes {p} {clock} {x} {queue} {turns} {h} k t next snoops may moves =
+    let s = (taken k t).1 in
+    record {
+      clock_is = t.clock_is;
+      snoops_is = snoops ∙ ends_is s.meets s.more k.orderly.spaced;
+      may_is = may;
+      moves_with = record {
+        orderly = k.orderly;
+        timely = λ r. (s.answering r).may;
+        moves_is = λ r. moves ∙ moves_is h x (h ++ x ∷ []) queue _ _ s.more s.meets.snoops s.meets.flight s.meets.ends
+            (s.answering r) r;
+      };
+    }

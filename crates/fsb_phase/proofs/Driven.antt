@@ -1,26 +1,31 @@
 -- What the phases drive is what is due.
 use Rattle.std.proofs.Common.{ℕ, ◌<◌, ◌≡◌, Bool, true, false, ◌&&◌, cond, Option, Some, None, List, is_some}
-use Rattle.std.proofs.Common.{is_none, refl, sym, ap, ◌∙◌}
+use Rattle.std.proofs.Common.{is_none, length, refl, sym, ap, ◌∙◌}
 use Rattle.std.specs.List.{slice_get, find}
 use Rattle.std.specs.Option.{option_map, option_map_or, option_and_then}
 use Rattle.fsb_count.specs.Options.{is_some_and}
 use Rattle.fsb_trace.specs.At.{Trace}
 use Rattle.fsb_trace.specs.Requests.{live_clock_of}
-use Rattle.fsb_trace.specs.Snoop.{is_every_second_from, snoop_start_of, snoop_end_of}
+use Rattle.fsb_trace.specs.Snoop.{snoop_start_of}
 use Rattle.fsb_trace.specs.Timing.{is_stall_from, chunk_from, is_busy_from}
-use Rattle.fsb_laws.specs.Progress.{SnoopsTo}
+use Rattle.fsb_laws.specs.Progress.{is_snoop_due}
+use Rattle.fsb_heads.specs.Heads.{snooped_count}
 use Rattle.fsb_queue.specs.declared.entry.Entry.{Entry}
 use Rattle.fsb_phase.specs.declared.drive.Drive.{Drive}
 use Rattle.fsb_phase.specs.declared.phases.Phases.{Phases}
 use Rattle.fsb_phase.specs.Due.{has_snoop, is_stalled, has_ready, has_response, response_to_now, is_moving, due_chunk}
 use Rattle.fsb_phase.specs.Due.{keeps_busy}
 use Rattle.fsb_phase.specs.Drive.{settled_code, numbered_chunk, drive_of}
-use Rattle.fsb_phase.specs.Phases.{value_before, last_snoop_end, snooped_count}
-use Rattle.fsb_phase.specs.Next.{IsNext}
+use Rattle.fsb_phase.specs.Phases.{IsNext}
 use Rattle.fsb_phase.proofs.Finds.{if_passes, find-first}
-use Rattle.fsb_phase.proofs.Held.{held}
-use Rattle.fsb_phase.proofs.Snoops.{Meets, open_clock, snooping_clock, snooping_some, some_if, stalled_some}
-use Rattle.fsb_phase.proofs.Heads.{Idle, far, idle-later, meets}
+use Rattle.fsb_phase.proofs.Entries.{held}
+use Rattle.fsb_phase.proofs.Snoops.{Meets, open_clock, open_is, snooping_at, snooping_is, some_if, stalled_none}
+use Rattle.fsb_phase.proofs.Snoops.{stalled_some}
+use Rattle.fsb_phase.proofs.Oldest.{Idle, far, idle-later, meets}
+
+none_if : (b : Bool) → cond {A = Option Entry} b None None ≡ None
+none_if true = refl
+none_if false = refl
 
 code_if : (b : Bool) (y : Entry) → option_map_or settled_code (cond b (Some y) None) 0 ≡ cond b (settled_code y) 0
 code_if true y = refl
@@ -43,27 +48,33 @@ module _ {p : Phases} {clock : ℕ} {queue : List Entry} {turns : List ℕ} {h :
       let w = far h n.stands.orderly in
       (w.0, meets h queue w.0 n.stands.orderly (held queue turns h n.flight) w.1)
 
-  -- the snoop, where the first snoop clock of a request is this one if it is the first without its snoop end
-  pub snooping_next : (y : Entry) (start : ℕ) (b : Bool) → find (λ z. is_none z.outcome) queue ≡ Some y
-      → ((s : ℕ) → SnoopsTo h s → p.snooped ≡ value_before (snoop_end_of h) s → live_clock_of h s ≡ Some y.clock
-      → snoop_start_of h s ≡ Some start) → is_every_second_from start clock ≡ b
-      → find (has_snoop h) queue ≡ cond b (Some y) None
-  unfolding last_snoop_end
-  snooping_next y start b f start_is t =
+  -- the snoop, where the heads know of the request that is snooped next by the clock at which it began
+  pub snooping_next : (y : Entry) (due b : Bool) → find (λ z. is_none z.outcome) queue ≡ Some y
+      → (live_clock_of h (snooped_count h) ≡ Some y.clock → due ≡ is_snoop_due h (snooped_count h) clock)
+      → due ≡ b → cond b (Some y) None ≡ find (has_snoop h) queue
+  snooping_next y due b f due_is t =
       let m = next_meets.1 in
-      snooping_some m y start b f (start_is (snooped_count h) m.snoops n.stands.snooped (open_clock m y f))
-      (ap (is_every_second_from start) (sym n.clock_is) ∙ t)
+      let at = sym (open_is m) ∙ f in
+      sym (snooping_is m ∙ ap (λ o. cond (is_snoop_due h (snooped_count h) (length h)) o None) at
+      ∙ ap (λ a. cond a (Some y) None) (ap (is_snoop_due h (snooped_count h)) (sym n.clock_is)
+      ∙ sym (due_is (open_clock m y at)) ∙ t))
+
+  pub snooping_none : find (λ z. is_none z.outcome) queue ≡ None → None ≡ find (has_snoop h) queue
+  snooping_none f =
+      let m = next_meets.1 in
+      sym (snooping_is m ∙ ap (λ o. cond (is_snoop_due h (snooped_count h) (length h)) o None) (sym (open_is m) ∙ f)
+      ∙ none_if (is_snoop_due h (snooped_count h) (length h)))
 
   pub stalled_next : (y : Entry) (start : ℕ) → find (has_snoop h) queue ≡ Some y
-      → ((s : ℕ) → SnoopsTo h s → p.snooped ≡ value_before (snoop_end_of h) s → live_clock_of h s ≡ Some y.clock
-      → snoop_start_of h s ≡ Some start)
+      → (live_clock_of h (snooped_count h) ≡ Some y.clock → snoop_start_of h (snooped_count h) ≡ Some start)
       → is_stall_from y.choice.stall clock start ≡ is_some (find (is_stalled h) queue)
-  unfolding last_snoop_end
   stalled_next y start f start_is =
       let m = next_meets.1 in
       ap (λ c. is_stall_from y.choice.stall c start) n.clock_is
-      ∙ sym (stalled_some m y start f
-      (start_is (snooped_count h) m.snoops n.stands.snooped (snooping_clock m y f)))
+      ∙ sym (stalled_some m y start f (start_is (open_clock m y (snooping_at m y f).1)))
+
+  pub stalled_next-none : find (has_snoop h) queue ≡ None → false ≡ is_some (find (is_stalled h) queue)
+  stalled_next-none f = sym (stalled_none next_meets.1 f)
 
   -- what is due is due of the oldest request
   later_idle : (j : ℕ) (y : Entry) → 0 < j → slice_get queue j ≡ Some y → Idle h y

@@ -1,8 +1,8 @@
 -- The first element of a list that passes, by its place.
-use Rattle.std.proofs.Common.{ℕ, zero, suc, ◌<◌, ◌≡◌, Bool, true, false, cond, Option, Some, None, List, [], ◌∷◌}
-use Rattle.std.proofs.Common.{refl, sym, ap, ◌∙◌, inl, inr, arith, subst, is_none, is_some, ◌⊎◌}
+use Rattle.std.proofs.Common.{ℕ, zero, suc, ◌<◌, ◌≤◌, ◌≡◌, Bool, true, false, cond, Option, Some, None, List, [], ◌∷◌}
+use Rattle.std.proofs.Common.{refl, sym, ap, ◌∙◌, inl, inr, arith, is_none, is_some, ◌⊎◌}
 use Rattle.std.specs.List.{slice_get, find}
-use Rattle.std.proofs.lemmas.Bool.{cases_Bool, cases_eq}
+use Rattle.std.proofs.lemmas.Bool.{cases_Bool}
 
 -- the element, if it passes
 abbrev pub if_passes : {X : Type 0} → (X → Bool) → Option X → Option X
@@ -67,52 +67,42 @@ find-cases p (z ∷ xs) =
       ]
     ]
 
-pub find-found : {X : Type 0} {p : X → Bool} {xs : List X} (k : Found p xs) → find p xs ≡ Some k.item
-find-found {X} {p} {xs} k = find-place p xs k.place k.item k.at k.passes k.before
-
--- the element that is found, by its place; and none passes where none is
-pub found_at : {X : Type 0} (p : X → Bool) (xs : List X) (x : X) → find p xs ≡ Some x
-    → (k : Found p xs) × (k.item ≡ x)
-found_at p xs x e =
-    elim (find-cases p xs) [
-      | inl k ↦ (k, (let same : Some k.item ≡ Some x = sym (find-found k) ∙ e in cc))
-      | inr f ↦ absurd (let none = find-off p xs f in let no : ⊥ = cc in no)
-    ]
-
+-- none passes where none is found
 pub found_none : {X : Type 0} (p : X → Bool) (xs : List X) → find p xs ≡ None
     → (j : ℕ) (y : X) → slice_get xs j ≡ Some y → p y ≡ false
 found_none p xs e =
     elim (find-cases p xs) [
-      | inl k ↦ absurd (let some = find-found k in let no : ⊥ = cc in no)
+      | inl k ↦ absurd (let some = find-place p xs k.place k.item k.at k.passes k.before in let no : ⊥ = cc in no)
       | inr f ↦ f
     ]
 
-at_all : {X : Type 0} (p : X → Bool) (xs : List X) (k : ℕ) (x : X) → slice_get xs k ≡ Some x → p x ≡ false
-    → ((j : ℕ) (y : X) → (j ≡ k → ⊥) → slice_get xs j ≡ Some y → p y ≡ false) → (j : ℕ) (y : X)
-    → slice_get xs j ≡ Some y → p y ≡ false
-at_all p xs k x e off f j y g =
-    elim (cases_eq j k) [
-      | inl same ↦
-          let here : slice_get xs k ≡ Some y = subst (λ m. slice_get xs m ≡ Some y) same g in
-          let one : x ≡ y = cc in
-          subst (λ z. p z ≡ false) one off
-      | inr other ↦ f j y other g
-    ]
+-- where all from a place on pass, and none before
+pub find-from : {X : Type 0} (p : X → Bool) (xs : List X) (k : ℕ)
+    → ((j : ℕ) (y : X) → j < k → slice_get xs j ≡ Some y → p y ≡ false)
+    → ((j : ℕ) (y : X) → k ≤ j → slice_get xs j ≡ Some y → p y ≡ true) → find p xs ≡ slice_get xs k
+find-from p [] k f g = refl
+find-from p (z ∷ xs) zero f g = rw (g 0 z (omega arith) refl) refl
+find-from p (z ∷ xs) (suc k) f g =
+    rw (f 0 z (omega arith) refl) (find-from p xs k (λ j y l e. f (suc j) y (omega arith) e)
+    (λ j y l e. g (suc j) y (omega arith) e))
 
--- where one place alone may pass
-pub find-only : {X : Type 0} (p : X → Bool) (xs : List X) (k : ℕ) (x : X) → slice_get xs k ≡ Some x
-    → ((j : ℕ) (y : X) → (j ≡ k → ⊥) → slice_get xs j ≡ Some y → p y ≡ false) → find p xs ≡ cond (p x) (Some x) None
-find-only p xs k x e f =
-    elim (cases_Bool (p x)) [
-      | inl t ↦ rw t (find-place p xs k x e t (λ j y l g. f j y (λ same. omega arith) g))
-      | inr off ↦ rw off (find-off p xs (at_all p xs k x e off f))
-    ]
+-- where one place alone may pass, and passes or does not
+pub find-at : {X : Type 0} (p : X → Bool) (xs : List X) (k : ℕ) (b : Bool)
+    → ((y : X) → slice_get xs k ≡ Some y → p y ≡ b)
+    → ((j : ℕ) (y : X) → (j ≡ k → ⊥) → slice_get xs j ≡ Some y → p y ≡ false)
+    → find p xs ≡ cond b (slice_get xs k) None
+find-at p [] k true f g = refl
+find-at p [] k false f g = refl
+find-at p (z ∷ xs) zero b f g =
+    rw (f z refl, find-off p xs (λ j y e. g (suc j) y (λ q. omega arith) e)) refl
+find-at p (z ∷ xs) (suc k) b f g =
+    rw (g 0 z (λ q. omega arith) refl) (find-at p xs k b f (λ j y other e. g (suc j) y (λ q. other (omega arith)) e))
 
 -- where the first alone may pass
 pub find-first : {X : Type 0} (p : X → Bool) (xs : List X)
     → ((j : ℕ) (y : X) → 0 < j → slice_get xs j ≡ Some y → p y ≡ false) → find p xs ≡ if_passes p (slice_get xs 0)
 find-first p [] f = refl
-find-first p (z ∷ xs) f = find-only p (z ∷ xs) 0 z refl (λ j y other g. f j y (omega (arith, other)) g)
+find-first p (z ∷ xs) f = rw (find-off p xs (λ j y g. f (suc j) y (omega arith) g)) refl
 
 -- two tests that each element passes alike
 pub find_same : {X : Type 0} (t u : X → Bool) (xs : List X)

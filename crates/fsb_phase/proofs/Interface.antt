@@ -2,12 +2,8 @@
 
 -- The first element of a list that passes, by its place.
 pub use Rattle.fsb_phase.proofs.Finds.{Found, if_passes, find-cases, find-first, find-off, find-place, none_is}
--- How many live requests have their snoop end.
-pub use Rattle.fsb_phase.proofs.Counts.{snoops_count, snoops_to}
--- A queue that holds the requests in flight, entry by entry.
-pub use Rattle.fsb_phase.proofs.Held.{held}
--- The entries of a queue that holds the requests in flight: their places and their numbers.
-pub use Rattle.fsb_phase.proofs.Entries.{Placed, placed}
+-- The entries of a queue that holds the requests in flight: their outcomes, their places and their numbers.
+pub use Rattle.fsb_phase.proofs.Entries.{held, Placed, placed}
 -- Snoop clocks and stalls that are driven are those that are due.
 pub use Rattle.fsb_phase.proofs.Snoops.{has_snoop-at, not_reached_from, outcome_reached, reached_before, snoop_at}
 pub use Rattle.fsb_phase.proofs.Snoops.{snoop_elsewhere}

@@ -1,11 +1,9 @@
 pub mod TimingFacts
 pub mod Finds
-pub mod Counts
-pub mod Held
 pub mod Entries
 pub mod Snoops
 pub mod Settled
-pub mod Heads
+pub mod Oldest
 pub mod Driven
 pub mod Responses
 pub mod Course

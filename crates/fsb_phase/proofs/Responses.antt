@@ -1,40 +1,42 @@
 -- Responses: where RS# is driven, the oldest request may respond; and what a response brings.
-use Rattle.std.proofs.Common.{ℕ, zero, suc, ◌+◌, ◌<◌, ◌≤◌, ◌≡◌, true, false, cond, ◌&&◌, ◌||◌, max, nat_le, Option}
+use Rattle.std.proofs.Common.{ℕ, zero, suc, ◌+◌, ◌<◌, ◌≡◌, true, false, ◌&&◌, ◌||◌, max, nat_le, Option}
 use Rattle.std.proofs.Common.{Some, None, List, length, is_none, refl, sym, ap, ◌∙◌, inl, inr, arith, Bool, not}
-use Rattle.std.proofs.Common.{nat_eq, subst}
-use Rattle.std.specs.List.{slice_get, find}
+use Rattle.std.proofs.Common.{cond, nat_eq}
+use Rattle.std.specs.List.{slice_get}
 use Rattle.std.specs.Option.{option_map, option_map_or}
-use Rattle.std.proofs.lemmas.Bool.{and_right, cases_lt, le-leb, lt-leb, or_parts, and_parts, and_from, eqb-true}
+use Rattle.std.proofs.lemmas.Bool.{and_right, cases_Bool, cases_lt, le-leb, lt-leb, or_parts, and_parts, and_from}
+use Rattle.std.proofs.lemmas.Bool.{eqb-true}
 use Rattle.std.proofs.lemmas.Bool.{both_ways}
 use Rattle.std.proofs.Math.Bool.{and-true}
 use Rattle.fsb_count.specs.Options.{is_some_and, greater_of, is_at}
 use Rattle.fsb_count.proofs.Interface.{is_some_and-none}
-use Rattle.fsb_signal.specs.declared.lines.TheConstants.Lines.{ADS, DRDY}
+use Rattle.fsb_signal.specs.declared.lines.TheConstants.Lines.{ADS}
 use Rattle.fsb_signal.specs.declared.sample.Sample.{Sample}
 use Rattle.fsb_signal.specs.Samples.{has_line, response_of}
 use Rattle.fsb_trace.specs.At.{Trace, line_back}
 use Rattle.fsb_trace.specs.Snoop.{snoop_end_of}
-use Rattle.fsb_trace.specs.Outcome.{response_clock_of, does_move, told_by}
+use Rattle.fsb_trace.specs.Outcome.{response_clock_of, does_move, moves_data, told_by}
 use Rattle.fsb_trace.specs.Response.{two_after_snoop, answer_from, takes, ready_clock_of}
 use Rattle.fsb_laws.specs.OneMore.{OneMore, responds}
 use Rattle.fsb_laws.specs.Orderly.{Spaced, Orderly}
-use Rattle.fsb_laws.specs.Progress.{SnoopsTo, EndsTo, response_count, transfer_of, chunk_step, may_answer_next}
-use Rattle.fsb_laws.proofs.Interface.{may_answer_next-parts, spaced-more, response_count-more}
+use Rattle.fsb_laws.specs.Progress.{SnoopsTo, EndsTo, response_count, transfer_of, may_answer_next}
+use Rattle.fsb_laws.proofs.Interface.{may_answer_next-parts, spaced-more, moves_new}
 use Rattle.fsb_laws.proofs.Interface.{response_clock_of-new, response_clock_of-old}
-use Rattle.fsb_laws.proofs.Interface.{response_count-kept, transfer_of-begun, answered_below, ends_to-still}
+use Rattle.fsb_laws.proofs.Interface.{response_count-kept, answered_below, ends_to-still}
 use Rattle.fsb_laws.proofs.Interface.{ends_to-moving, transfer_parts, has_ready, after_answer}
 use Rattle.fsb_queue.specs.declared.entry.Entry.{Entry}
 use Rattle.fsb_phase.specs.declared.phases.Phases.{Phases}
 use Rattle.fsb_phase.specs.Due.{rank_of, is_moving, has_response}
 use Rattle.fsb_phase.specs.FitQueue.{is_too_soon}
-use Rattle.fsb_phase.proofs.Held.{Held}
-use Rattle.fsb_phase.specs.Phases.{Stands, value_before, last_response}
-use Rattle.fsb_phase.proofs.Entries.{placed}
+use Rattle.fsb_heads.specs.Heads.{value_before}
+use Rattle.fsb_heads.proofs.Interface.{count_answered, value_before-same}
+use Rattle.fsb_phase.specs.Phases.{Stands, last_response}
+use Rattle.fsb_phase.proofs.Entries.{Held, placed}
 use Rattle.fsb_phase.proofs.Settled.{told-is}
-use Rattle.fsb_phase.proofs.Heads.{no_answer-before, Far, idle-later}
+use Rattle.fsb_phase.proofs.Oldest.{no_answer-before, Far, idle-later}
 use Rattle.fsb_trace.specs.Timing.{is_response_from}
 use Rattle.fsb_phase.specs.Drive.{settled_code, drive_of}
-use Rattle.fsb_phase.proofs.Finds.{Found, find-cases, find-found, find-off}
+use Rattle.fsb_phase.proofs.Finds.{if_passes, find-first}
 
 -- a request that is not too soon keeps the distance
 far_enough : (h : Trace) (x : Sample) → is_too_soon h x ≡ false → has_line x ADS ≡ true
@@ -48,30 +50,14 @@ pub spaced_on : (h : Trace) (x : Sample) (v : Trace) → OneMore h x v → Space
 spaced_on h x v m sp f = spaced-more h x v m sp (far_enough h x f)
 
 -- the last response clock
-pub count_answered : (h : Trace) (x : Sample) (v : Trace) → OneMore h x v → responds x ≡ true
-    → response_count v ≡ suc (response_count h)
-count_answered h x v m t =
-    response_count-more h x v m ∙ ap (λ b. response_count h + cond b 1 0) t
-    ∙ (let one : response_count h + 1 ≡ suc (response_count h) = omega arith in one)
-
-last_same : (h : Trace) (x : Sample) (v : Trace) (n : ℕ) → OneMore h x v → n ≤ response_count h
-    → value_before (response_clock_of v) n ≡ value_before (response_clock_of h) n
-unfolding value_before
-last_same h x v zero m l = refl
-last_same h x v (suc n) m l = response_clock_of-old h x v n m (omega arith)
-
-pub last_answered : (h : Trace) (x : Sample) (v : Trace) → OneMore h x v → responds x ≡ true
-    → last_response v ≡ Some (length h)
+pub last_response-more : (h : Trace) (x : Sample) (v : Trace) (b : Bool) → OneMore h x v → responds x ≡ b
+    → last_response v ≡ cond b (Some (length h)) (last_response h)
 unfolding last_response value_before
-last_answered h x v m t = ap (value_before (response_clock_of v)) (count_answered h x v m t)
-    ∙ response_clock_of-new h x v m t
-
-pub last_kept : (h : Trace) (x : Sample) (v : Trace) → OneMore h x v → responds x ≡ false
-    → last_response v ≡ last_response h
-unfolding last_response
-last_kept h x v m f =
+last_response-more h x v true m t =
+    ap (value_before (response_clock_of v)) (count_answered h x v m t) ∙ response_clock_of-new h x v m t
+last_response-more h x v false m f =
     ap (value_before (response_clock_of v)) (response_count-kept h x v m f)
-    ∙ last_same h x v (response_count h) m (omega arith)
+    ∙ value_before-same (response_count h) (λ i l. response_clock_of-old h x v i m l)
 
 -- whether the next request may respond
 late_first : (h : Trace) (o : Option ℕ)
@@ -154,10 +140,6 @@ pub record Answering (h : Trace) (queue : List Entry) (e : ℕ) (x : Sample) : T
   pub count : response_count h ≡ e
   pub may : may_answer_next h ≡ true
 
-idle_code : (o : Option Entry) (n : ℕ) → n ≡ option_map_or settled_code o 0 → o ≡ None → not (nat_eq n 0) ≡ true → ⊥
-idle_code None n e f t = let z : n ≡ 0 = e in both_ways (not (nat_eq n 0)) (rw z refl) t
-idle_code (Some y) n e f t = absurd (let none : ⊥ = cc in none)
-
 not_yet : (h : Trace) (e r : ℕ) → response_clock_of h e ≡ Some r → is_none (response_clock_of h e) ≡ true → ⊥
 not_yet h e r f t = both_ways (is_none (response_clock_of h e)) (rw f refl) t
 
@@ -168,39 +150,39 @@ unfolding has_response
 response_parts h y i f t = and_parts _ _ (sym (ap (λ j. is_none (response_clock_of h j)
     && is_response_from (takes h j) (answer_from h j) (ready_clock_of h j) y.choice.resp (length h)) f) ∙ t)
 
-the_head : (h : Trace) (queue : List Entry) (e : ℕ) (x : Sample) → Orderly h → Held queue h
-    → Far h e → (k : Found (has_response h) queue) → (n : ℕ) → k.place ≡ n → response_of x ≡ settled_code k.item
-    → Answering h queue e x
-the_head h queue e x o f w k (suc n) p c =
-    absurd (both_ways (has_response h k.item)
-    (idle-later h queue e k.place k.item f w (omega arith) k.at).response k.passes)
-the_head h queue e x o f w k zero p c =
-    let at : slice_get queue 0 ≡ Some k.item = subst (λ i. slice_get queue i ≡ Some k.item) p k.at in
-    let here = placed h queue e 0 k.item f w.ends at in
-    let number : rank_of h k.item ≡ e = here.number ∙ (let same : e + 0 ≡ e = omega arith in same) in
-    let parts = response_parts h k.item e number k.passes in
-    elim w.head [
-      | inl still ↦ record {
-        head = k.item;
-        at = at;
-        code = c;
-        count = still.1;
-        may = response_may h e k.item.choice.resp (takes h e) o still.0 still.1 parts.1;
-      }
-      | inr moving ↦ absurd (not_yet h e moving.1 moving.4 parts.0)
+-- the code that is driven is of the oldest, where it responds
+code_of_head : (h : Trace) (o : Option Entry)
+    → not (nat_eq (option_map_or settled_code (if_passes (has_response h) o) 0) 0) ≡ true
+    → (y : Entry) × (o ≡ Some y) × (has_response h y ≡ true)
+code_of_head h None t = absurd (let no : ⊥ = cc in no)
+code_of_head h (Some y) t =
+    elim (cases_Bool (has_response h y)) [
+      | inl r ↦ (y, refl, r)
+      | inr f ↦ absurd (let none : ⊥ = cc in none)
     ]
 
 pub answering : (h : Trace) (queue : List Entry) (e : ℕ) (x : Sample) → Orderly h → Held queue h → Far h e
     → response_of x ≡ (drive_of h queue).rs → responds x ≡ true → Answering h queue e x
 unfolding drive_of responds
 answering h queue e x o f w c t =
-    elim (find-cases (has_response h) queue) [
-      | inl k ↦ the_head h queue e x o f w k k.place refl
-          (c ∙ ap (λ o. option_map_or settled_code o 0) (find-found k))
-      | inr g ↦ absurd (idle_code (find (has_response h) queue) (response_of x) c (find-off (has_response h) queue g) t)
+    let first = find-first (has_response h) queue (λ j y l g. (idle-later h queue e j y f w l g).response) in
+    let code = c ∙ ap (λ z. option_map_or settled_code z 0) first in
+    let y = code_of_head h (slice_get queue 0) (sym (ap (λ n. not (nat_eq n 0)) code) ∙ t) in
+    let here = placed h queue e 0 y.0 f w.ends y.1 in
+    let number : rank_of h y.0 ≡ e = here.number ∙ (let same : e + 0 ≡ e = omega arith in same) in
+    let parts = response_parts h y.0 e number y.2 in
+    elim w.head [
+      | inl still ↦ record {
+        head = y.0;
+        at = y.1;
+        code = rw (y.1, y.2) at code;
+        count = still.1;
+        may = response_may h e y.0.choice.resp (takes h e) o still.0 still.1 parts.1;
+      }
+      | inr moving ↦ absurd (not_yet h e moving.1 moving.4 parts.0)
     ]
 
--- the transfer on the way
+-- whether data move with the response
 begins : (h : Trace) (queue : List Entry) (e : ℕ) (x : Sample) → Held queue h → EndsTo h e
     → Answering h queue e x → does_move (told_by h (response_count h) (response_of x))
     ≡ is_some_and (slice_get queue 0) is_moving
@@ -213,9 +195,8 @@ begins h queue e x f to a =
     told-is h a.head set.0 (response_count h) p.0 (response_of x) set.1 (number ∙ sym a.count) p.1 a.code
     ∙ sym (rw a.at refl)
 
-pub transfer_begun : (h : Trace) (x : Sample) (v : Trace) (queue : List Entry) (e s : ℕ) → OneMore h x v
+pub moves_is : (h : Trace) (x : Sample) (v : Trace) (queue : List Entry) (e s : ℕ) → OneMore h x v
     → SnoopsTo h s → Held queue h → EndsTo h e → Answering h queue e x → responds x ≡ true
-    → chunk_step (has_line x DRDY) (cond (is_some_and (slice_get queue 0) is_moving) (Some 0) None) ≡ transfer_of v
-transfer_begun h x v queue e s m to f ends a t =
-    ap (λ b. chunk_step (has_line x DRDY) (cond b (Some 0) None)) (sym (begins h queue e x f ends a))
-    ∙ sym (transfer_of-begun h x v s m to (answered_below h s to a.may) t)
+    → is_some_and (slice_get queue 0) is_moving ≡ moves_data v (response_count h)
+moves_is h x v queue e s m to f ends a t =
+    sym (moves_new h x v s m to (answered_below h s to a.may) t ∙ begins h queue e x f ends a)

@@ -22,7 +22,7 @@ use Rattle.fsb_trace.specs.Response.{takes}
 use Rattle.fsb_queue.specs.declared.entry.Entry.{Entry}
 use Rattle.fsb_phase.specs.Due.{rank_of, is_moving}
 use Rattle.fsb_phase.specs.Drive.{settled_code}
-use Rattle.fsb_phase.proofs.Held.{IsSettled}
+use Rattle.fsb_phase.proofs.Entries.{IsSettled}
 
 -- the entry's outcome is settled, and with it memory takes data
 abbrev pub is_taking : Entry → Bool

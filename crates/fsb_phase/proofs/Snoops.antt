@@ -1,11 +1,10 @@
 -- The snoop clock that is due next, and the snoop end that the next sample is: of the first without its outcome.
-use Rattle.std.proofs.Common.{ℕ, zero, suc, ◌+◌, ◌-◌, ◌<◌, ◌≤◌, ◌≡◌, Bool, true, false, not, cond, ◌&&◌, max, Option}
+use Rattle.std.proofs.Common.{ℕ, zero, suc, ◌+◌, ◌-◌, ◌<◌, ◌≤◌, ◌≡◌, Bool, true, false, not, cond, ◌&&◌, Option}
 use Rattle.std.proofs.Common.{Some, None, List, length, is_some, is_none, refl, sym, ap, ◌∙◌, inl, inr, arith, subst}
 use Rattle.std.specs.List.{slice_get, find}
 use Rattle.std.specs.Option.{option_map}
-use Rattle.std.proofs.lemmas.Bool.{cases_eq, cases_order, and_left, and_right, and_parts, ne_eqb, leb-true}
-use Rattle.std.proofs.lemmas.Bool.{both_ways, false_from_ne_true}
-use Rattle.std.proofs.lemmas.Option.{slice_get_within, slice_get_cases, slice_get-map}
+use Rattle.std.proofs.lemmas.Bool.{cases_order, and_left, and_right, and_parts, ne_eqb, leb-true}
+use Rattle.std.proofs.lemmas.Option.{slice_get-map}
 use Rattle.std.proofs.Math.Bool.{and-true}
 use Rattle.fsb_count.specs.Options.{is_some_and, is_at, greater_of}
 use Rattle.fsb_count.specs.Clocks.{all_where, nth_where}
@@ -25,11 +24,8 @@ use Rattle.fsb_laws.proofs.Interface.{snoops_to-kept, start_clock}
 use Rattle.fsb_queue.specs.declared.entry.Entry.{Entry}
 use Rattle.fsb_phase.specs.Due.{rank_of, has_snoop, is_stalled}
 use Rattle.fsb_phase.specs.Drive.{ends_snoop_at}
-use Rattle.fsb_phase.specs.Phases.{value_before, last_snoop_end}
-use Rattle.fsb_phase.proofs.Held.{IsSettled, Held}
-use Rattle.fsb_phase.proofs.Finds.{Found, find-only, find-off, find_same, found_at, found_none}
-use Rattle.fsb_phase.proofs.Counts.{snoops_count}
-use Rattle.fsb_phase.proofs.Entries.{Placed, placed, dropped}
+use Rattle.fsb_phase.proofs.Finds.{find-at, find-from, find-off, find_same, found_none}
+use Rattle.fsb_phase.proofs.Entries.{IsSettled, Held, Placed, placed, dropped}
 
 -- the requests of a queue by their numbers: the live requests below e have their end, those below s their snoop end
 pub record Meets (h : Trace) (queue : List Entry) (e s : ℕ) : Type 0 where
@@ -54,19 +50,6 @@ reached_before h s i to l = let v = to.reached i l in rw v.1 refl
 
 pub not_reached_from : (h : Trace) (s i : ℕ) → SnoopsTo h s → s ≤ i → is_none (snoop_end_of h i) ≡ true
 not_reached_from h s i to l = rw (snoop_end_of-above h s i to l) refl
-
--- the first snoop clock of the first live request without its snoop end, by the last snoop end
-pub start_ended : (h : Trace) (s q t : ℕ) → value_before (snoop_end_of h) s ≡ Some t → live_clock_of h s ≡ Some q
-    → snoop_start_of h s ≡ Some (max (q + 4) (t + 3))
-unfolding value_before snoop_start_of start_after_clock start_after_end greater_of
-start_ended h zero q t e c = absurd (let no : ⊥ = cc in no)
-start_ended h (suc i) q t e c = rw (c, e) refl
-
-pub start_unended : (h : Trace) (s q : ℕ) → SnoopsTo h s → value_before (snoop_end_of h) s ≡ None
-    → live_clock_of h s ≡ Some q → snoop_start_of h s ≡ Some (q + 4)
-unfolding value_before snoop_start_of start_after_clock
-start_unended h zero q to e c = rw c refl
-start_unended h (suc i) q to e c = let r = to.reached i (omega arith) in absurd (let no : ⊥ = cc in no)
 
 -- what rests on a number that is not reached is not reached either, as the snoop start of a later one
 pub after_none : (a o : Option ℕ) → o ≡ None → greater_of a o ≡ None
@@ -109,11 +92,6 @@ snoop_elsewhere h s i to f =
 at_next : (h : Trace) (s : ℕ) → SnoopsTo h s → snoop_at h s ≡ is_snoop_due h s (length h)
 unfolding is_snoop_due
 at_next h s to = rw (not_reached_from h s s to (omega arith)) refl
-
-due_from : (h : Trace) (s n start : ℕ) → snoop_start_of h s ≡ Some start
-    → is_snoop_due h s n ≡ is_every_second_from start n
-unfolding is_snoop_due is_some_and
-due_from h s n start e = rw e refl
 
 -- a request with a snoop clock began four clocks before, and so it is known to be live
 due_clock : (h : Trace) (s n : ℕ) (o : Option ℕ) → snoop_start_of h s ≡ o
@@ -162,6 +140,10 @@ stalled_from : (h : Trace) (y : Entry) (s start : ℕ) → rank_of h y ≡ s →
 unfolding is_stalled is_some_and
 stalled_from h y s start e f t = rw (t, e, f) refl
 
+if_some : (b : Bool) (o : Option Entry) (y : Entry) → cond b o None ≡ Some y → (b ≡ true) × (o ≡ Some y)
+if_some true o y e = (refl, e)
+if_some false o y e = absurd (let no : ⊥ = cc in no)
+
 pub some_if : (b : Bool) (y : Entry) → is_some (cond b (Some y) None) ≡ b
 some_if true y = refl
 some_if false y = refl
@@ -177,85 +159,45 @@ module _ {h : Trace} {queue : List Entry} {e s : ℕ} (m : Meets h queue e s) wh
   has_at j y g = has_snoop-at h y (e + j) (placed h queue e j y m.flight m.ends g).number
 
   -- the first entry without an outcome is the first live request without its snoop end
-  no_gap : (k : Found (λ y. is_none y.outcome) queue) → s < e + k.place → ⊥
-  no_gap k more =
+  pub open_is : find (λ y. is_none y.outcome) queue ≡ slice_get queue (s - e)
+  open_is =
       let low : e ≤ s = m.order in
-      let within = slice_get_within queue k.place k.item k.at in
-      elim ((slice_get_cases queue (s - e)).1) [
-        | inr past ↦ let q : length queue ≤ s - e = past.0 in omega arith
-        | inl there ↦
-            let same : e + (s - e) ≡ s = omega arith in
-            both_ways _ (k.before (s - e) there.0 (omega arith) there.2)
-            (entry_open (s - e) there.0 there.2 ∙ ap (λ i. is_none (snoop_end_of h i)) same
-            ∙ not_reached_from h s s m.snoops (omega arith))
-      ]
+      find-from (λ y. is_none y.outcome) queue (s - e)
+      (λ j y l g. entry_open j y g ∙ reached_before h s (e + j) m.snoops (omega arith))
+      (λ j y l g. entry_open j y g ∙ not_reached_from h s (e + j) m.snoops (omega arith))
 
-  open_is : (k : Found (λ y. is_none y.outcome) queue) → e + k.place ≡ s
-  open_is k =
-      elim (cases_order (e + k.place) s) [
-        | inl same ↦ same
-        | inr other ↦ elim other [
-          | inl less ↦ absurd (both_ways _ (reached_before h s (e + k.place) m.snoops less)
-              (sym (entry_open k.place k.item k.at) ∙ k.passes))
-          | inr more ↦ absurd (no_gap k more)
-        ]
-      ]
+  at_s : e + (s - e) ≡ s
+  at_s = let low : e ≤ s = m.order in omega arith
 
-  pub open_clock : (y : Entry) → find (λ z. is_none z.outcome) queue ≡ Some y → live_clock_of h s ≡ Some y.clock
-  open_clock y f =
-      let k = found_at (λ z. is_none z.outcome) queue y f in
-      let here = placed h queue e k.0.place k.0.item m.flight m.ends k.0.at in
-      ap (live_clock_of h) (sym (open_is k.0)) ∙ here.clock ∙ ap (λ z. Some z.clock) k.1
+  pub open_clock : (y : Entry) → slice_get queue (s - e) ≡ Some y → live_clock_of h s ≡ Some y.clock
+  open_clock y g = ap (live_clock_of h) (sym at_s) ∙ (placed h queue e (s - e) y m.flight m.ends g).clock
 
-  elsewhere : (k : ℕ) → e + k ≡ s → (j : ℕ) (y : Entry) → (j ≡ k → ⊥) → slice_get queue j ≡ Some y
-      → has_snoop h y ≡ false
-  elsewhere k f j y other g = has_at j y g ∙ snoop_elsewhere h s (e + j) m.snoops (λ same. other (omega arith))
+  -- it alone may have a snoop clock at the next clock
+  due_here : (y : Entry) → slice_get queue (s - e) ≡ Some y → has_snoop h y ≡ is_snoop_due h s (length h)
+  due_here y g = has_at (s - e) y g ∙ ap (snoop_at h) at_s ∙ at_next h s m.snoops
 
-  -- the entry whose snoop clock is the next clock is this one, if the next snoop has one there
-  pub snooping_some : (y : Entry) (start : ℕ) (b : Bool) → find (λ z. is_none z.outcome) queue ≡ Some y
-      → snoop_start_of h s ≡ Some start → is_every_second_from start (length h) ≡ b
-      → find (has_snoop h) queue ≡ cond b (Some y) None
-  snooping_some y start b f g t =
-      let k = found_at (λ z. is_none z.outcome) queue y f in
-      let same = open_is k.0 in
-      find-only (has_snoop h) queue k.0.place k.0.item k.0.at (elsewhere k.0.place same)
-      ∙ ap (λ c. cond c (Some k.0.item) None)
-      (has_at k.0.place k.0.item k.0.at ∙ ap (snoop_at h) same ∙ at_next h s m.snoops
-      ∙ due_from h s (length h) start g ∙ t)
-      ∙ ap (λ z. cond b (Some z) None) k.1
+  elsewhere : (j : ℕ) (y : Entry) → (j ≡ s - e → ⊥) → slice_get queue j ≡ Some y → has_snoop h y ≡ false
+  elsewhere j y other g = has_at j y g ∙ snoop_elsewhere h s (e + j) m.snoops (λ same. other (omega arith))
 
-  pub snooping_none : find (λ z. is_none z.outcome) queue ≡ None → find (has_snoop h) queue ≡ None
-  snooping_none f =
-      find-off (has_snoop h) queue
-      (λ j y g. has_at j y g
-      ∙ and_left _ _ (sym (entry_open j y g) ∙ found_none (λ z. is_none z.outcome) queue f j y g))
+  pub snooping_is : find (has_snoop h) queue ≡ cond (is_snoop_due h s (length h)) (slice_get queue (s - e)) None
+  snooping_is = find-at (has_snoop h) queue (s - e) (is_snoop_due h s (length h)) due_here elsewhere
 
-  -- it is the first live request without its snoop end
-  snooping_place : (k : Found (has_snoop h) queue) → e + k.place ≡ s
-  snooping_place k =
-      elim (cases_eq (e + k.place) s) [
-        | inl same ↦ same
-        | inr other ↦ absurd (both_ways _ (snoop_elsewhere h s (e + k.place) m.snoops other)
-            (sym (has_at k.place k.item k.at) ∙ k.passes))
-      ]
+  pub snooping_at : (y : Entry) → find (has_snoop h) queue ≡ Some y
+      → (is_snoop_due h s (length h) ≡ true) × (slice_get queue (s - e) ≡ Some y)
+  snooping_at y f = if_some _ (slice_get queue (s - e)) y (sym snooping_is ∙ f)
 
-  pub snooping_clock : (y : Entry) → find (has_snoop h) queue ≡ Some y → live_clock_of h s ≡ Some y.clock
-  snooping_clock y f =
-      let k = found_at (has_snoop h) queue y f in
-      let here = placed h queue e k.0.place k.0.item m.flight m.ends k.0.at in
-      ap (live_clock_of h) (sym (snooping_place k.0)) ∙ here.clock ∙ ap (λ z. Some z.clock) k.1
-
+  -- whether its snoop is to be stalled
   pub stalled_some : (y : Entry) (start : ℕ) → find (has_snoop h) queue ≡ Some y → snoop_start_of h s ≡ Some start
       → is_some (find (is_stalled h) queue) ≡ is_stall_from y.choice.stall (length h) start
   stalled_some y start f g =
-      let k = found_at (has_snoop h) queue y f in
-      let same = snooping_place k.0 in
-      let here = placed h queue e k.0.place k.0.item m.flight m.ends k.0.at in
-      ap is_some (find-only (is_stalled h) queue k.0.place k.0.item k.0.at
-      (λ j z other l. not_stalled h z (elsewhere k.0.place same j z other l)))
-      ∙ some_if (is_stalled h k.0.item) k.0.item
-      ∙ stalled_from h k.0.item s start (here.number ∙ same) g k.0.passes
-      ∙ ap (λ z. is_stall_from z.choice.stall (length h) start) k.1
+      let k = snooping_at y f in
+      ap is_some (find-at (is_stalled h) queue (s - e) (is_stall_from y.choice.stall (length h) start)
+      (λ z at.
+      let one : z ≡ y = (let same : Some z ≡ Some y = sym at ∙ k.1 in cc) in
+      stalled_from h z s start ((placed h queue e (s - e) z m.flight m.ends at).number ∙ at_s) g
+      (due_here z at ∙ k.0) ∙ ap (λ w. is_stall_from w.choice.stall (length h) start) one)
+      (λ j z other at. not_stalled h z (elsewhere j z other at)))
+      ∙ ap (λ o. is_some (cond (is_stall_from y.choice.stall (length h) start) o None)) k.1 ∙ some_if _ y
 
   pub stalled_none : find (has_snoop h) queue ≡ None → is_some (find (is_stalled h) queue) ≡ false
   stalled_none f =
@@ -263,26 +205,14 @@ module _ {h : Trace} {queue : List Entry} {e s : ℕ} (m : Meets h queue e s) wh
       (λ j y g. not_stalled h y (found_none (has_snoop h) queue f j y g)))
 
   -- there is one exactly where the next snoop is due
-  due_entry : is_snoop_due h s (length h) ≡ true → (y : Entry) × (find (has_snoop h) queue ≡ Some y)
-  due_entry t =
-      let low : e ≤ s = m.order in
-      let same : e + (s - e) ≡ s = omega arith in
+  due_cases : (b : Bool) → is_snoop_due h s (length h) ≡ b → is_some (cond b (slice_get queue (s - e)) None) ≡ b
+  due_cases true t =
       let c = due_live h s (length h) t in
-      let y = queue_has h queue e (s - e) c.0 m.flight m.ends (ap (live_clock_of h) same ∙ c.1) in (
-        y.0,
-        find-only (has_snoop h) queue (s - e) y.0 y.1 (elsewhere (s - e) same)
-            ∙ ap (λ b. cond b (Some y.0) None)
-            (has_at (s - e) y.0 y.1 ∙ ap (snoop_at h) same ∙ at_next h s m.snoops ∙ t),
-      )
+      ap is_some ((queue_has h queue e (s - e) c.0 m.flight m.ends (ap (live_clock_of h) at_s ∙ c.1)).1)
+  due_cases false f = refl
 
-  due_cases : (b : Bool) → is_snoop_due h s (length h) ≡ b → is_some (find (has_snoop h) queue) ≡ b
-  due_cases true t = ap is_some ((due_entry t).1)
-  due_cases false f =
-      ap is_some (find-off (has_snoop h) queue (λ j y g.
-      false_from_ne_true _ (λ t. elim (cases_eq (e + j) s) [
-        | inl same ↦ both_ways _ (ap (snoop_at h) same ∙ at_next h s m.snoops ∙ f) (sym (has_at j y g) ∙ t)
-        | inr other ↦ both_ways _ (snoop_elsewhere h s (e + j) m.snoops other) (sym (has_at j y g) ∙ t)
-      ])))
+  pub due_is : is_some (find (has_snoop h) queue) ≡ is_snoop_due h s (length h)
+  due_is = ap is_some snooping_is ∙ due_cases _ refl
 
 -- the snoops behind the next one have no snoop end yet
 pub later_none : (h : Trace) (x : Sample) (v : Trace) (s i : ℕ) (b : Bool) → OneMore h x v → Spaced h
@@ -356,12 +286,6 @@ unless true (Some y) = refl
 unless false None = refl
 unless false (Some y) = refl
 
-before_same : (h : Trace) (x : Sample) (v : Trace) (s n : ℕ) → OneMore h x v → SnoopsTo h s → n ≤ s
-    → value_before (snoop_end_of v) n ≡ value_before (snoop_end_of h) n
-unfolding value_before
-before_same h x v s zero m to l = refl
-before_same h x v s (suc n) m to l = snoop_end_of-old h x v s n m to (omega arith)
-
 module _ {h : Trace} {queue : List Entry} {e s : ℕ} (k : Meets h queue e s) {x : Sample} {v : Trace}
     (m : OneMore h x v) (sp : Spaced h) where
   -- the entry whose snoop ends with the sample
@@ -374,17 +298,4 @@ module _ {h : Trace} {queue : List Entry} {e s : ℕ} (k : Meets h queue e s) {x
   pub ends_is : is_some (find (ends_snoop_at v (length h)) queue) ≡ ends_snoop_of h s x
   unfolding ends_snoop_of
   ends_is = ap is_some snooped_is ∙ unless (stalls x) (find (has_snoop h) queue)
-      ∙ ap (λ b. b && not (stalls x)) (due_cases k (is_snoop_due h s (length h)) refl)
-
-  -- the last snoop end
-  pub snooped_to : (b : Bool) → ends_snoop_of h s x ≡ b
-      → last_snoop_end v ≡ cond b (Some (length h)) (last_snoop_end h)
-  unfolding last_snoop_end value_before
-  snooped_to true t =
-      ap (value_before (snoop_end_of v)) (snoops_count v (s + 1) (snoops_to-ended h x v s m sp k.snoops t)
-      ∙ (let one : s + 1 ≡ suc s = omega arith in one))
-      ∙ snoop_end_of-more h x v s m sp k.snoops ∙ (rw t refl)
-  snooped_to false f =
-      ap (value_before (snoop_end_of v)) (snoops_count v s (snoops_to-kept h x v s m sp k.snoops f))
-      ∙ before_same h x v s s m k.snoops (omega arith)
-      ∙ sym (ap (value_before (snoop_end_of h)) (snoops_count h s k.snoops))
+      ∙ ap (λ b. b && not (stalls x)) (due_is k)

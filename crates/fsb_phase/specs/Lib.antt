@@ -2,4 +2,3 @@ pub mod Due
 pub mod FitQueue
 pub mod Drive
 pub mod Phases
-pub mod Next

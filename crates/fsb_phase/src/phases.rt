@@ -3,41 +3,35 @@ ghost use Rattle.std.specs.Prelude.{List, [], ◌∷◌, ◌++◌, length, slice
 ghost use Rattle.std.specs.List.{find};
 ghost use Rattle.fsb_signal.specs.declared.sample.Sample.{Sample};
 ghost use Rattle.fsb_trace.specs.At.{Trace};
-ghost use Rattle.fsb_trace.specs.Requests.{live_clock_of};
-ghost use Rattle.fsb_trace.specs.Snoop.{snoop_start_of, snoop_end_of};
-ghost use Rattle.fsb_trace.specs.Response.{answer_from, ready_clock_of};
-ghost use Rattle.fsb_laws.specs.OneMore.{responds, stalls};
-ghost use Rattle.fsb_laws.specs.Progress.{SnoopsTo, response_count, transfer_of, may_answer_next};
+ghost use Rattle.fsb_trace.specs.Response.{answer_from};
+ghost use Rattle.fsb_laws.specs.OneMore.{responds};
+ghost use Rattle.fsb_laws.specs.Progress.{response_count, transfer_of, may_answer_next};
+ghost use Rattle.fsb_heads.specs.Heads.{Stands as HeadsStands};
 ghost use Rattle.fsb_queue.specs.declared.entry.Entry.{Entry};
 ghost use Rattle.fsb_phase.specs.Due.{has_snoop, is_stalled, has_ready, has_response, response_to_now};
 ghost use Rattle.fsb_phase.specs.Drive.{drive_of, phased_at, ends_snoop_at, has_end_at};
 ghost use Rattle.fsb_phase.specs.FitQueue.{HoldsInFlight};
-ghost use Rattle.fsb_phase.specs.Phases.{Stands, MayTake, value_before, last_snoop_end, last_response};
-ghost use Rattle.fsb_phase.specs.Next.{IsNext};
+ghost use Rattle.fsb_phase.specs.Phases.{Stands, IsNext, MayTake};
 
 use crate::drive::{Drive, Phased};
 use crate::places::{
-    answer_after, begun_by, chunk_due, code_if, is_busy, is_taking, number_of, open_entry,
+    answer_after, chunk_due, code_if, has_data, is_busy, is_taking, number_of, open_entry,
 };
-use crate::timing::{chunk_step, is_ready_from, is_response_from, is_stall_from};
+use crate::timing::{is_ready_from, is_response_from, is_stall_from};
+use fsb_heads::{Heads, Next, responds, stalls};
 use fsb_queue::{Entry, Queue};
-use fsb_signal::{Lines, Sample};
-use fsb_trace::is_every_second_from;
+use fsb_signal::Sample;
 
 /// Tells what is due at a clock, from the samples and the queues that it was given so far.
 #[derive(Clone, Copy, Debug, PartialEq, Eq)]
 pub struct Phases {
-    /// The last snoop end.
-    snooped: Option<u32>,
+    /// What the next snoop, the next response and the data on the way rest on.
+    heads: Heads,
     /// The clock from which the next request to respond is answered; none while its snoop end or the end before it is to
     /// come.
     from: Option<u64>,
-    /// The ready clock of the next request to respond.
-    ready: Option<u32>,
     /// The last response clock.
     response: Option<u32>,
-    /// How many chunks came of the transfer that is on the way.
-    transfer: Option<u8>,
 }
 
 impl Phases {
@@ -46,11 +40,9 @@ impl Phases {
         ensures { Stands result [] }
     {
         Phases {
-            snooped: None,
+            heads: Heads::new(),
             from: None,
-            ready: None,
             response: None,
-            transfer: None,
         }
     }
 
@@ -98,31 +90,17 @@ impl Phases {
             MayTake clock sample.now queue.now turns h → Stands self.new (h ++ sample.now ∷ []) }
     {
         let snooped = self.snooped_with(clock, sample, queue);
-        let transfer = self.transfer_with(sample, queue);
+        let heads = self.heads_with(clock, sample, queue, &snooped);
+        let transfer = heads.chunks();
         let ended = self.ended_with(sample, queue, transfer);
         *self = Phases {
-            snooped: clock_if(snooped.is_some(), clock, self.snooped),
+            heads,
             from: self.from_with(clock, sample, queue, &snooped, transfer),
-            ready: self.ready_with(clock, sample),
             response: clock_if(responds(sample), clock, self.response),
-            transfer,
         };
         Phased {
             snooped: number_of(&snooped),
             ended: number_of(&ended),
-        }
-    }
-
-    /// The first snoop clock of the first request without its snoop end, which began at this clock.
-    fn snoop_start(&self, clock: u32) -> u64
-        ensures { (h : Trace) (s : ℕ) → SnoopsTo h s →
-            self.now.snooped ≡ value_before (snoop_end_of h) s → live_clock_of h s ≡ Some clock →
-            snoop_start_of h s ≡ Some result }
-    {
-        let earliest = u64::from(clock) + 4;
-        match self.snooped {
-            Some(end) => earliest.max(u64::from(end) + 3),
-            None => earliest,
         }
     }
 
@@ -133,7 +111,7 @@ impl Phases {
     {
         match open_entry(queue) {
             Some(e) => {
-                if is_every_second_from(self.snoop_start(e.clock), u64::from(clock)) {
+                if self.heads.is_due(e.clock, clock) {
                     Some(e)
                 } else {
                     None
@@ -150,7 +128,11 @@ impl Phases {
             result ≡ is_some (find (is_stalled h) queue) }
     {
         match snooping {
-            Some(e) => is_stall_from(e.choice.stall, u64::from(clock), self.snoop_start(e.clock)),
+            Some(e) => is_stall_from(
+                e.choice.stall,
+                u64::from(clock),
+                self.heads.snoop_start(e.clock),
+            ),
             None => false,
         }
     }
@@ -173,7 +155,7 @@ impl Phases {
         is_response_from(
             is_taking(oldest),
             self.from,
-            self.ready,
+            self.heads.ready(),
             oldest.choice.resp,
             clock,
         )
@@ -185,7 +167,7 @@ impl Phases {
             IsNext self.now clock queue turns h → slice_get queue 0 ≡ Some oldest →
             responds ≡ has_response h oldest → result ≡ response_to_now h oldest }
     {
-        if self.transfer.is_some() {
+        if self.heads.chunks().is_some() {
             self.response
         } else if responds {
             Some(clock)
@@ -207,32 +189,41 @@ impl Phases {
         }
     }
 
+    /// The heads after the sample, with which this request has its snoop end.
+    fn heads_with(
+        &self,
+        clock: u32,
+        sample: &Sample,
+        queue: &Queue,
+        snooped: &Option<Entry>,
+    ) -> Heads
+        ensures { (h : Trace) (turns : List ℕ) → Stands self.now h →
+            MayTake clock sample.now queue.now turns h →
+            snooped.now ≡ find (ends_snoop_at (h ++ sample.now ∷ []) (length h)) queue.now →
+            HeadsStands result (h ++ sample.now ∷ []) }
+    {
+        let next = Next {
+            snoops: snooped.is_some(),
+            may_answer: self.may_answer(clock),
+            moves: has_data(queue.at(0).copied()),
+        };
+        self.heads.after(clock, sample, &next)
+    }
+
     /// Whether the oldest request has responded, with the sample or before.
     fn has_answered(&self, sample: &Sample) -> bool
-        ensures { result ≡ (responds sample.now || is_some self.now.transfer) }
+        ensures { (h : Trace) → HeadsStands self.now.heads h →
+            result ≡ (responds sample.now || is_some (transfer_of h)) }
     {
-        responds(sample) || self.transfer.is_some()
+        responds(sample) || self.heads.chunks().is_some()
     }
 
     /// Whether its end comes with the sample, with which this transfer is on the way.
     fn has_ended(&self, sample: &Sample, transfer: Option<u8>) -> bool
-        ensures { result ≡ ((responds sample.now || is_some self.now.transfer) && is_none transfer) }
+        ensures { (h : Trace) → HeadsStands self.now.heads h →
+            result ≡ ((responds sample.now || is_some (transfer_of h)) && is_none transfer) }
     {
         self.has_answered(sample) && transfer.is_none()
-    }
-
-    /// How many chunks came, with the sample, of the transfer that is on the way then.
-    fn transfer_with(&self, sample: &Sample, queue: &Queue) -> Option<u8>
-        ensures { (h : Trace) (clock : ℕ) (turns : List ℕ) → Stands self.now h →
-            MayTake clock sample.now queue.now turns h →
-            result ≡ transfer_of (h ++ sample.now ∷ []) }
-    {
-        let comes = sample.has(Lines::DRDY);
-        if responds(sample) {
-            chunk_step(comes, begun_by(queue.at(0).copied()))
-        } else {
-            chunk_step(comes, self.transfer)
-        }
     }
 
     /// The request whose end comes with the sample, with which this transfer is on the way.
@@ -280,25 +271,6 @@ impl Phases {
         }
     }
 
-    /// The ready clock of the next request to respond, after the sample.
-    fn ready_with(&self, clock: u32, sample: &Sample) -> Option<u32>
-        ensures { (h : Trace) (queue : List Entry) (turns : List ℕ) → Stands self.now h →
-            MayTake clock sample.now queue turns h →
-            result ≡ ready_clock_of (h ++ sample.now ∷ []) (response_count (h ++ sample.now ∷ [])) }
-    {
-        if responds(sample) {
-            None
-        } else if self.ready.is_some() {
-            self.ready
-        } else if !sample.has(Lines::TRDY) {
-            None
-        } else if self.may_answer(clock) {
-            Some(clock)
-        } else {
-            None
-        }
-    }
-
     /// Whether the next request to respond may do so at the next clock.
     fn may_answer(&self, clock: u32) -> bool
         ensures { (h : Trace) → Stands self.now h → clock ≡ length h → result ≡ may_answer_next h }
@@ -308,22 +280,6 @@ impl Phases {
             None => false,
         }
     }
-}
-
-/// Whether RS# is not idle in the sample.
-#[tactic(auto, unfolding(fsb_laws::specs::OneMore::responds))]
-fn responds(sample: &Sample) -> bool
-    ensures { result ≡ responds sample.now }
-{
-    sample.response() != 0
-}
-
-/// Whether HIT# and HITM# are asserted together in the sample.
-#[tactic(auto, unfolding(fsb_laws::specs::OneMore::stalls))]
-fn stalls(sample: &Sample) -> bool
-    ensures { result ≡ stalls sample.now }
-{
-    sample.has(Lines::HIT) && sample.has(Lines::HITM)
 }
 
 /// The last clock at which something happens, where it happens at this clock or not, and happened last at that one.

@@ -101,14 +101,14 @@ pub fn chunk_due(e: &Entry, c: u32, answered: Option<u32>) -> Option<(u32, u8)>
     }
 }
 
-/// How many chunks came of the transfer of the oldest entry where it begins: none yet, or it has no data.
+/// Whether there is an entry, and data move with its outcome.
 #[tactic(auto, unfolding(fsb_count::specs::Options::is_some_and))]
-pub fn begun_by(oldest: Option<Entry>) -> Option<u8>
-    ensures { result ≡ (if is_some_and oldest is_moving then Some 0 else None) }
+pub fn has_data(entry: Option<Entry>) -> bool
+    ensures { result ≡ is_some_and entry is_moving }
 {
-    match oldest {
-        Some(e) if is_moving(&e) => Some(0),
-        _ => None,
+    match entry {
+        Some(e) => is_moving(&e),
+        None => false,
     }
 }
 

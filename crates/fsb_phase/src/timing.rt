@@ -2,19 +2,6 @@
 
 ghost use Rattle.std.specs.Prelude.{◌≡◌, ◌<◌, IfSome};
 ghost use Rattle.fsb_trace.specs.Timing.{is_stall_from, is_ready_from, is_response_from, chunk_from, is_busy_from};
-ghost use Rattle.fsb_laws.specs.Progress.{chunk_step};
-
-/// How many chunks came of a transfer after a clock at which a chunk comes or none does; none after the fourth.
-#[tactic(auto, unfolding(fsb_laws::specs::Progress::chunk_step))]
-pub fn chunk_step(comes: bool, came: Option<u8>) -> Option<u8>
-    ensures { result ≡ chunk_step comes came }
-{
-    match came {
-        Some(came) if comes => { if came < 3 { Some(came + 1) } else { None } }
-        Some(came) if came < 4 => Some(came),
-        _ => None,
-    }
-}
 
 /// Whether `c` is one of the first clocks of a snoop that starts there, as many as it is to be stalled.
 pub fn is_stall_from(stall: u8, c: u64, start: u64) -> bool

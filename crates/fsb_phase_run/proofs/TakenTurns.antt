@@ -4,8 +4,8 @@ use Rattle.std.specs.Option.{option_map}
 use Rattle.fsb_trace.specs.Outcome.{settled_by, settled_outcome_of}
 use Rattle.fsb_trace.specs.Snoop.{snoop_end_of}
 use Rattle.fsb_trace.proofs.Interface.{snoop_end_of-stays}
-use Rattle.fsb_phase.specs.Phases.{snooped_count}
-use Rattle.fsb_phase.proofs.Interface.{snoops_to}
+use Rattle.fsb_heads.specs.Heads.{snooped_count}
+use Rattle.fsb_heads.proofs.Interface.{snoops_to}
 use Rattle.fsb_timely.specs.Grants.{snooped_at}
 use Rattle.fsb_timely.specs.Growth.{GrowsTo}
 use Rattle.fsb_timely.specs.Moments.{number_of_turn, turns_in}

@@ -13,7 +13,7 @@ ghost use Rattle.fsb_trace.specs.Snoop.{snoop_end_of};
 ghost use Rattle.fsb_queue.specs.declared.entry.Entry.{Entry};
 ghost use Rattle.fsb_phase.specs.Drive.{drive_of, phased_at};
 ghost use Rattle.fsb_phase.specs.FitQueue.{HoldsInFlight};
-ghost use Rattle.fsb_phase.specs.Phases.{snooped_count};
+ghost use Rattle.fsb_heads.specs.Heads.{snooped_count};
 ghost use Rattle.fsb_flight.specs.GoesOn.{goes_on};
 ghost use Rattle.fsb_timely.specs.Grants.{is_end_at, snooped_at};
 ghost use Rattle.fsb_timely.specs.Growth.{GrowsTo};

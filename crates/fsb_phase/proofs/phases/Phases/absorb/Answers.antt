@@ -1,31 +1,31 @@
-use Rattle.std.proofs.Common.{refl, sym, ◌∙◌}
+use Rattle.std.proofs.Common.{refl, sym}
 use Rattle.fsb_phase.specs.Drive.{phased_at}
-use Rattle.fsb_phase.proofs.Course.{last_response_is, last_snoop, taken}
+use Rattle.fsb_phase.proofs.Course.{taken}
+use Rattle.fsb_phase.proofs.Responses.{last_response-more}
 use Rattle.fsb_phase.proofs.phases.Phases.absorb.Goals as goal
 
 pub returns-clause-result : goal.returns-clause-result
 unfolding phased_at
 returns-clause-result c = λ h turns k t.
+    let snooped = c.snooped_with-snooped.ensures h turns k t in
+    let transfer = c.chunks-transfer.ensures _ (c.heads_with-heads.ensures h turns k t snooped) in
     rw (
       c.number_of.ensures,
       c.number_of-2.ensures,
-      c.snooped_with-snooped.ensures h turns k t,
-      c.ended_with-ended.ensures h c.args.clock turns k t (c.transfer_with-transfer.ensures h c.args.clock turns k t),
+      snooped,
+      c.ended_with-ended.ensures h c.args.clock turns k t transfer,
       t.clock_is,
     ) refl
 
 pub returns-clause-stands : goal.returns-clause-stands
 returns-clause-stands c = λ h turns k t.
     let snooped = c.snooped_with-snooped.ensures h turns k t in
-    let transfer = c.transfer_with-transfer.ensures h c.args.clock turns k t in
+    let heads = c.heads_with-heads.ensures h turns k t snooped in
     record {
-      snooped = c.clock_if.ensures
-          ∙ last_snoop (taken k t).2 c.args.clock c.snooped_with-snooped.result c.is_some.result t.clock_is snooped
-          (sym c.is_some.ensures);
-      from = c.from_with.ensures h turns k t snooped transfer;
-      ready = c.ready_with.ensures h c.args.queue.now turns k t;
-      response = c.clock_if-2.ensures
-          ∙ last_response_is (taken k t).2 c.args.clock c.responds.result t.clock_is (sym c.responds.ensures);
-      transfer = transfer;
-      orderly = (taken k t).2.orderly;
+      heads = heads;
+      from = c.from_with.ensures h turns k t snooped (c.chunks-transfer.ensures _ heads);
+      response = rw (c.clock_if.ensures, t.clock_is, k.response)
+          (sym (last_response-more h c.args.sample.now _ c.responds.result (taken k t).1.more
+          (sym c.responds.ensures)));
+      orderly = (taken k t).1.orderly;
     }

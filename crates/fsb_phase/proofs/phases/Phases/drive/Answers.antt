@@ -1,5 +1,5 @@
 use Rattle.std.proofs.Common.{sym, ◌∙◌}
-use Rattle.fsb_phase.specs.Next.{IsNext}
+use Rattle.fsb_phase.specs.Phases.{IsNext}
 use Rattle.fsb_phase.proofs.Driven.{drive_none, drive_some}
 use Rattle.fsb_phase.proofs.phases.Phases.drive.Goals as goal
 

@@ -1,7 +1,7 @@
 use Rattle.std.proofs.Common.{true, false, sym, ap, ◌∙◌}
 use Rattle.fsb_trace.specs.Timing.{is_ready_from}
-use Rattle.fsb_phase.proofs.Held.{held}
-use Rattle.fsb_phase.proofs.Heads.{head_ready}
+use Rattle.fsb_phase.proofs.Entries.{held}
+use Rattle.fsb_phase.proofs.Oldest.{head_ready}
 use Rattle.fsb_phase.proofs.phases.Phases.has_ready.Goals as goal
 
 pub returns-then-is_taking : goal.returns-then-is_taking

@@ -2,21 +2,14 @@ use Rattle.std.proofs.Common.{refl}
 use Rattle.fsb_count.specs.Clocks.{count_where, all_where, nth_where}
 use Rattle.fsb_trace.specs.Requests.{live_count, live_clock_of}
 use Rattle.fsb_trace.specs.Snoop.{snoop_end_of, snoop_end_if, start_after_clock}
-use Rattle.fsb_trace.specs.Response.{ready_clock_of, ready_after, clock_after_snoop, answer_from, two_after_snoop}
-use Rattle.fsb_laws.specs.Progress.{response_count, transfer_of, transfer_after}
+use Rattle.fsb_trace.specs.Response.{answer_from, two_after_snoop}
+use Rattle.fsb_laws.specs.Progress.{response_count}
 use Rattle.fsb_laws.proofs.Interface.{orderly-empty}
-use Rattle.fsb_phase.specs.Phases.{value_before, snooped_count, last_snoop_end, last_response}
+use Rattle.fsb_heads.specs.Heads.{value_before}
+use Rattle.fsb_phase.specs.Phases.{last_response}
 use Rattle.fsb_phase.proofs.phases.Phases.new.Goals as goal
 
 pub returns : goal.returns
 unfolding count_where all_where nth_where live_count live_clock_of snoop_end_of snoop_end_if start_after_clock
-    ready_clock_of ready_after clock_after_snoop response_count transfer_of transfer_after answer_from
-    two_after_snoop value_before snooped_count last_snoop_end last_response
-returns c = record {
-  snooped = refl;
-  from = refl;
-  ready = refl;
-  response = refl;
-  transfer = refl;
-  orderly = orderly-empty;
-}
+    response_count answer_from two_after_snoop value_before last_response
+returns c = record { heads = c.new.ensures; from = refl; response = refl; orderly = orderly-empty }

@@ -18,10 +18,10 @@ use Rattle.fsb_laws.proofs.Interface.{transfer_parts}
 use Rattle.fsb_queue.specs.declared.entry.Entry.{Entry}
 use Rattle.fsb_phase.specs.declared.phases.Phases.{Phases}
 use Rattle.fsb_phase.specs.Due.{rank_of, has_ready, has_response, response_to_now, is_moving, due_chunk, keeps_busy}
-use Rattle.fsb_phase.specs.Phases.{Stands, value_before, last_response, snooped_count}
-use Rattle.fsb_phase.proofs.Held.{IsSettled, Held}
-use Rattle.fsb_phase.proofs.Counts.{snoops_to}
-use Rattle.fsb_phase.proofs.Entries.{placed}
+use Rattle.fsb_heads.specs.Heads.{value_before, snooped_count}
+use Rattle.fsb_heads.proofs.Interface.{snoops_to}
+use Rattle.fsb_phase.specs.Phases.{Stands, last_response}
+use Rattle.fsb_phase.proofs.Entries.{IsSettled, Held, placed}
 use Rattle.fsb_phase.proofs.Settled.{is_taking, taking-is}
 use Rattle.fsb_phase.proofs.Snoops.{Meets, after_none}
 
@@ -213,7 +213,8 @@ module _ {p : Phases} {h : Trace} {queue : List Entry} {y : Entry} (k : Stands p
             (and_right b _ (not_ready y.choice.trdy (length h)))
       ]
 
-  pub head_response : is_response_from (is_taking y) p.from p.ready y.choice.resp (length h) ≡ has_response h y
+  pub head_response : is_response_from (is_taking y) p.from (ready_clock_of h (response_count h)) y.choice.resp
+      (length h) ≡ has_response h y
   unfolding has_response
   head_response =
       let w = far h k.orderly in
@@ -222,26 +223,26 @@ module _ {p : Phases} {h : Trace} {queue : List Entry} {y : Entry} (k : Stands p
       let set = f.settled 0 y g in
       elim w.1.head [
         | inl still ↦
-            rw (k.from, k.ready, still.1, number, response_past h e (omega (arith, still.1)))
+            rw (k.from, still.1, number, response_past h e (omega (arith, still.1)))
             (open_response h y set.0 e (snoop_end_of h e) set.1 number refl)
         | inr moving ↦
             let ended = w.1.ends.above e (omega arith) in
-            rw (k.from, k.ready, moving.3, no_answer-before h e ended, no_ready-before h e ended, number, moving.4)
+            rw (k.from, moving.3, no_answer-before h e ended, no_ready-before h e ended, number, moving.4)
             (not_response (is_taking y) y.choice.resp (length h))
       ]
 
   -- its response clock, up to the next clock
-  pub head_moving : is_some p.transfer ≡ true → p.response ≡ response_to_now h y
+  pub head_moving : is_some (transfer_of h) ≡ true → p.response ≡ response_to_now h y
   head_moving t =
       let w = far h k.orderly in
       elim w.1.head [
-        | inl still ↦ absurd (let none = k.transfer ∙ still.0 in let wrong = rw none at t in let no : ⊥ = cc in no)
+        | inl still ↦ absurd (let wrong = rw still.0 at t in let no : ⊥ = cc in no)
         | inr moving ↦
             k.response ∙ last_is h w.0 moving.1 moving.3 moving.4
             ∙ sym (to_form h y w.0 (Some moving.1) (head_number w.0 w.1) moving.4)
       ]
 
-  pub head_still : (b : Bool) → is_some p.transfer ≡ false → has_response h y ≡ b
+  pub head_still : (b : Bool) → is_some (transfer_of h) ≡ false → has_response h y ≡ b
       → cond b (Some (length h)) None ≡ response_to_now h y
   head_still b t same =
       let w = far h k.orderly in
@@ -249,5 +250,5 @@ module _ {p : Phases} {h : Trace} {queue : List Entry} {y : Entry} (k : Stands p
         | inl still ↦
             ap (λ a. cond a (Some (length h)) None) (sym same)
             ∙ sym (to_form h y w.0 None (head_number w.0 w.1) (response_past h w.0 (omega (arith, still.1))))
-        | inr moving ↦ absurd (let some = k.transfer ∙ moving.2 in let wrong = rw some at t in let no : ⊥ = cc in no)
+        | inr moving ↦ absurd (let wrong = rw moving.2 at t in let no : ⊥ = cc in no)
       ]

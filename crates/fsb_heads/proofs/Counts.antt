@@ -1,6 +1,6 @@
 -- How many live requests have their snoop end.
 use Rattle.std.proofs.Common.{ℕ, zero, suc, ◌+◌, ◌<◌, ◌≤◌, ◌≡◌, Bool, true, false, Option, Some, None, is_some, refl}
-use Rattle.std.proofs.Common.{sym, ◌⊎◌, inl, inr, arith, subst, add-one}
+use Rattle.std.proofs.Common.{cond, length, sym, ◌⊎◌, inl, inr, arith, subst, add-one, add-zero}
 use Rattle.std.proofs.lemmas.Bool.{cases_lt, cases_eq}
 use Rattle.fsb_count.specs.Clocks.{count_where}
 use Rattle.fsb_count.proofs.Interface.{count_where-failed, count_where-passed}
@@ -8,10 +8,12 @@ use Rattle.fsb_trace.specs.At.{Trace}
 use Rattle.fsb_trace.specs.Requests.{live_count}
 use Rattle.fsb_trace.specs.Snoop.{snoop_end_of}
 use Rattle.fsb_trace.proofs.Interface.{snoop_end_of-clock, live_below_count}
-use Rattle.fsb_laws.specs.Progress.{SnoopsTo}
-use Rattle.fsb_laws.proofs.Interface.{snoop_end_of-above}
-use Rattle.fsb_phase.specs.Phases.{snooped_count}
-use Rattle.std.specs.Prelude.{length}
+use Rattle.fsb_signal.specs.declared.sample.Sample.{Sample}
+use Rattle.fsb_laws.specs.OneMore.{OneMore}
+use Rattle.fsb_laws.specs.Orderly.{Spaced}
+use Rattle.fsb_laws.specs.Progress.{SnoopsTo, ends_snoop_of}
+use Rattle.fsb_laws.proofs.Interface.{snoop_end_of-above, snoops_to-ended, snoops_to-kept}
+use Rattle.fsb_heads.specs.Heads.{snooped_count}
 
 -- a test that exactly the numbers below s pass
 count_below : (p : ℕ → Bool) (n s : ℕ) → s ≤ n → ((k : ℕ) → k < s → p k ≡ true)
@@ -74,3 +76,14 @@ snoops_count h s to =
 
 pub snoops_to : (h : Trace) → SnoopsTo h (snooped_count h)
 snoops_to h = let k = some_snoops h in subst (SnoopsTo h) (sym (snoops_count h k.0 k.1)) k.1
+
+-- and with the next sample there is one more where a snoop ends with it
+snoops_to-more : (h : Trace) (x : Sample) (v : Trace) (s : ℕ) (b : Bool) → OneMore h x v → Spaced h → SnoopsTo h s
+    → ends_snoop_of h s x ≡ b → SnoopsTo v (s + cond b 1 0)
+snoops_to-more h x v s true m sp to t = snoops_to-ended h x v s m sp to t
+snoops_to-more h x v s false m sp to f = subst (SnoopsTo v) (sym (add-zero s)) (snoops_to-kept h x v s m sp to f)
+
+pub snooped_count-more : (h : Trace) (x : Sample) (v : Trace) → OneMore h x v → Spaced h
+    → snooped_count v ≡ snooped_count h + cond (ends_snoop_of h (snooped_count h) x) 1 0
+snooped_count-more h x v m sp =
+    snoops_count v _ (snoops_to-more h x v (snooped_count h) _ m sp (snoops_to h) refl)
