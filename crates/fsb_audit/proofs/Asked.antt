@@ -28,7 +28,7 @@ use Rattle.fsb_laws.proofs.Interface.{end_past, finished-deferred, finished-plai
 use Rattle.fsb_laws.proofs.Interface.{is_outstanding-end, last_clock_of-plain, line_at-old, live_number_of-more}
 use Rattle.fsb_laws.proofs.Interface.{newly_deferred, request_at-old}
 use Rattle.fsb_rules.specs.Checker.{Decoded}
-use Rattle.fsb_rules.specs.Tests.{request_by}
+use Rattle.fsb_rules.specs.Recent.{request_by}
 use Rattle.fsb_rules.proofs.Interface.{decoded_lawful}
 use Rattle.fsb_audit.specs.AuditRegisters.{asked_after, asked_with, first_asked}
 use Rattle.fsb_audit.specs.Audit.{HasAsked, first_back}

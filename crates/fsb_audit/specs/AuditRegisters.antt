@@ -15,7 +15,7 @@ use Rattle.fsb_trace.specs.Requests.{is_reply_kind}
 use Rattle.fsb_trace.specs.Outcome.{response_code_of}
 use Rattle.fsb_laws.specs.OneMore.{responds}
 use Rattle.fsb_rules.specs.declared.coming.Coming.{Coming}
-use Rattle.fsb_rules.specs.Tests.{request_by}
+use Rattle.fsb_rules.specs.Recent.{request_by}
 use Rattle.fsb_audit.specs.declared.finding.FoulAt.{FoulAt}
 use Rattle.fsb_audit.specs.declared.finding.Finding.{Finding}
 use Rattle.fsb_audit.specs.declared.finding.Finding.TheVariants.{Foul as FoulFirst}

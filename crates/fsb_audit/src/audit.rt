@@ -3,7 +3,7 @@
 ghost use Rattle.std.specs.Prelude.{◌≡◌, ℕ, ◌+◌, ◌*◌, ◌^◌, ◌<◌, true, false, [], ◌∷◌, ◌++◌, length, is_some, slice_index, if◌then◌else◌, Some, None, IsErr, IsOk, IfOk, IfSome, OnOk, OnErr};
 ghost use Rattle.fsb_signal.specs.declared.marks.Marks.{Marks};
 ghost use Rattle.fsb_trace.specs.At.{Trace};
-ghost use Rattle.fsb_rules.specs.Tests.{request_by};
+ghost use Rattle.fsb_rules.specs.Recent.{request_by};
 ghost use Rattle.fsb_audit.specs.MovedChunks.{moved_count};
 ghost use Rattle.fsb_audit.specs.Fouls.{finding_of};
 ghost use Rattle.fsb_audit.specs.AuditRegisters.{asked_after, first_after, from_memory_after, foul_by, found_after, count_after, chunk_by, data_in, Puts, HasMoved};
@@ -186,7 +186,7 @@ impl Audit {
     }
 
     /// The request whose second clock is this sample.
-    #[tactic(auto, unfolding(fsb_rules::specs::Tests::request_by))]
+    #[tactic(auto, unfolding(fsb_rules::specs::Recent::request_by))]
     fn begun(&self, sample: &Sample) -> Option<Request>
         ensures { result ≡ request_by self.now.first sample.now }
     {

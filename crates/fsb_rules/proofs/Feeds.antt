@@ -1,10 +1,10 @@
 -- The checker stands for the empty history, and for a history with a new sample.
 use Rattle.std.proofs.Common.{ℕ, ◌≡◌, true, false, cond, Option, Some, None, [], length, nat_lt, refl, sym}
-use Rattle.std.proofs.Common.{subst, ap, ◌∙◌, arith, ◌+◌, ◌-◌, ◌<◌, not, ◌&&◌, nat_eq, ◌∷◌, ◌++◌, inl, inr, ◌≤◌}
+use Rattle.std.proofs.Common.{subst, ap, ◌∙◌, arith, ◌+◌, not, ◌&&◌, nat_eq, ◌∷◌, ◌++◌, inl, inr}
 use Rattle.std.proofs.Common.{is_some}
-use Rattle.std.proofs.lemmas.Bool.{both_ways, cases_Bool, cases_lt, cases_eq, and_parts, le-leb, not-false, ne_eqb}
+use Rattle.std.proofs.lemmas.Bool.{both_ways, cases_Bool, and_parts, not-false, ne_eqb}
 use Rattle.std.specs.Option.{option_map}
-use Rattle.fsb_count.specs.Clocks.{first_where, count_where}
+use Rattle.fsb_count.specs.Clocks.{first_where}
 use Rattle.fsb_count.specs.Options.{is_some_and}
 use Rattle.fsb_count.proofs.Interface.{nth_where-found, first_where-off}
 use Rattle.fsb_signal.specs.declared.lines.TheConstants.Lines.{ADS}
@@ -12,45 +12,37 @@ use Rattle.fsb_signal.specs.declared.marks.Marks.{Marks}
 use Rattle.fsb_signal.specs.Samples.{line_at}
 use Rattle.fsb_signal.proofs.Interface.{line_at-past}
 use Rattle.fsb_signal.specs.declared.sample.Sample.{Sample}
-use Rattle.fsb_trace.specs.At.{line_back, Trace, request_at, responds_at, response_code_at}
-use Rattle.fsb_trace.specs.Snoop.{snoop_end_of}
-use Rattle.fsb_trace.specs.Response.{ready_clock_of}
+use Rattle.fsb_trace.specs.At.{line_back, Trace, responds_at, response_code_at}
 use Rattle.fsb_trace.specs.Verdict.{verdict, is_broken, least_rule, breaks_a_rule}
-use Rattle.fsb_trace.proofs.Interface.{snoop_end_of-clock, winner_at-agree, breaks-14, breaks-18}
+use Rattle.fsb_trace.proofs.Interface.{breaks-14, breaks-18, breaks-3}
 use Rattle.fsb_trace.proofs.Interface.{live_response_of-is}
 use Rattle.fsb_trace.proofs.Interface.{AgreeTo-less, breaks_a_rule-agree, verdict-least, verdict-none, verdict-stays}
-use Rattle.fsb_trace.specs.Winner.{winner_at}
 use Rattle.fsb_trace.specs.Requests.{live_request_of, is_reply, live_count}
 use Rattle.fsb_trace.specs.Outcome.{outcome_of, is_deferred, is_deferral, told_by, response_code_of}
 use Rattle.fsb_trace.specs.Outcome.{response_clock_of, live_response_of}
-use Rattle.fsb_trace.specs.Rules.{is_identified, is_identity_wrong, is_code_wrong, responds_soundly, has_code_at}
+use Rattle.fsb_trace.specs.Rules.{is_code_wrong, responds_soundly, has_code_at}
 use Rattle.fsb_trace.specs.Rules.{is_code_for, next_response}
 use Rattle.fsb_arbiter.specs.Arbiter.{Stands as ArbiterStands}
-use Rattle.fsb_laws.specs.Progress.{response_count, transfer_after, transfer_of}
-use Rattle.fsb_laws.proofs.Interface.{orderly-empty, response_counted, response_count-empty, has_ready}
-use Rattle.fsb_laws.proofs.Interface.{deferred_response, one_more, line_at-old, next_response-new, request_at-last}
-use Rattle.fsb_laws.proofs.Interface.{request_at-old, live_request_of-old, newly_deferred, first_where-next}
+use Rattle.fsb_laws.proofs.Interface.{orderly-empty, response_counted, response_count-empty}
+use Rattle.fsb_laws.proofs.Interface.{deferred_response, one_more, next_response-new}
+use Rattle.fsb_laws.proofs.Interface.{live_request_of-old, newly_deferred, first_where-next}
 use Rattle.fsb_laws.specs.OneMore.{OneMore}
 use Rattle.fsb_rules.specs.declared.checker.Checker.{Checker}
 use Rattle.fsb_rules.specs.Recent.{RecentStands}
-use Rattle.fsb_rules.specs.InFlight.{InFlightStands, chunks_in, known_count, snoop_before}
-use Rattle.fsb_rules.specs.Live.{IsLive, IsSnooped}
-use Rattle.fsb_rules.specs.Stretch.{Stretch}
+use Rattle.fsb_rules.specs.InFlight.{Brings, InFlightStands}
 use Rattle.fsb_rules.specs.Outstanding.{Few, Happens, OutstandingStands, Takes}
-use Rattle.fsb_rules.specs.Tests.{queue_len}
-use Rattle.fsb_rules.specs.Checker.{Comes, Follows, Stands, as_broken, beginner_of, Decoded, Identified, Deferrable}
-use Rattle.fsb_rules.proofs.OpenHappens.{happens_with}
+use Rattle.fsb_rules.specs.Checker.{Comes, Follows, Stands, as_broken, beginner_of, Identified, Deferrable}
 use Rattle.fsb_rules.proofs.OpenRoom.{few_empty, few_fit, few_goes}
 use Rattle.fsb_rules.specs.declared.live.LiveRequest.{LiveRequest}
-use Rattle.fsb_rules.specs.LeastRule.{begun_at, happened_by}
-use Rattle.fsb_rules.proofs.Lines.{line_back-last, line_back-new}
-use Rattle.fsb_rules.proofs.LeastRule.{identified_now, IsUnbroken, goes_on, own_unbroken}
+use Rattle.fsb_rules.specs.declared.outstanding.Happened.{Happened}
+use Rattle.fsb_rules.specs.LeastRule.{begun_at}
+use Rattle.fsb_rules.proofs.LeastRule.{IsUnbroken, brings, own_unbroken}
 use Rattle.fsb_rules.proofs.LeastRule.{told_deferral as told_deferral_parts, deferral_no_reply}
 use Rattle.fsb_rules.proofs.LeastRule.{unbroken}
-use Rattle.fsb_rules.proofs.QueueGoes.{QueueGoes, queue_follows}
-use Rattle.fsb_rules.proofs.Goes.{Goes}
+use Rattle.fsb_laws.specs.Orderly.{Orderly}
+use Rattle.fsb_rules.proofs.QueueRules.{orderly_after}
 use Rattle.fsb_rules.specs.declared.broken.Broken.{Broken}
-use Rattle.fsb_rules.proofs.StartRules.{begun-none}
+use Rattle.fsb_rules.proofs.StartRules.{decoded_goes, identified_goes}
 
 -- what the code makes
 pub record IsNew (k : Checker) : Type 0 where
@@ -59,38 +51,11 @@ pub record IsNew (k : Checker) : Type 0 where
   pub recent : RecentStands k.recent []
   pub arbiter : ArbiterStands k.arbiter []
   pub beginner : k.beginner ≡ None
-  pub asking : k.queue.asking.items ≡ []
-  pub waiting : k.queue.waiting.items ≡ []
-  pub moving : k.queue.moving ≡ None
-  pub last_snoop : k.queue.last_snoop ≡ None
-  pub ready : k.queue.ready ≡ None
+  pub queue : InFlightStands k.queue []
   pub outstanding : OutstandingStands k.outstanding []
 
 no_ads : (q : ℕ) → line_at ADS [] q ≡ true → ⊥
 no_ads q t = both_ways _ (line_at-past ADS [] q (omega arith)) t
-
-no_snoop : (i : ℕ) (o : Option ℕ) → snoop_end_of [] i ≡ o → snoop_end_of [] i ≡ None
-no_snoop i None e = e
-no_snoop i (Some t) e = let c = snoop_end_of-clock [] i t e in absurd (let l = c.within in omega arith)
-
-no_ready : (i : ℕ) (o : Option ℕ) → ready_clock_of [] i ≡ o → ready_clock_of [] i ≡ None
-no_ready i None e = e
-no_ready i (Some y) e = let r = has_ready [] i y e in absurd (let l = r.within in omega arith)
-
-new_queue : (k : Checker) → IsNew k → InFlightStands k.queue []
-unfolding line_back known_count count_where snoop_before queue_len transfer_of transfer_after
-new_queue k n =
-    record {
-      snooped = 0;
-      to = record { reached = λ i l. absurd (omega arith); next = no_snoop 0 (snoop_end_of [] 0) refl };
-      asking = subst (λ xs. Stretch (IsLive []) xs 0 0) (sym n.asking) refl;
-      waiting = subst (λ xs. Stretch (IsSnooped []) xs (response_count []) 0) (sym n.waiting) response_count-empty;
-      chunks = ap chunks_in n.moving ∙ (rw response_count-empty refl);
-      moving = λ m e. absurd (let none = n.moving in let no : ⊥ = cc in no);
-      last_snoop = n.last_snoop;
-      ready = n.ready ∙ sym (no_ready (response_count []) (ready_clock_of [] (response_count [])) refl);
-      few = rw (n.asking, n.waiting, n.moving) (omega arith);
-    }
 
 new_follows : (k : Checker) → IsNew k → Follows k []
 unfolding beginner_of line_back
@@ -109,7 +74,7 @@ new_follows k n =
       recent = n.recent;
       arbiter = n.arbiter;
       beginner = n.beginner;
-      queue = new_queue k n;
+      queue = n.queue;
       outstanding = n.outstanding;
     }
 
@@ -123,20 +88,13 @@ new_stands k marks n e = record { marked = e; found = n.found ∙ nothing_found 
 -- The checker follows the history with a sample that breaks no rule.
 
 -- what the code leaves in the checker
-pub record Absorbed (k : Checker) (n : ℕ) (h : Trace) (x : Sample) (b : Option LiveRequest) (new : Checker)
-    : Type 0 where
+pub record Absorbed (n : ℕ) (h : Trace) (x : Sample) (new : Checker) : Type 0 where
   pub clock : new.clock ≡ n + 1
   pub recent : RecentStands new.recent (h ++ x ∷ [])
   pub arbiter : ArbiterStands new.arbiter (h ++ x ∷ [])
   pub beginner : new.beginner ≡ beginner_of (h ++ x ∷ [])
-  pub queue : QueueGoes k.queue n x b new.queue
+  pub queue : InFlightStands new.queue (h ++ x ∷ [])
   pub outstanding : OutstandingStands new.outstanding (h ++ x ∷ [])
-
-back_is : (h : Trace) (q : ℕ) → q + 1 ≡ length h → line_at ADS h q ≡ line_back ADS h (length h) 1
-unfolding line_back
-back_is h q e =
-    let same : length h - 1 ≡ q = omega arith in
-    sym (rw (le-leb 1 (length h) (omega arith), same) refl)
 
 -- and no reply among them is Deferred
 code_fits : (v : Trace) (n i : ℕ) → is_code_wrong v n ≡ false → next_response v n ≡ i → responds_at v n ≡ true
@@ -174,54 +132,7 @@ newly_no_reply v n i e t f next =
     deferral_no_reply v i (response_code_at v n) told
     (code_fits v n i f next (responds_there v i n e) (no_failure v i (response_code_at v n) told))
 
-module _ {k : Checker} {h : Trace} {x : Sample} {v : Trace} {b : Option LiveRequest} (g : Goes k h x v b) where
-  old_ads : (q : ℕ) → q < length h → line_at ADS v q ≡ true → line_at ADS h q ≡ true
-  old_ads q l t = sym (line_at-old ADS h x v q g.more l) ∙ t
-
-  -- all requests but the last one are decoded
-  decoded_goes : Decoded v
-  decoded_goes =
-      let size = g.more.size in
-      record {
-        there = λ q t l.
-            let old = old_ads q (omega arith) t in
-            elim (cases_eq (q + 1) (length h)) [
-              | inl last ↦
-                  let d = g.decoded (sym (back_is h q last) ∙ old) in
-                  let same : length h - 1 ≡ q = omega arith in
-                  (d.0, subst (λ c. request_at v c ≡ Some d.0) same d.1)
-              | inr before ↦
-                  let early : q + 1 < length h = omega (arith, before) in
-                  let d = g.follows.decoded.there q old early in
-                  (d.0, request_at-old h x v q g.more early ∙ d.1)
-            ];
-      }
-
-  -- and of their agents
-  identified_goes : is_identity_wrong v (length h) ≡ false → Identified v
-  identified_goes own =
-      let size = g.more.size in
-      record {
-        own = λ q r t e.
-            elim (cases_lt (q + 1) (length h)) [
-              | inl early ↦
-                  ap (λ w. is_identified w (Some r)) (sym (winner_at-agree (length h) h v q g.more.agree (omega arith)))
-                  ∙ g.follows.identified.own q r (old_ads q (omega arith) t)
-                  (sym (request_at-old h x v q g.more early) ∙ e)
-              | inr late ↦
-                  elim (cases_eq (q + 1) (length h)) [
-                    | inl last ↦
-                        let same : length h - 1 ≡ q = omega arith in
-                        let back : line_back ADS v (length h) 1 ≡ true = line_back-new ADS h x v 1 g.more (omega arith)
-                        ∙ sym (back_is h q last) ∙ old_ads q (omega arith) t in
-                        subst (λ c. is_identified (winner_at v c) (Some r) ≡ true) same
-                        (identified_now v (length h) r back (subst (λ c. request_at v c ≡ Some r) (sym same) e) own)
-                    | inr past ↦
-                        let none = request_at-last v q (omega (arith, late, past)) in absurd (let no : ⊥ = cc in no)
-                  ]
-            ];
-      }
-
+module _ {k : Checker} {h : Trace} {x : Sample} {v : Trace} (f : Follows k h) (m : OneMore h x v) where
   deferrable_goes : is_code_wrong v (length h) ≡ false → Deferrable v
   deferrable_goes code =
       record {
@@ -229,11 +140,11 @@ module _ {k : Checker} {h : Trace} {x : Sample} {v : Trace} {b : Option LiveRequ
             elim (cases_Bool (is_deferred h i)) [
               | inl old ↦
                   let d = deferred_response h i old in
-                  ap is_reply (live_request_of-old h x v i g.more g.follows.orderly
-                  (response_counted h i d.0 d.1)) ∙ g.follows.deferrable.no_reply i old
+                  ap is_reply (live_request_of-old h x v i m f.orderly
+                  (response_counted h i d.0 d.1)) ∙ f.deferrable.no_reply i old
               | inr new ↦
-                  let n = newly_deferred h x v i g.more g.follows.orderly new t in
-                  newly_no_reply v (length h) i n.response t code (next_response-new h x v g.more ∙ sym n.number)
+                  let n = newly_deferred h x v i m f.orderly new t in
+                  newly_no_reply v (length h) i n.response t code (next_response-new h x v m ∙ sym n.number)
             ];
       }
 
@@ -243,57 +154,46 @@ module _ {k : Checker} {h : Trace} {x : Sample} {n : ℕ} {b : Option LiveReques
   still : IsUnbroken k.marks (h ++ x ∷ []) (length h)
   still = unbroken k.marks (h ++ x ∷ []) (length h) (one_more h x).size e
 
-  goes : Goes k h x (h ++ x ∷ []) b
-  goes = subst (Goes k h x (h ++ x ∷ [])) (sym c.begun) (goes_on c.follows (one_more h x) still)
+  pub brings_now : Brings k.queue n x b h
+  brings_now = brings c still
+
+  after : Orderly (h ++ x ∷ [])
+  after = orderly_after brings_now.in_time
 
   identified_after : Identified (h ++ x ∷ [])
-  identified_after = identified_goes goes (own_unbroken k.marks (h ++ x ∷ []) (length h) still)
+  identified_after =
+      identified_goes (one_more h x) c.follows.identified (own_unbroken k.marks (h ++ x ∷ []) (length h) still)
 
   few_after : Few (h ++ x ∷ [])
   few_after =
-      few_goes (happens_with goes) (sym (breaks-18 k.marks (h ++ x ∷ []) (length h)) ∙ still.sound 18 (omega arith))
+      few_goes (one_more h x) c.follows.orderly after
+      (sym (breaks-18 k.marks (h ++ x ∷ []) (length h)) ∙ still.sound 18 (omega arith))
       c.follows.few
 
-  pub outstanding_takes : Takes k.outstanding h x (happened_by k n x b)
-  outstanding_takes = record {
+  pub outstanding_takes : (w : Happened) → Happens h x (h ++ x ∷ []) w → Takes k.outstanding h x w
+  outstanding_takes w happens = record {
     stands = c.follows.outstanding;
-    happens = subst (λ i. Happens h x (h ++ x ∷ []) (happened_by k i x b)) (sym c.clock) (happens_with goes);
+    happens = happens;
     room = few_fit (h ++ x ∷ []) identified_after few_after;
   }
 
-  pub checker_follows : (new : Checker) → Absorbed k n h x b new → Follows new (h ++ x ∷ [])
-  checker_follows new absorbed =
-      let r : Absorbed k (length h) h x b new = subst (λ i. Absorbed k i h x b new) c.clock absorbed in
+  pub checker_follows : (new : Checker) → Absorbed n h x new → Follows new (h ++ x ∷ [])
+  checker_follows new r =
       record {
-        orderly = goes.after;
-        decoded = decoded_goes goes;
+        orderly = after;
+        decoded = decoded_goes (one_more h x) c.follows.decoded
+            (sym (breaks-3 k.marks (h ++ x ∷ []) (length h)) ∙ still.sound 3 (omega arith));
         identified = identified_after;
-        deferrable = deferrable_goes goes
+        deferrable = deferrable_goes c.follows (one_more h x)
             (sym (breaks-14 k.marks (h ++ x ∷ []) (length h)) ∙ still.sound 14 (omega arith));
         few = few_after;
-        clock = r.clock ∙ sym (one_more h x).size;
+        clock = r.clock ∙ ap (λ i. i + 1) c.clock ∙ sym (one_more h x).size;
         recent = r.recent;
         arbiter = r.arbiter;
         beginner = r.beginner;
-        queue = queue_follows goes new.queue r.queue;
+        queue = r.queue;
         outstanding = r.outstanding;
       }
-
--- there is room for what comes
-pub queue_few : {k : Checker} {h : Trace} → Follows k h → queue_len k.queue ≤ 8
-queue_few f = let few = f.queue.few in omega arith
-
-pub queue_room : {k : Checker} {h : Trace} {x : Sample} {n : ℕ} {b : Option LiveRequest} → Comes k n x b h
-    → is_some b ≡ true → queue_len k.queue < 8
-queue_room {k} {h} {x} c t =
-    let few = c.follows.queue.few in
-    elim (cases_Bool (line_back ADS h (length h) 1)) [
-      | inl back ↦
-          let one : queue_len k.queue + 1 ≤ 8 = rw back at few in omega arith
-      | inr quiet ↦
-          let none = begun-none (h ++ x ∷ []) (length h) (line_back-last ADS h x 1 (omega arith) ∙ quiet) in
-          absurd (both_ways _ (ap (λ o. is_some o) (c.begun ∙ none)) t)
-    ]
 
 -- What the checker answers, and what it stands for, after one sample more.
 

@@ -1,30 +1,28 @@
 -- The least broken rule, one rule after another, and what a sample says that breaks none.
 use Rattle.std.proofs.Common.{ℕ, suc, ◌+◌, ◌-◌, ◌<◌, ◌≤◌, ◌≡◌, Bool, true, false, cond, not, ◌&&◌, ◌||◌, Option, Some}
-use Rattle.std.proofs.Common.{None, List, [], ◌∷◌, ◌++◌, length, take, slice_get, refl, sym, ap, ◌∙◌, arith, inl, inr}
-use Rattle.std.proofs.Common.{subst, nat_eq, nat_le, is_some, is_none, add-zero}
+use Rattle.std.proofs.Common.{None, List, [], ◌∷◌, ◌++◌, length, slice_get, refl, sym, ◌∙◌, arith, inl, inr}
+use Rattle.std.proofs.Common.{subst, nat_eq, add-zero}
 use Rattle.std.proofs.Math.Numerals.{one-add}
-use Rattle.std.proofs.lemmas.Bool.{cases_lt, or_parts, lt-ltb, not-false, cases_Bool, and_parts, both_ways}
-use Rattle.std.proofs.lemmas.Bool.{not-true, leb-false, eqb-true}
+use Rattle.std.proofs.lemmas.Bool.{cases_lt, or_parts, lt-ltb, cases_Bool, and_parts, both_ways}
+use Rattle.std.proofs.lemmas.Bool.{not-true, eqb-true, and_left}
 use Rattle.std.proofs.lemmas.List.{take_all}
 use Rattle.std.specs.Option.{option_and_then}
 use Rattle.std.proofs.lemmas.Option.{cond_some}
 use Rattle.fsb_count.specs.Options.{is_some_and}
 use Rattle.fsb_count.specs.Clocks.{first_where}
-use Rattle.fsb_count.proofs.Interface.{first_where-at, first_where-none, first_where-off, is_some-none}
-use Rattle.fsb_signal.specs.declared.lines.TheConstants.Lines.{ADS, AERR, TRDY, HITM}
+use Rattle.fsb_count.proofs.Interface.{first_where-at, first_where-none, first_where-off}
+use Rattle.fsb_signal.specs.declared.lines.TheConstants.Lines.{HITM}
 use Rattle.fsb_signal.specs.declared.marks.Marks.{Marks}
 use Rattle.fsb_signal.specs.declared.sample.Sample.{Sample}
-use Rattle.fsb_signal.specs.Samples.{has_line}
 use Rattle.fsb_encode.specs.declared.request.Request.{Request}
 use Rattle.fsb_encode.specs.declared.request.Pair.{Pair}
 use Rattle.fsb_encode.specs.declared.request.Kind.{Kind}
 use Rattle.fsb_encode.specs.declared.request.Kind.TheVariants.{Reply, Invalidate, Read, WriteBack, Upgrade}
 use Rattle.fsb_encode.specs.Request.{is_lawful_request, are_lawful_fields}
 use Rattle.fsb_encode.specs.Decoded.{kind_of, read_off, is_coded_as, if_coded_as, request_of}
-use Rattle.fsb_trace.specs.At.{Trace, line_back, request_at, known_pair_at}
-use Rattle.fsb_trace.specs.Winner.{winner_at}
+use Rattle.fsb_trace.specs.At.{Trace, request_at, known_pair_at}
 use Rattle.fsb_trace.specs.Rules.{phase_rules, breaks, is_request_too_soon, is_code_unlawful}
-use Rattle.fsb_trace.specs.Rules.{is_identified, is_identity_wrong}
+use Rattle.fsb_trace.specs.Rules.{is_identity_wrong}
 use Rattle.fsb_trace.specs.Rules.{is_response_early, is_outstanding_wrong, is_begun_wrongly, is_error_alone}
 use Rattle.fsb_trace.specs.Rules.{is_code_for, has_den, is_snoop_line_alone, is_snoop_result_unfit, is_code_wrong}
 use Rattle.fsb_trace.specs.Rules.{is_target_ready_wrong, is_data_wrong, has_unknown_line, is_queue_full}
@@ -32,30 +30,20 @@ use Rattle.fsb_trace.specs.Rules.{is_request_blocked, has_no_winner, is_some_ask
 use Rattle.fsb_trace.specs.Rules.{has_unknown_data, is_marked_address_wrong, is_marked_request_wrong}
 use Rattle.fsb_trace.specs.Verdict.{is_broken, least_rule}
 use Rattle.fsb_trace.proofs.Interface.{breaks-none, breaks-2, breaks-3, breaks-4, breaks-7, breaks-10, breaks-13}
-use Rattle.fsb_trace.proofs.Interface.{breaks-15}
 use Rattle.fsb_trace.specs.declared.outcome.Outcome.TheVariants.{Granted, Handed, Retried, Deferred, Written, Replied}
 use Rattle.fsb_trace.specs.declared.outcome.Outcome.TheVariants.{Failed, Upgraded}
 use Rattle.fsb_trace.specs.Requests.{live_clock_of, live_request_of, is_reply, is_reply_kind}
 use Rattle.fsb_trace.specs.Snoop.{line_at_snoop_end}
 use Rattle.fsb_trace.specs.Outcome.{told_by, is_deferral, response_code_of, outcome_by_kind}
-use Rattle.fsb_laws.specs.OneMore.{OneMore, responds}
-use Rattle.fsb_laws.specs.Orderly.{Orderly}
-use Rattle.fsb_laws.proofs.Interface.{line_at-new, one_more, spaced-more, orderly-more}
-use Rattle.fsb_laws.specs.Progress.{may_answer_next}
+use Rattle.fsb_laws.proofs.Interface.{one_more}
 use Rattle.fsb_rules.specs.declared.checker.Checker.{Checker}
 use Rattle.fsb_rules.specs.declared.live.LiveRequest.{LiveRequest}
-use Rattle.fsb_rules.specs.Live.{live_from}
-use Rattle.fsb_rules.specs.OpenTests.{is_wrong_among}
-use Rattle.fsb_rules.specs.LeastRule.{begun_at, begins_well, least_among, least_past}
-use Rattle.fsb_rules.specs.LeastRule.{is_begun_wrongly_by, is_snoop_line_alone_by}
-use Rattle.fsb_rules.specs.LeastRule.{is_result_unfit_by, is_code_wrong_by, is_target_ready_wrong_by, is_data_wrong_by}
-use Rattle.fsb_rules.specs.Checker.{Comes, Follows}
-use Rattle.fsb_rules.proofs.Lines.{line_back-new}
-use Rattle.fsb_rules.proofs.StartRules.{begun-none, begun-some, full, there, too_soon_not}
-use Rattle.fsb_rules.proofs.QueueRules.{rule_11, rule_12, rule_13, rule_14, rule_15, timely, rule_16, takes_none}
-use Rattle.fsb_rules.proofs.BeginRules.{Begun, back_some, begins_after, has_before, wrong_begun}
-use Rattle.fsb_rules.specs.Tests.{queue_len, next_by, takes_by, is_ready_wrongly_by}
-use Rattle.fsb_rules.proofs.Goes.{Goes}
+use Rattle.fsb_rules.specs.LeastRule.{begins_well, least_among, least_past}
+use Rattle.fsb_rules.specs.Checker.{Comes, WasBegun}
+use Rattle.fsb_rules.proofs.StartRules.{begun_parts, decoded_goes, identified_goes}
+use Rattle.fsb_rules.proofs.StartRules.{none_back}
+use Rattle.fsb_rules.proofs.QueueRules.{orderly_after}
+use Rattle.fsb_rules.specs.InFlight.{Brings, InTime, IsAt}
 
 -- At the last clock of a trace the rules are judged over the whole of it, one after the other.
 broken_here : (marks : Marks) (v : Trace) (n j : ℕ) → length v ≡ n + 1 → is_broken marks v n j ≡ breaks marks v n j
@@ -113,13 +101,18 @@ module _ (m : Marks) (v : Trace) (n : ℕ) where
   unfolding least_past least_among phase_rules
   parity_rules = refl
 
-  pub later_rules : least_past 10 m v n
-      ≡ cond (is_snoop_line_alone v n) (Some 11) (cond (is_snoop_result_unfit v n) (Some 12)
-      (cond (is_response_early v n) (Some 13) (cond (is_code_wrong v n) (Some 14)
-      (cond (is_target_ready_wrong v n) (Some 15) (cond (is_data_wrong v n) (Some 16)
-      (cond (has_unknown_data v n) (Some 17) (cond (is_outstanding_wrong v n) (Some 18) (least_past 18 m v n))))))))
+  pub moved_rules : least_past 13 m v n
+      ≡ cond (is_code_wrong v n) (Some 14) (cond (is_target_ready_wrong v n) (Some 15)
+      (cond (is_data_wrong v n) (Some 16) (cond (has_unknown_data v n) (Some 17)
+      (cond (is_outstanding_wrong v n) (Some 18) (least_past 18 m v n)))))
   unfolding least_past least_among phase_rules
-  later_rules = refl
+  moved_rules = refl
+
+  pub busy_rules : least_past 10 m v n
+      ≡ cond (is_snoop_line_alone v n) (Some 11) (cond (is_snoop_result_unfit v n) (Some 12)
+      (cond (is_response_early v n) (Some 13) (least_past 13 m v n)))
+  unfolding least_past least_among phase_rules
+  busy_rules = refl
 
 pub first_rules : (m : Marks) (h : Trace) (x : Sample) → let v : Trace = h ++ x ∷ [] in let n : ℕ = length h in
     least_rule m v n ≡ cond (has_unknown_line v n) (Some 1) (cond (is_request_too_soon v n) (Some 2)
@@ -130,76 +123,6 @@ pub first_rules : (m : Marks) (h : Trace) (x : Sample) → let v : Trace = h ++ 
 unfolding least_past least_among phase_rules
 first_rules m h x = least_rule-past m (h ++ x ∷ []) (length h) (one_more h x).size
 
-pub identified_now : (v : Trace) (n : ℕ) (r : Request) → line_back ADS v n 1 ≡ true
-    → request_at v (n - 1) ≡ Some r → is_identity_wrong v n ≡ false
-    → is_identified (winner_at v (n - 1)) (Some r) ≡ true
-unfolding is_identity_wrong
-identified_now v n r t e f =
-    not-false _ (let g : (true && not (is_identified (winner_at v (n - 1)) (Some r))) ≡ false = rw (t, e) at f in g)
-
-request_there : (v : Trace) (n : ℕ) → line_back ADS v n 1 ≡ true → is_code_unlawful v n ≡ false
-    → (r : Request) × (request_at v (n - 1) ≡ Some r)
-unfolding is_code_unlawful
-request_there v n t lawful =
-    there (request_at v (n - 1))
-    (let g : (true && is_none (request_at v (n - 1))) ≡ false = rw t at lawful in g)
-
-module _ {k : Checker} {h : Trace} {x : Sample} {v : Trace} (f : Follows k h) (m : OneMore h x v) where
-  pub orderly_after : is_request_too_soon v (length h) ≡ false → is_response_early v (length h) ≡ false → Orderly v
-  orderly_after soon early =
-      orderly-more h x v f.queue.snooped m f.orderly f.queue.to
-      (spaced-more h x v m f.orderly.spaced (too_soon_not m soon)) (timely f m early)
-
-  -- 18 deferred IDs and outstanding requests, where the new trace is orderly and the request is identified
-  begun_record : (r : Request) → Orderly v → line_back ADS h (length h) 1 ≡ true → request_at v (length h - 1) ≡ Some r
-      → is_identity_wrong v (length h) ≡ false → Begun (take (length h - 1) h) h v r
-  begun_record r o t e own =
-      let b = has_before h (back_some h t).0 in
-      record {
-        before = b;
-        begins = begins_after h x v (take (length h - 1) h) m f.orderly o t b;
-        new = m.agree;
-        orderly = f.orderly;
-        decoded = f.decoded;
-        identified = f.identified;
-        deferrable = f.deferrable;
-        request = subst (λ q. request_at v q ≡ Some r) (sym b.size) e;
-        own = subst (λ q. is_identified (winner_at v q) (Some r) ≡ true) (sym b.size)
-            (identified_now v (length h) r (line_back-new ADS h x v 1 m (omega arith) ∙ t) e own);
-      }
-
-  rule_18_cases : (t : Bool) → Orderly v → line_back ADS h (length h) 1 ≡ t → is_code_unlawful v (length h) ≡ false
-      → is_identity_wrong v (length h) ≡ false
-      → is_begun_wrongly_by k (begun_at v (length h)) ≡ (t && is_begun_wrongly v (length h - 1))
-  unfolding is_begun_wrongly_by is_some_and
-  rule_18_cases true o t lawful own =
-      let back : line_back ADS v (length h) 1 ≡ true = line_back-new ADS h x v 1 m (omega arith) ∙ t in
-      let p = request_there v (length h) back lawful in
-      rw (begun-some v (length h) p.0 back p.1)
-      (ap (λ xs. is_wrong_among xs (live_from (length h - 1) p.0)) (f.outstanding.before t)
-      ∙ wrong_begun (begun_record p.0 o t p.1 own) (length h - 1)
-      ∙ ap (is_begun_wrongly v) (has_before h (back_some h t).0).size)
-  rule_18_cases false o t lawful own =
-      rw (begun-none v (length h) (line_back-new ADS h x v 1 m (omega arith) ∙ t)) refl
-
-  pub rule_18 : Orderly v → is_code_unlawful v (length h) ≡ false → is_identity_wrong v (length h) ≡ false
-      → is_begun_wrongly_by k (begun_at v (length h)) ≡ is_outstanding_wrong v (length h)
-  unfolding is_outstanding_wrong
-  rule_18 o lawful own =
-      rule_18_cases (line_back ADS h (length h) 1) o refl lawful own
-      ∙ ap (λ b. b && is_begun_wrongly v (length h - 1)) (sym (line_back-new ADS h x v 1 m (omega arith)))
-
--- the rules from 11 to 18, by the tests of the queue and of the request that is begun
-pub record LaterTests (k : Checker) (n : ℕ) (x : Sample) (b : Option LiveRequest) (h : Trace) (v : Trace) : Type 0 where
-  pub alone : is_snoop_line_alone_by k n x ≡ is_snoop_line_alone v (length h)
-  pub unfit : is_result_unfit_by k n x ≡ is_snoop_result_unfit v (length h)
-  pub early : (responds x && is_none (next_by k.queue n)) ≡ is_response_early v (length h)
-  pub code : is_response_early v (length h) ≡ false → is_code_wrong_by k n x ≡ is_code_wrong v (length h)
-  pub target : is_response_early v (length h) ≡ false
-      → is_target_ready_wrong_by k n x ≡ is_target_ready_wrong v (length h)
-  pub data_moved : is_response_early v (length h) ≡ false → is_data_wrong_by k n x ≡ is_data_wrong v (length h)
-  pub begun : is_response_early v (length h) ≡ false → is_begun_wrongly_by k b ≡ is_outstanding_wrong v (length h)
-
 begins_parts : (v : Trace) (n : ℕ) → begins_well v n ≡ true
     → (is_request_too_soon v n ≡ false) × (is_code_unlawful v n ≡ false) × (is_identity_wrong v n ≡ false)
 unfolding begins_well
@@ -208,24 +131,47 @@ begins_parts v n t =
     let q = or_parts _ _ p.0 in
     (q.0, q.1, p.1)
 
-pub later_tests : {k : Checker} {n : ℕ} {x : Sample} {b : Option LiveRequest} {h : Trace} → Comes k n x b h
-    → begins_well (h ++ x ∷ []) (length h) ≡ true → LaterTests k n x b h (h ++ x ∷ [])
-later_tests {k} {n} {x} {b} {h} c t =
-    let v : Trace = h ++ x ∷ [] in
-    let f = c.follows in
-    let m = one_more h x in
-    let p = begins_parts v (length h) t in
-    let tests : LaterTests k (length h) x (begun_at v (length h)) h v = record {
-      alone = rule_11 f m;
-      unfit = rule_12 f m;
-      early = rule_13 f m;
-      code = λ e. rule_14 f m (timely f m e);
-      target = λ e. rule_15 f m (timely f m e);
-      data_moved = λ e. rule_16 f m (timely f m e) (orderly_after f m p.0 e);
-      begun = λ e. rule_18 f m (orderly_after f m p.0 e) p.1 p.2;
-    } in
-    subst (λ i. LaterTests k i x b h v) (sym c.clock)
-    (subst (λ o. LaterTests k (length h) x o h v) (sym c.begun) tests)
+-- the queue stands for the history before a sample that comes
+pub at_now : {k : Checker} {n : ℕ} {x : Sample} {b : Option LiveRequest} {h : Trace} → Comes k n x b h
+    → IsAt k.queue n h
+at_now c = record { stands = c.follows.queue; orderly = c.follows.orderly; clock = c.clock }
+
+pub in_time : {k : Checker} {n : ℕ} {x : Sample} {b : Option LiveRequest} {h : Trace} → Comes k n x b h
+    → begins_well (h ++ x ∷ []) (length h) ≡ true → is_response_early (h ++ x ∷ []) (length h) ≡ false
+    → InTime k.queue n x h
+in_time {x = x} {h = h} c t early = record {
+  here = at_now c;
+  apart = (begins_parts (h ++ x ∷ []) (length h) t).0;
+  timely = early;
+}
+
+-- 18 deferred IDs and outstanding requests
+module _ {k : Checker} {n : ℕ} {x : Sample} {b : Option LiveRequest} {h : Trace} (c : Comes k n x b h)
+    (t : begins_well (h ++ x ∷ []) (length h) ≡ true) where
+  pub was_begun : (a : LiveRequest) → is_response_early (h ++ x ∷ []) (length h) ≡ false → b ≡ Some a
+      → WasBegun k.outstanding h x a
+  was_begun a early e =
+      let m = one_more h x in
+      let p = begins_parts (h ++ x ∷ []) (length h) t in
+      record {
+        stands = c.follows.outstanding;
+        begun = sym c.begun ∙ e;
+        before = c.follows.orderly;
+        after = orderly_after (in_time c t early);
+        decoded = decoded_goes m c.follows.decoded p.1;
+        identified = identified_goes m c.follows.identified p.2;
+        deferrable = c.follows.deferrable;
+      }
+
+  pub begun_form : (a : LiveRequest) → b ≡ Some a
+      → is_outstanding_wrong (h ++ x ∷ []) (length h) ≡ is_begun_wrongly (h ++ x ∷ []) (length h - 1)
+  unfolding is_outstanding_wrong
+  begun_form a e = rw (begun_parts (h ++ x ∷ []) (length h) a (sym c.begun ∙ e)).1 refl
+
+  pub none_wrong : b ≡ None → is_outstanding_wrong (h ++ x ∷ []) (length h) ≡ false
+  unfolding is_outstanding_wrong
+  none_wrong e =
+      and_left _ _ (none_back (h ++ x ∷ []) (length h) (begins_parts (h ++ x ∷ []) (length h) t).1 (sym c.begun ∙ e))
 
 -- What a sample that breaks no rule says.
 
@@ -240,75 +186,26 @@ unbroken marks v n size e = record {
   sound = λ j l. sym (broken_here marks v n j size) ∙ first_where-none (is_broken marks v n) 21 e j l;
 }
 
--- an address error comes three clocks after a request
-error_timed : (h : Trace) (x : Sample) (v : Trace) → OneMore h x v → is_error_alone v (length h) ≡ false
-    → has_line x AERR ≡ true → line_back ADS h (length h) 3 ≡ true
-unfolding is_error_alone
-error_timed h x v m f t =
-    let k : (true && not (line_back ADS v (length h) 3)) ≡ false = rw (line_at-new AERR h x v m ∙ t) at f in
-    sym (line_back-new ADS h x v 3 m (omega arith)) ∙ not-false _ k
-
--- TRDY# is for the next request, which was not ready before
-ready_parts : (k : Checker) (n : ℕ) (x : Sample) → is_target_ready_wrong_by k n x ≡ false
-    → has_line x TRDY ≡ true → (is_some_and (next_by k.queue n) takes_by ≡ true) × (is_some k.queue.ready ≡ false)
-unfolding is_target_ready_wrong_by is_ready_wrongly_by
-ready_parts k n x f t =
-    let p : (has_line x TRDY && (not (is_some_and (next_by k.queue n) takes_by) || is_some k.queue.ready)) ≡ false =
-    (or_parts _ _ f).0 in
-    let g : (true && (not (is_some_and (next_by k.queue n) takes_by) || is_some k.queue.ready)) ≡ false = rw t at p in
-    let q = or_parts _ _ g in
-    (not-false _ q.0, q.1)
-
--- there is room in the queue
-room_now : (k : Checker) (x : Sample) → (has_line x ADS && nat_le 8 (queue_len k.queue)) ≡ false
-    → has_line x ADS ≡ true → queue_len k.queue < 8
-room_now k x f t =
-    let g : (true && nat_le 8 (queue_len k.queue)) ≡ false = rw t at f in leb-false 8 (queue_len k.queue) g
-
 pub own_unbroken : (marks : Marks) (v : Trace) (n : ℕ) → IsUnbroken marks v n → is_identity_wrong v n ≡ false
 own_unbroken marks v n u = sym (breaks-7 marks v n) ∙ u.sound 7 (omega arith)
 
-module _ {marks : Marks} {k : Checker} {h : Trace} {x : Sample} {v : Trace} (f : Follows k h) (m : OneMore h x v)
-    (u : IsUnbroken marks v (length h)) where
-  soon : is_request_too_soon v (length h) ≡ false
-  soon = sym (breaks-2 marks v (length h)) ∙ u.sound 2 (omega arith)
+module _ {marks : Marks} {k : Checker} {n : ℕ} {x : Sample} {b : Option LiveRequest} {h : Trace} (c : Comes k n x b h)
+    (u : IsUnbroken marks (h ++ x ∷ []) (length h)) where
+  pub unbroken_in_time : InTime k.queue n x h
+  unbroken_in_time = record {
+    here = at_now c;
+    apart = sym (breaks-2 marks (h ++ x ∷ []) (length h)) ∙ u.sound 2 (omega arith);
+    timely = sym (breaks-13 marks (h ++ x ∷ []) (length h)) ∙ u.sound 13 (omega arith);
+  }
 
-  lawful : is_code_unlawful v (length h) ≡ false
-  lawful = sym (breaks-3 marks v (length h)) ∙ u.sound 3 (omega arith)
-
-  early : is_response_early v (length h) ≡ false
-  early = sym (breaks-13 marks v (length h)) ∙ u.sound 13 (omega arith)
-
-  ready_now : has_line x TRDY ≡ true → (may_answer_next h ≡ true) × (k.queue.ready ≡ None)
-  ready_now t =
-      let p = ready_parts k (length h) x
-      (rule_15 f m (timely f m early) ∙ sym (breaks-15 marks v (length h)) ∙ u.sound 15 (omega arith)) t in (
-        elim (cases_Bool (may_answer_next h)) [
-          | inl may ↦ may
-          | inr not_yet ↦ absurd (both_ways _ (takes_none f not_yet) p.0)
-        ],
-        is_some-none k.queue.ready p.1,
-      )
-
-  pub goes_on : Goes k h x v (begun_at v (length h))
-  goes_on =
-      record {
-        more = m;
-        follows = f;
-        after = orderly_after f m soon early;
-        may = timely f m early;
-        timed = error_timed h x v m (sym (breaks-10 marks v (length h)) ∙ u.sound 10 (omega arith));
-        decoded = λ t.
-            let back : line_back ADS v (length h) 1 ≡ true = line_back-new ADS h x v 1 m (omega arith) ∙ t in
-            let p = request_there v (length h) back lawful in
-            (p.0, p.1, begun-some v (length h) p.0 back p.1);
-        unbegun = λ t. begun-none v (length h) (line_back-new ADS h x v 1 m (omega arith) ∙ t);
-        ready = ready_now;
-        room = λ t. (
-          room_now k x (sym (full f m soon) ∙ sym (breaks-4 marks v (length h)) ∙ u.sound 4 (omega arith)) t,
-          (too_soon_not m soon t).0,
-        );
-      }
+  pub brings : Brings k.queue n x b h
+  brings = record {
+    in_time = unbroken_in_time;
+    begun_is = c.begun;
+    lawful = sym (breaks-3 marks (h ++ x ∷ []) (length h)) ∙ u.sound 3 (omega arith);
+    room = sym (breaks-4 marks (h ++ x ∷ []) (length h)) ∙ u.sound 4 (omega arith);
+    error = sym (breaks-10 marks (h ++ x ∷ []) (length h)) ∙ u.sound 10 (omega arith);
+  }
 
 -- a request with DEN# is no reply
 lawful_kind : (kind : Kind) (line chunk : ℕ) (den : Bool) → are_lawful_fields kind line chunk den ≡ true

@@ -1,13 +1,12 @@
 pub mod StillClocks
-pub mod Room
-pub mod ChunksLeft
+pub mod LiveTests
+pub mod Samples
 pub mod RequestLines
 pub mod Stretches
 pub mod Lines
 pub mod StartRules
 pub mod QueueRules
 pub mod Queue
-pub mod Goes
 pub mod QueueGoes
 pub mod Endings
 pub mod OpenGoes

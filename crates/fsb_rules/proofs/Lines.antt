@@ -22,7 +22,7 @@ use Rattle.fsb_laws.proofs.Interface.{line_at-new, line_at-old, one_more}
 use Rattle.fsb_rules.specs.declared.recent.Recent.{Recent}
 use Rattle.fsb_rules.specs.Recent.{RecentStands}
 use Rattle.fsb_rules.specs.Checker.{beginner_of}
-use Rattle.fsb_rules.specs.Tests.{request_by}
+use Rattle.fsb_rules.specs.Recent.{request_by}
 
 -- a line among those of a clock back is asserted there
 lines_form : (line : Lines) (o : Option Sample)

@@ -2,7 +2,7 @@
 use Rattle.std.proofs.Common.{ℕ, zero, suc, ◌+◌, ◌<◌, ◌≤◌, ◌≡◌, Bool, true, false, cond, Option, Some, None, refl}
 use Rattle.std.proofs.Common.{sym, ap}
 use Rattle.std.proofs.Common.{◌∙◌, arith, ◌||◌, List, [], ◌∷◌, ◌++◌, All, count_by, length}
-use Rattle.std.proofs.Common.{subst, add-one}
+use Rattle.std.proofs.Common.{subst}
 use Rattle.std.specs.Option.{option_and_then, option_to_list}
 use Rattle.std.specs.List.{filter_map, list_any}
 use Rattle.std.specs.List.Retain.{RetainsInTurn}
@@ -13,27 +13,24 @@ use Rattle.std.proofs.lemmas.List.Sums.{sum_by-append}
 use Rattle.std.proofs.Math.Bool.{or-false}
 use Rattle.fsb_count.specs.Options.{is_some_and}
 use Rattle.fsb_count.specs.Clocks.{any_where, count_where}
-use Rattle.fsb_count.proofs.Interface.{any_where-more}
 use Rattle.fsb_signal.specs.declared.sample.Sample.{Sample}
 use Rattle.fsb_trace.specs.At.{Trace, request_at}
+use Rattle.fsb_laws.specs.OneMore.{OneMore}
+use Rattle.fsb_laws.specs.Orderly.{Orderly}
 use Rattle.fsb_laws.proofs.Interface.{request_at-last}
 use Rattle.fsb_rules.specs.declared.outstanding.Open.{Open}
-use Rattle.fsb_rules.specs.declared.outstanding.Happened.{Happened}
-use Rattle.fsb_rules.specs.Outstanding.{open_at, kept_at, kept_below, left_in, AreKept, Happens}
+use Rattle.fsb_rules.specs.Outstanding.{open_at, kept_at, kept_below, left_in, AreKept}
 use Rattle.fsb_rules.proofs.OpenGoes.{is_open, kept_step}
 
-first_left : {A B : Type 0} (f : A → Option B) (a : A) (b : B) (xs : List A) → f a ≡ Some b
-    → filter_map f (a ∷ xs) ≡ b ∷ filter_map f xs
-first_left f a b xs e = rw e refl
-
-first_gone : {A B : Type 0} (f : A → Option B) (a : A) (xs : List A) → f a ≡ None
-    → filter_map f (a ∷ xs) ≡ filter_map f xs
-first_gone f a xs e = rw e refl
+filter_first : {A B : Type 0} (f : A → Option B) (a : A) (xs : List A) (m : Option B) → f a ≡ m
+    → filter_map f (a ∷ xs) ≡ option_to_list m ++ filter_map f xs
+filter_first f a xs None e = rw e refl
+filter_first f a xs (Some b) e = rw e refl
 
 one_retained : (f : Open → Option Open) (b : Bool) (o p : Open) (kept opens : List Open)
     → cond b (Some p) None ≡ f o → kept ≡ filter_map f opens → cond b (p ∷ kept) kept ≡ filter_map f (o ∷ opens)
-one_retained f true o p kept opens e s = ap (λ xs. p ∷ xs) s ∙ sym (first_left f o p opens (sym e))
-one_retained f false o p kept opens e s = s ∙ sym (first_gone f o opens (sym e))
+one_retained f true o p kept opens e s = ap (λ xs. p ∷ xs) s ∙ sym (filter_first f o opens (Some p) (sym e))
+one_retained f false o p kept opens e s = s ∙ sym (filter_first f o opens None (sym e))
 
 -- where each call of a closure makes of a request what f leaves of it, what is retained is what f leaves of all
 pub left_from_retain : {F : Type 0} (R : F → Open → Bool → F → Open → Type 0) (s : F) (h : Trace)
@@ -54,17 +51,10 @@ pub all_stay : {A : Type 0} (f : A → Option A) (P : A → Type 0) (xs : List A
     → All P xs → filter_map f xs ≡ xs
 all_stay f P [] stays t = refl
 all_stay f P (a ∷ xs) stays t =
-    first_left f a a xs (stays a (All-head P a xs t)) ∙ ap (λ ys. a ∷ ys) (all_stay f P xs stays (All-tail P a xs t))
+    filter_first f a xs (Some a) (stays a (All-head P a xs t))
+    ∙ ap (λ ys. a ∷ ys) (all_stay f P xs stays (All-tail P a xs t))
 
 -- The requests that are kept.
-
-pub below_more : (h : Trace) (n : ℕ) → kept_below h (n + 1) ≡ kept_below h n ++ option_to_list (kept_at h n)
-unfolding kept_below
-below_more h n = rw add-one refl
-
-pub below_none : (h : Trace) → kept_below h 0 ≡ []
-unfolding kept_below
-below_none h = refl
 
 one_kept : (h : Trace) (n : ℕ) (m : Option Open) → kept_at h n ≡ m → AreKept h (option_to_list m)
 one_kept h n None e = All-nil (λ o. kept_at h o.clock ≡ Some o)
@@ -88,31 +78,27 @@ pub undecoded_not_kept : (h : Trace) (n : ℕ) → request_at h n ≡ None → k
 unfolding kept_at open_at
 undecoded_not_kept h n e = rw e (both_none _)
 
-pub below_last : (h : Trace) (n : ℕ) → length h ≤ n + 1 → kept_below h (n + 1) ≡ kept_below h n
+pub below_last : (h : Trace) (n : ℕ) → length h ≤ n + 1 → kept_below h (suc n) ≡ kept_below h n
+unfolding kept_below
 below_last h n l =
-    below_more h n
-    ∙ ap (λ m. kept_below h n ++ option_to_list m) (undecoded_not_kept h n (request_at-last h n l))
+    ap (λ m. kept_below h n ++ option_to_list m) (undecoded_not_kept h n (request_at-last h n l))
     ∙ append-nil (kept_below h n)
-
-left_some : {A B : Type 0} (g : A → Option B) (a : A) (o : Option B) → g a ≡ o
-    → filter_map g (a ∷ []) ≡ option_to_list (g a)
-left_some g a None e = rw e refl
-left_some g a (Some b) e = rw e refl
 
 left_one : {A B : Type 0} (g : A → Option B) (o : Option A)
     → filter_map g (option_to_list o) ≡ option_to_list (option_and_then g o)
 left_one g None = refl
-left_one g (Some a) = left_some g a (g a) refl
+left_one g (Some a) = filter_first g a [] (g a) refl ∙ append-nil (option_to_list (g a))
 
-pub left_below : {h : Trace} {x : Sample} {v : Trace} {w : Happened} (g : Happens h x v w) (n : ℕ) → n < length h
-    → kept_below v n ≡ filter_map (left_in v) (kept_below h n)
-unfolding kept_below
-left_below g zero l = refl
-left_below {h} {x} {v} g (suc n) l =
-    ap (λ xs. xs ++ option_to_list (kept_at v n)) (left_below g n (omega arith))
-    ∙ ap (λ m. filter_map (left_in v) (kept_below h n) ++ option_to_list m) (kept_step g n (omega arith))
-    ∙ ap (λ xs. filter_map (left_in v) (kept_below h n) ++ xs) (sym (left_one (left_in v) (kept_at h n)))
-    ∙ sym (filter_map-append (left_in v) (kept_below h n) (option_to_list (kept_at h n)))
+module _ {h : Trace} {x : Sample} {v : Trace} (more : OneMore h x v) (orderly : Orderly h) (after : Orderly v) where
+  pub left_below : (n : ℕ) → n < length h → kept_below v n ≡ filter_map (left_in v) (kept_below h n)
+  unfolding kept_below
+  left_below zero l = refl
+  left_below (suc n) l =
+      ap (λ xs. xs ++ option_to_list (kept_at v n)) (left_below n (omega arith))
+      ∙ ap (λ m. filter_map (left_in v) (kept_below h n) ++ option_to_list m)
+      (kept_step more orderly after n (omega arith))
+      ∙ ap (λ xs. filter_map (left_in v) (kept_below h n) ++ xs) (sym (left_one (left_in v) (kept_at h n)))
+      ∙ sym (filter_map-append (left_in v) (kept_below h n) (option_to_list (kept_at h n)))
 
 -- whether one passes, and how many
 any_one : {A : Type 0} (test : A → Bool) (o : Option A) → list_any test (option_to_list o) ≡ is_some_and o test
@@ -120,29 +106,25 @@ unfolding is_some_and
 any_one test None = refl
 any_one test (Some a) = or-false (test a)
 
+or_cases : (a b : Bool) → (a || b) ≡ elim a [ true ↦ true | false ↦ b ]
+or_cases true b = refl
+or_cases false b = refl
+
 pub any_below : (test : Open → Bool) (h : Trace) (n : ℕ)
     → list_any test (kept_below h n) ≡ any_where (λ p. is_some_and (kept_at h p) test) n
 unfolding kept_below any_where
 any_below test h zero = refl
 any_below test h (suc n) =
-    let m : n + 1 ≡ suc n = omega arith in
-    subst (λ k. list_any test (kept_below h k) ≡ any_where (λ p. is_some_and (kept_at h p) test) k) m
-    (ap (list_any test) (below_more h n)
-    ∙ list_any-append test (kept_below h n) (option_to_list (kept_at h n))
+    list_any-append test (kept_below h n) (option_to_list (kept_at h n))
     ∙ ap (λ b. b || list_any test (option_to_list (kept_at h n))) (any_below test h n)
     ∙ ap (λ b. any_where (λ p. is_some_and (kept_at h p) test) n || b) (any_one test (kept_at h n))
-    ∙ sym (any_where-more (λ p. is_some_and (kept_at h p) test) n))
-
-count_single : {A : Type 0} (test : A → Bool) (a : A) (b : Bool) → test a ≡ b
-    → count_by test (a ∷ []) ≡ cond (test a) 1 0
-count_single test a true e = rw e refl
-count_single test a false e = rw e refl
+    ∙ or_cases (any_where (λ p. is_some_and (kept_at h p) test) n) (is_some_and (kept_at h n) test)
 
 count_one : {A : Type 0} (test : A → Bool) (o : Option A)
     → count_by test (option_to_list o) ≡ cond (is_some_and o test) 1 0
 unfolding is_some_and
 count_one test None = refl
-count_one test (Some a) = count_single test a (test a) refl
+count_one test (Some a) = omega arith
 
 pub count_below : (test : Open → Bool) (h : Trace) (n : ℕ)
     → count_by test (kept_below h n) ≡ count_where (λ p. is_some_and (kept_at h p) test) n

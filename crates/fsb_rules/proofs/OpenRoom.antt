@@ -21,10 +21,11 @@ use Rattle.fsb_trace.specs.Winner.{is_agent, is_same_agent, winner_at}
 use Rattle.fsb_trace.specs.Rules.{is_begun_wrongly, is_id_taken_by, is_outstanding_of_winner}
 use Rattle.fsb_trace.specs.Rules.{is_outstanding_wrong}
 use Rattle.fsb_trace.proofs.Interface.{is_reply-some, winner_at-agree}
+use Rattle.fsb_laws.specs.OneMore.{OneMore}
+use Rattle.fsb_laws.specs.Orderly.{Orderly}
 use Rattle.fsb_laws.proofs.Interface.{is_live-ads, is_outstanding-end}
 use Rattle.fsb_rules.specs.declared.outstanding.Open.{Open}
-use Rattle.fsb_rules.specs.declared.outstanding.Happened.{Happened}
-use Rattle.fsb_rules.specs.Outstanding.{kept_at, kept_below, open_of, is_outstanding_of, Few, Happens}
+use Rattle.fsb_rules.specs.Outstanding.{kept_at, kept_below, open_of, is_outstanding_of, Few}
 use Rattle.fsb_rules.specs.Checker.{Identified}
 use Rattle.fsb_rules.proofs.Agents.{owned, winner_four}
 use Rattle.fsb_rules.proofs.OpenGoes.{is_open, was_outstanding}
@@ -94,20 +95,20 @@ begun_few v a m e f t =
     and_from _ _ (outstanding_at v p m l below r.0) (rw winner r.1)) in
     omega (arith, most, less)
 
-module _ {h : Trace} {x : Sample} {v : Trace} {w : Happened} (g : Happens h x v w)
+module _ {h : Trace} {x : Sample} {v : Trace} (more : OneMore h x v) (orderly : Orderly h) (after : Orderly v)
     (fit : is_outstanding_wrong v (length h) ≡ false) (few : Few h) where
   was_of : (a p : ℕ) → p + 1 < length h → is_outstanding_of v a p ≡ true → is_outstanding_of h a p ≡ true
   unfolding is_outstanding_of
   was_of a p l t =
       let q = and_parts (is_outstanding v (length v) p) (is_agent (winner_at v p) (Symmetric a)) t in
-      and_from _ _ (was_outstanding g p l q.0)
-      (ap (λ o. is_agent o (Symmetric a)) (winner_at-agree (length h) h v p g.more.agree (omega arith)) ∙ q.1)
+      and_from _ _ (was_outstanding more orderly after p l q.0)
+      (ap (λ o. is_agent o (Symmetric a)) (winner_at-agree (length h) h v p more.agree (omega arith)) ∙ q.1)
 
   few_cases : (n a : ℕ) → length h ≡ n → count_where (is_outstanding_of v a) n ≤ 4
   unfolding count_where
   few_cases zero a e = omega arith
   few_cases (suc m) a e =
-      let size = g.more.size in
+      let size = more.size in
       elim (cases_Bool (is_outstanding_of v a m)) [
         | inl t ↦
             let here : length h ≡ m + 1 = omega arith in
@@ -125,7 +126,7 @@ module _ {h : Trace} {x : Sample} {v : Trace} {w : Happened} (g : Happens h x v 
 
   pub few_goes : Few v
   few_goes =
-      let size = g.more.size in
+      let size = more.size in
       let back : length h ≡ length v - 1 = omega arith in
       record {
         few = λ a.
@@ -181,14 +182,11 @@ module _ (v : Trace) (i : Identified v) where
   unfolding kept_below
   room_cases zero e few = omega arith
   room_cases (suc n) e few =
-      let next : n + 1 ≡ suc n = omega arith in
-      let last : kept_below v (suc n) ≡ kept_below v n =
-      subst (λ m. kept_below v m ≡ kept_below v n) next (below_last v n (omega arith)) in
       let back : length v - 1 ≡ n = omega arith in
       let most : (a : ℕ) → count_where (is_outstanding_of v a) n ≤ 4 =
       λ a. subst (λ m. count_where (is_outstanding_of v a) m ≤ 4) back (few.few a) in
       let all = by_agents n in
-      let size = ap length last in
+      let size = ap length (below_last v n (omega arith)) in
       omega (arith, all, size, most 0, most 1, most 2, most 3)
 
   pub few_fit : Few v → length (open_of v) ≤ 16

@@ -1,11 +1,11 @@
 -- What a queue that stands for a history tells of its requests, and which are known with a new sample.
-use Rattle.std.proofs.Common.{ℕ, zero, suc, ◌+◌, ◌-◌, ◌<◌, ◌≤◌, ◌≡◌, true, false, cond, List, Option, Some}
+use Rattle.std.proofs.Common.{ℕ, zero, suc, ◌+◌, ◌-◌, ◌<◌, ◌≤◌, ◌≡◌, true, false, cond, Option, Some, nat_le}
 use Rattle.std.proofs.Common.{None, is_some, is_none, length, slice_get, refl, sym, ap, ◌∙◌, arith, inl, inr, subst}
 use Rattle.std.proofs.Common.{add-zero, not, ◌&&◌}
-use Rattle.std.proofs.lemmas.Bool.{and_parts, both_ways, cases_lt, false_from_ne_true, le-leb, leb-true, cases_Bool}
+use Rattle.std.proofs.lemmas.Bool.{and_parts, both_ways, false_from_ne_true, le-leb, leb-true, cases_Bool}
 use Rattle.std.proofs.lemmas.Bool.{and_left, and_right, and_from, eq-eqb}
 use Rattle.std.proofs.Math.Bool.{and-true}
-use Rattle.fsb_count.specs.Options.{is_some_and, greater_of}
+use Rattle.fsb_count.specs.Options.{is_some_and}
 use Rattle.fsb_count.specs.Clocks.{count_where, nth_where}
 use Rattle.fsb_count.proofs.Interface.{count_where-above, count_where-more, nth_where-at, nth_where-found}
 use Rattle.fsb_count.proofs.Interface.{nth_where-there, count_where-same, count_where-passed, count_where-failed}
@@ -13,94 +13,28 @@ use Rattle.fsb_signal.specs.declared.lines.TheConstants.Lines.{ADS, AERR}
 use Rattle.fsb_signal.specs.Samples.{line_at, has_line}
 use Rattle.fsb_signal.specs.declared.sample.Sample.{Sample}
 use Rattle.fsb_encode.specs.declared.request.Request.{Request}
-use Rattle.fsb_encode.specs.declared.request.Kind.{Kind}
-use Rattle.fsb_encode.specs.declared.request.Kind.TheVariants.{Reply, Invalidate, Read, WriteBack, Upgrade}
 use Rattle.fsb_trace.specs.At.{Trace, line_back, request_at}
-use Rattle.fsb_trace.specs.Requests.{is_live, live_clock_of, live_count, live_request_of, is_write_back, is_upgrade}
-use Rattle.fsb_trace.specs.Requests.{is_reply_kind, is_write_back_kind, is_upgrade_kind, live_number_of}
-use Rattle.fsb_trace.specs.Snoop.{is_every_second_from, snoop_end_of, snoop_start_of, start_after_clock}
-use Rattle.fsb_trace.specs.Snoop.{start_after_end, line_at_snoop_end}
-use Rattle.fsb_trace.specs.declared.outcome.Outcome.TheVariants.{Granted, Written, Replied, Upgraded}
-use Rattle.fsb_trace.specs.Outcome.{told_by, outcome_by_kind}
-use Rattle.fsb_trace.specs.Response.{takes}
-use Rattle.fsb_trace.specs.Rules.{is_code_for, has_den}
+use Rattle.fsb_trace.specs.Requests.{is_live, live_clock_of, live_count, live_number_of}
+use Rattle.fsb_trace.specs.Snoop.{is_every_second_from, snoop_end_of, snoop_start_of}
 use Rattle.fsb_trace.specs.Flight.{in_flight}
 use Rattle.fsb_trace.proofs.Interface.{snoop_end_of-clock}
 use Rattle.fsb_laws.specs.Orderly.{Orderly, Spaced}
 use Rattle.fsb_laws.specs.Progress.{SnoopsTo, is_snoop_due, response_count, transfer_of, may_answer_next}
-use Rattle.fsb_laws.proofs.Interface.{answered_below, ends_to-moving, ends_to-still, in_flight-count, is_live-ads}
-use Rattle.fsb_laws.proofs.Interface.{request_at-last, snoop_end_of-above, start_clock, transfer_parts}
+use Rattle.fsb_laws.proofs.Interface.{ends_to-moving, ends_to-still, in_flight-count, is_live-ads}
+use Rattle.fsb_laws.proofs.Interface.{snoop_end_of-above, start_clock, transfer_parts}
 use Rattle.fsb_laws.proofs.Interface.{is_cancelled-late, is_live-more, live_number_of-more, live_clock_of-more}
 use Rattle.fsb_laws.proofs.Interface.{live_clock_of-less, request_at-old}
 use Rattle.fsb_laws.specs.OneMore.{OneMore, cancels}
+use Rattle.fsb_heads.specs.Heads.{snooped_count}
+use Rattle.fsb_heads.proofs.Interface.{snoops_to}
 use Rattle.fsb_rules.specs.declared.live.LiveRequest.{LiveRequest}
 use Rattle.fsb_rules.specs.declared.live.Snooped.{Snooped}
-use Rattle.fsb_rules.specs.declared.live.Moving.{Moving}
 use Rattle.fsb_rules.specs.declared.in_flight.InFlight.{InFlight}
 use Rattle.fsb_rules.specs.Live.{live_from, IsLive, IsSnooped}
-use Rattle.fsb_rules.specs.Stretch.{Stretch}
-use Rattle.fsb_rules.specs.Tests.{takes_by, is_code_by, kind_outcome, told_of, start_by, is_due_by, next_by}
-use Rattle.fsb_rules.specs.Tests.{queue_len}
-use Rattle.fsb_rules.specs.InFlight.{InFlightStands, chunks_in, snoop_before, known_count}
-use Rattle.fsb_rules.proofs.Stretches.{HasFirst, stretch-first, stretch-none, stretch-size}
+use Rattle.fsb_rules.specs.InFlight.{InFlightStands, known_count}
+use Rattle.fsb_rules.proofs.Stretches.{stretch-head, stretch-end, stretch-size}
+use Rattle.fsb_rules.proofs.LiveTests.{live-early}
 use Rattle.fsb_rules.proofs.Lines.{line_back-none, line_back-some}
-
--- a request that is decoded has its second clock in the history
-early_cases : (h : Trace) (q : ℕ) (r : Request) → request_at h q ≡ Some r → q + 1 < length h
-early_cases h q r e =
-    elim (cases_lt (q + 1) (length h)) [
-      | inl l ↦ l
-      | inr l ↦ let none = request_at-last h q l in absurd (let no : ⊥ = cc in no)
-    ]
-
-module _ {h : Trace} {i : ℕ} {a : LiveRequest} (l : IsLive h i a) where
-  pub live-early : a.clock + 1 < length h
-  live-early = early_cases h a.clock l.request l.decoded
-
-  pub live-request : live_request_of h i ≡ Some l.request
-  unfolding live_request_of
-  live-request = rw (l.clock, l.decoded) refl
-
-  pub live-did : a.did ≡ l.request.did
-  unfolding live_from
-  live-did = ap (λ b. b.did) l.same
-
--- the outcome by the kind is that by its tests
-by_kind : (k : Kind)
-    → cond (is_write_back_kind k) Written
-    (cond (is_upgrade_kind k) Upgraded (cond (is_reply_kind k) Replied Granted))
-    ≡ elim k [ WriteBack ↦ Written | Upgrade ↦ Upgraded | Reply ↦ Replied | Read ↦ Granted | Invalidate ↦ Granted ]
-unfolding is_reply_kind is_write_back_kind is_upgrade_kind
-by_kind Reply = refl
-by_kind Invalidate = refl
-by_kind Read = refl
-by_kind WriteBack = refl
-by_kind Upgrade = refl
-
-kind_form : (q : ℕ) (r : Request) → kind_outcome (live_from q r) ≡ outcome_by_kind (Some r)
-unfolding kind_outcome live_from outcome_by_kind
-kind_form q r = by_kind r.kind
-
--- the tests of a request with its snoop end are those of the trace
-module _ {h : Trace} {i : ℕ} {w : Snooped} (s : IsSnooped h i w) where
-  pub takes_by-takes : takes_by w ≡ takes h i
-  unfolding takes_by live_from takes is_write_back line_at_snoop_end is_some_and
-  takes_by-takes = rw (live-request s.live, s.end, s.live.same, s.hitm) refl
-
-  pub is_code_by-code : (code : ℕ) → is_code_by w code ≡ is_code_for h i code
-  unfolding is_code_by live_from is_code_for is_write_back is_upgrade has_den line_at_snoop_end is_some_and
-  is_code_by-code code = rw (live-request s.live, s.end, s.live.same, s.hitm, s.defer) refl
-
-  pub told_of-told : (code : ℕ) → told_of w code ≡ told_by h i code
-  unfolding told_of told_by line_at_snoop_end is_some_and
-  told_of-told code =
-      rw (
-        live-request s.live,
-        s.end,
-        s.hitm,
-        ap kind_outcome s.live.same,
-        kind_form w.request.clock s.live.request,
-      ) refl
 
 -- those below the count of known ones are known
 pub known_clock : (h : Trace) (i : ℕ) → i < known_count h → (q : ℕ) × (live_clock_of h i ≡ Some q) × (q + 1 < length h)
@@ -142,27 +76,6 @@ due_known h s t =
     let c = start_clock h s p.0 p.1 in
     below_known h s c.0 c.1 (omega (arith, c.2, p.2))
 
--- the start of the next snoop
-start_by-start : (h : Trace) (s q : ℕ) → SnoopsTo h s → live_clock_of h s ≡ Some q
-    → snoop_start_of h s ≡ Some (start_by (snoop_before h s) q)
-unfolding snoop_start_of start_after_clock start_after_end snoop_before start_by greater_of
-start_by-start h zero q to e = rw e refl
-start_by-start h (suc i) q to e = let p = to.reached i (omega arith) in rw (e, p.1) refl
-
-due_by_list : (h : Trace) (s : ℕ) (xs : List LiveRequest) → SnoopsTo h s → Stretch (IsLive h) xs s (known_count h)
-    → is_some_and (slice_get xs 0) (λ a. is_every_second_from (start_by (snoop_before h s) a.clock) (length h))
-    ≡ is_snoop_due h s (length h)
-unfolding is_snoop_due is_some_and
-due_by_list h s xs to w =
-    elim (cases_lt s (known_count h)) [
-      | inl l ↦
-          let a = stretch-first (IsLive h) xs s (known_count h) w l in
-          rw (a.first, start_by-start h s a.thing.clock to a.here.clock) refl
-      | inr l ↦
-          rw (stretch-none (IsLive h) xs s (known_count h) w l)
-          (sym (false_from_ne_true _ (λ t. let k = due_known h s t in omega arith)))
-    ]
-
 -- where no request begins at the last clock all live requests are known
 quiet_last : (h : Trace) (n : ℕ) → length h ≡ suc n → line_back ADS h (length h) 1 ≡ false → is_live h n ≡ false
 unfolding line_back
@@ -182,90 +95,63 @@ all_known h (suc n) e f =
     ∙ sym (ap (count_where (is_live h)) one ∙ count_where-more (is_live h) n
     ∙ ap (λ b. count_where (is_live h) n + cond b 1 0) (quiet_last h n e f) ∙ add-zero _)
 
-some_chunks : (m : Option Moving) → is_some m ≡ is_some (chunks_in m)
-some_chunks None = refl
-some_chunks (Some a) = refl
-
-none_chunks : (m : Option Moving) → is_none m ≡ is_none (chunks_in m)
-none_chunks None = refl
-none_chunks (Some a) = refl
-
--- how many there are: with those that responded, the known ones and the one whose data are on the way
-pub len_of : (q : InFlight) (w : Trace) (s : ℕ) → Stretch (IsLive w) q.asking.items s (known_count w)
-    → Stretch (IsSnooped w) q.waiting.items (response_count w) s → chunks_in q.moving ≡ transfer_of w
-    → queue_len q + response_count w ≡ known_count w + cond (is_some (transfer_of w)) 1 0
-unfolding queue_len
-len_of q w s a b c =
-    let asking = stretch-size (IsLive w) q.asking.items s (known_count w) a in
-    let waiting = stretch-size (IsSnooped w) q.waiting.items (response_count w) s b in
-    let moving : cond {A = ℕ} (is_some q.moving) 1 0 ≡ cond {A = ℕ} (is_some (transfer_of w)) 1 0 =
-    ap (λ o. cond {A = ℕ} o 1 0) (some_chunks q.moving ∙ ap (λ o. is_some o) c) in
-    omega arith
-
--- the request that may respond is there where it may
-pub record HasNext (q : InFlight) (h : Trace) : Type 0 where
-  pub next : Snooped
-  pub is_next : next_by q (length h) ≡ Some next
-  pub snooped : IsSnooped h (response_count h) next
+-- What a queue that stands for a history tells of it.
 
 module _ {q : InFlight} {h : Trace} (st : InFlightStands q h) where
-  -- the first requests of the lists
-  pub asks_first : st.snooped < known_count h → HasFirst (IsLive h) q.asking.items st.snooped
-  asks_first l = stretch-first (IsLive h) q.asking.items st.snooped (known_count h) st.asking l
-
-  pub waits_first : response_count h < st.snooped → HasFirst (IsSnooped h) q.waiting.items (response_count h)
-  waits_first l = stretch-first (IsSnooped h) q.waiting.items (response_count h) st.snooped st.waiting l
-
-  pub is_due_by-due : is_due_by q (length h) ≡ is_snoop_due h st.snooped (length h)
-  unfolding is_due_by
-  is_due_by-due =
-      ap (λ last. is_some_and (slice_get q.asking.items 0)
-      (λ a. is_every_second_from (start_by last a.clock) (length h)))
-      st.last_snoop ∙ due_by_list h st.snooped q.asking.items st.to st.asking
-
-  -- whether data are on the way
-  moving-none : is_none q.moving ≡ is_none (transfer_of h)
-  moving-none = none_chunks q.moving ∙ ap (λ o. is_none o) st.chunks
-
-  next_is : next_by q (length h) ≡ cond (may_answer_next h) (slice_get q.waiting.items 0) None
-  unfolding next_by may_answer_next is_some_and
-  next_is =
-      elim (cases_lt (response_count h) st.snooped) [
-        | inl l ↦ let w = waits_first l in rw (w.first, moving-none, w.here.end) refl
-        | inr l ↦
-            rw (
-              stretch-none (IsSnooped h) q.waiting.items (response_count h) st.snooped st.waiting l,
-              snoop_end_of-above h st.snooped (response_count h) st.to l,
-            ) refl
-      ]
-
-  pub has_next : may_answer_next h ≡ true → HasNext q h
-  has_next t =
-      let w = waits_first (answered_below h st.snooped st.to t) in
-      record { next = w.thing; is_next = next_is ∙ (rw t w.first); snooped = w.here }
-
-  pub no_next : may_answer_next h ≡ false → next_by q (length h) ≡ None
-  no_next f = next_is ∙ (rw f refl)
-
-  pub queue_len-known : queue_len q + response_count h ≡ known_count h + cond (is_some (transfer_of h)) 1 0
-  queue_len-known = len_of q h st.snooped st.asking st.waiting st.chunks
+  -- with those that responded, the known ones and the one whose data are on the way
+  pub queue-size : length q.asking.items + length q.waiting.items + response_count h ≡ known_count h
+  queue-size =
+      let asking = stretch-size (IsLive h) q.asking.items (snooped_count h) (known_count h) st.asking in
+      let waiting = stretch-size (IsSnooped h) q.waiting.items (response_count h) (snooped_count h) st.waiting in
+      omega arith
 
   flight_cases : (t : Option ℕ) → Orderly h → transfer_of h ≡ t → known_count h ≡ live_count h
-      → queue_len q ≡ length (in_flight h (length h))
+      → length q.asking.items + length q.waiting.items + cond (is_some t) 1 0 ≡ length (in_flight h (length h))
   flight_cases None o e k =
       let count = in_flight-count h (response_count h) (ends_to-still h o e) in
-      let len : queue_len q + response_count h ≡ known_count h + 0 = rw e at queue_len-known in
-      omega arith
+      let size = queue-size in omega arith
   flight_cases (Some c) o e k =
       let p = transfer_parts h c e in
       let count = in_flight-count h p.0 (ends_to-moving h c p.0 o e p.1) in
-      let len : queue_len q + response_count h ≡ known_count h + 1 = rw e at queue_len-known in
-      omega (arith, p.1)
+      let size = queue-size in omega (arith, p.1)
 
   -- where none begins at the last clock the queue has those in flight
-  pub queue_len-in_flight : Orderly h → line_back ADS h (length h) 1 ≡ false
-      → queue_len q ≡ length (in_flight h (length h))
-  queue_len-in_flight o f = flight_cases (transfer_of h) o refl (all_known h (length h) refl f)
+  pub queue-in_flight : Orderly h → line_back ADS h (length h) 1 ≡ false
+      → length q.asking.items + length q.waiting.items + cond (is_some (transfer_of h)) 1 0
+      ≡ length (in_flight h (length h))
+  queue-in_flight o f = flight_cases (transfer_of h) o refl (all_known h (length h) refl f)
+
+  -- there is room for a request that began at the last clock, and for one that has its snoop end
+  pub room_asking : line_back ADS h (length h) 1 ≡ true → length q.asking.items < 8
+  room_asking t =
+      let few : known_count h + cond (is_some (transfer_of h)) 1 0 + 1 ≤ response_count h + 8 = rw t at st.few in
+      let size = queue-size in omega arith
+
+  pub room_waiting : 0 < length q.asking.items → length q.waiting.items < 8
+  room_waiting l = let few = st.few in let size = queue-size in omega arith
+
+  -- the first requests of the lists
+  pub asks_first : {a : LiveRequest} → slice_get q.asking.items 0 ≡ Some a → IsLive h (snooped_count h) a
+  asks_first e = stretch-head (IsLive h) q.asking.items _ _ _ st.asking e
+
+  pub asks_none : slice_get q.asking.items 0 ≡ None → is_snoop_due h (snooped_count h) (length h) ≡ false
+  asks_none e =
+      let same = stretch-end (IsLive h) q.asking.items _ _ st.asking e in
+      false_from_ne_true _ (λ t. let l = due_known h (snooped_count h) t in omega arith)
+
+  pub waits_first : {w : Snooped} → slice_get q.waiting.items 0 ≡ Some w → IsSnooped h (response_count h) w
+  waits_first e = stretch-head (IsSnooped h) q.waiting.items _ _ _ st.waiting e
+
+  pub may_first : {w : Snooped} → slice_get q.waiting.items 0 ≡ Some w
+      → may_answer_next h ≡ (nat_le (w.clock + 2) (length h) && is_none (transfer_of h))
+  unfolding may_answer_next is_some_and
+  may_first e = rw (waits_first e).end refl
+
+  pub may_none : slice_get q.waiting.items 0 ≡ None → may_answer_next h ≡ false
+  unfolding may_answer_next is_some_and
+  may_none e =
+      let same = stretch-end (IsSnooped h) q.waiting.items _ _ st.waiting e in
+      rw (snoop_end_of-above h (snooped_count h) (response_count h) (snoops_to h) (omega arith)) refl
 
 -- The live requests that are known, with a new sample.
 

@@ -1,51 +1,52 @@
 -- The queue stands for the history with a new sample that breaks no rule.
-use Rattle.std.proofs.Common.{ℕ, zero, suc, ◌+◌, ◌-◌, ◌<◌, ◌≤◌, ◌≡◌, Bool, true, false, cond, ◌&&◌, nat_lt, Option}
-use Rattle.std.proofs.Common.{Some}
-use Rattle.std.proofs.Common.{None, is_some, List, ◌++◌, drop, length, slice_get, refl, sym, ap, ◌∙◌}
-use Rattle.std.proofs.Common.{arith, inl, inr, subst, add-zero, add-one}
-use Rattle.std.specs.Option.{option_and_then, option_to_list}
-use Rattle.std.proofs.lemmas.Bool.{cases_lt, and_parts, both_ways, false_from_ne_true, leb-true, le-leb}
-use Rattle.std.proofs.lemmas.Option.{cond_some}
+use Rattle.std.proofs.Common.{ℕ, suc, ◌+◌, ◌-◌, ◌<◌, ◌≤◌, ◌≡◌, Bool, true, false, cond, ◌&&◌, Option, Some, not, nat_le}
+use Rattle.std.proofs.Common.{None, is_some, List, [], ◌∷◌, ◌++◌, drop, length, slice_get, refl, sym, ap, ◌∙◌}
+use Rattle.std.proofs.Common.{arith, inl, inr, subst, add-zero, IfSome}
+use Rattle.std.specs.Option.{option_to_list}
+use Rattle.std.proofs.lemmas.Bool.{cases_lt, and_parts, both_ways, false_from_ne_true, leb-true, le-leb, leb-false}
+use Rattle.std.proofs.lemmas.Bool.{cases_Bool, not-false}
+use Rattle.std.proofs.lemmas.Bool.{not-true, and_left}
 use Rattle.std.proofs.lemmas.List.{append-nil}
-use Rattle.fsb_count.proofs.Interface.{cond-most}
+use Rattle.fsb_count.specs.Clocks.{count_where}
+use Rattle.fsb_count.proofs.Interface.{cond-most, is_none-none}
 use Rattle.fsb_signal.specs.declared.lines.TheConstants.Lines.{ADS, AERR, HITM, DEFER, TRDY, DRDY}
 use Rattle.fsb_signal.specs.declared.sample.Sample.{Sample}
 use Rattle.fsb_signal.specs.Samples.{has_line, response_of}
-use Rattle.fsb_trace.specs.At.{Trace, line_back}
-use Rattle.fsb_trace.specs.Snoop.{snoop_end_of}
+use Rattle.fsb_encode.specs.declared.request.Request.{Request}
+use Rattle.fsb_trace.specs.At.{Trace, line_back, request_at}
+use Rattle.fsb_trace.specs.Flight.{in_flight}
+use Rattle.fsb_trace.specs.Rules.{is_code_unlawful, is_error_alone, is_queue_full}
 use Rattle.fsb_trace.specs.Outcome.{told_by, does_move}
 use Rattle.fsb_trace.specs.Response.{ready_clock_of}
+use Rattle.fsb_trace.specs.Snoop.{snoop_end_of}
 use Rattle.fsb_trace.proofs.Interface.{snoop_end_of-clock}
 use Rattle.fsb_laws.specs.OneMore.{OneMore, responds}
-use Rattle.fsb_laws.specs.Progress.{SnoopsTo, ends_snoop_of, response_count, transfer_of, may_answer_next, chunk_step}
-use Rattle.fsb_laws.proofs.Interface.{answered_below, has_answer, line_at-new, line_at-old, ready_clock_of-after}
-use Rattle.fsb_laws.proofs.Interface.{ready_clock_of-next, response_count-kept, response_count-more, response_there}
-use Rattle.fsb_laws.proofs.Interface.{snoop_end_of-above, snoop_end_of-more, snoop_end_of-old, snoops_to-ended}
-use Rattle.fsb_laws.proofs.Interface.{snoops_to-kept, transfer_of-kept}
+use Rattle.fsb_laws.specs.Orderly.{Spaced}
+use Rattle.fsb_laws.specs.Progress.{SnoopsTo, ends_snoop_of, is_snoop_due, response_count, transfer_of}
+use Rattle.fsb_laws.specs.Progress.{transfer_after, may_answer_next, chunk_step}
+use Rattle.fsb_laws.proofs.Interface.{answered_below, has_answer, line_at-new, line_at-old, moves_new, one_more}
+use Rattle.fsb_laws.proofs.Interface.{in_flight-now}
+use Rattle.fsb_laws.proofs.Interface.{ready_clock_of-next, response_count-empty, response_count-kept}
+use Rattle.fsb_laws.proofs.Interface.{response_count-more, response_there, snoop_end_of-above, snoop_end_of-old}
+use Rattle.fsb_laws.proofs.Interface.{transfer_of-kept}
+use Rattle.fsb_heads.specs.Heads.{snooped_count, MovesWith, Stands as HeadsStands}
+use Rattle.fsb_heads.proofs.Interface.{last_snoop_end-more, snooped_count-more, snoops_count, snoops_to}
 use Rattle.fsb_rules.specs.declared.live.LiveRequest.{LiveRequest}
 use Rattle.fsb_rules.specs.declared.live.Snooped.{Snooped}
-use Rattle.fsb_rules.specs.declared.live.Moving.{Moving}
 use Rattle.fsb_rules.specs.declared.in_flight.InFlight.{InFlight}
-use Rattle.fsb_rules.specs.declared.checker.Checker.{Checker}
 use Rattle.fsb_rules.specs.Live.{live_from, IsLive, IsSnooped}
+use Rattle.fsb_rules.specs.Still.{is_quiet}
 use Rattle.fsb_rules.specs.Stretch.{Stretch}
-use Rattle.fsb_rules.specs.InFlight.{InFlightStands, Moves, chunks_in, snoop_before, known_count}
-use Rattle.fsb_rules.specs.Tests.{after_chunk, asking_after, moved_by, moving_by, queue_len}
-use Rattle.fsb_rules.specs.Tests.{ready_after_by, snooped_by, waiting_after, without_last}
+use Rattle.fsb_rules.specs.InFlight.{InFlightStands, KeepsLast, IsAt, InTime, Brings, known_count}
+use Rattle.fsb_rules.specs.LeastRule.{begun_at}
+use Rattle.fsb_rules.specs.QueueLists.{asking_after, waiting_after, without_last}
 use Rattle.fsb_rules.proofs.Stretches.{stretch-init, stretch-push, stretch-same, stretch-tail}
-use Rattle.fsb_rules.proofs.Queue.{asks_first, has_next, len_of, queue_len-known, snoops_known}
-use Rattle.fsb_rules.proofs.Queue.{known_count-more, known_count-less, live_kept, live_begun}
-use Rattle.fsb_rules.proofs.QueueRules.{ends_by-ends, ending_known, live_ended}
-use Rattle.fsb_rules.proofs.QueueRules.{begun_moving, chunks_now, moving_begun, moving_kept}
-use Rattle.fsb_rules.proofs.Goes.{Goes}
-
--- what the code leaves in the queue
-pub record QueueGoes (old : InFlight) (n : ℕ) (x : Sample) (begun : Option LiveRequest) (new : InFlight) : Type 0 where
-  pub asking : new.asking.items ≡ asking_after old.asking.items (has_line x AERR) (is_some (snooped_by old n x)) begun
-  pub waiting : new.waiting.items ≡ waiting_after old.waiting.items (responds x) (snooped_by old n x)
-  pub moving : new.moving ≡ after_chunk (moving_by old n x) x
-  pub last_snoop : new.last_snoop ≡ cond (is_some (snooped_by old n x)) (Some n) old.last_snoop
-  pub ready : new.ready ≡ ready_after_by old n x
+use Rattle.fsb_rules.proofs.Queue.{asks_none, due_known, known_count-more, known_count-less, live_kept, live_begun}
+use Rattle.fsb_rules.proofs.Queue.{snoops_known, queue-in_flight, queue-size, room_asking, room_waiting}
+use Rattle.fsb_rules.proofs.QueueRules.{answers_in_time, ended_now, live_ended}
+use Rattle.fsb_rules.proofs.Lines.{line_back-new}
+use Rattle.fsb_rules.proofs.StillClocks.{stillness, silent}
+use Rattle.fsb_rules.proofs.StartRules.{begun-none, begun-some, request_there, too_soon_not}
 
 pub new_back : (h : Trace) (x : Sample) (v : Trace) → OneMore h x v → line_back ADS v (length v) 1 ≡ has_line x ADS
 unfolding line_back
@@ -60,6 +61,27 @@ snoop_below h s i t to e =
       | inr l ↦ let none = snoop_end_of-above h s i to l in absurd (let no : ⊥ = cc in no)
     ]
 
+module _ {h : Trace} {x : Sample} {v : Trace} (m : OneMore h x v) where
+  -- an address error comes three clocks after a request
+  pub error_timed : is_error_alone v (length h) ≡ false → has_line x AERR ≡ true
+      → line_back ADS h (length h) 3 ≡ true
+  unfolding is_error_alone
+  error_timed f t =
+      let k : (true && not (line_back ADS v (length h) 3)) ≡ false = rw (line_at-new AERR h x v m ∙ t) at f in
+      sym (line_back-new ADS h x v 3 m (omega arith)) ∙ not-false _ k
+
+  -- the request of the last clock is begun with it
+  pub begun_decoded : is_code_unlawful v (length h) ≡ false → line_back ADS h (length h) 1 ≡ true
+      → (r : Request) × (request_at v (length h - 1) ≡ Some r)
+      × (begun_at v (length h) ≡ Some (live_from (length h - 1) r))
+  begun_decoded lawful t =
+      let back : line_back ADS v (length h) 1 ≡ true = line_back-new ADS h x v 1 m (omega arith) ∙ t in
+      let p = request_there v (length h) back lawful in
+      (p.0, p.1, begun-some v (length h) p.0 back p.1)
+
+  pub not_begun : line_back ADS h (length h) 1 ≡ false → begun_at v (length h) ≡ None
+  not_begun t = begun-none v (length h) (line_back-new ADS h x v 1 m (omega arith) ∙ t)
+
 -- a stretch and one thing more, or none
 with_none : {A : Type 0} (is : ℕ → A → Type 0) (xs : List A) (o : Option A) (m n : ℕ) → o ≡ None → Stretch is xs m n
     → Stretch is (xs ++ option_to_list o) m n
@@ -70,35 +92,6 @@ with_one : {A : Type 0} (is : ℕ → A → Type 0) (xs : List A) (o : Option A)
     → Stretch is xs m n → Stretch is (xs ++ option_to_list o) m (n + 1)
 with_one is xs o a m n e t w =
     subst (λ p. Stretch is (xs ++ option_to_list p) m (n + 1)) (sym e) (stretch-push is xs a m n w t)
-
-no_snoop : (o : Option LiveRequest) (f : LiveRequest → Snooped)
-    → option_and_then (λ a. cond false (Some (f a)) None) o ≡ None
-no_snoop None f = refl
-no_snoop (Some a) f = refl
-
--- the request whose data are on the way stays the same with a chunk
-moved_request : (m n : Moving) (x : Sample) → moved_by m x ≡ Some n → n.request ≡ m.request
-unfolding moved_by
-moved_request m n x e =
-    let p = cond_some (nat_lt (m.chunks + cond (has_line x DRDY) 1 0) 4)
-    (record { request = m.request; chunks = m.chunks + cond (has_line x DRDY) 1 0 }) n e in
-    sym (ap (λ a. a.request) p.1)
-
-after_request : (o : Option Moving) (n : Moving) (x : Sample) → after_chunk o x ≡ Some n
-    → (m : Moving) × (o ≡ Some m) × (n.request ≡ m.request)
-unfolding after_chunk
-after_request None n x e = absurd (let no : ⊥ = cc in no)
-after_request (Some m) n x e = (m, refl, moved_request m n x e)
-
-before_next : (v : Trace) (s : ℕ) → snoop_before v (s + 1) ≡ snoop_end_of v s
-unfolding snoop_before
-before_next v s = rw add-one refl
-
-before_same : (h : Trace) (x : Sample) (v : Trace) (s n : ℕ) → OneMore h x v → SnoopsTo h s → n ≤ s
-    → snoop_before h n ≡ snoop_before v n
-unfolding snoop_before
-before_same h x v s zero m to l = refl
-before_same h x v s (suc i) m to l = sym (snoop_end_of-old h x v s i m to (omega arith))
 
 kept_ready : (o : Option ℕ) (n : ℕ) (t b : Bool) → t ≡ false
     → o ≡ elim o [ Some y ↦ Some y | None ↦ cond (t && b) (Some n) None ]
@@ -112,292 +105,341 @@ unfolding chunk_step
 no_more comes None new e = rw e (omega arith)
 no_more comes (Some c) new e = cond-most (is_some new)
 
-module _ {k : Checker} {h : Trace} {x : Sample} {v : Trace} {b : Option LiveRequest} (g : Goes k h x v b) where
-  -- how many snoops have ended, and whether one ends with the sample
-  abbrev pub snoops : ℕ
-  snoops = g.follows.queue.snooped
+-- no request before the first clock
+no_snoop : (i : ℕ) (o : Option ℕ) → snoop_end_of [] i ≡ o → snoop_end_of [] i ≡ None
+no_snoop i None e = e
+no_snoop i (Some t) e = let c = snoop_end_of-clock [] i t e in absurd (let l = c.within in omega arith)
 
-  abbrev pub ends : Bool
-  ends = ends_snoop_of h g.follows.queue.snooped x
+pub new_queue : (q : InFlight) → q.asking.items ≡ [] → q.waiting.items ≡ [] → HeadsStands q.heads []
+    → InFlightStands q []
+unfolding known_count count_where line_back transfer_of transfer_after
+new_queue q a w heads =
+    let none : snooped_count [] ≡ 0 = snoops_count [] 0
+    (record { reached = λ i l. absurd (omega arith); next = no_snoop 0 (snoop_end_of [] 0) refl }) in
+    record {
+      asking = rw (a, none) refl;
+      waiting = rw (w, none) response_count-empty;
+      heads = heads;
+      last = record { kept = λ i e. let zero = response_count-empty in absurd (omega arith) };
+      few = rw response_count-empty (omega arith);
+    }
+
+module _ {q : InFlight} {n : ℕ} {h : Trace} (a : IsAt q n h) (x : Sample) where
+  -- what is kept of a request with its snoop end stays
+  pub live_same : {r : LiveRequest} (i t : ℕ) → i < snooped_count h → snoop_end_of h i ≡ Some t → IsLive h i r
+      → IsLive (h ++ x ∷ []) i r
+  live_same i t l e r =
+      live_ended (one_more h x) i t a.orderly.spaced r
+      (snoop_end_of-old h x _ (snooped_count h) i (one_more h x) (snoops_to h) l ∙ e)
+
+  snooped_same : {w : Snooped} (i : ℕ) → i < snooped_count h → IsSnooped h i w → IsSnooped (h ++ x ∷ []) i w
+  snooped_same {w} i l s =
+      let m = one_more h x in
+      let within = (snoop_end_of-clock h i w.clock s.end).within in
+      record {
+        live = live_same i w.clock l s.end s.live;
+        end = snoop_end_of-old h x _ (snooped_count h) i m (snoops_to h) l ∙ s.end;
+        hitm = s.hitm ∙ sym (line_at-old HITM h x _ w.clock m within);
+        defer = s.defer ∙ sym (line_at-old DEFER h x _ w.clock m within);
+      }
+
+  -- the request that has its snoop end with the sample
+  pub snooped_new : {r : LiveRequest} {hitm defer : Bool} → ends_snoop_of h (snooped_count h) x ≡ true
+      → IsLive h (snooped_count h) r → hitm ≡ has_line x HITM → defer ≡ has_line x DEFER
+      → IsSnooped (h ++ x ∷ []) (snooped_count h) (record { request = r; clock = n; hitm = hitm; defer = defer })
+  snooped_new {r} {hitm} {defer} t l e d =
+      let m = one_more h x in
+      let p = ended_now a x t l in
+      subst (λ c. IsSnooped (h ++ x ∷ []) (snooped_count h)
+      (record { request = r; clock = c; hitm = hitm; defer = defer })) (sym a.clock) (record {
+        live = p.0;
+        end = p.1;
+        hitm = e ∙ sym (line_at-new HITM h x _ m);
+        defer = d ∙ sym (line_at-new DEFER h x _ m);
+      })
+
+  pub ends_none : slice_get q.asking.items 0 ≡ None → ends_snoop_of h (snooped_count h) x ≡ false
+  unfolding ends_snoop_of
+  ends_none e = and_left _ _ (asks_none a.stands e)
+
+module _ {q : InFlight} {n : ℕ} {x : Sample} {h : Trace} (t : InTime q n x h) where
+  pub answers_below : responds x ≡ true → response_count h < snooped_count h
+  answers_below r = answered_below h (snooped_count h) (snoops_to h) (answers_in_time t r)
+
+  -- whether data move with the response that the sample is
+  pub moves_told : (begins : Bool)
+      → (responds x ≡ true → begins ≡ does_move (told_by h (response_count h) (response_of x)))
+      → MovesWith x begins h
+  moves_told begins f =
+      record {
+        orderly = t.here.orderly;
+        timely = answers_in_time t;
+        moves_is = λ r. f r
+            ∙ sym (moves_new h x _ (snooped_count h) (one_more h x) (snoops_to h) (answers_below r) r);
+      }
+
+  -- the request that responded last
+  pub last_new : {w : Snooped} → responds x ≡ true → IsSnooped h (response_count h) w
+      → KeepsLast (Some w.request) (h ++ x ∷ [])
+  last_new {w} r s =
+      record {
+        kept = λ i e.
+            let more : response_count (h ++ x ∷ []) ≡ response_count h + 1 =
+            rw r at (response_count-more h x _ (one_more h x)) in
+            let same : response_count h ≡ i = omega arith in (
+              w.request,
+              refl,
+              subst (λ j. IsLive (h ++ x ∷ []) j w.request) same
+                  (live_same t.here x (response_count h) w.clock (answers_below r) s.end s.live),
+            );
+      }
+
+  pub last_kept : responds x ≡ false → KeepsLast q.last (h ++ x ∷ [])
+  last_kept f =
+      record {
+        kept = λ i e.
+            let last : response_count h ≡ suc i = sym (response_count-kept h x _ (one_more h x) f) ∙ e in
+            let k = t.here.stands.last.kept i last in
+            let r = response_there h i (omega arith) in
+            let s = has_answer h r.0 i (t.here.orderly.timely i r.0 r.1) in (
+              k.0,
+              k.1,
+              live_same t.here x i s.snoop (snoop_below h (snooped_count h) i s.snoop (snoops_to h) s.is_snoop)
+                  s.is_snoop k.2,
+            );
+      }
+
+module _ {q : InFlight} {n : ℕ} {x : Sample} {b : Option LiveRequest} {h : Trace} (g : Brings q n x b h) where
+  abbrev here : IsAt q n h
+  here = g.in_time.here
+
+  abbrev st : InFlightStands q h
+  st = g.in_time.here.stands
+
+  abbrev spaced : Spaced h
+  spaced = g.in_time.here.orderly.spaced
+
+  abbrev v : Trace
+  v = h ++ x ∷ []
+
+  m : OneMore h x (h ++ x ∷ [])
+  m = one_more h x
+
+  abbrev s : ℕ
+  s = snooped_count h
+
+  abbrev ends : Bool
+  ends = ends_snoop_of h (snooped_count h) x
+
+  timed : has_line x AERR ≡ true → line_back ADS h (length h) 3 ≡ true
+  timed = error_timed m g.error
+
+  count_next : snooped_count v ≡ s + cond ends 1 0
+  count_next = snooped_count-more h x _ m spaced
 
   -- a request is cancelled where none began at the last clock
   error_quiet : has_line x AERR ≡ true → line_back ADS h (length h) 1 ≡ false
   unfolding line_back
   error_quiet t =
-      let back = and_parts _ _ (g.timed t) in
+      let back = and_parts _ _ (timed t) in
       let three = leb-true 3 (length h) back.0 in
       false_from_ne_true _ (λ u.
       let one = and_parts _ _ u in
-      let far = g.follows.orderly.spaced.apart (length h - 3) (length h - 1) (omega arith) back.1 one.1 in
+      let far = spaced.apart (length h - 3) (length h - 1) (omega arith) back.1 one.1 in
       omega arith)
 
-  snoops_go : (e : Bool) → ends ≡ e → SnoopsTo v (snoops + cond e 1 0)
-  snoops_go true e = snoops_to-ended h x v snoops g.more g.follows.orderly.spaced g.follows.queue.to e
-  snoops_go false e =
-      subst (SnoopsTo v) (sym (add-zero snoops))
-      (snoops_to-kept h x v snoops g.more g.follows.orderly.spaced g.follows.queue.to e)
+  snoops_next : (e : Bool) → ends ≡ e → s + cond e 1 0 ≤ known_count v
+  snoops_next e f =
+      let l = snoops_known v _ (snoops_to v) in
+      let c : snooped_count v ≡ s + cond e 1 0 = count_next ∙ ap (λ i. s + cond i 1 0) f in omega arith
 
   -- the requests without their snoop end: what is left of the old ones
   abbrev old_count : Bool → ℕ
   old_count error = cond error (known_count v) (known_count h)
 
   old_ones : (t : Bool) → has_line x AERR ≡ t
-      → Stretch (IsLive v) (without_last t k.queue.asking.items) snoops (old_count t)
+      → Stretch (IsLive v) (without_last t q.asking.items) s (old_count t)
   unfolding without_last
   old_ones true t =
-      let less = known_count-less g.more g.follows.orderly.spaced t (g.timed t) in
-      let most = snoops_known v _ (snoops_go ends refl) in
-      stretch-same (IsLive v) (IsLive h) _ snoops (known_count v)
-      (stretch-init (IsLive h) k.queue.asking.items snoops (known_count v)
-      (subst (λ n. Stretch (IsLive h) k.queue.asking.items snoops n) less g.follows.queue.asking) (omega arith))
-      (λ i a low high l. live_kept g.more i g.follows.orderly.spaced l high)
+      let less = known_count-less m spaced t (timed t) in
+      let most = snoops_next ends refl in
+      stretch-same (IsLive v) (IsLive h) _ s (known_count v)
+      (stretch-init (IsLive h) q.asking.items s (known_count v)
+      (subst (λ n. Stretch (IsLive h) q.asking.items s n) less st.asking) (omega arith))
+      (λ i a low high l. live_kept m i spaced l high)
   old_ones false f =
-      let more = known_count-more g.more f in
-      stretch-same (IsLive v) (IsLive h) k.queue.asking.items snoops (known_count h) g.follows.queue.asking
-      (λ i a low high l. live_kept g.more i g.follows.orderly.spaced l (omega arith))
+      let more = known_count-more m f in
+      stretch-same (IsLive v) (IsLive h) q.asking.items s (known_count h) st.asking
+      (λ i a low high l. live_kept m i spaced l (omega arith))
 
-  ends_within : (t : Bool) → ends ≡ true → snoops < old_count t
-  ends_within true e = let l = snoops_known v _ (snoops_go true e) in omega arith
-  ends_within false e = ending_known g.follows x e
+  due_part : ends ≡ true → is_snoop_due h s (length h) ≡ true
+  unfolding ends_snoop_of
+  due_part t = (and_parts _ _ t).0
+
+  ends_within : (t : Bool) → ends ≡ true → s < old_count t
+  ends_within true e = let l = snoops_next true e in omega arith
+  ends_within false e = due_known h s (due_part e)
 
   without_first : (t e : Bool) → has_line x AERR ≡ t → ends ≡ e
-      → Stretch (IsLive v) (drop (cond e 1 0) (without_last t k.queue.asking.items)) (snoops + cond e 1 0) (old_count t)
+      → Stretch (IsLive v) (drop (cond e 1 0) (without_last t q.asking.items)) (s + cond e 1 0) (old_count t)
   without_first t true et ee =
-      stretch-tail (IsLive v) (without_last t k.queue.asking.items) snoops (old_count t) (old_ones t et)
+      stretch-tail (IsLive v) (without_last t q.asking.items) s (old_count t) (old_ones t et)
       (ends_within t ee)
   without_first t false et ee =
-      subst (λ s. Stretch (IsLive v) (without_last t k.queue.asking.items) s (old_count t)) (sym (add-zero snoops))
+      subst (λ i. Stretch (IsLive v) (without_last t q.asking.items) i (old_count t)) (sym (add-zero s))
       (old_ones t et)
 
   -- with the one that is begun
   none_begun : (t : Bool) → has_line x AERR ≡ t → line_back ADS h (length h) 1 ≡ false → old_count t ≡ known_count v
   none_begun true e f = refl
   none_begun false e f =
-      sym (known_count-more g.more e ∙ ap (λ c. known_count h + cond c 1 0) f ∙ add-zero _)
+      sym (known_count-more m e ∙ ap (λ c. known_count h + cond c 1 0) f ∙ add-zero _)
 
   with_begun : (t e back : Bool) → has_line x AERR ≡ t → ends ≡ e → line_back ADS h (length h) 1 ≡ back
-      → Stretch (IsLive v) (drop (cond e 1 0) (without_last t k.queue.asking.items) ++ option_to_list b)
-      (snoops + cond e 1 0) (known_count v)
+      → Stretch (IsLive v) (drop (cond e 1 0) (without_last t q.asking.items) ++ option_to_list b)
+      (s + cond e 1 0) (known_count v)
   unfolding without_last
   with_begun t e false et ee eb =
-      with_none (IsLive v) _ b (snoops + cond e 1 0) (known_count v) (g.unbegun eb)
-      (subst (λ n. Stretch (IsLive v) (drop (cond e 1 0) (without_last t k.queue.asking.items)) (snoops + cond e 1 0) n)
+      with_none (IsLive v) _ b (s + cond e 1 0) (known_count v) (g.begun_is ∙ not_begun m eb)
+      (subst (λ n. Stretch (IsLive v) (drop (cond e 1 0) (without_last t q.asking.items)) (s + cond e 1 0) n)
       (none_begun t et eb) (without_first t e et ee))
   with_begun true e true et ee eb = absurd (both_ways _ (error_quiet et) eb)
   with_begun false e true et ee eb =
-      let p = g.decoded eb in
-      let count : known_count v ≡ known_count h + 1 = known_count-more g.more et
+      let p = begun_decoded m g.lawful eb in
+      let count : known_count v ≡ known_count h + 1 = known_count-more m et
       ∙ ap (λ c. known_count h + cond c 1 0) eb in
-      subst (λ n. Stretch (IsLive v) (drop (cond e 1 0) k.queue.asking.items ++ option_to_list b)
-      (snoops + cond e 1 0) n)
+      subst (λ n. Stretch (IsLive v) (drop (cond e 1 0) q.asking.items ++ option_to_list b)
+      (s + cond e 1 0) n)
       (sym count)
-      (with_one (IsLive v) _ b (live_from (length h - 1) p.0) (snoops + cond e 1 0) (known_count h) p.2
-      (live_begun g.more p.0 eb et p.1) (without_first false e et ee))
+      (with_one (IsLive v) _ b (live_from (length h - 1) p.0) (s + cond e 1 0) (known_count h) (g.begun_is ∙ p.2)
+      (live_begun m p.0 eb et p.1) (without_first false e et ee))
 
-  asking_goes : Stretch (IsLive v) (asking_after k.queue.asking.items (has_line x AERR) ends b)
-      (snoops + cond ends 1 0) (known_count v)
+  asking_goes : Stretch (IsLive v) (asking_after q.asking.items (has_line x AERR) ends b)
+      (snooped_count v) (known_count v)
   unfolding asking_after
-  asking_goes = with_begun (has_line x AERR) ends (line_back ADS h (length h) 1) refl refl refl
-
-  -- the request that has its snoop end with the sample
-  pub snooped_some : ends ≡ true → (w : Snooped) × (snooped_by k.queue (length h) x ≡ Some w) × IsSnooped v snoops w
-  unfolding snooped_by
-  snooped_some t =
-      let a = asks_first g.follows.queue (ending_known g.follows x t) in
-      let end : snoop_end_of v snoops ≡ Some (length h) =
-      snoop_end_of-more h x v snoops g.more g.follows.orderly.spaced g.follows.queue.to ∙ (rw t refl) in (
-        record { request = a.thing; clock = length h; hitm = has_line x HITM; defer = has_line x DEFER },
-        rw (a.first, ends_by-ends g.follows x, t) refl,
-        record {
-          live = live_ended g.more snoops (length h) g.follows.orderly.spaced a.here end;
-          end = end;
-          hitm = sym (line_at-new HITM h x v g.more);
-          defer = sym (line_at-new DEFER h x v g.more);
-        },
-      )
-
-  snooped_none : ends ≡ false → snooped_by k.queue (length h) x ≡ None
-  unfolding snooped_by
-  snooped_none e =
-      rw (ends_by-ends g.follows x, e) (no_snoop (slice_get k.queue.asking.items 0)
-      (λ a. record { request = a; clock = length h; hitm = has_line x HITM; defer = has_line x DEFER }))
-
-  snooped_is : (e : Bool) → ends ≡ e → is_some (snooped_by k.queue (length h) x) ≡ e
-  snooped_is true e = ap (λ o. is_some o) (snooped_some e).1
-  snooped_is false e = ap (λ o. is_some o) (snooped_none e)
-
-  -- what is kept of a request with its snoop end stays
-  pub live_same : {a : LiveRequest} (i t : ℕ) → i < snoops → snoop_end_of h i ≡ Some t → IsLive h i a → IsLive v i a
-  live_same i t l e a =
-      live_ended g.more i t g.follows.orderly.spaced a
-      (snoop_end_of-old h x v snoops i g.more g.follows.queue.to l ∙ e)
-
-  snooped_same : {w : Snooped} (i : ℕ) → i < snoops → IsSnooped h i w → IsSnooped v i w
-  snooped_same {w} i l s =
-      let within = (snoop_end_of-clock h i w.clock s.end).within in
-      record {
-        live = live_same i w.clock l s.end s.live;
-        end = snoop_end_of-old h x v snoops i g.more g.follows.queue.to l ∙ s.end;
-        hitm = s.hitm ∙ sym (line_at-old HITM h x v w.clock g.more within);
-        defer = s.defer ∙ sym (line_at-old DEFER h x v w.clock g.more within);
-      }
+  asking_goes =
+      rw count_next (with_begun (has_line x AERR) ends (line_back ADS h (length h) 1) refl refl refl)
 
   -- the requests that wait for their response
-  still_waiting : Stretch (IsSnooped v) k.queue.waiting.items (response_count h) snoops
-  still_waiting =
-      stretch-same (IsSnooped v) (IsSnooped h) k.queue.waiting.items (response_count h) snoops g.follows.queue.waiting
-      (λ i w low high s. snooped_same i high s)
-
   after_response : (t : Bool) → responds x ≡ t
-      → Stretch (IsSnooped v) (drop (cond t 1 0) k.queue.waiting.items) (response_count h + cond t 1 0) snoops
-  after_response true e =
-      stretch-tail (IsSnooped v) k.queue.waiting.items (response_count h) snoops still_waiting
-      (answered_below h snoops g.follows.queue.to (g.may e))
-  after_response false e =
-      subst (λ n. Stretch (IsSnooped v) k.queue.waiting.items n snoops) (sym (add-zero (response_count h)))
-      still_waiting
+      → Stretch (IsSnooped v) (drop (cond t 1 0) q.waiting.items) (response_count h + cond t 1 0) s
+  after_response t e =
+      let still = stretch-same (IsSnooped v) (IsSnooped h) q.waiting.items (response_count h) s st.waiting
+      (λ i w low high k. snooped_same here x i high k) in
+      elim t as (λ b. responds x ≡ b
+      → Stretch (IsSnooped v) (drop (cond b 1 0) q.waiting.items) (response_count h + cond b 1 0) s) [
+        | true ↦ λ r.
+            stretch-tail (IsSnooped v) q.waiting.items (response_count h) s still (answers_below g.in_time r)
+        | false ↦ λ r.
+            subst (λ i. Stretch (IsSnooped v) q.waiting.items i s) (sym (add-zero (response_count h))) still
+      ] e
 
-  waiting_cases : (t : Bool) → ends ≡ t
-      → Stretch (IsSnooped v) (drop (cond (responds x) 1 0) k.queue.waiting.items
-      ++ option_to_list (snooped_by k.queue (length h) x)) (response_count h + cond (responds x) 1 0)
-      (snoops + cond t 1 0)
-  waiting_cases true e =
-      let p = snooped_some e in
-      with_one (IsSnooped v) _ _ p.0 (response_count h + cond (responds x) 1 0) snoops p.1 p.2
-      (after_response (responds x) refl)
-  waiting_cases false e =
-      subst (Stretch (IsSnooped v) _ (response_count h + cond (responds x) 1 0)) (sym (add-zero snoops))
-      (with_none (IsSnooped v) _ _ (response_count h + cond (responds x) 1 0) snoops (snooped_none e)
+  waiting_cases : (o : Option Snooped) → is_some o ≡ ends → IfSome o (IsSnooped v s)
+      → Stretch (IsSnooped v) (drop (cond (responds x) 1 0) q.waiting.items ++ option_to_list o)
+      (response_count h + cond (responds x) 1 0) (s + cond ends 1 0)
+  waiting_cases (Some w) e k =
+      rw (sym e) (with_one (IsSnooped v) _ (Some w) w (response_count h + cond (responds x) 1 0) s refl k
       (after_response (responds x) refl))
-
-  waiting_goes : Stretch (IsSnooped v)
-      (waiting_after k.queue.waiting.items (responds x) (snooped_by k.queue (length h) x)) (response_count v)
-      (snoops + cond ends 1 0)
-  unfolding waiting_after
-  waiting_goes =
-      subst (λ n. Stretch (IsSnooped v) (drop (cond (responds x) 1 0) k.queue.waiting.items
-      ++ option_to_list (snooped_by k.queue (length h) x)) n (snoops + cond ends 1 0))
-      (sym (response_count-more h x v g.more)) (waiting_cases ends refl)
-
-  -- the request whose data are on the way
-  pub moving_request : (t : Bool) (m : Moving) → responds x ≡ t → moving_by k.queue (length h) x ≡ Some m → Moves v m
-  moving_request true m t e =
-      let n = has_next g.follows.queue (g.may t) in
-      let p = cond_some (does_move (told_by h (response_count h) (response_of x))) (begun_moving n.next) m
-      (sym (moving_begun g.follows x (g.may t) t) ∙ e) in
-      let below = answered_below h snoops g.follows.queue.to (g.may t) in
-      record {
-        number = response_count h;
-        last = response_count-more h x v g.more ∙ ap (λ c. response_count h + cond c 1 0) t
-            ∙ add-one (response_count h);
-        live = subst (λ a. IsLive v (response_count h) a.request) p.1
-            (live_same (response_count h) n.next.clock below n.snooped.end n.snooped.live);
-      }
-  moving_request false m f e =
-      let old = g.follows.queue.moving m (sym (moving_kept g.follows x f) ∙ e) in
-      let r = response_there h old.number (omega (arith, old.last)) in
-      let a = has_answer h r.0 old.number (g.follows.orderly.timely old.number r.0 r.1) in
-      record {
-        number = old.number;
-        last = response_count-kept h x v g.more f ∙ old.last;
-        live = live_same old.number a.snoop
-            (snoop_below h snoops old.number a.snoop g.follows.queue.to a.is_snoop) a.is_snoop
-            old.live;
-      }
-
-  moving_goes : (m : Moving) → after_chunk (moving_by k.queue (length h) x) x ≡ Some m → Moves v m
-  moving_goes m e =
-      let p = after_request (moving_by k.queue (length h) x) m x e in
-      let q = moving_request (responds x) p.0 refl p.1 in
-      record { number = q.number; last = q.last; live = subst (λ a. IsLive v q.number a) (sym p.2) q.live }
-
-  -- the last snoop end
-  last_goes : (e : Bool) → ends ≡ e
-      → cond e (Some (length h)) k.queue.last_snoop ≡ snoop_before v (snoops + cond e 1 0)
-  last_goes true e =
-      sym (before_next v snoops
-      ∙ snoop_end_of-more h x v snoops g.more g.follows.orderly.spaced g.follows.queue.to ∙ (rw e refl))
-  last_goes false e =
-      g.follows.queue.last_snoop ∙ before_same h x v snoops snoops g.more g.follows.queue.to (omega arith)
-      ∙ ap (snoop_before v) (sym (add-zero snoops))
-
-  -- the ready clock
-  ready_cases : (t : Bool) → has_line x TRDY ≡ t
-      → cond t (Some (length h)) k.queue.ready ≡ ready_clock_of v (response_count h)
-  ready_cases true t =
-      let p = g.ready t in
-      let none : ready_clock_of h (response_count h) ≡ None = sym g.follows.queue.ready ∙ p.1 in
-      let now = rw (none, t, p.0) at (ready_clock_of-next h x v snoops g.more g.follows.orderly g.follows.queue.to) in
-      sym now
-  ready_cases false f =
-      g.follows.queue.ready
-      ∙ kept_ready (ready_clock_of h (response_count h)) (length h) (has_line x TRDY) (may_answer_next h) f
-      ∙ sym (ready_clock_of-next h x v snoops g.more g.follows.orderly g.follows.queue.to)
-
-  ready_by_response : (t : Bool) → responds x ≡ t
-      → cond t None (cond (has_line x TRDY) (Some (length h)) k.queue.ready)
-      ≡ ready_clock_of v (response_count h + cond t 1 0)
-  ready_by_response true t =
-      sym (ap (ready_clock_of v) (add-one (response_count h)) ∙ ready_clock_of-after h x v g.more t)
-  ready_by_response false f =
-      ready_cases (has_line x TRDY) refl ∙ ap (ready_clock_of v) (sym (add-zero (response_count h)))
-
-  ready_goes : ready_after_by k.queue (length h) x ≡ ready_clock_of v (response_count v)
-  unfolding ready_after_by
-  ready_goes =
-      ready_by_response (responds x) refl ∙ ap (ready_clock_of v) (sym (response_count-more h x v g.more))
+  waiting_cases None e k =
+      rw (sym e) (subst (Stretch (IsSnooped v) _ (response_count h + cond (responds x) 1 0)) (sym (add-zero s))
+      (with_none (IsSnooped v) _ None (response_count h + cond (responds x) 1 0) s refl
+      (after_response (responds x) refl)))
 
   -- the room that is left
+  room : has_line x ADS ≡ true → length (in_flight h (length h)) < 8
+  unfolding is_queue_full
+  room t =
+      let f : (true && nat_le 8 (length (in_flight h (length h)))) ≡ false =
+      rw (line_at-new ADS h x v m ∙ t, in_flight-now h x v m g.in_time.here.orderly) at g.room in
+      leb-false 8 (length (in_flight h (length h))) f
+
   known_most : (t : Bool) → has_line x AERR ≡ t
       → known_count v ≤ known_count h + cond (line_back ADS h (length h) 1) 1 0
-  known_most true e = let less = known_count-less g.more g.follows.orderly.spaced e (g.timed e) in omega arith
-  known_most false e = let more = known_count-more g.more e in omega arith
+  known_most true e = let less = known_count-less m spaced e (timed e) in omega arith
+  known_most false e = let more = known_count-more m e in omega arith
 
   answers_most : (t : Bool) → responds x ≡ t → cond (is_some (transfer_of v)) 1 0 + response_count h
       ≤ response_count v + cond (is_some (transfer_of h)) 1 0
   answers_most true e =
-      let more : response_count v ≡ response_count h + 1 = response_count-more h x v g.more
-      ∙ ap (λ c. response_count h + cond c 1 0) e in
+      let more : response_count v ≡ response_count h + 1 = rw e at (response_count-more h x v m) in
       let most = cond-most (is_some (transfer_of v)) in omega arith
   answers_most false e =
-      let same = response_count-kept h x v g.more e in
+      let same = response_count-kept h x v m e in
       let most = no_more (has_line x DRDY) (transfer_of h) (transfer_of v)
-      (transfer_of-kept h x v g.more g.follows.orderly e) in omega arith
+      (transfer_of-kept h x v m g.in_time.here.orderly e) in omega arith
 
-  few_left : (new : ℕ) (t : Bool) → has_line x ADS ≡ t
-      → new + response_count v ≡ known_count v + cond (is_some (transfer_of v)) 1 0
-      → new + cond (line_back ADS v (length v) 1) 1 0 ≤ 8
-  few_left new true e r =
-      let room = g.room e in
-      let known : known_count v ≤ known_count h + 0 = rw room.1 at (known_most (has_line x AERR) refl) in
+  few_left : (t : Bool) → has_line x ADS ≡ t
+      → known_count v + cond (is_some (transfer_of v)) 1 0 + cond (line_back ADS v (length v) 1) 1 0
+      ≤ response_count v + 8
+  few_left true e =
+      let quiet = (too_soon_not m g.in_time.apart e).0 in
+      let known : known_count v ≤ known_count h + 0 = rw quiet at (known_most (has_line x AERR) refl) in
       let answers = answers_most (responds x) refl in
-      let old = queue_len-known g.follows.queue in
-      rw (new_back h x v g.more ∙ e) (omega (arith, room.0))
-  few_left new false e r =
+      let size = queue-size st in
+      let held = queue-in_flight st g.in_time.here.orderly quiet in
+      let free = room e in
+      rw (new_back h x v m ∙ e) (omega arith)
+  few_left false e =
       let known = known_most (has_line x AERR) refl in
       let answers = answers_most (responds x) refl in
-      let old = queue_len-known g.follows.queue in
-      rw (new_back h x v g.more ∙ e) (omega (arith, g.follows.queue.few))
+      let few = st.few in
+      rw (new_back h x v m ∙ e) (omega arith)
 
-  pub queue_follows : (q : InFlight) → QueueGoes k.queue (length h) x b q → InFlightStands q v
-  queue_follows q r =
-      let asking : Stretch (IsLive v) q.asking.items (snoops + cond ends 1 0) (known_count v) =
-      subst (λ xs. Stretch (IsLive v) xs (snoops + cond ends 1 0) (known_count v))
-      (sym (r.asking ∙ ap (λ e. asking_after k.queue.asking.items (has_line x AERR) e b) (snooped_is ends refl)))
-      asking_goes in
-      let waiting : Stretch (IsSnooped v) q.waiting.items (response_count v) (snoops + cond ends 1 0) =
-      subst (λ xs. Stretch (IsSnooped v) xs (response_count v) (snoops + cond ends 1 0)) (sym r.waiting) waiting_goes in
-      let chunks : chunks_in q.moving ≡ transfer_of v = ap chunks_in r.moving
-      ∙ chunks_now g.follows g.more g.may (responds x) refl in
+  -- the queue with what a sample leaves in it
+  pub queue_follows : (new : InFlight) (o : Option Snooped) → is_some o ≡ ends → IfSome o (IsSnooped v s)
+      → new.asking.items ≡ asking_after q.asking.items (has_line x AERR) (is_some o) b
+      → new.waiting.items ≡ waiting_after q.waiting.items (responds x) o
+      → HeadsStands new.heads v → KeepsLast new.last v → InFlightStands new v
+  unfolding waiting_after
+  queue_follows new o e k asking waiting heads last =
       record {
-        snooped = snoops + cond ends 1 0;
-        to = snoops_go ends refl;
-        asking = asking;
-        waiting = waiting;
-        chunks = chunks;
-        moving = λ m e. moving_goes m (sym r.moving ∙ e);
-        last_snoop = r.last_snoop ∙ ap (λ e. cond e (Some (length h)) k.queue.last_snoop) (snooped_is ends refl)
-            ∙ last_goes ends refl;
-        ready = r.ready ∙ ready_goes;
-        few = few_left (queue_len q) (has_line x ADS) refl (len_of q v (snoops + cond ends 1 0) asking waiting chunks);
+        asking = rw (asking ∙ ap (λ i. asking_after q.asking.items (has_line x AERR) i b) e) asking_goes;
+        waiting = rw (waiting, response_count-more h x v m, count_next) (waiting_cases o e k);
+        heads = heads;
+        last = last;
+        few = few_left (has_line x ADS) refl;
       }
+
+  -- there is room for what comes
+  pub begun_fits : is_some b ≡ true → length q.asking.items < 8
+  begun_fits t =
+      elim (cases_Bool (line_back ADS h (length h) 1)) [
+        | inl back ↦ room_asking st back
+        | inr quiet ↦ absurd (both_ways _ (ap (λ o. is_some o) (g.begun_is ∙ not_begun m quiet)) t)
+      ]
+
+  asking_some : (xs : List LiveRequest) → slice_get xs 0 ≡ slice_get q.asking.items 0 → ends ≡ true → 0 < length xs
+  asking_some [] e t = absurd (both_ways _ (ends_none here x (sym e)) t)
+  asking_some (y ∷ ys) e t = omega arith
+
+  pub snooped_fits : ends ≡ true → length q.waiting.items < 8
+  snooped_fits t = room_waiting st (asking_some q.asking.items refl t)
+
+  -- a sample with which nothing happens
+  heads_stay : is_quiet h x b ≡ true → ends ≡ false → HeadsStands q.heads v
+  unfolding is_quiet chunk_step
+  heads_stay k e =
+      let p = and_parts _ _ (and_parts _ _ k).1 in
+      let still = stillness x p.1 in
+      let none = is_none-none _ p.0 in
+      let quiet = silent x still in
+      record {
+        snooped = st.heads.snooped ∙ sym (last_snoop_end-more h x v m spaced ∙ (rw e refl));
+        ready = st.heads.ready
+            ∙ kept_ready (ready_clock_of h (response_count h)) (length h) (has_line x TRDY) (may_answer_next h)
+            still.trdy
+            ∙ sym (ready_clock_of-next h x v s m g.in_time.here.orderly (snoops_to h))
+            ∙ ap (ready_clock_of v) (sym (response_count-kept h x v m quiet));
+        chunks = st.heads.chunks ∙ none ∙ sym (transfer_of-kept h x v m g.in_time.here.orderly quiet ∙ (rw none refl));
+      }
+
+  pub queue_stays : (is_quiet h x b && not (is_snoop_due h s (length h))) ≡ true → InFlightStands q v
+  unfolding is_quiet asking_after waiting_after without_last ends_snoop_of
+  queue_stays k =
+      let p = and_parts _ _ k in
+      let none = is_none-none b (and_parts _ _ p.0).0 in
+      let still = stillness x (and_parts _ _ (and_parts _ _ p.0).1).1 in
+      let ended : ends ≡ false = and_left _ _ (not-true _ p.1) in
+      queue_follows q None (sym ended) tt (rw (still.aerr, none) (sym (append-nil q.asking.items)))
+      (rw (silent x still) (sym (append-nil q.waiting.items))) (heads_stay p.0 ended)
+      (last_kept g.in_time (silent x still))

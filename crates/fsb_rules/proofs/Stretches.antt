@@ -1,26 +1,22 @@
 -- Stretches of numbered things that go on.
 use Rattle.std.proofs.Common.{ℕ, suc, ◌+◌, ◌-◌, ◌<◌, ◌≤◌, ◌≡◌, Some, None, List, [], ◌∷◌, ◌++◌, length}
-use Rattle.std.proofs.Common.{take, drop, slice_get, refl, sym, ap, arith, subst}
+use Rattle.std.proofs.Common.{take, drop, slice_get, sym, ap, arith, subst}
+use Rattle.std.proofs.lemmas.Option.{same_Some}
 use Rattle.fsb_rules.specs.Stretch.{Stretch}
-
--- the first thing of a stretch
-pub record HasFirst {A : Type 0} (is : ℕ → A → Type 0) (xs : List A) (m : ℕ) : Type 0 where
-  pub thing : A
-  pub first : slice_get xs 0 ≡ Some thing
-  pub here : is m thing
 
 pub stretch-size : {A : Type 0} (is : ℕ → A → Type 0) (xs : List A) (m n : ℕ) → Stretch is xs m n → length xs + m ≡ n
 stretch-size is [] m n w = let e : m ≡ n = w in omega arith
 stretch-size is (x ∷ xs) m n w = let e = stretch-size is xs (m + 1) n w.1 in omega arith
 
 module _ {A : Type 0} (is : ℕ → A → Type 0) where
-  pub stretch-first : (xs : List A) (m n : ℕ) → Stretch is xs m n → m < n → HasFirst is xs m
-  stretch-first [] m n w l = absurd (let e : m ≡ n = w in omega arith)
-  stretch-first (x ∷ xs) m n w l = record { thing = x; first = refl; here = w.0 }
+  -- the first thing, where there is one
+  pub stretch-head : (xs : List A) (x : A) (m n : ℕ) → Stretch is xs m n → slice_get xs 0 ≡ Some x → is m x
+  stretch-head [] x m n w e = absurd (let no : ⊥ = cc in no)
+  stretch-head (y ∷ ys) x m n w e = subst (is m) (same_Some _ _ e) w.0
 
-  pub stretch-none : (xs : List A) (m n : ℕ) → Stretch is xs m n → n ≤ m → slice_get xs 0 ≡ None
-  stretch-none [] m n w l = refl
-  stretch-none (x ∷ xs) m n w l = absurd (let e = stretch-size is (x ∷ xs) m n w in omega arith)
+  pub stretch-end : (xs : List A) (m n : ℕ) → Stretch is xs m n → slice_get xs 0 ≡ None → m ≡ n
+  stretch-end [] m n w e = w
+  stretch-end (x ∷ xs) m n w e = absurd (let no : ⊥ = cc in no)
 
   -- the next one comes
   pub stretch-push : (xs : List A) (y : A) (m n : ℕ) → Stretch is xs m n → is n y → Stretch is (xs ++ y ∷ []) m (n + 1)

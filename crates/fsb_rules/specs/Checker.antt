@@ -18,6 +18,7 @@ use Rattle.fsb_laws.specs.Orderly.{Orderly}
 use Rattle.fsb_rules.specs.declared.broken.Broken.{Broken}
 use Rattle.fsb_rules.specs.declared.checker.Checker.{Checker}
 use Rattle.fsb_rules.specs.declared.live.LiveRequest.{LiveRequest}
+use Rattle.fsb_rules.specs.declared.outstanding.Outstanding.{Outstanding}
 use Rattle.fsb_rules.specs.LeastRule.{begun_at}
 use Rattle.fsb_rules.specs.Recent.{RecentStands}
 use Rattle.fsb_rules.specs.InFlight.{InFlightStands}
@@ -43,7 +44,7 @@ pub record Deferrable (h : Trace) : Type 0 where
 unfoldable pub beginner_of : Trace → Option Who
 beginner_of h = if line_back ADS h (length h) 1 then winner_at h (length h - 1) else None
 
--- no rule is broken by the history, and what is kept is what it leaves
+-- the history has what one has that breaks no rule, as far as it is needed, and what is kept is what it leaves
 pub record Follows (checker : Checker) (h : Trace) : Type 0 where
   pub orderly : Orderly h
   pub decoded : Decoded h
@@ -69,3 +70,14 @@ pub record Comes (checker : Checker) (n : ℕ) (sample : Sample) (request : Opti
   pub follows : Follows checker h
   pub clock : n ≡ length h
   pub begun : request ≡ begun_at (h ++ sample ∷ []) (length h)
+
+-- a is the request of the last clock of h, decoded with the sample x, and kept stands for h; and both histories have what
+-- the rule of outstanding requests rests on
+pub record WasBegun (kept : Outstanding) (h : Trace) (x : Sample) (a : LiveRequest) : Type 0 where
+  pub stands : OutstandingStands kept h
+  pub begun : begun_at (h ++ x ∷ []) (length h) ≡ Some a
+  pub before : Orderly h
+  pub after : Orderly (h ++ x ∷ [])
+  pub decoded : Decoded (h ++ x ∷ [])
+  pub identified : Identified (h ++ x ∷ [])
+  pub deferrable : Deferrable h

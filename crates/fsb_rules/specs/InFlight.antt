@@ -1,47 +1,55 @@
 -- What is kept of the live requests that have not ended.
-use Rattle.std.specs.Prelude.{◌≡◌, ◌≤◌, ℕ, zero, suc, ◌+◌, ◌-◌, length, if◌then◌else◌, Option, Some, None}
-use Rattle.std.specs.Option.{option_map}
+use Rattle.std.specs.Prelude.{◌≡◌, ◌≤◌, ℕ, suc, ◌+◌, ◌-◌, false, is_some, if◌then◌else◌, Option, Some, []}
+use Rattle.std.specs.Prelude.{◌∷◌, ◌++◌, length}
 use Rattle.fsb_count.specs.Clocks.{count_where}
 use Rattle.fsb_signal.specs.declared.lines.TheConstants.Lines.{ADS}
+use Rattle.fsb_signal.specs.declared.sample.Sample.{Sample}
 use Rattle.fsb_trace.specs.At.{Trace, line_back}
 use Rattle.fsb_trace.specs.Requests.{is_live}
-use Rattle.fsb_trace.specs.Snoop.{snoop_end_of}
-use Rattle.fsb_trace.specs.Response.{ready_clock_of}
-use Rattle.fsb_laws.specs.Progress.{SnoopsTo, response_count, transfer_of}
-use Rattle.fsb_rules.specs.declared.live.Moving.{Moving}
+use Rattle.fsb_trace.specs.Rules.{is_request_too_soon, is_code_unlawful, is_queue_full, is_error_alone, is_response_early}
+use Rattle.fsb_laws.specs.Orderly.{Orderly}
+use Rattle.fsb_laws.specs.Progress.{response_count, transfer_of}
+use Rattle.fsb_heads.specs.Heads.{snooped_count, Stands as HeadsStands}
+use Rattle.fsb_rules.specs.declared.live.LiveRequest.{LiveRequest}
 use Rattle.fsb_rules.specs.declared.in_flight.InFlight.{InFlight}
+use Rattle.fsb_rules.specs.LeastRule.{begun_at}
 use Rattle.fsb_rules.specs.Live.{IsLive, IsSnooped}
-use Rattle.fsb_rules.specs.Tests.{queue_len}
 use Rattle.fsb_rules.specs.Stretch.{Stretch}
-
--- the snoop end before that of live request i
-unfoldable pub snoop_before : Trace → ℕ → Option ℕ
-snoop_before h zero = None
-snoop_before h (suc i) = snoop_end_of h i
-
--- how many chunks came
-abbrev pub chunks_in : Option Moving → Option ℕ
-chunks_in moving = option_map (λ m. m.chunks) moving
-
--- m is of the live request that responded last
-pub record Moves (h : Trace) (m : Moving) : Type 0 where
-  pub number : ℕ
-  pub last : response_count h ≡ suc number
-  pub live : IsLive h number m.request
 
 -- how many live requests began below the last clock, so that they are decoded
 unfoldable pub known_count : Trace → ℕ
 known_count h = count_where (is_live h) (length h - 1)
 
--- the requests without their snoop end, those without their response, and the one whose data are on the way; at most
--- eight with the one that begins at the last clock
+-- this is kept of the live request that responded last, if one did
+pub record KeepsLast (last : Option LiveRequest) (h : Trace) : Type 0 where
+  pub kept : (i : ℕ) → response_count h ≡ suc i → (a : LiveRequest) × (last ≡ Some a) × IsLive h i a
+
+-- the requests without their snoop end, those without their response, and the one that responded last; at most eight
+-- are in flight with the one that begins at the last clock
 pub record InFlightStands (queue : InFlight) (h : Trace) : Type 0 where
-  pub snooped : ℕ
-  pub to : SnoopsTo h snooped
-  pub asking : Stretch (IsLive h) queue.asking.items snooped (known_count h)
-  pub waiting : Stretch (IsSnooped h) queue.waiting.items (response_count h) snooped
-  pub chunks : chunks_in queue.moving ≡ transfer_of h
-  pub moving : (m : Moving) → queue.moving ≡ Some m → Moves h m
-  pub last_snoop : queue.last_snoop ≡ snoop_before h snooped
-  pub ready : queue.ready ≡ ready_clock_of h (response_count h)
-  pub few : queue_len queue + (if line_back ADS h (length h) 1 then 1 else 0) ≤ 8
+  pub asking : Stretch (IsLive h) queue.asking.items (snooped_count h) (known_count h)
+  pub waiting : Stretch (IsSnooped h) queue.waiting.items (response_count h) (snooped_count h)
+  pub heads : HeadsStands queue.heads h
+  pub last : KeepsLast queue.last h
+  pub few : known_count h + (if is_some (transfer_of h) then 1 else 0) + (if line_back ADS h (length h) 1 then 1 else 0)
+      ≤ response_count h + 8
+
+-- clock n comes after an orderly history that the queue stands for
+pub record IsAt (queue : InFlight) (n : ℕ) (h : Trace) : Type 0 where
+  pub stands : InFlightStands queue h
+  pub orderly : Orderly h
+  pub clock : n ≡ length h
+
+-- and so does the sample, which keeps the rules of request spacing and of response timing
+pub record InTime (queue : InFlight) (n : ℕ) (x : Sample) (h : Trace) : Type 0 where
+  pub here : IsAt queue n h
+  pub apart : is_request_too_soon (h ++ x ∷ []) (length h) ≡ false
+  pub timely : is_response_early (h ++ x ∷ []) (length h) ≡ false
+
+-- and it keeps those of lawful codes, queue depth and address errors; its request is the one whose second clock n is
+pub record Brings (queue : InFlight) (n : ℕ) (x : Sample) (begun : Option LiveRequest) (h : Trace) : Type 0 where
+  pub in_time : InTime queue n x h
+  pub begun_is : begun ≡ begun_at (h ++ x ∷ []) (length h)
+  pub lawful : is_code_unlawful (h ++ x ∷ []) (length h) ≡ false
+  pub room : is_queue_full (h ++ x ∷ []) (length h) ≡ false
+  pub error : is_error_alone (h ++ x ∷ []) (length h) ≡ false

@@ -1,12 +1,12 @@
 pub mod Live
-pub mod Tests
-pub mod OpenTests
+pub mod QueueLists
 pub mod Still
 pub mod LeastRule
 pub mod RequestLines
 pub mod Stretch
 pub mod Recent
 pub mod InFlight
+pub mod Endings
 pub mod Outstanding
 pub mod Checker
 pub mod ComingChunks

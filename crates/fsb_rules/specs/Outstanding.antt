@@ -2,7 +2,7 @@
 use Rattle.std.specs.Prelude.{◌≡◌, ◌≤◌, ℕ, zero, suc, ◌-◌, Bool, ◌&&◌, nat_eq, true, if◌then◌else◌, List, [], ◌∷◌}
 use Rattle.std.specs.Prelude.{◌++◌, All, Option, Some, None, length, take}
 use Rattle.std.specs.Option.{option_map, option_to_list}
-use Rattle.fsb_count.specs.Options.{is_some_and, is_at, is_before}
+use Rattle.fsb_count.specs.Options.{is_some_and, is_at}
 use Rattle.fsb_count.specs.Clocks.{count_where}
 use Rattle.fsb_signal.specs.declared.lines.TheConstants.Lines.{ADS}
 use Rattle.fsb_signal.specs.declared.sample.Sample.{Sample}
@@ -16,11 +16,10 @@ use Rattle.fsb_trace.specs.Flight.{is_outstanding, reply_clock_of}
 use Rattle.fsb_laws.specs.OneMore.{OneMore, cancels}
 use Rattle.fsb_laws.specs.Orderly.{Orderly}
 use Rattle.fsb_laws.specs.Leaving.{ends_at}
-use Rattle.fsb_rules.specs.declared.live.LiveRequest.{LiveRequest}
 use Rattle.fsb_rules.specs.declared.outstanding.Open.{Open}
 use Rattle.fsb_rules.specs.declared.outstanding.Happened.{Happened}
 use Rattle.fsb_rules.specs.declared.outstanding.Outstanding.{Outstanding}
-use Rattle.fsb_rules.specs.Live.{live_from}
+use Rattle.fsb_rules.specs.LeastRule.{begun_at}
 
 -- live request i, which begins at p, as it is kept
 unfoldable pub open_from : Trace → ℕ → ℕ → Request → Open
@@ -40,7 +39,7 @@ plain_open p did = record { clock = p; did = did; deferred = None; reply = None 
 unfoldable pub open_at : Trace → ℕ → Option Open
 open_at h p = option_map (open_from h (live_number_of h p) p) (request_at h p)
 
--- the request that begins at p, where it is outstanding at the end of the history
+-- the request that begins at p, where it is outstanding at the end of the history and decoded
 unfoldable pub kept_at : Trace → ℕ → Option Open
 kept_at h p = if is_outstanding h (length h) p then open_at h p else None
 
@@ -66,38 +65,18 @@ is_outstanding_of h a p = is_outstanding h (length h) p && is_agent (winner_at h
 pub record Few (h : Trace) : Type 0 where
   pub few : (a : ℕ) → count_where (is_outstanding_of h a) (length h - 1) ≤ 4
 
--- the request that began at the last clock of h, which v decodes
-unfoldable pub last_begun : Trace → Trace → Option LiveRequest
-last_begun h v =
-    if line_back ADS h (length h) 1 then option_map (live_from (length h - 1)) (request_at v (length h - 1)) else None
-
--- the request that begins at q ends
-abbrev pub ends : Happened → ℕ → Bool
-ends happened q = is_some_and happened.ended (λ e. nat_eq e.request.clock q)
-
--- it ends, and is Deferred
-abbrev pub defers : Happened → ℕ → Bool
-defers happened q = is_some_and happened.ended (λ e. nat_eq e.request.clock q && e.is_deferred)
-
--- a reply to this Deferred request is begun
-abbrev pub replies : Happened → Open → Bool
-replies happened o = is_some_and happened.begun (λ a. a.is_reply && is_before o.deferred a.clock && nat_eq o.did a.did)
-
 -- v is h and then the sample x, with which this happens: x cancels that request of h, this one ends at its clock, and
--- that one has its second clock there
+-- that one has its second clock there; both keep the distance of requests and the time of responses
 pub record Happens (h : Trace) (x : Sample) (v : Trace) (happened : Happened) : Type 0 where
   pub more : OneMore h x v
   pub orderly : Orderly h
   pub after : Orderly v
   pub clock : happened.clock ≡ length h
   pub cancelled : (q : ℕ) → is_at happened.cancelled q ≡ cancels x (length h) q
-  pub ended : (q : ℕ) → ends happened q ≡ ends_at v (length h) q
-  pub deferred : (q : ℕ) → defers happened q ≡ (ends_at v (length h) q && is_deferred v (live_number_of v q))
-  pub begun : happened.begun ≡ last_begun h v
-
--- a request that begins, as it is kept from its second clock on, if it is no reply
-abbrev pub opened : LiveRequest → Option Open
-opened a = if a.is_reply then None else Some (plain_open a.clock a.did)
+  pub ended : (q : ℕ) → is_some_and happened.ended (λ e. nat_eq e.request.clock q) ≡ ends_at v (length h) q
+  pub deferred : (q : ℕ) → ends_at v (length h) q ≡ true
+      → is_some_and happened.ended (λ e. e.is_deferred) ≡ is_deferred v (live_number_of v q)
+  pub begun : happened.begun ≡ begun_at v (length h)
 
 -- kept stands for h, this happens with the sample x, and after it at most sixteen requests are outstanding
 pub record Takes (kept : Outstanding) (h : Trace) (x : Sample) (happened : Happened) : Type 0 where

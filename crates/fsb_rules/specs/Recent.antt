@@ -1,7 +1,12 @@
 -- What is kept of the last three clocks.
-use Rattle.std.specs.Prelude.{◌≡◌, ◌-◌, true, length}
+use Rattle.std.specs.Prelude.{◌≡◌, ◌-◌, true, length, Option}
+use Rattle.std.specs.Option.{option_and_then}
 use Rattle.fsb_signal.specs.declared.lines.TheConstants.Lines.{ADS}
-use Rattle.fsb_trace.specs.At.{Trace, known_pair_at, line_back}
+use Rattle.fsb_signal.specs.declared.sample.Sample.{Sample}
+use Rattle.fsb_encode.specs.declared.request.Pair.{Pair}
+use Rattle.fsb_encode.specs.declared.request.Request.{Request}
+use Rattle.fsb_encode.specs.Decoded.{request_of}
+use Rattle.fsb_trace.specs.At.{Trace, known_pair, known_pair_at, line_back}
 use Rattle.fsb_arbiter.specs.Arbiter.{lines_back}
 use Rattle.fsb_rules.specs.declared.recent.Recent.{Recent}
 
@@ -11,3 +16,7 @@ pub record RecentStands (recent : Recent) (h : Trace) : Type 0 where
   pub second : recent.second ≡ lines_back h 2
   pub third : recent.third ≡ lines_back h 3
   pub words : line_back ADS h (length h) 1 ≡ true → recent.words ≡ known_pair_at h (length h - 1)
+
+-- the request of two clocks whose first has these words, and whose second is the sample
+unfoldable pub request_by : Option Pair → Sample → Option Request
+request_by words x = option_and_then (λ b. option_and_then (λ a. request_of a b) words) (known_pair x)

@@ -10,16 +10,18 @@ ghost use Rattle.fsb_encode.specs.declared.request.Request.{Request};
 ghost use Rattle.fsb_trace.specs.At.{Trace};
 ghost use Rattle.fsb_trace.specs.Winner.{is_agent, is_same_agent, request_line_of};
 ghost use Rattle.fsb_trace.specs.Response.{data_clock_of};
-ghost use Rattle.fsb_trace.specs.Rules.{has_unknown_line, is_request_too_soon, is_code_unlawful, is_queue_full, is_request_blocked, has_no_winner, is_identified, is_identity_wrong, is_asked_wrongly, is_some_asked_wrongly, is_lock_alone, is_error_alone, has_unknown_data, has_parity_at, is_marked_address_wrong, is_marked_request_wrong};
+ghost use Rattle.fsb_trace.specs.Rules.{has_unknown_line, is_request_too_soon, is_code_unlawful, is_queue_full, is_request_blocked, has_no_winner, is_identified, is_identity_wrong, is_asked_wrongly, is_some_asked_wrongly, is_lock_alone, is_error_alone, is_response_early, has_unknown_data, is_outstanding_wrong, has_parity_at, is_marked_address_wrong, is_marked_request_wrong};
 ghost use Rattle.fsb_trace.specs.Verdict.{least_rule, verdict};
 ghost use Rattle.fsb_rules.specs.Live.{live_from};
 ghost use Rattle.fsb_rules.specs.RequestLines.{has_request_line_by, is_some_dropped_by};
-ghost use Rattle.fsb_rules.specs.LeastRule.{begun_at, begins_well, least_past, is_snoop_line_alone_by, is_begun_wrongly_by, happened_by};
+ghost use Rattle.fsb_rules.specs.LeastRule.{begun_at, begins_well, least_past};
 ghost use Rattle.fsb_rules.specs.Checker.{Follows, Comes, Stands, as_broken, beginner_of};
-ghost use Rattle.fsb_rules.specs.ComingChunks.{HasData, coming_by};
+ghost use Rattle.fsb_rules.specs.ComingChunks.{HasData};
+ghost use Rattle.fsb_rules.specs.Outstanding.{Happens};
+ghost use Rattle.fsb_rules.specs.InFlight.{IsAt, InTime};
 
 use crate::broken::Broken;
-use crate::coming::{Coming, coming_of};
+use crate::coming::Coming;
 use crate::in_flight::InFlight;
 use crate::live::{LiveRequest, live_of};
 use crate::outstanding::{Happened, Outstanding};
@@ -191,19 +193,11 @@ impl Checker {
         ensures quiet { has_line sample.now DRDY ≡ false → result ≡ None }
     {
         if self.found.is_none() {
-            self.coming_at(self.clock as u32, sample)
-        } else {
-            None
-        }
-    }
-
-    /// The chunk of data that comes with the sample of this clock.
-    #[tactic(auto, unfolding(crate::specs::ComingChunks::coming_by))]
-    fn coming_at(&self, clock: u32, sample: &Sample) -> Option<Coming>
-        ensures { result ≡ coming_by self.now clock sample.now }
-    {
-        if sample.has(Lines::DRDY) {
-            coming_of(self.queue.moving_with(clock, sample))
+            if sample.has(Lines::DRDY) {
+                self.queue.coming(self.clock as u32, sample)
+            } else {
+                None
+            }
         } else {
             None
         }
@@ -273,18 +267,32 @@ impl Checker {
     }
 
     /// The least of the rules from 11 on that is broken with a sample in which anything may happen.
+    #[tactic(auto, using(crate::proofs::LeastRule::busy_rules))]
     fn busy_broken(&self, clock: u32, sample: &Sample, begun: &Option<LiveRequest>) -> Option<u8>
         ensures { (h : Trace) → Comes self.now clock sample.now begun.now h →
-            begins_well (h ++ sample.now ∷ []) (length h) ≡ true →
+            begins_well (h ++ sample.now ∷ []) (length h) ≡ true → IsAt self.now.queue clock h →
             result ≡ least_past 10 self.now.marks (h ++ sample.now ∷ []) (length h) }
     {
-        if self.is_snoop_line_alone(clock, sample) {
+        if self.queue.is_snoop_line_alone(clock, sample) {
             Some(11)
         } else if self.queue.is_snoop_result_unfit(clock, sample) {
             Some(12)
         } else if self.queue.is_response_early(clock, sample) {
             Some(13)
-        } else if self.queue.is_code_wrong(clock, sample) {
+        } else {
+            self.moved_broken(clock, sample, begun)
+        }
+    }
+
+    /// The least of the rules from 14 on that is broken with a sample whose response is not early.
+    #[tactic(auto, using(crate::proofs::LeastRule::moved_rules))]
+    fn moved_broken(&self, clock: u32, sample: &Sample, begun: &Option<LiveRequest>) -> Option<u8>
+        ensures { (h : Trace) → Comes self.now clock sample.now begun.now h →
+            begins_well (h ++ sample.now ∷ []) (length h) ≡ true →
+            InTime self.now.queue clock sample.now h →
+            result ≡ least_past 13 self.now.marks (h ++ sample.now ∷ []) (length h) }
+    {
+        if self.queue.is_code_wrong(clock, sample) {
             Some(14)
         } else if self.queue.is_target_ready_wrong(clock, sample) {
             Some(15)
@@ -421,19 +429,12 @@ impl Checker {
         sample.has(Lines::AERR) && !self.recent.three_back(Lines::ADS)
     }
 
-    /// Rule 11, snoop lines in snoop clocks.
-    #[tactic(auto, unfolding(crate::specs::LeastRule::is_snoop_line_alone_by))]
-    fn is_snoop_line_alone(&self, clock: u32, sample: &Sample) -> bool
-        ensures { result ≡ is_snoop_line_alone_by self.now clock sample.now }
-    {
-        (sample.has(Lines::HIT) || sample.has(Lines::HITM) || sample.has(Lines::DEFER))
-            && !self.queue.is_snoop_clock(clock)
-    }
-
     /// Rule 18, deferred IDs and outstanding requests.
-    #[tactic(auto, unfolding(crate::specs::LeastRule::is_begun_wrongly_by, fsb_count::specs::Options::is_some_and))]
     fn is_begun_wrongly(&self, begun: &Option<LiveRequest>) -> bool
-        ensures { result ≡ is_begun_wrongly_by self.now begun.now }
+        ensures { (n : ℕ) (x : Sample) (h : Trace) → Comes self.now n x begun.now h →
+            begins_well (h ++ x ∷ []) (length h) ≡ true →
+            is_response_early (h ++ x ∷ []) (length h) ≡ false →
+            result ≡ is_outstanding_wrong (h ++ x ∷ []) (length h) }
     {
         match begun {
             Some(request) => self.outstanding.is_begun_wrongly(request),
@@ -484,10 +485,11 @@ impl Checker {
         }
     }
 
-    /// What happens with this sample.
-    #[tactic(auto, unfolding(crate::specs::LeastRule::happened_by))]
+    /// What happens with this sample, which breaks no rule.
     fn happened(&self, clock: u32, sample: &Sample, begun: &Option<LiveRequest>) -> Happened
-        ensures { result ≡ happened_by self.now clock sample.now begun.now }
+        ensures { (h : Trace) → Comes self.now clock sample.now begun.now h →
+            least_rule self.now.marks (h ++ sample.now ∷ []) (length h) ≡ None →
+            Happens h sample.now (h ++ sample.now ∷ []) result }
     {
         Happened {
             clock,

@@ -1,56 +1,51 @@
 //! The live requests from their second clocks to their ends.
 
-ghost use Rattle.std.specs.Prelude.{◌≡◌, ◌+◌, ◌<◌, ◌≤◌, true, is_some, is_none, nat_le, [], length, slice_get, if◌then◌else◌, Some, None, ◌&&◌, not, ◌||◌};
-ghost use Rattle.fsb_count.specs.Options.{is_some_and};
-ghost use Rattle.fsb_signal.specs.declared.lines.TheConstants.Lines.{AERR, TRDY, DRDY, DBSY, HIT, HITM, DEFER};
-ghost use Rattle.fsb_signal.specs.Samples.{has_line, response_of};
-ghost use Rattle.fsb_trace.specs.Outcome.{does_move, is_deferral};
-ghost use Rattle.fsb_laws.specs.OneMore.{responds, stalls};
-ghost use Rattle.fsb_rules.specs.Tests.{start_by, is_due_by, ends_snoop_by, is_unfit_by, next_by, queue_len, snooped_by, ready_after_by, asking_after, waiting_after, told_of, is_sound, is_ready_wrongly_by, is_ready_late_by, moving_by, after_chunk, ended_at_once, ended_with_chunk, ended_by, takes_by, is_code_by, moving_from_by, chunks_by, goes_on_by};
-ghost use Rattle.fsb_rules.specs.Still.{is_still, is_quiet_by, stays_by};
+ghost use Rattle.std.specs.Prelude.{◌≡◌, ℕ, ◌+◌, ◌<◌, true, false, is_some, is_none, unwrap_or, nat_le, [], ◌∷◌, ◌++◌, length, if◌then◌else◌, Some, None, IfSome, ◌&&◌, not, ◌||◌, slice_get};
+ghost use Rattle.fsb_signal.specs.declared.lines.TheConstants.Lines.{ADS, HIT, HITM, DEFER, DRDY, AERR};
+ghost use Rattle.fsb_signal.specs.Samples.{has_line};
+ghost use Rattle.fsb_trace.specs.At.{Trace, line_back};
+ghost use Rattle.fsb_trace.specs.Snoop.{snoop_end_of};
+ghost use Rattle.fsb_trace.specs.Outcome.{does_move, is_deferral, told_by};
+ghost use Rattle.fsb_trace.specs.Response.{takes};
+ghost use Rattle.fsb_trace.specs.Flight.{in_flight};
+ghost use Rattle.fsb_trace.specs.Rules.{is_snoop_line_alone, is_result_unfit_for, is_snoop_result_unfit, is_response_early, is_code_for, responds_soundly, is_code_wrong, is_ready_wrongly, is_ready_in_time, is_target_ready_wrong, is_transferring, is_data_wrong};
+ghost use Rattle.fsb_laws.specs.OneMore.{responds};
+ghost use Rattle.fsb_laws.specs.Orderly.{Orderly};
+ghost use Rattle.fsb_laws.specs.Progress.{is_snoop_due, ends_snoop_of, response_count, may_answer_next, transfer_of};
+ghost use Rattle.fsb_heads.specs.Heads.{snooped_count, MovesWith, Stands as HeadsStands};
+ghost use Rattle.fsb_rules.specs.Live.{IsLive, IsSnooped};
+ghost use Rattle.fsb_rules.specs.Still.{is_still, is_quiet};
+ghost use Rattle.fsb_rules.specs.QueueLists.{asking_after, waiting_after};
+ghost use Rattle.fsb_rules.specs.Endings.{SaysEnded};
+ghost use Rattle.fsb_rules.specs.ComingChunks.{HasData};
+ghost use Rattle.fsb_rules.specs.InFlight.{InFlightStands, KeepsLast, IsAt, InTime, Brings};
 
-use crate::live::{Ended, LiveRequest, Moving, Snooped, after_chunk};
+use crate::coming::Coming;
+use crate::live::{Ended, LiveRequest, Snooped};
 use arrayvec::ArrayVec;
+use fsb_heads::{Heads, Next, responds, stalls};
 use fsb_signal::{Lines, Sample};
-use fsb_trace::{Outcome, code_of, is_every_second_from, moves};
+use fsb_trace::{Outcome, code_of, moves};
 
-/// The live requests that have not ended, in order: at most eight.
+/// The live requests that have not ended, in order: at most eight; and the one that responded last.
 #[derive(Debug, Drop)]
 pub struct InFlight {
     /// Those without their snoop end.
     asking: ArrayVec<LiveRequest, 8>,
     /// Those that wait for their response.
     waiting: ArrayVec<Snooped, 8>,
-    /// The one whose data are on the way.
-    moving: Option<Moving>,
-    /// The last snoop end.
-    last_snoop: Option<u32>,
-    /// The ready clock of the request that responds next.
-    ready: Option<u32>,
-}
-
-/// Whether RS# is not idle in the sample.
-#[tactic(auto, unfolding(fsb_laws::specs::OneMore::responds))]
-fn responds(sample: &Sample) -> bool
-    ensures { result ≡ responds sample.now }
-{
-    sample.response() != 0
+    /// What the next snoop, the next response and the data on the way rest on.
+    heads: Heads,
+    /// The one that responded last, whose data are on the way where some are.
+    last: Option<LiveRequest>,
 }
 
 /// Whether the sample has a response that is no hard failure.
-#[tactic(auto, unfolding(crate::specs::Tests::is_sound))]
+#[tactic(auto, using(crate::proofs::Samples::new_response), unfolding(fsb_trace::specs::Rules::responds_soundly))]
 fn is_sound(sample: &Sample) -> bool
-    ensures { result ≡ is_sound sample.now }
+    ensures { (h : Trace) → result ≡ responds_soundly (h ++ sample.now ∷ []) (length h) }
 {
     responds(sample) && sample.response() != code_of(Outcome::Failed)
-}
-
-/// Whether HIT# and HITM# are asserted together in the sample.
-#[tactic(auto, unfolding(fsb_laws::specs::OneMore::stalls))]
-fn stalls(sample: &Sample) -> bool
-    ensures { result ≡ stalls sample.now }
-{
-    sample.has(Lines::HIT) && sample.has(Lines::HITM)
 }
 
 /// Whether a line is asserted that tells of a snoop.
@@ -78,18 +73,6 @@ fn is_still(sample: &Sample) -> bool
         && !sample.has(Lines::AERR)
 }
 
-/// The start of the snoop of a request that began at `clock`, after this snoop end.
-#[tactic(auto, unfolding(crate::specs::Tests::start_by))]
-fn start_by(before: Option<u32>, clock: u32) -> u64
-    ensures { result ≡ start_by before clock }
-{
-    let after_clock = u64::from(clock) + 4;
-    match before {
-        Some(end) => after_clock.max(u64::from(end) + 3),
-        None => after_clock,
-    }
-}
-
 /// Whether the earlier clock lies two clocks before this one at least.
 fn is_two_before(earlier: u32, clock: u32) -> bool
     ensures { result ≡ nat_le (earlier + 2) clock }
@@ -108,10 +91,11 @@ fn is_deferral(outcome: Outcome) -> bool
     }
 }
 
-/// Whether the sample's snoop result does not fit the request.
-#[tactic(auto, unfolding(crate::specs::Tests::is_unfit_by))]
+/// Whether the snoop result does not fit the request, whose snoop end is the sample.
+#[tactic(auto, unfolding(crate::specs::Live::live_from, fsb_trace::specs::Requests::live_request_of, fsb_trace::specs::Rules::is_result_unfit_for, fsb_count::specs::Options::is_at, fsb_signal::specs::Samples::line_at, fsb_trace::specs::Requests::is_write_back, fsb_trace::specs::Requests::is_reply, fsb_count::specs::Options::is_some_and))]
 fn is_unfit(request: &LiveRequest, sample: &Sample) -> bool
-    ensures { result ≡ is_unfit_by request.now sample.now }
+    ensures { (v : Trace) (c i : ℕ) → IsLive v i request.now → snoop_end_of v i ≡ Some c →
+        slice_get v c ≡ Some sample.now → result ≡ is_result_unfit_for v c i }
 {
     (request.is_write_back || request.is_reply)
         && (sample.has(Lines::HITM) || sample.has(Lines::DEFER))
@@ -119,9 +103,10 @@ fn is_unfit(request: &LiveRequest, sample: &Sample) -> bool
 }
 
 /// How a request ends that responds with this code, if it ends at once.
-#[tactic(auto, unfolding(crate::specs::Tests::ended_at_once))]
 fn ended_at_once(next: &Snooped, code: u8) -> Option<Ended>
-    ensures { result ≡ ended_at_once next.now code }
+    ensures { (h : Trace) (i : ℕ) → IsSnooped h i next.now →
+        result ≡ (if does_move (told_by h i code) then None else Some
+        (record { request = next.now.request; is_deferred = is_deferral (told_by h i code) })) }
 {
     let outcome = next.told_by(code);
     if moves(outcome) {
@@ -134,149 +119,110 @@ fn ended_at_once(next: &Snooped, code: u8) -> Option<Ended>
     }
 }
 
-/// How a request ends whose data are on the way, if it ends with the sample.
-#[tactic(auto, unfolding(crate::specs::Tests::ended_with_chunk))]
-fn ended_with_chunk(moving: &Moving, sample: &Sample) -> Option<Ended>
-    ensures { result ≡ ended_with_chunk moving.now sample.now }
-{
-    match moving.after(sample) {
-        Some(_) => None,
-        None => Some(Ended {
-            request: moving.request,
-            is_deferred: false,
-        }),
-    }
-}
-
-/// Takes the sample's chunk of the data on the way, or none; after the fourth nothing is on the way.
-#[tactic(auto, unfolding(crate::specs::Tests::after_chunk, crate::specs::Tests::moved_by))]
-fn take_chunk(moving: &mut Option<Moving>, sample: &Sample)
-    ensures { moving.new ≡ after_chunk moving.old sample.now }
-{
-    if let Some(data) = moving {
-        let chunks = u16::from(data.chunks) + u16::from(sample.has(Lines::DRDY));
-        if chunks < 4 {
-            data.chunks = chunks as u8;
-        } else {
-            *moving = None;
-        }
-    }
-}
-
-/// The request whose data are on the way from a response with this code on.
-fn moving_at_once(next: &Snooped, code: u8) -> Option<Moving>
-    ensures { result ≡ (if does_move (told_of next.now code) then Some
-        (record { request = next.now.request; chunks = 0 }) else None) }
-{
-    if moves(next.told_by(code)) {
-        Some(Moving {
-            request: next.request,
-            chunks: 0,
-        })
-    } else {
-        None
-    }
-}
-
-/// Whether data go on after the sample of a request of which so many chunks came.
-#[tactic(auto, unfolding(crate::specs::Tests::goes_on_by, fsb_count::specs::Options::is_some_and))]
-fn goes_on(chunks: Option<u8>, sample: &Sample) -> bool
-    ensures { result ≡ goes_on_by chunks sample.now }
-{
-    match chunks {
-        Some(chunks) => u16::from(chunks) + u16::from(sample.has(Lines::DRDY)) < 4,
-        None => false,
-    }
-}
-
 impl InFlight {
-    /// No request yet.
+    /// No request yet: it stands for the empty history.
     pub fn new() -> InFlight
-        ensures asking { result.asking.items ≡ [] }
-        ensures waiting { result.waiting.items ≡ [] }
-        ensures moving { result.moving ≡ None }
-        ensures last_snoop { result.last_snoop ≡ None }
-        ensures ready { result.ready ≡ None }
+        ensures { InFlightStands result [] }
     {
         InFlight {
             asking: ArrayVec::new(),
             waiting: ArrayVec::new(),
-            moving: None,
-            last_snoop: None,
-            ready: None,
+            heads: Heads::new(),
+            last: None,
         }
     }
 
-    /// How many requests have not ended.
-    #[tactic(auto, unfolding(crate::specs::Tests::queue_len))]
+    /// How many requests are in flight, where none began at the last clock.
     pub fn len(&self) -> usize
-        ensures { result ≡ queue_len self.now }
+        ensures { (h : Trace) → InFlightStands self.now h → Orderly h →
+            line_back ADS h (length h) 1 ≡ false → result ≡ length (in_flight h (length h)) }
     {
-        self.asking.len() + self.waiting.len() + usize::from(self.moving.is_some())
+        self.asking.len() + self.waiting.len() + usize::from(self.heads.chunks().is_some())
     }
 
     /// Whether a request has a snoop clock at this clock.
-    #[tactic(auto, unfolding(crate::specs::Tests::is_due_by, fsb_count::specs::Options::is_some_and))]
-    pub fn is_snoop_clock(&self, clock: u32) -> bool
-        ensures { result ≡ is_due_by self.now clock }
+    fn is_snoop_clock(&self, clock: u32) -> bool
+        ensures { (h : Trace) → IsAt self.now clock h →
+            result ≡ is_snoop_due h (snooped_count h) (length h) }
     {
         match self.asking.as_slice().first() {
-            Some(request) => is_every_second_from(
-                start_by(self.last_snoop, request.clock),
-                u64::from(clock),
-            ),
+            Some(request) => self.heads.is_due(request.clock, clock),
             None => false,
         }
     }
 
     /// Whether no data are on the way, and no request is begun, with a sample in which no line tells of one.
-    #[tactic(auto, unfolding(crate::specs::Still::is_quiet_by))]
+    #[tactic(auto, unfolding(crate::specs::Still::is_quiet))]
     pub fn is_quiet(&self, sample: &Sample, begun: &Option<LiveRequest>) -> bool
-        ensures { result ≡ is_quiet_by self.now sample.now begun.now }
+        ensures { (h : Trace) → InFlightStands self.now h →
+            result ≡ is_quiet h sample.now begun.now }
     {
-        begun.is_none() && (self.moving.is_none() && is_still(sample))
+        begun.is_none() && (self.heads.chunks().is_none() && is_still(sample))
     }
 
     /// Whether the sample changes nothing.
-    #[tactic(auto, unfolding(crate::specs::Still::stays_by))]
     fn stays(&self, clock: u32, sample: &Sample, begun: &Option<LiveRequest>) -> bool
-        ensures { result ≡ stays_by self.now clock sample.now begun.now }
+        ensures { (h : Trace) → IsAt self.now clock h →
+            result ≡ (is_quiet h sample.now begun.now
+            && not (is_snoop_due h (snooped_count h) (length h))) }
     {
         self.is_quiet(sample, begun) && !self.is_snoop_clock(clock)
     }
 
     /// Whether a snoop ends with this sample.
-    #[tactic(auto, unfolding(crate::specs::Tests::ends_snoop_by))]
+    #[tactic(auto, unfolding(fsb_laws::specs::Progress::ends_snoop_of))]
     fn ends_snoop(&self, clock: u32, sample: &Sample) -> bool
-        ensures { result ≡ ends_snoop_by self.now clock sample.now }
+        ensures { (h : Trace) → IsAt self.now clock h →
+            result ≡ ends_snoop_of h (snooped_count h) sample.now }
     {
         self.is_snoop_clock(clock) && !stalls(sample)
     }
 
-    /// Rule 12, snoop results of write-backs and replies; it is kept where no snoop line is asserted.
-    #[tactic(auto, using(crate::proofs::StillClocks::not_unfit), unfolding(fsb_count::specs::Options::is_some_and))]
-    pub fn is_snoop_result_unfit(&self, clock: u32, sample: &Sample) -> bool
-        ensures { result ≡ is_some_and (slice_get self.now.asking.items 0)
-            (λ a. ends_snoop_by self.now clock sample.now && is_unfit_by a sample.now) }
+    /// Rule 11, snoop lines in snoop clocks.
+    #[tactic(auto, using(crate::proofs::QueueRules::rule_11))]
+    pub fn is_snoop_line_alone(&self, clock: u32, sample: &Sample) -> bool
+        ensures { (h : Trace) → IsAt self.now clock h →
+            result ≡ is_snoop_line_alone (h ++ sample.now ∷ []) (length h) }
     {
-        match self.asking.as_slice().first() {
-            Some(request) => {
-                has_snoop_line(sample)
-                    && self.ends_snoop(clock, sample)
-                    && is_unfit(request, sample)
+        has_snoop_line(sample) && !self.is_snoop_clock(clock)
+    }
+
+    /// Rule 12, snoop results of write-backs and replies; it is kept where no snoop line is asserted.
+    pub fn is_snoop_result_unfit(&self, clock: u32, sample: &Sample) -> bool
+        ensures { (h : Trace) → IsAt self.now clock h →
+            result ≡ is_snoop_result_unfit (h ++ sample.now ∷ []) (length h) }
+    {
+        if has_snoop_line(sample) {
+            match self.asking.as_slice().first() {
+                Some(request) => self.ends_snoop(clock, sample) && is_unfit(request, sample),
+                None => false,
+            }
+        } else {
+            false
+        }
+    }
+
+    /// Whether a response may come at this clock.
+    fn may_answer(&self, clock: u32) -> bool
+        ensures { (h : Trace) → IsAt self.now clock h → result ≡ may_answer_next h }
+    {
+        match self.waiting.as_slice().first() {
+            Some(snooped) => {
+                is_two_before(snooped.clock, clock) && self.heads.chunks().is_none()
             }
             None => false,
         }
     }
 
     /// The request that may respond at this clock.
-    #[tactic(auto, unfolding(crate::specs::Tests::next_by))]
     fn next(&self, clock: u32) -> Option<Snooped>
-        ensures { result ≡ next_by self.now clock }
+        ensures there { (h : Trace) → IsAt self.now clock h → is_some result ≡ may_answer_next h }
+        ensures snooped { (h : Trace) → IsAt self.now clock h →
+            IfSome result (λ next. IsSnooped h (response_count h) next) }
     {
         match self.waiting.as_slice().first() {
             Some(snooped) => {
-                if is_two_before(snooped.clock, clock) && self.moving.is_none() {
+                if self.may_answer(clock) {
                     Some(*snooped)
                 } else {
                     None
@@ -287,16 +233,18 @@ impl InFlight {
     }
 
     /// Rule 13, response timing.
+    #[tactic(auto, using(crate::proofs::QueueRules::rule_13))]
     pub fn is_response_early(&self, clock: u32, sample: &Sample) -> bool
-        ensures { result ≡ (responds sample.now && is_none (next_by self.now clock)) }
+        ensures { (h : Trace) → IsAt self.now clock h →
+            result ≡ is_response_early (h ++ sample.now ∷ []) (length h) }
     {
-        responds(sample) && self.next(clock).is_none()
+        responds(sample) && !self.may_answer(clock)
     }
 
-    /// Whether the code, neither idle nor a hard failure, is the one for the request that may respond at this clock.
-    #[tactic(auto, unfolding(fsb_count::specs::Options::is_some_and))]
+    /// Whether a request may respond at this clock, and the code, no hard failure, is the one for it.
     fn is_answered_by(&self, clock: u32, code: u8) -> bool
-        ensures { result ≡ is_some_and (next_by self.now clock) (λ s. is_code_by s code) }
+        ensures { (h : Trace) → IsAt self.now clock h →
+            result ≡ (may_answer_next h && is_code_for h (response_count h) code) }
     {
         match self.next(clock) {
             Some(next) => next.is_code_for(code),
@@ -304,19 +252,19 @@ impl InFlight {
         }
     }
 
-    /// Rule 14, response code, where the response is not early.
+    /// Rule 14, response code.
+    #[tactic(auto, using(crate::proofs::QueueRules::rule_14))]
     pub fn is_code_wrong(&self, clock: u32, sample: &Sample) -> bool
-        ensures { result ≡ (is_sound sample.now
-            && not (is_some_and (next_by self.now clock)
-            (λ s. is_code_by s (response_of sample.now)))) }
+        ensures { (h : Trace) → InTime self.now clock sample.now h →
+            result ≡ is_code_wrong (h ++ sample.now ∷ []) (length h) }
     {
         is_sound(sample) && !self.is_answered_by(clock, sample.response())
     }
 
-    /// Whether memory is to take the data of the request that may respond at this clock.
-    #[tactic(auto, unfolding(fsb_count::specs::Options::is_some_and))]
+    /// Whether a request may respond at this clock, and memory is to take its data.
     fn takes(&self, clock: u32) -> bool
-        ensures { result ≡ is_some_and (next_by self.now clock) takes_by }
+        ensures { (h : Trace) → IsAt self.now clock h →
+            result ≡ (may_answer_next h && takes h (response_count h)) }
     {
         match self.next(clock) {
             Some(next) => next.takes(),
@@ -325,131 +273,163 @@ impl InFlight {
     }
 
     /// Whether TRDY# at this clock is not for the request that responds next.
-    #[tactic(auto, unfolding(crate::specs::Tests::is_ready_wrongly_by))]
+    #[tactic(auto, using(crate::proofs::QueueRules::ready_wrongly))]
     fn is_ready_wrongly(&self, clock: u32) -> bool
-        ensures { result ≡ is_ready_wrongly_by self.now clock }
+        ensures { (h : Trace) (x : Sample) → IsAt self.now clock h →
+            result ≡ is_ready_wrongly (h ++ x ∷ []) (length h) (response_count h) }
     {
-        !self.takes(clock) || self.ready.is_some()
+        !self.takes(clock) || self.heads.ready().is_some()
     }
 
-    /// Whether the target was not ready two clocks before this one.
-    #[tactic(auto, unfolding(crate::specs::Tests::is_ready_late_by, fsb_count::specs::Options::is_some_and))]
-    fn is_ready_late(&self, clock: u32) -> bool
-        ensures { result ≡ is_ready_late_by self.now clock }
+    /// Whether the target is ready two clocks before this one at least.
+    #[tactic(auto, using(crate::proofs::QueueRules::ready_in_time), unfolding(fsb_count::specs::Options::is_some_and))]
+    fn is_ready(&self, clock: u32) -> bool
+        ensures { (h : Trace) (x : Sample) → IsAt self.now clock h →
+            result ≡ is_ready_in_time (h ++ x ∷ []) (length h) (response_count h) }
     {
-        match self.ready {
-            Some(ready) => !is_two_before(ready, clock),
-            None => true,
-        }
-    }
-
-    /// Rule 15, target ready, where the response is not early.
-    pub fn is_target_ready_wrong(&self, clock: u32, sample: &Sample) -> bool
-        ensures { result ≡ (has_line sample.now TRDY && is_ready_wrongly_by self.now clock
-            || is_sound sample.now && is_some_and (next_by self.now clock) takes_by
-            && is_ready_late_by self.now clock) }
-    {
-        let is_wrong = sample.has(Lines::TRDY) && self.is_ready_wrongly(clock);
-        let is_late = is_sound(sample) && self.takes(clock) && self.is_ready_late(clock);
-        is_wrong || is_late
-    }
-
-    /// The request whose data are on the way at this clock, also if its response is there.
-    #[tactic(auto, unfolding(crate::specs::Tests::moving_by))]
-    pub fn moving_with(&self, clock: u32, sample: &Sample) -> Option<Moving>
-        ensures { result ≡ moving_by self.now clock sample.now }
-    {
-        if responds(sample) {
-            match self.next(clock) {
-                Some(next) => moving_at_once(&next, sample.response()),
-                None => None,
-            }
-        } else {
-            self.moving
-        }
-    }
-
-    /// The request whose data are on the way from a response with this code on, where it is at this clock.
-    #[tactic(auto, unfolding(crate::specs::Tests::moving_from_by))]
-    fn moving_from(&self, clock: u32, code: u8) -> Option<Moving>
-        ensures { result ≡ moving_from_by self.now clock code }
-    {
-        match self.next(clock) {
-            Some(next) => moving_at_once(&next, code),
-            None => None,
-        }
-    }
-
-    /// Whether data are on the way from a response with this code on, where it is at this clock.
-    #[tactic(auto, unfolding(crate::specs::Tests::moving_from_by))]
-    fn moves_from(&self, clock: u32, code: u8) -> bool
-        ensures { result ≡ is_some (moving_from_by self.now clock code) }
-    {
-        match self.next(clock) {
-            Some(next) => moves(next.told_by(code)),
+        match self.heads.ready() {
+            Some(ready) => is_two_before(ready, clock),
             None => false,
         }
     }
 
-    /// How many chunks came of the request whose data are on the way at this clock, also if its response is there.
-    #[tactic(auto, unfolding(crate::specs::Tests::moving_by, crate::specs::Tests::moving_from_by, crate::specs::Tests::chunks_by))]
-    fn chunks_with(&self, clock: u32, sample: &Sample) -> Option<u8>
-        ensures { result ≡ chunks_by self.now clock sample.now }
+    /// Rule 15, target ready.
+    #[tactic(auto, using(crate::proofs::QueueRules::rule_15))]
+    pub fn is_target_ready_wrong(&self, clock: u32, sample: &Sample) -> bool
+        ensures { (h : Trace) → InTime self.now clock sample.now h →
+            result ≡ is_target_ready_wrong (h ++ sample.now ∷ []) (length h) }
+    {
+        let is_wrong = sample.has(Lines::TRDY) && self.is_ready_wrongly(clock);
+        let is_late = is_sound(sample) && self.takes(clock) && !self.is_ready(clock);
+        is_wrong || is_late
+    }
+
+    /// Whether data move from this clock on with a response that is the sample.
+    fn begins_data(&self, clock: u32, sample: &Sample) -> bool
+        ensures { (h : Trace) → InTime self.now clock sample.now h → MovesWith sample.now result h }
     {
         if responds(sample) {
-            if self.moves_from(clock, sample.response()) {
-                Some(0)
-            } else {
-                None
+            match self.next(clock) {
+                Some(next) => moves(next.told_by(sample.response())),
+                None => false,
             }
         } else {
-            match self.moving {
-                Some(moving) => Some(moving.chunks),
-                None => None,
-            }
+            false
         }
     }
 
-    /// Rule 16, data transfer, where the response is not early.
-    #[tactic(auto, using(crate::proofs::ChunksLeft::chunks_left))]
-    pub fn is_data_wrong(&self, clock: u32, sample: &Sample) -> bool
-        ensures { result ≡ (has_line sample.now DRDY
-            && is_none (moving_by self.now clock sample.now)
-            || not (has_line sample.now DBSY)
-            && is_some (after_chunk (moving_by self.now clock sample.now) sample.now)
-            || has_line sample.now DBSY
-            && not (is_some (after_chunk (moving_by self.now clock sample.now) sample.now))) }
+    /// Whether data are on the way at this clock, with which data begin to move or do not.
+    fn is_moving(&self, sample: &Sample, begins: bool) -> bool
+        ensures { (h : Trace) (n : ℕ) → InTime self.now n sample.now h → MovesWith sample.now begins h →
+            result ≡ is_transferring (h ++ sample.now ∷ []) (length h) }
     {
-        let chunks = self.chunks_with(clock, sample);
-        let goes_on = goes_on(chunks, sample);
-        let is_alone = sample.has(Lines::DRDY) && chunks.is_none();
-        let is_idle = !sample.has(Lines::DBSY) && goes_on;
-        let is_busy = sample.has(Lines::DBSY) && !goes_on;
-        is_alone || is_idle || is_busy
+        if responds(sample) {
+            begins
+        } else {
+            self.heads.chunks().is_some()
+        }
+    }
+
+    /// Whether data are on the way after this clock.
+    #[tactic(auto, using(crate::proofs::QueueRules::moving_after))]
+    fn goes_on(&self, sample: &Sample, begins: bool) -> bool
+        ensures { (h : Trace) (n : ℕ) → InTime self.now n sample.now h → MovesWith sample.now begins h →
+            result ≡ is_transferring (h ++ sample.now ∷ []) (length h + 1) }
+    {
+        self.heads.chunks_with(sample, begins).is_some()
+    }
+
+    /// Whether a chunk comes with the sample, and no data are on the way.
+    fn is_chunk_alone(&self, sample: &Sample, begins: bool) -> bool
+        ensures { (h : Trace) (n : ℕ) → InTime self.now n sample.now h → MovesWith sample.now begins h →
+            result ≡ (has_line sample.now DRDY
+            && not (is_transferring (h ++ sample.now ∷ []) (length h))) }
+    {
+        sample.has(Lines::DRDY) && !self.is_moving(sample, begins)
+    }
+
+    /// Rule 16, data transfer.
+    #[tactic(auto, using(crate::proofs::QueueRules::rule_16))]
+    pub fn is_data_wrong(&self, clock: u32, sample: &Sample) -> bool
+        ensures { (h : Trace) → InTime self.now clock sample.now h →
+            result ≡ is_data_wrong (h ++ sample.now ∷ []) (length h) }
+    {
+        let begins = self.begins_data(clock, sample);
+        self.is_chunk_alone(sample, begins)
+            || sample.has(Lines::DBSY) != self.goes_on(sample, begins)
+    }
+
+    /// How many chunks came before this clock of the data that are on the way at it.
+    fn place(&self, sample: &Sample) -> u8
+        ensures { (h : Trace) → InFlightStands self.now h →
+            result ≡ (if responds sample.now then 0 else unwrap_or (transfer_of h) 0) }
+    {
+        if responds(sample) {
+            0
+        } else {
+            self.heads.chunks().unwrap_or(0)
+        }
+    }
+
+    /// The chunk that comes with the sample, which has DRDY#.
+    pub fn coming(&self, clock: u32, sample: &Sample) -> Option<Coming>
+        ensures some { (h : Trace) → InTime self.now clock sample.now h →
+            has_line sample.now DRDY ≡ true →
+            IfSome result (λ coming. HasData (h ++ sample.now ∷ []) (length h) coming) }
+        ensures none { (h : Trace) → InTime self.now clock sample.now h → result ≡ None →
+            is_transferring (h ++ sample.now ∷ []) (length h) ≡ false }
+    {
+        if self.is_moving(sample, self.begins_data(clock, sample)) {
+            match self.last_with(clock, sample) {
+                Some(last) => Some(Coming {
+                    did: last.did,
+                    place: self.place(sample),
+                }),
+                None => None,
+            }
+        } else {
+            None
+        }
+    }
+
+    /// Whether data that are on the way end with this sample, which is no response.
+    fn ends_data(&self, sample: &Sample) -> bool
+        ensures { (h : Trace) → InFlightStands self.now h → Orderly h →
+            responds sample.now ≡ false →
+            result ≡ (is_some (transfer_of h) && is_none (transfer_of (h ++ sample.now ∷ []))) }
+    {
+        self.heads.chunks().is_some() && self.heads.chunks_with(sample, false).is_none()
     }
 
     /// The request that ends with this sample.
-    #[tactic(auto, unfolding(crate::specs::Tests::ended_by))]
     pub fn ended(&self, clock: u32, sample: &Sample) -> Option<Ended>
-        ensures { result ≡ ended_by self.now clock sample.now }
+        ensures { (h : Trace) → InTime self.now clock sample.now h →
+            SaysEnded (h ++ sample.now ∷ []) (length h) result }
     {
         if responds(sample) {
             match self.next(clock) {
                 Some(next) => ended_at_once(&next, sample.response()),
                 None => None,
             }
-        } else {
-            match self.moving {
-                Some(moving) => ended_with_chunk(&moving, sample),
+        } else if self.ends_data(sample) {
+            match self.last {
+                Some(request) => Some(Ended {
+                    request,
+                    is_deferred: false,
+                }),
                 None => None,
             }
+        } else {
+            None
         }
     }
 
     /// The request that has its snoop end with this sample, and what came of it.
-    #[tactic(auto, unfolding(crate::specs::Tests::snooped_by))]
     fn snooped(&self, clock: u32, sample: &Sample) -> Option<Snooped>
-        ensures { result ≡ snooped_by self.now clock sample.now }
+        ensures there { (h : Trace) → IsAt self.now clock h →
+            is_some result ≡ ends_snoop_of h (snooped_count h) sample.now }
+        ensures snooped { (h : Trace) → IsAt self.now clock h →
+            IfSome result (λ snooped. IsSnooped (h ++ sample.now ∷ []) (snooped_count h) snooped) }
     {
         match self.asking.as_slice().first() {
             Some(request) => {
@@ -470,22 +450,10 @@ impl InFlight {
 
     /// Takes the sample of this clock, which breaks no rule, and the request whose second clock it is; at most clocks
     /// nothing changes.
-    #[tactic(auto, using(crate::proofs::StillClocks::still_clocks))]
     pub fn absorb(&mut self, clock: u32, sample: &Sample, begun: &Option<LiveRequest>)
-        requires few { queue_len self.old ≤ 8 }
-        requires room { is_some begun.now ≡ true → queue_len self.old < 8 }
-        ensures asking { self.new.asking.items
-            ≡ asking_after self.old.asking.items (has_line sample.now AERR)
-            (is_some (snooped_by self.old clock sample.now)) begun.now }
-        ensures waiting { self.new.waiting.items
-            ≡ waiting_after self.old.waiting.items (responds sample.now)
-            (snooped_by self.old clock sample.now) }
-        ensures moving { self.new.moving
-            ≡ after_chunk (moving_by self.old clock sample.now) sample.now }
-        ensures last_snoop { self.new.last_snoop
-            ≡ (if is_some (snooped_by self.old clock sample.now)
-            then Some clock else self.old.last_snoop) }
-        ensures ready { self.new.ready ≡ ready_after_by self.old clock sample.now }
+        requires { (h : Trace) × Brings self.old clock sample.now begun.now h }
+        ensures { (h : Trace) → Brings self.old clock sample.now begun.now h →
+            InFlightStands self.new (h ++ sample.now ∷ []) }
     {
         if !self.stays(clock, sample, begun) {
             self.go_on(clock, sample, begun);
@@ -493,26 +461,15 @@ impl InFlight {
     }
 
     /// Takes the sample of this clock, with which something may change.
-    #[tactic(auto, using(crate::proofs::Room::room), unfolding(crate::specs::Tests::ready_after_by))]
     fn go_on(&mut self, clock: u32, sample: &Sample, begun: &Option<LiveRequest>)
-        requires few { queue_len self.old ≤ 8 }
-        requires room { is_some begun.now ≡ true → queue_len self.old < 8 }
-        ensures asking { self.new.asking.items
-            ≡ asking_after self.old.asking.items (has_line sample.now AERR)
-            (is_some (snooped_by self.old clock sample.now)) begun.now }
-        ensures waiting { self.new.waiting.items
-            ≡ waiting_after self.old.waiting.items (responds sample.now)
-            (snooped_by self.old clock sample.now) }
-        ensures moving { self.new.moving
-            ≡ after_chunk (moving_by self.old clock sample.now) sample.now }
-        ensures last_snoop { self.new.last_snoop
-            ≡ (if is_some (snooped_by self.old clock sample.now)
-            then Some clock else self.old.last_snoop) }
-        ensures ready { self.new.ready ≡ ready_after_by self.old clock sample.now }
+        requires { (h : Trace) × Brings self.old clock sample.now begun.now h }
+        ensures { (h : Trace) → Brings self.old clock sample.now begun.now h →
+            InFlightStands self.new (h ++ sample.now ∷ []) }
     {
         let snooped = self.snooped(clock, sample);
-        self.take_data(clock, sample);
-        self.take_ready(clock, sample);
+        let heads = self.heads_with(clock, sample, snooped.is_some());
+        self.last = self.last_with(clock, sample);
+        self.heads = heads;
         take_request(
             &mut self.asking,
             sample.has(Lines::AERR),
@@ -520,47 +477,40 @@ impl InFlight {
             begun,
         );
         take_snooped(&mut self.waiting, responds(sample), snooped);
-        if snooped.is_some() {
-            self.last_snoop = Some(clock);
-        }
     }
 
-    /// Takes what this sample says of the data on the way.
-    #[tactic(auto, unfolding(crate::specs::Tests::moving_by, crate::specs::Tests::moving_from_by))]
-    fn take_data(&mut self, clock: u32, sample: &Sample)
-        ensures asking { self.new.asking ≡ self.old.asking }
-        ensures waiting { self.new.waiting ≡ self.old.waiting }
-        ensures moving { self.new.moving
-            ≡ after_chunk (moving_by self.old clock sample.now) sample.now }
-        ensures last_snoop { self.new.last_snoop ≡ self.old.last_snoop }
-        ensures ready { self.new.ready ≡ self.old.ready }
+    /// The heads after this sample, with which a snoop ends or does not.
+    fn heads_with(&self, clock: u32, sample: &Sample, snoops: bool) -> Heads
+        ensures { (h : Trace) → InTime self.now clock sample.now h →
+            snoops ≡ ends_snoop_of h (snooped_count h) sample.now →
+            HeadsStands result (h ++ sample.now ∷ []) }
+    {
+        let next = Next {
+            snoops,
+            may_answer: self.may_answer(clock),
+            moves: self.begins_data(clock, sample),
+        };
+        self.heads.after(clock, sample, &next)
+    }
+
+    /// The request that responded last after this sample.
+    fn last_with(&self, clock: u32, sample: &Sample) -> Option<LiveRequest>
+        ensures { (h : Trace) → InTime self.now clock sample.now h →
+            KeepsLast result (h ++ sample.now ∷ []) }
     {
         if responds(sample) {
-            self.moving = after_chunk(self.moving_from(clock, sample.response()), sample);
+            match self.next(clock) {
+                Some(next) => Some(next.request),
+                None => None,
+            }
         } else {
-            take_chunk(&mut self.moving, sample);
-        }
-    }
-
-    /// Takes what this sample says of the target's readiness.
-    #[tactic(auto, unfolding(crate::specs::Tests::ready_after_by))]
-    fn take_ready(&mut self, clock: u32, sample: &Sample)
-        ensures asking { self.new.asking ≡ self.old.asking }
-        ensures waiting { self.new.waiting ≡ self.old.waiting }
-        ensures moving { self.new.moving ≡ self.old.moving }
-        ensures last_snoop { self.new.last_snoop ≡ self.old.last_snoop }
-        ensures ready { self.new.ready ≡ ready_after_by self.old clock sample.now }
-    {
-        if responds(sample) {
-            self.ready = None;
-        } else if sample.has(Lines::TRDY) {
-            self.ready = Some(clock);
+            self.last
         }
     }
 }
 
 /// The requests without their snoop end: the last one is cancelled, the first has its snoop end, and one is begun.
-#[tactic(auto, unfolding(crate::specs::Tests::asking_after, crate::specs::Tests::without_last))]
+#[tactic(auto, unfolding(crate::specs::QueueLists::asking_after, crate::specs::QueueLists::without_last))]
 fn take_request(
     asking: &mut ArrayVec<LiveRequest, 8>,
     is_cancelled: bool,
@@ -582,7 +532,7 @@ fn take_request(
 }
 
 /// The requests that wait for their response: the first responds, and one has its snoop end.
-#[tactic(auto, unfolding(crate::specs::Tests::waiting_after))]
+#[tactic(auto, unfolding(crate::specs::QueueLists::waiting_after))]
 fn take_snooped(waiting: &mut ArrayVec<Snooped, 8>, responds: bool, snooped: Option<Snooped>)
     requires { is_some snooped ≡ true → length waiting.old.items < 8 }
     ensures { waiting.new.items ≡ waiting_after waiting.old.items responds snooped }

@@ -1,11 +1,14 @@
 //! What the rules need to know of a request.
 
-ghost use Rattle.std.specs.Prelude.{◌≡◌};
-ghost use Rattle.fsb_rules.specs.Live.{live_from};
-ghost use Rattle.fsb_rules.specs.Tests.{takes_by, is_code_by, kind_outcome, told_of, moved_by, after_chunk};
+ghost use Rattle.std.specs.Prelude.{◌≡◌, ℕ};
+ghost use Rattle.fsb_trace.specs.At.{Trace};
+ghost use Rattle.fsb_trace.specs.Requests.{live_request_of};
+ghost use Rattle.fsb_trace.specs.Outcome.{told_by, outcome_by_kind};
+ghost use Rattle.fsb_trace.specs.Response.{takes};
+ghost use Rattle.fsb_trace.specs.Rules.{is_code_for};
+ghost use Rattle.fsb_rules.specs.Live.{live_from, IsLive, IsSnooped};
 
 use fsb_encode::{Kind, Request};
-use fsb_signal::{Lines, Sample};
 use fsb_trace::{Outcome, code_of};
 
 /// A live request, from its second clock on.
@@ -35,14 +38,6 @@ pub struct Snooped {
     pub hitm: bool,
     /// Whether DEFER# was asserted there.
     pub defer: bool,
-}
-
-/// A live request whose data are on the way.
-#[derive(Clone, Copy, Debug, PartialEq, Eq)]
-pub struct Moving {
-    pub request: LiveRequest,
-    /// How many of its four chunks came.
-    pub chunks: u8,
 }
 
 /// How a request ended.
@@ -76,9 +71,10 @@ pub fn live_of(clock: u32, request: &Request) -> LiveRequest
 
 impl LiveRequest {
     /// Its outcome, where nothing hands it on, retries, defers or fails it.
-    #[tactic(auto, unfolding(crate::specs::Tests::kind_outcome))]
+    #[tactic(auto, unfolding(crate::specs::Live::live_from, fsb_trace::specs::Requests::live_request_of, fsb_trace::specs::Outcome::outcome_by_kind, fsb_trace::specs::Requests::is_write_back_kind, fsb_trace::specs::Requests::is_upgrade_kind, fsb_trace::specs::Requests::is_reply_kind))]
     fn outcome(&self) -> Outcome
-        ensures { result ≡ kind_outcome self.now }
+        ensures { (h : Trace) (i : ℕ) → IsLive h i self.now →
+            result ≡ outcome_by_kind (live_request_of h i) }
     {
         if self.is_write_back {
             Outcome::Written
@@ -92,48 +88,19 @@ impl LiveRequest {
     }
 }
 
-impl Moving {
-    /// With the sample's chunk, or without one; none after the fourth.
-    #[tactic(auto, unfolding(crate::specs::Tests::moved_by))]
-    pub fn after(&self, sample: &Sample) -> Option<Moving>
-        ensures { result ≡ moved_by self.now sample.now }
-    {
-        let chunks = u16::from(self.chunks) + u16::from(sample.has(Lines::DRDY));
-        if chunks < 4 {
-            Some(Moving {
-                request: self.request,
-                chunks: chunks as u8,
-            })
-        } else {
-            None
-        }
-    }
-}
-
-/// The request whose data are on the way after this sample.
-#[tactic(auto, unfolding(crate::specs::Tests::after_chunk))]
-pub fn after_chunk(moving: Option<Moving>, sample: &Sample) -> Option<Moving>
-    ensures { result ≡ after_chunk moving sample.now }
-{
-    match moving {
-        Some(moving) => moving.after(sample),
-        None => None,
-    }
-}
-
 impl Snooped {
     /// Whether memory is to take its data.
-    #[tactic(auto, unfolding(crate::specs::Tests::takes_by))]
+    #[tactic(auto, unfolding(crate::specs::Live::live_from, fsb_trace::specs::Requests::live_request_of, fsb_trace::specs::Response::takes, fsb_trace::specs::Requests::is_write_back, fsb_trace::specs::Snoop::line_at_snoop_end, fsb_count::specs::Options::is_some_and))]
     pub fn takes(&self) -> bool
-        ensures { result ≡ takes_by self.now }
+        ensures { (h : Trace) (i : ℕ) → IsSnooped h i self.now → result ≡ takes h i }
     {
         self.request.is_write_back || self.hitm
     }
 
     /// Whether the code, neither idle nor a hard failure, is the one for it.
-    #[tactic(auto, unfolding(crate::specs::Tests::is_code_by))]
+    #[tactic(auto, unfolding(crate::specs::Live::live_from, fsb_trace::specs::Requests::live_request_of, fsb_trace::specs::Rules::is_code_for, fsb_trace::specs::Requests::is_write_back, fsb_trace::specs::Requests::is_upgrade, fsb_trace::specs::Rules::has_den, fsb_trace::specs::Snoop::line_at_snoop_end, fsb_count::specs::Options::is_some_and))]
     pub fn is_code_for(&self, code: u8) -> bool
-        ensures { result ≡ is_code_by self.now code }
+        ensures { (h : Trace) (i : ℕ) → IsSnooped h i self.now → result ≡ is_code_for h i code }
     {
         if self.hitm {
             code == code_of(Outcome::Handed)
@@ -150,9 +117,9 @@ impl Snooped {
     }
 
     /// The outcome that a response with this code tells.
-    #[tactic(auto, unfolding(crate::specs::Tests::told_of))]
+    #[tactic(auto, unfolding(fsb_trace::specs::Outcome::told_by, fsb_trace::specs::Snoop::line_at_snoop_end, fsb_count::specs::Options::is_some_and))]
     pub fn told_by(&self, code: u8) -> Outcome
-        ensures { result ≡ told_of self.now code }
+        ensures { (h : Trace) (i : ℕ) → IsSnooped h i self.now → result ≡ told_by h i code }
     {
         if code == code_of(Outcome::Failed) {
             Outcome::Failed

@@ -1,17 +1,20 @@
 //! The requests that are outstanding.
 
-ghost use Rattle.std.specs.Prelude.{◌≡◌, ◌<◌, ◌≤◌, true, false, ◌&&◌, not, nat_eq, is_some, is_none, [], ◌∷◌, ◌++◌, length, slice_set, count_by, if◌then◌else◌, Some, None};
+ghost use Rattle.std.specs.Prelude.{◌≡◌, ℕ, ◌≤◌, ◌-◌, ◌/◌, true, false, ◌&&◌, not, nat_eq, is_some, is_none, [], ◌∷◌, ◌++◌, length, slice_set, count_by, if◌then◌else◌, Some, None};
 ghost use Rattle.std.specs.List.{list_any, filter_map};
-ghost use Rattle.std.specs.Option.{option_and_then, option_to_list};
-ghost use Rattle.fsb_count.specs.Options.{is_at, is_before, is_some_and};
+ghost use Rattle.fsb_count.specs.Options.{is_before, is_some_and};
 ghost use Rattle.fsb_signal.specs.declared.lines.TheConstants.Lines.{ADS};
 ghost use Rattle.fsb_signal.specs.declared.sample.Sample.{Sample};
 ghost use Rattle.fsb_signal.specs.Samples.{has_line};
 ghost use Rattle.fsb_trace.specs.At.{Trace};
 ghost use Rattle.fsb_trace.specs.Requests.{live_number_of};
+ghost use Rattle.fsb_trace.specs.Outcome.{is_deferred};
 ghost use Rattle.fsb_trace.specs.Flight.{reply_clock_of};
-ghost use Rattle.fsb_rules.specs.OpenTests.{awaits, has_id, is_of_agent, is_wrong_among};
-ghost use Rattle.fsb_rules.specs.Outstanding.{kept_at, left_in, opened, ends, defers, replies, AreKept, Happens, Takes, OutstandingStands};
+ghost use Rattle.fsb_trace.specs.Rules.{is_begun_wrongly};
+ghost use Rattle.fsb_laws.specs.Leaving.{ends_at};
+ghost use Rattle.fsb_laws.specs.OneMore.{cancels};
+ghost use Rattle.fsb_rules.specs.Checker.{WasBegun};
+ghost use Rattle.fsb_rules.specs.Outstanding.{kept_at, left_in, AreKept, Happens, Takes, OutstandingStands};
 
 use crate::live::{Ended, LiveRequest};
 use arrayvec::ArrayVec;
@@ -51,17 +54,6 @@ pub struct Happened {
     pub begun: Option<LiveRequest>,
 }
 
-/// Whether there is such a clock, and it is this one.
-#[tactic(auto, unfolding(fsb_count::specs::Options::is_at, fsb_count::specs::Options::is_some_and))]
-fn is_at(clock: Option<u32>, other: u32) -> bool
-    ensures { result ≡ is_at clock other }
-{
-    match clock {
-        Some(clock) => clock == other,
-        None => false,
-    }
-}
-
 /// Whether there is such a clock, and it lies before this one.
 #[tactic(auto, unfolding(fsb_count::specs::Options::is_before, fsb_count::specs::Options::is_some_and))]
 fn is_before(clock: Option<u32>, other: u32) -> bool
@@ -70,22 +62,6 @@ fn is_before(clock: Option<u32>, other: u32) -> bool
     match clock {
         Some(clock) => clock < other,
         None => false,
-    }
-}
-
-/// The outstanding request that is begun, if it is no reply.
-fn opened(request: &LiveRequest) -> Option<Open>
-    ensures { result ≡ opened request.now }
-{
-    if request.is_reply {
-        None
-    } else {
-        Some(Open {
-            clock: request.clock,
-            did: request.did,
-            deferred: None,
-            reply: None,
-        })
     }
 }
 
@@ -109,10 +85,23 @@ impl Happened {
         self.cancelled.is_none() && self.ended.is_none() && !is_reply(self.begun)
     }
 
+    /// Whether the request that begins at the clock is cancelled.
+    #[tactic(auto, unfolding(fsb_count::specs::Options::is_at, fsb_count::specs::Options::is_some_and))]
+    fn cancels(&self, clock: u32) -> bool
+        ensures { (h : Trace) (x : Sample) (v : Trace) → Happens h x v self.now →
+            result ≡ cancels x (length h) clock }
+    {
+        match self.cancelled {
+            Some(cancelled) => cancelled == clock,
+            None => false,
+        }
+    }
+
     /// Whether the request that begins at the clock ends.
     #[tactic(auto, unfolding(fsb_count::specs::Options::is_some_and))]
     fn ends(&self, clock: u32) -> bool
-        ensures { result ≡ ends self.now clock }
+        ensures { (h : Trace) (x : Sample) (v : Trace) → Happens h x v self.now →
+            result ≡ ends_at v (length h) clock }
     {
         match self.ended {
             Some(ended) => ended.request.clock == clock,
@@ -120,13 +109,14 @@ impl Happened {
         }
     }
 
-    /// Whether the request that begins at the clock ends, and is Deferred.
+    /// Whether the request that ends is Deferred.
     #[tactic(auto, unfolding(fsb_count::specs::Options::is_some_and))]
-    fn defers(&self, clock: u32) -> bool
-        ensures { result ≡ defers self.now clock }
+    fn defers(&self) -> bool
+        ensures { (h : Trace) (x : Sample) (v : Trace) → Happens h x v self.now →
+            (q : ℕ) → ends_at v (length h) q ≡ true → result ≡ is_deferred v (live_number_of v q) }
     {
         match self.ended {
-            Some(ended) => ended.request.clock == clock && ended.is_deferred,
+            Some(ended) => ended.is_deferred,
             None => false,
         }
     }
@@ -134,11 +124,34 @@ impl Happened {
     /// Whether there is such a reply, and it ends.
     #[tactic(auto, unfolding(fsb_count::specs::Options::is_some_and))]
     fn ends_reply(&self, reply: Option<u32>) -> bool
-        ensures { result ≡ is_some_and reply (ends self.now) }
+        ensures { (h : Trace) (x : Sample) (v : Trace) → Happens h x v self.now →
+            result ≡ is_some_and reply (ends_at v (length h)) }
     {
         match reply {
             Some(clock) => self.ends(clock),
             None => false,
+        }
+    }
+
+    /// The request that is begun, as it is kept, if it is no reply.
+    fn opened(&self) -> Option<Open>
+        ensures { (h : Trace) (x : Sample) (v : Trace) → Happens h x v self.now →
+            result ≡ kept_at v (length h - 1) }
+    {
+        match self.begun {
+            Some(request) => {
+                if request.is_reply {
+                    None
+                } else {
+                    Some(Open {
+                        clock: request.clock,
+                        did: request.did,
+                        deferred: None,
+                        reply: None,
+                    })
+                }
+            }
+            None => None,
         }
     }
 }
@@ -147,7 +160,8 @@ impl Open {
     /// Whether a reply to it is begun, where it is Deferred.
     #[tactic(auto, unfolding(fsb_count::specs::Options::is_some_and))]
     fn is_replied(&self, happened: &Happened) -> bool
-        ensures { result ≡ replies happened.now self.now }
+        ensures { result ≡ is_some_and happened.now.begun
+            (λ a. a.is_reply && is_before self.now.deferred a.clock && nat_eq self.now.did a.did) }
     {
         match happened.begun {
             Some(request) => {
@@ -167,7 +181,7 @@ impl Open {
     {
         match self.reply {
             Some(clock) => {
-                if is_at(happened.cancelled, clock) {
+                if happened.cancels(clock) {
                     None
                 } else {
                     Some(clock)
@@ -188,21 +202,21 @@ impl Open {
         ensures { (h : Trace) (x : Sample) (v : Trace) → Happens h x v happened.now →
             kept_at h self.now.clock ≡ Some self.now → result ≡ left_in v self.now }
     {
-        if is_at(happened.cancelled, self.clock) {
+        if happened.cancels(self.clock) {
             None
         } else if self.deferred.is_some() {
             self.after_deferral(happened)
-        } else if happened.defers(self.clock) {
+        } else if !happened.ends(self.clock) {
+            Some(*self)
+        } else if happened.defers() {
             Some(Open {
                 clock: self.clock,
                 did: self.did,
                 deferred: Some(happened.clock),
                 reply: None,
             })
-        } else if happened.ends(self.clock) {
-            None
         } else {
-            Some(*self)
+            None
         }
     }
 
@@ -210,7 +224,7 @@ impl Open {
     fn after_deferral(&self, happened: &Happened) -> Option<Open>
         ensures { (h : Trace) (x : Sample) (v : Trace) → Happens h x v happened.now →
             kept_at h self.now.clock ≡ Some self.now → is_some self.now.deferred ≡ true →
-            is_at happened.now.cancelled self.now.clock ≡ false → result ≡ left_in v self.now }
+            cancels x (length h) self.now.clock ≡ false → result ≡ left_in v self.now }
     {
         if happened.ends_reply(self.reply) {
             None
@@ -237,65 +251,28 @@ impl Open {
             None => false,
         }
     }
-
-    /// Whether it awaits a reply with this ID.
-    #[tactic(auto, unfolding(crate::specs::OpenTests::awaits))]
-    fn awaits(&self, did: u8) -> bool
-        ensures { result ≡ awaits did self.now }
-    {
-        self.did == did && self.deferred.is_some() && self.reply.is_none()
-    }
-
-    /// Whether it has this ID.
-    fn has_id(&self, did: u8) -> bool
-        ensures { result ≡ has_id did self.now }
-    {
-        self.did == did
-    }
-
-    /// Whether its ID is of this agent.
-    fn is_of(&self, agent: u8) -> bool
-        ensures { result ≡ is_of_agent agent self.now }
-    {
-        self.did / 16 == agent
-    }
 }
 
 /// Whether one of them awaits a reply with this ID.
 fn is_awaited(opens: &[Open], did: u8) -> bool
-    ensures { result ≡ list_any (awaits did) opens.now }
+    ensures { result
+        ≡ list_any (λ o. nat_eq o.did did && is_some o.deferred && is_none o.reply) opens.now }
 {
-    for open in opens {
-        if open.awaits(did) {
-            return true;
-        }
-    }
-    false
+    opens.iter().any(|open| open.did == did && open.deferred.is_some() && open.reply.is_none())
 }
 
 /// Whether one of them has this ID.
 fn is_taken(opens: &[Open], did: u8) -> bool
-    ensures { result ≡ list_any (has_id did) opens.now }
+    ensures { result ≡ list_any (λ o. nat_eq o.did did) opens.now }
 {
-    for open in opens {
-        if open.has_id(did) {
-            return true;
-        }
-    }
-    false
+    opens.iter().any(|open| open.did == did)
 }
 
 /// How many of them are of this agent.
 fn count_of(opens: &[Open], agent: u8) -> usize
-    ensures { result ≡ count_by (is_of_agent agent) opens.now }
+    ensures { result ≡ count_by (λ o. nat_eq (o.did / 16) agent) opens.now }
 {
-    let mut count = 0;
-    for open in opens {
-        if open.is_of(agent) {
-            count += 1;
-        }
-    }
-    count
+    opens.iter().filter(|open| open.did / 16 == agent).count()
 }
 
 /// Makes the one list a copy of the other.
@@ -321,9 +298,9 @@ impl Outstanding {
     }
 
     /// Rule 18, deferred IDs and outstanding requests, for the request that began one clock back.
-    #[tactic(auto, unfolding(crate::specs::OpenTests::is_wrong_among))]
     pub fn is_begun_wrongly(&self, request: &LiveRequest) -> bool
-        ensures { result ≡ is_wrong_among self.now.before.items request.now }
+        ensures { (h : Trace) (x : Sample) → WasBegun self.now h x request.now →
+            result ≡ is_begun_wrongly (h ++ x ∷ []) (length h - 1) }
     {
         let before = self.before.as_slice();
         if request.is_reply {
@@ -355,20 +332,6 @@ impl Outstanding {
         }
     }
 
-    /// Keeps the request that is begun, if it is no reply.
-    fn begin(&mut self, begun: Option<LiveRequest>)
-        requires { is_some (option_and_then (λ a. opened a) begun) ≡ true → length self.old.current.items < 16 }
-        ensures current { self.new.current.items
-            ≡ self.old.current.items ++ option_to_list (option_and_then (λ a. opened a) begun) }
-        ensures before { self.new.before.items ≡ self.old.before.items }
-    {
-        if let Some(request) = begun {
-            if let Some(open) = opened(&request) {
-                self.current.push(open);
-            }
-        }
-    }
-
     /// Takes what happens with a sample, with which a request begins or does not.
     pub fn absorb(&mut self, happened: &Happened, begins: bool)
         requires { (h : Trace) × (x : Sample) × Takes self.old h x happened.now }
@@ -377,6 +340,9 @@ impl Outstanding {
     {
         self.remember(begins);
         self.pass(happened);
-        self.begin(happened.begun);
+        match happened.opened() {
+            Some(open) => self.current.push(open),
+            None => {}
+        }
     }
 }

@@ -3,8 +3,7 @@
 ghost use Rattle.std.specs.Prelude.{◌≡◌, ℕ, [], ◌∷◌, ◌++◌, length};
 ghost use Rattle.fsb_trace.specs.At.{Trace, line_back};
 ghost use Rattle.fsb_arbiter.specs.Arbiter.{lines_back};
-ghost use Rattle.fsb_rules.specs.Recent.{RecentStands};
-ghost use Rattle.fsb_rules.specs.Tests.{request_by};
+ghost use Rattle.fsb_rules.specs.Recent.{RecentStands, request_by};
 
 use bitflags::Flags;
 use fsb_encode::{Pair, Request, decode};
@@ -76,7 +75,7 @@ impl Recent {
     }
 
     /// The request that begins one clock back, whose second clock is this sample.
-    #[tactic(auto, unfolding(crate::specs::Tests::request_by))]
+    #[tactic(auto, unfolding(crate::specs::Recent::request_by))]
     pub fn request(&self, sample: &Sample) -> Option<Request>
         ensures { result ≡ request_by self.now.words sample.now }
     {

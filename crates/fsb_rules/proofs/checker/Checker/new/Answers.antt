@@ -9,10 +9,6 @@ returns c = new_stands _ _ (record {
   recent = c.new.ensures;
   arbiter = c.new-2.ensures;
   beginner = refl;
-  asking = c.new-3.ensures.asking;
-  waiting = c.new-3.ensures.waiting;
-  moving = c.new-3.ensures.moving;
-  last_snoop = c.new-3.ensures.last_snoop;
-  ready = c.new-3.ensures.ready;
+  queue = c.new-3.ensures;
   outstanding = c.new-4.ensures;
 }) refl

@@ -2,20 +2,22 @@ use Rattle.std.proofs.Common.{refl, sym, ◌∙◌}
 use Rattle.fsb_rules.proofs.OpenGoes.{cancelled_left, plain_left}
 use Rattle.fsb_rules.proofs.outstanding.Open.after.Goals as goal
 
-pub returns-then-is_at : goal.returns-then-is_at
-returns-then-is_at c = λ h x v g k. cancelled_left g k (sym c.is_at.ensures ∙ c.if-is_at.true)
+pub returns-then-cancels : goal.returns-then-cancels
+returns-then-cancels c = λ h x v g k. sym (cancelled_left g k (sym (c.if-cancels.ensures h x v g)))
+
+pub returns-then-not-ends : goal.returns-then-not-ends
+returns-then-not-ends c = λ h x v g k.
+    sym (plain_left g k (sym (c.if-cancels.ensures h x v g)) (sym c.if-is_some.ensures)
+    ∙ (rw (sym (c.if-not-ends.ensures h x v g)) refl))
 
 pub returns-then-defers : goal.returns-then-defers
 returns-then-defers c = λ h x v g k.
-    sym (plain_left g k (sym c.is_at.ensures ∙ c.if-is_at.false) (sym c.is_some.ensures ∙ c.if-is_some.false)
-    ∙ (rw (sym c.defers.ensures ∙ c.if-defers.true) refl))
+    let ends = sym (c.if-not-ends.ensures h x v g) in
+    sym (plain_left g k (sym (c.if-cancels.ensures h x v g)) (sym c.if-is_some.ensures)
+    ∙ (rw (ends, sym (c.if-defers.ensures h x v g _ ends), g.clock) refl))
 
-pub returns-then-ends : goal.returns-then-ends
-returns-then-ends c = λ h x v g k.
-    sym (plain_left g k (sym c.is_at.ensures ∙ c.if-is_at.false) (sym c.is_some.ensures ∙ c.if-is_some.false)
-    ∙ (rw (sym c.defers.ensures ∙ c.if-defers.false, sym c.ends.ensures ∙ c.if-ends.true) refl))
-
-pub returns-else-ends : goal.returns-else-ends
-returns-else-ends c = λ h x v g k.
-    sym (plain_left g k (sym c.is_at.ensures ∙ c.if-is_at.false) (sym c.is_some.ensures ∙ c.if-is_some.false)
-    ∙ (rw (sym c.defers.ensures ∙ c.if-defers.false, sym c.ends.ensures ∙ c.if-ends.false) refl))
+pub returns-else-defers : goal.returns-else-defers
+returns-else-defers c = λ h x v g k.
+    let ends = sym (c.if-not-ends.ensures h x v g) in
+    sym (plain_left g k (sym (c.if-cancels.ensures h x v g)) (sym c.if-is_some.ensures)
+    ∙ (rw (ends, sym (c.if-defers.ensures h x v g _ ends)) refl))

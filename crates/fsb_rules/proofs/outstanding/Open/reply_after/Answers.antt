@@ -1,24 +1,20 @@
-use Rattle.std.proofs.Common.{Some, None, ◌-◌, cond, length, ap, sym, ◌∙◌}
-use Rattle.fsb_rules.proofs.OpenGoes.{reply_is}
+use Rattle.std.proofs.Common.{Some, None, ◌-◌, refl, ap, sym, ◌∙◌}
+use Rattle.fsb_rules.proofs.OpenGoes.{replied_is, reply_is}
 use Rattle.fsb_rules.proofs.outstanding.Open.reply_after.Goals as goal
 
-pub returns-then-is_at : goal.returns-then-is_at
-returns-then-is_at c = λ h x v g k t.
-    sym (reply_is g k t (Some c.in-Some.clock) c.in-Some.is
-    ∙ ap (λ b. cond b None (Some c.in-Some.clock)) (sym c.is_at.ensures ∙ c.if-is_at.true))
+pub returns-then-cancels : goal.returns-then-cancels
+returns-then-cancels c = λ h x v g k t.
+    sym (reply_is g k t _ c.in-Some.is ∙ (rw (sym (c.if-cancels.ensures h x v g)) refl))
 
-pub returns-else-is_at : goal.returns-else-is_at
-returns-else-is_at c = λ h x v g k t.
-    sym (reply_is g k t (Some c.in-Some.clock) c.in-Some.is
-    ∙ ap (λ b. cond b None (Some c.in-Some.clock)) (sym c.is_at.ensures ∙ c.if-is_at.false))
+pub returns-else-cancels : goal.returns-else-cancels
+returns-else-cancels c = λ h x v g k t.
+    sym (reply_is g k t _ c.in-Some.is ∙ (rw (sym (c.if-cancels.ensures h x v g)) refl))
 
 pub returns-then-is_replied : goal.returns-then-is_replied
 returns-then-is_replied c = λ h x v g k t.
     ap (λ q. Some q) (c.saturating_sub.ensures ∙ ap (λ n. n - 1) g.clock)
-    ∙ sym (reply_is g k t None c.in-None.is
-    ∙ ap (λ b. cond b (Some (length h - 1)) None) (sym c.is_replied.ensures ∙ c.if-is_replied.true))
+    ∙ sym (reply_is g k t None c.in-None.is ∙ (rw (replied_is g k t ∙ sym c.if-is_replied.ensures) refl))
 
 pub returns-else-is_replied : goal.returns-else-is_replied
 returns-else-is_replied c = λ h x v g k t.
-    sym (reply_is g k t None c.in-None.is
-    ∙ ap (λ b. cond b (Some (length h - 1)) None) (sym c.is_replied.ensures ∙ c.if-is_replied.false))
+    sym (reply_is g k t None c.in-None.is ∙ (rw (replied_is g k t ∙ sym c.if-is_replied.ensures) refl))
