@@ -3,7 +3,7 @@ use Rattle.std.proofs.Common.{ℕ, zero, suc, ◌+◌, ◌<◌, ◌≡◌, Bool,
 use Rattle.std.proofs.Common.{[], ◌∷◌, ◌++◌, length, is_some, refl, sym, ap, ◌∙◌, inl, inr, arith}
 use Rattle.std.proofs.lemmas.Bool.{cases_Bool}
 use Rattle.fsb_count.specs.Options.{greater_of}
-use Rattle.fsb_signal.specs.declared.lines.TheConstants.Lines.{TRDY, DRDY}
+use Rattle.fsb_signal.specs.declared.lines.TheConstants.Lines.{DRDY}
 use Rattle.fsb_signal.specs.declared.sample.Sample.{Sample}
 use Rattle.fsb_signal.specs.Samples.{has_line}
 use Rattle.fsb_trace.specs.At.{Trace}
@@ -90,14 +90,14 @@ module _ {heads : Heads} {h : Trace} {x : Sample} (k : Stands heads h) where
 
   pub ready-more : (clock : ℕ) (next : Next) → BringsNext clock x next h
       → cond (responds x) None
-      (cond (is_some heads.ready) heads.ready (cond (has_line x TRDY && next.may_answer) (Some clock) None))
+      (cond (is_some heads.ready) heads.ready (cond next.readies (Some clock) None))
       ≡ ready_clock_of (h ++ x ∷ []) (response_count (h ++ x ∷ []))
   ready-more clock next t =
       let m = one_more h x in
       elim (cases_Bool (responds x)) [
         | inl r ↦ rw (r, count_answered h x _ m r) (sym (ready_clock_of-after h x _ m r))
         | inr r ↦
-            rw (r, k.ready, t.may_is, t.clock_is, response_count-kept h x _ m r) (ready_form _ _ _
+            rw (r, k.ready, t.readies_is, t.clock_is, response_count-kept h x _ m r) (ready_form _ _ _
             ∙ sym (ready_clock_of-next h x _ (snooped_count h) m t.moves_with.orderly (snoops_to h)))
       ]
 

@@ -1,7 +1,9 @@
 -- Which request is being snooped, which one responds next and how far the data are that move, and what is kept of it.
-use Rattle.std.specs.Prelude.{◌≡◌, ℕ, zero, suc, Bool, true, Option, None, [], ◌∷◌, ◌++◌, length, is_some}
+use Rattle.std.specs.Prelude.{◌≡◌, ℕ, zero, suc, Bool, true, ◌&&◌, Option, None, [], ◌∷◌, ◌++◌, length, is_some}
 use Rattle.fsb_count.specs.Clocks.{count_where}
+use Rattle.fsb_signal.specs.declared.lines.TheConstants.Lines.{TRDY}
 use Rattle.fsb_signal.specs.declared.sample.Sample.{Sample}
+use Rattle.fsb_signal.specs.Samples.{has_line}
 use Rattle.fsb_trace.specs.At.{Trace}
 use Rattle.fsb_trace.specs.Requests.{live_count}
 use Rattle.fsb_trace.specs.Snoop.{snoop_end_of}
@@ -44,5 +46,5 @@ pub record MovesWith (x : Sample) (moves : Bool) (h : Trace) : Type 0 where
 pub record BringsNext (clock : ℕ) (x : Sample) (next : Next) (h : Trace) : Type 0 where
   pub clock_is : clock ≡ length h
   pub snoops_is : next.snoops ≡ ends_snoop_of h (snooped_count h) x
-  pub may_is : next.may_answer ≡ may_answer_next h
+  pub readies_is : next.readies ≡ (has_line x TRDY && may_answer_next h)
   pub moves_with : MovesWith x next.moves h

@@ -1,8 +1,6 @@
 //! What the next snoop, the next response and the data on the way rest on.
 
 ghost use Rattle.std.specs.Prelude.{◌≡◌, [], ◌∷◌, ◌++◌, length, ◌&&◌, is_some, if◌then◌else◌, Some, None};
-ghost use Rattle.fsb_signal.specs.declared.lines.TheConstants.Lines.{TRDY};
-ghost use Rattle.fsb_signal.specs.Samples.{has_line};
 ghost use Rattle.fsb_trace.specs.At.{Trace};
 ghost use Rattle.fsb_trace.specs.Requests.{live_clock_of};
 ghost use Rattle.fsb_trace.specs.Snoop.{snoop_start_of};
@@ -30,8 +28,8 @@ pub struct Heads {
 pub struct Next {
     /// Whether a snoop ends with it.
     pub snoops: bool,
-    /// Whether the next request to respond may do so at its clock.
-    pub may_answer: bool,
+    /// Whether the target is ready with it for the next request to respond, which may do so at its clock.
+    pub readies: bool,
     /// Whether data move with the response that it is; free where it is none.
     pub moves: bool,
 }
@@ -132,16 +130,16 @@ impl Heads {
     }
 
     /// The ready clock of the next request to respond, after the sample of the next clock.
-    fn ready_with(&self, clock: u32, sample: &Sample, may_answer: bool) -> Option<u32>
+    fn ready_with(&self, clock: u32, sample: &Sample, readies: bool) -> Option<u32>
         ensures { result ≡ (if responds sample.now then None else
             (if is_some self.now.ready then self.now.ready else
-            (if has_line sample.now TRDY && may_answer then Some clock else None))) }
+            (if readies then Some clock else None))) }
     {
         if responds(sample) {
             None
         } else if self.ready.is_some() {
             self.ready
-        } else if sample.has(Lines::TRDY) && may_answer {
+        } else if readies {
             Some(clock)
         } else {
             None
@@ -159,7 +157,7 @@ impl Heads {
             } else {
                 self.snooped
             },
-            ready: self.ready_with(clock, sample, next.may_answer),
+            ready: self.ready_with(clock, sample, next.readies),
             chunks: self.chunks_with(sample, next.moves),
         }
     }

@@ -7,7 +7,7 @@ use Rattle.std.specs.Option.{option_and_then}
 use Rattle.std.proofs.lemmas.Bool.{cases_lt, and_right, and_parts, or_parts, eq-eqb, both_ways}
 use Rattle.fsb_count.specs.Options.{is_some_and, is_at, greater_of}
 use Rattle.fsb_count.proofs.Interface.{is_some-none}
-use Rattle.fsb_signal.specs.declared.lines.TheConstants.Lines.{DRDY}
+use Rattle.fsb_signal.specs.declared.lines.TheConstants.Lines.{TRDY, DRDY}
 use Rattle.fsb_signal.specs.declared.sample.Sample.{Sample}
 use Rattle.fsb_signal.specs.Samples.{has_line, response_of}
 use Rattle.fsb_trace.specs.At.{Trace}
@@ -339,14 +339,14 @@ next_of k t = record { stands = k; clock_is = t.clock_is; flight = t.flight }
 pub takes : {p : Phases} {clock : ℕ} {x : Sample} {queue : List Entry} {turns : List ℕ} {h : Trace} → Stands p h
     → MayTake clock x queue turns h → (next : Next)
     → next.snoops ≡ is_some (find (ends_snoop_at (h ++ x ∷ []) (length h)) queue)
-    → next.may_answer ≡ may_answer_next h → next.moves ≡ is_some_and (slice_get queue 0) is_moving
+    → next.readies ≡ (has_line x TRDY && may_answer_next h) → next.moves ≡ is_some_and (slice_get queue 0) is_moving
     → BringsNext clock x next h
-takes {p} {clock} {x} {queue} {turns} {h} k t next snoops may moves =
+takes {p} {clock} {x} {queue} {turns} {h} k t next snoops readies moves =
     let s = (taken k t).1 in
     record {
       clock_is = t.clock_is;
       snoops_is = snoops ∙ ends_is s.meets s.more k.orderly.spaced;
-      may_is = may;
+      readies_is = readies;
       moves_with = record {
         orderly = k.orderly;
         timely = λ r. (s.answering r).may;

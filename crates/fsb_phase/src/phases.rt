@@ -1,7 +1,9 @@
 ghost use Rattle.std.specs.Prelude.{◌≡◌, ℕ, ◌&&◌, ◌||◌, is_some, is_none, if◌then◌else◌, Some};
 ghost use Rattle.std.specs.Prelude.{List, [], ◌∷◌, ◌++◌, length, slice_get};
 ghost use Rattle.std.specs.List.{find};
+ghost use Rattle.fsb_signal.specs.declared.lines.TheConstants.Lines.{TRDY};
 ghost use Rattle.fsb_signal.specs.declared.sample.Sample.{Sample};
+ghost use Rattle.fsb_signal.specs.Samples.{has_line};
 ghost use Rattle.fsb_trace.specs.At.{Trace};
 ghost use Rattle.fsb_trace.specs.Response.{answer_from};
 ghost use Rattle.fsb_laws.specs.OneMore.{responds};
@@ -20,7 +22,7 @@ use crate::places::{
 use crate::timing::{is_ready_from, is_response_from, is_stall_from};
 use fsb_heads::{Heads, Next, responds, stalls};
 use fsb_queue::{Entry, Queue};
-use fsb_signal::Sample;
+use fsb_signal::{Lines, Sample};
 
 /// Tells what is due at a clock, from the samples and the queues that it was given so far.
 #[derive(Clone, Copy, Debug, PartialEq, Eq)]
@@ -204,7 +206,7 @@ impl Phases {
     {
         let next = Next {
             snoops: snooped.is_some(),
-            may_answer: self.may_answer(clock),
+            readies: self.readies(clock, sample),
             moves: has_data(queue.at(0).copied()),
         };
         self.heads.after(clock, sample, &next)
@@ -279,6 +281,14 @@ impl Phases {
             Some(from) => from <= u64::from(clock),
             None => false,
         }
+    }
+
+    /// Whether the target is ready with the sample for that request.
+    fn readies(&self, clock: u32, sample: &Sample) -> bool
+        ensures { (h : Trace) → Stands self.now h → clock ≡ length h →
+            result ≡ (has_line sample.now TRDY && may_answer_next h) }
+    {
+        sample.has(Lines::TRDY) && self.may_answer(clock)
     }
 }
 

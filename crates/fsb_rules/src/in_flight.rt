@@ -1,7 +1,7 @@
 //! The live requests from their second clocks to their ends.
 
 ghost use Rattle.std.specs.Prelude.{◌≡◌, ℕ, ◌+◌, ◌<◌, true, false, is_some, is_none, unwrap_or, nat_le, [], ◌∷◌, ◌++◌, length, if◌then◌else◌, Some, None, IfSome, ◌&&◌, not, ◌||◌, slice_get};
-ghost use Rattle.fsb_signal.specs.declared.lines.TheConstants.Lines.{ADS, HIT, HITM, DEFER, DRDY, AERR};
+ghost use Rattle.fsb_signal.specs.declared.lines.TheConstants.Lines.{ADS, HIT, HITM, DEFER, TRDY, DRDY, AERR};
 ghost use Rattle.fsb_signal.specs.Samples.{has_line};
 ghost use Rattle.fsb_trace.specs.At.{Trace, line_back};
 ghost use Rattle.fsb_trace.specs.Snoop.{snoop_end_of};
@@ -468,7 +468,7 @@ impl InFlight {
     {
         let snooped = self.snooped(clock, sample);
         let heads = self.heads_with(clock, sample, snooped.is_some());
-        self.last = self.last_with(clock, sample);
+        self.take_last(clock, sample);
         self.heads = heads;
         take_request(
             &mut self.asking,
@@ -479,6 +479,14 @@ impl InFlight {
         take_snooped(&mut self.waiting, responds(sample), snooped);
     }
 
+    /// Whether the target is ready with the sample for the request that responds next.
+    fn readies(&self, clock: u32, sample: &Sample) -> bool
+        ensures { (h : Trace) → IsAt self.now clock h →
+            result ≡ (has_line sample.now TRDY && may_answer_next h) }
+    {
+        sample.has(Lines::TRDY) && self.may_answer(clock)
+    }
+
     /// The heads after this sample, with which a snoop ends or does not.
     fn heads_with(&self, clock: u32, sample: &Sample, snoops: bool) -> Heads
         ensures { (h : Trace) → InTime self.now clock sample.now h →
@@ -487,7 +495,7 @@ impl InFlight {
     {
         let next = Next {
             snoops,
-            may_answer: self.may_answer(clock),
+            readies: self.readies(clock, sample),
             moves: self.begins_data(clock, sample),
         };
         self.heads.after(clock, sample, &next)
@@ -505,6 +513,18 @@ impl InFlight {
             }
         } else {
             self.last
+        }
+    }
+
+    /// Keeps the request that responds with this sample, if one does.
+    fn take_last(&mut self, clock: u32, sample: &Sample)
+        ensures asking { self.new.asking ≡ self.old.asking }
+        ensures waiting { self.new.waiting ≡ self.old.waiting }
+        ensures last { (h : Trace) → InTime self.old clock sample.now h →
+            KeepsLast self.new.last (h ++ sample.now ∷ []) }
+    {
+        if responds(sample) {
+            self.last = self.last_with(clock, sample);
         }
     }
 }

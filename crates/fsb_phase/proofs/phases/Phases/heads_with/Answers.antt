@@ -7,5 +7,5 @@ use Rattle.fsb_phase.proofs.phases.Phases.heads_with.Goals as goal
 pub returns : goal.returns
 returns c = λ h turns k t snooped.
     c.after.ensures h k.heads
-    (takes k t _ (c.is_some.ensures ∙ ap is_some snooped) (c.may_answer.ensures h k t.clock_is)
+    (takes k t _ (c.is_some.ensures ∙ ap is_some snooped) (c.readies.ensures h k t.clock_is)
     (c.has_data.ensures ∙ ap (λ o. is_some_and o is_moving) (c.copied.ensures ∙ c.at.ensures)))
