@@ -2,6 +2,7 @@
 use Rattle.std.proofs.Common.{ℕ, suc, ◌+◌, ◌-◌, ◌<◌, ◌≤◌, ◌≡◌, Bool, true, false, cond, not, ◌&&◌, ◌||◌, Option, Some}
 use Rattle.std.proofs.Common.{None, List, [], ◌∷◌, ◌++◌, length, slice_get, refl, sym, ◌∙◌, arith, inl, inr}
 use Rattle.std.proofs.Common.{subst, nat_eq, add-zero}
+use Rattle.std.proofs.Math.Bool.{and-false}
 use Rattle.std.proofs.Math.Numerals.{one-add}
 use Rattle.std.proofs.lemmas.Bool.{cases_lt, or_parts, lt-ltb, cases_Bool, and_parts, both_ways}
 use Rattle.std.proofs.lemmas.Bool.{not-true, eqb-true, and_left}
@@ -27,7 +28,8 @@ use Rattle.fsb_trace.specs.Rules.{is_response_early, is_outstanding_wrong, is_be
 use Rattle.fsb_trace.specs.Rules.{is_code_for, has_den, is_snoop_line_alone, is_snoop_result_unfit, is_code_wrong}
 use Rattle.fsb_trace.specs.Rules.{is_target_ready_wrong, is_data_wrong, has_unknown_line, is_queue_full}
 use Rattle.fsb_trace.specs.Rules.{is_request_blocked, has_no_winner, is_some_asked_wrongly, is_lock_alone}
-use Rattle.fsb_trace.specs.Rules.{has_unknown_data, is_marked_address_wrong, is_marked_request_wrong}
+use Rattle.fsb_trace.specs.Rules.{has_unknown_data, has_parity_at, is_address_parity_wrong, is_request_parity_wrong}
+use Rattle.fsb_trace.specs.Rules.{is_marked_address_wrong, is_marked_request_wrong}
 use Rattle.fsb_trace.specs.Verdict.{is_broken, least_rule}
 use Rattle.fsb_trace.proofs.Interface.{breaks-none, breaks-2, breaks-3, breaks-4, breaks-7, breaks-10, breaks-13}
 use Rattle.fsb_trace.specs.declared.outcome.Outcome.TheVariants.{Granted, Handed, Retried, Deferred, Written, Replied}
@@ -94,12 +96,18 @@ least_rule-past m v n size =
     (broken_here m v n (suc i) size))
     (omega arith)
 
--- the rules in their order
+-- the rules in their order; the last two are kept at a clock without parity
 module _ (m : Marks) (v : Trace) (n : ℕ) where
   pub parity_rules : least_past 18 m v n
-      ≡ cond (is_marked_address_wrong m v n) (Some 19) (cond (is_marked_request_wrong m v n) (Some 20) None)
-  unfolding least_past least_among phase_rules
-  parity_rules = refl
+      ≡ cond (has_parity_at v n)
+      (cond (is_marked_address_wrong m v n) (Some 19) (cond (is_marked_request_wrong m v n) (Some 20) None)) None
+  unfolding least_past least_among phase_rules is_marked_address_wrong is_marked_request_wrong
+      is_address_parity_wrong is_request_parity_wrong
+  parity_rules =
+      elim (cases_Bool (has_parity_at v n)) [
+        | inl t ↦ rw t refl
+        | inr f ↦ rw (f, and-false m.ap, and-false m.rp) refl
+      ]
 
   pub moved_rules : least_past 13 m v n
       ≡ cond (is_code_wrong v n) (Some 14) (cond (is_target_ready_wrong v n) (Some 15)

@@ -307,13 +307,15 @@ impl Checker {
         }
     }
 
-    /// The least of the two parity rules that is broken with this sample.
+    /// The least of the two parity rules that is broken with this sample; at most clocks there is no parity.
     #[tactic(auto, using(crate::proofs::LeastRule::parity_rules))]
     fn parity_broken(&self, sample: &Sample) -> Option<u8>
         ensures { (h : Trace) → Follows self.now h →
             result ≡ least_past 18 self.now.marks (h ++ sample.now ∷ []) (length h) }
     {
-        if self.is_address_wrong(sample) {
+        if !self.has_parity(sample) {
+            None
+        } else if self.is_address_wrong(sample) {
             Some(19)
         } else if self.is_request_wrong(sample) {
             Some(20)
@@ -451,22 +453,22 @@ impl Checker {
         sample.has(Lines::ADS) || self.recent.one_back(Lines::ADS)
     }
 
-    /// Rule 19, address parity, where the dump declares it.
+    /// Rule 19, address parity, where the dump declares it, at a clock that has parity.
     #[tactic(auto, using(crate::proofs::Lines::new_clock), unfolding(fsb_trace::specs::Rules::is_marked_address_wrong, fsb_trace::specs::Rules::is_address_parity_wrong))]
     fn is_address_wrong(&self, sample: &Sample) -> bool
-        ensures { (h : Trace) → Follows self.now h →
+        ensures { (h : Trace) → has_parity_at (h ++ sample.now ∷ []) (length h) ≡ true →
             result ≡ is_marked_address_wrong self.now.marks (h ++ sample.now ∷ []) (length h) }
     {
-        self.marks.ap && (self.has_parity(sample) && sample.is_address_odd())
+        self.marks.ap && sample.is_address_odd()
     }
 
-    /// Rule 20, request parity, where the dump declares it.
+    /// Rule 20, request parity, where the dump declares it, at a clock that has parity.
     #[tactic(auto, using(crate::proofs::Lines::new_clock), unfolding(fsb_trace::specs::Rules::is_marked_request_wrong, fsb_trace::specs::Rules::is_request_parity_wrong))]
     fn is_request_wrong(&self, sample: &Sample) -> bool
-        ensures { (h : Trace) → Follows self.now h →
+        ensures { (h : Trace) → has_parity_at (h ++ sample.now ∷ []) (length h) ≡ true →
             result ≡ is_marked_request_wrong self.now.marks (h ++ sample.now ∷ []) (length h) }
     {
-        self.marks.rp && (self.has_parity(sample) && sample.is_request_odd())
+        self.marks.rp && sample.is_request_odd()
     }
 
     /// The request that began at the last clock, whose second clock is this one.
