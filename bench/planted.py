@@ -39,6 +39,12 @@ def kind(name):
     return re.sub("<.*?>", "", parts[-2]) if len(parts) > 1 else None
 
 
+def function_at(text, line):
+    """The name of the function that a line of a file is of: of the last one that begins at it or above."""
+    found = re.findall(r"^\s*(?:pub(?:\(\w+\))? )?(?:const )?fn (\w+)", "\n".join(text.split("\n")[:line]), re.M)
+    return found[-1] if found else None
+
+
 class Judge:
     """The bugs of one crate, and what became of each so far."""
 
@@ -105,6 +111,7 @@ class Judge:
         for name, text in texts.items():
             with open(os.path.join(self.folder, name), "w") as file:
                 file.write(text)
+        self.planted = texts
         ran = subprocess.run(["rt", "check"], cwd=self.folder, stdout=subprocess.PIPE, stderr=subprocess.STDOUT, text=True, errors="replace")
         for name, text in self.whole.items():
             with open(os.path.join(self.folder, name), "w") as file:
@@ -144,15 +151,10 @@ class Judge:
                 self.verdicts[place] = "refused"
 
     def blame(self, group, out):
-        """Nothing was proved: drops the bugs on whose lines the compiler found a fault."""
-        faults = {(name, int(line)) for name, line in re.findall(r"^(?:\./)?(src/[\w/]+\.rt):(\d+):\d+: error", out, re.M)}
-        blamed = []
-        for place in group:
-            bug = self.bugs[place]
-            text = self.whole[bug["file"]]
-            first = text.count("\n", 0, text.index(bug["old"])) + 1
-            if any(name == bug["file"] and first - 1 <= line <= first + 1 + bug["new"].count("\n") for name, line in faults):
-                blamed.append(place)
+        """Nothing was proved: drops the bugs in whose functions the compiler found a fault."""
+        faults = re.findall(r"^(?:\./)?(src/[\w/]+\.rt):(\d+):\d+: error", out, re.M)
+        at_fault = {(name, function_at(self.planted[name], int(line))) for name, line in faults if name in self.planted}
+        blamed = [place for place in group if (self.bugs[place]["file"], leaf(self.bugs[place]["fn"])) in at_fault]
         for place in group:
             if place in blamed or len(group) == 1:
                 self.verdicts[place] = "no program"

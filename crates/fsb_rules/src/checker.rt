@@ -267,6 +267,7 @@ impl Checker {
     }
 
     /// The least of the rules from 11 on that is broken with a sample in which anything may happen.
+    #[inline(never)]
     #[tactic(auto, using(crate::proofs::LeastRule::busy_rules))]
     fn busy_broken(&self, clock: u32, sample: &Sample, begun: &Option<LiveRequest>) -> Option<u8>
         ensures { (h : Trace) → Comes self.now clock sample.now begun.now h →

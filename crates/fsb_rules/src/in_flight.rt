@@ -461,6 +461,7 @@ impl InFlight {
     }
 
     /// Takes the sample of this clock, with which something may change.
+    #[inline(never)]
     fn go_on(&mut self, clock: u32, sample: &Sample, begun: &Option<LiveRequest>)
         requires { (h : Trace) × Brings self.old clock sample.now begun.now h }
         ensures { (h : Trace) → Brings self.old clock sample.now begun.now h →
