@@ -1,8 +1,9 @@
 -- The lines of the last clocks.
-use Rattle.std.proofs.Common.{ℕ, ◌+◌, ◌-◌, ◌<◌, ◌≡◌, Bool, true, false, nat_le, Option, Some, None, [], ◌∷◌, ◌++◌}
+use Rattle.std.proofs.Common.{ℕ, ◌+◌, ◌-◌, ◌<◌, ◌≡◌, ◌==◌, Bool, true, false, nat_le, Option, Some, None, [], ◌∷◌, ◌++◌}
 use Rattle.std.proofs.Common.{length, slice_get, cond, refl, sym, ap, ◌∙◌, arith}
-use Rattle.std.specs.Option.{option_map, option_and_then, option_map_or}
-use Rattle.std.proofs.lemmas.Bool.{leb-true, leb-false, le-leb, lt-leb, and_parts, and_left}
+use Rattle.std.specs.Option.{option_map, option_and_then, option_map_or, unwrap_or}
+use Rattle.std.proofs.lemmas.Bool.{leb-true, leb-false, le-leb, lt-leb, and_parts, and_left, eqb-true}
+use Rattle.std.proofs.lemmas.Bool.{false_from_ne_true}
 use Rattle.fsb_count.specs.Options.{is_some_and}
 use Rattle.fsb_count.proofs.Interface.{slice_get-end}
 use Rattle.fsb_signal.specs.declared.lines.Lines.{Lines}
@@ -20,9 +21,8 @@ use Rattle.fsb_arbiter.specs.Arbiter.{lines_back}
 use Rattle.fsb_laws.specs.OneMore.{OneMore}
 use Rattle.fsb_laws.proofs.Interface.{line_at-new, line_at-old, one_more}
 use Rattle.fsb_rules.specs.declared.recent.Recent.{Recent}
-use Rattle.fsb_rules.specs.Recent.{RecentStands}
+use Rattle.fsb_rules.specs.Recent.{RecentStands, asserted_back, request_by}
 use Rattle.fsb_rules.specs.Checker.{beginner_of}
-use Rattle.fsb_rules.specs.Recent.{request_by}
 
 -- a line among those of a clock back is asserted there
 lines_form : (line : Lines) (o : Option Sample)
@@ -41,6 +41,21 @@ pub is_among-back : (line : Lines) (h : Trace) (d : ℕ) (o : Option Lines) → 
     → is_some_and o (λ l. is_in l line) ≡ line_back line h (length h) d
 is_among-back line h d o e =
     ap (λ lines. is_some_and lines (λ l. is_in l line)) e ∙ among_cases line h d (nat_le d (length h)) refl
+
+-- and where there is no such clock, no line is
+no_line : (n : ℕ) → 0 < n → (0 == n) ≡ false
+no_line n l = false_from_ne_true _ (λ t. let same = eqb-true 0 n t in omega arith)
+
+asserted_form : (line : Lines) (o : Option Lines) → 0 < line.0
+    → is_in (unwrap_or o (record { 0 = 0 })) line ≡ is_some_and o (λ l. is_in l line)
+unfolding is_some_and
+asserted_form line None l = no_line line.0 l
+asserted_form line (Some lines) l = refl
+
+pub asserted_back-is : (line : Lines) (h : Trace) (d : ℕ) → 0 < line.0
+    → is_in (asserted_back h d) line ≡ line_back line h (length h) d
+unfolding asserted_back
+asserted_back-is line h d l = asserted_form line (lines_back h d) l ∙ is_among-back line h d (lines_back h d) refl
 
 -- lines back from the new clock are those of the old trace
 old_cases : (line : Lines) (h : Trace) (x : Sample) (v : Trace) (d : ℕ) (b : Bool) → OneMore h x v → 0 < d
@@ -160,16 +175,18 @@ pub ruleset begun_facts = (line_back-last, request_at-new)
 
 -- what is kept of the last clocks goes on
 pub recent_goes : {old : Recent} {h : Trace} (x : Sample) (new : Recent) → RecentStands old h
-    → new.first ≡ Some x.lines → new.second ≡ old.first → new.third ≡ old.second
+    → new.first ≡ x.lines → new.second ≡ old.first → new.third ≡ old.second
     → (has_line x ADS ≡ true → new.words ≡ known_pair x) → RecentStands new (h ++ x ∷ [])
+unfolding asserted_back
 recent_goes {old} {h} x new s a b c d =
     let v : Trace = h ++ x ∷ [] in
     let m = one_more h x in
     let size = m.size in
     let e : length v - 1 ≡ length h = omega arith in
+    let of : Option Lines → Lines = λ o. unwrap_or o (record { 0 = 0 }) in
     record {
-      first = a ∙ sym (lines_back-first h x v m);
-      second = b ∙ s.first ∙ sym (lines_back-next h x v 1 m (omega arith));
-      third = c ∙ s.second ∙ sym (lines_back-next h x v 2 m (omega arith));
+      first = a ∙ sym (ap of (lines_back-first h x v m));
+      second = b ∙ s.first ∙ sym (ap of (lines_back-next h x v 1 m (omega arith)));
+      third = c ∙ s.second ∙ sym (ap of (lines_back-next h x v 2 m (omega arith)));
       words = λ t. d (sym (line_back-end ADS h x) ∙ t) ∙ sym (ap (known_pair_at v) e ∙ known_pair_at-new h x v m);
     }

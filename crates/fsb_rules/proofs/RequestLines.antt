@@ -16,12 +16,12 @@ use Rattle.fsb_trace.specs.At.{Trace}
 use Rattle.fsb_trace.specs.Winner.{is_agent, request_line_of, bus_request_of}
 use Rattle.fsb_trace.specs.Rules.{is_asked_wrongly, is_some_asked_wrongly}
 use Rattle.fsb_arbiter.specs.Order.{is_in}
-use Rattle.fsb_arbiter.specs.Arbiter.{lines_back}
 use Rattle.fsb_laws.specs.OneMore.{OneMore}
 use Rattle.fsb_rules.specs.declared.checker.Checker.{Checker}
 use Rattle.fsb_rules.specs.RequestLines.{has_request_line_by, is_dropped_by, is_some_dropped_by}
+use Rattle.fsb_rules.specs.Recent.{asserted_back}
 use Rattle.fsb_rules.specs.Checker.{Follows}
-use Rattle.fsb_rules.proofs.Lines.{is_among-back}
+use Rattle.fsb_rules.proofs.Lines.{asserted_back-is}
 use Rattle.fsb_rules.proofs.StartRules.{any_asked, asked}
 
 values : (a m p : ℕ) → a < 2 → m < 2 → 0 < p → (min a (1 - m) * p == p) ≡ (a * p == p && not (m * p == p))
@@ -62,31 +62,29 @@ gone_lines was now l =
     )
     refl
 
+-- an agent has a request line
+pub request_line-some : (who : Who) → 0 < (request_line_of who).0
+unfolding request_line_of bus_request_of
+request_line-some (Symmetric zero) = let l : 0 < 1 = omega arith in l
+request_line-some (Symmetric (suc zero)) = let l : 0 < 2 = omega arith in l
+request_line-some (Symmetric (suc (suc zero))) = let l : 0 < 4 = omega arith in l
+request_line-some (Symmetric (suc (suc (suc n)))) = let l : 0 < 8 = omega arith in l
+request_line-some Priority = let l : 0 < 16 = omega arith in l
+
 -- where no request began they are to be held
 not_held : {k : Checker} {h : Trace} {x : Sample} {v : Trace} → Follows k h → OneMore h x v → k.beginner ≡ None
     → (who : Who) → is_asked_wrongly v (length h) who
-    ≡ (is_some_and (lines_back h 1) (λ l. is_in l (request_line_of who)) && not (has_line x (request_line_of who)))
-unfolding is_agent is_some_and
+    ≡ is_dropped_by (asserted_back h 1) x.lines (request_line_of who)
+unfolding is_agent is_some_and is_dropped_by
 not_held {k} {h} {x} {v} f m e who =
-    asked f m who ∙ (rw (e, is_among-back (request_line_of who) h 1 (lines_back h 1) refl) refl)
-
-held_cases : (o : Option Lines) (x : Sample) → is_some_and o (λ lines. is_some_dropped_by lines x.lines)
-    ≡ (is_some_and o (λ l. is_in l BREQ0) && not (has_line x BREQ0)
-    || is_some_and o (λ l. is_in l BREQ1) && not (has_line x BREQ1)
-    || is_some_and o (λ l. is_in l BREQ2) && not (has_line x BREQ2)
-    || is_some_and o (λ l. is_in l BREQ3) && not (has_line x BREQ3)
-    || is_some_and o (λ l. is_in l BPRI) && not (has_line x BPRI))
-unfolding is_some_and is_some_dropped_by is_dropped_by
-held_cases None x = refl
-held_cases (Some lines) x = refl
+    asked f m who ∙ (rw (e, asserted_back-is (request_line_of who) h 1 (request_line-some who)) refl)
 
 pub none_begun : {k : Checker} {h : Trace} {x : Sample} {v : Trace} → Follows k h → OneMore h x v
     → k.beginner ≡ None
-    → is_some_and (lines_back h 1) (λ lines. is_some_dropped_by lines x.lines) ≡ is_some_asked_wrongly v (length h)
-unfolding request_line_of bus_request_of
+    → is_some_dropped_by (asserted_back h 1) x.lines ≡ is_some_asked_wrongly v (length h)
+unfolding request_line_of bus_request_of is_some_dropped_by
 none_begun {k} {h} {x} {v} f m e =
-    held_cases (lines_back h 1) x
-    ∙ sym (any_asked v (length h) ∙ (rw (
+    sym (any_asked v (length h) ∙ (rw (
       not_held f m e (Symmetric 0),
       not_held f m e (Symmetric 1),
       not_held f m e (Symmetric 2),

@@ -129,17 +129,6 @@ fn is_some_dropped(was: Lines, now: Lines) -> bool
     has_request_line(Lines(was.0 & !now.0))
 }
 
-/// The same, where there is a clock before.
-#[tactic(auto, unfolding(fsb_count::specs::Options::is_some_and))]
-fn is_some_dropped_after(was: Option<Lines>, now: Lines) -> bool
-    ensures { result ≡ is_some_and was (λ lines. is_some_dropped_by lines now) }
-{
-    match was {
-        Some(was) => is_some_dropped(was, now),
-        None => false,
-    }
-}
-
 impl Checker {
     /// The checker before the first sample of a dump with these marks.
     pub fn new(marks: Marks) -> Checker
@@ -395,7 +384,7 @@ impl Checker {
             result ≡ is_some_asked_wrongly (h ++ sample.now ∷ []) (length h) }
     {
         if self.beginner.is_none() {
-            is_some_dropped_after(self.recent.first(), sample.lines)
+            is_some_dropped(self.recent.first(), sample.lines)
         } else {
             self.is_some_line_wrong(sample)
         }

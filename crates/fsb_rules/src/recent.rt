@@ -1,36 +1,33 @@
 //! The last three clocks.
 
-ghost use Rattle.std.specs.Prelude.{◌≡◌, ℕ, [], ◌∷◌, ◌++◌, length};
+ghost use Rattle.std.specs.Prelude.{◌≡◌, ◌<◌, ℕ, [], ◌∷◌, ◌++◌, length};
 ghost use Rattle.fsb_trace.specs.At.{Trace, line_back};
-ghost use Rattle.fsb_arbiter.specs.Arbiter.{lines_back};
-ghost use Rattle.fsb_rules.specs.Recent.{RecentStands, request_by};
+ghost use Rattle.fsb_rules.specs.Recent.{RecentStands, asserted_back, request_by};
 
 use bitflags::Flags;
 use fsb_encode::{Pair, Request, decode};
 use fsb_signal::{Lines, Sample};
 use fsb_trace::known_pair;
 
-/// What is kept of the last three clocks; none where there is no such clock.
+/// What is kept of the last three clocks. Where there is no such clock, no line is asserted in it.
 #[derive(Clone, Copy, Debug, PartialEq, Eq)]
 pub struct Recent {
     /// The control lines one clock back.
-    first: Option<Lines>,
+    first: Lines,
     /// The control lines two clocks back.
-    second: Option<Lines>,
+    second: Lines,
     /// The control lines three clocks back.
-    third: Option<Lines>,
+    third: Lines,
     /// The address and REQ words of the last clock at which a request began, where no bit of them is unknown.
     words: Option<Pair>,
 }
 
-/// Whether there is a clock with these lines, and the line is asserted in it.
-fn is_among(lines: Option<Lines>, line: Lines) -> bool
-    ensures { (h : Trace) (d : ℕ) → lines ≡ lines_back h d → result ≡ line_back line h (length h) d }
+/// Whether the line is among the lines of a clock.
+fn is_among(lines: Lines, line: Lines) -> bool
+    requires { 0 < line.0 }
+    ensures { (h : Trace) (d : ℕ) → lines ≡ asserted_back h d → result ≡ line_back line h (length h) d }
 {
-    match lines {
-        Some(lines) => lines.contains(line),
-        None => false,
-    }
+    lines.contains(line)
 }
 
 impl Recent {
@@ -39,22 +36,23 @@ impl Recent {
         ensures { RecentStands result [] }
     {
         Recent {
-            first: None,
-            second: None,
-            third: None,
+            first: Lines(0),
+            second: Lines(0),
+            third: Lines(0),
             words: None,
         }
     }
 
-    /// The control lines one clock back; none where there is no such clock.
-    pub fn first(&self) -> Option<Lines>
-        ensures { (h : Trace) → RecentStands self.now h → result ≡ lines_back h 1 }
+    /// The control lines one clock back; where there is no such clock, none of them is asserted.
+    pub fn first(&self) -> Lines
+        ensures { (h : Trace) → RecentStands self.now h → result ≡ asserted_back h 1 }
     {
         self.first
     }
 
     /// Whether the line is asserted one clock back.
     pub fn one_back(&self, line: Lines) -> bool
+        requires { 0 < line.0 }
         ensures { (h : Trace) → RecentStands self.now h → result ≡ line_back line h (length h) 1 }
     {
         is_among(self.first, line)
@@ -62,6 +60,7 @@ impl Recent {
 
     /// Whether the line is asserted two clocks back.
     pub fn two_back(&self, line: Lines) -> bool
+        requires { 0 < line.0 }
         ensures { (h : Trace) → RecentStands self.now h → result ≡ line_back line h (length h) 2 }
     {
         is_among(self.second, line)
@@ -69,6 +68,7 @@ impl Recent {
 
     /// Whether the line is asserted three clocks back.
     pub fn three_back(&self, line: Lines) -> bool
+        requires { 0 < line.0 }
         ensures { (h : Trace) → RecentStands self.now h → result ≡ line_back line h (length h) 3 }
     {
         is_among(self.third, line)
@@ -89,7 +89,7 @@ impl Recent {
     {
         self.third = self.second;
         self.second = self.first;
-        self.first = Some(sample.lines);
+        self.first = sample.lines;
         if sample.has(Lines::ADS) {
             self.words = known_pair(sample);
         }

@@ -1,13 +1,8 @@
-use Rattle.std.proofs.Common.{Some, None, sym, ◌∙◌}
-use Rattle.fsb_count.specs.Options.{is_some_and}
-use Rattle.fsb_rules.proofs.Lines.{is_among-back}
+use Rattle.std.proofs.Common.{ap, ◌∙◌}
+use Rattle.fsb_arbiter.specs.Order.{is_in}
+use Rattle.fsb_rules.proofs.Lines.{asserted_back-is}
 use Rattle.fsb_rules.proofs.recent.is_among.Goals as goal
 
-pub returns-in-Some : goal.returns-in-Some
-unfolding is_some_and
-returns-in-Some c = λ h d e.
-    c.contains.ensures tt ∙ is_among-back c.args.line h d (Some c.in-Some.lines) (sym c.in-Some.is ∙ e)
-
-pub returns-in-None : goal.returns-in-None
-unfolding is_some_and
-returns-in-None c = λ h d e. is_among-back c.args.line h d None (sym c.in-None.is ∙ e)
+pub returns : goal.returns
+returns c = λ h d e.
+    c.contains.ensures tt ∙ ap (λ lines. is_in lines c.args.line) e ∙ asserted_back-is c.args.line h d c.requires
