@@ -1,5 +1,5 @@
 -- The five request lines, held where no request began.
-use Rattle.std.proofs.Common.{ℕ, zero, suc, ◌-◌, ◌*◌, ◌^◌, ◌<◌, ◌≡◌, ◌==◌, ◌&&◌, ◌||◌, not, min, Option, Some}
+use Rattle.std.proofs.Common.{ℕ, zero, suc, ◌-◌, ◌*◌, ◌^◌, ◌<◌, ◌≡◌, ◌==◌, ◌&&◌, not, min}
 use Rattle.std.proofs.Common.{None, length, refl, sym, ◌∙◌, arith, w32}
 use Rattle.std.specs.Int.{bit_at}
 use Rattle.std.specs.Int.RustNames.{bit_and}
@@ -7,15 +7,12 @@ use Rattle.std.proofs.lemmas.Nat.{pow_pos}
 use Rattle.std.proofs.lemmas.Nat.Bits.{and_pow, bit_at_and, bit_at_not}
 use Rattle.fsb_count.specs.Options.{is_some_and}
 use Rattle.fsb_signal.specs.declared.lines.Lines.{Lines}
-use Rattle.fsb_signal.specs.declared.lines.TheConstants.Lines.{BREQ0, BREQ1, BREQ2, BREQ3, BPRI}
 use Rattle.fsb_signal.specs.declared.sample.Sample.{Sample}
-use Rattle.fsb_signal.specs.Samples.{has_line}
 use Rattle.fsb_trace.specs.declared.who.Who.{Who}
 use Rattle.fsb_trace.specs.declared.who.Who.TheVariants.{Symmetric, Priority}
 use Rattle.fsb_trace.specs.At.{Trace}
 use Rattle.fsb_trace.specs.Winner.{is_agent, request_line_of, bus_request_of}
 use Rattle.fsb_trace.specs.Rules.{is_asked_wrongly, is_some_asked_wrongly}
-use Rattle.fsb_arbiter.specs.Order.{is_in}
 use Rattle.fsb_laws.specs.OneMore.{OneMore}
 use Rattle.fsb_rules.specs.declared.checker.Checker.{Checker}
 use Rattle.fsb_rules.specs.RequestLines.{has_request_line_by, is_dropped_by, is_some_dropped_by}
