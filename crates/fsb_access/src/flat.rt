@@ -93,7 +93,7 @@ impl Flat {
     }
 
     /// Puts the first settings, those up to the first one of another chunk, and answers how many they are. The chunk
-    /// is looked up once for all of them.
+    /// is read once and put back once for all of them.
     fn set(&mut self, sets: &[Setting]) -> Result<usize, Memory>
         requires { 0 < length sets.now }
         ensures some { IfOk result (λ count. 0 < count) }

@@ -117,11 +117,12 @@ impl Parts {
         requires sound { IsSound (parts_view self.old) }
         requires found { request_numbered out.now.number self.old.outs.items ≡ Some out.now }
         requires granted { out.now.granted ≡ true }
-        ensures agent { parts_view self.new ≡ arrived_for (parts_view self.old) clock out.now bytes }
+        ensures agent { parts_view self.new
+            ≡ arrived_for (parts_view self.old) clock out.now bytes }
         ensures entries { log.new.entries
             ≡ log.old.entries ++ met_entries (parts_view self.old) clock out.now bytes }
-        ensures spare { log.new.spare + length (met_entries (parts_view self.old) clock out.now bytes)
-            ≡ log.old.spare }
+        ensures spare { log.new.spare
+            + length (met_entries (parts_view self.old) clock out.now bytes) ≡ log.old.spare }
     {
         let line = out.request.line;
         let state = self.state_of(line);
@@ -137,8 +138,8 @@ impl Parts {
         ensures agent { parts_view self.new ≡ met_by (parts_view self.old) clock out.now bytes }
         ensures entries { log.new.entries
             ≡ log.old.entries ++ met_entries (parts_view self.old) clock out.now bytes }
-        ensures spare { log.new.spare + length (met_entries (parts_view self.old) clock out.now bytes)
-            ≡ log.old.spare }
+        ensures spare { log.new.spare
+            + length (met_entries (parts_view self.old) clock out.now bytes) ≡ log.old.spare }
     {
         let completes = self.is_arrival(clock, out);
         self.hand
@@ -170,7 +171,8 @@ impl Parts {
         requires spare { 8 ≤ log.old.spare }
         requires sound { IsSound (parts_view self.old) }
         requires may { may_arrive (parts_view self.old) number ≡ true }
-        ensures agent { parts_view self.new ≡ line_arrived (parts_view self.old) clock number bytes }
+        ensures agent { parts_view self.new
+            ≡ line_arrived (parts_view self.old) clock number bytes }
         ensures entries { log.new.entries
             ≡ log.old.entries ++ arrived_entries (parts_view self.old) clock number bytes }
         ensures spare { log.new.spare

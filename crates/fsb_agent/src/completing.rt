@@ -31,7 +31,8 @@ impl Parts {
     /// Whether each line of the accesses serves by itself.
     fn serves_alone(&self, accesses: &[Access]) -> bool
         ensures { result ≡ list_all
-            (λ access. is_ready_for (parts_view self.now) (accessed_line access) true) accesses.now }
+            (λ access. is_ready_for (parts_view self.now) (accessed_line access) true)
+            accesses.now }
     {
         accesses
             .iter()

@@ -158,7 +158,8 @@ impl Parts {
     fn commit_other(&mut self, number: u32, request: &Request, outcome: Outcome)
         requires sound { IsSound (parts_view self.old) }
         requires few { owed_count self.old.buffers < 8 }
-        ensures { parts_view self.new ≡ other_settled (parts_view self.old) number request.now outcome }
+        ensures { parts_view self.new
+            ≡ other_settled (parts_view self.old) number request.now outcome }
     {
         let line = request.line;
         let state = self.state_of(line);

@@ -34,7 +34,8 @@ pub fn agents_stand_for_their_events()
 /// A store whose line is handed over before its bytes have come is performed when they come, and the bytes that it leaves
 /// are those that go on.
 pub fn handed_over_store()
-    ensures want { want_by worked_agent 0 ≡ Some (record { request = worked_request 0; locked = false }) }
+    ensures want { want_by worked_agent 0
+        ≡ Some (record { request = worked_request 0; locked = false }) }
     ensures entries { arrived_entries worked_before 11 0 (replicate 32 0) ≡ worked_entry ∷ [] }
     ensures gone { answer_by worked_before 2 ≡ Answer.Clean }
     ensures owed { hand_by worked_after 1 ≡ Some (1 ∷ replicate 31 0) }

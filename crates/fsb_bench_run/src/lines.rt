@@ -14,7 +14,8 @@ ghost use Rattle.fsb_bench_run.specs.BenchOf.{IsBenchOf};
 /// The address and REQ words of a bench's clock are those that are due in its run.
 pub fn words_are_due()
     ensures { (v : BenchView) (hold : Bool) (choice : Choice) → IsBenchOf v → IsTrue
-        (drives_pair (step_run v hold choice) (past_of (step_run v hold choice)) (next_clock_of v)) }
+        (drives_pair (step_run v hold choice) (past_of (step_run v hold choice))
+        (next_clock_of v)) }
 {}
 
 /// ADS# is at a bench's clock exactly where a request may begin in its run, and the words are those

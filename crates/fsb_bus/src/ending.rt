@@ -47,7 +47,8 @@ impl Bus {
         ensures entries { log.new.entries
             ≡ log.old.entries ++ end_entries (bus_view self.old) clock ending.now }
         ensures room { HasLogRoom self.new.agents.items log.new }
-        ensures named { (line : ℕ) → is_mapped self.new.memory line ≡ is_mapped self.old.memory line }
+        ensures named { (line : ℕ) → is_mapped self.new.memory line
+            ≡ is_mapped self.old.memory line }
         ensures rest { self.new ≡ record self.old {
           agents = self.new.agents;
           memory = self.new.memory;

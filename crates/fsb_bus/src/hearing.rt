@@ -32,7 +32,8 @@ impl Bus {
         ensures entries { log.new.entries ≡ log.old.entries
             ++ heard_entries (bus_view self.old) clock decided.now phased.now }
         ensures room { HasLogRoom self.new.agents.items log.new }
-        ensures named { (line : ℕ) → is_mapped self.new.memory line ≡ is_mapped self.old.memory line }
+        ensures named { (line : ℕ) → is_mapped self.new.memory line
+            ≡ is_mapped self.old.memory line }
         ensures started { vec_capacity self.new.started ≡ vec_capacity self.old.started }
         ensures queue { self.new.queue ≡ self.old.queue }
         ensures phases { self.new.phases ≡ self.old.phases }
@@ -121,7 +122,8 @@ impl Bus {
         ensures entries { log.new.entries ≡ log.old.entries
             ++ option_map_or (end_entries (bus_view self.old) clock) ending.now [] }
         ensures room { HasLogRoom self.new.agents.items log.new }
-        ensures named { (line : ℕ) → is_mapped self.new.memory line ≡ is_mapped self.old.memory line }
+        ensures named { (line : ℕ) → is_mapped self.new.memory line
+            ≡ is_mapped self.old.memory line }
         ensures rest { self.new ≡ record self.old {
           agents = self.new.agents;
           memory = self.new.memory;

@@ -1,8 +1,8 @@
 //! An agent's cache: the lines that it has, each with its state and its 32 bytes, at most one line a
 //! set.
 //!
-//! A line's set is its number modulo the number of sets, which is a power of two, so an access is
-//! one index away. Contracts see a [`Cache`] as the list of its sets, each with the line that it
+//! A line's set is its number modulo the number of sets, which is a power of two, so the code finds
+//! it by one index (no contract says so). Contracts see a [`Cache`] as the list of its sets, each with the line that it
 //! has, if it has one, and speak of the map that the sets make: `states` and `copies` give the state
 //! and the bytes of each line (`specs/Sets.antt`). A call that writes says what both are of every
 //! line afterwards. Numbers in a line have the lowest byte first (`specs/LineValues.antt`); they are

@@ -1,5 +1,5 @@
 //! The kinds of hazard objects that the bench has.
-ghost use Rattle.std.specs.Prelude.{◌≡◌, [], Some, true, false};
+ghost use Rattle.std.specs.Prelude.{◌≡◌, [], Some, IsOk, true, false};
 ghost use Rattle.fsb_hazard.specs.Told.{by_lines, by_seed};
 
 use crate::choice::{Ask, Choice, quiet_choice};
@@ -100,7 +100,10 @@ impl Hazard for SeedHazard {
 
     ghost is_scripted = { λ _. false };
 
-    fn load(&mut self, _lines: &[HazardLine]) -> Result<(), Memory> {
+    /// It takes no memory.
+    fn load(&mut self, _lines: &[HazardLine]) -> Result<(), Memory>
+        ensures ok { IsOk result }
+    {
         Ok(())
     }
 
@@ -125,7 +128,10 @@ impl Hazard for QuietHazard {
 
     ghost is_scripted = { λ _. false };
 
-    fn load(&mut self, _lines: &[HazardLine]) -> Result<(), Memory> {
+    /// It takes no memory.
+    fn load(&mut self, _lines: &[HazardLine]) -> Result<(), Memory>
+        ensures ok { IsOk result }
+    {
         Ok(())
     }
 

@@ -110,7 +110,8 @@ impl Heads {
 
     /// How many chunks came before the sample of the next clock of the data that are on the way with it.
     fn chunks_before(&self, sample: &Sample, moves: bool) -> Option<u8>
-        ensures { result ≡ (if responds sample.now then (if moves then Some 0 else None) else self.now.chunks) }
+        ensures { result
+            ≡ (if responds sample.now then (if moves then Some 0 else None) else self.now.chunks) }
     {
         if !responds(sample) {
             self.chunks

@@ -1,6 +1,7 @@
 //! A simulated run breaks no phase rule: laws over the definitions, and no code.
 //!
-//! `specs/` says what it is that a trace keeps a rule; `proofs/` has for each rule why a timely run keeps it. A rule is
+//! `specs/` says what it is that a trace keeps a rule; `proofs/` has for each rule why a timely run keeps it: rule 12
+//! where who writes a line back has it alone (`WritesBackAlone`), which fsb_tied proves of each run. A rule is
 //! judged over the samples up to its clock alone, and so is each part of what a timely run is; docs/phase-rules.md tells
 //! beside each rule on which of these parts it rests.
 #![tactic(auto)]

@@ -19,7 +19,8 @@ impl Model for LineBuffers {
 
     ghost Value = { Buffered };
 
-    ghost view = { λ buffers. record { fills = buffers.fills.items; pushes = buffers.pushes.items } };
+    ghost view = { λ buffers.
+        record { fills = buffers.fills.items; pushes = buffers.pushes.items } };
 
     ghost invariant = { λ buffers. OneALine buffers.fills.items };
 }

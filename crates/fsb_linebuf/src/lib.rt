@@ -6,8 +6,8 @@
 //! the agent owes to a transaction: its number and the bytes of the line.
 //!
 //! Contracts see a [`LineBuffers`] as two lists, in the order in which their entries came
-//! (`specs/Buffers.antt`). There are never more than four fills, two of them on one line, or more
-//! than eight pushes: [`LineBuffers::fills`] and [`LineBuffers::pushes`] promise it of every value.
+//! (`specs/Buffers.antt`). There are at most four fills, no two of them on one line, and at most
+//! eight pushes: [`LineBuffers::fills`] and [`LineBuffers::pushes`] promise it of every value.
 //! No call takes memory.
 #![tactic(auto)]
 

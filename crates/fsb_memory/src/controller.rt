@@ -100,7 +100,7 @@ impl Controller {
     }
 
     /// Puts the first bytes, those up to the end of the first one's line, and answers how many they are. The line is
-    /// looked up once for all of them.
+    /// read once and put back once for all of them.
     fn set(&mut self, addr: u64, bytes: &[u8]) -> Result<usize, Memory>
         requires any { 0 < length bytes.now }
         requires below { addr + length bytes.now ≤ 2 ^ 64 }

@@ -81,8 +81,8 @@ pub fn is_busy(e: &Entry, c: u32, answered: Option<u32>) -> bool
 
 /// The chunk that is due at `c` of an entry that is answered at this clock.
 fn due_chunk(e: &Entry, c: u32, answered: Option<u32>) -> Option<u8>
-    ensures { result
-        ≡ (if is_moving e.now then option_and_then (chunk_from e.now.choice.gap c) answered else None) }
+    ensures { result ≡ (if is_moving e.now
+        then option_and_then (chunk_from e.now.choice.gap c) answered else None) }
 {
     match answered {
         Some(r) if is_moving(e) => chunk_from(e.choice.gap, c, r),
@@ -92,8 +92,8 @@ fn due_chunk(e: &Entry, c: u32, answered: Option<u32>) -> Option<u8>
 
 /// That chunk, with the entry's number.
 pub fn chunk_due(e: &Entry, c: u32, answered: Option<u32>) -> Option<(u32, u8)>
-    ensures { result ≡ option_map (λ n. (e.now.number, n))
-        (if is_moving e.now then option_and_then (chunk_from e.now.choice.gap c) answered else None) }
+    ensures { result ≡ option_map (λ n. (e.now.number, n)) (if is_moving e.now
+        then option_and_then (chunk_from e.now.choice.gap c) answered else None) }
 {
     match due_chunk(e, c, answered) {
         Some(n) => Some((e.number, n)),
@@ -116,7 +116,8 @@ pub fn has_data(entry: Option<Entry>) -> bool
 /// clocks later where its snoop ends now.
 pub fn answer_after(settled: Option<u64>, now: u32, ends: bool, entry: Option<Entry>) -> Option<u64>
     ensures { result ≡ option_and_then
-        (λ e. if is_some e.outcome then settled else (if ends then Some (now + 2) else None)) entry }
+        (λ e. if is_some e.outcome then settled else (if ends then Some (now + 2) else None))
+        entry }
 {
     match entry {
         Some(e) if e.outcome.is_some() => settled,

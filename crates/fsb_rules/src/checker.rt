@@ -329,7 +329,8 @@ impl Checker {
     /// Rule 3, lawful codes, of the request whose second clock the sample is.
     #[tactic(auto, using(crate::proofs::StartRules::unlawful), unfolding(fsb_trace::specs::Rules::is_code_unlawful))]
     fn is_code_unlawful(&self, begun: &Option<LiveRequest>) -> bool
-        ensures { (h : Trace) (x : Sample) → Follows self.now h → begun.now ≡ begun_at (h ++ x ∷ []) (length h) →
+        ensures { (h : Trace) (x : Sample) → Follows self.now h →
+            begun.now ≡ begun_at (h ++ x ∷ []) (length h) →
             result ≡ is_code_unlawful (h ++ x ∷ []) (length h) }
     {
         self.recent.one_back(Lines::ADS) && begun.is_none()
@@ -355,7 +356,8 @@ impl Checker {
 
     /// Rule 7, request identity, of the request whose second clock the sample is, where it is lawful.
     fn is_identity_wrong(&self, begun: &Option<LiveRequest>) -> bool
-        ensures { (h : Trace) (x : Sample) → Follows self.now h → begun.now ≡ begun_at (h ++ x ∷ []) (length h) →
+        ensures { (h : Trace) (x : Sample) → Follows self.now h →
+            begun.now ≡ begun_at (h ++ x ∷ []) (length h) →
             is_code_unlawful (h ++ x ∷ []) (length h) ≡ false →
             result ≡ is_identity_wrong (h ++ x ∷ []) (length h) }
     {

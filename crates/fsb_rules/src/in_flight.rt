@@ -320,7 +320,8 @@ impl InFlight {
 
     /// Whether data are on the way at this clock, with which data begin to move or do not.
     fn is_moving(&self, sample: &Sample, begins: bool) -> bool
-        ensures { (h : Trace) (n : ℕ) → InTime self.now n sample.now h → MovesWith sample.now begins h →
+        ensures { (h : Trace) (n : ℕ) → InTime self.now n sample.now h →
+            MovesWith sample.now begins h →
             result ≡ is_transferring (h ++ sample.now ∷ []) (length h) }
     {
         if responds(sample) {
@@ -333,7 +334,8 @@ impl InFlight {
     /// Whether data are on the way after this clock.
     #[tactic(auto, using(crate::proofs::QueueRules::moving_after))]
     fn goes_on(&self, sample: &Sample, begins: bool) -> bool
-        ensures { (h : Trace) (n : ℕ) → InTime self.now n sample.now h → MovesWith sample.now begins h →
+        ensures { (h : Trace) (n : ℕ) → InTime self.now n sample.now h →
+            MovesWith sample.now begins h →
             result ≡ is_transferring (h ++ sample.now ∷ []) (length h + 1) }
     {
         self.heads.chunks_with(sample, begins).is_some()
@@ -341,7 +343,8 @@ impl InFlight {
 
     /// Whether a chunk comes with the sample, and no data are on the way.
     fn is_chunk_alone(&self, sample: &Sample, begins: bool) -> bool
-        ensures { (h : Trace) (n : ℕ) → InTime self.now n sample.now h → MovesWith sample.now begins h →
+        ensures { (h : Trace) (n : ℕ) → InTime self.now n sample.now h →
+            MovesWith sample.now begins h →
             result ≡ (has_line sample.now DRDY
             && not (is_transferring (h ++ sample.now ∷ []) (length h))) }
     {

@@ -241,7 +241,8 @@ impl Open {
     /// Makes it what is left of it after what happens, and tells whether something is.
     fn keep(&mut self, happened: &Happened) -> bool
         ensures { (h : Trace) (x : Sample) (v : Trace) → Happens h x v happened.now →
-            kept_at h self.old.clock ≡ Some self.old → (if result then Some self.new else None) ≡ left_in v self.old }
+            kept_at h self.old.clock ≡ Some self.old →
+            (if result then Some self.new else None) ≡ left_in v self.old }
     {
         match self.after(happened) {
             Some(left) => {
@@ -313,7 +314,8 @@ impl Outstanding {
     /// Lets what happens pass over those that are outstanding; at most clocks nothing does.
     fn pass(&mut self, happened: &Happened)
         ensures current { (h : Trace) (x : Sample) (v : Trace) → Happens h x v happened.now →
-            AreKept h self.old.current.items → self.new.current.items ≡ filter_map (left_in v) self.old.current.items }
+            AreKept h self.old.current.items →
+            self.new.current.items ≡ filter_map (left_in v) self.old.current.items }
         ensures before { self.new.before.items ≡ self.old.before.items }
     {
         if !happened.is_quiet() {
@@ -335,8 +337,8 @@ impl Outstanding {
     /// Takes what happens with a sample, with which a request begins or does not.
     pub fn absorb(&mut self, happened: &Happened, begins: bool)
         requires { (h : Trace) × (x : Sample) × Takes self.old h x happened.now }
-        ensures { (h : Trace) (x : Sample) → Takes self.old h x happened.now → begins ≡ has_line x ADS →
-            OutstandingStands self.new (h ++ x ∷ []) }
+        ensures { (h : Trace) (x : Sample) → Takes self.old h x happened.now →
+            begins ≡ has_line x ADS → OutstandingStands self.new (h ++ x ∷ []) }
     {
         self.remember(begins);
         self.pass(happened);

@@ -25,7 +25,8 @@ pub struct Recent {
 /// Whether the line is among the lines of a clock.
 fn is_among(lines: Lines, line: Lines) -> bool
     requires { 0 < line.0 }
-    ensures { (h : Trace) (d : ℕ) → lines ≡ asserted_back h d → result ≡ line_back line h (length h) d }
+    ensures { (h : Trace) (d : ℕ) → lines ≡ asserted_back h d →
+        result ≡ line_back line h (length h) d }
 {
     lines.contains(line)
 }
@@ -85,7 +86,8 @@ impl Recent {
 
     /// Takes the sample of the next clock; its words where a request begins with it.
     pub fn absorb(&mut self, sample: &Sample)
-        ensures { (h : Trace) → RecentStands self.old h → RecentStands self.new (h ++ sample.now ∷ []) }
+        ensures { (h : Trace) → RecentStands self.old h →
+            RecentStands self.new (h ++ sample.now ∷ []) }
     {
         self.third = self.second;
         self.second = self.first;
