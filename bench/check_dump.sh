@@ -3,12 +3,8 @@
 # over with rising time stamps, through the built program (crates/p6bench/out/p6bench, made by `rt run` or `rt ci`).
 # Usage: bench/check_dump.sh [PROGRAM [MEGABYTES]]
 set -eu
-program=$(realpath -- "${1:-$(dirname "$0")/../crates/p6bench/out/p6bench}")
-cd "$(dirname "$0")/.."
-[ -x "$program" ] || { echo "no program at $program: build it by 'rt run' in crates/p6bench" >&2; exit 2; }
+. "$(dirname "$0")/program.sh"
 megabytes=${2:-200}
-folder=$(mktemp -d)
-trap 'rm -rf "$folder"' EXIT
 python3 - "$program" "$folder" "$megabytes" <<'PY'
 import os, subprocess, sys, time
 sys.path.insert(0, "bench")

@@ -35,5 +35,5 @@ for _ in range(5):
     done = subprocess.run([program, "check", many], stdout=subprocess.PIPE)
     times.append(time.perf_counter() - begin)
     assert done.returncode == 0 and done.stdout == b"accepted clocks=29000\n", done
-row(f"judging a dump of {count + 20} variables ({os.path.getsize(many) / 1e6:.0f} MB)", f"{1000 * min(times):.0f} ms", most_memory([program, "check", many]), "500 ms, 50 MB")
+row(f"judging a dump of {count + 20} variables ({os.path.getsize(many) / 1e6:.0f} MB)", f"{1000 * min(times):.0f} ms", most_memory([program, "check", many]), "500 ms, 50 MiB")
 PY

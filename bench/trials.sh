@@ -6,9 +6,14 @@ set -eu
 program=$(realpath -- "${1:-$(dirname "$0")/../crates/rows_trials/out/rows_trials}")
 cd "$(dirname "$0")/.."
 [ -x "$program" ] || { echo "no program at $program: build it by 'rt run' in crates/rows_trials" >&2; exit 2; }
-"$program" 1 0 crates/rows_trials/data/*.vcd | tr '\n' ' '
-echo
-for seed in $(seq 1 "${2:-10}"); do
-    "$program" "$seed" 20000 | tr '\n' ' '
+# Prints what a call of the program says in one line. It ends this script with 1 where the call fails, or judged one waveform differently.
+judged() {
+    said=$("$program" "$@") || { echo "the program ended with status $?" >&2; exit 1; }
+    echo "$said" | tr '\n' ' '
     echo
+    case "$said" in *"judged, "[1-9]*) exit 1 ;; *"judged, 0 of them differently"*) ;; *) exit 1 ;; esac
+}
+judged 1 0 crates/rows_trials/data/*.vcd
+for seed in $(seq 1 "${2:-10}"); do
+    judged "$seed" 20000
 done
