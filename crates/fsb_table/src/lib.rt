@@ -2,8 +2,8 @@
 //! response, its end and its outcome.
 //!
 //! `rows_of` says the table by the definitions of a trace, each number by itself and from the whole
-//! trace. [`table`] goes through the trace once: what it looks for next it looks for from where it
-//! found the last.
+//! trace. By its code, though by no contract, [`table`] goes through the trace once: what it looks
+//! for next it looks for from where it found the last.
 #![tactic(auto)]
 
 pub use one_pass::table;
