@@ -103,6 +103,7 @@ impl Hazard for SeedHazard {
     /// It takes no memory.
     fn load(&mut self, _lines: &[HazardLine]) -> Result<(), Memory>
         ensures ok { IsOk result }
+        ensures stays { self.new ≡ self.old }
     {
         Ok(())
     }
@@ -131,6 +132,7 @@ impl Hazard for QuietHazard {
     /// It takes no memory.
     fn load(&mut self, _lines: &[HazardLine]) -> Result<(), Memory>
         ensures ok { IsOk result }
+        ensures stays { self.new ≡ self.old }
     {
         Ok(())
     }
