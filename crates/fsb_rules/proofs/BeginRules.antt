@@ -279,7 +279,7 @@ module _ {u v : Trace} (b : BeginsAfter u v) (decoded : Decoded v) (identified :
 -- 18 deferred IDs and outstanding requests, of a request that was begun
 pub wrong_begun : {kept : Outstanding} {h : Trace} {x : Sample} {a : LiveRequest} → WasBegun kept h x a
     → is_begun_wrongly (h ++ x ∷ []) (length h - 1)
-    ≡ cond a.is_reply
+    ≡ cond (is_reply_kind a.kind)
     (not (list_any (λ o. nat_eq o.did a.did && is_some o.deferred && is_none o.reply) kept.before.items))
     (list_any (λ o. nat_eq o.did a.did) kept.before.items
     || nat_le 4 (count_by (λ o. nat_eq (o.did / 16) (a.did / 16)) kept.before.items))

@@ -325,7 +325,7 @@ module _ {h : Trace} {x : Sample} {v : Trace} {w : Happened} (g : Happens h x v 
           → request_at v (length h - 1) ≡ m
           → is_live_reply_to v number (length h - 1)
           ≡ is_some_and (cond b (option_map (live_from (length h - 1)) m) None)
-          (λ a. a.is_reply && is_before o.deferred a.clock && nat_eq o.did a.did)
+          (λ a. is_reply_kind a.kind && is_before o.deferred a.clock && nat_eq o.did a.did)
       unfolding is_live_reply_to is_live is_reply_to is_reply have_same_id is_some_and live_from
       replied_cases false m f e = rw f refl
       replied_cases true None f e = rw (f, e) (grind arith)
@@ -340,18 +340,18 @@ module _ {h : Trace} {x : Sample} {v : Trace} {w : Happened} (g : Happens h x v 
           (is_cancelled-late v (length h - 1) (omega arith)))
 
       pub replied_is : is_live_reply_to v number (length h - 1)
-          ≡ is_some_and w.begun (λ a. a.is_reply && is_before o.deferred a.clock && nat_eq o.did a.did)
+          ≡ is_some_and w.begun (λ a. is_reply_kind a.kind && is_before o.deferred a.clock && nat_eq o.did a.did)
       unfolding begun_at line_back
       replied_is =
           let early = is.early in
           replied_cases (nat_le 1 (length h) && line_at ADS v (length h - 1)) (request_at v (length h - 1))
           (sym (rw (le-leb 1 (length h) (omega arith)) refl)) refl
-          ∙ ap (λ m. is_some_and m (λ a. a.is_reply && is_before o.deferred a.clock && nat_eq o.did a.did))
+          ∙ ap (λ m. is_some_and m (λ a. is_reply_kind a.kind && is_before o.deferred a.clock && nat_eq o.did a.did))
           (sym g.begun)
 
     -- where nothing is cancelled or ends and no reply is begun, it stays
     module _ (cancelled : w.cancelled ≡ None) (ended : w.ended ≡ None)
-        (begun : is_some_and w.begun (λ a. a.is_reply) ≡ false) where
+        (begun : is_some_and w.begun (λ a. is_reply_kind a.kind) ≡ false) where
       none_is : (q : ℕ) → cancels x (length h) q ≡ false
       none_is q = sym (g.cancelled q) ∙ is_at-off w.cancelled q cancelled
 
@@ -364,11 +364,11 @@ module _ {h : Trace} {x : Sample} {v : Trace} {w : Happened} (g : Happens h x v 
       no_reply_end None = refl
       no_reply_end (Some q) = no_end q
 
-      no_reply_begun : (b : Option LiveRequest) → is_some_and b (λ a. a.is_reply) ≡ false
-          → is_some_and b (λ a. a.is_reply && is_before o.deferred a.clock && nat_eq o.did a.did) ≡ false
+      no_reply_begun : (b : Option LiveRequest) → is_some_and b (λ a. is_reply_kind a.kind) ≡ false
+          → is_some_and b (λ a. is_reply_kind a.kind && is_before o.deferred a.clock && nat_eq o.did a.did) ≡ false
       unfolding is_some_and
       no_reply_begun None f = refl
-      no_reply_begun (Some a) f = let other : a.is_reply ≡ false = f in rw other refl
+      no_reply_begun (Some a) f = let other : is_reply_kind a.kind ≡ false = f in rw other refl
 
       reply_stays : (t : is_some o.deferred ≡ true) (old : Option ℕ) → o.reply ≡ old
           → reply_clock_of v number ≡ old

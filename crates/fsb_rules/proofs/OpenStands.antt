@@ -93,7 +93,7 @@ module _ {h : Trace} {x : Sample} {v : Trace} {w : Happened} (g : Happens h x v 
       ∙ ap (λ o. Some o) (open_plain v (live_number_of v m) m r f.0)
 
   pub some_opened : (a : LiveRequest) → w.begun ≡ Some a
-      → kept_at v (length h - 1) ≡ cond a.is_reply None (Some (plain_open a.clock a.did))
+      → kept_at v (length h - 1) ≡ cond (is_reply_kind a.kind) None (Some (plain_open a.clock a.did))
   unfolding live_from is_live line_back
   some_opened a e =
       let size = g.more.size in

@@ -1,25 +1,22 @@
 -- What is kept of a live request.
-use Rattle.std.specs.Prelude.{◌≡◌, ℕ, Some}
+use Rattle.std.specs.Prelude.{◌≡◌, ℕ, false, Some}
 use Rattle.fsb_signal.specs.declared.lines.TheConstants.Lines.{HITM, DEFER}
 use Rattle.fsb_signal.specs.Samples.{line_at}
+use Rattle.fsb_encode.specs.declared.request.Kind.TheVariants.{Reply}
 use Rattle.fsb_encode.specs.declared.request.Request.{Request}
 use Rattle.fsb_trace.specs.At.{Trace, request_at}
-use Rattle.fsb_trace.specs.Requests.{live_clock_of, is_reply_kind, is_write_back_kind, is_upgrade_kind}
+use Rattle.fsb_trace.specs.Requests.{live_clock_of}
 use Rattle.fsb_trace.specs.Snoop.{snoop_end_of}
 use Rattle.fsb_rules.specs.declared.live.LiveRequest.{LiveRequest}
 use Rattle.fsb_rules.specs.declared.live.Snooped.{Snooped}
 
+-- what stands in a place of a list that none is kept in
+abbrev pub no_request : LiveRequest
+no_request = record { clock = 0; kind = Reply; did = 0; den = false }
+
 -- the request that begins at q
 unfoldable pub live_from : ℕ → Request → LiveRequest
-live_from q r =
-    record {
-      clock = q;
-      did = r.did;
-      den = r.den;
-      is_reply = is_reply_kind r.kind;
-      is_write_back = is_write_back_kind r.kind;
-      is_upgrade = is_upgrade_kind r.kind;
-    }
+live_from q r = record { clock = q; kind = r.kind; did = r.did; den = r.den }
 
 -- a is what is kept of live request i, which is decoded
 pub record IsLive (h : Trace) (i : ℕ) (a : LiveRequest) : Type 0 where

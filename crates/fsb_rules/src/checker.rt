@@ -66,7 +66,7 @@ fn is_identified(beginner: Option<Who>, request: &LiveRequest) -> bool
     ensures { (q : ℕ) (r : Request) → request.now ≡ live_from q r →
         result ≡ is_identified beginner (Some r) }
 {
-    if request.is_reply {
+    if request.is_reply() {
         is_agent(beginner, Who::Priority)
     } else {
         is_own_agent(beginner, request.did / 16)

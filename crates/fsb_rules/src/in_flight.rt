@@ -97,9 +97,9 @@ fn is_unfit(request: &LiveRequest, sample: &Sample) -> bool
     ensures { (v : Trace) (c i : ℕ) → IsLive v i request.now → snoop_end_of v i ≡ Some c →
         slice_get v c ≡ Some sample.now → result ≡ is_result_unfit_for v c i }
 {
-    (request.is_write_back || request.is_reply)
+    (request.is_write_back() || request.is_reply())
         && (sample.has(Lines::HITM) || sample.has(Lines::DEFER))
-        || request.is_write_back && sample.has(Lines::HIT)
+        || request.is_write_back() && sample.has(Lines::HIT)
 }
 
 /// How a request ends that responds with this code, if it ends at once.

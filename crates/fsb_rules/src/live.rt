@@ -2,30 +2,38 @@
 
 ghost use Rattle.std.specs.Prelude.{◌≡◌, ℕ};
 ghost use Rattle.fsb_trace.specs.At.{Trace};
-ghost use Rattle.fsb_trace.specs.Requests.{live_request_of};
+ghost use Rattle.fsb_trace.specs.Requests.{live_request_of, is_reply_kind, is_write_back_kind, is_upgrade_kind};
 ghost use Rattle.fsb_trace.specs.Outcome.{told_by, outcome_by_kind};
 ghost use Rattle.fsb_trace.specs.Response.{takes};
 ghost use Rattle.fsb_trace.specs.Rules.{is_code_for};
-ghost use Rattle.fsb_rules.specs.Live.{live_from, IsLive, IsSnooped};
+ghost use Rattle.fsb_rules.specs.Live.{no_request, live_from, IsLive, IsSnooped};
 
 use fsb_encode::{Kind, Request};
 use fsb_trace::{Outcome, code_of};
 
 /// A live request, from its second clock on.
-#[derive(Clone, Copy, Default, Debug, PartialEq, Eq)]
+#[derive(Clone, Copy, Debug, PartialEq, Eq)]
 pub struct LiveRequest {
     /// Its first clock.
     pub clock: u32,
+    pub kind: Kind,
     /// Its deferred ID.
     pub did: u8,
     /// Whether DEN# was asserted with it.
     pub den: bool,
-    /// Whether it is a reply.
-    pub is_reply: bool,
-    /// Whether it is a write-back.
-    pub is_write_back: bool,
-    /// Whether it is an upgrade.
-    pub is_upgrade: bool,
+}
+
+impl Default for LiveRequest {
+    ghost is_default = { λ request. request ≡ no_request };
+
+    fn default() -> Self {
+        LiveRequest {
+            clock: 0,
+            kind: Kind::Reply,
+            did: 0,
+            den: false,
+        }
+    }
 }
 
 /// A live request that has its snoop end and waits for its response.
@@ -49,41 +57,63 @@ pub struct Ended {
 }
 
 /// The request that begins at this clock.
-#[tactic(auto, unfolding(crate::specs::Live::live_from, fsb_trace::specs::Requests::is_reply_kind, fsb_trace::specs::Requests::is_write_back_kind, fsb_trace::specs::Requests::is_upgrade_kind))]
+#[tactic(auto, unfolding(crate::specs::Live::live_from))]
 pub fn live_of(clock: u32, request: &Request) -> LiveRequest
     ensures { result ≡ live_from clock request.now }
 {
-    let (is_reply, is_write_back, is_upgrade) = match request.kind {
-        Kind::Reply => (true, false, false),
-        Kind::WriteBack => (false, true, false),
-        Kind::Upgrade => (false, false, true),
-        Kind::Read | Kind::Invalidate => (false, false, false),
-    };
     LiveRequest {
         clock,
+        kind: request.kind,
         did: request.did,
         den: request.den,
-        is_reply,
-        is_write_back,
-        is_upgrade,
     }
 }
 
 impl LiveRequest {
+    /// Whether it is a reply.
+    #[tactic(auto, unfolding(fsb_trace::specs::Requests::is_reply_kind))]
+    pub fn is_reply(&self) -> bool
+        ensures { result ≡ is_reply_kind self.now.kind }
+    {
+        match self.kind {
+            Kind::Reply => true,
+            Kind::Read | Kind::Invalidate | Kind::WriteBack | Kind::Upgrade => false,
+        }
+    }
+
+    /// Whether it is a write-back.
+    #[tactic(auto, unfolding(fsb_trace::specs::Requests::is_write_back_kind))]
+    pub fn is_write_back(&self) -> bool
+        ensures { result ≡ is_write_back_kind self.now.kind }
+    {
+        match self.kind {
+            Kind::WriteBack => true,
+            Kind::Read | Kind::Invalidate | Kind::Reply | Kind::Upgrade => false,
+        }
+    }
+
+    /// Whether it is an upgrade.
+    #[tactic(auto, unfolding(fsb_trace::specs::Requests::is_upgrade_kind))]
+    fn is_upgrade(&self) -> bool
+        ensures { result ≡ is_upgrade_kind self.now.kind }
+    {
+        match self.kind {
+            Kind::Upgrade => true,
+            Kind::Read | Kind::Invalidate | Kind::Reply | Kind::WriteBack => false,
+        }
+    }
+
     /// Its outcome, where nothing hands it on, retries, defers or fails it.
-    #[tactic(auto, unfolding(crate::specs::Live::live_from, fsb_trace::specs::Requests::live_request_of, fsb_trace::specs::Outcome::outcome_by_kind, fsb_trace::specs::Requests::is_write_back_kind, fsb_trace::specs::Requests::is_upgrade_kind, fsb_trace::specs::Requests::is_reply_kind))]
+    #[tactic(auto, unfolding(crate::specs::Live::live_from, fsb_trace::specs::Requests::live_request_of, fsb_trace::specs::Outcome::outcome_by_kind))]
     fn outcome(&self) -> Outcome
         ensures { (h : Trace) (i : ℕ) → IsLive h i self.now →
             result ≡ outcome_by_kind (live_request_of h i) }
     {
-        if self.is_write_back {
-            Outcome::Written
-        } else if self.is_upgrade {
-            Outcome::Upgraded
-        } else if self.is_reply {
-            Outcome::Replied
-        } else {
-            Outcome::Granted
+        match self.kind {
+            Kind::WriteBack => Outcome::Written,
+            Kind::Upgrade => Outcome::Upgraded,
+            Kind::Reply => Outcome::Replied,
+            Kind::Read | Kind::Invalidate => Outcome::Granted,
         }
     }
 }
@@ -94,7 +124,7 @@ impl Snooped {
     pub fn takes(&self) -> bool
         ensures { (h : Trace) (i : ℕ) → IsSnooped h i self.now → result ≡ takes h i }
     {
-        self.request.is_write_back || self.hitm
+        self.request.is_write_back() || self.hitm
     }
 
     /// Whether the code, neither idle nor a hard failure, is the one for it.
@@ -104,12 +134,12 @@ impl Snooped {
     {
         if self.hitm {
             code == code_of(Outcome::Handed)
-        } else if self.request.is_write_back {
+        } else if self.request.is_write_back() {
             code == code_of(Outcome::Written)
         } else if self.defer {
             code == code_of(Outcome::Retried)
                 || self.request.den && code == code_of(Outcome::Deferred)
-        } else if self.request.is_upgrade {
+        } else if self.request.is_upgrade() {
             code == code_of(Outcome::Upgraded)
         } else {
             code == code_of(Outcome::Granted)

@@ -7,7 +7,7 @@ ghost use Rattle.fsb_signal.specs.declared.lines.TheConstants.Lines.{ADS};
 ghost use Rattle.fsb_signal.specs.declared.sample.Sample.{Sample};
 ghost use Rattle.fsb_signal.specs.Samples.{has_line};
 ghost use Rattle.fsb_trace.specs.At.{Trace};
-ghost use Rattle.fsb_trace.specs.Requests.{live_number_of};
+ghost use Rattle.fsb_trace.specs.Requests.{is_reply_kind, live_number_of};
 ghost use Rattle.fsb_trace.specs.Outcome.{is_deferred};
 ghost use Rattle.fsb_trace.specs.Flight.{reply_clock_of};
 ghost use Rattle.fsb_trace.specs.Rules.{is_begun_wrongly};
@@ -68,10 +68,10 @@ fn is_before(clock: Option<u32>, other: u32) -> bool
 /// Whether a reply is begun.
 #[tactic(auto, unfolding(fsb_count::specs::Options::is_some_and))]
 fn is_reply(begun: Option<LiveRequest>) -> bool
-    ensures { result ≡ is_some_and begun (λ a. a.is_reply) }
+    ensures { result ≡ is_some_and begun (λ a. is_reply_kind a.kind) }
 {
     match begun {
-        Some(request) => request.is_reply,
+        Some(request) => request.is_reply(),
         None => false,
     }
 }
@@ -80,7 +80,7 @@ impl Happened {
     /// Whether no request is cancelled or ends, and no reply is begun.
     fn is_quiet(&self) -> bool
         ensures { result ≡ (is_none self.now.cancelled && is_none self.now.ended
-            && not (is_some_and self.now.begun (λ a. a.is_reply))) }
+            && not (is_some_and self.now.begun (λ a. is_reply_kind a.kind))) }
     {
         self.cancelled.is_none() && self.ended.is_none() && !is_reply(self.begun)
     }
@@ -140,7 +140,7 @@ impl Happened {
     {
         match self.begun {
             Some(request) => {
-                if request.is_reply {
+                if request.is_reply() {
                     None
                 } else {
                     Some(Open {
@@ -161,11 +161,12 @@ impl Open {
     #[tactic(auto, unfolding(fsb_count::specs::Options::is_some_and))]
     fn is_replied(&self, happened: &Happened) -> bool
         ensures { result ≡ is_some_and happened.now.begun
-            (λ a. a.is_reply && is_before self.now.deferred a.clock && nat_eq self.now.did a.did) }
+            (λ a. is_reply_kind a.kind && is_before self.now.deferred a.clock
+            && nat_eq self.now.did a.did) }
     {
         match happened.begun {
             Some(request) => {
-                request.is_reply
+                request.is_reply()
                     && is_before(self.deferred, request.clock)
                     && self.did == request.did
             }
@@ -304,7 +305,7 @@ impl Outstanding {
             result ≡ is_begun_wrongly (h ++ x ∷ []) (length h - 1) }
     {
         let before = self.before.as_slice();
-        if request.is_reply {
+        if request.is_reply() {
             !is_awaited(before, request.did)
         } else {
             is_taken(before, request.did) || count_of(before, request.did / 16) >= 4
