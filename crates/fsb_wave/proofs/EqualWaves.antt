@@ -17,8 +17,9 @@ use Rattle.fsb_signal.specs.declared.sample.Sample.{Sample}
 use Rattle.fsb_signal.specs.Samples.{has_line, has_unknown, line_at}
 use Rattle.fsb_wave.specs.WaveText.{NamedLine, control_lines}
 use Rattle.fsb_wave.specs.WaveText.{Clocks, mark_of, mark_at, drawing, clock_count_text, requests, transfers, reached}
-use Rattle.fsb_wave.specs.WaveText.{lines_over, lines_behind}
+use Rattle.fsb_wave.specs.WaveText.{lines_over, lines_behind, wave_lines}
 use Rattle.fsb_wave.specs.Law.{EqualWaves, is_unknown_at}
+use Rattle.fsb_wave.proofs.EachLine.{same_lines, there}
 use Rattle.fsb_wave.proofs.Texts.{drawings-at, line-drawn, line-below, line-behind, line-last, length-lines}
 
 -- the last line
@@ -43,13 +44,17 @@ same_count m n a b e =
     let digits : decimal m ++ 10 ∷ [] ≡ decimal n ++ 10 ∷ [] = cc in
     decimal_injective m n a b (append_cancel_right (decimal m) (decimal n) (10 ∷ []) digits)
 
+-- the same lines
+pub lines : (v w : List Sample) (from to : ℕ) → EqualWaves v w from to → wave_lines v from to ≡ wave_lines w from to
+lines v w from to e = same_lines v w from to e.same
+
 -- as many samples
 pub number : (v w : List Sample) (from to : ℕ) → EqualWaves v w from to → length v ≡ length w
 number v w from to e =
     let a = last-line (slice_get v) from (reached from to (length v)) (length v) in
     let b = last-line (slice_get w) from (reached from to (length w)) (length w) in
     same_count (length v) (length w) e.short_v e.short_w
-    (same_some _ _ (sym a ∙ ap (λ xs. slice_get xs (length xs - 1)) e.same ∙ b))
+    (same_some _ _ (sym a ∙ ap (λ xs. slice_get xs (length xs - 1)) (lines v w from to e) ∙ b))
 
 -- a control line has a bit
 has_bit : NamedLine → Bool
@@ -126,7 +131,7 @@ marks v w from to c k named e low high within at =
     let a = line-drawn (slice_get v) from n (length v) k few ∙ drawings-at (slice_get v) from n k named at in
     let b = line-drawn (slice_get w) from m (length w) k few ∙ drawings-at (slice_get w) from m k named at in
     let text : drawing (slice_get v) from n named ≡ drawing (slice_get w) from m named =
-    same_some _ _ (sym a ∙ ap (λ xs. slice_get xs k) e.same ∙ b) in
+    same_some _ _ (sym a ∙ ap (λ xs. slice_get xs k) (lines v w from to e) ∙ b) in
     let place : from + (c - from) ≡ c = omega arith in
     ap (mark_at (slice_get v) named.line) (sym place)
     ∙ sym (mark-drawn (slice_get v) from n named (c - from) (omega arith))
@@ -148,12 +153,6 @@ unknown_at-is : (w : List Sample) (line : Lines) (c : ℕ) (s : Sample) → slic
     → is_unknown_at line w c ≡ has_unknown s line
 unfolding is_unknown_at
 unknown_at-is w line c s e = ap (λ o. option_map_or (λ s. has_unknown s line) o false) e
-
--- the sample of a clock that is reached
-there : (w : List Sample) (c : ℕ) → c < length w → (s : Sample) × (slice_get w c ≡ Some s)
-there [] c l = absurd (omega (arith, l))
-there (s ∷ w) zero l = (s, refl)
-there (s ∷ w) (suc c) l = there w c (omega (arith, l))
 
 -- a clock that both reach shows the same
 pub asserted : (v w : List Sample) (from to c k : ℕ) (named : NamedLine) → EqualWaves v w from to → from ≤ c

@@ -1,17 +1,17 @@
--- Two traces whose waves are equal.
+-- Two traces whose waves are the same text.
 use Rattle.std.specs.Prelude.{◌≡◌, ◌<◌, ◌^◌, ℕ, Bool, false, List, length, slice_get}
 use Rattle.std.specs.Option.{option_map_or}
 use Rattle.fsb_signal.specs.declared.lines.Lines.{Lines}
 use Rattle.fsb_signal.specs.declared.sample.Sample.{Sample}
 use Rattle.fsb_signal.specs.Samples.{has_unknown}
-use Rattle.fsb_wave.specs.WaveText.{wave_lines}
+use Rattle.fsb_wave.specs.WaveText.{wave_text}
 
 -- the line is unknown at clock c; past the end nothing is
 unfoldable pub is_unknown_at : Lines → List Sample → ℕ → Bool
 is_unknown_at line w c = option_map_or (λ s. has_unknown s line) (slice_get w c) false
 
--- the waves of two traces over one range are equal
+-- the waves of two traces over one range are the same text
 pub record EqualWaves (v w : List Sample) (from to : ℕ) : Type 0 where
   pub short_v : length v < 2 ^ 64
   pub short_w : length w < 2 ^ 64
-  pub same : wave_lines v from to ≡ wave_lines w from to
+  pub same : wave_text v from to ≡ wave_text w from to

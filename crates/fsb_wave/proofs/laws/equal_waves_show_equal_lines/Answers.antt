@@ -1,5 +1,8 @@
-use Rattle.fsb_wave.proofs.EqualWaves.{number, asserted, unknown}
+use Rattle.fsb_wave.proofs.EqualWaves.{lines, number, asserted, unknown}
 use Rattle.fsb_wave.proofs.laws.equal_waves_show_equal_lines.Goals as goal
+
+pub returns-clause-lines : goal.returns-clause-lines
+returns-clause-lines c = lines
 
 pub returns-clause-number : goal.returns-clause-number
 returns-clause-number c = number
