@@ -1,4 +1,5 @@
 ghost use Rattle.std.specs.Prelude.{◌≡◌, ◌≤◌, ◌<◌, ◌+◌, ◌^◌, ◌++◌, ◌∷◌, [], ℕ, List, Some, IfSome, length, option_map, slice_get};
+ghost use Rattle.std.specs.Option.{option_copied};
 ghost use Rattle.fsb_count.specs.Clocks.{count_where, nth_where};
 ghost use Rattle.fsb_signal.specs.declared.sample.Sample.{Sample};
 ghost use Rattle.fsb_wave.specs.WaveText.{wave_lines, lines_over, lines_below, lines_behind, requests, transfers, drawings, asserts_at, has_request, mark_at, text_at, request_text, data_text};
@@ -149,7 +150,7 @@ impl Wave {
         ensures { result ≡ mark_at (kept_at self.now) line (self.now.range.from + place) }
     {
         match self.sample_at(self.range.clock_of(place)) {
-            Some(sample) => mark_of(line, &sample),
+            Some(sample) => mark_of(line, sample),
             None => b'.',
         }
     }
@@ -193,7 +194,7 @@ impl Wave {
     {
         let clock = self.range.clock_of(place);
         match self.sample_at(clock) {
-            Some(sample) => request_line(clock, &sample),
+            Some(sample) => request_line(clock, sample),
             None => ArrayVec::new(),
         }
     }
@@ -239,7 +240,7 @@ impl Wave {
     {
         let clock = self.range.clock_of(place);
         match self.sample_at(clock) {
-            Some(sample) => data_line(clock, &sample),
+            Some(sample) => data_line(clock, sample),
             None => ArrayVec::new(),
         }
     }
@@ -275,11 +276,11 @@ impl Wave {
 
     // What is kept of a clock.
     #[tactic(auto, unfolding(crate::specs::Wave::kept_at))]
-    fn sample_at(&self, clock: u64) -> Option<Sample>
-        ensures { result ≡ kept_at self.now clock }
+    fn sample_at(&self, clock: u64) -> Option<&Sample>
+        ensures { option_copied result ≡ kept_at self.now clock }
     {
         let place = clock.saturating_sub(self.range.first_kept());
-        self.kept.get(place as usize).copied()
+        self.kept.get(place as usize)
     }
 
     // How many clocks of the range were fed.
