@@ -19,7 +19,7 @@ use Rattle.fsb_wave.specs.WaveText.{NamedLine, control_lines}
 use Rattle.fsb_wave.specs.WaveText.{Clocks, mark_of, mark_at, drawing, clock_count_text, requests, transfers, reached}
 use Rattle.fsb_wave.specs.WaveText.{lines_over, lines_behind, wave_lines}
 use Rattle.fsb_wave.specs.Law.{EqualWaves, is_unknown_at}
-use Rattle.fsb_wave.proofs.EachLine.{same_lines, there}
+use Rattle.fsb_wave.proofs.LinesOfText.{same_lines, there}
 use Rattle.fsb_wave.proofs.Texts.{drawings-at, line-drawn, line-below, line-behind, line-last, length-lines}
 
 -- the last line
@@ -35,7 +35,7 @@ last-line clocks from n all =
     ∙ line-behind clocks from n all (i - 21) (omega (arith, count))
     ∙ ap (slice_get (lines_behind clocks from n all)) place ∙ line-last clocks from n all
 
-same_some : {X : Type 0} (x y : X) → Some x ≡ Some y → x ≡ y
+pub same_some : {X : Type 0} (x y : X) → Some x ≡ Some y → x ≡ y
 same_some x y e = cc
 
 same_count : (m n : ℕ) → m < 2 ^ 64 → n < 2 ^ 64 → clock_count_text m ≡ clock_count_text n → m ≡ n

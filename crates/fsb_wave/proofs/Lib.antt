@@ -2,7 +2,8 @@ pub mod Lists
 pub mod Few
 pub mod Texts
 pub mod Kept
-pub mod Cut
-pub mod EachLine
+pub mod LineEnds
+pub mod LinesOfText
 pub mod EqualWaves
+pub mod EqualWords
 pub mod WorkedRows

@@ -1,10 +1,13 @@
 -- A text is cut at its separators: lines that are joined to equal texts are equal.
 use Rattle.std.proofs.Common.{◌≡◌, ◌≤◌, ◌+◌, ◌/◌, ◌%◌, ℕ, zero, suc, Bool, true, false, cond, List, [], ◌∷◌, ◌++◌}
-use Rattle.std.proofs.Common.{refl, sym, ap, append_assoc, ◌∙◌, arith}
+use Rattle.std.proofs.Common.{◌<◌, ◌^◌, not, length, take, drop, refl, sym, ap, append_assoc, ◌∙◌, arith}
 use Rattle.std.specs.Prelude.{◌==◌, nat_lt}
 use Rattle.std.specs.Fmt.{decimal, digits, digits_onto, digit_glyph}
 use Rattle.std.specs.List.{flat_map, list_all}
-use Rattle.std.proofs.lemmas.Bool.{and_from, and_parts, lt-ltb, ltb-true}
+use Rattle.std.specs.Str.Parse.{digits_value}
+use Rattle.std.proofs.Math.Seq.{take-append_seam, drop-append_seam}
+use Rattle.std.proofs.lemmas.Bool.{and_from, and_parts, lt-ltb, ltb-true, ltb-false, ne_eqb}
+use Rattle.std.proofs.lemmas.Fmt.{digits_is_IsNumeral}
 use Rattle.std.proofs.lemmas.List.Folds.{list_all-append}
 use Rattle.fsb_io.specs.NumberText.{hexadecimal}
 
@@ -77,34 +80,42 @@ joined_same (line ∷ v) (other ∷ w) p q e =
 
 -- ---- numbers
 
-glyph_above : (d : ℕ) → nat_lt 32 (digit_glyph false d) ≡ true
-glyph_above d = by (nat_lt d 10)
+-- every digit is a byte from `0` to `9`, or from `a` on
+glyph_passes : (p : ℕ → Bool) → ((d : ℕ) → d < 10 → p (48 + d) ≡ true) → ((d : ℕ) → 10 ≤ d → p (87 + d) ≡ true)
+    → (d : ℕ) → p (digit_glyph false d) ≡ true
+glyph_passes p low high d = by (nat_lt d 10) refl
   where
-    by : (t : Bool) → nat_lt 32 (cond t (48 + d) (87 + d)) ≡ true
-    by true = lt-ltb 32 (48 + d) (omega arith)
-    by false = lt-ltb 32 (87 + d) (omega arith)
+    by : (t : Bool) → nat_lt d 10 ≡ t → p (cond t (48 + d) (87 + d)) ≡ true
+    by true e = low d (ltb-true d 10 e)
+    by false e = high d (ltb-false d 10 e)
 
-either_above : (t : Bool) (a b : List ℕ) → are_above 32 a ≡ true → are_above 32 b ≡ true
-    → are_above 32 (cond t a b) ≡ true
-either_above true a b p q = p
-either_above false a b p q = q
+either_passes : (p : ℕ → Bool) (t : Bool) (a b : List ℕ) → list_all p a ≡ true → list_all p b ≡ true
+    → list_all p (cond t a b) ≡ true
+either_passes p true a b h k = h
+either_passes p false a b h k = k
 
-onto_above : (base k n : ℕ) (ds : List ℕ) → are_above 32 ds ≡ true → are_above 32 (digits_onto k base false n ds) ≡ true
-onto_above base zero n ds h = h
-onto_above base (suc k) n ds h =
+-- a test that every digit passes
+onto_passes : (p : ℕ → Bool) (base k n : ℕ) (ds : List ℕ) → ((d : ℕ) → p (digit_glyph false d) ≡ true)
+    → list_all p ds ≡ true → list_all p (digits_onto k base false n ds) ≡ true
+onto_passes p base zero n ds each h = h
+onto_passes p base (suc k) n ds each h =
     let digit = digit_glyph false (n % base) in
-    let more : are_above 32 (digit ∷ ds) ≡ true = and_from _ _ (glyph_above (n % base)) h in
-    either_above (n / base == 0) (digit ∷ ds) (digits_onto k base false (n / base) (digit ∷ ds)) more
-    (onto_above base k (n / base) (digit ∷ ds) more)
+    let more : list_all p (digit ∷ ds) ≡ true = and_from _ _ (each (n % base)) h in
+    either_passes p (n / base == 0) (digit ∷ ds) (digits_onto k base false (n / base) (digit ∷ ds)) more
+    (onto_passes p base k (n / base) (digit ∷ ds) each more)
+
+glyph_above : (d : ℕ) → nat_lt 32 (digit_glyph false d) ≡ true
+glyph_above = glyph_passes (nat_lt 32) (λ d l. lt-ltb 32 (48 + d) (omega arith))
+    (λ d l. lt-ltb 32 (87 + d) (omega arith))
 
 -- the digits of a number are above the space
 pub decimal_above : (n : ℕ) → are_above 32 (decimal n) ≡ true
 unfolding digits
-decimal_above n = onto_above 10 64 n [] refl
+decimal_above n = onto_passes (nat_lt 32) 10 64 n [] glyph_above refl
 
 pub hexadecimal_above : (n : ℕ) → are_above 32 (hexadecimal n) ≡ true
 unfolding digits
-hexadecimal_above n = onto_above 16 64 n [] refl
+hexadecimal_above n = onto_passes (nat_lt 32) 16 64 n [] glyph_above refl
 
 -- what is above the space is of a line
 pub above_more : (bytes : List ℕ) → are_above 32 bytes ≡ true → are_above 31 bytes ≡ true
@@ -112,3 +123,34 @@ above_more [] h = refl
 above_more (b ∷ bytes) h =
     let parts = and_parts (nat_lt 32 b) (are_above 32 bytes) h in
     and_from _ _ (lt-ltb 31 b (omega (arith, ltb-true 32 b parts.0))) (above_more bytes parts.1)
+
+-- no digit is a question mark
+is_no_question : ℕ → Bool
+is_no_question b = not (b == 63)
+
+no_question : (d : ℕ) → is_no_question (digit_glyph false d) ≡ true
+unfolding is_no_question
+no_question = glyph_passes is_no_question (λ d l. ap not (ne_eqb (48 + d) 63 (λ e. omega (arith, l, e))))
+    (λ d l. ap not (ne_eqb (87 + d) 63 (λ e. omega (arith, l, e))))
+
+pub hexadecimal_known : (n : ℕ) → hexadecimal n ≡ 63 ∷ [] → ⊥
+unfolding digits is_no_question
+hexadecimal_known n e =
+    let no : list_all is_no_question (63 ∷ []) ≡ true =
+    ap (list_all is_no_question) (sym e) ∙ onto_passes is_no_question 16 64 n [] no_question refl in
+    cc
+
+-- numbers of the same text are the same
+pub hexadecimal_same : (m n : ℕ) → m < 2 ^ 64 → n < 2 ^ 64 → hexadecimal m ≡ hexadecimal n → m ≡ n
+hexadecimal_same m n a b e =
+    sym (digits_is_IsNumeral 16 false (omega arith) (omega arith) m (omega (arith, a))).1 ∙ ap (digits_value 16) e
+    ∙ (digits_is_IsNumeral 16 false (omega arith) (omega arith) n (omega (arith, b))).1
+
+-- ---- lists
+
+-- two lists that are equal, and cut at the same place
+pub parts_same : {X : Type 0} (a b x y : List X) → length a ≡ length b → a ++ x ≡ b ++ y → (a ≡ b) × (x ≡ y)
+parts_same a b x y long e = (
+  sym (take-append_seam a x) ∙ ap (take (length a)) e ∙ ap (λ n. take n (b ++ y)) long ∙ take-append_seam b y,
+  sym (drop-append_seam a x) ∙ ap (drop (length a)) e ∙ ap (λ n. drop n (b ++ y)) long ∙ drop-append_seam b y,
+)

@@ -15,8 +15,8 @@ use Rattle.fsb_wave.specs.WaveText.{NamedLine, control_lines}
 use Rattle.fsb_wave.specs.WaveText.{Clocks, mark_of, mark_at, drawing, known_text, request_text}
 use Rattle.fsb_wave.specs.WaveText.{data_text, clock_count_text, text_at, drawings, texts_where, lines_behind}
 use Rattle.fsb_wave.specs.WaveText.{lines_below, lines_over, reached, wave_lines, wave_text}
-use Rattle.fsb_wave.proofs.Cut.{are_above, above-append, above_more, decimal_above, hexadecimal_above, IsLine, AreLines}
-use Rattle.fsb_wave.proofs.Cut.{lines-append, joined_same}
+use Rattle.fsb_wave.proofs.LineEnds.{are_above, above-append, above_more, decimal_above, hexadecimal_above, IsLine}
+use Rattle.fsb_wave.proofs.LineEnds.{AreLines, lines-append, joined_same}
 
 -- the sample of a clock that is reached
 pub there : (w : List Sample) (c : ℕ) → c < length w → (s : Sample) × (slice_get w c ≡ Some s)
