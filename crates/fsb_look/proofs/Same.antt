@@ -1,5 +1,5 @@
 -- What a seeker searches for and a drawer draws stays.
-use Rattle.std.proofs.Common.{◌≡◌, ◌∙◌, ℕ, List, [], sym, subst}
+use Rattle.std.proofs.Common.{◌∙◌, ℕ, List, [], sym, subst}
 use Rattle.fsb_signal.specs.declared.sample.Sample.{Sample}
 use Rattle.fsb_trigger.specs.TriggerSteps.{StepView}
 use Rattle.fsb_wave.specs.Wave.{Stands}

@@ -110,8 +110,8 @@ lines_behind clocks from n all = transfers clocks from n ++ clock_count_text all
 unfoldable pub lines_below : Clocks → ℕ → ℕ → ℕ → List (List ℕ)
 lines_below clocks from n all = requests clocks from n ++ lines_behind clocks from n all
 
--- the lines of a wave over n clocks from `from` on, of a trace of `all` samples: the drawings, the lines of requests, the
--- lines of data and the count of clocks, each with its line feed
+-- the lines of a wave over n clocks from `from` on, of a trace of `all` samples: the drawings, the lines of requests,
+-- the lines of data and the count of clocks, each with its line feed
 unfoldable pub lines_over : Clocks → ℕ → ℕ → ℕ → List (List ℕ)
 lines_over clocks from n all = drawings clocks from n ++ lines_below clocks from n all
 

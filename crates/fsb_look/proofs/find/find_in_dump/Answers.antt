@@ -1,4 +1,4 @@
-use Rattle.std.proofs.Common.{◌≡◌, refl, [], None}
+use Rattle.std.proofs.Common.{refl, [], None}
 use Rattle.fsb_count.specs.Clocks.{first_where}
 use Rattle.fsb_trigger.specs.Hunt.{steps_in}
 use Rattle.fsb_trigger.specs.Match.{least_match}
