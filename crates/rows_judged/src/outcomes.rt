@@ -12,6 +12,7 @@ fn outcomes_move_data_and_have_codes(rt: HostRuntime) {
         (Outcome::Written, true, 0b101),
         (Outcome::Replied, true, 0b111),
         (Outcome::Failed, false, 0b100),
+        (Outcome::Upgraded, false, 0b101),
     ];
     for (outcome, does_move, code) in table {
         assert_eq!(rt; moves(outcome), does_move);
